@@ -1,0 +1,20 @@
+//! Types, and the facts of a resolved crate: what inference reads.
+#![tactic(auto)]
+
+mod ids;
+mod list;
+mod raw;
+mod text;
+mod ty;
+
+pub use ids::{
+    BindingId, BodyId, ConstId, DefWithBodyId, ExprId, ExprOrPatId, FunctionId, LabelId, ModuleId,
+    PatId, StaticId, TypeRefId, VariantId,
+};
+pub use list::List;
+pub use raw::{
+    BindingAnnotation, Edition, Other, RawAt, RawBinding, RawBody, RawExpr, RawFacts, RawFn,
+    RawLimits, RawLiteral, RawPat, RawPath, RawStmt, RawType, RawVis,
+};
+pub use text::Text;
+pub use ty::{IntTy, IntegerTy, Ty, UintTy};

@@ -1,0 +1,179 @@
+//! The facts as they are written: the entries of the facts text, key by key.
+use crate::ids::{
+    BindingId, BodyId, ExprId, LabelId, ModuleId, PatId, TypeRefId,
+};
+use crate::list::List;
+use crate::text::Text;
+use crate::ty::IntegerTy;
+
+/// A part of a kind that is not carried yet; its own parts are not read.
+#[derive(Clone, Copy, Debug)]
+pub struct Other;
+
+/// The edition of a crate.
+#[derive(Clone, Copy, Debug, PartialEq, Eq)]
+pub enum Edition {
+    Edition2015,
+    Edition2018,
+    Edition2021,
+    Edition2024,
+}
+
+/// How far a search may go.
+#[derive(Clone, Copy, Debug)]
+pub struct RawLimits {
+    pub goal_depth: u32,
+    pub goal_steps: u32,
+    pub autoderef: u32,
+    pub tail: u32,
+}
+
+/// A written type.
+#[derive(Debug, Drop)]
+pub enum RawType {
+    Bool,
+    Char,
+    Integer(IntegerTy),
+    Tuple(List<TypeRefId>),
+    Other,
+}
+
+/// Where a function stands.
+#[derive(Clone, Copy, Debug)]
+pub enum RawAt {
+    Module(ModuleId),
+    Other,
+}
+
+/// Where an item is visible: everywhere, or in a module and its descendants.
+#[derive(Clone, Copy, Debug)]
+pub enum RawVis {
+    Pub,
+    Module(ModuleId),
+}
+
+/// A function.
+#[derive(Debug, Drop)]
+pub struct RawFn {
+    pub name: Text,
+    pub at: RawAt,
+    pub params: List<Other>,
+    pub preds: List<Other>,
+    pub has_self: bool,
+    pub inputs: List<TypeRefId>,
+    pub output: TypeRefId,
+    pub safe: bool,
+    pub vis: RawVis,
+    pub body: Option<BodyId>,
+}
+
+/// A literal. `digits` are decimal, with a minus before them or none.
+#[derive(Debug, Drop)]
+pub enum RawLiteral {
+    Bool(bool),
+    Char(u32),
+    Int {
+        digits: Text,
+        suffix: Option<IntegerTy>,
+    },
+    Other,
+}
+
+/// What a path names.
+#[derive(Clone, Copy, Debug)]
+pub enum RawPath {
+    Local(BindingId),
+    Other,
+}
+
+/// A statement of a block.
+#[derive(Clone, Copy, Debug)]
+pub enum RawStmt {
+    Let {
+        pat: PatId,
+        type_ref: Option<TypeRefId>,
+        initializer: Option<ExprId>,
+        else_branch: Option<ExprId>,
+    },
+    Expr {
+        expr: ExprId,
+        has_semi: bool,
+    },
+}
+
+/// An expression.
+#[derive(Debug, Drop)]
+pub enum RawExpr {
+    Lit(RawLiteral),
+    Path(RawPath),
+    Block {
+        label: Option<LabelId>,
+        statements: List<RawStmt>,
+        tail: Option<ExprId>,
+    },
+    Tuple(List<ExprId>),
+    Other,
+}
+
+/// A pattern.
+#[derive(Clone, Copy, Debug)]
+pub enum RawPat {
+    Wild,
+    Bind {
+        id: BindingId,
+        subpat: Option<PatId>,
+    },
+    Other,
+}
+
+/// How a binding is annotated.
+#[derive(Clone, Copy, Debug, PartialEq, Eq)]
+pub enum BindingAnnotation {
+    Unannotated,
+    Mutable,
+    Ref,
+    RefMut,
+}
+
+/// A binding.
+#[derive(Debug, Drop)]
+pub struct RawBinding {
+    pub name: Text,
+    pub mode: BindingAnnotation,
+}
+
+/// A body.
+#[derive(Debug, Drop)]
+pub struct RawBody {
+    pub module: ModuleId,
+    pub traits: List<Other>,
+    pub self_: Option<BindingId>,
+    pub params: List<PatId>,
+    pub root: ExprId,
+    pub exprs: List<RawExpr>,
+    pub pats: List<RawPat>,
+    pub bindings: List<RawBinding>,
+    pub labels: u32,
+}
+
+/// The facts of a crate.
+#[derive(Debug, Drop)]
+pub struct RawFacts {
+    pub edition: Edition,
+    pub never_fallback: bool,
+    pub new_range: bool,
+    pub limits: RawLimits,
+    pub types: List<RawType>,
+    pub modules: List<Option<ModuleId>>,
+    pub adts: List<Other>,
+    pub variants: List<Other>,
+    pub fns: List<RawFn>,
+    pub consts: List<Other>,
+    pub statics: List<Other>,
+    pub traits: List<Other>,
+    pub aliases: List<Other>,
+    pub impls: List<Other>,
+    pub opaques: List<Other>,
+    pub lang: List<Other>,
+    pub bodies: List<RawBody>,
+}
