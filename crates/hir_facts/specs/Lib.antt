@@ -1,2 +1,3 @@
 pub mod formers
 pub mod Types
+pub mod Order

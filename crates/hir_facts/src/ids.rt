@@ -20,6 +20,10 @@ pub struct ConstId(pub u32);
 #[derive(Clone, Copy, Debug, PartialEq, Eq, Hash)]
 pub struct StaticId(pub u32);
 
+/// A trait.
+#[derive(Clone, Copy, Debug, PartialEq, Eq, Hash)]
+pub struct TraitId(pub u32);
+
 /// A written type, by its position in the facts' `types`.
 #[derive(Clone, Copy, Debug, PartialEq, Eq, Hash)]
 pub struct TypeRefId(pub u32);

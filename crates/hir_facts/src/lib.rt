@@ -4,17 +4,19 @@
 mod ids;
 mod list;
 mod raw;
+mod schedule;
 mod text;
 mod ty;
 
 pub use ids::{
     BindingId, BodyId, ConstId, DefWithBodyId, ExprId, ExprOrPatId, FunctionId, LabelId, ModuleId,
-    PatId, StaticId, TypeRefId, VariantId,
+    PatId, StaticId, TraitId, TypeRefId, VariantId,
 };
 pub use list::List;
 pub use raw::{
     BindingAnnotation, Edition, Other, RawAt, RawBinding, RawBody, RawExpr, RawFacts, RawFn,
     RawLimits, RawLiteral, RawPat, RawPath, RawStmt, RawType, RawVis,
 };
+pub use schedule::Schedule;
 pub use text::Text;
 pub use ty::{IntTy, IntegerTy, Ty, UintTy};

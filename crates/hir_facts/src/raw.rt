@@ -1,6 +1,6 @@
 //! The facts as they are written: the entries of the facts text, key by key.
 use crate::ids::{
-    BindingId, BodyId, ExprId, LabelId, ModuleId, PatId, TypeRefId,
+    BindingId, BodyId, ExprId, LabelId, ModuleId, PatId, TraitId, TypeRefId,
 };
 use crate::list::List;
 use crate::text::Text;
@@ -146,7 +146,7 @@ pub struct RawBinding {
 #[derive(Debug, Drop)]
 pub struct RawBody {
     pub module: ModuleId,
-    pub traits: List<Other>,
+    pub traits: List<TraitId>,
     pub self_: Option<BindingId>,
     pub params: List<PatId>,
     pub root: ExprId,
