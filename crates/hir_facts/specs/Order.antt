@@ -167,6 +167,20 @@ pub record AreDepths (b : RawBody) (s : Schedule) : Type 0 where
   pub top : slice_index s.depths (position b the_body) ≡ 0
   pub below : (n : Node) (k : ℕ) (p : Part) → IsNode b n → part_at b n k ≡ Some p → slice_index s.depths (position b (inner p.node)) ≡ slice_index s.depths (position b n) + 1
 
+-- ---- statements
+
+abbrev pub stmts_of : Option RawExpr → List RawStmt
+stmts_of (Some (expr.Block label stmts last)) = stmts
+stmts_of (Some (expr.Lit l)) = []
+stmts_of (Some (expr.Path p)) = []
+stmts_of (Some (expr.Tuple es)) = []
+stmts_of (Some expr.Other) = []
+stmts_of None = []
+
+-- statement i of the block e
+abbrev pub stmt_at : RawBody → ExprId → ℕ → Option RawStmt
+stmt_at b e i = slice_get (stmts_of (slice_get b.exprs e.0)) i
+
 -- ---- bindings
 
 abbrev pub binding_of : RawPat → Option BindingId

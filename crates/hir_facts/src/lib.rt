@@ -2,6 +2,7 @@
 #![tactic(auto)]
 
 mod ids;
+mod laws;
 mod list;
 mod raw;
 mod schedule;
@@ -12,6 +13,7 @@ pub use ids::{
     BindingId, BodyId, ConstId, DefWithBodyId, ExprId, ExprOrPatId, FunctionId, LabelId, ModuleId,
     PatId, StaticId, TraitId, TypeRefId, VariantId,
 };
+pub use laws::{FactsList, Law};
 pub use list::List;
 pub use raw::{
     BindingAnnotation, Edition, Other, RawAt, RawBinding, RawBody, RawExpr, RawFacts, RawFn,

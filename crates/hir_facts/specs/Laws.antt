@@ -1,0 +1,11 @@
+pub mod Names
+pub mod Entries
+pub mod Carried
+pub mod Ids
+pub mod Counts
+pub mod Trees
+pub mod Scopes
+pub mod Sizes
+pub mod Limits
+pub mod Literals
+pub mod Lawful

@@ -1,0 +1,83 @@
+-- Each entry and part is of a kind that is carried.
+use Rattle.std.specs.Prelude.{ℕ, Bool, true, false, ◌&&◌, List, [], ◌∷◌, Option, Some, None, is_some, is_none, not}
+use Rattle.std.specs.List.{list_all}
+use Rattle.hir_facts.specs.declared.raw.RawType.{RawType}
+use Rattle.hir_facts.specs.declared.raw.RawType.TheVariants as type
+use Rattle.hir_facts.specs.declared.raw.RawAt.{RawAt}
+use Rattle.hir_facts.specs.declared.raw.RawAt.TheVariants as stands
+use Rattle.hir_facts.specs.declared.raw.RawFn.{RawFn}
+use Rattle.hir_facts.specs.declared.raw.RawLiteral.{RawLiteral}
+use Rattle.hir_facts.specs.declared.raw.RawLiteral.TheVariants as literal
+use Rattle.hir_facts.specs.declared.raw.RawPath.{RawPath}
+use Rattle.hir_facts.specs.declared.raw.RawPath.TheVariants as path
+use Rattle.hir_facts.specs.declared.raw.RawStmt.{RawStmt}
+use Rattle.hir_facts.specs.declared.raw.RawStmt.TheVariants as stmt
+use Rattle.hir_facts.specs.declared.raw.RawExpr.{RawExpr}
+use Rattle.hir_facts.specs.declared.raw.RawExpr.TheVariants as expr
+use Rattle.hir_facts.specs.declared.raw.RawPat.{RawPat}
+use Rattle.hir_facts.specs.declared.raw.RawPat.TheVariants as pat
+use Rattle.hir_facts.specs.declared.raw.RawBinding.{RawBinding}
+use Rattle.hir_facts.specs.declared.raw.BindingAnnotation.{BindingAnnotation}
+use Rattle.hir_facts.specs.declared.raw.BindingAnnotation.TheVariants as mode
+use Rattle.hir_facts.specs.declared.raw.RawBody.{RawBody}
+
+abbrev pub is_carried_type : RawType → Bool
+is_carried_type type.Bool = true
+is_carried_type type.Char = true
+is_carried_type (type.Integer i) = true
+is_carried_type (type.Tuple ts) = true
+is_carried_type type.Other = false
+
+abbrev pub is_in_module : RawAt → Bool
+is_in_module (stands.Module m) = true
+is_in_module stands.Other = false
+
+abbrev pub is_empty : {A : Type 0} → List A → Bool
+is_empty [] = true
+is_empty (x ∷ xs) = false
+
+-- a function of a module, without parameters, predicates, `self` and inputs
+abbrev pub is_carried_fn : RawFn → Bool
+is_carried_fn f = is_in_module f.«at» && (is_empty f.params && (is_empty f.preds && (not f.has_self && is_empty f.inputs)))
+
+-- an integer has its suffix
+abbrev pub is_carried_literal : RawLiteral → Bool
+is_carried_literal (literal.Bool b) = true
+is_carried_literal (literal.Char c) = true
+is_carried_literal (literal.Int digits suffix) = is_some suffix
+is_carried_literal literal.Other = false
+
+abbrev pub is_carried_path : RawPath → Bool
+is_carried_path (path.Local v) = true
+is_carried_path path.Other = false
+
+-- a `let` has an initializer and no `else`
+abbrev pub is_carried_stmt : RawStmt → Bool
+is_carried_stmt (stmt.Let p written init other) = is_some init && is_none other
+is_carried_stmt (stmt.Expr e semicolon) = true
+
+-- a block has no label
+abbrev pub is_carried_expr : RawExpr → Bool
+is_carried_expr (expr.Lit l) = is_carried_literal l
+is_carried_expr (expr.Path p) = is_carried_path p
+is_carried_expr (expr.Block label stmts last) = is_none label && list_all is_carried_stmt stmts
+is_carried_expr (expr.Tuple es) = true
+is_carried_expr expr.Other = false
+
+-- a binding pattern has no pattern below it
+abbrev pub is_carried_pat : RawPat → Bool
+is_carried_pat pat.Wild = true
+is_carried_pat (pat.Bind v sub) = is_none sub
+is_carried_pat pat.Other = false
+
+abbrev pub is_carried_mode : BindingAnnotation → Bool
+is_carried_mode mode.Unannotated = true
+is_carried_mode mode.Mutable = true
+is_carried_mode mode.Ref = false
+is_carried_mode mode.RefMut = false
+
+abbrev pub is_carried_binding : RawBinding → Bool
+is_carried_binding v = is_carried_mode v.mode
+
+abbrev pub is_carried_body : RawBody → Bool
+is_carried_body b = list_all is_carried_expr b.exprs && (list_all is_carried_pat b.pats && list_all is_carried_binding b.bindings)

@@ -1,0 +1,52 @@
+-- How long lists may be, and how deep trees and types.
+use Rattle.std.specs.Prelude.{ℕ, ◌<◌, ◌≤◌, ◌^◌, ◌≡◌, List, length, slice_get, Option, Some}
+use Rattle.hir_facts.specs.declared.ids.ExprId.{ExprId}
+use Rattle.hir_facts.specs.declared.ids.LabelId.{LabelId}
+use Rattle.hir_facts.specs.declared.raw.RawType.{RawType}
+use Rattle.hir_facts.specs.declared.raw.RawType.TheVariants as type
+use Rattle.hir_facts.specs.declared.raw.RawStmt.{RawStmt}
+use Rattle.hir_facts.specs.declared.raw.RawExpr.{RawExpr}
+use Rattle.hir_facts.specs.declared.raw.RawExpr.TheVariants as expr
+use Rattle.hir_facts.specs.declared.raw.RawBody.{RawBody}
+use Rattle.hir_facts.specs.declared.raw.RawFacts.{RawFacts}
+use Rattle.hir_facts.specs.Order.{IsLow}
+use Rattle.hir_facts.specs.Types.{lowered, depth, size}
+
+-- a list of at most 2 ^ 20 entries
+abbrev pub IsShort : {A : Type 0} → List A → Type 0
+IsShort xs = length xs ≤ 2 ^ 20
+
+-- an entry with this index may stand in a list
+abbrev pub IsEarly : ℕ → Type 0
+IsEarly i = i < 2 ^ 20
+
+abbrev pub PartsAreShort : RawType → Type 0
+PartsAreShort (type.Tuple ts) = IsShort ts
+PartsAreShort type.Bool = Unit {0}
+PartsAreShort type.Char = Unit {0}
+PartsAreShort (type.Integer n) = Unit {0}
+PartsAreShort type.Other = Unit {0}
+
+-- a type, written out
+pub record TypeIsSmall (raw : RawFacts) (i : ℕ) (t : RawType) : Type 0 where
+  pub early : IsEarly i
+  pub parts : PartsAreShort t
+  pub low : depth (lowered raw.types i) ≤ 64
+  pub small : size (lowered raw.types i) ≤ 4096
+
+abbrev pub ExprIsShort : RawExpr → Type 0
+ExprIsShort (expr.Block label stmts last) = IsShort stmts
+ExprIsShort (expr.Tuple es) = IsShort es
+ExprIsShort (expr.Lit l) = Unit {0}
+ExprIsShort (expr.Path p) = Unit {0}
+ExprIsShort expr.Other = Unit {0}
+
+pub record BodyIsSmall (i : ℕ) (b : RawBody) : Type 0 where
+  pub early : IsEarly i
+  pub traits : IsShort b.traits
+  pub params : IsShort b.params
+  pub exprs : IsShort b.exprs
+  pub pats : IsShort b.pats
+  pub bindings : IsShort b.bindings
+  pub each : (e : ℕ) (x : RawExpr) → slice_get b.exprs e ≡ Some x → ExprIsShort x
+  pub low : IsLow 256 b
