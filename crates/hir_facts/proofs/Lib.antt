@@ -1,2 +1,4 @@
 pub mod Tells
 pub mod Equal
+pub mod Broken
+pub mod Named

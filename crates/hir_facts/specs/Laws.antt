@@ -8,4 +8,5 @@ pub mod Scopes
 pub mod Sizes
 pub mod Limits
 pub mod Literals
+pub mod Namers
 pub mod Lawful

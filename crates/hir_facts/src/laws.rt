@@ -2,6 +2,10 @@
 ghost use Rattle.std.specs.Prelude.{◌≡◌};
 ghost use Rattle.hir_facts.specs.Laws.Names.{law_number, list_number};
 
+mod carried;
+mod namers;
+mod test;
+
 /// A law of facts, in the order in which they are tested.
 #[derive(Clone, Copy, Debug, PartialEq, Eq)]
 pub enum Law {
