@@ -9,4 +9,5 @@ pub mod Sizes
 pub mod Limits
 pub mod Literals
 pub mod Namers
+pub mod InBody
 pub mod Lawful

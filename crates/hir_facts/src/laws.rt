@@ -2,7 +2,9 @@
 ghost use Rattle.std.specs.Prelude.{◌≡◌};
 ghost use Rattle.hir_facts.specs.Laws.Names.{law_number, list_number};
 
+mod body_ids;
 mod carried;
+mod ids;
 mod namers;
 mod test;
 
