@@ -4,7 +4,9 @@ ghost use Rattle.hir_facts.specs.Laws.Names.{law_number, list_number};
 
 mod body_ids;
 mod carried;
+mod counts;
 mod ids;
+mod limits;
 mod namers;
 mod test;
 

@@ -1,5 +1,5 @@
 -- Ids within a body, node by node.
-use Rattle.std.specs.Prelude.{ℕ, ◌<◌, ◌≡◌, List, length, slice_get, Option, Some, None}
+use Rattle.std.specs.Prelude.{ℕ, ◌<◌, ◌≡◌, List, length, slice_get, Option, Some, None, option_map, map}
 use Rattle.hir_facts.specs.declared.ids.ExprId.{ExprId}
 use Rattle.hir_facts.specs.declared.ids.PatId.{PatId}
 use Rattle.hir_facts.specs.declared.ids.BindingId.{BindingId}
@@ -11,9 +11,13 @@ use Rattle.hir_facts.specs.declared.raw.RawStmt.TheVariants as stmt
 use Rattle.hir_facts.specs.declared.raw.RawExpr.{RawExpr}
 use Rattle.hir_facts.specs.declared.raw.RawExpr.TheVariants as expr
 use Rattle.hir_facts.specs.declared.raw.RawPat.{RawPat}
+use Rattle.hir_facts.specs.declared.ids.TraitId.{TraitId}
+use Rattle.hir_facts.specs.declared.raw.RawFn.{RawFn}
 use Rattle.hir_facts.specs.declared.raw.RawBody.{RawBody}
 use Rattle.hir_facts.specs.declared.raw.RawFacts.{RawFacts}
+use Rattle.hir_facts.specs.declared.laws.namers.Namers.{Namers}
 use Rattle.hir_facts.specs.Order.{binding_of}
+use Rattle.hir_facts.specs.Laws.Namers.{AreNamers}
 
 abbrev pub MaybeExprExists : RawBody → Option ExprId → Type 0
 MaybeExprExists b None = Unit {0}
@@ -58,3 +62,21 @@ PatsIdsExist b = (k : ℕ) (p : RawPat) → slice_get b.pats k ≡ Some p → Ma
 
 abbrev pub ParamsExist : RawBody → Type 0
 ParamsExist b = (k : ℕ) (p : PatId) → slice_get b.params k ≡ Some p → p.0 < length b.pats
+
+-- the ids of a body exist
+pub record BodyIdsHere (raw : RawFacts) (b : RawBody) : Type 0 where
+  pub module_ : b.module.0 < length raw.modules
+  pub traits : (k : ℕ) (t : TraitId) → slice_get b.traits k ≡ Some t → t.0 < length raw.traits
+  pub self_ : MaybeBindingExists b b.self_
+  pub params : ParamsExist b
+  pub root : b.root.0 < length b.exprs
+  pub exprs : ExprsIdsExist raw b
+  pub pats : PatsIdsExist b
+
+-- the body of a function, by its number
+abbrev pub owned_body : RawFn → Option ℕ
+owned_body f = option_map (λ b. b.0) f.body
+
+-- which functions each body is that of
+abbrev pub AreOwners : RawFacts → List Namers → Type 0
+AreOwners raw xs = AreNamers (map owned_body raw.fns) (length raw.fns) (length raw.bodies) xs

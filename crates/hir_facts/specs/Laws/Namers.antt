@@ -23,3 +23,8 @@ IsNamedBy targets n t Several = (j : ℕ) × (k : ℕ) × IsNamedAt targets t j 
 pub record AreNamers (targets : List (Option ℕ)) (n count : ℕ) (xs : List Namers) : Type 0 where
   pub size : length xs ≡ count
   pub each : (t : ℕ) → t < count → IsNamedBy targets n t (slice_index_or xs t Nobody)
+
+abbrev pub IsOne : Namers → Type 0
+IsOne Nobody = ⊥
+IsOne (One k) = Unit {0}
+IsOne Several = ⊥

@@ -1,11 +1,17 @@
 //! The ids of a body are in range.
-ghost use Rattle.std.specs.Prelude.{◌≡◌, ◌↔◌, ◌<◌, ℕ, Some, slice_get, length, IsTrue};
+ghost use Rattle.std.specs.Prelude.{◌≡◌, ◌↔◌, ◌<◌, ℕ, Some, slice_get, length, map, IsTrue, IfOk, option_map};
 ghost use Rattle.hir_facts.specs.declared.ids.TraitId.{TraitId};
 ghost use Rattle.hir_facts.specs.Order.{binding_of};
-ghost use Rattle.hir_facts.specs.Laws.InBody.{MaybeExprExists, MaybeTypeExists, MaybeBindingExists, StmtIdsExist, StmtsIdsExist, ElementsExist, PathExists, ExprIdsExist, ExprsIdsExist, PatsIdsExist, ParamsExist};
+ghost use Rattle.hir_facts.specs.Laws.Namers.{IsOne};
+ghost use Rattle.hir_facts.specs.Laws.InBody.{MaybeExprExists, MaybeTypeExists, MaybeBindingExists, StmtIdsExist, StmtsIdsExist, ElementsExist, PathExists, ExprIdsExist, ExprsIdsExist, PatsIdsExist, ParamsExist, BodyIdsHere, owned_body, AreOwners};
+ghost use Rattle.hir_facts.specs.Laws.Entries.{AllHold};
+ghost use Rattle.hir_facts.specs.Laws.Ids.{FnIdsExist, BodyIdsExist};
 
 use crate::ids::{BindingId, ExprId, PatId, TraitId, TypeRefId};
-use crate::raw::{RawBody, RawExpr, RawFacts, RawPat, RawPath, RawStmt};
+use crate::laws::namers::{Namers, namers_of};
+use crate::laws::test::Test;
+use crate::raw::{RawBody, RawExpr, RawFacts, RawFn, RawPat, RawPath, RawStmt};
+use std::alloc::{AllocError, Global};
 
 fn has_maybe_expr(body: &RawBody, e: &Option<ExprId>) -> bool
     ensures { IsTrue result ↔ MaybeExprExists body.now e.now }
@@ -25,8 +31,7 @@ fn has_maybe_type(raw: &RawFacts, t: &Option<TypeRefId>) -> bool
     }
 }
 
-/// Whether this binding, if there is one, is one of the body.
-pub fn has_maybe_binding(body: &RawBody, v: Option<BindingId>) -> bool
+fn has_maybe_binding(body: &RawBody, v: Option<BindingId>) -> bool
     ensures { IsTrue result ↔ MaybeBindingExists body.now v }
 {
     match v {
@@ -94,8 +99,7 @@ fn has_expr_ids(raw: &RawFacts, body: &RawBody, expr: &RawExpr) -> bool
     }
 }
 
-/// Whether the parts, locals and written types of each expression exist.
-pub fn have_expr_ids(raw: &RawFacts, body: &RawBody) -> bool
+fn have_expr_ids(raw: &RawFacts, body: &RawBody) -> bool
     ensures { IsTrue result ↔ ExprsIdsExist raw.now body.now }
 {
     body.exprs.as_slice().iter().all(|expr| has_expr_ids(raw, body, expr))
@@ -117,24 +121,89 @@ fn has_pat_ids(body: &RawBody, pat: &RawPat) -> bool
     has_maybe_binding(body, binding_of(pat))
 }
 
-/// Whether the bindings that patterns bind exist.
-pub fn have_pat_ids(body: &RawBody) -> bool
+fn have_pat_ids(body: &RawBody) -> bool
     ensures { IsTrue result ↔ PatsIdsExist body.now }
 {
     body.pats.as_slice().iter().all(|pat| has_pat_ids(body, pat))
 }
 
-/// Whether the patterns of parameters exist.
-pub fn have_params(body: &RawBody) -> bool
+fn have_params(body: &RawBody) -> bool
     ensures { IsTrue result ↔ ParamsExist body.now }
 {
     let count = body.pats.len();
     body.params.as_slice().iter().all(|p| (p.0 as usize) < count)
 }
 
-/// Whether traits are in range.
-pub fn have_traits(traits: &[TraitId], count: usize) -> bool
+fn have_traits(traits: &[TraitId], count: usize) -> bool
     ensures { IsTrue result ↔ ((k : ℕ) (t : TraitId) → slice_get traits.now k ≡ Some t → t.0 < count) }
 {
     traits.iter().all(|t| (t.0 as usize) < count)
+}
+
+fn has_ids(raw: &RawFacts, body: &RawBody) -> bool
+    ensures { IsTrue result ↔ BodyIdsHere raw.now body.now }
+{
+    (body.module.0 as usize) < raw.modules.len()
+        && have_traits(body.traits.as_slice(), raw.traits.len())
+        && has_maybe_binding(body, body.self_)
+        && have_params(body)
+        && (body.root.0 as usize) < body.exprs.len()
+        && have_expr_ids(raw, body)
+        && have_pat_ids(body)
+}
+
+fn owned_body(function: &RawFn) -> Option<usize>
+    ensures { result ≡ owned_body function.now }
+{
+    match function.body {
+        None => None,
+        Some(body) => Some(body.0 as usize),
+    }
+}
+
+fn owned_bodies(alloc: Global, fns: &[RawFn]) -> Result<Vec<Option<usize>>, AllocError>
+    ensures { IfOk result (λ v. v.items ≡ map owned_body fns.now) }
+{
+    fns.iter().map(|function| owned_body(function)).collect(alloc)
+}
+
+/// The ids of a body are in range, and it is the body of exactly one definition.
+#[derive(Drop)]
+pub struct BodyIds {
+    owners: Vec<Namers>,
+}
+
+impl BodyIds {
+    /// Finds out which functions each body is that of.
+    pub fn new(alloc: Global, raw: &RawFacts) -> Result<BodyIds, AllocError>
+        requires { AllHold (λ i f. FnIdsExist raw.now f) raw.now.fns }
+        ensures { IfOk result (λ it. AreOwners raw.now it.owners.items) }
+    {
+        let targets = owned_bodies(alloc, raw.fns.as_slice())?;
+        let owners = namers_of(alloc, &targets, raw.bodies.len())?;
+        Ok(BodyIds { owners })
+    }
+}
+
+fn is_one(namers: Namers) -> bool
+    ensures { IsTrue result ↔ IsOne namers }
+{
+    match namers {
+        Namers::One(_) => true,
+        Namers::Nobody | Namers::Several => false,
+    }
+}
+
+impl Test for BodyIds {
+    type Item = RawBody;
+
+    ghost listed = { λ raw. raw.bodies };
+
+    ghost holds = { BodyIdsExist };
+
+    ghost given = { λ raw s. AreOwners raw s.owners.items };
+
+    fn test(&self, _alloc: Global, raw: &RawFacts, at: usize, item: &RawBody) -> Result<bool, AllocError> {
+        Ok(is_one(self.owners[at]) && has_ids(raw, item))
+    }
 }
