@@ -4,3 +4,7 @@ pub mod Broken
 pub mod Named
 pub mod InBodies
 pub mod Owners
+pub mod Drops
+pub mod Measured
+pub mod Digits
+pub mod TypeMeasures

@@ -10,4 +10,6 @@ pub mod Limits
 pub mod Literals
 pub mod Namers
 pub mod InBody
+pub mod InBits
+pub mod Measures
 pub mod Lawful

@@ -4,3 +4,4 @@ pub mod Erasure
 pub mod Order
 pub mod Laws
 pub mod Bodies
+pub mod Lowered

@@ -7,7 +7,9 @@ mod carried;
 mod counts;
 mod ids;
 mod limits;
+mod literals;
 mod namers;
+mod sizes;
 mod test;
 
 /// A law of facts, in the order in which they are tested.
