@@ -1,3 +1,4 @@
 pub mod formers
 pub mod Types
 pub mod Order
+pub mod Ways

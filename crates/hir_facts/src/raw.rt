@@ -1,7 +1,5 @@
 //! The facts as they are written: the entries of the facts text, key by key.
-use crate::ids::{
-    BindingId, BodyId, ExprId, LabelId, ModuleId, PatId, TraitId, TypeRefId,
-};
+use crate::ids::{BindingId, BodyId, ExprId, LabelId, ModuleId, PatId, TraitId, TypeRefId};
 use crate::list::List;
 use crate::text::Text;
 use crate::ty::IntegerTy;
