@@ -1,5 +1,5 @@
 -- What the numbers in the order of the walk tell about the parts of a body and the ways to them.
-use Rattle.std.proofs.Common.{ℕ, zero, suc, ◌+◌, ◌-◌, ◌<◌, ◌≤◌, ◌≡◌, ◌⊎◌, inl, inr, List, [], ◌∷◌, length, refl, sym, ap, subst, ◌∙◌, arith, Option, Some, None}
+use Rattle.std.proofs.Common.{ℕ, zero, suc, ◌+◌, ◌<◌, ◌≤◌, ◌≡◌, inl, inr, List, [], ◌∷◌, refl, sym, ap, subst, ◌∙◌, arith, Option, Some, None}
 use Rattle.std.specs.Prelude.{slice_get, option_map}
 use Rattle.std.specs.Option.{option_and_then}
 use Rattle.std.proofs.lemmas.Bool.{cases_lt, cases_order}
@@ -7,7 +7,7 @@ use Rattle.std.proofs.lemmas.Option.{option_and_then_some}
 use Rattle.hir_facts.specs.declared.ids.ExprOrPatId.{ExprOrPatId}
 use Rattle.hir_facts.specs.declared.raw.RawBody.{RawBody}
 use Rattle.hir_facts.specs.declared.schedule.Schedule.{Schedule}
-use Rattle.hir_facts.specs.Order.{Part, Node, the_body, inner, IsInBody, IsNode, parts, part_at, follow, HasOneWay, IsTree, PartsFit, start, end, after, Fits, IsSchedule}
+use Rattle.hir_facts.specs.Order.{Part, Node, the_body, inner, IsInBody, IsNode, parts, part_at, follow, IsTree, PartsFit, start, end, after, Fits, IsSchedule}
 
 -- a part of a node with this number among the numbers below it
 pub record Under (b : RawBody) (s : Schedule) (n : Node) (number : ℕ) : Type 0 where
@@ -223,3 +223,64 @@ module _ (b : RawBody) (s : Schedule) (law : IsSchedule b s) where
         let w : (way : List ℕ) × (follow b way ≡ Some (inner x)) = way_from (start b s (inner x) + 1) x h (omega arith) in
         record { way = w.0; there = w.1; only = λ other e. only_way w.0 other (inner x) w.1 e };
   }
+
+-- ---- one numbering
+
+-- as many numbers are of a node and below it in the one as in the other
+abbrev SameSize : RawBody → Schedule → Schedule → Node → Type 0
+SameSize b s t n = end b s n + start b t n ≡ end b t n + start b s n
+
+module _ (b : RawBody) (s t : Schedule) (law : IsSchedule b s) (other : IsSchedule b t) where
+  same_after : (from at : ℕ) (ps : List Part) → Fits b s from ps → Fits b t at ps
+      → ((p : Part) → IsInBody b p.node → from ≤ start b s (inner p.node) → end b s (inner p.node) ≤ after b s from ps → SameSize b s t (inner p.node))
+      → after b s from ps + at ≡ after b t at ps + from
+  same_after from at [] h k same = omega arith
+  same_after from at (p ∷ ps) h k same =
+      let grown = law.order (inner p.node) h.0 in
+      let rest_grow = fits_grow b s law (end b s (inner p.node)) ps h.2 in
+      let rest = same_after (end b s (inner p.node)) (end b t (inner p.node)) ps h.2 k.2 (λ q inside from_there to_there. same q inside (omega (arith, h.1, grown)) to_there) in
+      let here = same p h.0 (omega (arith, h.1)) rest_grow in
+      omega (arith, rest, here, h.1, k.1)
+
+  same_size : (fuel : ℕ) (n : Node) → IsNode b n → end b s n < start b s n + fuel → SameSize b s t n
+  same_size zero n h f = let grown = law.order n h in absurd (omega arith)
+  same_size (suc fuel) n h f =
+      let below = same_after (start b s n + 1) (start b t n + 1) (parts b n) (law.fits n h) (other.fits n h)
+      (λ p inside from_there to_there. same_size fuel (inner p.node) inside (omega (arith, law.ends n h))) in
+      omega (arith, below, law.ends n h, other.ends n h)
+
+  same_size_at : (n : Node) → IsNode b n → SameSize b s t n
+  same_size_at n h = same_size (end b s n + 1) n h (omega arith)
+
+  same_start_at : (from at : ℕ) (ps : List Part) (i : ℕ) (p : Part) → Fits b s from ps → Fits b t at ps → slice_get ps i ≡ Some p
+      → start b s (inner p.node) + at ≡ start b t (inner p.node) + from
+  same_start_at from at [] i p h k e = absurd (cc)
+  same_start_at from at (d ∷ ps) zero p h k e =
+      let same : d ≡ p = cc in
+      subst (λ (x : Part). start b s (inner x.node) + at ≡ start b t (inner x.node) + from) same (omega (arith, h.1, k.1))
+  same_start_at from at (d ∷ ps) (suc i) p h k e =
+      let rest = same_start_at (end b s (inner d.node)) (end b t (inner d.node)) ps i p h.2 k.2 e in
+      let size = same_size_at (inner d.node) h.0 in
+      omega (arith, rest, size, h.1, k.1)
+
+  same_above : (x : ExprOrPatId) → ((y : ExprOrPatId) → IsInBody b y → start b s (inner y) < start b s (inner x) → start b s (inner y) ≡ start b t (inner y))
+      → (n : Node) → IsNode b n → start b s n < start b s (inner x) → start b s n ≡ start b t n
+  same_above x earlier the_body k l = law.first ∙ sym other.first
+  same_above x earlier (inner y) k l = earlier y k l
+
+  same_inner : (fuel : ℕ) (x : ExprOrPatId) → IsInBody b x → start b s (inner x) < fuel → start b s (inner x) ≡ start b t (inner x)
+  same_inner zero x h f = absurd (omega arith)
+  same_inner (suc fuel) x h f =
+      let r = reached_by b s law x h in
+      let above = same_above x (λ y k l. same_inner fuel y k (omega arith)) r.parent r.is_node r.later in
+      let e = same_start_at (start b s r.parent + 1) (start b t r.parent + 1) (parts b r.parent) r.place r.part (law.fits r.parent r.is_node) (other.fits r.parent r.is_node) r.there in
+      let here : start b s (inner r.part.node) ≡ start b t (inner r.part.node) = omega (arith, e, above) in
+      subst (λ (y : ExprOrPatId). start b s (inner y) ≡ start b t (inner y)) r.same here
+
+  -- the numbers in the order of the walk are determined by the body
+  pub schedule_unique : (n : Node) → IsNode b n → start b s n ≡ start b t n
+  schedule_unique the_body h = law.first ∙ sym other.first
+  schedule_unique (inner x) h = same_inner (start b s (inner x) + 1) x h (omega arith)
+
+  pub end_unique : (n : Node) → IsNode b n → end b s n ≡ end b t n
+  end_unique n h = omega (arith, schedule_unique n h, same_size_at n h)
