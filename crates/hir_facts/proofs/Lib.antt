@@ -1,3 +1,4 @@
 pub mod Tells
 pub mod Equal
 pub mod Walking
+pub mod Advances

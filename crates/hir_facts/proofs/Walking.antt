@@ -99,14 +99,14 @@ seen_in seen x p =
       | inr ge ↦ absurd (false≢true (sym (get_or_past seen x false ge) ∙ p))
     ]
 
-blank_at : {X : Type 0} (n x : ℕ) (d : X) → get_or (replicate n d) x d ≡ d
+pub blank_at : {X : Type 0} (n x : ℕ) (d : X) → get_or (replicate n d) x d ≡ d
 blank_at n x d =
     elim (cases_lt x n) [
       | inl lt ↦ get_or-replicate n x d d lt
       | inr ge ↦ get_or_past (replicate n d) x d (omega (arith, length-replicate n d, ge))
     ]
 
-other_seen : (m : Marks) (x c : ℕ) → IsSeen m x → is_seen m c ≡ false → x ≢ c
+pub other_seen : (m : Marks) (x c : ℕ) → IsSeen m x → is_seen m c ≡ false → x ≢ c
 other_seen m x c p q e = false≢true (sym q ∙ (ap (λ (y : ℕ). is_seen m y) (sym e) ∙ p))
 
 pub fewer_unseen : (seen : List Bool) (c : ℕ) → c < length seen → get_or seen c false ≡ false → unseen (slice_set seen c true) + 1 ≡ unseen seen
@@ -130,7 +130,7 @@ none_unseen seen x none lt =
 -- ---- what stays
 
 module _ (kids : List (List ℕ)) (root : ℕ) (old new : Marks) (keeps : Keeps old new) where
-  reaches_kept : (n k number : ℕ) → IsSeen old n → Reaches kids old n k number → Reaches kids new n k number
+  pub reaches_kept : (n k number : ℕ) → IsSeen old n → Reaches kids old n k number → Reaches kids new n k number
   reaches_kept n k number seen r = record {
     none = λ z. r.none z ∙ ap (λ (x : ℕ). x + 1) (sym (keeps.start n seen));
     last = λ j c e edge.
@@ -139,14 +139,14 @@ module _ (kids : List (List ℕ)) (root : ℕ) (old new : Marks) (keeps : Keeps 
         (omega (arith, was.0, same), same ∙ was.1);
   }
 
-  passed_kept : (n k c : ℕ) → IsSeen old n → Passed kids old n k c → Passed kids new n k c
+  pub passed_kept : (n k c : ℕ) → IsSeen old n → Passed kids old n k c → Passed kids new n k c
   passed_kept n k c seen p = record {
     seen = keeps.seen c p.seen;
     deep = omega (arith, p.deep, keeps.depth n seen, keeps.depth c p.seen);
     reaches = subst (λ (x : ℕ). Reaches kids new n k x) (sym (keeps.start c p.seen)) (reaches_kept n k (start_of old c) seen p.reaches);
   }
 
-  entry_kept : (n : ℕ) → (n ≡ root) ⊎ Entry kids old n → (n ≡ root) ⊎ Entry kids new n
+  pub entry_kept : (n : ℕ) → (n ≡ root) ⊎ Entry kids old n → (n ≡ root) ⊎ Entry kids new n
   entry_kept n (inl e) = inl e
   entry_kept n (inr e) = inr (record { parent = e.parent; place = e.place; seen = keeps.seen e.parent e.seen; edge = e.edge; passed = omega (arith, e.passed, keeps.next e.parent) })
 
@@ -157,7 +157,7 @@ module _ (kids : List (List ℕ)) (root : ℕ) (old new : Marks) (keeps : Keeps 
     reaches = subst (λ (x : ℕ). Reaches kids new n (length (kids_of kids n)) x) (sym end) (reaches_kept n (length (kids_of kids n)) (end_of old n) seen e.reaches);
   }
 
-  goes_kept : (n : ℕ) → IsSeen old n → next_of new n ≡ next_of old n → end_of new n ≡ end_of old n → (Contains old.stack n → Contains new.stack n)
+  pub goes_kept : (n : ℕ) → IsSeen old n → next_of new n ≡ next_of old n → end_of new n ≡ end_of old n → (Contains old.stack n → Contains new.stack n)
       → Goes kids root old n → Goes kids root new n
   goes_kept n seen next end waits g = record {
     early = omega (arith, g.early, keeps.start n seen, keeps.clock);
