@@ -2,3 +2,4 @@ pub mod Tells
 pub mod Equal
 pub mod Walking
 pub mod Advances
+pub mod Departs
