@@ -3,3 +3,4 @@ pub mod Equal
 pub mod Walking
 pub mod Advances
 pub mod Departs
+pub mod Numbers
