@@ -4,3 +4,4 @@ pub mod Walking
 pub mod Advances
 pub mod Departs
 pub mod Numbers
+pub mod Steps

@@ -1,5 +1,5 @@
 //! Numbers for the nodes of a graph in the order of a walk from a root.
-ghost use Rattle.std.specs.Prelude.{◌≡◌, ◌<◌, ◌-◌, false, ◌⊎◌, length, replicate, slice_get, IfOk, IsTrue, OnOk, OnSome, MatchOption, MatchBool, vec_len};
+ghost use Rattle.std.specs.Prelude.{◌≡◌, ◌<◌, ◌-◌, false, ◌⊎◌, length, replicate, slice_get, IfOk, IsTrue, OnOk, OnSome, MatchOption, MatchBool};
 ghost use Rattle.hir_facts.specs.Graph.{kids_of, KidsFit, IsTreeGraph, IsNumbering};
 ghost use Rattle.hir_facts.specs.Visits.{marks_of, blank, entered, departed, is_seen, IsReady, Advances, Departs, MeetsAgain};
 
@@ -85,7 +85,7 @@ impl Walk {
 
     /// The innermost node that was entered and not left.
     fn top(&self) -> Option<usize>
-        ensures { result ≡ slice_get self.now.stack.items (vec_len self.now.stack - 1) }
+        ensures { result ≡ slice_get self.now.stack.items (length self.now.stack.items - 1) }
     {
         self.stack.last().copied()
     }
@@ -110,4 +110,35 @@ impl Walk {
         self.enter(child)?;
         Ok(true)
     }
+}
+
+/// Numbers for the nodes of a graph in the order of a walk from its root, or `None` where it is no tree.
+///
+/// `kids` are each node's children. The walk takes as many steps as there are nodes and children, and needs no more
+/// stack for a deep graph.
+pub fn number_graph(
+    alloc: Global,
+    kids: &List<List<usize>>,
+    root: usize,
+) -> Result<Option<Schedule>, AllocError>
+    requires fit { KidsFit kids.now }
+    requires root { root < length kids.now }
+    ensures { IfOk result (λ o. MatchOption o (IsTreeGraph kids.now root → ⊥) (λ s. IsNumbering kids.now root s)) }
+{
+    let mut walk = Walk::new(alloc, kids.len())?;
+    walk.enter(root)?;
+    while let Some(node) = walk.top() {
+        let is_new = walk.step(kids, node)?;
+        if !is_new {
+            return Ok(None);
+        }
+    }
+    if walk.clock != kids.len() {
+        return Ok(None);
+    }
+    Ok(Some(Schedule {
+        starts: walk.starts,
+        ends: walk.ends,
+        depths: walk.depths,
+    }))
 }
