@@ -5,3 +5,4 @@ pub mod Advances
 pub mod Departs
 pub mod Numbers
 pub mod Steps
+pub mod NodeLists

@@ -4,3 +4,4 @@ pub mod Order
 pub mod Ways
 pub mod Graph
 pub mod Visits
+pub mod Nodes

@@ -4,6 +4,7 @@
 mod graph;
 mod ids;
 mod list;
+mod parts;
 mod raw;
 mod schedule;
 mod text;
