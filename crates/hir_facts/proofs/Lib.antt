@@ -6,3 +6,4 @@ pub mod Departs
 pub mod Numbers
 pub mod Steps
 pub mod NodeLists
+pub mod Bodies
