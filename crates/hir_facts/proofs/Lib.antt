@@ -7,3 +7,4 @@ pub mod Numbers
 pub mod Steps
 pub mod NodeLists
 pub mod Bodies
+pub mod Schedules
