@@ -97,7 +97,6 @@ fn graph(alloc: Global, body: &RawBody) -> Result<List<List<usize>>, AllocError>
     ensures { IfOk result (λ kids. kids ≡ graph_of body.now) }
 {
     let lists = lists_of_nodes(alloc, body)?;
-    let count = lists.len();
     let mut kids = List::new(alloc);
     for nodes in lists.as_slice() {
         let positions = positions_of(alloc, body, nodes.as_slice())?;
@@ -116,6 +115,26 @@ pub fn schedule_of(alloc: Global, body: &RawBody) -> Result<Option<Schedule>, Al
     let root = kids.len() - 1;
     let schedule = number_graph(alloc, &kids, root)?;
     Ok(schedule)
+}
+
+impl Schedule {
+    /// The number of an expression or pattern.
+    pub fn start_of(&self, body: &RawBody, node: ExprOrPatId) -> usize
+        requires schedule { IsSchedule body.now self.now }
+        requires node { IsInBody body.now node }
+        ensures { result ≡ start body.now self.now (inner node) }
+    {
+        self.starts.as_slice()[position_of(body, node)]
+    }
+
+    /// The number after those of an expression or pattern and all below it.
+    pub fn end_of(&self, body: &RawBody, node: ExprOrPatId) -> usize
+        requires schedule { IsSchedule body.now self.now }
+        requires node { IsInBody body.now node }
+        ensures { result ≡ end body.now self.now (inner node) }
+    {
+        self.ends.as_slice()[position_of(body, node)]
+    }
 }
 
 fn are_at_most(depths: &[usize], limit: usize) -> bool
