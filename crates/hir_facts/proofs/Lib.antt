@@ -8,3 +8,11 @@ pub mod Drops
 pub mod Measured
 pub mod Digits
 pub mod TypeMeasures
+pub mod Walking
+pub mod Advances
+pub mod Departs
+pub mod Numbers
+pub mod Steps
+pub mod NodeLists
+pub mod Bodies
+pub mod Schedules

@@ -5,3 +5,7 @@ pub mod Order
 pub mod Laws
 pub mod Bodies
 pub mod Lowered
+pub mod Ways
+pub mod Graph
+pub mod Visits
+pub mod Nodes
