@@ -16,3 +16,5 @@ pub mod Steps
 pub mod NodeLists
 pub mod Bodies
 pub mod Schedules
+pub mod Binding
+pub mod Scoping

@@ -10,6 +10,8 @@ pub mod Limits
 pub mod Literals
 pub mod Namers
 pub mod InBody
+pub mod Binders
+pub mod Scheduled
 pub mod InBits
 pub mod Measures
 pub mod Lawful

@@ -9,8 +9,10 @@ mod ids;
 mod limits;
 mod literals;
 mod namers;
+mod scopes;
 mod sizes;
 mod test;
+mod trees;
 
 /// A law of facts, in the order in which they are tested.
 #[derive(Clone, Copy, Debug, PartialEq, Eq)]

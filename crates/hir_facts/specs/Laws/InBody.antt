@@ -80,3 +80,7 @@ owned_body f = option_map (λ b. b.0) f.body
 -- which functions each body is that of
 abbrev pub AreOwners : RawFacts → List Namers → Type 0
 AreOwners raw xs = AreNamers (map owned_body raw.fns) (length raw.fns) (length raw.bodies) xs
+
+-- locals name bindings of the body
+abbrev pub LocalsExist : RawBody → Type 0
+LocalsExist b = (e : ℕ) (v : BindingId) → slice_get b.exprs e ≡ Some (expr.Path (path.Local v)) → v.0 < length b.bindings
