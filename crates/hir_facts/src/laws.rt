@@ -3,6 +3,7 @@ ghost use Rattle.std.specs.Prelude.{◌≡◌};
 ghost use Rattle.hir_facts.specs.Laws.Names.{law_number, list_number};
 
 mod body_ids;
+mod body_sizes;
 mod carried;
 mod counts;
 mod ids;
