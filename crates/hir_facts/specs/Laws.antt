@@ -15,3 +15,4 @@ pub mod Scheduled
 pub mod InBits
 pub mod Measures
 pub mod Lawful
+pub mod Refused
