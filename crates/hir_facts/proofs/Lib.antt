@@ -18,3 +18,4 @@ pub mod Bodies
 pub mod Schedules
 pub mod Binding
 pub mod Scoping
+pub mod Allowed

@@ -49,6 +49,7 @@ fn is_small(at: usize, body: &RawBody, schedule: &Schedule) -> bool
 }
 
 /// The lists of a body are short, and its tree is not deep.
+#[derive(Drop)]
 pub struct BodySizes<'a> {
     pub schedules: &'a List<Schedule>,
 }

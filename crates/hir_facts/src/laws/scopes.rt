@@ -118,6 +118,7 @@ pub fn schedules_of(alloc: Global, bodies: &[RawBody]) -> Result<List<Schedule>,
 }
 
 /// A local names a binding that the walk has typed before.
+#[derive(Drop)]
 pub struct Scopes<'a> {
     pub schedules: &'a List<Schedule>,
 }
