@@ -9,3 +9,4 @@ pub mod Ways
 pub mod Graph
 pub mod Visits
 pub mod Nodes
+pub mod LawfulFacts

@@ -4,7 +4,7 @@ ghost use Rattle.hir_facts.specs.Laws.Entries.{AllHold};
 ghost use Rattle.hir_facts.specs.Laws.Ids.{ChildrenBefore, BodyIdsExist};
 ghost use Rattle.hir_facts.specs.Laws.Trees.{IsWellFormed};
 ghost use Rattle.hir_facts.specs.Laws.Scheduled.{AreSchedules};
-ghost use Rattle.hir_facts.specs.Laws.Lawful.{PassesAll, carried_tests, ids_tests, counts_tests, trees_tests, scopes_tests, sizes_tests, limits_tests, literals_tests, tests};
+ghost use Rattle.hir_facts.specs.Laws.Lawful.{IsLawful, PassesAll, carried_tests, ids_tests, counts_tests, trees_tests, scopes_tests, sizes_tests, limits_tests, literals_tests, tests};
 ghost use Rattle.hir_facts.specs.Laws.Refused.{Refuses};
 
 use crate::facts_error::FactsError;
@@ -129,4 +129,22 @@ fn check_literals(alloc: Global, raw: &RawFacts) -> Result<(), FactsError>
 {
     allow(Law::Literals, FactsList::Bodies, first_broken(alloc, &LiteralsInBits, raw, raw.bodies.as_slice())?)?;
     Ok(())
+}
+
+/// Finds the first law that is broken, or the numbers of the bodies.
+pub fn check(alloc: Global, raw: &RawFacts) -> Result<List<Schedule>, FactsError>
+    ensures lawful { IfOk result (λ _. IsLawful raw.now) }
+    ensures schedules { IfOk result (λ schedules. AreSchedules raw.now.bodies schedules) }
+    ensures broken { IfErr result (λ e. Refuses raw.now tests e) }
+{
+    check_carried(alloc, raw)?;
+    check_ids(alloc, raw)?;
+    check_counts(alloc, raw)?;
+    check_trees(alloc, raw)?;
+    let schedules = schedules_of(alloc, raw.bodies.as_slice())?;
+    check_scopes(alloc, raw, &schedules)?;
+    check_sizes(alloc, raw, &schedules)?;
+    check_limits(alloc, raw)?;
+    check_literals(alloc, raw)?;
+    Ok(schedules)
 }
