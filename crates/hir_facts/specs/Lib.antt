@@ -10,3 +10,4 @@ pub mod Graph
 pub mod Visits
 pub mod Nodes
 pub mod LawfulFacts
+pub mod Walkable

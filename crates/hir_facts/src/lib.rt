@@ -3,6 +3,7 @@
 
 mod graph;
 mod checks;
+mod facts;
 mod facts_error;
 mod ids;
 mod laws;
@@ -13,6 +14,7 @@ mod schedule;
 mod text;
 mod ty;
 
+pub use facts::Facts;
 pub use facts_error::FactsError;
 pub use ids::{
     BindingId, BodyId, ConstId, DefWithBodyId, ExprId, ExprOrPatId, FunctionId, LabelId, ModuleId,
