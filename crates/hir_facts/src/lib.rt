@@ -1,6 +1,7 @@
 //! Types, and the facts of a resolved crate: what inference reads.
 #![tactic(auto)]
 
+mod graph;
 mod ids;
 mod laws;
 mod list;
