@@ -20,7 +20,9 @@ use Rattle.hir_facts.specs.declared.raw.RawPat.TheVariants as pat
 use Rattle.hir_facts.specs.declared.raw.RawBody.{RawBody}
 use Rattle.hir_facts.specs.Types.{written_type, unit}
 use Rattle.hir_facts.specs.Erasure.{Same}
-use Rattle.hir_facts.specs.Order.{Role, root, initializer, let_pattern, Part, Node, the_body, inner, IsNode, part_at, stmts_of, stmt_at}
+use Rattle.hir_facts.specs.declared.schedule.Schedule.{Schedule}
+use Rattle.hir_facts.specs.Ways.{one_place}
+use Rattle.hir_facts.specs.Order.{Role, root, initializer, let_pattern, Part, Node, the_body, inner, IsNode, IsSchedule, part_at, stmts_of, stmt_at}
 use Rattle.infer_result.specs.declared.result.InferenceResult.{InferenceResult}
 use Rattle.infer_result.specs.declared.result.TypeMismatch.{TypeMismatch}
 use Rattle.infer_result.specs.Table.{At, HasTy, PatTy, MismatchAt, HasMismatch, mismatch}
@@ -280,3 +282,7 @@ module _ (g : Given) (t : InferenceResult) (h : IsMade g t) where
       upward = upward;
       truths = truths;
     }
+
+-- in a body whose nodes are numbered in the order of the walk, each stands at one place
+pub typed_by_schedule : (g : Given) (t : InferenceResult) (s : Schedule) → IsSchedule g.body s → IsMade g t → IsTyped g t
+typed_by_schedule g t s law h = typed_from_made g t h (one_place g.body s law)
