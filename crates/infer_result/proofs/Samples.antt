@@ -1,1 +1,4 @@
+pub mod Small
 pub mod FirstRun
+pub mod WrongRoot
+pub mod NoTail
