@@ -1,5 +1,5 @@
 -- What a walk through a graph has marked, and what each of its steps does.
-use Rattle.std.specs.Prelude.{ℕ, ◌+◌, ◌-◌, ◌<◌, ◌≤◌, ◌≡◌, ◌⊎◌, Bool, true, false, List, [], ◌∷◌, ◌++◌, length, get_or, slice_set, take, replicate, sum_by, if◌then◌else◌}
+use Rattle.std.specs.Prelude.{ℕ, ◌+◌, ◌-◌, ◌≤◌, ◌≡◌, Bool, true, false, List, [], ◌∷◌, ◌++◌, length, get_or, slice_set, take, replicate, sum_by, if◌then◌else◌}
 use Rattle.hir_facts.specs.Graph.{kids_of, Edge}
 use Rattle.hir_facts.specs.declared.graph.Walk.{Walk}
 
