@@ -5,3 +5,6 @@ pub mod Advances
 pub mod Departs
 pub mod Numbers
 pub mod Steps
+pub mod NodeLists
+pub mod Bodies
+pub mod Schedules

@@ -7,3 +7,4 @@ pub mod Bodies
 pub mod Ways
 pub mod Graph
 pub mod Visits
+pub mod Nodes

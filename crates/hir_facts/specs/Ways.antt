@@ -1,13 +1,13 @@
 -- What the numbers in the order of the walk tell about the parts of a body and the ways to them.
-use Rattle.std.proofs.Common.{ℕ, zero, suc, ◌+◌, ◌<◌, ◌≤◌, ◌≡◌, inl, inr, List, [], ◌∷◌, refl, sym, ap, subst, ◌∙◌, arith, Option, Some, None}
-use Rattle.std.specs.Prelude.{slice_get, option_map}
+use Rattle.std.proofs.Common.{length, ℕ, zero, suc, ◌+◌, ◌<◌, ◌≤◌, ◌≡◌, inl, inr, List, [], ◌∷◌, refl, sym, ap, subst, ◌∙◌, arith, Option, Some, None}
+use Rattle.std.specs.Prelude.{slice_get, slice_index, option_map}
 use Rattle.std.specs.Option.{option_and_then}
 use Rattle.std.proofs.lemmas.Bool.{cases_lt, cases_order}
 use Rattle.std.proofs.lemmas.Option.{option_and_then_some}
 use Rattle.hir_facts.specs.declared.ids.ExprOrPatId.{ExprOrPatId}
 use Rattle.hir_facts.specs.declared.raw.RawBody.{RawBody}
 use Rattle.hir_facts.specs.declared.schedule.Schedule.{Schedule}
-use Rattle.hir_facts.specs.Order.{Part, Node, the_body, inner, IsInBody, IsNode, parts, part_at, follow, IsTree, PartsFit, start, end, after, Fits, IsSchedule}
+use Rattle.hir_facts.specs.Order.{AreDepths, position, Part, Node, the_body, inner, IsInBody, IsNode, parts, part_at, follow, IsTree, PartsFit, start, end, after, Fits, IsSchedule}
 
 -- a part of a node with this number among the numbers below it
 pub record Under (b : RawBody) (s : Schedule) (n : Node) (number : ℕ) : Type 0 where
@@ -223,6 +223,22 @@ module _ (b : RawBody) (s : Schedule) (law : IsSchedule b s) where
         let w : (way : List ℕ) × (follow b way ≡ Some (inner x)) = way_from (start b s (inner x) + 1) x h (omega arith) in
         record { way = w.0; there = w.1; only = λ other e. only_way w.0 other (inner x) w.1 e };
   }
+
+  -- the depth of a node is the number of steps to it
+  pub depth_is_steps : AreDepths b s → (way : List ℕ) (n : Node) → follow b way ≡ Some n → slice_index s.depths (position b n) ≡ length way
+  depth_is_steps depths [] n e =
+      let same : the_body ≡ n = cc in
+      subst (λ (x : Node). slice_index s.depths (position b x) ≡ 0) same depths.top
+  depth_is_steps depths (k ∷ way) n e =
+      let back = step_back k way n e in
+      let above = depth_is_steps depths way back.0 back.2 in
+      let step = depths.below back.0 k back.1 (way_to_node way back.0 back.2) back.3 in
+      subst (λ (x : Node). slice_index s.depths (position b x) ≡ suc (length way)) back.4 (omega arith)
+
+  -- some way leads to each node
+  pub way_to : (n : Node) → IsNode b n → (way : List ℕ) × (follow b way ≡ Some n)
+  way_to the_body h = ([], refl)
+  way_to (inner x) h = way_from (start b s (inner x) + 1) x h (omega arith)
 
 -- ---- one numbering
 

@@ -5,6 +5,7 @@ mod graph;
 mod ids;
 mod laws;
 mod list;
+mod parts;
 mod raw;
 mod schedule;
 mod text;
