@@ -1,0 +1,65 @@
+//! What inference of a body has found out so far.
+ghost use Rattle.std.specs.Prelude.{◌≡◌, ◌<◌, ◌+◌, ◌^◌, length};
+ghost use Rattle.infer_expr.specs.Context.{entered, with_expr_ty, with_mismatch, with_pat_ty, with_mode, with_binding_ty};
+
+use hir_facts::{BindingId, ExprId, PatId, Ty};
+use infer_result::{BindingMode, InferenceResult, TypeMismatch};
+
+/// What inference of a body has found out so far: `infer.rs`, `InferenceContext`.
+#[derive(Drop)]
+pub struct InferenceContext {
+    /// The table as far as it is filled.
+    pub result: InferenceResult,
+    /// How many nodes of the body the walk has come to, the body itself counted.
+    pub clock: usize,
+}
+
+impl InferenceContext {
+    /// Comes to one node more.
+    pub fn enter(&mut self)
+        requires { self.old.clock + 1 < 2 ^ 64 }
+        ensures { self.new ≡ entered self.old }
+    {
+        self.clock += 1;
+    }
+
+    /// Records the type of an expression: `infer.rs`, `write_expr_ty`.
+    pub fn write_expr_ty(&mut self, expr: ExprId, ty: Ty)
+        requires { expr.0 < length self.old.result.type_of_expr }
+        ensures { self.new ≡ with_expr_ty self.old expr ty }
+    {
+        self.result.type_of_expr.set(expr.0 as usize, Some(ty));
+    }
+
+    /// Records a mismatch at an expression.
+    pub fn write_mismatch(&mut self, expr: ExprId, mismatch: TypeMismatch)
+        requires { expr.0 < length self.old.result.expr_mismatches }
+        ensures { self.new ≡ with_mismatch self.old expr mismatch }
+    {
+        self.result.expr_mismatches.set(expr.0 as usize, Some(mismatch));
+    }
+
+    /// Records the type of a pattern: `infer.rs`, `write_pat_ty`.
+    pub fn write_pat_ty(&mut self, pat: PatId, ty: Ty)
+        requires { pat.0 < length self.old.result.type_of_pat }
+        ensures { self.new ≡ with_pat_ty self.old pat ty }
+    {
+        self.result.type_of_pat.set(pat.0 as usize, Some(ty));
+    }
+
+    /// Records how a pattern binds.
+    pub fn write_binding_mode(&mut self, pat: PatId, mode: BindingMode)
+        requires { pat.0 < length self.old.result.binding_modes }
+        ensures { self.new ≡ with_mode self.old pat mode }
+    {
+        self.result.binding_modes.set(pat.0 as usize, Some(mode));
+    }
+
+    /// Records the type of a binding: `infer.rs`, `write_binding_ty`.
+    pub fn write_binding_ty(&mut self, binding: BindingId, ty: Ty)
+        requires { binding.0 < length self.old.result.type_of_binding }
+        ensures { self.new ≡ with_binding_ty self.old binding ty }
+    {
+        self.result.type_of_binding.set(binding.0 as usize, Some(ty));
+    }
+}
