@@ -1,5 +1,5 @@
 -- The loop over the statements of a block, and its end.
-use Rattle.std.proofs.Common.{ℕ, zero, suc, ◌+◌, ◌<◌, ◌≤◌, ◌≡◌, ◌⊎◌, inl, inr, List, [], ◌∷◌, ◌++◌, length, take, drop, get_or, refl, sym, ap, subst, ◌∙◌, arith, Option, Some, None, slice_get, append_assoc, append-nil}
+use Rattle.std.proofs.Common.{ℕ, ◌+◌, ◌<◌, ◌≤◌, ◌≡◌, inl, inr, List, [], ◌∷◌, ◌++◌, length, take, drop, get_or, refl, sym, ap, subst, ◌∙◌, Option, Some, None, slice_get, append_assoc, append-nil}
 use Rattle.std.proofs.lemmas.List.{take_more, take-append-drop}
 use Rattle.std.proofs.Math.ListN.{drop_of_length-le}
 use Rattle.std.proofs.lemmas.Option.{slice_get_read}
@@ -9,23 +9,22 @@ use Rattle.hir_facts.specs.declared.ty.Ty.{Ty}
 use Rattle.hir_facts.specs.declared.raw.RawExpr.TheVariants as expr
 use Rattle.hir_facts.specs.declared.raw.RawStmt.{RawStmt}
 use Rattle.hir_facts.specs.declared.schedule.Schedule.{Schedule}
-use Rattle.hir_facts.specs.Erasure.{IsClosed, Same}
+use Rattle.hir_facts.specs.Erasure.{IsClosed}
 use Rattle.hir_facts.specs.Types.{unit}
-use Rattle.hir_facts.specs.Order.{Part, Node, inner, tail, expr_part, stmt_parts, stmts_parts, maybe_part, after}
+use Rattle.hir_facts.specs.Order.{Part, inner, tail, expr_part, stmt_parts, stmts_parts, maybe_part, after}
 use Rattle.infer_result.specs.declared.result.InferenceResult.{InferenceResult}
-use Rattle.infer_result.specs.declared.result.TypeMismatch.{TypeMismatch}
-use Rattle.infer_result.specs.Table.{At, HasTy, MismatchAt, mismatch}
+use Rattle.infer_result.specs.Table.{mismatch}
 use Rattle.infer_result.specs.Places.{Given, Demand, IsAtOrMismatch}
-use Rattle.infer_result.specs.Rules.Blocks.{StmtRule, StmtsRule, TailRule}
+use Rattle.infer_result.specs.Rules.Blocks.{StmtRule, StmtsRule}
 use Rattle.infer_result.specs.Truth.Mismatch.{IsBlockWithoutTail}
 use Rattle.infer_expr.specs.declared.context.InferenceContext.{InferenceContext}
 use Rattle.infer_expr.specs.Context.{IsClosedExpectation}
-use Rattle.infer_expr.specs.Walks.{Walks, Extends, Nothing, Owed, PaidBy, expr_start, expr_end}
-use Rattle.infer_expr.specs.Steps.{LieAhead, Before, Within, KindDone, CoerceDone, BeforeStmt, StmtDone, BeforeTail, NoTailDone, TailDone, IsBlockOf, IsOwnMisfit, with_own}
+use Rattle.infer_expr.specs.Walks.{Walks, Nothing, Owed, PaidBy, expr_end}
+use Rattle.infer_expr.specs.Steps.{LieAhead, Within, KindDone, CoerceDone, BeforeStmt, StmtDone, BeforeTail, NoTailDone, TailDone, IsCoerced, IsBlockOf}
 use Rattle.infer_expr.proofs.Lists.{drop-step}
 use Rattle.infer_expr.proofs.Types.{closed_unit}
 use Rattle.infer_expr.proofs.Carried.{carried_stmt}
-use Rattle.infer_expr.proofs.Parts.{after_append, ahead_left, ahead_right, expr_ahead, expr_before}
+use Rattle.infer_expr.proofs.Parts.{after_append, ahead_left, ahead_right, expr_ahead}
 use Rattle.infer_expr.proofs.Category.{walks_refl, walks_trans, walks_paid}
 use Rattle.infer_expr.proofs.Keeps.{stmts_kept, at_kept}
 use Rattle.infer_expr.proofs.Coercions.{placed_at, placed_closed, placed_owed}
@@ -65,25 +64,25 @@ module _ (g : Given) (s : Schedule) (n : ExprId) (ys : List RawStmt) (o : Option
     ready = w.ready;
     state = h.walks.state;
     ahead = ahead_left g.body s (inner (node.ExprId n)) c.clock (stmt_parts y) rest (ahead_at y e k);
-    carried = carried_stmt g.body n ys o i y w.ready.law.carried is (slice_get_read ys _ i y refl k e)
+    carried = carried_stmt g.body n ys o i y w.ready.law.carried is (slice_get_read ys _ i y refl k e);
   }
 
   pub block_next : (y : RawStmt) (next : InferenceContext) → y ≡ get_or ys i y → i < length ys → StmtDone g s y c next → BlockLoop g s n ys o (i + 1) mid next
   block_next y next e k d =
       let a = ahead_right g.body s (inner (node.ExprId n)) c.clock (stmt_parts y) rest (ahead_at y e k) in
       let f : after g.body s next.clock rest ≡ expr_end g.body s n =
-            ap (λ j. after g.body s j rest) d.clock
-            ∙ (sym (after_append g.body s c.clock (stmt_parts y) rest)
-               ∙ (ap (λ ps. after g.body s c.clock ps) (sym (step y e k)) ∙ h.ends)) in
+      ap (λ j. after g.body s j rest) d.clock
+      ∙ (sym (after_append g.body s c.clock (stmt_parts y) rest)
+      ∙ (ap (λ ps. after g.body s c.clock ps) (sym (step y e k)) ∙ h.ends)) in
       record {
         walks = walks_trans g s Nothing mid c next h.walks d.walks;
         ahead = subst (λ j. LieAhead g.body s (inner (node.ExprId n)) j rest) (sym d.clock) a;
         ends = f;
         made = rw (take_more ys i y k) (
-          subst (λ z. StmtsRule (IsAtOrMismatch next.result) g next.result (take i ys ++ z ∷ [])) e (
+            subst (λ z. StmtsRule (IsAtOrMismatch next.result) g next.result (take i ys ++ z ∷ [])) e (
             stmts_push g next.result (take i ys) y (stmts_kept g c.result next.result d.walks.extends (take i ys) h.made) d.made
-          )
-        )
+            )
+            );
       }
 
   module _ (x : Option Ty) (w : Within g s n x mid) (is : IsBlockOf g.body n ys o) (over : length ys ≤ i) where
@@ -115,25 +114,25 @@ module _ (g : Given) (s : Schedule) (n : ExprId) (ys : List RawStmt) (o : Option
           own = None;
           is = refl;
           walks = walks_trans g s (PaidBy g n t) mid c new (
-            walks_paid g s Nothing (PaidBy g n t) mid c (λ q m p. absurd p) h.walks
-          ) (
-            walks_paid g s (Owed e x) (PaidBy g n t) c new (
+              walks_paid g s Nothing (PaidBy g n t) mid c (λ q m p. absurd p) h.walks
+              ) (
+              walks_paid g s (Owed e x) (PaidBy g n t) c new (
               λ q m p.
               (let k = placed_owed new.result e x t d.placed q m p in
-               inr (λ r has.
-                 subst (λ z. Demand g r z m.expected) (sym k.0) (
-                   subst (λ u. Demand g r e u) (sym k.1) (part_demand g s n c.clock tail e [] r t a has)
-                 )))
-            ) d.walks
-          );
+              inr (λ r has.
+              subst (λ z. Demand g r z m.expected) (sym k.0) (
+              subst (λ u. Demand g r e u) (sym k.1) (part_demand g s n c.clock tail e [] r t a has)
+              )))
+              ) d.walks
+              );
           clock = d.clock ∙ f;
           closed = placed_closed new.result e x t d.walks.state.closed w.expected d.placed;
           misfit = λ m k. absurd (cc);
           rule = λ r k has own.
-            rule_of g r n (expr.Block is.0 ys (Some e)) b (
-              stmts_kept g new.result r k ys (stmts_kept g c.result new.result d.walks.extends ys all_made),
-              (t, has, at_kept g new.result r k e t (placed_at new.result e x t d.placed))
-            )
+              rule_of g r n (expr.Block is.0 ys (Some e)) b (
+                stmts_kept g new.result r k ys (stmts_kept g c.result new.result d.walks.extends ys all_made),
+                (t, has, at_kept g new.result r k e t (placed_at new.result e x t d.placed)),
+              );
         }
 
     -- without tail
@@ -149,19 +148,19 @@ module _ (g : Given) (s : Schedule) (n : ExprId) (ys : List RawStmt) (o : Option
           walks = walks_paid g s Nothing (PaidBy g n t) mid c (λ q m p. absurd p) h.walks;
           clock = f;
           closed = elim d.fits [
-              inl q ↦ subst (λ u. IsClosed u) (sym q.1) closed_unit
+            | inl q ↦ subst (λ u. IsClosed u) (sym q.1) closed_unit
             | inr q ↦ subst (λ z. IsClosedExpectation z) q.1 w.expected
           ];
           misfit = λ m k.
-            elim d.fits [
-                inl q ↦ (let z = q.0 in absurd (cc))
-              | inr q ↦ (let z = q.0 in let same : m ≡ mismatch t unit = cc in record { block = block; asked = q.1; is = same; differ = q.2 })
-            ];
+              elim d.fits [
+                | inl q ↦ (let z = q.0 in absurd (cc))
+                | inr q ↦ (let z = q.0 in let same : m ≡ mismatch t unit = cc in record { block = block; asked = q.1; is = same; differ = q.2 })
+              ];
           rule = λ r k has own.
-            rule_of g r n (expr.Block is.0 ys None) b (
-              stmts_kept g c.result r k ys all_made,
-              (t, has, elim d.fits [ inl q ↦ inl (sym q.1) | inr q ↦ inr (own (mismatch t unit) q.0) ])
-            )
+              rule_of g r n (expr.Block is.0 ys None) b (
+                stmts_kept g c.result r k ys all_made,
+                (t, has, elim d.fits [ inl q ↦ inl (sym q.1) | inr q ↦ inr (own (mismatch t unit) q.0) ]),
+              );
         }
 
     tail_cases : (y : Option ExprId) → o ≡ y → (t : Ty) (new : InferenceContext) → TailDone g s n y x t c new → KindDone g s n x t mid new
@@ -170,3 +169,18 @@ module _ (g : Given) (s : Schedule) (n : ExprId) (ys : List RawStmt) (o : Option
 
     pub block_done : (t : Ty) (new : InferenceContext) → TailDone g s n o x t c new → KindDone g s n x t mid new
     block_done t new d = tail_cases o refl t new d
+
+-- `()` coerced to what is expected of a block without tail
+pub no_tail_some : (n : ExprId) (x : Option Ty) (t u a : Ty) (old new : InferenceContext) → x ≡ Some u → t ≡ u → a ≡ unit → IsCoerced n a u old new → NoTailDone n x t old new
+no_tail_some n x t u a old new e f i (inl q) = record {
+  own = None;
+  is = q.1;
+  asked = λ v k. (let z : u ≡ v = cc in f ∙ z);
+  fits = inl (refl, f ∙ (sym q.0 ∙ i));
+}
+no_tail_some n x t u a old new e f i (inr q) = record {
+  own = Some (mismatch u a);
+  is = q.1;
+  asked = λ v k. (let z : u ≡ v = cc in f ∙ z);
+  fits = inr ((λ j. Some (mismatch (sym f j) (i j))), e ∙ ap (λ z. Some z) (sym f), λ k. q.0 (sym f ∙ (k ∙ sym i)));
+}

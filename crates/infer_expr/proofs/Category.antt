@@ -1,11 +1,11 @@
 -- Walks compose.
-use Rattle.std.proofs.Common.{ℕ, ◌<◌, ◌≤◌, ◌≡◌, ◌⊎◌, inl, inr, refl, ◌∙◌, arith, slice_get}
+use Rattle.std.proofs.Common.{◌⊎◌, inl, inr, refl, ◌∙◌, arith, slice_get}
 use Rattle.hir_facts.specs.declared.ids.ExprId.{ExprId}
 use Rattle.hir_facts.specs.declared.schedule.Schedule.{Schedule}
 use Rattle.infer_result.specs.declared.result.TypeMismatch.{TypeMismatch}
 use Rattle.infer_result.specs.Places.{Given, Demand}
 use Rattle.infer_expr.specs.declared.context.InferenceContext.{InferenceContext}
-use Rattle.infer_expr.specs.Walks.{Walks, IsWalked, Debt, Nothing, expr_start, pat_start}
+use Rattle.infer_expr.specs.Walks.{Walks, IsWalked, Debt, expr_start, pat_start}
 use Rattle.infer_expr.proofs.Lists.{lt_or_ge}
 use Rattle.infer_expr.proofs.Keeps.{extends_refl, extends_trans, obeys_kept, pat_kept, misfit_kept, demand_kept}
 
@@ -18,7 +18,7 @@ walks_refl g s P c h = record {
   state = h;
   made = λ e i lo hi. absurd (omega arith);
   pats_made = λ p i lo hi. absurd (omega arith);
-  truths = λ e m h. inl h
+  truths = λ e m h. inl h;
 }
 
 pub walks_trans : (g : Given) (s : Schedule) (P : Debt) (x y z : InferenceContext) → Walks g s P x y → Walks g s P y z → Walks g s P x z
@@ -29,28 +29,28 @@ walks_trans g s P x y z h k = record {
   kept_mismatches = λ e i lo. k.kept_mismatches e i (omega (arith, h.clock)) ∙ h.kept_mismatches e i lo;
   state = k.state;
   made = λ e i lo hi.
-    elim (lt_or_ge (expr_start g.body s e) y.clock) [
-        inl l ↦ obeys_kept g y.result z.result k.extends e (h.made e i lo l)
-      | inr r ↦ k.made e i r hi
-    ];
+      elim (lt_or_ge (expr_start g.body s e) y.clock) [
+        | inl l ↦ obeys_kept g y.result z.result k.extends e (h.made e i lo l)
+        | inr r ↦ k.made e i r hi
+      ];
   pats_made = λ p i lo hi.
-    elim (lt_or_ge (pat_start g.body s p) y.clock) [
-        inl l ↦ pat_kept g y.result z.result k.extends p (slice_get g.body.pats p.0) (h.pats_made p i lo l)
-      | inr r ↦ k.pats_made p i r hi
-    ];
+      elim (lt_or_ge (pat_start g.body s p) y.clock) [
+        | inl l ↦ pat_kept g y.result z.result k.extends p (slice_get g.body.pats p.0) (h.pats_made p i lo l)
+        | inr r ↦ k.pats_made p i r hi
+      ];
   truths = λ e m i.
-    elim (k.truths e m i) [
-        inl o ↦
+      elim (k.truths e m i) [
+        | inl o ↦
             elim (h.truths e m o) [
-                inl q ↦ inl q
+              | inl q ↦ inl q
               | inr q ↦
                   inr (
                     misfit_kept g y.result z.result k.extends e m q.0,
-                    elim q.1 [ inl d ↦ inl (demand_kept g y.result z.result k.extends e m.expected d) | inr p ↦ inr p ]
+                    elim q.1 [ inl d ↦ inl (demand_kept g y.result z.result k.extends e m.expected d) | inr p ↦ inr p ],
                   )
             ]
-      | inr q ↦ inr q
-    ]
+        | inr q ↦ inr q
+      ];
 }
 
 -- debts may be said otherwise, or be paid
@@ -64,8 +64,8 @@ walks_paid g s P Q x y f h = record {
   made = h.made;
   pats_made = h.pats_made;
   truths = λ e m i.
-    elim (h.truths e m i) [
-        inl o ↦ inl o
-      | inr q ↦ inr (q.0, elim q.1 [ inl d ↦ inl d | inr p ↦ f e m p ])
-    ]
+      elim (h.truths e m i) [
+        | inl o ↦ inl o
+        | inr q ↦ inr (q.0, elim q.1 [ inl d ↦ inl d | inr p ↦ f e m p ])
+      ];
 }

@@ -1,5 +1,5 @@
 -- What is judged stays so, as more is recorded: one lemma for each judgement.
-use Rattle.std.proofs.Common.{ℕ, ◌≡◌, ◌⊎◌, inl, inr, List, [], ◌∷◌, Bool, true, false, Option, Some, None, slice_get, refl}
+use Rattle.std.proofs.Common.{◌⊎◌, inl, inr, List, [], ◌∷◌, true, false, Option, Some, None, slice_get}
 use Rattle.hir_facts.specs.declared.ids.ExprId.{ExprId}
 use Rattle.hir_facts.specs.declared.ids.PatId.{PatId}
 use Rattle.hir_facts.specs.declared.ids.TypeRefId.{TypeRefId}
@@ -24,7 +24,6 @@ use Rattle.infer_result.specs.Rules.Tuples.{AllAt}
 use Rattle.infer_result.specs.Rules.Blocks.{LetRule, StmtRule, StmtsRule, TailRule}
 use Rattle.infer_result.specs.Rules.Expressions.{Rule, ObeysOrMismatch}
 use Rattle.infer_result.specs.Rules.Patterns.{PatRule}
-use Rattle.infer_result.specs.Truth.Mismatch.{IsActual}
 use Rattle.infer_result.specs.Made.{IsMisfit}
 use Rattle.infer_expr.specs.Walks.{Extends}
 
@@ -34,7 +33,7 @@ extends_refl a = record {
   pats = λ p t h. h;
   bindings = λ v t h. h;
   modes = λ p m h. h;
-  mismatches = λ e m h. h
+  mismatches = λ e m h. h;
 }
 
 pub extends_trans : (a b c : InferenceResult) → Extends a b → Extends b c → Extends a c
@@ -43,7 +42,7 @@ extends_trans a b c x y = record {
   pats = λ p t h. y.pats p t (x.pats p t h);
   bindings = λ v t h. y.bindings v t (x.bindings v t h);
   modes = λ p m h. y.modes p m (x.modes p m h);
-  mismatches = λ e m h. y.mismatches e m (x.mismatches e m h)
+  mismatches = λ e m h. y.mismatches e m (x.mismatches e m h);
 }
 
 module _ (g : Given) (a b : InferenceResult) (x : Extends a b) where
@@ -101,7 +100,7 @@ module _ (g : Given) (a b : InferenceResult) (x : Extends a b) where
   pub misfit_kept : (e : ExprId) (m : TypeMismatch) → IsMisfit g a e m → IsMisfit g b e m
   misfit_kept e m h = record {
     differ = h.differ;
-    actual = elim h.actual [ inl k ↦ inl (x.exprs e m.actual k) | inr k ↦ inr k ]
+    actual = elim h.actual [ inl k ↦ inl (x.exprs e m.actual k) | inr k ↦ inr k ];
   }
 
   asks_of_kept : (n : ExprId) (role : Role) (t : Ty) → AsksOf g a n role t → AsksOf g b n role t
@@ -127,5 +126,5 @@ module _ (g : Given) (a b : InferenceResult) (x : Extends a b) where
     at_part = h.at_part;
     role = h.role;
     stands = h.stands;
-    asks = asks_kept h.parent h.role t h.asks
+    asks = asks_kept h.parent h.role t h.asks;
   }

@@ -2,7 +2,7 @@
 use Rattle.std.proofs.Common.{ℕ, zero, suc, ◌+◌, ◌<◌, ◌≤◌, ◌≡◌, ◌≢◌, ◌⊎◌, inl, inr, List, [], ◌∷◌, ◌++◌, length, get_or, drop, refl, sym, ap, ◌∙◌, arith, add-one, drop-cons, Option, Some, None, slice_get}
 use Rattle.std.proofs.Math.ListN.{set, length-set}
 use Rattle.std.proofs.lemmas.List.{get_or-set_same, get_or-set_other}
-use Rattle.std.proofs.lemmas.Option.{slice_get-get_or, slice_get_past, slice_get_within}
+use Rattle.std.proofs.lemmas.Option.{slice_get-get_or, slice_get_past}
 use Rattle.infer_result.specs.Table.{At}
 use Rattle.infer_expr.specs.Walks.{IsFree}
 
@@ -21,13 +21,13 @@ module _ {X : Type 0} where
   pub slice_get-set_other : (xs : List X) (n m : ℕ) (x : X) → m ≢ n → slice_get (set xs n x) m ≡ slice_get xs m
   slice_get-set_other xs n m x ne =
       elim (lt_or_ge m (length xs)) [
-          inl h ↦
-              (let k : m < length (set xs n x) = simp length-set h in
-               slice_get-get_or (set xs n x) m x k
-               ∙ (ap (λ y. Some y) (get_or-set_other xs n m x x ne) ∙ sym (slice_get-get_or xs m x h)))
+        | inl h ↦
+            (let k : m < length (set xs n x) = simp length-set h in
+            slice_get-get_or (set xs n x) m x k
+            ∙ (ap (λ y. Some y) (get_or-set_other xs n m x x ne) ∙ sym (slice_get-get_or xs m x h)))
         | inr h ↦
-              (let k : length (set xs n x) ≤ m = simp length-set h in
-               slice_get_past (set xs n x) m k ∙ sym (slice_get_past xs m h))
+            (let k : length (set xs n x) ≤ m = simp length-set h in
+            slice_get_past (set xs n x) m k ∙ sym (slice_get_past xs m h))
       ]
 
   pub slice_get-append_left : (xs ys : List X) (i : ℕ) (x : X) → slice_get xs i ≡ Some x → slice_get (xs ++ ys) i ≡ Some x
@@ -42,6 +42,10 @@ module _ {X : Type 0} where
   pub drop-step : (xs : List X) (i : ℕ) (x : X) → i < length xs → drop i xs ≡ get_or xs i x ∷ drop (i + 1) xs
   drop-step xs i x h = rw (add-one, drop-cons xs i x)
 
+  -- what a read at i gave
+  pub read_at : (xs : List X) (i : ℕ) (d x : X) → i < length xs → get_or xs i d ≡ x → slice_get xs i ≡ Some x
+  read_at xs i d x h e = slice_get-get_or xs i d h ∙ ap (λ y. Some y) e
+
   pub found : (xs : List X) (n : ℕ) → n < length xs → (x : X) × (slice_get xs n ≡ Some x)
   found [] n h = absurd (omega arith)
   found (x ∷ xs) zero h = (x, refl)
@@ -52,7 +56,7 @@ module _ {A : Type 0} where
   pub At-set : (xs : List (Option A)) (n m : ℕ) (a b : A) → IsFree xs n → At xs m b → At (set xs n (Some a)) m b
   At-set xs n m a b free h =
       elim (same_or_not m n) [
-          inl e ↦ (let f : slice_get xs m ≡ Some None = rw e free in cc)
+        | inl e ↦ (let f : slice_get xs m ≡ Some None = rw e free in cc)
         | inr ne ↦ slice_get-set_other xs n m (Some a) ne ∙ h
       ]
 
@@ -60,10 +64,10 @@ module _ {A : Type 0} where
   pub At-set_cases : (xs : List (Option A)) (n m : ℕ) (a b : A) → n < length xs → At (set xs n (Some a)) m b → At xs m b ⊎ ((m ≡ n) × (a ≡ b))
   At-set_cases xs n m a b h k =
       elim (same_or_not m n) [
-          inl e ↦
-              (let f : slice_get (set xs n (Some a)) m ≡ Some (Some a) = rw e (slice_get-set_same xs n (Some a) h) in
-               let g : a ≡ b = cc in
-               inr (e, g))
+        | inl e ↦
+            (let f : slice_get (set xs n (Some a)) m ≡ Some (Some a) = rw e (slice_get-set_same xs n (Some a) h) in
+            let g : a ≡ b = cc in
+            inr (e, g))
         | inr ne ↦ inl (sym (slice_get-set_other xs n m (Some a) ne) ∙ k)
       ]
 

@@ -1,5 +1,5 @@
 -- The parts of a node, which lie ahead one after another.
-use Rattle.std.proofs.Common.{ℕ, zero, suc, ◌+◌, ◌<◌, ◌≤◌, ◌≡◌, refl, sym, ap, subst, ◌∙◌, arith, List, [], ◌∷◌, ◌++◌, length, Option, Some, None, slice_get}
+use Rattle.std.proofs.Common.{ℕ, suc, ◌+◌, ◌<◌, ◌≡◌, refl, sym, ap, subst, ◌∙◌, List, [], ◌∷◌, ◌++◌, length, Option, Some, None, slice_get}
 use Rattle.std.specs.Option.{option_and_then}
 use Rattle.std.proofs.lemmas.Option.{slice_get_within}
 use Rattle.hir_facts.specs.declared.ids.ExprId.{ExprId}
@@ -11,12 +11,12 @@ use Rattle.hir_facts.specs.declared.raw.RawPat.{RawPat}
 use Rattle.hir_facts.specs.declared.raw.RawExpr.{RawExpr}
 use Rattle.hir_facts.specs.declared.raw.RawBody.{RawBody}
 use Rattle.hir_facts.specs.declared.schedule.Schedule.{Schedule}
-use Rattle.hir_facts.specs.Order.{Part, Node, inner, Role, expr_part, pat_part, parts, parts_of_expr, parts_of_pat, expr_parts, part_at, start, end, after, Fits, IsNode, IsInBody, IsSchedule, Binds, binding_of}
+use Rattle.hir_facts.specs.Order.{Part, Node, inner, Role, expr_part, parts, parts_of_expr, parts_of_pat, expr_parts, start, end, after, IsNode, IsSchedule, Binds, binding_of}
 use Rattle.infer_result.specs.Places.{Given, StandsAt}
 use Rattle.infer_expr.specs.declared.context.InferenceContext.{InferenceContext}
 use Rattle.infer_expr.specs.Context.{IsClosedExpectation}
 use Rattle.infer_expr.specs.Walks.{IsWalked, expr_start, expr_end, pat_start}
-use Rattle.infer_expr.specs.Steps.{LieAhead, Before, BeforePat, IsReady}
+use Rattle.infer_expr.specs.Steps.{LieAhead, Before, IsReady}
 use Rattle.infer_expr.proofs.Lists.{slice_get-append_left}
 
 -- ---- ids
@@ -74,7 +74,7 @@ module _ (b : RawBody) (s : Schedule) (n : Node) where
   ahead_left from (p ∷ ps) qs h = record {
     node_is = h.node_is;
     fit = (h.fit.0, h.fit.1, (ahead_left (end b s (inner p.node)) ps qs (ahead_rest from p (ps ++ qs) h)).fit);
-    stand = λ k q e. h.stand k q (slice_get-append_left (p ∷ ps) qs k q e)
+    stand = λ k q e. h.stand k q (slice_get-append_left (p ∷ ps) qs k q e);
   }
 
   pub ahead_right : (from : ℕ) (ps qs : List Part) → LieAhead b s n from (ps ++ qs) → LieAhead b s n (after b s from ps) qs
@@ -88,10 +88,9 @@ module _ (b : RawBody) (s : Schedule) (n : Node) where
 pub expr_ahead : (b : RawBody) (s : Schedule) (e : ExprId) (x : RawExpr) (from : ℕ) → IsSchedule b s → e.0 < length b.exprs → slice_get b.exprs e.0 ≡ Some x → from ≡ expr_start b s e + 1 → LieAhead b s (inner (node.ExprId e)) from (expr_parts x) × (after b s from (expr_parts x) ≡ expr_end b s e)
 expr_ahead b s e x from law h is at =
     let n : Node = inner (node.ExprId e) in
-    let p : parts_of_expr (slice_get b.exprs e.0) ≡ expr_parts x = ap (λ o. parts_of_expr o) is in
-    (
+    let p : parts_of_expr (slice_get b.exprs e.0) ≡ expr_parts x = ap (λ o. parts_of_expr o) is in (
       subst (λ k. LieAhead b s n k (expr_parts x)) (sym at) (subst (λ ps. LieAhead b s n (expr_start b s e + 1) ps) p (ahead_start b s n law h)),
-      subst (λ k. after b s k (expr_parts x) ≡ expr_end b s e) (sym at) (subst (λ ps. after b s (expr_start b s e + 1) ps ≡ expr_end b s e) p (law.ends n h))
+      subst (λ k. after b s k (expr_parts x) ≡ expr_end b s e) (sym at) (subst (λ ps. after b s (expr_start b s e + 1) ps ≡ expr_end b s e) p (law.ends n h)),
     )
 
 pub expr_before : (g : Given) (s : Schedule) (n : Node) (role : Role) (e : ExprId) (ps : List Part) (x : Option Ty) (c : InferenceContext) → IsReady g s → IsWalked g.body s c → LieAhead g.body s n c.clock (expr_part role e ∷ ps) → IsClosedExpectation x → Before g s e x c
@@ -100,7 +99,7 @@ expr_before g s n role e ps x c ready state ahead closed = record {
   state = state;
   within = ahead.fit.0;
   here = ahead.fit.1;
-  expected = closed
+  expected = closed;
 }
 
 no_pat_parts : (o : Option RawPat) → parts_of_pat o ≡ []

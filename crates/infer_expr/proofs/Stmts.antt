@@ -1,25 +1,22 @@
 -- Statements.
-use Rattle.std.proofs.Common.{ℕ, ◌+◌, ◌<◌, ◌≤◌, ◌≡◌, ◌⊎◌, inl, inr, Bool, true, false, List, [], ◌∷◌, ◌++◌, refl, sym, ap, subst, ◌∙◌, arith, Option, Some, None, slice_get}
+use Rattle.std.proofs.Common.{ℕ, ◌+◌, ◌≡◌, Bool, true, false, List, [], ◌∷◌, sym, ap, subst, ◌∙◌, Option, Some, None}
 use Rattle.hir_facts.specs.declared.ids.ExprId.{ExprId}
 use Rattle.hir_facts.specs.declared.ids.PatId.{PatId}
 use Rattle.hir_facts.specs.declared.ids.TypeRefId.{TypeRefId}
 use Rattle.hir_facts.specs.declared.ids.ExprOrPatId.TheVariants as node
 use Rattle.hir_facts.specs.declared.ty.Ty.{Ty}
-use Rattle.hir_facts.specs.declared.raw.RawStmt.{RawStmt}
 use Rattle.hir_facts.specs.declared.raw.RawStmt.TheVariants as stmt
 use Rattle.hir_facts.specs.declared.schedule.Schedule.{Schedule}
 use Rattle.hir_facts.specs.Types.{unit, written_type}
-use Rattle.hir_facts.specs.Erasure.{IsClosed}
-use Rattle.hir_facts.specs.Order.{Part, Node, inner, Role, initializer, let_pattern, statement, expr_part, pat_part, stmt_parts, end, after}
+use Rattle.hir_facts.specs.Order.{Part, inner, Role, initializer, let_pattern, statement, expr_part, pat_part}
 use Rattle.infer_result.specs.declared.result.InferenceResult.{InferenceResult}
 use Rattle.infer_result.specs.Table.{PatTy}
 use Rattle.infer_result.specs.Places.{Given, Demand, AsksOf, IsAtOrMismatch}
-use Rattle.infer_result.specs.Rules.Blocks.{LetRule, StmtRule}
+use Rattle.infer_result.specs.Rules.Blocks.{LetRule}
 use Rattle.infer_expr.specs.declared.context.InferenceContext.{InferenceContext}
-use Rattle.infer_expr.specs.Context.{IsClosedExpectation}
-use Rattle.infer_expr.specs.Walks.{Walks, Nothing, Owed, expr_start, expr_end, pat_start}
+use Rattle.infer_expr.specs.Walks.{Nothing}
 use Rattle.infer_expr.specs.Steps.{LieAhead, Before, BeforePat, BeforeStmt, StmtDone, CoerceDone, InitDone, PatDone, IsPlaced, declared_type}
-use Rattle.infer_expr.proofs.Parts.{ahead_stands, ahead_rest, expr_before, pat_end}
+use Rattle.infer_expr.proofs.Parts.{ahead_stands, expr_before, pat_end}
 use Rattle.infer_expr.proofs.Category.{walks_trans}
 use Rattle.infer_expr.proofs.Keeps.{at_kept}
 use Rattle.infer_expr.proofs.Coercions.{owed_paid, placed_closed}
@@ -46,7 +43,7 @@ module _ (g : Given) (s : Schedule) (n : ExprId) (p : PatId) (w : Option TypeRef
   init_done t new d = record {
     walks = owed_paid g s e (declared_type g w) old new (λ u i. part_demand g s n old.clock (initializer w) e (pat_part (let_pattern w (Some e)) p ∷ []) new.result u h.ahead (asked w new.result u i)) d.walks;
     clock = d.clock;
-    placed = d.placed
+    placed = d.placed;
   }
 
   pub let_pat : (t : Ty) (mid : InferenceContext) → InitDone g s w e t old mid → BeforePat g s p t mid
@@ -55,22 +52,21 @@ module _ (g : Given) (s : Schedule) (n : ExprId) (p : PatId) (w : Option TypeRef
     state = d.walks.state;
     within = h.ahead.fit.2.0;
     here = h.ahead.fit.2.1 ∙ sym d.clock;
-    closed = placed_closed mid.result e (declared_type g w) t d.walks.state.closed (closed_declared g w) d.placed
+    closed = placed_closed mid.result e (declared_type g w) t d.walks.state.closed (closed_declared g w) d.placed;
   }
 
   let_made : (y : Option TypeRefId) (t : Ty) (mid new : InferenceContext) → IsPlaced mid.result e (declared_type g y) t → PatDone g s p t mid new → LetRule (IsAtOrMismatch new.result) g new.result p y (Some e)
   let_made None t mid new k d = (t, d.walks.extends.exprs e t k, d.type_is)
-  let_made (Some y) t mid new k d =
-      (
-        at_kept g mid.result new.result d.walks.extends e (written_type g.types y) k.1,
-        subst (λ u. PatTy new.result p u) k.0 d.type_is
-      )
+  let_made (Some y) t mid new k d = (
+    at_kept g mid.result new.result d.walks.extends e (written_type g.types y) k.1,
+    subst (λ u. PatTy new.result p u) k.0 d.type_is,
+  )
 
   pub let_done : (t : Ty) (mid new : InferenceContext) → InitDone g s w e t old mid → PatDone g s p t mid new → StmtDone g s (stmt.Let p w (Some e) None) old new
   let_done t mid new i d = record {
     walks = walks_trans g s Nothing old mid new i.walks d.walks;
     clock = d.clock ∙ (ap (λ k. k + 1) (i.clock ∙ sym h.ahead.fit.2.1) ∙ sym (pat_end g.body s p h.ready.law.schedule h.ahead.fit.2.0));
-    made = let_made w t mid new i.placed d
+    made = let_made w t mid new i.placed d;
   }
 
 -- ---- expressions
@@ -89,12 +85,12 @@ module _ (g : Given) (s : Schedule) (n : ExprId) (e : ExprId) (old : InferenceCo
   expr_stmt_done true t new h d = record {
     walks = owed_paid g s e None old new (λ u i. absurd (cc)) d.walks;
     clock = d.clock;
-    made = tt
+    made = tt;
   }
   expr_stmt_done false t new h d = record {
     walks = owed_paid g s e (Some unit) old new (λ u i.
-      (let k : unit ≡ u = cc in
-       part_demand g s n old.clock (statement false) e [] new.result u h.ahead (sym k))) d.walks;
+        (let k : unit ≡ u = cc in
+        part_demand g s n old.clock (statement false) e [] new.result u h.ahead (sym k))) d.walks;
     clock = d.clock;
-    made = d.placed.1
+    made = d.placed.1;
   }

@@ -1,5 +1,5 @@
 -- The loop over the elements of a tuple.
-use Rattle.std.proofs.Common.{ℕ, zero, suc, ◌+◌, ◌<◌, ◌≤◌, ◌≡◌, ◌⊎◌, inl, inr, List, [], ◌∷◌, ◌++◌, length, take, drop, get_or, refl, sym, ap, subst, ◌∙◌, arith, Option, Some, None, slice_get, length-append, append-nil, add-one}
+use Rattle.std.proofs.Common.{ℕ, zero, suc, ◌+◌, ◌<◌, ◌≤◌, ◌≡◌, inr, List, [], ◌∷◌, ◌++◌, length, take, drop, get_or, refl, sym, ap, subst, ◌∙◌, arith, Option, Some, None, slice_get, length-append, append-nil}
 use Rattle.std.proofs.Math.ListN.{drop_of_length-le, take-append-drop}
 use Rattle.std.proofs.lemmas.List.{take_more}
 use Rattle.std.proofs.lemmas.Option.{slice_get_read}
@@ -9,15 +9,14 @@ use Rattle.hir_facts.specs.declared.ty.Ty.{Ty}
 use Rattle.hir_facts.specs.declared.ty.Ty.TheVariants as ty
 use Rattle.hir_facts.specs.declared.raw.RawExpr.TheVariants as expr
 use Rattle.hir_facts.specs.declared.schedule.Schedule.{Schedule}
-use Rattle.hir_facts.specs.Order.{Part, Node, inner, Role, element, expr_part, element_parts, parts, parts_of_expr, part_at, end, after}
+use Rattle.hir_facts.specs.Order.{inner, element, expr_part, element_parts, parts_of_expr, part_at, after}
 use Rattle.infer_result.specs.declared.result.InferenceResult.{InferenceResult}
 use Rattle.infer_result.specs.declared.result.TypeMismatch.{TypeMismatch}
-use Rattle.infer_result.specs.Table.{HasTy}
-use Rattle.infer_result.specs.Places.{Given, Demand, IsAtOrMismatch}
+use Rattle.infer_result.specs.Places.{Given, IsAtOrMismatch}
 use Rattle.infer_result.specs.Rules.Tuples.{AllAt}
 use Rattle.infer_expr.specs.declared.context.InferenceContext.{InferenceContext}
-use Rattle.infer_expr.specs.Context.{element_type, IsClosedExpectation}
-use Rattle.infer_expr.specs.Walks.{Walks, Debt, Owed, OwedAmong, PaidBy, expr_start, expr_end}
+use Rattle.infer_expr.specs.Context.{element_type}
+use Rattle.infer_expr.specs.Walks.{Walks, Debt, Owed, OwedAmong, PaidBy, expr_end}
 use Rattle.infer_expr.specs.Steps.{LieAhead, Before, Within, KindDone, CoerceDone, IsTupleOf}
 use Rattle.infer_expr.proofs.Lists.{slice_get-append_left, slice_get-push, drop-step}
 use Rattle.infer_expr.proofs.Types.{AreClosed, closed_push, closed_tuple, closed_element}
@@ -45,7 +44,7 @@ tuple_start g s n es x c h is =
       ends = a.1;
       made = tt;
       closed = refl;
-      count = refl
+      count = refl;
     }
 
 all_push : (r : InferenceResult) (es : List ExprId) (ts : List Ty) (e : ExprId) (t : Ty) → AllAt (IsAtOrMismatch r) es ts → IsAtOrMismatch r e t → AllAt (IsAtOrMismatch r) (es ++ e ∷ []) (ts ++ t ∷ [])
@@ -76,7 +75,7 @@ element_demand g n es ts h is e m o r has =
       at_part = i;
       role = element i;
       stands = record { node_is = h; part = p };
-      asks = (ts, has, o.2)
+      asks = (ts, has, o.2);
     }
 
 module _ (g : Given) (s : Schedule) (n : ExprId) (es : List ExprId) (i : ℕ) (ts : List Ty) (mid c : InferenceContext) (h : TupleLoop g s n es i ts mid c) where
@@ -89,38 +88,38 @@ module _ (g : Given) (s : Schedule) (n : ExprId) (es : List ExprId) (i : ℕ) (t
   pub tuple_before : (x : Option Ty) (start : InferenceContext) → Within g s n x start → (e : ExprId) → e ≡ get_or es i e → i < length es → Before g s e (element_type x i) c
   tuple_before x start w e is k =
       expr_before g s (inner (node.ExprId n)) (element i) e (element_parts (i + 1) (drop (i + 1) es)) (element_type x i) c w.ready h.walks.state (
-        subst (λ ps. LieAhead g.body s (inner (node.ExprId n)) c.clock ps) (step e is k) h.ahead
+      subst (λ ps. LieAhead g.body s (inner (node.ExprId n)) c.clock ps) (step e is k) h.ahead
       ) (closed_element x i w.expected)
 
   pub tuple_next : (x : Option Ty) (start : InferenceContext) → Within g s n x start → (e : ExprId) (t : Ty) (next : InferenceContext) → e ≡ get_or es i e → i < length es → CoerceDone g s e (element_type x i) t c next → TupleLoop g s n es (i + 1) (ts ++ t ∷ []) mid next
   tuple_next x start w e t next is k d =
       let a = ahead_rest g.body s (inner (node.ExprId n)) c.clock (expr_part (element i) e) (element_parts (i + 1) (drop (i + 1) es)) (
-            subst (λ ps. LieAhead g.body s (inner (node.ExprId n)) c.clock ps) (step e is k) h.ahead
-          ) in
+      subst (λ ps. LieAhead g.body s (inner (node.ExprId n)) c.clock ps) (step e is k) h.ahead
+      ) in
       let f : after g.body s (expr_end g.body s e) (element_parts (i + 1) (drop (i + 1) es)) ≡ expr_end g.body s n =
-            subst (λ ps. after g.body s c.clock ps ≡ expr_end g.body s n) (step e is k) h.ends in
+      subst (λ ps. after g.body s c.clock ps ≡ expr_end g.body s n) (step e is k) h.ends in
       let Q : Debt = OwedAmong es (ts ++ t ∷ []) in
       let here : slice_get es i ≡ Some e = slice_get_read es _ i e refl k is in
       let type_here : slice_get (ts ++ t ∷ []) i ≡ Some t = subst (λ j. slice_get (ts ++ t ∷ []) j ≡ Some t) h.count (slice_get-push ts t) in
       record {
         walks = walks_trans g s Q mid c next (
-          walks_paid g s (OwedAmong es ts) Q mid c (λ a m o. inr (o.0, o.1, slice_get-append_left ts (t ∷ []) o.0 m.expected o.2)) h.walks
-        ) (
-          walks_paid g s (Owed e (element_type x i)) Q c next (
+            walks_paid g s (OwedAmong es ts) Q mid c (λ a m o. inr (o.0, o.1, slice_get-append_left ts (t ∷ []) o.0 m.expected o.2)) h.walks
+            ) (
+            walks_paid g s (Owed e (element_type x i)) Q c next (
             λ a m o.
             (let q = placed_owed next.result e (element_type x i) t d.placed a m o in
-             inr (i, here ∙ ap (λ y. Some y) (sym q.0), type_here ∙ ap (λ y. Some y) (sym q.1)))
-          ) d.walks
-        );
+            inr (i, here ∙ ap (λ y. Some y) (sym q.0), type_here ∙ ap (λ y. Some y) (sym q.1)))
+            ) d.walks
+            );
         ahead = subst (λ j. LieAhead g.body s (inner (node.ExprId n)) j (element_parts (i + 1) (drop (i + 1) es))) (sym d.clock) a;
         ends = subst (λ j. after g.body s j (element_parts (i + 1) (drop (i + 1) es)) ≡ expr_end g.body s n) (sym d.clock) f;
         made = rw (take_more es i e k) (
-          subst (λ y. AllAt (IsAtOrMismatch next.result) (take i es ++ y ∷ []) (ts ++ t ∷ [])) is (
+            subst (λ y. AllAt (IsAtOrMismatch next.result) (take i es ++ y ∷ []) (ts ++ t ∷ [])) is (
             all_push next.result (take i es) ts e t (all_kept g c.result next.result d.walks.extends (take i es) ts h.made) (placed_at next.result e (element_type x i) t d.placed)
-          )
-        );
+            )
+            );
         closed = closed_push ts t h.closed (placed_closed next.result e (element_type x i) t d.walks.state.closed (closed_element x i w.expected) d.placed);
-        count = simp length-append (omega (arith, h.count))
+        count = simp length-append (omega (arith, h.count));
       }
 
   pub tuple_done : (x : Option Ty) → Within g s n x mid → IsTupleOf g.body n es → length es ≤ i → KindDone g s n x (ty.Tuple ts) mid c
@@ -136,5 +135,5 @@ module _ (g : Given) (s : Schedule) (n : ExprId) (es : List ExprId) (i : ℕ) (t
         clock = subst (λ l. after g.body s c.clock (element_parts i l) ≡ expr_end g.body s n) none h.ends;
         closed = closed_tuple ts h.closed;
         misfit = λ m k. absurd (cc);
-        rule = λ r k has own. rule_of g r n (expr.Tuple es) is (ts, has, all_kept g c.result r k es ts made)
+        rule = λ r k has own. rule_of g r n (expr.Tuple es) is (ts, has, all_kept g c.result r k es ts made);
       }

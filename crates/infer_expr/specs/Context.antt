@@ -1,12 +1,11 @@
 -- What the walk reads, what it expects, and what a write does.
-use Rattle.std.specs.Prelude.{◌≡◌, ◌+◌, ℕ, List, slice_get, slice_set, Option, Some, None}
+use Rattle.std.specs.Prelude.{◌+◌, ℕ, slice_get, slice_set, Option, Some, None}
 use Rattle.hir_facts.specs.declared.ids.ExprId.{ExprId}
 use Rattle.hir_facts.specs.declared.ids.PatId.{PatId}
 use Rattle.hir_facts.specs.declared.ids.BindingId.{BindingId}
 use Rattle.hir_facts.specs.declared.ty.Ty.{Ty, Ty-F, out-Ty}
 use Rattle.hir_facts.specs.declared.schedule.Schedule.{Schedule}
 use Rattle.hir_facts.specs.Erasure.{IsClosed}
-use Rattle.infer_result.specs.declared.result.InferenceResult.{InferenceResult}
 use Rattle.infer_result.specs.declared.result.TypeMismatch.{TypeMismatch}
 use Rattle.infer_result.specs.declared.modes.BindingMode.{BindingMode}
 use Rattle.infer_result.specs.declared.modes.BindingMode.TheVariants as mode

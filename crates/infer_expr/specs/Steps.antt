@@ -1,34 +1,31 @@
 -- What each function of the walk is given, and what it does.
-use Rattle.std.specs.Prelude.{ℕ, ◌+◌, ◌<◌, ◌≤◌, ◌≡◌, ◌⊎◌, ◌^◌, List, length, slice_get, Option, Some, None, option_map, IsTrue}
+use Rattle.std.specs.Prelude.{ℕ, ◌+◌, ◌<◌, ◌≡◌, ◌⊎◌, ◌^◌, List, length, slice_get, Option, Some, None, option_map, IsTrue}
 use Rattle.hir_facts.specs.declared.ids.ExprId.{ExprId}
 use Rattle.hir_facts.specs.declared.ids.PatId.{PatId}
-use Rattle.hir_facts.specs.declared.ids.BindingId.{BindingId}
 use Rattle.hir_facts.specs.declared.ids.TypeRefId.{TypeRefId}
 use Rattle.hir_facts.specs.declared.ids.LabelId.{LabelId}
 use Rattle.hir_facts.specs.declared.ids.ExprOrPatId.TheVariants as node
 use Rattle.hir_facts.specs.declared.ty.Ty.{Ty}
-use Rattle.hir_facts.specs.declared.ty.Ty.TheVariants as ty
 use Rattle.hir_facts.specs.declared.raw.RawBody.{RawBody}
-use Rattle.hir_facts.specs.declared.raw.RawExpr.{RawExpr}
 use Rattle.hir_facts.specs.declared.raw.RawExpr.TheVariants as expr
+use Rattle.hir_facts.specs.declared.raw.RawPath.{RawPath}
 use Rattle.hir_facts.specs.declared.raw.RawPath.TheVariants as path
 use Rattle.hir_facts.specs.declared.raw.RawStmt.{RawStmt}
-use Rattle.hir_facts.specs.declared.raw.RawStmt.TheVariants as stmt
 use Rattle.hir_facts.specs.declared.schedule.Schedule.{Schedule}
 use Rattle.hir_facts.specs.Types.{written_type, unit}
 use Rattle.hir_facts.specs.Erasure.{IsClosed}
 use Rattle.hir_facts.specs.Bodies.{IsWalkable}
 use Rattle.hir_facts.specs.Laws.Carried.{is_carried_stmt}
-use Rattle.hir_facts.specs.Order.{start, end, inner, the_body, Node, Part, IsNode, part_at, parts, Fits, after, stmt_parts, maybe_part, tail}
+use Rattle.hir_facts.specs.Order.{end, inner, the_body, Node, Part, IsNode, part_at, Fits, after, stmt_parts, maybe_part, tail}
 use Rattle.infer_result.specs.declared.result.InferenceResult.{InferenceResult}
 use Rattle.infer_result.specs.declared.result.TypeMismatch.{TypeMismatch}
-use Rattle.infer_result.specs.Table.{At, HasTy, PatTy, MismatchAt, mismatch}
+use Rattle.infer_result.specs.Table.{At, HasTy, PatTy, BindingTy, mismatch}
 use Rattle.infer_result.specs.Places.{Given, IsAtOrMismatch}
 use Rattle.infer_result.specs.Rules.Expressions.{ObeysOrMismatch}
 use Rattle.infer_result.specs.Rules.Blocks.{StmtRule}
 use Rattle.infer_result.specs.Truth.Mismatch.{IsBlockWithoutTail}
 use Rattle.infer_expr.specs.declared.context.InferenceContext.{InferenceContext}
-use Rattle.infer_expr.specs.Context.{IsClosedExpectation, entered, with_expr_ty, with_mismatch}
+use Rattle.infer_expr.specs.Context.{IsClosedExpectation, with_mismatch}
 use Rattle.infer_expr.specs.Walks.{Walks, IsWalked, IsFree, Extends, Nothing, Owed, PaidBy, expr_start, expr_end, pat_start}
 
 -- the laws of the body, and room for the clock
@@ -109,8 +106,10 @@ IsTupleOf b e es = slice_get b.exprs e.0 ≡ Some (expr.Tuple es)
 abbrev pub IsBlockOf : RawBody → ExprId → List RawStmt → Option ExprId → Type 0
 IsBlockOf b e stmts last = (label : Option LabelId) × (slice_get b.exprs e.0 ≡ Some (expr.Block label stmts last))
 
-abbrev pub IsPathTo : RawBody → ExprId → BindingId → Type 0
-IsPathTo b e v = slice_get b.exprs e.0 ≡ Some (expr.Path (path.Local v))
+-- the path names a local of this type
+abbrev pub IsPathType : InferenceResult → RawPath → Ty → Type 0
+IsPathType r (path.Local v) t = BindingTy r v t
+IsPathType r path.Other t = ⊥
 
 -- ---- patterns
 

@@ -36,7 +36,9 @@ impl InferenceContext {
         requires { expr.0 < length self.old.result.expr_mismatches }
         ensures { self.new ≡ with_mismatch self.old expr mismatch }
     {
-        self.result.expr_mismatches.set(expr.0 as usize, Some(mismatch));
+        self.result
+            .expr_mismatches
+            .set(expr.0 as usize, Some(mismatch));
     }
 
     /// Records the type of a pattern: `infer.rs`, `write_pat_ty`.
@@ -60,6 +62,8 @@ impl InferenceContext {
         requires { binding.0 < length self.old.result.type_of_binding }
         ensures { self.new ≡ with_binding_ty self.old binding ty }
     {
-        self.result.type_of_binding.set(binding.0 as usize, Some(ty));
+        self.result
+            .type_of_binding
+            .set(binding.0 as usize, Some(ty));
     }
 }

@@ -7,7 +7,7 @@ use crate::context::InferenceContext;
 use crate::expectation::Expectation;
 use crate::given::GivenBody;
 use crate::literal::infer_literal;
-use hir_facts::{ExprId, RawExpr, RawPath, Ty};
+use hir_facts::{ExprId, RawExpr, Ty};
 use std::alloc::{AllocError, Global};
 
 impl InferenceContext {
@@ -66,17 +66,21 @@ impl InferenceContext {
     {
         match &given.body.exprs.as_slice()[tgt_expr.0 as usize] {
             RawExpr::Lit(literal) => Ok(infer_literal(literal)),
-            RawExpr::Path(RawPath::Local(binding)) => self.infer_local(alloc, *binding),
+            RawExpr::Path(path) => {
+                let ty = self.infer_expr_path(alloc, *path)?;
+                Ok(ty)
+            }
             RawExpr::Tuple(exprs) => {
                 self.infer_tuple(alloc, given, tgt_expr, exprs.as_slice(), expected)
             }
             RawExpr::Block {
-                statements, tail, ..
+                statements,
+                tail,
+                ..
             } => {
                 let statements = statements.as_slice();
                 self.infer_block(alloc, given, tgt_expr, statements, *tail, expected)
             }
-            RawExpr::Path(RawPath::Other) => unreachable!(),
             RawExpr::Other => unreachable!(),
         }
     }

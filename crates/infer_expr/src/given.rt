@@ -17,7 +17,11 @@ pub struct GivenBody<'a> {
 }
 
 /// The type that a written type stands for: `infer.rs`, `make_body_ty`.
-pub fn make_body_ty(_alloc: Global, _facts: &RawFacts, _type_ref: TypeRefId) -> Result<Ty, AllocError>
+pub fn make_body_ty(
+    _alloc: Global,
+    _facts: &RawFacts,
+    _type_ref: TypeRefId,
+) -> Result<Ty, AllocError>
     ensures { IfOk result (λ ty. ty ≡ written_type _facts.now.types _type_ref) }
 {
     Err(AllocError)
