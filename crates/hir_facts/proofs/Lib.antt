@@ -1,2 +1,10 @@
 pub mod Tells
 pub mod Equal
+pub mod Walking
+pub mod Advances
+pub mod Departs
+pub mod Numbers
+pub mod Steps
+pub mod NodeLists
+pub mod Bodies
+pub mod Schedules

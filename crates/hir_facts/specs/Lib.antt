@@ -4,3 +4,7 @@ pub mod Erasure
 pub mod Order
 pub mod Laws
 pub mod Bodies
+pub mod Ways
+pub mod Graph
+pub mod Visits
+pub mod Nodes

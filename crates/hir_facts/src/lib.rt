@@ -1,9 +1,11 @@
 //! Types, and the facts of a resolved crate: what inference reads.
 #![tactic(auto)]
 
+mod graph;
 mod ids;
 mod laws;
 mod list;
+mod parts;
 mod raw;
 mod schedule;
 mod text;
