@@ -11,3 +11,4 @@ pub mod Leaves
 pub mod Stmts
 pub mod Tuples
 pub mod Blocks
+pub mod Whole

@@ -1,9 +1,10 @@
 -- What the walk reads, what it expects, and what a write does.
-use Rattle.std.specs.Prelude.{◌+◌, ℕ, slice_get, slice_set, Option, Some, None}
+use Rattle.std.specs.Prelude.{◌+◌, ℕ, length, replicate, slice_get, slice_set, Option, Some, None}
 use Rattle.hir_facts.specs.declared.ids.ExprId.{ExprId}
 use Rattle.hir_facts.specs.declared.ids.PatId.{PatId}
 use Rattle.hir_facts.specs.declared.ids.BindingId.{BindingId}
 use Rattle.hir_facts.specs.declared.ty.Ty.{Ty, Ty-F, out-Ty}
+use Rattle.hir_facts.specs.declared.raw.RawBody.{RawBody}
 use Rattle.hir_facts.specs.declared.schedule.Schedule.{Schedule}
 use Rattle.hir_facts.specs.Erasure.{IsClosed}
 use Rattle.infer_result.specs.declared.result.TypeMismatch.{TypeMismatch}
@@ -46,6 +47,21 @@ element_type (Some t) i = component (out-Ty t) i
 abbrev pub IsClosedExpectation : Option Ty → Type 0
 IsClosedExpectation None = Unit {0}
 IsClosedExpectation (Some t) = IsClosed t
+
+-- ---- what is found out
+
+-- nothing yet: the walk has come to the body alone
+abbrev pub empty_context : RawBody → InferenceContext
+empty_context b = record {
+  result = record {
+    type_of_expr = replicate (length b.exprs) None;
+    type_of_pat = replicate (length b.pats) None;
+    type_of_binding = replicate (length b.bindings) None;
+    binding_modes = replicate (length b.pats) None;
+    expr_mismatches = replicate (length b.exprs) None;
+  };
+  clock = 1;
+}
 
 -- ---- what a write does
 

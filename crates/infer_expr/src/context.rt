@@ -1,9 +1,10 @@
 //! What inference of a body has found out so far.
-ghost use Rattle.std.specs.Prelude.{◌≡◌, ◌<◌, ◌+◌, ◌^◌, length};
-ghost use Rattle.infer_expr.specs.Context.{entered, with_expr_ty, with_mismatch, with_pat_ty, with_mode, with_binding_ty};
+ghost use Rattle.std.specs.Prelude.{◌≡◌, ◌<◌, ◌+◌, ◌^◌, IfOk, None, length, replicate};
+ghost use Rattle.infer_expr.specs.Context.{empty_context, entered, with_expr_ty, with_mismatch, with_pat_ty, with_mode, with_binding_ty};
 
-use hir_facts::{BindingId, ExprId, PatId, Ty};
+use hir_facts::{BindingId, ExprId, List, PatId, RawBody, Ty};
 use infer_result::{BindingMode, InferenceResult, TypeMismatch};
+use std::alloc::{AllocError, Global};
 
 /// What inference of a body has found out so far: `infer.rs`, `InferenceContext`.
 #[derive(Drop)]
@@ -14,7 +15,32 @@ pub struct InferenceContext {
     pub clock: usize,
 }
 
+/// As many empty entries.
+fn no_entries<T: Drop>(alloc: Global, count: usize) -> Result<List<Option<T>>, AllocError>
+    ensures { IfOk result (λ entries. entries ≡ replicate count None) }
+{
+    let mut entries = List::new(alloc);
+    for _ in 0..count {
+        entries.push(None)?;
+    }
+    Ok(entries)
+}
+
 impl InferenceContext {
+    /// Nothing is found out yet: `infer.rs`, `InferenceContext::new`.
+    pub fn new(alloc: Global, body: &RawBody) -> Result<InferenceContext, AllocError>
+        ensures { IfOk result (λ context. context ≡ empty_context body.now) }
+    {
+        let result = InferenceResult {
+            type_of_expr: no_entries(alloc, body.exprs.len())?,
+            type_of_pat: no_entries(alloc, body.pats.len())?,
+            type_of_binding: no_entries(alloc, body.bindings.len())?,
+            binding_modes: no_entries(alloc, body.pats.len())?,
+            expr_mismatches: no_entries(alloc, body.exprs.len())?,
+        };
+        Ok(InferenceContext { result, clock: 1 })
+    }
+
     /// Comes to one node more.
     pub fn enter(&mut self)
         requires { self.old.clock + 1 < 2 ^ 64 }

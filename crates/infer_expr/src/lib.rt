@@ -2,6 +2,7 @@
 #![tactic(auto)]
 
 mod block;
+mod body;
 mod coerce;
 mod context;
 mod expectation;
