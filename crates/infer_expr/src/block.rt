@@ -23,9 +23,11 @@ impl InferenceContext {
         tail: Option<ExprId>,
         expected: Expectation,
     ) -> Result<Ty, AllocError>
-        requires before { Within (given_of given.now) (schedule_of given.now) tgt_expr (expected_type expected) self.old }
+        requires before { Within (given_of given.now) (schedule_of given.now)
+            tgt_expr (expected_type expected) self.old }
         requires is { IsBlockOf given.now.body.now tgt_expr statements.now tail }
-        ensures { IfOk result (λ ty. KindDone (given_of given.now) (schedule_of given.now) tgt_expr (expected_type expected.entry) ty self.old self.new) }
+        ensures { IfOk result (λ ty. KindDone (given_of given.now) (schedule_of given.now)
+            tgt_expr (expected_type expected.entry) ty self.old self.new) }
     {
         for i in 0..statements.len() {
             self.infer_stmt(alloc, given, tgt_expr, &statements[i])?;
@@ -44,8 +46,10 @@ impl InferenceContext {
         tail: Option<ExprId>,
         expected: Expectation,
     ) -> Result<Ty, AllocError>
-        requires { BeforeTail (given_of given.now) (schedule_of given.now) block tail (expected_type expected) self.old }
-        ensures { IfOk result (λ ty. TailDone (given_of given.now) (schedule_of given.now) block tail (expected_type expected.entry) ty self.old self.new) }
+        requires { BeforeTail (given_of given.now) (schedule_of given.now)
+            block tail (expected_type expected) self.old }
+        ensures { IfOk result (λ ty. TailDone (given_of given.now) (schedule_of given.now)
+            block tail (expected_type expected.entry) ty self.old self.new) }
     {
         match tail {
             Some(expr) => self.infer_expr_coerce(alloc, given, expr, expected),

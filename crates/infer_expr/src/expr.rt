@@ -20,8 +20,10 @@ impl InferenceContext {
         expr: ExprId,
         expected: Expectation,
     ) -> Result<Ty, AllocError>
-        requires { Before (given_of given.now) (schedule_of given.now) expr (expected_type expected) self.old }
-        ensures { IfOk result (λ ty. CoerceDone (given_of given.now) (schedule_of given.now) expr (expected_type expected.entry) ty self.old self.new) }
+        requires { Before (given_of given.now) (schedule_of given.now)
+            expr (expected_type expected) self.old }
+        ensures { IfOk result (λ ty. CoerceDone (given_of given.now) (schedule_of given.now)
+            expr (expected_type expected.entry) ty self.old self.new) }
     {
         let ty = self.infer_expr_inner(alloc, given, expr, expected)?;
         match expected.only_has_type() {
@@ -42,8 +44,10 @@ impl InferenceContext {
         tgt_expr: ExprId,
         expected: Expectation,
     ) -> Result<Ty, AllocError>
-        requires { Before (given_of given.now) (schedule_of given.now) tgt_expr (expected_type expected) self.old }
-        ensures { IfOk result (λ ty. OwnDone (given_of given.now) (schedule_of given.now) tgt_expr (expected_type expected.entry) ty self.old self.new) }
+        requires { Before (given_of given.now) (schedule_of given.now)
+            tgt_expr (expected_type expected) self.old }
+        ensures { IfOk result (λ ty. OwnDone (given_of given.now) (schedule_of given.now)
+            tgt_expr (expected_type expected.entry) ty self.old self.new) }
     {
         self.enter();
         let ty = self.infer_expr_of_kind(alloc, given, tgt_expr, expected)?;
@@ -61,8 +65,10 @@ impl InferenceContext {
         tgt_expr: ExprId,
         expected: Expectation,
     ) -> Result<Ty, AllocError>
-        requires { Within (given_of given.now) (schedule_of given.now) tgt_expr (expected_type expected) self.old }
-        ensures { IfOk result (λ ty. KindDone (given_of given.now) (schedule_of given.now) tgt_expr (expected_type expected.entry) ty self.old self.new) }
+        requires { Within (given_of given.now) (schedule_of given.now)
+            tgt_expr (expected_type expected) self.old }
+        ensures { IfOk result (λ ty. KindDone (given_of given.now) (schedule_of given.now)
+            tgt_expr (expected_type expected.entry) ty self.old self.new) }
     {
         match &given.body.exprs.as_slice()[tgt_expr.0 as usize] {
             RawExpr::Lit(literal) => Ok(infer_literal(literal)),

@@ -20,7 +20,8 @@ impl InferenceContext {
         expected: Ty,
     ) -> Result<(), AllocError>
         requires { BeforePat (given_of given.now) (schedule_of given.now) pat expected self.old }
-        ensures { IfOk result (λ _. PatDone (given_of given.now) (schedule_of given.now) pat expected self.old self.new) }
+        ensures { IfOk result (λ _. PatDone (given_of given.now) (schedule_of given.now)
+            pat expected self.old self.new) }
     {
         self.infer_pat(alloc, given, pat, expected)?;
         Ok(())
@@ -35,7 +36,8 @@ impl InferenceContext {
         expected: Ty,
     ) -> Result<(), AllocError>
         requires { BeforePat (given_of given.now) (schedule_of given.now) pat expected self.old }
-        ensures { IfOk result (λ _. PatDone (given_of given.now) (schedule_of given.now) pat expected self.old self.new) }
+        ensures { IfOk result (λ _. PatDone (given_of given.now) (schedule_of given.now)
+            pat expected self.old self.new) }
     {
         match &given.body.pats.as_slice()[pat.0 as usize] {
             RawPat::Wild => {

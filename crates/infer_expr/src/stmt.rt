@@ -21,7 +21,8 @@ impl InferenceContext {
         statement: &RawStmt,
     ) -> Result<(), AllocError>
         requires { BeforeStmt (given_of given.now) (schedule_of given.now) block statement.now self.old }
-        ensures { IfOk result (λ _. StmtDone (given_of given.now) (schedule_of given.now) statement.now self.old self.new) }
+        ensures { IfOk result (λ _. StmtDone (given_of given.now) (schedule_of given.now)
+            statement.now self.old self.new) }
     {
         match statement {
             RawStmt::Let {
@@ -48,8 +49,10 @@ impl InferenceContext {
         type_ref: Option<TypeRefId>,
         initializer: ExprId,
     ) -> Result<(), AllocError>
-        requires { BeforeStmt (given_of given.now) (schedule_of given.now) block (stmt.Let pat type_ref (Some initializer) None) self.old }
-        ensures { IfOk result (λ _. StmtDone (given_of given.now) (schedule_of given.now) (stmt.Let pat type_ref (Some initializer) None) self.old self.new) }
+        requires { BeforeStmt (given_of given.now) (schedule_of given.now)
+            block (stmt.Let pat type_ref (Some initializer) None) self.old }
+        ensures { IfOk result (λ _. StmtDone (given_of given.now) (schedule_of given.now)
+            (stmt.Let pat type_ref (Some initializer) None) self.old self.new) }
     {
         let ty = self.infer_initializer(alloc, given, block, pat, type_ref, initializer)?;
         self.infer_top_pat(alloc, given, pat, ty)?;
@@ -68,8 +71,10 @@ impl InferenceContext {
         type_ref: Option<TypeRefId>,
         initializer: ExprId,
     ) -> Result<Ty, AllocError>
-        requires { BeforeStmt (given_of given.now) (schedule_of given.now) block (stmt.Let pat type_ref (Some initializer) None) self.old }
-        ensures { IfOk result (λ ty. InitDone (given_of given.now) (schedule_of given.now) type_ref initializer ty self.old self.new) }
+        requires { BeforeStmt (given_of given.now) (schedule_of given.now)
+            block (stmt.Let pat type_ref (Some initializer) None) self.old }
+        ensures { IfOk result (λ ty. InitDone (given_of given.now) (schedule_of given.now)
+            type_ref initializer ty self.old self.new) }
     {
         match type_ref {
             Some(type_ref) => {
@@ -96,8 +101,10 @@ impl InferenceContext {
         expr: ExprId,
         has_semi: bool,
     ) -> Result<(), AllocError>
-        requires { BeforeStmt (given_of given.now) (schedule_of given.now) block (stmt.Expr expr has_semi) self.old }
-        ensures { IfOk result (λ _. StmtDone (given_of given.now) (schedule_of given.now) (stmt.Expr expr has_semi) self.old self.new) }
+        requires { BeforeStmt (given_of given.now) (schedule_of given.now)
+            block (stmt.Expr expr has_semi) self.old }
+        ensures { IfOk result (λ _. StmtDone (given_of given.now) (schedule_of given.now)
+            (stmt.Expr expr has_semi) self.old self.new) }
     {
         if has_semi {
             self.infer_expr_coerce(alloc, given, expr, Expectation::None)?;

@@ -21,9 +21,11 @@ impl InferenceContext {
         exprs: &[ExprId],
         expected: Expectation,
     ) -> Result<Ty, AllocError>
-        requires before { Within (given_of given.now) (schedule_of given.now) tgt_expr (expected_type expected) self.old }
+        requires before { Within (given_of given.now) (schedule_of given.now)
+            tgt_expr (expected_type expected) self.old }
         requires is { IsTupleOf given.now.body.now tgt_expr exprs.now }
-        ensures { IfOk result (λ ty. KindDone (given_of given.now) (schedule_of given.now) tgt_expr (expected_type expected.entry) ty self.old self.new) }
+        ensures { IfOk result (λ ty. KindDone (given_of given.now) (schedule_of given.now)
+            tgt_expr (expected_type expected.entry) ty self.old self.new) }
     {
         let mut tys = List::new(alloc);
         for i in 0..exprs.len() {
