@@ -41,6 +41,14 @@ impl InferenceContext {
         Ok(InferenceContext { result, clock: 1 })
     }
 
+    /// The table, once the body is typed: `infer.rs`, `resolve_all`. No type has a hole to be
+    /// resolved.
+    pub fn resolve_all(self) -> InferenceResult
+        ensures { result ≡ self.result }
+    {
+        self.result
+    }
+
     /// Comes to one node more.
     pub fn enter(&mut self)
         requires { self.old.clock + 1 < 2 ^ 64 }

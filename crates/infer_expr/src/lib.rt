@@ -12,6 +12,7 @@ mod inspect;
 mod literal;
 mod pat;
 mod path;
+mod query;
 mod stmt;
 mod tuple;
 

@@ -39,4 +39,4 @@ abbrev pub invariant-infer_tuple-loop-i : goal.invariant-infer_tuple-loop-i
 invariant-infer_tuple-loop-i l = TupleLoop (given_of l.given) (schedule_of l.given) l.fn.tgt_expr l.exprs l.i l.tys l.initial.self l.self
 
 abbrev pub invariant-infer_block-loop-i : goal.invariant-infer_block-loop-i
-invariant-infer_block-loop-i l = BlockLoop (given_of l.given) (schedule_of l.given) l.tgt_expr l.statements l.tail l.i l.initial.self l.self
+invariant-infer_block-loop-i l = BlockLoop (given_of l.given) (schedule_of l.given) l.fn.tgt_expr l.statements l.fn.tail l.i l.initial.self l.self
