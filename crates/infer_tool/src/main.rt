@@ -1,0 +1,6 @@
+//! Infers the types of a body: facts on standard input, a report on standard output.
+#![tactic(auto)]
+
+mod text;
+
+fn main() {}

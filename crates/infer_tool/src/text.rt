@@ -1,0 +1,8 @@
+//! Facts as JSON text.
+
+mod fault;
+mod leaves;
+mod reader;
+
+pub use fault::Misread;
+pub use reader::FromData;
