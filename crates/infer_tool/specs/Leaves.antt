@@ -3,7 +3,7 @@ use Rattle.std.specs.Prelude.{ℕ, ◌==◌, List, [], Option, Some, None, optio
 use Rattle.std.specs.Str.{bytes_eq}
 use Rattle.serde_json.specs.Data.{Data}
 use Rattle.serde_json.specs.Find.{as_str}
-use Rattle.infer_tool.specs.Reading.{◌>>=◌, ◌>>◌, there, u32_in}
+use Rattle.infer_tool.specs.Reading.{◌>>=◌, there, u32_in}
 use Rattle.hir_facts.specs.declared.ids.ModuleId.{ModuleId}
 use Rattle.hir_facts.specs.declared.ids.TraitId.{TraitId}
 use Rattle.hir_facts.specs.declared.ids.TypeRefId.{TypeRefId}

@@ -1,8 +1,10 @@
 //! Facts as JSON text.
 
+mod bodies;
+mod entries;
 mod fault;
 mod leaves;
 mod reader;
+mod reading;
 
-pub use fault::Misread;
-pub use reader::FromData;
+pub use reading::{Unread, read_raw};
