@@ -7,3 +7,4 @@ pub mod Upward
 pub mod Truth
 pub mod Made
 pub mod Typed
+pub mod Report
