@@ -2,3 +2,5 @@ pub mod Counts
 pub mod Items
 pub mod Whole
 pub mod Lines
+pub mod Pieces
+pub mod Three

@@ -4,3 +4,5 @@ pub mod Kinds
 pub mod Entries
 pub mod Bodies
 pub mod Facts
+pub mod Causes
+pub mod Command

@@ -1,6 +1,8 @@
 //! Infers the types of a body: facts on standard input, a report on standard output.
 #![tactic(auto)]
 
+mod ends;
 mod text;
+mod words;
 
 fn main() {}
