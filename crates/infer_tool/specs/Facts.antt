@@ -8,8 +8,11 @@ use Rattle.hir_facts.specs.declared.raw.RawFacts.{RawFacts}
 use Rattle.infer_tool.specs.declared.text.reading.Settings.{Settings}
 use Rattle.infer_tool.specs.declared.text.reading.Items.{Items}
 use Rattle.infer_tool.specs.declared.text.reading.Abstractions.{Abstractions}
-use Rattle.infer_tool.specs.declared.text.reading.Unread.{Unread}
-use Rattle.infer_tool.specs.declared.text.reading.Unread.TheVariants as unread
+use Rattle.hir_facts.specs.declared.laws.Law.{Law}
+use Rattle.hir_facts.specs.declared.laws.FactsList.{FactsList}
+use Rattle.hir_facts.specs.Laws.Lawful.{IsLawful, FirstBroken, tests}
+use Rattle.infer_tool.specs.declared.text.fault.ReadError.{ReadError}
+use Rattle.infer_tool.specs.declared.text.fault.ReadError.TheVariants as error
 use Rattle.infer_tool.specs.Reading.{◌>>=◌, ◌>>◌, field, keys_in, bool_in, option_in, list_in}
 use Rattle.infer_tool.specs.Leaves.{module_in, other_in, profile_in, edition_in}
 use Rattle.infer_tool.specs.Entries.{type_in, fn_in, limits_in, lang_in}
@@ -97,8 +100,30 @@ abbrev pub raw_facts : List ℕ → Result RawFacts Fault
 raw_facts text = if is_utf8 text then facts_of (read text) else Err no_json
 
 -- What was answered is what the text stands for, unless memory ran out.
-abbrev pub Answers : Result RawFacts Unread → Result RawFacts Fault → Type 0
+abbrev pub Answers : Result RawFacts ReadError → Result RawFacts Fault → Type 0
 Answers (Ok f) meaning = meaning ≡ Ok f
-Answers (Err unread.OutOfMemory) meaning = Unit {0}
-Answers (Err unread.Json) meaning = meaning ≡ Err no_json
-Answers (Err (unread.Shape path)) meaning = meaning ≡ Err (shape path)
+Answers (Err error.OutOfMemory) meaning = Unit {0}
+Answers (Err error.Json) meaning = meaning ≡ Err no_json
+Answers (Err (error.Shape path)) meaning = meaning ≡ Err (shape path)
+Answers (Err (error.Unlawful law list index)) meaning = ⊥
+
+-- ---- the laws
+
+-- the text stands for these facts, and they are lawful
+pub record IsRead (text : List ℕ) (f : RawFacts) : Type 0 where
+  pub stands : raw_facts text ≡ Ok f
+  pub lawful : IsLawful f
+
+-- the text stands for facts of which this law is the first broken one
+pub record IsUnlawful (text : List ℕ) (law : Law) (list : FactsList) (index : ℕ) : Type 0 where
+  pub raw : RawFacts
+  pub stands : raw_facts text ≡ Ok raw
+  pub first : FirstBroken raw tests law list index
+
+-- What was answered is what the text stands for where that is lawful, unless memory ran out.
+abbrev pub Reads : Result RawFacts ReadError → List ℕ → Type 0
+Reads (Ok f) text = IsRead text f
+Reads (Err error.OutOfMemory) text = Unit {0}
+Reads (Err error.Json) text = raw_facts text ≡ Err no_json
+Reads (Err (error.Shape path)) text = raw_facts text ≡ Err (shape path)
+Reads (Err (error.Unlawful law list index)) text = IsUnlawful text law list index

@@ -6,3 +6,4 @@ pub mod Bodies
 pub mod Facts
 pub mod Causes
 pub mod Command
+pub mod Outcome

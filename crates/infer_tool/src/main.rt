@@ -2,6 +2,8 @@
 #![tactic(auto)]
 
 mod ends;
+mod run;
+mod stand;
 mod text;
 mod words;
 

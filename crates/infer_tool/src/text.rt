@@ -9,5 +9,6 @@ mod reading;
 mod report;
 mod types;
 
-pub use reading::{Unread, read_raw};
+pub use fault::ReadError;
+pub use reading::read_facts;
 pub use report::{count_complaints, write_report};

@@ -2,23 +2,16 @@
 ghost use Rattle.std.specs.Prelude.{◌≡◌, ℕ, List, Result, Some};
 ghost use Rattle.serde_json.specs.Data.{Data};
 ghost use Rattle.serde_json.specs.View.{view};
-ghost use Rattle.infer_tool.specs.Facts.{settings_in, items_in, abstractions_in, facts_in, facts_of, raw_facts, Answers};
+ghost use Rattle.infer_tool.specs.Facts.{settings_in, items_in, abstractions_in, facts_in, facts_of, raw_facts, Answers, Reads};
 
 use super::entries::Lang;
-use super::fault::Misread;
+use super::fault::{Misread, ReadError};
 use super::leaves::Profile;
 use super::reader::{FromData, expect_keys, field_of};
+use crate::stand::{Facts, FactsError};
 use hir_facts::{Edition, List, ModuleId, Other, RawFacts, RawFn, RawLimits, RawType, Text};
 use serde_json::{Category, Value};
 use std::alloc::Global;
-
-/// Why a text stands for no facts.
-#[derive(Debug, Drop)]
-pub enum Unread {
-    Json,
-    Shape { path: Text },
-    OutOfMemory,
-}
 
 /// The facts' settings.
 #[derive(Drop)]
@@ -146,25 +139,37 @@ impl FromData for RawFacts {
     }
 }
 
-fn facts_from(alloc: Global, value: &Value) -> Result<RawFacts, Unread>
+fn facts_from(alloc: Global, value: &Value) -> Result<RawFacts, ReadError>
     ensures { Answers result (facts_of (Some (view value.now))) }
 {
     match RawFacts::from_data(alloc, value) {
         Ok(facts) => Ok(facts),
-        Err(Misread::OutOfMemory) => Err(Unread::OutOfMemory),
-        Err(Misread::Shape { path }) => Err(Unread::Shape { path }),
+        Err(Misread::OutOfMemory) => Err(ReadError::OutOfMemory),
+        Err(Misread::Shape { path }) => Err(ReadError::Shape { path }),
     }
 }
 
 /// The facts that a text stands for, whether or not they keep the laws.
-pub fn read_raw(alloc: Global, text: &[u8]) -> Result<RawFacts, Unread>
+fn read_raw(alloc: Global, text: &[u8]) -> Result<RawFacts, ReadError>
     ensures { Answers result (raw_facts text.now) }
 {
     match Value::from_slice(alloc, text) {
         Ok(value) => facts_from(alloc, &value),
         Err(e) => match e.classify() {
-            Category::Memory => Err(Unread::OutOfMemory),
-            _ => Err(Unread::Json),
+            Category::Memory => Err(ReadError::OutOfMemory),
+            _ => Err(ReadError::Json),
         },
+    }
+}
+
+/// The lawful facts that a text stands for.
+pub fn read_facts(alloc: Global, text: &[u8]) -> Result<Facts, ReadError>
+    ensures { Reads result text.now }
+{
+    let raw = read_raw(alloc, text)?;
+    match Facts::new(alloc, raw) {
+        Ok(facts) => Ok(facts),
+        Err(FactsError::Law { law, list, index }) => Err(ReadError::Unlawful { law, list, index }),
+        Err(FactsError::OutOfMemory) => Err(ReadError::OutOfMemory),
     }
 }
