@@ -4,3 +4,4 @@ pub mod Whole
 pub mod Lines
 pub mod Pieces
 pub mod Three
+pub mod Endings

@@ -7,3 +7,4 @@ pub mod Facts
 pub mod Causes
 pub mod Command
 pub mod Outcome
+pub mod Answer

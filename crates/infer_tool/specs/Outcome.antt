@@ -58,18 +58,23 @@ pub record HasFacts (words : List (List ℕ)) (e : Ends) (ran : Ran) : Type 0 wh
   pub is_read : IsRead text raw
   pub facts_is : ran.facts ≡ Some raw
 
--- and the definition has a body, with its table
+-- the definition has a body, and this is its table
+pub record IsInferred (def : DefWithBodyId) (raw : RawFacts) (ran : Ran) : Type 0 where
+  pub has_body : HasBody raw def
+  pub table : InferenceResult
+  pub typed : IsTableOf raw def table
+  pub table_is : ran.table ≡ Some table
+
+-- the definition, its facts and its table
 pub record HasTable (words : List (List ℕ)) (e : Ends) (ran : Ran) : Type 0 where
   pub facts : HasFacts words e ran
-  pub has_body : HasBody facts.raw facts.def
-  pub table : InferenceResult
-  pub typed : IsTableOf facts.raw facts.def table
-  pub table_is : ran.table ≡ Some table
+  pub inferred : IsInferred facts.def facts.raw ran
 
 -- the report on it
 abbrev pub due : {words : List (List ℕ)} {e : Ends} {ran : Ran} → HasTable words e ran → List ℕ
-due x = report x.facts.def x.facts.raw x.table
+due x = report x.facts.def x.facts.raw x.inferred.table
 
+-- 1 exactly where there is a complaint
 abbrev pub status_of : InferenceResult → ℕ
 status_of t = if nat_lt 0 (complaint_count t) then 1 else 0
 
@@ -79,7 +84,7 @@ status_of t = if nat_lt 0 (complaint_count t) then 1 else 0
 pub record Reported (words : List (List ℕ)) (e : Ends) (ran : Ran) : Type 0 where
   pub found : HasTable words e ran
   pub wrote : Appends e.written e.written_new (due found)
-  pub status_is : ran.status ≡ status_of found.table
+  pub status_is : ran.status ≡ status_of found.inferred.table
 
 -- the source failed before too much was read
 pub record SourceFailed (e : Ends) : Type 0 where

@@ -6,7 +6,8 @@ ghost use Rattle.hir_facts.specs.Bodies.{HasBody};
 ghost use Rattle.infer_result.specs.Typed.{IsTableOf};
 ghost use Rattle.infer_result.specs.Report.{report, complaint_count};
 ghost use Rattle.infer_tool.specs.Causes.{Rose, HasCause};
-ghost use Rattle.infer_tool.specs.Outcome.{limit, AppendsFront, Outcome};
+ghost use Rattle.infer_tool.specs.Outcome.{AppendsFront, Outcome};
+ghost use Rattle.infer_tool.specs.Answer.{Answered, silence, refusal};
 
 use crate::ends::{Failed, Sink, Source};
 use crate::stand::{Facts, infer_query_with_inspect};
@@ -78,4 +79,109 @@ fn write_all<K: Sink>(sink: &mut K, text: &[u8]) -> Result<(), Failed>
         at += sink.write(&text[at..])?;
     }
     Ok(())
+}
+
+/// The run that ends with nothing but a status.
+fn ended(status: u8) -> Ran
+    ensures { result ≡ silence status }
+{
+    Ran {
+        status,
+        facts: None,
+        table: None,
+        fault: None,
+    }
+}
+
+/// The run that ends with a fault.
+fn refused(fault: ReadError) -> Ran
+    ensures { result ≡ refusal fault }
+{
+    let status = match &fault {
+        ReadError::OutOfMemory => 5,
+        ReadError::Json => 6,
+        ReadError::Shape { .. } => 7,
+        ReadError::Unlawful { .. } => 8,
+    };
+    Ran {
+        status,
+        facts: None,
+        table: None,
+        fault: Some(fault),
+    }
+}
+
+/// Writes the report on a table.
+fn report_on<K: Sink>(
+    alloc: Global,
+    def: DefWithBodyId,
+    facts: Facts,
+    table: InferenceResult,
+    sink: &mut K,
+) -> Ran
+    requires has_body { HasBody facts def }
+    requires typed { IsTableOf facts def table }
+    ensures { Answered def facts (K.written sink.old) (K.written sink.new) (K.faults sink.old) (K.faults sink.new) result }
+{
+    let text = match write_report(alloc, def, &table) {
+        Ok(text) => text,
+        Err(AllocError) => return refused(ReadError::OutOfMemory),
+    };
+    let status = match write_all(sink, text.as_bytes()) {
+        Err(Failed) => 4,
+        Ok(()) => { if count_complaints(&table) > 0 { 1 } else { 0 } }
+    };
+    Ran {
+        status,
+        facts: Some(facts),
+        table: Some(table),
+        fault: None,
+    }
+}
+
+/// Infers a definition's table, and writes the report on it.
+fn answer<K: Sink>(alloc: Global, def: DefWithBodyId, facts: Facts, sink: &mut K) -> Ran
+    ensures { Answered def facts (K.written sink.old) (K.written sink.new) (K.faults sink.old) (K.faults sink.new) result }
+{
+    if !facts.has_body(def) {
+        return Ran {
+            status: 9,
+            facts: Some(facts),
+            table: None,
+            fault: None,
+        };
+    }
+    match infer_query_with_inspect::<()>(alloc, &facts, def, None) {
+        Ok(table) => report_on(alloc, def, facts, table, sink),
+        Err(AllocError) => refused(ReadError::OutOfMemory),
+    }
+}
+
+/// Does what the words ask for: `table KIND N` reads facts, infers the table of a definition's
+/// body, and writes the report on it.
+pub fn run<S: Source, K: Sink>(alloc: Global, words: &[RcStr], source: &mut S, sink: &mut K) -> Ran
+    ensures { Outcome (map rc_str_bytes words.now) (record {
+      left = S.left source.old;
+      left_new = S.left source.new;
+      written = K.written sink.old;
+      written_new = K.written sink.new;
+      reads = S.faults source.old;
+      reads_new = S.faults source.new;
+      writes = K.faults sink.old;
+      writes_new = K.faults sink.new;
+    }) result }
+{
+    let Some(def) = command(words) else {
+        return ended(2);
+    };
+    let text = match read_all(alloc, source) {
+        Ok(text) => text,
+        Err(Stopped::Source) => return ended(3),
+        Err(Stopped::TooLong) => return ended(10),
+        Err(Stopped::OutOfMemory) => return refused(ReadError::OutOfMemory),
+    };
+    match read_facts(alloc, &text) {
+        Ok(facts) => answer(alloc, def, facts, sink),
+        Err(fault) => refused(fault),
+    }
 }
