@@ -1,0 +1,37 @@
+-- Tables with an entry for each node, and without holes.
+use Rattle.std.specs.Prelude.{ℕ, ◌<◌, ◌≡◌, length}
+use Rattle.hir_facts.specs.declared.ids.ExprId.{ExprId}
+use Rattle.hir_facts.specs.declared.ids.PatId.{PatId}
+use Rattle.hir_facts.specs.declared.ids.BindingId.{BindingId}
+use Rattle.hir_facts.specs.declared.ty.Ty.{Ty}
+use Rattle.hir_facts.specs.declared.raw.RawBody.{RawBody}
+use Rattle.hir_facts.specs.Erasure.{IsClosed}
+use Rattle.infer_result.specs.declared.result.InferenceResult.{InferenceResult}
+use Rattle.infer_result.specs.declared.result.TypeMismatch.{TypeMismatch}
+use Rattle.infer_result.specs.Table.{At, HasTy, PatTy, BindingTy}
+
+-- the lists have an entry for each node and binding, and no more
+pub record IsOfBody (b : RawBody) (t : InferenceResult) : Type 0 where
+  pub exprs : length t.type_of_expr ≡ length b.exprs
+  pub pats : length t.type_of_pat ≡ length b.pats
+  pub bindings : length t.type_of_binding ≡ length b.bindings
+  pub modes : length t.binding_modes ≡ length b.pats
+  pub mismatches : length t.expr_mismatches ≡ length b.exprs
+
+-- each expression, pattern and binding has a type
+pub record IsTotal (b : RawBody) (t : InferenceResult) : Type 0 where
+  pub exprs : (e : ExprId) → e.0 < length b.exprs → (s : Ty) × HasTy t e s
+  pub pats : (p : PatId) → p.0 < length b.pats → (s : Ty) × PatTy t p s
+  pub bindings : (v : BindingId) → v.0 < length b.bindings → (s : Ty) × BindingTy t v s
+
+-- each type of the table has a property
+pub record AllTypes (P : Ty → Type 0) (t : InferenceResult) : Type 0 where
+  pub exprs : (n : ℕ) (s : Ty) → At t.type_of_expr n s → P s
+  pub pats : (n : ℕ) (s : Ty) → At t.type_of_pat n s → P s
+  pub bindings : (n : ℕ) (s : Ty) → At t.type_of_binding n s → P s
+  pub expected : (n : ℕ) (x : TypeMismatch) → At t.expr_mismatches n x → P x.expected
+  pub actual : (n : ℕ) (x : TypeMismatch) → At t.expr_mismatches n x → P x.actual
+
+-- no type of the table has a hole, complaints included
+abbrev pub IsClosedTable : InferenceResult → Type 0
+IsClosedTable t = AllTypes IsClosed t

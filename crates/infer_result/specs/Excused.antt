@@ -1,0 +1,39 @@
+-- Nodes whose rule a complaint excuses.
+use Rattle.std.specs.Prelude.{◌⊎◌, slice_get, List, [], ◌∷◌, Option, Some, None}
+use Rattle.hir_facts.specs.declared.ids.ExprId.{ExprId}
+use Rattle.hir_facts.specs.declared.raw.RawStmt.{RawStmt}
+use Rattle.hir_facts.specs.declared.raw.RawStmt.TheVariants as stmt
+use Rattle.hir_facts.specs.declared.raw.RawExpr.{RawExpr}
+use Rattle.hir_facts.specs.declared.raw.RawExpr.TheVariants as expr
+use Rattle.infer_result.specs.declared.result.InferenceResult.{InferenceResult}
+use Rattle.infer_result.specs.Table.{HasMismatch}
+use Rattle.infer_result.specs.Places.{Given}
+
+abbrev pub MaybeMismatch : InferenceResult → Option ExprId → Type 0
+MaybeMismatch t None = ⊥
+MaybeMismatch t (Some e) = HasMismatch t e
+
+abbrev pub StmtHasMismatch : InferenceResult → RawStmt → Type 0
+StmtHasMismatch t (stmt.Let p w init other) = MaybeMismatch t init
+StmtHasMismatch t (stmt.Expr e semicolon) = HasMismatch t e
+
+abbrev pub StmtsHaveMismatch : InferenceResult → List RawStmt → Type 0
+StmtsHaveMismatch t [] = ⊥
+StmtsHaveMismatch t (s ∷ ss) = StmtHasMismatch t s ⊎ StmtsHaveMismatch t ss
+
+-- A mismatch at a block or at a part of it excuses the block. At a literal, a path or a tuple it
+-- excuses nothing, and at a part of a tuple that part alone.
+abbrev pub ExcusedAs : InferenceResult → ExprId → Option RawExpr → Type 0
+ExcusedAs t n None = ⊥
+ExcusedAs t n (Some (expr.Lit l)) = ⊥
+ExcusedAs t n (Some (expr.Path p)) = ⊥
+ExcusedAs t n (Some (expr.Tuple es)) = ⊥
+ExcusedAs t n (Some (expr.Block label stmts last)) = HasMismatch t n ⊎ (StmtsHaveMismatch t stmts ⊎ MaybeMismatch t last)
+ExcusedAs t n (Some expr.Other) = ⊥
+
+abbrev pub IsExcused : Given → InferenceResult → ExprId → Type 0
+IsExcused g t n = ExcusedAs t n (slice_get g.body.exprs n.0)
+
+-- the body's own rule is excused by a mismatch at its root
+abbrev pub BodyIsExcused : Given → InferenceResult → Type 0
+BodyIsExcused g t = HasMismatch t g.body.root

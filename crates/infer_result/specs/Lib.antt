@@ -1,0 +1,12 @@
+pub mod Table
+pub mod Closed
+pub mod Places
+pub mod Rules
+pub mod Excused
+pub mod Upward
+pub mod Truth
+pub mod Parts
+pub mod Made
+pub mod Typed
+pub mod Derived
+pub mod Report

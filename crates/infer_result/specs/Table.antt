@@ -1,0 +1,48 @@
+-- What a table says of a node.
+use Rattle.std.specs.Prelude.{ℕ, ◌≡◌, List, slice_get, Option, Some}
+use Rattle.std.specs.Option.{option_and_then}
+use Rattle.hir_facts.specs.declared.ids.ExprId.{ExprId}
+use Rattle.hir_facts.specs.declared.ids.PatId.{PatId}
+use Rattle.hir_facts.specs.declared.ids.BindingId.{BindingId}
+use Rattle.hir_facts.specs.declared.ids.ExprOrPatId.{ExprOrPatId}
+use Rattle.hir_facts.specs.declared.ids.ExprOrPatId.TheVariants as node
+use Rattle.hir_facts.specs.declared.ty.Ty.{Ty}
+use Rattle.infer_result.specs.declared.result.InferenceResult.{InferenceResult}
+use Rattle.infer_result.specs.declared.result.TypeMismatch.{TypeMismatch}
+use Rattle.infer_result.specs.declared.modes.BindingMode.{BindingMode}
+
+-- what is recorded at n, where something is
+abbrev pub recorded : {A : Type 0} → List (Option A) → ℕ → Option A
+recorded xs n = option_and_then (λ x. x) (slice_get xs n)
+
+abbrev pub node_type : InferenceResult → ExprOrPatId → Option Ty
+node_type t (node.ExprId e) = recorded t.type_of_expr e.0
+node_type t (node.PatId p) = recorded t.type_of_pat p.0
+
+-- x is recorded at n
+abbrev pub At : {A : Type 0} → List (Option A) → ℕ → A → Type 0
+At xs n x = slice_get xs n ≡ Some (Some x)
+
+-- the expression, the pattern, the binding has this type
+abbrev pub HasTy : InferenceResult → ExprId → Ty → Type 0
+HasTy t e s = At t.type_of_expr e.0 s
+
+abbrev pub PatTy : InferenceResult → PatId → Ty → Type 0
+PatTy t p s = At t.type_of_pat p.0 s
+
+abbrev pub BindingTy : InferenceResult → BindingId → Ty → Type 0
+BindingTy t v s = At t.type_of_binding v.0 s
+
+abbrev pub HasMode : InferenceResult → PatId → BindingMode → Type 0
+HasMode t p m = At t.binding_modes p.0 m
+
+abbrev pub mismatch : Ty → Ty → TypeMismatch
+mismatch expected actual = record { expected = expected; actual = actual }
+
+-- this mismatch is listed at the expression
+abbrev pub MismatchAt : InferenceResult → ExprId → Ty → Ty → Type 0
+MismatchAt t e expected actual = At t.expr_mismatches e.0 (mismatch expected actual)
+
+-- some mismatch is
+abbrev pub HasMismatch : InferenceResult → ExprId → Type 0
+HasMismatch t e = (x : TypeMismatch) × At t.expr_mismatches e.0 x

@@ -1,0 +1,33 @@
+-- When a mismatch is true.
+use Rattle.std.specs.Prelude.{◌≡◌, ◌⊎◌, List, slice_get, Option, Some, None}
+use Rattle.hir_facts.specs.declared.ids.ExprId.{ExprId}
+use Rattle.hir_facts.specs.declared.ids.LabelId.{LabelId}
+use Rattle.hir_facts.specs.declared.ty.Ty.{Ty}
+use Rattle.hir_facts.specs.declared.raw.RawStmt.{RawStmt}
+use Rattle.hir_facts.specs.declared.raw.RawExpr.TheVariants as expr
+use Rattle.hir_facts.specs.declared.raw.RawBody.{RawBody}
+use Rattle.hir_facts.specs.Types.{unit}
+use Rattle.hir_facts.specs.Erasure.{Same}
+use Rattle.infer_result.specs.declared.result.InferenceResult.{InferenceResult}
+use Rattle.infer_result.specs.declared.result.TypeMismatch.{TypeMismatch}
+use Rattle.infer_result.specs.Table.{HasTy}
+use Rattle.infer_result.specs.Places.{Given, Demand}
+use Rattle.infer_result.specs.Upward.{Up, Stated, Leads}
+
+pub record IsBlockWithoutTail (b : RawBody) (e : ExprId) : Type 0 where
+  pub label : Option LabelId
+  pub stmts : List RawStmt
+  pub is_block : slice_get b.exprs e.0 ≡ Some (expr.Block label stmts None)
+
+-- the actual type is the expression's, or `()` at a block without tail
+abbrev pub IsActual : Given → InferenceResult → ExprId → Ty → Type 0
+IsActual g t e s = HasTy t e s ⊎ (IsBlockWithoutTail g.body e × (s ≡ unit))
+
+-- The two types differ; the first is what the place asks for, the second what stands there; and
+-- where the node has a type by itself and another is written at its place, no coercion leads from
+-- the one to the other.
+pub record IsTrueMismatch (g : Given) (t : InferenceResult) (e : ExprId) (x : TypeMismatch) : Type 0 where
+  pub differ : Same x.expected x.actual → ⊥
+  pub actual : IsActual g t e x.actual
+  pub demand : Demand g t e x.expected
+  pub no_coercion : (u s : Ty) → Up g e u → Stated g e s → Leads u s → ⊥

@@ -1,0 +1,43 @@
+-- What a finished table is, node by node: no order, no state.
+use Rattle.std.specs.Prelude.{◌≡◌, ◌<◌, ◌⊎◌, length, Some}
+use Rattle.hir_facts.specs.declared.ids.ExprId.{ExprId}
+use Rattle.hir_facts.specs.declared.ids.PatId.{PatId}
+use Rattle.hir_facts.specs.declared.ids.DefWithBodyId.{DefWithBodyId}
+use Rattle.hir_facts.specs.declared.ty.Ty.{Ty}
+use Rattle.hir_facts.specs.declared.raw.RawBody.{RawBody}
+use Rattle.hir_facts.specs.declared.raw.RawFacts.{RawFacts}
+use Rattle.hir_facts.specs.Bodies.{body_of, return_type}
+use Rattle.infer_result.specs.declared.result.InferenceResult.{InferenceResult}
+use Rattle.infer_result.specs.declared.result.TypeMismatch.{TypeMismatch}
+use Rattle.infer_result.specs.Table.{At, HasTy}
+use Rattle.infer_result.specs.Closed.{IsOfBody, IsTotal, IsClosedTable}
+use Rattle.infer_result.specs.Places.{Given}
+use Rattle.infer_result.specs.Rules.Expressions.{ObeysOrMismatch, ObeysExpression, BodyObeysOrMismatch, BodyObeys}
+use Rattle.infer_result.specs.Rules.Patterns.{ObeysPattern}
+use Rattle.infer_result.specs.Excused.{IsExcused, BodyIsExcused}
+use Rattle.infer_result.specs.Upward.{Up}
+use Rattle.infer_result.specs.Truth.Mismatch.{IsTrueMismatch}
+
+-- Each node obeys its rule, clause by clause but for listed mismatches, and so each node that is not
+-- excused obeys it whole; each type that a node has by itself stands; and each mismatch is true.
+pub record IsTyped (g : Given) (t : InferenceResult) : Type 0 where
+  pub of_body : IsOfBody g.body t
+  pub total : IsTotal g.body t
+  pub closed : IsClosedTable t
+  pub clauses : (e : ExprId) → e.0 < length g.body.exprs → ObeysOrMismatch g t e
+  pub exprs : (e : ExprId) → e.0 < length g.body.exprs → IsExcused g t e ⊎ ObeysExpression g t e
+  pub pats : (p : PatId) → p.0 < length g.body.pats → ObeysPattern g t p
+  pub body_clause : BodyObeysOrMismatch g t
+  pub body_rule : BodyIsExcused g t ⊎ BodyObeys g t
+  pub upward : (e : ExprId) (s : Ty) → Up g e s → HasTy t e s
+  pub truths : (e : ExprId) (x : TypeMismatch) → At t.expr_mismatches e.0 x → IsTrueMismatch g t e x
+
+-- the body of a definition among its facts
+abbrev pub given : RawFacts → DefWithBodyId → RawBody → Given
+given raw d b = record { types = raw.types; body = b; output = return_type raw d }
+
+-- the table is one of the definition's body, and typed
+pub record IsTableOf (raw : RawFacts) (d : DefWithBodyId) (t : InferenceResult) : Type 0 where
+  pub body : RawBody
+  pub is_body : body_of raw d ≡ Some body
+  pub typed : IsTyped (given raw d body) t

@@ -1,0 +1,49 @@
+-- Types that nodes have by themselves, and types that are written at their places.
+use Rattle.std.specs.Prelude.{ℕ, ◌≡◌, ◌⊎◌, slice_get, Option, Some, None}
+use Rattle.hir_facts.specs.declared.ids.ExprId.{ExprId}
+use Rattle.hir_facts.specs.declared.ids.PatId.{PatId}
+use Rattle.hir_facts.specs.declared.ids.BindingId.{BindingId}
+use Rattle.hir_facts.specs.declared.ids.TypeRefId.{TypeRefId}
+use Rattle.hir_facts.specs.declared.ids.ExprOrPatId.TheVariants as node
+use Rattle.hir_facts.specs.declared.ty.Ty.{Ty}
+use Rattle.hir_facts.specs.declared.raw.RawLiteral.{RawLiteral}
+use Rattle.hir_facts.specs.declared.raw.RawPath.TheVariants as path
+use Rattle.hir_facts.specs.declared.raw.RawExpr.TheVariants as expr
+use Rattle.hir_facts.specs.declared.raw.RawPat.TheVariants as pat
+use Rattle.hir_facts.specs.declared.raw.RawBody.{RawBody}
+use Rattle.hir_facts.specs.Types.{written_type}
+use Rattle.hir_facts.specs.Erasure.{Same}
+use Rattle.hir_facts.specs.Order.{Role, root, initializer, let_pattern, Node}
+use Rattle.infer_result.specs.Places.{Given, StandsAt}
+use Rattle.infer_result.specs.Rules.Literals.{IsOwnType}
+
+-- the path e names a local that a `let` of this written type and initializer binds by its whole pattern
+pub record NamesLet (b : RawBody) (e : ExprId) (written : Option TypeRefId) (init : Option ExprId) : Type 0 where
+  pub binding : BindingId
+  pub pattern : PatId
+  pub names : slice_get b.exprs e.0 ≡ Some (expr.Path (path.Local binding))
+  pub binds : slice_get b.pats pattern.0 ≡ Some (pat.Bind binding None)
+  pub parent : Node
+  pub at_part : ℕ
+  pub stands : StandsAt b (node.PatId pattern) parent at_part (let_pattern written init)
+
+-- the type that an expression has by itself
+pub data Up (g : Given) : ExprId → Ty → Type 0 where
+  of_literal : (e : ExprId) (l : RawLiteral) (s : Ty) → slice_get g.body.exprs e.0 ≡ Some (expr.Lit l) → IsOwnType l s → Up g e s
+  of_written : (e : ExprId) (w : TypeRefId) (init : Option ExprId) → NamesLet g.body e (Some w) init → Up g e (written_type g.types w)
+  of_initializer : (e i : ExprId) (s : Ty) → NamesLet g.body e None (Some i) → Up g i s → Up g e s
+
+-- the type that is written at the place of a node
+abbrev pub States : Given → Role → Ty → Type 0
+States g role s = ((role ≡ root) × (s ≡ g.output)) ⊎ ((w : TypeRefId) × (role ≡ initializer (Some w)) × (s ≡ written_type g.types w))
+
+pub record Stated (g : Given) (e : ExprId) (s : Ty) : Type 0 where
+  pub parent : Node
+  pub at_part : ℕ
+  pub role : Role
+  pub stands : StandsAt g.body (node.ExprId e) parent at_part role
+  pub states : States g role s
+
+-- between carried types a coercion leads only where they are the same
+abbrev pub Leads : Ty → Ty → Type 0
+Leads from to = Same from to

@@ -1,0 +1,26 @@
+//! How a pattern binds.
+
+/// Whether a reference allows writing.
+#[derive(Clone, Copy, Debug, PartialEq, Eq, Hash, PartialOrd, Ord)]
+pub enum Mutability {
+    Not,
+    Mut,
+}
+
+/// How a binding takes what its pattern matches: the value itself, or a reference to it.
+#[derive(Clone, Copy, Debug, PartialEq, Eq)]
+pub enum BindingMode {
+    Move,
+    Ref(Mutability),
+}
+
+impl Default for BindingMode {
+    ghost use Rattle.infer_result.specs.declared.modes.BindingMode.TheVariants as mode;
+    ghost use Rattle.std.specs.Prelude.{◌≡◌};
+
+    ghost is_default = { λ m. m ≡ mode.Move };
+
+    fn default() -> BindingMode {
+        BindingMode::Move
+    }
+}

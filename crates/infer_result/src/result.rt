@@ -1,0 +1,63 @@
+//! The types, modes and complaints of a body.
+ghost use Rattle.std.specs.Prelude.{◌≡◌, slice_get, option_copied};
+ghost use Rattle.std.specs.Option.{option_and_then};
+ghost use Rattle.infer_result.specs.Table.{recorded, node_type};
+
+use crate::modes::BindingMode;
+use hir_facts::{BindingId, ExprId, ExprOrPatId, List, PatId, Ty};
+
+/// A place asked for the type `expected`, and what stands there has the type `actual`.
+#[derive(Debug, Drop, PartialEq, Eq, Hash)]
+pub struct TypeMismatch {
+    pub expected: Ty,
+    pub actual: Ty,
+}
+
+/// What inference found out about a body. Each list has an entry for each node, or for each
+/// binding, of the body, in the order of their ids.
+#[derive(Debug, Drop, PartialEq, Eq)]
+pub struct InferenceResult {
+    /// The type of each expression.
+    pub type_of_expr: List<Option<Ty>>,
+    /// The type of each pattern.
+    pub type_of_pat: List<Option<Ty>>,
+    /// The type of each binding.
+    pub type_of_binding: List<Option<Ty>>,
+    /// The mode of each pattern that binds.
+    pub binding_modes: List<Option<BindingMode>>,
+    /// The mismatch at each expression, where there is one.
+    pub expr_mismatches: List<Option<TypeMismatch>>,
+}
+
+impl InferenceResult {
+    /// The type recorded for an expression or a pattern.
+    pub fn type_of_expr_or_pat(&self, node: ExprOrPatId) -> Option<&Ty>
+        ensures { option_copied result ≡ node_type self.now node }
+    {
+        match node {
+            ExprOrPatId::ExprId(e) => self.type_of_expr.get(e.0 as usize)?.as_ref(),
+            ExprOrPatId::PatId(p) => self.type_of_pat.get(p.0 as usize)?.as_ref(),
+        }
+    }
+
+    /// The type recorded for a binding.
+    pub fn type_of_binding(&self, binding: BindingId) -> Option<&Ty>
+        ensures { option_copied result ≡ recorded self.now.type_of_binding binding.0 }
+    {
+        self.type_of_binding.get(binding.0 as usize)?.as_ref()
+    }
+
+    /// The mode recorded for a pattern that binds.
+    pub fn binding_mode(&self, pat: PatId) -> Option<BindingMode>
+        ensures { result ≡ recorded self.now.binding_modes pat.0 }
+    {
+        *self.binding_modes.get(pat.0 as usize)?
+    }
+
+    /// The mismatch at an expression.
+    pub fn type_mismatch_for_expr(&self, e: ExprId) -> Option<&TypeMismatch>
+        ensures { option_copied result ≡ recorded self.now.expr_mismatches e.0 }
+    {
+        self.expr_mismatches.get(e.0 as usize)?.as_ref()
+    }
+}
