@@ -1,5 +1,13 @@
 pub mod Tells
 pub mod Equal
+pub mod Broken
+pub mod Named
+pub mod InBodies
+pub mod Owners
+pub mod Drops
+pub mod Measured
+pub mod Digits
+pub mod TypeMeasures
 pub mod Walking
 pub mod Advances
 pub mod Departs
@@ -8,3 +16,6 @@ pub mod Steps
 pub mod NodeLists
 pub mod Bodies
 pub mod Schedules
+pub mod Binding
+pub mod Scoping
+pub mod Allowed

@@ -2,6 +2,9 @@
 #![tactic(auto)]
 
 mod graph;
+mod checks;
+mod facts;
+mod facts_error;
 mod ids;
 mod laws;
 mod list;
@@ -11,6 +14,8 @@ mod schedule;
 mod text;
 mod ty;
 
+pub use facts::Facts;
+pub use facts_error::FactsError;
 pub use ids::{
     BindingId, BodyId, ConstId, DefWithBodyId, ExprId, ExprOrPatId, FunctionId, LabelId, ModuleId,
     PatId, StaticId, TraitId, TypeRefId, VariantId,
