@@ -10,6 +10,7 @@ mod expr;
 mod given;
 mod inspect;
 mod literal;
+mod lower;
 mod pat;
 mod path;
 mod query;
@@ -17,3 +18,4 @@ mod stmt;
 mod tuple;
 
 pub use inspect::{NoInspector, ObligationInspector};
+pub use query::infer_query_with_inspect;

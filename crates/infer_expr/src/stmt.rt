@@ -6,7 +6,8 @@ ghost use Rattle.infer_expr.specs.Steps.{BeforeStmt, StmtDone, InitDone};
 
 use crate::context::InferenceContext;
 use crate::expectation::Expectation;
-use crate::given::{GivenBody, make_body_ty};
+use crate::given::GivenBody;
+use crate::lower::make_body_ty;
 use hir_facts::{ExprId, List, PatId, RawStmt, Ty, TypeRefId};
 use std::alloc::{AllocError, Global};
 
