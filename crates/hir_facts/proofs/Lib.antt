@@ -19,3 +19,4 @@ pub mod Schedules
 pub mod Binding
 pub mod Scoping
 pub mod Allowed
+pub mod Fitting

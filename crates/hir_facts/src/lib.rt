@@ -4,10 +4,12 @@
 mod graph;
 mod checks;
 mod facts;
+mod fit;
 mod facts_error;
 mod ids;
 mod laws;
 mod list;
+mod lower;
 mod parts;
 mod raw;
 mod schedule;
