@@ -1,5 +1,9 @@
 //! What inference of a body reads.
-use hir_facts::{Facts, RawBody, Schedule, Ty};
+ghost use Rattle.std.specs.Prelude.{◌≡◌, ◌<◌, IfOk, length};
+ghost use Rattle.hir_facts.specs.Types.{written_type};
+
+use hir_facts::{Facts, RawBody, Schedule, Ty, TypeRefId, lower_ty};
+use std::alloc::{AllocError, Global};
 
 /// A body among its facts: what `infer.rs`'s `InferenceContext` reads of its `db`, its `body` and
 /// its `return_ty`.
@@ -10,4 +14,14 @@ pub struct GivenBody<'a> {
     pub schedule: &'a Schedule,
     /// The type that the body is typed against.
     pub return_ty: &'a Ty,
+}
+
+impl GivenBody<'_> {
+    /// The type that a written type stands for: `infer.rs`, `make_body_ty`.
+    pub fn make_body_ty(&self, alloc: Global, type_ref: TypeRefId) -> Result<Ty, AllocError>
+        requires { type_ref.0 < length self.now.facts.now.types }
+        ensures { IfOk result (λ ty. ty ≡ written_type self.now.facts.now.types type_ref) }
+    {
+        lower_ty(alloc, self.facts, type_ref)
+    }
 }

@@ -10,7 +10,6 @@ mod expr;
 mod given;
 mod inspect;
 mod literal;
-mod lower;
 mod pat;
 mod path;
 mod query;

@@ -6,8 +6,7 @@ ghost use Rattle.infer_result.specs.Typed.{IsTableOf};
 use crate::context::InferenceContext;
 use crate::given::GivenBody;
 use crate::inspect::ObligationInspector;
-use crate::lower::return_ty;
-use hir_facts::{DefWithBodyId, Facts};
+use hir_facts::{DefWithBodyId, Facts, return_ty};
 use infer_result::InferenceResult;
 use std::alloc::{AllocError, Global};
 
