@@ -20,3 +20,4 @@ pub mod Binding
 pub mod Scoping
 pub mod Allowed
 pub mod Fitting
+pub mod Lowering

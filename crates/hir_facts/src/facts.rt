@@ -83,6 +83,13 @@ impl Facts {
         self.raw.limits
     }
 
+    /// The written types.
+    pub fn types(&self) -> &[RawType]
+        ensures { result.now ≡ self.now.types }
+    {
+        self.raw.types.as_slice()
+    }
+
     /// A written type.
     pub fn written(&self, ty: TypeRefId) -> &RawType
         requires { ty.0 < length self.now.types }

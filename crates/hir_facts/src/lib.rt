@@ -24,6 +24,7 @@ pub use ids::{
 };
 pub use laws::{FactsList, Law};
 pub use list::List;
+pub use lower::{lower_ty, return_ty};
 pub use raw::{
     BindingAnnotation, Edition, Other, RawAt, RawBinding, RawBody, RawExpr, RawFacts, RawFn,
     RawLimits, RawLiteral, RawPat, RawPath, RawStmt, RawType, RawVis,

@@ -32,3 +32,29 @@ fn lower(types: &[RawType], t: usize, alloc: Global) -> Result<Ty, AllocError>
         RawType::Other => Ok(Ty::Error),
     }
 }
+
+/// The type that a written type stands for.
+pub fn lower_ty(alloc: Global, facts: &Facts, ty: TypeRefId) -> Result<Ty, AllocError>
+    requires { ty.0 < length facts.now.types }
+    ensures { IfOk result (λ t. t ≡ written_type facts.now.types ty) }
+{
+    facts.lawful();
+    let lowered = lower(facts.types(), ty.0 as usize, alloc)?;
+    Ok(lowered)
+}
+
+/// The type that a body is typed against.
+pub fn return_ty(alloc: Global, facts: &Facts, def: DefWithBodyId) -> Result<Ty, AllocError>
+    requires { HasBody facts.now def }
+    ensures { IfOk result (λ t. t ≡ return_type facts.now def) }
+{
+    facts.lawful();
+    match def {
+        DefWithBodyId::FunctionId(function) => {
+            let function = facts.fn_(function);
+            let ty = lower_ty(alloc, facts, function.output)?;
+            Ok(ty)
+        }
+        DefWithBodyId::ConstId(_) | DefWithBodyId::StaticId(_) | DefWithBodyId::VariantId(_) => Ok(Ty::Error),
+    }
+}

@@ -9,3 +9,4 @@ pub mod Parts
 pub mod Made
 pub mod Typed
 pub mod Derived
+pub mod Report

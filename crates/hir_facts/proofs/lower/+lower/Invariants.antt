@@ -1,12 +1,9 @@
-use Rattle.std.proofs.Common.{◌≡◌, ◌<◌, IfOk, length, ℕ, ◌+◌, ◌-◌, ◌*◌, ◌≤◌}
-use Rattle.hir_facts.specs.Types.{lowered, written_type}
-use Rattle.hir_facts.specs.Bodies.{HasBody, return_type}
-use Rattle.hir_facts.specs.Laws.Entries.{AllHold}
-use Rattle.hir_facts.specs.Laws.Ids.{ChildrenBefore}
+use Rattle.std.proofs.Common.{◌≡◌, map, take}
+use Rattle.hir_facts.specs.Types.{lowered}
 use Rattle.hir_facts.proofs.lower.+lower.Given as goal
 
 abbrev pub decreases-lower : goal.decreases-lower
-decreases-lower l = ?
+decreases-lower l = l.t
 
 abbrev pub invariant-loop-part : goal.invariant-loop-part
-invariant-loop-part l = ?
+invariant-loop-part l = l.tys ≡ map (λ t. lowered l.types t.0) (take l.part-index l.part-items)

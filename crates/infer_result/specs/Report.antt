@@ -1,0 +1,125 @@
+-- What is reported of a table: a line for the definition, for each expression, pattern and binding,
+-- and for each complaint, and the number of complaints last.
+use Rattle.std.specs.Prelude.{ℕ, zero, suc, ◌+◌, List, [], ◌∷◌, ◌++◌, Option, Some, None, codes, count_by, is_some}
+use Rattle.std.specs.Fmt.{decimal}
+use Rattle.hir_facts.specs.declared.ids.DefWithBodyId.{DefWithBodyId}
+use Rattle.hir_facts.specs.declared.ids.DefWithBodyId.TheVariants as def
+use Rattle.hir_facts.specs.declared.raw.RawFacts.{RawFacts}
+use Rattle.hir_facts.specs.declared.ty.IntTy.{IntTy}
+use Rattle.hir_facts.specs.declared.ty.IntTy.TheVariants as int
+use Rattle.hir_facts.specs.declared.ty.UintTy.{UintTy}
+use Rattle.hir_facts.specs.declared.ty.UintTy.TheVariants as uint
+use Rattle.hir_facts.specs.declared.ty.Ty.{Ty, Ty-F, fold-Ty}
+use Rattle.infer_result.specs.declared.modes.Mutability.{Mutability}
+use Rattle.infer_result.specs.declared.modes.Mutability.TheVariants as mutability
+use Rattle.infer_result.specs.declared.modes.BindingMode.{BindingMode}
+use Rattle.infer_result.specs.declared.modes.BindingMode.TheVariants as mode
+use Rattle.infer_result.specs.declared.result.TypeMismatch.{TypeMismatch}
+use Rattle.infer_result.specs.declared.result.InferenceResult.{InferenceResult}
+use Rattle.infer_result.specs.Table.{recorded}
+
+-- ---- types
+
+abbrev pub int_text : IntTy → List ℕ
+int_text int.Isize = codes "isize"
+int_text int.I8 = codes "i8"
+int_text int.I16 = codes "i16"
+int_text int.I32 = codes "i32"
+int_text int.I64 = codes "i64"
+int_text int.I128 = codes "i128"
+
+abbrev pub uint_text : UintTy → List ℕ
+uint_text uint.Usize = codes "usize"
+uint_text uint.U8 = codes "u8"
+uint_text uint.U16 = codes "u16"
+uint_text uint.U32 = codes "u32"
+uint_text uint.U64 = codes "u64"
+uint_text uint.U128 = codes "u128"
+
+-- what stands before the text at a position
+abbrev pub separator : ℕ → List ℕ
+separator zero = []
+separator (suc n) = codes ", "
+
+-- joined by comma and space
+abbrev pub joined : List (List ℕ) → List ℕ
+joined [] = []
+joined (x ∷ []) = x
+joined (x ∷ y ∷ ys) = x ++ codes ", " ++ joined (y ∷ ys)
+
+-- a tuple of one has a comma
+abbrev pub tuple_text : List (List ℕ) → List ℕ
+tuple_text [] = codes "()"
+tuple_text (x ∷ []) = codes "(" ++ x ++ codes ",)"
+tuple_text (x ∷ y ∷ ys) = codes "(" ++ joined (x ∷ y ∷ ys) ++ codes ")"
+
+-- one level, with the text of each type inside
+abbrev pub text_step : Ty-F (List ℕ) → List ℕ
+text_step Ty-F.Bool = codes "bool"
+text_step Ty-F.Char = codes "char"
+text_step (Ty-F.Int i) = int_text i
+text_step (Ty-F.Uint u) = uint_text u
+text_step (Ty-F.Tuple ts) = tuple_text ts
+text_step Ty-F.Error = codes "{unknown}"
+text_step (Ty-F.Var n) = codes "?" ++ decimal n
+
+abbrev pub ty_text : Ty → List ℕ
+ty_text = fold-Ty (List ℕ) text_step
+
+-- the type of a node, where it has one
+abbrev pub type_text : Option Ty → List ℕ
+type_text None = codes "{unknown}"
+type_text (Some t) = ty_text t
+
+-- ---- lines
+
+abbrev pub line : List ℕ → List ℕ
+line text = text ++ 10 ∷ []
+
+-- a line for each entry, the first of which has number i
+abbrev pub lines_from : {A : Type 0} → (ℕ → A → List ℕ) → ℕ → List A → List ℕ
+lines_from f i [] = []
+lines_from f i (x ∷ xs) = f i x ++ lines_from f (i + 1) xs
+
+abbrev pub def_line : DefWithBodyId → List ℕ
+def_line (def.FunctionId f) = line (codes "fn " ++ decimal f.0)
+def_line (def.ConstId c) = line (codes "const " ++ decimal c.0)
+def_line (def.StaticId s) = line (codes "static " ++ decimal s.0)
+def_line (def.VariantId v) = line (codes "variant " ++ decimal v.0)
+
+abbrev pub expr_line : ℕ → Option Ty → List ℕ
+expr_line i t = line (codes "e" ++ decimal i ++ codes " " ++ type_text t)
+
+-- how a pattern binds, where it does
+abbrev pub mode_text : Option BindingMode → List ℕ
+mode_text None = []
+mode_text (Some mode.Move) = codes " move"
+mode_text (Some (mode.Ref mutability.Not)) = codes " ref"
+mode_text (Some (mode.Ref mutability.Mut)) = codes " refmut"
+
+abbrev pub pat_line : List (Option BindingMode) → ℕ → Option Ty → List ℕ
+pat_line modes i t = line (codes "p" ++ decimal i ++ codes " " ++ type_text t ++ mode_text (recorded modes i))
+
+abbrev pub binding_line : ℕ → Option Ty → List ℕ
+binding_line i t = line (codes "b" ++ decimal i ++ codes " " ++ type_text t)
+
+unfoldable pub mismatch_head : ℕ → List ℕ
+mismatch_head i = codes "TypeMismatch e" ++ decimal i
+
+unfoldable pub type_field : List ℕ → Ty → List ℕ
+type_field name t = name ++ ty_text t
+
+abbrev pub mismatch_line : ℕ → Option TypeMismatch → List ℕ
+mismatch_line i None = []
+mismatch_line i (Some m) = line (mismatch_head i ++ type_field (codes " expected=") m.expected ++ type_field (codes " actual=") m.actual)
+
+-- ---- the whole
+
+abbrev pub complaint_count : InferenceResult → ℕ
+complaint_count t = count_by is_some t.expr_mismatches
+
+abbrev pub report : DefWithBodyId → RawFacts → InferenceResult → List ℕ
+report d raw t =
+    def_line d ++ lines_from expr_line 0 t.type_of_expr ++ lines_from (pat_line t.binding_modes) 0 t.type_of_pat ++ lines_from binding_line 0 t.type_of_binding
+    ++ lines_from mismatch_line 0 t.expr_mismatches
+    ++ line (codes "complaints " ++ decimal (complaint_count t))

@@ -1,0 +1,28 @@
+-- The command: `table KIND N`.
+use Rattle.std.specs.Prelude.{◌≡◌, ◌<◌, ◌^◌, ℕ, List, [], ◌∷◌, codes}
+use Rattle.std.specs.Fmt.{decimal}
+use Rattle.hir_facts.specs.declared.ids.DefWithBodyId.{DefWithBodyId}
+use Rattle.hir_facts.specs.declared.ids.DefWithBodyId.TheVariants as def
+
+abbrev pub kind_word : DefWithBodyId → List ℕ
+kind_word (def.FunctionId f) = codes "fn"
+kind_word (def.ConstId c) = codes "const"
+kind_word (def.StaticId s) = codes "static"
+kind_word (def.VariantId v) = codes "variant"
+
+abbrev pub number_in : DefWithBodyId → ℕ
+number_in (def.FunctionId f) = f.0
+number_in (def.ConstId c) = c.0
+number_in (def.StaticId s) = s.0
+number_in (def.VariantId v) = v.0
+
+-- the two words are the definition's kind and number
+pub record IsNamed (kind number : List ℕ) (d : DefWithBodyId) : Type 0 where
+  pub kind_is : kind ≡ kind_word d
+  pub number_is : number ≡ decimal (number_in d)
+  pub fits : number_in d < 2 ^ 32
+
+-- the words ask for the definition's table
+pub record IsCommand (words : List (List ℕ)) (d : DefWithBodyId) : Type 0 where
+  pub words_are : words ≡ codes "table" ∷ kind_word d ∷ decimal (number_in d) ∷ []
+  pub fits : number_in d < 2 ^ 32

@@ -1,0 +1,95 @@
+-- What stands for types, functions and limits.
+use Rattle.std.specs.Prelude.{ℕ, ◌==◌, List, [], Option, Some, None, Result, Ok, Err, codes, replicate, if◌then◌else◌}
+use Rattle.std.specs.Str.{bytes_eq}
+use Rattle.serde_json.specs.Data.{Data, Members}
+use Rattle.serde_json.specs.Find.{as_str, as_object}
+use Rattle.hir_facts.specs.declared.ty.IntegerTy.{IntegerTy}
+use Rattle.hir_facts.specs.declared.raw.RawType.{RawType}
+use Rattle.hir_facts.specs.declared.raw.RawType.TheVariants as type
+use Rattle.hir_facts.specs.declared.raw.RawAt.{RawAt}
+use Rattle.hir_facts.specs.declared.raw.RawAt.TheVariants as stands
+use Rattle.hir_facts.specs.declared.raw.RawVis.{RawVis}
+use Rattle.hir_facts.specs.declared.raw.RawVis.TheVariants as vis
+use Rattle.hir_facts.specs.declared.raw.RawFn.{RawFn}
+use Rattle.hir_facts.specs.declared.raw.RawLimits.{RawLimits}
+use Rattle.infer_tool.specs.declared.text.entries.Lang.{Lang}
+use Rattle.infer_tool.specs.Reading.{◌>>=◌, ◌>>◌, there, field, part, keys_in, parts_in, tag, is_tag, is_kind_of, count_members, bool_in, text_in, u32_in, option_in, list_in}
+use Rattle.infer_tool.specs.Leaves.{module_in, type_ref_in, body_id_in, other, other_in, integer_name}
+use Rattle.infer_tool.specs.Kinds.{other_types}
+
+-- ---- types
+
+-- an integer type, by its name alone
+abbrev pub integer_tag : List ℕ × ℕ → Option IntegerTy
+integer_tag t = if t.1 == 0 then integer_name t.0 else None
+
+abbrev named_by : Option IntegerTy → List ℕ × ℕ → Result RawType (List ℕ)
+named_by (Some i) t = Ok (type.Integer i)
+named_by None t = if is_kind_of other_types t then Ok type.Other else Err []
+
+-- an integer type, or a kind that is not read
+unfoldable pub named_type : List ℕ × ℕ → Result RawType (List ℕ)
+named_type t = named_by (integer_tag t) t
+
+-- "bool", "char", ["tuple", [TYPE]], the name of an integer type, or another kind
+unfoldable pub type_in : Data → Result RawType (List ℕ)
+type_in d = do
+  t ← there (tag d)
+  if is_tag t (codes "bool") 0 then Ok type.Bool else
+      if is_tag t (codes "char") 0 then Ok type.Char else
+      if is_tag t (codes "tuple") 2 then part (list_in type_ref_in) 1 d >>= (λ ts. Ok (type.Tuple ts)) else
+      named_type t
+
+-- ---- functions
+
+-- ["module", m], ["impl", i] or ["trait", t], of which the last two are not read
+unfoldable pub at_in : Data → Result RawAt (List ℕ)
+at_in d = do
+  t ← there (tag d)
+  if is_tag t (codes "module") 2 then part module_in 1 d >>= (λ m. Ok (stands.Module m)) else
+      if is_tag t (codes "impl") 2 then Ok stands.Other else
+      if is_tag t (codes "trait") 2 then Ok stands.Other else
+      Err []
+
+abbrev vis_by : Option (List ℕ) → Data → Result RawVis (List ℕ)
+vis_by (Some s) d = if bytes_eq s (codes "pub") then Ok vis.Pub else Err []
+vis_by None d = module_in d >>= λ m. Ok (vis.Module m)
+
+-- "pub" or a module
+unfoldable pub vis_in : Data → Result RawVis (List ℕ)
+vis_in d = vis_by (as_str d) d
+
+unfoldable pub fn_in : Data → Result RawFn (List ℕ)
+fn_in d = do
+  keys_in 10 d
+  name ← field text_in (codes "name") d
+  place ← field at_in (codes "at") d
+  params ← field (list_in other_in) (codes "params") d
+  preds ← field (list_in other_in) (codes "preds") d
+  has_self ← field bool_in (codes "has_self") d
+  inputs ← field (list_in type_ref_in) (codes "inputs") d
+  output ← field type_ref_in (codes "output") d
+  safe ← field bool_in (codes "safe") d
+  seen ← field vis_in (codes "vis") d
+  body ← field (option_in body_id_in) (codes "body") d
+  Ok (record { name = name; «at» = place; params = params; preds = preds; has_self = has_self; inputs = inputs; output = output; safe = safe; vis = seen; body = body })
+
+-- ---- the rest
+
+-- [goal depth, goal steps, autoderef, tail]
+unfoldable pub limits_in : Data → Result RawLimits (List ℕ)
+limits_in d = do
+  parts_in 4 d
+  goal_depth ← part u32_in 0 d
+  goal_steps ← part u32_in 1 d
+  autoderef ← part u32_in 2 d
+  tail ← part u32_in 3 d
+  Ok (record { goal_depth = goal_depth; goal_steps = goal_steps; autoderef = autoderef; tail = tail })
+
+-- an entry for each member
+abbrev pub others_of : Members → Lang
+others_of ms = record { entries = replicate (count_members ms) other }
+
+-- an object, whose members are not read
+unfoldable pub lang_in : Data → Result Lang (List ℕ)
+lang_in d = there (as_object d) >>= λ ms. Ok (others_of ms)

@@ -1,0 +1,10 @@
+pub mod Reading
+pub mod Leaves
+pub mod Kinds
+pub mod Entries
+pub mod Bodies
+pub mod Facts
+pub mod Causes
+pub mod Command
+pub mod Outcome
+pub mod Answer

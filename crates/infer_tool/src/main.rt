@@ -1,0 +1,83 @@
+//! Infers the types of a definition's body: facts on standard input, a report on standard output.
+#![tactic(auto)]
+
+mod ends;
+mod run;
+mod stand;
+mod text;
+mod words;
+
+use ends::{StdSink, StdSource};
+use std::env::Env;
+use std::process::ExitCode;
+use std::rc::RcStr;
+use std::{env, io};
+
+const USAGE: &str =
+    "usage: infer_tool table KIND N, where KIND is fn, const, static or variant, and N a number; facts are read from standard input";
+
+const HELP: &str = "infer_tool table KIND N
+
+Reads the facts of a crate from standard input, as JSON, infers the types of the body of
+one definition, and writes a report on standard output. KIND is fn, const, static or
+variant, and N the definition's number in its list.
+
+Status: 0 no complaint, 1 a complaint, 2 wrong words, 3 input failed, 4 output failed,
+5 not enough memory, 6 no JSON, 7 another shape is wanted, 8 a law is broken, 9 no body,
+10 more than 16777216 bytes";
+
+const VERSION: &str = "infer_tool 0.1.0";
+
+/// The words after the program's name.
+fn words_of(rt: &(impl Env + AllocGlobal)) -> io::Result<Vec<RcStr>> {
+    let mut words = Vec::new(rt.alloc());
+    for word in env::args(rt)?.skip(1) {
+        words.push(RcStr::from_str(rt.alloc(), word.as_str())?)?;
+    }
+    Ok(words)
+}
+
+/// What the two words that are no command ask for.
+fn answer(words: &[RcStr]) -> Option<&'static str> {
+    match words {
+        [word] if word.as_str() == "--help" => Some(HELP),
+        [word] if word.as_str() == "--version" => Some(VERSION),
+        _ => None,
+    }
+}
+
+/// Prints on standard output, and says how that ended.
+fn print(rt: &impl Print, text: &str) -> u8 {
+    match rt.println(text) {
+        Ok(()) => 0,
+        Err(_) => 4,
+    }
+}
+
+/// Runs the command between standard input and output, and says on standard error what was wrong.
+fn run_between(rt: &HostRuntime, words: &[RcStr]) -> u8 {
+    let mut source = StdSource::new(rt.reader());
+    let mut sink = StdSink::new(io::writer(rt));
+    let ran = run::run(rt.alloc(), words, &mut source, &mut sink);
+    if let Some(fault) = &ran.fault {
+        let _ = eprintln!(rt; "infer_tool: {fault}");
+    }
+    if ran.status == 2 {
+        let _ = rt.eprintln(USAGE);
+    }
+    ran.status
+}
+
+fn main(rt: HostRuntime) -> ExitCode {
+    let status = match words_of(&rt) {
+        Ok(words) => match answer(&words) {
+            Some(text) => print(&rt, text),
+            None => run_between(&rt, &words),
+        },
+        Err(_) => {
+            let _ = rt.eprintln(USAGE);
+            2
+        }
+    };
+    ExitCode::from(status)
+}

@@ -1,0 +1,303 @@
+//! Reading bodies and their nodes.
+ghost use Rattle.std.specs.Prelude.{◌≡◌, ℕ, List, Result, Some, None, Ok, Err};
+ghost use Rattle.serde_json.specs.Data.{Data};
+ghost use Rattle.serde_json.specs.View.{view};
+ghost use Rattle.infer_tool.specs.Reading.{Gives, is_kind_of};
+ghost use Rattle.infer_tool.specs.Kinds.{other_exprs, other_pats, other_paths, other_literals};
+ghost use Rattle.infer_tool.specs.Bodies.{int_literal_in, literal_in, local_in, path_in, let_in, expr_stmt_in, stmt_in, block_in, expr_in, bind_in, pat_in, binding_in, body_in};
+
+use super::fault::Misread;
+use super::reader::{
+    FromData, expect_keys, expect_parts, field_of, is, is_one_of, misshapen, part_of, tag_of,
+};
+use hir_facts::{List, Other, RawBinding, RawBody, RawExpr, RawLiteral, RawPat, RawPath, RawStmt};
+use serde_json::Value;
+use std::alloc::Global;
+
+#[tactic(auto, unfolding(crate::specs::Bodies::int_literal_in))]
+fn int_literal(alloc: Global, value: &Value) -> Result<RawLiteral, Misread>
+    ensures { Gives result (int_literal_in (view value.now)) }
+{
+    let digits = part_of(alloc, value, 1)?;
+    let suffix = part_of(alloc, value, 2)?;
+    Ok(RawLiteral::Int { digits, suffix })
+}
+
+fn is_other_literal(tag: (&str, usize)) -> bool
+    ensures { result ≡ is_kind_of other_literals (tag.entry.0.now, tag.entry.1) }
+{
+    is_one_of(tag, &[("str", 2), ("bytes", 2), ("cstr", 0)])
+}
+
+#[tactic(auto, unfolding(crate::specs::Bodies::literal_in))]
+impl FromData for RawLiteral {
+    ghost reads = { literal_in };
+
+    fn from_data(alloc: Global, value: &Value) -> Result<RawLiteral, Misread> {
+        let tag = tag_of(alloc, value)?;
+        if is(tag, "bool", 2) {
+            Ok(RawLiteral::Bool(part_of(alloc, value, 1)?))
+        } else if is(tag, "char", 2) {
+            Ok(RawLiteral::Char(part_of(alloc, value, 1)?))
+        } else if is(tag, "int", 3) {
+            int_literal(alloc, value)
+        } else if is_other_literal(tag) {
+            Ok(RawLiteral::Other)
+        } else {
+            Err(misshapen(alloc))
+        }
+    }
+}
+
+#[tactic(auto, unfolding(crate::specs::Bodies::local_in))]
+fn local(alloc: Global, value: &Value) -> Result<RawPath, Misread>
+    ensures { Gives result (local_in (view value.now)) }
+{
+    let binding = part_of(alloc, value, 1)?;
+    let args: Option<List<Other>> = part_of(alloc, value, 2)?;
+    match args {
+        None => Ok(RawPath::Local(binding)),
+        Some(_) => Ok(RawPath::Other),
+    }
+}
+
+fn is_other_path(tag: (&str, usize)) -> bool
+    ensures { result ≡ is_kind_of other_paths (tag.entry.0.now, tag.entry.1) }
+{
+    is_one_of(
+        tag,
+        &[
+            ("fn", 3),
+            ("const", 3),
+            ("static", 3),
+            ("ctor", 3),
+            ("typed", 4),
+            ("trait", 5),
+            ("implself", 3),
+            ("constparam", 3),
+            ("unresolved", 2),
+        ],
+    )
+}
+
+#[tactic(auto, unfolding(crate::specs::Bodies::path_in))]
+impl FromData for RawPath {
+    ghost reads = { path_in };
+
+    fn from_data(alloc: Global, value: &Value) -> Result<RawPath, Misread> {
+        let tag = tag_of(alloc, value)?;
+        if is(tag, "local", 3) {
+            local(alloc, value)
+        } else if is_other_path(tag) {
+            Ok(RawPath::Other)
+        } else {
+            Err(misshapen(alloc))
+        }
+    }
+}
+
+#[tactic(auto, unfolding(crate::specs::Bodies::let_in))]
+fn let_stmt(alloc: Global, value: &Value) -> Result<RawStmt, Misread>
+    ensures { Gives result (let_in (view value.now)) }
+{
+    let pat = part_of(alloc, value, 1)?;
+    let type_ref = part_of(alloc, value, 2)?;
+    let initializer = part_of(alloc, value, 3)?;
+    let else_branch = part_of(alloc, value, 4)?;
+    Ok(RawStmt::Let {
+        pat,
+        type_ref,
+        initializer,
+        else_branch,
+    })
+}
+
+#[tactic(auto, unfolding(crate::specs::Bodies::expr_stmt_in))]
+fn expr_stmt(alloc: Global, value: &Value) -> Result<RawStmt, Misread>
+    ensures { Gives result (expr_stmt_in (view value.now)) }
+{
+    let expr = part_of(alloc, value, 1)?;
+    let has_semi = part_of(alloc, value, 2)?;
+    Ok(RawStmt::Expr { expr, has_semi })
+}
+
+#[tactic(auto, unfolding(crate::specs::Bodies::stmt_in))]
+impl FromData for RawStmt {
+    ghost reads = { stmt_in };
+
+    fn from_data(alloc: Global, value: &Value) -> Result<RawStmt, Misread> {
+        let tag = tag_of(alloc, value)?;
+        if is(tag, "let", 5) {
+            let_stmt(alloc, value)
+        } else if is(tag, "expr", 3) {
+            expr_stmt(alloc, value)
+        } else {
+            Err(misshapen(alloc))
+        }
+    }
+}
+
+#[tactic(auto, unfolding(crate::specs::Bodies::block_in))]
+fn block(alloc: Global, value: &Value) -> Result<RawExpr, Misread>
+    ensures { Gives result (block_in (view value.now)) }
+{
+    let label = part_of(alloc, value, 1)?;
+    let statements = part_of(alloc, value, 2)?;
+    let tail = part_of(alloc, value, 3)?;
+    Ok(RawExpr::Block {
+        label,
+        statements,
+        tail,
+    })
+}
+
+fn is_other_expr(tag: (&str, usize)) -> bool
+    ensures { result ≡ is_kind_of other_exprs (tag.entry.0.now, tag.entry.1) }
+{
+    is_one_of(
+        tag,
+        &[
+            ("missing", 0),
+            ("_", 0),
+            ("offset", 0),
+            ("unsafe", 3),
+            ("const", 2),
+            ("if", 4),
+            ("let", 3),
+            ("loop", 3),
+            ("match", 3),
+            ("call", 3),
+            ("method", 5),
+            ("field", 3),
+            ("break", 3),
+            ("continue", 2),
+            ("return", 2),
+            ("become", 2),
+            ("record", 4),
+            ("cast", 3),
+            ("ref", 4),
+            ("box", 2),
+            ("un", 3),
+            ("bin", 4),
+            ("assign", 3),
+            ("range", 4),
+            ("index", 3),
+            ("array", 2),
+            ("repeat", 4),
+            ("closure", 4),
+        ],
+    )
+}
+
+#[tactic(auto, unfolding(crate::specs::Bodies::expr_in))]
+impl FromData for RawExpr {
+    ghost reads = { expr_in };
+
+    fn from_data(alloc: Global, value: &Value) -> Result<RawExpr, Misread> {
+        let tag = tag_of(alloc, value)?;
+        if is(tag, "lit", 2) {
+            Ok(RawExpr::Lit(part_of(alloc, value, 1)?))
+        } else if is(tag, "path", 2) {
+            Ok(RawExpr::Path(part_of(alloc, value, 1)?))
+        } else if is(tag, "block", 4) {
+            block(alloc, value)
+        } else if is(tag, "tuple", 2) {
+            Ok(RawExpr::Tuple(part_of(alloc, value, 1)?))
+        } else if is_other_expr(tag) {
+            Ok(RawExpr::Other)
+        } else {
+            Err(misshapen(alloc))
+        }
+    }
+}
+
+#[tactic(auto, unfolding(crate::specs::Bodies::bind_in))]
+fn bind(alloc: Global, value: &Value) -> Result<RawPat, Misread>
+    ensures { Gives result (bind_in (view value.now)) }
+{
+    let id = part_of(alloc, value, 1)?;
+    let subpat = part_of(alloc, value, 2)?;
+    Ok(RawPat::Bind { id, subpat })
+}
+
+fn is_other_pat(tag: (&str, usize)) -> bool
+    ensures { result ≡ is_kind_of other_pats (tag.entry.0.now, tag.entry.1) }
+{
+    is_one_of(
+        tag,
+        &[
+            ("missing", 0),
+            ("tuple", 3),
+            ("ctor", 4),
+            ("record", 3),
+            ("path", 2),
+            ("lit", 2),
+            ("range", 3),
+            ("slice", 4),
+            ("ref", 3),
+            ("or", 2),
+            ("box", 2),
+            ("const", 2),
+            ("expr", 2),
+        ],
+    )
+}
+
+#[tactic(auto, unfolding(crate::specs::Bodies::pat_in))]
+impl FromData for RawPat {
+    ghost reads = { pat_in };
+
+    fn from_data(alloc: Global, value: &Value) -> Result<RawPat, Misread> {
+        let tag = tag_of(alloc, value)?;
+        if is(tag, "wild", 0) {
+            Ok(RawPat::Wild)
+        } else if is(tag, "bind", 3) {
+            bind(alloc, value)
+        } else if is_other_pat(tag) {
+            Ok(RawPat::Other)
+        } else {
+            Err(misshapen(alloc))
+        }
+    }
+}
+
+#[tactic(auto, unfolding(crate::specs::Bodies::binding_in))]
+impl FromData for RawBinding {
+    ghost reads = { binding_in };
+
+    fn from_data(alloc: Global, value: &Value) -> Result<RawBinding, Misread> {
+        expect_parts(alloc, value, 2)?;
+        let name = part_of(alloc, value, 0)?;
+        let mode = part_of(alloc, value, 1)?;
+        Ok(RawBinding { name, mode })
+    }
+}
+
+#[tactic(auto, unfolding(crate::specs::Bodies::body_in))]
+impl FromData for RawBody {
+    ghost reads = { body_in };
+
+    fn from_data(alloc: Global, value: &Value) -> Result<RawBody, Misread> {
+        expect_keys(alloc, value, 9)?;
+        let module = field_of(alloc, value, "module")?;
+        let traits = field_of(alloc, value, "traits")?;
+        let self_ = field_of(alloc, value, "self")?;
+        let params = field_of(alloc, value, "params")?;
+        let root = field_of(alloc, value, "root")?;
+        let exprs = field_of(alloc, value, "exprs")?;
+        let pats = field_of(alloc, value, "pats")?;
+        let bindings = field_of(alloc, value, "bindings")?;
+        let labels = field_of(alloc, value, "labels")?;
+        Ok(RawBody {
+            module,
+            traits,
+            self_,
+            params,
+            root,
+            exprs,
+            pats,
+            bindings,
+            labels,
+        })
+    }
+}

@@ -1,0 +1,112 @@
+//! Why a text is no facts.
+ghost use Rattle.std.specs.Prelude.{◌≡◌};
+ghost use Rattle.infer_tool.specs.declared.text.fault.Misread.TheVariants.{OutOfMemory};
+
+use hir_facts::{FactsList, Law, Text};
+use std::alloc::{AllocError, AllocFailed};
+use std::error::Error;
+use std::fmt;
+
+/// Why nothing was read from a value: it has another shape, at this path, or memory ran out.
+#[derive(Debug, Drop)]
+pub enum Misread {
+    Shape { path: Text },
+    OutOfMemory,
+}
+
+impl From<AllocError> for Misread {
+    ghost from_gives = { λ _ e. e ≡ OutOfMemory };
+
+    fn from(_e: AllocError) -> Misread {
+        Misread::OutOfMemory
+    }
+}
+
+impl<T: Drop> From<AllocFailed<T>> for Misread {
+    ghost from_gives = { λ _ e. e ≡ OutOfMemory };
+
+    fn from(_e: AllocFailed<T>) -> Misread {
+        Misread::OutOfMemory
+    }
+}
+
+/// Why a text stands for no lawful facts.
+#[derive(Debug, Drop)]
+pub enum ReadError {
+    /// It is no JSON, or nests too deep.
+    Json,
+    /// Another shape is wanted at the path: keys and positions from the top, joined by points.
+    Shape {
+        path: Text,
+    },
+    /// A law is broken at an entry of a list, and all before hold.
+    Unlawful {
+        law: Law,
+        list: FactsList,
+        index: usize,
+    },
+    /// There was not enough memory to tell.
+    OutOfMemory,
+}
+
+fn sentence(law: Law) -> &'static str {
+    match law {
+        Law::Carried => "each entry and part is of a kind that is carried",
+        Law::Ids => "ids are in range, and each body is that of one definition",
+        Law::Counts => "a function has as many inputs as its body has parameters",
+        Law::Trees => "the nodes of a body are a tree, and each binding is bound once",
+        Law::Scopes => "a local names a binding that is bound before it",
+        Law::Sizes => "lists are not too long, trees and types not too deep",
+        Law::Limits => "the limits are in their ranges",
+        Law::Literals => "literals fit 128 bits, and characters are scalar values",
+    }
+}
+
+fn key(list: FactsList) -> &'static str {
+    match list {
+        FactsList::Types => "types",
+        FactsList::Modules => "modules",
+        FactsList::Adts => "adts",
+        FactsList::Variants => "variants",
+        FactsList::Fns => "fns",
+        FactsList::Consts => "consts",
+        FactsList::Statics => "statics",
+        FactsList::Traits => "traits",
+        FactsList::Aliases => "aliases",
+        FactsList::Impls => "impls",
+        FactsList::Opaques => "opaques",
+        FactsList::Lang => "lang",
+        FactsList::Bodies => "bodies",
+        FactsList::Limits => "limits",
+    }
+}
+
+impl fmt::Display for ReadError {
+    fn fmt<W: fmt::Write>(&self, f: &mut fmt::Formatter<W>) -> fmt::Result {
+        match self {
+            ReadError::Json => write!(
+                f,
+                "the text is no JSON, or nests more than 127 arrays and objects"
+            ),
+            ReadError::Shape { path } => {
+                if path.as_str().is_empty() {
+                    write!(f, "another shape is wanted at the top of the text")
+                } else {
+                    write!(f, "another shape is wanted at `{path}`")
+                }
+            }
+            ReadError::Unlawful { law, list, index } => {
+                let number = law.number();
+                let law = sentence(*law);
+                let key = key(*list);
+                write!(
+                    f,
+                    "law {number} is broken at entry {index} of `{key}`: {law}"
+                )
+            }
+            ReadError::OutOfMemory => write!(f, "there is not enough memory"),
+        }
+    }
+}
+
+impl Error for ReadError {}
