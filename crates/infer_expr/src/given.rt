@@ -7,6 +7,7 @@ use std::alloc::{AllocError, Global};
 
 /// A body among its facts: what `infer.rs`'s `InferenceContext` reads of its `db`, its `body` and
 /// its `return_ty`.
+#[derive(Clone, Copy)]
 pub struct GivenBody<'a> {
     pub facts: &'a Facts,
     pub body: &'a RawBody,
