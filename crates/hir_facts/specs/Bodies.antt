@@ -1,5 +1,6 @@
 -- The body of a definition, and the laws that a walk of it rests on.
-use Rattle.std.specs.Prelude.{◌≡◌, ◌<◌, ℕ, [], length, slice_get, Option, Some, None, IsSome, IsTrue}
+use Rattle.std.specs.List.{list_all}
+use Rattle.std.specs.Prelude.{◌≡◌, ◌<◌, ℕ, Bool, true, [], length, slice_get, Option, Some, None, IsSome, IsTrue}
 use Rattle.std.specs.Option.{option_and_then}
 use Rattle.hir_facts.specs.declared.ids.BodyId.{BodyId}
 use Rattle.hir_facts.specs.declared.ids.ExprId.{ExprId}
@@ -11,7 +12,7 @@ use Rattle.hir_facts.specs.declared.raw.RawFn.{RawFn}
 use Rattle.hir_facts.specs.declared.raw.RawBody.{RawBody}
 use Rattle.hir_facts.specs.declared.raw.RawFacts.{RawFacts}
 use Rattle.hir_facts.specs.declared.schedule.Schedule.{Schedule}
-use Rattle.hir_facts.specs.declared.ty.Ty.{Ty}
+use Rattle.hir_facts.specs.declared.ty.Ty.{Ty, Ty-F, fold-Ty}
 use Rattle.hir_facts.specs.declared.ty.Ty.TheVariants as ty
 use Rattle.hir_facts.specs.Types.{written_type}
 use Rattle.hir_facts.specs.Order.{IsSchedule, PartsFit, Binds}
@@ -54,3 +55,16 @@ pub record IsWalkable (b : RawBody) (s : Schedule) : Type 0 where
   pub bound : (v : BindingId) → v.0 < length b.bindings → BoundByPattern b v
   pub scopes : AreInScope b s
   pub no_self : b.self_ ≡ None
+
+abbrev fits_step : Ty-F Bool → Bool
+fits_step (Ty-F.Tuple bs) = list_all (λ b. b) bs
+fits_step Ty-F.Bool = true
+fits_step Ty-F.Char = true
+fits_step (Ty-F.Int i) = true
+fits_step (Ty-F.Uint i) = true
+fits_step Ty-F.Error = true
+fits_step (Ty-F.Var n) = true
+
+-- Each id and parameter in the type is in range. The carried types name none, and holes are not the facts' concern.
+abbrev pub fits : RawFacts → DefWithBodyId → Ty → Bool
+fits raw d = fold-Ty Bool fits_step

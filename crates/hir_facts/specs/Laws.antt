@@ -8,4 +8,11 @@ pub mod Scopes
 pub mod Sizes
 pub mod Limits
 pub mod Literals
+pub mod Namers
+pub mod InBody
+pub mod Binders
+pub mod Scheduled
+pub mod InBits
+pub mod Measures
 pub mod Lawful
+pub mod Refused

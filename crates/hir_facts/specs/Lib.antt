@@ -4,3 +4,10 @@ pub mod Erasure
 pub mod Order
 pub mod Laws
 pub mod Bodies
+pub mod Lowered
+pub mod Ways
+pub mod Graph
+pub mod Visits
+pub mod Nodes
+pub mod LawfulFacts
+pub mod Walkable

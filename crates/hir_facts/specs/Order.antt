@@ -137,6 +137,10 @@ position b the_body = length b.exprs + length b.pats
 position b (inner (node.ExprId e)) = e.0
 position b (inner (node.PatId p)) = length b.exprs + p.0
 
+-- how many nodes there are
+abbrev pub node_count : RawBody → ℕ
+node_count b = length b.exprs + length b.pats + 1
+
 abbrev pub start : RawBody → Schedule → Node → ℕ
 start b s n = slice_index s.starts (position b n)
 
@@ -155,6 +159,8 @@ Fits b s from (p ∷ ps) = IsInBody b p.node × (start b s (inner p.node) ≡ fr
 
 -- the numbers are those of the walk: a node, its parts in their order, and then what comes after it
 pub record IsSchedule (b : RawBody) (s : Schedule) : Type 0 where
+  pub starts_size : length s.starts ≡ node_count b
+  pub ends_size : length s.ends ≡ node_count b
   pub first : start b s the_body ≡ 0
   pub fits : (n : Node) → IsNode b n → Fits b s (start b s n + 1) (parts b n)
   pub ends : (n : Node) → IsNode b n → after b s (start b s n + 1) (parts b n) ≡ end b s n
@@ -164,6 +170,7 @@ pub record IsSchedule (b : RawBody) (s : Schedule) : Type 0 where
 
 -- the depths are the numbers of steps from the body
 pub record AreDepths (b : RawBody) (s : Schedule) : Type 0 where
+  pub size : length s.depths ≡ node_count b
   pub top : slice_index s.depths (position b the_body) ≡ 0
   pub below : (n : Node) (k : ℕ) (p : Part) → IsNode b n → part_at b n k ≡ Some p → slice_index s.depths (position b (inner p.node)) ≡ slice_index s.depths (position b n) + 1
 

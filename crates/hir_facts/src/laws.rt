@@ -2,6 +2,19 @@
 ghost use Rattle.std.specs.Prelude.{◌≡◌};
 ghost use Rattle.hir_facts.specs.Laws.Names.{law_number, list_number};
 
+pub mod body_ids;
+pub mod body_sizes;
+pub mod carried;
+pub mod counts;
+pub mod ids;
+pub mod limits;
+pub mod literals;
+pub mod namers;
+pub mod scopes;
+pub mod sizes;
+pub mod test;
+pub mod trees;
+
 /// A law of facts, in the order in which they are tested.
 #[derive(Clone, Copy, Debug, PartialEq, Eq)]
 pub enum Law {

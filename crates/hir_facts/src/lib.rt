@@ -1,14 +1,21 @@
 //! Types, and the facts of a resolved crate: what inference reads.
 #![tactic(auto)]
 
+mod graph;
+mod checks;
+mod facts;
+mod facts_error;
 mod ids;
 mod laws;
 mod list;
+mod parts;
 mod raw;
 mod schedule;
 mod text;
 mod ty;
 
+pub use facts::Facts;
+pub use facts_error::FactsError;
 pub use ids::{
     BindingId, BodyId, ConstId, DefWithBodyId, ExprId, ExprOrPatId, FunctionId, LabelId, ModuleId,
     PatId, StaticId, TraitId, TypeRefId, VariantId,

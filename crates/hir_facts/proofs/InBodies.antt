@@ -1,0 +1,219 @@
+-- The ids of a body exist where those of its nodes do.
+use Rattle.std.proofs.Common.{◌≡◌, ◌<◌, ◌+◌, ℕ, zero, suc, List, [], ◌∷◌, ◌++◌, length, map, Option, Some, None, refl, sym, ◌∙◌, ap, arith, inl, inr}
+use Rattle.std.specs.Prelude.{slice_get, IfSome, option_map}
+use Rattle.std.specs.Option.{option_and_then}
+use Rattle.std.proofs.lemmas.Option.{option_and_then_some, slice_get_within, slice_get-map}
+use Rattle.std.proofs.lemmas.List.{length-map}
+use Rattle.hir_facts.specs.declared.ids.ExprId.{ExprId}
+use Rattle.hir_facts.specs.declared.ids.PatId.{PatId}
+use Rattle.hir_facts.specs.declared.ids.BodyId.{BodyId}
+use Rattle.hir_facts.specs.declared.ids.BindingId.{BindingId}
+use Rattle.hir_facts.specs.declared.ids.TypeRefId.{TypeRefId}
+use Rattle.hir_facts.specs.declared.ids.ExprOrPatId.{ExprOrPatId}
+use Rattle.hir_facts.specs.declared.ids.ExprOrPatId.TheVariants as node
+use Rattle.hir_facts.specs.declared.raw.RawPath.{RawPath}
+use Rattle.hir_facts.specs.declared.raw.RawPath.TheVariants as path
+use Rattle.hir_facts.specs.declared.raw.RawStmt.{RawStmt}
+use Rattle.hir_facts.specs.declared.raw.RawStmt.TheVariants as stmt
+use Rattle.hir_facts.specs.declared.raw.RawExpr.{RawExpr}
+use Rattle.hir_facts.specs.declared.raw.RawExpr.TheVariants as expr
+use Rattle.hir_facts.specs.declared.raw.RawPat.{RawPat}
+use Rattle.hir_facts.specs.declared.raw.RawFn.{RawFn}
+use Rattle.hir_facts.specs.declared.raw.RawBody.{RawBody}
+use Rattle.hir_facts.specs.declared.raw.RawFacts.{RawFacts}
+use Rattle.hir_facts.specs.declared.laws.namers.Namers.{Namers}
+use Rattle.hir_facts.specs.declared.laws.namers.Namers.TheVariants.{Nobody, One, Several}
+use Rattle.hir_facts.specs.Order.{Role, Part, parameter, root, element, tail, initializer, let_pattern, let_else, expr_part, pat_part, maybe_part, stmt_parts, stmts_parts, element_parts, expr_parts, body_parts, Node, the_body, inner, IsNode, IsInBody, PartsFit, part_at, parts_of_expr, parts_of_pat, parts, stmts_of, stmt_at, binding_of, Binds}
+use Rattle.hir_facts.specs.Laws.Entries.{AllHold}
+use Rattle.hir_facts.specs.Laws.Namers.{IsNamedAt, IsNamedBy, IsOne}
+use Rattle.hir_facts.specs.Laws.InBody.{MaybeExprExists, MaybeTypeExists, MaybeBindingExists, StmtIdsExist, StmtsIdsExist, ElementsExist, PathExists, ExprIdsExist, ExprsIdsExist, PatsIdsExist, ParamsExist, BodyIdsHere, owned_body}
+use Rattle.hir_facts.specs.Laws.Ids.{FnIdsExist, HasBodyAt, HasOneOwner, BodyIdsExist}
+
+-- these parts are nodes of the body
+record AllIn (b : RawBody) (ps : List Part) : Type 0 where
+  each : (k : ℕ) (p : Part) → slice_get ps k ≡ Some p → IsInBody b p.node
+
+in_nil : (b : RawBody) → AllIn b []
+in_nil b = record { each = λ k p found. cc }
+
+in_cons : (b : RawBody) (p : Part) (ps : List Part) → IsInBody b p.node → AllIn b ps → AllIn b (p ∷ ps)
+in_cons b p ps here rest = record { each = λ k q found. go k q found } where
+  go : (k : ℕ) (q : Part) → slice_get (p ∷ ps) k ≡ Some q → IsInBody b q.node
+  go zero q found = let e : p ≡ q = cc in rw (← e) here
+  go (suc k) q found = rest.each k q found
+
+in_head : (b : RawBody) (p : Part) (ps : List Part) → AllIn b (p ∷ ps) → IsInBody b p.node
+in_head b p ps all = all.each zero p refl
+
+in_tail : (b : RawBody) (p : Part) (ps : List Part) → AllIn b (p ∷ ps) → AllIn b ps
+in_tail b p ps all = record { each = λ k q found. all.each (suc k) q found }
+
+in_append : (b : RawBody) (ps qs : List Part) → AllIn b ps → AllIn b qs → AllIn b (ps ++ qs)
+in_append b [] qs left right = right
+in_append b (p ∷ ps) qs left right = in_cons b p (ps ++ qs) (in_head b p ps left) (in_append b ps qs (in_tail b p ps left) right)
+
+in_left : (b : RawBody) (ps qs : List Part) → AllIn b (ps ++ qs) → AllIn b ps
+in_left b [] qs all = in_nil b
+in_left b (p ∷ ps) qs all = in_cons b p ps (in_head b p (ps ++ qs) all) (in_left b ps qs (in_tail b p (ps ++ qs) all))
+
+in_right : (b : RawBody) (ps qs : List Part) → AllIn b (ps ++ qs) → AllIn b qs
+in_right b [] qs all = all
+in_right b (p ∷ ps) qs all = in_right b ps qs (in_tail b p (ps ++ qs) all)
+
+maybe_in : (b : RawBody) (role : Role) (e : Option ExprId) → MaybeExprExists b e → AllIn b (maybe_part role e)
+maybe_in b role None h = in_nil b
+maybe_in b role (Some e) h = in_cons b (expr_part role e) [] h (in_nil b)
+
+maybe_out : (b : RawBody) (role : Role) (e : Option ExprId) → AllIn b (maybe_part role e) → MaybeExprExists b e
+maybe_out b role None all = tt
+maybe_out b role (Some e) all = in_head b (expr_part role e) [] all
+
+stmt_in : (raw : RawFacts) (b : RawBody) (s : RawStmt) → StmtIdsExist raw b s → AllIn b (stmt_parts s)
+stmt_in raw b (stmt.Let p written init other) h =
+    in_append b (maybe_part (initializer written) init) (pat_part (let_pattern written init) p ∷ maybe_part let_else other) (maybe_in b (initializer written) init h.2)
+    (in_cons b (pat_part (let_pattern written init) p) (maybe_part let_else other) h.0 (maybe_in b let_else other h.3))
+stmt_in raw b (stmt.Expr e semicolon) h = in_cons b _ [] h (in_nil b)
+
+abbrev written_of : RawStmt → Option TypeRefId
+written_of (stmt.Let p written init other) = written
+written_of (stmt.Expr e semicolon) = None
+
+stmt_out : (raw : RawFacts) (b : RawBody) (s : RawStmt) → MaybeTypeExists raw (written_of s) → AllIn b (stmt_parts s) → StmtIdsExist raw b s
+stmt_out raw b (stmt.Let p written init other) t all =
+    let rest : AllIn b (pat_part (let_pattern written init) p ∷ maybe_part let_else other) = in_right b (maybe_part (initializer written) init) (pat_part (let_pattern written init) p ∷ maybe_part let_else other) all in
+    (
+      in_head b (pat_part (let_pattern written init) p) (maybe_part let_else other) rest,
+      t,
+      maybe_out b (initializer written) init (in_left b (maybe_part (initializer written) init) (pat_part (let_pattern written init) p ∷ maybe_part let_else other) all),
+      maybe_out b let_else other (in_tail b (pat_part (let_pattern written init) p) (maybe_part let_else other) rest),
+    )
+stmt_out raw b (stmt.Expr e semicolon) t all = in_head b _ [] all
+
+stmts_in : (raw : RawFacts) (b : RawBody) (ss : List RawStmt) → StmtsIdsExist raw b ss → AllIn b (stmts_parts ss)
+stmts_in raw b [] h = in_nil b
+stmts_in raw b (s ∷ ss) h = in_append b (stmt_parts s) (stmts_parts ss) (stmt_in raw b s (h zero s refl)) (stmts_in raw b ss (λ k t found. h (suc k) t found))
+
+stmts_out : (raw : RawFacts) (b : RawBody) (ss : List RawStmt) → ((k : ℕ) (s : RawStmt) → slice_get ss k ≡ Some s → MaybeTypeExists raw (written_of s)) → AllIn b (stmts_parts ss) → StmtsIdsExist raw b ss
+stmts_out raw b [] t all k r found = cc
+stmts_out raw b (s ∷ ss) t all zero r found = let e : s ≡ r = cc in rw (← e) (stmt_out raw b s (t zero s refl) (in_left b (stmt_parts s) (stmts_parts ss) all))
+stmts_out raw b (s ∷ ss) t all (suc k) r found = stmts_out raw b ss (λ j q f. t (suc j) q f) (in_right b (stmt_parts s) (stmts_parts ss) all) k r found
+
+elements_in : (b : RawBody) (i : ℕ) (es : List ExprId) → ElementsExist b es → AllIn b (element_parts i es)
+elements_in b i [] h = in_nil b
+elements_in b i (e ∷ es) h = in_cons b (expr_part (element i) e) (element_parts (suc i) es) (h zero e refl) (elements_in b (suc i) es (λ k t found. h (suc k) t found))
+
+elements_out : (b : RawBody) (i : ℕ) (es : List ExprId) → AllIn b (element_parts i es) → ElementsExist b es
+elements_out b i [] all k r found = cc
+elements_out b i (e ∷ es) all zero r found = let q : e ≡ r = cc in rw (← q) (in_head b (expr_part (element i) e) (element_parts (suc i) es) all)
+elements_out b i (e ∷ es) all (suc k) r found = elements_out b (suc i) es (in_tail b (expr_part (element i) e) (element_parts (suc i) es) all) k r found
+
+params_in : (b : RawBody) (ps : List PatId) → ((k : ℕ) (p : PatId) → slice_get ps k ≡ Some p → p.0 < length b.pats) → AllIn b (map (pat_part parameter) ps)
+params_in b [] h = in_nil b
+params_in b (p ∷ ps) h = in_cons b (pat_part parameter p) (map (pat_part parameter) ps) (h zero p refl) (params_in b ps (λ k t found. h (suc k) t found))
+
+params_out : (b : RawBody) (ps : List PatId) → AllIn b (map (pat_part parameter) ps) → (k : ℕ) (p : PatId) → slice_get ps k ≡ Some p → p.0 < length b.pats
+params_out b [] all k p found = cc
+params_out b (q ∷ ps) all zero p found = let e : q ≡ p = cc in rw (← e) (in_head b (pat_part parameter q) (map (pat_part parameter) ps) all)
+params_out b (q ∷ ps) all (suc k) p found = params_out b ps (in_tail b (pat_part parameter q) (map (pat_part parameter) ps) all) k p found
+
+expr_in : (raw : RawFacts) (b : RawBody) (x : RawExpr) → ExprIdsExist raw b x → AllIn b (expr_parts x)
+expr_in raw b (expr.Lit l) h = in_nil b
+expr_in raw b (expr.Path p) h = in_nil b
+expr_in raw b (expr.Block label stmts last) h = in_append b (stmts_parts stmts) (maybe_part tail last) (stmts_in raw b stmts h.0) (maybe_in b tail last h.1)
+expr_in raw b (expr.Tuple es) h = elements_in b 0 es h
+expr_in raw b expr.Other h = in_nil b
+
+-- the local and the written types of an expression exist
+record Rest (raw : RawFacts) (b : RawBody) (x : RawExpr) : Type 0 where
+  local_ : (p : RawPath) → x ≡ expr.Path p → PathExists b p
+  written : (k : ℕ) (s : RawStmt) → slice_get (stmts_of (Some x)) k ≡ Some s → MaybeTypeExists raw (written_of s)
+
+expr_out : (raw : RawFacts) (b : RawBody) (x : RawExpr) → Rest raw b x → AllIn b (expr_parts x) → ExprIdsExist raw b x
+expr_out raw b (expr.Lit l) rest all = tt
+expr_out raw b (expr.Path p) rest all = rest.local_ p refl
+expr_out raw b (expr.Block label stmts last) rest all = (stmts_out raw b stmts rest.written (in_left b (stmts_parts stmts) (maybe_part tail last) all), maybe_out b tail last (in_right b (stmts_parts stmts) (maybe_part tail last) all))
+expr_out raw b (expr.Tuple es) rest all = elements_out b 0 es all
+expr_out raw b expr.Other rest all = tt
+
+-- ---- a body
+
+of_expr_in : (raw : RawFacts) (b : RawBody) (o : Option RawExpr) → ((x : RawExpr) → o ≡ Some x → ExprIdsExist raw b x) → AllIn b (parts_of_expr o)
+of_expr_in raw b None h = in_nil b
+of_expr_in raw b (Some x) h = expr_in raw b x (h x refl)
+
+of_pat_in : (b : RawBody) (o : Option RawPat) → AllIn b (parts_of_pat o)
+of_pat_in b None = in_nil b
+of_pat_in b (Some p) = in_nil b
+
+node_in : (raw : RawFacts) (b : RawBody) → BodyIdsHere raw b → (n : Node) → AllIn b (parts b n)
+node_in raw b h the_body = in_append b (map (pat_part parameter) b.params) (expr_part root b.root ∷ []) (params_in b b.params h.params) (in_cons b (expr_part root b.root) [] h.root (in_nil b))
+node_in raw b h (inner (node.ExprId e)) = of_expr_in raw b (slice_get b.exprs e.0) (λ x found. h.exprs e.0 x found)
+node_in raw b h (inner (node.PatId p)) = of_pat_in b (slice_get b.pats p.0)
+
+maybe_if : (b : RawBody) (v : Option BindingId) → MaybeBindingExists b v → IfSome v (λ v. v.0 < length b.bindings)
+maybe_if b None h = tt
+maybe_if b (Some v) h = h
+
+if_maybe : (b : RawBody) (v : Option BindingId) → IfSome v (λ v. v.0 < length b.bindings) → MaybeBindingExists b v
+if_maybe b None h = tt
+if_maybe b (Some v) h = h
+
+written_at : (raw : RawFacts) (b : RawBody) (o : Option RawExpr) → ((x : RawExpr) → o ≡ Some x → ExprIdsExist raw b x) → (i : ℕ) (p : PatId) (t : TypeRefId) (init other : Option ExprId) → slice_get (stmts_of o) i ≡ Some (stmt.Let p (Some t) init other) → t.0 < length raw.types
+written_at raw b None h i p t init other found = cc
+written_at raw b (Some (expr.Lit l)) h i p t init other found = cc
+written_at raw b (Some (expr.Path q)) h i p t init other found = cc
+written_at raw b (Some (expr.Block label stmts last)) h i p t init other found = let s : StmtIdsExist raw b (stmt.Let p (Some t) init other) = (h (expr.Block label stmts last) refl).0 i (stmt.Let p (Some t) init other) found in s.1
+written_at raw b (Some (expr.Tuple es)) h i p t init other found = cc
+written_at raw b (Some expr.Other) h i p t init other found = cc
+
+pub exists_from_here : (raw : RawFacts) (i : ℕ) (b : RawBody) → BodyIdsHere raw b → HasOneOwner raw i → BodyIdsExist raw i b
+exists_from_here raw i b h one = record {
+  module_ = h.module_;
+  traits = h.traits;
+  self_ = maybe_if b b.self_ h.self_;
+  parts = λ n k p inside found. (node_in raw b h n).each k p found;
+  locals = λ e v found. h.exprs e.0 (expr.Path (path.Local v)) found;
+  binders = λ p v binds. option_and_then_some binding_of (slice_get b.pats p.0) v binds (λ x found is. (let m : MaybeBindingExists b (binding_of x) = h.pats p.0 x found in rw is at m));
+  written = λ e k p t init other found. written_at raw b (slice_get b.exprs e.0) (λ x here. h.exprs e.0 x here) k p t init other found;
+  owner = one;
+}
+
+maybe_written : (raw : RawFacts) (b : RawBody) (s : RawStmt) → ((p : PatId) (t : TypeRefId) (init other : Option ExprId) → s ≡ stmt.Let p (Some t) init other → t.0 < length raw.types) → MaybeTypeExists raw (written_of s)
+maybe_written raw b (stmt.Let p None init other) h = tt
+maybe_written raw b (stmt.Let p (Some t) init other) h = h p t init other refl
+maybe_written raw b (stmt.Expr e semicolon) h = tt
+
+local_here : (raw : RawFacts) (i : ℕ) (b : RawBody) → BodyIdsExist raw i b → (e : ExprId) (p : RawPath) → slice_get b.exprs e.0 ≡ Some (expr.Path p) → PathExists b p
+local_here raw i b h e (path.Local v) found = h.locals e v found
+local_here raw i b h e path.Other found = tt
+
+binding_here : (raw : RawFacts) (i : ℕ) (b : RawBody) → BodyIdsExist raw i b → (p : PatId) (x : RawPat) (v : Option BindingId) → slice_get b.pats p.0 ≡ Some x → binding_of x ≡ v → MaybeBindingExists b v
+binding_here raw i b h p x None found is = tt
+binding_here raw i b h p x (Some v) found is = h.binders p v (ap (λ (o : Option RawPat). option_and_then binding_of o) found ∙ is)
+
+rest_here : (raw : RawFacts) (i : ℕ) (b : RawBody) → BodyIdsExist raw i b → (e : ExprId) (x : RawExpr) → slice_get b.exprs e.0 ≡ Some x → Rest raw b x
+rest_here raw i b h e x found = record {
+  local_ = λ p is. local_here raw i b h e p (found ∙ ap (λ (y : RawExpr). Some y) is);
+  written = λ k s here. maybe_written raw b s (λ p t init other is. h.written e k p t init other (ap (λ (o : Option RawExpr). slice_get (stmts_of o) k) found ∙ (here ∙ ap (λ (y : RawStmt). Some y) is)));
+}
+
+all_in_here : (raw : RawFacts) (i : ℕ) (b : RawBody) → BodyIdsExist raw i b → (n : Node) → IsNode b n → AllIn b (parts b n)
+all_in_here raw i b h n inside = record { each = λ k p found. h.parts n k p inside found }
+
+expr_here : (raw : RawFacts) (i : ℕ) (b : RawBody) → BodyIdsExist raw i b → (e : ExprId) (x : RawExpr) → slice_get b.exprs e.0 ≡ Some x → ExprIdsExist raw b x
+expr_here raw i b h e x found =
+    let all : AllIn b (parts_of_expr (slice_get b.exprs e.0)) = all_in_here raw i b h (inner (node.ExprId e)) (slice_get_within b.exprs e.0 x found) in
+    expr_out raw b x (rest_here raw i b h e x found) (rw found at all)
+
+pub here_from_exists : (raw : RawFacts) (i : ℕ) (b : RawBody) → BodyIdsExist raw i b → BodyIdsHere raw b
+here_from_exists raw i b h =
+    let all : AllIn b (body_parts b) = all_in_here raw i b h the_body tt in
+    record {
+      module_ = h.module_;
+      traits = h.traits;
+      self_ = if_maybe b b.self_ h.self_;
+      params = params_out b b.params (in_left b (map (pat_part parameter) b.params) (expr_part root b.root ∷ []) all);
+      root = in_head b (expr_part root b.root) [] (in_right b (map (pat_part parameter) b.params) (expr_part root b.root ∷ []) all);
+      exprs = λ e x found. expr_here raw i b h (record { 0 = e }) x found;
+      pats = λ k p found. binding_here raw i b h (record { 0 = k }) p (binding_of p) found refl;
+    }

@@ -1,0 +1,61 @@
+-- What each law says of lawful facts.
+use Rattle.std.specs.Prelude.{◌≡◌, IsTrue}
+use Rattle.hir_facts.specs.declared.raw.RawFacts.{RawFacts}
+use Rattle.hir_facts.specs.Laws.Entries.{AllHold}
+use Rattle.hir_facts.specs.Laws.Carried.{is_carried_type, is_carried_fn, is_carried_body}
+use Rattle.hir_facts.specs.Laws.Ids.{ChildrenBefore, ParentBefore, FnIdsExist, BodyIdsExist}
+use Rattle.hir_facts.specs.Laws.Counts.{CountsFit}
+use Rattle.hir_facts.specs.Laws.Trees.{IsWellFormed}
+use Rattle.hir_facts.specs.Laws.Scopes.{ScopesHold}
+use Rattle.hir_facts.specs.Laws.Sizes.{IsEarly, TypeIsSmall, BodyIsSmall}
+use Rattle.hir_facts.specs.Laws.Limits.{limits_of, IsInRange}
+use Rattle.hir_facts.specs.Laws.Literals.{LiteralsFit}
+use Rattle.hir_facts.specs.Laws.Lawful.{IsLawful}
+
+pub types_carried : (raw : RawFacts) → IsLawful raw → AllHold (λ i t. IsTrue (is_carried_type t)) raw.types
+types_carried raw law = law.all.0
+
+pub fns_carried : (raw : RawFacts) → IsLawful raw → AllHold (λ i f. IsTrue (is_carried_fn f)) raw.fns
+fns_carried raw law = law.all.1.1.1.0
+
+pub bodies_carried : (raw : RawFacts) → IsLawful raw → AllHold (λ i b. IsTrue (is_carried_body b)) raw.bodies
+bodies_carried raw law = law.all.1.1.1.1.1.1.1.1.1.1.1.0
+
+pub type_ids : (raw : RawFacts) → IsLawful raw → AllHold ChildrenBefore raw.types
+type_ids raw law = law.all.1.1.1.1.1.1.1.1.1.1.1.1.0
+
+pub module_ids : (raw : RawFacts) → IsLawful raw → AllHold ParentBefore raw.modules
+module_ids raw law = law.all.1.1.1.1.1.1.1.1.1.1.1.1.1.0
+
+pub fn_ids : (raw : RawFacts) → IsLawful raw → AllHold (λ i f. FnIdsExist raw f) raw.fns
+fn_ids raw law = law.all.1.1.1.1.1.1.1.1.1.1.1.1.1.1.0
+
+pub body_ids : (raw : RawFacts) → IsLawful raw → AllHold (BodyIdsExist raw) raw.bodies
+body_ids raw law = law.all.1.1.1.1.1.1.1.1.1.1.1.1.1.1.1.0
+
+pub counts_fit : (raw : RawFacts) → IsLawful raw → AllHold (λ i f. CountsFit raw f) raw.fns
+counts_fit raw law = law.all.1.1.1.1.1.1.1.1.1.1.1.1.1.1.1.1.0
+
+pub bodies_well_formed : (raw : RawFacts) → IsLawful raw → AllHold (λ i b. IsWellFormed b) raw.bodies
+bodies_well_formed raw law = law.all.1.1.1.1.1.1.1.1.1.1.1.1.1.1.1.1.1.0
+
+pub scopes_hold : (raw : RawFacts) → IsLawful raw → AllHold (λ i b. ScopesHold b) raw.bodies
+scopes_hold raw law = law.all.1.1.1.1.1.1.1.1.1.1.1.1.1.1.1.1.1.1.0
+
+pub types_small : (raw : RawFacts) → IsLawful raw → AllHold (TypeIsSmall raw) raw.types
+types_small raw law = law.all.1.1.1.1.1.1.1.1.1.1.1.1.1.1.1.1.1.1.1.0
+
+pub modules_early : (raw : RawFacts) → IsLawful raw → AllHold (λ i m. IsEarly i) raw.modules
+modules_early raw law = law.all.1.1.1.1.1.1.1.1.1.1.1.1.1.1.1.1.1.1.1.1.0
+
+pub fns_early : (raw : RawFacts) → IsLawful raw → AllHold (λ i f. IsEarly i) raw.fns
+fns_early raw law = law.all.1.1.1.1.1.1.1.1.1.1.1.1.1.1.1.1.1.1.1.1.1.0
+
+pub bodies_small : (raw : RawFacts) → IsLawful raw → AllHold BodyIsSmall raw.bodies
+bodies_small raw law = law.all.1.1.1.1.1.1.1.1.1.1.1.1.1.1.1.1.1.1.1.1.1.1.0
+
+pub limits_in_range : (raw : RawFacts) → IsLawful raw → AllHold IsInRange (limits_of raw)
+limits_in_range raw law = law.all.1.1.1.1.1.1.1.1.1.1.1.1.1.1.1.1.1.1.1.1.1.1.1.0
+
+pub literals_fit : (raw : RawFacts) → IsLawful raw → AllHold (λ i b. LiteralsFit b) raw.bodies
+literals_fit raw law = law.all.1.1.1.1.1.1.1.1.1.1.1.1.1.1.1.1.1.1.1.1.1.1.1.1.0

@@ -1,0 +1,86 @@
+-- Ids within a body, node by node.
+use Rattle.std.specs.Prelude.{ℕ, ◌<◌, ◌≡◌, List, length, slice_get, Option, Some, None, option_map, map}
+use Rattle.hir_facts.specs.declared.ids.ExprId.{ExprId}
+use Rattle.hir_facts.specs.declared.ids.PatId.{PatId}
+use Rattle.hir_facts.specs.declared.ids.BindingId.{BindingId}
+use Rattle.hir_facts.specs.declared.ids.TypeRefId.{TypeRefId}
+use Rattle.hir_facts.specs.declared.raw.RawPath.{RawPath}
+use Rattle.hir_facts.specs.declared.raw.RawPath.TheVariants as path
+use Rattle.hir_facts.specs.declared.raw.RawStmt.{RawStmt}
+use Rattle.hir_facts.specs.declared.raw.RawStmt.TheVariants as stmt
+use Rattle.hir_facts.specs.declared.raw.RawExpr.{RawExpr}
+use Rattle.hir_facts.specs.declared.raw.RawExpr.TheVariants as expr
+use Rattle.hir_facts.specs.declared.raw.RawPat.{RawPat}
+use Rattle.hir_facts.specs.declared.ids.TraitId.{TraitId}
+use Rattle.hir_facts.specs.declared.raw.RawFn.{RawFn}
+use Rattle.hir_facts.specs.declared.raw.RawBody.{RawBody}
+use Rattle.hir_facts.specs.declared.raw.RawFacts.{RawFacts}
+use Rattle.hir_facts.specs.declared.laws.namers.Namers.{Namers}
+use Rattle.hir_facts.specs.Order.{binding_of}
+use Rattle.hir_facts.specs.Laws.Namers.{AreNamers}
+
+abbrev pub MaybeExprExists : RawBody → Option ExprId → Type 0
+MaybeExprExists b None = Unit {0}
+MaybeExprExists b (Some e) = e.0 < length b.exprs
+
+abbrev pub MaybeTypeExists : RawFacts → Option TypeRefId → Type 0
+MaybeTypeExists raw None = Unit {0}
+MaybeTypeExists raw (Some t) = t.0 < length raw.types
+
+abbrev pub MaybeBindingExists : RawBody → Option BindingId → Type 0
+MaybeBindingExists b None = Unit {0}
+MaybeBindingExists b (Some v) = v.0 < length b.bindings
+
+-- the parts and the written type of a statement exist
+abbrev pub StmtIdsExist : RawFacts → RawBody → RawStmt → Type 0
+StmtIdsExist raw b (stmt.Let p written init other) = (p.0 < length b.pats) × MaybeTypeExists raw written × MaybeExprExists b init × MaybeExprExists b other
+StmtIdsExist raw b (stmt.Expr e semicolon) = e.0 < length b.exprs
+
+abbrev pub StmtsIdsExist : RawFacts → RawBody → List RawStmt → Type 0
+StmtsIdsExist raw b stmts = (k : ℕ) (s : RawStmt) → slice_get stmts k ≡ Some s → StmtIdsExist raw b s
+
+abbrev pub ElementsExist : RawBody → List ExprId → Type 0
+ElementsExist b es = (k : ℕ) (e : ExprId) → slice_get es k ≡ Some e → e.0 < length b.exprs
+
+abbrev pub PathExists : RawBody → RawPath → Type 0
+PathExists b (path.Local v) = v.0 < length b.bindings
+PathExists b path.Other = Unit {0}
+
+-- the parts, the local and the written types of an expression exist
+abbrev pub ExprIdsExist : RawFacts → RawBody → RawExpr → Type 0
+ExprIdsExist raw b (expr.Lit l) = Unit {0}
+ExprIdsExist raw b (expr.Path p) = PathExists b p
+ExprIdsExist raw b (expr.Block label stmts last) = StmtsIdsExist raw b stmts × MaybeExprExists b last
+ExprIdsExist raw b (expr.Tuple es) = ElementsExist b es
+ExprIdsExist raw b expr.Other = Unit {0}
+
+abbrev pub ExprsIdsExist : RawFacts → RawBody → Type 0
+ExprsIdsExist raw b = (e : ℕ) (x : RawExpr) → slice_get b.exprs e ≡ Some x → ExprIdsExist raw b x
+
+abbrev pub PatsIdsExist : RawBody → Type 0
+PatsIdsExist b = (k : ℕ) (p : RawPat) → slice_get b.pats k ≡ Some p → MaybeBindingExists b (binding_of p)
+
+abbrev pub ParamsExist : RawBody → Type 0
+ParamsExist b = (k : ℕ) (p : PatId) → slice_get b.params k ≡ Some p → p.0 < length b.pats
+
+-- the ids of a body exist
+pub record BodyIdsHere (raw : RawFacts) (b : RawBody) : Type 0 where
+  pub module_ : b.module.0 < length raw.modules
+  pub traits : (k : ℕ) (t : TraitId) → slice_get b.traits k ≡ Some t → t.0 < length raw.traits
+  pub self_ : MaybeBindingExists b b.self_
+  pub params : ParamsExist b
+  pub root : b.root.0 < length b.exprs
+  pub exprs : ExprsIdsExist raw b
+  pub pats : PatsIdsExist b
+
+-- the body of a function, by its number
+abbrev pub owned_body : RawFn → Option ℕ
+owned_body f = option_map (λ b. b.0) f.body
+
+-- which functions each body is that of
+abbrev pub AreOwners : RawFacts → List Namers → Type 0
+AreOwners raw xs = AreNamers (map owned_body raw.fns) (length raw.fns) (length raw.bodies) xs
+
+-- locals name bindings of the body
+abbrev pub LocalsExist : RawBody → Type 0
+LocalsExist b = (e : ℕ) (v : BindingId) → slice_get b.exprs e ≡ Some (expr.Path (path.Local v)) → v.0 < length b.bindings

@@ -1,0 +1,46 @@
+-- What a written type stands for, part by part.
+use Rattle.std.specs.Prelude.{◌≡◌, ◌<◌, ℕ, zero, suc, List, [], ◌∷◌, map, slice_get, Option, Some, None, refl}
+use Rattle.std.proofs.Common.{sym, ◌∙◌, ap, arith}
+use Rattle.std.proofs.lemmas.Option.{slice_get_within}
+use Rattle.hir_facts.specs.declared.ids.TypeRefId.{TypeRefId}
+use Rattle.hir_facts.specs.declared.raw.RawType.{RawType}
+use Rattle.hir_facts.specs.declared.raw.RawType.TheVariants as type
+use Rattle.hir_facts.specs.declared.ty.Ty.{Ty}
+use Rattle.hir_facts.specs.declared.ty.Ty.TheVariants as ty
+use Rattle.hir_facts.specs.Types.{lowered_by, lowered_within, lowered, written_type}
+use Rattle.hir_facts.specs.Laws.Entries.{AllHold}
+use Rattle.hir_facts.specs.Laws.Ids.{ChildrenBefore}
+
+tys_same : (f g : ℕ → Ty) (ts : List TypeRefId) → ((k : ℕ) (t : TypeRefId) → slice_get ts k ≡ Some t → f t.0 ≡ g t.0) → map (λ t. f t.0) ts ≡ map (λ t. g t.0) ts
+tys_same f g [] same = refl
+tys_same f g (t ∷ ts) same = let here : f t.0 ≡ g t.0 = same zero t refl in let rest : map (λ t. f t.0) ts ≡ map (λ t. g t.0) ts = tys_same f g ts (λ k u found. same (suc k) u found) in λ i. here i ∷ rest i
+
+-- two ways to read the parts that agree on them
+pub lowered_by_same : (f g : ℕ → Ty) (n : ℕ) (x : RawType) → ChildrenBefore n x → ((j : ℕ) → j < n → f j ≡ g j) → lowered_by f (Some x) ≡ lowered_by g (Some x)
+lowered_by_same f g n type.Bool before same = refl
+lowered_by_same f g n type.Char before same = refl
+lowered_by_same f g n (type.Integer i) before same = refl
+lowered_by_same f g n (type.Tuple ts) before same = ap ty.Tuple (tys_same f g ts (λ k t found. same t.0 (before k t found)))
+lowered_by_same f g n type.Other before same = refl
+
+of_same : (f g : ℕ → Ty) (i : ℕ) (o : Option RawType) → ((x : RawType) → o ≡ Some x → ChildrenBefore i x) → ((j : ℕ) → j < i → f j ≡ g j) → lowered_by f o ≡ lowered_by g o
+of_same f g i None before same = refl
+of_same f g i (Some x) before same = lowered_by_same f g i x (before x refl) same
+
+-- how far a type is followed does not matter, as long as it is far enough
+pub lowered_far : (types : List RawType) → AllHold ChildrenBefore types → (n m i : ℕ) → i < n → i < m → lowered_within n types i ≡ lowered_within m types i
+unfolding lowered_within
+lowered_far types all zero m i a b = absurd (omega arith)
+lowered_far types all (suc n) zero i a b = absurd (omega arith)
+lowered_far types all (suc n) (suc m) i a b =
+    of_same (lowered_within n types) (lowered_within m types) i (slice_get types i) (λ x found. all i x found) (λ j lt. lowered_far types all n m j (omega arith) (omega arith))
+
+lowered_within_step : (types : List RawType) (n i : ℕ) → lowered_within (suc n) types i ≡ lowered_by (lowered_within n types) (slice_get types i)
+unfolding lowered_within
+lowered_within_step types n i = refl
+
+-- a type stands for what its parts make
+pub lowered_parts : (types : List RawType) → AllHold ChildrenBefore types → (i : ℕ) (x : RawType) → slice_get types i ≡ Some x → lowered types i ≡ lowered_by (lowered types) (Some x)
+lowered_parts types all i x found =
+    lowered_within_step types i i ∙ (ap (lowered_by (lowered_within i types)) found
+    ∙ lowered_by_same (lowered_within i types) (lowered types) i x (all i x found) (λ j lt. lowered_far types all i (suc j) j lt (omega arith)))

@@ -1,0 +1,150 @@
+//! The tests of the laws, in their order.
+ghost use Rattle.std.specs.Prelude.{◌≡◌, ◌∷◌, [], IfOk, IfErr, MatchOption, Ok, Err};
+ghost use Rattle.hir_facts.specs.Laws.Entries.{AllHold};
+ghost use Rattle.hir_facts.specs.Laws.Ids.{ChildrenBefore, BodyIdsExist};
+ghost use Rattle.hir_facts.specs.Laws.Trees.{IsWellFormed};
+ghost use Rattle.hir_facts.specs.Laws.Scheduled.{AreSchedules};
+ghost use Rattle.hir_facts.specs.Laws.Lawful.{IsLawful, PassesAll, carried_tests, ids_tests, counts_tests, trees_tests, scopes_tests, sizes_tests, limits_tests, literals_tests, tests};
+ghost use Rattle.hir_facts.specs.Laws.Refused.{Refuses};
+
+use crate::facts_error::FactsError;
+use crate::laws::body_ids::BodyIds;
+use crate::laws::body_sizes::BodySizes;
+use crate::laws::carried::{BodiesCarried, FnsCarried, TypesCarried, first_other};
+use crate::laws::counts::Counts;
+use crate::laws::ids::{FnIds, ModuleIds, TypeIds};
+use crate::laws::limits::LimitsInRange;
+use crate::laws::literals::LiteralsInBits;
+use crate::laws::scopes::{Scopes, schedules_of};
+use crate::laws::sizes::{FnsEarly, ModulesEarly, TypeSizes};
+use crate::laws::test::first_broken;
+use crate::laws::trees::Trees;
+use crate::laws::{FactsList, Law};
+use crate::list::List;
+use crate::raw::RawFacts;
+use crate::schedule::Schedule;
+use std::alloc::Global;
+
+fn allow(law: Law, list: FactsList, found: Option<usize>) -> Result<(), FactsError>
+    ensures { MatchOption found (result ≡ Ok tt) (λ i. result ≡ Err (FactsError.Law law list i)) }
+{
+    match found {
+        None => Ok(()),
+        Some(index) => Err(FactsError::Law { law, list, index }),
+    }
+}
+
+fn check_carried(alloc: Global, raw: &RawFacts) -> Result<(), FactsError>
+    ensures ok { IfOk result (λ _. PassesAll raw.now carried_tests) }
+    ensures err { IfErr result (λ e. Refuses raw.now carried_tests e) }
+{
+    allow(Law::Carried, FactsList::Types, first_broken(alloc, &TypesCarried, raw, raw.types.as_slice())?)?;
+    allow(Law::Carried, FactsList::Adts, first_other(raw.adts.as_slice()))?;
+    allow(Law::Carried, FactsList::Variants, first_other(raw.variants.as_slice()))?;
+    allow(Law::Carried, FactsList::Fns, first_broken(alloc, &FnsCarried, raw, raw.fns.as_slice())?)?;
+    allow(Law::Carried, FactsList::Consts, first_other(raw.consts.as_slice()))?;
+    allow(Law::Carried, FactsList::Statics, first_other(raw.statics.as_slice()))?;
+    allow(Law::Carried, FactsList::Traits, first_other(raw.traits.as_slice()))?;
+    allow(Law::Carried, FactsList::Aliases, first_other(raw.aliases.as_slice()))?;
+    allow(Law::Carried, FactsList::Impls, first_other(raw.impls.as_slice()))?;
+    allow(Law::Carried, FactsList::Opaques, first_other(raw.opaques.as_slice()))?;
+    allow(Law::Carried, FactsList::Lang, first_other(raw.lang.as_slice()))?;
+    allow(Law::Carried, FactsList::Bodies, first_broken(alloc, &BodiesCarried, raw, raw.bodies.as_slice())?)?;
+    Ok(())
+}
+
+fn check_ids(alloc: Global, raw: &RawFacts) -> Result<(), FactsError>
+    ensures ok { IfOk result (λ _. PassesAll raw.now ids_tests) }
+    ensures err { IfErr result (λ e. Refuses raw.now ids_tests e) }
+{
+    allow(Law::Ids, FactsList::Types, first_broken(alloc, &TypeIds, raw, raw.types.as_slice())?)?;
+    allow(Law::Ids, FactsList::Modules, first_broken(alloc, &ModuleIds, raw, raw.modules.as_slice())?)?;
+    allow(Law::Ids, FactsList::Fns, first_broken(alloc, &FnIds, raw, raw.fns.as_slice())?)?;
+    let body_ids = BodyIds::new(alloc, raw)?;
+    allow(Law::Ids, FactsList::Bodies, first_broken(alloc, &body_ids, raw, raw.bodies.as_slice())?)?;
+    Ok(())
+}
+
+fn check_counts(alloc: Global, raw: &RawFacts) -> Result<(), FactsError>
+    ensures ok { IfOk result (λ _. PassesAll raw.now counts_tests) }
+    ensures err { IfErr result (λ e. Refuses raw.now counts_tests e) }
+{
+    allow(Law::Counts, FactsList::Fns, first_broken(alloc, &Counts, raw, raw.fns.as_slice())?)?;
+    Ok(())
+}
+
+fn check_trees(alloc: Global, raw: &RawFacts) -> Result<(), FactsError>
+    requires { AllHold (BodyIdsExist raw.now) raw.now.bodies }
+    ensures ok { IfOk result (λ _. PassesAll raw.now trees_tests) }
+    ensures err { IfErr result (λ e. Refuses raw.now trees_tests e) }
+{
+    allow(Law::Trees, FactsList::Bodies, first_broken(alloc, &Trees, raw, raw.bodies.as_slice())?)?;
+    Ok(())
+}
+
+fn check_scopes(alloc: Global, raw: &RawFacts, schedules: &List<Schedule>) -> Result<(), FactsError>
+    requires ids { AllHold (BodyIdsExist raw.now) raw.now.bodies }
+    requires trees { AllHold (λ i b. IsWellFormed b) raw.now.bodies }
+    requires schedules { AreSchedules raw.now.bodies schedules.now }
+    ensures ok { IfOk result (λ _. PassesAll raw.now scopes_tests) }
+    ensures err { IfErr result (λ e. Refuses raw.now scopes_tests e) }
+{
+    let scopes = Scopes { schedules };
+    allow(Law::Scopes, FactsList::Bodies, first_broken(alloc, &scopes, raw, raw.bodies.as_slice())?)?;
+    Ok(())
+}
+
+fn check_sizes(alloc: Global, raw: &RawFacts, schedules: &List<Schedule>) -> Result<(), FactsError>
+    requires types { AllHold ChildrenBefore raw.now.types }
+    requires schedules { AreSchedules raw.now.bodies schedules.now }
+    ensures ok { IfOk result (λ _. PassesAll raw.now sizes_tests) }
+    ensures err { IfErr result (λ e. Refuses raw.now sizes_tests e) }
+{
+    let type_sizes = TypeSizes::new(alloc, raw)?;
+    allow(Law::Sizes, FactsList::Types, first_broken(alloc, &type_sizes, raw, raw.types.as_slice())?)?;
+    allow(Law::Sizes, FactsList::Modules, first_broken(alloc, &ModulesEarly, raw, raw.modules.as_slice())?)?;
+    allow(Law::Sizes, FactsList::Fns, first_broken(alloc, &FnsEarly, raw, raw.fns.as_slice())?)?;
+    let body_sizes = BodySizes { schedules };
+    allow(Law::Sizes, FactsList::Bodies, first_broken(alloc, &body_sizes, raw, raw.bodies.as_slice())?)?;
+    Ok(())
+}
+
+fn check_limits(alloc: Global, raw: &RawFacts) -> Result<(), FactsError>
+    ensures ok { IfOk result (λ _. PassesAll raw.now limits_tests) }
+    ensures err { IfErr result (λ e. Refuses raw.now limits_tests e) }
+{
+    let limits = [
+        raw.limits.goal_depth,
+        raw.limits.goal_steps,
+        raw.limits.autoderef,
+        raw.limits.tail,
+    ];
+    allow(Law::Limits, FactsList::Limits, first_broken(alloc, &LimitsInRange, raw, &limits)?)?;
+    Ok(())
+}
+
+fn check_literals(alloc: Global, raw: &RawFacts) -> Result<(), FactsError>
+    ensures ok { IfOk result (λ _. PassesAll raw.now literals_tests) }
+    ensures err { IfErr result (λ e. Refuses raw.now literals_tests e) }
+{
+    allow(Law::Literals, FactsList::Bodies, first_broken(alloc, &LiteralsInBits, raw, raw.bodies.as_slice())?)?;
+    Ok(())
+}
+
+/// Finds the first law that is broken, or the numbers of the bodies.
+pub fn check(alloc: Global, raw: &RawFacts) -> Result<List<Schedule>, FactsError>
+    ensures lawful { IfOk result (λ _. IsLawful raw.now) }
+    ensures schedules { IfOk result (λ schedules. AreSchedules raw.now.bodies schedules) }
+    ensures broken { IfErr result (λ e. Refuses raw.now tests e) }
+{
+    check_carried(alloc, raw)?;
+    check_ids(alloc, raw)?;
+    check_counts(alloc, raw)?;
+    check_trees(alloc, raw)?;
+    let schedules = schedules_of(alloc, raw.bodies.as_slice())?;
+    check_scopes(alloc, raw, &schedules)?;
+    check_sizes(alloc, raw, &schedules)?;
+    check_limits(alloc, raw)?;
+    check_literals(alloc, raw)?;
+    Ok(schedules)
+}

@@ -1,0 +1,209 @@
+//! The ids of a body are in range.
+ghost use Rattle.std.specs.Prelude.{◌≡◌, ◌↔◌, ◌<◌, ℕ, Some, slice_get, length, map, IsTrue, IfOk, option_map};
+ghost use Rattle.hir_facts.specs.declared.ids.TraitId.{TraitId};
+ghost use Rattle.hir_facts.specs.Order.{binding_of};
+ghost use Rattle.hir_facts.specs.Laws.Namers.{IsOne};
+ghost use Rattle.hir_facts.specs.Laws.InBody.{MaybeExprExists, MaybeTypeExists, MaybeBindingExists, StmtIdsExist, StmtsIdsExist, ElementsExist, PathExists, ExprIdsExist, ExprsIdsExist, PatsIdsExist, ParamsExist, BodyIdsHere, owned_body, AreOwners};
+ghost use Rattle.hir_facts.specs.Laws.Entries.{AllHold};
+ghost use Rattle.hir_facts.specs.Laws.Ids.{FnIdsExist, BodyIdsExist};
+
+use crate::ids::{BindingId, ExprId, PatId, TraitId, TypeRefId};
+use crate::laws::namers::{Namers, namers_of};
+use crate::laws::test::Test;
+use crate::raw::{RawBody, RawExpr, RawFacts, RawFn, RawPat, RawPath, RawStmt};
+use std::alloc::{AllocError, Global};
+
+fn has_maybe_expr(body: &RawBody, e: &Option<ExprId>) -> bool
+    ensures { IsTrue result ↔ MaybeExprExists body.now e.now }
+{
+    match e {
+        None => true,
+        Some(e) => (e.0 as usize) < body.exprs.len(),
+    }
+}
+
+fn has_maybe_type(raw: &RawFacts, t: &Option<TypeRefId>) -> bool
+    ensures { IsTrue result ↔ MaybeTypeExists raw.now t.now }
+{
+    match t {
+        None => true,
+        Some(t) => (t.0 as usize) < raw.types.len(),
+    }
+}
+
+fn has_maybe_binding(body: &RawBody, v: Option<BindingId>) -> bool
+    ensures { IsTrue result ↔ MaybeBindingExists body.now v }
+{
+    match v {
+        None => true,
+        Some(v) => (v.0 as usize) < body.bindings.len(),
+    }
+}
+
+fn has_stmt_ids(raw: &RawFacts, body: &RawBody, stmt: &RawStmt) -> bool
+    ensures { IsTrue result ↔ StmtIdsExist raw.now body.now stmt.now }
+{
+    match stmt {
+        RawStmt::Let {
+            pat,
+            type_ref,
+            initializer,
+            else_branch,
+        } => {
+            (pat.0 as usize) < body.pats.len()
+                && has_maybe_type(raw, type_ref)
+                && has_maybe_expr(body, initializer)
+                && has_maybe_expr(body, else_branch)
+        }
+        RawStmt::Expr {
+            expr,
+            has_semi: _,
+        } => (expr.0 as usize) < body.exprs.len(),
+    }
+}
+
+fn have_stmt_ids(raw: &RawFacts, body: &RawBody, stmts: &[RawStmt]) -> bool
+    ensures { IsTrue result ↔ StmtsIdsExist raw.now body.now stmts.now }
+{
+    stmts.iter().all(|stmt| has_stmt_ids(raw, body, stmt))
+}
+
+fn have_elements(body: &RawBody, es: &[ExprId]) -> bool
+    ensures { IsTrue result ↔ ElementsExist body.now es.now }
+{
+    let count = body.exprs.len();
+    es.iter().all(|e| (e.0 as usize) < count)
+}
+
+fn has_path(body: &RawBody, path: &RawPath) -> bool
+    ensures { IsTrue result ↔ PathExists body.now path.now }
+{
+    match path {
+        RawPath::Local(v) => (v.0 as usize) < body.bindings.len(),
+        RawPath::Other => true,
+    }
+}
+
+fn has_expr_ids(raw: &RawFacts, body: &RawBody, expr: &RawExpr) -> bool
+    ensures { IsTrue result ↔ ExprIdsExist raw.now body.now expr.now }
+{
+    match expr {
+        RawExpr::Path(path) => has_path(body, path),
+        RawExpr::Block {
+            label: _,
+            statements,
+            tail,
+        } => have_stmt_ids(raw, body, statements.as_slice()) && has_maybe_expr(body, tail),
+        RawExpr::Tuple(es) => have_elements(body, es.as_slice()),
+        RawExpr::Lit(_) | RawExpr::Other => true,
+    }
+}
+
+fn have_expr_ids(raw: &RawFacts, body: &RawBody) -> bool
+    ensures { IsTrue result ↔ ExprsIdsExist raw.now body.now }
+{
+    body.exprs.as_slice().iter().all(|expr| has_expr_ids(raw, body, expr))
+}
+
+/// The binding that a pattern binds.
+pub fn binding_of(pat: &RawPat) -> Option<BindingId>
+    ensures { result ≡ binding_of pat.now }
+{
+    match pat {
+        RawPat::Bind { id, subpat: _ } => Some(*id),
+        RawPat::Wild | RawPat::Other => None,
+    }
+}
+
+fn has_pat_ids(body: &RawBody, pat: &RawPat) -> bool
+    ensures { IsTrue result ↔ MaybeBindingExists body.now (binding_of pat.now) }
+{
+    has_maybe_binding(body, binding_of(pat))
+}
+
+fn have_pat_ids(body: &RawBody) -> bool
+    ensures { IsTrue result ↔ PatsIdsExist body.now }
+{
+    body.pats.as_slice().iter().all(|pat| has_pat_ids(body, pat))
+}
+
+fn have_params(body: &RawBody) -> bool
+    ensures { IsTrue result ↔ ParamsExist body.now }
+{
+    let count = body.pats.len();
+    body.params.as_slice().iter().all(|p| (p.0 as usize) < count)
+}
+
+fn have_traits(traits: &[TraitId], count: usize) -> bool
+    ensures { IsTrue result ↔ ((k : ℕ) (t : TraitId) → slice_get traits.now k ≡ Some t → t.0 < count) }
+{
+    traits.iter().all(|t| (t.0 as usize) < count)
+}
+
+fn has_ids(raw: &RawFacts, body: &RawBody) -> bool
+    ensures { IsTrue result ↔ BodyIdsHere raw.now body.now }
+{
+    (body.module.0 as usize) < raw.modules.len()
+        && have_traits(body.traits.as_slice(), raw.traits.len())
+        && has_maybe_binding(body, body.self_)
+        && have_params(body)
+        && (body.root.0 as usize) < body.exprs.len()
+        && have_expr_ids(raw, body)
+        && have_pat_ids(body)
+}
+
+fn owned_body(function: &RawFn) -> Option<usize>
+    ensures { result ≡ owned_body function.now }
+{
+    match function.body {
+        None => None,
+        Some(body) => Some(body.0 as usize),
+    }
+}
+
+fn owned_bodies(alloc: Global, fns: &[RawFn]) -> Result<Vec<Option<usize>>, AllocError>
+    ensures { IfOk result (λ v. v.items ≡ map owned_body fns.now) }
+{
+    fns.iter().map(|function| owned_body(function)).collect(alloc)
+}
+
+/// The ids of a body are in range, and it is the body of exactly one definition.
+#[derive(Drop)]
+pub struct BodyIds {
+    owners: Vec<Namers>,
+}
+
+impl BodyIds {
+    /// Finds out which functions each body is that of.
+    pub fn new(alloc: Global, raw: &RawFacts) -> Result<BodyIds, AllocError>
+        requires { AllHold (λ i f. FnIdsExist raw.now f) raw.now.fns }
+        ensures { IfOk result (λ it. AreOwners raw.now it.owners.items) }
+    {
+        let targets = owned_bodies(alloc, raw.fns.as_slice())?;
+        let owners = namers_of(alloc, &targets, raw.bodies.len())?;
+        Ok(BodyIds { owners })
+    }
+}
+
+fn is_one(namers: Namers) -> bool
+    ensures { IsTrue result ↔ IsOne namers }
+{
+    match namers {
+        Namers::One(_) => true,
+        Namers::Nobody | Namers::Several => false,
+    }
+}
+
+impl Test for BodyIds {
+    type Item = RawBody;
+
+    ghost listed = { λ raw. raw.bodies };
+
+    ghost holds = { BodyIdsExist };
+
+    ghost given = { λ raw s. AreOwners raw s.owners.items };
+
+    fn test(&self, _alloc: Global, raw: &RawFacts, at: usize, item: &RawBody) -> Result<bool, AllocError> {
+        Ok(is_one(self.owners[at]) && has_ids(raw, item))
+    }
+}

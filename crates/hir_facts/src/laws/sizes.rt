@@ -1,0 +1,206 @@
+//! How long lists may be, and how deep types.
+ghost use Rattle.std.specs.Prelude.{◌≡◌, ◌↔◌, ◌+◌, ◌<◌, ℕ, Some, map, max, min, sum, length, slice_get, slice_index, IsTrue, IfOk, List};
+ghost use Rattle.hir_facts.specs.declared.ids.TypeRefId.{TypeRefId};
+ghost use Rattle.hir_facts.specs.Types.{most, depth, size};
+ghost use Rattle.hir_facts.specs.Laws.Entries.{AllHold};
+ghost use Rattle.hir_facts.specs.Laws.Ids.{ChildrenBefore};
+ghost use Rattle.hir_facts.specs.Laws.Sizes.{IsShort, IsEarly, PartsAreShort, TypeIsSmall};
+ghost use Rattle.hir_facts.specs.Laws.Measures.{depth_by, size_by, AreMeasures};
+
+use crate::ids::{ModuleId, TypeRefId};
+use crate::laws::test::Test;
+use crate::raw::{RawFacts, RawFn, RawType};
+use std::alloc::{AllocError, Global};
+
+/// How many entries a list may have.
+const MOST_ENTRIES: usize = 1048576;
+
+/// One more than the number of levels that a type may have.
+const DEPTH_CAP: usize = 65;
+
+/// One more than the number of types that a type may be written with.
+const SIZE_CAP: usize = 4097;
+
+fn larger(a: usize, b: usize) -> usize
+    ensures { result ≡ max a b }
+{
+    if a < b { b } else { a }
+}
+
+fn most_of(depths: &[usize], parts: &[TypeRefId]) -> usize
+    requires { (k : ℕ) (t : TypeRefId) → slice_get parts.now k ≡ Some t → t.0 < length depths.now }
+    ensures { result ≡ most (map (λ t. slice_index depths.now t.0) parts.now) }
+{
+    let mut most = 0;
+    for part in parts {
+        most = larger(most, depths[part.0 as usize]);
+    }
+    most
+}
+
+fn one_deeper(depth: usize) -> usize
+    ensures { result ≡ min DEPTH_CAP (depth + 1) }
+{
+    if depth < DEPTH_CAP { depth + 1 } else { DEPTH_CAP }
+}
+
+fn depth_over(depths: &[usize], ty: &RawType) -> usize
+    requires { ChildrenBefore (length depths.now) ty.now }
+    ensures { result ≡ min DEPTH_CAP (depth_by (λ t. slice_index depths.now t) ty.now) }
+{
+    match ty {
+        RawType::Tuple(parts) => one_deeper(most_of(depths, parts.as_slice())),
+        RawType::Bool | RawType::Char | RawType::Integer(_) | RawType::Other => 1,
+    }
+}
+
+fn depths_of(alloc: Global, types: &[RawType]) -> Result<Vec<usize>, AllocError>
+    requires { AllHold ChildrenBefore types.now }
+    ensures { IfOk result (λ v. AreMeasures DEPTH_CAP depth types.now (length types.now) v.items) }
+{
+    let mut depths = Vec::new(alloc);
+    for ty in types {
+        let depth = depth_over(&depths, ty);
+        depths.push(depth)?;
+    }
+    Ok(depths)
+}
+
+fn sum_of(sizes: &[usize], parts: &[TypeRefId]) -> usize
+    requires { (k : ℕ) (t : TypeRefId) → slice_get parts.now k ≡ Some t → t.0 < length sizes.now }
+    ensures { result ≡ min SIZE_CAP (sum (map (λ t. slice_index sizes.now t.0) parts.now)) }
+{
+    let mut sum = 0;
+    for part in parts {
+        sum = capped_sum(sum, sizes[part.0 as usize]);
+    }
+    sum
+}
+
+fn capped_sum(a: usize, b: usize) -> usize
+    ensures { result ≡ min SIZE_CAP (a + b) }
+{
+    if a < SIZE_CAP && b < SIZE_CAP {
+        SIZE_CAP.min(a + b)
+    } else {
+        SIZE_CAP
+    }
+}
+
+fn size_over(sizes: &[usize], ty: &RawType) -> usize
+    requires { ChildrenBefore (length sizes.now) ty.now }
+    ensures { result ≡ min SIZE_CAP (size_by (λ t. slice_index sizes.now t) ty.now) }
+{
+    match ty {
+        RawType::Tuple(parts) => capped_sum(sum_of(sizes, parts.as_slice()), 1),
+        RawType::Bool | RawType::Char | RawType::Integer(_) | RawType::Other => 1,
+    }
+}
+
+fn sizes_of(alloc: Global, types: &[RawType]) -> Result<Vec<usize>, AllocError>
+    requires { AllHold ChildrenBefore types.now }
+    ensures { IfOk result (λ v. AreMeasures SIZE_CAP size types.now (length types.now) v.items) }
+{
+    let mut sizes = Vec::new(alloc);
+    for ty in types {
+        let size = size_over(&sizes, ty);
+        sizes.push(size)?;
+    }
+    Ok(sizes)
+}
+
+/// Whether an entry with this index may stand in a list.
+pub fn is_early(at: usize) -> bool
+    ensures { IsTrue result ↔ IsEarly at }
+{
+    at < MOST_ENTRIES
+}
+
+/// Whether a list has at most so many entries.
+pub fn is_short<T>(entries: &[T]) -> bool
+    ensures { IsTrue result ↔ IsShort entries.now }
+{
+    entries.len() <= MOST_ENTRIES
+}
+
+fn has_short_parts(ty: &RawType) -> bool
+    ensures { IsTrue result ↔ PartsAreShort ty.now }
+{
+    match ty {
+        RawType::Tuple(parts) => is_short(parts.as_slice()),
+        RawType::Bool | RawType::Char | RawType::Integer(_) | RawType::Other => true,
+    }
+}
+
+/// A type is small, written out.
+#[derive(Drop)]
+pub struct TypeSizes {
+    depths: Vec<usize>,
+    sizes: Vec<usize>,
+}
+
+impl TypeSizes {
+    /// Finds out how deep and how large each type is.
+    pub fn new(alloc: Global, raw: &RawFacts) -> Result<TypeSizes, AllocError>
+        requires { AllHold ChildrenBefore raw.now.types }
+        ensures depths { IfOk result (λ it. AreMeasures DEPTH_CAP depth raw.now.types (length raw.now.types) it.depths.items) }
+        ensures sizes { IfOk result (λ it. AreMeasures SIZE_CAP size raw.now.types (length raw.now.types) it.sizes.items) }
+    {
+        let depths = depths_of(alloc, raw.types.as_slice())?;
+        let sizes = sizes_of(alloc, raw.types.as_slice())?;
+        Ok(TypeSizes { depths, sizes })
+    }
+}
+
+impl Test for TypeSizes {
+    ghost use Rattle.std.specs.Prelude.{◌≡◌, length};
+    ghost use Rattle.hir_facts.specs.Types.{depth, size};
+    ghost use Rattle.hir_facts.specs.Laws.Sizes.{TypeIsSmall};
+    ghost use Rattle.hir_facts.specs.Laws.Measures.{AreMeasures};
+
+    type Item = RawType;
+
+    ghost listed = { λ raw. raw.types };
+
+    ghost holds = { TypeIsSmall };
+
+    ghost given = { λ raw s. AreMeasures 65 depth raw.types (length raw.types) s.depths.items × AreMeasures 4097 size raw.types (length raw.types) s.sizes.items };
+
+    fn test(&self, _alloc: Global, _raw: &RawFacts, at: usize, item: &RawType) -> Result<bool, AllocError> {
+        Ok(is_early(at) && has_short_parts(item) && self.depths[at] < DEPTH_CAP && self.sizes[at] < SIZE_CAP)
+    }
+}
+
+/// There are not too many modules.
+pub struct ModulesEarly;
+
+impl Test for ModulesEarly {
+    type Item = Option<ModuleId>;
+
+    ghost listed = { λ raw. raw.modules };
+
+    ghost holds = { λ raw i m. IsEarly i };
+
+    ghost given = { λ raw s. Unit {0} };
+
+    fn test(&self, _alloc: Global, _raw: &RawFacts, at: usize, _item: &Option<ModuleId>) -> Result<bool, AllocError> {
+        Ok(is_early(at))
+    }
+}
+
+/// There are not too many functions.
+pub struct FnsEarly;
+
+impl Test for FnsEarly {
+    type Item = RawFn;
+
+    ghost listed = { λ raw. raw.fns };
+
+    ghost holds = { λ raw i f. IsEarly i };
+
+    ghost given = { λ raw s. Unit {0} };
+
+    fn test(&self, _alloc: Global, _raw: &RawFacts, at: usize, _item: &RawFn) -> Result<bool, AllocError> {
+        Ok(is_early(at))
+    }
+}

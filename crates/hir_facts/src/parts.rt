@@ -1,0 +1,103 @@
+//! What an expression, a pattern or a body is made of, in the order of the walk.
+ghost use Rattle.std.specs.Prelude.{◌≡◌, ◌++◌, map, IfOk, OnOk};
+ghost use Rattle.hir_facts.specs.declared.ids.ExprOrPatId.TheVariants.{ExprId as expr_node, PatId as pat_node};
+ghost use Rattle.hir_facts.specs.Order.{Role, maybe_part, stmt_parts, stmts_parts, expr_parts, pat_parts, body_parts};
+ghost use Rattle.hir_facts.specs.Nodes.{nodes};
+
+use crate::ids::{ExprId, ExprOrPatId, PatId};
+use crate::raw::{RawBody, RawExpr, RawPat, RawStmt};
+use std::alloc::{AllocError, Global};
+
+fn push_maybe(out: &mut Vec<ExprOrPatId>, expr: Option<ExprId>) -> Result<(), AllocError>
+    ensures { OnOk result ((role : Role) → out.new.items ≡ out.old.items ++ nodes (maybe_part role expr)) }
+{
+    if let Some(expr) = expr {
+        out.push(ExprOrPatId::ExprId(expr))?;
+    }
+    Ok(())
+}
+
+fn push_stmt(out: &mut Vec<ExprOrPatId>, stmt: &RawStmt) -> Result<(), AllocError>
+    ensures { OnOk result (out.new.items ≡ out.old.items ++ nodes (stmt_parts stmt.now)) }
+{
+    match stmt {
+        RawStmt::Let {
+            pat,
+            type_ref: _,
+            initializer,
+            else_branch,
+        } => {
+            push_maybe(out, *initializer)?;
+            out.push(ExprOrPatId::PatId(*pat))?;
+            push_maybe(out, *else_branch)?;
+        }
+        RawStmt::Expr { expr, has_semi: _ } => out.push(ExprOrPatId::ExprId(*expr))?,
+    }
+    Ok(())
+}
+
+fn push_stmts(out: &mut Vec<ExprOrPatId>, stmts: &[RawStmt]) -> Result<(), AllocError>
+    ensures { OnOk result (out.new.items ≡ out.old.items ++ nodes (stmts_parts stmts.now)) }
+{
+    for stmt in stmts {
+        push_stmt(out, stmt)?;
+    }
+    Ok(())
+}
+
+fn push_exprs(out: &mut Vec<ExprOrPatId>, exprs: &[ExprId]) -> Result<(), AllocError>
+    ensures { OnOk result (out.new.items ≡ out.old.items ++ map expr_node exprs.now) }
+{
+    for expr in exprs {
+        out.push(ExprOrPatId::ExprId(*expr))?;
+    }
+    Ok(())
+}
+
+fn push_pats(out: &mut Vec<ExprOrPatId>, pats: &[PatId]) -> Result<(), AllocError>
+    ensures { OnOk result (out.new.items ≡ out.old.items ++ map pat_node pats.now) }
+{
+    for pat in pats {
+        out.push(ExprOrPatId::PatId(*pat))?;
+    }
+    Ok(())
+}
+
+/// The parts of an expression.
+pub fn nodes_of_expr(alloc: Global, expr: &RawExpr) -> Result<Vec<ExprOrPatId>, AllocError>
+    ensures { IfOk result (λ v. v.items ≡ nodes (expr_parts expr.now)) }
+{
+    let mut out = Vec::new(alloc);
+    match expr {
+        RawExpr::Lit(_) => {}
+        RawExpr::Path(_) => {}
+        RawExpr::Block {
+            label: _,
+            statements,
+            tail,
+        } => {
+            push_stmts(&mut out, statements.as_slice())?;
+            push_maybe(&mut out, *tail)?;
+        }
+        RawExpr::Tuple(exprs) => push_exprs(&mut out, exprs.as_slice())?,
+        RawExpr::Other => {}
+    }
+    Ok(out)
+}
+
+/// The parts of a pattern: none, at the carried kinds.
+pub fn nodes_of_pat(alloc: Global, _pat: &RawPat) -> Vec<ExprOrPatId>
+    ensures { result.items ≡ nodes (pat_parts _pat.now) }
+{
+    Vec::new(alloc)
+}
+
+/// The parts of a body: the patterns of its parameters, then its root.
+pub fn nodes_of_body(alloc: Global, body: &RawBody) -> Result<Vec<ExprOrPatId>, AllocError>
+    ensures { IfOk result (λ v. v.items ≡ nodes (body_parts body.now)) }
+{
+    let mut out = Vec::new(alloc);
+    push_pats(&mut out, body.params.as_slice())?;
+    out.push(ExprOrPatId::ExprId(body.root))?;
+    Ok(out)
+}
