@@ -1,19 +1,16 @@
 -- What follows from the outcome of a run.
-use Rattle.std.specs.Prelude.{◌≡◌, ◌<◌, ◌≤◌, ◌+◌, ◌-◌, ◌^◌, ◌⊎◌, ◌∷◌, [], ◌++◌, ℕ, zero, suc, min, List, length, Option, Some, None, Ok, Err, refl, codes}
-use Rattle.std.proofs.Common.{arith, sym, ap, ◌∙◌, subst, inl, inr}
+use Rattle.std.specs.Prelude.{◌≡◌, ◌<◌, ◌≤◌, ◌+◌, ◌-◌, ◌^◌, ◌∷◌, [], ◌++◌, ℕ, List, length, Option, Some, None, codes}
+use Rattle.std.proofs.Common.{arith, sym, ap, ◌∙◌, subst}
 use Rattle.std.proofs.lemmas.List.{append-nil, length-append}
 use Rattle.std.proofs.lemmas.Fmt.{decimal_injective}
 use Rattle.std.specs.Fmt.{decimal}
 use Rattle.std.specs.Io.KnownBytes.{Consumes, IsAtEnd}
 use Rattle.hir_facts.specs.declared.ids.DefWithBodyId.{DefWithBodyId}
 use Rattle.hir_facts.specs.declared.ids.DefWithBodyId.TheVariants as def
-use Rattle.hir_facts.specs.declared.raw.RawFacts.{RawFacts}
-use Rattle.hir_facts.specs.Bodies.{HasBody}
 use Rattle.infer_tool.specs.declared.run.Ran.{Ran}
 use Rattle.infer_tool.specs.Causes.{Rose}
 use Rattle.infer_tool.specs.Command.{IsCommand, kind_word, number_in}
-use Rattle.infer_tool.specs.Facts.{raw_facts, IsRead, IsUnlawful}
-use Rattle.infer_tool.specs.Outcome.{limit, Ends, Took, TookAll, Outcome}
+use Rattle.infer_tool.specs.Outcome.{limit, Ends, TookAll, Outcome}
 
 -- ---- ends without faults
 
