@@ -1,15 +1,12 @@
 -- A walk through a graph enters a node.
-use Rattle.std.proofs.Common.{◌≡◌, ◌≢◌, ◌⊎◌, inl, inr, ℕ, zero, suc, ◌+◌, ◌-◌, ◌*◌, ◌<◌, ◌≤◌, Bool, true, false, List, [], ◌∷◌, ◌++◌, length, get_or, replicate, Some, refl, sym, ap, subst, ◌∙◌, arith}
-use Rattle.std.specs.Prelude.{slice_get, slice_set}
-use Rattle.std.specs.List.{Contains}
-use Rattle.std.proofs.lemmas.List.{get_or-set_same, get_or-set_other, length-set, length-replicate, length_push, get_or_append_left, get_or_push}
+use Rattle.std.proofs.Common.{◌≡◌, ◌≢◌, ◌⊎◌, inl, inr, ℕ, suc, ◌+◌, ◌-◌, ◌<◌, true, false, List, [], ◌∷◌, length, refl, sym, ap, subst, ◌∙◌, arith}
+use Rattle.std.proofs.lemmas.List.{get_or-set_same, get_or-set_other, length-set, length_push, get_or_append_left, get_or_push}
 use Rattle.std.proofs.lemmas.List.Elements.{Contains-push, Contains-append_left}
-use Rattle.std.proofs.lemmas.List.Folds.{sum_by-replicate}
 use Rattle.std.proofs.lemmas.Bool.{cases_lt, cases_eq, false≢true}
 use Rattle.std.proofs.lemmas.Option.{slice_get_within}
-use Rattle.hir_facts.specs.Graph.{kids_of, Edge, leads}
-use Rattle.hir_facts.specs.Visits.{Marks, is_seen, next_of, unseen, blank, entered, advanced, IsReady}
-use Rattle.hir_facts.proofs.Walking.{IsSeen, start_of, end_of, depth_of, on, Reaches, Passed, Ended, Entry, Goes, Stands, Walking, Keeps, blank_at, other_seen, fewer_unseen, reaches_kept, passed_kept, goes_kept}
+use Rattle.hir_facts.specs.Graph.{kids_of, Edge}
+use Rattle.hir_facts.specs.Visits.{Marks, is_seen, next_of, unseen, advanced, IsReady}
+use Rattle.hir_facts.proofs.Walking.{IsSeen, start_of, end_of, depth_of, on, Reaches, Passed, Goes, Stands, Walking, Keeps, other_seen, fewer_unseen, reaches_kept, passed_kept, goes_kept}
 
 -- a walk that enters c from the node n on top, of which it was not entered before
 pub record Entering (kids : List (List ℕ)) (root : ℕ) (m : Marks) (n c : ℕ) : Type 0 where

@@ -1,12 +1,11 @@
 -- A walk through a graph leaves a node.
-use Rattle.std.proofs.Common.{◌≡◌, ◌≢◌, ◌⊎◌, inl, inr, ℕ, zero, suc, ◌+◌, ◌-◌, ◌<◌, ◌≤◌, Bool, true, false, List, [], ◌∷◌, ◌++◌, length, get_or, take, Some, refl, sym, ap, subst, ◌∙◌, arith}
-use Rattle.std.specs.Prelude.{slice_get, slice_set}
+use Rattle.std.proofs.Common.{◌≡◌, ◌≢◌, inl, inr, ℕ, suc, ◌+◌, ◌-◌, ◌<◌, ◌≤◌, true, List, length, refl, sym, ap, subst, ◌∙◌, arith}
 use Rattle.std.specs.List.{Contains}
 use Rattle.std.proofs.lemmas.List.{get_or-set_same, get_or-set_other, length-set, length-take-le, get_or-take, get_or_default}
 use Rattle.std.proofs.lemmas.Bool.{cases_lt, cases_eq}
 use Rattle.hir_facts.specs.Graph.{kids_of, Edge}
 use Rattle.hir_facts.specs.Visits.{Marks, is_seen, next_of, departed, IsReady}
-use Rattle.hir_facts.proofs.Walking.{IsSeen, start_of, end_of, depth_of, on, Reaches, Passed, Ended, Goes, Stands, Walking, Keeps, reaches_kept, passed_kept, entry_kept, goes_kept}
+use Rattle.hir_facts.proofs.Walking.{IsSeen, start_of, end_of, depth_of, on, Reaches, Goes, Stands, Walking, Keeps, reaches_kept, passed_kept, entry_kept, goes_kept}
 
 -- a walk that leaves the node n on top, all children of which were entered
 pub record Leaving (kids : List (List ℕ)) (root : ℕ) (m : Marks) (n : ℕ) : Type 0 where

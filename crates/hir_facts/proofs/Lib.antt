@@ -19,3 +19,5 @@ pub mod Schedules
 pub mod Binding
 pub mod Scoping
 pub mod Allowed
+pub mod Fitting
+pub mod Lowering

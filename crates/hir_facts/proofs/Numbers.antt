@@ -1,16 +1,15 @@
 -- A walk through a graph begins, and what it tells at its end.
-use Rattle.std.proofs.Common.{◌≡◌, ◌≢◌, ◌⊎◌, inl, inr, ℕ, zero, suc, ◌+◌, ◌-◌, ◌*◌, ◌<◌, ◌≤◌, Bool, true, false, List, [], ◌∷◌, ◌++◌, length, get_or, replicate, Some, refl, sym, ap, subst, ◌∙◌, arith}
-use Rattle.std.specs.Prelude.{slice_get, slice_set, sum_by, if◌then◌else◌}
-use Rattle.std.specs.List.{Contains}
-use Rattle.std.proofs.lemmas.List.{get_or-set_same, get_or-set_other, length-set, length-replicate, nil_from_length}
+use Rattle.std.proofs.Common.{◌≡◌, ◌⊎◌, inl, inr, ℕ, suc, ◌+◌, ◌*◌, ◌<◌, Bool, true, false, List, [], ◌∷◌, length, get_or, replicate, Some, refl, sym, ap, subst, ◌∙◌, arith}
+use Rattle.std.specs.Prelude.{slice_get, if◌then◌else◌}
+use Rattle.std.proofs.lemmas.List.{get_or-set_same, get_or-set_other, length-set, length-replicate}
 use Rattle.std.proofs.lemmas.List.Elements.{Contains-push}
 use Rattle.std.proofs.lemmas.List.Folds.{sum_by-replicate}
 use Rattle.std.proofs.lemmas.Bool.{cases_lt, cases_eq, false≢true}
-use Rattle.std.proofs.lemmas.Option.{slice_get_within, option_and_then_some, same_Some}
+use Rattle.std.proofs.lemmas.Option.{slice_get_within, option_and_then_some}
 use Rattle.hir_facts.specs.declared.schedule.Schedule.{Schedule}
 use Rattle.hir_facts.specs.Graph.{kids_of, Edge, leads, OneWay, IsTreeGraph, IsNumbering, Follow, number_after, start_at, end_at}
-use Rattle.hir_facts.specs.Visits.{Marks, is_seen, next_of, unseen, blank, entered, MeetsAgain}
-use Rattle.hir_facts.proofs.Walking.{IsSeen, start_of, end_of, depth_of, on, Reaches, Passed, Ended, Entry, Goes, Stands, Walking, seen_in, blank_at, fewer_unseen, none_unseen}
+use Rattle.hir_facts.specs.Visits.{Marks, next_of, unseen, blank, entered, MeetsAgain}
+use Rattle.hir_facts.proofs.Walking.{IsSeen, start_of, end_of, depth_of, on, Passed, Ended, Entry, Goes, Stands, Walking, seen_in, blank_at, fewer_unseen, none_unseen}
 
 module _ (kids : List (List ℕ)) (root : ℕ) (inside : root < length kids) where
   abbrev begun : Marks

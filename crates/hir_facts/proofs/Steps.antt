@@ -1,15 +1,14 @@
 -- One step of a walk through a graph.
-use Rattle.std.proofs.Common.{◌≡◌, ◌⊎◌, inl, inr, ℕ, zero, suc, ◌+◌, ◌-◌, ◌*◌, ◌<◌, length, Some, None, refl, sym, ap, subst, ◌∙◌, arith, List, [], ◌∷◌}
+use Rattle.std.proofs.Common.{◌≡◌, ◌⊎◌, inl, inr, ℕ, zero, suc, ◌+◌, ◌-◌, ◌*◌, ◌<◌, length, Some, None, sym, ap, subst, arith, List, [], ◌∷◌}
 use Rattle.std.specs.Prelude.{slice_get}
 use Rattle.std.proofs.lemmas.Bool.{cases_lt}
 use Rattle.std.proofs.lemmas.List.{length_push, length-take-le}
-use Rattle.std.proofs.lemmas.Option.{slice_get_within, get_or_from_slice_get, slice_get-get_or}
-use Rattle.hir_facts.specs.Graph.{KidsFit, IsTreeGraph, IsNumbering}
-use Rattle.hir_facts.specs.Visits.{Marks, next_of, unseen, Advances, Departs, MeetsAgain, advanced, departed}
-use Rattle.hir_facts.proofs.Walking.{IsSeen, on, Walking, Stands, seen_in}
+use Rattle.std.proofs.lemmas.Option.{slice_get_within, get_or_from_slice_get}
+use Rattle.hir_facts.specs.Graph.{KidsFit}
+use Rattle.hir_facts.specs.Visits.{Marks, next_of, unseen, Advances, Departs, advanced, departed}
+use Rattle.hir_facts.proofs.Walking.{IsSeen, on, Walking, seen_in}
 use Rattle.hir_facts.proofs.Advances.{Entering, walking_on, fewer}
 use Rattle.hir_facts.proofs.Departs.{Leaving, walking_back}
-use Rattle.hir_facts.proofs.Numbers.{no_tree_again}
 
 -- the node n is on top
 pub record Top (kids : List (List ℕ)) (root : ℕ) (m : Marks) (n : ℕ) : Type 0 where

@@ -1,15 +1,12 @@
 -- What holds all along a walk through a graph.
-use Rattle.std.proofs.Common.{◌≡◌, ◌≢◌, ◌⊎◌, inl, inr, ℕ, zero, suc, ◌+◌, ◌-◌, ◌*◌, ◌<◌, ◌≤◌, Bool, true, false, List, [], ◌∷◌, ◌++◌, length, get_or, take, replicate, Some, refl, sym, ap, subst, ◌∙◌, arith}
-use Rattle.std.specs.Prelude.{slice_get, slice_set, sum_by, if◌then◌else◌}
+use Rattle.std.proofs.Common.{◌≡◌, ◌≢◌, ◌⊎◌, inl, inr, ℕ, suc, ◌+◌, ◌<◌, ◌≤◌, Bool, true, false, List, length, get_or, replicate, Some, sym, ap, subst, ◌∙◌, arith}
+use Rattle.std.specs.Prelude.{slice_set, sum_by, if◌then◌else◌}
 use Rattle.std.specs.List.{Contains}
-use Rattle.std.proofs.lemmas.List.{get_or-set_same, get_or-set_other, length-set, length-replicate, length_push, length-take-le, get_or-replicate, get_or_past, get_or_append_left, get_or_push, get_or-take}
-use Rattle.std.proofs.lemmas.List.Elements.{Contains-push, Contains-append_left}
+use Rattle.std.proofs.lemmas.List.{length-replicate, get_or-replicate, get_or_past}
 use Rattle.std.proofs.lemmas.List.Sums.{sum_by-set, get_or-le-sum_by}
-use Rattle.std.proofs.lemmas.List.Folds.{sum_by-replicate}
-use Rattle.std.proofs.lemmas.Bool.{cases_lt, cases_eq, cases_Bool, false≢true}
-use Rattle.std.proofs.lemmas.Option.{slice_get_within, option_and_then_some}
+use Rattle.std.proofs.lemmas.Bool.{cases_lt, cases_Bool, false≢true}
 use Rattle.hir_facts.specs.Graph.{kids_of, Edge, leads}
-use Rattle.hir_facts.specs.Visits.{Marks, is_seen, next_of, unseen, blank, entered, advanced, departed, IsReady}
+use Rattle.hir_facts.specs.Visits.{Marks, is_seen, next_of, unseen, IsReady}
 
 abbrev pub IsSeen : Marks → ℕ → Type 0
 IsSeen m n = is_seen m n ≡ true

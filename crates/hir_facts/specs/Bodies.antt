@@ -56,7 +56,7 @@ pub record IsWalkable (b : RawBody) (s : Schedule) : Type 0 where
   pub scopes : AreInScope b s
   pub no_self : b.self_ ≡ None
 
-abbrev fits_step : Ty-F Bool → Bool
+abbrev pub fits_step : Ty-F Bool → Bool
 fits_step (Ty-F.Tuple bs) = list_all (λ b. b) bs
 fits_step Ty-F.Bool = true
 fits_step Ty-F.Char = true
@@ -66,5 +66,8 @@ fits_step Ty-F.Error = true
 fits_step (Ty-F.Var n) = true
 
 -- Each id and parameter in the type is in range. The carried types name none, and holes are not the facts' concern.
+abbrev pub ty_fits : Ty → Bool
+ty_fits = fold-Ty Bool fits_step
+
 abbrev pub fits : RawFacts → DefWithBodyId → Ty → Bool
-fits raw d = fold-Ty Bool fits_step
+fits raw d t = ty_fits t

@@ -1,5 +1,5 @@
 -- Graphs by the lists of each node's children, and their numbers in the order of a walk from a root.
-use Rattle.std.specs.Prelude.{ℕ, ◌+◌, ◌<◌, ◌≡◌, List, [], ◌∷◌, length, get_or, slice_get, slice_index, Option, Some, None}
+use Rattle.std.specs.Prelude.{ℕ, ◌+◌, ◌<◌, ◌≡◌, List, [], ◌∷◌, length, get_or, slice_get, slice_index, Option, Some}
 use Rattle.std.specs.Option.{option_and_then}
 use Rattle.hir_facts.specs.declared.schedule.Schedule.{Schedule}
 

@@ -1,5 +1,5 @@
 -- What a walk through a graph has marked, and what each of its steps does.
-use Rattle.std.specs.Prelude.{ℕ, ◌+◌, ◌-◌, ◌<◌, ◌≤◌, ◌≡◌, ◌⊎◌, Bool, true, false, List, [], ◌∷◌, ◌++◌, length, get_or, slice_set, take, replicate, sum_by, if◌then◌else◌}
+use Rattle.std.specs.Prelude.{ℕ, ◌+◌, ◌-◌, ◌≤◌, ◌≡◌, ◌⊎◌, Bool, true, false, List, [], ◌∷◌, ◌++◌, length, get_or, slice_set, take, replicate, sum_by, if◌then◌else◌}
 use Rattle.hir_facts.specs.Graph.{kids_of, Edge}
 use Rattle.hir_facts.specs.declared.graph.Walk.{Walk}
 
@@ -68,6 +68,10 @@ pub record Advances (kids : List (List ℕ)) (old new : Marks) (n : ℕ) : Type 
 pub record Departs (kids : List (List ℕ)) (old new : Marks) (n : ℕ) : Type 0 where
   pub all : length (kids_of kids n) ≤ next_of old n
   pub after : new ≡ departed old n
+
+-- the node's next child is entered, or the node is left
+abbrev pub Steps : List (List ℕ) → Marks → Marks → ℕ → Type 0
+Steps kids old new n = Advances kids old new n ⊎ Departs kids old new n
 
 -- the node's next child was entered before
 pub record MeetsAgain (kids : List (List ℕ)) (old : Marks) (n : ℕ) : Type 0 where

@@ -12,6 +12,7 @@ use crate::ids::{BodyId, DefWithBodyId, FunctionId, ModuleId, TypeRefId};
 use crate::list::List;
 use crate::raw::{Edition, RawBody, RawFacts, RawFn, RawLimits, RawType};
 use crate::schedule::Schedule;
+use crate::fit::ty_fits;
 use crate::ty::Ty;
 use std::alloc::Global;
 use std::marker::Model;
@@ -47,11 +48,118 @@ impl Facts {
         Ok(Facts { raw, schedules })
     }
 
-    /// The crate's edition. Facts are lawful.
+    /// Nothing: callers learn that facts are lawful.
+    pub fn lawful(&self)
+        ensures { IsLawful self.now }
+    {
+        let _raw = &self.raw;
+    }
+
+    /// The crate's edition.
     pub fn edition(&self) -> Edition
-        ensures value { result ≡ self.now.edition }
-        ensures lawful { IsLawful self.now }
+        ensures { result ≡ self.now.edition }
     {
         self.raw.edition
+    }
+
+    /// Whether what never returns falls back to `!`.
+    pub fn never_fallback(&self) -> bool
+        ensures { result ≡ self.now.never_fallback }
+    {
+        self.raw.never_fallback
+    }
+
+    /// Whether ranges are those of `core::range`.
+    pub fn new_range(&self) -> bool
+        ensures { result ≡ self.now.new_range }
+    {
+        self.raw.new_range
+    }
+
+    /// How far searches may go.
+    pub fn limits(&self) -> RawLimits
+        ensures { result ≡ self.now.limits }
+    {
+        self.raw.limits
+    }
+
+    /// The written types.
+    pub fn types(&self) -> &[RawType]
+        ensures { result.now ≡ self.now.types }
+    {
+        self.raw.types.as_slice()
+    }
+
+    /// A written type.
+    pub fn written(&self, ty: TypeRefId) -> &RawType
+        requires { ty.0 < length self.now.types }
+        ensures { slice_get self.now.types ty.0 ≡ Some result.now }
+    {
+        let types = self.raw.types.as_slice();
+        &types[ty.0 as usize]
+    }
+
+    /// The module that a module stands in, or `None` at the root.
+    pub fn module(&self, id: ModuleId) -> Option<ModuleId>
+        requires { id.0 < length self.now.modules }
+        ensures { slice_get self.now.modules id.0 ≡ Some result }
+    {
+        let modules = self.raw.modules.as_slice();
+        modules[id.0 as usize]
+    }
+
+    /// A function.
+    pub fn fn_(&self, function: FunctionId) -> &RawFn
+        requires { function.0 < length self.now.fns }
+        ensures { slice_get self.now.fns function.0 ≡ Some result.now }
+    {
+        let fns = self.raw.fns.as_slice();
+        &fns[function.0 as usize]
+    }
+
+    /// A body.
+    pub fn body(&self, body: BodyId) -> &RawBody
+        requires { body.0 < length self.now.bodies }
+        ensures { slice_get self.now.bodies body.0 ≡ Some result.now }
+    {
+        let bodies = self.raw.bodies.as_slice();
+        &bodies[body.0 as usize]
+    }
+
+    /// The numbers of a body in the order of the walk.
+    pub fn schedule(&self, body: BodyId) -> &Schedule
+        requires { body.0 < length self.now.bodies }
+        ensures walkable { (b : RawBody) → slice_get self.now.bodies body.0 ≡ Some b → IsWalkable b result.now }
+        ensures depths { (b : RawBody) → slice_get self.now.bodies body.0 ≡ Some b → AreDepths b result.now }
+    {
+        let schedules = self.schedules.as_slice();
+        &schedules[body.0 as usize]
+    }
+
+    /// The body of a definition, or `None` where it has none or is not in range.
+    pub fn body_id(&self, def: DefWithBodyId) -> Option<BodyId>
+        ensures { result ≡ body_id_of self.now def }
+    {
+        match def {
+            DefWithBodyId::FunctionId(function) => match self.raw.fns.get(function.0 as usize) {
+                Some(function) => function.body,
+                None => None,
+            },
+            DefWithBodyId::ConstId(_) | DefWithBodyId::StaticId(_) | DefWithBodyId::VariantId(_) => None,
+        }
+    }
+
+    /// Whether a definition is in range and has a body.
+    pub fn has_body(&self, def: DefWithBodyId) -> bool
+        ensures { IsTrue result ↔ HasBody self.now def }
+    {
+        self.body_id(def).is_some()
+    }
+
+    /// Whether each id and parameter in a type is in range.
+    pub fn fits(&self, def: DefWithBodyId, ty: &Ty) -> bool
+        ensures { result ≡ fits self.now def ty.now }
+    {
+        ty_fits(ty)
     }
 }

@@ -1,7 +1,7 @@
 //! Numbers for the nodes of a graph in the order of a walk from a root.
 ghost use Rattle.std.specs.Prelude.{◌≡◌, ◌<◌, ◌-◌, false, ◌⊎◌, length, replicate, slice_get, IfOk, IsTrue, OnOk, OnSome, MatchOption, MatchBool};
 ghost use Rattle.hir_facts.specs.Graph.{kids_of, KidsFit, IsTreeGraph, IsNumbering};
-ghost use Rattle.hir_facts.specs.Visits.{marks_of, blank, entered, departed, is_seen, IsReady, Advances, Departs, MeetsAgain};
+ghost use Rattle.hir_facts.specs.Visits.{marks_of, blank, entered, departed, is_seen, IsReady, Steps, MeetsAgain};
 
 use crate::list::List;
 use crate::schedule::Schedule;
@@ -90,13 +90,15 @@ impl Walk {
         self.stack.last().copied()
     }
 
-    /// Enters the next child of a node, or leaves it where it has none. The answer is false where the child was
-    /// entered before.
+    /// Enters the next child of a node, or leaves it where it has none. The answer is false where
+    /// the child was entered before.
     fn step(&mut self, kids: &List<List<usize>>, node: usize) -> Result<bool, AllocError>
         requires fit { KidsFit kids.now }
         requires ready { IsReady (length kids.now) (marks_of self.old) }
         requires node { node < length kids.now }
-        ensures { IfOk result (λ more. MatchBool more (Advances kids.now (marks_of self.old) (marks_of self.new) node ⊎ Departs kids.now (marks_of self.old) (marks_of self.new) node) (MeetsAgain kids.now (marks_of self.old) node)) }
+        ensures { IfOk result (λ is_new. MatchBool is_new
+            (Steps kids.now (marks_of self.old) (marks_of self.new) node)
+            (MeetsAgain kids.now (marks_of self.old) node)) }
     {
         let at = self.next[node];
         let Some(child) = child_at(kids, node, at) else {
@@ -114,8 +116,8 @@ impl Walk {
 
 /// Numbers for the nodes of a graph in the order of a walk from its root, or `None` where it is no tree.
 ///
-/// `kids` are each node's children. The walk takes as many steps as there are nodes and children, and needs no more
-/// stack for a deep graph.
+/// `kids` are each node's children. The walk takes as many steps as there are nodes and children,
+/// and needs no more stack for a deep graph.
 pub fn number_graph(
     alloc: Global,
     kids: &List<List<usize>>,
@@ -123,7 +125,9 @@ pub fn number_graph(
 ) -> Result<Option<Schedule>, AllocError>
     requires fit { KidsFit kids.now }
     requires root { root < length kids.now }
-    ensures { IfOk result (λ o. MatchOption o (IsTreeGraph kids.now root → ⊥) (λ s. IsNumbering kids.now root s)) }
+    ensures { IfOk result (λ found. MatchOption found
+        (¬ IsTreeGraph kids.now root)
+        (λ schedule. IsNumbering kids.now root schedule)) }
 {
     let mut walk = Walk::new(alloc, kids.len())?;
     walk.enter(root)?;

@@ -4,10 +4,12 @@
 mod graph;
 mod checks;
 mod facts;
+mod fit;
 mod facts_error;
 mod ids;
 mod laws;
 mod list;
+mod lower;
 mod parts;
 mod raw;
 mod schedule;
@@ -22,6 +24,7 @@ pub use ids::{
 };
 pub use laws::{FactsList, Law};
 pub use list::List;
+pub use lower::{lower_ty, return_ty};
 pub use raw::{
     BindingAnnotation, Edition, Other, RawAt, RawBinding, RawBody, RawExpr, RawFacts, RawFn,
     RawLimits, RawLiteral, RawPat, RawPath, RawStmt, RawType, RawVis,

@@ -9,7 +9,8 @@ use crate::raw::{RawBody, RawExpr, RawPat, RawStmt};
 use std::alloc::{AllocError, Global};
 
 fn push_maybe(out: &mut Vec<ExprOrPatId>, expr: Option<ExprId>) -> Result<(), AllocError>
-    ensures { OnOk result ((role : Role) → out.new.items ≡ out.old.items ++ nodes (maybe_part role expr)) }
+    ensures { OnOk result ((role : Role) →
+        out.new.items ≡ out.old.items ++ nodes (maybe_part role expr)) }
 {
     if let Some(expr) = expr {
         out.push(ExprOrPatId::ExprId(expr))?;

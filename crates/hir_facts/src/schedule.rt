@@ -105,11 +105,13 @@ fn graph(alloc: Global, body: &RawBody) -> Result<List<List<usize>>, AllocError>
     Ok(kids)
 }
 
-/// The numbers of a body in the order of the walk, or `None` where it is no tree: where some expression or pattern is
-/// not reached along exactly one way.
+/// The numbers of a body in the order of the walk, or `None` where it is no tree: where some
+/// expression or pattern is not reached along exactly one way.
 pub fn schedule_of(alloc: Global, body: &RawBody) -> Result<Option<Schedule>, AllocError>
     requires { PartsFit body.now }
-    ensures { IfOk result (λ o. MatchOption o (IsTree body.now → ⊥) (λ s. IsSchedule body.now s × AreDepths body.now s)) }
+    ensures { IfOk result (λ found. MatchOption found
+        (¬ IsTree body.now)
+        (λ schedule. IsSchedule body.now schedule × AreDepths body.now schedule)) }
 {
     let kids = graph(alloc, body)?;
     let root = kids.len() - 1;

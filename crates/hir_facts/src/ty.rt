@@ -1,5 +1,5 @@
 //! Types.
-ghost use Rattle.std.specs.Prelude.{◌≡◌, IfOk, IsTrue, ◌↔◌};
+ghost use Rattle.std.specs.Prelude.{◌≡◌, ◌<◌, IfOk, IsTrue, ◌↔◌};
 ghost use Rattle.hir_facts.specs.Types.{integer_type};
 
 use crate::list::List;
@@ -60,18 +60,47 @@ impl IntegerTy {
     }
 }
 
+/// How many types a copy may be made of. What inference builds can grow exponentially with a body, as
+/// in nested `let b = (a, a);`: beyond this it is more than memory is taken for.
+const MOST_TYPES: u32 = 1 << 20;
+
+/// How many levels a copy may have, so that nothing that goes down a type runs out of stack.
+const MOST_LEVELS: u32 = 1 << 10;
+
+/// Takes the room of one type, or says that memory is wanting.
+fn take_room(types: &mut u32, levels: u32) -> Result<u32, AllocError>
+    ensures { IfOk result (λ left. left < levels) }
+{
+    match (types.checked_sub(1), levels.checked_sub(1)) {
+        (Some(left), Some(below)) => {
+            *types = left;
+            Ok(below)
+        }
+        _ => Err(AllocError),
+    }
+}
+
 impl Ty {
-    /// An equal copy.
-    #[cycle(dup)]
+    /// An equal copy. A type of more than 2^20 types or 2^10 levels is not copied: that is want of
+    /// memory.
     pub fn dup(&self, alloc: Global) -> Result<Ty, AllocError>
         ensures { IfOk result (λ copy. copy ≡ self.now) }
     {
+        let mut types = MOST_TYPES;
+        self.dup_within(alloc, MOST_LEVELS, &mut types)
+    }
+
+    #[cycle(dup)]
+    fn dup_within(&self, alloc: Global, levels: u32, types: &mut u32) -> Result<Ty, AllocError>
+        ensures { IfOk result (λ copy. copy ≡ self.now) }
+    {
+        let below = take_room(types, levels)?;
         match self {
             Ty::Bool => Ok(Ty::Bool),
             Ty::Char => Ok(Ty::Char),
             Ty::Int(int) => Ok(Ty::Int(*int)),
             Ty::Uint(uint) => Ok(Ty::Uint(*uint)),
-            Ty::Tuple(tys) => Ok(Ty::Tuple(tys.dup(alloc)?)),
+            Ty::Tuple(tys) => Ok(Ty::Tuple(tys.dup_within(alloc, below, types)?)),
             Ty::Error => Ok(Ty::Error),
             Ty::Var(hole) => Ok(Ty::Var(*hole)),
         }
@@ -86,14 +115,18 @@ impl Ty {
 }
 
 impl List<Ty> {
-    /// An equal copy.
     #[cycle(dup)]
-    pub fn dup(&self, alloc: Global) -> Result<List<Ty>, AllocError>
+    fn dup_within(
+        &self,
+        alloc: Global,
+        levels: u32,
+        types: &mut u32,
+    ) -> Result<List<Ty>, AllocError>
         ensures { IfOk result (λ copy. copy ≡ self.now) }
     {
         let mut copies = List::new(alloc);
         for ty in self.as_slice() {
-            copies.push(ty.dup(alloc)?)?;
+            copies.push(ty.dup_within(alloc, levels, types)?)?;
         }
         Ok(copies)
     }

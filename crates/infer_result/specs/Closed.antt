@@ -1,5 +1,5 @@
 -- Tables with an entry for each node, and without holes.
-use Rattle.std.specs.Prelude.{ℕ, ◌<◌, ◌≡◌, List, length, Option, IsTrue}
+use Rattle.std.specs.Prelude.{ℕ, ◌<◌, ◌≡◌, length}
 use Rattle.hir_facts.specs.declared.ids.ExprId.{ExprId}
 use Rattle.hir_facts.specs.declared.ids.PatId.{PatId}
 use Rattle.hir_facts.specs.declared.ids.BindingId.{BindingId}

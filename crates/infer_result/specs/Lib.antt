@@ -5,6 +5,8 @@ pub mod Rules
 pub mod Excused
 pub mod Upward
 pub mod Truth
+pub mod Parts
 pub mod Made
 pub mod Typed
+pub mod Derived
 pub mod Report

@@ -1,5 +1,5 @@
 -- What a walk of a body shows of its table, node by node; the rest of what is promised follows from it.
-use Rattle.std.specs.Prelude.{◌<◌, ℕ, length, slice_get}
+use Rattle.std.specs.Prelude.{◌<◌, length, slice_get}
 use Rattle.hir_facts.specs.declared.ids.ExprId.{ExprId}
 use Rattle.hir_facts.specs.declared.ids.PatId.{PatId}
 use Rattle.hir_facts.specs.declared.ids.BindingId.{BindingId}

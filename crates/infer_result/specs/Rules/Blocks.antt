@@ -1,5 +1,5 @@
 -- The statements of a block, and its tail at the block's type.
-use Rattle.std.specs.Prelude.{◌≡◌, Bool, true, false, List, [], ◌∷◌, Option, Some, None}
+use Rattle.std.specs.Prelude.{true, false, List, [], ◌∷◌, Option, Some, None}
 use Rattle.hir_facts.specs.declared.ids.ExprId.{ExprId}
 use Rattle.hir_facts.specs.declared.ids.PatId.{PatId}
 use Rattle.hir_facts.specs.declared.ids.TypeRefId.{TypeRefId}

@@ -1,5 +1,5 @@
 -- The rule of each kind of expression.
-use Rattle.std.specs.Prelude.{◌≡◌, ◌⊎◌, slice_get, Option, Some, None}
+use Rattle.std.specs.Prelude.{◌⊎◌, slice_get, Option, Some, None}
 use Rattle.hir_facts.specs.declared.ids.ExprId.{ExprId}
 use Rattle.hir_facts.specs.declared.ty.Ty.{Ty}
 use Rattle.hir_facts.specs.declared.raw.RawExpr.{RawExpr}

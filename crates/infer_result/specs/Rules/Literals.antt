@@ -1,5 +1,5 @@
 -- The type of a literal.
-use Rattle.std.specs.Prelude.{◌≡◌, Option, Some, None, List}
+use Rattle.std.specs.Prelude.{◌≡◌, Some, None}
 use Rattle.hir_facts.specs.declared.ty.IntegerTy.{IntegerTy}
 use Rattle.hir_facts.specs.declared.ty.Ty.{Ty}
 use Rattle.hir_facts.specs.declared.ty.Ty.TheVariants as ty

@@ -1,5 +1,4 @@
 -- A path has the type of the local that it names.
-use Rattle.std.specs.Prelude.{◌≡◌}
 use Rattle.hir_facts.specs.declared.ids.ExprId.{ExprId}
 use Rattle.hir_facts.specs.declared.ty.Ty.{Ty}
 use Rattle.hir_facts.specs.declared.raw.RawPath.{RawPath}

@@ -1,4 +1,4 @@
-use Rattle.std.proofs.Common.{◌∙◌, ap, sym, List, ◌≡◌}
+use Rattle.std.proofs.Common.{◌∙◌, ap, sym, List}
 use Rattle.std.specs.Prelude.{slice_get}
 use Rattle.hir_facts.specs.declared.ids.ExprOrPatId.{ExprOrPatId}
 use Rattle.hir_facts.proofs.Schedules.{listed_inside}

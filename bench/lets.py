@@ -1,0 +1,98 @@
+#!/usr/bin/env python3
+"""Time and peak memory of `table fn 0` over a function of N statements `let v = w;`, at N, 2N and 4N.
+
+Beside each, where rustc is found, the time of its pass `type_check_crate` over the same function.
+Usage: bench/lets.py [N]       (40000 where none is given; 4N statements must fit into 2^24 bytes)
+Build the program first: cd crates/infer_tool && rt run -- table fn 0 < ../../examples/first_run.json
+"""
+import json
+import os
+import re
+import shutil
+import subprocess
+import sys
+import tempfile
+import time
+
+TOP = os.path.dirname(os.path.dirname(os.path.abspath(__file__)))
+PROGRAM = os.path.join(TOP, "crates", "infer_tool", "out", "infer_tool")
+
+
+def facts(count):
+    """The facts of `fn f() { let v0 = 1u8; let v1 = v0; .. }`, as one text."""
+    exprs = [["lit", ["int", "1", "u8"]]]
+    exprs += [["path", ["local", k - 1, None]] for k in range(1, count)]
+    root = len(exprs)
+    exprs.append(["block", None, [["let", k, None, k, None] for k in range(count)], None])
+    body = {
+        "module": 0, "traits": [], "self": None, "params": [], "root": root, "exprs": exprs,
+        "pats": [["bind", k, None] for k in range(count)],
+        "bindings": [["v%d" % k, "plain"] for k in range(count)], "labels": 0,
+    }
+    function = {
+        "name": "f", "at": ["module", 0], "params": [], "preds": [], "has_self": False,
+        "inputs": [], "output": 0, "safe": True, "vis": "pub", "body": 0,
+    }
+    value = {
+        "profile": 1, "edition": 2021, "never_fallback": False, "new_range": False,
+        "limits": [8, 1000, 8, 10], "types": [["tuple", []]], "modules": [None], "adts": [],
+        "variants": [], "fns": [function], "consts": [], "statics": [], "traits": [],
+        "aliases": [], "impls": [], "opaques": [], "lang": {}, "bodies": [body],
+    }
+    return json.dumps(value, separators=(",", ":")).encode()
+
+
+def measure(text):
+    """Seconds, peak memory in MiB and the last line of the report."""
+    with tempfile.TemporaryFile() as source, tempfile.TemporaryFile() as sink:
+        source.write(text)
+        source.seek(0)
+        begun = time.monotonic()
+        child = subprocess.Popen([PROGRAM, "table", "fn", "0"], stdin=source, stdout=sink)
+        _, status, used = os.wait4(child.pid, 0)
+        seconds = time.monotonic() - begun
+        child.returncode = os.waitstatus_to_exitcode(status)
+        sink.seek(0)
+        lines = sink.read().splitlines()
+        return seconds, used.ru_maxrss / 1024, child.returncode, lines[-1].decode() if lines else "-"
+
+
+def rustc_seconds(count):
+    """What rustc says of its pass `type_check_crate`, or None where it is not found."""
+    rustc = shutil.which("rustc")
+    if rustc is None:
+        return None
+    with tempfile.TemporaryDirectory() as folder:
+        source = os.path.join(folder, "lets.rs")
+        with open(source, "w") as out:
+            out.write("#![allow(unused)]\npub fn f() {\nlet v0 = 1u8;\n")
+            for k in range(1, count):
+                out.write("let v%d = v%d;\n" % (k, k - 1))
+            out.write("}\n")
+        done = subprocess.run(
+            [rustc, "--crate-type=lib", "--emit=metadata", "-Ztime-passes", "-o",
+             os.path.join(folder, "lets.rmeta"), source],
+            env=dict(os.environ, RUSTC_BOOTSTRAP="1"), capture_output=True, text=True, timeout=600)
+        found = re.search(r"time:\s+([0-9.]+);.*\btype_check_crate\b", done.stderr + done.stdout)
+        return float(found.group(1)) if found else None
+
+
+def main():
+    first = int(sys.argv[1]) if len(sys.argv) > 1 else 40000
+    if not os.path.exists(PROGRAM):
+        sys.exit("build the program first (see this script's head)")
+    before = None
+    for count in (first, 2 * first, 4 * first):
+        text = facts(count)
+        if len(text) > 1 << 24:
+            sys.exit("%d statements don't fit into 2^24 bytes" % count)
+        seconds, peak, status, last = measure(text)
+        theirs = rustc_seconds(count)
+        print("N %7d  bytes %9d  seconds %7.3f%s  peak MiB %7.1f  status %d  %s  rustc type_check_crate %s"
+              % (count, len(text), seconds, "" if before is None else " (%.2f times)" % (seconds / before),
+                 peak, status, last, "-" if theirs is None else "%.3f" % theirs))
+        before = seconds
+
+
+if __name__ == "__main__":
+    main()

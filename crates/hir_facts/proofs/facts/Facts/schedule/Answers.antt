@@ -1,0 +1,20 @@
+use Rattle.std.proofs.Common.{◌≡◌, ◌∙◌, List, get_or}
+use Rattle.std.specs.Prelude.{slice_get, Some}
+use Rattle.hir_facts.specs.declared.raw.RawFacts.{RawFacts}
+use Rattle.hir_facts.specs.declared.raw.RawBody.{RawBody}
+use Rattle.hir_facts.specs.declared.schedule.Schedule.{Schedule}
+use Rattle.hir_facts.specs.Order.{IsSchedule, AreDepths}
+use Rattle.hir_facts.specs.Walkable.{walkable}
+use Rattle.hir_facts.proofs.Scoping.{scheduled_at}
+use Rattle.hir_facts.proofs.facts.Facts.schedule.Goals as goal
+
+pub returns-clause-walkable : goal.returns-clause-walkable
+returns-clause-walkable c b found =
+    let here : slice_get c.self.inside.raw.bodies c.args.body.0 ≡ Some b = rw c.self.view_is found in
+    let law = scheduled_at c.self.inside.raw.bodies c.self.inside.schedules c.as_slice-schedules.result.now c.args.body.0 b c.index-schedules-body.result c.self.invariant.1 here c.as_slice-schedules.ensures c.index-schedules-body.is in
+    walkable c.self.inside.raw c.self.invariant.0 c.args.body.0 b c.index-schedules-body.result here law.0
+
+pub returns-clause-depths : goal.returns-clause-depths
+returns-clause-depths c b found =
+    let here : slice_get c.self.inside.raw.bodies c.args.body.0 ≡ Some b = rw c.self.view_is found in
+    (scheduled_at c.self.inside.raw.bodies c.self.inside.schedules c.as_slice-schedules.result.now c.args.body.0 b c.index-schedules-body.result c.self.invariant.1 here c.as_slice-schedules.ensures c.index-schedules-body.is).1

@@ -1,0 +1,25 @@
+use Rattle.std.proofs.Common.{◌<◌, arith, get_or, ◌∙◌, ap}
+use Rattle.hir_facts.specs.declared.ty.Ty.TheVariants as ty
+use Rattle.hir_facts.proofs.Lowering.{part_below, lowered_here, tuple_here}
+use Rattle.hir_facts.proofs.lower.+lower.Goals as goal
+
+pub lower-requires : goal.lower-requires
+lower-requires t c =
+    let below : (get_or c.as_slice-part-items.result.now c.loop-part.part-index (record { 0 = 0 })).0 < c.args.t =
+    part_below c.args.types.now c.args.t c.index-types-t.result c.in-Tuple.parts c.as_slice-part-items.result.now c.loop-part.part-index (record { 0 = 0 }) c.requires.before c.requires.within c.index-types-t.is c.in-Tuple.is c.as_slice-part-items.ensures c.loop-part-test.true in
+    (omega (arith, below), (c.requires.before, omega (arith, below)))
+
+pub returns-in-Bool : goal.returns-in-Bool
+returns-in-Bool t c = lowered_here c.args.types.now c.args.t c.index-types-t.result _ c.requires.before c.requires.within c.index-types-t.is c.in-Bool.is
+
+pub returns-in-Char : goal.returns-in-Char
+returns-in-Char t c = lowered_here c.args.types.now c.args.t c.index-types-t.result _ c.requires.before c.requires.within c.index-types-t.is c.in-Char.is
+
+pub returns-in-Integer : goal.returns-in-Integer
+returns-in-Integer t c = c.ty.ensures ∙ lowered_here c.args.types.now c.args.t c.index-types-t.result _ c.requires.before c.requires.within c.index-types-t.is c.in-Integer.is
+
+pub returns-after-loop-part : goal.returns-after-loop-part
+returns-after-loop-part t c = tuple_here c.args.types.now c.args.t c.index-types-t.result c.in-Tuple.parts c.as_slice-part-items.result.now c.loop-part.tys c.loop-part.part-index c.requires.before c.requires.within c.index-types-t.is c.in-Tuple.is c.as_slice-part-items.ensures c.loop-part.invariant c.loop-part-test.false
+
+pub returns-in-Other : goal.returns-in-Other
+returns-in-Other t c = lowered_here c.args.types.now c.args.t c.index-types-t.result _ c.requires.before c.requires.within c.index-types-t.is c.in-Other.is

@@ -1,0 +1,9 @@
+use Rattle.std.proofs.Common.{◌≡◌, map, take}
+use Rattle.hir_facts.specs.Types.{lowered}
+use Rattle.hir_facts.proofs.lower.+lower.Given as goal
+
+abbrev pub decreases-lower : goal.decreases-lower
+decreases-lower l = l.t
+
+abbrev pub invariant-loop-part : goal.invariant-loop-part
+invariant-loop-part l = l.tys ≡ map (λ t. lowered l.types t.0) (take l.part-index l.part-items)

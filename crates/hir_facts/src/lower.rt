@@ -1,0 +1,60 @@
+//! What written types stand for.
+ghost use Rattle.std.specs.Prelude.{◌≡◌, ◌<◌, IfOk, length};
+ghost use Rattle.hir_facts.specs.Types.{lowered, written_type};
+ghost use Rattle.hir_facts.specs.Bodies.{HasBody, return_type};
+ghost use Rattle.hir_facts.specs.Laws.Entries.{AllHold};
+ghost use Rattle.hir_facts.specs.Laws.Ids.{ChildrenBefore};
+
+use crate::facts::Facts;
+use crate::ids::{DefWithBodyId, TypeRefId};
+use crate::list::List;
+use crate::raw::RawType;
+use crate::ty::Ty;
+use std::alloc::{AllocError, Global};
+
+fn lower(types: &[RawType], t: usize, alloc: Global) -> Result<Ty, AllocError>
+    requires before { AllHold ChildrenBefore types.now }
+    requires within { t < length types.now }
+    ensures { IfOk result (λ ty. ty ≡ lowered types.now t) }
+{
+    match &types[t] {
+        RawType::Bool => Ok(Ty::Bool),
+        RawType::Char => Ok(Ty::Char),
+        RawType::Integer(integer) => Ok(integer.ty()),
+        RawType::Tuple(parts) => {
+            let mut tys = List::new(alloc);
+            for part in parts.as_slice() {
+                let ty = lower(types, part.0 as usize, alloc)?;
+                tys.push(ty)?;
+            }
+            Ok(Ty::Tuple(tys))
+        }
+        RawType::Other => Ok(Ty::Error),
+    }
+}
+
+/// The type that a written type stands for.
+pub fn lower_ty(alloc: Global, facts: &Facts, ty: TypeRefId) -> Result<Ty, AllocError>
+    requires { ty.0 < length facts.now.types }
+    ensures { IfOk result (λ t. t ≡ written_type facts.now.types ty) }
+{
+    facts.lawful();
+    let lowered = lower(facts.types(), ty.0 as usize, alloc)?;
+    Ok(lowered)
+}
+
+/// The type that a body is typed against.
+pub fn return_ty(alloc: Global, facts: &Facts, def: DefWithBodyId) -> Result<Ty, AllocError>
+    requires { HasBody facts.now def }
+    ensures { IfOk result (λ t. t ≡ return_type facts.now def) }
+{
+    facts.lawful();
+    match def {
+        DefWithBodyId::FunctionId(function) => {
+            let function = facts.fn_(function);
+            let ty = lower_ty(alloc, facts, function.output)?;
+            Ok(ty)
+        }
+        DefWithBodyId::ConstId(_) | DefWithBodyId::StaticId(_) | DefWithBodyId::VariantId(_) => Ok(Ty::Error),
+    }
+}

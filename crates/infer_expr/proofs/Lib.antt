@@ -1,0 +1,14 @@
+pub mod Lists
+pub mod Types
+pub mod Carried
+pub mod Parts
+pub mod Keeps
+pub mod Category
+pub mod Close
+pub mod Coercions
+pub mod Pats
+pub mod Leaves
+pub mod Stmts
+pub mod Tuples
+pub mod Blocks
+pub mod Whole

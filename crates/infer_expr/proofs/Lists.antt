@@ -1,0 +1,102 @@
+-- Reading lists, and lists of what is recorded, after a write.
+use Rattle.std.proofs.Common.{ℕ, zero, suc, ◌+◌, ◌<◌, ◌≤◌, ◌≡◌, ◌≢◌, ◌⊎◌, inl, inr, List, [], ◌∷◌, ◌++◌, length, get_or, drop, refl, sym, ap, ◌∙◌, arith, add-one, drop-cons, Option, Some, None, slice_get}
+use Rattle.std.proofs.Math.ListN.{set, length-set}
+use Rattle.std.proofs.lemmas.List.{get_or-set_same, get_or-set_other}
+use Rattle.std.proofs.lemmas.Option.{slice_get-get_or, slice_get_past}
+use Rattle.infer_result.specs.Table.{At}
+use Rattle.infer_expr.specs.Walks.{IsFree}
+
+pub lt_or_ge : (a b : ℕ) → (a < b) ⊎ (b ≤ a)
+lt_or_ge a b = grind arith
+
+pub same_or_not : (m n : ℕ) → (m ≡ n) ⊎ (m ≢ n)
+same_or_not m n = grind arith
+
+module _ {X : Type 0} where
+  pub slice_get-set_same : (xs : List X) (n : ℕ) (x : X) → n < length xs → slice_get (set xs n x) n ≡ Some x
+  slice_get-set_same xs n x h =
+      let k : n < length (set xs n x) = simp length-set h in
+      slice_get-get_or (set xs n x) n x k ∙ ap (λ y. Some y) (get_or-set_same xs n x x h)
+
+  pub slice_get-set_other : (xs : List X) (n m : ℕ) (x : X) → m ≢ n → slice_get (set xs n x) m ≡ slice_get xs m
+  slice_get-set_other xs n m x ne =
+      elim (lt_or_ge m (length xs)) [
+        | inl h ↦
+            (let k : m < length (set xs n x) = simp length-set h in
+            slice_get-get_or (set xs n x) m x k
+            ∙ (ap (λ y. Some y) (get_or-set_other xs n m x x ne) ∙ sym (slice_get-get_or xs m x h)))
+        | inr h ↦
+            (let k : length (set xs n x) ≤ m = simp length-set h in
+            slice_get_past (set xs n x) m k ∙ sym (slice_get_past xs m h))
+      ]
+
+  pub slice_get-append_left : (xs ys : List X) (i : ℕ) (x : X) → slice_get xs i ≡ Some x → slice_get (xs ++ ys) i ≡ Some x
+  slice_get-append_left [] ys i x h = cc
+  slice_get-append_left (y ∷ xs) ys zero x h = h
+  slice_get-append_left (y ∷ xs) ys (suc i) x h = slice_get-append_left xs ys i x h
+
+  pub slice_get-push : (xs : List X) (x : X) → slice_get (xs ++ x ∷ []) (length xs) ≡ Some x
+  slice_get-push [] x = refl
+  slice_get-push (y ∷ xs) x = slice_get-push xs x
+
+  pub drop-step : (xs : List X) (i : ℕ) (x : X) → i < length xs → drop i xs ≡ get_or xs i x ∷ drop (i + 1) xs
+  drop-step xs i x h = rw (add-one, drop-cons xs i x)
+
+  -- what a read at i gave
+  pub read_at : (xs : List X) (i : ℕ) (d x : X) → i < length xs → get_or xs i d ≡ x → slice_get xs i ≡ Some x
+  read_at xs i d x h e = slice_get-get_or xs i d h ∙ ap (λ y. Some y) e
+
+  pub found : (xs : List X) (n : ℕ) → n < length xs → (x : X) × (slice_get xs n ≡ Some x)
+  found [] n h = absurd (omega arith)
+  found (x ∷ xs) zero h = (x, refl)
+  found (x ∷ xs) (suc n) h = (let k : n < length xs = omega arith in found xs n k)
+
+module _ {A : Type 0} where
+  -- a write where nothing is recorded keeps what is
+  pub At-set : (xs : List (Option A)) (n m : ℕ) (a b : A) → IsFree xs n → At xs m b → At (set xs n (Some a)) m b
+  At-set xs n m a b free h =
+      elim (same_or_not m n) [
+        | inl e ↦ (let f : slice_get xs m ≡ Some None = rw e free in cc)
+        | inr ne ↦ slice_get-set_other xs n m (Some a) ne ∙ h
+      ]
+
+  -- what is recorded after a write was so before, or is what was written
+  pub At-set_cases : (xs : List (Option A)) (n m : ℕ) (a b : A) → n < length xs → At (set xs n (Some a)) m b → At xs m b ⊎ ((m ≡ n) × (a ≡ b))
+  At-set_cases xs n m a b h k =
+      elim (same_or_not m n) [
+        | inl e ↦
+            (let f : slice_get (set xs n (Some a)) m ≡ Some (Some a) = rw e (slice_get-set_same xs n (Some a) h) in
+            let g : a ≡ b = cc in
+            inr (e, g))
+        | inr ne ↦ inl (sym (slice_get-set_other xs n m (Some a) ne) ∙ k)
+      ]
+
+  -- a write of nothing, or of a value
+  abbrev pub own_set : List (Option A) → ℕ → Option A → List (Option A)
+  own_set xs n None = xs
+  own_set xs n (Some a) = set xs n (Some a)
+
+  pub length-own_set : (xs : List (Option A)) (n : ℕ) (o : Option A) → length (own_set xs n o) ≡ length xs
+  length-own_set xs n None = refl
+  length-own_set xs n (Some a) = length-set xs n (Some a)
+
+  pub At-own_set : (xs : List (Option A)) (n m : ℕ) (o : Option A) (b : A) → IsFree xs n → At xs m b → At (own_set xs n o) m b
+  At-own_set xs n m None b free h = h
+  At-own_set xs n m (Some a) b free h = At-set xs n m a b free h
+
+  pub own_set-at : (xs : List (Option A)) (n : ℕ) (o : Option A) (a : A) → n < length xs → o ≡ Some a → At (own_set xs n o) n a
+  own_set-at xs n None a h e = cc
+  own_set-at xs n (Some b) a h e = (let k : b ≡ a = cc in rw k (slice_get-set_same xs n (Some a) h))
+
+  pub own_set-other : (xs : List (Option A)) (n m : ℕ) (o : Option A) → m ≢ n → slice_get (own_set xs n o) m ≡ slice_get xs m
+  own_set-other xs n m None ne = refl
+  own_set-other xs n m (Some a) ne = slice_get-set_other xs n m (Some a) ne
+
+  pub own_set-cases : (xs : List (Option A)) (n m : ℕ) (o : Option A) (b : A) → n < length xs → At (own_set xs n o) m b → At xs m b ⊎ ((m ≡ n) × (o ≡ Some b))
+  own_set-cases xs n m None b h k = inl k
+  own_set-cases xs n m (Some a) b h k =
+      elim (At-set_cases xs n m a b h k) [ inl q ↦ inl q | inr q ↦ inr (q.0, ap (λ x. Some x) q.1) ]
+
+  pub own_set-free : (xs : List (Option A)) (n : ℕ) (o : Option A) → IsFree xs n → IsFree (own_set xs n o) n ⊎ ((a : A) × (o ≡ Some a))
+  own_set-free xs n None free = inl free
+  own_set-free xs n (Some a) free = inr (a, refl)

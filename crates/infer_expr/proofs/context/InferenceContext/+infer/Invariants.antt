@@ -1,0 +1,42 @@
+use Rattle.std.proofs.Common.{◌+◌, ◌-◌, ◌*◌, ◌^◌}
+use Rattle.infer_expr.specs.Context.{given_of, schedule_of}
+use Rattle.infer_expr.proofs.Tuples.{TupleLoop}
+use Rattle.infer_expr.proofs.Blocks.{BlockLoop}
+use Rattle.infer_expr.proofs.context.InferenceContext.+infer.Given as goal
+
+-- the room that is left for the clock, and then how near a function stands to the next step of it
+abbrev pub decreases-infer_expr_coerce : goal.decreases-infer_expr_coerce
+decreases-infer_expr_coerce l = 16 * (2 ^ 64 - l.self.now.clock) + 3
+
+abbrev pub decreases-infer_expr_inner : goal.decreases-infer_expr_inner
+decreases-infer_expr_inner l = 16 * (2 ^ 64 - l.self.now.clock) + 2
+
+abbrev pub decreases-infer_expr_of_kind : goal.decreases-infer_expr_of_kind
+decreases-infer_expr_of_kind l = 16 * (2 ^ 64 - l.self.now.clock) + 10
+
+abbrev pub decreases-infer_tuple : goal.decreases-infer_tuple
+decreases-infer_tuple l = 16 * (2 ^ 64 - l.self.now.clock) + 9
+
+abbrev pub decreases-infer_block : goal.decreases-infer_block
+decreases-infer_block l = 16 * (2 ^ 64 - l.self.now.clock) + 9
+
+abbrev pub decreases-infer_tail : goal.decreases-infer_tail
+decreases-infer_tail l = 16 * (2 ^ 64 - l.self.now.clock) + 8
+
+abbrev pub decreases-infer_stmt : goal.decreases-infer_stmt
+decreases-infer_stmt l = 16 * (2 ^ 64 - l.self.now.clock) + 8
+
+abbrev pub decreases-infer_let : goal.decreases-infer_let
+decreases-infer_let l = 16 * (2 ^ 64 - l.self.now.clock) + 7
+
+abbrev pub decreases-infer_expr_stmt : goal.decreases-infer_expr_stmt
+decreases-infer_expr_stmt l = 16 * (2 ^ 64 - l.self.now.clock) + 7
+
+abbrev pub decreases-infer_initializer : goal.decreases-infer_initializer
+decreases-infer_initializer l = 16 * (2 ^ 64 - l.self.now.clock) + 6
+
+abbrev pub invariant-infer_tuple-loop-i : goal.invariant-infer_tuple-loop-i
+invariant-infer_tuple-loop-i l = TupleLoop (given_of l.given) (schedule_of l.given) l.fn.tgt_expr l.exprs l.i l.tys l.initial.self l.self
+
+abbrev pub invariant-infer_block-loop-i : goal.invariant-infer_block-loop-i
+invariant-infer_block-loop-i l = BlockLoop (given_of l.given) (schedule_of l.given) l.fn.tgt_expr l.statements l.fn.tail l.i l.initial.self l.self

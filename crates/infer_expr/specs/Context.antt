@@ -1,0 +1,88 @@
+-- What the walk reads, what it expects, and what a write does.
+use Rattle.std.specs.Prelude.{◌+◌, ℕ, length, replicate, slice_get, slice_set, Option, Some, None}
+use Rattle.hir_facts.specs.declared.ids.ExprId.{ExprId}
+use Rattle.hir_facts.specs.declared.ids.PatId.{PatId}
+use Rattle.hir_facts.specs.declared.ids.BindingId.{BindingId}
+use Rattle.hir_facts.specs.declared.ty.Ty.{Ty, Ty-F, out-Ty}
+use Rattle.hir_facts.specs.declared.raw.RawBody.{RawBody}
+use Rattle.hir_facts.specs.declared.schedule.Schedule.{Schedule}
+use Rattle.hir_facts.specs.Erasure.{IsClosed}
+use Rattle.infer_result.specs.declared.result.TypeMismatch.{TypeMismatch}
+use Rattle.infer_result.specs.declared.modes.BindingMode.{BindingMode}
+use Rattle.infer_result.specs.declared.modes.BindingMode.TheVariants as mode
+use Rattle.infer_result.specs.Places.{Given}
+use Rattle.infer_expr.specs.declared.given.GivenBody.{GivenBody}
+use Rattle.infer_expr.specs.declared.expectation.Expectation.{Expectation}
+use Rattle.infer_expr.specs.declared.expectation.Expectation.TheVariants as expectation
+use Rattle.infer_expr.specs.declared.context.InferenceContext.{InferenceContext}
+
+-- ---- what is read
+
+abbrev pub given_of : GivenBody → Given
+given_of x = record { types = x.facts.now.types; body = x.body.now; output = x.return_ty.now }
+
+abbrev pub schedule_of : GivenBody → Schedule
+schedule_of x = x.schedule.now
+
+-- ---- what is expected
+
+abbrev pub expected_type : Expectation → Option Ty
+expected_type expectation.None = None
+expected_type (expectation.HasType t) = Some t.now
+
+abbrev pub component : Ty-F Ty → ℕ → Option Ty
+component (Ty-F.Tuple ts) i = slice_get ts i
+component Ty-F.Bool i = None
+component Ty-F.Char i = None
+component (Ty-F.Int n) i = None
+component (Ty-F.Uint n) i = None
+component Ty-F.Error i = None
+component (Ty-F.Var n) i = None
+
+-- the type that is expected of an element, where this is expected of the tuple
+abbrev pub element_type : Option Ty → ℕ → Option Ty
+element_type None i = None
+element_type (Some t) i = component (out-Ty t) i
+
+abbrev pub IsClosedExpectation : Option Ty → Type 0
+IsClosedExpectation None = Unit {0}
+IsClosedExpectation (Some t) = IsClosed t
+
+-- ---- what is found out
+
+-- nothing yet: the walk has come to the body alone
+abbrev pub empty_context : RawBody → InferenceContext
+empty_context b = record {
+  result = record {
+    type_of_expr = replicate (length b.exprs) None;
+    type_of_pat = replicate (length b.pats) None;
+    type_of_binding = replicate (length b.bindings) None;
+    binding_modes = replicate (length b.pats) None;
+    expr_mismatches = replicate (length b.exprs) None;
+  };
+  clock = 1;
+}
+
+-- ---- what a write does
+
+abbrev pub entered : InferenceContext → InferenceContext
+entered c = record c { clock = c.clock + 1 }
+
+abbrev pub with_expr_ty : InferenceContext → ExprId → Ty → InferenceContext
+with_expr_ty c e t = record c { result = record c.result { type_of_expr = slice_set c.result.type_of_expr e.0 (Some t) } }
+
+abbrev pub with_mismatch : InferenceContext → ExprId → TypeMismatch → InferenceContext
+with_mismatch c e m = record c { result = record c.result { expr_mismatches = slice_set c.result.expr_mismatches e.0 (Some m) } }
+
+abbrev pub with_pat_ty : InferenceContext → PatId → Ty → InferenceContext
+with_pat_ty c p t = record c { result = record c.result { type_of_pat = slice_set c.result.type_of_pat p.0 (Some t) } }
+
+abbrev pub with_mode : InferenceContext → PatId → BindingMode → InferenceContext
+with_mode c p m = record c { result = record c.result { binding_modes = slice_set c.result.binding_modes p.0 (Some m) } }
+
+abbrev pub with_binding_ty : InferenceContext → BindingId → Ty → InferenceContext
+with_binding_ty c v t = record c { result = record c.result { type_of_binding = slice_set c.result.type_of_binding v.0 (Some t) } }
+
+-- the pattern p of type t binds v by move
+abbrev pub bound_by : InferenceContext → PatId → BindingId → Ty → InferenceContext
+bound_by c p v t = with_binding_ty (with_pat_ty (with_mode c p mode.Move) p t) v t

@@ -1,0 +1,88 @@
+-- What every function of the walk does to the context.
+use Rattle.std.specs.Prelude.{ℕ, ◌<◌, ◌≤◌, ◌≡◌, ◌⊎◌, List, length, slice_get, Option, Some, None}
+use Rattle.hir_facts.specs.declared.ids.ExprId.{ExprId}
+use Rattle.hir_facts.specs.declared.ids.PatId.{PatId}
+use Rattle.hir_facts.specs.declared.ids.BindingId.{BindingId}
+use Rattle.hir_facts.specs.declared.ids.ExprOrPatId.TheVariants as node
+use Rattle.hir_facts.specs.declared.ty.Ty.{Ty}
+use Rattle.hir_facts.specs.declared.schedule.Schedule.{Schedule}
+use Rattle.hir_facts.specs.declared.raw.RawBody.{RawBody}
+use Rattle.hir_facts.specs.Order.{start, end, inner, Binds}
+use Rattle.infer_result.specs.declared.result.InferenceResult.{InferenceResult}
+use Rattle.infer_result.specs.declared.result.TypeMismatch.{TypeMismatch}
+use Rattle.infer_result.specs.declared.modes.BindingMode.{BindingMode}
+use Rattle.infer_result.specs.Table.{At, HasTy, PatTy, BindingTy, HasMode}
+use Rattle.infer_result.specs.Closed.{IsOfBody, IsClosedTable}
+use Rattle.infer_result.specs.Places.{Given, Demand}
+use Rattle.infer_result.specs.Rules.Expressions.{ObeysOrMismatch}
+use Rattle.infer_result.specs.Rules.Patterns.{PatRule}
+use Rattle.infer_result.specs.Made.{IsMisfit}
+use Rattle.infer_expr.specs.declared.context.InferenceContext.{InferenceContext}
+
+-- the numbers of an expression and of a pattern in the order of the walk
+abbrev pub expr_start : RawBody → Schedule → ExprId → ℕ
+expr_start b s e = start b s (inner (node.ExprId e))
+
+abbrev pub expr_end : RawBody → Schedule → ExprId → ℕ
+expr_end b s e = end b s (inner (node.ExprId e))
+
+abbrev pub pat_start : RawBody → Schedule → PatId → ℕ
+pat_start b s p = start b s (inner (node.PatId p))
+
+-- nothing is recorded at n
+abbrev pub IsFree : {A : Type 0} → List (Option A) → ℕ → Type 0
+IsFree xs n = slice_get xs n ≡ Some None
+
+-- what was recorded stays
+pub record Extends (old new : InferenceResult) : Type 0 where
+  pub exprs : (e : ExprId) (t : Ty) → HasTy old e t → HasTy new e t
+  pub pats : (p : PatId) (t : Ty) → PatTy old p t → PatTy new p t
+  pub bindings : (v : BindingId) (t : Ty) → BindingTy old v t → BindingTy new v t
+  pub modes : (p : PatId) (m : BindingMode) → HasMode old p m → HasMode new p m
+  pub mismatches : (e : ExprId) (m : TypeMismatch) → At old.expr_mismatches e.0 m → At new.expr_mismatches e.0 m
+
+-- The state of the walk: no type has a hole, nothing is recorded at a node from the clock on, and
+-- each binding whose pattern comes before it has a type.
+pub record IsWalked (b : RawBody) (s : Schedule) (c : InferenceContext) : Type 0 where
+  pub of_body : IsOfBody b c.result
+  pub closed : IsClosedTable c.result
+  pub free_exprs : (e : ExprId) → e.0 < length b.exprs → c.clock ≤ expr_start b s e → IsFree c.result.type_of_expr e.0
+  pub free_mismatches : (e : ExprId) → e.0 < length b.exprs → c.clock ≤ expr_start b s e → IsFree c.result.expr_mismatches e.0
+  pub free_pats : (p : PatId) → p.0 < length b.pats → c.clock ≤ pat_start b s p → IsFree c.result.type_of_pat p.0
+  pub free_modes : (p : PatId) → p.0 < length b.pats → c.clock ≤ pat_start b s p → IsFree c.result.binding_modes p.0
+  pub free_bindings : (p : PatId) (v : BindingId) → Binds b p v → c.clock ≤ pat_start b s p → IsFree c.result.type_of_binding v.0
+  pub bound : (p : PatId) (v : BindingId) → Binds b p v → pat_start b s p < c.clock → (t : Ty) × BindingTy c.result v t
+
+-- a property of mismatches and the expressions that they stand at: what the places of these have still to show
+abbrev pub Debt : Type 1
+Debt = ExprId → TypeMismatch → Type 0
+
+-- The nodes from the old clock to the new one are made, those before it are left alone, and each new
+-- mismatch is a true one, but that the demand of its place may still be owed, as P says.
+pub record Walks (g : Given) (s : Schedule) (P : Debt) (old new : InferenceContext) : Type 0 where
+  pub clock : old.clock ≤ new.clock
+  pub extends : Extends old.result new.result
+  pub kept : (e : ExprId) → e.0 < length g.body.exprs → expr_start g.body s e < old.clock → slice_get new.result.type_of_expr e.0 ≡ slice_get old.result.type_of_expr e.0
+  pub kept_mismatches : (e : ExprId) → e.0 < length g.body.exprs → expr_start g.body s e < old.clock → slice_get new.result.expr_mismatches e.0 ≡ slice_get old.result.expr_mismatches e.0
+  pub state : IsWalked g.body s new
+  pub made : (e : ExprId) → e.0 < length g.body.exprs → old.clock ≤ expr_start g.body s e → expr_start g.body s e < new.clock → ObeysOrMismatch g new.result e
+  pub pats_made : (p : PatId) → p.0 < length g.body.pats → old.clock ≤ pat_start g.body s p → pat_start g.body s p < new.clock → PatRule new.result p (slice_get g.body.pats p.0)
+  pub truths : (e : ExprId) (m : TypeMismatch) → At new.result.expr_mismatches e.0 m → At old.result.expr_mismatches e.0 m ⊎ (IsMisfit g new.result e m × (Demand g new.result e m.expected ⊎ P e m))
+
+-- ---- debts
+
+abbrev pub Nothing : ExprId → TypeMismatch → Type 0
+Nothing e m = ⊥
+
+-- a mismatch of e with the type that was expected of it, for a reason that its place knows
+abbrev pub Owed : ExprId → Option Ty → ExprId → TypeMismatch → Type 0
+Owed n None e m = ⊥
+Owed n (Some t) e m = (e ≡ n) × (m.expected ≡ t)
+
+-- a mismatch of one of the elements es with its type of ts
+abbrev pub OwedAmong : List ExprId → List Ty → ExprId → TypeMismatch → Type 0
+OwedAmong es ts e m = (i : ℕ) × (slice_get es i ≡ Some e) × (slice_get ts i ≡ Some m.expected)
+
+-- what n shows once its type is recorded as t
+abbrev pub PaidBy : Given → ExprId → Ty → ExprId → TypeMismatch → Type 0
+PaidBy g n t e m = (r : InferenceResult) → HasTy r n t → Demand g r e m.expected

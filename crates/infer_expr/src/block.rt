@@ -1,0 +1,79 @@
+//! The types of blocks.
+ghost use Rattle.std.specs.Prelude.{◌≡◌, ◌<◌, IfOk, length, List};
+ghost use Rattle.hir_facts.specs.Types.{unit};
+ghost use Rattle.infer_expr.specs.Context.{given_of, schedule_of, expected_type};
+ghost use Rattle.infer_expr.specs.Steps.{Within, IsBlockOf, KindDone, BeforeTail, TailDone, NoTailDone};
+
+use crate::context::InferenceContext;
+use crate::expectation::Expectation;
+use crate::given::GivenBody;
+use hir_facts::{ExprId, List, RawStmt, Ty};
+use infer_result::TypeMismatch;
+use std::alloc::{AllocError, Global};
+
+impl InferenceContext {
+    /// The type of a block: `infer/expr.rs`, `infer_block`.
+    #[cycle(infer)]
+    pub fn infer_block(
+        &mut self,
+        alloc: Global,
+        given: &GivenBody,
+        tgt_expr: ExprId,
+        statements: &[RawStmt],
+        tail: Option<ExprId>,
+        expected: Expectation,
+    ) -> Result<Ty, AllocError>
+        requires before { Within (given_of given.now) (schedule_of given.now)
+            tgt_expr (expected_type expected) self.old }
+        requires is { IsBlockOf given.now.body.now tgt_expr statements.now tail }
+        ensures { IfOk result (λ ty. KindDone (given_of given.now) (schedule_of given.now)
+            tgt_expr (expected_type expected.entry) ty self.old self.new) }
+    {
+        for i in 0..statements.len() {
+            self.infer_stmt(alloc, given, tgt_expr, &statements[i])?;
+        }
+        let ty = self.infer_tail(alloc, given, tgt_expr, tail, expected)?;
+        Ok(ty)
+    }
+
+    /// The type of a block by its tail: the end of `infer/expr.rs`'s `infer_block`.
+    #[cycle(infer)]
+    fn infer_tail(
+        &mut self,
+        alloc: Global,
+        given: &GivenBody,
+        block: ExprId,
+        tail: Option<ExprId>,
+        expected: Expectation,
+    ) -> Result<Ty, AllocError>
+        requires { BeforeTail (given_of given.now) (schedule_of given.now)
+            block tail (expected_type expected) self.old }
+        ensures { IfOk result (λ ty. TailDone (given_of given.now) (schedule_of given.now)
+            block tail (expected_type expected.entry) ty self.old self.new) }
+    {
+        match tail {
+            Some(expr) => self.infer_expr_coerce(alloc, given, expr, expected),
+            None => self.infer_no_tail(alloc, block, expected),
+        }
+    }
+
+    /// The type of a block without tail: `()`, or the type that is expected in its place.
+    fn infer_no_tail(
+        &mut self,
+        alloc: Global,
+        block: ExprId,
+        expected: Expectation,
+    ) -> Result<Ty, AllocError>
+        requires { block.0 < length self.old.result.expr_mismatches }
+        ensures { IfOk result (λ ty. NoTailDone block (expected_type expected.entry) ty self.old self.new) }
+    {
+        let unit = Ty::Tuple(List::new(alloc));
+        match expected.only_has_type() {
+            Some(target) => {
+                let ty = self.coerce(alloc, block, unit, target)?;
+                Ok(ty)
+            }
+            None => Ok(unit),
+        }
+    }
+}

@@ -1,0 +1,103 @@
+//! What inference of a body has found out so far.
+ghost use Rattle.std.specs.Prelude.{◌≡◌, ◌<◌, ◌+◌, ◌^◌, IfOk, None, length, replicate};
+ghost use Rattle.infer_expr.specs.Context.{empty_context, entered, with_expr_ty, with_mismatch, with_pat_ty, with_mode, with_binding_ty};
+
+use hir_facts::{BindingId, ExprId, List, PatId, RawBody, Ty};
+use infer_result::{BindingMode, InferenceResult, TypeMismatch};
+use std::alloc::{AllocError, Global};
+
+/// What inference of a body has found out so far: `infer.rs`, `InferenceContext`.
+#[derive(Drop)]
+pub struct InferenceContext {
+    /// The table as far as it is filled.
+    pub result: InferenceResult,
+    /// How many nodes of the body the walk has come to, the body itself counted.
+    pub clock: usize,
+}
+
+/// As many empty entries.
+fn no_entries<T: Drop>(alloc: Global, count: usize) -> Result<List<Option<T>>, AllocError>
+    ensures { IfOk result (λ entries. entries ≡ replicate count None) }
+{
+    let mut entries = List::new(alloc);
+    for _ in 0..count {
+        entries.push(None)?;
+    }
+    Ok(entries)
+}
+
+impl InferenceContext {
+    /// Nothing is found out yet: `infer.rs`, `InferenceContext::new`.
+    pub fn new(alloc: Global, body: &RawBody) -> Result<InferenceContext, AllocError>
+        ensures { IfOk result (λ context. context ≡ empty_context body.now) }
+    {
+        let result = InferenceResult {
+            type_of_expr: no_entries(alloc, body.exprs.len())?,
+            type_of_pat: no_entries(alloc, body.pats.len())?,
+            type_of_binding: no_entries(alloc, body.bindings.len())?,
+            binding_modes: no_entries(alloc, body.pats.len())?,
+            expr_mismatches: no_entries(alloc, body.exprs.len())?,
+        };
+        Ok(InferenceContext { result, clock: 1 })
+    }
+
+    /// The table, once the body is typed: `infer.rs`, `resolve_all`. No type has a hole to be
+    /// resolved.
+    pub fn resolve_all(self) -> InferenceResult
+        ensures { result ≡ self.result }
+    {
+        self.result
+    }
+
+    /// Comes to one node more.
+    pub fn enter(&mut self)
+        requires { self.old.clock + 1 < 2 ^ 64 }
+        ensures { self.new ≡ entered self.old }
+    {
+        self.clock += 1;
+    }
+
+    /// Records the type of an expression: `infer.rs`, `write_expr_ty`.
+    pub fn write_expr_ty(&mut self, expr: ExprId, ty: Ty)
+        requires { expr.0 < length self.old.result.type_of_expr }
+        ensures { self.new ≡ with_expr_ty self.old expr ty }
+    {
+        self.result.type_of_expr.set(expr.0 as usize, Some(ty));
+    }
+
+    /// Records a mismatch at an expression.
+    pub fn write_mismatch(&mut self, expr: ExprId, mismatch: TypeMismatch)
+        requires { expr.0 < length self.old.result.expr_mismatches }
+        ensures { self.new ≡ with_mismatch self.old expr mismatch }
+    {
+        self.result
+            .expr_mismatches
+            .set(expr.0 as usize, Some(mismatch));
+    }
+
+    /// Records the type of a pattern: `infer.rs`, `write_pat_ty`.
+    pub fn write_pat_ty(&mut self, pat: PatId, ty: Ty)
+        requires { pat.0 < length self.old.result.type_of_pat }
+        ensures { self.new ≡ with_pat_ty self.old pat ty }
+    {
+        self.result.type_of_pat.set(pat.0 as usize, Some(ty));
+    }
+
+    /// Records how a pattern binds.
+    pub fn write_binding_mode(&mut self, pat: PatId, mode: BindingMode)
+        requires { pat.0 < length self.old.result.binding_modes }
+        ensures { self.new ≡ with_mode self.old pat mode }
+    {
+        self.result.binding_modes.set(pat.0 as usize, Some(mode));
+    }
+
+    /// Records the type of a binding: `infer.rs`, `write_binding_ty`.
+    pub fn write_binding_ty(&mut self, binding: BindingId, ty: Ty)
+        requires { binding.0 < length self.old.result.type_of_binding }
+        ensures { self.new ≡ with_binding_ty self.old binding ty }
+    {
+        self.result
+            .type_of_binding
+            .set(binding.0 as usize, Some(ty));
+    }
+}

@@ -1,0 +1,19 @@
+//! Inference of the types of a body: the walk over its expressions, statements and patterns.
+#![tactic(auto)]
+
+mod block;
+mod body;
+mod coerce;
+mod context;
+mod expectation;
+mod expr;
+mod given;
+mod inspect;
+mod literal;
+mod pat;
+mod path;
+mod query;
+mod stmt;
+mod tuple;
+
+pub use inspect::{NoInspector, ObligationInspector};

@@ -1,0 +1,144 @@
+-- The table of the first run, `fn f() -> u8 { let x = 1u8; x }`, is typed; tables that are wrong at one node are not.
+use Rattle.std.proofs.Common.{◌+◌, ◌<◌, ◌≡◌, inl, inr, Bool, true, false, List, [], ◌∷◌, refl, sym, ap, ◌∙◌, arith, Option, Some, None, slice_get}
+use Rattle.hir_facts.specs.declared.ids.ExprOrPatId.TheVariants as node
+use Rattle.hir_facts.specs.declared.ty.Ty.{Ty, Ty-F, out-Ty, fold-roll-Ty}
+use Rattle.hir_facts.specs.declared.ty.Ty.TheVariants as ty
+use Rattle.hir_facts.specs.declared.ty.UintTy.TheVariants as uint
+use Rattle.hir_facts.specs.declared.raw.RawPath.TheVariants as path
+use Rattle.hir_facts.specs.declared.raw.RawStmt.TheVariants as stmt
+use Rattle.hir_facts.specs.declared.raw.RawExpr.TheVariants as expr
+use Rattle.hir_facts.specs.declared.raw.RawPat.TheVariants as pat
+use Rattle.hir_facts.specs.declared.raw.RawBody.{RawBody}
+use Rattle.hir_facts.specs.declared.schedule.Schedule.{Schedule}
+use Rattle.hir_facts.specs.Erasure.{has_hole, hole_step, IsClosed}
+use Rattle.hir_facts.specs.Order.{initializer, tail, the_body, inner, IsSchedule, start, end, after, Fits, parts}
+use Rattle.infer_result.specs.declared.result.InferenceResult.{InferenceResult}
+use Rattle.infer_result.specs.declared.result.TypeMismatch.{TypeMismatch}
+use Rattle.infer_result.specs.declared.modes.BindingMode.TheVariants as mode
+use Rattle.infer_result.specs.Table.{BindingTy, mismatch}
+use Rattle.infer_result.specs.Places.{Given, Demand}
+use Rattle.infer_result.specs.Rules.Expressions.{ObeysOrMismatch}
+use Rattle.infer_result.specs.Rules.Patterns.{PatRule}
+use Rattle.infer_result.specs.Made.{IsMisfit, IsMade}
+use Rattle.infer_result.specs.Typed.{IsTyped}
+use Rattle.infer_result.specs.Derived.{typed_by_schedule}
+use Rattle.infer_result.proofs.Samples.Small.{e, p, b, u8, one_u8, plain, body_of, each_below, each_node, apart_by, asked, only, each_entry, closed_uint, top_uint, top_error}
+
+abbrev body : RawBody
+body =
+    body_of (expr.Lit one_u8 ∷ expr.Path (path.Local (b 0)) ∷ expr.Block None (stmt.Let (p 0) None (Some (e 0)) None ∷ []) (Some (e 1)) ∷ []) 2
+    (pat.Bind (b 0) None ∷ []) (plain ∷ [])
+
+abbrev given : Given
+given = record { types = []; body = body; output = u8 }
+
+abbrev schedule : Schedule
+schedule = record { starts = 2 ∷ 4 ∷ 1 ∷ 3 ∷ 0 ∷ []; ends = 3 ∷ 5 ∷ 5 ∷ 4 ∷ 5 ∷ []; depths = 2 ∷ 2 ∷ 1 ∷ 2 ∷ 0 ∷ [] }
+
+is_schedule : IsSchedule body schedule
+is_schedule = record {
+  starts_size = refl;
+  ends_size = refl;
+  first = refl;
+  fits = each_node body (λ n. Fits body schedule (start body schedule n + 1) (parts body n)) ((omega arith, refl, tt), (((tt, tt), tt), (omega arith, refl, (omega arith, refl, (omega arith, refl, tt)))), (tt, tt));
+  ends = each_node body (λ n. after body schedule (start body schedule n + 1) (parts body n) ≡ end body schedule n) (refl, (((tt, refl), refl), refl), (tt, refl));
+  order = each_node body (λ n. start body schedule n < end body schedule n) (omega arith, (((tt, omega arith), omega arith), omega arith), (tt, omega arith));
+  reached = each_node body (λ n. start body schedule n < end body schedule the_body) (omega arith, (((tt, omega arith), omega arith), omega arith), (tt, omega arith));
+  apart = apart_by body schedule (the_body ∷ inner (node.ExprId (e 2)) ∷ inner (node.ExprId (e 0)) ∷ inner (node.PatId (p 0)) ∷ inner (node.ExprId (e 1)) ∷ []) (refl, (((tt, refl), refl), refl), (tt, refl));
+}
+
+abbrev table_of : List (Option Ty) → List (Option TypeMismatch) → InferenceResult
+table_of types mismatches = record {
+  type_of_expr = types;
+  type_of_pat = Some u8 ∷ [];
+  type_of_binding = Some u8 ∷ [];
+  binding_modes = Some mode.Move ∷ [];
+  expr_mismatches = mismatches;
+}
+
+abbrev right : InferenceResult
+right = table_of (Some u8 ∷ Some u8 ∷ Some u8 ∷ []) (None ∷ None ∷ None ∷ [])
+
+closed_u8 : IsClosed u8
+closed_u8 = closed_uint uint.U8
+
+right_made : IsMade given right
+right_made = record {
+  of_body = record { exprs = refl; pats = refl; bindings = refl; modes = refl; mismatches = refl };
+  closed = record {
+    exprs = each_entry IsClosed right.type_of_expr (closed_u8, (closed_u8, (closed_u8, tt)));
+    pats = each_entry IsClosed right.type_of_pat (closed_u8, tt);
+    bindings = each_entry IsClosed right.type_of_binding (closed_u8, tt);
+    expected = each_entry (λ x. IsClosed x.expected) right.expr_mismatches tt;
+    actual = each_entry (λ x. IsClosed x.actual) right.expr_mismatches tt;
+  };
+  clauses = λ x h. each_below (λ k. ObeysOrMismatch given right (e k)) 3 x.0 (((tt, (u8, refl, refl)), (u8, refl, refl)), (((u8, refl, refl), tt), (u8, refl, (u8, refl, inl refl)))) h;
+  kinds = λ x h. each_below (λ k. PatRule right (p k) (slice_get body.pats k)) 1 x.0 (tt, (u8, refl, refl, refl)) h;
+  bindings = λ v h. each_below (λ k. (s : Ty) × BindingTy right (b k) s) 1 v.0 (tt, (u8, refl)) h;
+  body_clause = (u8, refl, inl refl);
+  misfits = λ x. each_entry (IsMisfit given right x) right.expr_mismatches tt x.0;
+  demands = λ x. each_entry (λ m. Demand given right x m.expected) right.expr_mismatches tt x.0;
+}
+
+pub right_typed : IsTyped given right
+right_typed = typed_by_schedule given right schedule is_schedule right_made
+
+-- ---- tables that are wrong at one node
+
+abbrev u16 : Ty
+u16 = ty.Uint uint.U16
+
+differ : u8 ≡ u16 → ⊥
+differ h = (let k : Ty-F.Uint uint.U8 ≡ Ty-F.Uint uint.U16 = sym (top_uint uint.U8) ∙ (ap out-Ty h ∙ top_uint uint.U16) in cc)
+
+-- another type at the literal
+pub other_type : IsTyped given (table_of (Some u16 ∷ Some u8 ∷ Some u8 ∷ []) (None ∷ None ∷ None ∷ [])) → ⊥
+other_type h = (let c = h.clauses (e 0) (omega arith) in differ (sym c.2 ∙ sym (only u16 c.0 c.1)))
+
+-- another type at the path
+pub other_local : IsTyped given (table_of (Some u8 ∷ Some u16 ∷ Some u8 ∷ []) (None ∷ None ∷ None ∷ [])) → ⊥
+other_local h = (let c = h.clauses (e 1) (omega arith) in differ (only u8 c.0 c.2 ∙ sym (only u16 c.0 c.1)))
+
+-- another type at the block, and with it at the root
+pub other_block : IsTyped given (table_of (Some u8 ∷ Some u8 ∷ Some u16 ∷ []) (None ∷ None ∷ None ∷ [])) → ⊥
+other_block h =
+    (let c = h.body_clause in
+    let at : u16 ≡ c.0 = only u16 c.0 c.1 in
+    elim c.2 [ inl same ↦ differ (sym (at ∙ same)) | inr m ↦ (let clash = m in cc) ])
+
+-- a hole
+pub a_hole : IsTyped given (table_of (Some u8 ∷ Some (ty.Var 0) ∷ Some u8 ∷ []) (None ∷ None ∷ None ∷ [])) → ⊥
+a_hole h =
+    (let closed : has_hole (ty.Var 0) ≡ false = h.closed.exprs 1 (ty.Var 0) refl in
+    let open_ : has_hole (ty.Var 0) ≡ true = ap has_hole (sym (ty.rolls-Var 0)) ∙ fold-roll-Ty Bool hole_step (Ty-F.Var 0) in
+    let clash : false ≡ true = sym closed ∙ open_ in cc)
+
+-- a node without a type
+pub a_missing_entry : IsTyped given (table_of (Some u8 ∷ None ∷ Some u8 ∷ []) (None ∷ None ∷ None ∷ [])) → ⊥
+a_missing_entry h = (let c = h.total.exprs (e 1) (omega arith) in let clash = c.1 in cc)
+
+-- nothing but `{unknown}`
+pub all_unknown : IsTyped given (table_of (Some ty.Error ∷ Some ty.Error ∷ Some ty.Error ∷ []) (None ∷ None ∷ None ∷ [])) → ⊥
+all_unknown h =
+    (let c = h.clauses (e 0) (omega arith) in
+    let same : u8 ≡ ty.Error = sym c.2 ∙ sym (only ty.Error c.0 c.1) in
+    let k : Ty-F.Uint uint.U8 ≡ Ty-F.Error = sym (top_uint uint.U8) ∙ (ap out-Ty same ∙ top_error) in cc)
+
+-- ---- invented mismatches
+
+-- at the tail, which has the type that is asked for
+pub invented_at_tail : IsTyped given (table_of (Some u8 ∷ Some u8 ∷ Some u8 ∷ []) (None ∷ Some (mismatch u16 u8) ∷ None ∷ [])) → ⊥
+invented_at_tail h =
+    (let m = h.truths (e 1) (mismatch u16 u8) refl in
+    let a = asked given schedule is_schedule _ (e 1) (inner (node.ExprId (e 2))) 2 tail u16 (record { node_is = omega arith; part = refl }) m.demand in
+    differ (only u8 u16 a))
+
+-- at the initializer, of which nothing is asked
+pub invented_at_initializer : IsTyped given (table_of (Some u8 ∷ Some u8 ∷ Some u8 ∷ []) (Some (mismatch u16 u8) ∷ None ∷ None ∷ [])) → ⊥
+invented_at_initializer h =
+    (let m = h.truths (e 0) (mismatch u16 u8) refl in
+    asked given schedule is_schedule _ (e 0) (inner (node.ExprId (e 2))) 0 (initializer None) u16 (record { node_is = omega arith; part = refl }) m.demand)
+
+-- one at every node, each of the type itself
+pub mismatches_everywhere : IsTyped given (table_of (Some u8 ∷ Some u8 ∷ Some u8 ∷ []) (Some (mismatch u8 u8) ∷ Some (mismatch u8 u8) ∷ Some (mismatch u8 u8) ∷ [])) → ⊥
+mismatches_everywhere h = (h.truths (e 0) (mismatch u8 u8) refl).differ refl

@@ -1,0 +1,100 @@
+-- `fn f() -> u8 { let x = 1u8; }`: the block has the expected type, and the mismatch stands at it.
+use Rattle.std.proofs.Common.{ℕ, zero, suc, ◌+◌, ◌<◌, ◌≡◌, inl, inr, List, [], ◌∷◌, refl, sym, subst, ◌∙◌, arith, Option, Some, None, slice_get}
+use Rattle.hir_facts.specs.declared.ids.ExprOrPatId.TheVariants as node
+use Rattle.hir_facts.specs.declared.ty.Ty.{Ty}
+use Rattle.hir_facts.specs.declared.ty.UintTy.TheVariants as uint
+use Rattle.hir_facts.specs.declared.raw.RawStmt.TheVariants as stmt
+use Rattle.hir_facts.specs.declared.raw.RawExpr.TheVariants as expr
+use Rattle.hir_facts.specs.declared.raw.RawPat.TheVariants as pat
+use Rattle.hir_facts.specs.declared.raw.RawBody.{RawBody}
+use Rattle.hir_facts.specs.declared.schedule.Schedule.{Schedule}
+use Rattle.hir_facts.specs.Types.{unit}
+use Rattle.hir_facts.specs.Erasure.{IsClosed}
+use Rattle.hir_facts.specs.Order.{root, the_body, inner, IsSchedule, start, end, after, Fits, parts}
+use Rattle.infer_result.specs.declared.result.InferenceResult.{InferenceResult}
+use Rattle.infer_result.specs.declared.result.TypeMismatch.{TypeMismatch}
+use Rattle.infer_result.specs.declared.modes.BindingMode.TheVariants as mode
+use Rattle.infer_result.specs.Table.{At, BindingTy, mismatch}
+use Rattle.infer_result.specs.Places.{Given, Demand}
+use Rattle.infer_result.specs.Rules.Expressions.{ObeysOrMismatch}
+use Rattle.infer_result.specs.Rules.Patterns.{PatRule}
+use Rattle.infer_result.specs.Made.{IsMisfit, IsMade}
+use Rattle.infer_result.specs.Typed.{IsTyped}
+use Rattle.infer_result.specs.Derived.{typed_by_schedule}
+use Rattle.infer_result.proofs.Samples.Small.{e, p, b, u8, one_u8, plain, body_of, each_below, each_node, apart_by, only, each_entry, closed_uint, closed_unit, u8_is_no_unit}
+
+abbrev body : RawBody
+body = body_of (expr.Lit one_u8 ∷ expr.Block None (stmt.Let (p 0) None (Some (e 0)) None ∷ []) None ∷ []) 1 (pat.Bind (b 0) None ∷ []) (plain ∷ [])
+
+abbrev given : Given
+given = record { types = []; body = body; output = u8 }
+
+abbrev schedule : Schedule
+schedule = record { starts = 2 ∷ 1 ∷ 3 ∷ 0 ∷ []; ends = 3 ∷ 4 ∷ 4 ∷ 4 ∷ []; depths = 2 ∷ 1 ∷ 2 ∷ 0 ∷ [] }
+
+is_schedule : IsSchedule body schedule
+is_schedule = record {
+  starts_size = refl;
+  ends_size = refl;
+  first = refl;
+  fits = each_node body (λ n. Fits body schedule (start body schedule n + 1) (parts body n)) ((omega arith, refl, tt), ((tt, tt), (omega arith, refl, (omega arith, refl, tt))), (tt, tt));
+  ends = each_node body (λ n. after body schedule (start body schedule n + 1) (parts body n) ≡ end body schedule n) (refl, ((tt, refl), refl), (tt, refl));
+  order = each_node body (λ n. start body schedule n < end body schedule n) (omega arith, ((tt, omega arith), omega arith), (tt, omega arith));
+  reached = each_node body (λ n. start body schedule n < end body schedule the_body) (omega arith, ((tt, omega arith), omega arith), (tt, omega arith));
+  apart = apart_by body schedule (the_body ∷ inner (node.ExprId (e 1)) ∷ inner (node.ExprId (e 0)) ∷ inner (node.PatId (p 0)) ∷ []) (refl, ((tt, refl), refl), (tt, refl));
+}
+
+abbrev table_of : List (Option Ty) → List (Option TypeMismatch) → InferenceResult
+table_of types mismatches = record {
+  type_of_expr = types;
+  type_of_pat = Some u8 ∷ [];
+  type_of_binding = Some u8 ∷ [];
+  binding_modes = Some mode.Move ∷ [];
+  expr_mismatches = mismatches;
+}
+
+abbrev right : InferenceResult
+right = table_of (Some u8 ∷ Some u8 ∷ []) (None ∷ Some (mismatch u8 unit) ∷ [])
+
+closed_u8 : IsClosed u8
+closed_u8 = closed_uint uint.U8
+
+right_made : IsMade given right
+right_made = record {
+  of_body = record { exprs = refl; pats = refl; bindings = refl; modes = refl; mismatches = refl };
+  closed = record {
+    exprs = each_entry IsClosed right.type_of_expr (closed_u8, (closed_u8, tt));
+    pats = each_entry IsClosed right.type_of_pat (closed_u8, tt);
+    bindings = each_entry IsClosed right.type_of_binding (closed_u8, tt);
+    expected = each_entry (λ x. IsClosed x.expected) right.expr_mismatches (closed_u8, tt);
+    actual = each_entry (λ x. IsClosed x.actual) right.expr_mismatches (closed_unit, tt);
+  };
+  clauses = λ x h. each_below (λ k. ObeysOrMismatch given right (e k)) 2 x.0 ((tt, (u8, refl, refl)), (((u8, refl, refl), tt), (u8, refl, inr refl))) h;
+  kinds = λ x h. each_below (λ k. PatRule right (p k) (slice_get body.pats k)) 1 x.0 (tt, (u8, refl, refl, refl)) h;
+  bindings = λ v h. each_below (λ k. (s : Ty) × BindingTy right (b k) s) 1 v.0 (tt, (u8, refl)) h;
+  body_clause = (u8, refl, inl refl);
+  misfits = λ x m at. misfit x.0 m at;
+  demands = λ x m at. demand x.0 m at;
+}
+  where
+    misfit : (k : ℕ) (m : TypeMismatch) → At right.expr_mismatches k m → IsMisfit given right (e k) m
+    misfit zero m at = absurd (cc)
+    misfit (suc zero) m at = subst (λ y. IsMisfit given right (e 1) y) (only (mismatch u8 unit) m at) (record { differ = u8_is_no_unit; actual = inr (record { label = None; stmts = stmt.Let (p 0) None (Some (e 0)) None ∷ []; is_block = refl }, refl) })
+    misfit (suc (suc k)) m at = absurd (cc)
+
+    demand : (k : ℕ) (m : TypeMismatch) → At right.expr_mismatches k m → Demand given right (e k) m.expected
+    demand zero m at = absurd (cc)
+    demand (suc zero) m at = subst (λ (y : TypeMismatch). Demand given right (e 1) y.expected) (only (mismatch u8 unit) m at) (record { parent = the_body; at_part = 0; role = root; stands = record { node_is = tt; part = refl }; asks = (refl, refl) })
+    demand (suc (suc k)) m at = absurd (cc)
+
+pub right_typed : IsTyped given right
+right_typed = typed_by_schedule given right schedule is_schedule right_made
+
+-- ---- refused
+
+-- the block is at the expected type in silence
+pub in_silence : IsTyped given (table_of (Some u8 ∷ Some u8 ∷ []) (None ∷ None ∷ [])) → ⊥
+in_silence h =
+    (let c = h.clauses (e 1) (omega arith) in
+    let s : u8 ≡ c.1.0 = only u8 c.1.0 c.1.1 in
+    elim c.1.2 [ inl same ↦ u8_is_no_unit (s ∙ sym same) | inr m ↦ (let clash = m in cc) ])

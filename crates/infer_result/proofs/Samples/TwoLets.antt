@@ -1,0 +1,134 @@
+-- `fn f() { let x: bool = 1u8; let y: u8 = true; }`: two mistakes, each with its mismatch.
+use Rattle.std.proofs.Common.{ℕ, zero, suc, ◌+◌, ◌<◌, ◌≡◌, inl, inr, true, List, [], ◌∷◌, refl, sym, subst, ◌∙◌, arith, Option, Some, None, slice_get}
+use Rattle.hir_facts.specs.declared.ids.TypeRefId.{TypeRefId}
+use Rattle.hir_facts.specs.declared.ids.ExprOrPatId.TheVariants as node
+use Rattle.hir_facts.specs.declared.ty.Ty.{Ty}
+use Rattle.hir_facts.specs.declared.ty.Ty.TheVariants as ty
+use Rattle.hir_facts.specs.declared.ty.UintTy.TheVariants as uint
+use Rattle.hir_facts.specs.declared.ty.IntegerTy.TheVariants as integer
+use Rattle.hir_facts.specs.declared.raw.RawType.{RawType}
+use Rattle.hir_facts.specs.declared.raw.RawType.TheVariants as type
+use Rattle.hir_facts.specs.declared.raw.RawLiteral.TheVariants as literal
+use Rattle.hir_facts.specs.declared.raw.RawStmt.TheVariants as stmt
+use Rattle.hir_facts.specs.declared.raw.RawExpr.TheVariants as expr
+use Rattle.hir_facts.specs.declared.raw.RawPat.TheVariants as pat
+use Rattle.hir_facts.specs.declared.raw.RawBody.{RawBody}
+use Rattle.hir_facts.specs.declared.schedule.Schedule.{Schedule}
+use Rattle.hir_facts.specs.Types.{unit, lowered_within, written_type}
+use Rattle.hir_facts.specs.Erasure.{IsClosed}
+use Rattle.hir_facts.specs.Order.{initializer, the_body, inner, IsSchedule, start, end, after, Fits, parts}
+use Rattle.infer_result.specs.declared.result.InferenceResult.{InferenceResult}
+use Rattle.infer_result.specs.declared.result.TypeMismatch.{TypeMismatch}
+use Rattle.infer_result.specs.declared.modes.BindingMode.TheVariants as mode
+use Rattle.infer_result.specs.Table.{At, BindingTy, mismatch}
+use Rattle.infer_result.specs.Places.{Given, Demand}
+use Rattle.infer_result.specs.Rules.Expressions.{ObeysOrMismatch}
+use Rattle.infer_result.specs.Rules.Patterns.{PatRule}
+use Rattle.infer_result.specs.Made.{IsMisfit, IsMade}
+use Rattle.infer_result.specs.Typed.{IsTyped}
+use Rattle.infer_result.specs.Derived.{typed_by_schedule}
+use Rattle.infer_result.proofs.Samples.Small.{e, p, b, u8, one_u8, plain, body_of, each_below, each_node, apart_by, only, each_entry, closed_uint, closed_bool, closed_unit, u8_is_no_bool}
+
+abbrev w : ℕ → TypeRefId
+w n = record { 0 = n }
+
+abbrev types : List RawType
+types = type.Bool ∷ type.Integer (integer.Uint uint.U8) ∷ []
+
+abbrev body : RawBody
+body =
+    body_of (expr.Lit one_u8 ∷ expr.Lit (literal.Bool true) ∷ expr.Block None (stmt.Let (p 0) (Some (w 0)) (Some (e 0)) None ∷ stmt.Let (p 1) (Some (w 1)) (Some (e 1)) None ∷ []) None ∷ []) 2
+    (pat.Bind (b 0) None ∷ pat.Bind (b 1) None ∷ []) (plain ∷ plain ∷ [])
+
+abbrev given : Given
+given = record { types = types; body = body; output = unit }
+
+first_written : written_type types (w 0) ≡ ty.Bool
+unfolding lowered_within
+first_written = refl
+
+second_written : written_type types (w 1) ≡ u8
+unfolding lowered_within
+second_written = refl
+
+abbrev schedule : Schedule
+schedule = record { starts = 2 ∷ 4 ∷ 1 ∷ 3 ∷ 5 ∷ 0 ∷ []; ends = 3 ∷ 5 ∷ 6 ∷ 4 ∷ 6 ∷ 6 ∷ []; depths = 2 ∷ 2 ∷ 1 ∷ 2 ∷ 2 ∷ 0 ∷ [] }
+
+is_schedule : IsSchedule body schedule
+is_schedule = record {
+  starts_size = refl;
+  ends_size = refl;
+  first = refl;
+  fits = each_node body (λ n. Fits body schedule (start body schedule n + 1) (parts body n)) ((omega arith, refl, tt), (((tt, tt), tt), (omega arith, refl, (omega arith, refl, (omega arith, refl, (omega arith, refl, tt))))), ((tt, tt), tt));
+  ends = each_node body (λ n. after body schedule (start body schedule n + 1) (parts body n) ≡ end body schedule n) (refl, (((tt, refl), refl), refl), ((tt, refl), refl));
+  order = each_node body (λ n. start body schedule n < end body schedule n) (omega arith, (((tt, omega arith), omega arith), omega arith), ((tt, omega arith), omega arith));
+  reached = each_node body (λ n. start body schedule n < end body schedule the_body) (omega arith, (((tt, omega arith), omega arith), omega arith), ((tt, omega arith), omega arith));
+  apart = apart_by body schedule (the_body ∷ inner (node.ExprId (e 2)) ∷ inner (node.ExprId (e 0)) ∷ inner (node.PatId (p 0)) ∷ inner (node.ExprId (e 1)) ∷ inner (node.PatId (p 1)) ∷ [])
+      (refl, (((tt, refl), refl), refl), ((tt, refl), refl));
+}
+
+abbrev table_of : List (Option TypeMismatch) → InferenceResult
+table_of mismatches = record {
+  type_of_expr = Some u8 ∷ Some ty.Bool ∷ Some unit ∷ [];
+  type_of_pat = Some ty.Bool ∷ Some u8 ∷ [];
+  type_of_binding = Some ty.Bool ∷ Some u8 ∷ [];
+  binding_modes = Some mode.Move ∷ Some mode.Move ∷ [];
+  expr_mismatches = mismatches;
+}
+
+abbrev right : InferenceResult
+right = table_of (Some (mismatch ty.Bool u8) ∷ Some (mismatch u8 ty.Bool) ∷ None ∷ [])
+
+closed_u8 : IsClosed u8
+closed_u8 = closed_uint uint.U8
+
+block_obeys : ObeysOrMismatch given right (e 2)
+block_obeys =
+    rw (first_written, second_written) ((((u8, refl, inr refl), refl), (((ty.Bool, refl, inr refl), refl), tt)), (unit, refl, inl refl))
+
+right_made : IsMade given right
+right_made = record {
+  of_body = record { exprs = refl; pats = refl; bindings = refl; modes = refl; mismatches = refl };
+  closed = record {
+    exprs = each_entry IsClosed right.type_of_expr (closed_u8, (closed_bool, (closed_unit, tt)));
+    pats = each_entry IsClosed right.type_of_pat (closed_bool, (closed_u8, tt));
+    bindings = each_entry IsClosed right.type_of_binding (closed_bool, (closed_u8, tt));
+    expected = each_entry (λ x. IsClosed x.expected) right.expr_mismatches (closed_bool, (closed_u8, tt));
+    actual = each_entry (λ x. IsClosed x.actual) right.expr_mismatches (closed_u8, (closed_bool, tt));
+  };
+  clauses = λ x h. each_below (λ k. ObeysOrMismatch given right (e k)) 3 x.0 (((tt, (u8, refl, refl)), (ty.Bool, refl, refl)), block_obeys) h;
+  kinds = λ x h. each_below (λ k. PatRule right (p k) (slice_get body.pats k)) 2 x.0 ((tt, (ty.Bool, refl, refl, refl)), (u8, refl, refl, refl)) h;
+  bindings = λ v h. each_below (λ k. (s : Ty) × BindingTy right (b k) s) 2 v.0 ((tt, (ty.Bool, refl)), (u8, refl)) h;
+  body_clause = (unit, refl, inl refl);
+  misfits = λ x m at. misfit x.0 m at;
+  demands = λ x m at. demand x.0 m at;
+}
+  where
+    misfit : (k : ℕ) (m : TypeMismatch) → At right.expr_mismatches k m → IsMisfit given right (e k) m
+    misfit zero m at = subst (λ y. IsMisfit given right (e 0) y) (only (mismatch ty.Bool u8) m at) (record { differ = λ same. u8_is_no_bool (sym same); actual = inl refl })
+    misfit (suc zero) m at = subst (λ y. IsMisfit given right (e 1) y) (only (mismatch u8 ty.Bool) m at) (record { differ = u8_is_no_bool; actual = inl refl })
+    misfit (suc (suc zero)) m at = absurd (cc)
+    misfit (suc (suc (suc k))) m at = absurd (cc)
+
+    demand : (k : ℕ) (m : TypeMismatch) → At right.expr_mismatches k m → Demand given right (e k) m.expected
+    demand zero m at =
+        subst (λ (y : TypeMismatch). Demand given right (e 0) y.expected) (only (mismatch ty.Bool u8) m at)
+        (record { parent = inner (node.ExprId (e 2)); at_part = 0; role = initializer (Some (w 0)); stands = record { node_is = omega arith; part = refl }; asks = sym first_written })
+    demand (suc zero) m at =
+        subst (λ (y : TypeMismatch). Demand given right (e 1) y.expected) (only (mismatch u8 ty.Bool) m at)
+        (record { parent = inner (node.ExprId (e 2)); at_part = 2; role = initializer (Some (w 1)); stands = record { node_is = omega arith; part = refl }; asks = sym second_written })
+    demand (suc (suc zero)) m at = absurd (cc)
+    demand (suc (suc (suc k))) m at = absurd (cc)
+
+pub right_typed : IsTyped given right
+right_typed = typed_by_schedule given right schedule is_schedule right_made
+
+-- ---- refused
+
+-- the mismatch of the first statement excuses no other statement
+pub one_left_out : IsTyped given (table_of (Some (mismatch ty.Bool u8) ∷ None ∷ None ∷ [])) → ⊥
+one_left_out h =
+    (let c = h.clauses (e 2) (omega arith) in
+    let at = c.0.1.0.0 in
+    let a : ty.Bool ≡ at.0 = only ty.Bool at.0 at.1 in
+    elim at.2 [ inl same ↦ u8_is_no_bool (sym (a ∙ (same ∙ second_written))) | inr m ↦ (let clash = m in cc) ])

@@ -1,0 +1,115 @@
+-- `fn f() -> u8 { true }`: its table with the mismatch at `true` is typed; tables with another mismatch, or none, are not.
+use Rattle.std.proofs.Common.{ℕ, zero, suc, ◌+◌, ◌<◌, ◌≡◌, inl, inr, true, List, [], ◌∷◌, refl, sym, subst, ◌∙◌, arith, Option, Some, None}
+use Rattle.hir_facts.specs.declared.ids.ExprOrPatId.TheVariants as node
+use Rattle.hir_facts.specs.declared.ty.Ty.{Ty}
+use Rattle.hir_facts.specs.declared.ty.Ty.TheVariants as ty
+use Rattle.hir_facts.specs.declared.ty.UintTy.TheVariants as uint
+use Rattle.hir_facts.specs.declared.raw.RawLiteral.TheVariants as literal
+use Rattle.hir_facts.specs.declared.raw.RawExpr.TheVariants as expr
+use Rattle.hir_facts.specs.declared.raw.RawBody.{RawBody}
+use Rattle.hir_facts.specs.declared.schedule.Schedule.{Schedule}
+use Rattle.hir_facts.specs.Erasure.{IsClosed}
+use Rattle.hir_facts.specs.Order.{root, tail, the_body, inner, IsSchedule, start, end, after, Fits, parts}
+use Rattle.infer_result.specs.declared.result.InferenceResult.{InferenceResult}
+use Rattle.infer_result.specs.declared.result.TypeMismatch.{TypeMismatch}
+use Rattle.infer_result.specs.Table.{At, mismatch}
+use Rattle.infer_result.specs.Places.{Given, Demand}
+use Rattle.infer_result.specs.Rules.Expressions.{ObeysOrMismatch}
+use Rattle.infer_result.specs.Made.{IsMisfit, IsMade}
+use Rattle.infer_result.specs.Typed.{IsTyped}
+use Rattle.infer_result.specs.Derived.{typed_by_schedule}
+use Rattle.infer_result.proofs.Samples.Small.{e, u8, body_of, each_below, each_node, apart_by, asked, only, each_entry, closed_uint, closed_bool, u8_is_no_bool, bool_is_no_error}
+
+abbrev body : RawBody
+body = body_of (expr.Lit (literal.Bool true) ∷ expr.Block None [] (Some (e 0)) ∷ []) 1 [] []
+
+abbrev given : Given
+given = record { types = []; body = body; output = u8 }
+
+abbrev schedule : Schedule
+schedule = record { starts = 2 ∷ 1 ∷ 0 ∷ []; ends = 3 ∷ 3 ∷ 3 ∷ []; depths = 2 ∷ 1 ∷ 0 ∷ [] }
+
+is_schedule : IsSchedule body schedule
+is_schedule = record {
+  starts_size = refl;
+  ends_size = refl;
+  first = refl;
+  fits = each_node body (λ n. Fits body schedule (start body schedule n + 1) (parts body n)) ((omega arith, refl, tt), ((tt, tt), (omega arith, refl, tt)), tt);
+  ends = each_node body (λ n. after body schedule (start body schedule n + 1) (parts body n) ≡ end body schedule n) (refl, ((tt, refl), refl), tt);
+  order = each_node body (λ n. start body schedule n < end body schedule n) (omega arith, ((tt, omega arith), omega arith), tt);
+  reached = each_node body (λ n. start body schedule n < end body schedule the_body) (omega arith, ((tt, omega arith), omega arith), tt);
+  apart = apart_by body schedule (the_body ∷ inner (node.ExprId (e 1)) ∷ inner (node.ExprId (e 0)) ∷ []) (refl, ((tt, refl), refl), tt);
+}
+
+abbrev table_of : List (Option Ty) → List (Option TypeMismatch) → InferenceResult
+table_of types mismatches = record {
+  type_of_expr = types;
+  type_of_pat = [];
+  type_of_binding = [];
+  binding_modes = [];
+  expr_mismatches = mismatches;
+}
+
+abbrev right : InferenceResult
+right = table_of (Some ty.Bool ∷ Some u8 ∷ []) (Some (mismatch u8 ty.Bool) ∷ None ∷ [])
+
+demanded : Demand given right (e 0) u8
+demanded = record { parent = inner (node.ExprId (e 1)); at_part = 0; role = tail; stands = record { node_is = omega arith; part = refl }; asks = refl }
+
+right_made : IsMade given right
+right_made = record {
+  of_body = record { exprs = refl; pats = refl; bindings = refl; modes = refl; mismatches = refl };
+  closed = record {
+    exprs = each_entry IsClosed right.type_of_expr (closed_bool, (closed_uint uint.U8, tt));
+    pats = λ n s h. absurd (cc);
+    bindings = λ n s h. absurd (cc);
+    expected = each_entry (λ x. IsClosed x.expected) right.expr_mismatches (closed_uint uint.U8, tt);
+    actual = each_entry (λ x. IsClosed x.actual) right.expr_mismatches (closed_bool, tt);
+  };
+  clauses = λ x h. each_below (λ k. ObeysOrMismatch given right (e k)) 2 x.0 ((tt, (ty.Bool, refl, refl)), (tt, (u8, refl, (ty.Bool, refl, inr refl)))) h;
+  kinds = λ x h. absurd (omega arith);
+  bindings = λ v h. absurd (omega arith);
+  body_clause = (u8, refl, inl refl);
+  misfits = λ x m at. misfit x.0 m at;
+  demands = λ x m at. demand x.0 m at;
+}
+  where
+    misfit : (k : ℕ) (m : TypeMismatch) → At right.expr_mismatches k m → IsMisfit given right (e k) m
+    misfit zero m at = subst (λ y. IsMisfit given right (e 0) y) (only (mismatch u8 ty.Bool) m at) (record { differ = u8_is_no_bool; actual = inl refl })
+    misfit (suc zero) m at = absurd (cc)
+    misfit (suc (suc k)) m at = absurd (cc)
+
+    demand : (k : ℕ) (m : TypeMismatch) → At right.expr_mismatches k m → Demand given right (e k) m.expected
+    demand zero m at = subst (λ (y : TypeMismatch). Demand given right (e 0) y.expected) (only (mismatch u8 ty.Bool) m at) demanded
+    demand (suc zero) m at = absurd (cc)
+    demand (suc (suc k)) m at = absurd (cc)
+
+pub right_typed : IsTyped given right
+right_typed = typed_by_schedule given right schedule is_schedule right_made
+
+-- ---- refused
+
+-- no mismatch at all
+pub none : IsTyped given (table_of (Some ty.Bool ∷ Some u8 ∷ []) (None ∷ None ∷ [])) → ⊥
+none h =
+    (let c = h.clauses (e 1) (omega arith) in
+    let s : u8 ≡ c.1.0 = only u8 c.1.0 c.1.1 in
+    let a : ty.Bool ≡ c.1.2.0 = only ty.Bool c.1.2.0 c.1.2.1 in
+    elim c.1.2.2 [ inl same ↦ u8_is_no_bool (s ∙ sym (a ∙ same)) | inr m ↦ (let clash = m in cc) ])
+
+-- the types exchanged
+pub exchanged : IsTyped given (table_of (Some ty.Bool ∷ Some u8 ∷ []) (Some (mismatch ty.Bool u8) ∷ None ∷ [])) → ⊥
+exchanged h =
+    (let m = h.truths (e 0) (mismatch ty.Bool u8) refl in
+    elim m.actual [ inl has ↦ u8_is_no_bool (sym (only ty.Bool u8 has)) | inr block ↦ (let is = block.0.is_block in cc) ])
+
+-- one more at the root, which has the type that is asked of it
+pub one_more : IsTyped given (table_of (Some ty.Bool ∷ Some u8 ∷ []) (Some (mismatch u8 ty.Bool) ∷ Some (mismatch ty.Bool u8) ∷ [])) → ⊥
+one_more h =
+    (let m = h.truths (e 1) (mismatch ty.Bool u8) refl in
+    let a = asked given schedule is_schedule _ (e 1) the_body 0 root ty.Bool (record { node_is = tt; part = refl }) m.demand in
+    u8_is_no_bool (sym a.1))
+
+-- nothing but `{unknown}`
+pub all_unknown : IsTyped given (table_of (Some ty.Error ∷ Some ty.Error ∷ []) (None ∷ None ∷ [])) → ⊥
+all_unknown h = (let c = h.clauses (e 0) (omega arith) in bool_is_no_error (sym c.2 ∙ sym (only ty.Error c.0 c.1)))

@@ -1,0 +1,288 @@
+-- From what a walk shows of a table to all that is promised of it.
+use Rattle.std.specs.Prelude.{ℕ, zero, suc, ◌<◌, ◌≡◌, ◌⊎◌, true, false, List, [], ◌∷◌, length, slice_get, Option, Some, None, refl}
+use Rattle.std.proofs.Common.{inl, inr, ap, sym, subst, ◌∙◌}
+use Rattle.std.proofs.lemmas.Option.{slice_get_within}
+use Rattle.hir_facts.specs.declared.ids.ExprId.{ExprId}
+use Rattle.hir_facts.specs.declared.ids.PatId.{PatId}
+use Rattle.hir_facts.specs.declared.ids.TypeRefId.{TypeRefId}
+use Rattle.hir_facts.specs.declared.ids.ExprOrPatId.TheVariants as node
+use Rattle.hir_facts.specs.declared.ty.Ty.{Ty}
+use Rattle.hir_facts.specs.declared.ty.Ty.TheVariants as ty
+use Rattle.hir_facts.specs.declared.raw.RawLiteral.{RawLiteral}
+use Rattle.hir_facts.specs.declared.raw.RawLiteral.TheVariants as literal
+use Rattle.hir_facts.specs.declared.raw.RawPath.TheVariants as path
+use Rattle.hir_facts.specs.declared.raw.RawStmt.{RawStmt}
+use Rattle.hir_facts.specs.declared.raw.RawStmt.TheVariants as stmt
+use Rattle.hir_facts.specs.declared.raw.RawExpr.{RawExpr}
+use Rattle.hir_facts.specs.declared.raw.RawExpr.TheVariants as expr
+use Rattle.hir_facts.specs.declared.raw.RawPat.{RawPat}
+use Rattle.hir_facts.specs.declared.raw.RawPat.TheVariants as pat
+use Rattle.hir_facts.specs.declared.raw.RawBody.{RawBody}
+use Rattle.hir_facts.specs.Types.{written_type, unit}
+use Rattle.hir_facts.specs.Erasure.{Same}
+use Rattle.hir_facts.specs.declared.schedule.Schedule.{Schedule}
+use Rattle.hir_facts.specs.Ways.{one_place}
+use Rattle.hir_facts.specs.Order.{Role, root, initializer, let_pattern, Part, Node, the_body, inner, IsNode, IsSchedule, part_at, stmts_of, stmt_at}
+use Rattle.infer_result.specs.declared.result.InferenceResult.{InferenceResult}
+use Rattle.infer_result.specs.declared.result.TypeMismatch.{TypeMismatch}
+use Rattle.infer_result.specs.Table.{At, HasTy, PatTy, MismatchAt, HasMismatch, mismatch}
+use Rattle.infer_result.specs.Closed.{IsTotal}
+use Rattle.infer_result.specs.Places.{Given, IsAt, IsAtOrMismatch, Demand, Asks, AsksOf, Gives, Incoming}
+use Rattle.infer_result.specs.Rules.Literals.{IsLiteralType, IsOwnType}
+use Rattle.infer_result.specs.Rules.Paths.{PathRule}
+use Rattle.infer_result.specs.Rules.Tuples.{AllAt}
+use Rattle.infer_result.specs.Rules.Blocks.{LetRule, StmtRule, StmtsRule, TailRule}
+use Rattle.infer_result.specs.Rules.Expressions.{Rule, BodyObeys}
+use Rattle.infer_result.specs.Rules.Patterns.{PatRule}
+use Rattle.infer_result.specs.Excused.{MaybeMismatch, StmtHasMismatch, StmtsHaveMismatch, ExcusedAs, BodyIsExcused}
+use Rattle.infer_result.specs.Upward.{NamesLet, Up, of_literal, of_written, of_initializer, Stated}
+use Rattle.infer_result.specs.Truth.Mismatch.{IsBlockWithoutTail, IsTrueMismatch}
+use Rattle.infer_result.specs.Made.{IsMade}
+use Rattle.infer_result.specs.Parts.{LetStands, let_of_part}
+use Rattle.infer_result.specs.Typed.{IsTyped}
+
+-- a node stands at one place alone
+abbrev pub StandsOnce : RawBody → Type 0
+StandsOnce b = (n m : Node) (i j : ℕ) (p q : Part) → IsNode b n → IsNode b m → part_at b n i ≡ Some p → part_at b m j ≡ Some q → p.node ≡ q.node → (n ≡ m) × (i ≡ j)
+
+-- one thing is recorded at one place
+pub one_at : {A : Type 0} (xs : List (Option A)) (n : ℕ) (a c : A) → At xs n a → At xs n c → a ≡ c
+one_at xs n a c h k = cc
+
+-- ---- each clause holds, or the part is excused
+
+at_or_excused : (t : InferenceResult) (e : ExprId) (s : Ty) → IsAtOrMismatch t e s → IsAt t e s ⊎ HasMismatch t e
+at_or_excused t e s (a, h, inl same) = inl (a, h, same)
+at_or_excused t e s (a, h, inr m) = inr (mismatch s a, m)
+
+elements_obey : (t : InferenceResult) (es : List ExprId) (ss : List Ty) → AllAt (IsAtOrMismatch t) es ss → AllAt (λ e s. IsAt t e s ⊎ HasMismatch t e) es ss
+elements_obey t [] [] h = tt
+elements_obey t [] (s ∷ ss) h = absurd h
+elements_obey t (e ∷ es) [] h = absurd h
+elements_obey t (e ∷ es) (s ∷ ss) h = (at_or_excused t e s h.0, elements_obey t es ss h.1)
+
+let_obeys : (g : Given) (t : InferenceResult) (p : PatId) (w : Option TypeRefId) (init : Option ExprId) → LetRule (IsAtOrMismatch t) g t p w init → MaybeMismatch t init ⊎ LetRule (IsAt t) g t p w init
+let_obeys g t p (Some w) (Some e) (h, k) = elim (at_or_excused t e (written_type g.types w) h) [ inl a ↦ inr (a, k) | inr m ↦ inl m ]
+let_obeys g t p (Some w) None h = inr h
+let_obeys g t p None (Some e) h = inr h
+let_obeys g t p None None h = inr tt
+
+stmt_obeys : (g : Given) (t : InferenceResult) (s : RawStmt) → StmtRule (IsAtOrMismatch t) g t s → StmtHasMismatch t s ⊎ StmtRule (IsAt t) g t s
+stmt_obeys g t (stmt.Let p w init other) h = let_obeys g t p w init h
+stmt_obeys g t (stmt.Expr e true) h = inr tt
+stmt_obeys g t (stmt.Expr e false) h = elim (at_or_excused t e unit h) [ inl a ↦ inr a | inr m ↦ inl m ]
+
+stmts_obey : (g : Given) (t : InferenceResult) (ss : List RawStmt) → StmtsRule (IsAtOrMismatch t) g t ss → StmtsHaveMismatch t ss ⊎ StmtsRule (IsAt t) g t ss
+stmts_obey g t [] h = inr tt
+stmts_obey g t (s ∷ ss) h =
+    elim (stmt_obeys g t s h.0) [
+      | inl m ↦ inl (inl m)
+      | inr a ↦ elim (stmts_obey g t ss h.1) [ inl m ↦ inl (inr m) | inr c ↦ inr (a, c) ]
+    ]
+
+-- how a block without tail is at its type, or has its mismatch
+abbrev Ends : InferenceResult → ExprId → Ty → Type 0
+Ends t n s = Same unit s ⊎ MismatchAt t n s unit
+
+tail_obeys : (t : InferenceResult) (n : ExprId) (last : Option ExprId) (s : Ty) → TailRule (IsAtOrMismatch t) (Ends t n) last s → (HasMismatch t n ⊎ MaybeMismatch t last) ⊎ TailRule (IsAt t) (λ r. Same unit r) last s
+tail_obeys t n None s (inl same) = inr same
+tail_obeys t n None s (inr m) = inl (inl (mismatch s unit, m))
+tail_obeys t n (Some e) s h = elim (at_or_excused t e s h) [ inl a ↦ inr a | inr m ↦ inl (inr m) ]
+
+judged : (g : Given) (t : InferenceResult) (n : ExprId) (o : Option RawExpr) → Rule (IsAtOrMismatch t) (IsAtOrMismatch t) (Ends t n) g t n o → ExcusedAs t n o ⊎ Rule (IsAt t) (λ e s. IsAt t e s ⊎ HasMismatch t e) (λ s. Same unit s) g t n o
+judged g t n None h = absurd h
+judged g t n (Some (expr.Lit l)) h = inr h
+judged g t n (Some (expr.Path p)) h = inr h
+judged g t n (Some (expr.Tuple es)) (ss, h, k) = inr (ss, h, elements_obey t es ss k)
+judged g t n (Some (expr.Block label ss last)) (h, (s, k, m)) =
+    elim (stmts_obey g t ss h) [
+      | inl x ↦ inl (inr (inl x))
+      | inr a ↦ elim (tail_obeys t n last s m) [ inl x ↦ inl (elim x [ inl y ↦ inl y | inr y ↦ inr (inr y) ]) | inr c ↦ inr (a, (s, k, c)) ]
+    ]
+judged g t n (Some expr.Other) h = absurd h
+
+-- ---- types are there
+
+path_type : (t : InferenceResult) (n : ExprId) (p : _) → PathRule t n p → (s : Ty) × HasTy t n s
+path_type t n (path.Local v) (s, h, k) = (s, h)
+path_type t n path.Other h = absurd h
+
+rule_type : (g : Given) (t : InferenceResult) (n : ExprId) (o : Option RawExpr) → Rule (IsAtOrMismatch t) (IsAtOrMismatch t) (Ends t n) g t n o → (s : Ty) × HasTy t n s
+rule_type g t n None h = absurd h
+rule_type g t n (Some (expr.Lit l)) (s, h, k) = (s, h)
+rule_type g t n (Some (expr.Path p)) h = path_type t n p h
+rule_type g t n (Some (expr.Tuple es)) (ss, h, k) = (ty.Tuple ss, h)
+rule_type g t n (Some (expr.Block label ss last)) (h, (s, k, m)) = (s, k)
+rule_type g t n (Some expr.Other) h = absurd h
+
+pat_type : (t : InferenceResult) (p : PatId) (o : Option RawPat) → PatRule t p o → (s : Ty) × PatTy t p s
+pat_type t p None h = absurd h
+pat_type t p (Some pat.Wild) h = h
+pat_type t p (Some (pat.Bind v sub)) (s, h, k, m) = (s, h)
+pat_type t p (Some pat.Other) h = absurd h
+
+literal_type : (l : RawLiteral) (s r : Ty) → IsOwnType l s → IsLiteralType l r → r ≡ s
+literal_type (literal.Bool b) s r h k = k ∙ sym h
+literal_type (literal.Char c) s r h k = k ∙ sym h
+literal_type (literal.Int digits (Some suffix)) s r h k = k ∙ sym h
+literal_type (literal.Int digits None) s r h k = absurd h
+literal_type literal.Other s r h k = absurd h
+
+-- ---- the statements of a block of the body
+
+stmt_obeys_at : (g : Given) (t : InferenceResult) (ss : List RawStmt) (i : ℕ) (s : RawStmt) → StmtsRule (IsAtOrMismatch t) g t ss → slice_get ss i ≡ Some s → StmtRule (IsAtOrMismatch t) g t s
+stmt_obeys_at g t [] i s h e = absurd (cc)
+stmt_obeys_at g t (u ∷ ss) zero s h e = (let k : u ≡ s = cc in subst (λ v. StmtRule (IsAtOrMismatch t) g t v) k h.0)
+stmt_obeys_at g t (u ∷ ss) (suc i) s h e = stmt_obeys_at g t ss i s h.1 e
+
+block_stmts : (g : Given) (t : InferenceResult) (n : ExprId) (o : Option RawExpr) → Rule (IsAtOrMismatch t) (IsAtOrMismatch t) (Ends t n) g t n o → (i : ℕ) (s : RawStmt) → slice_get (stmts_of o) i ≡ Some s → StmtRule (IsAtOrMismatch t) g t s
+block_stmts g t n None h i s e = absurd h
+block_stmts g t n (Some (expr.Lit l)) h i s e = absurd (cc)
+block_stmts g t n (Some (expr.Path p)) h i s e = absurd (cc)
+block_stmts g t n (Some (expr.Tuple es)) h i s e = absurd (cc)
+block_stmts g t n (Some (expr.Block label ss last)) (h, k) i s e = stmt_obeys_at g t ss i s h e
+block_stmts g t n (Some expr.Other) h i s e = absurd h
+
+-- an expression that is there stands among those of the body
+is_there : (b : RawBody) (n : ExprId) (i : ℕ) (s : RawStmt) → stmt_at b n i ≡ Some s → n.0 < length b.exprs
+is_there b n i s e = by_cases (slice_get b.exprs n.0) refl e
+  where
+    by_cases : (o : Option RawExpr) → slice_get b.exprs n.0 ≡ o → slice_get (stmts_of o) i ≡ Some s → n.0 < length b.exprs
+    by_cases None is h = absurd (cc)
+    by_cases (Some x) is h = slice_get_within b.exprs n.0 x is
+
+module _ (g : Given) (t : InferenceResult) (h : IsMade g t) where
+  clause_at : (n : ExprId) (x : RawExpr) → slice_get g.body.exprs n.0 ≡ Some x → Rule (IsAtOrMismatch t) (IsAtOrMismatch t) (Ends t n) g t n (Some x)
+  clause_at n x e = subst (λ o. Rule (IsAtOrMismatch t) (IsAtOrMismatch t) (Ends t n) g t n o) e (h.clauses n (slice_get_within g.body.exprs n.0 x e))
+
+  kind_at : (p : PatId) (x : RawPat) → slice_get g.body.pats p.0 ≡ Some x → PatRule t p (Some x)
+  kind_at p x e = subst (λ o. PatRule t p o) e (h.kinds p (slice_get_within g.body.pats p.0 x e))
+
+  let_stands : (n : ExprId) (p : PatId) (w : Option TypeRefId) (init : Option ExprId) → LetStands g.body n p w init → LetRule (IsAtOrMismatch t) g t p w init
+  let_stands n p w init l =
+      let at = block_stmts g t n (slice_get g.body.exprs n.0) (h.clauses n (is_there g.body n l.at_stmt l.stmt l.stands)) l.at_stmt l.stmt l.stands in
+      subst (λ s. StmtRule (IsAtOrMismatch t) g t s) l.is_let.1 at
+
+  by_role : (p : PatId) (n : Node) (k : ℕ) (role : Role) (s : Ty) → part_at g.body n k ≡ Some (record { node = node.PatId p; role = role }) → Gives g t role s → PatTy t p s
+  by_role p n k (let_pattern (Some w) (Some e)) s at gives =
+      (let l = let_of_part g.body n k p (Some w) (Some e) at in
+      let r = let_stands l.0 p (Some w) (Some e) l.1 in
+      subst (λ u. PatTy t p u) (sym gives) r.1)
+  by_role p n k (let_pattern (Some w) None) s at gives =
+      (let l = let_of_part g.body n k p (Some w) None at in
+      let r = let_stands l.0 p (Some w) None l.1 in
+      subst (λ u. PatTy t p u) (sym gives) r)
+  by_role p n k (let_pattern None (Some e)) s at gives =
+      (let l = let_of_part g.body n k p None (Some e) at in
+      let r = let_stands l.0 p None (Some e) l.1 in
+      subst (λ u. PatTy t p u) (one_at t.type_of_expr e.0 r.0 s r.1 gives) r.2)
+  by_role p n k (let_pattern None None) s at gives = absurd gives
+  by_role p n k Role.parameter s at gives = absurd gives
+  by_role p n k root s at gives = absurd gives
+  by_role p n k (initializer w) s at gives = absurd gives
+  by_role p n k Role.let_else s at gives = absurd gives
+  by_role p n k (Role.statement semicolon) s at gives = absurd gives
+  by_role p n k Role.tail s at gives = absurd gives
+  by_role p n k (Role.element i) s at gives = absurd gives
+
+  incoming : (p : PatId) (s : Ty) → Incoming g t p s → PatTy t p s
+  incoming p s i = by_role p i.parent i.at_part i.role s i.stands.part i.gives
+
+  -- a local has the type of the pattern that binds it
+  local : (e : ExprId) (w : Option TypeRefId) (init : Option ExprId) (n : NamesLet g.body e w init) (s : Ty) → PatTy t n.pattern s → HasTy t e s
+  local e w init n s has =
+      let m = clause_at e (expr.Path (path.Local n.binding)) n.names in
+      let q = kind_at n.pattern (pat.Bind n.binding None) n.binds in
+      let f : m.0 ≡ q.0 = one_at t.type_of_binding n.binding.0 m.0 q.0 m.2 q.2 in
+      let k : q.0 ≡ s = one_at t.type_of_pat n.pattern.0 q.0 s q.1 has in
+      subst (λ u. HasTy t e u) (f ∙ k) m.1
+
+  comes_in : (e : ExprId) (w : Option TypeRefId) (init : Option ExprId) (n : NamesLet g.body e w init) (s : Ty) → Gives g t (let_pattern w init) s → PatTy t n.pattern s
+  comes_in e w init n s gives = by_role n.pattern n.parent n.at_part (let_pattern w init) s n.stands.part gives
+
+  upward : (e : ExprId) (s : Ty) → Up g e s → HasTy t e s
+  upward m r (of_literal e l s is own) =
+      (let c = clause_at e (expr.Lit l) is in subst (λ u. HasTy t e u) (literal_type l s c.0 own c.2) c.1)
+  upward m r (of_written e w init n) = local e (Some w) init n (written_type g.types w) (comes_in e (Some w) init n (written_type g.types w) refl)
+  upward m r (of_initializer e i s n u) = local e None (Some i) n s (comes_in e None (Some i) n s (upward i s u))
+
+  body_rule : BodyIsExcused g t ⊎ BodyObeys g t
+  body_rule = elim (at_or_excused t g.body.root g.output h.body_clause) [ inl a ↦ inr a | inr m ↦ inl m ]
+
+  total : IsTotal g.body t
+  total = record {
+    exprs = λ e i. rule_type g t e (slice_get g.body.exprs e.0) (h.clauses e i);
+    pats = λ p i. pat_type t p (slice_get g.body.pats p.0) (h.kinds p i);
+    bindings = h.bindings;
+  }
+
+  -- ---- what is stated at a place is what is demanded there
+
+  asked_at_root : (n : Node) (role : Role) (s : Ty) → role ≡ root → Asks g t n role s → s ≡ g.output
+  asked_at_root the_body role s is asks = asks.1
+  asked_at_root (inner (node.ExprId n)) role s is asks = absurd (subst (λ r. AsksOf g t n r s) is asks)
+  asked_at_root (inner (node.PatId p)) role s is asks = absurd asks
+
+  asked_at_let : (n : Node) (role : Role) (w : TypeRefId) (s : Ty) → role ≡ initializer (Some w) → Asks g t n role s → s ≡ written_type g.types w
+  asked_at_let the_body role w s is asks =
+      (let clash : initializer (Some w) ≡ root = sym is ∙ asks.0 in cc)
+  asked_at_let (inner (node.ExprId n)) role w s is asks = subst (λ r. AsksOf g t n r s) is asks
+  asked_at_let (inner (node.PatId p)) role w s is asks = absurd asks
+
+  module _ (once : StandsOnce g.body) where
+    stated_demand : (e : ExprId) (s d : Ty) → Stated g e s → Demand g t e d → s ≡ d
+    stated_demand e s d st dm =
+        let same = once st.parent dm.parent st.at_part dm.at_part _ _ st.stands.node_is dm.stands.node_is st.stands.part dm.stands.part refl in
+        let here : part_at g.body dm.parent dm.at_part ≡ Some (record { node = node.ExprId e; role = st.role }) =
+        subst (λ k. part_at g.body dm.parent k ≡ Some (record { node = node.ExprId e; role = st.role })) same.1
+        (subst (λ n. part_at g.body n st.at_part ≡ Some (record { node = node.ExprId e; role = st.role })) same.0 st.stands.part) in
+        let one : record { node = node.ExprId e; role = dm.role } ≡ record { node = node.ExprId e; role = st.role } = one_part (part_at g.body dm.parent dm.at_part) _ _ dm.stands.part here in
+        let roles : dm.role ≡ st.role = ap (λ (p : Part). p.role) one in
+        elim st.states [
+          | inl r ↦ r.1 ∙ sym (asked_at_root dm.parent dm.role d (roles ∙ r.0) dm.asks)
+          | inr w ↦ w.2 ∙ sym (asked_at_let dm.parent dm.role w.0 d (roles ∙ w.1) dm.asks)
+        ]
+      where
+        one_part : (o : Option Part) (p q : Part) → o ≡ Some p → o ≡ Some q → p ≡ q
+        one_part o p q x y = cc
+
+    no_up_of_block : (e : ExprId) (u : Ty) → IsBlockWithoutTail g.body e → Up g e u → ⊥
+    no_up_of_block m r is (of_literal e l s at own) = (let k = is.is_block in cc)
+    no_up_of_block m r is (of_written e w init n) = (let k = is.is_block in let j = n.names in cc)
+    no_up_of_block m r is (of_initializer e i s n u) = (let k = is.is_block in let j = n.names in cc)
+
+    truths : (e : ExprId) (x : TypeMismatch) → At t.expr_mismatches e.0 x → IsTrueMismatch g t e x
+    truths e x at =
+        let m = h.misfits e x at in
+        let d = h.demands e x at in
+        record {
+          differ = m.differ;
+          actual = m.actual;
+          demand = d;
+          no_coercion = λ u s up st leads.
+              elim m.actual [
+                | inl has ↦
+                    (let a : u ≡ x.actual = one_at t.type_of_expr e.0 u x.actual (upward e u up) has in
+                    let b : s ≡ x.expected = stated_demand e s x.expected st d in
+                    m.differ (sym b ∙ (sym leads ∙ a)))
+                | inr block ↦ no_up_of_block e u block.0 up
+              ];
+        }
+
+    pub typed_from_made : IsTyped g t
+    typed_from_made = record {
+      of_body = h.of_body;
+      total = total;
+      closed = h.closed;
+      clauses = h.clauses;
+      exprs = λ e i. judged g t e (slice_get g.body.exprs e.0) (h.clauses e i);
+      pats = λ p i. record { incoming = incoming p; kind = h.kinds p i };
+      body_clause = h.body_clause;
+      body_rule = body_rule;
+      upward = upward;
+      truths = truths;
+    }
+
+-- in a body whose nodes are numbered in the order of the walk, each stands at one place
+pub typed_by_schedule : (g : Given) (t : InferenceResult) (s : Schedule) → IsSchedule g.body s → IsMade g t → IsTyped g t
+typed_by_schedule g t s law h = typed_from_made g t h (one_place g.body s law)
