@@ -123,8 +123,7 @@ fn refuses_texts(rt: HostRuntime) -> Result<(), Fail> {
     let good = with_body(alloc, LET)?;
     let half = good.as_str().split_at_checked(200).ok_or("200 bytes")?.0;
     let json = "the text is no JSON, or nests more than 127 arrays and objects";
-    let no_loop =
-        "law 0 is broken at entry 0 of `bodies`: each entry and part is of a kind that is carried";
+    let no_loop = "law 0 is broken at bodies[0]: each entry and part is of a kind that is carried";
     let at_word = "another shape is wanted at `bodies.0.exprs.0`";
     let at_semi = "another shape is wanted at `bodies.0.exprs.0.2.0.2`";
     let at_body = "another shape is wanted at `bodies.0`";
