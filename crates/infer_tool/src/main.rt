@@ -3,7 +3,6 @@
 
 mod ends;
 mod run;
-mod stand;
 #[cfg(test)]
 mod tests;
 mod text;

@@ -10,11 +10,10 @@ ghost use Rattle.infer_tool.specs.Outcome.{AppendsFront, Outcome};
 ghost use Rattle.infer_tool.specs.Answer.{Answered, silence, refusal};
 
 use crate::ends::{Failed, Sink, Source};
-use crate::stand::infer_query_with_inspect;
 use crate::text::{ReadError, count_complaints, read_facts, write_report};
 use crate::words::command;
 use hir_facts::{DefWithBodyId, Facts};
-use infer_expr::NoInspector;
+use infer_expr::{NoInspector, infer_query_with_inspect};
 use infer_result::InferenceResult;
 use std::alloc::{AllocError, Global};
 use std::rc::RcStr;
