@@ -19,6 +19,7 @@ use Rattle.infer_result.specs.declared.result.InferenceResult.{InferenceResult}
 use Rattle.infer_result.specs.Places.{Given}
 use Rattle.infer_result.specs.Made.{IsMade}
 use Rattle.infer_result.specs.Derived.{typed_by_schedule}
+use Rattle.infer_result.specs.Fit.{types_fit}
 use Rattle.infer_result.specs.Typed.{IsTableOf}
 use Rattle.infer_expr.specs.Steps.{WrittenExist}
 use Rattle.infer_expr.proofs.Types.{closed_error, closed_written}
@@ -56,4 +57,5 @@ table_of raw d i b s output r id at law out made = record {
       (let g : Given = record { types = raw.types; body = b; output = return_type raw d } in
       let m : IsMade g r = subst (λ t. IsMade (record { types = raw.types; body = b; output = t }) r) out made in
       typed_by_schedule g r s law.schedule m);
+  fit = types_fit raw d r;
 }

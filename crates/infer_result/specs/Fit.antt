@@ -41,5 +41,5 @@ types_fit raw d t = record {
   pats = λ n s h. every_type_fits s;
   bindings = λ n s h. every_type_fits s;
   expected = λ n x h. every_type_fits x.expected;
-  actual = λ n x h. every_type_fits x.actual
+  actual = λ n x h. every_type_fits x.actual;
 }
