@@ -1,5 +1,5 @@
 -- Which patterns bind each binding of a body.
-use Rattle.std.proofs.Common.{◌≡◌, ◌⊎◌, ◌<◌, ◌+◌, ℕ, List, [], ◌∷◌, length, get_or, map, Bool, true, false, ◌||◌, Option, Some, None, refl, sym, ◌∙◌, ap, arith, inl, inr}
+use Rattle.std.proofs.Common.{◌≡◌, ◌⊎◌, ◌<◌, ℕ, List, length, get_or, map, Bool, true, false, Option, Some, None, refl, sym, ◌∙◌, ap, inl, inr}
 use Rattle.std.specs.Prelude.{slice_get, option_map, IsTrue, ◌==◌, MatchOption, is_some}
 use Rattle.std.specs.Option.{option_and_then}
 use Rattle.std.proofs.lemmas.Option.{slice_get_within, slice_get-map}
@@ -8,13 +8,12 @@ use Rattle.hir_facts.specs.declared.ids.BindingId.{BindingId}
 use Rattle.hir_facts.specs.declared.ids.PatId.{PatId}
 use Rattle.hir_facts.specs.declared.raw.RawPat.{RawPat}
 use Rattle.hir_facts.specs.declared.raw.RawBody.{RawBody}
-use Rattle.hir_facts.specs.declared.raw.RawFacts.{RawFacts}
 use Rattle.hir_facts.specs.declared.laws.namers.Namers.{Namers}
 use Rattle.hir_facts.specs.declared.laws.namers.Namers.TheVariants.{Nobody, One, Several}
 use Rattle.hir_facts.specs.declared.schedule.Schedule.{Schedule}
 use Rattle.hir_facts.specs.Order.{Binds, binding_of, IsTree, IsSchedule, AreDepths}
 use Rattle.hir_facts.specs.Ways.{tree_of_schedule}
-use Rattle.hir_facts.specs.Laws.Namers.{IsNamedAt, IsNamedBy, AreNamers}
+use Rattle.hir_facts.specs.Laws.Namers.{IsNamedAt, IsNamedBy}
 use Rattle.hir_facts.specs.Laws.InBody.{PatsIdsExist, MaybeBindingExists}
 use Rattle.hir_facts.specs.Laws.Binders.{bound_binding, AreBinders, is_self, is_bound_once}
 use Rattle.hir_facts.specs.Laws.Trees.{BoundBySelf, BoundByPattern, IsWellFormed}

@@ -1,5 +1,5 @@
 -- `==` of types holds of equal types alone.
-use Rattle.std.proofs.Common.{◌≡◌, refl, sym, ap, subst, ◌∙◌, Bool, true, ◌&&◌, List, map, nat_eq, rules}
+use Rattle.std.proofs.Common.{◌≡◌, refl, sym, subst, ◌∙◌, Bool, true, List, map, nat_eq}
 use denote.Enum.Declared.{values_one}
 use denote.Enum.Compared.{Each}
 use denote.Enum.Bare.{same_true}

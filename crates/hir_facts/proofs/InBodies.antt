@@ -1,15 +1,12 @@
 -- The ids of a body exist where those of its nodes do.
-use Rattle.std.proofs.Common.{◌≡◌, ◌<◌, ◌+◌, ℕ, zero, suc, List, [], ◌∷◌, ◌++◌, length, map, Option, Some, None, refl, sym, ◌∙◌, ap, arith, inl, inr}
-use Rattle.std.specs.Prelude.{slice_get, IfSome, option_map}
+use Rattle.std.proofs.Common.{◌≡◌, ◌<◌, ℕ, zero, suc, List, [], ◌∷◌, ◌++◌, length, map, Option, Some, None, refl, ◌∙◌, ap}
+use Rattle.std.specs.Prelude.{slice_get, IfSome}
 use Rattle.std.specs.Option.{option_and_then}
-use Rattle.std.proofs.lemmas.Option.{option_and_then_some, slice_get_within, slice_get-map}
-use Rattle.std.proofs.lemmas.List.{length-map}
+use Rattle.std.proofs.lemmas.Option.{option_and_then_some, slice_get_within}
 use Rattle.hir_facts.specs.declared.ids.ExprId.{ExprId}
 use Rattle.hir_facts.specs.declared.ids.PatId.{PatId}
-use Rattle.hir_facts.specs.declared.ids.BodyId.{BodyId}
 use Rattle.hir_facts.specs.declared.ids.BindingId.{BindingId}
 use Rattle.hir_facts.specs.declared.ids.TypeRefId.{TypeRefId}
-use Rattle.hir_facts.specs.declared.ids.ExprOrPatId.{ExprOrPatId}
 use Rattle.hir_facts.specs.declared.ids.ExprOrPatId.TheVariants as node
 use Rattle.hir_facts.specs.declared.raw.RawPath.{RawPath}
 use Rattle.hir_facts.specs.declared.raw.RawPath.TheVariants as path
@@ -18,16 +15,11 @@ use Rattle.hir_facts.specs.declared.raw.RawStmt.TheVariants as stmt
 use Rattle.hir_facts.specs.declared.raw.RawExpr.{RawExpr}
 use Rattle.hir_facts.specs.declared.raw.RawExpr.TheVariants as expr
 use Rattle.hir_facts.specs.declared.raw.RawPat.{RawPat}
-use Rattle.hir_facts.specs.declared.raw.RawFn.{RawFn}
 use Rattle.hir_facts.specs.declared.raw.RawBody.{RawBody}
 use Rattle.hir_facts.specs.declared.raw.RawFacts.{RawFacts}
-use Rattle.hir_facts.specs.declared.laws.namers.Namers.{Namers}
-use Rattle.hir_facts.specs.declared.laws.namers.Namers.TheVariants.{Nobody, One, Several}
-use Rattle.hir_facts.specs.Order.{Role, Part, parameter, root, element, tail, initializer, let_pattern, let_else, expr_part, pat_part, maybe_part, stmt_parts, stmts_parts, element_parts, expr_parts, body_parts, Node, the_body, inner, IsNode, IsInBody, PartsFit, part_at, parts_of_expr, parts_of_pat, parts, stmts_of, stmt_at, binding_of, Binds}
-use Rattle.hir_facts.specs.Laws.Entries.{AllHold}
-use Rattle.hir_facts.specs.Laws.Namers.{IsNamedAt, IsNamedBy, IsOne}
-use Rattle.hir_facts.specs.Laws.InBody.{MaybeExprExists, MaybeTypeExists, MaybeBindingExists, StmtIdsExist, StmtsIdsExist, ElementsExist, PathExists, ExprIdsExist, ExprsIdsExist, PatsIdsExist, ParamsExist, BodyIdsHere, owned_body}
-use Rattle.hir_facts.specs.Laws.Ids.{FnIdsExist, HasBodyAt, HasOneOwner, BodyIdsExist}
+use Rattle.hir_facts.specs.Order.{Role, Part, parameter, root, element, tail, initializer, let_pattern, let_else, expr_part, pat_part, maybe_part, stmt_parts, stmts_parts, element_parts, expr_parts, body_parts, Node, the_body, inner, IsNode, IsInBody, parts_of_expr, parts_of_pat, parts, stmts_of, binding_of}
+use Rattle.hir_facts.specs.Laws.InBody.{MaybeExprExists, MaybeTypeExists, MaybeBindingExists, StmtIdsExist, StmtsIdsExist, ElementsExist, PathExists, ExprIdsExist, BodyIdsHere}
+use Rattle.hir_facts.specs.Laws.Ids.{HasOneOwner, BodyIdsExist}
 
 -- these parts are nodes of the body
 record AllIn (b : RawBody) (ps : List Part) : Type 0 where
@@ -80,8 +72,7 @@ written_of (stmt.Expr e semicolon) = None
 
 stmt_out : (raw : RawFacts) (b : RawBody) (s : RawStmt) → MaybeTypeExists raw (written_of s) → AllIn b (stmt_parts s) → StmtIdsExist raw b s
 stmt_out raw b (stmt.Let p written init other) t all =
-    let rest : AllIn b (pat_part (let_pattern written init) p ∷ maybe_part let_else other) = in_right b (maybe_part (initializer written) init) (pat_part (let_pattern written init) p ∷ maybe_part let_else other) all in
-    (
+    let rest : AllIn b (pat_part (let_pattern written init) p ∷ maybe_part let_else other) = in_right b (maybe_part (initializer written) init) (pat_part (let_pattern written init) p ∷ maybe_part let_else other) all in (
       in_head b (pat_part (let_pattern written init) p) (maybe_part let_else other) rest,
       t,
       maybe_out b (initializer written) init (in_left b (maybe_part (initializer written) init) (pat_part (let_pattern written init) p ∷ maybe_part let_else other) all),

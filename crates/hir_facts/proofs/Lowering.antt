@@ -1,14 +1,8 @@
 -- What written types stand for, part by part.
-use Rattle.std.proofs.Common.{◌≡◌, ◌<◌, ℕ, List, length, get_or, map, take, ◌≤◌, Bool, true, false, Option, Some, None, refl, sym, ◌∙◌, ap}
+use Rattle.std.proofs.Common.{◌≡◌, ◌<◌, ℕ, List, length, get_or, map, take, ◌≤◌, Some, refl, sym, ◌∙◌, ap}
 use Rattle.std.proofs.lemmas.List.{take_all}
-use Rattle.std.specs.Prelude.{slice_get, IsSome}
-use Rattle.std.specs.Option.{option_and_then}
-use Rattle.std.proofs.lemmas.Option.{slice_get_read, slice_get-get_or, slice_get_within}
+use Rattle.std.proofs.lemmas.Option.{slice_get_read, slice_get-get_or}
 use Rattle.hir_facts.specs.declared.ids.TypeRefId.{TypeRefId}
-use Rattle.hir_facts.specs.declared.ids.FunctionId.{FunctionId}
-use Rattle.hir_facts.specs.declared.ids.DefWithBodyId.TheVariants as def
-use Rattle.hir_facts.specs.declared.raw.RawFn.{RawFn}
-use Rattle.hir_facts.specs.declared.raw.RawFacts.{RawFacts}
 use Rattle.hir_facts.specs.declared.raw.RawType.{RawType}
 use Rattle.hir_facts.specs.declared.raw.RawType.TheVariants as type
 use Rattle.hir_facts.specs.declared.ty.Ty.{Ty}
@@ -16,9 +10,6 @@ use Rattle.hir_facts.specs.declared.ty.Ty.TheVariants as ty
 use Rattle.hir_facts.specs.Types.{lowered, lowered_by}
 use Rattle.hir_facts.specs.Laws.Entries.{AllHold}
 use Rattle.hir_facts.specs.Laws.Ids.{ChildrenBefore}
-use Rattle.hir_facts.specs.Laws.Lawful.{IsLawful}
-use Rattle.hir_facts.specs.LawfulFacts.{fn_ids}
-use Rattle.hir_facts.specs.Bodies.{HasBody}
 use Rattle.hir_facts.specs.Lowered.{lowered_parts}
 
 pub part_below : (types : List RawType) (t : ℕ) (x : RawType) (parts items : List TypeRefId) (i : ℕ) (d : TypeRefId) → AllHold ChildrenBefore types → t < length types → x ≡ get_or types t x → x ≡ type.Tuple parts → items ≡ parts → i < length items → (get_or items i d).0 < t
@@ -35,13 +26,3 @@ tuple_here types t x parts items tys i all lt read is same made le =
     let whole : take i items ≡ parts = take_all i items le ∙ same in
     let made2 : tys ≡ map (λ (p : TypeRefId). lowered types p.0) parts = made ∙ ap (map (λ (p : TypeRefId). lowered types p.0)) whole in
     ap ty.Tuple made2 ∙ lowered_here types t x (type.Tuple parts) all lt read is
-
-in_range : (raw : RawFacts) (f : FunctionId) (o : Option RawFn) → slice_get raw.fns f.0 ≡ o → IsSome (option_and_then (λ x. x.body) o) → f.0 < length raw.fns
-in_range raw f None was h = absurd (let e : false ≡ true = h in cc)
-in_range raw f (Some x) was h = slice_get_within raw.fns f.0 x was
-
-pub fn_in_range : (raw : RawFacts) (f : FunctionId) → HasBody raw (def.FunctionId f) → f.0 < length raw.fns
-fn_in_range raw f h = in_range raw f (slice_get raw.fns f.0) refl h
-
-pub output_in_range : (raw : RawFacts) (f : FunctionId) (x : RawFn) → IsLawful raw → slice_get raw.fns f.0 ≡ Some x → x.output.0 < length raw.types
-output_in_range raw f x law found = (fn_ids raw law f.0 x found).output

@@ -1,5 +1,5 @@
 -- Which functions each body is that of.
-use Rattle.std.proofs.Common.{get_or, Bool, true, false, ◌≡◌, ◌<◌, ℕ, List, length, map, Option, Some, None, refl, sym, ◌∙◌, ap, arith}
+use Rattle.std.proofs.Common.{get_or, Bool, true, false, ◌≡◌, ◌<◌, ℕ, List, length, map, Option, Some, None, refl, sym, ◌∙◌, ap}
 use Rattle.std.specs.Prelude.{slice_get, IfSome, option_map, IsTrue}
 use Rattle.std.proofs.lemmas.List.{get_or_read_under}
 use Rattle.std.proofs.lemmas.Option.{slice_get_within, slice_get-map}

@@ -1,6 +1,6 @@
 -- The order of the walk, and locals that it has typed before.
-use Rattle.std.proofs.Common.{◌≡◌, ◌⊎◌, ◌<◌, ◌≤◌, ◌+◌, ℕ, List, [], ◌∷◌, ◌++◌, length, get_or, map, Bool, true, false, ◌||◌, Option, Some, None, refl, sym, ◌∙◌, ap, arith, inl, inr, length-append}
-use Rattle.std.specs.Prelude.{slice_get, slice_index, IsTrue, MatchOption, nat_lt}
+use Rattle.std.proofs.Common.{◌≡◌, ◌⊎◌, ◌<◌, ◌+◌, ℕ, List, [], ◌∷◌, ◌++◌, length, get_or, map, Bool, true, false, ◌||◌, Some, refl, sym, ◌∙◌, ap, arith, inl, inr, length-append}
+use Rattle.std.specs.Prelude.{slice_get, IsTrue}
 use Rattle.std.proofs.Math.Nat.{eq-or-lt_of_le}
 use Rattle.std.proofs.lemmas.Option.{slice_get_within, slice_get-get_or, get_or_from_slice_get, slice_get_read}
 use Rattle.std.proofs.lemmas.Bool.{ltb-true, lt-ltb, cases_lt}
@@ -13,13 +13,12 @@ use Rattle.hir_facts.specs.declared.ids.ExprOrPatId.TheVariants as node
 use Rattle.hir_facts.specs.declared.raw.RawPath.TheVariants as path
 use Rattle.hir_facts.specs.declared.raw.RawExpr.TheVariants as expr
 use Rattle.hir_facts.specs.declared.raw.RawBody.{RawBody}
-use Rattle.hir_facts.specs.declared.raw.RawFacts.{RawFacts}
 use Rattle.hir_facts.specs.declared.schedule.Schedule.{Schedule}
 use Rattle.hir_facts.specs.declared.laws.namers.Namers.{Namers}
 use Rattle.hir_facts.specs.declared.laws.namers.Namers.TheVariants.{Nobody, One, Several}
-use Rattle.hir_facts.specs.Order.{PartsFit, IsTree, IsSchedule, AreDepths, IsLow, Binds, start, inner}
+use Rattle.hir_facts.specs.Order.{IsSchedule, AreDepths, IsLow, Binds, start, inner}
 use Rattle.hir_facts.specs.Ways.{schedule_unique}
-use Rattle.hir_facts.specs.Laws.Namers.{IsNamedAt, IsNamedBy, AreNamers}
+use Rattle.hir_facts.specs.Laws.Namers.{IsNamedBy}
 use Rattle.hir_facts.specs.Laws.InBody.{LocalsExist}
 use Rattle.hir_facts.specs.Laws.Binders.{bound_binding, AreBinders, IsWithin, HasTypedLocal, is_self, comes_before, is_typed_before}
 use Rattle.hir_facts.specs.Laws.Trees.{BoundBySelf, BoundByPattern, IsWellFormed}
@@ -116,10 +115,10 @@ binders_within b xs names w = elim (cases_lt w (length b.bindings)) [
   | inr le ↦ rw (get_or-eq_default xs Nobody {n = w} (rw names.size le)) tt
 ]
   where
-  within_named : (b : RawBody) (w : ℕ) (x : Namers) → IsNamedBy (map bound_binding b.pats) (length b.pats) w x → IsWithin (length b.pats) x
-  within_named b w Nobody named = tt
-  within_named b w (One k) named = named.0
-  within_named b w Several named = tt
+    within_named : (b : RawBody) (w : ℕ) (x : Namers) → IsNamedBy (map bound_binding b.pats) (length b.pats) w x → IsWithin (length b.pats) x
+    within_named b w Nobody named = tt
+    within_named b w (One k) named = named.0
+    within_named b w Several named = tt
 
 -- what holds for one numbering holds for each, since there is one
 scope_moves : (b : RawBody) (s t : Schedule) → IsSchedule b s → IsSchedule b t → AreInScope b s → AreInScope b t

@@ -1,6 +1,6 @@
 -- The capped measures of written types, one after another.
-use Rattle.std.proofs.Common.{◌≡◌, ◌<◌, ◌≤◌, ◌+◌, ℕ, zero, suc, List, [], ◌∷◌, ◌++◌, length, get_or, map, max, min, sum, Some, refl, sym, ◌∙◌, ap, arith, inl, inr, length-append}
-use Rattle.std.specs.Prelude.{slice_get, slice_index, fold}
+use Rattle.std.proofs.Common.{◌≡◌, ◌<◌, ◌+◌, ℕ, zero, suc, List, [], ◌∷◌, ◌++◌, length, map, min, sum, Some, refl, sym, ◌∙◌, ap, arith, inl, inr, length-append}
+use Rattle.std.specs.Prelude.{slice_get, slice_index}
 use Rattle.std.proofs.lemmas.List.{get_or_push, get_or_append_left}
 use Rattle.std.proofs.Math.Nat.{eq-or-lt_of_le}
 use Rattle.hir_facts.specs.declared.ids.TypeRefId.{TypeRefId}
@@ -62,8 +62,8 @@ sum_bound bound f g (t ∷ ts) same =
     let b : sum (map g (t ∷ ts)) ≡ g t + sum (map g ts) = sum-cons (g t) (map g ts) in
     rw (a, b) (sums (f t) (g t) (sum (map f ts)) (sum (map g ts)) bound here rest)
   where
-  sums : (a b c d bound : ℕ) → a ≡ min bound b → min bound c ≡ min bound d → min bound (a + c) ≡ min bound (b + d)
-  sums a b c d bound p q = omega arith
+    sums : (a b c d bound : ℕ) → a ≡ min bound b → min bound c ≡ min bound d → min bound (a + c) ≡ min bound (b + d)
+    sums a b c d bound p q = omega arith
 
 one_more : (bound a b : ℕ) → min bound a ≡ min bound b → min bound (a + 1) ≡ min bound (b + 1)
 one_more bound a b e = omega arith

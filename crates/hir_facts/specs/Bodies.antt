@@ -1,9 +1,8 @@
 -- The body of a definition, and the laws that a walk of it rests on.
 use Rattle.std.specs.List.{list_all}
-use Rattle.std.specs.Prelude.{◌≡◌, ◌<◌, ℕ, Bool, true, [], length, slice_get, Option, Some, None, IsSome, IsTrue}
+use Rattle.std.specs.Prelude.{◌≡◌, ◌<◌, Bool, true, [], length, slice_get, Option, Some, None, IsSome, IsTrue}
 use Rattle.std.specs.Option.{option_and_then}
 use Rattle.hir_facts.specs.declared.ids.BodyId.{BodyId}
-use Rattle.hir_facts.specs.declared.ids.ExprId.{ExprId}
 use Rattle.hir_facts.specs.declared.ids.PatId.{PatId}
 use Rattle.hir_facts.specs.declared.ids.BindingId.{BindingId}
 use Rattle.hir_facts.specs.declared.ids.DefWithBodyId.{DefWithBodyId}
@@ -34,7 +33,7 @@ HasBody raw d = IsSome (body_id_of raw d)
 abbrev pub body_of : RawFacts → DefWithBodyId → Option RawBody
 body_of raw d = option_and_then (λ i. slice_get raw.bodies i.0) (body_id_of raw d)
 
-abbrev output_by : RawFacts → Option RawFn → Ty
+abbrev pub output_by : RawFacts → Option RawFn → Ty
 output_by raw None = ty.Error
 output_by raw (Some f) = written_type raw.types f.output
 

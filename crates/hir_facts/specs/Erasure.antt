@@ -1,5 +1,5 @@
 -- Types without labels, and types without holes.
-use Rattle.std.specs.Prelude.{◌≡◌, Bool, true, false, List}
+use Rattle.std.specs.Prelude.{◌≡◌, Bool, true, false}
 use Rattle.std.specs.List.{list_any}
 use Rattle.hir_facts.specs.declared.ty.Ty.{Ty, Ty-F, fold-Ty}
 

@@ -11,3 +11,4 @@ pub mod Visits
 pub mod Nodes
 pub mod LawfulFacts
 pub mod Walkable
+pub mod InRange

@@ -1,7 +1,6 @@
 -- The bodies of lawful facts can be walked.
-use Rattle.std.specs.Prelude.{◌≡◌, ◌<◌, ◌+◌, ℕ, Bool, true, false, ◌&&◌, List, [], ◌∷◌, length, slice_get, Option, Some, None, IfSome, IsTrue, refl, not}
-use Rattle.std.proofs.Common.{sym, ◌∙◌, ap, arith, inl, inr}
-use Rattle.std.proofs.lemmas.Option.{slice_get_within}
+use Rattle.std.specs.Prelude.{◌≡◌, ◌+◌, ℕ, Bool, true, false, ◌&&◌, List, [], ◌∷◌, length, slice_get, Option, Some, None, IfSome, IsTrue, refl, not}
+use Rattle.std.proofs.Common.{◌∙◌, ap, arith, inl, inr}
 use Rattle.std.proofs.lemmas.List.{nil_from_length}
 use Rattle.hir_facts.specs.declared.ids.BindingId.{BindingId}
 use Rattle.hir_facts.specs.declared.ids.BodyId.{BodyId}
@@ -13,8 +12,8 @@ use Rattle.hir_facts.specs.Order.{IsSchedule}
 use Rattle.hir_facts.specs.Bodies.{IsWalkable}
 use Rattle.hir_facts.specs.Laws.Carried.{is_carried_fn, is_in_module, is_empty}
 use Rattle.hir_facts.specs.Laws.Ids.{BodyIdsExist, HasBodyAt, HasOneOwner}
-use Rattle.hir_facts.specs.Laws.Counts.{count_of, CountsFit}
-use Rattle.hir_facts.specs.Laws.Trees.{BoundBySelf, BoundByPattern, IsWellFormed}
+use Rattle.hir_facts.specs.Laws.Counts.{count_of}
+use Rattle.hir_facts.specs.Laws.Trees.{IsWellFormed}
 use Rattle.hir_facts.specs.Laws.Lawful.{IsLawful}
 use Rattle.hir_facts.specs.LawfulFacts.{fns_carried, bodies_carried, body_ids, counts_fit, bodies_well_formed, scopes_hold, bodies_small}
 

@@ -38,18 +38,30 @@ fn check_carried(alloc: Global, raw: &RawFacts) -> Result<(), FactsError>
     ensures ok { IfOk result (λ _. PassesAll raw.now carried_tests) }
     ensures err { IfErr result (λ e. Refuses raw.now carried_tests e) }
 {
-    allow(Law::Carried, FactsList::Types, first_broken(alloc, &TypesCarried, raw, raw.types.as_slice())?)?;
-    allow(Law::Carried, FactsList::Adts, first_other(raw.adts.as_slice()))?;
-    allow(Law::Carried, FactsList::Variants, first_other(raw.variants.as_slice()))?;
-    allow(Law::Carried, FactsList::Fns, first_broken(alloc, &FnsCarried, raw, raw.fns.as_slice())?)?;
-    allow(Law::Carried, FactsList::Consts, first_other(raw.consts.as_slice()))?;
-    allow(Law::Carried, FactsList::Statics, first_other(raw.statics.as_slice()))?;
-    allow(Law::Carried, FactsList::Traits, first_other(raw.traits.as_slice()))?;
-    allow(Law::Carried, FactsList::Aliases, first_other(raw.aliases.as_slice()))?;
-    allow(Law::Carried, FactsList::Impls, first_other(raw.impls.as_slice()))?;
-    allow(Law::Carried, FactsList::Opaques, first_other(raw.opaques.as_slice()))?;
-    allow(Law::Carried, FactsList::Lang, first_other(raw.lang.as_slice()))?;
-    allow(Law::Carried, FactsList::Bodies, first_broken(alloc, &BodiesCarried, raw, raw.bodies.as_slice())?)?;
+    let types = first_broken(alloc, &TypesCarried, raw, raw.types.as_slice())?;
+    allow(Law::Carried, FactsList::Types, types)?;
+    let adts = first_other(raw.adts.as_slice());
+    allow(Law::Carried, FactsList::Adts, adts)?;
+    let variants = first_other(raw.variants.as_slice());
+    allow(Law::Carried, FactsList::Variants, variants)?;
+    let fns = first_broken(alloc, &FnsCarried, raw, raw.fns.as_slice())?;
+    allow(Law::Carried, FactsList::Fns, fns)?;
+    let consts = first_other(raw.consts.as_slice());
+    allow(Law::Carried, FactsList::Consts, consts)?;
+    let statics = first_other(raw.statics.as_slice());
+    allow(Law::Carried, FactsList::Statics, statics)?;
+    let traits = first_other(raw.traits.as_slice());
+    allow(Law::Carried, FactsList::Traits, traits)?;
+    let aliases = first_other(raw.aliases.as_slice());
+    allow(Law::Carried, FactsList::Aliases, aliases)?;
+    let impls = first_other(raw.impls.as_slice());
+    allow(Law::Carried, FactsList::Impls, impls)?;
+    let opaques = first_other(raw.opaques.as_slice());
+    allow(Law::Carried, FactsList::Opaques, opaques)?;
+    let lang = first_other(raw.lang.as_slice());
+    allow(Law::Carried, FactsList::Lang, lang)?;
+    let bodies = first_broken(alloc, &BodiesCarried, raw, raw.bodies.as_slice())?;
+    allow(Law::Carried, FactsList::Bodies, bodies)?;
     Ok(())
 }
 
@@ -57,11 +69,15 @@ fn check_ids(alloc: Global, raw: &RawFacts) -> Result<(), FactsError>
     ensures ok { IfOk result (λ _. PassesAll raw.now ids_tests) }
     ensures err { IfErr result (λ e. Refuses raw.now ids_tests e) }
 {
-    allow(Law::Ids, FactsList::Types, first_broken(alloc, &TypeIds, raw, raw.types.as_slice())?)?;
-    allow(Law::Ids, FactsList::Modules, first_broken(alloc, &ModuleIds, raw, raw.modules.as_slice())?)?;
-    allow(Law::Ids, FactsList::Fns, first_broken(alloc, &FnIds, raw, raw.fns.as_slice())?)?;
+    let types = first_broken(alloc, &TypeIds, raw, raw.types.as_slice())?;
+    allow(Law::Ids, FactsList::Types, types)?;
+    let modules = first_broken(alloc, &ModuleIds, raw, raw.modules.as_slice())?;
+    allow(Law::Ids, FactsList::Modules, modules)?;
+    let fns = first_broken(alloc, &FnIds, raw, raw.fns.as_slice())?;
+    allow(Law::Ids, FactsList::Fns, fns)?;
     let body_ids = BodyIds::new(alloc, raw)?;
-    allow(Law::Ids, FactsList::Bodies, first_broken(alloc, &body_ids, raw, raw.bodies.as_slice())?)?;
+    let bodies = first_broken(alloc, &body_ids, raw, raw.bodies.as_slice())?;
+    allow(Law::Ids, FactsList::Bodies, bodies)?;
     Ok(())
 }
 
@@ -69,7 +85,8 @@ fn check_counts(alloc: Global, raw: &RawFacts) -> Result<(), FactsError>
     ensures ok { IfOk result (λ _. PassesAll raw.now counts_tests) }
     ensures err { IfErr result (λ e. Refuses raw.now counts_tests e) }
 {
-    allow(Law::Counts, FactsList::Fns, first_broken(alloc, &Counts, raw, raw.fns.as_slice())?)?;
+    let fns = first_broken(alloc, &Counts, raw, raw.fns.as_slice())?;
+    allow(Law::Counts, FactsList::Fns, fns)?;
     Ok(())
 }
 
@@ -78,7 +95,8 @@ fn check_trees(alloc: Global, raw: &RawFacts) -> Result<(), FactsError>
     ensures ok { IfOk result (λ _. PassesAll raw.now trees_tests) }
     ensures err { IfErr result (λ e. Refuses raw.now trees_tests e) }
 {
-    allow(Law::Trees, FactsList::Bodies, first_broken(alloc, &Trees, raw, raw.bodies.as_slice())?)?;
+    let bodies = first_broken(alloc, &Trees, raw, raw.bodies.as_slice())?;
+    allow(Law::Trees, FactsList::Bodies, bodies)?;
     Ok(())
 }
 
@@ -90,7 +108,8 @@ fn check_scopes(alloc: Global, raw: &RawFacts, schedules: &List<Schedule>) -> Re
     ensures err { IfErr result (λ e. Refuses raw.now scopes_tests e) }
 {
     let scopes = Scopes { schedules };
-    allow(Law::Scopes, FactsList::Bodies, first_broken(alloc, &scopes, raw, raw.bodies.as_slice())?)?;
+    let bodies = first_broken(alloc, &scopes, raw, raw.bodies.as_slice())?;
+    allow(Law::Scopes, FactsList::Bodies, bodies)?;
     Ok(())
 }
 
@@ -101,11 +120,15 @@ fn check_sizes(alloc: Global, raw: &RawFacts, schedules: &List<Schedule>) -> Res
     ensures err { IfErr result (λ e. Refuses raw.now sizes_tests e) }
 {
     let type_sizes = TypeSizes::new(alloc, raw)?;
-    allow(Law::Sizes, FactsList::Types, first_broken(alloc, &type_sizes, raw, raw.types.as_slice())?)?;
-    allow(Law::Sizes, FactsList::Modules, first_broken(alloc, &ModulesEarly, raw, raw.modules.as_slice())?)?;
-    allow(Law::Sizes, FactsList::Fns, first_broken(alloc, &FnsEarly, raw, raw.fns.as_slice())?)?;
+    let types = first_broken(alloc, &type_sizes, raw, raw.types.as_slice())?;
+    allow(Law::Sizes, FactsList::Types, types)?;
+    let modules = first_broken(alloc, &ModulesEarly, raw, raw.modules.as_slice())?;
+    allow(Law::Sizes, FactsList::Modules, modules)?;
+    let fns = first_broken(alloc, &FnsEarly, raw, raw.fns.as_slice())?;
+    allow(Law::Sizes, FactsList::Fns, fns)?;
     let body_sizes = BodySizes { schedules };
-    allow(Law::Sizes, FactsList::Bodies, first_broken(alloc, &body_sizes, raw, raw.bodies.as_slice())?)?;
+    let bodies = first_broken(alloc, &body_sizes, raw, raw.bodies.as_slice())?;
+    allow(Law::Sizes, FactsList::Bodies, bodies)?;
     Ok(())
 }
 
@@ -119,7 +142,8 @@ fn check_limits(alloc: Global, raw: &RawFacts) -> Result<(), FactsError>
         raw.limits.autoderef,
         raw.limits.tail,
     ];
-    allow(Law::Limits, FactsList::Limits, first_broken(alloc, &LimitsInRange, raw, &limits)?)?;
+    let broken = first_broken(alloc, &LimitsInRange, raw, &limits)?;
+    allow(Law::Limits, FactsList::Limits, broken)?;
     Ok(())
 }
 
@@ -127,7 +151,8 @@ fn check_literals(alloc: Global, raw: &RawFacts) -> Result<(), FactsError>
     ensures ok { IfOk result (λ _. PassesAll raw.now literals_tests) }
     ensures err { IfErr result (λ e. Refuses raw.now literals_tests e) }
 {
-    allow(Law::Literals, FactsList::Bodies, first_broken(alloc, &LiteralsInBits, raw, raw.bodies.as_slice())?)?;
+    let bodies = first_broken(alloc, &LiteralsInBits, raw, raw.bodies.as_slice())?;
+    allow(Law::Literals, FactsList::Bodies, bodies)?;
     Ok(())
 }
 

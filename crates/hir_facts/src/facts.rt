@@ -8,11 +8,11 @@ ghost use Rattle.hir_facts.specs.Laws.Refused.{Refuses};
 
 use crate::checks::check;
 use crate::facts_error::FactsError;
+use crate::fit::ty_fits;
 use crate::ids::{BodyId, DefWithBodyId, FunctionId, ModuleId, TypeRefId};
 use crate::list::List;
 use crate::raw::{Edition, RawBody, RawFacts, RawFn, RawLimits, RawType};
 use crate::schedule::Schedule;
-use crate::fit::ty_fits;
 use crate::ty::Ty;
 use std::alloc::Global;
 use std::marker::Model;
@@ -53,6 +53,14 @@ impl Facts {
         ensures { IsLawful self.now }
     {
         let _raw = &self.raw;
+    }
+
+    /// The facts as they were read.
+    pub fn raw(&self) -> &RawFacts
+        ensures value { result.now ≡ self.now }
+        ensures lawful { IsLawful result.now }
+    {
+        &self.raw
     }
 
     /// The crate's edition.
@@ -145,7 +153,8 @@ impl Facts {
                 Some(function) => function.body,
                 None => None,
             },
-            DefWithBodyId::ConstId(_) | DefWithBodyId::StaticId(_) | DefWithBodyId::VariantId(_) => None,
+            DefWithBodyId::ConstId(_) | DefWithBodyId::StaticId(_) | DefWithBodyId::VariantId(_) =>
+                None,
         }
     }
 

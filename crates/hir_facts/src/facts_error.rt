@@ -20,13 +20,15 @@ pub enum FactsError {
 fn law_text(law: Law) -> &'static str {
     match law {
         Law::Carried => "each entry and part is of a kind that is carried",
-        Law::Ids => "ids are in range, and smaller where a list asks for it, and each body is that of one definition",
+        Law::Ids =>
+            "ids are in range, and smaller where a list asks for it, and each body is that of one definition",
         Law::Counts => "a function has as many inputs as its body has parameters, `self` counted",
         Law::Trees => "the nodes of a body are a tree, and each binding is bound once",
         Law::Scopes => "a local names a binding that the walk has typed before",
         Law::Sizes => "lists are not too long, and trees and types not too deep or too large",
         Law::Limits => "the limits are in their ranges",
-        Law::Literals => "literals stand for values of at most 128 bits, and characters are scalar values",
+        Law::Literals =>
+            "literals stand for values of at most 128 bits, and characters are scalar values",
     }
 }
 

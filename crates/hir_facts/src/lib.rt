@@ -1,11 +1,11 @@
 //! Types, and the facts of a resolved crate: what inference reads.
 #![tactic(auto)]
 
-mod graph;
 mod checks;
 mod facts;
-mod fit;
 mod facts_error;
+mod fit;
+mod graph;
 mod ids;
 mod laws;
 mod list;

@@ -33,14 +33,19 @@ fn lower(types: &[RawType], t: usize, alloc: Global) -> Result<Ty, AllocError>
     }
 }
 
-/// The type that a written type stands for.
+/// The type that a written type stands for, or `{unknown}` where it is not in range.
+#[tactic(auto, using(crate::specs::Lowered::lowered_past))]
 pub fn lower_ty(alloc: Global, facts: &Facts, ty: TypeRefId) -> Result<Ty, AllocError>
-    requires { ty.0 < length facts.now.types }
     ensures { IfOk result (λ t. t ≡ written_type facts.now.types ty) }
 {
     facts.lawful();
-    let lowered = lower(facts.types(), ty.0 as usize, alloc)?;
-    Ok(lowered)
+    let types = facts.types();
+    if (ty.0 as usize) < types.len() {
+        let lowered = lower(types, ty.0 as usize, alloc)?;
+        Ok(lowered)
+    } else {
+        Ok(Ty::Error)
+    }
 }
 
 /// The type that a body is typed against.
@@ -55,6 +60,8 @@ pub fn return_ty(alloc: Global, facts: &Facts, def: DefWithBodyId) -> Result<Ty,
             let ty = lower_ty(alloc, facts, function.output)?;
             Ok(ty)
         }
-        DefWithBodyId::ConstId(_) | DefWithBodyId::StaticId(_) | DefWithBodyId::VariantId(_) => Ok(Ty::Error),
+        DefWithBodyId::ConstId(_) | DefWithBodyId::StaticId(_) | DefWithBodyId::VariantId(_) => Ok(
+            Ty::Error,
+        ),
     }
 }

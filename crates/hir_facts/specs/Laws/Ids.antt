@@ -1,5 +1,5 @@
 -- Ids are in range, and smaller where a list asks for it; each body is that of one definition.
-use Rattle.std.specs.Prelude.{ℕ, ◌<◌, ◌≡◌, List, length, slice_get, Option, Some, None, IfSome}
+use Rattle.std.specs.Prelude.{ℕ, ◌<◌, ◌≡◌, length, slice_get, Option, Some, None, IfSome}
 use Rattle.hir_facts.specs.declared.ids.ModuleId.{ModuleId}
 use Rattle.hir_facts.specs.declared.ids.TypeRefId.{TypeRefId}
 use Rattle.hir_facts.specs.declared.ids.TraitId.{TraitId}

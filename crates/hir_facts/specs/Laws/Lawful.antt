@@ -1,12 +1,10 @@
 -- The laws in the order in which they are tested, and which is broken first.
-use Rattle.std.specs.Prelude.{◌≡◌, ◌⊎◌, ℕ, List, [], ◌∷◌, ◌++◌, length, IsTrue}
+use Rattle.std.specs.Prelude.{◌≡◌, ◌⊎◌, ℕ, List, [], ◌∷◌, ◌++◌, IsTrue}
 use Rattle.hir_facts.specs.declared.raw.RawFacts.{RawFacts}
 use Rattle.hir_facts.specs.declared.laws.Law.{Law}
 use Rattle.hir_facts.specs.declared.laws.Law.TheVariants as law
 use Rattle.hir_facts.specs.declared.laws.FactsList.{FactsList}
 use Rattle.hir_facts.specs.declared.laws.FactsList.TheVariants as list
-use Rattle.hir_facts.specs.declared.schedule.Schedule.{Schedule}
-use Rattle.hir_facts.specs.Order.{IsSchedule}
 use Rattle.hir_facts.specs.Laws.Entries.{AllHold, BreaksAt}
 use Rattle.hir_facts.specs.Laws.Carried.{is_carried_type, is_carried_fn, is_carried_body}
 use Rattle.hir_facts.specs.Laws.Ids.{ChildrenBefore, ParentBefore, FnIdsExist, BodyIdsExist}

@@ -1,6 +1,5 @@
 -- The limits are in their ranges.
 use Rattle.std.specs.Prelude.{ℕ, zero, suc, ◌≤◌, List, [], ◌∷◌}
-use Rattle.hir_facts.specs.declared.raw.RawLimits.{RawLimits}
 use Rattle.hir_facts.specs.declared.raw.RawFacts.{RawFacts}
 
 -- goal depth, goal steps, autoderef, tail

@@ -1,5 +1,5 @@
 -- Literals stand for values of at most 128 bits, and characters are scalar values.
-use Rattle.std.specs.Prelude.{ℕ, ◌+◌, ◌-◌, ◌*◌, ◌<◌, ◌≤◌, ◌^◌, ◌≡◌, ◌&&◌, List, [], ◌∷◌, slice_get, Option, Some, None, nat_le, if◌then◌else◌, IsSomeAnd, fold}
+use Rattle.std.specs.Prelude.{ℕ, ◌+◌, ◌-◌, ◌*◌, ◌<◌, ◌^◌, ◌≡◌, ◌&&◌, List, [], ◌∷◌, slice_get, Option, Some, None, nat_le, if◌then◌else◌, IsSomeAnd, fold}
 use Rattle.std.specs.Char.{IsScalar}
 use Rattle.hir_facts.specs.declared.raw.RawLiteral.{RawLiteral}
 use Rattle.hir_facts.specs.declared.raw.RawLiteral.TheVariants as literal

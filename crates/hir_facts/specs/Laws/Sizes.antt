@@ -1,10 +1,7 @@
 -- How long lists may be, and how deep trees and types.
-use Rattle.std.specs.Prelude.{ℕ, ◌<◌, ◌≤◌, ◌^◌, ◌≡◌, List, length, slice_get, Option, Some}
-use Rattle.hir_facts.specs.declared.ids.ExprId.{ExprId}
-use Rattle.hir_facts.specs.declared.ids.LabelId.{LabelId}
+use Rattle.std.specs.Prelude.{ℕ, ◌<◌, ◌≤◌, ◌^◌, ◌≡◌, List, length, slice_get, Some}
 use Rattle.hir_facts.specs.declared.raw.RawType.{RawType}
 use Rattle.hir_facts.specs.declared.raw.RawType.TheVariants as type
-use Rattle.hir_facts.specs.declared.raw.RawStmt.{RawStmt}
 use Rattle.hir_facts.specs.declared.raw.RawExpr.{RawExpr}
 use Rattle.hir_facts.specs.declared.raw.RawExpr.TheVariants as expr
 use Rattle.hir_facts.specs.declared.raw.RawBody.{RawBody}

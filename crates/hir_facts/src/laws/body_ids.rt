@@ -55,10 +55,7 @@ fn has_stmt_ids(raw: &RawFacts, body: &RawBody, stmt: &RawStmt) -> bool
                 && has_maybe_expr(body, initializer)
                 && has_maybe_expr(body, else_branch)
         }
-        RawStmt::Expr {
-            expr,
-            has_semi: _,
-        } => (expr.0 as usize) < body.exprs.len(),
+        RawStmt::Expr { expr, has_semi: _ } => (expr.0 as usize) < body.exprs.len(),
     }
 }
 
@@ -102,7 +99,10 @@ fn has_expr_ids(raw: &RawFacts, body: &RawBody, expr: &RawExpr) -> bool
 fn have_expr_ids(raw: &RawFacts, body: &RawBody) -> bool
     ensures { IsTrue result ↔ ExprsIdsExist raw.now body.now }
 {
-    body.exprs.as_slice().iter().all(|expr| has_expr_ids(raw, body, expr))
+    body.exprs
+        .as_slice()
+        .iter()
+        .all(|expr| has_expr_ids(raw, body, expr))
 }
 
 /// The binding that a pattern binds.
@@ -124,14 +124,20 @@ fn has_pat_ids(body: &RawBody, pat: &RawPat) -> bool
 fn have_pat_ids(body: &RawBody) -> bool
     ensures { IsTrue result ↔ PatsIdsExist body.now }
 {
-    body.pats.as_slice().iter().all(|pat| has_pat_ids(body, pat))
+    body.pats
+        .as_slice()
+        .iter()
+        .all(|pat| has_pat_ids(body, pat))
 }
 
 fn have_params(body: &RawBody) -> bool
     ensures { IsTrue result ↔ ParamsExist body.now }
 {
     let count = body.pats.len();
-    body.params.as_slice().iter().all(|p| (p.0 as usize) < count)
+    body.params
+        .as_slice()
+        .iter()
+        .all(|p| (p.0 as usize) < count)
 }
 
 fn have_traits(traits: &[TraitId], count: usize) -> bool
@@ -164,7 +170,9 @@ fn owned_body(function: &RawFn) -> Option<usize>
 fn owned_bodies(alloc: Global, fns: &[RawFn]) -> Result<Vec<Option<usize>>, AllocError>
     ensures { IfOk result (λ v. v.items ≡ map owned_body fns.now) }
 {
-    fns.iter().map(|function| owned_body(function)).collect(alloc)
+    fns.iter()
+        .map(|function| owned_body(function))
+        .collect(alloc)
 }
 
 /// The ids of a body are in range, and it is the body of exactly one definition.
@@ -203,7 +211,13 @@ impl Test for BodyIds {
 
     ghost given = { λ raw s. AreOwners raw s.owners.items };
 
-    fn test(&self, _alloc: Global, raw: &RawFacts, at: usize, item: &RawBody) -> Result<bool, AllocError> {
+    fn test(
+        &self,
+        _alloc: Global,
+        raw: &RawFacts,
+        at: usize,
+        item: &RawBody,
+    ) -> Result<bool, AllocError> {
         Ok(is_one(self.owners[at]) && has_ids(raw, item))
     }
 }

@@ -63,7 +63,13 @@ impl<'a> Test for BodySizes<'a> {
 
     ghost given = { λ raw s. AreSchedules raw.bodies s.schedules.now };
 
-    fn test(&self, _alloc: Global, _raw: &RawFacts, at: usize, item: &RawBody) -> Result<bool, AllocError> {
+    fn test(
+        &self,
+        _alloc: Global,
+        _raw: &RawFacts,
+        at: usize,
+        item: &RawBody,
+    ) -> Result<bool, AllocError> {
         let schedule = &self.schedules.as_slice()[at];
         Ok(is_small(at, item, schedule))
     }

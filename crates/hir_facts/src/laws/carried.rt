@@ -6,8 +6,8 @@ ghost use Rattle.hir_facts.specs.Laws.Carried.{is_carried_type, is_carried_fn, i
 
 use crate::laws::test::Test;
 use crate::raw::{
-    BindingAnnotation, Other, RawAt, RawBinding, RawBody, RawExpr, RawFacts, RawFn, RawLiteral, RawPat,
-    RawPath, RawStmt, RawType,
+    BindingAnnotation, Other, RawAt, RawBinding, RawBody, RawExpr, RawFacts, RawFn, RawLiteral,
+    RawPat, RawPath, RawStmt, RawType,
 };
 use std::alloc::{AllocError, Global};
 
@@ -152,7 +152,13 @@ impl Test for TypesCarried {
 
     ghost given = { λ raw s. Unit {0} };
 
-    fn test(&self, _alloc: Global, _raw: &RawFacts, _at: usize, item: &RawType) -> Result<bool, AllocError> {
+    fn test(
+        &self,
+        _alloc: Global,
+        _raw: &RawFacts,
+        _at: usize,
+        item: &RawType,
+    ) -> Result<bool, AllocError> {
         Ok(carries_type(item))
     }
 }
@@ -169,7 +175,13 @@ impl Test for FnsCarried {
 
     ghost given = { λ raw s. Unit {0} };
 
-    fn test(&self, _alloc: Global, _raw: &RawFacts, _at: usize, item: &RawFn) -> Result<bool, AllocError> {
+    fn test(
+        &self,
+        _alloc: Global,
+        _raw: &RawFacts,
+        _at: usize,
+        item: &RawFn,
+    ) -> Result<bool, AllocError> {
         Ok(carries_fn(item))
     }
 }
@@ -186,7 +198,13 @@ impl Test for BodiesCarried {
 
     ghost given = { λ raw s. Unit {0} };
 
-    fn test(&self, _alloc: Global, _raw: &RawFacts, _at: usize, item: &RawBody) -> Result<bool, AllocError> {
+    fn test(
+        &self,
+        _alloc: Global,
+        _raw: &RawFacts,
+        _at: usize,
+        item: &RawBody,
+    ) -> Result<bool, AllocError> {
         Ok(carries_body(item))
     }
 }

@@ -39,7 +39,13 @@ impl Test for Counts {
 
     ghost given = { λ raw s. Unit {0} };
 
-    fn test(&self, _alloc: Global, raw: &RawFacts, _at: usize, item: &RawFn) -> Result<bool, AllocError> {
+    fn test(
+        &self,
+        _alloc: Global,
+        raw: &RawFacts,
+        _at: usize,
+        item: &RawFn,
+    ) -> Result<bool, AllocError> {
         Ok(has_counts(raw, item))
     }
 }

@@ -83,7 +83,13 @@ impl Test for TypeIds {
 
     ghost given = { λ raw s. Unit {0} };
 
-    fn test(&self, _alloc: Global, _raw: &RawFacts, at: usize, item: &RawType) -> Result<bool, AllocError> {
+    fn test(
+        &self,
+        _alloc: Global,
+        _raw: &RawFacts,
+        at: usize,
+        item: &RawType,
+    ) -> Result<bool, AllocError> {
         Ok(has_children_before(at, item))
     }
 }
@@ -100,7 +106,13 @@ impl Test for ModuleIds {
 
     ghost given = { λ raw s. Unit {0} };
 
-    fn test(&self, _alloc: Global, _raw: &RawFacts, at: usize, item: &Option<ModuleId>) -> Result<bool, AllocError> {
+    fn test(
+        &self,
+        _alloc: Global,
+        _raw: &RawFacts,
+        at: usize,
+        item: &Option<ModuleId>,
+    ) -> Result<bool, AllocError> {
         Ok(has_parent_before(at, item))
     }
 }
@@ -117,7 +129,13 @@ impl Test for FnIds {
 
     ghost given = { λ raw s. Unit {0} };
 
-    fn test(&self, _alloc: Global, raw: &RawFacts, _at: usize, item: &RawFn) -> Result<bool, AllocError> {
+    fn test(
+        &self,
+        _alloc: Global,
+        raw: &RawFacts,
+        _at: usize,
+        item: &RawFn,
+    ) -> Result<bool, AllocError> {
         Ok(has_fn_ids(raw, item))
     }
 }

@@ -27,7 +27,13 @@ impl Test for LimitsInRange {
 
     ghost given = { λ raw s. Unit {0} };
 
-    fn test(&self, _alloc: Global, _raw: &RawFacts, at: usize, item: &u32) -> Result<bool, AllocError> {
+    fn test(
+        &self,
+        _alloc: Global,
+        _raw: &RawFacts,
+        at: usize,
+        item: &u32,
+    ) -> Result<bool, AllocError> {
         Ok(1 <= *item && *item <= most_at(at))
     }
 }

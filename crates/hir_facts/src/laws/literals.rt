@@ -72,7 +72,10 @@ fn expr_is_in_bits(expr: &RawExpr) -> bool
 fn are_in_bits(body: &RawBody) -> bool
     ensures { IsTrue result ↔ ((e : ℕ) (x : RawExpr) → slice_get body.now.exprs e ≡ Some x → ExprIsInBits x) }
 {
-    body.exprs.as_slice().iter().all(|expr| expr_is_in_bits(expr))
+    body.exprs
+        .as_slice()
+        .iter()
+        .all(|expr| expr_is_in_bits(expr))
 }
 
 /// The literals of a body are in their bits.
@@ -87,7 +90,13 @@ impl Test for LiteralsInBits {
 
     ghost given = { λ raw s. Unit {0} };
 
-    fn test(&self, _alloc: Global, _raw: &RawFacts, _at: usize, item: &RawBody) -> Result<bool, AllocError> {
+    fn test(
+        &self,
+        _alloc: Global,
+        _raw: &RawFacts,
+        _at: usize,
+        item: &RawBody,
+    ) -> Result<bool, AllocError> {
         Ok(are_in_bits(item))
     }
 }

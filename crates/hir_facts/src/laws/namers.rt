@@ -31,7 +31,11 @@ fn note(namers: &mut Vec<Namers>, k: usize, place: usize)
 }
 
 /// Which entries name each of the places below `count`.
-pub fn namers_of(alloc: Global, targets: &[Option<usize>], count: usize) -> Result<Vec<Namers>, AllocError>
+pub fn namers_of(
+    alloc: Global,
+    targets: &[Option<usize>],
+    count: usize,
+) -> Result<Vec<Namers>, AllocError>
     requires { (k t : ℕ) → slice_get targets.now k ≡ Some (Some t) → t < count }
     ensures { IfOk result (λ v. AreNamers targets.now (length targets.now) count v.items) }
 {

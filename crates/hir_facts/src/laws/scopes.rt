@@ -46,7 +46,13 @@ fn is_typed_before(body: &RawBody, starts: &[usize], binders: &[Namers], e: usiz
     is_self(body.self_, v) || comes_before(body, starts, binders[v], e)
 }
 
-fn has_typed_local(body: &RawBody, starts: &[usize], binders: &[Namers], e: usize, expr: &RawExpr) -> bool
+fn has_typed_local(
+    body: &RawBody,
+    starts: &[usize],
+    binders: &[Namers],
+    e: usize,
+    expr: &RawExpr,
+) -> bool
     requires starts { length starts.now ≡ node_count body.now }
     requires binders { (w : ℕ) → IsWithin (length body.now.pats) (slice_index_or binders.now w Nobody) }
     requires size { length binders.now ≡ length body.now.bindings }
@@ -132,7 +138,13 @@ impl<'a> Test for Scopes<'a> {
 
     ghost given = { λ raw s. AllHold (BodyIdsExist raw) raw.bodies × AllHold (λ i b. IsWellFormed b) raw.bodies × AreSchedules raw.bodies s.schedules.now };
 
-    fn test(&self, alloc: Global, _raw: &RawFacts, at: usize, item: &RawBody) -> Result<bool, AllocError> {
+    fn test(
+        &self,
+        alloc: Global,
+        _raw: &RawFacts,
+        at: usize,
+        item: &RawBody,
+    ) -> Result<bool, AllocError> {
         let schedule = &self.schedules.as_slice()[at];
         if !is_low(item, schedule, MOST_STEPS) {
             return Ok(true);

@@ -41,7 +41,11 @@ fn most_of(depths: &[usize], parts: &[TypeRefId]) -> usize
 fn one_deeper(depth: usize) -> usize
     ensures { result ≡ min DEPTH_CAP (depth + 1) }
 {
-    if depth < DEPTH_CAP { depth + 1 } else { DEPTH_CAP }
+    if depth < DEPTH_CAP {
+        depth + 1
+    } else {
+        DEPTH_CAP
+    }
 }
 
 fn depth_over(depths: &[usize], ty: &RawType) -> usize
@@ -166,8 +170,19 @@ impl Test for TypeSizes {
 
     ghost given = { λ raw s. AreMeasures 65 depth raw.types (length raw.types) s.depths.items × AreMeasures 4097 size raw.types (length raw.types) s.sizes.items };
 
-    fn test(&self, _alloc: Global, _raw: &RawFacts, at: usize, item: &RawType) -> Result<bool, AllocError> {
-        Ok(is_early(at) && has_short_parts(item) && self.depths[at] < DEPTH_CAP && self.sizes[at] < SIZE_CAP)
+    fn test(
+        &self,
+        _alloc: Global,
+        _raw: &RawFacts,
+        at: usize,
+        item: &RawType,
+    ) -> Result<bool, AllocError> {
+        Ok(
+            is_early(at)
+                && has_short_parts(item)
+                && self.depths[at] < DEPTH_CAP
+                && self.sizes[at] < SIZE_CAP,
+        )
     }
 }
 
@@ -183,7 +198,13 @@ impl Test for ModulesEarly {
 
     ghost given = { λ raw s. Unit {0} };
 
-    fn test(&self, _alloc: Global, _raw: &RawFacts, at: usize, _item: &Option<ModuleId>) -> Result<bool, AllocError> {
+    fn test(
+        &self,
+        _alloc: Global,
+        _raw: &RawFacts,
+        at: usize,
+        _item: &Option<ModuleId>,
+    ) -> Result<bool, AllocError> {
         Ok(is_early(at))
     }
 }
@@ -200,7 +221,13 @@ impl Test for FnsEarly {
 
     ghost given = { λ raw s. Unit {0} };
 
-    fn test(&self, _alloc: Global, _raw: &RawFacts, at: usize, _item: &RawFn) -> Result<bool, AllocError> {
+    fn test(
+        &self,
+        _alloc: Global,
+        _raw: &RawFacts,
+        at: usize,
+        _item: &RawFn,
+    ) -> Result<bool, AllocError> {
         Ok(is_early(at))
     }
 }

@@ -17,14 +17,25 @@ pub trait Test {
     ghost given: { RawFacts → Self → Type 0 };
 
     /// Whether the law holds at this entry.
-    fn test(&self, alloc: Global, raw: &RawFacts, at: usize, item: &Self::Item) -> Result<bool, AllocError>
+    fn test(
+        &self,
+        alloc: Global,
+        raw: &RawFacts,
+        at: usize,
+        item: &Self::Item,
+    ) -> Result<bool, AllocError>
         requires given { given raw.now self.now }
         requires listed { slice_get (listed raw.now) at ≡ Some item.now }
         ensures { IfOk result (λ yes. IsTrue yes ↔ holds raw.now at item.now) };
 }
 
 /// The first entry that breaks a law.
-pub fn first_broken<T: Test>(alloc: Global, test: &T, raw: &RawFacts, items: &[T::Item]) -> Result<Option<usize>, AllocError>
+pub fn first_broken<T: Test>(
+    alloc: Global,
+    test: &T,
+    raw: &RawFacts,
+    items: &[T::Item],
+) -> Result<Option<usize>, AllocError>
     requires given { T.given raw.now test.now }
     requires listed { items.now ≡ T.listed raw.now }
     ensures { IfOk result (λ o. MatchOption o (AllHold (T.holds raw.now) (T.listed raw.now)) (λ i. BreaksAt (T.holds raw.now) (T.listed raw.now) i)) }

@@ -92,7 +92,13 @@ impl Test for Trees {
 
     ghost given = { λ raw s. AllHold (BodyIdsExist raw) raw.bodies };
 
-    fn test(&self, alloc: Global, _raw: &RawFacts, _at: usize, item: &RawBody) -> Result<bool, AllocError> {
+    fn test(
+        &self,
+        alloc: Global,
+        _raw: &RawFacts,
+        _at: usize,
+        item: &RawBody,
+    ) -> Result<bool, AllocError> {
         if !is_tree(alloc, item)? {
             return Ok(false);
         }

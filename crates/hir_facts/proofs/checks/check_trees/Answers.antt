@@ -3,4 +3,4 @@ use Rattle.hir_facts.specs.Laws.Trees.{IsWellFormed}
 use Rattle.hir_facts.proofs.checks.check_trees.Goals as goal
 
 pub returns-clause-ok : goal.returns-clause-ok
-returns-clause-ok c = (allowed (λ i b. IsWellFormed b) c.args.raw.now.bodies _ _ _ _ _ c.in_ok-first_broken.ensures c.allow.ensures c.in_ok-allow.was, tt)
+returns-clause-ok c = (allowed (λ i b. IsWellFormed b) c.args.raw.now.bodies _ _ _ _ _ c.in_ok-bodies.ensures c.allow.ensures c.in_ok-allow.was, tt)

@@ -1,5 +1,4 @@
-use Rattle.std.proofs.Common.{◌<◌, arith, get_or, ◌∙◌, ap}
-use Rattle.hir_facts.specs.declared.ty.Ty.TheVariants as ty
+use Rattle.std.proofs.Common.{◌<◌, arith, get_or, ◌∙◌}
 use Rattle.hir_facts.proofs.Lowering.{part_below, lowered_here, tuple_here}
 use Rattle.hir_facts.proofs.lower.+lower.Goals as goal
 

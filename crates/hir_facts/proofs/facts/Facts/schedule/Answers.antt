@@ -1,9 +1,5 @@
-use Rattle.std.proofs.Common.{◌≡◌, ◌∙◌, List, get_or}
+use Rattle.std.proofs.Common.{◌≡◌}
 use Rattle.std.specs.Prelude.{slice_get, Some}
-use Rattle.hir_facts.specs.declared.raw.RawFacts.{RawFacts}
-use Rattle.hir_facts.specs.declared.raw.RawBody.{RawBody}
-use Rattle.hir_facts.specs.declared.schedule.Schedule.{Schedule}
-use Rattle.hir_facts.specs.Order.{IsSchedule, AreDepths}
 use Rattle.hir_facts.specs.Walkable.{walkable}
 use Rattle.hir_facts.proofs.Scoping.{scheduled_at}
 use Rattle.hir_facts.proofs.facts.Facts.schedule.Goals as goal

@@ -1,5 +1,4 @@
-use Rattle.std.proofs.Common.{◌≡◌, ap, ◌∙◌, rules, length, ◌<◌, ◌≤◌, arith, ℕ}
-use Rattle.hir_facts.specs.Laws.Namers.{AreNamers}
+use Rattle.std.proofs.Common.{◌≡◌, ap, length, arith}
 use Rattle.hir_facts.proofs.Named.{namers_none, namers_kept, namers_more, named_here}
 use Rattle.hir_facts.proofs.laws.namers.namers_of.Goals as goal
 use Rattle.hir_facts.proofs.laws.namers.namers_of.Goals.{in-Some, in_default}

@@ -1,4 +1,3 @@
-use Rattle.std.proofs.Common.{refl}
 use Rattle.std.specs.Prelude.{slice_index}
 use Rattle.hir_facts.proofs.Measured.{greatest_none, greatest_more, greatest_all}
 use Rattle.hir_facts.proofs.laws.sizes.most_of.Goals as goal

@@ -1,7 +1,6 @@
 use Rattle.std.proofs.Common.{◌≡◌, ◌∙◌, map, ap, length}
 use Rattle.std.proofs.lemmas.List.{length-map}
-use Rattle.hir_facts.specs.Laws.InBody.{owned_body, AreOwners}
-use Rattle.hir_facts.specs.Laws.Namers.{AreNamers}
+use Rattle.hir_facts.specs.Laws.InBody.{owned_body}
 use Rattle.hir_facts.proofs.Owners.{owned_below}
 use Rattle.hir_facts.proofs.laws.body_ids.BodyIds.new.Goals as goal
 

@@ -1,5 +1,5 @@
 use Rattle.hir_facts.proofs.InBodies.{here_from_exists}
-use Rattle.hir_facts.proofs.Binding.{told_tree, no_tree}
+use Rattle.hir_facts.proofs.Binding.{told_tree}
 use Rattle.hir_facts.proofs.laws.trees.TreesTest.test.Goals as goal
 
 pub is_tree-requires : goal.is_tree-requires
