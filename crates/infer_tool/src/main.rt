@@ -55,6 +55,18 @@ fn print(rt: &impl Print, text: &str) -> u8 {
     }
 }
 
+/// What was wrong at a status that has no fault.
+fn reason(status: u8) -> Option<&'static str> {
+    match status {
+        2 => Some(USAGE),
+        3 => Some("standard input could not be read"),
+        4 => Some("standard output could not be written"),
+        9 => Some("the definition is out of range, or has no body"),
+        10 => Some("standard input has more than 16777216 bytes"),
+        _ => None,
+    }
+}
+
 /// Runs the command between standard input and output, and says on standard error what was wrong.
 fn run_between(rt: &HostRuntime, words: &[RcStr]) -> u8 {
     let mut source = StdSource::new(rt.reader());
@@ -63,8 +75,8 @@ fn run_between(rt: &HostRuntime, words: &[RcStr]) -> u8 {
     if let Some(fault) = &ran.fault {
         let _ = eprintln!(rt; "infer_tool: {fault}");
     }
-    if ran.status == 2 {
-        let _ = rt.eprintln(USAGE);
+    if let Some(text) = reason(ran.status) {
+        let _ = eprintln!(rt; "infer_tool: {text}");
     }
     ran.status
 }

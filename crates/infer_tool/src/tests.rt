@@ -124,10 +124,14 @@ fn refuses_texts(rt: HostRuntime) -> Result<(), Fail> {
     let half = good.as_str().split_at_checked(200).ok_or("200 bytes")?.0;
     let json = "the text is no JSON, or nests more than 127 arrays and objects";
     let no_loop = "law 0 is broken at bodies[0]: each entry and part is of a kind that is carried";
-    let at_word = "another shape is wanted at `bodies.0.exprs.0`";
-    let at_semi = "another shape is wanted at `bodies.0.exprs.0.2.0.2`";
-    let at_body = "another shape is wanted at `bodies.0`";
-    let top = "another shape is wanted at the top of the text";
+    let at_word =
+        "`bodies.0.exprs.0` has another shape: an expression, which is its word or an array of its word and exactly its parts, is wanted";
+    let at_semi =
+        "`bodies.0.exprs.0.2.0.2` has another shape: an index into `types` or null in a `let`, else true or false is wanted";
+    let at_body =
+        "`bodies.0` has another shape: an object with exactly the nine keys of a body is wanted";
+    let top =
+        "the whole text has another shape: an object with exactly the 18 keys of docs/FORMAT.md is wanted";
     for (text, status, fault) in [
         ("", 6, json),
         (half, 6, json),

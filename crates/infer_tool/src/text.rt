@@ -8,6 +8,7 @@ mod reader;
 mod reading;
 mod report;
 mod types;
+mod wanted;
 
 pub use fault::ReadError;
 pub use reading::read_facts;

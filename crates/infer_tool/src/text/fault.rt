@@ -2,6 +2,7 @@
 ghost use Rattle.std.specs.Prelude.{◌≡◌};
 ghost use Rattle.infer_tool.specs.declared.text.fault.Misread.TheVariants.{OutOfMemory};
 
+use crate::text::wanted::wanted_at;
 use hir_facts::{FactsError, FactsList, Law, Text};
 use std::alloc::{AllocError, AllocFailed};
 use std::error::Error;
@@ -57,10 +58,11 @@ impl fmt::Display for ReadError {
                 "the text is no JSON, or nests more than 127 arrays and objects"
             ),
             ReadError::Shape { path } => {
+                let wanted = wanted_at(path.as_str());
                 if path.as_str().is_empty() {
-                    write!(f, "another shape is wanted at the top of the text")
+                    write!(f, "the whole text has another shape: {wanted} is wanted")
                 } else {
-                    write!(f, "another shape is wanted at `{path}`")
+                    write!(f, "`{path}` has another shape: {wanted} is wanted")
                 }
             }
             ReadError::Unlawful { law, list, index } => {

@@ -1,0 +1,290 @@
+//! What a facts text has to have at a path, in words.
+
+/// A path, with `#` for each position, and what is wanted there.
+struct Wanted {
+    path: &'static [u8],
+    what: &'static str,
+}
+
+const NUMBER: &str = "a whole number from 0, below 2^32";
+
+const ANY_LIST: &str = "a list";
+
+const TRUTH: &str = "true or false";
+
+const TEXT: &str = "a text";
+
+const INDEX_OF_TYPE: &str = "an index into `types`";
+
+const EXPRESSION: &str = "an expression's number";
+
+const MAYBE_EXPRESSION: &str = "an expression's number, or null";
+
+static PLACES: [Wanted; 56] = [
+    Wanted {
+        path: b"",
+        what: "an object with exactly the 18 keys of docs/FORMAT.md",
+    },
+    Wanted {
+        path: b"profile",
+        what: "the number 1",
+    },
+    Wanted {
+        path: b"edition",
+        what: "2015, 2018, 2021 or 2024",
+    },
+    Wanted {
+        path: b"never_fallback",
+        what: TRUTH,
+    },
+    Wanted {
+        path: b"new_range",
+        what: TRUTH,
+    },
+    Wanted {
+        path: b"limits",
+        what: "a list of four numbers",
+    },
+    Wanted {
+        path: b"limits.#",
+        what: NUMBER,
+    },
+    Wanted {
+        path: b"lang",
+        what: "an object",
+    },
+    Wanted {
+        path: b"types",
+        what: ANY_LIST,
+    },
+    Wanted {
+        path: b"types.#",
+        what: "a type, which is its name or an array of its word and exactly its parts,",
+    },
+    Wanted {
+        path: b"types.#.#",
+        what: "a list of indexes into `types`",
+    },
+    Wanted {
+        path: b"types.#.#.#",
+        what: INDEX_OF_TYPE,
+    },
+    Wanted {
+        path: b"modules",
+        what: ANY_LIST,
+    },
+    Wanted {
+        path: b"modules.#",
+        what: "the number of the module that it stands in, or null",
+    },
+    Wanted {
+        path: b"adts",
+        what: ANY_LIST,
+    },
+    Wanted {
+        path: b"variants",
+        what: ANY_LIST,
+    },
+    Wanted {
+        path: b"consts",
+        what: ANY_LIST,
+    },
+    Wanted {
+        path: b"statics",
+        what: ANY_LIST,
+    },
+    Wanted {
+        path: b"traits",
+        what: ANY_LIST,
+    },
+    Wanted {
+        path: b"aliases",
+        what: ANY_LIST,
+    },
+    Wanted {
+        path: b"impls",
+        what: ANY_LIST,
+    },
+    Wanted {
+        path: b"opaques",
+        what: ANY_LIST,
+    },
+    Wanted {
+        path: b"fns",
+        what: ANY_LIST,
+    },
+    Wanted {
+        path: b"fns.#",
+        what: "an object with exactly the ten keys of a function",
+    },
+    Wanted {
+        path: b"fns.#.name",
+        what: TEXT,
+    },
+    Wanted {
+        path: b"fns.#.at",
+        what: "[\"module\", m], [\"impl\", i] or [\"trait\", t]",
+    },
+    Wanted {
+        path: b"fns.#.at.#",
+        what: NUMBER,
+    },
+    Wanted {
+        path: b"fns.#.params",
+        what: ANY_LIST,
+    },
+    Wanted {
+        path: b"fns.#.preds",
+        what: ANY_LIST,
+    },
+    Wanted {
+        path: b"fns.#.has_self",
+        what: TRUTH,
+    },
+    Wanted {
+        path: b"fns.#.inputs",
+        what: "a list of indexes into `types`",
+    },
+    Wanted {
+        path: b"fns.#.inputs.#",
+        what: INDEX_OF_TYPE,
+    },
+    Wanted {
+        path: b"fns.#.output",
+        what: INDEX_OF_TYPE,
+    },
+    Wanted {
+        path: b"fns.#.safe",
+        what: TRUTH,
+    },
+    Wanted {
+        path: b"fns.#.vis",
+        what: "\"pub\" or a module's number",
+    },
+    Wanted {
+        path: b"fns.#.body",
+        what: "a body's number, or null",
+    },
+    Wanted {
+        path: b"bodies",
+        what: ANY_LIST,
+    },
+    Wanted {
+        path: b"bodies.#",
+        what: "an object with exactly the nine keys of a body",
+    },
+    Wanted {
+        path: b"bodies.#.module",
+        what: "a module's number",
+    },
+    Wanted {
+        path: b"bodies.#.traits",
+        what: "a list of traits' numbers",
+    },
+    Wanted {
+        path: b"bodies.#.self",
+        what: "a binding's number, or null",
+    },
+    Wanted {
+        path: b"bodies.#.params",
+        what: "a list of patterns' numbers",
+    },
+    Wanted {
+        path: b"bodies.#.root",
+        what: EXPRESSION,
+    },
+    Wanted {
+        path: b"bodies.#.labels",
+        what: NUMBER,
+    },
+    Wanted {
+        path: b"bodies.#.exprs",
+        what: ANY_LIST,
+    },
+    Wanted {
+        path: b"bodies.#.exprs.#",
+        what: "an expression, which is its word or an array of its word and exactly its parts,",
+    },
+    Wanted {
+        path: b"bodies.#.exprs.#.1",
+        what: "a literal, a path, a label or null, or a list of expressions, as the expression's kind asks,",
+    },
+    Wanted {
+        path: b"bodies.#.exprs.#.2",
+        what: "a list of statements",
+    },
+    Wanted {
+        path: b"bodies.#.exprs.#.2.#",
+        what: "[\"let\", pattern, TYPE?, expression?, expression?] or [\"expr\", expression, true or false]",
+    },
+    Wanted {
+        path: b"bodies.#.exprs.#.2.#.1",
+        what: "a pattern's number in a `let`, else an expression's",
+    },
+    Wanted {
+        path: b"bodies.#.exprs.#.2.#.2",
+        what: "an index into `types` or null in a `let`, else true or false",
+    },
+    Wanted {
+        path: b"bodies.#.exprs.#.3",
+        what: MAYBE_EXPRESSION,
+    },
+    Wanted {
+        path: b"bodies.#.pats",
+        what: ANY_LIST,
+    },
+    Wanted {
+        path: b"bodies.#.pats.#",
+        what: "a pattern, which is its word or an array of its word and exactly its parts,",
+    },
+    Wanted {
+        path: b"bodies.#.bindings",
+        what: ANY_LIST,
+    },
+    Wanted {
+        path: b"bodies.#.bindings.#",
+        what: "[name, \"plain\"], or with \"mut\", \"ref\" or \"refmut\"",
+    },
+];
+
+/// What follows the digits that a text begins with.
+fn after_digits(text: &[u8]) -> &[u8] {
+    let mut rest = text;
+    while let [first, more @ ..] = rest {
+        if !first.is_ascii_digit() {
+            break;
+        }
+        rest = more;
+    }
+    rest
+}
+
+/// Whether a path has the form of a pattern.
+fn fits(pattern: &[u8], path: &[u8]) -> bool {
+    let mut rest = path;
+    for wanted in pattern {
+        if *wanted == b'#' {
+            let after = after_digits(rest);
+            if after.len() == rest.len() {
+                return false;
+            }
+            rest = after;
+        } else {
+            match rest {
+                [first, more @ ..] if first == wanted => rest = more,
+                _ => return false,
+            }
+        }
+    }
+    rest.is_empty()
+}
+
+/// What a facts text has to have at a path.
+pub fn wanted_at(path: &str) -> &'static str {
+    for place in &PLACES {
+        if fits(place.path, path.as_bytes()) {
+            return place.what;
+        }
+    }
+    "a part of the kind that docs/FORMAT.md names"
+}
