@@ -23,7 +23,7 @@ def text_of(value):
 
 def filled(make):
     """The largest text of a shape, by the count that it is made with."""
-    low, high = 0, 1 << 23
+    low, high = 0, 1 << 24
     while low < high:
         middle = (low + high + 1) // 2
         if len(make(middle)) <= MOST:
@@ -65,7 +65,8 @@ def main():
     ]
     for name, text in shapes:
         seconds, peak, status, last = lets.measure(text)
-        print("%-16s bytes %9d  seconds %7.3f  peak MiB %7.1f  status %s" % (name, len(text), seconds, peak, status))
+        print("%-16s bytes %9d  seconds %7.3f  peak MiB %7.1f  status %2d  %s"
+              % (name, len(text), seconds, peak, status, last))
 
 
 if __name__ == "__main__":

@@ -12,7 +12,6 @@ import shutil
 import subprocess
 import sys
 import tempfile
-import time
 
 TOP = os.path.dirname(os.path.dirname(os.path.abspath(__file__)))
 PROGRAM = os.path.join(TOP, "crates", "infer_tool", "out", "infer_tool")
@@ -42,19 +41,29 @@ def facts(count):
     return json.dumps(value, separators=(",", ":")).encode()
 
 
+# Run by a small process of its own, since a child's peak counts the memory of the process that it is forked from.
+RUN = """
+import os, subprocess, sys, time
+begun = time.monotonic()
+child = subprocess.Popen([sys.argv[1], "table", "fn", "0"])
+_, status, used = os.wait4(child.pid, 0)
+print(time.monotonic() - begun, used.ru_maxrss / 1024, os.waitstatus_to_exitcode(status), file=sys.stderr)
+child.returncode = 0
+"""
+
+
 def measure(text):
-    """Seconds, peak memory in MiB and the last line of the report."""
+    """Seconds, peak memory in MiB, the status, and the last line of the report or of what was wrong."""
     with tempfile.TemporaryFile() as source, tempfile.TemporaryFile() as sink:
         source.write(text)
         source.seek(0)
-        begun = time.monotonic()
-        child = subprocess.Popen([PROGRAM, "table", "fn", "0"], stdin=source, stdout=sink)
-        _, status, used = os.wait4(child.pid, 0)
-        seconds = time.monotonic() - begun
-        child.returncode = os.waitstatus_to_exitcode(status)
+        done = subprocess.run([sys.executable, "-c", RUN, PROGRAM], stdin=source, stdout=sink,
+                              stderr=subprocess.PIPE, text=True, check=True)
+        said = done.stderr.splitlines()
+        seconds, peak, status = said[-1].split()
         sink.seek(0)
-        lines = sink.read().splitlines()
-        return seconds, used.ru_maxrss / 1024, child.returncode, lines[-1].decode() if lines else "-"
+        lines = sink.read().decode().splitlines() or said[:-1] or ["-"]
+        return float(seconds), float(peak), int(status), lines[-1]
 
 
 def rustc_seconds(count):

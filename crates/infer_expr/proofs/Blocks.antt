@@ -11,7 +11,7 @@ use Rattle.hir_facts.specs.declared.raw.RawStmt.{RawStmt}
 use Rattle.hir_facts.specs.declared.schedule.Schedule.{Schedule}
 use Rattle.hir_facts.specs.Erasure.{IsClosed}
 use Rattle.hir_facts.specs.Types.{unit}
-use Rattle.hir_facts.specs.Order.{Part, inner, tail, expr_part, stmt_parts, stmts_parts, maybe_part, after}
+use Rattle.hir_facts.specs.Order.{Part, inner, tail, expr_part, stmt_parts, stmts_parts, stmts_of, maybe_part, after}
 use Rattle.infer_result.specs.declared.result.InferenceResult.{InferenceResult}
 use Rattle.infer_result.specs.Table.{mismatch}
 use Rattle.infer_result.specs.Places.{Given, Demand, IsAtOrMismatch}
@@ -64,6 +64,7 @@ module _ (g : Given) (s : Schedule) (n : ExprId) (ys : List RawStmt) (o : Option
     ready = w.ready;
     state = h.walks.state;
     ahead = ahead_left g.body s (inner (node.ExprId n)) c.clock (stmt_parts y) rest (ahead_at y e k);
+    stands = (i, ap (λ z. slice_get (stmts_of z) i) is.1 ∙ slice_get_read ys _ i y refl k e);
     carried = carried_stmt g.body n ys o i y w.ready.law.carried is (slice_get_read ys _ i y refl k e);
   }
 

@@ -12,3 +12,4 @@ pub mod Stmts
 pub mod Tuples
 pub mod Blocks
 pub mod Whole
+pub mod Definitions

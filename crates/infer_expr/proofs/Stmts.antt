@@ -1,5 +1,5 @@
 -- Statements.
-use Rattle.std.proofs.Common.{ℕ, ◌+◌, ◌≡◌, Bool, true, false, List, [], ◌∷◌, sym, ap, subst, ◌∙◌, Option, Some, None}
+use Rattle.std.proofs.Common.{ℕ, ◌+◌, ◌<◌, ◌≡◌, Bool, true, false, List, length, [], ◌∷◌, sym, ap, subst, ◌∙◌, Option, Some, None}
 use Rattle.hir_facts.specs.declared.ids.ExprId.{ExprId}
 use Rattle.hir_facts.specs.declared.ids.PatId.{PatId}
 use Rattle.hir_facts.specs.declared.ids.TypeRefId.{TypeRefId}
@@ -29,6 +29,11 @@ part_demand g s n from role e ps r t h asks =
     record { parent = inner (node.ExprId n); at_part = q.0; role = role; stands = q.1; asks = asks }
 
 -- ---- `let`
+
+-- the written type is one of the facts'
+pub let_written : (g : Given) (s : Schedule) (n : ExprId) (p : PatId) (o : Option TypeRefId) (w : TypeRefId) (e : ExprId) (old : InferenceContext) → o ≡ Some w → BeforeStmt g s n (stmt.Let p o (Some e) None) old → w.0 < length g.types
+let_written g s n p o w e old is h =
+    h.ready.written n h.stands.0 p w (Some e) None (h.stands.1 ∙ ap (λ x. Some (stmt.Let p x (Some e) None)) is)
 
 module _ (g : Given) (s : Schedule) (n : ExprId) (p : PatId) (w : Option TypeRefId) (e : ExprId) (old : InferenceContext) (h : BeforeStmt g s n (stmt.Let p w (Some e) None) old) where
   pub init_before : Before g s e (declared_type g w) old

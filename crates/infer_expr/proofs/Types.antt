@@ -59,7 +59,7 @@ closed_bool = ap has_hole (sym ty.rolls-Bool) ∙ fold-roll-Ty Bool hole_step Ty
 closed_char : IsClosed ty.Char
 closed_char = ap has_hole (sym ty.rolls-Char) ∙ fold-roll-Ty Bool hole_step Ty-F.Char
 
-closed_error : IsClosed ty.Error
+pub closed_error : IsClosed ty.Error
 closed_error = ap has_hole (sym ty.rolls-Error) ∙ fold-roll-Ty Bool hole_step Ty-F.Error
 
 closed_integer : (i : IntegerTy) → IsClosed (integer_type i)

@@ -20,7 +20,7 @@ use Rattle.infer_result.specs.Made.{IsMade, IsMisfit}
 use Rattle.infer_expr.specs.declared.context.InferenceContext.{InferenceContext}
 use Rattle.infer_expr.specs.Context.{empty_context}
 use Rattle.infer_expr.specs.Walks.{IsWalked, IsFree, expr_end}
-use Rattle.infer_expr.specs.Steps.{IsReady, LieAhead, Before, CoerceDone}
+use Rattle.infer_expr.specs.Steps.{IsReady, WrittenExist, LieAhead, Before, CoerceDone}
 use Rattle.infer_expr.proofs.Parts.{ahead_start, ahead_stands, expr_before, binds_within}
 
 -- ---- nothing is recorded
@@ -91,9 +91,9 @@ module _ (b : RawBody) (s : Schedule) (law : IsWalkable b s) where
 pub root_within : (b : RawBody) (s : Schedule) → IsWalkable b s → IsInBody b (node.ExprId b.root)
 root_within b s law = (root_ahead b s law).0.fit.0
 
-pub root_before : (g : Given) (s : Schedule) (last : ℕ) (c : InferenceContext) → IsWalkable g.body s → IsClosed g.output → last ≡ expr_end g.body s g.body.root → last < 2 ^ 64 → c ≡ empty_context g.body → Before g s g.body.root (Some g.output) c
-root_before g s last c law closed is room empty =
-    let ready : IsReady g s = record { law = law; room = omega (arith, is, (root_ahead g.body s law).1) } in
+pub root_before : (g : Given) (s : Schedule) (last : ℕ) (c : InferenceContext) → IsWalkable g.body s → WrittenExist g → IsClosed g.output → last ≡ expr_end g.body s g.body.root → last < 2 ^ 64 → c ≡ empty_context g.body → Before g s g.body.root (Some g.output) c
+root_before g s last c law written closed is room empty =
+    let ready : IsReady g s = record { law = law; written = written; room = omega (arith, is, (root_ahead g.body s law).1) } in
     subst (λ k. Before g s g.body.root (Some g.output) k) (sym empty) (
     expr_before g s the_body root g.body.root [] (Some g.output) (empty_context g.body) ready (empty_walked g.body s law) (root_ahead g.body s law).0 closed
     )

@@ -11,12 +11,13 @@ use Rattle.hir_facts.specs.declared.raw.RawExpr.TheVariants as expr
 use Rattle.hir_facts.specs.declared.raw.RawPath.{RawPath}
 use Rattle.hir_facts.specs.declared.raw.RawPath.TheVariants as path
 use Rattle.hir_facts.specs.declared.raw.RawStmt.{RawStmt}
+use Rattle.hir_facts.specs.declared.raw.RawStmt.TheVariants as stmt
 use Rattle.hir_facts.specs.declared.schedule.Schedule.{Schedule}
 use Rattle.hir_facts.specs.Types.{written_type, unit}
 use Rattle.hir_facts.specs.Erasure.{IsClosed}
 use Rattle.hir_facts.specs.Bodies.{IsWalkable}
 use Rattle.hir_facts.specs.Laws.Carried.{is_carried_stmt}
-use Rattle.hir_facts.specs.Order.{end, inner, the_body, Node, Part, IsNode, part_at, Fits, after, stmt_parts, maybe_part, tail}
+use Rattle.hir_facts.specs.Order.{end, inner, the_body, Node, Part, IsNode, part_at, Fits, after, stmt_parts, stmt_at, maybe_part, tail}
 use Rattle.infer_result.specs.declared.result.InferenceResult.{InferenceResult}
 use Rattle.infer_result.specs.declared.result.TypeMismatch.{TypeMismatch}
 use Rattle.infer_result.specs.Table.{At, HasTy, PatTy, BindingTy, mismatch}
@@ -28,9 +29,14 @@ use Rattle.infer_expr.specs.declared.context.InferenceContext.{InferenceContext}
 use Rattle.infer_expr.specs.Context.{IsClosedExpectation, with_mismatch}
 use Rattle.infer_expr.specs.Walks.{Walks, IsWalked, IsFree, Extends, Nothing, Owed, PaidBy, expr_start, expr_end, pat_start}
 
+-- each type that a `let` of the body is written with is one of the facts'
+abbrev pub WrittenExist : Given → Type 0
+WrittenExist g = (e : ExprId) (i : ℕ) (p : PatId) (w : TypeRefId) (init other : Option ExprId) → stmt_at g.body e i ≡ Some (stmt.Let p (Some w) init other) → w.0 < length g.types
+
 -- the laws of the body, and room for the clock
 pub record IsReady (g : Given) (s : Schedule) : Type 0 where
   pub law : IsWalkable g.body s
+  pub written : WrittenExist g
   pub room : end g.body s the_body < 2 ^ 64
 
 -- the parts ps of the node n come one after another, the first with the number `from`
@@ -132,6 +138,7 @@ pub record BeforeStmt (g : Given) (s : Schedule) (n : ExprId) (x : RawStmt) (c :
   pub ready : IsReady g s
   pub state : IsWalked g.body s c
   pub ahead : LieAhead g.body s (inner (node.ExprId n)) c.clock (stmt_parts x)
+  pub stands : (i : ℕ) × (stmt_at g.body n i ≡ Some x)
   pub carried : IsTrue (is_carried_stmt x)
 
 pub record StmtDone (g : Given) (s : Schedule) (x : RawStmt) (old new : InferenceContext) : Type 0 where

@@ -3,6 +3,7 @@ ghost use Rattle.std.specs.Prelude.{◌≡◌, ◌<◌, IfOk};
 ghost use Rattle.hir_facts.specs.Bodies.{IsWalkable};
 ghost use Rattle.hir_facts.specs.Erasure.{IsClosed};
 ghost use Rattle.infer_result.specs.Made.{IsMade};
+ghost use Rattle.infer_expr.specs.Steps.{WrittenExist};
 ghost use Rattle.infer_expr.specs.Context.{given_of, schedule_of, empty_context};
 
 use crate::context::InferenceContext;
@@ -15,6 +16,7 @@ impl InferenceContext {
     /// Types the body against its return type: `infer.rs`, `infer_body`.
     pub fn infer_body(&mut self, alloc: Global, given: &GivenBody) -> Result<(), AllocError>
         requires law { IsWalkable given.now.body.now given.now.schedule.now }
+        requires written { WrittenExist (given_of given.now) }
         requires closed { IsClosed given.now.return_ty.now }
         requires empty { self.old ≡ empty_context given.now.body.now }
         ensures { IfOk result (λ _. IsMade (given_of given.now) self.new.result) }

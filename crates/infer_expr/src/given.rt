@@ -1,14 +1,15 @@
 //! What inference of a body reads.
-ghost use Rattle.std.specs.Prelude.{◌≡◌, IfOk};
+ghost use Rattle.std.specs.Prelude.{◌≡◌, ◌<◌, IfOk, length};
 ghost use Rattle.hir_facts.specs.Types.{written_type};
 
-use hir_facts::{RawBody, RawFacts, Schedule, Ty, TypeRefId};
+use hir_facts::{Facts, RawBody, Schedule, Ty, TypeRefId, lower_ty};
 use std::alloc::{AllocError, Global};
 
 /// A body among its facts: what `infer.rs`'s `InferenceContext` reads of its `db`, its `body` and
 /// its `return_ty`.
+#[derive(Clone, Copy)]
 pub struct GivenBody<'a> {
-    pub facts: &'a RawFacts,
+    pub facts: &'a Facts,
     pub body: &'a RawBody,
     /// The order in which the walk comes to the nodes of the body.
     pub schedule: &'a Schedule,
@@ -16,13 +17,12 @@ pub struct GivenBody<'a> {
     pub return_ty: &'a Ty,
 }
 
-/// The type that a written type stands for: `infer.rs`, `make_body_ty`.
-pub fn make_body_ty(
-    _alloc: Global,
-    _facts: &RawFacts,
-    _type_ref: TypeRefId,
-) -> Result<Ty, AllocError>
-    ensures { IfOk result (λ ty. ty ≡ written_type _facts.now.types _type_ref) }
-{
-    Err(AllocError)
+impl GivenBody<'_> {
+    /// The type that a written type stands for: `infer.rs`, `make_body_ty`.
+    pub fn make_body_ty(&self, alloc: Global, type_ref: TypeRefId) -> Result<Ty, AllocError>
+        requires { type_ref.0 < length self.now.facts.now.types }
+        ensures { IfOk result (λ ty. ty ≡ written_type self.now.facts.now.types type_ref) }
+    {
+        lower_ty(alloc, self.facts, type_ref)
+    }
 }

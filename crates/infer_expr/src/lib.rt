@@ -17,3 +17,4 @@ mod stmt;
 mod tuple;
 
 pub use inspect::{NoInspector, ObligationInspector};
+pub use query::infer_query_with_inspect;

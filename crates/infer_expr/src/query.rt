@@ -1,22 +1,39 @@
 //! Inference of a body, from its facts to its table.
 ghost use Rattle.std.specs.Prelude.{IfOk};
-ghost use Rattle.hir_facts.specs.Bodies.{IsWalkable};
-ghost use Rattle.hir_facts.specs.Erasure.{IsClosed};
-ghost use Rattle.infer_result.specs.Typed.{IsTyped};
-ghost use Rattle.infer_expr.specs.Context.{given_of};
+ghost use Rattle.hir_facts.specs.Bodies.{HasBody};
+ghost use Rattle.infer_result.specs.Typed.{IsTableOf};
 
 use crate::context::InferenceContext;
 use crate::given::GivenBody;
+use crate::inspect::ObligationInspector;
+use hir_facts::{DefWithBodyId, Facts, return_ty};
 use infer_result::InferenceResult;
 use std::alloc::{AllocError, Global};
 
-/// The table of a body.
-pub fn infer_given(alloc: Global, given: &GivenBody) -> Result<InferenceResult, AllocError>
-    requires law { IsWalkable given.now.body.now given.now.schedule.now }
-    requires closed { IsClosed given.now.return_ty.now }
-    ensures { IfOk result (λ table. IsTyped (given_of given.now) table) }
+/// The table of a definition's body: `infer.rs`, `infer_query_with_inspect`. Nothing is inspected
+/// yet, and no holes are made, so that nothing is left to do after `infer_body`.
+pub fn infer_query_with_inspect<I: ObligationInspector>(
+    alloc: Global,
+    facts: &Facts,
+    def: DefWithBodyId,
+    _inspect: Option<&mut I>,
+) -> Result<InferenceResult, AllocError>
+    requires { HasBody facts.now def }
+    ensures { IfOk result (λ table. IsTableOf facts.now def table) }
 {
-    let mut context = InferenceContext::new(alloc, given.body)?;
-    context.infer_body(alloc, given)?;
+    let Some(id) = facts.body_id(def) else {
+        unreachable!()
+    };
+    facts.lawful();
+    let return_ty = return_ty(alloc, facts, def)?;
+    let body = facts.body(id);
+    let given = GivenBody {
+        facts,
+        body,
+        schedule: facts.schedule(id),
+        return_ty: &return_ty,
+    };
+    let mut context = InferenceContext::new(alloc, body)?;
+    context.infer_body(alloc, &given)?;
     Ok(context.resolve_all())
 }

@@ -6,7 +6,7 @@ ghost use Rattle.infer_expr.specs.Steps.{BeforeStmt, StmtDone, InitDone};
 
 use crate::context::InferenceContext;
 use crate::expectation::Expectation;
-use crate::given::{GivenBody, make_body_ty};
+use crate::given::GivenBody;
 use hir_facts::{ExprId, List, PatId, RawStmt, Ty, TypeRefId};
 use std::alloc::{AllocError, Global};
 
@@ -78,7 +78,7 @@ impl InferenceContext {
     {
         match type_ref {
             Some(type_ref) => {
-                let decl_ty = make_body_ty(alloc, given.facts, type_ref)?;
+                let decl_ty = given.make_body_ty(alloc, type_ref)?;
                 let expected = Expectation::HasType(&decl_ty);
                 let ty = self.infer_expr_coerce(alloc, given, initializer, expected)?;
                 Ok(ty)

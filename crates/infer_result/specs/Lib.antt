@@ -6,6 +6,7 @@ pub mod Excused
 pub mod Upward
 pub mod Truth
 pub mod Parts
+pub mod Fit
 pub mod Made
 pub mod Typed
 pub mod Derived

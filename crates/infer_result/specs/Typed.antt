@@ -11,6 +11,7 @@ use Rattle.infer_result.specs.declared.result.InferenceResult.{InferenceResult}
 use Rattle.infer_result.specs.declared.result.TypeMismatch.{TypeMismatch}
 use Rattle.infer_result.specs.Table.{At, HasTy}
 use Rattle.infer_result.specs.Closed.{IsOfBody, IsTotal, IsClosedTable}
+use Rattle.infer_result.specs.Fit.{TypesFit}
 use Rattle.infer_result.specs.Places.{Given}
 use Rattle.infer_result.specs.Rules.Expressions.{ObeysOrMismatch, ObeysExpression, BodyObeysOrMismatch, BodyObeys}
 use Rattle.infer_result.specs.Rules.Patterns.{ObeysPattern}
@@ -36,8 +37,9 @@ pub record IsTyped (g : Given) (t : InferenceResult) : Type 0 where
 abbrev pub given : RawFacts → DefWithBodyId → RawBody → Given
 given raw d b = record { types = raw.types; body = b; output = return_type raw d }
 
--- the table is one of the definition's body, and typed
+-- the table is one of the definition's body, typed, and its types name what the facts have
 pub record IsTableOf (raw : RawFacts) (d : DefWithBodyId) (t : InferenceResult) : Type 0 where
   pub body : RawBody
   pub is_body : body_of raw d ≡ Some body
   pub typed : IsTyped (given raw d body) t
+  pub fit : TypesFit raw d t

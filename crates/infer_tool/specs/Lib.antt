@@ -8,3 +8,5 @@ pub mod Causes
 pub mod Command
 pub mod Outcome
 pub mod Answer
+pub mod Consequences
+pub mod Complete

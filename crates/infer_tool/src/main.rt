@@ -3,7 +3,8 @@
 
 mod ends;
 mod run;
-mod stand;
+#[cfg(test)]
+mod tests;
 mod text;
 mod words;
 

@@ -10,10 +10,10 @@ ghost use Rattle.infer_tool.specs.Outcome.{AppendsFront, Outcome};
 ghost use Rattle.infer_tool.specs.Answer.{Answered, silence, refusal};
 
 use crate::ends::{Failed, Sink, Source};
-use crate::stand::{Facts, infer_query_with_inspect};
 use crate::text::{ReadError, count_complaints, read_facts, write_report};
 use crate::words::command;
-use hir_facts::DefWithBodyId;
+use hir_facts::{DefWithBodyId, Facts};
+use infer_expr::{NoInspector, infer_query_with_inspect};
 use infer_result::InferenceResult;
 use std::alloc::{AllocError, Global};
 use std::rc::RcStr;
@@ -151,7 +151,7 @@ fn answer<K: Sink>(alloc: Global, def: DefWithBodyId, facts: Facts, sink: &mut K
             fault: None,
         };
     }
-    match infer_query_with_inspect::<()>(alloc, &facts, def, None) {
+    match infer_query_with_inspect::<NoInspector>(alloc, &facts, def, None) {
         Ok(table) => report_on(alloc, def, facts, table, sink),
         Err(AllocError) => refused(ReadError::OutOfMemory),
     }

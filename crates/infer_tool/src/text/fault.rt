@@ -2,7 +2,7 @@
 ghost use Rattle.std.specs.Prelude.{◌≡◌};
 ghost use Rattle.infer_tool.specs.declared.text.fault.Misread.TheVariants.{OutOfMemory};
 
-use hir_facts::{FactsList, Law, Text};
+use hir_facts::{FactsError, FactsList, Law, Text};
 use std::alloc::{AllocError, AllocFailed};
 use std::error::Error;
 use std::fmt;
@@ -49,38 +49,6 @@ pub enum ReadError {
     OutOfMemory,
 }
 
-fn sentence(law: Law) -> &'static str {
-    match law {
-        Law::Carried => "each entry and part is of a kind that is carried",
-        Law::Ids => "ids are in range, and each body is that of one definition",
-        Law::Counts => "a function has as many inputs as its body has parameters",
-        Law::Trees => "the nodes of a body are a tree, and each binding is bound once",
-        Law::Scopes => "a local names a binding that is bound before it",
-        Law::Sizes => "lists are not too long, trees and types not too deep",
-        Law::Limits => "the limits are in their ranges",
-        Law::Literals => "literals fit 128 bits, and characters are scalar values",
-    }
-}
-
-fn key(list: FactsList) -> &'static str {
-    match list {
-        FactsList::Types => "types",
-        FactsList::Modules => "modules",
-        FactsList::Adts => "adts",
-        FactsList::Variants => "variants",
-        FactsList::Fns => "fns",
-        FactsList::Consts => "consts",
-        FactsList::Statics => "statics",
-        FactsList::Traits => "traits",
-        FactsList::Aliases => "aliases",
-        FactsList::Impls => "impls",
-        FactsList::Opaques => "opaques",
-        FactsList::Lang => "lang",
-        FactsList::Bodies => "bodies",
-        FactsList::Limits => "limits",
-    }
-}
-
 impl fmt::Display for ReadError {
     fn fmt<W: fmt::Write>(&self, f: &mut fmt::Formatter<W>) -> fmt::Result {
         match self {
@@ -96,13 +64,12 @@ impl fmt::Display for ReadError {
                 }
             }
             ReadError::Unlawful { law, list, index } => {
-                let number = law.number();
-                let law = sentence(*law);
-                let key = key(*list);
-                write!(
-                    f,
-                    "law {number} is broken at entry {index} of `{key}`: {law}"
-                )
+                let broken = FactsError::Law {
+                    law: *law,
+                    list: *list,
+                    index: *index,
+                };
+                write!(f, "{broken}")
             }
             ReadError::OutOfMemory => write!(f, "there is not enough memory"),
         }

@@ -8,8 +8,9 @@ use super::entries::Lang;
 use super::fault::{Misread, ReadError};
 use super::leaves::Profile;
 use super::reader::{FromData, expect_keys, field_of};
-use crate::stand::{Facts, FactsError};
-use hir_facts::{Edition, List, ModuleId, Other, RawFacts, RawFn, RawLimits, RawType, Text};
+use hir_facts::{
+    Edition, Facts, FactsError, List, ModuleId, Other, RawFacts, RawFn, RawLimits, RawType,
+};
 use serde_json::{Category, Value};
 use std::alloc::Global;
 

@@ -11,7 +11,7 @@ use Rattle.infer_expr.specs.Steps.{Before, Within, OwnDone, KindDone, CoerceDone
 use Rattle.infer_expr.proofs.Close.{entered_within, close}
 use Rattle.infer_expr.proofs.Coercions.{coerced_as}
 use Rattle.infer_expr.proofs.Leaves.{literal_done, path_bound, path_done}
-use Rattle.infer_expr.proofs.Stmts.{init_before, init_done, let_done, expr_stmt_done}
+use Rattle.infer_expr.proofs.Stmts.{let_written, init_before, init_done, let_done, expr_stmt_done}
 use Rattle.infer_expr.proofs.Tuples.{tuple_start, tuple_before, tuple_next, tuple_done}
 use Rattle.infer_expr.proofs.Blocks.{block_start, block_before, block_next, block_done}
 use Rattle.infer_expr.proofs.context.InferenceContext.+infer.Goals as goal
@@ -88,6 +88,9 @@ infer_expr_stmt-returns-in_ok-infer_expr_coerce-2 t c =
     let done = subst (λ l. CoerceDone (given_of c.args.given.now) (schedule_of c.args.given.now) c.args.expr (Some (ty.Tuple l)) c.in_ok-infer_expr_coerce-2.field-0 c.args.self.now c.infer_expr_coerce-else-has_semi.new.self) c.new.ensures c.in_ok-infer_expr_coerce-2.ensures in
     subst (λ k. StmtDone (given_of c.args.given.now) (schedule_of c.args.given.now) (stmt.Expr c.args.expr k) c.args.self.now c.infer_expr_coerce-else-has_semi.new.self) (sym c.if-has_semi.false)
     (expr_stmt_done _ _ c.args.block c.args.expr _ _ _ _ before done)
+
+pub infer_initializer-make_body_ty-requires : goal.infer_initializer-make_body_ty-requires
+infer_initializer-make_body_ty-requires t c = let_written _ _ _ _ _ c.in-Some.type_ref _ _ c.in-Some.is c.requires
 
 pub infer_initializer-infer_expr_coerce-requires : goal.infer_initializer-infer_expr_coerce-requires
 infer_initializer-infer_expr_coerce-requires t c =

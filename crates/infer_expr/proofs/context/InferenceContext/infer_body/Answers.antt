@@ -8,7 +8,7 @@ pub end_of-last-requires-clause-node : goal.end_of-last-requires-clause-node
 end_of-last-requires-clause-node c = root_within _ _ c.requires.law
 
 pub infer_expr_coerce-requires : goal.infer_expr_coerce-requires
-infer_expr_coerce-requires c = root_before _ _ _ _ c.requires.law c.requires.closed c.end_of-last.ensures c.end_of-last.type_inv c.requires.empty
+infer_expr_coerce-requires c = root_before _ _ _ _ c.requires.law c.requires.written c.requires.closed c.end_of-last.ensures c.end_of-last.type_inv c.requires.empty
 
 pub returns : goal.returns
 returns c =

@@ -1,0 +1,61 @@
+-- The body of a definition of lawful facts, and its return type.
+use Rattle.std.proofs.Common.{◌<◌, ◌≡◌, refl, ap, subst, ◌∙◌, length, Option, Some, None, slice_get}
+use Rattle.std.specs.Prelude.{IfSome}
+use Rattle.std.specs.Option.{option_and_then}
+use Rattle.hir_facts.specs.declared.ids.BodyId.{BodyId}
+use Rattle.hir_facts.specs.declared.ids.FunctionId.{FunctionId}
+use Rattle.hir_facts.specs.declared.ids.DefWithBodyId.{DefWithBodyId}
+use Rattle.hir_facts.specs.declared.ids.DefWithBodyId.TheVariants as def
+use Rattle.hir_facts.specs.declared.ty.Ty.{Ty}
+use Rattle.hir_facts.specs.declared.raw.RawFn.{RawFn}
+use Rattle.hir_facts.specs.declared.raw.RawBody.{RawBody}
+use Rattle.hir_facts.specs.declared.raw.RawFacts.{RawFacts}
+use Rattle.hir_facts.specs.declared.schedule.Schedule.{Schedule}
+use Rattle.hir_facts.specs.Erasure.{IsClosed}
+use Rattle.hir_facts.specs.Bodies.{body_id_of, return_type, IsWalkable}
+use Rattle.hir_facts.specs.LawfulFacts.{fn_ids, body_ids}
+use Rattle.hir_facts.specs.Laws.Lawful.{IsLawful}
+use Rattle.infer_result.specs.declared.result.InferenceResult.{InferenceResult}
+use Rattle.infer_result.specs.Places.{Given}
+use Rattle.infer_result.specs.Made.{IsMade}
+use Rattle.infer_result.specs.Derived.{typed_by_schedule}
+use Rattle.infer_result.specs.Fit.{types_fit}
+use Rattle.infer_result.specs.Typed.{IsTableOf}
+use Rattle.infer_expr.specs.Steps.{WrittenExist}
+use Rattle.infer_expr.proofs.Types.{closed_error, closed_written}
+
+body_of_fn : (raw : RawFacts) → IsLawful raw → (f : FunctionId) (i : BodyId) (o : Option RawFn) → slice_get raw.fns f.0 ≡ o → option_and_then (λ x. x.body) o ≡ Some i → i.0 < length raw.bodies
+body_of_fn raw law f i None at h = absurd (cc)
+body_of_fn raw law f i (Some x) at h =
+    let k : IfSome x.body (λ b. b.0 < length raw.bodies) = (fn_ids raw law f.0 x at).body in
+    subst (λ y. IfSome y (λ b. b.0 < length raw.bodies)) h k
+
+pub body_within : (raw : RawFacts) (d : DefWithBodyId) (i : BodyId) → IsLawful raw → body_id_of raw d ≡ Some i → i.0 < length raw.bodies
+body_within raw (def.FunctionId f) i law h = body_of_fn raw law f i (slice_get raw.fns f.0) refl h
+body_within raw (def.ConstId c) i law h = absurd (cc)
+body_within raw (def.StaticId s) i law h = absurd (cc)
+body_within raw (def.VariantId v) i law h = absurd (cc)
+
+closed_output : (raw : RawFacts) (f : FunctionId) (o : Option RawFn) → slice_get raw.fns f.0 ≡ o → IsClosed (return_type raw (def.FunctionId f))
+closed_output raw f None at = rw at closed_error
+closed_output raw f (Some x) at = rw at (closed_written raw.types x.output)
+
+pub closed_return : (raw : RawFacts) (d : DefWithBodyId) → IsClosed (return_type raw d)
+closed_return raw (def.FunctionId f) = closed_output raw f (slice_get raw.fns f.0) refl
+closed_return raw (def.ConstId c) = closed_error
+closed_return raw (def.StaticId s) = closed_error
+closed_return raw (def.VariantId v) = closed_error
+
+pub written_exist : (raw : RawFacts) (i : BodyId) (b : RawBody) (output : Ty) → IsLawful raw → slice_get raw.bodies i.0 ≡ Some b → WrittenExist (record { types = raw.types; body = b; output = output })
+written_exist raw i b output law at = (body_ids raw law i.0 b at).written
+
+pub table_of : (raw : RawFacts) (d : DefWithBodyId) (i : BodyId) (b : RawBody) (s : Schedule) (output : Ty) (r : InferenceResult) → body_id_of raw d ≡ Some i → slice_get raw.bodies i.0 ≡ Some b → IsWalkable b s → output ≡ return_type raw d → IsMade (record { types = raw.types; body = b; output = output }) r → IsTableOf raw d r
+table_of raw d i b s output r id at law out made = record {
+  body = b;
+  is_body = ap (λ o. option_and_then (λ k. slice_get raw.bodies k.0) o) id ∙ at;
+  typed =
+      (let g : Given = record { types = raw.types; body = b; output = return_type raw d } in
+      let m : IsMade g r = subst (λ t. IsMade (record { types = raw.types; body = b; output = t }) r) out made in
+      typed_by_schedule g r s law.schedule m);
+  fit = types_fit raw d r;
+}
