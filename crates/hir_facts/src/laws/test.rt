@@ -8,12 +8,16 @@ use std::alloc::{AllocError, Global};
 
 /// A test of a law at the entries of a list of the facts.
 pub trait Test {
+    /// The entries.
     type Item;
 
+    // the list
     ghost listed: { RawFacts → List Self.Item };
 
+    // the law at an entry with this index
     ghost holds: { RawFacts → ℕ → Self.Item → Type 0 };
 
+    // what the test rests on: earlier laws, and what it found out before
     ghost given: { RawFacts → Self → Type 0 };
 
     /// Whether the law holds at this entry.
