@@ -1,6 +1,7 @@
 use super::ends::{MemorySink, MemorySource};
 use super::run::{Ran, run};
 use std::alloc::{AllocError, Global};
+use std::process::Abort;
 use std::rc::RcStr;
 use std::test::Fail;
 
@@ -27,6 +28,19 @@ const LET_REPORT: &str = "fn 0\ne0 u8\ne1 u8\ne2 u8\np0 u8 move\nb0 u8\ncomplain
 
 const TRUE_REPORT: &str =
     "fn 0\ne0 bool\ne1 u8\nTypeMismatch e0 expected=u8 actual=bool\ncomplaints 1\n";
+
+const JSON: &str = "the text is no JSON, or nests more than 127 arrays and objects";
+
+const AT_TOP: &str = "the whole text has another shape: an object with exactly the 18 keys of docs/FORMAT.md is wanted";
+
+const AT_WORD: &str = "`bodies.0.exprs.0` has another shape: an expression, which is its word or an array of its word and exactly its parts, is wanted";
+
+const AT_SEMI: &str = "`bodies.0.exprs.0.2.0.2` has another shape: an index into `types` or null in a `let`, else true or false is wanted";
+
+const AT_BODY: &str = "`bodies.0` has another shape: an object with exactly the nine keys of a body is wanted";
+
+const NO_LOOP: &str =
+    "law 0 is broken at bodies[0]: each entry and part is of a kind that is carried";
 
 /// How a run is made: the words, the most bytes that an end moves, and the calls that fail.
 #[derive(Drop)]
@@ -80,91 +94,67 @@ fn fault_of(alloc: Global, ran: &Ran) -> Result<String, AllocError> {
     }
 }
 
+fn check(
+    rt: &(impl Abort + AllocGlobal),
+    way: &Way<'_>,
+    text: &str,
+    status: u8,
+    written: &str,
+    fault: &str,
+) -> Result<(), Fail> {
+    let alloc = rt.alloc();
+    let (end, found) = ran(alloc, way, text)?;
+    let message = fault_of(alloc, &end)?;
+    assert_eq!(rt; end.status, status, "{message}");
+    assert!(rt; found.as_str() == written, "{found}");
+    assert!(rt; message.as_str() == fault, "{message}");
+    Ok(())
+}
+
+fn check_body(
+    rt: &(impl Abort + AllocGlobal),
+    body: &str,
+    status: u8,
+    written: &str,
+    fault: &str,
+) -> Result<(), Fail> {
+    let text = with_body(rt.alloc(), body)?;
+    check(rt, &PLAIN, text.as_str(), status, written, fault)
+}
+
+fn check_words(rt: &(impl Abort + AllocGlobal), words: &[&str], status: u8) -> Result<(), Fail> {
+    let text = with_body(rt.alloc(), LET)?;
+    let way = Way { words, ..PLAIN };
+    check(rt, &way, text.as_str(), status, "", "")
+}
+
 #[test]
 fn reports(rt: HostRuntime) -> Result<(), Fail> {
-    let alloc = rt.alloc();
-    for (body, status, report) in [(LET, 0, LET_REPORT), (TRUE, 1, TRUE_REPORT)] {
-        let text = with_body(alloc, body)?;
-        for most in [1, 7, 4096] {
-            let (end, written) = ran(alloc, &Way { most, ..PLAIN }, text.as_str())?;
-            assert_eq!(rt; end.status, status, "{body}");
-            assert!(rt; written.as_str() == report, "{written}");
-            assert!(rt; end.facts.is_some() && end.table.is_some() && end.fault.is_none());
-        }
-    }
-    Ok(())
+    check_body(&rt, LET, 0, LET_REPORT, "")?;
+    check_body(&rt, TRUE, 1, TRUE_REPORT, "")
 }
 
 #[test]
 fn refuses_words(rt: HostRuntime) -> Result<(), Fail> {
-    let alloc = rt.alloc();
-    let text = with_body(alloc, LET)?;
-    let none: &[&str] = &[];
-    for words in [
-        none,
-        &["table", "fn"],
-        &["check", "fn", "0"],
-        &["table", "type", "0"],
-        &["table", "fn", "00"],
-        &["table", "fn", "+0"],
-        &["table", "fn", "4294967296"],
-        &["table", "fn", "0", "0"],
-    ] {
-        let (end, written) = ran(alloc, &Way { words, ..PLAIN }, text.as_str())?;
-        assert_eq!(rt; end.status, 2);
-        assert!(rt; written.is_empty() && end.facts.is_none() && end.fault.is_none());
-    }
-    Ok(())
+    check_words(&rt, &[], 2)?;
+    check_words(&rt, &["check", "fn", "0"], 2)?;
+    check_words(&rt, &["table", "type", "0"], 2)?;
+    check_words(&rt, &["table", "fn", "00"], 2)?;
+    check_words(&rt, &["table", "fn", "4294967296"], 2)?;
+    check_words(&rt, &["table", "fn", "0", "0"], 2)?;
+    check_words(&rt, &["table", "fn", "1"], 9)?;
+    check_words(&rt, &["table", "static", "0"], 9)
 }
 
 #[test]
 fn refuses_texts(rt: HostRuntime) -> Result<(), Fail> {
-    let alloc = rt.alloc();
-    let good = with_body(alloc, LET)?;
-    let half = good.as_str().split_at_checked(200).ok_or("200 bytes")?.0;
-    let json = "the text is no JSON, or nests more than 127 arrays and objects";
-    let no_loop = "law 0 is broken at bodies[0]: each entry and part is of a kind that is carried";
-    let at_word =
-        "`bodies.0.exprs.0` has another shape: an expression, which is its word or an array of its word and exactly its parts, is wanted";
-    let at_semi =
-        "`bodies.0.exprs.0.2.0.2` has another shape: an index into `types` or null in a `let`, else true or false is wanted";
-    let at_body =
-        "`bodies.0` has another shape: an object with exactly the nine keys of a body is wanted";
-    let top =
-        "the whole text has another shape: an object with exactly the 18 keys of docs/FORMAT.md is wanted";
-    for (text, status, fault) in [
-        ("", 6, json),
-        (half, 6, json),
-        ("{}", 7, top),
-        (with_body(alloc, WORD)?.as_str(), 7, at_word),
-        (with_body(alloc, DEEP)?.as_str(), 7, at_semi),
-        (with_body(alloc, SURPLUS)?.as_str(), 7, at_body),
-        (with_body(alloc, LOOP)?.as_str(), 8, no_loop),
-    ] {
-        let (end, written) = ran(alloc, &PLAIN, text)?;
-        assert_eq!(rt; end.status, status, "{fault}");
-        let found = fault_of(alloc, &end)?;
-        assert!(rt; found.as_str() == fault, "{found}");
-        assert!(rt; written.is_empty() && end.facts.is_none() && end.table.is_none());
-    }
-    Ok(())
-}
-
-#[test]
-fn refuses_definitions(rt: HostRuntime) -> Result<(), Fail> {
-    let alloc = rt.alloc();
-    let text = with_body(alloc, LET)?;
-    for words in [
-        &["table", "fn", "1"],
-        &["table", "const", "0"],
-        &["table", "static", "4294967295"],
-        &["table", "variant", "0"],
-    ] {
-        let (end, written) = ran(alloc, &Way { words, ..PLAIN }, text.as_str())?;
-        assert_eq!(rt; end.status, 9);
-        assert!(rt; written.is_empty() && end.facts.is_some() && end.table.is_none());
-    }
-    Ok(())
+    check(&rt, &PLAIN, "", 6, "", JSON)?;
+    check(&rt, &PLAIN, FRONT, 6, "", JSON)?;
+    check(&rt, &PLAIN, "{}", 7, "", AT_TOP)?;
+    check_body(&rt, WORD, 7, "", AT_WORD)?;
+    check_body(&rt, DEEP, 7, "", AT_SEMI)?;
+    check_body(&rt, SURPLUS, 7, "", AT_BODY)?;
+    check_body(&rt, LOOP, 8, "", NO_LOOP)
 }
 
 #[test]
@@ -176,23 +166,16 @@ fn ends_fail(rt: HostRuntime) -> Result<(), Fail> {
         sink_fails: &[1],
         ..PLAIN
     };
-    let (end, written) = ran(alloc, &cut, text.as_str())?;
-    assert_eq!(rt; end.status, 4);
-    assert!(rt; written.as_str() == "fn 0\ne0 ", "{written}");
-    assert!(rt; end.facts.is_some() && end.table.is_some());
-    for call in [0, 1] {
-        let unread = Way {
-            most: 300,
-            source_fails: &[call],
-            ..PLAIN
-        };
-        let (end, written) = ran(alloc, &unread, text.as_str())?;
-        assert_eq!(rt; end.status, 3, "{call}");
-        assert!(rt; written.is_empty() && end.facts.is_none());
-    }
-    let spaces = String::from_utf8(vec![in alloc; b' '; 16_777_217]?)?;
-    let (end, written) = ran(alloc, &PLAIN, spaces.as_str())?;
-    assert_eq!(rt; end.status, 10);
-    assert!(rt; written.is_empty() && end.fault.is_none());
-    Ok(())
+    check(&rt, &cut, text.as_str(), 4, "fn 0\ne0 ", "")?;
+    let unread = Way {
+        source_fails: &[0],
+        ..PLAIN
+    };
+    check(&rt, &unread, text.as_str(), 3, "", "")
+}
+
+#[test]
+fn reads_no_more(rt: HostRuntime) -> Result<(), Fail> {
+    let spaces = String::from_utf8(vec![in rt.alloc(); b' '; 16_777_217]?)?;
+    check(&rt, &PLAIN, spaces.as_str(), 10, "", "")
 }
