@@ -65,7 +65,7 @@ pub struct RawFn {
     pub body: Option<BodyId>,
 }
 
-/// A literal. `digits` are decimal, with a minus before them or none.
+/// A literal. `digits` are decimal digits.
 #[derive(Debug, Drop)]
 pub enum RawLiteral {
     Bool(bool),

@@ -22,7 +22,6 @@ use Rattle.infer_result.specs.Derived.{typed_by_schedule}
 use Rattle.infer_result.specs.Fit.{types_fit}
 use Rattle.infer_result.specs.Typed.{IsTableOf}
 use Rattle.infer_expr.specs.Steps.{WrittenExist}
-use Rattle.infer_expr.proofs.Types.{closed_error, closed_written}
 
 body_of_fn : (raw : RawFacts) → IsLawful raw → (f : FunctionId) (i : BodyId) (o : Option RawFn) → slice_get raw.fns f.0 ≡ o → option_and_then (λ x. x.body) o ≡ Some i → i.0 < length raw.bodies
 body_of_fn raw law f i None at h = absurd (cc)
@@ -35,16 +34,6 @@ body_within raw (def.FunctionId f) i law h = body_of_fn raw law f i (slice_get r
 body_within raw (def.ConstId c) i law h = absurd (cc)
 body_within raw (def.StaticId s) i law h = absurd (cc)
 body_within raw (def.VariantId v) i law h = absurd (cc)
-
-closed_output : (raw : RawFacts) (f : FunctionId) (o : Option RawFn) → slice_get raw.fns f.0 ≡ o → IsClosed (return_type raw (def.FunctionId f))
-closed_output raw f None at = rw at closed_error
-closed_output raw f (Some x) at = rw at (closed_written raw.types x.output)
-
-pub closed_return : (raw : RawFacts) (d : DefWithBodyId) → IsClosed (return_type raw d)
-closed_return raw (def.FunctionId f) = closed_output raw f (slice_get raw.fns f.0) refl
-closed_return raw (def.ConstId c) = closed_error
-closed_return raw (def.StaticId s) = closed_error
-closed_return raw (def.VariantId v) = closed_error
 
 pub written_exist : (raw : RawFacts) (i : BodyId) (b : RawBody) (output : Ty) → IsLawful raw → slice_get raw.bodies i.0 ≡ Some b → WrittenExist (record { types = raw.types; body = b; output = output })
 written_exist raw i b output law at = (body_ids raw law i.0 b at).written

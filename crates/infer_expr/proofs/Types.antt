@@ -11,7 +11,8 @@ use Rattle.hir_facts.specs.declared.raw.RawType.{RawType}
 use Rattle.hir_facts.specs.declared.raw.RawType.TheVariants as type
 use Rattle.hir_facts.specs.declared.raw.RawLiteral.{RawLiteral}
 use Rattle.hir_facts.specs.declared.raw.RawLiteral.TheVariants as literal
-use Rattle.hir_facts.specs.Types.{unit, integer_type, lowered_by, lowered_within, written_type}
+use Rattle.hir_facts.specs.Types.{unit, integer_type, written_type}
+use Rattle.hir_facts.specs.Lowered.{written_closed}
 use Rattle.hir_facts.specs.Erasure.{has_hole, hole_step, IsClosed}
 use Rattle.infer_result.specs.Rules.Literals.{IsLiteralType}
 use Rattle.infer_result.specs.Places.{Given}
@@ -59,9 +60,6 @@ closed_bool = ap has_hole (sym ty.rolls-Bool) ∙ fold-roll-Ty Bool hole_step Ty
 closed_char : IsClosed ty.Char
 closed_char = ap has_hole (sym ty.rolls-Char) ∙ fold-roll-Ty Bool hole_step Ty-F.Char
 
-pub closed_error : IsClosed ty.Error
-closed_error = ap has_hole (sym ty.rolls-Error) ∙ fold-roll-Ty Bool hole_step Ty-F.Error
-
 closed_integer : (i : IntegerTy) → IsClosed (integer_type i)
 closed_integer (Int i) = ap has_hole (sym (ty.rolls-Int i)) ∙ fold-roll-Ty Bool hole_step (Ty-F.Int i)
 closed_integer (Uint i) = ap has_hole (sym (ty.rolls-Uint i)) ∙ fold-roll-Ty Bool hole_step (Ty-F.Uint i)
@@ -77,29 +75,9 @@ closed_literal literal.Other t h = absurd h
 
 -- ---- written types
 
-closed_map : (f : ℕ → Ty) → ((n : ℕ) → IsClosed (f n)) → (ts : List TypeRefId) → AreClosed (map (λ t. f t.0) ts)
-closed_map f h [] = refl
-closed_map f h (t ∷ ts) = nor (has_hole (f t.0)) (list_any has_hole (map (λ u. f u.0) ts)) (h t.0) (closed_map f h ts)
-
-closed_by : (f : ℕ → Ty) → ((n : ℕ) → IsClosed (f n)) → (x : Option RawType) → IsClosed (lowered_by f x)
-closed_by f h None = closed_error
-closed_by f h (Some type.Bool) = closed_bool
-closed_by f h (Some type.Char) = closed_char
-closed_by f h (Some (type.Integer i)) = closed_integer i
-closed_by f h (Some (type.Tuple ts)) = closed_tuple (map (λ t. f t.0) ts) (closed_map f h ts)
-closed_by f h (Some type.Other) = closed_error
-
-closed_within : (n : ℕ) (types : List RawType) (t : ℕ) → IsClosed (lowered_within n types t)
-unfolding lowered_within
-closed_within zero types t = closed_error
-closed_within (suc n) types t = closed_by (lowered_within n types) (closed_within n types) (slice_get types t)
-
-pub closed_written : (types : List RawType) (t : TypeRefId) → IsClosed (written_type types t)
-closed_written types t = closed_within (suc t.0) types t.0
-
 pub closed_declared : (g : Given) (w : Option TypeRefId) → IsClosedExpectation (declared_type g w)
 closed_declared g None = tt
-closed_declared g (Some w) = closed_written g.types w
+closed_declared g (Some w) = written_closed g.types w
 
 -- ---- elements
 

@@ -1,5 +1,6 @@
 use Rattle.std.proofs.Common.{sym}
-use Rattle.infer_expr.proofs.Definitions.{body_within, closed_return, written_exist, table_of}
+use Rattle.hir_facts.specs.Lowered.{return_closed}
+use Rattle.infer_expr.proofs.Definitions.{body_within, written_exist, table_of}
 use Rattle.infer_expr.proofs.query.infer_query_with_inspect.Goals as goal
 
 pub body-body-requires : goal.body-body-requires
@@ -12,7 +13,7 @@ pub infer_body-requires-clause-written : goal.infer_body-requires-clause-written
 infer_body-requires-clause-written g c = written_exist c.args.facts.now c.in-Some.id _ c.in_ok-return_ty.return_ty c.lawful.ensures c.body-body.ensures
 
 pub infer_body-requires-clause-closed : goal.infer_body-requires-clause-closed
-infer_body-requires-clause-closed g c = rw c.in_ok-return_ty.ensures (closed_return c.args.facts.now c.args.def)
+infer_body-requires-clause-closed g c = rw c.in_ok-return_ty.ensures (return_closed c.args.facts.now c.args.def)
 
 pub returns : goal.returns
 returns g c =
