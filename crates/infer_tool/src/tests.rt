@@ -31,13 +31,17 @@ const TRUE_REPORT: &str =
 
 const JSON: &str = "the text is no JSON, or nests more than 127 arrays and objects";
 
-const AT_TOP: &str = "the whole text has another shape: an object with exactly the 18 keys of docs/FORMAT.md is wanted";
+const AT_TOP: &str =
+    "the whole text has another shape: an object with exactly the 18 keys of docs/FORMAT.md is wanted";
 
-const AT_WORD: &str = "`bodies.0.exprs.0` has another shape: an expression, which is its word or an array of its word and exactly its parts, is wanted";
+const AT_WORD: &str =
+    "`bodies.0.exprs.0` has another shape: an expression, which is its word or an array of its word and exactly its parts, is wanted";
 
-const AT_SEMI: &str = "`bodies.0.exprs.0.2.0.2` has another shape: an index into `types` or null in a `let`, else true or false is wanted";
+const AT_SEMI: &str =
+    "`bodies.0.exprs.0.2.0.2` has another shape: an index into `types` or null in a `let`, else true or false is wanted";
 
-const AT_BODY: &str = "`bodies.0` has another shape: an object with exactly the nine keys of a body is wanted";
+const AT_BODY: &str =
+    "`bodies.0` has another shape: an object with exactly the nine keys of a body is wanted";
 
 const NO_LOOP: &str =
     "law 0 is broken at bodies[0]: each entry and part is of a kind that is carried";
