@@ -21,6 +21,10 @@ pub record AreSure (e : Ends) : Type 0 where
   pub writes : e.writes_new ≡ e.writes
   pub writes_few : e.writes < 2 ^ 64 - 1
 
+-- ends whose counts are always 0
+pub always_zero : (e : Ends) → e.reads ≡ 0 → e.reads_new ≡ 0 → e.writes ≡ 0 → e.writes_new ≡ 0 → AreSure e
+always_zero e a b c d = record { reads = b ∙ sym a; reads_few = omega arith; writes = d ∙ sym c; writes_few = omega arith }
+
 stays : (before now : ℕ) → now ≡ before → before < 2 ^ 64 - 1 → Rose before now → ⊥
 stays before now same few rose = omega arith
 

@@ -81,16 +81,24 @@ fn run_between(rt: &HostRuntime, words: &[RcStr]) -> u8 {
     ran.status
 }
 
+/// Says why the words could not be read: there is no memory for them, or they are no text.
+fn unread_words(rt: &impl Eprint, kind: io::ErrorKind) -> u8 {
+    if kind == io::ErrorKind::OutOfMemory {
+        let _ = rt.eprintln("infer_tool: there is not enough memory");
+        5
+    } else {
+        let _ = rt.eprintln(USAGE);
+        2
+    }
+}
+
 fn main(rt: HostRuntime) -> ExitCode {
     let status = match words_of(&rt) {
         Ok(words) => match answer(&words) {
             Some(text) => print(&rt, text),
             None => run_between(&rt, &words),
         },
-        Err(_) => {
-            let _ = rt.eprintln(USAGE);
-            2
-        }
+        Err(error) => unread_words(&rt, error.kind()),
     };
     ExitCode::from(status)
 }

@@ -123,7 +123,7 @@ fn report_on<K: Sink>(
     requires typed { IsTableOf facts def table }
     ensures { Answered def facts (K.written sink.old) (K.written sink.new) (K.faults sink.old) (K.faults sink.new) result }
 {
-    let text = match write_report(alloc, def, &table) {
+    let text = match write_report(alloc, def, &facts, &table) {
         Ok(text) => text,
         Err(AllocError) => return refused(ReadError::OutOfMemory),
     };

@@ -1,12 +1,11 @@
 //! The report on a table.
 ghost use Rattle.std.specs.Prelude.{◌≡◌, ◌++◌, List, OnOk, IfOk, string_bytes};
 ghost use Rattle.std.specs.Option.{option_copied};
-ghost use Rattle.hir_facts.specs.declared.raw.RawFacts.{RawFacts};
 ghost use Rattle.infer_result.specs.Table.{recorded};
 ghost use Rattle.infer_result.specs.Report.{def_line, expr_line, mode_text, pat_line, binding_line, mismatch_head, type_field, mismatch_line, lines_from, complaint_count, report};
 
 use super::types::{push_ty, push_type};
-use hir_facts::{DefWithBodyId, Ty};
+use hir_facts::{DefWithBodyId, Facts, Ty};
 use infer_result::{BindingMode, InferenceResult, Mutability, TypeMismatch};
 use std::alloc::{AllocError, Global};
 
@@ -165,13 +164,14 @@ pub fn count_complaints(table: &InferenceResult) -> usize
         .count()
 }
 
-/// The report on the table of a definition's body.
+/// The report on the table of a definition's body. No kind that is carried yet is named by the facts.
 pub fn write_report(
     alloc: Global,
     def: DefWithBodyId,
+    _facts: &Facts,
     table: &InferenceResult,
 ) -> Result<String, AllocError>
-    ensures { IfOk result (λ text. (raw : RawFacts) → string_bytes text ≡ report def raw table.now) }
+    ensures { IfOk result (λ text. string_bytes text ≡ report def _facts.now table.now) }
 {
     let mut out = String::new(alloc);
     push_def(&mut out, def)?;
