@@ -1,3 +1,6 @@
+mod laws;
+mod rows;
+
 use super::ends::{MemorySink, MemorySource};
 use super::run::{Ran, run};
 use std::alloc::{AllocError, Global};
