@@ -11,7 +11,6 @@ use Rattle.hir_facts.specs.declared.raw.RawFn.{RawFn}
 use Rattle.hir_facts.specs.declared.raw.RawBody.{RawBody}
 use Rattle.hir_facts.specs.declared.raw.RawFacts.{RawFacts}
 use Rattle.hir_facts.specs.declared.schedule.Schedule.{Schedule}
-use Rattle.hir_facts.specs.Erasure.{IsClosed}
 use Rattle.hir_facts.specs.Bodies.{body_id_of, return_type, IsWalkable}
 use Rattle.hir_facts.specs.LawfulFacts.{fn_ids, body_ids}
 use Rattle.hir_facts.specs.Laws.Lawful.{IsLawful}

@@ -7,11 +7,9 @@ use Rattle.hir_facts.specs.declared.ty.IntegerTy.{IntegerTy}
 use Rattle.hir_facts.specs.declared.ty.IntegerTy.TheVariants.{Int, Uint}
 use Rattle.hir_facts.specs.declared.ty.Ty.{Ty, Ty-F, out-Ty, roll-Ty, roll-out-Ty, fold-roll-Ty}
 use Rattle.hir_facts.specs.declared.ty.Ty.TheVariants as ty
-use Rattle.hir_facts.specs.declared.raw.RawType.{RawType}
-use Rattle.hir_facts.specs.declared.raw.RawType.TheVariants as type
 use Rattle.hir_facts.specs.declared.raw.RawLiteral.{RawLiteral}
 use Rattle.hir_facts.specs.declared.raw.RawLiteral.TheVariants as literal
-use Rattle.hir_facts.specs.Types.{unit, integer_type, written_type}
+use Rattle.hir_facts.specs.Types.{unit, integer_type}
 use Rattle.hir_facts.specs.Lowered.{written_closed}
 use Rattle.hir_facts.specs.Erasure.{has_hole, hole_step, IsClosed}
 use Rattle.infer_result.specs.Rules.Literals.{IsLiteralType}

@@ -10,7 +10,6 @@ use Rattle.hir_facts.specs.declared.ty.IntTy.TheVariants as int
 use Rattle.hir_facts.specs.declared.ty.UintTy.{UintTy}
 use Rattle.hir_facts.specs.declared.ty.UintTy.TheVariants as uint
 use Rattle.hir_facts.specs.declared.ty.Ty.{Ty, Ty-F, fold-Ty}
-use Rattle.infer_result.specs.declared.modes.Mutability.{Mutability}
 use Rattle.infer_result.specs.declared.modes.Mutability.TheVariants as mutability
 use Rattle.infer_result.specs.declared.modes.BindingMode.{BindingMode}
 use Rattle.infer_result.specs.declared.modes.BindingMode.TheVariants as mode
