@@ -32,7 +32,7 @@ const LET_REPORT: &str = "fn 0\ne0 u8\ne1 u8\ne2 u8\np0 u8 move\nb0 u8\ncomplain
 const TRUE_REPORT: &str =
     "fn 0\ne0 bool\ne1 u8\nTypeMismatch e0 expected=u8 actual=bool\ncomplaints 1\n";
 
-const JSON: &str = "the text is no JSON, or nests more than 127 arrays and objects";
+const JSON: &str = "the text is no JSON in UTF-8, or nests more than 127 arrays and objects";
 
 const AT_TOP: &str =
     "the whole text has another shape: an object with exactly the 18 keys of docs/FORMAT.md is wanted";
@@ -79,10 +79,10 @@ fn with_body(alloc: Global, body: &str) -> Result<String, AllocError> {
 }
 
 /// What a run wrote, and how it ended.
-fn ran(alloc: Global, way: &Way<'_>, text: &str) -> Result<(Ran, String), Fail> {
+fn ran(alloc: Global, way: &Way<'_>, text: &[u8]) -> Result<(Ran, String), Fail> {
     let words = shared(alloc, way.words)?;
     let mut source = MemorySource::new(
-        Vec::from_slice(alloc, text.as_bytes())?,
+        Vec::from_slice(alloc, text)?,
         way.most.max(1),
         Vec::from_slice(alloc, way.source_fails)?,
     );
@@ -110,7 +110,7 @@ fn check(
     fault: &str,
 ) -> Result<(), Fail> {
     let alloc = rt.alloc();
-    let (end, found) = ran(alloc, way, text)?;
+    let (end, found) = ran(alloc, way, text.as_bytes())?;
     let message = fault_of(alloc, &end)?;
     assert_eq!(rt; end.status, status, "{message}");
     assert!(rt; found.as_str() == written, "{found}");
@@ -162,6 +162,15 @@ fn refuses_texts(rt: HostRuntime) -> Result<(), Fail> {
     check_body(&rt, DEEP, 7, "", AT_SEMI)?;
     check_body(&rt, SURPLUS, 7, "", AT_BODY)?;
     check_body(&rt, LOOP, 8, "", NO_LOOP)
+}
+
+#[test]
+fn refuses_bytes(rt: HostRuntime) -> Result<(), Fail> {
+    let (end, written) = ran(rt.alloc(), &PLAIN, b"{\"a\":\"\xff\"}")?;
+    let message = fault_of(rt.alloc(), &end)?;
+    assert_eq!(rt; end.status, 6);
+    assert!(rt; written.is_empty() && message.as_str() == JSON, "{message}");
+    Ok(())
 }
 
 #[test]

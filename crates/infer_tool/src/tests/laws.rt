@@ -294,6 +294,21 @@ fn deep(rt: &(impl Abort + AllocGlobal), depth: usize) -> Result<String, Fail> {
     Ok(with_body(alloc, body.as_str())?)
 }
 
+/// The report on such a body.
+fn deep_report(rt: &(impl Abort + AllocGlobal), depth: usize) -> Result<String, Fail> {
+    let alloc = rt.alloc();
+    let mut text = String::from_str(alloc, "fn 0\n")?;
+    for at in 0..depth {
+        let line = format!(in alloc; "e{at} u8\n")?;
+        text.push_str(line.as_str())?;
+    }
+    text.push_str("complaints 0\n")?;
+    Ok(text)
+}
+
+const SIZES: &str =
+    "law 5 is broken at bodies[0]: lists are not too long, and trees and types not too deep or too large";
+
 #[test]
 fn reads_so_deep(rt: HostRuntime) -> Result<(), Fail> {
     let rt = &rt;
@@ -303,8 +318,49 @@ fn reads_so_deep(rt: HostRuntime) -> Result<(), Fail> {
     check(rt, &PLAIN, fits.as_str(), 7, "", top)?;
     let past = nested(rt, 128)?;
     check(rt, &PLAIN, past.as_str(), 6, "", JSON)?;
-    let sizes =
-        "law 5 is broken at bodies[0]: lists are not too long, and trees and types not too deep or too large";
+    let fits = deep(rt, 256)?;
+    let report = deep_report(rt, 256)?;
+    check(rt, &PLAIN, fits.as_str(), 0, report.as_str(), "")?;
     let past = deep(rt, 257)?;
-    check(rt, &PLAIN, past.as_str(), 8, "", sizes)
+    check(rt, &PLAIN, past.as_str(), 8, "", SIZES)
+}
+
+/// `"u8"`, and this many tuples, each of `width` of the type before it.
+fn wide(rt: &(impl Abort + AllocGlobal), count: usize, width: usize) -> Result<String, Fail> {
+    let alloc = rt.alloc();
+    let mut text = String::from_str(alloc, "[\"u8\"")?;
+    for at in 0..count {
+        text.push_str(",[\"tuple\",[")?;
+        for part in 0..width {
+            let comma = if part == 0 { "" } else { "," };
+            let next = format!(in alloc; "{comma}{at}")?;
+            text.push_str(next.as_str())?;
+        }
+        text.push_str("]]")?;
+    }
+    text.push_str("]")?;
+    Ok(text)
+}
+
+const MODULES: &str =
+    "law 5 is broken at modules[1048576]: lists are not too long, and trees and types not too deep or too large";
+
+const DEEP_TYPE: &str =
+    "law 5 is broken at types[64]: lists are not too long, and trees and types not too deep or too large";
+
+const LARGE_TYPE: &str =
+    "law 5 is broken at types[12]: lists are not too long, and trees and types not too deep or too large";
+
+#[test]
+fn reads_so_much(rt: HostRuntime) -> Result<(), Fail> {
+    let rt = &rt;
+    let types = wide(rt, 64, 1)?;
+    swapped(rt, "[\"u8\"]", types.as_str(), 8, DEEP_TYPE)?;
+    let types = wide(rt, 12, 2)?;
+    swapped(rt, "[\"u8\"]", types.as_str(), 8, LARGE_TYPE)?;
+    let mut modules = String::from_str(rt.alloc(), "\"modules\":[null")?;
+    for _ in 0..1_048_576 {
+        modules.push_str(",null")?;
+    }
+    swapped(rt, "\"modules\":[null", modules.as_str(), 8, MODULES)
 }

@@ -55,7 +55,7 @@ impl fmt::Display for ReadError {
         match self {
             ReadError::Json => write!(
                 f,
-                "the text is no JSON, or nests more than 127 arrays and objects"
+                "the text is no JSON in UTF-8, or nests more than 127 arrays and objects"
             ),
             ReadError::Shape { path } => {
                 let wanted = wanted_at(path.as_str());
