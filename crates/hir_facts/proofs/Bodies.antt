@@ -4,10 +4,10 @@ use Rattle.std.specs.Prelude.{slice_get, option_map}
 use Rattle.std.proofs.lemmas.Bool.{cases_lt}
 use Rattle.std.proofs.lemmas.List.{length-append, length-map}
 use Rattle.std.proofs.lemmas.Option.{slice_get-map}
-use Rattle.hir_facts.specs.declared.ids.ExprId.{ExprId}
-use Rattle.hir_facts.specs.declared.ids.PatId.{PatId}
-use Rattle.hir_facts.specs.declared.ids.ExprOrPatId.{ExprOrPatId}
-use Rattle.hir_facts.specs.declared.ids.ExprOrPatId.TheVariants as node
+use Rattle.hir_types.specs.declared.ids.ExprId.{ExprId}
+use Rattle.hir_types.specs.declared.ids.PatId.{PatId}
+use Rattle.hir_types.specs.declared.ids.ExprOrPatId.{ExprOrPatId}
+use Rattle.hir_types.specs.declared.ids.ExprOrPatId.TheVariants as node
 use Rattle.hir_facts.specs.declared.raw.RawBody.{RawBody}
 use Rattle.hir_facts.specs.declared.raw.RawExpr.{RawExpr}
 use Rattle.hir_facts.specs.declared.raw.RawPat.{RawPat}

@@ -1,5 +1,3 @@
-pub mod Tells
-pub mod Equal
 pub mod Broken
 pub mod Named
 pub mod InBodies

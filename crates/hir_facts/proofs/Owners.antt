@@ -3,7 +3,7 @@ use Rattle.std.proofs.Common.{get_or, Bool, true, false, ◌≡◌, ◌<◌, ℕ
 use Rattle.std.specs.Prelude.{slice_get, IfSome, option_map, IsTrue}
 use Rattle.std.proofs.lemmas.List.{get_or_read_under}
 use Rattle.std.proofs.lemmas.Option.{slice_get_within, slice_get-map}
-use Rattle.hir_facts.specs.declared.ids.BodyId.{BodyId}
+use Rattle.hir_types.specs.declared.ids.BodyId.{BodyId}
 use Rattle.hir_facts.specs.declared.raw.RawFn.{RawFn}
 use Rattle.hir_facts.specs.declared.raw.RawBody.{RawBody}
 use Rattle.hir_facts.specs.declared.raw.RawFacts.{RawFacts}

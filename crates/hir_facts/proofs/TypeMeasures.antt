@@ -3,13 +3,13 @@ use Rattle.std.proofs.Common.{◌≡◌, ◌<◌, ◌+◌, ℕ, zero, suc, List,
 use Rattle.std.specs.Prelude.{slice_get, slice_index}
 use Rattle.std.proofs.lemmas.List.{get_or_push, get_or_append_left}
 use Rattle.std.proofs.Math.Nat.{eq-or-lt_of_le}
-use Rattle.hir_facts.specs.declared.ids.TypeRefId.{TypeRefId}
+use Rattle.hir_types.specs.declared.ids.TypeRefId.{TypeRefId}
 use Rattle.hir_facts.specs.declared.raw.RawType.{RawType}
 use Rattle.hir_facts.specs.declared.raw.RawType.TheVariants as type
-use Rattle.hir_facts.specs.declared.ty.IntegerTy.TheVariants.{Int, Uint}
-use Rattle.hir_facts.specs.declared.ty.Ty.{Ty, Ty-F, fold-roll-Ty}
-use Rattle.hir_facts.specs.declared.ty.Ty.TheVariants as ty
-use Rattle.hir_facts.specs.Types.{most, depth, depth_step, size, size_step, lowered, lowered_by}
+use Rattle.hir_types.specs.declared.ty.Ty.{Ty}
+use Rattle.hir_types.specs.Types.{most, depth, size}
+use Rattle.hir_types.specs.Layers.{depth_tuple, depth_bool, depth_char, depth_integer, depth_error, size_tuple, size_bool, size_char, size_integer, size_error}
+use Rattle.hir_facts.specs.Types.{lowered, lowered_by}
 use Rattle.hir_facts.specs.Laws.Entries.{AllHold}
 use Rattle.hir_facts.specs.Laws.Ids.{ChildrenBefore}
 use Rattle.hir_facts.specs.Laws.Measures.{depth_by, size_by, AreMeasures}
@@ -25,27 +25,19 @@ map_twice : {A B C : Type 0} (f : B → C) (g : A → B) (xs : List A) → map f
 map_twice f g [] = refl
 map_twice f g (x ∷ xs) = let r : map f (map g xs) ≡ map (λ x. f (g x)) xs = map_twice f g xs in λ i. f (g x) ∷ r i
 
-depth_tuple : (us : List Ty) → depth (ty.Tuple us) ≡ most (map depth us) + 1
-depth_tuple us = ap depth (sym (ty.rolls-Tuple us)) ∙ fold-roll-Ty ℕ depth_step (Ty-F.Tuple us)
-
-size_tuple : (us : List Ty) → size (ty.Tuple us) ≡ sum (map size us) + 1
-size_tuple us = ap size (sym (ty.rolls-Tuple us)) ∙ fold-roll-Ty ℕ size_step (Ty-F.Tuple us)
-
 depth_parts : (g : ℕ → Ty) (x : RawType) → depth (lowered_by g (Some x)) ≡ depth_by (λ t. depth (g t)) x
-depth_parts g type.Bool = ap depth (sym ty.rolls-Bool) ∙ fold-roll-Ty ℕ depth_step Ty-F.Bool
-depth_parts g type.Char = ap depth (sym ty.rolls-Char) ∙ fold-roll-Ty ℕ depth_step Ty-F.Char
-depth_parts g (type.Integer (Int i)) = ap depth (sym (ty.rolls-Int i)) ∙ fold-roll-Ty ℕ depth_step (Ty-F.Int i)
-depth_parts g (type.Integer (Uint i)) = ap depth (sym (ty.rolls-Uint i)) ∙ fold-roll-Ty ℕ depth_step (Ty-F.Uint i)
+depth_parts g type.Bool = depth_bool
+depth_parts g type.Char = depth_char
+depth_parts g (type.Integer i) = depth_integer i
 depth_parts g (type.Tuple ts) = depth_tuple (map (λ t. g t.0) ts) ∙ ap (λ (ns : List ℕ). most ns + 1) (map_twice depth (λ (t : TypeRefId). g t.0) ts)
-depth_parts g type.Other = ap depth (sym ty.rolls-Error) ∙ fold-roll-Ty ℕ depth_step Ty-F.Error
+depth_parts g type.Other = depth_error
 
 size_parts : (g : ℕ → Ty) (x : RawType) → size (lowered_by g (Some x)) ≡ size_by (λ t. size (g t)) x
-size_parts g type.Bool = ap size (sym ty.rolls-Bool) ∙ fold-roll-Ty ℕ size_step Ty-F.Bool
-size_parts g type.Char = ap size (sym ty.rolls-Char) ∙ fold-roll-Ty ℕ size_step Ty-F.Char
-size_parts g (type.Integer (Int i)) = ap size (sym (ty.rolls-Int i)) ∙ fold-roll-Ty ℕ size_step (Ty-F.Int i)
-size_parts g (type.Integer (Uint i)) = ap size (sym (ty.rolls-Uint i)) ∙ fold-roll-Ty ℕ size_step (Ty-F.Uint i)
+size_parts g type.Bool = size_bool
+size_parts g type.Char = size_char
+size_parts g (type.Integer i) = size_integer i
 size_parts g (type.Tuple ts) = size_tuple (map (λ t. g t.0) ts) ∙ ap (λ (ns : List ℕ). sum ns + 1) (map_twice size (λ (t : TypeRefId). g t.0) ts)
-size_parts g type.Other = ap size (sym ty.rolls-Error) ∙ fold-roll-Ty ℕ size_step Ty-F.Error
+size_parts g type.Other = size_error
 
 most_bound : (bound : ℕ) (f g : TypeRefId → ℕ) (ts : List TypeRefId) → ((k : ℕ) (t : TypeRefId) → slice_get ts k ≡ Some t → f t ≡ min bound (g t)) → min bound (most (map f ts)) ≡ min bound (most (map g ts))
 most_bound bound f g [] same = refl

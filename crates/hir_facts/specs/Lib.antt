@@ -1,10 +1,9 @@
-pub mod formers
 pub mod Types
-pub mod Erasure
 pub mod Order
 pub mod Laws
 pub mod Bodies
 pub mod Lowered
+pub mod CarriedTypes
 pub mod Ways
 pub mod Graph
 pub mod Visits

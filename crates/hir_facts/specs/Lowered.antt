@@ -1,22 +1,13 @@
 -- What a written type stands for, part by part.
-use Rattle.std.specs.List.{list_any}
-use Rattle.std.specs.Prelude.{◌≡◌, ◌<◌, ◌≤◌, ℕ, Bool, false, length, zero, suc, List, [], ◌∷◌, map, slice_get, Option, Some, None, refl}
+use Rattle.std.specs.Prelude.{◌≡◌, ◌<◌, ◌≤◌, ℕ, length, zero, suc, List, [], ◌∷◌, map, slice_get, Option, Some, None, refl}
 use Rattle.std.proofs.Common.{sym, ◌∙◌, ap, arith}
 use Rattle.std.proofs.lemmas.Option.{slice_get_past}
-use Rattle.hir_facts.specs.declared.ids.TypeRefId.{TypeRefId}
+use Rattle.hir_types.specs.declared.ids.TypeRefId.{TypeRefId}
 use Rattle.hir_facts.specs.declared.raw.RawType.{RawType}
 use Rattle.hir_facts.specs.declared.raw.RawType.TheVariants as type
-use Rattle.hir_facts.specs.declared.ids.DefWithBodyId.{DefWithBodyId}
-use Rattle.hir_facts.specs.declared.ids.DefWithBodyId.TheVariants as def
-use Rattle.hir_facts.specs.declared.raw.RawFn.{RawFn}
-use Rattle.hir_facts.specs.declared.raw.RawFacts.{RawFacts}
-use Rattle.hir_facts.specs.declared.ty.IntegerTy.{IntegerTy}
-use Rattle.hir_facts.specs.declared.ty.IntegerTy.TheVariants.{Int, Uint}
-use Rattle.hir_facts.specs.declared.ty.Ty.{Ty, Ty-F, fold-roll-Ty}
-use Rattle.hir_facts.specs.declared.ty.Ty.TheVariants as ty
-use Rattle.hir_facts.specs.Erasure.{has_hole, hole_step, IsClosed}
-use Rattle.hir_facts.specs.Bodies.{output_by, return_type}
-use Rattle.hir_facts.specs.Types.{integer_type, lowered_by, lowered_within, lowered, written_type}
+use Rattle.hir_types.specs.declared.ty.Ty.{Ty}
+use Rattle.hir_types.specs.declared.ty.Ty.TheVariants as ty
+use Rattle.hir_facts.specs.Types.{lowered_by, lowered_within, lowered}
 use Rattle.hir_facts.specs.Laws.Entries.{AllHold}
 use Rattle.hir_facts.specs.Laws.Ids.{ChildrenBefore}
 
@@ -57,45 +48,3 @@ lowered_parts types all i x found =
 -- past the end of the list nothing is written
 pub lowered_past : (types : List RawType) (i : ℕ) → length types ≤ i → lowered types i ≡ ty.Error
 lowered_past types i le = lowered_within_step types i i ∙ ap (lowered_by (lowered_within i types)) (slice_get_past types i le)
-
--- ---- no hole stands in a written type
-
-hole_tuple : (ts : List Ty) → has_hole (ty.Tuple ts) ≡ list_any (λ b. b) (map has_hole ts)
-hole_tuple ts = ap has_hole (sym (ty.rolls-Tuple ts)) ∙ fold-roll-Ty Bool hole_step (Ty-F.Tuple ts)
-
-parts_closed : (f : ℕ → Ty) (ts : List TypeRefId) → ((j : ℕ) → IsClosed (f j)) → list_any (λ b. b) (map has_hole (map (λ t. f t.0) ts)) ≡ false
-parts_closed f [] closed = refl
-parts_closed f (t ∷ ts) closed = let here : has_hole (f t.0) ≡ false = closed t.0 in rw here (parts_closed f ts closed)
-
-integer_closed : (i : IntegerTy) → IsClosed (integer_type i)
-integer_closed (Int i) = ap has_hole (sym (ty.rolls-Int i)) ∙ fold-roll-Ty Bool hole_step (Ty-F.Int i)
-integer_closed (Uint i) = ap has_hole (sym (ty.rolls-Uint i)) ∙ fold-roll-Ty Bool hole_step (Ty-F.Uint i)
-
-error_closed : IsClosed ty.Error
-error_closed = ap has_hole (sym ty.rolls-Error) ∙ fold-roll-Ty Bool hole_step Ty-F.Error
-
-by_closed : (f : ℕ → Ty) (o : Option RawType) → ((j : ℕ) → IsClosed (f j)) → IsClosed (lowered_by f o)
-by_closed f None closed = error_closed
-by_closed f (Some type.Bool) closed = ap has_hole (sym ty.rolls-Bool) ∙ fold-roll-Ty Bool hole_step Ty-F.Bool
-by_closed f (Some type.Char) closed = ap has_hole (sym ty.rolls-Char) ∙ fold-roll-Ty Bool hole_step Ty-F.Char
-by_closed f (Some (type.Integer i)) closed = integer_closed i
-by_closed f (Some (type.Tuple ts)) closed = hole_tuple (map (λ t. f t.0) ts) ∙ parts_closed f ts closed
-by_closed f (Some type.Other) closed = error_closed
-
-within_closed : (n : ℕ) (types : List RawType) (i : ℕ) → IsClosed (lowered_within n types i)
-unfolding lowered_within
-within_closed zero types i = error_closed
-within_closed (suc n) types i = by_closed (lowered_within n types) (slice_get types i) (within_closed n types)
-
-pub written_closed : (types : List RawType) (t : TypeRefId) → IsClosed (written_type types t)
-written_closed types t = within_closed (suc t.0) types t.0
-
-output_closed : (raw : RawFacts) (o : Option RawFn) → IsClosed (output_by raw o)
-output_closed raw None = error_closed
-output_closed raw (Some f) = written_closed raw.types f.output
-
-pub return_closed : (raw : RawFacts) (d : DefWithBodyId) → IsClosed (return_type raw d)
-return_closed raw (def.FunctionId f) = output_closed raw (slice_get raw.fns f.0)
-return_closed raw (def.ConstId c) = error_closed
-return_closed raw (def.StaticId s) = error_closed
-return_closed raw (def.VariantId v) = error_closed

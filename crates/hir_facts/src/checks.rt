@@ -20,9 +20,9 @@ use crate::laws::sizes::{FnsEarly, ModulesEarly, TypeSizes};
 use crate::laws::test::first_broken;
 use crate::laws::trees::Trees;
 use crate::laws::{FactsList, Law};
-use crate::list::List;
 use crate::raw::RawFacts;
 use crate::schedule::Schedule;
+use hir_types::List;
 use std::alloc::Global;
 
 fn allow(law: Law, list: FactsList, found: Option<usize>) -> Result<(), FactsError>

@@ -9,11 +9,9 @@ ghost use Rattle.hir_facts.specs.Laws.Refused.{Refuses};
 use crate::checks::check;
 use crate::facts_error::FactsError;
 use crate::fit::ty_fits;
-use crate::ids::{BodyId, DefWithBodyId, FunctionId, ModuleId, TypeRefId};
-use crate::list::List;
 use crate::raw::{Edition, RawBody, RawFacts, RawFn, RawLimits, RawType};
 use crate::schedule::Schedule;
-use crate::ty::Ty;
+use hir_types::{BodyId, DefWithBodyId, FunctionId, List, ModuleId, Ty, TypeRefId};
 use std::alloc::Global;
 use std::marker::Model;
 

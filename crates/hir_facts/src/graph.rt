@@ -3,8 +3,8 @@ ghost use Rattle.std.specs.Prelude.{◌≡◌, ◌<◌, ◌-◌, false, ◌⊎�
 ghost use Rattle.hir_facts.specs.Graph.{kids_of, KidsFit, IsTreeGraph, IsNumbering};
 ghost use Rattle.hir_facts.specs.Visits.{marks_of, blank, entered, departed, is_seen, IsReady, Steps, MeetsAgain};
 
-use crate::list::List;
 use crate::schedule::Schedule;
+use hir_types::List;
 use std::alloc::{AllocError, Global};
 
 /// A walk through a graph, under way.

@@ -6,10 +6,8 @@ ghost use Rattle.hir_facts.specs.Laws.Entries.{AllHold};
 ghost use Rattle.hir_facts.specs.Laws.Ids.{ChildrenBefore};
 
 use crate::facts::Facts;
-use crate::ids::{DefWithBodyId, TypeRefId};
-use crate::list::List;
 use crate::raw::RawType;
-use crate::ty::Ty;
+use hir_types::{DefWithBodyId, List, Ty, TypeRefId};
 use std::alloc::{AllocError, Global};
 
 fn lower(types: &[RawType], t: usize, alloc: Global) -> Result<Ty, AllocError>

@@ -1,11 +1,11 @@
 //! What an expression, a pattern or a body is made of, in the order of the walk.
 ghost use Rattle.std.specs.Prelude.{◌≡◌, ◌++◌, map, IfOk, OnOk};
-ghost use Rattle.hir_facts.specs.declared.ids.ExprOrPatId.TheVariants.{ExprId as expr_node, PatId as pat_node};
+ghost use Rattle.hir_types.specs.declared.ids.ExprOrPatId.TheVariants.{ExprId as expr_node, PatId as pat_node};
 ghost use Rattle.hir_facts.specs.Order.{Role, maybe_part, stmt_parts, stmts_parts, expr_parts, pat_parts, body_parts};
 ghost use Rattle.hir_facts.specs.Nodes.{nodes};
 
-use crate::ids::{ExprId, ExprOrPatId, PatId};
 use crate::raw::{RawBody, RawExpr, RawPat, RawStmt};
+use hir_types::{ExprId, ExprOrPatId, PatId};
 use std::alloc::{AllocError, Global};
 
 fn push_maybe(out: &mut Vec<ExprOrPatId>, expr: Option<ExprId>) -> Result<(), AllocError>

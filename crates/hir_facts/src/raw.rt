@@ -1,9 +1,8 @@
 //! The facts as they are written: the entries of the facts text, key by key.
-use crate::ids::{BindingId, BodyId, ExprId, LabelId, ModuleId, PatId, TraitId, TypeRefId};
-use crate::list::List;
-use crate::text::Text;
-use crate::ty::IntegerTy;
 
+use hir_types::{
+    BindingId, BodyId, ExprId, IntegerTy, LabelId, List, ModuleId, PatId, Text, TraitId, TypeRefId,
+};
 /// A part of a kind that is not carried yet; its own parts are not read.
 #[derive(Clone, Copy, Debug)]
 pub struct Other;

@@ -1,14 +1,13 @@
 //! The order in which the walk comes to the nodes of a body.
 ghost use Rattle.std.specs.Prelude.{◌≡◌, ◌+◌, ◌<◌, ◌^◌, ◌++◌, ◌↔◌, ℕ, map, length, slice_get, slice_index, EachIndex, ◌≤◌, Some, IfOk, IsTrue, OnOk, MatchOption};
 ghost use Rattle.hir_facts.specs.Order.{inner, position, node_count, start, end, expr_parts, pat_parts, IsInBody, PartsFit, IsTree, IsLow, IsSchedule, AreDepths};
-ghost use Rattle.hir_facts.specs.declared.ids.ExprOrPatId.{ExprOrPatId};
+ghost use Rattle.hir_types.specs.declared.ids.ExprOrPatId.{ExprOrPatId};
 ghost use Rattle.hir_facts.specs.Nodes.{nodes, node_lists, positions, graph_of};
 
 use crate::graph::number_graph;
-use crate::ids::ExprOrPatId;
-use crate::list::List;
 use crate::parts::{nodes_of_body, nodes_of_expr, nodes_of_pat};
 use crate::raw::{RawBody, RawExpr, RawPat};
+use hir_types::{ExprOrPatId, List};
 use std::alloc::{AllocError, Global};
 
 /// Numbers for the nodes of a body in the order of the walk: the body itself first, and a node

@@ -3,14 +3,15 @@ use Rattle.std.proofs.Common.{ℕ, ◌+◌, ◌<◌, ◌≤◌, ◌≡◌, inl, 
 use Rattle.std.proofs.lemmas.List.{take_more, take-append-drop}
 use Rattle.std.proofs.Math.ListN.{drop_of_length-le}
 use Rattle.std.proofs.lemmas.Option.{slice_get_read}
-use Rattle.hir_facts.specs.declared.ids.ExprId.{ExprId}
-use Rattle.hir_facts.specs.declared.ids.ExprOrPatId.TheVariants as node
-use Rattle.hir_facts.specs.declared.ty.Ty.{Ty}
+use Rattle.hir_types.specs.declared.ids.ExprId.{ExprId}
+use Rattle.hir_types.specs.declared.ids.ExprOrPatId.TheVariants as node
+use Rattle.hir_types.specs.declared.ty.Ty.{Ty}
 use Rattle.hir_facts.specs.declared.raw.RawExpr.TheVariants as expr
 use Rattle.hir_facts.specs.declared.raw.RawStmt.{RawStmt}
 use Rattle.hir_facts.specs.declared.schedule.Schedule.{Schedule}
-use Rattle.hir_facts.specs.Erasure.{IsClosed}
-use Rattle.hir_facts.specs.Types.{unit}
+use Rattle.hir_types.specs.Erasure.{erased}
+use Rattle.hir_facts.specs.CarriedTypes.{IsCarriedType}
+use Rattle.hir_types.specs.Types.{unit}
 use Rattle.hir_facts.specs.Order.{Part, inner, tail, expr_part, stmt_parts, stmts_parts, stmts_of, maybe_part, after}
 use Rattle.infer_result.specs.declared.result.InferenceResult.{InferenceResult}
 use Rattle.infer_result.specs.Table.{mismatch}
@@ -18,16 +19,16 @@ use Rattle.infer_result.specs.Places.{Given, Demand, IsAtOrMismatch}
 use Rattle.infer_result.specs.Rules.Blocks.{StmtRule, StmtsRule}
 use Rattle.infer_result.specs.Truth.Mismatch.{IsBlockWithoutTail}
 use Rattle.infer_expr.specs.declared.context.InferenceContext.{InferenceContext}
-use Rattle.infer_expr.specs.Context.{IsClosedExpectation}
+use Rattle.infer_expr.specs.Context.{IsCarriedExpectation}
 use Rattle.infer_expr.specs.Walks.{Walks, Nothing, Owed, PaidBy, expr_end}
 use Rattle.infer_expr.specs.Steps.{LieAhead, Within, KindDone, CoerceDone, BeforeStmt, StmtDone, BeforeTail, NoTailDone, TailDone, IsCoerced, IsBlockOf}
 use Rattle.infer_expr.proofs.Lists.{drop-step}
-use Rattle.infer_expr.proofs.Types.{closed_unit}
+use Rattle.infer_expr.proofs.Types.{carried_unit}
 use Rattle.infer_expr.proofs.Carried.{carried_stmt}
 use Rattle.infer_expr.proofs.Parts.{after_append, ahead_left, ahead_right, expr_ahead}
 use Rattle.infer_expr.proofs.Category.{walks_refl, walks_trans, walks_paid}
 use Rattle.infer_expr.proofs.Keeps.{stmts_kept, at_kept}
-use Rattle.infer_expr.proofs.Coercions.{placed_at, placed_closed, placed_owed}
+use Rattle.infer_expr.proofs.Coercions.{placed_at, placed_carried, placed_owed}
 use Rattle.infer_expr.proofs.Leaves.{rule_of}
 use Rattle.infer_expr.proofs.Stmts.{part_demand}
 
@@ -127,7 +128,7 @@ module _ (g : Given) (s : Schedule) (n : ExprId) (ys : List RawStmt) (o : Option
               ) d.walks
               );
           clock = d.clock ∙ f;
-          closed = placed_closed new.result e x t d.walks.state.closed w.expected d.placed;
+          carried = placed_carried new.result e x t d.walks.state.carried w.expected d.placed;
           misfit = λ m k. absurd (cc);
           rule = λ r k has own.
               rule_of g r n (expr.Block is.0 ys (Some e)) b (
@@ -148,9 +149,9 @@ module _ (g : Given) (s : Schedule) (n : ExprId) (ys : List RawStmt) (o : Option
           is = d.is;
           walks = walks_paid g s Nothing (PaidBy g n t) mid c (λ q m p. absurd p) h.walks;
           clock = f;
-          closed = elim d.fits [
-            | inl q ↦ subst (λ u. IsClosed u) (sym q.1) closed_unit
-            | inr q ↦ subst (λ z. IsClosedExpectation z) q.1 w.expected
+          carried = elim d.fits [
+            | inl q ↦ subst (λ u. IsCarriedType u) (sym q.1) carried_unit
+            | inr q ↦ subst (λ z. IsCarriedExpectation z) q.1 w.expected
           ];
           misfit = λ m k.
               elim d.fits [
@@ -160,7 +161,7 @@ module _ (g : Given) (s : Schedule) (n : ExprId) (ys : List RawStmt) (o : Option
           rule = λ r k has own.
               rule_of g r n (expr.Block is.0 ys None) b (
                 stmts_kept g c.result r k ys all_made,
-                (t, has, elim d.fits [ inl q ↦ inl (sym q.1) | inr q ↦ inr (own (mismatch t unit) q.0) ]),
+                (t, has, elim d.fits [ inl q ↦ inl (ap erased (sym q.1)) | inr q ↦ inr (own (mismatch t unit) q.0) ]),
               );
         }
 

@@ -1,6 +1,6 @@
 -- Walks compose.
 use Rattle.std.proofs.Common.{◌⊎◌, inl, inr, refl, ◌∙◌, arith, slice_get}
-use Rattle.hir_facts.specs.declared.ids.ExprId.{ExprId}
+use Rattle.hir_types.specs.declared.ids.ExprId.{ExprId}
 use Rattle.hir_facts.specs.declared.schedule.Schedule.{Schedule}
 use Rattle.infer_result.specs.declared.result.TypeMismatch.{TypeMismatch}
 use Rattle.infer_result.specs.Places.{Given, Demand}

@@ -1,13 +1,15 @@
 -- The record of an expression's own type closes the walk of its parts.
 use Rattle.std.proofs.Common.{ℕ, ◌<◌, ◌≡◌, ◌≢◌, ◌⊎◌, inl, inr, length, refl, sym, ap, subst, ◌∙◌, arith, Option, Some, None, slice_get}
 use Rattle.std.proofs.Math.ListN.{set, length-set}
-use Rattle.hir_facts.specs.declared.ids.ExprId.{ExprId}
-use Rattle.hir_facts.specs.declared.ty.Ty.{Ty}
+use Rattle.hir_types.specs.declared.ids.ExprId.{ExprId}
+use Rattle.hir_types.specs.declared.ty.Ty.{Ty}
 use Rattle.hir_facts.specs.declared.schedule.Schedule.{Schedule}
-use Rattle.hir_facts.specs.Erasure.{IsClosed}
+use Rattle.hir_types.specs.Types.{unit}
+use Rattle.hir_facts.specs.CarriedTypes.{IsCarriedType, same_carried}
 use Rattle.infer_result.specs.declared.result.TypeMismatch.{TypeMismatch}
 use Rattle.infer_result.specs.Table.{At, HasTy}
-use Rattle.infer_result.specs.Closed.{IsOfBody, IsClosedTable}
+use Rattle.infer_result.specs.Closed.{IsOfBody}
+use Rattle.infer_expr.specs.Walks.{IsCarriedTable}
 use Rattle.infer_result.specs.Places.{Given}
 use Rattle.infer_result.specs.Rules.Expressions.{ObeysOrMismatch}
 use Rattle.infer_result.specs.Made.{IsMisfit}
@@ -16,7 +18,7 @@ use Rattle.infer_expr.specs.Context.{entered, with_expr_ty}
 use Rattle.infer_expr.specs.Walks.{IsWalked, IsFree, Extends, Owed, expr_start, pat_start}
 use Rattle.infer_expr.specs.Steps.{Before, Within, KindDone, OwnDone, with_own}
 use Rattle.infer_expr.proofs.Lists.{lt_or_ge, slice_get-set_same, slice_get-set_other, At-set, At-set_cases, own_set, length-own_set, At-own_set, own_set-at, own_set-other, own_set-cases, own_set-free}
-use Rattle.infer_expr.proofs.Types.{closed_unit}
+use Rattle.infer_expr.proofs.Types.{carried_unit}
 use Rattle.infer_expr.proofs.Parts.{expr_id, one_expr, expr_is_no_pat, binds_within}
 use Rattle.infer_expr.proofs.Keeps.{extends_trans, obeys_kept, pat_kept, misfit_kept, demand_kept}
 
@@ -26,7 +28,7 @@ entered_within g s e x c h = record {
   ready = h.ready;
   state = record {
     of_body = h.state.of_body;
-    closed = h.state.closed;
+    carried = h.state.carried;
     free_exprs = λ n i k. h.state.free_exprs n i (omega arith);
     free_mismatches = λ n i k. h.state.free_mismatches n i (omega arith);
     free_pats = λ p i k. h.state.free_pats p i (omega arith);
@@ -97,26 +99,26 @@ module _ (g : Given) (s : Schedule) (e : ExprId) (x : Option Ty) (t : Ty) (old m
   mismatch_cases : (n : ℕ) (m : TypeMismatch) → At new.result.expr_mismatches n m → At k.last.result.expr_mismatches n m ⊎ ((n ≡ e.0) × (k.own ≡ Some m))
   mismatch_cases n m i = own_set-cases k.last.result.expr_mismatches e.0 n k.own m long_mismatches (rw w.mismatches at i)
 
-  closed : IsClosedTable new.result
-  closed =
-      let c = k.walks.state.closed in
+  carried : IsCarriedTable new.result
+  carried =
+      let c = k.walks.state.carried in
       record {
         exprs = λ n u i.
             elim (At-set_cases k.last.result.type_of_expr e.0 n t u long (rw w.exprs at i)) [
               | inl q ↦ c.exprs n u q
-              | inr q ↦ subst (λ v. IsClosed v) q.1 k.closed
+              | inr q ↦ subst (λ v. IsCarriedType v) q.1 k.carried
             ];
         pats = λ n u i. c.pats n u (rw w.pats at i);
         bindings = λ n u i. c.bindings n u (rw w.bindings at i);
         expected = λ n m i.
             elim (mismatch_cases n m i) [
               | inl q ↦ c.expected n m q
-              | inr q ↦ subst (λ y. IsClosed y.expected) (sym (k.misfit m q.1).is) k.closed
+              | inr q ↦ subst (λ y. IsCarriedType y.expected) (sym (k.misfit m q.1).is) k.carried
             ];
         actual = λ n m i.
             elim (mismatch_cases n m i) [
               | inl q ↦ c.actual n m q
-              | inr q ↦ subst (λ y. IsClosed y.actual) (sym (k.misfit m q.1).is) closed_unit
+              | inr q ↦ subst (λ y. IsCarriedType y.actual) (sym (k.misfit m q.1).is) carried_unit
             ];
       }
 
@@ -132,7 +134,7 @@ module _ (g : Given) (s : Schedule) (e : ExprId) (x : Option Ty) (t : Ty) (old m
   state : IsWalked g.body s new
   state = record {
     of_body = of_body;
-    closed = closed;
+    carried = carried;
     free_exprs = λ n i lo.
         other_type n (omega (arith, w.clock, k.walks.clock, h.here)) ∙ k.walks.state.free_exprs n i (omega (arith, w.clock));
     free_mismatches = λ n i lo.
@@ -150,7 +152,7 @@ module _ (g : Given) (s : Schedule) (e : ExprId) (x : Option Ty) (t : Ty) (old m
   own_misfit n m i o =
       let f = k.misfit m o in
       subst (λ a. IsMisfit g new.result a m) (sym i) (
-      subst (λ y. IsMisfit g new.result e y) (sym f.is) (record { differ = f.differ; actual = inr (f.block, refl) })
+      subst (λ y. IsMisfit g new.result e y) (sym f.is) (record { differ = λ same. f.differ (same_carried t unit k.carried carried_unit same); actual = inr (f.block, refl) })
       )
 
   own_owed : (n : ExprId) (m : TypeMismatch) → n ≡ e → k.own ≡ Some m → Owed e x n m

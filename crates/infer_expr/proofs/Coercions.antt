@@ -1,18 +1,19 @@
 -- An expression put at the type that is expected of it, with or without a mismatch.
 use Rattle.std.proofs.Common.{ℕ, ◌<◌, ◌≡◌, ◌≢◌, ◌⊎◌, inl, inr, length, refl, sym, ap, subst, ◌∙◌, arith, Option, Some, None, slice_get}
 use Rattle.std.proofs.Math.ListN.{length-set}
-use Rattle.hir_facts.specs.declared.ids.ExprId.{ExprId}
-use Rattle.hir_facts.specs.declared.ty.Ty.{Ty}
+use Rattle.hir_types.specs.declared.ids.ExprId.{ExprId}
+use Rattle.hir_types.specs.declared.ty.Ty.{Ty}
 use Rattle.hir_facts.specs.declared.schedule.Schedule.{Schedule}
-use Rattle.hir_facts.specs.Erasure.{IsClosed}
+use Rattle.hir_types.specs.Erasure.{erased}
+use Rattle.hir_facts.specs.CarriedTypes.{IsCarriedType, same_carried}
 use Rattle.infer_result.specs.declared.result.InferenceResult.{InferenceResult}
 use Rattle.infer_result.specs.declared.result.TypeMismatch.{TypeMismatch}
 use Rattle.infer_result.specs.Table.{At, mismatch}
-use Rattle.infer_result.specs.Closed.{IsClosedTable}
+use Rattle.infer_expr.specs.Walks.{IsCarriedTable}
 use Rattle.infer_result.specs.Places.{Given, Demand, IsAtOrMismatch}
 use Rattle.infer_result.specs.Made.{IsMisfit}
 use Rattle.infer_expr.specs.declared.context.InferenceContext.{InferenceContext}
-use Rattle.infer_expr.specs.Context.{IsClosedExpectation, with_mismatch}
+use Rattle.infer_expr.specs.Context.{IsCarriedExpectation, with_mismatch}
 use Rattle.infer_expr.specs.Walks.{Walks, IsWalked, IsFree, Extends, Nothing, Owed, expr_start}
 use Rattle.infer_expr.specs.Steps.{Before, OwnDone, CoerceDone, IsPlaced, IsCoerced}
 use Rattle.infer_expr.proofs.Lists.{slice_get-set_same, slice_get-set_other, At-set, At-set_cases}
@@ -44,15 +45,15 @@ module _ (g : Given) (s : Schedule) (e : ExprId) (t u : Ty) (old mid : Inference
   cases : (n : ℕ) (m : TypeMismatch) → At marked.result.expr_mismatches n m → At mid.result.expr_mismatches n m ⊎ ((n ≡ e.0) × (mismatch u t ≡ m))
   cases n m i = At-set_cases mid.result.expr_mismatches e.0 n (mismatch u t) m long i
 
-  closed : IsClosedTable marked.result
-  closed =
-      let c = d.walks.state.closed in
+  carried : IsCarriedTable marked.result
+  carried =
+      let c = d.walks.state.carried in
       record {
         exprs = c.exprs;
         pats = c.pats;
         bindings = c.bindings;
-        expected = λ n m i. elim (cases n m i) [ inl q ↦ c.expected n m q | inr q ↦ subst (λ y. IsClosed y.expected) q.1 h.expected ];
-        actual = λ n m i. elim (cases n m i) [ inl q ↦ c.actual n m q | inr q ↦ subst (λ y. IsClosed y.actual) q.1 (c.exprs e.0 t d.type_is) ];
+        expected = λ n m i. elim (cases n m i) [ inl q ↦ c.expected n m q | inr q ↦ subst (λ y. IsCarriedType y.expected) q.1 h.expected ];
+        actual = λ n m i. elim (cases n m i) [ inl q ↦ c.actual n m q | inr q ↦ subst (λ y. IsCarriedType y.actual) q.1 (c.exprs e.0 t d.type_is) ];
       }
 
   state : IsWalked g.body s marked
@@ -66,7 +67,7 @@ module _ (g : Given) (s : Schedule) (e : ExprId) (t u : Ty) (old mid : Inference
           modes = c.of_body.modes;
           mismatches = rw length-set c.of_body.mismatches;
         };
-        closed = closed;
+        carried = carried;
         free_exprs = c.free_exprs;
         free_mismatches = λ n i lo. other n (omega (arith, d.walks.clock, h.here, d.clock, h.ready.law.schedule.order)) ∙ c.free_mismatches n i lo;
         free_pats = c.free_pats;
@@ -78,7 +79,7 @@ module _ (g : Given) (s : Schedule) (e : ExprId) (t u : Ty) (old mid : Inference
   misfit : (n : ExprId) (m : TypeMismatch) → (n.0 ≡ e.0) × (mismatch u t ≡ m) → IsMisfit g marked.result n m × Owed e (Some u) n m
   misfit n m q =
       let is : n ≡ e = expr_id n e q.0 in
-      let own : IsMisfit g marked.result e (mismatch u t) = record { differ = differ; actual = inl d.type_is } in (
+      let own : IsMisfit g marked.result e (mismatch u t) = record { differ = λ same. differ (same_carried u t h.expected (d.walks.state.carried.exprs e.0 t d.type_is) same); actual = inl d.type_is } in (
         subst (λ a. IsMisfit g marked.result a m) (sym is) (subst (λ y. IsMisfit g marked.result e y) q.1 own),
         (is, ap (λ y. y.expected) (sym q.1)),
       )
@@ -114,7 +115,7 @@ module _ (g : Given) (s : Schedule) (e : ExprId) (t u : Ty) (old mid : Inference
 pub coerced : (g : Given) (s : Schedule) (e : ExprId) (t u : Ty) (old mid new : InferenceContext) → Before g s e (Some u) old → OwnDone g s e (Some u) t old mid → IsCoerced e t u mid new → CoerceDone g s e (Some u) u old new
 coerced g s e t u old mid new h d (inl q) =
     subst (λ c. CoerceDone g s e (Some u) u old c) (sym q.1) (
-    record { walks = d.walks; clock = d.clock; placed = (refl, (t, d.type_is, inl q.0)) }
+    record { walks = d.walks; clock = d.clock; placed = (refl, (t, d.type_is, inl (ap erased q.0))) }
     )
 coerced g s e t u old mid new h d (inr q) =
     subst (λ c. CoerceDone g s e (Some u) u old c) (sym q.1) (
@@ -142,9 +143,9 @@ pub placed_at : (r : InferenceResult) (e : ExprId) (x : Option Ty) (t : Ty) → 
 placed_at r e None t h = (t, h, inl refl)
 placed_at r e (Some u) t h = subst (λ v. IsAtOrMismatch r e v) (sym h.0) h.1
 
-pub placed_closed : (r : InferenceResult) (e : ExprId) (x : Option Ty) (t : Ty) → IsClosedTable r → IsClosedExpectation x → IsPlaced r e x t → IsClosed t
-placed_closed r e None t c i h = c.exprs e.0 t h
-placed_closed r e (Some u) t c i h = subst (λ v. IsClosed v) (sym h.0) i
+pub placed_carried : (r : InferenceResult) (e : ExprId) (x : Option Ty) (t : Ty) → IsCarriedTable r → IsCarriedExpectation x → IsPlaced r e x t → IsCarriedType t
+placed_carried r e None t c i h = c.exprs e.0 t h
+placed_carried r e (Some u) t c i h = subst (λ v. IsCarriedType v) (sym h.0) i
 
 pub placed_owed : (r : InferenceResult) (e : ExprId) (x : Option Ty) (t : Ty) → IsPlaced r e x t → (n : ExprId) (m : TypeMismatch) → Owed e x n m → (n ≡ e) × (m.expected ≡ t)
 placed_owed r e None t h n m o = absurd o

@@ -2,11 +2,11 @@
 use Rattle.std.proofs.Common.{◌<◌, ◌≡◌, refl, ap, subst, ◌∙◌, length, Option, Some, None, slice_get}
 use Rattle.std.specs.Prelude.{IfSome}
 use Rattle.std.specs.Option.{option_and_then}
-use Rattle.hir_facts.specs.declared.ids.BodyId.{BodyId}
-use Rattle.hir_facts.specs.declared.ids.FunctionId.{FunctionId}
-use Rattle.hir_facts.specs.declared.ids.DefWithBodyId.{DefWithBodyId}
-use Rattle.hir_facts.specs.declared.ids.DefWithBodyId.TheVariants as def
-use Rattle.hir_facts.specs.declared.ty.Ty.{Ty}
+use Rattle.hir_types.specs.declared.ids.BodyId.{BodyId}
+use Rattle.hir_types.specs.declared.ids.FunctionId.{FunctionId}
+use Rattle.hir_types.specs.declared.ids.DefWithBodyId.{DefWithBodyId}
+use Rattle.hir_types.specs.declared.ids.DefWithBodyId.TheVariants as def
+use Rattle.hir_types.specs.declared.ty.Ty.{Ty}
 use Rattle.hir_facts.specs.declared.raw.RawFn.{RawFn}
 use Rattle.hir_facts.specs.declared.raw.RawBody.{RawBody}
 use Rattle.hir_facts.specs.declared.raw.RawFacts.{RawFacts}
@@ -18,9 +18,10 @@ use Rattle.infer_result.specs.declared.result.InferenceResult.{InferenceResult}
 use Rattle.infer_result.specs.Places.{Given}
 use Rattle.infer_result.specs.Made.{IsMade}
 use Rattle.infer_result.specs.Derived.{typed_by_schedule}
-use Rattle.infer_result.specs.Fit.{types_fit}
 use Rattle.infer_result.specs.Typed.{IsTableOf}
 use Rattle.infer_expr.specs.Steps.{WrittenExist}
+use Rattle.infer_expr.specs.Walks.{IsCarriedTable}
+use Rattle.infer_expr.proofs.Types.{table_fits}
 
 body_of_fn : (raw : RawFacts) → IsLawful raw → (f : FunctionId) (i : BodyId) (o : Option RawFn) → slice_get raw.fns f.0 ≡ o → option_and_then (λ x. x.body) o ≡ Some i → i.0 < length raw.bodies
 body_of_fn raw law f i None at h = absurd (cc)
@@ -37,13 +38,13 @@ body_within raw (def.VariantId v) i law h = absurd (cc)
 pub written_exist : (raw : RawFacts) (i : BodyId) (b : RawBody) (output : Ty) → IsLawful raw → slice_get raw.bodies i.0 ≡ Some b → WrittenExist (record { types = raw.types; body = b; output = output })
 written_exist raw i b output law at = (body_ids raw law i.0 b at).written
 
-pub table_of : (raw : RawFacts) (d : DefWithBodyId) (i : BodyId) (b : RawBody) (s : Schedule) (output : Ty) (r : InferenceResult) → body_id_of raw d ≡ Some i → slice_get raw.bodies i.0 ≡ Some b → IsWalkable b s → output ≡ return_type raw d → IsMade (record { types = raw.types; body = b; output = output }) r → IsTableOf raw d r
-table_of raw d i b s output r id at law out made = record {
+pub table_of : (raw : RawFacts) (d : DefWithBodyId) (i : BodyId) (b : RawBody) (s : Schedule) (output : Ty) (r : InferenceResult) → body_id_of raw d ≡ Some i → slice_get raw.bodies i.0 ≡ Some b → IsWalkable b s → output ≡ return_type raw d → IsMade (record { types = raw.types; body = b; output = output }) r → IsCarriedTable r → IsTableOf raw d r
+table_of raw d i b s output r id at law out made carried = record {
   body = b;
   is_body = ap (λ o. option_and_then (λ k. slice_get raw.bodies k.0) o) id ∙ at;
   typed =
       (let g : Given = record { types = raw.types; body = b; output = return_type raw d } in
       let m : IsMade g r = subst (λ t. IsMade (record { types = raw.types; body = b; output = t }) r) out made in
       typed_by_schedule g r s law.schedule m);
-  fit = types_fit raw d r;
+  fit = table_fits raw d r carried;
 }

@@ -1,26 +1,27 @@
 -- Literals and paths, which have no parts.
 use Rattle.std.proofs.Common.{◌≡◌, ◌⊎◌, inl, inr, refl, sym, subst, arith, true, false, Option, Some, None, slice_get}
-use Rattle.hir_facts.specs.declared.ids.ExprId.{ExprId}
-use Rattle.hir_facts.specs.declared.ty.Ty.{Ty}
+use Rattle.hir_types.specs.declared.ids.ExprId.{ExprId}
+use Rattle.hir_types.specs.declared.ty.Ty.{Ty}
 use Rattle.hir_facts.specs.declared.raw.RawLiteral.{RawLiteral}
 use Rattle.hir_facts.specs.declared.raw.RawPath.{RawPath}
 use Rattle.hir_facts.specs.declared.raw.RawPath.TheVariants as path
 use Rattle.hir_facts.specs.declared.raw.RawExpr.{RawExpr}
 use Rattle.hir_facts.specs.declared.raw.RawExpr.TheVariants as expr
 use Rattle.hir_facts.specs.declared.schedule.Schedule.{Schedule}
-use Rattle.hir_facts.specs.Erasure.{IsClosed, Same}
-use Rattle.hir_facts.specs.Types.{unit}
+use Rattle.hir_facts.specs.CarriedTypes.{IsCarriedType}
+use Rattle.hir_types.specs.Erasure.{Same}
+use Rattle.hir_types.specs.Types.{unit}
 use Rattle.infer_result.specs.declared.result.InferenceResult.{InferenceResult}
 use Rattle.infer_result.specs.Table.{HasTy, MismatchAt}
 use Rattle.infer_result.specs.Places.{Given, IsAtOrMismatch}
 use Rattle.infer_result.specs.Rules.Literals.{IsLiteralType}
-use Rattle.infer_result.specs.Closed.{IsClosedTable}
+use Rattle.infer_expr.specs.Walks.{IsCarriedTable}
 use Rattle.infer_result.specs.Rules.Paths.{PathRule}
 use Rattle.infer_result.specs.Rules.Expressions.{Rule, ObeysOrMismatch}
 use Rattle.infer_expr.specs.declared.context.InferenceContext.{InferenceContext}
 use Rattle.infer_expr.specs.Walks.{Extends, PaidBy, expr_end}
 use Rattle.infer_expr.specs.Steps.{Within, KindDone, IsPathType}
-use Rattle.infer_expr.proofs.Types.{closed_literal}
+use Rattle.infer_expr.proofs.Types.{carried_literal}
 use Rattle.infer_expr.proofs.Carried.{carried_expr}
 use Rattle.infer_expr.proofs.Parts.{expr_ahead}
 use Rattle.infer_expr.proofs.Category.{walks_refl}
@@ -31,34 +32,34 @@ rule_of g r e x is h =
     subst (λ o. Rule (IsAtOrMismatch r) (IsAtOrMismatch r) (λ t. Same unit t ⊎ MismatchAt r e t unit) g r e o) (sym is) h
 
 -- nothing was done
-leaf_done : (g : Given) (s : Schedule) (e : ExprId) (x : Option Ty) (t : Ty) (c : InferenceContext) → Within g s e x c → c.clock ≡ expr_end g.body s e → IsClosed t → ((r : InferenceResult) → Extends c.result r → HasTy r e t → ObeysOrMismatch g r e) → KindDone g s e x t c c
-leaf_done g s e x t c h at_end closed rule = record {
+leaf_done : (g : Given) (s : Schedule) (e : ExprId) (x : Option Ty) (t : Ty) (c : InferenceContext) → Within g s e x c → c.clock ≡ expr_end g.body s e → IsCarriedType t → ((r : InferenceResult) → Extends c.result r → HasTy r e t → ObeysOrMismatch g r e) → KindDone g s e x t c c
+leaf_done g s e x t c h at_end carried rule = record {
   last = c;
   own = None;
   is = refl;
   walks = walks_refl g s (PaidBy g e t) c h.state;
   clock = at_end;
-  closed = closed;
+  carried = carried;
   misfit = λ m i. absurd (cc);
   rule = λ r k has own. rule r k has;
 }
 
 pub literal_done : (g : Given) (s : Schedule) (e : ExprId) (x : Option Ty) (l : RawLiteral) (t : Ty) (c : InferenceContext) → Within g s e x c → slice_get g.body.exprs e.0 ≡ Some (expr.Lit l) → IsLiteralType l t → KindDone g s e x t c c
 literal_done g s e x l t c h is k =
-    leaf_done g s e x t c h (expr_ahead g.body s e (expr.Lit l) c.clock h.ready.law.schedule h.within is h.clock).1 (closed_literal l t k)
+    leaf_done g s e x t c h (expr_ahead g.body s e (expr.Lit l) c.clock h.ready.law.schedule h.within is h.clock).1 (carried_literal l t k)
     (λ r q has. rule_of g r e (expr.Lit l) is (t, has, k))
 
 path_rule : (g : Given) (r q : InferenceResult) (e : ExprId) (p : RawPath) (t : Ty) → Extends r q → HasTy q e t → IsPathType r p t → PathRule q e p
 path_rule g r q e (path.Local v) t x has k = (t, has, x.bindings v t k)
 path_rule g r q e path.Other t x has k = absurd k
 
-path_closed : (r : InferenceResult) (p : RawPath) (t : Ty) → IsClosedTable r → IsPathType r p t → IsClosed t
-path_closed r (path.Local v) t c k = c.bindings v.0 t k
-path_closed r path.Other t c k = absurd k
+path_carried : (r : InferenceResult) (p : RawPath) (t : Ty) → IsCarriedTable r → IsPathType r p t → IsCarriedType t
+path_carried r (path.Local v) t c k = c.bindings v.0 t k
+path_carried r path.Other t c k = absurd k
 
 pub path_done : (g : Given) (s : Schedule) (e : ExprId) (x : Option Ty) (p : RawPath) (t : Ty) (c : InferenceContext) → Within g s e x c → slice_get g.body.exprs e.0 ≡ Some (expr.Path p) → IsPathType c.result p t → KindDone g s e x t c c
 path_done g s e x p t c h is k =
-    leaf_done g s e x t c h (expr_ahead g.body s e (expr.Path p) c.clock h.ready.law.schedule h.within is h.clock).1 (path_closed c.result p t h.state.closed k)
+    leaf_done g s e x t c h (expr_ahead g.body s e (expr.Path p) c.clock h.ready.law.schedule h.within is h.clock).1 (path_carried c.result p t h.state.carried k)
     (λ r q has. rule_of g r e (expr.Path p) is (path_rule g c.result r e p t q has k))
 
 -- a path names a local, which has a type

@@ -2,11 +2,11 @@
 use Rattle.std.proofs.Common.{ℕ, suc, ◌+◌, ◌<◌, ◌≡◌, refl, sym, ap, subst, ◌∙◌, List, [], ◌∷◌, ◌++◌, length, Option, Some, None, slice_get}
 use Rattle.std.specs.Option.{option_and_then}
 use Rattle.std.proofs.lemmas.Option.{slice_get_within}
-use Rattle.hir_facts.specs.declared.ids.ExprId.{ExprId}
-use Rattle.hir_facts.specs.declared.ids.PatId.{PatId}
-use Rattle.hir_facts.specs.declared.ids.BindingId.{BindingId}
-use Rattle.hir_facts.specs.declared.ids.ExprOrPatId.TheVariants as node
-use Rattle.hir_facts.specs.declared.ty.Ty.{Ty}
+use Rattle.hir_types.specs.declared.ids.ExprId.{ExprId}
+use Rattle.hir_types.specs.declared.ids.PatId.{PatId}
+use Rattle.hir_types.specs.declared.ids.BindingId.{BindingId}
+use Rattle.hir_types.specs.declared.ids.ExprOrPatId.TheVariants as node
+use Rattle.hir_types.specs.declared.ty.Ty.{Ty}
 use Rattle.hir_facts.specs.declared.raw.RawPat.{RawPat}
 use Rattle.hir_facts.specs.declared.raw.RawExpr.{RawExpr}
 use Rattle.hir_facts.specs.declared.raw.RawBody.{RawBody}
@@ -14,7 +14,7 @@ use Rattle.hir_facts.specs.declared.schedule.Schedule.{Schedule}
 use Rattle.hir_facts.specs.Order.{Part, Node, inner, Role, expr_part, parts, parts_of_expr, parts_of_pat, expr_parts, start, end, after, IsNode, IsSchedule, Binds, binding_of}
 use Rattle.infer_result.specs.Places.{Given, StandsAt}
 use Rattle.infer_expr.specs.declared.context.InferenceContext.{InferenceContext}
-use Rattle.infer_expr.specs.Context.{IsClosedExpectation}
+use Rattle.infer_expr.specs.Context.{IsCarriedExpectation}
 use Rattle.infer_expr.specs.Walks.{IsWalked, expr_start, expr_end, pat_start}
 use Rattle.infer_expr.specs.Steps.{LieAhead, Before, IsReady}
 use Rattle.infer_expr.proofs.Lists.{slice_get-append_left}
@@ -93,13 +93,13 @@ expr_ahead b s e x from law h is at =
       subst (λ k. after b s k (expr_parts x) ≡ expr_end b s e) (sym at) (subst (λ ps. after b s (expr_start b s e + 1) ps ≡ expr_end b s e) p (law.ends n h)),
     )
 
-pub expr_before : (g : Given) (s : Schedule) (n : Node) (role : Role) (e : ExprId) (ps : List Part) (x : Option Ty) (c : InferenceContext) → IsReady g s → IsWalked g.body s c → LieAhead g.body s n c.clock (expr_part role e ∷ ps) → IsClosedExpectation x → Before g s e x c
-expr_before g s n role e ps x c ready state ahead closed = record {
+pub expr_before : (g : Given) (s : Schedule) (n : Node) (role : Role) (e : ExprId) (ps : List Part) (x : Option Ty) (c : InferenceContext) → IsReady g s → IsWalked g.body s c → LieAhead g.body s n c.clock (expr_part role e ∷ ps) → IsCarriedExpectation x → Before g s e x c
+expr_before g s n role e ps x c ready state ahead carried = record {
   ready = ready;
   state = state;
   within = ahead.fit.0;
   here = ahead.fit.1;
-  expected = closed;
+  expected = carried;
 }
 
 no_pat_parts : (o : Option RawPat) → parts_of_pat o ≡ []

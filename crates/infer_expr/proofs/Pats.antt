@@ -2,17 +2,18 @@
 use Rattle.std.proofs.Common.{ℕ, ◌+◌, ◌<◌, ◌≡◌, ◌≢◌, ◌⊎◌, inl, inr, List, length, refl, sym, ap, subst, ◌∙◌, arith, Option, Some, None, slice_get}
 use Rattle.std.specs.Option.{option_and_then}
 use Rattle.std.proofs.Math.ListN.{set, length-set}
-use Rattle.hir_facts.specs.declared.ids.PatId.{PatId}
-use Rattle.hir_facts.specs.declared.ids.BindingId.{BindingId}
-use Rattle.hir_facts.specs.declared.ty.Ty.{Ty}
+use Rattle.hir_types.specs.declared.ids.PatId.{PatId}
+use Rattle.hir_types.specs.declared.ids.BindingId.{BindingId}
+use Rattle.hir_types.specs.declared.ty.Ty.{Ty}
 use Rattle.hir_facts.specs.declared.raw.RawPat.TheVariants as pat
 use Rattle.hir_facts.specs.declared.schedule.Schedule.{Schedule}
-use Rattle.hir_facts.specs.Erasure.{IsClosed}
+use Rattle.hir_facts.specs.CarriedTypes.{IsCarriedType}
 use Rattle.hir_facts.specs.Order.{Binds, binding_of}
 use Rattle.infer_result.specs.declared.modes.BindingMode.{BindingMode}
 use Rattle.infer_result.specs.declared.modes.BindingMode.TheVariants as mode
 use Rattle.infer_result.specs.Table.{At, PatTy, BindingTy, HasMode}
-use Rattle.infer_result.specs.Closed.{IsOfBody, IsClosedTable}
+use Rattle.infer_result.specs.Closed.{IsOfBody}
+use Rattle.infer_expr.specs.Walks.{IsCarriedTable}
 use Rattle.infer_result.specs.Places.{Given}
 use Rattle.infer_result.specs.Rules.Patterns.{PatRule}
 use Rattle.infer_expr.specs.declared.context.InferenceContext.{InferenceContext}
@@ -109,20 +110,20 @@ module _ (g : Given) (s : Schedule) (p : PatId) (t : Ty) (old new : InferenceCon
     mismatches = λ e m i. rw w.mismatches i;
   }
 
-  closed : IsClosedTable new.result
-  closed =
-      let c = h.state.closed in
+  carried : IsCarriedTable new.result
+  carried =
+      let c = h.state.carried in
       record {
         exprs = λ n u i. c.exprs n u (rw w.exprs at i);
         pats = λ n u i.
             elim (At-set_cases old.result.type_of_pat p.0 n t u long (rw w.pats at i)) [
               | inl q ↦ c.pats n u q
-              | inr q ↦ subst (λ v. IsClosed v) q.1 h.closed
+              | inr q ↦ subst (λ v. IsCarriedType v) q.1 h.carried
             ];
         bindings = λ n u i.
             elim (binding_cases o refl n u (rw w.bindings at i)) [
               | inl q ↦ c.bindings n u q
-              | inr q ↦ subst (λ v. IsClosed v) q h.closed
+              | inr q ↦ subst (λ v. IsCarriedType v) q h.carried
             ];
         expected = λ n m i. c.expected n m (rw w.mismatches at i);
         actual = λ n m i. c.actual n m (rw w.mismatches at i);
@@ -150,7 +151,7 @@ module _ (g : Given) (s : Schedule) (p : PatId) (t : Ty) (old new : InferenceCon
   state : IsWalked g.body s new
   state = record {
     of_body = of_body;
-    closed = closed;
+    carried = carried;
     free_exprs = λ e i lo. rw w.exprs (h.state.free_exprs e i (omega (arith, w.clock)));
     free_mismatches = λ e i lo. rw w.mismatches (h.state.free_mismatches e i (omega (arith, w.clock)));
     free_pats = λ q i lo.

@@ -1,13 +1,14 @@
 -- Statements.
 use Rattle.std.proofs.Common.{ℕ, ◌+◌, ◌<◌, ◌≡◌, Bool, true, false, List, length, [], ◌∷◌, sym, ap, subst, ◌∙◌, Option, Some, None}
-use Rattle.hir_facts.specs.declared.ids.ExprId.{ExprId}
-use Rattle.hir_facts.specs.declared.ids.PatId.{PatId}
-use Rattle.hir_facts.specs.declared.ids.TypeRefId.{TypeRefId}
-use Rattle.hir_facts.specs.declared.ids.ExprOrPatId.TheVariants as node
-use Rattle.hir_facts.specs.declared.ty.Ty.{Ty}
+use Rattle.hir_types.specs.declared.ids.ExprId.{ExprId}
+use Rattle.hir_types.specs.declared.ids.PatId.{PatId}
+use Rattle.hir_types.specs.declared.ids.TypeRefId.{TypeRefId}
+use Rattle.hir_types.specs.declared.ids.ExprOrPatId.TheVariants as node
+use Rattle.hir_types.specs.declared.ty.Ty.{Ty}
 use Rattle.hir_facts.specs.declared.raw.RawStmt.TheVariants as stmt
 use Rattle.hir_facts.specs.declared.schedule.Schedule.{Schedule}
-use Rattle.hir_facts.specs.Types.{unit, written_type}
+use Rattle.hir_types.specs.Types.{unit}
+use Rattle.hir_facts.specs.Types.{written_type}
 use Rattle.hir_facts.specs.Order.{Part, inner, Role, initializer, let_pattern, statement, expr_part, pat_part}
 use Rattle.infer_result.specs.declared.result.InferenceResult.{InferenceResult}
 use Rattle.infer_result.specs.Table.{PatTy}
@@ -19,8 +20,8 @@ use Rattle.infer_expr.specs.Steps.{LieAhead, Before, BeforePat, BeforeStmt, Stmt
 use Rattle.infer_expr.proofs.Parts.{ahead_stands, expr_before, pat_end}
 use Rattle.infer_expr.proofs.Category.{walks_trans}
 use Rattle.infer_expr.proofs.Keeps.{at_kept}
-use Rattle.infer_expr.proofs.Coercions.{owed_paid, placed_closed}
-use Rattle.infer_expr.proofs.Types.{closed_unit, closed_declared}
+use Rattle.infer_expr.proofs.Coercions.{owed_paid, placed_carried}
+use Rattle.infer_expr.proofs.Types.{carried_unit, carried_declared}
 
 -- what an expression asks of the first of the parts that lie ahead
 pub part_demand : (g : Given) (s : Schedule) (n : ExprId) (from : ℕ) (role : Role) (e : ExprId) (ps : List Part) (r : InferenceResult) (t : Ty) → LieAhead g.body s (inner (node.ExprId n)) from (expr_part role e ∷ ps) → AsksOf g r n role t → Demand g r e t
@@ -38,7 +39,7 @@ let_written g s n p o w e old is h =
 module _ (g : Given) (s : Schedule) (n : ExprId) (p : PatId) (w : Option TypeRefId) (e : ExprId) (old : InferenceContext) (h : BeforeStmt g s n (stmt.Let p w (Some e) None) old) where
   pub init_before : Before g s e (declared_type g w) old
   init_before =
-      expr_before g s (inner (node.ExprId n)) (initializer w) e (pat_part (let_pattern w (Some e)) p ∷ []) (declared_type g w) old h.ready h.state h.ahead (closed_declared g w)
+      expr_before g s (inner (node.ExprId n)) (initializer w) e (pat_part (let_pattern w (Some e)) p ∷ []) (declared_type g w) old h.ready h.state h.ahead (carried_declared g w)
 
   asked : (y : Option TypeRefId) (r : InferenceResult) (u : Ty) → declared_type g y ≡ Some u → AsksOf g r n (initializer y) u
   asked None r u i = absurd (cc)
@@ -57,7 +58,7 @@ module _ (g : Given) (s : Schedule) (n : ExprId) (p : PatId) (w : Option TypeRef
     state = d.walks.state;
     within = h.ahead.fit.2.0;
     here = h.ahead.fit.2.1 ∙ sym d.clock;
-    closed = placed_closed mid.result e (declared_type g w) t d.walks.state.closed (closed_declared g w) d.placed;
+    carried = placed_carried mid.result e (declared_type g w) t d.walks.state.carried (carried_declared g w) d.placed;
   }
 
   let_made : (y : Option TypeRefId) (t : Ty) (mid new : InferenceContext) → IsPlaced mid.result e (declared_type g y) t → PatDone g s p t mid new → LetRule (IsAtOrMismatch new.result) g new.result p y (Some e)
@@ -84,7 +85,7 @@ statement_type false = Some unit
 module _ (g : Given) (s : Schedule) (n : ExprId) (e : ExprId) (old : InferenceContext) where
   pub expr_stmt_before : (semicolon : Bool) → BeforeStmt g s n (stmt.Expr e semicolon) old → Before g s e (statement_type semicolon) old
   expr_stmt_before true h = expr_before g s (inner (node.ExprId n)) (statement true) e [] None old h.ready h.state h.ahead tt
-  expr_stmt_before false h = expr_before g s (inner (node.ExprId n)) (statement false) e [] (Some unit) old h.ready h.state h.ahead closed_unit
+  expr_stmt_before false h = expr_before g s (inner (node.ExprId n)) (statement false) e [] (Some unit) old h.ready h.state h.ahead carried_unit
 
   pub expr_stmt_done : (semicolon : Bool) (t : Ty) (new : InferenceContext) → BeforeStmt g s n (stmt.Expr e semicolon) old → CoerceDone g s e (statement_type semicolon) t old new → StmtDone g s (stmt.Expr e semicolon) old new
   expr_stmt_done true t new h d = record {

@@ -3,10 +3,10 @@ use Rattle.std.proofs.Common.{ℕ, zero, suc, ◌+◌, ◌<◌, ◌≤◌, ◌�
 use Rattle.std.proofs.Math.ListN.{drop_of_length-le, take-append-drop}
 use Rattle.std.proofs.lemmas.List.{take_more}
 use Rattle.std.proofs.lemmas.Option.{slice_get_read}
-use Rattle.hir_facts.specs.declared.ids.ExprId.{ExprId}
-use Rattle.hir_facts.specs.declared.ids.ExprOrPatId.TheVariants as node
-use Rattle.hir_facts.specs.declared.ty.Ty.{Ty}
-use Rattle.hir_facts.specs.declared.ty.Ty.TheVariants as ty
+use Rattle.hir_types.specs.declared.ids.ExprId.{ExprId}
+use Rattle.hir_types.specs.declared.ids.ExprOrPatId.TheVariants as node
+use Rattle.hir_types.specs.declared.ty.Ty.{Ty}
+use Rattle.hir_types.specs.declared.ty.Ty.TheVariants as ty
 use Rattle.hir_facts.specs.declared.raw.RawExpr.TheVariants as expr
 use Rattle.hir_facts.specs.declared.schedule.Schedule.{Schedule}
 use Rattle.hir_facts.specs.Order.{inner, element, expr_part, element_parts, parts_of_expr, part_at, after}
@@ -19,11 +19,12 @@ use Rattle.infer_expr.specs.Context.{element_type}
 use Rattle.infer_expr.specs.Walks.{Walks, Debt, Owed, OwedAmong, PaidBy, expr_end}
 use Rattle.infer_expr.specs.Steps.{LieAhead, Before, Within, KindDone, CoerceDone, IsTupleOf}
 use Rattle.infer_expr.proofs.Lists.{slice_get-append_left, slice_get-push, drop-step}
-use Rattle.infer_expr.proofs.Types.{AreClosed, closed_push, closed_tuple, closed_element}
+use Rattle.hir_facts.specs.CarriedTypes.{AreCarriedTypes}
+use Rattle.infer_expr.proofs.Types.{carried_push, carried_tuple_of, carried_element}
 use Rattle.infer_expr.proofs.Parts.{ahead_rest, expr_ahead, expr_before}
 use Rattle.infer_expr.proofs.Category.{walks_refl, walks_trans, walks_paid}
 use Rattle.infer_expr.proofs.Keeps.{all_kept}
-use Rattle.infer_expr.proofs.Coercions.{placed_at, placed_closed, placed_owed}
+use Rattle.infer_expr.proofs.Coercions.{placed_at, placed_carried, placed_owed}
 use Rattle.infer_expr.proofs.Leaves.{rule_of}
 
 -- the first i elements of the tuple n have the types ts, and the others lie ahead
@@ -32,7 +33,7 @@ pub record TupleLoop (g : Given) (s : Schedule) (n : ExprId) (es : List ExprId) 
   pub ahead : LieAhead g.body s (inner (node.ExprId n)) c.clock (element_parts i (drop i es))
   pub ends : after g.body s c.clock (element_parts i (drop i es)) ≡ expr_end g.body s n
   pub made : AllAt (IsAtOrMismatch c.result) (take i es) ts
-  pub closed : AreClosed ts
+  pub carried : AreCarriedTypes ts
   pub count : length ts ≡ i
 
 pub tuple_start : (g : Given) (s : Schedule) (n : ExprId) (es : List ExprId) (x : Option Ty) (c : InferenceContext) → Within g s n x c → IsTupleOf g.body n es → TupleLoop g s n es 0 [] c c
@@ -43,7 +44,7 @@ tuple_start g s n es x c h is =
       ahead = a.0;
       ends = a.1;
       made = tt;
-      closed = refl;
+      carried = refl;
       count = refl;
     }
 
@@ -89,7 +90,7 @@ module _ (g : Given) (s : Schedule) (n : ExprId) (es : List ExprId) (i : ℕ) (t
   tuple_before x start w e is k =
       expr_before g s (inner (node.ExprId n)) (element i) e (element_parts (i + 1) (drop (i + 1) es)) (element_type x i) c w.ready h.walks.state (
       subst (λ ps. LieAhead g.body s (inner (node.ExprId n)) c.clock ps) (step e is k) h.ahead
-      ) (closed_element x i w.expected)
+      ) (carried_element x i w.expected)
 
   pub tuple_next : (x : Option Ty) (start : InferenceContext) → Within g s n x start → (e : ExprId) (t : Ty) (next : InferenceContext) → e ≡ get_or es i e → i < length es → CoerceDone g s e (element_type x i) t c next → TupleLoop g s n es (i + 1) (ts ++ t ∷ []) mid next
   tuple_next x start w e t next is k d =
@@ -118,7 +119,7 @@ module _ (g : Given) (s : Schedule) (n : ExprId) (es : List ExprId) (i : ℕ) (t
             all_push next.result (take i es) ts e t (all_kept g c.result next.result d.walks.extends (take i es) ts h.made) (placed_at next.result e (element_type x i) t d.placed)
             )
             );
-        closed = closed_push ts t h.closed (placed_closed next.result e (element_type x i) t d.walks.state.closed (closed_element x i w.expected) d.placed);
+        carried = carried_push ts t h.carried (placed_carried next.result e (element_type x i) t d.walks.state.carried (carried_element x i w.expected) d.placed);
         count = simp length-append (omega (arith, h.count));
       }
 
@@ -133,7 +134,7 @@ module _ (g : Given) (s : Schedule) (n : ExprId) (es : List ExprId) (i : ℕ) (t
         is = refl;
         walks = walks_paid g s (OwedAmong es ts) (PaidBy g n (ty.Tuple ts)) mid c (λ e m o. inr (element_demand g n es ts w.within is e m o)) h.walks;
         clock = subst (λ l. after g.body s c.clock (element_parts i l) ≡ expr_end g.body s n) none h.ends;
-        closed = closed_tuple ts h.closed;
+        carried = carried_tuple_of ts h.carried;
         misfit = λ m k. absurd (cc);
         rule = λ r k has own. rule_of g r n (expr.Tuple es) is (ts, has, all_kept g c.result r k es ts made);
       }

@@ -2,25 +2,26 @@
 use Rattle.std.proofs.Common.{ℕ, zero, suc, ◌+◌, ◌<◌, ◌≡◌, ◌⊎◌, inl, inr, [], ◌∷◌, ◌++◌, ◌^◌, length, map, refl, sym, ap, subst, ◌∙◌, arith, Option, Some, None}
 use Rattle.std.specs.Prelude.{replicate}
 use Rattle.std.proofs.lemmas.List.{length-replicate}
-use Rattle.hir_facts.specs.declared.ids.ExprId.{ExprId}
-use Rattle.hir_facts.specs.declared.ids.ExprOrPatId.{ExprOrPatId}
-use Rattle.hir_facts.specs.declared.ids.ExprOrPatId.TheVariants as node
-use Rattle.hir_facts.specs.declared.ty.Ty.{Ty}
+use Rattle.hir_types.specs.declared.ids.ExprId.{ExprId}
+use Rattle.hir_types.specs.declared.ids.ExprOrPatId.{ExprOrPatId}
+use Rattle.hir_types.specs.declared.ids.ExprOrPatId.TheVariants as node
+use Rattle.hir_types.specs.declared.ty.Ty.{Ty}
 use Rattle.hir_facts.specs.declared.raw.RawBody.{RawBody}
 use Rattle.hir_facts.specs.declared.schedule.Schedule.{Schedule}
 use Rattle.hir_facts.specs.Bodies.{IsWalkable}
-use Rattle.hir_facts.specs.Erasure.{IsClosed}
+use Rattle.hir_facts.specs.CarriedTypes.{IsCarriedType}
 use Rattle.hir_facts.specs.Order.{inner, the_body, root, parameter, expr_part, pat_part, start, end, after, IsInBody, IsSchedule}
 use Rattle.infer_result.specs.declared.result.InferenceResult.{InferenceResult}
 use Rattle.infer_result.specs.declared.result.TypeMismatch.{TypeMismatch}
 use Rattle.infer_result.specs.Table.{At}
-use Rattle.infer_result.specs.Closed.{IsClosedTable}
+use Rattle.infer_expr.specs.Walks.{IsCarriedTable}
 use Rattle.infer_result.specs.Places.{Given, Demand}
 use Rattle.infer_result.specs.Made.{IsMade, IsMisfit}
 use Rattle.infer_expr.specs.declared.context.InferenceContext.{InferenceContext}
 use Rattle.infer_expr.specs.Context.{empty_context}
 use Rattle.infer_expr.specs.Walks.{IsWalked, IsFree, expr_end}
 use Rattle.infer_expr.specs.Steps.{IsReady, WrittenExist, LieAhead, Before, CoerceDone}
+use Rattle.infer_expr.proofs.Types.{table_closed}
 use Rattle.infer_expr.proofs.Parts.{ahead_start, ahead_stands, expr_before, binds_within}
 
 -- ---- nothing is recorded
@@ -51,8 +52,8 @@ inner_start b s x law h =
     above a n = grind arith
 
 module _ (b : RawBody) (s : Schedule) (law : IsWalkable b s) where
-  empty_closed : IsClosedTable (empty_context b).result
-  empty_closed = record {
+  empty_carried : IsCarriedTable (empty_context b).result
+  empty_carried = record {
     exprs = λ n t i. absurd (At-replicate (length b.exprs) n t i);
     pats = λ n t i. absurd (At-replicate (length b.pats) n t i);
     bindings = λ n t i. absurd (At-replicate (length b.bindings) n t i);
@@ -69,7 +70,7 @@ module _ (b : RawBody) (s : Schedule) (law : IsWalkable b s) where
       modes = length-replicate (length b.pats) None;
       mismatches = length-replicate (length b.exprs) None;
     };
-    closed = empty_closed;
+    carried = empty_carried;
     free_exprs = λ e i lo. free-replicate (length b.exprs) e.0 i;
     free_mismatches = λ e i lo. free-replicate (length b.exprs) e.0 i;
     free_pats = λ p i lo. free-replicate (length b.pats) p.0 i;
@@ -91,11 +92,11 @@ module _ (b : RawBody) (s : Schedule) (law : IsWalkable b s) where
 pub root_within : (b : RawBody) (s : Schedule) → IsWalkable b s → IsInBody b (node.ExprId b.root)
 root_within b s law = (root_ahead b s law).0.fit.0
 
-pub root_before : (g : Given) (s : Schedule) (last : ℕ) (c : InferenceContext) → IsWalkable g.body s → WrittenExist g → IsClosed g.output → last ≡ expr_end g.body s g.body.root → last < 2 ^ 64 → c ≡ empty_context g.body → Before g s g.body.root (Some g.output) c
-root_before g s last c law written closed is room empty =
+pub root_before : (g : Given) (s : Schedule) (last : ℕ) (c : InferenceContext) → IsWalkable g.body s → WrittenExist g → IsCarriedType g.output → last ≡ expr_end g.body s g.body.root → last < 2 ^ 64 → c ≡ empty_context g.body → Before g s g.body.root (Some g.output) c
+root_before g s last c law written carried is room empty =
     let ready : IsReady g s = record { law = law; written = written; room = omega (arith, is, (root_ahead g.body s law).1) } in
     subst (λ k. Before g s g.body.root (Some g.output) k) (sym empty) (
-    expr_before g s the_body root g.body.root [] (Some g.output) (empty_context g.body) ready (empty_walked g.body s law) (root_ahead g.body s law).0 closed
+    expr_before g s the_body root g.body.root [] (Some g.output) (empty_context g.body) ready (empty_walked g.body s law) (root_ahead g.body s law).0 carried
     )
 
 -- what the body asks of its root
@@ -124,10 +125,13 @@ module _ (g : Given) (s : Schedule) (law : IsWalkable g.body s) (t : Ty) (new : 
         )
       ]
 
+  pub body_carried : IsCarriedTable new.result
+  body_carried = d.walks.state.carried
+
   pub body_made : IsMade g new.result
   body_made = record {
     of_body = d.walks.state.of_body;
-    closed = d.walks.state.closed;
+    closed = table_closed new.result d.walks.state.carried;
     clauses = λ e i.
         d.walks.made e i (inner_start g.body s (node.ExprId e) law.schedule i) (omega (arith, at_end, law.schedule.reached (inner (node.ExprId e)) i));
     kinds = λ p i.

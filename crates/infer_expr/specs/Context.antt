@@ -1,12 +1,15 @@
 -- What the walk reads, what it expects, and what a write does.
 use Rattle.std.specs.Prelude.{◌+◌, ℕ, length, replicate, slice_get, slice_set, Option, Some, None}
-use Rattle.hir_facts.specs.declared.ids.ExprId.{ExprId}
-use Rattle.hir_facts.specs.declared.ids.PatId.{PatId}
-use Rattle.hir_facts.specs.declared.ids.BindingId.{BindingId}
-use Rattle.hir_facts.specs.declared.ty.Ty.{Ty, Ty-F, out-Ty}
+use Rattle.hir_types.specs.declared.ids.ExprId.{ExprId}
+use Rattle.hir_types.specs.declared.ids.PatId.{PatId}
+use Rattle.hir_types.specs.declared.ids.BindingId.{BindingId}
+use Rattle.hir_types.specs.declared.ty.AliasBound.{AliasBound}
+use Rattle.hir_types.specs.declared.ty.GenericArg.{GenericArg}
+use Rattle.hir_types.specs.declared.ty.TraitRef.{TraitRef}
+use Rattle.hir_types.specs.declared.ty.Ty.{Ty, Ty-F, out-Ty}
 use Rattle.hir_facts.specs.declared.raw.RawBody.{RawBody}
 use Rattle.hir_facts.specs.declared.schedule.Schedule.{Schedule}
-use Rattle.hir_facts.specs.Erasure.{IsClosed}
+use Rattle.hir_facts.specs.CarriedTypes.{IsCarriedType}
 use Rattle.infer_result.specs.declared.result.TypeMismatch.{TypeMismatch}
 use Rattle.infer_result.specs.declared.modes.BindingMode.{BindingMode}
 use Rattle.infer_result.specs.declared.modes.BindingMode.TheVariants as mode
@@ -30,23 +33,18 @@ abbrev pub expected_type : Expectation → Option Ty
 expected_type expectation.None = None
 expected_type (expectation.HasType t) = Some t.now
 
-abbrev pub component : Ty-F Ty → ℕ → Option Ty
+abbrev pub component : Ty-F GenericArg Ty AliasBound TraitRef → ℕ → Option Ty
 component (Ty-F.Tuple ts) i = slice_get ts i
-component Ty-F.Bool i = None
-component Ty-F.Char i = None
-component (Ty-F.Int n) i = None
-component (Ty-F.Uint n) i = None
-component Ty-F.Error i = None
-component (Ty-F.Var n) i = None
+component _ i = None
 
 -- the type that is expected of an element, where this is expected of the tuple
 abbrev pub element_type : Option Ty → ℕ → Option Ty
 element_type None i = None
 element_type (Some t) i = component (out-Ty t) i
 
-abbrev pub IsClosedExpectation : Option Ty → Type 0
-IsClosedExpectation None = Unit {0}
-IsClosedExpectation (Some t) = IsClosed t
+abbrev pub IsCarriedExpectation : Option Ty → Type 0
+IsCarriedExpectation None = Unit {0}
+IsCarriedExpectation (Some t) = IsCarriedType t
 
 -- ---- what is found out
 

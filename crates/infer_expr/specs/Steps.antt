@@ -1,11 +1,11 @@
 -- What each function of the walk is given, and what it does.
 use Rattle.std.specs.Prelude.{ℕ, ◌+◌, ◌<◌, ◌≡◌, ◌⊎◌, ◌^◌, List, length, slice_get, Option, Some, None, option_map, IsTrue}
-use Rattle.hir_facts.specs.declared.ids.ExprId.{ExprId}
-use Rattle.hir_facts.specs.declared.ids.PatId.{PatId}
-use Rattle.hir_facts.specs.declared.ids.TypeRefId.{TypeRefId}
-use Rattle.hir_facts.specs.declared.ids.LabelId.{LabelId}
-use Rattle.hir_facts.specs.declared.ids.ExprOrPatId.TheVariants as node
-use Rattle.hir_facts.specs.declared.ty.Ty.{Ty}
+use Rattle.hir_types.specs.declared.ids.ExprId.{ExprId}
+use Rattle.hir_types.specs.declared.ids.PatId.{PatId}
+use Rattle.hir_types.specs.declared.ids.TypeRefId.{TypeRefId}
+use Rattle.hir_types.specs.declared.ids.LabelId.{LabelId}
+use Rattle.hir_types.specs.declared.ids.ExprOrPatId.TheVariants as node
+use Rattle.hir_types.specs.declared.ty.Ty.{Ty}
 use Rattle.hir_facts.specs.declared.raw.RawBody.{RawBody}
 use Rattle.hir_facts.specs.declared.raw.RawExpr.TheVariants as expr
 use Rattle.hir_facts.specs.declared.raw.RawPath.{RawPath}
@@ -13,8 +13,9 @@ use Rattle.hir_facts.specs.declared.raw.RawPath.TheVariants as path
 use Rattle.hir_facts.specs.declared.raw.RawStmt.{RawStmt}
 use Rattle.hir_facts.specs.declared.raw.RawStmt.TheVariants as stmt
 use Rattle.hir_facts.specs.declared.schedule.Schedule.{Schedule}
-use Rattle.hir_facts.specs.Types.{written_type, unit}
-use Rattle.hir_facts.specs.Erasure.{IsClosed}
+use Rattle.hir_types.specs.Types.{unit}
+use Rattle.hir_facts.specs.Types.{written_type}
+use Rattle.hir_facts.specs.CarriedTypes.{IsCarriedType}
 use Rattle.hir_facts.specs.Bodies.{IsWalkable}
 use Rattle.hir_facts.specs.Laws.Carried.{is_carried_stmt}
 use Rattle.hir_facts.specs.Order.{end, inner, the_body, Node, Part, IsNode, part_at, Fits, after, stmt_parts, stmt_at, maybe_part, tail}
@@ -26,7 +27,7 @@ use Rattle.infer_result.specs.Rules.Expressions.{ObeysOrMismatch}
 use Rattle.infer_result.specs.Rules.Blocks.{StmtRule}
 use Rattle.infer_result.specs.Truth.Mismatch.{IsBlockWithoutTail}
 use Rattle.infer_expr.specs.declared.context.InferenceContext.{InferenceContext}
-use Rattle.infer_expr.specs.Context.{IsClosedExpectation, with_mismatch}
+use Rattle.infer_expr.specs.Context.{IsCarriedExpectation, with_mismatch}
 use Rattle.infer_expr.specs.Walks.{Walks, IsWalked, IsFree, Extends, Nothing, Owed, PaidBy, expr_start, expr_end, pat_start}
 
 -- each type that a `let` of the body is written with is one of the facts'
@@ -53,7 +54,7 @@ pub record Before (g : Given) (s : Schedule) (e : ExprId) (x : Option Ty) (c : I
   pub state : IsWalked g.body s c
   pub within : e.0 < length g.body.exprs
   pub here : expr_start g.body s e ≡ c.clock
-  pub expected : IsClosedExpectation x
+  pub expected : IsCarriedExpectation x
 
 -- the expression has the type t; where something else is expected, nothing is said of that yet
 pub record OwnDone (g : Given) (s : Schedule) (e : ExprId) (x : Option Ty) (t : Ty) (old new : InferenceContext) : Type 0 where
@@ -80,7 +81,7 @@ pub record Within (g : Given) (s : Schedule) (e : ExprId) (x : Option Ty) (c : I
   pub state : IsWalked g.body s c
   pub within : e.0 < length g.body.exprs
   pub clock : c.clock ≡ expr_start g.body s e + 1
-  pub expected : IsClosedExpectation x
+  pub expected : IsCarriedExpectation x
 
 -- the mismatch that an expression may have before its type is recorded
 abbrev pub with_own : InferenceContext → ExprId → Option TypeMismatch → InferenceContext
@@ -102,7 +103,7 @@ pub record KindDone (g : Given) (s : Schedule) (e : ExprId) (x : Option Ty) (t :
   pub is : new ≡ with_own last e own
   pub walks : Walks g s (PaidBy g e t) old last
   pub clock : last.clock ≡ expr_end g.body s e
-  pub closed : IsClosed t
+  pub carried : IsCarriedType t
   pub misfit : (m : TypeMismatch) → own ≡ Some m → IsOwnMisfit g.body e x t m
   pub rule : (r : InferenceResult) → Extends last.result r → HasTy r e t → ((m : TypeMismatch) → own ≡ Some m → At r.expr_mismatches e.0 m) → ObeysOrMismatch g r e
 
@@ -124,7 +125,7 @@ pub record BeforePat (g : Given) (s : Schedule) (p : PatId) (t : Ty) (c : Infere
   pub state : IsWalked g.body s c
   pub within : p.0 < length g.body.pats
   pub here : pat_start g.body s p ≡ c.clock
-  pub closed : IsClosed t
+  pub carried : IsCarriedType t
 
 pub record PatDone (g : Given) (s : Schedule) (p : PatId) (t : Ty) (old new : InferenceContext) : Type 0 where
   pub walks : Walks g s Nothing old new
@@ -163,7 +164,7 @@ pub record BeforeTail (g : Given) (s : Schedule) (n : ExprId) (last : Option Exp
   pub state : IsWalked g.body s c
   pub within : n.0 < length g.body.exprs
   pub ahead : LieAhead g.body s (inner (node.ExprId n)) c.clock (maybe_part tail last)
-  pub expected : IsClosedExpectation x
+  pub expected : IsCarriedExpectation x
 
 -- `()` is what is expected of a block without tail, or that is recorded as a mismatch at the block
 pub record NoTailDone (n : ExprId) (x : Option Ty) (t : Ty) (old new : InferenceContext) : Type 0 where

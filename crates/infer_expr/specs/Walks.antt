@@ -1,10 +1,10 @@
 -- What every function of the walk does to the context.
 use Rattle.std.specs.Prelude.{ℕ, ◌<◌, ◌≤◌, ◌≡◌, ◌⊎◌, List, length, slice_get, Option, Some, None}
-use Rattle.hir_facts.specs.declared.ids.ExprId.{ExprId}
-use Rattle.hir_facts.specs.declared.ids.PatId.{PatId}
-use Rattle.hir_facts.specs.declared.ids.BindingId.{BindingId}
-use Rattle.hir_facts.specs.declared.ids.ExprOrPatId.TheVariants as node
-use Rattle.hir_facts.specs.declared.ty.Ty.{Ty}
+use Rattle.hir_types.specs.declared.ids.ExprId.{ExprId}
+use Rattle.hir_types.specs.declared.ids.PatId.{PatId}
+use Rattle.hir_types.specs.declared.ids.BindingId.{BindingId}
+use Rattle.hir_types.specs.declared.ids.ExprOrPatId.TheVariants as node
+use Rattle.hir_types.specs.declared.ty.Ty.{Ty}
 use Rattle.hir_facts.specs.declared.schedule.Schedule.{Schedule}
 use Rattle.hir_facts.specs.declared.raw.RawBody.{RawBody}
 use Rattle.hir_facts.specs.Order.{start, end, inner, Binds}
@@ -12,7 +12,8 @@ use Rattle.infer_result.specs.declared.result.InferenceResult.{InferenceResult}
 use Rattle.infer_result.specs.declared.result.TypeMismatch.{TypeMismatch}
 use Rattle.infer_result.specs.declared.modes.BindingMode.{BindingMode}
 use Rattle.infer_result.specs.Table.{At, HasTy, PatTy, BindingTy, HasMode}
-use Rattle.infer_result.specs.Closed.{IsOfBody, IsClosedTable}
+use Rattle.infer_result.specs.Closed.{IsOfBody, AllTypes}
+use Rattle.hir_facts.specs.CarriedTypes.{IsCarriedType}
 use Rattle.infer_result.specs.Places.{Given, Demand}
 use Rattle.infer_result.specs.Rules.Expressions.{ObeysOrMismatch}
 use Rattle.infer_result.specs.Rules.Patterns.{PatRule}
@@ -41,11 +42,15 @@ pub record Extends (old new : InferenceResult) : Type 0 where
   pub modes : (p : PatId) (m : BindingMode) → HasMode old p m → HasMode new p m
   pub mismatches : (e : ExprId) (m : TypeMismatch) → At old.expr_mismatches e.0 m → At new.expr_mismatches e.0 m
 
--- The state of the walk: no type has a hole, nothing is recorded at a node from the clock on, and
+-- each type of the table is of a carried kind
+abbrev pub IsCarriedTable : InferenceResult → Type 0
+IsCarriedTable t = AllTypes IsCarriedType t
+
+-- The state of the walk: each type is of a carried kind, nothing is recorded at a node from the clock on, and
 -- each binding whose pattern comes before it has a type.
 pub record IsWalked (b : RawBody) (s : Schedule) (c : InferenceContext) : Type 0 where
   pub of_body : IsOfBody b c.result
-  pub closed : IsClosedTable c.result
+  pub carried : IsCarriedTable c.result
   pub free_exprs : (e : ExprId) → e.0 < length b.exprs → c.clock ≤ expr_start b s e → IsFree c.result.type_of_expr e.0
   pub free_mismatches : (e : ExprId) → e.0 < length b.exprs → c.clock ≤ expr_start b s e → IsFree c.result.expr_mismatches e.0
   pub free_pats : (p : PatId) → p.0 < length b.pats → c.clock ≤ pat_start b s p → IsFree c.result.type_of_pat p.0

@@ -1,6 +1,6 @@
 //! The types of blocks.
 ghost use Rattle.std.specs.Prelude.{◌≡◌, ◌<◌, IfOk, length, List};
-ghost use Rattle.hir_facts.specs.Types.{unit};
+ghost use Rattle.hir_types.specs.Types.{unit};
 ghost use Rattle.infer_expr.specs.Context.{given_of, schedule_of, expected_type};
 ghost use Rattle.infer_expr.specs.Steps.{Within, IsBlockOf, KindDone, BeforeTail, TailDone, NoTailDone};
 

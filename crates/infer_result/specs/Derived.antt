@@ -2,12 +2,12 @@
 use Rattle.std.specs.Prelude.{ℕ, zero, suc, ◌<◌, ◌≡◌, ◌⊎◌, true, false, List, [], ◌∷◌, length, slice_get, Option, Some, None, refl}
 use Rattle.std.proofs.Common.{inl, inr, ap, sym, subst, ◌∙◌}
 use Rattle.std.proofs.lemmas.Option.{slice_get_within}
-use Rattle.hir_facts.specs.declared.ids.ExprId.{ExprId}
-use Rattle.hir_facts.specs.declared.ids.PatId.{PatId}
-use Rattle.hir_facts.specs.declared.ids.TypeRefId.{TypeRefId}
-use Rattle.hir_facts.specs.declared.ids.ExprOrPatId.TheVariants as node
-use Rattle.hir_facts.specs.declared.ty.Ty.{Ty}
-use Rattle.hir_facts.specs.declared.ty.Ty.TheVariants as ty
+use Rattle.hir_types.specs.declared.ids.ExprId.{ExprId}
+use Rattle.hir_types.specs.declared.ids.PatId.{PatId}
+use Rattle.hir_types.specs.declared.ids.TypeRefId.{TypeRefId}
+use Rattle.hir_types.specs.declared.ids.ExprOrPatId.TheVariants as node
+use Rattle.hir_types.specs.declared.ty.Ty.{Ty}
+use Rattle.hir_types.specs.declared.ty.Ty.TheVariants as ty
 use Rattle.hir_facts.specs.declared.raw.RawLiteral.{RawLiteral}
 use Rattle.hir_facts.specs.declared.raw.RawLiteral.TheVariants as literal
 use Rattle.hir_facts.specs.declared.raw.RawPath.TheVariants as path
@@ -18,8 +18,9 @@ use Rattle.hir_facts.specs.declared.raw.RawExpr.TheVariants as expr
 use Rattle.hir_facts.specs.declared.raw.RawPat.{RawPat}
 use Rattle.hir_facts.specs.declared.raw.RawPat.TheVariants as pat
 use Rattle.hir_facts.specs.declared.raw.RawBody.{RawBody}
-use Rattle.hir_facts.specs.Types.{written_type, unit}
-use Rattle.hir_facts.specs.Erasure.{Same}
+use Rattle.hir_types.specs.Types.{unit}
+use Rattle.hir_facts.specs.Types.{written_type}
+use Rattle.hir_types.specs.Erasure.{erased, Same}
 use Rattle.hir_facts.specs.declared.schedule.Schedule.{Schedule}
 use Rattle.hir_facts.specs.Ways.{one_place}
 use Rattle.hir_facts.specs.Order.{Role, root, initializer, let_pattern, Part, Node, the_body, inner, IsNode, IsSchedule, part_at, stmts_of, stmt_at}
@@ -264,7 +265,7 @@ module _ (g : Given) (t : InferenceResult) (h : IsMade g t) where
                 | inl has ↦
                     (let a : u ≡ x.actual = one_at t.type_of_expr e.0 u x.actual (upward e u up) has in
                     let b : s ≡ x.expected = stated_demand e s x.expected st d in
-                    m.differ (sym b ∙ (sym leads ∙ a)))
+                    m.differ (ap erased (sym b) ∙ (sym leads ∙ ap erased a)))
                 | inr block ↦ no_up_of_block e u block.0 up
               ];
         }

@@ -1,6 +1,6 @@
 -- Nodes whose rule a complaint excuses.
 use Rattle.std.specs.Prelude.{◌⊎◌, slice_get, List, [], ◌∷◌, Option, Some, None}
-use Rattle.hir_facts.specs.declared.ids.ExprId.{ExprId}
+use Rattle.hir_types.specs.declared.ids.ExprId.{ExprId}
 use Rattle.hir_facts.specs.declared.raw.RawStmt.{RawStmt}
 use Rattle.hir_facts.specs.declared.raw.RawStmt.TheVariants as stmt
 use Rattle.hir_facts.specs.declared.raw.RawExpr.{RawExpr}

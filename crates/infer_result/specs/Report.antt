@@ -2,15 +2,26 @@
 -- and for each complaint, and the number of complaints last.
 use Rattle.std.specs.Prelude.{ℕ, zero, suc, ◌+◌, List, [], ◌∷◌, ◌++◌, Option, Some, None, codes, count_by, is_some}
 use Rattle.std.specs.Fmt.{decimal}
-use Rattle.hir_facts.specs.declared.ids.DefWithBodyId.{DefWithBodyId}
-use Rattle.hir_facts.specs.declared.ids.DefWithBodyId.TheVariants as def
+use Rattle.hir_types.specs.declared.ids.DefWithBodyId.{DefWithBodyId}
+use Rattle.hir_types.specs.declared.ids.DefWithBodyId.TheVariants as def
 use Rattle.hir_facts.specs.declared.raw.RawFacts.{RawFacts}
-use Rattle.hir_facts.specs.declared.ty.IntTy.{IntTy}
-use Rattle.hir_facts.specs.declared.ty.IntTy.TheVariants as int
-use Rattle.hir_facts.specs.declared.ty.UintTy.{UintTy}
-use Rattle.hir_facts.specs.declared.ty.UintTy.TheVariants as uint
-use Rattle.hir_facts.specs.declared.ty.Ty.{Ty, Ty-F, fold-Ty}
-use Rattle.infer_result.specs.declared.modes.Mutability.TheVariants as mutability
+use Rattle.hir_types.specs.declared.ty.IntTy.{IntTy}
+use Rattle.hir_types.specs.declared.ty.IntTy.TheVariants as int
+use Rattle.hir_types.specs.declared.ty.UintTy.{UintTy}
+use Rattle.hir_types.specs.declared.ty.UintTy.TheVariants as uint
+use Rattle.hir_types.specs.declared.ty.FloatTy.{FloatTy}
+use Rattle.hir_types.specs.declared.ty.FloatTy.TheVariants as float
+use Rattle.hir_types.specs.declared.ty.Mutability.{Mutability}
+use Rattle.hir_types.specs.declared.ty.Mutability.TheVariants as mutability
+use Rattle.hir_types.specs.declared.ty.Safety.{Safety}
+use Rattle.hir_types.specs.declared.ty.Safety.TheVariants as safety
+use Rattle.hir_types.specs.declared.ty.Region.{Region}
+use Rattle.hir_types.specs.declared.ty.Const.{Const}
+use Rattle.hir_types.specs.declared.ty.Const.TheVariants as const
+use Rattle.hir_types.specs.declared.ty.AliasBound.{AliasBound-F}
+use Rattle.hir_types.specs.declared.ty.GenericArg.{GenericArg-F}
+use Rattle.hir_types.specs.declared.ty.TraitRef.{TraitRef-F}
+use Rattle.hir_types.specs.declared.ty.Ty.{Ty, Ty-F, fold-Ty}
 use Rattle.infer_result.specs.declared.modes.BindingMode.{BindingMode}
 use Rattle.infer_result.specs.declared.modes.BindingMode.TheVariants as mode
 use Rattle.infer_result.specs.declared.result.TypeMismatch.{TypeMismatch}
@@ -35,6 +46,37 @@ uint_text uint.U32 = codes "u32"
 uint_text uint.U64 = codes "u64"
 uint_text uint.U128 = codes "u128"
 
+abbrev pub float_text : FloatTy → List ℕ
+float_text float.F16 = codes "f16"
+float_text float.F32 = codes "f32"
+float_text float.F64 = codes "f64"
+float_text float.F128 = codes "f128"
+
+abbrev pub const_text : Const → List ℕ
+const_text (const.Value n) = decimal n
+const_text (const.Param n) = codes "param" ++ decimal n
+const_text const.Unknown = codes "{const}"
+const_text (const.Var n) = codes "?" ++ decimal n
+const_text const.Hole = codes "_"
+
+-- what stands after the `&` of a reference, and the `*` of a raw pointer
+abbrev pub ref_text : Mutability → List ℕ
+ref_text mutability.Not = []
+ref_text mutability.Mut = codes "mut "
+
+abbrev pub ptr_text : Mutability → List ℕ
+ptr_text mutability.Not = codes "const "
+ptr_text mutability.Mut = codes "mut "
+
+-- a label with a space, where there is one
+abbrev pub label_text : List ℕ → List ℕ
+label_text [] = []
+label_text (c ∷ cs) = c ∷ cs ++ codes " "
+
+abbrev pub safety_text : Safety → List ℕ
+safety_text safety.Safe = codes "fn"
+safety_text safety.Unsafe = codes "unsafe fn"
+
 -- what stands before the text at a position
 abbrev pub separator : ℕ → List ℕ
 separator zero = []
@@ -52,18 +94,50 @@ tuple_text [] = codes "()"
 tuple_text (x ∷ []) = codes "(" ++ x ++ codes ",)"
 tuple_text (x ∷ y ∷ ys) = codes "(" ++ joined (x ∷ y ∷ ys) ++ codes ")"
 
--- one level, with the text of each type inside
-abbrev pub text_step : Ty-F (List ℕ) → List ℕ
+-- inputs and output, as of a function
+abbrev pub signature_text : List (List ℕ) → List ℕ → List ℕ
+signature_text ts t = codes "(" ++ joined ts ++ codes ") -> " ++ t
+
+abbrev pub text_arg : GenericArg-F (List ℕ) (List ℕ) (List ℕ) (List ℕ) → List ℕ
+text_arg (GenericArg-F.Ty t) = t
+text_arg (GenericArg-F.Const c) = const_text c
+
+abbrev pub text_bound : AliasBound-F (List ℕ) (List ℕ) (List ℕ) (List ℕ) → List ℕ
+text_bound b = b.ty
+
+abbrev pub text_trait : TraitRef-F (List ℕ) (List ℕ) (List ℕ) (List ℕ) → List ℕ
+text_trait t = joined t.args
+
+-- One level, with the text of each type inside. What is written with names of the facts that they do
+-- not carry yet is `{unknown}`: no type that fits the facts is one.
+abbrev pub text_step : Ty-F (List ℕ) (List ℕ) (List ℕ) (List ℕ) → List ℕ
 text_step Ty-F.Bool = codes "bool"
 text_step Ty-F.Char = codes "char"
 text_step (Ty-F.Int i) = int_text i
 text_step (Ty-F.Uint u) = uint_text u
+text_step (Ty-F.Float f) = float_text f
+text_step Ty-F.Str = codes "str"
+text_step Ty-F.Never = codes "!"
 text_step (Ty-F.Tuple ts) = tuple_text ts
+text_step (Ty-F.Array t c) = codes "[" ++ t ++ codes "; " ++ const_text c ++ codes "]"
+text_step (Ty-F.Slice t) = codes "[" ++ t ++ codes "]"
+text_step (Ty-F.Ref m r t) = codes "&" ++ label_text r.0 ++ ref_text m ++ t
+text_step (Ty-F.RawPtr m t) = codes "*" ++ ptr_text m ++ t
+text_step (Ty-F.Adt i xs) = codes "{unknown}"
+text_step (Ty-F.FnDef i xs) = codes "{unknown}"
+text_step (Ty-F.FnPtr s ts t) = safety_text s ++ signature_text ts t
+text_step (Ty-F.Closure i ts t) = codes "closure e" ++ decimal i.0.0 ++ signature_text ts t
+text_step (Ty-F.Dynamic o bs ts) = codes "{unknown}"
+text_step (Ty-F.Param n) = codes "param" ++ decimal n
+text_step (Ty-F.Projection i xs) = codes "{unknown}"
+text_step (Ty-F.Opaque i xs) = codes "{unknown}"
 text_step Ty-F.Error = codes "{unknown}"
 text_step (Ty-F.Var n) = codes "?" ++ decimal n
+text_step (Ty-F.IntVar n) = codes "?" ++ decimal n
+text_step Ty-F.Hole = codes "_"
 
 abbrev pub ty_text : Ty → List ℕ
-ty_text = fold-Ty (List ℕ) text_step
+ty_text = fold-Ty (List ℕ) (List ℕ) (List ℕ) (List ℕ) text_arg text_step text_bound text_trait
 
 -- the type of a node, where it has one
 abbrev pub type_text : Option Ty → List ℕ

@@ -1,18 +1,18 @@
 -- Types that nodes have by themselves, and types that are written at their places.
 use Rattle.std.specs.Prelude.{ℕ, ◌≡◌, ◌⊎◌, slice_get, Option, Some, None}
-use Rattle.hir_facts.specs.declared.ids.ExprId.{ExprId}
-use Rattle.hir_facts.specs.declared.ids.PatId.{PatId}
-use Rattle.hir_facts.specs.declared.ids.BindingId.{BindingId}
-use Rattle.hir_facts.specs.declared.ids.TypeRefId.{TypeRefId}
-use Rattle.hir_facts.specs.declared.ids.ExprOrPatId.TheVariants as node
-use Rattle.hir_facts.specs.declared.ty.Ty.{Ty}
+use Rattle.hir_types.specs.declared.ids.ExprId.{ExprId}
+use Rattle.hir_types.specs.declared.ids.PatId.{PatId}
+use Rattle.hir_types.specs.declared.ids.BindingId.{BindingId}
+use Rattle.hir_types.specs.declared.ids.TypeRefId.{TypeRefId}
+use Rattle.hir_types.specs.declared.ids.ExprOrPatId.TheVariants as node
+use Rattle.hir_types.specs.declared.ty.Ty.{Ty}
 use Rattle.hir_facts.specs.declared.raw.RawLiteral.{RawLiteral}
 use Rattle.hir_facts.specs.declared.raw.RawPath.TheVariants as path
 use Rattle.hir_facts.specs.declared.raw.RawExpr.TheVariants as expr
 use Rattle.hir_facts.specs.declared.raw.RawPat.TheVariants as pat
 use Rattle.hir_facts.specs.declared.raw.RawBody.{RawBody}
 use Rattle.hir_facts.specs.Types.{written_type}
-use Rattle.hir_facts.specs.Erasure.{Same}
+use Rattle.hir_types.specs.Erasure.{Same}
 use Rattle.hir_facts.specs.Order.{Role, root, initializer, let_pattern, Node}
 use Rattle.infer_result.specs.Places.{Given, StandsAt}
 use Rattle.infer_result.specs.Rules.Literals.{IsOwnType}

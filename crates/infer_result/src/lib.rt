@@ -4,5 +4,6 @@
 mod modes;
 mod result;
 
-pub use modes::{BindingMode, Mutability};
+pub use hir_types::Mutability;
+pub use modes::BindingMode;
 pub use result::{InferenceResult, TypeMismatch};

@@ -1,11 +1,6 @@
 //! How a pattern binds.
 
-/// Whether a reference allows writing.
-#[derive(Clone, Copy, Debug, PartialEq, Eq, Hash, PartialOrd, Ord)]
-pub enum Mutability {
-    Not,
-    Mut,
-}
+use hir_types::Mutability;
 
 /// How a binding takes what its pattern matches: the value itself, or a reference to it.
 #[derive(Clone, Copy, Debug, PartialEq, Eq)]

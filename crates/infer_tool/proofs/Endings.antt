@@ -8,7 +8,7 @@ use Rattle.infer_result.specs.declared.result.InferenceResult.{InferenceResult}
 use Rattle.infer_result.specs.Report.{report, complaint_count}
 use Rattle.infer_result.specs.Typed.{IsTableOf}
 use Rattle.infer_tool.specs.Causes.{Rose}
-use Rattle.hir_facts.specs.declared.ids.DefWithBodyId.{DefWithBodyId}
+use Rattle.hir_types.specs.declared.ids.DefWithBodyId.{DefWithBodyId}
 use Rattle.hir_facts.specs.declared.raw.RawFacts.{RawFacts}
 use Rattle.infer_tool.specs.declared.text.fault.ReadError.{ReadError}
 use Rattle.infer_tool.specs.declared.text.fault.ReadError.TheVariants as error

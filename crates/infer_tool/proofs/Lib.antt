@@ -5,3 +5,4 @@ pub mod Lines
 pub mod Pieces
 pub mod Three
 pub mod Endings
+pub mod TypeTexts

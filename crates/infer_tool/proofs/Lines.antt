@@ -1,7 +1,7 @@
 -- Texts written piece by piece: types joined by commas, and lines.
 use Rattle.std.proofs.Common.{◌≡◌, ◌++◌, List, [], ◌∷◌, map, ℕ, ◌+◌, ◌<◌, ◌≤◌, length, take, drop, get_or, refl, sym, ap, ◌∙◌, append_assoc, add-one, drop-cons, arith, codes}
 use Rattle.std.proofs.lemmas.List.{map_more, length-take-le, length-map, drop_all, append-nil}
-use Rattle.hir_facts.specs.declared.ty.Ty.{Ty}
+use Rattle.hir_types.specs.declared.ty.Ty.{Ty}
 use Rattle.infer_result.specs.Report.{ty_text, joined, separator, lines_from}
 
 push_joined : (xs : List (List ℕ)) (x : List ℕ) → joined (xs ++ x ∷ []) ≡ joined xs ++ separator (length xs) ++ x

@@ -1,6 +1,6 @@
 -- Three words that are a command.
 use Rattle.std.proofs.Common.{◌≡◌, ℕ, ◌<◌, ◌≤◌, List, [], ◌∷◌, length, map, get_or, Option, Some, None, IfSome, codes, refl, ◌∙◌, arith}
-use Rattle.hir_facts.specs.declared.ids.DefWithBodyId.{DefWithBodyId}
+use Rattle.hir_types.specs.declared.ids.DefWithBodyId.{DefWithBodyId}
 use Rattle.infer_tool.specs.Command.{IsNamed, IsCommand}
 
 -- a list of three

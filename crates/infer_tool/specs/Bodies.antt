@@ -1,7 +1,7 @@
 -- What stands for bodies and their nodes.
 use Rattle.std.specs.Prelude.{ℕ, List, [], Option, Some, None, Result, Ok, Err, codes, if◌then◌else◌}
 use Rattle.serde_json.specs.Data.{Data}
-use Rattle.hir_facts.specs.declared.ids.BindingId.{BindingId}
+use Rattle.hir_types.specs.declared.ids.BindingId.{BindingId}
 use Rattle.hir_facts.specs.declared.raw.Other.{Other}
 use Rattle.hir_facts.specs.declared.raw.RawLiteral.{RawLiteral}
 use Rattle.hir_facts.specs.declared.raw.RawLiteral.TheVariants as literal

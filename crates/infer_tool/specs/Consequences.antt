@@ -5,8 +5,8 @@ use Rattle.std.proofs.lemmas.List.{append-nil, length-append}
 use Rattle.std.proofs.lemmas.Fmt.{decimal_injective}
 use Rattle.std.specs.Fmt.{decimal}
 use Rattle.std.specs.Io.KnownBytes.{Consumes, IsAtEnd}
-use Rattle.hir_facts.specs.declared.ids.DefWithBodyId.{DefWithBodyId}
-use Rattle.hir_facts.specs.declared.ids.DefWithBodyId.TheVariants as def
+use Rattle.hir_types.specs.declared.ids.DefWithBodyId.{DefWithBodyId}
+use Rattle.hir_types.specs.declared.ids.DefWithBodyId.TheVariants as def
 use Rattle.infer_tool.specs.declared.run.Ran.{Ran}
 use Rattle.infer_tool.specs.Causes.{Rose}
 use Rattle.infer_tool.specs.Command.{IsCommand, kind_word, number_in}

@@ -4,25 +4,25 @@ use Rattle.std.specs.Str.{bytes_eq}
 use Rattle.serde_json.specs.Data.{Data}
 use Rattle.serde_json.specs.Find.{as_str}
 use Rattle.infer_tool.specs.Reading.{◌>>=◌, there, u32_in}
-use Rattle.hir_facts.specs.declared.ids.ModuleId.{ModuleId}
-use Rattle.hir_facts.specs.declared.ids.TraitId.{TraitId}
-use Rattle.hir_facts.specs.declared.ids.TypeRefId.{TypeRefId}
-use Rattle.hir_facts.specs.declared.ids.BodyId.{BodyId}
-use Rattle.hir_facts.specs.declared.ids.ExprId.{ExprId}
-use Rattle.hir_facts.specs.declared.ids.PatId.{PatId}
-use Rattle.hir_facts.specs.declared.ids.BindingId.{BindingId}
-use Rattle.hir_facts.specs.declared.ids.LabelId.{LabelId}
+use Rattle.hir_types.specs.declared.ids.ModuleId.{ModuleId}
+use Rattle.hir_types.specs.declared.ids.TraitId.{TraitId}
+use Rattle.hir_types.specs.declared.ids.TypeRefId.{TypeRefId}
+use Rattle.hir_types.specs.declared.ids.BodyId.{BodyId}
+use Rattle.hir_types.specs.declared.ids.ExprId.{ExprId}
+use Rattle.hir_types.specs.declared.ids.PatId.{PatId}
+use Rattle.hir_types.specs.declared.ids.BindingId.{BindingId}
+use Rattle.hir_types.specs.declared.ids.LabelId.{LabelId}
 use Rattle.hir_facts.specs.declared.raw.Other.{Other}
 use Rattle.hir_facts.specs.declared.raw.Edition.{Edition}
 use Rattle.hir_facts.specs.declared.raw.Edition.TheVariants as edition
 use Rattle.hir_facts.specs.declared.raw.BindingAnnotation.{BindingAnnotation}
 use Rattle.hir_facts.specs.declared.raw.BindingAnnotation.TheVariants as mode
-use Rattle.hir_facts.specs.declared.ty.IntTy.{IntTy}
-use Rattle.hir_facts.specs.declared.ty.IntTy.TheVariants as int
-use Rattle.hir_facts.specs.declared.ty.UintTy.{UintTy}
-use Rattle.hir_facts.specs.declared.ty.UintTy.TheVariants as uint
-use Rattle.hir_facts.specs.declared.ty.IntegerTy.{IntegerTy}
-use Rattle.hir_facts.specs.declared.ty.IntegerTy.TheVariants as integer
+use Rattle.hir_types.specs.declared.ty.IntTy.{IntTy}
+use Rattle.hir_types.specs.declared.ty.IntTy.TheVariants as int
+use Rattle.hir_types.specs.declared.ty.UintTy.{UintTy}
+use Rattle.hir_types.specs.declared.ty.UintTy.TheVariants as uint
+use Rattle.hir_types.specs.declared.ty.IntegerTy.{IntegerTy}
+use Rattle.hir_types.specs.declared.ty.IntegerTy.TheVariants as integer
 use Rattle.infer_tool.specs.declared.text.leaves.Profile.{Profile}
 
 -- ---- ids

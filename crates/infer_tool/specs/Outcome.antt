@@ -1,7 +1,7 @@
 -- What a run of the command does, by the status that it ends with.
 use Rattle.std.specs.Prelude.{◌≡◌, ◌==◌, ◌||◌, ◌&&◌, ◌<◌, ◌≤◌, ◌+◌, ◌↔◌, ℕ, List, length, take, Bool, Option, Some, Err, is_some, nat_lt, nat_le, if◌then◌else◌}
 use Rattle.std.specs.Io.KnownBytes.{Appends, Consumes, IsAtEnd, Keeps}
-use Rattle.hir_facts.specs.declared.ids.DefWithBodyId.{DefWithBodyId}
+use Rattle.hir_types.specs.declared.ids.DefWithBodyId.{DefWithBodyId}
 use Rattle.hir_facts.specs.declared.raw.RawFacts.{RawFacts}
 use Rattle.hir_facts.specs.declared.laws.Law.{Law}
 use Rattle.hir_facts.specs.declared.laws.FactsList.{FactsList}

@@ -2,7 +2,7 @@
 ghost use Rattle.std.specs.Prelude.{◌≡◌, ◌<◌, ◌^◌, ℕ, map, IfSome, IfNone};
 ghost use Rattle.std.specs.Fmt.{decimal};
 ghost use Rattle.std.specs.Rc.{rc_str_bytes};
-ghost use Rattle.hir_facts.specs.declared.ids.DefWithBodyId.{DefWithBodyId};
+ghost use Rattle.hir_types.specs.declared.ids.DefWithBodyId.{DefWithBodyId};
 ghost use Rattle.infer_tool.specs.Command.{kind_word, number_in, IsNamed, IsCommand};
 
 use hir_facts::{ConstId, DefWithBodyId, FunctionId, StaticId, VariantId};

@@ -1,6 +1,6 @@
 -- Which patterns bind each binding of a body.
 use Rattle.std.specs.Prelude.{ℕ, ◌+◌, Bool, true, false, ◌||◌, ◌==◌, nat_lt, List, length, map, slice_index, slice_index_or, Option, Some, None, option_map, IsTrue, ◌<◌}
-use Rattle.hir_facts.specs.declared.ids.BindingId.{BindingId}
+use Rattle.hir_types.specs.declared.ids.BindingId.{BindingId}
 use Rattle.hir_facts.specs.declared.raw.RawPath.TheVariants as path
 use Rattle.hir_facts.specs.declared.raw.RawExpr.{RawExpr}
 use Rattle.hir_facts.specs.declared.raw.RawExpr.TheVariants as expr

@@ -1,7 +1,7 @@
 -- A function has as many inputs as its body has parameters, `self` counted.
 use Rattle.std.specs.Prelude.{ℕ, ◌+◌, ◌≡◌, length, slice_get, Option, Some, None}
-use Rattle.hir_facts.specs.declared.ids.BindingId.{BindingId}
-use Rattle.hir_facts.specs.declared.ids.BodyId.{BodyId}
+use Rattle.hir_types.specs.declared.ids.BindingId.{BindingId}
+use Rattle.hir_types.specs.declared.ids.BodyId.{BodyId}
 use Rattle.hir_facts.specs.declared.raw.RawFn.{RawFn}
 use Rattle.hir_facts.specs.declared.raw.RawBody.{RawBody}
 use Rattle.hir_facts.specs.declared.raw.RawFacts.{RawFacts}

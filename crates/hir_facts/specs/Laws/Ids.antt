@@ -1,11 +1,11 @@
 -- Ids are in range, and smaller where a list asks for it; each body is that of one definition.
 use Rattle.std.specs.Prelude.{ℕ, ◌<◌, ◌≡◌, length, slice_get, Option, Some, None, IfSome}
-use Rattle.hir_facts.specs.declared.ids.ModuleId.{ModuleId}
-use Rattle.hir_facts.specs.declared.ids.TypeRefId.{TypeRefId}
-use Rattle.hir_facts.specs.declared.ids.TraitId.{TraitId}
-use Rattle.hir_facts.specs.declared.ids.BindingId.{BindingId}
-use Rattle.hir_facts.specs.declared.ids.ExprId.{ExprId}
-use Rattle.hir_facts.specs.declared.ids.PatId.{PatId}
+use Rattle.hir_types.specs.declared.ids.ModuleId.{ModuleId}
+use Rattle.hir_types.specs.declared.ids.TypeRefId.{TypeRefId}
+use Rattle.hir_types.specs.declared.ids.TraitId.{TraitId}
+use Rattle.hir_types.specs.declared.ids.BindingId.{BindingId}
+use Rattle.hir_types.specs.declared.ids.ExprId.{ExprId}
+use Rattle.hir_types.specs.declared.ids.PatId.{PatId}
 use Rattle.hir_facts.specs.declared.raw.RawType.{RawType}
 use Rattle.hir_facts.specs.declared.raw.RawType.TheVariants as type
 use Rattle.hir_facts.specs.declared.raw.RawAt.{RawAt}

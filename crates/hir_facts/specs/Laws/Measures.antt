@@ -2,8 +2,9 @@
 use Rattle.std.specs.Prelude.{ℕ, ◌+◌, ◌<◌, ◌≡◌, List, length, map, sum, min, slice_index}
 use Rattle.hir_facts.specs.declared.raw.RawType.{RawType}
 use Rattle.hir_facts.specs.declared.raw.RawType.TheVariants as type
-use Rattle.hir_facts.specs.declared.ty.Ty.{Ty}
-use Rattle.hir_facts.specs.Types.{most, lowered}
+use Rattle.hir_types.specs.declared.ty.Ty.{Ty}
+use Rattle.hir_types.specs.Types.{most}
+use Rattle.hir_facts.specs.Types.{lowered}
 
 -- how many levels a type has, where type t of the list has f t
 abbrev pub depth_by : (ℕ → ℕ) → RawType → ℕ

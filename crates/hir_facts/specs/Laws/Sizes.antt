@@ -7,7 +7,8 @@ use Rattle.hir_facts.specs.declared.raw.RawExpr.TheVariants as expr
 use Rattle.hir_facts.specs.declared.raw.RawBody.{RawBody}
 use Rattle.hir_facts.specs.declared.raw.RawFacts.{RawFacts}
 use Rattle.hir_facts.specs.Order.{IsLow}
-use Rattle.hir_facts.specs.Types.{lowered, depth, size}
+use Rattle.hir_types.specs.Types.{depth, size}
+use Rattle.hir_facts.specs.Types.{lowered}
 
 -- a list of at most 2 ^ 20 entries
 abbrev pub IsShort : {A : Type 0} → List A → Type 0

@@ -1,16 +1,16 @@
 //! The ids of a body are in range.
 ghost use Rattle.std.specs.Prelude.{◌≡◌, ◌↔◌, ◌<◌, ℕ, Some, slice_get, length, map, IsTrue, IfOk, option_map};
-ghost use Rattle.hir_facts.specs.declared.ids.TraitId.{TraitId};
+ghost use Rattle.hir_types.specs.declared.ids.TraitId.{TraitId};
 ghost use Rattle.hir_facts.specs.Order.{binding_of};
 ghost use Rattle.hir_facts.specs.Laws.Namers.{IsOne};
 ghost use Rattle.hir_facts.specs.Laws.InBody.{MaybeExprExists, MaybeTypeExists, MaybeBindingExists, StmtIdsExist, StmtsIdsExist, ElementsExist, PathExists, ExprIdsExist, ExprsIdsExist, PatsIdsExist, ParamsExist, BodyIdsHere, owned_body, AreOwners};
 ghost use Rattle.hir_facts.specs.Laws.Entries.{AllHold};
 ghost use Rattle.hir_facts.specs.Laws.Ids.{FnIdsExist, BodyIdsExist};
 
-use crate::ids::{BindingId, ExprId, PatId, TraitId, TypeRefId};
 use crate::laws::namers::{Namers, namers_of};
 use crate::laws::test::Test;
 use crate::raw::{RawBody, RawExpr, RawFacts, RawFn, RawPat, RawPath, RawStmt};
+use hir_types::{BindingId, ExprId, PatId, TraitId, TypeRefId};
 use std::alloc::{AllocError, Global};
 
 fn has_maybe_expr(body: &RawBody, e: &Option<ExprId>) -> bool

@@ -8,9 +8,9 @@ ghost use Rattle.hir_facts.specs.Laws.Sizes.{ExprIsShort, BodyIsSmall};
 use crate::laws::scopes::MOST_STEPS;
 use crate::laws::sizes::{is_early, is_short};
 use crate::laws::test::Test;
-use crate::list::List;
 use crate::raw::{RawBody, RawExpr, RawFacts};
 use crate::schedule::{Schedule, is_low};
+use hir_types::List;
 use std::alloc::{AllocError, Global};
 
 fn is_short_expr(expr: &RawExpr) -> bool

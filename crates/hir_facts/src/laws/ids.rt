@@ -1,13 +1,13 @@
 //! Ids are in range, and smaller where a list asks for it; each body is that of one definition.
 ghost use Rattle.std.specs.Prelude.{◌≡◌, ◌↔◌, ◌<◌, ◌≤◌, ℕ, Some, None, slice_get, length, IsTrue, IfOk, IfSome, option_map, map, slice_index_or};
-ghost use Rattle.hir_facts.specs.declared.ids.TypeRefId.{TypeRefId};
-ghost use Rattle.hir_facts.specs.declared.ids.TraitId.{TraitId};
+ghost use Rattle.hir_types.specs.declared.ids.TypeRefId.{TypeRefId};
+ghost use Rattle.hir_types.specs.declared.ids.TraitId.{TraitId};
 ghost use Rattle.hir_facts.specs.Laws.Entries.{AllHold};
 ghost use Rattle.hir_facts.specs.Laws.Ids.{ChildrenBefore, ParentBefore, PlaceExists, VisExists, FnIdsExist, BodyIdsExist};
 
-use crate::ids::{ModuleId, TypeRefId};
 use crate::laws::test::Test;
 use crate::raw::{RawAt, RawFacts, RawFn, RawType, RawVis};
+use hir_types::{ModuleId, TypeRefId};
 use std::alloc::{AllocError, Global};
 
 fn are_below(types: &[TypeRefId], bound: usize) -> bool

@@ -1,7 +1,7 @@
 //! A local names a binding that the walk has typed before.
 ghost use Rattle.std.specs.Prelude.{◌≡◌, ◌↔◌, ◌<◌, ◌≤◌, ◌+◌, ℕ, Some, IsTrue, IfOk, length, slice_get, slice_index_or};
 ghost use Rattle.hir_facts.specs.Order.{PartsFit, IsTree, IsSchedule, AreDepths, node_count};
-ghost use Rattle.hir_facts.specs.declared.ids.BindingId.{BindingId};
+ghost use Rattle.hir_types.specs.declared.ids.BindingId.{BindingId};
 ghost use Rattle.hir_facts.specs.declared.laws.namers.Namers.TheVariants.{Nobody};
 ghost use Rattle.hir_facts.specs.declared.raw.RawExpr.TheVariants.{Path};
 ghost use Rattle.hir_facts.specs.declared.raw.RawPath.TheVariants.{Local};
@@ -16,9 +16,9 @@ ghost use Rattle.hir_facts.specs.Laws.Scheduled.{AreSchedules};
 use crate::laws::namers::Namers;
 use crate::laws::test::Test;
 use crate::laws::trees::{binders_of, is_self};
-use crate::list::List;
 use crate::raw::{RawBody, RawExpr, RawFacts, RawPath};
 use crate::schedule::{Schedule, is_low, schedule_of};
+use hir_types::List;
 use std::alloc::{AllocError, Global};
 
 /// The most steps that a way from a body takes.

@@ -1,15 +1,15 @@
 //! How long lists may be, and how deep types.
 ghost use Rattle.std.specs.Prelude.{◌≡◌, ◌↔◌, ◌+◌, ◌<◌, ℕ, Some, map, max, min, sum, length, slice_get, slice_index, IsTrue, IfOk, List};
-ghost use Rattle.hir_facts.specs.declared.ids.TypeRefId.{TypeRefId};
-ghost use Rattle.hir_facts.specs.Types.{most, depth, size};
+ghost use Rattle.hir_types.specs.declared.ids.TypeRefId.{TypeRefId};
+ghost use Rattle.hir_types.specs.Types.{most, depth, size};
 ghost use Rattle.hir_facts.specs.Laws.Entries.{AllHold};
 ghost use Rattle.hir_facts.specs.Laws.Ids.{ChildrenBefore};
 ghost use Rattle.hir_facts.specs.Laws.Sizes.{IsShort, IsEarly, PartsAreShort, TypeIsSmall};
 ghost use Rattle.hir_facts.specs.Laws.Measures.{depth_by, size_by, AreMeasures};
 
-use crate::ids::{ModuleId, TypeRefId};
 use crate::laws::test::Test;
 use crate::raw::{RawFacts, RawFn, RawType};
+use hir_types::{ModuleId, TypeRefId};
 use std::alloc::{AllocError, Global};
 
 /// How many entries a list may have.
@@ -158,7 +158,7 @@ impl TypeSizes {
 
 impl Test for TypeSizes {
     ghost use Rattle.std.specs.Prelude.{◌≡◌, length};
-    ghost use Rattle.hir_facts.specs.Types.{depth, size};
+    ghost use Rattle.hir_types.specs.Types.{depth, size};
     ghost use Rattle.hir_facts.specs.Laws.Sizes.{TypeIsSmall};
     ghost use Rattle.hir_facts.specs.Laws.Measures.{AreMeasures};
 

@@ -8,12 +8,12 @@ ghost use Rattle.hir_facts.specs.Laws.InBody.{PatsIdsExist};
 ghost use Rattle.hir_facts.specs.Laws.Binders.{bound_binding, AreBinders, is_self, is_bound_once};
 ghost use Rattle.hir_facts.specs.Laws.Trees.{IsWellFormed};
 
-use crate::ids::BindingId;
 use crate::laws::body_ids::binding_of;
 use crate::laws::namers::{Namers, namers_of};
 use crate::laws::test::Test;
 use crate::raw::{RawBody, RawFacts, RawPat};
 use crate::schedule::schedule_of;
+use hir_types::BindingId;
 use std::alloc::{AllocError, Global};
 
 fn bound_binding(pat: &RawPat) -> Option<usize>

@@ -1,16 +1,18 @@
 -- The table of the first run, `fn f() -> u8 { let x = 1u8; x }`, is typed; tables that are wrong at one node are not.
 use Rattle.std.proofs.Common.{◌+◌, ◌<◌, ◌≡◌, inl, inr, Bool, true, false, List, [], ◌∷◌, refl, sym, ap, ◌∙◌, arith, Option, Some, None, slice_get}
-use Rattle.hir_facts.specs.declared.ids.ExprOrPatId.TheVariants as node
-use Rattle.hir_facts.specs.declared.ty.Ty.{Ty, Ty-F, out-Ty, fold-roll-Ty}
-use Rattle.hir_facts.specs.declared.ty.Ty.TheVariants as ty
-use Rattle.hir_facts.specs.declared.ty.UintTy.TheVariants as uint
+use Rattle.hir_types.specs.declared.ids.ExprOrPatId.TheVariants as node
+use Rattle.hir_types.specs.declared.ty.Ty.{Ty, Ty-F, out-Ty, fold-roll-Ty}
+use Rattle.hir_types.specs.declared.ty.Ty.TheVariants as ty
+use Rattle.hir_types.specs.declared.ty.UintTy.TheVariants as uint
+use Rattle.hir_types.specs.declared.ty.IntegerTy.TheVariants as integer
 use Rattle.hir_facts.specs.declared.raw.RawPath.TheVariants as path
 use Rattle.hir_facts.specs.declared.raw.RawStmt.TheVariants as stmt
 use Rattle.hir_facts.specs.declared.raw.RawExpr.TheVariants as expr
 use Rattle.hir_facts.specs.declared.raw.RawPat.TheVariants as pat
 use Rattle.hir_facts.specs.declared.raw.RawBody.{RawBody}
 use Rattle.hir_facts.specs.declared.schedule.Schedule.{Schedule}
-use Rattle.hir_facts.specs.Erasure.{has_hole, hole_step, IsClosed}
+use Rattle.hir_types.specs.Erasure.{erased, Same, has_hole, hole_arg, hole_step, hole_bound, hole_trait, IsClosed}
+use Rattle.hir_facts.specs.CarriedTypes.{carried_integer, same_carried}
 use Rattle.hir_facts.specs.Order.{initializer, tail, the_body, inner, IsSchedule, start, end, after, Fits, parts}
 use Rattle.infer_result.specs.declared.result.InferenceResult.{InferenceResult}
 use Rattle.infer_result.specs.declared.result.TypeMismatch.{TypeMismatch}
@@ -91,6 +93,9 @@ u16 = ty.Uint uint.U16
 differ : u8 ≡ u16 → ⊥
 differ h = (let k : Ty-F.Uint uint.U8 ≡ Ty-F.Uint uint.U16 = sym (top_uint uint.U8) ∙ (ap out-Ty h ∙ top_uint uint.U16) in cc)
 
+differs : Same u8 u16 → ⊥
+differs h = differ (same_carried u8 u16 (carried_integer (integer.Uint uint.U8)) (carried_integer (integer.Uint uint.U16)) h)
+
 -- another type at the literal
 pub other_type : IsTyped given (table_of (Some u16 ∷ Some u8 ∷ Some u8 ∷ []) (None ∷ None ∷ None ∷ [])) → ⊥
 other_type h = (let c = h.clauses (e 0) (omega arith) in differ (sym c.2 ∙ sym (only u16 c.0 c.1)))
@@ -104,13 +109,13 @@ pub other_block : IsTyped given (table_of (Some u8 ∷ Some u8 ∷ Some u16 ∷ 
 other_block h =
     (let c = h.body_clause in
     let at : u16 ≡ c.0 = only u16 c.0 c.1 in
-    elim c.2 [ inl same ↦ differ (sym (at ∙ same)) | inr m ↦ (let clash = m in cc) ])
+    elim c.2 [ inl same ↦ differs (sym (ap erased at ∙ same)) | inr m ↦ (let clash = m in cc) ])
 
 -- a hole
 pub a_hole : IsTyped given (table_of (Some u8 ∷ Some (ty.Var 0) ∷ Some u8 ∷ []) (None ∷ None ∷ None ∷ [])) → ⊥
 a_hole h =
     (let closed : has_hole (ty.Var 0) ≡ false = h.closed.exprs 1 (ty.Var 0) refl in
-    let open_ : has_hole (ty.Var 0) ≡ true = ap has_hole (sym (ty.rolls-Var 0)) ∙ fold-roll-Ty Bool hole_step (Ty-F.Var 0) in
+    let open_ : has_hole (ty.Var 0) ≡ true = ap has_hole (sym (ty.rolls-Var 0)) ∙ fold-roll-Ty Bool Bool Bool Bool hole_arg hole_step hole_bound hole_trait (Ty-F.Var 0) in
     let clash : false ≡ true = sym closed ∙ open_ in cc)
 
 -- a node without a type

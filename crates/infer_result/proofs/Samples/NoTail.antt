@@ -1,15 +1,15 @@
 -- `fn f() -> u8 { let x = 1u8; }`: the block has the expected type, and the mismatch stands at it.
-use Rattle.std.proofs.Common.{ℕ, zero, suc, ◌+◌, ◌<◌, ◌≡◌, inl, inr, List, [], ◌∷◌, refl, sym, subst, ◌∙◌, arith, Option, Some, None, slice_get}
-use Rattle.hir_facts.specs.declared.ids.ExprOrPatId.TheVariants as node
-use Rattle.hir_facts.specs.declared.ty.Ty.{Ty}
-use Rattle.hir_facts.specs.declared.ty.UintTy.TheVariants as uint
+use Rattle.std.proofs.Common.{ℕ, zero, suc, ◌+◌, ◌<◌, ◌≡◌, inl, inr, List, [], ◌∷◌, refl, sym, ap, subst, ◌∙◌, arith, Option, Some, None, slice_get}
+use Rattle.hir_types.specs.declared.ids.ExprOrPatId.TheVariants as node
+use Rattle.hir_types.specs.declared.ty.Ty.{Ty}
+use Rattle.hir_types.specs.declared.ty.UintTy.TheVariants as uint
 use Rattle.hir_facts.specs.declared.raw.RawStmt.TheVariants as stmt
 use Rattle.hir_facts.specs.declared.raw.RawExpr.TheVariants as expr
 use Rattle.hir_facts.specs.declared.raw.RawPat.TheVariants as pat
 use Rattle.hir_facts.specs.declared.raw.RawBody.{RawBody}
 use Rattle.hir_facts.specs.declared.schedule.Schedule.{Schedule}
-use Rattle.hir_facts.specs.Types.{unit}
-use Rattle.hir_facts.specs.Erasure.{IsClosed}
+use Rattle.hir_types.specs.Types.{unit}
+use Rattle.hir_types.specs.Erasure.{erased, IsClosed}
 use Rattle.hir_facts.specs.Order.{root, the_body, inner, IsSchedule, start, end, after, Fits, parts}
 use Rattle.infer_result.specs.declared.result.InferenceResult.{InferenceResult}
 use Rattle.infer_result.specs.declared.result.TypeMismatch.{TypeMismatch}
@@ -21,7 +21,7 @@ use Rattle.infer_result.specs.Rules.Patterns.{PatRule}
 use Rattle.infer_result.specs.Made.{IsMisfit, IsMade}
 use Rattle.infer_result.specs.Typed.{IsTyped}
 use Rattle.infer_result.specs.Derived.{typed_by_schedule}
-use Rattle.infer_result.proofs.Samples.Small.{e, p, b, u8, one_u8, plain, body_of, each_below, each_node, apart_by, only, each_entry, closed_uint, closed_unit, u8_is_no_unit}
+use Rattle.infer_result.proofs.Samples.Small.{e, p, b, u8, one_u8, plain, body_of, each_below, each_node, apart_by, only, each_entry, closed_uint, closed_unit, u8_differs_unit}
 
 abbrev body : RawBody
 body = body_of (expr.Lit one_u8 ∷ expr.Block None (stmt.Let (p 0) None (Some (e 0)) None ∷ []) None ∷ []) 1 (pat.Bind (b 0) None ∷ []) (plain ∷ [])
@@ -79,7 +79,7 @@ right_made = record {
   where
     misfit : (k : ℕ) (m : TypeMismatch) → At right.expr_mismatches k m → IsMisfit given right (e k) m
     misfit zero m at = absurd (cc)
-    misfit (suc zero) m at = subst (λ y. IsMisfit given right (e 1) y) (only (mismatch u8 unit) m at) (record { differ = u8_is_no_unit; actual = inr (record { label = None; stmts = stmt.Let (p 0) None (Some (e 0)) None ∷ []; is_block = refl }, refl) })
+    misfit (suc zero) m at = subst (λ y. IsMisfit given right (e 1) y) (only (mismatch u8 unit) m at) (record { differ = u8_differs_unit; actual = inr (record { label = None; stmts = stmt.Let (p 0) None (Some (e 0)) None ∷ []; is_block = refl }, refl) })
     misfit (suc (suc k)) m at = absurd (cc)
 
     demand : (k : ℕ) (m : TypeMismatch) → At right.expr_mismatches k m → Demand given right (e k) m.expected
@@ -97,4 +97,4 @@ pub in_silence : IsTyped given (table_of (Some u8 ∷ Some u8 ∷ []) (None ∷ 
 in_silence h =
     (let c = h.clauses (e 1) (omega arith) in
     let s : u8 ≡ c.1.0 = only u8 c.1.0 c.1.1 in
-    elim c.1.2 [ inl same ↦ u8_is_no_unit (s ∙ sym same) | inr m ↦ (let clash = m in cc) ])
+    elim c.1.2 [ inl same ↦ u8_differs_unit (ap erased s ∙ sym same) | inr m ↦ (let clash = m in cc) ])

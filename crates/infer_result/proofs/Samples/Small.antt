@@ -2,15 +2,15 @@
 use Rattle.std.proofs.Common.{ℕ, zero, suc, ◌<◌, ◌≡◌, inl, inr, Bool, List, [], ◌∷◌, length, refl, sym, ap, subst, ◌∙◌, arith, Option, Some, None, slice_get}
 use Rattle.std.specs.Prelude.{codes}
 use Rattle.std.proofs.Math.Nat.{eq-or-lt_of_le}
-use Rattle.hir_facts.specs.declared.ids.ExprId.{ExprId}
-use Rattle.hir_facts.specs.declared.ids.PatId.{PatId}
-use Rattle.hir_facts.specs.declared.ids.BindingId.{BindingId}
-use Rattle.hir_facts.specs.declared.ids.ExprOrPatId.TheVariants as node
-use Rattle.hir_facts.specs.declared.ty.UintTy.{UintTy}
-use Rattle.hir_facts.specs.declared.ty.UintTy.TheVariants as uint
-use Rattle.hir_facts.specs.declared.ty.Ty.{Ty, Ty-F, out-Ty, out-roll-Ty, fold-roll-Ty}
-use Rattle.hir_facts.specs.declared.ty.Ty.TheVariants as ty
-use Rattle.hir_facts.specs.declared.ty.IntegerTy.TheVariants as integer
+use Rattle.hir_types.specs.declared.ids.ExprId.{ExprId}
+use Rattle.hir_types.specs.declared.ids.PatId.{PatId}
+use Rattle.hir_types.specs.declared.ids.BindingId.{BindingId}
+use Rattle.hir_types.specs.declared.ids.ExprOrPatId.TheVariants as node
+use Rattle.hir_types.specs.declared.ty.UintTy.{UintTy}
+use Rattle.hir_types.specs.declared.ty.UintTy.TheVariants as uint
+use Rattle.hir_types.specs.declared.ty.Ty.{Ty, Ty-F, out-Ty, out-roll-Ty}
+use Rattle.hir_types.specs.declared.ty.Ty.TheVariants as ty
+use Rattle.hir_types.specs.declared.ty.IntegerTy.TheVariants as integer
 use Rattle.hir_facts.specs.declared.raw.RawLiteral.{RawLiteral}
 use Rattle.hir_facts.specs.declared.raw.RawLiteral.TheVariants as literal
 use Rattle.hir_facts.specs.declared.raw.RawExpr.{RawExpr}
@@ -19,7 +19,9 @@ use Rattle.hir_facts.specs.declared.raw.RawBinding.{RawBinding}
 use Rattle.hir_facts.specs.declared.raw.BindingAnnotation.TheVariants as annotation
 use Rattle.hir_facts.specs.declared.raw.RawBody.{RawBody}
 use Rattle.hir_facts.specs.declared.schedule.Schedule.{Schedule}
-use Rattle.hir_facts.specs.Erasure.{has_hole, hole_step, IsClosed}
+use Rattle.hir_types.specs.Erasure.{IsClosed, Same}
+use Rattle.hir_types.specs.Layers.{has_hole_tuple, has_hole_bool, has_hole_integer}
+use Rattle.hir_facts.specs.CarriedTypes.{carried_bool, carried_integer, carried_tuple, same_carried}
 use Rattle.hir_facts.specs.Order.{Role, Part, Node, the_body, inner, IsNode, IsSchedule, start, part_at}
 use Rattle.hir_facts.specs.Ways.{one_place}
 use Rattle.infer_result.specs.declared.result.InferenceResult.{InferenceResult}
@@ -123,13 +125,13 @@ each_entry P (Some y ∷ xs) h (suc n) x at = each_entry P xs h.1 n x at
 -- ---- types
 
 pub closed_uint : (i : UintTy) → IsClosed (ty.Uint i)
-closed_uint i = ap has_hole (sym (ty.rolls-Uint i)) ∙ fold-roll-Ty Bool hole_step (Ty-F.Uint i)
+closed_uint i = has_hole_integer (integer.Uint i)
 
 pub closed_bool : IsClosed ty.Bool
-closed_bool = ap has_hole (sym ty.rolls-Bool) ∙ fold-roll-Ty Bool hole_step Ty-F.Bool
+closed_bool = has_hole_bool
 
 pub closed_unit : IsClosed (ty.Tuple [])
-closed_unit = ap has_hole (sym (ty.rolls-Tuple [])) ∙ fold-roll-Ty Bool hole_step (Ty-F.Tuple [])
+closed_unit = has_hole_tuple []
 
 pub top_uint : (i : UintTy) → out-Ty (ty.Uint i) ≡ Ty-F.Uint i
 top_uint i = ap out-Ty (sym (ty.rolls-Uint i)) ∙ out-roll-Ty (Ty-F.Uint i)
@@ -151,3 +153,11 @@ u8_is_no_unit h = (let k : Ty-F.Uint uint.U8 ≡ Ty-F.Tuple [] = sym (top_uint u
 
 pub bool_is_no_error : ty.Bool ≡ ty.Error → ⊥
 bool_is_no_error h = (let k : Ty-F.Bool ≡ Ty-F.Error = sym top_bool ∙ (ap out-Ty h ∙ top_error) in cc)
+
+-- ---- types that differ, labels or not
+
+pub u8_differs_bool : Same u8 ty.Bool → ⊥
+u8_differs_bool h = u8_is_no_bool (same_carried u8 ty.Bool (carried_integer (integer.Uint uint.U8)) carried_bool h)
+
+pub u8_differs_unit : Same u8 (ty.Tuple []) → ⊥
+u8_differs_unit h = u8_is_no_unit (same_carried u8 (ty.Tuple []) (carried_integer (integer.Uint uint.U8)) (carried_tuple []) h)

@@ -1,11 +1,11 @@
 -- `fn f() { let x: bool = 1u8; let y: u8 = true; }`: two mistakes, each with its mismatch.
-use Rattle.std.proofs.Common.{ℕ, zero, suc, ◌+◌, ◌<◌, ◌≡◌, inl, inr, true, List, [], ◌∷◌, refl, sym, subst, ◌∙◌, arith, Option, Some, None, slice_get}
-use Rattle.hir_facts.specs.declared.ids.TypeRefId.{TypeRefId}
-use Rattle.hir_facts.specs.declared.ids.ExprOrPatId.TheVariants as node
-use Rattle.hir_facts.specs.declared.ty.Ty.{Ty}
-use Rattle.hir_facts.specs.declared.ty.Ty.TheVariants as ty
-use Rattle.hir_facts.specs.declared.ty.UintTy.TheVariants as uint
-use Rattle.hir_facts.specs.declared.ty.IntegerTy.TheVariants as integer
+use Rattle.std.proofs.Common.{ℕ, zero, suc, ◌+◌, ◌<◌, ◌≡◌, inl, inr, true, List, [], ◌∷◌, refl, sym, ap, subst, ◌∙◌, arith, Option, Some, None, slice_get}
+use Rattle.hir_types.specs.declared.ids.TypeRefId.{TypeRefId}
+use Rattle.hir_types.specs.declared.ids.ExprOrPatId.TheVariants as node
+use Rattle.hir_types.specs.declared.ty.Ty.{Ty}
+use Rattle.hir_types.specs.declared.ty.Ty.TheVariants as ty
+use Rattle.hir_types.specs.declared.ty.UintTy.TheVariants as uint
+use Rattle.hir_types.specs.declared.ty.IntegerTy.TheVariants as integer
 use Rattle.hir_facts.specs.declared.raw.RawType.{RawType}
 use Rattle.hir_facts.specs.declared.raw.RawType.TheVariants as type
 use Rattle.hir_facts.specs.declared.raw.RawLiteral.TheVariants as literal
@@ -14,8 +14,9 @@ use Rattle.hir_facts.specs.declared.raw.RawExpr.TheVariants as expr
 use Rattle.hir_facts.specs.declared.raw.RawPat.TheVariants as pat
 use Rattle.hir_facts.specs.declared.raw.RawBody.{RawBody}
 use Rattle.hir_facts.specs.declared.schedule.Schedule.{Schedule}
-use Rattle.hir_facts.specs.Types.{unit, lowered_within, written_type}
-use Rattle.hir_facts.specs.Erasure.{IsClosed}
+use Rattle.hir_types.specs.Types.{unit}
+use Rattle.hir_facts.specs.Types.{lowered_within, written_type}
+use Rattle.hir_types.specs.Erasure.{erased, IsClosed}
 use Rattle.hir_facts.specs.Order.{initializer, the_body, inner, IsSchedule, start, end, after, Fits, parts}
 use Rattle.infer_result.specs.declared.result.InferenceResult.{InferenceResult}
 use Rattle.infer_result.specs.declared.result.TypeMismatch.{TypeMismatch}
@@ -27,7 +28,7 @@ use Rattle.infer_result.specs.Rules.Patterns.{PatRule}
 use Rattle.infer_result.specs.Made.{IsMisfit, IsMade}
 use Rattle.infer_result.specs.Typed.{IsTyped}
 use Rattle.infer_result.specs.Derived.{typed_by_schedule}
-use Rattle.infer_result.proofs.Samples.Small.{e, p, b, u8, one_u8, plain, body_of, each_below, each_node, apart_by, only, each_entry, closed_uint, closed_bool, closed_unit, u8_is_no_bool}
+use Rattle.infer_result.proofs.Samples.Small.{e, p, b, u8, one_u8, plain, body_of, each_below, each_node, apart_by, only, each_entry, closed_uint, closed_bool, closed_unit, u8_differs_bool}
 
 abbrev w : ℕ → TypeRefId
 w n = record { 0 = n }
@@ -105,8 +106,8 @@ right_made = record {
 }
   where
     misfit : (k : ℕ) (m : TypeMismatch) → At right.expr_mismatches k m → IsMisfit given right (e k) m
-    misfit zero m at = subst (λ y. IsMisfit given right (e 0) y) (only (mismatch ty.Bool u8) m at) (record { differ = λ same. u8_is_no_bool (sym same); actual = inl refl })
-    misfit (suc zero) m at = subst (λ y. IsMisfit given right (e 1) y) (only (mismatch u8 ty.Bool) m at) (record { differ = u8_is_no_bool; actual = inl refl })
+    misfit zero m at = subst (λ y. IsMisfit given right (e 0) y) (only (mismatch ty.Bool u8) m at) (record { differ = λ same. u8_differs_bool (sym same); actual = inl refl })
+    misfit (suc zero) m at = subst (λ y. IsMisfit given right (e 1) y) (only (mismatch u8 ty.Bool) m at) (record { differ = u8_differs_bool; actual = inl refl })
     misfit (suc (suc zero)) m at = absurd (cc)
     misfit (suc (suc (suc k))) m at = absurd (cc)
 
@@ -131,4 +132,4 @@ one_left_out h =
     (let c = h.clauses (e 2) (omega arith) in
     let at = c.0.1.0.0 in
     let a : ty.Bool ≡ at.0 = only ty.Bool at.0 at.1 in
-    elim at.2 [ inl same ↦ u8_is_no_bool (sym (a ∙ (same ∙ second_written))) | inr m ↦ (let clash = m in cc) ])
+    elim at.2 [ inl same ↦ u8_differs_bool (sym (ap erased a ∙ (same ∙ ap erased second_written))) | inr m ↦ (let clash = m in cc) ])

@@ -1,13 +1,14 @@
 -- `fn f() -> (u8, bool) { (1u8, 2u8) }`: the tuple has the expected components, and the mismatch stands at the second part.
 use Rattle.std.proofs.Common.{ℕ, zero, suc, ◌+◌, ◌<◌, ◌≡◌, inl, inr, Bool, List, [], ◌∷◌, refl, sym, ap, subst, ◌∙◌, arith, Option, Some, None}
-use Rattle.hir_facts.specs.declared.ids.ExprOrPatId.TheVariants as node
-use Rattle.hir_facts.specs.declared.ty.Ty.{Ty, Ty-F, fold-roll-Ty}
-use Rattle.hir_facts.specs.declared.ty.Ty.TheVariants as ty
-use Rattle.hir_facts.specs.declared.ty.UintTy.TheVariants as uint
+use Rattle.hir_types.specs.declared.ids.ExprOrPatId.TheVariants as node
+use Rattle.hir_types.specs.declared.ty.Ty.{Ty}
+use Rattle.hir_types.specs.declared.ty.Ty.TheVariants as ty
+use Rattle.hir_types.specs.declared.ty.UintTy.TheVariants as uint
 use Rattle.hir_facts.specs.declared.raw.RawExpr.TheVariants as expr
 use Rattle.hir_facts.specs.declared.raw.RawBody.{RawBody}
 use Rattle.hir_facts.specs.declared.schedule.Schedule.{Schedule}
-use Rattle.hir_facts.specs.Erasure.{has_hole, hole_step, IsClosed}
+use Rattle.hir_types.specs.Erasure.{IsClosed}
+use Rattle.hir_types.specs.Layers.{has_hole_tuple}
 use Rattle.hir_facts.specs.Order.{element, the_body, inner, IsSchedule, start, end, after, Fits, parts}
 use Rattle.infer_result.specs.declared.result.InferenceResult.{InferenceResult}
 use Rattle.infer_result.specs.declared.result.TypeMismatch.{TypeMismatch}
@@ -17,7 +18,7 @@ use Rattle.infer_result.specs.Rules.Expressions.{ObeysOrMismatch}
 use Rattle.infer_result.specs.Made.{IsMisfit, IsMade}
 use Rattle.infer_result.specs.Typed.{IsTyped}
 use Rattle.infer_result.specs.Derived.{typed_by_schedule}
-use Rattle.infer_result.proofs.Samples.Small.{e, u8, one_u8, body_of, each_below, each_node, apart_by, only, each_entry, closed_uint, closed_bool, u8_is_no_bool}
+use Rattle.infer_result.proofs.Samples.Small.{e, u8, one_u8, body_of, each_below, each_node, apart_by, only, each_entry, closed_uint, closed_bool, u8_differs_bool}
 
 abbrev pair : Ty
 pair = ty.Tuple (u8 ∷ ty.Bool ∷ [])
@@ -59,7 +60,7 @@ closed_u8 : IsClosed u8
 closed_u8 = closed_uint uint.U8
 
 closed_pair : IsClosed pair
-closed_pair = ap has_hole (sym (ty.rolls-Tuple (u8 ∷ ty.Bool ∷ []))) ∙ (fold-roll-Ty Bool hole_step (Ty-F.Tuple (u8 ∷ ty.Bool ∷ [])) ∙ rw (closed_u8, closed_bool) refl)
+closed_pair = has_hole_tuple (u8 ∷ ty.Bool ∷ []) ∙ rw (closed_u8, closed_bool) refl
 
 right_made : IsMade given right
 right_made = record {
@@ -83,7 +84,7 @@ right_made = record {
   where
     misfit : (k : ℕ) (m : TypeMismatch) → At right.expr_mismatches k m → IsMisfit given right (e k) m
     misfit zero m at = absurd (cc)
-    misfit (suc zero) m at = subst (λ y. IsMisfit given right (e 1) y) (only (mismatch ty.Bool u8) m at) (record { differ = λ same. u8_is_no_bool (sym same); actual = inl refl })
+    misfit (suc zero) m at = subst (λ y. IsMisfit given right (e 1) y) (only (mismatch ty.Bool u8) m at) (record { differ = λ same. u8_differs_bool (sym same); actual = inl refl })
     misfit (suc (suc zero)) m at = absurd (cc)
     misfit (suc (suc (suc zero))) m at = absurd (cc)
     misfit (suc (suc (suc (suc k)))) m at = absurd (cc)

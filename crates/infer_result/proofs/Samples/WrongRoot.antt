@@ -1,14 +1,14 @@
 -- `fn f() -> u8 { true }`: its table with the mismatch at `true` is typed; tables with another mismatch, or none, are not.
-use Rattle.std.proofs.Common.{ℕ, zero, suc, ◌+◌, ◌<◌, ◌≡◌, inl, inr, true, List, [], ◌∷◌, refl, sym, subst, ◌∙◌, arith, Option, Some, None}
-use Rattle.hir_facts.specs.declared.ids.ExprOrPatId.TheVariants as node
-use Rattle.hir_facts.specs.declared.ty.Ty.{Ty}
-use Rattle.hir_facts.specs.declared.ty.Ty.TheVariants as ty
-use Rattle.hir_facts.specs.declared.ty.UintTy.TheVariants as uint
+use Rattle.std.proofs.Common.{ℕ, zero, suc, ◌+◌, ◌<◌, ◌≡◌, inl, inr, true, List, [], ◌∷◌, refl, sym, ap, subst, ◌∙◌, arith, Option, Some, None}
+use Rattle.hir_types.specs.declared.ids.ExprOrPatId.TheVariants as node
+use Rattle.hir_types.specs.declared.ty.Ty.{Ty}
+use Rattle.hir_types.specs.declared.ty.Ty.TheVariants as ty
+use Rattle.hir_types.specs.declared.ty.UintTy.TheVariants as uint
 use Rattle.hir_facts.specs.declared.raw.RawLiteral.TheVariants as literal
 use Rattle.hir_facts.specs.declared.raw.RawExpr.TheVariants as expr
 use Rattle.hir_facts.specs.declared.raw.RawBody.{RawBody}
 use Rattle.hir_facts.specs.declared.schedule.Schedule.{Schedule}
-use Rattle.hir_facts.specs.Erasure.{IsClosed}
+use Rattle.hir_types.specs.Erasure.{erased, IsClosed}
 use Rattle.hir_facts.specs.Order.{root, tail, the_body, inner, IsSchedule, start, end, after, Fits, parts}
 use Rattle.infer_result.specs.declared.result.InferenceResult.{InferenceResult}
 use Rattle.infer_result.specs.declared.result.TypeMismatch.{TypeMismatch}
@@ -18,7 +18,7 @@ use Rattle.infer_result.specs.Rules.Expressions.{ObeysOrMismatch}
 use Rattle.infer_result.specs.Made.{IsMisfit, IsMade}
 use Rattle.infer_result.specs.Typed.{IsTyped}
 use Rattle.infer_result.specs.Derived.{typed_by_schedule}
-use Rattle.infer_result.proofs.Samples.Small.{e, u8, body_of, each_below, each_node, apart_by, asked, only, each_entry, closed_uint, closed_bool, u8_is_no_bool, bool_is_no_error}
+use Rattle.infer_result.proofs.Samples.Small.{e, u8, body_of, each_below, each_node, apart_by, asked, only, each_entry, closed_uint, closed_bool, u8_is_no_bool, u8_differs_bool, bool_is_no_error}
 
 abbrev body : RawBody
 body = body_of (expr.Lit (literal.Bool true) ∷ expr.Block None [] (Some (e 0)) ∷ []) 1 [] []
@@ -75,7 +75,7 @@ right_made = record {
 }
   where
     misfit : (k : ℕ) (m : TypeMismatch) → At right.expr_mismatches k m → IsMisfit given right (e k) m
-    misfit zero m at = subst (λ y. IsMisfit given right (e 0) y) (only (mismatch u8 ty.Bool) m at) (record { differ = u8_is_no_bool; actual = inl refl })
+    misfit zero m at = subst (λ y. IsMisfit given right (e 0) y) (only (mismatch u8 ty.Bool) m at) (record { differ = u8_differs_bool; actual = inl refl })
     misfit (suc zero) m at = absurd (cc)
     misfit (suc (suc k)) m at = absurd (cc)
 
@@ -95,7 +95,7 @@ none h =
     (let c = h.clauses (e 1) (omega arith) in
     let s : u8 ≡ c.1.0 = only u8 c.1.0 c.1.1 in
     let a : ty.Bool ≡ c.1.2.0 = only ty.Bool c.1.2.0 c.1.2.1 in
-    elim c.1.2.2 [ inl same ↦ u8_is_no_bool (s ∙ sym (a ∙ same)) | inr m ↦ (let clash = m in cc) ])
+    elim c.1.2.2 [ inl same ↦ u8_differs_bool (ap erased s ∙ sym (ap erased a ∙ same)) | inr m ↦ (let clash = m in cc) ])
 
 -- the types exchanged
 pub exchanged : IsTyped given (table_of (Some ty.Bool ∷ Some u8 ∷ []) (Some (mismatch ty.Bool u8) ∷ None ∷ [])) → ⊥

@@ -1,11 +1,11 @@
 -- The rule of each kind of expression.
 use Rattle.std.specs.Prelude.{◌⊎◌, slice_get, Option, Some, None}
-use Rattle.hir_facts.specs.declared.ids.ExprId.{ExprId}
-use Rattle.hir_facts.specs.declared.ty.Ty.{Ty}
+use Rattle.hir_types.specs.declared.ids.ExprId.{ExprId}
+use Rattle.hir_types.specs.declared.ty.Ty.{Ty}
 use Rattle.hir_facts.specs.declared.raw.RawExpr.{RawExpr}
 use Rattle.hir_facts.specs.declared.raw.RawExpr.TheVariants as expr
-use Rattle.hir_facts.specs.Types.{unit}
-use Rattle.hir_facts.specs.Erasure.{Same}
+use Rattle.hir_types.specs.Types.{unit}
+use Rattle.hir_types.specs.Erasure.{Same}
 use Rattle.infer_result.specs.declared.result.InferenceResult.{InferenceResult}
 use Rattle.infer_result.specs.Table.{HasTy, HasMismatch, MismatchAt}
 use Rattle.infer_result.specs.Places.{Given, IsAt, IsAtOrMismatch}

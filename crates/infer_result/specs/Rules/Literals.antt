@@ -1,11 +1,11 @@
 -- The type of a literal.
 use Rattle.std.specs.Prelude.{◌≡◌, Some, None}
-use Rattle.hir_facts.specs.declared.ty.IntegerTy.{IntegerTy}
-use Rattle.hir_facts.specs.declared.ty.Ty.{Ty}
-use Rattle.hir_facts.specs.declared.ty.Ty.TheVariants as ty
+use Rattle.hir_types.specs.declared.ty.IntegerTy.{IntegerTy}
+use Rattle.hir_types.specs.declared.ty.Ty.{Ty}
+use Rattle.hir_types.specs.declared.ty.Ty.TheVariants as ty
 use Rattle.hir_facts.specs.declared.raw.RawLiteral.{RawLiteral}
 use Rattle.hir_facts.specs.declared.raw.RawLiteral.TheVariants as literal
-use Rattle.hir_facts.specs.Types.{integer_type}
+use Rattle.hir_types.specs.Types.{integer_type}
 
 -- an integer without a suffix may have any integer type
 abbrev pub IsLiteralType : RawLiteral → Ty → Type 0

@@ -1,7 +1,7 @@
 -- The rule of each kind of pattern.
 use Rattle.std.specs.Prelude.{slice_get, Option, Some, None}
-use Rattle.hir_facts.specs.declared.ids.PatId.{PatId}
-use Rattle.hir_facts.specs.declared.ty.Ty.{Ty}
+use Rattle.hir_types.specs.declared.ids.PatId.{PatId}
+use Rattle.hir_types.specs.declared.ty.Ty.{Ty}
 use Rattle.hir_facts.specs.declared.raw.RawPat.{RawPat}
 use Rattle.hir_facts.specs.declared.raw.RawPat.TheVariants as pat
 use Rattle.infer_result.specs.declared.result.InferenceResult.{InferenceResult}

@@ -1,8 +1,8 @@
 -- The parts of a tuple stand at the types of its components.
 use Rattle.std.specs.Prelude.{List, [], ◌∷◌}
-use Rattle.hir_facts.specs.declared.ids.ExprId.{ExprId}
-use Rattle.hir_facts.specs.declared.ty.Ty.{Ty}
-use Rattle.hir_facts.specs.declared.ty.Ty.TheVariants as ty
+use Rattle.hir_types.specs.declared.ids.ExprId.{ExprId}
+use Rattle.hir_types.specs.declared.ty.Ty.{Ty}
+use Rattle.hir_types.specs.declared.ty.Ty.TheVariants as ty
 use Rattle.infer_result.specs.declared.result.InferenceResult.{InferenceResult}
 use Rattle.infer_result.specs.Table.{HasTy}
 

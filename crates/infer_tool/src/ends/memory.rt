@@ -23,6 +23,9 @@ impl MemorySource {
         requires { 1 ≤ most }
         ensures bytes { result.bytes.items ≡ bytes.items }
         ensures start { result.at ≡ 0 }
+        ensures most { result.most ≡ most }
+        ensures call { result.call ≡ 0 }
+        ensures fails { result.fails.items ≡ fails.items }
         ensures none { result.faults ≡ 0 }
     {
         MemorySource {
@@ -75,7 +78,12 @@ impl MemorySink {
         most: usize,
         fails: Vec<u64>,
     ) -> Result<MemorySink, AllocError>
-        ensures { IfOk result (λ s. (s.bytes.items ≡ []) × (s.faults ≡ 0)) }
+        ensures bytes { IfOk result (λ s. s.bytes.items ≡ []) }
+        ensures room { IfOk result (λ s. s.room ≡ room) }
+        ensures most { IfOk result (λ s. s.most ≡ most) }
+        ensures call { IfOk result (λ s. s.call ≡ 0) }
+        ensures fails { IfOk result (λ s. s.fails.items ≡ fails.items) }
+        ensures none { IfOk result (λ s. s.faults ≡ 0) }
     {
         let bytes = Vec::with_capacity(alloc, room)?;
         Ok(MemorySink {

@@ -1,5 +1,5 @@
 //! The report on a table.
-ghost use Rattle.std.specs.Prelude.{◌≡◌, ◌++◌, List, OnOk, IfOk, string_bytes};
+ghost use Rattle.std.specs.Prelude.{◌≡◌, ◌++◌, List, OnOk, IfOk, string_bytes, count_by, is_some};
 ghost use Rattle.std.specs.Option.{option_copied};
 ghost use Rattle.infer_result.specs.Table.{recorded};
 ghost use Rattle.infer_result.specs.Report.{def_line, expr_line, mode_text, pat_line, binding_line, mismatch_head, type_field, mismatch_line, lines_from, complaint_count, report};
@@ -152,16 +152,17 @@ fn push_mismatches(out: &mut String, mismatches: &[Option<TypeMismatch>]) -> Res
     Ok(())
 }
 
+fn count_some<T>(entries: &[Option<T>]) -> usize
+    ensures { result ≡ count_by is_some entries.now }
+{
+    entries.iter().filter(|entry| entry.is_some()).count()
+}
+
 /// How many complaints a table has.
 pub fn count_complaints(table: &InferenceResult) -> usize
     ensures { result ≡ complaint_count table.now }
 {
-    table
-        .expr_mismatches
-        .as_slice()
-        .iter()
-        .filter(|mismatch| mismatch.is_some())
-        .count()
+    count_some(table.expr_mismatches.as_slice())
 }
 
 /// The report on the table of a definition's body. No kind that is carried yet is named by the facts.

@@ -1,5 +1,5 @@
 use Rattle.std.proofs.Common.{◌≡◌, ◌++◌, take, map}
-use Rattle.hir_facts.specs.declared.ids.ExprOrPatId.TheVariants.{ExprId}
+use Rattle.hir_types.specs.declared.ids.ExprOrPatId.TheVariants.{ExprId}
 use Rattle.hir_facts.proofs.parts.push_exprs.Given as goal
 
 abbrev pub invariant-loop-expr : goal.invariant-loop-expr

@@ -1,5 +1,5 @@
 use Rattle.std.proofs.Common.{◌≡◌, ◌++◌, take, map}
-use Rattle.hir_facts.specs.declared.ids.ExprOrPatId.TheVariants.{PatId}
+use Rattle.hir_types.specs.declared.ids.ExprOrPatId.TheVariants.{PatId}
 use Rattle.hir_facts.proofs.parts.push_pats.Given as goal
 
 abbrev pub invariant-loop-pat : goal.invariant-loop-pat

@@ -1,7 +1,7 @@
 use Rattle.std.proofs.Common.{◌≡◌, length, Some, arith, refl}
 use Rattle.std.specs.Prelude.{slice_get}
 use Rattle.std.proofs.lemmas.Option.{slice_get_read}
-use Rattle.hir_facts.specs.Types.{depth}
+use Rattle.hir_types.specs.Types.{depth}
 use Rattle.hir_facts.specs.Laws.Measures.{depth_by}
 use Rattle.hir_facts.proofs.TypeMeasures.{measures_none, measures_more, depth_measures, before_here}
 use Rattle.hir_facts.proofs.laws.sizes.depths_of.Goals as goal

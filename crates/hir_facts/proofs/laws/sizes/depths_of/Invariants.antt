@@ -1,4 +1,4 @@
-use Rattle.hir_facts.specs.Types.{depth}
+use Rattle.hir_types.specs.Types.{depth}
 use Rattle.hir_facts.specs.Laws.Measures.{AreMeasures}
 use Rattle.hir_facts.proofs.laws.sizes.depths_of.Given as goal
 

@@ -1,4 +1,4 @@
-use Rattle.hir_facts.specs.Types.{size}
+use Rattle.hir_types.specs.Types.{size}
 use Rattle.hir_facts.specs.Laws.Measures.{AreMeasures}
 use Rattle.hir_facts.proofs.laws.sizes.sizes_of.Given as goal
 

@@ -1,17 +1,17 @@
 use Rattle.std.proofs.Common.{arith, ◌+◌, ◌≡◌, ◌∙◌, ap, refl, sym, subst, Some, slice_get}
 use Rattle.std.proofs.lemmas.Option.{slice_get_read}
 use Rattle.std.proofs.lemmas.List.{get_or_default}
-use Rattle.hir_facts.specs.declared.ty.Ty.TheVariants as ty
+use Rattle.hir_types.specs.declared.ty.Ty.TheVariants as ty
 use Rattle.hir_facts.specs.declared.raw.RawStmt.TheVariants as stmt
 use Rattle.hir_facts.specs.declared.raw.RawExpr.TheVariants as expr
 use Rattle.hir_facts.specs.Order.{inner}
-use Rattle.hir_facts.specs.declared.ids.ExprOrPatId.TheVariants as node
+use Rattle.hir_types.specs.declared.ids.ExprOrPatId.TheVariants as node
 use Rattle.infer_expr.specs.Context.{given_of, schedule_of, expected_type, with_expr_ty}
 use Rattle.infer_expr.specs.Steps.{Before, Within, OwnDone, KindDone, CoerceDone, StmtDone, BeforeStmt, declared_type}
 use Rattle.infer_expr.proofs.Close.{entered_within, close}
 use Rattle.infer_expr.proofs.Coercions.{coerced_as}
 use Rattle.infer_expr.proofs.Leaves.{literal_done, path_bound, path_done}
-use Rattle.infer_expr.proofs.Stmts.{let_written, init_before, init_done, let_done, expr_stmt_done}
+use Rattle.infer_expr.proofs.Stmts.{let_written, init_before, init_done, let_done, expr_stmt_done, let_pat}
 use Rattle.infer_expr.proofs.Tuples.{tuple_start, tuple_before, tuple_next, tuple_done}
 use Rattle.infer_expr.proofs.Blocks.{block_start, block_before, block_next, block_done}
 use Rattle.infer_expr.proofs.context.InferenceContext.+infer.Goals as goal
@@ -107,6 +107,9 @@ infer_initializer-returns-in_ok-ty-in-Some t c =
     init_done _ _ _ _ _ _ _ c.requires _ _ (
     subst (λ x. CoerceDone (given_of c.args.given.now) (schedule_of c.args.given.now) c.args.initializer x c.in_ok-ty-in-Some.ty c.args.self.now c.infer_expr_coerce.new.self) (sym declared) c.in_ok-ty-in-Some.ensures
     )
+
+pub infer_let-infer_top_pat-requires : goal.infer_let-infer_top_pat-requires
+infer_let-infer_top_pat-requires t c = let_pat _ _ _ _ _ _ _ c.requires _ _ c.in_ok-ty.ensures
 
 pub infer_let-returns : goal.infer_let-returns
 infer_let-returns t c = let_done _ _ _ _ _ _ _ c.requires _ _ _ c.in_ok-ty.ensures c.in_ok-infer_top_pat.ensures

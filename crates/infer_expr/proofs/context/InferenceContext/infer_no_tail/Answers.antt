@@ -1,5 +1,5 @@
 use Rattle.std.proofs.Common.{sym, ap}
-use Rattle.hir_facts.specs.declared.ty.Ty.TheVariants as ty
+use Rattle.hir_types.specs.declared.ty.Ty.TheVariants as ty
 use Rattle.infer_expr.proofs.Blocks.{no_tail_some}
 use Rattle.infer_expr.proofs.context.InferenceContext.infer_no_tail.Goals as goal
 

@@ -1,0 +1,188 @@
+-- Types of the carried kinds: they have no holes and no labels, and name nothing of the facts.
+use Rattle.std.specs.Prelude.{◌≡◌, ℕ, zero, suc, Bool, true, false, ◌&&◌, ◌||◌, List, [], ◌∷◌, map, slice_get, Option, Some, None, refl}
+use Rattle.std.specs.List.{list_all, list_any}
+use Rattle.std.proofs.Common.{sym, ◌∙◌, ap, subst}
+use mathlib.Core.Bool.{true≢false}
+use Rattle.hir_types.specs.declared.ids.DefWithBodyId.{DefWithBodyId}
+use Rattle.hir_types.specs.declared.ids.DefWithBodyId.TheVariants as def
+use Rattle.hir_types.specs.declared.ids.TypeRefId.{TypeRefId}
+use Rattle.hir_types.specs.declared.ty.AliasBound.{AliasBound, AliasBound-F, roll-AliasBound}
+use Rattle.hir_types.specs.declared.ty.GenericArg.{GenericArg, GenericArg-F, roll-GenericArg}
+use Rattle.hir_types.specs.declared.ty.TraitRef.{TraitRef, TraitRef-F, roll-TraitRef}
+use Rattle.hir_types.specs.declared.ty.IntegerTy.{IntegerTy}
+use Rattle.hir_types.specs.declared.ty.IntegerTy.TheVariants.{Int, Uint}
+use Rattle.hir_types.specs.declared.ty.Ty.{Ty, Ty-F, map-Ty, ind-Ty, fold-Ty, roll-Ty, fold-roll-Ty}
+use Rattle.hir_types.specs.declared.ty.Ty.TheVariants as ty
+use Rattle.hir_types.specs.Types.{integer_type}
+use Rattle.hir_types.specs.Erasure.{erased, erased_step, Same, has_hole, hole_arg, hole_step, hole_bound, hole_trait, IsClosed}
+use Rattle.hir_facts.specs.declared.raw.RawType.{RawType}
+use Rattle.hir_facts.specs.declared.raw.RawType.TheVariants as type
+use Rattle.hir_facts.specs.declared.raw.RawFn.{RawFn}
+use Rattle.hir_facts.specs.declared.raw.RawFacts.{RawFacts}
+use Rattle.hir_facts.specs.Types.{lowered_by, lowered_within, written_type}
+use Rattle.hir_facts.specs.Bodies.{fits_arg, fits_step, fits_bound, fits_trait, ty_fits, output_by, return_type}
+
+abbrev pub carried_arg : GenericArg-F Bool Bool Bool Bool → Bool
+carried_arg a = false
+
+abbrev pub carried_bound : AliasBound-F Bool Bool Bool Bool → Bool
+carried_bound b = false
+
+abbrev pub carried_trait : TraitRef-F Bool Bool Bool Bool → Bool
+carried_trait t = false
+
+abbrev pub carried_step : Ty-F Bool Bool Bool Bool → Bool
+carried_step Ty-F.Bool = true
+carried_step Ty-F.Char = true
+carried_step (Ty-F.Int i) = true
+carried_step (Ty-F.Uint i) = true
+carried_step (Ty-F.Tuple bs) = list_all (λ b. b) bs
+carried_step Ty-F.Error = true
+carried_step _ = false
+
+abbrev pub is_carried_type : Ty → Bool
+is_carried_type = fold-Ty Bool Bool Bool Bool carried_arg carried_step carried_bound carried_trait
+
+-- the type is made of carried kinds alone
+abbrev pub IsCarriedType : Ty → Type 0
+IsCarriedType t = is_carried_type t ≡ true
+
+-- all of them are
+abbrev pub AreCarriedTypes : List Ty → Type 0
+AreCarriedTypes ts = list_all is_carried_type ts ≡ true
+
+-- ---- kind by kind
+
+list_all_map : {X : Type 0} (f : X → Bool) (xs : List X) → list_all (λ b. b) (map f xs) ≡ list_all f xs
+list_all_map f [] = refl
+list_all_map f (x ∷ xs) = λ i. f x && list_all_map f xs i
+
+pub carried_tuple : (ts : List Ty) → is_carried_type (ty.Tuple ts) ≡ list_all is_carried_type ts
+carried_tuple ts = ap is_carried_type (sym (ty.rolls-Tuple ts)) ∙ (fold-roll-Ty Bool Bool Bool Bool carried_arg carried_step carried_bound carried_trait (Ty-F.Tuple ts) ∙ list_all_map is_carried_type ts)
+
+pub carried_bool : IsCarriedType ty.Bool
+carried_bool = ap is_carried_type (sym ty.rolls-Bool) ∙ fold-roll-Ty Bool Bool Bool Bool carried_arg carried_step carried_bound carried_trait Ty-F.Bool
+
+pub carried_char : IsCarriedType ty.Char
+carried_char = ap is_carried_type (sym ty.rolls-Char) ∙ fold-roll-Ty Bool Bool Bool Bool carried_arg carried_step carried_bound carried_trait Ty-F.Char
+
+pub carried_error : IsCarriedType ty.Error
+carried_error = ap is_carried_type (sym ty.rolls-Error) ∙ fold-roll-Ty Bool Bool Bool Bool carried_arg carried_step carried_bound carried_trait Ty-F.Error
+
+pub carried_integer : (i : IntegerTy) → IsCarriedType (integer_type i)
+carried_integer (Int i) = ap is_carried_type (sym (ty.rolls-Int i)) ∙ fold-roll-Ty Bool Bool Bool Bool carried_arg carried_step carried_bound carried_trait (Ty-F.Int i)
+carried_integer (Uint i) = ap is_carried_type (sym (ty.rolls-Uint i)) ∙ fold-roll-Ty Bool Bool Bool Bool carried_arg carried_step carried_bound carried_trait (Ty-F.Uint i)
+
+-- ---- what a carried type is
+
+pub record Bare (t : Ty) : Type 0 where
+  pub closed : IsClosed t
+  pub fits : ty_fits t ≡ true
+  pub unlabelled : erased t ≡ t
+
+abbrev Told : Type 0
+Told = (t : Ty) × (IsCarriedType t → Bare t)
+
+both : (a b : Bool) → (a && b) ≡ true → (a ≡ true) × (b ≡ true)
+both true b h = (refl, h)
+both false b h = absurd (true≢false (sym h))
+
+all_bare : (ts : List Told) → list_all (λ b. b) (map is_carried_type (map (λ e. e.0) ts)) ≡ true
+    → (list_any (λ b. b) (map has_hole (map (λ e. e.0) ts)) ≡ false) × (list_all (λ b. b) (map ty_fits (map (λ e. e.0) ts)) ≡ true)
+    × (map erased (map (λ e. e.0) ts) ≡ map (λ e. e.0) ts)
+all_bare [] h = (refl, refl, refl)
+all_bare (t ∷ ts) h =
+    let q = both (is_carried_type t.0) (list_all (λ b. b) (map is_carried_type (map (λ e. e.0) ts))) h in
+    let here = t.1 q.0 in
+    let rest = all_bare ts q.1 in (
+      ap (λ (b : Bool). b || list_any (λ b. b) (map has_hole (map (λ e. e.0) ts))) here.closed ∙ rest.0,
+      ap (λ (b : Bool). b && list_all (λ b. b) (map ty_fits (map (λ e. e.0) ts))) here.fits ∙ rest.1,
+      λ i. here.unlabelled i ∷ rest.2 i,
+    )
+
+abbrev ArgTold : Type 0
+ArgTold = GenericArg × Unit {0}
+
+abbrev BoundTold : Type 0
+BoundTold = AliasBound × Unit {0}
+
+abbrev TraitTold : Type 0
+TraitTold = TraitRef × Unit {0}
+
+abbrev told_of : Ty-F ArgTold Told BoundTold TraitTold → Ty-F GenericArg Ty AliasBound TraitRef
+told_of = map-Ty ArgTold Told BoundTold TraitTold GenericArg Ty AliasBound TraitRef (λ e. e.0) (λ e. e.0) (λ e. e.0) (λ e. e.0)
+
+layer_bare : (y : Ty-F ArgTold Told BoundTold TraitTold) → IsCarriedType (roll-Ty (told_of y)) → Bare (roll-Ty (told_of y))
+layer_bare Ty-F.Bool h = record { closed = fold-roll-Ty Bool Bool Bool Bool hole_arg hole_step hole_bound hole_trait Ty-F.Bool; fits = fold-roll-Ty Bool Bool Bool Bool fits_arg fits_step fits_bound fits_trait Ty-F.Bool; unlabelled = fold-roll-Ty GenericArg Ty AliasBound TraitRef roll-GenericArg erased_step roll-AliasBound roll-TraitRef Ty-F.Bool }
+layer_bare Ty-F.Char h = record { closed = fold-roll-Ty Bool Bool Bool Bool hole_arg hole_step hole_bound hole_trait Ty-F.Char; fits = fold-roll-Ty Bool Bool Bool Bool fits_arg fits_step fits_bound fits_trait Ty-F.Char; unlabelled = fold-roll-Ty GenericArg Ty AliasBound TraitRef roll-GenericArg erased_step roll-AliasBound roll-TraitRef Ty-F.Char }
+layer_bare (Ty-F.Int i) h = record { closed = fold-roll-Ty Bool Bool Bool Bool hole_arg hole_step hole_bound hole_trait (Ty-F.Int i); fits = fold-roll-Ty Bool Bool Bool Bool fits_arg fits_step fits_bound fits_trait (Ty-F.Int i); unlabelled = fold-roll-Ty GenericArg Ty AliasBound TraitRef roll-GenericArg erased_step roll-AliasBound roll-TraitRef (Ty-F.Int i) }
+layer_bare (Ty-F.Uint i) h = record { closed = fold-roll-Ty Bool Bool Bool Bool hole_arg hole_step hole_bound hole_trait (Ty-F.Uint i); fits = fold-roll-Ty Bool Bool Bool Bool fits_arg fits_step fits_bound fits_trait (Ty-F.Uint i); unlabelled = fold-roll-Ty GenericArg Ty AliasBound TraitRef roll-GenericArg erased_step roll-AliasBound roll-TraitRef (Ty-F.Uint i) }
+layer_bare Ty-F.Error h = record { closed = fold-roll-Ty Bool Bool Bool Bool hole_arg hole_step hole_bound hole_trait Ty-F.Error; fits = fold-roll-Ty Bool Bool Bool Bool fits_arg fits_step fits_bound fits_trait Ty-F.Error; unlabelled = fold-roll-Ty GenericArg Ty AliasBound TraitRef roll-GenericArg erased_step roll-AliasBound roll-TraitRef Ty-F.Error }
+layer_bare (Ty-F.Tuple ts) h =
+    let us : List Ty = map (λ e. e.0) ts in
+    let all = all_bare ts (sym (fold-roll-Ty Bool Bool Bool Bool carried_arg carried_step carried_bound carried_trait (Ty-F.Tuple us)) ∙ h) in
+    record {
+      closed = fold-roll-Ty Bool Bool Bool Bool hole_arg hole_step hole_bound hole_trait (Ty-F.Tuple us) ∙ all.0;
+      fits = fold-roll-Ty Bool Bool Bool Bool fits_arg fits_step fits_bound fits_trait (Ty-F.Tuple us) ∙ all.1;
+      unlabelled = fold-roll-Ty GenericArg Ty AliasBound TraitRef roll-GenericArg erased_step roll-AliasBound roll-TraitRef (Ty-F.Tuple us) ∙ ap (λ vs. roll-Ty (Ty-F.Tuple vs)) all.2;
+    }
+layer_bare (Ty-F.Float f) h = absurd (true≢false (sym h ∙ fold-roll-Ty Bool Bool Bool Bool carried_arg carried_step carried_bound carried_trait (told_of (Ty-F.Float f))))
+layer_bare Ty-F.Str h = absurd (true≢false (sym h ∙ fold-roll-Ty Bool Bool Bool Bool carried_arg carried_step carried_bound carried_trait (told_of Ty-F.Str)))
+layer_bare Ty-F.Never h = absurd (true≢false (sym h ∙ fold-roll-Ty Bool Bool Bool Bool carried_arg carried_step carried_bound carried_trait (told_of Ty-F.Never)))
+layer_bare (Ty-F.Array t c) h = absurd (true≢false (sym h ∙ fold-roll-Ty Bool Bool Bool Bool carried_arg carried_step carried_bound carried_trait (told_of (Ty-F.Array t c))))
+layer_bare (Ty-F.Slice t) h = absurd (true≢false (sym h ∙ fold-roll-Ty Bool Bool Bool Bool carried_arg carried_step carried_bound carried_trait (told_of (Ty-F.Slice t))))
+layer_bare (Ty-F.Ref m r t) h = absurd (true≢false (sym h ∙ fold-roll-Ty Bool Bool Bool Bool carried_arg carried_step carried_bound carried_trait (told_of (Ty-F.Ref m r t))))
+layer_bare (Ty-F.RawPtr m t) h = absurd (true≢false (sym h ∙ fold-roll-Ty Bool Bool Bool Bool carried_arg carried_step carried_bound carried_trait (told_of (Ty-F.RawPtr m t))))
+layer_bare (Ty-F.Adt i xs) h = absurd (true≢false (sym h ∙ fold-roll-Ty Bool Bool Bool Bool carried_arg carried_step carried_bound carried_trait (told_of (Ty-F.Adt i xs))))
+layer_bare (Ty-F.FnDef i xs) h = absurd (true≢false (sym h ∙ fold-roll-Ty Bool Bool Bool Bool carried_arg carried_step carried_bound carried_trait (told_of (Ty-F.FnDef i xs))))
+layer_bare (Ty-F.FnPtr s ts t) h = absurd (true≢false (sym h ∙ fold-roll-Ty Bool Bool Bool Bool carried_arg carried_step carried_bound carried_trait (told_of (Ty-F.FnPtr s ts t))))
+layer_bare (Ty-F.Closure i ts t) h = absurd (true≢false (sym h ∙ fold-roll-Ty Bool Bool Bool Bool carried_arg carried_step carried_bound carried_trait (told_of (Ty-F.Closure i ts t))))
+layer_bare (Ty-F.Dynamic o bs ts) h = absurd (true≢false (sym h ∙ fold-roll-Ty Bool Bool Bool Bool carried_arg carried_step carried_bound carried_trait (told_of (Ty-F.Dynamic o bs ts))))
+layer_bare (Ty-F.Param n) h = absurd (true≢false (sym h ∙ fold-roll-Ty Bool Bool Bool Bool carried_arg carried_step carried_bound carried_trait (told_of (Ty-F.Param n))))
+layer_bare (Ty-F.Projection i xs) h = absurd (true≢false (sym h ∙ fold-roll-Ty Bool Bool Bool Bool carried_arg carried_step carried_bound carried_trait (told_of (Ty-F.Projection i xs))))
+layer_bare (Ty-F.Opaque i xs) h = absurd (true≢false (sym h ∙ fold-roll-Ty Bool Bool Bool Bool carried_arg carried_step carried_bound carried_trait (told_of (Ty-F.Opaque i xs))))
+layer_bare (Ty-F.Var n) h = absurd (true≢false (sym h ∙ fold-roll-Ty Bool Bool Bool Bool carried_arg carried_step carried_bound carried_trait (told_of (Ty-F.Var n))))
+layer_bare (Ty-F.IntVar n) h = absurd (true≢false (sym h ∙ fold-roll-Ty Bool Bool Bool Bool carried_arg carried_step carried_bound carried_trait (told_of (Ty-F.IntVar n))))
+layer_bare Ty-F.Hole h = absurd (true≢false (sym h ∙ fold-roll-Ty Bool Bool Bool Bool carried_arg carried_step carried_bound carried_trait (told_of Ty-F.Hole)))
+
+step_bare : (x : Ty-F GenericArg Ty AliasBound TraitRef) (y : Ty-F ArgTold Told BoundTold TraitTold) → told_of y ≡ x → IsCarriedType (roll-Ty x) → Bare (roll-Ty x)
+step_bare x y is = subst (λ z. IsCarriedType (roll-Ty z) → Bare (roll-Ty z)) is (layer_bare y)
+
+pub carried_bare : (t : Ty) → IsCarriedType t → Bare t
+carried_bare = ind-Ty (λ _. Unit {0}) (λ t. IsCarriedType t → Bare t) (λ _. Unit {0}) (λ _. Unit {0}) (λ x y is. tt) step_bare (λ x y is. tt) (λ x y is. tt)
+
+-- carried types that are the same but for labels are equal
+pub same_carried : (s t : Ty) → IsCarriedType s → IsCarriedType t → Same s t → s ≡ t
+same_carried s t h k e = sym (carried_bare s h).unlabelled ∙ (e ∙ (carried_bare t k).unlabelled)
+
+-- ---- written types
+
+parts_carried : (f : ℕ → Ty) (ts : List TypeRefId) → ((j : ℕ) → IsCarriedType (f j)) → AreCarriedTypes (map (λ t. f t.0) ts)
+parts_carried f [] h = refl
+parts_carried f (t ∷ ts) h = ap (λ (b : Bool). b && list_all is_carried_type (map (λ t. f t.0) ts)) (h t.0) ∙ parts_carried f ts h
+
+by_carried : (f : ℕ → Ty) (o : Option RawType) → ((j : ℕ) → IsCarriedType (f j)) → IsCarriedType (lowered_by f o)
+by_carried f None h = carried_error
+by_carried f (Some type.Bool) h = carried_bool
+by_carried f (Some type.Char) h = carried_char
+by_carried f (Some (type.Integer i)) h = carried_integer i
+by_carried f (Some (type.Tuple ts)) h = carried_tuple (map (λ t. f t.0) ts) ∙ parts_carried f ts h
+by_carried f (Some type.Other) h = carried_error
+
+within_carried : (n : ℕ) (types : List RawType) (i : ℕ) → IsCarriedType (lowered_within n types i)
+unfolding lowered_within
+within_carried zero types i = carried_error
+within_carried (suc n) types i = by_carried (lowered_within n types) (slice_get types i) (within_carried n types)
+
+pub written_carried : (types : List RawType) (t : TypeRefId) → IsCarriedType (written_type types t)
+written_carried types t = within_carried (suc t.0) types t.0
+
+output_carried : (raw : RawFacts) (o : Option RawFn) → IsCarriedType (output_by raw o)
+output_carried raw None = carried_error
+output_carried raw (Some f) = written_carried raw.types f.output
+
+pub return_carried : (raw : RawFacts) (d : DefWithBodyId) → IsCarriedType (return_type raw d)
+return_carried raw (def.FunctionId f) = output_carried raw (slice_get raw.fns f.0)
+return_carried raw (def.ConstId c) = carried_error
+return_carried raw (def.StaticId s) = carried_error
+return_carried raw (def.VariantId v) = carried_error

@@ -1,0 +1,7 @@
+use Rattle.std.proofs.Common.{◌≡◌, ◌++◌, map, take}
+use Rattle.hir_types.specs.Terms.{arg_term}
+use Rattle.hir_types.specs.Outlines.{part_terms}
+use Rattle.hir_types.proofs.outline.push_args.Given as goal
+
+abbrev pub invariant-loop-arg : goal.invariant-loop-arg
+invariant-loop-arg l = part_terms l.parts.items ≡ part_terms l.initial.parts.items ++ map arg_term (take l.arg-index l.args)

@@ -1,0 +1,68 @@
+-- What is measured of a type, from what is measured of its parts.
+use Rattle.std.specs.Prelude.{◌≡◌, ℕ, ◌+◌, Bool, false, ◌||◌, List, [], ◌∷◌, map, sum, refl}
+use Rattle.std.specs.List.{list_any}
+use Rattle.std.proofs.Common.{sym, ◌∙◌, ap}
+use Rattle.hir_types.specs.declared.ty.IntegerTy.{IntegerTy}
+use Rattle.hir_types.specs.declared.ty.IntegerTy.TheVariants.{Int, Uint}
+use Rattle.hir_types.specs.declared.ty.Ty.{Ty, Ty-F, fold-roll-Ty}
+use Rattle.hir_types.specs.declared.ty.Ty.TheVariants as ty
+use Rattle.hir_types.specs.Types.{integer_type, most, depth, depth_arg, depth_step, depth_bound, depth_trait, size, size_arg, size_step, size_bound, size_trait}
+use Rattle.hir_types.specs.Erasure.{has_hole, hole_arg, hole_step, hole_bound, hole_trait}
+
+-- ---- levels
+
+pub depth_tuple : (ts : List Ty) → depth (ty.Tuple ts) ≡ most (map depth ts) + 1
+depth_tuple ts = ap depth (sym (ty.rolls-Tuple ts)) ∙ fold-roll-Ty ℕ ℕ ℕ ℕ depth_arg depth_step depth_bound depth_trait (Ty-F.Tuple ts)
+
+pub depth_bool : depth ty.Bool ≡ 1
+depth_bool = ap depth (sym ty.rolls-Bool) ∙ fold-roll-Ty ℕ ℕ ℕ ℕ depth_arg depth_step depth_bound depth_trait Ty-F.Bool
+
+pub depth_char : depth ty.Char ≡ 1
+depth_char = ap depth (sym ty.rolls-Char) ∙ fold-roll-Ty ℕ ℕ ℕ ℕ depth_arg depth_step depth_bound depth_trait Ty-F.Char
+
+pub depth_error : depth ty.Error ≡ 1
+depth_error = ap depth (sym ty.rolls-Error) ∙ fold-roll-Ty ℕ ℕ ℕ ℕ depth_arg depth_step depth_bound depth_trait Ty-F.Error
+
+pub depth_integer : (i : IntegerTy) → depth (integer_type i) ≡ 1
+depth_integer (Int i) = ap depth (sym (ty.rolls-Int i)) ∙ fold-roll-Ty ℕ ℕ ℕ ℕ depth_arg depth_step depth_bound depth_trait (Ty-F.Int i)
+depth_integer (Uint i) = ap depth (sym (ty.rolls-Uint i)) ∙ fold-roll-Ty ℕ ℕ ℕ ℕ depth_arg depth_step depth_bound depth_trait (Ty-F.Uint i)
+
+-- ---- sizes
+
+pub size_tuple : (ts : List Ty) → size (ty.Tuple ts) ≡ sum (map size ts) + 1
+size_tuple ts = ap size (sym (ty.rolls-Tuple ts)) ∙ fold-roll-Ty ℕ ℕ ℕ ℕ size_arg size_step size_bound size_trait (Ty-F.Tuple ts)
+
+pub size_bool : size ty.Bool ≡ 1
+size_bool = ap size (sym ty.rolls-Bool) ∙ fold-roll-Ty ℕ ℕ ℕ ℕ size_arg size_step size_bound size_trait Ty-F.Bool
+
+pub size_char : size ty.Char ≡ 1
+size_char = ap size (sym ty.rolls-Char) ∙ fold-roll-Ty ℕ ℕ ℕ ℕ size_arg size_step size_bound size_trait Ty-F.Char
+
+pub size_error : size ty.Error ≡ 1
+size_error = ap size (sym ty.rolls-Error) ∙ fold-roll-Ty ℕ ℕ ℕ ℕ size_arg size_step size_bound size_trait Ty-F.Error
+
+pub size_integer : (i : IntegerTy) → size (integer_type i) ≡ 1
+size_integer (Int i) = ap size (sym (ty.rolls-Int i)) ∙ fold-roll-Ty ℕ ℕ ℕ ℕ size_arg size_step size_bound size_trait (Ty-F.Int i)
+size_integer (Uint i) = ap size (sym (ty.rolls-Uint i)) ∙ fold-roll-Ty ℕ ℕ ℕ ℕ size_arg size_step size_bound size_trait (Ty-F.Uint i)
+
+-- ---- holes
+
+list_any_map : {X : Type 0} (f : X → Bool) (xs : List X) → list_any (λ b. b) (map f xs) ≡ list_any f xs
+list_any_map f [] = refl
+list_any_map f (x ∷ xs) = λ i. f x || list_any_map f xs i
+
+pub has_hole_tuple : (ts : List Ty) → has_hole (ty.Tuple ts) ≡ list_any has_hole ts
+has_hole_tuple ts = ap has_hole (sym (ty.rolls-Tuple ts)) ∙ (fold-roll-Ty Bool Bool Bool Bool hole_arg hole_step hole_bound hole_trait (Ty-F.Tuple ts) ∙ list_any_map has_hole ts)
+
+pub has_hole_bool : has_hole ty.Bool ≡ false
+has_hole_bool = ap has_hole (sym ty.rolls-Bool) ∙ fold-roll-Ty Bool Bool Bool Bool hole_arg hole_step hole_bound hole_trait Ty-F.Bool
+
+pub has_hole_char : has_hole ty.Char ≡ false
+has_hole_char = ap has_hole (sym ty.rolls-Char) ∙ fold-roll-Ty Bool Bool Bool Bool hole_arg hole_step hole_bound hole_trait Ty-F.Char
+
+pub has_hole_error : has_hole ty.Error ≡ false
+has_hole_error = ap has_hole (sym ty.rolls-Error) ∙ fold-roll-Ty Bool Bool Bool Bool hole_arg hole_step hole_bound hole_trait Ty-F.Error
+
+pub has_hole_integer : (i : IntegerTy) → has_hole (integer_type i) ≡ false
+has_hole_integer (Int i) = ap has_hole (sym (ty.rolls-Int i)) ∙ fold-roll-Ty Bool Bool Bool Bool hole_arg hole_step hole_bound hole_trait (Ty-F.Int i)
+has_hole_integer (Uint i) = ap has_hole (sym (ty.rolls-Uint i)) ∙ fold-roll-Ty Bool Bool Bool Bool hole_arg hole_step hole_bound hole_trait (Ty-F.Uint i)

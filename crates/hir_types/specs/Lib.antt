@@ -1,0 +1,15 @@
+pub mod Assigned
+pub mod FoldedLaws
+pub mod Folds
+pub mod formers
+pub mod Subst
+pub mod Terms
+pub mod Folding
+pub mod Goals
+pub mod TermLaws
+pub mod Outlines
+pub mod Agreement
+pub mod Faithful
+pub mod Types
+pub mod Erasure
+pub mod Layers
