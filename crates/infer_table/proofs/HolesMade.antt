@@ -1,0 +1,40 @@
+-- Whether the holes of a term were made, part by part.
+use Rattle.std.proofs.Common.{◌≡◌, ℕ, suc, ◌+◌, ◌≤◌, Bool, true, false, List, [], ◌∷◌, ◌++◌, length, take, drop, Some, refl, sym, ap, subst, ◌∙◌, IsTrue, ◌↔◌}
+use Rattle.std.specs.Prelude.{slice_get}
+use Rattle.std.proofs.lemmas.List.{take_all}
+use Rattle.hir_types.specs.declared.head.Head.{Head}
+use Rattle.hir_types.specs.declared.head.Head.TheVariants as head
+use Rattle.hir_types.specs.declared.head.Hole.{Hole}
+use Rattle.hir_types.specs.declared.head.HoleKind.{HoleKind}
+use Rattle.hir_types.specs.declared.outline.Part.{Part}
+use Rattle.hir_types.specs.Terms.{Term, hole, leaf, pair, chain, node}
+use Rattle.hir_types.specs.Outlines.{part_term, part_terms}
+use Rattle.infer_table.specs.Solutions.{IsOf, AreOf}
+use Rattle.infer_table.specs.LogLemmas.{are_of_hole, are_of_leaf, are_of_pair, are_of_parts}
+use Rattle.infer_table.specs.TermLemmas.{hole_eq_same}
+use Rattle.infer_table.specs.Made.{MadeIf}
+use Rattle.infer_table.proofs.Unifying.{parts_until, parts_around}
+
+pub hole_made : (z : Bool) (kinds : List HoleKind) (k : Hole) → (IsTrue z ↔ IsOf kinds k) → MadeIf z kinds (hole k)
+hole_made true kinds k h = are_of_hole kinds k (h.0 refl)
+hole_made false kinds k h = λ all. cc-false (h.1 (all k (hole_eq_same k)))
+  where
+    cc-false : IsTrue false → ⊥
+    cc-false e = cc
+
+chain_last : (kinds : List HoleKind) (xs : List Term) (x : Term) → AreOf kinds (chain xs) → AreOf kinds x → AreOf kinds (chain (xs ++ x ∷ []))
+chain_last kinds [] x h k = are_of_pair kinds x (leaf head.End) k (are_of_leaf kinds head.End)
+chain_last kinds (y ∷ xs) x h k =
+    let p = are_of_parts kinds y (chain xs) h in are_of_pair kinds y (chain (xs ++ x ∷ [])) p.0 (chain_last kinds xs x p.1 k)
+
+chain_part : (kinds : List HoleKind) (xs : List Term) (x : Term) (ys : List Term) → AreOf kinds (chain (xs ++ x ∷ ys)) → AreOf kinds x
+chain_part kinds [] x ys h = (are_of_parts kinds x (chain ys) h).0
+chain_part kinds (y ∷ xs) x ys h = chain_part kinds xs x ys (are_of_parts kinds y (chain (xs ++ x ∷ ys)) h).1
+
+pub made_more : (kinds : List HoleKind) (xs : List Part) (i : ℕ) (x : Part) → slice_get xs i ≡ Some x → AreOf kinds (chain (part_terms (take i xs))) → AreOf kinds (part_term x) → AreOf kinds (chain (part_terms (take (i + 1) xs)))
+made_more kinds xs i x e h k =
+    subst (λ (z : List Term). AreOf kinds (chain z)) (sym (parts_until xs i x e)) (chain_last kinds (part_terms (take i xs)) (part_term x) h k)
+
+pub not_made : (kinds : List HoleKind) (xs : List Part) (i : ℕ) (x : Part) → slice_get xs i ≡ Some x → (AreOf kinds (part_term x) → ⊥) → AreOf kinds (chain (part_terms xs)) → ⊥
+not_made kinds xs i x e h all =
+    h (chain_part kinds (part_terms (take i xs)) (part_term x) (part_terms (drop (suc i) xs)) (subst (λ (z : List Term). AreOf kinds (chain z)) (parts_around xs i x e) all))

@@ -1,0 +1,9 @@
+pub mod Kept
+pub mod Weights
+pub mod Unifying
+pub mod Openings
+pub mod Heads
+pub mod Settling
+pub mod OpenedBoth
+pub mod UnifiedTables
+pub mod HolesMade

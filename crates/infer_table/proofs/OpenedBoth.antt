@@ -1,0 +1,148 @@
+-- Two types opened one after the other, and what unifying them comes to.
+use Rattle.std.proofs.Common.{◌≡◌, ℕ, Bool, true, false, List, [], ◌∷◌, ◌++◌, length, map, refl, sym, ap, subst, ◌∙◌}
+use Rattle.hir_types.specs.declared.head.Hole.{Hole}
+use Rattle.hir_types.specs.declared.head.Hole.TheVariants as hole_of
+use Rattle.hir_types.specs.declared.head.HoleKind.{HoleKind}
+use Rattle.hir_types.specs.Terms.{Term, apply, term}
+use Rattle.infer_table.specs.declared.binding.Binding.{Binding}
+use Rattle.infer_table.specs.declared.open.Origin.{Origin}
+use Rattle.infer_table.specs.Solutions.{Log, log_of, Solves, resolved, Triangular, IsOf, AreOf, Unified, NoneUnifies}
+use Rattle.infer_table.specs.Bindings.{Substitution, AllOf}
+use Rattle.infer_table.specs.BindingLaws.{log_of_append, binds_of_all}
+use Rattle.infer_table.specs.LogLemmas.{are_of_more}
+use Rattle.infer_table.specs.Opened.{place, alias, IsPlain, opened, origins}
+use Rattle.infer_table.specs.OpenedLaws.{AreOrigins, opened_bounds, origins_plain}
+use Rattle.infer_table.specs.OpenedAgree.{AreSettled}
+use Rattle.infer_table.specs.OpenedKinds.{new_kinds, OriginsOf, origins_of_more, origins_of_append, opened_of, below_of, log_below_of}
+use Rattle.infer_table.specs.Opening.{origins_of}
+use Rattle.infer_table.specs.Equating.{OnlyBinds, IsResolved}
+use Rattle.infer_table.specs.Settling.{IsOriginOf, AreOriginsOf, IsMostGeneral, IsUnified}
+use Rattle.infer_table.specs.Unifying.{GrownFrom, CanBeSame, left_opened, next_number, right_opened, both_origins, can_be_same, both_agree, plain_unifies, plain_general, plain_next, cannot_be_same}
+
+-- ---- aliases
+
+abbrev AllAliases : List (ℕ × Term) → Type 0
+AllAliases [] = Unit {0}
+AllAliases (p ∷ ps) = (place p.1 ≡ alias) × AllAliases ps
+
+aliases_from : (low high : ℕ) (t : Term) (ps : List (ℕ × Term)) → AreOrigins low high t ps → AllAliases ps
+aliases_from low high t [] h = tt
+aliases_from low high t (p ∷ ps) h = (h.2, aliases_from low high t ps h.4)
+
+aliases_append : (ps qs : List (ℕ × Term)) → AllAliases ps → AllAliases qs → AllAliases (ps ++ qs)
+aliases_append [] qs h k = k
+aliases_append (p ∷ ps) qs h k = (h.0, aliases_append ps qs h.1 k)
+
+are_origins_of : (kinds : List HoleKind) (os : List Origin) → OriginsOf kinds (origins_of os) → AllAliases (origins_of os) → AreOriginsOf kinds os
+are_origins_of kinds [] h a = tt
+are_origins_of kinds (o ∷ os) h a = (record { hole = h.0; holes = h.1; is_alias = a.0 }, are_origins_of kinds os h.2 a.1)
+
+pub none_from : (os : List Origin) → origins_of os ≡ [] → os ≡ []
+none_from [] e = refl
+none_from (o ∷ os) e = cc
+
+-- ---- both
+
+-- v and w are the opened terms of t and u, with holes from number n on, in a table of these kinds
+pub record BothOpened (n : ℕ) (kinds : List HoleKind) (t u v w : Term) (os : List Origin) : Type 0 where
+  pub left : v ≡ (opened n t).0
+  pub right : w ≡ (opened (opened n t).1 u).0
+  pub next : length kinds ≡ (opened (opened n t).1 u).1
+  pub left_made : AreOf kinds v
+  pub right_made : AreOf kinds w
+  pub origins_are : origins_of os ≡ origins n t ++ origins (opened n t).1 u
+  pub origins_made : AreOriginsOf kinds os
+
+module _ (k l m : List HoleKind) (t u v w : Term) (os ps qs : List Origin) where
+  pub both_opened : os ≡ [] → AreOf k t → AreOf k u → l ≡ k ++ new_kinds t → (v, length l) ≡ opened (length k) t → origins_of ps ≡ origins_of os ++ origins (length k) t → m ≡ l ++ new_kinds u → (w, length m) ≡ opened (length l) u → origins_of qs ≡ origins_of ps ++ origins (length l) u → BothOpened (length k) m t u v w qs
+  both_opened none of_t of_u kl tv ops lm uw qrs =
+      let n = length k in
+      let e : v ≡ (opened n t).0 = ap (λ (x : Term × ℕ). x.0) tv in
+      let j : length l ≡ (opened n t).1 = ap (λ (x : Term × ℕ). x.1) tv in
+      let f : w ≡ (opened (length l) u).0 = ap (λ (x : Term × ℕ). x.0) uw in
+      let first = opened_of t k n refl of_t in
+      let v_in_l : AreOf l v = subst (λ (z : List HoleKind). AreOf z v) (sym kl) (subst (λ (x : Term). AreOf (k ++ new_kinds t) x) (sym e) first.term) in
+      let u_in_l : AreOf l u = subst (λ (z : List HoleKind). AreOf z u) (sym kl) (are_of_more k (new_kinds t) u of_u) in
+      let second = opened_of u l (length l) refl u_in_l in
+      let os_in_l : OriginsOf l (origins n t) = subst (λ (z : List HoleKind). OriginsOf z (origins n t)) (sym kl) first.origins in
+      let all = origins_of_append (l ++ new_kinds u) (origins n t) (origins (length l) u) (origins_of_more l (new_kinds u) (origins n t) os_in_l) second.origins in
+      let joined : origins_of qs ≡ origins n t ++ origins (length l) u =
+      qrs ∙ ap (λ (z : List (ℕ × Term)). z ++ origins (length l) u) (ops ∙ ap (λ (z : List Origin). origins_of z ++ origins n t) none) in
+      let aliases = aliases_append (origins n t) (origins (length l) u) (aliases_from _ _ t (origins n t) (opened_bounds n t).origins) (aliases_from _ _ u (origins (length l) u) (opened_bounds (length l) u).origins) in
+      record {
+        left = e;
+        right = f ∙ ap (λ (z : ℕ). (opened z u).0) j;
+        next = ap (λ (x : Term × ℕ). x.1) uw ∙ ap (λ (z : ℕ). (opened z u).1) j;
+        left_made = subst (λ (z : List HoleKind). AreOf z v) (sym lm) (are_of_more l (new_kinds u) v v_in_l);
+        right_made = subst (λ (z : List HoleKind). AreOf z w) (sym lm) (subst (λ (x : Term). AreOf (l ++ new_kinds u) x) (sym f) second.term);
+        origins_are = joined ∙ ap (λ (z : ℕ). origins n t ++ origins z u) j;
+        origins_made =
+            are_origins_of m qs (subst (λ (z : List (ℕ × Term)). OriginsOf m z) (sym joined) (subst (λ (z : List HoleKind). OriginsOf z (origins n t ++ origins (length l) u)) (sym lm) all))
+            (subst (λ (z : List (ℕ × Term)). AllAliases z) (sym joined) aliases);
+      }
+
+-- ---- what unifying them comes to
+
+module _ (s : Substitution) (kinds : List HoleKind) (t u a b v w : Term) (os : List Origin) where
+  at_resolved : t ≡ resolved (log_of s.log) a → u ≡ resolved (log_of s.log) b → BothOpened (length s.kinds) kinds t u v w os → BothOpened (length s.kinds) kinds (resolved (log_of s.log) a) (resolved (log_of s.log) b) v w os
+  at_resolved e f h =
+      let P : Term → Type 0 = λ x. BothOpened (length s.kinds) kinds x u v w os in
+      let Q : Term → Type 0 = λ x. BothOpened (length s.kinds) kinds (resolved (log_of s.log) a) x v w os in
+      subst Q f (subst P e h)
+
+  pub opened_refused : t ≡ resolved (log_of s.log) a → u ≡ resolved (log_of s.log) b → BothOpened (length s.kinds) kinds t u v w os → AllOf s.kinds s.log → AreOf s.kinds t → AreOf s.kinds u → (log : List Binding) → log ≡ s.log → NoneUnifies (log_of log) v w → CanBeSame (log_of s.log) a b → ⊥
+  opened_refused e f h all of_t of_u log same none =
+      let l = log_of s.log in
+      let both = at_resolved e f h in
+      let n = length s.kinds in
+      let P : List Binding → Type 0 = λ x. NoneUnifies (log_of x) v w in
+      let Q : Term → Type 0 = λ x. NoneUnifies l x w in
+      let R : Term → Type 0 = λ x. NoneUnifies l (left_opened n l a) x in
+      let T : Term → Type 0 = λ x. AreOf s.kinds x in
+      cannot_be_same n l a b (below_of s.kinds (resolved l a) (subst T e of_t)) (below_of s.kinds (resolved l b) (subst T f of_u)) (log_below_of s.kinds l (binds_of_all s.kinds s.log all))
+      (subst R both.right (subst Q both.left (subst P same none)))
+
+log_grown : (before after : List Binding) → ((bs : List Binding) × (after ≡ before ++ bs)) → GrownFrom (log_of before) (log_of after)
+log_grown before after g = (log_of g.0, ap log_of g.1 ∙ log_of_append before g.0)
+
+append_twice : (xs ys zs : List Binding) → (xs ++ ys) ++ zs ≡ xs ++ (ys ++ zs)
+append_twice [] ys zs = refl
+append_twice (x ∷ xs) ys zs = ap (λ (z : List Binding). x ∷ z) (append_twice xs ys zs)
+
+-- the steps from the first state to the last
+pub record Steps (s : Substitution) (log : List Binding) (z y : Substitution) : Type 0 where
+  pub opened_log : log ≡ s.log
+  pub equated : (bs : List Binding) × (z.log ≡ log ++ bs)
+  pub settled : OnlyBinds z y
+  pub acyclic_before : Triangular (log_of s.log)
+  pub acyclic_after : Triangular (log_of y.log)
+
+module _ (s : Substitution) (log : List Binding) (z y : Substitution) (t u a b v w : Term) (os : List Origin) where
+  pub opened_unified : t ≡ resolved (log_of s.log) a → u ≡ resolved (log_of s.log) b → BothOpened (length s.kinds) z.kinds t u v w os → Steps s log z y → Unified (log_of log) (log_of z.log) v w → AreSettled (log_of y.log) (origins_of os) → (os ≡ [] → y ≡ z) → IsUnified s y a b
+  opened_unified e f h steps unified settled nothing =
+      let l = log_of s.log in
+      let n = length s.kinds in
+      let both = at_resolved s z.kinds t u a b v w os e f h in
+      let P : List Binding → Type 0 = λ x. Unified (log_of x) (log_of z.log) v w in
+      let Q : Term → Type 0 = λ x. Unified l (log_of z.log) x w in
+      let R : Term → Type 0 = λ x. Unified l (log_of z.log) (left_opened n l a) x in
+      let S : List (ℕ × Term) → Type 0 = λ x. AreSettled (log_of y.log) x in
+      let joined : Unified l (log_of z.log) (left_opened n l a) (right_opened n l a b) = subst R both.right (subst Q both.left (subst P steps.opened_log unified)) in
+      let g = log_grown z.log y.log steps.settled.added in
+      let more : y.log ≡ s.log ++ (steps.equated.0 ++ steps.settled.added.0) =
+      steps.settled.added.1 ∙ ap (λ (x : List Binding). x ++ steps.settled.added.0) (steps.equated.1 ∙ ap (λ (x : List Binding). x ++ steps.equated.0) steps.opened_log)
+      ∙ append_twice s.log steps.equated.0 steps.settled.added.0 in
+      let f = log_grown s.log y.log (steps.equated.0 ++ steps.settled.added.0, more) in
+      record {
+        possible = can_be_same n l (log_of z.log) (log_of y.log) a b g steps.acyclic_after joined;
+        agree = both_agree n l (log_of z.log) (log_of y.log) a b g f steps.acyclic_before steps.acyclic_after joined (subst S both.origins_are settled);
+        most_general = λ p q.
+            let none : os ≡ [] = none_from os (both.origins_are ∙ (λ i. origins_plain n (resolved l a) p i ++ origins_plain (next_number n l a) (resolved l b) q i)) in
+            let same = nothing none in
+            let U : Substitution → Type 0 = λ x. IsMostGeneral s x a b in
+            subst U (sym same) (record {
+              unifies = plain_unifies n l (log_of z.log) a b p q joined;
+              general = plain_general n l (log_of z.log) a b p q joined;
+              no_hole_made = both.next ∙ plain_next n l a b p q;
+            });
+      }

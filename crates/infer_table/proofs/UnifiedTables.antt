@@ -1,0 +1,71 @@
+-- What unifying comes to for a table.
+use Rattle.std.proofs.Common.{◌≡◌, ℕ, Bool, true, false, List, [], ◌∷◌, ◌++◌, refl, sym, ap, subst, ◌∙◌}
+use Rattle.hir_types.specs.declared.head.Hole.{Hole}
+use Rattle.hir_types.specs.declared.head.HoleKind.{HoleKind}
+use Rattle.hir_types.specs.declared.ty.Ty.{Ty}
+use Rattle.hir_types.specs.Terms.{Term, term}
+use Rattle.infer_table.specs.declared.waiting.WaitingPair.{WaitingPair}
+use Rattle.infer_table.specs.Solutions.{log_of, Respects, Solves, resolved}
+use Rattle.infer_table.specs.Bindings.{Substitution}
+use Rattle.infer_table.specs.LogLemmas.{are_of_more}
+use Rattle.infer_table.specs.Resolution.{resolution_term}
+use Rattle.infer_table.specs.Opened.{Agree, IsPlain, Reads}
+use Rattle.infer_table.specs.Settling as settling
+use Rattle.infer_table.specs.Settling.{OnlyGrows, IsUnified, UnifiesOrStays}
+use Rattle.infer_table.specs.Unifying.{CanBeSame}
+use Rattle.infer_table.specs.Table.{State, IsFront, PairsAreOf, bindings, resolved_term, CanBeEqual, AreUnified, AreUnifiedIf, IsMostGeneral}
+use Rattle.infer_table.specs.UndoLaws.{front_itself}
+
+-- ---- kinds
+
+pub kinds_front : (yes : Bool) (before after : Substitution) (a b : Term) → UnifiesOrStays yes before after a b → IsFront before.kinds after.kinds
+kinds_front true before after a b h = h.0.kinds
+kinds_front false before after a b h = subst (λ (s : Substitution). IsFront before.kinds s.kinds) (sym h.0) (front_itself before.kinds)
+
+pairs_more : (kinds more : List HoleKind) (ps : List WaitingPair) → PairsAreOf kinds ps → PairsAreOf (kinds ++ more) ps
+pairs_more kinds more [] h = tt
+pairs_more kinds more (p ∷ ps) h = ((are_of_more kinds more (term p.source) h.0.0, are_of_more kinds more (term p.target) h.0.1), pairs_more kinds more ps h.1)
+
+pub pairs_front : (kinds kinds' : List HoleKind) (ps : List WaitingPair) → IsFront kinds kinds' → PairsAreOf kinds ps → PairsAreOf kinds' ps
+pairs_front kinds kinds' ps f h = subst (λ (k : List HoleKind). PairsAreOf k ps) (sym f.1) (pairs_more kinds f.0 ps h)
+
+-- ---- for a table
+
+term_at : (s : State) (t : Ty) → resolved (log_of (bindings s)) (term t) ≡ resolved_term s t
+term_at s t = sym (resolution_term (bindings s) t)
+
+can_be_equal : (s : State) (a b : Ty) → CanBeSame (log_of (bindings s)) (term a) (term b) → CanBeEqual s a b
+can_be_equal s a b c =
+    (c.0, c.1, c.2, c.3, subst (λ (x : Term). Reads c.0 x c.1) (term_at s a) c.4, subst (λ (x : Term). Reads c.0 x c.1) (term_at s b) c.5)
+
+can_be_same : (s : State) (a b : Ty) → CanBeEqual s a b → CanBeSame (log_of (bindings s)) (term a) (term b)
+can_be_same s a b c =
+    (c.0, c.1, c.2, c.3, subst (λ (x : Term). Reads c.0 x c.1) (sym (term_at s a)) c.4, subst (λ (x : Term). Reads c.0 x c.1) (sym (term_at s b)) c.5)
+
+most_general : (before after : State) (a b : Ty) → settling.IsMostGeneral before.substitution after.substitution (term a) (term b) → IsMostGeneral before after a b
+most_general before after a b h = record { unifies = h.unifies; general = h.general; no_hole_made = h.no_hole_made }
+
+are_unified : (before after : State) (a b : Ty) → after.pairs ≡ before.pairs → after.diverging ≡ before.diverging → OnlyGrows before.substitution after.substitution → IsUnified before.substitution after.substitution (term a) (term b) → AreUnified before after a b
+are_unified before after a b pairs diverging grows h = record {
+  grown = record {
+    kinds = grows.kinds;
+    log = grows.log;
+    made = subst (λ x. (zs : List _) × (x ≡ before.pairs.made ++ zs)) (sym (ap (λ w. w.made) pairs)) (front_itself before.pairs.made);
+    taken = subst (λ x. (zs : List _) × (x ≡ before.pairs.taken ++ zs)) (sym (ap (λ w. w.taken) pairs)) (front_itself before.pairs.taken);
+    diverging = subst (λ x. (zs : List _) × (x ≡ before.diverging ++ zs)) (sym diverging) (front_itself before.diverging);
+  };
+  pairs = pairs;
+  diverging = diverging;
+  possible = can_be_equal before a b h.possible;
+  agree = subst (λ (x : Term). Agree x (resolved_term after b)) (term_at after a) (subst (λ (x : Term). Agree (resolved (log_of (bindings after)) (term a)) x) (term_at after b) h.agree);
+  most_general = λ p q.
+      most_general before after a b
+      (h.most_general (subst (λ (x : Term). IsPlain x) (sym (term_at before a)) p) (subst (λ (x : Term). IsPlain x) (sym (term_at before b)) q));
+}
+
+pub unified_if : (yes : Bool) (before after : State) (a b : Ty) → after.pairs ≡ before.pairs → after.diverging ≡ before.diverging → UnifiesOrStays yes before.substitution after.substitution (term a) (term b) → AreUnifiedIf yes before after a b
+unified_if true before after a b pairs diverging h = are_unified before after a b pairs diverging h.0 h.1
+unified_if false before after a b pairs diverging h = record {
+  unchanged = λ i. record { substitution = h.0 i; pairs = pairs i; diverging = diverging i };
+  impossible = λ c. h.1 (can_be_same before a b c);
+}

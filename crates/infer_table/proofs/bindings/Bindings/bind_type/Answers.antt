@@ -1,0 +1,14 @@
+use Rattle.std.proofs.Common.{sym, ◌∙◌}
+use Rattle.hir_types.specs.Terms.{term}
+use Rattle.infer_table.proofs.Unifying.{none_of_cycle, unified_binding}
+use Rattle.infer_table.proofs.bindings.Bindings.bind_type.Goals as goal
+
+pub returns-then-branch-clause-unified : goal.returns-then-branch-clause-unified
+returns-then-branch-clause-unified c =
+    none_of_cycle c.args.self.now c.args.x c.args.head (term c.args.ty) c.requires.none_bound c.requires.has_head
+    (sym c.in_ok-stands_in.ensures ∙ c.if-branch.true)
+
+pub returns-clause-unified : goal.returns-clause-unified
+returns-clause-unified c =
+    unified_binding c.args.self.now c.bind.new.self c.binding_to.result c.args.x (term c.args.ty)
+    c.binding_to.ensures.bound c.binding_to.ensures.target c.requires.none_bound c.in_ok-bind.ensures.bound

@@ -1,0 +1,6 @@
+use Rattle.std.proofs.Common.{sym}
+use Rattle.infer_table.specs.CompletionLaws.{completed_var}
+use Rattle.infer_table.proofs.complete.CompleterTypeFolder.fold_var.Goals as goal
+
+pub returns : goal.returns
+returns c = sym (completed_var c.args.self.now.bindings.now.log c.args._hole c.requires)

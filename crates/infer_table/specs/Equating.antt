@@ -1,0 +1,29 @@
+-- What making two types equal does to the bindings.
+use Rattle.std.specs.Prelude.{◌≡◌, ◌++◌, List, None}
+use Rattle.hir_types.specs.declared.head.Head.{Head}
+use Rattle.hir_types.specs.declared.head.Hole.{Hole}
+use Rattle.hir_types.specs.Terms.{Term, leaf, pair}
+use Rattle.infer_table.specs.declared.binding.Binding.{Binding}
+use Rattle.infer_table.specs.Solutions.{log_of, Free, IsOf, AreOf}
+use Rattle.infer_table.specs.Bindings.{Substitution, found_binding, IsTypeHole}
+
+-- only bindings are added
+pub record OnlyBinds (before after : Substitution) : Type 0 where
+  pub kinds : after.kinds ≡ before.kinds
+  pub added : (bs : List Binding) × (after.log ≡ before.log ++ bs)
+
+-- a hole of types that was made and is not bound
+pub record IsOpenHole (s : Substitution) (k : Hole) : Type 0 where
+  pub of_types : IsTypeHole k
+  pub made : IsOf s.kinds k
+  pub is_open : found_binding s.log k ≡ None
+
+-- its holes were made, and none is bound
+pub record IsResolved (s : Substitution) (t : Term) : Type 0 where
+  pub made : AreOf s.kinds t
+  pub none_bound : Free (log_of s.log) t
+
+-- no hole, and what stands outermost
+pub record HasHead (h : Head) (t : Term) : Type 0 where
+  pub parts : Term
+  pub is : t ≡ pair (leaf h) parts

@@ -1,0 +1,15 @@
+-- Whether the holes of a term were made, as a test.
+use Rattle.std.specs.Prelude.{Bool, true, false, List}
+use Rattle.hir_types.specs.declared.head.HoleKind.{HoleKind}
+use Rattle.hir_types.specs.declared.ty.Ty.{Ty}
+use Rattle.hir_types.specs.Terms.{Term}
+use Rattle.infer_table.specs.Solutions.{AreOf}
+use Rattle.infer_table.specs.Table.{State, HolesAreOf}
+
+abbrev pub MadeIf : Bool → List HoleKind → Term → Type 0
+MadeIf true kinds t = AreOf kinds t
+MadeIf false kinds t = AreOf kinds t → ⊥
+
+abbrev pub HasMadeIf : Bool → State → Ty → Type 0
+HasMadeIf true s t = HolesAreOf s t
+HasMadeIf false s t = HolesAreOf s t → ⊥

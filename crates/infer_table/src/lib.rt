@@ -1,0 +1,22 @@
+//! Type inference variables: most general unifiers, with exact undo.
+#![tactic(auto)]
+
+mod binding;
+mod bindings;
+mod complete;
+mod equate;
+mod levels;
+mod made;
+mod open;
+mod resolve;
+mod resolver;
+mod snapshot;
+mod table;
+mod unify;
+mod waiting;
+mod waits;
+
+pub use snapshot::Snapshot;
+pub use table::InferenceTable;
+pub use unify::NoUnifier;
+pub use waiting::WaitingPair;
