@@ -9,7 +9,7 @@ use Rattle.infer_table.specs.declared.open.Origin.{Origin}
 use Rattle.infer_table.specs.Solutions.{Log, log_of, Solves, resolved, Triangular, IsOf, AreOf, Unified, NoneUnifies}
 use Rattle.infer_table.specs.Bindings.{Substitution, AllOf}
 use Rattle.infer_table.specs.BindingLaws.{log_of_append, binds_of_all}
-use Rattle.infer_table.specs.LogLemmas.{are_of_more}
+use Rattle.infer_table.specs.LogLemmas.{are_of_more, solution, solution_respects, solution_solves}
 use Rattle.infer_table.specs.Opened.{place, alias, IsPlain, opened, origins}
 use Rattle.infer_table.specs.OpenedLaws.{AreOrigins, opened_bounds, origins_plain}
 use Rattle.infer_table.specs.OpenedAgree.{AreSettled}
@@ -135,6 +135,8 @@ module _ (s : Substitution) (log : List Binding) (z y : Substitution) (t u a b v
       let f = log_grown s.log y.log (steps.equated.0 ++ steps.settled.added.0, more) in
       record {
         possible = can_be_same n l (log_of z.log) (log_of y.log) a b g steps.acyclic_after joined;
+        solvable =
+            (solution (log_of y.log), solution_respects (log_of y.log) steps.acyclic_after, solution_solves (log_of y.log) steps.acyclic_after);
         agree = both_agree n l (log_of z.log) (log_of y.log) a b g f steps.acyclic_before steps.acyclic_after joined (subst S both.origins_are settled);
         most_general = λ p q.
             let none : os ≡ [] = none_from os (both.origins_are ∙ (λ i. origins_plain n (resolved l a) p i ++ origins_plain (next_number n l a) (resolved l b) q i)) in

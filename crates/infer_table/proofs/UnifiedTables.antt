@@ -57,6 +57,7 @@ are_unified before after a b pairs diverging grows h = record {
   pairs = pairs;
   diverging = diverging;
   possible = can_be_equal before a b h.possible;
+  solvable = h.solvable;
   agree = subst (λ (x : Term). Agree x (resolved_term after b)) (term_at after a) (subst (λ (x : Term). Agree (resolved (log_of (bindings after)) (term a)) x) (term_at after b) h.agree);
   most_general = λ p q.
       most_general before after a b

@@ -12,6 +12,7 @@ pub mod OpenedKinds
 pub mod Unify
 pub mod BindingLaws
 pub mod WaitingLaws
+pub mod FrontLaws
 pub mod Resolution
 pub mod Equating
 pub mod Unifying
@@ -23,4 +24,5 @@ pub mod Settling
 pub mod TableLaws
 pub mod CompletionLaws
 pub mod Made
+pub mod Preserved
 pub mod HoleLaws

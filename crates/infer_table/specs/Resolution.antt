@@ -63,7 +63,7 @@ terms_itself (hole_of.Ty n) = term_var n
 terms_itself (hole_of.Int n) = term_int_var n
 terms_itself (hole_of.Const n) = refl
 
-terms_composed : (f g : Assignment) (k : Hole) → terms_of (composed f g) k ≡ apply (terms_of f) (terms_of g k)
+pub terms_composed : (f g : Assignment) (k : Hole) → terms_of (composed f g) k ≡ apply (terms_of f) (terms_of g k)
 terms_composed f g (hole_of.Ty n) = term_folded f (g.var n)
 terms_composed f g (hole_of.Int n) = term_folded f (g.int_var n)
 terms_composed f g (hole_of.Const n) = const_term_folded f (g.const_var n)

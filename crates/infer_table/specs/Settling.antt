@@ -6,7 +6,7 @@ use Rattle.hir_types.specs.declared.head.Hole.{Hole}
 use Rattle.hir_types.specs.Terms.{Term, hole, apply, term}
 use Rattle.infer_table.specs.declared.binding.Binding.{Binding}
 use Rattle.infer_table.specs.declared.open.Origin.{Origin}
-use Rattle.infer_table.specs.Solutions.{log_of, Solves, resolved, IsOf, AreOf}
+use Rattle.infer_table.specs.Solutions.{log_of, Solves, Respects, resolved, IsOf, AreOf}
 use Rattle.infer_table.specs.Bindings.{Substitution}
 use Rattle.infer_table.specs.Opened.{place, alias, IsPlain, Agree}
 use Rattle.infer_table.specs.OpenedAgree.{IsSettled, IsNoTypeHole}
@@ -52,6 +52,7 @@ pub record IsMostGeneral (before after : Substitution) (a b : Term) : Type 0 whe
 
 pub record IsUnified (before after : Substitution) (a b : Term) : Type 0 where
   pub possible : CanBeSame (log_of before.log) a b
+  pub solvable : (s : Hole → Term) × Respects s × Solves s (log_of after.log)
   pub agree : Agree (resolved (log_of after.log) a) (resolved (log_of after.log) b)
   pub most_general : IsPlain (resolved (log_of before.log) a) → IsPlain (resolved (log_of before.log) b) → IsMostGeneral before after a b
 

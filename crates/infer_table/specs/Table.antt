@@ -112,6 +112,7 @@ pub record AreUnified (before after : State) (a b : Ty) : Type 0 where
   pub pairs : after.pairs ≡ before.pairs
   pub diverging : after.diverging ≡ before.diverging
   pub possible : CanBeEqual before a b
+  pub solvable : (s : Hole → Term) × Respects s × Meets s after
   pub agree : Agree (resolved_term after a) (resolved_term after b)
   pub most_general : IsPlain (resolved_term before a) → IsPlain (resolved_term before b) → IsMostGeneral before after a b
 

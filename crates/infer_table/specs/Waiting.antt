@@ -55,6 +55,10 @@ cut_back w made taken = record { made = take made w.made; taken = take taken w.t
 abbrev pub AllMade : Waiting → Type 0
 AllMade w = (i : ℕ) → is_taken w.taken i ≡ true → i < length w.made
 
+-- the pair at each position below n is taken
+abbrev pub AllTakenBelow : List ℕ → ℕ → Type 0
+AllTakenBelow taken n = (i : ℕ) → i < n → is_taken taken i ≡ true
+
 -- the pair at a position, if it was made to wait and is not taken
 abbrev pub left_at : Waiting → ℕ → Option WaitingPair
 left_at w i = if is_taken w.taken i then None else slice_get w.made i

@@ -2,17 +2,20 @@
 //! `resolve_completely`.
 ghost use Rattle.std.specs.Prelude.{◌≡◌, IfOk};
 ghost use Rattle.hir_types.specs.Subst.{Assignment, with_holes};
+ghost use Rattle.hir_types.specs.Terms.{terms_of};
+ghost use Rattle.infer_table.specs.Bindings.{AllOf};
 ghost use Rattle.infer_table.specs.Resolution.{resolution, IsOpenOrKnown};
-ghost use Rattle.infer_table.specs.Table.{bindings, resolved_type};
+ghost use Rattle.infer_table.specs.Solutions.{Respects};
+ghost use Rattle.infer_table.specs.Table.{bindings, resolved_type, Meets};
 ghost use Rattle.infer_table.specs.Completion.{completion_of, completion};
 
 use crate::bindings::Bindings;
 use crate::table::InferenceTable;
-use hir_types::{Const, Folded, Room, Ty, TypeFolder};
+use hir_types::{Const, Folded, IntTy, Room, Ty, TypeFolder};
 use std::alloc::{AllocError, Global};
 
-/// Puts in the place of each bound hole what it is bound to, and `{unknown}` in the place of each
-/// other hole.
+/// Puts in the place of each bound hole what it is bound to, and in the place of each other hole what
+/// it falls back to: `i32` for a hole of integer types, else `{unknown}`.
 #[derive(Clone, Copy)]
 struct Completer<'a> {
     bindings: &'a Bindings,
@@ -44,7 +47,7 @@ impl TypeFolder for Completer<'_> {
         _levels: u32,
         _room: &mut Room,
     ) -> Result<Ty, AllocError> {
-        Ok(Ty::Error) // of some integer type
+        Ok(Ty::Int(IntTy::I32)) // of some integer type
     }
 
     fn fold_const_var(&self, hole: usize) -> Result<Const, AllocError> {
@@ -86,8 +89,9 @@ impl InferenceTable {
         self.bindings.resolve(self.alloc, value)
     }
 
-    /// The value with what its holes are bound to, and `{unknown}` for each hole that is open, within
-    /// the limits of `resolve`: no hole is left.
+    /// The value with what its holes are bound to, and for each hole that is open what it falls back
+    /// to, `i32` for a hole of integer types and else `{unknown}`, within the limits of `resolve`: no
+    /// hole is left.
     pub fn resolve_completely<T: Folded>(&self, value: &T) -> Result<T, AllocError>
         ensures made { IfOk result (λ made. made ≡ T.replaced (with_holes (completion self.now)) value.now) }
         ensures no_hole { IfOk result (λ made. (s : Assignment) → T.replaced (with_holes s) made ≡ made) }
@@ -96,5 +100,15 @@ impl InferenceTable {
             bindings: &self.bindings,
         };
         value.fold_with(self.alloc, &completer)
+    }
+
+    /// What is known of each table: its completion agrees with all bindings and keeps kinds, and no
+    /// binding names a hole that was not made.
+    pub fn lawful(&self)
+        ensures meets { Meets (terms_of (completion self.now)) self.now }
+        ensures respects { Respects (terms_of (completion self.now)) }
+        ensures made { AllOf self.now.substitution.kinds (bindings self.now) }
+    {
+        let _log = self.bindings.log();
     }
 }

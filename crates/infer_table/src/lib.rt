@@ -8,10 +8,13 @@ mod equate;
 mod levels;
 mod made;
 mod open;
+mod queue;
 mod resolve;
 mod resolver;
 mod snapshot;
 mod table;
+#[cfg(test)]
+mod tests;
 mod unify;
 mod waiting;
 mod waits;

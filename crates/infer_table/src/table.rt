@@ -4,9 +4,10 @@ ghost use Rattle.hir_types.specs.declared.head.HoleKind.TheVariants as kind;
 ghost use Rattle.hir_types.specs.declared.ty.Ty.TheVariants as ty;
 ghost use Rattle.hir_types.specs.declared.ty.Const.TheVariants as const;
 ghost use Rattle.infer_table.specs.Table.{new_state, hole_count, with_new_hole, with_diverging};
+ghost use Rattle.infer_table.specs.Undo.{AreUnusedFrom};
 
 use crate::bindings::Bindings;
-use crate::waiting::WaitingPairs;
+use crate::queue::PairQueue;
 use hir_types::{Const, HoleKind, Ty};
 use std::alloc::{AllocError, Global};
 use std::marker::Model;
@@ -18,7 +19,7 @@ use std::marker::Model;
 pub struct InferenceTable {
     pub(crate) alloc: Global,
     pub(crate) bindings: Bindings,
-    pub(crate) pairs: WaitingPairs,
+    pub(crate) pairs: PairQueue,
     pub(crate) diverging: Vec<usize>,
 }
 
@@ -44,7 +45,7 @@ impl InferenceTable {
         Ok(InferenceTable {
             alloc,
             bindings: Bindings::new(alloc),
-            pairs: WaitingPairs::new(alloc),
+            pairs: PairQueue::new(alloc),
             diverging: Vec::new(alloc),
         })
     }
@@ -53,8 +54,11 @@ impl InferenceTable {
     pub fn next_ty_var(&mut self) -> Result<Ty, AllocError>
         ensures hole { IfOk result (λ hole. hole ≡ ty.Var (hole_count self.old)) }
         ensures made { OnOk result (self.new ≡ with_new_hole self.old kind.Ty) }
+        ensures unused { OnOk result (AreUnusedFrom (hole_count self.old) self.new) }
         ensures err { OnErr result (self.new ≡ self.old) }
     {
+        // What is bound names holes that were made, so the new one is in no binding.
+        let _bound = self.bindings.bound_count();
         let hole = self.bindings.new_hole(HoleKind::Ty)?;
         Ok(Ty::Var(hole))
     }
@@ -63,8 +67,11 @@ impl InferenceTable {
     pub fn next_int_var(&mut self) -> Result<Ty, AllocError>
         ensures hole { IfOk result (λ hole. hole ≡ ty.IntVar (hole_count self.old)) }
         ensures made { OnOk result (self.new ≡ with_new_hole self.old kind.Int) }
+        ensures unused { OnOk result (AreUnusedFrom (hole_count self.old) self.new) }
         ensures err { OnErr result (self.new ≡ self.old) }
     {
+        // What is bound names holes that were made, so the new one is in no binding.
+        let _bound = self.bindings.bound_count();
         let hole = self.bindings.new_hole(HoleKind::Int)?;
         Ok(Ty::IntVar(hole))
     }
@@ -73,8 +80,11 @@ impl InferenceTable {
     pub fn next_const_var(&mut self) -> Result<Const, AllocError>
         ensures hole { IfOk result (λ hole. hole ≡ const.Var (hole_count self.old)) }
         ensures made { OnOk result (self.new ≡ with_new_hole self.old kind.Const) }
+        ensures unused { OnOk result (AreUnusedFrom (hole_count self.old) self.new) }
         ensures err { OnErr result (self.new ≡ self.old) }
     {
+        // What is bound names holes that were made, so the new one is in no binding.
+        let _bound = self.bindings.bound_count();
         let hole = self.bindings.new_hole(HoleKind::Const)?;
         Ok(Const::Var(hole))
     }
@@ -84,8 +94,11 @@ impl InferenceTable {
     pub fn new_maybe_never_var(&mut self) -> Result<Ty, AllocError>
         ensures hole { IfOk result (λ hole. hole ≡ ty.Var (hole_count self.old)) }
         ensures made { OnOk result (self.new ≡ with_diverging (with_new_hole self.old kind.Ty) (hole_count self.old)) }
+        ensures unused { OnOk result (AreUnusedFrom (hole_count self.old) self.new) }
         ensures err { OnErr result (self.new ≡ self.old) }
     {
+        // What is bound names holes that were made, so the new one is in no binding.
+        let _bound = self.bindings.bound_count();
         let hole = self.bindings.hole_count();
         self.diverging.push(hole)?;
         match self.bindings.new_hole(HoleKind::Ty) {

@@ -85,6 +85,13 @@ impl WaitingPairs {
         self.taken.len()
     }
 
+    /// The positions of the pairs that were taken, in the order in which they were taken.
+    pub fn trail(&self) -> &[usize]
+        ensures { result.now ≡ self.now.taken }
+    {
+        self.taken.as_slice()
+    }
+
     /// Makes a pair wait, behind the others.
     pub fn wait(&mut self, pair: WaitingPair) -> Result<(), AllocError>
         ensures ok { OnOk result (self.new ≡ with_pair self.old pair) }

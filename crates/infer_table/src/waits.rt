@@ -43,7 +43,7 @@ impl InferenceTable {
     fn first_known(&self) -> Option<usize>
         ensures { MatchOption result (AllUnknown self.now (waiting self.now.pairs)) (λ at. IsFirstKnown self.now at) }
     {
-        for at in 0..self.pairs.made_count() {
+        for at in self.pairs.front()..self.pairs.made_count() {
             if let Some(pair) = self.pairs.left(at) {
                 if self.is_known(&pair.source) || self.is_known(&pair.target) {
                     return Some(at);

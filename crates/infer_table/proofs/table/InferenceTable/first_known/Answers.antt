@@ -1,7 +1,8 @@
 use Rattle.std.proofs.Common.{◌≡◌, ◌⊎◌, inl, inr, sym, ap, subst, ◌∙◌, length, Some, None, option_copied, arith, true≢false}
 use Rattle.infer_table.specs.Table.{State, IsKnown}
+use Rattle.infer_table.specs.FrontLaws.{all_unknown_front}
 use Rattle.infer_table.specs.TableLaws.{all_unknown_none, all_unknown_more, unknown_from_not}
-use Rattle.infer_table.specs.Waiting.{left_at}
+use Rattle.infer_table.specs.Waiting.{left_at, AllTakenBelow}
 use Rattle.infer_table.proofs.table.InferenceTable.first_known.Goals.{then-is_known-via-then-is_known, then-is_known-via-else-is_known+then-is_known-2, in-Some+else-is_known+else-is_known-2, in_default}
 use Rattle.infer_table.proofs.table.InferenceTable.first_known.Goals as goal
 
@@ -15,6 +16,11 @@ returns-then-is_known c =
     ] in
     let Left : State → Type 0 = λ t. left_at t.pairs c.loop-at.at ≡ Some p in
     record { pair = p; left = subst Left c.self.view_is (sym c.in-Some.ensures); known = known; none_before = c.loop-at.invariant }
+
+pub loop-at-init : goal.loop-at-init
+loop-at-init c =
+    let P : State → Type 0 = λ t. AllTakenBelow t.pairs.taken c.front-at.result in
+    all_unknown_front c.args.self.now c.front-at.result (subst P c.self.view_is c.front-at.ensures)
 
 pub loop-at-preserved : goal.loop-at-preserved
 loop-at-preserved c =

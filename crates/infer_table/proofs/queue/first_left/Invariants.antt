@@ -1,0 +1,5 @@
+use Rattle.infer_table.specs.Waiting.{AllTakenBelow}
+use Rattle.infer_table.proofs.queue.first_left.Given as goal
+
+abbrev pub invariant-loop-at : goal.invariant-loop-at
+invariant-loop-at l = AllTakenBelow l.pairs.taken l.at

@@ -1,0 +1,5 @@
+use Rattle.infer_table.specs.Table.{Grew}
+use Rattle.table_bench.proofs.chain.link.Given as goal
+
+abbrev pub invariant-loop-next : goal.invariant-loop-next
+invariant-loop-next l = Grew l.initial.table l.table

@@ -1,0 +1,5 @@
+use Rattle.infer_table.specs.Table.{Grew}
+use Rattle.table_bench.proofs.pairs.unify_all.Given as goal
+
+abbrev pub invariant-loop-first : goal.invariant-loop-first
+invariant-loop-first l = Grew l.initial.table l.table

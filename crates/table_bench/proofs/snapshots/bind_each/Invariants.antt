@@ -1,0 +1,5 @@
+use Rattle.infer_table.specs.Table.{Grew}
+use Rattle.table_bench.proofs.snapshots.bind_each.Given as goal
+
+abbrev pub invariant-loop-hole : goal.invariant-loop-hole
+invariant-loop-hole l = Grew l.initial.table l.table
