@@ -1,12 +1,9 @@
 -- What decimal digits stand for, digit by digit.
 use Rattle.std.proofs.Common.{◌≡◌, ◌<◌, ◌≤◌, ◌+◌, ◌-◌, ◌*◌, ◌^◌, ℕ, List, [], ◌∷◌, length, get_or, drop, Bool, true, false, ◌&&◌, cond, Option, Some, None, refl, sym, ◌∙◌, arith, lit<}
-use Rattle.std.specs.Prelude.{nat_le, IsSomeAnd, fold, slice_get}
+use Rattle.std.specs.Prelude.{nat_le, IsSomeAnd, fold}
 use Rattle.std.proofs.Math.ListN.{drop_of_length-le}
-use Rattle.hir_facts.specs.declared.raw.RawBody.{RawBody}
-use Rattle.hir_facts.specs.declared.raw.RawExpr.{RawExpr}
-use Rattle.hir_facts.specs.declared.raw.RawExpr.TheVariants as expr
-use Rattle.hir_facts.specs.Laws.Literals.{and_digit, value_of, LiteralsFit}
-use Rattle.hir_facts.specs.Laws.InBits.{IsSmall, ExprIsInBits}
+use Rattle.hir_facts.specs.Laws.Literals.{and_digit, value_of}
+use Rattle.hir_facts.specs.Laws.InBits.{IsSmall}
 use Rattle.hir_facts.proofs.Drops.{drop_at}
 
 -- the digits before i make this value
@@ -47,13 +44,3 @@ valued_large cs i v h lt some large small =
     let s : IsSmall (fold and_digit (Some 0) cs) = rw (value_of_some cs some) at small in
     let t : IsSmall (fold and_digit (and_digit (Some v) (get_or cs i 0)) (drop (i + 1) cs)) = rw (← q) at s in
     large (before_digits (and_digit (Some v) (get_or cs i 0)) (drop (i + 1) cs) t)
-
-pub fit_from_exprs : (b : RawBody) → ((e : ℕ) (x : RawExpr) → slice_get b.exprs e ≡ Some x → ExprIsInBits x) → LiteralsFit b
-fit_from_exprs b h e l found = h e (expr.Lit l) found
-
-pub exprs_from_fit : (b : RawBody) → LiteralsFit b → (e : ℕ) (x : RawExpr) → slice_get b.exprs e ≡ Some x → ExprIsInBits x
-exprs_from_fit b h e (expr.Lit l) found = h e l found
-exprs_from_fit b h e (expr.Path p) found = tt
-exprs_from_fit b h e (expr.Block label stmts last) found = tt
-exprs_from_fit b h e (expr.Tuple es) found = tt
-exprs_from_fit b h e expr.Other found = tt

@@ -5,6 +5,7 @@ pub mod Owners
 pub mod Drops
 pub mod Measured
 pub mod Digits
+pub mod PatternLiterals
 pub mod TypeMeasures
 pub mod Walking
 pub mod Advances

@@ -98,10 +98,14 @@ module _ (b : RawBody) (s : Schedule) where
   typed_from_scope : (xs : List Namers) → AreBinders b xs → LocalsExist b → IsWellFormed b → AreInScope b s → AllHold (HasTypedLocal b s.starts xs) b.exprs
   typed_from_scope xs names exist well scope e (expr.Path (path.Local v)) found =
       typed_told (record { 0 = e }) v (get_or xs v.0 Nobody) (names.each v.0 (exist e v found)) (well.bound v (exist e v found)) (scope (record { 0 = e }) v found)
+  typed_from_scope xs names exist well scope e (expr.Path (path.Function f)) found = tt
   typed_from_scope xs names exist well scope e (expr.Path path.Other) found = tt
   typed_from_scope xs names exist well scope e (expr.Lit l) found = tt
   typed_from_scope xs names exist well scope e (expr.Block label stmts last) found = tt
   typed_from_scope xs names exist well scope e (expr.Tuple es) found = tt
+  typed_from_scope xs names exist well scope e (expr.If c first other) found = tt
+  typed_from_scope xs names exist well scope e (expr.Match d arms) found = tt
+  typed_from_scope xs names exist well scope e (expr.Call f args) found = tt
   typed_from_scope xs names exist well scope e expr.Other found = tt
 
   pub scope_says : (xs : List Namers) (starts : List ℕ) (told : Bool) → starts ≡ s.starts → AreBinders b xs → LocalsExist b → IsWellFormed b → (IsTrue told → AllHold (HasTypedLocal b starts xs) b.exprs) × (AllHold (HasTypedLocal b starts xs) b.exprs → IsTrue told)

@@ -5,6 +5,7 @@ use Rattle.std.specs.Option.{option_and_then}
 use Rattle.hir_types.specs.declared.ids.BodyId.{BodyId}
 use Rattle.hir_types.specs.declared.ids.PatId.{PatId}
 use Rattle.hir_types.specs.declared.ids.BindingId.{BindingId}
+use Rattle.hir_types.specs.declared.ids.TypeRefId.{TypeRefId}
 use Rattle.hir_types.specs.declared.ids.DefWithBodyId.{DefWithBodyId}
 use Rattle.hir_types.specs.declared.ids.DefWithBodyId.TheVariants as def
 use Rattle.hir_facts.specs.declared.raw.RawFn.{RawFn}
@@ -50,12 +51,22 @@ return_type raw (def.ConstId c) = ty.Error
 return_type raw (def.StaticId s) = ty.Error
 return_type raw (def.VariantId v) = ty.Error
 
+abbrev pub inputs_by : Option RawFn → List TypeRefId
+inputs_by None = []
+inputs_by (Some f) = f.inputs
+
+-- the written types of the parameters
+abbrev pub inputs_of : RawFacts → DefWithBodyId → List TypeRefId
+inputs_of raw (def.FunctionId f) = inputs_by (slice_get raw.fns f.0)
+inputs_of raw (def.ConstId c) = []
+inputs_of raw (def.StaticId s) = []
+inputs_of raw (def.VariantId v) = []
+
 -- the laws of one body, with the order of its walk
 pub record IsWalkable (b : RawBody) (s : Schedule) : Type 0 where
   pub schedule : IsSchedule b s
   pub carried : IsTrue (is_carried_body b)
   pub fit : PartsFit b
-  pub no_params : b.params ≡ []
   pub binders : (p : PatId) (v : BindingId) → Binds b p v → v.0 < length b.bindings
   pub bound : (v : BindingId) → v.0 < length b.bindings → BoundByPattern b v
   pub scopes : AreInScope b s

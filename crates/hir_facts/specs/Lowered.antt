@@ -1,6 +1,6 @@
 -- What a written type stands for, part by part.
 use Rattle.std.specs.Prelude.{◌≡◌, ◌<◌, ◌≤◌, ℕ, length, zero, suc, List, [], ◌∷◌, map, slice_get, Option, Some, None, refl}
-use Rattle.std.proofs.Common.{sym, ◌∙◌, ap, arith}
+use Rattle.std.proofs.Common.{◌∙◌, ap, arith}
 use Rattle.std.proofs.lemmas.Option.{slice_get_past}
 use Rattle.hir_types.specs.declared.ids.TypeRefId.{TypeRefId}
 use Rattle.hir_facts.specs.declared.raw.RawType.{RawType}

@@ -1,5 +1,5 @@
 -- What the nodes of a body are made of, in the order of the walk.
-use Rattle.std.specs.Prelude.{ℕ, suc, ◌+◌, ◌<◌, ◌≤◌, ◌≡◌, Bool, List, [], ◌∷◌, ◌++◌, length, map, slice_get, slice_index, Option, Some, None, option_map}
+use Rattle.std.specs.Prelude.{ℕ, suc, ◌+◌, ◌<◌, ◌≤◌, ◌≡◌, Bool, List, [], ◌∷◌, ◌++◌, length, slice_get, slice_index, Option, Some, None, option_map}
 use Rattle.std.specs.Option.{option_and_then}
 use Rattle.hir_types.specs.declared.ids.ExprId.{ExprId}
 use Rattle.hir_types.specs.declared.ids.PatId.{PatId}
@@ -9,6 +9,7 @@ use Rattle.hir_types.specs.declared.ids.ExprOrPatId.{ExprOrPatId}
 use Rattle.hir_types.specs.declared.ids.ExprOrPatId.TheVariants as node
 use Rattle.hir_facts.specs.declared.raw.RawStmt.{RawStmt}
 use Rattle.hir_facts.specs.declared.raw.RawStmt.TheVariants as stmt
+use Rattle.hir_facts.specs.declared.raw.RawArm.{RawArm}
 use Rattle.hir_facts.specs.declared.raw.RawExpr.{RawExpr}
 use Rattle.hir_facts.specs.declared.raw.RawExpr.TheVariants as expr
 use Rattle.hir_facts.specs.declared.raw.RawPat.{RawPat}
@@ -18,7 +19,8 @@ use Rattle.hir_facts.specs.declared.schedule.Schedule.{Schedule}
 
 -- as what a part stands in its node
 pub data Role : Type 0 where
-  parameter : Role
+  -- the pattern of the parameter at this position
+  parameter : ℕ → Role
   root : Role
   -- the initializer of a `let` with this written type
   initializer : Option TypeRefId → Role
@@ -30,6 +32,22 @@ pub data Role : Type 0 where
   tail : Role
   -- the part of a tuple at this position
   element : ℕ → Role
+  condition : Role
+  then_branch : Role
+  else_branch : Role
+  scrutinee : Role
+  -- the pattern of the arm at this position of a `match` on this expression
+  arm_pattern : ExprId → ℕ → Role
+  -- the guard, and the expression, of the arm at this position
+  guard : ℕ → Role
+  arm : ℕ → Role
+  callee : Role
+  -- the argument of a call at this position
+  argument : ℕ → Role
+  -- the part of a pattern at this position
+  subpattern : ℕ → Role
+  -- the literal that a pattern is
+  pattern_literal : Role
 
 pub record Part : Type 0 where
   pub node : ExprOrPatId
@@ -55,24 +73,58 @@ abbrev pub stmts_parts : List RawStmt → List Part
 stmts_parts [] = []
 stmts_parts (s ∷ ss) = stmt_parts s ++ stmts_parts ss
 
--- the elements, the first of which has position i
-abbrev pub element_parts : ℕ → List ExprId → List Part
-element_parts i [] = []
-element_parts i (e ∷ es) = expr_part (element i) e ∷ element_parts (suc i) es
+-- these expressions in the roles of their positions, of which the first is i
+abbrev pub exprs_from : (ℕ → Role) → ℕ → List ExprId → List Part
+exprs_from role i [] = []
+exprs_from role i (e ∷ es) = expr_part (role i) e ∷ exprs_from role (suc i) es
 
+abbrev pub element_parts : ℕ → List ExprId → List Part
+element_parts i es = exprs_from element i es
+
+-- the patterns of the arms, of which the first has position i
+abbrev pub arm_patterns : ExprId → ℕ → List RawArm → List Part
+arm_patterns e i [] = []
+arm_patterns e i (a ∷ as_) = pat_part (arm_pattern e i) a.pat ∷ arm_patterns e (suc i) as_
+
+-- an arm's guard comes first, then its expression
+abbrev pub arm_parts : ℕ → RawArm → List Part
+arm_parts i a = maybe_part (guard i) a.guard ++ expr_part (arm i) a.expr ∷ []
+
+-- arm by arm, of which the first has position i
+abbrev pub arms_parts : ℕ → List RawArm → List Part
+arms_parts i [] = []
+arms_parts i (a ∷ as_) = arm_parts i a ++ arms_parts (suc i) as_
+
+-- the condition of an `if` comes first; of a `match` the scrutinee, then all patterns, then the arms
 abbrev pub expr_parts : RawExpr → List Part
 expr_parts (expr.Lit l) = []
 expr_parts (expr.Path p) = []
 expr_parts (expr.Block label stmts last) = stmts_parts stmts ++ maybe_part tail last
 expr_parts (expr.Tuple es) = element_parts 0 es
+expr_parts (expr.If c first other) = expr_part condition c ∷ expr_part then_branch first ∷ maybe_part else_branch other
+expr_parts (expr.Match e arms) = expr_part scrutinee e ∷ arm_patterns e 0 arms ++ arms_parts 0 arms
+expr_parts (expr.Call f args) = expr_part callee f ∷ exprs_from argument 0 args
 expr_parts expr.Other = []
 
--- no pattern of the carried kinds has parts
+-- the parts of a pattern, of which the first has position i
+abbrev pub subpatterns : ℕ → List PatId → List Part
+subpatterns i [] = []
+subpatterns i (p ∷ ps) = pat_part (subpattern i) p ∷ subpatterns (suc i) ps
+
 abbrev pub pat_parts : RawPat → List Part
-pat_parts p = []
+pat_parts pat.Wild = []
+pat_parts (pat.Bind v sub) = []
+pat_parts (pat.Tuple ps) = subpatterns 0 ps
+pat_parts (pat.Lit e) = expr_part pattern_literal e ∷ []
+pat_parts pat.Other = []
+
+-- the patterns of the parameters, the first of which has position i
+abbrev pub param_parts : ℕ → List PatId → List Part
+param_parts i [] = []
+param_parts i (p ∷ ps) = pat_part (parameter i) p ∷ param_parts (suc i) ps
 
 abbrev pub body_parts : RawBody → List Part
-body_parts b = map (pat_part parameter) b.params ++ expr_part root b.root ∷ []
+body_parts b = param_parts 0 b.params ++ expr_part root b.root ∷ []
 
 -- the body, or an expression or pattern of it
 pub data Node : Type 0 where
@@ -181,6 +233,9 @@ stmts_of (Some (expr.Block label stmts last)) = stmts
 stmts_of (Some (expr.Lit l)) = []
 stmts_of (Some (expr.Path p)) = []
 stmts_of (Some (expr.Tuple es)) = []
+stmts_of (Some (expr.If c first other)) = []
+stmts_of (Some (expr.Match e arms)) = []
+stmts_of (Some (expr.Call f args)) = []
 stmts_of (Some expr.Other) = []
 stmts_of None = []
 
@@ -193,6 +248,8 @@ stmt_at b e i = slice_get (stmts_of (slice_get b.exprs e.0)) i
 abbrev pub binding_of : RawPat → Option BindingId
 binding_of (pat.Bind v sub) = Some v
 binding_of pat.Wild = None
+binding_of (pat.Tuple ps) = None
+binding_of (pat.Lit e) = None
 binding_of pat.Other = None
 
 -- the pattern p binds v

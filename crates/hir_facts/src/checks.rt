@@ -148,6 +148,7 @@ fn check_limits(alloc: Global, raw: &RawFacts) -> Result<(), FactsError>
 }
 
 fn check_literals(alloc: Global, raw: &RawFacts) -> Result<(), FactsError>
+    requires { AllHold (BodyIdsExist raw.now) raw.now.bodies }
     ensures ok { IfOk result (λ _. PassesAll raw.now literals_tests) }
     ensures err { IfErr result (λ e. Refuses raw.now literals_tests e) }
 {

@@ -2,7 +2,7 @@
 ghost use Rattle.std.specs.Prelude.{◌≡◌, ◌↔◌, ◌<◌, IfOk, IfErr, IsTrue, Some, slice_get, length};
 ghost use Rattle.hir_facts.specs.declared.raw.RawBody.{RawBody};
 ghost use Rattle.hir_facts.specs.Order.{AreDepths};
-ghost use Rattle.hir_facts.specs.Bodies.{IsWalkable, HasBody, body_id_of, fits};
+ghost use Rattle.hir_facts.specs.Bodies.{IsWalkable, HasBody, body_id_of, inputs_of, fits};
 ghost use Rattle.hir_facts.specs.Laws.Lawful.{IsLawful, tests};
 ghost use Rattle.hir_facts.specs.Laws.Refused.{Refuses};
 
@@ -153,6 +153,20 @@ impl Facts {
             },
             DefWithBodyId::ConstId(_) | DefWithBodyId::StaticId(_) | DefWithBodyId::VariantId(_) =>
                 None,
+        }
+    }
+
+    /// The written types of a definition's parameters.
+    pub fn inputs(&self, def: DefWithBodyId) -> &[TypeRefId]
+        ensures { result.now ≡ inputs_of self.now def }
+    {
+        match def {
+            DefWithBodyId::FunctionId(function) => match self.raw.fns.get(function.0 as usize) {
+                Some(function) => function.inputs.as_slice(),
+                None => &[],
+            },
+            DefWithBodyId::ConstId(_) | DefWithBodyId::StaticId(_) | DefWithBodyId::VariantId(_) =>
+                &[],
         }
     }
 

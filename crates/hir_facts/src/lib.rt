@@ -21,7 +21,7 @@ pub use hir_types::{
 pub use laws::{FactsList, Law};
 pub use lower::{lower_ty, return_ty};
 pub use raw::{
-    BindingAnnotation, Edition, Other, RawAt, RawBinding, RawBody, RawExpr, RawFacts, RawFn,
-    RawLimits, RawLiteral, RawPat, RawPath, RawStmt, RawType, RawVis,
+    BindingAnnotation, Edition, Other, RawArm, RawAt, RawBinding, RawBody, RawExpr, RawFacts,
+    RawFn, RawLimits, RawLiteral, RawPat, RawPath, RawStmt, RawType, RawVis,
 };
 pub use schedule::Schedule;

@@ -1,7 +1,8 @@
 //! The facts as they are written: the entries of the facts text, key by key.
 
 use hir_types::{
-    BindingId, BodyId, ExprId, IntegerTy, LabelId, List, ModuleId, PatId, Text, TraitId, TypeRefId,
+    BindingId, BodyId, ExprId, FunctionId, IntegerTy, LabelId, List, ModuleId, PatId, Text,
+    TraitId, TypeRefId,
 };
 /// A part of a kind that is not carried yet; its own parts are not read.
 #[derive(Clone, Copy, Debug)]
@@ -64,7 +65,7 @@ pub struct RawFn {
     pub body: Option<BodyId>,
 }
 
-/// A literal. `digits` are decimal digits.
+/// A literal. `digits` are decimal digits, after a minus where a pattern's literal has one.
 #[derive(Debug, Drop)]
 pub enum RawLiteral {
     Bool(bool),
@@ -80,6 +81,7 @@ pub enum RawLiteral {
 #[derive(Clone, Copy, Debug)]
 pub enum RawPath {
     Local(BindingId),
+    Function(FunctionId),
     Other,
 }
 
@@ -98,6 +100,14 @@ pub enum RawStmt {
     },
 }
 
+/// An arm of a `match`.
+#[derive(Clone, Copy, Debug)]
+pub struct RawArm {
+    pub pat: PatId,
+    pub guard: Option<ExprId>,
+    pub expr: ExprId,
+}
+
 /// An expression.
 #[derive(Debug, Drop)]
 pub enum RawExpr {
@@ -109,17 +119,32 @@ pub enum RawExpr {
         tail: Option<ExprId>,
     },
     Tuple(List<ExprId>),
+    If {
+        condition: ExprId,
+        then_branch: ExprId,
+        else_branch: Option<ExprId>,
+    },
+    Match {
+        scrutinee: ExprId,
+        arms: List<RawArm>,
+    },
+    Call {
+        callee: ExprId,
+        args: List<ExprId>,
+    },
     Other,
 }
 
 /// A pattern.
-#[derive(Clone, Copy, Debug)]
+#[derive(Debug, Drop)]
 pub enum RawPat {
     Wild,
     Bind {
         id: BindingId,
         subpat: Option<PatId>,
     },
+    Tuple(List<PatId>),
+    Lit(ExprId),
     Other,
 }
 

@@ -44,7 +44,8 @@ fn push_pat_lists(
     ensures { OnOk result (lists.new ≡ lists.old ++ map (λ p. nodes (pat_parts p)) pats.now) }
 {
     for pat in pats {
-        lists.push(List::from_vec(nodes_of_pat(alloc, pat)))?;
+        let nodes = nodes_of_pat(alloc, pat)?;
+        lists.push(List::from_vec(nodes))?;
     }
     Ok(())
 }

@@ -18,10 +18,10 @@ use Rattle.infer_result.specs.Table.{mismatch}
 use Rattle.infer_result.specs.Places.{Given, Demand, IsAtOrMismatch}
 use Rattle.infer_result.specs.Rules.Blocks.{StmtRule, StmtsRule}
 use Rattle.infer_result.specs.Truth.Mismatch.{IsBlockWithoutTail}
-use Rattle.infer_expr.specs.declared.context.InferenceContext.{InferenceContext}
+use Rattle.infer_expr.specs.Found.{Found}
 use Rattle.infer_expr.specs.Context.{IsCarriedExpectation}
 use Rattle.infer_expr.specs.Walks.{Walks, Nothing, Owed, PaidBy, expr_end}
-use Rattle.infer_expr.specs.Steps.{LieAhead, Within, KindDone, CoerceDone, BeforeStmt, StmtDone, BeforeTail, NoTailDone, TailDone, IsCoerced, IsBlockOf}
+use Rattle.infer_expr.specs.Under.{LieAhead, Within, KindDone, CoerceDone, BeforeStmt, StmtDone, BeforeTail, NoTailDone, TailDone, IsCoerced, IsBlockOf}
 use Rattle.infer_expr.proofs.Lists.{drop-step}
 use Rattle.infer_expr.proofs.Types.{carried_unit}
 use Rattle.infer_expr.proofs.Carried.{carried_stmt}
@@ -33,13 +33,13 @@ use Rattle.infer_expr.proofs.Leaves.{rule_of}
 use Rattle.infer_expr.proofs.Stmts.{part_demand}
 
 -- the first i statements of the block n are made, and the others and the tail lie ahead
-pub record BlockLoop (g : Given) (s : Schedule) (n : ExprId) (ys : List RawStmt) (o : Option ExprId) (i : ℕ) (mid c : InferenceContext) : Type 0 where
+pub record BlockLoop (g : Given) (s : Schedule) (n : ExprId) (ys : List RawStmt) (o : Option ExprId) (i : ℕ) (mid c : Found) : Type 0 where
   pub walks : Walks g s Nothing mid c
   pub ahead : LieAhead g.body s (inner (node.ExprId n)) c.clock (stmts_parts (drop i ys) ++ maybe_part tail o)
   pub ends : after g.body s c.clock (stmts_parts (drop i ys) ++ maybe_part tail o) ≡ expr_end g.body s n
   pub made : StmtsRule (IsAtOrMismatch c.result) g c.result (take i ys)
 
-pub block_start : (g : Given) (s : Schedule) (n : ExprId) (ys : List RawStmt) (o : Option ExprId) (x : Option Ty) (c : InferenceContext) → Within g s n x c → IsBlockOf g.body n ys o → BlockLoop g s n ys o 0 c c
+pub block_start : (g : Given) (s : Schedule) (n : ExprId) (ys : List RawStmt) (o : Option ExprId) (x : Option Ty) (c : Found) → Within g s n x c → IsBlockOf g.body n ys o → BlockLoop g s n ys o 0 c c
 block_start g s n ys o x c h is =
     let a = expr_ahead g.body s n (expr.Block is.0 ys o) c.clock h.ready.law.schedule h.within is.1 h.clock in
     record { walks = walks_refl g s Nothing c h.state; ahead = a.0; ends = a.1; made = tt }
@@ -48,7 +48,7 @@ stmts_push : (g : Given) (r : InferenceResult) (ys : List RawStmt) (y : RawStmt)
 stmts_push g r [] y h k = (k, tt)
 stmts_push g r (z ∷ ys) y h k = (h.0, stmts_push g r ys y h.1 k)
 
-module _ (g : Given) (s : Schedule) (n : ExprId) (ys : List RawStmt) (o : Option ExprId) (i : ℕ) (mid c : InferenceContext) (h : BlockLoop g s n ys o i mid c) where
+module _ (g : Given) (s : Schedule) (n : ExprId) (ys : List RawStmt) (o : Option ExprId) (i : ℕ) (mid c : Found) (h : BlockLoop g s n ys o i mid c) where
   abbrev rest : List Part
   rest = stmts_parts (drop (i + 1) ys) ++ maybe_part tail o
 
@@ -60,7 +60,7 @@ module _ (g : Given) (s : Schedule) (n : ExprId) (ys : List RawStmt) (o : Option
   ahead_at : (y : RawStmt) → y ≡ get_or ys i y → i < length ys → LieAhead g.body s (inner (node.ExprId n)) c.clock (stmt_parts y ++ rest)
   ahead_at y is k = subst (λ ps. LieAhead g.body s (inner (node.ExprId n)) c.clock ps) (step y is k) h.ahead
 
-  pub block_before : (x : Option Ty) (start : InferenceContext) → Within g s n x start → IsBlockOf g.body n ys o → (y : RawStmt) → y ≡ get_or ys i y → i < length ys → BeforeStmt g s n y c
+  pub block_before : (x : Option Ty) (start : Found) → Within g s n x start → IsBlockOf g.body n ys o → (y : RawStmt) → y ≡ get_or ys i y → i < length ys → BeforeStmt g s n y c
   block_before x start w is y e k = record {
     ready = w.ready;
     state = h.walks.state;
@@ -69,7 +69,7 @@ module _ (g : Given) (s : Schedule) (n : ExprId) (ys : List RawStmt) (o : Option
     carried = carried_stmt g.body n ys o i y w.ready.law.carried is (slice_get_read ys _ i y refl k e);
   }
 
-  pub block_next : (y : RawStmt) (next : InferenceContext) → y ≡ get_or ys i y → i < length ys → StmtDone g s y c next → BlockLoop g s n ys o (i + 1) mid next
+  pub block_next : (y : RawStmt) (next : Found) → y ≡ get_or ys i y → i < length ys → StmtDone g s y c next → BlockLoop g s n ys o (i + 1) mid next
   block_next y next e k d =
       let a = ahead_right g.body s (inner (node.ExprId n)) c.clock (stmt_parts y) rest (ahead_at y e k) in
       let f : after g.body s next.clock rest ≡ expr_end g.body s n =
@@ -106,7 +106,7 @@ module _ (g : Given) (s : Schedule) (n : ExprId) (ys : List RawStmt) (o : Option
     block_tail = record { ready = w.ready; state = h.walks.state; within = w.within; ahead = tail_ahead; expected = w.expected }
 
     -- with the tail e
-    some_done : (e : ExprId) → o ≡ Some e → (t : Ty) (new : InferenceContext) → CoerceDone g s e x t c new → KindDone g s n x t mid new
+    some_done : (e : ExprId) → o ≡ Some e → (t : Ty) (new : Found) → CoerceDone g s e x t c new → KindDone g s n x t mid new
     some_done e at t new d =
         let a : LieAhead g.body s (inner (node.ExprId n)) c.clock (expr_part tail e ∷ []) = subst (λ z. LieAhead g.body s (inner (node.ExprId n)) c.clock (maybe_part tail z)) at tail_ahead in
         let f : expr_end g.body s e ≡ expr_end g.body s n = subst (λ z. after g.body s c.clock (maybe_part tail z) ≡ expr_end g.body s n) at tail_ends in
@@ -138,7 +138,7 @@ module _ (g : Given) (s : Schedule) (n : ExprId) (ys : List RawStmt) (o : Option
         }
 
     -- without tail
-    none_done : o ≡ None → (t : Ty) (new : InferenceContext) → NoTailDone n x t c new → KindDone g s n x t mid new
+    none_done : o ≡ None → (t : Ty) (new : Found) → NoTailDone n x t c new → KindDone g s n x t mid new
     none_done at t new d =
         let f : c.clock ≡ expr_end g.body s n = subst (λ z. after g.body s c.clock (maybe_part tail z) ≡ expr_end g.body s n) at tail_ends in
         let b : slice_get g.body.exprs n.0 ≡ Some (expr.Block is.0 ys None) = is.1 ∙ ap (λ z. Some (expr.Block is.0 ys z)) at in
@@ -165,15 +165,15 @@ module _ (g : Given) (s : Schedule) (n : ExprId) (ys : List RawStmt) (o : Option
               );
         }
 
-    tail_cases : (y : Option ExprId) → o ≡ y → (t : Ty) (new : InferenceContext) → TailDone g s n y x t c new → KindDone g s n x t mid new
+    tail_cases : (y : Option ExprId) → o ≡ y → (t : Ty) (new : Found) → TailDone g s n y x t c new → KindDone g s n x t mid new
     tail_cases None at t new d = none_done at t new d
     tail_cases (Some e) at t new d = some_done e at t new d
 
-    pub block_done : (t : Ty) (new : InferenceContext) → TailDone g s n o x t c new → KindDone g s n x t mid new
+    pub block_done : (t : Ty) (new : Found) → TailDone g s n o x t c new → KindDone g s n x t mid new
     block_done t new d = tail_cases o refl t new d
 
 -- `()` coerced to what is expected of a block without tail
-pub no_tail_some : (n : ExprId) (x : Option Ty) (t u a : Ty) (old new : InferenceContext) → x ≡ Some u → t ≡ u → a ≡ unit → IsCoerced n a u old new → NoTailDone n x t old new
+pub no_tail_some : (n : ExprId) (x : Option Ty) (t u a : Ty) (old new : Found) → x ≡ Some u → t ≡ u → a ≡ unit → IsCoerced n a u old new → NoTailDone n x t old new
 no_tail_some n x t u a old new e f i (inl q) = record {
   own = None;
   is = q.1;

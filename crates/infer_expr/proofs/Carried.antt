@@ -10,7 +10,7 @@ use Rattle.hir_facts.specs.declared.raw.RawExpr.TheVariants as expr
 use Rattle.hir_facts.specs.declared.raw.RawPat.{RawPat}
 use Rattle.hir_facts.specs.declared.raw.RawBody.{RawBody}
 use Rattle.hir_facts.specs.Laws.Carried.{is_carried_expr, is_carried_stmt, is_carried_pat, is_carried_binding, is_carried_body}
-use Rattle.infer_expr.specs.Steps.{IsBlockOf}
+use Rattle.infer_expr.specs.Under.{IsBlockOf}
 
 list_all_at : {X : Type 0} (p : X → Bool) (xs : List X) (i : ℕ) (x : X) → IsTrue (list_all p xs) → slice_get xs i ≡ Some x → IsTrue (p x)
 list_all_at p [] i x h e = absurd (cc)
@@ -20,14 +20,14 @@ list_all_at p (y ∷ xs) (suc i) x h e = list_all_at p xs i x (second_so (p y) (
 pub carried_expr : (b : RawBody) (e : ℕ) (x : RawExpr) → IsTrue (is_carried_body b) → slice_get b.exprs e ≡ Some x → IsTrue (is_carried_expr x)
 carried_expr b e x h is =
     list_all_at is_carried_expr b.exprs e x (
-    first_so (list_all is_carried_expr b.exprs) (list_all is_carried_pat b.pats && list_all is_carried_binding b.bindings) h
+    first_so (list_all is_carried_expr b.exprs) (list_all is_carried_pat b.pats && (list_all is_carried_binding b.bindings && is_none b.self_)) h
     ) is
 
 pub carried_pat : (b : RawBody) (p : ℕ) (x : RawPat) → IsTrue (is_carried_body b) → slice_get b.pats p ≡ Some x → IsTrue (is_carried_pat x)
 carried_pat b p x h is =
     list_all_at is_carried_pat b.pats p x (
-    first_so (list_all is_carried_pat b.pats) (list_all is_carried_binding b.bindings) (
-    second_so (list_all is_carried_expr b.exprs) (list_all is_carried_pat b.pats && list_all is_carried_binding b.bindings) h
+    first_so (list_all is_carried_pat b.pats) (list_all is_carried_binding b.bindings && is_none b.self_) (
+    second_so (list_all is_carried_expr b.exprs) (list_all is_carried_pat b.pats && (list_all is_carried_binding b.bindings && is_none b.self_)) h
     )
     ) is
 

@@ -4,12 +4,12 @@ use Rattle.hir_types.specs.declared.ids.ExprId.{ExprId}
 use Rattle.hir_facts.specs.declared.schedule.Schedule.{Schedule}
 use Rattle.infer_result.specs.declared.result.TypeMismatch.{TypeMismatch}
 use Rattle.infer_result.specs.Places.{Given, Demand}
-use Rattle.infer_expr.specs.declared.context.InferenceContext.{InferenceContext}
+use Rattle.infer_expr.specs.Found.{Found}
 use Rattle.infer_expr.specs.Walks.{Walks, IsWalked, Debt, expr_start, pat_start}
 use Rattle.infer_expr.proofs.Lists.{lt_or_ge}
 use Rattle.infer_expr.proofs.Keeps.{extends_refl, extends_trans, obeys_kept, pat_kept, misfit_kept, demand_kept}
 
-pub walks_refl : (g : Given) (s : Schedule) (P : Debt) (c : InferenceContext) → IsWalked g.body s c → Walks g s P c c
+pub walks_refl : (g : Given) (s : Schedule) (P : Debt) (c : Found) → IsWalked g.body s c → Walks g s P c c
 walks_refl g s P c h = record {
   clock = omega arith;
   extends = extends_refl c.result;
@@ -21,7 +21,7 @@ walks_refl g s P c h = record {
   truths = λ e m h. inl h;
 }
 
-pub walks_trans : (g : Given) (s : Schedule) (P : Debt) (x y z : InferenceContext) → Walks g s P x y → Walks g s P y z → Walks g s P x z
+pub walks_trans : (g : Given) (s : Schedule) (P : Debt) (x y z : Found) → Walks g s P x y → Walks g s P y z → Walks g s P x z
 walks_trans g s P x y z h k = record {
   clock = omega (arith, h.clock, k.clock);
   extends = extends_trans x.result y.result z.result h.extends k.extends;
@@ -54,7 +54,7 @@ walks_trans g s P x y z h k = record {
 }
 
 -- debts may be said otherwise, or be paid
-pub walks_paid : (g : Given) (s : Schedule) (P Q : Debt) (x y : InferenceContext) → ((e : ExprId) (m : TypeMismatch) → P e m → Demand g y.result e m.expected ⊎ Q e m) → Walks g s P x y → Walks g s Q x y
+pub walks_paid : (g : Given) (s : Schedule) (P Q : Debt) (x y : Found) → ((e : ExprId) (m : TypeMismatch) → P e m → Demand g y.result e m.expected ⊎ Q e m) → Walks g s P x y → Walks g s Q x y
 walks_paid g s P Q x y f h = record {
   clock = h.clock;
   extends = h.extends;

@@ -13,17 +13,16 @@ use Rattle.infer_expr.specs.Walks.{IsCarriedTable}
 use Rattle.infer_result.specs.Places.{Given}
 use Rattle.infer_result.specs.Rules.Expressions.{ObeysOrMismatch}
 use Rattle.infer_result.specs.Made.{IsMisfit}
-use Rattle.infer_expr.specs.declared.context.InferenceContext.{InferenceContext}
-use Rattle.infer_expr.specs.Context.{entered, with_expr_ty}
+use Rattle.infer_expr.specs.Found.{Found, entered, with_expr_ty}
 use Rattle.infer_expr.specs.Walks.{IsWalked, IsFree, Extends, Owed, expr_start, pat_start}
-use Rattle.infer_expr.specs.Steps.{Before, Within, KindDone, OwnDone, with_own}
+use Rattle.infer_expr.specs.Under.{Before, Within, KindDone, OwnDone, with_own}
 use Rattle.infer_expr.proofs.Lists.{lt_or_ge, slice_get-set_same, slice_get-set_other, At-set, At-set_cases, own_set, length-own_set, At-own_set, own_set-at, own_set-other, own_set-cases, own_set-free}
 use Rattle.infer_expr.proofs.Types.{carried_unit}
 use Rattle.infer_expr.proofs.Parts.{expr_id, one_expr, expr_is_no_pat, binds_within}
 use Rattle.infer_expr.proofs.Keeps.{extends_trans, obeys_kept, pat_kept, misfit_kept, demand_kept}
 
 -- the clock goes on to the parts of the expression
-pub entered_within : (g : Given) (s : Schedule) (e : ExprId) (x : Option Ty) (c : InferenceContext) → Before g s e x c → Within g s e x (entered c)
+pub entered_within : (g : Given) (s : Schedule) (e : ExprId) (x : Option Ty) (c : Found) → Before g s e x c → Within g s e x (entered c)
 entered_within g s e x c h = record {
   ready = h.ready;
   state = record {
@@ -47,7 +46,7 @@ entered_within g s e x c h = record {
 }
 
 -- the own type of e, and a mismatch at e or none, are all that is new
-record IsClosedBy (last new : InferenceContext) (e : ExprId) (t : Ty) (own : Option TypeMismatch) : Type 0 where
+record IsClosedBy (last new : Found) (e : ExprId) (t : Ty) (own : Option TypeMismatch) : Type 0 where
   exprs : new.result.type_of_expr ≡ set last.result.type_of_expr e.0 (Some t)
   pats : new.result.type_of_pat ≡ last.result.type_of_pat
   bindings : new.result.type_of_binding ≡ last.result.type_of_binding
@@ -55,11 +54,11 @@ record IsClosedBy (last new : InferenceContext) (e : ExprId) (t : Ty) (own : Opt
   mismatches : new.result.expr_mismatches ≡ own_set last.result.expr_mismatches e.0 own
   clock : new.clock ≡ last.clock
 
-closed_by : (last : InferenceContext) (e : ExprId) (t : Ty) (own : Option TypeMismatch) → IsClosedBy last (with_expr_ty (with_own last e own) e t) e t own
+closed_by : (last : Found) (e : ExprId) (t : Ty) (own : Option TypeMismatch) → IsClosedBy last (with_expr_ty (with_own last e own) e t) e t own
 closed_by last e t None = record { exprs = refl; pats = refl; bindings = refl; modes = refl; mismatches = refl; clock = refl }
 closed_by last e t (Some m) = record { exprs = refl; pats = refl; bindings = refl; modes = refl; mismatches = refl; clock = refl }
 
-module _ (g : Given) (s : Schedule) (e : ExprId) (x : Option Ty) (t : Ty) (old mid new : InferenceContext) (h : Before g s e x old) (k : KindDone g s e x t (entered old) mid) (w : IsClosedBy k.last new e t k.own) where
+module _ (g : Given) (s : Schedule) (e : ExprId) (x : Option Ty) (t : Ty) (old mid new : Found) (h : Before g s e x old) (k : KindDone g s e x t (entered old) mid) (w : IsClosedBy k.last new e t k.own) where
   free_type : IsFree k.last.result.type_of_expr e.0
   free_type = k.walks.kept e h.within (omega (arith, h.here)) ∙ h.state.free_exprs e h.within (omega (arith, h.here))
 
@@ -204,7 +203,7 @@ module _ (g : Given) (s : Schedule) (e : ExprId) (x : Option Ty) (t : Ty) (old m
     ];
   }
 
-pub close : (g : Given) (s : Schedule) (e : ExprId) (x : Option Ty) (t : Ty) (old mid : InferenceContext) → Before g s e x old → KindDone g s e x t (entered old) mid → OwnDone g s e x t old (with_expr_ty mid e t)
+pub close : (g : Given) (s : Schedule) (e : ExprId) (x : Option Ty) (t : Ty) (old mid : Found) → Before g s e x old → KindDone g s e x t (entered old) mid → OwnDone g s e x t old (with_expr_ty mid e t)
 close g s e x t old mid h k =
     closes g s e x t old mid (with_expr_ty mid e t) h k (
     subst (λ c. IsClosedBy k.last (with_expr_ty c e t) e t k.own) (sym k.is) (closed_by k.last e t k.own)

@@ -12,17 +12,17 @@ use Rattle.infer_result.specs.Table.{At, mismatch}
 use Rattle.infer_expr.specs.Walks.{IsCarriedTable}
 use Rattle.infer_result.specs.Places.{Given, Demand, IsAtOrMismatch}
 use Rattle.infer_result.specs.Made.{IsMisfit}
-use Rattle.infer_expr.specs.declared.context.InferenceContext.{InferenceContext}
-use Rattle.infer_expr.specs.Context.{IsCarriedExpectation, with_mismatch}
+use Rattle.infer_expr.specs.Found.{Found, with_mismatch}
+use Rattle.infer_expr.specs.Context.{IsCarriedExpectation}
 use Rattle.infer_expr.specs.Walks.{Walks, IsWalked, IsFree, Extends, Nothing, Owed, expr_start}
-use Rattle.infer_expr.specs.Steps.{Before, OwnDone, CoerceDone, IsPlaced, IsCoerced}
+use Rattle.infer_expr.specs.Under.{Before, OwnDone, CoerceDone, IsPlaced, IsCoerced}
 use Rattle.infer_expr.proofs.Lists.{slice_get-set_same, slice_get-set_other, At-set, At-set_cases}
 use Rattle.infer_expr.proofs.Parts.{expr_id}
 use Rattle.infer_expr.proofs.Category.{walks_paid}
 use Rattle.infer_expr.proofs.Keeps.{extends_trans, obeys_kept, pat_kept, misfit_kept, demand_kept}
 
-module _ (g : Given) (s : Schedule) (e : ExprId) (t u : Ty) (old mid : InferenceContext) (h : Before g s e (Some u) old) (d : OwnDone g s e (Some u) t old mid) (free : IsFree mid.result.expr_mismatches e.0) (differ : u ≡ t → ⊥) where
-  abbrev marked : InferenceContext
+module _ (g : Given) (s : Schedule) (e : ExprId) (t u : Ty) (old mid : Found) (h : Before g s e (Some u) old) (d : OwnDone g s e (Some u) t old mid) (free : IsFree mid.result.expr_mismatches e.0) (differ : u ≡ t → ⊥) where
+  abbrev marked : Found
   marked = with_mismatch mid e (mismatch u t)
 
   long : e.0 < length mid.result.expr_mismatches
@@ -112,7 +112,7 @@ module _ (g : Given) (s : Schedule) (e : ExprId) (t u : Ty) (old mid : Inference
     placed = (refl, (t, d.type_is, inr (slice_get-set_same mid.result.expr_mismatches e.0 (Some (mismatch u t)) long)));
   }
 
-pub coerced : (g : Given) (s : Schedule) (e : ExprId) (t u : Ty) (old mid new : InferenceContext) → Before g s e (Some u) old → OwnDone g s e (Some u) t old mid → IsCoerced e t u mid new → CoerceDone g s e (Some u) u old new
+pub coerced : (g : Given) (s : Schedule) (e : ExprId) (t u : Ty) (old mid new : Found) → Before g s e (Some u) old → OwnDone g s e (Some u) t old mid → IsCoerced e t u mid new → CoerceDone g s e (Some u) u old new
 coerced g s e t u old mid new h d (inl q) =
     subst (λ c. CoerceDone g s e (Some u) u old c) (sym q.1) (
     record { walks = d.walks; clock = d.clock; placed = (refl, (t, d.type_is, inl (ap erased q.0))) }
@@ -126,7 +126,7 @@ coerced g s e t u old mid new h d (inr q) =
     )
 
 -- the same, where the expected type and the answer are known by equations
-pub coerced_as : (g : Given) (s : Schedule) (e : ExprId) (x : Option Ty) (t u v : Ty) (old mid new : InferenceContext) → Some u ≡ x → v ≡ u → Before g s e x old → OwnDone g s e x t old mid → IsCoerced e t u mid new → CoerceDone g s e x v old new
+pub coerced_as : (g : Given) (s : Schedule) (e : ExprId) (x : Option Ty) (t u v : Ty) (old mid new : Found) → Some u ≡ x → v ≡ u → Before g s e x old → OwnDone g s e x t old mid → IsCoerced e t u mid new → CoerceDone g s e x v old new
 coerced_as g s e x t u v old mid new f i h d k =
     subst (λ w. CoerceDone g s e x w old new) (sym i) (
     subst (λ y. CoerceDone g s e y u old new) f (
@@ -134,7 +134,7 @@ coerced_as g s e x t u v old mid new f i h d k =
     )
     )
 
-pub uncoerced : (g : Given) (s : Schedule) (e : ExprId) (t : Ty) (old new : InferenceContext) → OwnDone g s e None t old new → CoerceDone g s e None t old new
+pub uncoerced : (g : Given) (s : Schedule) (e : ExprId) (t : Ty) (old new : Found) → OwnDone g s e None t old new → CoerceDone g s e None t old new
 uncoerced g s e t old new d = record { walks = d.walks; clock = d.clock; placed = d.type_is }
 
 -- ---- what is placed
@@ -152,7 +152,7 @@ placed_owed r e None t h n m o = absurd o
 placed_owed r e (Some u) t h n m o = (o.0, o.1 ∙ sym h.0)
 
 -- what is owed is paid where the place asks for it
-pub owed_paid : (g : Given) (s : Schedule) (e : ExprId) (x : Option Ty) (old new : InferenceContext) → ((u : Ty) → x ≡ Some u → Demand g new.result e u) → Walks g s (Owed e x) old new → Walks g s Nothing old new
+pub owed_paid : (g : Given) (s : Schedule) (e : ExprId) (x : Option Ty) (old new : Found) → ((u : Ty) → x ≡ Some u → Demand g new.result e u) → Walks g s (Owed e x) old new → Walks g s Nothing old new
 owed_paid g s e x old new f h = walks_paid g s (Owed e x) Nothing old new (λ n m o. inl (paid x f n m o)) h
   where
     paid : (y : Option Ty) → ((u : Ty) → y ≡ Some u → Demand g new.result e u) → (n : ExprId) (m : TypeMismatch) → Owed e y n m → Demand g new.result n m.expected

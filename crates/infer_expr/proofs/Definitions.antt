@@ -1,9 +1,10 @@
 -- The body of a definition of lawful facts, and its return type.
-use Rattle.std.proofs.Common.{◌<◌, ◌≡◌, refl, ap, subst, ◌∙◌, length, Option, Some, None, slice_get}
+use Rattle.std.proofs.Common.{◌<◌, ◌≡◌, refl, sym, ap, subst, ◌∙◌, List, length, Option, Some, None, slice_get}
 use Rattle.std.specs.Prelude.{IfSome}
 use Rattle.std.specs.Option.{option_and_then}
 use Rattle.hir_types.specs.declared.ids.BodyId.{BodyId}
 use Rattle.hir_types.specs.declared.ids.FunctionId.{FunctionId}
+use Rattle.hir_types.specs.declared.ids.TypeRefId.{TypeRefId}
 use Rattle.hir_types.specs.declared.ids.DefWithBodyId.{DefWithBodyId}
 use Rattle.hir_types.specs.declared.ids.DefWithBodyId.TheVariants as def
 use Rattle.hir_types.specs.declared.ty.Ty.{Ty}
@@ -11,16 +12,18 @@ use Rattle.hir_facts.specs.declared.raw.RawFn.{RawFn}
 use Rattle.hir_facts.specs.declared.raw.RawBody.{RawBody}
 use Rattle.hir_facts.specs.declared.raw.RawFacts.{RawFacts}
 use Rattle.hir_facts.specs.declared.schedule.Schedule.{Schedule}
-use Rattle.hir_facts.specs.Bodies.{body_id_of, return_type, IsWalkable}
+use Rattle.hir_facts.specs.Bodies.{body_id_of, inputs_of, return_type, IsWalkable}
 use Rattle.hir_facts.specs.LawfulFacts.{fn_ids, body_ids}
+use Rattle.hir_facts.specs.Walkable.{inputs_count, inputs_within}
 use Rattle.hir_facts.specs.Laws.Lawful.{IsLawful}
 use Rattle.infer_result.specs.declared.result.InferenceResult.{InferenceResult}
 use Rattle.infer_result.specs.Places.{Given}
 use Rattle.infer_result.specs.Made.{IsMade}
 use Rattle.infer_result.specs.Derived.{typed_by_schedule}
 use Rattle.infer_result.specs.Typed.{IsTableOf}
-use Rattle.infer_expr.specs.Steps.{WrittenExist}
+use Rattle.infer_expr.specs.Under.{WrittenExist}
 use Rattle.infer_expr.specs.Walks.{IsCarriedTable}
+use Rattle.infer_expr.proofs.FineTypes.{is_written, lawful_types}
 use Rattle.infer_expr.proofs.Types.{table_fits}
 
 body_of_fn : (raw : RawFacts) → IsLawful raw → (f : FunctionId) (i : BodyId) (o : Option RawFn) → slice_get raw.fns f.0 ≡ o → option_and_then (λ x. x.body) o ≡ Some i → i.0 < length raw.bodies
@@ -35,16 +38,25 @@ body_within raw (def.ConstId c) i law h = absurd (cc)
 body_within raw (def.StaticId s) i law h = absurd (cc)
 body_within raw (def.VariantId v) i law h = absurd (cc)
 
-pub written_exist : (raw : RawFacts) (i : BodyId) (b : RawBody) (output : Ty) → IsLawful raw → slice_get raw.bodies i.0 ≡ Some b → WrittenExist (record { types = raw.types; body = b; output = output })
-written_exist raw i b output law at = (body_ids raw law i.0 b at).written
+module _ (raw : RawFacts) (d : DefWithBodyId) (i : BodyId) (b : RawBody) (inputs : List TypeRefId) (output : Ty) (law : IsLawful raw) (at : slice_get raw.bodies i.0 ≡ Some b) (taken : inputs ≡ inputs_of raw d) where
+  pub written_exist : WrittenExist (record { types = raw.types; body = b; inputs = inputs; output = output })
+  written_exist = record {
+    lets = λ e k p w init other is. is_written raw.types (lawful_types raw law) w ((body_ids raw law i.0 b at).written e k p w init other is);
+    inputs = λ k w is. is_written raw.types (lawful_types raw law) w (inputs_within raw law d k w (ap (λ ws. slice_get ws k) (sym taken) ∙ is));
+  }
 
-pub table_of : (raw : RawFacts) (d : DefWithBodyId) (i : BodyId) (b : RawBody) (s : Schedule) (output : Ty) (r : InferenceResult) → body_id_of raw d ≡ Some i → slice_get raw.bodies i.0 ≡ Some b → IsWalkable b s → output ≡ return_type raw d → IsMade (record { types = raw.types; body = b; output = output }) r → IsCarriedTable r → IsTableOf raw d r
-table_of raw d i b s output r id at law out made carried = record {
+  pub inputs_for_params : body_id_of raw d ≡ Some i → length inputs ≡ length b.params
+  inputs_for_params id = ap (λ ws. length ws) taken ∙ inputs_count raw law d i b id at
+
+pub table_of : (raw : RawFacts) (d : DefWithBodyId) (i : BodyId) (b : RawBody) (s : Schedule) (inputs : List TypeRefId) (output : Ty) (r : InferenceResult) → body_id_of raw d ≡ Some i → slice_get raw.bodies i.0 ≡ Some b → IsWalkable b s → inputs ≡ inputs_of raw d → output ≡ return_type raw d → IsMade (record { types = raw.types; body = b; inputs = inputs; output = output }) r → IsCarriedTable r → IsTableOf raw d r
+table_of raw d i b s inputs output r id at law taken out made carried = record {
   body = b;
   is_body = ap (λ o. option_and_then (λ k. slice_get raw.bodies k.0) o) id ∙ at;
   typed =
-      (let g : Given = record { types = raw.types; body = b; output = return_type raw d } in
-      let m : IsMade g r = subst (λ t. IsMade (record { types = raw.types; body = b; output = t }) r) out made in
+      (let g : Given = record { types = raw.types; body = b; inputs = inputs_of raw d; output = return_type raw d } in
+      let m : IsMade g r =
+      subst (λ ws. IsMade (record { types = raw.types; body = b; inputs = ws; output = return_type raw d }) r) taken
+      (subst (λ t. IsMade (record { types = raw.types; body = b; inputs = inputs; output = t }) r) out made) in
       typed_by_schedule g r s law.schedule m);
   fit = table_fits raw d r carried;
 }

@@ -15,7 +15,7 @@ use Rattle.hir_facts.specs.declared.raw.RawPat.TheVariants as pat
 use Rattle.hir_types.specs.Types.{unit}
 use Rattle.hir_facts.specs.Types.{written_type}
 use Rattle.hir_types.specs.Erasure.{Same}
-use Rattle.hir_facts.specs.Order.{Role, parameter, root, initializer, let_pattern, let_else, statement, tail, element, Node, the_body, inner}
+use Rattle.hir_facts.specs.Order.{Role, parameter, root, initializer, let_pattern, let_else, statement, tail, element, condition, then_branch, else_branch, scrutinee, arm_pattern, guard, arm, callee, argument, subpattern, pattern_literal, Node, the_body, inner}
 use Rattle.infer_result.specs.declared.result.InferenceResult.{InferenceResult}
 use Rattle.infer_result.specs.declared.result.TypeMismatch.{TypeMismatch}
 use Rattle.infer_result.specs.declared.modes.BindingMode.TheVariants as mode
@@ -84,9 +84,13 @@ module _ (g : Given) (a b : InferenceResult) (x : Extends a b) where
   rule_kept n None h = h
   rule_kept n (Some (expr.Lit l)) (t, h, k) = (t, x.exprs n t h, k)
   rule_kept n (Some (expr.Path (path.Local v))) (t, h, k) = (t, x.exprs n t h, x.bindings v t k)
+  rule_kept n (Some (expr.Path (path.Function f))) h = h
   rule_kept n (Some (expr.Path path.Other)) h = h
   rule_kept n (Some (expr.Tuple es)) (ts, h, k) = (ts, x.exprs n _ h, all_kept es ts k)
   rule_kept n (Some (expr.Block label stmts last)) (h, (t, k, l)) = (stmts_kept stmts h, (t, x.exprs n t k, tail_kept n last t l))
+  rule_kept n (Some (expr.If c first other)) h = h
+  rule_kept n (Some (expr.Match e arms)) h = h
+  rule_kept n (Some (expr.Call f args)) h = h
   rule_kept n (Some expr.Other) h = h
 
   pub obeys_kept : (n : ExprId) → ObeysOrMismatch g a n → ObeysOrMismatch g b n
@@ -96,6 +100,8 @@ module _ (g : Given) (a b : InferenceResult) (x : Extends a b) where
   pat_kept p None h = h
   pat_kept p (Some pat.Wild) (t, h) = (t, x.pats p t h)
   pat_kept p (Some (pat.Bind v sub)) (t, h, k, m) = (t, x.pats p t h, x.bindings v t k, x.modes p mode.Move m)
+  pat_kept p (Some (pat.Tuple ps)) h = h
+  pat_kept p (Some (pat.Lit e)) h = h
   pat_kept p (Some pat.Other) h = h
 
   pub misfit_kept : (e : ExprId) (m : TypeMismatch) → IsMisfit g a e m → IsMisfit g b e m
@@ -105,7 +111,7 @@ module _ (g : Given) (a b : InferenceResult) (x : Extends a b) where
   }
 
   asks_of_kept : (n : ExprId) (role : Role) (t : Ty) → AsksOf g a n role t → AsksOf g b n role t
-  asks_of_kept n parameter t h = h
+  asks_of_kept n (parameter i) t h = h
   asks_of_kept n root t h = h
   asks_of_kept n (initializer (Some w)) t h = h
   asks_of_kept n (initializer None) t h = h
@@ -115,6 +121,17 @@ module _ (g : Given) (a b : InferenceResult) (x : Extends a b) where
   asks_of_kept n (statement false) t h = h
   asks_of_kept n tail t h = x.exprs n t h
   asks_of_kept n (element i) t (ts, h, k) = (ts, x.exprs n _ h, k)
+  asks_of_kept n condition t h = h
+  asks_of_kept n then_branch t h = h
+  asks_of_kept n else_branch t h = h
+  asks_of_kept n scrutinee t h = h
+  asks_of_kept n (arm_pattern e i) t h = h
+  asks_of_kept n (guard i) t h = h
+  asks_of_kept n (arm i) t h = h
+  asks_of_kept n callee t h = h
+  asks_of_kept n (argument i) t h = h
+  asks_of_kept n (subpattern i) t h = h
+  asks_of_kept n pattern_literal t h = h
 
   asks_kept : (n : Node) (role : Role) (t : Ty) → Asks g a n role t → Asks g b n role t
   asks_kept the_body role t h = h

@@ -1,5 +1,7 @@
 pub mod Lists
 pub mod Types
+pub mod FineTypes
+pub mod Closed
 pub mod Carried
 pub mod Parts
 pub mod Keeps
@@ -11,5 +13,16 @@ pub mod Leaves
 pub mod Stmts
 pub mod Tuples
 pub mod Blocks
+pub mod Params
 pub mod Whole
+pub mod AtEach
+pub mod Expressions
+pub mod TupleWalk
+pub mod Unified
+pub mod Holes
+pub mod BlockWalk
+pub mod StmtWalk
+pub mod PatWalk
+pub mod ParamsWalk
+pub mod BodyWalk
 pub mod Definitions

@@ -1,5 +1,5 @@
 -- The parts of a node, which lie ahead one after another.
-use Rattle.std.proofs.Common.{ℕ, suc, ◌+◌, ◌<◌, ◌≡◌, refl, sym, ap, subst, ◌∙◌, List, [], ◌∷◌, ◌++◌, length, Option, Some, None, slice_get}
+use Rattle.std.proofs.Common.{ℕ, suc, ◌+◌, ◌<◌, ◌≡◌, refl, sym, ap, subst, ◌∙◌, List, [], ◌∷◌, ◌++◌, length, true, false, Option, Some, None, slice_get, IsTrue}
 use Rattle.std.specs.Option.{option_and_then}
 use Rattle.std.proofs.lemmas.Option.{slice_get_within}
 use Rattle.hir_types.specs.declared.ids.ExprId.{ExprId}
@@ -8,16 +8,19 @@ use Rattle.hir_types.specs.declared.ids.BindingId.{BindingId}
 use Rattle.hir_types.specs.declared.ids.ExprOrPatId.TheVariants as node
 use Rattle.hir_types.specs.declared.ty.Ty.{Ty}
 use Rattle.hir_facts.specs.declared.raw.RawPat.{RawPat}
+use Rattle.hir_facts.specs.declared.raw.RawPat.TheVariants as pat
 use Rattle.hir_facts.specs.declared.raw.RawExpr.{RawExpr}
 use Rattle.hir_facts.specs.declared.raw.RawBody.{RawBody}
 use Rattle.hir_facts.specs.declared.schedule.Schedule.{Schedule}
 use Rattle.hir_facts.specs.Order.{Part, Node, inner, Role, expr_part, parts, parts_of_expr, parts_of_pat, expr_parts, start, end, after, IsNode, IsSchedule, Binds, binding_of}
 use Rattle.infer_result.specs.Places.{Given, StandsAt}
-use Rattle.infer_expr.specs.declared.context.InferenceContext.{InferenceContext}
+use Rattle.infer_expr.specs.Found.{Found}
 use Rattle.infer_expr.specs.Context.{IsCarriedExpectation}
 use Rattle.infer_expr.specs.Walks.{IsWalked, expr_start, expr_end, pat_start}
-use Rattle.infer_expr.specs.Steps.{LieAhead, Before, IsReady}
+use Rattle.infer_expr.specs.Under.{LieAhead, Before, IsReady}
+use Rattle.hir_facts.specs.Laws.Carried.{is_carried_body}
 use Rattle.infer_expr.proofs.Lists.{slice_get-append_left}
+use Rattle.infer_expr.proofs.Carried.{carried_pat}
 
 -- ---- ids
 
@@ -93,7 +96,7 @@ expr_ahead b s e x from law h is at =
       subst (λ k. after b s k (expr_parts x) ≡ expr_end b s e) (sym at) (subst (λ ps. after b s (expr_start b s e + 1) ps ≡ expr_end b s e) p (law.ends n h)),
     )
 
-pub expr_before : (g : Given) (s : Schedule) (n : Node) (role : Role) (e : ExprId) (ps : List Part) (x : Option Ty) (c : InferenceContext) → IsReady g s → IsWalked g.body s c → LieAhead g.body s n c.clock (expr_part role e ∷ ps) → IsCarriedExpectation x → Before g s e x c
+pub expr_before : (g : Given) (s : Schedule) (n : Node) (role : Role) (e : ExprId) (ps : List Part) (x : Option Ty) (c : Found) → IsReady g s → IsWalked g.body s c → LieAhead g.body s n c.clock (expr_part role e ∷ ps) → IsCarriedExpectation x → Before g s e x c
 expr_before g s n role e ps x c ready state ahead carried = record {
   ready = ready;
   state = state;
@@ -102,11 +105,15 @@ expr_before g s n role e ps x c ready state ahead carried = record {
   expected = carried;
 }
 
-no_pat_parts : (o : Option RawPat) → parts_of_pat o ≡ []
-no_pat_parts None = refl
-no_pat_parts (Some x) = refl
+no_pat_parts : (b : RawBody) (p : PatId) (o : Option RawPat) → slice_get b.pats p.0 ≡ o → IsTrue (is_carried_body b) → parts_of_pat o ≡ []
+no_pat_parts b p None is h = refl
+no_pat_parts b p (Some pat.Wild) is h = refl
+no_pat_parts b p (Some (pat.Bind v sub)) is h = refl
+no_pat_parts b p (Some (pat.Tuple ps)) is h = let k : false ≡ true = carried_pat b p.0 (pat.Tuple ps) h is in absurd (cc)
+no_pat_parts b p (Some (pat.Lit e)) is h = let k : false ≡ true = carried_pat b p.0 (pat.Lit e) h is in absurd (cc)
+no_pat_parts b p (Some pat.Other) is h = refl
 
--- a pattern has no parts
-pub pat_end : (b : RawBody) (s : Schedule) (p : PatId) → IsSchedule b s → p.0 < length b.pats → end b s (inner (node.PatId p)) ≡ pat_start b s p + 1
-pat_end b s p law h =
-    sym (law.ends (inner (node.PatId p)) h) ∙ ap (λ ps. after b s (pat_start b s p + 1) ps) (no_pat_parts (slice_get b.pats p.0))
+-- a pattern that is carried has no parts
+pub pat_end : (b : RawBody) (s : Schedule) (p : PatId) → IsSchedule b s → IsTrue (is_carried_body b) → p.0 < length b.pats → end b s (inner (node.PatId p)) ≡ pat_start b s p + 1
+pat_end b s p law carried h =
+    sym (law.ends (inner (node.PatId p)) h) ∙ ap (λ ps. after b s (pat_start b s p + 1) ps) (no_pat_parts b p (slice_get b.pats p.0) refl carried)

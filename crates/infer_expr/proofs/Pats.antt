@@ -16,10 +16,9 @@ use Rattle.infer_result.specs.Closed.{IsOfBody}
 use Rattle.infer_expr.specs.Walks.{IsCarriedTable}
 use Rattle.infer_result.specs.Places.{Given}
 use Rattle.infer_result.specs.Rules.Patterns.{PatRule}
-use Rattle.infer_expr.specs.declared.context.InferenceContext.{InferenceContext}
-use Rattle.infer_expr.specs.Context.{entered, with_pat_ty, bound_by}
+use Rattle.infer_expr.specs.Found.{Found, entered, with_pat_ty, bound_by}
 use Rattle.infer_expr.specs.Walks.{IsWalked, IsFree, Extends, pat_start}
-use Rattle.infer_expr.specs.Steps.{BeforePat, PatDone}
+use Rattle.infer_expr.specs.Under.{BeforePat, PatDone}
 use Rattle.infer_expr.proofs.Lists.{lt_or_ge, slice_get-set_same, slice_get-set_other, At-set, At-set_cases, own_set, length-own_set, At-own_set, own_set-at, own_set-other}
 use Rattle.infer_expr.proofs.Parts.{pat_id, binding_id, one_pat, expr_is_no_pat, binds_within}
 
@@ -32,7 +31,7 @@ binding_set xs None t = xs
 binding_set xs (Some v) t = set xs v.0 (Some t)
 
 -- the type of p, and of what it binds, are all that is new
-record IsBoundBy (old new : InferenceContext) (p : PatId) (t : Ty) (o : Option BindingId) : Type 0 where
+record IsBoundBy (old new : Found) (p : PatId) (t : Ty) (o : Option BindingId) : Type 0 where
   exprs : new.result.type_of_expr ≡ old.result.type_of_expr
   pats : new.result.type_of_pat ≡ set old.result.type_of_pat p.0 (Some t)
   bindings : new.result.type_of_binding ≡ binding_set old.result.type_of_binding o t
@@ -40,7 +39,7 @@ record IsBoundBy (old new : InferenceContext) (p : PatId) (t : Ty) (o : Option B
   mismatches : new.result.expr_mismatches ≡ old.result.expr_mismatches
   clock : new.clock ≡ old.clock + 1
 
-module _ (g : Given) (s : Schedule) (p : PatId) (t : Ty) (old new : InferenceContext) (o : Option BindingId) (h : BeforePat g s p t old) (binds : option_and_then binding_of (slice_get g.body.pats p.0) ≡ o) (w : IsBoundBy old new p t o) where
+module _ (g : Given) (s : Schedule) (p : PatId) (t : Ty) (old new : Found) (o : Option BindingId) (h : BeforePat g s p t old) (binds : option_and_then binding_of (slice_get g.body.pats p.0) ≡ o) (w : IsBoundBy old new p t o) where
   free_pat : IsFree old.result.type_of_pat p.0
   free_pat = h.state.free_pats p h.within (omega (arith, h.here))
 
@@ -184,16 +183,16 @@ module _ (g : Given) (s : Schedule) (p : PatId) (t : Ty) (old new : InferenceCon
   has_binding : (v : BindingId) → o ≡ Some v → BindingTy new.result v t
   has_binding v i = rw w.bindings (binding_has v o i refl)
 
-pub wild_done : (g : Given) (s : Schedule) (p : PatId) (t : Ty) (old : InferenceContext) → BeforePat g s p t old → slice_get g.body.pats p.0 ≡ Some pat.Wild → PatDone g s p t old (with_pat_ty (entered old) p t)
+pub wild_done : (g : Given) (s : Schedule) (p : PatId) (t : Ty) (old : Found) → BeforePat g s p t old → slice_get g.body.pats p.0 ≡ Some pat.Wild → PatDone g s p t old (with_pat_ty (entered old) p t)
 wild_done g s p t old h is =
-    let fin : InferenceContext = with_pat_ty (entered old) p t in
+    let fin : Found = with_pat_ty (entered old) p t in
     let w : IsBoundBy old fin p t None = record { exprs = refl; pats = refl; bindings = refl; modes = refl; mismatches = refl; clock = refl } in
     let binds : option_and_then binding_of (slice_get g.body.pats p.0) ≡ None = ap (λ o. option_and_then binding_of o) is in
     pat_done g s p t old fin None h binds w (subst (λ o. PatRule fin.result p o) (sym is) (t, has g s p t old fin None h binds w))
 
-pub bind_done : (g : Given) (s : Schedule) (p : PatId) (t : Ty) (old : InferenceContext) (v : BindingId) (sub : Option PatId) → BeforePat g s p t old → slice_get g.body.pats p.0 ≡ Some (pat.Bind v sub) → PatDone g s p t old (bound_by (entered old) p v t)
+pub bind_done : (g : Given) (s : Schedule) (p : PatId) (t : Ty) (old : Found) (v : BindingId) (sub : Option PatId) → BeforePat g s p t old → slice_get g.body.pats p.0 ≡ Some (pat.Bind v sub) → PatDone g s p t old (bound_by (entered old) p v t)
 bind_done g s p t old v sub h is =
-    let fin : InferenceContext = bound_by (entered old) p v t in
+    let fin : Found = bound_by (entered old) p v t in
     let w : IsBoundBy old fin p t (Some v) = record { exprs = refl; pats = refl; bindings = refl; modes = refl; mismatches = refl; clock = refl } in
     let binds : option_and_then binding_of (slice_get g.body.pats p.0) ≡ Some v = ap (λ o. option_and_then binding_of o) is in
     pat_done g s p t old fin (Some v) h binds w (

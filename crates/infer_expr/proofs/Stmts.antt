@@ -1,5 +1,5 @@
 -- Statements.
-use Rattle.std.proofs.Common.{ℕ, ◌+◌, ◌<◌, ◌≡◌, Bool, true, false, List, length, [], ◌∷◌, sym, ap, subst, ◌∙◌, Option, Some, None}
+use Rattle.std.proofs.Common.{ℕ, ◌+◌, ◌≡◌, Bool, true, false, List, [], ◌∷◌, refl, sym, ap, subst, ◌∙◌, Option, Some, None}
 use Rattle.hir_types.specs.declared.ids.ExprId.{ExprId}
 use Rattle.hir_types.specs.declared.ids.PatId.{PatId}
 use Rattle.hir_types.specs.declared.ids.TypeRefId.{TypeRefId}
@@ -14,9 +14,9 @@ use Rattle.infer_result.specs.declared.result.InferenceResult.{InferenceResult}
 use Rattle.infer_result.specs.Table.{PatTy}
 use Rattle.infer_result.specs.Places.{Given, Demand, AsksOf, IsAtOrMismatch}
 use Rattle.infer_result.specs.Rules.Blocks.{LetRule}
-use Rattle.infer_expr.specs.declared.context.InferenceContext.{InferenceContext}
+use Rattle.infer_expr.specs.Found.{Found}
 use Rattle.infer_expr.specs.Walks.{Nothing}
-use Rattle.infer_expr.specs.Steps.{LieAhead, Before, BeforePat, BeforeStmt, StmtDone, CoerceDone, InitDone, PatDone, IsPlaced, declared_type}
+use Rattle.infer_expr.specs.Under.{LieAhead, Before, BeforePat, BeforeStmt, StmtDone, CoerceDone, InitDone, PatDone, IsPlaced, declared_type}
 use Rattle.infer_expr.proofs.Parts.{ahead_stands, expr_before, pat_end}
 use Rattle.infer_expr.proofs.Category.{walks_trans}
 use Rattle.infer_expr.proofs.Keeps.{at_kept}
@@ -31,12 +31,7 @@ part_demand g s n from role e ps r t h asks =
 
 -- ---- `let`
 
--- the written type is one of the facts'
-pub let_written : (g : Given) (s : Schedule) (n : ExprId) (p : PatId) (o : Option TypeRefId) (w : TypeRefId) (e : ExprId) (old : InferenceContext) → o ≡ Some w → BeforeStmt g s n (stmt.Let p o (Some e) None) old → w.0 < length g.types
-let_written g s n p o w e old is h =
-    h.ready.written n h.stands.0 p w (Some e) None (h.stands.1 ∙ ap (λ x. Some (stmt.Let p x (Some e) None)) is)
-
-module _ (g : Given) (s : Schedule) (n : ExprId) (p : PatId) (w : Option TypeRefId) (e : ExprId) (old : InferenceContext) (h : BeforeStmt g s n (stmt.Let p w (Some e) None) old) where
+module _ (g : Given) (s : Schedule) (n : ExprId) (p : PatId) (w : Option TypeRefId) (e : ExprId) (old : Found) (h : BeforeStmt g s n (stmt.Let p w (Some e) None) old) where
   pub init_before : Before g s e (declared_type g w) old
   init_before =
       expr_before g s (inner (node.ExprId n)) (initializer w) e (pat_part (let_pattern w (Some e)) p ∷ []) (declared_type g w) old h.ready h.state h.ahead (carried_declared g w)
@@ -45,14 +40,14 @@ module _ (g : Given) (s : Schedule) (n : ExprId) (p : PatId) (w : Option TypeRef
   asked None r u i = absurd (cc)
   asked (Some y) r u i = (let k : written_type g.types y ≡ u = cc in sym k)
 
-  pub init_done : (t : Ty) (new : InferenceContext) → CoerceDone g s e (declared_type g w) t old new → InitDone g s w e t old new
+  pub init_done : (t : Ty) (new : Found) → CoerceDone g s e (declared_type g w) t old new → InitDone g s w e t old new
   init_done t new d = record {
     walks = owed_paid g s e (declared_type g w) old new (λ u i. part_demand g s n old.clock (initializer w) e (pat_part (let_pattern w (Some e)) p ∷ []) new.result u h.ahead (asked w new.result u i)) d.walks;
     clock = d.clock;
     placed = d.placed;
   }
 
-  pub let_pat : (t : Ty) (mid : InferenceContext) → InitDone g s w e t old mid → BeforePat g s p t mid
+  pub let_pat : (t : Ty) (mid : Found) → InitDone g s w e t old mid → BeforePat g s p t mid
   let_pat t mid d = record {
     ready = h.ready;
     state = d.walks.state;
@@ -61,19 +56,31 @@ module _ (g : Given) (s : Schedule) (n : ExprId) (p : PatId) (w : Option TypeRef
     carried = placed_carried mid.result e (declared_type g w) t d.walks.state.carried (carried_declared g w) d.placed;
   }
 
-  let_made : (y : Option TypeRefId) (t : Ty) (mid new : InferenceContext) → IsPlaced mid.result e (declared_type g y) t → PatDone g s p t mid new → LetRule (IsAtOrMismatch new.result) g new.result p y (Some e)
+  let_made : (y : Option TypeRefId) (t : Ty) (mid new : Found) → IsPlaced mid.result e (declared_type g y) t → PatDone g s p t mid new → LetRule (IsAtOrMismatch new.result) g new.result p y (Some e)
   let_made None t mid new k d = (t, d.walks.extends.exprs e t k, d.type_is)
   let_made (Some y) t mid new k d = (
     at_kept g mid.result new.result d.walks.extends e (written_type g.types y) k.1,
     subst (λ u. PatTy new.result p u) k.0 d.type_is,
   )
 
-  pub let_done : (t : Ty) (mid new : InferenceContext) → InitDone g s w e t old mid → PatDone g s p t mid new → StmtDone g s (stmt.Let p w (Some e) None) old new
+  pub let_done : (t : Ty) (mid new : Found) → InitDone g s w e t old mid → PatDone g s p t mid new → StmtDone g s (stmt.Let p w (Some e) None) old new
   let_done t mid new i d = record {
     walks = walks_trans g s Nothing old mid new i.walks d.walks;
-    clock = d.clock ∙ (ap (λ k. k + 1) (i.clock ∙ sym h.ahead.fit.2.1) ∙ sym (pat_end g.body s p h.ready.law.schedule h.ahead.fit.2.0));
+    clock = d.clock ∙ (ap (λ k. k + 1) (i.clock ∙ sym h.ahead.fit.2.1) ∙ sym (pat_end g.body s p h.ready.law.schedule h.ready.law.carried h.ahead.fit.2.0));
     made = let_made w t mid new i.placed d;
   }
+
+-- without an initializer
+pub let_bare_done : (g : Given) (s : Schedule) (n : ExprId) (p : PatId) (w : Option TypeRefId) (old : Found) → BeforeStmt g s n (stmt.Let p w None None) old → (t : Ty) → ((y : TypeRefId) → w ≡ Some y → t ≡ written_type g.types y) → (new : Found) → PatDone g s p t old new → StmtDone g s (stmt.Let p w None None) old new
+let_bare_done g s n p w old h t is new d = record {
+  walks = d.walks;
+  clock = d.clock ∙ (ap (λ k. k + 1) (sym h.ahead.fit.1) ∙ sym (pat_end g.body s p h.ready.law.schedule h.ready.law.carried h.ahead.fit.0));
+  made = made w refl;
+}
+  where
+    made : (y : Option TypeRefId) → w ≡ y → LetRule (IsAtOrMismatch new.result) g new.result p y None
+    made None e = tt
+    made (Some y) e = subst (λ u. PatTy new.result p u) (is y e) d.type_is
 
 -- ---- expressions
 
@@ -82,12 +89,12 @@ abbrev pub statement_type : Bool → Option Ty
 statement_type true = None
 statement_type false = Some unit
 
-module _ (g : Given) (s : Schedule) (n : ExprId) (e : ExprId) (old : InferenceContext) where
+module _ (g : Given) (s : Schedule) (n : ExprId) (e : ExprId) (old : Found) where
   pub expr_stmt_before : (semicolon : Bool) → BeforeStmt g s n (stmt.Expr e semicolon) old → Before g s e (statement_type semicolon) old
   expr_stmt_before true h = expr_before g s (inner (node.ExprId n)) (statement true) e [] None old h.ready h.state h.ahead tt
   expr_stmt_before false h = expr_before g s (inner (node.ExprId n)) (statement false) e [] (Some unit) old h.ready h.state h.ahead carried_unit
 
-  pub expr_stmt_done : (semicolon : Bool) (t : Ty) (new : InferenceContext) → BeforeStmt g s n (stmt.Expr e semicolon) old → CoerceDone g s e (statement_type semicolon) t old new → StmtDone g s (stmt.Expr e semicolon) old new
+  pub expr_stmt_done : (semicolon : Bool) (t : Ty) (new : Found) → BeforeStmt g s n (stmt.Expr e semicolon) old → CoerceDone g s e (statement_type semicolon) t old new → StmtDone g s (stmt.Expr e semicolon) old new
   expr_stmt_done true t new h d = record {
     walks = owed_paid g s e None old new (λ u i. absurd (cc)) d.walks;
     clock = d.clock;

@@ -14,13 +14,13 @@ use Rattle.infer_result.specs.declared.result.InferenceResult.{InferenceResult}
 use Rattle.infer_result.specs.declared.result.TypeMismatch.{TypeMismatch}
 use Rattle.infer_result.specs.Places.{Given, IsAtOrMismatch}
 use Rattle.infer_result.specs.Rules.Tuples.{AllAt}
-use Rattle.infer_expr.specs.declared.context.InferenceContext.{InferenceContext}
-use Rattle.infer_expr.specs.Context.{element_type}
+use Rattle.infer_expr.specs.Found.{Found}
+use Rattle.infer_expr.specs.Context.{IsCarriedExpectation}
 use Rattle.infer_expr.specs.Walks.{Walks, Debt, Owed, OwedAmong, PaidBy, expr_end}
-use Rattle.infer_expr.specs.Steps.{LieAhead, Before, Within, KindDone, CoerceDone, IsTupleOf}
+use Rattle.infer_expr.specs.Under.{IsReady, LieAhead, Before, Within, KindDone, CoerceDone, IsTupleOf}
 use Rattle.infer_expr.proofs.Lists.{slice_get-append_left, slice_get-push, drop-step}
 use Rattle.hir_facts.specs.CarriedTypes.{AreCarriedTypes}
-use Rattle.infer_expr.proofs.Types.{carried_push, carried_tuple_of, carried_element}
+use Rattle.infer_expr.proofs.Types.{carried_push, carried_tuple_of}
 use Rattle.infer_expr.proofs.Parts.{ahead_rest, expr_ahead, expr_before}
 use Rattle.infer_expr.proofs.Category.{walks_refl, walks_trans, walks_paid}
 use Rattle.infer_expr.proofs.Keeps.{all_kept}
@@ -28,7 +28,7 @@ use Rattle.infer_expr.proofs.Coercions.{placed_at, placed_carried, placed_owed}
 use Rattle.infer_expr.proofs.Leaves.{rule_of}
 
 -- the first i elements of the tuple n have the types ts, and the others lie ahead
-pub record TupleLoop (g : Given) (s : Schedule) (n : ExprId) (es : List ExprId) (i : ℕ) (ts : List Ty) (mid c : InferenceContext) : Type 0 where
+pub record TupleLoop (g : Given) (s : Schedule) (n : ExprId) (es : List ExprId) (i : ℕ) (ts : List Ty) (mid c : Found) : Type 0 where
   pub walks : Walks g s (OwedAmong es ts) mid c
   pub ahead : LieAhead g.body s (inner (node.ExprId n)) c.clock (element_parts i (drop i es))
   pub ends : after g.body s c.clock (element_parts i (drop i es)) ≡ expr_end g.body s n
@@ -36,7 +36,7 @@ pub record TupleLoop (g : Given) (s : Schedule) (n : ExprId) (es : List ExprId) 
   pub carried : AreCarriedTypes ts
   pub count : length ts ≡ i
 
-pub tuple_start : (g : Given) (s : Schedule) (n : ExprId) (es : List ExprId) (x : Option Ty) (c : InferenceContext) → Within g s n x c → IsTupleOf g.body n es → TupleLoop g s n es 0 [] c c
+pub tuple_start : (g : Given) (s : Schedule) (n : ExprId) (es : List ExprId) (x : Option Ty) (c : Found) → Within g s n x c → IsTupleOf g.body n es → TupleLoop g s n es 0 [] c c
 tuple_start g s n es x c h is =
     let a = expr_ahead g.body s n (expr.Tuple es) c.clock h.ready.law.schedule h.within is h.clock in
     record {
@@ -79,21 +79,21 @@ element_demand g n es ts h is e m o r has =
       asks = (ts, has, o.2);
     }
 
-module _ (g : Given) (s : Schedule) (n : ExprId) (es : List ExprId) (i : ℕ) (ts : List Ty) (mid c : InferenceContext) (h : TupleLoop g s n es i ts mid c) where
+module _ (g : Given) (s : Schedule) (n : ExprId) (es : List ExprId) (i : ℕ) (ts : List Ty) (mid c : Found) (h : TupleLoop g s n es i ts mid c) where
   step : (e : ExprId) → e ≡ get_or es i e → i < length es → element_parts i (drop i es) ≡ expr_part (element i) e ∷ element_parts (i + 1) (drop (i + 1) es)
   step e is k =
       let d : drop i es ≡ e ∷ drop (i + 1) es = drop-step es i e k ∙ ap (λ x. x ∷ drop (i + 1) es) (sym is) in
       let z : suc i ≡ i + 1 = omega arith in
       ap (λ l. element_parts i l) d ∙ ap (λ j. expr_part (element i) e ∷ element_parts j (drop (i + 1) es)) z
 
-  pub tuple_before : (x : Option Ty) (start : InferenceContext) → Within g s n x start → (e : ExprId) → e ≡ get_or es i e → i < length es → Before g s e (element_type x i) c
-  tuple_before x start w e is k =
-      expr_before g s (inner (node.ExprId n)) (element i) e (element_parts (i + 1) (drop (i + 1) es)) (element_type x i) c w.ready h.walks.state (
+  pub tuple_before : (y : Option Ty) → IsCarriedExpectation y → IsReady g s → (e : ExprId) → e ≡ get_or es i e → i < length es → Before g s e y c
+  tuple_before y carried ready e is k =
+      expr_before g s (inner (node.ExprId n)) (element i) e (element_parts (i + 1) (drop (i + 1) es)) y c ready h.walks.state (
       subst (λ ps. LieAhead g.body s (inner (node.ExprId n)) c.clock ps) (step e is k) h.ahead
-      ) (carried_element x i w.expected)
+      ) carried
 
-  pub tuple_next : (x : Option Ty) (start : InferenceContext) → Within g s n x start → (e : ExprId) (t : Ty) (next : InferenceContext) → e ≡ get_or es i e → i < length es → CoerceDone g s e (element_type x i) t c next → TupleLoop g s n es (i + 1) (ts ++ t ∷ []) mid next
-  tuple_next x start w e t next is k d =
+  pub tuple_next : (y : Option Ty) → IsCarriedExpectation y → (e : ExprId) (t : Ty) (next : Found) → e ≡ get_or es i e → i < length es → CoerceDone g s e y t c next → TupleLoop g s n es (i + 1) (ts ++ t ∷ []) mid next
+  tuple_next y expected e t next is k d =
       let a = ahead_rest g.body s (inner (node.ExprId n)) c.clock (expr_part (element i) e) (element_parts (i + 1) (drop (i + 1) es)) (
       subst (λ ps. LieAhead g.body s (inner (node.ExprId n)) c.clock ps) (step e is k) h.ahead
       ) in
@@ -106,9 +106,9 @@ module _ (g : Given) (s : Schedule) (n : ExprId) (es : List ExprId) (i : ℕ) (t
         walks = walks_trans g s Q mid c next (
             walks_paid g s (OwedAmong es ts) Q mid c (λ a m o. inr (o.0, o.1, slice_get-append_left ts (t ∷ []) o.0 m.expected o.2)) h.walks
             ) (
-            walks_paid g s (Owed e (element_type x i)) Q c next (
+            walks_paid g s (Owed e y) Q c next (
             λ a m o.
-            (let q = placed_owed next.result e (element_type x i) t d.placed a m o in
+            (let q = placed_owed next.result e y t d.placed a m o in
             inr (i, here ∙ ap (λ y. Some y) (sym q.0), type_here ∙ ap (λ y. Some y) (sym q.1)))
             ) d.walks
             );
@@ -116,10 +116,10 @@ module _ (g : Given) (s : Schedule) (n : ExprId) (es : List ExprId) (i : ℕ) (t
         ends = subst (λ j. after g.body s j (element_parts (i + 1) (drop (i + 1) es)) ≡ expr_end g.body s n) (sym d.clock) f;
         made = rw (take_more es i e k) (
             subst (λ y. AllAt (IsAtOrMismatch next.result) (take i es ++ y ∷ []) (ts ++ t ∷ [])) is (
-            all_push next.result (take i es) ts e t (all_kept g c.result next.result d.walks.extends (take i es) ts h.made) (placed_at next.result e (element_type x i) t d.placed)
+            all_push next.result (take i es) ts e t (all_kept g c.result next.result d.walks.extends (take i es) ts h.made) (placed_at next.result e y t d.placed)
             )
             );
-        carried = carried_push ts t h.carried (placed_carried next.result e (element_type x i) t d.walks.state.carried (carried_element x i w.expected) d.placed);
+        carried = carried_push ts t h.carried (placed_carried next.result e y t d.walks.state.carried expected d.placed);
         count = simp length-append (omega (arith, h.count));
       }
 

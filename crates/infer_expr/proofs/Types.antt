@@ -1,12 +1,9 @@
 -- Types of the carried kinds.
-use Rattle.std.proofs.Common.{ℕ, zero, suc, ◌≡◌, refl, sym, ap, subst, ◌∙◌, Bool, true, false, ◌&&◌, List, [], ◌∷◌, ◌++◌, Option, Some, None, slice_get}
+use Rattle.std.proofs.Common.{ℕ, zero, suc, ◌≡◌, refl, sym, subst, ◌∙◌, Bool, true, false, ◌&&◌, List, [], ◌∷◌, ◌++◌, Option, Some, None, slice_get}
 use Rattle.std.specs.List.{list_all}
 use mathlib.Core.Bool.{true≢false}
 use Rattle.hir_types.specs.declared.ids.TypeRefId.{TypeRefId}
-use Rattle.hir_types.specs.declared.ty.AliasBound.{AliasBound}
-use Rattle.hir_types.specs.declared.ty.GenericArg.{GenericArg}
-use Rattle.hir_types.specs.declared.ty.TraitRef.{TraitRef}
-use Rattle.hir_types.specs.declared.ty.Ty.{Ty, Ty-F, out-Ty, roll-Ty, roll-out-Ty}
+use Rattle.hir_types.specs.declared.ty.Ty.{Ty}
 use Rattle.hir_types.specs.declared.ty.Ty.TheVariants as ty
 use Rattle.hir_types.specs.Types.{unit}
 use Rattle.hir_facts.specs.declared.raw.RawFacts.{RawFacts}
@@ -19,8 +16,8 @@ use Rattle.infer_result.specs.Closed.{AllTypes, IsClosedTable}
 use Rattle.infer_result.specs.Fit.{TypesFit}
 use Rattle.infer_result.specs.Rules.Literals.{IsLiteralType}
 use Rattle.infer_result.specs.Places.{Given}
-use Rattle.infer_expr.specs.Steps.{declared_type}
-use Rattle.infer_expr.specs.Context.{component, element_type, IsCarriedExpectation}
+use Rattle.infer_expr.specs.Under.{declared_type}
+use Rattle.infer_expr.specs.Context.{IsCarriedExpectation}
 use Rattle.infer_expr.specs.Walks.{IsCarriedTable}
 
 -- ---- tables
@@ -81,19 +78,3 @@ carried_literal literal.Other t h = absurd h
 pub carried_declared : (g : Given) (w : Option TypeRefId) → IsCarriedExpectation (declared_type g w)
 carried_declared g None = tt
 carried_declared g (Some w) = written_carried g.types w
-
--- ---- elements
-
-maybe_carried : (ts : List Ty) (i : ℕ) (o : Option Ty) → AreCarriedTypes ts → slice_get ts i ≡ o → IsCarriedExpectation o
-maybe_carried ts i None h e = tt
-maybe_carried ts i (Some t) h e = carried_at ts i t h e
-
-component_carried : (x : Ty-F GenericArg Ty AliasBound TraitRef) (i : ℕ) → IsCarriedType (roll-Ty x) → IsCarriedExpectation (component x i)
-component_carried (Ty-F.Tuple ts) i h =
-    let k : AreCarriedTypes ts = sym (carried_tuple ts) ∙ (ap is_carried_type (sym (ty.rolls-Tuple ts)) ∙ h) in
-    maybe_carried ts i (slice_get ts i) k refl
-component_carried _ i h = tt
-
-pub carried_element : (x : Option Ty) (i : ℕ) → IsCarriedExpectation x → IsCarriedExpectation (element_type x i)
-carried_element None i h = tt
-carried_element (Some t) i h = component_carried (out-Ty t) i (subst (λ u. IsCarriedType u) (sym (roll-out-Ty t)) h)

@@ -1,5 +1,5 @@
 -- The walk of a whole body.
-use Rattle.std.proofs.Common.{ℕ, zero, suc, ◌+◌, ◌<◌, ◌≡◌, ◌⊎◌, inl, inr, [], ◌∷◌, ◌++◌, ◌^◌, length, map, refl, sym, ap, subst, ◌∙◌, arith, Option, Some, None}
+use Rattle.std.proofs.Common.{ℕ, zero, suc, ◌+◌, ◌<◌, ◌≡◌, ◌⊎◌, inl, inr, [], ◌∷◌, ◌^◌, length, refl, sym, subst, ◌∙◌, arith, Option, Some, None}
 use Rattle.std.specs.Prelude.{replicate}
 use Rattle.std.proofs.lemmas.List.{length-replicate}
 use Rattle.hir_types.specs.declared.ids.ExprId.{ExprId}
@@ -10,19 +10,19 @@ use Rattle.hir_facts.specs.declared.raw.RawBody.{RawBody}
 use Rattle.hir_facts.specs.declared.schedule.Schedule.{Schedule}
 use Rattle.hir_facts.specs.Bodies.{IsWalkable}
 use Rattle.hir_facts.specs.CarriedTypes.{IsCarriedType}
-use Rattle.hir_facts.specs.Order.{inner, the_body, root, parameter, expr_part, pat_part, start, end, after, IsInBody, IsSchedule}
+use Rattle.hir_facts.specs.Order.{inner, the_body, root, expr_part, param_parts, body_parts, start, end, IsInBody, IsSchedule}
 use Rattle.infer_result.specs.declared.result.InferenceResult.{InferenceResult}
 use Rattle.infer_result.specs.declared.result.TypeMismatch.{TypeMismatch}
 use Rattle.infer_result.specs.Table.{At}
 use Rattle.infer_expr.specs.Walks.{IsCarriedTable}
 use Rattle.infer_result.specs.Places.{Given, Demand}
 use Rattle.infer_result.specs.Made.{IsMade, IsMisfit}
-use Rattle.infer_expr.specs.declared.context.InferenceContext.{InferenceContext}
-use Rattle.infer_expr.specs.Context.{empty_context}
-use Rattle.infer_expr.specs.Walks.{IsWalked, IsFree, expr_end}
-use Rattle.infer_expr.specs.Steps.{IsReady, WrittenExist, LieAhead, Before, CoerceDone}
+use Rattle.infer_expr.specs.Found.{Found, nothing_found}
+use Rattle.infer_expr.specs.Walks.{Walks, IsWalked, IsFree, Nothing, Owed, expr_end}
+use Rattle.infer_expr.specs.Under.{IsReady, WrittenExist, LieAhead, Before, CoerceDone, BeforeParams, ParamsDone}
 use Rattle.infer_expr.proofs.Types.{table_closed}
-use Rattle.infer_expr.proofs.Parts.{ahead_start, ahead_stands, expr_before, binds_within}
+use Rattle.infer_expr.proofs.Parts.{after_append, ahead_start, ahead_right, ahead_stands, expr_before, binds_within}
+use Rattle.infer_expr.proofs.Category.{walks_trans, walks_paid}
 
 -- ---- nothing is recorded
 
@@ -35,7 +35,7 @@ module _ {A : Type 0} where
   free-replicate (suc n) zero h = refl
   free-replicate (suc n) (suc i) h = (let k : i < n = omega arith in free-replicate n i k)
 
-  At-replicate : (n i : ℕ) (a : A) → At (replicate n nothing) i a → ⊥
+  pub At-replicate : (n i : ℕ) (a : A) → At (replicate n nothing) i a → ⊥
   At-replicate zero i a h = cc
   At-replicate (suc n) zero a h = cc
   At-replicate (suc n) (suc i) a h = At-replicate n i a h
@@ -52,7 +52,7 @@ inner_start b s x law h =
     above a n = grind arith
 
 module _ (b : RawBody) (s : Schedule) (law : IsWalkable b s) where
-  empty_carried : IsCarriedTable (empty_context b).result
+  empty_carried : IsCarriedTable (nothing_found b).result
   empty_carried = record {
     exprs = λ n t i. absurd (At-replicate (length b.exprs) n t i);
     pats = λ n t i. absurd (At-replicate (length b.pats) n t i);
@@ -61,7 +61,7 @@ module _ (b : RawBody) (s : Schedule) (law : IsWalkable b s) where
     actual = λ n m i. absurd (At-replicate (length b.exprs) n m i);
   }
 
-  empty_walked : IsWalked b s (empty_context b)
+  empty_walked : IsWalked b s (nothing_found b)
   empty_walked = record {
     of_body = record {
       exprs = length-replicate (length b.exprs) None;
@@ -79,39 +79,45 @@ module _ (b : RawBody) (s : Schedule) (law : IsWalkable b s) where
     bound = λ p v i hi. absurd (omega (arith, inner_start b s (node.PatId p) law.schedule (binds_within b p v i)));
   }
 
-  -- the root is the only part of the body
-  root_ahead : LieAhead b s the_body 1 (expr_part root b.root ∷ []) × (expr_end b s b.root ≡ end b s the_body)
-  root_ahead =
+  -- the parts of the body lie ahead
+  body_ahead : LieAhead b s the_body 1 (body_parts b)
+  body_ahead =
       let one : start b s the_body + 1 ≡ 1 = omega (arith, law.schedule.first) in
-      let h = ahead_start b s the_body law.schedule tt in
-      let parts_are : map (pat_part parameter) b.params ++ expr_part root b.root ∷ [] ≡ expr_part root b.root ∷ [] = ap (λ ps. map (pat_part parameter) ps ++ expr_part root b.root ∷ []) law.no_params in (
-        subst (λ k. LieAhead b s the_body k (expr_part root b.root ∷ [])) one (subst (λ ps. LieAhead b s the_body (start b s the_body + 1) ps) parts_are h),
-        subst (λ ps. after b s (start b s the_body + 1) ps ≡ end b s the_body) parts_are (law.schedule.ends the_body tt),
-      )
+      subst (λ k. LieAhead b s the_body k (body_parts b)) one (ahead_start b s the_body law.schedule tt)
 
-pub root_within : (b : RawBody) (s : Schedule) → IsWalkable b s → IsInBody b (node.ExprId b.root)
-root_within b s law = (root_ahead b s law).0.fit.0
+  -- the root is the last of them
+  root_last : expr_end b s b.root ≡ end b s the_body
+  root_last = sym (after_append b s (start b s the_body + 1) (param_parts 0 b.params) (expr_part root b.root ∷ [])) ∙ law.schedule.ends the_body tt
 
-pub root_before : (g : Given) (s : Schedule) (last : ℕ) (c : InferenceContext) → IsWalkable g.body s → WrittenExist g → IsCarriedType g.output → last ≡ expr_end g.body s g.body.root → last < 2 ^ 64 → c ≡ empty_context g.body → Before g s g.body.root (Some g.output) c
-root_before g s last c law written carried is room empty =
-    let ready : IsReady g s = record { law = law; written = written; room = omega (arith, is, (root_ahead g.body s law).1) } in
-    subst (λ k. Before g s g.body.root (Some g.output) k) (sym empty) (
-    expr_before g s the_body root g.body.root [] (Some g.output) (empty_context g.body) ready (empty_walked g.body s law) (root_ahead g.body s law).0 carried
-    )
+  pub root_within : IsInBody b (node.ExprId b.root)
+  root_within = (ahead_right b s the_body 1 (param_parts 0 b.params) (expr_part root b.root ∷ []) body_ahead).fit.0
+
+pub params_before : (g : Given) (s : Schedule) (last : ℕ) (c : Found) → IsWalkable g.body s → WrittenExist g → length g.inputs ≡ length g.body.params → last ≡ expr_end g.body s g.body.root → last < 2 ^ 64 → c ≡ nothing_found g.body → BeforeParams g s c
+params_before g s last c law written count is room empty =
+    let ready : IsReady g s = record { law = law; written = written; room = omega (arith, is, root_last g.body s law) } in
+    subst (λ k. BeforeParams g s k) (sym empty) (record { ready = ready; count = count; state = empty_walked g.body s law; ahead = body_ahead g.body s law })
+
+pub root_before : (g : Given) (s : Schedule) (old c : Found) → IsReady g s → IsCarriedType g.output → ParamsDone g s old c → Before g s g.body.root (Some g.output) c
+root_before g s old c ready carried d = expr_before g s the_body root g.body.root [] (Some g.output) c ready d.walks.state d.ahead carried
 
 -- what the body asks of its root
-root_demand : (g : Given) (s : Schedule) → IsWalkable g.body s → (r : InferenceResult) → Demand g r g.body.root g.output
-root_demand g s law r =
-    let q = ahead_stands g.body s the_body 1 (expr_part root g.body.root) [] (root_ahead g.body s law).0 in
+root_demand : (g : Given) (s : Schedule) (c : Found) → LieAhead g.body s the_body c.clock (expr_part root g.body.root ∷ []) → (r : InferenceResult) → Demand g r g.body.root g.output
+root_demand g s c ahead r =
+    let q = ahead_stands g.body s the_body c.clock (expr_part root g.body.root) [] ahead in
     record { parent = the_body; at_part = q.0; role = root; stands = q.1; asks = (refl, refl) }
 
-module _ (g : Given) (s : Schedule) (law : IsWalkable g.body s) (t : Ty) (new : InferenceContext) (d : CoerceDone g s g.body.root (Some g.output) t (empty_context g.body) new) where
+module _ (g : Given) (s : Schedule) (law : IsWalkable g.body s) (t : Ty) (mid new : Found) (p : ParamsDone g s (nothing_found g.body) mid) (d : CoerceDone g s g.body.root (Some g.output) t mid new) where
   at_end : new.clock ≡ end g.body s the_body
-  at_end = d.clock ∙ (root_ahead g.body s law).1
+  at_end = d.clock ∙ root_last g.body s law
+
+  walked : Walks g s (Owed g.body.root (Some g.output)) (nothing_found g.body) new
+  walked =
+      walks_trans g s (Owed g.body.root (Some g.output)) (nothing_found g.body) mid new
+      (walks_paid g s Nothing (Owed g.body.root (Some g.output)) (nothing_found g.body) mid (λ e m o. absurd o) p.walks) d.walks
 
   misfit : (e : ExprId) (m : TypeMismatch) → At new.result.expr_mismatches e.0 m → IsMisfit g new.result e m × Demand g new.result e m.expected
   misfit e m i =
-      elim (d.walks.truths e m i) [
+      elim (walked.truths e m i) [
         | inl o ↦ absurd (At-replicate (length g.body.exprs) e.0 m o)
         | inr q ↦ (
           q.0,
@@ -119,26 +125,27 @@ module _ (g : Given) (s : Schedule) (law : IsWalkable g.body s) (t : Ty) (new : 
             | inl k ↦ k
             | inr o ↦
                 subst (λ n. Demand g new.result n m.expected) (sym o.0) (
-                subst (λ u. Demand g new.result g.body.root u) (sym o.1) (root_demand g s law new.result)
+                subst (λ u. Demand g new.result g.body.root u) (sym o.1) (root_demand g s mid p.ahead new.result)
                 )
           ],
         )
       ]
 
   pub body_carried : IsCarriedTable new.result
-  body_carried = d.walks.state.carried
+  body_carried = walked.state.carried
 
   pub body_made : IsMade g new.result
   body_made = record {
-    of_body = d.walks.state.of_body;
-    closed = table_closed new.result d.walks.state.carried;
+    of_body = walked.state.of_body;
+    closed = table_closed new.result walked.state.carried;
     clauses = λ e i.
-        d.walks.made e i (inner_start g.body s (node.ExprId e) law.schedule i) (omega (arith, at_end, law.schedule.reached (inner (node.ExprId e)) i));
+        walked.made e i (inner_start g.body s (node.ExprId e) law.schedule i) (omega (arith, at_end, law.schedule.reached (inner (node.ExprId e)) i));
     kinds = λ p i.
-        d.walks.pats_made p i (inner_start g.body s (node.PatId p) law.schedule i) (omega (arith, at_end, law.schedule.reached (inner (node.PatId p)) i));
+        walked.pats_made p i (inner_start g.body s (node.PatId p) law.schedule i) (omega (arith, at_end, law.schedule.reached (inner (node.PatId p)) i));
+    params = λ i q u at is. d.walks.extends.pats q u (p.typed i q u at is);
     bindings = λ v i.
         (let q = law.bound v i in
-        d.walks.state.bound q.binder v q.binds (
+        walked.state.bound q.binder v q.binds (
         omega (arith, at_end, law.schedule.reached (inner (node.PatId q.binder)) (binds_within g.body q.binder v q.binds))
         ));
     body_clause = d.placed.1;

@@ -13,6 +13,7 @@ use Rattle.hir_facts.specs.CarriedTypes.{IsCarriedType}
 use Rattle.infer_result.specs.declared.result.TypeMismatch.{TypeMismatch}
 use Rattle.infer_result.specs.declared.modes.BindingMode.{BindingMode}
 use Rattle.infer_result.specs.declared.modes.BindingMode.TheVariants as mode
+use Rattle.infer_table.specs.Table.{new_state}
 use Rattle.infer_result.specs.Places.{Given}
 use Rattle.infer_expr.specs.declared.given.GivenBody.{GivenBody}
 use Rattle.infer_expr.specs.declared.expectation.Expectation.{Expectation}
@@ -22,7 +23,7 @@ use Rattle.infer_expr.specs.declared.context.InferenceContext.{InferenceContext}
 -- ---- what is read
 
 abbrev pub given_of : GivenBody → Given
-given_of x = record { types = x.facts.now.types; body = x.body.now; output = x.return_ty.now }
+given_of x = record { types = x.facts.now.types; body = x.body.now; inputs = x.inputs.now; output = x.return_ty.now }
 
 abbrev pub schedule_of : GivenBody → Schedule
 schedule_of x = x.schedule.now
@@ -59,6 +60,7 @@ empty_context b = record {
     expr_mismatches = replicate (length b.exprs) None;
   };
   clock = 1;
+  table = new_state;
 }
 
 -- ---- what a write does

@@ -1,3 +1,7 @@
 pub mod Context
+pub mod Found
 pub mod Walks
+pub mod Fine
+pub mod Closings
+pub mod Under
 pub mod Steps

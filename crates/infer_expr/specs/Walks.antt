@@ -1,4 +1,4 @@
--- What every function of the walk does to the context.
+-- What every function of the walk does to what is found out, under one assignment of types to holes.
 use Rattle.std.specs.Prelude.{ℕ, ◌<◌, ◌≤◌, ◌≡◌, ◌⊎◌, List, length, slice_get, Option, Some, None}
 use Rattle.hir_types.specs.declared.ids.ExprId.{ExprId}
 use Rattle.hir_types.specs.declared.ids.PatId.{PatId}
@@ -18,7 +18,7 @@ use Rattle.infer_result.specs.Places.{Given, Demand}
 use Rattle.infer_result.specs.Rules.Expressions.{ObeysOrMismatch}
 use Rattle.infer_result.specs.Rules.Patterns.{PatRule}
 use Rattle.infer_result.specs.Made.{IsMisfit}
-use Rattle.infer_expr.specs.declared.context.InferenceContext.{InferenceContext}
+use Rattle.infer_expr.specs.Found.{Found}
 
 -- the numbers of an expression and of a pattern in the order of the walk
 abbrev pub expr_start : RawBody → Schedule → ExprId → ℕ
@@ -48,7 +48,7 @@ IsCarriedTable t = AllTypes IsCarriedType t
 
 -- The state of the walk: each type is of a carried kind, nothing is recorded at a node from the clock on, and
 -- each binding whose pattern comes before it has a type.
-pub record IsWalked (b : RawBody) (s : Schedule) (c : InferenceContext) : Type 0 where
+pub record IsWalked (b : RawBody) (s : Schedule) (c : Found) : Type 0 where
   pub of_body : IsOfBody b c.result
   pub carried : IsCarriedTable c.result
   pub free_exprs : (e : ExprId) → e.0 < length b.exprs → c.clock ≤ expr_start b s e → IsFree c.result.type_of_expr e.0
@@ -64,7 +64,7 @@ Debt = ExprId → TypeMismatch → Type 0
 
 -- The nodes from the old clock to the new one are made, those before it are left alone, and each new
 -- mismatch is a true one, but that the demand of its place may still be owed, as P says.
-pub record Walks (g : Given) (s : Schedule) (P : Debt) (old new : InferenceContext) : Type 0 where
+pub record Walks (g : Given) (s : Schedule) (P : Debt) (old new : Found) : Type 0 where
   pub clock : old.clock ≤ new.clock
   pub extends : Extends old.result new.result
   pub kept : (e : ExprId) → e.0 < length g.body.exprs → expr_start g.body s e < old.clock → slice_get new.result.type_of_expr e.0 ≡ slice_get old.result.type_of_expr e.0

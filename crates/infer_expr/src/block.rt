@@ -2,7 +2,11 @@
 ghost use Rattle.std.specs.Prelude.{◌≡◌, ◌<◌, IfOk, length, List};
 ghost use Rattle.hir_types.specs.Types.{unit};
 ghost use Rattle.infer_expr.specs.Context.{given_of, schedule_of, expected_type};
-ghost use Rattle.infer_expr.specs.Steps.{Within, IsBlockOf, KindDone, BeforeTail, TailDone, NoTailDone};
+ghost use Rattle.infer_result.specs.Closed.{IsOfBody};
+ghost use Rattle.infer_expr.specs.Closings.{IsSound};
+ghost use Rattle.infer_expr.specs.Fine.{IsFineExpectation};
+ghost use Rattle.infer_expr.specs.Under.{IsBlockOf};
+ghost use Rattle.infer_expr.specs.Steps.{Within, KindDone, BeforeTail, TailDone, NoTailDone};
 
 use crate::context::InferenceContext;
 use crate::expectation::Expectation;
@@ -53,7 +57,7 @@ impl InferenceContext {
     {
         match tail {
             Some(expr) => self.infer_expr_coerce(alloc, given, expr, expected),
-            None => self.infer_no_tail(alloc, block, expected),
+            None => self.infer_no_tail(alloc, given, block, expected),
         }
     }
 
@@ -61,16 +65,21 @@ impl InferenceContext {
     fn infer_no_tail(
         &mut self,
         alloc: Global,
+        given: &GivenBody,
         block: ExprId,
         expected: Expectation,
     ) -> Result<Ty, AllocError>
-        requires { block.0 < length self.old.result.expr_mismatches }
-        ensures { IfOk result (λ ty. NoTailDone block (expected_type expected.entry) ty self.old self.new) }
+        requires within { block.0 < length given.now.body.now.exprs }
+        requires of_body { IsOfBody given.now.body.now self.old.result }
+        requires sound { IsSound self.old }
+        requires expected { IsFineExpectation self.old.table (expected_type expected) }
+        ensures { IfOk result (λ ty. NoTailDone given.now.body.now block
+            (expected_type expected.entry) ty self.old self.new) }
     {
         let unit = Ty::Tuple(List::new(alloc));
         match expected.only_has_type() {
             Some(target) => {
-                let ty = self.coerce(alloc, block, unit, target)?;
+                let ty = self.coerce(alloc, given, block, unit, target)?;
                 Ok(ty)
             }
             None => Ok(unit),

@@ -4,6 +4,7 @@ ghost use Rattle.infer_expr.specs.Context.{empty_context, entered, with_expr_ty,
 
 use hir_facts::{BindingId, ExprId, List, PatId, RawBody, Ty};
 use infer_result::{BindingMode, InferenceResult, TypeMismatch};
+use infer_table::InferenceTable;
 use std::alloc::{AllocError, Global};
 
 /// What inference of a body has found out so far: `infer.rs`, `InferenceContext`.
@@ -13,6 +14,8 @@ pub struct InferenceContext {
     pub result: InferenceResult,
     /// How many nodes of the body the walk has come to, the body itself counted.
     pub clock: usize,
+    /// The holes in the types that are recorded, and what is found out about them.
+    pub table: InferenceTable,
 }
 
 /// As many empty entries.
@@ -38,15 +41,11 @@ impl InferenceContext {
             binding_modes: no_entries(alloc, body.pats.len())?,
             expr_mismatches: no_entries(alloc, body.exprs.len())?,
         };
-        Ok(InferenceContext { result, clock: 1 })
-    }
-
-    /// The table, once the body is typed: `infer.rs`, `resolve_all`. No type has a hole to be
-    /// resolved.
-    pub fn resolve_all(self) -> InferenceResult
-        ensures { result ≡ self.result }
-    {
-        self.result
+        Ok(InferenceContext {
+            result,
+            clock: 1,
+            table: InferenceTable::new(alloc)?,
+        })
     }
 
     /// Comes to one node more.

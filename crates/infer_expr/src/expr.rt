@@ -6,7 +6,6 @@ ghost use Rattle.infer_expr.specs.Steps.{Before, OwnDone, CoerceDone, Within, Ki
 use crate::context::InferenceContext;
 use crate::expectation::Expectation;
 use crate::given::GivenBody;
-use crate::literal::infer_literal;
 use hir_facts::{ExprId, RawExpr, Ty};
 use std::alloc::{AllocError, Global};
 
@@ -28,7 +27,7 @@ impl InferenceContext {
         let ty = self.infer_expr_inner(alloc, given, expr, expected)?;
         match expected.only_has_type() {
             Some(target) => {
-                let coerced = self.coerce(alloc, expr, ty, target)?;
+                let coerced = self.coerce(alloc, given, expr, ty, target)?;
                 Ok(coerced)
             }
             None => Ok(ty),
@@ -71,7 +70,10 @@ impl InferenceContext {
             tgt_expr (expected_type expected.entry) ty self.old self.new) }
     {
         match &given.body.exprs.as_slice()[tgt_expr.0 as usize] {
-            RawExpr::Lit(literal) => Ok(infer_literal(literal)),
+            RawExpr::Lit(literal) => {
+                let ty = self.infer_literal(literal, expected)?;
+                Ok(ty)
+            }
             RawExpr::Path(path) => {
                 let ty = self.infer_expr_path(alloc, *path)?;
                 Ok(ty)
@@ -87,6 +89,7 @@ impl InferenceContext {
                 let statements = statements.as_slice();
                 self.infer_block(alloc, given, tgt_expr, statements, *tail, expected)
             }
+            RawExpr::If { .. } | RawExpr::Match { .. } | RawExpr::Call { .. } => unreachable!(),
             RawExpr::Other => unreachable!(),
         }
     }

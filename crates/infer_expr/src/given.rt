@@ -13,6 +13,8 @@ pub struct GivenBody<'a> {
     pub body: &'a RawBody,
     /// The order in which the walk comes to the nodes of the body.
     pub schedule: &'a Schedule,
+    /// The written types of the parameters.
+    pub inputs: &'a [TypeRefId],
     /// The type that the body is typed against.
     pub return_ty: &'a Ty,
 }

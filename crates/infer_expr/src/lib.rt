@@ -13,6 +13,7 @@ mod literal;
 mod pat;
 mod path;
 mod query;
+mod resolve_all;
 mod stmt;
 mod tuple;
 

@@ -1,23 +1,66 @@
 //! The types of literals.
-ghost use Rattle.std.specs.Prelude.{IsTrue};
+ghost use Rattle.std.specs.Prelude.{◌≡◌, IsTrue, IfOk, IfSome};
+ghost use Rattle.hir_types.specs.Types.{integer_type};
+ghost use Rattle.hir_types.specs.declared.ty.IntegerTy.{IntegerTy};
 ghost use Rattle.hir_facts.specs.Laws.Carried.{is_carried_literal};
-ghost use Rattle.infer_result.specs.Rules.Literals.{IsLiteralType};
+ghost use Rattle.infer_expr.specs.Closings.{IsSound};
+ghost use Rattle.infer_expr.specs.Steps.{LiteralDone, IntDone};
 
-use hir_facts::{RawLiteral, Ty};
+use crate::context::InferenceContext;
+use crate::expectation::Expectation;
+use hir_facts::{RawLiteral, Ty, UintTy};
+use std::alloc::AllocError;
 
-/// The type of a literal: `infer/expr.rs`, `infer_expr_inner` at `Expr::Literal`.
-pub fn infer_literal(literal: &RawLiteral) -> Ty
-    requires { IsTrue (is_carried_literal literal.now) }
-    ensures { IsLiteralType literal.now result }
-{
-    match literal {
-        RawLiteral::Bool(_) => Ty::Bool,
-        RawLiteral::Char(_) => Ty::Char,
-        RawLiteral::Int {
-            suffix: Some(suffix),
-            ..
-        } => suffix.ty(),
-        RawLiteral::Int { suffix: None, .. } => unreachable!(),
-        RawLiteral::Other => unreachable!(),
+impl InferenceContext {
+    /// The type of a literal: `infer/expr.rs`, `infer_expr_inner` at `Expr::Literal`.
+    pub fn infer_literal(
+        &mut self,
+        literal: &RawLiteral,
+        expected: Expectation,
+    ) -> Result<Ty, AllocError>
+        requires carried { IsTrue (is_carried_literal literal.now) }
+        requires sound { IsSound self.old }
+        ensures { IfOk result (λ ty. LiteralDone literal.now ty self.old self.new) }
+    {
+        match literal {
+            RawLiteral::Bool(_) => Ok(Ty::Bool),
+            RawLiteral::Char(_) => Ok(Ty::Char),
+            RawLiteral::Int {
+                suffix: Some(suffix),
+                ..
+            } => Ok(suffix.ty()),
+            RawLiteral::Int { suffix: None, .. } => {
+                let ty = self.infer_unsuffixed(expected)?;
+                Ok(ty)
+            }
+            RawLiteral::Other => unreachable!(),
+        }
+    }
+
+    /// The type of an integer without a suffix: what is expected of it where that says one, else a
+    /// new hole for integer types.
+    fn infer_unsuffixed(&mut self, expected: Expectation) -> Result<Ty, AllocError>
+        requires { IsSound self.old }
+        ensures { IfOk result (λ ty. IntDone ty self.old self.new) }
+    {
+        match self.expected_integer(expected) {
+            Some(ty) => Ok(ty),
+            None => {
+                let ty = self.table.next_int_var()?;
+                Ok(ty)
+            }
+        }
+    }
+
+    /// The type that is expected, where that is an integer type, and `u8` where it is `char`.
+    fn expected_integer(&self, expected: Expectation) -> Option<Ty>
+        ensures { IfSome result (λ ty. (i : IntegerTy) × (ty ≡ integer_type i)) }
+    {
+        match self.table.shallow_resolve(expected.only_has_type()?) {
+            Ty::Int(int) => Some(Ty::Int(*int)),
+            Ty::Uint(uint) => Some(Ty::Uint(*uint)),
+            Ty::Char => Some(Ty::Uint(UintTy::U8)),
+            _ => None,
+        }
     }
 }

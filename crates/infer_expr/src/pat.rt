@@ -50,7 +50,7 @@ impl InferenceContext {
                 self.infer_bind_pat(alloc, pat, *id, expected)?;
                 Ok(())
             }
-            RawPat::Other => unreachable!(),
+            RawPat::Tuple(_) | RawPat::Lit(_) | RawPat::Other => unreachable!(),
         }
     }
 

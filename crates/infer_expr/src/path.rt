@@ -1,6 +1,6 @@
 //! The types of paths.
 ghost use Rattle.std.specs.Prelude.{IfOk};
-ghost use Rattle.infer_expr.specs.Steps.{IsPathType};
+ghost use Rattle.infer_expr.specs.Under.{IsPathType};
 
 use crate::context::InferenceContext;
 use hir_facts::{RawPath, Ty};
@@ -17,7 +17,7 @@ impl InferenceContext {
                 Some(ty) => ty.dup(alloc),
                 None => unreachable!(),
             },
-            RawPath::Other => unreachable!(),
+            RawPath::Function(_) | RawPath::Other => unreachable!(),
         }
     }
 }

@@ -11,7 +11,7 @@ use infer_result::InferenceResult;
 use std::alloc::{AllocError, Global};
 
 /// The table of a definition's body: `infer.rs`, `infer_query_with_inspect`. Nothing is inspected
-/// yet, and no holes are made, so that nothing is left to do after `infer_body`.
+/// yet.
 pub fn infer_query_with_inspect<I: ObligationInspector>(
     alloc: Global,
     facts: &Facts,
@@ -31,9 +31,11 @@ pub fn infer_query_with_inspect<I: ObligationInspector>(
         facts,
         body,
         schedule: facts.schedule(id),
+        inputs: facts.inputs(def),
         return_ty: &return_ty,
     };
     let mut context = InferenceContext::new(alloc, body)?;
     context.infer_body(alloc, &given)?;
-    Ok(context.resolve_all())
+    let table = context.resolve_all(alloc)?;
+    Ok(table)
 }

@@ -1,8 +1,11 @@
 //! The statements of a block.
-ghost use Rattle.std.specs.Prelude.{◌≡◌, IfOk, Some};
+ghost use Rattle.std.specs.Prelude.{◌≡◌, IfOk, Some, None};
 ghost use Rattle.hir_facts.specs.declared.raw.RawStmt.TheVariants as stmt;
 ghost use Rattle.infer_expr.specs.Context.{given_of, schedule_of};
-ghost use Rattle.infer_expr.specs.Steps.{BeforeStmt, StmtDone, InitDone};
+ghost use Rattle.hir_types.specs.declared.ids.TypeRefId.{TypeRefId};
+ghost use Rattle.infer_expr.specs.Closings.{IsSound};
+ghost use Rattle.infer_expr.specs.Fine.{IsWritten};
+ghost use Rattle.infer_expr.specs.Steps.{BeforeStmt, StmtDone, InitDone, DeclaredDone};
 
 use crate::context::InferenceContext;
 use crate::expectation::Expectation;
@@ -31,6 +34,12 @@ impl InferenceContext {
                 initializer: Some(initializer),
                 else_branch: None,
             } => self.infer_let(alloc, given, block, *pat, *type_ref, *initializer),
+            RawStmt::Let {
+                pat,
+                type_ref,
+                initializer: None,
+                else_branch: None,
+            } => self.infer_bare_let(alloc, given, block, *pat, *type_ref),
             RawStmt::Let { .. } => unreachable!(),
             RawStmt::Expr { expr, has_semi } => {
                 self.infer_expr_stmt(alloc, given, block, *expr, *has_semi)
@@ -57,6 +66,49 @@ impl InferenceContext {
         let ty = self.infer_initializer(alloc, given, block, pat, type_ref, initializer)?;
         self.infer_top_pat(alloc, given, pat, ty)?;
         Ok(())
+    }
+
+    /// Types a `let` without an initializer: `infer/expr.rs`, `infer_block` at `Statement::Let`.
+    fn infer_bare_let(
+        &mut self,
+        alloc: Global,
+        given: &GivenBody,
+        block: ExprId,
+        pat: PatId,
+        type_ref: Option<TypeRefId>,
+    ) -> Result<(), AllocError>
+        requires { BeforeStmt (given_of given.now) (schedule_of given.now)
+            block (stmt.Let pat type_ref None None) self.old }
+        ensures { IfOk result (λ _. StmtDone (given_of given.now) (schedule_of given.now)
+            (stmt.Let pat type_ref None None) self.old self.new) }
+    {
+        let ty = self.declared_type(alloc, given, type_ref)?;
+        self.infer_top_pat(alloc, given, pat, ty)?;
+        Ok(())
+    }
+
+    /// The type that a `let` without an initializer gives to its pattern: the written one, or a new
+    /// hole for any type.
+    fn declared_type(
+        &mut self,
+        alloc: Global,
+        given: &GivenBody,
+        type_ref: Option<TypeRefId>,
+    ) -> Result<Ty, AllocError>
+        requires sound { IsSound self.old }
+        requires written { (w : TypeRefId) → type_ref ≡ Some w → IsWritten given.now.facts.now.types w }
+        ensures { IfOk result (λ ty. DeclaredDone (given_of given.now) type_ref ty self.old self.new) }
+    {
+        match type_ref {
+            Some(type_ref) => {
+                let ty = given.make_body_ty(alloc, type_ref)?;
+                Ok(ty)
+            }
+            None => {
+                let ty = self.table.next_ty_var()?;
+                Ok(ty)
+            }
+        }
     }
 
     /// The type that an initializer gives to the pattern of its `let`: the written one, to which it

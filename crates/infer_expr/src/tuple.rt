@@ -1,7 +1,8 @@
 //! The types of tuples.
 ghost use Rattle.std.specs.Prelude.{◌≡◌, IfOk};
 ghost use Rattle.infer_expr.specs.Context.{given_of, schedule_of, expected_type};
-ghost use Rattle.infer_expr.specs.Steps.{Within, IsTupleOf, KindDone};
+ghost use Rattle.infer_expr.specs.Under.{IsTupleOf};
+ghost use Rattle.infer_expr.specs.Steps.{Within, KindDone};
 
 use crate::context::InferenceContext;
 use crate::expectation::Expectation;

@@ -4,6 +4,7 @@ use Rattle.std.proofs.Common.{inl, inr, ap, sym, subst, ◌∙◌}
 use Rattle.std.proofs.lemmas.Option.{slice_get_within}
 use Rattle.hir_types.specs.declared.ids.ExprId.{ExprId}
 use Rattle.hir_types.specs.declared.ids.PatId.{PatId}
+use Rattle.hir_types.specs.declared.ids.BindingId.{BindingId}
 use Rattle.hir_types.specs.declared.ids.TypeRefId.{TypeRefId}
 use Rattle.hir_types.specs.declared.ids.ExprOrPatId.TheVariants as node
 use Rattle.hir_types.specs.declared.ty.Ty.{Ty}
@@ -36,10 +37,10 @@ use Rattle.infer_result.specs.Rules.Blocks.{LetRule, StmtRule, StmtsRule, TailRu
 use Rattle.infer_result.specs.Rules.Expressions.{Rule, BodyObeys}
 use Rattle.infer_result.specs.Rules.Patterns.{PatRule}
 use Rattle.infer_result.specs.Excused.{MaybeMismatch, StmtHasMismatch, StmtsHaveMismatch, ExcusedAs, BodyIsExcused}
-use Rattle.infer_result.specs.Upward.{NamesLet, Up, of_literal, of_written, of_initializer, Stated}
+use Rattle.infer_result.specs.Upward.{NamesLet, Up, of_literal, of_written, of_initializer, of_parameter, Stated}
 use Rattle.infer_result.specs.Truth.Mismatch.{IsBlockWithoutTail, IsTrueMismatch}
 use Rattle.infer_result.specs.Made.{IsMade}
-use Rattle.infer_result.specs.Parts.{LetStands, let_of_part}
+use Rattle.infer_result.specs.Parts.{LetStands, let_of_part, param_of_part}
 use Rattle.infer_result.specs.Typed.{IsTyped}
 
 -- a node stands at one place alone
@@ -100,12 +101,16 @@ judged g t n (Some (expr.Block label ss last)) (h, (s, k, m)) =
       | inl x ↦ inl (inr (inl x))
       | inr a ↦ elim (tail_obeys t n last s m) [ inl x ↦ inl (elim x [ inl y ↦ inl y | inr y ↦ inr (inr y) ]) | inr c ↦ inr (a, (s, k, c)) ]
     ]
+judged g t n (Some (expr.If c first other)) h = absurd h
+judged g t n (Some (expr.Match e arms)) h = absurd h
+judged g t n (Some (expr.Call f args)) h = absurd h
 judged g t n (Some expr.Other) h = absurd h
 
 -- ---- types are there
 
 path_type : (t : InferenceResult) (n : ExprId) (p : _) → PathRule t n p → (s : Ty) × HasTy t n s
 path_type t n (path.Local v) (s, h, k) = (s, h)
+path_type t n (path.Function f) h = absurd h
 path_type t n path.Other h = absurd h
 
 rule_type : (g : Given) (t : InferenceResult) (n : ExprId) (o : Option RawExpr) → Rule (IsAtOrMismatch t) (IsAtOrMismatch t) (Ends t n) g t n o → (s : Ty) × HasTy t n s
@@ -114,12 +119,17 @@ rule_type g t n (Some (expr.Lit l)) (s, h, k) = (s, h)
 rule_type g t n (Some (expr.Path p)) h = path_type t n p h
 rule_type g t n (Some (expr.Tuple es)) (ss, h, k) = (ty.Tuple ss, h)
 rule_type g t n (Some (expr.Block label ss last)) (h, (s, k, m)) = (s, k)
+rule_type g t n (Some (expr.If c first other)) h = absurd h
+rule_type g t n (Some (expr.Match e arms)) h = absurd h
+rule_type g t n (Some (expr.Call f args)) h = absurd h
 rule_type g t n (Some expr.Other) h = absurd h
 
 pat_type : (t : InferenceResult) (p : PatId) (o : Option RawPat) → PatRule t p o → (s : Ty) × PatTy t p s
 pat_type t p None h = absurd h
 pat_type t p (Some pat.Wild) h = h
 pat_type t p (Some (pat.Bind v sub)) (s, h, k, m) = (s, h)
+pat_type t p (Some (pat.Tuple ps)) h = absurd h
+pat_type t p (Some (pat.Lit e)) h = absurd h
 pat_type t p (Some pat.Other) h = absurd h
 
 literal_type : (l : RawLiteral) (s r : Ty) → IsOwnType l s → IsLiteralType l r → r ≡ s
@@ -142,6 +152,9 @@ block_stmts g t n (Some (expr.Lit l)) h i s e = absurd (cc)
 block_stmts g t n (Some (expr.Path p)) h i s e = absurd (cc)
 block_stmts g t n (Some (expr.Tuple es)) h i s e = absurd (cc)
 block_stmts g t n (Some (expr.Block label ss last)) (h, k) i s e = stmt_obeys_at g t ss i s h e
+block_stmts g t n (Some (expr.If c first other)) h i s e = absurd h
+block_stmts g t n (Some (expr.Match d arms)) h i s e = absurd h
+block_stmts g t n (Some (expr.Call f args)) h i s e = absurd h
 block_stmts g t n (Some expr.Other) h i s e = absurd h
 
 -- an expression that is there stands among those of the body
@@ -178,25 +191,39 @@ module _ (g : Given) (t : InferenceResult) (h : IsMade g t) where
       let r = let_stands l.0 p None (Some e) l.1 in
       subst (λ u. PatTy t p u) (one_at t.type_of_expr e.0 r.0 s r.1 gives) r.2)
   by_role p n k (let_pattern None None) s at gives = absurd gives
-  by_role p n k Role.parameter s at gives = absurd gives
+  by_role p n k (Role.parameter i) s at gives = h.params i p s (param_of_part g.body n k p i at) gives
   by_role p n k root s at gives = absurd gives
   by_role p n k (initializer w) s at gives = absurd gives
   by_role p n k Role.let_else s at gives = absurd gives
   by_role p n k (Role.statement semicolon) s at gives = absurd gives
   by_role p n k Role.tail s at gives = absurd gives
   by_role p n k (Role.element i) s at gives = absurd gives
+  by_role p n k Role.condition s at gives = absurd gives
+  by_role p n k Role.then_branch s at gives = absurd gives
+  by_role p n k Role.else_branch s at gives = absurd gives
+  by_role p n k Role.scrutinee s at gives = absurd gives
+  by_role p n k (Role.arm_pattern e i) s at gives = absurd gives
+  by_role p n k (Role.guard i) s at gives = absurd gives
+  by_role p n k (Role.arm i) s at gives = absurd gives
+  by_role p n k Role.callee s at gives = absurd gives
+  by_role p n k (Role.argument i) s at gives = absurd gives
+  by_role p n k (Role.subpattern i) s at gives = absurd gives
+  by_role p n k Role.pattern_literal s at gives = absurd gives
 
   incoming : (p : PatId) (s : Ty) → Incoming g t p s → PatTy t p s
   incoming p s i = by_role p i.parent i.at_part i.role s i.stands.part i.gives
 
   -- a local has the type of the pattern that binds it
-  local : (e : ExprId) (w : Option TypeRefId) (init : Option ExprId) (n : NamesLet g.body e w init) (s : Ty) → PatTy t n.pattern s → HasTy t e s
-  local e w init n s has =
-      let m = clause_at e (expr.Path (path.Local n.binding)) n.names in
-      let q = kind_at n.pattern (pat.Bind n.binding None) n.binds in
-      let f : m.0 ≡ q.0 = one_at t.type_of_binding n.binding.0 m.0 q.0 m.2 q.2 in
-      let k : q.0 ≡ s = one_at t.type_of_pat n.pattern.0 q.0 s q.1 has in
+  local : (e : ExprId) (v : BindingId) (p : PatId) (s : Ty) → slice_get g.body.exprs e.0 ≡ Some (expr.Path (path.Local v)) → slice_get g.body.pats p.0 ≡ Some (pat.Bind v None) → PatTy t p s → HasTy t e s
+  local e v p s names binds has =
+      let m = clause_at e (expr.Path (path.Local v)) names in
+      let q = kind_at p (pat.Bind v None) binds in
+      let f : m.0 ≡ q.0 = one_at t.type_of_binding v.0 m.0 q.0 m.2 q.2 in
+      let k : q.0 ≡ s = one_at t.type_of_pat p.0 q.0 s q.1 has in
       subst (λ u. HasTy t e u) (f ∙ k) m.1
+
+  local_of_let : (e : ExprId) (w : Option TypeRefId) (init : Option ExprId) (n : NamesLet g.body e w init) (s : Ty) → PatTy t n.pattern s → HasTy t e s
+  local_of_let e w init n s has = local e n.binding n.pattern s n.names n.binds has
 
   comes_in : (e : ExprId) (w : Option TypeRefId) (init : Option ExprId) (n : NamesLet g.body e w init) (s : Ty) → Gives g t (let_pattern w init) s → PatTy t n.pattern s
   comes_in e w init n s gives = by_role n.pattern n.parent n.at_part (let_pattern w init) s n.stands.part gives
@@ -204,8 +231,9 @@ module _ (g : Given) (t : InferenceResult) (h : IsMade g t) where
   upward : (e : ExprId) (s : Ty) → Up g e s → HasTy t e s
   upward m r (of_literal e l s is own) =
       (let c = clause_at e (expr.Lit l) is in subst (λ u. HasTy t e u) (literal_type l s c.0 own c.2) c.1)
-  upward m r (of_written e w init n) = local e (Some w) init n (written_type g.types w) (comes_in e (Some w) init n (written_type g.types w) refl)
-  upward m r (of_initializer e i s n u) = local e None (Some i) n s (comes_in e None (Some i) n s (upward i s u))
+  upward m r (of_written e w init n) = local_of_let e (Some w) init n (written_type g.types w) (comes_in e (Some w) init n (written_type g.types w) refl)
+  upward m r (of_initializer e i s n u) = local_of_let e None (Some i) n s (comes_in e None (Some i) n s (upward i s u))
+  upward m r (of_parameter e i s n is) = local e n.binding n.pattern s n.names n.binds (h.params i n.pattern s n.stands is)
 
   body_rule : BodyIsExcused g t ⊎ BodyObeys g t
   body_rule = elim (at_or_excused t g.body.root g.output h.body_clause) [ inl a ↦ inr a | inr m ↦ inl m ]
@@ -251,6 +279,7 @@ module _ (g : Given) (t : InferenceResult) (h : IsMade g t) where
     no_up_of_block m r is (of_literal e l s at own) = (let k = is.is_block in cc)
     no_up_of_block m r is (of_written e w init n) = (let k = is.is_block in let j = n.names in cc)
     no_up_of_block m r is (of_initializer e i s n u) = (let k = is.is_block in let j = n.names in cc)
+    no_up_of_block m r is (of_parameter e i s n w) = (let k = is.is_block in let j = n.names in cc)
 
     truths : (e : ExprId) (x : TypeMismatch) → At t.expr_mismatches e.0 x → IsTrueMismatch g t e x
     truths e x at =

@@ -29,6 +29,9 @@ ExcusedAs t n (Some (expr.Lit l)) = ⊥
 ExcusedAs t n (Some (expr.Path p)) = ⊥
 ExcusedAs t n (Some (expr.Tuple es)) = ⊥
 ExcusedAs t n (Some (expr.Block label stmts last)) = HasMismatch t n ⊎ (StmtsHaveMismatch t stmts ⊎ MaybeMismatch t last)
+ExcusedAs t n (Some (expr.If c first other)) = ⊥
+ExcusedAs t n (Some (expr.Match e arms)) = ⊥
+ExcusedAs t n (Some (expr.Call f args)) = ⊥
 ExcusedAs t n (Some expr.Other) = ⊥
 
 abbrev pub IsExcused : Given → InferenceResult → ExprId → Type 0

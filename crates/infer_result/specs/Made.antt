@@ -1,5 +1,5 @@
 -- What a walk of a body shows of its table, node by node; the rest of what is promised follows from it.
-use Rattle.std.specs.Prelude.{◌<◌, length, slice_get}
+use Rattle.std.specs.Prelude.{ℕ, ◌≡◌, ◌<◌, length, slice_get, Some}
 use Rattle.hir_types.specs.declared.ids.ExprId.{ExprId}
 use Rattle.hir_types.specs.declared.ids.PatId.{PatId}
 use Rattle.hir_types.specs.declared.ids.BindingId.{BindingId}
@@ -7,9 +7,9 @@ use Rattle.hir_types.specs.declared.ty.Ty.{Ty}
 use Rattle.hir_types.specs.Erasure.{Same}
 use Rattle.infer_result.specs.declared.result.InferenceResult.{InferenceResult}
 use Rattle.infer_result.specs.declared.result.TypeMismatch.{TypeMismatch}
-use Rattle.infer_result.specs.Table.{At, BindingTy}
+use Rattle.infer_result.specs.Table.{At, PatTy, BindingTy}
 use Rattle.infer_result.specs.Closed.{IsOfBody, IsClosedTable}
-use Rattle.infer_result.specs.Places.{Given, Demand}
+use Rattle.infer_result.specs.Places.{Given, IsInput, Demand}
 use Rattle.infer_result.specs.Rules.Expressions.{ObeysOrMismatch, BodyObeysOrMismatch}
 use Rattle.infer_result.specs.Rules.Patterns.{PatRule}
 use Rattle.infer_result.specs.Truth.Mismatch.{IsActual}
@@ -24,6 +24,7 @@ pub record IsMade (g : Given) (t : InferenceResult) : Type 0 where
   pub closed : IsClosedTable t
   pub clauses : (e : ExprId) → e.0 < length g.body.exprs → ObeysOrMismatch g t e
   pub kinds : (p : PatId) → p.0 < length g.body.pats → PatRule t p (slice_get g.body.pats p.0)
+  pub params : (i : ℕ) (p : PatId) (s : Ty) → slice_get g.body.params i ≡ Some p → IsInput g i s → PatTy t p s
   pub bindings : (v : BindingId) → v.0 < length g.body.bindings → (s : Ty) × BindingTy t v s
   pub body_clause : BodyObeysOrMismatch g t
   pub misfits : (e : ExprId) (x : TypeMismatch) → At t.expr_mismatches e.0 x → IsMisfit g t e x

@@ -15,7 +15,6 @@ use Rattle.hir_types.specs.declared.ty.Mutability.{Mutability}
 use Rattle.hir_types.specs.declared.ty.Mutability.TheVariants as mutability
 use Rattle.hir_types.specs.declared.ty.Safety.{Safety}
 use Rattle.hir_types.specs.declared.ty.Safety.TheVariants as safety
-use Rattle.hir_types.specs.declared.ty.Region.{Region}
 use Rattle.hir_types.specs.declared.ty.Const.{Const}
 use Rattle.hir_types.specs.declared.ty.Const.TheVariants as const
 use Rattle.hir_types.specs.declared.ty.AliasBound.{AliasBound-F}

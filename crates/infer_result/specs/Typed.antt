@@ -6,7 +6,7 @@ use Rattle.hir_types.specs.declared.ids.DefWithBodyId.{DefWithBodyId}
 use Rattle.hir_types.specs.declared.ty.Ty.{Ty}
 use Rattle.hir_facts.specs.declared.raw.RawBody.{RawBody}
 use Rattle.hir_facts.specs.declared.raw.RawFacts.{RawFacts}
-use Rattle.hir_facts.specs.Bodies.{body_of, return_type}
+use Rattle.hir_facts.specs.Bodies.{body_of, return_type, inputs_of}
 use Rattle.infer_result.specs.declared.result.InferenceResult.{InferenceResult}
 use Rattle.infer_result.specs.declared.result.TypeMismatch.{TypeMismatch}
 use Rattle.infer_result.specs.Table.{At, HasTy}
@@ -35,7 +35,7 @@ pub record IsTyped (g : Given) (t : InferenceResult) : Type 0 where
 
 -- the body of a definition among its facts
 abbrev pub given : RawFacts → DefWithBodyId → RawBody → Given
-given raw d b = record { types = raw.types; body = b; output = return_type raw d }
+given raw d b = record { types = raw.types; body = b; inputs = inputs_of raw d; output = return_type raw d }
 
 -- the table is one of the definition's body, typed, and its types name what the facts have
 pub record IsTableOf (raw : RawFacts) (d : DefWithBodyId) (t : InferenceResult) : Type 0 where

@@ -14,7 +14,7 @@ use Rattle.hir_facts.specs.declared.raw.RawBody.{RawBody}
 use Rattle.hir_facts.specs.Types.{written_type}
 use Rattle.hir_types.specs.Erasure.{Same}
 use Rattle.hir_facts.specs.Order.{Role, root, initializer, let_pattern, Node}
-use Rattle.infer_result.specs.Places.{Given, StandsAt}
+use Rattle.infer_result.specs.Places.{Given, IsInput, StandsAt}
 use Rattle.infer_result.specs.Rules.Literals.{IsOwnType}
 
 -- the path e names a local that a `let` of this written type and initializer binds by its whole pattern
@@ -27,11 +27,20 @@ pub record NamesLet (b : RawBody) (e : ExprId) (written : Option TypeRefId) (ini
   pub at_part : ℕ
   pub stands : StandsAt b (node.PatId pattern) parent at_part (let_pattern written init)
 
+-- the path e names a local that the parameter at this position binds by its whole pattern
+pub record NamesParameter (b : RawBody) (e : ExprId) (i : ℕ) : Type 0 where
+  pub binding : BindingId
+  pub pattern : PatId
+  pub names : slice_get b.exprs e.0 ≡ Some (expr.Path (path.Local binding))
+  pub binds : slice_get b.pats pattern.0 ≡ Some (pat.Bind binding None)
+  pub stands : slice_get b.params i ≡ Some pattern
+
 -- the type that an expression has by itself
 pub data Up (g : Given) : ExprId → Ty → Type 0 where
   of_literal : (e : ExprId) (l : RawLiteral) (s : Ty) → slice_get g.body.exprs e.0 ≡ Some (expr.Lit l) → IsOwnType l s → Up g e s
   of_written : (e : ExprId) (w : TypeRefId) (init : Option ExprId) → NamesLet g.body e (Some w) init → Up g e (written_type g.types w)
   of_initializer : (e i : ExprId) (s : Ty) → NamesLet g.body e None (Some i) → Up g i s → Up g e s
+  of_parameter : (e : ExprId) (i : ℕ) (s : Ty) → NamesParameter g.body e i → IsInput g i s → Up g e s
 
 -- the type that is written at the place of a node
 abbrev pub States : Given → Role → Ty → Type 0

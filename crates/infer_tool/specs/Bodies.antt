@@ -2,6 +2,8 @@
 use Rattle.std.specs.Prelude.{ℕ, List, [], Option, Some, None, Result, Ok, Err, codes, if◌then◌else◌}
 use Rattle.serde_json.specs.Data.{Data}
 use Rattle.hir_types.specs.declared.ids.BindingId.{BindingId}
+use Rattle.hir_types.specs.declared.ids.FunctionId.{FunctionId}
+use Rattle.hir_types.specs.declared.ids.PatId.{PatId}
 use Rattle.hir_facts.specs.declared.raw.Other.{Other}
 use Rattle.hir_facts.specs.declared.raw.RawLiteral.{RawLiteral}
 use Rattle.hir_facts.specs.declared.raw.RawLiteral.TheVariants as literal
@@ -9,6 +11,7 @@ use Rattle.hir_facts.specs.declared.raw.RawPath.{RawPath}
 use Rattle.hir_facts.specs.declared.raw.RawPath.TheVariants as path
 use Rattle.hir_facts.specs.declared.raw.RawStmt.{RawStmt}
 use Rattle.hir_facts.specs.declared.raw.RawStmt.TheVariants as stmt
+use Rattle.hir_facts.specs.declared.raw.RawArm.{RawArm}
 use Rattle.hir_facts.specs.declared.raw.RawExpr.{RawExpr}
 use Rattle.hir_facts.specs.declared.raw.RawExpr.TheVariants as expr
 use Rattle.hir_facts.specs.declared.raw.RawPat.{RawPat}
@@ -16,7 +19,7 @@ use Rattle.hir_facts.specs.declared.raw.RawPat.TheVariants as pat
 use Rattle.hir_facts.specs.declared.raw.RawBinding.{RawBinding}
 use Rattle.hir_facts.specs.declared.raw.RawBody.{RawBody}
 use Rattle.infer_tool.specs.Reading.{◌>>=◌, ◌>>◌, there, field, part, keys_in, parts_in, tag, is_tag, is_kind_of, bool_in, text_in, u32_in, option_in, list_in}
-use Rattle.infer_tool.specs.Leaves.{module_in, trait_in, type_ref_in, expr_id_in, pat_id_in, binding_id_in, label_in, other_in, integer_in, annotation_in}
+use Rattle.infer_tool.specs.Leaves.{module_in, trait_in, type_ref_in, function_id_in, expr_id_in, pat_id_in, binding_id_in, label_in, other_in, integer_in, annotation_in}
 use Rattle.infer_tool.specs.Kinds.{other_literals, other_paths, other_exprs, other_pats}
 
 -- ---- literals
@@ -50,11 +53,23 @@ local_in d = do
   as_ ← part (option_in (list_in other_in)) 2 d
   Ok (local_by v as_)
 
--- ["local", b, As] or another kind
+-- a function without written arguments is read
+abbrev function_by : FunctionId → Option (List Other) → RawPath
+function_by f None = path.Function f
+function_by f (Some as_) = path.Other
+
+unfoldable pub function_in : Data → Result RawPath (List ℕ)
+function_in d = do
+  f ← part function_id_in 1 d
+  as_ ← part (option_in (list_in other_in)) 2 d
+  Ok (function_by f as_)
+
+-- ["local", b, As], ["fn", f, As] or another kind
 unfoldable pub path_in : Data → Result RawPath (List ℕ)
 path_in d = do
   t ← there (tag d)
   if is_tag t (codes "local") 3 then local_in d else
+      if is_tag t (codes "fn") 3 then function_in d else
       if is_kind_of other_paths t then Ok path.Other else
       Err []
 
@@ -91,7 +106,36 @@ block_in d = do
   last ← part (option_in expr_id_in) 3 d
   Ok (expr.Block label stmts last)
 
--- ["lit", L], ["path", P], ["block", l, [STMT], e?], ["tuple", [e]] or another kind
+unfoldable pub if_in : Data → Result RawExpr (List ℕ)
+if_in d = do
+  condition ← part expr_id_in 1 d
+  first ← part expr_id_in 2 d
+  otherwise ← part (option_in expr_id_in) 3 d
+  Ok (expr.If condition first otherwise)
+
+-- [p, e?, e]
+unfoldable pub arm_in : Data → Result RawArm (List ℕ)
+arm_in d = do
+  parts_in 3 d
+  p ← part pat_id_in 0 d
+  guard ← part (option_in expr_id_in) 1 d
+  e ← part expr_id_in 2 d
+  Ok (record { pat = p; guard = guard; expr = e })
+
+unfoldable pub match_in : Data → Result RawExpr (List ℕ)
+match_in d = do
+  e ← part expr_id_in 1 d
+  arms ← part (list_in arm_in) 2 d
+  Ok (expr.Match e arms)
+
+unfoldable pub call_in : Data → Result RawExpr (List ℕ)
+call_in d = do
+  f ← part expr_id_in 1 d
+  args ← part (list_in expr_id_in) 2 d
+  Ok (expr.Call f args)
+
+-- ["lit", L], ["path", P], ["block", l, [STMT], e?], ["tuple", [e]], ["if", e, e, e?],
+-- ["match", e, [ARM]], ["call", e, [e]] or another kind
 unfoldable pub expr_in : Data → Result RawExpr (List ℕ)
 expr_in d = do
   t ← there (tag d)
@@ -99,6 +143,9 @@ expr_in d = do
       if is_tag t (codes "path") 2 then part path_in 1 d >>= (λ p. Ok (expr.Path p)) else
       if is_tag t (codes "block") 4 then block_in d else
       if is_tag t (codes "tuple") 2 then part (list_in expr_id_in) 1 d >>= (λ es. Ok (expr.Tuple es)) else
+      if is_tag t (codes "if") 4 then if_in d else
+      if is_tag t (codes "match") 3 then match_in d else
+      if is_tag t (codes "call") 3 then call_in d else
       if is_kind_of other_exprs t then Ok expr.Other else
       Err []
 
@@ -110,12 +157,25 @@ bind_in d = do
   sub ← part (option_in pat_id_in) 2 d
   Ok (pat.Bind v sub)
 
--- "wild", ["bind", b, p?] or another kind
+-- a tuple without `..` is read
+abbrev tuple_pat_by : List PatId → Option Other → RawPat
+tuple_pat_by ps None = pat.Tuple ps
+tuple_pat_by ps (Some dots) = pat.Other
+
+unfoldable pub tuple_pat_in : Data → Result RawPat (List ℕ)
+tuple_pat_in d = do
+  ps ← part (list_in pat_id_in) 1 d
+  dots ← part (option_in other_in) 2 d
+  Ok (tuple_pat_by ps dots)
+
+-- "wild", ["bind", b, p?], ["tuple", [p], dots], ["lit", e] or another kind
 unfoldable pub pat_in : Data → Result RawPat (List ℕ)
 pat_in d = do
   t ← there (tag d)
   if is_tag t (codes "wild") 0 then Ok pat.Wild else
       if is_tag t (codes "bind") 3 then bind_in d else
+      if is_tag t (codes "tuple") 3 then tuple_pat_in d else
+      if is_tag t (codes "lit") 2 then part expr_id_in 1 d >>= (λ e. Ok (pat.Lit e)) else
       if is_kind_of other_pats t then Ok pat.Other else
       Err []
 

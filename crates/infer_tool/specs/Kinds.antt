@@ -15,15 +15,15 @@ other_literals = (codes "str", 2) ∷ (codes "bytes", 2) ∷ (codes "cstr", 0) �
 
 abbrev pub other_paths : List (List ℕ × ℕ)
 other_paths =
-    (codes "fn", 3) ∷ (codes "const", 3) ∷ (codes "static", 3) ∷ (codes "ctor", 3) ∷
+    (codes "const", 3) ∷ (codes "static", 3) ∷ (codes "ctor", 3) ∷
     (codes "typed", 4) ∷ (codes "trait", 5) ∷ (codes "implself", 3) ∷
     (codes "constparam", 3) ∷ (codes "unresolved", 2) ∷ []
 
 abbrev pub other_exprs : List (List ℕ × ℕ)
 other_exprs =
     (codes "missing", 0) ∷ (codes "_", 0) ∷ (codes "offset", 0) ∷ (codes "unsafe", 3) ∷
-    (codes "const", 2) ∷ (codes "if", 4) ∷ (codes "let", 3) ∷ (codes "loop", 3) ∷
-    (codes "match", 3) ∷ (codes "call", 3) ∷ (codes "method", 5) ∷ (codes "field", 3) ∷
+    (codes "const", 2) ∷ (codes "let", 3) ∷ (codes "loop", 3) ∷
+    (codes "method", 5) ∷ (codes "field", 3) ∷
     (codes "break", 3) ∷ (codes "continue", 2) ∷ (codes "return", 2) ∷ (codes "become", 2) ∷
     (codes "record", 4) ∷ (codes "cast", 3) ∷ (codes "ref", 4) ∷ (codes "box", 2) ∷
     (codes "un", 3) ∷ (codes "bin", 4) ∷ (codes "assign", 3) ∷ (codes "range", 4) ∷
@@ -31,7 +31,7 @@ other_exprs =
 
 abbrev pub other_pats : List (List ℕ × ℕ)
 other_pats =
-    (codes "missing", 0) ∷ (codes "tuple", 3) ∷ (codes "ctor", 4) ∷ (codes "record", 3) ∷
-    (codes "path", 2) ∷ (codes "lit", 2) ∷ (codes "range", 3) ∷ (codes "slice", 4) ∷
+    (codes "missing", 0) ∷ (codes "ctor", 4) ∷ (codes "record", 3) ∷
+    (codes "path", 2) ∷ (codes "range", 3) ∷ (codes "slice", 4) ∷
     (codes "ref", 3) ∷ (codes "or", 2) ∷ (codes "box", 2) ∷ (codes "const", 2) ∷
     (codes "expr", 2) ∷ []

@@ -7,6 +7,7 @@ use Rattle.infer_tool.specs.Reading.{◌>>=◌, there, u32_in}
 use Rattle.hir_types.specs.declared.ids.ModuleId.{ModuleId}
 use Rattle.hir_types.specs.declared.ids.TraitId.{TraitId}
 use Rattle.hir_types.specs.declared.ids.TypeRefId.{TypeRefId}
+use Rattle.hir_types.specs.declared.ids.FunctionId.{FunctionId}
 use Rattle.hir_types.specs.declared.ids.BodyId.{BodyId}
 use Rattle.hir_types.specs.declared.ids.ExprId.{ExprId}
 use Rattle.hir_types.specs.declared.ids.PatId.{PatId}
@@ -35,6 +36,9 @@ trait_in d = u32_in d >>= λ n. Ok (record { 0 = n })
 
 abbrev pub type_ref_in : Data → Result TypeRefId (List ℕ)
 type_ref_in d = u32_in d >>= λ n. Ok (record { 0 = n })
+
+abbrev pub function_id_in : Data → Result FunctionId (List ℕ)
+function_id_in d = u32_in d >>= λ n. Ok (record { 0 = n })
 
 abbrev pub body_id_in : Data → Result BodyId (List ℕ)
 body_id_in d = u32_in d >>= λ n. Ok (record { 0 = n })

@@ -1,4 +1,7 @@
+mod integers;
+mod kinds;
 mod laws;
+mod params;
 mod rows;
 
 use super::ends::{MemorySink, MemorySource};
@@ -41,7 +44,7 @@ const AT_WORD: &str =
     "`bodies.0.exprs.0` has another shape: an expression, which is its word or an array of its word and exactly its parts, is wanted";
 
 const AT_SEMI: &str =
-    "`bodies.0.exprs.0.2.0.2` has another shape: an index into `types` or null in a `let`, else true or false is wanted";
+    "`bodies.0.exprs.0.2.0.2` has another shape: an index into `types` or null in a `let`, true or false in a statement, an expression in an arm is wanted";
 
 const AT_BODY: &str =
     "`bodies.0` has another shape: an object with exactly the nine keys of a body is wanted";

@@ -52,8 +52,12 @@ IsWithin n Several = Unit {0}
 -- expression e is no local, or a local whose binding is typed before
 abbrev pub HasTypedLocal : RawBody → List ℕ → List Namers → ℕ → RawExpr → Type 0
 HasTypedLocal b starts xs e (expr.Path (path.Local v)) = IsTrue (is_typed_before b starts (slice_index_or xs v.0 Nobody) e v.0)
+HasTypedLocal b starts xs e (expr.Path (path.Function f)) = Unit {0}
 HasTypedLocal b starts xs e (expr.Path path.Other) = Unit {0}
 HasTypedLocal b starts xs e (expr.Lit l) = Unit {0}
 HasTypedLocal b starts xs e (expr.Block label stmts last) = Unit {0}
 HasTypedLocal b starts xs e (expr.Tuple es) = Unit {0}
+HasTypedLocal b starts xs e (expr.If c first other) = Unit {0}
+HasTypedLocal b starts xs e (expr.Match d arms) = Unit {0}
+HasTypedLocal b starts xs e (expr.Call f args) = Unit {0}
 HasTypedLocal b starts xs e expr.Other = Unit {0}

@@ -1,5 +1,5 @@
 -- Each entry and part is of a kind that is carried.
-use Rattle.std.specs.Prelude.{Bool, true, false, ◌&&◌, List, [], ◌∷◌, is_some, is_none, not}
+use Rattle.std.specs.Prelude.{Bool, true, false, ◌&&◌, List, [], ◌∷◌, is_none, not}
 use Rattle.std.specs.List.{list_all}
 use Rattle.hir_facts.specs.declared.raw.RawType.{RawType}
 use Rattle.hir_facts.specs.declared.raw.RawType.TheVariants as type
@@ -36,24 +36,25 @@ abbrev pub is_empty : {A : Type 0} → List A → Bool
 is_empty [] = true
 is_empty (x ∷ xs) = false
 
--- a function of a module, without parameters, predicates, `self` and inputs
+-- a function of a module, without parameters, predicates and `self`
 abbrev pub is_carried_fn : RawFn → Bool
-is_carried_fn f = is_in_module f.«at» && (is_empty f.params && (is_empty f.preds && (not f.has_self && is_empty f.inputs)))
+is_carried_fn f = is_in_module f.«at» && (is_empty f.params && (is_empty f.preds && not f.has_self))
 
--- an integer has its suffix
+-- a truth value, a character, or an integer with a suffix or without
 abbrev pub is_carried_literal : RawLiteral → Bool
 is_carried_literal (literal.Bool b) = true
 is_carried_literal (literal.Char c) = true
-is_carried_literal (literal.Int digits suffix) = is_some suffix
+is_carried_literal (literal.Int digits suffix) = true
 is_carried_literal literal.Other = false
 
 abbrev pub is_carried_path : RawPath → Bool
 is_carried_path (path.Local v) = true
+is_carried_path (path.Function f) = false
 is_carried_path path.Other = false
 
--- a `let` has an initializer and no `else`
+-- a `let` has no `else`
 abbrev pub is_carried_stmt : RawStmt → Bool
-is_carried_stmt (stmt.Let p written init other) = is_some init && is_none other
+is_carried_stmt (stmt.Let p written init other) = is_none other
 is_carried_stmt (stmt.Expr e semicolon) = true
 
 -- a block has no label
@@ -62,12 +63,17 @@ is_carried_expr (expr.Lit l) = is_carried_literal l
 is_carried_expr (expr.Path p) = is_carried_path p
 is_carried_expr (expr.Block label stmts last) = is_none label && list_all is_carried_stmt stmts
 is_carried_expr (expr.Tuple es) = true
+is_carried_expr (expr.If c first other) = false
+is_carried_expr (expr.Match e arms) = false
+is_carried_expr (expr.Call f args) = false
 is_carried_expr expr.Other = false
 
 -- a binding pattern has no pattern below it
 abbrev pub is_carried_pat : RawPat → Bool
 is_carried_pat pat.Wild = true
 is_carried_pat (pat.Bind v sub) = is_none sub
+is_carried_pat (pat.Tuple ps) = false
+is_carried_pat (pat.Lit e) = false
 is_carried_pat pat.Other = false
 
 abbrev pub is_carried_mode : BindingAnnotation → Bool
@@ -79,5 +85,6 @@ is_carried_mode mode.RefMut = false
 abbrev pub is_carried_binding : RawBinding → Bool
 is_carried_binding v = is_carried_mode v.mode
 
+-- its nodes and bindings are, and it has no `self`
 abbrev pub is_carried_body : RawBody → Bool
-is_carried_body b = list_all is_carried_expr b.exprs && (list_all is_carried_pat b.pats && list_all is_carried_binding b.bindings)
+is_carried_body b = list_all is_carried_expr b.exprs && (list_all is_carried_pat b.pats && (list_all is_carried_binding b.bindings && is_none b.self_))

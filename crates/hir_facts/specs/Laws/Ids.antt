@@ -1,6 +1,7 @@
 -- Ids are in range, and smaller where a list asks for it; each body is that of one definition.
 use Rattle.std.specs.Prelude.{ℕ, ◌<◌, ◌≡◌, length, slice_get, Option, Some, None, IfSome}
 use Rattle.hir_types.specs.declared.ids.ModuleId.{ModuleId}
+use Rattle.hir_types.specs.declared.ids.FunctionId.{FunctionId}
 use Rattle.hir_types.specs.declared.ids.TypeRefId.{TypeRefId}
 use Rattle.hir_types.specs.declared.ids.TraitId.{TraitId}
 use Rattle.hir_types.specs.declared.ids.BindingId.{BindingId}
@@ -40,6 +41,15 @@ abbrev pub VisExists : RawFacts → RawVis → Type 0
 VisExists raw vis.Pub = Unit {0}
 VisExists raw (vis.Module m) = m.0 < length raw.modules
 
+-- it stands in a module
+abbrev pub IsInModule : RawAt → Type 0
+IsInModule (stands.Module m) = Unit {0}
+IsInModule stands.Other = ⊥
+
+-- the function is in range and stands in a module
+abbrev pub IsModuleFn : RawFacts → FunctionId → Type 0
+IsModuleFn raw f = (x : RawFn) × (slice_get raw.fns f.0 ≡ Some x) × IsInModule x.«at»
+
 pub record FnIdsExist (raw : RawFacts) (f : RawFn) : Type 0 where
   pub stands : PlaceExists raw f.«at»
   pub inputs : (k : ℕ) (t : TypeRefId) → slice_get f.inputs k ≡ Some t → t.0 < length raw.types
@@ -63,6 +73,7 @@ pub record BodyIdsExist (raw : RawFacts) (i : ℕ) (b : RawBody) : Type 0 where
   pub self_ : IfSome b.self_ (λ v. v.0 < length b.bindings)
   pub parts : PartsFit b
   pub locals : (e : ExprId) (v : BindingId) → slice_get b.exprs e.0 ≡ Some (expr.Path (path.Local v)) → v.0 < length b.bindings
+  pub functions : (e : ExprId) (f : FunctionId) → slice_get b.exprs e.0 ≡ Some (expr.Path (path.Function f)) → IsModuleFn raw f
   pub binders : (p : PatId) (v : BindingId) → Binds b p v → v.0 < length b.bindings
   pub written : (e : ExprId) (i : ℕ) (p : PatId) (t : TypeRefId) (init other : Option ExprId) → stmt_at b e i ≡ Some (stmt.Let p (Some t) init other) → t.0 < length raw.types
   pub owner : HasOneOwner raw i

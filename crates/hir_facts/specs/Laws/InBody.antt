@@ -8,9 +8,11 @@ use Rattle.hir_facts.specs.declared.raw.RawPath.{RawPath}
 use Rattle.hir_facts.specs.declared.raw.RawPath.TheVariants as path
 use Rattle.hir_facts.specs.declared.raw.RawStmt.{RawStmt}
 use Rattle.hir_facts.specs.declared.raw.RawStmt.TheVariants as stmt
+use Rattle.hir_facts.specs.declared.raw.RawArm.{RawArm}
 use Rattle.hir_facts.specs.declared.raw.RawExpr.{RawExpr}
 use Rattle.hir_facts.specs.declared.raw.RawExpr.TheVariants as expr
 use Rattle.hir_facts.specs.declared.raw.RawPat.{RawPat}
+use Rattle.hir_facts.specs.declared.raw.RawPat.TheVariants as pat
 use Rattle.hir_types.specs.declared.ids.TraitId.{TraitId}
 use Rattle.hir_facts.specs.declared.raw.RawFn.{RawFn}
 use Rattle.hir_facts.specs.declared.raw.RawBody.{RawBody}
@@ -18,6 +20,7 @@ use Rattle.hir_facts.specs.declared.raw.RawFacts.{RawFacts}
 use Rattle.hir_facts.specs.declared.laws.namers.Namers.{Namers}
 use Rattle.hir_facts.specs.Order.{binding_of}
 use Rattle.hir_facts.specs.Laws.Namers.{AreNamers}
+use Rattle.hir_facts.specs.Laws.Ids.{IsModuleFn}
 
 abbrev pub MaybeExprExists : RawBody → Option ExprId → Type 0
 MaybeExprExists b None = Unit {0}
@@ -42,16 +45,31 @@ StmtsIdsExist raw b stmts = (k : ℕ) (s : RawStmt) → slice_get stmts k ≡ So
 abbrev pub ElementsExist : RawBody → List ExprId → Type 0
 ElementsExist b es = (k : ℕ) (e : ExprId) → slice_get es k ≡ Some e → e.0 < length b.exprs
 
-abbrev pub PathExists : RawBody → RawPath → Type 0
-PathExists b (path.Local v) = v.0 < length b.bindings
-PathExists b path.Other = Unit {0}
+abbrev pub PatternsExist : RawBody → List PatId → Type 0
+PatternsExist b ps = (k : ℕ) (p : PatId) → slice_get ps k ≡ Some p → p.0 < length b.pats
 
--- the parts, the local and the written types of an expression exist
+-- the parts of an arm exist
+abbrev pub ArmExists : RawBody → RawArm → Type 0
+ArmExists b a = (a.pat.0 < length b.pats) × MaybeExprExists b a.guard × (a.expr.0 < length b.exprs)
+
+abbrev pub ArmsExist : RawBody → List RawArm → Type 0
+ArmsExist b arms = (k : ℕ) (a : RawArm) → slice_get arms k ≡ Some a → ArmExists b a
+
+-- the local, or the function of a module
+abbrev pub PathExists : RawFacts → RawBody → RawPath → Type 0
+PathExists raw b (path.Local v) = v.0 < length b.bindings
+PathExists raw b (path.Function f) = IsModuleFn raw f
+PathExists raw b path.Other = Unit {0}
+
+-- the parts, what a path names and the written types of an expression exist
 abbrev pub ExprIdsExist : RawFacts → RawBody → RawExpr → Type 0
 ExprIdsExist raw b (expr.Lit l) = Unit {0}
-ExprIdsExist raw b (expr.Path p) = PathExists b p
+ExprIdsExist raw b (expr.Path p) = PathExists raw b p
 ExprIdsExist raw b (expr.Block label stmts last) = StmtsIdsExist raw b stmts × MaybeExprExists b last
 ExprIdsExist raw b (expr.Tuple es) = ElementsExist b es
+ExprIdsExist raw b (expr.If c first other) = (c.0 < length b.exprs) × (first.0 < length b.exprs) × MaybeExprExists b other
+ExprIdsExist raw b (expr.Match e arms) = (e.0 < length b.exprs) × ArmsExist b arms
+ExprIdsExist raw b (expr.Call f args) = (f.0 < length b.exprs) × ElementsExist b args
 ExprIdsExist raw b expr.Other = Unit {0}
 
 abbrev pub ExprsIdsExist : RawFacts → RawBody → Type 0
@@ -60,18 +78,27 @@ ExprsIdsExist raw b = (e : ℕ) (x : RawExpr) → slice_get b.exprs e ≡ Some x
 abbrev pub PatsIdsExist : RawBody → Type 0
 PatsIdsExist b = (k : ℕ) (p : RawPat) → slice_get b.pats k ≡ Some p → MaybeBindingExists b (binding_of p)
 
-abbrev pub ParamsExist : RawBody → Type 0
-ParamsExist b = (k : ℕ) (p : PatId) → slice_get b.params k ≡ Some p → p.0 < length b.pats
+-- the parts of a pattern exist
+abbrev pub PatPartsExist : RawBody → RawPat → Type 0
+PatPartsExist b pat.Wild = Unit {0}
+PatPartsExist b (pat.Bind v sub) = Unit {0}
+PatPartsExist b (pat.Tuple ps) = PatternsExist b ps
+PatPartsExist b (pat.Lit e) = e.0 < length b.exprs
+PatPartsExist b pat.Other = Unit {0}
+
+abbrev pub PatsPartsExist : RawBody → Type 0
+PatsPartsExist b = (k : ℕ) (p : RawPat) → slice_get b.pats k ≡ Some p → PatPartsExist b p
 
 -- the ids of a body exist
 pub record BodyIdsHere (raw : RawFacts) (b : RawBody) : Type 0 where
   pub module_ : b.module.0 < length raw.modules
   pub traits : (k : ℕ) (t : TraitId) → slice_get b.traits k ≡ Some t → t.0 < length raw.traits
   pub self_ : MaybeBindingExists b b.self_
-  pub params : ParamsExist b
+  pub params : PatternsExist b b.params
   pub root : b.root.0 < length b.exprs
   pub exprs : ExprsIdsExist raw b
   pub pats : PatsIdsExist b
+  pub pat_parts : PatsPartsExist b
 
 -- the body of a function, by its number
 abbrev pub owned_body : RawFn → Option ℕ

@@ -4,6 +4,8 @@ use Rattle.hir_facts.specs.declared.raw.RawType.{RawType}
 use Rattle.hir_facts.specs.declared.raw.RawType.TheVariants as type
 use Rattle.hir_facts.specs.declared.raw.RawExpr.{RawExpr}
 use Rattle.hir_facts.specs.declared.raw.RawExpr.TheVariants as expr
+use Rattle.hir_facts.specs.declared.raw.RawPat.{RawPat}
+use Rattle.hir_facts.specs.declared.raw.RawPat.TheVariants as pat
 use Rattle.hir_facts.specs.declared.raw.RawBody.{RawBody}
 use Rattle.hir_facts.specs.declared.raw.RawFacts.{RawFacts}
 use Rattle.hir_facts.specs.Order.{IsLow}
@@ -35,9 +37,19 @@ pub record TypeIsSmall (raw : RawFacts) (i : ℕ) (t : RawType) : Type 0 where
 abbrev pub ExprIsShort : RawExpr → Type 0
 ExprIsShort (expr.Block label stmts last) = IsShort stmts
 ExprIsShort (expr.Tuple es) = IsShort es
+ExprIsShort (expr.Match e arms) = IsShort arms
+ExprIsShort (expr.Call f args) = IsShort args
+ExprIsShort (expr.If c first other) = Unit {0}
 ExprIsShort (expr.Lit l) = Unit {0}
 ExprIsShort (expr.Path p) = Unit {0}
 ExprIsShort expr.Other = Unit {0}
+
+abbrev pub PatIsShort : RawPat → Type 0
+PatIsShort (pat.Tuple ps) = IsShort ps
+PatIsShort pat.Wild = Unit {0}
+PatIsShort (pat.Bind v sub) = Unit {0}
+PatIsShort (pat.Lit e) = Unit {0}
+PatIsShort pat.Other = Unit {0}
 
 pub record BodyIsSmall (i : ℕ) (b : RawBody) : Type 0 where
   pub early : IsEarly i
@@ -47,4 +59,5 @@ pub record BodyIsSmall (i : ℕ) (b : RawBody) : Type 0 where
   pub pats : IsShort b.pats
   pub bindings : IsShort b.bindings
   pub each : (e : ℕ) (x : RawExpr) → slice_get b.exprs e ≡ Some x → ExprIsShort x
+  pub each_pat : (p : ℕ) (x : RawPat) → slice_get b.pats p ≡ Some x → PatIsShort x
   pub low : IsLow 256 b

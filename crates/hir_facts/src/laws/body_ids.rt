@@ -3,14 +3,14 @@ ghost use Rattle.std.specs.Prelude.{◌≡◌, ◌↔◌, ◌<◌, ℕ, Some, sl
 ghost use Rattle.hir_types.specs.declared.ids.TraitId.{TraitId};
 ghost use Rattle.hir_facts.specs.Order.{binding_of};
 ghost use Rattle.hir_facts.specs.Laws.Namers.{IsOne};
-ghost use Rattle.hir_facts.specs.Laws.InBody.{MaybeExprExists, MaybeTypeExists, MaybeBindingExists, StmtIdsExist, StmtsIdsExist, ElementsExist, PathExists, ExprIdsExist, ExprsIdsExist, PatsIdsExist, ParamsExist, BodyIdsHere, owned_body, AreOwners};
+ghost use Rattle.hir_facts.specs.Laws.InBody.{MaybeExprExists, MaybeTypeExists, MaybeBindingExists, StmtIdsExist, StmtsIdsExist, ElementsExist, PatternsExist, ArmExists, ArmsExist, PathExists, ExprIdsExist, ExprsIdsExist, PatsIdsExist, PatPartsExist, PatsPartsExist, BodyIdsHere, owned_body, AreOwners};
 ghost use Rattle.hir_facts.specs.Laws.Entries.{AllHold};
-ghost use Rattle.hir_facts.specs.Laws.Ids.{FnIdsExist, BodyIdsExist};
+ghost use Rattle.hir_facts.specs.Laws.Ids.{IsInModule, IsModuleFn, FnIdsExist, BodyIdsExist};
 
 use crate::laws::namers::{Namers, namers_of};
 use crate::laws::test::Test;
-use crate::raw::{RawBody, RawExpr, RawFacts, RawFn, RawPat, RawPath, RawStmt};
-use hir_types::{BindingId, ExprId, PatId, TraitId, TypeRefId};
+use crate::raw::{RawArm, RawAt, RawBody, RawExpr, RawFacts, RawFn, RawPat, RawPath, RawStmt};
+use hir_types::{BindingId, ExprId, FunctionId, PatId, TraitId, TypeRefId};
 use std::alloc::{AllocError, Global};
 
 fn has_maybe_expr(body: &RawBody, e: &Option<ExprId>) -> bool
@@ -72,11 +72,51 @@ fn have_elements(body: &RawBody, es: &[ExprId]) -> bool
     es.iter().all(|e| (e.0 as usize) < count)
 }
 
-fn has_path(body: &RawBody, path: &RawPath) -> bool
-    ensures { IsTrue result ↔ PathExists body.now path.now }
+fn have_patterns(body: &RawBody, pats: &[PatId]) -> bool
+    ensures { IsTrue result ↔ PatternsExist body.now pats.now }
+{
+    let count = body.pats.len();
+    pats.iter().all(|p| (p.0 as usize) < count)
+}
+
+fn has_arm(body: &RawBody, arm: &RawArm) -> bool
+    ensures { IsTrue result ↔ ArmExists body.now arm.now }
+{
+    (arm.pat.0 as usize) < body.pats.len()
+        && has_maybe_expr(body, &arm.guard)
+        && (arm.expr.0 as usize) < body.exprs.len()
+}
+
+fn have_arms(body: &RawBody, arms: &[RawArm]) -> bool
+    ensures { IsTrue result ↔ ArmsExist body.now arms.now }
+{
+    arms.iter().all(|arm| has_arm(body, arm))
+}
+
+fn is_in_module(at: &RawAt) -> bool
+    ensures { IsTrue result ↔ IsInModule at.now }
+{
+    match at {
+        RawAt::Module(_) => true,
+        RawAt::Other => false,
+    }
+}
+
+fn is_module_fn(raw: &RawFacts, function: FunctionId) -> bool
+    ensures { IsTrue result ↔ IsModuleFn raw.now function }
+{
+    match raw.fns.get(function.0 as usize) {
+        None => false,
+        Some(function) => is_in_module(&function.at),
+    }
+}
+
+fn has_path(raw: &RawFacts, body: &RawBody, path: &RawPath) -> bool
+    ensures { IsTrue result ↔ PathExists raw.now body.now path.now }
 {
     match path {
         RawPath::Local(v) => (v.0 as usize) < body.bindings.len(),
+        RawPath::Function(function) => is_module_fn(raw, *function),
         RawPath::Other => true,
     }
 }
@@ -85,13 +125,28 @@ fn has_expr_ids(raw: &RawFacts, body: &RawBody, expr: &RawExpr) -> bool
     ensures { IsTrue result ↔ ExprIdsExist raw.now body.now expr.now }
 {
     match expr {
-        RawExpr::Path(path) => has_path(body, path),
+        RawExpr::Path(path) => has_path(raw, body, path),
         RawExpr::Block {
             label: _,
             statements,
             tail,
         } => have_stmt_ids(raw, body, statements.as_slice()) && has_maybe_expr(body, tail),
         RawExpr::Tuple(es) => have_elements(body, es.as_slice()),
+        RawExpr::If {
+            condition,
+            then_branch,
+            else_branch,
+        } => {
+            (condition.0 as usize) < body.exprs.len()
+                && (then_branch.0 as usize) < body.exprs.len()
+                && has_maybe_expr(body, else_branch)
+        }
+        RawExpr::Match { scrutinee, arms } => {
+            (scrutinee.0 as usize) < body.exprs.len() && have_arms(body, arms.as_slice())
+        }
+        RawExpr::Call { callee, args } => {
+            (callee.0 as usize) < body.exprs.len() && have_elements(body, args.as_slice())
+        }
         RawExpr::Lit(_) | RawExpr::Other => true,
     }
 }
@@ -111,7 +166,7 @@ pub fn binding_of(pat: &RawPat) -> Option<BindingId>
 {
     match pat {
         RawPat::Bind { id, subpat: _ } => Some(*id),
-        RawPat::Wild | RawPat::Other => None,
+        RawPat::Wild | RawPat::Tuple(_) | RawPat::Lit(_) | RawPat::Other => None,
     }
 }
 
@@ -130,14 +185,23 @@ fn have_pat_ids(body: &RawBody) -> bool
         .all(|pat| has_pat_ids(body, pat))
 }
 
-fn have_params(body: &RawBody) -> bool
-    ensures { IsTrue result ↔ ParamsExist body.now }
+fn has_pat_parts(body: &RawBody, pat: &RawPat) -> bool
+    ensures { IsTrue result ↔ PatPartsExist body.now pat.now }
 {
-    let count = body.pats.len();
-    body.params
+    match pat {
+        RawPat::Tuple(pats) => have_patterns(body, pats.as_slice()),
+        RawPat::Lit(e) => (e.0 as usize) < body.exprs.len(),
+        RawPat::Wild | RawPat::Bind { .. } | RawPat::Other => true,
+    }
+}
+
+fn have_pat_parts(body: &RawBody) -> bool
+    ensures { IsTrue result ↔ PatsPartsExist body.now }
+{
+    body.pats
         .as_slice()
         .iter()
-        .all(|p| (p.0 as usize) < count)
+        .all(|pat| has_pat_parts(body, pat))
 }
 
 fn have_traits(traits: &[TraitId], count: usize) -> bool
@@ -152,10 +216,11 @@ fn has_ids(raw: &RawFacts, body: &RawBody) -> bool
     (body.module.0 as usize) < raw.modules.len()
         && have_traits(body.traits.as_slice(), raw.traits.len())
         && has_maybe_binding(body, body.self_)
-        && have_params(body)
+        && have_patterns(body, body.params.as_slice())
         && (body.root.0 as usize) < body.exprs.len()
         && have_expr_ids(raw, body)
         && have_pat_ids(body)
+        && have_pat_parts(body)
 }
 
 fn owned_body(function: &RawFn) -> Option<usize>

@@ -1,14 +1,15 @@
 //! How long the lists of a body may be, and how deep its tree.
 ghost use Rattle.std.specs.Prelude.{◌≡◌, ◌↔◌, ℕ, Some, IsTrue, slice_get};
 ghost use Rattle.hir_facts.specs.declared.raw.RawExpr.{RawExpr};
+ghost use Rattle.hir_facts.specs.declared.raw.RawPat.{RawPat};
 ghost use Rattle.hir_facts.specs.Order.{IsSchedule, AreDepths};
 ghost use Rattle.hir_facts.specs.Laws.Scheduled.{AreSchedules};
-ghost use Rattle.hir_facts.specs.Laws.Sizes.{ExprIsShort, BodyIsSmall};
+ghost use Rattle.hir_facts.specs.Laws.Sizes.{ExprIsShort, PatIsShort, BodyIsSmall};
 
 use crate::laws::scopes::MOST_STEPS;
 use crate::laws::sizes::{is_early, is_short};
 use crate::laws::test::Test;
-use crate::raw::{RawBody, RawExpr, RawFacts};
+use crate::raw::{RawBody, RawExpr, RawFacts, RawPat};
 use crate::schedule::{Schedule, is_low};
 use hir_types::List;
 use std::alloc::{AllocError, Global};
@@ -23,7 +24,9 @@ fn is_short_expr(expr: &RawExpr) -> bool
             tail: _,
         } => is_short(statements.as_slice()),
         RawExpr::Tuple(es) => is_short(es.as_slice()),
-        RawExpr::Lit(_) | RawExpr::Path(_) | RawExpr::Other => true,
+        RawExpr::Match { scrutinee: _, arms } => is_short(arms.as_slice()),
+        RawExpr::Call { callee: _, args } => is_short(args.as_slice()),
+        RawExpr::Lit(_) | RawExpr::Path(_) | RawExpr::If { .. } | RawExpr::Other => true,
     }
 }
 
@@ -31,6 +34,21 @@ fn are_short_exprs(body: &RawBody) -> bool
     ensures { IsTrue result ↔ ((e : ℕ) (x : RawExpr) → slice_get body.now.exprs e ≡ Some x → ExprIsShort x) }
 {
     body.exprs.as_slice().iter().all(|expr| is_short_expr(expr))
+}
+
+fn is_short_pat(pat: &RawPat) -> bool
+    ensures { IsTrue result ↔ PatIsShort pat.now }
+{
+    match pat {
+        RawPat::Tuple(pats) => is_short(pats.as_slice()),
+        RawPat::Wild | RawPat::Bind { .. } | RawPat::Lit(_) | RawPat::Other => true,
+    }
+}
+
+fn are_short_pats(body: &RawBody) -> bool
+    ensures { IsTrue result ↔ ((p : ℕ) (x : RawPat) → slice_get body.now.pats p ≡ Some x → PatIsShort x) }
+{
+    body.pats.as_slice().iter().all(|pat| is_short_pat(pat))
 }
 
 fn is_small(at: usize, body: &RawBody, schedule: &Schedule) -> bool
@@ -45,6 +63,7 @@ fn is_small(at: usize, body: &RawBody, schedule: &Schedule) -> bool
         && is_short(body.pats.as_slice())
         && is_short(body.bindings.as_slice())
         && are_short_exprs(body)
+        && are_short_pats(body)
         && is_low(body, schedule, MOST_STEPS)
 }
 

@@ -34,15 +34,13 @@ fn carries_fn(function: &RawFn) -> bool
         && function.params.is_empty()
         && function.preds.is_empty()
         && !function.has_self
-        && function.inputs.is_empty()
 }
 
 fn carries_literal(literal: &RawLiteral) -> bool
     ensures { result ≡ is_carried_literal literal.now }
 {
     match literal {
-        RawLiteral::Bool(_) | RawLiteral::Char(_) => true,
-        RawLiteral::Int { digits: _, suffix } => suffix.is_some(),
+        RawLiteral::Bool(_) | RawLiteral::Char(_) | RawLiteral::Int { .. } => true,
         RawLiteral::Other => false,
     }
 }
@@ -52,7 +50,7 @@ fn carries_path(path: &RawPath) -> bool
 {
     match path {
         RawPath::Local(_) => true,
-        RawPath::Other => false,
+        RawPath::Function(_) | RawPath::Other => false,
     }
 }
 
@@ -60,12 +58,7 @@ fn carries_stmt(stmt: &RawStmt) -> bool
     ensures { result ≡ is_carried_stmt stmt.now }
 {
     match stmt {
-        RawStmt::Let {
-            pat: _,
-            type_ref: _,
-            initializer,
-            else_branch,
-        } => initializer.is_some() && else_branch.is_none(),
+        RawStmt::Let { else_branch, .. } => else_branch.is_none(),
         RawStmt::Expr {
             expr: _,
             has_semi: _,
@@ -91,7 +84,7 @@ fn carries_expr(expr: &RawExpr) -> bool
             tail: _,
         } => label.is_none() && carries_stmts(statements.as_slice()),
         RawExpr::Tuple(_) => true,
-        RawExpr::Other => false,
+        RawExpr::If { .. } | RawExpr::Match { .. } | RawExpr::Call { .. } | RawExpr::Other => false,
     }
 }
 
@@ -101,7 +94,7 @@ fn carries_pat(pat: &RawPat) -> bool
     match pat {
         RawPat::Wild => true,
         RawPat::Bind { id: _, subpat } => subpat.is_none(),
-        RawPat::Other => false,
+        RawPat::Tuple(_) | RawPat::Lit(_) | RawPat::Other => false,
     }
 }
 
@@ -138,6 +131,7 @@ fn carries_body(body: &RawBody) -> bool
     carries_exprs(body.exprs.as_slice())
         && carries_pats(body.pats.as_slice())
         && carries_bindings(body.bindings.as_slice())
+        && body.self_.is_none()
 }
 
 /// A written type is of a carried kind.
@@ -186,7 +180,7 @@ impl Test for FnsCarried {
     }
 }
 
-/// The nodes and bindings of a body are of carried kinds.
+/// The nodes and bindings of a body are of carried kinds, and it has no `self`.
 pub struct BodiesCarried;
 
 impl Test for BodiesCarried {

@@ -62,15 +62,9 @@ fn has_typed_local(
 {
     match expr {
         RawExpr::Path(RawPath::Local(v)) => is_typed_before(body, starts, binders, e, v.0 as usize),
-        RawExpr::Path(RawPath::Other)
-        | RawExpr::Lit(_)
-        | RawExpr::Block {
-            label: _,
-            statements: _,
-            tail: _,
-        }
-        | RawExpr::Tuple(_)
-        | RawExpr::Other => true,
+        RawExpr::Path(RawPath::Function(_) | RawPath::Other) | RawExpr::Lit(_) => true,
+        RawExpr::Block { .. } | RawExpr::Tuple(_) | RawExpr::Other => true,
+        RawExpr::If { .. } | RawExpr::Match { .. } | RawExpr::Call { .. } => true,
     }
 }
 

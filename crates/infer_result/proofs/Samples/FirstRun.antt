@@ -32,7 +32,7 @@ body =
     (pat.Bind (b 0) None ∷ []) (plain ∷ [])
 
 abbrev given : Given
-given = record { types = []; body = body; output = u8 }
+given = record { types = []; body = body; inputs = []; output = u8 }
 
 abbrev schedule : Schedule
 schedule = record { starts = 2 ∷ 4 ∷ 1 ∷ 3 ∷ 0 ∷ []; ends = 3 ∷ 5 ∷ 5 ∷ 4 ∷ 5 ∷ []; depths = 2 ∷ 2 ∷ 1 ∷ 2 ∷ 0 ∷ [] }
@@ -76,6 +76,7 @@ right_made = record {
   };
   clauses = λ x h. each_below (λ k. ObeysOrMismatch given right (e k)) 3 x.0 (((tt, (u8, refl, refl)), (u8, refl, refl)), (((u8, refl, refl), tt), (u8, refl, (u8, refl, inl refl)))) h;
   kinds = λ x h. each_below (λ k. PatRule right (p k) (slice_get body.pats k)) 1 x.0 (tt, (u8, refl, refl, refl)) h;
+  params = λ i q s found is. absurd (cc);
   bindings = λ v h. each_below (λ k. (s : Ty) × BindingTy right (b k) s) 1 v.0 (tt, (u8, refl)) h;
   body_clause = (u8, refl, inl refl);
   misfits = λ x. each_entry (IsMisfit given right x) right.expr_mismatches tt x.0;

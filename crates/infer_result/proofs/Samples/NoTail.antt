@@ -27,7 +27,7 @@ abbrev body : RawBody
 body = body_of (expr.Lit one_u8 ∷ expr.Block None (stmt.Let (p 0) None (Some (e 0)) None ∷ []) None ∷ []) 1 (pat.Bind (b 0) None ∷ []) (plain ∷ [])
 
 abbrev given : Given
-given = record { types = []; body = body; output = u8 }
+given = record { types = []; body = body; inputs = []; output = u8 }
 
 abbrev schedule : Schedule
 schedule = record { starts = 2 ∷ 1 ∷ 3 ∷ 0 ∷ []; ends = 3 ∷ 4 ∷ 4 ∷ 4 ∷ []; depths = 2 ∷ 1 ∷ 2 ∷ 0 ∷ [] }
@@ -71,6 +71,7 @@ right_made = record {
   };
   clauses = λ x h. each_below (λ k. ObeysOrMismatch given right (e k)) 2 x.0 ((tt, (u8, refl, refl)), (((u8, refl, refl), tt), (u8, refl, inr refl))) h;
   kinds = λ x h. each_below (λ k. PatRule right (p k) (slice_get body.pats k)) 1 x.0 (tt, (u8, refl, refl, refl)) h;
+  params = λ i q s found is. absurd (cc);
   bindings = λ v h. each_below (λ k. (s : Ty) × BindingTy right (b k) s) 1 v.0 (tt, (u8, refl)) h;
   body_clause = (u8, refl, inl refl);
   misfits = λ x m at. misfit x.0 m at;

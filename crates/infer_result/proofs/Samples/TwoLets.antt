@@ -42,7 +42,7 @@ body =
     (pat.Bind (b 0) None ∷ pat.Bind (b 1) None ∷ []) (plain ∷ plain ∷ [])
 
 abbrev given : Given
-given = record { types = types; body = body; output = unit }
+given = record { types = types; body = body; inputs = []; output = unit }
 
 first_written : written_type types (w 0) ≡ ty.Bool
 unfolding lowered_within
@@ -99,6 +99,7 @@ right_made = record {
   };
   clauses = λ x h. each_below (λ k. ObeysOrMismatch given right (e k)) 3 x.0 (((tt, (u8, refl, refl)), (ty.Bool, refl, refl)), block_obeys) h;
   kinds = λ x h. each_below (λ k. PatRule right (p k) (slice_get body.pats k)) 2 x.0 ((tt, (ty.Bool, refl, refl, refl)), (u8, refl, refl, refl)) h;
+  params = λ i q s found is. absurd (cc);
   bindings = λ v h. each_below (λ k. (s : Ty) × BindingTy right (b k) s) 2 v.0 ((tt, (ty.Bool, refl)), (u8, refl)) h;
   body_clause = (unit, refl, inl refl);
   misfits = λ x m at. misfit x.0 m at;

@@ -1,5 +1,5 @@
 -- `fn f() -> (u8, bool) { (1u8, 2u8) }`: the tuple has the expected components, and the mismatch stands at the second part.
-use Rattle.std.proofs.Common.{ℕ, zero, suc, ◌+◌, ◌<◌, ◌≡◌, inl, inr, Bool, List, [], ◌∷◌, refl, sym, ap, subst, ◌∙◌, arith, Option, Some, None}
+use Rattle.std.proofs.Common.{ℕ, zero, suc, ◌+◌, ◌<◌, ◌≡◌, inl, inr, List, [], ◌∷◌, refl, sym, subst, ◌∙◌, arith, Option, Some, None}
 use Rattle.hir_types.specs.declared.ids.ExprOrPatId.TheVariants as node
 use Rattle.hir_types.specs.declared.ty.Ty.{Ty}
 use Rattle.hir_types.specs.declared.ty.Ty.TheVariants as ty
@@ -27,7 +27,7 @@ abbrev body : RawBody
 body = body_of (expr.Lit one_u8 ∷ expr.Lit one_u8 ∷ expr.Tuple (e 0 ∷ e 1 ∷ []) ∷ expr.Block None [] (Some (e 2)) ∷ []) 3 [] []
 
 abbrev given : Given
-given = record { types = []; body = body; output = pair }
+given = record { types = []; body = body; inputs = []; output = pair }
 
 abbrev schedule : Schedule
 schedule = record { starts = 3 ∷ 4 ∷ 2 ∷ 1 ∷ 0 ∷ []; ends = 4 ∷ 5 ∷ 5 ∷ 5 ∷ 5 ∷ []; depths = 3 ∷ 3 ∷ 2 ∷ 1 ∷ 0 ∷ [] }
@@ -76,6 +76,7 @@ right_made = record {
       each_below (λ k. ObeysOrMismatch given right (e k)) 4 x.0
       ((((tt, (u8, refl, refl)), (u8, refl, refl)), (u8 ∷ ty.Bool ∷ [], refl, ((u8, refl, inl refl), ((u8, refl, inr refl), tt)))), (tt, (pair, refl, (pair, refl, inl refl)))) h;
   kinds = λ x h. absurd (omega arith);
+  params = λ i q s found is. absurd (cc);
   bindings = λ v h. absurd (omega arith);
   body_clause = (pair, refl, inl refl);
   misfits = λ x m at. misfit x.0 m at;

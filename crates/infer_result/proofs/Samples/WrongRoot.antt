@@ -24,7 +24,7 @@ abbrev body : RawBody
 body = body_of (expr.Lit (literal.Bool true) ∷ expr.Block None [] (Some (e 0)) ∷ []) 1 [] []
 
 abbrev given : Given
-given = record { types = []; body = body; output = u8 }
+given = record { types = []; body = body; inputs = []; output = u8 }
 
 abbrev schedule : Schedule
 schedule = record { starts = 2 ∷ 1 ∷ 0 ∷ []; ends = 3 ∷ 3 ∷ 3 ∷ []; depths = 2 ∷ 1 ∷ 0 ∷ [] }
@@ -68,6 +68,7 @@ right_made = record {
   };
   clauses = λ x h. each_below (λ k. ObeysOrMismatch given right (e k)) 2 x.0 ((tt, (ty.Bool, refl, refl)), (tt, (u8, refl, (ty.Bool, refl, inr refl)))) h;
   kinds = λ x h. absurd (omega arith);
+  params = λ i q s found is. absurd (cc);
   bindings = λ v h. absurd (omega arith);
   body_clause = (u8, refl, inl refl);
   misfits = λ x m at. misfit x.0 m at;

@@ -22,6 +22,9 @@ Rule At ElementAt Ends g t n (Some (expr.Lit l)) = (s : Ty) × HasTy t n s × Is
 Rule At ElementAt Ends g t n (Some (expr.Path p)) = PathRule t n p
 Rule At ElementAt Ends g t n (Some (expr.Tuple es)) = TupleRule ElementAt t n es
 Rule At ElementAt Ends g t n (Some (expr.Block label stmts last)) = BlockRule At Ends g t n stmts last
+Rule At ElementAt Ends g t n (Some (expr.If c first other)) = ⊥
+Rule At ElementAt Ends g t n (Some (expr.Match e arms)) = ⊥
+Rule At ElementAt Ends g t n (Some (expr.Call f args)) = ⊥
 Rule At ElementAt Ends g t n (Some expr.Other) = ⊥
 
 -- Each clause holds, or the mismatch that says that it does not is listed at that very part: for a

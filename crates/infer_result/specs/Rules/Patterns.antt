@@ -14,6 +14,8 @@ abbrev pub PatRule : InferenceResult → PatId → Option RawPat → Type 0
 PatRule t p None = ⊥
 PatRule t p (Some pat.Wild) = (s : Ty) × PatTy t p s
 PatRule t p (Some (pat.Bind v sub)) = (s : Ty) × PatTy t p s × BindingTy t v s × HasMode t p mode.Move
+PatRule t p (Some (pat.Tuple ps)) = ⊥
+PatRule t p (Some (pat.Lit e)) = ⊥
 PatRule t p (Some pat.Other) = ⊥
 
 -- the pattern has the type that comes in, and obeys the rule of its kind

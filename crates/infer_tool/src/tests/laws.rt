@@ -133,8 +133,8 @@ fn carries_no_traits(rt: HostRuntime) -> Result<(), Fail> {
     )?;
     broken(
         rt,
-        "\"u8\"]]",
-        "null]]",
+        "0,null]],1]",
+        "0,1]],1]",
         "0 is broken at bodies[0]",
         CARRIED,
     )

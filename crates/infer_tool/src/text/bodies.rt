@@ -4,13 +4,15 @@ ghost use Rattle.serde_json.specs.Data.{Data};
 ghost use Rattle.serde_json.specs.View.{view};
 ghost use Rattle.infer_tool.specs.Reading.{Gives, is_kind_of};
 ghost use Rattle.infer_tool.specs.Kinds.{other_exprs, other_pats, other_paths, other_literals};
-ghost use Rattle.infer_tool.specs.Bodies.{int_literal_in, literal_in, local_in, path_in, let_in, expr_stmt_in, stmt_in, block_in, expr_in, bind_in, pat_in, binding_in, body_in};
+ghost use Rattle.infer_tool.specs.Bodies.{int_literal_in, literal_in, local_in, function_in, path_in, let_in, expr_stmt_in, stmt_in, block_in, if_in, arm_in, match_in, call_in, expr_in, bind_in, tuple_pat_in, pat_in, binding_in, body_in};
 
 use super::fault::Misread;
 use super::reader::{
     FromData, expect_keys, expect_parts, field_of, is, is_one_of, misshapen, part_of, tag_of,
 };
-use hir_facts::{List, Other, RawBinding, RawBody, RawExpr, RawLiteral, RawPat, RawPath, RawStmt};
+use hir_facts::{
+    List, Other, RawArm, RawBinding, RawBody, RawExpr, RawLiteral, RawPat, RawPath, RawStmt,
+};
 use serde_json::Value;
 use std::alloc::Global;
 
@@ -61,13 +63,24 @@ fn local(alloc: Global, value: &Value) -> Result<RawPath, Misread>
     }
 }
 
+#[tactic(auto, unfolding(crate::specs::Bodies::function_in))]
+fn function(alloc: Global, value: &Value) -> Result<RawPath, Misread>
+    ensures { Gives result (function_in (view value.now)) }
+{
+    let function = part_of(alloc, value, 1)?;
+    let args: Option<List<Other>> = part_of(alloc, value, 2)?;
+    match args {
+        None => Ok(RawPath::Function(function)),
+        Some(_) => Ok(RawPath::Other),
+    }
+}
+
 fn is_other_path(tag: (&str, usize)) -> bool
     ensures { result ≡ is_kind_of other_paths (tag.entry.0.now, tag.entry.1) }
 {
     is_one_of(
         tag,
         &[
-            ("fn", 3),
             ("const", 3),
             ("static", 3),
             ("ctor", 3),
@@ -88,6 +101,8 @@ impl FromData for RawPath {
         let tag = tag_of(alloc, value)?;
         if is(tag, "local", 3) {
             local(alloc, value)
+        } else if is(tag, "fn", 3) {
+            function(alloc, value)
         } else if is_other_path(tag) {
             Ok(RawPath::Other)
         } else {
@@ -151,6 +166,51 @@ fn block(alloc: Global, value: &Value) -> Result<RawExpr, Misread>
     })
 }
 
+#[tactic(auto, unfolding(crate::specs::Bodies::if_in))]
+fn if_expr(alloc: Global, value: &Value) -> Result<RawExpr, Misread>
+    ensures { Gives result (if_in (view value.now)) }
+{
+    let condition = part_of(alloc, value, 1)?;
+    let then_branch = part_of(alloc, value, 2)?;
+    let else_branch = part_of(alloc, value, 3)?;
+    Ok(RawExpr::If {
+        condition,
+        then_branch,
+        else_branch,
+    })
+}
+
+#[tactic(auto, unfolding(crate::specs::Bodies::arm_in))]
+impl FromData for RawArm {
+    ghost reads = { arm_in };
+
+    fn from_data(alloc: Global, value: &Value) -> Result<RawArm, Misread> {
+        expect_parts(alloc, value, 3)?;
+        let pat = part_of(alloc, value, 0)?;
+        let guard = part_of(alloc, value, 1)?;
+        let expr = part_of(alloc, value, 2)?;
+        Ok(RawArm { pat, guard, expr })
+    }
+}
+
+#[tactic(auto, unfolding(crate::specs::Bodies::match_in))]
+fn match_expr(alloc: Global, value: &Value) -> Result<RawExpr, Misread>
+    ensures { Gives result (match_in (view value.now)) }
+{
+    let scrutinee = part_of(alloc, value, 1)?;
+    let arms = part_of(alloc, value, 2)?;
+    Ok(RawExpr::Match { scrutinee, arms })
+}
+
+#[tactic(auto, unfolding(crate::specs::Bodies::call_in))]
+fn call(alloc: Global, value: &Value) -> Result<RawExpr, Misread>
+    ensures { Gives result (call_in (view value.now)) }
+{
+    let callee = part_of(alloc, value, 1)?;
+    let args = part_of(alloc, value, 2)?;
+    Ok(RawExpr::Call { callee, args })
+}
+
 fn is_other_expr(tag: (&str, usize)) -> bool
     ensures { result ≡ is_kind_of other_exprs (tag.entry.0.now, tag.entry.1) }
 {
@@ -162,11 +222,8 @@ fn is_other_expr(tag: (&str, usize)) -> bool
             ("offset", 0),
             ("unsafe", 3),
             ("const", 2),
-            ("if", 4),
             ("let", 3),
             ("loop", 3),
-            ("match", 3),
-            ("call", 3),
             ("method", 5),
             ("field", 3),
             ("break", 3),
@@ -203,6 +260,12 @@ impl FromData for RawExpr {
             block(alloc, value)
         } else if is(tag, "tuple", 2) {
             Ok(RawExpr::Tuple(part_of(alloc, value, 1)?))
+        } else if is(tag, "if", 4) {
+            if_expr(alloc, value)
+        } else if is(tag, "match", 3) {
+            match_expr(alloc, value)
+        } else if is(tag, "call", 3) {
+            call(alloc, value)
         } else if is_other_expr(tag) {
             Ok(RawExpr::Other)
         } else {
@@ -220,6 +283,18 @@ fn bind(alloc: Global, value: &Value) -> Result<RawPat, Misread>
     Ok(RawPat::Bind { id, subpat })
 }
 
+#[tactic(auto, unfolding(crate::specs::Bodies::tuple_pat_in))]
+fn tuple_pat(alloc: Global, value: &Value) -> Result<RawPat, Misread>
+    ensures { Gives result (tuple_pat_in (view value.now)) }
+{
+    let pats = part_of(alloc, value, 1)?;
+    let dots: Option<Other> = part_of(alloc, value, 2)?;
+    match dots {
+        None => Ok(RawPat::Tuple(pats)),
+        Some(_) => Ok(RawPat::Other),
+    }
+}
+
 fn is_other_pat(tag: (&str, usize)) -> bool
     ensures { result ≡ is_kind_of other_pats (tag.entry.0.now, tag.entry.1) }
 {
@@ -227,11 +302,9 @@ fn is_other_pat(tag: (&str, usize)) -> bool
         tag,
         &[
             ("missing", 0),
-            ("tuple", 3),
             ("ctor", 4),
             ("record", 3),
             ("path", 2),
-            ("lit", 2),
             ("range", 3),
             ("slice", 4),
             ("ref", 3),
@@ -253,6 +326,10 @@ impl FromData for RawPat {
             Ok(RawPat::Wild)
         } else if is(tag, "bind", 3) {
             bind(alloc, value)
+        } else if is(tag, "tuple", 3) {
+            tuple_pat(alloc, value)
+        } else if is(tag, "lit", 2) {
+            Ok(RawPat::Lit(part_of(alloc, value, 1)?))
         } else if is_other_pat(tag) {
             Ok(RawPat::Other)
         } else {

@@ -3,13 +3,13 @@ ghost use Rattle.std.specs.Prelude.{◌≡◌, ℕ, List, Bool, Result, Some, No
 ghost use Rattle.serde_json.specs.Data.{Data};
 ghost use Rattle.serde_json.specs.View.{view};
 ghost use Rattle.infer_tool.specs.Reading.{Gives, bool_in, text_in, u32_in};
-ghost use Rattle.infer_tool.specs.Leaves.{module_in, trait_in, type_ref_in, body_id_in, expr_id_in, pat_id_in, binding_id_in, label_in, other_in, int_name, uint_name, integer_name, integer_in, profile_in, edition_in, annotation_in};
+ghost use Rattle.infer_tool.specs.Leaves.{module_in, trait_in, type_ref_in, function_id_in, body_id_in, expr_id_in, pat_id_in, binding_id_in, label_in, other_in, int_name, uint_name, integer_name, integer_in, profile_in, edition_in, annotation_in};
 
 use super::fault::Misread;
 use super::reader::{FromData, misshapen};
 use hir_facts::{
-    BindingAnnotation, BindingId, BodyId, Edition, ExprId, IntTy, IntegerTy, LabelId, ModuleId,
-    Other, PatId, Text, TraitId, TypeRefId, UintTy,
+    BindingAnnotation, BindingId, BodyId, Edition, ExprId, FunctionId, IntTy, IntegerTy, LabelId,
+    ModuleId, Other, PatId, Text, TraitId, TypeRefId, UintTy,
 };
 use serde_json::Value;
 use std::alloc::Global;
@@ -68,6 +68,14 @@ impl FromData for TypeRefId {
 
     fn from_data(alloc: Global, value: &Value) -> Result<TypeRefId, Misread> {
         Ok(TypeRefId(u32::from_data(alloc, value)?))
+    }
+}
+
+impl FromData for FunctionId {
+    ghost reads = { function_id_in };
+
+    fn from_data(alloc: Global, value: &Value) -> Result<FunctionId, Misread> {
+        Ok(FunctionId(u32::from_data(alloc, value)?))
     }
 }
 

@@ -207,23 +207,23 @@ static PLACES: [Wanted; 56] = [
     },
     Wanted {
         path: b"bodies.#.exprs.#.1",
-        what: "a literal, a path, a label or null, or a list of expressions, as the expression's kind asks,",
+        what: "a literal, a path, a label or null, an expression or a list of such, as the expression's kind asks,",
     },
     Wanted {
         path: b"bodies.#.exprs.#.2",
-        what: "a list of statements",
+        what: "an expression, or a list of statements, arms or expressions, as the expression's kind asks,",
     },
     Wanted {
         path: b"bodies.#.exprs.#.2.#",
-        what: "[\"let\", pattern, TYPE?, expression?, expression?] or [\"expr\", expression, true or false]",
+        what: "a statement, an arm or an expression, as the expression's kind asks,",
     },
     Wanted {
         path: b"bodies.#.exprs.#.2.#.1",
-        what: "a pattern's number in a `let`, else an expression's",
+        what: "a pattern's number in a `let`, an expression's in a statement, a guard's or null in an arm",
     },
     Wanted {
         path: b"bodies.#.exprs.#.2.#.2",
-        what: "an index into `types` or null in a `let`, else true or false",
+        what: "an index into `types` or null in a `let`, true or false in a statement, an expression in an arm",
     },
     Wanted {
         path: b"bodies.#.exprs.#.3",

@@ -1,7 +1,7 @@
 use Rattle.std.proofs.Common.{◌+◌, ◌-◌, ◌*◌, ◌^◌}
 use Rattle.infer_expr.specs.Context.{given_of, schedule_of}
-use Rattle.infer_expr.proofs.Tuples.{TupleLoop}
-use Rattle.infer_expr.proofs.Blocks.{BlockLoop}
+use Rattle.infer_expr.proofs.TupleWalk.{TupleWalk}
+use Rattle.infer_expr.proofs.BlockWalk.{BlockWalk}
 use Rattle.infer_expr.proofs.context.InferenceContext.+infer.Given as goal
 
 -- the room that is left for the clock, and then how near a function stands to the next step of it
@@ -36,7 +36,7 @@ abbrev pub decreases-infer_initializer : goal.decreases-infer_initializer
 decreases-infer_initializer l = 16 * (2 ^ 64 - l.self.now.clock) + 6
 
 abbrev pub invariant-infer_tuple-loop-i : goal.invariant-infer_tuple-loop-i
-invariant-infer_tuple-loop-i l = TupleLoop (given_of l.given) (schedule_of l.given) l.fn.tgt_expr l.exprs l.i l.tys l.initial.self l.self
+invariant-infer_tuple-loop-i l = TupleWalk (given_of l.given) (schedule_of l.given) l.fn.tgt_expr l.exprs l.i l.tys l.initial.self l.self
 
 abbrev pub invariant-infer_block-loop-i : goal.invariant-infer_block-loop-i
-invariant-infer_block-loop-i l = BlockLoop (given_of l.given) (schedule_of l.given) l.fn.tgt_expr l.statements l.fn.tail l.i l.initial.self l.self
+invariant-infer_block-loop-i l = BlockWalk (given_of l.given) (schedule_of l.given) l.fn.tgt_expr l.statements l.fn.tail l.i l.initial.self l.self

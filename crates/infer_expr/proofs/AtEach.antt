@@ -1,0 +1,96 @@
+-- From what holds of the context to what holds under each assignment that closes it, and back.
+use Rattle.std.proofs.Common.{arith, Option, Some, None}
+use Rattle.hir_types.specs.declared.ids.ExprId.{ExprId}
+use Rattle.hir_types.specs.declared.ids.PatId.{PatId}
+use Rattle.hir_types.specs.declared.ty.Ty.{Ty}
+use Rattle.hir_types.specs.Subst.{Assignment, folded}
+use Rattle.hir_facts.specs.declared.raw.RawBody.{RawBody}
+use Rattle.hir_facts.specs.declared.raw.RawStmt.{RawStmt}
+use Rattle.hir_facts.specs.declared.schedule.Schedule.{Schedule}
+use Rattle.infer_table.specs.HoleLaws.{grew_twice}
+use Rattle.infer_table.specs.Table.{State}
+use Rattle.infer_table.specs.UndoLaws.{grew_itself}
+use Rattle.infer_result.specs.Closed.{IsOfBody}
+use Rattle.infer_result.specs.Places.{Given}
+use Rattle.infer_expr.specs.declared.context.InferenceContext.{InferenceContext}
+use Rattle.infer_expr.specs.Context.{IsCarriedExpectation}
+use Rattle.infer_expr.specs.Walks.{IsWalked}
+use Rattle.infer_expr.specs.Closings.{Closes, IsClosing, found_under, expected_under, IsSound}
+use Rattle.infer_expr.specs.Fine.{IsFineExpectation}
+use Rattle.infer_expr.specs.Steps.{IsWalking, Follows, Before, Within, BeforePat, BeforeStmt, BeforeTail}
+use Rattle.infer_expr.specs.Under as under
+use Rattle.infer_expr.proofs.Closed.{closes_earlier}
+use Rattle.infer_expr.proofs.FineTypes.{fine_closed}
+
+-- ---- one after another
+
+pub follows_itself : (b : RawBody) (c : InferenceContext) → IsOfBody b c.result → IsSound c → Follows b c c
+follows_itself b c h s = record { clock = omega arith; grew = grew_itself c.table; of_body = h; sound = s }
+
+pub follows_twice : (b : RawBody) (x y z : InferenceContext) → Follows b x y → Follows b y z → Follows b x z
+follows_twice b x y z f g = record {
+  clock = omega (arith, f.clock, g.clock);
+  grew = grew_twice x.table y.table z.table f.grew g.grew;
+  of_body = g.of_body;
+  sound = g.sound;
+}
+
+pub closes_before : (b : RawBody) (a : Assignment) (x y : InferenceContext) → Follows b x y → Closes a y → Closes a x
+closes_before b a x y f k = closes_earlier a x y f.grew k
+
+pub walking_after : (g : Given) (s : Schedule) (old new : InferenceContext) → Follows g.body old new → ((a : Assignment) → Closes a new → IsWalked g.body s (found_under a new)) → IsWalking g s new
+walking_after g s old new f h = record { of_body = f.of_body; sound = f.sound; each = h }
+
+-- ---- what is expected
+
+pub expected_carried : (a : Assignment) (state : State) (x : Option Ty) → IsClosing a → IsFineExpectation state x → IsCarriedExpectation (expected_under a x)
+expected_carried a state None k h = tt
+expected_carried a state (Some t) k h = fine_closed a t k h.heads
+
+-- ---- what a function is given
+
+module _ (g : Given) (s : Schedule) (a : Assignment) (c : InferenceContext) (k : Closes a c) where
+  pub before_under : (e : ExprId) (x : Option Ty) → Before g s e x c → under.Before g s e (expected_under a x) (found_under a c)
+  before_under e x h = record {
+    ready = h.ready;
+    state = h.state.each a k;
+    within = h.within;
+    here = h.here;
+    expected = expected_carried a c.table x k.closing h.expected;
+  }
+
+  pub within_under : (e : ExprId) (x : Option Ty) → Within g s e x c → under.Within g s e (expected_under a x) (found_under a c)
+  within_under e x h = record {
+    ready = h.ready;
+    state = h.state.each a k;
+    within = h.within;
+    clock = h.clock;
+    expected = expected_carried a c.table x k.closing h.expected;
+  }
+
+  pub before_pat_under : (p : PatId) (t : Ty) → BeforePat g s p t c → under.BeforePat g s p (folded a t) (found_under a c)
+  before_pat_under p t h = record {
+    ready = h.ready;
+    state = h.state.each a k;
+    within = h.within;
+    here = h.here;
+    carried = fine_closed a t k.closing h.fine.heads;
+  }
+
+  pub before_stmt_under : (n : ExprId) (x : RawStmt) → BeforeStmt g s n x c → under.BeforeStmt g s n x (found_under a c)
+  before_stmt_under n x h = record {
+    ready = h.ready;
+    state = h.state.each a k;
+    ahead = h.ahead;
+    stands = h.stands;
+    carried = h.carried;
+  }
+
+  pub before_tail_under : (n : ExprId) (last : Option ExprId) (x : Option Ty) → BeforeTail g s n last x c → under.BeforeTail g s n last (expected_under a x) (found_under a c)
+  before_tail_under n last x h = record {
+    ready = h.ready;
+    state = h.state.each a k;
+    within = h.within;
+    ahead = h.ahead;
+    expected = expected_carried a c.table x k.closing h.expected;
+  }

@@ -1,0 +1,105 @@
+-- The walk of a whole body.
+use Rattle.std.proofs.Common.{ℕ, zero, suc, ◌<◌, ◌≡◌, ◌^◌, ◌∷◌, refl, sym, ap, subst, length, map, Some, None}
+use Rattle.std.specs.Prelude.{replicate, option_map}
+use Rattle.hir_types.specs.declared.ty.IntTy.TheVariants as int
+use Rattle.hir_types.specs.declared.ty.IntegerTy.TheVariants.{Int}
+use Rattle.hir_types.specs.declared.ty.Ty.{Ty}
+use Rattle.hir_types.specs.Subst.{Assignment, folded}
+use Rattle.hir_facts.specs.Bodies.{IsWalkable}
+use Rattle.hir_facts.specs.CarriedTypes.{IsCarriedType, carried_error}
+use Rattle.hir_facts.specs.declared.raw.RawBody.{RawBody}
+use Rattle.hir_facts.specs.declared.schedule.Schedule.{Schedule}
+use Rattle.infer_table.specs.Completion.{fallback}
+use Rattle.infer_result.specs.Places.{Given}
+use Rattle.infer_expr.specs.declared.context.InferenceContext.{InferenceContext}
+use Rattle.infer_expr.specs.Context.{empty_context}
+use Rattle.infer_expr.specs.Found.{nothing_found}
+use Rattle.infer_expr.specs.Closings.{Closes, closed_mismatch, found_under, IsSound}
+use Rattle.infer_expr.specs.Fine.{HasFineHeads}
+use Rattle.infer_expr.specs.Steps.{Before, CoerceDone, BeforeParams, ParamsDone, BodyDone}
+use Rattle.infer_expr.specs.Under.{WrittenExist}
+use Rattle.infer_expr.specs.Under as under
+use Rattle.infer_expr.specs.Walks.{expr_end}
+use Rattle.infer_expr.proofs.AtEach.{closes_before, walking_after}
+use Rattle.infer_expr.proofs.Closed.{of_body_unclosed}
+use Rattle.infer_expr.proofs.FineTypes.{carried_fine, carried_closed}
+use Rattle.infer_expr.proofs.Whole.{At-replicate, params_before, root_before, body_made, body_carried}
+
+none_under : {A B : Type 0} (f : A → B) (n : ℕ) → map (option_map f) (replicate n None) ≡ replicate n None
+none_under f zero = refl
+none_under f (suc n) = ap (λ xs. None ∷ xs) (none_under f n)
+
+pub nothing_under : (a : Assignment) (b : RawBody) → found_under a (empty_context b) ≡ nothing_found b
+nothing_under a b = λ i. record {
+  result = record {
+    type_of_expr = none_under (folded a) (length b.exprs) i;
+    type_of_pat = none_under (folded a) (length b.pats) i;
+    type_of_binding = none_under (folded a) (length b.bindings) i;
+    binding_modes = replicate (length b.pats) None;
+    expr_mismatches = none_under (closed_mismatch a) (length b.exprs) i;
+  };
+  clock = 1;
+}
+
+nothing_sound : (b : RawBody) → IsSound (empty_context b)
+nothing_sound b = record {
+  fine = record {
+    exprs = λ n t i. absurd (At-replicate (length b.exprs) n t i);
+    pats = λ n t i. absurd (At-replicate (length b.pats) n t i);
+    bindings = λ n t i. absurd (At-replicate (length b.bindings) n t i);
+    expected = λ n m i. absurd (At-replicate (length b.exprs) n m i);
+    actual = λ n m i. absurd (At-replicate (length b.exprs) n m i);
+  };
+  bound = tt;
+  some = (
+    fallback,
+    record {
+      closing = record { var = λ n. carried_error; int_var = λ n. (Int int.I32, refl) };
+      meets = tt;
+    },
+  );
+}
+
+module _ (g : Given) (s : Schedule) (law : IsWalkable g.body s) (written : WrittenExist g) (count : length g.inputs ≡ length g.body.params) where
+  params_under : (a : Assignment) (last : ℕ) → last ≡ expr_end g.body s g.body.root → last < 2 ^ 64 → under.BeforeParams g s (found_under a (empty_context g.body))
+  params_under a last is room = params_before g s last (found_under a (empty_context g.body)) law written count is room (nothing_under a g.body)
+
+  pub comes_to_params : (last : ℕ) (c : InferenceContext) → last ≡ expr_end g.body s g.body.root → last < 2 ^ 64 → c ≡ empty_context g.body → BeforeParams g s c
+  comes_to_params last c is room empty =
+      let here = params_under fallback last is room in
+      subst (λ d. BeforeParams g s d) (sym empty) (record {
+        ready = here.ready;
+        count = count;
+        state = record {
+          of_body = of_body_unclosed fallback g.body (empty_context g.body).result here.state.of_body;
+          sound = nothing_sound g.body;
+          each = λ a k. (params_under a last is room).state;
+        };
+        ahead = here.ahead;
+      })
+
+pub comes_to_root : (g : Given) (s : Schedule) (old c : InferenceContext) → BeforeParams g s old → ParamsDone g s old c → IsCarriedType g.output → HasFineHeads g.output → Before g s g.body.root (Some g.output) c
+comes_to_root g s old c b d carried heads =
+    let q = d.follows.sound.some in
+    let here = root_before g s (found_under q.0 old) (found_under q.0 c) b.ready carried (d.each q.0 q.1) in
+    record {
+      ready = b.ready;
+      state = walking_after g s old c d.follows (λ a k. (d.each a k).walks.state);
+      within = here.within;
+      here = here.here;
+      expected = carried_fine c.table g.output carried heads;
+    }
+
+module _ (g : Given) (s : Schedule) (law : IsWalkable g.body s) (carried : IsCarriedType g.output) (t : Ty) (mid new : InferenceContext) (p : ParamsDone g s (empty_context g.body) mid) (d : CoerceDone g s g.body.root (Some g.output) t mid new) where
+  typed : (a : Assignment) → Closes a new → under.ParamsDone g s (nothing_found g.body) (found_under a mid)
+  typed a q = subst (λ c. under.ParamsDone g s c (found_under a mid)) (nothing_under a g.body) (p.each a (closes_before g.body a mid new d.follows q))
+
+  done : (a : Assignment) → Closes a new → under.CoerceDone g s g.body.root (Some g.output) (folded a t) (found_under a mid) (found_under a new)
+  done a q = subst (λ u. under.CoerceDone g s g.body.root (Some u) (folded a t) (found_under a mid) (found_under a new)) (carried_closed a g.output carried) (d.each a q)
+
+  pub body_walked : BodyDone g new
+  body_walked = record {
+    sound = d.follows.sound;
+    made = λ a q. body_made g s law (folded a t) (found_under a mid) (found_under a new) (typed a q) (done a q);
+    carried = λ a q. body_carried g s law (folded a t) (found_under a mid) (found_under a new) (typed a q) (done a q);
+  }

@@ -1,0 +1,251 @@
+-- Tables and contexts under closed types for holes, and what writes do to them.
+use Rattle.std.proofs.Common.{ℕ, zero, suc, ◌≡◌, refl, sym, ap, subst, ◌∙◌, List, [], ◌∷◌, map, length, Option, Some, None, option_map, slice_get, slice_set}
+use Rattle.std.proofs.lemmas.List.{length-set, length-map, map-set, map-append}
+use Rattle.std.proofs.lemmas.Option.{slice_get-map}
+use Rattle.hir_types.specs.declared.ids.BindingId.{BindingId}
+use Rattle.hir_types.specs.declared.ids.ExprId.{ExprId}
+use Rattle.hir_types.specs.declared.ids.PatId.{PatId}
+use Rattle.hir_types.specs.declared.head.Hole.{Hole}
+use Rattle.hir_types.specs.declared.ty.Ty.{Ty}
+use Rattle.hir_types.specs.Subst.{Assignment, folded}
+use Rattle.hir_types.specs.Terms.{Term, terms_of}
+use Rattle.hir_facts.specs.declared.raw.RawBody.{RawBody}
+use Rattle.infer_result.specs.declared.modes.BindingMode.{BindingMode}
+use Rattle.infer_result.specs.declared.modes.BindingMode.TheVariants as mode
+use Rattle.infer_result.specs.declared.result.InferenceResult.{InferenceResult}
+use Rattle.infer_result.specs.declared.result.TypeMismatch.{TypeMismatch}
+use Rattle.infer_result.specs.Closed.{IsOfBody, AllTypes}
+use Rattle.infer_result.specs.Table.{At}
+use Rattle.infer_table.specs.LogLemmas.{solves_left}
+use Rattle.infer_table.specs.Solutions.{Log, Solves, entry, log_of}
+use Rattle.infer_table.specs.Table.{State, Grew, Meets, bindings}
+use Rattle.infer_expr.specs.declared.context.InferenceContext.{InferenceContext}
+use Rattle.infer_expr.specs.Closings.{Closes, closed_mismatch, closed_table, found_under, IsSound}
+use Rattle.infer_expr.specs.Context as context
+use Rattle.infer_expr.specs.Fine.{IsFine}
+use Rattle.infer_expr.specs.Found as found
+use Rattle.infer_expr.specs.Found.{Found}
+use Rattle.infer_expr.specs.Walks.{IsFree}
+
+-- ---- lists of what is recorded, each under a function
+
+module _ {A B : Type 0} (f : A → B) where
+  pub At-closed : (xs : List (Option A)) (n : ℕ) (x : A) → At xs n x → At (map (option_map f) xs) n (f x)
+  At-closed xs n x h = slice_get-map (option_map f) xs n ∙ ap (option_map (option_map f)) h
+
+  pub At-unclosed : (xs : List (Option A)) (n : ℕ) (y : B) → At (map (option_map f) xs) n y → (x : A) × At xs n x × (f x ≡ y)
+  At-unclosed [] n y h = absurd (cc)
+  At-unclosed (None ∷ xs) zero y h = absurd (cc)
+  At-unclosed (Some x ∷ xs) zero y h = (x, refl, cc)
+  At-unclosed (o ∷ xs) (suc n) y h = At-unclosed xs n y h
+
+  pub free-closed : (xs : List (Option A)) (n : ℕ) → IsFree xs n → IsFree (map (option_map f) xs) n
+  free-closed xs n h = slice_get-map (option_map f) xs n ∙ ap (option_map (option_map f)) h
+
+  pub free-unclosed : (xs : List (Option A)) (n : ℕ) → IsFree (map (option_map f) xs) n → IsFree xs n
+  free-unclosed [] n h = absurd (cc)
+  free-unclosed (None ∷ xs) zero h = refl
+  free-unclosed (Some x ∷ xs) zero h = absurd (cc)
+  free-unclosed (o ∷ xs) (suc n) h = free-unclosed xs n h
+
+  -- what two lists have alike
+  pub kept-closed : (xs ys : List (Option A)) (n : ℕ) → slice_get xs n ≡ slice_get ys n → slice_get (map (option_map f) xs) n ≡ slice_get (map (option_map f) ys) n
+  kept-closed xs ys n h = slice_get-map (option_map f) xs n ∙ (ap (option_map (option_map f)) h ∙ sym (slice_get-map (option_map f) ys n))
+
+  pub length-closed : (xs : List (Option A)) → length (map (option_map f) xs) ≡ length xs
+  length-closed xs = length-map xs (option_map f)
+
+  pub set-closed : (xs : List (Option A)) (n : ℕ) (x : A) → map (option_map f) (slice_set xs n (Some x)) ≡ slice_set (map (option_map f) xs) n (Some (f x))
+  set-closed xs n x = map-set (option_map f) xs n (Some x)
+
+-- ---- tables of a body
+
+pub of_body_closed : (a : Assignment) (b : RawBody) (r : InferenceResult) → IsOfBody b r → IsOfBody b (closed_table a r)
+of_body_closed a b r h = record {
+  exprs = length-closed (folded a) r.type_of_expr ∙ h.exprs;
+  pats = length-closed (folded a) r.type_of_pat ∙ h.pats;
+  bindings = length-closed (folded a) r.type_of_binding ∙ h.bindings;
+  modes = h.modes;
+  mismatches = length-closed (closed_mismatch a) r.expr_mismatches ∙ h.mismatches;
+}
+
+pub of_body_unclosed : (a : Assignment) (b : RawBody) (r : InferenceResult) → IsOfBody b (closed_table a r) → IsOfBody b r
+of_body_unclosed a b r h = record {
+  exprs = sym (length-closed (folded a) r.type_of_expr) ∙ h.exprs;
+  pats = sym (length-closed (folded a) r.type_of_pat) ∙ h.pats;
+  bindings = sym (length-closed (folded a) r.type_of_binding) ∙ h.bindings;
+  modes = h.modes;
+  mismatches = sym (length-closed (closed_mismatch a) r.expr_mismatches) ∙ h.mismatches;
+}
+
+-- a write leaves the lists as long as they are
+module _ (b : RawBody) (c : InferenceContext) (h : IsOfBody b c.result) where
+  pub of_body_expr_ty : (e : ExprId) (t : Ty) → IsOfBody b (context.with_expr_ty c e t).result
+  of_body_expr_ty e t = record {
+    exprs = length-set c.result.type_of_expr e.0 (Some t) ∙ h.exprs;
+    pats = h.pats;
+    bindings = h.bindings;
+    modes = h.modes;
+    mismatches = h.mismatches;
+  }
+
+  pub of_body_mismatch : (e : ExprId) (m : TypeMismatch) → IsOfBody b (context.with_mismatch c e m).result
+  of_body_mismatch e m = record {
+    exprs = h.exprs;
+    pats = h.pats;
+    bindings = h.bindings;
+    modes = h.modes;
+    mismatches = length-set c.result.expr_mismatches e.0 (Some m) ∙ h.mismatches;
+  }
+
+  pub of_body_pat_ty : (p : PatId) (t : Ty) → IsOfBody b (context.with_pat_ty c p t).result
+  of_body_pat_ty p t = record {
+    exprs = h.exprs;
+    pats = length-set c.result.type_of_pat p.0 (Some t) ∙ h.pats;
+    bindings = h.bindings;
+    modes = h.modes;
+    mismatches = h.mismatches;
+  }
+
+  pub of_body_mode : (p : PatId) (m : BindingMode) → IsOfBody b (context.with_mode c p m).result
+  of_body_mode p m = record {
+    exprs = h.exprs;
+    pats = h.pats;
+    bindings = h.bindings;
+    modes = length-set c.result.binding_modes p.0 (Some m) ∙ h.modes;
+    mismatches = h.mismatches;
+  }
+
+  pub of_body_binding_ty : (v : BindingId) (t : Ty) → IsOfBody b (context.with_binding_ty c v t).result
+  of_body_binding_ty v t = record {
+    exprs = h.exprs;
+    pats = h.pats;
+    bindings = length-set c.result.type_of_binding v.0 (Some t) ∙ h.bindings;
+    modes = h.modes;
+    mismatches = h.mismatches;
+  }
+
+pub of_body_bound_by : (b : RawBody) (c : InferenceContext) (p : PatId) (v : BindingId) (t : Ty) → IsOfBody b c.result → IsOfBody b (context.bound_by c p v t).result
+of_body_bound_by b c p v t h =
+    let d = context.with_mode c p mode.Move in
+    let e = context.with_pat_ty d p t in
+    of_body_binding_ty b e (of_body_pat_ty b d (of_body_mode b c h p mode.Move) p t) v t
+
+-- ---- writes, under an assignment
+
+module _ (a : Assignment) (c : InferenceContext) where
+  pub entered_under : found_under a (context.entered c) ≡ found.entered (found_under a c)
+  entered_under = refl
+
+  pub expr_ty_under : (e : ExprId) (t : Ty) → found_under a (context.with_expr_ty c e t) ≡ found.with_expr_ty (found_under a c) e (folded a t)
+  expr_ty_under e t = ap (λ xs. record { result = record (closed_table a c.result) { type_of_expr = xs }; clock = c.clock }) (set-closed (folded a) c.result.type_of_expr e.0 t)
+
+  pub mismatch_under : (e : ExprId) (m : TypeMismatch) → found_under a (context.with_mismatch c e m) ≡ found.with_mismatch (found_under a c) e (closed_mismatch a m)
+  mismatch_under e m = ap (λ xs. record { result = record (closed_table a c.result) { expr_mismatches = xs }; clock = c.clock }) (set-closed (closed_mismatch a) c.result.expr_mismatches e.0 m)
+
+  pub pat_ty_under : (p : PatId) (t : Ty) → found_under a (context.with_pat_ty c p t) ≡ found.with_pat_ty (found_under a c) p (folded a t)
+  pat_ty_under p t = ap (λ xs. record { result = record (closed_table a c.result) { type_of_pat = xs }; clock = c.clock }) (set-closed (folded a) c.result.type_of_pat p.0 t)
+
+  pub mode_under : (p : PatId) (m : BindingMode) → found_under a (context.with_mode c p m) ≡ found.with_mode (found_under a c) p m
+  mode_under p m = refl
+
+  pub binding_ty_under : (v : BindingId) (t : Ty) → found_under a (context.with_binding_ty c v t) ≡ found.with_binding_ty (found_under a c) v (folded a t)
+  binding_ty_under v t = ap (λ xs. record { result = record (closed_table a c.result) { type_of_binding = xs }; clock = c.clock }) (set-closed (folded a) c.result.type_of_binding v.0 t)
+
+pub bound_by_under : (a : Assignment) (c : InferenceContext) (p : PatId) (v : BindingId) (t : Ty) → found_under a (context.bound_by c p v t) ≡ found.bound_by (found_under a c) p v (folded a t)
+bound_by_under a c p v t =
+    let d = context.with_mode c p mode.Move in
+    binding_ty_under a (context.with_pat_ty d p t) v t ∙ ap (λ x. found.with_binding_ty x v (folded a t)) (pat_ty_under a d p t)
+
+-- ---- assignments that close a context
+
+-- the table is all that counts
+pub closes_same : (a : Assignment) (c d : InferenceContext) → c.table ≡ d.table → Closes a c → Closes a d
+closes_same a c d e h = record {
+  closing = h.closing;
+  meets = (let P : State → Type 0 = Meets (terms_of a) in subst P e h.meets);
+}
+
+pub meets_earlier : (s : Hole → Term) (old new : State) → Grew old new → Meets s new → Meets s old
+meets_earlier s old new g h =
+    let P : Log → Type 0 = Solves s in
+    solves_left s (log_of (bindings old)) (log_of g.log.0) (subst P (ap log_of g.log.1 ∙ map-append entry (bindings old) g.log.0) h)
+
+-- what is found out later leaves fewer assignments
+pub closes_earlier : (a : Assignment) (old new : InferenceContext) → Grew old.table new.table → Closes a new → Closes a old
+closes_earlier a old new g h = record {
+  closing = h.closing;
+  meets = meets_earlier (terms_of a) old.table new.table g h.meets;
+}
+
+-- ---- soundness
+
+set_keeps : {A : Type 0} (P : A → Type 0) (xs : List (Option A)) (n : ℕ) (x : A) → ((m : ℕ) (y : A) → At xs m y → P y) → P x → (m : ℕ) (y : A) → At (slice_set xs n (Some x)) m y → P y
+set_keeps P [] n x all h m y k = all m y k
+set_keeps P (o ∷ xs) zero x all h zero y k = (let e : x ≡ y = cc in subst P e h)
+set_keeps P (o ∷ xs) zero x all h (suc m) y k = all (suc m) y k
+set_keeps P (o ∷ xs) (suc n) x all h zero y k = all zero y k
+set_keeps P (o ∷ xs) (suc n) x all h (suc m) y k = set_keeps P xs n x (λ i z l. all (suc i) z l) h m y k
+
+-- another table of fine types, and another clock
+pub sound_with : (c : InferenceContext) (r : InferenceResult) (n : ℕ) → IsSound c → AllTypes (IsFine c.table) r → IsSound (record c { result = r; clock = n })
+sound_with c r n s h = record {
+  fine = h;
+  bound = s.bound;
+  some = (s.some.0, closes_same s.some.0 c (record c { result = r; clock = n }) refl s.some.1);
+}
+
+module _ (c : InferenceContext) (s : IsSound c) where
+  pub sound_entered : IsSound (context.entered c)
+  sound_entered = sound_with c c.result (context.entered c).clock s s.fine
+
+  pub sound_expr_ty : (e : ExprId) (t : Ty) → IsFine c.table t → IsSound (context.with_expr_ty c e t)
+  sound_expr_ty e t h = sound_with c (context.with_expr_ty c e t).result c.clock s (record {
+    exprs = set_keeps (IsFine c.table) c.result.type_of_expr e.0 t s.fine.exprs h;
+    pats = s.fine.pats;
+    bindings = s.fine.bindings;
+    expected = s.fine.expected;
+    actual = s.fine.actual;
+  })
+
+  pub sound_mismatch : (e : ExprId) (m : TypeMismatch) → IsFine c.table m.expected → IsFine c.table m.actual → IsSound (context.with_mismatch c e m)
+  sound_mismatch e m h k = sound_with c (context.with_mismatch c e m).result c.clock s (record {
+    exprs = s.fine.exprs;
+    pats = s.fine.pats;
+    bindings = s.fine.bindings;
+    expected = set_keeps (λ x. IsFine c.table x.expected) c.result.expr_mismatches e.0 m s.fine.expected h;
+    actual = set_keeps (λ x. IsFine c.table x.actual) c.result.expr_mismatches e.0 m s.fine.actual k;
+  })
+
+  pub sound_pat_ty : (p : PatId) (t : Ty) → IsFine c.table t → IsSound (context.with_pat_ty c p t)
+  sound_pat_ty p t h = sound_with c (context.with_pat_ty c p t).result c.clock s (record {
+    exprs = s.fine.exprs;
+    pats = set_keeps (IsFine c.table) c.result.type_of_pat p.0 t s.fine.pats h;
+    bindings = s.fine.bindings;
+    expected = s.fine.expected;
+    actual = s.fine.actual;
+  })
+
+  pub sound_mode : (p : PatId) (m : BindingMode) → IsSound (context.with_mode c p m)
+  sound_mode p m = sound_with c (context.with_mode c p m).result c.clock s (record {
+    exprs = s.fine.exprs;
+    pats = s.fine.pats;
+    bindings = s.fine.bindings;
+    expected = s.fine.expected;
+    actual = s.fine.actual;
+  })
+
+  pub sound_binding_ty : (v : BindingId) (t : Ty) → IsFine c.table t → IsSound (context.with_binding_ty c v t)
+  sound_binding_ty v t h = sound_with c (context.with_binding_ty c v t).result c.clock s (record {
+    exprs = s.fine.exprs;
+    pats = s.fine.pats;
+    bindings = set_keeps (IsFine c.table) c.result.type_of_binding v.0 t s.fine.bindings h;
+    expected = s.fine.expected;
+    actual = s.fine.actual;
+  })
+
+pub sound_bound_by : (c : InferenceContext) (p : PatId) (v : BindingId) (t : Ty) → IsSound c → IsFine c.table t → IsSound (context.bound_by c p v t)
+sound_bound_by c p v t s h =
+    let d = context.with_mode c p mode.Move in
+    let e = context.with_pat_ty d p t in
+    sound_binding_ty e (sound_pat_ty d (sound_mode c s p mode.Move) p t h) v t h

@@ -1,0 +1,124 @@
+-- New holes, and the types of literals.
+use Rattle.std.proofs.Common.{ℕ, ◌≡◌, refl, ap, ◌∙◌, Some, None}
+use Rattle.hir_types.specs.declared.head.HoleKind.{HoleKind}
+use Rattle.hir_types.specs.declared.head.HoleKind.TheVariants as kind
+use Rattle.hir_types.specs.declared.ty.IntegerTy.{IntegerTy}
+use Rattle.hir_types.specs.declared.ty.Ty.{Ty}
+use Rattle.hir_types.specs.declared.ty.Ty.TheVariants as ty
+use Rattle.hir_types.specs.Folding.{replaced_int_var}
+use Rattle.hir_types.specs.Subst.{with_holes}
+use Rattle.hir_types.specs.Types.{integer_type}
+use Rattle.hir_facts.specs.CarriedTypes.{carried_bool, carried_char, carried_integer}
+use Rattle.hir_facts.specs.declared.raw.RawLiteral.TheVariants as literal
+use Rattle.hir_types.specs.declared.ids.TypeRefId.{TypeRefId}
+use Rattle.hir_facts.specs.Types.{written_type}
+use Rattle.infer_result.specs.Places.{Given}
+use Rattle.infer_table.specs.HoleLaws.{grew_by_hole}
+use Rattle.infer_table.specs.Table.{with_new_hole, hole_count}
+use Rattle.infer_table.specs.UndoLaws.{grew_itself}
+use Rattle.infer_expr.specs.declared.context.InferenceContext.{InferenceContext}
+use Rattle.infer_expr.specs.Closings.{IsSound}
+use Rattle.infer_expr.specs.Fine.{IsWritten}
+use Rattle.infer_expr.specs.Steps.{IntDone, LiteralDone, DeclaredDone}
+use Rattle.infer_expr.proofs.FineTypes.{fine_bool, fine_char, fine_integer, fine_hole, fine_int_hole, written_fine, table_fine_grown, carried_closed}
+use Rattle.infer_expr.proofs.Unified.{with_table}
+
+-- with one hole more
+abbrev pub holed : InferenceContext → HoleKind → InferenceContext
+holed c k = with_table c (with_new_hole c.table k)
+
+pub holed_sound : (c : InferenceContext) (k : HoleKind) → IsSound c → IsSound (holed c k)
+holed_sound c k s = record {
+  fine = table_fine_grown c.table (with_new_hole c.table k) c.result (grew_by_hole c.table k) s.fine;
+  bound = s.bound;
+  some = (s.some.0, record { closing = s.some.1.closing; meets = s.some.1.meets });
+}
+
+-- ---- integers
+
+pub known_int : (c : InferenceContext) (i : IntegerTy) → IsSound c → IntDone (integer_type i) c c
+known_int c i s = record {
+  result = refl;
+  clock = refl;
+  grew = grew_itself c.table;
+  sound = s;
+  fine = fine_integer c.table i;
+  each = λ a k. (i, carried_closed a (integer_type i) (carried_integer i));
+}
+
+pub int_hole : (c : InferenceContext) → IsSound c → IntDone (ty.IntVar (hole_count c.table)) c (holed c kind.Int)
+int_hole c s = record {
+  result = refl;
+  clock = refl;
+  grew = grew_by_hole c.table kind.Int;
+  sound = holed_sound c kind.Int s;
+  fine = fine_int_hole c.table;
+  each = λ a k.
+      let q = k.int_var (hole_count c.table) in
+      (q.0, replaced_int_var (with_holes a) (hole_count c.table) ∙ q.1);
+}
+
+-- ---- literals
+
+module _ (c : InferenceContext) (s : IsSound c) where
+  pub bool_literal : (b : _) → LiteralDone (literal.Bool b) ty.Bool c c
+  bool_literal b = record {
+    result = refl;
+    clock = refl;
+    grew = grew_itself c.table;
+    sound = s;
+    fine = fine_bool c.table;
+    each = λ a k. carried_closed a ty.Bool carried_bool;
+  }
+
+  pub char_literal : (n : ℕ) → LiteralDone (literal.Char n) ty.Char c c
+  char_literal n = record {
+    result = refl;
+    clock = refl;
+    grew = grew_itself c.table;
+    sound = s;
+    fine = fine_char c.table;
+    each = λ a k. carried_closed a ty.Char carried_char;
+  }
+
+  pub suffixed_literal : (digits : _) (i : IntegerTy) → LiteralDone (literal.Int digits (Some i)) (integer_type i) c c
+  suffixed_literal digits i = record {
+    result = refl;
+    clock = refl;
+    grew = grew_itself c.table;
+    sound = s;
+    fine = fine_integer c.table i;
+    each = λ a k. carried_closed a (integer_type i) (carried_integer i);
+  }
+
+pub unsuffixed_literal : (digits : _) (t : Ty) (old new : InferenceContext) → IntDone t old new → LiteralDone (literal.Int digits None) t old new
+unsuffixed_literal digits t old new d = record {
+  result = d.result;
+  clock = d.clock;
+  grew = d.grew;
+  sound = d.sound;
+  fine = d.fine;
+  each = d.each;
+}
+
+-- ---- the types of patterns without an initializer
+
+pub declared_written : (g : Given) (w : TypeRefId) (c : InferenceContext) → IsSound c → IsWritten g.types w → DeclaredDone g (Some w) (written_type g.types w) c c
+declared_written g w c s h = record {
+  result = refl;
+  clock = refl;
+  grew = grew_itself c.table;
+  sound = s;
+  fine = written_fine c.table g.types w h;
+  written = λ y e. (let f : w ≡ y = cc in ap (written_type g.types) f);
+}
+
+pub declared_hole : (g : Given) (c : InferenceContext) → IsSound c → DeclaredDone g None (ty.Var (hole_count c.table)) c (holed c kind.Ty)
+declared_hole g c s = record {
+  result = refl;
+  clock = refl;
+  grew = grew_by_hole c.table kind.Ty;
+  sound = holed_sound c kind.Ty s;
+  fine = fine_hole c.table;
+  written = λ y e. absurd (cc);
+}

@@ -1,0 +1,68 @@
+-- The loop over the parameters.
+use Rattle.std.proofs.Common.{ℕ, ◌+◌, ◌<◌, ◌≤◌, ◌≡◌, refl, subst, arith, length, get_or, Some, slice_get}
+use Rattle.std.proofs.lemmas.Option.{slice_get_read}
+use Rattle.hir_types.specs.declared.ids.PatId.{PatId}
+use Rattle.hir_types.specs.declared.ids.TypeRefId.{TypeRefId}
+use Rattle.hir_types.specs.Subst.{Assignment}
+use Rattle.hir_facts.specs.CarriedTypes.{written_carried}
+use Rattle.hir_facts.specs.Types.{written_type}
+use Rattle.hir_facts.specs.declared.schedule.Schedule.{Schedule}
+use Rattle.infer_result.specs.Places.{Given}
+use Rattle.infer_expr.specs.declared.context.InferenceContext.{InferenceContext}
+use Rattle.infer_expr.specs.Closings.{Closes, found_under}
+use Rattle.infer_expr.specs.Fine.{IsWritten}
+use Rattle.infer_expr.specs.Steps.{IsWalking, Follows, BeforePat, PatDone, BeforeParams, ParamsDone}
+use Rattle.infer_expr.specs.Under as under
+use Rattle.infer_expr.proofs.AtEach.{follows_itself, follows_twice, closes_before, walking_after}
+use Rattle.infer_expr.proofs.FineTypes.{written_fine, carried_closed}
+use Rattle.infer_expr.proofs.Params.{ParamsLoop, params_start, param_before, param_next, params_end}
+
+-- the first i parameters have their written types, and the others and the root lie ahead
+pub record ParamsWalk (g : Given) (s : Schedule) (i : ℕ) (mid c : InferenceContext) : Type 0 where
+  pub follows : Follows g.body mid c
+  pub each : (a : Assignment) → Closes a c → ParamsLoop g s i (found_under a mid) (found_under a c)
+
+pub begins_params : (g : Given) (s : Schedule) (c : InferenceContext) → BeforeParams g s c → ParamsWalk g s 0 c c
+begins_params g s c h = record {
+  follows = follows_itself g.body c h.state.of_body h.state.sound;
+  each = λ a k. params_start g s (found_under a c) (record { ready = h.ready; count = h.count; state = h.state.each a k; ahead = h.ahead });
+}
+
+module _ (g : Given) (s : Schedule) (i : ℕ) (mid c : InferenceContext) (h : ParamsWalk g s i mid c) where
+  walking : IsWalking g s c
+  walking = walking_after g s mid c h.follows (λ a l. (h.each a l).walks.state)
+
+  module _ (b : BeforeParams g s mid) (k : i < length g.body.params) (w : TypeRefId) (at : w ≡ get_or g.inputs i w) where
+    input_at : slice_get g.inputs i ≡ Some w
+    input_at = slice_get_read g.inputs _ i w refl (omega (arith, k, b.count)) at
+
+    pub param_written : IsWritten g.types w
+    param_written = b.ready.written.inputs i w input_at
+
+    module _ (p : PatId) (is : p ≡ get_or g.body.params i p) where
+      pub comes_to_param : BeforePat g s p (written_type g.types w) c
+      comes_to_param =
+          let q = h.follows.sound.some in
+          let here = param_before g s i (found_under q.0 mid) (found_under q.0 c) (h.each q.0 q.1) b.ready p is k (written_type g.types w) (written_carried g.types w) in
+          record {
+            ready = b.ready;
+            state = walking;
+            within = here.within;
+            here = here.here;
+            fine = written_fine c.table g.types w param_written;
+          }
+
+      pub goes_past_param : (next : InferenceContext) → PatDone g s p (written_type g.types w) c next → ParamsWalk g s (i + 1) mid next
+      goes_past_param next d = record {
+        follows = follows_twice g.body mid c next h.follows d.follows;
+        each = λ a q.
+            let l : Closes a c = closes_before g.body a c next d.follows q in
+            param_next g s i (found_under a mid) (found_under a c) (h.each a l) b.ready p is k (written_type g.types w) (found_under a next) (w, input_at, refl)
+            (subst (λ u. under.PatDone g s p u (found_under a c) (found_under a next)) (carried_closed a (written_type g.types w) (written_carried g.types w)) (d.each a q));
+      }
+
+  pub ends_params : length g.body.params ≤ i → ParamsDone g s mid c
+  ends_params over = record {
+    follows = h.follows;
+    each = λ a q. params_end g s i (found_under a mid) (found_under a c) (h.each a q) over;
+  }

@@ -1,0 +1,71 @@
+-- The loop over the elements of a tuple.
+use Rattle.std.proofs.Common.{ℕ, ◌+◌, ◌<◌, ◌≤◌, ◌≡◌, refl, sym, ap, subst, List, [], ◌∷◌, ◌++◌, length, map, get_or, Option}
+use Rattle.hir_types.specs.declared.ids.ExprId.{ExprId}
+use Rattle.hir_types.specs.declared.ty.Ty.{Ty}
+use Rattle.hir_types.specs.declared.ty.Ty.TheVariants as ty
+use Rattle.hir_types.specs.Subst.{Assignment, folded, with_holes}
+use Rattle.hir_types.specs.Folding.{replaced_tuple}
+use Rattle.hir_facts.specs.declared.schedule.Schedule.{Schedule}
+use Rattle.infer_result.specs.Places.{Given}
+use Rattle.infer_expr.specs.declared.context.InferenceContext.{InferenceContext}
+use Rattle.infer_expr.specs.Context.{element_type}
+use Rattle.infer_expr.specs.Closings.{Closes, found_under, expected_under}
+use Rattle.infer_expr.specs.Fine.{IsFineExpectation}
+use Rattle.infer_expr.specs.Steps.{Follows, Before, Within, KindDone, CoerceDone}
+use Rattle.infer_expr.specs.Under as under
+use Rattle.infer_expr.proofs.AtEach.{follows_itself, follows_twice, closes_before, walking_after, expected_carried, within_under}
+use Rattle.infer_expr.proofs.FineTypes.{AllFine, all_fine_grown, fine_push, fine_tuple, fine_element, fine_expectation_grown}
+use Rattle.infer_expr.proofs.Tuples.{TupleLoop, tuple_start, tuple_before, tuple_next, tuple_done}
+
+-- the first i elements of the tuple n have the types ts, and the others lie ahead
+pub record TupleWalk (g : Given) (s : Schedule) (n : ExprId) (es : List ExprId) (i : ℕ) (ts : List Ty) (mid c : InferenceContext) : Type 0 where
+  pub follows : Follows g.body mid c
+  pub fine : AllFine c.table ts
+  pub each : (a : Assignment) → Closes a c → TupleLoop g s n es i (map (folded a) ts) (found_under a mid) (found_under a c)
+
+pub begins_tuple : (g : Given) (s : Schedule) (n : ExprId) (es : List ExprId) (x : Option Ty) (c : InferenceContext) → Within g s n x c → under.IsTupleOf g.body n es → TupleWalk g s n es 0 [] c c
+begins_tuple g s n es x c h is = record {
+  follows = follows_itself g.body c h.state.of_body h.state.sound;
+  fine = tt;
+  each = λ a k. tuple_start g s n es (expected_under a x) (found_under a c) (within_under g s a c k n x h) is;
+}
+
+push_each : (a : Assignment) (ts : List Ty) (t : Ty) → map (folded a) (ts ++ t ∷ []) ≡ map (folded a) ts ++ folded a t ∷ []
+push_each a [] t = refl
+push_each a (u ∷ ts) t = ap (λ us. folded a u ∷ us) (push_each a ts t)
+
+module _ (g : Given) (s : Schedule) (n : ExprId) (es : List ExprId) (i : ℕ) (ts : List Ty) (mid c : InferenceContext) (h : TupleWalk g s n es i ts mid c) where
+  expected : (x : Option Ty) → Within g s n x mid → IsFineExpectation c.table (element_type x i)
+  expected x w = fine_element c.table x i (fine_expectation_grown mid.table c.table x h.follows.grew w.expected)
+
+  pub comes_to_element : (x : Option Ty) → Within g s n x mid → (e : ExprId) → e ≡ get_or es i e → i < length es → Before g s e (element_type x i) c
+  comes_to_element x w e is k =
+      let q = h.follows.sound.some in
+      let here = tuple_before g s n es i (map (folded q.0) ts) (found_under q.0 mid) (found_under q.0 c) (h.each q.0 q.1) (expected_under q.0 (element_type x i)) (expected_carried q.0 c.table (element_type x i) q.1.closing (expected x w)) w.ready e is k in
+      record {
+        ready = w.ready;
+        state = walking_after g s mid c h.follows (λ a l. (h.each a l).walks.state);
+        within = here.within;
+        here = here.here;
+        expected = expected x w;
+      }
+
+  pub goes_past_element : (x : Option Ty) → Within g s n x mid → (e : ExprId) (t : Ty) (next : InferenceContext) → e ≡ get_or es i e → i < length es → CoerceDone g s e (element_type x i) t c next → TupleWalk g s n es (i + 1) (ts ++ t ∷ []) mid next
+  goes_past_element x w e t next is k d = record {
+    follows = follows_twice g.body mid c next h.follows d.follows;
+    fine = fine_push next.table ts t (all_fine_grown c.table next.table ts d.follows.grew h.fine) d.fine;
+    each = λ a q.
+        let l : Closes a c = closes_before g.body a c next d.follows q in
+        subst (λ us. TupleLoop g s n es (i + 1) us (found_under a mid) (found_under a next)) (sym (push_each a ts t))
+        (tuple_next g s n es i (map (folded a) ts) (found_under a mid) (found_under a c) (h.each a l) (expected_under a (element_type x i)) (expected_carried a c.table (element_type x i) l.closing (expected x w)) e (folded a t) (found_under a next) is k (d.each a q));
+  }
+
+  pub ends_tuple : (x : Option Ty) → Within g s n x mid → under.IsTupleOf g.body n es → length es ≤ i → KindDone g s n x (ty.Tuple ts) mid c
+  ends_tuple x w is over = record {
+    follows = h.follows;
+    fine = fine_tuple c.table ts h.fine;
+    each = λ a q.
+        let o : Closes a mid = closes_before g.body a mid c h.follows q in
+        subst (λ t. under.KindDone g s n (expected_under a x) t (found_under a mid) (found_under a c)) (sym (replaced_tuple (with_holes a) ts))
+        (tuple_done g s n es i (map (folded a) ts) (found_under a mid) (found_under a c) (h.each a q) (expected_under a x) (within_under g s a mid o n x w) is over);
+  }

@@ -1,0 +1,111 @@
+-- Two types unified, or refused, at an expression.
+use Rattle.std.proofs.Common.{◌≡◌, inl, inr, refl, sym, ap, subst, arith}
+use Rattle.hir_types.specs.declared.head.Head.TheVariants as head
+use Rattle.hir_types.specs.declared.head.Hole.{Hole}
+use Rattle.hir_types.specs.declared.head.Hole.TheVariants as hole_of
+use Rattle.hir_types.specs.declared.ids.ExprId.{ExprId}
+use Rattle.hir_types.specs.declared.ty.IntTy.TheVariants as int
+use Rattle.hir_types.specs.declared.ty.IntegerTy.{IntegerTy}
+use Rattle.hir_types.specs.declared.ty.IntegerTy.TheVariants.{Int, Uint}
+use Rattle.hir_types.specs.declared.ty.Ty.{Ty}
+use Rattle.hir_types.specs.Subst.{folded}
+use Rattle.hir_types.specs.Terms.{hole, term, terms_of, IsInt}
+use Rattle.hir_types.specs.TermLaws.{term_bool, term_char, term_error, term_tuple}
+use Rattle.hir_types.specs.Types.{integer_type}
+use Rattle.hir_facts.specs.CarriedTypes.{IsCarriedType, carried_error, carried_integer}
+use Rattle.hir_facts.specs.declared.raw.RawBody.{RawBody}
+use Rattle.infer_table.specs.Completion.{completion, fallback}
+use Rattle.infer_table.specs.Preserved.{HasOnly, BindsOnly, has_only_resolved, unified_same, refused_apart, binds_only_unified}
+use Rattle.infer_table.specs.Resolution.{resolution, resolution_terms}
+use Rattle.infer_table.specs.Solutions.{Respects, log_of}
+use Rattle.infer_table.specs.Table.{State, bindings, Meets, AreUnified, AreRefused}
+use Rattle.infer_result.specs.Closed.{IsOfBody}
+use Rattle.infer_result.specs.Table.{mismatch}
+use Rattle.infer_expr.specs.declared.context.InferenceContext.{InferenceContext}
+use Rattle.infer_expr.specs.Context.{with_mismatch}
+use Rattle.infer_expr.specs.Closings.{IsClosing, Closes, IsSound}
+use Rattle.infer_expr.specs.Fine.{is_fine_head, HasFineHeads, IsFine}
+use Rattle.infer_expr.specs.Steps.{IsCoerced}
+use Rattle.infer_expr.proofs.AtEach.{follows_itself}
+use Rattle.infer_expr.proofs.Closed.{mismatch_under, of_body_mismatch, sound_mismatch}
+use Rattle.infer_expr.proofs.FineTypes.{CarriedCases, over_carried, heads_carried, table_fine_grown, same_closed, apart_closed, closing_respects, fine_no_alias}
+
+-- ---- the completion of holes closes the context
+
+integer_of : CarriedCases (λ t. IsInt (term t) → (i : IntegerTy) × (t ≡ integer_type i))
+integer_of = record {
+  bool = λ h. absurd (subst IsInt term_bool h);
+  char = λ h. absurd (subst IsInt term_char h);
+  int = λ i h. (Int i, refl);
+  uint = λ i h. (Uint i, refl);
+  error = λ h. absurd (subst IsInt term_error h);
+  tuple = λ ts all h. absurd (subst IsInt (term_tuple ts) h);
+}
+
+bound_heads : (state : State) (k : Hole) → BindsOnly is_fine_head (log_of (bindings state)) → HasOnly is_fine_head (terms_of (resolution (bindings state)) k)
+bound_heads state k h = subst (λ t. HasOnly is_fine_head t) (sym (resolution_terms (bindings state) k)) (has_only_resolved is_fine_head (log_of (bindings state)) (hole k) h tt)
+
+completed_carried : (t : Ty) → HasFineHeads t → IsCarriedType (folded fallback t)
+completed_carried t h = heads_carried fallback (λ n. carried_error) (λ n. carried_integer (Int int.I32)) t h
+
+pub completion_closing : (state : State) → BindsOnly is_fine_head (log_of (bindings state)) → Respects (terms_of (completion state)) → IsClosing (completion state)
+completion_closing state h r = record {
+  var = λ n. completed_carried ((resolution (bindings state)).var n) (bound_heads state (hole_of.Ty n) h);
+  int_var = λ n.
+      let t : Ty = (completion state).int_var n in
+      let k : IsCarriedType t = completed_carried ((resolution (bindings state)).int_var n) (bound_heads state (hole_of.Int n) h) in
+      over_carried (λ t. IsInt (term t) → (i : IntegerTy) × (t ≡ integer_type i)) integer_of t k (r (hole_of.Int n) tt);
+}
+
+pub completion_closes : (c : InferenceContext) → IsSound c → Meets (terms_of (completion c.table)) c.table → Respects (terms_of (completion c.table)) → Closes (completion c.table) c
+completion_closes c s m r = record { closing = completion_closing c.table s.bound r; meets = m }
+
+-- ---- coercions
+
+pub same_coerced : (b : RawBody) (e : ExprId) (t u : Ty) (c : InferenceContext) → IsOfBody b c.result → IsSound c → t ≡ u → IsCoerced b e t u c c
+same_coerced b e t u c h s is = record {
+  follows = follows_itself b c h s;
+  clock = refl;
+  each = λ a q. inl (ap (folded a) is, refl);
+}
+
+abbrev pub with_table : InferenceContext → State → InferenceContext
+with_table c state = record c { table = state }
+
+module _ (b : RawBody) (e : ExprId) (t u : Ty) (c : InferenceContext) (h : IsOfBody b c.result) (s : IsSound c) (ft : IsFine c.table t) (fu : IsFine c.table u) where
+  pub unified_coerced : (after : State) → AreUnified c.table after t u → Meets (terms_of (completion after)) after → Respects (terms_of (completion after)) → IsCoerced b e t u c (with_table c after)
+  unified_coerced after k m r =
+      let bound = binds_only_unified is_fine_head fine_no_alias head.Bool refl c.table after t u k (terms_of (completion after)) m s.bound ft.heads fu.heads in
+      record {
+        follows = record {
+          clock = omega arith;
+          grew = k.grown;
+          of_body = h;
+          sound = record {
+            fine = table_fine_grown c.table after c.result k.grown s.fine;
+            bound = bound;
+            some = (completion after, record { closing = completion_closing after bound r; meets = m });
+          };
+        };
+        clock = refl;
+        each = λ a q. inl (
+          same_closed a t u q.closing ft.heads fu.heads (unified_same is_fine_head c.table after t u fine_no_alias s.bound ft.heads fu.heads k (terms_of a) q.meets),
+          refl,
+        );
+      }
+
+  pub refused_coerced : (after : State) → AreRefused c.table after t u → IsCoerced b e t u c (with_mismatch (with_table c after) e (mismatch u t))
+  refused_coerced after k =
+      subst (λ state. IsCoerced b e t u c (with_mismatch (with_table c state) e (mismatch u t))) (sym k.unchanged) (record {
+        follows = record {
+          clock = omega arith;
+          grew = (follows_itself b c h s).grew;
+          of_body = of_body_mismatch b c h e (mismatch u t);
+          sound = sound_mismatch c s e (mismatch u t) fu ft;
+        };
+        clock = refl;
+        each = λ a q. inr (
+          λ same. refused_apart is_fine_head c.table t u fine_no_alias s.bound ft.heads fu.heads k.impossible (terms_of a) (closing_respects a q.closing) q.meets (sym (apart_closed a u t same)),
+          mismatch_under a c e (mismatch u t),
+        );
+      })

@@ -1,0 +1,59 @@
+-- What a context comes to under an assignment of closed types to its holes.
+use Rattle.std.specs.Prelude.{◌≡◌, ℕ, List, map, Option, option_map}
+use Rattle.hir_types.specs.declared.ty.IntegerTy.{IntegerTy}
+use Rattle.hir_types.specs.declared.ty.Ty.{Ty}
+use Rattle.hir_types.specs.Subst.{Assignment, folded}
+use Rattle.hir_types.specs.Terms.{terms_of}
+use Rattle.hir_types.specs.Types.{integer_type}
+use Rattle.hir_facts.specs.CarriedTypes.{IsCarriedType}
+use Rattle.infer_table.specs.Solutions.{log_of}
+use Rattle.infer_table.specs.Table.{bindings, Meets}
+use Rattle.infer_table.specs.Preserved.{BindsOnly}
+use Rattle.infer_result.specs.declared.result.InferenceResult.{InferenceResult}
+use Rattle.infer_result.specs.declared.result.TypeMismatch.{TypeMismatch}
+use Rattle.infer_result.specs.Table.{mismatch}
+use Rattle.infer_result.specs.Closed.{AllTypes}
+use Rattle.infer_expr.specs.declared.context.InferenceContext.{InferenceContext}
+use Rattle.infer_expr.specs.Fine.{is_fine_head, IsFine}
+use Rattle.infer_expr.specs.Found.{Found}
+
+-- closed types of the carried kinds stand for holes, integer types for holes of integer types
+pub record IsClosing (a : Assignment) : Type 0 where
+  pub var : (n : ℕ) → IsCarriedType (a.var n)
+  pub int_var : (n : ℕ) → (i : IntegerTy) × (a.int_var n ≡ integer_type i)
+
+-- they do, and agree with all that is found out about the holes of the context
+pub record Closes (a : Assignment) (c : InferenceContext) : Type 0 where
+  pub closing : IsClosing a
+  pub meets : Meets (terms_of a) c.table
+
+-- ---- what is recorded, under an assignment
+
+abbrev pub closed_types : Assignment → List (Option Ty) → List (Option Ty)
+closed_types a ts = map (option_map (folded a)) ts
+
+abbrev pub closed_mismatch : Assignment → TypeMismatch → TypeMismatch
+closed_mismatch a m = mismatch (folded a m.expected) (folded a m.actual)
+
+abbrev pub closed_table : Assignment → InferenceResult → InferenceResult
+closed_table a t = record {
+  type_of_expr = closed_types a t.type_of_expr;
+  type_of_pat = closed_types a t.type_of_pat;
+  type_of_binding = closed_types a t.type_of_binding;
+  binding_modes = t.binding_modes;
+  expr_mismatches = map (option_map (closed_mismatch a)) t.expr_mismatches;
+}
+
+abbrev pub found_under : Assignment → InferenceContext → Found
+found_under a c = record { result = closed_table a c.result; clock = c.clock }
+
+abbrev pub expected_under : Assignment → Option Ty → Option Ty
+expected_under a x = option_map (folded a) x
+
+-- ---- soundness
+
+-- the types in hand are fine, and some assignment closes the context
+pub record IsSound (c : InferenceContext) : Type 0 where
+  pub fine : AllTypes (IsFine c.table) c.result
+  pub bound : BindsOnly is_fine_head (log_of (bindings c.table))
+  pub some : (a : Assignment) × Closes a c

@@ -1,0 +1,90 @@
+//! The table of a body whose types have no holes.
+ghost use Rattle.std.specs.Prelude.{◌≡◌, IfOk, option_map, map};
+ghost use Rattle.hir_types.specs.Terms.{terms_of};
+ghost use Rattle.hir_types.specs.Subst.{folded};
+ghost use Rattle.infer_table.specs.Completion.{completion};
+ghost use Rattle.infer_table.specs.Solutions.{Respects};
+ghost use Rattle.infer_table.specs.Table.{Meets};
+ghost use Rattle.infer_expr.specs.Closings.{closed_types, closed_mismatch, closed_table};
+
+use crate::context::InferenceContext;
+use hir_facts::{List, Ty};
+use infer_result::{InferenceResult, TypeMismatch};
+use infer_table::InferenceTable;
+use std::alloc::{AllocError, Global};
+
+/// A type that may be recorded, resolved.
+fn resolve_maybe(table: &InferenceTable, ty: &Option<Ty>) -> Result<Option<Ty>, AllocError>
+    ensures { IfOk result (λ made. made ≡ option_map (folded (completion table.now)) ty.now) }
+{
+    match ty {
+        Some(ty) => Ok(Some(table.resolve_completely(ty)?)),
+        None => Ok(None),
+    }
+}
+
+/// Recorded types, resolved.
+fn resolve_tys(
+    alloc: Global,
+    table: &InferenceTable,
+    tys: &List<Option<Ty>>,
+) -> Result<List<Option<Ty>>, AllocError>
+    ensures { IfOk result (λ made. made ≡ closed_types (completion table.now) tys.now) }
+{
+    let mut resolved = List::new(alloc);
+    for ty in tys.as_slice() {
+        resolved.push(resolve_maybe(table, ty)?)?;
+    }
+    Ok(resolved)
+}
+
+/// A mismatch that may be recorded, resolved.
+fn resolve_mismatch(
+    table: &InferenceTable,
+    mismatch: &Option<TypeMismatch>,
+) -> Result<Option<TypeMismatch>, AllocError>
+    ensures { IfOk result (λ made. made ≡ option_map (closed_mismatch (completion table.now)) mismatch.now) }
+{
+    match mismatch {
+        Some(mismatch) => Ok(Some(TypeMismatch {
+            expected: table.resolve_completely(&mismatch.expected)?,
+            actual: table.resolve_completely(&mismatch.actual)?,
+        })),
+        None => Ok(None),
+    }
+}
+
+/// Recorded mismatches, resolved.
+fn resolve_mismatches(
+    alloc: Global,
+    table: &InferenceTable,
+    mismatches: &List<Option<TypeMismatch>>,
+) -> Result<List<Option<TypeMismatch>>, AllocError>
+    ensures { IfOk result (λ made. made ≡ map (option_map (closed_mismatch (completion table.now))) mismatches.now) }
+{
+    let mut resolved = List::new(alloc);
+    for mismatch in mismatches.as_slice() {
+        resolved.push(resolve_mismatch(table, mismatch)?)?;
+    }
+    Ok(resolved)
+}
+
+impl InferenceContext {
+    /// The table, once the body is typed: each type with what its holes are bound to, holes of
+    /// integer types that are still open with `i32`, and all others with `{unknown}`. This is
+    /// `infer.rs`'s `resolve_all`.
+    pub fn resolve_all(self, alloc: Global) -> Result<InferenceResult, AllocError>
+        ensures closed { IfOk result (λ made. made ≡ closed_table (completion self.table) self.result) }
+        ensures meets { Meets (terms_of (completion self.table)) self.table }
+        ensures respects { Respects (terms_of (completion self.table)) }
+    {
+        self.table.lawful();
+        let mut result = self.result;
+        let table = &self.table;
+        result.type_of_expr = resolve_tys(alloc, table, &result.type_of_expr)?;
+        result.type_of_pat = resolve_tys(alloc, table, &result.type_of_pat)?;
+        result.type_of_binding = resolve_tys(alloc, table, &result.type_of_binding)?;
+        result.expr_mismatches = resolve_mismatches(alloc, table, &result.expr_mismatches)?;
+        Ok(result)
+    }
+}

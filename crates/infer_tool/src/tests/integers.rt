@@ -1,0 +1,110 @@
+//! Integers without a suffix and locals without a type, and what uses make of their types.
+use super::{PLAIN, check};
+use std::process::Abort;
+use std::test::Fail;
+
+const FRONT: &str =
+    r#"{"profile":1,"edition":2021,"never_fallback":false,"new_range":false,"limits":[8,1000,8,10],"types":["u8","bool","char",["tuple",[]],["tuple",[0,1]],["tuple",[0,0]]],"modules":[null],"adts":[],"variants":[],"fns":[{"name":"f","at":["module",0],"params":[],"preds":[],"has_self":false,"inputs":[],"output":"#;
+
+const MIDDLE: &str =
+    r#","safe":true,"vis":"pub","body":0}],"consts":[],"statics":[],"traits":[],"aliases":[],"impls":[],"opaques":[],"lang":{},"bodies":[{"module":0,"traits":[],"self":null,"params":[],"root":"#;
+
+const BACK: &str = r#","labels":0}]}"#;
+
+/// Runs on a function with this body and output: 0 `u8`, 1 `bool`, 3 `()`, 4 `(u8, bool)`, 5
+/// `(u8, u8)`.
+fn reported(
+    rt: &(impl Abort + AllocGlobal),
+    output: u32,
+    body: &str,
+    status: u8,
+    written: &str,
+) -> Result<(), Fail> {
+    let text = format!(in rt.alloc(); "{FRONT}{output}{MIDDLE}{body}{BACK}")?;
+    check(rt, &PLAIN, text.as_str(), status, written, "")
+}
+
+/// `let x = 1; x`
+const LOCAL: &str =
+    r#"2,"exprs":[["lit",["int","1",null]],["path",["local",0,null]],["block",null,[["let",0,null,0,null]],1]],"pats":[["bind",0,null]],"bindings":[["x","plain"]]"#;
+
+/// `let x = 1;`
+const UNUSED: &str =
+    r#"1,"exprs":[["lit",["int","1",null]],["block",null,[["let",0,null,0,null]],null]],"pats":[["bind",0,null]],"bindings":[["x","plain"]]"#;
+
+/// `(1, true)`
+const EXPECTED: &str =
+    r#"3,"exprs":[["lit",["int","1",null]],["lit",["bool",true]],["tuple",[0,1]],["block",null,[],2]],"pats":[],"bindings":[]"#;
+
+#[test]
+fn takes_types_from_uses(rt: HostRuntime) -> Result<(), Fail> {
+    let rt = &rt;
+    let used = "fn 0\ne0 u8\ne1 u8\ne2 u8\np0 u8 move\nb0 u8\ncomplaints 0\n";
+    reported(rt, 0, LOCAL, 0, used)?;
+    let unused = "fn 0\ne0 i32\ne1 ()\np0 i32 move\nb0 i32\ncomplaints 0\n";
+    reported(rt, 3, UNUSED, 0, unused)?;
+    let expected = "fn 0\ne0 u8\ne1 bool\ne2 (u8, bool)\ne3 (u8, bool)\ncomplaints 0\n";
+    reported(rt, 4, EXPECTED, 0, expected)
+}
+
+/// `let x: bool = 1;`
+const WRITTEN: &str =
+    r#"1,"exprs":[["lit",["int","1",null]],["block",null,[["let",0,1,0,null]],null]],"pats":[["bind",0,null]],"bindings":[["x","plain"]]"#;
+
+/// `let x: char = 1;`
+const CHARACTER: &str =
+    r#"1,"exprs":[["lit",["int","1",null]],["block",null,[["let",0,2,0,null]],null]],"pats":[["bind",0,null]],"bindings":[["x","plain"]]"#;
+
+#[test]
+fn tells_integers_from_others(rt: HostRuntime) -> Result<(), Fail> {
+    let rt = &rt;
+    let output =
+        "fn 0\ne0 i32\ne1 i32\ne2 bool\np0 i32 move\nb0 i32\nTypeMismatch e1 expected=bool actual=i32\ncomplaints 1\n";
+    reported(rt, 1, LOCAL, 1, output)?;
+    let written =
+        "fn 0\ne0 i32\ne1 ()\np0 bool move\nb0 bool\nTypeMismatch e0 expected=bool actual=i32\ncomplaints 1\n";
+    reported(rt, 3, WRITTEN, 1, written)?;
+    let character =
+        "fn 0\ne0 u8\ne1 ()\np0 char move\nb0 char\nTypeMismatch e0 expected=char actual=u8\ncomplaints 1\n";
+    reported(rt, 3, CHARACTER, 1, character)
+}
+
+/// `let x = 1; (x, x)`
+const TWICE: &str =
+    r#"4,"exprs":[["lit",["int","1",null]],["path",["local",0,null]],["path",["local",0,null]],["tuple",[1,2]],["block",null,[["let",0,null,0,null]],3]],"pats":[["bind",0,null]],"bindings":[["x","plain"]]"#;
+
+#[test]
+fn has_one_type_at_all_uses(rt: HostRuntime) -> Result<(), Fail> {
+    let rt = &rt;
+    let same =
+        "fn 0\ne0 u8\ne1 u8\ne2 u8\ne3 (u8, u8)\ne4 (u8, u8)\np0 u8 move\nb0 u8\ncomplaints 0\n";
+    reported(rt, 5, TWICE, 0, same)?;
+    let other =
+        "fn 0\ne0 u8\ne1 u8\ne2 u8\ne3 (u8, bool)\ne4 (u8, bool)\np0 u8 move\nb0 u8\nTypeMismatch e2 expected=bool actual=u8\ncomplaints 1\n";
+    reported(rt, 4, TWICE, 1, other)
+}
+
+/// `let x; x`
+const OPEN: &str =
+    r#"1,"exprs":[["path",["local",0,null]],["block",null,[["let",0,null,null,null]],0]],"pats":[["bind",0,null]],"bindings":[["x","plain"]]"#;
+
+/// `let x; let y: bool;`
+const UNKNOWN: &str =
+    r#"0,"exprs":[["block",null,[["let",0,null,null,null],["let",1,1,null,null]],null]],"pats":[["bind",0,null],["bind",1,null]],"bindings":[["x","plain"],["y","mut"]]"#;
+
+/// `let x; (x, x)`
+const OPEN_TWICE: &str =
+    r#"3,"exprs":[["path",["local",0,null]],["path",["local",0,null]],["tuple",[0,1]],["block",null,[["let",0,null,null,null]],2]],"pats":[["bind",0,null]],"bindings":[["x","plain"]]"#;
+
+#[test]
+fn takes_types_of_locals_from_uses(rt: HostRuntime) -> Result<(), Fail> {
+    let rt = &rt;
+    let used = "fn 0\ne0 u8\ne1 u8\np0 u8 move\nb0 u8\ncomplaints 0\n";
+    reported(rt, 0, OPEN, 0, used)?;
+    let unknown =
+        "fn 0\ne0 ()\np0 {unknown} move\np1 bool move\nb0 {unknown}\nb1 bool\ncomplaints 0\n";
+    reported(rt, 3, UNKNOWN, 0, unknown)?;
+    let other =
+        "fn 0\ne0 u8\ne1 u8\ne2 (u8, bool)\ne3 (u8, bool)\np0 u8 move\nb0 u8\nTypeMismatch e1 expected=bool actual=u8\ncomplaints 1\n";
+    reported(rt, 4, OPEN_TWICE, 1, other)
+}

@@ -1,0 +1,76 @@
+//! Kinds that are read and judged, and that the first law refuses until they are carried.
+use super::{NO_LOOP, check_body};
+use std::test::Fail;
+
+/// `if true { 1u8 } else { 2u8 }`, without the blocks
+const IF: &str =
+    r#"3,"exprs":[["lit",["bool",true]],["lit",["int","1","u8"]],["lit",["int","2","u8"]],["if",0,1,2]],"pats":[],"bindings":[]"#;
+
+const NO_BRANCH: &str =
+    r#"2,"exprs":[["lit",["bool",true]],["lit",["int","1","u8"]],["if",0,1,"2"]],"pats":[],"bindings":[]"#;
+
+const AT_BRANCH: &str =
+    "`bodies.0.exprs.2.3` has another shape: an expression's number, or null is wanted";
+
+#[test]
+fn reads_ifs(rt: HostRuntime) -> Result<(), Fail> {
+    check_body(&rt, IF, 8, "", NO_LOOP)?;
+    check_body(&rt, NO_BRANCH, 7, "", AT_BRANCH)
+}
+
+/// `match 'a' { _ if true => 1u8 }`
+const MATCH: &str =
+    r#"3,"exprs":[["lit",["char",97]],["lit",["bool",true]],["lit",["int","1","u8"]],["match",0,[[0,1,2]]]],"pats":["wild"],"bindings":[]"#;
+
+const NO_ARM: &str =
+    r#"2,"exprs":[["lit",["char",97]],["lit",["int","1","u8"]],["match",0,[[0,1]]]],"pats":["wild"],"bindings":[]"#;
+
+const AT_ARM: &str =
+    "`bodies.0.exprs.2.2.0` has another shape: a statement, an arm or an expression, as the expression's kind asks, is wanted";
+
+#[test]
+fn reads_matches(rt: HostRuntime) -> Result<(), Fail> {
+    check_body(&rt, MATCH, 8, "", NO_LOOP)?;
+    check_body(&rt, NO_ARM, 7, "", AT_ARM)
+}
+
+/// `f()`
+const CALL: &str = r#"1,"exprs":[["path",["fn",0,null]],["call",0,[]]],"pats":[],"bindings":[]"#;
+
+/// `f::<u8>()`
+const WRITTEN: &str =
+    r#"1,"exprs":[["path",["fn",0,[["t",0]]]],["call",0,[]]],"pats":[],"bindings":[]"#;
+
+const NO_ARGUMENT: &str =
+    r#"1,"exprs":[["path",["fn",0,null]],["call",0,[null]]],"pats":[],"bindings":[]"#;
+
+const AT_ARGUMENT: &str =
+    "`bodies.0.exprs.1.2.0` has another shape: a statement, an arm or an expression, as the expression's kind asks, is wanted";
+
+const NO_FUNCTION: &str = r#"0,"exprs":[["path",["fn","f",null]]],"pats":[],"bindings":[]"#;
+
+const AT_FUNCTION: &str =
+    "`bodies.0.exprs.0.1.1` has another shape: a part of the kind that docs/FORMAT.md names is wanted";
+
+#[test]
+fn reads_calls(rt: HostRuntime) -> Result<(), Fail> {
+    check_body(&rt, CALL, 8, "", NO_LOOP)?;
+    check_body(&rt, WRITTEN, 8, "", NO_LOOP)?;
+    check_body(&rt, NO_ARGUMENT, 7, "", AT_ARGUMENT)?;
+    check_body(&rt, NO_FUNCTION, 7, "", AT_FUNCTION)
+}
+
+/// `let (_, -1i8) = ('a', 1i8);` and no tail
+const PATS: &str =
+    r#"4,"exprs":[["lit",["char",97]],["lit",["int","1","i8"]],["tuple",[0,1]],["lit",["int","-1","i8"]],["block",null,[["let",0,null,2,null]],null]],"pats":[["tuple",[1,2],null],"wild",["lit",3]],"bindings":[]"#;
+
+const NO_PARTS: &str = r#"0,"exprs":[["lit",["char",97]]],"pats":[["tuple",0,null]],"bindings":[]"#;
+
+const AT_PARTS: &str =
+    "`bodies.0.pats.0.1` has another shape: a part of the kind that docs/FORMAT.md names is wanted";
+
+#[test]
+fn reads_patterns(rt: HostRuntime) -> Result<(), Fail> {
+    check_body(&rt, PATS, 8, "", NO_LOOP)?;
+    check_body(&rt, NO_PARTS, 7, "", AT_PARTS)
+}
