@@ -40,7 +40,6 @@ use Rattle.hir_facts.specs.CarriedTypes.{carried_arg, carried_step, carried_boun
 use Rattle.infer_result.specs.declared.result.InferenceResult.{InferenceResult}
 use Rattle.infer_result.specs.Closed.{AllTypes}
 use Rattle.infer_table.specs.BindingLaws.{get_last}
-use Rattle.infer_table.specs.HoleLaws.{AllHolesAreOf, holes_are_of_grown, tuple_holes_are_of}
 use Rattle.infer_table.specs.LogLemmas.{are_of_hole, are_of_parts}
 use Rattle.infer_table.specs.Preserved.{HasOnly, NoAlias}
 use Rattle.infer_table.specs.Solutions.{AreOf, Respects}
@@ -49,6 +48,7 @@ use Rattle.infer_expr.specs.Closings.{IsClosing}
 use Rattle.infer_expr.specs.Context.{component, element_type}
 use Rattle.infer_expr.specs.Fine.{is_fine_head, HasFineHeads, IsFine, IsFineExpectation, IsWritten}
 use Rattle.infer_expr.proofs.Lists.{found}
+use Rattle.infer_expr.proofs.MadeHoles.{AllHolesAreOf, holes_are_of_grown, tuple_holes_are_of}
 
 -- each type of the list has the property
 abbrev pub Every : (Ty → Type 0) → List Ty → Type 0

@@ -29,7 +29,7 @@ holed c k = with_table c (with_new_hole c.table k)
 
 pub holed_sound : (c : InferenceContext) (k : HoleKind) → IsSound c → IsSound (holed c k)
 holed_sound c k s = record {
-  fine = table_fine_grown c.table (with_new_hole c.table k) c.result (grew_by_hole c.table k) s.fine;
+  fine = table_fine_grown c.table (with_new_hole c.table k) c.result (grew_by_hole c.table (with_new_hole c.table k) k refl) s.fine;
   bound = s.bound;
   some = (s.some.0, record { closing = s.some.1.closing; meets = s.some.1.meets });
 }
@@ -50,7 +50,7 @@ pub int_hole : (c : InferenceContext) → IsSound c → IntDone (ty.IntVar (hole
 int_hole c s = record {
   result = refl;
   clock = refl;
-  grew = grew_by_hole c.table kind.Int;
+  grew = grew_by_hole c.table (with_new_hole c.table kind.Int) kind.Int refl;
   sound = holed_sound c kind.Int s;
   fine = fine_int_hole c.table;
   each = λ a k.
@@ -117,7 +117,7 @@ pub declared_hole : (g : Given) (c : InferenceContext) → IsSound c → Declare
 declared_hole g c s = record {
   result = refl;
   clock = refl;
-  grew = grew_by_hole c.table kind.Ty;
+  grew = grew_by_hole c.table (with_new_hole c.table kind.Ty) kind.Ty refl;
   sound = holed_sound c kind.Ty s;
   fine = fine_hole c.table;
   written = λ y e. absurd (cc);

@@ -1,5 +1,6 @@
 pub mod Lists
 pub mod Types
+pub mod MadeHoles
 pub mod FineTypes
 pub mod Closed
 pub mod Carried
