@@ -1,16 +1,19 @@
 -- Whether the holes of a term were made, part by part.
-use Rattle.std.proofs.Common.{◌≡◌, ℕ, suc, ◌+◌, ◌≤◌, Bool, true, false, List, [], ◌∷◌, ◌++◌, length, take, drop, Some, refl, sym, ap, subst, ◌∙◌, IsTrue, ◌↔◌}
+use Rattle.std.proofs.Common.{◌≡◌, ℕ, suc, ◌+◌, Bool, true, false, List, [], ◌∷◌, ◌++◌, take, drop, Some, refl, sym, subst, IsTrue, ◌↔◌}
 use Rattle.std.specs.Prelude.{slice_get}
-use Rattle.std.proofs.lemmas.List.{take_all}
-use Rattle.hir_types.specs.declared.head.Head.{Head}
 use Rattle.hir_types.specs.declared.head.Head.TheVariants as head
 use Rattle.hir_types.specs.declared.head.Hole.{Hole}
 use Rattle.hir_types.specs.declared.head.HoleKind.{HoleKind}
 use Rattle.hir_types.specs.declared.outline.Part.{Part}
-use Rattle.hir_types.specs.Terms.{Term, hole, leaf, pair, chain, node}
+use Rattle.hir_types.specs.declared.ty.Ty.{Ty}
+use Rattle.hir_types.specs.Terms.{Term, hole, leaf, chain, term}
 use Rattle.hir_types.specs.Outlines.{part_term, part_terms}
-use Rattle.infer_table.specs.Solutions.{IsOf, AreOf}
-use Rattle.infer_table.specs.LogLemmas.{are_of_hole, are_of_leaf, are_of_pair, are_of_parts}
+use Rattle.infer_table.specs.declared.binding.Binding.{Binding}
+use Rattle.infer_table.specs.Solutions.{log_of, IsOf, AreOf}
+use Rattle.infer_table.specs.Bindings.{AllOf}
+use Rattle.infer_table.specs.BindingLaws.{binds_of_all}
+use Rattle.infer_table.specs.Resolution.{found_for, found_for_in_log}
+use Rattle.infer_table.specs.LogLemmas.{binds_of_found, are_of_hole, are_of_leaf, are_of_pair, are_of_parts}
 use Rattle.infer_table.specs.TermLemmas.{hole_eq_same}
 use Rattle.infer_table.specs.Made.{MadeIf}
 use Rattle.infer_table.proofs.Unifying.{parts_until, parts_around}
@@ -38,3 +41,9 @@ made_more kinds xs i x e h k =
 pub not_made : (kinds : List HoleKind) (xs : List Part) (i : ℕ) (x : Part) → slice_get xs i ≡ Some x → (AreOf kinds (part_term x) → ⊥) → AreOf kinds (chain (part_terms xs)) → ⊥
 not_made kinds xs i x e h all =
     h (chain_part kinds (part_terms (take i xs)) (part_term x) (part_terms (drop (suc i) xs)) (subst (λ (z : List Term). AreOf kinds (chain z)) (parts_around xs i x e) all))
+
+-- what a type is bound to holds such alone
+pub made_found : (kinds : List HoleKind) (bs : List Binding) (t u : Ty) → AllOf kinds bs → found_for bs t ≡ Some u → AreOf kinds (term u)
+made_found kinds bs t u h e =
+    let p = found_for_in_log bs t u e in
+    (binds_of_found kinds (log_of bs) p.0 (term u) (binds_of_all kinds bs h) p.2).1

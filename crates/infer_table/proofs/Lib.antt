@@ -4,6 +4,7 @@ pub mod Unifying
 pub mod Openings
 pub mod Heads
 pub mod Settling
+pub mod HolesLeft
 pub mod OpenedBoth
 pub mod UnifiedTables
 pub mod HolesMade

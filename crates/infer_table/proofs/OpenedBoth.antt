@@ -1,23 +1,24 @@
 -- Two types opened one after the other, and what unifying them comes to.
-use Rattle.std.proofs.Common.{◌≡◌, ℕ, Bool, true, false, List, [], ◌∷◌, ◌++◌, length, map, refl, sym, ap, subst, ◌∙◌}
+use Rattle.std.proofs.Common.{◌≡◌, ℕ, true, ◌⊎◌, inl, inr, List, [], ◌∷◌, ◌++◌, length, refl, sym, ap, subst, ◌∙◌}
 use Rattle.hir_types.specs.declared.head.Hole.{Hole}
-use Rattle.hir_types.specs.declared.head.Hole.TheVariants as hole_of
 use Rattle.hir_types.specs.declared.head.HoleKind.{HoleKind}
-use Rattle.hir_types.specs.Terms.{Term, apply, term}
+use Rattle.hir_types.specs.Terms.{Term, apply, occurs}
 use Rattle.infer_table.specs.declared.binding.Binding.{Binding}
 use Rattle.infer_table.specs.declared.open.Origin.{Origin}
-use Rattle.infer_table.specs.Solutions.{Log, log_of, Solves, resolved, Triangular, IsOf, AreOf, Unified, NoneUnifies}
+use Rattle.infer_table.specs.Solutions.{Log, log_of, Solves, resolved, Triangular, AreOf, Unified, NoneUnifies}
 use Rattle.infer_table.specs.Bindings.{Substitution, AllOf}
 use Rattle.infer_table.specs.BindingLaws.{log_of_append, binds_of_all}
-use Rattle.infer_table.specs.LogLemmas.{are_of_more, solution, solution_respects, solution_solves}
-use Rattle.infer_table.specs.Opened.{place, alias, IsPlain, opened, origins}
+use Rattle.infer_table.specs.LogLemmas.{are_of_more, resolved_free, solution, solution_respects, solution_solves}
+use Rattle.infer_table.specs.Opened.{place, alias, opened, origins}
 use Rattle.infer_table.specs.OpenedLaws.{AreOrigins, opened_bounds, origins_plain}
 use Rattle.infer_table.specs.OpenedAgree.{AreSettled}
 use Rattle.infer_table.specs.OpenedKinds.{new_kinds, OriginsOf, origins_of_more, origins_of_append, opened_of, below_of, log_below_of}
 use Rattle.infer_table.specs.Opening.{origins_of}
-use Rattle.infer_table.specs.Equating.{OnlyBinds, IsResolved}
-use Rattle.infer_table.specs.Settling.{IsOriginOf, AreOriginsOf, IsMostGeneral, IsUnified}
-use Rattle.infer_table.specs.Unifying.{GrownFrom, CanBeSame, left_opened, next_number, right_opened, both_origins, can_be_same, both_agree, plain_unifies, plain_general, plain_next, cannot_be_same}
+use Rattle.infer_table.specs.Equating.{OnlyBinds}
+use Rattle.infer_table.specs.Least.{first_opened, second_opened, origins_of_both, AreAmong, AreFree, BindsSome, BindsLeast, HolesAreLeft}
+use Rattle.infer_table.specs.Settling.{AreOriginsOf, IsMostGeneral, IsUnified}
+use Rattle.infer_table.specs.Unifying.{GrownFrom, CanBeSame, left_opened, next_number, right_opened, can_be_same, both_agree, plain_unifies, plain_general, plain_next, cannot_be_same, resolved_grown}
+use Rattle.infer_table.proofs.HolesLeft.{holes_left}
 
 -- ---- aliases
 
@@ -114,12 +115,36 @@ pub record Steps (s : Substitution) (log : List Binding) (z y : Substitution) : 
   pub opened_log : log ≡ s.log
   pub equated : (bs : List Binding) × (z.log ≡ log ++ bs)
   pub settled : OnlyBinds z y
+  pub made_before : AllOf s.kinds s.log
   pub acyclic_before : Triangular (log_of s.log)
   pub acyclic_after : Triangular (log_of y.log)
 
+free_before : (before unified : Log) (v w : Term) (ps : List (ℕ × Term)) → Unified before unified v w → AreFree (λ s. Solves s unified) ps → AreFree (λ s. Solves s before × (apply s v ≡ apply s w)) ps
+free_before before unified v w [] u h = tt
+free_before before unified v w (p ∷ ps) u h =
+    ((λ x. let f = h.0 x in (f.0, (u.keeps f.0 f.1, u.unifies f.0 f.1), f.2, f.3)), free_before before unified v w ps u h.1)
+
+binds_least : (n : ℕ) (before unified after : Log) (t u : Term) (ps : List (ℕ × Term)) → ps ≡ origins_of_both n t u → Unified before unified (first_opened n t) (second_opened n t u) → BindsSome unified after ps → BindsLeast n before after t u
+binds_least n before unified after t u ps e joined some = record {
+  bound = some.bound;
+  among = subst (λ (qs : List (ℕ × Term)). AreAmong some.bound qs) e some.among;
+  free = free_before before unified (first_opened n t) (second_opened n t u) some.bound joined some.free;
+  keeps = λ s h. joined.keeps s (some.keeps s h);
+  unifies = λ s h. joined.unifies s (some.keeps s h);
+  stand = some.stand;
+  general = λ s h f q. some.general s (joined.general s h f) q;
+}
+
+holes_after : (s y : Substitution) (a b c : Term) → AllOf s.kinds s.log → Triangular (log_of s.log) → Triangular (log_of y.log) → GrownFrom (log_of s.log) (log_of y.log) → BindsLeast (length s.kinds) (log_of s.log) (log_of y.log) (resolved (log_of s.log) a) (resolved (log_of s.log) b) → ((k : Hole) → occurs k (resolved (log_of s.log) c) ≡ true → (occurs k (resolved (log_of s.log) a) ≡ true) ⊎ (occurs k (resolved (log_of s.log) b) ≡ true)) → HolesAreLeft (length s.kinds) y.log (resolved (log_of s.log) a) (resolved (log_of s.log) b) (resolved (log_of y.log) c)
+holes_after s y a b c made acyclic_before acyclic_after g least within =
+    let l = log_of s.log in
+    let below = log_below_of s.kinds l (binds_of_all s.kinds s.log made) in
+    subst (λ (x : Term). HolesAreLeft (length s.kinds) y.log (resolved l a) (resolved l b) x) (resolved_grown l (log_of y.log) c acyclic_before g)
+    (holes_left (length s.kinds) l y.log (resolved l a) (resolved l b) (resolved l c) below (resolved_free l a acyclic_before) (resolved_free l b acyclic_before) acyclic_before acyclic_after g least within)
+
 module _ (s : Substitution) (log : List Binding) (z y : Substitution) (t u a b v w : Term) (os : List Origin) where
-  pub opened_unified : t ≡ resolved (log_of s.log) a → u ≡ resolved (log_of s.log) b → BothOpened (length s.kinds) z.kinds t u v w os → Steps s log z y → Unified (log_of log) (log_of z.log) v w → AreSettled (log_of y.log) (origins_of os) → (os ≡ [] → y ≡ z) → IsUnified s y a b
-  opened_unified e f h steps unified settled nothing =
+  pub opened_unified : t ≡ resolved (log_of s.log) a → u ≡ resolved (log_of s.log) b → BothOpened (length s.kinds) z.kinds t u v w os → Steps s log z y → Unified (log_of log) (log_of z.log) v w → AreSettled (log_of y.log) (origins_of os) → (os ≡ [] → y ≡ z) → BindsSome (log_of z.log) (log_of y.log) (origins_of os) → IsUnified s y a b
+  opened_unified e f h steps unified settled nothing some =
       let l = log_of s.log in
       let n = length s.kinds in
       let both = at_resolved s z.kinds t u a b v w os e f h in
@@ -133,6 +158,7 @@ module _ (s : Substitution) (log : List Binding) (z y : Substitution) (t u a b v
       steps.settled.added.1 ∙ ap (λ (x : List Binding). x ++ steps.settled.added.0) (steps.equated.1 ∙ ap (λ (x : List Binding). x ++ steps.equated.0) steps.opened_log)
       ∙ append_twice s.log steps.equated.0 steps.settled.added.0 in
       let f = log_grown s.log y.log (steps.equated.0 ++ steps.settled.added.0, more) in
+      let least = binds_least n l (log_of z.log) (log_of y.log) (resolved l a) (resolved l b) (origins_of os) both.origins_are joined some in
       record {
         possible = can_be_same n l (log_of z.log) (log_of y.log) a b g steps.acyclic_after joined;
         solvable =
@@ -147,4 +173,8 @@ module _ (s : Substitution) (log : List Binding) (z y : Substitution) (t u a b v
               general = plain_general n l (log_of z.log) a b p q joined;
               no_hole_made = both.next ∙ plain_next n l a b p q;
             });
+        least = least;
+        made = ap length steps.settled.kinds ∙ both.next;
+        left_holes = holes_after s y a b a steps.made_before steps.acyclic_before steps.acyclic_after f least (λ k o. inl o);
+        right_holes = holes_after s y a b b steps.made_before steps.acyclic_before steps.acyclic_after f least (λ k o. inr o);
       }

@@ -1,5 +1,5 @@
 -- Each step of opening a type.
-use Rattle.std.specs.Prelude.{◌≡◌, ℕ, ◌+◌, ◌<◌, ◌≤◌, List, [], ◌∷◌, ◌++◌, length, map, Option}
+use Rattle.std.specs.Prelude.{◌≡◌, ℕ, ◌+◌, ◌<◌, List, [], ◌∷◌, ◌++◌, length, map, Option}
 use Rattle.std.proofs.Common.{sym, ap, ◌∙◌, subst, get_or, take}
 use Rattle.std.proofs.lemmas.List.{take_more}
 use Rattle.hir_types.specs.declared.head.HoleKind.{HoleKind}

@@ -1,19 +1,19 @@
 -- What unifying comes to for a table.
-use Rattle.std.proofs.Common.{◌≡◌, ℕ, Bool, true, false, List, [], ◌∷◌, ◌++◌, refl, sym, ap, subst, ◌∙◌}
-use Rattle.hir_types.specs.declared.head.Hole.{Hole}
+use Rattle.std.proofs.Common.{◌≡◌, Bool, true, false, List, [], ◌∷◌, ◌++◌, sym, ap, subst}
 use Rattle.hir_types.specs.declared.head.HoleKind.{HoleKind}
 use Rattle.hir_types.specs.declared.ty.Ty.{Ty}
 use Rattle.hir_types.specs.Terms.{Term, term}
 use Rattle.infer_table.specs.declared.waiting.WaitingPair.{WaitingPair}
-use Rattle.infer_table.specs.Solutions.{log_of, Respects, Solves, resolved}
+use Rattle.infer_table.specs.Solutions.{log_of, resolved}
 use Rattle.infer_table.specs.Bindings.{Substitution}
 use Rattle.infer_table.specs.LogLemmas.{are_of_more}
 use Rattle.infer_table.specs.Resolution.{resolution_term}
 use Rattle.infer_table.specs.Opened.{Agree, IsPlain, Reads}
+use Rattle.infer_table.specs.Least.{number_after, BindsLeast, HolesAreLeft}
 use Rattle.infer_table.specs.Settling as settling
 use Rattle.infer_table.specs.Settling.{OnlyGrows, IsUnified, UnifiesOrStays}
 use Rattle.infer_table.specs.Unifying.{CanBeSame}
-use Rattle.infer_table.specs.Table.{State, IsFront, PairsAreOf, bindings, resolved_term, CanBeEqual, AreUnified, AreUnifiedIf, IsMostGeneral}
+use Rattle.infer_table.specs.Table.{State, IsFront, PairsAreOf, hole_count, bindings, resolved_term, HolesAreKept, CanBeEqual, AreUnified, AreUnifiedIf, IsMostGeneral}
 use Rattle.infer_table.specs.UndoLaws.{front_itself}
 
 -- ---- kinds
@@ -45,6 +45,14 @@ can_be_same s a b c =
 most_general : (before after : State) (a b : Ty) → settling.IsMostGeneral before.substitution after.substitution (term a) (term b) → IsMostGeneral before after a b
 most_general before after a b h = record { unifies = h.unifies; general = h.general; no_hole_made = h.no_hole_made }
 
+holes_kept : (before after : State) (a b t : Ty) → HolesAreLeft (hole_count before) (bindings after) (resolved (log_of (bindings before)) (term a)) (resolved (log_of (bindings before)) (term b)) (resolved (log_of (bindings after)) (term t)) → HolesAreKept before after a b t
+holes_kept before after a b t h =
+    let bs = bindings after in
+    let n = hole_count before in
+    subst (λ (x : Term). HolesAreLeft n bs (resolved_term before a) (resolved_term before b) x) (term_at after t)
+    (subst (λ (x : Term). HolesAreLeft n bs (resolved_term before a) x (resolved (log_of bs) (term t))) (term_at before b)
+    (subst (λ (x : Term). HolesAreLeft n bs x (resolved (log_of (bindings before)) (term b)) (resolved (log_of bs) (term t))) (term_at before a) h))
+
 are_unified : (before after : State) (a b : Ty) → after.pairs ≡ before.pairs → after.diverging ≡ before.diverging → OnlyGrows before.substitution after.substitution → IsUnified before.substitution after.substitution (term a) (term b) → AreUnified before after a b
 are_unified before after a b pairs diverging grows h = record {
   grown = record {
@@ -62,6 +70,14 @@ are_unified before after a b pairs diverging grows h = record {
   most_general = λ p q.
       most_general before after a b
       (h.most_general (subst (λ (x : Term). IsPlain x) (sym (term_at before a)) p) (subst (λ (x : Term). IsPlain x) (sym (term_at before b)) q));
+  least =
+      subst (λ (x : Term). BindsLeast (hole_count before) (log_of (bindings before)) (log_of (bindings after)) (resolved_term before a) x) (term_at before b)
+      (subst (λ (x : Term). BindsLeast (hole_count before) (log_of (bindings before)) (log_of (bindings after)) x (resolved (log_of (bindings before)) (term b))) (term_at before a) h.least);
+  made =
+      subst (λ (x : Term). hole_count after ≡ number_after (hole_count before) (resolved_term before a) x) (term_at before b)
+      (subst (λ (x : Term). hole_count after ≡ number_after (hole_count before) x (resolved (log_of (bindings before)) (term b))) (term_at before a) h.made);
+  left_holes = holes_kept before after a b a h.left_holes;
+  right_holes = holes_kept before after a b b h.right_holes;
 }
 
 pub unified_if : (yes : Bool) (before after : State) (a b : Ty) → after.pairs ≡ before.pairs → after.diverging ≡ before.diverging → UnifiesOrStays yes before.substitution after.substitution (term a) (term b) → AreUnifiedIf yes before after a b

@@ -16,6 +16,7 @@ pub mod FrontLaws
 pub mod Resolution
 pub mod Equating
 pub mod Unifying
+pub mod Least
 pub mod Table
 pub mod Undo
 pub mod Completion

@@ -9,7 +9,7 @@ use Rattle.hir_types.specs.declared.head.Hole.{Hole}
 use Rattle.hir_types.specs.declared.head.HoleKind.{HoleKind}
 use Rattle.hir_types.specs.Terms.{Term, hole, leaf, pair, apply, occurs, hole_eq, hole_number, IsInt, chain, node, type_part}
 use Rattle.infer_table.specs.Solutions.{Log, single, sub, resolved, found, binds, Solves, Respects, Kept, Absent, Triangular, Free, hole_kind, IsOf, AreOf}
-use Rattle.infer_table.specs.TermLemmas.{hole_eq_true, hole_eq_same, hole_eq_flip, apply_sub, sub_absent, sub_same, sub_gone, sub_holes, sub_without, single_respects, is_int_apply, hole_respects}
+use Rattle.infer_table.specs.TermLemmas.{hole_eq_true, hole_eq_same, hole_eq_flip, apply_apply, apply_sub, sub_absent, sub_same, sub_gone, sub_holes, sub_without, single_respects, is_int_apply, hole_respects}
 
 -- ---- bindings that are solved
 
@@ -295,6 +295,11 @@ solution_of l h = (solution_respects l h, solution_solves l h)
 -- a solution comes after putting the bindings in
 pub solves_through : (s : Hole → Term) (l : Log) (t : Term) → Solves s l → apply s (apply (solution l) t) ≡ apply s t
 solves_through s l t h = ap (apply s) (solution_apply l t) ∙ resolved_apply s l t h
+
+-- what comes after a solution is one
+pub solves_after : (f g : Hole → Term) (l : Log) → Solves g l → Solves (λ h. apply f (g h)) l
+solves_after f g [] h = tt
+solves_after f g (p ∷ l) h = (ap (apply f) h.0 ∙ apply_apply f g p.1, solves_after f g l h.1)
 
 -- ---- whose holes are of a table
 

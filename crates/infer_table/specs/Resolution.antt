@@ -1,5 +1,5 @@
 -- What bindings come to: each hole with what it is bound to in the end.
-use Rattle.std.specs.Prelude.{◌≡◌, ℕ, Bool, true, false, nat_eq, if◌then◌else◌, cond, List, [], ◌∷◌, Option, Some, None, map}
+use Rattle.std.specs.Prelude.{◌≡◌, ℕ, Bool, true, false, nat_eq, if◌then◌else◌, cond, List, [], ◌∷◌, Option, Some, None}
 use Rattle.std.proofs.Common.{◌⊎◌, inl, inr, refl, sym, ap, ◌∙◌, subst, true≢false}
 use Rattle.hir_types.specs.declared.head.Hole.{Hole}
 use Rattle.hir_types.specs.declared.head.Hole.TheVariants as hole_of
@@ -17,7 +17,7 @@ use Rattle.hir_types.specs.TermLaws.{term_var, term_int_var, term_folded, const_
 use Rattle.hir_types.specs.Agreement.{SameAt, folded_absent, const_folded_absent}
 use Rattle.infer_table.specs.declared.binding.Binding.{Binding}
 use Rattle.infer_table.specs.declared.binding.Binding.TheVariants as binding
-use Rattle.infer_table.specs.Solutions.{single, sub, resolved, found, binds, Kept, Absent, Triangular, log_of}
+use Rattle.infer_table.specs.Solutions.{single, sub, resolved, found, Kept, Absent, Triangular, log_of}
 use Rattle.infer_table.specs.Bindings.{bound_hole, bound_term, found_binding}
 use Rattle.infer_table.specs.TermLemmas.{hole_eq_true, hole_eq_same, hole_eq_flip, apply_agree}
 use Rattle.infer_table.specs.LogLemmas.{solution, solution_apply, found_binds, resolved_free}

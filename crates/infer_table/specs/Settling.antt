@@ -1,16 +1,17 @@
 -- Binding the holes that stood for aliases, and what unifying does to the bindings.
-use Rattle.std.proofs.Common.{◌≡◌, ℕ, Bool, true, false, List, [], ◌∷◌, ◌++◌, length, Option, Some, None}
+use Rattle.std.proofs.Common.{◌≡◌, ℕ, Bool, true, false, ◌⊎◌, List, [], ◌∷◌, ◌++◌, length, Option, Some, None}
 use Rattle.hir_types.specs.declared.head.Hole.TheVariants as hole_of
 use Rattle.hir_types.specs.declared.head.HoleKind.{HoleKind}
 use Rattle.hir_types.specs.declared.head.Hole.{Hole}
 use Rattle.hir_types.specs.Terms.{Term, hole, apply, term}
 use Rattle.infer_table.specs.declared.binding.Binding.{Binding}
 use Rattle.infer_table.specs.declared.open.Origin.{Origin}
-use Rattle.infer_table.specs.Solutions.{log_of, Solves, Respects, resolved, IsOf, AreOf}
+use Rattle.infer_table.specs.Solutions.{log_of, Solves, Respects, resolved, IsOf, AreOf, Unified}
 use Rattle.infer_table.specs.Bindings.{Substitution}
 use Rattle.infer_table.specs.Opened.{place, alias, IsPlain, Agree}
 use Rattle.infer_table.specs.OpenedAgree.{IsSettled, IsNoTypeHole}
 use Rattle.infer_table.specs.Unifying.{CanBeSame}
+use Rattle.infer_table.specs.Least.{IsFree, number_after, BindsLeast, HolesAreLeft}
 
 -- the origin has a type hole and an alias of the table
 pub record IsOriginOf (kinds : List HoleKind) (o : Origin) : Type 0 where
@@ -30,15 +31,19 @@ IsTypeHoleIf t None = IsNoTypeHole t
 abbrev pub settled_at : Substitution → ℕ × Term → Type 0
 settled_at s = IsSettled (log_of s.log)
 
--- what was settled stays so, and with it is each hole that came to this one, for the alias
+-- what was settled stays so, and with it is each hole that came to this one, for the alias; nothing is bound but
+-- this hole, which was free, to the alias
 pub record Settled (before after : Substitution) (at : ℕ) (t : Term) : Type 0 where
   pub keeps : (p : ℕ × Term) → settled_at before p → settled_at after p
   pub settles : (n : ℕ) → resolved (log_of before.log) (hole (hole_of.Ty n)) ≡ hole (hole_of.Ty at) → settled_at after (n, t)
+  pub bound : (after ≡ before) ⊎ (Unified (log_of before.log) (log_of after.log) (hole (hole_of.Ty at)) t × IsFree (log_of before.log) at)
 
--- what was settled stays so, and with it is the origin
+-- what was settled stays so, and with it is the origin; nothing is bound but
+-- what has its hole, which was free, come to its alias
 pub record SettlesOrigin (before after : Substitution) (o : Origin) : Type 0 where
   pub keeps : (p : ℕ × Term) → settled_at before p → settled_at after p
   pub settled : settled_at after (o.hole, term o.alias)
+  pub bound : (after ≡ before) ⊎ (Unified (log_of before.log) (log_of after.log) (hole (hole_of.Ty o.hole)) (term o.alias) × IsFree (log_of before.log) o.hole)
 
 -- holes were made and bindings added
 pub record OnlyGrows (before after : Substitution) : Type 0 where
@@ -55,6 +60,10 @@ pub record IsUnified (before after : Substitution) (a b : Term) : Type 0 where
   pub solvable : (s : Hole → Term) × Respects s × Solves s (log_of after.log)
   pub agree : Agree (resolved (log_of after.log) a) (resolved (log_of after.log) b)
   pub most_general : IsPlain (resolved (log_of before.log) a) → IsPlain (resolved (log_of before.log) b) → IsMostGeneral before after a b
+  pub least : BindsLeast (length before.kinds) (log_of before.log) (log_of after.log) (resolved (log_of before.log) a) (resolved (log_of before.log) b)
+  pub made : length after.kinds ≡ number_after (length before.kinds) (resolved (log_of before.log) a) (resolved (log_of before.log) b)
+  pub left_holes : HolesAreLeft (length before.kinds) after.log (resolved (log_of before.log) a) (resolved (log_of before.log) b) (resolved (log_of after.log) a)
+  pub right_holes : HolesAreLeft (length before.kinds) after.log (resolved (log_of before.log) a) (resolved (log_of before.log) b) (resolved (log_of after.log) b)
 
 abbrev pub Unifies : Bool → Substitution → Substitution → Term → Term → Type 0
 Unifies true before after a b = IsUnified before after a b

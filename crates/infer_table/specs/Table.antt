@@ -1,5 +1,5 @@
 -- The state of a table, and what its calls do to it.
-use Rattle.std.specs.Prelude.{◌≡◌, ℕ, ◌+◌, ◌<◌, ◌≤◌, ◌++◌, Bool, true, false, List, [], ◌∷◌, length, take, Option, Some, None}
+use Rattle.std.specs.Prelude.{◌≡◌, ℕ, ◌++◌, Bool, true, false, List, [], ◌∷◌, length, Option, Some, None}
 use Rattle.hir_types.specs.declared.head.Hole.{Hole}
 use Rattle.hir_types.specs.declared.head.Hole.TheVariants as hole_of
 use Rattle.hir_types.specs.declared.head.HoleKind.{HoleKind}
@@ -7,14 +7,15 @@ use Rattle.hir_types.specs.declared.ty.Ty.{Ty}
 use Rattle.std.proofs.Common.{◌⊎◌}
 use Rattle.hir_types.specs.declared.ids.ExprOrPatId.{ExprOrPatId}
 use Rattle.hir_types.specs.Subst.{folded}
-use Rattle.hir_types.specs.Terms.{Term, hole, hole_number, apply, occurs, term}
+use Rattle.hir_types.specs.Terms.{Term, hole, apply, term}
 use Rattle.infer_table.specs.declared.binding.Binding.{Binding}
 use Rattle.infer_table.specs.declared.waiting.WaitingPair.{WaitingPair}
 use Rattle.infer_table.specs.declared.snapshot.Snapshot.{Snapshot}
-use Rattle.infer_table.specs.Solutions.{log_of, Solves, Respects, AreOf, found}
+use Rattle.infer_table.specs.Solutions.{log_of, Solves, Respects, AreOf}
 use Rattle.infer_table.specs.Bindings.{Substitution, no_bindings, with_hole}
 use Rattle.infer_table.specs.Resolution.{resolution}
 use Rattle.infer_table.specs.Opened.{Agree, IsPlain, Reads}
+use Rattle.infer_table.specs.Least.{number_after, BindsLeast, HolesAreLeft}
 use Rattle.infer_table.specs.Waiting.{Waiting, no_pairs, with_pair, waiting, AllMade, left_at, left_before}
 
 -- a substitution without cycle over the holes that were made, the pairs that wait, and the numbers of
@@ -106,6 +107,18 @@ pub record IsMostGeneral (before after : State) (a b : Ty) : Type 0 where
 abbrev pub CanBeEqual : State → Ty → Ty → Type 0
 CanBeEqual state a b = (s : Hole → Term) × (u : Term) × Respects s × Meets s state × Reads s (resolved_term state a) u × Reads s (resolved_term state b) u
 
+-- exactly these assignments meet the state after: those that meet the state before, make the two equal with a
+-- new hole of its own in the place of each alias and of each `{unknown}`, and have some of these holes, each
+-- free till then, stand for their aliases
+abbrev pub IsLeast : State → State → Ty → Ty → Type 0
+IsLeast before after a b =
+    BindsLeast (hole_count before) (log_of (bindings before)) (log_of (bindings after)) (resolved_term before a) (resolved_term before b)
+
+-- each hole of the type after is open, and stood in one of the two types before or was made by the call
+abbrev pub HolesAreKept : State → State → Ty → Ty → Ty → Type 0
+HolesAreKept before after a b t =
+    HolesAreLeft (hole_count before) (bindings after) (resolved_term before a) (resolved_term before b) (resolved_term after t)
+
 -- the two were unified
 pub record AreUnified (before after : State) (a b : Ty) : Type 0 where
   pub grown : Grew before after
@@ -115,6 +128,10 @@ pub record AreUnified (before after : State) (a b : Ty) : Type 0 where
   pub solvable : (s : Hole → Term) × Respects s × Meets s after
   pub agree : Agree (resolved_term after a) (resolved_term after b)
   pub most_general : IsPlain (resolved_term before a) → IsPlain (resolved_term before b) → IsMostGeneral before after a b
+  pub least : IsLeast before after a b
+  pub made : hole_count after ≡ number_after (hole_count before) (resolved_term before a) (resolved_term before b)
+  pub left_holes : HolesAreKept before after a b a
+  pub right_holes : HolesAreKept before after a b b
 
 -- nothing was changed, since no reading makes the two equal
 pub record AreRefused (before after : State) (a b : Ty) : Type 0 where

@@ -1,5 +1,5 @@
 -- What trying a closure on a table comes to.
-use Rattle.std.specs.Prelude.{◌≡◌, ℕ, ◌≤◌, false, Option, Some, slice_get, Result, Ok, Err}
+use Rattle.std.specs.Prelude.{◌≡◌, ℕ, ◌≤◌, false, Some, slice_get, Result, Ok, Err}
 use Rattle.infer_table.specs.declared.binding.Binding.{Binding}
 use Rattle.hir_types.specs.declared.head.Hole.{Hole}
 use Rattle.hir_types.specs.Subst.{Replacement, with_holes}

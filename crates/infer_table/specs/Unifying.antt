@@ -1,5 +1,5 @@
 -- What unifying two types through their opened terms comes to.
-use Rattle.std.proofs.Common.{◌≡◌, ℕ, true, false, List, [], ◌++◌, refl, sym, ap, subst, ◌∙◌}
+use Rattle.std.proofs.Common.{◌≡◌, ℕ, List, ◌++◌, refl, sym, ap, subst, ◌∙◌}
 use Rattle.hir_types.specs.declared.head.Hole.{Hole}
 use Rattle.hir_types.specs.Terms.{Term, apply}
 use Rattle.infer_table.specs.Solutions.{Log, Solves, Respects, resolved, Triangular, Unified, NoneUnifies}

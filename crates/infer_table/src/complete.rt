@@ -6,7 +6,7 @@ ghost use Rattle.hir_types.specs.Terms.{terms_of};
 ghost use Rattle.infer_table.specs.Bindings.{AllOf};
 ghost use Rattle.infer_table.specs.Resolution.{resolution, IsOpenOrKnown};
 ghost use Rattle.infer_table.specs.Solutions.{Respects};
-ghost use Rattle.infer_table.specs.Table.{bindings, resolved_type, Meets};
+ghost use Rattle.infer_table.specs.Table.{bindings, resolved_type, HolesAreOf, Meets};
 ghost use Rattle.infer_table.specs.Completion.{completion_of, completion};
 
 use crate::bindings::Bindings;
@@ -77,6 +77,7 @@ impl InferenceTable {
     pub fn shallow_resolve<'a>(&'a self, ty: &'a Ty) -> &'a Ty
         ensures same { resolved_type self.now result.now ≡ resolved_type self.now ty.now }
         ensures open { IsOpenOrKnown (bindings self.now) result.now }
+        ensures made { HolesAreOf self.now ty.now → HolesAreOf self.now result.now }
     {
         self.bindings.shallow_resolve(ty)
     }

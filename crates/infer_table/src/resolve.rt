@@ -2,7 +2,9 @@
 ghost use Rattle.std.specs.Prelude.{◌≡◌};
 ghost use Rattle.std.specs.Option.{option_copied};
 ghost use Rattle.hir_types.specs.Subst.{folded, const_folded};
-ghost use Rattle.infer_table.specs.Solutions.{log_of, Triangular};
+ghost use Rattle.hir_types.specs.Terms.{term};
+ghost use Rattle.infer_table.specs.Bindings.{AllOf};
+ghost use Rattle.infer_table.specs.Solutions.{log_of, Triangular, AreOf};
 ghost use Rattle.infer_table.specs.Resolution.{resolution, found_type, found_const, found_for, IsOpenOrKnown};
 
 use crate::binding::Binding;
@@ -14,8 +16,9 @@ impl Bindings {
     fn bound_type(&self, hole: Hole) -> Option<&Ty>
         ensures found { option_copied result ≡ found_type self.now.log hole }
         ensures acyclic { Triangular (log_of self.now.log) }
+        ensures made { AllOf self.now.kinds self.now.log }
     {
-        // That there is no cycle is known of the log.
+        // That there is no cycle, and that all holes were made, is known of the log.
         let _log = self.log();
         match self.bound(hole)? {
             Binding::Ty { ty, .. } | Binding::Int { ty, .. } => Some(ty),
@@ -40,6 +43,7 @@ impl Bindings {
     fn bound_for(&self, ty: &Ty) -> Option<&Ty>
         ensures found { option_copied result ≡ found_for self.now.log ty.now }
         ensures acyclic { Triangular (log_of self.now.log) }
+        ensures made { AllOf self.now.kinds self.now.log }
     {
         match ty {
             Ty::Var(hole) => self.bound_type(Hole::Ty(*hole)),
@@ -55,6 +59,7 @@ impl Bindings {
     pub fn shallow_resolve<'a>(&'a self, ty: &'a Ty) -> &'a Ty
         ensures same { folded (resolution self.now.log) result.now ≡ folded (resolution self.now.log) ty.now }
         ensures open { IsOpenOrKnown self.now.log result.now }
+        ensures made { AreOf self.now.kinds (term ty.now) → AreOf self.now.kinds (term result.now) }
     {
         let mut known = ty;
         'walk: while let Some(bound) = self.bound_for(known) {

@@ -7,6 +7,7 @@ ghost use Rattle.infer_table.specs.Equating.{OnlyBinds};
 ghost use Rattle.infer_table.specs.Equating.{IsOpenHole};
 ghost use Rattle.infer_table.specs.Opening.{origins_of};
 ghost use Rattle.infer_table.specs.OpenedAgree.{AreSettled};
+ghost use Rattle.infer_table.specs.Least.{BindsSome};
 ghost use Rattle.infer_table.specs.Settling.{Settled, SettlesOrigin, IsOriginOf, AreOriginsOf, IsTypeHoleIf, OnlyGrows, Unifies, UnifiesOrStays};
 ghost use Rattle.hir_types.specs.declared.head.Hole.TheVariants as hole_of;
 ghost use Rattle.infer_table.specs.Solutions.{log_of};
@@ -44,6 +45,8 @@ impl Bindings {
         ensures binds { OnlyBinds self.old self.new }
         ensures settles { OnOk result (Settled self.old self.new hole (term alias_ty.now)) }
     {
+        // That there is no cycle is known of the log.
+        let _log = self.log();
         let known = self.known(alloc, alias_ty)?;
         if stands_in(alloc, Hole::Ty(hole), &known, MOST_LEVELS)? {
             return Ok(());
@@ -74,6 +77,7 @@ impl Bindings {
         ensures binds { OnlyBinds self.old self.new }
         ensures settles { OnOk result (AreSettled (log_of self.new.log) (origins_of origins.now)) }
         ensures nothing { OnOk result (origins.now ≡ [] → self.new ≡ self.old) }
+        ensures least { OnOk result (BindsSome (log_of self.old.log) (log_of self.new.log) (origins_of origins.now)) }
     {
         for origin in origins {
             self.settle(alloc, origin)?;

@@ -1,4 +1,4 @@
-use Rattle.std.proofs.Common.{refl, sym, ◌∙◌, length, arith, subst}
+use Rattle.std.proofs.Common.{refl, length, subst}
 use Rattle.std.proofs.lemmas.Option.{slice_get_read}
 use Rattle.hir_types.specs.Outlines.{part_term}
 use Rattle.infer_table.specs.Made.{MadeIf}

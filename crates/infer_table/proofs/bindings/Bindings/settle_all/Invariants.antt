@@ -3,6 +3,7 @@ use Rattle.infer_table.specs.Solutions.{log_of}
 use Rattle.infer_table.specs.Equating.{OnlyBinds}
 use Rattle.infer_table.specs.OpenedAgree.{AreSettled}
 use Rattle.infer_table.specs.Opening.{origins_of}
+use Rattle.infer_table.specs.Least.{BindsSome}
 use Rattle.infer_table.proofs.bindings.Bindings.settle_all.Given as goal
 
 -- the origins so far are settled, and only bindings were added
@@ -10,5 +11,6 @@ abbrev pub invariant-loop-origin : goal.invariant-loop-origin
 invariant-loop-origin l = record {
   binds : OnlyBinds l.initial.self l.self;
   settled : AreSettled (log_of l.self.log) (origins_of (take l.origin-index l.origins));
+  least : BindsSome (log_of l.initial.self.log) (log_of l.self.log) (origins_of l.origins);
   nothing : l.origins ≡ [] → l.self ≡ l.initial.self;
 }

@@ -1,5 +1,5 @@
-use Rattle.std.proofs.Common.{sym, ◌∙◌, ap, subst, true, false}
-use Rattle.hir_types.specs.Terms.{Term, occurs, term}
+use Rattle.std.proofs.Common.{sym, ◌∙◌}
+use Rattle.hir_types.specs.Terms.{term}
 use Rattle.hir_types.specs.declared.head.Hole.TheVariants as hole_of
 use Rattle.infer_table.proofs.Settling.{settles_stands, settles_bind}
 use Rattle.infer_table.proofs.Unifying.{may_bind}
@@ -19,3 +19,4 @@ pub returns-clause-settles : goal.returns-clause-settles
 returns-clause-settles c =
     settles_bind c.args.self.now c.bind.new.self c.binding_to.result c.args.hole (term c.args.alias_ty.now) (term c.in_ok-known.known) c.requires.is_alias
     c.in_ok-known.ensures.same c.binding_to.ensures.bound c.binding_to.ensures.target c.in_ok-bind.ensures.bound
+    c.log-log.ensures.acyclic c.requires.is_open.is_open

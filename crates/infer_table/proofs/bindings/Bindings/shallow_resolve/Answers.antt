@@ -2,6 +2,7 @@ use Rattle.std.proofs.Common.{◌<◌, ◌∙◌, sym, subst}
 use Rattle.hir_types.specs.Terms.{Term, term}
 use Rattle.infer_table.specs.Solutions.{log_of}
 use Rattle.infer_table.specs.Resolution.{found_for_folded, found_for_in_log, none_for}
+use Rattle.infer_table.proofs.HolesMade.{made_found}
 use Rattle.infer_table.proofs.Weights.{weight, weight_found}
 use Rattle.infer_table.proofs.bindings.Bindings.shallow_resolve.Goals as goal
 
@@ -13,9 +14,12 @@ walk-smaller c =
     subst P (sym p.1) (weight_found l p.0 (term c.in-Some.bound.now) c.in-Some.ensures.acyclic p.2)
 
 pub walk-preserved : goal.walk-preserved
-walk-preserved c =
-    found_for_folded c.args.self.now.log c.walk.known.now c.in-Some.bound.now c.in-Some.ensures.acyclic (sym c.in-Some.ensures.found)
-    ∙ c.walk.invariant
+walk-preserved c = record {
+  same =
+      found_for_folded c.args.self.now.log c.walk.known.now c.in-Some.bound.now c.in-Some.ensures.acyclic (sym c.in-Some.ensures.found)
+      ∙ c.walk.invariant.same;
+  made = λ h. made_found c.args.self.now.kinds c.args.self.now.log c.walk.known.now c.in-Some.bound.now c.in-Some.ensures.made (sym c.in-Some.ensures.found);
+}
 
 pub returns-clause-open : goal.returns-clause-open
 returns-clause-open c = none_for c.args.self.now.log c.walk.known.now (sym c.in_default.ensures.found)

@@ -1,13 +1,16 @@
 use Rattle.std.proofs.Common.{◌≡◌}
 use Rattle.hir_types.specs.Subst.{folded}
 use Rattle.hir_types.specs.Terms.{term}
-use Rattle.infer_table.specs.Solutions.{log_of}
+use Rattle.infer_table.specs.Solutions.{log_of, AreOf}
 use Rattle.infer_table.specs.Resolution.{resolution}
 use Rattle.infer_table.proofs.Weights.{weight}
 use Rattle.infer_table.proofs.bindings.Bindings.shallow_resolve.Given as goal
 
 abbrev pub invariant-walk : goal.invariant-walk
-invariant-walk l = folded (resolution l.self.log) l.known ≡ folded (resolution l.self.log) l.ty
+invariant-walk l = record {
+  same : folded (resolution l.self.log) l.known ≡ folded (resolution l.self.log) l.ty;
+  made : AreOf l.self.kinds (term l.ty) → AreOf l.self.kinds (term l.known);
+}
 
 abbrev pub decreases-walk : goal.decreases-walk
 decreases-walk l = weight (log_of l.self.log) (term l.known)

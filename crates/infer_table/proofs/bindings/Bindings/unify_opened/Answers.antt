@@ -5,6 +5,7 @@ use Rattle.infer_table.specs.declared.open.Origin.{Origin}
 use Rattle.infer_table.specs.Solutions.{log_of, UnifiedIf}
 use Rattle.infer_table.specs.Opening.{origins_of}
 use Rattle.infer_table.specs.OpenedAgree.{AreSettled}
+use Rattle.infer_table.specs.Least.{BindsSome}
 use Rattle.infer_table.specs.Settling.{AreOriginsOf}
 use Rattle.infer_table.proofs.OpenedBoth.{both_opened, BothOpened, opened_refused, opened_unified}
 use Rattle.infer_table.proofs.bindings.Bindings.unify_opened.Goals as goal
@@ -53,9 +54,11 @@ returns-clause-unified c =
       opened_log = c.in_ok-right-2.ensures.log ∙ c.in_ok-left-2.ensures.log;
       equated = c.in_ok-equate.ensures.binds.added;
       settled = c.in_ok-settle_all.ensures.binds;
+      made_before = c.log-before.ensures.made;
       acyclic_before = c.log-before.ensures.acyclic;
       acyclic_after = c.log-after.ensures.acyclic;
     })
     (subst (λ (y : Bool). UnifiedIf y (log_of c.open-2.new.self.log) (log_of c.equate.new.self.log) (term c.in_ok-left-2.left) (term c.in_ok-right-2.right)) c.if-not-branch.false c.in_ok-equate.ensures.unified)
     (subst (λ (os : List Origin). AreSettled (log_of c.settle_all.new.self.log) (origins_of os)) c.as_slice.ensures.value c.in_ok-settle_all.ensures.settles)
     (subst (λ (os : List Origin). os ≡ [] → c.settle_all.new.self ≡ c.equate.new.self) c.as_slice.ensures.value c.in_ok-settle_all.ensures.nothing)
+    (subst (λ (os : List Origin). BindsSome (log_of c.equate.new.self.log) (log_of c.settle_all.new.self.log) (origins_of os)) c.as_slice.ensures.value c.in_ok-settle_all.ensures.least)

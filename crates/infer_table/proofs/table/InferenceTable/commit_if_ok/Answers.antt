@@ -1,4 +1,4 @@
-use Rattle.std.proofs.Common.{◌∙◌, Ok, Err, ap, subst}
+use Rattle.std.proofs.Common.{◌∙◌, Ok, ap, subst}
 use Rattle.std.specs.Fn.{FnOnceReturnsAtMut}
 use Rattle.infer_table.proofs.table.InferenceTable.commit_if_ok.Goals as goal
 

@@ -1,7 +1,5 @@
 use Rattle.std.proofs.Common.{◌∙◌, Ok, Err, ap, subst, sym, refl}
-use Rattle.std.specs.Fn.{FnOnceReturnsAtMut}
-use Rattle.infer_table.specs.Table.{bindings}
-use Rattle.infer_table.specs.Undo.{IsResolvedOr, Fudges}
+use Rattle.infer_table.specs.Undo.{IsResolvedOr}
 use Rattle.infer_table.specs.UndoLaws.{fresh}
 use Rattle.infer_table.proofs.table.InferenceTable.fudge.Goals as goal
 
