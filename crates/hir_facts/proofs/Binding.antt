@@ -14,7 +14,6 @@ use Rattle.hir_facts.specs.declared.schedule.Schedule.{Schedule}
 use Rattle.hir_facts.specs.Order.{Binds, binding_of, IsTree, IsSchedule, AreDepths}
 use Rattle.hir_facts.specs.Ways.{tree_of_schedule}
 use Rattle.hir_facts.specs.Laws.Namers.{IsNamedAt, IsNamedBy}
-use Rattle.hir_facts.specs.Laws.InBody.{PatsIdsExist, MaybeBindingExists}
 use Rattle.hir_facts.specs.Laws.Binders.{bound_binding, AreBinders, is_self, is_bound_once}
 use Rattle.hir_facts.specs.Laws.Trees.{BoundBySelf, BoundByPattern, IsWellFormed}
 
@@ -48,17 +47,6 @@ within_at (Some p) v e = (p, refl)
 
 pub pat_within : (b : RawBody) (p : PatId) (v : BindingId) → Binds b p v → p.0 < length b.pats
 pat_within b p v h = let w : (x : RawPat) × (slice_get b.pats p.0 ≡ Some x) = within_at (slice_get b.pats p.0) v h in slice_get_within b.pats p.0 w.0 w.1
-
-below_some : (b : RawBody) (v : Option BindingId) (t : ℕ) → MaybeBindingExists b v → option_map (λ w. w.0) v ≡ Some t → t < length b.bindings
-below_some b None t h e = cc
-below_some b (Some v) t h e = let q : v.0 ≡ t = cc in rw (← q) h
-
-below_at : (b : RawBody) (t : ℕ) (o : Option RawPat) → ((p : RawPat) → o ≡ Some p → MaybeBindingExists b (binding_of p)) → option_map bound_binding o ≡ Some (Some t) → t < length b.bindings
-below_at b t None h e = cc
-below_at b t (Some p) h e = let q : bound_binding p ≡ Some t = cc in below_some b (binding_of p) t (h p refl) q
-
-pub bound_below : (b : RawBody) → PatsIdsExist b → (k t : ℕ) → slice_get (map bound_binding b.pats) k ≡ Some (Some t) → t < length b.bindings
-bound_below b h k t found = below_at b t (slice_get b.pats k) (λ p here. h k p here) (sym (slice_get-map bound_binding b.pats k) ∙ found)
 
 -- ---- self
 

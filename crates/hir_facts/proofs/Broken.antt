@@ -1,5 +1,5 @@
 -- Which entry breaks a law first.
-use Rattle.std.proofs.Common.{inl, inr, ◌≡◌, ◌<◌, ◌≤◌, ◌+◌, ℕ, List, length, get_or, Some, refl, sym, ◌∙◌, ap, arith, Bool, true, false}
+use Rattle.std.proofs.Common.{inl, inr, ◌≡◌, ◌<◌, ◌≤◌, ◌+◌, ℕ, List, [], ◌∷◌, length, get_or, Some, refl, sym, ◌∙◌, ap, arith, Bool, true, false}
 use Rattle.std.specs.Prelude.{slice_get}
 use Rattle.std.proofs.lemmas.Option.{slice_get_read, slice_get_within}
 use Rattle.std.proofs.Math.Nat.{eq-or-lt_of_le}
@@ -33,3 +33,8 @@ breaks_here P xs listed i x r p lt is says was = record { broken = (x, read_at P
 
 pub passed_all : {A : Type 0} (P : ℕ → A → Type 0) (xs listed : List A) (i : ℕ) → Passed P xs listed i → length xs ≤ i → AllHold P listed
 passed_all {A} P xs listed i p le j x found = p.before j x (let lt : j < length listed = slice_get_within listed j x found in let e : length xs ≡ length listed = ap length p.same in omega arith) found
+
+-- a law that nothing obeys breaks at the first entry
+pub first_breaks : {A : Type 0} (xs : List A) → 0 < length xs → BreaksAt (λ (i : ℕ) (x : A). ⊥) xs 0
+first_breaks [] lt = absurd (omega arith)
+first_breaks (x ∷ xs) lt = record { broken = (x, refl, λ h. h); before = λ j y below found. omega arith }

@@ -20,8 +20,8 @@ use Rattle.hir_facts.specs.declared.raw.RawPat.TheVariants as pat
 use Rattle.hir_facts.specs.declared.raw.RawBody.{RawBody}
 use Rattle.hir_facts.specs.declared.raw.RawFacts.{RawFacts}
 use Rattle.hir_facts.specs.Order.{Role, Part, parameter, root, element, tail, initializer, let_pattern, let_else, condition, then_branch, else_branch, scrutinee, arm_pattern, guard, arm, callee, argument, subpattern, pattern_literal, expr_part, pat_part, maybe_part, stmt_parts, stmts_parts, exprs_from, arm_patterns, arm_parts, arms_parts, subpatterns, param_parts, expr_parts, pat_parts, body_parts, Node, the_body, inner, IsNode, IsInBody, parts_of_expr, parts_of_pat, parts, stmts_of, binding_of}
-use Rattle.hir_facts.specs.Laws.InBody.{MaybeExprExists, MaybeTypeExists, MaybeBindingExists, StmtIdsExist, StmtsIdsExist, ElementsExist, PatternsExist, ArmExists, ArmsExist, PathExists, ExprIdsExist, PatPartsExist, BodyIdsHere}
-use Rattle.hir_facts.specs.Laws.Ids.{HasOneOwner, BodyIdsExist}
+use Rattle.hir_facts.specs.Laws.InBody.{MaybeExprExists, MaybeTypeExists, MaybeBindingExists, StmtIdsExist, StmtsIdsExist, ElementsExist, PatternsExist, ArmExists, ArmsExist, ExprIdsExist, PatPartsExist, BodyIdsHere}
+use Rattle.hir_facts.specs.Laws.Ids.{HasOneOwner, PathExists, BodyIdsExist}
 
 -- these parts are nodes of the body
 record AllIn (b : RawBody) (ps : List Part) : Type 0 where
@@ -162,6 +162,8 @@ pat_in : (b : RawBody) (x : RawPat) → PatPartsExist b x → AllIn b (pat_parts
 pat_in b pat.Wild h = in_nil b
 pat_in b (pat.Bind v sub) h = in_nil b
 pat_in b (pat.Tuple ps) h = subpatterns_in b 0 ps h
+pat_in b (pat.TupleStruct v ps) h = subpatterns_in b 0 ps h
+pat_in b (pat.Path q) h = in_nil b
 pat_in b (pat.Lit e) h = in_cons b (expr_part pattern_literal e) [] h (in_nil b)
 pat_in b pat.Other h = in_nil b
 
@@ -169,6 +171,8 @@ pat_out : (b : RawBody) (x : RawPat) → AllIn b (pat_parts x) → PatPartsExist
 pat_out b pat.Wild all = tt
 pat_out b (pat.Bind v sub) all = tt
 pat_out b (pat.Tuple ps) all = subpatterns_out b 0 ps all
+pat_out b (pat.TupleStruct v ps) all = subpatterns_out b 0 ps all
+pat_out b (pat.Path q) all = tt
 pat_out b (pat.Lit e) all = in_head b (expr_part pattern_literal e) [] all
 pat_out b pat.Other all = tt
 
@@ -241,6 +245,8 @@ exists_from_here raw i b h one = record {
   parts = λ n k p inside found. (node_in raw b h n).each k p found;
   locals = λ e v found. h.exprs e.0 (expr.Path (path.Local v)) found;
   functions = λ e f found. h.exprs e.0 (expr.Path (path.Function f)) found;
+  constructors = λ e v found. h.exprs e.0 (expr.Path (path.Ctor v)) found;
+  pat_names = λ p x found. h.pat_names p x found;
   binders = λ p v binds. option_and_then_some binding_of (slice_get b.pats p.0) v binds (λ x found is. (let m : MaybeBindingExists b (binding_of x) = h.pats p.0 x found in rw is at m));
   written = λ e k p t init other found. written_at raw b (slice_get b.exprs e.0) (λ x here. h.exprs e.0 x here) k p t init other found;
   owner = one;
@@ -254,6 +260,7 @@ maybe_written raw b (stmt.Expr e semicolon) h = tt
 local_here : (raw : RawFacts) (i : ℕ) (b : RawBody) → BodyIdsExist raw i b → (e : ExprId) (p : RawPath) → slice_get b.exprs e.0 ≡ Some (expr.Path p) → PathExists raw b p
 local_here raw i b h e (path.Local v) found = h.locals e v found
 local_here raw i b h e (path.Function f) found = h.functions e f found
+local_here raw i b h e (path.Ctor v) found = h.constructors e v found
 local_here raw i b h e path.Other found = tt
 
 binding_here : (raw : RawFacts) (i : ℕ) (b : RawBody) → BodyIdsExist raw i b → (p : PatId) (x : RawPat) (v : Option BindingId) → slice_get b.pats p.0 ≡ Some x → binding_of x ≡ v → MaybeBindingExists b v
@@ -291,4 +298,5 @@ here_from_exists raw i b h =
       exprs = λ e x found. expr_here raw i b h (record { 0 = e }) x found;
       pats = λ k p found. binding_here raw i b h (record { 0 = k }) p (binding_of p) found refl;
       pat_parts = λ k p found. pat_parts_here raw i b h k p found;
+      pat_names = λ k p found. h.pat_names k p found;
     }

@@ -1,6 +1,12 @@
 pub mod Broken
 pub mod Named
 pub mod InBodies
+pub mod Once
+pub mod FieldNames
+pub mod Refusals
+pub mod Standing
+pub mod Fits
+pub mod Uses
 pub mod Owners
 pub mod Drops
 pub mod Measured

@@ -33,17 +33,18 @@ namers_kept targets n count xs h lt is = record {
   each = λ t below. named_same targets n t (get_or xs t Nobody) (λ p. (let here : slice_get targets n ≡ Some None = slice_get_read targets (length targets) n None refl lt (sym is) in cc)) (h.each t below);
 }
 
-pub named_here : (targets : List (Option ℕ)) (n place : ℕ) → n < length targets → get_or targets n None ≡ Some place → slice_get targets n ≡ Some (Some place)
+named_here : (targets : List (Option ℕ)) (n place : ℕ) → n < length targets → get_or targets n None ≡ Some place → slice_get targets n ≡ Some (Some place)
 named_here targets n place lt was = slice_get-get_or targets n None lt ∙ ap (λ (o : Option ℕ). Some o) was
 
-pub namers_more : (targets : List (Option ℕ)) (n count place : ℕ) (xs ys : List Namers) → AreNamers targets n count xs → n < length targets → get_or targets n None ≡ Some place → place < count → ys ≡ slice_set xs place (and_one (get_or xs place Nobody) n) → AreNamers targets (n + 1) count ys
-namers_more targets n count place xs ys h inside was lt is =
+pub namers_more : (targets : List (Option ℕ)) (n count place : ℕ) (xs ys : List Namers) → AreNamers targets n count xs → n < length targets → get_or targets n None ≡ Some place → ys ≡ slice_set xs place (and_one (get_or xs place Nobody) n) → AreNamers targets (n + 1) count ys
+namers_more targets n count place xs ys h inside was is =
     let here : slice_get targets n ≡ Some (Some place) = named_here targets n place inside was in
-    let within : place < length xs = rw h.size lt in
     record {
       size = rw (is, length-set xs place (and_one (get_or xs place Nobody) n)) h.size;
       each = λ t below. rw is (elim (eqb_tells t place) [
-        | inl e ↦ rw (e.1, get_or-set_same xs place (and_one (get_or xs place Nobody) n) Nobody within) (named_again targets n place (get_or xs place Nobody) here (h.each place lt))
+        | inl e ↦ (let lt : place < count = rw e.1 at below in
+            let within : place < length xs = rw h.size lt in
+            rw (e.1, get_or-set_same xs place (and_one (get_or xs place Nobody) n) Nobody within) (named_again targets n place (get_or xs place Nobody) here (h.each place lt)))
         | inr e ↦ rw (get_or-set_other xs place t (and_one (get_or xs place Nobody) n) Nobody e.1) (named_same targets n t (get_or xs t Nobody) (λ p. e.1 (let q : Some (Some t) ≡ Some (Some place) = sym p ∙ here in cc)) (h.each t below))
       ]);
     }

@@ -9,7 +9,6 @@ use Rattle.hir_types.specs.declared.ids.LabelId.{LabelId}
 use Rattle.hir_facts.specs.declared.raw.RawBody.{RawBody}
 use Rattle.hir_facts.specs.declared.raw.RawArm.{RawArm}
 use Rattle.hir_facts.specs.declared.raw.RawPat.{RawPat}
-use Rattle.hir_facts.specs.declared.raw.RawPat.TheVariants as pat
 use Rattle.hir_facts.specs.declared.raw.RawExpr.{RawExpr}
 use Rattle.hir_facts.specs.declared.raw.RawExpr.TheVariants as expr
 use Rattle.hir_facts.specs.declared.raw.RawStmt.{RawStmt}
@@ -103,11 +102,12 @@ call_pushed f args old first new one two =
 pub kind_pushed : (x y : RawExpr) (new all : List ExprOrPatId) → x ≡ y → new ≡ [] → all ≡ new ++ nodes (expr_parts y) → all ≡ nodes (expr_parts x)
 kind_pushed x y new all is none pushed = pushed ∙ (ap (λ (ns : List ExprOrPatId). ns ++ nodes (expr_parts y)) none ∙ ap (λ (z : RawExpr). nodes (expr_parts z)) (sym is))
 
-pub pats_pushed : (x : RawPat) (ps : List PatId) (new all : List ExprOrPatId) (ds : List PatId) → x ≡ pat.Tuple ps → new ≡ [] → ds ≡ ps → all ≡ new ++ map (λ p. node.PatId p) ds → all ≡ nodes (pat_parts x)
-pats_pushed x ps new all ds is none same pushed =
+-- a pattern whose parts are these patterns
+pub pats_pushed : (x y : RawPat) (ps : List PatId) (new all : List ExprOrPatId) (ds : List PatId) → x ≡ y → pat_parts y ≡ subpatterns 0 ps → new ≡ [] → ds ≡ ps → all ≡ new ++ map (λ p. node.PatId p) ds → all ≡ nodes (pat_parts x)
+pats_pushed x y ps new all ds is parts none same pushed =
     let start : all ≡ map (λ p. node.PatId p) ps =
     pushed ∙ (ap (λ (ns : List ExprOrPatId). ns ++ map (λ p. node.PatId p) ds) none ∙ ap (λ (rs : List PatId). map (λ p. node.PatId p) rs) same) in
-    start ∙ (sym (nodes-subpatterns 0 ps) ∙ ap (λ (y : RawPat). nodes (pat_parts y)) (sym is))
+    start ∙ (sym (nodes-subpatterns 0 ps) ∙ (ap nodes (sym parts) ∙ ap (λ (z : RawPat). nodes (pat_parts z)) (sym is)))
 
 pub body_pushed : (b : RawBody) (new pats all : List ExprOrPatId) (ps : List PatId) → new ≡ [] → ps ≡ b.params → pats ≡ new ++ map (λ p. node.PatId p) ps
     → all ≡ pats ++ node.ExprId b.root ∷ [] → all ≡ nodes (body_parts b)

@@ -1,5 +1,5 @@
 -- Literals that patterns are.
-use Rattle.std.proofs.Common.{◌≡◌, ◌<◌, ℕ, List, length, get_or, map, Option, Some, None, sym, ◌∙◌, ap, inl, inr}
+use Rattle.std.proofs.Common.{◌≡◌, ℕ, List, length, get_or, map, Option, Some, None, sym, ◌∙◌, ap, inl, inr}
 use Rattle.std.specs.Prelude.{slice_get, option_map}
 use Rattle.std.proofs.lemmas.Option.{slice_get_within, slice_get-map}
 use Rattle.hir_types.specs.declared.ids.ExprId.{ExprId}
@@ -12,7 +12,6 @@ use Rattle.hir_facts.specs.declared.laws.namers.Namers.{Namers}
 use Rattle.hir_facts.specs.declared.laws.namers.Namers.TheVariants.{Nobody, One, Several}
 use Rattle.hir_facts.specs.Laws.Entries.{AllHold}
 use Rattle.hir_facts.specs.Laws.Namers.{IsNamedAt, IsNamedBy}
-use Rattle.hir_facts.specs.Laws.InBody.{PatsPartsExist, PatPartsExist}
 use Rattle.hir_facts.specs.Laws.Literals.{IsPatternOf, LiteralsFit}
 use Rattle.hir_facts.specs.Laws.InBits.{literal_of, ArePatterns, IsSomeones, ExprIsInBits, PatIsLiteral}
 
@@ -21,6 +20,8 @@ place_at None t h = cc
 place_at (Some pat.Wild) t h = cc
 place_at (Some (pat.Bind v sub)) t h = cc
 place_at (Some (pat.Tuple ps)) t h = cc
+place_at (Some (pat.TupleStruct v ps)) t h = cc
+place_at (Some (pat.Path q)) t h = cc
 place_at (Some (pat.Lit e)) t h = let q : e.0 ≡ t = cc in ap (λ (n : ℕ). Some (pat.Lit (record { 0 = n }))) q
 place_at (Some pat.Other) t h = cc
 
@@ -29,14 +30,6 @@ pattern_from_named b p e h = place_at (slice_get b.pats p) e.0 (sym (slice_get-m
 
 named_from_pattern : (b : RawBody) (p : ℕ) (e : ExprId) → IsPatternOf b p e → IsNamedAt (map literal_of b.pats) e.0 p
 named_from_pattern b p e h = slice_get-map literal_of b.pats p ∙ ap (λ (o : Option RawPat). option_map literal_of o) h
-
-below_at : (b : RawBody) (t : ℕ) (o : Option RawPat) → ((x : RawPat) → o ≡ Some x → PatPartsExist b x) → o ≡ Some (pat.Lit (record { 0 = t })) → t < length b.exprs
-below_at b t None h e = cc
-below_at b t (Some x) h e = h (pat.Lit (record { 0 = t })) e
-
--- what a pattern is is an expression of the body
-pub literal_below : (b : RawBody) → PatsPartsExist b → (k t : ℕ) → slice_get (map literal_of b.pats) k ≡ Some (Some t) → t < length b.exprs
-literal_below b h k t found = below_at b t (slice_get b.pats k) (λ x here. h k x here) (pattern_from_named b k (record { 0 = t }) found)
 
 someones_pattern : (b : RawBody) (e : ExprId) (x : Namers) → IsNamedBy (map literal_of b.pats) (length b.pats) e.0 x → IsSomeones x → (p : ℕ) × IsPatternOf b p e
 someones_pattern b e Nobody named h = absurd h
@@ -77,5 +70,7 @@ module _ (b : RawBody) (xs : List Namers) (names : ArePatterns b xs) where
   literals_from fit p pat.Wild found = tt
   literals_from fit p (pat.Bind v sub) found = tt
   literals_from fit p (pat.Tuple ps) found = tt
+  literals_from fit p (pat.TupleStruct v ps) found = tt
+  literals_from fit p (pat.Path q) found = tt
   literals_from fit p (pat.Lit e) found = fit.under p e found
   literals_from fit p pat.Other found = tt

@@ -99,6 +99,7 @@ module _ (b : RawBody) (s : Schedule) where
   typed_from_scope xs names exist well scope e (expr.Path (path.Local v)) found =
       typed_told (record { 0 = e }) v (get_or xs v.0 Nobody) (names.each v.0 (exist e v found)) (well.bound v (exist e v found)) (scope (record { 0 = e }) v found)
   typed_from_scope xs names exist well scope e (expr.Path (path.Function f)) found = tt
+  typed_from_scope xs names exist well scope e (expr.Path (path.Ctor v)) found = tt
   typed_from_scope xs names exist well scope e (expr.Path path.Other) found = tt
   typed_from_scope xs names exist well scope e (expr.Lit l) found = tt
   typed_from_scope xs names exist well scope e (expr.Block label stmts last) found = tt

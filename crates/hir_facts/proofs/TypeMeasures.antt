@@ -7,9 +7,11 @@ use Rattle.hir_types.specs.declared.ids.TypeRefId.{TypeRefId}
 use Rattle.hir_facts.specs.declared.raw.RawType.{RawType}
 use Rattle.hir_facts.specs.declared.raw.RawType.TheVariants as type
 use Rattle.hir_types.specs.declared.ty.Ty.{Ty}
+use Rattle.hir_types.specs.declared.ty.GenericArg.TheVariants as arg
 use Rattle.hir_types.specs.Types.{most, depth, size}
 use Rattle.hir_types.specs.Layers.{depth_tuple, depth_bool, depth_char, depth_integer, depth_error, size_tuple, size_bool, size_char, size_integer, size_error}
-use Rattle.hir_facts.specs.Types.{lowered, lowered_by}
+use Rattle.hir_facts.specs.AdtLayers.{depth_of_arg, depth_type_arg, depth_adt, depth_param, depth_hole, size_of_arg, size_type_arg, size_adt, size_param, size_hole}
+use Rattle.hir_facts.specs.Types.{type_parts, lowered, lowered_by}
 use Rattle.hir_facts.specs.Laws.Entries.{AllHold}
 use Rattle.hir_facts.specs.Laws.Ids.{ChildrenBefore}
 use Rattle.hir_facts.specs.Laws.Measures.{depth_by, size_by, AreMeasures}
@@ -25,11 +27,18 @@ map_twice : {A B C : Type 0} (f : B → C) (g : A → B) (xs : List A) → map f
 map_twice f g [] = refl
 map_twice f g (x ∷ xs) = let r : map f (map g xs) ≡ map (λ x. f (g x)) xs = map_twice f g xs in λ i. f (g x) ∷ r i
 
+map_same : {A B : Type 0} (f g : A → B) (xs : List A) → ((x : A) → f x ≡ g x) → map f xs ≡ map g xs
+map_same f g [] same = refl
+map_same f g (x ∷ xs) same = let here : f x ≡ g x = same x in let rest : map f xs ≡ map g xs = map_same f g xs same in λ i. here i ∷ rest i
+
 depth_parts : (g : ℕ → Ty) (x : RawType) → depth (lowered_by g (Some x)) ≡ depth_by (λ t. depth (g t)) x
 depth_parts g type.Bool = depth_bool
 depth_parts g type.Char = depth_char
 depth_parts g (type.Integer i) = depth_integer i
 depth_parts g (type.Tuple ts) = depth_tuple (map (λ t. g t.0) ts) ∙ ap (λ (ns : List ℕ). most ns + 1) (map_twice depth (λ (t : TypeRefId). g t.0) ts)
+depth_parts g (type.Adt a ts) = depth_adt a (map (λ t. arg.Ty (g t.0)) ts) ∙ ap (λ (ns : List ℕ). most ns + 1) (map_twice depth_of_arg (λ (t : TypeRefId). arg.Ty (g t.0)) ts ∙ map_same _ _ ts (λ t. depth_type_arg (g t.0)))
+depth_parts g (type.Param n) = depth_param n
+depth_parts g type.Hole = depth_hole
 depth_parts g type.Other = depth_error
 
 size_parts : (g : ℕ → Ty) (x : RawType) → size (lowered_by g (Some x)) ≡ size_by (λ t. size (g t)) x
@@ -37,6 +46,9 @@ size_parts g type.Bool = size_bool
 size_parts g type.Char = size_char
 size_parts g (type.Integer i) = size_integer i
 size_parts g (type.Tuple ts) = size_tuple (map (λ t. g t.0) ts) ∙ ap (λ (ns : List ℕ). sum ns + 1) (map_twice size (λ (t : TypeRefId). g t.0) ts)
+size_parts g (type.Adt a ts) = size_adt a (map (λ t. arg.Ty (g t.0)) ts) ∙ ap (λ (ns : List ℕ). sum ns + 1) (map_twice size_of_arg (λ (t : TypeRefId). arg.Ty (g t.0)) ts ∙ map_same _ _ ts (λ t. size_type_arg (g t.0)))
+size_parts g (type.Param n) = size_param n
+size_parts g type.Hole = size_hole
 size_parts g type.Other = size_error
 
 most_bound : (bound : ℕ) (f g : TypeRefId → ℕ) (ts : List TypeRefId) → ((k : ℕ) (t : TypeRefId) → slice_get ts k ≡ Some t → f t ≡ min bound (g t)) → min bound (most (map f ts)) ≡ min bound (most (map g ts))
@@ -61,18 +73,14 @@ one_more : (bound a b : ℕ) → min bound a ≡ min bound b → min bound (a + 
 one_more bound a b e = omega arith
 
 depth_bounds : (bound n : ℕ) (f g : ℕ → ℕ) (x : RawType) → ChildrenBefore n x → ((j : ℕ) → j < n → f j ≡ min bound (g j)) → min bound (depth_by f x) ≡ min bound (depth_by g x)
-depth_bounds bound n f g type.Bool before same = refl
-depth_bounds bound n f g type.Char before same = refl
-depth_bounds bound n f g (type.Integer i) before same = refl
-depth_bounds bound n f g (type.Tuple ts) before same = one_more bound (most (map (λ t. f t.0) ts)) (most (map (λ t. g t.0) ts)) (most_bound bound (λ t. f t.0) (λ t. g t.0) ts (λ k t found. same t.0 (before k t found)))
-depth_bounds bound n f g type.Other before same = refl
+depth_bounds bound n f g x before same =
+    let ts : List TypeRefId = type_parts x in
+    one_more bound (most (map (λ t. f t.0) ts)) (most (map (λ t. g t.0) ts)) (most_bound bound (λ t. f t.0) (λ t. g t.0) ts (λ k t found. same t.0 (before k t found)))
 
 size_bounds : (bound n : ℕ) (f g : ℕ → ℕ) (x : RawType) → ChildrenBefore n x → ((j : ℕ) → j < n → f j ≡ min bound (g j)) → min bound (size_by f x) ≡ min bound (size_by g x)
-size_bounds bound n f g type.Bool before same = refl
-size_bounds bound n f g type.Char before same = refl
-size_bounds bound n f g (type.Integer i) before same = refl
-size_bounds bound n f g (type.Tuple ts) before same = one_more bound (sum (map (λ t. f t.0) ts)) (sum (map (λ t. g t.0) ts)) (sum_bound bound (λ t. f t.0) (λ t. g t.0) ts (λ k t found. same t.0 (before k t found)))
-size_bounds bound n f g type.Other before same = refl
+size_bounds bound n f g x before same =
+    let ts : List TypeRefId = type_parts x in
+    one_more bound (sum (map (λ t. f t.0) ts)) (sum (map (λ t. g t.0) ts)) (sum_bound bound (λ t. f t.0) (λ t. g t.0) ts (λ k t found. same t.0 (before k t found)))
 
 pub depth_measures : (bound : ℕ) → Measuring bound depth depth_by
 depth_measures bound = record { of_parts = depth_parts; bounds = depth_bounds bound }

@@ -1,5 +1,5 @@
 -- Types of the carried kinds: they have no holes and no labels, and name nothing of the facts.
-use Rattle.std.specs.Prelude.{◌≡◌, ℕ, zero, suc, Bool, true, false, ◌&&◌, ◌||◌, List, [], ◌∷◌, map, slice_get, Option, Some, None, refl}
+use Rattle.std.specs.Prelude.{◌≡◌, ℕ, zero, suc, Bool, true, false, ◌&&◌, ◌||◌, List, [], ◌∷◌, map, slice_get, Option, Some, None, refl, IsTrue}
 use Rattle.std.specs.List.{list_all, list_any}
 use Rattle.std.proofs.Common.{sym, ◌∙◌, ap, subst}
 use mathlib.Core.Bool.{true≢false}
@@ -19,6 +19,8 @@ use Rattle.hir_facts.specs.declared.raw.RawType.{RawType}
 use Rattle.hir_facts.specs.declared.raw.RawType.TheVariants as type
 use Rattle.hir_facts.specs.declared.raw.RawFn.{RawFn}
 use Rattle.hir_facts.specs.declared.raw.RawFacts.{RawFacts}
+use Rattle.hir_facts.specs.Laws.Entries.{AllHold}
+use Rattle.hir_facts.specs.Laws.Carried.{is_carried_type as is_carried_kind}
 use Rattle.hir_facts.specs.Types.{lowered_by, lowered_within, written_type}
 use Rattle.hir_facts.specs.Bodies.{fits_arg, fits_step, fits_bound, fits_trait, ty_fits, output_by, return_type}
 
@@ -161,28 +163,38 @@ parts_carried : (f : ℕ → Ty) (ts : List TypeRefId) → ((j : ℕ) → IsCarr
 parts_carried f [] h = refl
 parts_carried f (t ∷ ts) h = ap (λ (b : Bool). b && list_all is_carried_type (map (λ t. f t.0) ts)) (h t.0) ∙ parts_carried f ts h
 
-by_carried : (f : ℕ → Ty) (o : Option RawType) → ((j : ℕ) → IsCarriedType (f j)) → IsCarriedType (lowered_by f o)
-by_carried f None h = carried_error
-by_carried f (Some type.Bool) h = carried_bool
-by_carried f (Some type.Char) h = carried_char
-by_carried f (Some (type.Integer i)) h = carried_integer i
-by_carried f (Some (type.Tuple ts)) h = carried_tuple (map (λ t. f t.0) ts) ∙ parts_carried f ts h
-by_carried f (Some type.Other) h = carried_error
+by_carried : (f : ℕ → Ty) (x : RawType) → ((j : ℕ) → IsCarriedType (f j)) → IsTrue (is_carried_kind x) → IsCarriedType (lowered_by f (Some x))
+by_carried f type.Bool h c = carried_bool
+by_carried f type.Char h c = carried_char
+by_carried f (type.Integer i) h c = carried_integer i
+by_carried f (type.Tuple ts) h c = carried_tuple (map (λ t. f t.0) ts) ∙ parts_carried f ts h
+by_carried f (type.Adt a ts) h c = absurd (true≢false (sym c))
+by_carried f (type.Param n) h c = absurd (true≢false (sym c))
+by_carried f type.Hole h c = absurd (true≢false (sym c))
+by_carried f type.Other h c = carried_error
 
-within_carried : (n : ℕ) (types : List RawType) (i : ℕ) → IsCarriedType (lowered_within n types i)
+-- the written types are of carried kinds
+abbrev pub AreCarriedKinds : List RawType → Type 0
+AreCarriedKinds types = AllHold (λ i t. IsTrue (is_carried_kind t)) types
+
+found_carried : (f : ℕ → Ty) (i : ℕ) (o : Option RawType) → ((j : ℕ) → IsCarriedType (f j)) → ((x : RawType) → o ≡ Some x → IsTrue (is_carried_kind x)) → IsCarriedType (lowered_by f o)
+found_carried f i None h c = carried_error
+found_carried f i (Some x) h c = by_carried f x h (c x refl)
+
+within_carried : (n : ℕ) (types : List RawType) → AreCarriedKinds types → (i : ℕ) → IsCarriedType (lowered_within n types i)
 unfolding lowered_within
-within_carried zero types i = carried_error
-within_carried (suc n) types i = by_carried (lowered_within n types) (slice_get types i) (within_carried n types)
+within_carried zero types all i = carried_error
+within_carried (suc n) types all i = found_carried (lowered_within n types) i (slice_get types i) (within_carried n types all) (all i)
 
-pub written_carried : (types : List RawType) (t : TypeRefId) → IsCarriedType (written_type types t)
-written_carried types t = within_carried (suc t.0) types t.0
+pub written_carried : (types : List RawType) → AreCarriedKinds types → (t : TypeRefId) → IsCarriedType (written_type types t)
+written_carried types all t = within_carried (suc t.0) types all t.0
 
-output_carried : (raw : RawFacts) (o : Option RawFn) → IsCarriedType (output_by raw o)
-output_carried raw None = carried_error
-output_carried raw (Some f) = written_carried raw.types f.output
+output_carried : (raw : RawFacts) → AreCarriedKinds raw.types → (o : Option RawFn) → IsCarriedType (output_by raw o)
+output_carried raw all None = carried_error
+output_carried raw all (Some f) = written_carried raw.types all f.output
 
-pub return_carried : (raw : RawFacts) (d : DefWithBodyId) → IsCarriedType (return_type raw d)
-return_carried raw (def.FunctionId f) = output_carried raw (slice_get raw.fns f.0)
-return_carried raw (def.ConstId c) = carried_error
-return_carried raw (def.StaticId s) = carried_error
-return_carried raw (def.VariantId v) = carried_error
+pub return_carried : (raw : RawFacts) → AreCarriedKinds raw.types → (d : DefWithBodyId) → IsCarriedType (return_type raw d)
+return_carried raw all (def.FunctionId f) = output_carried raw all (slice_get raw.fns f.0)
+return_carried raw all (def.ConstId c) = carried_error
+return_carried raw all (def.StaticId s) = carried_error
+return_carried raw all (def.VariantId v) = carried_error

@@ -14,5 +14,8 @@ pub mod Binders
 pub mod Scheduled
 pub mod InBits
 pub mod Measures
+pub mod Standing
+pub mod Uses
+pub mod Fields
 pub mod Lawful
 pub mod Refused

@@ -4,6 +4,7 @@ pub mod Laws
 pub mod Bodies
 pub mod Lowered
 pub mod CarriedTypes
+pub mod AdtLayers
 pub mod Ways
 pub mod Graph
 pub mod Visits

@@ -7,6 +7,7 @@ use Rattle.hir_facts.specs.declared.raw.RawType.{RawType}
 use Rattle.hir_facts.specs.declared.raw.RawType.TheVariants as type
 use Rattle.hir_types.specs.declared.ty.Ty.{Ty}
 use Rattle.hir_types.specs.declared.ty.Ty.TheVariants as ty
+use Rattle.hir_types.specs.declared.ty.GenericArg.TheVariants as arg
 use Rattle.hir_facts.specs.Types.{lowered_by, lowered_within, lowered}
 use Rattle.hir_facts.specs.Laws.Entries.{AllHold}
 use Rattle.hir_facts.specs.Laws.Ids.{ChildrenBefore}
@@ -15,12 +16,20 @@ tys_same : (f g : ℕ → Ty) (ts : List TypeRefId) → ((k : ℕ) (t : TypeRefI
 tys_same f g [] same = refl
 tys_same f g (t ∷ ts) same = let here : f t.0 ≡ g t.0 = same zero t refl in let rest : map (λ t. f t.0) ts ≡ map (λ t. g t.0) ts = tys_same f g ts (λ k u found. same (suc k) u found) in λ i. here i ∷ rest i
 
+args_same : (f g : ℕ → Ty) (ts : List TypeRefId) → ((k : ℕ) (t : TypeRefId) → slice_get ts k ≡ Some t → f t.0 ≡ g t.0) → map (λ t. arg.Ty (f t.0)) ts ≡ map (λ t. arg.Ty (g t.0)) ts
+args_same f g [] same = refl
+args_same f g (t ∷ ts) same =
+    let here : f t.0 ≡ g t.0 = same zero t refl in let rest : map (λ t. arg.Ty (f t.0)) ts ≡ map (λ t. arg.Ty (g t.0)) ts = args_same f g ts (λ k u found. same (suc k) u found) in λ i. arg.Ty (here i) ∷ rest i
+
 -- two ways to read the parts that agree on them
 pub lowered_by_same : (f g : ℕ → Ty) (n : ℕ) (x : RawType) → ChildrenBefore n x → ((j : ℕ) → j < n → f j ≡ g j) → lowered_by f (Some x) ≡ lowered_by g (Some x)
 lowered_by_same f g n type.Bool before same = refl
 lowered_by_same f g n type.Char before same = refl
 lowered_by_same f g n (type.Integer i) before same = refl
 lowered_by_same f g n (type.Tuple ts) before same = ap ty.Tuple (tys_same f g ts (λ k t found. same t.0 (before k t found)))
+lowered_by_same f g n (type.Adt a ts) before same = ap (ty.Adt a) (args_same f g ts (λ k t found. same t.0 (before k t found)))
+lowered_by_same f g n (type.Param m) before same = refl
+lowered_by_same f g n type.Hole before same = refl
 lowered_by_same f g n type.Other before same = refl
 
 of_same : (f g : ℕ → Ty) (i : ℕ) (o : Option RawType) → ((x : RawType) → o ≡ Some x → ChildrenBefore i x) → ((j : ℕ) → j < i → f j ≡ g j) → lowered_by f o ≡ lowered_by g o

@@ -115,6 +115,8 @@ abbrev pub pat_parts : RawPat → List Part
 pat_parts pat.Wild = []
 pat_parts (pat.Bind v sub) = []
 pat_parts (pat.Tuple ps) = subpatterns 0 ps
+pat_parts (pat.TupleStruct v ps) = subpatterns 0 ps
+pat_parts (pat.Path q) = []
 pat_parts (pat.Lit e) = expr_part pattern_literal e ∷ []
 pat_parts pat.Other = []
 
@@ -249,6 +251,8 @@ abbrev pub binding_of : RawPat → Option BindingId
 binding_of (pat.Bind v sub) = Some v
 binding_of pat.Wild = None
 binding_of (pat.Tuple ps) = None
+binding_of (pat.TupleStruct v ps) = None
+binding_of (pat.Path q) = None
 binding_of (pat.Lit e) = None
 binding_of pat.Other = None
 

@@ -1,11 +1,23 @@
 -- What a written type stands for.
-use Rattle.std.specs.Prelude.{ℕ, zero, suc, List, map, slice_get, Option, Some, None}
+use Rattle.std.specs.Prelude.{ℕ, zero, suc, List, [], map, slice_get, Option, Some, None}
 use Rattle.hir_types.specs.declared.ids.TypeRefId.{TypeRefId}
 use Rattle.hir_facts.specs.declared.raw.RawType.{RawType}
 use Rattle.hir_facts.specs.declared.raw.RawType.TheVariants as type
 use Rattle.hir_types.specs.declared.ty.Ty.{Ty}
 use Rattle.hir_types.specs.declared.ty.Ty.TheVariants as ty
+use Rattle.hir_types.specs.declared.ty.GenericArg.TheVariants as arg
 use Rattle.hir_types.specs.Types.{integer_type}
+
+-- the types that a written type is made of
+abbrev pub type_parts : RawType → List TypeRefId
+type_parts type.Bool = []
+type_parts type.Char = []
+type_parts (type.Integer i) = []
+type_parts (type.Tuple ts) = ts
+type_parts (type.Adt a ts) = ts
+type_parts (type.Param n) = []
+type_parts type.Hole = []
+type_parts type.Other = []
 
 abbrev pub lowered_by : (ℕ → Ty) → Option RawType → Ty
 lowered_by f None = ty.Error
@@ -13,6 +25,9 @@ lowered_by f (Some type.Bool) = ty.Bool
 lowered_by f (Some type.Char) = ty.Char
 lowered_by f (Some (type.Integer i)) = integer_type i
 lowered_by f (Some (type.Tuple ts)) = ty.Tuple (map (λ t. f t.0) ts)
+lowered_by f (Some (type.Adt a ts)) = ty.Adt a (map (λ t. arg.Ty (f t.0)) ts)
+lowered_by f (Some (type.Param n)) = ty.Param n
+lowered_by f (Some type.Hole) = ty.Hole
 lowered_by f (Some type.Other) = ty.Error
 
 -- what type t of the list stands for, over parts at most n steps below it

@@ -1,24 +1,27 @@
 //! The tests of the laws, in their order.
 ghost use Rattle.std.specs.Prelude.{◌≡◌, ◌∷◌, [], IfOk, IfErr, MatchOption, Ok, Err};
 ghost use Rattle.hir_facts.specs.Laws.Entries.{AllHold};
-ghost use Rattle.hir_facts.specs.Laws.Ids.{ChildrenBefore, BodyIdsExist};
+ghost use Rattle.hir_facts.specs.Laws.Ids.{TypeIdsExist, BodyIdsExist};
 ghost use Rattle.hir_facts.specs.Laws.Trees.{IsWellFormed};
 ghost use Rattle.hir_facts.specs.Laws.Scheduled.{AreSchedules};
-ghost use Rattle.hir_facts.specs.Laws.Lawful.{IsLawful, PassesAll, carried_tests, ids_tests, counts_tests, trees_tests, scopes_tests, sizes_tests, limits_tests, literals_tests, tests};
+ghost use Rattle.hir_facts.specs.Laws.Lawful.{IsLawful, PassesAll, carried_tests, ids_tests, counts_tests, trees_tests, scopes_tests, sizes_tests, limits_tests, literals_tests, holes_tests, tests};
 ghost use Rattle.hir_facts.specs.Laws.Refused.{Refuses};
 
 use crate::facts_error::FactsError;
+use crate::laws::adt_ids::{AdtIds, VariantIds};
 use crate::laws::body_ids::BodyIds;
 use crate::laws::body_sizes::BodySizes;
 use crate::laws::carried::{BodiesCarried, FnsCarried, TypesCarried, first_other};
-use crate::laws::counts::Counts;
+use crate::laws::counts::{AdtCounts, FnCounts, Standing, VariantCounts};
+use crate::laws::fields::FieldNames;
 use crate::laws::ids::{FnIds, ModuleIds, TypeIds};
 use crate::laws::limits::LimitsInRange;
 use crate::laws::literals::LiteralsInBits;
 use crate::laws::scopes::{Scopes, schedules_of};
-use crate::laws::sizes::{FnsEarly, ModulesEarly, TypeSizes};
+use crate::laws::sizes::{AdtSizes, FnSizes, ModulesEarly, TypeSizes, VariantSizes};
 use crate::laws::test::first_broken;
 use crate::laws::trees::Trees;
+use crate::laws::uses::Holes;
 use crate::laws::{FactsList, Law};
 use crate::raw::RawFacts;
 use crate::schedule::Schedule;
@@ -73,6 +76,11 @@ fn check_ids(alloc: Global, raw: &RawFacts) -> Result<(), FactsError>
     allow(Law::Ids, FactsList::Types, types)?;
     let modules = first_broken(alloc, &ModuleIds, raw, raw.modules.as_slice())?;
     allow(Law::Ids, FactsList::Modules, modules)?;
+    let adts = first_broken(alloc, &AdtIds, raw, raw.adts.as_slice())?;
+    allow(Law::Ids, FactsList::Adts, adts)?;
+    let variant_ids = VariantIds::new(alloc, raw)?;
+    let variants = first_broken(alloc, &variant_ids, raw, raw.variants.as_slice())?;
+    allow(Law::Ids, FactsList::Variants, variants)?;
     let fns = first_broken(alloc, &FnIds, raw, raw.fns.as_slice())?;
     allow(Law::Ids, FactsList::Fns, fns)?;
     let body_ids = BodyIds::new(alloc, raw)?;
@@ -82,10 +90,22 @@ fn check_ids(alloc: Global, raw: &RawFacts) -> Result<(), FactsError>
 }
 
 fn check_counts(alloc: Global, raw: &RawFacts) -> Result<(), FactsError>
+    requires { AllHold (TypeIdsExist raw.now) raw.now.types }
     ensures ok { IfOk result (λ _. PassesAll raw.now counts_tests) }
     ensures err { IfErr result (λ e. Refuses raw.now counts_tests e) }
 {
-    let fns = first_broken(alloc, &Counts, raw, raw.fns.as_slice())?;
+    let adts = first_broken(alloc, &AdtCounts, raw, raw.adts.as_slice())?;
+    allow(Law::Counts, FactsList::Adts, adts)?;
+    let standing = Standing::new(alloc, raw)?;
+    let variant_counts = VariantCounts {
+        standing: &standing,
+    };
+    let variants = first_broken(alloc, &variant_counts, raw, raw.variants.as_slice())?;
+    allow(Law::Counts, FactsList::Variants, variants)?;
+    let fn_counts = FnCounts {
+        standing: &standing,
+    };
+    let fns = first_broken(alloc, &fn_counts, raw, raw.fns.as_slice())?;
     allow(Law::Counts, FactsList::Fns, fns)?;
     Ok(())
 }
@@ -114,7 +134,7 @@ fn check_scopes(alloc: Global, raw: &RawFacts, schedules: &List<Schedule>) -> Re
 }
 
 fn check_sizes(alloc: Global, raw: &RawFacts, schedules: &List<Schedule>) -> Result<(), FactsError>
-    requires types { AllHold ChildrenBefore raw.now.types }
+    requires types { AllHold (TypeIdsExist raw.now) raw.now.types }
     requires schedules { AreSchedules raw.now.bodies schedules.now }
     ensures ok { IfOk result (λ _. PassesAll raw.now sizes_tests) }
     ensures err { IfErr result (λ e. Refuses raw.now sizes_tests e) }
@@ -124,7 +144,11 @@ fn check_sizes(alloc: Global, raw: &RawFacts, schedules: &List<Schedule>) -> Res
     allow(Law::Sizes, FactsList::Types, types)?;
     let modules = first_broken(alloc, &ModulesEarly, raw, raw.modules.as_slice())?;
     allow(Law::Sizes, FactsList::Modules, modules)?;
-    let fns = first_broken(alloc, &FnsEarly, raw, raw.fns.as_slice())?;
+    let adts = first_broken(alloc, &AdtSizes, raw, raw.adts.as_slice())?;
+    allow(Law::Sizes, FactsList::Adts, adts)?;
+    let variants = first_broken(alloc, &VariantSizes, raw, raw.variants.as_slice())?;
+    allow(Law::Sizes, FactsList::Variants, variants)?;
+    let fns = first_broken(alloc, &FnSizes, raw, raw.fns.as_slice())?;
     allow(Law::Sizes, FactsList::Fns, fns)?;
     let body_sizes = BodySizes { schedules };
     let bodies = first_broken(alloc, &body_sizes, raw, raw.bodies.as_slice())?;
@@ -148,12 +172,24 @@ fn check_limits(alloc: Global, raw: &RawFacts) -> Result<(), FactsError>
 }
 
 fn check_literals(alloc: Global, raw: &RawFacts) -> Result<(), FactsError>
-    requires { AllHold (BodyIdsExist raw.now) raw.now.bodies }
     ensures ok { IfOk result (λ _. PassesAll raw.now literals_tests) }
     ensures err { IfErr result (λ e. Refuses raw.now literals_tests e) }
 {
+    let variants = first_broken(alloc, &FieldNames, raw, raw.variants.as_slice())?;
+    allow(Law::Literals, FactsList::Variants, variants)?;
     let bodies = first_broken(alloc, &LiteralsInBits, raw, raw.bodies.as_slice())?;
     allow(Law::Literals, FactsList::Bodies, bodies)?;
+    Ok(())
+}
+
+fn check_holes(alloc: Global, raw: &RawFacts) -> Result<(), FactsError>
+    requires { AllHold (TypeIdsExist raw.now) raw.now.types }
+    ensures ok { IfOk result (λ _. PassesAll raw.now holes_tests) }
+    ensures err { IfErr result (λ e. Refuses raw.now holes_tests e) }
+{
+    let holes = Holes::new(alloc, raw)?;
+    let types = first_broken(alloc, &holes, raw, raw.types.as_slice())?;
+    allow(Law::Holes, FactsList::Types, types)?;
     Ok(())
 }
 
@@ -172,5 +208,6 @@ pub fn check(alloc: Global, raw: &RawFacts) -> Result<List<Schedule>, FactsError
     check_sizes(alloc, raw, &schedules)?;
     check_limits(alloc, raw)?;
     check_literals(alloc, raw)?;
+    check_holes(alloc, raw)?;
     Ok(schedules)
 }

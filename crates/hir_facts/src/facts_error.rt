@@ -21,14 +21,16 @@ fn law_text(law: Law) -> &'static str {
     match law {
         Law::Carried => "each entry and part is of a kind that is carried",
         Law::Ids =>
-            "ids are in range, and smaller where a list asks for it, and each body is that of one definition",
-        Law::Counts => "a function has as many inputs as its body has parameters, `self` counted",
+            "ids are in range, and smaller where a list asks for it, each body is that of one definition, and adts and variants agree",
+        Law::Counts =>
+            "inputs are as many as parameters of the body, arguments as parameters, and a struct has one variant",
         Law::Trees => "the nodes of a body are a tree, and each binding is bound once",
         Law::Scopes => "a local names a binding that the walk has typed before",
         Law::Sizes => "lists are not too long, and trees and types not too deep or too large",
         Law::Limits => "the limits are in their ranges",
         Law::Literals =>
-            "literals stand for values of at most 128 bits, and characters are scalar values",
+            "literals stand for values of at most 128 bits, characters are scalar values, and names of fields are distinct",
+        Law::Holes => "a `_` stands once, in a type that is written in a body",
     }
 }
 

@@ -2,27 +2,33 @@
 ghost use Rattle.std.specs.Prelude.{◌≡◌};
 ghost use Rattle.hir_facts.specs.Laws.Names.{law_number, list_number};
 
+pub mod adt_ids;
 pub mod body_ids;
 pub mod body_sizes;
 pub mod carried;
 pub mod counts;
+pub mod fields;
 pub mod ids;
 pub mod limits;
 pub mod literals;
 pub mod namers;
 pub mod scopes;
 pub mod sizes;
+pub mod standing;
 pub mod test;
 pub mod trees;
+pub mod uses;
 
 /// A law of facts, in the order in which they are tested.
 #[derive(Clone, Copy, Debug, PartialEq, Eq)]
 pub enum Law {
     /// Each entry and part is of a kind that is carried.
     Carried,
-    /// Ids are in range, and smaller where a list asks for it; each body is that of one definition.
+    /// Ids are in range, and smaller where a list asks for it; each body is that of one definition;
+    /// adts and variants agree.
     Ids,
-    /// A function has as many inputs as its body has parameters, `self` counted.
+    /// A function has as many inputs as its body has parameters, `self` counted; arguments are as
+    /// many as parameters, and parameters in range; a struct has one variant.
     Counts,
     /// The nodes of a body are a tree, and each binding is bound once.
     Trees,
@@ -32,8 +38,11 @@ pub enum Law {
     Sizes,
     /// The limits are in their ranges.
     Limits,
-    /// Literals stand for values of at most 128 bits, and characters are scalar values.
+    /// Literals stand for values of at most 128 bits, and characters are scalar values; the names of
+    /// fields are distinct, those of a tuple numbers.
     Literals,
+    /// A `_` stands once, in a type that is written in a body.
+    Holes,
 }
 
 /// A list of the facts.
@@ -56,7 +65,7 @@ pub enum FactsList {
 }
 
 impl Law {
-    /// The law's number, from 0; 7 and 9 are of kinds that are not carried yet.
+    /// The law's number, from 0; 7 is of kinds that are not read yet.
     pub fn number(self) -> u32
         ensures { result ≡ law_number self }
     {
@@ -69,6 +78,7 @@ impl Law {
             Law::Sizes => 5,
             Law::Limits => 6,
             Law::Literals => 8,
+            Law::Holes => 9,
         }
     }
 }

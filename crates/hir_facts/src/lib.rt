@@ -15,13 +15,15 @@ mod schedule;
 pub use facts::Facts;
 pub use facts_error::FactsError;
 pub use hir_types::{
-    BindingId, BodyId, ConstId, DefWithBodyId, ExprId, ExprOrPatId, FunctionId, IntTy, IntegerTy,
-    LabelId, List, ModuleId, PatId, StaticId, Text, TraitId, Ty, TypeRefId, UintTy, VariantId,
+    AdtId, BindingId, BodyId, ConstId, DefWithBodyId, ExprId, ExprOrPatId, FunctionId, IntTy,
+    IntegerTy, LabelId, List, ModuleId, PatId, StaticId, Text, TraitId, Ty, TypeRefId, UintTy,
+    VariantId,
 };
 pub use laws::{FactsList, Law};
 pub use lower::{lower_ty, return_ty};
 pub use raw::{
-    BindingAnnotation, Edition, Other, RawArm, RawAt, RawBinding, RawBody, RawExpr, RawFacts,
-    RawFn, RawLimits, RawLiteral, RawPat, RawPath, RawStmt, RawType, RawVis,
+    BindingAnnotation, Edition, Other, RawAdt, RawAdtKind, RawArm, RawAt, RawBinding, RawBody,
+    RawCtor, RawExpr, RawFacts, RawField, RawFn, RawLimits, RawLiteral, RawParam, RawPat, RawPath,
+    RawStmt, RawType, RawVariant, RawVis,
 };
 pub use schedule::Schedule;

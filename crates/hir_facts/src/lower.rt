@@ -7,7 +7,7 @@ ghost use Rattle.hir_facts.specs.Laws.Ids.{ChildrenBefore};
 
 use crate::facts::Facts;
 use crate::raw::RawType;
-use hir_types::{DefWithBodyId, List, Ty, TypeRefId};
+use hir_types::{DefWithBodyId, GenericArg, List, Ty, TypeRefId};
 use std::alloc::{AllocError, Global};
 
 fn lower(types: &[RawType], t: usize, alloc: Global) -> Result<Ty, AllocError>
@@ -27,6 +27,16 @@ fn lower(types: &[RawType], t: usize, alloc: Global) -> Result<Ty, AllocError>
             }
             Ok(Ty::Tuple(tys))
         }
+        RawType::Adt { adt, args } => {
+            let mut lowered = List::new(alloc);
+            for arg in args.as_slice() {
+                let ty = lower(types, arg.0 as usize, alloc)?;
+                lowered.push(GenericArg::Ty(ty))?;
+            }
+            Ok(Ty::Adt(*adt, lowered))
+        }
+        RawType::Param(number) => Ok(Ty::Param(*number)),
+        RawType::Hole => Ok(Ty::Hole),
         RawType::Other => Ok(Ty::Error),
     }
 }

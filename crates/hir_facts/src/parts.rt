@@ -168,6 +168,8 @@ pub fn nodes_of_pat(alloc: Global, pat: &RawPat) -> Result<Vec<ExprOrPatId>, All
         RawPat::Wild => {}
         RawPat::Bind { id: _, subpat: _ } => {}
         RawPat::Tuple(pats) => push_pats(&mut out, pats.as_slice())?,
+        RawPat::TupleStruct { variant: _, args } => push_pats(&mut out, args.as_slice())?,
+        RawPat::Path(_) => {}
         RawPat::Lit(expr) => out.push(ExprOrPatId::ExprId(*expr))?,
         RawPat::Other => {}
     }

@@ -1,9 +1,13 @@
 //! The facts as they are written: the entries of the facts text, key by key.
 
+ghost use Rattle.std.specs.Prelude.{◌≡◌};
+ghost use Rattle.hir_facts.specs.Types.{type_parts};
+
 use hir_types::{
-    BindingId, BodyId, ExprId, FunctionId, IntegerTy, LabelId, List, ModuleId, PatId, Text,
-    TraitId, TypeRefId,
+    AdtId, BindingId, BodyId, ExprId, FunctionId, IntegerTy, LabelId, List, ModuleId, PatId, Text,
+    TraitId, TypeRefId, VariantId,
 };
+
 /// A part of a kind that is not carried yet; its own parts are not read.
 #[derive(Clone, Copy, Debug)]
 pub struct Other;
@@ -33,7 +37,42 @@ pub enum RawType {
     Char,
     Integer(IntegerTy),
     Tuple(List<TypeRefId>),
+    /// A struct, enum or union at its arguments, which are all types.
+    Adt { adt: AdtId, args: List<TypeRefId> },
+    /// The type parameter with this number.
+    Param(u32),
+    /// `_`.
+    Hole,
     Other,
+}
+
+impl RawType {
+    /// The types that a written type is made of, in their order.
+    pub fn parts(&self) -> &[TypeRefId]
+        ensures { result.now ≡ type_parts self.now }
+    {
+        match self {
+            RawType::Tuple(parts) => parts.as_slice(),
+            RawType::Adt { adt: _, args } => args.as_slice(),
+            RawType::Bool | RawType::Char | RawType::Integer(_) => &[],
+            RawType::Param(_) | RawType::Hole | RawType::Other => &[],
+        }
+    }
+}
+
+/// What a generic parameter stands for.
+#[derive(Clone, Copy, Debug)]
+pub enum RawParam {
+    Type,
+    Other,
+}
+
+/// Which of the three an adt is.
+#[derive(Clone, Copy, Debug, PartialEq, Eq)]
+pub enum RawAdtKind {
+    Struct,
+    Enum,
+    Union,
 }
 
 /// Where a function stands.
@@ -50,12 +89,50 @@ pub enum RawVis {
     Module(ModuleId),
 }
 
+/// A struct, enum or union. `unsize` is the parameter that may lose its size.
+#[derive(Debug, Drop)]
+pub struct RawAdt {
+    pub name: Text,
+    pub kind: RawAdtKind,
+    pub params: List<RawParam>,
+    pub preds: List<Other>,
+    pub variants: List<VariantId>,
+    pub repr: Option<IntegerTy>,
+    pub unsize: Option<u32>,
+}
+
+/// How a variant is written: `V`, `V(..)` or `V { .. }`.
+#[derive(Clone, Copy, Debug, PartialEq, Eq)]
+pub enum RawCtor {
+    Unit,
+    Tuple,
+    Record,
+}
+
+/// A field of a variant.
+#[derive(Debug, Drop)]
+pub struct RawField {
+    pub name: Text,
+    pub ty: TypeRefId,
+    pub vis: RawVis,
+}
+
+/// A variant of an enum, or what a struct or union consists of. `body` is that of its discriminant.
+#[derive(Debug, Drop)]
+pub struct RawVariant {
+    pub adt: AdtId,
+    pub name: Text,
+    pub ctor: RawCtor,
+    pub fields: List<RawField>,
+    pub body: Option<BodyId>,
+}
+
 /// A function.
 #[derive(Debug, Drop)]
 pub struct RawFn {
     pub name: Text,
     pub at: RawAt,
-    pub params: List<Other>,
+    pub params: List<RawParam>,
     pub preds: List<Other>,
     pub has_self: bool,
     pub inputs: List<TypeRefId>,
@@ -82,6 +159,8 @@ pub enum RawLiteral {
 pub enum RawPath {
     Local(BindingId),
     Function(FunctionId),
+    /// The constructor of a variant.
+    Ctor(VariantId),
     Other,
 }
 
@@ -144,6 +223,12 @@ pub enum RawPat {
         subpat: Option<PatId>,
     },
     Tuple(List<PatId>),
+    /// The constructor of a variant over patterns of its fields.
+    TupleStruct {
+        variant: VariantId,
+        args: List<PatId>,
+    },
+    Path(RawPath),
     Lit(ExprId),
     Other,
 }
@@ -187,8 +272,8 @@ pub struct RawFacts {
     pub limits: RawLimits,
     pub types: List<RawType>,
     pub modules: List<Option<ModuleId>>,
-    pub adts: List<Other>,
-    pub variants: List<Other>,
+    pub adts: List<RawAdt>,
+    pub variants: List<RawVariant>,
     pub fns: List<RawFn>,
     pub consts: List<Other>,
     pub statics: List<Other>,

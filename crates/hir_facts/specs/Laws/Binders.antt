@@ -53,6 +53,7 @@ IsWithin n Several = Unit {0}
 abbrev pub HasTypedLocal : RawBody → List ℕ → List Namers → ℕ → RawExpr → Type 0
 HasTypedLocal b starts xs e (expr.Path (path.Local v)) = IsTrue (is_typed_before b starts (slice_index_or xs v.0 Nobody) e v.0)
 HasTypedLocal b starts xs e (expr.Path (path.Function f)) = Unit {0}
+HasTypedLocal b starts xs e (expr.Path (path.Ctor v)) = Unit {0}
 HasTypedLocal b starts xs e (expr.Path path.Other) = Unit {0}
 HasTypedLocal b starts xs e (expr.Lit l) = Unit {0}
 HasTypedLocal b starts xs e (expr.Block label stmts last) = Unit {0}

@@ -26,6 +26,9 @@ is_carried_type type.Bool = true
 is_carried_type type.Char = true
 is_carried_type (type.Integer i) = true
 is_carried_type (type.Tuple ts) = true
+is_carried_type (type.Adt a ts) = false
+is_carried_type (type.Param n) = false
+is_carried_type type.Hole = false
 is_carried_type type.Other = false
 
 abbrev pub is_in_module : RawAt → Bool
@@ -50,6 +53,7 @@ is_carried_literal literal.Other = false
 abbrev pub is_carried_path : RawPath → Bool
 is_carried_path (path.Local v) = true
 is_carried_path (path.Function f) = false
+is_carried_path (path.Ctor v) = false
 is_carried_path path.Other = false
 
 -- a `let` has no `else`
@@ -57,14 +61,14 @@ abbrev pub is_carried_stmt : RawStmt → Bool
 is_carried_stmt (stmt.Let p written init other) = is_none other
 is_carried_stmt (stmt.Expr e semicolon) = true
 
--- a block has no label
+-- a block has no label, and a `match` has an arm
 abbrev pub is_carried_expr : RawExpr → Bool
 is_carried_expr (expr.Lit l) = is_carried_literal l
 is_carried_expr (expr.Path p) = is_carried_path p
 is_carried_expr (expr.Block label stmts last) = is_none label && list_all is_carried_stmt stmts
 is_carried_expr (expr.Tuple es) = true
-is_carried_expr (expr.If c first other) = false
-is_carried_expr (expr.Match e arms) = false
+is_carried_expr (expr.If c first other) = true
+is_carried_expr (expr.Match e arms) = not (is_empty arms)
 is_carried_expr (expr.Call f args) = false
 is_carried_expr expr.Other = false
 
@@ -72,8 +76,10 @@ is_carried_expr expr.Other = false
 abbrev pub is_carried_pat : RawPat → Bool
 is_carried_pat pat.Wild = true
 is_carried_pat (pat.Bind v sub) = is_none sub
-is_carried_pat (pat.Tuple ps) = false
-is_carried_pat (pat.Lit e) = false
+is_carried_pat (pat.Tuple ps) = true
+is_carried_pat (pat.TupleStruct v ps) = false
+is_carried_pat (pat.Path q) = false
+is_carried_pat (pat.Lit e) = true
 is_carried_pat pat.Other = false
 
 abbrev pub is_carried_mode : BindingAnnotation → Bool

@@ -18,6 +18,8 @@ abbrev pub literal_of : RawPat → Option ℕ
 literal_of pat.Wild = None
 literal_of (pat.Bind v sub) = None
 literal_of (pat.Tuple ps) = None
+literal_of (pat.TupleStruct v ps) = None
+literal_of (pat.Path q) = None
 literal_of (pat.Lit e) = Some e.0
 literal_of pat.Other = None
 
@@ -46,5 +48,7 @@ abbrev pub PatIsLiteral : RawBody → RawPat → Type 0
 PatIsLiteral b pat.Wild = Unit {0}
 PatIsLiteral b (pat.Bind v sub) = Unit {0}
 PatIsLiteral b (pat.Tuple ps) = Unit {0}
+PatIsLiteral b (pat.TupleStruct v ps) = Unit {0}
+PatIsLiteral b (pat.Path q) = Unit {0}
 PatIsLiteral b (pat.Lit e) = IsLiteral (slice_get b.exprs e.0)
 PatIsLiteral b pat.Other = Unit {0}

@@ -1,10 +1,9 @@
 -- Ids within a body, node by node.
-use Rattle.std.specs.Prelude.{ℕ, ◌<◌, ◌≡◌, List, length, slice_get, Option, Some, None, option_map, map}
+use Rattle.std.specs.Prelude.{ℕ, ◌<◌, ◌≡◌, List, length, slice_get, Option, Some, None}
 use Rattle.hir_types.specs.declared.ids.ExprId.{ExprId}
 use Rattle.hir_types.specs.declared.ids.PatId.{PatId}
 use Rattle.hir_types.specs.declared.ids.BindingId.{BindingId}
 use Rattle.hir_types.specs.declared.ids.TypeRefId.{TypeRefId}
-use Rattle.hir_facts.specs.declared.raw.RawPath.{RawPath}
 use Rattle.hir_facts.specs.declared.raw.RawPath.TheVariants as path
 use Rattle.hir_facts.specs.declared.raw.RawStmt.{RawStmt}
 use Rattle.hir_facts.specs.declared.raw.RawStmt.TheVariants as stmt
@@ -14,13 +13,12 @@ use Rattle.hir_facts.specs.declared.raw.RawExpr.TheVariants as expr
 use Rattle.hir_facts.specs.declared.raw.RawPat.{RawPat}
 use Rattle.hir_facts.specs.declared.raw.RawPat.TheVariants as pat
 use Rattle.hir_types.specs.declared.ids.TraitId.{TraitId}
-use Rattle.hir_facts.specs.declared.raw.RawFn.{RawFn}
 use Rattle.hir_facts.specs.declared.raw.RawBody.{RawBody}
 use Rattle.hir_facts.specs.declared.raw.RawFacts.{RawFacts}
 use Rattle.hir_facts.specs.declared.laws.namers.Namers.{Namers}
 use Rattle.hir_facts.specs.Order.{binding_of}
 use Rattle.hir_facts.specs.Laws.Namers.{AreNamers}
-use Rattle.hir_facts.specs.Laws.Ids.{IsModuleFn}
+use Rattle.hir_facts.specs.Laws.Ids.{PathExists, PatNamesExist, owned_bodies, listed_variants}
 
 abbrev pub MaybeExprExists : RawBody → Option ExprId → Type 0
 MaybeExprExists b None = Unit {0}
@@ -55,12 +53,6 @@ ArmExists b a = (a.pat.0 < length b.pats) × MaybeExprExists b a.guard × (a.exp
 abbrev pub ArmsExist : RawBody → List RawArm → Type 0
 ArmsExist b arms = (k : ℕ) (a : RawArm) → slice_get arms k ≡ Some a → ArmExists b a
 
--- the local, or the function of a module
-abbrev pub PathExists : RawFacts → RawBody → RawPath → Type 0
-PathExists raw b (path.Local v) = v.0 < length b.bindings
-PathExists raw b (path.Function f) = IsModuleFn raw f
-PathExists raw b path.Other = Unit {0}
-
 -- the parts, what a path names and the written types of an expression exist
 abbrev pub ExprIdsExist : RawFacts → RawBody → RawExpr → Type 0
 ExprIdsExist raw b (expr.Lit l) = Unit {0}
@@ -83,11 +75,16 @@ abbrev pub PatPartsExist : RawBody → RawPat → Type 0
 PatPartsExist b pat.Wild = Unit {0}
 PatPartsExist b (pat.Bind v sub) = Unit {0}
 PatPartsExist b (pat.Tuple ps) = PatternsExist b ps
+PatPartsExist b (pat.TupleStruct v ps) = PatternsExist b ps
+PatPartsExist b (pat.Path q) = Unit {0}
 PatPartsExist b (pat.Lit e) = e.0 < length b.exprs
 PatPartsExist b pat.Other = Unit {0}
 
 abbrev pub PatsPartsExist : RawBody → Type 0
 PatsPartsExist b = (k : ℕ) (p : RawPat) → slice_get b.pats k ≡ Some p → PatPartsExist b p
+
+abbrev pub PatsNamesExist : RawFacts → RawBody → Type 0
+PatsNamesExist raw b = (k : ℕ) (p : RawPat) → slice_get b.pats k ≡ Some p → PatNamesExist raw b p
 
 -- the ids of a body exist
 pub record BodyIdsHere (raw : RawFacts) (b : RawBody) : Type 0 where
@@ -99,14 +96,15 @@ pub record BodyIdsHere (raw : RawFacts) (b : RawBody) : Type 0 where
   pub exprs : ExprsIdsExist raw b
   pub pats : PatsIdsExist b
   pub pat_parts : PatsPartsExist b
+  pub pat_names : PatsNamesExist raw b
 
--- the body of a function, by its number
-abbrev pub owned_body : RawFn → Option ℕ
-owned_body f = option_map (λ b. b.0) f.body
-
--- which functions each body is that of
+-- which definitions each body is that of
 abbrev pub AreOwners : RawFacts → List Namers → Type 0
-AreOwners raw xs = AreNamers (map owned_body raw.fns) (length raw.fns) (length raw.bodies) xs
+AreOwners raw xs = AreNamers (owned_bodies raw) (length (owned_bodies raw)) (length raw.bodies) xs
+
+-- which adts list each variant
+abbrev pub AreListers : RawFacts → List Namers → Type 0
+AreListers raw xs = AreNamers (listed_variants raw.adts) (length (listed_variants raw.adts)) (length raw.variants) xs
 
 -- locals name bindings of the body
 abbrev pub LocalsExist : RawBody → Type 0

@@ -7,13 +7,15 @@ use Rattle.hir_facts.specs.declared.laws.FactsList.{FactsList}
 use Rattle.hir_facts.specs.declared.laws.FactsList.TheVariants as list
 use Rattle.hir_facts.specs.Laws.Entries.{AllHold, BreaksAt}
 use Rattle.hir_facts.specs.Laws.Carried.{is_carried_type, is_carried_fn, is_carried_body}
-use Rattle.hir_facts.specs.Laws.Ids.{ChildrenBefore, ParentBefore, FnIdsExist, BodyIdsExist}
-use Rattle.hir_facts.specs.Laws.Counts.{CountsFit}
+use Rattle.hir_facts.specs.Laws.Ids.{TypeIdsExist, ParentBefore, AdtIdsExist, VariantIdsExist, FnIdsExist, BodyIdsExist}
+use Rattle.hir_facts.specs.Laws.Counts.{AdtFits, VariantFits, FnFits}
 use Rattle.hir_facts.specs.Laws.Trees.{IsWellFormed}
 use Rattle.hir_facts.specs.Laws.Scopes.{ScopesHold}
-use Rattle.hir_facts.specs.Laws.Sizes.{IsEarly, TypeIsSmall, BodyIsSmall}
+use Rattle.hir_facts.specs.Laws.Sizes.{IsEarly, TypeIsSmall, AdtIsSmall, VariantIsSmall, FnIsSmall, BodyIsSmall}
 use Rattle.hir_facts.specs.Laws.Limits.{limits_of, IsInRange}
+use Rattle.hir_facts.specs.Laws.Fields.{NamesFit}
 use Rattle.hir_facts.specs.Laws.Literals.{LiteralsFit}
+use Rattle.hir_facts.specs.Laws.Uses.{HoleFits}
 
 -- what is said of a law over the entries of a list: that all hold, or that entry i is the first broken one
 abbrev Saying : Type 1
@@ -44,29 +46,45 @@ carried_at S raw list.Bodies = S _ (λ i b. IsTrue (is_carried_body b)) raw.bodi
 carried_at S raw list.Limits = S _ all_hold (limits_of raw)
 
 abbrev ids_at : Saying → RawFacts → FactsList → Type 0
-ids_at S raw list.Types = S _ ChildrenBefore raw.types
+ids_at S raw list.Types = S _ (TypeIdsExist raw) raw.types
 ids_at S raw list.Modules = S _ ParentBefore raw.modules
+ids_at S raw list.Adts = S _ (AdtIdsExist raw) raw.adts
+ids_at S raw list.Variants = S _ (VariantIdsExist raw) raw.variants
 ids_at S raw list.Fns = S _ (λ i f. FnIdsExist raw f) raw.fns
 ids_at S raw list.Bodies = S _ (BodyIdsExist raw) raw.bodies
 ids_at S raw _ = S ℕ all_hold []
 
+abbrev counts_at : Saying → RawFacts → FactsList → Type 0
+counts_at S raw list.Adts = S _ (λ i a. AdtFits a) raw.adts
+counts_at S raw list.Variants = S _ (λ i v. VariantFits raw v) raw.variants
+counts_at S raw list.Fns = S _ (λ i f. FnFits raw f) raw.fns
+counts_at S raw _ = S ℕ all_hold []
+
 abbrev sizes_at : Saying → RawFacts → FactsList → Type 0
 sizes_at S raw list.Types = S _ (TypeIsSmall raw) raw.types
 sizes_at S raw list.Modules = S _ (λ i m. IsEarly i) raw.modules
-sizes_at S raw list.Fns = S _ (λ i f. IsEarly i) raw.fns
+sizes_at S raw list.Adts = S _ AdtIsSmall raw.adts
+sizes_at S raw list.Variants = S _ VariantIsSmall raw.variants
+sizes_at S raw list.Fns = S _ FnIsSmall raw.fns
 sizes_at S raw list.Bodies = S _ BodyIsSmall raw.bodies
 sizes_at S raw _ = S ℕ all_hold []
+
+abbrev literals_at : Saying → RawFacts → FactsList → Type 0
+literals_at S raw list.Variants = S _ (λ i v. NamesFit v) raw.variants
+literals_at S raw list.Bodies = S _ (λ i b. LiteralsFit b) raw.bodies
+literals_at S raw _ = S ℕ all_hold []
 
 -- a law at a list
 abbrev pub says : Saying → RawFacts → Law → FactsList → Type 0
 says S raw law.Carried l = carried_at S raw l
 says S raw law.Ids l = ids_at S raw l
-says S raw law.Counts l = S _ (λ i f. CountsFit raw f) raw.fns
+says S raw law.Counts l = counts_at S raw l
 says S raw law.Trees l = S _ (λ i b. IsWellFormed b) raw.bodies
 says S raw law.Scopes l = S _ (λ i b. ScopesHold b) raw.bodies
 says S raw law.Sizes l = sizes_at S raw l
 says S raw law.Limits l = S _ IsInRange (limits_of raw)
-says S raw law.Literals l = S _ (λ i b. LiteralsFit b) raw.bodies
+says S raw law.Literals l = literals_at S raw l
+says S raw law.Holes l = S _ (λ i t. HoleFits raw i) raw.types
 
 -- ---- their order
 
@@ -81,10 +99,10 @@ abbrev pub carried_tests : List Test
 carried_tests = test law.Carried list.Types ∷ test law.Carried list.Adts ∷ test law.Carried list.Variants ∷ test law.Carried list.Fns ∷ test law.Carried list.Consts ∷ test law.Carried list.Statics ∷ test law.Carried list.Traits ∷ test law.Carried list.Aliases ∷ test law.Carried list.Impls ∷ test law.Carried list.Opaques ∷ test law.Carried list.Lang ∷ test law.Carried list.Bodies ∷ []
 
 abbrev pub ids_tests : List Test
-ids_tests = test law.Ids list.Types ∷ test law.Ids list.Modules ∷ test law.Ids list.Fns ∷ test law.Ids list.Bodies ∷ []
+ids_tests = test law.Ids list.Types ∷ test law.Ids list.Modules ∷ test law.Ids list.Adts ∷ test law.Ids list.Variants ∷ test law.Ids list.Fns ∷ test law.Ids list.Bodies ∷ []
 
 abbrev pub counts_tests : List Test
-counts_tests = test law.Counts list.Fns ∷ []
+counts_tests = test law.Counts list.Adts ∷ test law.Counts list.Variants ∷ test law.Counts list.Fns ∷ []
 
 abbrev pub trees_tests : List Test
 trees_tests = test law.Trees list.Bodies ∷ []
@@ -93,17 +111,20 @@ abbrev pub scopes_tests : List Test
 scopes_tests = test law.Scopes list.Bodies ∷ []
 
 abbrev pub sizes_tests : List Test
-sizes_tests = test law.Sizes list.Types ∷ test law.Sizes list.Modules ∷ test law.Sizes list.Fns ∷ test law.Sizes list.Bodies ∷ []
+sizes_tests = test law.Sizes list.Types ∷ test law.Sizes list.Modules ∷ test law.Sizes list.Adts ∷ test law.Sizes list.Variants ∷ test law.Sizes list.Fns ∷ test law.Sizes list.Bodies ∷ []
 
 abbrev pub limits_tests : List Test
 limits_tests = test law.Limits list.Limits ∷ []
 
 abbrev pub literals_tests : List Test
-literals_tests = test law.Literals list.Bodies ∷ []
+literals_tests = test law.Literals list.Variants ∷ test law.Literals list.Bodies ∷ []
+
+abbrev pub holes_tests : List Test
+holes_tests = test law.Holes list.Types ∷ []
 
 -- by law, then by list
 abbrev pub tests : List Test
-tests = carried_tests ++ (ids_tests ++ (counts_tests ++ (trees_tests ++ (scopes_tests ++ (sizes_tests ++ (limits_tests ++ literals_tests))))))
+tests = carried_tests ++ (ids_tests ++ (counts_tests ++ (trees_tests ++ (scopes_tests ++ (sizes_tests ++ (limits_tests ++ (literals_tests ++ holes_tests)))))))
 
 abbrev pub Passes : RawFacts → Test → Type 0
 Passes raw t = says (λ A P xs. AllHold P xs) raw t.law t.list

@@ -24,6 +24,21 @@ pub record AreNamers (targets : List (Option ℕ)) (n count : ℕ) (xs : List Na
   pub size : length xs ≡ count
   pub each : (t : ℕ) → t < count → IsNamedBy targets n t (slice_index_or xs t Nobody)
 
+-- one entry alone names the place t
+pub record NamedOnce (targets : List (Option ℕ)) (t : ℕ) : Type 0 where
+  pub entry : ℕ
+  pub names : IsNamedAt targets t entry
+  pub only : (k : ℕ) → IsNamedAt targets t k → k ≡ entry
+
+-- no entry names the place t
+abbrev pub IsUnnamed : List (Option ℕ) → ℕ → Type 0
+IsUnnamed targets t = (k : ℕ) → IsNamedAt targets t k → ⊥
+
+abbrev pub IsNobody : Namers → Type 0
+IsNobody Nobody = Unit {0}
+IsNobody (One k) = ⊥
+IsNobody Several = ⊥
+
 abbrev pub IsOne : Namers → Type 0
 IsOne Nobody = ⊥
 IsOne (One k) = Unit {0}

@@ -14,6 +14,7 @@ law_number law.Scopes = 4
 law_number law.Sizes = 5
 law_number law.Limits = 6
 law_number law.Literals = 8
+law_number law.Holes = 9
 
 abbrev pub list_number : FactsList → ℕ
 list_number list.Types = 0

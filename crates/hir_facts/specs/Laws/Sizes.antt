@@ -1,16 +1,18 @@
 -- How long lists may be, and how deep trees and types.
 use Rattle.std.specs.Prelude.{ℕ, ◌<◌, ◌≤◌, ◌^◌, ◌≡◌, List, length, slice_get, Some}
 use Rattle.hir_facts.specs.declared.raw.RawType.{RawType}
-use Rattle.hir_facts.specs.declared.raw.RawType.TheVariants as type
 use Rattle.hir_facts.specs.declared.raw.RawExpr.{RawExpr}
 use Rattle.hir_facts.specs.declared.raw.RawExpr.TheVariants as expr
 use Rattle.hir_facts.specs.declared.raw.RawPat.{RawPat}
 use Rattle.hir_facts.specs.declared.raw.RawPat.TheVariants as pat
+use Rattle.hir_facts.specs.declared.raw.RawAdt.{RawAdt}
+use Rattle.hir_facts.specs.declared.raw.RawVariant.{RawVariant}
+use Rattle.hir_facts.specs.declared.raw.RawFn.{RawFn}
 use Rattle.hir_facts.specs.declared.raw.RawBody.{RawBody}
 use Rattle.hir_facts.specs.declared.raw.RawFacts.{RawFacts}
 use Rattle.hir_facts.specs.Order.{IsLow}
 use Rattle.hir_types.specs.Types.{depth, size}
-use Rattle.hir_facts.specs.Types.{lowered}
+use Rattle.hir_facts.specs.Types.{type_parts, lowered}
 
 -- a list of at most 2 ^ 20 entries
 abbrev pub IsShort : {A : Type 0} → List A → Type 0
@@ -20,19 +22,28 @@ IsShort xs = length xs ≤ 2 ^ 20
 abbrev pub IsEarly : ℕ → Type 0
 IsEarly i = i < 2 ^ 20
 
-abbrev pub PartsAreShort : RawType → Type 0
-PartsAreShort (type.Tuple ts) = IsShort ts
-PartsAreShort type.Bool = Unit {0}
-PartsAreShort type.Char = Unit {0}
-PartsAreShort (type.Integer n) = Unit {0}
-PartsAreShort type.Other = Unit {0}
-
 -- a type, written out
 pub record TypeIsSmall (raw : RawFacts) (i : ℕ) (t : RawType) : Type 0 where
   pub early : IsEarly i
-  pub parts : PartsAreShort t
+  pub parts : IsShort (type_parts t)
   pub low : depth (lowered raw.types i) ≤ 64
   pub small : size (lowered raw.types i) ≤ 4096
+
+pub record AdtIsSmall (i : ℕ) (a : RawAdt) : Type 0 where
+  pub early : IsEarly i
+  pub params : IsShort a.params
+  pub preds : IsShort a.preds
+  pub variants : IsShort a.variants
+
+pub record VariantIsSmall (i : ℕ) (v : RawVariant) : Type 0 where
+  pub early : IsEarly i
+  pub fields : IsShort v.fields
+
+pub record FnIsSmall (i : ℕ) (f : RawFn) : Type 0 where
+  pub early : IsEarly i
+  pub params : IsShort f.params
+  pub preds : IsShort f.preds
+  pub inputs : IsShort f.inputs
 
 abbrev pub ExprIsShort : RawExpr → Type 0
 ExprIsShort (expr.Block label stmts last) = IsShort stmts
@@ -46,6 +57,8 @@ ExprIsShort expr.Other = Unit {0}
 
 abbrev pub PatIsShort : RawPat → Type 0
 PatIsShort (pat.Tuple ps) = IsShort ps
+PatIsShort (pat.TupleStruct v ps) = IsShort ps
+PatIsShort (pat.Path q) = Unit {0}
 PatIsShort pat.Wild = Unit {0}
 PatIsShort (pat.Bind v sub) = Unit {0}
 PatIsShort (pat.Lit e) = Unit {0}

@@ -1,15 +1,15 @@
 //! The ids of a body are in range.
-ghost use Rattle.std.specs.Prelude.{◌≡◌, ◌↔◌, ◌<◌, ℕ, Some, slice_get, length, map, IsTrue, IfOk, option_map};
+ghost use Rattle.std.specs.Prelude.{◌≡◌, ◌↔◌, ◌<◌, ◌++◌, ℕ, Some, slice_get, length, map, IsTrue, IfOk, OnOk};
 ghost use Rattle.hir_types.specs.declared.ids.TraitId.{TraitId};
 ghost use Rattle.hir_facts.specs.Order.{binding_of};
-ghost use Rattle.hir_facts.specs.Laws.Namers.{IsOne};
-ghost use Rattle.hir_facts.specs.Laws.InBody.{MaybeExprExists, MaybeTypeExists, MaybeBindingExists, StmtIdsExist, StmtsIdsExist, ElementsExist, PatternsExist, ArmExists, ArmsExist, PathExists, ExprIdsExist, ExprsIdsExist, PatsIdsExist, PatPartsExist, PatsPartsExist, BodyIdsHere, owned_body, AreOwners};
-ghost use Rattle.hir_facts.specs.Laws.Entries.{AllHold};
-ghost use Rattle.hir_facts.specs.Laws.Ids.{IsInModule, IsModuleFn, FnIdsExist, BodyIdsExist};
+ghost use Rattle.hir_facts.specs.Laws.InBody.{MaybeExprExists, MaybeTypeExists, MaybeBindingExists, StmtIdsExist, StmtsIdsExist, ElementsExist, PatternsExist, ArmExists, ArmsExist, ExprIdsExist, ExprsIdsExist, PatsIdsExist, PatPartsExist, PatsPartsExist, PatsNamesExist, BodyIdsHere, AreOwners};
+ghost use Rattle.hir_facts.specs.Laws.Ids.{IsInModule, IsModuleFn, PathExists, PatNamesExist, owned_body, variant_body, owned_bodies, BodyIdsExist};
 
-use crate::laws::namers::{Namers, namers_of};
+use crate::laws::namers::{Namers, is_one, namers_of};
 use crate::laws::test::Test;
-use crate::raw::{RawArm, RawAt, RawBody, RawExpr, RawFacts, RawFn, RawPat, RawPath, RawStmt};
+use crate::raw::{
+    RawArm, RawAt, RawBody, RawExpr, RawFacts, RawFn, RawPat, RawPath, RawStmt, RawVariant,
+};
 use hir_types::{BindingId, ExprId, FunctionId, PatId, TraitId, TypeRefId};
 use std::alloc::{AllocError, Global};
 
@@ -117,6 +117,7 @@ fn has_path(raw: &RawFacts, body: &RawBody, path: &RawPath) -> bool
     match path {
         RawPath::Local(v) => (v.0 as usize) < body.bindings.len(),
         RawPath::Function(function) => is_module_fn(raw, *function),
+        RawPath::Ctor(variant) => (variant.0 as usize) < raw.variants.len(),
         RawPath::Other => true,
     }
 }
@@ -166,7 +167,8 @@ pub fn binding_of(pat: &RawPat) -> Option<BindingId>
 {
     match pat {
         RawPat::Bind { id, subpat: _ } => Some(*id),
-        RawPat::Wild | RawPat::Tuple(_) | RawPat::Lit(_) | RawPat::Other => None,
+        RawPat::Wild | RawPat::Tuple(_) | RawPat::TupleStruct { .. } => None,
+        RawPat::Path(_) | RawPat::Lit(_) | RawPat::Other => None,
     }
 }
 
@@ -190,8 +192,9 @@ fn has_pat_parts(body: &RawBody, pat: &RawPat) -> bool
 {
     match pat {
         RawPat::Tuple(pats) => have_patterns(body, pats.as_slice()),
+        RawPat::TupleStruct { variant: _, args } => have_patterns(body, args.as_slice()),
         RawPat::Lit(e) => (e.0 as usize) < body.exprs.len(),
-        RawPat::Wild | RawPat::Bind { .. } | RawPat::Other => true,
+        RawPat::Wild | RawPat::Bind { .. } | RawPat::Path(_) | RawPat::Other => true,
     }
 }
 
@@ -202,6 +205,26 @@ fn have_pat_parts(body: &RawBody) -> bool
         .as_slice()
         .iter()
         .all(|pat| has_pat_parts(body, pat))
+}
+
+fn has_pat_names(raw: &RawFacts, body: &RawBody, pat: &RawPat) -> bool
+    ensures { IsTrue result ↔ PatNamesExist raw.now body.now pat.now }
+{
+    match pat {
+        RawPat::TupleStruct { variant, args: _ } => (variant.0 as usize) < raw.variants.len(),
+        RawPat::Path(path) => has_path(raw, body, path),
+        RawPat::Wild | RawPat::Bind { .. } | RawPat::Tuple(_) => true,
+        RawPat::Lit(_) | RawPat::Other => true,
+    }
+}
+
+fn have_pat_names(raw: &RawFacts, body: &RawBody) -> bool
+    ensures { IsTrue result ↔ PatsNamesExist raw.now body.now }
+{
+    body.pats
+        .as_slice()
+        .iter()
+        .all(|pat| has_pat_names(raw, body, pat))
 }
 
 fn have_traits(traits: &[TraitId], count: usize) -> bool
@@ -221,6 +244,7 @@ fn has_ids(raw: &RawFacts, body: &RawBody) -> bool
         && have_expr_ids(raw, body)
         && have_pat_ids(body)
         && have_pat_parts(body)
+        && have_pat_names(raw, body)
 }
 
 fn owned_body(function: &RawFn) -> Option<usize>
@@ -232,12 +256,41 @@ fn owned_body(function: &RawFn) -> Option<usize>
     }
 }
 
-fn owned_bodies(alloc: Global, fns: &[RawFn]) -> Result<Vec<Option<usize>>, AllocError>
+fn fn_bodies(alloc: Global, fns: &[RawFn]) -> Result<Vec<Option<usize>>, AllocError>
     ensures { IfOk result (λ v. v.items ≡ map owned_body fns.now) }
 {
     fns.iter()
         .map(|function| owned_body(function))
         .collect(alloc)
+}
+
+fn variant_body(variant: &RawVariant) -> Option<usize>
+    ensures { result ≡ variant_body variant.now }
+{
+    match variant.body {
+        None => None,
+        Some(body) => Some(body.0 as usize),
+    }
+}
+
+fn push_variant_bodies(
+    out: &mut Vec<Option<usize>>,
+    variants: &[RawVariant],
+) -> Result<(), AllocError>
+    ensures { OnOk result (out.new.items ≡ out.old.items ++ map variant_body variants.now) }
+{
+    for variant in variants {
+        out.push(variant_body(variant))?;
+    }
+    Ok(())
+}
+
+fn owned_bodies(alloc: Global, raw: &RawFacts) -> Result<Vec<Option<usize>>, AllocError>
+    ensures { IfOk result (λ v. v.items ≡ owned_bodies raw.now) }
+{
+    let mut owned = fn_bodies(alloc, raw.fns.as_slice())?;
+    push_variant_bodies(&mut owned, raw.variants.as_slice())?;
+    Ok(owned)
 }
 
 /// The ids of a body are in range, and it is the body of exactly one definition.
@@ -247,23 +300,13 @@ pub struct BodyIds {
 }
 
 impl BodyIds {
-    /// Finds out which functions each body is that of.
+    /// Finds out which definitions each body is that of.
     pub fn new(alloc: Global, raw: &RawFacts) -> Result<BodyIds, AllocError>
-        requires { AllHold (λ i f. FnIdsExist raw.now f) raw.now.fns }
         ensures { IfOk result (λ it. AreOwners raw.now it.owners.items) }
     {
-        let targets = owned_bodies(alloc, raw.fns.as_slice())?;
-        let owners = namers_of(alloc, &targets, raw.bodies.len())?;
+        let owned = owned_bodies(alloc, raw)?;
+        let owners = namers_of(alloc, &owned, raw.bodies.len())?;
         Ok(BodyIds { owners })
-    }
-}
-
-fn is_one(namers: Namers) -> bool
-    ensures { IsTrue result ↔ IsOne namers }
-{
-    match namers {
-        Namers::One(_) => true,
-        Namers::Nobody | Namers::Several => false,
     }
 }
 

@@ -41,7 +41,9 @@ fn is_short_pat(pat: &RawPat) -> bool
 {
     match pat {
         RawPat::Tuple(pats) => is_short(pats.as_slice()),
-        RawPat::Wild | RawPat::Bind { .. } | RawPat::Lit(_) | RawPat::Other => true,
+        RawPat::TupleStruct { variant: _, args } => is_short(args.as_slice()),
+        RawPat::Wild | RawPat::Bind { .. } | RawPat::Path(_) => true,
+        RawPat::Lit(_) | RawPat::Other => true,
     }
 }
 

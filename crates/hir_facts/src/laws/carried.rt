@@ -6,13 +6,13 @@ ghost use Rattle.hir_facts.specs.Laws.Carried.{is_carried_type, is_carried_fn, i
 
 use crate::laws::test::Test;
 use crate::raw::{
-    BindingAnnotation, Other, RawAt, RawBinding, RawBody, RawExpr, RawFacts, RawFn, RawLiteral,
-    RawPat, RawPath, RawStmt, RawType,
+    BindingAnnotation, RawAt, RawBinding, RawBody, RawExpr, RawFacts, RawFn, RawLiteral, RawPat,
+    RawPath, RawStmt, RawType,
 };
 use std::alloc::{AllocError, Global};
 
 /// The first entry of a list of a kind that is not carried.
-pub fn first_other(items: &[Other]) -> Option<usize>
+pub fn first_other<T>(items: &[T]) -> Option<usize>
     ensures { MatchOption result (AllHold (λ i x. ⊥) items.now) (λ i. BreaksAt (λ i x. ⊥) items.now i) }
 {
     if items.is_empty() { None } else { Some(0) }
@@ -23,7 +23,7 @@ fn carries_type(ty: &RawType) -> bool
 {
     match ty {
         RawType::Bool | RawType::Char | RawType::Integer(_) | RawType::Tuple(_) => true,
-        RawType::Other => false,
+        RawType::Adt { .. } | RawType::Param(_) | RawType::Hole | RawType::Other => false,
     }
 }
 
@@ -50,7 +50,7 @@ fn carries_path(path: &RawPath) -> bool
 {
     match path {
         RawPath::Local(_) => true,
-        RawPath::Function(_) | RawPath::Other => false,
+        RawPath::Function(_) | RawPath::Ctor(_) | RawPath::Other => false,
     }
 }
 
@@ -83,8 +83,9 @@ fn carries_expr(expr: &RawExpr) -> bool
             statements,
             tail: _,
         } => label.is_none() && carries_stmts(statements.as_slice()),
-        RawExpr::Tuple(_) => true,
-        RawExpr::If { .. } | RawExpr::Match { .. } | RawExpr::Call { .. } | RawExpr::Other => false,
+        RawExpr::Tuple(_) | RawExpr::If { .. } => true,
+        RawExpr::Match { scrutinee: _, arms } => !arms.is_empty(),
+        RawExpr::Call { .. } | RawExpr::Other => false,
     }
 }
 
@@ -92,9 +93,9 @@ fn carries_pat(pat: &RawPat) -> bool
     ensures { result ≡ is_carried_pat pat.now }
 {
     match pat {
-        RawPat::Wild => true,
+        RawPat::Wild | RawPat::Tuple(_) | RawPat::Lit(_) => true,
         RawPat::Bind { id: _, subpat } => subpat.is_none(),
-        RawPat::Tuple(_) | RawPat::Lit(_) | RawPat::Other => false,
+        RawPat::TupleStruct { .. } | RawPat::Path(_) | RawPat::Other => false,
     }
 }
 

@@ -3,7 +3,7 @@ ghost use Rattle.std.specs.Prelude.{◌≡◌, ◌↔◌, ◌<◌, ◌≤◌, �
 ghost use Rattle.hir_types.specs.declared.ids.TypeRefId.{TypeRefId};
 ghost use Rattle.hir_types.specs.declared.ids.TraitId.{TraitId};
 ghost use Rattle.hir_facts.specs.Laws.Entries.{AllHold};
-ghost use Rattle.hir_facts.specs.Laws.Ids.{ChildrenBefore, ParentBefore, PlaceExists, VisExists, FnIdsExist, BodyIdsExist};
+ghost use Rattle.hir_facts.specs.Laws.Ids.{ChildrenBefore, AdtExists, TypeIdsExist, ParentBefore, PlaceExists, VisExists, FnIdsExist, BodyIdsExist};
 
 use crate::laws::test::Test;
 use crate::raw::{RawAt, RawFacts, RawFn, RawType, RawVis};
@@ -19,9 +19,16 @@ fn are_below(types: &[TypeRefId], bound: usize) -> bool
 fn has_children_before(at: usize, ty: &RawType) -> bool
     ensures { IsTrue result ↔ ChildrenBefore at ty.now }
 {
+    are_below(ty.parts(), at)
+}
+
+fn has_adt(raw: &RawFacts, ty: &RawType) -> bool
+    ensures { IsTrue result ↔ AdtExists raw.now ty.now }
+{
     match ty {
-        RawType::Tuple(types) => are_below(types.as_slice(), at),
-        RawType::Bool | RawType::Char | RawType::Integer(_) | RawType::Other => true,
+        RawType::Adt { adt, args: _ } => (adt.0 as usize) < raw.adts.len(),
+        RawType::Bool | RawType::Char | RawType::Integer(_) | RawType::Tuple(_) => true,
+        RawType::Param(_) | RawType::Hole | RawType::Other => true,
     }
 }
 
@@ -43,7 +50,7 @@ fn has_place(raw: &RawFacts, at: &RawAt) -> bool
     }
 }
 
-fn has_vis(raw: &RawFacts, vis: &RawVis) -> bool
+pub fn has_vis(raw: &RawFacts, vis: &RawVis) -> bool
     ensures { IsTrue result ↔ VisExists raw.now vis.now }
 {
     match vis {
@@ -71,7 +78,7 @@ fn has_fn_ids(raw: &RawFacts, function: &RawFn) -> bool
         && has_body(raw, function)
 }
 
-/// The parts of a written type come before it.
+/// The parts of a written type come before it, and an adt that it names exists.
 pub struct TypeIds;
 
 impl Test for TypeIds {
@@ -79,18 +86,18 @@ impl Test for TypeIds {
 
     ghost listed = { λ raw. raw.types };
 
-    ghost holds = { λ raw. ChildrenBefore };
+    ghost holds = { TypeIdsExist };
 
     ghost given = { λ raw s. Unit {0} };
 
     fn test(
         &self,
         _alloc: Global,
-        _raw: &RawFacts,
+        raw: &RawFacts,
         at: usize,
         item: &RawType,
     ) -> Result<bool, AllocError> {
-        Ok(has_children_before(at, item))
+        Ok(has_children_before(at, item) && has_adt(raw, item))
     }
 }
 

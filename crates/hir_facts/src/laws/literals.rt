@@ -4,8 +4,6 @@ ghost use Rattle.hir_facts.specs.Laws.Literals.{and_digit, value_of, without_min
 ghost use Rattle.hir_facts.specs.declared.raw.RawPat.{RawPat};
 ghost use Rattle.hir_facts.specs.declared.laws.namers.Namers.TheVariants.{Nobody};
 ghost use Rattle.hir_facts.specs.Laws.Entries.{AllHold};
-ghost use Rattle.hir_facts.specs.Laws.Ids.{BodyIdsExist};
-ghost use Rattle.hir_facts.specs.Laws.InBody.{PatsPartsExist};
 ghost use Rattle.hir_facts.specs.Laws.InBits.{IsSmall, literal_of, ArePatterns, IsSomeones, ExprIsInBits, PatIsLiteral};
 
 use crate::laws::namers::{Namers, namers_of};
@@ -85,7 +83,8 @@ fn literal_of(pat: &RawPat) -> Option<usize>
 {
     match pat {
         RawPat::Lit(e) => Some(e.0 as usize),
-        RawPat::Wild | RawPat::Bind { .. } | RawPat::Tuple(_) | RawPat::Other => None,
+        RawPat::Wild | RawPat::Bind { .. } | RawPat::Tuple(_) => None,
+        RawPat::TupleStruct { .. } | RawPat::Path(_) | RawPat::Other => None,
     }
 }
 
@@ -97,7 +96,6 @@ fn literals_of(alloc: Global, pats: &[RawPat]) -> Result<Vec<Option<usize>>, All
 
 /// Which patterns are each expression of a body.
 fn patterns_of(alloc: Global, body: &RawBody) -> Result<Vec<Namers>, AllocError>
-    requires { PatsPartsExist body.now }
     ensures { IfOk result (λ v. ArePatterns body.now v.items) }
 {
     let targets = literals_of(alloc, body.pats.as_slice())?;
@@ -154,7 +152,8 @@ fn pat_is_literal(body: &RawBody, pat: &RawPat) -> bool
 {
     match pat {
         RawPat::Lit(e) => is_literal(body, *e),
-        RawPat::Wild | RawPat::Bind { .. } | RawPat::Tuple(_) | RawPat::Other => true,
+        RawPat::Wild | RawPat::Bind { .. } | RawPat::Tuple(_) => true,
+        RawPat::TupleStruct { .. } | RawPat::Path(_) | RawPat::Other => true,
     }
 }
 
@@ -177,7 +176,7 @@ impl Test for LiteralsInBits {
 
     ghost holds = { λ raw i b. LiteralsFit b };
 
-    ghost given = { λ raw s. AllHold (BodyIdsExist raw) raw.bodies };
+    ghost given = { λ raw s. Unit {0} };
 
     fn test(
         &self,

@@ -1,6 +1,6 @@
 //! Which entries of a list name a place.
-ghost use Rattle.std.specs.Prelude.{◌≡◌, ◌<◌, ℕ, IfOk, Some, slice_get, slice_set, length, slice_index_or};
-ghost use Rattle.hir_facts.specs.Laws.Namers.{and_one, AreNamers};
+ghost use Rattle.std.specs.Prelude.{◌≡◌, ◌↔◌, IsTrue, IfOk, slice_set, length, slice_index_or};
+ghost use Rattle.hir_facts.specs.Laws.Namers.{and_one, AreNamers, IsOne, IsNobody};
 ghost use Rattle.hir_facts.specs.declared.laws.namers.Namers.TheVariants.{Nobody};
 
 use std::alloc::{AllocError, Global};
@@ -13,6 +13,26 @@ pub enum Namers {
     Several,
 }
 
+/// Whether one entry names the place.
+pub fn is_one(namers: Namers) -> bool
+    ensures { IsTrue result ↔ IsOne namers }
+{
+    match namers {
+        Namers::One(_) => true,
+        Namers::Nobody | Namers::Several => false,
+    }
+}
+
+/// Whether no entry names the place.
+pub fn is_nobody(namers: Namers) -> bool
+    ensures { IsTrue result ↔ IsNobody namers }
+{
+    match namers {
+        Namers::Nobody => true,
+        Namers::One(_) | Namers::Several => false,
+    }
+}
+
 fn with_one(namers: Namers, k: usize) -> Namers
     ensures { result ≡ and_one namers k }
 {
@@ -23,20 +43,20 @@ fn with_one(namers: Namers, k: usize) -> Namers
 }
 
 fn note(namers: &mut Vec<Namers>, k: usize, place: usize)
-    requires { place < length namers.old.items }
     ensures { namers.new.items ≡ slice_set namers.old.items place (and_one (slice_index_or namers.old.items place Nobody) k) }
 {
-    let before = namers[place];
-    namers[place] = with_one(before, k);
+    if place < namers.len() {
+        let before = namers[place];
+        namers[place] = with_one(before, k);
+    }
 }
 
-/// Which entries name each of the places below `count`.
+/// Which entries name each of the places below `count`; other places are passed over.
 pub fn namers_of(
     alloc: Global,
     targets: &[Option<usize>],
     count: usize,
 ) -> Result<Vec<Namers>, AllocError>
-    requires { (k t : ℕ) → slice_get targets.now k ≡ Some (Some t) → t < count }
     ensures { IfOk result (λ v. AreNamers targets.now (length targets.now) count v.items) }
 {
     let mut namers = vec![in alloc; Namers::Nobody; count]?;

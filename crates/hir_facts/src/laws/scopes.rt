@@ -7,7 +7,7 @@ ghost use Rattle.hir_facts.specs.declared.raw.RawExpr.TheVariants.{Path};
 ghost use Rattle.hir_facts.specs.declared.raw.RawPath.TheVariants.{Local};
 ghost use Rattle.hir_facts.specs.Laws.Entries.{AllHold};
 ghost use Rattle.hir_facts.specs.Laws.Ids.{BodyIdsExist};
-ghost use Rattle.hir_facts.specs.Laws.InBody.{PatsIdsExist, LocalsExist};
+ghost use Rattle.hir_facts.specs.Laws.InBody.{LocalsExist};
 ghost use Rattle.hir_facts.specs.Laws.Trees.{IsWellFormed};
 ghost use Rattle.hir_facts.specs.Laws.Scopes.{AreInScope, ScopesHold};
 ghost use Rattle.hir_facts.specs.Laws.Binders.{IsWithin, comes_before, is_typed_before, HasTypedLocal};
@@ -62,7 +62,8 @@ fn has_typed_local(
 {
     match expr {
         RawExpr::Path(RawPath::Local(v)) => is_typed_before(body, starts, binders, e, v.0 as usize),
-        RawExpr::Path(RawPath::Function(_) | RawPath::Other) | RawExpr::Lit(_) => true,
+        RawExpr::Path(RawPath::Function(_) | RawPath::Ctor(_) | RawPath::Other) => true,
+        RawExpr::Lit(_) => true,
         RawExpr::Block { .. } | RawExpr::Tuple(_) | RawExpr::Other => true,
         RawExpr::If { .. } | RawExpr::Match { .. } | RawExpr::Call { .. } => true,
     }
@@ -85,7 +86,6 @@ fn have_typed_locals(body: &RawBody, starts: &[usize], binders: &[Namers]) -> bo
 
 fn are_in_scope(alloc: Global, body: &RawBody, schedule: &Schedule) -> Result<bool, AllocError>
     requires schedule { IsSchedule body.now schedule.now }
-    requires pats { PatsIdsExist body.now }
     requires locals { LocalsExist body.now }
     requires bound { IsWellFormed body.now }
     ensures { IfOk result (λ told. IsTrue told ↔ AreInScope body.now schedule.now) }

@@ -4,11 +4,11 @@ ghost use Rattle.hir_types.specs.declared.ids.TypeRefId.{TypeRefId};
 ghost use Rattle.hir_types.specs.Types.{most, depth, size};
 ghost use Rattle.hir_facts.specs.Laws.Entries.{AllHold};
 ghost use Rattle.hir_facts.specs.Laws.Ids.{ChildrenBefore};
-ghost use Rattle.hir_facts.specs.Laws.Sizes.{IsShort, IsEarly, PartsAreShort, TypeIsSmall};
+ghost use Rattle.hir_facts.specs.Laws.Sizes.{IsShort, IsEarly, TypeIsSmall, AdtIsSmall, VariantIsSmall, FnIsSmall};
 ghost use Rattle.hir_facts.specs.Laws.Measures.{depth_by, size_by, AreMeasures};
 
 use crate::laws::test::Test;
-use crate::raw::{RawFacts, RawFn, RawType};
+use crate::raw::{RawAdt, RawFacts, RawFn, RawType, RawVariant};
 use hir_types::{ModuleId, TypeRefId};
 use std::alloc::{AllocError, Global};
 
@@ -21,13 +21,13 @@ const DEPTH_CAP: usize = 65;
 /// One more than the number of types that a type may be written with.
 const SIZE_CAP: usize = 4097;
 
-fn larger(a: usize, b: usize) -> usize
+pub fn larger(a: usize, b: usize) -> usize
     ensures { result ≡ max a b }
 {
     if a < b { b } else { a }
 }
 
-fn most_of(depths: &[usize], parts: &[TypeRefId]) -> usize
+pub fn most_of(depths: &[usize], parts: &[TypeRefId]) -> usize
     requires { (k : ℕ) (t : TypeRefId) → slice_get parts.now k ≡ Some t → t.0 < length depths.now }
     ensures { result ≡ most (map (λ t. slice_index depths.now t.0) parts.now) }
 {
@@ -52,10 +52,7 @@ fn depth_over(depths: &[usize], ty: &RawType) -> usize
     requires { ChildrenBefore (length depths.now) ty.now }
     ensures { result ≡ min DEPTH_CAP (depth_by (λ t. slice_index depths.now t) ty.now) }
 {
-    match ty {
-        RawType::Tuple(parts) => one_deeper(most_of(depths, parts.as_slice())),
-        RawType::Bool | RawType::Char | RawType::Integer(_) | RawType::Other => 1,
-    }
+    one_deeper(most_of(depths, ty.parts()))
 }
 
 fn depths_of(alloc: Global, types: &[RawType]) -> Result<Vec<usize>, AllocError>
@@ -95,10 +92,7 @@ fn size_over(sizes: &[usize], ty: &RawType) -> usize
     requires { ChildrenBefore (length sizes.now) ty.now }
     ensures { result ≡ min SIZE_CAP (size_by (λ t. slice_index sizes.now t) ty.now) }
 {
-    match ty {
-        RawType::Tuple(parts) => capped_sum(sum_of(sizes, parts.as_slice()), 1),
-        RawType::Bool | RawType::Char | RawType::Integer(_) | RawType::Other => 1,
-    }
+    capped_sum(sum_of(sizes, ty.parts()), 1)
 }
 
 fn sizes_of(alloc: Global, types: &[RawType]) -> Result<Vec<usize>, AllocError>
@@ -125,15 +119,6 @@ pub fn is_short<T>(entries: &[T]) -> bool
     ensures { IsTrue result ↔ IsShort entries.now }
 {
     entries.len() <= MOST_ENTRIES
-}
-
-fn has_short_parts(ty: &RawType) -> bool
-    ensures { IsTrue result ↔ PartsAreShort ty.now }
-{
-    match ty {
-        RawType::Tuple(parts) => is_short(parts.as_slice()),
-        RawType::Bool | RawType::Char | RawType::Integer(_) | RawType::Other => true,
-    }
 }
 
 /// A type is small, written out.
@@ -179,7 +164,7 @@ impl Test for TypeSizes {
     ) -> Result<bool, AllocError> {
         Ok(
             is_early(at)
-                && has_short_parts(item)
+                && is_short(item.parts())
                 && self.depths[at] < DEPTH_CAP
                 && self.sizes[at] < SIZE_CAP,
         )
@@ -209,15 +194,15 @@ impl Test for ModulesEarly {
     }
 }
 
-/// There are not too many functions.
-pub struct FnsEarly;
+/// The lists of an adt are short.
+pub struct AdtSizes;
 
-impl Test for FnsEarly {
-    type Item = RawFn;
+impl Test for AdtSizes {
+    type Item = RawAdt;
 
-    ghost listed = { λ raw. raw.fns };
+    ghost listed = { λ raw. raw.adts };
 
-    ghost holds = { λ raw i f. IsEarly i };
+    ghost holds = { λ raw. AdtIsSmall };
 
     ghost given = { λ raw s. Unit {0} };
 
@@ -226,8 +211,64 @@ impl Test for FnsEarly {
         _alloc: Global,
         _raw: &RawFacts,
         at: usize,
-        _item: &RawFn,
+        item: &RawAdt,
     ) -> Result<bool, AllocError> {
-        Ok(is_early(at))
+        Ok(
+            is_early(at)
+                && is_short(item.params.as_slice())
+                && is_short(item.preds.as_slice())
+                && is_short(item.variants.as_slice()),
+        )
+    }
+}
+
+/// A variant does not have too many fields.
+pub struct VariantSizes;
+
+impl Test for VariantSizes {
+    type Item = RawVariant;
+
+    ghost listed = { λ raw. raw.variants };
+
+    ghost holds = { λ raw. VariantIsSmall };
+
+    ghost given = { λ raw s. Unit {0} };
+
+    fn test(
+        &self,
+        _alloc: Global,
+        _raw: &RawFacts,
+        at: usize,
+        item: &RawVariant,
+    ) -> Result<bool, AllocError> {
+        Ok(is_early(at) && is_short(item.fields.as_slice()))
+    }
+}
+
+/// The lists of a function are short.
+pub struct FnSizes;
+
+impl Test for FnSizes {
+    type Item = RawFn;
+
+    ghost listed = { λ raw. raw.fns };
+
+    ghost holds = { λ raw. FnIsSmall };
+
+    ghost given = { λ raw s. Unit {0} };
+
+    fn test(
+        &self,
+        _alloc: Global,
+        _raw: &RawFacts,
+        at: usize,
+        item: &RawFn,
+    ) -> Result<bool, AllocError> {
+        Ok(
+            is_early(at)
+                && is_short(item.params.as_slice())
+                && is_short(item.preds.as_slice())
+                && is_short(item.inputs.as_slice()),
+        )
     }
 }

@@ -4,7 +4,6 @@ ghost use Rattle.hir_facts.specs.Order.{PartsFit, IsTree};
 ghost use Rattle.hir_facts.specs.declared.laws.namers.Namers.TheVariants.{Nobody};
 ghost use Rattle.hir_facts.specs.Laws.Entries.{AllHold};
 ghost use Rattle.hir_facts.specs.Laws.Ids.{BodyIdsExist};
-ghost use Rattle.hir_facts.specs.Laws.InBody.{PatsIdsExist};
 ghost use Rattle.hir_facts.specs.Laws.Binders.{bound_binding, AreBinders, is_self, is_bound_once};
 ghost use Rattle.hir_facts.specs.Laws.Trees.{IsWellFormed};
 
@@ -33,7 +32,6 @@ fn bound_bindings(alloc: Global, pats: &[RawPat]) -> Result<Vec<Option<usize>>, 
 
 /// Which patterns bind each binding of a body.
 pub fn binders_of(alloc: Global, body: &RawBody) -> Result<Vec<Namers>, AllocError>
-    requires { PatsIdsExist body.now }
     ensures { IfOk result (λ v. AreBinders body.now v.items) }
 {
     let targets = bound_bindings(alloc, body.pats.as_slice())?;

@@ -1,4 +1,5 @@
 use Rattle.std.proofs.Common.{◌≡◌, map, take}
+use Rattle.hir_types.specs.declared.ty.GenericArg.TheVariants as arg
 use Rattle.hir_facts.specs.Types.{lowered}
 use Rattle.hir_facts.proofs.lower.+lower.Given as goal
 
@@ -7,3 +8,6 @@ decreases-lower l = l.t
 
 abbrev pub invariant-loop-part : goal.invariant-loop-part
 invariant-loop-part l = l.tys ≡ map (λ t. lowered l.types t.0) (take l.part-index l.part-items)
+
+abbrev pub invariant-loop-arg : goal.invariant-loop-arg
+invariant-loop-arg l = l.lowered ≡ map (λ t. arg.Ty (lowered l.types t.0)) (take l.arg-index l.arg-items)

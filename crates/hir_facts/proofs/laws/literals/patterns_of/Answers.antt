@@ -1,13 +1,7 @@
 use Rattle.std.proofs.Common.{◌≡◌, ◌∙◌, map, ap, length}
 use Rattle.std.proofs.lemmas.List.{length-map}
 use Rattle.hir_facts.specs.Laws.InBits.{literal_of}
-use Rattle.hir_facts.proofs.PatternLiterals.{literal_below}
 use Rattle.hir_facts.proofs.laws.literals.patterns_of.Goals as goal
-
-pub namers_of-requires : goal.namers_of-requires
-namers_of-requires c k t found =
-    let is : c.deref.result.now ≡ map literal_of c.args.body.now.pats = c.deref.ensures.value ∙ (c.in_ok-targets.ensures ∙ ap (map literal_of) c.as_slice.ensures) in
-    rw c.len.ensures (literal_below c.args.body.now c.requires k t (rw is at found))
 
 pub returns : goal.returns
 returns c =

@@ -1,13 +1,7 @@
 use Rattle.std.proofs.Common.{◌≡◌, ◌∙◌, map, ap, length}
 use Rattle.std.proofs.lemmas.List.{length-map}
 use Rattle.hir_facts.specs.Laws.Binders.{bound_binding}
-use Rattle.hir_facts.proofs.Binding.{bound_below}
 use Rattle.hir_facts.proofs.laws.trees.binders_of.Goals as goal
-
-pub namers_of-requires : goal.namers_of-requires
-namers_of-requires c k t found =
-    let is : c.deref.result.now ≡ map bound_binding c.args.body.now.pats = c.deref.ensures.value ∙ (c.in_ok-targets.ensures ∙ ap (map bound_binding) c.as_slice.ensures) in
-    rw c.len.ensures (bound_below c.args.body.now c.requires k t (rw is at found))
 
 pub returns : goal.returns
 returns c =

@@ -1,12 +1,8 @@
 use Rattle.std.proofs.Common.{◌∙◌, sym}
 use Rattle.hir_facts.specs.Laws.InBits.{ArePatterns}
-use Rattle.hir_facts.proofs.InBodies.{here_from_exists}
 use Rattle.hir_facts.proofs.PatternLiterals.{fit_from, bits_from, literals_from}
 use Rattle.hir_facts.proofs.laws.literals.LiteralsInBitsTest.test.Goals as goal
 use Rattle.hir_facts.proofs.laws.literals.LiteralsInBitsTest.test.Goals.{then-are_in_bits, else-are_in_bits}
-
-pub patterns_of-requires : goal.patterns_of-requires
-patterns_of-requires c = (here_from_exists c.args._raw.now c.args._at c.args.item.now (c.requires.given c.args._at c.args.item.now c.requires.listed)).pat_parts
 
 pub returns : goal.returns
 returns c =

@@ -1,4 +1,3 @@
-use Rattle.hir_facts.proofs.InBodies.{here_from_exists}
 use Rattle.hir_facts.proofs.Scoping.{scheduled_at, scopes_say, deep_scopes}
 use Rattle.hir_facts.proofs.laws.scopes.ScopesTest.test.Goals as goal
 
@@ -10,9 +9,6 @@ is_low-requires-clause-depths c = (scheduled_at c.args._raw.now.bodies c.args.se
 
 pub are_in_scope-requires-clause-schedule : goal.are_in_scope-requires-clause-schedule
 are_in_scope-requires-clause-schedule c = (scheduled_at c.args._raw.now.bodies c.args.self.now.schedules.now c.as_slice.result.now c.args.at c.args.item.now c.index-as_slice-at.result c.requires.given.2 c.requires.listed c.as_slice.ensures c.index-as_slice-at.is).0
-
-pub are_in_scope-requires-clause-pats : goal.are_in_scope-requires-clause-pats
-are_in_scope-requires-clause-pats c = (here_from_exists c.args._raw.now c.args.at c.args.item.now (c.requires.given.0 c.args.at c.args.item.now c.requires.listed)).pats
 
 pub are_in_scope-requires-clause-locals : goal.are_in_scope-requires-clause-locals
 are_in_scope-requires-clause-locals c e v found = (c.requires.given.0 c.args.at c.args.item.now c.requires.listed).locals (record { 0 = e }) v found
