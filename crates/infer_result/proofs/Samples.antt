@@ -4,3 +4,9 @@ pub mod WrongRoot
 pub mod NoTail
 pub mod TwoLets
 pub mod WrongElement
+pub mod IfElse
+pub mod IfWithoutElse
+pub mod Match
+pub mod WrongPattern
+pub mod WrongArm
+pub mod WrongLiteral

@@ -17,6 +17,7 @@ pub record IsOfBody (b : RawBody) (t : InferenceResult) : Type 0 where
   pub bindings : length t.type_of_binding ≡ length b.bindings
   pub modes : length t.binding_modes ≡ length b.pats
   pub mismatches : length t.expr_mismatches ≡ length b.exprs
+  pub pat_mismatches : length t.pat_mismatches ≡ length b.pats
 
 -- each expression, pattern and binding has a type
 pub record IsTotal (b : RawBody) (t : InferenceResult) : Type 0 where
@@ -31,6 +32,8 @@ pub record AllTypes (P : Ty → Type 0) (t : InferenceResult) : Type 0 where
   pub bindings : (n : ℕ) (s : Ty) → At t.type_of_binding n s → P s
   pub expected : (n : ℕ) (x : TypeMismatch) → At t.expr_mismatches n x → P x.expected
   pub actual : (n : ℕ) (x : TypeMismatch) → At t.expr_mismatches n x → P x.actual
+  pub pat_expected : (n : ℕ) (x : TypeMismatch) → At t.pat_mismatches n x → P x.expected
+  pub pat_actual : (n : ℕ) (x : TypeMismatch) → At t.pat_mismatches n x → P x.actual
 
 -- no type of the table has a hole, complaints included
 abbrev pub IsClosedTable : InferenceResult → Type 0

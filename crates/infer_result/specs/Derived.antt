@@ -7,13 +7,14 @@ use Rattle.hir_types.specs.declared.ids.PatId.{PatId}
 use Rattle.hir_types.specs.declared.ids.BindingId.{BindingId}
 use Rattle.hir_types.specs.declared.ids.TypeRefId.{TypeRefId}
 use Rattle.hir_types.specs.declared.ids.ExprOrPatId.TheVariants as node
-use Rattle.hir_types.specs.declared.ty.Ty.{Ty}
+use Rattle.hir_types.specs.declared.ty.Ty.{Ty, Ty-F, out-Ty, out-roll-Ty}
 use Rattle.hir_types.specs.declared.ty.Ty.TheVariants as ty
 use Rattle.hir_facts.specs.declared.raw.RawLiteral.{RawLiteral}
 use Rattle.hir_facts.specs.declared.raw.RawLiteral.TheVariants as literal
 use Rattle.hir_facts.specs.declared.raw.RawPath.TheVariants as path
 use Rattle.hir_facts.specs.declared.raw.RawStmt.{RawStmt}
 use Rattle.hir_facts.specs.declared.raw.RawStmt.TheVariants as stmt
+use Rattle.hir_facts.specs.declared.raw.RawArm.{RawArm}
 use Rattle.hir_facts.specs.declared.raw.RawExpr.{RawExpr}
 use Rattle.hir_facts.specs.declared.raw.RawExpr.TheVariants as expr
 use Rattle.hir_facts.specs.declared.raw.RawPat.{RawPat}
@@ -21,26 +22,28 @@ use Rattle.hir_facts.specs.declared.raw.RawPat.TheVariants as pat
 use Rattle.hir_facts.specs.declared.raw.RawBody.{RawBody}
 use Rattle.hir_types.specs.Types.{unit}
 use Rattle.hir_facts.specs.Types.{written_type}
-use Rattle.hir_types.specs.Erasure.{erased, Same}
+use Rattle.hir_types.specs.Erasure.{erased}
 use Rattle.hir_facts.specs.declared.schedule.Schedule.{Schedule}
 use Rattle.hir_facts.specs.Ways.{one_place}
 use Rattle.hir_facts.specs.Order.{Role, root, initializer, let_pattern, Part, Node, the_body, inner, IsNode, IsSchedule, part_at, stmts_of, stmt_at}
 use Rattle.infer_result.specs.declared.result.InferenceResult.{InferenceResult}
 use Rattle.infer_result.specs.declared.result.TypeMismatch.{TypeMismatch}
-use Rattle.infer_result.specs.Table.{At, HasTy, PatTy, MismatchAt, HasMismatch, mismatch}
+use Rattle.infer_result.specs.Table.{At, HasTy, PatTy, HasMismatch, AnyMismatch, mismatch}
 use Rattle.infer_result.specs.Closed.{IsTotal}
-use Rattle.infer_result.specs.Places.{Given, IsAt, IsAtOrMismatch, Demand, Asks, AsksOf, Gives, Incoming}
+use Rattle.infer_result.specs.Places.{Given, IsAt, IsAtOrMismatch, MisfitsAs, PatIsAtOrMismatch, IsAsked, Asks, AsksOf, Gives, GivesPart, Incoming}
 use Rattle.infer_result.specs.Rules.Literals.{IsLiteralType, IsOwnType}
 use Rattle.infer_result.specs.Rules.Paths.{PathRule}
+use Rattle.infer_result.specs.Rules.Placing.{Placing, at_or_mismatch, at_types}
 use Rattle.infer_result.specs.Rules.Tuples.{AllAt}
 use Rattle.infer_result.specs.Rules.Blocks.{LetRule, StmtRule, StmtsRule, TailRule}
+use Rattle.infer_result.specs.Rules.Branches.{branches_of, ElseRule, arm_exprs, ArmPatterns, GuardRule, ArmsRule}
 use Rattle.infer_result.specs.Rules.Expressions.{Rule, BodyObeys}
-use Rattle.infer_result.specs.Rules.Patterns.{PatRule}
-use Rattle.infer_result.specs.Excused.{MaybeMismatch, StmtHasMismatch, StmtsHaveMismatch, ExcusedAs, BodyIsExcused}
+use Rattle.infer_result.specs.Rules.Patterns.{AllPatsAt, PatRule}
+use Rattle.infer_result.specs.Excused.{MaybeMismatch, StmtHasMismatch, StmtsHaveMismatch, GuardsHaveMismatch, ExcusedAs, BodyIsExcused}
 use Rattle.infer_result.specs.Upward.{NamesLet, Up, of_literal, of_written, of_initializer, of_parameter, Stated}
-use Rattle.infer_result.specs.Truth.Mismatch.{IsBlockWithoutTail, IsTrueMismatch}
+use Rattle.infer_result.specs.Truth.Mismatch.{IsBlockWithoutTail, IsIfWithoutElse, EndsInUnit, IsTrueMismatch}
 use Rattle.infer_result.specs.Made.{IsMade}
-use Rattle.infer_result.specs.Parts.{LetStands, let_of_part, param_of_part}
+use Rattle.infer_result.specs.Parts.{LetStands, ArmStands, PartStands, comes_from}
 use Rattle.infer_result.specs.Typed.{IsTyped}
 
 -- a node stands at one place alone
@@ -51,11 +54,17 @@ StandsOnce b = (n m : Node) (i j : ℕ) (p q : Part) → IsNode b n → IsNode b
 pub one_at : {A : Type 0} (xs : List (Option A)) (n : ℕ) (a c : A) → At xs n a → At xs n c → a ≡ c
 one_at xs n a c h k = cc
 
+top_tuple : (ts : List Ty) → out-Ty (ty.Tuple ts) ≡ Ty-F.Tuple ts
+top_tuple ts = ap out-Ty (sym (ty.rolls-Tuple ts)) ∙ out-roll-Ty (Ty-F.Tuple ts)
+
+pub tuple_parts : (ts us : List Ty) → ty.Tuple ts ≡ ty.Tuple us → ts ≡ us
+tuple_parts ts us h = (let k : Ty-F.Tuple ts ≡ Ty-F.Tuple us = sym (top_tuple ts) ∙ (ap out-Ty h ∙ top_tuple us) in cc)
+
 -- ---- each clause holds, or the part is excused
 
 at_or_excused : (t : InferenceResult) (e : ExprId) (s : Ty) → IsAtOrMismatch t e s → IsAt t e s ⊎ HasMismatch t e
 at_or_excused t e s (a, h, inl same) = inl (a, h, same)
-at_or_excused t e s (a, h, inr m) = inr (mismatch s a, m)
+at_or_excused t e s (a, h, inr m) = inr m
 
 elements_obey : (t : InferenceResult) (es : List ExprId) (ss : List Ty) → AllAt (IsAtOrMismatch t) es ss → AllAt (λ e s. IsAt t e s ⊎ HasMismatch t e) es ss
 elements_obey t [] [] h = tt
@@ -63,74 +72,109 @@ elements_obey t [] (s ∷ ss) h = absurd h
 elements_obey t (e ∷ es) [] h = absurd h
 elements_obey t (e ∷ es) (s ∷ ss) h = (at_or_excused t e s h.0, elements_obey t es ss h.1)
 
-let_obeys : (g : Given) (t : InferenceResult) (p : PatId) (w : Option TypeRefId) (init : Option ExprId) → LetRule (IsAtOrMismatch t) g t p w init → MaybeMismatch t init ⊎ LetRule (IsAt t) g t p w init
-let_obeys g t p (Some w) (Some e) (h, k) = elim (at_or_excused t e (written_type g.types w) h) [ inl a ↦ inr (a, k) | inr m ↦ inl m ]
-let_obeys g t p (Some w) None h = inr h
-let_obeys g t p None (Some e) h = inr h
-let_obeys g t p None None h = inr tt
+module _ (g : Given) (t : InferenceResult) where
+  abbrev Made : Placing
+  Made = at_or_mismatch g t
 
-stmt_obeys : (g : Given) (t : InferenceResult) (s : RawStmt) → StmtRule (IsAtOrMismatch t) g t s → StmtHasMismatch t s ⊎ StmtRule (IsAt t) g t s
-stmt_obeys g t (stmt.Let p w init other) h = let_obeys g t p w init h
-stmt_obeys g t (stmt.Expr e true) h = inr tt
-stmt_obeys g t (stmt.Expr e false) h = elim (at_or_excused t e unit h) [ inl a ↦ inr a | inr m ↦ inl m ]
+  abbrev Right : Placing
+  Right = at_types g t
 
-stmts_obey : (g : Given) (t : InferenceResult) (ss : List RawStmt) → StmtsRule (IsAtOrMismatch t) g t ss → StmtsHaveMismatch t ss ⊎ StmtsRule (IsAt t) g t ss
-stmts_obey g t [] h = inr tt
-stmts_obey g t (s ∷ ss) h =
-    elim (stmt_obeys g t s h.0) [
-      | inl m ↦ inl (inl m)
-      | inr a ↦ elim (stmts_obey g t ss h.1) [ inl m ↦ inl (inr m) | inr c ↦ inr (a, c) ]
-    ]
+  let_obeys : (p : PatId) (w : Option TypeRefId) (init : Option ExprId) → LetRule Made g t p w init → MaybeMismatch t init ⊎ LetRule Right g t p w init
+  let_obeys p (Some w) (Some e) (h, k) = elim (at_or_excused t e (written_type g.types w) h) [ inl a ↦ inr (a, k) | inr m ↦ inl m ]
+  let_obeys p (Some w) None h = inr h
+  let_obeys p None (Some e) h = inr h
+  let_obeys p None None h = inr tt
 
--- how a block without tail is at its type, or has its mismatch
-abbrev Ends : InferenceResult → ExprId → Ty → Type 0
-Ends t n s = Same unit s ⊎ MismatchAt t n s unit
+  stmt_obeys : (s : RawStmt) → StmtRule Made g t s → StmtHasMismatch t s ⊎ StmtRule Right g t s
+  stmt_obeys (stmt.Let p w init other) h = let_obeys p w init h
+  stmt_obeys (stmt.Expr e true) h = inr tt
+  stmt_obeys (stmt.Expr e false) h = elim (at_or_excused t e unit h) [ inl a ↦ inr a | inr m ↦ inl m ]
 
-tail_obeys : (t : InferenceResult) (n : ExprId) (last : Option ExprId) (s : Ty) → TailRule (IsAtOrMismatch t) (Ends t n) last s → (HasMismatch t n ⊎ MaybeMismatch t last) ⊎ TailRule (IsAt t) (λ r. Same unit r) last s
-tail_obeys t n None s (inl same) = inr same
-tail_obeys t n None s (inr m) = inl (inl (mismatch s unit, m))
-tail_obeys t n (Some e) s h = elim (at_or_excused t e s h) [ inl a ↦ inr a | inr m ↦ inl (inr m) ]
+  stmts_obey : (ss : List RawStmt) → StmtsRule Made g t ss → StmtsHaveMismatch t ss ⊎ StmtsRule Right g t ss
+  stmts_obey [] h = inr tt
+  stmts_obey (s ∷ ss) h =
+      elim (stmt_obeys s h.0) [
+        | inl m ↦ inl (inl m)
+        | inr a ↦ elim (stmts_obey ss h.1) [ inl m ↦ inl (inr m) | inr c ↦ inr (a, c) ]
+      ]
 
-judged : (g : Given) (t : InferenceResult) (n : ExprId) (o : Option RawExpr) → Rule (IsAtOrMismatch t) (IsAtOrMismatch t) (Ends t n) g t n o → ExcusedAs t n o ⊎ Rule (IsAt t) (λ e s. IsAt t e s ⊎ HasMismatch t e) (λ s. Same unit s) g t n o
-judged g t n None h = absurd h
-judged g t n (Some (expr.Lit l)) h = inr h
-judged g t n (Some (expr.Path p)) h = inr h
-judged g t n (Some (expr.Tuple es)) (ss, h, k) = inr (ss, h, elements_obey t es ss k)
-judged g t n (Some (expr.Block label ss last)) (h, (s, k, m)) =
-    elim (stmts_obey g t ss h) [
-      | inl x ↦ inl (inr (inl x))
-      | inr a ↦ elim (tail_obeys t n last s m) [ inl x ↦ inl (elim x [ inl y ↦ inl y | inr y ↦ inr (inr y) ]) | inr c ↦ inr (a, (s, k, c)) ]
-    ]
-judged g t n (Some (expr.If c first other)) h = absurd h
-judged g t n (Some (expr.Match e arms)) h = absurd h
-judged g t n (Some (expr.Call f args)) h = absurd h
-judged g t n (Some expr.Other) h = absurd h
+  tail_obeys : (n : ExprId) (last : Option ExprId) (s : Ty) → TailRule Made n last s → (HasMismatch t n ⊎ MaybeMismatch t last) ⊎ TailRule Right n last s
+  tail_obeys n None s (inl same) = inr same
+  tail_obeys n None s (inr m) = inl (inl (mismatch s unit, m))
+  tail_obeys n (Some e) s h = elim (at_or_excused t e s h) [ inl a ↦ inr a | inr m ↦ inl (inr m) ]
+
+  else_obeys : (n first : ExprId) (other : Option ExprId) (s : Ty) → ElseRule Made n first other s → AnyMismatch t (branches_of n first other) ⊎ ElseRule Right n first other s
+  else_obeys n first (Some other) s h = elim h [ inl a ↦ inr a | inr m ↦ inl m ]
+  else_obeys n first None s h = elim h [ inl a ↦ inr a | inr m ↦ inl m ]
+
+  guard_obeys : (o : Option ExprId) → GuardRule Made o → MaybeMismatch t o ⊎ GuardRule Right o
+  guard_obeys None h = inr tt
+  guard_obeys (Some e) h = elim (at_or_excused t e ty.Bool h) [ inl a ↦ inr a | inr m ↦ inl m ]
+
+  arms_obey : (es : List ExprId) (arms : List RawArm) (s : Ty) → ArmsRule Made es arms s → (GuardsHaveMismatch t arms ⊎ AnyMismatch t es) ⊎ ArmsRule Right es arms s
+  arms_obey es [] s h = inr tt
+  arms_obey es (a ∷ as_) s ((k, c), h) =
+      elim (guard_obeys a.guard k) [
+        | inl m ↦ inl (inl (inl m))
+        | inr x ↦ elim c [
+          | inr m ↦ inl (inr m)
+          | inl y ↦ elim (arms_obey es as_ s h) [ inl m ↦ inl (elim m [ inl z ↦ inl (inr z) | inr z ↦ inr z ]) | inr z ↦ inr ((x, y), z) ]
+        ]
+      ]
+
+  if_obeys : (n c first : ExprId) (other : Option ExprId) (s : Ty) → HasTy t n s → IsAtOrMismatch t c ty.Bool → IsAt t first s ⊎ AnyMismatch t (branches_of n first other) → ElseRule Made n first other s → ExcusedAs t n (Some (expr.If c first other)) ⊎ Rule Right g t n (Some (expr.If c first other))
+  if_obeys n c first other s k a x y =
+      elim (at_or_excused t c ty.Bool a) [
+        | inr m ↦ inl (inl m)
+        | inl d ↦ elim x [
+          | inr m ↦ inl (inr m)
+          | inl u ↦ elim (else_obeys n first other s y) [ inl m ↦ inl (inr m) | inr v ↦ inr (d, (s, k, (u, v))) ]
+        ]
+      ]
+
+  judged : (n : ExprId) (o : Option RawExpr) → Rule Made g t n o → ExcusedAs t n o ⊎ Rule Right g t n o
+  judged n None h = absurd h
+  judged n (Some (expr.Lit l)) h = inr h
+  judged n (Some (expr.Path p)) h = inr h
+  judged n (Some (expr.Tuple es)) (ss, h, k) = inr (ss, h, elements_obey t es ss k)
+  judged n (Some (expr.Block label ss last)) (h, (s, k, m)) =
+      elim (stmts_obey ss h) [
+        | inl x ↦ inl (inr (inl x))
+        | inr a ↦ elim (tail_obeys n last s m) [ inl x ↦ inl (elim x [ inl y ↦ inl y | inr y ↦ inr (inr y) ]) | inr c ↦ inr (a, (s, k, c)) ]
+      ]
+  judged n (Some (expr.If c first other)) (a, (s, k, (x, y))) = if_obeys n c first other s k a x y
+  judged n (Some (expr.Match e arms)) (h, (s, k, m)) = elim (arms_obey (arm_exprs arms) arms s m) [ inl x ↦ inl x | inr x ↦ inr (h, (s, k, x)) ]
+  judged n (Some (expr.Call f args)) h = absurd h
+  judged n (Some expr.Other) h = absurd h
 
 -- ---- types are there
 
 path_type : (t : InferenceResult) (n : ExprId) (p : _) → PathRule t n p → (s : Ty) × HasTy t n s
 path_type t n (path.Local v) (s, h, k) = (s, h)
 path_type t n (path.Function f) h = absurd h
+path_type t n (path.Ctor named) h = absurd h
 path_type t n path.Other h = absurd h
 
-rule_type : (g : Given) (t : InferenceResult) (n : ExprId) (o : Option RawExpr) → Rule (IsAtOrMismatch t) (IsAtOrMismatch t) (Ends t n) g t n o → (s : Ty) × HasTy t n s
+rule_type : (g : Given) (t : InferenceResult) (n : ExprId) (o : Option RawExpr) → Rule (at_or_mismatch g t) g t n o → (s : Ty) × HasTy t n s
 rule_type g t n None h = absurd h
 rule_type g t n (Some (expr.Lit l)) (s, h, k) = (s, h)
 rule_type g t n (Some (expr.Path p)) h = path_type t n p h
 rule_type g t n (Some (expr.Tuple es)) (ss, h, k) = (ty.Tuple ss, h)
 rule_type g t n (Some (expr.Block label ss last)) (h, (s, k, m)) = (s, k)
-rule_type g t n (Some (expr.If c first other)) h = absurd h
-rule_type g t n (Some (expr.Match e arms)) h = absurd h
+rule_type g t n (Some (expr.If c first other)) (a, (s, k, h)) = (s, k)
+rule_type g t n (Some (expr.Match e arms)) (h, (s, k, m)) = (s, k)
 rule_type g t n (Some (expr.Call f args)) h = absurd h
 rule_type g t n (Some expr.Other) h = absurd h
 
-pat_type : (t : InferenceResult) (p : PatId) (o : Option RawPat) → PatRule t p o → (s : Ty) × PatTy t p s
-pat_type t p None h = absurd h
-pat_type t p (Some pat.Wild) h = h
-pat_type t p (Some (pat.Bind v sub)) (s, h, k, m) = (s, h)
-pat_type t p (Some (pat.Tuple ps)) h = absurd h
-pat_type t p (Some (pat.Lit e)) h = absurd h
-pat_type t p (Some pat.Other) h = absurd h
+pat_type : (g : Given) (t : InferenceResult) (p : PatId) (o : Option RawPat) → PatRule g t p o → (s : Ty) × PatTy t p s
+pat_type g t p None h = absurd h
+pat_type g t p (Some pat.Wild) h = h
+pat_type g t p (Some (pat.Bind v sub)) (s, h, k, m) = (s, h)
+pat_type g t p (Some (pat.Tuple ps)) (ss, h, k) = (ty.Tuple ss, h)
+pat_type g t p (Some (pat.TupleStruct named ps)) h = absurd h
+pat_type g t p (Some (pat.Path named)) h = absurd h
+pat_type g t p (Some (pat.Lit e)) (s, h, k) = (s, h)
+pat_type g t p (Some pat.Other) h = absurd h
 
 literal_type : (l : RawLiteral) (s r : Ty) → IsOwnType l s → IsLiteralType l r → r ≡ s
 literal_type (literal.Bool b) s r h k = k ∙ sym h
@@ -141,19 +185,19 @@ literal_type literal.Other s r h k = absurd h
 
 -- ---- the statements of a block of the body
 
-stmt_obeys_at : (g : Given) (t : InferenceResult) (ss : List RawStmt) (i : ℕ) (s : RawStmt) → StmtsRule (IsAtOrMismatch t) g t ss → slice_get ss i ≡ Some s → StmtRule (IsAtOrMismatch t) g t s
+stmt_obeys_at : (g : Given) (t : InferenceResult) (ss : List RawStmt) (i : ℕ) (s : RawStmt) → StmtsRule (at_or_mismatch g t) g t ss → slice_get ss i ≡ Some s → StmtRule (at_or_mismatch g t) g t s
 stmt_obeys_at g t [] i s h e = absurd (cc)
-stmt_obeys_at g t (u ∷ ss) zero s h e = (let k : u ≡ s = cc in subst (λ v. StmtRule (IsAtOrMismatch t) g t v) k h.0)
+stmt_obeys_at g t (u ∷ ss) zero s h e = (let k : u ≡ s = cc in subst (λ v. StmtRule (at_or_mismatch g t) g t v) k h.0)
 stmt_obeys_at g t (u ∷ ss) (suc i) s h e = stmt_obeys_at g t ss i s h.1 e
 
-block_stmts : (g : Given) (t : InferenceResult) (n : ExprId) (o : Option RawExpr) → Rule (IsAtOrMismatch t) (IsAtOrMismatch t) (Ends t n) g t n o → (i : ℕ) (s : RawStmt) → slice_get (stmts_of o) i ≡ Some s → StmtRule (IsAtOrMismatch t) g t s
+block_stmts : (g : Given) (t : InferenceResult) (n : ExprId) (o : Option RawExpr) → Rule (at_or_mismatch g t) g t n o → (i : ℕ) (s : RawStmt) → slice_get (stmts_of o) i ≡ Some s → StmtRule (at_or_mismatch g t) g t s
 block_stmts g t n None h i s e = absurd h
 block_stmts g t n (Some (expr.Lit l)) h i s e = absurd (cc)
 block_stmts g t n (Some (expr.Path p)) h i s e = absurd (cc)
 block_stmts g t n (Some (expr.Tuple es)) h i s e = absurd (cc)
 block_stmts g t n (Some (expr.Block label ss last)) (h, k) i s e = stmt_obeys_at g t ss i s h e
-block_stmts g t n (Some (expr.If c first other)) h i s e = absurd h
-block_stmts g t n (Some (expr.Match d arms)) h i s e = absurd h
+block_stmts g t n (Some (expr.If c first other)) h i s e = absurd (cc)
+block_stmts g t n (Some (expr.Match d arms)) h i s e = absurd (cc)
 block_stmts g t n (Some (expr.Call f args)) h i s e = absurd h
 block_stmts g t n (Some expr.Other) h i s e = absurd h
 
@@ -166,32 +210,69 @@ is_there b n i s e = by_cases (slice_get b.exprs n.0) refl e
     by_cases (Some x) is h = slice_get_within b.exprs n.0 x is
 
 module _ (g : Given) (t : InferenceResult) (h : IsMade g t) where
-  clause_at : (n : ExprId) (x : RawExpr) → slice_get g.body.exprs n.0 ≡ Some x → Rule (IsAtOrMismatch t) (IsAtOrMismatch t) (Ends t n) g t n (Some x)
-  clause_at n x e = subst (λ o. Rule (IsAtOrMismatch t) (IsAtOrMismatch t) (Ends t n) g t n o) e (h.clauses n (slice_get_within g.body.exprs n.0 x e))
+  clause_at : (n : ExprId) (x : RawExpr) → slice_get g.body.exprs n.0 ≡ Some x → Rule (at_or_mismatch g t) g t n (Some x)
+  clause_at n x e = subst (λ o. Rule (at_or_mismatch g t) g t n o) e (h.clauses n (slice_get_within g.body.exprs n.0 x e))
 
-  kind_at : (p : PatId) (x : RawPat) → slice_get g.body.pats p.0 ≡ Some x → PatRule t p (Some x)
-  kind_at p x e = subst (λ o. PatRule t p o) e (h.kinds p (slice_get_within g.body.pats p.0 x e))
+  kind_at : (p : PatId) (x : RawPat) → slice_get g.body.pats p.0 ≡ Some x → PatRule g t p (Some x)
+  kind_at p x e = subst (λ o. PatRule g t p o) e (h.kinds p (slice_get_within g.body.pats p.0 x e))
 
-  let_stands : (n : ExprId) (p : PatId) (w : Option TypeRefId) (init : Option ExprId) → LetStands g.body n p w init → LetRule (IsAtOrMismatch t) g t p w init
+  let_stands : (n : ExprId) (p : PatId) (w : Option TypeRefId) (init : Option ExprId) → LetStands g.body n p w init → LetRule (at_or_mismatch g t) g t p w init
   let_stands n p w init l =
       let at = block_stmts g t n (slice_get g.body.exprs n.0) (h.clauses n (is_there g.body n l.at_stmt l.stmt l.stands)) l.at_stmt l.stmt l.stands in
-      subst (λ s. StmtRule (IsAtOrMismatch t) g t s) l.is_let.1 at
+      subst (λ s. StmtRule (at_or_mismatch g t) g t s) l.is_let.1 at
 
-  by_role : (p : PatId) (n : Node) (k : ℕ) (role : Role) (s : Ty) → part_at g.body n k ≡ Some (record { node = node.PatId p; role = role }) → Gives g t role s → PatTy t p s
+  -- the pattern of an arm is at the type of the scrutinee
+  arm_stands : (n e : ExprId) (p : PatId) (s : Ty) → ArmStands g.body n e p → HasTy t e s → PatIsAtOrMismatch g t p s
+  arm_stands n e p s a has =
+      let r = clause_at n (expr.Match e a.arms) a.is_match in
+      let k : r.0.0 ≡ s = one_at t.type_of_expr e.0 r.0.0 s r.0.1 has in
+      subst (λ q. PatIsAtOrMismatch g t q s) a.is_pattern (subst (λ u. PatIsAtOrMismatch g t a.the_arm.pat u) k (among a.arms a.at_arm a.the_arm r.0.0 r.0.2 a.stands))
+    where
+      among : (arms : List RawArm) (i : ℕ) (x : RawArm) (u : Ty) → ArmPatterns (at_or_mismatch g t) arms u → slice_get arms i ≡ Some x → PatIsAtOrMismatch g t x.pat u
+      among [] i x u h is = absurd (cc)
+      among (y ∷ arms) zero x u h is = (let k : y ≡ x = cc in subst (λ (z : RawArm). PatIsAtOrMismatch g t z.pat u) k h.0)
+      among (y ∷ arms) (suc i) x u h is = among arms i x u h.1 is
+
+  -- the part of a tuple pattern is at the component
+  part_stands : (q p : PatId) (i : ℕ) (s : Ty) (ss : List Ty) → PartStands g.body q i p → PatTy t q (ty.Tuple ss) → slice_get ss i ≡ Some s → PatIsAtOrMismatch g t p s
+  part_stands q p i s ss a has is =
+      elim a.whole [
+        | inl tuple ↦
+            (let r = kind_at q (pat.Tuple a.parts) tuple in
+            let k : ty.Tuple r.0 ≡ ty.Tuple ss = one_at t.type_of_pat q.0 (ty.Tuple r.0) (ty.Tuple ss) r.1 has in
+            among a.parts r.0 i r.2 a.stands (subst (λ us. slice_get us i ≡ Some s) (sym (tuple_parts r.0 ss k)) is))
+        | inr named ↦ absurd (kind_at q (pat.TupleStruct named.0 a.parts) named.1)
+      ]
+    where
+      among : (ps : List PatId) (us : List Ty) (i : ℕ) → AllPatsAt g t ps us → slice_get ps i ≡ Some p → slice_get us i ≡ Some s → PatIsAtOrMismatch g t p s
+      among [] us i h is there = absurd (cc)
+      among (x ∷ ps) [] i h is there = absurd h
+      among (x ∷ ps) (u ∷ us) zero h is there =
+          (let k : x ≡ p = cc in
+          let l : u ≡ s = cc in
+          subst (λ v. PatIsAtOrMismatch g t p v) l (subst (λ z. PatIsAtOrMismatch g t z u) k h.0))
+      among (x ∷ ps) (u ∷ us) (suc i) h is there = among ps us i h.1 is there
+
+  same_pat : (x p q : _) → x ≡ node.PatId p → x ≡ node.PatId q → p ≡ q
+  same_pat x p q h k = cc
+
+  by_role : (p : PatId) (n : Node) (k : ℕ) (role : Role) (s : Ty) → part_at g.body n k ≡ Some (record { node = node.PatId p; role = role }) → Gives g t n role s → PatIsAtOrMismatch g t p s
   by_role p n k (let_pattern (Some w) (Some e)) s at gives =
-      (let l = let_of_part g.body n k p (Some w) (Some e) at in
-      let r = let_stands l.0 p (Some w) (Some e) l.1 in
-      subst (λ u. PatTy t p u) (sym gives) r.1)
+      (let (q, here, (m, l)) = comes_from g.body n k _ at in
+      let r = let_stands m q (Some w) (Some e) l in
+      subst (λ x. PatIsAtOrMismatch g t x s) (same_pat _ q p here refl) (subst (λ u. PatIsAtOrMismatch g t q u) (sym gives) r.1))
   by_role p n k (let_pattern (Some w) None) s at gives =
-      (let l = let_of_part g.body n k p (Some w) None at in
-      let r = let_stands l.0 p (Some w) None l.1 in
-      subst (λ u. PatTy t p u) (sym gives) r)
+      (let (q, here, (m, l)) = comes_from g.body n k _ at in
+      let r = let_stands m q (Some w) None l in
+      subst (λ x. PatIsAtOrMismatch g t x s) (same_pat _ q p here refl) (subst (λ u. PatIsAtOrMismatch g t q u) (sym gives) r))
   by_role p n k (let_pattern None (Some e)) s at gives =
-      (let l = let_of_part g.body n k p None (Some e) at in
-      let r = let_stands l.0 p None (Some e) l.1 in
-      subst (λ u. PatTy t p u) (one_at t.type_of_expr e.0 r.0 s r.1 gives) r.2)
+      (let (q, here, (m, l)) = comes_from g.body n k _ at in
+      let r = let_stands m q None (Some e) l in
+      subst (λ x. PatIsAtOrMismatch g t x s) (same_pat _ q p here refl) (subst (λ u. PatIsAtOrMismatch g t q u) (one_at t.type_of_expr e.0 r.0 s r.1 gives) r.2))
   by_role p n k (let_pattern None None) s at gives = absurd gives
-  by_role p n k (Role.parameter i) s at gives = h.params i p s (param_of_part g.body n k p i at) gives
+  by_role p n k (Role.parameter i) s at gives =
+      (let (q, here, is) = comes_from g.body n k _ at in
+      subst (λ x. PatIsAtOrMismatch g t x s) (same_pat _ q p here refl) (h.params i q s is gives))
   by_role p n k root s at gives = absurd gives
   by_role p n k (initializer w) s at gives = absurd gives
   by_role p n k Role.let_else s at gives = absurd gives
@@ -202,16 +283,25 @@ module _ (g : Given) (t : InferenceResult) (h : IsMade g t) where
   by_role p n k Role.then_branch s at gives = absurd gives
   by_role p n k Role.else_branch s at gives = absurd gives
   by_role p n k Role.scrutinee s at gives = absurd gives
-  by_role p n k (Role.arm_pattern e i) s at gives = absurd gives
+  by_role p n k (Role.arm_pattern e i) s at gives =
+      (let (q, here, (m, a)) = comes_from g.body n k _ at in
+      subst (λ x. PatIsAtOrMismatch g t x s) (same_pat _ q p here refl) (arm_stands m e q s a gives))
   by_role p n k (Role.guard i) s at gives = absurd gives
   by_role p n k (Role.arm i) s at gives = absurd gives
   by_role p n k Role.callee s at gives = absurd gives
   by_role p n k (Role.argument i) s at gives = absurd gives
-  by_role p n k (Role.subpattern i) s at gives = absurd gives
+  by_role p n k (Role.subpattern i) s at gives =
+      (let (q, here, (m, is, a)) = comes_from g.body n k _ at in
+      let (ss, has, there) = subst (λ x. GivesPart t x i s) is gives in
+      subst (λ x. PatIsAtOrMismatch g t x s) (same_pat _ q p here refl) (part_stands m q i s ss a has there))
   by_role p n k Role.pattern_literal s at gives = absurd gives
 
-  incoming : (p : PatId) (s : Ty) → Incoming g t p s → PatTy t p s
+  incoming : (p : PatId) (s : Ty) → Incoming g t p s → PatIsAtOrMismatch g t p s
   incoming p s i = by_role p i.parent i.at_part i.role s i.stands.part i.gives
+
+  -- what binds a name has the type that comes in
+  bind_is_at : (p : PatId) (v : BindingId) (s : Ty) → slice_get g.body.pats p.0 ≡ Some (pat.Bind v None) → PatIsAtOrMismatch g t p s → PatTy t p s
+  bind_is_at p v s binds (a, has, here) = elim here [ inl is ↦ subst (λ u. PatTy t p u) is has | inr m ↦ absurd (subst (λ o. MisfitsAs t p o) binds m) ]
 
   -- a local has the type of the pattern that binds it
   local : (e : ExprId) (v : BindingId) (p : PatId) (s : Ty) → slice_get g.body.exprs e.0 ≡ Some (expr.Path (path.Local v)) → slice_get g.body.pats p.0 ≡ Some (pat.Bind v None) → PatTy t p s → HasTy t e s
@@ -225,15 +315,15 @@ module _ (g : Given) (t : InferenceResult) (h : IsMade g t) where
   local_of_let : (e : ExprId) (w : Option TypeRefId) (init : Option ExprId) (n : NamesLet g.body e w init) (s : Ty) → PatTy t n.pattern s → HasTy t e s
   local_of_let e w init n s has = local e n.binding n.pattern s n.names n.binds has
 
-  comes_in : (e : ExprId) (w : Option TypeRefId) (init : Option ExprId) (n : NamesLet g.body e w init) (s : Ty) → Gives g t (let_pattern w init) s → PatTy t n.pattern s
-  comes_in e w init n s gives = by_role n.pattern n.parent n.at_part (let_pattern w init) s n.stands.part gives
+  comes_in : (e : ExprId) (w : Option TypeRefId) (init : Option ExprId) (n : NamesLet g.body e w init) (s : Ty) → Gives g t n.parent (let_pattern w init) s → PatTy t n.pattern s
+  comes_in e w init n s gives = bind_is_at n.pattern n.binding s n.binds (by_role n.pattern n.parent n.at_part (let_pattern w init) s n.stands.part gives)
 
   upward : (e : ExprId) (s : Ty) → Up g e s → HasTy t e s
   upward m r (of_literal e l s is own) =
       (let c = clause_at e (expr.Lit l) is in subst (λ u. HasTy t e u) (literal_type l s c.0 own c.2) c.1)
   upward m r (of_written e w init n) = local_of_let e (Some w) init n (written_type g.types w) (comes_in e (Some w) init n (written_type g.types w) refl)
   upward m r (of_initializer e i s n u) = local_of_let e None (Some i) n s (comes_in e None (Some i) n s (upward i s u))
-  upward m r (of_parameter e i s n is) = local e n.binding n.pattern s n.names n.binds (h.params i n.pattern s n.stands is)
+  upward m r (of_parameter e i s n is) = local e n.binding n.pattern s n.names n.binds (bind_is_at n.pattern n.binding s n.binds (h.params i n.pattern s n.stands is))
 
   body_rule : BodyIsExcused g t ⊎ BodyObeys g t
   body_rule = elim (at_or_excused t g.body.root g.output h.body_clause) [ inl a ↦ inr a | inr m ↦ inl m ]
@@ -241,7 +331,7 @@ module _ (g : Given) (t : InferenceResult) (h : IsMade g t) where
   total : IsTotal g.body t
   total = record {
     exprs = λ e i. rule_type g t e (slice_get g.body.exprs e.0) (h.clauses e i);
-    pats = λ p i. pat_type t p (slice_get g.body.pats p.0) (h.kinds p i);
+    pats = λ p i. pat_type g t p (slice_get g.body.pats p.0) (h.kinds p i);
     bindings = h.bindings;
   }
 
@@ -250,16 +340,16 @@ module _ (g : Given) (t : InferenceResult) (h : IsMade g t) where
   asked_at_root : (n : Node) (role : Role) (s : Ty) → role ≡ root → Asks g t n role s → s ≡ g.output
   asked_at_root the_body role s is asks = asks.1
   asked_at_root (inner (node.ExprId n)) role s is asks = absurd (subst (λ r. AsksOf g t n r s) is asks)
-  asked_at_root (inner (node.PatId p)) role s is asks = absurd asks
+  asked_at_root (inner (node.PatId p)) role s is asks = (let clash : root ≡ Role.pattern_literal = sym is ∙ asks.0 in cc)
 
   asked_at_let : (n : Node) (role : Role) (w : TypeRefId) (s : Ty) → role ≡ initializer (Some w) → Asks g t n role s → s ≡ written_type g.types w
   asked_at_let the_body role w s is asks =
       (let clash : initializer (Some w) ≡ root = sym is ∙ asks.0 in cc)
   asked_at_let (inner (node.ExprId n)) role w s is asks = subst (λ r. AsksOf g t n r s) is asks
-  asked_at_let (inner (node.PatId p)) role w s is asks = absurd asks
+  asked_at_let (inner (node.PatId p)) role w s is asks = (let clash : initializer (Some w) ≡ Role.pattern_literal = sym is ∙ asks.0 in cc)
 
   module _ (once : StandsOnce g.body) where
-    stated_demand : (e : ExprId) (s d : Ty) → Stated g e s → Demand g t e d → s ≡ d
+    stated_demand : (e : ExprId) (s d : Ty) → Stated g e s → IsAsked g t e d → s ≡ d
     stated_demand e s d st dm =
         let same = once st.parent dm.parent st.at_part dm.at_part _ _ st.stands.node_is dm.stands.node_is st.stands.part dm.stands.part refl in
         let here : part_at g.body dm.parent dm.at_part ≡ Some (record { node = node.ExprId e; role = st.role }) =
@@ -281,6 +371,15 @@ module _ (g : Given) (t : InferenceResult) (h : IsMade g t) where
     no_up_of_block m r is (of_initializer e i s n u) = (let k = is.is_block in let j = n.names in cc)
     no_up_of_block m r is (of_parameter e i s n w) = (let k = is.is_block in let j = n.names in cc)
 
+    no_up_of_if : (e : ExprId) (u : Ty) → IsIfWithoutElse g.body e → Up g e u → ⊥
+    no_up_of_if m r is (of_literal e l s at own) = (let k = is.is_if in cc)
+    no_up_of_if m r is (of_written e w init n) = (let k = is.is_if in let j = n.names in cc)
+    no_up_of_if m r is (of_initializer e i s n u) = (let k = is.is_if in let j = n.names in cc)
+    no_up_of_if m r is (of_parameter e i s n w) = (let k = is.is_if in let j = n.names in cc)
+
+    no_up_of_unit : (e : ExprId) (u : Ty) → EndsInUnit g.body e → Up g e u → ⊥
+    no_up_of_unit e u is up = elim is [ inl k ↦ no_up_of_block e u k up | inr k ↦ no_up_of_if e u k up ]
+
     truths : (e : ExprId) (x : TypeMismatch) → At t.expr_mismatches e.0 x → IsTrueMismatch g t e x
     truths e x at =
         let m = h.misfits e x at in
@@ -292,10 +391,14 @@ module _ (g : Given) (t : InferenceResult) (h : IsMade g t) where
           no_coercion = λ u s up st leads.
               elim m.actual [
                 | inl has ↦
-                    (let a : u ≡ x.actual = one_at t.type_of_expr e.0 u x.actual (upward e u up) has in
-                    let b : s ≡ x.expected = stated_demand e s x.expected st d in
-                    m.differ (ap erased (sym b) ∙ (sym leads ∙ ap erased a)))
-                | inr block ↦ no_up_of_block e u block.0 up
+                    elim d [
+                      | inl asked ↦
+                          (let a : u ≡ x.actual = one_at t.type_of_expr e.0 u x.actual (upward e u up) has in
+                          let b : s ≡ x.expected = stated_demand e s x.expected st asked in
+                          m.differ (ap erased (sym b) ∙ (sym leads ∙ ap erased a)))
+                      | inr branch ↦ no_up_of_if e u (record { condition = branch.condition; branch = branch.branch; is_if = branch.is_if }) up
+                    ]
+                | inr ends ↦ no_up_of_unit e u ends.0 up
               ];
         }
 
@@ -311,6 +414,7 @@ module _ (g : Given) (t : InferenceResult) (h : IsMade g t) where
       body_rule = body_rule;
       upward = upward;
       truths = truths;
+      pat_truths = h.pat_truths;
     }
 
 -- in a body whose nodes are numbered in the order of the walk, each stands at one place

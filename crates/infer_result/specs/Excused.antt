@@ -3,11 +3,13 @@ use Rattle.std.specs.Prelude.{◌⊎◌, slice_get, List, [], ◌∷◌, Option,
 use Rattle.hir_types.specs.declared.ids.ExprId.{ExprId}
 use Rattle.hir_facts.specs.declared.raw.RawStmt.{RawStmt}
 use Rattle.hir_facts.specs.declared.raw.RawStmt.TheVariants as stmt
+use Rattle.hir_facts.specs.declared.raw.RawArm.{RawArm}
 use Rattle.hir_facts.specs.declared.raw.RawExpr.{RawExpr}
 use Rattle.hir_facts.specs.declared.raw.RawExpr.TheVariants as expr
 use Rattle.infer_result.specs.declared.result.InferenceResult.{InferenceResult}
-use Rattle.infer_result.specs.Table.{HasMismatch}
+use Rattle.infer_result.specs.Table.{HasMismatch, AnyMismatch}
 use Rattle.infer_result.specs.Places.{Given}
+use Rattle.infer_result.specs.Rules.Branches.{branches_of, arm_exprs}
 
 abbrev pub MaybeMismatch : InferenceResult → Option ExprId → Type 0
 MaybeMismatch t None = ⊥
@@ -21,16 +23,21 @@ abbrev pub StmtsHaveMismatch : InferenceResult → List RawStmt → Type 0
 StmtsHaveMismatch t [] = ⊥
 StmtsHaveMismatch t (s ∷ ss) = StmtHasMismatch t s ⊎ StmtsHaveMismatch t ss
 
--- A mismatch at a block or at a part of it excuses the block. At a literal, a path or a tuple it
--- excuses nothing, and at a part of a tuple that part alone.
+abbrev pub GuardsHaveMismatch : InferenceResult → List RawArm → Type 0
+GuardsHaveMismatch t [] = ⊥
+GuardsHaveMismatch t (a ∷ as_) = MaybeMismatch t a.guard ⊎ GuardsHaveMismatch t as_
+
+-- A mismatch at a block or at a part of it excuses the block. One at the condition or a branch of an
+-- `if`, or at an `if` without `else` itself, excuses the `if`; one at a guard or an arm the `match`. At
+-- a literal, a path or a tuple it excuses nothing, and at a part of a tuple that part alone.
 abbrev pub ExcusedAs : InferenceResult → ExprId → Option RawExpr → Type 0
 ExcusedAs t n None = ⊥
 ExcusedAs t n (Some (expr.Lit l)) = ⊥
 ExcusedAs t n (Some (expr.Path p)) = ⊥
 ExcusedAs t n (Some (expr.Tuple es)) = ⊥
 ExcusedAs t n (Some (expr.Block label stmts last)) = HasMismatch t n ⊎ (StmtsHaveMismatch t stmts ⊎ MaybeMismatch t last)
-ExcusedAs t n (Some (expr.If c first other)) = ⊥
-ExcusedAs t n (Some (expr.Match e arms)) = ⊥
+ExcusedAs t n (Some (expr.If c first other)) = HasMismatch t c ⊎ AnyMismatch t (branches_of n first other)
+ExcusedAs t n (Some (expr.Match e arms)) = GuardsHaveMismatch t arms ⊎ AnyMismatch t (arm_exprs arms)
 ExcusedAs t n (Some (expr.Call f args)) = ⊥
 ExcusedAs t n (Some expr.Other) = ⊥
 

@@ -7,12 +7,12 @@ use Rattle.hir_types.specs.declared.ty.Ty.{Ty}
 use Rattle.hir_types.specs.Erasure.{Same}
 use Rattle.infer_result.specs.declared.result.InferenceResult.{InferenceResult}
 use Rattle.infer_result.specs.declared.result.TypeMismatch.{TypeMismatch}
-use Rattle.infer_result.specs.Table.{At, PatTy, BindingTy}
+use Rattle.infer_result.specs.Table.{At, BindingTy}
 use Rattle.infer_result.specs.Closed.{IsOfBody, IsClosedTable}
-use Rattle.infer_result.specs.Places.{Given, IsInput, Demand}
+use Rattle.infer_result.specs.Places.{Given, IsInput, PatIsAtOrMismatch, Demand}
 use Rattle.infer_result.specs.Rules.Expressions.{ObeysOrMismatch, BodyObeysOrMismatch}
 use Rattle.infer_result.specs.Rules.Patterns.{PatRule}
-use Rattle.infer_result.specs.Truth.Mismatch.{IsActual}
+use Rattle.infer_result.specs.Truth.Mismatch.{IsActual, IsTruePatMismatch}
 
 -- the two types differ, and the second is the actual one
 pub record IsMisfit (g : Given) (t : InferenceResult) (e : ExprId) (x : TypeMismatch) : Type 0 where
@@ -23,9 +23,10 @@ pub record IsMade (g : Given) (t : InferenceResult) : Type 0 where
   pub of_body : IsOfBody g.body t
   pub closed : IsClosedTable t
   pub clauses : (e : ExprId) → e.0 < length g.body.exprs → ObeysOrMismatch g t e
-  pub kinds : (p : PatId) → p.0 < length g.body.pats → PatRule t p (slice_get g.body.pats p.0)
-  pub params : (i : ℕ) (p : PatId) (s : Ty) → slice_get g.body.params i ≡ Some p → IsInput g i s → PatTy t p s
+  pub kinds : (p : PatId) → p.0 < length g.body.pats → PatRule g t p (slice_get g.body.pats p.0)
+  pub params : (i : ℕ) (p : PatId) (s : Ty) → slice_get g.body.params i ≡ Some p → IsInput g i s → PatIsAtOrMismatch g t p s
   pub bindings : (v : BindingId) → v.0 < length g.body.bindings → (s : Ty) × BindingTy t v s
   pub body_clause : BodyObeysOrMismatch g t
   pub misfits : (e : ExprId) (x : TypeMismatch) → At t.expr_mismatches e.0 x → IsMisfit g t e x
   pub demands : (e : ExprId) (x : TypeMismatch) → At t.expr_mismatches e.0 x → Demand g t e x.expected
+  pub pat_truths : (p : PatId) (x : TypeMismatch) → At t.pat_mismatches p.0 x → IsTruePatMismatch g t p x

@@ -1,9 +1,11 @@
--- Which statement a part of a block comes from.
+-- Which node a part comes from.
 use Rattle.std.specs.Prelude.{ℕ, zero, suc, ◌+◌, ◌<◌, ◌≡◌, ◌⊎◌, List, [], ◌∷◌, ◌++◌, length, slice_get, Option, Some, None, refl}
-use Rattle.std.proofs.Common.{inl, inr, ap, arith, ◌∙◌}
+use Rattle.std.proofs.Common.{inl, inr, ap, subst, arith, ◌∙◌}
 use Rattle.hir_types.specs.declared.ids.ExprId.{ExprId}
 use Rattle.hir_types.specs.declared.ids.PatId.{PatId}
 use Rattle.hir_types.specs.declared.ids.TypeRefId.{TypeRefId}
+use Rattle.hir_types.specs.declared.ids.VariantId.{VariantId}
+use Rattle.hir_types.specs.declared.ids.ExprOrPatId.{ExprOrPatId}
 use Rattle.hir_types.specs.declared.ids.ExprOrPatId.TheVariants as node
 use Rattle.hir_facts.specs.declared.raw.RawStmt.{RawStmt}
 use Rattle.hir_facts.specs.declared.raw.RawStmt.TheVariants as stmt
@@ -30,105 +32,11 @@ module _ {X : Type 0} where
   entry_of (x ∷ xs) zero h = (x, refl)
   entry_of (x ∷ xs) (suc n) h = (let k : n < length xs = omega arith in entry_of xs n k)
 
--- a pattern of a `let`
-abbrev pub LetPart : PatId → Option TypeRefId → Option ExprId → Part
-LetPart p w init = pat_part (let_pattern w init) p
-
-maybe_is_no_let : (r : Role) (o : Option ExprId) (k : ℕ) (p : PatId) (w : Option TypeRefId) (init : Option ExprId) → slice_get (maybe_part r o) k ≡ Some (LetPart p w init) → ⊥
-maybe_is_no_let r None k p w init e = no_entry k (LetPart p w init) e
-maybe_is_no_let r (Some x) zero p w init e =
-    (let q : expr_part r x ≡ LetPart p w init = cc in
-    let c : node.ExprId x ≡ node.PatId p = ap (λ (y : Part). y.node) q in
-    cc)
-maybe_is_no_let r (Some x) (suc k) p w init e = no_entry k (LetPart p w init) e
+-- ---- where a pattern may come from
 
 -- the statement is a `let` of this pattern, written type and initializer
 abbrev pub IsLet : RawStmt → PatId → Option TypeRefId → Option ExprId → Type 0
 IsLet s p w init = (other : Option ExprId) × (s ≡ stmt.Let p w init other)
-
-let_tail : (q p : PatId) (v w : Option TypeRefId) (i init other : Option ExprId) (k : ℕ) → slice_get (pat_part (let_pattern v i) q ∷ maybe_part let_else other) k ≡ Some (LetPart p w init) → IsLet (stmt.Let q v i other) p w init
-let_tail q p v w i init other zero e =
-    (let same : pat_part (let_pattern v i) q ≡ LetPart p w init = cc in
-    let ns : node.PatId q ≡ node.PatId p = ap (λ (y : Part). y.node) same in
-    let rs : let_pattern v i ≡ let_pattern w init = ap (λ (y : Part). y.role) same in
-    let qs : q ≡ p = cc in
-    let vs : v ≡ w = cc in
-    let is : i ≡ init = cc in
-    (other, cc))
-let_tail q p v w i init other (suc k) e = absurd (maybe_is_no_let let_else other k p w init e)
-
-let_of_stmt : (s : RawStmt) (k : ℕ) (p : PatId) (w : Option TypeRefId) (init : Option ExprId) → slice_get (stmt_parts s) k ≡ Some (LetPart p w init) → IsLet s p w init
-let_of_stmt (stmt.Let q v i other) k p w init e =
-    elim (append_entry (maybe_part (initializer v) i) (pat_part (let_pattern v i) q ∷ maybe_part let_else other) k (LetPart p w init) e) [
-      | inl r ↦ absurd (maybe_is_no_let (initializer v) i r.0 p w init r.1)
-      | inr r ↦ let_tail q p v w i init other r.0 r.1
-    ]
-let_of_stmt (stmt.Expr x semicolon) zero p w init e =
-    (let same : expr_part (statement semicolon) x ≡ LetPart p w init = cc in
-    let ns : node.ExprId x ≡ node.PatId p = ap (λ (y : Part). y.node) same in
-    cc)
-let_of_stmt (stmt.Expr x semicolon) (suc k) p w init e = absurd (no_entry k (LetPart p w init) e)
-
-let_of_stmts : (ss : List RawStmt) (k : ℕ) (p : PatId) (w : Option TypeRefId) (init : Option ExprId) → slice_get (stmts_parts ss) k ≡ Some (LetPart p w init) → (i : ℕ) × (s : RawStmt) × (slice_get ss i ≡ Some s) × IsLet s p w init
-let_of_stmts [] k p w init e = absurd (no_entry k (LetPart p w init) e)
-let_of_stmts (s ∷ ss) k p w init e =
-    elim (append_entry (stmt_parts s) (stmts_parts ss) k (LetPart p w init) e) [
-      | inl r ↦ (zero, s, refl, let_of_stmt s r.0 p w init r.1)
-      | inr r ↦ (let q = let_of_stmts ss r.0 p w init r.1 in (suc q.0, q.1, q.2, q.3))
-    ]
-
-cons_is_no_let : (r : Role) (x : ExprId) (ps : List Part) (k : ℕ) (p : PatId) (w : Option TypeRefId) (init : Option ExprId) → ((j : ℕ) → slice_get ps j ≡ Some (LetPart p w init) → ⊥) → slice_get (expr_part r x ∷ ps) k ≡ Some (LetPart p w init) → ⊥
-cons_is_no_let r x ps zero p w init rest e =
-    (let same : expr_part r x ≡ LetPart p w init = cc in
-    let ns : node.ExprId x ≡ node.PatId p = ap (λ (y : Part). y.node) same in
-    cc)
-cons_is_no_let r x ps (suc k) p w init rest e = rest k e
-
-exprs_are_no_lets : (role : ℕ → Role) (es : List ExprId) (i k : ℕ) (p : PatId) (w : Option TypeRefId) (init : Option ExprId) → slice_get (exprs_from role i es) k ≡ Some (LetPart p w init) → ⊥
-exprs_are_no_lets role [] i k p w init e = no_entry k (LetPart p w init) e
-exprs_are_no_lets role (x ∷ es) i k p w init e = cons_is_no_let (role i) x (exprs_from role (suc i) es) k p w init (λ j f. exprs_are_no_lets role es (suc i) j p w init f) e
-
-arm_patterns_are_no_lets : (d : ExprId) (arms : List RawArm) (i k : ℕ) (p : PatId) (w : Option TypeRefId) (init : Option ExprId) → slice_get (arm_patterns d i arms) k ≡ Some (LetPart p w init) → ⊥
-arm_patterns_are_no_lets d [] i k p w init e = no_entry k (LetPart p w init) e
-arm_patterns_are_no_lets d (a ∷ arms) i zero p w init e =
-    (let same : pat_part (arm_pattern d i) a.pat ≡ LetPart p w init = cc in
-    let rs : arm_pattern d i ≡ let_pattern w init = ap (λ (y : Part). y.role) same in
-    cc)
-arm_patterns_are_no_lets d (a ∷ arms) i (suc k) p w init e = arm_patterns_are_no_lets d arms (suc i) k p w init e
-
-arms_are_no_lets : (arms : List RawArm) (i k : ℕ) (p : PatId) (w : Option TypeRefId) (init : Option ExprId) → slice_get (arms_parts i arms) k ≡ Some (LetPart p w init) → ⊥
-arms_are_no_lets [] i k p w init e = no_entry k (LetPart p w init) e
-arms_are_no_lets (a ∷ arms) i k p w init e =
-    elim (append_entry (arm_parts i a) (arms_parts (suc i) arms) k (LetPart p w init) e) [
-      | inl r ↦ elim (append_entry (maybe_part (guard i) a.guard) (expr_part (arm i) a.expr ∷ []) r.0 (LetPart p w init) r.1) [
-        | inl q ↦ maybe_is_no_let (guard i) a.guard q.0 p w init q.1
-        | inr q ↦ maybe_is_no_let (arm i) (Some a.expr) q.0 p w init q.1
-      ]
-      | inr r ↦ arms_are_no_lets arms (suc i) r.0 p w init r.1
-    ]
-
-match_is_no_let : (d : ExprId) (arms : List RawArm) (k : ℕ) (p : PatId) (w : Option TypeRefId) (init : Option ExprId) → slice_get (arm_patterns d 0 arms ++ arms_parts 0 arms) k ≡ Some (LetPart p w init) → ⊥
-match_is_no_let d arms k p w init e =
-    elim (append_entry (arm_patterns d 0 arms) (arms_parts 0 arms) k (LetPart p w init) e) [
-      | inl r ↦ arm_patterns_are_no_lets d arms 0 r.0 p w init r.1
-      | inr r ↦ arms_are_no_lets arms 0 r.0 p w init r.1
-    ]
-
-subpatterns_are_no_lets : (ps : List PatId) (i k : ℕ) (p : PatId) (w : Option TypeRefId) (init : Option ExprId) → slice_get (subpatterns i ps) k ≡ Some (LetPart p w init) → ⊥
-subpatterns_are_no_lets [] i k p w init e = no_entry k (LetPart p w init) e
-subpatterns_are_no_lets (q ∷ ps) i zero p w init e =
-    (let same : pat_part (subpattern i) q ≡ LetPart p w init = cc in
-    let rs : subpattern i ≡ let_pattern w init = ap (λ (y : Part). y.role) same in
-    cc)
-subpatterns_are_no_lets (q ∷ ps) i (suc k) p w init e = subpatterns_are_no_lets ps (suc i) k p w init e
-
-params_are_no_lets : (i : ℕ) (ps : List PatId) (k : ℕ) (p : PatId) (w : Option TypeRefId) (init : Option ExprId) → slice_get (param_parts i ps) k ≡ Some (LetPart p w init) → ⊥
-params_are_no_lets i [] k p w init e = no_entry k (LetPart p w init) e
-params_are_no_lets i (q ∷ ps) zero p w init e =
-    (let same : pat_part (parameter i) q ≡ LetPart p w init = cc in
-    let rs : parameter i ≡ let_pattern w init = ap (λ (y : Part). y.role) same in
-    cc)
-params_are_no_lets i (q ∷ ps) (suc k) p w init e = params_are_no_lets (suc i) ps k p w init e
 
 -- a statement of a block of the body is this `let`
 pub record LetStands (b : RawBody) (n : ExprId) (p : PatId) (w : Option TypeRefId) (init : Option ExprId) : Type 0 where
@@ -137,159 +45,143 @@ pub record LetStands (b : RawBody) (n : ExprId) (p : PatId) (w : Option TypeRefI
   pub stands : stmt_at b n at_stmt ≡ Some stmt
   pub is_let : IsLet stmt p w init
 
-let_of_expr : (o : Option RawExpr) (k : ℕ) (p : PatId) (w : Option TypeRefId) (init : Option ExprId) → slice_get (parts_of_expr o) k ≡ Some (LetPart p w init) → (i : ℕ) × (s : RawStmt) × (slice_get (stmts_of o) i ≡ Some s) × IsLet s p w init
-let_of_expr None k p w init e = absurd (no_entry k (LetPart p w init) e)
-let_of_expr (Some (expr.Lit l)) k p w init e = absurd (no_entry k (LetPart p w init) e)
-let_of_expr (Some (expr.Path q)) k p w init e = absurd (no_entry k (LetPart p w init) e)
-let_of_expr (Some (expr.Tuple es)) k p w init e = absurd (exprs_are_no_lets element es 0 k p w init e)
-let_of_expr (Some (expr.Block label ss last)) k p w init e =
-    elim (append_entry (stmts_parts ss) (maybe_part tail last) k (LetPart p w init) e) [
-      | inl r ↦ let_of_stmts ss r.0 p w init r.1
-      | inr r ↦ absurd (maybe_is_no_let tail last r.0 p w init r.1)
-    ]
-let_of_expr (Some (expr.If c first other)) k p w init e =
-    absurd (cons_is_no_let condition c (expr_part then_branch first ∷ maybe_part else_branch other) k p w init
-    (λ j f. cons_is_no_let then_branch first (maybe_part else_branch other) j p w init (λ i g. maybe_is_no_let else_branch other i p w init g) f) e)
-let_of_expr (Some (expr.Match d arms)) k p w init e =
-    absurd (cons_is_no_let scrutinee d (arm_patterns d 0 arms ++ arms_parts 0 arms) k p w init (λ j f. match_is_no_let d arms j p w init f) e)
-let_of_expr (Some (expr.Call f args)) k p w init e =
-    absurd (cons_is_no_let callee f (exprs_from argument 0 args) k p w init (λ j g. exprs_are_no_lets argument args 0 j p w init g) e)
-let_of_expr (Some expr.Other) k p w init e = absurd (no_entry k (LetPart p w init) e)
+-- an arm of a `match` on e has this pattern
+pub record ArmStands (b : RawBody) (n e : ExprId) (p : PatId) : Type 0 where
+  pub arms : List RawArm
+  pub is_match : slice_get b.exprs n.0 ≡ Some (expr.Match e arms)
+  pub at_arm : ℕ
+  pub the_arm : RawArm
+  pub stands : slice_get arms at_arm ≡ Some the_arm
+  pub is_pattern : the_arm.pat ≡ p
 
-pat_has_no_let : (o : Option RawPat) (k : ℕ) (p : PatId) (w : Option TypeRefId) (init : Option ExprId) → slice_get (parts_of_pat o) k ≡ Some (LetPart p w init) → ⊥
-pat_has_no_let None k p w init e = no_entry k (LetPart p w init) e
-pat_has_no_let (Some pat.Wild) k p w init e = no_entry k (LetPart p w init) e
-pat_has_no_let (Some (pat.Bind v sub)) k p w init e = no_entry k (LetPart p w init) e
-pat_has_no_let (Some (pat.Tuple ps)) k p w init e = subpatterns_are_no_lets ps 0 k p w init e
-pat_has_no_let (Some (pat.Lit d)) k p w init e = maybe_is_no_let pattern_literal (Some d) k p w init e
-pat_has_no_let (Some pat.Other) k p w init e = no_entry k (LetPart p w init) e
+-- the pattern is one of these parts: a tuple, or of a constructor
+abbrev pub IsWhole : RawBody → PatId → List PatId → Type 0
+IsWhole b q parts = (slice_get b.pats q.0 ≡ Some (pat.Tuple parts)) ⊎ ((named : VariantId) × (slice_get b.pats q.0 ≡ Some (pat.TupleStruct named parts)))
 
--- a pattern that stands as that of a `let` is that of a `let` statement of a block
-pub let_of_part : (b : RawBody) (n : Node) (k : ℕ) (p : PatId) (w : Option TypeRefId) (init : Option ExprId) → part_at b n k ≡ Some (LetPart p w init) → (e : ExprId) × LetStands b e p w init
-let_of_part b the_body k p w init e =
-    elim (append_entry (param_parts 0 b.params) (expr_part root b.root ∷ []) k (LetPart p w init) e) [
-      | inl r ↦ absurd (params_are_no_lets 0 b.params r.0 p w init r.1)
-      | inr r ↦ absurd (maybe_is_no_let root (Some b.root) r.0 p w init r.1)
-    ]
-let_of_part b (inner (node.ExprId n)) k p w init e =
-    (let r = let_of_expr (slice_get b.exprs n.0) k p w init e in
-    (n, record { at_stmt = r.0; stmt = r.1; stands = r.2; is_let = r.3 }))
-let_of_part b (inner (node.PatId q)) k p w init e = absurd (pat_has_no_let (slice_get b.pats q.0) k p w init e)
+-- the part of the pattern q at this position
+pub record PartStands (b : RawBody) (q : PatId) (i : ℕ) (p : PatId) : Type 0 where
+  pub parts : List PatId
+  pub whole : IsWhole b q parts
+  pub stands : slice_get parts i ≡ Some p
 
--- ---- parameters
+-- where a part of the node n in this role comes from, as far as it is a pattern
+abbrev pub ComesFrom : RawBody → Node → ExprOrPatId → Role → Type 0
+ComesFrom b n x (parameter i) = (p : PatId) × (x ≡ node.PatId p) × (slice_get b.params i ≡ Some p)
+ComesFrom b n x (let_pattern w init) = (p : PatId) × (x ≡ node.PatId p) × ((m : ExprId) × LetStands b m p w init)
+ComesFrom b n x (arm_pattern e i) = (p : PatId) × (x ≡ node.PatId p) × ((m : ExprId) × ArmStands b m e p)
+ComesFrom b n x (subpattern i) = (p : PatId) × (x ≡ node.PatId p) × ((q : PatId) × (n ≡ inner (node.PatId q)) × PartStands b q i p)
+ComesFrom b n x _ = Unit {0}
 
--- the pattern of the parameter at position i
-abbrev pub ParamPart : PatId → ℕ → Part
-ParamPart p i = pat_part (parameter i) p
+-- ---- each of a few parts
 
--- none of these parts is the pattern of a parameter
-abbrev HasNoParam : List Part → Type 0
-HasNoParam ps = (k : ℕ) (p : PatId) (i : ℕ) → slice_get ps k ≡ Some (ParamPart p i) → ⊥
+abbrev Each : (Part → Type 0) → List Part → Type 0
+Each Q ps = (k : ℕ) (q : Part) → slice_get ps k ≡ Some q → Q q
 
-none_in_nil : HasNoParam []
-none_in_nil k p i e = no_entry k (ParamPart p i) e
+module _ (Q : Part → Type 0) where
+  each_nil : Each Q []
+  each_nil k q e = absurd (no_entry k q e)
 
-none_after_expr : (r : Role) (x : ExprId) (ps : List Part) → HasNoParam ps → HasNoParam (expr_part r x ∷ ps)
-none_after_expr r x ps h zero p i e =
-    (let same : expr_part r x ≡ ParamPart p i = cc in
-    let ns : node.ExprId x ≡ node.PatId p = ap (λ (y : Part). y.node) same in
-    cc)
-none_after_expr r x ps h (suc k) p i e = h k p i e
+  each_cons : (p : Part) (ps : List Part) → Q p → Each Q ps → Each Q (p ∷ ps)
+  each_cons p ps h t zero q e = (let k : p ≡ q = cc in subst Q k h)
+  each_cons p ps h t (suc k) q e = t k q e
 
-none_in_append : (ps qs : List Part) → HasNoParam ps → HasNoParam qs → HasNoParam (ps ++ qs)
-none_in_append ps qs h j k p i e = elim (append_entry ps qs k (ParamPart p i) e) [ inl r ↦ h r.0 p i r.1 | inr r ↦ j r.0 p i r.1 ]
+  each_append : (ps qs : List Part) → Each Q ps → Each Q qs → Each Q (ps ++ qs)
+  each_append ps qs h t k q e = elim (append_entry ps qs k q e) [ inl r ↦ h r.0 q r.1 | inr r ↦ t r.0 q r.1 ]
 
-none_in_maybe : (r : Role) (o : Option ExprId) → HasNoParam (maybe_part r o)
-none_in_maybe r None = none_in_nil
-none_in_maybe r (Some x) = none_after_expr r x [] none_in_nil
+  each_maybe : (r : Role) (o : Option ExprId) → ((e : ExprId) → Q (expr_part r e)) → Each Q (maybe_part r o)
+  each_maybe r None h = each_nil
+  each_maybe r (Some e) h = each_cons (expr_part r e) [] (h e) each_nil
 
-none_in_let : (q : PatId) (v : Option TypeRefId) (j other : Option ExprId) → HasNoParam (pat_part (let_pattern v j) q ∷ maybe_part let_else other)
-none_in_let q v j other zero p i e =
-    (let same : pat_part (let_pattern v j) q ≡ ParamPart p i = cc in
-    let rs : let_pattern v j ≡ parameter i = ap (λ (y : Part). y.role) same in
-    cc)
-none_in_let q v j other (suc k) p i e = none_in_maybe let_else other k p i e
+  each_expr : (role : ℕ → Role) (i : ℕ) (es : List ExprId) → ((j : ℕ) (e : ExprId) → Q (expr_part (role j) e)) → Each Q (exprs_from role i es)
+  each_expr role i [] h = each_nil
+  each_expr role i (e ∷ es) h = each_cons (expr_part (role i) e) (exprs_from role (suc i) es) (h i e) (each_expr role (suc i) es h)
 
-none_in_stmt : (s : RawStmt) → HasNoParam (stmt_parts s)
-none_in_stmt (stmt.Let q v j other) =
-    none_in_append (maybe_part (initializer v) j) (pat_part (let_pattern v j) q ∷ maybe_part let_else other) (none_in_maybe (initializer v) j) (none_in_let q v j other)
-none_in_stmt (stmt.Expr x semicolon) = none_after_expr (statement semicolon) x [] none_in_nil
+from_zero : (i : ℕ) → i ≡ 0 + i
+from_zero i = omega arith
 
-none_in_stmts : (ss : List RawStmt) → HasNoParam (stmts_parts ss)
-none_in_stmts [] = none_in_nil
-none_in_stmts (s ∷ ss) = none_in_append (stmt_parts s) (stmts_parts ss) (none_in_stmt s) (none_in_stmts ss)
+module _ (b : RawBody) (n : Node) where
+  abbrev From : Part → Type 0
+  From p = ComesFrom b n p.node p.role
 
-none_in_exprs : (role : ℕ → Role) (j : ℕ) (es : List ExprId) → HasNoParam (exprs_from role j es)
-none_in_exprs role j [] = none_in_nil
-none_in_exprs role j (x ∷ es) = none_after_expr (role j) x (exprs_from role (suc j) es) (none_in_exprs role (suc j) es)
+  module _ (m : ExprId) where
+    from_stmt : (i : ℕ) (s : RawStmt) → stmt_at b m i ≡ Some s → Each From (stmt_parts s)
+    from_stmt i (stmt.Let p w init other) is =
+        each_append From (maybe_part (initializer w) init) (pat_part (let_pattern w init) p ∷ maybe_part let_else other)
+        (each_maybe From (initializer w) init (λ e. tt))
+        (each_cons From (pat_part (let_pattern w init) p) (maybe_part let_else other)
+        (p, refl, (m, record { at_stmt = i; stmt = stmt.Let p w init other; stands = is; is_let = (other, refl) }))
+        (each_maybe From let_else other (λ e. tt)))
+    from_stmt i (stmt.Expr e semicolon) is = each_cons From (expr_part (statement semicolon) e) [] tt (each_nil From)
 
-none_in_arm_patterns : (d : ExprId) (j : ℕ) (arms : List RawArm) → HasNoParam (arm_patterns d j arms)
-none_in_arm_patterns d j [] k p i e = no_entry k (ParamPart p i) e
-none_in_arm_patterns d j (a ∷ arms) zero p i e =
-    (let same : pat_part (arm_pattern d j) a.pat ≡ ParamPart p i = cc in
-    let rs : arm_pattern d j ≡ parameter i = ap (λ (y : Part). y.role) same in
-    cc)
-none_in_arm_patterns d j (a ∷ arms) (suc k) p i e = none_in_arm_patterns d (suc j) arms k p i e
+    from_stmts : (ss : List RawStmt) (from : ℕ) → ((i : ℕ) (s : RawStmt) → slice_get ss i ≡ Some s → stmt_at b m (from + i) ≡ Some s) → Each From (stmts_parts ss)
+    from_stmts [] from at = each_nil From
+    from_stmts (s ∷ ss) from at =
+        each_append From (stmt_parts s) (stmts_parts ss) (from_stmt (from + 0) s (at 0 s refl))
+        (from_stmts ss (suc from) (λ i u e. (let k : from + suc i ≡ suc from + i = omega arith in subst (λ j. stmt_at b m j ≡ Some u) k (at (suc i) u e))))
 
-none_in_arms : (j : ℕ) (arms : List RawArm) → HasNoParam (arms_parts j arms)
-none_in_arms j [] = none_in_nil
-none_in_arms j (a ∷ arms) =
-    none_in_append (arm_parts j a) (arms_parts (suc j) arms)
-    (none_in_append (maybe_part (guard j) a.guard) (expr_part (arm j) a.expr ∷ []) (none_in_maybe (guard j) a.guard) (none_after_expr (arm j) a.expr [] none_in_nil))
-    (none_in_arms (suc j) arms)
+    module _ (d : ExprId) (arms : List RawArm) (is : slice_get b.exprs m.0 ≡ Some (expr.Match d arms)) where
+      from_arm_patterns : (rest : List RawArm) (from : ℕ) → ((i : ℕ) (a : RawArm) → slice_get rest i ≡ Some a → slice_get arms (from + i) ≡ Some a) → Each From (arm_patterns d from rest)
+      from_arm_patterns [] from at = each_nil From
+      from_arm_patterns (a ∷ rest) from at =
+          each_cons From (pat_part (arm_pattern d from) a.pat) (arm_patterns d (suc from) rest)
+          (a.pat, refl, (m, record { arms = arms; is_match = is; at_arm = from + 0; the_arm = a; stands = at 0 a refl; is_pattern = refl }))
+          (from_arm_patterns rest (suc from) (λ i u e. (let k : from + suc i ≡ suc from + i = omega arith in subst (λ j. slice_get arms j ≡ Some u) k (at (suc i) u e))))
 
-none_in_subpatterns : (j : ℕ) (ps : List PatId) → HasNoParam (subpatterns j ps)
-none_in_subpatterns j [] k p i e = no_entry k (ParamPart p i) e
-none_in_subpatterns j (q ∷ ps) zero p i e =
-    (let same : pat_part (subpattern j) q ≡ ParamPart p i = cc in
-    let rs : subpattern j ≡ parameter i = ap (λ (y : Part). y.role) same in
-    cc)
-none_in_subpatterns j (q ∷ ps) (suc k) p i e = none_in_subpatterns (suc j) ps k p i e
+    from_arms : (i : ℕ) (arms : List RawArm) → Each From (arms_parts i arms)
+    from_arms i [] = each_nil From
+    from_arms i (a ∷ arms) =
+        each_append From (arm_parts i a) (arms_parts (suc i) arms)
+        (each_append From (maybe_part (guard i) a.guard) (expr_part (arm i) a.expr ∷ []) (each_maybe From (guard i) a.guard (λ e. tt)) (each_cons From (expr_part (arm i) a.expr) [] tt (each_nil From)))
+        (from_arms (suc i) arms)
 
-none_in_expr : (o : Option RawExpr) → HasNoParam (parts_of_expr o)
-none_in_expr None = none_in_nil
-none_in_expr (Some (expr.Lit l)) = none_in_nil
-none_in_expr (Some (expr.Path q)) = none_in_nil
-none_in_expr (Some (expr.Tuple es)) = none_in_exprs element 0 es
-none_in_expr (Some (expr.Block label ss last)) = none_in_append (stmts_parts ss) (maybe_part tail last) (none_in_stmts ss) (none_in_maybe tail last)
-none_in_expr (Some (expr.If c first other)) =
-    none_after_expr condition c (expr_part then_branch first ∷ maybe_part else_branch other) (none_after_expr then_branch first (maybe_part else_branch other) (none_in_maybe else_branch other))
-none_in_expr (Some (expr.Match d arms)) =
-    none_after_expr scrutinee d (arm_patterns d 0 arms ++ arms_parts 0 arms) (none_in_append (arm_patterns d 0 arms) (arms_parts 0 arms) (none_in_arm_patterns d 0 arms) (none_in_arms 0 arms))
-none_in_expr (Some (expr.Call f args)) = none_after_expr callee f (exprs_from argument 0 args) (none_in_exprs argument 0 args)
-none_in_expr (Some expr.Other) = none_in_nil
+    from_expr : (o : Option RawExpr) → slice_get b.exprs m.0 ≡ o → Each From (parts_of_expr o)
+    from_expr None is = each_nil From
+    from_expr (Some (expr.Lit l)) is = each_nil From
+    from_expr (Some (expr.Path q)) is = each_nil From
+    from_expr (Some (expr.Tuple es)) is = each_expr From element 0 es (λ j e. tt)
+    from_expr (Some (expr.Block label ss last)) is =
+        each_append From (stmts_parts ss) (maybe_part tail last)
+        (from_stmts ss 0 (λ i s e. subst (λ j. stmt_at b m j ≡ Some s) (from_zero i) (let k : slice_get (stmts_of (slice_get b.exprs m.0)) i ≡ slice_get (stmts_of (Some (expr.Block label ss last))) i = ap (λ o. slice_get (stmts_of o) i) is in k ∙ e)))
+        (each_maybe From tail last (λ e. tt))
+    from_expr (Some (expr.If c first other)) is =
+        each_cons From (expr_part condition c) (expr_part then_branch first ∷ maybe_part else_branch other) tt
+        (each_cons From (expr_part then_branch first) (maybe_part else_branch other) tt (each_maybe From else_branch other (λ e. tt)))
+    from_expr (Some (expr.Match d arms)) is =
+        each_cons From (expr_part scrutinee d) (arm_patterns d 0 arms ++ arms_parts 0 arms) tt
+        (each_append From (arm_patterns d 0 arms) (arms_parts 0 arms) (from_arm_patterns d arms is arms 0 (λ i a e. subst (λ j. slice_get arms j ≡ Some a) (from_zero i) e)) (from_arms 0 arms))
+    from_expr (Some (expr.Call f args)) is = each_cons From (expr_part callee f) (exprs_from argument 0 args) tt (each_expr From argument 0 args (λ j e. tt))
+    from_expr (Some expr.Other) is = each_nil From
 
-none_in_pat : (o : Option RawPat) → HasNoParam (parts_of_pat o)
-none_in_pat None = none_in_nil
-none_in_pat (Some pat.Wild) = none_in_nil
-none_in_pat (Some (pat.Bind v sub)) = none_in_nil
-none_in_pat (Some (pat.Tuple ps)) = none_in_subpatterns 0 ps
-none_in_pat (Some (pat.Lit d)) = none_after_expr pattern_literal d [] none_in_nil
-none_in_pat (Some pat.Other) = none_in_nil
+  module _ (q : PatId) (here : n ≡ inner (node.PatId q)) where
+    from_subpatterns : (ps : List PatId) → IsWhole b q ps → (rest : List PatId) (from : ℕ) → ((i : ℕ) (p : PatId) → slice_get rest i ≡ Some p → slice_get ps (from + i) ≡ Some p) → Each From (subpatterns from rest)
+    from_subpatterns ps is [] from at = each_nil From
+    from_subpatterns ps is (p ∷ rest) from at =
+        each_cons From (pat_part (subpattern from) p) (subpatterns (suc from) rest)
+        (p, refl, (q, here, record { parts = ps; whole = is; stands = (let k : from + 0 ≡ from = omega arith in subst (λ j. slice_get ps j ≡ Some p) k (at 0 p refl)) }))
+        (from_subpatterns ps is rest (suc from) (λ i u e. (let k : from + suc i ≡ suc from + i = omega arith in subst (λ j. slice_get ps j ≡ Some u) k (at (suc i) u e))))
 
--- the parameters ps, the first of which has position j
-param_among : (j : ℕ) (ps : List PatId) (k : ℕ) (p : PatId) (i : ℕ) → slice_get (param_parts j ps) k ≡ Some (ParamPart p i) → (m : ℕ) × (i ≡ j + m) × (slice_get ps m ≡ Some p)
-param_among j [] k p i e = absurd (no_entry k (ParamPart p i) e)
-param_among j (q ∷ ps) zero p i e =
-    (let same : pat_part (parameter j) q ≡ ParamPart p i = cc in
-    let ns : node.PatId q ≡ node.PatId p = ap (λ (y : Part). y.node) same in
-    let rs : parameter j ≡ parameter i = ap (λ (y : Part). y.role) same in
-    let qs : q ≡ p = cc in
-    let js : j ≡ i = cc in
-    (zero, omega (arith, js), ap (λ (y : PatId). Some y) qs))
-param_among j (q ∷ ps) (suc k) p i e =
-    (let r = param_among (suc j) ps k p i e in
-    (suc r.0, omega (arith, r.1), r.2))
+    from_pat : (o : Option RawPat) → slice_get b.pats q.0 ≡ o → Each From (parts_of_pat o)
+    from_pat None is = each_nil From
+    from_pat (Some pat.Wild) is = each_nil From
+    from_pat (Some (pat.Bind v sub)) is = each_nil From
+    from_pat (Some (pat.TupleStruct named ps)) is = from_subpatterns ps (inr (named, is)) ps 0 (λ i p e. subst (λ j. slice_get ps j ≡ Some p) (from_zero i) e)
+    from_pat (Some (pat.Path named)) is = each_nil From
+    from_pat (Some (pat.Tuple ps)) is = from_subpatterns ps (inl is) ps 0 (λ i p e. subst (λ j. slice_get ps j ≡ Some p) (from_zero i) e)
+    from_pat (Some (pat.Lit d)) is = each_cons From (expr_part pattern_literal d) [] tt (each_nil From)
+    from_pat (Some pat.Other) is = each_nil From
 
--- a pattern that stands as that of the parameter at a position is that parameter's
-pub param_of_part : (b : RawBody) (n : Node) (k : ℕ) (p : PatId) (i : ℕ) → part_at b n k ≡ Some (ParamPart p i) → slice_get b.params i ≡ Some p
-param_of_part b the_body k p i e =
-    elim (append_entry (param_parts 0 b.params) (expr_part root b.root ∷ []) k (ParamPart p i) e) [
-      | inl r ↦
-          (let m = param_among 0 b.params r.0 p i r.1 in
-          let same : i ≡ m.0 = omega (arith, m.1) in
-          ap (λ (j : ℕ). slice_get b.params j) same ∙ m.2)
-      | inr r ↦ absurd (none_in_maybe root (Some b.root) r.0 p i r.1)
-    ]
-param_of_part b (inner (node.ExprId n)) k p i e = absurd (none_in_expr (slice_get b.exprs n.0) k p i e)
-param_of_part b (inner (node.PatId q)) k p i e = absurd (none_in_pat (slice_get b.pats q.0) k p i e)
+  from_params : (rest : List PatId) (from : ℕ) → ((i : ℕ) (p : PatId) → slice_get rest i ≡ Some p → slice_get b.params (from + i) ≡ Some p) → Each From (param_parts from rest)
+  from_params [] from at = each_nil From
+  from_params (p ∷ rest) from at =
+      each_cons From (pat_part (parameter from) p) (param_parts (suc from) rest)
+      (p, refl, (let k : from + 0 ≡ from = omega arith in subst (λ j. slice_get b.params j ≡ Some p) k (at 0 p refl)))
+      (from_params rest (suc from) (λ i u e. (let k : from + suc i ≡ suc from + i = omega arith in subst (λ j. slice_get b.params j ≡ Some u) k (at (suc i) u e))))
+
+-- each part of a node comes from where its role says
+pub comes_from : (b : RawBody) (n : Node) (k : ℕ) (p : Part) → part_at b n k ≡ Some p → ComesFrom b n p.node p.role
+comes_from b the_body k p e =
+    each_append (From b the_body) (param_parts 0 b.params) (expr_part root b.root ∷ [])
+    (from_params b the_body b.params 0 (λ i q h. subst (λ j. slice_get b.params j ≡ Some q) (from_zero i) h))
+    (each_cons (From b the_body) (expr_part root b.root) [] tt (each_nil (From b the_body))) k p e
+comes_from b (inner (node.ExprId m)) k p e = from_expr b (inner (node.ExprId m)) m (slice_get b.exprs m.0) refl k p e
+comes_from b (inner (node.PatId q)) k p e = from_pat b (inner (node.PatId q)) q refl (slice_get b.pats q.0) refl k p e

@@ -1,5 +1,5 @@
 -- What the place of a node asks of it.
-use Rattle.std.specs.Prelude.{ℕ, ◌≡◌, ◌⊎◌, true, false, List, slice_get, Some, None}
+use Rattle.std.specs.Prelude.{ℕ, ◌<◌, ◌≡◌, ◌⊎◌, true, false, List, slice_get, Option, Some, None}
 use Rattle.hir_types.specs.declared.ids.ExprId.{ExprId}
 use Rattle.hir_types.specs.declared.ids.PatId.{PatId}
 use Rattle.hir_types.specs.declared.ids.TypeRefId.{TypeRefId}
@@ -8,13 +8,16 @@ use Rattle.hir_types.specs.declared.ids.ExprOrPatId.TheVariants as node
 use Rattle.hir_types.specs.declared.ty.Ty.{Ty}
 use Rattle.hir_types.specs.declared.ty.Ty.TheVariants as ty
 use Rattle.hir_facts.specs.declared.raw.RawType.{RawType}
+use Rattle.hir_facts.specs.declared.raw.RawExpr.TheVariants as expr
+use Rattle.hir_facts.specs.declared.raw.RawPat.{RawPat}
+use Rattle.hir_facts.specs.declared.raw.RawPat.TheVariants as pat
 use Rattle.hir_facts.specs.declared.raw.RawBody.{RawBody}
 use Rattle.hir_types.specs.Types.{unit}
 use Rattle.hir_facts.specs.Types.{written_type}
 use Rattle.hir_types.specs.Erasure.{Same}
-use Rattle.hir_facts.specs.Order.{Role, parameter, root, initializer, let_pattern, let_else, statement, tail, element, condition, then_branch, else_branch, scrutinee, arm_pattern, guard, arm, callee, argument, subpattern, pattern_literal, Node, the_body, inner, IsNode, part_at}
+use Rattle.hir_facts.specs.Order.{Role, parameter, root, initializer, let_pattern, let_else, statement, tail, element, condition, then_branch, else_branch, scrutinee, arm_pattern, guard, arm, callee, argument, subpattern, pattern_literal, expr_part, Node, the_body, inner, IsNode, part_at}
 use Rattle.infer_result.specs.declared.result.InferenceResult.{InferenceResult}
-use Rattle.infer_result.specs.Table.{HasTy, MismatchAt}
+use Rattle.infer_result.specs.Table.{HasTy, PatTy, HasMismatch, HasPatMismatch}
 
 -- a body among its facts: the written types, those of its parameters, and the type that it is typed against
 pub record Given : Type 0 where
@@ -23,13 +26,102 @@ pub record Given : Type 0 where
   pub inputs : List TypeRefId
   pub output : Ty
 
+-- x is part k of the node n, in this role
+pub record StandsAt (b : RawBody) (x : ExprOrPatId) (n : Node) (k : ℕ) (role : Role) : Type 0 where
+  pub node_is : IsNode b n
+  pub part : part_at b n k ≡ Some (record { node = x; role = role })
+
+-- ---- where an expression and a pattern are
+
 -- the expression is at the type s
 abbrev pub IsAt : InferenceResult → ExprId → Ty → Type 0
 IsAt t e s = (a : Ty) × HasTy t e a × Same a s
 
--- it is, or that very mismatch is listed
+-- it is, or a mismatch is listed at it
 abbrev pub IsAtOrMismatch : InferenceResult → ExprId → Ty → Type 0
-IsAtOrMismatch t e s = (a : Ty) × HasTy t e a × (Same a s ⊎ MismatchAt t e s a)
+IsAtOrMismatch t e s = (a : Ty) × HasTy t e a × (Same a s ⊎ HasMismatch t e)
+
+-- A mismatch stands at the pattern, or at the literal that it is. What binds a name or nothing has none.
+abbrev pub MisfitsAs : InferenceResult → PatId → Option RawPat → Type 0
+MisfitsAs t p None = ⊥
+MisfitsAs t p (Some pat.Wild) = ⊥
+MisfitsAs t p (Some (pat.Bind v sub)) = ⊥
+MisfitsAs t p (Some (pat.Tuple ps)) = HasPatMismatch t p
+MisfitsAs t p (Some (pat.TupleStruct named ps)) = ⊥
+MisfitsAs t p (Some (pat.Path named)) = ⊥
+MisfitsAs t p (Some (pat.Lit e)) = HasMismatch t e
+MisfitsAs t p (Some pat.Other) = ⊥
+
+-- the pattern has the type that comes in, or a mismatch is listed at it
+abbrev pub PatIsAtOrMismatch : Given → InferenceResult → PatId → Ty → Type 0
+PatIsAtOrMismatch g t p s = (a : Ty) × PatTy t p a × ((a ≡ s) ⊎ MisfitsAs t p (slice_get g.body.pats p.0))
+
+-- ---- what comes into a pattern
+
+-- the written type of the parameter at this position
+abbrev pub IsInput : Given → ℕ → Ty → Type 0
+IsInput g i s = (w : TypeRefId) × (slice_get g.inputs i ≡ Some w) × (s ≡ written_type g.types w)
+
+-- the type that a pattern gives to its part at this position: the component of its own type
+abbrev pub GivesPart : InferenceResult → Node → ℕ → Ty → Type 0
+GivesPart t the_body i s = ⊥
+GivesPart t (inner (node.ExprId n)) i s = ⊥
+GivesPart t (inner (node.PatId p)) i s = (ss : List Ty) × PatTy t p (ty.Tuple ss) × (slice_get ss i ≡ Some s)
+
+-- the type that the node n gives to a pattern in this role: a written type, or that of the initializer,
+-- of the scrutinee, of the component
+abbrev pub Gives : Given → InferenceResult → Node → Role → Ty → Type 0
+Gives g t n (parameter i) s = IsInput g i s
+Gives g t n root s = ⊥
+Gives g t n (initializer w) s = ⊥
+Gives g t n (let_pattern (Some w) init) s = s ≡ written_type g.types w
+Gives g t n (let_pattern None (Some e)) s = HasTy t e s
+Gives g t n (let_pattern None None) s = ⊥
+Gives g t n let_else s = ⊥
+Gives g t n (statement semicolon) s = ⊥
+Gives g t n tail s = ⊥
+Gives g t n (element i) s = ⊥
+Gives g t n condition s = ⊥
+Gives g t n then_branch s = ⊥
+Gives g t n else_branch s = ⊥
+Gives g t n scrutinee s = ⊥
+Gives g t n (arm_pattern e i) s = HasTy t e s
+Gives g t n (guard i) s = ⊥
+Gives g t n (arm i) s = ⊥
+Gives g t n callee s = ⊥
+Gives g t n (argument i) s = ⊥
+Gives g t n (subpattern i) s = GivesPart t n i s
+Gives g t n pattern_literal s = ⊥
+
+-- the type that comes into a pattern
+pub record Incoming (g : Given) (t : InferenceResult) (p : PatId) (s : Ty) : Type 0 where
+  pub parent : Node
+  pub at_part : ℕ
+  pub role : Role
+  pub stands : StandsAt g.body (node.PatId p) parent at_part role
+  pub gives : Gives g t parent role s
+
+-- ---- what is asked of an expression
+
+-- Of the branches of an `if`, or of the arms of a `match`, one gives the node its value. The first of
+-- these comes before the second.
+abbrev pub IsBefore : Role → Role → Type 0
+IsBefore then_branch else_branch = Unit {0}
+IsBefore (arm i) (arm j) = i < j
+IsBefore _ _ = ⊥
+
+-- an alternative of the node n before that in this role has the type s
+pub record IsOfOther (b : RawBody) (t : InferenceResult) (n : ExprId) (role : Role) (s : Ty) : Type 0 where
+  pub other : Role
+  pub expr : ExprId
+  pub at_part : ℕ
+  pub stands : part_at b (inner (node.ExprId n)) at_part ≡ Some (expr_part other expr)
+  pub is_before : IsBefore other role
+  pub has : HasTy t expr s
+
+-- an alternative is to have the type of the node, or that of an earlier alternative
+abbrev pub AsksOfAlternative : Given → InferenceResult → ExprId → Role → Ty → Type 0
+AsksOfAlternative g t n role s = HasTy t n s ⊎ IsOfOther g.body t n role s
 
 -- the type that an expression asks of its part in this role
 abbrev pub AsksOf : Given → InferenceResult → ExprId → Role → Ty → Type 0
@@ -43,68 +135,41 @@ AsksOf g t n (statement true) s = ⊥
 AsksOf g t n (statement false) s = s ≡ unit
 AsksOf g t n tail s = HasTy t n s
 AsksOf g t n (element i) s = (ss : List Ty) × HasTy t n (ty.Tuple ss) × (slice_get ss i ≡ Some s)
-AsksOf g t n condition s = ⊥
-AsksOf g t n then_branch s = ⊥
-AsksOf g t n else_branch s = ⊥
+AsksOf g t n condition s = s ≡ ty.Bool
+AsksOf g t n then_branch s = AsksOfAlternative g t n then_branch s
+AsksOf g t n else_branch s = AsksOfAlternative g t n else_branch s
 AsksOf g t n scrutinee s = ⊥
 AsksOf g t n (arm_pattern e i) s = ⊥
-AsksOf g t n (guard i) s = ⊥
-AsksOf g t n (arm i) s = ⊥
+AsksOf g t n (guard i) s = s ≡ ty.Bool
+AsksOf g t n (arm i) s = AsksOfAlternative g t n (arm i) s
 AsksOf g t n callee s = ⊥
 AsksOf g t n (argument i) s = ⊥
 AsksOf g t n (subpattern i) s = ⊥
 AsksOf g t n pattern_literal s = ⊥
 
--- the type that a node asks of its part in this role: the body asks that its root have the output
+-- The type that a node asks of its part in this role: the body asks that its root have the output, a
+-- pattern that its literal have the type that comes into it.
 abbrev pub Asks : Given → InferenceResult → Node → Role → Ty → Type 0
 Asks g t the_body role s = (role ≡ root) × (s ≡ g.output)
 Asks g t (inner (node.ExprId n)) role s = AsksOf g t n role s
-Asks g t (inner (node.PatId p)) role s = ⊥
+Asks g t (inner (node.PatId p)) role s = (role ≡ pattern_literal) × Incoming g t p s
 
--- x is part k of the node n, in this role
-pub record StandsAt (b : RawBody) (x : ExprOrPatId) (n : Node) (k : ℕ) (role : Role) : Type 0 where
-  pub node_is : IsNode b n
-  pub part : part_at b n k ≡ Some (record { node = x; role = role })
-
--- the demand on an expression: what its place asks of it
-pub record Demand (g : Given) (t : InferenceResult) (e : ExprId) (s : Ty) : Type 0 where
+-- what the place of an expression asks of it
+pub record IsAsked (g : Given) (t : InferenceResult) (e : ExprId) (s : Ty) : Type 0 where
   pub parent : Node
   pub at_part : ℕ
   pub role : Role
   pub stands : StandsAt g.body (node.ExprId e) parent at_part role
   pub asks : Asks g t parent role s
 
--- the written type of the parameter at this position
-abbrev pub IsInput : Given → ℕ → Ty → Type 0
-IsInput g i s = (w : TypeRefId) × (slice_get g.inputs i ≡ Some w) × (s ≡ written_type g.types w)
+-- the expression is an `if` without `else`, and its branch has this type
+pub record IsOfBranch (b : RawBody) (t : InferenceResult) (e : ExprId) (s : Ty) : Type 0 where
+  pub condition : ExprId
+  pub branch : ExprId
+  pub is_if : slice_get b.exprs e.0 ≡ Some (expr.If condition branch None)
+  pub has : HasTy t branch s
 
--- the type that comes into a pattern in this role: a written type, or that of the initializer
-abbrev pub Gives : Given → InferenceResult → Role → Ty → Type 0
-Gives g t (parameter i) s = IsInput g i s
-Gives g t root s = ⊥
-Gives g t (initializer w) s = ⊥
-Gives g t (let_pattern (Some w) init) s = s ≡ written_type g.types w
-Gives g t (let_pattern None (Some e)) s = HasTy t e s
-Gives g t (let_pattern None None) s = ⊥
-Gives g t let_else s = ⊥
-Gives g t (statement semicolon) s = ⊥
-Gives g t tail s = ⊥
-Gives g t (element i) s = ⊥
-Gives g t condition s = ⊥
-Gives g t then_branch s = ⊥
-Gives g t else_branch s = ⊥
-Gives g t scrutinee s = ⊥
-Gives g t (arm_pattern e i) s = ⊥
-Gives g t (guard i) s = ⊥
-Gives g t (arm i) s = ⊥
-Gives g t callee s = ⊥
-Gives g t (argument i) s = ⊥
-Gives g t (subpattern i) s = ⊥
-Gives g t pattern_literal s = ⊥
-
-pub record Incoming (g : Given) (t : InferenceResult) (p : PatId) (s : Ty) : Type 0 where
-  pub parent : Node
-  pub at_part : ℕ
-  pub role : Role
-  pub stands : StandsAt g.body (node.PatId p) parent at_part role
-  pub gives : Gives g t role s
+-- the demand on an expression: what its place asks of it, and of an `if` without `else` the type of
+-- its branch too
+abbrev pub Demand : Given → InferenceResult → ExprId → Ty → Type 0
+Demand g t e s = IsAsked g t e s ⊎ IsOfBranch g.body t e s

@@ -185,13 +185,21 @@ abbrev pub mismatch_line : ℕ → Option TypeMismatch → List ℕ
 mismatch_line i None = []
 mismatch_line i (Some m) = line (mismatch_head i ++ type_field (codes " expected=") m.expected ++ type_field (codes " actual=") m.actual)
 
+unfoldable pub pat_mismatch_head : ℕ → List ℕ
+pat_mismatch_head i = codes "TypeMismatch p" ++ decimal i
+
+abbrev pub pat_mismatch_line : ℕ → Option TypeMismatch → List ℕ
+pat_mismatch_line i None = []
+pat_mismatch_line i (Some m) = line (pat_mismatch_head i ++ type_field (codes " expected=") m.expected ++ type_field (codes " actual=") m.actual)
+
 -- ---- the whole
 
 abbrev pub complaint_count : InferenceResult → ℕ
-complaint_count t = count_by is_some t.expr_mismatches
+complaint_count t = count_by is_some t.expr_mismatches + count_by is_some t.pat_mismatches
 
 abbrev pub report : DefWithBodyId → RawFacts → InferenceResult → List ℕ
 report d raw t =
     def_line d ++ lines_from expr_line 0 t.type_of_expr ++ lines_from (pat_line t.binding_modes) 0 t.type_of_pat ++ lines_from binding_line 0 t.type_of_binding
     ++ lines_from mismatch_line 0 t.expr_mismatches
+    ++ lines_from pat_mismatch_line 0 t.pat_mismatches
     ++ line (codes "complaints " ++ decimal (complaint_count t))

@@ -1,5 +1,5 @@
 -- What a table says of a node.
-use Rattle.std.specs.Prelude.{ℕ, ◌≡◌, List, slice_get, Option, Some}
+use Rattle.std.specs.Prelude.{ℕ, ◌≡◌, ◌⊎◌, List, [], ◌∷◌, slice_get, Option, Some}
 use Rattle.std.specs.Option.{option_and_then}
 use Rattle.hir_types.specs.declared.ids.ExprId.{ExprId}
 use Rattle.hir_types.specs.declared.ids.PatId.{PatId}
@@ -46,3 +46,12 @@ MismatchAt t e expected actual = At t.expr_mismatches e.0 (mismatch expected act
 -- some mismatch is
 abbrev pub HasMismatch : InferenceResult → ExprId → Type 0
 HasMismatch t e = (x : TypeMismatch) × At t.expr_mismatches e.0 x
+
+-- some mismatch is listed at one of these expressions
+abbrev pub AnyMismatch : InferenceResult → List ExprId → Type 0
+AnyMismatch t [] = ⊥
+AnyMismatch t (e ∷ es) = HasMismatch t e ⊎ AnyMismatch t es
+
+-- some mismatch is listed at the pattern
+abbrev pub HasPatMismatch : InferenceResult → PatId → Type 0
+HasPatMismatch t p = (x : TypeMismatch) × At t.pat_mismatches p.0 x

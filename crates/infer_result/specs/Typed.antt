@@ -17,7 +17,7 @@ use Rattle.infer_result.specs.Rules.Expressions.{ObeysOrMismatch, ObeysExpressio
 use Rattle.infer_result.specs.Rules.Patterns.{ObeysPattern}
 use Rattle.infer_result.specs.Excused.{IsExcused, BodyIsExcused}
 use Rattle.infer_result.specs.Upward.{Up}
-use Rattle.infer_result.specs.Truth.Mismatch.{IsTrueMismatch}
+use Rattle.infer_result.specs.Truth.Mismatch.{IsTrueMismatch, IsTruePatMismatch}
 
 -- Each node obeys its rule, clause by clause but for listed mismatches, and so each node that is not
 -- excused obeys it whole; each type that a node has by itself stands; and each mismatch is true.
@@ -32,6 +32,7 @@ pub record IsTyped (g : Given) (t : InferenceResult) : Type 0 where
   pub body_rule : BodyIsExcused g t ⊎ BodyObeys g t
   pub upward : (e : ExprId) (s : Ty) → Up g e s → HasTy t e s
   pub truths : (e : ExprId) (x : TypeMismatch) → At t.expr_mismatches e.0 x → IsTrueMismatch g t e x
+  pub pat_truths : (p : PatId) (x : TypeMismatch) → At t.pat_mismatches p.0 x → IsTruePatMismatch g t p x
 
 -- the body of a definition among its facts
 abbrev pub given : RawFacts → DefWithBodyId → RawBody → Given

@@ -27,6 +27,8 @@ pub struct InferenceResult {
     pub binding_modes: List<Option<BindingMode>>,
     /// The mismatch at each expression, where there is one.
     pub expr_mismatches: List<Option<TypeMismatch>>,
+    /// The mismatch at each pattern, where there is one.
+    pub pat_mismatches: List<Option<TypeMismatch>>,
 }
 
 impl InferenceResult {
@@ -59,5 +61,12 @@ impl InferenceResult {
         ensures { option_copied result ≡ recorded self.now.expr_mismatches e.0 }
     {
         self.expr_mismatches.get(e.0 as usize)?.as_ref()
+    }
+
+    /// The mismatch at a pattern.
+    pub fn type_mismatch_for_pat(&self, p: PatId) -> Option<&TypeMismatch>
+        ensures { option_copied result ≡ recorded self.now.pat_mismatches p.0 }
+    {
+        self.pat_mismatches.get(p.0 as usize)?.as_ref()
     }
 }

@@ -1,18 +1,15 @@
 -- The table of the first run, `fn f() -> u8 { let x = 1u8; x }`, is typed; tables that are wrong at one node are not.
 use Rattle.std.proofs.Common.{◌+◌, ◌<◌, ◌≡◌, inl, inr, Bool, true, false, List, [], ◌∷◌, refl, sym, ap, ◌∙◌, arith, Option, Some, None, slice_get}
 use Rattle.hir_types.specs.declared.ids.ExprOrPatId.TheVariants as node
-use Rattle.hir_types.specs.declared.ty.Ty.{Ty, Ty-F, out-Ty, fold-roll-Ty}
+use Rattle.hir_types.specs.declared.ty.Ty.{Ty, Ty-F, fold-roll-Ty}
 use Rattle.hir_types.specs.declared.ty.Ty.TheVariants as ty
-use Rattle.hir_types.specs.declared.ty.UintTy.TheVariants as uint
-use Rattle.hir_types.specs.declared.ty.IntegerTy.TheVariants as integer
 use Rattle.hir_facts.specs.declared.raw.RawPath.TheVariants as path
 use Rattle.hir_facts.specs.declared.raw.RawStmt.TheVariants as stmt
 use Rattle.hir_facts.specs.declared.raw.RawExpr.TheVariants as expr
 use Rattle.hir_facts.specs.declared.raw.RawPat.TheVariants as pat
 use Rattle.hir_facts.specs.declared.raw.RawBody.{RawBody}
 use Rattle.hir_facts.specs.declared.schedule.Schedule.{Schedule}
-use Rattle.hir_types.specs.Erasure.{erased, Same, has_hole, hole_arg, hole_step, hole_bound, hole_trait, IsClosed}
-use Rattle.hir_facts.specs.CarriedTypes.{carried_integer, same_carried}
+use Rattle.hir_types.specs.Erasure.{erased, has_hole, hole_arg, hole_step, hole_bound, hole_trait, IsClosed}
 use Rattle.hir_facts.specs.Order.{initializer, tail, the_body, inner, IsSchedule, start, end, after, Fits, parts}
 use Rattle.infer_result.specs.declared.result.InferenceResult.{InferenceResult}
 use Rattle.infer_result.specs.declared.result.TypeMismatch.{TypeMismatch}
@@ -21,10 +18,11 @@ use Rattle.infer_result.specs.Table.{BindingTy, mismatch}
 use Rattle.infer_result.specs.Places.{Given, Demand}
 use Rattle.infer_result.specs.Rules.Expressions.{ObeysOrMismatch}
 use Rattle.infer_result.specs.Rules.Patterns.{PatRule}
+use Rattle.infer_result.specs.Truth.Mismatch.{IsTruePatMismatch}
 use Rattle.infer_result.specs.Made.{IsMisfit, IsMade}
 use Rattle.infer_result.specs.Typed.{IsTyped}
 use Rattle.infer_result.specs.Derived.{typed_by_schedule}
-use Rattle.infer_result.proofs.Samples.Small.{e, p, b, u8, one_u8, plain, body_of, each_below, each_node, apart_by, asked, only, each_entry, closed_uint, top_uint, top_error}
+use Rattle.infer_result.proofs.Samples.Small.{e, p, b, u8, u16, one_u8, plain, body_of, each_below, each_node, apart_by, asked, only, each_entry, closed_u8, u8_is_no_u16, u8_is_no_error, u8_differs_u16}
 
 abbrev body : RawBody
 body =
@@ -56,31 +54,32 @@ table_of types mismatches = record {
   type_of_binding = Some u8 ∷ [];
   binding_modes = Some mode.Move ∷ [];
   expr_mismatches = mismatches;
+  pat_mismatches = None ∷ [];
 }
 
 abbrev right : InferenceResult
 right = table_of (Some u8 ∷ Some u8 ∷ Some u8 ∷ []) (None ∷ None ∷ None ∷ [])
 
-closed_u8 : IsClosed u8
-closed_u8 = closed_uint uint.U8
-
 right_made : IsMade given right
 right_made = record {
-  of_body = record { exprs = refl; pats = refl; bindings = refl; modes = refl; mismatches = refl };
+  of_body = record { exprs = refl; pats = refl; bindings = refl; modes = refl; mismatches = refl; pat_mismatches = refl };
   closed = record {
     exprs = each_entry IsClosed right.type_of_expr (closed_u8, (closed_u8, (closed_u8, tt)));
     pats = each_entry IsClosed right.type_of_pat (closed_u8, tt);
     bindings = each_entry IsClosed right.type_of_binding (closed_u8, tt);
     expected = each_entry (λ x. IsClosed x.expected) right.expr_mismatches tt;
     actual = each_entry (λ x. IsClosed x.actual) right.expr_mismatches tt;
+    pat_expected = each_entry (λ x. IsClosed x.expected) right.pat_mismatches tt;
+    pat_actual = each_entry (λ x. IsClosed x.actual) right.pat_mismatches tt;
   };
-  clauses = λ x h. each_below (λ k. ObeysOrMismatch given right (e k)) 3 x.0 (((tt, (u8, refl, refl)), (u8, refl, refl)), (((u8, refl, refl), tt), (u8, refl, (u8, refl, inl refl)))) h;
-  kinds = λ x h. each_below (λ k. PatRule right (p k) (slice_get body.pats k)) 1 x.0 (tt, (u8, refl, refl, refl)) h;
+  clauses = λ x h. each_below (λ k. ObeysOrMismatch given right (e k)) 3 x.0 (((tt, (u8, refl, refl)), (u8, refl, refl)), (((u8, refl, (u8, refl, inl refl)), tt), (u8, refl, (u8, refl, inl refl)))) h;
+  kinds = λ x h. each_below (λ k. PatRule given right (p k) (slice_get body.pats k)) 1 x.0 (tt, (u8, refl, refl, refl)) h;
   params = λ i q s found is. absurd (cc);
   bindings = λ v h. each_below (λ k. (s : Ty) × BindingTy right (b k) s) 1 v.0 (tt, (u8, refl)) h;
   body_clause = (u8, refl, inl refl);
   misfits = λ x. each_entry (IsMisfit given right x) right.expr_mismatches tt x.0;
   demands = λ x. each_entry (λ m. Demand given right x m.expected) right.expr_mismatches tt x.0;
+  pat_truths = λ x. each_entry (IsTruePatMismatch given right x) right.pat_mismatches tt x.0;
 }
 
 pub right_typed : IsTyped given right
@@ -88,29 +87,20 @@ right_typed = typed_by_schedule given right schedule is_schedule right_made
 
 -- ---- tables that are wrong at one node
 
-abbrev u16 : Ty
-u16 = ty.Uint uint.U16
-
-differ : u8 ≡ u16 → ⊥
-differ h = (let k : Ty-F.Uint uint.U8 ≡ Ty-F.Uint uint.U16 = sym (top_uint uint.U8) ∙ (ap out-Ty h ∙ top_uint uint.U16) in cc)
-
-differs : Same u8 u16 → ⊥
-differs h = differ (same_carried u8 u16 (carried_integer (integer.Uint uint.U8)) (carried_integer (integer.Uint uint.U16)) h)
-
 -- another type at the literal
 pub other_type : IsTyped given (table_of (Some u16 ∷ Some u8 ∷ Some u8 ∷ []) (None ∷ None ∷ None ∷ [])) → ⊥
-other_type h = (let c = h.clauses (e 0) (omega arith) in differ (sym c.2 ∙ sym (only u16 c.0 c.1)))
+other_type h = (let c = h.clauses (e 0) (omega arith) in u8_is_no_u16 (sym c.2 ∙ sym (only u16 c.0 c.1)))
 
 -- another type at the path
 pub other_local : IsTyped given (table_of (Some u8 ∷ Some u16 ∷ Some u8 ∷ []) (None ∷ None ∷ None ∷ [])) → ⊥
-other_local h = (let c = h.clauses (e 1) (omega arith) in differ (only u8 c.0 c.2 ∙ sym (only u16 c.0 c.1)))
+other_local h = (let c = h.clauses (e 1) (omega arith) in u8_is_no_u16 (only u8 c.0 c.2 ∙ sym (only u16 c.0 c.1)))
 
 -- another type at the block, and with it at the root
 pub other_block : IsTyped given (table_of (Some u8 ∷ Some u8 ∷ Some u16 ∷ []) (None ∷ None ∷ None ∷ [])) → ⊥
 other_block h =
     (let c = h.body_clause in
     let at : u16 ≡ c.0 = only u16 c.0 c.1 in
-    elim c.2 [ inl same ↦ differs (sym (ap erased at ∙ same)) | inr m ↦ (let clash = m in cc) ])
+    elim c.2 [ inl same ↦ u8_differs_u16 (sym (ap erased at ∙ same)) | inr m ↦ (let clash = m.1 in cc) ])
 
 -- a hole
 pub a_hole : IsTyped given (table_of (Some u8 ∷ Some (ty.Var 0) ∷ Some u8 ∷ []) (None ∷ None ∷ None ∷ [])) → ⊥
@@ -127,8 +117,7 @@ a_missing_entry h = (let c = h.total.exprs (e 1) (omega arith) in let clash = c.
 pub all_unknown : IsTyped given (table_of (Some ty.Error ∷ Some ty.Error ∷ Some ty.Error ∷ []) (None ∷ None ∷ None ∷ [])) → ⊥
 all_unknown h =
     (let c = h.clauses (e 0) (omega arith) in
-    let same : u8 ≡ ty.Error = sym c.2 ∙ sym (only ty.Error c.0 c.1) in
-    let k : Ty-F.Uint uint.U8 ≡ Ty-F.Error = sym (top_uint uint.U8) ∙ (ap out-Ty same ∙ top_error) in cc)
+    u8_is_no_error (sym c.2 ∙ sym (only ty.Error c.0 c.1)))
 
 -- ---- invented mismatches
 
@@ -136,14 +125,14 @@ all_unknown h =
 pub invented_at_tail : IsTyped given (table_of (Some u8 ∷ Some u8 ∷ Some u8 ∷ []) (None ∷ Some (mismatch u16 u8) ∷ None ∷ [])) → ⊥
 invented_at_tail h =
     (let m = h.truths (e 1) (mismatch u16 u8) refl in
-    let a = asked given schedule is_schedule _ (e 1) (inner (node.ExprId (e 2))) 2 tail u16 (record { node_is = omega arith; part = refl }) m.demand in
-    differ (only u8 u16 a))
+    let a = asked given schedule is_schedule _ (e 1) (inner (node.ExprId (e 2))) 2 tail u16 (record { node_is = omega arith; part = refl }) (λ r. (let is = r.is_if in cc)) m.demand in
+    u8_is_no_u16 (only u8 u16 a))
 
 -- at the initializer, of which nothing is asked
 pub invented_at_initializer : IsTyped given (table_of (Some u8 ∷ Some u8 ∷ Some u8 ∷ []) (Some (mismatch u16 u8) ∷ None ∷ None ∷ [])) → ⊥
 invented_at_initializer h =
     (let m = h.truths (e 0) (mismatch u16 u8) refl in
-    asked given schedule is_schedule _ (e 0) (inner (node.ExprId (e 2))) 0 (initializer None) u16 (record { node_is = omega arith; part = refl }) m.demand)
+    asked given schedule is_schedule _ (e 0) (inner (node.ExprId (e 2))) 0 (initializer None) u16 (record { node_is = omega arith; part = refl }) (λ r. (let is = r.is_if in cc)) m.demand)
 
 -- one at every node, each of the type itself
 pub mismatches_everywhere : IsTyped given (table_of (Some u8 ∷ Some u8 ∷ Some u8 ∷ []) (Some (mismatch u8 u8) ∷ Some (mismatch u8 u8) ∷ Some (mismatch u8 u8) ∷ [])) → ⊥

@@ -1,8 +1,8 @@
 -- `fn f() -> u8 { let x = 1u8; }`: the block has the expected type, and the mismatch stands at it.
-use Rattle.std.proofs.Common.{ℕ, zero, suc, ◌+◌, ◌<◌, ◌≡◌, inl, inr, List, [], ◌∷◌, refl, sym, ap, subst, ◌∙◌, arith, Option, Some, None, slice_get}
+use Rattle.std.proofs.Common.{◌+◌, ◌<◌, ◌≡◌, inl, inr, List, [], ◌∷◌, refl, sym, ap, ◌∙◌, arith, Option, Some, None, slice_get}
 use Rattle.hir_types.specs.declared.ids.ExprOrPatId.TheVariants as node
 use Rattle.hir_types.specs.declared.ty.Ty.{Ty}
-use Rattle.hir_types.specs.declared.ty.UintTy.TheVariants as uint
+use Rattle.hir_types.specs.declared.ty.Ty.TheVariants as ty
 use Rattle.hir_facts.specs.declared.raw.RawStmt.TheVariants as stmt
 use Rattle.hir_facts.specs.declared.raw.RawExpr.TheVariants as expr
 use Rattle.hir_facts.specs.declared.raw.RawPat.TheVariants as pat
@@ -14,14 +14,15 @@ use Rattle.hir_facts.specs.Order.{root, the_body, inner, IsSchedule, start, end,
 use Rattle.infer_result.specs.declared.result.InferenceResult.{InferenceResult}
 use Rattle.infer_result.specs.declared.result.TypeMismatch.{TypeMismatch}
 use Rattle.infer_result.specs.declared.modes.BindingMode.TheVariants as mode
-use Rattle.infer_result.specs.Table.{At, BindingTy, mismatch}
+use Rattle.infer_result.specs.Table.{BindingTy, mismatch}
 use Rattle.infer_result.specs.Places.{Given, Demand}
 use Rattle.infer_result.specs.Rules.Expressions.{ObeysOrMismatch}
 use Rattle.infer_result.specs.Rules.Patterns.{PatRule}
+use Rattle.infer_result.specs.Truth.Mismatch.{IsTruePatMismatch}
 use Rattle.infer_result.specs.Made.{IsMisfit, IsMade}
 use Rattle.infer_result.specs.Typed.{IsTyped}
 use Rattle.infer_result.specs.Derived.{typed_by_schedule}
-use Rattle.infer_result.proofs.Samples.Small.{e, p, b, u8, one_u8, plain, body_of, each_below, each_node, apart_by, only, each_entry, closed_uint, closed_unit, u8_differs_unit}
+use Rattle.infer_result.proofs.Samples.Small.{e, p, b, u8, one_u8, plain, body_of, each_below, each_node, apart_by, only, each_entry, each_placed, closed_u8, closed_unit, u8_differs_unit, u8_is_no_bool, bool_differs_unit}
 
 abbrev body : RawBody
 body = body_of (expr.Lit one_u8 ∷ expr.Block None (stmt.Let (p 0) None (Some (e 0)) None ∷ []) None ∷ []) 1 (pat.Bind (b 0) None ∷ []) (plain ∷ [])
@@ -51,42 +52,37 @@ table_of types mismatches = record {
   type_of_binding = Some u8 ∷ [];
   binding_modes = Some mode.Move ∷ [];
   expr_mismatches = mismatches;
+  pat_mismatches = None ∷ [];
 }
 
 abbrev right : InferenceResult
 right = table_of (Some u8 ∷ Some u8 ∷ []) (None ∷ Some (mismatch u8 unit) ∷ [])
 
-closed_u8 : IsClosed u8
-closed_u8 = closed_uint uint.U8
-
 right_made : IsMade given right
 right_made = record {
-  of_body = record { exprs = refl; pats = refl; bindings = refl; modes = refl; mismatches = refl };
+  of_body = record { exprs = refl; pats = refl; bindings = refl; modes = refl; mismatches = refl; pat_mismatches = refl };
   closed = record {
     exprs = each_entry IsClosed right.type_of_expr (closed_u8, (closed_u8, tt));
     pats = each_entry IsClosed right.type_of_pat (closed_u8, tt);
     bindings = each_entry IsClosed right.type_of_binding (closed_u8, tt);
     expected = each_entry (λ x. IsClosed x.expected) right.expr_mismatches (closed_u8, tt);
     actual = each_entry (λ x. IsClosed x.actual) right.expr_mismatches (closed_unit, tt);
+    pat_expected = each_entry (λ x. IsClosed x.expected) right.pat_mismatches tt;
+    pat_actual = each_entry (λ x. IsClosed x.actual) right.pat_mismatches tt;
   };
-  clauses = λ x h. each_below (λ k. ObeysOrMismatch given right (e k)) 2 x.0 ((tt, (u8, refl, refl)), (((u8, refl, refl), tt), (u8, refl, inr refl))) h;
-  kinds = λ x h. each_below (λ k. PatRule right (p k) (slice_get body.pats k)) 1 x.0 (tt, (u8, refl, refl, refl)) h;
+  clauses = λ x h. each_below (λ k. ObeysOrMismatch given right (e k)) 2 x.0 ((tt, (u8, refl, refl)), (((u8, refl, (u8, refl, inl refl)), tt), (u8, refl, inr refl))) h;
+  kinds = λ x h. each_below (λ k. PatRule given right (p k) (slice_get body.pats k)) 1 x.0 (tt, (u8, refl, refl, refl)) h;
   params = λ i q s found is. absurd (cc);
   bindings = λ v h. each_below (λ k. (s : Ty) × BindingTy right (b k) s) 1 v.0 (tt, (u8, refl)) h;
   body_clause = (u8, refl, inl refl);
-  misfits = λ x m at. misfit x.0 m at;
-  demands = λ x m at. demand x.0 m at;
+  misfits = λ x.
+      each_placed (λ k. IsMisfit given right (e k)) right.expr_mismatches
+      (record { differ = u8_differs_unit; actual = inr (inl (record { label = None; stmts = stmt.Let (p 0) None (Some (e 0)) None ∷ []; is_block = refl }), refl) }, tt) x.0;
+  demands = λ x.
+      each_placed (λ k (m : TypeMismatch). Demand given right (e k) m.expected) right.expr_mismatches
+      (inl (record { parent = the_body; at_part = 0; role = root; stands = record { node_is = tt; part = refl }; asks = (refl, refl) }), tt) x.0;
+  pat_truths = λ x. each_entry (IsTruePatMismatch given right x) right.pat_mismatches tt x.0;
 }
-  where
-    misfit : (k : ℕ) (m : TypeMismatch) → At right.expr_mismatches k m → IsMisfit given right (e k) m
-    misfit zero m at = absurd (cc)
-    misfit (suc zero) m at = subst (λ y. IsMisfit given right (e 1) y) (only (mismatch u8 unit) m at) (record { differ = u8_differs_unit; actual = inr (record { label = None; stmts = stmt.Let (p 0) None (Some (e 0)) None ∷ []; is_block = refl }, refl) })
-    misfit (suc (suc k)) m at = absurd (cc)
-
-    demand : (k : ℕ) (m : TypeMismatch) → At right.expr_mismatches k m → Demand given right (e k) m.expected
-    demand zero m at = absurd (cc)
-    demand (suc zero) m at = subst (λ (y : TypeMismatch). Demand given right (e 1) y.expected) (only (mismatch u8 unit) m at) (record { parent = the_body; at_part = 0; role = root; stands = record { node_is = tt; part = refl }; asks = (refl, refl) })
-    demand (suc (suc k)) m at = absurd (cc)
 
 pub right_typed : IsTyped given right
 right_typed = typed_by_schedule given right schedule is_schedule right_made
@@ -99,3 +95,14 @@ in_silence h =
     (let c = h.clauses (e 1) (omega arith) in
     let s : u8 ≡ c.1.0 = only u8 c.1.0 c.1.1 in
     elim c.1.2 [ inl same ↦ u8_differs_unit (ap erased s ∙ sym same) | inr m ↦ (let clash = m in cc) ])
+
+-- with the mismatch, but at a type that is neither the expected one nor `()`
+pub another_type : IsTyped given (table_of (Some u8 ∷ Some ty.Bool ∷ []) (None ∷ Some (mismatch u8 unit) ∷ [])) → ⊥
+another_type h =
+    (let c = h.clauses (e 1) (omega arith) in
+    let s : ty.Bool ≡ c.1.0 = only ty.Bool c.1.0 c.1.1 in
+    elim c.1.2 [
+      | inl same ↦ bool_differs_unit (ap erased s ∙ sym same)
+      | inr m ↦ (let k : mismatch c.1.0 unit ≡ mismatch u8 unit = sym (only (mismatch u8 unit) (mismatch c.1.0 unit) m) in
+          u8_is_no_bool (sym (ap (λ (x : TypeMismatch). x.expected) k) ∙ sym s))
+    ])

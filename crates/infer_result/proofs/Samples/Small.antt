@@ -5,7 +5,10 @@ use Rattle.std.proofs.Math.Nat.{eq-or-lt_of_le}
 use Rattle.hir_types.specs.declared.ids.ExprId.{ExprId}
 use Rattle.hir_types.specs.declared.ids.PatId.{PatId}
 use Rattle.hir_types.specs.declared.ids.BindingId.{BindingId}
+use Rattle.hir_types.specs.declared.ids.TypeRefId.{TypeRefId}
+use Rattle.hir_types.specs.declared.ids.ExprOrPatId.{ExprOrPatId}
 use Rattle.hir_types.specs.declared.ids.ExprOrPatId.TheVariants as node
+use Rattle.hir_types.specs.declared.ty.IntTy.{IntTy}
 use Rattle.hir_types.specs.declared.ty.UintTy.{UintTy}
 use Rattle.hir_types.specs.declared.ty.UintTy.TheVariants as uint
 use Rattle.hir_types.specs.declared.ty.Ty.{Ty, Ty-F, out-Ty, out-roll-Ty}
@@ -20,13 +23,14 @@ use Rattle.hir_facts.specs.declared.raw.BindingAnnotation.TheVariants as annotat
 use Rattle.hir_facts.specs.declared.raw.RawBody.{RawBody}
 use Rattle.hir_facts.specs.declared.schedule.Schedule.{Schedule}
 use Rattle.hir_types.specs.Erasure.{IsClosed, Same}
-use Rattle.hir_types.specs.Layers.{has_hole_tuple, has_hole_bool, has_hole_integer}
+use Rattle.hir_types.specs.Layers.{has_hole_tuple, has_hole_bool, has_hole_error, has_hole_integer}
 use Rattle.hir_facts.specs.CarriedTypes.{carried_bool, carried_integer, carried_tuple, same_carried}
-use Rattle.hir_facts.specs.Order.{Role, Part, Node, the_body, inner, IsNode, IsSchedule, start, part_at}
+use Rattle.hir_facts.specs.Types.{written_type}
+use Rattle.hir_facts.specs.Order.{Role, Part, expr_part, Node, the_body, inner, IsNode, IsSchedule, start, parts, part_at}
 use Rattle.hir_facts.specs.Ways.{one_place}
 use Rattle.infer_result.specs.declared.result.InferenceResult.{InferenceResult}
-use Rattle.infer_result.specs.Table.{At}
-use Rattle.infer_result.specs.Places.{Given, StandsAt, Demand, Asks}
+use Rattle.infer_result.specs.Table.{At, HasTy, PatTy, AnyMismatch}
+use Rattle.infer_result.specs.Places.{Given, StandsAt, PatIsAtOrMismatch, IsInput, Gives, Incoming, IsBefore, IsOfOther, Asks, IsAsked, IsOfBranch, Demand}
 
 abbrev pub e : ℕ → ExprId
 e n = record { 0 = n }
@@ -37,8 +41,14 @@ p n = record { 0 = n }
 abbrev pub b : ℕ → BindingId
 b n = record { 0 = n }
 
+abbrev pub w : ℕ → TypeRefId
+w n = record { 0 = n }
+
 abbrev pub u8 : Ty
 u8 = ty.Uint uint.U8
+
+abbrev pub u16 : Ty
+u16 = ty.Uint uint.U16
 
 abbrev pub one_u8 : RawLiteral
 one_u8 = literal.Int (codes "1") (Some (integer.Uint uint.U8))
@@ -46,19 +56,23 @@ one_u8 = literal.Int (codes "1") (Some (integer.Uint uint.U8))
 abbrev pub plain : RawBinding
 plain = record { name = codes "x"; mode = annotation.Unannotated }
 
--- a body without parameters, the root of which is its last expression
-abbrev pub body_of : List RawExpr → ℕ → List RawPat → List RawBinding → RawBody
-body_of exprs root pats bindings = record {
+-- a body with these parameters
+abbrev pub body_with : List PatId → List RawExpr → ℕ → List RawPat → List RawBinding → RawBody
+body_with params exprs root pats bindings = record {
   «module» = record { 0 = 0 };
   traits = [];
   self_ = None;
-  params = [];
+  params = params;
   root = e root;
   exprs = exprs;
   pats = pats;
   bindings = bindings;
   labels = 0;
 }
+
+-- a body without parameters
+abbrev pub body_of : List RawExpr → ℕ → List RawPat → List RawBinding → RawBody
+body_of exprs root pats bindings = body_with [] exprs root pats bindings
 
 -- ---- each of a few
 
@@ -91,18 +105,61 @@ module _ (body : RawBody) where
       let c : slice_get order (start body s m) ≡ Some m = each_node (λ n. slice_get order (start body s n) ≡ Some n) h m j in
       cc
 
--- what is asked of an expression is asked by the place that it stands at
-pub asked : (g : Given) (s : Schedule) → IsSchedule g.body s → (t : InferenceResult) (x : ExprId) (n : Node) (k : ℕ) (role : Role) (u : Ty) → StandsAt g.body (node.ExprId x) n k role → Demand g t x u → Asks g t n role u
-asked g s law t x n k role u st d =
-    let same = one_place g.body s law n d.parent k d.at_part _ _ st.node_is d.stands.node_is st.part d.stands.part refl in
-    let here : part_at g.body n k ≡ Some (record { node = node.ExprId x; role = d.role }) =
-    subst (λ j. part_at g.body n j ≡ Some (record { node = node.ExprId x; role = d.role })) (sym same.1)
-    (subst (λ m. part_at g.body m d.at_part ≡ Some (record { node = node.ExprId x; role = d.role })) (sym same.0) d.stands.part) in
-    let roles : d.role ≡ role = ap (λ (q : Part). q.role) (one_part (part_at g.body n k) _ _ here st.part) in
-    subst (λ r. Asks g t n r u) roles (subst (λ m. Asks g t m d.role u) (sym same.0) d.asks)
+-- A node stands at one place, so what holds of the parent and the role of one place holds of those of the other.
+at_place : (g : Given) (s : Schedule) → IsSchedule g.body s → (x : ExprOrPatId) (n m : Node) (k j : ℕ) (role other : Role) (P : Node → Role → Type 0) → StandsAt g.body x n k role → StandsAt g.body x m j other → P m other → P n role
+at_place g s law x n m k j role other P here there h =
+    let same = one_place g.body s law n m k j _ _ here.node_is there.node_is here.part there.part refl in
+    let one : part_at g.body n k ≡ Some (record { node = x; role = other }) =
+    subst (λ i. part_at g.body n i ≡ Some (record { node = x; role = other })) (sym same.1)
+    (subst (λ q. part_at g.body q j ≡ Some (record { node = x; role = other })) (sym same.0) there.part) in
+    let roles : other ≡ role = ap (λ (q : Part). q.role) (one_part (part_at g.body n k) _ _ one here.part) in
+    subst (λ r. P n r) roles (subst (λ q. P q other) (sym same.0) h)
   where
     one_part : (o : Option Part) (q r : Part) → o ≡ Some q → o ≡ Some r → q ≡ r
     one_part o q r x y = cc
+
+-- what is asked of an expression is asked by the place that it stands at
+pub asks_here : (g : Given) (s : Schedule) → IsSchedule g.body s → (t : InferenceResult) (x : ExprId) (n : Node) (k : ℕ) (role : Role) (u : Ty) → StandsAt g.body (node.ExprId x) n k role → IsAsked g t x u → Asks g t n role u
+asks_here g s law t x n k role u here d = at_place g s law (node.ExprId x) n d.parent k d.at_part role d.role (λ q r. Asks g t q r u) here d.stands d.asks
+
+-- and so all that is demanded of one that is no `if` without `else`
+pub asked : (g : Given) (s : Schedule) → IsSchedule g.body s → (t : InferenceResult) (x : ExprId) (n : Node) (k : ℕ) (role : Role) (u : Ty) → StandsAt g.body (node.ExprId x) n k role → (IsOfBranch g.body t x u → ⊥) → Demand g t x u → Asks g t n role u
+asked g s law t x n k role u here no_if (inl d) = asks_here g s law t x n k role u here d
+asked g s law t x n k role u here no_if (inr d) = absurd (no_if d)
+
+-- what comes into a pattern is given by the place that it stands at
+pub comes : (g : Given) (s : Schedule) → IsSchedule g.body s → (t : InferenceResult) (x : PatId) (n : Node) (k : ℕ) (role : Role) (u : Ty) → StandsAt g.body (node.PatId x) n k role → Incoming g t x u → Gives g t n role u
+comes g s law t x n k role u here d = at_place g s law (node.PatId x) n d.parent k d.at_part role d.role (λ q r. Gives g t q r u) here d.stands d.gives
+
+-- the one parameter is at its written type
+pub one_param : (g : Given) (t : InferenceResult) (q : PatId) (v : TypeRefId) → g.body.params ≡ q ∷ [] → g.inputs ≡ v ∷ [] → PatTy t q (written_type g.types v) → (i : ℕ) (x : PatId) (s : Ty) → slice_get g.body.params i ≡ Some x → IsInput g i s → PatIsAtOrMismatch g t x s
+one_param g t q v ps vs has zero x s found is =
+    let found_here : slice_get (q ∷ []) 0 ≡ Some x = subst (λ xs. slice_get xs 0 ≡ Some x) ps found in
+    let input_here : slice_get (v ∷ []) 0 ≡ Some is.0 = subst (λ xs. slice_get xs 0 ≡ Some is.0) vs is.1 in
+    let one : q ≡ x = cc in
+    let written : v ≡ is.0 = cc in
+    subst (λ z. PatIsAtOrMismatch g t z s) one (written_type g.types v, has, inl (ap (written_type g.types) written ∙ sym is.2))
+one_param g t q v ps vs has (suc i) x s found is = (let found_here : slice_get (q ∷ []) (suc i) ≡ Some x = subst (λ xs. slice_get xs (suc i) ≡ Some x) ps found in absurd (cc))
+
+-- ---- alternatives
+
+-- each of these parts that is an expression has a property in its role
+abbrev pub OfPart : (Role → ExprId → Type 0) → ExprOrPatId → Role → Type 0
+OfPart P (node.ExprId x) role = P role x
+OfPart P (node.PatId x) role = Unit {0}
+
+abbrev pub AllParts : (Role → ExprId → Type 0) → List Part → Type 0
+AllParts P [] = Unit {0}
+AllParts P (q ∷ qs) = OfPart P q.node q.role × AllParts P qs
+
+each_part : (P : Role → ExprId → Type 0) (qs : List Part) → AllParts P qs → (k : ℕ) (role : Role) (x : ExprId) → slice_get qs k ≡ Some (expr_part role x) → P role x
+each_part P [] h k role x at = absurd (cc)
+each_part P (q ∷ qs) h zero role x at = (let one : q ≡ expr_part role x = cc in subst (λ (r : Part). OfPart P r.node r.role) one h.0)
+each_part P (q ∷ qs) h (suc k) role x at = each_part P qs h.1 k role x at
+
+-- no earlier alternative of the node has this type, where none of its parts is one
+pub no_other : (body : RawBody) (t : InferenceResult) (n : ExprId) (role : Role) (u : Ty) → AllParts (λ r x. IsBefore r role → HasTy t x u → ⊥) (parts body (inner (node.ExprId n))) → IsOfOther body t n role u → ⊥
+no_other body t n role u h o = each_part (λ r x. IsBefore r role → HasTy t x u → ⊥) (parts body (inner (node.ExprId n))) h o.at_part o.other o.expr o.stands o.is_before o.has
 
 -- ---- entries
 
@@ -122,10 +179,35 @@ each_entry P (None ∷ xs) h (suc n) x at = each_entry P xs h n x at
 each_entry P (Some y ∷ xs) h zero x at = subst P (only y x at) h.0
 each_entry P (Some y ∷ xs) h (suc n) x at = each_entry P xs h.1 n x at
 
+-- each entry that is there has a property at its position
+abbrev pub AllPlaced : {A : Type 0} → (ℕ → A → Type 0) → List (Option A) → Type 0
+AllPlaced P [] = Unit {0}
+AllPlaced P (None ∷ xs) = AllPlaced (λ k. P (suc k)) xs
+AllPlaced P (Some x ∷ xs) = P 0 x × AllPlaced (λ k. P (suc k)) xs
+
+pub each_placed : {A : Type 0} (P : ℕ → A → Type 0) (xs : List (Option A)) → AllPlaced P xs → (n : ℕ) (x : A) → At xs n x → P n x
+each_placed P [] h n x at = absurd (cc)
+each_placed P (None ∷ xs) h zero x at = absurd (cc)
+each_placed P (None ∷ xs) h (suc n) x at = each_placed (λ k. P (suc k)) xs h n x at
+each_placed P (Some y ∷ xs) h zero x at = subst (P 0) (only y x at) h.0
+each_placed P (Some y ∷ xs) h (suc n) x at = each_placed (λ k. P (suc k)) xs h.1 n x at
+
+-- a table without mismatches at expressions lists none at any of these
+pub nowhere : (t : InferenceResult) → AllEntries (λ x. ⊥) t.expr_mismatches → (es : List ExprId) → AnyMismatch t es → ⊥
+nowhere t h [] m = m
+nowhere t h (x ∷ xs) (inl m) = each_entry (λ y. ⊥) t.expr_mismatches h x.0 m.0 m.1
+nowhere t h (x ∷ xs) (inr m) = nowhere t h xs m
+
 -- ---- types
 
 pub closed_uint : (i : UintTy) → IsClosed (ty.Uint i)
 closed_uint i = has_hole_integer (integer.Uint i)
+
+pub closed_u8 : IsClosed u8
+closed_u8 = closed_uint uint.U8
+
+pub closed_error : IsClosed ty.Error
+closed_error = has_hole_error
 
 pub closed_bool : IsClosed ty.Bool
 closed_bool = has_hole_bool
@@ -136,6 +218,9 @@ closed_unit = has_hole_tuple []
 pub top_uint : (i : UintTy) → out-Ty (ty.Uint i) ≡ Ty-F.Uint i
 top_uint i = ap out-Ty (sym (ty.rolls-Uint i)) ∙ out-roll-Ty (Ty-F.Uint i)
 
+pub top_int : (i : IntTy) → out-Ty (ty.Int i) ≡ Ty-F.Int i
+top_int i = ap out-Ty (sym (ty.rolls-Int i)) ∙ out-roll-Ty (Ty-F.Int i)
+
 pub top_bool : out-Ty ty.Bool ≡ Ty-F.Bool
 top_bool = ap out-Ty (sym ty.rolls-Bool) ∙ out-roll-Ty Ty-F.Bool
 
@@ -145,14 +230,26 @@ top_error = ap out-Ty (sym ty.rolls-Error) ∙ out-roll-Ty Ty-F.Error
 pub top_tuple : (ts : List Ty) → out-Ty (ty.Tuple ts) ≡ Ty-F.Tuple ts
 top_tuple ts = ap out-Ty (sym (ty.rolls-Tuple ts)) ∙ out-roll-Ty (Ty-F.Tuple ts)
 
+pub u8_is_no_u16 : u8 ≡ u16 → ⊥
+u8_is_no_u16 h = (let k : Ty-F.Uint uint.U8 ≡ Ty-F.Uint uint.U16 = sym (top_uint uint.U8) ∙ (ap out-Ty h ∙ top_uint uint.U16) in cc)
+
+pub u8_is_no_error : u8 ≡ ty.Error → ⊥
+u8_is_no_error h = (let k : Ty-F.Uint uint.U8 ≡ Ty-F.Error = sym (top_uint uint.U8) ∙ (ap out-Ty h ∙ top_error) in cc)
+
+pub u8_is_no_tuple : (ts : List Ty) → u8 ≡ ty.Tuple ts → ⊥
+u8_is_no_tuple ts h = (let k : Ty-F.Uint uint.U8 ≡ Ty-F.Tuple ts = sym (top_uint uint.U8) ∙ (ap out-Ty h ∙ top_tuple ts) in cc)
+
 pub u8_is_no_bool : u8 ≡ ty.Bool → ⊥
 u8_is_no_bool h = (let k : Ty-F.Uint uint.U8 ≡ Ty-F.Bool = sym (top_uint uint.U8) ∙ (ap out-Ty h ∙ top_bool) in cc)
 
 pub u8_is_no_unit : u8 ≡ ty.Tuple [] → ⊥
-u8_is_no_unit h = (let k : Ty-F.Uint uint.U8 ≡ Ty-F.Tuple [] = sym (top_uint uint.U8) ∙ (ap out-Ty h ∙ top_tuple []) in cc)
+u8_is_no_unit = u8_is_no_tuple []
 
 pub bool_is_no_error : ty.Bool ≡ ty.Error → ⊥
 bool_is_no_error h = (let k : Ty-F.Bool ≡ Ty-F.Error = sym top_bool ∙ (ap out-Ty h ∙ top_error) in cc)
+
+pub bool_is_no_unit : ty.Bool ≡ ty.Tuple [] → ⊥
+bool_is_no_unit h = (let k : Ty-F.Bool ≡ Ty-F.Tuple [] = sym top_bool ∙ (ap out-Ty h ∙ top_tuple []) in cc)
 
 -- ---- types that differ, labels or not
 
@@ -161,3 +258,9 @@ u8_differs_bool h = u8_is_no_bool (same_carried u8 ty.Bool (carried_integer (int
 
 pub u8_differs_unit : Same u8 (ty.Tuple []) → ⊥
 u8_differs_unit h = u8_is_no_unit (same_carried u8 (ty.Tuple []) (carried_integer (integer.Uint uint.U8)) (carried_tuple []) h)
+
+pub u8_differs_u16 : Same u8 u16 → ⊥
+u8_differs_u16 h = u8_is_no_u16 (same_carried u8 u16 (carried_integer (integer.Uint uint.U8)) (carried_integer (integer.Uint uint.U16)) h)
+
+pub bool_differs_unit : Same ty.Bool (ty.Tuple []) → ⊥
+bool_differs_unit h = bool_is_no_unit (same_carried ty.Bool (ty.Tuple []) carried_bool (carried_tuple []) h)

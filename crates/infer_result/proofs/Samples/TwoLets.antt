@@ -1,6 +1,5 @@
 -- `fn f() { let x: bool = 1u8; let y: u8 = true; }`: two mistakes, each with its mismatch.
-use Rattle.std.proofs.Common.{ℕ, zero, suc, ◌+◌, ◌<◌, ◌≡◌, inl, inr, true, List, [], ◌∷◌, refl, sym, ap, subst, ◌∙◌, arith, Option, Some, None, slice_get}
-use Rattle.hir_types.specs.declared.ids.TypeRefId.{TypeRefId}
+use Rattle.std.proofs.Common.{◌+◌, ◌<◌, ◌≡◌, inl, inr, true, List, [], ◌∷◌, refl, sym, ap, ◌∙◌, arith, Option, Some, None, slice_get}
 use Rattle.hir_types.specs.declared.ids.ExprOrPatId.TheVariants as node
 use Rattle.hir_types.specs.declared.ty.Ty.{Ty}
 use Rattle.hir_types.specs.declared.ty.Ty.TheVariants as ty
@@ -21,17 +20,15 @@ use Rattle.hir_facts.specs.Order.{initializer, the_body, inner, IsSchedule, star
 use Rattle.infer_result.specs.declared.result.InferenceResult.{InferenceResult}
 use Rattle.infer_result.specs.declared.result.TypeMismatch.{TypeMismatch}
 use Rattle.infer_result.specs.declared.modes.BindingMode.TheVariants as mode
-use Rattle.infer_result.specs.Table.{At, BindingTy, mismatch}
+use Rattle.infer_result.specs.Table.{BindingTy, mismatch}
 use Rattle.infer_result.specs.Places.{Given, Demand}
 use Rattle.infer_result.specs.Rules.Expressions.{ObeysOrMismatch}
 use Rattle.infer_result.specs.Rules.Patterns.{PatRule}
+use Rattle.infer_result.specs.Truth.Mismatch.{IsTruePatMismatch}
 use Rattle.infer_result.specs.Made.{IsMisfit, IsMade}
 use Rattle.infer_result.specs.Typed.{IsTyped}
 use Rattle.infer_result.specs.Derived.{typed_by_schedule}
-use Rattle.infer_result.proofs.Samples.Small.{e, p, b, u8, one_u8, plain, body_of, each_below, each_node, apart_by, only, each_entry, closed_uint, closed_bool, closed_unit, u8_differs_bool}
-
-abbrev w : ℕ → TypeRefId
-w n = record { 0 = n }
+use Rattle.infer_result.proofs.Samples.Small.{e, p, b, w, u8, one_u8, plain, body_of, each_below, each_node, apart_by, only, each_entry, each_placed, closed_u8, closed_bool, closed_unit, u8_differs_bool}
 
 abbrev types : List RawType
 types = type.Bool ∷ type.Integer (integer.Uint uint.U8) ∷ []
@@ -75,52 +72,44 @@ table_of mismatches = record {
   type_of_binding = Some ty.Bool ∷ Some u8 ∷ [];
   binding_modes = Some mode.Move ∷ Some mode.Move ∷ [];
   expr_mismatches = mismatches;
+  pat_mismatches = None ∷ None ∷ [];
 }
 
 abbrev right : InferenceResult
 right = table_of (Some (mismatch ty.Bool u8) ∷ Some (mismatch u8 ty.Bool) ∷ None ∷ [])
 
-closed_u8 : IsClosed u8
-closed_u8 = closed_uint uint.U8
-
 block_obeys : ObeysOrMismatch given right (e 2)
 block_obeys =
-    rw (first_written, second_written) ((((u8, refl, inr refl), refl), (((ty.Bool, refl, inr refl), refl), tt)), (unit, refl, inl refl))
+    rw (first_written, second_written)
+    ((((u8, refl, inr (mismatch ty.Bool u8, refl)), (ty.Bool, refl, inl refl)), (((ty.Bool, refl, inr (mismatch u8 ty.Bool, refl)), (u8, refl, inl refl)), tt)), (unit, refl, inl refl))
 
 right_made : IsMade given right
 right_made = record {
-  of_body = record { exprs = refl; pats = refl; bindings = refl; modes = refl; mismatches = refl };
+  of_body = record { exprs = refl; pats = refl; bindings = refl; modes = refl; mismatches = refl; pat_mismatches = refl };
   closed = record {
     exprs = each_entry IsClosed right.type_of_expr (closed_u8, (closed_bool, (closed_unit, tt)));
     pats = each_entry IsClosed right.type_of_pat (closed_bool, (closed_u8, tt));
     bindings = each_entry IsClosed right.type_of_binding (closed_bool, (closed_u8, tt));
     expected = each_entry (λ x. IsClosed x.expected) right.expr_mismatches (closed_bool, (closed_u8, tt));
     actual = each_entry (λ x. IsClosed x.actual) right.expr_mismatches (closed_u8, (closed_bool, tt));
+    pat_expected = each_entry (λ x. IsClosed x.expected) right.pat_mismatches tt;
+    pat_actual = each_entry (λ x. IsClosed x.actual) right.pat_mismatches tt;
   };
   clauses = λ x h. each_below (λ k. ObeysOrMismatch given right (e k)) 3 x.0 (((tt, (u8, refl, refl)), (ty.Bool, refl, refl)), block_obeys) h;
-  kinds = λ x h. each_below (λ k. PatRule right (p k) (slice_get body.pats k)) 2 x.0 ((tt, (ty.Bool, refl, refl, refl)), (u8, refl, refl, refl)) h;
+  kinds = λ x h. each_below (λ k. PatRule given right (p k) (slice_get body.pats k)) 2 x.0 ((tt, (ty.Bool, refl, refl, refl)), (u8, refl, refl, refl)) h;
   params = λ i q s found is. absurd (cc);
   bindings = λ v h. each_below (λ k. (s : Ty) × BindingTy right (b k) s) 2 v.0 ((tt, (ty.Bool, refl)), (u8, refl)) h;
   body_clause = (unit, refl, inl refl);
-  misfits = λ x m at. misfit x.0 m at;
-  demands = λ x m at. demand x.0 m at;
+  misfits = λ x.
+      each_placed (λ k. IsMisfit given right (e k)) right.expr_mismatches
+      (record { differ = λ same. u8_differs_bool (sym same); actual = inl refl }, (record { differ = u8_differs_bool; actual = inl refl }, tt)) x.0;
+  demands = λ x.
+      each_placed (λ k (m : TypeMismatch). Demand given right (e k) m.expected) right.expr_mismatches (
+        inl (record { parent = inner (node.ExprId (e 2)); at_part = 0; role = initializer (Some (w 0)); stands = record { node_is = omega arith; part = refl }; asks = sym first_written }),
+        (inl (record { parent = inner (node.ExprId (e 2)); at_part = 2; role = initializer (Some (w 1)); stands = record { node_is = omega arith; part = refl }; asks = sym second_written }), tt),
+      ) x.0;
+  pat_truths = λ x. each_entry (IsTruePatMismatch given right x) right.pat_mismatches tt x.0;
 }
-  where
-    misfit : (k : ℕ) (m : TypeMismatch) → At right.expr_mismatches k m → IsMisfit given right (e k) m
-    misfit zero m at = subst (λ y. IsMisfit given right (e 0) y) (only (mismatch ty.Bool u8) m at) (record { differ = λ same. u8_differs_bool (sym same); actual = inl refl })
-    misfit (suc zero) m at = subst (λ y. IsMisfit given right (e 1) y) (only (mismatch u8 ty.Bool) m at) (record { differ = u8_differs_bool; actual = inl refl })
-    misfit (suc (suc zero)) m at = absurd (cc)
-    misfit (suc (suc (suc k))) m at = absurd (cc)
-
-    demand : (k : ℕ) (m : TypeMismatch) → At right.expr_mismatches k m → Demand given right (e k) m.expected
-    demand zero m at =
-        subst (λ (y : TypeMismatch). Demand given right (e 0) y.expected) (only (mismatch ty.Bool u8) m at)
-        (record { parent = inner (node.ExprId (e 2)); at_part = 0; role = initializer (Some (w 0)); stands = record { node_is = omega arith; part = refl }; asks = sym first_written })
-    demand (suc zero) m at =
-        subst (λ (y : TypeMismatch). Demand given right (e 1) y.expected) (only (mismatch u8 ty.Bool) m at)
-        (record { parent = inner (node.ExprId (e 2)); at_part = 2; role = initializer (Some (w 1)); stands = record { node_is = omega arith; part = refl }; asks = sym second_written })
-    demand (suc (suc zero)) m at = absurd (cc)
-    demand (suc (suc (suc k))) m at = absurd (cc)
 
 pub right_typed : IsTyped given right
 right_typed = typed_by_schedule given right schedule is_schedule right_made
@@ -133,4 +122,4 @@ one_left_out h =
     (let c = h.clauses (e 2) (omega arith) in
     let at = c.0.1.0.0 in
     let a : ty.Bool ≡ at.0 = only ty.Bool at.0 at.1 in
-    elim at.2 [ inl same ↦ u8_differs_bool (sym (ap erased a ∙ (same ∙ ap erased second_written))) | inr m ↦ (let clash = m in cc) ])
+    elim at.2 [ inl same ↦ u8_differs_bool (sym (ap erased a ∙ (same ∙ ap erased second_written))) | inr m ↦ (let clash = m.1 in cc) ])

@@ -1,9 +1,8 @@
 -- `fn f() -> (u8, bool) { (1u8, 2u8) }`: the tuple has the expected components, and the mismatch stands at the second part.
-use Rattle.std.proofs.Common.{ℕ, zero, suc, ◌+◌, ◌<◌, ◌≡◌, inl, inr, List, [], ◌∷◌, refl, sym, subst, ◌∙◌, arith, Option, Some, None}
+use Rattle.std.proofs.Common.{◌+◌, ◌<◌, ◌≡◌, inl, inr, List, [], ◌∷◌, refl, sym, ◌∙◌, arith, Option, Some, None}
 use Rattle.hir_types.specs.declared.ids.ExprOrPatId.TheVariants as node
 use Rattle.hir_types.specs.declared.ty.Ty.{Ty}
 use Rattle.hir_types.specs.declared.ty.Ty.TheVariants as ty
-use Rattle.hir_types.specs.declared.ty.UintTy.TheVariants as uint
 use Rattle.hir_facts.specs.declared.raw.RawExpr.TheVariants as expr
 use Rattle.hir_facts.specs.declared.raw.RawBody.{RawBody}
 use Rattle.hir_facts.specs.declared.schedule.Schedule.{Schedule}
@@ -12,13 +11,14 @@ use Rattle.hir_types.specs.Layers.{has_hole_tuple}
 use Rattle.hir_facts.specs.Order.{element, the_body, inner, IsSchedule, start, end, after, Fits, parts}
 use Rattle.infer_result.specs.declared.result.InferenceResult.{InferenceResult}
 use Rattle.infer_result.specs.declared.result.TypeMismatch.{TypeMismatch}
-use Rattle.infer_result.specs.Table.{At, mismatch}
+use Rattle.infer_result.specs.Table.{mismatch}
 use Rattle.infer_result.specs.Places.{Given, Demand}
 use Rattle.infer_result.specs.Rules.Expressions.{ObeysOrMismatch}
+use Rattle.infer_result.specs.Truth.Mismatch.{IsTruePatMismatch}
 use Rattle.infer_result.specs.Made.{IsMisfit, IsMade}
 use Rattle.infer_result.specs.Typed.{IsTyped}
 use Rattle.infer_result.specs.Derived.{typed_by_schedule}
-use Rattle.infer_result.proofs.Samples.Small.{e, u8, one_u8, body_of, each_below, each_node, apart_by, only, each_entry, closed_uint, closed_bool, u8_differs_bool}
+use Rattle.infer_result.proofs.Samples.Small.{e, u8, one_u8, body_of, each_below, each_node, apart_by, each_entry, each_placed, closed_u8, closed_bool, u8_differs_bool}
 
 abbrev pair : Ty
 pair = ty.Tuple (u8 ∷ ty.Bool ∷ [])
@@ -51,53 +51,40 @@ table_of mismatches = record {
   type_of_binding = [];
   binding_modes = [];
   expr_mismatches = mismatches;
+  pat_mismatches = [];
 }
 
 abbrev right : InferenceResult
 right = table_of (None ∷ Some (mismatch ty.Bool u8) ∷ None ∷ None ∷ [])
-
-closed_u8 : IsClosed u8
-closed_u8 = closed_uint uint.U8
 
 closed_pair : IsClosed pair
 closed_pair = has_hole_tuple (u8 ∷ ty.Bool ∷ []) ∙ rw (closed_u8, closed_bool) refl
 
 right_made : IsMade given right
 right_made = record {
-  of_body = record { exprs = refl; pats = refl; bindings = refl; modes = refl; mismatches = refl };
+  of_body = record { exprs = refl; pats = refl; bindings = refl; modes = refl; mismatches = refl; pat_mismatches = refl };
   closed = record {
     exprs = each_entry IsClosed right.type_of_expr (closed_u8, (closed_u8, (closed_pair, (closed_pair, tt))));
     pats = λ n s h. absurd (cc);
     bindings = λ n s h. absurd (cc);
     expected = each_entry (λ x. IsClosed x.expected) right.expr_mismatches (closed_bool, tt);
     actual = each_entry (λ x. IsClosed x.actual) right.expr_mismatches (closed_u8, tt);
+    pat_expected = each_entry (λ x. IsClosed x.expected) right.pat_mismatches tt;
+    pat_actual = each_entry (λ x. IsClosed x.actual) right.pat_mismatches tt;
   };
   clauses = λ x h.
       each_below (λ k. ObeysOrMismatch given right (e k)) 4 x.0
-      ((((tt, (u8, refl, refl)), (u8, refl, refl)), (u8 ∷ ty.Bool ∷ [], refl, ((u8, refl, inl refl), ((u8, refl, inr refl), tt)))), (tt, (pair, refl, (pair, refl, inl refl)))) h;
+      ((((tt, (u8, refl, refl)), (u8, refl, refl)), (u8 ∷ ty.Bool ∷ [], refl, ((u8, refl, inl refl), ((u8, refl, inr (mismatch ty.Bool u8, refl)), tt)))), (tt, (pair, refl, (pair, refl, inl refl)))) h;
   kinds = λ x h. absurd (omega arith);
   params = λ i q s found is. absurd (cc);
   bindings = λ v h. absurd (omega arith);
   body_clause = (pair, refl, inl refl);
-  misfits = λ x m at. misfit x.0 m at;
-  demands = λ x m at. demand x.0 m at;
+  misfits = λ x. each_placed (λ k. IsMisfit given right (e k)) right.expr_mismatches (record { differ = λ same. u8_differs_bool (sym same); actual = inl refl }, tt) x.0;
+  demands = λ x.
+      each_placed (λ k (m : TypeMismatch). Demand given right (e k) m.expected) right.expr_mismatches
+      (inl (record { parent = inner (node.ExprId (e 2)); at_part = 1; role = element 1; stands = record { node_is = omega arith; part = refl }; asks = (u8 ∷ ty.Bool ∷ [], refl, refl) }), tt) x.0;
+  pat_truths = λ x. each_entry (IsTruePatMismatch given right x) right.pat_mismatches tt x.0;
 }
-  where
-    misfit : (k : ℕ) (m : TypeMismatch) → At right.expr_mismatches k m → IsMisfit given right (e k) m
-    misfit zero m at = absurd (cc)
-    misfit (suc zero) m at = subst (λ y. IsMisfit given right (e 1) y) (only (mismatch ty.Bool u8) m at) (record { differ = λ same. u8_differs_bool (sym same); actual = inl refl })
-    misfit (suc (suc zero)) m at = absurd (cc)
-    misfit (suc (suc (suc zero))) m at = absurd (cc)
-    misfit (suc (suc (suc (suc k)))) m at = absurd (cc)
-
-    demand : (k : ℕ) (m : TypeMismatch) → At right.expr_mismatches k m → Demand given right (e k) m.expected
-    demand zero m at = absurd (cc)
-    demand (suc zero) m at =
-        subst (λ (y : TypeMismatch). Demand given right (e 1) y.expected) (only (mismatch ty.Bool u8) m at)
-        (record { parent = inner (node.ExprId (e 2)); at_part = 1; role = element 1; stands = record { node_is = omega arith; part = refl }; asks = (u8 ∷ ty.Bool ∷ [], refl, refl) })
-    demand (suc (suc zero)) m at = absurd (cc)
-    demand (suc (suc (suc zero))) m at = absurd (cc)
-    demand (suc (suc (suc (suc k)))) m at = absurd (cc)
 
 pub right_typed : IsTyped given right
 right_typed = typed_by_schedule given right schedule is_schedule right_made

@@ -1,9 +1,8 @@
 -- `fn f() -> u8 { true }`: its table with the mismatch at `true` is typed; tables with another mismatch, or none, are not.
-use Rattle.std.proofs.Common.{ℕ, zero, suc, ◌+◌, ◌<◌, ◌≡◌, inl, inr, true, List, [], ◌∷◌, refl, sym, ap, subst, ◌∙◌, arith, Option, Some, None}
+use Rattle.std.proofs.Common.{◌+◌, ◌<◌, ◌≡◌, inl, inr, true, List, [], ◌∷◌, refl, sym, ap, ◌∙◌, arith, Option, Some, None}
 use Rattle.hir_types.specs.declared.ids.ExprOrPatId.TheVariants as node
 use Rattle.hir_types.specs.declared.ty.Ty.{Ty}
 use Rattle.hir_types.specs.declared.ty.Ty.TheVariants as ty
-use Rattle.hir_types.specs.declared.ty.UintTy.TheVariants as uint
 use Rattle.hir_facts.specs.declared.raw.RawLiteral.TheVariants as literal
 use Rattle.hir_facts.specs.declared.raw.RawExpr.TheVariants as expr
 use Rattle.hir_facts.specs.declared.raw.RawBody.{RawBody}
@@ -12,13 +11,14 @@ use Rattle.hir_types.specs.Erasure.{erased, IsClosed}
 use Rattle.hir_facts.specs.Order.{root, tail, the_body, inner, IsSchedule, start, end, after, Fits, parts}
 use Rattle.infer_result.specs.declared.result.InferenceResult.{InferenceResult}
 use Rattle.infer_result.specs.declared.result.TypeMismatch.{TypeMismatch}
-use Rattle.infer_result.specs.Table.{At, mismatch}
+use Rattle.infer_result.specs.Table.{mismatch}
 use Rattle.infer_result.specs.Places.{Given, Demand}
 use Rattle.infer_result.specs.Rules.Expressions.{ObeysOrMismatch}
+use Rattle.infer_result.specs.Truth.Mismatch.{IsTruePatMismatch}
 use Rattle.infer_result.specs.Made.{IsMisfit, IsMade}
 use Rattle.infer_result.specs.Typed.{IsTyped}
 use Rattle.infer_result.specs.Derived.{typed_by_schedule}
-use Rattle.infer_result.proofs.Samples.Small.{e, u8, body_of, each_below, each_node, apart_by, asked, only, each_entry, closed_uint, closed_bool, u8_is_no_bool, u8_differs_bool, bool_is_no_error}
+use Rattle.infer_result.proofs.Samples.Small.{e, u8, body_of, each_below, each_node, apart_by, asked, only, each_entry, each_placed, closed_u8, closed_bool, u8_is_no_bool, u8_differs_bool, bool_is_no_error}
 
 abbrev body : RawBody
 body = body_of (expr.Lit (literal.Bool true) ∷ expr.Block None [] (Some (e 0)) ∷ []) 1 [] []
@@ -48,42 +48,36 @@ table_of types mismatches = record {
   type_of_binding = [];
   binding_modes = [];
   expr_mismatches = mismatches;
+  pat_mismatches = [];
 }
 
 abbrev right : InferenceResult
 right = table_of (Some ty.Bool ∷ Some u8 ∷ []) (Some (mismatch u8 ty.Bool) ∷ None ∷ [])
 
 demanded : Demand given right (e 0) u8
-demanded = record { parent = inner (node.ExprId (e 1)); at_part = 0; role = tail; stands = record { node_is = omega arith; part = refl }; asks = refl }
+demanded = inl (record { parent = inner (node.ExprId (e 1)); at_part = 0; role = tail; stands = record { node_is = omega arith; part = refl }; asks = refl })
 
 right_made : IsMade given right
 right_made = record {
-  of_body = record { exprs = refl; pats = refl; bindings = refl; modes = refl; mismatches = refl };
+  of_body = record { exprs = refl; pats = refl; bindings = refl; modes = refl; mismatches = refl; pat_mismatches = refl };
   closed = record {
-    exprs = each_entry IsClosed right.type_of_expr (closed_bool, (closed_uint uint.U8, tt));
+    exprs = each_entry IsClosed right.type_of_expr (closed_bool, (closed_u8, tt));
     pats = λ n s h. absurd (cc);
     bindings = λ n s h. absurd (cc);
-    expected = each_entry (λ x. IsClosed x.expected) right.expr_mismatches (closed_uint uint.U8, tt);
+    expected = each_entry (λ x. IsClosed x.expected) right.expr_mismatches (closed_u8, tt);
     actual = each_entry (λ x. IsClosed x.actual) right.expr_mismatches (closed_bool, tt);
+    pat_expected = each_entry (λ x. IsClosed x.expected) right.pat_mismatches tt;
+    pat_actual = each_entry (λ x. IsClosed x.actual) right.pat_mismatches tt;
   };
-  clauses = λ x h. each_below (λ k. ObeysOrMismatch given right (e k)) 2 x.0 ((tt, (ty.Bool, refl, refl)), (tt, (u8, refl, (ty.Bool, refl, inr refl)))) h;
+  clauses = λ x h. each_below (λ k. ObeysOrMismatch given right (e k)) 2 x.0 ((tt, (ty.Bool, refl, refl)), (tt, (u8, refl, (ty.Bool, refl, inr (mismatch u8 ty.Bool, refl))))) h;
   kinds = λ x h. absurd (omega arith);
   params = λ i q s found is. absurd (cc);
   bindings = λ v h. absurd (omega arith);
   body_clause = (u8, refl, inl refl);
-  misfits = λ x m at. misfit x.0 m at;
-  demands = λ x m at. demand x.0 m at;
+  misfits = λ x. each_placed (λ k. IsMisfit given right (e k)) right.expr_mismatches (record { differ = u8_differs_bool; actual = inl refl }, tt) x.0;
+  demands = λ x. each_placed (λ k (m : TypeMismatch). Demand given right (e k) m.expected) right.expr_mismatches (demanded, tt) x.0;
+  pat_truths = λ x. each_entry (IsTruePatMismatch given right x) right.pat_mismatches tt x.0;
 }
-  where
-    misfit : (k : ℕ) (m : TypeMismatch) → At right.expr_mismatches k m → IsMisfit given right (e k) m
-    misfit zero m at = subst (λ y. IsMisfit given right (e 0) y) (only (mismatch u8 ty.Bool) m at) (record { differ = u8_differs_bool; actual = inl refl })
-    misfit (suc zero) m at = absurd (cc)
-    misfit (suc (suc k)) m at = absurd (cc)
-
-    demand : (k : ℕ) (m : TypeMismatch) → At right.expr_mismatches k m → Demand given right (e k) m.expected
-    demand zero m at = subst (λ (y : TypeMismatch). Demand given right (e 0) y.expected) (only (mismatch u8 ty.Bool) m at) demanded
-    demand (suc zero) m at = absurd (cc)
-    demand (suc (suc k)) m at = absurd (cc)
 
 pub right_typed : IsTyped given right
 right_typed = typed_by_schedule given right schedule is_schedule right_made
@@ -96,19 +90,19 @@ none h =
     (let c = h.clauses (e 1) (omega arith) in
     let s : u8 ≡ c.1.0 = only u8 c.1.0 c.1.1 in
     let a : ty.Bool ≡ c.1.2.0 = only ty.Bool c.1.2.0 c.1.2.1 in
-    elim c.1.2.2 [ inl same ↦ u8_differs_bool (ap erased s ∙ sym (ap erased a ∙ same)) | inr m ↦ (let clash = m in cc) ])
+    elim c.1.2.2 [ inl same ↦ u8_differs_bool (ap erased s ∙ sym (ap erased a ∙ same)) | inr m ↦ (let clash = m.1 in cc) ])
 
 -- the types exchanged
 pub exchanged : IsTyped given (table_of (Some ty.Bool ∷ Some u8 ∷ []) (Some (mismatch ty.Bool u8) ∷ None ∷ [])) → ⊥
 exchanged h =
     (let m = h.truths (e 0) (mismatch ty.Bool u8) refl in
-    elim m.actual [ inl has ↦ u8_is_no_bool (sym (only ty.Bool u8 has)) | inr block ↦ (let is = block.0.is_block in cc) ])
+    elim m.actual [ inl has ↦ u8_is_no_bool (sym (only ty.Bool u8 has)) | inr ends ↦ elim ends.0 [ inl block ↦ (let is = block.is_block in cc) | inr branch ↦ (let is = branch.is_if in cc) ] ])
 
 -- one more at the root, which has the type that is asked of it
 pub one_more : IsTyped given (table_of (Some ty.Bool ∷ Some u8 ∷ []) (Some (mismatch u8 ty.Bool) ∷ Some (mismatch ty.Bool u8) ∷ [])) → ⊥
 one_more h =
     (let m = h.truths (e 1) (mismatch ty.Bool u8) refl in
-    let a = asked given schedule is_schedule _ (e 1) the_body 0 root ty.Bool (record { node_is = tt; part = refl }) m.demand in
+    let a = asked given schedule is_schedule _ (e 1) the_body 0 root ty.Bool (record { node_is = tt; part = refl }) (λ r. (let is = r.is_if in cc)) m.demand in
     u8_is_no_bool (sym a.1))
 
 -- nothing but `{unknown}`

@@ -9,30 +9,31 @@ use Rattle.hir_facts.specs.declared.raw.RawStmt.TheVariants as stmt
 use Rattle.hir_types.specs.Types.{unit}
 use Rattle.hir_facts.specs.Types.{written_type}
 use Rattle.infer_result.specs.declared.result.InferenceResult.{InferenceResult}
-use Rattle.infer_result.specs.Table.{HasTy, PatTy}
+use Rattle.infer_result.specs.Table.{HasTy}
 use Rattle.infer_result.specs.Places.{Given}
+use Rattle.infer_result.specs.Rules.Placing.{Placing}
 
 -- the initializer at the written type and the pattern at that; without one the pattern at the initializer's type
-abbrev pub LetRule : (ExprId → Ty → Type 0) → Given → InferenceResult → PatId → Option TypeRefId → Option ExprId → Type 0
-LetRule At g t p (Some w) (Some e) = At e (written_type g.types w) × PatTy t p (written_type g.types w)
-LetRule At g t p (Some w) None = PatTy t p (written_type g.types w)
-LetRule At g t p None (Some e) = (s : Ty) × HasTy t e s × PatTy t p s
-LetRule At g t p None None = Unit {0}
+abbrev pub LetRule : Placing → Given → InferenceResult → PatId → Option TypeRefId → Option ExprId → Type 0
+LetRule P g t p (Some w) (Some e) = P.at e (written_type g.types w) × P.pattern p (written_type g.types w)
+LetRule P g t p (Some w) None = P.pattern p (written_type g.types w)
+LetRule P g t p None (Some e) = (s : Ty) × HasTy t e s × P.pattern p s
+LetRule P g t p None None = Unit {0}
 
 -- an expression without semicolon is at `()`
-abbrev pub StmtRule : (ExprId → Ty → Type 0) → Given → InferenceResult → RawStmt → Type 0
-StmtRule At g t (stmt.Let p w init other) = LetRule At g t p w init
-StmtRule At g t (stmt.Expr e true) = Unit {0}
-StmtRule At g t (stmt.Expr e false) = At e unit
+abbrev pub StmtRule : Placing → Given → InferenceResult → RawStmt → Type 0
+StmtRule P g t (stmt.Let p w init other) = LetRule P g t p w init
+StmtRule P g t (stmt.Expr e true) = Unit {0}
+StmtRule P g t (stmt.Expr e false) = P.at e unit
 
-abbrev pub StmtsRule : (ExprId → Ty → Type 0) → Given → InferenceResult → List RawStmt → Type 0
-StmtsRule At g t [] = Unit {0}
-StmtsRule At g t (s ∷ ss) = StmtRule At g t s × StmtsRule At g t ss
+abbrev pub StmtsRule : Placing → Given → InferenceResult → List RawStmt → Type 0
+StmtsRule P g t [] = Unit {0}
+StmtsRule P g t (s ∷ ss) = StmtRule P g t s × StmtsRule P g t ss
 
--- a block without tail is `()`, as `Ends` says
-abbrev pub TailRule : (ExprId → Ty → Type 0) → (Ty → Type 0) → Option ExprId → Ty → Type 0
-TailRule At Ends None s = Ends s
-TailRule At Ends (Some e) s = At e s
+-- a block without tail is `()`
+abbrev pub TailRule : Placing → ExprId → Option ExprId → Ty → Type 0
+TailRule P n None s = P.no_tail n s
+TailRule P n (Some e) s = P.at e s
 
-abbrev pub BlockRule : (ExprId → Ty → Type 0) → (Ty → Type 0) → Given → InferenceResult → ExprId → List RawStmt → Option ExprId → Type 0
-BlockRule At Ends g t n stmts last = StmtsRule At g t stmts × ((s : Ty) × HasTy t n s × TailRule At Ends last s)
+abbrev pub BlockRule : Placing → Given → InferenceResult → ExprId → List RawStmt → Option ExprId → Type 0
+BlockRule P g t n stmts last = StmtsRule P g t stmts × ((s : Ty) × HasTy t n s × TailRule P n last s)

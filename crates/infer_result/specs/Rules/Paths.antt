@@ -9,4 +9,5 @@ use Rattle.infer_result.specs.Table.{HasTy, BindingTy}
 abbrev pub PathRule : InferenceResult → ExprId → RawPath → Type 0
 PathRule t e (path.Local v) = (s : Ty) × HasTy t e s × BindingTy t v s
 PathRule t e (path.Function f) = ⊥
+PathRule t e (path.Ctor named) = ⊥
 PathRule t e path.Other = ⊥

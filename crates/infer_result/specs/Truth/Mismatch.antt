@@ -1,6 +1,7 @@
 -- When a mismatch is true.
 use Rattle.std.specs.Prelude.{◌≡◌, ◌⊎◌, List, slice_get, Option, Some, None}
 use Rattle.hir_types.specs.declared.ids.ExprId.{ExprId}
+use Rattle.hir_types.specs.declared.ids.PatId.{PatId}
 use Rattle.hir_types.specs.declared.ids.LabelId.{LabelId}
 use Rattle.hir_types.specs.declared.ty.Ty.{Ty}
 use Rattle.hir_facts.specs.declared.raw.RawStmt.{RawStmt}
@@ -10,8 +11,8 @@ use Rattle.hir_types.specs.Types.{unit}
 use Rattle.hir_types.specs.Erasure.{Same}
 use Rattle.infer_result.specs.declared.result.InferenceResult.{InferenceResult}
 use Rattle.infer_result.specs.declared.result.TypeMismatch.{TypeMismatch}
-use Rattle.infer_result.specs.Table.{HasTy}
-use Rattle.infer_result.specs.Places.{Given, Demand}
+use Rattle.infer_result.specs.Table.{HasTy, PatTy}
+use Rattle.infer_result.specs.Places.{Given, Incoming, Demand}
 use Rattle.infer_result.specs.Upward.{Up, Stated, Leads}
 
 pub record IsBlockWithoutTail (b : RawBody) (e : ExprId) : Type 0 where
@@ -19,9 +20,18 @@ pub record IsBlockWithoutTail (b : RawBody) (e : ExprId) : Type 0 where
   pub stmts : List RawStmt
   pub is_block : slice_get b.exprs e.0 ≡ Some (expr.Block label stmts None)
 
--- the actual type is the expression's, or `()` at a block without tail
+pub record IsIfWithoutElse (b : RawBody) (e : ExprId) : Type 0 where
+  pub condition : ExprId
+  pub branch : ExprId
+  pub is_if : slice_get b.exprs e.0 ≡ Some (expr.If condition branch None)
+
+-- the expression may end without a value
+abbrev pub EndsInUnit : RawBody → ExprId → Type 0
+EndsInUnit b e = IsBlockWithoutTail b e ⊎ IsIfWithoutElse b e
+
+-- the actual type is the expression's, or `()` at a block without tail or an `if` without `else`
 abbrev pub IsActual : Given → InferenceResult → ExprId → Ty → Type 0
-IsActual g t e s = HasTy t e s ⊎ (IsBlockWithoutTail g.body e × (s ≡ unit))
+IsActual g t e s = HasTy t e s ⊎ (EndsInUnit g.body e × (s ≡ unit))
 
 -- The two types differ; the first is what the place asks for, the second what stands there; and
 -- where the node has a type by itself and another is written at its place, no coercion leads from
@@ -31,3 +41,9 @@ pub record IsTrueMismatch (g : Given) (t : InferenceResult) (e : ExprId) (x : Ty
   pub actual : IsActual g t e x.actual
   pub demand : Demand g t e x.expected
   pub no_coercion : (u s : Ty) → Up g e u → Stated g e s → Leads u s → ⊥
+
+-- the two types differ; the first is what comes into the pattern, the second its own
+pub record IsTruePatMismatch (g : Given) (t : InferenceResult) (p : PatId) (x : TypeMismatch) : Type 0 where
+  pub differ : Same x.expected x.actual → ⊥
+  pub actual : PatTy t p x.actual
+  pub incoming : Incoming g t p x.expected

@@ -1,0 +1,176 @@
+-- `fn f(c: bool) -> u8 { if c { 1u8 } else { 1u8 } }`: both branches are at the type of the `if`.
+use Rattle.std.proofs.Common.{◌+◌, ◌<◌, ◌≡◌, inl, inr, true, List, [], ◌∷◌, refl, sym, ap, subst, ◌∙◌, arith, Option, Some, None, slice_get}
+use Rattle.hir_types.specs.declared.ids.ExprOrPatId.TheVariants as node
+use Rattle.hir_types.specs.declared.ty.Ty.{Ty}
+use Rattle.hir_types.specs.declared.ty.Ty.TheVariants as ty
+use Rattle.hir_facts.specs.declared.raw.RawType.{RawType}
+use Rattle.hir_facts.specs.declared.raw.RawType.TheVariants as type
+use Rattle.hir_facts.specs.declared.raw.RawLiteral.TheVariants as literal
+use Rattle.hir_facts.specs.declared.raw.RawPath.TheVariants as path
+use Rattle.hir_facts.specs.declared.raw.RawExpr.{RawExpr}
+use Rattle.hir_facts.specs.declared.raw.RawExpr.TheVariants as expr
+use Rattle.hir_facts.specs.declared.raw.RawPat.TheVariants as pat
+use Rattle.hir_facts.specs.declared.raw.RawBody.{RawBody}
+use Rattle.hir_facts.specs.declared.schedule.Schedule.{Schedule}
+use Rattle.hir_facts.specs.Types.{lowered_within, written_type}
+use Rattle.hir_types.specs.Erasure.{erased, IsClosed}
+use Rattle.hir_facts.specs.Order.{tail, condition, then_branch, the_body, inner, IsSchedule, start, end, after, Fits, parts}
+use Rattle.infer_result.specs.declared.result.InferenceResult.{InferenceResult}
+use Rattle.infer_result.specs.declared.result.TypeMismatch.{TypeMismatch}
+use Rattle.infer_result.specs.declared.modes.BindingMode.TheVariants as mode
+use Rattle.infer_result.specs.Table.{PatTy, BindingTy, mismatch}
+use Rattle.infer_result.specs.Places.{Given, Demand}
+use Rattle.infer_result.specs.Rules.Expressions.{ObeysOrMismatch}
+use Rattle.infer_result.specs.Rules.Patterns.{PatRule}
+use Rattle.infer_result.specs.Truth.Mismatch.{IsTruePatMismatch}
+use Rattle.infer_result.specs.Made.{IsMisfit, IsMade}
+use Rattle.infer_result.specs.Typed.{IsTyped}
+use Rattle.infer_result.specs.Derived.{typed_by_schedule}
+use Rattle.infer_result.proofs.Samples.Small.{e, p, b, w, u8, u16, one_u8, plain, body_with, each_below, each_node, apart_by, asked, one_param, no_other, only, each_entry, nowhere, closed_u8, closed_bool, u8_is_no_u16, u8_is_no_bool, u8_differs_bool}
+
+-- the body with another condition, or another expression after `else`
+abbrev body_of : RawExpr → RawExpr → RawBody
+body_of c other =
+    body_with (p 0 ∷ []) (c ∷ expr.Lit one_u8 ∷ other ∷ expr.If (e 0) (e 1) (Some (e 2)) ∷ expr.Block None [] (Some (e 3)) ∷ []) 4
+    (pat.Bind (b 0) None ∷ []) (plain ∷ [])
+
+abbrev types : List RawType
+types = type.Bool ∷ []
+
+abbrev given_of : RawExpr → RawExpr → Ty → Given
+given_of c other output = record { types = types; body = body_of c other; inputs = w 0 ∷ []; output = output }
+
+abbrev named : RawExpr
+named = expr.Path (path.Local (b 0))
+
+abbrev body : RawBody
+body = body_of named (expr.Lit one_u8)
+
+abbrev given : Given
+given = given_of named (expr.Lit one_u8) u8
+
+written : written_type types (w 0) ≡ ty.Bool
+unfolding lowered_within
+written = refl
+
+abbrev schedule : Schedule
+schedule = record { starts = 4 ∷ 5 ∷ 6 ∷ 3 ∷ 2 ∷ 1 ∷ 0 ∷ []; ends = 5 ∷ 6 ∷ 7 ∷ 7 ∷ 7 ∷ 2 ∷ 7 ∷ []; depths = 3 ∷ 3 ∷ 3 ∷ 2 ∷ 1 ∷ 1 ∷ 0 ∷ [] }
+
+is_schedule : IsSchedule body schedule
+is_schedule = record {
+  starts_size = refl;
+  ends_size = refl;
+  first = refl;
+  fits = each_node body (λ n. Fits body schedule (start body schedule n + 1) (parts body n))
+      ((omega arith, refl, (omega arith, refl, tt)), (((((tt, tt), tt), tt), (omega arith, refl, (omega arith, refl, (omega arith, refl, tt)))), (omega arith, refl, tt)), (tt, tt));
+  ends = each_node body (λ n. after body schedule (start body schedule n + 1) (parts body n) ≡ end body schedule n) (refl, (((((tt, refl), refl), refl), refl), refl), (tt, refl));
+  order = each_node body (λ n. start body schedule n < end body schedule n) (omega arith, (((((tt, omega arith), omega arith), omega arith), omega arith), omega arith), (tt, omega arith));
+  reached = each_node body (λ n. start body schedule n < end body schedule the_body) (omega arith, (((((tt, omega arith), omega arith), omega arith), omega arith), omega arith), (tt, omega arith));
+  apart = apart_by body schedule
+      (the_body ∷ inner (node.PatId (p 0)) ∷ inner (node.ExprId (e 4)) ∷ inner (node.ExprId (e 3)) ∷ inner (node.ExprId (e 0)) ∷ inner (node.ExprId (e 1)) ∷ inner (node.ExprId (e 2)) ∷ [])
+      (refl, (((((tt, refl), refl), refl), refl), refl), (tt, refl));
+}
+
+abbrev table_of : List (Option Ty) → List (Option TypeMismatch) → InferenceResult
+table_of exprs mismatches = record {
+  type_of_expr = exprs;
+  type_of_pat = Some ty.Bool ∷ [];
+  type_of_binding = Some ty.Bool ∷ [];
+  binding_modes = Some mode.Move ∷ [];
+  expr_mismatches = mismatches;
+  pat_mismatches = None ∷ [];
+}
+
+abbrev silent : List (Option TypeMismatch)
+silent = None ∷ None ∷ None ∷ None ∷ None ∷ []
+
+abbrev right_types : List (Option Ty)
+right_types = Some ty.Bool ∷ Some u8 ∷ Some u8 ∷ Some u8 ∷ Some u8 ∷ []
+
+abbrev right : InferenceResult
+right = table_of right_types silent
+
+right_made : IsMade given right
+right_made = record {
+  of_body = record { exprs = refl; pats = refl; bindings = refl; modes = refl; mismatches = refl; pat_mismatches = refl };
+  closed = record {
+    exprs = each_entry IsClosed right.type_of_expr (closed_bool, (closed_u8, (closed_u8, (closed_u8, (closed_u8, tt)))));
+    pats = each_entry IsClosed right.type_of_pat (closed_bool, tt);
+    bindings = each_entry IsClosed right.type_of_binding (closed_bool, tt);
+    expected = each_entry (λ x. IsClosed x.expected) right.expr_mismatches tt;
+    actual = each_entry (λ x. IsClosed x.actual) right.expr_mismatches tt;
+    pat_expected = each_entry (λ x. IsClosed x.expected) right.pat_mismatches tt;
+    pat_actual = each_entry (λ x. IsClosed x.actual) right.pat_mismatches tt;
+  };
+  clauses = λ x h.
+      each_below (λ k. ObeysOrMismatch given right (e k)) 5 x.0
+      (((((tt, (ty.Bool, refl, refl)), (u8, refl, refl)), (u8, refl, refl)), ((ty.Bool, refl, inl refl), (u8, refl, (inl (u8, refl, refl), inl (u8, refl, refl))))), (tt, (u8, refl, (u8, refl, inl refl)))) h;
+  kinds = λ x h. each_below (λ k. PatRule given right (p k) (slice_get body.pats k)) 1 x.0 (tt, (ty.Bool, refl, refl, refl)) h;
+  params = one_param given right (p 0) (w 0) refl refl (subst (PatTy right (p 0)) (sym written) refl);
+  bindings = λ v h. each_below (λ k. (s : Ty) × BindingTy right (b k) s) 1 v.0 (tt, (ty.Bool, refl)) h;
+  body_clause = (u8, refl, inl refl);
+  misfits = λ x. each_entry (IsMisfit given right x) right.expr_mismatches tt x.0;
+  demands = λ x. each_entry (λ m. Demand given right x m.expected) right.expr_mismatches tt x.0;
+  pat_truths = λ x. each_entry (IsTruePatMismatch given right x) right.pat_mismatches tt x.0;
+}
+
+pub right_typed : IsTyped given right
+right_typed = typed_by_schedule given right schedule is_schedule right_made
+
+-- ---- refused
+
+-- a condition that is no `bool`, in silence
+pub wrong_condition : IsTyped (given_of (expr.Lit one_u8) (expr.Lit one_u8) u8) (table_of (Some u8 ∷ Some u8 ∷ Some u8 ∷ Some u8 ∷ Some u8 ∷ []) silent) → ⊥
+wrong_condition h =
+    (let c = (h.clauses (e 3) (omega arith)).0 in
+    let a : u8 ≡ c.0 = only u8 c.0 c.1 in
+    elim c.2 [ inl same ↦ u8_differs_bool (ap erased a ∙ same) | inr m ↦ (let clash = m.1 in cc) ])
+
+-- a branch of another type, in silence
+abbrev silent_branch : InferenceResult
+silent_branch = table_of (Some ty.Bool ∷ Some u8 ∷ Some ty.Bool ∷ Some u8 ∷ Some u8 ∷ []) silent
+
+pub wrong_branch : IsTyped (given_of named (expr.Lit (literal.Bool true)) u8) silent_branch → ⊥
+wrong_branch h =
+    (let c = (h.clauses (e 3) (omega arith)).1 in
+    let s : u8 ≡ c.0 = only u8 c.0 c.1 in
+    elim c.2.1 [
+      | inl at ↦ (let a : ty.Bool ≡ at.0 = only ty.Bool at.0 at.1 in u8_differs_bool (ap erased s ∙ sym (ap erased a ∙ at.2)))
+      | inr m ↦ nowhere silent_branch tt (e 1 ∷ e 2 ∷ []) m
+    ])
+
+-- the `if` has another type than its branches, and all around it fits
+abbrev silent_if : InferenceResult
+silent_if = table_of (Some ty.Bool ∷ Some u8 ∷ Some u8 ∷ Some ty.Bool ∷ Some ty.Bool ∷ []) silent
+
+pub wrong_if : IsTyped (given_of named (expr.Lit one_u8) ty.Bool) silent_if → ⊥
+wrong_if h =
+    (let c = (h.clauses (e 3) (omega arith)).1 in
+    let s : ty.Bool ≡ c.0 = only ty.Bool c.0 c.1 in
+    elim c.2.0 [
+      | inl at ↦ (let a : u8 ≡ at.0 = only u8 at.0 at.1 in u8_differs_bool (ap erased a ∙ (at.2 ∙ sym (ap erased s))))
+      | inr m ↦ nowhere silent_if tt (e 1 ∷ e 2 ∷ []) m
+    ])
+
+-- a mismatch at a branch that has the type of the `if` and of the other branch
+pub invented_at_branch : IsTyped given (table_of right_types (None ∷ Some (mismatch u16 u8) ∷ None ∷ None ∷ None ∷ [])) → ⊥
+invented_at_branch h =
+    (let m = h.truths (e 1) (mismatch u16 u8) refl in
+    let a = asked given schedule is_schedule _ (e 1) (inner (node.ExprId (e 3))) 1 then_branch u16 (record { node_is = omega arith; part = refl }) (λ r. (let is = r.is_if in cc)) m.demand in
+    elim a [
+      | inl has ↦ u8_is_no_u16 (only u8 u16 has)
+      | inr other ↦ no_other body _ (e 3) then_branch u16 ((λ i k. absurd i), ((λ i k. absurd i), ((λ i k. absurd i), tt))) other
+    ])
+
+-- one at the condition, of which `bool` is asked
+pub invented_at_condition : IsTyped given (table_of right_types (Some (mismatch u8 ty.Bool) ∷ None ∷ None ∷ None ∷ None ∷ [])) → ⊥
+invented_at_condition h =
+    (let m = h.truths (e 0) (mismatch u8 ty.Bool) refl in
+    u8_is_no_bool (asked given schedule is_schedule _ (e 0) (inner (node.ExprId (e 3))) 0 condition u8 (record { node_is = omega arith; part = refl }) (λ r. (let is = r.is_if in cc)) m.demand))
+
+-- one at the `if`: with an `else` only its place asks something of it
+pub invented_at_if : IsTyped given (table_of right_types (None ∷ None ∷ None ∷ Some (mismatch u16 u8) ∷ None ∷ [])) → ⊥
+invented_at_if h =
+    (let m = h.truths (e 3) (mismatch u16 u8) refl in
+    let a = asked given schedule is_schedule _ (e 3) (inner (node.ExprId (e 4))) 0 tail u16 (record { node_is = omega arith; part = refl }) (λ r. (let is = r.is_if in cc)) m.demand in
+    u8_is_no_u16 (only u8 u16 a))

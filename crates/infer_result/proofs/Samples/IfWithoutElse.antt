@@ -1,0 +1,155 @@
+-- `fn f(c: bool) { let x = if c { 1u8 }; }`: the mismatch stands at the `if` itself, which has the type of its branch and may end
+-- without a value; its own type is then any.
+use Rattle.std.proofs.Common.{◌+◌, ◌<◌, ◌≡◌, inl, inr, List, [], ◌∷◌, refl, sym, ap, subst, ◌∙◌, arith, Option, Some, None, slice_get}
+use Rattle.hir_types.specs.declared.ids.ExprOrPatId.TheVariants as node
+use Rattle.hir_types.specs.declared.ty.Ty.{Ty}
+use Rattle.hir_types.specs.declared.ty.Ty.TheVariants as ty
+use Rattle.hir_facts.specs.declared.raw.RawType.{RawType}
+use Rattle.hir_facts.specs.declared.raw.RawType.TheVariants as type
+use Rattle.hir_facts.specs.declared.raw.RawPath.TheVariants as path
+use Rattle.hir_facts.specs.declared.raw.RawStmt.TheVariants as stmt
+use Rattle.hir_facts.specs.declared.raw.RawExpr.TheVariants as expr
+use Rattle.hir_facts.specs.declared.raw.RawPat.TheVariants as pat
+use Rattle.hir_facts.specs.declared.raw.RawBody.{RawBody}
+use Rattle.hir_facts.specs.declared.schedule.Schedule.{Schedule}
+use Rattle.hir_types.specs.Types.{unit}
+use Rattle.hir_facts.specs.Types.{lowered_within, written_type}
+use Rattle.hir_types.specs.Erasure.{erased, IsClosed}
+use Rattle.hir_facts.specs.Order.{initializer, then_branch, the_body, inner, IsSchedule, start, end, after, Fits, parts}
+use Rattle.infer_result.specs.declared.result.InferenceResult.{InferenceResult}
+use Rattle.infer_result.specs.declared.result.TypeMismatch.{TypeMismatch}
+use Rattle.infer_result.specs.declared.modes.BindingMode.TheVariants as mode
+use Rattle.infer_result.specs.Table.{HasTy, PatTy, BindingTy, mismatch}
+use Rattle.infer_result.specs.Places.{Given, Demand}
+use Rattle.infer_result.specs.Rules.Expressions.{ObeysOrMismatch}
+use Rattle.infer_result.specs.Rules.Patterns.{PatRule}
+use Rattle.infer_result.specs.Truth.Mismatch.{IsTruePatMismatch}
+use Rattle.infer_result.specs.Made.{IsMisfit, IsMade}
+use Rattle.infer_result.specs.Typed.{IsTyped}
+use Rattle.infer_result.specs.Derived.{typed_by_schedule}
+use Rattle.infer_result.proofs.Samples.Small.{e, p, b, w, u8, one_u8, plain, body_with, each_below, each_node, apart_by, asks_here, asked, one_param, no_other, only, each_entry, each_placed, nowhere, closed_u8, closed_bool, closed_unit, closed_error, u8_is_no_bool, u8_is_no_unit, bool_is_no_error, bool_is_no_unit, u8_differs_unit}
+
+abbrev types : List RawType
+types = type.Bool ∷ []
+
+abbrev body : RawBody
+body =
+    body_with (p 0 ∷ []) (expr.Path (path.Local (b 0)) ∷ expr.Lit one_u8 ∷ expr.If (e 0) (e 1) None ∷ expr.Block None (stmt.Let (p 1) None (Some (e 2)) None ∷ []) None ∷ []) 3
+    (pat.Bind (b 0) None ∷ pat.Bind (b 1) None ∷ []) (plain ∷ plain ∷ [])
+
+abbrev given : Given
+given = record { types = types; body = body; inputs = w 0 ∷ []; output = unit }
+
+written : written_type types (w 0) ≡ ty.Bool
+unfolding lowered_within
+written = refl
+
+abbrev schedule : Schedule
+schedule = record { starts = 4 ∷ 5 ∷ 3 ∷ 2 ∷ 1 ∷ 6 ∷ 0 ∷ []; ends = 5 ∷ 6 ∷ 6 ∷ 7 ∷ 2 ∷ 7 ∷ 7 ∷ []; depths = 3 ∷ 3 ∷ 2 ∷ 1 ∷ 1 ∷ 2 ∷ 0 ∷ [] }
+
+is_schedule : IsSchedule body schedule
+is_schedule = record {
+  starts_size = refl;
+  ends_size = refl;
+  first = refl;
+  fits = each_node body (λ n. Fits body schedule (start body schedule n + 1) (parts body n))
+      ((omega arith, refl, (omega arith, refl, tt)), ((((tt, tt), tt), (omega arith, refl, (omega arith, refl, tt))), (omega arith, refl, (omega arith, refl, tt))), ((tt, tt), tt));
+  ends = each_node body (λ n. after body schedule (start body schedule n + 1) (parts body n) ≡ end body schedule n) (refl, ((((tt, refl), refl), refl), refl), ((tt, refl), refl));
+  order = each_node body (λ n. start body schedule n < end body schedule n) (omega arith, ((((tt, omega arith), omega arith), omega arith), omega arith), ((tt, omega arith), omega arith));
+  reached = each_node body (λ n. start body schedule n < end body schedule the_body) (omega arith, ((((tt, omega arith), omega arith), omega arith), omega arith), ((tt, omega arith), omega arith));
+  apart = apart_by body schedule
+      (the_body ∷ inner (node.PatId (p 0)) ∷ inner (node.ExprId (e 3)) ∷ inner (node.ExprId (e 2)) ∷ inner (node.ExprId (e 0)) ∷ inner (node.ExprId (e 1)) ∷ inner (node.PatId (p 1)) ∷ [])
+      (refl, ((((tt, refl), refl), refl), refl), ((tt, refl), refl));
+}
+
+-- the `if` has the type s
+abbrev table_of : Ty → List (Option TypeMismatch) → InferenceResult
+table_of s mismatches = record {
+  type_of_expr = Some ty.Bool ∷ Some u8 ∷ Some s ∷ Some unit ∷ [];
+  type_of_pat = Some ty.Bool ∷ Some s ∷ [];
+  type_of_binding = Some ty.Bool ∷ Some s ∷ [];
+  binding_modes = Some mode.Move ∷ Some mode.Move ∷ [];
+  expr_mismatches = mismatches;
+  pat_mismatches = None ∷ None ∷ [];
+}
+
+abbrev right : Ty → InferenceResult
+right s = table_of s (None ∷ None ∷ Some (mismatch u8 unit) ∷ None ∷ [])
+
+right_made : (s : Ty) → IsClosed s → IsMade given (right s)
+right_made s closed_s = record {
+  of_body = record { exprs = refl; pats = refl; bindings = refl; modes = refl; mismatches = refl; pat_mismatches = refl };
+  closed = record {
+    exprs = each_entry IsClosed (right s).type_of_expr (closed_bool, (closed_u8, (closed_s, (closed_unit, tt))));
+    pats = each_entry IsClosed (right s).type_of_pat (closed_bool, (closed_s, tt));
+    bindings = each_entry IsClosed (right s).type_of_binding (closed_bool, (closed_s, tt));
+    expected = each_entry (λ x. IsClosed x.expected) (right s).expr_mismatches (closed_u8, tt);
+    actual = each_entry (λ x. IsClosed x.actual) (right s).expr_mismatches (closed_unit, tt);
+    pat_expected = each_entry (λ x. IsClosed x.expected) (right s).pat_mismatches tt;
+    pat_actual = each_entry (λ x. IsClosed x.actual) (right s).pat_mismatches tt;
+  };
+  clauses = λ x h.
+      each_below (λ k. ObeysOrMismatch given (right s) (e k)) 4 x.0
+      ((((tt, (ty.Bool, refl, refl)), (u8, refl, refl)), ((ty.Bool, refl, inl refl), (s, refl, (inr (inl (mismatch u8 unit, refl)), inr (inl (mismatch u8 unit, refl)))))), (((s, refl, (s, refl, inl refl)), tt), (unit, refl, inl refl))) h;
+  kinds = λ x h. each_below (λ k. PatRule given (right s) (p k) (slice_get body.pats k)) 2 x.0 ((tt, (ty.Bool, refl, refl, refl)), (s, refl, refl, refl)) h;
+  params = one_param given (right s) (p 0) (w 0) refl refl (subst (PatTy (right s) (p 0)) (sym written) refl);
+  bindings = λ v h. each_below (λ k. (r : Ty) × BindingTy (right s) (b k) r) 2 v.0 ((tt, (ty.Bool, refl)), (s, refl)) h;
+  body_clause = (unit, refl, inl refl);
+  misfits = λ x. each_placed (λ k. IsMisfit given (right s) (e k)) (right s).expr_mismatches (record { differ = u8_differs_unit; actual = inr (inr (record { condition = e 0; branch = e 1; is_if = refl }), refl) }, tt) x.0;
+  demands = λ x. each_placed (λ k (m : TypeMismatch). Demand given (right s) (e k) m.expected) (right s).expr_mismatches (inr (record { condition = e 0; branch = e 1; is_if = refl; has = refl }), tt) x.0;
+  pat_truths = λ x. each_entry (IsTruePatMismatch given (right s) x) (right s).pat_mismatches tt x.0;
+}
+
+pub each_typed : (s : Ty) → IsClosed s → IsTyped given (right s)
+each_typed s closed_s = typed_by_schedule given (right s) schedule is_schedule (right_made s closed_s)
+
+pub right_typed : IsTyped given (right ty.Error)
+right_typed = each_typed ty.Error closed_error
+
+-- ---- refused, whatever type the `if` has
+
+-- no mismatch
+pub none : (s : Ty) → IsTyped given (table_of s (None ∷ None ∷ None ∷ None ∷ [])) → ⊥
+none s h =
+    (let c = (h.clauses (e 2) (omega arith)).1 in
+    elim c.2.1 [
+      | inl ends ↦
+          elim c.2.0 [
+            | inl at ↦ (let a : u8 ≡ at.0 = only u8 at.0 at.1 in u8_differs_unit (ap erased a ∙ (at.2 ∙ sym ends)))
+            | inr m ↦ nowhere (table_of s (None ∷ None ∷ None ∷ None ∷ [])) tt (e 2 ∷ e 1 ∷ []) m
+          ]
+      | inr m ↦ nowhere (table_of s (None ∷ None ∷ None ∷ None ∷ [])) tt (e 2 ∷ e 1 ∷ []) m
+    ])
+
+-- all that is demanded of the `if` is the type of its branch
+demanded : (t : InferenceResult) (u : Ty) → HasTy t (e 1) u8 → Demand given t (e 2) u → u8 ≡ u
+demanded t u has (inl d) = absurd (asks_here given schedule is_schedule t (e 2) (inner (node.ExprId (e 3))) 0 (initializer None) u (record { node_is = omega arith; part = refl }) d)
+demanded t u has (inr d) =
+    (let is : Some (expr.If (e 0) (e 1) None) ≡ Some (expr.If d.condition d.branch None) = d.is_if in
+    let one : e 1 ≡ d.branch = cc in
+    let here : HasTy t (e 1) u = subst (λ x. HasTy t x u) (sym one) d.has in
+    let k : Some (Some u8) ≡ Some (Some u) = sym has ∙ here in only u8 u k)
+
+-- the types exchanged
+pub exchanged : (s : Ty) → IsTyped given (table_of s (None ∷ None ∷ Some (mismatch unit u8) ∷ None ∷ [])) → ⊥
+exchanged s h = u8_is_no_unit (demanded _ unit refl (h.truths (e 2) (mismatch unit u8) refl).demand)
+
+-- a type expected that the branch has not
+pub another_expected : (s : Ty) → IsTyped given (table_of s (None ∷ None ∷ Some (mismatch ty.Bool unit) ∷ None ∷ [])) → ⊥
+another_expected s h = u8_is_no_bool (demanded _ ty.Bool refl (h.truths (e 2) (mismatch ty.Bool unit) refl).demand)
+
+-- another actual type than `()`, where the `if` has not that type
+pub another_actual : IsTyped given (table_of ty.Error (None ∷ None ∷ Some (mismatch u8 ty.Bool) ∷ None ∷ [])) → ⊥
+another_actual h =
+    (let m = h.truths (e 2) (mismatch u8 ty.Bool) refl in
+    elim m.actual [ inl has ↦ bool_is_no_error (sym (only ty.Error ty.Bool has)) | inr ends ↦ bool_is_no_unit ends.1 ])
+
+-- the mismatch at the branch in its place, which has the type that is asked of it
+pub at_branch : IsTyped given (table_of u8 (None ∷ Some (mismatch unit u8) ∷ None ∷ None ∷ [])) → ⊥
+at_branch h =
+    (let m = h.truths (e 1) (mismatch unit u8) refl in
+    let a = asked given schedule is_schedule _ (e 1) (inner (node.ExprId (e 2))) 1 then_branch unit (record { node_is = omega arith; part = refl }) (λ r. (let is = r.is_if in cc)) m.demand in
+    elim a [
+      | inl has ↦ u8_is_no_unit (only u8 unit has)
+      | inr other ↦ no_other body _ (e 2) then_branch unit ((λ i k. absurd i), ((λ i k. absurd i), tt)) other
+    ])

@@ -1,0 +1,209 @@
+-- `fn f(t: (u8, i32)) -> u8 { match t { (a, 7) => a, _ => 1u8 } }`: patterns at the scrutinee and its components, arms at the `match`.
+use Rattle.std.proofs.Common.{◌+◌, ◌<◌, ◌≡◌, inl, inr, true, List, [], ◌∷◌, refl, sym, ap, subst, ◌∙◌, arith, Option, Some, None, slice_get}
+use Rattle.std.specs.Prelude.{codes}
+use Rattle.hir_types.specs.declared.ids.ExprOrPatId.TheVariants as node
+use Rattle.hir_types.specs.declared.ty.Ty.{Ty, Ty-F, out-Ty}
+use Rattle.hir_types.specs.declared.ty.Ty.TheVariants as ty
+use Rattle.hir_types.specs.declared.ty.IntTy.TheVariants as int
+use Rattle.hir_types.specs.declared.ty.UintTy.TheVariants as uint
+use Rattle.hir_types.specs.declared.ty.IntegerTy.TheVariants as integer
+use Rattle.hir_facts.specs.declared.raw.RawType.{RawType}
+use Rattle.hir_facts.specs.declared.raw.RawType.TheVariants as type
+use Rattle.hir_facts.specs.declared.raw.RawLiteral.TheVariants as literal
+use Rattle.hir_facts.specs.declared.raw.RawPath.TheVariants as path
+use Rattle.hir_facts.specs.declared.raw.RawExpr.{RawExpr}
+use Rattle.hir_facts.specs.declared.raw.RawExpr.TheVariants as expr
+use Rattle.hir_facts.specs.declared.raw.RawPat.TheVariants as pat
+use Rattle.hir_facts.specs.declared.raw.RawBody.{RawBody}
+use Rattle.hir_facts.specs.declared.schedule.Schedule.{Schedule}
+use Rattle.hir_facts.specs.Types.{lowered_within, written_type}
+use Rattle.hir_types.specs.Erasure.{erased, IsClosed}
+use Rattle.hir_types.specs.Layers.{has_hole_tuple, has_hole_integer}
+use Rattle.hir_facts.specs.Order.{arm_pattern, subpattern, the_body, inner, IsSchedule, start, end, after, Fits, parts}
+use Rattle.infer_result.specs.declared.result.InferenceResult.{InferenceResult}
+use Rattle.infer_result.specs.declared.result.TypeMismatch.{TypeMismatch}
+use Rattle.infer_result.specs.declared.modes.BindingMode.TheVariants as mode
+use Rattle.infer_result.specs.Table.{PatTy, BindingTy, mismatch}
+use Rattle.infer_result.specs.Places.{Given, Demand}
+use Rattle.infer_result.specs.Rules.Expressions.{ObeysOrMismatch}
+use Rattle.infer_result.specs.Rules.Patterns.{PatRule}
+use Rattle.infer_result.specs.Truth.Mismatch.{IsTruePatMismatch}
+use Rattle.infer_result.specs.Made.{IsMisfit, IsMade}
+use Rattle.infer_result.specs.Typed.{IsTyped}
+use Rattle.infer_result.specs.Derived.{tuple_parts, typed_by_schedule}
+use Rattle.infer_result.proofs.Samples.Small.{e, p, b, w, u8, one_u8, plain, body_with, each_below, each_node, apart_by, comes, one_param, only, each_entry, nowhere, closed_u8, top_uint, top_int, u8_is_no_bool, u8_is_no_tuple, u8_differs_bool}
+
+-- the body with another expression in the last arm
+abbrev body_of : RawExpr → RawBody
+body_of last =
+    body_with (p 0 ∷ [])
+    (expr.Path (path.Local (b 0)) ∷ expr.Lit (literal.Int (codes "7") None) ∷ expr.Path (path.Local (b 1)) ∷ last
+    ∷ expr.Match (e 0) (record { pat = p 1; guard = None; expr = e 2 } ∷ record { pat = p 4; guard = None; expr = e 3 } ∷ []) ∷ expr.Block None [] (Some (e 4)) ∷ [])
+    5 (pat.Bind (b 0) None ∷ pat.Tuple (p 2 ∷ p 3 ∷ []) ∷ pat.Bind (b 1) None ∷ pat.Lit (e 1) ∷ pat.Wild ∷ []) (plain ∷ plain ∷ [])
+
+abbrev i32 : Ty
+i32 = ty.Int int.I32
+
+abbrev pair : Ty
+pair = ty.Tuple (u8 ∷ i32 ∷ [])
+
+abbrev types : List RawType
+types = type.Integer (integer.Uint uint.U8) ∷ type.Integer (integer.Int int.I32) ∷ type.Tuple (w 0 ∷ w 1 ∷ []) ∷ []
+
+abbrev given_of : RawExpr → Given
+given_of last = record { types = types; body = body_of last; inputs = w 2 ∷ []; output = u8 }
+
+abbrev body : RawBody
+body = body_of (expr.Lit one_u8)
+
+abbrev given : Given
+given = given_of (expr.Lit one_u8)
+
+written : written_type types (w 2) ≡ pair
+unfolding lowered_within
+written = refl
+
+abbrev schedule : Schedule
+schedule = record {
+  starts = 4 ∷ 8 ∷ 10 ∷ 11 ∷ 3 ∷ 2 ∷ 1 ∷ 5 ∷ 6 ∷ 7 ∷ 9 ∷ 0 ∷ [];
+  ends = 5 ∷ 9 ∷ 11 ∷ 12 ∷ 12 ∷ 12 ∷ 2 ∷ 9 ∷ 7 ∷ 9 ∷ 10 ∷ 12 ∷ [];
+  depths = 3 ∷ 5 ∷ 3 ∷ 3 ∷ 2 ∷ 1 ∷ 1 ∷ 3 ∷ 4 ∷ 4 ∷ 3 ∷ 0 ∷ [];
+}
+
+is_schedule : IsSchedule body schedule
+is_schedule = record {
+  starts_size = refl;
+  ends_size = refl;
+  first = refl;
+  fits = each_node body (λ n. Fits body schedule (start body schedule n + 1) (parts body n)) (
+    (omega arith, refl, (omega arith, refl, tt)),
+    ((((((tt, tt), tt), tt), tt), (omega arith, refl, (omega arith, refl, (omega arith, refl, (omega arith, refl, (omega arith, refl, tt)))))), (omega arith, refl, tt)),
+    (((((tt, tt), (omega arith, refl, (omega arith, refl, tt))), tt), (omega arith, refl, tt)), tt),
+  );
+  ends = each_node body (λ n. after body schedule (start body schedule n + 1) (parts body n) ≡ end body schedule n)
+      (refl, ((((((tt, refl), refl), refl), refl), refl), refl), (((((tt, refl), refl), refl), refl), refl));
+  order = each_node body (λ n. start body schedule n < end body schedule n)
+      (omega arith, ((((((tt, omega arith), omega arith), omega arith), omega arith), omega arith), omega arith), (((((tt, omega arith), omega arith), omega arith), omega arith), omega arith));
+  reached = each_node body (λ n. start body schedule n < end body schedule the_body)
+      (omega arith, ((((((tt, omega arith), omega arith), omega arith), omega arith), omega arith), omega arith), (((((tt, omega arith), omega arith), omega arith), omega arith), omega arith));
+  apart = apart_by body schedule
+      (the_body ∷ inner (node.PatId (p 0)) ∷ inner (node.ExprId (e 5)) ∷ inner (node.ExprId (e 4)) ∷ inner (node.ExprId (e 0)) ∷ inner (node.PatId (p 1)) ∷ inner (node.PatId (p 2))
+      ∷ inner (node.PatId (p 3)) ∷ inner (node.ExprId (e 1)) ∷ inner (node.PatId (p 4)) ∷ inner (node.ExprId (e 2)) ∷ inner (node.ExprId (e 3)) ∷ [])
+      (refl, ((((((tt, refl), refl), refl), refl), refl), refl), (((((tt, refl), refl), refl), refl), refl));
+}
+
+-- the types of the literal in the pattern, of the path `a`, of the last arm; of `a` as a pattern, of the wildcard; of `a` as a binding
+abbrev table_of : Ty → Ty → Ty → Ty → Ty → Ty → List (Option TypeMismatch) → List (Option TypeMismatch) → InferenceResult
+table_of seven name last a wild bound mismatches pat_mismatches = record {
+  type_of_expr = Some pair ∷ Some seven ∷ Some name ∷ Some last ∷ Some u8 ∷ Some u8 ∷ [];
+  type_of_pat = Some pair ∷ Some pair ∷ Some a ∷ Some i32 ∷ Some wild ∷ [];
+  type_of_binding = Some pair ∷ Some bound ∷ [];
+  binding_modes = Some mode.Move ∷ None ∷ Some mode.Move ∷ None ∷ None ∷ [];
+  expr_mismatches = mismatches;
+  pat_mismatches = pat_mismatches;
+}
+
+abbrev silent : List (Option TypeMismatch)
+silent = None ∷ None ∷ None ∷ None ∷ None ∷ None ∷ []
+
+abbrev silent_pats : List (Option TypeMismatch)
+silent_pats = None ∷ None ∷ None ∷ None ∷ None ∷ []
+
+abbrev right : InferenceResult
+right = table_of i32 u8 u8 u8 pair u8 silent silent_pats
+
+closed_i32 : IsClosed i32
+closed_i32 = has_hole_integer (integer.Int int.I32)
+
+closed_pair : IsClosed pair
+closed_pair = has_hole_tuple (u8 ∷ i32 ∷ []) ∙ rw (closed_u8, closed_i32) refl
+
+match_obeys : ObeysOrMismatch given right (e 4)
+match_obeys = ((pair, refl, ((pair, refl, inl refl), ((pair, refl, inl refl), tt))), (u8, refl, ((tt, inl (u8, refl, refl)), ((tt, inl (u8, refl, refl)), tt))))
+
+right_made : IsMade given right
+right_made = record {
+  of_body = record { exprs = refl; pats = refl; bindings = refl; modes = refl; mismatches = refl; pat_mismatches = refl };
+  closed = record {
+    exprs = each_entry IsClosed right.type_of_expr (closed_pair, (closed_i32, (closed_u8, (closed_u8, (closed_u8, (closed_u8, tt))))));
+    pats = each_entry IsClosed right.type_of_pat (closed_pair, (closed_pair, (closed_u8, (closed_i32, (closed_pair, tt)))));
+    bindings = each_entry IsClosed right.type_of_binding (closed_pair, (closed_u8, tt));
+    expected = each_entry (λ x. IsClosed x.expected) right.expr_mismatches tt;
+    actual = each_entry (λ x. IsClosed x.actual) right.expr_mismatches tt;
+    pat_expected = each_entry (λ x. IsClosed x.expected) right.pat_mismatches tt;
+    pat_actual = each_entry (λ x. IsClosed x.actual) right.pat_mismatches tt;
+  };
+  clauses = λ x h.
+      each_below (λ k. ObeysOrMismatch given right (e k)) 6 x.0
+      ((((((tt, (pair, refl, refl)), (i32, refl, (integer.Int int.I32, refl))), (u8, refl, refl)), (u8, refl, refl)), match_obeys), (tt, (u8, refl, (u8, refl, inl refl)))) h;
+  kinds = λ x h.
+      each_below (λ k. PatRule given right (p k) (slice_get body.pats k)) 5 x.0
+      (((((tt, (pair, refl, refl, refl)), (u8 ∷ i32 ∷ [], refl, ((u8, refl, inl refl), ((i32, refl, inl refl), tt)))), (u8, refl, refl, refl)), (i32, refl, refl)), (pair, refl)) h;
+  params = one_param given right (p 0) (w 2) refl refl (subst (PatTy right (p 0)) (sym written) refl);
+  bindings = λ v h. each_below (λ k. (s : Ty) × BindingTy right (b k) s) 2 v.0 ((tt, (pair, refl)), (u8, refl)) h;
+  body_clause = (u8, refl, inl refl);
+  misfits = λ x. each_entry (IsMisfit given right x) right.expr_mismatches tt x.0;
+  demands = λ x. each_entry (λ m. Demand given right x m.expected) right.expr_mismatches tt x.0;
+  pat_truths = λ x. each_entry (IsTruePatMismatch given right x) right.pat_mismatches tt x.0;
+}
+
+pub right_typed : IsTyped given right
+right_typed = typed_by_schedule given right schedule is_schedule right_made
+
+-- ---- refused
+
+-- the first arm complains that `a` is a `bool`
+abbrev first_arm : List (Option TypeMismatch)
+first_arm = None ∷ None ∷ Some (mismatch u8 ty.Bool) ∷ None ∷ None ∷ None ∷ []
+
+-- the binding has another type than its pattern
+pub other_binding : IsTyped given (table_of i32 ty.Bool u8 u8 pair ty.Bool first_arm silent_pats) → ⊥
+other_binding h = (let c = (h.pats (p 2) (omega arith)).kind in u8_is_no_bool (only u8 c.0 c.1 ∙ sym (only ty.Bool c.0 c.2)))
+
+-- the pattern has another type than the component that comes in
+pub other_part : IsTyped given (table_of i32 ty.Bool u8 ty.Bool pair ty.Bool first_arm silent_pats) → ⊥
+other_part h =
+    (let c = (h.pats (p 2) (omega arith)).incoming u8 (record { parent = inner (node.PatId (p 1)); at_part = 0; role = subpattern 0; stands = record { node_is = omega arith; part = refl }; gives = (u8 ∷ i32 ∷ [], refl, refl) }) in
+    elim c.2 [ inl same ↦ u8_is_no_bool (sym (only ty.Bool c.0 c.1 ∙ same)) | inr m ↦ absurd m ])
+
+u8_is_no_i32 : u8 ≡ i32 → ⊥
+u8_is_no_i32 h = (let k : Ty-F.Uint uint.U8 ≡ Ty-F.Int int.I32 = sym (top_uint uint.U8) ∙ (ap out-Ty h ∙ top_int int.I32) in cc)
+
+-- the literal has another type than the pattern that it is
+pub other_literal : IsTyped given (table_of u8 u8 u8 u8 pair u8 silent silent_pats) → ⊥
+other_literal h = (let c = (h.pats (p 3) (omega arith)).kind in u8_is_no_i32 (only u8 c.0 c.2 ∙ sym (only i32 c.0 c.1)))
+
+-- an arm of another type, in silence
+abbrev silent_arm : InferenceResult
+silent_arm = table_of i32 u8 ty.Bool u8 pair u8 silent silent_pats
+
+pub wrong_arm : IsTyped (given_of (expr.Lit (literal.Bool true))) silent_arm → ⊥
+wrong_arm h =
+    (let c = (h.clauses (e 4) (omega arith)).1 in
+    let s : u8 ≡ c.0 = only u8 c.0 c.1 in
+    elim c.2.1.0.1 [
+      | inl at ↦ (let a : ty.Bool ≡ at.0 = only ty.Bool at.0 at.1 in u8_differs_bool (ap erased s ∙ sym (ap erased a ∙ at.2)))
+      | inr m ↦ nowhere silent_arm tt (e 2 ∷ e 3 ∷ []) m
+    ])
+
+-- the wildcard has another type than the scrutinee
+pub other_wildcard : IsTyped given (table_of i32 u8 u8 u8 u8 u8 silent silent_pats) → ⊥
+other_wildcard h =
+    (let c = (h.pats (p 4) (omega arith)).incoming pair (record { parent = inner (node.ExprId (e 4)); at_part = 2; role = arm_pattern (e 0) 1; stands = record { node_is = omega arith; part = refl }; gives = refl }) in
+    elim c.2 [ inl same ↦ u8_is_no_tuple (u8 ∷ i32 ∷ []) (only u8 c.0 c.1 ∙ same) | inr m ↦ absurd m ])
+
+-- a mismatch at the tuple pattern, which has the type of the scrutinee
+pub invented : IsTyped given (table_of i32 u8 u8 u8 pair u8 silent (None ∷ Some (mismatch u8 pair) ∷ None ∷ None ∷ None ∷ [])) → ⊥
+invented h =
+    (let m = h.pat_truths (p 1) (mismatch u8 pair) refl in
+    let a = comes given schedule is_schedule _ (p 1) (inner (node.ExprId (e 4))) 1 (arm_pattern (e 0) 0) u8 (record { node_is = omega arith; part = refl }) m.incoming in
+    u8_is_no_tuple (u8 ∷ i32 ∷ []) (sym (only pair u8 a)))
+
+-- one at the part `a`, which has the type of the component
+pub invented_at_part : IsTyped given (table_of i32 u8 u8 u8 pair u8 silent (None ∷ None ∷ Some (mismatch i32 u8) ∷ None ∷ None ∷ [])) → ⊥
+invented_at_part h =
+    (let m = h.pat_truths (p 2) (mismatch i32 u8) refl in
+    let a = comes given schedule is_schedule _ (p 2) (inner (node.PatId (p 1))) 0 (subpattern 0) i32 (record { node_is = omega arith; part = refl }) m.incoming in
+    let ss : u8 ∷ i32 ∷ [] ≡ a.0 = tuple_parts (u8 ∷ i32 ∷ []) a.0 (only pair (ty.Tuple a.0) a.1) in
+    let first : slice_get (u8 ∷ i32 ∷ []) 0 ≡ Some i32 = subst (λ us. slice_get us 0 ≡ Some i32) (sym ss) a.2 in
+    let same : u8 ≡ i32 = cc in u8_is_no_i32 same)

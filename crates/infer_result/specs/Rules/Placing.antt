@@ -1,0 +1,48 @@
+-- How the parts of a node may stand at their types.
+use Rattle.std.specs.Prelude.{◌⊎◌, List}
+use Rattle.hir_types.specs.declared.ids.ExprId.{ExprId}
+use Rattle.hir_types.specs.declared.ids.PatId.{PatId}
+use Rattle.hir_types.specs.declared.ty.Ty.{Ty}
+use Rattle.hir_types.specs.Types.{unit}
+use Rattle.hir_types.specs.Erasure.{Same}
+use Rattle.infer_result.specs.declared.result.InferenceResult.{InferenceResult}
+use Rattle.infer_result.specs.Table.{MismatchAt, HasMismatch, AnyMismatch}
+use Rattle.infer_result.specs.Places.{Given, IsAt, IsAtOrMismatch, PatIsAtOrMismatch}
+
+pub record Placing : Type 1 where
+  -- an expression at its type
+  pub at : ExprId → Ty → Type 0
+  -- a part of a tuple at its type
+  pub element : ExprId → Ty → Type 0
+  -- one of several alternatives at the common type, where these expressions give it
+  pub alternative : List ExprId → ExprId → Ty → Type 0
+  -- a pattern at what comes into it
+  pub pattern : PatId → Ty → Type 0
+  -- `()` at the type of a block without tail
+  pub no_tail : ExprId → Ty → Type 0
+  -- `()` at the type of an `if` without `else`, where these expressions give it
+  pub no_else : List ExprId → Ty → Type 0
+
+-- Each part is at its type, or a mismatch is listed at that very part. For alternatives it may be at
+-- any of them, for `()` at the node itself: at a block that very mismatch.
+abbrev pub at_or_mismatch : Given → InferenceResult → Placing
+at_or_mismatch g t = record {
+  at = IsAtOrMismatch t;
+  element = IsAtOrMismatch t;
+  alternative = λ es e s. IsAt t e s ⊎ AnyMismatch t es;
+  pattern = PatIsAtOrMismatch g t;
+  no_tail = λ n s. Same unit s ⊎ MismatchAt t n s unit;
+  no_else = λ es s. Same unit s ⊎ AnyMismatch t es;
+}
+
+-- Each part is at its type, but that a part of a tuple may have a mismatch of its own, and a pattern
+-- too.
+abbrev pub at_types : Given → InferenceResult → Placing
+at_types g t = record {
+  at = IsAt t;
+  element = λ e s. IsAt t e s ⊎ HasMismatch t e;
+  alternative = λ es e s. IsAt t e s;
+  pattern = PatIsAtOrMismatch g t;
+  no_tail = λ n s. Same unit s;
+  no_else = λ es s. Same unit s;
+}
