@@ -3,7 +3,7 @@ use Rattle.std.proofs.Common.{arith, Option, Some, None}
 use Rattle.hir_types.specs.declared.ids.ExprId.{ExprId}
 use Rattle.hir_types.specs.declared.ids.PatId.{PatId}
 use Rattle.hir_types.specs.declared.ty.Ty.{Ty}
-use Rattle.hir_types.specs.Subst.{Assignment, folded}
+use Rattle.hir_types.specs.Subst.{Assignment}
 use Rattle.hir_facts.specs.declared.raw.RawBody.{RawBody}
 use Rattle.hir_facts.specs.declared.raw.RawStmt.{RawStmt}
 use Rattle.hir_facts.specs.declared.schedule.Schedule.{Schedule}
@@ -68,13 +68,14 @@ module _ (g : Given) (s : Schedule) (a : Assignment) (c : InferenceContext) (k :
     expected = expected_carried a c.table x k.closing h.expected;
   }
 
-  pub before_pat_under : (p : PatId) (t : Ty) → BeforePat g s p t c → under.BeforePat g s p (folded a t) (found_under a c)
-  before_pat_under p t h = record {
+  pub before_pat_under : (p : PatId) (x : Option Ty) → BeforePat g s p x c → under.BeforePat g s p (expected_under a x) (found_under a c)
+  before_pat_under p x h = record {
     ready = h.ready;
     state = h.state.each a k;
     within = h.within;
     here = h.here;
-    carried = fine_closed a t k.closing h.fine.heads;
+    carried = expected_carried a c.table x k.closing h.fine;
+    incoming = h.incoming a k;
   }
 
   pub before_stmt_under : (n : ExprId) (x : RawStmt) → BeforeStmt g s n x c → under.BeforeStmt g s n x (found_under a c)

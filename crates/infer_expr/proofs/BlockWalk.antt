@@ -1,5 +1,5 @@
 -- The loop over the statements of a block, and its end.
-use Rattle.std.proofs.Common.{ℕ, ◌+◌, ◌<◌, ◌≤◌, ◌≡◌, inl, refl, sym, ap, subst, ◌∙◌, List, length, get_or, Option, Some, None}
+use Rattle.std.proofs.Common.{ℕ, ◌+◌, ◌<◌, ◌≤◌, ◌≡◌, ◌⊎◌, inl, inr, refl, sym, ap, subst, ◌∙◌, Bool, List, length, get_or, Option, Some, None}
 use Rattle.hir_types.specs.declared.ids.ExprId.{ExprId}
 use Rattle.hir_types.specs.declared.ty.Ty.{Ty}
 use Rattle.hir_types.specs.Subst.{Assignment, folded}
@@ -10,12 +10,14 @@ use Rattle.hir_facts.specs.declared.schedule.Schedule.{Schedule}
 use Rattle.infer_result.specs.Closed.{IsOfBody}
 use Rattle.infer_result.specs.Places.{Given}
 use Rattle.infer_expr.specs.declared.context.InferenceContext.{InferenceContext}
-use Rattle.infer_expr.specs.Closings.{Closes, found_under, expected_under, IsSound}
+use Rattle.infer_result.specs.Table.{MismatchAt, mismatch}
+use Rattle.infer_expr.specs.Closings.{Closes, closed_mismatch, found_under, expected_under, IsSound}
 use Rattle.infer_expr.specs.Fine.{IsFine}
-use Rattle.infer_expr.specs.Steps.{IsWalking, Follows, Within, KindDone, BeforeStmt, StmtDone, BeforeTail, NoTailDone, TailDone, IsCoerced}
+use Rattle.infer_expr.specs.Steps.{IsWalking, Follows, Within, KindDone, BeforeStmt, StmtDone, BeforeTail, NoTailDone, TailDone, IsCoercedIf}
 use Rattle.infer_expr.specs.Under as under
 use Rattle.infer_expr.proofs.AtEach.{follows_itself, follows_twice, closes_before, walking_after, within_under}
 use Rattle.infer_expr.proofs.Blocks.{BlockLoop, block_start, block_before, block_next, block_tail, block_done, no_tail_some}
+use Rattle.infer_expr.proofs.Closed.{At-closed}
 use Rattle.infer_expr.proofs.Types.{carried_unit}
 use Rattle.infer_expr.proofs.FineTypes.{fine_grown, fine_unit, fine_expectation_grown, carried_closed}
 
@@ -93,23 +95,30 @@ module _ (g : Given) (s : Schedule) (n : ExprId) (ys : List RawStmt) (o : Option
 
 -- ---- without tail
 
-pub no_tail_none : (b : RawBody) (n : ExprId) (x : Option Ty) (t : Ty) (c : InferenceContext) → x ≡ None → t ≡ unit → IsOfBody b c.result → IsSound c → NoTailDone b n x t c c
-no_tail_none b n x t c e is h s = record {
+pub no_tail_none : (b : RawBody) (n : ExprId) (x : Option Ty) (t : Ty) (c : InferenceContext) → t ≡ unit → IsOfBody b c.result → IsSound c → NoTailDone b n x t c c
+no_tail_none b n x t c is h s = record {
   follows = follows_itself b c h s;
   fine = subst (λ u. IsFine c.table u) (sym is) (fine_unit c.table);
-  each = λ a q. record {
-    own = None;
-    is = refl;
-    asked = λ u k. (let f : expected_under a x ≡ None = ap (expected_under a) e in let z = sym f ∙ k in absurd (cc));
-    fits = inl (refl, ap (folded a) is ∙ carried_closed a unit carried_unit);
-  };
+  each = λ a q. inl (refl, ap (folded a) is ∙ carried_closed a unit carried_unit);
 }
 
-pub no_tail_coerced : (b : RawBody) (n : ExprId) (x : Option Ty) (t u v : Ty) (old new : InferenceContext) → x ≡ Some u → t ≡ u → v ≡ unit → IsFine old.table u → IsCoerced b n v u old new → NoTailDone b n x t old new
-no_tail_coerced b n x t u v old new e f i h d = record {
+-- `()` was coerced to the expected type u, and the block has that or is `()`
+pub no_tail_coerced : (fits : Bool) (b : RawBody) (n : ExprId) (x : Option Ty) (t u v : Ty) (old new : InferenceContext) → x ≡ Some u → v ≡ unit → IsFine old.table u → IsCoercedIf fits b n v u old new → (t ≡ v) ⊎ ((t ≡ u) × MismatchAt new.result n u v) → NoTailDone b n x t old new
+no_tail_coerced fits b n x t u v old new e i h d typed = record {
   follows = d.follows;
-  fine = subst (λ w. IsFine new.table w) (sym f) (fine_grown old.table new.table u d.follows.grew h);
+  fine = elim typed [
+    | inl y ↦ subst (λ w. IsFine new.table w) (sym (y ∙ i)) (fine_unit new.table)
+    | inr y ↦ subst (λ w. IsFine new.table w) (sym y.0) (fine_grown old.table new.table u d.follows.grew h)
+  ];
   each = λ a q.
-      no_tail_some n (expected_under a x) (folded a t) (folded a u) (folded a v) (found_under a old) (found_under a new)
-      (ap (expected_under a) e) (ap (folded a) f) (ap (folded a) i ∙ carried_closed a unit carried_unit) (d.each a q);
+      let same : folded a v ≡ unit = ap (folded a) i ∙ carried_closed a unit carried_unit in
+      no_tail_some fits n (expected_under a x) (folded a t) (folded a u) (found_under a old) (found_under a new) (ap (expected_under a) e)
+      (subst (λ w. under.IsCoercedIf fits n w (folded a u) (found_under a old) (found_under a new)) same (d.each a q))
+      (elim typed [
+        | inl y ↦ inl (ap (folded a) y ∙ same)
+        | inr y ↦ inr (
+          ap (folded a) y.0,
+          subst (λ w. MismatchAt (found_under a new).result n (folded a u) w) same (At-closed (closed_mismatch a) new.result.expr_mismatches n.0 (mismatch u v) y.1),
+        )
+      ]);
 }

@@ -37,6 +37,7 @@ nothing_under a b = λ i. record {
     type_of_binding = none_under (folded a) (length b.bindings) i;
     binding_modes = replicate (length b.pats) None;
     expr_mismatches = none_under (closed_mismatch a) (length b.exprs) i;
+    pat_mismatches = none_under (closed_mismatch a) (length b.pats) i;
   };
   clock = 1;
 }
@@ -49,6 +50,8 @@ nothing_sound b = record {
     bindings = λ n t i. absurd (At-replicate (length b.bindings) n t i);
     expected = λ n m i. absurd (At-replicate (length b.exprs) n m i);
     actual = λ n m i. absurd (At-replicate (length b.exprs) n m i);
+    pat_expected = λ n m i. absurd (At-replicate (length b.pats) n m i);
+    pat_actual = λ n m i. absurd (At-replicate (length b.pats) n m i);
   };
   bound = tt;
   some = (

@@ -7,18 +7,19 @@ use Rattle.infer_result.specs.Places.{Given, Demand}
 use Rattle.infer_expr.specs.Found.{Found}
 use Rattle.infer_expr.specs.Walks.{Walks, IsWalked, Debt, expr_start, pat_start}
 use Rattle.infer_expr.proofs.Lists.{lt_or_ge}
-use Rattle.infer_expr.proofs.Keeps.{extends_refl, extends_trans, obeys_kept, pat_kept, misfit_kept, demand_kept}
+use Rattle.infer_expr.proofs.Keeps.{extends_refl, extends_trans, obeys_kept, pat_kept, pat_truth_kept, misfit_kept, demand_kept}
 
 pub walks_refl : (g : Given) (s : Schedule) (P : Debt) (c : Found) → IsWalked g.body s c → Walks g s P c c
 walks_refl g s P c h = record {
   clock = omega arith;
   extends = extends_refl c.result;
   kept = λ e i k. refl;
-  kept_mismatches = λ e i k. refl;
+  kept_pats = λ p i k. refl;
   state = h;
   made = λ e i lo hi. absurd (omega arith);
   pats_made = λ p i lo hi. absurd (omega arith);
   truths = λ e m h. inl h;
+  pat_truths = λ p m h. inl h;
 }
 
 pub walks_trans : (g : Given) (s : Schedule) (P : Debt) (x y z : Found) → Walks g s P x y → Walks g s P y z → Walks g s P x z
@@ -26,7 +27,7 @@ walks_trans g s P x y z h k = record {
   clock = omega (arith, h.clock, k.clock);
   extends = extends_trans x.result y.result z.result h.extends k.extends;
   kept = λ e i lo. k.kept e i (omega (arith, h.clock)) ∙ h.kept e i lo;
-  kept_mismatches = λ e i lo. k.kept_mismatches e i (omega (arith, h.clock)) ∙ h.kept_mismatches e i lo;
+  kept_pats = λ p i lo. k.kept_pats p i (omega (arith, h.clock)) ∙ h.kept_pats p i lo;
   state = k.state;
   made = λ e i lo hi.
       elim (lt_or_ge (expr_start g.body s e) y.clock) [
@@ -51,6 +52,11 @@ walks_trans g s P x y z h k = record {
             ]
         | inr q ↦ inr q
       ];
+  pat_truths = λ p m i.
+      elim (k.pat_truths p m i) [
+        | inl o ↦ elim (h.pat_truths p m o) [ inl q ↦ inl q | inr q ↦ inr (pat_truth_kept g y.result z.result k.extends p m q) ]
+        | inr q ↦ inr q
+      ];
 }
 
 -- debts may be said otherwise, or be paid
@@ -59,7 +65,7 @@ walks_paid g s P Q x y f h = record {
   clock = h.clock;
   extends = h.extends;
   kept = h.kept;
-  kept_mismatches = h.kept_mismatches;
+  kept_pats = h.kept_pats;
   state = h.state;
   made = h.made;
   pats_made = h.pats_made;
@@ -68,4 +74,5 @@ walks_paid g s P Q x y f h = record {
         | inl o ↦ inl o
         | inr q ↦ inr (q.0, elim q.1 [ inl d ↦ inl d | inr p ↦ f e m p ])
       ];
+  pat_truths = h.pat_truths;
 }

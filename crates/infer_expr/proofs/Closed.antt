@@ -1,5 +1,5 @@
 -- Tables and contexts under closed types for holes, and what writes do to them.
-use Rattle.std.proofs.Common.{ℕ, zero, suc, ◌≡◌, refl, sym, ap, subst, ◌∙◌, List, [], ◌∷◌, map, length, Option, Some, None, option_map, slice_get, slice_set}
+use Rattle.std.proofs.Common.{ℕ, zero, suc, ◌≡◌, inl, inr, refl, sym, ap, subst, ◌∙◌, List, [], ◌∷◌, map, length, Option, Some, None, option_map, slice_get, slice_set}
 use Rattle.std.proofs.lemmas.List.{length-set, length-map, map-set, map-append}
 use Rattle.std.proofs.lemmas.Option.{slice_get-map}
 use Rattle.hir_types.specs.declared.ids.BindingId.{BindingId}
@@ -26,6 +26,7 @@ use Rattle.infer_expr.specs.Fine.{IsFine}
 use Rattle.infer_expr.specs.Found as found
 use Rattle.infer_expr.specs.Found.{Found}
 use Rattle.infer_expr.specs.Walks.{IsFree}
+use Rattle.infer_expr.proofs.Lists.{length-noted, noted-cases}
 
 -- ---- lists of what is recorded, each under a function
 
@@ -58,6 +59,17 @@ module _ {A B : Type 0} (f : A → B) where
   pub set-closed : (xs : List (Option A)) (n : ℕ) (x : A) → map (option_map f) (slice_set xs n (Some x)) ≡ slice_set (map (option_map f) xs) n (Some (f x))
   set-closed xs n x = map-set (option_map f) xs n (Some x)
 
+-- what is noted, under a function
+module _ (f : TypeMismatch → TypeMismatch) where
+  noted-closed_where : (xs : List (Option TypeMismatch)) (n : ℕ) (m : TypeMismatch) (o : Option (Option TypeMismatch)) → map (option_map f) (found.noted_where o xs n m) ≡ found.noted_where (option_map (option_map f) o) (map (option_map f) xs) n (f m)
+  noted-closed_where xs n m None = refl
+  noted-closed_where xs n m (Some None) = set-closed f xs n m
+  noted-closed_where xs n m (Some (Some x)) = refl
+
+  pub noted-closed : (xs : List (Option TypeMismatch)) (n : ℕ) (m : TypeMismatch) → map (option_map f) (found.noted xs n m) ≡ found.noted (map (option_map f) xs) n (f m)
+  noted-closed xs n m =
+      noted-closed_where xs n m (slice_get xs n) ∙ ap (λ o. found.noted_where o (map (option_map f) xs) n (f m)) (sym (slice_get-map (option_map f) xs n))
+
 -- ---- tables of a body
 
 pub of_body_closed : (a : Assignment) (b : RawBody) (r : InferenceResult) → IsOfBody b r → IsOfBody b (closed_table a r)
@@ -67,6 +79,7 @@ of_body_closed a b r h = record {
   bindings = length-closed (folded a) r.type_of_binding ∙ h.bindings;
   modes = h.modes;
   mismatches = length-closed (closed_mismatch a) r.expr_mismatches ∙ h.mismatches;
+  pat_mismatches = length-closed (closed_mismatch a) r.pat_mismatches ∙ h.pat_mismatches;
 }
 
 pub of_body_unclosed : (a : Assignment) (b : RawBody) (r : InferenceResult) → IsOfBody b (closed_table a r) → IsOfBody b r
@@ -76,6 +89,7 @@ of_body_unclosed a b r h = record {
   bindings = sym (length-closed (folded a) r.type_of_binding) ∙ h.bindings;
   modes = h.modes;
   mismatches = sym (length-closed (closed_mismatch a) r.expr_mismatches) ∙ h.mismatches;
+  pat_mismatches = sym (length-closed (closed_mismatch a) r.pat_mismatches) ∙ h.pat_mismatches;
 }
 
 -- a write leaves the lists as long as they are
@@ -87,6 +101,7 @@ module _ (b : RawBody) (c : InferenceContext) (h : IsOfBody b c.result) where
     bindings = h.bindings;
     modes = h.modes;
     mismatches = h.mismatches;
+    pat_mismatches = h.pat_mismatches;
   }
 
   pub of_body_mismatch : (e : ExprId) (m : TypeMismatch) → IsOfBody b (context.with_mismatch c e m).result
@@ -95,7 +110,18 @@ module _ (b : RawBody) (c : InferenceContext) (h : IsOfBody b c.result) where
     pats = h.pats;
     bindings = h.bindings;
     modes = h.modes;
-    mismatches = length-set c.result.expr_mismatches e.0 (Some m) ∙ h.mismatches;
+    mismatches = length-noted c.result.expr_mismatches e.0 m ∙ h.mismatches;
+    pat_mismatches = h.pat_mismatches;
+  }
+
+  pub of_body_pat_mismatch : (p : PatId) (m : TypeMismatch) → IsOfBody b (context.with_pat_mismatch c p m).result
+  of_body_pat_mismatch p m = record {
+    exprs = h.exprs;
+    pats = h.pats;
+    bindings = h.bindings;
+    modes = h.modes;
+    mismatches = h.mismatches;
+    pat_mismatches = length-noted c.result.pat_mismatches p.0 m ∙ h.pat_mismatches;
   }
 
   pub of_body_pat_ty : (p : PatId) (t : Ty) → IsOfBody b (context.with_pat_ty c p t).result
@@ -105,6 +131,7 @@ module _ (b : RawBody) (c : InferenceContext) (h : IsOfBody b c.result) where
     bindings = h.bindings;
     modes = h.modes;
     mismatches = h.mismatches;
+    pat_mismatches = h.pat_mismatches;
   }
 
   pub of_body_mode : (p : PatId) (m : BindingMode) → IsOfBody b (context.with_mode c p m).result
@@ -114,6 +141,7 @@ module _ (b : RawBody) (c : InferenceContext) (h : IsOfBody b c.result) where
     bindings = h.bindings;
     modes = length-set c.result.binding_modes p.0 (Some m) ∙ h.modes;
     mismatches = h.mismatches;
+    pat_mismatches = h.pat_mismatches;
   }
 
   pub of_body_binding_ty : (v : BindingId) (t : Ty) → IsOfBody b (context.with_binding_ty c v t).result
@@ -123,6 +151,7 @@ module _ (b : RawBody) (c : InferenceContext) (h : IsOfBody b c.result) where
     bindings = length-set c.result.type_of_binding v.0 (Some t) ∙ h.bindings;
     modes = h.modes;
     mismatches = h.mismatches;
+    pat_mismatches = h.pat_mismatches;
   }
 
 pub of_body_bound_by : (b : RawBody) (c : InferenceContext) (p : PatId) (v : BindingId) (t : Ty) → IsOfBody b c.result → IsOfBody b (context.bound_by c p v t).result
@@ -141,7 +170,10 @@ module _ (a : Assignment) (c : InferenceContext) where
   expr_ty_under e t = ap (λ xs. record { result = record (closed_table a c.result) { type_of_expr = xs }; clock = c.clock }) (set-closed (folded a) c.result.type_of_expr e.0 t)
 
   pub mismatch_under : (e : ExprId) (m : TypeMismatch) → found_under a (context.with_mismatch c e m) ≡ found.with_mismatch (found_under a c) e (closed_mismatch a m)
-  mismatch_under e m = ap (λ xs. record { result = record (closed_table a c.result) { expr_mismatches = xs }; clock = c.clock }) (set-closed (closed_mismatch a) c.result.expr_mismatches e.0 m)
+  mismatch_under e m = ap (λ xs. record { result = record (closed_table a c.result) { expr_mismatches = xs }; clock = c.clock }) (noted-closed (closed_mismatch a) c.result.expr_mismatches e.0 m)
+
+  pub pat_mismatch_under : (p : PatId) (m : TypeMismatch) → found_under a (context.with_pat_mismatch c p m) ≡ found.with_pat_mismatch (found_under a c) p (closed_mismatch a m)
+  pat_mismatch_under p m = ap (λ xs. record { result = record (closed_table a c.result) { pat_mismatches = xs }; clock = c.clock }) (noted-closed (closed_mismatch a) c.result.pat_mismatches p.0 m)
 
   pub pat_ty_under : (p : PatId) (t : Ty) → found_under a (context.with_pat_ty c p t) ≡ found.with_pat_ty (found_under a c) p (folded a t)
   pat_ty_under p t = ap (λ xs. record { result = record (closed_table a c.result) { type_of_pat = xs }; clock = c.clock }) (set-closed (folded a) c.result.type_of_pat p.0 t)
@@ -187,6 +219,9 @@ set_keeps P (o ∷ xs) zero x all h (suc m) y k = all (suc m) y k
 set_keeps P (o ∷ xs) (suc n) x all h zero y k = all zero y k
 set_keeps P (o ∷ xs) (suc n) x all h (suc m) y k = set_keeps P xs n x (λ i z l. all (suc i) z l) h m y k
 
+noted_keeps : (P : TypeMismatch → Type 0) (xs : List (Option TypeMismatch)) (n : ℕ) (x : TypeMismatch) → ((m : ℕ) (y : TypeMismatch) → At xs m y → P y) → P x → (m : ℕ) (y : TypeMismatch) → At (found.noted xs n x) m y → P y
+noted_keeps P xs n x all h m y k = elim (noted-cases xs n m x y k) [ inl q ↦ all m y q | inr q ↦ subst P q.1 h ]
+
 -- another table of fine types, and another clock
 pub sound_with : (c : InferenceContext) (r : InferenceResult) (n : ℕ) → IsSound c → AllTypes (IsFine c.table) r → IsSound (record c { result = r; clock = n })
 sound_with c r n s h = record {
@@ -206,6 +241,8 @@ module _ (c : InferenceContext) (s : IsSound c) where
     bindings = s.fine.bindings;
     expected = s.fine.expected;
     actual = s.fine.actual;
+    pat_expected = s.fine.pat_expected;
+    pat_actual = s.fine.pat_actual;
   })
 
   pub sound_mismatch : (e : ExprId) (m : TypeMismatch) → IsFine c.table m.expected → IsFine c.table m.actual → IsSound (context.with_mismatch c e m)
@@ -213,8 +250,21 @@ module _ (c : InferenceContext) (s : IsSound c) where
     exprs = s.fine.exprs;
     pats = s.fine.pats;
     bindings = s.fine.bindings;
-    expected = set_keeps (λ x. IsFine c.table x.expected) c.result.expr_mismatches e.0 m s.fine.expected h;
-    actual = set_keeps (λ x. IsFine c.table x.actual) c.result.expr_mismatches e.0 m s.fine.actual k;
+    expected = noted_keeps (λ x. IsFine c.table x.expected) c.result.expr_mismatches e.0 m s.fine.expected h;
+    actual = noted_keeps (λ x. IsFine c.table x.actual) c.result.expr_mismatches e.0 m s.fine.actual k;
+    pat_expected = s.fine.pat_expected;
+    pat_actual = s.fine.pat_actual;
+  })
+
+  pub sound_pat_mismatch : (p : PatId) (m : TypeMismatch) → IsFine c.table m.expected → IsFine c.table m.actual → IsSound (context.with_pat_mismatch c p m)
+  sound_pat_mismatch p m h k = sound_with c (context.with_pat_mismatch c p m).result c.clock s (record {
+    exprs = s.fine.exprs;
+    pats = s.fine.pats;
+    bindings = s.fine.bindings;
+    expected = s.fine.expected;
+    actual = s.fine.actual;
+    pat_expected = noted_keeps (λ x. IsFine c.table x.expected) c.result.pat_mismatches p.0 m s.fine.pat_expected h;
+    pat_actual = noted_keeps (λ x. IsFine c.table x.actual) c.result.pat_mismatches p.0 m s.fine.pat_actual k;
   })
 
   pub sound_pat_ty : (p : PatId) (t : Ty) → IsFine c.table t → IsSound (context.with_pat_ty c p t)
@@ -224,6 +274,8 @@ module _ (c : InferenceContext) (s : IsSound c) where
     bindings = s.fine.bindings;
     expected = s.fine.expected;
     actual = s.fine.actual;
+    pat_expected = s.fine.pat_expected;
+    pat_actual = s.fine.pat_actual;
   })
 
   pub sound_mode : (p : PatId) (m : BindingMode) → IsSound (context.with_mode c p m)
@@ -233,6 +285,8 @@ module _ (c : InferenceContext) (s : IsSound c) where
     bindings = s.fine.bindings;
     expected = s.fine.expected;
     actual = s.fine.actual;
+    pat_expected = s.fine.pat_expected;
+    pat_actual = s.fine.pat_actual;
   })
 
   pub sound_binding_ty : (v : BindingId) (t : Ty) → IsFine c.table t → IsSound (context.with_binding_ty c v t)
@@ -242,6 +296,8 @@ module _ (c : InferenceContext) (s : IsSound c) where
     bindings = set_keeps (IsFine c.table) c.result.type_of_binding v.0 t s.fine.bindings h;
     expected = s.fine.expected;
     actual = s.fine.actual;
+    pat_expected = s.fine.pat_expected;
+    pat_actual = s.fine.pat_actual;
   })
 
 pub sound_bound_by : (c : InferenceContext) (p : PatId) (v : BindingId) (t : Ty) → IsSound c → IsFine c.table t → IsSound (context.bound_by c p v t)

@@ -1,6 +1,5 @@
 -- An expression put at the type that is expected of it, with or without a mismatch.
-use Rattle.std.proofs.Common.{ℕ, ◌<◌, ◌≡◌, ◌≢◌, ◌⊎◌, inl, inr, length, refl, sym, ap, subst, ◌∙◌, arith, Option, Some, None, slice_get}
-use Rattle.std.proofs.Math.ListN.{length-set}
+use Rattle.std.proofs.Common.{ℕ, ◌<◌, ◌≡◌, ◌⊎◌, inl, inr, Bool, true, false, length, refl, sym, ap, subst, ◌∙◌, Option, Some, None}
 use Rattle.hir_types.specs.declared.ids.ExprId.{ExprId}
 use Rattle.hir_types.specs.declared.ty.Ty.{Ty}
 use Rattle.hir_facts.specs.declared.schedule.Schedule.{Schedule}
@@ -8,129 +7,53 @@ use Rattle.hir_types.specs.Erasure.{erased}
 use Rattle.hir_facts.specs.CarriedTypes.{IsCarriedType, same_carried}
 use Rattle.infer_result.specs.declared.result.InferenceResult.{InferenceResult}
 use Rattle.infer_result.specs.declared.result.TypeMismatch.{TypeMismatch}
-use Rattle.infer_result.specs.Table.{At, mismatch}
+use Rattle.infer_result.specs.Table.{HasTy, HasMismatch, mismatch}
 use Rattle.infer_expr.specs.Walks.{IsCarriedTable}
 use Rattle.infer_result.specs.Places.{Given, Demand, IsAtOrMismatch}
 use Rattle.infer_result.specs.Made.{IsMisfit}
 use Rattle.infer_expr.specs.Found.{Found, with_mismatch}
 use Rattle.infer_expr.specs.Context.{IsCarriedExpectation}
-use Rattle.infer_expr.specs.Walks.{Walks, IsWalked, IsFree, Extends, Nothing, Owed, expr_start}
-use Rattle.infer_expr.specs.Under.{Before, OwnDone, CoerceDone, IsPlaced, IsCoerced}
-use Rattle.infer_expr.proofs.Lists.{slice_get-set_same, slice_get-set_other, At-set, At-set_cases}
-use Rattle.infer_expr.proofs.Parts.{expr_id}
+use Rattle.infer_expr.specs.Walks.{Walks, IsWalked, Debt, Nothing, Owed}
+use Rattle.infer_expr.specs.Under.{Before, OwnDone, CoerceDone, IsPlaced, IsCoercedIf}
 use Rattle.infer_expr.proofs.Category.{walks_paid}
-use Rattle.infer_expr.proofs.Keeps.{extends_trans, obeys_kept, pat_kept, misfit_kept, demand_kept}
+use Rattle.infer_expr.proofs.Noted.{noted_has, noted_walks}
 
-module _ (g : Given) (s : Schedule) (e : ExprId) (t u : Ty) (old mid : Found) (h : Before g s e (Some u) old) (d : OwnDone g s e (Some u) t old mid) (free : IsFree mid.result.expr_mismatches e.0) (differ : u ≡ t → ⊥) where
-  abbrev marked : Found
-  marked = with_mismatch mid e (mismatch u t)
+-- an expression that has the type t is at u, or that it is not is noted
+module _ (g : Given) (s : Schedule) (P : Debt) (e : ExprId) (t u : Ty) (old mid : Found) (walks : Walks g s P old mid) (within : e.0 < length g.body.exprs) (has : HasTy mid.result e t) (carried : IsCarriedType u) where
+  carried_own : IsCarriedType t
+  carried_own = walks.state.carried.exprs e.0 t has
 
-  long : e.0 < length mid.result.expr_mismatches
-  long = rw d.walks.state.of_body.mismatches h.within
+  own_misfit : (u ≡ t → ⊥) → IsMisfit g mid.result e (mismatch u t)
+  own_misfit differ = record { differ = λ same. differ (same_carried u t carried carried_own same); actual = inl has }
 
-  extends : Extends mid.result marked.result
-  extends = record {
-    exprs = λ n a i. i;
-    pats = λ p a i. i;
-    bindings = λ v a i. i;
-    modes = λ p m i. i;
-    mismatches = λ n m i. At-set mid.result.expr_mismatches e.0 n.0 (mismatch u t) m free i;
-  }
+  pub coerced_walks : (fits : Bool) (new : Found) → ((u ≡ t → ⊥) → Demand g mid.result e u ⊎ P e (mismatch u t)) → IsCoercedIf fits e t u mid new → Walks g s P old new
+  coerced_walks true new owed k = subst (λ c. Walks g s P old c) (sym k.1) walks
+  coerced_walks false new owed k =
+      subst (λ c. Walks g s P old c) (sym k.1) (noted_walks g s P old mid e (mismatch u t) carried carried_own (own_misfit k.0) (owed k.0) walks)
 
-  other : (n : ExprId) → expr_start g.body s n ≢ expr_start g.body s e → slice_get marked.result.expr_mismatches n.0 ≡ slice_get mid.result.expr_mismatches n.0
-  other n ne =
-      let d : n.0 ≢ e.0 = (λ i. ne (ap (λ m. expr_start g.body s m) (expr_id n e i))) in
-      slice_get-set_other mid.result.expr_mismatches e.0 n.0 (Some (mismatch u t)) d
+  pub coerced_placed : (fits : Bool) (new : Found) → IsCoercedIf fits e t u mid new → IsAtOrMismatch new.result e u
+  coerced_placed true new k = subst (λ c. IsAtOrMismatch c.result e u) (sym k.1) (t, has, inl (ap erased k.0))
+  coerced_placed false new k =
+      let long : e.0 < length mid.result.expr_mismatches = rw walks.state.of_body.mismatches within in
+      subst (λ c. IsAtOrMismatch c.result e u) (sym k.1) (t, has, inr (noted_has mid e (mismatch u t) long))
 
-  cases : (n : ℕ) (m : TypeMismatch) → At marked.result.expr_mismatches n m → At mid.result.expr_mismatches n m ⊎ ((n ≡ e.0) × (mismatch u t ≡ m))
-  cases n m i = At-set_cases mid.result.expr_mismatches e.0 n (mismatch u t) m long i
+pub coerced_clock : (fits : Bool) (e : ExprId) (t u : Ty) (old new : Found) → IsCoercedIf fits e t u old new → new.clock ≡ old.clock
+coerced_clock true e t u old new k = ap (λ c. c.clock) k.1
+coerced_clock false e t u old new k = ap (λ c. c.clock) k.1
 
-  carried : IsCarriedTable marked.result
-  carried =
-      let c = d.walks.state.carried in
-      record {
-        exprs = c.exprs;
-        pats = c.pats;
-        bindings = c.bindings;
-        expected = λ n m i. elim (cases n m i) [ inl q ↦ c.expected n m q | inr q ↦ subst (λ y. IsCarriedType y.expected) q.1 h.expected ];
-        actual = λ n m i. elim (cases n m i) [ inl q ↦ c.actual n m q | inr q ↦ subst (λ y. IsCarriedType y.actual) q.1 (c.exprs e.0 t d.type_is) ];
-      }
-
-  state : IsWalked g.body s marked
-  state =
-      let c = d.walks.state in
-      record {
-        of_body = record {
-          exprs = c.of_body.exprs;
-          pats = c.of_body.pats;
-          bindings = c.of_body.bindings;
-          modes = c.of_body.modes;
-          mismatches = rw length-set c.of_body.mismatches;
-        };
-        carried = carried;
-        free_exprs = c.free_exprs;
-        free_mismatches = λ n i lo. other n (omega (arith, d.walks.clock, h.here, d.clock, h.ready.law.schedule.order)) ∙ c.free_mismatches n i lo;
-        free_pats = c.free_pats;
-        free_modes = c.free_modes;
-        free_bindings = c.free_bindings;
-        bound = c.bound;
-      }
-
-  misfit : (n : ExprId) (m : TypeMismatch) → (n.0 ≡ e.0) × (mismatch u t ≡ m) → IsMisfit g marked.result n m × Owed e (Some u) n m
-  misfit n m q =
-      let is : n ≡ e = expr_id n e q.0 in
-      let own : IsMisfit g marked.result e (mismatch u t) = record { differ = λ same. differ (same_carried u t h.expected (d.walks.state.carried.exprs e.0 t d.type_is) same); actual = inl d.type_is } in (
-        subst (λ a. IsMisfit g marked.result a m) (sym is) (subst (λ y. IsMisfit g marked.result e y) q.1 own),
-        (is, ap (λ y. y.expected) (sym q.1)),
-      )
-
-  pub mismatched : CoerceDone g s e (Some u) u old marked
-  mismatched = record {
-    walks = record {
-      clock = d.walks.clock;
-      extends = extends_trans old.result mid.result marked.result d.walks.extends extends;
-      kept = d.walks.kept;
-      kept_mismatches = λ n i lo. other n (omega (arith, h.here)) ∙ d.walks.kept_mismatches n i lo;
-      state = state;
-      made = λ n i lo hi. obeys_kept g mid.result marked.result extends n (d.walks.made n i lo hi);
-      pats_made = λ p i lo hi. pat_kept g mid.result marked.result extends p (slice_get g.body.pats p.0) (d.walks.pats_made p i lo hi);
-      truths = λ n m i.
-          elim (cases n.0 m i) [
-            | inl q ↦
-                elim (d.walks.truths n m q) [
-                  | inl o ↦ inl o
-                  | inr o ↦
-                      inr (
-                        misfit_kept g mid.result marked.result extends n m o.0,
-                        elim o.1 [ inl d ↦ inl (demand_kept g mid.result marked.result extends n m.expected d) | inr p ↦ inr p ],
-                      )
-                ]
-            | inr q ↦ (let f = misfit n m q in inr (f.0, inr f.1))
-          ];
-    };
-    clock = d.clock;
-    placed = (refl, (t, d.type_is, inr (slice_get-set_same mid.result.expr_mismatches e.0 (Some (mismatch u t)) long)));
-  }
-
-pub coerced : (g : Given) (s : Schedule) (e : ExprId) (t u : Ty) (old mid new : Found) → Before g s e (Some u) old → OwnDone g s e (Some u) t old mid → IsCoerced e t u mid new → CoerceDone g s e (Some u) u old new
-coerced g s e t u old mid new h d (inl q) =
-    subst (λ c. CoerceDone g s e (Some u) u old c) (sym q.1) (
-    record { walks = d.walks; clock = d.clock; placed = (refl, (t, d.type_is, inl (ap erased q.0))) }
-    )
-coerced g s e t u old mid new h d (inr q) =
-    subst (λ c. CoerceDone g s e (Some u) u old c) (sym q.1) (
-    elim d.free [
-      | inl free ↦ mismatched g s e t u old mid h d free q.0
-      | inr same ↦ (let i : u ≡ t = cc in absurd (q.0 i))
-    ]
-    )
+pub coerced : (g : Given) (s : Schedule) (fits : Bool) (e : ExprId) (t u : Ty) (old mid new : Found) → Before g s e (Some u) old → OwnDone g s e (Some u) t old mid → IsCoercedIf fits e t u mid new → CoerceDone g s e (Some u) u old new
+coerced g s fits e t u old mid new h d k = record {
+  walks = coerced_walks g s (Owed e (Some u)) e t u old mid d.walks h.within d.type_is h.expected fits new (λ differ. inr (refl, refl)) k;
+  clock = coerced_clock fits e t u mid new k ∙ d.clock;
+  placed = (refl, coerced_placed g s (Owed e (Some u)) e t u old mid d.walks h.within d.type_is h.expected fits new k);
+}
 
 -- the same, where the expected type and the answer are known by equations
-pub coerced_as : (g : Given) (s : Schedule) (e : ExprId) (x : Option Ty) (t u v : Ty) (old mid new : Found) → Some u ≡ x → v ≡ u → Before g s e x old → OwnDone g s e x t old mid → IsCoerced e t u mid new → CoerceDone g s e x v old new
-coerced_as g s e x t u v old mid new f i h d k =
+pub coerced_as : (g : Given) (s : Schedule) (fits : Bool) (e : ExprId) (x : Option Ty) (t u v : Ty) (old mid new : Found) → Some u ≡ x → v ≡ u → Before g s e x old → OwnDone g s e x t old mid → IsCoercedIf fits e t u mid new → CoerceDone g s e x v old new
+coerced_as g s fits e x t u v old mid new f i h d k =
     subst (λ w. CoerceDone g s e x w old new) (sym i) (
     subst (λ y. CoerceDone g s e y u old new) f (
-    coerced g s e t u old mid new (subst (λ y. Before g s e y old) (sym f) h) (subst (λ y. OwnDone g s e y t old mid) (sym f) d) k
+    coerced g s fits e t u old mid new (subst (λ y. Before g s e y old) (sym f) h) (subst (λ y. OwnDone g s e y t old mid) (sym f) d) k
     )
     )
 

@@ -1,5 +1,5 @@
 -- What is expected of an expression, what it has, and what is made of the two.
-use Rattle.std.proofs.Common.{◌≡◌, refl, sym, ap, subst, arith, Option, Some, None, slice_get}
+use Rattle.std.proofs.Common.{Bool, ◌≡◌, refl, sym, ap, subst, arith, Option, Some, None, slice_get}
 use Rattle.hir_types.specs.declared.ids.ExprId.{ExprId}
 use Rattle.hir_types.specs.declared.ty.Ty.{Ty}
 use Rattle.hir_types.specs.Subst.{Assignment, folded}
@@ -14,7 +14,7 @@ use Rattle.infer_expr.specs.declared.context.InferenceContext.{InferenceContext}
 use Rattle.infer_expr.specs.Context as context
 use Rattle.infer_expr.specs.Closings.{Closes, closed_table, found_under, expected_under, IsSound}
 use Rattle.infer_expr.specs.Fine.{IsFine, IsFineExpectation}
-use Rattle.infer_expr.specs.Steps.{Follows, Before, Within, OwnDone, CoerceDone, KindDone, IsCoerced, LiteralDone}
+use Rattle.infer_expr.specs.Steps.{Follows, Before, Within, OwnDone, CoerceDone, KindDone, IsCoercedIf, LiteralDone}
 use Rattle.infer_expr.specs.Under as under
 use Rattle.infer_expr.proofs.Close.{entered_within, close}
 use Rattle.infer_expr.proofs.Coercions.{coerced_as, uncoerced}
@@ -56,8 +56,8 @@ own_done g s e x t old mid h k = record {
       (close g s e (expected_under a x) (folded a t) (found_under a old) (found_under a mid) (before_under g s a old o e x h) (k.each a m));
 }
 
-pub coerced_done : (g : Given) (s : Schedule) (e : ExprId) (x : Option Ty) (t u v : Ty) (old mid new : InferenceContext) → Some u ≡ x → v ≡ u → Before g s e x old → OwnDone g s e x t old mid → IsCoerced g.body e t u mid new → CoerceDone g s e x v old new
-coerced_done g s e x t u v old mid new f i h d k =
+pub coerced_done : (fits : Bool) (g : Given) (s : Schedule) (e : ExprId) (x : Option Ty) (t u v : Ty) (old mid new : InferenceContext) → Some u ≡ x → v ≡ u → Before g s e x old → OwnDone g s e x t old mid → IsCoercedIf fits g.body e t u mid new → CoerceDone g s e x v old new
+coerced_done fits g s e x t u v old mid new f i h d k =
     let all : Follows g.body old new = follows_twice g.body old mid new d.follows k.follows in
     record {
       follows = all;
@@ -67,7 +67,7 @@ coerced_done g s e x t u v old mid new f i h d k =
       each = λ a q.
           let m : Closes a mid = closes_before g.body a mid new k.follows q in
           let o : Closes a old = closes_before g.body a old mid d.follows m in
-          coerced_as g s e (expected_under a x) (folded a t) (folded a u) (folded a v) (found_under a old) (found_under a mid) (found_under a new)
+          coerced_as g s fits e (expected_under a x) (folded a t) (folded a u) (folded a v) (found_under a old) (found_under a mid) (found_under a new)
           (ap (expected_under a) f) (ap (folded a) i) (before_under g s a old o e x h) (d.each a m) (k.each a q);
     }
 
@@ -101,11 +101,13 @@ literal_kind g s e x l t c new h is d = record {
 path_under : (a : Assignment) (c : InferenceContext) (p : RawPath) (t : Ty) → under.IsPathType c.result p t → under.IsPathType (found_under a c).result p (folded a t)
 path_under a c (path.Local v) t h = At-closed (folded a) c.result.type_of_binding v.0 t h
 path_under a c (path.Function f) t h = h
+path_under a c (path.Ctor named) t h = h
 path_under a c path.Other t h = h
 
 path_fine : (c : InferenceContext) (p : RawPath) (t : Ty) → IsSound c → under.IsPathType c.result p t → IsFine c.table t
 path_fine c (path.Local v) t s h = s.fine.bindings v.0 t h
 path_fine c (path.Function f) t s h = absurd h
+path_fine c (path.Ctor named) t s h = absurd h
 path_fine c path.Other t s h = absurd h
 
 pub path_kind : (g : Given) (s : Schedule) (e : ExprId) (x : Option Ty) (p : RawPath) (t : Ty) (c : InferenceContext) → Within g s e x c → slice_get g.body.exprs e.0 ≡ Some (expr.Path p) → under.IsPathType c.result p t → KindDone g s e x t c c
@@ -118,6 +120,7 @@ path_kind g s e x p t c h is k = record {
 path_open : (a : Assignment) (c : InferenceContext) (p : RawPath) (t : Ty) → under.IsPathType (found_under a c).result p t → (u : Ty) × under.IsPathType c.result p u
 path_open a c (path.Local v) t h = let q = At-unclosed (folded a) c.result.type_of_binding v.0 t h in (q.0, q.1)
 path_open a c (path.Function f) t h = absurd h
+path_open a c (path.Ctor named) t h = absurd h
 path_open a c path.Other t h = absurd h
 
 -- a path names a local, which has a type

@@ -157,6 +157,9 @@ fine_elements state ts h =
     let Q : Term → Type 0 = HasOnly is_fine_head in
     fine_parts state ts (are_of_parts kinds (leaf head.Tuple) (chain (type_parts ts)) (subst P (term_tuple ts) h.holes)).1 (subst Q (term_tuple ts) h.heads).1
 
+pub fine_part : (state : State) (ts : List Ty) (i : ℕ) (t : Ty) → IsFine state (ty.Tuple ts) → slice_get ts i ≡ Some t → IsFine state t
+fine_part state ts i t h e = every_at (IsFine state) ts i t (fine_elements state ts h) e
+
 maybe_fine : (state : State) (ts : List Ty) (i : ℕ) (o : Option Ty) → AllFine state ts → slice_get ts i ≡ o → IsFineExpectation state o
 maybe_fine state ts i None h e = tt
 maybe_fine state ts i (Some t) h e = every_at (IsFine state) ts i t h e
@@ -190,6 +193,8 @@ table_fine_grown s t r g h = record {
   bindings = λ n x i. fine_grown s t x g (h.bindings n x i);
   expected = λ n x i. fine_grown s t x.expected g (h.expected n x i);
   actual = λ n x i. fine_grown s t x.actual g (h.actual n x i);
+  pat_expected = λ n x i. fine_grown s t x.expected g (h.pat_expected n x i);
+  pat_actual = λ n x i. fine_grown s t x.actual g (h.pat_actual n x i);
 }
 
 -- ---- induction over fine types
@@ -379,6 +384,9 @@ written_by f i type.Bool b c h = heads_bool
 written_by f i type.Char b c h = heads_char
 written_by f i (type.Integer n) b c h = heads_integer n
 written_by f i (type.Tuple ts) b c h = heads_tuple (map (λ t. f t.0) ts) (written_parts f ts (λ k t e. h t.0 (b k t e)))
+written_by f i (type.Adt a ts) b c h = absurd (true≢false (sym c))
+written_by f i (type.Param n) b c h = absurd (true≢false (sym c))
+written_by f i type.Hole b c h = absurd (true≢false (sym c))
 written_by f i type.Other b c h = absurd (true≢false (sym c))
 
 written_within : (n : ℕ) (types : List RawType) → AreLawfulTypes types → (i : ℕ) → i < n → i < length types → HasFineHeads (lowered_within n types i)
@@ -394,10 +402,10 @@ pub written_heads : (types : List RawType) → AreLawfulTypes types → (w : Typ
 written_heads types law w h = written_within (suc w.0) types law w.0 (omega arith) h
 
 pub is_written : (types : List RawType) → AreLawfulTypes types → (w : TypeRefId) → w.0 < length types → IsWritten types w
-is_written types law w h = record { within = h; heads = written_heads types law w h }
+is_written types law w h = record { within = h; carried = written_carried types (λ i x e. (law i x e).1) w; heads = written_heads types law w h }
 
 pub written_fine : (state : State) (types : List RawType) (w : TypeRefId) → IsWritten types w → IsFine state (written_type types w)
-written_fine state types w h = carried_fine state (written_type types w) (written_carried types w) h.heads
+written_fine state types w h = carried_fine state (written_type types w) h.carried h.heads
 
 -- ---- of lawful facts
 

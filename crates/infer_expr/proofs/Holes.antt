@@ -10,17 +10,13 @@ use Rattle.hir_types.specs.Subst.{with_holes}
 use Rattle.hir_types.specs.Types.{integer_type}
 use Rattle.hir_facts.specs.CarriedTypes.{carried_bool, carried_char, carried_integer}
 use Rattle.hir_facts.specs.declared.raw.RawLiteral.TheVariants as literal
-use Rattle.hir_types.specs.declared.ids.TypeRefId.{TypeRefId}
-use Rattle.hir_facts.specs.Types.{written_type}
-use Rattle.infer_result.specs.Places.{Given}
 use Rattle.infer_table.specs.HoleLaws.{grew_by_hole}
 use Rattle.infer_table.specs.Table.{with_new_hole, hole_count}
 use Rattle.infer_table.specs.UndoLaws.{grew_itself}
 use Rattle.infer_expr.specs.declared.context.InferenceContext.{InferenceContext}
 use Rattle.infer_expr.specs.Closings.{IsSound}
-use Rattle.infer_expr.specs.Fine.{IsWritten}
-use Rattle.infer_expr.specs.Steps.{IntDone, LiteralDone, DeclaredDone}
-use Rattle.infer_expr.proofs.FineTypes.{fine_bool, fine_char, fine_integer, fine_hole, fine_int_hole, written_fine, table_fine_grown, carried_closed}
+use Rattle.infer_expr.specs.Steps.{IntDone, LiteralDone}
+use Rattle.infer_expr.proofs.FineTypes.{fine_bool, fine_char, fine_integer, fine_int_hole, table_fine_grown, carried_closed}
 use Rattle.infer_expr.proofs.Unified.{with_table}
 
 -- with one hole more
@@ -99,26 +95,4 @@ unsuffixed_literal digits t old new d = record {
   sound = d.sound;
   fine = d.fine;
   each = d.each;
-}
-
--- ---- the types of patterns without an initializer
-
-pub declared_written : (g : Given) (w : TypeRefId) (c : InferenceContext) → IsSound c → IsWritten g.types w → DeclaredDone g (Some w) (written_type g.types w) c c
-declared_written g w c s h = record {
-  result = refl;
-  clock = refl;
-  grew = grew_itself c.table;
-  sound = s;
-  fine = written_fine c.table g.types w h;
-  written = λ y e. (let f : w ≡ y = cc in ap (written_type g.types) f);
-}
-
-pub declared_hole : (g : Given) (c : InferenceContext) → IsSound c → DeclaredDone g None (ty.Var (hole_count c.table)) c (holed c kind.Ty)
-declared_hole g c s = record {
-  result = refl;
-  clock = refl;
-  grew = grew_by_hole c.table (with_new_hole c.table kind.Ty) kind.Ty refl;
-  sound = holed_sound c kind.Ty s;
-  fine = fine_hole c.table;
-  written = λ y e. absurd (cc);
 }

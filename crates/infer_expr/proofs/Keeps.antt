@@ -1,10 +1,12 @@
 -- What is judged stays so, as more is recorded: one lemma for each judgement.
-use Rattle.std.proofs.Common.{◌⊎◌, inl, inr, List, [], ◌∷◌, true, false, Option, Some, None, slice_get}
+use Rattle.std.proofs.Common.{ℕ, ◌⊎◌, inl, inr, List, [], ◌∷◌, true, false, Option, Some, None, slice_get}
 use Rattle.hir_types.specs.declared.ids.ExprId.{ExprId}
 use Rattle.hir_types.specs.declared.ids.PatId.{PatId}
 use Rattle.hir_types.specs.declared.ids.TypeRefId.{TypeRefId}
 use Rattle.hir_types.specs.declared.ids.ExprOrPatId.TheVariants as node
 use Rattle.hir_types.specs.declared.ty.Ty.{Ty}
+use Rattle.hir_types.specs.declared.ty.Ty.TheVariants as ty
+use Rattle.hir_facts.specs.declared.raw.RawArm.{RawArm}
 use Rattle.hir_facts.specs.declared.raw.RawStmt.{RawStmt}
 use Rattle.hir_facts.specs.declared.raw.RawStmt.TheVariants as stmt
 use Rattle.hir_facts.specs.declared.raw.RawExpr.{RawExpr}
@@ -14,17 +16,19 @@ use Rattle.hir_facts.specs.declared.raw.RawPat.{RawPat}
 use Rattle.hir_facts.specs.declared.raw.RawPat.TheVariants as pat
 use Rattle.hir_types.specs.Types.{unit}
 use Rattle.hir_facts.specs.Types.{written_type}
-use Rattle.hir_types.specs.Erasure.{Same}
 use Rattle.hir_facts.specs.Order.{Role, parameter, root, initializer, let_pattern, let_else, statement, tail, element, condition, then_branch, else_branch, scrutinee, arm_pattern, guard, arm, callee, argument, subpattern, pattern_literal, Node, the_body, inner}
 use Rattle.infer_result.specs.declared.result.InferenceResult.{InferenceResult}
 use Rattle.infer_result.specs.declared.result.TypeMismatch.{TypeMismatch}
 use Rattle.infer_result.specs.declared.modes.BindingMode.TheVariants as mode
-use Rattle.infer_result.specs.Table.{MismatchAt, mismatch}
-use Rattle.infer_result.specs.Places.{Given, IsAtOrMismatch, AsksOf, Asks, Demand}
+use Rattle.infer_result.specs.Table.{HasMismatch, AnyMismatch, mismatch}
+use Rattle.infer_result.specs.Places.{Given, IsAt, IsAtOrMismatch, MisfitsAs, PatIsAtOrMismatch, GivesPart, Gives, Incoming, AsksOfAlternative, AsksOf, Asks, IsAsked, Demand}
+use Rattle.infer_result.specs.Rules.Placing.{at_or_mismatch}
 use Rattle.infer_result.specs.Rules.Tuples.{AllAt}
 use Rattle.infer_result.specs.Rules.Blocks.{LetRule, StmtRule, StmtsRule, TailRule}
+use Rattle.infer_result.specs.Rules.Branches.{branches_of, ElseRule, arm_exprs, ArmPatterns, GuardRule, ArmsRule}
 use Rattle.infer_result.specs.Rules.Expressions.{Rule, ObeysOrMismatch}
-use Rattle.infer_result.specs.Rules.Patterns.{PatRule}
+use Rattle.infer_result.specs.Rules.Patterns.{AllPatsAt, PatRule}
+use Rattle.infer_result.specs.Truth.Mismatch.{IsTruePatMismatch}
 use Rattle.infer_result.specs.Made.{IsMisfit}
 use Rattle.infer_expr.specs.Walks.{Extends}
 
@@ -35,6 +39,7 @@ extends_refl a = record {
   bindings = λ v t h. h;
   modes = λ p m h. h;
   mismatches = λ e m h. h;
+  pat_mismatches = λ p m h. h;
 }
 
 pub extends_trans : (a b c : InferenceResult) → Extends a b → Extends b c → Extends a c
@@ -44,12 +49,38 @@ extends_trans a b c x y = record {
   bindings = λ v t h. y.bindings v t (x.bindings v t h);
   modes = λ p m h. y.modes p m (x.modes p m h);
   mismatches = λ e m h. y.mismatches e m (x.mismatches e m h);
+  pat_mismatches = λ p m h. y.pat_mismatches p m (x.pat_mismatches p m h);
 }
 
 module _ (g : Given) (a b : InferenceResult) (x : Extends a b) where
+  pub mismatch_kept : (e : ExprId) → HasMismatch a e → HasMismatch b e
+  mismatch_kept e (m, h) = (m, x.mismatches e m h)
+
+  pub any_kept : (es : List ExprId) → AnyMismatch a es → AnyMismatch b es
+  any_kept [] h = h
+  any_kept (e ∷ es) (inl h) = inl (mismatch_kept e h)
+  any_kept (e ∷ es) (inr h) = inr (any_kept es h)
+
+  pub is_at_kept : (e : ExprId) (t : Ty) → IsAt a e t → IsAt b e t
+  is_at_kept e t (u, h, k) = (u, x.exprs e u h, k)
+
   pub at_kept : (e : ExprId) (t : Ty) → IsAtOrMismatch a e t → IsAtOrMismatch b e t
   at_kept e t (u, h, inl k) = (u, x.exprs e u h, inl k)
-  at_kept e t (u, h, inr k) = (u, x.exprs e u h, inr (x.mismatches e (mismatch t u) k))
+  at_kept e t (u, h, inr k) = (u, x.exprs e u h, inr (mismatch_kept e k))
+
+  misfits_as_kept : (p : PatId) (o : Option RawPat) → MisfitsAs a p o → MisfitsAs b p o
+  misfits_as_kept p None h = h
+  misfits_as_kept p (Some pat.Wild) h = h
+  misfits_as_kept p (Some (pat.Bind v sub)) h = h
+  misfits_as_kept p (Some (pat.Tuple ps)) (m, h) = (m, x.pat_mismatches p m h)
+  misfits_as_kept p (Some (pat.TupleStruct named ps)) h = h
+  misfits_as_kept p (Some (pat.Path named)) h = h
+  misfits_as_kept p (Some (pat.Lit e)) h = mismatch_kept e h
+  misfits_as_kept p (Some pat.Other) h = h
+
+  pub pat_at_kept : (p : PatId) (t : Ty) → PatIsAtOrMismatch g a p t → PatIsAtOrMismatch g b p t
+  pat_at_kept p t (u, h, inl k) = (u, x.pats p u h, inl k)
+  pat_at_kept p t (u, h, inr k) = (u, x.pats p u h, inr (misfits_as_kept p (slice_get g.body.pats p.0) k))
 
   pub all_kept : (es : List ExprId) (ts : List Ty) → AllAt (IsAtOrMismatch a) es ts → AllAt (IsAtOrMismatch b) es ts
   all_kept [] [] h = tt
@@ -57,51 +88,81 @@ module _ (g : Given) (a b : InferenceResult) (x : Extends a b) where
   all_kept (e ∷ es) [] h = absurd h
   all_kept (e ∷ es) (t ∷ ts) h = (at_kept e t h.0, all_kept es ts h.1)
 
-  let_kept : (p : PatId) (w : Option TypeRefId) (i : Option ExprId) → LetRule (IsAtOrMismatch a) g a p w i → LetRule (IsAtOrMismatch b) g b p w i
-  let_kept p (Some w) (Some e) h = (at_kept e (written_type g.types w) h.0, x.pats p (written_type g.types w) h.1)
-  let_kept p (Some w) None h = x.pats p (written_type g.types w) h
-  let_kept p None (Some e) (t, h, k) = (t, x.exprs e t h, x.pats p t k)
+  let_kept : (p : PatId) (w : Option TypeRefId) (i : Option ExprId) → LetRule (at_or_mismatch g a) g a p w i → LetRule (at_or_mismatch g b) g b p w i
+  let_kept p (Some w) (Some e) h = (at_kept e (written_type g.types w) h.0, pat_at_kept p (written_type g.types w) h.1)
+  let_kept p (Some w) None h = pat_at_kept p (written_type g.types w) h
+  let_kept p None (Some e) (t, h, k) = (t, x.exprs e t h, pat_at_kept p t k)
   let_kept p None None h = tt
 
-  pub stmt_kept : (y : RawStmt) → StmtRule (IsAtOrMismatch a) g a y → StmtRule (IsAtOrMismatch b) g b y
+  pub stmt_kept : (y : RawStmt) → StmtRule (at_or_mismatch g a) g a y → StmtRule (at_or_mismatch g b) g b y
   stmt_kept (stmt.Let p w i other) h = let_kept p w i h
   stmt_kept (stmt.Expr e true) h = tt
   stmt_kept (stmt.Expr e false) h = at_kept e unit h
 
-  pub stmts_kept : (ys : List RawStmt) → StmtsRule (IsAtOrMismatch a) g a ys → StmtsRule (IsAtOrMismatch b) g b ys
+  pub stmts_kept : (ys : List RawStmt) → StmtsRule (at_or_mismatch g a) g a ys → StmtsRule (at_or_mismatch g b) g b ys
   stmts_kept [] h = tt
   stmts_kept (y ∷ ys) h = (stmt_kept y h.0, stmts_kept ys h.1)
 
-  abbrev Ends : InferenceResult → ExprId → Ty → Type 0
-  Ends r n t = Same unit t ⊎ MismatchAt r n t unit
-
-  pub tail_kept : (n : ExprId) (o : Option ExprId) (t : Ty) → TailRule (IsAtOrMismatch a) (Ends a n) o t → TailRule (IsAtOrMismatch b) (Ends b n) o t
+  pub tail_kept : (n : ExprId) (o : Option ExprId) (t : Ty) → TailRule (at_or_mismatch g a) n o t → TailRule (at_or_mismatch g b) n o t
   tail_kept n None t (inl k) = inl k
   tail_kept n None t (inr k) = inr (x.mismatches n (mismatch t unit) k)
   tail_kept n (Some e) t h = at_kept e t h
 
-  rule_kept : (n : ExprId) (o : Option RawExpr) → Rule (IsAtOrMismatch a) (IsAtOrMismatch a) (Ends a n) g a n o → Rule (IsAtOrMismatch b) (IsAtOrMismatch b) (Ends b n) g b n o
+  -- what holds of an alternative, and of `()` at the end of a node
+  pub alternative_kept : (es : List ExprId) (e : ExprId) (t : Ty) → IsAt a e t ⊎ AnyMismatch a es → IsAt b e t ⊎ AnyMismatch b es
+  alternative_kept es e t (inl h) = inl (is_at_kept e t h)
+  alternative_kept es e t (inr h) = inr (any_kept es h)
+
+  else_kept : (n first : ExprId) (o : Option ExprId) (t : Ty) → ElseRule (at_or_mismatch g a) n first o t → ElseRule (at_or_mismatch g b) n first o t
+  else_kept n first (Some e) t h = alternative_kept (first ∷ e ∷ []) e t h
+  else_kept n first None t (inl k) = inl k
+  else_kept n first None t (inr k) = inr (any_kept (n ∷ first ∷ []) k)
+
+  pub arm_patterns_kept : (arms : List RawArm) (t : Ty) → ArmPatterns (at_or_mismatch g a) arms t → ArmPatterns (at_or_mismatch g b) arms t
+  arm_patterns_kept [] t h = tt
+  arm_patterns_kept (y ∷ arms) t h = (pat_at_kept y.pat t h.0, arm_patterns_kept arms t h.1)
+
+  pub guard_kept : (o : Option ExprId) → GuardRule (at_or_mismatch g a) o → GuardRule (at_or_mismatch g b) o
+  guard_kept None h = tt
+  guard_kept (Some e) h = at_kept e ty.Bool h
+
+  pub arms_kept : (es : List ExprId) (arms : List RawArm) (t : Ty) → ArmsRule (at_or_mismatch g a) es arms t → ArmsRule (at_or_mismatch g b) es arms t
+  arms_kept es [] t h = tt
+  arms_kept es (y ∷ arms) t h = ((guard_kept y.guard h.0.0, alternative_kept es y.expr t h.0.1), arms_kept es arms t h.1)
+
+  rule_kept : (n : ExprId) (o : Option RawExpr) → Rule (at_or_mismatch g a) g a n o → Rule (at_or_mismatch g b) g b n o
   rule_kept n None h = h
   rule_kept n (Some (expr.Lit l)) (t, h, k) = (t, x.exprs n t h, k)
   rule_kept n (Some (expr.Path (path.Local v))) (t, h, k) = (t, x.exprs n t h, x.bindings v t k)
   rule_kept n (Some (expr.Path (path.Function f))) h = h
+  rule_kept n (Some (expr.Path (path.Ctor named))) h = h
   rule_kept n (Some (expr.Path path.Other)) h = h
   rule_kept n (Some (expr.Tuple es)) (ts, h, k) = (ts, x.exprs n _ h, all_kept es ts k)
   rule_kept n (Some (expr.Block label stmts last)) (h, (t, k, l)) = (stmts_kept stmts h, (t, x.exprs n t k, tail_kept n last t l))
-  rule_kept n (Some (expr.If c first other)) h = h
-  rule_kept n (Some (expr.Match e arms)) h = h
+  rule_kept n (Some (expr.If c first other)) (h, (t, k, l)) =
+      (at_kept c ty.Bool h, (t, x.exprs n t k, (alternative_kept (branches_of n first other) first t l.0, else_kept n first other t l.1)))
+  rule_kept n (Some (expr.Match e arms)) ((u, h, i), (t, k, l)) =
+      ((u, x.exprs e u h, arm_patterns_kept arms u i), (t, x.exprs n t k, arms_kept (arm_exprs arms) arms t l))
   rule_kept n (Some (expr.Call f args)) h = h
   rule_kept n (Some expr.Other) h = h
 
   pub obeys_kept : (n : ExprId) → ObeysOrMismatch g a n → ObeysOrMismatch g b n
   obeys_kept n h = rule_kept n (slice_get g.body.exprs n.0) h
 
-  pub pat_kept : (p : PatId) (o : Option RawPat) → PatRule a p o → PatRule b p o
+  pub all_pats_kept : (ps : List PatId) (ts : List Ty) → AllPatsAt g a ps ts → AllPatsAt g b ps ts
+  all_pats_kept [] [] h = tt
+  all_pats_kept [] (t ∷ ts) h = absurd h
+  all_pats_kept (p ∷ ps) [] h = absurd h
+  all_pats_kept (p ∷ ps) (t ∷ ts) h = (pat_at_kept p t h.0, all_pats_kept ps ts h.1)
+
+  pub pat_kept : (p : PatId) (o : Option RawPat) → PatRule g a p o → PatRule g b p o
   pat_kept p None h = h
   pat_kept p (Some pat.Wild) (t, h) = (t, x.pats p t h)
   pat_kept p (Some (pat.Bind v sub)) (t, h, k, m) = (t, x.pats p t h, x.bindings v t k, x.modes p mode.Move m)
-  pat_kept p (Some (pat.Tuple ps)) h = h
-  pat_kept p (Some (pat.Lit e)) h = h
+  pat_kept p (Some (pat.Tuple ps)) (ts, h, k) = (ts, x.pats p _ h, all_pats_kept ps ts k)
+  pat_kept p (Some (pat.TupleStruct named ps)) h = h
+  pat_kept p (Some (pat.Path named)) h = h
+  pat_kept p (Some (pat.Lit e)) (t, h, k) = (t, x.pats p t h, x.exprs e t k)
   pat_kept p (Some pat.Other) h = h
 
   pub misfit_kept : (e : ExprId) (m : TypeMismatch) → IsMisfit g a e m → IsMisfit g b e m
@@ -109,6 +170,59 @@ module _ (g : Given) (a b : InferenceResult) (x : Extends a b) where
     differ = h.differ;
     actual = elim h.actual [ inl k ↦ inl (x.exprs e m.actual k) | inr k ↦ inr k ];
   }
+
+  -- ---- what comes in, and what is asked
+
+  gives_part_kept : (n : Node) (i : ℕ) (t : Ty) → GivesPart a n i t → GivesPart b n i t
+  gives_part_kept the_body i t h = h
+  gives_part_kept (inner (node.ExprId n)) i t h = h
+  gives_part_kept (inner (node.PatId p)) i t (ts, h, k) = (ts, x.pats p _ h, k)
+
+  gives_kept : (n : Node) (role : Role) (t : Ty) → Gives g a n role t → Gives g b n role t
+  gives_kept n (parameter i) t h = h
+  gives_kept n root t h = h
+  gives_kept n (initializer w) t h = h
+  gives_kept n (let_pattern (Some w) init) t h = h
+  gives_kept n (let_pattern None (Some e)) t h = x.exprs e t h
+  gives_kept n (let_pattern None None) t h = h
+  gives_kept n let_else t h = h
+  gives_kept n (statement semicolon) t h = h
+  gives_kept n tail t h = h
+  gives_kept n (element i) t h = h
+  gives_kept n condition t h = h
+  gives_kept n then_branch t h = h
+  gives_kept n else_branch t h = h
+  gives_kept n scrutinee t h = h
+  gives_kept n (arm_pattern e i) t h = x.exprs e t h
+  gives_kept n (guard i) t h = h
+  gives_kept n (arm i) t h = h
+  gives_kept n callee t h = h
+  gives_kept n (argument i) t h = h
+  gives_kept n (subpattern i) t h = gives_part_kept n i t h
+  gives_kept n pattern_literal t h = h
+
+  pub incoming_kept : (p : PatId) (t : Ty) → Incoming g a p t → Incoming g b p t
+  incoming_kept p t h = record {
+    parent = h.parent;
+    at_part = h.at_part;
+    role = h.role;
+    stands = h.stands;
+    gives = gives_kept h.parent h.role t h.gives;
+  }
+
+  pub pat_truth_kept : (p : PatId) (m : TypeMismatch) → IsTruePatMismatch g a p m → IsTruePatMismatch g b p m
+  pat_truth_kept p m h = record { differ = h.differ; actual = x.pats p m.actual h.actual; incoming = incoming_kept p m.expected h.incoming }
+
+  alternative_asked_kept : (n : ExprId) (role : Role) (t : Ty) → AsksOfAlternative g a n role t → AsksOfAlternative g b n role t
+  alternative_asked_kept n role t (inl h) = inl (x.exprs n t h)
+  alternative_asked_kept n role t (inr h) = inr (record {
+    other = h.other;
+    expr = h.expr;
+    at_part = h.at_part;
+    stands = h.stands;
+    is_before = h.is_before;
+    has = x.exprs h.expr t h.has;
+  })
 
   asks_of_kept : (n : ExprId) (role : Role) (t : Ty) → AsksOf g a n role t → AsksOf g b n role t
   asks_of_kept n (parameter i) t h = h
@@ -122,12 +236,12 @@ module _ (g : Given) (a b : InferenceResult) (x : Extends a b) where
   asks_of_kept n tail t h = x.exprs n t h
   asks_of_kept n (element i) t (ts, h, k) = (ts, x.exprs n _ h, k)
   asks_of_kept n condition t h = h
-  asks_of_kept n then_branch t h = h
-  asks_of_kept n else_branch t h = h
+  asks_of_kept n then_branch t h = alternative_asked_kept n then_branch t h
+  asks_of_kept n else_branch t h = alternative_asked_kept n else_branch t h
   asks_of_kept n scrutinee t h = h
   asks_of_kept n (arm_pattern e i) t h = h
   asks_of_kept n (guard i) t h = h
-  asks_of_kept n (arm i) t h = h
+  asks_of_kept n (arm i) t h = alternative_asked_kept n (arm i) t h
   asks_of_kept n callee t h = h
   asks_of_kept n (argument i) t h = h
   asks_of_kept n (subpattern i) t h = h
@@ -136,13 +250,17 @@ module _ (g : Given) (a b : InferenceResult) (x : Extends a b) where
   asks_kept : (n : Node) (role : Role) (t : Ty) → Asks g a n role t → Asks g b n role t
   asks_kept the_body role t h = h
   asks_kept (inner (node.ExprId n)) role t h = asks_of_kept n role t h
-  asks_kept (inner (node.PatId p)) role t h = h
+  asks_kept (inner (node.PatId p)) role t h = (h.0, incoming_kept p t h.1)
 
-  pub demand_kept : (e : ExprId) (t : Ty) → Demand g a e t → Demand g b e t
-  demand_kept e t h = record {
+  pub asked_kept : (e : ExprId) (t : Ty) → IsAsked g a e t → IsAsked g b e t
+  asked_kept e t h = record {
     parent = h.parent;
     at_part = h.at_part;
     role = h.role;
     stands = h.stands;
     asks = asks_kept h.parent h.role t h.asks;
   }
+
+  pub demand_kept : (e : ExprId) (t : Ty) → Demand g a e t → Demand g b e t
+  demand_kept e t (inl h) = inl (asked_kept e t h)
+  demand_kept e t (inr h) = inr (record { condition = h.condition; branch = h.branch; is_if = h.is_if; has = x.exprs h.branch t h.has })

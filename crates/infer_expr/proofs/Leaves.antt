@@ -1,5 +1,5 @@
 -- Literals and paths, which have no parts.
-use Rattle.std.proofs.Common.{◌≡◌, ◌⊎◌, inl, inr, refl, sym, subst, arith, true, false, Option, Some, None, slice_get}
+use Rattle.std.proofs.Common.{◌≡◌, inl, inr, refl, sym, subst, arith, true, false, Option, Some, None, slice_get}
 use Rattle.hir_types.specs.declared.ids.ExprId.{ExprId}
 use Rattle.hir_types.specs.declared.ty.Ty.{Ty}
 use Rattle.hir_facts.specs.declared.raw.RawLiteral.{RawLiteral}
@@ -9,11 +9,10 @@ use Rattle.hir_facts.specs.declared.raw.RawExpr.{RawExpr}
 use Rattle.hir_facts.specs.declared.raw.RawExpr.TheVariants as expr
 use Rattle.hir_facts.specs.declared.schedule.Schedule.{Schedule}
 use Rattle.hir_facts.specs.CarriedTypes.{IsCarriedType}
-use Rattle.hir_types.specs.Erasure.{Same}
-use Rattle.hir_types.specs.Types.{unit}
 use Rattle.infer_result.specs.declared.result.InferenceResult.{InferenceResult}
-use Rattle.infer_result.specs.Table.{HasTy, MismatchAt}
-use Rattle.infer_result.specs.Places.{Given, IsAtOrMismatch}
+use Rattle.infer_result.specs.Table.{HasTy}
+use Rattle.infer_result.specs.Places.{Given}
+use Rattle.infer_result.specs.Rules.Placing.{at_or_mismatch}
 use Rattle.infer_result.specs.Rules.Literals.{IsLiteralType}
 use Rattle.infer_expr.specs.Walks.{IsCarriedTable}
 use Rattle.infer_result.specs.Rules.Paths.{PathRule}
@@ -27,21 +26,16 @@ use Rattle.infer_expr.proofs.Parts.{expr_ahead}
 use Rattle.infer_expr.proofs.Category.{walks_refl}
 
 -- the rule of an expression of this kind
-pub rule_of : (g : Given) (r : InferenceResult) (e : ExprId) (x : RawExpr) → slice_get g.body.exprs e.0 ≡ Some x → Rule (IsAtOrMismatch r) (IsAtOrMismatch r) (λ t. Same unit t ⊎ MismatchAt r e t unit) g r e (Some x) → ObeysOrMismatch g r e
-rule_of g r e x is h =
-    subst (λ o. Rule (IsAtOrMismatch r) (IsAtOrMismatch r) (λ t. Same unit t ⊎ MismatchAt r e t unit) g r e o) (sym is) h
+pub rule_of : (g : Given) (r : InferenceResult) (e : ExprId) (x : RawExpr) → slice_get g.body.exprs e.0 ≡ Some x → Rule (at_or_mismatch g r) g r e (Some x) → ObeysOrMismatch g r e
+rule_of g r e x is h = subst (λ o. Rule (at_or_mismatch g r) g r e o) (sym is) h
 
 -- nothing was done
 leaf_done : (g : Given) (s : Schedule) (e : ExprId) (x : Option Ty) (t : Ty) (c : Found) → Within g s e x c → c.clock ≡ expr_end g.body s e → IsCarriedType t → ((r : InferenceResult) → Extends c.result r → HasTy r e t → ObeysOrMismatch g r e) → KindDone g s e x t c c
 leaf_done g s e x t c h at_end carried rule = record {
-  last = c;
-  own = None;
-  is = refl;
-  walks = walks_refl g s (PaidBy g e t) c h.state;
+  walks = walks_refl g s (PaidBy g e x t) c h.state;
   clock = at_end;
   carried = carried;
-  misfit = λ m i. absurd (cc);
-  rule = λ r k has own. rule r k has;
+  rule = rule;
 }
 
 pub literal_done : (g : Given) (s : Schedule) (e : ExprId) (x : Option Ty) (l : RawLiteral) (t : Ty) (c : Found) → Within g s e x c → slice_get g.body.exprs e.0 ≡ Some (expr.Lit l) → IsLiteralType l t → KindDone g s e x t c c
@@ -52,11 +46,13 @@ literal_done g s e x l t c h is k =
 path_rule : (g : Given) (r q : InferenceResult) (e : ExprId) (p : RawPath) (t : Ty) → Extends r q → HasTy q e t → IsPathType r p t → PathRule q e p
 path_rule g r q e (path.Local v) t x has k = (t, has, x.bindings v t k)
 path_rule g r q e (path.Function f) t x has k = absurd k
+path_rule g r q e (path.Ctor named) t x has k = absurd k
 path_rule g r q e path.Other t x has k = absurd k
 
 path_carried : (r : InferenceResult) (p : RawPath) (t : Ty) → IsCarriedTable r → IsPathType r p t → IsCarriedType t
 path_carried r (path.Local v) t c k = c.bindings v.0 t k
 path_carried r (path.Function f) t c k = absurd k
+path_carried r (path.Ctor named) t c k = absurd k
 path_carried r path.Other t c k = absurd k
 
 pub path_done : (g : Given) (s : Schedule) (e : ExprId) (x : Option Ty) (p : RawPath) (t : Ty) (c : Found) → Within g s e x c → slice_get g.body.exprs e.0 ≡ Some (expr.Path p) → IsPathType c.result p t → KindDone g s e x t c c
@@ -73,5 +69,7 @@ path_bound g s e x (path.Local v) c h is =
     ]
 path_bound g s e x (path.Function f) c h is =
     let k : false ≡ true = carried_expr g.body e.0 (expr.Path (path.Function f)) h.ready.law.carried is in absurd (cc)
+path_bound g s e x (path.Ctor named) c h is =
+    let k : false ≡ true = carried_expr g.body e.0 (expr.Path (path.Ctor named)) h.ready.law.carried is in absurd (cc)
 path_bound g s e x path.Other c h is =
     let k : false ≡ true = carried_expr g.body e.0 (expr.Path path.Other) h.ready.law.carried is in absurd (cc)

@@ -2,8 +2,10 @@
 use Rattle.std.proofs.Common.{ℕ, zero, suc, ◌+◌, ◌<◌, ◌≤◌, ◌≡◌, ◌≢◌, ◌⊎◌, inl, inr, List, [], ◌∷◌, ◌++◌, length, get_or, drop, refl, sym, ap, ◌∙◌, arith, add-one, drop-cons, Option, Some, None, slice_get}
 use Rattle.std.proofs.Math.ListN.{set, length-set}
 use Rattle.std.proofs.lemmas.List.{get_or-set_same, get_or-set_other}
-use Rattle.std.proofs.lemmas.Option.{slice_get-get_or, slice_get_past}
+use Rattle.std.proofs.lemmas.Option.{slice_get-get_or, slice_get_past, slice_get_within}
 use Rattle.infer_result.specs.Table.{At}
+use Rattle.infer_result.specs.declared.result.TypeMismatch.{TypeMismatch}
+use Rattle.infer_expr.specs.Found.{noted, noted_where}
 use Rattle.infer_expr.specs.Walks.{IsFree}
 
 pub lt_or_ge : (a b : ℕ) → (a < b) ⊎ (b ≤ a)
@@ -100,3 +102,37 @@ module _ {A : Type 0} where
   pub own_set-free : (xs : List (Option A)) (n : ℕ) (o : Option A) → IsFree xs n → IsFree (own_set xs n o) n ⊎ ((a : A) × (o ≡ Some a))
   own_set-free xs n None free = inl free
   own_set-free xs n (Some a) free = inr (a, refl)
+
+-- ---- mismatches, of which the first one stays
+
+noted-keeps_where : (xs : List (Option TypeMismatch)) (n k : ℕ) (m y : TypeMismatch) (o : Option (Option TypeMismatch)) → slice_get xs n ≡ o → At xs k y → At (noted_where o xs n m) k y
+noted-keeps_where xs n k m y None is h = h
+noted-keeps_where xs n k m y (Some None) is h = At-set xs n k m y is h
+noted-keeps_where xs n k m y (Some (Some x)) is h = h
+
+pub noted-keeps : (xs : List (Option TypeMismatch)) (n k : ℕ) (m y : TypeMismatch) → At xs k y → At (noted xs n m) k y
+noted-keeps xs n k m y h = noted-keeps_where xs n k m y (slice_get xs n) refl h
+
+noted-cases_where : (xs : List (Option TypeMismatch)) (n k : ℕ) (m y : TypeMismatch) (o : Option (Option TypeMismatch)) → slice_get xs n ≡ o → At (noted_where o xs n m) k y → At xs k y ⊎ ((k ≡ n) × (m ≡ y))
+noted-cases_where xs n k m y None is h = inl h
+noted-cases_where xs n k m y (Some None) is h = At-set_cases xs n k m y (slice_get_within xs n None is) h
+noted-cases_where xs n k m y (Some (Some x)) is h = inl h
+
+pub noted-cases : (xs : List (Option TypeMismatch)) (n k : ℕ) (m y : TypeMismatch) → At (noted xs n m) k y → At xs k y ⊎ ((k ≡ n) × (m ≡ y))
+noted-cases xs n k m y h = noted-cases_where xs n k m y (slice_get xs n) refl h
+
+noted-some_where : (xs : List (Option TypeMismatch)) (n : ℕ) (m : TypeMismatch) (o : Option (Option TypeMismatch)) → slice_get xs n ≡ o → n < length xs → (y : TypeMismatch) × At (noted_where o xs n m) n y
+noted-some_where xs n m None is h = (let q = found xs n h in let k = sym is ∙ q.1 in absurd (cc))
+noted-some_where xs n m (Some None) is h = (m, slice_get-set_same xs n (Some m) h)
+noted-some_where xs n m (Some (Some x)) is h = (x, is)
+
+pub noted-some : (xs : List (Option TypeMismatch)) (n : ℕ) (m : TypeMismatch) → n < length xs → (y : TypeMismatch) × At (noted xs n m) n y
+noted-some xs n m h = noted-some_where xs n m (slice_get xs n) refl h
+
+length-noted_where : (xs : List (Option TypeMismatch)) (n : ℕ) (m : TypeMismatch) (o : Option (Option TypeMismatch)) → length (noted_where o xs n m) ≡ length xs
+length-noted_where xs n m None = refl
+length-noted_where xs n m (Some None) = length-set xs n (Some m)
+length-noted_where xs n m (Some (Some x)) = refl
+
+pub length-noted : (xs : List (Option TypeMismatch)) (n : ℕ) (m : TypeMismatch) → length (noted xs n m) ≡ length xs
+length-noted xs n m = length-noted_where xs n m (slice_get xs n)

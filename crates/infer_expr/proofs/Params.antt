@@ -3,26 +3,25 @@ use Rattle.std.proofs.Common.{ℕ, suc, ◌+◌, ◌<◌, ◌≤◌, ◌≡◌, 
 use Rattle.std.proofs.Math.ListN.{drop_of_length-le}
 use Rattle.std.proofs.lemmas.Option.{slice_get_read, slice_get_within}
 use Rattle.hir_types.specs.declared.ids.PatId.{PatId}
-use Rattle.hir_types.specs.declared.ids.ExprOrPatId.TheVariants as node
 use Rattle.hir_types.specs.declared.ty.Ty.{Ty}
 use Rattle.hir_facts.specs.declared.schedule.Schedule.{Schedule}
 use Rattle.hir_facts.specs.CarriedTypes.{IsCarriedType}
 use Rattle.hir_facts.specs.Types.{written_type}
-use Rattle.hir_facts.specs.Order.{Part, inner, the_body, root, parameter, expr_part, pat_part, param_parts, end}
-use Rattle.infer_result.specs.Table.{PatTy}
-use Rattle.infer_result.specs.Places.{Given, IsInput}
+use Rattle.hir_facts.specs.Order.{Part, the_body, root, parameter, expr_part, pat_part, param_parts}
+use Rattle.infer_result.specs.Places.{Given, IsInput, PatIsAtOrMismatch}
 use Rattle.infer_expr.specs.Found.{Found}
 use Rattle.infer_expr.specs.Walks.{Walks, Nothing}
 use Rattle.infer_expr.specs.Under.{IsReady, LieAhead, BeforePat, PatDone, BeforeParams, ParamsDone}
 use Rattle.infer_expr.proofs.Lists.{lt_or_ge, drop-step}
-use Rattle.infer_expr.proofs.Parts.{ahead_rest, pat_end}
+use Rattle.infer_expr.proofs.Parts.{ahead_rest, pat_before}
 use Rattle.infer_expr.proofs.Category.{walks_refl, walks_trans}
+use Rattle.infer_expr.proofs.Keeps.{pat_at_kept}
 
 -- the first i parameters have their written types, and the others and the root lie ahead
 pub record ParamsLoop (g : Given) (s : Schedule) (i : ℕ) (mid c : Found) : Type 0 where
   pub walks : Walks g s Nothing mid c
   pub ahead : LieAhead g.body s the_body c.clock (param_parts i (drop i g.body.params) ++ expr_part root g.body.root ∷ [])
-  pub typed : (k : ℕ) (p : PatId) (t : Ty) → k < i → slice_get g.body.params k ≡ Some p → IsInput g k t → PatTy c.result p t
+  pub typed : (k : ℕ) (p : PatId) (t : Ty) → k < i → slice_get g.body.params k ≡ Some p → IsInput g k t → PatIsAtOrMismatch g c.result p t
 
 pub params_start : (g : Given) (s : Schedule) (c : Found) → BeforeParams g s c → ParamsLoop g s 0 c c
 params_start g s c h = record {
@@ -51,37 +50,27 @@ module _ (g : Given) (s : Schedule) (i : ℕ) (mid c : Found) (h : ParamsLoop g 
     ahead_at : LieAhead g.body s the_body c.clock (pat_part (parameter i) p ∷ rest)
     ahead_at = subst (λ ps. LieAhead g.body s the_body c.clock ps) (step p is k) h.ahead
 
-    pub param_before : IsCarriedType t → BeforePat g s p t c
-    param_before carried = record {
-      ready = ready;
-      state = h.walks.state;
-      within = ahead_at.fit.0;
-      here = ahead_at.fit.1;
-      carried = carried;
-    }
+    pub param_before : IsInput g i t → IsCarriedType t → BeforePat g s p (Some t) c
+    param_before input carried =
+        pat_before g s the_body (parameter i) p rest (Some t) c ready h.walks.state ahead_at carried
+        (λ u j. (let same : t ≡ u = cc in subst (λ v. IsInput g i v) same input))
 
-    pub param_next : (next : Found) → IsInput g i t → PatDone g s p t c next → ParamsLoop g s (i + 1) mid next
-    param_next next input d =
-        let e : end g.body s (inner (node.PatId p)) ≡ next.clock =
-        pat_end g.body s p ready.law.schedule ready.law.carried ahead_at.fit.0 ∙ (ap (λ n. n + 1) ahead_at.fit.1 ∙ sym d.clock) in
-        record {
-          walks = walks_trans g s Nothing mid c next h.walks d.walks;
-          ahead = subst (λ n. LieAhead g.body s the_body n rest) e (ahead_rest g.body s the_body c.clock (pat_part (parameter i) p) rest ahead_at);
-          typed = typed next input d;
-        }
-      where
-        typed : (next : Found) → IsInput g i t → PatDone g s p t c next → (j : ℕ) (q : PatId) (u : Ty) → j < i + 1 → slice_get g.body.params j ≡ Some q → IsInput g j u → PatTy next.result q u
-        typed next input d j q u less at own =
-            elim (lt_or_ge j i) [
-              | inl before ↦ d.walks.extends.pats q u (h.typed j q u before at own)
-              | inr past ↦
-                  (let same : j ≡ i = omega (arith, less, past) in
-                  let here : slice_get g.body.params i ≡ Some p = slice_get_read g.body.params _ i p refl k is in
-                  let there : slice_get g.body.params i ≡ Some q = ap (λ n. slice_get g.body.params n) (sym same) ∙ at in
-                  let one : p ≡ q = cc in
-                  let types : t ≡ u = one_input g i t u input (subst (λ n. IsInput g n u) same own) in
-                  subst (λ v. PatTy next.result q v) types (subst (λ r. PatTy next.result r t) one d.type_is))
-            ]
+    pub param_next : (next : Found) → IsInput g i t → PatDone g s p (Some t) c next → ParamsLoop g s (i + 1) mid next
+    param_next next input d = record {
+      walks = walks_trans g s Nothing mid c next h.walks d.walks;
+      ahead = subst (λ n. LieAhead g.body s the_body n rest) (sym d.clock) (ahead_rest g.body s the_body c.clock (pat_part (parameter i) p) rest ahead_at);
+      typed = λ j q u less at own.
+          elim (lt_or_ge j i) [
+            | inl before ↦ pat_at_kept g c.result next.result d.walks.extends q u (h.typed j q u before at own)
+            | inr past ↦
+                (let same : j ≡ i = omega (arith, less, past) in
+                let here : slice_get g.body.params i ≡ Some p = slice_get_read g.body.params _ i p refl k is in
+                let there : slice_get g.body.params i ≡ Some q = ap (λ n. slice_get g.body.params n) (sym same) ∙ at in
+                let one : p ≡ q = cc in
+                let types : t ≡ u = one_input g i t u input (subst (λ n. IsInput g n u) same own) in
+                subst (λ v. PatIsAtOrMismatch g next.result q v) types (subst (λ r. PatIsAtOrMismatch g next.result r t) one d.placed))
+          ];
+    }
 
   pub params_end : length g.body.params ≤ i → ParamsDone g s mid c
   params_end over =

@@ -1,9 +1,9 @@
 -- The loop over the parameters.
-use Rattle.std.proofs.Common.{ℕ, ◌+◌, ◌<◌, ◌≤◌, ◌≡◌, refl, subst, arith, length, get_or, Some, slice_get}
+use Rattle.std.proofs.Common.{ℕ, ◌+◌, ◌<◌, ◌≤◌, ◌≡◌, refl, sym, ap, subst, ◌∙◌, arith, length, get_or, Some, slice_get}
 use Rattle.std.proofs.lemmas.Option.{slice_get_read}
 use Rattle.hir_types.specs.declared.ids.PatId.{PatId}
 use Rattle.hir_types.specs.declared.ids.TypeRefId.{TypeRefId}
-use Rattle.hir_types.specs.Subst.{Assignment}
+use Rattle.hir_types.specs.Subst.{Assignment, folded}
 use Rattle.hir_facts.specs.CarriedTypes.{written_carried}
 use Rattle.hir_facts.specs.Types.{written_type}
 use Rattle.hir_facts.specs.declared.schedule.Schedule.{Schedule}
@@ -40,25 +40,32 @@ module _ (g : Given) (s : Schedule) (i : ℕ) (mid c : InferenceContext) (h : Pa
     param_written = b.ready.written.inputs i w input_at
 
     module _ (p : PatId) (is : p ≡ get_or g.body.params i p) where
-      pub comes_to_param : BeforePat g s p (written_type g.types w) c
+      param_under : (a : Assignment) → Closes a c → under.BeforePat g s p (Some (written_type g.types w)) (found_under a c)
+      param_under a l = param_before g s i (found_under a mid) (found_under a c) (h.each a l) b.ready p is k (written_type g.types w) (w, input_at, refl) param_written.carried
+
+      written_closed : (a : Assignment) → folded a (written_type g.types w) ≡ written_type g.types w
+      written_closed a = carried_closed a (written_type g.types w) param_written.carried
+
+      pub comes_to_param : BeforePat g s p (Some (written_type g.types w)) c
       comes_to_param =
           let q = h.follows.sound.some in
-          let here = param_before g s i (found_under q.0 mid) (found_under q.0 c) (h.each q.0 q.1) b.ready p is k (written_type g.types w) (written_carried g.types w) in
+          let here = param_under q.0 q.1 in
           record {
             ready = b.ready;
             state = walking;
             within = here.within;
             here = here.here;
             fine = written_fine c.table g.types w param_written;
+            incoming = λ a l t e. (param_under a l).incoming t (ap (λ u. Some u) (sym (written_closed a)) ∙ e);
           }
 
-      pub goes_past_param : (next : InferenceContext) → PatDone g s p (written_type g.types w) c next → ParamsWalk g s (i + 1) mid next
+      pub goes_past_param : (next : InferenceContext) → PatDone g s p (Some (written_type g.types w)) c next → ParamsWalk g s (i + 1) mid next
       goes_past_param next d = record {
         follows = follows_twice g.body mid c next h.follows d.follows;
         each = λ a q.
             let l : Closes a c = closes_before g.body a c next d.follows q in
             param_next g s i (found_under a mid) (found_under a c) (h.each a l) b.ready p is k (written_type g.types w) (found_under a next) (w, input_at, refl)
-            (subst (λ u. under.PatDone g s p u (found_under a c) (found_under a next)) (carried_closed a (written_type g.types w) (written_carried g.types w)) (d.each a q));
+            (subst (λ u. under.PatDone g s p (Some u) (found_under a c) (found_under a next)) (written_closed a) (d.each a q));
       }
 
   pub ends_params : length g.body.params ≤ i → ParamsDone g s mid c

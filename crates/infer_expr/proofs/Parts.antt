@@ -1,5 +1,5 @@
 -- The parts of a node, which lie ahead one after another.
-use Rattle.std.proofs.Common.{ℕ, suc, ◌+◌, ◌<◌, ◌≡◌, refl, sym, ap, subst, ◌∙◌, List, [], ◌∷◌, ◌++◌, length, true, false, Option, Some, None, slice_get, IsTrue}
+use Rattle.std.proofs.Common.{ℕ, suc, ◌+◌, ◌<◌, ◌≡◌, refl, sym, ap, subst, List, [], ◌∷◌, ◌++◌, length, Option, Some, None, slice_get}
 use Rattle.std.specs.Option.{option_and_then}
 use Rattle.std.proofs.lemmas.Option.{slice_get_within}
 use Rattle.hir_types.specs.declared.ids.ExprId.{ExprId}
@@ -8,19 +8,16 @@ use Rattle.hir_types.specs.declared.ids.BindingId.{BindingId}
 use Rattle.hir_types.specs.declared.ids.ExprOrPatId.TheVariants as node
 use Rattle.hir_types.specs.declared.ty.Ty.{Ty}
 use Rattle.hir_facts.specs.declared.raw.RawPat.{RawPat}
-use Rattle.hir_facts.specs.declared.raw.RawPat.TheVariants as pat
 use Rattle.hir_facts.specs.declared.raw.RawExpr.{RawExpr}
 use Rattle.hir_facts.specs.declared.raw.RawBody.{RawBody}
 use Rattle.hir_facts.specs.declared.schedule.Schedule.{Schedule}
-use Rattle.hir_facts.specs.Order.{Part, Node, inner, Role, expr_part, parts, parts_of_expr, parts_of_pat, expr_parts, start, end, after, IsNode, IsSchedule, Binds, binding_of}
-use Rattle.infer_result.specs.Places.{Given, StandsAt}
+use Rattle.hir_facts.specs.Order.{Part, Node, inner, Role, expr_part, pat_part, parts, parts_of_expr, parts_of_pat, expr_parts, pat_parts, start, end, after, IsNode, IsSchedule, Binds, binding_of}
+use Rattle.infer_result.specs.Places.{Given, StandsAt, Gives}
 use Rattle.infer_expr.specs.Found.{Found}
 use Rattle.infer_expr.specs.Context.{IsCarriedExpectation}
-use Rattle.infer_expr.specs.Walks.{IsWalked, expr_start, expr_end, pat_start}
-use Rattle.infer_expr.specs.Under.{LieAhead, Before, IsReady}
-use Rattle.hir_facts.specs.Laws.Carried.{is_carried_body}
+use Rattle.infer_expr.specs.Walks.{IsWalked, expr_start, expr_end, pat_start, pat_end}
+use Rattle.infer_expr.specs.Under.{LieAhead, Before, BeforePat, IsReady}
 use Rattle.infer_expr.proofs.Lists.{slice_get-append_left}
-use Rattle.infer_expr.proofs.Carried.{carried_pat}
 
 -- ---- ids
 
@@ -105,15 +102,23 @@ expr_before g s n role e ps x c ready state ahead carried = record {
   expected = carried;
 }
 
-no_pat_parts : (b : RawBody) (p : PatId) (o : Option RawPat) → slice_get b.pats p.0 ≡ o → IsTrue (is_carried_body b) → parts_of_pat o ≡ []
-no_pat_parts b p None is h = refl
-no_pat_parts b p (Some pat.Wild) is h = refl
-no_pat_parts b p (Some (pat.Bind v sub)) is h = refl
-no_pat_parts b p (Some (pat.Tuple ps)) is h = let k : false ≡ true = carried_pat b p.0 (pat.Tuple ps) h is in absurd (cc)
-no_pat_parts b p (Some (pat.Lit e)) is h = let k : false ≡ true = carried_pat b p.0 (pat.Lit e) h is in absurd (cc)
-no_pat_parts b p (Some pat.Other) is h = refl
+-- the parts of a pattern of this kind
+pub pat_ahead : (b : RawBody) (s : Schedule) (p : PatId) (x : RawPat) (from : ℕ) → IsSchedule b s → p.0 < length b.pats → slice_get b.pats p.0 ≡ Some x → from ≡ pat_start b s p + 1 → LieAhead b s (inner (node.PatId p)) from (pat_parts x) × (after b s from (pat_parts x) ≡ pat_end b s p)
+pat_ahead b s p x from law h is at =
+    let n : Node = inner (node.PatId p) in
+    let q : parts_of_pat (slice_get b.pats p.0) ≡ pat_parts x = ap (λ o. parts_of_pat o) is in (
+      subst (λ k. LieAhead b s n k (pat_parts x)) (sym at) (subst (λ ps. LieAhead b s n (pat_start b s p + 1) ps) q (ahead_start b s n law h)),
+      subst (λ k. after b s k (pat_parts x) ≡ pat_end b s p) (sym at) (subst (λ ps. after b s (pat_start b s p + 1) ps ≡ pat_end b s p) q (law.ends n h)),
+    )
 
--- a pattern that is carried has no parts
-pub pat_end : (b : RawBody) (s : Schedule) (p : PatId) → IsSchedule b s → IsTrue (is_carried_body b) → p.0 < length b.pats → end b s (inner (node.PatId p)) ≡ pat_start b s p + 1
-pat_end b s p law carried h =
-    sym (law.ends (inner (node.PatId p)) h) ∙ ap (λ ps. after b s (pat_start b s p + 1) ps) (no_pat_parts b p (slice_get b.pats p.0) refl carried)
+pub pat_before : (g : Given) (s : Schedule) (n : Node) (role : Role) (p : PatId) (ps : List Part) (x : Option Ty) (c : Found) → IsReady g s → IsWalked g.body s c → LieAhead g.body s n c.clock (pat_part role p ∷ ps) → IsCarriedExpectation x → ((t : Ty) → x ≡ Some t → Gives g c.result n role t) → BeforePat g s p x c
+pat_before g s n role p ps x c ready state ahead carried gives = record {
+  ready = ready;
+  state = state;
+  within = ahead.fit.0;
+  here = ahead.fit.1;
+  carried = carried;
+  incoming = λ t is.
+      let q = ahead_stands g.body s n c.clock (pat_part role p) ps ahead in
+      record { parent = n; at_part = q.0; role = role; stands = q.1; gives = gives t is };
+}

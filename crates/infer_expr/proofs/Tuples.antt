@@ -1,5 +1,5 @@
 -- The loop over the elements of a tuple.
-use Rattle.std.proofs.Common.{ℕ, zero, suc, ◌+◌, ◌<◌, ◌≤◌, ◌≡◌, inr, List, [], ◌∷◌, ◌++◌, length, take, drop, get_or, refl, sym, ap, subst, ◌∙◌, arith, Option, Some, None, slice_get, length-append, append-nil}
+use Rattle.std.proofs.Common.{ℕ, zero, suc, ◌+◌, ◌<◌, ◌≤◌, ◌≡◌, inl, inr, List, [], ◌∷◌, ◌++◌, length, take, drop, get_or, refl, sym, ap, subst, ◌∙◌, arith, Option, Some, None, slice_get, length-append, append-nil}
 use Rattle.std.proofs.Math.ListN.{drop_of_length-le, take-append-drop}
 use Rattle.std.proofs.lemmas.List.{take_more}
 use Rattle.std.proofs.lemmas.Option.{slice_get_read}
@@ -12,7 +12,8 @@ use Rattle.hir_facts.specs.declared.schedule.Schedule.{Schedule}
 use Rattle.hir_facts.specs.Order.{inner, element, expr_part, element_parts, parts_of_expr, part_at, after}
 use Rattle.infer_result.specs.declared.result.InferenceResult.{InferenceResult}
 use Rattle.infer_result.specs.declared.result.TypeMismatch.{TypeMismatch}
-use Rattle.infer_result.specs.Places.{Given, IsAtOrMismatch}
+use Rattle.infer_result.specs.Places.{Given, Demand, IsAtOrMismatch}
+use Rattle.infer_result.specs.Table.{HasTy}
 use Rattle.infer_result.specs.Rules.Tuples.{AllAt}
 use Rattle.infer_expr.specs.Found.{Found}
 use Rattle.infer_expr.specs.Context.{IsCarriedExpectation}
@@ -65,19 +66,19 @@ element_at from (n ∷ es) (suc i) e h =
     element_at (suc from) es i e h ∙ ap (λ j. Some (expr_part (element j) e)) z
 
 -- what a tuple asks of its elements, once it has its type
-element_demand : (g : Given) (n : ExprId) (es : List ExprId) (ts : List Ty) → n.0 < length g.body.exprs → IsTupleOf g.body n es → (e : ExprId) (m : TypeMismatch) → OwedAmong es ts e m → PaidBy g n (ty.Tuple ts) e m
+element_demand : (g : Given) (n : ExprId) (es : List ExprId) (ts : List Ty) → n.0 < length g.body.exprs → IsTupleOf g.body n es → (e : ExprId) (m : TypeMismatch) → OwedAmong es ts e m → (r : InferenceResult) → HasTy r n (ty.Tuple ts) → Demand g r e m.expected
 element_demand g n es ts h is e m o r has =
     let i : ℕ = o.0 in
     let z : 0 + i ≡ i = omega arith in
     let own : slice_get (element_parts 0 es) i ≡ Some (expr_part (element i) e) = element_at 0 es i e o.1 ∙ ap (λ j. Some (expr_part (element j) e)) z in
     let p : part_at g.body (inner (node.ExprId n)) i ≡ Some (expr_part (element i) e) = ap (λ x. slice_get (parts_of_expr x) i) is ∙ own in
-    record {
+    inl (record {
       parent = inner (node.ExprId n);
       at_part = i;
       role = element i;
       stands = record { node_is = h; part = p };
       asks = (ts, has, o.2);
-    }
+    })
 
 module _ (g : Given) (s : Schedule) (n : ExprId) (es : List ExprId) (i : ℕ) (ts : List Ty) (mid c : Found) (h : TupleLoop g s n es i ts mid c) where
   step : (e : ExprId) → e ≡ get_or es i e → i < length es → element_parts i (drop i es) ≡ expr_part (element i) e ∷ element_parts (i + 1) (drop (i + 1) es)
@@ -129,12 +130,8 @@ module _ (g : Given) (s : Schedule) (n : ExprId) (es : List ExprId) (i : ℕ) (t
       let all : take i es ≡ es = sym (append-nil (take i es)) ∙ (ap (λ l. take i es ++ l) (sym none) ∙ take-append-drop i es) in
       let made : AllAt (IsAtOrMismatch c.result) es ts = subst (λ l. AllAt (IsAtOrMismatch c.result) l ts) all h.made in
       record {
-        last = c;
-        own = None;
-        is = refl;
-        walks = walks_paid g s (OwedAmong es ts) (PaidBy g n (ty.Tuple ts)) mid c (λ e m o. inr (element_demand g n es ts w.within is e m o)) h.walks;
+        walks = walks_paid g s (OwedAmong es ts) (PaidBy g n x (ty.Tuple ts)) mid c (λ e m o. inr (inl (element_demand g n es ts w.within is e m o))) h.walks;
         clock = subst (λ l. after g.body s c.clock (element_parts i l) ≡ expr_end g.body s n) none h.ends;
         carried = carried_tuple_of ts h.carried;
-        misfit = λ m k. absurd (cc);
-        rule = λ r k has own. rule_of g r n (expr.Tuple es) is (ts, has, all_kept g c.result r k es ts made);
+        rule = λ r k has. rule_of g r n (expr.Tuple es) is (ts, has, all_kept g c.result r k es ts made);
       }

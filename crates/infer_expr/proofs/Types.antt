@@ -10,13 +10,14 @@ use Rattle.hir_facts.specs.declared.raw.RawFacts.{RawFacts}
 use Rattle.hir_facts.specs.declared.raw.RawLiteral.{RawLiteral}
 use Rattle.hir_facts.specs.declared.raw.RawLiteral.TheVariants as literal
 use Rattle.hir_types.specs.declared.ids.DefWithBodyId.{DefWithBodyId}
-use Rattle.hir_facts.specs.CarriedTypes.{is_carried_type, IsCarriedType, AreCarriedTypes, carried_tuple, carried_bool, carried_char, carried_integer, carried_bare, written_carried}
+use Rattle.hir_facts.specs.CarriedTypes.{is_carried_type, IsCarriedType, AreCarriedTypes, carried_tuple, carried_bool, carried_char, carried_integer, carried_bare}
 use Rattle.infer_result.specs.declared.result.InferenceResult.{InferenceResult}
 use Rattle.infer_result.specs.Closed.{AllTypes, IsClosedTable}
 use Rattle.infer_result.specs.Fit.{TypesFit}
 use Rattle.infer_result.specs.Rules.Literals.{IsLiteralType}
 use Rattle.infer_result.specs.Places.{Given}
 use Rattle.infer_expr.specs.Under.{declared_type}
+use Rattle.infer_expr.specs.Fine.{IsWritten}
 use Rattle.infer_expr.specs.Context.{IsCarriedExpectation}
 use Rattle.infer_expr.specs.Walks.{IsCarriedTable}
 
@@ -30,6 +31,8 @@ every P Q t f h = record {
   bindings = λ n s i. f s (h.bindings n s i);
   expected = λ n x i. f x.expected (h.expected n x i);
   actual = λ n x i. f x.actual (h.actual n x i);
+  pat_expected = λ n x i. f x.expected (h.pat_expected n x i);
+  pat_actual = λ n x i. f x.actual (h.pat_actual n x i);
 }
 
 pub table_closed : (t : InferenceResult) → IsCarriedTable t → IsClosedTable t
@@ -53,7 +56,7 @@ carried_push (u ∷ ts) t h k =
     let q = both (is_carried_type u) (list_all is_carried_type ts) h in
     and (is_carried_type u) (list_all is_carried_type (ts ++ t ∷ [])) q.0 (carried_push ts t q.1 k)
 
-carried_at : (ts : List Ty) (i : ℕ) (t : Ty) → AreCarriedTypes ts → slice_get ts i ≡ Some t → IsCarriedType t
+pub carried_at : (ts : List Ty) (i : ℕ) (t : Ty) → AreCarriedTypes ts → slice_get ts i ≡ Some t → IsCarriedType t
 carried_at [] i t h e = absurd (cc)
 carried_at (u ∷ ts) zero t h e = (let k : u ≡ t = cc in subst (λ v. IsCarriedType v) k (both (is_carried_type u) (list_all is_carried_type ts) h).0)
 carried_at (u ∷ ts) (suc i) t h e = carried_at ts i t (both (is_carried_type u) (list_all is_carried_type ts) h).1 e
@@ -75,6 +78,6 @@ carried_literal literal.Other t h = absurd h
 
 -- ---- written types
 
-pub carried_declared : (g : Given) (w : Option TypeRefId) → IsCarriedExpectation (declared_type g w)
-carried_declared g None = tt
-carried_declared g (Some w) = written_carried g.types w
+pub carried_declared : (g : Given) (w : Option TypeRefId) → ((y : TypeRefId) → w ≡ Some y → IsWritten g.types y) → IsCarriedExpectation (declared_type g w)
+carried_declared g None h = tt
+carried_declared g (Some w) h = (h w refl).carried

@@ -1,5 +1,5 @@
 -- Two types unified, or refused, at an expression.
-use Rattle.std.proofs.Common.{◌≡◌, inl, inr, refl, sym, ap, subst, arith}
+use Rattle.std.proofs.Common.{◌≡◌, true, false, refl, sym, ap, subst, arith}
 use Rattle.hir_types.specs.declared.head.Head.TheVariants as head
 use Rattle.hir_types.specs.declared.head.Hole.{Hole}
 use Rattle.hir_types.specs.declared.head.Hole.TheVariants as hole_of
@@ -8,7 +8,7 @@ use Rattle.hir_types.specs.declared.ty.IntTy.TheVariants as int
 use Rattle.hir_types.specs.declared.ty.IntegerTy.{IntegerTy}
 use Rattle.hir_types.specs.declared.ty.IntegerTy.TheVariants.{Int, Uint}
 use Rattle.hir_types.specs.declared.ty.Ty.{Ty}
-use Rattle.hir_types.specs.Subst.{folded}
+use Rattle.hir_types.specs.Subst.{Assignment, folded}
 use Rattle.hir_types.specs.Terms.{hole, term, terms_of, IsInt}
 use Rattle.hir_types.specs.TermLaws.{term_bool, term_char, term_error, term_tuple}
 use Rattle.hir_types.specs.Types.{integer_type}
@@ -25,9 +25,9 @@ use Rattle.infer_expr.specs.declared.context.InferenceContext.{InferenceContext}
 use Rattle.infer_expr.specs.Context.{with_mismatch}
 use Rattle.infer_expr.specs.Closings.{IsClosing, Closes, IsSound}
 use Rattle.infer_expr.specs.Fine.{is_fine_head, HasFineHeads, IsFine}
-use Rattle.infer_expr.specs.Steps.{IsCoerced}
+use Rattle.infer_expr.specs.Steps.{IsCoercedIf}
 use Rattle.infer_expr.proofs.AtEach.{follows_itself}
-use Rattle.infer_expr.proofs.Closed.{mismatch_under, of_body_mismatch, sound_mismatch}
+use Rattle.infer_expr.proofs.Closed.{closes_same, mismatch_under, of_body_mismatch, sound_mismatch}
 use Rattle.infer_expr.proofs.FineTypes.{CarriedCases, over_carried, heads_carried, table_fine_grown, same_closed, apart_closed, closing_respects, fine_no_alias}
 
 -- ---- the completion of holes closes the context
@@ -60,43 +60,55 @@ completion_closing state h r = record {
 pub completion_closes : (c : InferenceContext) → IsSound c → Meets (terms_of (completion c.table)) c.table → Respects (terms_of (completion c.table)) → Closes (completion c.table) c
 completion_closes c s m r = record { closing = completion_closing c.table s.bound r; meets = m }
 
--- ---- coercions
-
-pub same_coerced : (b : RawBody) (e : ExprId) (t u : Ty) (c : InferenceContext) → IsOfBody b c.result → IsSound c → t ≡ u → IsCoerced b e t u c c
-same_coerced b e t u c h s is = record {
-  follows = follows_itself b c h s;
-  clock = refl;
-  each = λ a q. inl (ap (folded a) is, refl);
-}
+-- ---- two types unified, or refused
 
 abbrev pub with_table : InferenceContext → State → InferenceContext
 with_table c state = record c { table = state }
 
-module _ (b : RawBody) (e : ExprId) (t u : Ty) (c : InferenceContext) (h : IsOfBody b c.result) (s : IsSound c) (ft : IsFine c.table t) (fu : IsFine c.table u) where
-  pub unified_coerced : (after : State) → AreUnified c.table after t u → Meets (terms_of (completion after)) after → Respects (terms_of (completion after)) → IsCoerced b e t u c (with_table c after)
-  unified_coerced after k m r =
+module _ (c : InferenceContext) (t u : Ty) (s : IsSound c) (ft : IsFine c.table t) (fu : IsFine c.table u) where
+  -- what is known of the context goes on to hold
+  pub unified_sound : (after : State) → AreUnified c.table after t u → Meets (terms_of (completion after)) after → Respects (terms_of (completion after)) → IsSound (with_table c after)
+  unified_sound after k m r =
       let bound = binds_only_unified is_fine_head fine_no_alias head.Bool refl c.table after t u k (terms_of (completion after)) m s.bound ft.heads fu.heads in
       record {
-        follows = record {
-          clock = omega arith;
-          grew = k.grown;
-          of_body = h;
-          sound = record {
-            fine = table_fine_grown c.table after c.result k.grown s.fine;
-            bound = bound;
-            some = (completion after, record { closing = completion_closing after bound r; meets = m });
-          };
-        };
-        clock = refl;
-        each = λ a q. inl (
-          same_closed a t u q.closing ft.heads fu.heads (unified_same is_fine_head c.table after t u fine_no_alias s.bound ft.heads fu.heads k (terms_of a) q.meets),
-          refl,
-        );
+        fine = table_fine_grown c.table after c.result k.grown s.fine;
+        bound = bound;
+        some = (completion after, record { closing = completion_closing after bound r; meets = m });
       }
 
-  pub refused_coerced : (after : State) → AreRefused c.table after t u → IsCoerced b e t u c (with_mismatch (with_table c after) e (mismatch u t))
+  -- the two are the same under each assignment from then on
+  pub unified_closed : (after : State) → AreUnified c.table after t u → (a : Assignment) → Closes a (with_table c after) → folded a t ≡ folded a u
+  unified_closed after k a q = same_closed a t u q.closing ft.heads fu.heads (unified_same is_fine_head c.table after t u fine_no_alias s.bound ft.heads fu.heads k (terms_of a) q.meets)
+
+  -- they are the same under none
+  pub refused_closed : (after : State) → AreRefused c.table after t u → (a : Assignment) → Closes a c → folded a t ≡ folded a u → ⊥
+  refused_closed after k a q same = refused_apart is_fine_head c.table t u fine_no_alias s.bound ft.heads fu.heads k.impossible (terms_of a) (closing_respects a q.closing) q.meets (apart_closed a t u same)
+
+-- ---- coercions
+
+pub same_coerced : (b : RawBody) (e : ExprId) (t u : Ty) (c : InferenceContext) → IsOfBody b c.result → IsSound c → t ≡ u → IsCoercedIf true b e t u c c
+same_coerced b e t u c h s is = record {
+  follows = follows_itself b c h s;
+  clock = refl;
+  each = λ a q. (ap (folded a) is, refl);
+}
+
+module _ (b : RawBody) (e : ExprId) (t u : Ty) (c : InferenceContext) (h : IsOfBody b c.result) (s : IsSound c) (ft : IsFine c.table t) (fu : IsFine c.table u) where
+  pub unified_coerced : (after : State) → AreUnified c.table after t u → Meets (terms_of (completion after)) after → Respects (terms_of (completion after)) → IsCoercedIf true b e t u c (with_table c after)
+  unified_coerced after k m r = record {
+    follows = record {
+      clock = omega arith;
+      grew = k.grown;
+      of_body = h;
+      sound = unified_sound c t u s ft fu after k m r;
+    };
+    clock = refl;
+    each = λ a q. (unified_closed c t u s ft fu after k a q, refl);
+  }
+
+  pub refused_coerced : (after : State) → AreRefused c.table after t u → IsCoercedIf false b e t u c (with_mismatch (with_table c after) e (mismatch u t))
   refused_coerced after k =
-      subst (λ state. IsCoerced b e t u c (with_mismatch (with_table c state) e (mismatch u t))) (sym k.unchanged) (record {
+      subst (λ state. IsCoercedIf false b e t u c (with_mismatch (with_table c state) e (mismatch u t))) (sym k.unchanged) (record {
         follows = record {
           clock = omega arith;
           grew = (follows_itself b c h s).grew;
@@ -104,8 +116,8 @@ module _ (b : RawBody) (e : ExprId) (t u : Ty) (c : InferenceContext) (h : IsOfB
           sound = sound_mismatch c s e (mismatch u t) fu ft;
         };
         clock = refl;
-        each = λ a q. inr (
-          λ same. refused_apart is_fine_head c.table t u fine_no_alias s.bound ft.heads fu.heads k.impossible (terms_of a) (closing_respects a q.closing) q.meets (sym (apart_closed a u t same)),
+        each = λ a q. (
+          λ same. refused_closed c t u s ft fu after k a (closes_same a (with_mismatch c e (mismatch u t)) c refl q) (sym same),
           mismatch_under a c e (mismatch u t),
         );
       })

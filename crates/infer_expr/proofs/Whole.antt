@@ -23,6 +23,7 @@ use Rattle.infer_expr.specs.Under.{IsReady, WrittenExist, LieAhead, Before, Coer
 use Rattle.infer_expr.proofs.Types.{table_closed}
 use Rattle.infer_expr.proofs.Parts.{after_append, ahead_start, ahead_right, ahead_stands, expr_before, binds_within}
 use Rattle.infer_expr.proofs.Category.{walks_trans, walks_paid}
+use Rattle.infer_expr.proofs.Keeps.{pat_at_kept}
 
 -- ---- nothing is recorded
 
@@ -59,6 +60,8 @@ module _ (b : RawBody) (s : Schedule) (law : IsWalkable b s) where
     bindings = λ n t i. absurd (At-replicate (length b.bindings) n t i);
     expected = λ n m i. absurd (At-replicate (length b.exprs) n m i);
     actual = λ n m i. absurd (At-replicate (length b.exprs) n m i);
+    pat_expected = λ n m i. absurd (At-replicate (length b.pats) n m i);
+    pat_actual = λ n m i. absurd (At-replicate (length b.pats) n m i);
   }
 
   empty_walked : IsWalked b s (nothing_found b)
@@ -69,10 +72,10 @@ module _ (b : RawBody) (s : Schedule) (law : IsWalkable b s) where
       bindings = length-replicate (length b.bindings) None;
       modes = length-replicate (length b.pats) None;
       mismatches = length-replicate (length b.exprs) None;
+      pat_mismatches = length-replicate (length b.pats) None;
     };
     carried = empty_carried;
     free_exprs = λ e i lo. free-replicate (length b.exprs) e.0 i;
-    free_mismatches = λ e i lo. free-replicate (length b.exprs) e.0 i;
     free_pats = λ p i lo. free-replicate (length b.pats) p.0 i;
     free_modes = λ p i lo. free-replicate (length b.pats) p.0 i;
     free_bindings = λ p v i lo. free-replicate (length b.bindings) v.0 (law.binders p v i);
@@ -104,7 +107,7 @@ root_before g s old c ready carried d = expr_before g s the_body root g.body.roo
 root_demand : (g : Given) (s : Schedule) (c : Found) → LieAhead g.body s the_body c.clock (expr_part root g.body.root ∷ []) → (r : InferenceResult) → Demand g r g.body.root g.output
 root_demand g s c ahead r =
     let q = ahead_stands g.body s the_body c.clock (expr_part root g.body.root) [] ahead in
-    record { parent = the_body; at_part = q.0; role = root; stands = q.1; asks = (refl, refl) }
+    inl (record { parent = the_body; at_part = q.0; role = root; stands = q.1; asks = (refl, refl) })
 
 module _ (g : Given) (s : Schedule) (law : IsWalkable g.body s) (t : Ty) (mid new : Found) (p : ParamsDone g s (nothing_found g.body) mid) (d : CoerceDone g s g.body.root (Some g.output) t mid new) where
   at_end : new.clock ≡ end g.body s the_body
@@ -142,7 +145,7 @@ module _ (g : Given) (s : Schedule) (law : IsWalkable g.body s) (t : Ty) (mid ne
         walked.made e i (inner_start g.body s (node.ExprId e) law.schedule i) (omega (arith, at_end, law.schedule.reached (inner (node.ExprId e)) i));
     kinds = λ p i.
         walked.pats_made p i (inner_start g.body s (node.PatId p) law.schedule i) (omega (arith, at_end, law.schedule.reached (inner (node.PatId p)) i));
-    params = λ i q u at is. d.walks.extends.pats q u (p.typed i q u at is);
+    params = λ i q u at is. pat_at_kept g mid.result new.result d.walks.extends q u (p.typed i q u at is);
     bindings = λ v i.
         (let q = law.bound v i in
         walked.state.bound q.binder v q.binds (
@@ -151,4 +154,5 @@ module _ (g : Given) (s : Schedule) (law : IsWalkable g.body s) (t : Ty) (mid ne
     body_clause = d.placed.1;
     misfits = λ e m i. (misfit e m i).0;
     demands = λ e m i. (misfit e m i).1;
+    pat_truths = λ q m i. elim (walked.pat_truths q m i) [ inl o ↦ absurd (At-replicate (length g.body.pats) q.0 m o) | inr o ↦ o ];
   }

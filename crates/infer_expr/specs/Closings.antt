@@ -14,6 +14,8 @@ use Rattle.infer_result.specs.declared.result.TypeMismatch.{TypeMismatch}
 use Rattle.infer_result.specs.Table.{mismatch}
 use Rattle.infer_result.specs.Closed.{AllTypes}
 use Rattle.infer_expr.specs.declared.context.InferenceContext.{InferenceContext}
+use Rattle.infer_expr.specs.declared.coerce_many.CoerceMany.{CoerceMany}
+use Rattle.infer_expr.specs.declared.coerce_many.CoerceMany.TheVariants as common
 use Rattle.infer_expr.specs.Fine.{is_fine_head, IsFine}
 use Rattle.infer_expr.specs.Found.{Found}
 
@@ -42,6 +44,7 @@ closed_table a t = record {
   type_of_binding = closed_types a t.type_of_binding;
   binding_modes = t.binding_modes;
   expr_mismatches = map (option_map (closed_mismatch a)) t.expr_mismatches;
+  pat_mismatches = map (option_map (closed_mismatch a)) t.pat_mismatches;
 }
 
 abbrev pub found_under : Assignment → InferenceContext → Found
@@ -49,6 +52,11 @@ found_under a c = record { result = closed_table a c.result; clock = c.clock }
 
 abbrev pub expected_under : Assignment → Option Ty → Option Ty
 expected_under a x = option_map (folded a) x
+
+abbrev pub common_under : Assignment → CoerceMany → CoerceMany
+common_under a common.Nothing = common.Nothing
+common_under a (common.Is t) = common.Is (folded a t)
+common_under a common.Unknown = common.Unknown
 
 -- ---- soundness
 

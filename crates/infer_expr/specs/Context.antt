@@ -1,5 +1,5 @@
 -- What the walk reads, what it expects, and what a write does.
-use Rattle.std.specs.Prelude.{◌+◌, ℕ, length, replicate, slice_get, slice_set, Option, Some, None}
+use Rattle.std.specs.Prelude.{◌+◌, ◌≡◌, ◌⊎◌, ℕ, length, replicate, slice_get, slice_set, Option, Some, None}
 use Rattle.hir_types.specs.declared.ids.ExprId.{ExprId}
 use Rattle.hir_types.specs.declared.ids.PatId.{PatId}
 use Rattle.hir_types.specs.declared.ids.BindingId.{BindingId}
@@ -15,6 +15,7 @@ use Rattle.infer_result.specs.declared.modes.BindingMode.{BindingMode}
 use Rattle.infer_result.specs.declared.modes.BindingMode.TheVariants as mode
 use Rattle.infer_table.specs.Table.{new_state}
 use Rattle.infer_result.specs.Places.{Given}
+use Rattle.infer_expr.specs.Found.{noted}
 use Rattle.infer_expr.specs.declared.given.GivenBody.{GivenBody}
 use Rattle.infer_expr.specs.declared.expectation.Expectation.{Expectation}
 use Rattle.infer_expr.specs.declared.expectation.Expectation.TheVariants as expectation
@@ -47,6 +48,10 @@ abbrev pub IsCarriedExpectation : Option Ty → Type 0
 IsCarriedExpectation None = Unit {0}
 IsCarriedExpectation (Some t) = IsCarriedType t
 
+-- the second expects what the first does, or nothing
+abbrev pub IsLess : Option Ty → Option Ty → Type 0
+IsLess x y = (y ≡ x) ⊎ (y ≡ None)
+
 -- ---- what is found out
 
 -- nothing yet: the walk has come to the body alone
@@ -58,6 +63,7 @@ empty_context b = record {
     type_of_binding = replicate (length b.bindings) None;
     binding_modes = replicate (length b.pats) None;
     expr_mismatches = replicate (length b.exprs) None;
+    pat_mismatches = replicate (length b.pats) None;
   };
   clock = 1;
   table = new_state;
@@ -72,7 +78,10 @@ abbrev pub with_expr_ty : InferenceContext → ExprId → Ty → InferenceContex
 with_expr_ty c e t = record c { result = record c.result { type_of_expr = slice_set c.result.type_of_expr e.0 (Some t) } }
 
 abbrev pub with_mismatch : InferenceContext → ExprId → TypeMismatch → InferenceContext
-with_mismatch c e m = record c { result = record c.result { expr_mismatches = slice_set c.result.expr_mismatches e.0 (Some m) } }
+with_mismatch c e m = record c { result = record c.result { expr_mismatches = noted c.result.expr_mismatches e.0 m } }
+
+abbrev pub with_pat_mismatch : InferenceContext → PatId → TypeMismatch → InferenceContext
+with_pat_mismatch c p m = record c { result = record c.result { pat_mismatches = noted c.result.pat_mismatches p.0 m } }
 
 abbrev pub with_pat_ty : InferenceContext → PatId → Ty → InferenceContext
 with_pat_ty c p t = record c { result = record c.result { type_of_pat = slice_set c.result.type_of_pat p.0 (Some t) } }

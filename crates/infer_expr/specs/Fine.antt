@@ -7,6 +7,7 @@ use Rattle.hir_types.specs.declared.ty.Ty.{Ty}
 use Rattle.hir_types.specs.Terms.{term}
 use Rattle.hir_facts.specs.declared.raw.RawType.{RawType}
 use Rattle.hir_facts.specs.Types.{written_type}
+use Rattle.hir_facts.specs.CarriedTypes.{IsCarriedType}
 use Rattle.infer_table.specs.Table.{State, HolesAreOf}
 use Rattle.infer_table.specs.Preserved.{HasOnly}
 
@@ -33,7 +34,8 @@ abbrev pub IsFineExpectation : State → Option Ty → Type 0
 IsFineExpectation state None = Unit {0}
 IsFineExpectation state (Some t) = IsFine state t
 
--- the written type is one of these, and stands for a type without `{unknown}`
+-- the written type is one of these, and stands for a type of carried kinds without `{unknown}`
 pub record IsWritten (types : List RawType) (w : TypeRefId) : Type 0 where
   pub within : w.0 < length types
+  pub carried : IsCarriedType (written_type types w)
   pub heads : HasFineHeads (written_type types w)

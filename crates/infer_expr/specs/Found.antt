@@ -1,5 +1,5 @@
 -- What inference has found out of a body, holes closed.
-use Rattle.std.specs.Prelude.{ℕ, ◌+◌, length, replicate, slice_set, Some, None}
+use Rattle.std.specs.Prelude.{ℕ, ◌+◌, List, length, replicate, slice_get, slice_set, Option, Some, None}
 use Rattle.hir_types.specs.declared.ids.ExprId.{ExprId}
 use Rattle.hir_types.specs.declared.ids.PatId.{PatId}
 use Rattle.hir_types.specs.declared.ids.BindingId.{BindingId}
@@ -24,6 +24,7 @@ nothing_found b = record {
     type_of_binding = replicate (length b.bindings) None;
     binding_modes = replicate (length b.pats) None;
     expr_mismatches = replicate (length b.exprs) None;
+    pat_mismatches = replicate (length b.pats) None;
   };
   clock = 1;
 }
@@ -36,8 +37,20 @@ entered c = record c { clock = c.clock + 1 }
 abbrev pub with_expr_ty : Found → ExprId → Ty → Found
 with_expr_ty c e t = record c { result = record c.result { type_of_expr = slice_set c.result.type_of_expr e.0 (Some t) } }
 
+-- the mismatch at n, where none is there yet: the first one stays
+abbrev pub noted_where : Option (Option TypeMismatch) → List (Option TypeMismatch) → ℕ → TypeMismatch → List (Option TypeMismatch)
+noted_where None xs n m = xs
+noted_where (Some None) xs n m = slice_set xs n (Some m)
+noted_where (Some (Some x)) xs n m = xs
+
+abbrev pub noted : List (Option TypeMismatch) → ℕ → TypeMismatch → List (Option TypeMismatch)
+noted xs n m = noted_where (slice_get xs n) xs n m
+
 abbrev pub with_mismatch : Found → ExprId → TypeMismatch → Found
-with_mismatch c e m = record c { result = record c.result { expr_mismatches = slice_set c.result.expr_mismatches e.0 (Some m) } }
+with_mismatch c e m = record c { result = record c.result { expr_mismatches = noted c.result.expr_mismatches e.0 m } }
+
+abbrev pub with_pat_mismatch : Found → PatId → TypeMismatch → Found
+with_pat_mismatch c p m = record c { result = record c.result { pat_mismatches = noted c.result.pat_mismatches p.0 m } }
 
 abbrev pub with_pat_ty : Found → PatId → Ty → Found
 with_pat_ty c p t = record c { result = record c.result { type_of_pat = slice_set c.result.type_of_pat p.0 (Some t) } }

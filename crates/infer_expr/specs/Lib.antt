@@ -1,5 +1,5 @@
-pub mod Context
 pub mod Found
+pub mod Context
 pub mod Walks
 pub mod Fine
 pub mod Closings

@@ -1,5 +1,5 @@
 -- What each function of the walk is given, and what it does.
-use Rattle.std.specs.Prelude.{ℕ, ◌+◌, ◌<◌, ◌≤◌, ◌≡◌, length, Option, Some, None, IsTrue}
+use Rattle.std.specs.Prelude.{ℕ, ◌+◌, ◌<◌, ◌≤◌, ◌≡◌, Bool, List, [], length, map, slice_get, Option, Some, None, IsTrue}
 use Rattle.hir_types.specs.declared.ids.ExprId.{ExprId}
 use Rattle.hir_types.specs.declared.ids.PatId.{PatId}
 use Rattle.hir_types.specs.declared.ids.TypeRefId.{TypeRefId}
@@ -10,20 +10,22 @@ use Rattle.hir_types.specs.Subst.{Assignment, folded}
 use Rattle.hir_types.specs.Types.{integer_type}
 use Rattle.hir_facts.specs.declared.raw.RawBody.{RawBody}
 use Rattle.hir_facts.specs.declared.raw.RawLiteral.{RawLiteral}
+use Rattle.hir_facts.specs.declared.raw.RawArm.{RawArm}
 use Rattle.hir_facts.specs.declared.raw.RawStmt.{RawStmt}
 use Rattle.hir_facts.specs.declared.schedule.Schedule.{Schedule}
-use Rattle.hir_facts.specs.Types.{written_type}
 use Rattle.hir_facts.specs.Laws.Carried.{is_carried_stmt}
-use Rattle.hir_facts.specs.Order.{inner, the_body, stmt_parts, stmt_at, maybe_part, tail, body_parts}
-use Rattle.infer_table.specs.Table.{Grew}
+use Rattle.hir_facts.specs.Order.{inner, the_body, stmt_parts, stmt_at, maybe_part, guard, else_branch, arms_parts, tail, body_parts}
+use Rattle.infer_table.specs.Table.{State, Grew}
 use Rattle.infer_result.specs.Closed.{IsOfBody}
-use Rattle.infer_result.specs.Places.{Given}
+use Rattle.infer_result.specs.Places.{Given, Incoming}
 use Rattle.infer_result.specs.Made.{IsMade}
 use Rattle.infer_result.specs.Rules.Literals.{IsLiteralType}
 use Rattle.infer_expr.specs.declared.context.InferenceContext.{InferenceContext}
 use Rattle.infer_expr.specs.Walks.{IsCarriedTable, IsWalked, expr_start, pat_start}
 use Rattle.infer_expr.specs.Fine.{IsFine, IsFineExpectation}
-use Rattle.infer_expr.specs.Closings.{IsClosing, Closes, closed_table, found_under, expected_under, IsSound}
+use Rattle.infer_expr.specs.Closings.{IsClosing, Closes, closed_table, found_under, expected_under, common_under, IsSound}
+use Rattle.infer_expr.specs.declared.coerce_many.CoerceMany.{CoerceMany}
+use Rattle.infer_expr.specs.declared.coerce_many.CoerceMany.TheVariants as common
 use Rattle.infer_expr.specs.Under as under
 
 -- ---- the state of the walk
@@ -81,16 +83,43 @@ pub record KindDone (g : Given) (s : Schedule) (e : ExprId) (x : Option Ty) (t :
 
 -- ---- patterns
 
-pub record BeforePat (g : Given) (s : Schedule) (p : PatId) (t : Ty) (c : InferenceContext) : Type 0 where
+-- the walk comes to the pattern p, into which x comes
+pub record BeforePat (g : Given) (s : Schedule) (p : PatId) (x : Option Ty) (c : InferenceContext) : Type 0 where
   pub ready : under.IsReady g s
   pub state : IsWalking g s c
   pub within : p.0 < length g.body.pats
   pub here : pat_start g.body s p ≡ c.clock
-  pub fine : IsFine c.table t
+  pub fine : IsFineExpectation c.table x
+  pub incoming : (a : Assignment) → Closes a c → (t : Ty) → expected_under a x ≡ Some t → Incoming g (closed_table a c.result) p t
 
-pub record PatDone (g : Given) (s : Schedule) (p : PatId) (t : Ty) (old new : InferenceContext) : Type 0 where
+pub record PatDone (g : Given) (s : Schedule) (p : PatId) (x : Option Ty) (old new : InferenceContext) : Type 0 where
   pub follows : Follows g.body old new
-  pub each : (a : Assignment) → Closes a new → under.PatDone g s p (folded a t) (found_under a old) (found_under a new)
+  pub each : (a : Assignment) → Closes a new → under.PatDone g s p (expected_under a x) (found_under a old) (found_under a new)
+
+-- the type is the given one, or a hole that is new
+pub record IsGivenOrNew (x : Option Ty) (t : Ty) (old new : InferenceContext) : Type 0 where
+  pub result : new.result ≡ old.result
+  pub clock : new.clock ≡ old.clock
+  pub grew : Grew old.table new.table
+  pub sound : IsSound new
+  pub fine : IsFine new.table t
+  pub given : (u : Ty) → x ≡ Some u → t ≡ u
+
+-- as many types as asked for, with some holes more
+pub record ArePartTypes (count : ℕ) (ts : List Ty) (old new : InferenceContext) : Type 0 where
+  pub result : new.result ≡ old.result
+  pub clock : new.clock ≡ old.clock
+  pub grew : Grew old.table new.table
+  pub sound : IsSound new
+  pub count_is : length ts ≡ count
+  pub fine : (i : ℕ) (t : Ty) → slice_get ts i ≡ Some t → IsFine new.table t
+
+-- The tuple of these types is recorded as that of the pattern, and it is what comes in, or they
+-- differ, and that is noted.
+pub record TupleDemanded (b : RawBody) (p : PatId) (ts : List Ty) (x : Option Ty) (old new : InferenceContext) : Type 0 where
+  pub follows : Follows b old new
+  pub clock : new.clock ≡ old.clock
+  pub each : (a : Assignment) → Closes a new → under.TupleDemanded p (map (folded a) ts) (expected_under a x) (found_under a old) (found_under a new)
 
 -- ---- parameters
 
@@ -125,15 +154,6 @@ pub record InitDone (g : Given) (s : Schedule) (w : Option TypeRefId) (e : ExprI
   pub fine : IsFine new.table t
   pub each : (a : Assignment) → Closes a new → under.InitDone g s w e (folded a t) (found_under a old) (found_under a new)
 
--- the type that a `let` without initializer gives to its pattern: the written one, or a hole that is new
-pub record DeclaredDone (g : Given) (w : Option TypeRefId) (t : Ty) (old new : InferenceContext) : Type 0 where
-  pub result : new.result ≡ old.result
-  pub clock : new.clock ≡ old.clock
-  pub grew : Grew old.table new.table
-  pub sound : IsSound new
-  pub fine : IsFine new.table t
-  pub written : (y : TypeRefId) → w ≡ Some y → t ≡ written_type g.types y
-
 -- ---- the end of a block
 
 pub record BeforeTail (g : Given) (s : Schedule) (n : ExprId) (last : Option ExprId) (x : Option Ty) (c : InferenceContext) : Type 0 where
@@ -155,12 +175,84 @@ TailDone g s n (Some e) x t old new = CoerceDone g s e x t old new
 
 -- ---- coercions
 
--- the two types are the same from here on, or that they differ is recorded as a mismatch at the
--- expression
-pub record IsCoerced (b : RawBody) (e : ExprId) (actual target : Ty) (old new : InferenceContext) : Type 0 where
+-- The two types are the same from here on, or they differ, and that is noted as a mismatch at the
+-- expression.
+pub record IsCoercedIf (yes : Bool) (b : RawBody) (e : ExprId) (actual target : Ty) (old new : InferenceContext) : Type 0 where
   pub follows : Follows b old new
   pub clock : new.clock ≡ old.clock
-  pub each : (a : Assignment) → Closes a new → under.IsCoerced e (folded a actual) (folded a target) (found_under a old) (found_under a new)
+  pub each : (a : Assignment) → Closes a new → under.IsCoercedIf yes e (folded a actual) (folded a target) (found_under a old) (found_under a new)
+
+-- ---- alternatives
+
+abbrev pub IsFineCommon : State → CoerceMany → Type 0
+IsFineCommon state common.Nothing = Unit {0}
+IsFineCommon state (common.Is t) = IsFine state t
+IsFineCommon state common.Unknown = Unit {0}
+
+-- the arms of the `match` n lie ahead, and x is expected of them
+pub record BeforeArms (g : Given) (s : Schedule) (n : ExprId) (arms : List RawArm) (x : Option Ty) (c : InferenceContext) : Type 0 where
+  pub ready : under.IsReady g s
+  pub state : IsWalking g s c
+  pub within : n.0 < length g.body.exprs
+  pub ahead : under.LieAhead g.body s (inner (node.ExprId n)) c.clock (arms_parts 0 arms)
+  pub some : (arms ≡ [] → ⊥)
+  pub expected : IsFineExpectation c.table x
+
+-- the arms have the type t in common, or a mismatch
+pub record ArmsDone (g : Given) (s : Schedule) (n : ExprId) (arms : List RawArm) (x : Option Ty) (t : Ty) (old new : InferenceContext) : Type 0 where
+  pub follows : Follows g.body old new
+  pub fine : IsFine new.table t
+  pub each : (a : Assignment) → Closes a new → under.ArmsDone g s n arms (expected_under a x) (folded a t) (found_under a old) (found_under a new)
+
+-- the guard of an arm lies ahead, where it has one
+pub record BeforeGuard (g : Given) (s : Schedule) (n : ExprId) (o : Option ExprId) (c : InferenceContext) : Type 0 where
+  pub ready : under.IsReady g s
+  pub state : IsWalking g s c
+  pub position : ℕ
+  pub ahead : under.LieAhead g.body s (inner (node.ExprId n)) c.clock (maybe_part (guard position) o)
+
+-- the guard is a truth value, where there is one, or has a mismatch
+pub record GuardDone (g : Given) (s : Schedule) (o : Option ExprId) (old new : InferenceContext) : Type 0 where
+  pub follows : Follows g.body old new
+  pub each : (a : Assignment) → Closes a new → under.GuardDone g s o (found_under a old) (found_under a new)
+
+-- what the next alternative e, of type t, makes of the common type
+pub record Merges (b : RawBody) (e : ExprId) (t : Ty) (before after : CoerceMany) (old new : InferenceContext) : Type 0 where
+  pub follows : Follows b old new
+  pub clock : new.clock ≡ old.clock
+  pub fine : IsFineCommon new.table after
+  pub each : (a : Assignment) → Closes a new → under.Merges e (folded a t) (common_under a before) (common_under a after) (found_under a old) (found_under a new)
+
+-- the alternative e, of which x is expected, is typed and taken into the common type
+pub record AlternativeDone (g : Given) (s : Schedule) (e : ExprId) (x : Option Ty) (before after : CoerceMany) (old new : InferenceContext) : Type 0 where
+  pub follows : Follows g.body old new
+  pub fine : IsFineCommon new.table after
+  pub each : (a : Assignment) → Closes a new → under.AlternativeDone g s e (expected_under a x) (common_under a before) (common_under a after) (found_under a old) (found_under a new)
+
+-- the other branch of the `if` n lies ahead, where it has one, and m is the type of the first
+pub record BeforeElse (g : Given) (s : Schedule) (n : ExprId) (other : Option ExprId) (x : Option Ty) (m : CoerceMany) (c : InferenceContext) : Type 0 where
+  pub ready : under.IsReady g s
+  pub state : IsWalking g s c
+  pub within : n.0 < length g.body.exprs
+  pub ahead : under.LieAhead g.body s (inner (node.ExprId n)) c.clock (maybe_part else_branch other)
+  pub expected : IsFineExpectation c.table x
+  pub common : IsFineCommon c.table m
+
+-- it is taken into the common type, or `()` where there is none
+pub record ElseDone (g : Given) (s : Schedule) (n : ExprId) (other : Option ExprId) (x : Option Ty) (before after : CoerceMany) (old new : InferenceContext) : Type 0 where
+  pub follows : Follows g.body old new
+  pub fine : IsFineCommon new.table after
+  pub each : (a : Assignment) → Closes a new → under.ElseDone g s n other (expected_under a x) (common_under a before) (common_under a after) (found_under a old) (found_under a new)
+
+-- the type of a node whose alternatives came to this, where x is expected of them: a hole that is new
+-- where that is nothing known
+pub record Completes (x : Option Ty) (m : CoerceMany) (t : Ty) (old new : InferenceContext) : Type 0 where
+  pub result : new.result ≡ old.result
+  pub clock : new.clock ≡ old.clock
+  pub grew : Grew old.table new.table
+  pub sound : IsSound new
+  pub fine : IsFine new.table t
+  pub is : under.Completes x m t
 
 -- ---- literals
 

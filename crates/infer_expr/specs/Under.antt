@@ -1,15 +1,18 @@
 -- What each function of the walk is given, and what it does, under one assignment of types to holes.
-use Rattle.std.specs.Prelude.{ℕ, ◌+◌, ◌<◌, ◌≡◌, ◌⊎◌, ◌^◌, List, [], ◌∷◌, length, slice_get, Option, Some, None, option_map, IsTrue}
+use Rattle.std.specs.Prelude.{ℕ, ◌+◌, ◌<◌, ◌≡◌, ◌⊎◌, ◌^◌, Bool, true, false, List, [], ◌∷◌, length, slice_get, Option, Some, None, option_map, IsTrue}
 use Rattle.hir_types.specs.declared.ids.ExprId.{ExprId}
 use Rattle.hir_types.specs.declared.ids.PatId.{PatId}
 use Rattle.hir_types.specs.declared.ids.TypeRefId.{TypeRefId}
 use Rattle.hir_types.specs.declared.ids.LabelId.{LabelId}
 use Rattle.hir_types.specs.declared.ids.ExprOrPatId.TheVariants as node
 use Rattle.hir_types.specs.declared.ty.Ty.{Ty}
+use Rattle.hir_types.specs.declared.ty.Ty.TheVariants as ty
 use Rattle.hir_facts.specs.declared.raw.RawBody.{RawBody}
 use Rattle.hir_facts.specs.declared.raw.RawExpr.TheVariants as expr
 use Rattle.hir_facts.specs.declared.raw.RawPath.{RawPath}
 use Rattle.hir_facts.specs.declared.raw.RawPath.TheVariants as path
+use Rattle.hir_facts.specs.declared.raw.RawArm.{RawArm}
+use Rattle.hir_facts.specs.declared.raw.RawPat.TheVariants as pat
 use Rattle.hir_facts.specs.declared.raw.RawStmt.{RawStmt}
 use Rattle.hir_facts.specs.declared.raw.RawStmt.TheVariants as stmt
 use Rattle.hir_facts.specs.declared.schedule.Schedule.{Schedule}
@@ -18,18 +21,21 @@ use Rattle.hir_facts.specs.Types.{written_type}
 use Rattle.hir_facts.specs.CarriedTypes.{IsCarriedType}
 use Rattle.hir_facts.specs.Bodies.{IsWalkable}
 use Rattle.hir_facts.specs.Laws.Carried.{is_carried_stmt}
-use Rattle.hir_facts.specs.Order.{end, inner, the_body, Node, Part, IsNode, part_at, Fits, after, stmt_parts, stmt_at, maybe_part, tail, body_parts, expr_part, root}
+use Rattle.hir_facts.specs.Order.{end, inner, the_body, Node, Part, IsNode, part_at, Fits, after, stmt_parts, stmt_at, maybe_part, guard, arms_parts, tail, body_parts, expr_part, root}
 use Rattle.infer_result.specs.declared.result.InferenceResult.{InferenceResult}
 use Rattle.infer_result.specs.declared.result.TypeMismatch.{TypeMismatch}
-use Rattle.infer_result.specs.Table.{At, HasTy, PatTy, BindingTy, mismatch}
-use Rattle.infer_result.specs.Places.{Given, IsInput, IsAtOrMismatch}
+use Rattle.infer_result.specs.Table.{HasTy, BindingTy, MismatchAt, AnyMismatch, mismatch}
+use Rattle.infer_result.specs.Places.{Given, IsInput, IsAt, IsAtOrMismatch, PatIsAtOrMismatch, Incoming}
+use Rattle.infer_result.specs.Rules.Branches.{arm_exprs, GuardRule, ArmsRule}
 use Rattle.infer_result.specs.Rules.Expressions.{ObeysOrMismatch}
 use Rattle.infer_result.specs.Rules.Blocks.{StmtRule}
-use Rattle.infer_result.specs.Truth.Mismatch.{IsBlockWithoutTail}
-use Rattle.infer_expr.specs.Found.{Found, with_mismatch}
+use Rattle.infer_result.specs.Rules.Placing.{at_or_mismatch}
+use Rattle.infer_expr.specs.Found.{Found, with_mismatch, with_pat_ty, with_pat_mismatch}
 use Rattle.infer_expr.specs.Context.{IsCarriedExpectation}
 use Rattle.infer_expr.specs.Fine.{IsWritten}
-use Rattle.infer_expr.specs.Walks.{Walks, IsWalked, IsFree, Extends, Nothing, Owed, PaidBy, expr_start, expr_end, pat_start}
+use Rattle.infer_expr.specs.declared.coerce_many.CoerceMany.{CoerceMany}
+use Rattle.infer_expr.specs.declared.coerce_many.CoerceMany.TheVariants as common
+use Rattle.infer_expr.specs.Walks.{Walks, IsWalked, Extends, Nothing, Owed, PaidBy, expr_start, expr_end, pat_start, pat_end}
 
 -- each type that a `let` of the body or a parameter is written with is one of the facts'
 pub record WrittenExist (g : Given) : Type 0 where
@@ -63,7 +69,6 @@ pub record OwnDone (g : Given) (s : Schedule) (e : ExprId) (x : Option Ty) (t : 
   pub walks : Walks g s (Owed e x) old new
   pub clock : new.clock ≡ expr_end g.body s e
   pub type_is : HasTy new.result e t
-  pub free : IsFree new.result.expr_mismatches e.0 ⊎ (x ≡ Some t)
 
 -- the expression is at the type t, which is the expected one where one is
 abbrev pub IsPlaced : InferenceResult → ExprId → Option Ty → Ty → Type 0
@@ -85,29 +90,13 @@ pub record Within (g : Given) (s : Schedule) (e : ExprId) (x : Option Ty) (c : F
   pub clock : c.clock ≡ expr_start g.body s e + 1
   pub expected : IsCarriedExpectation x
 
--- the mismatch that an expression may have before its type is recorded
-abbrev pub with_own : Found → ExprId → Option TypeMismatch → Found
-with_own c e None = c
-with_own c e (Some m) = with_mismatch c e m
-
--- a block without tail is not what was expected
-pub record IsOwnMisfit (b : RawBody) (e : ExprId) (x : Option Ty) (t : Ty) (m : TypeMismatch) : Type 0 where
-  pub block : IsBlockWithoutTail b e
-  pub asked : x ≡ Some t
-  pub is : m ≡ mismatch t unit
-  pub differ : t ≡ unit → ⊥
-
 -- Everything is done at the expression, but that its type t is to be recorded: its rule holds and
--- what is owed is paid as soon as it is.
+-- what is owed is paid as soon as it is, or by its place.
 pub record KindDone (g : Given) (s : Schedule) (e : ExprId) (x : Option Ty) (t : Ty) (old new : Found) : Type 0 where
-  pub last : Found
-  pub own : Option TypeMismatch
-  pub is : new ≡ with_own last e own
-  pub walks : Walks g s (PaidBy g e t) old last
-  pub clock : last.clock ≡ expr_end g.body s e
+  pub walks : Walks g s (PaidBy g e x t) old new
+  pub clock : new.clock ≡ expr_end g.body s e
   pub carried : IsCarriedType t
-  pub misfit : (m : TypeMismatch) → own ≡ Some m → IsOwnMisfit g.body e x t m
-  pub rule : (r : InferenceResult) → Extends last.result r → HasTy r e t → ((m : TypeMismatch) → own ≡ Some m → At r.expr_mismatches e.0 m) → ObeysOrMismatch g r e
+  pub rule : (r : InferenceResult) → Extends new.result r → HasTy r e t → ObeysOrMismatch g r e
 
 abbrev pub IsTupleOf : RawBody → ExprId → List ExprId → Type 0
 IsTupleOf b e es = slice_get b.exprs e.0 ≡ Some (expr.Tuple es)
@@ -115,25 +104,55 @@ IsTupleOf b e es = slice_get b.exprs e.0 ≡ Some (expr.Tuple es)
 abbrev pub IsBlockOf : RawBody → ExprId → List RawStmt → Option ExprId → Type 0
 IsBlockOf b e stmts last = (label : Option LabelId) × (slice_get b.exprs e.0 ≡ Some (expr.Block label stmts last))
 
+abbrev pub IsIfOf : RawBody → ExprId → ExprId → ExprId → Option ExprId → Type 0
+IsIfOf b e c first other = slice_get b.exprs e.0 ≡ Some (expr.If c first other)
+
+abbrev pub IsMatchOf : RawBody → ExprId → ExprId → List RawArm → Type 0
+IsMatchOf b e d arms = slice_get b.exprs e.0 ≡ Some (expr.Match d arms)
+
 -- the path names a local of this type
 abbrev pub IsPathType : InferenceResult → RawPath → Ty → Type 0
 IsPathType r (path.Local v) t = BindingTy r v t
 IsPathType r (path.Function f) t = ⊥
+IsPathType r (path.Ctor named) t = ⊥
 IsPathType r path.Other t = ⊥
 
 -- ---- patterns
 
-pub record BeforePat (g : Given) (s : Schedule) (p : PatId) (t : Ty) (c : Found) : Type 0 where
+-- the walk comes to the pattern p, into which x comes
+pub record BeforePat (g : Given) (s : Schedule) (p : PatId) (x : Option Ty) (c : Found) : Type 0 where
   pub ready : IsReady g s
   pub state : IsWalked g.body s c
   pub within : p.0 < length g.body.pats
   pub here : pat_start g.body s p ≡ c.clock
-  pub carried : IsCarriedType t
+  pub carried : IsCarriedExpectation x
+  pub incoming : (t : Ty) → x ≡ Some t → Incoming g c.result p t
 
-pub record PatDone (g : Given) (s : Schedule) (p : PatId) (t : Ty) (old new : Found) : Type 0 where
+-- the pattern has the type that comes in, where one does, or a mismatch
+abbrev pub IsPatPlaced : Given → InferenceResult → PatId → Option Ty → Type 0
+IsPatPlaced g r p None = Unit {0}
+IsPatPlaced g r p (Some t) = PatIsAtOrMismatch g r p t
+
+pub record PatDone (g : Given) (s : Schedule) (p : PatId) (x : Option Ty) (old new : Found) : Type 0 where
   pub walks : Walks g s Nothing old new
-  pub clock : new.clock ≡ old.clock + 1
-  pub type_is : PatTy new.result p t
+  pub clock : new.clock ≡ pat_end g.body s p
+  pub placed : IsPatPlaced g new.result p x
+
+-- what comes in is the tuple of these types, or that it is not is noted
+abbrev pub IsDemanded : PatId → Ty → Option Ty → Found → Found → Type 0
+IsDemanded p t None old new = new ≡ old
+IsDemanded p t (Some u) old new = ((u ≡ t) × (new ≡ old)) ⊎ ((u ≡ t → ⊥) × (new ≡ with_pat_mismatch old p (mismatch u t)))
+
+pub record TupleDemanded (p : PatId) (ts : List Ty) (x : Option Ty) (old new : Found) : Type 0 where
+  pub mid : Found
+  pub demanded : IsDemanded p (ty.Tuple ts) x old mid
+  pub recorded : new ≡ with_pat_ty mid p (ty.Tuple ts)
+
+abbrev pub IsTuplePatOf : RawBody → PatId → List PatId → Type 0
+IsTuplePatOf b p ps = slice_get b.pats p.0 ≡ Some (pat.Tuple ps)
+
+abbrev pub IsLitPatOf : RawBody → PatId → ExprId → Type 0
+IsLitPatOf b p e = slice_get b.pats p.0 ≡ Some (pat.Lit e)
 
 -- ---- parameters
 
@@ -148,7 +167,7 @@ pub record BeforeParams (g : Given) (s : Schedule) (c : Found) : Type 0 where
 pub record ParamsDone (g : Given) (s : Schedule) (old new : Found) : Type 0 where
   pub walks : Walks g s Nothing old new
   pub ahead : LieAhead g.body s the_body new.clock (expr_part root g.body.root ∷ [])
-  pub typed : (i : ℕ) (p : PatId) (t : Ty) → slice_get g.body.params i ≡ Some p → IsInput g i t → PatTy new.result p t
+  pub typed : (i : ℕ) (p : PatId) (t : Ty) → slice_get g.body.params i ≡ Some p → IsInput g i t → PatIsAtOrMismatch g new.result p t
 
 -- ---- statements
 
@@ -163,7 +182,7 @@ pub record BeforeStmt (g : Given) (s : Schedule) (n : ExprId) (x : RawStmt) (c :
 pub record StmtDone (g : Given) (s : Schedule) (x : RawStmt) (old new : Found) : Type 0 where
   pub walks : Walks g s Nothing old new
   pub clock : new.clock ≡ after g.body s old.clock (stmt_parts x)
-  pub made : StmtRule (IsAtOrMismatch new.result) g new.result x
+  pub made : StmtRule (at_or_mismatch g new.result) g new.result x
 
 -- the type that is written, where one is
 abbrev pub declared_type : Given → Option TypeRefId → Option Ty
@@ -175,6 +194,73 @@ pub record InitDone (g : Given) (s : Schedule) (w : Option TypeRefId) (e : ExprI
   pub clock : new.clock ≡ expr_end g.body s e
   pub placed : IsPlaced new.result e (declared_type g w) t
 
+-- ---- coercions
+
+-- The two types are the same, or they differ, and that is noted as a mismatch at the expression.
+abbrev pub IsCoercedIf : Bool → ExprId → Ty → Ty → Found → Found → Type 0
+IsCoercedIf true e actual target old new = (actual ≡ target) × (new ≡ old)
+IsCoercedIf false e actual target old new = (target ≡ actual → ⊥) × (new ≡ with_mismatch old e (mismatch target actual))
+
+-- ---- alternatives
+
+-- what the next alternative e, of type t, makes of the common type
+abbrev pub Merges : ExprId → Ty → CoerceMany → CoerceMany → Found → Found → Type 0
+Merges e t common.Nothing m old new = (m ≡ common.Is t) × (new ≡ old)
+Merges e t (common.Is u) m old new = ((m ≡ common.Is u) × IsCoercedIf true e t u old new) ⊎ ((m ≡ common.Unknown) × IsCoercedIf false e t u old new)
+Merges e t common.Unknown m old new = (m ≡ common.Unknown) × (new ≡ old)
+
+-- the alternative e, of which x is expected, is typed and taken into the common type
+pub record AlternativeDone (g : Given) (s : Schedule) (e : ExprId) (x : Option Ty) (before after : CoerceMany) (old new : Found) : Type 0 where
+  pub mid : Found
+  pub type : Ty
+  pub own : OwnDone g s e x type old mid
+  pub merged : Merges e type before after mid new
+
+-- the other branch of the `if` n is taken into the common type, or `()` where it has none
+abbrev pub ElseDone : Given → Schedule → ExprId → Option ExprId → Option Ty → CoerceMany → CoerceMany → Found → Found → Type 0
+ElseDone g s n None x before after old new = Merges n unit before after old new
+ElseDone g s n (Some e) x before after old new = AlternativeDone g s e x before after old new
+
+-- each of these expressions is at the type
+abbrev pub AllAtType : InferenceResult → List ExprId → Ty → Type 0
+AllAtType r [] t = Unit {0}
+AllAtType r (e ∷ es) t = IsAt r e t × AllAtType r es t
+
+-- the common type is what is expected, or else the type of the first alternative
+abbrev pub IsCommonFrom : InferenceResult → List ExprId → Option Ty → Ty → Type 0
+IsCommonFrom r es (Some u) t = t ≡ u
+IsCommonFrom r [] None t = ⊥
+IsCommonFrom r (e ∷ es) None t = HasTy r e t
+
+abbrev pub common_of : Option Ty → CoerceMany
+common_of None = common.Nothing
+common_of (Some t) = common.Is t
+
+-- the guard is a truth value, where there is one, or has a mismatch
+pub record GuardDone (g : Given) (s : Schedule) (o : Option ExprId) (old new : Found) : Type 0 where
+  pub walks : Walks g s Nothing old new
+  pub clock : (i : ℕ) → new.clock ≡ after g.body s old.clock (maybe_part (guard i) o)
+  pub made : GuardRule (at_or_mismatch g new.result) o
+
+-- each guard is a truth value, and the arms have the type t in common, or one of them has a mismatch
+pub record ArmsDone (g : Given) (s : Schedule) (n : ExprId) (arms : List RawArm) (x : Option Ty) (t : Ty) (old new : Found) : Type 0 where
+  pub walks : Walks g s (PaidBy g n x t) old new
+  pub clock : new.clock ≡ after g.body s old.clock (arms_parts 0 arms)
+  pub carried : IsCarriedType t
+  pub made : ArmsRule (at_or_mismatch g new.result) (arm_exprs arms) arms t
+
+-- The alternatives es, of which x is expected, have the common type, or one of them has a mismatch.
+abbrev pub AreMerged : InferenceResult → List ExprId → Option Ty → CoerceMany → Type 0
+AreMerged r es x common.Nothing = (es ≡ []) × (x ≡ None)
+AreMerged r es x (common.Is t) = AllAtType r es t × IsCommonFrom r es x t
+AreMerged r es x common.Unknown = AnyMismatch r es
+
+-- the type of a node whose alternatives came to this, where x is expected of them
+abbrev pub Completes : Option Ty → CoerceMany → Ty → Type 0
+Completes x common.Nothing t = Unit {0}
+Completes x (common.Is u) t = t ≡ u
+Completes x common.Unknown t = (u : Ty) → x ≡ Some u → t ≡ u
+
 -- ---- the end of a block
 
 pub record BeforeTail (g : Given) (s : Schedule) (n : ExprId) (last : Option ExprId) (x : Option Ty) (c : Found) : Type 0 where
@@ -184,20 +270,16 @@ pub record BeforeTail (g : Given) (s : Schedule) (n : ExprId) (last : Option Exp
   pub ahead : LieAhead g.body s (inner (node.ExprId n)) c.clock (maybe_part tail last)
   pub expected : IsCarriedExpectation x
 
--- `()` is what is expected of a block without tail, or that is recorded as a mismatch at the block
-pub record NoTailDone (n : ExprId) (x : Option Ty) (t : Ty) (old new : Found) : Type 0 where
-  pub own : Option TypeMismatch
-  pub is : new ≡ with_own old n own
-  pub asked : (u : Ty) → x ≡ Some u → t ≡ u
-  pub fits : (own ≡ None) × (t ≡ unit) ⊎ (own ≡ Some (mismatch t unit)) × (x ≡ Some t) × (t ≡ unit → ⊥)
+-- A block without tail is `()`. Where that is not what is expected of it, it has the expected type, if
+-- that very mismatch is noted at it.
+pub record IsMisplaced (n : ExprId) (x : Option Ty) (t u : Ty) (old new : Found) : Type 0 where
+  pub asked : x ≡ Some u
+  pub coerced : IsCoercedIf false n unit u old new
+  pub typed : (t ≡ unit) ⊎ ((t ≡ u) × MismatchAt new.result n u unit)
+
+abbrev pub NoTailDone : ExprId → Option Ty → Ty → Found → Found → Type 0
+NoTailDone n x t old new = ((new ≡ old) × (t ≡ unit)) ⊎ ((u : Ty) × IsMisplaced n x t u old new)
 
 abbrev pub TailDone : Given → Schedule → ExprId → Option ExprId → Option Ty → Ty → Found → Found → Type 0
 TailDone g s n None x t old new = NoTailDone n x t old new
 TailDone g s n (Some e) x t old new = CoerceDone g s e x t old new
-
--- ---- coercions
-
--- where the two types differ, that is recorded as a mismatch at the expression
-abbrev pub IsCoerced : ExprId → Ty → Ty → Found → Found → Type 0
-IsCoerced e actual target old new =
-    ((actual ≡ target) × (new ≡ old)) ⊎ ((target ≡ actual → ⊥) × (new ≡ with_mismatch old e (mismatch target actual)))

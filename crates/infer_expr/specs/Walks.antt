@@ -17,6 +17,7 @@ use Rattle.hir_facts.specs.CarriedTypes.{IsCarriedType}
 use Rattle.infer_result.specs.Places.{Given, Demand}
 use Rattle.infer_result.specs.Rules.Expressions.{ObeysOrMismatch}
 use Rattle.infer_result.specs.Rules.Patterns.{PatRule}
+use Rattle.infer_result.specs.Truth.Mismatch.{IsTruePatMismatch}
 use Rattle.infer_result.specs.Made.{IsMisfit}
 use Rattle.infer_expr.specs.Found.{Found}
 
@@ -30,6 +31,9 @@ expr_end b s e = end b s (inner (node.ExprId e))
 abbrev pub pat_start : RawBody → Schedule → PatId → ℕ
 pat_start b s p = start b s (inner (node.PatId p))
 
+abbrev pub pat_end : RawBody → Schedule → PatId → ℕ
+pat_end b s p = end b s (inner (node.PatId p))
+
 -- nothing is recorded at n
 abbrev pub IsFree : {A : Type 0} → List (Option A) → ℕ → Type 0
 IsFree xs n = slice_get xs n ≡ Some None
@@ -41,6 +45,7 @@ pub record Extends (old new : InferenceResult) : Type 0 where
   pub bindings : (v : BindingId) (t : Ty) → BindingTy old v t → BindingTy new v t
   pub modes : (p : PatId) (m : BindingMode) → HasMode old p m → HasMode new p m
   pub mismatches : (e : ExprId) (m : TypeMismatch) → At old.expr_mismatches e.0 m → At new.expr_mismatches e.0 m
+  pub pat_mismatches : (p : PatId) (m : TypeMismatch) → At old.pat_mismatches p.0 m → At new.pat_mismatches p.0 m
 
 -- each type of the table is of a carried kind
 abbrev pub IsCarriedTable : InferenceResult → Type 0
@@ -52,7 +57,6 @@ pub record IsWalked (b : RawBody) (s : Schedule) (c : Found) : Type 0 where
   pub of_body : IsOfBody b c.result
   pub carried : IsCarriedTable c.result
   pub free_exprs : (e : ExprId) → e.0 < length b.exprs → c.clock ≤ expr_start b s e → IsFree c.result.type_of_expr e.0
-  pub free_mismatches : (e : ExprId) → e.0 < length b.exprs → c.clock ≤ expr_start b s e → IsFree c.result.expr_mismatches e.0
   pub free_pats : (p : PatId) → p.0 < length b.pats → c.clock ≤ pat_start b s p → IsFree c.result.type_of_pat p.0
   pub free_modes : (p : PatId) → p.0 < length b.pats → c.clock ≤ pat_start b s p → IsFree c.result.binding_modes p.0
   pub free_bindings : (p : PatId) (v : BindingId) → Binds b p v → c.clock ≤ pat_start b s p → IsFree c.result.type_of_binding v.0
@@ -68,11 +72,12 @@ pub record Walks (g : Given) (s : Schedule) (P : Debt) (old new : Found) : Type 
   pub clock : old.clock ≤ new.clock
   pub extends : Extends old.result new.result
   pub kept : (e : ExprId) → e.0 < length g.body.exprs → expr_start g.body s e < old.clock → slice_get new.result.type_of_expr e.0 ≡ slice_get old.result.type_of_expr e.0
-  pub kept_mismatches : (e : ExprId) → e.0 < length g.body.exprs → expr_start g.body s e < old.clock → slice_get new.result.expr_mismatches e.0 ≡ slice_get old.result.expr_mismatches e.0
+  pub kept_pats : (p : PatId) → p.0 < length g.body.pats → pat_start g.body s p < old.clock → slice_get new.result.type_of_pat p.0 ≡ slice_get old.result.type_of_pat p.0
   pub state : IsWalked g.body s new
   pub made : (e : ExprId) → e.0 < length g.body.exprs → old.clock ≤ expr_start g.body s e → expr_start g.body s e < new.clock → ObeysOrMismatch g new.result e
-  pub pats_made : (p : PatId) → p.0 < length g.body.pats → old.clock ≤ pat_start g.body s p → pat_start g.body s p < new.clock → PatRule new.result p (slice_get g.body.pats p.0)
+  pub pats_made : (p : PatId) → p.0 < length g.body.pats → old.clock ≤ pat_start g.body s p → pat_start g.body s p < new.clock → PatRule g new.result p (slice_get g.body.pats p.0)
   pub truths : (e : ExprId) (m : TypeMismatch) → At new.result.expr_mismatches e.0 m → At old.result.expr_mismatches e.0 m ⊎ (IsMisfit g new.result e m × (Demand g new.result e m.expected ⊎ P e m))
+  pub pat_truths : (p : PatId) (m : TypeMismatch) → At new.result.pat_mismatches p.0 m → At old.result.pat_mismatches p.0 m ⊎ IsTruePatMismatch g new.result p m
 
 -- ---- debts
 
@@ -88,6 +93,11 @@ Owed n (Some t) e m = (e ≡ n) × (m.expected ≡ t)
 abbrev pub OwedAmong : List ExprId → List Ty → ExprId → TypeMismatch → Type 0
 OwedAmong es ts e m = (i : ℕ) × (slice_get es i ≡ Some e) × (slice_get ts i ≡ Some m.expected)
 
--- what n shows once its type is recorded as t
-abbrev pub PaidBy : Given → ExprId → Ty → ExprId → TypeMismatch → Type 0
-PaidBy g n t e m = (r : InferenceResult) → HasTy r n t → Demand g r e m.expected
+-- What n shows once its type is recorded as t, or its own place is to show, which expects x.
+abbrev pub PaidBy : Given → ExprId → Option Ty → Ty → ExprId → TypeMismatch → Type 0
+PaidBy g n x t e m = ((r : InferenceResult) → HasTy r n t → Demand g r e m.expected) ⊎ Owed n x e m
+
+-- What an alternative of n owes while the common type is not known, where x is expected of all: the
+-- node will have that type.
+abbrev pub OwedByAlternatives : Given → ExprId → Option Ty → ExprId → TypeMismatch → Type 0
+OwedByAlternatives g n x e m = (u : Ty) × (x ≡ Some u) × ((r : InferenceResult) → HasTy r n u → Demand g r e m.expected)

@@ -1,10 +1,10 @@
 //! The types of blocks.
-ghost use Rattle.std.specs.Prelude.{◌≡◌, ◌<◌, IfOk, length, List};
+ghost use Rattle.std.specs.Prelude.{◌≡◌, ◌<◌, IfOk, Some, length, List};
 ghost use Rattle.hir_types.specs.Types.{unit};
 ghost use Rattle.infer_expr.specs.Context.{given_of, schedule_of, expected_type};
 ghost use Rattle.infer_result.specs.Closed.{IsOfBody};
 ghost use Rattle.infer_expr.specs.Closings.{IsSound};
-ghost use Rattle.infer_expr.specs.Fine.{IsFineExpectation};
+ghost use Rattle.infer_expr.specs.Fine.{IsFine, IsFineExpectation};
 ghost use Rattle.infer_expr.specs.Under.{IsBlockOf};
 ghost use Rattle.infer_expr.specs.Steps.{Within, KindDone, BeforeTail, TailDone, NoTailDone};
 
@@ -61,7 +61,8 @@ impl InferenceContext {
         }
     }
 
-    /// The type of a block without tail: `()`, or the type that is expected in its place.
+    /// The type of a block without tail: `()`, or what `coerce_unit` answers where something is
+    /// expected.
     fn infer_no_tail(
         &mut self,
         alloc: Global,
@@ -76,13 +77,38 @@ impl InferenceContext {
         ensures { IfOk result (λ ty. NoTailDone given.now.body.now block
             (expected_type expected.entry) ty self.old self.new) }
     {
-        let unit = Ty::Tuple(List::new(alloc));
         match expected.only_has_type() {
             Some(target) => {
-                let ty = self.coerce(alloc, given, block, unit, target)?;
+                let ty = self.coerce_unit(alloc, given, block, target)?;
                 Ok(ty)
             }
-            None => Ok(unit),
+            None => Ok(Ty::Tuple(List::new(alloc))),
+        }
+    }
+
+    /// The type of a block without tail of which this type is expected: `()`, or where a mismatch
+    /// says that this is not what is expected, the expected type.
+    fn coerce_unit(
+        &mut self,
+        alloc: Global,
+        given: &GivenBody,
+        block: ExprId,
+        target: &Ty,
+    ) -> Result<Ty, AllocError>
+        requires within { block.0 < length given.now.body.now.exprs }
+        requires of_body { IsOfBody given.now.body.now self.old.result }
+        requires sound { IsSound self.old }
+        requires target { IsFine self.old.table target.now }
+        ensures { IfOk result (λ ty. NoTailDone given.now.body.now block
+            (Some target.now) ty self.old self.new) }
+    {
+        let unit = Ty::Tuple(List::new(alloc));
+        self.coerce(alloc, given, block, &unit, target)?;
+        if self.is_noted(block, target, &unit) {
+            let ty = target.dup(alloc)?;
+            Ok(ty)
+        } else {
+            Ok(Ty::Tuple(List::new(alloc)))
         }
     }
 }

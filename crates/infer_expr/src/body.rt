@@ -43,7 +43,7 @@ impl InferenceContext {
         let params = given.body.params.as_slice();
         for i in 0..params.len() {
             let ty = given.make_body_ty(alloc, given.inputs[i])?;
-            self.infer_top_pat(alloc, given, params[i], ty)?;
+            self.infer_top_pat(alloc, given, params[i], Some(ty))?;
         }
         Ok(())
     }

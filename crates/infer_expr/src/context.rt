@@ -1,6 +1,8 @@
 //! What inference of a body has found out so far.
-ghost use Rattle.std.specs.Prelude.{◌≡◌, ◌<◌, ◌+◌, ◌^◌, IfOk, None, length, replicate};
-ghost use Rattle.infer_expr.specs.Context.{empty_context, entered, with_expr_ty, with_mismatch, with_pat_ty, with_mode, with_binding_ty};
+ghost use Rattle.std.specs.Prelude.{◌≡◌, ◌<◌, ◌+◌, ◌^◌, IfOk, IsTrue, None, length, replicate};
+ghost use Rattle.infer_result.specs.Table.{MismatchAt};
+ghost use Rattle.infer_expr.specs.Found.{noted};
+ghost use Rattle.infer_expr.specs.Context.{empty_context, entered, with_expr_ty, with_mismatch, with_pat_mismatch, with_pat_ty, with_mode, with_binding_ty};
 
 use hir_facts::{BindingId, ExprId, List, PatId, RawBody, Ty};
 use infer_result::{BindingMode, InferenceResult, TypeMismatch};
@@ -29,6 +31,15 @@ fn no_entries<T: Drop>(alloc: Global, count: usize) -> Result<List<Option<T>>, A
     Ok(entries)
 }
 
+/// Notes a mismatch in a list of those at each node, where none is there yet.
+fn note(mismatches: &mut List<Option<TypeMismatch>>, at: u32, mismatch: TypeMismatch)
+    ensures { mismatches.new ≡ noted mismatches.old at mismatch }
+{
+    if let Some(None) = mismatches.get(at as usize) {
+        mismatches.set(at as usize, Some(mismatch));
+    }
+}
+
 impl InferenceContext {
     /// Nothing is found out yet: `infer.rs`, `InferenceContext::new`.
     pub fn new(alloc: Global, body: &RawBody) -> Result<InferenceContext, AllocError>
@@ -40,6 +51,7 @@ impl InferenceContext {
             type_of_binding: no_entries(alloc, body.bindings.len())?,
             binding_modes: no_entries(alloc, body.pats.len())?,
             expr_mismatches: no_entries(alloc, body.exprs.len())?,
+            pat_mismatches: no_entries(alloc, body.pats.len())?,
         };
         Ok(InferenceContext {
             result,
@@ -64,14 +76,28 @@ impl InferenceContext {
         self.result.type_of_expr.set(expr.0 as usize, Some(ty));
     }
 
-    /// Records a mismatch at an expression.
-    pub fn write_mismatch(&mut self, expr: ExprId, mismatch: TypeMismatch)
-        requires { expr.0 < length self.old.result.expr_mismatches }
+    /// Notes a mismatch at an expression. The first one there stays.
+    pub fn note_mismatch(&mut self, expr: ExprId, mismatch: TypeMismatch)
         ensures { self.new ≡ with_mismatch self.old expr mismatch }
     {
-        self.result
-            .expr_mismatches
-            .set(expr.0 as usize, Some(mismatch));
+        note(&mut self.result.expr_mismatches, expr.0, mismatch);
+    }
+
+    /// Whether this mismatch is noted at an expression.
+    pub fn is_noted(&self, expr: ExprId, expected: &Ty, actual: &Ty) -> bool
+        ensures { IsTrue result → MismatchAt self.now.result expr expected.now actual.now }
+    {
+        match self.result.type_mismatch_for_expr(expr) {
+            Some(noted) => noted.expected.is_same(expected) && noted.actual.is_same(actual),
+            None => false,
+        }
+    }
+
+    /// Notes a mismatch at a pattern. The first one there stays.
+    pub fn note_pat_mismatch(&mut self, pat: PatId, mismatch: TypeMismatch)
+        ensures { self.new ≡ with_pat_mismatch self.old pat mismatch }
+    {
+        note(&mut self.result.pat_mismatches, pat.0, mismatch);
     }
 
     /// Records the type of a pattern: `infer.rs`, `write_pat_ty`.

@@ -27,7 +27,8 @@ impl InferenceContext {
         let ty = self.infer_expr_inner(alloc, given, expr, expected)?;
         match expected.only_has_type() {
             Some(target) => {
-                let coerced = self.coerce(alloc, given, expr, ty, target)?;
+                let coerced = target.dup(alloc)?;
+                self.coerce(alloc, given, expr, &ty, target)?;
                 Ok(coerced)
             }
             None => Ok(ty),
@@ -36,7 +37,7 @@ impl InferenceContext {
 
     /// Types an expression: `infer/expr.rs`, `infer_expr_inner`.
     #[cycle(infer)]
-    fn infer_expr_inner(
+    pub fn infer_expr_inner(
         &mut self,
         alloc: Global,
         given: &GivenBody,
@@ -89,8 +90,33 @@ impl InferenceContext {
                 let statements = statements.as_slice();
                 self.infer_block(alloc, given, tgt_expr, statements, *tail, expected)
             }
-            RawExpr::If { .. } | RawExpr::Match { .. } | RawExpr::Call { .. } => unreachable!(),
-            RawExpr::Other => unreachable!(),
+            RawExpr::If {
+                condition,
+                then_branch,
+                else_branch,
+            } => {
+                let (condition, then_branch) = (*condition, *then_branch);
+                self.infer_if(
+                    alloc,
+                    given,
+                    tgt_expr,
+                    condition,
+                    then_branch,
+                    *else_branch,
+                    expected,
+                )
+            }
+            RawExpr::Match { scrutinee, arms } => {
+                self.infer_match(
+                    alloc,
+                    given,
+                    tgt_expr,
+                    *scrutinee,
+                    arms.as_slice(),
+                    expected,
+                )
+            }
+            RawExpr::Call { .. } | RawExpr::Other => unreachable!(),
         }
     }
 }

@@ -3,7 +3,9 @@
 
 mod block;
 mod body;
+mod branch;
 mod coerce;
+mod coerce_many;
 mod context;
 mod expectation;
 mod expr;

@@ -1,23 +1,32 @@
 //! The types of patterns.
-ghost use Rattle.std.specs.Prelude.{◌≡◌, ◌<◌, IfOk, length};
+ghost use Rattle.std.specs.Prelude.{◌≡◌, ◌<◌, ℕ, IfOk, Some, length, slice_get};
+ghost use Rattle.hir_types.specs.declared.ty.Ty.{Ty};
+ghost use Rattle.hir_types.specs.declared.ty.Ty.TheVariants as ty;
+ghost use Rattle.infer_result.specs.Closed.{IsOfBody};
 ghost use Rattle.infer_expr.specs.Context.{given_of, schedule_of, bound_by};
-ghost use Rattle.infer_expr.specs.Steps.{BeforePat, PatDone};
+ghost use Rattle.infer_expr.specs.Closings.{IsSound};
+ghost use Rattle.infer_expr.specs.Fine.{IsFine, IsFineExpectation};
+ghost use Rattle.infer_expr.specs.Under.{IsTuplePatOf, IsLitPatOf};
+ghost use Rattle.infer_expr.specs.Steps.{BeforePat, PatDone, IsGivenOrNew, ArePartTypes, TupleDemanded};
 
 use crate::context::InferenceContext;
+use crate::expectation::Expectation;
 use crate::given::GivenBody;
-use hir_facts::{BindingId, PatId, RawPat, Ty};
-use infer_result::BindingMode;
+use hir_facts::{BindingId, ExprId, List, PatId, RawPat, Ty};
+use infer_result::{BindingMode, TypeMismatch};
 use std::alloc::{AllocError, Global};
 
 impl InferenceContext {
     /// Types a pattern that stands by itself, into which a value of this type comes:
-    /// `infer/pat.rs`, `infer_top_pat`.
+    /// `infer/pat.rs`, `infer_top_pat`. None comes into that of a `let` without a written type and
+    /// without an initializer.
+    #[cycle(infer)]
     pub fn infer_top_pat(
         &mut self,
         alloc: Global,
         given: &GivenBody,
         pat: PatId,
-        expected: Ty,
+        expected: Option<Ty>,
     ) -> Result<(), AllocError>
         requires { BeforePat (given_of given.now) (schedule_of given.now) pat expected self.old }
         ensures { IfOk result (λ _. PatDone (given_of given.now) (schedule_of given.now)
@@ -28,12 +37,13 @@ impl InferenceContext {
     }
 
     /// Types a pattern: `infer/pat.rs`, `infer_pat`.
+    #[cycle(infer)]
     fn infer_pat(
         &mut self,
         alloc: Global,
         given: &GivenBody,
         pat: PatId,
-        expected: Ty,
+        expected: Option<Ty>,
     ) -> Result<(), AllocError>
         requires { BeforePat (given_of given.now) (schedule_of given.now) pat expected self.old }
         ensures { IfOk result (λ _. PatDone (given_of given.now) (schedule_of given.now)
@@ -42,15 +52,36 @@ impl InferenceContext {
         match &given.body.pats.as_slice()[pat.0 as usize] {
             RawPat::Wild => {
                 self.enter();
-                self.write_pat_ty(pat, expected);
+                let ty = self.given_or_new(expected)?;
+                self.write_pat_ty(pat, ty);
                 Ok(())
             }
             RawPat::Bind { id, .. } => {
                 self.enter();
-                self.infer_bind_pat(alloc, pat, *id, expected)?;
+                let ty = self.given_or_new(expected)?;
+                self.infer_bind_pat(alloc, pat, *id, ty)?;
                 Ok(())
             }
-            RawPat::Tuple(_) | RawPat::Lit(_) | RawPat::Other => unreachable!(),
+            RawPat::Tuple(args) => {
+                self.infer_tuple_pat(alloc, given, pat, args.as_slice(), expected)
+            }
+            RawPat::Lit(expr) => self.infer_lit_pat(alloc, given, pat, *expr, expected),
+            RawPat::TupleStruct { .. } | RawPat::Path(_) | RawPat::Other => unreachable!(),
+        }
+    }
+
+    /// The type that comes into a pattern, or a new hole where none does.
+    fn given_or_new(&mut self, expected: Option<Ty>) -> Result<Ty, AllocError>
+        requires sound { IsSound self.old }
+        requires fine { IsFineExpectation self.old.table expected }
+        ensures { IfOk result (λ ty. IsGivenOrNew expected ty self.old self.new) }
+    {
+        match expected {
+            Some(ty) => Ok(ty),
+            None => {
+                let ty = self.table.next_ty_var()?;
+                Ok(ty)
+            }
         }
     }
 
@@ -73,4 +104,160 @@ impl InferenceContext {
         self.write_binding_ty(binding, bound_ty);
         Ok(())
     }
+
+    /// Types a tuple pattern: its own type is a tuple of what is known of the components that come
+    /// in, and of new holes, which is unified with what comes in; then its parts are typed. This is
+    /// `infer/pat.rs`'s `infer_tuple_pat_like`.
+    #[cycle(infer)]
+    fn infer_tuple_pat(
+        &mut self,
+        alloc: Global,
+        given: &GivenBody,
+        pat: PatId,
+        args: &[PatId],
+        expected: Option<Ty>,
+    ) -> Result<(), AllocError>
+        requires before { BeforePat (given_of given.now) (schedule_of given.now) pat expected self.old }
+        requires is { IsTuplePatOf given.now.body.now pat args.now }
+        ensures { IfOk result (λ _. PatDone (given_of given.now) (schedule_of given.now)
+            pat expected self.old self.new) }
+    {
+        self.enter();
+        let parts = self.part_tys(alloc, args.len(), &expected)?;
+        let tys = parts.as_slice();
+        self.demand_tuple(alloc, given, pat, tys, expected)?;
+        for i in 0..args.len() {
+            let ty = tys[i].dup(alloc)?;
+            self.infer_pat(alloc, given, args[i], Some(ty))?;
+        }
+        Ok(())
+    }
+
+    /// Types a literal pattern, which has the type of its literal. A mismatch with what comes in
+    /// stands at the literal. This is `infer/pat.rs`'s `infer_lit_pat`.
+    #[cycle(infer)]
+    fn infer_lit_pat(
+        &mut self,
+        alloc: Global,
+        given: &GivenBody,
+        pat: PatId,
+        expr: ExprId,
+        expected: Option<Ty>,
+    ) -> Result<(), AllocError>
+        requires before { BeforePat (given_of given.now) (schedule_of given.now) pat expected self.old }
+        requires is { IsLitPatOf given.now.body.now pat expr }
+        ensures { IfOk result (λ _. PatDone (given_of given.now) (schedule_of given.now)
+            pat expected self.old self.new) }
+    {
+        self.enter();
+        let ty = self.infer_expr_inner(alloc, given, expr, Expectation::of(&expected))?;
+        match &expected {
+            Some(target) => {
+                self.coerce(alloc, given, expr, &ty, target)?;
+                self.write_pat_ty(pat, ty);
+                Ok(())
+            }
+            None => {
+                self.write_pat_ty(pat, ty);
+                Ok(())
+            }
+        }
+    }
+
+    /// The types of the parts of a tuple pattern: the components of what comes in, as far as it is
+    /// known to have them, then new holes.
+    fn part_tys(
+        &mut self,
+        alloc: Global,
+        count: usize,
+        expected: &Option<Ty>,
+    ) -> Result<List<Ty>, AllocError>
+        requires sound { IsSound self.old }
+        requires fine { IsFineExpectation self.old.table expected.now }
+        ensures { IfOk result (λ tys. ArePartTypes count tys self.old self.new) }
+    {
+        let mut tys = List::new(alloc);
+        for i in 0..count {
+            let known = self.component(alloc, expected, i)?;
+            let ty = self.given_or_new(known)?;
+            tys.push(ty)?;
+        }
+        Ok(tys)
+    }
+
+    /// The component at a position of what comes into a pattern, where that is known to be a tuple
+    /// which has it.
+    fn component(
+        &self,
+        alloc: Global,
+        expected: &Option<Ty>,
+        at: usize,
+    ) -> Result<Option<Ty>, AllocError>
+        requires sound { IsSound self.now }
+        requires fine { IsFineExpectation self.now.table expected.now }
+        ensures { IfOk result (λ known. IsFineExpectation self.now.table known) }
+    {
+        let Some(ty) = expected else {
+            return Ok(None);
+        };
+        match self.table.shallow_resolve(ty) {
+            Ty::Tuple(tys) => match tys.get(at) {
+                Some(part) => {
+                    let part = part.dup(alloc)?;
+                    Ok(Some(part))
+                }
+                None => Ok(None),
+            },
+            _ => Ok(None),
+        }
+    }
+
+    /// Records the tuple of these types as that of a pattern, and asks that it be what comes in,
+    /// where something does: `infer.rs`, `demand_eqtype`.
+    fn demand_tuple(
+        &mut self,
+        alloc: Global,
+        given: &GivenBody,
+        pat: PatId,
+        tys: &[Ty],
+        expected: Option<Ty>,
+    ) -> Result<(), AllocError>
+        requires within { pat.0 < length given.now.body.now.pats }
+        requires of_body { IsOfBody given.now.body.now self.old.result }
+        requires sound { IsSound self.old }
+        requires tys { (i : ℕ) (t : Ty) → slice_get tys.now i ≡ Some t → IsFine self.old.table t }
+        requires fine { IsFineExpectation self.old.table expected }
+        ensures { IfOk result (λ _. TupleDemanded given.now.body.now pat tys.now expected self.old self.new) }
+    {
+        let ty = tuple_of(alloc, tys)?;
+        match expected {
+            Some(expected) => {
+                let actual = ty.dup(alloc)?;
+                if self.table.unify(&expected, &ty)? {
+                    // That some assignment agrees with what is found out now is known of each table.
+                    self.table.lawful();
+                    self.write_pat_ty(pat, ty);
+                    return Ok(());
+                }
+                self.note_pat_mismatch(pat, TypeMismatch { expected, actual });
+                self.write_pat_ty(pat, ty);
+                Ok(())
+            }
+            None => {
+                self.write_pat_ty(pat, ty);
+                Ok(())
+            }
+        }
+    }
+}
+
+/// The tuple of these types.
+fn tuple_of(alloc: Global, tys: &[Ty]) -> Result<Ty, AllocError>
+    ensures { IfOk result (λ tuple. tuple ≡ ty.Tuple tys.now) }
+{
+    let mut parts = List::new(alloc);
+    for ty in tys {
+        parts.push(ty.dup(alloc)?)?;
+    }
+    Ok(Ty::Tuple(parts))
 }

@@ -17,7 +17,7 @@ impl InferenceContext {
                 Some(ty) => ty.dup(alloc),
                 None => unreachable!(),
             },
-            RawPath::Function(_) | RawPath::Other => unreachable!(),
+            RawPath::Function(_) | RawPath::Ctor(_) | RawPath::Other => unreachable!(),
         }
     }
 }

@@ -85,6 +85,7 @@ impl InferenceContext {
         result.type_of_pat = resolve_tys(alloc, table, &result.type_of_pat)?;
         result.type_of_binding = resolve_tys(alloc, table, &result.type_of_binding)?;
         result.expr_mismatches = resolve_mismatches(alloc, table, &result.expr_mismatches)?;
+        result.pat_mismatches = resolve_mismatches(alloc, table, &result.pat_mismatches)?;
         Ok(result)
     }
 }

@@ -2,10 +2,7 @@
 ghost use Rattle.std.specs.Prelude.{◌≡◌, IfOk, Some, None};
 ghost use Rattle.hir_facts.specs.declared.raw.RawStmt.TheVariants as stmt;
 ghost use Rattle.infer_expr.specs.Context.{given_of, schedule_of};
-ghost use Rattle.hir_types.specs.declared.ids.TypeRefId.{TypeRefId};
-ghost use Rattle.infer_expr.specs.Closings.{IsSound};
-ghost use Rattle.infer_expr.specs.Fine.{IsWritten};
-ghost use Rattle.infer_expr.specs.Steps.{BeforeStmt, StmtDone, InitDone, DeclaredDone};
+ghost use Rattle.infer_expr.specs.Steps.{BeforeStmt, StmtDone, InitDone};
 
 use crate::context::InferenceContext;
 use crate::expectation::Expectation;
@@ -64,11 +61,12 @@ impl InferenceContext {
             (stmt.Let pat type_ref (Some initializer) None) self.old self.new) }
     {
         let ty = self.infer_initializer(alloc, given, block, pat, type_ref, initializer)?;
-        self.infer_top_pat(alloc, given, pat, ty)?;
+        self.infer_top_pat(alloc, given, pat, Some(ty))?;
         Ok(())
     }
 
     /// Types a `let` without an initializer: `infer/expr.rs`, `infer_block` at `Statement::Let`.
+    #[cycle(infer)]
     fn infer_bare_let(
         &mut self,
         alloc: Global,
@@ -82,31 +80,15 @@ impl InferenceContext {
         ensures { IfOk result (λ _. StmtDone (given_of given.now) (schedule_of given.now)
             (stmt.Let pat type_ref None None) self.old self.new) }
     {
-        let ty = self.declared_type(alloc, given, type_ref)?;
-        self.infer_top_pat(alloc, given, pat, ty)?;
-        Ok(())
-    }
-
-    /// The type that a `let` without an initializer gives to its pattern: the written one, or a new
-    /// hole for any type.
-    fn declared_type(
-        &mut self,
-        alloc: Global,
-        given: &GivenBody,
-        type_ref: Option<TypeRefId>,
-    ) -> Result<Ty, AllocError>
-        requires sound { IsSound self.old }
-        requires written { (w : TypeRefId) → type_ref ≡ Some w → IsWritten given.now.facts.now.types w }
-        ensures { IfOk result (λ ty. DeclaredDone (given_of given.now) type_ref ty self.old self.new) }
-    {
         match type_ref {
             Some(type_ref) => {
                 let ty = given.make_body_ty(alloc, type_ref)?;
-                Ok(ty)
+                self.infer_top_pat(alloc, given, pat, Some(ty))?;
+                Ok(())
             }
             None => {
-                let ty = self.table.next_ty_var()?;
-                Ok(ty)
+                self.infer_top_pat(alloc, given, pat, None)?;
+                Ok(())
             }
         }
     }

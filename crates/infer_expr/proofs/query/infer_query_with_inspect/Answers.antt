@@ -1,5 +1,6 @@
 use Rattle.std.proofs.Common.{sym}
 use Rattle.hir_facts.specs.CarriedTypes.{return_carried}
+use Rattle.hir_facts.specs.LawfulFacts.{types_carried}
 use Rattle.infer_table.specs.Completion.{completion}
 use Rattle.infer_expr.proofs.Definitions.{body_within, written_exist, inputs_for_params, table_of}
 use Rattle.infer_expr.proofs.FineTypes.{output_heads}
@@ -20,7 +21,7 @@ infer_body-requires-clause-count g c =
     inputs_for_params c.args.facts.now c.args.def c.in-Some.id _ _ c.in_ok-return_ty.return_ty c.lawful.ensures c.body-body.ensures c.inputs.ensures (sym c.in-Some.ensures)
 
 pub infer_body-requires-clause-carried : goal.infer_body-requires-clause-carried
-infer_body-requires-clause-carried g c = rw c.in_ok-return_ty.ensures (return_carried c.args.facts.now c.args.def)
+infer_body-requires-clause-carried g c = rw c.in_ok-return_ty.ensures (return_carried c.args.facts.now (types_carried c.args.facts.now c.lawful.ensures) c.args.def)
 
 pub infer_body-requires-clause-heads : goal.infer_body-requires-clause-heads
 infer_body-requires-clause-heads g c = rw c.in_ok-return_ty.ensures (output_heads c.args.facts.now c.lawful.ensures c.args.def c.in-Some.id (sym c.in-Some.ensures))

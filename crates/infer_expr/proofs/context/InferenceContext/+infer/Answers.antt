@@ -1,18 +1,29 @@
-use Rattle.std.proofs.Common.{arith, ◌+◌, ◌≡◌, ◌∙◌, ap, false, true, refl, sym, subst, Some, slice_get}
+use Rattle.std.proofs.Common.{arith, ◌+◌, ◌<◌, ◌≡◌, ◌∙◌, ap, false, true, refl, sym, subst, Some, slice_get, length}
 use Rattle.std.proofs.lemmas.Option.{slice_get_read}
 use Rattle.std.proofs.lemmas.List.{get_or_default}
 use Rattle.hir_types.specs.declared.ty.Ty.TheVariants as ty
+use Rattle.hir_facts.specs.declared.raw.RawArm.{RawArm}
 use Rattle.hir_facts.specs.declared.raw.RawStmt.TheVariants as stmt
 use Rattle.hir_facts.specs.declared.raw.RawExpr.TheVariants as expr
+use Rattle.hir_facts.specs.declared.raw.RawPat.TheVariants as pat
 use Rattle.hir_facts.specs.Order.{inner}
 use Rattle.hir_types.specs.declared.ids.ExprOrPatId.TheVariants as node
-use Rattle.infer_expr.specs.Context.{given_of, schedule_of, expected_type, with_expr_ty}
+use Rattle.infer_expr.specs.Closings.{IsSound}
+use Rattle.infer_expr.specs.Fine.{IsFineExpectation}
+use Rattle.infer_expr.specs.Context.{given_of, schedule_of, expected_type, entered, with_expr_ty}
 use Rattle.infer_expr.specs.Under.{declared_type}
-use Rattle.infer_expr.specs.Steps.{Before, Within, OwnDone, KindDone, CoerceDone, StmtDone, BeforeStmt}
+use Rattle.infer_expr.specs.Steps.{Before, Within, OwnDone, KindDone, CoerceDone, StmtDone, BeforeStmt, BeforePat, PatDone, IsGivenOrNew}
 use Rattle.infer_expr.proofs.Expressions.{comes_within, own_done, coerced_done, literal_kind, path_typed, path_kind}
-use Rattle.infer_expr.proofs.StmtWalk.{let_written, comes_to_init, init_walked, comes_to_pat, let_walked, expr_walked}
+use Rattle.infer_expr.proofs.StmtWalk.{let_written, comes_to_init, init_walked, comes_to_pat, let_walked, comes_to_bare_pat, bare_let_walked, expr_walked}
+use Rattle.infer_expr.proofs.Closed.{sound_entered}
+use Rattle.infer_expr.proofs.FineTypes.{fine_expectation_grown}
+use Rattle.infer_expr.proofs.PatWalk.{wild_walked, bind_walked, bind_within, Fits, comes_to_lit, lit_walked}
+use Rattle.infer_expr.proofs.TuplePatWalk.{tuple_pat_begun, begins_tuple_pat, comes_to_part, goes_past_part, ends_tuple_pat}
 use Rattle.infer_expr.proofs.TupleWalk.{begins_tuple, comes_to_element, goes_past_element, ends_tuple}
 use Rattle.infer_expr.proofs.BlockWalk.{begins_block, comes_to_stmt, goes_past_stmt, comes_to_tail, ends_block}
+use Rattle.infer_expr.proofs.BranchWalk.{alternative_done, comes_to_condition, goes_past_condition, comes_to_branch, branch_common, goes_past_branch, comes_to_else, expected_after, ends_if, else_before, else_typed, else_missing}
+use Rattle.infer_expr.proofs.ArmWalk.{arm_at, comes_to_scrutinee, begins_patterns, comes_to_pattern, goes_past_pattern, comes_to_arms, ends_match, begins_arms, comes_to_guard, comes_to_arm, common_at_arm, goes_past_arm, expected_in_arms, ends_arms, comes_to_guard_expr, guard_typed, guard_missing}
+use Rattle.infer_expr.proofs.Branches.{less_twice}
 use Rattle.infer_expr.proofs.context.InferenceContext.+infer.Goals as goal
 
 pub infer_block-loop-i-init : goal.infer_block-loop-i-init
@@ -37,9 +48,9 @@ infer_block-loop-i-preserved t c =
 pub infer_block-returns : goal.infer_block-returns
 infer_block-returns t c = ends_block _ _ _ _ _ _ _ _ c.loop-i.invariant _ c.requires.before c.requires.is c.loop-i-test.false _ _ c.in_ok-ty.ensures
 
-pub infer_expr_coerce-returns-in_ok-coerced-in-Some : goal.infer_expr_coerce-returns-in_ok-coerced-in-Some
-infer_expr_coerce-returns-in_ok-coerced-in-Some t c =
-    coerced_done _ _ _ _ _ c.in-Some.target.now _ _ _ _ c.in-Some.ensures c.in_ok-coerced-in-Some.ensures.asked c.requires c.in_ok-ty.ensures c.in_ok-coerced-in-Some.ensures.done
+pub infer_expr_coerce-returns-in_ok-coerce-in-Some : goal.infer_expr_coerce-returns-in_ok-coerce-in-Some
+infer_expr_coerce-returns-in_ok-coerce-in-Some t c =
+    coerced_done c.in_ok-coerce-in-Some.field-0 _ _ _ _ _ c.in-Some.target.now _ _ _ _ c.in-Some.ensures c.in_ok-coerced-in-Some.ensures c.requires c.in_ok-ty.ensures c.in_ok-coerce-in-Some.ensures
 
 pub infer_expr_inner-infer_expr_of_kind-requires : goal.infer_expr_inner-infer_expr_of_kind-requires
 infer_expr_inner-infer_expr_of_kind-requires t c =
@@ -120,7 +131,10 @@ infer_initializer-returns-in_ok-ty-in-Some t c =
     )
 
 pub infer_let-infer_top_pat-requires : goal.infer_let-infer_top_pat-requires
-infer_let-infer_top_pat-requires t c = comes_to_pat _ _ _ _ _ _ _ c.requires _ _ c.in_ok-ty.ensures
+infer_let-infer_top_pat-requires t c = (
+  omega (arith, c.decreases, c.in_ok-ty.ensures.follows.clock),
+  comes_to_pat _ _ _ _ _ _ _ c.requires _ _ c.in_ok-ty.ensures,
+)
 
 pub infer_let-returns : goal.infer_let-returns
 infer_let-returns t c = let_walked _ _ _ _ _ _ _ c.requires _ _ _ c.in_ok-ty.ensures c.in_ok-infer_top_pat.ensures
@@ -145,3 +159,262 @@ infer_tuple-loop-i-preserved t c =
 
 pub infer_tuple-returns : goal.infer_tuple-returns
 infer_tuple-returns t c = ends_tuple _ _ _ _ _ _ _ _ c.loop-i.invariant _ c.requires.before c.requires.is c.loop-i-test.false
+
+pub infer_pat-given_or_new-requires-clause-sound : goal.infer_pat-given_or_new-requires-clause-sound
+infer_pat-given_or_new-requires-clause-sound t c = subst (λ k. IsSound k) (sym c.enter.ensures) (sound_entered _ c.requires.state.sound)
+
+pub infer_pat-given_or_new-requires-in-Bind-clause-sound : goal.infer_pat-given_or_new-requires-in-Bind-clause-sound
+infer_pat-given_or_new-requires-in-Bind-clause-sound t c = subst (λ k. IsSound k) (sym c.enter-in-Bind.ensures) (sound_entered _ c.requires.state.sound)
+
+pub infer_pat-infer_bind_pat-requires-clause-bindings : goal.infer_pat-infer_bind_pat-requires-clause-bindings
+infer_pat-infer_bind_pat-requires-clause-bindings t c =
+    let is : slice_get c.args.given.now.body.now.pats c.args.pat.0 ≡ Some (pat.Bind c.in-Bind.id c.in-Bind.subpat)
+    = slice_get_read c.args.given.now.body.now.pats _ c.args.pat.0 _ refl c.requires.within (rw c.as_slice.ensures at c.index-as_slice-pat.is) ∙ ap (λ x. Some x) c.in-Bind.is in
+    let made : IsGivenOrNew c.args.expected c.in_ok-ty-in-Bind.ty (entered c.args.self.now) c.given_or_new-in-Bind.new.self
+    = subst (λ k. IsGivenOrNew c.args.expected c.in_ok-ty-in-Bind.ty k c.given_or_new-in-Bind.new.self) c.enter-in-Bind.ensures c.in_ok-ty-in-Bind.ensures in
+    bind_within (given_of c.args.given.now) (schedule_of c.args.given.now) c.args.pat c.args.expected c.in_ok-ty-in-Bind.ty c.args.self.now c.given_or_new-in-Bind.new.self c.requires made c.in-Bind.id c.in-Bind.subpat is
+
+pub infer_pat-returns-in_ok-ty-in-Wild : goal.infer_pat-returns-in_ok-ty-in-Wild
+infer_pat-returns-in_ok-ty-in-Wild t c =
+    let is : slice_get c.args.given.now.body.now.pats c.args.pat.0 ≡ Some pat.Wild
+    = slice_get_read c.args.given.now.body.now.pats _ c.args.pat.0 _ refl c.requires.within (rw c.as_slice.ensures at c.index-as_slice-pat.is) ∙ ap (λ x. Some x) c.in-Wild.is in
+    let made : IsGivenOrNew c.args.expected c.in_ok-ty-in-Wild.ty (entered c.args.self.now) c.given_or_new.new.self
+    = subst (λ k. IsGivenOrNew c.args.expected c.in_ok-ty-in-Wild.ty k c.given_or_new.new.self) c.enter.ensures c.in_ok-ty-in-Wild.ensures in
+    subst (λ k. PatDone (given_of c.args.given.now) (schedule_of c.args.given.now) c.args.pat c.args.expected c.args.self.now k) (sym c.write_pat_ty.ensures)
+    (wild_walked (given_of c.args.given.now) (schedule_of c.args.given.now) c.args.pat c.args.expected c.in_ok-ty-in-Wild.ty c.args.self.now c.given_or_new.new.self c.requires made is)
+
+pub infer_pat-returns-in_ok-infer_bind_pat-in-Bind : goal.infer_pat-returns-in_ok-infer_bind_pat-in-Bind
+infer_pat-returns-in_ok-infer_bind_pat-in-Bind t c =
+    let is : slice_get c.args.given.now.body.now.pats c.args.pat.0 ≡ Some (pat.Bind c.in-Bind.id c.in-Bind.subpat)
+    = slice_get_read c.args.given.now.body.now.pats _ c.args.pat.0 _ refl c.requires.within (rw c.as_slice.ensures at c.index-as_slice-pat.is) ∙ ap (λ x. Some x) c.in-Bind.is in
+    let made : IsGivenOrNew c.args.expected c.in_ok-ty-in-Bind.ty (entered c.args.self.now) c.given_or_new-in-Bind.new.self
+    = subst (λ k. IsGivenOrNew c.args.expected c.in_ok-ty-in-Bind.ty k c.given_or_new-in-Bind.new.self) c.enter-in-Bind.ensures c.in_ok-ty-in-Bind.ensures in
+    subst (λ k. PatDone (given_of c.args.given.now) (schedule_of c.args.given.now) c.args.pat c.args.expected c.args.self.now k) (sym c.in_ok-infer_bind_pat-in-Bind.ensures)
+    (bind_walked (given_of c.args.given.now) (schedule_of c.args.given.now) c.args.pat c.args.expected c.in_ok-ty-in-Bind.ty c.args.self.now c.given_or_new-in-Bind.new.self c.requires made c.in-Bind.id c.in-Bind.subpat is)
+
+pub infer_pat-infer_tuple_pat-requires : goal.infer_pat-infer_tuple_pat-requires
+infer_pat-infer_tuple_pat-requires t c =
+    let is : slice_get c.args.given.now.body.now.pats c.args.pat.0 ≡ Some (pat.Tuple c.in-Tuple.args)
+    = slice_get_read c.args.given.now.body.now.pats _ c.args.pat.0 _ refl c.requires.within (rw c.as_slice.ensures at c.index-as_slice-pat.is) ∙ ap (λ x. Some x) c.in-Tuple.is in
+    (omega (arith, c.decreases), (c.requires, is ∙ ap (λ l. Some (pat.Tuple l)) (sym c.as_slice-in-Tuple.ensures)))
+
+pub infer_pat-infer_lit_pat-requires : goal.infer_pat-infer_lit_pat-requires
+infer_pat-infer_lit_pat-requires t c =
+    let is : slice_get c.args.given.now.body.now.pats c.args.pat.0 ≡ Some (pat.Lit c.in-Lit.expr)
+    = slice_get_read c.args.given.now.body.now.pats _ c.args.pat.0 _ refl c.requires.within (rw c.as_slice.ensures at c.index-as_slice-pat.is) ∙ ap (λ x. Some x) c.in-Lit.is in
+    (omega (arith, c.decreases), (c.requires, is))
+
+pub infer_bare_let-infer_top_pat-requires : goal.infer_bare_let-infer_top_pat-requires
+infer_bare_let-infer_top_pat-requires t c =
+    let declared : declared_type (given_of c.args.given.now) c.args.type_ref ≡ Some c.in_ok-ty-in-Some.ty
+    = ap (λ w. declared_type (given_of c.args.given.now) w) c.in-Some.is ∙ ap (λ y. Some y) (sym c.in_ok-ty-in-Some.ensures) in (
+      omega (arith, c.decreases),
+      subst (λ x. BeforePat (given_of c.args.given.now) (schedule_of c.args.given.now) c.args.pat x c.args.self.now) declared (comes_to_bare_pat _ _ c.args.block _ _ _ c.requires),
+    )
+
+pub infer_bare_let-returns-in_ok-infer_top_pat-in-Some : goal.infer_bare_let-returns-in_ok-infer_top_pat-in-Some
+infer_bare_let-returns-in_ok-infer_top_pat-in-Some t c =
+    let declared : declared_type (given_of c.args.given.now) c.args.type_ref ≡ Some c.in_ok-ty-in-Some.ty
+    = ap (λ w. declared_type (given_of c.args.given.now) w) c.in-Some.is ∙ ap (λ y. Some y) (sym c.in_ok-ty-in-Some.ensures) in
+    bare_let_walked _ _ c.args.block _ _ _ c.requires _
+    (subst (λ x. PatDone (given_of c.args.given.now) (schedule_of c.args.given.now) c.args.pat x c.args.self.now c.infer_top_pat.new.self) (sym declared) c.in_ok-infer_top_pat-in-Some.ensures)
+
+pub infer_lit_pat-infer_expr_inner-requires : goal.infer_lit_pat-infer_expr_inner-requires
+infer_lit_pat-infer_expr_inner-requires t c =
+    let before = comes_to_lit _ _ _ c.args.expr _ _ c.requires.before c.requires.is in
+    let after : c.enter.new.self.clock ≡ c.args.self.now.clock + 1 = ap (λ k. k.clock) c.enter.ensures in (
+      omega (arith, c.decreases, after, c.requires.before.here, c.requires.before.ready.room, c.requires.before.ready.law.schedule.reached (inner (node.PatId c.args.pat)) c.requires.before.within),
+      subst (λ k. Before (given_of c.args.given.now) (schedule_of c.args.given.now) c.args.expr (expected_type c.of.result) k) (sym c.enter.ensures)
+          (subst (λ y. Before (given_of c.args.given.now) (schedule_of c.args.given.now) c.args.expr y (entered c.args.self.now)) (sym c.of.ensures) before),
+    )
+
+pub infer_lit_pat-returns-in-Some : goal.infer_lit_pat-returns-in-Some
+infer_lit_pat-returns-in-Some t c =
+    let entering : OwnDone (given_of c.args.given.now) (schedule_of c.args.given.now) c.args.expr (expected_type c.of.result) c.in_ok-ty.ty (entered c.args.self.now) c.infer_expr_inner.new.self
+    = subst (λ k. OwnDone (given_of c.args.given.now) (schedule_of c.args.given.now) c.args.expr (expected_type c.of.result) c.in_ok-ty.ty k c.infer_expr_inner.new.self) c.enter.ensures c.in_ok-ty.ensures in
+    let done : OwnDone (given_of c.args.given.now) (schedule_of c.args.given.now) c.args.expr c.args.expected c.in_ok-ty.ty (entered c.args.self.now) c.infer_expr_inner.new.self
+    = subst (λ x. OwnDone (given_of c.args.given.now) (schedule_of c.args.given.now) c.args.expr x c.in_ok-ty.ty (entered c.args.self.now) c.infer_expr_inner.new.self) c.of.ensures entering in
+    let fits : Fits (given_of c.args.given.now) c.args.expr c.in_ok-ty.ty c.args.expected c.infer_expr_inner.new.self c.coerce.new.self
+    = subst (λ x. Fits (given_of c.args.given.now) c.args.expr c.in_ok-ty.ty x c.infer_expr_inner.new.self c.coerce.new.self) (sym c.in-Some.is) (c.in_ok-coerce-in-Some.field-0, c.in_ok-coerce-in-Some.ensures) in
+    subst (λ k. PatDone (given_of c.args.given.now) (schedule_of c.args.given.now) c.args.pat c.args.expected c.args.self.now k) (sym c.write_pat_ty.ensures)
+    (lit_walked _ _ _ c.args.expr _ _ c.requires.before c.requires.is _ _ done _ fits)
+
+pub infer_lit_pat-returns : goal.infer_lit_pat-returns
+infer_lit_pat-returns t c =
+    let entering : OwnDone (given_of c.args.given.now) (schedule_of c.args.given.now) c.args.expr (expected_type c.of.result) c.in_ok-ty.ty (entered c.args.self.now) c.infer_expr_inner.new.self
+    = subst (λ k. OwnDone (given_of c.args.given.now) (schedule_of c.args.given.now) c.args.expr (expected_type c.of.result) c.in_ok-ty.ty k c.infer_expr_inner.new.self) c.enter.ensures c.in_ok-ty.ensures in
+    let done : OwnDone (given_of c.args.given.now) (schedule_of c.args.given.now) c.args.expr c.args.expected c.in_ok-ty.ty (entered c.args.self.now) c.infer_expr_inner.new.self
+    = subst (λ x. OwnDone (given_of c.args.given.now) (schedule_of c.args.given.now) c.args.expr x c.in_ok-ty.ty (entered c.args.self.now) c.infer_expr_inner.new.self) c.of.ensures entering in
+    let fits : Fits (given_of c.args.given.now) c.args.expr c.in_ok-ty.ty c.args.expected c.infer_expr_inner.new.self c.infer_expr_inner.new.self
+    = subst (λ x. Fits (given_of c.args.given.now) c.args.expr c.in_ok-ty.ty x c.infer_expr_inner.new.self c.infer_expr_inner.new.self) (sym c.in-None.is) refl in
+    subst (λ k. PatDone (given_of c.args.given.now) (schedule_of c.args.given.now) c.args.pat c.args.expected c.args.self.now k) (sym c.write_pat_ty-in-None.ensures)
+    (lit_walked _ _ _ c.args.expr _ _ c.requires.before c.requires.is _ _ done _ fits)
+
+pub infer_tuple_pat-part_tys-requires-clause-sound : goal.infer_tuple_pat-part_tys-requires-clause-sound
+infer_tuple_pat-part_tys-requires-clause-sound t c = subst (λ k. IsSound k) (sym c.enter.ensures) (sound_entered _ c.requires.before.state.sound)
+
+pub infer_tuple_pat-part_tys-requires-clause-fine : goal.infer_tuple_pat-part_tys-requires-clause-fine
+infer_tuple_pat-part_tys-requires-clause-fine t c = subst (λ k. IsFineExpectation k.table c.args.expected) (sym c.enter.ensures) c.requires.before.fine
+
+pub infer_tuple_pat-demand_tuple-requires-clause-fine : goal.infer_tuple_pat-demand_tuple-requires-clause-fine
+infer_tuple_pat-demand_tuple-requires-clause-fine t c =
+    fine_expectation_grown c.enter.new.self.table c.part_tys.new.self.table c.args.expected c.in_ok-parts.ensures.grew
+    (subst (λ k. IsFineExpectation k.table c.args.expected) (sym c.enter.ensures) c.requires.before.fine)
+
+pub infer_tuple_pat-loop-i-init : goal.infer_tuple_pat-loop-i-init
+infer_tuple_pat-loop-i-init t c =
+    let begun = tuple_pat_begun _ _ _ _ _ _ _ _ _ _ _ c.requires.before c.requires.is c.enter.ensures c.as_slice-tys.ensures c.in_ok-parts.ensures c.in_ok-demand_tuple.ensures in
+    begins_tuple_pat _ _ _ _ _ _ _ _ begun
+
+pub infer_tuple_pat-infer_pat-requires : goal.infer_tuple_pat-infer_pat-requires
+infer_tuple_pat-infer_pat-requires t c =
+    let begun = tuple_pat_begun _ _ _ _ _ _ _ _ _ _ _ c.requires.before c.requires.is c.enter.ensures c.as_slice-tys.ensures c.in_ok-parts.ensures c.in_ok-demand_tuple.ensures in
+    let within : c.loop-i.i < length c.as_slice-tys.result.now = omega (arith, begun.holes.count_is, c.loop-i-test.true) in
+    let type_at : slice_get c.as_slice-tys.result.now c.loop-i.i ≡ Some c.in_ok-ty.ty = slice_get_read c.as_slice-tys.result.now _ c.loop-i.i _ refl within c.index-tys-i.is ∙ ap (λ y. Some y) (sym c.in_ok-ty.ensures) in (
+      omega (arith, c.decreases, c.loop-i.invariant.follows.clock, begun.demanded.clock, begun.holes.clock, c.requires.before.here, c.requires.before.ready.room, c.requires.before.ready.law.schedule.reached (inner (node.PatId c.args.pat)) c.requires.before.within),
+      comes_to_part _ _ _ _ _ _ _ _ c.loop-i.invariant _ _ begun _ _ (get_or_default _ _ _ _ c.loop-i-test.true) type_at c.loop-i-test.true,
+    )
+
+pub infer_tuple_pat-loop-i-preserved : goal.infer_tuple_pat-loop-i-preserved
+infer_tuple_pat-loop-i-preserved t c =
+    let begun = tuple_pat_begun _ _ _ _ _ _ _ _ _ _ _ c.requires.before c.requires.is c.enter.ensures c.as_slice-tys.ensures c.in_ok-parts.ensures c.in_ok-demand_tuple.ensures in
+    let within : c.loop-i.i < length c.as_slice-tys.result.now = omega (arith, begun.holes.count_is, c.loop-i-test.true) in
+    let type_at : slice_get c.as_slice-tys.result.now c.loop-i.i ≡ Some c.in_ok-ty.ty = slice_get_read c.as_slice-tys.result.now _ c.loop-i.i _ refl within c.index-tys-i.is ∙ ap (λ y. Some y) (sym c.in_ok-ty.ensures) in
+    goes_past_part _ _ _ _ _ _ _ _ c.loop-i.invariant _ _ begun _ _ (get_or_default _ _ _ _ c.loop-i-test.true) type_at c.loop-i-test.true _ c.in_ok-infer_pat.ensures
+
+pub infer_tuple_pat-returns : goal.infer_tuple_pat-returns
+infer_tuple_pat-returns t c =
+    let begun = tuple_pat_begun _ _ _ _ _ _ _ _ _ _ _ c.requires.before c.requires.is c.enter.ensures c.as_slice-tys.ensures c.in_ok-parts.ensures c.in_ok-demand_tuple.ensures in
+    ends_tuple_pat _ _ _ _ _ _ _ _ c.loop-i.invariant _ _ begun c.loop-i-test.false
+
+-- ---- `if` and `match`
+
+pub infer_alternative-returns : goal.infer_alternative-returns
+infer_alternative-returns t c = alternative_done _ _ _ _ _ _ _ _ _ _ c.in_ok-ty.ensures c.in_ok-made.ensures
+
+pub infer_if-infer_expr_coerce-requires : goal.infer_if-infer_expr_coerce-requires
+infer_if-infer_expr_coerce-requires t c = (
+  omega (arith, c.decreases),
+  comes_to_condition _ _ _ _ _ _ c.requires.is _ _ c.requires.before,
+)
+
+pub infer_if-infer_alternative-requires : goal.infer_if-infer_alternative-requires
+infer_if-infer_alternative-requires t c =
+    let at = goes_past_condition _ _ _ _ _ _ c.requires.is _ _ _ _ c.requires.before c.in_ok-infer_expr_coerce.ensures in (
+      omega (arith, c.decreases, at.follows.clock),
+      (
+        comes_to_branch _ _ _ _ _ _ c.requires.is _ _ _ _ c.requires.before c.adjust_for_branches-wanted.ensures at,
+        branch_common _ _ _ _ _ _ c.requires.is _ _ _ _ c.requires.before c.adjust_for_branches-wanted.ensures at _ c.in_ok-none.ensures,
+      ),
+    )
+
+pub infer_if-infer_else-requires : goal.infer_if-infer_else-requires
+infer_if-infer_else-requires t c =
+    let at = goes_past_condition _ _ _ _ _ _ c.requires.is _ _ _ _ c.requires.before c.in_ok-infer_expr_coerce.ensures in
+    let past = goes_past_branch _ _ _ _ _ _ c.requires.is _ _ _ _ c.requires.before c.adjust_for_branches-wanted.ensures at _ _ _ c.in_ok-none.ensures c.in_ok-first.ensures in (
+      omega (arith, c.decreases, past.follows.clock),
+      comes_to_else _ _ _ _ _ _ c.requires.is _ _ _ _ _ c.requires.before c.adjust_for_branches-wanted.ensures past,
+    )
+
+pub infer_if-complete-requires-clause-expected : goal.infer_if-complete-requires-clause-expected
+infer_if-complete-requires-clause-expected t c =
+    let at = goes_past_condition _ _ _ _ _ _ c.requires.is _ _ _ _ c.requires.before c.in_ok-infer_expr_coerce.ensures in
+    let past = goes_past_branch _ _ _ _ _ _ c.requires.is _ _ _ _ c.requires.before c.adjust_for_branches-wanted.ensures at _ _ _ c.in_ok-none.ensures c.in_ok-first.ensures in
+    expected_after _ _ _ _ _ _ c.requires.is _ _ _ _ _ c.requires.before c.adjust_for_branches-wanted.ensures past _ _ c.in_ok-common.ensures
+
+pub infer_if-returns : goal.infer_if-returns
+infer_if-returns t c =
+    let at = goes_past_condition _ _ _ _ _ _ c.requires.is _ _ _ _ c.requires.before c.in_ok-infer_expr_coerce.ensures in
+    let past = goes_past_branch _ _ _ _ _ _ c.requires.is _ _ _ _ c.requires.before c.adjust_for_branches-wanted.ensures at _ _ _ c.in_ok-none.ensures c.in_ok-first.ensures in
+    ends_if _ _ _ _ _ _ c.requires.is _ _ _ _ _ c.requires.before c.adjust_for_branches-wanted.ensures past _ _ _ _ c.in_ok-common.ensures c.in_ok-ty.ensures
+
+pub infer_else-infer_alternative-requires : goal.infer_else-infer_alternative-requires
+infer_else-infer_alternative-requires t c = (omega (arith, c.decreases), (else_before _ _ _ _ _ _ _ _ c.in-Some.is c.requires, c.requires.common))
+
+pub infer_else-returns-in_ok-made-in-Some : goal.infer_else-returns-in_ok-made-in-Some
+infer_else-returns-in_ok-made-in-Some t c = else_typed _ _ _ _ _ _ _ _ _ _ c.in-Some.is c.in_ok-made-in-Some.ensures
+
+pub infer_else-returns-in_ok-made-in-None : goal.infer_else-returns-in_ok-made-in-None
+infer_else-returns-in_ok-made-in-None t c = else_missing _ _ _ _ _ _ _ _ _ c.in-None.is c.in_ok-made-in-None.ensures
+
+pub infer_guard-infer_expr_coerce-requires : goal.infer_guard-infer_expr_coerce-requires
+infer_guard-infer_expr_coerce-requires t c = (omega (arith, c.decreases), comes_to_guard_expr _ _ _ _ _ _ c.in-Some.is c.requires)
+
+pub infer_guard-returns-in-None : goal.infer_guard-returns-in-None
+infer_guard-returns-in-None t c = guard_missing _ _ _ _ _ c.in-None.is c.requires
+
+pub infer_guard-returns-in_ok-infer_expr_coerce-in-Some : goal.infer_guard-returns-in_ok-infer_expr_coerce-in-Some
+infer_guard-returns-in_ok-infer_expr_coerce-in-Some t c = guard_typed _ _ _ _ _ _ _ _ c.in-Some.is c.requires c.in_ok-infer_expr_coerce-in-Some.ensures
+
+pub infer_match-infer_expr_coerce-requires : goal.infer_match-infer_expr_coerce-requires
+infer_match-infer_expr_coerce-requires t c = (
+  omega (arith, c.decreases),
+  comes_to_scrutinee _ _ _ _ _ _ _ c.requires.before c.requires.is,
+)
+
+pub infer_match-loop-i-init : goal.infer_match-loop-i-init
+infer_match-loop-i-init t c = begins_patterns _ _ _ _ _ _ _ _ _ c.requires.before c.requires.is c.in_ok-input_ty.ensures
+
+pub infer_match-infer_top_pat-requires : goal.infer_match-infer_top_pat-requires
+infer_match-infer_top_pat-requires t c =
+    let y : RawArm = arm_at c.args.arms.now c.loop-i.i in (
+      omega (arith, c.decreases, c.loop-i.invariant.follows.clock),
+      subst (λ k. BeforePat (given_of c.args.given.now) (schedule_of c.args.given.now) y.pat (Some k) c.loop-i.self) (sym c.in_ok-ty.ensures)
+          (comes_to_pattern _ _ _ _ _ _ _ _ _ c.loop-i.invariant _ c.requires.before y (get_or_default _ _ _ _ c.loop-i-test.true) c.loop-i-test.true),
+    )
+
+pub infer_match-loop-i-preserved : goal.infer_match-loop-i-preserved
+infer_match-loop-i-preserved t c =
+    let y : RawArm = arm_at c.args.arms.now c.loop-i.i in
+    goes_past_pattern _ _ _ _ _ _ _ _ _ c.loop-i.invariant y _ (get_or_default _ _ _ _ c.loop-i-test.true) c.loop-i-test.true
+    (subst (λ k. PatDone (given_of c.args.given.now) (schedule_of c.args.given.now) y.pat (Some k) c.loop-i.self c.infer_top_pat.new.self) c.in_ok-ty.ensures c.in_ok-infer_top_pat.ensures)
+
+pub infer_match-infer_arms-requires : goal.infer_match-infer_arms-requires
+infer_match-infer_arms-requires t c = (
+  omega (arith, c.decreases, c.loop-i.invariant.follows.clock),
+  comes_to_arms _ _ _ _ _ _ _ _ _ c.loop-i.invariant _ _ c.requires.before c.requires.is (less_twice _ _ _ c.adjust_for_branches.ensures c.unless_unit-wanted.ensures) c.loop-i-test.false,
+)
+
+pub infer_match-returns : goal.infer_match-returns
+infer_match-returns t c = ends_match _ _ _ _ _ _ _ _ _ c.loop-i.invariant _ _ c.requires.is (less_twice _ _ _ c.adjust_for_branches.ensures c.unless_unit-wanted.ensures) c.loop-i-test.false _ _ c.in_ok-ty-2.ensures
+
+pub infer_arms-loop-i-init : goal.infer_arms-loop-i-init
+infer_arms-loop-i-init t c = begins_arms _ _ _ _ _ _ _ c.in_ok-common.ensures c.requires
+
+pub infer_arms-infer_guard-requires : goal.infer_arms-infer_guard-requires
+infer_arms-infer_guard-requires t c = (
+  omega (arith, c.decreases, c.loop-i.invariant.follows.clock),
+  comes_to_guard _ _ _ _ _ _ _ _ _ c.requires c.loop-i.invariant (arm_at c.args.arms.now c.loop-i.i) (get_or_default _ _ _ _ c.loop-i-test.true) c.loop-i-test.true,
+)
+
+pub infer_arms-infer_alternative-requires : goal.infer_arms-infer_alternative-requires
+infer_arms-infer_alternative-requires t c =
+    let y : RawArm = arm_at c.args.arms.now c.loop-i.i in (
+      omega (arith, c.decreases, c.loop-i.invariant.follows.clock, c.in_ok-infer_guard.ensures.follows.clock),
+      (
+        comes_to_arm _ _ _ _ _ _ _ _ _ c.requires c.loop-i.invariant y (get_or_default _ _ _ _ c.loop-i-test.true) c.loop-i-test.true _ c.in_ok-infer_guard.ensures,
+        common_at_arm _ _ _ _ _ _ _ _ _ c.requires c.loop-i.invariant y (get_or_default _ _ _ _ c.loop-i-test.true) c.loop-i-test.true _ c.in_ok-infer_guard.ensures,
+      ),
+    )
+
+pub infer_arms-loop-i-preserved : goal.infer_arms-loop-i-preserved
+infer_arms-loop-i-preserved t c =
+    goes_past_arm _ _ _ _ _ _ _ _ _ c.requires c.loop-i.invariant (arm_at c.args.arms.now c.loop-i.i) (get_or_default _ _ _ _ c.loop-i-test.true) c.loop-i-test.true _ c.in_ok-infer_guard.ensures _ _ c.in_ok-common-2.ensures
+
+pub infer_arms-complete-requires-clause-expected : goal.infer_arms-complete-requires-clause-expected
+infer_arms-complete-requires-clause-expected t c = expected_in_arms _ _ _ _ _ _ _ _ _ c.requires c.loop-i.invariant
+
+pub infer_arms-returns : goal.infer_arms-returns
+infer_arms-returns t c = ends_arms _ _ _ _ _ _ _ _ _ c.requires c.loop-i.invariant c.loop-i-test.false _ _ c.in_ok-ty.ensures
+
+pub infer_expr_of_kind-infer_if-requires : goal.infer_expr_of_kind-infer_if-requires
+infer_expr_of_kind-infer_if-requires t c =
+    let is : slice_get c.args.given.now.body.now.exprs c.args.tgt_expr.0 ≡ Some (expr.If c.in-If.condition c.in-If.then_branch c.in-If.else_branch)
+    = slice_get_read c.args.given.now.body.now.exprs _ c.args.tgt_expr.0 _ refl c.requires.within (rw c.as_slice.ensures at c.index-as_slice-tgt_expr.is) ∙ ap (λ x. Some x) c.in-If.is in
+    (omega (arith, c.decreases), (c.requires, is))
+
+pub infer_expr_of_kind-infer_match-requires : goal.infer_expr_of_kind-infer_match-requires
+infer_expr_of_kind-infer_match-requires t c =
+    let is : slice_get c.args.given.now.body.now.exprs c.args.tgt_expr.0 ≡ Some (expr.Match c.in-Match.scrutinee c.in-Match.arms)
+    = slice_get_read c.args.given.now.body.now.exprs _ c.args.tgt_expr.0 _ refl c.requires.within (rw c.as_slice.ensures at c.index-as_slice-tgt_expr.is) ∙ ap (λ x. Some x) c.in-Match.is in
+    (omega (arith, c.decreases), (c.requires, is ∙ ap (λ l. Some (expr.Match c.in-Match.scrutinee l)) (sym c.as_slice-in-Match.ensures)))

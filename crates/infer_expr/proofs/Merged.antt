@@ -1,0 +1,30 @@
+-- The type of a node whose alternatives have no type in common.
+use Rattle.std.proofs.Common.{◌≡◌, ◌⊎◌, inl, inr, refl, sym, subst, ◌∙◌, Option, Some, None}
+use Rattle.hir_types.specs.declared.head.HoleKind.TheVariants as kind
+use Rattle.hir_types.specs.declared.ty.Ty.{Ty}
+use Rattle.hir_types.specs.declared.ty.Ty.TheVariants as ty
+use Rattle.infer_table.specs.HoleLaws.{grew_by_hole}
+use Rattle.infer_table.specs.Table.{with_new_hole, hole_count}
+use Rattle.infer_expr.specs.declared.context.InferenceContext.{InferenceContext}
+use Rattle.infer_expr.specs.declared.coerce_many.CoerceMany.{CoerceMany}
+use Rattle.infer_expr.specs.declared.coerce_many.CoerceMany.TheVariants as common
+use Rattle.infer_expr.specs.Closings.{IsSound}
+use Rattle.infer_expr.specs.Steps.{Completes}
+use Rattle.infer_expr.specs.Under as under
+use Rattle.infer_expr.proofs.FineTypes.{fine_hole}
+use Rattle.infer_expr.proofs.Holes.{holed, holed_sound}
+
+-- a new hole, where nothing is expected
+pub hole_completes : (x : Option Ty) (m : CoerceMany) (c : InferenceContext) → IsSound c → x ≡ None → (m ≡ common.Nothing) ⊎ (m ≡ common.Unknown) → Completes x m (ty.Var (hole_count c.table)) c (holed c kind.Ty)
+hole_completes x m c s none is = record {
+  result = refl;
+  clock = refl;
+  grew = grew_by_hole c.table (with_new_hole c.table kind.Ty) kind.Ty refl;
+  sound = holed_sound c kind.Ty s;
+  fine = fine_hole c.table;
+  is = any_completes is;
+}
+  where
+    any_completes : (m ≡ common.Nothing) ⊎ (m ≡ common.Unknown) → under.Completes x m (ty.Var (hole_count c.table))
+    any_completes (inl h) = subst (λ k. under.Completes x k (ty.Var (hole_count c.table))) (sym h) tt
+    any_completes (inr h) = subst (λ k. under.Completes x k (ty.Var (hole_count c.table))) (sym h) (λ u is. (let z : None ≡ Some u = sym none ∙ is in absurd (cc)))

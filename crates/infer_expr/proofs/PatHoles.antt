@@ -1,0 +1,186 @@
+-- New holes for the types of patterns, and what a tuple pattern asks of what comes in.
+use Rattle.std.proofs.Common.{ℕ, zero, suc, ◌+◌, ◌≡◌, ◌⊎◌, inl, inr, refl, sym, ap, subst, ◌∙◌, arith, List, [], ◌∷◌, ◌++◌, map, length-append, Option, Some, None, slice_get}
+use Rattle.hir_types.specs.declared.head.Head.TheVariants as head
+use Rattle.hir_types.specs.declared.head.HoleKind.TheVariants as kind
+use Rattle.hir_types.specs.declared.ids.PatId.{PatId}
+use Rattle.hir_types.specs.declared.ty.Ty.{Ty}
+use Rattle.hir_types.specs.declared.ty.Ty.TheVariants as ty
+use Rattle.hir_types.specs.Folding.{replaced_tuple}
+use Rattle.hir_types.specs.Subst.{Assignment, folded, with_holes}
+use Rattle.hir_types.specs.Terms.{Term, term, terms_of}
+use Rattle.hir_types.specs.TermLaws.{term_folded}
+use Rattle.hir_facts.specs.declared.raw.RawBody.{RawBody}
+use Rattle.hir_facts.specs.CarriedTypes.{IsCarriedType, AreCarriedTypes, carried_tuple}
+use Rattle.infer_table.specs.Completion.{completion}
+use Rattle.infer_table.specs.HoleLaws.{grew_by_hole, grew_twice}
+use Rattle.infer_table.specs.Preserved.{HasOnly, has_only_resolved, has_only_within, unified_same, refused_apart, binds_only_unified}
+use Rattle.infer_table.specs.Resolution.{resolution, resolution_term}
+use Rattle.infer_table.specs.Solutions.{Respects, log_of, resolved}
+use Rattle.infer_table.specs.Table.{State, Grew, Meets, AreUnified, AreRefused, HolesAreOf, bindings, resolved_type, with_new_hole, hole_count}
+use Rattle.infer_table.specs.UndoLaws.{grew_itself}
+use Rattle.infer_result.specs.Closed.{IsOfBody}
+use Rattle.infer_result.specs.Table.{mismatch}
+use Rattle.infer_expr.specs.declared.context.InferenceContext.{InferenceContext}
+use Rattle.infer_expr.specs.Context.{with_pat_ty, with_pat_mismatch}
+use Rattle.infer_expr.specs.Closings.{IsClosing, Closes, found_under, expected_under, IsSound}
+use Rattle.infer_expr.specs.Fine.{is_fine_head, IsFine}
+use Rattle.infer_expr.specs.Found as found
+use Rattle.infer_expr.specs.Steps.{Follows, IsGivenOrNew, ArePartTypes, TupleDemanded}
+use Rattle.infer_expr.specs.Under as under
+use Rattle.infer_expr.proofs.Closed.{closes_same, pat_ty_under, pat_mismatch_under, of_body_pat_ty, of_body_pat_mismatch, sound_pat_ty, sound_pat_mismatch}
+use Rattle.infer_expr.proofs.FineTypes.{AllFine, fine_tuple, fine_hole, fine_grown, fine_closed, table_fine_grown, same_closed, apart_closed, closing_respects, fine_no_alias}
+use Rattle.infer_expr.proofs.Holes.{holed, holed_sound}
+use Rattle.infer_expr.proofs.Unified.{with_table, completion_closing}
+
+-- ---- new holes
+
+pub given_one : (c : InferenceContext) (t : Ty) → IsSound c → IsFine c.table t → IsGivenOrNew (Some t) t c c
+given_one c t s h = record {
+  result = refl;
+  clock = refl;
+  grew = grew_itself c.table;
+  sound = s;
+  fine = h;
+  given = λ u e. (let k : t ≡ u = cc in k);
+}
+
+pub new_one : (c : InferenceContext) → IsSound c → IsGivenOrNew None (ty.Var (hole_count c.table)) c (holed c kind.Ty)
+new_one c s = record {
+  result = refl;
+  clock = refl;
+  grew = grew_by_hole c.table (with_new_hole c.table kind.Ty) kind.Ty refl;
+  sound = holed_sound c kind.Ty s;
+  fine = fine_hole c.table;
+  given = λ u e. absurd (cc);
+}
+
+-- each type of the list is fine
+abbrev pub FineEach : State → List Ty → Type 0
+FineEach state ts = (i : ℕ) (t : Ty) → slice_get ts i ≡ Some t → IsFine state t
+
+push_cases : (ts : List Ty) (t : Ty) (i : ℕ) (u : Ty) → slice_get (ts ++ t ∷ []) i ≡ Some u → (slice_get ts i ≡ Some u) ⊎ (t ≡ u)
+push_cases [] t zero u e = (let k : t ≡ u = cc in inr k)
+push_cases [] t (suc i) u e = absurd (cc)
+push_cases (v ∷ ts) t zero u e = inl e
+push_cases (v ∷ ts) t (suc i) u e = push_cases ts t i u e
+
+pub no_part_yet : (c : InferenceContext) → IsSound c → ArePartTypes 0 [] c c
+no_part_yet c s = record {
+  result = refl;
+  clock = refl;
+  grew = grew_itself c.table;
+  sound = s;
+  count_is = refl;
+  fine = λ i t e. absurd (cc);
+}
+
+pub one_part_more : (n : ℕ) (ts : List Ty) (x : Option Ty) (t : Ty) (old c new : InferenceContext) → ArePartTypes n ts old c → IsGivenOrNew x t c new → ArePartTypes (n + 1) (ts ++ t ∷ []) old new
+one_part_more n ts x t old c new h d = record {
+  result = d.result ∙ h.result;
+  clock = d.clock ∙ h.clock;
+  grew = grew_twice old.table c.table new.table h.grew d.grew;
+  sound = d.sound;
+  count_is = simp length-append (omega (arith, h.count_is));
+  fine = λ i u e.
+      elim (push_cases ts t i u e) [
+        | inl q ↦ fine_grown c.table new.table u d.grew (h.fine i u q)
+        | inr q ↦ subst (λ v. IsFine new.table v) q d.fine
+      ];
+}
+
+-- ---- what is known of a type
+
+-- what a type resolves to is fine where the type is
+pub resolved_fine : (c : InferenceContext) (t u : Ty) → IsSound c → IsFine c.table t → HolesAreOf c.table u → resolved_type c.table u ≡ resolved_type c.table t → IsFine c.table u
+resolved_fine c t u s h holes same =
+    let bs = bindings c.table in
+    let P : Term → Type 0 = HasOnly is_fine_head in
+    let put_in : P (resolved (log_of bs) (term t)) = has_only_resolved is_fine_head (log_of bs) (term t) s.bound h.heads in
+    let known : P (term (folded (resolution bs) t)) = subst P (sym (resolution_term bs t)) put_in in
+    let alike : P (term (folded (resolution bs) u)) = subst P (ap term (sym same)) known in
+    record {
+      holes = holes;
+      heads = has_only_within is_fine_head (terms_of (resolution bs)) (term u) (subst P (term_folded (resolution bs) u) alike);
+    }
+
+-- ---- tuples of fine types
+
+all_fine : (state : State) (ts : List Ty) → FineEach state ts → AllFine state ts
+all_fine state [] h = tt
+all_fine state (t ∷ ts) h = (h 0 t refl, all_fine state ts (λ i u e. h (suc i) u e))
+
+pub fine_tuple_of : (state : State) (ts : List Ty) → FineEach state ts → IsFine state (ty.Tuple ts)
+fine_tuple_of state ts h = fine_tuple state ts (all_fine state ts h)
+
+pub fine_each_grown : (s t : State) (ts : List Ty) → Grew s t → FineEach s ts → FineEach t ts
+fine_each_grown s t ts g h = λ i u e. fine_grown s t u g (h i u e)
+
+pub tuple_under : (a : Assignment) (ts : List Ty) → folded a (ty.Tuple ts) ≡ ty.Tuple (map (folded a) ts)
+tuple_under a ts = replaced_tuple (with_holes a) ts
+
+pub carried_each : (a : Assignment) (state : State) (ts : List Ty) → IsClosing a → FineEach state ts → AreCarriedTypes (map (folded a) ts)
+carried_each a state ts k h =
+    let tuple : IsCarriedType (ty.Tuple (map (folded a) ts)) = subst (λ t. IsCarriedType t) (tuple_under a ts) (fine_closed a (ty.Tuple ts) k (fine_tuple_of state ts h).heads) in
+    sym (carried_tuple (map (folded a) ts)) ∙ tuple
+
+-- ---- what comes in
+
+module _ (b : RawBody) (p : PatId) (ts : List Ty) (c : InferenceContext) (h : IsOfBody b c.result) (s : IsSound c) (fine : FineEach c.table ts) where
+  abbrev own : Ty
+  own = ty.Tuple ts
+
+  -- the record of the tuple, after what is asked
+  recorded : (x : Option Ty) (mid : InferenceContext) → Follows b c mid → mid.clock ≡ c.clock → IsFine mid.table own → ((a : Assignment) → Closes a mid → under.IsDemanded p (ty.Tuple (map (folded a) ts)) (expected_under a x) (found_under a c) (found_under a mid)) → TupleDemanded b p ts x c (with_pat_ty mid p own)
+  recorded x mid f clock k asked = record {
+    follows = record {
+      clock = f.clock;
+      grew = f.grew;
+      of_body = of_body_pat_ty b mid f.of_body p own;
+      sound = sound_pat_ty mid f.sound p own k;
+    };
+    clock = clock;
+    each = λ a q. record {
+      mid = found_under a mid;
+      demanded = asked a (closes_same a (with_pat_ty mid p own) mid refl q);
+      recorded = pat_ty_under a mid p own ∙ ap (λ t. found.with_pat_ty (found_under a mid) p t) (tuple_under a ts);
+    };
+  }
+
+  pub demanded_nothing : TupleDemanded b p ts None c (with_pat_ty c p own)
+  demanded_nothing =
+      recorded None c (record { clock = omega arith; grew = grew_itself c.table; of_body = h; sound = s }) refl (fine_tuple_of c.table ts fine) (λ a q. refl)
+
+  module _ (u : Ty) (fu : IsFine c.table u) where
+    pub demanded_unified : (after : State) → AreUnified c.table after u own → Meets (terms_of (completion after)) after → Respects (terms_of (completion after)) → TupleDemanded b p ts (Some u) c (with_pat_ty (with_table c after) p own)
+    demanded_unified after k m r =
+        let fo : IsFine c.table own = fine_tuple_of c.table ts fine in
+        let bound = binds_only_unified is_fine_head fine_no_alias head.Bool refl c.table after u own k (terms_of (completion after)) m s.bound fu.heads fo.heads in
+        recorded (Some u) (with_table c after) (record {
+          clock = omega arith;
+          grew = k.grown;
+          of_body = h;
+          sound = record {
+            fine = table_fine_grown c.table after c.result k.grown s.fine;
+            bound = bound;
+            some = (completion after, record { closing = completion_closing after bound r; meets = m });
+          };
+        }) refl (fine_grown c.table after own k.grown fo) (λ a q. inl (
+          same_closed a u own q.closing fu.heads fo.heads (unified_same is_fine_head c.table after u own fine_no_alias s.bound fu.heads fo.heads k (terms_of a) q.meets) ∙ tuple_under a ts,
+          refl,
+        ))
+
+    pub demanded_refused : (after : State) → AreRefused c.table after u own → TupleDemanded b p ts (Some u) c (with_pat_ty (with_pat_mismatch (with_table c after) p (mismatch u own)) p own)
+    demanded_refused after k =
+        let fo : IsFine c.table own = fine_tuple_of c.table ts fine in
+        let P : State → Type 0 = λ state. TupleDemanded b p ts (Some u) c (with_pat_ty (with_pat_mismatch (with_table c state) p (mismatch u own)) p own) in
+        subst P (sym k.unchanged) (
+        recorded (Some u) (with_pat_mismatch c p (mismatch u own)) (record {
+          clock = omega arith;
+          grew = grew_itself c.table;
+          of_body = of_body_pat_mismatch b c h p (mismatch u own);
+          sound = sound_pat_mismatch c s p (mismatch u own) fu fo;
+        }) refl fo (λ a q. inr (
+          λ same. refused_apart is_fine_head c.table u own fine_no_alias s.bound fu.heads fo.heads k.impossible (terms_of a) (closing_respects a q.closing) q.meets (apart_closed a u own (same ∙ sym (tuple_under a ts))),
+          pat_mismatch_under a c p (mismatch u own) ∙ ap (λ t. found.with_pat_mismatch (found_under a c) p (mismatch (folded a u) t)) (tuple_under a ts),
+        ))
+        )

@@ -1,0 +1,114 @@
+//! The common type of several expressions.
+ghost use Rattle.std.specs.Prelude.{◌≡◌, ◌<◌, IfOk, length, Option, Some, None};
+ghost use Rattle.hir_types.specs.Types.{unit};
+ghost use Rattle.infer_result.specs.Closed.{IsOfBody};
+ghost use Rattle.infer_expr.specs.Context.{expected_type};
+ghost use Rattle.infer_expr.specs.Closings.{IsSound};
+ghost use Rattle.infer_expr.specs.Fine.{IsFine, IsFineExpectation};
+ghost use Rattle.infer_expr.specs.Steps.{IsFineCommon, Merges, Completes};
+ghost use Rattle.infer_expr.specs.Under.{common_of};
+
+use crate::context::InferenceContext;
+use crate::expectation::Expectation;
+use crate::given::GivenBody;
+use hir_facts::{ExprId, List, Ty};
+use std::alloc::{AllocError, Global};
+
+/// The common type of the expressions one of which gives a node its value, as far as they are typed:
+/// `infer/coerce.rs`, `CoerceMany`.
+#[derive(Drop)]
+pub enum CoerceMany {
+    /// None is typed yet, and nothing is expected of them.
+    Nothing,
+    /// They have this type, or it is expected of them.
+    Is(Ty),
+    /// One of them could not be coerced to the type of those before it.
+    Unknown,
+}
+
+impl CoerceMany {
+    /// None is typed yet. Where nothing is expected, the first one's type is the common type.
+    pub fn new(alloc: Global, expected: Expectation) -> Result<CoerceMany, AllocError>
+        ensures { IfOk result (λ made. made ≡ common_of (expected_type expected.entry)) }
+    {
+        match expected.only_has_type() {
+            Some(ty) => Ok(CoerceMany::Is(ty.dup(alloc)?)),
+            None => Ok(CoerceMany::Nothing),
+        }
+    }
+
+    /// With one expression more, of the type `ty`, which is coerced to the common type.
+    pub fn coerce(
+        self,
+        alloc: Global,
+        context: &mut InferenceContext,
+        given: &GivenBody,
+        expr: ExprId,
+        ty: Ty,
+    ) -> Result<CoerceMany, AllocError>
+        requires within { expr.0 < length given.now.body.now.exprs }
+        requires of_body { IsOfBody given.now.body.now context.old.result }
+        requires sound { IsSound context.old }
+        requires ty { IsFine context.old.table ty }
+        requires common { IsFineCommon context.old.table self }
+        ensures { IfOk result (λ made. Merges given.now.body.now expr ty self made context.old context.new) }
+    {
+        match self {
+            CoerceMany::Nothing => Ok(CoerceMany::Is(ty)),
+            CoerceMany::Is(common) => {
+                if context.coerce(alloc, given, expr, &ty, &common)? {
+                    Ok(CoerceMany::Is(common))
+                } else {
+                    Ok(CoerceMany::Unknown)
+                }
+            }
+            CoerceMany::Unknown => Ok(CoerceMany::Unknown),
+        }
+    }
+
+    /// With `()` as the type of a node that may end without a value.
+    pub fn coerce_forced_unit(
+        self,
+        alloc: Global,
+        context: &mut InferenceContext,
+        given: &GivenBody,
+        expr: ExprId,
+    ) -> Result<CoerceMany, AllocError>
+        requires within { expr.0 < length given.now.body.now.exprs }
+        requires of_body { IsOfBody given.now.body.now context.old.result }
+        requires sound { IsSound context.old }
+        requires common { IsFineCommon context.old.table self }
+        ensures { IfOk result (λ made. Merges given.now.body.now expr unit self made context.old context.new) }
+    {
+        let unit = Ty::Tuple(List::new(alloc));
+        self.coerce(alloc, context, given, expr, unit)
+    }
+
+    /// The common type. Where one could not be coerced it is what is expected of them, to which the
+    /// node is coerced in any case, else a new hole.
+    pub fn complete(
+        self,
+        alloc: Global,
+        context: &mut InferenceContext,
+        expected: Expectation,
+    ) -> Result<Ty, AllocError>
+        requires sound { IsSound context.old }
+        requires common { IsFineCommon context.old.table self }
+        requires expected { IsFineExpectation context.old.table (expected_type expected) }
+        ensures { IfOk result (λ ty. Completes (expected_type expected.entry) self ty context.old context.new) }
+    {
+        match self {
+            CoerceMany::Is(ty) => Ok(ty),
+            CoerceMany::Nothing | CoerceMany::Unknown => match expected.only_has_type() {
+                Some(ty) => {
+                    let ty = ty.dup(alloc)?;
+                    Ok(ty)
+                }
+                None => {
+                    let ty = context.table.next_ty_var()?;
+                    Ok(ty)
+                }
+            },
+        }
+    }
+}
