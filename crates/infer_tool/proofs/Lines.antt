@@ -38,7 +38,7 @@ is_written f xs i now total le so_far =
     let e : now ++ lines_from f i (drop i xs) ≡ now = rw (drop_all i xs le) (append-nil now) in
     sym e ∙ so_far
 
--- six texts, one after another
-pub all_six : (a b c d e f new after_a after_b after_c after_d after_e after_f : List ℕ) → new ≡ [] → after_a ≡ new ++ a → after_b ≡ after_a ++ b → after_c ≡ after_b ++ c
-    → after_d ≡ after_c ++ d → after_e ≡ after_d ++ e → after_f ≡ after_e ++ f → after_f ≡ a ++ b ++ c ++ d ++ e ++ f
-all_six a b c d e f new after_a after_b after_c after_d after_e after_f start p q r s t u = rw (u, t, s, r, q, p, start) refl
+-- seven texts, one after another
+pub all_seven : (a b c d e f g new after_a after_b after_c after_d after_e after_f after_g : List ℕ) → new ≡ [] → after_a ≡ new ++ a → after_b ≡ after_a ++ b → after_c ≡ after_b ++ c
+    → after_d ≡ after_c ++ d → after_e ≡ after_d ++ e → after_f ≡ after_e ++ f → after_g ≡ after_f ++ g → after_g ≡ a ++ b ++ c ++ d ++ e ++ f ++ g
+all_seven a b c d e f g new after_a after_b after_c after_d after_e after_f after_g start p q r s t u v = rw (v, u, t, s, r, q, p, start) refl

@@ -4,6 +4,7 @@ use Rattle.serde_json.specs.Data.{Data}
 use Rattle.hir_types.specs.declared.ids.BindingId.{BindingId}
 use Rattle.hir_types.specs.declared.ids.FunctionId.{FunctionId}
 use Rattle.hir_types.specs.declared.ids.PatId.{PatId}
+use Rattle.hir_types.specs.declared.ids.VariantId.{VariantId}
 use Rattle.hir_facts.specs.declared.raw.Other.{Other}
 use Rattle.hir_facts.specs.declared.raw.RawLiteral.{RawLiteral}
 use Rattle.hir_facts.specs.declared.raw.RawLiteral.TheVariants as literal
@@ -18,8 +19,9 @@ use Rattle.hir_facts.specs.declared.raw.RawPat.{RawPat}
 use Rattle.hir_facts.specs.declared.raw.RawPat.TheVariants as pat
 use Rattle.hir_facts.specs.declared.raw.RawBinding.{RawBinding}
 use Rattle.hir_facts.specs.declared.raw.RawBody.{RawBody}
+use Rattle.infer_tool.specs.declared.text.bodies.VariantPath.{VariantPath}
 use Rattle.infer_tool.specs.Reading.{◌>>=◌, ◌>>◌, there, field, part, keys_in, parts_in, tag, is_tag, is_kind_of, bool_in, text_in, u32_in, option_in, list_in}
-use Rattle.infer_tool.specs.Leaves.{module_in, trait_in, type_ref_in, function_id_in, expr_id_in, pat_id_in, binding_id_in, label_in, other_in, integer_in, annotation_in}
+use Rattle.infer_tool.specs.Leaves.{module_in, trait_in, variant_id_in, type_ref_in, function_id_in, expr_id_in, pat_id_in, binding_id_in, label_in, other_in, integer_in, annotation_in}
 use Rattle.infer_tool.specs.Kinds.{other_literals, other_paths, other_exprs, other_pats}
 
 -- ---- literals
@@ -64,12 +66,24 @@ function_in d = do
   as_ ← part (option_in (list_in other_in)) 2 d
   Ok (function_by f as_)
 
--- ["local", b, As], ["fn", f, As] or another kind
+-- a constructor without written arguments is read
+abbrev ctor_by : VariantId → Option (List Other) → RawPath
+ctor_by v None = path.Ctor v
+ctor_by v (Some as_) = path.Other
+
+unfoldable pub ctor_path_in : Data → Result RawPath (List ℕ)
+ctor_path_in d = do
+  v ← part variant_id_in 1 d
+  as_ ← part (option_in (list_in other_in)) 2 d
+  Ok (ctor_by v as_)
+
+-- ["local", b, As], ["fn", f, As], ["ctor", v, As] or another kind
 unfoldable pub path_in : Data → Result RawPath (List ℕ)
 path_in d = do
   t ← there (tag d)
   if is_tag t (codes "local") 3 then local_in d else
       if is_tag t (codes "fn") 3 then function_in d else
+      if is_tag t (codes "ctor") 3 then ctor_path_in d else
       if is_kind_of other_paths t then Ok path.Other else
       Err []
 
@@ -168,13 +182,52 @@ tuple_pat_in d = do
   dots ← part (option_in other_in) 2 d
   Ok (tuple_pat_by ps dots)
 
--- "wild", ["bind", b, p?], ["tuple", [p], dots], ["lit", e] or another kind
+-- a variant without written arguments is read
+abbrev named_variant_by : VariantId → Option (List Other) → Option VariantId
+named_variant_by v None = Some v
+named_variant_by v (Some as_) = None
+
+unfoldable pub named_variant_in : Data → Result VariantPath (List ℕ)
+named_variant_in d = do
+  v ← part variant_id_in 1 d
+  as_ ← part (option_in (list_in other_in)) 2 d
+  Ok (record { variant = named_variant_by v as_ })
+
+abbrev unread_variant : VariantPath
+unread_variant = record { variant = None }
+
+-- ["variant", v, As], ["type", TYPE], ["typed", TYPE, name] or "unresolved", of which the first is read
+unfoldable pub variant_path_in : Data → Result VariantPath (List ℕ)
+variant_path_in d = do
+  t ← there (tag d)
+  if is_tag t (codes "variant") 3 then named_variant_in d else
+      if is_tag t (codes "type") 2 then Ok unread_variant else
+      if is_tag t (codes "typed") 3 then Ok unread_variant else
+      if is_tag t (codes "unresolved") 0 then Ok unread_variant else
+      Err []
+
+-- a constructor without `..` over a variant that is read is read
+abbrev ctor_pat_by : Option VariantId → List PatId → Option Other → RawPat
+ctor_pat_by (Some v) ps None = pat.TupleStruct v ps
+ctor_pat_by (Some v) ps (Some dots) = pat.Other
+ctor_pat_by None ps dots = pat.Other
+
+unfoldable pub ctor_pat_in : Data → Result RawPat (List ℕ)
+ctor_pat_in d = do
+  named ← part variant_path_in 1 d
+  ps ← part (list_in pat_id_in) 2 d
+  dots ← part (option_in other_in) 3 d
+  Ok (ctor_pat_by named.variant ps dots)
+
+-- "wild", ["bind", b, p?], ["tuple", [p], dots], ["ctor", V, [p], dots], ["path", P], ["lit", e] or another kind
 unfoldable pub pat_in : Data → Result RawPat (List ℕ)
 pat_in d = do
   t ← there (tag d)
   if is_tag t (codes "wild") 0 then Ok pat.Wild else
       if is_tag t (codes "bind") 3 then bind_in d else
       if is_tag t (codes "tuple") 3 then tuple_pat_in d else
+      if is_tag t (codes "ctor") 4 then ctor_pat_in d else
+      if is_tag t (codes "path") 2 then part path_in 1 d >>= (λ p. Ok (pat.Path p)) else
       if is_tag t (codes "lit") 2 then part expr_id_in 1 d >>= (λ e. Ok (pat.Lit e)) else
       if is_kind_of other_pats t then Ok pat.Other else
       Err []

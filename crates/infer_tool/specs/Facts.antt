@@ -15,7 +15,7 @@ use Rattle.infer_tool.specs.declared.text.fault.ReadError.{ReadError}
 use Rattle.infer_tool.specs.declared.text.fault.ReadError.TheVariants as error
 use Rattle.infer_tool.specs.Reading.{◌>>=◌, ◌>>◌, field, keys_in, bool_in, option_in, list_in}
 use Rattle.infer_tool.specs.Leaves.{module_in, other_in, profile_in, edition_in}
-use Rattle.infer_tool.specs.Entries.{type_in, fn_in, limits_in, lang_in}
+use Rattle.infer_tool.specs.Entries.{type_in, adt_in, variant_in, fn_in, limits_in, lang_in}
 use Rattle.infer_tool.specs.Bodies.{body_in}
 
 -- ---- the keys of the whole, in three groups
@@ -33,8 +33,8 @@ unfoldable pub items_in : Data → Result Items (List ℕ)
 items_in d = do
   types ← field (list_in type_in) (codes "types") d
   modules ← field (list_in (option_in module_in)) (codes "modules") d
-  adts ← field (list_in other_in) (codes "adts") d
-  variants ← field (list_in other_in) (codes "variants") d
+  adts ← field (list_in adt_in) (codes "adts") d
+  variants ← field (list_in variant_in) (codes "variants") d
   fns ← field (list_in fn_in) (codes "fns") d
   consts ← field (list_in other_in) (codes "consts") d
   statics ← field (list_in other_in) (codes "statics") d

@@ -4,10 +4,10 @@ use Rattle.std.specs.Prelude.{ℕ, List, [], ◌∷◌, codes}
 
 abbrev pub other_types : List (List ℕ × ℕ)
 other_types =
-    (codes "str", 0) ∷ (codes "never", 0) ∷ (codes "error", 0) ∷ (codes "_", 0) ∷
+    (codes "str", 0) ∷ (codes "never", 0) ∷ (codes "error", 0) ∷
     (codes "f16", 0) ∷ (codes "f32", 0) ∷ (codes "f64", 0) ∷ (codes "f128", 0) ∷
     (codes "array", 3) ∷ (codes "slice", 2) ∷ (codes "ref", 4) ∷ (codes "ptr", 3) ∷
-    (codes "adt", 3) ∷ (codes "fnptr", 4) ∷ (codes "dyn", 4) ∷ (codes "param", 2) ∷
+    (codes "fnptr", 4) ∷ (codes "dyn", 4) ∷
     (codes "proj", 3) ∷ (codes "opaque", 3) ∷ []
 
 abbrev pub other_literals : List (List ℕ × ℕ)
@@ -15,7 +15,7 @@ other_literals = (codes "str", 2) ∷ (codes "bytes", 2) ∷ (codes "cstr", 0) �
 
 abbrev pub other_paths : List (List ℕ × ℕ)
 other_paths =
-    (codes "const", 3) ∷ (codes "static", 3) ∷ (codes "ctor", 3) ∷
+    (codes "const", 3) ∷ (codes "static", 3) ∷
     (codes "typed", 4) ∷ (codes "trait", 5) ∷ (codes "implself", 3) ∷
     (codes "constparam", 3) ∷ (codes "unresolved", 2) ∷ []
 
@@ -31,7 +31,6 @@ other_exprs =
 
 abbrev pub other_pats : List (List ℕ × ℕ)
 other_pats =
-    (codes "missing", 0) ∷ (codes "ctor", 4) ∷ (codes "record", 3) ∷
-    (codes "path", 2) ∷ (codes "range", 3) ∷ (codes "slice", 4) ∷
+    (codes "missing", 0) ∷ (codes "record", 3) ∷ (codes "range", 3) ∷ (codes "slice", 4) ∷
     (codes "ref", 3) ∷ (codes "or", 2) ∷ (codes "box", 2) ∷ (codes "const", 2) ∷
     (codes "expr", 2) ∷ []

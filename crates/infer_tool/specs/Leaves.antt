@@ -4,7 +4,9 @@ use Rattle.std.specs.Str.{bytes_eq}
 use Rattle.serde_json.specs.Data.{Data}
 use Rattle.serde_json.specs.Find.{as_str}
 use Rattle.infer_tool.specs.Reading.{◌>>=◌, there, u32_in}
+use Rattle.hir_types.specs.declared.ids.AdtId.{AdtId}
 use Rattle.hir_types.specs.declared.ids.ModuleId.{ModuleId}
+use Rattle.hir_types.specs.declared.ids.VariantId.{VariantId}
 use Rattle.hir_types.specs.declared.ids.TraitId.{TraitId}
 use Rattle.hir_types.specs.declared.ids.TypeRefId.{TypeRefId}
 use Rattle.hir_types.specs.declared.ids.FunctionId.{FunctionId}
@@ -16,6 +18,10 @@ use Rattle.hir_types.specs.declared.ids.LabelId.{LabelId}
 use Rattle.hir_facts.specs.declared.raw.Other.{Other}
 use Rattle.hir_facts.specs.declared.raw.Edition.{Edition}
 use Rattle.hir_facts.specs.declared.raw.Edition.TheVariants as edition
+use Rattle.hir_facts.specs.declared.raw.RawAdtKind.{RawAdtKind}
+use Rattle.hir_facts.specs.declared.raw.RawAdtKind.TheVariants as kind
+use Rattle.hir_facts.specs.declared.raw.RawCtor.{RawCtor}
+use Rattle.hir_facts.specs.declared.raw.RawCtor.TheVariants as ctor
 use Rattle.hir_facts.specs.declared.raw.BindingAnnotation.{BindingAnnotation}
 use Rattle.hir_facts.specs.declared.raw.BindingAnnotation.TheVariants as mode
 use Rattle.hir_types.specs.declared.ty.IntTy.{IntTy}
@@ -33,6 +39,12 @@ module_in d = u32_in d >>= λ n. Ok (record { 0 = n })
 
 abbrev pub trait_in : Data → Result TraitId (List ℕ)
 trait_in d = u32_in d >>= λ n. Ok (record { 0 = n })
+
+abbrev pub adt_id_in : Data → Result AdtId (List ℕ)
+adt_id_in d = u32_in d >>= λ n. Ok (record { 0 = n })
+
+abbrev pub variant_id_in : Data → Result VariantId (List ℕ)
+variant_id_in d = u32_in d >>= λ n. Ok (record { 0 = n })
 
 abbrev pub type_ref_in : Data → Result TypeRefId (List ℕ)
 type_ref_in d = u32_in d >>= λ n. Ok (record { 0 = n })
@@ -110,6 +122,22 @@ edition_in d = do
       if n == 2018 then Ok edition.Edition2018 else
       if n == 2021 then Ok edition.Edition2021 else
       if n == 2024 then Ok edition.Edition2024 else
+      Err []
+
+unfoldable pub adt_kind_in : Data → Result RawAdtKind (List ℕ)
+adt_kind_in d = do
+  s ← there (as_str d)
+  if bytes_eq s (codes "struct") then Ok kind.Struct else
+      if bytes_eq s (codes "enum") then Ok kind.Enum else
+      if bytes_eq s (codes "union") then Ok kind.Union else
+      Err []
+
+unfoldable pub ctor_in : Data → Result RawCtor (List ℕ)
+ctor_in d = do
+  s ← there (as_str d)
+  if bytes_eq s (codes "unit") then Ok ctor.Unit else
+      if bytes_eq s (codes "tuple") then Ok ctor.Tuple else
+      if bytes_eq s (codes "record") then Ok ctor.Record else
       Err []
 
 unfoldable pub annotation_in : Data → Result BindingAnnotation (List ℕ)

@@ -1,7 +1,10 @@
+mod adts;
+mod branches;
 mod integers;
 mod kinds;
 mod laws;
 mod params;
+mod patterns;
 mod rows;
 
 use super::ends::{MemorySink, MemorySource};

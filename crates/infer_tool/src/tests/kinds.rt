@@ -1,4 +1,5 @@
-//! Kinds that are read and judged, and that the first law refuses until they are carried.
+//! The shapes of kinds of expressions and patterns, and what the first law says of those that are not
+//! carried yet.
 use super::{NO_LOOP, check_body};
 use std::test::Fail;
 
@@ -14,13 +15,17 @@ const AT_BRANCH: &str =
 
 #[test]
 fn reads_ifs(rt: HostRuntime) -> Result<(), Fail> {
-    check_body(&rt, IF, 8, "", NO_LOOP)?;
+    let read = "fn 0\ne0 bool\ne1 u8\ne2 u8\ne3 u8\ncomplaints 0\n";
+    check_body(&rt, IF, 0, read, "")?;
     check_body(&rt, NO_BRANCH, 7, "", AT_BRANCH)
 }
 
 /// `match 'a' { _ if true => 1u8 }`
 const MATCH: &str =
     r#"3,"exprs":[["lit",["char",97]],["lit",["bool",true]],["lit",["int","1","u8"]],["match",0,[[0,1,2]]]],"pats":["wild"],"bindings":[]"#;
+
+/// `match 'a' {}`
+const NO_ARMS: &str = r#"1,"exprs":[["lit",["char",97]],["match",0,[]]],"pats":[],"bindings":[]"#;
 
 const NO_ARM: &str =
     r#"2,"exprs":[["lit",["char",97]],["lit",["int","1","u8"]],["match",0,[[0,1]]]],"pats":["wild"],"bindings":[]"#;
@@ -30,7 +35,9 @@ const AT_ARM: &str =
 
 #[test]
 fn reads_matches(rt: HostRuntime) -> Result<(), Fail> {
-    check_body(&rt, MATCH, 8, "", NO_LOOP)?;
+    let read = "fn 0\ne0 char\ne1 bool\ne2 u8\ne3 u8\np0 char\ncomplaints 0\n";
+    check_body(&rt, MATCH, 0, read, "")?;
+    check_body(&rt, NO_ARMS, 8, "", NO_LOOP)?;
     check_body(&rt, NO_ARM, 7, "", AT_ARM)
 }
 
@@ -71,6 +78,8 @@ const AT_PARTS: &str =
 
 #[test]
 fn reads_patterns(rt: HostRuntime) -> Result<(), Fail> {
-    check_body(&rt, PATS, 8, "", NO_LOOP)?;
+    let read =
+        "fn 0\ne0 char\ne1 i8\ne2 (char, i8)\ne3 i8\ne4 u8\np0 (char, i8)\np1 char\np2 i8\nTypeMismatch e4 expected=u8 actual=()\ncomplaints 1\n";
+    check_body(&rt, PATS, 1, read, "")?;
     check_body(&rt, NO_PARTS, 7, "", AT_PARTS)
 }

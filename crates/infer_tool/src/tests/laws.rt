@@ -4,7 +4,7 @@ use std::process::Abort;
 use std::test::Fail;
 
 /// Runs on the first run's text with `new` in the place of `old`.
-fn swapped(
+pub fn swapped(
     rt: &(impl Abort + AllocGlobal),
     old: &str,
     new: &str,
@@ -18,7 +18,7 @@ fn swapped(
 }
 
 /// Runs on a text that breaks a law at an entry.
-fn broken(
+pub fn broken(
     rt: &(impl Abort + AllocGlobal),
     old: &str,
     new: &str,
@@ -29,12 +29,13 @@ fn broken(
     swapped(rt, old, new, 8, fault.as_str())
 }
 
-const CARRIED: &str = "each entry and part is of a kind that is carried";
+pub const CARRIED: &str = "each entry and part is of a kind that is carried";
 
 const IDS: &str =
-    "ids are in range, and smaller where a list asks for it, and each body is that of one definition";
+    "ids are in range, and smaller where a list asks for it, each body is that of one definition, and adts and variants agree";
 
-const COUNTS: &str = "a function has as many inputs as its body has parameters, `self` counted";
+const COUNTS: &str =
+    "inputs are as many as parameters of the body, arguments as parameters, and a struct has one variant";
 
 const TREES: &str = "the nodes of a body are a tree, and each binding is bound once";
 
@@ -43,7 +44,7 @@ const SCOPES: &str = "a local names a binding that the walk has typed before";
 const LIMITS: &str = "the limits are in their ranges";
 
 const LITERALS: &str =
-    "literals stand for values of at most 128 bits, and characters are scalar values";
+    "literals stand for values of at most 128 bits, characters are scalar values, and names of fields are distinct";
 
 #[test]
 fn carries_no_items(rt: HostRuntime) -> Result<(), Fail> {
@@ -58,14 +59,14 @@ fn carries_no_items(rt: HostRuntime) -> Result<(), Fail> {
     broken(
         rt,
         "\"adts\":[",
-        "\"adts\":[0",
+        "\"adts\":[{\"name\":\"S\",\"kind\":\"struct\",\"params\":[],\"preds\":[],\"variants\":[0],\"repr\":null,\"unsize\":null}",
         "0 is broken at adts[0]",
         CARRIED,
     )?;
     broken(
         rt,
         "\"variants\":[",
-        "\"variants\":[0",
+        "\"variants\":[{\"adt\":0,\"name\":\"S\",\"ctor\":\"unit\",\"fields\":[],\"body\":null}",
         "0 is broken at variants[0]",
         CARRIED,
     )?;

@@ -68,11 +68,11 @@ const SELF: &str =
 fn counts_params(rt: HostRuntime) -> Result<(), Fail> {
     let rt = &rt;
     let counts =
-        "law 2 is broken at fns[0]: a function has as many inputs as its body has parameters, `self` counted";
+        "law 2 is broken at fns[0]: inputs are as many as parameters of the body, arguments as parameters, and a struct has one variant";
     reported(rt, r#"[],"output":0"#, ONE, 8, "", counts)?;
     reported(rt, r#"[0,1],"output":0"#, ONE, 8, "", counts)?;
     let ids =
-        "law 1 is broken at fns[0]: ids are in range, and smaller where a list asks for it, and each body is that of one definition";
+        "law 1 is broken at fns[0]: ids are in range, and smaller where a list asks for it, each body is that of one definition, and adts and variants agree";
     reported(rt, r#"[3],"output":0"#, ONE, 8, "", ids)?;
     let carried = "law 0 is broken at bodies[0]: each entry and part is of a kind that is carried";
     reported(rt, r#"[0],"output":0"#, SELF, 8, "", carried)

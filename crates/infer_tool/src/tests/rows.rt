@@ -116,7 +116,7 @@ fn character(
 fn reports_characters(rt: HostRuntime) -> Result<(), Fail> {
     let rt = &rt;
     let fault =
-        "law 8 is broken at bodies[0]: literals stand for values of at most 128 bits, and characters are scalar values";
+        "law 8 is broken at bodies[0]: literals stand for values of at most 128 bits, characters are scalar values, and names of fields are distinct";
     character(rt, 0, 0, "")?;
     character(rt, 55295, 0, "")?;
     character(rt, 55296, 8, fault)?;

@@ -4,7 +4,7 @@ ghost use Rattle.serde_json.specs.Data.{Data};
 ghost use Rattle.serde_json.specs.View.{view};
 ghost use Rattle.infer_tool.specs.Reading.{Gives, is_kind_of};
 ghost use Rattle.infer_tool.specs.Kinds.{other_exprs, other_pats, other_paths, other_literals};
-ghost use Rattle.infer_tool.specs.Bodies.{int_literal_in, literal_in, local_in, function_in, path_in, let_in, expr_stmt_in, stmt_in, block_in, if_in, arm_in, match_in, call_in, expr_in, bind_in, tuple_pat_in, pat_in, binding_in, body_in};
+ghost use Rattle.infer_tool.specs.Bodies.{int_literal_in, literal_in, local_in, function_in, ctor_path_in, path_in, let_in, expr_stmt_in, stmt_in, block_in, if_in, arm_in, match_in, call_in, expr_in, bind_in, tuple_pat_in, named_variant_in, variant_path_in, ctor_pat_in, pat_in, binding_in, body_in};
 
 use super::fault::Misread;
 use super::reader::{
@@ -12,6 +12,7 @@ use super::reader::{
 };
 use hir_facts::{
     List, Other, RawArm, RawBinding, RawBody, RawExpr, RawLiteral, RawPat, RawPath, RawStmt,
+    VariantId,
 };
 use serde_json::Value;
 use std::alloc::Global;
@@ -75,6 +76,18 @@ fn function(alloc: Global, value: &Value) -> Result<RawPath, Misread>
     }
 }
 
+#[tactic(auto, unfolding(crate::specs::Bodies::ctor_path_in))]
+fn ctor_path(alloc: Global, value: &Value) -> Result<RawPath, Misread>
+    ensures { Gives result (ctor_path_in (view value.now)) }
+{
+    let variant = part_of(alloc, value, 1)?;
+    let args: Option<List<Other>> = part_of(alloc, value, 2)?;
+    match args {
+        None => Ok(RawPath::Ctor(variant)),
+        Some(_) => Ok(RawPath::Other),
+    }
+}
+
 fn is_other_path(tag: (&str, usize)) -> bool
     ensures { result ≡ is_kind_of other_paths (tag.entry.0.now, tag.entry.1) }
 {
@@ -83,7 +96,6 @@ fn is_other_path(tag: (&str, usize)) -> bool
         &[
             ("const", 3),
             ("static", 3),
-            ("ctor", 3),
             ("typed", 4),
             ("trait", 5),
             ("implself", 3),
@@ -103,6 +115,8 @@ impl FromData for RawPath {
             local(alloc, value)
         } else if is(tag, "fn", 3) {
             function(alloc, value)
+        } else if is(tag, "ctor", 3) {
+            ctor_path(alloc, value)
         } else if is_other_path(tag) {
             Ok(RawPath::Other)
         } else {
@@ -295,6 +309,62 @@ fn tuple_pat(alloc: Global, value: &Value) -> Result<RawPat, Misread>
     }
 }
 
+/// A variant that a pattern names, where it is read.
+#[derive(Clone, Copy, Debug)]
+struct VariantPath {
+    variant: Option<VariantId>,
+}
+
+#[tactic(auto, unfolding(crate::specs::Bodies::named_variant_in))]
+fn named_variant(alloc: Global, value: &Value) -> Result<VariantPath, Misread>
+    ensures { Gives result (named_variant_in (view value.now)) }
+{
+    let variant = part_of(alloc, value, 1)?;
+    let args: Option<List<Other>> = part_of(alloc, value, 2)?;
+    match args {
+        None => Ok(VariantPath {
+            variant: Some(variant),
+        }),
+        Some(_) => Ok(VariantPath { variant: None }),
+    }
+}
+
+#[tactic(auto, unfolding(crate::specs::Bodies::variant_path_in))]
+impl FromData for VariantPath {
+    ghost reads = { variant_path_in };
+
+    fn from_data(alloc: Global, value: &Value) -> Result<VariantPath, Misread> {
+        let tag = tag_of(alloc, value)?;
+        if is(tag, "variant", 3) {
+            named_variant(alloc, value)
+        } else if is(tag, "type", 2) {
+            Ok(VariantPath { variant: None })
+        } else if is(tag, "typed", 3) {
+            Ok(VariantPath { variant: None })
+        } else if is(tag, "unresolved", 0) {
+            Ok(VariantPath { variant: None })
+        } else {
+            Err(misshapen(alloc))
+        }
+    }
+}
+
+#[tactic(auto, unfolding(crate::specs::Bodies::ctor_pat_in))]
+fn ctor_pat(alloc: Global, value: &Value) -> Result<RawPat, Misread>
+    ensures { Gives result (ctor_pat_in (view value.now)) }
+{
+    let named: VariantPath = part_of(alloc, value, 1)?;
+    let args = part_of(alloc, value, 2)?;
+    let dots: Option<Other> = part_of(alloc, value, 3)?;
+    match named.variant {
+        None => Ok(RawPat::Other),
+        Some(variant) => match dots {
+            None => Ok(RawPat::TupleStruct { variant, args }),
+            Some(_) => Ok(RawPat::Other),
+        },
+    }
+}
+
 fn is_other_pat(tag: (&str, usize)) -> bool
     ensures { result ≡ is_kind_of other_pats (tag.entry.0.now, tag.entry.1) }
 {
@@ -302,9 +372,7 @@ fn is_other_pat(tag: (&str, usize)) -> bool
         tag,
         &[
             ("missing", 0),
-            ("ctor", 4),
             ("record", 3),
-            ("path", 2),
             ("range", 3),
             ("slice", 4),
             ("ref", 3),
@@ -328,6 +396,10 @@ impl FromData for RawPat {
             bind(alloc, value)
         } else if is(tag, "tuple", 3) {
             tuple_pat(alloc, value)
+        } else if is(tag, "ctor", 4) {
+            ctor_pat(alloc, value)
+        } else if is(tag, "path", 2) {
+            Ok(RawPat::Path(part_of(alloc, value, 1)?))
         } else if is(tag, "lit", 2) {
             Ok(RawPat::Lit(part_of(alloc, value, 1)?))
         } else if is_other_pat(tag) {

@@ -3,13 +3,14 @@ ghost use Rattle.std.specs.Prelude.{◌≡◌, ℕ, List, Bool, Result, Some, No
 ghost use Rattle.serde_json.specs.Data.{Data};
 ghost use Rattle.serde_json.specs.View.{view};
 ghost use Rattle.infer_tool.specs.Reading.{Gives, bool_in, text_in, u32_in};
-ghost use Rattle.infer_tool.specs.Leaves.{module_in, trait_in, type_ref_in, function_id_in, body_id_in, expr_id_in, pat_id_in, binding_id_in, label_in, other_in, int_name, uint_name, integer_name, integer_in, profile_in, edition_in, annotation_in};
+ghost use Rattle.infer_tool.specs.Leaves.{module_in, trait_in, adt_id_in, variant_id_in, type_ref_in, function_id_in, body_id_in, expr_id_in, pat_id_in, binding_id_in, label_in, other_in, int_name, uint_name, integer_name, integer_in, profile_in, edition_in, adt_kind_in, ctor_in, annotation_in};
 
 use super::fault::Misread;
 use super::reader::{FromData, misshapen};
 use hir_facts::{
-    BindingAnnotation, BindingId, BodyId, Edition, ExprId, FunctionId, IntTy, IntegerTy, LabelId,
-    ModuleId, Other, PatId, Text, TraitId, TypeRefId, UintTy,
+    AdtId, BindingAnnotation, BindingId, BodyId, Edition, ExprId, FunctionId, IntTy, IntegerTy,
+    LabelId, ModuleId, Other, PatId, RawAdtKind, RawCtor, Text, TraitId, TypeRefId, UintTy,
+    VariantId,
 };
 use serde_json::Value;
 use std::alloc::Global;
@@ -52,6 +53,22 @@ impl FromData for ModuleId {
 
     fn from_data(alloc: Global, value: &Value) -> Result<ModuleId, Misread> {
         Ok(ModuleId(u32::from_data(alloc, value)?))
+    }
+}
+
+impl FromData for AdtId {
+    ghost reads = { adt_id_in };
+
+    fn from_data(alloc: Global, value: &Value) -> Result<AdtId, Misread> {
+        Ok(AdtId(u32::from_data(alloc, value)?))
+    }
+}
+
+impl FromData for VariantId {
+    ghost reads = { variant_id_in };
+
+    fn from_data(alloc: Global, value: &Value) -> Result<VariantId, Misread> {
+        Ok(VariantId(u32::from_data(alloc, value)?))
     }
 }
 
@@ -228,6 +245,46 @@ impl FromData for Edition {
             Ok(Edition::Edition2021)
         } else if year == 2024 {
             Ok(Edition::Edition2024)
+        } else {
+            Err(misshapen(alloc))
+        }
+    }
+}
+
+#[tactic(auto, unfolding(crate::specs::Leaves::adt_kind_in))]
+impl FromData for RawAdtKind {
+    ghost reads = { adt_kind_in };
+
+    fn from_data(alloc: Global, value: &Value) -> Result<RawAdtKind, Misread> {
+        let Some(word) = value.as_str() else {
+            return Err(misshapen(alloc));
+        };
+        if word == "struct" {
+            Ok(RawAdtKind::Struct)
+        } else if word == "enum" {
+            Ok(RawAdtKind::Enum)
+        } else if word == "union" {
+            Ok(RawAdtKind::Union)
+        } else {
+            Err(misshapen(alloc))
+        }
+    }
+}
+
+#[tactic(auto, unfolding(crate::specs::Leaves::ctor_in))]
+impl FromData for RawCtor {
+    ghost reads = { ctor_in };
+
+    fn from_data(alloc: Global, value: &Value) -> Result<RawCtor, Misread> {
+        let Some(word) = value.as_str() else {
+            return Err(misshapen(alloc));
+        };
+        if word == "unit" {
+            Ok(RawCtor::Unit)
+        } else if word == "tuple" {
+            Ok(RawCtor::Tuple)
+        } else if word == "record" {
+            Ok(RawCtor::Record)
         } else {
             Err(misshapen(alloc))
         }

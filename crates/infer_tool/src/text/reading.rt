@@ -9,7 +9,8 @@ use super::fault::{Misread, ReadError};
 use super::leaves::Profile;
 use super::reader::{FromData, expect_keys, field_of};
 use hir_facts::{
-    Edition, Facts, FactsError, List, ModuleId, Other, RawFacts, RawFn, RawLimits, RawType,
+    Edition, Facts, FactsError, List, ModuleId, Other, RawAdt, RawFacts, RawFn, RawLimits, RawType,
+    RawVariant,
 };
 use serde_json::{Category, Value};
 use std::alloc::Global;
@@ -47,8 +48,8 @@ impl FromData for Settings {
 struct Items {
     types: List<RawType>,
     modules: List<Option<ModuleId>>,
-    adts: List<Other>,
-    variants: List<Other>,
+    adts: List<RawAdt>,
+    variants: List<RawVariant>,
     fns: List<RawFn>,
     consts: List<Other>,
     statics: List<Other>,

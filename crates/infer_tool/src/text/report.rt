@@ -2,7 +2,7 @@
 ghost use Rattle.std.specs.Prelude.{◌≡◌, ◌++◌, List, OnOk, IfOk, string_bytes, count_by, is_some};
 ghost use Rattle.std.specs.Option.{option_copied};
 ghost use Rattle.infer_result.specs.Table.{recorded};
-ghost use Rattle.infer_result.specs.Report.{def_line, expr_line, mode_text, pat_line, binding_line, mismatch_head, type_field, mismatch_line, lines_from, complaint_count, report};
+ghost use Rattle.infer_result.specs.Report.{def_line, expr_line, mode_text, pat_line, binding_line, mismatch_head, pat_mismatch_head, type_field, mismatch_line, pat_mismatch_line, lines_from, complaint_count, report};
 
 use super::types::{push_ty, push_type};
 use hir_facts::{DefWithBodyId, Facts, Ty};
@@ -117,6 +117,13 @@ fn push_head(out: &mut String, at: usize) -> Result<(), AllocError>
     write!(out, "TypeMismatch e{at}")
 }
 
+#[tactic(auto, unfolding(infer_result::specs::Report::pat_mismatch_head))]
+fn push_pat_head(out: &mut String, at: usize) -> Result<(), AllocError>
+    ensures { OnOk result (string_bytes out.new ≡ string_bytes out.old ++ pat_mismatch_head at) }
+{
+    write!(out, "TypeMismatch p{at}")
+}
+
 #[tactic(auto, unfolding(infer_result::specs::Report::type_field))]
 fn push_field(out: &mut String, name: &str, ty: &Ty) -> Result<(), AllocError>
     ensures { OnOk result (string_bytes out.new ≡ string_bytes out.old ++ type_field name.now ty.now) }
@@ -152,6 +159,36 @@ fn push_mismatches(out: &mut String, mismatches: &[Option<TypeMismatch>]) -> Res
     Ok(())
 }
 
+fn push_pat_mismatch(
+    out: &mut String,
+    at: usize,
+    mismatch: &Option<TypeMismatch>,
+) -> Result<(), AllocError>
+    ensures { OnOk result (string_bytes out.new ≡ string_bytes out.old ++ pat_mismatch_line at mismatch.now) }
+{
+    match mismatch {
+        None => Ok(()),
+        Some(mismatch) => {
+            push_pat_head(out, at)?;
+            push_field(out, " expected=", &mismatch.expected)?;
+            push_field(out, " actual=", &mismatch.actual)?;
+            out.push_str("\n")
+        }
+    }
+}
+
+fn push_pat_mismatches(
+    out: &mut String,
+    mismatches: &[Option<TypeMismatch>],
+) -> Result<(), AllocError>
+    ensures { OnOk result (string_bytes out.new ≡ string_bytes out.old ++ lines_from pat_mismatch_line 0 mismatches.now) }
+{
+    for (at, mismatch) in mismatches.iter().enumerate() {
+        push_pat_mismatch(out, at, mismatch)?;
+    }
+    Ok(())
+}
+
 fn count_some<T>(entries: &[Option<T>]) -> usize
     ensures { result ≡ count_by is_some entries.now }
 {
@@ -162,7 +199,7 @@ fn count_some<T>(entries: &[Option<T>]) -> usize
 pub fn count_complaints(table: &InferenceResult) -> usize
     ensures { result ≡ complaint_count table.now }
 {
-    count_some(table.expr_mismatches.as_slice())
+    count_some(table.expr_mismatches.as_slice()) + count_some(table.pat_mismatches.as_slice())
 }
 
 /// The report on the table of a definition's body. No kind that is carried yet is named by the facts.
@@ -184,6 +221,7 @@ pub fn write_report(
     )?;
     push_bindings(&mut out, table.type_of_binding.as_slice())?;
     push_mismatches(&mut out, table.expr_mismatches.as_slice())?;
+    push_pat_mismatches(&mut out, table.pat_mismatches.as_slice())?;
     let count = count_complaints(table);
     writeln!(&mut out, "complaints {count}")?;
     Ok(out)

@@ -20,7 +20,13 @@ const EXPRESSION: &str = "an expression's number";
 
 const MAYBE_EXPRESSION: &str = "an expression's number, or null";
 
-static PLACES: [Wanted; 56] = [
+const PARAM: &str = "\"t\" or [\"c\", TYPE]";
+
+const VIS: &str = "\"pub\" or a module's number";
+
+const MAYBE_BODY: &str = "a body's number, or null";
+
+static PLACES: [Wanted; 80] = [
     Wanted {
         path: b"",
         what: "an object with exactly the 18 keys of docs/FORMAT.md",
@@ -62,11 +68,23 @@ static PLACES: [Wanted; 56] = [
         what: "a type, which is its name or an array of its word and exactly its parts,",
     },
     Wanted {
-        path: b"types.#.#",
-        what: "a list of indexes into `types`",
+        path: b"types.#.1",
+        what: "a list of indexes into `types`, or the number of an adt or a parameter, as the type's kind asks,",
     },
     Wanted {
-        path: b"types.#.#.#",
+        path: b"types.#.1.#",
+        what: INDEX_OF_TYPE,
+    },
+    Wanted {
+        path: b"types.#.2",
+        what: "a list of arguments",
+    },
+    Wanted {
+        path: b"types.#.2.#",
+        what: "[\"t\", TYPE] or [\"c\", CONST]",
+    },
+    Wanted {
+        path: b"types.#.2.#.1",
         what: INDEX_OF_TYPE,
     },
     Wanted {
@@ -82,8 +100,88 @@ static PLACES: [Wanted; 56] = [
         what: ANY_LIST,
     },
     Wanted {
+        path: b"adts.#",
+        what: "an object with exactly the seven keys of an adt",
+    },
+    Wanted {
+        path: b"adts.#.name",
+        what: TEXT,
+    },
+    Wanted {
+        path: b"adts.#.kind",
+        what: "\"struct\", \"enum\" or \"union\"",
+    },
+    Wanted {
+        path: b"adts.#.params",
+        what: ANY_LIST,
+    },
+    Wanted {
+        path: b"adts.#.params.#",
+        what: PARAM,
+    },
+    Wanted {
+        path: b"adts.#.preds",
+        what: ANY_LIST,
+    },
+    Wanted {
+        path: b"adts.#.variants",
+        what: "a list of variants' numbers",
+    },
+    Wanted {
+        path: b"adts.#.variants.#",
+        what: "a variant's number",
+    },
+    Wanted {
+        path: b"adts.#.repr",
+        what: "the name of an integer type, or null",
+    },
+    Wanted {
+        path: b"adts.#.unsize",
+        what: "a parameter's number, or null",
+    },
+    Wanted {
         path: b"variants",
         what: ANY_LIST,
+    },
+    Wanted {
+        path: b"variants.#",
+        what: "an object with exactly the five keys of a variant",
+    },
+    Wanted {
+        path: b"variants.#.adt",
+        what: "an adt's number",
+    },
+    Wanted {
+        path: b"variants.#.name",
+        what: TEXT,
+    },
+    Wanted {
+        path: b"variants.#.ctor",
+        what: "\"unit\", \"tuple\" or \"record\"",
+    },
+    Wanted {
+        path: b"variants.#.fields",
+        what: ANY_LIST,
+    },
+    Wanted {
+        path: b"variants.#.fields.#",
+        what: "an object with exactly the three keys of a field",
+    },
+    Wanted {
+        path: b"variants.#.fields.#.name",
+        what: TEXT,
+    },
+    Wanted {
+        path: b"variants.#.fields.#.type",
+        what: INDEX_OF_TYPE,
+    },
+    Wanted {
+        path: b"variants.#.fields.#.vis",
+        what: VIS,
+    },
+    Wanted {
+        path: b"variants.#.body",
+        what: MAYBE_BODY,
     },
     Wanted {
         path: b"consts",
@@ -134,6 +232,10 @@ static PLACES: [Wanted; 56] = [
         what: ANY_LIST,
     },
     Wanted {
+        path: b"fns.#.params.#",
+        what: PARAM,
+    },
+    Wanted {
         path: b"fns.#.preds",
         what: ANY_LIST,
     },
@@ -159,11 +261,11 @@ static PLACES: [Wanted; 56] = [
     },
     Wanted {
         path: b"fns.#.vis",
-        what: "\"pub\" or a module's number",
+        what: VIS,
     },
     Wanted {
         path: b"fns.#.body",
-        what: "a body's number, or null",
+        what: MAYBE_BODY,
     },
     Wanted {
         path: b"bodies",

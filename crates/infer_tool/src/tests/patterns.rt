@@ -1,0 +1,109 @@
+//! Tuple and literal patterns, and what comes into them.
+use super::{PLAIN, check};
+use std::process::Abort;
+use std::test::Fail;
+
+const FRONT: &str =
+    r#"{"profile":1,"edition":2021,"never_fallback":false,"new_range":false,"limits":[8,1000,8,10],"types":["u8","bool","char",["tuple",[]],["tuple",[0,1]],["tuple",[0,0]]],"modules":[null],"adts":[],"variants":[],"fns":[{"name":"f","at":["module",0],"params":[],"preds":[],"has_self":false,"inputs":[],"output":"#;
+
+const MIDDLE: &str =
+    r#","safe":true,"vis":"pub","body":0}],"consts":[],"statics":[],"traits":[],"aliases":[],"impls":[],"opaques":[],"lang":{},"bodies":[{"module":0,"traits":[],"self":null,"params":[],"root":"#;
+
+const BACK: &str = r#","labels":0}]}"#;
+
+/// Runs on a function with this body and output: 0 `u8`, 1 `bool`, 3 `()`.
+fn reported(
+    rt: &(impl Abort + AllocGlobal),
+    output: u32,
+    body: &str,
+    status: u8,
+    written: &str,
+) -> Result<(), Fail> {
+    let text = format!(in rt.alloc(); "{FRONT}{output}{MIDDLE}{body}{BACK}")?;
+    check(rt, &PLAIN, text.as_str(), status, written, "")
+}
+
+/// `let t = (1, 2); match t { (a, 7) => a, _ => 0 }`
+const DESTRUCTURED: &str =
+    r#"8,"exprs":[["lit",["int","1",null]],["lit",["int","2",null]],["tuple",[0,1]],["path",["local",0,null]],["lit",["int","7",null]],["path",["local",1,null]],["lit",["int","0",null]],["match",3,[[3,null,5],[4,null,6]]],["block",null,[["let",0,null,2,null]],7]],"pats":[["bind",0,null],["bind",1,null],["lit",4],["tuple",[1,2],null],"wild"],"bindings":[["t","plain"],["a","plain"]]"#;
+
+/// `let (a, (b, _)) = (1, (true, 2u8)); a`
+const NESTED: &str =
+    r#"6,"exprs":[["lit",["int","1",null]],["lit",["bool",true]],["lit",["int","2","u8"]],["tuple",[1,2]],["tuple",[0,3]],["path",["local",0,null]],["block",null,[["let",4,null,4,null]],5]],"pats":[["bind",0,null],["bind",1,null],"wild",["tuple",[1,2],null],["tuple",[0,3],null]],"bindings":[["a","plain"],["b","plain"]]"#;
+
+/// `let (a, b): (u8, bool) = (1, true); a`
+const WRITTEN: &str =
+    r#"4,"exprs":[["lit",["int","1",null]],["lit",["bool",true]],["tuple",[0,1]],["path",["local",0,null]],["block",null,[["let",2,4,2,null]],3]],"pats":[["bind",0,null],["bind",1,null],["tuple",[0,1],null]],"bindings":[["a","plain"],["b","plain"]]"#;
+
+/// `let (a, b); let c: u8 = a; b`
+const NO_INITIALIZER: &str =
+    r#"2,"exprs":[["path",["local",0,null]],["path",["local",1,null]],["block",null,[["let",2,null,null,null],["let",3,0,0,null]],1]],"pats":[["bind",0,null],["bind",1,null],["tuple",[0,1],null],["bind",2,null]],"bindings":[["a","plain"],["b","plain"],["c","plain"]]"#;
+
+#[test]
+fn takes_tuples_apart(rt: HostRuntime) -> Result<(), Fail> {
+    let rt = &rt;
+    let destructured =
+        "fn 0\ne0 u8\ne1 i32\ne2 (u8, i32)\ne3 (u8, i32)\ne4 i32\ne5 u8\ne6 u8\ne7 u8\ne8 u8\np0 (u8, i32) move\np1 u8 move\np2 i32\np3 (u8, i32)\np4 (u8, i32)\nb0 (u8, i32)\nb1 u8\ncomplaints 0\n";
+    reported(rt, 0, DESTRUCTURED, 0, destructured)?;
+    let nested =
+        "fn 0\ne0 u8\ne1 bool\ne2 u8\ne3 (bool, u8)\ne4 (u8, (bool, u8))\ne5 u8\ne6 u8\np0 u8 move\np1 bool move\np2 u8\np3 (bool, u8)\np4 (u8, (bool, u8))\nb0 u8\nb1 bool\ncomplaints 0\n";
+    reported(rt, 0, NESTED, 0, nested)?;
+    let written =
+        "fn 0\ne0 u8\ne1 bool\ne2 (u8, bool)\ne3 u8\ne4 u8\np0 u8 move\np1 bool move\np2 (u8, bool)\nb0 u8\nb1 bool\ncomplaints 0\n";
+    reported(rt, 0, WRITTEN, 0, written)?;
+    let no_initializer =
+        "fn 0\ne0 u8\ne1 bool\ne2 bool\np0 u8 move\np1 bool move\np2 (u8, bool)\np3 u8 move\nb0 u8\nb1 bool\nb2 u8\ncomplaints 0\n";
+    reported(rt, 1, NO_INITIALIZER, 0, no_initializer)
+}
+
+/// `match true { (a, b) => a, _ => 1 }`
+const SCRUTINEE: &str =
+    r#"4,"exprs":[["lit",["bool",true]],["path",["local",0,null]],["lit",["int","1",null]],["match",0,[[2,null,1],[3,null,2]]],["block",null,[],3]],"pats":[["bind",0,null],["bind",1,null],["tuple",[0,1],null],"wild"],"bindings":[["a","plain"],["b","plain"]]"#;
+
+/// `let (a,): (u8, bool) = (1, true); a`
+const TOO_FEW: &str =
+    r#"4,"exprs":[["lit",["int","1",null]],["lit",["bool",true]],["tuple",[0,1]],["path",["local",0,null]],["block",null,[["let",1,4,2,null]],3]],"pats":[["bind",0,null],["tuple",[0],null]],"bindings":[["a","plain"]]"#;
+
+/// `let (a, b, c) = (1u8, true);`
+const TOO_MANY: &str =
+    r#"3,"exprs":[["lit",["int","1","u8"]],["lit",["bool",true]],["tuple",[0,1]],["block",null,[["let",3,null,2,null]],null]],"pats":[["bind",0,null],["bind",1,null],["bind",2,null],["tuple",[0,1,2],null]],"bindings":[["a","plain"],["b","plain"],["c","plain"]]"#;
+
+/// `let (a, b) = 1u8;`
+const NO_TUPLE: &str =
+    r#"1,"exprs":[["lit",["int","1","u8"]],["block",null,[["let",2,null,0,null]],null]],"pats":[["bind",0,null],["bind",1,null],["tuple",[0,1],null]],"bindings":[["a","plain"],["b","plain"]]"#;
+
+#[test]
+fn tells_a_wrong_tuple(rt: HostRuntime) -> Result<(), Fail> {
+    let rt = &rt;
+    let scrutinee =
+        "fn 0\ne0 bool\ne1 u8\ne2 u8\ne3 u8\ne4 u8\np0 u8 move\np1 {unknown} move\np2 (u8, {unknown})\np3 bool\nb0 u8\nb1 {unknown}\nTypeMismatch p2 expected=bool actual=(u8, {unknown})\ncomplaints 1\n";
+    reported(rt, 0, SCRUTINEE, 1, scrutinee)?;
+    let too_few =
+        "fn 0\ne0 u8\ne1 bool\ne2 (u8, bool)\ne3 u8\ne4 u8\np0 u8 move\np1 (u8,)\nb0 u8\nTypeMismatch p1 expected=(u8, bool) actual=(u8,)\ncomplaints 1\n";
+    reported(rt, 0, TOO_FEW, 1, too_few)?;
+    let too_many =
+        "fn 0\ne0 u8\ne1 bool\ne2 (u8, bool)\ne3 ()\np0 u8 move\np1 bool move\np2 {unknown} move\np3 (u8, bool, {unknown})\nb0 u8\nb1 bool\nb2 {unknown}\nTypeMismatch p3 expected=(u8, bool) actual=(u8, bool, {unknown})\ncomplaints 1\n";
+    reported(rt, 3, TOO_MANY, 1, too_many)?;
+    let no_tuple =
+        "fn 0\ne0 u8\ne1 ()\np0 {unknown} move\np1 {unknown} move\np2 ({unknown}, {unknown})\nb0 {unknown}\nb1 {unknown}\nTypeMismatch p2 expected=u8 actual=({unknown}, {unknown})\ncomplaints 1\n";
+    reported(rt, 3, NO_TUPLE, 1, no_tuple)
+}
+
+/// `match 'x' { 'a' => 2, _ => 3 }`
+const CHARACTER: &str =
+    r#"5,"exprs":[["lit",["char",120]],["lit",["char",97]],["lit",["int","2",null]],["lit",["int","3",null]],["match",0,[[0,null,2],[1,null,3]]],["block",null,[],4]],"pats":[["lit",1],"wild"],"bindings":[]"#;
+
+/// `match true { 1 => 2, _ => 3 }`
+const LITERAL: &str =
+    r#"5,"exprs":[["lit",["bool",true]],["lit",["int","1",null]],["lit",["int","2",null]],["lit",["int","3",null]],["match",0,[[0,null,2],[1,null,3]]],["block",null,[],4]],"pats":[["lit",1],"wild"],"bindings":[]"#;
+
+#[test]
+fn compares_literals(rt: HostRuntime) -> Result<(), Fail> {
+    let rt = &rt;
+    let character =
+        "fn 0\ne0 char\ne1 char\ne2 u8\ne3 u8\ne4 u8\ne5 u8\np0 char\np1 char\ncomplaints 0\n";
+    reported(rt, 0, CHARACTER, 0, character)?;
+    let literal =
+        "fn 0\ne0 bool\ne1 i32\ne2 u8\ne3 u8\ne4 u8\ne5 u8\np0 i32\np1 bool\nTypeMismatch e1 expected=bool actual=i32\ncomplaints 1\n";
+    reported(rt, 0, LITERAL, 1, literal)
+}
