@@ -1,10 +1,11 @@
 #!/usr/bin/env python3
 """Time and peak memory of `table fn 0` over a function of N statements, at N, 2N and 4N.
 
-The statements are `let v = w;` (copies: each local has the type of the one before), or in turn `let v = 1;` and
-`let w: u8 = v;` (integers: each second statement says what an integer of the first is).
+The statements are `let v = w;` (copies: each local has the type of the one before); in turn `let v = 1;` and
+`let w: u8 = v;` (integers: each second statement says what an integer of the first is); or in turn `let v = 1;`,
+`let v = if true { w } else { w };` and `let v = match (w, true) { (a, true) => a, (a, _) => a };` (branches).
 Beside each, where rustc is found, the time of its pass `type_check_crate` over the same function.
-Usage: bench/lets.py [copies|integers] [N]       (copies and 40000 where not given; 4N must fit into 2^24 bytes)
+Usage: bench/lets.py [copies|integers|branches] [N]       (copies and 40000 where not given; 4N must fit into 2^24 bytes)
 Build the program first: cd crates/infer_tool && rt run -- table fn 0 < ../../examples/first_run.json
 """
 import json
@@ -19,33 +20,91 @@ TOP = os.path.dirname(os.path.dirname(os.path.abspath(__file__)))
 PROGRAM = os.path.join(TOP, "crates", "infer_tool", "out", "infer_tool")
 
 
-def copies(count):
-    """The expressions, the written types and the source of `let v0 = 1u8; let v1 = v0; ..`."""
-    exprs = [["lit", ["int", "1", "u8"]]]
-    exprs += [["path", ["local", k - 1, None]] for k in range(1, count)]
-    source = ["let v0 = 1u8;\n"] + ["let v%d = v%d;\n" % (k, k - 1) for k in range(1, count)]
-    return exprs, [None] * count, source
+class Function:
+    """A function's nodes as facts, and its source."""
+
+    def __init__(self):
+        self.exprs, self.pats, self.bindings, self.statements, self.source = [], [], [], [], []
+
+    def expr(self, fact):
+        self.exprs.append(fact)
+        return len(self.exprs) - 1
+
+    def local(self, binding):
+        return self.expr(["path", ["local", binding, None]])
+
+    def pat(self, fact):
+        self.pats.append(fact)
+        return len(self.pats) - 1
+
+    def bind(self, name):
+        self.bindings.append([name, "plain"])
+        return self.pat(["bind", len(self.bindings) - 1, None])
+
+    def let(self, name, value, written, source):
+        """`let name = value;`, and the binding."""
+        self.statements.append(["let", self.bind(name), written, value, None])
+        self.source.append(source)
+        return len(self.bindings) - 1
 
 
-def integers(count):
-    """The expressions, the written types and the source of `let v0 = 1; let v1: u8 = v0; ..`."""
-    exprs = [["path", ["local", k - 1, None]] if k % 2 else ["lit", ["int", "1", None]] for k in range(count)]
-    source = ["let v%d: u8 = v%d;\n" % (k, k - 1) if k % 2 else "let v%d = 1;\n" % k for k in range(count)]
-    return exprs, [1 if k % 2 else None for k in range(count)], source
+def copies(function, count):
+    """`let v0 = 1u8; let v1 = v0; ..`"""
+    last = function.let("v0", function.expr(["lit", ["int", "1", "u8"]]), None, "let v0 = 1u8;\n")
+    for k in range(1, count):
+        last = function.let("v%d" % k, function.local(last), None, "let v%d = v%d;\n" % (k, k - 1))
 
 
-SHAPES = {"copies": copies, "integers": integers}
+def integers(function, count):
+    """`let v0 = 1; let v1: u8 = v0; ..`"""
+    last = None
+    for k in range(count):
+        if k % 2:
+            last = function.let("v%d" % k, function.local(last), 1, "let v%d: u8 = v%d;\n" % (k, k - 1))
+        else:
+            last = function.let("v%d" % k, function.expr(["lit", ["int", "1", None]]), None, "let v%d = 1;\n" % k)
+
+
+def branches(function, count):
+    """`let v0 = 1; let v1 = if true { v0 } else { v0 }; let v2 = match (v1, true) { .. }; ..`"""
+    last = None
+    for k in range(count):
+        name = "v%d" % k
+        if k % 3 == 0:
+            last = function.let(name, function.expr(["lit", ["int", "1", None]]), None, "let %s = 1;\n" % name)
+        elif k % 3 == 1:
+            condition = function.expr(["lit", ["bool", True]])
+            blocks = [function.expr(["block", None, [], function.local(last)]) for _ in range(2)]
+            last = function.let(name, function.expr(["if", condition, *blocks]), None,
+                                "let %s = if true { v%d } else { v%d };\n" % (name, k - 1, k - 1))
+        else:
+            parts = [function.local(last), function.expr(["lit", ["bool", True]])]
+            scrutinee, arms = function.expr(["tuple", parts]), []
+            for literal in (True, False):
+                pats = [function.bind("a")]
+                taken = len(function.bindings) - 1
+                pats.append(function.pat(["lit", function.expr(["lit", ["bool", True]])] if literal else "wild"))
+                arms.append([function.pat(["tuple", pats, None]), None, function.local(taken)])
+            last = function.let(name, function.expr(["match", scrutinee, arms]), None,
+                                "let %s = match (v%d, true) { (a, true) => a, (a, _) => a };\n" % (name, k - 1))
+
+
+SHAPES = {"copies": copies, "integers": integers, "branches": branches}
+
+
+def made(shape, count):
+    function = Function()
+    SHAPES[shape](function, count)
+    return function
 
 
 def facts(shape, count):
     """The facts of a function of these statements, as one text."""
-    exprs, written, _ = SHAPES[shape](count)
-    root = len(exprs)
-    exprs.append(["block", None, [["let", k, written[k], k, None] for k in range(count)], None])
+    made_of = made(shape, count)
+    root = made_of.expr(["block", None, made_of.statements, None])
     body = {
-        "module": 0, "traits": [], "self": None, "params": [], "root": root, "exprs": exprs,
-        "pats": [["bind", k, None] for k in range(count)],
-        "bindings": [["v%d" % k, "plain"] for k in range(count)], "labels": 0,
+        "module": 0, "traits": [], "self": None, "params": [], "root": root, "exprs": made_of.exprs,
+        "pats": made_of.pats, "bindings": made_of.bindings, "labels": 0,
     }
     function = {
         "name": "f", "at": ["module", 0], "params": [], "preds": [], "has_self": False,
@@ -93,7 +152,7 @@ def rustc_seconds(shape, count):
     with tempfile.TemporaryDirectory() as folder:
         source = os.path.join(folder, "lets.rs")
         with open(source, "w") as out:
-            out.write("#![allow(unused)]\npub fn f() {\n%s}\n" % "".join(SHAPES[shape](count)[2]))
+            out.write("#![allow(unused)]\npub fn f() {\n%s}\n" % "".join(made(shape, count).source))
         done = subprocess.run(
             [rustc, "--crate-type=lib", "--emit=metadata", "-Ztime-passes", "-o",
              os.path.join(folder, "lets.rmeta"), source],

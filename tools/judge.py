@@ -22,12 +22,18 @@ PROGRAM = os.path.join(TOP, "crates", "infer_tool", "out", "infer_tool")
 WORDS = ["u8", "i32", "i64", "bool", "char"]
 
 # Types are a word or a tuple of types. Expressions are ("int", digits, suffix), ("bool", b), ("char", c), ("local",
-# name), ("tuple", parts) and ("block", statements, tail); statements ("let", name, type, initializer), where the name
-# may be `_`, and ("expr", e, semicolon). A body is its parameters by name, its output, statements and tail.
+# name), ("tuple", parts), ("if", condition, block, block or None), ("match", scrutinee, arms), where an arm is a
+# pattern, a guard or None and an expression, and ("block", statements, tail); statements ("let", pattern, type,
+# initializer) and ("expr", e, semicolon). Patterns are a name, `_`, ("tuple", patterns) and a literal. A body is its
+# parameters by name, its output, statements and tail.
 
 
 def int_(digits, suffix=None):
     return ("int", digits, suffix)
+
+
+def block(tail):
+    return ("block", [], tail)
 
 
 BY_HAND = [({},) + body for body in [
@@ -43,6 +49,17 @@ BY_HAND = [({},) + body for body in [
     ("u8", [("let", "x", "u8", int_(1))], None),
     ((), [("let", "x", None, ("tuple", [int_(1), int_(2)])), ("let", "y", ("u8", "i64"), ("local", "x"))], None),
     ("i64", [("let", "_", None, ("block", [("let", "x", None, int_(1))], ("local", "x")))], int_(3, "i64")),
+    ("u8", [("let", "t", None, ("tuple", [int_(1), int_(2)]))],
+     ("match", ("local", "t"), [(("tuple", ["a", int_(7)]), None, ("local", "a")), ("_", None, int_(0))])),
+    ("u8", [("let", "x", None, ("if", ("bool", True), block(int_(1)), None))], int_(2)),
+    ((), [("expr", ("match", ("bool", True), [(("bool", True), None, ("bool", True)), ("_", None, int_(0))]), True)], None),
+    ("u8", [], ("if", int_(1), block(int_(2)), block(("bool", True)))),
+    ((), [("let", ("tuple", ["a", "b"]), None, int_(1))], None),
+    ((), [("let", ("tuple", ["a", "b"]), None, ("tuple", [int_(1), int_(2), int_(3)]))], None),
+    ("u8", [("let", ("tuple", ["a", "b"]), None, None), ("let", "c", "u8", ("local", "a"))], ("local", "b")),
+    ("i64", [("let", "a", None, None), ("let", "x", None, ("if", ("bool", True), block(("local", "a")), block(int_(1))))],
+     ("local", "x")),
+    ((), [("let", "x", None, ("match", int_(1), [(int_(1), ("bool", True), ("char", "a")), ("y", int_(2), ("local", "y"))]))], None),
 ]]
 
 
@@ -60,13 +77,49 @@ def random_expr(rng, names, wanted, depth):
         return ("local", rng.choice(names))
     if depth > 0 and rng.random() < 0.2:
         return random_block(rng, names, wanted, depth - 1)
+    if depth > 0 and rng.random() < 0.15:
+        other = random_block(rng, names, wanted, depth - 1) if rng.random() < 0.85 else None
+        return ("if", random_expr(rng, names, "bool", depth - 1), random_block(rng, names, wanted, depth - 1), other)
+    if depth > 0 and rng.random() < 0.15:
+        return random_match(rng, names, wanted, depth - 1)
     if isinstance(wanted, tuple):
         return ("tuple", [random_expr(rng, names, part, depth - 1) for part in wanted]) if depth > 0 else ("tuple", [])
-    if wanted == "bool":
+    return random_literal(rng, wanted)
+
+
+def random_match(rng, names, wanted, depth):
+    """A `match`, whose last arm takes whatever is left."""
+    of, arms = random_type(rng, 2), []
+    for at in range(rng.randrange(1, 4)):
+        bound = []
+        pattern = random_pattern(rng, of, len(names), bound, True) if at else rng.choice(["_", "v%d" % len(names)])
+        if pattern == "v%d" % len(names) and not at:
+            bound = [pattern]
+        guard = random_expr(rng, names + bound, "bool", 0) if at and rng.random() < 0.2 else None
+        arms.insert(0, (pattern, guard, random_expr(rng, names + bound, wanted, depth)))
+    return ("match", random_expr(rng, names, of, depth), arms)
+
+
+def random_pattern(rng, ty, first, bound, refutable):
+    """A pattern, mostly of this type. What it binds is added to `bound`; names are numbered from `first` on."""
+    if rng.random() < 0.1:
+        ty = random_type(rng, 1)
+    if isinstance(ty, tuple) and rng.random() < 0.7:
+        return ("tuple", [random_pattern(rng, part, first, bound, refutable) for part in ty])
+    if refutable and not isinstance(ty, tuple) and rng.random() < 0.4:
+        return random_literal(rng, ty)
+    if rng.random() < 0.3:
+        return "_"
+    bound.append("v%d" % (first + len(bound)))
+    return bound[-1]
+
+
+def random_literal(rng, ty):
+    if ty == "bool":
         return ("bool", rng.random() < 0.5)
-    if wanted == "char":
+    if ty == "char":
         return ("char", rng.choice("abc"))
-    return int_(rng.randrange(100), wanted if rng.random() < 0.2 else None)
+    return int_(rng.randrange(100), ty if rng.random() < 0.2 else None)
 
 
 def random_block(rng, names, wanted, depth):
@@ -75,14 +128,20 @@ def random_block(rng, names, wanted, depth):
         if rng.random() < 0.75:
             written = random_type(rng, 2) if rng.random() < 0.4 else None
             init = random_expr(rng, names, written, depth) if rng.random() < 0.9 else None
-            name = "_" if rng.random() < 0.1 else "v%d" % len(names)
-            statements.append(("let", name, written, init))
-            if name != "_":
-                names.append(name)
+            bound = []
+            pattern = random_pattern(rng, written or "u8", len(names), bound, False)
+            statements.append(("let", pattern, written, init))
+            names += bound
         elif rng.random() < 0.8:
             statements.append(("expr", random_expr(rng, names, None, depth), True))
         else:
-            statements.append(("expr", random_block(rng, names, (), max(depth - 1, 0)), False))
+            inner = random_block(rng, names, (), max(depth - 1, 0))
+            kind = rng.randrange(3)
+            if kind == 1:
+                inner = ("if", ("bool", True), inner, None)
+            elif kind == 2:
+                inner = random_match(rng, names, (), max(depth - 1, 0))
+            statements.append(("expr", inner, False))
     tail = random_expr(rng, names, wanted, depth) if wanted != () or rng.random() < 0.3 else None
     if tail is None and statements and statements[-1][0] == "expr" and not statements[-1][2]:
         tail = statements.pop()[1]  # Rust takes it for the tail
@@ -109,13 +168,35 @@ class Writer:
         return self.types.index(entry)
 
     def param(self, name, ty):
-        begun, binding = len(self.text), len(self.bindings)
-        self.text += name
-        self.pats.append(["bind", binding, None])
-        self.place("p%d" % (len(self.pats) - 1), begun)
-        self.bindings.append([name, "plain"])
+        binding = len(self.bindings)
+        self.pattern(name, {})
         self.text += ": %s, " % type_text(ty)
         return binding
+
+    def pattern(self, pattern, scope):
+        """Writes a pattern, whose bindings come into scope."""
+        begun = len(self.text)
+        if pattern == "_":
+            self.text += "_"
+            fact = "wild"
+        elif isinstance(pattern, str):
+            self.text += pattern
+            fact = ["bind", len(self.bindings), None]
+            scope[pattern] = len(self.bindings)
+            self.bindings.append([pattern, "plain"])
+        elif pattern[0] == "tuple":
+            self.text += "("
+            ids = []
+            for part in pattern[1]:
+                ids.append(self.pattern(part, scope))
+                self.text += ", "
+            self.text += ")"
+            fact = ["tuple", ids, None]
+        else:
+            fact = ["lit", self.expr(pattern, scope)]
+        self.pats.append(fact)
+        self.place("p%d" % (len(self.pats) - 1), begun)
+        return len(self.pats) - 1
 
     def place(self, node, begun):
         self.places[node] = (begun + 1, len(self.text) + 1)
@@ -164,15 +245,37 @@ class Writer:
         self.text += "}"
         return ["block", None, facts, last]
 
-    def statement_let(self, scope, name, written, init):
+    def if_(self, scope, condition, first, other):
+        self.text += "if "
+        ids = [self.expr(condition, scope)]
+        self.text += " "
+        ids.append(self.expr(first, scope))
+        if other is not None:
+            self.text += " else "
+            return ["if", *ids, self.expr(other, scope)]
+        return ["if", *ids, None]
+
+    def match_(self, scope, scrutinee, arms):
+        self.text += "match "
+        value, facts = self.expr(scrutinee, scope), []
+        self.text += " { "
+        for pattern, guard, e in arms:
+            inner = dict(scope)
+            fact = [self.pattern(pattern, inner), None, None]
+            if guard is not None:
+                self.text += " if "
+                fact[1] = self.expr(guard, inner)
+            self.text += " => "
+            fact[2] = self.expr(e, inner)
+            self.text += ", "
+            facts.append(fact)
+        self.text += "}"
+        return ["match", value, facts]
+
+    def statement_let(self, scope, pattern, written, init):
         self.text += "let "
-        begun = len(self.text)
-        self.text += name
-        pat, binding = len(self.pats), len(self.bindings)
-        self.pats.append("wild" if name == "_" else ["bind", binding, None])
-        if name != "_":
-            self.bindings.append([name, "plain"])
-        self.place("p%d" % pat, begun)
+        bound = {}
+        pat = self.pattern(pattern, bound)
         if written is not None:
             self.text += ": " + type_text(written)
         value = None
@@ -180,8 +283,7 @@ class Writer:
             self.text += " = "
             value = self.expr(init, scope)
         self.text += "; "
-        if name != "_":
-            scope[name] = binding
+        scope.update(bound)
         return ["let", pat, None if written is None else self.type_id(written), value, None]
 
     def statement_expr(self, scope, e, semicolon):
@@ -284,7 +386,7 @@ def main():
     for number, line in enumerate(lines):
         ours, complaints = report_of(text, number)
         codes = errors.get(number, set())
-        if "E0308" in codes:
+        if codes & {"E0308", "E0317"}:
             kind, fits = "refused by both", complaints > 0
         elif "E0282" in codes:
             kind, fits = "a type is wanted", complaints == 0 and any("{unknown}" in ty for ty in ours.values())
