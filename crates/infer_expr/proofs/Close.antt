@@ -23,6 +23,7 @@ entered_within g s e x c h = record {
   state = record {
     of_body = h.state.of_body;
     carried = h.state.carried;
+    modes = h.state.modes;
     free_exprs = λ n i k. h.state.free_exprs n i (omega arith);
     free_pats = λ p i k. h.state.free_pats p i (omega arith);
     free_modes = λ p i k. h.state.free_modes p i (omega arith);
@@ -98,6 +99,7 @@ module _ (g : Given) (s : Schedule) (e : ExprId) (x : Option Ty) (t : Ty) (old l
       pat_mismatches = k.walks.state.of_body.pat_mismatches;
     };
     carried = carried;
+    modes = k.walks.state.modes;
     free_exprs = λ n i lo.
         other_type n (omega (arith, k.walks.clock, h.here)) ∙ k.walks.state.free_exprs n i lo;
     free_pats = k.walks.state.free_pats;

@@ -46,6 +46,7 @@ noted_walked b s c e m x y h = record {
     pat_expected = h.carried.pat_expected;
     pat_actual = h.carried.pat_actual;
   };
+  modes = h.modes;
   free_exprs = h.free_exprs;
   free_pats = h.free_pats;
   free_modes = h.free_modes;

@@ -7,6 +7,8 @@ use Rattle.hir_types.specs.declared.ids.ExprId.{ExprId}
 use Rattle.hir_types.specs.declared.ids.PatId.{PatId}
 use Rattle.hir_types.specs.declared.ids.BindingId.{BindingId}
 use Rattle.hir_types.specs.declared.ty.Ty.{Ty}
+use Rattle.hir_facts.specs.declared.raw.RawPat.{RawPat}
+use Rattle.hir_facts.specs.declared.raw.RawPat.TheVariants as pat
 use Rattle.hir_facts.specs.declared.raw.RawBody.{RawBody}
 use Rattle.hir_facts.specs.declared.schedule.Schedule.{Schedule}
 use Rattle.hir_facts.specs.CarriedTypes.{IsCarriedType}
@@ -15,7 +17,7 @@ use Rattle.infer_result.specs.declared.modes.BindingMode.{BindingMode}
 use Rattle.infer_result.specs.declared.modes.BindingMode.TheVariants as mode
 use Rattle.infer_result.specs.declared.result.TypeMismatch.{TypeMismatch}
 use Rattle.infer_result.specs.Table.{At, PatTy, BindingTy, HasMode, HasPatMismatch}
-use Rattle.infer_result.specs.Closed.{IsOfBody}
+use Rattle.infer_result.specs.Closed.{IsOfBody, IsBinder, OnlyBindersHaveModes}
 use Rattle.infer_result.specs.Places.{Given, Demand}
 use Rattle.infer_result.specs.Rules.Expressions.{ObeysOrMismatch}
 use Rattle.infer_result.specs.Rules.Patterns.{PatRule}
@@ -24,14 +26,26 @@ use Rattle.infer_result.specs.Made.{IsMisfit}
 use Rattle.infer_expr.specs.Found.{Found, noted, entered}
 use Rattle.infer_expr.specs.Walks.{Walks, IsWalked, IsFree, IsCarriedTable, Extends, Nothing, expr_start, pat_start}
 use Rattle.infer_expr.specs.Under.{IsReady, BeforePat}
-use Rattle.infer_expr.proofs.Lists.{lt_or_ge, same_or_not, slice_get-set_same, slice_get-set_other, At-set, At-set_cases, own_set, length-own_set, own_set-at, own_set-other, noted-keeps, noted-cases, noted-some, length-noted}
+use Rattle.infer_expr.proofs.Lists.{lt_or_ge, same_or_not, slice_get-set_same, slice_get-set_other, At-set, At-set_cases, own_set, length-own_set, own_set-at, own_set-other, own_set-cases, noted-keeps, noted-cases, noted-some, length-noted}
 use Rattle.infer_expr.proofs.Parts.{pat_id, binding_id, one_pat, expr_is_no_pat, binds_within}
 use Rattle.infer_expr.proofs.Keeps.{extends_refl, extends_trans, obeys_kept, pat_kept, pat_truth_kept, misfit_kept, demand_kept}
+
+-- what binds a name is a binding pattern
+binder_by : (b : RawBody) (p : PatId) (v : BindingId) (x : Option RawPat) → slice_get b.pats p.0 ≡ x → option_and_then binding_of x ≡ Some v → IsBinder b p
+binder_by b p v None is k = absurd (cc)
+binder_by b p v (Some pat.Wild) is k = absurd (cc)
+binder_by b p v (Some (pat.Bind w sub)) is k = (w, sub, is)
+binder_by b p v (Some (pat.Tuple ps)) is k = absurd (cc)
+binder_by b p v (Some (pat.TupleStruct named ps)) is k = absurd (cc)
+binder_by b p v (Some (pat.Path named)) is k = absurd (cc)
+binder_by b p v (Some (pat.Lit e)) is k = absurd (cc)
+binder_by b p v (Some pat.Other) is k = absurd (cc)
 
 -- The state of the walk at the clock n, but that what p binds may have no type yet.
 pub record IsOpen (b : RawBody) (s : Schedule) (p : PatId) (n : ℕ) (c : Found) : Type 0 where
   pub of_body : IsOfBody b c.result
   pub carried : IsCarriedTable c.result
+  pub modes : OnlyBindersHaveModes b c.result
   pub free_exprs : (e : ExprId) → e.0 < length b.exprs → n ≤ expr_start b s e → IsFree c.result.type_of_expr e.0
   pub free_pats : (q : PatId) → q.0 < length b.pats → n ≤ pat_start b s q → IsFree c.result.type_of_pat q.0
   pub free_modes : (q : PatId) → q.0 < length b.pats → n ≤ pat_start b s q → IsFree c.result.binding_modes q.0
@@ -42,6 +56,7 @@ pub open_walked : (b : RawBody) (s : Schedule) (p : PatId) (c : Found) → IsWal
 open_walked b s p c h = record {
   of_body = h.of_body;
   carried = h.carried;
+  modes = h.modes;
   free_exprs = h.free_exprs;
   free_pats = h.free_pats;
   free_modes = h.free_modes;
@@ -76,6 +91,7 @@ module _ (g : Given) (s : Schedule) (p : PatId) (x : Option Ty) (old : Found) (h
     state = record {
       of_body = h.state.of_body;
       carried = h.state.carried;
+      modes = h.state.modes;
       free_exprs = λ e i lo. h.state.free_exprs e i (omega arith);
       free_pats = λ q i lo. h.state.free_pats q i (omega arith);
       free_modes = λ q i lo. h.state.free_modes q i (omega arith);
@@ -97,6 +113,7 @@ module _ (g : Given) (s : Schedule) (p : PatId) (x : Option Ty) (old : Found) (h
   pat_entered none = record {
     of_body = enters_now.state.of_body;
     carried = enters_now.state.carried;
+    modes = enters_now.state.modes;
     free_exprs = enters_now.state.free_exprs;
     free_pats = enters_now.state.free_pats;
     free_modes = enters_now.state.free_modes;
@@ -345,11 +362,24 @@ module _ (g : Given) (s : Schedule) (p : PatId) (t : Ty) (old new : Found) (o : 
         | inr other ↦ (let k = h.state.bound q v i other (omega (arith, w.clock)) in (k.0, extends.bindings v k.0 k.1))
       ]
 
+  new_modes : OnlyBindersHaveModes g.body new.result
+  new_modes q m i =
+      let long_modes : p.0 < length old.result.binding_modes = rw h.state.of_body.modes h.within in
+      elim (own_set-cases old.result.binding_modes p.0 q.0 (mode_of o) m long_modes (rw w.modes at i)) [
+        | inl z ↦ h.state.modes q m z
+        | inr z ↦ subst (λ a. IsBinder g.body a) (sym (pat_id q p z.0)) (own_binder o refl z.1)
+      ]
+    where
+      own_binder : (z : Option BindingId) → o ≡ z → mode_of z ≡ Some m → IsBinder g.body p
+      own_binder None is k = absurd (cc)
+      own_binder (Some v) is k = binder_by g.body p v (slice_get g.body.pats p.0) refl (h.binds ∙ is)
+
   -- the walk is where it was
   pub recorded_walked : IsWalked g.body s new
   recorded_walked = record {
     of_body = of_body;
     carried = carried;
+    modes = new_modes;
     free_exprs = λ e i lo. rw w.exprs (h.state.free_exprs e i (omega (arith, w.clock)));
     free_pats = λ q i lo.
         rw w.pats (slice_get-set_other old.result.type_of_pat p.0 q.0 (Some t) (other_number q lo) ∙ h.state.free_pats q i (omega (arith, w.clock)));

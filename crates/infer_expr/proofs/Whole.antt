@@ -75,6 +75,7 @@ module _ (b : RawBody) (s : Schedule) (law : IsWalkable b s) where
       pat_mismatches = length-replicate (length b.pats) None;
     };
     carried = empty_carried;
+    modes = λ p m i. absurd (At-replicate (length b.pats) p.0 m i);
     free_exprs = λ e i lo. free-replicate (length b.exprs) e.0 i;
     free_pats = λ p i lo. free-replicate (length b.pats) p.0 i;
     free_modes = λ p i lo. free-replicate (length b.pats) p.0 i;
@@ -141,6 +142,7 @@ module _ (g : Given) (s : Schedule) (law : IsWalkable g.body s) (t : Ty) (mid ne
   body_made = record {
     of_body = walked.state.of_body;
     closed = table_closed new.result walked.state.carried;
+    modes = walked.state.modes;
     clauses = λ e i.
         walked.made e i (inner_start g.body s (node.ExprId e) law.schedule i) (omega (arith, at_end, law.schedule.reached (inner (node.ExprId e)) i));
     kinds = λ p i.

@@ -12,7 +12,7 @@ use Rattle.infer_result.specs.declared.result.InferenceResult.{InferenceResult}
 use Rattle.infer_result.specs.declared.result.TypeMismatch.{TypeMismatch}
 use Rattle.infer_result.specs.declared.modes.BindingMode.{BindingMode}
 use Rattle.infer_result.specs.Table.{At, HasTy, PatTy, BindingTy, HasMode}
-use Rattle.infer_result.specs.Closed.{IsOfBody, AllTypes}
+use Rattle.infer_result.specs.Closed.{IsOfBody, AllTypes, OnlyBindersHaveModes}
 use Rattle.hir_facts.specs.CarriedTypes.{IsCarriedType}
 use Rattle.infer_result.specs.Places.{Given, Demand}
 use Rattle.infer_result.specs.Rules.Expressions.{ObeysOrMismatch}
@@ -51,11 +51,12 @@ pub record Extends (old new : InferenceResult) : Type 0 where
 abbrev pub IsCarriedTable : InferenceResult → Type 0
 IsCarriedTable t = AllTypes IsCarriedType t
 
--- The state of the walk: each type is of a carried kind, nothing is recorded at a node from the clock on, and
+-- The state of the walk: each type is of a carried kind, what has a mode binds a name, nothing is recorded at a node from the clock on, and
 -- each binding whose pattern comes before it has a type.
 pub record IsWalked (b : RawBody) (s : Schedule) (c : Found) : Type 0 where
   pub of_body : IsOfBody b c.result
   pub carried : IsCarriedTable c.result
+  pub modes : OnlyBindersHaveModes b c.result
   pub free_exprs : (e : ExprId) → e.0 < length b.exprs → c.clock ≤ expr_start b s e → IsFree c.result.type_of_expr e.0
   pub free_pats : (p : PatId) → p.0 < length b.pats → c.clock ≤ pat_start b s p → IsFree c.result.type_of_pat p.0
   pub free_modes : (p : PatId) → p.0 < length b.pats → c.clock ≤ pat_start b s p → IsFree c.result.binding_modes p.0

@@ -1,14 +1,16 @@
 -- Tables with an entry for each node, and without holes.
-use Rattle.std.specs.Prelude.{ℕ, ◌<◌, ◌≡◌, length}
+use Rattle.std.specs.Prelude.{ℕ, ◌<◌, ◌≡◌, length, slice_get, Option, Some}
 use Rattle.hir_types.specs.declared.ids.ExprId.{ExprId}
 use Rattle.hir_types.specs.declared.ids.PatId.{PatId}
 use Rattle.hir_types.specs.declared.ids.BindingId.{BindingId}
 use Rattle.hir_types.specs.declared.ty.Ty.{Ty}
+use Rattle.hir_facts.specs.declared.raw.RawPat.TheVariants as pat
 use Rattle.hir_facts.specs.declared.raw.RawBody.{RawBody}
 use Rattle.hir_types.specs.Erasure.{IsClosed}
 use Rattle.infer_result.specs.declared.result.InferenceResult.{InferenceResult}
 use Rattle.infer_result.specs.declared.result.TypeMismatch.{TypeMismatch}
-use Rattle.infer_result.specs.Table.{At, HasTy, PatTy, BindingTy}
+use Rattle.infer_result.specs.declared.modes.BindingMode.{BindingMode}
+use Rattle.infer_result.specs.Table.{At, HasTy, PatTy, BindingTy, HasMode}
 
 -- the lists have an entry for each node and binding, and no more
 pub record IsOfBody (b : RawBody) (t : InferenceResult) : Type 0 where
@@ -24,6 +26,14 @@ pub record IsTotal (b : RawBody) (t : InferenceResult) : Type 0 where
   pub exprs : (e : ExprId) → e.0 < length b.exprs → (s : Ty) × HasTy t e s
   pub pats : (p : PatId) → p.0 < length b.pats → (s : Ty) × PatTy t p s
   pub bindings : (v : BindingId) → v.0 < length b.bindings → (s : Ty) × BindingTy t v s
+
+-- the pattern binds a name
+abbrev pub IsBinder : RawBody → PatId → Type 0
+IsBinder b p = (v : BindingId) × (sub : Option PatId) × (slice_get b.pats p.0 ≡ Some (pat.Bind v sub))
+
+-- what has a mode is a pattern that binds a name
+abbrev pub OnlyBindersHaveModes : RawBody → InferenceResult → Type 0
+OnlyBindersHaveModes b t = (p : PatId) (m : BindingMode) → HasMode t p m → IsBinder b p
 
 -- each type of the table has a property
 pub record AllTypes (P : Ty → Type 0) (t : InferenceResult) : Type 0 where

@@ -407,6 +407,7 @@ module _ (g : Given) (t : InferenceResult) (h : IsMade g t) where
       of_body = h.of_body;
       total = total;
       closed = h.closed;
+      modes = h.modes;
       clauses = h.clauses;
       exprs = λ e i. judged g t e (slice_get g.body.exprs e.0) (h.clauses e i);
       pats = λ p i. record { incoming = incoming p; kind = h.kinds p i };

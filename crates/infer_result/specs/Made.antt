@@ -8,7 +8,7 @@ use Rattle.hir_types.specs.Erasure.{Same}
 use Rattle.infer_result.specs.declared.result.InferenceResult.{InferenceResult}
 use Rattle.infer_result.specs.declared.result.TypeMismatch.{TypeMismatch}
 use Rattle.infer_result.specs.Table.{At, BindingTy}
-use Rattle.infer_result.specs.Closed.{IsOfBody, IsClosedTable}
+use Rattle.infer_result.specs.Closed.{IsOfBody, IsClosedTable, OnlyBindersHaveModes}
 use Rattle.infer_result.specs.Places.{Given, IsInput, PatIsAtOrMismatch, Demand}
 use Rattle.infer_result.specs.Rules.Expressions.{ObeysOrMismatch, BodyObeysOrMismatch}
 use Rattle.infer_result.specs.Rules.Patterns.{PatRule}
@@ -22,6 +22,7 @@ pub record IsMisfit (g : Given) (t : InferenceResult) (e : ExprId) (x : TypeMism
 pub record IsMade (g : Given) (t : InferenceResult) : Type 0 where
   pub of_body : IsOfBody g.body t
   pub closed : IsClosedTable t
+  pub modes : OnlyBindersHaveModes g.body t
   pub clauses : (e : ExprId) → e.0 < length g.body.exprs → ObeysOrMismatch g t e
   pub kinds : (p : PatId) → p.0 < length g.body.pats → PatRule g t p (slice_get g.body.pats p.0)
   pub params : (i : ℕ) (p : PatId) (s : Ty) → slice_get g.body.params i ≡ Some p → IsInput g i s → PatIsAtOrMismatch g t p s

@@ -10,7 +10,7 @@ use Rattle.hir_facts.specs.Bodies.{body_of, return_type, inputs_of}
 use Rattle.infer_result.specs.declared.result.InferenceResult.{InferenceResult}
 use Rattle.infer_result.specs.declared.result.TypeMismatch.{TypeMismatch}
 use Rattle.infer_result.specs.Table.{At, HasTy}
-use Rattle.infer_result.specs.Closed.{IsOfBody, IsTotal, IsClosedTable}
+use Rattle.infer_result.specs.Closed.{IsOfBody, IsTotal, IsClosedTable, OnlyBindersHaveModes}
 use Rattle.infer_result.specs.Fit.{TypesFit}
 use Rattle.infer_result.specs.Places.{Given}
 use Rattle.infer_result.specs.Rules.Expressions.{ObeysOrMismatch, ObeysExpression, BodyObeysOrMismatch, BodyObeys}
@@ -25,6 +25,7 @@ pub record IsTyped (g : Given) (t : InferenceResult) : Type 0 where
   pub of_body : IsOfBody g.body t
   pub total : IsTotal g.body t
   pub closed : IsClosedTable t
+  pub modes : OnlyBindersHaveModes g.body t
   pub clauses : (e : ExprId) → e.0 < length g.body.exprs → ObeysOrMismatch g t e
   pub exprs : (e : ExprId) → e.0 < length g.body.exprs → IsExcused g t e ⊎ ObeysExpression g t e
   pub pats : (p : PatId) → p.0 < length g.body.pats → ObeysPattern g t p

@@ -24,6 +24,7 @@ use Rattle.infer_result.specs.Places.{Given, Demand}
 use Rattle.infer_result.specs.Rules.Expressions.{ObeysOrMismatch}
 use Rattle.infer_result.specs.Rules.Patterns.{PatRule}
 use Rattle.infer_result.specs.Truth.Mismatch.{IsTruePatMismatch}
+use Rattle.infer_result.specs.Closed.{IsBinder}
 use Rattle.infer_result.specs.Made.{IsMisfit, IsMade}
 use Rattle.infer_result.specs.Typed.{IsTyped}
 use Rattle.infer_result.specs.Derived.{typed_by_schedule}
@@ -97,6 +98,7 @@ right_made s closed_s = record {
   body_clause = (unit, refl, inl refl);
   misfits = λ x. each_placed (λ k. IsMisfit given (right s) (e k)) (right s).expr_mismatches (record { differ = u8_differs_unit; actual = inr (inr (record { condition = e 0; branch = e 1; is_if = refl }), refl) }, tt) x.0;
   demands = λ x. each_placed (λ k (m : TypeMismatch). Demand given (right s) (e k) m.expected) (right s).expr_mismatches (inr (record { condition = e 0; branch = e 1; is_if = refl; has = refl }), tt) x.0;
+  modes = λ x. each_placed (λ k m. IsBinder body (p k)) (right s).binding_modes ((b 0, None, refl), ((b 1, None, refl), tt)) x.0;
   pat_truths = λ x. each_entry (IsTruePatMismatch given (right s) x) (right s).pat_mismatches tt x.0;
 }
 

@@ -25,6 +25,7 @@ use Rattle.infer_result.specs.Places.{Given, Demand}
 use Rattle.infer_result.specs.Rules.Expressions.{ObeysOrMismatch}
 use Rattle.infer_result.specs.Rules.Patterns.{PatRule}
 use Rattle.infer_result.specs.Truth.Mismatch.{IsTruePatMismatch}
+use Rattle.infer_result.specs.Closed.{IsBinder}
 use Rattle.infer_result.specs.Made.{IsMisfit, IsMade}
 use Rattle.infer_result.specs.Typed.{IsTyped}
 use Rattle.infer_result.specs.Derived.{typed_by_schedule}
@@ -108,6 +109,7 @@ right_made = record {
         inl (record { parent = inner (node.ExprId (e 2)); at_part = 0; role = initializer (Some (w 0)); stands = record { node_is = omega arith; part = refl }; asks = sym first_written }),
         (inl (record { parent = inner (node.ExprId (e 2)); at_part = 2; role = initializer (Some (w 1)); stands = record { node_is = omega arith; part = refl }; asks = sym second_written }), tt),
       ) x.0;
+  modes = λ x. each_placed (λ k m. IsBinder body (p k)) right.binding_modes ((b 0, None, refl), ((b 1, None, refl), tt)) x.0;
   pat_truths = λ x. each_entry (IsTruePatMismatch given right x) right.pat_mismatches tt x.0;
 }
 

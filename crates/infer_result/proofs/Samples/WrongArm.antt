@@ -26,6 +26,7 @@ use Rattle.infer_result.specs.Places.{Given, IsOfOther, Demand}
 use Rattle.infer_result.specs.Rules.Expressions.{ObeysOrMismatch}
 use Rattle.infer_result.specs.Rules.Patterns.{PatRule}
 use Rattle.infer_result.specs.Truth.Mismatch.{IsTruePatMismatch}
+use Rattle.infer_result.specs.Closed.{IsBinder}
 use Rattle.infer_result.specs.Made.{IsMisfit, IsMade}
 use Rattle.infer_result.specs.Typed.{IsTyped}
 use Rattle.infer_result.specs.Derived.{typed_by_schedule}
@@ -127,6 +128,7 @@ right_made s closed_s = record {
   demands = λ x.
       each_placed (λ k (m : TypeMismatch). Demand given (right s) (e k) m.expected) (right s).expr_mismatches
       (inl (record { parent = inner (node.ExprId (e 5)); at_part = 4; role = arm 1; stands = record { node_is = omega arith; part = refl }; asks = inr (of_first s) }), tt) x.0;
+  modes = λ x. each_placed (λ k m. IsBinder body (p k)) (right s).binding_modes ((b 0, None, refl), tt) x.0;
   pat_truths = λ x. each_entry (IsTruePatMismatch given (right s) x) (right s).pat_mismatches tt x.0;
 }
 

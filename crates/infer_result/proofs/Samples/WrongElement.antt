@@ -83,6 +83,7 @@ right_made = record {
   demands = λ x.
       each_placed (λ k (m : TypeMismatch). Demand given right (e k) m.expected) right.expr_mismatches
       (inl (record { parent = inner (node.ExprId (e 2)); at_part = 1; role = element 1; stands = record { node_is = omega arith; part = refl }; asks = (u8 ∷ ty.Bool ∷ [], refl, refl) }), tt) x.0;
+  modes = λ x m at. absurd (cc);
   pat_truths = λ x. each_entry (IsTruePatMismatch given right x) right.pat_mismatches tt x.0;
 }
 

@@ -27,6 +27,7 @@ use Rattle.infer_result.specs.Places.{Given, Incoming, Demand}
 use Rattle.infer_result.specs.Rules.Expressions.{ObeysOrMismatch}
 use Rattle.infer_result.specs.Rules.Patterns.{AllPatsAt, PatRule}
 use Rattle.infer_result.specs.Truth.Mismatch.{IsTruePatMismatch}
+use Rattle.infer_result.specs.Closed.{IsBinder}
 use Rattle.infer_result.specs.Made.{IsMisfit, IsMade}
 use Rattle.infer_result.specs.Typed.{IsTyped}
 use Rattle.infer_result.specs.Derived.{tuple_parts, typed_by_schedule}
@@ -125,6 +126,7 @@ right_made = record {
   body_clause = (unit, refl, inl refl);
   misfits = λ x. each_entry (IsMisfit given right x) right.expr_mismatches tt x.0;
   demands = λ x. each_entry (λ m. Demand given right x m.expected) right.expr_mismatches tt x.0;
+  modes = λ x. each_placed (λ k m. IsBinder body (p k)) right.binding_modes ((b 0, None, refl), ((b 1, None, refl), ((b 2, None, refl), tt))) x.0;
   pat_truths = λ x.
       each_placed (λ k. IsTruePatMismatch given right (p k)) right.pat_mismatches
       (record { differ = single_differs_pair; actual = refl; incoming = record { parent = inner (node.ExprId (e 1)); at_part = 1; role = let_pattern (Some (w 1)) (Some (e 0)); stands = record { node_is = omega arith; part = refl }; gives = sym written } }, tt) x.0;

@@ -76,6 +76,7 @@ right_made = record {
   body_clause = (u8, refl, inl refl);
   misfits = λ x. each_placed (λ k. IsMisfit given right (e k)) right.expr_mismatches (record { differ = u8_differs_bool; actual = inl refl }, tt) x.0;
   demands = λ x. each_placed (λ k (m : TypeMismatch). Demand given right (e k) m.expected) right.expr_mismatches (demanded, tt) x.0;
+  modes = λ x m at. absurd (cc);
   pat_truths = λ x. each_entry (IsTruePatMismatch given right x) right.pat_mismatches tt x.0;
 }
 
