@@ -211,7 +211,7 @@ module _ (g : Given) (a b : InferenceResult) (x : Extends a b) where
   }
 
   pub pat_truth_kept : (p : PatId) (m : TypeMismatch) → IsTruePatMismatch g a p m → IsTruePatMismatch g b p m
-  pat_truth_kept p m h = record { differ = h.differ; actual = x.pats p m.actual h.actual; incoming = incoming_kept p m.expected h.incoming }
+  pat_truth_kept p m h = record { is_tuple = h.is_tuple; differ = h.differ; actual = x.pats p m.actual h.actual; incoming = incoming_kept p m.expected h.incoming }
 
   alternative_asked_kept : (n : ExprId) (role : Role) (t : Ty) → AsksOfAlternative g a n role t → AsksOfAlternative g b n role t
   alternative_asked_kept n role t (inl h) = inl (x.exprs n t h)

@@ -89,6 +89,7 @@ module _ (g : Given) (s : Schedule) (p : PatId) (ps : List PatId) (ts : List Ty)
       let w : IsBoundBy (entered old) last p own None y = record { exprs = refl; pats = refl; bindings = refl; modes = refl; mismatches = refl; pat_mismatches = refl; clock = refl } in
       let has : PatTy last.result p own = has_type g s p own (entered old) last None y r w in
       let true : IsTruePatMismatch g last.result p (mismatch u own) = record {
+        is_tuple = record { parts = ps; is_tuple = is };
         differ = λ same. differ (same_carried u own k tuple same);
         actual = has;
         incoming = incoming_kept g old.result last.result (extends g s p own (entered old) last None y r w) p u (h.incoming u i);

@@ -2,10 +2,13 @@
 
 use hir_types::Mutability;
 
-/// How a binding takes what its pattern matches: the value itself, or a reference to it.
+/// How a binding takes what its pattern matches: the Reference, "Patterns", "Binding modes";
+/// `infer.rs`, `BindingMode`.
 #[derive(Clone, Copy, Debug, PartialEq, Eq)]
 pub enum BindingMode {
+    /// The value itself, moved or copied.
     Move,
+    /// A reference to it.
     Ref(Mutability),
 }
 

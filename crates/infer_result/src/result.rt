@@ -1,20 +1,22 @@
 //! The types, modes and complaints of a body.
-ghost use Rattle.std.specs.Prelude.{◌≡◌, slice_get, option_copied};
-ghost use Rattle.std.specs.Option.{option_and_then};
+ghost use Rattle.std.specs.Prelude.{◌≡◌, option_copied};
 ghost use Rattle.infer_result.specs.Table.{recorded, node_type};
 
 use crate::modes::BindingMode;
 use hir_facts::{BindingId, ExprId, ExprOrPatId, List, PatId, Ty};
 
-/// A place asked for the type `expected`, and what stands there has the type `actual`.
+/// Two types that should be the same, at an expression or a pattern: `infer.rs`, `TypeMismatch`.
 #[derive(Debug, Drop, PartialEq, Eq, Hash)]
 pub struct TypeMismatch {
+    /// What the place of an expression asks for, or what comes into a pattern.
     pub expected: Ty,
+    /// What the expression or the pattern is.
     pub actual: Ty,
 }
 
-/// What inference found out about a body. Each list has an entry for each node, or for each
-/// binding, of the body, in the order of their ids.
+/// What inference found out about a body: `infer.rs`, `InferenceResult`. Each list has an entry for
+/// each node, or for each binding, of the body, in the order of their ids. Each reader answers `None`
+/// for an id that the body has not.
 #[derive(Debug, Drop, PartialEq, Eq)]
 pub struct InferenceResult {
     /// The type of each expression.
@@ -49,21 +51,21 @@ impl InferenceResult {
         self.type_of_binding.get(binding.0 as usize)?.as_ref()
     }
 
-    /// The mode recorded for a pattern that binds.
+    /// The mode recorded for a pattern; `None` where it binds nothing.
     pub fn binding_mode(&self, pat: PatId) -> Option<BindingMode>
         ensures { result ≡ recorded self.now.binding_modes pat.0 }
     {
         *self.binding_modes.get(pat.0 as usize)?
     }
 
-    /// The mismatch at an expression.
+    /// The mismatch at an expression; `None` where there is none.
     pub fn type_mismatch_for_expr(&self, e: ExprId) -> Option<&TypeMismatch>
         ensures { option_copied result ≡ recorded self.now.expr_mismatches e.0 }
     {
         self.expr_mismatches.get(e.0 as usize)?.as_ref()
     }
 
-    /// The mismatch at a pattern.
+    /// The mismatch at a pattern; `None` where there is none.
     pub fn type_mismatch_for_pat(&self, p: PatId) -> Option<&TypeMismatch>
         ensures { option_copied result ≡ recorded self.now.pat_mismatches p.0 }
     {

@@ -1,24 +1,25 @@
 -- `fn f() -> (u8, bool) { (1u8, 2u8) }`: the tuple has the expected components, and the mismatch stands at the second part.
-use Rattle.std.proofs.Common.{◌+◌, ◌<◌, ◌≡◌, inl, inr, List, [], ◌∷◌, refl, sym, ◌∙◌, arith, Option, Some, None}
+use Rattle.std.proofs.Common.{◌+◌, ◌<◌, ◌≡◌, inl, inr, List, [], ◌∷◌, refl, sym, ap, subst, ◌∙◌, arith, Option, Some, None, slice_get}
 use Rattle.hir_types.specs.declared.ids.ExprOrPatId.TheVariants as node
 use Rattle.hir_types.specs.declared.ty.Ty.{Ty}
 use Rattle.hir_types.specs.declared.ty.Ty.TheVariants as ty
 use Rattle.hir_facts.specs.declared.raw.RawExpr.TheVariants as expr
 use Rattle.hir_facts.specs.declared.raw.RawBody.{RawBody}
 use Rattle.hir_facts.specs.declared.schedule.Schedule.{Schedule}
-use Rattle.hir_types.specs.Erasure.{IsClosed}
+use Rattle.hir_types.specs.Erasure.{erased, IsClosed}
 use Rattle.hir_types.specs.Layers.{has_hole_tuple}
 use Rattle.hir_facts.specs.Order.{element, the_body, inner, IsSchedule, start, end, after, Fits, parts}
 use Rattle.infer_result.specs.declared.result.InferenceResult.{InferenceResult}
 use Rattle.infer_result.specs.declared.result.TypeMismatch.{TypeMismatch}
 use Rattle.infer_result.specs.Table.{mismatch}
-use Rattle.infer_result.specs.Places.{Given, Demand}
+use Rattle.infer_result.specs.Places.{Given, IsAtOrMismatch, Demand}
 use Rattle.infer_result.specs.Rules.Expressions.{ObeysOrMismatch}
+use Rattle.infer_result.specs.Rules.Tuples.{AllAt}
 use Rattle.infer_result.specs.Truth.Mismatch.{IsTruePatMismatch}
 use Rattle.infer_result.specs.Made.{IsMisfit, IsMade}
 use Rattle.infer_result.specs.Typed.{IsTyped}
-use Rattle.infer_result.specs.Derived.{typed_by_schedule}
-use Rattle.infer_result.proofs.Samples.Small.{e, u8, one_u8, body_of, each_below, each_node, apart_by, each_entry, each_placed, closed_u8, closed_bool, u8_differs_bool}
+use Rattle.infer_result.specs.Derived.{tuple_parts, typed_by_schedule}
+use Rattle.infer_result.proofs.Samples.Small.{e, u8, one_u8, body_of, each_below, each_node, apart_by, asked, only, each_entry, each_placed, closed_u8, closed_bool, u8_is_no_bool, u8_differs_bool}
 
 abbrev pair : Ty
 pair = ty.Tuple (u8 ∷ ty.Bool ∷ [])
@@ -89,3 +90,33 @@ right_made = record {
 
 pub right_typed : IsTyped given right
 right_typed = typed_by_schedule given right schedule is_schedule right_made
+
+-- ---- refused
+
+-- no mismatch
+pub silent : IsTyped given (table_of (None ∷ None ∷ None ∷ None ∷ [])) → ⊥
+silent h =
+    (let c = h.clauses (e 2) (omega arith) in
+    let ss : u8 ∷ ty.Bool ∷ [] ≡ c.0 = tuple_parts (u8 ∷ ty.Bool ∷ []) c.0 (only pair (ty.Tuple c.0) c.1) in
+    let at : AllAt (IsAtOrMismatch (table_of (None ∷ None ∷ None ∷ None ∷ []))) (e 0 ∷ e 1 ∷ []) (u8 ∷ ty.Bool ∷ []) = subst (AllAt (IsAtOrMismatch (table_of (None ∷ None ∷ None ∷ None ∷ []))) (e 0 ∷ e 1 ∷ [])) (sym ss) c.2 in
+    let d = at.1.0 in
+    let a : u8 ≡ d.0 = only u8 d.0 d.1 in
+    elim d.2 [ inl same ↦ u8_differs_bool (ap erased a ∙ same) | inr q ↦ (let clash = q.1 in cc) ])
+
+-- the mismatch at the other element
+pub at_first : IsTyped given (table_of (Some (mismatch ty.Bool u8) ∷ None ∷ None ∷ None ∷ [])) → ⊥
+at_first h =
+    (let m = h.truths (e 0) (mismatch ty.Bool u8) refl in
+    let a = asked given schedule is_schedule _ (e 0) (inner (node.ExprId (e 2))) 0 (element 0) ty.Bool (record { node_is = omega arith; part = refl }) (λ r. (let is = r.is_if in cc)) m.demand in
+    let ss : u8 ∷ ty.Bool ∷ [] ≡ a.0 = tuple_parts (u8 ∷ ty.Bool ∷ []) a.0 (only pair (ty.Tuple a.0) a.1) in
+    let first : slice_get (u8 ∷ ty.Bool ∷ []) 0 ≡ Some ty.Bool = subst (λ us. slice_get us 0 ≡ Some ty.Bool) (sym ss) a.2 in
+    let same : u8 ≡ ty.Bool = cc in u8_is_no_bool same)
+
+-- another type expected than the component
+pub another_expected : IsTyped given (table_of (None ∷ Some (mismatch pair u8) ∷ None ∷ None ∷ [])) → ⊥
+another_expected h =
+    (let m = h.truths (e 1) (mismatch pair u8) refl in
+    let a = asked given schedule is_schedule _ (e 1) (inner (node.ExprId (e 2))) 1 (element 1) pair (record { node_is = omega arith; part = refl }) (λ r. (let is = r.is_if in cc)) m.demand in
+    let ss : u8 ∷ ty.Bool ∷ [] ≡ a.0 = tuple_parts (u8 ∷ ty.Bool ∷ []) a.0 (only pair (ty.Tuple a.0) a.1) in
+    let second : slice_get (u8 ∷ ty.Bool ∷ []) 1 ≡ Some pair = subst (λ us. slice_get us 1 ≡ Some pair) (sym ss) a.2 in
+    let same : ty.Bool ≡ pair = cc in cc)

@@ -160,6 +160,10 @@ at_pattern h =
     let a : u8 ≡ c.0 = only u8 c.0 c.1 in
     elim c.2 [ inl same ↦ u8_is_no_bool (a ∙ (same ∙ sym s)) | inr q ↦ (let clash = q.1 in cc) ])
 
+-- a mismatch at the pattern beside the one at its literal
+pub twice : IsTyped given (table_of asks_bool asks_bool asks_bool) → ⊥
+twice h = (let is = (h.pat_truths (p 1) (mismatch ty.Bool u8) refl).is_tuple.is_tuple in cc)
+
 -- the guard in silence
 pub silent_guard : IsTyped given (table_of asks_bool None None) → ⊥
 silent_guard h =

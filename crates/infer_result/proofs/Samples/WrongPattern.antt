@@ -129,7 +129,7 @@ right_made = record {
   modes = λ x. each_placed (λ k m. IsBinder body (p k)) right.binding_modes ((b 0, None, refl), ((b 1, None, refl), ((b 2, None, refl), tt))) x.0;
   pat_truths = λ x.
       each_placed (λ k. IsTruePatMismatch given right (p k)) right.pat_mismatches
-      (record { differ = single_differs_pair; actual = refl; incoming = record { parent = inner (node.ExprId (e 1)); at_part = 1; role = let_pattern (Some (w 1)) (Some (e 0)); stands = record { node_is = omega arith; part = refl }; gives = sym written } }, tt) x.0;
+      (record { is_tuple = record { parts = p 2 ∷ p 3 ∷ []; is_tuple = refl }; differ = single_differs_pair; actual = refl; incoming = record { parent = inner (node.ExprId (e 1)); at_part = 1; role = let_pattern (Some (w 1)) (Some (e 0)); stands = record { node_is = omega arith; part = refl }; gives = sym written } }, tt) x.0;
 }
 
 pub right_typed : IsTyped given right

@@ -6,6 +6,7 @@ use Rattle.hir_types.specs.declared.ids.LabelId.{LabelId}
 use Rattle.hir_types.specs.declared.ty.Ty.{Ty}
 use Rattle.hir_facts.specs.declared.raw.RawStmt.{RawStmt}
 use Rattle.hir_facts.specs.declared.raw.RawExpr.TheVariants as expr
+use Rattle.hir_facts.specs.declared.raw.RawPat.TheVariants as pat
 use Rattle.hir_facts.specs.declared.raw.RawBody.{RawBody}
 use Rattle.hir_types.specs.Types.{unit}
 use Rattle.hir_types.specs.Erasure.{Same}
@@ -42,8 +43,14 @@ pub record IsTrueMismatch (g : Given) (t : InferenceResult) (e : ExprId) (x : Ty
   pub demand : Demand g t e x.expected
   pub no_coercion : (u s : Ty) → Up g e u → Stated g e s → Leads u s → ⊥
 
--- the two types differ; the first is what comes into the pattern, the second its own
+pub record IsTuplePat (b : RawBody) (p : PatId) : Type 0 where
+  pub parts : List PatId
+  pub is_tuple : slice_get b.pats p.0 ≡ Some (pat.Tuple parts)
+
+-- The pattern is a tuple (the mismatch of a literal pattern stands at its literal); the two types differ;
+-- the first is what comes into the pattern, the second its own.
 pub record IsTruePatMismatch (g : Given) (t : InferenceResult) (p : PatId) (x : TypeMismatch) : Type 0 where
+  pub is_tuple : IsTuplePat g.body p
   pub differ : Same x.expected x.actual → ⊥
   pub actual : PatTy t p x.actual
   pub incoming : Incoming g t p x.expected
