@@ -1,8 +1,10 @@
 -- New holes, and the types of literals.
-use Rattle.std.proofs.Common.{ℕ, ◌≡◌, refl, ap, ◌∙◌, Some, None}
+use Rattle.std.proofs.Common.{ℕ, ◌≡◌, inl, inr, refl, sym, ap, subst, ◌∙◌, Option, Some, None}
 use Rattle.hir_types.specs.declared.head.HoleKind.{HoleKind}
 use Rattle.hir_types.specs.declared.head.HoleKind.TheVariants as kind
 use Rattle.hir_types.specs.declared.ty.IntegerTy.{IntegerTy}
+use Rattle.hir_types.specs.declared.ty.IntegerTy.TheVariants as integer
+use Rattle.hir_types.specs.declared.ty.UintTy.TheVariants as uint
 use Rattle.hir_types.specs.declared.ty.Ty.{Ty}
 use Rattle.hir_types.specs.declared.ty.Ty.TheVariants as ty
 use Rattle.hir_types.specs.Folding.{replaced_int_var}
@@ -11,11 +13,12 @@ use Rattle.hir_types.specs.Types.{integer_type}
 use Rattle.hir_facts.specs.CarriedTypes.{carried_bool, carried_char, carried_integer}
 use Rattle.hir_facts.specs.declared.raw.RawLiteral.TheVariants as literal
 use Rattle.infer_table.specs.HoleLaws.{grew_by_hole}
-use Rattle.infer_table.specs.Table.{with_new_hole, hole_count}
+use Rattle.infer_table.specs.Resolution.{resolution}
+use Rattle.infer_table.specs.Table.{State, bindings, with_new_hole, hole_count, resolved_type}
 use Rattle.infer_table.specs.UndoLaws.{grew_itself}
 use Rattle.infer_expr.specs.declared.context.InferenceContext.{InferenceContext}
 use Rattle.infer_expr.specs.Closings.{IsSound}
-use Rattle.infer_expr.specs.Steps.{IntDone, LiteralDone}
+use Rattle.infer_expr.specs.Steps.{IsIntegerFor, IsExpectedInteger, IntDone, LiteralDone}
 use Rattle.infer_expr.proofs.FineTypes.{fine_bool, fine_char, fine_integer, fine_int_hole, table_fine_grown, carried_closed}
 use Rattle.infer_expr.proofs.Unified.{with_table}
 
@@ -32,8 +35,25 @@ holed_sound c k s = record {
 
 -- ---- integers
 
-pub known_int : (c : InferenceContext) (i : IntegerTy) → IsSound c → IntDone (integer_type i) c c
-known_int c i s = record {
+-- what is expected resolves to an integer type
+pub expected_integer_is : (state : State) (x : Option Ty) (e r : Ty) (i : IntegerTy) → x ≡ Some e → resolved_type state r ≡ resolved_type state e → r ≡ integer_type i → IsExpectedInteger x (integer_type i) state
+expected_integer_is state x e r i is same known =
+    let k : resolved_type state e ≡ integer_type i = sym same ∙ (ap (resolved_type state) known ∙ carried_closed (resolution (bindings state)) (integer_type i) (carried_integer i)) in
+    record { expected = e; is_expected = is; gives = inl (i, k, sym k) }
+
+-- and to `char`
+pub expected_char_is : (state : State) (x : Option Ty) (e r : Ty) → x ≡ Some e → resolved_type state r ≡ resolved_type state e → r ≡ ty.Char → IsExpectedInteger x (ty.Uint uint.U8) state
+expected_char_is state x e r is same known =
+    let k : resolved_type state e ≡ ty.Char = sym same ∙ (ap (resolved_type state) known ∙ carried_closed (resolution (bindings state)) ty.Char carried_char) in
+    record { expected = e; is_expected = is; gives = inr (k, refl) }
+
+integer_for : (s t : Ty) → IsIntegerFor s t → (i : IntegerTy) × (t ≡ integer_type i)
+integer_for s t (inl q) = (q.0, q.2 ∙ q.1)
+integer_for s t (inr q) = (integer.Uint uint.U8, q.1)
+
+known_integer : (c : InferenceContext) (i : IntegerTy) (x : Option Ty) → IsSound c → IsExpectedInteger x (integer_type i) c.table → IntDone x (integer_type i) c c
+known_integer c i x s h = record {
+  is = inl h;
   result = refl;
   clock = refl;
   grew = grew_itself c.table;
@@ -42,8 +62,14 @@ known_int c i s = record {
   each = λ a k. (i, carried_closed a (integer_type i) (carried_integer i));
 }
 
-pub int_hole : (c : InferenceContext) → IsSound c → IntDone (ty.IntVar (hole_count c.table)) c (holed c kind.Int)
-int_hole c s = record {
+pub known_int : (c : InferenceContext) (t : Ty) (x : Option Ty) → IsSound c → IsExpectedInteger x t c.table → IntDone x t c c
+known_int c t x s h =
+    let q = integer_for (resolved_type c.table h.expected) t h.gives in
+    subst (λ u. IntDone x u c c) (sym q.1) (known_integer c q.0 x s (subst (λ u. IsExpectedInteger x u c.table) q.1 h))
+
+pub int_hole : (c : InferenceContext) (x : Option Ty) → IsSound c → IntDone x (ty.IntVar (hole_count c.table)) c (holed c kind.Int)
+int_hole c x s = record {
+  is = inr refl;
   result = refl;
   clock = refl;
   grew = grew_by_hole c.table (with_new_hole c.table kind.Int) kind.Int refl;
@@ -87,8 +113,8 @@ module _ (c : InferenceContext) (s : IsSound c) where
     each = λ a k. carried_closed a (integer_type i) (carried_integer i);
   }
 
-pub unsuffixed_literal : (digits : _) (t : Ty) (old new : InferenceContext) → IntDone t old new → LiteralDone (literal.Int digits None) t old new
-unsuffixed_literal digits t old new d = record {
+pub unsuffixed_literal : (digits : _) (x : Option Ty) (t : Ty) (old new : InferenceContext) → IntDone x t old new → LiteralDone (literal.Int digits None) t old new
+unsuffixed_literal digits x t old new d = record {
   result = d.result;
   clock = d.clock;
   grew = d.grew;

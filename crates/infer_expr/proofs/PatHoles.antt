@@ -42,6 +42,7 @@ given_one c t s h = record {
   sound = s;
   fine = h;
   given = λ u e. (let k : t ≡ u = cc in k);
+  new_hole = λ e. absurd (cc);
 }
 
 pub new_one : (c : InferenceContext) → IsSound c → IsGivenOrNew None (ty.Var (hole_count c.table)) c (holed c kind.Ty)
@@ -52,6 +53,7 @@ new_one c s = record {
   sound = holed_sound c kind.Ty s;
   fine = fine_hole c.table;
   given = λ u e. absurd (cc);
+  new_hole = λ e. refl;
 }
 
 -- each type of the list is fine

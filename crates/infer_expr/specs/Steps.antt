@@ -1,11 +1,13 @@
 -- What each function of the walk is given, and what it does.
-use Rattle.std.specs.Prelude.{ℕ, ◌+◌, ◌<◌, ◌≤◌, ◌≡◌, Bool, List, [], length, map, slice_get, Option, Some, None, IsTrue}
+use Rattle.std.specs.Prelude.{ℕ, ◌+◌, ◌<◌, ◌≤◌, ◌≡◌, ◌⊎◌, Bool, List, [], length, map, slice_get, Option, Some, None, IsTrue}
 use Rattle.hir_types.specs.declared.ids.ExprId.{ExprId}
 use Rattle.hir_types.specs.declared.ids.PatId.{PatId}
 use Rattle.hir_types.specs.declared.ids.TypeRefId.{TypeRefId}
 use Rattle.hir_types.specs.declared.ids.ExprOrPatId.TheVariants as node
 use Rattle.hir_types.specs.declared.ty.IntegerTy.{IntegerTy}
 use Rattle.hir_types.specs.declared.ty.Ty.{Ty}
+use Rattle.hir_types.specs.declared.ty.Ty.TheVariants as ty
+use Rattle.hir_types.specs.declared.ty.UintTy.TheVariants as uint
 use Rattle.hir_types.specs.Subst.{Assignment, folded}
 use Rattle.hir_types.specs.Types.{integer_type}
 use Rattle.hir_facts.specs.declared.raw.RawBody.{RawBody}
@@ -15,7 +17,7 @@ use Rattle.hir_facts.specs.declared.raw.RawStmt.{RawStmt}
 use Rattle.hir_facts.specs.declared.schedule.Schedule.{Schedule}
 use Rattle.hir_facts.specs.Laws.Carried.{is_carried_stmt}
 use Rattle.hir_facts.specs.Order.{inner, the_body, stmt_parts, stmt_at, maybe_part, guard, else_branch, arms_parts, tail, body_parts}
-use Rattle.infer_table.specs.Table.{State, Grew}
+use Rattle.infer_table.specs.Table.{State, Grew, resolved_type, hole_count}
 use Rattle.infer_result.specs.Closed.{IsOfBody}
 use Rattle.infer_result.specs.Places.{Given, Incoming}
 use Rattle.infer_result.specs.Made.{IsMade}
@@ -104,6 +106,7 @@ pub record IsGivenOrNew (x : Option Ty) (t : Ty) (old new : InferenceContext) : 
   pub sound : IsSound new
   pub fine : IsFine new.table t
   pub given : (u : Ty) → x ≡ Some u → t ≡ u
+  pub new_hole : x ≡ None → t ≡ ty.Var (hole_count old.table)
 
 -- as many types as asked for, with some holes more
 pub record ArePartTypes (count : ℕ) (ts : List Ty) (old new : InferenceContext) : Type 0 where
@@ -256,8 +259,20 @@ pub record Completes (x : Option Ty) (m : CoerceMany) (t : Ty) (old new : Infere
 
 -- ---- literals
 
--- the type is an integer type, or a hole for one that is new
-pub record IntDone (t : Ty) (old new : InferenceContext) : Type 0 where
+-- what an integer without a suffix takes from what is known of the type that is expected of it: that
+-- integer type, and `u8` where it is `char`
+abbrev pub IsIntegerFor : Ty → Ty → Type 0
+IsIntegerFor s t = ((i : IntegerTy) × (s ≡ integer_type i) × (t ≡ s)) ⊎ ((s ≡ ty.Char) × (t ≡ ty.Uint uint.U8))
+
+-- the type t is the integer type that x says is expected
+pub record IsExpectedInteger (x : Option Ty) (t : Ty) (state : State) : Type 0 where
+  pub expected : Ty
+  pub is_expected : x ≡ Some expected
+  pub gives : IsIntegerFor (resolved_type state expected) t
+
+-- the type is the integer type that is expected, or a new hole for one
+pub record IntDone (x : Option Ty) (t : Ty) (old new : InferenceContext) : Type 0 where
+  pub is : IsExpectedInteger x t old.table ⊎ (t ≡ ty.IntVar (hole_count old.table))
   pub result : new.result ≡ old.result
   pub clock : new.clock ≡ old.clock
   pub grew : Grew old.table new.table

@@ -12,7 +12,6 @@ use crate::context::InferenceContext;
 use crate::expectation::Expectation;
 use crate::given::GivenBody;
 use hir_facts::{ExprId, List, RawStmt, Ty};
-use infer_result::TypeMismatch;
 use std::alloc::{AllocError, Global};
 
 impl InferenceContext {

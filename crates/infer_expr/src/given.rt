@@ -9,7 +9,9 @@ use std::alloc::{AllocError, Global};
 /// its `return_ty`.
 #[derive(Clone, Copy)]
 pub struct GivenBody<'a> {
+    /// The lawful facts that the body stands among.
     pub facts: &'a Facts,
+    /// The expressions, patterns and bindings that are typed.
     pub body: &'a RawBody,
     /// The order in which the walk comes to the nodes of the body.
     pub schedule: &'a Schedule,

@@ -1,10 +1,9 @@
 //! The types of literals.
-ghost use Rattle.std.specs.Prelude.{◌≡◌, IsTrue, IfOk, IfSome};
-ghost use Rattle.hir_types.specs.Types.{integer_type};
-ghost use Rattle.hir_types.specs.declared.ty.IntegerTy.{IntegerTy};
+ghost use Rattle.std.specs.Prelude.{IsTrue, IfOk, IfSome};
 ghost use Rattle.hir_facts.specs.Laws.Carried.{is_carried_literal};
 ghost use Rattle.infer_expr.specs.Closings.{IsSound};
-ghost use Rattle.infer_expr.specs.Steps.{LiteralDone, IntDone};
+ghost use Rattle.infer_expr.specs.Context.{expected_type};
+ghost use Rattle.infer_expr.specs.Steps.{LiteralDone, IntDone, IsExpectedInteger};
 
 use crate::context::InferenceContext;
 use crate::expectation::Expectation;
@@ -41,7 +40,7 @@ impl InferenceContext {
     /// new hole for integer types.
     fn infer_unsuffixed(&mut self, expected: Expectation) -> Result<Ty, AllocError>
         requires { IsSound self.old }
-        ensures { IfOk result (λ ty. IntDone ty self.old self.new) }
+        ensures { IfOk result (λ ty. IntDone (expected_type expected.entry) ty self.old self.new) }
     {
         match self.expected_integer(expected) {
             Some(ty) => Ok(ty),
@@ -54,9 +53,10 @@ impl InferenceContext {
 
     /// The type that is expected, where that is an integer type, and `u8` where it is `char`.
     fn expected_integer(&self, expected: Expectation) -> Option<Ty>
-        ensures { IfSome result (λ ty. (i : IntegerTy) × (ty ≡ integer_type i)) }
+        ensures { IfSome result (λ ty. IsExpectedInteger (expected_type expected.entry) ty self.now.table) }
     {
-        match self.table.shallow_resolve(expected.only_has_type()?) {
+        let expected_ty = expected.only_has_type()?;
+        match self.table.shallow_resolve(expected_ty) {
             Ty::Int(int) => Some(Ty::Int(*int)),
             Ty::Uint(uint) => Some(Ty::Uint(*uint)),
             Ty::Char => Some(Ty::Uint(UintTy::U8)),

@@ -10,8 +10,8 @@ use hir_facts::{DefWithBodyId, Facts, return_ty};
 use infer_result::InferenceResult;
 use std::alloc::{AllocError, Global};
 
-/// The table of a definition's body: `infer.rs`, `infer_query_with_inspect`. Nothing is inspected
-/// yet.
+/// The table of a definition's body: `infer.rs`, `infer_query_with_inspect`. Its one error is want
+/// of memory. Nothing is inspected yet.
 pub fn infer_query_with_inspect<I: ObligationInspector>(
     alloc: Global,
     facts: &Facts,

@@ -1,13 +1,19 @@
-use Rattle.std.proofs.Common.{sym, subst}
+use Rattle.std.proofs.Common.{sym, subst, Option}
+use Rattle.hir_types.specs.declared.ty.Ty.{Ty}
 use Rattle.hir_types.specs.declared.ty.Ty.TheVariants as ty
 use Rattle.infer_table.specs.Table.{hole_count}
+use Rattle.infer_expr.specs.Context.{expected_type}
 use Rattle.infer_expr.specs.Steps.{IntDone}
-use Rattle.infer_expr.proofs.Holes.{int_hole}
+use Rattle.infer_expr.proofs.Holes.{known_int, int_hole}
 use Rattle.infer_expr.proofs.Unified.{with_table}
 use Rattle.infer_expr.proofs.context.InferenceContext.infer_unsuffixed.Goals as goal
 
 pub returns-in_ok-ty-in-None : goal.returns-in_ok-ty-in-None
 returns-in_ok-ty-in-None c =
-    subst (λ t. IntDone t c.args.self.now (with_table c.args.self.now c.next_int_var.new.self)) (sym c.in_ok-ty-in-None.ensures.hole)
-    (subst (λ s. IntDone (ty.IntVar (hole_count c.args.self.now.table)) c.args.self.now (with_table c.args.self.now s)) (sym c.in_ok-ty-in-None.ensures.made)
-    (int_hole c.args.self.now c.requires))
+    let x : Option Ty = expected_type c.args.expected in
+    subst (λ t. IntDone x t c.args.self.now (with_table c.args.self.now c.next_int_var.new.self)) (sym c.in_ok-ty-in-None.ensures.hole)
+    (subst (λ s. IntDone x (ty.IntVar (hole_count c.args.self.now.table)) c.args.self.now (with_table c.args.self.now s)) (sym c.in_ok-ty-in-None.ensures.made)
+    (int_hole c.args.self.now x c.requires))
+
+pub returns-in-Some : goal.returns-in-Some
+returns-in-Some c = known_int c.args.self.now c.in-Some.ty (expected_type c.args.expected) c.requires c.in-Some.ensures
