@@ -1,4 +1,5 @@
 mod adts;
+mod bodies;
 mod branches;
 mod integers;
 mod kinds;
@@ -52,7 +53,7 @@ const AT_SEMI: &str =
 const AT_BODY: &str =
     "`bodies.0` has another shape: an object with exactly the nine keys of a body is wanted";
 
-const NO_LOOP: &str =
+const NOT_CARRIED: &str =
     "law 0 is broken at bodies[0]: each entry and part is of a kind that is carried";
 
 /// How a run is made: the words, the most bytes that an end moves, and the calls that fail.
@@ -142,7 +143,7 @@ fn check_words(rt: &(impl Abort + AllocGlobal), words: &[&str], status: u8) -> R
 }
 
 #[test]
-fn reports(rt: HostRuntime) -> Result<(), Fail> {
+fn reports_types_and_mismatches(rt: HostRuntime) -> Result<(), Fail> {
     check_body(&rt, LET, 0, LET_REPORT, "")?;
     check_body(&rt, TRUE, 1, TRUE_REPORT, "")
 }
@@ -167,7 +168,7 @@ fn refuses_texts(rt: HostRuntime) -> Result<(), Fail> {
     check_body(&rt, WORD, 7, "", AT_WORD)?;
     check_body(&rt, DEEP, 7, "", AT_SEMI)?;
     check_body(&rt, SURPLUS, 7, "", AT_BODY)?;
-    check_body(&rt, LOOP, 8, "", NO_LOOP)
+    check_body(&rt, LOOP, 8, "", NOT_CARRIED)
 }
 
 #[test]
@@ -197,7 +198,7 @@ fn ends_fail(rt: HostRuntime) -> Result<(), Fail> {
 }
 
 #[test]
-fn reads_no_more(rt: HostRuntime) -> Result<(), Fail> {
+fn refuses_more_than_2_24_bytes(rt: HostRuntime) -> Result<(), Fail> {
     let spaces = String::from_utf8(vec![in rt.alloc(); b' '; 16_777_217]?)?;
     check(&rt, &PLAIN, spaces.as_str(), 10, "", "")
 }

@@ -1,6 +1,6 @@
 //! Adts, variants, parameters and `_`, which are read, and which the first law refuses so far.
 use super::laws::{CARRIED, broken, swapped};
-use super::{NO_LOOP, check_body};
+use super::{NOT_CARRIED, check_body};
 use std::test::Fail;
 
 const PARAMS: &str = "\"params\":[],\"preds\":[]";
@@ -48,13 +48,13 @@ const NO_VARIANT: &str =
     r#"0,"exprs":["missing"],"pats":[["ctor",["variant",0],[],null]],"bindings":[]"#;
 
 const AT_VARIANT: &str =
-    "`bodies.0.pats.0.1` has another shape: a part of the kind that docs/FORMAT.md names is wanted";
+    "`bodies.0.pats.0.1` has another shape: a binding's number, a list of patterns, a path or an expression's number, as the pattern's kind asks, is wanted";
 
 #[test]
 fn reads_constructors(rt: HostRuntime) -> Result<(), Fail> {
-    check_body(&rt, PATH, 8, "", NO_LOOP)?;
-    check_body(&rt, TURBOFISH, 8, "", NO_LOOP)?;
-    check_body(&rt, PATS, 8, "", NO_LOOP)?;
+    check_body(&rt, PATH, 8, "", NOT_CARRIED)?;
+    check_body(&rt, TURBOFISH, 8, "", NOT_CARRIED)?;
+    check_body(&rt, PATS, 8, "", NOT_CARRIED)?;
     check_body(&rt, NO_VARIANT, 7, "", AT_VARIANT)
 }
 

@@ -1,6 +1,6 @@
 //! The shapes of kinds of expressions and patterns, and what the first law says of those that are not
 //! carried yet.
-use super::{NO_LOOP, check_body};
+use super::{NOT_CARRIED, check_body};
 use std::test::Fail;
 
 /// `if true { 1u8 } else { 2u8 }`, without the blocks
@@ -37,7 +37,7 @@ const AT_ARM: &str =
 fn reads_matches(rt: HostRuntime) -> Result<(), Fail> {
     let read = "fn 0\ne0 char\ne1 bool\ne2 u8\ne3 u8\np0 char\ncomplaints 0\n";
     check_body(&rt, MATCH, 0, read, "")?;
-    check_body(&rt, NO_ARMS, 8, "", NO_LOOP)?;
+    check_body(&rt, NO_ARMS, 8, "", NOT_CARRIED)?;
     check_body(&rt, NO_ARM, 7, "", AT_ARM)
 }
 
@@ -57,12 +57,12 @@ const AT_ARGUMENT: &str =
 const NO_FUNCTION: &str = r#"0,"exprs":[["path",["fn","f",null]]],"pats":[],"bindings":[]"#;
 
 const AT_FUNCTION: &str =
-    "`bodies.0.exprs.0.1.1` has another shape: a part of the kind that docs/FORMAT.md names is wanted";
+    "`bodies.0.exprs.0.1.1` has another shape: a part of the literal or of the path, or an expression's number, as the expression's kind asks, is wanted";
 
 #[test]
 fn reads_calls(rt: HostRuntime) -> Result<(), Fail> {
-    check_body(&rt, CALL, 8, "", NO_LOOP)?;
-    check_body(&rt, WRITTEN, 8, "", NO_LOOP)?;
+    check_body(&rt, CALL, 8, "", NOT_CARRIED)?;
+    check_body(&rt, WRITTEN, 8, "", NOT_CARRIED)?;
     check_body(&rt, NO_ARGUMENT, 7, "", AT_ARGUMENT)?;
     check_body(&rt, NO_FUNCTION, 7, "", AT_FUNCTION)
 }
@@ -74,7 +74,7 @@ const PATS: &str =
 const NO_PARTS: &str = r#"0,"exprs":[["lit",["char",97]]],"pats":[["tuple",0,null]],"bindings":[]"#;
 
 const AT_PARTS: &str =
-    "`bodies.0.pats.0.1` has another shape: a part of the kind that docs/FORMAT.md names is wanted";
+    "`bodies.0.pats.0.1` has another shape: a binding's number, a list of patterns, a path or an expression's number, as the pattern's kind asks, is wanted";
 
 #[test]
 fn reads_patterns(rt: HostRuntime) -> Result<(), Fail> {

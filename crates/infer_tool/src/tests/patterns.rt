@@ -1,27 +1,6 @@
 //! Tuple and literal patterns, and what comes into them.
-use super::{PLAIN, check};
-use std::process::Abort;
+use super::bodies::reported;
 use std::test::Fail;
-
-const FRONT: &str =
-    r#"{"profile":1,"edition":2021,"never_fallback":false,"new_range":false,"limits":[8,1000,8,10],"types":["u8","bool","char",["tuple",[]],["tuple",[0,1]],["tuple",[0,0]]],"modules":[null],"adts":[],"variants":[],"fns":[{"name":"f","at":["module",0],"params":[],"preds":[],"has_self":false,"inputs":[],"output":"#;
-
-const MIDDLE: &str =
-    r#","safe":true,"vis":"pub","body":0}],"consts":[],"statics":[],"traits":[],"aliases":[],"impls":[],"opaques":[],"lang":{},"bodies":[{"module":0,"traits":[],"self":null,"params":[],"root":"#;
-
-const BACK: &str = r#","labels":0}]}"#;
-
-/// Runs on a function with this body and output: 0 `u8`, 1 `bool`, 3 `()`.
-fn reported(
-    rt: &(impl Abort + AllocGlobal),
-    output: u32,
-    body: &str,
-    status: u8,
-    written: &str,
-) -> Result<(), Fail> {
-    let text = format!(in rt.alloc(); "{FRONT}{output}{MIDDLE}{body}{BACK}")?;
-    check(rt, &PLAIN, text.as_str(), status, written, "")
-}
 
 /// `let t = (1, 2); match t { (a, 7) => a, _ => 0 }`
 const DESTRUCTURED: &str =

@@ -164,7 +164,8 @@ fn read_raw(alloc: Global, text: &[u8]) -> Result<RawFacts, ReadError>
     }
 }
 
-/// The lawful facts that a text stands for.
+/// The lawful facts that a text stands for: docs/FORMAT.md. The error says why there are none: the text
+/// is no JSON, another shape is wanted at a path, a law is broken, or memory wants.
 pub fn read_facts(alloc: Global, text: &[u8]) -> Result<Facts, ReadError>
     ensures { Reads result text.now }
 {

@@ -202,7 +202,8 @@ pub fn count_complaints(table: &InferenceResult) -> usize
     count_some(table.expr_mismatches.as_slice()) + count_some(table.pat_mismatches.as_slice())
 }
 
-/// The report on the table of a definition's body. No kind that is carried yet is named by the facts.
+/// The report on the table of a definition's body: docs/FORMAT.md. The facts are not looked at: no type that
+/// is carried yet names one of theirs. Its one error is want of memory.
 pub fn write_report(
     alloc: Global,
     def: DefWithBodyId,

@@ -26,7 +26,7 @@ const VIS: &str = "\"pub\" or a module's number";
 
 const MAYBE_BODY: &str = "a body's number, or null";
 
-static PLACES: [Wanted; 80] = [
+static PLACES: [Wanted; 88] = [
     Wanted {
         path: b"",
         what: "an object with exactly the 18 keys of docs/FORMAT.md",
@@ -312,6 +312,10 @@ static PLACES: [Wanted; 80] = [
         what: "a literal, a path, a label or null, an expression or a list of such, as the expression's kind asks,",
     },
     Wanted {
+        path: b"bodies.#.exprs.#.1.#",
+        what: "a part of the literal or of the path, or an expression's number, as the expression's kind asks,",
+    },
+    Wanted {
         path: b"bodies.#.exprs.#.2",
         what: "an expression, or a list of statements, arms or expressions, as the expression's kind asks,",
     },
@@ -320,12 +324,24 @@ static PLACES: [Wanted; 80] = [
         what: "a statement, an arm or an expression, as the expression's kind asks,",
     },
     Wanted {
+        path: b"bodies.#.exprs.#.2.#.0",
+        what: "a pattern's number",
+    },
+    Wanted {
         path: b"bodies.#.exprs.#.2.#.1",
         what: "a pattern's number in a `let`, an expression's in a statement, a guard's or null in an arm",
     },
     Wanted {
         path: b"bodies.#.exprs.#.2.#.2",
         what: "an index into `types` or null in a `let`, true or false in a statement, an expression in an arm",
+    },
+    Wanted {
+        path: b"bodies.#.exprs.#.2.#.3",
+        what: MAYBE_EXPRESSION,
+    },
+    Wanted {
+        path: b"bodies.#.exprs.#.2.#.4",
+        what: MAYBE_EXPRESSION,
     },
     Wanted {
         path: b"bodies.#.exprs.#.3",
@@ -338,6 +354,22 @@ static PLACES: [Wanted; 80] = [
     Wanted {
         path: b"bodies.#.pats.#",
         what: "a pattern, which is its word or an array of its word and exactly its parts,",
+    },
+    Wanted {
+        path: b"bodies.#.pats.#.1",
+        what: "a binding's number, a list of patterns, a path or an expression's number, as the pattern's kind asks,",
+    },
+    Wanted {
+        path: b"bodies.#.pats.#.1.#",
+        what: "a pattern's number, or a part of the path, as the pattern's kind asks,",
+    },
+    Wanted {
+        path: b"bodies.#.pats.#.2",
+        what: "a pattern's number, a list of such, or null, as the pattern's kind asks,",
+    },
+    Wanted {
+        path: b"bodies.#.pats.#.2.#",
+        what: "a pattern's number",
     },
     Wanted {
         path: b"bodies.#.bindings",
