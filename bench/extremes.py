@@ -3,6 +3,7 @@
 each kind, the deepest nesting that JSON may have, one huge string, and what the laws allow at most.
 
 Usage: bench/extremes.py
+Build the program first: cd crates/infer_tool && rt run -- table fn 0 < ../../examples/first_run.json
 """
 import json
 

@@ -3,6 +3,7 @@
 want of memory (status 5), write nothing on standard output, and say so on standard error.
 
 Usage: tools/fail_alloc.py [EXAMPLE]      (examples/first_run.json where none is given; needs a C compiler)
+Build the program first: cd crates/infer_tool && rt run -- table fn 0 < ../../examples/first_run.json
 """
 import os
 import subprocess

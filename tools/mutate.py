@@ -5,6 +5,7 @@ Bytes are flipped, cut out and doubled, keys dropped, numbers changed, lists cut
 status came, and fails at a crash, a hang (10 seconds), a status that is none of the program's, and
 output at a status that writes none.
 Usage: tools/mutate.py [COUNT [SEED]]      (20000, 1 where none is given)
+Build the program first: cd crates/infer_tool && rt run -- table fn 0 < ../../examples/first_run.json
 """
 import collections
 import glob
