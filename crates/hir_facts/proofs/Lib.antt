@@ -24,5 +24,4 @@ pub mod Schedules
 pub mod Binding
 pub mod Scoping
 pub mod Allowed
-pub mod Fitting
 pub mod Lowering

@@ -1,4 +1,4 @@
--- Types of the carried kinds: they have no holes and no labels, and name nothing of the facts.
+-- Types of the carried kinds: they have no holes and no labels.
 use Rattle.std.specs.Prelude.{◌≡◌, ℕ, zero, suc, Bool, true, false, ◌&&◌, ◌||◌, List, [], ◌∷◌, map, slice_get, Option, Some, None, refl, IsTrue}
 use Rattle.std.specs.List.{list_all, list_any}
 use Rattle.std.proofs.Common.{sym, ◌∙◌, ap, subst}
@@ -7,14 +7,17 @@ use Rattle.hir_types.specs.declared.ids.DefWithBodyId.{DefWithBodyId}
 use Rattle.hir_types.specs.declared.ids.DefWithBodyId.TheVariants as def
 use Rattle.hir_types.specs.declared.ids.TypeRefId.{TypeRefId}
 use Rattle.hir_types.specs.declared.ty.AliasBound.{AliasBound, AliasBound-F, roll-AliasBound}
-use Rattle.hir_types.specs.declared.ty.GenericArg.{GenericArg, GenericArg-F, roll-GenericArg}
+use Rattle.hir_types.specs.declared.ids.AdtId.{AdtId}
+use Rattle.hir_types.specs.declared.ids.CallableDefId.{CallableDefId}
+use Rattle.hir_types.specs.declared.ty.GenericArg.{GenericArg, GenericArg-F, map-GenericArg, fold-GenericArg, fold-roll-GenericArg, roll-GenericArg}
+use Rattle.hir_types.specs.declared.ty.GenericArg.TheVariants as arg
 use Rattle.hir_types.specs.declared.ty.TraitRef.{TraitRef, TraitRef-F, roll-TraitRef}
 use Rattle.hir_types.specs.declared.ty.IntegerTy.{IntegerTy}
 use Rattle.hir_types.specs.declared.ty.IntegerTy.TheVariants.{Int, Uint}
 use Rattle.hir_types.specs.declared.ty.Ty.{Ty, Ty-F, map-Ty, ind-Ty, fold-Ty, roll-Ty, fold-roll-Ty}
 use Rattle.hir_types.specs.declared.ty.Ty.TheVariants as ty
 use Rattle.hir_types.specs.Types.{integer_type}
-use Rattle.hir_types.specs.Erasure.{erased, erased_step, Same, has_hole, hole_arg, hole_step, hole_bound, hole_trait, IsClosed}
+use Rattle.hir_types.specs.Erasure.{erased, arg_erased, erased_step, Same, has_hole, hole_arg, hole_step, hole_bound, hole_trait, IsClosed}
 use Rattle.hir_facts.specs.declared.raw.RawType.{RawType}
 use Rattle.hir_facts.specs.declared.raw.RawType.TheVariants as type
 use Rattle.hir_facts.specs.declared.raw.RawFn.{RawFn}
@@ -22,10 +25,11 @@ use Rattle.hir_facts.specs.declared.raw.RawFacts.{RawFacts}
 use Rattle.hir_facts.specs.Laws.Entries.{AllHold}
 use Rattle.hir_facts.specs.Laws.Carried.{is_carried_type as is_carried_kind}
 use Rattle.hir_facts.specs.Types.{lowered_by, lowered_within, written_type}
-use Rattle.hir_facts.specs.Bodies.{fits_arg, fits_step, fits_bound, fits_trait, ty_fits, output_by, return_type}
+use Rattle.hir_facts.specs.Bodies.{output_by, return_type}
 
 abbrev pub carried_arg : GenericArg-F Bool Bool Bool Bool → Bool
-carried_arg a = false
+carried_arg (GenericArg-F.Ty b) = b
+carried_arg (GenericArg-F.Const c) = false
 
 abbrev pub carried_bound : AliasBound-F Bool Bool Bool Bool → Bool
 carried_bound b = false
@@ -39,11 +43,18 @@ carried_step Ty-F.Char = true
 carried_step (Ty-F.Int i) = true
 carried_step (Ty-F.Uint i) = true
 carried_step (Ty-F.Tuple bs) = list_all (λ b. b) bs
+carried_step (Ty-F.Adt i bs) = list_all (λ b. b) bs
+carried_step (Ty-F.FnDef i bs) = list_all (λ b. b) bs
+carried_step (Ty-F.Param n) = true
 carried_step Ty-F.Error = true
 carried_step _ = false
 
 abbrev pub is_carried_type : Ty → Bool
 is_carried_type = fold-Ty Bool Bool Bool Bool carried_arg carried_step carried_bound carried_trait
+
+-- an argument is a type of these
+abbrev pub is_carried_arg : GenericArg → Bool
+is_carried_arg = fold-GenericArg Bool Bool Bool Bool carried_arg carried_step carried_bound carried_trait
 
 -- the type is made of carried kinds alone
 abbrev pub IsCarriedType : Ty → Type 0
@@ -53,6 +64,9 @@ IsCarriedType t = is_carried_type t ≡ true
 abbrev pub AreCarriedTypes : List Ty → Type 0
 AreCarriedTypes ts = list_all is_carried_type ts ≡ true
 
+abbrev pub AreCarriedArgs : List GenericArg → Type 0
+AreCarriedArgs xs = list_all is_carried_arg xs ≡ true
+
 -- ---- kind by kind
 
 list_all_map : {X : Type 0} (f : X → Bool) (xs : List X) → list_all (λ b. b) (map f xs) ≡ list_all f xs
@@ -61,6 +75,18 @@ list_all_map f (x ∷ xs) = λ i. f x && list_all_map f xs i
 
 pub carried_tuple : (ts : List Ty) → is_carried_type (ty.Tuple ts) ≡ list_all is_carried_type ts
 carried_tuple ts = ap is_carried_type (sym (ty.rolls-Tuple ts)) ∙ (fold-roll-Ty Bool Bool Bool Bool carried_arg carried_step carried_bound carried_trait (Ty-F.Tuple ts) ∙ list_all_map is_carried_type ts)
+
+pub carried_adt : (i : AdtId) (xs : List GenericArg) → is_carried_type (ty.Adt i xs) ≡ list_all is_carried_arg xs
+carried_adt i xs = ap is_carried_type (sym (ty.rolls-Adt i xs)) ∙ (fold-roll-Ty Bool Bool Bool Bool carried_arg carried_step carried_bound carried_trait (Ty-F.Adt i xs) ∙ list_all_map is_carried_arg xs)
+
+pub carried_fn_def : (i : CallableDefId) (xs : List GenericArg) → is_carried_type (ty.FnDef i xs) ≡ list_all is_carried_arg xs
+carried_fn_def i xs = ap is_carried_type (sym (ty.rolls-FnDef i xs)) ∙ (fold-roll-Ty Bool Bool Bool Bool carried_arg carried_step carried_bound carried_trait (Ty-F.FnDef i xs) ∙ list_all_map is_carried_arg xs)
+
+pub carried_param : (n : ℕ) → IsCarriedType (ty.Param n)
+carried_param n = ap is_carried_type (sym (ty.rolls-Param n)) ∙ fold-roll-Ty Bool Bool Bool Bool carried_arg carried_step carried_bound carried_trait (Ty-F.Param n)
+
+pub carried_type_arg : (t : Ty) → is_carried_arg (arg.Ty t) ≡ is_carried_type t
+carried_type_arg t = ap is_carried_arg (sym (arg.rolls-Ty t)) ∙ fold-roll-GenericArg Bool Bool Bool Bool carried_arg carried_step carried_bound carried_trait (GenericArg-F.Ty t)
 
 pub carried_bool : IsCarriedType ty.Bool
 carried_bool = ap is_carried_type (sym ty.rolls-Bool) ∙ fold-roll-Ty Bool Bool Bool Bool carried_arg carried_step carried_bound carried_trait Ty-F.Bool
@@ -79,31 +105,46 @@ carried_integer (Uint i) = ap is_carried_type (sym (ty.rolls-Uint i)) ∙ fold-r
 
 pub record Bare (t : Ty) : Type 0 where
   pub closed : IsClosed t
-  pub fits : ty_fits t ≡ true
   pub unlabelled : erased t ≡ t
+
+abbrev arg_has_hole : GenericArg → Bool
+arg_has_hole = fold-GenericArg Bool Bool Bool Bool hole_arg hole_step hole_bound hole_trait
+
+record BareArg (x : GenericArg) : Type 0 where
+  arg_closed : arg_has_hole x ≡ false
+  arg_unlabelled : arg_erased x ≡ x
 
 abbrev Told : Type 0
 Told = (t : Ty) × (IsCarriedType t → Bare t)
+
+abbrev ArgTold : Type 0
+ArgTold = (x : GenericArg) × (is_carried_arg x ≡ true → BareArg x)
 
 both : (a b : Bool) → (a && b) ≡ true → (a ≡ true) × (b ≡ true)
 both true b h = (refl, h)
 both false b h = absurd (true≢false (sym h))
 
 all_bare : (ts : List Told) → list_all (λ b. b) (map is_carried_type (map (λ e. e.0) ts)) ≡ true
-    → (list_any (λ b. b) (map has_hole (map (λ e. e.0) ts)) ≡ false) × (list_all (λ b. b) (map ty_fits (map (λ e. e.0) ts)) ≡ true)
-    × (map erased (map (λ e. e.0) ts) ≡ map (λ e. e.0) ts)
-all_bare [] h = (refl, refl, refl)
+    → (list_any (λ b. b) (map has_hole (map (λ e. e.0) ts)) ≡ false) × (map erased (map (λ e. e.0) ts) ≡ map (λ e. e.0) ts)
+all_bare [] h = (refl, refl)
 all_bare (t ∷ ts) h =
     let q = both (is_carried_type t.0) (list_all (λ b. b) (map is_carried_type (map (λ e. e.0) ts))) h in
     let here = t.1 q.0 in
     let rest = all_bare ts q.1 in (
       ap (λ (b : Bool). b || list_any (λ b. b) (map has_hole (map (λ e. e.0) ts))) here.closed ∙ rest.0,
-      ap (λ (b : Bool). b && list_all (λ b. b) (map ty_fits (map (λ e. e.0) ts))) here.fits ∙ rest.1,
-      λ i. here.unlabelled i ∷ rest.2 i,
+      λ i. here.unlabelled i ∷ rest.1 i,
     )
 
-abbrev ArgTold : Type 0
-ArgTold = GenericArg × Unit {0}
+args_bare : (xs : List ArgTold) → list_all (λ b. b) (map is_carried_arg (map (λ e. e.0) xs)) ≡ true
+    → (list_any (λ b. b) (map arg_has_hole (map (λ e. e.0) xs)) ≡ false) × (map arg_erased (map (λ e. e.0) xs) ≡ map (λ e. e.0) xs)
+args_bare [] h = (refl, refl)
+args_bare (x ∷ xs) h =
+    let q = both (is_carried_arg x.0) (list_all (λ b. b) (map is_carried_arg (map (λ e. e.0) xs))) h in
+    let here = x.1 q.0 in
+    let rest = args_bare xs q.1 in (
+      ap (λ (b : Bool). b || list_any (λ b. b) (map arg_has_hole (map (λ e. e.0) xs))) here.arg_closed ∙ rest.0,
+      λ i. here.arg_unlabelled i ∷ rest.1 i,
+    )
 
 abbrev BoundTold : Type 0
 BoundTold = AliasBound × Unit {0}
@@ -114,19 +155,21 @@ TraitTold = TraitRef × Unit {0}
 abbrev told_of : Ty-F ArgTold Told BoundTold TraitTold → Ty-F GenericArg Ty AliasBound TraitRef
 told_of = map-Ty ArgTold Told BoundTold TraitTold GenericArg Ty AliasBound TraitRef (λ e. e.0) (λ e. e.0) (λ e. e.0) (λ e. e.0)
 
+abbrev told_of_arg : GenericArg-F ArgTold Told BoundTold TraitTold → GenericArg-F GenericArg Ty AliasBound TraitRef
+told_of_arg = map-GenericArg ArgTold Told BoundTold TraitTold GenericArg Ty AliasBound TraitRef (λ e. e.0) (λ e. e.0) (λ e. e.0) (λ e. e.0)
+
 layer_bare : (y : Ty-F ArgTold Told BoundTold TraitTold) → IsCarriedType (roll-Ty (told_of y)) → Bare (roll-Ty (told_of y))
-layer_bare Ty-F.Bool h = record { closed = fold-roll-Ty Bool Bool Bool Bool hole_arg hole_step hole_bound hole_trait Ty-F.Bool; fits = fold-roll-Ty Bool Bool Bool Bool fits_arg fits_step fits_bound fits_trait Ty-F.Bool; unlabelled = fold-roll-Ty GenericArg Ty AliasBound TraitRef roll-GenericArg erased_step roll-AliasBound roll-TraitRef Ty-F.Bool }
-layer_bare Ty-F.Char h = record { closed = fold-roll-Ty Bool Bool Bool Bool hole_arg hole_step hole_bound hole_trait Ty-F.Char; fits = fold-roll-Ty Bool Bool Bool Bool fits_arg fits_step fits_bound fits_trait Ty-F.Char; unlabelled = fold-roll-Ty GenericArg Ty AliasBound TraitRef roll-GenericArg erased_step roll-AliasBound roll-TraitRef Ty-F.Char }
-layer_bare (Ty-F.Int i) h = record { closed = fold-roll-Ty Bool Bool Bool Bool hole_arg hole_step hole_bound hole_trait (Ty-F.Int i); fits = fold-roll-Ty Bool Bool Bool Bool fits_arg fits_step fits_bound fits_trait (Ty-F.Int i); unlabelled = fold-roll-Ty GenericArg Ty AliasBound TraitRef roll-GenericArg erased_step roll-AliasBound roll-TraitRef (Ty-F.Int i) }
-layer_bare (Ty-F.Uint i) h = record { closed = fold-roll-Ty Bool Bool Bool Bool hole_arg hole_step hole_bound hole_trait (Ty-F.Uint i); fits = fold-roll-Ty Bool Bool Bool Bool fits_arg fits_step fits_bound fits_trait (Ty-F.Uint i); unlabelled = fold-roll-Ty GenericArg Ty AliasBound TraitRef roll-GenericArg erased_step roll-AliasBound roll-TraitRef (Ty-F.Uint i) }
-layer_bare Ty-F.Error h = record { closed = fold-roll-Ty Bool Bool Bool Bool hole_arg hole_step hole_bound hole_trait Ty-F.Error; fits = fold-roll-Ty Bool Bool Bool Bool fits_arg fits_step fits_bound fits_trait Ty-F.Error; unlabelled = fold-roll-Ty GenericArg Ty AliasBound TraitRef roll-GenericArg erased_step roll-AliasBound roll-TraitRef Ty-F.Error }
+layer_bare Ty-F.Bool h = record { closed = fold-roll-Ty Bool Bool Bool Bool hole_arg hole_step hole_bound hole_trait Ty-F.Bool; unlabelled = fold-roll-Ty GenericArg Ty AliasBound TraitRef roll-GenericArg erased_step roll-AliasBound roll-TraitRef Ty-F.Bool }
+layer_bare Ty-F.Char h = record { closed = fold-roll-Ty Bool Bool Bool Bool hole_arg hole_step hole_bound hole_trait Ty-F.Char; unlabelled = fold-roll-Ty GenericArg Ty AliasBound TraitRef roll-GenericArg erased_step roll-AliasBound roll-TraitRef Ty-F.Char }
+layer_bare (Ty-F.Int i) h = record { closed = fold-roll-Ty Bool Bool Bool Bool hole_arg hole_step hole_bound hole_trait (Ty-F.Int i); unlabelled = fold-roll-Ty GenericArg Ty AliasBound TraitRef roll-GenericArg erased_step roll-AliasBound roll-TraitRef (Ty-F.Int i) }
+layer_bare (Ty-F.Uint i) h = record { closed = fold-roll-Ty Bool Bool Bool Bool hole_arg hole_step hole_bound hole_trait (Ty-F.Uint i); unlabelled = fold-roll-Ty GenericArg Ty AliasBound TraitRef roll-GenericArg erased_step roll-AliasBound roll-TraitRef (Ty-F.Uint i) }
+layer_bare Ty-F.Error h = record { closed = fold-roll-Ty Bool Bool Bool Bool hole_arg hole_step hole_bound hole_trait Ty-F.Error; unlabelled = fold-roll-Ty GenericArg Ty AliasBound TraitRef roll-GenericArg erased_step roll-AliasBound roll-TraitRef Ty-F.Error }
 layer_bare (Ty-F.Tuple ts) h =
     let us : List Ty = map (λ e. e.0) ts in
     let all = all_bare ts (sym (fold-roll-Ty Bool Bool Bool Bool carried_arg carried_step carried_bound carried_trait (Ty-F.Tuple us)) ∙ h) in
     record {
       closed = fold-roll-Ty Bool Bool Bool Bool hole_arg hole_step hole_bound hole_trait (Ty-F.Tuple us) ∙ all.0;
-      fits = fold-roll-Ty Bool Bool Bool Bool fits_arg fits_step fits_bound fits_trait (Ty-F.Tuple us) ∙ all.1;
-      unlabelled = fold-roll-Ty GenericArg Ty AliasBound TraitRef roll-GenericArg erased_step roll-AliasBound roll-TraitRef (Ty-F.Tuple us) ∙ ap (λ vs. roll-Ty (Ty-F.Tuple vs)) all.2;
+      unlabelled = fold-roll-Ty GenericArg Ty AliasBound TraitRef roll-GenericArg erased_step roll-AliasBound roll-TraitRef (Ty-F.Tuple us) ∙ ap (λ vs. roll-Ty (Ty-F.Tuple vs)) all.1;
     }
 layer_bare (Ty-F.Float f) h = absurd (true≢false (sym h ∙ fold-roll-Ty Bool Bool Bool Bool carried_arg carried_step carried_bound carried_trait (told_of (Ty-F.Float f))))
 layer_bare Ty-F.Str h = absurd (true≢false (sym h ∙ fold-roll-Ty Bool Bool Bool Bool carried_arg carried_step carried_bound carried_trait (told_of Ty-F.Str)))
@@ -135,12 +178,24 @@ layer_bare (Ty-F.Array t c) h = absurd (true≢false (sym h ∙ fold-roll-Ty Boo
 layer_bare (Ty-F.Slice t) h = absurd (true≢false (sym h ∙ fold-roll-Ty Bool Bool Bool Bool carried_arg carried_step carried_bound carried_trait (told_of (Ty-F.Slice t))))
 layer_bare (Ty-F.Ref m r t) h = absurd (true≢false (sym h ∙ fold-roll-Ty Bool Bool Bool Bool carried_arg carried_step carried_bound carried_trait (told_of (Ty-F.Ref m r t))))
 layer_bare (Ty-F.RawPtr m t) h = absurd (true≢false (sym h ∙ fold-roll-Ty Bool Bool Bool Bool carried_arg carried_step carried_bound carried_trait (told_of (Ty-F.RawPtr m t))))
-layer_bare (Ty-F.Adt i xs) h = absurd (true≢false (sym h ∙ fold-roll-Ty Bool Bool Bool Bool carried_arg carried_step carried_bound carried_trait (told_of (Ty-F.Adt i xs))))
-layer_bare (Ty-F.FnDef i xs) h = absurd (true≢false (sym h ∙ fold-roll-Ty Bool Bool Bool Bool carried_arg carried_step carried_bound carried_trait (told_of (Ty-F.FnDef i xs))))
+layer_bare (Ty-F.Adt i xs) h =
+    let us : List GenericArg = map (λ e. e.0) xs in
+    let all = args_bare xs (sym (fold-roll-Ty Bool Bool Bool Bool carried_arg carried_step carried_bound carried_trait (Ty-F.Adt i us)) ∙ h) in
+    record {
+      closed = fold-roll-Ty Bool Bool Bool Bool hole_arg hole_step hole_bound hole_trait (Ty-F.Adt i us) ∙ all.0;
+      unlabelled = fold-roll-Ty GenericArg Ty AliasBound TraitRef roll-GenericArg erased_step roll-AliasBound roll-TraitRef (Ty-F.Adt i us) ∙ ap (λ vs. roll-Ty (Ty-F.Adt i vs)) all.1;
+    }
+layer_bare (Ty-F.FnDef i xs) h =
+    let us : List GenericArg = map (λ e. e.0) xs in
+    let all = args_bare xs (sym (fold-roll-Ty Bool Bool Bool Bool carried_arg carried_step carried_bound carried_trait (Ty-F.FnDef i us)) ∙ h) in
+    record {
+      closed = fold-roll-Ty Bool Bool Bool Bool hole_arg hole_step hole_bound hole_trait (Ty-F.FnDef i us) ∙ all.0;
+      unlabelled = fold-roll-Ty GenericArg Ty AliasBound TraitRef roll-GenericArg erased_step roll-AliasBound roll-TraitRef (Ty-F.FnDef i us) ∙ ap (λ vs. roll-Ty (Ty-F.FnDef i vs)) all.1;
+    }
 layer_bare (Ty-F.FnPtr s ts t) h = absurd (true≢false (sym h ∙ fold-roll-Ty Bool Bool Bool Bool carried_arg carried_step carried_bound carried_trait (told_of (Ty-F.FnPtr s ts t))))
 layer_bare (Ty-F.Closure i ts t) h = absurd (true≢false (sym h ∙ fold-roll-Ty Bool Bool Bool Bool carried_arg carried_step carried_bound carried_trait (told_of (Ty-F.Closure i ts t))))
 layer_bare (Ty-F.Dynamic o bs ts) h = absurd (true≢false (sym h ∙ fold-roll-Ty Bool Bool Bool Bool carried_arg carried_step carried_bound carried_trait (told_of (Ty-F.Dynamic o bs ts))))
-layer_bare (Ty-F.Param n) h = absurd (true≢false (sym h ∙ fold-roll-Ty Bool Bool Bool Bool carried_arg carried_step carried_bound carried_trait (told_of (Ty-F.Param n))))
+layer_bare (Ty-F.Param n) h = record { closed = fold-roll-Ty Bool Bool Bool Bool hole_arg hole_step hole_bound hole_trait (Ty-F.Param n); unlabelled = fold-roll-Ty GenericArg Ty AliasBound TraitRef roll-GenericArg erased_step roll-AliasBound roll-TraitRef (Ty-F.Param n) }
 layer_bare (Ty-F.Projection i xs) h = absurd (true≢false (sym h ∙ fold-roll-Ty Bool Bool Bool Bool carried_arg carried_step carried_bound carried_trait (told_of (Ty-F.Projection i xs))))
 layer_bare (Ty-F.Opaque i xs) h = absurd (true≢false (sym h ∙ fold-roll-Ty Bool Bool Bool Bool carried_arg carried_step carried_bound carried_trait (told_of (Ty-F.Opaque i xs))))
 layer_bare (Ty-F.Var n) h = absurd (true≢false (sym h ∙ fold-roll-Ty Bool Bool Bool Bool carried_arg carried_step carried_bound carried_trait (told_of (Ty-F.Var n))))
@@ -150,8 +205,21 @@ layer_bare Ty-F.Hole h = absurd (true≢false (sym h ∙ fold-roll-Ty Bool Bool 
 step_bare : (x : Ty-F GenericArg Ty AliasBound TraitRef) (y : Ty-F ArgTold Told BoundTold TraitTold) → told_of y ≡ x → IsCarriedType (roll-Ty x) → Bare (roll-Ty x)
 step_bare x y is = subst (λ z. IsCarriedType (roll-Ty z) → Bare (roll-Ty z)) is (layer_bare y)
 
+layer_bare_arg : (y : GenericArg-F ArgTold Told BoundTold TraitTold) → is_carried_arg (roll-GenericArg (told_of_arg y)) ≡ true → BareArg (roll-GenericArg (told_of_arg y))
+layer_bare_arg (GenericArg-F.Ty t) h =
+    let is = fold-roll-GenericArg Bool Bool Bool Bool carried_arg carried_step carried_bound carried_trait (GenericArg-F.Ty t.0) in
+    let here = t.1 (sym is ∙ h) in
+    record {
+      arg_closed = fold-roll-GenericArg Bool Bool Bool Bool hole_arg hole_step hole_bound hole_trait (GenericArg-F.Ty t.0) ∙ here.closed;
+      arg_unlabelled = fold-roll-GenericArg GenericArg Ty AliasBound TraitRef roll-GenericArg erased_step roll-AliasBound roll-TraitRef (GenericArg-F.Ty t.0) ∙ ap (λ u. roll-GenericArg (GenericArg-F.Ty u)) here.unlabelled;
+    }
+layer_bare_arg (GenericArg-F.Const c) h = absurd (true≢false (sym h ∙ fold-roll-GenericArg Bool Bool Bool Bool carried_arg carried_step carried_bound carried_trait (GenericArg-F.Const c)))
+
+step_bare_arg : (x : GenericArg-F GenericArg Ty AliasBound TraitRef) (y : GenericArg-F ArgTold Told BoundTold TraitTold) → told_of_arg y ≡ x → is_carried_arg (roll-GenericArg x) ≡ true → BareArg (roll-GenericArg x)
+step_bare_arg x y is = subst (λ z. is_carried_arg (roll-GenericArg z) ≡ true → BareArg (roll-GenericArg z)) is (layer_bare_arg y)
+
 pub carried_bare : (t : Ty) → IsCarriedType t → Bare t
-carried_bare = ind-Ty (λ _. Unit {0}) (λ t. IsCarriedType t → Bare t) (λ _. Unit {0}) (λ _. Unit {0}) (λ x y is. tt) step_bare (λ x y is. tt) (λ x y is. tt)
+carried_bare = ind-Ty (λ x. is_carried_arg x ≡ true → BareArg x) (λ t. IsCarriedType t → Bare t) (λ _. Unit {0}) (λ _. Unit {0}) step_bare_arg step_bare (λ x y is. tt) (λ x y is. tt)
 
 -- carried types that are the same but for labels are equal
 pub same_carried : (s t : Ty) → IsCarriedType s → IsCarriedType t → Same s t → s ≡ t
@@ -163,13 +231,17 @@ parts_carried : (f : ℕ → Ty) (ts : List TypeRefId) → ((j : ℕ) → IsCarr
 parts_carried f [] h = refl
 parts_carried f (t ∷ ts) h = ap (λ (b : Bool). b && list_all is_carried_type (map (λ t. f t.0) ts)) (h t.0) ∙ parts_carried f ts h
 
+args_carried : (f : ℕ → Ty) (ts : List TypeRefId) → ((j : ℕ) → IsCarriedType (f j)) → AreCarriedArgs (map (λ t. arg.Ty (f t.0)) ts)
+args_carried f [] h = refl
+args_carried f (t ∷ ts) h = ap (λ (b : Bool). b && list_all is_carried_arg (map (λ t. arg.Ty (f t.0)) ts)) (carried_type_arg (f t.0) ∙ h t.0) ∙ args_carried f ts h
+
 by_carried : (f : ℕ → Ty) (x : RawType) → ((j : ℕ) → IsCarriedType (f j)) → IsTrue (is_carried_kind x) → IsCarriedType (lowered_by f (Some x))
 by_carried f type.Bool h c = carried_bool
 by_carried f type.Char h c = carried_char
 by_carried f (type.Integer i) h c = carried_integer i
 by_carried f (type.Tuple ts) h c = carried_tuple (map (λ t. f t.0) ts) ∙ parts_carried f ts h
-by_carried f (type.Adt a ts) h c = absurd (true≢false (sym c))
-by_carried f (type.Param n) h c = absurd (true≢false (sym c))
+by_carried f (type.Adt a ts) h c = carried_adt a (map (λ t. arg.Ty (f t.0)) ts) ∙ args_carried f ts h
+by_carried f (type.Param n) h c = carried_param n
 by_carried f type.Hole h c = absurd (true≢false (sym c))
 by_carried f type.Other h c = carried_error
 

@@ -2,7 +2,7 @@
 use Rattle.std.specs.Prelude.{IsTrue}
 use Rattle.hir_facts.specs.declared.raw.RawFacts.{RawFacts}
 use Rattle.hir_facts.specs.Laws.Entries.{AllHold}
-use Rattle.hir_facts.specs.Laws.Carried.{is_carried_type, is_carried_fn, is_carried_body}
+use Rattle.hir_facts.specs.Laws.Carried.{is_carried_type, is_carried_adt, is_carried_variant, is_carried_fn, is_carried_body}
 use Rattle.hir_facts.specs.Laws.Ids.{ChildrenBefore, TypeIdsExist, ParentBefore, AdtIdsExist, VariantIdsExist, FnIdsExist, BodyIdsExist}
 use Rattle.hir_facts.specs.Laws.Counts.{CountsFit, AdtFits, VariantFits, FnFits}
 use Rattle.hir_facts.specs.Laws.Trees.{IsWellFormed}
@@ -16,6 +16,12 @@ use Rattle.hir_facts.specs.Laws.Lawful.{IsLawful}
 
 pub types_carried : (raw : RawFacts) → IsLawful raw → AllHold (λ i t. IsTrue (is_carried_type t)) raw.types
 types_carried raw law = law.all.0
+
+pub adts_carried : (raw : RawFacts) → IsLawful raw → AllHold (λ i a. IsTrue (is_carried_adt a)) raw.adts
+adts_carried raw law = law.all.1.0
+
+pub variants_carried : (raw : RawFacts) → IsLawful raw → AllHold (λ i v. IsTrue (is_carried_variant v)) raw.variants
+variants_carried raw law = law.all.1.1.0
 
 pub fns_carried : (raw : RawFacts) → IsLawful raw → AllHold (λ i f. IsTrue (is_carried_fn f)) raw.fns
 fns_carried raw law = law.all.1.1.1.0

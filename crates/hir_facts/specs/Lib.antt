@@ -2,8 +2,13 @@ pub mod Types
 pub mod Order
 pub mod Laws
 pub mod Bodies
+pub mod Scope
+pub mod Fit
+pub mod Fitting
+pub mod Signatures
 pub mod Lowered
 pub mod CarriedTypes
+pub mod CarriedBodies
 pub mod AdtLayers
 pub mod Ways
 pub mod Graph
@@ -12,3 +17,5 @@ pub mod Nodes
 pub mod LawfulFacts
 pub mod Walkable
 pub mod InRange
+pub mod Most
+pub mod WrittenFits

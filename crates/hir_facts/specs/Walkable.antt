@@ -1,9 +1,7 @@
 -- The bodies of lawful facts can be walked, and their functions have a written type for each parameter.
-use Rattle.std.specs.Prelude.{◌≡◌, ◌<◌, ◌+◌, ℕ, ◌&&◌, [], length, slice_get, Option, Some, None, IsTrue, refl, is_none}
-use Rattle.std.specs.List.{list_all}
+use Rattle.std.specs.Prelude.{◌≡◌, ◌<◌, ◌+◌, ℕ, [], length, slice_get, Option, Some, None, IsTrue, refl}
 use Rattle.std.specs.Option.{option_and_then}
 use Rattle.std.proofs.Common.{ap, arith, inl, inr}
-use Rattle.std.specs.Cmp.{second_so}
 use Rattle.hir_types.specs.declared.ids.BodyId.{BodyId}
 use Rattle.hir_types.specs.declared.ids.TypeRefId.{TypeRefId}
 use Rattle.hir_types.specs.declared.ids.DefWithBodyId.{DefWithBodyId}
@@ -14,27 +12,17 @@ use Rattle.hir_facts.specs.declared.raw.RawFacts.{RawFacts}
 use Rattle.hir_facts.specs.declared.schedule.Schedule.{Schedule}
 use Rattle.hir_facts.specs.Order.{IsSchedule}
 use Rattle.hir_facts.specs.Bodies.{IsWalkable, body_id_of, inputs_by, inputs_of}
-use Rattle.hir_facts.specs.Laws.Carried.{is_carried_expr, is_carried_pat, is_carried_binding, is_carried_body}
+use Rattle.hir_facts.specs.Laws.Carried.{is_carried_body}
+use Rattle.hir_facts.specs.CarriedBodies.{carried_parts}
 use Rattle.hir_facts.specs.Laws.Ids.{BodyIdsExist}
 use Rattle.hir_facts.specs.Laws.Counts.{count_of}
 use Rattle.hir_facts.specs.Laws.Trees.{IsWellFormed}
 use Rattle.hir_facts.specs.Laws.Lawful.{IsLawful}
 use Rattle.hir_facts.specs.LawfulFacts.{fn_ids, bodies_carried, body_ids, counts_fit, bodies_well_formed, scopes_hold, bodies_small}
 
-none_is : {A : Type 0} (o : Option A) → IsTrue (is_none o) → o ≡ None
-none_is None e = refl
-none_is (Some x) e = cc
-
 -- a carried body has no `self`
 pub no_self : (b : RawBody) → IsTrue (is_carried_body b) → b.self_ ≡ None
-no_self b h =
-    none_is b.self_ (
-    second_so (list_all is_carried_binding b.bindings) (is_none b.self_) (
-    second_so (list_all is_carried_pat b.pats) (list_all is_carried_binding b.bindings && is_none b.self_) (
-    second_so (list_all is_carried_expr b.exprs) (list_all is_carried_pat b.pats && (list_all is_carried_binding b.bindings && is_none b.self_)) h
-    )
-    )
-    )
+no_self b h = (carried_parts b h).no_self
 
 -- each body of lawful facts can be walked in the order of its numbers
 pub walkable : (raw : RawFacts) → IsLawful raw → (i : ℕ) (b : RawBody) (s : Schedule) → slice_get raw.bodies i ≡ Some b → IsSchedule b s → IsWalkable b s

@@ -4,14 +4,16 @@ ghost use Rattle.hir_facts.specs.Laws.Entries.{AllHold};
 ghost use Rattle.hir_facts.specs.Laws.Ids.{TypeIdsExist, BodyIdsExist};
 ghost use Rattle.hir_facts.specs.Laws.Trees.{IsWellFormed};
 ghost use Rattle.hir_facts.specs.Laws.Scheduled.{AreSchedules};
-ghost use Rattle.hir_facts.specs.Laws.Lawful.{IsLawful, PassesAll, carried_tests, ids_tests, counts_tests, trees_tests, scopes_tests, sizes_tests, limits_tests, literals_tests, holes_tests, tests};
+ghost use Rattle.hir_facts.specs.Laws.Lawful.{IsLawful, PassesAll, item_tests, unread_tests, body_tests, carried_tests, ids_tests, counts_tests, trees_tests, scopes_tests, sizes_tests, limits_tests, literals_tests, holes_tests, tests};
 ghost use Rattle.hir_facts.specs.Laws.Refused.{Refuses};
 
 use crate::facts_error::FactsError;
 use crate::laws::adt_ids::{AdtIds, VariantIds};
 use crate::laws::body_ids::BodyIds;
 use crate::laws::body_sizes::BodySizes;
-use crate::laws::carried::{BodiesCarried, FnsCarried, TypesCarried, first_other};
+use crate::laws::carried::{
+    AdtsCarried, BodiesCarried, FnsCarried, TypesCarried, VariantsCarried, first_other,
+};
 use crate::laws::counts::{AdtCounts, FnCounts, Standing, VariantCounts};
 use crate::laws::fields::FieldNames;
 use crate::laws::ids::{FnIds, ModuleIds, TypeIds};
@@ -37,18 +39,25 @@ fn allow(law: Law, list: FactsList, found: Option<usize>) -> Result<(), FactsErr
     }
 }
 
-fn check_carried(alloc: Global, raw: &RawFacts) -> Result<(), FactsError>
-    ensures ok { IfOk result (λ _. PassesAll raw.now carried_tests) }
-    ensures err { IfErr result (λ e. Refuses raw.now carried_tests e) }
+fn check_items(alloc: Global, raw: &RawFacts) -> Result<(), FactsError>
+    ensures ok { IfOk result (λ _. PassesAll raw.now item_tests) }
+    ensures err { IfErr result (λ e. Refuses raw.now item_tests e) }
 {
     let types = first_broken(alloc, &TypesCarried, raw, raw.types.as_slice())?;
     allow(Law::Carried, FactsList::Types, types)?;
-    let adts = first_other(raw.adts.as_slice());
+    let adts = first_broken(alloc, &AdtsCarried, raw, raw.adts.as_slice())?;
     allow(Law::Carried, FactsList::Adts, adts)?;
-    let variants = first_other(raw.variants.as_slice());
+    let variants = first_broken(alloc, &VariantsCarried, raw, raw.variants.as_slice())?;
     allow(Law::Carried, FactsList::Variants, variants)?;
     let fns = first_broken(alloc, &FnsCarried, raw, raw.fns.as_slice())?;
     allow(Law::Carried, FactsList::Fns, fns)?;
+    Ok(())
+}
+
+fn check_unread(raw: &RawFacts) -> Result<(), FactsError>
+    ensures ok { IfOk result (λ _. PassesAll raw.now unread_tests) }
+    ensures err { IfErr result (λ e. Refuses raw.now unread_tests e) }
+{
     let consts = first_other(raw.consts.as_slice());
     allow(Law::Carried, FactsList::Consts, consts)?;
     let statics = first_other(raw.statics.as_slice());
@@ -63,8 +72,25 @@ fn check_carried(alloc: Global, raw: &RawFacts) -> Result<(), FactsError>
     allow(Law::Carried, FactsList::Opaques, opaques)?;
     let lang = first_other(raw.lang.as_slice());
     allow(Law::Carried, FactsList::Lang, lang)?;
+    Ok(())
+}
+
+fn check_bodies(alloc: Global, raw: &RawFacts) -> Result<(), FactsError>
+    ensures ok { IfOk result (λ _. PassesAll raw.now body_tests) }
+    ensures err { IfErr result (λ e. Refuses raw.now body_tests e) }
+{
     let bodies = first_broken(alloc, &BodiesCarried, raw, raw.bodies.as_slice())?;
     allow(Law::Carried, FactsList::Bodies, bodies)?;
+    Ok(())
+}
+
+fn check_carried(alloc: Global, raw: &RawFacts) -> Result<(), FactsError>
+    ensures ok { IfOk result (λ _. PassesAll raw.now carried_tests) }
+    ensures err { IfErr result (λ e. Refuses raw.now carried_tests e) }
+{
+    check_items(alloc, raw)?;
+    check_unread(raw)?;
+    check_bodies(alloc, raw)?;
     Ok(())
 }
 

@@ -2,7 +2,9 @@
 ghost use Rattle.std.specs.Prelude.{◌≡◌, ◌↔◌, ◌<◌, IfOk, IfErr, IsTrue, Some, slice_get, length};
 ghost use Rattle.hir_facts.specs.declared.raw.RawBody.{RawBody};
 ghost use Rattle.hir_facts.specs.Order.{AreDepths};
-ghost use Rattle.hir_facts.specs.Bodies.{IsWalkable, HasBody, body_id_of, inputs_of, fits};
+ghost use Rattle.hir_facts.specs.Bodies.{IsWalkable, HasBody, body_id_of, inputs_of};
+ghost use Rattle.hir_facts.specs.Scope.{params_of};
+ghost use Rattle.hir_facts.specs.Fit.{fits};
 ghost use Rattle.hir_facts.specs.Laws.Lawful.{IsLawful, tests};
 ghost use Rattle.hir_facts.specs.Laws.Refused.{Refuses};
 
@@ -11,6 +13,7 @@ use crate::facts_error::FactsError;
 use crate::fit::ty_fits;
 use crate::raw::{Edition, RawBody, RawFacts, RawFn, RawLimits, RawType};
 use crate::schedule::Schedule;
+use crate::scope::params_of;
 use hir_types::{BodyId, DefWithBodyId, FunctionId, List, ModuleId, Ty, TypeRefId};
 use std::alloc::Global;
 use std::marker::Model;
@@ -177,10 +180,17 @@ impl Facts {
         self.body_id(def).is_some()
     }
 
-    /// Whether each id and parameter in a type is in range.
+    /// How many parameters are in scope in the body of a definition.
+    pub fn param_count(&self, def: DefWithBodyId) -> usize
+        ensures { result ≡ params_of self.now def }
+    {
+        params_of(&self.raw, def)
+    }
+
+    /// Whether each id and parameter in a type is in range, and arguments are as many as parameters.
     pub fn fits(&self, def: DefWithBodyId, ty: &Ty) -> bool
         ensures { result ≡ fits self.now def ty.now }
     {
-        ty_fits(ty)
+        ty_fits(&self.raw, self.param_count(def), ty)
     }
 }

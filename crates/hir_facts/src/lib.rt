@@ -11,6 +11,7 @@ mod lower;
 mod parts;
 mod raw;
 mod schedule;
+mod scope;
 
 pub use facts::Facts;
 pub use facts_error::FactsError;

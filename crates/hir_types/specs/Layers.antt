@@ -2,6 +2,10 @@
 use Rattle.std.specs.Prelude.{◌≡◌, ℕ, ◌+◌, Bool, false, ◌||◌, List, [], ◌∷◌, map, sum, refl}
 use Rattle.std.specs.List.{list_any}
 use Rattle.std.proofs.Common.{sym, ◌∙◌, ap}
+use Rattle.hir_types.specs.declared.ids.AdtId.{AdtId}
+use Rattle.hir_types.specs.declared.ids.CallableDefId.{CallableDefId}
+use Rattle.hir_types.specs.declared.ty.GenericArg.{GenericArg, GenericArg-F, fold-GenericArg, fold-roll-GenericArg}
+use Rattle.hir_types.specs.declared.ty.GenericArg.TheVariants as arg
 use Rattle.hir_types.specs.declared.ty.IntegerTy.{IntegerTy}
 use Rattle.hir_types.specs.declared.ty.IntegerTy.TheVariants.{Int, Uint}
 use Rattle.hir_types.specs.declared.ty.Ty.{Ty, Ty-F, fold-roll-Ty}
@@ -66,3 +70,26 @@ has_hole_error = ap has_hole (sym ty.rolls-Error) ∙ fold-roll-Ty Bool Bool Boo
 pub has_hole_integer : (i : IntegerTy) → has_hole (integer_type i) ≡ false
 has_hole_integer (Int i) = ap has_hole (sym (ty.rolls-Int i)) ∙ fold-roll-Ty Bool Bool Bool Bool hole_arg hole_step hole_bound hole_trait (Ty-F.Int i)
 has_hole_integer (Uint i) = ap has_hole (sym (ty.rolls-Uint i)) ∙ fold-roll-Ty Bool Bool Bool Bool hole_arg hole_step hole_bound hole_trait (Ty-F.Uint i)
+
+pub has_hole_param : (n : ℕ) → has_hole (ty.Param n) ≡ false
+has_hole_param n = ap has_hole (sym (ty.rolls-Param n)) ∙ fold-roll-Ty Bool Bool Bool Bool hole_arg hole_step hole_bound hole_trait (Ty-F.Param n)
+
+abbrev arg_has_hole : GenericArg → Bool
+arg_has_hole = fold-GenericArg Bool Bool Bool Bool hole_arg hole_step hole_bound hole_trait
+
+arg_has_hole_type : (t : Ty) → arg_has_hole (arg.Ty t) ≡ has_hole t
+arg_has_hole_type t = ap arg_has_hole (sym (arg.rolls-Ty t)) ∙ fold-roll-GenericArg Bool Bool Bool Bool hole_arg hole_step hole_bound hole_trait (GenericArg-F.Ty t)
+
+any_arg_has_hole : (ts : List Ty) → list_any (λ b. b) (map arg_has_hole (map arg.Ty ts)) ≡ list_any has_hole ts
+any_arg_has_hole [] = refl
+any_arg_has_hole (t ∷ ts) = λ i. arg_has_hole_type t i || any_arg_has_hole ts i
+
+pub has_hole_adt : (id : AdtId) (ts : List Ty) → has_hole (ty.Adt id (map arg.Ty ts)) ≡ list_any has_hole ts
+has_hole_adt id ts =
+    ap has_hole (sym (ty.rolls-Adt id (map arg.Ty ts)))
+    ∙ (fold-roll-Ty Bool Bool Bool Bool hole_arg hole_step hole_bound hole_trait (Ty-F.Adt id (map arg.Ty ts)) ∙ any_arg_has_hole ts)
+
+pub has_hole_fn_def : (id : CallableDefId) (ts : List Ty) → has_hole (ty.FnDef id (map arg.Ty ts)) ≡ list_any has_hole ts
+has_hole_fn_def id ts =
+    ap has_hole (sym (ty.rolls-FnDef id (map arg.Ty ts)))
+    ∙ (fold-roll-Ty Bool Bool Bool Bool hole_arg hole_step hole_bound hole_trait (Ty-F.FnDef id (map arg.Ty ts)) ∙ any_arg_has_hole ts)

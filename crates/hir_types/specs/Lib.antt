@@ -5,6 +5,7 @@ pub mod formers
 pub mod Subst
 pub mod Terms
 pub mod Folding
+pub mod Instances
 pub mod Goals
 pub mod TermLaws
 pub mod Outlines

@@ -133,6 +133,16 @@ arg_term_type t = ap arg_term (sym (arg.rolls-Ty t)) ∙ arg_term_at (GenericArg
 pub arg_term_const : (c : Const) → arg_term (arg.Const c) ≡ const_part c
 arg_term_const c = ap arg_term (sym (arg.rolls-Const c)) ∙ arg_term_at (GenericArg-F.Const c)
 
+pub args_terms : (ts : List Ty) → map arg_term (map arg.Ty ts) ≡ type_parts ts
+args_terms [] = refl
+args_terms (t ∷ ts) = λ i. arg_term_type t i ∷ args_terms ts i
+
+pub term_adt_types : (id : AdtId) (ts : List Ty) → term (ty.Adt id (map arg.Ty ts)) ≡ node (head.Adt id) (type_parts ts)
+term_adt_types id ts = term_adt id (map arg.Ty ts) ∙ ap (node (head.Adt id)) (args_terms ts)
+
+pub term_fn_def_types : (id : CallableDefId) (ts : List Ty) → term (ty.FnDef id (map arg.Ty ts)) ≡ node (head.FnDef id) (type_parts ts)
+term_fn_def_types id ts = term_fn_def id (map arg.Ty ts) ∙ ap (node (head.FnDef id)) (args_terms ts)
+
 pub trait_parts_is : (r : TraitRef) → trait_parts r ≡ leaf (head.Principal r.id) ∷ map arg_term r.args
 trait_parts_is r = (folds_follow term_steps).trait (record { id = r.id; args = r.args })
 

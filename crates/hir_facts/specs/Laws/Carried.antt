@@ -1,8 +1,16 @@
 -- Each entry and part is of a kind that is carried.
-use Rattle.std.specs.Prelude.{Bool, true, false, ◌&&◌, List, [], ◌∷◌, is_none, not}
+use Rattle.std.specs.Prelude.{Bool, true, false, ◌&&◌, List, [], ◌∷◌, Option, Some, None, slice_get, is_none, not}
 use Rattle.std.specs.List.{list_all}
 use Rattle.hir_facts.specs.declared.raw.RawType.{RawType}
 use Rattle.hir_facts.specs.declared.raw.RawType.TheVariants as type
+use Rattle.hir_facts.specs.declared.raw.RawParam.{RawParam}
+use Rattle.hir_facts.specs.declared.raw.RawParam.TheVariants as param
+use Rattle.hir_facts.specs.declared.raw.RawAdtKind.{RawAdtKind}
+use Rattle.hir_facts.specs.declared.raw.RawAdtKind.TheVariants as kind
+use Rattle.hir_facts.specs.declared.raw.RawAdt.{RawAdt}
+use Rattle.hir_facts.specs.declared.raw.RawCtor.{RawCtor}
+use Rattle.hir_facts.specs.declared.raw.RawCtor.TheVariants as ctor
+use Rattle.hir_facts.specs.declared.raw.RawVariant.{RawVariant}
 use Rattle.hir_facts.specs.declared.raw.RawAt.{RawAt}
 use Rattle.hir_facts.specs.declared.raw.RawAt.TheVariants as stands
 use Rattle.hir_facts.specs.declared.raw.RawFn.{RawFn}
@@ -26,22 +34,45 @@ is_carried_type type.Bool = true
 is_carried_type type.Char = true
 is_carried_type (type.Integer i) = true
 is_carried_type (type.Tuple ts) = true
-is_carried_type (type.Adt a ts) = false
-is_carried_type (type.Param n) = false
+is_carried_type (type.Adt a ts) = true
+is_carried_type (type.Param n) = true
 is_carried_type type.Hole = false
 is_carried_type type.Other = false
-
-abbrev pub is_in_module : RawAt → Bool
-is_in_module (stands.Module m) = true
-is_in_module stands.Other = false
 
 abbrev pub is_empty : {A : Type 0} → List A → Bool
 is_empty [] = true
 is_empty (x ∷ xs) = false
 
--- a function of a module, without parameters, predicates and `self`
+-- the parameter stands for a type
+abbrev pub is_type_param : RawParam → Bool
+is_type_param param.Type = true
+is_type_param param.Other = false
+
+abbrev pub is_carried_kind : RawAdtKind → Bool
+is_carried_kind kind.Struct = true
+is_carried_kind kind.Enum = true
+is_carried_kind kind.Union = false
+
+-- a struct or enum whose parameters are types, without predicates, of which none may lose its size
+abbrev pub is_carried_adt : RawAdt → Bool
+is_carried_adt a = is_carried_kind a.kind && (list_all is_type_param a.params && (is_empty a.preds && is_none a.unsize))
+
+abbrev pub is_carried_ctor : RawCtor → Bool
+is_carried_ctor ctor.Unit = true
+is_carried_ctor ctor.Tuple = true
+is_carried_ctor ctor.Record = false
+
+-- `V` or `V(..)`, without a body for its discriminant
+abbrev pub is_carried_variant : RawVariant → Bool
+is_carried_variant v = is_carried_ctor v.ctor && is_none v.body
+
+abbrev pub is_in_module : RawAt → Bool
+is_in_module (stands.Module m) = true
+is_in_module stands.Other = false
+
+-- a function of a module whose parameters are types, without predicates and `self`
 abbrev pub is_carried_fn : RawFn → Bool
-is_carried_fn f = is_in_module f.«at» && (is_empty f.params && (is_empty f.preds && not f.has_self))
+is_carried_fn f = is_in_module f.«at» && (list_all is_type_param f.params && (is_empty f.preds && not f.has_self))
 
 -- a truth value, a character, or an integer with a suffix or without
 abbrev pub is_carried_literal : RawLiteral → Bool
@@ -52,7 +83,7 @@ is_carried_literal literal.Other = false
 
 abbrev pub is_carried_path : RawPath → Bool
 is_carried_path (path.Local v) = true
-is_carried_path (path.Function f) = false
+is_carried_path (path.Function f) = true
 is_carried_path (path.Ctor v) = false
 is_carried_path path.Other = false
 
@@ -69,7 +100,7 @@ is_carried_expr (expr.Block label stmts last) = is_none label && list_all is_car
 is_carried_expr (expr.Tuple es) = true
 is_carried_expr (expr.If c first other) = true
 is_carried_expr (expr.Match e arms) = not (is_empty arms)
-is_carried_expr (expr.Call f args) = false
+is_carried_expr (expr.Call f args) = true
 is_carried_expr expr.Other = false
 
 -- a binding pattern has no pattern below it
@@ -91,6 +122,37 @@ is_carried_mode mode.RefMut = false
 abbrev pub is_carried_binding : RawBinding → Bool
 is_carried_binding v = is_carried_mode v.mode
 
--- its nodes and bindings are, and it has no `self`
+abbrev pub is_function_path : RawPath → Bool
+is_function_path (path.Local v) = false
+is_function_path (path.Function f) = true
+is_function_path (path.Ctor v) = false
+is_function_path path.Other = false
+
+-- the expression is there, and is a path to a function
+abbrev pub is_function : Option RawExpr → Bool
+is_function None = false
+is_function (Some (expr.Lit l)) = false
+is_function (Some (expr.Path p)) = is_function_path p
+is_function (Some (expr.Block label stmts last)) = false
+is_function (Some (expr.Tuple es)) = false
+is_function (Some (expr.If c first other)) = false
+is_function (Some (expr.Match e arms)) = false
+is_function (Some (expr.Call f args)) = false
+is_function (Some expr.Other) = false
+
+-- a call calls what a path to a function names
+abbrev pub is_carried_call : List RawExpr → RawExpr → Bool
+is_carried_call es (expr.Lit l) = true
+is_carried_call es (expr.Path p) = true
+is_carried_call es (expr.Block label stmts last) = true
+is_carried_call es (expr.Tuple xs) = true
+is_carried_call es (expr.If c first other) = true
+is_carried_call es (expr.Match e arms) = true
+is_carried_call es (expr.Call f args) = is_function (slice_get es f.0)
+is_carried_call es expr.Other = true
+
+-- its nodes, bindings and calls are, and it has no `self`
 abbrev pub is_carried_body : RawBody → Bool
-is_carried_body b = list_all is_carried_expr b.exprs && (list_all is_carried_pat b.pats && (list_all is_carried_binding b.bindings && is_none b.self_))
+is_carried_body b =
+    list_all is_carried_expr b.exprs && (list_all is_carried_pat b.pats
+    && (list_all is_carried_binding b.bindings && (is_none b.self_ && list_all (is_carried_call b.exprs) b.exprs)))

@@ -6,7 +6,7 @@ use Rattle.hir_facts.specs.declared.laws.Law.TheVariants as law
 use Rattle.hir_facts.specs.declared.laws.FactsList.{FactsList}
 use Rattle.hir_facts.specs.declared.laws.FactsList.TheVariants as list
 use Rattle.hir_facts.specs.Laws.Entries.{AllHold, BreaksAt}
-use Rattle.hir_facts.specs.Laws.Carried.{is_carried_type, is_carried_fn, is_carried_body}
+use Rattle.hir_facts.specs.Laws.Carried.{is_carried_type, is_carried_adt, is_carried_variant, is_carried_fn, is_carried_body}
 use Rattle.hir_facts.specs.Laws.Ids.{TypeIdsExist, ParentBefore, AdtIdsExist, VariantIdsExist, FnIdsExist, BodyIdsExist}
 use Rattle.hir_facts.specs.Laws.Counts.{AdtFits, VariantFits, FnFits}
 use Rattle.hir_facts.specs.Laws.Trees.{IsWellFormed}
@@ -32,8 +32,8 @@ all_hold i x = Unit {0}
 abbrev carried_at : Saying → RawFacts → FactsList → Type 0
 carried_at S raw list.Types = S _ (λ i t. IsTrue (is_carried_type t)) raw.types
 carried_at S raw list.Modules = S _ all_hold raw.modules
-carried_at S raw list.Adts = S _ none_carried raw.adts
-carried_at S raw list.Variants = S _ none_carried raw.variants
+carried_at S raw list.Adts = S _ (λ i a. IsTrue (is_carried_adt a)) raw.adts
+carried_at S raw list.Variants = S _ (λ i v. IsTrue (is_carried_variant v)) raw.variants
 carried_at S raw list.Fns = S _ (λ i f. IsTrue (is_carried_fn f)) raw.fns
 carried_at S raw list.Consts = S _ none_carried raw.consts
 carried_at S raw list.Statics = S _ none_carried raw.statics
@@ -95,8 +95,18 @@ pub record Test : Type 0 where
 abbrev test : Law → FactsList → Test
 test l k = record { law = l; list = k }
 
+abbrev pub item_tests : List Test
+item_tests = test law.Carried list.Types ∷ test law.Carried list.Adts ∷ test law.Carried list.Variants ∷ test law.Carried list.Fns ∷ []
+
+-- of these lists no entry is carried
+abbrev pub unread_tests : List Test
+unread_tests = test law.Carried list.Consts ∷ test law.Carried list.Statics ∷ test law.Carried list.Traits ∷ test law.Carried list.Aliases ∷ test law.Carried list.Impls ∷ test law.Carried list.Opaques ∷ test law.Carried list.Lang ∷ []
+
+abbrev pub body_tests : List Test
+body_tests = test law.Carried list.Bodies ∷ []
+
 abbrev pub carried_tests : List Test
-carried_tests = test law.Carried list.Types ∷ test law.Carried list.Adts ∷ test law.Carried list.Variants ∷ test law.Carried list.Fns ∷ test law.Carried list.Consts ∷ test law.Carried list.Statics ∷ test law.Carried list.Traits ∷ test law.Carried list.Aliases ∷ test law.Carried list.Impls ∷ test law.Carried list.Opaques ∷ test law.Carried list.Lang ∷ test law.Carried list.Bodies ∷ []
+carried_tests = item_tests ++ (unread_tests ++ body_tests)
 
 abbrev pub ids_tests : List Test
 ids_tests = test law.Ids list.Types ∷ test law.Ids list.Modules ∷ test law.Ids list.Adts ∷ test law.Ids list.Variants ∷ test law.Ids list.Fns ∷ test law.Ids list.Bodies ∷ []

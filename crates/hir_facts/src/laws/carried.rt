@@ -1,14 +1,15 @@
 //! Each entry and part is of a kind that is carried.
-ghost use Rattle.std.specs.Prelude.{◌≡◌, ◌↔◌, IsTrue, MatchOption};
+ghost use Rattle.std.specs.Prelude.{◌≡◌, ◌↔◌, IsTrue, MatchOption, slice_get};
 ghost use Rattle.std.specs.List.{list_all};
 ghost use Rattle.hir_facts.specs.Laws.Entries.{AllHold, BreaksAt};
-ghost use Rattle.hir_facts.specs.Laws.Carried.{is_carried_type, is_carried_fn, is_carried_literal, is_carried_path, is_carried_stmt, is_carried_expr, is_carried_pat, is_carried_binding, is_carried_body};
+ghost use Rattle.hir_facts.specs.Laws.Carried.{is_carried_type, is_type_param, is_carried_kind, is_carried_adt, is_carried_ctor, is_carried_variant, is_carried_fn, is_carried_literal, is_carried_path, is_function_path, is_function, is_carried_call, is_carried_stmt, is_carried_expr, is_carried_pat, is_carried_binding, is_carried_body};
 
 use crate::laws::test::Test;
 use crate::raw::{
-    BindingAnnotation, RawAt, RawBinding, RawBody, RawExpr, RawFacts, RawFn, RawLiteral, RawPat,
-    RawPath, RawStmt, RawType,
+    BindingAnnotation, RawAdt, RawAdtKind, RawAt, RawBinding, RawBody, RawCtor, RawExpr, RawFacts,
+    RawFn, RawLiteral, RawParam, RawPat, RawPath, RawStmt, RawType, RawVariant,
 };
+use hir_types::ExprId;
 use std::alloc::{AllocError, Global};
 
 /// The first entry of a list of a kind that is not carried.
@@ -23,15 +24,64 @@ fn carries_type(ty: &RawType) -> bool
 {
     match ty {
         RawType::Bool | RawType::Char | RawType::Integer(_) | RawType::Tuple(_) => true,
-        RawType::Adt { .. } | RawType::Param(_) | RawType::Hole | RawType::Other => false,
+        RawType::Adt { .. } | RawType::Param(_) => true,
+        RawType::Hole | RawType::Other => false,
     }
+}
+
+fn is_type_param(param: &RawParam) -> bool
+    ensures { result ≡ is_type_param param.now }
+{
+    match param {
+        RawParam::Type => true,
+        RawParam::Other => false,
+    }
+}
+
+fn are_type_params(params: &[RawParam]) -> bool
+    ensures { result ≡ list_all is_type_param params.now }
+{
+    params.iter().all(|param| is_type_param(param))
+}
+
+fn carries_kind(kind: RawAdtKind) -> bool
+    ensures { result ≡ is_carried_kind kind }
+{
+    match kind {
+        RawAdtKind::Struct | RawAdtKind::Enum => true,
+        RawAdtKind::Union => false,
+    }
+}
+
+fn carries_adt(adt: &RawAdt) -> bool
+    ensures { result ≡ is_carried_adt adt.now }
+{
+    carries_kind(adt.kind)
+        && are_type_params(adt.params.as_slice())
+        && adt.preds.is_empty()
+        && adt.unsize.is_none()
+}
+
+fn carries_ctor(ctor: RawCtor) -> bool
+    ensures { result ≡ is_carried_ctor ctor }
+{
+    match ctor {
+        RawCtor::Unit | RawCtor::Tuple => true,
+        RawCtor::Record => false,
+    }
+}
+
+fn carries_variant(variant: &RawVariant) -> bool
+    ensures { result ≡ is_carried_variant variant.now }
+{
+    carries_ctor(variant.ctor) && variant.body.is_none()
 }
 
 fn carries_fn(function: &RawFn) -> bool
     ensures { result ≡ is_carried_fn function.now }
 {
     matches!(function.at, RawAt::Module(_))
-        && function.params.is_empty()
+        && are_type_params(function.params.as_slice())
         && function.preds.is_empty()
         && !function.has_self
 }
@@ -49,8 +99,8 @@ fn carries_path(path: &RawPath) -> bool
     ensures { result ≡ is_carried_path path.now }
 {
     match path {
-        RawPath::Local(_) => true,
-        RawPath::Function(_) | RawPath::Ctor(_) | RawPath::Other => false,
+        RawPath::Local(_) | RawPath::Function(_) => true,
+        RawPath::Ctor(_) | RawPath::Other => false,
     }
 }
 
@@ -83,9 +133,40 @@ fn carries_expr(expr: &RawExpr) -> bool
             statements,
             tail: _,
         } => label.is_none() && carries_stmts(statements.as_slice()),
-        RawExpr::Tuple(_) | RawExpr::If { .. } => true,
+        RawExpr::Tuple(_) | RawExpr::If { .. } | RawExpr::Call { .. } => true,
         RawExpr::Match { scrutinee: _, arms } => !arms.is_empty(),
-        RawExpr::Call { .. } | RawExpr::Other => false,
+        RawExpr::Other => false,
+    }
+}
+
+fn is_function_path(path: &RawPath) -> bool
+    ensures { result ≡ is_function_path path.now }
+{
+    match path {
+        RawPath::Function(_) => true,
+        RawPath::Local(_) | RawPath::Ctor(_) | RawPath::Other => false,
+    }
+}
+
+fn is_function(exprs: &[RawExpr], expr: ExprId) -> bool
+    ensures { result ≡ is_function (slice_get exprs.now expr.0) }
+{
+    match exprs.get(expr.0 as usize) {
+        None => false,
+        Some(RawExpr::Path(path)) => is_function_path(path),
+        Some(RawExpr::Lit(_) | RawExpr::Block { .. } | RawExpr::Tuple(_)) => false,
+        Some(RawExpr::If { .. } | RawExpr::Match { .. } | RawExpr::Call { .. } | RawExpr::Other) =>
+            false,
+    }
+}
+
+fn carries_call(exprs: &[RawExpr], expr: &RawExpr) -> bool
+    ensures { result ≡ is_carried_call exprs.now expr.now }
+{
+    match expr {
+        RawExpr::Call { callee, args: _ } => is_function(exprs, *callee),
+        RawExpr::Lit(_) | RawExpr::Path(_) | RawExpr::Block { .. } | RawExpr::Tuple(_) => true,
+        RawExpr::If { .. } | RawExpr::Match { .. } | RawExpr::Other => true,
     }
 }
 
@@ -114,6 +195,12 @@ fn carries_exprs(exprs: &[RawExpr]) -> bool
     exprs.iter().all(|expr| carries_expr(expr))
 }
 
+fn carries_calls(exprs: &[RawExpr]) -> bool
+    ensures { result ≡ list_all (is_carried_call exprs.now) exprs.now }
+{
+    exprs.iter().all(|expr| carries_call(exprs, expr))
+}
+
 fn carries_pats(pats: &[RawPat]) -> bool
     ensures { result ≡ list_all is_carried_pat pats.now }
 {
@@ -133,6 +220,7 @@ fn carries_body(body: &RawBody) -> bool
         && carries_pats(body.pats.as_slice())
         && carries_bindings(body.bindings.as_slice())
         && body.self_.is_none()
+        && carries_calls(body.exprs.as_slice())
 }
 
 /// A written type is of a carried kind.
@@ -155,6 +243,52 @@ impl Test for TypesCarried {
         item: &RawType,
     ) -> Result<bool, AllocError> {
         Ok(carries_type(item))
+    }
+}
+
+/// An adt is of a carried kind.
+pub struct AdtsCarried;
+
+impl Test for AdtsCarried {
+    type Item = RawAdt;
+
+    ghost listed = { λ raw. raw.adts };
+
+    ghost holds = { λ raw i a. IsTrue (is_carried_adt a) };
+
+    ghost given = { λ raw s. Unit {0} };
+
+    fn test(
+        &self,
+        _alloc: Global,
+        _raw: &RawFacts,
+        _at: usize,
+        item: &RawAdt,
+    ) -> Result<bool, AllocError> {
+        Ok(carries_adt(item))
+    }
+}
+
+/// A variant is of a carried kind.
+pub struct VariantsCarried;
+
+impl Test for VariantsCarried {
+    type Item = RawVariant;
+
+    ghost listed = { λ raw. raw.variants };
+
+    ghost holds = { λ raw i v. IsTrue (is_carried_variant v) };
+
+    ghost given = { λ raw s. Unit {0} };
+
+    fn test(
+        &self,
+        _alloc: Global,
+        _raw: &RawFacts,
+        _at: usize,
+        item: &RawVariant,
+    ) -> Result<bool, AllocError> {
+        Ok(carries_variant(item))
     }
 }
 
@@ -181,7 +315,7 @@ impl Test for FnsCarried {
     }
 }
 
-/// The nodes and bindings of a body are of carried kinds, and it has no `self`.
+/// The nodes, bindings and calls of a body are of carried kinds, and it has no `self`.
 pub struct BodiesCarried;
 
 impl Test for BodiesCarried {
