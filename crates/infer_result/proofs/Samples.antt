@@ -10,3 +10,7 @@ pub mod Match
 pub mod WrongPattern
 pub mod WrongArm
 pub mod WrongLiteral
+pub mod Calling
+pub mod Call
+pub mod WrongArgument
+pub mod WrongCount

@@ -19,6 +19,7 @@ pub record IsOfBody (b : RawBody) (t : InferenceResult) : Type 0 where
   pub bindings : length t.type_of_binding ≡ length b.bindings
   pub modes : length t.binding_modes ≡ length b.pats
   pub mismatches : length t.expr_mismatches ≡ length b.exprs
+  pub diagnostics : length t.expr_diagnostics ≡ length b.exprs
   pub pat_mismatches : length t.pat_mismatches ≡ length b.pats
 
 -- each expression, pattern and binding has a type

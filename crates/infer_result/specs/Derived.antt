@@ -1,5 +1,5 @@
 -- From what a walk shows of a table to all that is promised of it.
-use Rattle.std.specs.Prelude.{ℕ, zero, suc, ◌<◌, ◌≡◌, ◌⊎◌, true, false, List, [], ◌∷◌, length, slice_get, Option, Some, None, refl}
+use Rattle.std.specs.Prelude.{ℕ, zero, suc, ◌<◌, ◌≡◌, ◌⊎◌, true, false, List, [], ◌∷◌, length, map, slice_get, option_map, Option, Some, None, refl}
 use Rattle.std.proofs.Common.{inl, inr, ap, sym, subst, ◌∙◌}
 use Rattle.std.proofs.lemmas.Option.{slice_get_within}
 use Rattle.hir_types.specs.declared.ids.ExprId.{ExprId}
@@ -7,6 +7,9 @@ use Rattle.hir_types.specs.declared.ids.PatId.{PatId}
 use Rattle.hir_types.specs.declared.ids.BindingId.{BindingId}
 use Rattle.hir_types.specs.declared.ids.TypeRefId.{TypeRefId}
 use Rattle.hir_types.specs.declared.ids.ExprOrPatId.TheVariants as node
+use Rattle.hir_types.specs.declared.ids.CallableDefId.{CallableDefId}
+use Rattle.hir_types.specs.declared.ids.CallableDefId.TheVariants as callable
+use Rattle.hir_types.specs.declared.ty.GenericArg.{GenericArg}
 use Rattle.hir_types.specs.declared.ty.Ty.{Ty, Ty-F, out-Ty, out-roll-Ty}
 use Rattle.hir_types.specs.declared.ty.Ty.TheVariants as ty
 use Rattle.hir_facts.specs.declared.raw.RawLiteral.{RawLiteral}
@@ -20,27 +23,31 @@ use Rattle.hir_facts.specs.declared.raw.RawExpr.TheVariants as expr
 use Rattle.hir_facts.specs.declared.raw.RawPat.{RawPat}
 use Rattle.hir_facts.specs.declared.raw.RawPat.TheVariants as pat
 use Rattle.hir_facts.specs.declared.raw.RawBody.{RawBody}
+use Rattle.hir_facts.specs.declared.raw.RawFn.{RawFn}
 use Rattle.hir_types.specs.Types.{unit}
 use Rattle.hir_facts.specs.Types.{written_type}
+use Rattle.hir_facts.specs.Signatures.{Signature, fn_signature, signature_of, type_args, at_args}
 use Rattle.hir_types.specs.Erasure.{erased}
 use Rattle.hir_facts.specs.declared.schedule.Schedule.{Schedule}
 use Rattle.hir_facts.specs.Ways.{one_place}
-use Rattle.hir_facts.specs.Order.{Role, root, initializer, let_pattern, Part, Node, the_body, inner, IsNode, IsSchedule, part_at, stmts_of, stmt_at}
+use Rattle.hir_facts.specs.Order.{Role, root, initializer, let_pattern, argument, Part, Node, the_body, inner, IsNode, IsSchedule, part_at, stmts_of, stmt_at}
 use Rattle.infer_result.specs.declared.result.InferenceResult.{InferenceResult}
 use Rattle.infer_result.specs.declared.result.TypeMismatch.{TypeMismatch}
-use Rattle.infer_result.specs.Table.{At, HasTy, PatTy, HasMismatch, AnyMismatch, mismatch}
+use Rattle.infer_result.specs.declared.diagnostics.InferenceDiagnostic.TheVariants as diagnostic
+use Rattle.infer_result.specs.Table.{At, HasTy, PatTy, HasMismatch, AnyMismatch, AnyDiagnostic, mismatch}
 use Rattle.infer_result.specs.Closed.{IsTotal}
-use Rattle.infer_result.specs.Places.{Given, IsAt, IsAtOrMismatch, MisfitsAs, PatIsAtOrMismatch, IsAsked, Asks, AsksOf, Gives, GivesPart, Incoming}
+use Rattle.infer_result.specs.Places.{Given, IsAt, IsAtOrMismatch, MisfitsAs, PatIsAtOrMismatch, IsCallee, IsInputAt, IsAsked, Asks, AsksOf, Gives, GivesPart, Incoming}
 use Rattle.infer_result.specs.Rules.Literals.{IsLiteralType, IsOwnType}
 use Rattle.infer_result.specs.Rules.Paths.{PathRule}
 use Rattle.infer_result.specs.Rules.Placing.{Placing, at_or_mismatch, at_types}
 use Rattle.infer_result.specs.Rules.Tuples.{AllAt}
 use Rattle.infer_result.specs.Rules.Blocks.{LetRule, StmtRule, StmtsRule, TailRule}
 use Rattle.infer_result.specs.Rules.Branches.{branches_of, ElseRule, arm_exprs, ArmPatterns, GuardRule, ArmsRule}
+use Rattle.infer_result.specs.Rules.Calls.{ArgsRule}
 use Rattle.infer_result.specs.Rules.Expressions.{Rule, BodyObeys}
 use Rattle.infer_result.specs.Rules.Patterns.{AllPatsAt, PatRule}
 use Rattle.infer_result.specs.Excused.{MaybeMismatch, StmtHasMismatch, StmtsHaveMismatch, GuardsHaveMismatch, ExcusedAs, BodyIsExcused}
-use Rattle.infer_result.specs.Upward.{NamesLet, Up, of_literal, of_written, of_initializer, of_parameter, Stated}
+use Rattle.infer_result.specs.Upward.{NamesLet, CallsNonGeneric, Up, of_literal, of_written, of_initializer, of_parameter, of_call, IsWrittenInput, Stated}
 use Rattle.infer_result.specs.Truth.Mismatch.{IsBlockWithoutTail, IsIfWithoutElse, EndsInUnit, IsTrueMismatch}
 use Rattle.infer_result.specs.Made.{IsMade}
 use Rattle.infer_result.specs.Parts.{LetStands, ArmStands, PartStands, comes_from}
@@ -59,6 +66,12 @@ top_tuple ts = ap out-Ty (sym (ty.rolls-Tuple ts)) ∙ out-roll-Ty (Ty-F.Tuple t
 
 pub tuple_parts : (ts us : List Ty) → ty.Tuple ts ≡ ty.Tuple us → ts ≡ us
 tuple_parts ts us h = (let k : Ty-F.Tuple ts ≡ Ty-F.Tuple us = sym (top_tuple ts) ∙ (ap out-Ty h ∙ top_tuple us) in cc)
+
+top_fn_def : (i : CallableDefId) (xs : List GenericArg) → out-Ty (ty.FnDef i xs) ≡ Ty-F.FnDef i xs
+top_fn_def i xs = ap out-Ty (sym (ty.rolls-FnDef i xs)) ∙ out-roll-Ty (Ty-F.FnDef i xs)
+
+pub fn_def_parts : (i j : CallableDefId) (xs ys : List GenericArg) → ty.FnDef i xs ≡ ty.FnDef j ys → (i ≡ j) × (xs ≡ ys)
+fn_def_parts i j xs ys h = (let k : Ty-F.FnDef i xs ≡ Ty-F.FnDef j ys = sym (top_fn_def i xs) ∙ (ap out-Ty h ∙ top_fn_def j ys) in (cc, cc))
 
 -- ---- each clause holds, or the part is excused
 
@@ -80,7 +93,7 @@ module _ (g : Given) (t : InferenceResult) where
   Right = at_types g t
 
   let_obeys : (p : PatId) (w : Option TypeRefId) (init : Option ExprId) → LetRule Made g t p w init → MaybeMismatch t init ⊎ LetRule Right g t p w init
-  let_obeys p (Some w) (Some e) (h, k) = elim (at_or_excused t e (written_type g.types w) h) [ inl a ↦ inr (a, k) | inr m ↦ inl m ]
+  let_obeys p (Some w) (Some e) (h, k) = elim (at_or_excused t e (written_type g.scope.facts.types w) h) [ inl a ↦ inr (a, k) | inr m ↦ inl m ]
   let_obeys p (Some w) None h = inr h
   let_obeys p None (Some e) h = inr h
   let_obeys p None None h = inr tt
@@ -132,6 +145,10 @@ module _ (g : Given) (t : InferenceResult) where
         ]
       ]
 
+  args_obey : (n : ExprId) (args : List ExprId) (ss : List Ty) → ArgsRule Made n args ss → AnyDiagnostic t n ⊎ ArgsRule Right n args ss
+  args_obey n args ss (inl h) = inr (inl (elements_obey t args ss h))
+  args_obey n args ss (inr m) = inl (diagnostic.MismatchedArgCount n (length ss) (length args), m)
+
   judged : (n : ExprId) (o : Option RawExpr) → Rule Made g t n o → ExcusedAs t n o ⊎ Rule Right g t n o
   judged n None h = absurd h
   judged n (Some (expr.Lit l)) h = inr h
@@ -144,26 +161,27 @@ module _ (g : Given) (t : InferenceResult) where
       ]
   judged n (Some (expr.If c first other)) (a, (s, k, (x, y))) = if_obeys n c first other s k a x y
   judged n (Some (expr.Match e arms)) (h, (s, k, m)) = elim (arms_obey (arm_exprs arms) arms s m) [ inl x ↦ inl x | inr x ↦ inr (h, (s, k, x)) ]
-  judged n (Some (expr.Call f args)) h = absurd h
+  judged n (Some (expr.Call f args)) (σ, ts, c, a, k) =
+      elim (args_obey n args (map (at_args ts) σ.inputs) a) [ inl m ↦ inl m | inr x ↦ inr (σ, ts, c, x, k) ]
   judged n (Some expr.Other) h = absurd h
 
 -- ---- types are there
 
-path_type : (t : InferenceResult) (n : ExprId) (p : _) → PathRule t n p → (s : Ty) × HasTy t n s
-path_type t n (path.Local v) (s, h, k) = (s, h)
-path_type t n (path.Function f) h = absurd h
-path_type t n (path.Ctor named) h = absurd h
-path_type t n path.Other h = absurd h
+path_type : (g : Given) (t : InferenceResult) (n : ExprId) (p : _) → PathRule g t n p → (s : Ty) × HasTy t n s
+path_type g t n (path.Local v) (s, h, k) = (s, h)
+path_type g t n (path.Function f) (ts, h, k) = (ty.FnDef (callable.FunctionId f) (type_args ts), h)
+path_type g t n (path.Ctor named) h = absurd h
+path_type g t n path.Other h = absurd h
 
 rule_type : (g : Given) (t : InferenceResult) (n : ExprId) (o : Option RawExpr) → Rule (at_or_mismatch g t) g t n o → (s : Ty) × HasTy t n s
 rule_type g t n None h = absurd h
 rule_type g t n (Some (expr.Lit l)) (s, h, k) = (s, h)
-rule_type g t n (Some (expr.Path p)) h = path_type t n p h
+rule_type g t n (Some (expr.Path p)) h = path_type g t n p h
 rule_type g t n (Some (expr.Tuple es)) (ss, h, k) = (ty.Tuple ss, h)
 rule_type g t n (Some (expr.Block label ss last)) (h, (s, k, m)) = (s, k)
 rule_type g t n (Some (expr.If c first other)) (a, (s, k, h)) = (s, k)
 rule_type g t n (Some (expr.Match e arms)) (h, (s, k, m)) = (s, k)
-rule_type g t n (Some (expr.Call f args)) h = absurd h
+rule_type g t n (Some (expr.Call f args)) (σ, ts, c, a, k) = (at_args ts σ.output, k)
 rule_type g t n (Some expr.Other) h = absurd h
 
 pat_type : (g : Given) (t : InferenceResult) (p : PatId) (o : Option RawPat) → PatRule g t p o → (s : Ty) × PatTy t p s
@@ -198,7 +216,7 @@ block_stmts g t n (Some (expr.Tuple es)) h i s e = absurd (cc)
 block_stmts g t n (Some (expr.Block label ss last)) (h, k) i s e = stmt_obeys_at g t ss i s h e
 block_stmts g t n (Some (expr.If c first other)) h i s e = absurd (cc)
 block_stmts g t n (Some (expr.Match d arms)) h i s e = absurd (cc)
-block_stmts g t n (Some (expr.Call f args)) h i s e = absurd h
+block_stmts g t n (Some (expr.Call f args)) h i s e = absurd (cc)
 block_stmts g t n (Some expr.Other) h i s e = absurd h
 
 -- an expression that is there stands among those of the body
@@ -318,11 +336,35 @@ module _ (g : Given) (t : InferenceResult) (h : IsMade g t) where
   comes_in : (e : ExprId) (w : Option TypeRefId) (init : Option ExprId) (n : NamesLet g.body e w init) (s : Ty) → Gives g t n.parent (let_pattern w init) s → PatTy t n.pattern s
   comes_in e w init n s gives = bind_is_at n.pattern n.binding s n.binds (by_role n.pattern n.parent n.at_part (let_pattern w init) s n.stands.part gives)
 
+  -- what is called by a path to a function without generic parameters has no arguments
+  non_generic : (e : ExprId) (x : RawFn) (c : CallsNonGeneric g e x) (σ : Signature) (ts : List Ty) → IsCallee g t c.called σ ts → (ts ≡ []) × (σ ≡ fn_signature g.scope.facts.types x)
+  non_generic e x c σ ts is =
+      let (us, has, count) = clause_at c.called (expr.Path (path.Function c.function)) c.names in
+      let there = c.is_function in
+      let bare = c.non_generic in
+      let none : us ≡ [] = no_types us (subst (λ (o : Option RawFn). option_map (λ f. length f.params) o ≡ Some (length us)) there count) bare in
+      let same = fn_def_parts is.item (callable.FunctionId c.function) (type_args ts) (type_args us) (one_at t.type_of_expr c.called.0 _ _ is.has has) in
+      let signature : signature_of g.scope.facts (callable.FunctionId c.function) ≡ Some σ = subst (λ i. signature_of g.scope.facts i ≡ Some σ) same.0 is.signature in
+      let made : option_map (fn_signature g.scope.facts.types) (Some x) ≡ Some σ = subst (λ (o : Option RawFn). option_map (fn_signature g.scope.facts.types) o ≡ Some σ) there signature in
+      (no_args ts (same.1 ∙ ap type_args none), cc)
+    where
+      no_types : (us : List Ty) → Some (length x.params) ≡ Some (length us) → x.params ≡ [] → us ≡ []
+      no_types [] h k = refl
+      no_types (u ∷ us) h k = (let l : Some (length x.params) ≡ Some 0 = ap (λ ps. Some (length ps)) k in cc)
+
+      no_args : (us : List Ty) → type_args us ≡ [] → us ≡ []
+      no_args [] h = refl
+      no_args (u ∷ us) h = absurd (cc)
+
   upward : (e : ExprId) (s : Ty) → Up g e s → HasTy t e s
   upward m r (of_literal e l s is own) =
       (let c = clause_at e (expr.Lit l) is in subst (λ u. HasTy t e u) (literal_type l s c.0 own c.2) c.1)
-  upward m r (of_written e w init n) = local_of_let e (Some w) init n (written_type g.types w) (comes_in e (Some w) init n (written_type g.types w) refl)
+  upward m r (of_written e w init n) = local_of_let e (Some w) init n (written_type g.scope.facts.types w) (comes_in e (Some w) init n (written_type g.scope.facts.types w) refl)
   upward m r (of_initializer e i s n u) = local_of_let e None (Some i) n s (comes_in e None (Some i) n s (upward i s u))
+  upward m r (of_call e x c) =
+      (let (σ, ts, is, a, has) = clause_at e (expr.Call c.called c.args) c.is_call in
+      let (none, one) = non_generic e x c σ ts is in
+      subst (λ (v : Signature). HasTy t e (at_args [] v.output)) one (subst (λ us. HasTy t e (at_args us σ.output)) none has))
   upward m r (of_parameter e i s n is) = local e n.binding n.pattern s n.names n.binds (bind_is_at n.pattern n.binding s n.binds (h.params i n.pattern s n.stands is))
 
   body_rule : BodyIsExcused g t ⊎ BodyObeys g t
@@ -342,11 +384,31 @@ module _ (g : Given) (t : InferenceResult) (h : IsMade g t) where
   asked_at_root (inner (node.ExprId n)) role s is asks = absurd (subst (λ r. AsksOf g t n r s) is asks)
   asked_at_root (inner (node.PatId p)) role s is asks = (let clash : root ≡ Role.pattern_literal = sym is ∙ asks.0 in cc)
 
-  asked_at_let : (n : Node) (role : Role) (w : TypeRefId) (s : Ty) → role ≡ initializer (Some w) → Asks g t n role s → s ≡ written_type g.types w
+  asked_at_let : (n : Node) (role : Role) (w : TypeRefId) (s : Ty) → role ≡ initializer (Some w) → Asks g t n role s → s ≡ written_type g.scope.facts.types w
   asked_at_let the_body role w s is asks =
       (let clash : initializer (Some w) ≡ root = sym is ∙ asks.0 in cc)
   asked_at_let (inner (node.ExprId n)) role w s is asks = subst (λ r. AsksOf g t n r s) is asks
   asked_at_let (inner (node.PatId p)) role w s is asks = (let clash : initializer (Some w) ≡ Role.pattern_literal = sym is ∙ asks.0 in cc)
+
+  -- the input of a function without generic parameters
+  asked_of_argument : (n : Node) (role : Role) (i : ℕ) (s d : Ty) → role ≡ argument i → IsWrittenInput g n i s → Asks g t n role d → s ≡ d
+  asked_of_argument the_body role i s d is written asks = (let clash : argument i ≡ root = sym is ∙ asks.0 in cc)
+  asked_of_argument (inner (node.PatId p)) role i s d is written asks = (let clash : argument i ≡ Role.pattern_literal = sym is ∙ asks.0 in cc)
+  asked_of_argument (inner (node.ExprId n)) role i s d is written asks =
+      let input : IsInputAt g t n i d = subst (λ r. AsksOf g t n r d) is asks in
+      let one = input.is_call in
+      let other = written.calls.is_call in
+      let here = written.is_node in
+      let called : input.called ≡ written.calls.called = cc in
+      let (none, fn) = non_generic written.call written.function written.calls input.signature input.types (subst (λ c. IsCallee g t c input.signature input.types) called input.is_callee) in
+      let at : slice_get (map (at_args []) (map (written_type g.scope.facts.types) written.function.inputs)) i ≡ Some d =
+      subst (λ (v : Signature). slice_get (map (at_args []) v.inputs) i ≡ Some d) fn (subst (λ us. slice_get (map (at_args us) input.signature.inputs) i ≡ Some d) none input.input) in
+      written.is_type ∙ input_at written.function.inputs i written.input written.is_input at
+    where
+      input_at : (ws : List TypeRefId) (k : ℕ) (w : TypeRefId) → slice_get ws k ≡ Some w → slice_get (map (at_args []) (map (written_type g.scope.facts.types) ws)) k ≡ Some d → at_args [] (written_type g.scope.facts.types w) ≡ d
+      input_at [] k w h at = absurd (cc)
+      input_at (v ∷ ws) zero w h at = (let l : v ≡ w = cc in ap (λ u. at_args [] (written_type g.scope.facts.types u)) (sym l) ∙ (cc))
+      input_at (v ∷ ws) (suc k) w h at = input_at ws k w h at
 
   module _ (once : StandsOnce g.body) where
     stated_demand : (e : ExprId) (s d : Ty) → Stated g e s → IsAsked g t e d → s ≡ d
@@ -359,7 +421,8 @@ module _ (g : Given) (t : InferenceResult) (h : IsMade g t) where
         let roles : dm.role ≡ st.role = ap (λ (p : Part). p.role) one in
         elim st.states [
           | inl r ↦ r.1 ∙ sym (asked_at_root dm.parent dm.role d (roles ∙ r.0) dm.asks)
-          | inr w ↦ w.2 ∙ sym (asked_at_let dm.parent dm.role w.0 d (roles ∙ w.1) dm.asks)
+          | inr (inl w) ↦ w.2 ∙ sym (asked_at_let dm.parent dm.role w.0 d (roles ∙ w.1) dm.asks)
+          | inr (inr a) ↦ asked_of_argument dm.parent dm.role a.0 s d (roles ∙ a.1) (subst (λ n. IsWrittenInput g n a.0 s) same.0 a.2) dm.asks
         ]
       where
         one_part : (o : Option Part) (p q : Part) → o ≡ Some p → o ≡ Some q → p ≡ q
@@ -370,12 +433,14 @@ module _ (g : Given) (t : InferenceResult) (h : IsMade g t) where
     no_up_of_block m r is (of_written e w init n) = (let k = is.is_block in let j = n.names in cc)
     no_up_of_block m r is (of_initializer e i s n u) = (let k = is.is_block in let j = n.names in cc)
     no_up_of_block m r is (of_parameter e i s n w) = (let k = is.is_block in let j = n.names in cc)
+    no_up_of_block m r is (of_call e x c) = (let k = is.is_block in let j = c.is_call in cc)
 
     no_up_of_if : (e : ExprId) (u : Ty) → IsIfWithoutElse g.body e → Up g e u → ⊥
     no_up_of_if m r is (of_literal e l s at own) = (let k = is.is_if in cc)
     no_up_of_if m r is (of_written e w init n) = (let k = is.is_if in let j = n.names in cc)
     no_up_of_if m r is (of_initializer e i s n u) = (let k = is.is_if in let j = n.names in cc)
     no_up_of_if m r is (of_parameter e i s n w) = (let k = is.is_if in let j = n.names in cc)
+    no_up_of_if m r is (of_call e x c) = (let k = is.is_if in let j = c.is_call in cc)
 
     no_up_of_unit : (e : ExprId) (u : Ty) → EndsInUnit g.body e → Up g e u → ⊥
     no_up_of_unit e u is up = elim is [ inl k ↦ no_up_of_block e u k up | inr k ↦ no_up_of_if e u k up ]
@@ -415,6 +480,7 @@ module _ (g : Given) (t : InferenceResult) (h : IsMade g t) where
       body_rule = body_rule;
       upward = upward;
       truths = truths;
+      diagnostics = h.diagnostics;
       pat_truths = h.pat_truths;
     }
 

@@ -1,27 +1,30 @@
 -- What the place of a node asks of it.
-use Rattle.std.specs.Prelude.{ℕ, ◌<◌, ◌≡◌, ◌⊎◌, true, false, List, slice_get, Option, Some, None}
+use Rattle.std.specs.Prelude.{ℕ, ◌<◌, ◌≡◌, ◌⊎◌, true, false, List, length, map, slice_get, Option, Some, None}
 use Rattle.hir_types.specs.declared.ids.ExprId.{ExprId}
 use Rattle.hir_types.specs.declared.ids.PatId.{PatId}
 use Rattle.hir_types.specs.declared.ids.TypeRefId.{TypeRefId}
+use Rattle.hir_types.specs.declared.ids.CallableDefId.{CallableDefId}
 use Rattle.hir_types.specs.declared.ids.ExprOrPatId.{ExprOrPatId}
 use Rattle.hir_types.specs.declared.ids.ExprOrPatId.TheVariants as node
 use Rattle.hir_types.specs.declared.ty.Ty.{Ty}
 use Rattle.hir_types.specs.declared.ty.Ty.TheVariants as ty
-use Rattle.hir_facts.specs.declared.raw.RawType.{RawType}
 use Rattle.hir_facts.specs.declared.raw.RawExpr.TheVariants as expr
 use Rattle.hir_facts.specs.declared.raw.RawPat.{RawPat}
 use Rattle.hir_facts.specs.declared.raw.RawPat.TheVariants as pat
 use Rattle.hir_facts.specs.declared.raw.RawBody.{RawBody}
 use Rattle.hir_types.specs.Types.{unit}
 use Rattle.hir_facts.specs.Types.{written_type}
+use Rattle.hir_facts.specs.Signatures.{Signature, signature_of, type_args, at_args}
+use Rattle.hir_facts.specs.Scope.{Scope}
 use Rattle.hir_types.specs.Erasure.{Same}
 use Rattle.hir_facts.specs.Order.{Role, parameter, root, initializer, let_pattern, let_else, statement, tail, element, condition, then_branch, else_branch, scrutinee, arm_pattern, guard, arm, callee, argument, subpattern, pattern_literal, expr_part, Node, the_body, inner, IsNode, part_at}
 use Rattle.infer_result.specs.declared.result.InferenceResult.{InferenceResult}
 use Rattle.infer_result.specs.Table.{HasTy, PatTy, HasMismatch, HasPatMismatch}
 
--- a body among its facts: the written types, those of its parameters, and the type that it is typed against
+-- a body among its facts: what its types may name, the written types of its parameters, and the type that it is typed
+-- against
 pub record Given : Type 0 where
-  pub types : List RawType
+  pub scope : Scope
   pub body : RawBody
   pub inputs : List TypeRefId
   pub output : Ty
@@ -60,7 +63,7 @@ PatIsAtOrMismatch g t p s = (a : Ty) × PatTy t p a × ((a ≡ s) ⊎ MisfitsAs 
 
 -- the written type of the parameter at this position
 abbrev pub IsInput : Given → ℕ → Ty → Type 0
-IsInput g i s = (w : TypeRefId) × (slice_get g.inputs i ≡ Some w) × (s ≡ written_type g.types w)
+IsInput g i s = (w : TypeRefId) × (slice_get g.inputs i ≡ Some w) × (s ≡ written_type g.scope.facts.types w)
 
 -- the type that a pattern gives to its part at this position: the component of its own type
 abbrev pub GivesPart : InferenceResult → Node → ℕ → Ty → Type 0
@@ -74,7 +77,7 @@ abbrev pub Gives : Given → InferenceResult → Node → Role → Ty → Type 0
 Gives g t n (parameter i) s = IsInput g i s
 Gives g t n root s = ⊥
 Gives g t n (initializer w) s = ⊥
-Gives g t n (let_pattern (Some w) init) s = s ≡ written_type g.types w
+Gives g t n (let_pattern (Some w) init) s = s ≡ written_type g.scope.facts.types w
 Gives g t n (let_pattern None (Some e)) s = HasTy t e s
 Gives g t n (let_pattern None None) s = ⊥
 Gives g t n let_else s = ⊥
@@ -123,11 +126,29 @@ pub record IsOfOther (b : RawBody) (t : InferenceResult) (n : ExprId) (role : Ro
 abbrev pub AsksOfAlternative : Given → InferenceResult → ExprId → Role → Ty → Type 0
 AsksOfAlternative g t n role s = HasTy t n s ⊎ IsOfOther g.body t n role s
 
+-- what is called is an item of this signature, at these types as arguments
+pub record IsCallee (g : Given) (t : InferenceResult) (callee : ExprId) (σ : Signature) (ts : List Ty) : Type 0 where
+  pub item : CallableDefId
+  pub has : HasTy t callee (ty.FnDef item (type_args ts))
+  pub signature : signature_of g.scope.facts item ≡ Some σ
+
+-- the node is a call of an item, with as many arguments as that has inputs, and the input at this position has
+-- this type, at the arguments of the item
+pub record IsInputAt (g : Given) (t : InferenceResult) (n : ExprId) (i : ℕ) (s : Ty) : Type 0 where
+  pub called : ExprId
+  pub args : List ExprId
+  pub is_call : slice_get g.body.exprs n.0 ≡ Some (expr.Call called args)
+  pub signature : Signature
+  pub types : List Ty
+  pub is_callee : IsCallee g t called signature types
+  pub count : length args ≡ length signature.inputs
+  pub input : slice_get (map (at_args types) signature.inputs) i ≡ Some s
+
 -- the type that an expression asks of its part in this role
 abbrev pub AsksOf : Given → InferenceResult → ExprId → Role → Ty → Type 0
 AsksOf g t n (parameter i) s = ⊥
 AsksOf g t n root s = ⊥
-AsksOf g t n (initializer (Some w)) s = s ≡ written_type g.types w
+AsksOf g t n (initializer (Some w)) s = s ≡ written_type g.scope.facts.types w
 AsksOf g t n (initializer None) s = ⊥
 AsksOf g t n (let_pattern w init) s = ⊥
 AsksOf g t n let_else s = ⊥
@@ -143,7 +164,7 @@ AsksOf g t n (arm_pattern e i) s = ⊥
 AsksOf g t n (guard i) s = s ≡ ty.Bool
 AsksOf g t n (arm i) s = AsksOfAlternative g t n (arm i) s
 AsksOf g t n callee s = ⊥
-AsksOf g t n (argument i) s = ⊥
+AsksOf g t n (argument i) s = IsInputAt g t n i s
 AsksOf g t n (subpattern i) s = ⊥
 AsksOf g t n pattern_literal s = ⊥
 

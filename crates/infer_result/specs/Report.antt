@@ -1,9 +1,13 @@
 -- What is reported of a table: a line for the definition, for each expression, pattern and binding,
 -- and for each complaint, and the number of complaints last.
-use Rattle.std.specs.Prelude.{ℕ, zero, suc, ◌+◌, List, [], ◌∷◌, ◌++◌, Option, Some, None, codes, count_by, is_some}
+use Rattle.std.specs.Prelude.{ℕ, zero, suc, ◌+◌, List, [], ◌∷◌, ◌++◌, Option, Some, None, codes, count_by, is_some, slice_get}
 use Rattle.std.specs.Fmt.{decimal}
+use Rattle.hir_types.specs.declared.ids.AdtId.{AdtId}
+use Rattle.hir_types.specs.declared.ids.CallableDefId.{CallableDefId}
+use Rattle.hir_types.specs.declared.ids.CallableDefId.TheVariants as callable
 use Rattle.hir_types.specs.declared.ids.DefWithBodyId.{DefWithBodyId}
 use Rattle.hir_types.specs.declared.ids.DefWithBodyId.TheVariants as def
+use Rattle.hir_facts.specs.declared.raw.RawAdt.{RawAdt}
 use Rattle.hir_facts.specs.declared.raw.RawFacts.{RawFacts}
 use Rattle.hir_types.specs.declared.ty.IntTy.{IntTy}
 use Rattle.hir_types.specs.declared.ty.IntTy.TheVariants as int
@@ -18,11 +22,13 @@ use Rattle.hir_types.specs.declared.ty.Safety.TheVariants as safety
 use Rattle.hir_types.specs.declared.ty.Const.{Const}
 use Rattle.hir_types.specs.declared.ty.Const.TheVariants as const
 use Rattle.hir_types.specs.declared.ty.AliasBound.{AliasBound-F}
-use Rattle.hir_types.specs.declared.ty.GenericArg.{GenericArg-F}
+use Rattle.hir_types.specs.declared.ty.GenericArg.{GenericArg, GenericArg-F, fold-GenericArg}
 use Rattle.hir_types.specs.declared.ty.TraitRef.{TraitRef-F}
 use Rattle.hir_types.specs.declared.ty.Ty.{Ty, Ty-F, fold-Ty}
 use Rattle.infer_result.specs.declared.modes.BindingMode.{BindingMode}
 use Rattle.infer_result.specs.declared.modes.BindingMode.TheVariants as mode
+use Rattle.infer_result.specs.declared.diagnostics.InferenceDiagnostic.{InferenceDiagnostic}
+use Rattle.infer_result.specs.declared.diagnostics.InferenceDiagnostic.TheVariants as diagnostic
 use Rattle.infer_result.specs.declared.result.TypeMismatch.{TypeMismatch}
 use Rattle.infer_result.specs.declared.result.InferenceResult.{InferenceResult}
 use Rattle.infer_result.specs.Table.{recorded}
@@ -97,6 +103,25 @@ tuple_text (x ∷ y ∷ ys) = codes "(" ++ joined (x ∷ y ∷ ys) ++ codes ")"
 abbrev pub signature_text : List (List ℕ) → List ℕ → List ℕ
 signature_text ts t = codes "(" ++ joined ts ++ codes ") -> " ++ t
 
+-- generic arguments, where there are any
+abbrev pub args_text : List (List ℕ) → List ℕ
+args_text [] = []
+args_text (x ∷ xs) = codes "<" ++ joined (x ∷ xs) ++ codes ">"
+
+-- an adt is named as in the source
+abbrev pub named_text : Option RawAdt → List (List ℕ) → List ℕ
+named_text None xs = codes "{unknown}"
+named_text (Some a) xs = a.name ++ args_text xs
+
+-- at its arguments, where it is in range
+abbrev pub adt_text : RawFacts → AdtId → List (List ℕ) → List ℕ
+adt_text raw i xs = named_text (slice_get raw.adts i.0) xs
+
+-- a function or a constructor is named by its number
+abbrev pub callable_text : CallableDefId → List ℕ
+callable_text (callable.FunctionId f) = codes "fn" ++ decimal f.0
+callable_text (callable.VariantId v) = codes "variant" ++ decimal v.0
+
 abbrev pub text_arg : GenericArg-F (List ℕ) (List ℕ) (List ℕ) (List ℕ) → List ℕ
 text_arg (GenericArg-F.Ty t) = t
 text_arg (GenericArg-F.Const c) = const_text c
@@ -107,41 +132,44 @@ text_bound b = b.ty
 abbrev pub text_trait : TraitRef-F (List ℕ) (List ℕ) (List ℕ) (List ℕ) → List ℕ
 text_trait t = joined t.args
 
--- One level, with the text of each type inside. What is written with names of the facts that they do
--- not carry yet is `{unknown}`: no type that fits the facts is one.
-abbrev pub text_step : Ty-F (List ℕ) (List ℕ) (List ℕ) (List ℕ) → List ℕ
-text_step Ty-F.Bool = codes "bool"
-text_step Ty-F.Char = codes "char"
-text_step (Ty-F.Int i) = int_text i
-text_step (Ty-F.Uint u) = uint_text u
-text_step (Ty-F.Float f) = float_text f
-text_step Ty-F.Str = codes "str"
-text_step Ty-F.Never = codes "!"
-text_step (Ty-F.Tuple ts) = tuple_text ts
-text_step (Ty-F.Array t c) = codes "[" ++ t ++ codes "; " ++ const_text c ++ codes "]"
-text_step (Ty-F.Slice t) = codes "[" ++ t ++ codes "]"
-text_step (Ty-F.Ref m r t) = codes "&" ++ label_text r.0 ++ ref_text m ++ t
-text_step (Ty-F.RawPtr m t) = codes "*" ++ ptr_text m ++ t
-text_step (Ty-F.Adt i xs) = codes "{unknown}"
-text_step (Ty-F.FnDef i xs) = codes "{unknown}"
-text_step (Ty-F.FnPtr s ts t) = safety_text s ++ signature_text ts t
-text_step (Ty-F.Closure i ts t) = codes "closure e" ++ decimal i.0.0 ++ signature_text ts t
-text_step (Ty-F.Dynamic o bs ts) = codes "{unknown}"
-text_step (Ty-F.Param n) = codes "param" ++ decimal n
-text_step (Ty-F.Projection i xs) = codes "{unknown}"
-text_step (Ty-F.Opaque i xs) = codes "{unknown}"
-text_step Ty-F.Error = codes "{unknown}"
-text_step (Ty-F.Var n) = codes "?" ++ decimal n
-text_step (Ty-F.IntVar n) = codes "?" ++ decimal n
-text_step Ty-F.Hole = codes "_"
+-- One level, with the text of each type inside. What is written with names of traits, aliases and opaque
+-- types, which the facts do not carry yet, is `{unknown}`: no type that fits the facts is one.
+abbrev pub text_step : RawFacts → Ty-F (List ℕ) (List ℕ) (List ℕ) (List ℕ) → List ℕ
+text_step raw Ty-F.Bool = codes "bool"
+text_step raw Ty-F.Char = codes "char"
+text_step raw (Ty-F.Int i) = int_text i
+text_step raw (Ty-F.Uint u) = uint_text u
+text_step raw (Ty-F.Float f) = float_text f
+text_step raw Ty-F.Str = codes "str"
+text_step raw Ty-F.Never = codes "!"
+text_step raw (Ty-F.Tuple ts) = tuple_text ts
+text_step raw (Ty-F.Array t c) = codes "[" ++ t ++ codes "; " ++ const_text c ++ codes "]"
+text_step raw (Ty-F.Slice t) = codes "[" ++ t ++ codes "]"
+text_step raw (Ty-F.Ref m r t) = codes "&" ++ label_text r.0 ++ ref_text m ++ t
+text_step raw (Ty-F.RawPtr m t) = codes "*" ++ ptr_text m ++ t
+text_step raw (Ty-F.Adt i xs) = adt_text raw i xs
+text_step raw (Ty-F.FnDef i xs) = callable_text i ++ args_text xs
+text_step raw (Ty-F.FnPtr s ts t) = safety_text s ++ signature_text ts t
+text_step raw (Ty-F.Closure i ts t) = codes "closure e" ++ decimal i.0.0 ++ signature_text ts t
+text_step raw (Ty-F.Dynamic o bs ts) = codes "{unknown}"
+text_step raw (Ty-F.Param n) = codes "param" ++ decimal n
+text_step raw (Ty-F.Projection i xs) = codes "{unknown}"
+text_step raw (Ty-F.Opaque i xs) = codes "{unknown}"
+text_step raw Ty-F.Error = codes "{unknown}"
+text_step raw (Ty-F.Var n) = codes "?" ++ decimal n
+text_step raw (Ty-F.IntVar n) = codes "?" ++ decimal n
+text_step raw Ty-F.Hole = codes "_"
 
-abbrev pub ty_text : Ty → List ℕ
-ty_text = fold-Ty (List ℕ) (List ℕ) (List ℕ) (List ℕ) text_arg text_step text_bound text_trait
+abbrev pub ty_text : RawFacts → Ty → List ℕ
+ty_text raw = fold-Ty (List ℕ) (List ℕ) (List ℕ) (List ℕ) text_arg (text_step raw) text_bound text_trait
+
+abbrev pub arg_text : RawFacts → GenericArg → List ℕ
+arg_text raw = fold-GenericArg (List ℕ) (List ℕ) (List ℕ) (List ℕ) text_arg (text_step raw) text_bound text_trait
 
 -- the type of a node, where it has one
-abbrev pub type_text : Option Ty → List ℕ
-type_text None = codes "{unknown}"
-type_text (Some t) = ty_text t
+abbrev pub type_text : RawFacts → Option Ty → List ℕ
+type_text raw None = codes "{unknown}"
+type_text raw (Some t) = ty_text raw t
 
 -- ---- lines
 
@@ -159,8 +187,8 @@ def_line (def.ConstId c) = line (codes "const " ++ decimal c.0)
 def_line (def.StaticId s) = line (codes "static " ++ decimal s.0)
 def_line (def.VariantId v) = line (codes "variant " ++ decimal v.0)
 
-abbrev pub expr_line : ℕ → Option Ty → List ℕ
-expr_line i t = line (codes "e" ++ decimal i ++ codes " " ++ type_text t)
+abbrev pub expr_line : RawFacts → ℕ → Option Ty → List ℕ
+expr_line raw i t = line (codes "e" ++ decimal i ++ codes " " ++ type_text raw t)
 
 -- how a pattern binds, where it does
 abbrev pub mode_text : Option BindingMode → List ℕ
@@ -169,37 +197,55 @@ mode_text (Some mode.Move) = codes " move"
 mode_text (Some (mode.Ref mutability.Not)) = codes " ref"
 mode_text (Some (mode.Ref mutability.Mut)) = codes " refmut"
 
-abbrev pub pat_line : List (Option BindingMode) → ℕ → Option Ty → List ℕ
-pat_line modes i t = line (codes "p" ++ decimal i ++ codes " " ++ type_text t ++ mode_text (recorded modes i))
+abbrev pub pat_line : RawFacts → List (Option BindingMode) → ℕ → Option Ty → List ℕ
+pat_line raw modes i t = line (codes "p" ++ decimal i ++ codes " " ++ type_text raw t ++ mode_text (recorded modes i))
 
-abbrev pub binding_line : ℕ → Option Ty → List ℕ
-binding_line i t = line (codes "b" ++ decimal i ++ codes " " ++ type_text t)
+abbrev pub binding_line : RawFacts → ℕ → Option Ty → List ℕ
+binding_line raw i t = line (codes "b" ++ decimal i ++ codes " " ++ type_text raw t)
 
 unfoldable pub mismatch_head : ℕ → List ℕ
 mismatch_head i = codes "TypeMismatch e" ++ decimal i
 
-unfoldable pub type_field : List ℕ → Ty → List ℕ
-type_field name t = name ++ ty_text t
+unfoldable pub type_field : RawFacts → List ℕ → Ty → List ℕ
+type_field raw name t = name ++ ty_text raw t
 
-abbrev pub mismatch_line : ℕ → Option TypeMismatch → List ℕ
-mismatch_line i None = []
-mismatch_line i (Some m) = line (mismatch_head i ++ type_field (codes " expected=") m.expected ++ type_field (codes " actual=") m.actual)
+-- what was wanted, and what stands there
+abbrev pub mismatch_fields : RawFacts → TypeMismatch → List ℕ
+mismatch_fields raw m = type_field raw (codes " expected=") m.expected ++ type_field raw (codes " actual=") m.actual
+
+abbrev pub mismatch_line : RawFacts → ℕ → Option TypeMismatch → List ℕ
+mismatch_line raw i None = []
+mismatch_line raw i (Some m) = line (mismatch_head i ++ mismatch_fields raw m)
+
+-- another complaint: its name, its node, and what it says of it
+unfoldable pub diagnostic_text : InferenceDiagnostic → List ℕ
+diagnostic_text (diagnostic.MismatchedArgCount n expected found) =
+    codes "MismatchedArgCount e" ++ decimal n.0 ++ codes " expected=" ++ decimal expected ++ codes " found=" ++ decimal found
+
+abbrev pub diagnostic_line : Option InferenceDiagnostic → List ℕ
+diagnostic_line None = []
+diagnostic_line (Some x) = line (diagnostic_text x)
+
+-- the complaints at an expression: its mismatch, then the other one
+abbrev pub expr_complaints : RawFacts → List (Option InferenceDiagnostic) → ℕ → Option TypeMismatch → List ℕ
+expr_complaints raw diagnostics i m = mismatch_line raw i m ++ diagnostic_line (recorded diagnostics i)
 
 unfoldable pub pat_mismatch_head : ℕ → List ℕ
 pat_mismatch_head i = codes "TypeMismatch p" ++ decimal i
 
-abbrev pub pat_mismatch_line : ℕ → Option TypeMismatch → List ℕ
-pat_mismatch_line i None = []
-pat_mismatch_line i (Some m) = line (pat_mismatch_head i ++ type_field (codes " expected=") m.expected ++ type_field (codes " actual=") m.actual)
+abbrev pub pat_mismatch_line : RawFacts → ℕ → Option TypeMismatch → List ℕ
+pat_mismatch_line raw i None = []
+pat_mismatch_line raw i (Some m) = line (pat_mismatch_head i ++ mismatch_fields raw m)
 
 -- ---- the whole
 
 abbrev pub complaint_count : InferenceResult → ℕ
-complaint_count t = count_by is_some t.expr_mismatches + count_by is_some t.pat_mismatches
+complaint_count t = count_by is_some t.expr_mismatches + count_by is_some t.expr_diagnostics + count_by is_some t.pat_mismatches
 
 abbrev pub report : DefWithBodyId → RawFacts → InferenceResult → List ℕ
 report d raw t =
-    def_line d ++ lines_from expr_line 0 t.type_of_expr ++ lines_from (pat_line t.binding_modes) 0 t.type_of_pat ++ lines_from binding_line 0 t.type_of_binding
-    ++ lines_from mismatch_line 0 t.expr_mismatches
-    ++ lines_from pat_mismatch_line 0 t.pat_mismatches
+    def_line d ++ lines_from (expr_line raw) 0 t.type_of_expr ++ lines_from (pat_line raw t.binding_modes) 0 t.type_of_pat
+    ++ lines_from (binding_line raw) 0 t.type_of_binding
+    ++ lines_from (expr_complaints raw t.expr_diagnostics) 0 t.expr_mismatches
+    ++ lines_from (pat_mismatch_line raw) 0 t.pat_mismatches
     ++ line (codes "complaints " ++ decimal (complaint_count t))

@@ -4,5 +4,6 @@ pub mod Placing
 pub mod Tuples
 pub mod Blocks
 pub mod Branches
+pub mod Calls
 pub mod Expressions
 pub mod Patterns

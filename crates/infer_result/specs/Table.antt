@@ -9,6 +9,7 @@ use Rattle.hir_types.specs.declared.ids.ExprOrPatId.TheVariants as node
 use Rattle.hir_types.specs.declared.ty.Ty.{Ty}
 use Rattle.infer_result.specs.declared.result.InferenceResult.{InferenceResult}
 use Rattle.infer_result.specs.declared.result.TypeMismatch.{TypeMismatch}
+use Rattle.infer_result.specs.declared.diagnostics.InferenceDiagnostic.{InferenceDiagnostic}
 use Rattle.infer_result.specs.declared.modes.BindingMode.{BindingMode}
 
 -- what is recorded at n, where something is
@@ -51,6 +52,14 @@ HasMismatch t e = (x : TypeMismatch) × At t.expr_mismatches e.0 x
 abbrev pub AnyMismatch : InferenceResult → List ExprId → Type 0
 AnyMismatch t [] = ⊥
 AnyMismatch t (e ∷ es) = HasMismatch t e ⊎ AnyMismatch t es
+
+-- this complaint, other than a mismatch, is listed at the expression
+abbrev pub HasDiagnostic : InferenceResult → ExprId → InferenceDiagnostic → Type 0
+HasDiagnostic t e x = At t.expr_diagnostics e.0 x
+
+-- some is
+abbrev pub AnyDiagnostic : InferenceResult → ExprId → Type 0
+AnyDiagnostic t e = (x : InferenceDiagnostic) × HasDiagnostic t e x
 
 -- some mismatch is listed at the pattern
 abbrev pub HasPatMismatch : InferenceResult → PatId → Type 0

@@ -1,1 +1,2 @@
 pub mod Mismatch
+pub mod Calls

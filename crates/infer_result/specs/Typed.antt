@@ -7,8 +7,10 @@ use Rattle.hir_types.specs.declared.ty.Ty.{Ty}
 use Rattle.hir_facts.specs.declared.raw.RawBody.{RawBody}
 use Rattle.hir_facts.specs.declared.raw.RawFacts.{RawFacts}
 use Rattle.hir_facts.specs.Bodies.{body_of, return_type, inputs_of}
+use Rattle.hir_facts.specs.Scope.{scope_of}
 use Rattle.infer_result.specs.declared.result.InferenceResult.{InferenceResult}
 use Rattle.infer_result.specs.declared.result.TypeMismatch.{TypeMismatch}
+use Rattle.infer_result.specs.declared.diagnostics.InferenceDiagnostic.{InferenceDiagnostic}
 use Rattle.infer_result.specs.Table.{At, HasTy}
 use Rattle.infer_result.specs.Closed.{IsOfBody, IsTotal, IsClosedTable, OnlyBindersHaveModes}
 use Rattle.infer_result.specs.Fit.{TypesFit}
@@ -18,9 +20,11 @@ use Rattle.infer_result.specs.Rules.Patterns.{ObeysPattern}
 use Rattle.infer_result.specs.Excused.{IsExcused, BodyIsExcused}
 use Rattle.infer_result.specs.Upward.{Up}
 use Rattle.infer_result.specs.Truth.Mismatch.{IsTrueMismatch, IsTruePatMismatch}
+use Rattle.infer_result.specs.Truth.Calls.{IsTrueDiagnostic}
 
 -- Each node obeys its rule, clause by clause but for listed mismatches, and so each node that is not
--- excused obeys it whole; each type that a node has by itself stands; and each mismatch is true.
+-- excused obeys it whole; each type that a node has by itself stands; and each mismatch and
+-- each other complaint is true.
 pub record IsTyped (g : Given) (t : InferenceResult) : Type 0 where
   pub of_body : IsOfBody g.body t
   pub total : IsTotal g.body t
@@ -33,11 +37,12 @@ pub record IsTyped (g : Given) (t : InferenceResult) : Type 0 where
   pub body_rule : BodyIsExcused g t ⊎ BodyObeys g t
   pub upward : (e : ExprId) (s : Ty) → Up g e s → HasTy t e s
   pub truths : (e : ExprId) (x : TypeMismatch) → At t.expr_mismatches e.0 x → IsTrueMismatch g t e x
+  pub diagnostics : (e : ExprId) (x : InferenceDiagnostic) → At t.expr_diagnostics e.0 x → IsTrueDiagnostic g t e x
   pub pat_truths : (p : PatId) (x : TypeMismatch) → At t.pat_mismatches p.0 x → IsTruePatMismatch g t p x
 
 -- the body of a definition among its facts
 abbrev pub given : RawFacts → DefWithBodyId → RawBody → Given
-given raw d b = record { types = raw.types; body = b; inputs = inputs_of raw d; output = return_type raw d }
+given raw d b = record { scope = scope_of raw d; body = b; inputs = inputs_of raw d; output = return_type raw d }
 
 -- the table is one of the definition's body, typed, and its types name what the facts have
 pub record IsTableOf (raw : RawFacts) (d : DefWithBodyId) (t : InferenceResult) : Type 0 where

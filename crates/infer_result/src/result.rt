@@ -2,6 +2,7 @@
 ghost use Rattle.std.specs.Prelude.{◌≡◌, option_copied};
 ghost use Rattle.infer_result.specs.Table.{recorded, node_type};
 
+use crate::diagnostics::InferenceDiagnostic;
 use crate::modes::BindingMode;
 use hir_facts::{BindingId, ExprId, ExprOrPatId, List, PatId, Ty};
 
@@ -29,6 +30,8 @@ pub struct InferenceResult {
     pub binding_modes: List<Option<BindingMode>>,
     /// The mismatch at each expression, where there is one.
     pub expr_mismatches: List<Option<TypeMismatch>>,
+    /// The complaint, other than a mismatch, at each expression, where there is one.
+    pub expr_diagnostics: List<Option<InferenceDiagnostic>>,
     /// The mismatch at each pattern, where there is one.
     pub pat_mismatches: List<Option<TypeMismatch>>,
 }
@@ -63,6 +66,13 @@ impl InferenceResult {
         ensures { option_copied result ≡ recorded self.now.expr_mismatches e.0 }
     {
         self.expr_mismatches.get(e.0 as usize)?.as_ref()
+    }
+
+    /// The complaint, other than a mismatch, at an expression; `None` where there is none.
+    pub fn diagnostic_for_expr(&self, e: ExprId) -> Option<&InferenceDiagnostic>
+        ensures { option_copied result ≡ recorded self.now.expr_diagnostics e.0 }
+    {
+        self.expr_diagnostics.get(e.0 as usize)?.as_ref()
     }
 
     /// The mismatch at a pattern; `None` where there is none.

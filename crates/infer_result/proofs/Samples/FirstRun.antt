@@ -19,11 +19,12 @@ use Rattle.infer_result.specs.Places.{Given, Demand}
 use Rattle.infer_result.specs.Rules.Expressions.{ObeysOrMismatch}
 use Rattle.infer_result.specs.Rules.Patterns.{PatRule}
 use Rattle.infer_result.specs.Truth.Mismatch.{IsTruePatMismatch}
+use Rattle.infer_result.specs.Truth.Calls.{IsTrueDiagnostic}
 use Rattle.infer_result.specs.Closed.{IsBinder}
 use Rattle.infer_result.specs.Made.{IsMisfit, IsMade}
 use Rattle.infer_result.specs.Typed.{IsTyped}
 use Rattle.infer_result.specs.Derived.{typed_by_schedule}
-use Rattle.infer_result.proofs.Samples.Small.{e, p, b, u8, u16, one_u8, plain, body_of, each_below, each_node, apart_by, asked, only, each_entry, closed_u8, u8_is_no_u16, u8_is_no_error, u8_differs_u16, each_placed}
+use Rattle.infer_result.proofs.Samples.Small.{scope_with, e, p, b, u8, u16, one_u8, plain, body_of, each_below, each_node, apart_by, asked, only, each_entry, closed_u8, u8_is_no_u16, u8_is_no_error, u8_differs_u16, each_placed}
 
 abbrev body : RawBody
 body =
@@ -31,7 +32,7 @@ body =
     (pat.Bind (b 0) None ∷ []) (plain ∷ [])
 
 abbrev given : Given
-given = record { types = []; body = body; inputs = []; output = u8 }
+given = record { scope = scope_with []; body = body; inputs = []; output = u8 }
 
 abbrev schedule : Schedule
 schedule = record { starts = 2 ∷ 4 ∷ 1 ∷ 3 ∷ 0 ∷ []; ends = 3 ∷ 5 ∷ 5 ∷ 4 ∷ 5 ∷ []; depths = 2 ∷ 2 ∷ 1 ∷ 2 ∷ 0 ∷ [] }
@@ -55,6 +56,7 @@ table_of types mismatches = record {
   type_of_binding = Some u8 ∷ [];
   binding_modes = Some mode.Move ∷ [];
   expr_mismatches = mismatches;
+  expr_diagnostics = None ∷ None ∷ None ∷ [];
   pat_mismatches = None ∷ [];
 }
 
@@ -63,7 +65,7 @@ right = table_of (Some u8 ∷ Some u8 ∷ Some u8 ∷ []) (None ∷ None ∷ Non
 
 right_made : IsMade given right
 right_made = record {
-  of_body = record { exprs = refl; pats = refl; bindings = refl; modes = refl; mismatches = refl; pat_mismatches = refl };
+  of_body = record { exprs = refl; pats = refl; bindings = refl; modes = refl; mismatches = refl; diagnostics = refl; pat_mismatches = refl };
   closed = record {
     exprs = each_entry IsClosed right.type_of_expr (closed_u8, (closed_u8, (closed_u8, tt)));
     pats = each_entry IsClosed right.type_of_pat (closed_u8, tt);
@@ -81,6 +83,7 @@ right_made = record {
   misfits = λ x. each_entry (IsMisfit given right x) right.expr_mismatches tt x.0;
   demands = λ x. each_entry (λ m. Demand given right x m.expected) right.expr_mismatches tt x.0;
   modes = λ x. each_placed (λ k m. IsBinder body (p k)) right.binding_modes ((b 0, None, refl), tt) x.0;
+  diagnostics = λ x. each_entry (IsTrueDiagnostic given right x) right.expr_diagnostics tt x.0;
   pat_truths = λ x. each_entry (IsTruePatMismatch given right x) right.pat_mismatches tt x.0;
 }
 

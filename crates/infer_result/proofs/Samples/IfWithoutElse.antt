@@ -24,11 +24,12 @@ use Rattle.infer_result.specs.Places.{Given, Demand}
 use Rattle.infer_result.specs.Rules.Expressions.{ObeysOrMismatch}
 use Rattle.infer_result.specs.Rules.Patterns.{PatRule}
 use Rattle.infer_result.specs.Truth.Mismatch.{IsTruePatMismatch}
+use Rattle.infer_result.specs.Truth.Calls.{IsTrueDiagnostic}
 use Rattle.infer_result.specs.Closed.{IsBinder}
 use Rattle.infer_result.specs.Made.{IsMisfit, IsMade}
 use Rattle.infer_result.specs.Typed.{IsTyped}
 use Rattle.infer_result.specs.Derived.{typed_by_schedule}
-use Rattle.infer_result.proofs.Samples.Small.{e, p, b, w, u8, one_u8, plain, body_with, each_below, each_node, apart_by, asks_here, asked, one_param, no_other, only, each_entry, each_placed, nowhere, closed_u8, closed_bool, closed_unit, closed_error, u8_is_no_bool, u8_is_no_unit, bool_is_no_error, bool_is_no_unit, u8_differs_unit}
+use Rattle.infer_result.proofs.Samples.Small.{scope_with, e, p, b, w, u8, one_u8, plain, body_with, each_below, each_node, apart_by, asks_here, asked, one_param, no_other, only, each_entry, each_placed, nowhere, closed_u8, closed_bool, closed_unit, closed_error, u8_is_no_bool, u8_is_no_unit, bool_is_no_error, bool_is_no_unit, u8_differs_unit}
 
 abbrev types : List RawType
 types = type.Bool ∷ []
@@ -39,7 +40,7 @@ body =
     (pat.Bind (b 0) None ∷ pat.Bind (b 1) None ∷ []) (plain ∷ plain ∷ [])
 
 abbrev given : Given
-given = record { types = types; body = body; inputs = w 0 ∷ []; output = unit }
+given = record { scope = scope_with types; body = body; inputs = w 0 ∷ []; output = unit }
 
 written : written_type types (w 0) ≡ ty.Bool
 unfolding lowered_within
@@ -71,6 +72,7 @@ table_of s mismatches = record {
   type_of_binding = Some ty.Bool ∷ Some s ∷ [];
   binding_modes = Some mode.Move ∷ Some mode.Move ∷ [];
   expr_mismatches = mismatches;
+  expr_diagnostics = None ∷ None ∷ None ∷ None ∷ [];
   pat_mismatches = None ∷ None ∷ [];
 }
 
@@ -79,7 +81,7 @@ right s = table_of s (None ∷ None ∷ Some (mismatch u8 unit) ∷ None ∷ [])
 
 right_made : (s : Ty) → IsClosed s → IsMade given (right s)
 right_made s closed_s = record {
-  of_body = record { exprs = refl; pats = refl; bindings = refl; modes = refl; mismatches = refl; pat_mismatches = refl };
+  of_body = record { exprs = refl; pats = refl; bindings = refl; modes = refl; mismatches = refl; diagnostics = refl; pat_mismatches = refl };
   closed = record {
     exprs = each_entry IsClosed (right s).type_of_expr (closed_bool, (closed_u8, (closed_s, (closed_unit, tt))));
     pats = each_entry IsClosed (right s).type_of_pat (closed_bool, (closed_s, tt));
@@ -99,6 +101,7 @@ right_made s closed_s = record {
   misfits = λ x. each_placed (λ k. IsMisfit given (right s) (e k)) (right s).expr_mismatches (record { differ = u8_differs_unit; actual = inr (inr (record { condition = e 0; branch = e 1; is_if = refl }), refl) }, tt) x.0;
   demands = λ x. each_placed (λ k (m : TypeMismatch). Demand given (right s) (e k) m.expected) (right s).expr_mismatches (inr (record { condition = e 0; branch = e 1; is_if = refl; has = refl }), tt) x.0;
   modes = λ x. each_placed (λ k m. IsBinder body (p k)) (right s).binding_modes ((b 0, None, refl), ((b 1, None, refl), tt)) x.0;
+  diagnostics = λ x. each_entry (IsTrueDiagnostic given (right s) x) (right s).expr_diagnostics tt x.0;
   pat_truths = λ x. each_entry (IsTruePatMismatch given (right s) x) (right s).pat_mismatches tt x.0;
 }
 

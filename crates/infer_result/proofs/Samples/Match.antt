@@ -28,11 +28,12 @@ use Rattle.infer_result.specs.Places.{Given, Demand}
 use Rattle.infer_result.specs.Rules.Expressions.{ObeysOrMismatch}
 use Rattle.infer_result.specs.Rules.Patterns.{PatRule}
 use Rattle.infer_result.specs.Truth.Mismatch.{IsTruePatMismatch}
+use Rattle.infer_result.specs.Truth.Calls.{IsTrueDiagnostic}
 use Rattle.infer_result.specs.Closed.{IsBinder}
 use Rattle.infer_result.specs.Made.{IsMisfit, IsMade}
 use Rattle.infer_result.specs.Typed.{IsTyped}
 use Rattle.infer_result.specs.Derived.{tuple_parts, typed_by_schedule}
-use Rattle.infer_result.proofs.Samples.Small.{e, p, b, w, u8, one_u8, plain, body_with, each_below, each_node, apart_by, comes, one_param, only, each_entry, nowhere, closed_u8, top_uint, top_int, u8_is_no_bool, u8_is_no_tuple, u8_differs_bool, each_placed}
+use Rattle.infer_result.proofs.Samples.Small.{scope_with, e, p, b, w, u8, one_u8, plain, body_with, each_below, each_node, apart_by, comes, one_param, only, each_entry, nowhere, closed_u8, top_uint, top_int, u8_is_no_bool, u8_is_no_tuple, u8_differs_bool, each_placed}
 
 -- the body with another expression in the last arm
 abbrev body_of : RawExpr → RawBody
@@ -52,7 +53,7 @@ abbrev types : List RawType
 types = type.Integer (integer.Uint uint.U8) ∷ type.Integer (integer.Int int.I32) ∷ type.Tuple (w 0 ∷ w 1 ∷ []) ∷ []
 
 abbrev given_of : RawExpr → Given
-given_of last = record { types = types; body = body_of last; inputs = w 2 ∷ []; output = u8 }
+given_of last = record { scope = scope_with types; body = body_of last; inputs = w 2 ∷ []; output = u8 }
 
 abbrev body : RawBody
 body = body_of (expr.Lit one_u8)
@@ -101,6 +102,7 @@ table_of seven name last a wild bound mismatches pat_mismatches = record {
   type_of_binding = Some pair ∷ Some bound ∷ [];
   binding_modes = Some mode.Move ∷ None ∷ Some mode.Move ∷ None ∷ None ∷ [];
   expr_mismatches = mismatches;
+  expr_diagnostics = None ∷ None ∷ None ∷ None ∷ None ∷ None ∷ [];
   pat_mismatches = pat_mismatches;
 }
 
@@ -124,7 +126,7 @@ match_obeys = ((pair, refl, ((pair, refl, inl refl), ((pair, refl, inl refl), tt
 
 right_made : IsMade given right
 right_made = record {
-  of_body = record { exprs = refl; pats = refl; bindings = refl; modes = refl; mismatches = refl; pat_mismatches = refl };
+  of_body = record { exprs = refl; pats = refl; bindings = refl; modes = refl; mismatches = refl; diagnostics = refl; pat_mismatches = refl };
   closed = record {
     exprs = each_entry IsClosed right.type_of_expr (closed_pair, (closed_i32, (closed_u8, (closed_u8, (closed_u8, (closed_u8, tt))))));
     pats = each_entry IsClosed right.type_of_pat (closed_pair, (closed_pair, (closed_u8, (closed_i32, (closed_pair, tt)))));
@@ -146,6 +148,7 @@ right_made = record {
   misfits = λ x. each_entry (IsMisfit given right x) right.expr_mismatches tt x.0;
   demands = λ x. each_entry (λ m. Demand given right x m.expected) right.expr_mismatches tt x.0;
   modes = λ x. each_placed (λ k m. IsBinder body (p k)) right.binding_modes ((b 0, None, refl), ((b 1, None, refl), tt)) x.0;
+  diagnostics = λ x. each_entry (IsTrueDiagnostic given right x) right.expr_diagnostics tt x.0;
   pat_truths = λ x. each_entry (IsTruePatMismatch given right x) right.pat_mismatches tt x.0;
 }
 

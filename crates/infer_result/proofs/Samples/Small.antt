@@ -1,6 +1,6 @@
 -- What the samples share: small bodies, looked through node by node, and a few types.
 use Rattle.std.proofs.Common.{ℕ, zero, suc, ◌<◌, ◌≡◌, inl, inr, List, [], ◌∷◌, length, refl, sym, ap, subst, ◌∙◌, arith, Option, Some, None, slice_get}
-use Rattle.std.specs.Prelude.{codes}
+use Rattle.std.specs.Prelude.{codes, true, false}
 use Rattle.std.proofs.Math.Nat.{eq-or-lt_of_le}
 use Rattle.hir_types.specs.declared.ids.ExprId.{ExprId}
 use Rattle.hir_types.specs.declared.ids.PatId.{PatId}
@@ -20,12 +20,20 @@ use Rattle.hir_facts.specs.declared.raw.RawExpr.{RawExpr}
 use Rattle.hir_facts.specs.declared.raw.RawPat.{RawPat}
 use Rattle.hir_facts.specs.declared.raw.RawBinding.{RawBinding}
 use Rattle.hir_facts.specs.declared.raw.BindingAnnotation.TheVariants as annotation
+use Rattle.hir_facts.specs.declared.raw.Edition.TheVariants as edition
+use Rattle.hir_facts.specs.declared.raw.RawType.{RawType}
+use Rattle.hir_facts.specs.declared.raw.RawParam.{RawParam}
+use Rattle.hir_facts.specs.declared.raw.RawAt.TheVariants as stands
+use Rattle.hir_facts.specs.declared.raw.RawVis.TheVariants as visible
+use Rattle.hir_facts.specs.declared.raw.RawFn.{RawFn}
 use Rattle.hir_facts.specs.declared.raw.RawBody.{RawBody}
+use Rattle.hir_facts.specs.declared.raw.RawFacts.{RawFacts}
 use Rattle.hir_facts.specs.declared.schedule.Schedule.{Schedule}
 use Rattle.hir_types.specs.Erasure.{IsClosed, Same}
 use Rattle.hir_types.specs.Layers.{has_hole_tuple, has_hole_bool, has_hole_error, has_hole_integer}
 use Rattle.hir_facts.specs.CarriedTypes.{carried_bool, carried_integer, carried_tuple, same_carried}
 use Rattle.hir_facts.specs.Types.{written_type}
+use Rattle.hir_facts.specs.Scope.{Scope}
 use Rattle.hir_facts.specs.Order.{Role, Part, expr_part, Node, the_body, inner, IsNode, IsSchedule, start, parts, part_at}
 use Rattle.hir_facts.specs.Ways.{one_place}
 use Rattle.infer_result.specs.declared.result.InferenceResult.{InferenceResult}
@@ -73,6 +81,50 @@ body_with params exprs root pats bindings = record {
 -- a body without parameters
 abbrev pub body_of : List RawExpr → ℕ → List RawPat → List RawBinding → RawBody
 body_of exprs root pats bindings = body_with [] exprs root pats bindings
+
+-- a function of a module with these generic parameters, inputs and output
+abbrev pub function_of : List RawParam → List TypeRefId → TypeRefId → RawFn
+function_of params inputs output = record {
+  name = codes "f";
+  «at» = stands.Module (record { 0 = 0 });
+  params = params;
+  preds = [];
+  has_self = false;
+  inputs = inputs;
+  output = output;
+  safe = true;
+  vis = visible.Pub;
+  body = None;
+}
+
+-- facts of these written types and functions, and nothing else
+abbrev pub facts_with : List RawType → List RawFn → RawFacts
+facts_with types fns = record {
+  edition = edition.Edition2021;
+  never_fallback = false;
+  new_range = false;
+  limits = record { goal_depth = 8; goal_steps = 1000; autoderef = 8; tail = 10 };
+  types = types;
+  modules = [];
+  adts = [];
+  variants = [];
+  fns = fns;
+  consts = [];
+  statics = [];
+  traits = [];
+  aliases = [];
+  impls = [];
+  opaques = [];
+  lang = [];
+  bodies = [];
+}
+
+abbrev pub scope_among : List RawType → List RawFn → Scope
+scope_among types fns = record { facts = facts_with types fns; params = 0 }
+
+-- the scope of a definition without generic parameters where there are no functions
+abbrev pub scope_with : List RawType → Scope
+scope_with types = scope_among types []
 
 -- ---- each of a few
 
@@ -132,13 +184,13 @@ pub comes : (g : Given) (s : Schedule) → IsSchedule g.body s → (t : Inferenc
 comes g s law t x n k role u here d = at_place g s law (node.PatId x) n d.parent k d.at_part role d.role (λ q r. Gives g t q r u) here d.stands d.gives
 
 -- the one parameter is at its written type
-pub one_param : (g : Given) (t : InferenceResult) (q : PatId) (v : TypeRefId) → g.body.params ≡ q ∷ [] → g.inputs ≡ v ∷ [] → PatTy t q (written_type g.types v) → (i : ℕ) (x : PatId) (s : Ty) → slice_get g.body.params i ≡ Some x → IsInput g i s → PatIsAtOrMismatch g t x s
+pub one_param : (g : Given) (t : InferenceResult) (q : PatId) (v : TypeRefId) → g.body.params ≡ q ∷ [] → g.inputs ≡ v ∷ [] → PatTy t q (written_type g.scope.facts.types v) → (i : ℕ) (x : PatId) (s : Ty) → slice_get g.body.params i ≡ Some x → IsInput g i s → PatIsAtOrMismatch g t x s
 one_param g t q v ps vs has zero x s found is =
     let found_here : slice_get (q ∷ []) 0 ≡ Some x = subst (λ xs. slice_get xs 0 ≡ Some x) ps found in
     let input_here : slice_get (v ∷ []) 0 ≡ Some is.0 = subst (λ xs. slice_get xs 0 ≡ Some is.0) vs is.1 in
     let one : q ≡ x = cc in
     let written : v ≡ is.0 = cc in
-    subst (λ z. PatIsAtOrMismatch g t z s) one (written_type g.types v, has, inl (ap (written_type g.types) written ∙ sym is.2))
+    subst (λ z. PatIsAtOrMismatch g t z s) one (written_type g.scope.facts.types v, has, inl (ap (written_type g.scope.facts.types) written ∙ sym is.2))
 one_param g t q v ps vs has (suc i) x s found is = (let found_here : slice_get (q ∷ []) (suc i) ≡ Some x = subst (λ xs. slice_get xs (suc i) ≡ Some x) ps found in absurd (cc))
 
 -- ---- alternatives

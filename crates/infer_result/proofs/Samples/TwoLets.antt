@@ -25,11 +25,12 @@ use Rattle.infer_result.specs.Places.{Given, Demand}
 use Rattle.infer_result.specs.Rules.Expressions.{ObeysOrMismatch}
 use Rattle.infer_result.specs.Rules.Patterns.{PatRule}
 use Rattle.infer_result.specs.Truth.Mismatch.{IsTruePatMismatch}
+use Rattle.infer_result.specs.Truth.Calls.{IsTrueDiagnostic}
 use Rattle.infer_result.specs.Closed.{IsBinder}
 use Rattle.infer_result.specs.Made.{IsMisfit, IsMade}
 use Rattle.infer_result.specs.Typed.{IsTyped}
 use Rattle.infer_result.specs.Derived.{typed_by_schedule}
-use Rattle.infer_result.proofs.Samples.Small.{e, p, b, w, u8, one_u8, plain, body_of, each_below, each_node, apart_by, only, each_entry, each_placed, closed_u8, closed_bool, closed_unit, u8_differs_bool}
+use Rattle.infer_result.proofs.Samples.Small.{scope_with, e, p, b, w, u8, one_u8, plain, body_of, each_below, each_node, apart_by, only, each_entry, each_placed, closed_u8, closed_bool, closed_unit, u8_differs_bool}
 
 abbrev types : List RawType
 types = type.Bool ∷ type.Integer (integer.Uint uint.U8) ∷ []
@@ -40,7 +41,7 @@ body =
     (pat.Bind (b 0) None ∷ pat.Bind (b 1) None ∷ []) (plain ∷ plain ∷ [])
 
 abbrev given : Given
-given = record { types = types; body = body; inputs = []; output = unit }
+given = record { scope = scope_with types; body = body; inputs = []; output = unit }
 
 first_written : written_type types (w 0) ≡ ty.Bool
 unfolding lowered_within
@@ -73,6 +74,7 @@ table_of mismatches = record {
   type_of_binding = Some ty.Bool ∷ Some u8 ∷ [];
   binding_modes = Some mode.Move ∷ Some mode.Move ∷ [];
   expr_mismatches = mismatches;
+  expr_diagnostics = None ∷ None ∷ None ∷ [];
   pat_mismatches = None ∷ None ∷ [];
 }
 
@@ -86,7 +88,7 @@ block_obeys =
 
 right_made : IsMade given right
 right_made = record {
-  of_body = record { exprs = refl; pats = refl; bindings = refl; modes = refl; mismatches = refl; pat_mismatches = refl };
+  of_body = record { exprs = refl; pats = refl; bindings = refl; modes = refl; mismatches = refl; diagnostics = refl; pat_mismatches = refl };
   closed = record {
     exprs = each_entry IsClosed right.type_of_expr (closed_u8, (closed_bool, (closed_unit, tt)));
     pats = each_entry IsClosed right.type_of_pat (closed_bool, (closed_u8, tt));
@@ -110,6 +112,7 @@ right_made = record {
         (inl (record { parent = inner (node.ExprId (e 2)); at_part = 2; role = initializer (Some (w 1)); stands = record { node_is = omega arith; part = refl }; asks = sym second_written }), tt),
       ) x.0;
   modes = λ x. each_placed (λ k m. IsBinder body (p k)) right.binding_modes ((b 0, None, refl), ((b 1, None, refl), tt)) x.0;
+  diagnostics = λ x. each_entry (IsTrueDiagnostic given right x) right.expr_diagnostics tt x.0;
   pat_truths = λ x. each_entry (IsTruePatMismatch given right x) right.pat_mismatches tt x.0;
 }
 

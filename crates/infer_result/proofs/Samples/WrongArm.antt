@@ -26,11 +26,12 @@ use Rattle.infer_result.specs.Places.{Given, IsOfOther, Demand}
 use Rattle.infer_result.specs.Rules.Expressions.{ObeysOrMismatch}
 use Rattle.infer_result.specs.Rules.Patterns.{PatRule}
 use Rattle.infer_result.specs.Truth.Mismatch.{IsTruePatMismatch}
+use Rattle.infer_result.specs.Truth.Calls.{IsTrueDiagnostic}
 use Rattle.infer_result.specs.Closed.{IsBinder}
 use Rattle.infer_result.specs.Made.{IsMisfit, IsMade}
 use Rattle.infer_result.specs.Typed.{IsTyped}
 use Rattle.infer_result.specs.Derived.{typed_by_schedule}
-use Rattle.infer_result.proofs.Samples.Small.{e, p, b, w, u8, u16, one_u8, plain, body_with, each_below, each_node, apart_by, asked, comes, one_param, no_other, only, each_entry, each_placed, nowhere, closed_u8, closed_bool, closed_unit, closed_error, top_uint, top_error, u8_is_no_bool, bool_is_no_error, u8_is_no_u16, u8_differs_bool}
+use Rattle.infer_result.proofs.Samples.Small.{scope_with, e, p, b, w, u8, u16, one_u8, plain, body_with, each_below, each_node, apart_by, asked, comes, one_param, no_other, only, each_entry, each_placed, nowhere, closed_u8, closed_bool, closed_unit, closed_error, top_uint, top_error, u8_is_no_bool, bool_is_no_error, u8_is_no_u16, u8_differs_bool}
 
 abbrev body : RawBody
 body =
@@ -43,7 +44,7 @@ abbrev types : List RawType
 types = type.Bool ∷ []
 
 abbrev given : Given
-given = record { types = types; body = body; inputs = w 0 ∷ []; output = unit }
+given = record { scope = scope_with types; body = body; inputs = w 0 ∷ []; output = unit }
 
 written : written_type types (w 0) ≡ ty.Bool
 unfolding lowered_within
@@ -86,6 +87,7 @@ table_of s mismatches = record {
   type_of_binding = Some ty.Bool ∷ [];
   binding_modes = Some mode.Move ∷ None ∷ None ∷ [];
   expr_mismatches = mismatches;
+  expr_diagnostics = None ∷ None ∷ None ∷ None ∷ None ∷ None ∷ None ∷ [];
   pat_mismatches = None ∷ None ∷ None ∷ [];
 }
 
@@ -107,7 +109,7 @@ of_first s = record { other = arm 0; expr = e 3; at_part = 3; stands = refl; is_
 
 right_made : (s : Ty) → IsClosed s → IsMade given (right s)
 right_made s closed_s = record {
-  of_body = record { exprs = refl; pats = refl; bindings = refl; modes = refl; mismatches = refl; pat_mismatches = refl };
+  of_body = record { exprs = refl; pats = refl; bindings = refl; modes = refl; mismatches = refl; diagnostics = refl; pat_mismatches = refl };
   closed = record {
     exprs = each_entry IsClosed (right s).type_of_expr (closed_bool, (closed_bool, (closed_bool, (closed_u8, (closed_bool, (closed_s, (closed_unit, tt)))))));
     pats = each_entry IsClosed (right s).type_of_pat (closed_bool, (closed_bool, (closed_bool, tt)));
@@ -129,6 +131,7 @@ right_made s closed_s = record {
       each_placed (λ k (m : TypeMismatch). Demand given (right s) (e k) m.expected) (right s).expr_mismatches
       (inl (record { parent = inner (node.ExprId (e 5)); at_part = 4; role = arm 1; stands = record { node_is = omega arith; part = refl }; asks = inr (of_first s) }), tt) x.0;
   modes = λ x. each_placed (λ k m. IsBinder body (p k)) (right s).binding_modes ((b 0, None, refl), tt) x.0;
+  diagnostics = λ x. each_entry (IsTrueDiagnostic given (right s) x) (right s).expr_diagnostics tt x.0;
   pat_truths = λ x. each_entry (IsTruePatMismatch given (right s) x) (right s).pat_mismatches tt x.0;
 }
 

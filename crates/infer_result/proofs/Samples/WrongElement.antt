@@ -16,10 +16,11 @@ use Rattle.infer_result.specs.Places.{Given, IsAtOrMismatch, Demand}
 use Rattle.infer_result.specs.Rules.Expressions.{ObeysOrMismatch}
 use Rattle.infer_result.specs.Rules.Tuples.{AllAt}
 use Rattle.infer_result.specs.Truth.Mismatch.{IsTruePatMismatch}
+use Rattle.infer_result.specs.Truth.Calls.{IsTrueDiagnostic}
 use Rattle.infer_result.specs.Made.{IsMisfit, IsMade}
 use Rattle.infer_result.specs.Typed.{IsTyped}
 use Rattle.infer_result.specs.Derived.{tuple_parts, typed_by_schedule}
-use Rattle.infer_result.proofs.Samples.Small.{e, u8, one_u8, body_of, each_below, each_node, apart_by, asked, only, each_entry, each_placed, closed_u8, closed_bool, u8_is_no_bool, u8_differs_bool}
+use Rattle.infer_result.proofs.Samples.Small.{scope_with, e, u8, one_u8, body_of, each_below, each_node, apart_by, asked, only, each_entry, each_placed, closed_u8, closed_bool, u8_is_no_bool, u8_differs_bool}
 
 abbrev pair : Ty
 pair = ty.Tuple (u8 ∷ ty.Bool ∷ [])
@@ -28,7 +29,7 @@ abbrev body : RawBody
 body = body_of (expr.Lit one_u8 ∷ expr.Lit one_u8 ∷ expr.Tuple (e 0 ∷ e 1 ∷ []) ∷ expr.Block None [] (Some (e 2)) ∷ []) 3 [] []
 
 abbrev given : Given
-given = record { types = []; body = body; inputs = []; output = pair }
+given = record { scope = scope_with []; body = body; inputs = []; output = pair }
 
 abbrev schedule : Schedule
 schedule = record { starts = 3 ∷ 4 ∷ 2 ∷ 1 ∷ 0 ∷ []; ends = 4 ∷ 5 ∷ 5 ∷ 5 ∷ 5 ∷ []; depths = 3 ∷ 3 ∷ 2 ∷ 1 ∷ 0 ∷ [] }
@@ -52,6 +53,7 @@ table_of mismatches = record {
   type_of_binding = [];
   binding_modes = [];
   expr_mismatches = mismatches;
+  expr_diagnostics = None ∷ None ∷ None ∷ None ∷ [];
   pat_mismatches = [];
 }
 
@@ -63,7 +65,7 @@ closed_pair = has_hole_tuple (u8 ∷ ty.Bool ∷ []) ∙ rw (closed_u8, closed_b
 
 right_made : IsMade given right
 right_made = record {
-  of_body = record { exprs = refl; pats = refl; bindings = refl; modes = refl; mismatches = refl; pat_mismatches = refl };
+  of_body = record { exprs = refl; pats = refl; bindings = refl; modes = refl; mismatches = refl; diagnostics = refl; pat_mismatches = refl };
   closed = record {
     exprs = each_entry IsClosed right.type_of_expr (closed_u8, (closed_u8, (closed_pair, (closed_pair, tt))));
     pats = λ n s h. absurd (cc);
@@ -85,6 +87,7 @@ right_made = record {
       each_placed (λ k (m : TypeMismatch). Demand given right (e k) m.expected) right.expr_mismatches
       (inl (record { parent = inner (node.ExprId (e 2)); at_part = 1; role = element 1; stands = record { node_is = omega arith; part = refl }; asks = (u8 ∷ ty.Bool ∷ [], refl, refl) }), tt) x.0;
   modes = λ x m at. absurd (cc);
+  diagnostics = λ x. each_entry (IsTrueDiagnostic given right x) right.expr_diagnostics tt x.0;
   pat_truths = λ x. each_entry (IsTruePatMismatch given right x) right.pat_mismatches tt x.0;
 }
 

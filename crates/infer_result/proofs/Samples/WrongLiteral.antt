@@ -25,11 +25,12 @@ use Rattle.infer_result.specs.Places.{Given, Incoming, Demand}
 use Rattle.infer_result.specs.Rules.Expressions.{ObeysOrMismatch}
 use Rattle.infer_result.specs.Rules.Patterns.{PatRule}
 use Rattle.infer_result.specs.Truth.Mismatch.{IsTruePatMismatch}
+use Rattle.infer_result.specs.Truth.Calls.{IsTrueDiagnostic}
 use Rattle.infer_result.specs.Closed.{IsBinder}
 use Rattle.infer_result.specs.Made.{IsMisfit, IsMade}
 use Rattle.infer_result.specs.Typed.{IsTyped}
 use Rattle.infer_result.specs.Derived.{typed_by_schedule}
-use Rattle.infer_result.proofs.Samples.Small.{e, p, b, w, u8, one_u8, plain, body_with, each_below, each_node, apart_by, asked, comes, one_param, only, each_entry, each_placed, closed_u8, closed_bool, closed_unit, u8_is_no_bool, bool_is_no_unit, u8_differs_bool}
+use Rattle.infer_result.proofs.Samples.Small.{scope_with, e, p, b, w, u8, one_u8, plain, body_with, each_below, each_node, apart_by, asked, comes, one_param, only, each_entry, each_placed, closed_u8, closed_bool, closed_unit, u8_is_no_bool, bool_is_no_unit, u8_differs_bool}
 
 abbrev body : RawBody
 body =
@@ -42,7 +43,7 @@ abbrev types : List RawType
 types = type.Bool ∷ []
 
 abbrev given : Given
-given = record { types = types; body = body; inputs = w 0 ∷ []; output = unit }
+given = record { scope = scope_with types; body = body; inputs = w 0 ∷ []; output = unit }
 
 written : written_type types (w 0) ≡ ty.Bool
 unfolding lowered_within
@@ -85,6 +86,7 @@ table_of literal_ guard_ pattern_ = record {
   type_of_binding = Some ty.Bool ∷ [];
   binding_modes = Some mode.Move ∷ None ∷ None ∷ [];
   expr_mismatches = None ∷ literal_ ∷ guard_ ∷ None ∷ None ∷ None ∷ None ∷ [];
+  expr_diagnostics = None ∷ None ∷ None ∷ None ∷ None ∷ None ∷ None ∷ [];
   pat_mismatches = None ∷ pattern_ ∷ None ∷ [];
 }
 
@@ -110,7 +112,7 @@ comes_in = record { parent = inner (node.ExprId (e 5)); at_part = 1; role = arm_
 
 right_made : IsMade given right
 right_made = record {
-  of_body = record { exprs = refl; pats = refl; bindings = refl; modes = refl; mismatches = refl; pat_mismatches = refl };
+  of_body = record { exprs = refl; pats = refl; bindings = refl; modes = refl; mismatches = refl; diagnostics = refl; pat_mismatches = refl };
   closed = record {
     exprs = each_entry IsClosed right.type_of_expr (closed_bool, (closed_u8, (closed_u8, (closed_unit, (closed_unit, (closed_unit, (closed_unit, tt)))))));
     pats = each_entry IsClosed right.type_of_pat (closed_bool, (closed_u8, (closed_bool, tt)));
@@ -134,6 +136,7 @@ right_made = record {
         (inl (record { parent = inner (node.ExprId (e 5)); at_part = 3; role = guard 0; stands = record { node_is = omega arith; part = refl }; asks = refl }), tt),
       ) x.0;
   modes = λ x. each_placed (λ k m. IsBinder body (p k)) right.binding_modes ((b 0, None, refl), tt) x.0;
+  diagnostics = λ x. each_entry (IsTrueDiagnostic given right x) right.expr_diagnostics tt x.0;
   pat_truths = λ x. each_entry (IsTruePatMismatch given right x) right.pat_mismatches tt x.0;
 }
 

@@ -27,11 +27,12 @@ use Rattle.infer_result.specs.Places.{Given, Incoming, Demand}
 use Rattle.infer_result.specs.Rules.Expressions.{ObeysOrMismatch}
 use Rattle.infer_result.specs.Rules.Patterns.{AllPatsAt, PatRule}
 use Rattle.infer_result.specs.Truth.Mismatch.{IsTruePatMismatch}
+use Rattle.infer_result.specs.Truth.Calls.{IsTrueDiagnostic}
 use Rattle.infer_result.specs.Closed.{IsBinder}
 use Rattle.infer_result.specs.Made.{IsMisfit, IsMade}
 use Rattle.infer_result.specs.Typed.{IsTyped}
 use Rattle.infer_result.specs.Derived.{tuple_parts, typed_by_schedule}
-use Rattle.infer_result.proofs.Samples.Small.{e, p, b, w, u8, plain, body_with, each_below, each_node, apart_by, comes, one_param, only, each_entry, each_placed, closed_u8, closed_unit, closed_error, u8_is_no_bool, u8_is_no_error, u8_is_no_tuple}
+use Rattle.infer_result.proofs.Samples.Small.{scope_with, e, p, b, w, u8, plain, body_with, each_below, each_node, apart_by, comes, one_param, only, each_entry, each_placed, closed_u8, closed_unit, closed_error, u8_is_no_bool, u8_is_no_error, u8_is_no_tuple}
 
 abbrev body : RawBody
 body =
@@ -49,7 +50,7 @@ abbrev types : List RawType
 types = type.Integer (integer.Uint uint.U8) ∷ type.Tuple (w 0 ∷ []) ∷ []
 
 abbrev given : Given
-given = record { types = types; body = body; inputs = w 1 ∷ []; output = unit }
+given = record { scope = scope_with types; body = body; inputs = w 1 ∷ []; output = unit }
 
 written : written_type types (w 1) ≡ single
 unfolding lowered_within
@@ -81,6 +82,7 @@ table_of whole second pat_mismatches = record {
   type_of_binding = Some single ∷ Some u8 ∷ Some second ∷ [];
   binding_modes = Some mode.Move ∷ None ∷ Some mode.Move ∷ Some mode.Move ∷ [];
   expr_mismatches = None ∷ None ∷ [];
+  expr_diagnostics = None ∷ None ∷ [];
   pat_mismatches = pat_mismatches;
 }
 
@@ -107,7 +109,7 @@ block_obeys = rw (written) ((((single, refl, inl refl), (pair, refl, inr (mismat
 
 right_made : IsMade given right
 right_made = record {
-  of_body = record { exprs = refl; pats = refl; bindings = refl; modes = refl; mismatches = refl; pat_mismatches = refl };
+  of_body = record { exprs = refl; pats = refl; bindings = refl; modes = refl; mismatches = refl; diagnostics = refl; pat_mismatches = refl };
   closed = record {
     exprs = each_entry IsClosed right.type_of_expr (closed_single, (closed_unit, tt));
     pats = each_entry IsClosed right.type_of_pat (closed_single, (closed_pair, (closed_u8, (closed_error, tt))));
@@ -127,6 +129,7 @@ right_made = record {
   misfits = λ x. each_entry (IsMisfit given right x) right.expr_mismatches tt x.0;
   demands = λ x. each_entry (λ m. Demand given right x m.expected) right.expr_mismatches tt x.0;
   modes = λ x. each_placed (λ k m. IsBinder body (p k)) right.binding_modes ((b 0, None, refl), ((b 1, None, refl), ((b 2, None, refl), tt))) x.0;
+  diagnostics = λ x. each_entry (IsTrueDiagnostic given right x) right.expr_diagnostics tt x.0;
   pat_truths = λ x.
       each_placed (λ k. IsTruePatMismatch given right (p k)) right.pat_mismatches
       (record { is_tuple = record { parts = p 2 ∷ p 3 ∷ []; is_tuple = refl }; differ = single_differs_pair; actual = refl; incoming = record { parent = inner (node.ExprId (e 1)); at_part = 1; role = let_pattern (Some (w 1)) (Some (e 0)); stands = record { node_is = omega arith; part = refl }; gives = sym written } }, tt) x.0;

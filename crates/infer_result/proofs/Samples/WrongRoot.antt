@@ -15,16 +15,17 @@ use Rattle.infer_result.specs.Table.{mismatch}
 use Rattle.infer_result.specs.Places.{Given, Demand}
 use Rattle.infer_result.specs.Rules.Expressions.{ObeysOrMismatch}
 use Rattle.infer_result.specs.Truth.Mismatch.{IsTruePatMismatch}
+use Rattle.infer_result.specs.Truth.Calls.{IsTrueDiagnostic}
 use Rattle.infer_result.specs.Made.{IsMisfit, IsMade}
 use Rattle.infer_result.specs.Typed.{IsTyped}
 use Rattle.infer_result.specs.Derived.{typed_by_schedule}
-use Rattle.infer_result.proofs.Samples.Small.{e, u8, body_of, each_below, each_node, apart_by, asked, only, each_entry, each_placed, closed_u8, closed_bool, u8_is_no_bool, u8_differs_bool, bool_is_no_error}
+use Rattle.infer_result.proofs.Samples.Small.{scope_with, e, u8, body_of, each_below, each_node, apart_by, asked, only, each_entry, each_placed, closed_u8, closed_bool, u8_is_no_bool, u8_differs_bool, bool_is_no_error}
 
 abbrev body : RawBody
 body = body_of (expr.Lit (literal.Bool true) ∷ expr.Block None [] (Some (e 0)) ∷ []) 1 [] []
 
 abbrev given : Given
-given = record { types = []; body = body; inputs = []; output = u8 }
+given = record { scope = scope_with []; body = body; inputs = []; output = u8 }
 
 abbrev schedule : Schedule
 schedule = record { starts = 2 ∷ 1 ∷ 0 ∷ []; ends = 3 ∷ 3 ∷ 3 ∷ []; depths = 2 ∷ 1 ∷ 0 ∷ [] }
@@ -48,6 +49,7 @@ table_of types mismatches = record {
   type_of_binding = [];
   binding_modes = [];
   expr_mismatches = mismatches;
+  expr_diagnostics = None ∷ None ∷ [];
   pat_mismatches = [];
 }
 
@@ -59,7 +61,7 @@ demanded = inl (record { parent = inner (node.ExprId (e 1)); at_part = 0; role =
 
 right_made : IsMade given right
 right_made = record {
-  of_body = record { exprs = refl; pats = refl; bindings = refl; modes = refl; mismatches = refl; pat_mismatches = refl };
+  of_body = record { exprs = refl; pats = refl; bindings = refl; modes = refl; mismatches = refl; diagnostics = refl; pat_mismatches = refl };
   closed = record {
     exprs = each_entry IsClosed right.type_of_expr (closed_bool, (closed_u8, tt));
     pats = λ n s h. absurd (cc);
@@ -77,6 +79,7 @@ right_made = record {
   misfits = λ x. each_placed (λ k. IsMisfit given right (e k)) right.expr_mismatches (record { differ = u8_differs_bool; actual = inl refl }, tt) x.0;
   demands = λ x. each_placed (λ k (m : TypeMismatch). Demand given right (e k) m.expected) right.expr_mismatches (demanded, tt) x.0;
   modes = λ x m at. absurd (cc);
+  diagnostics = λ x. each_entry (IsTrueDiagnostic given right x) right.expr_diagnostics tt x.0;
   pat_truths = λ x. each_entry (IsTruePatMismatch given right x) right.pat_mismatches tt x.0;
 }
 

@@ -15,8 +15,8 @@ use Rattle.infer_result.specs.Rules.Placing.{Placing}
 
 -- the initializer at the written type and the pattern at that; without one the pattern at the initializer's type
 abbrev pub LetRule : Placing → Given → InferenceResult → PatId → Option TypeRefId → Option ExprId → Type 0
-LetRule P g t p (Some w) (Some e) = P.at e (written_type g.types w) × P.pattern p (written_type g.types w)
-LetRule P g t p (Some w) None = P.pattern p (written_type g.types w)
+LetRule P g t p (Some w) (Some e) = P.at e (written_type g.scope.facts.types w) × P.pattern p (written_type g.scope.facts.types w)
+LetRule P g t p (Some w) None = P.pattern p (written_type g.scope.facts.types w)
 LetRule P g t p None (Some e) = (s : Ty) × HasTy t e s × P.pattern p s
 LetRule P g t p None None = Unit {0}
 

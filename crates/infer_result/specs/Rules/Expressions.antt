@@ -13,24 +13,25 @@ use Rattle.infer_result.specs.Rules.Paths.{PathRule}
 use Rattle.infer_result.specs.Rules.Tuples.{TupleRule}
 use Rattle.infer_result.specs.Rules.Blocks.{BlockRule}
 use Rattle.infer_result.specs.Rules.Branches.{IfRule, MatchRule}
+use Rattle.infer_result.specs.Rules.Calls.{CallRule}
 
 -- the rule of an expression, whose parts stand at their types as `P` says
 abbrev pub Rule : Placing → Given → InferenceResult → ExprId → Option RawExpr → Type 0
 Rule P g t n None = ⊥
 Rule P g t n (Some (expr.Lit l)) = (s : Ty) × HasTy t n s × IsLiteralType l s
-Rule P g t n (Some (expr.Path p)) = PathRule t n p
+Rule P g t n (Some (expr.Path p)) = PathRule g t n p
 Rule P g t n (Some (expr.Tuple es)) = TupleRule P.element t n es
 Rule P g t n (Some (expr.Block label stmts last)) = BlockRule P g t n stmts last
 Rule P g t n (Some (expr.If c first other)) = IfRule P t n c first other
 Rule P g t n (Some (expr.Match e arms)) = MatchRule P t n e arms
-Rule P g t n (Some (expr.Call f args)) = ⊥
+Rule P g t n (Some (expr.Call f args)) = CallRule P g t n f args
 Rule P g t n (Some expr.Other) = ⊥
 
 -- each clause holds, or a mismatch is listed where it does not
 abbrev pub ObeysOrMismatch : Given → InferenceResult → ExprId → Type 0
 ObeysOrMismatch g t n = Rule (at_or_mismatch g t) g t n (slice_get g.body.exprs n.0)
 
--- each clause holds, but for parts of tuples and patterns with a mismatch of their own
+-- each clause holds, but for parts of tuples, arguments and patterns with a mismatch of their own
 abbrev pub ObeysExpression : Given → InferenceResult → ExprId → Type 0
 ObeysExpression g t n = Rule (at_types g t) g t n (slice_get g.body.exprs n.0)
 

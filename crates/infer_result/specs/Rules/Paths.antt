@@ -1,13 +1,20 @@
--- A path has the type of the local that it names.
+-- A path has the type of the local that it names; one to a function has the type of that item.
+use Rattle.std.specs.Prelude.{◌≡◌, List, length, Some}
 use Rattle.hir_types.specs.declared.ids.ExprId.{ExprId}
+use Rattle.hir_types.specs.declared.ids.CallableDefId.TheVariants as callable
 use Rattle.hir_types.specs.declared.ty.Ty.{Ty}
+use Rattle.hir_types.specs.declared.ty.Ty.TheVariants as ty
 use Rattle.hir_facts.specs.declared.raw.RawPath.{RawPath}
 use Rattle.hir_facts.specs.declared.raw.RawPath.TheVariants as path
+use Rattle.hir_facts.specs.Scope.{fn_params}
+use Rattle.hir_facts.specs.Signatures.{type_args}
 use Rattle.infer_result.specs.declared.result.InferenceResult.{InferenceResult}
 use Rattle.infer_result.specs.Table.{HasTy, BindingTy}
+use Rattle.infer_result.specs.Places.{Given}
 
-abbrev pub PathRule : InferenceResult → ExprId → RawPath → Type 0
-PathRule t e (path.Local v) = (s : Ty) × HasTy t e s × BindingTy t v s
-PathRule t e (path.Function f) = ⊥
-PathRule t e (path.Ctor named) = ⊥
-PathRule t e path.Other = ⊥
+-- a function stands at as many types as it has parameters
+abbrev pub PathRule : Given → InferenceResult → ExprId → RawPath → Type 0
+PathRule g t e (path.Local v) = (s : Ty) × HasTy t e s × BindingTy t v s
+PathRule g t e (path.Function f) = (ts : List Ty) × HasTy t e (ty.FnDef (callable.FunctionId f) (type_args ts)) × (fn_params g.scope.facts f.0 ≡ Some (length ts))
+PathRule g t e (path.Ctor named) = ⊥
+PathRule g t e path.Other = ⊥

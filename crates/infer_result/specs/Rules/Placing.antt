@@ -1,18 +1,19 @@
 -- How the parts of a node may stand at their types.
-use Rattle.std.specs.Prelude.{◌⊎◌, List}
+use Rattle.std.specs.Prelude.{ℕ, ◌⊎◌, List}
 use Rattle.hir_types.specs.declared.ids.ExprId.{ExprId}
 use Rattle.hir_types.specs.declared.ids.PatId.{PatId}
 use Rattle.hir_types.specs.declared.ty.Ty.{Ty}
 use Rattle.hir_types.specs.Types.{unit}
 use Rattle.hir_types.specs.Erasure.{Same}
 use Rattle.infer_result.specs.declared.result.InferenceResult.{InferenceResult}
-use Rattle.infer_result.specs.Table.{MismatchAt, HasMismatch, AnyMismatch}
+use Rattle.infer_result.specs.declared.diagnostics.InferenceDiagnostic.TheVariants as diagnostic
+use Rattle.infer_result.specs.Table.{MismatchAt, HasMismatch, AnyMismatch, HasDiagnostic}
 use Rattle.infer_result.specs.Places.{Given, IsAt, IsAtOrMismatch, PatIsAtOrMismatch}
 
 pub record Placing : Type 1 where
   -- an expression at its type
   pub at : ExprId → Ty → Type 0
-  -- a part of a tuple at its type
+  -- a part of a tuple, or an argument of a call, at its type
   pub element : ExprId → Ty → Type 0
   -- one of several alternatives at the common type, where these expressions give it
   pub alternative : List ExprId → ExprId → Ty → Type 0
@@ -22,9 +23,12 @@ pub record Placing : Type 1 where
   pub no_tail : ExprId → Ty → Type 0
   -- `()` at the type of an `if` without `else`, where these expressions give it
   pub no_else : List ExprId → Ty → Type 0
+  -- a complaint that a call has another number of arguments, the last number, than its item has inputs
+  pub wrong_count : ExprId → ℕ → ℕ → Type 0
 
 -- Each part is at its type, or a mismatch is listed at that very part. For alternatives it may be at
--- any of them, for `()` at the node itself: at a block that very mismatch.
+-- any of them, for `()` at the node itself: at a block that very mismatch. That a call has a wrong number of
+-- arguments is listed at the call.
 abbrev pub at_or_mismatch : Given → InferenceResult → Placing
 at_or_mismatch g t = record {
   at = IsAtOrMismatch t;
@@ -33,10 +37,11 @@ at_or_mismatch g t = record {
   pattern = PatIsAtOrMismatch g t;
   no_tail = λ n s. Same unit s ⊎ MismatchAt t n s unit;
   no_else = λ es s. Same unit s ⊎ AnyMismatch t es;
+  wrong_count = λ n expected found. HasDiagnostic t n (diagnostic.MismatchedArgCount n expected found);
 }
 
--- Each part is at its type, but that a part of a tuple may have a mismatch of its own, and a pattern
--- too.
+-- Each part is at its type, but that a part of a tuple and an argument may have a mismatch of their own, and a
+-- pattern too; and no call has a wrong number of arguments.
 abbrev pub at_types : Given → InferenceResult → Placing
 at_types g t = record {
   at = IsAt t;
@@ -45,4 +50,5 @@ at_types g t = record {
   pattern = PatIsAtOrMismatch g t;
   no_tail = λ n s. Same unit s;
   no_else = λ es s. Same unit s;
+  wrong_count = λ n expected found. ⊥;
 }

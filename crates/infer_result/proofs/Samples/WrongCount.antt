@@ -1,0 +1,136 @@
+-- `fn f() { none(1u8) }` where `fn none()`: the complaint stands at the call, and the argument has its type nevertheless.
+use Rattle.std.proofs.Common.{ℕ, ◌≡◌, inl, inr, List, [], ◌∷◌, refl, sym, ap, subst, arith, Option, Some, None}
+use Rattle.hir_types.specs.declared.ids.ExprId.{ExprId}
+use Rattle.hir_types.specs.declared.ids.CallableDefId.TheVariants as callable
+use Rattle.hir_types.specs.declared.ty.Ty.{Ty}
+use Rattle.hir_facts.specs.declared.raw.RawType.{RawType}
+use Rattle.hir_facts.specs.declared.raw.RawType.TheVariants as type
+use Rattle.hir_facts.specs.declared.raw.RawFn.{RawFn}
+use Rattle.hir_types.specs.Types.{unit}
+use Rattle.hir_types.specs.Erasure.{IsClosed}
+use Rattle.hir_types.specs.Assigned.{with_params}
+use Rattle.hir_types.specs.Folding.{replaced_tuple}
+use Rattle.hir_facts.specs.Types.{lowered_within, written_type}
+use Rattle.hir_facts.specs.Signatures.{fn_signature, at_args}
+use Rattle.infer_result.specs.declared.result.InferenceResult.{InferenceResult}
+use Rattle.infer_result.specs.declared.result.TypeMismatch.{TypeMismatch}
+use Rattle.infer_result.specs.declared.diagnostics.InferenceDiagnostic.{InferenceDiagnostic}
+use Rattle.infer_result.specs.declared.diagnostics.InferenceDiagnostic.TheVariants as diagnostic
+use Rattle.infer_result.specs.Table.{HasTy, mismatch}
+use Rattle.infer_result.specs.Places.{Given, IsCallee, Demand}
+use Rattle.infer_result.specs.Rules.Expressions.{ObeysOrMismatch}
+use Rattle.infer_result.specs.Truth.Mismatch.{IsTruePatMismatch}
+use Rattle.infer_result.specs.Truth.Calls.{IsTrueDiagnostic}
+use Rattle.infer_result.specs.Made.{IsMisfit, IsMade}
+use Rattle.infer_result.specs.Typed.{IsTyped}
+use Rattle.infer_result.specs.Derived.{typed_by_schedule}
+use Rattle.infer_result.proofs.Samples.Small.{e, w, u8, one_u8, function_of, each_below, each_entry, each_placed, closed_u8, closed_unit}
+use Rattle.infer_result.proofs.Samples.Calling.{function, calling, schedule, is_schedule, item, closed_item, obeyed, counted, asked_of_argument}
+
+abbrev types : List RawType
+types = type.Tuple [] ∷ []
+
+abbrev none : RawFn
+none = function_of [] [] (w 0)
+
+abbrev given : Given
+given = calling types none one_u8 unit
+
+output_is : at_args [] (written_type types (w 0)) ≡ unit
+unfolding lowered_within
+output_is = replaced_tuple (with_params []) []
+
+abbrev wrong_count : ℕ → ℕ → InferenceDiagnostic
+wrong_count expected found = diagnostic.MismatchedArgCount (e 2) expected found
+
+-- the mismatch at the argument, and the complaint at the call
+abbrev table_of : Option TypeMismatch → Option InferenceDiagnostic → InferenceResult
+table_of at_argument at_call = record {
+  type_of_expr = Some (item []) ∷ Some u8 ∷ Some unit ∷ Some unit ∷ [];
+  type_of_pat = [];
+  type_of_binding = [];
+  binding_modes = [];
+  expr_mismatches = None ∷ at_argument ∷ None ∷ None ∷ [];
+  expr_diagnostics = None ∷ None ∷ at_call ∷ None ∷ [];
+  pat_mismatches = [];
+}
+
+abbrev right : InferenceResult
+right = table_of None (Some (wrong_count 0 1))
+
+callee_stands : IsCallee given right (e 0) (fn_signature types none) []
+callee_stands = record { item = callable.FunctionId function; has = refl; signature = refl }
+
+call_obeys : ObeysOrMismatch given right (e 2)
+call_obeys = (fn_signature types none, [], callee_stands, inr refl, subst (HasTy right (e 2)) (sym output_is) refl)
+
+true_count : IsTrueDiagnostic given right (e 2) (wrong_count 0 1)
+true_count = (
+  refl,
+  record {
+    called = e 0;
+    args = e 1 ∷ [];
+    is_call = refl;
+    signature = fn_signature types none;
+    types = [];
+    is_callee = callee_stands;
+    is_expected = refl;
+    is_found = refl;
+    differ = λ same. cc;
+  },
+)
+
+right_made : IsMade given right
+right_made = record {
+  of_body = record { exprs = refl; pats = refl; bindings = refl; modes = refl; mismatches = refl; diagnostics = refl; pat_mismatches = refl };
+  closed = record {
+    exprs = each_entry IsClosed right.type_of_expr (closed_item [] refl, (closed_u8, (closed_unit, (closed_unit, tt))));
+    pats = λ n s h. absurd (cc);
+    bindings = λ n s h. absurd (cc);
+    expected = each_entry (λ x. IsClosed x.expected) right.expr_mismatches tt;
+    actual = each_entry (λ x. IsClosed x.actual) right.expr_mismatches tt;
+    pat_expected = each_entry (λ x. IsClosed x.expected) right.pat_mismatches tt;
+    pat_actual = each_entry (λ x. IsClosed x.actual) right.pat_mismatches tt;
+  };
+  clauses = λ x h.
+      each_below (λ k. ObeysOrMismatch given right (e k)) 4 x.0
+      ((((tt, ([], refl, refl)), (u8, refl, refl)), call_obeys), (tt, (unit, refl, (unit, refl, inl refl)))) h;
+  kinds = λ x h. absurd (omega arith);
+  params = λ i q s found is. absurd (cc);
+  bindings = λ v h. absurd (omega arith);
+  body_clause = (unit, refl, inl refl);
+  misfits = λ x. each_entry (IsMisfit given right x) right.expr_mismatches tt x.0;
+  demands = λ x. each_entry (λ m. Demand given right x m.expected) right.expr_mismatches tt x.0;
+  modes = λ x m at. absurd (cc);
+  diagnostics = λ x. each_placed (λ k. IsTrueDiagnostic given right (e k)) right.expr_diagnostics (true_count, tt) x.0;
+  pat_truths = λ x. each_entry (IsTruePatMismatch given right x) right.pat_mismatches tt x.0;
+}
+
+pub right_typed : IsTyped given right
+right_typed = typed_by_schedule given right schedule (is_schedule one_u8) right_made
+
+-- ---- refused
+
+-- no complaint
+pub silent : IsTyped given (table_of None None) → ⊥
+silent h =
+    elim (obeyed types none one_u8 unit _ [] refl (h.clauses (e 2) (omega arith))).0 [
+      | inl all ↦ absurd all
+      | inr said ↦ (let clash = said in cc)
+    ]
+
+-- the two numbers exchanged
+pub exchanged : IsTyped given (table_of None (Some (wrong_count 1 0))) → ⊥
+exchanged h =
+    (let m = (h.diagnostics (e 2) (wrong_count 1 0) refl).1 in
+    let (one, other) = counted types none one_u8 unit _ [] refl 1 0 m in cc)
+
+-- the complaint names another node
+pub of_another : IsTyped given (table_of None (Some (diagnostic.MismatchedArgCount (e 1) 0 1))) → ⊥
+of_another h = (let numbers : (e 1).0 ≡ (e 2).0 = ap (λ (x : ExprId). x.0) (h.diagnostics (e 2) (diagnostic.MismatchedArgCount (e 1) 0 1) refl).0 in cc)
+
+-- a mismatch at the argument, of which nothing is asked
+pub surplus : (expected actual : Ty) → IsTyped given (table_of (Some (mismatch expected actual)) (Some (wrong_count 0 1))) → ⊥
+surplus expected actual h =
+    (let m = h.truths (e 1) (mismatch expected actual) refl in
+    let (first, count) = asked_of_argument types none one_u8 unit _ [] refl expected m.demand in cc)
