@@ -33,8 +33,8 @@ arm_at arms i = get_or arms i (record { pat = record { 0 = 0 }; guard = None; ex
 module _ (g : Given) (s : Schedule) (n d : ExprId) (arms : List RawArm) where
   -- the patterns of the first i arms have the type t of the scrutinee d, and what follows lies ahead
   pub record PatternWalk (i : ℕ) (t : Ty) (mid f : InferenceContext) : Type 0 where
-    pub follows : Follows g.body mid f
-    pub fine : IsFine f.table t
+    pub follows : Follows g mid f
+    pub fine : IsFine g.scope f.table t
     pub each : (a : Assignment) → Closes a f → PatternLoop g s n d arms i (folded a t) (found_under a mid) (found_under a f)
 
   pub comes_to_scrutinee : (x : Option Ty) (f : InferenceContext) → Within g s n x f → under.IsMatchOf g.body n d arms → Before g s d None f
@@ -48,7 +48,7 @@ module _ (g : Given) (s : Schedule) (n d : ExprId) (arms : List RawArm) where
     follows = k.follows;
     fine = k.fine;
     each = λ a q.
-        let o : Closes a mid = closes_before g.body a mid f k.follows q in
+        let o : Closes a mid = closes_before g a mid f k.follows q in
         pattern_start g s n d arms is (expected_under a x) (folded a t) (found_under a mid) (found_under a f) (within_under g s a mid o n x w) (k.each a q);
   }
 
@@ -68,10 +68,10 @@ module _ (g : Given) (s : Schedule) (n d : ExprId) (arms : List RawArm) where
 
     pub goes_past_pattern : (y : RawArm) (next : InferenceContext) → y ≡ get_or arms i y → i < length arms → PatDone g s y.pat (Some t) f next → PatternWalk (i + 1) t mid next
     goes_past_pattern y next is k p = record {
-      follows = follows_twice g.body mid f next h.follows p.follows;
-      fine = fine_grown f.table next.table t p.follows.grew h.fine;
+      follows = follows_twice g mid f next h.follows p.follows;
+      fine = fine_grown g.scope f.table next.table t p.follows.grew h.fine;
       each = λ a q.
-          let l : Closes a f = closes_before g.body a f next p.follows q in
+          let l : Closes a f = closes_before g a f next p.follows q in
           pattern_next g s n d arms i (folded a t) (found_under a mid) (found_under a f) (h.each a l) y (found_under a next) is k (p.each a q);
     }
 
@@ -84,15 +84,15 @@ module _ (g : Given) (s : Schedule) (n d : ExprId) (arms : List RawArm) where
           within = w.within;
           ahead = (at_arms g s n d arms i (folded q.0 t) (found_under q.0 mid) (found_under q.0 f) (h.each q.0 q.1) over).ahead;
           some = arms_some g.body n d arms w.ready.law.carried is;
-          expected = fine_expectation_grown mid.table f.table y h.follows.grew (less_fine mid.table x y less w.expected);
+          expected = fine_expectation_grown g.scope mid.table f.table y h.follows.grew (less_fine g.scope mid.table x y less w.expected);
         }
 
     pub ends_match : (x y : Option Ty) → under.IsMatchOf g.body n d arms → IsLess x y → length arms ≤ i → (u : Ty) (new : InferenceContext) → ArmsDone g s n arms y u f new → KindDone g s n x u mid new
     ends_match x y is less over u new k = record {
-      follows = follows_twice g.body mid f new h.follows k.follows;
+      follows = follows_twice g mid f new h.follows k.follows;
       fine = k.fine;
       each = λ a q.
-          let l : Closes a f = closes_before g.body a f new k.follows q in
+          let l : Closes a f = closes_before g a f new k.follows q in
           match_done g s n d arms (expected_under a x) (expected_under a y) (folded a t) (folded a u) (found_under a mid) (found_under a f) (found_under a new) is (less_under a x y less)
           (at_arms g s n d arms i (folded a t) (found_under a mid) (found_under a f) (h.each a l) over) (k.each a q);
     }
@@ -102,14 +102,14 @@ module _ (g : Given) (s : Schedule) (n d : ExprId) (arms : List RawArm) where
 module _ (g : Given) (s : Schedule) (n : ExprId) (arms : List RawArm) (x : Option Ty) where
   -- the first i arms are typed, and m is what they have in common, and the others lie ahead
   pub record ArmWalk (i : ℕ) (m : CoerceMany) (mid f : InferenceContext) : Type 0 where
-    pub follows : Follows g.body mid f
-    pub fine : IsFineCommon f.table m
+    pub follows : Follows g mid f
+    pub fine : IsFineCommon g.scope f.table m
     pub each : (a : Assignment) → Closes a f → ArmLoop g s n arms i (expected_under a x) (common_under a m) (found_under a mid) (found_under a f)
 
   pub begins_arms : (none : CoerceMany) (f : InferenceContext) → none ≡ under.common_of x → BeforeArms g s n arms x f → ArmWalk 0 none f f
   begins_arms none f at b = record {
-    follows = follows_itself g.body f b.state.of_body b.state.sound;
-    fine = subst (λ m. IsFineCommon f.table m) (sym at) (common_of_fine f.table x b.expected);
+    follows = follows_itself g f b.state.of_body b.state.sound;
+    fine = subst (λ m. IsFineCommon g.scope f.table m) (sym at) (common_of_fine g.scope f.table x b.expected);
     each = λ a q.
         subst (λ m. ArmLoop g s n arms 0 (expected_under a x) m (found_under a f) (found_under a f)) (sym (ap (common_under a) at ∙ common_of_under a x))
         (arm_start g s n arms (expected_under a x) (found_under a f) (b.state.each a q) b.ahead);
@@ -130,19 +130,19 @@ module _ (g : Given) (s : Schedule) (n : ExprId) (arms : List RawArm) (x : Optio
     module _ (y : RawArm) (is : y ≡ get_or arms i y) (k : i < length arms) (last : InferenceContext) (p : GuardDone g s y.guard f last) where
       guarded : (a : Assignment) → Closes a last → AtArm g s n arms i y (expected_under a x) (common_under a m) (found_under a mid) (found_under a last)
       guarded a q =
-          let l : Closes a f = closes_before g.body a f last p.follows q in
+          let l : Closes a f = closes_before g a f last p.follows q in
           at_arm g s n arms i (expected_under a x) (common_under a m) (found_under a mid) (found_under a f) (h.each a l) y (found_under a last) is k (p.each a q)
 
-      all_follow : Follows g.body mid last
-      all_follow = follows_twice g.body mid f last h.follows p.follows
+      all_follow : Follows g mid last
+      all_follow = follows_twice g mid f last h.follows p.follows
 
-      expected_at : IsFineExpectation last.table x
-      expected_at = fine_expectation_grown mid.table last.table x all_follow.grew b.expected
+      expected_at : IsFineExpectation g.scope last.table x
+      expected_at = fine_expectation_grown g.scope mid.table last.table x all_follow.grew b.expected
 
       pub comes_to_arm : Before g s y.expr x last
       comes_to_arm =
           let q = p.follows.sound.some in
-          let here = arm_before g s n arms i y (expected_under q.0 x) (common_under q.0 m) (found_under q.0 mid) (found_under q.0 last) (guarded q.0 q.1) (expected_carried q.0 last.table x q.1.closing expected_at) b.ready in
+          let here = arm_before g s n arms i y (expected_under q.0 x) (common_under q.0 m) (found_under q.0 mid) (found_under q.0 last) (guarded q.0 q.1) (expected_carried g.scope q.0 last.table x q.1.closing expected_at) b.ready in
           record {
             ready = b.ready;
             state = walking_after g s mid last all_follow (λ a l. (guarded a l).done.walks.state);
@@ -151,22 +151,22 @@ module _ (g : Given) (s : Schedule) (n : ExprId) (arms : List RawArm) (x : Optio
             expected = expected_at;
           }
 
-      pub common_at_arm : IsFineCommon last.table m
-      common_at_arm = fine_common_grown f.table last.table m p.follows.grew h.fine
+      pub common_at_arm : IsFineCommon g.scope last.table m
+      common_at_arm = fine_common_grown g.scope f.table last.table m p.follows.grew h.fine
 
       pub goes_past_arm : (made : CoerceMany) (next : InferenceContext) → AlternativeDone g s y.expr x m made last next → ArmWalk (i + 1) made mid next
       goes_past_arm made next d = record {
-        follows = follows_twice g.body mid last next all_follow d.follows;
+        follows = follows_twice g mid last next all_follow d.follows;
         fine = d.fine;
         each = λ a q.
-            let l : Closes a last = closes_before g.body a last next d.follows q in
-            arm_next g s n arms i y (expected_under a x) (common_under a m) (found_under a mid) (found_under a last) (guarded a l) (expected_carried a last.table x l.closing expected_at) mid.clock b.ahead (common_under a made) (found_under a next) is k (d.each a q);
+            let l : Closes a last = closes_before g a last next d.follows q in
+            arm_next g s n arms i y (expected_under a x) (common_under a m) (found_under a mid) (found_under a last) (guarded a l) (expected_carried g.scope a last.table x l.closing expected_at) mid.clock b.ahead (common_under a made) (found_under a next) is k (d.each a q);
       }
 
-    pub expected_in_arms : IsFineExpectation f.table x
-    expected_in_arms = fine_expectation_grown mid.table f.table x h.follows.grew b.expected
+    pub expected_in_arms : IsFineExpectation g.scope f.table x
+    expected_in_arms = fine_expectation_grown g.scope mid.table f.table x h.follows.grew b.expected
 
-    pub ends_arms : length arms ≤ i → (t : Ty) (last : InferenceContext) → Completes x m t f last → ArmsDone g s n arms x t mid last
+    pub ends_arms : length arms ≤ i → (t : Ty) (last : InferenceContext) → Completes g.scope x m t f last → ArmsDone g s n arms x t mid last
     ends_arms over t last k = record {
       follows = completed_follows g x m t mid f last h.follows k;
       fine = k.fine;
@@ -185,7 +185,7 @@ guard_at g s n e o f is b = subst (λ z. LieAhead g.body s (inner (node.ExprId n
 pub comes_to_guard_expr : (g : Given) (s : Schedule) (n e : ExprId) (o : Option ExprId) (f : InferenceContext) → o ≡ Some e → BeforeGuard g s n o f → Before g s e (Some ty.Bool) f
 comes_to_guard_expr g s n e o f is b =
     let a = guard_at g s n e o f is b in
-    record { ready = b.ready; state = b.state; within = a.fit.0; here = a.fit.1; expected = fine_bool f.table }
+    record { ready = b.ready; state = b.state; within = a.fit.0; here = a.fit.1; expected = fine_bool g.scope f.table }
 
 pub guard_typed : (g : Given) (s : Schedule) (n e : ExprId) (o : Option ExprId) (t : Ty) (f new : InferenceContext) → o ≡ Some e → BeforeGuard g s n o f → CoerceDone g s e (Some ty.Bool) t f new → GuardDone g s o f new
 guard_typed g s n e o t f new is b d =
@@ -197,6 +197,6 @@ guard_typed g s n e o t f new is b d =
 pub guard_missing : (g : Given) (s : Schedule) (n : ExprId) (o : Option ExprId) (f : InferenceContext) → o ≡ None → BeforeGuard g s n o f → GuardDone g s o f f
 guard_missing g s n o f is b =
     subst (λ z. GuardDone g s z f f) (sym is) (record {
-      follows = follows_itself g.body f b.state.of_body b.state.sound;
+      follows = follows_itself g f b.state.of_body b.state.sound;
       each = λ a q. no_guard_done g s (found_under a f) (b.state.each a q);
     })

@@ -161,7 +161,7 @@ pub record ArmLoop (g : Given) (s : Schedule) (n : ExprId) (arms : List RawArm) 
   pub ends : after g.body s f.clock (arms_parts i (drop i arms)) ≡ after g.body s mid.clock (arms_parts 0 arms)
   pub guards : AllGuards g f.result (take i arms)
 
-pub arm_start : (g : Given) (s : Schedule) (n : ExprId) (arms : List RawArm) (x : Option Ty) (f : Found) → IsWalked g.body s f → LieAhead g.body s (inner (node.ExprId n)) f.clock (arms_parts 0 arms) → ArmLoop g s n arms 0 x (common_of x) f f
+pub arm_start : (g : Given) (s : Schedule) (n : ExprId) (arms : List RawArm) (x : Option Ty) (f : Found) → IsWalked g s f → LieAhead g.body s (inner (node.ExprId n)) f.clock (arms_parts 0 arms) → ArmLoop g s n arms 0 x (common_of x) f f
 arm_start g s n arms x f state ahead = record {
   done = record { walks = walks_refl g s (OwedByAlternatives g n x) f state; merged = none_merged f.result x };
   ahead = ahead;
@@ -310,7 +310,7 @@ match_done g s n d arms x y u t mid f new is less h k = record {
 
 -- ---- guards
 
-pub guard_before : (g : Given) (s : Schedule) (n : ExprId) (i : ℕ) (e : ExprId) (f : Found) → IsReady g s → IsWalked g.body s f → LieAhead g.body s (inner (node.ExprId n)) f.clock (expr_part (guard i) e ∷ []) → Before g s e (Some ty.Bool) f
+pub guard_before : (g : Given) (s : Schedule) (n : ExprId) (i : ℕ) (e : ExprId) (f : Found) → IsReady g s → IsWalked g s f → LieAhead g.body s (inner (node.ExprId n)) f.clock (expr_part (guard i) e ∷ []) → Before g s e (Some ty.Bool) f
 guard_before g s n i e f ready state ahead = expr_before g s (inner (node.ExprId n)) (guard i) e [] (Some ty.Bool) f ready state ahead carried_bool
 
 guard_demand : (g : Given) (s : Schedule) (n : ExprId) (i : ℕ) (e : ExprId) (f : Found) → LieAhead g.body s (inner (node.ExprId n)) f.clock (expr_part (guard i) e ∷ []) → (r : InferenceResult) (u : Ty) → Some ty.Bool ≡ Some u → Demand g r e u
@@ -326,5 +326,5 @@ guard_done g s n i e t f new ahead d = record {
   made = d.placed.1;
 }
 
-pub no_guard_done : (g : Given) (s : Schedule) (f : Found) → IsWalked g.body s f → GuardDone g s None f f
+pub no_guard_done : (g : Given) (s : Schedule) (f : Found) → IsWalked g s f → GuardDone g s None f f
 no_guard_done g s f state = record { walks = walks_refl g s Nothing f state; clock = λ j. refl; made = tt }

@@ -4,7 +4,7 @@ use Rattle.hir_types.specs.declared.ids.ExprId.{ExprId}
 use Rattle.hir_types.specs.declared.ids.PatId.{PatId}
 use Rattle.hir_types.specs.declared.ty.Ty.{Ty}
 use Rattle.hir_types.specs.Subst.{Assignment}
-use Rattle.hir_facts.specs.declared.raw.RawBody.{RawBody}
+use Rattle.hir_facts.specs.Scope.{Scope}
 use Rattle.hir_facts.specs.declared.raw.RawStmt.{RawStmt}
 use Rattle.hir_facts.specs.declared.schedule.Schedule.{Schedule}
 use Rattle.infer_table.specs.HoleLaws.{grew_twice}
@@ -20,32 +20,32 @@ use Rattle.infer_expr.specs.Fine.{IsFineExpectation}
 use Rattle.infer_expr.specs.Steps.{IsWalking, Follows, Before, Within, BeforePat, BeforeStmt, BeforeTail}
 use Rattle.infer_expr.specs.Under as under
 use Rattle.infer_expr.proofs.Closed.{closes_earlier}
-use Rattle.infer_expr.proofs.FineTypes.{fine_closed}
+use Rattle.infer_expr.proofs.OverTypes.{fine_closed}
 
 -- ---- one after another
 
-pub follows_itself : (b : RawBody) (c : InferenceContext) → IsOfBody b c.result → IsSound c → Follows b c c
-follows_itself b c h s = record { clock = omega arith; grew = grew_itself c.table; of_body = h; sound = s }
+pub follows_itself : (g : Given) (c : InferenceContext) → IsOfBody g.body c.result → IsSound g.scope c → Follows g c c
+follows_itself g c h s = record { clock = omega arith; grew = grew_itself c.table; of_body = h; sound = s }
 
-pub follows_twice : (b : RawBody) (x y z : InferenceContext) → Follows b x y → Follows b y z → Follows b x z
-follows_twice b x y z f g = record {
-  clock = omega (arith, f.clock, g.clock);
-  grew = grew_twice x.table y.table z.table f.grew g.grew;
-  of_body = g.of_body;
-  sound = g.sound;
+pub follows_twice : (g : Given) (x y z : InferenceContext) → Follows g x y → Follows g y z → Follows g x z
+follows_twice g x y z f h = record {
+  clock = omega (arith, f.clock, h.clock);
+  grew = grew_twice x.table y.table z.table f.grew h.grew;
+  of_body = h.of_body;
+  sound = h.sound;
 }
 
-pub closes_before : (b : RawBody) (a : Assignment) (x y : InferenceContext) → Follows b x y → Closes a y → Closes a x
-closes_before b a x y f k = closes_earlier a x y f.grew k
+pub closes_before : (g : Given) (a : Assignment) (x y : InferenceContext) → Follows g x y → Closes a y → Closes a x
+closes_before g a x y f k = closes_earlier a x y f.grew k
 
-pub walking_after : (g : Given) (s : Schedule) (old new : InferenceContext) → Follows g.body old new → ((a : Assignment) → Closes a new → IsWalked g.body s (found_under a new)) → IsWalking g s new
+pub walking_after : (g : Given) (s : Schedule) (old new : InferenceContext) → Follows g old new → ((a : Assignment) → Closes a new → IsWalked g s (found_under a new)) → IsWalking g s new
 walking_after g s old new f h = record { of_body = f.of_body; sound = f.sound; each = h }
 
 -- ---- what is expected
 
-pub expected_carried : (a : Assignment) (state : State) (x : Option Ty) → IsClosing a → IsFineExpectation state x → IsCarriedExpectation (expected_under a x)
-expected_carried a state None k h = tt
-expected_carried a state (Some t) k h = fine_closed a t k h.heads
+pub expected_carried : (sc : Scope) (a : Assignment) (state : State) (x : Option Ty) → IsClosing a → IsFineExpectation sc state x → IsCarriedExpectation (expected_under a x)
+expected_carried sc a state None k h = tt
+expected_carried sc a state (Some t) k h = fine_closed sc a t k h.heads
 
 -- ---- what a function is given
 
@@ -56,7 +56,7 @@ module _ (g : Given) (s : Schedule) (a : Assignment) (c : InferenceContext) (k :
     state = h.state.each a k;
     within = h.within;
     here = h.here;
-    expected = expected_carried a c.table x k.closing h.expected;
+    expected = expected_carried g.scope a c.table x k.closing h.expected;
   }
 
   pub within_under : (e : ExprId) (x : Option Ty) → Within g s e x c → under.Within g s e (expected_under a x) (found_under a c)
@@ -65,7 +65,7 @@ module _ (g : Given) (s : Schedule) (a : Assignment) (c : InferenceContext) (k :
     state = h.state.each a k;
     within = h.within;
     clock = h.clock;
-    expected = expected_carried a c.table x k.closing h.expected;
+    expected = expected_carried g.scope a c.table x k.closing h.expected;
   }
 
   pub before_pat_under : (p : PatId) (x : Option Ty) → BeforePat g s p x c → under.BeforePat g s p (expected_under a x) (found_under a c)
@@ -74,7 +74,7 @@ module _ (g : Given) (s : Schedule) (a : Assignment) (c : InferenceContext) (k :
     state = h.state.each a k;
     within = h.within;
     here = h.here;
-    carried = expected_carried a c.table x k.closing h.fine;
+    carried = expected_carried g.scope a c.table x k.closing h.fine;
     incoming = h.incoming a k;
   }
 
@@ -93,5 +93,5 @@ module _ (g : Given) (s : Schedule) (a : Assignment) (c : InferenceContext) (k :
     state = h.state.each a k;
     within = h.within;
     ahead = h.ahead;
-    expected = expected_carried a c.table x k.closing h.expected;
+    expected = expected_carried g.scope a c.table x k.closing h.expected;
   }

@@ -11,6 +11,7 @@ use Rattle.hir_facts.specs.declared.raw.RawBody.{RawBody}
 use Rattle.hir_facts.specs.declared.schedule.Schedule.{Schedule}
 use Rattle.infer_table.specs.Completion.{fallback}
 use Rattle.infer_result.specs.Places.{Given}
+use Rattle.hir_facts.specs.Scope.{Scope}
 use Rattle.infer_expr.specs.declared.context.InferenceContext.{InferenceContext}
 use Rattle.infer_expr.specs.Context.{empty_context}
 use Rattle.infer_expr.specs.Found.{nothing_found}
@@ -22,8 +23,8 @@ use Rattle.infer_expr.specs.Under as under
 use Rattle.infer_expr.specs.Walks.{expr_end}
 use Rattle.infer_expr.proofs.AtEach.{closes_before, walking_after}
 use Rattle.infer_expr.proofs.Closed.{of_body_unclosed}
-use Rattle.infer_expr.proofs.FineTypes.{carried_fine, carried_closed}
-use Rattle.infer_expr.proofs.Whole.{At-replicate, params_before, root_before, body_made, body_carried}
+use Rattle.infer_expr.proofs.OverTypes.{carried_fine, carried_closed}
+use Rattle.infer_expr.proofs.Whole.{At-replicate, params_before, root_before, body_made}
 
 none_under : {A B : Type 0} (f : A → B) (n : ℕ) → map (option_map f) (replicate n None) ≡ replicate n None
 none_under f zero = refl
@@ -37,13 +38,14 @@ nothing_under a b = λ i. record {
     type_of_binding = none_under (folded a) (length b.bindings) i;
     binding_modes = replicate (length b.pats) None;
     expr_mismatches = none_under (closed_mismatch a) (length b.exprs) i;
+    expr_diagnostics = replicate (length b.exprs) None;
     pat_mismatches = none_under (closed_mismatch a) (length b.pats) i;
   };
   clock = 1;
 }
 
-nothing_sound : (b : RawBody) → IsSound (empty_context b)
-nothing_sound b = record {
+nothing_sound : (sc : Scope) (b : RawBody) → IsSound sc (empty_context b)
+nothing_sound sc b = record {
   fine = record {
     exprs = λ n t i. absurd (At-replicate (length b.exprs) n t i);
     pats = λ n t i. absurd (At-replicate (length b.pats) n t i);
@@ -75,13 +77,13 @@ module _ (g : Given) (s : Schedule) (law : IsWalkable g.body s) (written : Writt
         count = count;
         state = record {
           of_body = of_body_unclosed fallback g.body (empty_context g.body).result here.state.of_body;
-          sound = nothing_sound g.body;
+          sound = nothing_sound g.scope g.body;
           each = λ a k. (params_under a last is room).state;
         };
         ahead = here.ahead;
       })
 
-pub comes_to_root : (g : Given) (s : Schedule) (old c : InferenceContext) → BeforeParams g s old → ParamsDone g s old c → IsCarriedType g.output → HasFineHeads g.output → Before g s g.body.root (Some g.output) c
+pub comes_to_root : (g : Given) (s : Schedule) (old c : InferenceContext) → BeforeParams g s old → ParamsDone g s old c → IsCarriedType g.output → HasFineHeads g.scope g.output → Before g s g.body.root (Some g.output) c
 comes_to_root g s old c b d carried heads =
     let q = d.follows.sound.some in
     let here = root_before g s (found_under q.0 old) (found_under q.0 c) b.ready carried (d.each q.0 q.1) in
@@ -90,12 +92,12 @@ comes_to_root g s old c b d carried heads =
       state = walking_after g s old c d.follows (λ a k. (d.each a k).walks.state);
       within = here.within;
       here = here.here;
-      expected = carried_fine c.table g.output carried heads;
+      expected = carried_fine c.table g.scope g.output carried heads;
     }
 
 module _ (g : Given) (s : Schedule) (law : IsWalkable g.body s) (carried : IsCarriedType g.output) (t : Ty) (mid new : InferenceContext) (p : ParamsDone g s (empty_context g.body) mid) (d : CoerceDone g s g.body.root (Some g.output) t mid new) where
   typed : (a : Assignment) → Closes a new → under.ParamsDone g s (nothing_found g.body) (found_under a mid)
-  typed a q = subst (λ c. under.ParamsDone g s c (found_under a mid)) (nothing_under a g.body) (p.each a (closes_before g.body a mid new d.follows q))
+  typed a q = subst (λ c. under.ParamsDone g s c (found_under a mid)) (nothing_under a g.body) (p.each a (closes_before g a mid new d.follows q))
 
   done : (a : Assignment) → Closes a new → under.CoerceDone g s g.body.root (Some g.output) (folded a t) (found_under a mid) (found_under a new)
   done a q = subst (λ u. under.CoerceDone g s g.body.root (Some u) (folded a t) (found_under a mid) (found_under a new)) (carried_closed a g.output carried) (d.each a q)
@@ -104,5 +106,4 @@ module _ (g : Given) (s : Schedule) (law : IsWalkable g.body s) (carried : IsCar
   body_walked = record {
     sound = d.follows.sound;
     made = λ a q. body_made g s law (folded a t) (found_under a mid) (found_under a new) (typed a q) (done a q);
-    carried = λ a q. body_carried g s law (folded a t) (found_under a mid) (found_under a new) (typed a q) (done a q);
   }

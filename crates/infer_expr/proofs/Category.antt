@@ -9,7 +9,7 @@ use Rattle.infer_expr.specs.Walks.{Walks, IsWalked, Debt, expr_start, pat_start}
 use Rattle.infer_expr.proofs.Lists.{lt_or_ge}
 use Rattle.infer_expr.proofs.Keeps.{extends_refl, extends_trans, obeys_kept, pat_kept, pat_truth_kept, misfit_kept, demand_kept}
 
-pub walks_refl : (g : Given) (s : Schedule) (P : Debt) (c : Found) → IsWalked g.body s c → Walks g s P c c
+pub walks_refl : (g : Given) (s : Schedule) (P : Debt) (c : Found) → IsWalked g s c → Walks g s P c c
 walks_refl g s P c h = record {
   clock = omega arith;
   extends = extends_refl c.result;

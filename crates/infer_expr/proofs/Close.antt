@@ -14,7 +14,7 @@ use Rattle.infer_expr.specs.Walks.{IsWalked, IsFree, Extends, expr_start, pat_st
 use Rattle.infer_expr.specs.Under.{Before, Within, KindDone, OwnDone}
 use Rattle.infer_expr.proofs.Lists.{lt_or_ge, slice_get-set_same, slice_get-set_other, At-set, At-set_cases}
 use Rattle.infer_expr.proofs.Parts.{expr_id, one_expr, expr_is_no_pat, binds_within}
-use Rattle.infer_expr.proofs.Keeps.{extends_trans, obeys_kept, pat_kept, pat_truth_kept, misfit_kept, demand_kept}
+use Rattle.infer_expr.proofs.Keeps.{extends_trans, obeys_kept, pat_kept, pat_truth_kept, diagnostic_kept, misfit_kept, demand_kept}
 
 -- the clock goes on to the parts of the expression
 pub entered_within : (g : Given) (s : Schedule) (e : ExprId) (x : Option Ty) (c : Found) → Before g s e x c → Within g s e x (entered c)
@@ -24,6 +24,7 @@ entered_within g s e x c h = record {
     of_body = h.state.of_body;
     carried = h.state.carried;
     modes = h.state.modes;
+    diagnostics = h.state.diagnostics;
     free_exprs = λ n i k. h.state.free_exprs n i (omega arith);
     free_pats = λ p i k. h.state.free_pats p i (omega arith);
     free_modes = λ p i k. h.state.free_modes p i (omega arith);
@@ -59,6 +60,7 @@ module _ (g : Given) (s : Schedule) (e : ExprId) (x : Option Ty) (t : Ty) (old l
     modes = λ p m i. i;
     mismatches = λ n m i. i;
     pat_mismatches = λ p m i. i;
+    diagnostics = λ n d i. i;
   }
 
   has : HasTy new.result e t
@@ -88,7 +90,7 @@ module _ (g : Given) (s : Schedule) (e : ExprId) (x : Option Ty) (t : Ty) (old l
         pat_actual = c.pat_actual;
       }
 
-  state : IsWalked g.body s new
+  state : IsWalked g s new
   state = record {
     of_body = record {
       exprs = length-set last.result.type_of_expr e.0 (Some t) ∙ k.walks.state.of_body.exprs;
@@ -97,9 +99,11 @@ module _ (g : Given) (s : Schedule) (e : ExprId) (x : Option Ty) (t : Ty) (old l
       modes = k.walks.state.of_body.modes;
       mismatches = k.walks.state.of_body.mismatches;
       pat_mismatches = k.walks.state.of_body.pat_mismatches;
+      diagnostics = k.walks.state.of_body.diagnostics;
     };
     carried = carried;
     modes = k.walks.state.modes;
+    diagnostics = λ n d i. diagnostic_kept g last.result new.result extends n d (k.walks.state.diagnostics n d i);
     free_exprs = λ n i lo.
         other_type n (omega (arith, k.walks.clock, h.here)) ∙ k.walks.state.free_exprs n i lo;
     free_pats = k.walks.state.free_pats;

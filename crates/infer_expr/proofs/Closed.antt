@@ -10,10 +10,12 @@ use Rattle.hir_types.specs.declared.ty.Ty.{Ty}
 use Rattle.hir_types.specs.Subst.{Assignment, folded}
 use Rattle.hir_types.specs.Terms.{Term, terms_of}
 use Rattle.hir_facts.specs.declared.raw.RawBody.{RawBody}
+use Rattle.hir_facts.specs.Scope.{Scope}
 use Rattle.infer_result.specs.declared.modes.BindingMode.{BindingMode}
 use Rattle.infer_result.specs.declared.modes.BindingMode.TheVariants as mode
 use Rattle.infer_result.specs.declared.result.InferenceResult.{InferenceResult}
 use Rattle.infer_result.specs.declared.result.TypeMismatch.{TypeMismatch}
+use Rattle.infer_result.specs.declared.diagnostics.InferenceDiagnostic.{InferenceDiagnostic}
 use Rattle.infer_result.specs.Closed.{IsOfBody, AllTypes}
 use Rattle.infer_result.specs.Table.{At}
 use Rattle.infer_table.specs.LogLemmas.{solves_left}
@@ -80,6 +82,7 @@ of_body_closed a b r h = record {
   modes = h.modes;
   mismatches = length-closed (closed_mismatch a) r.expr_mismatches ∙ h.mismatches;
   pat_mismatches = length-closed (closed_mismatch a) r.pat_mismatches ∙ h.pat_mismatches;
+  diagnostics = h.diagnostics;
 }
 
 pub of_body_unclosed : (a : Assignment) (b : RawBody) (r : InferenceResult) → IsOfBody b (closed_table a r) → IsOfBody b r
@@ -90,6 +93,7 @@ of_body_unclosed a b r h = record {
   modes = h.modes;
   mismatches = sym (length-closed (closed_mismatch a) r.expr_mismatches) ∙ h.mismatches;
   pat_mismatches = sym (length-closed (closed_mismatch a) r.pat_mismatches) ∙ h.pat_mismatches;
+  diagnostics = h.diagnostics;
 }
 
 -- a write leaves the lists as long as they are
@@ -102,6 +106,7 @@ module _ (b : RawBody) (c : InferenceContext) (h : IsOfBody b c.result) where
     modes = h.modes;
     mismatches = h.mismatches;
     pat_mismatches = h.pat_mismatches;
+    diagnostics = h.diagnostics;
   }
 
   pub of_body_mismatch : (e : ExprId) (m : TypeMismatch) → IsOfBody b (context.with_mismatch c e m).result
@@ -112,6 +117,18 @@ module _ (b : RawBody) (c : InferenceContext) (h : IsOfBody b c.result) where
     modes = h.modes;
     mismatches = length-noted c.result.expr_mismatches e.0 m ∙ h.mismatches;
     pat_mismatches = h.pat_mismatches;
+    diagnostics = h.diagnostics;
+  }
+
+  pub of_body_diagnostic : (e : ExprId) (d : InferenceDiagnostic) → IsOfBody b (context.with_diagnostic c e d).result
+  of_body_diagnostic e d = record {
+    exprs = h.exprs;
+    pats = h.pats;
+    bindings = h.bindings;
+    modes = h.modes;
+    mismatches = h.mismatches;
+    pat_mismatches = h.pat_mismatches;
+    diagnostics = length-noted c.result.expr_diagnostics e.0 d ∙ h.diagnostics;
   }
 
   pub of_body_pat_mismatch : (p : PatId) (m : TypeMismatch) → IsOfBody b (context.with_pat_mismatch c p m).result
@@ -122,6 +139,7 @@ module _ (b : RawBody) (c : InferenceContext) (h : IsOfBody b c.result) where
     modes = h.modes;
     mismatches = h.mismatches;
     pat_mismatches = length-noted c.result.pat_mismatches p.0 m ∙ h.pat_mismatches;
+    diagnostics = h.diagnostics;
   }
 
   pub of_body_pat_ty : (p : PatId) (t : Ty) → IsOfBody b (context.with_pat_ty c p t).result
@@ -132,6 +150,7 @@ module _ (b : RawBody) (c : InferenceContext) (h : IsOfBody b c.result) where
     modes = h.modes;
     mismatches = h.mismatches;
     pat_mismatches = h.pat_mismatches;
+    diagnostics = h.diagnostics;
   }
 
   pub of_body_mode : (p : PatId) (m : BindingMode) → IsOfBody b (context.with_mode c p m).result
@@ -142,6 +161,7 @@ module _ (b : RawBody) (c : InferenceContext) (h : IsOfBody b c.result) where
     modes = length-set c.result.binding_modes p.0 (Some m) ∙ h.modes;
     mismatches = h.mismatches;
     pat_mismatches = h.pat_mismatches;
+    diagnostics = h.diagnostics;
   }
 
   pub of_body_binding_ty : (v : BindingId) (t : Ty) → IsOfBody b (context.with_binding_ty c v t).result
@@ -152,6 +172,7 @@ module _ (b : RawBody) (c : InferenceContext) (h : IsOfBody b c.result) where
     modes = h.modes;
     mismatches = h.mismatches;
     pat_mismatches = h.pat_mismatches;
+    diagnostics = h.diagnostics;
   }
 
 pub of_body_bound_by : (b : RawBody) (c : InferenceContext) (p : PatId) (v : BindingId) (t : Ty) → IsOfBody b c.result → IsOfBody b (context.bound_by c p v t).result
@@ -223,20 +244,20 @@ noted_keeps : (P : TypeMismatch → Type 0) (xs : List (Option TypeMismatch)) (n
 noted_keeps P xs n x all h m y k = elim (noted-cases xs n m x y k) [ inl q ↦ all m y q | inr q ↦ subst P q.1 h ]
 
 -- another table of fine types, and another clock
-pub sound_with : (c : InferenceContext) (r : InferenceResult) (n : ℕ) → IsSound c → AllTypes (IsFine c.table) r → IsSound (record c { result = r; clock = n })
-sound_with c r n s h = record {
+pub sound_with : {sc : Scope} (c : InferenceContext) (r : InferenceResult) (n : ℕ) → IsSound sc c → AllTypes (IsFine sc c.table) r → IsSound sc (record c { result = r; clock = n })
+sound_with {sc} c r n s h = record {
   fine = h;
   bound = s.bound;
   some = (s.some.0, closes_same s.some.0 c (record c { result = r; clock = n }) refl s.some.1);
 }
 
-module _ (c : InferenceContext) (s : IsSound c) where
-  pub sound_entered : IsSound (context.entered c)
+module _ {sc : Scope} (c : InferenceContext) (s : IsSound sc c) where
+  pub sound_entered : IsSound sc (context.entered c)
   sound_entered = sound_with c c.result (context.entered c).clock s s.fine
 
-  pub sound_expr_ty : (e : ExprId) (t : Ty) → IsFine c.table t → IsSound (context.with_expr_ty c e t)
+  pub sound_expr_ty : (e : ExprId) (t : Ty) → IsFine sc c.table t → IsSound sc (context.with_expr_ty c e t)
   sound_expr_ty e t h = sound_with c (context.with_expr_ty c e t).result c.clock s (record {
-    exprs = set_keeps (IsFine c.table) c.result.type_of_expr e.0 t s.fine.exprs h;
+    exprs = set_keeps (IsFine sc c.table) c.result.type_of_expr e.0 t s.fine.exprs h;
     pats = s.fine.pats;
     bindings = s.fine.bindings;
     expected = s.fine.expected;
@@ -245,32 +266,43 @@ module _ (c : InferenceContext) (s : IsSound c) where
     pat_actual = s.fine.pat_actual;
   })
 
-  pub sound_mismatch : (e : ExprId) (m : TypeMismatch) → IsFine c.table m.expected → IsFine c.table m.actual → IsSound (context.with_mismatch c e m)
+  pub sound_mismatch : (e : ExprId) (m : TypeMismatch) → IsFine sc c.table m.expected → IsFine sc c.table m.actual → IsSound sc (context.with_mismatch c e m)
   sound_mismatch e m h k = sound_with c (context.with_mismatch c e m).result c.clock s (record {
     exprs = s.fine.exprs;
     pats = s.fine.pats;
     bindings = s.fine.bindings;
-    expected = noted_keeps (λ x. IsFine c.table x.expected) c.result.expr_mismatches e.0 m s.fine.expected h;
-    actual = noted_keeps (λ x. IsFine c.table x.actual) c.result.expr_mismatches e.0 m s.fine.actual k;
+    expected = noted_keeps (λ x. IsFine sc c.table x.expected) c.result.expr_mismatches e.0 m s.fine.expected h;
+    actual = noted_keeps (λ x. IsFine sc c.table x.actual) c.result.expr_mismatches e.0 m s.fine.actual k;
     pat_expected = s.fine.pat_expected;
     pat_actual = s.fine.pat_actual;
   })
 
-  pub sound_pat_mismatch : (p : PatId) (m : TypeMismatch) → IsFine c.table m.expected → IsFine c.table m.actual → IsSound (context.with_pat_mismatch c p m)
+  pub sound_diagnostic : (e : ExprId) (d : InferenceDiagnostic) → IsSound sc (context.with_diagnostic c e d)
+  sound_diagnostic e d = sound_with c (context.with_diagnostic c e d).result c.clock s (record {
+    exprs = s.fine.exprs;
+    pats = s.fine.pats;
+    bindings = s.fine.bindings;
+    expected = s.fine.expected;
+    actual = s.fine.actual;
+    pat_expected = s.fine.pat_expected;
+    pat_actual = s.fine.pat_actual;
+  })
+
+  pub sound_pat_mismatch : (p : PatId) (m : TypeMismatch) → IsFine sc c.table m.expected → IsFine sc c.table m.actual → IsSound sc (context.with_pat_mismatch c p m)
   sound_pat_mismatch p m h k = sound_with c (context.with_pat_mismatch c p m).result c.clock s (record {
     exprs = s.fine.exprs;
     pats = s.fine.pats;
     bindings = s.fine.bindings;
     expected = s.fine.expected;
     actual = s.fine.actual;
-    pat_expected = noted_keeps (λ x. IsFine c.table x.expected) c.result.pat_mismatches p.0 m s.fine.pat_expected h;
-    pat_actual = noted_keeps (λ x. IsFine c.table x.actual) c.result.pat_mismatches p.0 m s.fine.pat_actual k;
+    pat_expected = noted_keeps (λ x. IsFine sc c.table x.expected) c.result.pat_mismatches p.0 m s.fine.pat_expected h;
+    pat_actual = noted_keeps (λ x. IsFine sc c.table x.actual) c.result.pat_mismatches p.0 m s.fine.pat_actual k;
   })
 
-  pub sound_pat_ty : (p : PatId) (t : Ty) → IsFine c.table t → IsSound (context.with_pat_ty c p t)
+  pub sound_pat_ty : (p : PatId) (t : Ty) → IsFine sc c.table t → IsSound sc (context.with_pat_ty c p t)
   sound_pat_ty p t h = sound_with c (context.with_pat_ty c p t).result c.clock s (record {
     exprs = s.fine.exprs;
-    pats = set_keeps (IsFine c.table) c.result.type_of_pat p.0 t s.fine.pats h;
+    pats = set_keeps (IsFine sc c.table) c.result.type_of_pat p.0 t s.fine.pats h;
     bindings = s.fine.bindings;
     expected = s.fine.expected;
     actual = s.fine.actual;
@@ -278,7 +310,7 @@ module _ (c : InferenceContext) (s : IsSound c) where
     pat_actual = s.fine.pat_actual;
   })
 
-  pub sound_mode : (p : PatId) (m : BindingMode) → IsSound (context.with_mode c p m)
+  pub sound_mode : (p : PatId) (m : BindingMode) → IsSound sc (context.with_mode c p m)
   sound_mode p m = sound_with c (context.with_mode c p m).result c.clock s (record {
     exprs = s.fine.exprs;
     pats = s.fine.pats;
@@ -289,19 +321,19 @@ module _ (c : InferenceContext) (s : IsSound c) where
     pat_actual = s.fine.pat_actual;
   })
 
-  pub sound_binding_ty : (v : BindingId) (t : Ty) → IsFine c.table t → IsSound (context.with_binding_ty c v t)
+  pub sound_binding_ty : (v : BindingId) (t : Ty) → IsFine sc c.table t → IsSound sc (context.with_binding_ty c v t)
   sound_binding_ty v t h = sound_with c (context.with_binding_ty c v t).result c.clock s (record {
     exprs = s.fine.exprs;
     pats = s.fine.pats;
-    bindings = set_keeps (IsFine c.table) c.result.type_of_binding v.0 t s.fine.bindings h;
+    bindings = set_keeps (IsFine sc c.table) c.result.type_of_binding v.0 t s.fine.bindings h;
     expected = s.fine.expected;
     actual = s.fine.actual;
     pat_expected = s.fine.pat_expected;
     pat_actual = s.fine.pat_actual;
   })
 
-pub sound_bound_by : (c : InferenceContext) (p : PatId) (v : BindingId) (t : Ty) → IsSound c → IsFine c.table t → IsSound (context.bound_by c p v t)
-sound_bound_by c p v t s h =
+pub sound_bound_by : {sc : Scope} (c : InferenceContext) (p : PatId) (v : BindingId) (t : Ty) → IsSound sc c → IsFine sc c.table t → IsSound sc (context.bound_by c p v t)
+sound_bound_by {sc} c p v t s h =
     let d = context.with_mode c p mode.Move in
     let e = context.with_pat_ty d p t in
     sound_binding_ty e (sound_pat_ty d (sound_mode c s p mode.Move) p t h) v t h

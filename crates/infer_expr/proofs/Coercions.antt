@@ -1,5 +1,5 @@
 -- An expression put at the type that is expected of it, with or without a mismatch.
-use Rattle.std.proofs.Common.{ℕ, ◌<◌, ◌≡◌, ◌⊎◌, inl, inr, Bool, true, false, length, refl, sym, ap, subst, ◌∙◌, Option, Some, None}
+use Rattle.std.proofs.Common.{◌<◌, ◌≡◌, ◌⊎◌, inl, inr, Bool, true, false, length, refl, sym, ap, subst, ◌∙◌, Option, Some, None}
 use Rattle.hir_types.specs.declared.ids.ExprId.{ExprId}
 use Rattle.hir_types.specs.declared.ty.Ty.{Ty}
 use Rattle.hir_facts.specs.declared.schedule.Schedule.{Schedule}
@@ -7,13 +7,13 @@ use Rattle.hir_types.specs.Erasure.{erased}
 use Rattle.hir_facts.specs.CarriedTypes.{IsCarriedType, same_carried}
 use Rattle.infer_result.specs.declared.result.InferenceResult.{InferenceResult}
 use Rattle.infer_result.specs.declared.result.TypeMismatch.{TypeMismatch}
-use Rattle.infer_result.specs.Table.{HasTy, HasMismatch, mismatch}
+use Rattle.infer_result.specs.Table.{HasTy, mismatch}
 use Rattle.infer_expr.specs.Walks.{IsCarriedTable}
 use Rattle.infer_result.specs.Places.{Given, Demand, IsAtOrMismatch}
 use Rattle.infer_result.specs.Made.{IsMisfit}
-use Rattle.infer_expr.specs.Found.{Found, with_mismatch}
+use Rattle.infer_expr.specs.Found.{Found}
 use Rattle.infer_expr.specs.Context.{IsCarriedExpectation}
-use Rattle.infer_expr.specs.Walks.{Walks, IsWalked, Debt, Nothing, Owed}
+use Rattle.infer_expr.specs.Walks.{Walks, Debt, Nothing, Owed}
 use Rattle.infer_expr.specs.Under.{Before, OwnDone, CoerceDone, IsPlaced, IsCoercedIf}
 use Rattle.infer_expr.proofs.Category.{walks_paid}
 use Rattle.infer_expr.proofs.Noted.{noted_has, noted_walks}

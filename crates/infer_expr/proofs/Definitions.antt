@@ -12,19 +12,21 @@ use Rattle.hir_facts.specs.declared.raw.RawFn.{RawFn}
 use Rattle.hir_facts.specs.declared.raw.RawBody.{RawBody}
 use Rattle.hir_facts.specs.declared.raw.RawFacts.{RawFacts}
 use Rattle.hir_facts.specs.declared.schedule.Schedule.{Schedule}
-use Rattle.hir_facts.specs.Bodies.{body_id_of, inputs_of, return_type, IsWalkable}
+use Rattle.hir_facts.specs.Bodies.{body_id_of, body_of, inputs_of, return_type, IsWalkable}
+use Rattle.hir_facts.specs.Scope.{params_of, scope_of}
+use Rattle.hir_facts.specs.WrittenFits.{lets_fit, definition_inputs_fit, inputs_fit, output_fits}
+use Rattle.hir_facts.specs.Laws.Ids.{IsModuleFn}
 use Rattle.hir_facts.specs.LawfulFacts.{fn_ids, body_ids}
-use Rattle.hir_facts.specs.Walkable.{inputs_count, inputs_within}
+use Rattle.hir_facts.specs.Walkable.{inputs_count}
 use Rattle.hir_facts.specs.Laws.Lawful.{IsLawful}
 use Rattle.infer_result.specs.declared.result.InferenceResult.{InferenceResult}
 use Rattle.infer_result.specs.Places.{Given}
 use Rattle.infer_result.specs.Made.{IsMade}
 use Rattle.infer_result.specs.Derived.{typed_by_schedule}
+use Rattle.infer_result.specs.Fit.{TypesFit}
 use Rattle.infer_result.specs.Typed.{IsTableOf}
-use Rattle.infer_expr.specs.Under.{WrittenExist}
-use Rattle.infer_expr.specs.Walks.{IsCarriedTable}
-use Rattle.infer_expr.proofs.FineTypes.{is_written, lawful_types}
-use Rattle.infer_expr.proofs.Types.{table_fits}
+use Rattle.infer_expr.specs.Under.{WrittenExist, IsFunction}
+use Rattle.infer_expr.proofs.Written.{is_written}
 
 body_of_fn : (raw : RawFacts) → IsLawful raw → (f : FunctionId) (i : BodyId) (o : Option RawFn) → slice_get raw.fns f.0 ≡ o → option_and_then (λ x. x.body) o ≡ Some i → i.0 < length raw.bodies
 body_of_fn raw law f i None at h = absurd (cc)
@@ -38,25 +40,38 @@ body_within raw (def.ConstId c) i law h = absurd (cc)
 body_within raw (def.StaticId s) i law h = absurd (cc)
 body_within raw (def.VariantId v) i law h = absurd (cc)
 
-module _ (raw : RawFacts) (d : DefWithBodyId) (i : BodyId) (b : RawBody) (inputs : List TypeRefId) (output : Ty) (law : IsLawful raw) (at : slice_get raw.bodies i.0 ≡ Some b) (taken : inputs ≡ inputs_of raw d) where
-  pub written_exist : WrittenExist (record { types = raw.types; body = b; inputs = inputs; output = output })
+found_body : (raw : RawFacts) (d : DefWithBodyId) (i : BodyId) (b : RawBody) → body_id_of raw d ≡ Some i → slice_get raw.bodies i.0 ≡ Some b → body_of raw d ≡ Some b
+found_body raw d i b id at = ap (λ o. option_and_then (λ k. slice_get raw.bodies k.0) o) id ∙ at
+
+-- a function that a path names
+named_function : (raw : RawFacts) → IsLawful raw → (f : FunctionId) → IsModuleFn raw f → IsFunction raw f
+named_function raw law f (x, found, stands) = record {
+  function = x;
+  found = found;
+  inputs = λ k w is. is_written raw law (length x.params) w (inputs_fit raw law f.0 x found k w is);
+  output = is_written raw law (length x.params) x.output (output_fits raw law f.0 x found);
+}
+
+module _ (raw : RawFacts) (d : DefWithBodyId) (i : BodyId) (b : RawBody) (inputs : List TypeRefId) (output : Ty) (law : IsLawful raw) (id : body_id_of raw d ≡ Some i) (at : slice_get raw.bodies i.0 ≡ Some b) (taken : inputs ≡ inputs_of raw d) where
+  pub written_exist : WrittenExist (record { scope = scope_of raw d; body = b; inputs = inputs; output = output })
   written_exist = record {
-    lets = λ e k p w init other is. is_written raw.types (lawful_types raw law) w ((body_ids raw law i.0 b at).written e k p w init other is);
-    inputs = λ k w is. is_written raw.types (lawful_types raw law) w (inputs_within raw law d k w (ap (λ ws. slice_get ws k) (sym taken) ∙ is));
+    lets = λ e k p w init other is. is_written raw law (params_of raw d) w (lets_fit raw law d b (found_body raw d i b id at) e k p w init other is);
+    inputs = λ k w is. is_written raw law (params_of raw d) w (definition_inputs_fit raw law d k w (ap (λ ws. slice_get ws k) (sym taken) ∙ is));
+    functions = λ e f is. named_function raw law f ((body_ids raw law i.0 b at).functions e f is);
   }
 
-  pub inputs_for_params : body_id_of raw d ≡ Some i → length inputs ≡ length b.params
-  inputs_for_params id = ap (λ ws. length ws) taken ∙ inputs_count raw law d i b id at
+  pub inputs_for_params : length inputs ≡ length b.params
+  inputs_for_params = ap (λ ws. length ws) taken ∙ inputs_count raw law d i b id at
 
-pub table_of : (raw : RawFacts) (d : DefWithBodyId) (i : BodyId) (b : RawBody) (s : Schedule) (inputs : List TypeRefId) (output : Ty) (r : InferenceResult) → body_id_of raw d ≡ Some i → slice_get raw.bodies i.0 ≡ Some b → IsWalkable b s → inputs ≡ inputs_of raw d → output ≡ return_type raw d → IsMade (record { types = raw.types; body = b; inputs = inputs; output = output }) r → IsCarriedTable r → IsTableOf raw d r
-table_of raw d i b s inputs output r id at law taken out made carried = record {
+pub table_of : (raw : RawFacts) (d : DefWithBodyId) (i : BodyId) (b : RawBody) (s : Schedule) (inputs : List TypeRefId) (output : Ty) (r : InferenceResult) → body_id_of raw d ≡ Some i → slice_get raw.bodies i.0 ≡ Some b → IsWalkable b s → inputs ≡ inputs_of raw d → output ≡ return_type raw d → IsMade (record { scope = scope_of raw d; body = b; inputs = inputs; output = output }) r → TypesFit raw d r → IsTableOf raw d r
+table_of raw d i b s inputs output r id at law taken out made fit = record {
   body = b;
-  is_body = ap (λ o. option_and_then (λ k. slice_get raw.bodies k.0) o) id ∙ at;
+  is_body = found_body raw d i b id at;
   typed =
-      (let g : Given = record { types = raw.types; body = b; inputs = inputs_of raw d; output = return_type raw d } in
+      (let g : Given = record { scope = scope_of raw d; body = b; inputs = inputs_of raw d; output = return_type raw d } in
       let m : IsMade g r =
-      subst (λ ws. IsMade (record { types = raw.types; body = b; inputs = ws; output = return_type raw d }) r) taken
-      (subst (λ t. IsMade (record { types = raw.types; body = b; inputs = inputs; output = t }) r) out made) in
+      subst (λ ws. IsMade (record { scope = scope_of raw d; body = b; inputs = ws; output = return_type raw d }) r) taken
+      (subst (λ t. IsMade (record { scope = scope_of raw d; body = b; inputs = inputs; output = t }) r) out made) in
       typed_by_schedule g r s law.schedule m);
-  fit = table_fits raw d r carried;
+  fit = fit;
 }

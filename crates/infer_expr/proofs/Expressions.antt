@@ -4,24 +4,22 @@ use Rattle.hir_types.specs.declared.ids.ExprId.{ExprId}
 use Rattle.hir_types.specs.declared.ty.Ty.{Ty}
 use Rattle.hir_types.specs.Subst.{Assignment, folded}
 use Rattle.hir_facts.specs.declared.raw.RawLiteral.{RawLiteral}
-use Rattle.hir_facts.specs.declared.raw.RawPath.{RawPath}
-use Rattle.hir_facts.specs.declared.raw.RawPath.TheVariants as path
 use Rattle.hir_facts.specs.declared.raw.RawExpr.TheVariants as expr
 use Rattle.hir_facts.specs.declared.schedule.Schedule.{Schedule}
 use Rattle.infer_result.specs.Closed.{IsOfBody}
 use Rattle.infer_result.specs.Places.{Given}
 use Rattle.infer_expr.specs.declared.context.InferenceContext.{InferenceContext}
 use Rattle.infer_expr.specs.Context as context
-use Rattle.infer_expr.specs.Closings.{Closes, closed_table, found_under, expected_under, IsSound}
+use Rattle.infer_expr.specs.Closings.{Closes, closed_table, found_under, expected_under}
 use Rattle.infer_expr.specs.Fine.{IsFine, IsFineExpectation}
 use Rattle.infer_expr.specs.Steps.{Follows, Before, Within, OwnDone, CoerceDone, KindDone, IsCoercedIf, LiteralDone}
 use Rattle.infer_expr.specs.Under as under
 use Rattle.infer_expr.proofs.Close.{entered_within, close}
 use Rattle.infer_expr.proofs.Coercions.{coerced_as, uncoerced}
-use Rattle.infer_expr.proofs.Leaves.{literal_done, path_done, path_bound}
-use Rattle.infer_expr.proofs.Closed.{At-closed, At-unclosed, closes_same, closes_earlier, expr_ty_under, of_body_expr_ty, sound_entered, sound_expr_ty}
+use Rattle.infer_expr.proofs.Leaves.{literal_done}
+use Rattle.infer_expr.proofs.Closed.{closes_same, closes_earlier, expr_ty_under, of_body_expr_ty, sound_entered, sound_expr_ty}
 use Rattle.infer_expr.proofs.FineTypes.{fine_grown}
-use Rattle.infer_expr.proofs.AtEach.{follows_itself, follows_twice, closes_before, before_under, within_under}
+use Rattle.infer_expr.proofs.AtEach.{follows_twice, closes_before, before_under, within_under}
 
 -- the clock goes on to the parts of the expression
 pub comes_within : (g : Given) (s : Schedule) (e : ExprId) (x : Option Ty) (c : InferenceContext) → Before g s e x c → Within g s e x (context.entered c)
@@ -51,22 +49,22 @@ own_done g s e x t old mid h k = record {
   fine = k.fine;
   each = λ a q.
       let m : Closes a mid = closes_same a (context.with_expr_ty mid e t) mid refl q in
-      let o : Closes a old = closes_same a (context.entered old) old refl (closes_before g.body a (context.entered old) mid k.follows m) in
+      let o : Closes a old = closes_same a (context.entered old) old refl (closes_before g a (context.entered old) mid k.follows m) in
       subst (λ f. under.OwnDone g s e (expected_under a x) (folded a t) (found_under a old) f) (sym (expr_ty_under a mid e t))
       (close g s e (expected_under a x) (folded a t) (found_under a old) (found_under a mid) (before_under g s a old o e x h) (k.each a m));
 }
 
-pub coerced_done : (fits : Bool) (g : Given) (s : Schedule) (e : ExprId) (x : Option Ty) (t u v : Ty) (old mid new : InferenceContext) → Some u ≡ x → v ≡ u → Before g s e x old → OwnDone g s e x t old mid → IsCoercedIf fits g.body e t u mid new → CoerceDone g s e x v old new
+pub coerced_done : (fits : Bool) (g : Given) (s : Schedule) (e : ExprId) (x : Option Ty) (t u v : Ty) (old mid new : InferenceContext) → Some u ≡ x → v ≡ u → Before g s e x old → OwnDone g s e x t old mid → IsCoercedIf fits g e t u mid new → CoerceDone g s e x v old new
 coerced_done fits g s e x t u v old mid new f i h d k =
-    let all : Follows g.body old new = follows_twice g.body old mid new d.follows k.follows in
+    let all : Follows g old new = follows_twice g old mid new d.follows k.follows in
     record {
       follows = all;
       fine =
-          subst (λ w. IsFine new.table w) (sym i)
-          (fine_grown old.table new.table u all.grew (subst (λ y. IsFineExpectation old.table y) (sym f) h.expected));
+          subst (λ w. IsFine g.scope new.table w) (sym i)
+          (fine_grown g.scope old.table new.table u all.grew (subst (λ y. IsFineExpectation g.scope old.table y) (sym f) h.expected));
       each = λ a q.
-          let m : Closes a mid = closes_before g.body a mid new k.follows q in
-          let o : Closes a old = closes_before g.body a old mid d.follows m in
+          let m : Closes a mid = closes_before g a mid new k.follows q in
+          let o : Closes a old = closes_before g a old mid d.follows m in
           coerced_as g s fits e (expected_under a x) (folded a t) (folded a u) (folded a v) (found_under a old) (found_under a mid) (found_under a new)
           (ap (expected_under a) f) (ap (folded a) i) (before_under g s a old o e x h) (d.each a m) (k.each a q);
     }
@@ -78,12 +76,12 @@ uncoerced_done g s e t old new d = record {
   each = λ a q. uncoerced g s e (folded a t) (found_under a old) (found_under a new) (d.each a q);
 }
 
--- ---- literals and paths
+-- ---- literals
 
 pub same_found : (a : Assignment) (c d : InferenceContext) → d.result ≡ c.result → d.clock ≡ c.clock → found_under a d ≡ found_under a c
 same_found a c d h k = λ i. record { result = closed_table a (h i); clock = k i }
 
-pub literal_kind : (g : Given) (s : Schedule) (e : ExprId) (x : Option Ty) (l : RawLiteral) (t : Ty) (c new : InferenceContext) → Within g s e x c → slice_get g.body.exprs e.0 ≡ Some (expr.Lit l) → LiteralDone l t c new → KindDone g s e x t c new
+pub literal_kind : (g : Given) (s : Schedule) (e : ExprId) (x : Option Ty) (l : RawLiteral) (t : Ty) (c new : InferenceContext) → Within g s e x c → slice_get g.body.exprs e.0 ≡ Some (expr.Lit l) → LiteralDone g.scope l t c new → KindDone g s e x t c new
 literal_kind g s e x l t c new h is d = record {
   follows = record {
     clock = omega (arith, d.clock);
@@ -97,35 +95,3 @@ literal_kind g s e x l t c new h is d = record {
       subst (λ f. under.KindDone g s e (expected_under a x) (folded a t) (found_under a c) f) (sym (same_found a c new d.result d.clock))
       (literal_done g s e (expected_under a x) l (folded a t) (found_under a c) (within_under g s a c o e x h) is (d.each a q.closing));
 }
-
-path_under : (a : Assignment) (c : InferenceContext) (p : RawPath) (t : Ty) → under.IsPathType c.result p t → under.IsPathType (found_under a c).result p (folded a t)
-path_under a c (path.Local v) t h = At-closed (folded a) c.result.type_of_binding v.0 t h
-path_under a c (path.Function f) t h = h
-path_under a c (path.Ctor named) t h = h
-path_under a c path.Other t h = h
-
-path_fine : (c : InferenceContext) (p : RawPath) (t : Ty) → IsSound c → under.IsPathType c.result p t → IsFine c.table t
-path_fine c (path.Local v) t s h = s.fine.bindings v.0 t h
-path_fine c (path.Function f) t s h = absurd h
-path_fine c (path.Ctor named) t s h = absurd h
-path_fine c path.Other t s h = absurd h
-
-pub path_kind : (g : Given) (s : Schedule) (e : ExprId) (x : Option Ty) (p : RawPath) (t : Ty) (c : InferenceContext) → Within g s e x c → slice_get g.body.exprs e.0 ≡ Some (expr.Path p) → under.IsPathType c.result p t → KindDone g s e x t c c
-path_kind g s e x p t c h is k = record {
-  follows = follows_itself g.body c h.state.of_body h.state.sound;
-  fine = path_fine c p t h.state.sound k;
-  each = λ a q. path_done g s e (expected_under a x) p (folded a t) (found_under a c) (within_under g s a c q e x h) is (path_under a c p t k);
-}
-
-path_open : (a : Assignment) (c : InferenceContext) (p : RawPath) (t : Ty) → under.IsPathType (found_under a c).result p t → (u : Ty) × under.IsPathType c.result p u
-path_open a c (path.Local v) t h = let q = At-unclosed (folded a) c.result.type_of_binding v.0 t h in (q.0, q.1)
-path_open a c (path.Function f) t h = absurd h
-path_open a c (path.Ctor named) t h = absurd h
-path_open a c path.Other t h = absurd h
-
--- a path names a local, which has a type
-pub path_typed : (g : Given) (s : Schedule) (e : ExprId) (x : Option Ty) (p : RawPath) (c : InferenceContext) → Within g s e x c → slice_get g.body.exprs e.0 ≡ Some (expr.Path p) → (t : Ty) × under.IsPathType c.result p t
-path_typed g s e x p c h is =
-    let q = h.state.sound.some in
-    let k = path_bound g s e (expected_under q.0 x) p (found_under q.0 c) (within_under g s q.0 c q.1 e x h) is in
-    path_open q.0 c p k.0 k.1

@@ -17,18 +17,20 @@ use Rattle.infer_table.specs.Resolution.{resolution}
 use Rattle.infer_table.specs.Table.{State, bindings, with_new_hole, hole_count, resolved_type}
 use Rattle.infer_table.specs.UndoLaws.{grew_itself}
 use Rattle.infer_expr.specs.declared.context.InferenceContext.{InferenceContext}
+use Rattle.hir_facts.specs.Scope.{Scope}
 use Rattle.infer_expr.specs.Closings.{IsSound}
 use Rattle.infer_expr.specs.Steps.{IsIntegerFor, IsExpectedInteger, IntDone, LiteralDone}
-use Rattle.infer_expr.proofs.FineTypes.{fine_bool, fine_char, fine_integer, fine_int_hole, table_fine_grown, carried_closed}
+use Rattle.infer_expr.proofs.FineTypes.{fine_bool, fine_char, fine_integer, fine_int_hole, table_fine_grown}
+use Rattle.infer_expr.proofs.OverTypes.{carried_closed}
 use Rattle.infer_expr.proofs.Unified.{with_table}
 
 -- with one hole more
 abbrev pub holed : InferenceContext → HoleKind → InferenceContext
 holed c k = with_table c (with_new_hole c.table k)
 
-pub holed_sound : (c : InferenceContext) (k : HoleKind) → IsSound c → IsSound (holed c k)
+pub holed_sound : {sc : Scope} (c : InferenceContext) (k : HoleKind) → IsSound sc c → IsSound sc (holed c k)
 holed_sound c k s = record {
-  fine = table_fine_grown c.table (with_new_hole c.table k) c.result (grew_by_hole c.table (with_new_hole c.table k) k refl) s.fine;
+  fine = table_fine_grown _ c.table (with_new_hole c.table k) c.result (grew_by_hole c.table (with_new_hole c.table k) k refl) s.fine;
   bound = s.bound;
   some = (s.some.0, record { closing = s.some.1.closing; meets = s.some.1.meets });
 }
@@ -51,30 +53,30 @@ integer_for : (s t : Ty) → IsIntegerFor s t → (i : IntegerTy) × (t ≡ inte
 integer_for s t (inl q) = (q.0, q.2 ∙ q.1)
 integer_for s t (inr q) = (integer.Uint uint.U8, q.1)
 
-known_integer : (c : InferenceContext) (i : IntegerTy) (x : Option Ty) → IsSound c → IsExpectedInteger x (integer_type i) c.table → IntDone x (integer_type i) c c
+known_integer : {sc : Scope} (c : InferenceContext) (i : IntegerTy) (x : Option Ty) → IsSound sc c → IsExpectedInteger x (integer_type i) c.table → IntDone sc x (integer_type i) c c
 known_integer c i x s h = record {
   is = inl h;
   result = refl;
   clock = refl;
   grew = grew_itself c.table;
   sound = s;
-  fine = fine_integer c.table i;
+  fine = fine_integer _ c.table i;
   each = λ a k. (i, carried_closed a (integer_type i) (carried_integer i));
 }
 
-pub known_int : (c : InferenceContext) (t : Ty) (x : Option Ty) → IsSound c → IsExpectedInteger x t c.table → IntDone x t c c
-known_int c t x s h =
+pub known_int : {sc : Scope} (c : InferenceContext) (t : Ty) (x : Option Ty) → IsSound sc c → IsExpectedInteger x t c.table → IntDone sc x t c c
+known_int {sc} c t x s h =
     let q = integer_for (resolved_type c.table h.expected) t h.gives in
-    subst (λ u. IntDone x u c c) (sym q.1) (known_integer c q.0 x s (subst (λ u. IsExpectedInteger x u c.table) q.1 h))
+    subst (λ u. IntDone sc x u c c) (sym q.1) (known_integer c q.0 x s (subst (λ u. IsExpectedInteger x u c.table) q.1 h))
 
-pub int_hole : (c : InferenceContext) (x : Option Ty) → IsSound c → IntDone x (ty.IntVar (hole_count c.table)) c (holed c kind.Int)
+pub int_hole : {sc : Scope} (c : InferenceContext) (x : Option Ty) → IsSound sc c → IntDone sc x (ty.IntVar (hole_count c.table)) c (holed c kind.Int)
 int_hole c x s = record {
   is = inr refl;
   result = refl;
   clock = refl;
   grew = grew_by_hole c.table (with_new_hole c.table kind.Int) kind.Int refl;
   sound = holed_sound c kind.Int s;
-  fine = fine_int_hole c.table;
+  fine = fine_int_hole _ c.table;
   each = λ a k.
       let q = k.int_var (hole_count c.table) in
       (q.0, replaced_int_var (with_holes a) (hole_count c.table) ∙ q.1);
@@ -82,38 +84,38 @@ int_hole c x s = record {
 
 -- ---- literals
 
-module _ (c : InferenceContext) (s : IsSound c) where
-  pub bool_literal : (b : _) → LiteralDone (literal.Bool b) ty.Bool c c
+module _ {sc : Scope} (c : InferenceContext) (s : IsSound sc c) where
+  pub bool_literal : (b : _) → LiteralDone sc (literal.Bool b) ty.Bool c c
   bool_literal b = record {
     result = refl;
     clock = refl;
     grew = grew_itself c.table;
     sound = s;
-    fine = fine_bool c.table;
+    fine = fine_bool _ c.table;
     each = λ a k. carried_closed a ty.Bool carried_bool;
   }
 
-  pub char_literal : (n : ℕ) → LiteralDone (literal.Char n) ty.Char c c
+  pub char_literal : (n : ℕ) → LiteralDone sc (literal.Char n) ty.Char c c
   char_literal n = record {
     result = refl;
     clock = refl;
     grew = grew_itself c.table;
     sound = s;
-    fine = fine_char c.table;
+    fine = fine_char _ c.table;
     each = λ a k. carried_closed a ty.Char carried_char;
   }
 
-  pub suffixed_literal : (digits : _) (i : IntegerTy) → LiteralDone (literal.Int digits (Some i)) (integer_type i) c c
+  pub suffixed_literal : (digits : _) (i : IntegerTy) → LiteralDone sc (literal.Int digits (Some i)) (integer_type i) c c
   suffixed_literal digits i = record {
     result = refl;
     clock = refl;
     grew = grew_itself c.table;
     sound = s;
-    fine = fine_integer c.table i;
+    fine = fine_integer _ c.table i;
     each = λ a k. carried_closed a (integer_type i) (carried_integer i);
   }
 
-pub unsuffixed_literal : (digits : _) (x : Option Ty) (t : Ty) (old new : InferenceContext) → IntDone x t old new → LiteralDone (literal.Int digits None) t old new
+pub unsuffixed_literal : {sc : Scope} (digits : _) (x : Option Ty) (t : Ty) (old new : InferenceContext) → IntDone sc x t old new → LiteralDone sc (literal.Int digits None) t old new
 unsuffixed_literal digits x t old new d = record {
   result = d.result;
   clock = d.clock;

@@ -1,5 +1,5 @@
 -- What is judged stays so, as more is recorded: one lemma for each judgement.
-use Rattle.std.proofs.Common.{ℕ, ◌⊎◌, inl, inr, List, [], ◌∷◌, true, false, Option, Some, None, slice_get}
+use Rattle.std.proofs.Common.{ℕ, ◌⊎◌, inl, inr, List, [], ◌∷◌, map, true, false, Option, Some, None, slice_get}
 use Rattle.hir_types.specs.declared.ids.ExprId.{ExprId}
 use Rattle.hir_types.specs.declared.ids.PatId.{PatId}
 use Rattle.hir_types.specs.declared.ids.TypeRefId.{TypeRefId}
@@ -15,20 +15,25 @@ use Rattle.hir_facts.specs.declared.raw.RawPath.TheVariants as path
 use Rattle.hir_facts.specs.declared.raw.RawPat.{RawPat}
 use Rattle.hir_facts.specs.declared.raw.RawPat.TheVariants as pat
 use Rattle.hir_types.specs.Types.{unit}
+use Rattle.hir_facts.specs.Signatures.{Signature, at_args}
 use Rattle.hir_facts.specs.Types.{written_type}
 use Rattle.hir_facts.specs.Order.{Role, parameter, root, initializer, let_pattern, let_else, statement, tail, element, condition, then_branch, else_branch, scrutinee, arm_pattern, guard, arm, callee, argument, subpattern, pattern_literal, Node, the_body, inner}
 use Rattle.infer_result.specs.declared.result.InferenceResult.{InferenceResult}
 use Rattle.infer_result.specs.declared.result.TypeMismatch.{TypeMismatch}
 use Rattle.infer_result.specs.declared.modes.BindingMode.TheVariants as mode
 use Rattle.infer_result.specs.Table.{HasMismatch, AnyMismatch, mismatch}
-use Rattle.infer_result.specs.Places.{Given, IsAt, IsAtOrMismatch, MisfitsAs, PatIsAtOrMismatch, GivesPart, Gives, Incoming, AsksOfAlternative, AsksOf, Asks, IsAsked, Demand}
+use Rattle.infer_result.specs.declared.diagnostics.InferenceDiagnostic.{InferenceDiagnostic}
+use Rattle.infer_result.specs.declared.diagnostics.InferenceDiagnostic.TheVariants as diagnostic
+use Rattle.infer_result.specs.Places.{Given, IsCallee, IsInputAt, IsAt, IsAtOrMismatch, MisfitsAs, PatIsAtOrMismatch, GivesPart, Gives, Incoming, AsksOfAlternative, AsksOf, Asks, IsAsked, Demand}
 use Rattle.infer_result.specs.Rules.Placing.{at_or_mismatch}
 use Rattle.infer_result.specs.Rules.Tuples.{AllAt}
+use Rattle.infer_result.specs.Rules.Calls.{ArgsRule}
 use Rattle.infer_result.specs.Rules.Blocks.{LetRule, StmtRule, StmtsRule, TailRule}
 use Rattle.infer_result.specs.Rules.Branches.{branches_of, ElseRule, arm_exprs, ArmPatterns, GuardRule, ArmsRule}
 use Rattle.infer_result.specs.Rules.Expressions.{Rule, ObeysOrMismatch}
 use Rattle.infer_result.specs.Rules.Patterns.{AllPatsAt, PatRule}
 use Rattle.infer_result.specs.Truth.Mismatch.{IsTruePatMismatch}
+use Rattle.infer_result.specs.Truth.Calls.{IsTrueDiagnostic}
 use Rattle.infer_result.specs.Made.{IsMisfit}
 use Rattle.infer_expr.specs.Walks.{Extends}
 
@@ -40,6 +45,7 @@ extends_refl a = record {
   modes = λ p m h. h;
   mismatches = λ e m h. h;
   pat_mismatches = λ p m h. h;
+  diagnostics = λ e d h. h;
 }
 
 pub extends_trans : (a b c : InferenceResult) → Extends a b → Extends b c → Extends a c
@@ -50,6 +56,7 @@ extends_trans a b c x y = record {
   modes = λ p m h. y.modes p m (x.modes p m h);
   mismatches = λ e m h. y.mismatches e m (x.mismatches e m h);
   pat_mismatches = λ p m h. y.pat_mismatches p m (x.pat_mismatches p m h);
+  diagnostics = λ e d h. y.diagnostics e d (x.diagnostics e d h);
 }
 
 module _ (g : Given) (a b : InferenceResult) (x : Extends a b) where
@@ -89,8 +96,8 @@ module _ (g : Given) (a b : InferenceResult) (x : Extends a b) where
   all_kept (e ∷ es) (t ∷ ts) h = (at_kept e t h.0, all_kept es ts h.1)
 
   let_kept : (p : PatId) (w : Option TypeRefId) (i : Option ExprId) → LetRule (at_or_mismatch g a) g a p w i → LetRule (at_or_mismatch g b) g b p w i
-  let_kept p (Some w) (Some e) h = (at_kept e (written_type g.types w) h.0, pat_at_kept p (written_type g.types w) h.1)
-  let_kept p (Some w) None h = pat_at_kept p (written_type g.types w) h
+  let_kept p (Some w) (Some e) h = (at_kept e (written_type g.scope.facts.types w) h.0, pat_at_kept p (written_type g.scope.facts.types w) h.1)
+  let_kept p (Some w) None h = pat_at_kept p (written_type g.scope.facts.types w) h
   let_kept p None (Some e) (t, h, k) = (t, x.exprs e t h, pat_at_kept p t k)
   let_kept p None None h = tt
 
@@ -130,11 +137,30 @@ module _ (g : Given) (a b : InferenceResult) (x : Extends a b) where
   arms_kept es [] t h = tt
   arms_kept es (y ∷ arms) t h = ((guard_kept y.guard h.0.0, alternative_kept es y.expr t h.0.1), arms_kept es arms t h.1)
 
+  pub callee_kept : (f : ExprId) (σ : Signature) (ts : List Ty) → IsCallee g a f σ ts → IsCallee g b f σ ts
+  callee_kept f σ ts h = record { item = h.item; has = x.exprs f _ h.has; signature = h.signature }
+
+  pub args_kept : (n : ExprId) (args : List ExprId) (ts : List Ty) → ArgsRule (at_or_mismatch g a) n args ts → ArgsRule (at_or_mismatch g b) n args ts
+  args_kept n args ts (inl h) = inl (all_kept args ts h)
+  args_kept n args ts (inr h) = inr (x.diagnostics n _ h)
+
+  input_kept : (n : ExprId) (i : ℕ) (t : Ty) → IsInputAt g a n i t → IsInputAt g b n i t
+  input_kept n i t h = record {
+    called = h.called;
+    args = h.args;
+    is_call = h.is_call;
+    signature = h.signature;
+    types = h.types;
+    is_callee = callee_kept h.called h.signature h.types h.is_callee;
+    count = h.count;
+    input = h.input;
+  }
+
   rule_kept : (n : ExprId) (o : Option RawExpr) → Rule (at_or_mismatch g a) g a n o → Rule (at_or_mismatch g b) g b n o
   rule_kept n None h = h
   rule_kept n (Some (expr.Lit l)) (t, h, k) = (t, x.exprs n t h, k)
   rule_kept n (Some (expr.Path (path.Local v))) (t, h, k) = (t, x.exprs n t h, x.bindings v t k)
-  rule_kept n (Some (expr.Path (path.Function f))) h = h
+  rule_kept n (Some (expr.Path (path.Function f))) (ts, h, k) = (ts, x.exprs n _ h, k)
   rule_kept n (Some (expr.Path (path.Ctor named))) h = h
   rule_kept n (Some (expr.Path path.Other)) h = h
   rule_kept n (Some (expr.Tuple es)) (ts, h, k) = (ts, x.exprs n _ h, all_kept es ts k)
@@ -143,7 +169,7 @@ module _ (g : Given) (a b : InferenceResult) (x : Extends a b) where
       (at_kept c ty.Bool h, (t, x.exprs n t k, (alternative_kept (branches_of n first other) first t l.0, else_kept n first other t l.1)))
   rule_kept n (Some (expr.Match e arms)) ((u, h, i), (t, k, l)) =
       ((u, x.exprs e u h, arm_patterns_kept arms u i), (t, x.exprs n t k, arms_kept (arm_exprs arms) arms t l))
-  rule_kept n (Some (expr.Call f args)) h = h
+  rule_kept n (Some (expr.Call f args)) (σ, ts, h, k, l) = (σ, ts, callee_kept f σ ts h, args_kept n args (map (at_args ts) σ.inputs) k, x.exprs n _ l)
   rule_kept n (Some expr.Other) h = h
 
   pub obeys_kept : (n : ExprId) → ObeysOrMismatch g a n → ObeysOrMismatch g b n
@@ -164,6 +190,22 @@ module _ (g : Given) (a b : InferenceResult) (x : Extends a b) where
   pat_kept p (Some (pat.Path named)) h = h
   pat_kept p (Some (pat.Lit e)) (t, h, k) = (t, x.pats p t h, x.exprs e t k)
   pat_kept p (Some pat.Other) h = h
+
+  pub diagnostic_kept : (e : ExprId) (d : InferenceDiagnostic) → IsTrueDiagnostic g a e d → IsTrueDiagnostic g b e d
+  diagnostic_kept e (diagnostic.MismatchedArgCount n expected found) (is, h) = (
+    is,
+    record {
+      called = h.called;
+      args = h.args;
+      is_call = h.is_call;
+      signature = h.signature;
+      types = h.types;
+      is_callee = callee_kept h.called h.signature h.types h.is_callee;
+      is_expected = h.is_expected;
+      is_found = h.is_found;
+      differ = h.differ;
+    },
+  )
 
   pub misfit_kept : (e : ExprId) (m : TypeMismatch) → IsMisfit g a e m → IsMisfit g b e m
   misfit_kept e m h = record {
@@ -243,7 +285,7 @@ module _ (g : Given) (a b : InferenceResult) (x : Extends a b) where
   asks_of_kept n (guard i) t h = h
   asks_of_kept n (arm i) t h = alternative_asked_kept n (arm i) t h
   asks_of_kept n callee t h = h
-  asks_of_kept n (argument i) t h = h
+  asks_of_kept n (argument i) t h = input_kept n i t h
   asks_of_kept n (subpattern i) t h = h
   asks_of_kept n pattern_literal t h = h
 

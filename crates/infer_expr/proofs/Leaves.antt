@@ -1,5 +1,5 @@
 -- Literals and paths, which have no parts.
-use Rattle.std.proofs.Common.{◌≡◌, inl, inr, refl, sym, subst, arith, true, false, Option, Some, None, slice_get}
+use Rattle.std.proofs.Common.{◌≡◌, inl, inr, sym, subst, arith, true, false, Option, Some, slice_get}
 use Rattle.hir_types.specs.declared.ids.ExprId.{ExprId}
 use Rattle.hir_types.specs.declared.ty.Ty.{Ty}
 use Rattle.hir_facts.specs.declared.raw.RawLiteral.{RawLiteral}
@@ -14,12 +14,11 @@ use Rattle.infer_result.specs.Table.{HasTy}
 use Rattle.infer_result.specs.Places.{Given}
 use Rattle.infer_result.specs.Rules.Placing.{at_or_mismatch}
 use Rattle.infer_result.specs.Rules.Literals.{IsLiteralType}
-use Rattle.infer_expr.specs.Walks.{IsCarriedTable}
 use Rattle.infer_result.specs.Rules.Paths.{PathRule}
 use Rattle.infer_result.specs.Rules.Expressions.{Rule, ObeysOrMismatch}
 use Rattle.infer_expr.specs.Found.{Found}
 use Rattle.infer_expr.specs.Walks.{Extends, PaidBy, expr_end}
-use Rattle.infer_expr.specs.Under.{Within, KindDone, IsPathType}
+use Rattle.infer_expr.specs.Under.{Within, KindDone, IsPathType, NamesTyped, NamesTyped}
 use Rattle.infer_expr.proofs.Types.{carried_literal}
 use Rattle.infer_expr.proofs.Carried.{carried_expr}
 use Rattle.infer_expr.proofs.Parts.{expr_ahead}
@@ -43,33 +42,26 @@ literal_done g s e x l t c h is k =
     leaf_done g s e x t c h (expr_ahead g.body s e (expr.Lit l) c.clock h.ready.law.schedule h.within is h.clock).1 (carried_literal l t k)
     (λ r q has. rule_of g r e (expr.Lit l) is (t, has, k))
 
-path_rule : (g : Given) (r q : InferenceResult) (e : ExprId) (p : RawPath) (t : Ty) → Extends r q → HasTy q e t → IsPathType r p t → PathRule q e p
+path_rule : (g : Given) (r q : InferenceResult) (e : ExprId) (p : RawPath) (t : Ty) → Extends r q → HasTy q e t → IsPathType g r p t → PathRule g q e p
 path_rule g r q e (path.Local v) t x has k = (t, has, x.bindings v t k)
-path_rule g r q e (path.Function f) t x has k = absurd k
+path_rule g r q e (path.Function f) t x has (ts, is, count) = (ts, subst (λ u. HasTy q e u) is has, count)
 path_rule g r q e (path.Ctor named) t x has k = absurd k
 path_rule g r q e path.Other t x has k = absurd k
 
-path_carried : (r : InferenceResult) (p : RawPath) (t : Ty) → IsCarriedTable r → IsPathType r p t → IsCarriedType t
-path_carried r (path.Local v) t c k = c.bindings v.0 t k
-path_carried r (path.Function f) t c k = absurd k
-path_carried r (path.Ctor named) t c k = absurd k
-path_carried r path.Other t c k = absurd k
-
-pub path_done : (g : Given) (s : Schedule) (e : ExprId) (x : Option Ty) (p : RawPath) (t : Ty) (c : Found) → Within g s e x c → slice_get g.body.exprs e.0 ≡ Some (expr.Path p) → IsPathType c.result p t → KindDone g s e x t c c
-path_done g s e x p t c h is k =
-    leaf_done g s e x t c h (expr_ahead g.body s e (expr.Path p) c.clock h.ready.law.schedule h.within is h.clock).1 (path_carried c.result p t h.state.carried k)
+pub path_done : (g : Given) (s : Schedule) (e : ExprId) (x : Option Ty) (p : RawPath) (t : Ty) (c : Found) → Within g s e x c → slice_get g.body.exprs e.0 ≡ Some (expr.Path p) → IsCarriedType t → IsPathType g c.result p t → KindDone g s e x t c c
+path_done g s e x p t c h is carried k =
+    leaf_done g s e x t c h (expr_ahead g.body s e (expr.Path p) c.clock h.ready.law.schedule h.within is h.clock).1 carried
     (λ r q has. rule_of g r e (expr.Path p) is (path_rule g c.result r e p t q has k))
 
--- a path names a local, which has a type
-pub path_bound : (g : Given) (s : Schedule) (e : ExprId) (x : Option Ty) (p : RawPath) (c : Found) → Within g s e x c → slice_get g.body.exprs e.0 ≡ Some (expr.Path p) → (t : Ty) × IsPathType c.result p t
-path_bound g s e x (path.Local v) c h is =
+-- a path names a local, which has a type, or a function
+pub path_names : (g : Given) (s : Schedule) (e : ExprId) (x : Option Ty) (p : RawPath) (c : Found) → Within g s e x c → slice_get g.body.exprs e.0 ≡ Some (expr.Path p) → NamesTyped g c.result p
+path_names g s e x (path.Local v) c h is =
     elim (h.ready.law.scopes e v is) [
       | inl self ↦ (let none = h.ready.law.no_self in absurd (cc))
       | inr q ↦ h.state.bound q.0 v q.1 (omega (arith, h.clock, q.2))
     ]
-path_bound g s e x (path.Function f) c h is =
-    let k : false ≡ true = carried_expr g.body e.0 (expr.Path (path.Function f)) h.ready.law.carried is in absurd (cc)
-path_bound g s e x (path.Ctor named) c h is =
+path_names g s e x (path.Function f) c h is = h.ready.written.functions e f is
+path_names g s e x (path.Ctor named) c h is =
     let k : false ≡ true = carried_expr g.body e.0 (expr.Path (path.Ctor named)) h.ready.law.carried is in absurd (cc)
-path_bound g s e x path.Other c h is =
+path_names g s e x path.Other c h is =
     let k : false ≡ true = carried_expr g.body e.0 (expr.Path path.Other) h.ready.law.carried is in absurd (cc)

@@ -2,6 +2,8 @@ pub mod Lists
 pub mod Types
 pub mod MadeHoles
 pub mod FineTypes
+pub mod OverTypes
+pub mod Written
 pub mod Closed
 pub mod Carried
 pub mod Parts
@@ -29,10 +31,15 @@ pub mod Merged
 pub mod BranchWalk
 pub mod ArmWalk
 pub mod Unified
+pub mod Fits
 pub mod Holes
 pub mod BlockWalk
 pub mod StmtWalk
 pub mod PatHoles
+pub mod PathWalk
+pub mod Instances
+pub mod Calls
+pub mod CallWalk
 pub mod PatWalk
 pub mod TuplePatWalk
 pub mod ParamsWalk

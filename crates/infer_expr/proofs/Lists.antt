@@ -4,7 +4,6 @@ use Rattle.std.proofs.Math.ListN.{set, length-set}
 use Rattle.std.proofs.lemmas.List.{get_or-set_same, get_or-set_other}
 use Rattle.std.proofs.lemmas.Option.{slice_get-get_or, slice_get_past, slice_get_within}
 use Rattle.infer_result.specs.Table.{At}
-use Rattle.infer_result.specs.declared.result.TypeMismatch.{TypeMismatch}
 use Rattle.infer_expr.specs.Found.{noted, noted_where}
 use Rattle.infer_expr.specs.Walks.{IsFree}
 
@@ -105,34 +104,34 @@ module _ {A : Type 0} where
 
 -- ---- mismatches, of which the first one stays
 
-noted-keeps_where : (xs : List (Option TypeMismatch)) (n k : ℕ) (m y : TypeMismatch) (o : Option (Option TypeMismatch)) → slice_get xs n ≡ o → At xs k y → At (noted_where o xs n m) k y
+noted-keeps_where : {A : Type 0} (xs : List (Option A)) (n k : ℕ) (m y : A) (o : Option (Option A)) → slice_get xs n ≡ o → At xs k y → At (noted_where o xs n m) k y
 noted-keeps_where xs n k m y None is h = h
 noted-keeps_where xs n k m y (Some None) is h = At-set xs n k m y is h
 noted-keeps_where xs n k m y (Some (Some x)) is h = h
 
-pub noted-keeps : (xs : List (Option TypeMismatch)) (n k : ℕ) (m y : TypeMismatch) → At xs k y → At (noted xs n m) k y
+pub noted-keeps : {A : Type 0} (xs : List (Option A)) (n k : ℕ) (m y : A) → At xs k y → At (noted xs n m) k y
 noted-keeps xs n k m y h = noted-keeps_where xs n k m y (slice_get xs n) refl h
 
-noted-cases_where : (xs : List (Option TypeMismatch)) (n k : ℕ) (m y : TypeMismatch) (o : Option (Option TypeMismatch)) → slice_get xs n ≡ o → At (noted_where o xs n m) k y → At xs k y ⊎ ((k ≡ n) × (m ≡ y))
+noted-cases_where : {A : Type 0} (xs : List (Option A)) (n k : ℕ) (m y : A) (o : Option (Option A)) → slice_get xs n ≡ o → At (noted_where o xs n m) k y → At xs k y ⊎ ((k ≡ n) × (m ≡ y))
 noted-cases_where xs n k m y None is h = inl h
 noted-cases_where xs n k m y (Some None) is h = At-set_cases xs n k m y (slice_get_within xs n None is) h
 noted-cases_where xs n k m y (Some (Some x)) is h = inl h
 
-pub noted-cases : (xs : List (Option TypeMismatch)) (n k : ℕ) (m y : TypeMismatch) → At (noted xs n m) k y → At xs k y ⊎ ((k ≡ n) × (m ≡ y))
+pub noted-cases : {A : Type 0} (xs : List (Option A)) (n k : ℕ) (m y : A) → At (noted xs n m) k y → At xs k y ⊎ ((k ≡ n) × (m ≡ y))
 noted-cases xs n k m y h = noted-cases_where xs n k m y (slice_get xs n) refl h
 
-noted-some_where : (xs : List (Option TypeMismatch)) (n : ℕ) (m : TypeMismatch) (o : Option (Option TypeMismatch)) → slice_get xs n ≡ o → n < length xs → (y : TypeMismatch) × At (noted_where o xs n m) n y
+noted-some_where : {A : Type 0} (xs : List (Option A)) (n : ℕ) (m : A) (o : Option (Option A)) → slice_get xs n ≡ o → n < length xs → (y : A) × At (noted_where o xs n m) n y
 noted-some_where xs n m None is h = (let q = found xs n h in let k = sym is ∙ q.1 in absurd (cc))
 noted-some_where xs n m (Some None) is h = (m, slice_get-set_same xs n (Some m) h)
 noted-some_where xs n m (Some (Some x)) is h = (x, is)
 
-pub noted-some : (xs : List (Option TypeMismatch)) (n : ℕ) (m : TypeMismatch) → n < length xs → (y : TypeMismatch) × At (noted xs n m) n y
+pub noted-some : {A : Type 0} (xs : List (Option A)) (n : ℕ) (m : A) → n < length xs → (y : A) × At (noted xs n m) n y
 noted-some xs n m h = noted-some_where xs n m (slice_get xs n) refl h
 
-length-noted_where : (xs : List (Option TypeMismatch)) (n : ℕ) (m : TypeMismatch) (o : Option (Option TypeMismatch)) → length (noted_where o xs n m) ≡ length xs
+length-noted_where : {A : Type 0} (xs : List (Option A)) (n : ℕ) (m : A) (o : Option (Option A)) → length (noted_where o xs n m) ≡ length xs
 length-noted_where xs n m None = refl
 length-noted_where xs n m (Some None) = length-set xs n (Some m)
 length-noted_where xs n m (Some (Some x)) = refl
 
-pub length-noted : (xs : List (Option TypeMismatch)) (n : ℕ) (m : TypeMismatch) → length (noted xs n m) ≡ length xs
+pub length-noted : {A : Type 0} (xs : List (Option A)) (n : ℕ) (m : A) → length (noted xs n m) ≡ length xs
 length-noted xs n m = length-noted_where xs n m (slice_get xs n)

@@ -1,13 +1,13 @@
--- Whose holes are in a type, as the table grows, and in a tuple.
-use Rattle.std.specs.Prelude.{◌≡◌, ℕ, List, [], ◌∷◌, slice_get, Some}
+-- Whose holes are in a type, as the table grows, and in a type over parts.
+use Rattle.std.specs.Prelude.{◌≡◌, List, [], ◌∷◌, slice_get, Some}
 use Rattle.std.proofs.Common.{sym, subst, inl, inr}
 use Rattle.std.proofs.lemmas.Bool.{or_cases}
+use Rattle.hir_types.specs.declared.head.Head.{Head}
 use Rattle.hir_types.specs.declared.head.Head.TheVariants as head
 use Rattle.hir_types.specs.declared.head.HoleKind.{HoleKind}
 use Rattle.hir_types.specs.declared.ty.Ty.{Ty}
-use Rattle.hir_types.specs.declared.ty.Ty.TheVariants as ty
-use Rattle.hir_types.specs.Terms.{Term, chain, occurs, term, hole_number}
-use Rattle.hir_types.specs.TermLaws.{term_tuple, type_parts}
+use Rattle.hir_types.specs.Terms.{Term, node, chain, occurs, term, hole_number}
+use Rattle.hir_types.specs.TermLaws.{type_parts}
 use Rattle.infer_table.specs.BindingLaws.{get_left}
 use Rattle.infer_table.specs.LogLemmas.{are_of_leaf}
 use Rattle.infer_table.specs.Solutions.{AreOf, hole_kind}
@@ -31,7 +31,8 @@ parts_are_of s (t ∷ ts) h = λ k e. elim (or_cases (occurs k (term t)) (occurs
   | inr q ↦ parts_are_of s ts h.1 k q
 ]
 
-pub tuple_holes_are_of : (s : State) (ts : List Ty) → AllHolesAreOf s ts → HolesAreOf s (ty.Tuple ts)
-tuple_holes_are_of s ts h =
+-- of a head over these types
+pub node_holes_are_of : (s : State) (t : Ty) (h : Head) (ts : List Ty) → term t ≡ node h (type_parts ts) → AllHolesAreOf s ts → HolesAreOf s t
+node_holes_are_of s t h ts is made =
     let P : Term → Type 0 = AreOf s.substitution.kinds in
-    subst P (sym (term_tuple ts)) (parts_are_of s ts h)
+    subst P (sym is) (parts_are_of s ts made)

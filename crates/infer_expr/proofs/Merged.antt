@@ -5,6 +5,7 @@ use Rattle.hir_types.specs.declared.ty.Ty.{Ty}
 use Rattle.hir_types.specs.declared.ty.Ty.TheVariants as ty
 use Rattle.infer_table.specs.HoleLaws.{grew_by_hole}
 use Rattle.infer_table.specs.Table.{with_new_hole, hole_count}
+use Rattle.hir_facts.specs.Scope.{Scope}
 use Rattle.infer_expr.specs.declared.context.InferenceContext.{InferenceContext}
 use Rattle.infer_expr.specs.declared.coerce_many.CoerceMany.{CoerceMany}
 use Rattle.infer_expr.specs.declared.coerce_many.CoerceMany.TheVariants as common
@@ -15,13 +16,13 @@ use Rattle.infer_expr.proofs.FineTypes.{fine_hole}
 use Rattle.infer_expr.proofs.Holes.{holed, holed_sound}
 
 -- a new hole, where nothing is expected
-pub hole_completes : (x : Option Ty) (m : CoerceMany) (c : InferenceContext) → IsSound c → x ≡ None → (m ≡ common.Nothing) ⊎ (m ≡ common.Unknown) → Completes x m (ty.Var (hole_count c.table)) c (holed c kind.Ty)
+pub hole_completes : {sc : Scope} (x : Option Ty) (m : CoerceMany) (c : InferenceContext) → IsSound sc c → x ≡ None → (m ≡ common.Nothing) ⊎ (m ≡ common.Unknown) → Completes sc x m (ty.Var (hole_count c.table)) c (holed c kind.Ty)
 hole_completes x m c s none is = record {
   result = refl;
   clock = refl;
   grew = grew_by_hole c.table (with_new_hole c.table kind.Ty) kind.Ty refl;
   sound = holed_sound c kind.Ty s;
-  fine = fine_hole c.table;
+  fine = fine_hole _ c.table;
   is = any_completes is;
 }
   where

@@ -1,7 +1,6 @@
 -- A mismatch that is noted at an expression.
-use Rattle.std.proofs.Common.{ℕ, ◌<◌, ◌≡◌, ◌⊎◌, inl, inr, length, sym, subst, ◌∙◌, slice_get}
+use Rattle.std.proofs.Common.{◌<◌, ◌≡◌, ◌⊎◌, inl, inr, length, sym, subst, ◌∙◌, slice_get}
 use Rattle.hir_types.specs.declared.ids.ExprId.{ExprId}
-use Rattle.hir_facts.specs.declared.raw.RawBody.{RawBody}
 use Rattle.hir_facts.specs.declared.schedule.Schedule.{Schedule}
 use Rattle.hir_facts.specs.CarriedTypes.{IsCarriedType}
 use Rattle.infer_result.specs.declared.result.TypeMismatch.{TypeMismatch}
@@ -9,10 +8,10 @@ use Rattle.infer_result.specs.Table.{At, HasMismatch}
 use Rattle.infer_result.specs.Places.{Given, Demand}
 use Rattle.infer_result.specs.Made.{IsMisfit}
 use Rattle.infer_expr.specs.Found.{Found, with_mismatch}
-use Rattle.infer_expr.specs.Walks.{Walks, IsWalked, Extends, Debt, IsCarriedTable}
+use Rattle.infer_expr.specs.Walks.{Walks, IsWalked, Extends, Debt}
 use Rattle.infer_expr.proofs.Lists.{noted-keeps, noted-cases, noted-some, length-noted}
 use Rattle.infer_expr.proofs.Parts.{expr_id}
-use Rattle.infer_expr.proofs.Keeps.{extends_trans, obeys_kept, pat_kept, pat_truth_kept, misfit_kept, demand_kept}
+use Rattle.infer_expr.proofs.Keeps.{extends_trans, obeys_kept, pat_kept, pat_truth_kept, diagnostic_kept, misfit_kept, demand_kept}
 
 pub noted_extends : (c : Found) (e : ExprId) (m : TypeMismatch) → Extends c.result (with_mismatch c e m).result
 noted_extends c e m = record {
@@ -22,13 +21,14 @@ noted_extends c e m = record {
   modes = λ p k h. h;
   mismatches = λ n y h. noted-keeps c.result.expr_mismatches e.0 n.0 m y h;
   pat_mismatches = λ p y h. h;
+  diagnostics = λ n d h. h;
 }
 
 pub noted_has : (c : Found) (e : ExprId) (m : TypeMismatch) → e.0 < length c.result.expr_mismatches → HasMismatch (with_mismatch c e m).result e
 noted_has c e m h = noted-some c.result.expr_mismatches e.0 m h
 
-pub noted_walked : (b : RawBody) (s : Schedule) (c : Found) (e : ExprId) (m : TypeMismatch) → IsCarriedType m.expected → IsCarriedType m.actual → IsWalked b s c → IsWalked b s (with_mismatch c e m)
-noted_walked b s c e m x y h = record {
+pub noted_walked : (g : Given) (s : Schedule) (c : Found) (e : ExprId) (m : TypeMismatch) → IsCarriedType m.expected → IsCarriedType m.actual → IsWalked g s c → IsWalked g s (with_mismatch c e m)
+noted_walked g s c e m x y h = record {
   of_body = record {
     exprs = h.of_body.exprs;
     pats = h.of_body.pats;
@@ -36,6 +36,7 @@ noted_walked b s c e m x y h = record {
     modes = h.of_body.modes;
     mismatches = length-noted c.result.expr_mismatches e.0 m ∙ h.of_body.mismatches;
     pat_mismatches = h.of_body.pat_mismatches;
+    diagnostics = h.of_body.diagnostics;
   };
   carried = record {
     exprs = h.carried.exprs;
@@ -47,6 +48,7 @@ noted_walked b s c e m x y h = record {
     pat_actual = h.carried.pat_actual;
   };
   modes = h.modes;
+  diagnostics = λ n d i. diagnostic_kept g c.result (with_mismatch c e m).result (noted_extends c e m) n d (h.diagnostics n d i);
   free_exprs = h.free_exprs;
   free_pats = h.free_pats;
   free_modes = h.free_modes;
@@ -64,7 +66,7 @@ noted_walks g s P old mid e m x y misfit owed h =
       extends = extends_trans old.result mid.result new.result h.extends k;
       kept = h.kept;
       kept_pats = h.kept_pats;
-      state = noted_walked g.body s mid e m x y h.state;
+      state = noted_walked g s mid e m x y h.state;
       made = λ n i lo hi. obeys_kept g mid.result new.result k n (h.made n i lo hi);
       pats_made = λ p i lo hi. pat_kept g mid.result new.result k p (slice_get g.body.pats p.0) (h.pats_made p i lo hi);
       truths = λ n z i.

@@ -33,7 +33,7 @@ params_start g s c h = record {
 -- a parameter has one written type
 one_input : (g : Given) (i : ℕ) (t u : Ty) → IsInput g i t → IsInput g i u → t ≡ u
 one_input g i t u (v, at, is) (w, here, same) =
-    (let e : v ≡ w = cc in is ∙ (ap (λ y. written_type g.types y) e ∙ sym same))
+    (let e : v ≡ w = cc in is ∙ (ap (λ y. written_type g.scope.facts.types y) e ∙ sym same))
 
 module _ (g : Given) (s : Schedule) (i : ℕ) (mid c : Found) (h : ParamsLoop g s i mid c) where
   abbrev rest : List Part

@@ -4,7 +4,6 @@ use Rattle.std.proofs.lemmas.Option.{slice_get_read}
 use Rattle.hir_types.specs.declared.ids.PatId.{PatId}
 use Rattle.hir_types.specs.declared.ids.TypeRefId.{TypeRefId}
 use Rattle.hir_types.specs.Subst.{Assignment, folded}
-use Rattle.hir_facts.specs.CarriedTypes.{written_carried}
 use Rattle.hir_facts.specs.Types.{written_type}
 use Rattle.hir_facts.specs.declared.schedule.Schedule.{Schedule}
 use Rattle.infer_result.specs.Places.{Given}
@@ -14,17 +13,18 @@ use Rattle.infer_expr.specs.Fine.{IsWritten}
 use Rattle.infer_expr.specs.Steps.{IsWalking, Follows, BeforePat, PatDone, BeforeParams, ParamsDone}
 use Rattle.infer_expr.specs.Under as under
 use Rattle.infer_expr.proofs.AtEach.{follows_itself, follows_twice, closes_before, walking_after}
-use Rattle.infer_expr.proofs.FineTypes.{written_fine, carried_closed}
+use Rattle.infer_expr.proofs.OverTypes.{carried_closed}
+use Rattle.infer_expr.proofs.Written.{written_fine}
 use Rattle.infer_expr.proofs.Params.{ParamsLoop, params_start, param_before, param_next, params_end}
 
 -- the first i parameters have their written types, and the others and the root lie ahead
 pub record ParamsWalk (g : Given) (s : Schedule) (i : ℕ) (mid c : InferenceContext) : Type 0 where
-  pub follows : Follows g.body mid c
+  pub follows : Follows g mid c
   pub each : (a : Assignment) → Closes a c → ParamsLoop g s i (found_under a mid) (found_under a c)
 
 pub begins_params : (g : Given) (s : Schedule) (c : InferenceContext) → BeforeParams g s c → ParamsWalk g s 0 c c
 begins_params g s c h = record {
-  follows = follows_itself g.body c h.state.of_body h.state.sound;
+  follows = follows_itself g c h.state.of_body h.state.sound;
   each = λ a k. params_start g s (found_under a c) (record { ready = h.ready; count = h.count; state = h.state.each a k; ahead = h.ahead });
 }
 
@@ -36,17 +36,17 @@ module _ (g : Given) (s : Schedule) (i : ℕ) (mid c : InferenceContext) (h : Pa
     input_at : slice_get g.inputs i ≡ Some w
     input_at = slice_get_read g.inputs _ i w refl (omega (arith, k, b.count)) at
 
-    pub param_written : IsWritten g.types w
+    pub param_written : IsWritten g.scope w
     param_written = b.ready.written.inputs i w input_at
 
     module _ (p : PatId) (is : p ≡ get_or g.body.params i p) where
-      param_under : (a : Assignment) → Closes a c → under.BeforePat g s p (Some (written_type g.types w)) (found_under a c)
-      param_under a l = param_before g s i (found_under a mid) (found_under a c) (h.each a l) b.ready p is k (written_type g.types w) (w, input_at, refl) param_written.carried
+      param_under : (a : Assignment) → Closes a c → under.BeforePat g s p (Some (written_type g.scope.facts.types w)) (found_under a c)
+      param_under a l = param_before g s i (found_under a mid) (found_under a c) (h.each a l) b.ready p is k (written_type g.scope.facts.types w) (w, input_at, refl) param_written.carried
 
-      written_closed : (a : Assignment) → folded a (written_type g.types w) ≡ written_type g.types w
-      written_closed a = carried_closed a (written_type g.types w) param_written.carried
+      written_closed : (a : Assignment) → folded a (written_type g.scope.facts.types w) ≡ written_type g.scope.facts.types w
+      written_closed a = carried_closed a (written_type g.scope.facts.types w) param_written.carried
 
-      pub comes_to_param : BeforePat g s p (Some (written_type g.types w)) c
+      pub comes_to_param : BeforePat g s p (Some (written_type g.scope.facts.types w)) c
       comes_to_param =
           let q = h.follows.sound.some in
           let here = param_under q.0 q.1 in
@@ -55,16 +55,16 @@ module _ (g : Given) (s : Schedule) (i : ℕ) (mid c : InferenceContext) (h : Pa
             state = walking;
             within = here.within;
             here = here.here;
-            fine = written_fine c.table g.types w param_written;
+            fine = written_fine g.scope c.table w param_written;
             incoming = λ a l t e. (param_under a l).incoming t (ap (λ u. Some u) (sym (written_closed a)) ∙ e);
           }
 
-      pub goes_past_param : (next : InferenceContext) → PatDone g s p (Some (written_type g.types w)) c next → ParamsWalk g s (i + 1) mid next
+      pub goes_past_param : (next : InferenceContext) → PatDone g s p (Some (written_type g.scope.facts.types w)) c next → ParamsWalk g s (i + 1) mid next
       goes_past_param next d = record {
-        follows = follows_twice g.body mid c next h.follows d.follows;
+        follows = follows_twice g mid c next h.follows d.follows;
         each = λ a q.
-            let l : Closes a c = closes_before g.body a c next d.follows q in
-            param_next g s i (found_under a mid) (found_under a c) (h.each a l) b.ready p is k (written_type g.types w) (found_under a next) (w, input_at, refl)
+            let l : Closes a c = closes_before g a c next d.follows q in
+            param_next g s i (found_under a mid) (found_under a c) (h.each a l) b.ready p is k (written_type g.scope.facts.types w) (found_under a next) (w, input_at, refl)
             (subst (λ u. under.PatDone g s p (Some u) (found_under a c) (found_under a next)) (written_closed a) (d.each a q));
       }
 

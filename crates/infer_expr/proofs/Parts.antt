@@ -93,7 +93,7 @@ expr_ahead b s e x from law h is at =
       subst (λ k. after b s k (expr_parts x) ≡ expr_end b s e) (sym at) (subst (λ ps. after b s (expr_start b s e + 1) ps ≡ expr_end b s e) p (law.ends n h)),
     )
 
-pub expr_before : (g : Given) (s : Schedule) (n : Node) (role : Role) (e : ExprId) (ps : List Part) (x : Option Ty) (c : Found) → IsReady g s → IsWalked g.body s c → LieAhead g.body s n c.clock (expr_part role e ∷ ps) → IsCarriedExpectation x → Before g s e x c
+pub expr_before : (g : Given) (s : Schedule) (n : Node) (role : Role) (e : ExprId) (ps : List Part) (x : Option Ty) (c : Found) → IsReady g s → IsWalked g s c → LieAhead g.body s n c.clock (expr_part role e ∷ ps) → IsCarriedExpectation x → Before g s e x c
 expr_before g s n role e ps x c ready state ahead carried = record {
   ready = ready;
   state = state;
@@ -111,7 +111,7 @@ pat_ahead b s p x from law h is at =
       subst (λ k. after b s k (pat_parts x) ≡ pat_end b s p) (sym at) (subst (λ ps. after b s (pat_start b s p + 1) ps ≡ pat_end b s p) q (law.ends n h)),
     )
 
-pub pat_before : (g : Given) (s : Schedule) (n : Node) (role : Role) (p : PatId) (ps : List Part) (x : Option Ty) (c : Found) → IsReady g s → IsWalked g.body s c → LieAhead g.body s n c.clock (pat_part role p ∷ ps) → IsCarriedExpectation x → ((t : Ty) → x ≡ Some t → Gives g c.result n role t) → BeforePat g s p x c
+pub pat_before : (g : Given) (s : Schedule) (n : Node) (role : Role) (p : PatId) (ps : List Part) (x : Option Ty) (c : Found) → IsReady g s → IsWalked g s c → LieAhead g.body s n c.clock (pat_part role p ∷ ps) → IsCarriedExpectation x → ((t : Ty) → x ≡ Some t → Gives g c.result n role t) → BeforePat g s p x c
 pat_before g s n role p ps x c ready state ahead carried gives = record {
   ready = ready;
   state = state;

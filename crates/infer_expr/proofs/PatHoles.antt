@@ -9,17 +9,18 @@ use Rattle.hir_types.specs.Folding.{replaced_tuple}
 use Rattle.hir_types.specs.Subst.{Assignment, folded, with_holes}
 use Rattle.hir_types.specs.Terms.{Term, term, terms_of}
 use Rattle.hir_types.specs.TermLaws.{term_folded}
-use Rattle.hir_facts.specs.declared.raw.RawBody.{RawBody}
+use Rattle.hir_facts.specs.Scope.{Scope}
 use Rattle.hir_facts.specs.CarriedTypes.{IsCarriedType, AreCarriedTypes, carried_tuple}
 use Rattle.infer_table.specs.Completion.{completion}
 use Rattle.infer_table.specs.HoleLaws.{grew_by_hole, grew_twice}
-use Rattle.infer_table.specs.Preserved.{HasOnly, has_only_resolved, has_only_within, unified_same, refused_apart, binds_only_unified}
+use Rattle.infer_table.specs.Preserved.{whole, IsMadeOf, made_of_resolved, made_of_within, unified_same, refused_apart, binds_only_unified}
 use Rattle.infer_table.specs.Resolution.{resolution, resolution_term}
 use Rattle.infer_table.specs.Solutions.{Respects, log_of, resolved}
 use Rattle.infer_table.specs.Table.{State, Grew, Meets, AreUnified, AreRefused, HolesAreOf, bindings, resolved_type, with_new_hole, hole_count}
 use Rattle.infer_table.specs.UndoLaws.{grew_itself}
 use Rattle.infer_result.specs.Closed.{IsOfBody}
 use Rattle.infer_result.specs.Table.{mismatch}
+use Rattle.infer_result.specs.Places.{Given}
 use Rattle.infer_expr.specs.declared.context.InferenceContext.{InferenceContext}
 use Rattle.infer_expr.specs.Context.{with_pat_ty, with_pat_mismatch}
 use Rattle.infer_expr.specs.Closings.{IsClosing, Closes, found_under, expected_under, IsSound}
@@ -28,13 +29,14 @@ use Rattle.infer_expr.specs.Found as found
 use Rattle.infer_expr.specs.Steps.{Follows, IsGivenOrNew, ArePartTypes, TupleDemanded}
 use Rattle.infer_expr.specs.Under as under
 use Rattle.infer_expr.proofs.Closed.{closes_same, pat_ty_under, pat_mismatch_under, of_body_pat_ty, of_body_pat_mismatch, sound_pat_ty, sound_pat_mismatch}
-use Rattle.infer_expr.proofs.FineTypes.{AllFine, fine_tuple, fine_hole, fine_grown, fine_closed, table_fine_grown, same_closed, apart_closed, closing_respects, fine_no_alias}
+use Rattle.infer_expr.proofs.FineTypes.{AllFine, fine_tuple, fine_hole, fine_grown, table_fine_grown, fine_no_alias}
+use Rattle.infer_expr.proofs.OverTypes.{fine_closed, same_closed, apart_closed, closing_respects}
 use Rattle.infer_expr.proofs.Holes.{holed, holed_sound}
-use Rattle.infer_expr.proofs.Unified.{with_table, completion_closing}
+use Rattle.infer_expr.proofs.Unified.{with_table, bound_heads, completion_closing}
 
 -- ---- new holes
 
-pub given_one : (c : InferenceContext) (t : Ty) → IsSound c → IsFine c.table t → IsGivenOrNew (Some t) t c c
+pub given_one : {sc : Scope} (c : InferenceContext) (t : Ty) → IsSound sc c → IsFine sc c.table t → IsGivenOrNew sc (Some t) t c c
 given_one c t s h = record {
   result = refl;
   clock = refl;
@@ -45,20 +47,20 @@ given_one c t s h = record {
   new_hole = λ e. absurd (cc);
 }
 
-pub new_one : (c : InferenceContext) → IsSound c → IsGivenOrNew None (ty.Var (hole_count c.table)) c (holed c kind.Ty)
+pub new_one : {sc : Scope} (c : InferenceContext) → IsSound sc c → IsGivenOrNew sc None (ty.Var (hole_count c.table)) c (holed c kind.Ty)
 new_one c s = record {
   result = refl;
   clock = refl;
   grew = grew_by_hole c.table (with_new_hole c.table kind.Ty) kind.Ty refl;
   sound = holed_sound c kind.Ty s;
-  fine = fine_hole c.table;
+  fine = fine_hole _ c.table;
   given = λ u e. absurd (cc);
   new_hole = λ e. refl;
 }
 
 -- each type of the list is fine
-abbrev pub FineEach : State → List Ty → Type 0
-FineEach state ts = (i : ℕ) (t : Ty) → slice_get ts i ≡ Some t → IsFine state t
+abbrev pub FineEach : Scope → State → List Ty → Type 0
+FineEach sc state ts = (i : ℕ) (t : Ty) → slice_get ts i ≡ Some t → IsFine sc state t
 
 push_cases : (ts : List Ty) (t : Ty) (i : ℕ) (u : Ty) → slice_get (ts ++ t ∷ []) i ≡ Some u → (slice_get ts i ≡ Some u) ⊎ (t ≡ u)
 push_cases [] t zero u e = (let k : t ≡ u = cc in inr k)
@@ -66,7 +68,7 @@ push_cases [] t (suc i) u e = absurd (cc)
 push_cases (v ∷ ts) t zero u e = inl e
 push_cases (v ∷ ts) t (suc i) u e = push_cases ts t i u e
 
-pub no_part_yet : (c : InferenceContext) → IsSound c → ArePartTypes 0 [] c c
+pub no_part_yet : {sc : Scope} (c : InferenceContext) → IsSound sc c → ArePartTypes sc 0 [] c c
 no_part_yet c s = record {
   result = refl;
   clock = refl;
@@ -76,8 +78,8 @@ no_part_yet c s = record {
   fine = λ i t e. absurd (cc);
 }
 
-pub one_part_more : (n : ℕ) (ts : List Ty) (x : Option Ty) (t : Ty) (old c new : InferenceContext) → ArePartTypes n ts old c → IsGivenOrNew x t c new → ArePartTypes (n + 1) (ts ++ t ∷ []) old new
-one_part_more n ts x t old c new h d = record {
+pub one_part_more : {sc : Scope} (n : ℕ) (ts : List Ty) (x : Option Ty) (t : Ty) (old c new : InferenceContext) → ArePartTypes sc n ts old c → IsGivenOrNew sc x t c new → ArePartTypes sc (n + 1) (ts ++ t ∷ []) old new
+one_part_more {sc} n ts x t old c new h d = record {
   result = d.result ∙ h.result;
   clock = d.clock ∙ h.clock;
   grew = grew_twice old.table c.table new.table h.grew d.grew;
@@ -85,59 +87,59 @@ one_part_more n ts x t old c new h d = record {
   count_is = simp length-append (omega (arith, h.count_is));
   fine = λ i u e.
       elim (push_cases ts t i u e) [
-        | inl q ↦ fine_grown c.table new.table u d.grew (h.fine i u q)
-        | inr q ↦ subst (λ v. IsFine new.table v) q d.fine
+        | inl q ↦ fine_grown _ c.table new.table u d.grew (h.fine i u q)
+        | inr q ↦ subst (λ v. IsFine sc new.table v) q d.fine
       ];
 }
 
 -- ---- what is known of a type
 
 -- what a type resolves to is fine where the type is
-pub resolved_fine : (c : InferenceContext) (t u : Ty) → IsSound c → IsFine c.table t → HolesAreOf c.table u → resolved_type c.table u ≡ resolved_type c.table t → IsFine c.table u
-resolved_fine c t u s h holes same =
+pub resolved_fine : {sc : Scope} (c : InferenceContext) (t u : Ty) → IsSound sc c → IsFine sc c.table t → HolesAreOf c.table u → resolved_type c.table u ≡ resolved_type c.table t → IsFine sc c.table u
+resolved_fine {sc} c t u s h holes same =
     let bs = bindings c.table in
-    let P : Term → Type 0 = HasOnly is_fine_head in
-    let put_in : P (resolved (log_of bs) (term t)) = has_only_resolved is_fine_head (log_of bs) (term t) s.bound h.heads in
+    let P : Term → Type 0 = IsMadeOf (is_fine_head sc) whole in
+    let put_in : P (resolved (log_of bs) (term t)) = made_of_resolved (is_fine_head sc) (log_of bs) (term t) s.bound h.heads in
     let known : P (term (folded (resolution bs) t)) = subst P (sym (resolution_term bs t)) put_in in
     let alike : P (term (folded (resolution bs) u)) = subst P (ap term (sym same)) known in
     record {
       holes = holes;
-      heads = has_only_within is_fine_head (terms_of (resolution bs)) (term u) (subst P (term_folded (resolution bs) u) alike);
+      heads = made_of_within (is_fine_head sc) (terms_of (resolution bs)) whole (term u) (fine_no_alias sc).no_mark (bound_heads sc c.table s.bound) (subst P (term_folded (resolution bs) u) alike);
     }
 
 -- ---- tuples of fine types
 
-all_fine : (state : State) (ts : List Ty) → FineEach state ts → AllFine state ts
-all_fine state [] h = tt
-all_fine state (t ∷ ts) h = (h 0 t refl, all_fine state ts (λ i u e. h (suc i) u e))
+pub all_fine : (sc : Scope) (state : State) (ts : List Ty) → FineEach sc state ts → AllFine sc state ts
+all_fine sc state [] h = tt
+all_fine sc state (t ∷ ts) h = (h 0 t refl, all_fine sc state ts (λ i u e. h (suc i) u e))
 
-pub fine_tuple_of : (state : State) (ts : List Ty) → FineEach state ts → IsFine state (ty.Tuple ts)
-fine_tuple_of state ts h = fine_tuple state ts (all_fine state ts h)
+pub fine_tuple_of : (sc : Scope) (state : State) (ts : List Ty) → FineEach sc state ts → IsFine sc state (ty.Tuple ts)
+fine_tuple_of sc state ts h = fine_tuple sc state ts (all_fine sc state ts h)
 
-pub fine_each_grown : (s t : State) (ts : List Ty) → Grew s t → FineEach s ts → FineEach t ts
-fine_each_grown s t ts g h = λ i u e. fine_grown s t u g (h i u e)
+pub fine_each_grown : (sc : Scope) (s t : State) (ts : List Ty) → Grew s t → FineEach sc s ts → FineEach sc t ts
+fine_each_grown sc s t ts g h = λ i u e. fine_grown sc s t u g (h i u e)
 
 pub tuple_under : (a : Assignment) (ts : List Ty) → folded a (ty.Tuple ts) ≡ ty.Tuple (map (folded a) ts)
 tuple_under a ts = replaced_tuple (with_holes a) ts
 
-pub carried_each : (a : Assignment) (state : State) (ts : List Ty) → IsClosing a → FineEach state ts → AreCarriedTypes (map (folded a) ts)
-carried_each a state ts k h =
-    let tuple : IsCarriedType (ty.Tuple (map (folded a) ts)) = subst (λ t. IsCarriedType t) (tuple_under a ts) (fine_closed a (ty.Tuple ts) k (fine_tuple_of state ts h).heads) in
+pub carried_each : (sc : Scope) (a : Assignment) (state : State) (ts : List Ty) → IsClosing a → FineEach sc state ts → AreCarriedTypes (map (folded a) ts)
+carried_each sc a state ts k h =
+    let tuple : IsCarriedType (ty.Tuple (map (folded a) ts)) = subst (λ t. IsCarriedType t) (tuple_under a ts) (fine_closed sc a (ty.Tuple ts) k (fine_tuple_of sc state ts h).heads) in
     sym (carried_tuple (map (folded a) ts)) ∙ tuple
 
 -- ---- what comes in
 
-module _ (b : RawBody) (p : PatId) (ts : List Ty) (c : InferenceContext) (h : IsOfBody b c.result) (s : IsSound c) (fine : FineEach c.table ts) where
+module _ (g : Given) (p : PatId) (ts : List Ty) (c : InferenceContext) (h : IsOfBody g.body c.result) (s : IsSound g.scope c) (fine : FineEach g.scope c.table ts) where
   abbrev own : Ty
   own = ty.Tuple ts
 
   -- the record of the tuple, after what is asked
-  recorded : (x : Option Ty) (mid : InferenceContext) → Follows b c mid → mid.clock ≡ c.clock → IsFine mid.table own → ((a : Assignment) → Closes a mid → under.IsDemanded p (ty.Tuple (map (folded a) ts)) (expected_under a x) (found_under a c) (found_under a mid)) → TupleDemanded b p ts x c (with_pat_ty mid p own)
+  recorded : (x : Option Ty) (mid : InferenceContext) → Follows g c mid → mid.clock ≡ c.clock → IsFine g.scope mid.table own → ((a : Assignment) → Closes a mid → under.IsDemanded p (ty.Tuple (map (folded a) ts)) (expected_under a x) (found_under a c) (found_under a mid)) → TupleDemanded g p ts x c (with_pat_ty mid p own)
   recorded x mid f clock k asked = record {
     follows = record {
       clock = f.clock;
       grew = f.grew;
-      of_body = of_body_pat_ty b mid f.of_body p own;
+      of_body = of_body_pat_ty g.body mid f.of_body p own;
       sound = sound_pat_ty mid f.sound p own k;
     };
     clock = clock;
@@ -148,41 +150,41 @@ module _ (b : RawBody) (p : PatId) (ts : List Ty) (c : InferenceContext) (h : Is
     };
   }
 
-  pub demanded_nothing : TupleDemanded b p ts None c (with_pat_ty c p own)
+  pub demanded_nothing : TupleDemanded g p ts None c (with_pat_ty c p own)
   demanded_nothing =
-      recorded None c (record { clock = omega arith; grew = grew_itself c.table; of_body = h; sound = s }) refl (fine_tuple_of c.table ts fine) (λ a q. refl)
+      recorded None c (record { clock = omega arith; grew = grew_itself c.table; of_body = h; sound = s }) refl (fine_tuple_of g.scope c.table ts fine) (λ a q. refl)
 
-  module _ (u : Ty) (fu : IsFine c.table u) where
-    pub demanded_unified : (after : State) → AreUnified c.table after u own → Meets (terms_of (completion after)) after → Respects (terms_of (completion after)) → TupleDemanded b p ts (Some u) c (with_pat_ty (with_table c after) p own)
+  module _ (u : Ty) (fu : IsFine g.scope c.table u) where
+    pub demanded_unified : (after : State) → AreUnified c.table after u own → Meets (terms_of (completion after)) after → Respects (terms_of (completion after)) → TupleDemanded g p ts (Some u) c (with_pat_ty (with_table c after) p own)
     demanded_unified after k m r =
-        let fo : IsFine c.table own = fine_tuple_of c.table ts fine in
-        let bound = binds_only_unified is_fine_head fine_no_alias head.Bool refl c.table after u own k (terms_of (completion after)) m s.bound fu.heads fo.heads in
+        let fo : IsFine g.scope c.table own = fine_tuple_of g.scope c.table ts fine in
+        let bound = binds_only_unified (is_fine_head g.scope) (fine_no_alias g.scope) head.Bool refl c.table after u own k (terms_of (completion after)) m s.bound fu.heads fo.heads in
         recorded (Some u) (with_table c after) (record {
           clock = omega arith;
           grew = k.grown;
           of_body = h;
           sound = record {
-            fine = table_fine_grown c.table after c.result k.grown s.fine;
+            fine = table_fine_grown g.scope c.table after c.result k.grown s.fine;
             bound = bound;
-            some = (completion after, record { closing = completion_closing after bound r; meets = m });
+            some = (completion after, record { closing = completion_closing g.scope after bound r; meets = m });
           };
-        }) refl (fine_grown c.table after own k.grown fo) (λ a q. inl (
-          same_closed a u own q.closing fu.heads fo.heads (unified_same is_fine_head c.table after u own fine_no_alias s.bound fu.heads fo.heads k (terms_of a) q.meets) ∙ tuple_under a ts,
+        }) refl (fine_grown g.scope c.table after own k.grown fo) (λ a q. inl (
+          same_closed g.scope a u own q.closing fu.heads fo.heads (unified_same (is_fine_head g.scope) c.table after u own (fine_no_alias g.scope) s.bound fu.heads fo.heads k (terms_of a) q.meets) ∙ tuple_under a ts,
           refl,
         ))
 
-    pub demanded_refused : (after : State) → AreRefused c.table after u own → TupleDemanded b p ts (Some u) c (with_pat_ty (with_pat_mismatch (with_table c after) p (mismatch u own)) p own)
+    pub demanded_refused : (after : State) → AreRefused c.table after u own → TupleDemanded g p ts (Some u) c (with_pat_ty (with_pat_mismatch (with_table c after) p (mismatch u own)) p own)
     demanded_refused after k =
-        let fo : IsFine c.table own = fine_tuple_of c.table ts fine in
-        let P : State → Type 0 = λ state. TupleDemanded b p ts (Some u) c (with_pat_ty (with_pat_mismatch (with_table c state) p (mismatch u own)) p own) in
+        let fo : IsFine g.scope c.table own = fine_tuple_of g.scope c.table ts fine in
+        let P : State → Type 0 = λ state. TupleDemanded g p ts (Some u) c (with_pat_ty (with_pat_mismatch (with_table c state) p (mismatch u own)) p own) in
         subst P (sym k.unchanged) (
         recorded (Some u) (with_pat_mismatch c p (mismatch u own)) (record {
           clock = omega arith;
           grew = grew_itself c.table;
-          of_body = of_body_pat_mismatch b c h p (mismatch u own);
+          of_body = of_body_pat_mismatch g.body c h p (mismatch u own);
           sound = sound_pat_mismatch c s p (mismatch u own) fu fo;
         }) refl fo (λ a q. inr (
-          λ same. refused_apart is_fine_head c.table u own fine_no_alias s.bound fu.heads fo.heads k.impossible (terms_of a) (closing_respects a q.closing) q.meets (apart_closed a u own (same ∙ sym (tuple_under a ts))),
+          λ same. refused_apart (is_fine_head g.scope) c.table u own (fine_no_alias g.scope) s.bound fu.heads fo.heads k.impossible (terms_of a) (closing_respects a q.closing) q.meets (apart_closed a u own (same ∙ sym (tuple_under a ts))),
           pat_mismatch_under a c p (mismatch u own) ∙ ap (λ t. found.with_pat_mismatch (found_under a c) p (mismatch (folded a u) t)) (tuple_under a ts),
         ))
         )

@@ -22,13 +22,15 @@ use Rattle.infer_result.specs.Places.{Given, Demand}
 use Rattle.infer_result.specs.Rules.Expressions.{ObeysOrMismatch}
 use Rattle.infer_result.specs.Rules.Patterns.{PatRule}
 use Rattle.infer_result.specs.Truth.Mismatch.{IsTruePatMismatch}
+use Rattle.infer_result.specs.Truth.Calls.{IsTrueDiagnostic}
+use Rattle.infer_result.specs.declared.diagnostics.InferenceDiagnostic.{InferenceDiagnostic}
 use Rattle.infer_result.specs.Made.{IsMisfit}
 use Rattle.infer_expr.specs.Found.{Found, noted, entered}
 use Rattle.infer_expr.specs.Walks.{Walks, IsWalked, IsFree, IsCarriedTable, Extends, Nothing, expr_start, pat_start}
 use Rattle.infer_expr.specs.Under.{IsReady, BeforePat}
 use Rattle.infer_expr.proofs.Lists.{lt_or_ge, same_or_not, slice_get-set_same, slice_get-set_other, At-set, At-set_cases, own_set, length-own_set, own_set-at, own_set-other, own_set-cases, noted-keeps, noted-cases, noted-some, length-noted}
 use Rattle.infer_expr.proofs.Parts.{pat_id, binding_id, one_pat, expr_is_no_pat, binds_within}
-use Rattle.infer_expr.proofs.Keeps.{extends_refl, extends_trans, obeys_kept, pat_kept, pat_truth_kept, misfit_kept, demand_kept}
+use Rattle.infer_expr.proofs.Keeps.{extends_refl, extends_trans, obeys_kept, pat_kept, pat_truth_kept, diagnostic_kept, misfit_kept, demand_kept}
 
 -- what binds a name is a binding pattern
 binder_by : (b : RawBody) (p : PatId) (v : BindingId) (x : Option RawPat) → slice_get b.pats p.0 ≡ x → option_and_then binding_of x ≡ Some v → IsBinder b p
@@ -42,18 +44,20 @@ binder_by b p v (Some (pat.Lit e)) is k = absurd (cc)
 binder_by b p v (Some pat.Other) is k = absurd (cc)
 
 -- The state of the walk at the clock n, but that what p binds may have no type yet.
-pub record IsOpen (b : RawBody) (s : Schedule) (p : PatId) (n : ℕ) (c : Found) : Type 0 where
-  pub of_body : IsOfBody b c.result
+pub record IsOpen (g : Given) (s : Schedule) (p : PatId) (n : ℕ) (c : Found) : Type 0 where
+  pub of_body : IsOfBody g.body c.result
   pub carried : IsCarriedTable c.result
-  pub modes : OnlyBindersHaveModes b c.result
-  pub free_exprs : (e : ExprId) → e.0 < length b.exprs → n ≤ expr_start b s e → IsFree c.result.type_of_expr e.0
-  pub free_pats : (q : PatId) → q.0 < length b.pats → n ≤ pat_start b s q → IsFree c.result.type_of_pat q.0
-  pub free_modes : (q : PatId) → q.0 < length b.pats → n ≤ pat_start b s q → IsFree c.result.binding_modes q.0
-  pub free_bindings : (q : PatId) (v : BindingId) → Binds b q v → n ≤ pat_start b s q → IsFree c.result.type_of_binding v.0
-  pub bound : (q : PatId) (v : BindingId) → Binds b q v → (q ≡ p → ⊥) → pat_start b s q < n → (t : Ty) × BindingTy c.result v t
+  pub modes : OnlyBindersHaveModes g.body c.result
+  pub free_exprs : (e : ExprId) → e.0 < length g.body.exprs → n ≤ expr_start g.body s e → IsFree c.result.type_of_expr e.0
+  pub free_pats : (q : PatId) → q.0 < length g.body.pats → n ≤ pat_start g.body s q → IsFree c.result.type_of_pat q.0
+  pub free_modes : (q : PatId) → q.0 < length g.body.pats → n ≤ pat_start g.body s q → IsFree c.result.binding_modes q.0
+  pub free_bindings : (q : PatId) (v : BindingId) → Binds g.body q v → n ≤ pat_start g.body s q → IsFree c.result.type_of_binding v.0
+  pub bound : (q : PatId) (v : BindingId) → Binds g.body q v → (q ≡ p → ⊥) → pat_start g.body s q < n → (t : Ty) × BindingTy c.result v t
+  pub diagnostics : (e : ExprId) (d : InferenceDiagnostic) → At c.result.expr_diagnostics e.0 d → IsTrueDiagnostic g c.result e d
 
-pub open_walked : (b : RawBody) (s : Schedule) (p : PatId) (c : Found) → IsWalked b s c → IsOpen b s p c.clock c
-open_walked b s p c h = record {
+pub open_walked : (g : Given) (s : Schedule) (p : PatId) (c : Found) → IsWalked g s c → IsOpen g s p c.clock c
+open_walked g s p c h = record {
+  diagnostics = h.diagnostics;
   of_body = h.of_body;
   carried = h.carried;
   modes = h.modes;
@@ -70,7 +74,7 @@ pub record Enters (g : Given) (s : Schedule) (p : PatId) (old c : Found) : Type 
   pub extends : Extends old.result c.result
   pub kept : (e : ExprId) → e.0 < length g.body.exprs → expr_start g.body s e < old.clock → slice_get c.result.type_of_expr e.0 ≡ slice_get old.result.type_of_expr e.0
   pub kept_pats : (q : PatId) → q.0 < length g.body.pats → pat_start g.body s q < old.clock → slice_get c.result.type_of_pat q.0 ≡ slice_get old.result.type_of_pat q.0
-  pub state : IsOpen g.body s p c.clock c
+  pub state : IsOpen g s p c.clock c
   pub made : (e : ExprId) → e.0 < length g.body.exprs → old.clock ≤ expr_start g.body s e → expr_start g.body s e < c.clock → ObeysOrMismatch g c.result e
   pub pats_made : (q : PatId) → q.0 < length g.body.pats → (q ≡ p → ⊥) → old.clock ≤ pat_start g.body s q → pat_start g.body s q < c.clock → PatRule g c.result q (slice_get g.body.pats q.0)
   pub truths : (e : ExprId) (m : TypeMismatch) → At c.result.expr_mismatches e.0 m → At old.result.expr_mismatches e.0 m ⊎ (IsMisfit g c.result e m × Demand g c.result e m.expected)
@@ -92,6 +96,7 @@ module _ (g : Given) (s : Schedule) (p : PatId) (x : Option Ty) (old : Found) (h
       of_body = h.state.of_body;
       carried = h.state.carried;
       modes = h.state.modes;
+      diagnostics = h.state.diagnostics;
       free_exprs = λ e i lo. h.state.free_exprs e i (omega arith);
       free_pats = λ q i lo. h.state.free_pats q i (omega arith);
       free_modes = λ q i lo. h.state.free_modes q i (omega arith);
@@ -109,11 +114,12 @@ module _ (g : Given) (s : Schedule) (p : PatId) (x : Option Ty) (old : Found) (h
   }
 
   -- where it binds nothing, nothing is amiss there
-  pub pat_entered : option_and_then binding_of (slice_get g.body.pats p.0) ≡ None → IsWalked g.body s (entered old)
+  pub pat_entered : option_and_then binding_of (slice_get g.body.pats p.0) ≡ None → IsWalked g s (entered old)
   pat_entered none = record {
     of_body = enters_now.state.of_body;
     carried = enters_now.state.carried;
     modes = enters_now.state.modes;
+    diagnostics = enters_now.state.diagnostics;
     free_exprs = enters_now.state.free_exprs;
     free_pats = enters_now.state.free_pats;
     free_modes = enters_now.state.free_modes;
@@ -137,7 +143,7 @@ module _ (g : Given) (s : Schedule) (p : PatId) (old mid : Found) (h : Enters g 
     extends = extends_trans old.result mid.result new.result h.extends w.extends;
     kept = λ e i lo. w.kept e i (omega (arith, h.clock)) ∙ h.kept e i lo;
     kept_pats = λ q i lo. w.kept_pats q i (omega (arith, h.clock)) ∙ h.kept_pats q i lo;
-    state = open_walked g.body s p new w.state;
+    state = open_walked g s p new w.state;
     made = λ e i lo hi.
         elim (lt_or_ge (expr_start g.body s e) mid.clock) [
           | inl l ↦ obeys_kept g mid.result new.result w.extends e (h.made e i lo l)
@@ -169,7 +175,7 @@ module _ (g : Given) (s : Schedule) (p : PatId) (old mid : Found) (h : Enters g 
   }
 
   -- the pattern is done once its rule holds
-  pub enters_done : IsWalked g.body s mid → PatRule g mid.result p (slice_get g.body.pats p.0) → Walks g s Nothing old mid
+  pub enters_done : IsWalked g s mid → PatRule g mid.result p (slice_get g.body.pats p.0) → Walks g s Nothing old mid
   enters_done state mine = record {
     clock = omega (arith, h.clock);
     extends = h.extends;
@@ -207,6 +213,7 @@ pub record IsBoundBy (old new : Found) (p : PatId) (t : Ty) (o : Option BindingI
   pub bindings : new.result.type_of_binding ≡ binding_set old.result.type_of_binding o t
   pub modes : new.result.binding_modes ≡ own_set old.result.binding_modes p.0 (mode_of o)
   pub mismatches : new.result.expr_mismatches ≡ old.result.expr_mismatches
+  pub diagnostics : new.result.expr_diagnostics ≡ old.result.expr_diagnostics
   pub pat_mismatches : new.result.pat_mismatches ≡ maybe_noted old.result.pat_mismatches p.0 y
   pub clock : new.clock ≡ old.clock
 
@@ -215,7 +222,7 @@ pub record IsRecordable (g : Given) (s : Schedule) (p : PatId) (t : Ty) (o : Opt
   pub ready : IsReady g s
   pub within : p.0 < length g.body.pats
   pub past : pat_start g.body s p < c.clock
-  pub state : IsOpen g.body s p c.clock c
+  pub state : IsOpen g s p c.clock c
   pub carried : IsCarriedType t
   pub carried_mismatch : (m : TypeMismatch) → y ≡ Some m → IsCarriedType m.expected × IsCarriedType m.actual
   pub binds : option_and_then binding_of (slice_get g.body.pats p.0) ≡ o
@@ -308,6 +315,7 @@ module _ (g : Given) (s : Schedule) (p : PatId) (t : Ty) (old new : Found) (o : 
     modes = λ q m i. rw w.modes (modes_kept o refl q m i);
     mismatches = λ e m i. rw w.mismatches i;
     pat_mismatches = λ q m i. rw w.pat_mismatches (mismatch_kept y q.0 m i);
+    diagnostics = λ e d i. rw w.diagnostics i;
   }
     where
       modes_kept : (z : Option BindingId) → o ≡ z → (q : PatId) (m : BindingMode) → HasMode old.result q m → At (own_set old.result.binding_modes p.0 (mode_of z)) q.0 m
@@ -350,6 +358,7 @@ module _ (g : Given) (s : Schedule) (p : PatId) (t : Ty) (old new : Found) (o : 
     bindings = ap (λ l. length l) w.bindings ∙ (binding_long o ∙ h.state.of_body.bindings);
     modes = ap (λ l. length l) w.modes ∙ (length-own_set old.result.binding_modes p.0 (mode_of o) ∙ h.state.of_body.modes);
     mismatches = rw w.mismatches h.state.of_body.mismatches;
+    diagnostics = rw w.diagnostics h.state.of_body.diagnostics;
     pat_mismatches = ap (λ l. length l) w.pat_mismatches ∙ (mismatch_long y ∙ h.state.of_body.pat_mismatches);
   }
 
@@ -375,11 +384,12 @@ module _ (g : Given) (s : Schedule) (p : PatId) (t : Ty) (old new : Found) (o : 
       own_binder (Some v) is k = binder_by g.body p v (slice_get g.body.pats p.0) refl (h.binds ∙ is)
 
   -- the walk is where it was
-  pub recorded_walked : IsWalked g.body s new
+  pub recorded_walked : IsWalked g s new
   recorded_walked = record {
     of_body = of_body;
     carried = carried;
     modes = new_modes;
+    diagnostics = λ e d i. diagnostic_kept g old.result new.result extends e d (h.state.diagnostics e d (rw w.diagnostics at i));
     free_exprs = λ e i lo. rw w.exprs (h.state.free_exprs e i (omega (arith, w.clock)));
     free_pats = λ q i lo.
         rw w.pats (slice_get-set_other old.result.type_of_pat p.0 q.0 (Some t) (other_number q lo) ∙ h.state.free_pats q i (omega (arith, w.clock)));
@@ -402,7 +412,7 @@ module _ (g : Given) (s : Schedule) (p : PatId) (t : Ty) (old new : Found) (o : 
     kept_pats = λ q i lo.
         let ne : q.0 ≢ p.0 = (λ is. (let same : pat_start g.body s q ≡ pat_start g.body s p = ap (λ z. pat_start g.body s z) (pat_id q p is) in omega (arith, same, here, lo))) in
         ap (λ l. slice_get l q.0) w.pats ∙ (slice_get-set_other old.result.type_of_pat p.0 q.0 (Some t) ne ∙ k.kept_pats q i lo);
-    state = open_walked g.body s p new recorded_walked;
+    state = open_walked g s p new recorded_walked;
     made = λ e i lo hi. obeys_kept g old.result new.result extends e (k.made e i lo (omega (arith, w.clock)));
     pats_made = λ q i other lo hi. pat_kept g old.result new.result extends q (slice_get g.body.pats q.0) (k.pats_made q i other lo (omega (arith, w.clock)));
     truths = λ e m i.

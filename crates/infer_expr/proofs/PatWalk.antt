@@ -24,7 +24,8 @@ use Rattle.infer_expr.specs.Under as under
 use Rattle.infer_expr.proofs.AtEach.{follows_itself, closes_before, before_pat_under}
 use Rattle.infer_expr.proofs.Closed.{closes_same, closes_earlier, pat_ty_under, bound_by_under, of_body_pat_ty, of_body_bound_by, sound_entered, sound_pat_ty, sound_bound_by}
 use Rattle.infer_expr.proofs.Expressions.{same_found}
-use Rattle.infer_expr.proofs.FineTypes.{fine_closed, fine_grown, fine_expectation_grown}
+use Rattle.infer_expr.proofs.FineTypes.{fine_grown, fine_expectation_grown}
+use Rattle.infer_expr.proofs.OverTypes.{fine_closed}
 use Rattle.infer_expr.proofs.Pats.{wild_done, bind_done, IsFitted, lit_before, lit_done}
 
 -- what comes in, under an assignment
@@ -34,7 +35,7 @@ given_under a (Some v) t h u e = (let k : folded a v ≡ u = cc in ap (folded a)
 
 -- ---- a name or nothing
 
-module _ (g : Given) (s : Schedule) (p : PatId) (x : Option Ty) (t : Ty) (old mid : InferenceContext) (h : BeforePat g s p x old) (d : IsGivenOrNew x t (context.entered old) mid) where
+module _ (g : Given) (s : Schedule) (p : PatId) (x : Option Ty) (t : Ty) (old mid : InferenceContext) (h : BeforePat g s p x old) (d : IsGivenOrNew g.scope x t (context.entered old) mid) where
   of_body : IsOfBody g.body mid.result
   of_body = subst (λ r. IsOfBody g.body r) (sym d.result) h.state.of_body
 
@@ -50,7 +51,7 @@ module _ (g : Given) (s : Schedule) (p : PatId) (x : Option Ty) (t : Ty) (old mi
     before = before_pat_under g s a old earlier p x h
 
     carried : IsCarriedType (folded a t)
-    carried = fine_closed a t q.closing d.fine.heads
+    carried = fine_closed g.scope a t q.closing d.fine.heads
 
   -- there is a place for the type of what it binds
   pub bind_within : (v : BindingId) (sub : Option PatId) → slice_get g.body.pats p.0 ≡ Some (pat.Bind v sub) → v.0 < length mid.result.type_of_binding
@@ -99,7 +100,7 @@ module _ (g : Given) (s : Schedule) (p : PatId) (x : Option Ty) (t : Ty) (old mi
 -- the literal has what is expected of it, where something is, or that it has not is noted there
 abbrev pub Fits : Given → ExprId → Ty → Option Ty → InferenceContext → InferenceContext → Type 0
 Fits g e t None old new = new ≡ old
-Fits g e t (Some u) old new = (yes : Bool) × IsCoercedIf yes g.body e t u old new
+Fits g e t (Some u) old new = (yes : Bool) × IsCoercedIf yes g e t u old new
 
 module _ (g : Given) (s : Schedule) (p : PatId) (e : ExprId) (x : Option Ty) (old : InferenceContext) (h : BeforePat g s p x old) (is : under.IsLitPatOf g.body p e) where
   pub comes_to_lit : Before g s e x (context.entered old)
@@ -122,12 +123,12 @@ module _ (g : Given) (s : Schedule) (p : PatId) (e : ExprId) (x : Option Ty) (ol
 
   module _ (t : Ty) (mid : InferenceContext) (d : OwnDone g s e x t (context.entered old) mid) where
     -- what comes in is fine where the literal is done
-    pub fine_still : (u : Ty) → x ≡ Some u → IsFine mid.table u
-    fine_still u i = subst (λ y. IsFineExpectation mid.table y) i (fine_expectation_grown old.table mid.table x d.follows.grew h.fine)
+    pub fine_still : (u : Ty) → x ≡ Some u → IsFine g.scope mid.table u
+    fine_still u i = subst (λ y. IsFineExpectation g.scope mid.table y) i (fine_expectation_grown g.scope old.table mid.table x d.follows.grew h.fine)
 
-    fits_follows : (y : Option Ty) (last : InferenceContext) → Fits g e t y mid last → Follows g.body mid last × (last.clock ≡ mid.clock)
+    fits_follows : (y : Option Ty) (last : InferenceContext) → Fits g e t y mid last → Follows g mid last × (last.clock ≡ mid.clock)
     fits_follows None last f =
-        subst (λ c. Follows g.body mid c × (c.clock ≡ mid.clock)) (sym f) (follows_itself g.body mid d.follows.of_body d.follows.sound, refl)
+        subst (λ c. Follows g mid c × (c.clock ≡ mid.clock)) (sym f) (follows_itself g mid d.follows.of_body d.follows.sound, refl)
     fits_follows (Some u) last f = (f.1.follows, f.1.clock)
 
     fits_under : (y : Option Ty) (last : InferenceContext) → Fits g e t y mid last → (a : Assignment) → Closes a last → IsFitted e (folded a t) (expected_under a y) (found_under a mid) (found_under a last)
@@ -143,11 +144,11 @@ module _ (g : Given) (s : Schedule) (p : PatId) (e : ExprId) (x : Option Ty) (ol
             clock = omega (arith, d.follows.clock, k.1);
             grew = grew_twice old.table mid.table last.table d.follows.grew k.0.grew;
             of_body = of_body_pat_ty g.body last k.0.of_body p t;
-            sound = sound_pat_ty last k.0.sound p t (fine_grown mid.table last.table t k.0.grew d.fine);
+            sound = sound_pat_ty last k.0.sound p t (fine_grown g.scope mid.table last.table t k.0.grew d.fine);
           };
           each = λ a q.
               let l : Closes a last = closes_same a new last refl q in
-              let m : Closes a mid = closes_before g.body a mid last k.0 l in
+              let m : Closes a mid = closes_before g a mid last k.0 l in
               let o : Closes a old = closes_earlier a old mid d.follows.grew m in
               subst (λ c. under.PatDone g s p (expected_under a x) (found_under a old) c) (sym (pat_ty_under a last p t))
               (lit_done g s p e (expected_under a x) (found_under a old) (before_pat_under g s a old o p x h) is (folded a t) (found_under a mid) (d.each a m) (found_under a last) (fits_under x last f a l));

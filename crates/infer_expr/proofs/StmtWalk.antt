@@ -17,25 +17,27 @@ use Rattle.infer_expr.specs.Steps.{Before, BeforePat, BeforeStmt, StmtDone, Coer
 use Rattle.infer_expr.specs.Under.{declared_type}
 use Rattle.infer_expr.specs.Under as under
 use Rattle.infer_expr.proofs.AtEach.{follows_twice, closes_before, walking_after, before_stmt_under}
-use Rattle.infer_expr.proofs.FineTypes.{written_fine, fine_unit, carried_closed}
+use Rattle.infer_expr.proofs.FineTypes.{fine_unit}
+use Rattle.infer_expr.proofs.OverTypes.{carried_closed}
+use Rattle.infer_expr.proofs.Written.{written_fine}
 use Rattle.infer_expr.proofs.Stmts.{init_done, let_pat, let_done, bare_let_pat, bare_let_done, statement_type, expr_stmt_done}
 use Rattle.infer_expr.proofs.Types.{carried_unit}
 
 -- ---- `let`
 
 -- the written type is one of the facts'
-pub let_written : (g : Given) (s : Schedule) (n : ExprId) (p : PatId) (o : Option TypeRefId) (w : TypeRefId) (init : Option ExprId) (old : InferenceContext) → o ≡ Some w → BeforeStmt g s n (stmt.Let p o init None) old → IsWritten g.types w
+pub let_written : (g : Given) (s : Schedule) (n : ExprId) (p : PatId) (o : Option TypeRefId) (w : TypeRefId) (init : Option ExprId) (old : InferenceContext) → o ≡ Some w → BeforeStmt g s n (stmt.Let p o init None) old → IsWritten g.scope w
 let_written g s n p o w init old is h =
     h.ready.written.lets n h.stands.0 p w init None (h.stands.1 ∙ ap (λ x. Some (stmt.Let p x init None)) is)
 
-declared_fine : (g : Given) (s : Schedule) (n : ExprId) (p : PatId) (w : Option TypeRefId) (init : Option ExprId) (old : InferenceContext) → BeforeStmt g s n (stmt.Let p w init None) old → (y : Option TypeRefId) → w ≡ y → IsFineExpectation old.table (declared_type g y)
+declared_fine : (g : Given) (s : Schedule) (n : ExprId) (p : PatId) (w : Option TypeRefId) (init : Option ExprId) (old : InferenceContext) → BeforeStmt g s n (stmt.Let p w init None) old → (y : Option TypeRefId) → w ≡ y → IsFineExpectation g.scope old.table (declared_type g y)
 declared_fine g s n p w init old h None is = tt
-declared_fine g s n p w init old h (Some y) is = written_fine old.table g.types y (let_written g s n p w y init old is h)
+declared_fine g s n p w init old h (Some y) is = written_fine g.scope old.table y (let_written g s n p w y init old is h)
 
 -- a written type has no holes
-pub declared_under : (a : Assignment) (g : Given) (w : Option TypeRefId) → ((y : TypeRefId) → w ≡ Some y → IsWritten g.types y) → expected_under a (declared_type g w) ≡ declared_type g w
+pub declared_under : (a : Assignment) (g : Given) (w : Option TypeRefId) → ((y : TypeRefId) → w ≡ Some y → IsWritten g.scope y) → expected_under a (declared_type g w) ≡ declared_type g w
 declared_under a g None h = refl
-declared_under a g (Some w) h = ap (λ t. Some t) (carried_closed a (written_type g.types w) (h w refl).carried)
+declared_under a g (Some w) h = ap (λ t. Some t) (carried_closed a (written_type g.scope.facts.types w) (h w refl).carried)
 
 module _ (g : Given) (s : Schedule) (n : ExprId) (p : PatId) (w : Option TypeRefId) (e : ExprId) (old : InferenceContext) (h : BeforeStmt g s n (stmt.Let p w (Some e) None) old) where
   pub comes_to_init : Before g s e (declared_type g w) old
@@ -52,14 +54,14 @@ module _ (g : Given) (s : Schedule) (n : ExprId) (p : PatId) (w : Option TypeRef
     follows = d.follows;
     fine = d.fine;
     each = λ a q.
-        let o : Closes a old = closes_before g.body a old new d.follows q in
+        let o : Closes a old = closes_before g a old new d.follows q in
         init_done g s n p w e (found_under a old) (before_stmt_under g s a old o n (stmt.Let p w (Some e) None) h) (folded a t) (found_under a new)
         (subst (λ x. under.CoerceDone g s e x (folded a t) (found_under a old) (found_under a new)) (declared_under a g w (λ y is. let_written g s n p w y (Some e) old is h)) (d.each a q));
   }
 
   pat_under : (t : Ty) (mid : InferenceContext) → InitDone g s w e t old mid → (a : Assignment) → Closes a mid → under.BeforePat g s p (Some (folded a t)) (found_under a mid)
   pat_under t mid d a k =
-      let o : Closes a old = closes_before g.body a old mid d.follows k in
+      let o : Closes a old = closes_before g a old mid d.follows k in
       let_pat g s n p w e (found_under a old) (before_stmt_under g s a old o n (stmt.Let p w (Some e) None) h) (folded a t) (found_under a mid) (d.each a k)
 
   pub comes_to_pat : (t : Ty) (mid : InferenceContext) → InitDone g s w e t old mid → BeforePat g s p (Some t) mid
@@ -77,10 +79,10 @@ module _ (g : Given) (s : Schedule) (n : ExprId) (p : PatId) (w : Option TypeRef
 
   pub let_walked : (t : Ty) (mid new : InferenceContext) → InitDone g s w e t old mid → PatDone g s p (Some t) mid new → StmtDone g s (stmt.Let p w (Some e) None) old new
   let_walked t mid new i d = record {
-    follows = follows_twice g.body old mid new i.follows d.follows;
+    follows = follows_twice g old mid new i.follows d.follows;
     each = λ a q.
-        let m : Closes a mid = closes_before g.body a mid new d.follows q in
-        let o : Closes a old = closes_before g.body a old mid i.follows m in
+        let m : Closes a mid = closes_before g a mid new d.follows q in
+        let o : Closes a old = closes_before g a old mid i.follows m in
         let_done g s n p w e (found_under a old) (before_stmt_under g s a old o n (stmt.Let p w (Some e) None) h) (folded a t) (found_under a mid) (found_under a new) (i.each a m) (d.each a q);
   }
 
@@ -101,7 +103,7 @@ module _ (g : Given) (s : Schedule) (n : ExprId) (p : PatId) (w : Option TypeRef
   bare_let_walked new d = record {
     follows = d.follows;
     each = λ a q.
-        let o : Closes a old = closes_before g.body a old new d.follows q in
+        let o : Closes a old = closes_before g a old new d.follows q in
         bare_let_done g s n p w (found_under a old) (before_stmt_under g s a old o n (stmt.Let p w None None) h) (found_under a new)
         (subst (λ x. under.PatDone g s p x (found_under a old) (found_under a new)) (declared_under a g w (λ y is. let_written g s n p w y None old is h)) (d.each a q));
   }
@@ -113,9 +115,9 @@ statement_under a true = refl
 statement_under a false = ap (λ t. Some t) (carried_closed a unit carried_unit)
 
 module _ (g : Given) (s : Schedule) (n : ExprId) (e : ExprId) (semicolon : Bool) (old : InferenceContext) (h : BeforeStmt g s n (stmt.Expr e semicolon) old) where
-  statement_fine : (b : Bool) → IsFineExpectation old.table (statement_type b)
+  statement_fine : (b : Bool) → IsFineExpectation g.scope old.table (statement_type b)
   statement_fine true = tt
-  statement_fine false = fine_unit old.table
+  statement_fine false = fine_unit g.scope old.table
 
   pub comes_to_expr : Before g s e (statement_type semicolon) old
   comes_to_expr = record {
@@ -130,7 +132,7 @@ module _ (g : Given) (s : Schedule) (n : ExprId) (e : ExprId) (semicolon : Bool)
   expr_walked t new d = record {
     follows = d.follows;
     each = λ a q.
-        let o : Closes a old = closes_before g.body a old new d.follows q in
+        let o : Closes a old = closes_before g a old new d.follows q in
         expr_stmt_done g s n e (found_under a old) semicolon (folded a t) (found_under a new) (before_stmt_under g s a old o n (stmt.Expr e semicolon) h)
         (subst (λ x. under.CoerceDone g s e x (folded a t) (found_under a old) (found_under a new)) (statement_under a semicolon) (d.each a q));
   }

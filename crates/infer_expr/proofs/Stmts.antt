@@ -34,7 +34,7 @@ part_demand g s n from role e ps r t h asks =
 -- ---- `let`
 
 module _ (g : Given) (s : Schedule) (n : ExprId) (p : PatId) (w : Option TypeRefId) (e : ExprId) (old : Found) (h : BeforeStmt g s n (stmt.Let p w (Some e) None) old) where
-  written : (y : TypeRefId) → w ≡ Some y → IsWritten g.types y
+  written : (y : TypeRefId) → w ≡ Some y → IsWritten g.scope y
   written y is = h.ready.written.lets n h.stands.0 p y (Some e) None (h.stands.1 ∙ ap (λ x. Some (stmt.Let p x (Some e) None)) is)
 
   pub init_before : Before g s e (declared_type g w) old
@@ -43,7 +43,7 @@ module _ (g : Given) (s : Schedule) (n : ExprId) (p : PatId) (w : Option TypeRef
 
   asked : (y : Option TypeRefId) (r : InferenceResult) (u : Ty) → declared_type g y ≡ Some u → AsksOf g r n (initializer y) u
   asked None r u i = absurd (cc)
-  asked (Some y) r u i = (let k : written_type g.types y ≡ u = cc in sym k)
+  asked (Some y) r u i = (let k : written_type g.scope.facts.types y ≡ u = cc in sym k)
 
   pub init_done : (t : Ty) (new : Found) → CoerceDone g s e (declared_type g w) t old new → InitDone g s w e t old new
   init_done t new d = record {
@@ -68,7 +68,7 @@ module _ (g : Given) (s : Schedule) (n : ExprId) (p : PatId) (w : Option TypeRef
   let_made : (y : Option TypeRefId) (t : Ty) (mid new : Found) → IsPlaced mid.result e (declared_type g y) t → PatDone g s p (Some t) mid new → LetRule (at_or_mismatch g new.result) g new.result p y (Some e)
   let_made None t mid new k d = (t, d.walks.extends.exprs e t k, d.placed)
   let_made (Some y) t mid new k d = (
-    at_kept g mid.result new.result d.walks.extends e (written_type g.types y) k.1,
+    at_kept g mid.result new.result d.walks.extends e (written_type g.scope.facts.types y) k.1,
     subst (λ u. PatIsAtOrMismatch g new.result p u) k.0 d.placed,
   )
 
@@ -81,7 +81,7 @@ module _ (g : Given) (s : Schedule) (n : ExprId) (p : PatId) (w : Option TypeRef
 
 -- without an initializer, the written type comes into the pattern, where there is one
 module _ (g : Given) (s : Schedule) (n : ExprId) (p : PatId) (w : Option TypeRefId) (old : Found) (h : BeforeStmt g s n (stmt.Let p w None None) old) where
-  bare_written : (y : TypeRefId) → w ≡ Some y → IsWritten g.types y
+  bare_written : (y : TypeRefId) → w ≡ Some y → IsWritten g.scope y
   bare_written y is = h.ready.written.lets n h.stands.0 p y None None (h.stands.1 ∙ ap (λ x. Some (stmt.Let p x None None)) is)
 
   pub bare_let_pat : BeforePat g s p (declared_type g w) old
@@ -91,7 +91,7 @@ module _ (g : Given) (s : Schedule) (n : ExprId) (p : PatId) (w : Option TypeRef
     where
       gives : (y : Option TypeRefId) (u : Ty) → declared_type g y ≡ Some u → Gives g old.result (inner (node.ExprId n)) (let_pattern y None) u
       gives None u i = absurd (cc)
-      gives (Some y) u i = (let k : written_type g.types y ≡ u = cc in sym k)
+      gives (Some y) u i = (let k : written_type g.scope.facts.types y ≡ u = cc in sym k)
 
   pub bare_let_done : (new : Found) → PatDone g s p (declared_type g w) old new → StmtDone g s (stmt.Let p w None None) old new
   bare_let_done new d = record {

@@ -26,22 +26,22 @@ pub record TuplePatBegun (g : Given) (s : Schedule) (p : PatId) (ps : List PatId
   pub before : BeforePat g s p x old
   pub is : under.IsTuplePatOf g.body p ps
   pub holed : InferenceContext
-  pub holes : ArePartTypes (length ps) ts (context.entered old) holed
-  pub demanded : TupleDemanded g.body p ts x holed mid
+  pub holes : ArePartTypes g.scope (length ps) ts (context.entered old) holed
+  pub demanded : TupleDemanded g p ts x holed mid
 
-pub tuple_pat_begun : (g : Given) (s : Schedule) (p : PatId) (ps : List PatId) (ts made : List Ty) (x : Option Ty) (old first holed mid : InferenceContext) → BeforePat g s p x old → under.IsTuplePatOf g.body p ps → first ≡ context.entered old → ts ≡ made → ArePartTypes (length ps) made first holed → TupleDemanded g.body p ts x holed mid → TuplePatBegun g s p ps ts x old mid
+pub tuple_pat_begun : (g : Given) (s : Schedule) (p : PatId) (ps : List PatId) (ts made : List Ty) (x : Option Ty) (old first holed mid : InferenceContext) → BeforePat g s p x old → under.IsTuplePatOf g.body p ps → first ≡ context.entered old → ts ≡ made → ArePartTypes g.scope (length ps) made first holed → TupleDemanded g p ts x holed mid → TuplePatBegun g s p ps ts x old mid
 tuple_pat_begun g s p ps ts made x old first holed mid h is at same holes demanded = record {
   before = h;
   is = is;
   holed = holed;
-  holes = subst (λ c. ArePartTypes (length ps) ts c holed) at (subst (λ us. ArePartTypes (length ps) us first holed) (sym same) holes);
+  holes = subst (λ c. ArePartTypes g.scope (length ps) ts c holed) at (subst (λ us. ArePartTypes g.scope (length ps) us first holed) (sym same) holes);
   demanded = demanded;
 }
 
 module _ (g : Given) (s : Schedule) (p : PatId) (ps : List PatId) (ts : List Ty) (x : Option Ty) (old mid : InferenceContext) (b : TuplePatBegun g s p ps ts x old mid) where
   module _ (a : Assignment) (k : Closes a mid) where
     at_holes : Closes a b.holed
-    at_holes = closes_before g.body a b.holed mid b.demanded.follows k
+    at_holes = closes_before g a b.holed mid b.demanded.follows k
 
     at_old : Closes a old
     at_old = closes_earlier a old b.holed b.holes.grew at_holes
@@ -50,7 +50,7 @@ module _ (g : Given) (s : Schedule) (p : PatId) (ps : List PatId) (ts : List Ty)
     begun_before = before_pat_under g s a old at_old p x b.before
 
     begun_carried : AreCarriedTypes (map (folded a) ts)
-    begun_carried = carried_each a b.holed.table ts k.closing b.holes.fine
+    begun_carried = carried_each g.scope a b.holed.table ts k.closing b.holes.fine
 
     begun_demands : Demands g s p (map (folded a) ts) (expected_under a x) (found_under a old) (found_under a mid)
     begun_demands =
@@ -58,17 +58,17 @@ module _ (g : Given) (s : Schedule) (p : PatId) (ps : List PatId) (ts : List Ty)
         tuple_demanded g s p ps (map (folded a) ts) (expected_under a x) (found_under a old) begun_before b.is begun_carried (found_under a mid)
         (subst (λ f. under.TupleDemanded p (map (folded a) ts) (expected_under a x) f (found_under a mid)) e (b.demanded.each a k))
 
-  begun_fine : FineEach mid.table ts
-  begun_fine = fine_each_grown b.holed.table mid.table ts b.demanded.follows.grew b.holes.fine
+  begun_fine : FineEach g.scope mid.table ts
+  begun_fine = fine_each_grown g.scope b.holed.table mid.table ts b.demanded.follows.grew b.holes.fine
 
 -- the first i parts of the pattern p are done, and the others lie ahead
 pub record TuplePatWalk (g : Given) (s : Schedule) (p : PatId) (ps : List PatId) (ts : List Ty) (i : ℕ) (mid c : InferenceContext) : Type 0 where
-  pub follows : Follows g.body mid c
+  pub follows : Follows g mid c
   pub each : (a : Assignment) → Closes a c → TuplePatLoop g s p ps (map (folded a) ts) i (found_under a mid) (found_under a c)
 
 pub begins_tuple_pat : (g : Given) (s : Schedule) (p : PatId) (ps : List PatId) (ts : List Ty) (x : Option Ty) (old mid : InferenceContext) → TuplePatBegun g s p ps ts x old mid → TuplePatWalk g s p ps ts 0 mid mid
 begins_tuple_pat g s p ps ts x old mid b = record {
-  follows = follows_itself g.body mid b.demanded.follows.of_body b.demanded.follows.sound;
+  follows = follows_itself g mid b.demanded.follows.of_body b.demanded.follows.sound;
   each = λ a k. tuple_pat_start g s p ps (map (folded a) ts) (expected_under a x) (found_under a old) (found_under a mid) (begun_before g s p ps ts x old mid b a k) b.is (begun_demands g s p ps ts x old mid b a k);
 }
 
@@ -79,7 +79,7 @@ module _ (g : Given) (s : Schedule) (p : PatId) (ps : List PatId) (ts : List Ty)
 
     part_under : (a : Assignment) → Closes a c → under.BeforePat g s q (Some (folded a t)) (found_under a c)
     part_under a l =
-        let m : Closes a mid = closes_before g.body a mid c h.follows l in
+        let m : Closes a mid = closes_before g a mid c h.follows l in
         tuple_pat_before g s p ps (map (folded a) ts) i (found_under a mid) (found_under a c) (h.each a l) q (folded a t) is (type_under a) k b.before.ready (begun_carried g s p ps ts x old mid b a m)
 
     pub comes_to_part : BeforePat g s q (Some t) c
@@ -91,15 +91,15 @@ module _ (g : Given) (s : Schedule) (p : PatId) (ps : List PatId) (ts : List Ty)
           state = walking_after g s mid c h.follows (λ a l. (h.each a l).walks.state);
           within = here.within;
           here = here.here;
-          fine = fine_each_grown mid.table c.table ts h.follows.grew (begun_fine g s p ps ts x old mid b) i t type_at;
+          fine = fine_each_grown g.scope mid.table c.table ts h.follows.grew (begun_fine g s p ps ts x old mid b) i t type_at;
           incoming = λ a l. (part_under a l).incoming;
         }
 
     pub goes_past_part : (next : InferenceContext) → PatDone g s q (Some t) c next → TuplePatWalk g s p ps ts (i + 1) mid next
     goes_past_part next d = record {
-      follows = follows_twice g.body mid c next h.follows d.follows;
+      follows = follows_twice g mid c next h.follows d.follows;
       each = λ a l.
-          let m : Closes a c = closes_before g.body a c next d.follows l in
+          let m : Closes a c = closes_before g a c next d.follows l in
           tuple_pat_next g s p ps (map (folded a) ts) i (found_under a mid) (found_under a c) (h.each a m) q (folded a t) is (type_under a) k (found_under a next) (d.each a l);
     }
 
@@ -107,12 +107,12 @@ module _ (g : Given) (s : Schedule) (p : PatId) (ps : List PatId) (ts : List Ty)
   ends_tuple_pat over = record {
     follows = record {
       clock = omega (arith, b.holes.clock, b.demanded.clock, h.follows.clock);
-      grew = grew_twice old.table b.holed.table c.table b.holes.grew (follows_twice g.body b.holed mid c b.demanded.follows h.follows).grew;
+      grew = grew_twice old.table b.holed.table c.table b.holes.grew (follows_twice g b.holed mid c b.demanded.follows h.follows).grew;
       of_body = h.follows.of_body;
       sound = h.follows.sound;
     };
     each = λ a l.
-        let m : Closes a mid = closes_before g.body a mid c h.follows l in
+        let m : Closes a mid = closes_before g a mid c h.follows l in
         let same : length (map (folded a) ts) ≡ length ps = length-map ts (folded a) ∙ b.holes.count_is in
         tuple_pat_done g s p ps (map (folded a) ts) i (found_under a mid) (found_under a c) (h.each a l) (expected_under a x) (found_under a old) (begun_demands g s p ps ts x old mid b a m) b.is same over;
   }

@@ -35,7 +35,7 @@ use Rattle.infer_expr.proofs.Types.{carried_at, carried_tuple_of}
 -- the pattern has the type of a tuple of ts, and nothing of its parts is done
 pub record Demands (g : Given) (s : Schedule) (p : PatId) (ts : List Ty) (x : Option Ty) (old c : Found) : Type 0 where
   pub enters : Enters g s p old c
-  pub state : IsWalked g.body s c
+  pub state : IsWalked g s c
   pub type_is : PatTy c.result p (ty.Tuple ts)
   pub clock : c.clock ≡ old.clock + 1
   pub placed : IsPatPlaced g c.result p x
@@ -63,7 +63,7 @@ module _ (g : Given) (s : Schedule) (p : PatId) (ps : List PatId) (ts : List Ty)
   fits same new e =
       let last : Found = with_pat_ty (entered old) p own in
       let r : IsRecordable g s p own None None (entered old) = recordable None (λ m i. absurd (cc)) in
-      let w : IsBoundBy (entered old) last p own None None = record { exprs = refl; pats = refl; bindings = refl; modes = refl; mismatches = refl; pat_mismatches = refl; clock = refl } in
+      let w : IsBoundBy (entered old) last p own None None = record { exprs = refl; pats = refl; bindings = refl; modes = refl; mismatches = refl; diagnostics = refl; pat_mismatches = refl; clock = refl } in
       let has : PatTy last.result p own = has_type g s p own (entered old) last None None r w in
       subst (λ c. Demands g s p ts x old c) (sym e) (record {
         enters = enters_recorded g s p own (entered old) last None None r w old h.here (λ m i. absurd (cc)) (enters_now g s p x old h);
@@ -86,7 +86,7 @@ module _ (g : Given) (s : Schedule) (p : PatId) (ps : List PatId) (ts : List Ty)
       let there : new ≡ last = e ∙ ap (λ c. with_pat_ty c p own) f in
       let tuple : IsCarriedType own = carried_tuple_of ts carried in
       let r : IsRecordable g s p own None y (entered old) = recordable y (λ m j. subst (λ (z : TypeMismatch). IsCarriedType z.expected × IsCarriedType z.actual) (one_mismatch (mismatch u own) m j) (k, tuple)) in
-      let w : IsBoundBy (entered old) last p own None y = record { exprs = refl; pats = refl; bindings = refl; modes = refl; mismatches = refl; pat_mismatches = refl; clock = refl } in
+      let w : IsBoundBy (entered old) last p own None y = record { exprs = refl; pats = refl; bindings = refl; modes = refl; mismatches = refl; diagnostics = refl; pat_mismatches = refl; clock = refl } in
       let has : PatTy last.result p own = has_type g s p own (entered old) last None y r w in
       let true : IsTruePatMismatch g last.result p (mismatch u own) = record {
         is_tuple = record { parts = ps; is_tuple = is };

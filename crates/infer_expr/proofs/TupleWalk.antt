@@ -19,13 +19,13 @@ use Rattle.infer_expr.proofs.Tuples.{TupleLoop, tuple_start, tuple_before, tuple
 
 -- the first i elements of the tuple n have the types ts, and the others lie ahead
 pub record TupleWalk (g : Given) (s : Schedule) (n : ExprId) (es : List ExprId) (i : ℕ) (ts : List Ty) (mid c : InferenceContext) : Type 0 where
-  pub follows : Follows g.body mid c
-  pub fine : AllFine c.table ts
+  pub follows : Follows g mid c
+  pub fine : AllFine g.scope c.table ts
   pub each : (a : Assignment) → Closes a c → TupleLoop g s n es i (map (folded a) ts) (found_under a mid) (found_under a c)
 
 pub begins_tuple : (g : Given) (s : Schedule) (n : ExprId) (es : List ExprId) (x : Option Ty) (c : InferenceContext) → Within g s n x c → under.IsTupleOf g.body n es → TupleWalk g s n es 0 [] c c
 begins_tuple g s n es x c h is = record {
-  follows = follows_itself g.body c h.state.of_body h.state.sound;
+  follows = follows_itself g c h.state.of_body h.state.sound;
   fine = tt;
   each = λ a k. tuple_start g s n es (expected_under a x) (found_under a c) (within_under g s a c k n x h) is;
 }
@@ -35,13 +35,13 @@ push_each a [] t = refl
 push_each a (u ∷ ts) t = ap (λ us. folded a u ∷ us) (push_each a ts t)
 
 module _ (g : Given) (s : Schedule) (n : ExprId) (es : List ExprId) (i : ℕ) (ts : List Ty) (mid c : InferenceContext) (h : TupleWalk g s n es i ts mid c) where
-  expected : (x : Option Ty) → Within g s n x mid → IsFineExpectation c.table (element_type x i)
-  expected x w = fine_element c.table x i (fine_expectation_grown mid.table c.table x h.follows.grew w.expected)
+  expected : (x : Option Ty) → Within g s n x mid → IsFineExpectation g.scope c.table (element_type x i)
+  expected x w = fine_element g.scope c.table x i (fine_expectation_grown g.scope mid.table c.table x h.follows.grew w.expected)
 
   pub comes_to_element : (x : Option Ty) → Within g s n x mid → (e : ExprId) → e ≡ get_or es i e → i < length es → Before g s e (element_type x i) c
   comes_to_element x w e is k =
       let q = h.follows.sound.some in
-      let here = tuple_before g s n es i (map (folded q.0) ts) (found_under q.0 mid) (found_under q.0 c) (h.each q.0 q.1) (expected_under q.0 (element_type x i)) (expected_carried q.0 c.table (element_type x i) q.1.closing (expected x w)) w.ready e is k in
+      let here = tuple_before g s n es i (map (folded q.0) ts) (found_under q.0 mid) (found_under q.0 c) (h.each q.0 q.1) (expected_under q.0 (element_type x i)) (expected_carried g.scope q.0 c.table (element_type x i) q.1.closing (expected x w)) w.ready e is k in
       record {
         ready = w.ready;
         state = walking_after g s mid c h.follows (λ a l. (h.each a l).walks.state);
@@ -52,20 +52,20 @@ module _ (g : Given) (s : Schedule) (n : ExprId) (es : List ExprId) (i : ℕ) (t
 
   pub goes_past_element : (x : Option Ty) → Within g s n x mid → (e : ExprId) (t : Ty) (next : InferenceContext) → e ≡ get_or es i e → i < length es → CoerceDone g s e (element_type x i) t c next → TupleWalk g s n es (i + 1) (ts ++ t ∷ []) mid next
   goes_past_element x w e t next is k d = record {
-    follows = follows_twice g.body mid c next h.follows d.follows;
-    fine = fine_push next.table ts t (all_fine_grown c.table next.table ts d.follows.grew h.fine) d.fine;
+    follows = follows_twice g mid c next h.follows d.follows;
+    fine = fine_push g.scope next.table ts t (all_fine_grown g.scope c.table next.table ts d.follows.grew h.fine) d.fine;
     each = λ a q.
-        let l : Closes a c = closes_before g.body a c next d.follows q in
+        let l : Closes a c = closes_before g a c next d.follows q in
         subst (λ us. TupleLoop g s n es (i + 1) us (found_under a mid) (found_under a next)) (sym (push_each a ts t))
-        (tuple_next g s n es i (map (folded a) ts) (found_under a mid) (found_under a c) (h.each a l) (expected_under a (element_type x i)) (expected_carried a c.table (element_type x i) l.closing (expected x w)) e (folded a t) (found_under a next) is k (d.each a q));
+        (tuple_next g s n es i (map (folded a) ts) (found_under a mid) (found_under a c) (h.each a l) (expected_under a (element_type x i)) (expected_carried g.scope a c.table (element_type x i) l.closing (expected x w)) e (folded a t) (found_under a next) is k (d.each a q));
   }
 
   pub ends_tuple : (x : Option Ty) → Within g s n x mid → under.IsTupleOf g.body n es → length es ≤ i → KindDone g s n x (ty.Tuple ts) mid c
   ends_tuple x w is over = record {
     follows = h.follows;
-    fine = fine_tuple c.table ts h.fine;
+    fine = fine_tuple g.scope c.table ts h.fine;
     each = λ a q.
-        let o : Closes a mid = closes_before g.body a mid c h.follows q in
+        let o : Closes a mid = closes_before g a mid c h.follows q in
         subst (λ t. under.KindDone g s n (expected_under a x) t (found_under a mid) (found_under a c)) (sym (replaced_tuple (with_holes a) ts))
         (tuple_done g s n es i (map (folded a) ts) (found_under a mid) (found_under a c) (h.each a q) (expected_under a x) (within_under g s a mid o n x w) is over);
   }

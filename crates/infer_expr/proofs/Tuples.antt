@@ -1,5 +1,5 @@
 -- The loop over the elements of a tuple.
-use Rattle.std.proofs.Common.{ℕ, zero, suc, ◌+◌, ◌<◌, ◌≤◌, ◌≡◌, inl, inr, List, [], ◌∷◌, ◌++◌, length, take, drop, get_or, refl, sym, ap, subst, ◌∙◌, arith, Option, Some, None, slice_get, length-append, append-nil}
+use Rattle.std.proofs.Common.{ℕ, zero, suc, ◌+◌, ◌<◌, ◌≤◌, ◌≡◌, inl, inr, List, [], ◌∷◌, ◌++◌, length, take, drop, get_or, refl, sym, ap, subst, ◌∙◌, arith, Option, Some, slice_get, length-append, append-nil}
 use Rattle.std.proofs.Math.ListN.{drop_of_length-le, take-append-drop}
 use Rattle.std.proofs.lemmas.List.{take_more}
 use Rattle.std.proofs.lemmas.Option.{slice_get_read}
@@ -49,7 +49,7 @@ tuple_start g s n es x c h is =
       count = refl;
     }
 
-all_push : (r : InferenceResult) (es : List ExprId) (ts : List Ty) (e : ExprId) (t : Ty) → AllAt (IsAtOrMismatch r) es ts → IsAtOrMismatch r e t → AllAt (IsAtOrMismatch r) (es ++ e ∷ []) (ts ++ t ∷ [])
+pub all_push : (r : InferenceResult) (es : List ExprId) (ts : List Ty) (e : ExprId) (t : Ty) → AllAt (IsAtOrMismatch r) es ts → IsAtOrMismatch r e t → AllAt (IsAtOrMismatch r) (es ++ e ∷ []) (ts ++ t ∷ [])
 all_push r [] [] e t h k = (k, tt)
 all_push r [] (u ∷ ts) e t h k = absurd h
 all_push r (n ∷ es) [] e t h k = absurd h

@@ -6,14 +6,11 @@ use Rattle.hir_types.specs.declared.ids.TypeRefId.{TypeRefId}
 use Rattle.hir_types.specs.declared.ty.Ty.{Ty}
 use Rattle.hir_types.specs.declared.ty.Ty.TheVariants as ty
 use Rattle.hir_types.specs.Types.{unit}
-use Rattle.hir_facts.specs.declared.raw.RawFacts.{RawFacts}
 use Rattle.hir_facts.specs.declared.raw.RawLiteral.{RawLiteral}
 use Rattle.hir_facts.specs.declared.raw.RawLiteral.TheVariants as literal
-use Rattle.hir_types.specs.declared.ids.DefWithBodyId.{DefWithBodyId}
 use Rattle.hir_facts.specs.CarriedTypes.{is_carried_type, IsCarriedType, AreCarriedTypes, carried_tuple, carried_bool, carried_char, carried_integer, carried_bare}
 use Rattle.infer_result.specs.declared.result.InferenceResult.{InferenceResult}
 use Rattle.infer_result.specs.Closed.{AllTypes, IsClosedTable}
-use Rattle.infer_result.specs.Fit.{TypesFit}
 use Rattle.infer_result.specs.Rules.Literals.{IsLiteralType}
 use Rattle.infer_result.specs.Places.{Given}
 use Rattle.infer_expr.specs.Under.{declared_type}
@@ -24,7 +21,7 @@ use Rattle.infer_expr.specs.Walks.{IsCarriedTable}
 -- ---- tables
 
 -- what holds of each type of a table gives what follows of each
-every : (P Q : Ty → Type 0) (t : InferenceResult) → ((s : Ty) → P s → Q s) → AllTypes P t → AllTypes Q t
+pub every : (P Q : Ty → Type 0) (t : InferenceResult) → ((s : Ty) → P s → Q s) → AllTypes P t → AllTypes Q t
 every P Q t f h = record {
   exprs = λ n s i. f s (h.exprs n s i);
   pats = λ n s i. f s (h.pats n s i);
@@ -37,9 +34,6 @@ every P Q t f h = record {
 
 pub table_closed : (t : InferenceResult) → IsCarriedTable t → IsClosedTable t
 table_closed t h = every IsCarriedType _ t (λ s k. (carried_bare s k).closed) h
-
-pub table_fits : (raw : RawFacts) (d : DefWithBodyId) (t : InferenceResult) → IsCarriedTable t → TypesFit raw d t
-table_fits raw d t h = every IsCarriedType _ t (λ s k. (carried_bare s k).fits) h
 
 -- ---- lists
 
@@ -78,6 +72,6 @@ carried_literal literal.Other t h = absurd h
 
 -- ---- written types
 
-pub carried_declared : (g : Given) (w : Option TypeRefId) → ((y : TypeRefId) → w ≡ Some y → IsWritten g.types y) → IsCarriedExpectation (declared_type g w)
+pub carried_declared : (g : Given) (w : Option TypeRefId) → ((y : TypeRefId) → w ≡ Some y → IsWritten g.scope y) → IsCarriedExpectation (declared_type g w)
 carried_declared g None h = tt
 carried_declared g (Some w) h = (h w refl).carried

@@ -64,25 +64,6 @@ module _ (b : RawBody) (s : Schedule) (law : IsWalkable b s) where
     pat_actual = λ n m i. absurd (At-replicate (length b.pats) n m i);
   }
 
-  empty_walked : IsWalked b s (nothing_found b)
-  empty_walked = record {
-    of_body = record {
-      exprs = length-replicate (length b.exprs) None;
-      pats = length-replicate (length b.pats) None;
-      bindings = length-replicate (length b.bindings) None;
-      modes = length-replicate (length b.pats) None;
-      mismatches = length-replicate (length b.exprs) None;
-      pat_mismatches = length-replicate (length b.pats) None;
-    };
-    carried = empty_carried;
-    modes = λ p m i. absurd (At-replicate (length b.pats) p.0 m i);
-    free_exprs = λ e i lo. free-replicate (length b.exprs) e.0 i;
-    free_pats = λ p i lo. free-replicate (length b.pats) p.0 i;
-    free_modes = λ p i lo. free-replicate (length b.pats) p.0 i;
-    free_bindings = λ p v i lo. free-replicate (length b.bindings) v.0 (law.binders p v i);
-    bound = λ p v i hi. absurd (omega (arith, inner_start b s (node.PatId p) law.schedule (binds_within b p v i)));
-  }
-
   -- the parts of the body lie ahead
   body_ahead : LieAhead b s the_body 1 (body_parts b)
   body_ahead =
@@ -96,10 +77,31 @@ module _ (b : RawBody) (s : Schedule) (law : IsWalkable b s) where
   pub root_within : IsInBody b (node.ExprId b.root)
   root_within = (ahead_right b s the_body 1 (param_parts 0 b.params) (expr_part root b.root ∷ []) body_ahead).fit.0
 
+empty_walked : (g : Given) (s : Schedule) → IsWalkable g.body s → IsWalked g s (nothing_found g.body)
+empty_walked g s law = record {
+  of_body = record {
+    exprs = length-replicate (length g.body.exprs) None;
+    pats = length-replicate (length g.body.pats) None;
+    bindings = length-replicate (length g.body.bindings) None;
+    modes = length-replicate (length g.body.pats) None;
+    mismatches = length-replicate (length g.body.exprs) None;
+    pat_mismatches = length-replicate (length g.body.pats) None;
+    diagnostics = length-replicate (length g.body.exprs) None;
+  };
+  carried = empty_carried g.body s law;
+  modes = λ p m i. absurd (At-replicate (length g.body.pats) p.0 m i);
+  diagnostics = λ e d i. absurd (At-replicate (length g.body.exprs) e.0 d i);
+  free_exprs = λ e i lo. free-replicate (length g.body.exprs) e.0 i;
+  free_pats = λ p i lo. free-replicate (length g.body.pats) p.0 i;
+  free_modes = λ p i lo. free-replicate (length g.body.pats) p.0 i;
+  free_bindings = λ p v i lo. free-replicate (length g.body.bindings) v.0 (law.binders p v i);
+  bound = λ p v i hi. absurd (omega (arith, inner_start g.body s (node.PatId p) law.schedule (binds_within g.body p v i)));
+}
+
 pub params_before : (g : Given) (s : Schedule) (last : ℕ) (c : Found) → IsWalkable g.body s → WrittenExist g → length g.inputs ≡ length g.body.params → last ≡ expr_end g.body s g.body.root → last < 2 ^ 64 → c ≡ nothing_found g.body → BeforeParams g s c
 params_before g s last c law written count is room empty =
     let ready : IsReady g s = record { law = law; written = written; room = omega (arith, is, root_last g.body s law) } in
-    subst (λ k. BeforeParams g s k) (sym empty) (record { ready = ready; count = count; state = empty_walked g.body s law; ahead = body_ahead g.body s law })
+    subst (λ k. BeforeParams g s k) (sym empty) (record { ready = ready; count = count; state = empty_walked g s law; ahead = body_ahead g.body s law })
 
 pub root_before : (g : Given) (s : Schedule) (old c : Found) → IsReady g s → IsCarriedType g.output → ParamsDone g s old c → Before g s g.body.root (Some g.output) c
 root_before g s old c ready carried d = expr_before g s the_body root g.body.root [] (Some g.output) c ready d.walks.state d.ahead carried
@@ -135,9 +137,6 @@ module _ (g : Given) (s : Schedule) (law : IsWalkable g.body s) (t : Ty) (mid ne
         )
       ]
 
-  pub body_carried : IsCarriedTable new.result
-  body_carried = walked.state.carried
-
   pub body_made : IsMade g new.result
   body_made = record {
     of_body = walked.state.of_body;
@@ -157,4 +156,5 @@ module _ (g : Given) (s : Schedule) (law : IsWalkable g.body s) (t : Ty) (mid ne
     misfits = λ e m i. (misfit e m i).0;
     demands = λ e m i. (misfit e m i).1;
     pat_truths = λ q m i. elim (walked.pat_truths q m i) [ inl o ↦ absurd (At-replicate (length g.body.pats) q.0 m o) | inr o ↦ o ];
+    diagnostics = walked.state.diagnostics;
   }

@@ -6,6 +6,7 @@ use Rattle.hir_types.specs.Subst.{Assignment, folded}
 use Rattle.hir_types.specs.Terms.{terms_of}
 use Rattle.hir_types.specs.Types.{integer_type}
 use Rattle.hir_facts.specs.CarriedTypes.{IsCarriedType}
+use Rattle.hir_facts.specs.Scope.{Scope}
 use Rattle.infer_table.specs.Solutions.{log_of}
 use Rattle.infer_table.specs.Table.{bindings, Meets}
 use Rattle.infer_table.specs.Preserved.{BindsOnly}
@@ -44,6 +45,7 @@ closed_table a t = record {
   type_of_binding = closed_types a t.type_of_binding;
   binding_modes = t.binding_modes;
   expr_mismatches = map (option_map (closed_mismatch a)) t.expr_mismatches;
+  expr_diagnostics = t.expr_diagnostics;
   pat_mismatches = map (option_map (closed_mismatch a)) t.pat_mismatches;
 }
 
@@ -61,7 +63,7 @@ common_under a common.Unknown = common.Unknown
 -- ---- soundness
 
 -- the types in hand are fine, and some assignment closes the context
-pub record IsSound (c : InferenceContext) : Type 0 where
-  pub fine : AllTypes (IsFine c.table) c.result
-  pub bound : BindsOnly is_fine_head (log_of (bindings c.table))
+pub record IsSound (sc : Scope) (c : InferenceContext) : Type 0 where
+  pub fine : AllTypes (IsFine sc c.table) c.result
+  pub bound : BindsOnly (is_fine_head sc) (log_of (bindings c.table))
   pub some : (a : Assignment) × Closes a c

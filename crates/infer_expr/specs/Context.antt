@@ -10,7 +10,9 @@ use Rattle.hir_types.specs.declared.ty.Ty.{Ty, Ty-F, out-Ty}
 use Rattle.hir_facts.specs.declared.raw.RawBody.{RawBody}
 use Rattle.hir_facts.specs.declared.schedule.Schedule.{Schedule}
 use Rattle.hir_facts.specs.CarriedTypes.{IsCarriedType}
+use Rattle.hir_facts.specs.Scope.{Scope, scope_of}
 use Rattle.infer_result.specs.declared.result.TypeMismatch.{TypeMismatch}
+use Rattle.infer_result.specs.declared.diagnostics.InferenceDiagnostic.{InferenceDiagnostic}
 use Rattle.infer_result.specs.declared.modes.BindingMode.{BindingMode}
 use Rattle.infer_result.specs.declared.modes.BindingMode.TheVariants as mode
 use Rattle.infer_table.specs.Table.{new_state}
@@ -24,7 +26,11 @@ use Rattle.infer_expr.specs.declared.context.InferenceContext.{InferenceContext}
 -- ---- what is read
 
 abbrev pub given_of : GivenBody → Given
-given_of x = record { types = x.facts.now.types; body = x.body.now; inputs = x.inputs.now; output = x.return_ty.now }
+given_of x = record { scope = scope_of x.facts.now x.owner; body = x.body.now; inputs = x.inputs.now; output = x.return_ty.now }
+
+-- what the types of the body may name
+abbrev pub scope_in : GivenBody → Scope
+scope_in x = scope_of x.facts.now x.owner
 
 abbrev pub schedule_of : GivenBody → Schedule
 schedule_of x = x.schedule.now
@@ -63,6 +69,7 @@ empty_context b = record {
     type_of_binding = replicate (length b.bindings) None;
     binding_modes = replicate (length b.pats) None;
     expr_mismatches = replicate (length b.exprs) None;
+    expr_diagnostics = replicate (length b.exprs) None;
     pat_mismatches = replicate (length b.pats) None;
   };
   clock = 1;
@@ -82,6 +89,9 @@ with_mismatch c e m = record c { result = record c.result { expr_mismatches = no
 
 abbrev pub with_pat_mismatch : InferenceContext → PatId → TypeMismatch → InferenceContext
 with_pat_mismatch c p m = record c { result = record c.result { pat_mismatches = noted c.result.pat_mismatches p.0 m } }
+
+abbrev pub with_diagnostic : InferenceContext → ExprId → InferenceDiagnostic → InferenceContext
+with_diagnostic c e x = record c { result = record c.result { expr_diagnostics = noted c.result.expr_diagnostics e.0 x } }
 
 abbrev pub with_pat_ty : InferenceContext → PatId → Ty → InferenceContext
 with_pat_ty c p t = record c { result = record c.result { type_of_pat = slice_set c.result.type_of_pat p.0 (Some t) } }

@@ -5,3 +5,4 @@ pub mod Fine
 pub mod Closings
 pub mod Under
 pub mod Steps
+pub mod Callables

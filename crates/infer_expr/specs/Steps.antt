@@ -10,7 +10,6 @@ use Rattle.hir_types.specs.declared.ty.Ty.TheVariants as ty
 use Rattle.hir_types.specs.declared.ty.UintTy.TheVariants as uint
 use Rattle.hir_types.specs.Subst.{Assignment, folded}
 use Rattle.hir_types.specs.Types.{integer_type}
-use Rattle.hir_facts.specs.declared.raw.RawBody.{RawBody}
 use Rattle.hir_facts.specs.declared.raw.RawLiteral.{RawLiteral}
 use Rattle.hir_facts.specs.declared.raw.RawArm.{RawArm}
 use Rattle.hir_facts.specs.declared.raw.RawStmt.{RawStmt}
@@ -19,11 +18,17 @@ use Rattle.hir_facts.specs.Laws.Carried.{is_carried_stmt}
 use Rattle.hir_facts.specs.Order.{inner, the_body, stmt_parts, stmt_at, maybe_part, guard, else_branch, arms_parts, tail, body_parts}
 use Rattle.infer_table.specs.Table.{State, Grew, resolved_type, hole_count}
 use Rattle.infer_result.specs.Closed.{IsOfBody}
+use Rattle.hir_facts.specs.Scope.{Scope}
+use Rattle.hir_facts.specs.Signatures.{type_args}
+use Rattle.hir_facts.specs.declared.raw.RawPath.{RawPath}
+use Rattle.hir_types.specs.declared.ids.FunctionId.{FunctionId}
+use Rattle.hir_types.specs.declared.ids.CallableDefId.TheVariants as callable
+use Rattle.hir_types.specs.declared.ty.GenericArg.{GenericArg}
 use Rattle.infer_result.specs.Places.{Given, Incoming}
 use Rattle.infer_result.specs.Made.{IsMade}
 use Rattle.infer_result.specs.Rules.Literals.{IsLiteralType}
 use Rattle.infer_expr.specs.declared.context.InferenceContext.{InferenceContext}
-use Rattle.infer_expr.specs.Walks.{IsCarriedTable, IsWalked, expr_start, pat_start}
+use Rattle.infer_expr.specs.Walks.{IsWalked, expr_start, pat_start}
 use Rattle.infer_expr.specs.Fine.{IsFine, IsFineExpectation}
 use Rattle.infer_expr.specs.Closings.{IsClosing, Closes, closed_table, found_under, expected_under, common_under, IsSound}
 use Rattle.infer_expr.specs.declared.coerce_many.CoerceMany.{CoerceMany}
@@ -35,15 +40,15 @@ use Rattle.infer_expr.specs.Under as under
 -- what is found out is sound, and under each assignment that closes it as the walk says
 pub record IsWalking (g : Given) (s : Schedule) (c : InferenceContext) : Type 0 where
   pub of_body : IsOfBody g.body c.result
-  pub sound : IsSound c
-  pub each : (a : Assignment) → Closes a c → IsWalked g.body s (found_under a c)
+  pub sound : IsSound g.scope c
+  pub each : (a : Assignment) → Closes a c → IsWalked g s (found_under a c)
 
 -- more was found out, and nothing undone
-pub record Follows (b : RawBody) (old new : InferenceContext) : Type 0 where
+pub record Follows (g : Given) (old new : InferenceContext) : Type 0 where
   pub clock : old.clock ≤ new.clock
   pub grew : Grew old.table new.table
-  pub of_body : IsOfBody b new.result
-  pub sound : IsSound new
+  pub of_body : IsOfBody g.body new.result
+  pub sound : IsSound g.scope new
 
 -- ---- expressions
 
@@ -53,18 +58,18 @@ pub record Before (g : Given) (s : Schedule) (e : ExprId) (x : Option Ty) (c : I
   pub state : IsWalking g s c
   pub within : e.0 < length g.body.exprs
   pub here : expr_start g.body s e ≡ c.clock
-  pub expected : IsFineExpectation c.table x
+  pub expected : IsFineExpectation g.scope c.table x
 
 -- the expression has the type t; where something else is expected, nothing is said of that yet
 pub record OwnDone (g : Given) (s : Schedule) (e : ExprId) (x : Option Ty) (t : Ty) (old new : InferenceContext) : Type 0 where
-  pub follows : Follows g.body old new
-  pub fine : IsFine new.table t
+  pub follows : Follows g old new
+  pub fine : IsFine g.scope new.table t
   pub each : (a : Assignment) → Closes a new → under.OwnDone g s e (expected_under a x) (folded a t) (found_under a old) (found_under a new)
 
 -- the expression is at the type t, which is the expected one where one is
 pub record CoerceDone (g : Given) (s : Schedule) (e : ExprId) (x : Option Ty) (t : Ty) (old new : InferenceContext) : Type 0 where
-  pub follows : Follows g.body old new
-  pub fine : IsFine new.table t
+  pub follows : Follows g old new
+  pub fine : IsFine g.scope new.table t
   pub each : (a : Assignment) → Closes a new → under.CoerceDone g s e (expected_under a x) (folded a t) (found_under a old) (found_under a new)
 
 -- ---- the kinds of expressions
@@ -75,12 +80,12 @@ pub record Within (g : Given) (s : Schedule) (e : ExprId) (x : Option Ty) (c : I
   pub state : IsWalking g s c
   pub within : e.0 < length g.body.exprs
   pub clock : c.clock ≡ expr_start g.body s e + 1
-  pub expected : IsFineExpectation c.table x
+  pub expected : IsFineExpectation g.scope c.table x
 
 -- everything is done at the expression, but that its type t is to be recorded
 pub record KindDone (g : Given) (s : Schedule) (e : ExprId) (x : Option Ty) (t : Ty) (old new : InferenceContext) : Type 0 where
-  pub follows : Follows g.body old new
-  pub fine : IsFine new.table t
+  pub follows : Follows g old new
+  pub fine : IsFine g.scope new.table t
   pub each : (a : Assignment) → Closes a new → under.KindDone g s e (expected_under a x) (folded a t) (found_under a old) (found_under a new)
 
 -- ---- patterns
@@ -91,36 +96,36 @@ pub record BeforePat (g : Given) (s : Schedule) (p : PatId) (x : Option Ty) (c :
   pub state : IsWalking g s c
   pub within : p.0 < length g.body.pats
   pub here : pat_start g.body s p ≡ c.clock
-  pub fine : IsFineExpectation c.table x
+  pub fine : IsFineExpectation g.scope c.table x
   pub incoming : (a : Assignment) → Closes a c → (t : Ty) → expected_under a x ≡ Some t → Incoming g (closed_table a c.result) p t
 
 pub record PatDone (g : Given) (s : Schedule) (p : PatId) (x : Option Ty) (old new : InferenceContext) : Type 0 where
-  pub follows : Follows g.body old new
+  pub follows : Follows g old new
   pub each : (a : Assignment) → Closes a new → under.PatDone g s p (expected_under a x) (found_under a old) (found_under a new)
 
 -- the type is the given one, or a hole that is new
-pub record IsGivenOrNew (x : Option Ty) (t : Ty) (old new : InferenceContext) : Type 0 where
+pub record IsGivenOrNew (sc : Scope) (x : Option Ty) (t : Ty) (old new : InferenceContext) : Type 0 where
   pub result : new.result ≡ old.result
   pub clock : new.clock ≡ old.clock
   pub grew : Grew old.table new.table
-  pub sound : IsSound new
-  pub fine : IsFine new.table t
+  pub sound : IsSound sc new
+  pub fine : IsFine sc new.table t
   pub given : (u : Ty) → x ≡ Some u → t ≡ u
   pub new_hole : x ≡ None → t ≡ ty.Var (hole_count old.table)
 
 -- as many types as asked for, with some holes more
-pub record ArePartTypes (count : ℕ) (ts : List Ty) (old new : InferenceContext) : Type 0 where
+pub record ArePartTypes (sc : Scope) (count : ℕ) (ts : List Ty) (old new : InferenceContext) : Type 0 where
   pub result : new.result ≡ old.result
   pub clock : new.clock ≡ old.clock
   pub grew : Grew old.table new.table
-  pub sound : IsSound new
+  pub sound : IsSound sc new
   pub count_is : length ts ≡ count
-  pub fine : (i : ℕ) (t : Ty) → slice_get ts i ≡ Some t → IsFine new.table t
+  pub fine : (i : ℕ) (t : Ty) → slice_get ts i ≡ Some t → IsFine sc new.table t
 
 -- The tuple of these types is recorded as that of the pattern, and it is what comes in, or they
 -- differ, and that is noted.
-pub record TupleDemanded (b : RawBody) (p : PatId) (ts : List Ty) (x : Option Ty) (old new : InferenceContext) : Type 0 where
-  pub follows : Follows b old new
+pub record TupleDemanded (g : Given) (p : PatId) (ts : List Ty) (x : Option Ty) (old new : InferenceContext) : Type 0 where
+  pub follows : Follows g old new
   pub clock : new.clock ≡ old.clock
   pub each : (a : Assignment) → Closes a new → under.TupleDemanded p (map (folded a) ts) (expected_under a x) (found_under a old) (found_under a new)
 
@@ -134,7 +139,7 @@ pub record BeforeParams (g : Given) (s : Schedule) (c : InferenceContext) : Type
   pub ahead : under.LieAhead g.body s the_body c.clock (body_parts g.body)
 
 pub record ParamsDone (g : Given) (s : Schedule) (old new : InferenceContext) : Type 0 where
-  pub follows : Follows g.body old new
+  pub follows : Follows g old new
   pub each : (a : Assignment) → Closes a new → under.ParamsDone g s (found_under a old) (found_under a new)
 
 -- ---- statements
@@ -148,13 +153,13 @@ pub record BeforeStmt (g : Given) (s : Schedule) (n : ExprId) (x : RawStmt) (c :
   pub carried : IsTrue (is_carried_stmt x)
 
 pub record StmtDone (g : Given) (s : Schedule) (x : RawStmt) (old new : InferenceContext) : Type 0 where
-  pub follows : Follows g.body old new
+  pub follows : Follows g old new
   pub each : (a : Assignment) → Closes a new → under.StmtDone g s x (found_under a old) (found_under a new)
 
 -- the initializer of a `let` with this written type has the type t, or is at the written one
 pub record InitDone (g : Given) (s : Schedule) (w : Option TypeRefId) (e : ExprId) (t : Ty) (old new : InferenceContext) : Type 0 where
-  pub follows : Follows g.body old new
-  pub fine : IsFine new.table t
+  pub follows : Follows g old new
+  pub fine : IsFine g.scope new.table t
   pub each : (a : Assignment) → Closes a new → under.InitDone g s w e (folded a t) (found_under a old) (found_under a new)
 
 -- ---- the end of a block
@@ -164,33 +169,33 @@ pub record BeforeTail (g : Given) (s : Schedule) (n : ExprId) (last : Option Exp
   pub state : IsWalking g s c
   pub within : n.0 < length g.body.exprs
   pub ahead : under.LieAhead g.body s (inner (node.ExprId n)) c.clock (maybe_part tail last)
-  pub expected : IsFineExpectation c.table x
+  pub expected : IsFineExpectation g.scope c.table x
 
 -- `()` is what is expected of a block without tail, or that is recorded as a mismatch at the block
-pub record NoTailDone (b : RawBody) (n : ExprId) (x : Option Ty) (t : Ty) (old new : InferenceContext) : Type 0 where
-  pub follows : Follows b old new
-  pub fine : IsFine new.table t
+pub record NoTailDone (g : Given) (n : ExprId) (x : Option Ty) (t : Ty) (old new : InferenceContext) : Type 0 where
+  pub follows : Follows g old new
+  pub fine : IsFine g.scope new.table t
   pub each : (a : Assignment) → Closes a new → under.NoTailDone n (expected_under a x) (folded a t) (found_under a old) (found_under a new)
 
 abbrev pub TailDone : Given → Schedule → ExprId → Option ExprId → Option Ty → Ty → InferenceContext → InferenceContext → Type 0
-TailDone g s n None x t old new = NoTailDone g.body n x t old new
+TailDone g s n None x t old new = NoTailDone g n x t old new
 TailDone g s n (Some e) x t old new = CoerceDone g s e x t old new
 
 -- ---- coercions
 
 -- The two types are the same from here on, or they differ, and that is noted as a mismatch at the
 -- expression.
-pub record IsCoercedIf (yes : Bool) (b : RawBody) (e : ExprId) (actual target : Ty) (old new : InferenceContext) : Type 0 where
-  pub follows : Follows b old new
+pub record IsCoercedIf (yes : Bool) (g : Given) (e : ExprId) (actual target : Ty) (old new : InferenceContext) : Type 0 where
+  pub follows : Follows g old new
   pub clock : new.clock ≡ old.clock
   pub each : (a : Assignment) → Closes a new → under.IsCoercedIf yes e (folded a actual) (folded a target) (found_under a old) (found_under a new)
 
 -- ---- alternatives
 
-abbrev pub IsFineCommon : State → CoerceMany → Type 0
-IsFineCommon state common.Nothing = Unit {0}
-IsFineCommon state (common.Is t) = IsFine state t
-IsFineCommon state common.Unknown = Unit {0}
+abbrev pub IsFineCommon : Scope → State → CoerceMany → Type 0
+IsFineCommon sc state common.Nothing = Unit {0}
+IsFineCommon sc state (common.Is t) = IsFine sc state t
+IsFineCommon sc state common.Unknown = Unit {0}
 
 -- the arms of the `match` n lie ahead, and x is expected of them
 pub record BeforeArms (g : Given) (s : Schedule) (n : ExprId) (arms : List RawArm) (x : Option Ty) (c : InferenceContext) : Type 0 where
@@ -199,12 +204,12 @@ pub record BeforeArms (g : Given) (s : Schedule) (n : ExprId) (arms : List RawAr
   pub within : n.0 < length g.body.exprs
   pub ahead : under.LieAhead g.body s (inner (node.ExprId n)) c.clock (arms_parts 0 arms)
   pub some : (arms ≡ [] → ⊥)
-  pub expected : IsFineExpectation c.table x
+  pub expected : IsFineExpectation g.scope c.table x
 
 -- the arms have the type t in common, or a mismatch
 pub record ArmsDone (g : Given) (s : Schedule) (n : ExprId) (arms : List RawArm) (x : Option Ty) (t : Ty) (old new : InferenceContext) : Type 0 where
-  pub follows : Follows g.body old new
-  pub fine : IsFine new.table t
+  pub follows : Follows g old new
+  pub fine : IsFine g.scope new.table t
   pub each : (a : Assignment) → Closes a new → under.ArmsDone g s n arms (expected_under a x) (folded a t) (found_under a old) (found_under a new)
 
 -- the guard of an arm lies ahead, where it has one
@@ -216,20 +221,20 @@ pub record BeforeGuard (g : Given) (s : Schedule) (n : ExprId) (o : Option ExprI
 
 -- the guard is a truth value, where there is one, or has a mismatch
 pub record GuardDone (g : Given) (s : Schedule) (o : Option ExprId) (old new : InferenceContext) : Type 0 where
-  pub follows : Follows g.body old new
+  pub follows : Follows g old new
   pub each : (a : Assignment) → Closes a new → under.GuardDone g s o (found_under a old) (found_under a new)
 
 -- what the next alternative e, of type t, makes of the common type
-pub record Merges (b : RawBody) (e : ExprId) (t : Ty) (before after : CoerceMany) (old new : InferenceContext) : Type 0 where
-  pub follows : Follows b old new
+pub record Merges (g : Given) (e : ExprId) (t : Ty) (before after : CoerceMany) (old new : InferenceContext) : Type 0 where
+  pub follows : Follows g old new
   pub clock : new.clock ≡ old.clock
-  pub fine : IsFineCommon new.table after
+  pub fine : IsFineCommon g.scope new.table after
   pub each : (a : Assignment) → Closes a new → under.Merges e (folded a t) (common_under a before) (common_under a after) (found_under a old) (found_under a new)
 
 -- the alternative e, of which x is expected, is typed and taken into the common type
 pub record AlternativeDone (g : Given) (s : Schedule) (e : ExprId) (x : Option Ty) (before after : CoerceMany) (old new : InferenceContext) : Type 0 where
-  pub follows : Follows g.body old new
-  pub fine : IsFineCommon new.table after
+  pub follows : Follows g old new
+  pub fine : IsFineCommon g.scope new.table after
   pub each : (a : Assignment) → Closes a new → under.AlternativeDone g s e (expected_under a x) (common_under a before) (common_under a after) (found_under a old) (found_under a new)
 
 -- the other branch of the `if` n lies ahead, where it has one, and m is the type of the first
@@ -238,23 +243,23 @@ pub record BeforeElse (g : Given) (s : Schedule) (n : ExprId) (other : Option Ex
   pub state : IsWalking g s c
   pub within : n.0 < length g.body.exprs
   pub ahead : under.LieAhead g.body s (inner (node.ExprId n)) c.clock (maybe_part else_branch other)
-  pub expected : IsFineExpectation c.table x
-  pub common : IsFineCommon c.table m
+  pub expected : IsFineExpectation g.scope c.table x
+  pub common : IsFineCommon g.scope c.table m
 
 -- it is taken into the common type, or `()` where there is none
 pub record ElseDone (g : Given) (s : Schedule) (n : ExprId) (other : Option ExprId) (x : Option Ty) (before after : CoerceMany) (old new : InferenceContext) : Type 0 where
-  pub follows : Follows g.body old new
-  pub fine : IsFineCommon new.table after
+  pub follows : Follows g old new
+  pub fine : IsFineCommon g.scope new.table after
   pub each : (a : Assignment) → Closes a new → under.ElseDone g s n other (expected_under a x) (common_under a before) (common_under a after) (found_under a old) (found_under a new)
 
 -- the type of a node whose alternatives came to this, where x is expected of them: a hole that is new
 -- where that is nothing known
-pub record Completes (x : Option Ty) (m : CoerceMany) (t : Ty) (old new : InferenceContext) : Type 0 where
+pub record Completes (sc : Scope) (x : Option Ty) (m : CoerceMany) (t : Ty) (old new : InferenceContext) : Type 0 where
   pub result : new.result ≡ old.result
   pub clock : new.clock ≡ old.clock
   pub grew : Grew old.table new.table
-  pub sound : IsSound new
-  pub fine : IsFine new.table t
+  pub sound : IsSound sc new
+  pub fine : IsFine sc new.table t
   pub is : under.Completes x m t
 
 -- ---- literals
@@ -271,28 +276,87 @@ pub record IsExpectedInteger (x : Option Ty) (t : Ty) (state : State) : Type 0 w
   pub gives : IsIntegerFor (resolved_type state expected) t
 
 -- the type is the integer type that is expected, or a new hole for one
-pub record IntDone (x : Option Ty) (t : Ty) (old new : InferenceContext) : Type 0 where
+pub record IntDone (sc : Scope) (x : Option Ty) (t : Ty) (old new : InferenceContext) : Type 0 where
   pub is : IsExpectedInteger x t old.table ⊎ (t ≡ ty.IntVar (hole_count old.table))
   pub result : new.result ≡ old.result
   pub clock : new.clock ≡ old.clock
   pub grew : Grew old.table new.table
-  pub sound : IsSound new
-  pub fine : IsFine new.table t
+  pub sound : IsSound sc new
+  pub fine : IsFine sc new.table t
   pub each : (a : Assignment) → IsClosing a → (i : IntegerTy) × (folded a t ≡ integer_type i)
 
 -- the type is the literal's, or a new hole for one that it may have
-pub record LiteralDone (l : RawLiteral) (t : Ty) (old new : InferenceContext) : Type 0 where
+pub record LiteralDone (sc : Scope) (l : RawLiteral) (t : Ty) (old new : InferenceContext) : Type 0 where
   pub result : new.result ≡ old.result
   pub clock : new.clock ≡ old.clock
   pub grew : Grew old.table new.table
-  pub sound : IsSound new
-  pub fine : IsFine new.table t
+  pub sound : IsSound sc new
+  pub fine : IsFine sc new.table t
   pub each : (a : Assignment) → IsClosing a → IsLiteralType l (folded a t)
+
+-- ---- paths
+
+-- the type is that of what the path names
+pub record PathDone (g : Given) (p : RawPath) (t : Ty) (old new : InferenceContext) : Type 0 where
+  pub result : new.result ≡ old.result
+  pub clock : new.clock ≡ old.clock
+  pub grew : Grew old.table new.table
+  pub sound : IsSound g.scope new
+  pub fine : IsFine g.scope new.table t
+  pub each : (a : Assignment) → Closes a new → under.IsPathType g (closed_table a old.result) p (folded a t)
+
+-- new holes in the place of an item's parameters
+pub record AreFreshArgs (sc : Scope) (count : ℕ) (xs : List GenericArg) (old new : InferenceContext) : Type 0 where
+  pub types : List Ty
+  pub are : xs ≡ type_args types
+  pub made : ArePartTypes sc count types old new
+
+-- ---- calls
+
+-- what is called has this type, which is that of a function
+pub record CalleeDone (g : Given) (s : Schedule) (called : ExprId) (t : Ty) (old new : InferenceContext) : Type 0 where
+  pub function : FunctionId
+  pub item : under.IsFunction g.scope.facts function
+  pub types : List Ty
+  pub is : t ≡ ty.FnDef (callable.FunctionId function) (type_args types)
+  pub count : length types ≡ length item.function.params
+  pub follows : Follows g old new
+  pub fine : (i : ℕ) (u : Ty) → slice_get types i ≡ Some u → IsFine g.scope new.table u
+  pub each : (a : Assignment) → Closes a new → under.CalleeDone g s called function (map (folded a) types) (found_under a old) (found_under a new)
+
+-- the node is a call of what has this type, and has come to its arguments
+pub record BeforeArgs (g : Given) (s : Schedule) (n : ExprId) (args : List ExprId) (t : Ty) (c : InferenceContext) : Type 0 where
+  pub ready : under.IsReady g s
+  pub state : IsWalking g s c
+  pub called : ExprId
+  pub function : FunctionId
+  pub item : under.IsFunction g.scope.facts function
+  pub types : List Ty
+  pub is : t ≡ ty.FnDef (callable.FunctionId function) (type_args types)
+  pub count : length types ≡ length item.function.params
+  pub fine : (i : ℕ) (u : Ty) → slice_get types i ≡ Some u → IsFine g.scope c.table u
+  pub each : (a : Assignment) → Closes a c → under.BeforeArgs g s n called args function item.function (map (folded a) types) (found_under a c)
+
+-- ss is what the call takes
+pub record BeforeInputs (g : Given) (s : Schedule) (n : ExprId) (args : List ExprId) (ss : List Ty) (c : InferenceContext) : Type 0 where
+  pub type : Ty
+  pub before : BeforeArgs g s n args type c
+  pub inputs : ss ≡ under.inputs_at g.scope.facts.types before.item.function before.types
+
+-- the arguments are at what the call takes, or there are not as many, which is said
+pub record ArgsDone (g : Given) (s : Schedule) (n : ExprId) (args : List ExprId) (ss : List Ty) (old new : InferenceContext) : Type 0 where
+  pub follows : Follows g old new
+  pub each : (a : Assignment) → Closes a new → under.ArgsDone g s n args (map (folded a) ss) (found_under a old) (found_under a new)
+
+-- some holes may be bound, but nothing is recorded
+pub record OnlyBinds (g : Given) (old new : InferenceContext) : Type 0 where
+  pub follows : Follows g old new
+  pub result : new.result ≡ old.result
+  pub clock : new.clock ≡ old.clock
 
 -- ---- the whole body
 
 -- each node is made, under each assignment that closes what is found out
 pub record BodyDone (g : Given) (new : InferenceContext) : Type 0 where
-  pub sound : IsSound new
+  pub sound : IsSound g.scope new
   pub made : (a : Assignment) → Closes a new → IsMade g (closed_table a new.result)
-  pub carried : (a : Assignment) → Closes a new → IsCarriedTable (closed_table a new.result)

@@ -1,6 +1,8 @@
 -- What each function of the walk is given, and what it does, under one assignment of types to holes.
-use Rattle.std.specs.Prelude.{ℕ, ◌+◌, ◌<◌, ◌≡◌, ◌⊎◌, ◌^◌, Bool, true, false, List, [], ◌∷◌, length, slice_get, Option, Some, None, option_map, IsTrue}
+use Rattle.std.specs.Prelude.{ℕ, ◌+◌, ◌<◌, ◌≡◌, ◌⊎◌, ◌^◌, Bool, true, false, List, [], ◌∷◌, length, map, slice_get, Option, Some, None, option_map, IsTrue}
 use Rattle.hir_types.specs.declared.ids.ExprId.{ExprId}
+use Rattle.hir_types.specs.declared.ids.FunctionId.{FunctionId}
+use Rattle.hir_types.specs.declared.ids.CallableDefId.TheVariants as callable
 use Rattle.hir_types.specs.declared.ids.PatId.{PatId}
 use Rattle.hir_types.specs.declared.ids.TypeRefId.{TypeRefId}
 use Rattle.hir_types.specs.declared.ids.LabelId.{LabelId}
@@ -8,6 +10,9 @@ use Rattle.hir_types.specs.declared.ids.ExprOrPatId.TheVariants as node
 use Rattle.hir_types.specs.declared.ty.Ty.{Ty}
 use Rattle.hir_types.specs.declared.ty.Ty.TheVariants as ty
 use Rattle.hir_facts.specs.declared.raw.RawBody.{RawBody}
+use Rattle.hir_facts.specs.declared.raw.RawFacts.{RawFacts}
+use Rattle.hir_facts.specs.declared.raw.RawFn.{RawFn}
+use Rattle.hir_facts.specs.declared.raw.RawType.{RawType}
 use Rattle.hir_facts.specs.declared.raw.RawExpr.TheVariants as expr
 use Rattle.hir_facts.specs.declared.raw.RawPath.{RawPath}
 use Rattle.hir_facts.specs.declared.raw.RawPath.TheVariants as path
@@ -18,17 +23,19 @@ use Rattle.hir_facts.specs.declared.raw.RawStmt.TheVariants as stmt
 use Rattle.hir_facts.specs.declared.schedule.Schedule.{Schedule}
 use Rattle.hir_types.specs.Types.{unit}
 use Rattle.hir_facts.specs.Types.{written_type}
+use Rattle.hir_facts.specs.Scope.{Scope, fn_params}
+use Rattle.hir_facts.specs.Signatures.{type_args, at_args}
 use Rattle.hir_facts.specs.CarriedTypes.{IsCarriedType}
 use Rattle.hir_facts.specs.Bodies.{IsWalkable}
 use Rattle.hir_facts.specs.Laws.Carried.{is_carried_stmt}
-use Rattle.hir_facts.specs.Order.{end, inner, the_body, Node, Part, IsNode, part_at, Fits, after, stmt_parts, stmt_at, maybe_part, guard, arms_parts, tail, body_parts, expr_part, root}
+use Rattle.hir_facts.specs.Order.{end, inner, the_body, Node, Part, IsNode, part_at, Fits, after, stmt_parts, stmt_at, maybe_part, guard, arms_parts, tail, body_parts, expr_part, exprs_from, argument, root}
 use Rattle.infer_result.specs.declared.result.InferenceResult.{InferenceResult}
-use Rattle.infer_result.specs.declared.result.TypeMismatch.{TypeMismatch}
 use Rattle.infer_result.specs.Table.{HasTy, BindingTy, MismatchAt, AnyMismatch, mismatch}
 use Rattle.infer_result.specs.Places.{Given, IsInput, IsAt, IsAtOrMismatch, PatIsAtOrMismatch, Incoming}
 use Rattle.infer_result.specs.Rules.Branches.{arm_exprs, GuardRule, ArmsRule}
 use Rattle.infer_result.specs.Rules.Expressions.{ObeysOrMismatch}
 use Rattle.infer_result.specs.Rules.Blocks.{StmtRule}
+use Rattle.infer_result.specs.Rules.Calls.{ArgsRule}
 use Rattle.infer_result.specs.Rules.Placing.{at_or_mismatch}
 use Rattle.infer_expr.specs.Found.{Found, with_mismatch, with_pat_ty, with_pat_mismatch}
 use Rattle.infer_expr.specs.Context.{IsCarriedExpectation}
@@ -37,10 +44,22 @@ use Rattle.infer_expr.specs.declared.coerce_many.CoerceMany.{CoerceMany}
 use Rattle.infer_expr.specs.declared.coerce_many.CoerceMany.TheVariants as common
 use Rattle.infer_expr.specs.Walks.{Walks, IsWalked, Extends, Nothing, Owed, PaidBy, expr_start, expr_end, pat_start, pat_end}
 
--- each type that a `let` of the body or a parameter is written with is one of the facts'
+-- the scope of a function's own signature
+abbrev pub own_scope : RawFacts → RawFn → Scope
+own_scope facts x = record { facts = facts; params = length x.params }
+
+-- the function exists, and what its signature is written with is in its own scope
+pub record IsFunction (facts : RawFacts) (f : FunctionId) : Type 0 where
+  pub function : RawFn
+  pub found : slice_get facts.fns f.0 ≡ Some function
+  pub inputs : (k : ℕ) (w : TypeRefId) → slice_get function.inputs k ≡ Some w → IsWritten (own_scope facts function) w
+  pub output : IsWritten (own_scope facts function) function.output
+
+-- each type that a `let` of the body or a parameter is written with is one of the facts', and each function that is named
 pub record WrittenExist (g : Given) : Type 0 where
-  pub lets : (e : ExprId) (i : ℕ) (p : PatId) (w : TypeRefId) (init other : Option ExprId) → stmt_at g.body e i ≡ Some (stmt.Let p (Some w) init other) → IsWritten g.types w
-  pub inputs : (i : ℕ) (w : TypeRefId) → slice_get g.inputs i ≡ Some w → IsWritten g.types w
+  pub lets : (e : ExprId) (i : ℕ) (p : PatId) (w : TypeRefId) (init other : Option ExprId) → stmt_at g.body e i ≡ Some (stmt.Let p (Some w) init other) → IsWritten g.scope w
+  pub inputs : (i : ℕ) (w : TypeRefId) → slice_get g.inputs i ≡ Some w → IsWritten g.scope w
+  pub functions : (e : ExprId) (f : FunctionId) → slice_get g.body.exprs e.0 ≡ Some (expr.Path (path.Function f)) → IsFunction g.scope.facts f
 
 -- the laws of the body, and room for the clock
 pub record IsReady (g : Given) (s : Schedule) : Type 0 where
@@ -59,7 +78,7 @@ pub record LieAhead (b : RawBody) (s : Schedule) (n : Node) (from : ℕ) (ps : L
 -- the walk comes to the expression e, of which x is expected
 pub record Before (g : Given) (s : Schedule) (e : ExprId) (x : Option Ty) (c : Found) : Type 0 where
   pub ready : IsReady g s
-  pub state : IsWalked g.body s c
+  pub state : IsWalked g s c
   pub within : e.0 < length g.body.exprs
   pub here : expr_start g.body s e ≡ c.clock
   pub expected : IsCarriedExpectation x
@@ -85,7 +104,7 @@ pub record CoerceDone (g : Given) (s : Schedule) (e : ExprId) (x : Option Ty) (t
 -- the walk has come to the expression e, whose parts lie ahead
 pub record Within (g : Given) (s : Schedule) (e : ExprId) (x : Option Ty) (c : Found) : Type 0 where
   pub ready : IsReady g s
-  pub state : IsWalked g.body s c
+  pub state : IsWalked g s c
   pub within : e.0 < length g.body.exprs
   pub clock : c.clock ≡ expr_start g.body s e + 1
   pub expected : IsCarriedExpectation x
@@ -110,19 +129,62 @@ IsIfOf b e c first other = slice_get b.exprs e.0 ≡ Some (expr.If c first other
 abbrev pub IsMatchOf : RawBody → ExprId → ExprId → List RawArm → Type 0
 IsMatchOf b e d arms = slice_get b.exprs e.0 ≡ Some (expr.Match d arms)
 
--- the path names a local of this type
-abbrev pub IsPathType : InferenceResult → RawPath → Ty → Type 0
-IsPathType r (path.Local v) t = BindingTy r v t
-IsPathType r (path.Function f) t = ⊥
-IsPathType r (path.Ctor named) t = ⊥
-IsPathType r path.Other t = ⊥
+abbrev pub IsCallOf : RawBody → ExprId → ExprId → List ExprId → Type 0
+IsCallOf b e called args = slice_get b.exprs e.0 ≡ Some (expr.Call called args)
+
+-- the path names a local of this type, or a function at as many types as it has parameters
+abbrev pub IsPathType : Given → InferenceResult → RawPath → Ty → Type 0
+IsPathType g r (path.Local v) t = BindingTy r v t
+IsPathType g r (path.Function f) t = (ts : List Ty) × (t ≡ ty.FnDef (callable.FunctionId f) (type_args ts)) × (fn_params g.scope.facts f.0 ≡ Some (length ts))
+IsPathType g r (path.Ctor named) t = ⊥
+IsPathType g r path.Other t = ⊥
+
+-- it names a local that has a type, or a function that exists
+abbrev pub NamesTyped : Given → InferenceResult → RawPath → Type 0
+NamesTyped g r (path.Local v) = (t : Ty) × BindingTy r v t
+NamesTyped g r (path.Function f) = IsFunction g.scope.facts f
+NamesTyped g r (path.Ctor named) = ⊥
+NamesTyped g r path.Other = ⊥
+
+-- ---- calls
+
+-- what is called is the function f, at the types ts
+pub record CalleeDone (g : Given) (s : Schedule) (called : ExprId) (f : FunctionId) (ts : List Ty) (old new : Found) : Type 0 where
+  pub walks : Walks g s Nothing old new
+  pub clock : new.clock ≡ expr_end g.body s called
+  pub has : HasTy new.result called (ty.FnDef (callable.FunctionId f) (type_args ts))
+
+-- the types that the function takes, at the types ts
+abbrev pub inputs_at : List RawType → RawFn → List Ty → List Ty
+inputs_at types x ts = map (at_args ts) (map (written_type types) x.inputs)
+
+-- The node is a call of the function f, at the types ts, which has come to its arguments.
+pub record IsCalling (g : Given) (n called : ExprId) (args : List ExprId) (f : FunctionId) (x : RawFn) (ts : List Ty) (c : Found) : Type 0 where
+  pub is_call : IsCallOf g.body n called args
+  pub within : n.0 < length g.body.exprs
+  pub found : slice_get g.scope.facts.fns f.0 ≡ Some x
+  pub has : HasTy c.result called (ty.FnDef (callable.FunctionId f) (type_args ts))
+
+-- The arguments of the call n lie ahead, after what is called.
+pub record BeforeArgs (g : Given) (s : Schedule) (n called : ExprId) (args : List ExprId) (f : FunctionId) (x : RawFn) (ts : List Ty) (c : Found) : Type 0 where
+  pub ready : IsReady g s
+  pub state : IsWalked g s c
+  pub calling : IsCalling g n called args f x ts c
+  pub ahead : LieAhead g.body s (inner (node.ExprId n)) c.clock (exprs_from argument 0 args)
+  pub ends : after g.body s c.clock (exprs_from argument 0 args) ≡ expr_end g.body s n
+
+-- they are at these types, or there are not as many, which is said
+pub record ArgsDone (g : Given) (s : Schedule) (n : ExprId) (args : List ExprId) (ss : List Ty) (old new : Found) : Type 0 where
+  pub walks : Walks g s Nothing old new
+  pub clock : new.clock ≡ expr_end g.body s n
+  pub made : ArgsRule (at_or_mismatch g new.result) n args ss
 
 -- ---- patterns
 
 -- the walk comes to the pattern p, into which x comes
 pub record BeforePat (g : Given) (s : Schedule) (p : PatId) (x : Option Ty) (c : Found) : Type 0 where
   pub ready : IsReady g s
-  pub state : IsWalked g.body s c
+  pub state : IsWalked g s c
   pub within : p.0 < length g.body.pats
   pub here : pat_start g.body s p ≡ c.clock
   pub carried : IsCarriedExpectation x
@@ -160,7 +222,7 @@ IsLitPatOf b p e = slice_get b.pats p.0 ≡ Some (pat.Lit e)
 pub record BeforeParams (g : Given) (s : Schedule) (c : Found) : Type 0 where
   pub ready : IsReady g s
   pub count : length g.inputs ≡ length g.body.params
-  pub state : IsWalked g.body s c
+  pub state : IsWalked g s c
   pub ahead : LieAhead g.body s the_body c.clock (body_parts g.body)
 
 -- each pattern of a parameter has its written type, and the root lies ahead
@@ -174,7 +236,7 @@ pub record ParamsDone (g : Given) (s : Schedule) (old new : Found) : Type 0 wher
 -- the statement of the block n lies ahead
 pub record BeforeStmt (g : Given) (s : Schedule) (n : ExprId) (x : RawStmt) (c : Found) : Type 0 where
   pub ready : IsReady g s
-  pub state : IsWalked g.body s c
+  pub state : IsWalked g s c
   pub ahead : LieAhead g.body s (inner (node.ExprId n)) c.clock (stmt_parts x)
   pub stands : (i : ℕ) × (stmt_at g.body n i ≡ Some x)
   pub carried : IsTrue (is_carried_stmt x)
@@ -186,7 +248,7 @@ pub record StmtDone (g : Given) (s : Schedule) (x : RawStmt) (old new : Found) :
 
 -- the type that is written, where one is
 abbrev pub declared_type : Given → Option TypeRefId → Option Ty
-declared_type g w = option_map (λ t. written_type g.types t) w
+declared_type g w = option_map (λ t. written_type g.scope.facts.types t) w
 
 -- the initializer of a `let` with this written type has the type t, or is at the written one
 pub record InitDone (g : Given) (s : Schedule) (w : Option TypeRefId) (e : ExprId) (t : Ty) (old new : Found) : Type 0 where
@@ -265,7 +327,7 @@ Completes x common.Unknown t = (u : Ty) → x ≡ Some u → t ≡ u
 
 pub record BeforeTail (g : Given) (s : Schedule) (n : ExprId) (last : Option ExprId) (x : Option Ty) (c : Found) : Type 0 where
   pub ready : IsReady g s
-  pub state : IsWalked g.body s c
+  pub state : IsWalked g s c
   pub within : n.0 < length g.body.exprs
   pub ahead : LieAhead g.body s (inner (node.ExprId n)) c.clock (maybe_part tail last)
   pub expected : IsCarriedExpectation x

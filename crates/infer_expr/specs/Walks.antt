@@ -11,6 +11,7 @@ use Rattle.hir_facts.specs.Order.{start, end, inner, Binds}
 use Rattle.infer_result.specs.declared.result.InferenceResult.{InferenceResult}
 use Rattle.infer_result.specs.declared.result.TypeMismatch.{TypeMismatch}
 use Rattle.infer_result.specs.declared.modes.BindingMode.{BindingMode}
+use Rattle.infer_result.specs.declared.diagnostics.InferenceDiagnostic.{InferenceDiagnostic}
 use Rattle.infer_result.specs.Table.{At, HasTy, PatTy, BindingTy, HasMode}
 use Rattle.infer_result.specs.Closed.{IsOfBody, AllTypes, OnlyBindersHaveModes}
 use Rattle.hir_facts.specs.CarriedTypes.{IsCarriedType}
@@ -18,6 +19,7 @@ use Rattle.infer_result.specs.Places.{Given, Demand}
 use Rattle.infer_result.specs.Rules.Expressions.{ObeysOrMismatch}
 use Rattle.infer_result.specs.Rules.Patterns.{PatRule}
 use Rattle.infer_result.specs.Truth.Mismatch.{IsTruePatMismatch}
+use Rattle.infer_result.specs.Truth.Calls.{IsTrueDiagnostic}
 use Rattle.infer_result.specs.Made.{IsMisfit}
 use Rattle.infer_expr.specs.Found.{Found}
 
@@ -46,22 +48,24 @@ pub record Extends (old new : InferenceResult) : Type 0 where
   pub modes : (p : PatId) (m : BindingMode) → HasMode old p m → HasMode new p m
   pub mismatches : (e : ExprId) (m : TypeMismatch) → At old.expr_mismatches e.0 m → At new.expr_mismatches e.0 m
   pub pat_mismatches : (p : PatId) (m : TypeMismatch) → At old.pat_mismatches p.0 m → At new.pat_mismatches p.0 m
+  pub diagnostics : (e : ExprId) (d : InferenceDiagnostic) → At old.expr_diagnostics e.0 d → At new.expr_diagnostics e.0 d
 
 -- each type of the table is of a carried kind
 abbrev pub IsCarriedTable : InferenceResult → Type 0
 IsCarriedTable t = AllTypes IsCarriedType t
 
--- The state of the walk: each type is of a carried kind, what has a mode binds a name, nothing is recorded at a node from the clock on, and
--- each binding whose pattern comes before it has a type.
-pub record IsWalked (b : RawBody) (s : Schedule) (c : Found) : Type 0 where
-  pub of_body : IsOfBody b c.result
+-- The state of the walk: each type is of a carried kind, what has a mode binds a name, each complaint other than a mismatch is true, nothing is
+-- recorded at a node from the clock on, and each binding whose pattern comes before it has a type.
+pub record IsWalked (g : Given) (s : Schedule) (c : Found) : Type 0 where
+  pub of_body : IsOfBody g.body c.result
   pub carried : IsCarriedTable c.result
-  pub modes : OnlyBindersHaveModes b c.result
-  pub free_exprs : (e : ExprId) → e.0 < length b.exprs → c.clock ≤ expr_start b s e → IsFree c.result.type_of_expr e.0
-  pub free_pats : (p : PatId) → p.0 < length b.pats → c.clock ≤ pat_start b s p → IsFree c.result.type_of_pat p.0
-  pub free_modes : (p : PatId) → p.0 < length b.pats → c.clock ≤ pat_start b s p → IsFree c.result.binding_modes p.0
-  pub free_bindings : (p : PatId) (v : BindingId) → Binds b p v → c.clock ≤ pat_start b s p → IsFree c.result.type_of_binding v.0
-  pub bound : (p : PatId) (v : BindingId) → Binds b p v → pat_start b s p < c.clock → (t : Ty) × BindingTy c.result v t
+  pub modes : OnlyBindersHaveModes g.body c.result
+  pub free_exprs : (e : ExprId) → e.0 < length g.body.exprs → c.clock ≤ expr_start g.body s e → IsFree c.result.type_of_expr e.0
+  pub free_pats : (p : PatId) → p.0 < length g.body.pats → c.clock ≤ pat_start g.body s p → IsFree c.result.type_of_pat p.0
+  pub free_modes : (p : PatId) → p.0 < length g.body.pats → c.clock ≤ pat_start g.body s p → IsFree c.result.binding_modes p.0
+  pub free_bindings : (p : PatId) (v : BindingId) → Binds g.body p v → c.clock ≤ pat_start g.body s p → IsFree c.result.type_of_binding v.0
+  pub bound : (p : PatId) (v : BindingId) → Binds g.body p v → pat_start g.body s p < c.clock → (t : Ty) × BindingTy c.result v t
+  pub diagnostics : (e : ExprId) (d : InferenceDiagnostic) → At c.result.expr_diagnostics e.0 d → IsTrueDiagnostic g c.result e d
 
 -- a property of mismatches and the expressions that they stand at: what the places of these have still to show
 abbrev pub Debt : Type 1
@@ -74,7 +78,7 @@ pub record Walks (g : Given) (s : Schedule) (P : Debt) (old new : Found) : Type 
   pub extends : Extends old.result new.result
   pub kept : (e : ExprId) → e.0 < length g.body.exprs → expr_start g.body s e < old.clock → slice_get new.result.type_of_expr e.0 ≡ slice_get old.result.type_of_expr e.0
   pub kept_pats : (p : PatId) → p.0 < length g.body.pats → pat_start g.body s p < old.clock → slice_get new.result.type_of_pat p.0 ≡ slice_get old.result.type_of_pat p.0
-  pub state : IsWalked g.body s new
+  pub state : IsWalked g s new
   pub made : (e : ExprId) → e.0 < length g.body.exprs → old.clock ≤ expr_start g.body s e → expr_start g.body s e < new.clock → ObeysOrMismatch g new.result e
   pub pats_made : (p : PatId) → p.0 < length g.body.pats → old.clock ≤ pat_start g.body s p → pat_start g.body s p < new.clock → PatRule g new.result p (slice_get g.body.pats p.0)
   pub truths : (e : ExprId) (m : TypeMismatch) → At new.result.expr_mismatches e.0 m → At old.result.expr_mismatches e.0 m ⊎ (IsMisfit g new.result e m × (Demand g new.result e m.expected ⊎ P e m))

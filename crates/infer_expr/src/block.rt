@@ -1,7 +1,7 @@
 //! The types of blocks.
 ghost use Rattle.std.specs.Prelude.{◌≡◌, ◌<◌, IfOk, Some, length, List};
 ghost use Rattle.hir_types.specs.Types.{unit};
-ghost use Rattle.infer_expr.specs.Context.{given_of, schedule_of, expected_type};
+ghost use Rattle.infer_expr.specs.Context.{given_of, schedule_of, expected_type, scope_in};
 ghost use Rattle.infer_result.specs.Closed.{IsOfBody};
 ghost use Rattle.infer_expr.specs.Closings.{IsSound};
 ghost use Rattle.infer_expr.specs.Fine.{IsFine, IsFineExpectation};
@@ -71,9 +71,9 @@ impl InferenceContext {
     ) -> Result<Ty, AllocError>
         requires within { block.0 < length given.now.body.now.exprs }
         requires of_body { IsOfBody given.now.body.now self.old.result }
-        requires sound { IsSound self.old }
-        requires expected { IsFineExpectation self.old.table (expected_type expected) }
-        ensures { IfOk result (λ ty. NoTailDone given.now.body.now block
+        requires sound { IsSound (scope_in given.now) self.old }
+        requires expected { IsFineExpectation (scope_in given.now) self.old.table (expected_type expected) }
+        ensures { IfOk result (λ ty. NoTailDone (given_of given.now) block
             (expected_type expected.entry) ty self.old self.new) }
     {
         match expected.only_has_type() {
@@ -96,9 +96,9 @@ impl InferenceContext {
     ) -> Result<Ty, AllocError>
         requires within { block.0 < length given.now.body.now.exprs }
         requires of_body { IsOfBody given.now.body.now self.old.result }
-        requires sound { IsSound self.old }
-        requires target { IsFine self.old.table target.now }
-        ensures { IfOk result (λ ty. NoTailDone given.now.body.now block
+        requires sound { IsSound (scope_in given.now) self.old }
+        requires target { IsFine (scope_in given.now) self.old.table target.now }
+        ensures { IfOk result (λ ty. NoTailDone (given_of given.now) block
             (Some target.now) ty self.old self.new) }
     {
         let unit = Ty::Tuple(List::new(alloc));

@@ -5,7 +5,7 @@ ghost use Rattle.hir_facts.specs.CarriedTypes.{IsCarriedType};
 ghost use Rattle.infer_expr.specs.Fine.{HasFineHeads};
 ghost use Rattle.infer_expr.specs.Under.{WrittenExist};
 ghost use Rattle.infer_expr.specs.Steps.{BeforeParams, ParamsDone, BodyDone};
-ghost use Rattle.infer_expr.specs.Context.{given_of, schedule_of, empty_context};
+ghost use Rattle.infer_expr.specs.Context.{given_of, scope_in, schedule_of, empty_context};
 
 use crate::context::InferenceContext;
 use crate::expectation::Expectation;
@@ -20,7 +20,7 @@ impl InferenceContext {
         requires written { WrittenExist (given_of given.now) }
         requires count { length given.now.inputs.now ≡ length given.now.body.now.params }
         requires carried { IsCarriedType given.now.return_ty.now }
-        requires heads { HasFineHeads given.now.return_ty.now }
+        requires heads { HasFineHeads (scope_in given.now) given.now.return_ty.now }
         requires empty { self.old ≡ empty_context given.now.body.now }
         ensures { IfOk result (λ _. BodyDone (given_of given.now) self.new) }
     {

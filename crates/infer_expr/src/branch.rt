@@ -1,6 +1,6 @@
 //! The types of `if` and `match`.
 ghost use Rattle.std.specs.Prelude.{◌≡◌, IfOk};
-ghost use Rattle.infer_expr.specs.Context.{given_of, schedule_of, expected_type};
+ghost use Rattle.infer_expr.specs.Context.{given_of, schedule_of, expected_type, scope_in};
 ghost use Rattle.infer_expr.specs.Under.{IsIfOf, IsMatchOf};
 ghost use Rattle.infer_expr.specs.Steps.{Before, Within, KindDone, BeforeElse, ElseDone, IsFineCommon, AlternativeDone, BeforeArms, ArmsDone, BeforeGuard, GuardDone};
 
@@ -36,7 +36,7 @@ impl InferenceContext {
         let none = CoerceMany::new(alloc, wanted)?;
         let first = self.infer_alternative(alloc, given, then_branch, wanted, none)?;
         let common = self.infer_else(alloc, given, tgt_expr, else_branch, wanted, first)?;
-        let ty = common.complete(alloc, self, wanted)?;
+        let ty = common.complete(alloc, self, given, wanted)?;
         Ok(ty)
     }
 
@@ -80,7 +80,7 @@ impl InferenceContext {
     ) -> Result<CoerceMany, AllocError>
         requires before { Before (given_of given.now) (schedule_of given.now)
             expr (expected_type expected) self.old }
-        requires common { IsFineCommon self.old.table common }
+        requires common { IsFineCommon (scope_in given.now) self.old.table common }
         ensures { IfOk result (λ made. AlternativeDone (given_of given.now) (schedule_of given.now)
             expr (expected_type expected.entry) common made self.old self.new) }
     {
@@ -139,7 +139,7 @@ impl InferenceContext {
             self.infer_guard(alloc, given, tgt_expr, arms[i].guard)?;
             common = self.infer_alternative(alloc, given, arms[i].expr, expected, common)?;
         }
-        let ty = common.complete(alloc, self, expected)?;
+        let ty = common.complete(alloc, self, given, expected)?;
         Ok(ty)
     }
 

@@ -1,6 +1,7 @@
 //! Coercions.
 ghost use Rattle.std.specs.Prelude.{◌≡◌, ◌<◌, IfOk, length};
 ghost use Rattle.infer_result.specs.Closed.{IsOfBody};
+ghost use Rattle.infer_expr.specs.Context.{given_of, scope_in};
 ghost use Rattle.infer_expr.specs.Closings.{IsSound};
 ghost use Rattle.infer_expr.specs.Fine.{IsFine};
 ghost use Rattle.infer_expr.specs.Steps.{IsCoercedIf};
@@ -25,10 +26,10 @@ impl InferenceContext {
     ) -> Result<bool, AllocError>
         requires within { expr.0 < length given.now.body.now.exprs }
         requires of_body { IsOfBody given.now.body.now self.old.result }
-        requires sound { IsSound self.old }
-        requires actual { IsFine self.old.table actual.now }
-        requires target { IsFine self.old.table target.now }
-        ensures { IfOk result (λ yes. IsCoercedIf yes given.now.body.now expr actual.now target.now self.old self.new) }
+        requires sound { IsSound (scope_in given.now) self.old }
+        requires actual { IsFine (scope_in given.now) self.old.table actual.now }
+        requires target { IsFine (scope_in given.now) self.old.table target.now }
+        ensures { IfOk result (λ yes. IsCoercedIf yes (given_of given.now) expr actual.now target.now self.old self.new) }
     {
         if actual.is_same(target) {
             return Ok(true);

@@ -2,7 +2,7 @@
 ghost use Rattle.std.specs.Prelude.{◌≡◌, ◌<◌, IfOk, length, Option, Some, None};
 ghost use Rattle.hir_types.specs.Types.{unit};
 ghost use Rattle.infer_result.specs.Closed.{IsOfBody};
-ghost use Rattle.infer_expr.specs.Context.{expected_type};
+ghost use Rattle.infer_expr.specs.Context.{given_of, scope_in, expected_type};
 ghost use Rattle.infer_expr.specs.Closings.{IsSound};
 ghost use Rattle.infer_expr.specs.Fine.{IsFine, IsFineExpectation};
 ghost use Rattle.infer_expr.specs.Steps.{IsFineCommon, Merges, Completes};
@@ -48,10 +48,10 @@ impl CoerceMany {
     ) -> Result<CoerceMany, AllocError>
         requires within { expr.0 < length given.now.body.now.exprs }
         requires of_body { IsOfBody given.now.body.now context.old.result }
-        requires sound { IsSound context.old }
-        requires ty { IsFine context.old.table ty }
-        requires common { IsFineCommon context.old.table self }
-        ensures { IfOk result (λ made. Merges given.now.body.now expr ty self made context.old context.new) }
+        requires sound { IsSound (scope_in given.now) context.old }
+        requires ty { IsFine (scope_in given.now) context.old.table ty }
+        requires common { IsFineCommon (scope_in given.now) context.old.table self }
+        ensures { IfOk result (λ made. Merges (given_of given.now) expr ty self made context.old context.new) }
     {
         match self {
             CoerceMany::Nothing => Ok(CoerceMany::Is(ty)),
@@ -76,9 +76,9 @@ impl CoerceMany {
     ) -> Result<CoerceMany, AllocError>
         requires within { expr.0 < length given.now.body.now.exprs }
         requires of_body { IsOfBody given.now.body.now context.old.result }
-        requires sound { IsSound context.old }
-        requires common { IsFineCommon context.old.table self }
-        ensures { IfOk result (λ made. Merges given.now.body.now expr unit self made context.old context.new) }
+        requires sound { IsSound (scope_in given.now) context.old }
+        requires common { IsFineCommon (scope_in given.now) context.old.table self }
+        ensures { IfOk result (λ made. Merges (given_of given.now) expr unit self made context.old context.new) }
     {
         let unit = Ty::Tuple(List::new(alloc));
         self.coerce(alloc, context, given, expr, unit)
@@ -90,12 +90,13 @@ impl CoerceMany {
         self,
         alloc: Global,
         context: &mut InferenceContext,
+        given: &GivenBody,
         expected: Expectation,
     ) -> Result<Ty, AllocError>
-        requires sound { IsSound context.old }
-        requires common { IsFineCommon context.old.table self }
-        requires expected { IsFineExpectation context.old.table (expected_type expected) }
-        ensures { IfOk result (λ ty. Completes (expected_type expected.entry) self ty context.old context.new) }
+        requires sound { IsSound (scope_in given.now) context.old }
+        requires common { IsFineCommon (scope_in given.now) context.old.table self }
+        requires expected { IsFineExpectation (scope_in given.now) context.old.table (expected_type expected) }
+        ensures { IfOk result (λ ty. Completes (scope_in given.now) (expected_type expected.entry) self ty context.old context.new) }
     {
         match self {
             CoerceMany::Is(ty) => Ok(ty),

@@ -2,10 +2,10 @@
 ghost use Rattle.std.specs.Prelude.{◌≡◌, ◌<◌, ◌+◌, ◌^◌, IfOk, IsTrue, None, length, replicate};
 ghost use Rattle.infer_result.specs.Table.{MismatchAt};
 ghost use Rattle.infer_expr.specs.Found.{noted};
-ghost use Rattle.infer_expr.specs.Context.{empty_context, entered, with_expr_ty, with_mismatch, with_pat_mismatch, with_pat_ty, with_mode, with_binding_ty};
+ghost use Rattle.infer_expr.specs.Context.{empty_context, entered, with_expr_ty, with_mismatch, with_diagnostic, with_pat_mismatch, with_pat_ty, with_mode, with_binding_ty};
 
 use hir_facts::{BindingId, ExprId, List, PatId, RawBody, Ty};
-use infer_result::{BindingMode, InferenceResult, TypeMismatch};
+use infer_result::{BindingMode, InferenceDiagnostic, InferenceResult, TypeMismatch};
 use infer_table::InferenceTable;
 use std::alloc::{AllocError, Global};
 
@@ -31,12 +31,12 @@ fn no_entries<T: Drop>(alloc: Global, count: usize) -> Result<List<Option<T>>, A
     Ok(entries)
 }
 
-/// Notes a mismatch in a list of those at each node, where none is there yet.
-fn note(mismatches: &mut List<Option<TypeMismatch>>, at: u32, mismatch: TypeMismatch)
-    ensures { mismatches.new ≡ noted mismatches.old at mismatch }
+/// Notes something in a list of what stands at each node, where nothing is there yet.
+fn note<T: Drop>(entries: &mut List<Option<T>>, at: u32, entry: T)
+    ensures { entries.new ≡ noted entries.old at entry }
 {
-    if let Some(None) = mismatches.get(at as usize) {
-        mismatches.set(at as usize, Some(mismatch));
+    if let Some(None) = entries.get(at as usize) {
+        entries.set(at as usize, Some(entry));
     }
 }
 
@@ -51,6 +51,7 @@ impl InferenceContext {
             type_of_binding: no_entries(alloc, body.bindings.len())?,
             binding_modes: no_entries(alloc, body.pats.len())?,
             expr_mismatches: no_entries(alloc, body.exprs.len())?,
+            expr_diagnostics: no_entries(alloc, body.exprs.len())?,
             pat_mismatches: no_entries(alloc, body.pats.len())?,
         };
         Ok(InferenceContext {
@@ -81,6 +82,14 @@ impl InferenceContext {
         ensures { self.new ≡ with_mismatch self.old expr mismatch }
     {
         note(&mut self.result.expr_mismatches, expr.0, mismatch);
+    }
+
+    /// Notes a complaint, other than a mismatch, at an expression. The first one there stays. This is
+    /// `infer.rs`'s `push_diagnostic`.
+    pub fn push_diagnostic(&mut self, expr: ExprId, diagnostic: InferenceDiagnostic)
+        ensures { self.new ≡ with_diagnostic self.old expr diagnostic }
+    {
+        note(&mut self.result.expr_diagnostics, expr.0, diagnostic);
     }
 
     /// Whether this mismatch is noted at an expression.

@@ -72,11 +72,11 @@ impl InferenceContext {
     {
         match &given.body.exprs.as_slice()[tgt_expr.0 as usize] {
             RawExpr::Lit(literal) => {
-                let ty = self.infer_literal(literal, expected)?;
+                let ty = self.infer_literal(given, literal, expected)?;
                 Ok(ty)
             }
             RawExpr::Path(path) => {
-                let ty = self.infer_expr_path(alloc, *path)?;
+                let ty = self.infer_expr_path(alloc, given, *path)?;
                 Ok(ty)
             }
             RawExpr::Tuple(exprs) => {
@@ -116,7 +116,11 @@ impl InferenceContext {
                     expected,
                 )
             }
-            RawExpr::Call { .. } | RawExpr::Other => unreachable!(),
+            RawExpr::Call { callee, args } => {
+                let ty = self.infer_call(alloc, given, tgt_expr, *callee, args.as_slice())?;
+                Ok(ty)
+            }
+            RawExpr::Other => unreachable!(),
         }
     }
 }

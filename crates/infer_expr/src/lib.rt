@@ -4,6 +4,7 @@
 mod block;
 mod body;
 mod branch;
+mod call;
 mod coerce;
 mod coerce_many;
 mod context;

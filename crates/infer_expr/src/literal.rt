@@ -2,11 +2,12 @@
 ghost use Rattle.std.specs.Prelude.{IsTrue, IfOk, IfSome};
 ghost use Rattle.hir_facts.specs.Laws.Carried.{is_carried_literal};
 ghost use Rattle.infer_expr.specs.Closings.{IsSound};
-ghost use Rattle.infer_expr.specs.Context.{expected_type};
+ghost use Rattle.infer_expr.specs.Context.{expected_type, scope_in};
 ghost use Rattle.infer_expr.specs.Steps.{LiteralDone, IntDone, IsExpectedInteger};
 
 use crate::context::InferenceContext;
 use crate::expectation::Expectation;
+use crate::given::GivenBody;
 use hir_facts::{RawLiteral, Ty, UintTy};
 use std::alloc::AllocError;
 
@@ -14,12 +15,13 @@ impl InferenceContext {
     /// The type of a literal: `infer/expr.rs`, `infer_expr_inner` at `Expr::Literal`.
     pub fn infer_literal(
         &mut self,
+        given: &GivenBody,
         literal: &RawLiteral,
         expected: Expectation,
     ) -> Result<Ty, AllocError>
         requires carried { IsTrue (is_carried_literal literal.now) }
-        requires sound { IsSound self.old }
-        ensures { IfOk result (λ ty. LiteralDone literal.now ty self.old self.new) }
+        requires sound { IsSound (scope_in given.now) self.old }
+        ensures { IfOk result (λ ty. LiteralDone (scope_in given.now) literal.now ty self.old self.new) }
     {
         match literal {
             RawLiteral::Bool(_) => Ok(Ty::Bool),
@@ -29,7 +31,7 @@ impl InferenceContext {
                 ..
             } => Ok(suffix.ty()),
             RawLiteral::Int { suffix: None, .. } => {
-                let ty = self.infer_unsuffixed(expected)?;
+                let ty = self.infer_unsuffixed(given, expected)?;
                 Ok(ty)
             }
             RawLiteral::Other => unreachable!(),
@@ -38,9 +40,13 @@ impl InferenceContext {
 
     /// The type of an integer without a suffix: what is expected of it where that says one, else a
     /// new hole for integer types.
-    fn infer_unsuffixed(&mut self, expected: Expectation) -> Result<Ty, AllocError>
-        requires { IsSound self.old }
-        ensures { IfOk result (λ ty. IntDone (expected_type expected.entry) ty self.old self.new) }
+    fn infer_unsuffixed(
+        &mut self,
+        given: &GivenBody,
+        expected: Expectation,
+    ) -> Result<Ty, AllocError>
+        requires { IsSound (scope_in given.now) self.old }
+        ensures { IfOk result (λ ty. IntDone (scope_in given.now) (expected_type expected.entry) ty self.old self.new) }
     {
         match self.expected_integer(expected) {
             Some(ty) => Ok(ty),

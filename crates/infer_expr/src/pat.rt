@@ -3,7 +3,7 @@ ghost use Rattle.std.specs.Prelude.{◌≡◌, ◌<◌, ℕ, IfOk, Some, length,
 ghost use Rattle.hir_types.specs.declared.ty.Ty.{Ty};
 ghost use Rattle.hir_types.specs.declared.ty.Ty.TheVariants as ty;
 ghost use Rattle.infer_result.specs.Closed.{IsOfBody};
-ghost use Rattle.infer_expr.specs.Context.{given_of, schedule_of, bound_by};
+ghost use Rattle.infer_expr.specs.Context.{given_of, scope_in, schedule_of, bound_by};
 ghost use Rattle.infer_expr.specs.Closings.{IsSound};
 ghost use Rattle.infer_expr.specs.Fine.{IsFine, IsFineExpectation};
 ghost use Rattle.infer_expr.specs.Under.{IsTuplePatOf, IsLitPatOf};
@@ -52,13 +52,13 @@ impl InferenceContext {
         match &given.body.pats.as_slice()[pat.0 as usize] {
             RawPat::Wild => {
                 self.enter();
-                let ty = self.given_or_new(expected)?;
+                let ty = self.given_or_new(given, expected)?;
                 self.write_pat_ty(pat, ty);
                 Ok(())
             }
             RawPat::Bind { id, .. } => {
                 self.enter();
-                let ty = self.given_or_new(expected)?;
+                let ty = self.given_or_new(given, expected)?;
                 self.infer_bind_pat(alloc, pat, *id, ty)?;
                 Ok(())
             }
@@ -71,10 +71,10 @@ impl InferenceContext {
     }
 
     /// The type that comes into a pattern, or a new hole where none does.
-    fn given_or_new(&mut self, expected: Option<Ty>) -> Result<Ty, AllocError>
-        requires sound { IsSound self.old }
-        requires fine { IsFineExpectation self.old.table expected }
-        ensures { IfOk result (λ ty. IsGivenOrNew expected ty self.old self.new) }
+    fn given_or_new(&mut self, given: &GivenBody, expected: Option<Ty>) -> Result<Ty, AllocError>
+        requires sound { IsSound (scope_in given.now) self.old }
+        requires fine { IsFineExpectation (scope_in given.now) self.old.table expected }
+        ensures { IfOk result (λ ty. IsGivenOrNew (scope_in given.now) expected ty self.old self.new) }
     {
         match expected {
             Some(ty) => Ok(ty),
@@ -123,7 +123,7 @@ impl InferenceContext {
             pat expected self.old self.new) }
     {
         self.enter();
-        let parts = self.part_tys(alloc, args.len(), &expected)?;
+        let parts = self.part_tys(alloc, given, args.len(), &expected)?;
         let tys = parts.as_slice();
         self.demand_tuple(alloc, given, pat, tys, expected)?;
         for i in 0..args.len() {
@@ -169,17 +169,18 @@ impl InferenceContext {
     fn part_tys(
         &mut self,
         alloc: Global,
+        given: &GivenBody,
         count: usize,
         expected: &Option<Ty>,
     ) -> Result<List<Ty>, AllocError>
-        requires sound { IsSound self.old }
-        requires fine { IsFineExpectation self.old.table expected.now }
-        ensures { IfOk result (λ tys. ArePartTypes count tys self.old self.new) }
+        requires sound { IsSound (scope_in given.now) self.old }
+        requires fine { IsFineExpectation (scope_in given.now) self.old.table expected.now }
+        ensures { IfOk result (λ tys. ArePartTypes (scope_in given.now) count tys self.old self.new) }
     {
         let mut tys = List::new(alloc);
         for i in 0..count {
-            let known = self.component(alloc, expected, i)?;
-            let ty = self.given_or_new(known)?;
+            let known = self.component(alloc, given, expected, i)?;
+            let ty = self.given_or_new(given, known)?;
             tys.push(ty)?;
         }
         Ok(tys)
@@ -190,12 +191,13 @@ impl InferenceContext {
     fn component(
         &self,
         alloc: Global,
+        given: &GivenBody,
         expected: &Option<Ty>,
         at: usize,
     ) -> Result<Option<Ty>, AllocError>
-        requires sound { IsSound self.now }
-        requires fine { IsFineExpectation self.now.table expected.now }
-        ensures { IfOk result (λ known. IsFineExpectation self.now.table known) }
+        requires sound { IsSound (scope_in given.now) self.now }
+        requires fine { IsFineExpectation (scope_in given.now) self.now.table expected.now }
+        ensures { IfOk result (λ known. IsFineExpectation (scope_in given.now) self.now.table known) }
     {
         let Some(ty) = expected else {
             return Ok(None);
@@ -224,10 +226,10 @@ impl InferenceContext {
     ) -> Result<(), AllocError>
         requires within { pat.0 < length given.now.body.now.pats }
         requires of_body { IsOfBody given.now.body.now self.old.result }
-        requires sound { IsSound self.old }
-        requires tys { (i : ℕ) (t : Ty) → slice_get tys.now i ≡ Some t → IsFine self.old.table t }
-        requires fine { IsFineExpectation self.old.table expected }
-        ensures { IfOk result (λ _. TupleDemanded given.now.body.now pat tys.now expected self.old self.new) }
+        requires sound { IsSound (scope_in given.now) self.old }
+        requires tys { (i : ℕ) (t : Ty) → slice_get tys.now i ≡ Some t → IsFine (scope_in given.now) self.old.table t }
+        requires fine { IsFineExpectation (scope_in given.now) self.old.table expected }
+        ensures { IfOk result (λ _. TupleDemanded (given_of given.now) pat tys.now expected self.old self.new) }
     {
         let ty = tuple_of(alloc, tys)?;
         match expected {

@@ -29,6 +29,7 @@ pub fn infer_query_with_inspect<I: ObligationInspector>(
     let body = facts.body(id);
     let given = GivenBody {
         facts,
+        owner: def,
         body,
         schedule: facts.schedule(id),
         inputs: facts.inputs(def),

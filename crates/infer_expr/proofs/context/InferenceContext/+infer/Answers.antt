@@ -10,10 +10,11 @@ use Rattle.hir_facts.specs.Order.{inner}
 use Rattle.hir_types.specs.declared.ids.ExprOrPatId.TheVariants as node
 use Rattle.infer_expr.specs.Closings.{IsSound}
 use Rattle.infer_expr.specs.Fine.{IsFineExpectation}
-use Rattle.infer_expr.specs.Context.{given_of, schedule_of, expected_type, entered, with_expr_ty}
+use Rattle.infer_expr.specs.Context.{given_of, scope_in, schedule_of, expected_type, entered, with_expr_ty}
 use Rattle.infer_expr.specs.Under.{declared_type}
-use Rattle.infer_expr.specs.Steps.{Before, Within, OwnDone, KindDone, CoerceDone, StmtDone, BeforeStmt, BeforePat, PatDone, IsGivenOrNew}
-use Rattle.infer_expr.proofs.Expressions.{comes_within, own_done, coerced_done, literal_kind, path_typed, path_kind}
+use Rattle.infer_expr.specs.Steps.{Before, Within, OwnDone, KindDone, CoerceDone, StmtDone, BeforeStmt, BeforePat, PatDone, IsGivenOrNew, BeforeInputs, OnlyBinds}
+use Rattle.infer_expr.proofs.Expressions.{comes_within, own_done, coerced_done, literal_kind}
+use Rattle.infer_expr.proofs.PathWalk.{path_typed, path_kind}
 use Rattle.infer_expr.proofs.StmtWalk.{let_written, comes_to_init, init_walked, comes_to_pat, let_walked, comes_to_bare_pat, bare_let_walked, expr_walked}
 use Rattle.infer_expr.proofs.Closed.{sound_entered}
 use Rattle.infer_expr.proofs.FineTypes.{fine_expectation_grown}
@@ -24,6 +25,10 @@ use Rattle.infer_expr.proofs.BlockWalk.{begins_block, comes_to_stmt, goes_past_s
 use Rattle.infer_expr.proofs.BranchWalk.{alternative_done, comes_to_condition, goes_past_condition, comes_to_branch, branch_common, goes_past_branch, comes_to_else, expected_after, ends_if, else_before, else_typed, else_missing}
 use Rattle.infer_expr.proofs.ArmWalk.{arm_at, comes_to_scrutinee, begins_patterns, comes_to_pattern, goes_past_pattern, comes_to_arms, ends_match, begins_arms, comes_to_guard, comes_to_arm, common_at_arm, goes_past_arm, expected_in_arms, ends_arms, comes_to_guard_expr, guard_typed, guard_missing}
 use Rattle.infer_expr.proofs.Branches.{less_twice}
+use Rattle.infer_expr.proofs.CallWalk.{AtOthers, comes_to_callee, calls_function, comes_to_args, called_then, sig_inputs, takes_inputs, ends_call, comes_to_arg, goes_past_arg, ends_args, still_fine, binds_nothing, begins_others, comes_to_other, goes_past_other, ends_others}
+use Rattle.infer_expr.proofs.AtEach.{follows_twice}
+use Rattle.hir_facts.specs.Signatures.{type_args}
+use Rattle.infer_expr.proofs.context.InferenceContext.+infer.Goals.{check_miscounted_arguments-then-i-inputs+in_ok-unify_with, check_miscounted_arguments-else-i-inputs}
 use Rattle.infer_expr.proofs.context.InferenceContext.+infer.Goals as goal
 
 pub infer_block-loop-i-init : goal.infer_block-loop-i-init
@@ -70,7 +75,7 @@ pub infer_expr_of_kind-infer_expr_path-requires : goal.infer_expr_of_kind-infer_
 infer_expr_of_kind-infer_expr_path-requires t c =
     let is : slice_get c.args.given.now.body.now.exprs c.args.tgt_expr.0 ≡ Some (expr.Path c.in-Path.path)
     = slice_get_read c.args.given.now.body.now.exprs _ c.args.tgt_expr.0 _ refl c.requires.within (rw c.as_slice.ensures at c.index-as_slice-tgt_expr.is) ∙ ap (λ x. Some x) c.in-Path.is in
-    path_typed _ _ _ _ c.in-Path.path _ c.requires is
+    record { of_body = c.requires.state.of_body; sound = c.requires.state.sound; names = path_typed _ _ _ _ c.in-Path.path _ c.requires is }
 
 pub infer_expr_of_kind-infer_tuple-requires : goal.infer_expr_of_kind-infer_tuple-requires
 infer_expr_of_kind-infer_tuple-requires t c =
@@ -96,7 +101,7 @@ pub infer_expr_of_kind-returns-in_ok-ty-in-Path : goal.infer_expr_of_kind-return
 infer_expr_of_kind-returns-in_ok-ty-in-Path t c =
     let is : slice_get c.args.given.now.body.now.exprs c.args.tgt_expr.0 ≡ Some (expr.Path c.in-Path.path)
     = slice_get_read c.args.given.now.body.now.exprs _ c.args.tgt_expr.0 _ refl c.requires.within (rw c.as_slice.ensures at c.index-as_slice-tgt_expr.is) ∙ ap (λ x. Some x) c.in-Path.is in
-    path_kind _ _ _ _ c.in-Path.path _ _ c.requires is c.in_ok-ty-in-Path.ensures
+    path_kind _ _ _ _ c.in-Path.path _ _ _ c.requires is c.in_ok-ty-in-Path.ensures
 
 pub infer_expr_stmt-returns-in_ok-infer_expr_coerce : goal.infer_expr_stmt-returns-in_ok-infer_expr_coerce
 infer_expr_stmt-returns-in_ok-infer_expr_coerce t c =
@@ -161,25 +166,25 @@ pub infer_tuple-returns : goal.infer_tuple-returns
 infer_tuple-returns t c = ends_tuple _ _ _ _ _ _ _ _ c.loop-i.invariant _ c.requires.before c.requires.is c.loop-i-test.false
 
 pub infer_pat-given_or_new-requires-clause-sound : goal.infer_pat-given_or_new-requires-clause-sound
-infer_pat-given_or_new-requires-clause-sound t c = subst (λ k. IsSound k) (sym c.enter.ensures) (sound_entered _ c.requires.state.sound)
+infer_pat-given_or_new-requires-clause-sound t c = subst (λ k. IsSound (scope_in c.args.given.now) k) (sym c.enter.ensures) (sound_entered _ c.requires.state.sound)
 
 pub infer_pat-given_or_new-requires-in-Bind-clause-sound : goal.infer_pat-given_or_new-requires-in-Bind-clause-sound
-infer_pat-given_or_new-requires-in-Bind-clause-sound t c = subst (λ k. IsSound k) (sym c.enter-in-Bind.ensures) (sound_entered _ c.requires.state.sound)
+infer_pat-given_or_new-requires-in-Bind-clause-sound t c = subst (λ k. IsSound (scope_in c.args.given.now) k) (sym c.enter-in-Bind.ensures) (sound_entered _ c.requires.state.sound)
 
 pub infer_pat-infer_bind_pat-requires-clause-bindings : goal.infer_pat-infer_bind_pat-requires-clause-bindings
 infer_pat-infer_bind_pat-requires-clause-bindings t c =
     let is : slice_get c.args.given.now.body.now.pats c.args.pat.0 ≡ Some (pat.Bind c.in-Bind.id c.in-Bind.subpat)
     = slice_get_read c.args.given.now.body.now.pats _ c.args.pat.0 _ refl c.requires.within (rw c.as_slice.ensures at c.index-as_slice-pat.is) ∙ ap (λ x. Some x) c.in-Bind.is in
-    let made : IsGivenOrNew c.args.expected c.in_ok-ty-in-Bind.ty (entered c.args.self.now) c.given_or_new-in-Bind.new.self
-    = subst (λ k. IsGivenOrNew c.args.expected c.in_ok-ty-in-Bind.ty k c.given_or_new-in-Bind.new.self) c.enter-in-Bind.ensures c.in_ok-ty-in-Bind.ensures in
+    let made : IsGivenOrNew (scope_in c.args.given.now) c.args.expected c.in_ok-ty-in-Bind.ty (entered c.args.self.now) c.given_or_new-in-Bind.new.self
+    = subst (λ k. IsGivenOrNew (scope_in c.args.given.now) c.args.expected c.in_ok-ty-in-Bind.ty k c.given_or_new-in-Bind.new.self) c.enter-in-Bind.ensures c.in_ok-ty-in-Bind.ensures in
     bind_within (given_of c.args.given.now) (schedule_of c.args.given.now) c.args.pat c.args.expected c.in_ok-ty-in-Bind.ty c.args.self.now c.given_or_new-in-Bind.new.self c.requires made c.in-Bind.id c.in-Bind.subpat is
 
 pub infer_pat-returns-in_ok-ty-in-Wild : goal.infer_pat-returns-in_ok-ty-in-Wild
 infer_pat-returns-in_ok-ty-in-Wild t c =
     let is : slice_get c.args.given.now.body.now.pats c.args.pat.0 ≡ Some pat.Wild
     = slice_get_read c.args.given.now.body.now.pats _ c.args.pat.0 _ refl c.requires.within (rw c.as_slice.ensures at c.index-as_slice-pat.is) ∙ ap (λ x. Some x) c.in-Wild.is in
-    let made : IsGivenOrNew c.args.expected c.in_ok-ty-in-Wild.ty (entered c.args.self.now) c.given_or_new.new.self
-    = subst (λ k. IsGivenOrNew c.args.expected c.in_ok-ty-in-Wild.ty k c.given_or_new.new.self) c.enter.ensures c.in_ok-ty-in-Wild.ensures in
+    let made : IsGivenOrNew (scope_in c.args.given.now) c.args.expected c.in_ok-ty-in-Wild.ty (entered c.args.self.now) c.given_or_new.new.self
+    = subst (λ k. IsGivenOrNew (scope_in c.args.given.now) c.args.expected c.in_ok-ty-in-Wild.ty k c.given_or_new.new.self) c.enter.ensures c.in_ok-ty-in-Wild.ensures in
     subst (λ k. PatDone (given_of c.args.given.now) (schedule_of c.args.given.now) c.args.pat c.args.expected c.args.self.now k) (sym c.write_pat_ty.ensures)
     (wild_walked (given_of c.args.given.now) (schedule_of c.args.given.now) c.args.pat c.args.expected c.in_ok-ty-in-Wild.ty c.args.self.now c.given_or_new.new.self c.requires made is)
 
@@ -187,8 +192,8 @@ pub infer_pat-returns-in_ok-infer_bind_pat-in-Bind : goal.infer_pat-returns-in_o
 infer_pat-returns-in_ok-infer_bind_pat-in-Bind t c =
     let is : slice_get c.args.given.now.body.now.pats c.args.pat.0 ≡ Some (pat.Bind c.in-Bind.id c.in-Bind.subpat)
     = slice_get_read c.args.given.now.body.now.pats _ c.args.pat.0 _ refl c.requires.within (rw c.as_slice.ensures at c.index-as_slice-pat.is) ∙ ap (λ x. Some x) c.in-Bind.is in
-    let made : IsGivenOrNew c.args.expected c.in_ok-ty-in-Bind.ty (entered c.args.self.now) c.given_or_new-in-Bind.new.self
-    = subst (λ k. IsGivenOrNew c.args.expected c.in_ok-ty-in-Bind.ty k c.given_or_new-in-Bind.new.self) c.enter-in-Bind.ensures c.in_ok-ty-in-Bind.ensures in
+    let made : IsGivenOrNew (scope_in c.args.given.now) c.args.expected c.in_ok-ty-in-Bind.ty (entered c.args.self.now) c.given_or_new-in-Bind.new.self
+    = subst (λ k. IsGivenOrNew (scope_in c.args.given.now) c.args.expected c.in_ok-ty-in-Bind.ty k c.given_or_new-in-Bind.new.self) c.enter-in-Bind.ensures c.in_ok-ty-in-Bind.ensures in
     subst (λ k. PatDone (given_of c.args.given.now) (schedule_of c.args.given.now) c.args.pat c.args.expected c.args.self.now k) (sym c.in_ok-infer_bind_pat-in-Bind.ensures)
     (bind_walked (given_of c.args.given.now) (schedule_of c.args.given.now) c.args.pat c.args.expected c.in_ok-ty-in-Bind.ty c.args.self.now c.given_or_new-in-Bind.new.self c.requires made c.in-Bind.id c.in-Bind.subpat is)
 
@@ -251,15 +256,18 @@ infer_lit_pat-returns t c =
     (lit_walked _ _ _ c.args.expr _ _ c.requires.before c.requires.is _ _ done _ fits)
 
 pub infer_tuple_pat-part_tys-requires-clause-sound : goal.infer_tuple_pat-part_tys-requires-clause-sound
-infer_tuple_pat-part_tys-requires-clause-sound t c = subst (λ k. IsSound k) (sym c.enter.ensures) (sound_entered _ c.requires.before.state.sound)
+infer_tuple_pat-part_tys-requires-clause-sound t c = subst (λ k. IsSound (scope_in c.args.given.now) k) (sym c.enter.ensures) (sound_entered _ c.requires.before.state.sound)
 
 pub infer_tuple_pat-part_tys-requires-clause-fine : goal.infer_tuple_pat-part_tys-requires-clause-fine
-infer_tuple_pat-part_tys-requires-clause-fine t c = subst (λ k. IsFineExpectation k.table c.args.expected) (sym c.enter.ensures) c.requires.before.fine
+infer_tuple_pat-part_tys-requires-clause-fine t c = subst (λ k. IsFineExpectation (scope_in c.args.given.now) k.table c.args.expected) (sym c.enter.ensures) c.requires.before.fine
+
+pub infer_tuple_pat-demand_tuple-requires-clause-tys : goal.infer_tuple_pat-demand_tuple-requires-clause-tys
+infer_tuple_pat-demand_tuple-requires-clause-tys t c = λ i u e. c.in_ok-parts.ensures.fine i u (subst (λ us. slice_get us i ≡ Some u) c.as_slice-tys.ensures e)
 
 pub infer_tuple_pat-demand_tuple-requires-clause-fine : goal.infer_tuple_pat-demand_tuple-requires-clause-fine
 infer_tuple_pat-demand_tuple-requires-clause-fine t c =
-    fine_expectation_grown c.enter.new.self.table c.part_tys.new.self.table c.args.expected c.in_ok-parts.ensures.grew
-    (subst (λ k. IsFineExpectation k.table c.args.expected) (sym c.enter.ensures) c.requires.before.fine)
+    fine_expectation_grown (scope_in c.args.given.now) c.enter.new.self.table c.part_tys.new.self.table c.args.expected c.in_ok-parts.ensures.grew
+    (subst (λ k. IsFineExpectation (scope_in c.args.given.now) k.table c.args.expected) (sym c.enter.ensures) c.requires.before.fine)
 
 pub infer_tuple_pat-loop-i-init : goal.infer_tuple_pat-loop-i-init
 infer_tuple_pat-loop-i-init t c =
@@ -418,3 +426,89 @@ infer_expr_of_kind-infer_match-requires t c =
     let is : slice_get c.args.given.now.body.now.exprs c.args.tgt_expr.0 ≡ Some (expr.Match c.in-Match.scrutinee c.in-Match.arms)
     = slice_get_read c.args.given.now.body.now.exprs _ c.args.tgt_expr.0 _ refl c.requires.within (rw c.as_slice.ensures at c.index-as_slice-tgt_expr.is) ∙ ap (λ x. Some x) c.in-Match.is in
     (omega (arith, c.decreases), (c.requires, is ∙ ap (λ l. Some (expr.Match c.in-Match.scrutinee l)) (sym c.as_slice-in-Match.ensures)))
+
+-- ---- calls
+
+pub infer_call-infer_callee-requires-clause-before : goal.infer_call-infer_callee-requires-clause-before
+infer_call-infer_callee-requires-clause-before t c = comes_to_callee _ _ _ _ _ _ c.requires.before c.requires.is
+
+pub infer_call-infer_callee-requires-clause-names : goal.infer_call-infer_callee-requires-clause-names
+infer_call-infer_callee-requires-clause-names t c = calls_function _ _ _ _ _ _ c.requires.before c.requires.is
+
+pub infer_call-check_call-requires : goal.infer_call-check_call-requires
+infer_call-check_call-requires t c = (
+  omega (arith, c.decreases, c.in_ok-callee_ty.ensures.follows.clock),
+  comes_to_args _ _ _ _ _ _ c.requires.before c.requires.is _ _ c.in_ok-callee_ty.ensures,
+)
+
+pub infer_call-returns : goal.infer_call-returns
+infer_call-returns t c = called_then _ _ _ _ _ _ c.requires.before c.requires.is _ _ _ _ c.in_ok-callee_ty.ensures c.in_ok-ty.ensures
+
+pub check_call-check_call_arguments-requires : goal.check_call-check_call_arguments-requires
+check_call-check_call_arguments-requires t c =
+    let sig = c.in_ok-inputs.ensures c.requires.function (type_args c.requires.types) c.requires.item.function c.requires.is c.requires.item.found in (
+      omega (arith, c.decreases),
+      subst (λ us. BeforeInputs (given_of c.args.given.now) (schedule_of c.args.given.now) c.args.tgt_expr c.args.args.now us c.args.self.now) (sym c.as_slice.ensures) (takes_inputs _ _ _ _ _ _ c.requires c.in_ok-inputs.field-0 sig),
+    )
+
+pub check_call-returns : goal.check_call-returns
+check_call-returns t c =
+    let sig = c.in_ok-inputs.ensures c.requires.function (type_args c.requires.types) c.requires.item.function c.requires.is c.requires.item.found in
+    ends_call _ _ _ _ _ _ c.requires _ _ _ (c.as_slice.ensures ∙ sig_inputs _ _ _ _ _ _ c.requires c.in_ok-inputs.field-0 sig) sig.output c.in_ok-check_call_arguments.ensures
+
+pub check_arguments-infer_expr_coerce-requires : goal.check_arguments-infer_expr_coerce-requires
+check_arguments-infer_expr_coerce-requires t c =
+    let within : c.loop-i.i < length c.args.inputs.now = omega (arith, c.loop-i-test.true, c.requires.count) in
+    let input : slice_get c.args.inputs.now c.loop-i.i ≡ Some c.index-inputs-i.result = slice_get_read c.args.inputs.now _ c.loop-i.i _ refl within c.index-inputs-i.is in (
+      omega (arith, c.decreases, c.loop-i.invariant.walk.follows.clock),
+      comes_to_arg _ _ _ _ _ _ c.loop-i.invariant.before _ _ c.loop-i.invariant.walk _ _ (get_or_default _ _ _ _ c.loop-i-test.true) c.loop-i-test.true input,
+    )
+
+pub check_arguments-loop-i-preserved : goal.check_arguments-loop-i-preserved
+check_arguments-loop-i-preserved t c =
+    let within : c.loop-i.i < length c.args.inputs.now = omega (arith, c.loop-i-test.true, c.requires.count) in
+    let input : slice_get c.args.inputs.now c.loop-i.i ≡ Some c.index-inputs-i.result = slice_get_read c.args.inputs.now _ c.loop-i.i _ refl within c.index-inputs-i.is in
+    record {
+      before = c.loop-i.invariant.before;
+      walk = goes_past_arg _ _ _ _ _ _ c.loop-i.invariant.before _ _ c.loop-i.invariant.walk _ _ (get_or_default _ _ _ _ c.loop-i-test.true) c.loop-i-test.true input _ _ c.requires.count c.in_ok-infer_expr_coerce.ensures;
+    }
+
+pub check_arguments-returns : goal.check_arguments-returns
+check_arguments-returns t c = ends_args _ _ _ _ _ _ c.loop-i.invariant.before _ _ c.loop-i.invariant.walk c.requires.count c.loop-i-test.false
+
+pub check_miscounted_arguments-loop-i-init : goal.check_miscounted_arguments-loop-i-init
+check_miscounted_arguments-loop-i-init t c =
+    subst (λ k. AtOthers (given_of c.args.given.now) (schedule_of c.args.given.now) c.args.call_expr c.args.args.now c.args.inputs.now 0 c.args.self.now k) (sym c.push_diagnostic.ensures) (record {
+      before = c.requires.before;
+      differ = c.requires.differ;
+      walk = begins_others _ _ _ _ _ _ c.requires.before c.requires.differ;
+    })
+
+pub check_miscounted_arguments-infer_expr_inner-requires : goal.check_miscounted_arguments-infer_expr_inner-requires
+check_miscounted_arguments-infer_expr_inner-requires t c = (
+  omega (arith, c.decreases, c.loop-i.invariant.walk.follows.clock, c.requires.before.before.ready.room),
+  comes_to_other _ _ _ _ _ _ c.loop-i.invariant.before c.loop-i.invariant.differ _ _ c.loop-i.invariant.walk _ (get_or_default _ _ _ _ c.loop-i-test.true) c.loop-i-test.true,
+)
+
+pub check_miscounted_arguments-unify_with-requires-clause-other : goal.check_miscounted_arguments-unify_with-requires-clause-other
+check_miscounted_arguments-unify_with-requires-clause-other t c =
+    let input : slice_get c.args.inputs.now c.loop-i.i ≡ Some c.index-inputs-i.result = slice_get_read c.args.inputs.now _ c.loop-i.i _ refl c.if-i-inputs.true c.index-inputs-i.is in
+    still_fine _ _ _ _ _ _ c.loop-i.invariant.before c.loop-i.i _ c.infer_expr_inner.new.self (follows_twice _ _ _ _ c.loop-i.invariant.walk.follows c.in_ok-ty.ensures.follows).grew input
+
+pub check_miscounted_arguments-loop-i-preserved : goal.check_miscounted_arguments-loop-i-preserved
+check_miscounted_arguments-loop-i-preserved t c =
+    let g = given_of c.args.given.now in
+    let inv = c.loop-i.invariant in
+    let typed = c.infer_expr_inner.new.self in
+    let binds : OnlyBinds g typed c.if-i-inputs.self = elim c.if-i-inputs.branch [
+      | check_miscounted_arguments-then-i-inputs+in_ok-unify_with w ↦ subst (λ k. OnlyBinds g typed k) (sym w.self-is) w.in_ok-unify_with.ensures
+      | check_miscounted_arguments-else-i-inputs w ↦ subst (λ k. OnlyBinds g typed k) (sym w.self-is) (binds_nothing g typed c.in_ok-ty.ensures.follows.of_body c.in_ok-ty.ensures.follows.sound)
+    ] in
+    record {
+      before = inv.before;
+      differ = inv.differ;
+      walk = goes_past_other _ _ _ _ _ _ inv.before inv.differ _ _ inv.walk _ (get_or_default _ _ _ _ c.loop-i-test.true) c.loop-i-test.true _ _ _ c.in_ok-ty.ensures binds;
+    }
+
+pub check_miscounted_arguments-returns : goal.check_miscounted_arguments-returns
+check_miscounted_arguments-returns t c = ends_others _ _ _ _ _ _ c.loop-i.invariant.before c.loop-i.invariant.differ _ _ c.loop-i.invariant.walk c.loop-i-test.false

@@ -4,6 +4,7 @@ use Rattle.infer_expr.proofs.TupleWalk.{TupleWalk}
 use Rattle.infer_expr.proofs.BlockWalk.{BlockWalk}
 use Rattle.infer_expr.proofs.TuplePatWalk.{TuplePatWalk}
 use Rattle.infer_expr.proofs.ArmWalk.{PatternWalk, ArmWalk}
+use Rattle.infer_expr.proofs.CallWalk.{AtArgs, AtOthers}
 use Rattle.infer_expr.proofs.context.InferenceContext.+infer.Given as goal
 
 -- the room that is left for the clock, and then how near a function stands to the next step of it
@@ -86,3 +87,26 @@ invariant-infer_match-loop-i l = PatternWalk (given_of l.given) (schedule_of l.g
 
 abbrev pub invariant-infer_arms-loop-i : goal.invariant-infer_arms-loop-i
 invariant-infer_arms-loop-i l = ArmWalk (given_of l.given) (schedule_of l.given) l.fn.tgt_expr l.arms (expected_type l.expected) l.i l.common l.initial.self l.self
+
+-- ---- calls
+
+abbrev pub decreases-infer_call : goal.decreases-infer_call
+decreases-infer_call l = 16 * (2 ^ 64 - l.self.now.clock) + 9
+
+abbrev pub decreases-check_call : goal.decreases-check_call
+decreases-check_call l = 16 * (2 ^ 64 - l.self.now.clock) + 8
+
+abbrev pub decreases-check_call_arguments : goal.decreases-check_call_arguments
+decreases-check_call_arguments l = 16 * (2 ^ 64 - l.self.now.clock) + 7
+
+abbrev pub decreases-check_arguments : goal.decreases-check_arguments
+decreases-check_arguments l = 16 * (2 ^ 64 - l.self.now.clock) + 6
+
+abbrev pub decreases-check_miscounted_arguments : goal.decreases-check_miscounted_arguments
+decreases-check_miscounted_arguments l = 16 * (2 ^ 64 - l.self.now.clock) + 6
+
+abbrev pub invariant-check_arguments-loop-i : goal.invariant-check_arguments-loop-i
+invariant-check_arguments-loop-i l = AtArgs (given_of l.given) (schedule_of l.given) l.fn.call_expr l.args l.inputs l.i l.fn.self l.self
+
+abbrev pub invariant-check_miscounted_arguments-loop-i : goal.invariant-check_miscounted_arguments-loop-i
+invariant-check_miscounted_arguments-loop-i l = AtOthers (given_of l.given) (schedule_of l.given) l.fn.call_expr l.args l.inputs l.i l.fn.self l.self

@@ -2,7 +2,7 @@ use Rattle.std.proofs.Common.{sym, subst, Option}
 use Rattle.hir_types.specs.declared.ty.Ty.{Ty}
 use Rattle.hir_types.specs.declared.ty.Ty.TheVariants as ty
 use Rattle.infer_table.specs.Table.{hole_count}
-use Rattle.infer_expr.specs.Context.{expected_type}
+use Rattle.infer_expr.specs.Context.{scope_in, expected_type}
 use Rattle.infer_expr.specs.Steps.{IntDone}
 use Rattle.infer_expr.proofs.Holes.{known_int, int_hole}
 use Rattle.infer_expr.proofs.Unified.{with_table}
@@ -11,8 +11,8 @@ use Rattle.infer_expr.proofs.context.InferenceContext.infer_unsuffixed.Goals as 
 pub returns-in_ok-ty-in-None : goal.returns-in_ok-ty-in-None
 returns-in_ok-ty-in-None c =
     let x : Option Ty = expected_type c.args.expected in
-    subst (λ t. IntDone x t c.args.self.now (with_table c.args.self.now c.next_int_var.new.self)) (sym c.in_ok-ty-in-None.ensures.hole)
-    (subst (λ s. IntDone x (ty.IntVar (hole_count c.args.self.now.table)) c.args.self.now (with_table c.args.self.now s)) (sym c.in_ok-ty-in-None.ensures.made)
+    subst (λ t. IntDone (scope_in c.args.given.now) x t c.args.self.now (with_table c.args.self.now c.next_int_var.new.self)) (sym c.in_ok-ty-in-None.ensures.hole)
+    (subst (λ s. IntDone (scope_in c.args.given.now) x (ty.IntVar (hole_count c.args.self.now.table)) c.args.self.now (with_table c.args.self.now s)) (sym c.in_ok-ty-in-None.ensures.made)
     (int_hole c.args.self.now x c.requires))
 
 pub returns-in-Some : goal.returns-in-Some
