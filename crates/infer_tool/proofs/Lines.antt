@@ -1,8 +1,7 @@
--- Texts written piece by piece: types joined by commas, and lines.
+-- Texts written piece by piece: items joined by commas, and lines.
 use Rattle.std.proofs.Common.{◌≡◌, ◌++◌, List, [], ◌∷◌, map, ℕ, ◌+◌, ◌<◌, ◌≤◌, length, take, drop, get_or, refl, sym, ap, ◌∙◌, append_assoc, add-one, drop-cons, arith, codes}
 use Rattle.std.proofs.lemmas.List.{map_more, length-take-le, length-map, drop_all, append-nil}
-use Rattle.hir_types.specs.declared.ty.Ty.{Ty}
-use Rattle.infer_result.specs.Report.{ty_text, joined, separator, lines_from}
+use Rattle.infer_result.specs.Report.{joined, separator, lines_from}
 
 push_joined : (xs : List (List ℕ)) (x : List ℕ) → joined (xs ++ x ∷ []) ≡ joined xs ++ separator (length xs) ++ x
 push_joined [] x = refl
@@ -11,17 +10,18 @@ push_joined (y ∷ z ∷ zs) x =
     let rest : joined (z ∷ zs ++ x ∷ []) ≡ joined (z ∷ zs) ++ codes ", " ++ x = push_joined (z ∷ zs) x in
     ap (λ (w : List ℕ). y ++ codes ", " ++ w) rest ∙ simp append_assoc
 
-length_front : (ts : List Ty) (i : ℕ) → i < length ts → length (map ty_text (take i ts)) ≡ i
-length_front ts i lt = simp length-map (length-take-le i ts (omega arith))
+length_front : {A : Type 0} (f : A → List ℕ) (xs : List A) (i : ℕ) → i < length xs → length (map f (take i xs)) ≡ i
+length_front f xs i lt = simp length-map (length-take-le i xs (omega arith))
 
--- one type more was joined
-pub joins_on : (ts : List Ty) (i : ℕ) (t : Ty) (start now between done : List ℕ) → i < length ts → t ≡ get_or ts i t
-    → now ≡ start ++ joined (map ty_text (take i ts)) → between ≡ now ++ separator i → done ≡ between ++ ty_text t
-    → done ≡ start ++ joined (map ty_text (take (i + 1) ts))
-joins_on ts i t start now between done lt is a b c =
-    let e : map ty_text (take (i + 1) ts) ≡ map ty_text (take i ts) ++ ty_text t ∷ [] = rw (map_more ty_text ts i t lt, ← is) refl in
-    let f : joined (map ty_text (take (i + 1) ts)) ≡ joined (map ty_text (take i ts)) ++ separator i ++ ty_text t = rw e (push_joined (map ty_text (take i ts)) (ty_text t) ∙ ap (λ n. joined (map ty_text (take i ts)) ++ separator n ++ ty_text t) (length_front ts i lt)) in
-    c ∙ rw (b, a, f) (simp append_assoc)
+-- one item more was joined
+pub joins_on : {A : Type 0} (f : A → List ℕ) (xs : List A) (i : ℕ) (x : A) (start now between done : List ℕ) → i < length xs → x ≡ get_or xs i x
+    → now ≡ start ++ joined (map f (take i xs)) → between ≡ now ++ separator i → done ≡ between ++ f x
+    → done ≡ start ++ joined (map f (take (i + 1) xs))
+joins_on f xs i x start now between done lt is a b c =
+    let e : map f (take (i + 1) xs) ≡ map f (take i xs) ++ f x ∷ [] = rw (map_more f xs i x lt, ← is) refl in
+    let text : joined (map f (take (i + 1) xs)) ≡ joined (map f (take i xs)) ++ separator i ++ f x =
+    rw e (push_joined (map f (take i xs)) (f x) ∙ ap (λ n. joined (map f (take i xs)) ++ separator n ++ f x) (length_front f xs i lt)) in
+    c ∙ rw (b, a, text) (simp append_assoc)
 
 -- one line more was written
 pub writes_on : {A : Type 0} (f : ℕ → A → List ℕ) (xs : List A) (i : ℕ) (x : A) (now done total : List ℕ) → i < length xs → x ≡ get_or xs i x

@@ -1,6 +1,8 @@
 mod adts;
 mod bodies;
 mod branches;
+mod calls;
+mod generics;
 mod integers;
 mod kinds;
 mod laws;

@@ -1,39 +1,126 @@
-//! Adts, variants, parameters and `_`, which are read, and which the first law refuses so far.
-use super::laws::{CARRIED, broken, swapped};
-use super::{NOT_CARRIED, check_body};
+//! Adts, variants, parameters and `_`: what is read of them, and what the first law refuses so far.
+use super::laws::{CARRIED, COUNTS, IDS, broken, swapped};
+use super::{LET, LET_REPORT, NOT_CARRIED, PLAIN, check, check_body, with_body};
+use std::process::Abort;
 use std::test::Fail;
 
-const PARAMS: &str = "\"params\":[],\"preds\":[]";
+const NO_ADTS: &str = r#""adts":[],"variants":[]"#;
 
+/// `struct S<T>(T);`
 const STRUCT: &str =
-    r#""adts":[{"name":"S","kind":"enum","params":["t",["c",0]],"preds":[],"variants":[],"repr":"u8","unsize":0}"#;
+    r#""adts":[{"name":"S","kind":"struct","params":["t"],"preds":[],"variants":[0],"repr":null,"unsize":null}],"variants":[{"adt":0,"name":"S","ctor":"tuple","fields":[{"name":"0","type":0,"vis":0}],"body":null}]"#;
 
-const TUPLE: &str =
-    r#""variants":[{"adt":0,"name":"S","ctor":"tuple","fields":[{"name":"0","type":0,"vis":0}],"body":0}"#;
+/// `enum E { A, B }`
+const ENUM: &str =
+    r#""adts":[{"name":"E","kind":"enum","params":[],"preds":[],"variants":[1,0],"repr":"u8","unsize":null}],"variants":[{"adt":0,"name":"A","ctor":"unit","fields":[],"body":null},{"adt":0,"name":"B","ctor":"unit","fields":[],"body":null}]"#;
+
+const PARAMS: &str = r#""params":[],"preds":[]"#;
+
+const TYPE_PARAM: &str = r#""params":["t"],"preds":[]"#;
+
+/// Runs on the first run's text with `new` in the place of `old`, which changes nothing of its report.
+fn carried(rt: &(impl Abort + AllocGlobal), old: &str, new: &str) -> Result<(), Fail> {
+    let text = with_body(rt.alloc(), LET)?;
+    let (front, back) = text.as_str().split_once(old).ok_or("nothing to swap")?;
+    let text = format!(in rt.alloc(); "{front}{new}{back}")?;
+    check(rt, &PLAIN, text.as_str(), 0, LET_REPORT, "")
+}
 
 #[test]
-fn carries_no_adts(rt: HostRuntime) -> Result<(), Fail> {
+fn carries_adts(rt: HostRuntime) -> Result<(), Fail> {
+    let rt = &rt;
+    carried(rt, NO_ADTS, STRUCT)?;
+    carried(rt, NO_ADTS, ENUM)?;
+    carried(rt, "[\"u8\"]", r#"["u8",["param",0]]"#)?;
+    carried(rt, PARAMS, TYPE_PARAM)
+}
+
+/// An adt of this kind, with these parameters and predicates, and `unsize`.
+fn adt(
+    rt: &(impl Abort + AllocGlobal),
+    kind: &str,
+    params: &str,
+    preds: &str,
+    unsize: &str,
+) -> Result<(), Fail> {
+    let front = r#""adts":[{"name":"S","kind":"#;
+    let back = r#""variants":[],"repr":null,"unsize":"#;
+    let new = format!(in rt.alloc();
+        "{front}\"{kind}\",\"params\":{params},\"preds\":{preds},{back}{unsize}}}"
+    )?;
+    broken(
+        rt,
+        "\"adts\":[",
+        new.as_str(),
+        "0 is broken at adts[0]",
+        CARRIED,
+    )
+}
+
+#[test]
+fn carries_no_other_adts(rt: HostRuntime) -> Result<(), Fail> {
+    let rt = &rt;
+    adt(rt, "union", "[]", "[]", "null")?;
+    adt(rt, "struct", r#"["t",["c",0]]"#, "[]", "null")?;
+    adt(rt, "struct", "[]", "[0]", "null")?;
+    adt(rt, "struct", r#"["t"]"#, "[]", "0")
+}
+
+const RECORD: &str = r#""variants":[{"adt":0,"name":"S","ctor":"record","fields":[],"body":null}"#;
+
+const DISCRIMINANT: &str = r#""variants":[{"adt":0,"name":"S","ctor":"unit","fields":[],"body":0}"#;
+
+#[test]
+fn carries_no_other_variants(rt: HostRuntime) -> Result<(), Fail> {
+    let rt = &rt;
+    let variants = "\"variants\":[";
+    let at = "0 is broken at variants[0]";
+    broken(rt, variants, RECORD, at, CARRIED)?;
+    broken(rt, variants, DISCRIMINANT, at, CARRIED)
+}
+
+#[test]
+fn carries_no_other_types(rt: HostRuntime) -> Result<(), Fail> {
     let rt = &rt;
     let types = "[\"u8\"]";
     let at = "0 is broken at types[1]";
     broken(rt, types, r#"["u8","_"]"#, at, CARRIED)?;
-    broken(rt, types, r#"["u8",["param",0]]"#, at, CARRIED)?;
-    broken(rt, types, r#"["u8",["adt",0,[["t",0]]]]"#, at, CARRIED)?;
     broken(rt, types, r#"["u8",["adt",0,[["c",3]]]]"#, at, CARRIED)?;
-    broken(rt, "\"adts\":[", STRUCT, "0 is broken at adts[0]", CARRIED)?;
-    broken(
-        rt,
-        "\"variants\":[",
-        TUPLE,
-        "0 is broken at variants[0]",
-        CARRIED,
-    )?;
     broken(
         rt,
         PARAMS,
-        r#""params":["t"],"preds":[]"#,
+        r#""params":[["c",0]],"preds":[]"#,
         "0 is broken at fns[0]",
         CARRIED,
+    )
+}
+
+const NO_VARIANTS: &str =
+    r#""adts":[{"name":"S","kind":"struct","params":[],"preds":[],"variants":[],"repr":null,"unsize":null}"#;
+
+const NO_ADT: &str = r#""variants":[{"adt":0,"name":"S","ctor":"unit","fields":[],"body":null}"#;
+
+#[test]
+fn knows_adts(rt: HostRuntime) -> Result<(), Fail> {
+    let rt = &rt;
+    let types = "[\"u8\"]";
+    let adt = r#"["u8",["adt",0,[["t",0]]]]"#;
+    broken(rt, types, adt, "1 is broken at types[1]", IDS)?;
+    let param = r#"[["param",0]]"#;
+    broken(rt, types, param, "2 is broken at fns[0]", COUNTS)?;
+    broken(
+        rt,
+        "\"adts\":[",
+        NO_VARIANTS,
+        "2 is broken at adts[0]",
+        COUNTS,
+    )?;
+    broken(
+        rt,
+        "\"variants\":[",
+        NO_ADT,
+        "1 is broken at variants[0]",
+        IDS,
     )
 }
 

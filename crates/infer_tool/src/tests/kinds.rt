@@ -44,6 +44,9 @@ fn reads_matches(rt: HostRuntime) -> Result<(), Fail> {
 /// `f()`
 const CALL: &str = r#"1,"exprs":[["path",["fn",0,null]],["call",0,[]]],"pats":[],"bindings":[]"#;
 
+/// `true()`
+const NO_PATH: &str = r#"1,"exprs":[["lit",["bool",true]],["call",0,[]]],"pats":[],"bindings":[]"#;
+
 /// `f::<u8>()`
 const WRITTEN: &str =
     r#"1,"exprs":[["path",["fn",0,[["t",0]]]],["call",0,[]]],"pats":[],"bindings":[]"#;
@@ -61,7 +64,8 @@ const AT_FUNCTION: &str =
 
 #[test]
 fn reads_calls(rt: HostRuntime) -> Result<(), Fail> {
-    check_body(&rt, CALL, 8, "", NOT_CARRIED)?;
+    check_body(&rt, CALL, 0, "fn 0\ne0 fn0\ne1 u8\ncomplaints 0\n", "")?;
+    check_body(&rt, NO_PATH, 8, "", NOT_CARRIED)?;
     check_body(&rt, WRITTEN, 8, "", NOT_CARRIED)?;
     check_body(&rt, NO_ARGUMENT, 7, "", AT_ARGUMENT)?;
     check_body(&rt, NO_FUNCTION, 7, "", AT_FUNCTION)

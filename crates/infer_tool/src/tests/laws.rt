@@ -31,10 +31,10 @@ pub fn broken(
 
 pub const CARRIED: &str = "each entry and part is of a kind that is carried";
 
-const IDS: &str =
+pub const IDS: &str =
     "ids are in range, and smaller where a list asks for it, each body is that of one definition, and adts and variants agree";
 
-const COUNTS: &str =
+pub const COUNTS: &str =
     "inputs are as many as parameters of the body, arguments as parameters, and a struct has one variant";
 
 const TREES: &str = "the nodes of a body are a tree, and each binding is bound once";
@@ -54,20 +54,6 @@ fn carries_no_items(rt: HostRuntime) -> Result<(), Fail> {
         "\"u8\"]",
         "\"str\"]",
         "0 is broken at types[0]",
-        CARRIED,
-    )?;
-    broken(
-        rt,
-        "\"adts\":[",
-        "\"adts\":[{\"name\":\"S\",\"kind\":\"struct\",\"params\":[],\"preds\":[],\"variants\":[0],\"repr\":null,\"unsize\":null}",
-        "0 is broken at adts[0]",
-        CARRIED,
-    )?;
-    broken(
-        rt,
-        "\"variants\":[",
-        "\"variants\":[{\"adt\":0,\"name\":\"S\",\"ctor\":\"unit\",\"fields\":[],\"body\":null}",
-        "0 is broken at variants[0]",
         CARRIED,
     )?;
     broken(
@@ -176,6 +162,13 @@ fn knows_ids(rt: HostRuntime) -> Result<(), Fail> {
         rt,
         "\"body\":0}",
         "\"body\":null}",
+        "1 is broken at bodies[0]",
+        IDS,
+    )?;
+    broken(
+        rt,
+        "[\"local\",0,null]",
+        "[\"fn\",1,null]",
         "1 is broken at bodies[0]",
         IDS,
     )?;

@@ -2,11 +2,11 @@
 ghost use Rattle.std.specs.Prelude.{◌≡◌, ◌++◌, List, OnOk, IfOk, string_bytes, count_by, is_some};
 ghost use Rattle.std.specs.Option.{option_copied};
 ghost use Rattle.infer_result.specs.Table.{recorded};
-ghost use Rattle.infer_result.specs.Report.{def_line, expr_line, mode_text, pat_line, binding_line, mismatch_head, pat_mismatch_head, type_field, mismatch_line, pat_mismatch_line, lines_from, complaint_count, report};
+ghost use Rattle.infer_result.specs.Report.{def_line, expr_line, mode_text, pat_line, binding_line, mismatch_head, pat_mismatch_head, type_field, mismatch_line, diagnostic_text, diagnostic_line, expr_complaints, pat_mismatch_line, lines_from, complaint_count, report};
 
 use super::types::{push_ty, push_type};
-use hir_facts::{DefWithBodyId, Facts, Ty};
-use infer_result::{BindingMode, InferenceResult, Mutability, TypeMismatch};
+use hir_facts::{DefWithBodyId, Facts, RawFacts, Ty};
+use infer_result::{BindingMode, InferenceDiagnostic, InferenceResult, Mutability, TypeMismatch};
 use std::alloc::{AllocError, Global};
 
 fn push_def(out: &mut String, def: DefWithBodyId) -> Result<(), AllocError>
@@ -32,19 +32,24 @@ fn push_def(out: &mut String, def: DefWithBodyId) -> Result<(), AllocError>
     }
 }
 
-fn push_expr(out: &mut String, at: usize, ty: &Option<Ty>) -> Result<(), AllocError>
-    ensures { OnOk result (string_bytes out.new ≡ string_bytes out.old ++ expr_line at ty.now) }
+fn push_expr(
+    out: &mut String,
+    facts: &RawFacts,
+    at: usize,
+    ty: &Option<Ty>,
+) -> Result<(), AllocError>
+    ensures { OnOk result (string_bytes out.new ≡ string_bytes out.old ++ expr_line facts.now at ty.now) }
 {
     write!(out, "e{at} ")?;
-    push_type(out, ty)?;
+    push_type(out, facts, ty)?;
     out.push_str("\n")
 }
 
-fn push_exprs(out: &mut String, types: &[Option<Ty>]) -> Result<(), AllocError>
-    ensures { OnOk result (string_bytes out.new ≡ string_bytes out.old ++ lines_from expr_line 0 types.now) }
+fn push_exprs(out: &mut String, facts: &RawFacts, types: &[Option<Ty>]) -> Result<(), AllocError>
+    ensures { OnOk result (string_bytes out.new ≡ string_bytes out.old ++ lines_from (expr_line facts.now) 0 types.now) }
 {
     for (at, ty) in types.iter().enumerate() {
-        push_expr(out, at, ty)?;
+        push_expr(out, facts, at, ty)?;
     }
     Ok(())
 }
@@ -68,44 +73,51 @@ fn mode_at(modes: &[Option<BindingMode>], at: usize) -> Option<BindingMode>
 
 fn push_pat(
     out: &mut String,
+    facts: &RawFacts,
     modes: &[Option<BindingMode>],
     at: usize,
     ty: &Option<Ty>,
 ) -> Result<(), AllocError>
-    ensures { OnOk result (string_bytes out.new ≡ string_bytes out.old ++ pat_line modes.now at ty.now) }
+    ensures { OnOk result (string_bytes out.new ≡ string_bytes out.old ++ pat_line facts.now modes.now at ty.now) }
 {
     write!(out, "p{at} ")?;
-    push_type(out, ty)?;
+    push_type(out, facts, ty)?;
     out.push_str(mode_name(mode_at(modes, at)))?;
     out.push_str("\n")
 }
 
 fn push_pats(
     out: &mut String,
+    facts: &RawFacts,
     modes: &[Option<BindingMode>],
     types: &[Option<Ty>],
 ) -> Result<(), AllocError>
-    ensures { OnOk result (string_bytes out.new ≡ string_bytes out.old ++ lines_from (pat_line modes.now) 0 types.now) }
+    ensures { OnOk result (string_bytes out.new ≡ string_bytes out.old ++ lines_from (pat_line facts.now modes.now) 0 types.now) }
 {
     for (at, ty) in types.iter().enumerate() {
-        push_pat(out, modes, at, ty)?;
+        push_pat(out, facts, modes, at, ty)?;
     }
     Ok(())
 }
 
-fn push_binding(out: &mut String, at: usize, ty: &Option<Ty>) -> Result<(), AllocError>
-    ensures { OnOk result (string_bytes out.new ≡ string_bytes out.old ++ binding_line at ty.now) }
+fn push_binding(
+    out: &mut String,
+    facts: &RawFacts,
+    at: usize,
+    ty: &Option<Ty>,
+) -> Result<(), AllocError>
+    ensures { OnOk result (string_bytes out.new ≡ string_bytes out.old ++ binding_line facts.now at ty.now) }
 {
     write!(out, "b{at} ")?;
-    push_type(out, ty)?;
+    push_type(out, facts, ty)?;
     out.push_str("\n")
 }
 
-fn push_bindings(out: &mut String, types: &[Option<Ty>]) -> Result<(), AllocError>
-    ensures { OnOk result (string_bytes out.new ≡ string_bytes out.old ++ lines_from binding_line 0 types.now) }
+fn push_bindings(out: &mut String, facts: &RawFacts, types: &[Option<Ty>]) -> Result<(), AllocError>
+    ensures { OnOk result (string_bytes out.new ≡ string_bytes out.old ++ lines_from (binding_line facts.now) 0 types.now) }
 {
     for (at, ty) in types.iter().enumerate() {
-        push_binding(out, at, ty)?;
+        push_binding(out, facts, at, ty)?;
     }
     Ok(())
 }
@@ -125,53 +137,116 @@ fn push_pat_head(out: &mut String, at: usize) -> Result<(), AllocError>
 }
 
 #[tactic(auto, unfolding(infer_result::specs::Report::type_field))]
-fn push_field(out: &mut String, name: &str, ty: &Ty) -> Result<(), AllocError>
-    ensures { OnOk result (string_bytes out.new ≡ string_bytes out.old ++ type_field name.now ty.now) }
+fn push_field(out: &mut String, facts: &RawFacts, name: &str, ty: &Ty) -> Result<(), AllocError>
+    ensures { OnOk result (string_bytes out.new ≡ string_bytes out.old ++ type_field facts.now name.now ty.now) }
 {
     out.push_str(name)?;
-    push_ty(out, ty)
+    push_ty(out, facts, ty)
 }
 
 fn push_mismatch(
     out: &mut String,
+    facts: &RawFacts,
     at: usize,
     mismatch: &Option<TypeMismatch>,
 ) -> Result<(), AllocError>
-    ensures { OnOk result (string_bytes out.new ≡ string_bytes out.old ++ mismatch_line at mismatch.now) }
+    ensures { OnOk result (string_bytes out.new ≡ string_bytes out.old ++ mismatch_line facts.now at mismatch.now) }
 {
     match mismatch {
         None => Ok(()),
         Some(mismatch) => {
             push_head(out, at)?;
-            push_field(out, " expected=", &mismatch.expected)?;
-            push_field(out, " actual=", &mismatch.actual)?;
+            push_field(out, facts, " expected=", &mismatch.expected)?;
+            push_field(out, facts, " actual=", &mismatch.actual)?;
             out.push_str("\n")
         }
     }
 }
 
-fn push_mismatches(out: &mut String, mismatches: &[Option<TypeMismatch>]) -> Result<(), AllocError>
-    ensures { OnOk result (string_bytes out.new ≡ string_bytes out.old ++ lines_from mismatch_line 0 mismatches.now) }
+#[tactic(auto, unfolding(infer_result::specs::Report::diagnostic_text))]
+fn push_diagnostic_text(out: &mut String, diagnostic: InferenceDiagnostic) -> Result<(), AllocError>
+    ensures { OnOk result (string_bytes out.new ≡ string_bytes out.old ++ diagnostic_text diagnostic) }
+{
+    match diagnostic {
+        InferenceDiagnostic::MismatchedArgCount {
+            call_expr,
+            expected,
+            found,
+        } => {
+            let call = call_expr.0;
+            write!(
+                out,
+                "MismatchedArgCount e{call} expected={expected} found={found}"
+            )
+        }
+    }
+}
+
+fn push_diagnostic(
+    out: &mut String,
+    diagnostic: Option<InferenceDiagnostic>,
+) -> Result<(), AllocError>
+    ensures { OnOk result (string_bytes out.new ≡ string_bytes out.old ++ diagnostic_line diagnostic) }
+{
+    match diagnostic {
+        None => Ok(()),
+        Some(diagnostic) => {
+            push_diagnostic_text(out, diagnostic)?;
+            out.push_str("\n")
+        }
+    }
+}
+
+fn diagnostic_at(
+    diagnostics: &[Option<InferenceDiagnostic>],
+    at: usize,
+) -> Option<InferenceDiagnostic>
+    ensures { result ≡ recorded diagnostics.now at }
+{
+    *diagnostics.get(at)?
+}
+
+fn push_complaints_at(
+    out: &mut String,
+    facts: &RawFacts,
+    diagnostics: &[Option<InferenceDiagnostic>],
+    at: usize,
+    mismatch: &Option<TypeMismatch>,
+) -> Result<(), AllocError>
+    ensures { OnOk result (string_bytes out.new ≡ string_bytes out.old ++ expr_complaints facts.now diagnostics.now at mismatch.now) }
+{
+    push_mismatch(out, facts, at, mismatch)?;
+    push_diagnostic(out, diagnostic_at(diagnostics, at))
+}
+
+fn push_expr_complaints(
+    out: &mut String,
+    facts: &RawFacts,
+    diagnostics: &[Option<InferenceDiagnostic>],
+    mismatches: &[Option<TypeMismatch>],
+) -> Result<(), AllocError>
+    ensures { OnOk result (string_bytes out.new ≡ string_bytes out.old ++ lines_from (expr_complaints facts.now diagnostics.now) 0 mismatches.now) }
 {
     for (at, mismatch) in mismatches.iter().enumerate() {
-        push_mismatch(out, at, mismatch)?;
+        push_complaints_at(out, facts, diagnostics, at, mismatch)?;
     }
     Ok(())
 }
 
 fn push_pat_mismatch(
     out: &mut String,
+    facts: &RawFacts,
     at: usize,
     mismatch: &Option<TypeMismatch>,
 ) -> Result<(), AllocError>
-    ensures { OnOk result (string_bytes out.new ≡ string_bytes out.old ++ pat_mismatch_line at mismatch.now) }
+    ensures { OnOk result (string_bytes out.new ≡ string_bytes out.old ++ pat_mismatch_line facts.now at mismatch.now) }
 {
     match mismatch {
         None => Ok(()),
         Some(mismatch) => {
             push_pat_head(out, at)?;
-            push_field(out, " expected=", &mismatch.expected)?;
-            push_field(out, " actual=", &mismatch.actual)?;
+            push_field(out, facts, " expected=", &mismatch.expected)?;
+            push_field(out, facts, " actual=", &mismatch.actual)?;
             out.push_str("\n")
         }
     }
@@ -179,12 +254,13 @@ fn push_pat_mismatch(
 
 fn push_pat_mismatches(
     out: &mut String,
+    facts: &RawFacts,
     mismatches: &[Option<TypeMismatch>],
 ) -> Result<(), AllocError>
-    ensures { OnOk result (string_bytes out.new ≡ string_bytes out.old ++ lines_from pat_mismatch_line 0 mismatches.now) }
+    ensures { OnOk result (string_bytes out.new ≡ string_bytes out.old ++ lines_from (pat_mismatch_line facts.now) 0 mismatches.now) }
 {
     for (at, mismatch) in mismatches.iter().enumerate() {
-        push_pat_mismatch(out, at, mismatch)?;
+        push_pat_mismatch(out, facts, at, mismatch)?;
     }
     Ok(())
 }
@@ -199,30 +275,38 @@ fn count_some<T>(entries: &[Option<T>]) -> usize
 pub fn count_complaints(table: &InferenceResult) -> usize
     ensures { result ≡ complaint_count table.now }
 {
-    count_some(table.expr_mismatches.as_slice()) + count_some(table.pat_mismatches.as_slice())
+    count_some(table.expr_mismatches.as_slice())
+        + count_some(table.expr_diagnostics.as_slice())
+        + count_some(table.pat_mismatches.as_slice())
 }
 
-/// The report on the table of a definition's body: docs/FORMAT.md. The facts are not looked at: no type that
-/// is carried yet names one of theirs. Its one error is want of memory.
+/// The report on the table of a definition's body: docs/FORMAT.md. Its one error is want of memory.
 pub fn write_report(
     alloc: Global,
     def: DefWithBodyId,
-    _facts: &Facts,
+    facts: &Facts,
     table: &InferenceResult,
 ) -> Result<String, AllocError>
-    ensures { IfOk result (λ text. string_bytes text ≡ report def _facts.now table.now) }
+    ensures { IfOk result (λ text. string_bytes text ≡ report def facts.now table.now) }
 {
     let mut out = String::new(alloc);
+    let raw = facts.raw();
     push_def(&mut out, def)?;
-    push_exprs(&mut out, table.type_of_expr.as_slice())?;
+    push_exprs(&mut out, raw, table.type_of_expr.as_slice())?;
     push_pats(
         &mut out,
+        raw,
         table.binding_modes.as_slice(),
         table.type_of_pat.as_slice(),
     )?;
-    push_bindings(&mut out, table.type_of_binding.as_slice())?;
-    push_mismatches(&mut out, table.expr_mismatches.as_slice())?;
-    push_pat_mismatches(&mut out, table.pat_mismatches.as_slice())?;
+    push_bindings(&mut out, raw, table.type_of_binding.as_slice())?;
+    push_expr_complaints(
+        &mut out,
+        raw,
+        table.expr_diagnostics.as_slice(),
+        table.expr_mismatches.as_slice(),
+    )?;
+    push_pat_mismatches(&mut out, raw, table.pat_mismatches.as_slice())?;
     let count = count_complaints(table);
     writeln!(&mut out, "complaints {count}")?;
     Ok(out)

@@ -1,9 +1,13 @@
 //! Types as text.
 ghost use Rattle.std.specs.Prelude.{◌≡◌, ◌++◌, List, map, OnOk, codes, string_bytes};
 ghost use Rattle.std.specs.Fmt.{decimal};
-ghost use Rattle.infer_result.specs.Report.{int_text, uint_text, float_text, const_text, ref_text, ptr_text, label_text, safety_text, separator, joined, tuple_text, ty_text, type_text};
+ghost use Rattle.infer_result.specs.Report.{int_text, uint_text, float_text, const_text, ref_text, ptr_text, label_text, safety_text, callable_text, separator, joined, tuple_text, args_text, adt_text, arg_text, ty_text, type_text};
 
-use hir_types::{ClosureId, Const, FloatTy, IntTy, List, Mutability, Safety, Ty, UintTy};
+use hir_facts::RawFacts;
+use hir_types::{
+    AdtId, CallableDefId, ClosureId, Const, FloatTy, GenericArg, IntTy, List, Mutability, Region,
+    Safety, Ty, UintTy,
+};
 use std::alloc::AllocError;
 
 fn int_name(int: IntTy) -> &'static str
@@ -70,17 +74,26 @@ fn ptr_name(mutability: Mutability) -> &'static str
     }
 }
 
-fn push(out: &mut String, text: &str) -> Result<(), AllocError>
-    ensures { OnOk result (string_bytes out.new ≡ string_bytes out.old ++ text.now) }
-{
-    out.push_str(text)
-}
-
 fn push_closure(out: &mut String, id: ClosureId) -> Result<(), AllocError>
     ensures { OnOk result (string_bytes out.new ≡ string_bytes out.old ++ (codes "closure e" ++ decimal id.0.0)) }
 {
     let number = id.0.0;
     write!(out, "closure e{number}")
+}
+
+fn push_callable(out: &mut String, id: CallableDefId) -> Result<(), AllocError>
+    ensures { OnOk result (string_bytes out.new ≡ string_bytes out.old ++ callable_text id) }
+{
+    match id {
+        CallableDefId::FunctionId(function) => {
+            let number = function.0;
+            write!(out, "fn{number}")
+        }
+        CallableDefId::VariantId(variant) => {
+            let number = variant.0;
+            write!(out, "variant{number}")
+        }
+    }
 }
 
 fn push_label(out: &mut String, label: &str) -> Result<(), AllocError>
@@ -92,6 +105,21 @@ fn push_label(out: &mut String, label: &str) -> Result<(), AllocError>
         out.push_str(label)?;
         out.push_str(" ")
     }
+}
+
+fn push_ref(out: &mut String, mutability: Mutability, region: &Region) -> Result<(), AllocError>
+    ensures { OnOk result (string_bytes out.new ≡ string_bytes out.old ++ (codes "&" ++ label_text region.now.0 ++ ref_text mutability)) }
+{
+    out.push_str("&")?;
+    push_label(out, region.0.as_str())?;
+    out.push_str(ref_name(mutability))
+}
+
+fn push_ptr(out: &mut String, mutability: Mutability) -> Result<(), AllocError>
+    ensures { OnOk result (string_bytes out.new ≡ string_bytes out.old ++ (codes "*" ++ ptr_text mutability)) }
+{
+    out.push_str("*")?;
+    out.push_str(ptr_name(mutability))
 }
 
 fn push_const(out: &mut String, value: Const) -> Result<(), AllocError>
@@ -116,34 +144,101 @@ fn push_separator(out: &mut String, at: usize) -> Result<(), AllocError>
 }
 
 #[cycle(shown)]
-fn push_joined(out: &mut String, types: &[Ty]) -> Result<(), AllocError>
-    ensures { OnOk result (string_bytes out.new ≡ string_bytes out.old ++ joined (map ty_text types.now)) }
+fn push_joined(out: &mut String, facts: &RawFacts, types: &[Ty]) -> Result<(), AllocError>
+    ensures { OnOk result (string_bytes out.new ≡ string_bytes out.old ++ joined (map (ty_text facts.now) types.now)) }
 {
     for (at, ty) in types.iter().enumerate() {
         push_separator(out, at)?;
-        push_ty(out, ty)?;
+        push_ty(out, facts, ty)?;
     }
     Ok(())
 }
 
 #[cycle(shown)]
-fn push_tuple(out: &mut String, types: &List<Ty>) -> Result<(), AllocError>
-    ensures { OnOk result (string_bytes out.new ≡ string_bytes out.old ++ tuple_text (map ty_text types.now)) }
+fn push_tuple(out: &mut String, facts: &RawFacts, types: &List<Ty>) -> Result<(), AllocError>
+    ensures { OnOk result (string_bytes out.new ≡ string_bytes out.old ++ tuple_text (map (ty_text facts.now) types.now)) }
 {
     out.push_str("(")?;
-    push_joined(out, types.as_slice())?;
+    push_joined(out, facts, types.as_slice())?;
     if types.len() == 1 {
         out.push_str(",")?;
     }
     out.push_str(")")
 }
 
-/// Writes a type. What is written with names of the facts that they do not carry yet is `{unknown}`:
-/// no type that fits the facts is one.
+#[cycle(shown)]
+#[tactic(auto, using(crate::proofs::TypeTexts::arg_text_is))]
+fn push_arg(out: &mut String, facts: &RawFacts, arg: &GenericArg) -> Result<(), AllocError>
+    ensures { OnOk result (string_bytes out.new ≡ string_bytes out.old ++ arg_text facts.now arg.now) }
+{
+    match arg {
+        GenericArg::Ty(ty) => push_ty(out, facts, ty),
+        GenericArg::Const(value) => push_const(out, *value),
+    }
+}
+
+#[cycle(shown)]
+fn push_joined_args(
+    out: &mut String,
+    facts: &RawFacts,
+    args: &[GenericArg],
+) -> Result<(), AllocError>
+    ensures { OnOk result (string_bytes out.new ≡ string_bytes out.old ++ joined (map (arg_text facts.now) args.now)) }
+{
+    for (at, arg) in args.iter().enumerate() {
+        push_separator(out, at)?;
+        push_arg(out, facts, arg)?;
+    }
+    Ok(())
+}
+
+#[cycle(shown)]
+fn push_args(out: &mut String, facts: &RawFacts, args: &List<GenericArg>) -> Result<(), AllocError>
+    ensures { OnOk result (string_bytes out.new ≡ string_bytes out.old ++ args_text (map (arg_text facts.now) args.now)) }
+{
+    if args.is_empty() {
+        return Ok(());
+    }
+    out.push_str("<")?;
+    push_joined_args(out, facts, args.as_slice())?;
+    out.push_str(">")
+}
+
+#[cycle(shown)]
+fn push_adt(
+    out: &mut String,
+    facts: &RawFacts,
+    id: AdtId,
+    args: &List<GenericArg>,
+) -> Result<(), AllocError>
+    ensures { OnOk result (string_bytes out.new ≡ string_bytes out.old ++ adt_text facts.now id (map (arg_text facts.now) args.now)) }
+{
+    match facts.adts.get(id.0 as usize) {
+        None => out.push_str("{unknown}"),
+        Some(adt) => {
+            out.push_str(adt.name.as_str())?;
+            push_args(out, facts, args)
+        }
+    }
+}
+
+/// Writes what stands between a function's name and its output.
+#[cycle(shown)]
+fn push_inputs(out: &mut String, facts: &RawFacts, types: &List<Ty>) -> Result<(), AllocError>
+    ensures { OnOk result (string_bytes out.new ≡ string_bytes out.old ++ (codes "(" ++ joined (map (ty_text facts.now) types.now) ++ codes ") -> ")) }
+{
+    out.push_str("(")?;
+    push_joined(out, facts, types.as_slice())?;
+    out.push_str(") -> ")
+}
+
+/// Writes a type: adts by their names in the facts, functions and constructors by their numbers. What
+/// is written with names of traits, aliases and opaque types, which the facts do not carry yet, is
+/// `{unknown}`: no type that fits the facts is one.
 #[cycle(shown)]
 #[tactic(auto, using(crate::proofs::TypeTexts::ty_text_is))]
-pub fn push_ty(out: &mut String, ty: &Ty) -> Result<(), AllocError>
-    ensures { OnOk result (string_bytes out.new ≡ string_bytes out.old ++ ty_text ty.now) }
+pub fn push_ty(out: &mut String, facts: &RawFacts, ty: &Ty) -> Result<(), AllocError>
+    ensures { OnOk result (string_bytes out.new ≡ string_bytes out.old ++ ty_text facts.now ty.now) }
 {
     match ty {
         Ty::Bool => out.push_str("bool"),
@@ -153,54 +248,48 @@ pub fn push_ty(out: &mut String, ty: &Ty) -> Result<(), AllocError>
         Ty::Float(float) => out.push_str(float_name(*float)),
         Ty::Str => out.push_str("str"),
         Ty::Never => out.push_str("!"),
-        Ty::Tuple(types) => push_tuple(out, types),
+        Ty::Tuple(types) => push_tuple(out, facts, types),
         Ty::Array(ty, length) => {
             out.push_str("[")?;
-            push_ty(out, ty.get())?;
+            push_ty(out, facts, ty.get())?;
             out.push_str("; ")?;
             push_const(out, *length)?;
             out.push_str("]")
         }
         Ty::Slice(ty) => {
             out.push_str("[")?;
-            push_ty(out, ty.get())?;
+            push_ty(out, facts, ty.get())?;
             out.push_str("]")
         }
         Ty::Ref(mutability, region, ty) => {
-            push(out, "&")?;
-            push_label(out, region.0.as_str())?;
-            push(out, ref_name(*mutability))?;
-            push_ty(out, ty.get())?;
-            Ok(())
+            push_ref(out, *mutability, region)?;
+            push_ty(out, facts, ty.get())
         }
         Ty::RawPtr(mutability, ty) => {
-            push(out, "*")?;
-            push(out, ptr_name(*mutability))?;
-            push_ty(out, ty.get())?;
-            Ok(())
+            push_ptr(out, *mutability)?;
+            push_ty(out, facts, ty.get())
+        }
+        Ty::Adt(id, args) => push_adt(out, facts, *id, args),
+        Ty::FnDef(id, args) => {
+            push_callable(out, *id)?;
+            push_args(out, facts, args)
         }
         Ty::FnPtr {
             safety,
             inputs,
             output,
         } => {
-            push(out, safety_name(*safety))?;
-            push(out, "(")?;
-            push_joined(out, inputs.as_slice())?;
-            push(out, ") -> ")?;
-            push_ty(out, output.get())?;
-            Ok(())
+            out.push_str(safety_name(*safety))?;
+            push_inputs(out, facts, inputs)?;
+            push_ty(out, facts, output.get())
         }
         Ty::Closure { id, inputs, output } => {
             push_closure(out, *id)?;
-            push(out, "(")?;
-            push_joined(out, inputs.as_slice())?;
-            push(out, ") -> ")?;
-            push_ty(out, output.get())?;
-            Ok(())
+            push_inputs(out, facts, inputs)?;
+            push_ty(out, facts, output.get())
         }
         Ty::Param(number) => write!(out, "param{number}"),
-        Ty::Adt(..) | Ty::FnDef(..) | Ty::Dynamic { .. } => out.push_str("{unknown}"),
+        Ty::Dynamic { .. } => out.push_str("{unknown}"),
         Ty::Projection(..) | Ty::Opaque(..) | Ty::Error => out.push_str("{unknown}"),
         Ty::Var(hole) | Ty::IntVar(hole) => write!(out, "?{hole}"),
         Ty::Hole => out.push_str("_"),
@@ -208,11 +297,11 @@ pub fn push_ty(out: &mut String, ty: &Ty) -> Result<(), AllocError>
 }
 
 /// Writes the type of a node, where it has one.
-pub fn push_type(out: &mut String, ty: &Option<Ty>) -> Result<(), AllocError>
-    ensures { OnOk result (string_bytes out.new ≡ string_bytes out.old ++ type_text ty.now) }
+pub fn push_type(out: &mut String, facts: &RawFacts, ty: &Option<Ty>) -> Result<(), AllocError>
+    ensures { OnOk result (string_bytes out.new ≡ string_bytes out.old ++ type_text facts.now ty.now) }
 {
     match ty {
         None => out.push_str("{unknown}"),
-        Some(ty) => push_ty(out, ty),
+        Some(ty) => push_ty(out, facts, ty),
     }
 }
