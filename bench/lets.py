@@ -3,9 +3,10 @@
 
 The statements are `let v = w;` (copies: each local has the type of the one before); in turn `let v = 1;` and
 `let w: u8 = v;` (integers: each second statement says what an integer of the first is); or in turn `let v = 1;`,
-`let v = if true { w } else { w };` and `let v = match (w, true) { (a, true) => a, (a, _) => a };` (branches).
+`let v = if true { w } else { w };` and `let v = match (w, true) { (a, true) => a, (a, _) => a };` (branches); or in turn
+`let v = id(w);` and `same(v, w);` after one `let v = 1;`, of `fn id<T>(x: T) -> T` and `fn same<T>(a: T, b: T)` (calls).
 Beside each, where rustc is found, the time of its pass `type_check_crate` over the same function.
-Usage: bench/lets.py [copies|integers|branches] [N]       (copies and 40000 where not given; 4N must fit into 2^24 bytes)
+Usage: bench/lets.py [copies|integers|branches|calls] [N]       (copies and 40000 where not given; 4N must fit into 2^24 bytes)
 Build the program first: cd crates/infer_tool && rt run -- table fn 0 < ../../examples/first_run.json
 """
 import json
@@ -25,6 +26,7 @@ class Function:
 
     def __init__(self):
         self.exprs, self.pats, self.bindings, self.statements, self.source = [], [], [], [], []
+        self.types, self.called, self.called_source = [["tuple", []], "u8"], [], ""
 
     def expr(self, fact):
         self.exprs.append(fact)
@@ -89,7 +91,30 @@ def branches(function, count):
                                 "let %s = match (v%d, true) { (a, true) => a, (a, _) => a };\n" % (name, k - 1))
 
 
-SHAPES = {"copies": copies, "integers": integers, "branches": branches}
+def calls(function, count):
+    """`let v0 = 1; let v1 = id(v0); same(v1, v0); let v3 = id(v1); ..`"""
+    function.types.append(["param", 0])
+    function.called = [fn_fact("id", ["t"], [2], 2, None), fn_fact("same", ["t"], [2, 2], 0, None)]
+    function.called_source = "fn id<T>(x: T) -> T { loop {} }\nfn same<T>(a: T, b: T) {}\n"
+    last = before = function.let("v0", function.expr(["lit", ["int", "1", None]]), None, "let v0 = 1;\n")
+    for k in range(1, count):
+        names = [function.bindings[binding][0] for binding in (last, before)]
+        callee = function.expr(["path", ["fn", 1 if k % 2 else 2, None]])
+        if k % 2:
+            call = function.expr(["call", callee, [function.local(last)]])
+            before, last = last, function.let("v%d" % k, call, None, "let v%d = id(%s);\n" % (k, names[0]))
+        else:
+            call = function.expr(["call", callee, [function.local(last), function.local(before)]])
+            function.statements.append(["expr", call, True])
+            function.source.append("same(%s, %s);\n" % tuple(names))
+
+
+def fn_fact(name, params, inputs, output, body):
+    return {"name": name, "at": ["module", 0], "params": params, "preds": [], "has_self": False, "inputs": inputs,
+            "output": output, "safe": True, "vis": "pub", "body": body}
+
+
+SHAPES = {"copies": copies, "integers": integers, "branches": branches, "calls": calls}
 
 
 def made(shape, count):
@@ -106,14 +131,11 @@ def facts(shape, count):
         "module": 0, "traits": [], "self": None, "params": [], "root": root, "exprs": made_of.exprs,
         "pats": made_of.pats, "bindings": made_of.bindings, "labels": 0,
     }
-    function = {
-        "name": "f", "at": ["module", 0], "params": [], "preds": [], "has_self": False,
-        "inputs": [], "output": 0, "safe": True, "vis": "pub", "body": 0,
-    }
+    functions = [fn_fact("f", [], [], 0, 0)] + made_of.called
     value = {
         "profile": 1, "edition": 2021, "never_fallback": False, "new_range": False,
-        "limits": [8, 1000, 8, 10], "types": [["tuple", []], "u8"], "modules": [None], "adts": [],
-        "variants": [], "fns": [function], "consts": [], "statics": [], "traits": [],
+        "limits": [8, 1000, 8, 10], "types": made_of.types, "modules": [None], "adts": [],
+        "variants": [], "fns": functions, "consts": [], "statics": [], "traits": [],
         "aliases": [], "impls": [], "opaques": [], "lang": {}, "bodies": [body],
     }
     return json.dumps(value, separators=(",", ":")).encode()
@@ -152,7 +174,9 @@ def rustc_seconds(shape, count):
     with tempfile.TemporaryDirectory() as folder:
         source = os.path.join(folder, "lets.rs")
         with open(source, "w") as out:
-            out.write("#![allow(unused)]\npub fn f() {\n%s}\n" % "".join(made(shape, count).source))
+            function = made(shape, count)
+            out.write("#![allow(unused)]\n%spub fn f() {\n%s}\n"
+                      % (function.called_source, "".join(function.source)))
         done = subprocess.run(
             [rustc, "--crate-type=lib", "--emit=metadata", "-Ztime-passes", "-o",
              os.path.join(folder, "lets.rmeta"), source],

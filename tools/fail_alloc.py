@@ -1,10 +1,12 @@
 #!/usr/bin/env python3
-"""Runs the program on an example with each of its allocations failing in turn: each such run must answer
-want of memory (status 5), write nothing on standard output, and say so on standard error.
+"""Runs the program on examples with each of its allocations failing in turn: each such run must answer
+want of memory (status 5), write nothing on standard output, and say so on standard error. What is asked for
+is the last function that an example has.
 
-Usage: tools/fail_alloc.py [EXAMPLE]      (examples/first_run.json where none is given; needs a C compiler)
+Usage: tools/fail_alloc.py [EXAMPLE..]      (those of EXAMPLES where none is given; needs a C compiler)
 Build the program first: cd crates/infer_tool && rt run -- table fn 0 < ../../examples/first_run.json
 """
+import json
 import os
 import subprocess
 import sys
@@ -12,6 +14,7 @@ import tempfile
 
 TOP = os.path.dirname(os.path.dirname(os.path.abspath(__file__)))
 PROGRAM = os.path.join(TOP, "crates", "infer_tool", "out", "infer_tool")
+EXAMPLES = [os.path.join(TOP, "examples", name) for name in ("first_run.json", "calls.json")]
 
 # Fails the allocation whose number FAIL_AT gives, from 1, and each one after it where ALL is set.
 SHIM = r"""
@@ -56,37 +59,39 @@ int posix_memalign(void **p, size_t a, size_t n) {
 """
 
 
-def main():
-    example = sys.argv[1] if len(sys.argv) > 1 else os.path.join(TOP, "examples", "first_run.json")
+def failed_in_turn(example, shim, every):
+    """Fails the allocations, each alone or with each after it. How many runs that was, and how many answered wrongly."""
     text = open(example, "rb").read()
+    words = [PROGRAM, "table", "fn", str(len(json.loads(text)["fns"]) - 1)]
+    want = subprocess.run(words, input=text, capture_output=True, timeout=10)
+    count = wrong = 0
+    while count < 100000:
+        env = dict(os.environ, LD_PRELOAD=shim, FAIL_AT=str(count + 1))
+        if every:
+            env["FAIL_ALL"] = "1"
+        done = subprocess.run(words, input=text, capture_output=True, env=env, timeout=10)
+        if (done.returncode, done.stdout) == (want.returncode, want.stdout):
+            break
+        count += 1
+        if done.returncode != 5 or done.stdout or not done.stderr:
+            wrong += 1
+            print("allocation %d: status %d, %d bytes out, %r" % (count, done.returncode, len(done.stdout), done.stderr))
+    return count, wrong
+
+
+def main():
     with tempfile.TemporaryDirectory() as folder:
         source, shim = os.path.join(folder, "shim.c"), os.path.join(folder, "shim.so")
         with open(source, "w") as out:
             out.write(SHIM)
         subprocess.run(["cc", "-shared", "-fPIC", "-O1", "-o", shim, source, "-ldl"], check=True)
-
-        def run(at, every):
-            env = dict(os.environ, LD_PRELOAD=shim, FAIL_AT=str(at))
-            if every:
-                env["FAIL_ALL"] = "1"
-            return subprocess.run([PROGRAM, "table", "fn", "0"], input=text, capture_output=True, env=env, timeout=10)
-
-        want = subprocess.run([PROGRAM, "table", "fn", "0"], input=text, capture_output=True, timeout=10)
-        for every in (False, True):
-            count = wrong = 0
-            while True:
-                done = run(count + 1, every)
-                if (done.returncode, done.stdout) == (want.returncode, want.stdout):
-                    break
-                count += 1
-                if done.returncode != 5 or done.stdout or not done.stderr:
-                    wrong += 1
-                    print("allocation %d: status %d, %d bytes out, %r" % (count, done.returncode, len(done.stdout), done.stderr))
-                if count == 100000:
-                    break
-            print("%d allocations failed in turn%s: %d wrong" % (count, ", with each after it" if every else "", wrong))
-            if wrong:
-                sys.exit(1)
+        for example in sys.argv[1:] or EXAMPLES:
+            for every in (False, True):
+                count, wrong = failed_in_turn(example, shim, every)
+                print("%s: %d allocations failed in turn%s: %d wrong"
+                      % (os.path.basename(example), count, ", with each after it" if every else "", wrong))
+                if wrong:
+                    sys.exit(1)
 
 
 if __name__ == "__main__":

@@ -1,8 +1,8 @@
 #!/usr/bin/env python3
-"""Runs the program on random mutations of valid texts: each must end with one of its statuses.
+"""Runs the program on random mutations of the examples: each must end with one of its statuses.
 
-Bytes are flipped, cut out and doubled, keys dropped, numbers changed, lists cut. Prints how often each
-status came, and fails at a crash, a hang (10 seconds), a status that is none of the program's, and
+Bytes are flipped, cut out and doubled, keys dropped, numbers changed, lists cut. What is asked for is the last
+function that the example has. Prints how often each status came, and fails at a crash, a hang (10 seconds), a status that is none of the program's, and
 output at a status that writes none.
 Usage: tools/mutate.py [COUNT [SEED]]      (20000, 1 where none is given)
 Build the program first: cd crates/infer_tool && rt run -- table fn 0 < ../../examples/first_run.json
@@ -80,8 +80,8 @@ def mutated(rng, text):
     return bytes(out)
 
 
-def run(text):
-    done = subprocess.run([PROGRAM, "table", "fn", "0"], input=text, capture_output=True, timeout=10)
+def run(text, number):
+    done = subprocess.run([PROGRAM, "table", "fn", str(number)], input=text, capture_output=True, timeout=10)
     return done.returncode, done.stdout, done.stderr
 
 
@@ -91,9 +91,11 @@ def main():
     texts = [open(name, "rb").read() for name in sorted(glob.glob(os.path.join(TOP, "examples", "*.json")))]
     seen = collections.Counter()
     wrong = 0
-    batch = [mutated(rng, rng.choice(texts)) for _ in range(count)]
+    numbers = [len(json.loads(text)["fns"]) - 1 for text in texts]  # the last function calls those before it
+    chosen = [rng.randrange(len(texts)) for _ in range(count)]
+    batch = [mutated(rng, texts[at]) for at in chosen]
     with ThreadPoolExecutor(4) as pool:
-        for text, answer in zip(batch, pool.map(attempt, batch)):
+        for text, answer in zip(batch, pool.map(attempt, batch, [numbers[at] for at in chosen])):
             status, out, err = answer
             seen[status] += 1
             fine = (status in REPORTS and out.endswith(b"\n") and not err) or (status in SILENT and not out and err)
@@ -104,9 +106,9 @@ def main():
     sys.exit(1 if wrong else 0)
 
 
-def attempt(text):
+def attempt(text, number):
     try:
-        return run(text)
+        return run(text, number)
     except subprocess.TimeoutExpired:
         return "hang", b"", b""
 
