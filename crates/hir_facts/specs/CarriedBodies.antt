@@ -4,13 +4,17 @@ use Rattle.std.specs.List.{list_all}
 use Rattle.std.specs.Cmp.{first_so, second_so}
 use Rattle.std.proofs.Common.{subst}
 use Rattle.hir_types.specs.declared.ids.ExprId.{ExprId}
-use Rattle.hir_types.specs.declared.ids.FunctionId.{FunctionId}
+use Rattle.hir_types.specs.declared.ids.VariantId.{VariantId}
+use Rattle.hir_types.specs.declared.ids.CallableDefId.{CallableDefId}
+use Rattle.hir_types.specs.declared.ids.CallableDefId.TheVariants as callable
 use Rattle.hir_facts.specs.declared.raw.RawPath.{RawPath}
 use Rattle.hir_facts.specs.declared.raw.RawPath.TheVariants as path
 use Rattle.hir_facts.specs.declared.raw.RawExpr.{RawExpr}
 use Rattle.hir_facts.specs.declared.raw.RawExpr.TheVariants as expr
+use Rattle.hir_facts.specs.declared.raw.RawPat.TheVariants as pat
 use Rattle.hir_facts.specs.declared.raw.RawBody.{RawBody}
-use Rattle.hir_facts.specs.Laws.Carried.{is_carried_expr, is_carried_pat, is_carried_binding, is_function_path, is_function, is_carried_call, is_carried_body}
+use Rattle.hir_facts.specs.Scope.{names_item}
+use Rattle.hir_facts.specs.Laws.Carried.{is_carried_expr, is_carried_pat, is_carried_binding, is_ctor_path, is_item_path, is_item, is_carried_call, is_carried_body}
 
 pub record CarriedParts (b : RawBody) : Type 0 where
   pub exprs : IsTrue (list_all is_carried_expr b.exprs)
@@ -47,27 +51,39 @@ list_all_at p (y ∷ xs) (suc i) x h e = list_all_at p xs i x (second_so (p y) (
 
 -- ---- calls
 
--- the expression is a path to a function
-abbrev pub IsFunctionAt : RawBody → ExprId → Type 0
-IsFunctionAt b e = (g : FunctionId) × (slice_get b.exprs e.0 ≡ Some (expr.Path (path.Function g)))
+-- the expression is a path to a function or constructor
+abbrev pub IsItemAt : RawBody → ExprId → Type 0
+IsItemAt b e = (p : RawPath) × (i : CallableDefId) × (slice_get b.exprs e.0 ≡ Some (expr.Path p)) × (names_item p ≡ Some i)
 
-path_is : (p : RawPath) → IsTrue (is_function_path p) → (g : FunctionId) × (p ≡ path.Function g)
+path_is : (p : RawPath) → IsTrue (is_item_path p) → (i : CallableDefId) × (names_item p ≡ Some i)
 path_is (path.Local v) h = absurd (cc)
-path_is (path.Function f) h = (f, refl)
-path_is (path.Ctor v) h = absurd (cc)
+path_is (path.Function f) h = (callable.FunctionId f, refl)
+path_is (path.Ctor v) h = (callable.VariantId v, refl)
 path_is path.Other h = absurd (cc)
 
-function_is : (o : Option RawExpr) → IsTrue (is_function o) → (g : FunctionId) × (o ≡ Some (expr.Path (path.Function g)))
-function_is None h = absurd (cc)
-function_is (Some (expr.Lit l)) h = absurd (cc)
-function_is (Some (expr.Path p)) h = let found : (g : FunctionId) × (p ≡ path.Function g) = path_is p h in (found.0, λ i. Some (expr.Path (found.1 i)))
-function_is (Some (expr.Block label stmts last)) h = absurd (cc)
-function_is (Some (expr.Tuple es)) h = absurd (cc)
-function_is (Some (expr.If c first other)) h = absurd (cc)
-function_is (Some (expr.Match e arms)) h = absurd (cc)
-function_is (Some (expr.Call f args)) h = absurd (cc)
-function_is (Some expr.Other) h = absurd (cc)
+item_is : (o : Option RawExpr) → IsTrue (is_item o) → (p : RawPath) × (i : CallableDefId) × (o ≡ Some (expr.Path p)) × (names_item p ≡ Some i)
+item_is None h = absurd (cc)
+item_is (Some (expr.Lit l)) h = absurd (cc)
+item_is (Some (expr.Path p)) h = let found : (i : CallableDefId) × (names_item p ≡ Some i) = path_is p h in (p, found.0, refl, found.1)
+item_is (Some (expr.Block label stmts last)) h = absurd (cc)
+item_is (Some (expr.Tuple es)) h = absurd (cc)
+item_is (Some (expr.If c first other)) h = absurd (cc)
+item_is (Some (expr.Match e arms)) h = absurd (cc)
+item_is (Some (expr.Call f args)) h = absurd (cc)
+item_is (Some expr.Other) h = absurd (cc)
 
--- what is called is a path to a function
-pub calls_functions : (b : RawBody) → IsTrue (is_carried_body b) → (e : ℕ) (f : ExprId) (args : List ExprId) → slice_get b.exprs e ≡ Some (expr.Call f args) → IsFunctionAt b f
-calls_functions b h e f args found = function_is (slice_get b.exprs f.0) (list_all_at (is_carried_call b.exprs) b.exprs e (expr.Call f args) (carried_parts b h).calls found)
+-- what is called is a path to a function or constructor
+pub calls_items : (b : RawBody) → IsTrue (is_carried_body b) → (e : ℕ) (f : ExprId) (args : List ExprId) → slice_get b.exprs e ≡ Some (expr.Call f args) → IsItemAt b f
+calls_items b h e f args found = item_is (slice_get b.exprs f.0) (list_all_at (is_carried_call b.exprs) b.exprs e (expr.Call f args) (carried_parts b h).calls found)
+
+-- ---- patterns that are paths
+
+ctor_is : (q : RawPath) → IsTrue (is_ctor_path q) → (v : VariantId) × (q ≡ path.Ctor v)
+ctor_is (path.Local v) h = absurd (cc)
+ctor_is (path.Function f) h = absurd (cc)
+ctor_is (path.Ctor v) h = (v, refl)
+ctor_is path.Other h = absurd (cc)
+
+-- name constructors
+pub ctor_pattern : (b : RawBody) → IsTrue (is_carried_body b) → (p : ℕ) (q : RawPath) → slice_get b.pats p ≡ Some (pat.Path q) → (v : VariantId) × (q ≡ path.Ctor v)
+ctor_pattern b h p q found = ctor_is q (list_all_at is_carried_pat b.pats p (pat.Path q) (carried_parts b h).pats found)

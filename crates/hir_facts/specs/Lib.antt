@@ -19,3 +19,4 @@ pub mod Walkable
 pub mod InRange
 pub mod Most
 pub mod WrittenFits
+pub mod Items

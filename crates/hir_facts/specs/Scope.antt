@@ -6,12 +6,21 @@ use Rattle.hir_types.specs.declared.ids.CallableDefId.{CallableDefId}
 use Rattle.hir_types.specs.declared.ids.CallableDefId.TheVariants as callable
 use Rattle.hir_types.specs.declared.ids.DefWithBodyId.{DefWithBodyId}
 use Rattle.hir_types.specs.declared.ids.DefWithBodyId.TheVariants as def
+use Rattle.hir_facts.specs.declared.raw.RawPath.{RawPath}
+use Rattle.hir_facts.specs.declared.raw.RawPath.TheVariants as path
 use Rattle.hir_facts.specs.declared.raw.RawFacts.{RawFacts}
 
 pub record Scope : Type 0 where
   pub facts : RawFacts
   -- how many parameters the definition has
   pub params : ℕ
+
+-- the function or constructor that a path names, where it names one
+abbrev pub names_item : RawPath → Option CallableDefId
+names_item (path.Local v) = None
+names_item (path.Function f) = Some (callable.FunctionId f)
+names_item (path.Ctor v) = Some (callable.VariantId v)
+names_item path.Other = None
 
 -- ---- how many parameters an item has, where it exists
 

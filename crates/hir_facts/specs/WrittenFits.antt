@@ -13,6 +13,8 @@ use Rattle.hir_types.specs.declared.ids.DefWithBodyId.TheVariants as def
 use Rattle.hir_facts.specs.declared.raw.RawType.{RawType}
 use Rattle.hir_facts.specs.declared.raw.RawType.TheVariants as type
 use Rattle.hir_facts.specs.declared.raw.RawAdt.{RawAdt}
+use Rattle.hir_facts.specs.declared.raw.RawField.{RawField}
+use Rattle.hir_facts.specs.declared.raw.RawVariant.{RawVariant}
 use Rattle.hir_facts.specs.declared.raw.RawFn.{RawFn}
 use Rattle.hir_facts.specs.declared.raw.RawStmt.TheVariants as stmt
 use Rattle.hir_facts.specs.declared.raw.RawExpr.{RawExpr}
@@ -23,9 +25,9 @@ use Rattle.hir_facts.specs.Order.{stmts_of, stmt_at}
 use Rattle.hir_facts.specs.Scope.{adt_params, has_params, params_of, count_or_none}
 use Rattle.hir_facts.specs.Bodies.{body_of, inputs_by, inputs_of}
 use Rattle.hir_facts.specs.Laws.Standing.{param_bound, wrong_count, wrong_args, params_in, wrongs_in}
-use Rattle.hir_facts.specs.Laws.Counts.{TypeFits, ExprFits, BodyFits, MaybeBodyFits, body_at}
+use Rattle.hir_facts.specs.Laws.Counts.{TypeFits, ExprFits, BodyFits, MaybeBodyFits, body_at, param_count}
 use Rattle.hir_facts.specs.Laws.Lawful.{IsLawful}
-use Rattle.hir_facts.specs.LawfulFacts.{type_ids, fn_ids, fns_fit, body_ids}
+use Rattle.hir_facts.specs.LawfulFacts.{type_ids, variant_ids, variants_fit, fn_ids, fns_fit, body_ids}
 use Rattle.hir_facts.specs.Most.{own_most, part_most}
 
 -- type t of the facts fits under this many parameters
@@ -96,6 +98,15 @@ inputs_fit raw law f x found k t here = fits_under raw (length x.params) t ((fn_
 
 pub output_fits : (raw : RawFacts) → IsLawful raw → (f : ℕ) (x : RawFn) → slice_get raw.fns f ≡ Some x → FitsUnder raw (length x.params) x.output.0
 output_fits raw law f x found = fits_under raw (length x.params) x.output (fn_ids raw law f x found).output (fns_fit raw law f x found).output
+
+-- ---- the fields of a variant
+
+-- fit under the parameters of its adt
+pub fields_fit : (raw : RawFacts) → IsLawful raw → (v : ℕ) (x : RawVariant) (a : RawAdt) → slice_get raw.variants v ≡ Some x → slice_get raw.adts x.adt.0 ≡ Some a → (k : ℕ) (f : RawField) → slice_get x.fields k ≡ Some f → FitsUnder raw (length a.params) f.ty.0
+fields_fit raw law v x a found adt k f here =
+    let fit : TypeFits (params_in raw) (wrongs_in raw) (length a.params) f.ty =
+    subst (λ (o : Option RawAdt). TypeFits (params_in raw) (wrongs_in raw) (param_count o) f.ty) adt ((variants_fit raw law v x found).fields k f here) in
+    fits_under raw (length a.params) f.ty ((variant_ids raw law v x found).here.fields k f here).written fit
 
 -- ---- the types of a definition
 

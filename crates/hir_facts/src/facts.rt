@@ -11,10 +11,12 @@ ghost use Rattle.hir_facts.specs.Laws.Refused.{Refuses};
 use crate::checks::check;
 use crate::facts_error::FactsError;
 use crate::fit::ty_fits;
-use crate::raw::{Edition, RawBody, RawFacts, RawFn, RawLimits, RawType};
+use crate::raw::{Edition, RawAdt, RawBody, RawFacts, RawFn, RawLimits, RawType, RawVariant};
 use crate::schedule::Schedule;
 use crate::scope::params_of;
-use hir_types::{BodyId, DefWithBodyId, FunctionId, List, ModuleId, Ty, TypeRefId};
+use hir_types::{
+    AdtId, BodyId, DefWithBodyId, FunctionId, List, ModuleId, Ty, TypeRefId, VariantId,
+};
 use std::alloc::Global;
 use std::marker::Model;
 
@@ -115,6 +117,24 @@ impl Facts {
     {
         let modules = self.raw.modules.as_slice();
         modules[id.0 as usize]
+    }
+
+    /// An adt.
+    pub fn adt(&self, adt: AdtId) -> &RawAdt
+        requires { adt.0 < length self.now.adts }
+        ensures { slice_get self.now.adts adt.0 ≡ Some result.now }
+    {
+        let adts = self.raw.adts.as_slice();
+        &adts[adt.0 as usize]
+    }
+
+    /// A variant.
+    pub fn variant(&self, variant: VariantId) -> &RawVariant
+        requires { variant.0 < length self.now.variants }
+        ensures { slice_get self.now.variants variant.0 ≡ Some result.now }
+    {
+        let variants = self.raw.variants.as_slice();
+        &variants[variant.0 as usize]
     }
 
     /// A function.
