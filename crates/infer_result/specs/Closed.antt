@@ -1,16 +1,19 @@
 -- Tables with an entry for each node, and without holes.
-use Rattle.std.specs.Prelude.{ℕ, ◌<◌, ◌≡◌, length, slice_get, Option, Some}
+use Rattle.std.specs.Prelude.{ℕ, ◌<◌, ◌≡◌, ◌⊎◌, List, length, slice_get, Option, Some}
 use Rattle.hir_types.specs.declared.ids.ExprId.{ExprId}
 use Rattle.hir_types.specs.declared.ids.PatId.{PatId}
 use Rattle.hir_types.specs.declared.ids.BindingId.{BindingId}
+use Rattle.hir_types.specs.declared.ids.VariantId.{VariantId}
 use Rattle.hir_types.specs.declared.ty.Ty.{Ty}
+use Rattle.hir_facts.specs.declared.raw.RawExpr.TheVariants as expr
+use Rattle.hir_facts.specs.declared.raw.RawPath.TheVariants as path
 use Rattle.hir_facts.specs.declared.raw.RawPat.TheVariants as pat
 use Rattle.hir_facts.specs.declared.raw.RawBody.{RawBody}
 use Rattle.hir_types.specs.Erasure.{IsClosed}
 use Rattle.infer_result.specs.declared.result.InferenceResult.{InferenceResult}
 use Rattle.infer_result.specs.declared.result.TypeMismatch.{TypeMismatch}
 use Rattle.infer_result.specs.declared.modes.BindingMode.{BindingMode}
-use Rattle.infer_result.specs.Table.{At, HasTy, PatTy, BindingTy, HasMode}
+use Rattle.infer_result.specs.Table.{At, HasTy, PatTy, BindingTy, HasMode, ExprVariant, PatVariant}
 
 -- the lists have an entry for each node and binding, and no more
 pub record IsOfBody (b : RawBody) (t : InferenceResult) : Type 0 where
@@ -21,6 +24,9 @@ pub record IsOfBody (b : RawBody) (t : InferenceResult) : Type 0 where
   pub mismatches : length t.expr_mismatches ≡ length b.exprs
   pub diagnostics : length t.expr_diagnostics ≡ length b.exprs
   pub pat_mismatches : length t.pat_mismatches ≡ length b.pats
+  pub pat_diagnostics : length t.pat_diagnostics ≡ length b.pats
+  pub expr_variants : length t.expr_variants ≡ length b.exprs
+  pub pat_variants : length t.pat_variants ≡ length b.pats
 
 -- each expression, pattern and binding has a type
 pub record IsTotal (b : RawBody) (t : InferenceResult) : Type 0 where
@@ -35,6 +41,19 @@ IsBinder b p = (v : BindingId) × (sub : Option PatId) × (slice_get b.pats p.0 
 -- what has a mode is a pattern that binds a name
 abbrev pub OnlyBindersHaveModes : RawBody → InferenceResult → Type 0
 OnlyBindersHaveModes b t = (p : PatId) (m : BindingMode) → HasMode t p m → IsBinder b p
+
+-- the expression is a path to the constructor
+abbrev pub NamesVariant : RawBody → ExprId → VariantId → Type 0
+NamesVariant b e v = slice_get b.exprs e.0 ≡ Some (expr.Path (path.Ctor v))
+
+-- the pattern is the constructor, alone or over patterns
+abbrev pub IsVariantPat : RawBody → PatId → VariantId → Type 0
+IsVariantPat b p v = (slice_get b.pats p.0 ≡ Some (pat.Path (path.Ctor v))) ⊎ ((ps : List PatId) × (slice_get b.pats p.0 ≡ Some (pat.TupleStruct v ps)))
+
+-- a variant is recorded only where its constructor is named
+pub record OnlyNamedVariants (b : RawBody) (t : InferenceResult) : Type 0 where
+  pub exprs : (e : ExprId) (v : VariantId) → ExprVariant t e v → NamesVariant b e v
+  pub pats : (p : PatId) (v : VariantId) → PatVariant t p v → IsVariantPat b p v
 
 -- each type of the table has a property
 pub record AllTypes (P : Ty → Type 0) (t : InferenceResult) : Type 0 where

@@ -1,19 +1,24 @@
 -- From what a walk shows of a table to all that is promised of it.
 use Rattle.std.specs.Prelude.{ℕ, zero, suc, ◌<◌, ◌≡◌, ◌⊎◌, true, false, List, [], ◌∷◌, length, map, slice_get, option_map, Option, Some, None, refl}
 use Rattle.std.proofs.Common.{inl, inr, ap, sym, subst, ◌∙◌}
+use Rattle.std.specs.Option.{option_and_then}
 use Rattle.std.proofs.lemmas.Option.{slice_get_within}
 use Rattle.hir_types.specs.declared.ids.ExprId.{ExprId}
 use Rattle.hir_types.specs.declared.ids.PatId.{PatId}
 use Rattle.hir_types.specs.declared.ids.BindingId.{BindingId}
 use Rattle.hir_types.specs.declared.ids.TypeRefId.{TypeRefId}
 use Rattle.hir_types.specs.declared.ids.ExprOrPatId.TheVariants as node
+use Rattle.hir_types.specs.declared.ids.AdtId.{AdtId}
+use Rattle.hir_types.specs.declared.ids.VariantId.{VariantId}
 use Rattle.hir_types.specs.declared.ids.CallableDefId.{CallableDefId}
 use Rattle.hir_types.specs.declared.ids.CallableDefId.TheVariants as callable
-use Rattle.hir_types.specs.declared.ty.GenericArg.{GenericArg}
+use Rattle.hir_types.specs.declared.ty.GenericArg.{GenericArg, GenericArg-F, out-GenericArg, out-roll-GenericArg}
+use Rattle.hir_types.specs.declared.ty.GenericArg.TheVariants as arg
 use Rattle.hir_types.specs.declared.ty.Ty.{Ty, Ty-F, out-Ty, out-roll-Ty}
 use Rattle.hir_types.specs.declared.ty.Ty.TheVariants as ty
 use Rattle.hir_facts.specs.declared.raw.RawLiteral.{RawLiteral}
 use Rattle.hir_facts.specs.declared.raw.RawLiteral.TheVariants as literal
+use Rattle.hir_facts.specs.declared.raw.RawPath.{RawPath}
 use Rattle.hir_facts.specs.declared.raw.RawPath.TheVariants as path
 use Rattle.hir_facts.specs.declared.raw.RawStmt.{RawStmt}
 use Rattle.hir_facts.specs.declared.raw.RawStmt.TheVariants as stmt
@@ -24,9 +29,15 @@ use Rattle.hir_facts.specs.declared.raw.RawPat.{RawPat}
 use Rattle.hir_facts.specs.declared.raw.RawPat.TheVariants as pat
 use Rattle.hir_facts.specs.declared.raw.RawBody.{RawBody}
 use Rattle.hir_facts.specs.declared.raw.RawFn.{RawFn}
+use Rattle.hir_facts.specs.declared.raw.RawFacts.{RawFacts}
+use Rattle.hir_facts.specs.declared.raw.RawType.{RawType}
+use Rattle.hir_facts.specs.declared.raw.RawCtor.{RawCtor}
+use Rattle.hir_facts.specs.declared.raw.RawCtor.TheVariants as ctor
+use Rattle.hir_facts.specs.declared.raw.RawVariant.{RawVariant}
 use Rattle.hir_types.specs.Types.{unit}
 use Rattle.hir_facts.specs.Types.{written_type}
-use Rattle.hir_facts.specs.Signatures.{Signature, fn_signature, signature_of, type_args, at_args}
+use Rattle.hir_facts.specs.Scope.{names_item, adt_params}
+use Rattle.hir_facts.specs.Signatures.{Signature, fn_signature, ctor_signature, ctor_type, signature_of, type_args, at_args}
 use Rattle.hir_types.specs.Erasure.{erased}
 use Rattle.hir_facts.specs.declared.schedule.Schedule.{Schedule}
 use Rattle.hir_facts.specs.Ways.{one_place}
@@ -36,7 +47,7 @@ use Rattle.infer_result.specs.declared.result.TypeMismatch.{TypeMismatch}
 use Rattle.infer_result.specs.declared.diagnostics.InferenceDiagnostic.TheVariants as diagnostic
 use Rattle.infer_result.specs.Table.{At, HasTy, PatTy, HasMismatch, AnyMismatch, AnyDiagnostic, mismatch}
 use Rattle.infer_result.specs.Closed.{IsTotal}
-use Rattle.infer_result.specs.Places.{Given, IsAt, IsAtOrMismatch, MisfitsAs, PatIsAtOrMismatch, IsCallee, IsInputAt, IsAsked, Asks, AsksOf, Gives, GivesPart, Incoming}
+use Rattle.infer_result.specs.Places.{Given, IsVariantAt, adt_at, fields_at, IsAt, IsAtOrMismatch, MisfitsAs, PatIsAtOrMismatch, IsCallee, IsInputAt, IsAsked, Asks, AsksOf, Gives, GivesComponent, GivesField, GivesPart, Incoming}
 use Rattle.infer_result.specs.Rules.Literals.{IsLiteralType, IsOwnType}
 use Rattle.infer_result.specs.Rules.Paths.{PathRule}
 use Rattle.infer_result.specs.Rules.Placing.{Placing, at_or_mismatch, at_types}
@@ -45,9 +56,9 @@ use Rattle.infer_result.specs.Rules.Blocks.{LetRule, StmtRule, StmtsRule, TailRu
 use Rattle.infer_result.specs.Rules.Branches.{branches_of, ElseRule, arm_exprs, ArmPatterns, GuardRule, ArmsRule}
 use Rattle.infer_result.specs.Rules.Calls.{ArgsRule}
 use Rattle.infer_result.specs.Rules.Expressions.{Rule, BodyObeys}
-use Rattle.infer_result.specs.Rules.Patterns.{AllPatsAt, PatRule}
+use Rattle.infer_result.specs.Rules.Patterns.{AllPatsAt, PatsAtFields, PatRule}
 use Rattle.infer_result.specs.Excused.{MaybeMismatch, StmtHasMismatch, StmtsHaveMismatch, GuardsHaveMismatch, ExcusedAs, BodyIsExcused}
-use Rattle.infer_result.specs.Upward.{NamesLet, CallsNonGeneric, Up, of_literal, of_written, of_initializer, of_parameter, of_call, IsWrittenInput, Stated}
+use Rattle.infer_result.specs.Upward.{NamesLet, CallsNonGeneric, Up, of_literal, of_written, of_initializer, of_parameter, of_call, of_unit, IsWrittenInput, Stated}
 use Rattle.infer_result.specs.Truth.Mismatch.{IsBlockWithoutTail, IsIfWithoutElse, EndsInUnit, IsTrueMismatch}
 use Rattle.infer_result.specs.Made.{IsMade}
 use Rattle.infer_result.specs.Parts.{LetStands, ArmStands, PartStands, comes_from}
@@ -72,6 +83,66 @@ top_fn_def i xs = ap out-Ty (sym (ty.rolls-FnDef i xs)) ∙ out-roll-Ty (Ty-F.Fn
 
 pub fn_def_parts : (i j : CallableDefId) (xs ys : List GenericArg) → ty.FnDef i xs ≡ ty.FnDef j ys → (i ≡ j) × (xs ≡ ys)
 fn_def_parts i j xs ys h = (let k : Ty-F.FnDef i xs ≡ Ty-F.FnDef j ys = sym (top_fn_def i xs) ∙ (ap out-Ty h ∙ top_fn_def j ys) in (cc, cc))
+
+top_adt : (i : AdtId) (xs : List GenericArg) → out-Ty (ty.Adt i xs) ≡ Ty-F.Adt i xs
+top_adt i xs = ap out-Ty (sym (ty.rolls-Adt i xs)) ∙ out-roll-Ty (Ty-F.Adt i xs)
+
+pub adt_parts : (i j : AdtId) (xs ys : List GenericArg) → ty.Adt i xs ≡ ty.Adt j ys → (i ≡ j) × (xs ≡ ys)
+adt_parts i j xs ys h = (let k : Ty-F.Adt i xs ≡ Ty-F.Adt j ys = sym (top_adt i xs) ∙ (ap out-Ty h ∙ top_adt j ys) in (cc, cc))
+
+adt_no_tuple : (i : AdtId) (xs : List GenericArg) (ts : List Ty) → ty.Adt i xs ≡ ty.Tuple ts → ⊥
+adt_no_tuple i xs ts h = (let k : Ty-F.Adt i xs ≡ Ty-F.Tuple ts = sym (top_adt i xs) ∙ (ap out-Ty h ∙ top_tuple ts) in cc)
+
+top_type_arg : (t : Ty) → out-GenericArg (arg.Ty t) ≡ GenericArg-F.Ty t
+top_type_arg t = ap out-GenericArg (sym (arg.rolls-Ty t)) ∙ out-roll-GenericArg (GenericArg-F.Ty t)
+
+pub same_type_args : (ts us : List Ty) → type_args ts ≡ type_args us → ts ≡ us
+same_type_args [] [] h = refl
+same_type_args [] (u ∷ us) h = absurd (cc)
+same_type_args (t ∷ ts) [] h = absurd (cc)
+same_type_args (t ∷ ts) (u ∷ us) h =
+    let first : arg.Ty t ≡ arg.Ty u = cc in
+    let rest : type_args ts ≡ type_args us = cc in
+    let tops : GenericArg-F.Ty t ≡ GenericArg-F.Ty u = sym (top_type_arg t) ∙ (ap out-GenericArg first ∙ top_type_arg u) in
+    let tails : ts ≡ us = same_type_args ts us rest in
+    cc
+
+-- ---- items without generic parameters
+
+no_items : (us : List Ty) → length us ≡ 0 → us ≡ []
+no_items [] h = refl
+no_items (u ∷ us) h = absurd (cc)
+
+fn_count : (types : List RawType) (o : Option RawFn) (us : List Ty) (σ : Signature) → option_map (λ f. length f.params) o ≡ Some (length us) → option_map (fn_signature types) o ≡ Some σ → length us ≡ σ.params
+fn_count types None us σ h k = absurd (cc)
+fn_count types (Some f) us σ h k =
+    let l : fn_signature types f ≡ σ = cc in
+    let m : length f.params ≡ σ.params = ap (λ (v : Signature). v.params) l in
+    cc
+
+pub ctor_type_of_tuple : (x : RawVariant) (v : VariantId) (ts : List Ty) → x.ctor ≡ ctor.Tuple → ctor_type x v ts ≡ ty.FnDef (callable.VariantId v) (type_args ts)
+ctor_type_of_tuple x v ts h = rw h refl
+
+pub ctor_type_of_unit : (x : RawVariant) (v : VariantId) (ts : List Ty) → x.ctor ≡ ctor.Unit → ctor_type x v ts ≡ ty.Adt x.adt (type_args ts)
+ctor_type_of_unit x v ts h = rw h refl
+
+ctor_signature_at : (raw : RawFacts) (v : VariantId) (x : RawVariant) (n : ℕ) → slice_get raw.variants v.0 ≡ Some x → adt_params raw x.adt ≡ Some n → ctor_signature raw.types n x ≡ signature_of raw (callable.VariantId v)
+ctor_signature_at raw v x n found count =
+    sym (
+    ap (λ o. option_and_then (λ y. option_and_then (λ k. ctor_signature raw.types k y) (adt_params raw y.adt)) o) found
+    ∙ ap (λ o. option_and_then (λ k. ctor_signature raw.types k x) o) count
+    )
+
+-- what has a signature is a tuple constructor, at as many types as that has parameters
+ctor_item : (g : Given) (v : VariantId) (x : RawVariant) (ts : List Ty) (σ : Signature) → IsVariantAt g v x ts → signature_of g.scope.facts (callable.VariantId v) ≡ Some σ → (x.ctor ≡ ctor.Tuple) × (length ts ≡ σ.params)
+ctor_item g v x ts σ h s =
+    let made : ctor_signature g.scope.facts.types (length ts) x ≡ Some σ = ctor_signature_at g.scope.facts v x (length ts) h.found h.count ∙ s in
+    by_ctor x.ctor refl made
+  where
+    by_ctor : (k : RawCtor) → x.ctor ≡ k → ctor_signature g.scope.facts.types (length ts) x ≡ Some σ → (x.ctor ≡ ctor.Tuple) × (length ts ≡ σ.params)
+    by_ctor ctor.Tuple is made = (is, cc)
+    by_ctor ctor.Unit is made = absurd (cc)
+    by_ctor ctor.Record is made = absurd (cc)
 
 -- ---- each clause holds, or the part is excused
 
@@ -170,7 +241,7 @@ module _ (g : Given) (t : InferenceResult) where
 path_type : (g : Given) (t : InferenceResult) (n : ExprId) (p : _) → PathRule g t n p → (s : Ty) × HasTy t n s
 path_type g t n (path.Local v) (s, h, k) = (s, h)
 path_type g t n (path.Function f) (ts, h, k) = (ty.FnDef (callable.FunctionId f) (type_args ts), h)
-path_type g t n (path.Ctor named) h = absurd h
+path_type g t n (path.Ctor v) (s, h, k, r) = (s, h)
 path_type g t n path.Other h = absurd h
 
 rule_type : (g : Given) (t : InferenceResult) (n : ExprId) (o : Option RawExpr) → Rule (at_or_mismatch g t) g t n o → (s : Ty) × HasTy t n s
@@ -189,8 +260,11 @@ pat_type g t p None h = absurd h
 pat_type g t p (Some pat.Wild) h = h
 pat_type g t p (Some (pat.Bind v sub)) (s, h, k, m) = (s, h)
 pat_type g t p (Some (pat.Tuple ps)) (ss, h, k) = (ty.Tuple ss, h)
-pat_type g t p (Some (pat.TupleStruct named ps)) h = absurd h
-pat_type g t p (Some (pat.Path named)) h = absurd h
+pat_type g t p (Some (pat.TupleStruct v ps)) h = (adt_at h.variant h.types, h.has)
+pat_type g t p (Some (pat.Path (path.Ctor v))) (s, h, k, r) = (s, h)
+pat_type g t p (Some (pat.Path (path.Local v))) h = absurd h
+pat_type g t p (Some (pat.Path (path.Function f))) h = absurd h
+pat_type g t p (Some (pat.Path path.Other)) h = absurd h
 pat_type g t p (Some (pat.Lit e)) (s, h, k) = (s, h)
 pat_type g t p (Some pat.Other) h = absurd h
 
@@ -252,14 +326,16 @@ module _ (g : Given) (t : InferenceResult) (h : IsMade g t) where
       among (y ∷ arms) (suc i) x u h is = among arms i x u h.1 is
 
   -- the part of a tuple pattern is at the component
-  part_stands : (q p : PatId) (i : ℕ) (s : Ty) (ss : List Ty) → PartStands g.body q i p → PatTy t q (ty.Tuple ss) → slice_get ss i ≡ Some s → PatIsAtOrMismatch g t p s
-  part_stands q p i s ss a has is =
+  component_stands : (q p : PatId) (i : ℕ) (s : Ty) → PartStands g.body q i p → GivesComponent t q i s → PatIsAtOrMismatch g t p s
+  component_stands q p i s a c =
       elim a.whole [
         | inl tuple ↦
             (let r = kind_at q (pat.Tuple a.parts) tuple in
-            let k : ty.Tuple r.0 ≡ ty.Tuple ss = one_at t.type_of_pat q.0 (ty.Tuple r.0) (ty.Tuple ss) r.1 has in
-            among a.parts r.0 i r.2 a.stands (subst (λ us. slice_get us i ≡ Some s) (sym (tuple_parts r.0 ss k)) is))
-        | inr named ↦ absurd (kind_at q (pat.TupleStruct named.0 a.parts) named.1)
+            let k : ty.Tuple r.0 ≡ ty.Tuple c.types = one_at t.type_of_pat q.0 (ty.Tuple r.0) (ty.Tuple c.types) r.1 c.has in
+            among a.parts r.0 i r.2 a.stands (subst (λ us. slice_get us i ≡ Some s) (sym (tuple_parts r.0 c.types k)) c.component))
+        | inr named ↦
+            (let r = kind_at q (pat.TupleStruct named.0 a.parts) named.1 in
+            absurd (adt_no_tuple r.variant.adt (type_args r.types) c.types (one_at t.type_of_pat q.0 (adt_at r.variant r.types) (ty.Tuple c.types) r.has c.has)))
       ]
     where
       among : (ps : List PatId) (us : List Ty) (i : ℕ) → AllPatsAt g t ps us → slice_get ps i ≡ Some p → slice_get us i ≡ Some s → PatIsAtOrMismatch g t p s
@@ -270,6 +346,37 @@ module _ (g : Given) (t : InferenceResult) (h : IsMade g t) where
           let l : u ≡ s = cc in
           subst (λ v. PatIsAtOrMismatch g t p v) l (subst (λ z. PatIsAtOrMismatch g t z u) k h.0))
       among (x ∷ ps) (u ∷ us) (suc i) h is there = among ps us i h.1 is there
+
+  -- the part of a constructor's pattern is at the type of its field
+  field_stands : (q p : PatId) (i : ℕ) (s : Ty) → PartStands g.body q i p → GivesField g t q i s → PatIsAtOrMismatch g t p s
+  field_stands q p i s a f =
+      elim a.whole [
+        | inl tuple ↦ (let k = f.is_pat in cc)
+        | inr named ↦
+            (let is = f.is_pat in
+            let other = named.1 in
+            let parts : a.parts ≡ f.parts = cc in
+            let r = kind_at q (pat.TupleStruct f.named f.parts) f.is_pat in
+            let found = f.is_variant.found in
+            let here = r.is_variant.found in
+            let one : r.variant ≡ f.variant = cc in
+            let same = adt_parts r.variant.adt f.variant.adt (type_args r.types) (type_args f.types) (one_at t.type_of_pat q.0 (adt_at r.variant r.types) (adt_at f.variant f.types) r.has f.has) in
+            let types : r.types ≡ f.types = same_type_args r.types f.types same.1 in
+            among f.parts (fields_at g r.variant r.types) i r.parts (subst (λ ps. slice_get ps i ≡ Some p) parts a.stands)
+            (subst (λ x. slice_get (fields_at g x r.types) i ≡ Some s) (sym one) (subst (λ us. slice_get (fields_at g f.variant us) i ≡ Some s) (sym types) f.field)))
+      ]
+    where
+      among : (ps : List PatId) (us : List Ty) (i : ℕ) → PatsAtFields g t ps us → slice_get ps i ≡ Some p → slice_get us i ≡ Some s → PatIsAtOrMismatch g t p s
+      among [] us i h is there = absurd (cc)
+      among (x ∷ ps) [] i h is there = absurd (cc)
+      among (x ∷ ps) (u ∷ us) zero h is there =
+          (let k : x ≡ p = cc in
+          let l : u ≡ s = cc in
+          subst (λ v. PatIsAtOrMismatch g t p v) l (subst (λ z. PatIsAtOrMismatch g t z u) k h.0))
+      among (x ∷ ps) (u ∷ us) (suc i) h is there = among ps us i h.1 is there
+
+  part_stands : (q p : PatId) (i : ℕ) (s : Ty) → PartStands g.body q i p → GivesPart g t (inner (node.PatId q)) i s → PatIsAtOrMismatch g t p s
+  part_stands q p i s a gives = elim gives [ inl c ↦ component_stands q p i s a c | inr f ↦ field_stands q p i s a f ]
 
   same_pat : (x p q : _) → x ≡ node.PatId p → x ≡ node.PatId q → p ≡ q
   same_pat x p q h k = cc
@@ -310,8 +417,7 @@ module _ (g : Given) (t : InferenceResult) (h : IsMade g t) where
   by_role p n k (Role.argument i) s at gives = absurd gives
   by_role p n k (Role.subpattern i) s at gives =
       (let (q, here, (m, is, a)) = comes_from g.body n k _ at in
-      let (ss, has, there) = subst (λ x. GivesPart t x i s) is gives in
-      subst (λ x. PatIsAtOrMismatch g t x s) (same_pat _ q p here refl) (part_stands m q i s ss a has there))
+      subst (λ x. PatIsAtOrMismatch g t x s) (same_pat _ q p here refl) (part_stands m q i s a (subst (λ x. GivesPart g t x i s) is gives)))
   by_role p n k Role.pattern_literal s at gives = absurd gives
 
   incoming : (p : PatId) (s : Ty) → Incoming g t p s → PatIsAtOrMismatch g t p s
@@ -336,35 +442,50 @@ module _ (g : Given) (t : InferenceResult) (h : IsMade g t) where
   comes_in : (e : ExprId) (w : Option TypeRefId) (init : Option ExprId) (n : NamesLet g.body e w init) (s : Ty) → Gives g t n.parent (let_pattern w init) s → PatTy t n.pattern s
   comes_in e w init n s gives = bind_is_at n.pattern n.binding s n.binds (by_role n.pattern n.parent n.at_part (let_pattern w init) s n.stands.part gives)
 
-  -- what is called by a path to a function without generic parameters has no arguments
-  non_generic : (e : ExprId) (x : RawFn) (c : CallsNonGeneric g e x) (σ : Signature) (ts : List Ty) → IsCallee g t c.called σ ts → (ts ≡ []) × (σ ≡ fn_signature g.scope.facts.types x)
-  non_generic e x c σ ts is =
-      let (us, has, count) = clause_at c.called (expr.Path (path.Function c.function)) c.names in
-      let there = c.is_function in
-      let bare = c.non_generic in
-      let none : us ≡ [] = no_types us (subst (λ (o : Option RawFn). option_map (λ f. length f.params) o ≡ Some (length us)) there count) bare in
-      let same = fn_def_parts is.item (callable.FunctionId c.function) (type_args ts) (type_args us) (one_at t.type_of_expr c.called.0 _ _ is.has has) in
-      let signature : signature_of g.scope.facts (callable.FunctionId c.function) ≡ Some σ = subst (λ i. signature_of g.scope.facts i ≡ Some σ) same.0 is.signature in
-      let made : option_map (fn_signature g.scope.facts.types) (Some x) ≡ Some σ = subst (λ (o : Option RawFn). option_map (fn_signature g.scope.facts.types) o ≡ Some σ) there signature in
-      (no_args ts (same.1 ∙ ap type_args none), cc)
-    where
-      no_types : (us : List Ty) → Some (length x.params) ≡ Some (length us) → x.params ≡ [] → us ≡ []
-      no_types [] h k = refl
-      no_types (u ∷ us) h k = (let l : Some (length x.params) ≡ Some 0 = ap (λ ps. Some (length ps)) k in cc)
+  -- a path to an item without generic parameters has that item's type, at no arguments
+  bare_item : (e : ExprId) (q : RawPath) (i : CallableDefId) (σ : Signature) → PathRule g t e q → names_item q ≡ Some i → signature_of g.scope.facts i ≡ Some σ → σ.params ≡ 0 → HasTy t e (ty.FnDef i [])
+  bare_item e (path.Local v) i σ h is s none = absurd (cc)
+  bare_item e path.Other i σ h is s none = absurd (cc)
+  bare_item e (path.Function f) i σ (us, has, count) is s none =
+      (let l : callable.FunctionId f ≡ i = cc in
+      let k : length us ≡ 0 = fn_count g.scope.facts.types (slice_get g.scope.facts.fns f.0) us σ count (subst (λ j. signature_of g.scope.facts j ≡ Some σ) (sym l) s) ∙ none in
+      subst (λ j. HasTy t e (ty.FnDef j [])) l (subst (λ xs. HasTy t e (ty.FnDef (callable.FunctionId f) (type_args xs))) (no_items us k) has))
+  bare_item e (path.Ctor v) i σ (s', has, c, r) is s none =
+      (let l : callable.VariantId v ≡ i = cc in
+      let here : signature_of g.scope.facts (callable.VariantId v) ≡ Some σ = subst (λ j. signature_of g.scope.facts j ≡ Some σ) (sym l) s in
+      let (tuple, k) = ctor_item g v c.variant c.types σ c.is_variant here in
+      let at : s' ≡ ty.FnDef (callable.VariantId v) (type_args c.types) = c.is ∙ ctor_type_of_tuple c.variant v c.types tuple in
+      subst (λ j. HasTy t e (ty.FnDef j [])) l (subst (λ xs. HasTy t e (ty.FnDef (callable.VariantId v) (type_args xs))) (no_items c.types (k ∙ none)) (subst (λ u. HasTy t e u) at has)))
 
-      no_args : (us : List Ty) → type_args us ≡ [] → us ≡ []
-      no_args [] h = refl
-      no_args (u ∷ us) h = absurd (cc)
+  -- what is called by a path to an item without generic parameters has no arguments
+  non_generic : (e : ExprId) (σ : Signature) (c : CallsNonGeneric g e σ) (τ : Signature) (ts : List Ty) → IsCallee g t c.called τ ts → (ts ≡ []) × (τ ≡ σ)
+  non_generic e σ c τ ts is =
+      let has = bare_item c.called c.path c.item σ (clause_at c.called (expr.Path c.path) c.names) c.is_item c.signature c.non_generic in
+      let same = fn_def_parts is.item c.item (type_args ts) [] (one_at t.type_of_expr c.called.0 _ _ is.has has) in
+      let other : signature_of g.scope.facts c.item ≡ Some τ = subst (λ i. signature_of g.scope.facts i ≡ Some τ) same.0 is.signature in
+      let own = c.signature in
+      (same_type_args ts [] same.1, cc)
 
   upward : (e : ExprId) (s : Ty) → Up g e s → HasTy t e s
   upward m r (of_literal e l s is own) =
       (let c = clause_at e (expr.Lit l) is in subst (λ u. HasTy t e u) (literal_type l s c.0 own c.2) c.1)
   upward m r (of_written e w init n) = local_of_let e (Some w) init n (written_type g.scope.facts.types w) (comes_in e (Some w) init n (written_type g.scope.facts.types w) refl)
   upward m r (of_initializer e i s n u) = local_of_let e None (Some i) n s (comes_in e None (Some i) n s (upward i s u))
-  upward m r (of_call e x c) =
-      (let (σ, ts, is, a, has) = clause_at e (expr.Call c.called c.args) c.is_call in
-      let (none, one) = non_generic e x c σ ts is in
-      subst (λ (v : Signature). HasTy t e (at_args [] v.output)) one (subst (λ us. HasTy t e (at_args us σ.output)) none has))
+  upward m r (of_call e σ c) =
+      (let (τ, ts, is, a, has) = clause_at e (expr.Call c.called c.args) c.is_call in
+      let (none, one) = non_generic e σ c τ ts is in
+      subst (λ (v : Signature). HasTy t e (at_args [] v.output)) one (subst (λ us. HasTy t e (at_args us τ.output)) none has))
+  upward m r (of_unit e x n) =
+      (let (s, has, c, r') = clause_at e (expr.Path (path.Ctor n.variant)) n.names in
+      let here = c.is_variant.found in
+      let there = n.is_variant in
+      let one : c.variant ≡ x = cc in
+      let none : c.types ≡ [] = no_items c.types (counted_none c.types (subst (λ (y : RawVariant). adt_params g.scope.facts y.adt ≡ Some (length c.types)) one c.is_variant.count) n.non_generic) in
+      let at : s ≡ ty.Adt x.adt [] = c.is ∙ (ap (λ y. ctor_type y n.variant c.types) one ∙ (ctor_type_of_unit x n.variant c.types n.unit ∙ ap (λ us. ty.Adt x.adt (type_args us)) none)) in
+      subst (λ u. HasTy t e u) at has)
+    where
+      counted_none : (us : List Ty) {o : Option ℕ} → o ≡ Some (length us) → o ≡ Some 0 → length us ≡ 0
+      counted_none us h k = cc
   upward m r (of_parameter e i s n is) = local e n.binding n.pattern s n.names n.binds (bind_is_at n.pattern n.binding s n.binds (h.params i n.pattern s n.stands is))
 
   body_rule : BodyIsExcused g t ⊎ BodyObeys g t
@@ -400,15 +521,11 @@ module _ (g : Given) (t : InferenceResult) (h : IsMade g t) where
       let other = written.calls.is_call in
       let here = written.is_node in
       let called : input.called ≡ written.calls.called = cc in
-      let (none, fn) = non_generic written.call written.function written.calls input.signature input.types (subst (λ c. IsCallee g t c input.signature input.types) called input.is_callee) in
-      let at : slice_get (map (at_args []) (map (written_type g.scope.facts.types) written.function.inputs)) i ≡ Some d =
-      subst (λ (v : Signature). slice_get (map (at_args []) v.inputs) i ≡ Some d) fn (subst (λ us. slice_get (map (at_args us) input.signature.inputs) i ≡ Some d) none input.input) in
-      written.is_type ∙ input_at written.function.inputs i written.input written.is_input at
-    where
-      input_at : (ws : List TypeRefId) (k : ℕ) (w : TypeRefId) → slice_get ws k ≡ Some w → slice_get (map (at_args []) (map (written_type g.scope.facts.types) ws)) k ≡ Some d → at_args [] (written_type g.scope.facts.types w) ≡ d
-      input_at [] k w h at = absurd (cc)
-      input_at (v ∷ ws) zero w h at = (let l : v ≡ w = cc in ap (λ u. at_args [] (written_type g.scope.facts.types u)) (sym l) ∙ (cc))
-      input_at (v ∷ ws) (suc k) w h at = input_at ws k w h at
+      let (none, same) = non_generic written.call written.signature written.calls input.signature input.types (subst (λ c. IsCallee g t c input.signature input.types) called input.is_callee) in
+      let at : slice_get (map (at_args []) written.signature.inputs) i ≡ Some d =
+      subst (λ (v : Signature). slice_get (map (at_args []) v.inputs) i ≡ Some d) same (subst (λ us. slice_get (map (at_args us) input.signature.inputs) i ≡ Some d) none input.input) in
+      let own = written.is_input in
+      cc
 
   module _ (once : StandsOnce g.body) where
     stated_demand : (e : ExprId) (s d : Ty) → Stated g e s → IsAsked g t e d → s ≡ d
@@ -433,14 +550,16 @@ module _ (g : Given) (t : InferenceResult) (h : IsMade g t) where
     no_up_of_block m r is (of_written e w init n) = (let k = is.is_block in let j = n.names in cc)
     no_up_of_block m r is (of_initializer e i s n u) = (let k = is.is_block in let j = n.names in cc)
     no_up_of_block m r is (of_parameter e i s n w) = (let k = is.is_block in let j = n.names in cc)
-    no_up_of_block m r is (of_call e x c) = (let k = is.is_block in let j = c.is_call in cc)
+    no_up_of_block m r is (of_call e σ c) = (let k = is.is_block in let j = c.is_call in cc)
+    no_up_of_block m r is (of_unit e x n) = (let k = is.is_block in let j = n.names in cc)
 
     no_up_of_if : (e : ExprId) (u : Ty) → IsIfWithoutElse g.body e → Up g e u → ⊥
     no_up_of_if m r is (of_literal e l s at own) = (let k = is.is_if in cc)
     no_up_of_if m r is (of_written e w init n) = (let k = is.is_if in let j = n.names in cc)
     no_up_of_if m r is (of_initializer e i s n u) = (let k = is.is_if in let j = n.names in cc)
     no_up_of_if m r is (of_parameter e i s n w) = (let k = is.is_if in let j = n.names in cc)
-    no_up_of_if m r is (of_call e x c) = (let k = is.is_if in let j = c.is_call in cc)
+    no_up_of_if m r is (of_call e σ c) = (let k = is.is_if in let j = c.is_call in cc)
+    no_up_of_if m r is (of_unit e x n) = (let k = is.is_if in let j = n.names in cc)
 
     no_up_of_unit : (e : ExprId) (u : Ty) → EndsInUnit g.body e → Up g e u → ⊥
     no_up_of_unit e u is up = elim is [ inl k ↦ no_up_of_block e u k up | inr k ↦ no_up_of_if e u k up ]
@@ -473,6 +592,7 @@ module _ (g : Given) (t : InferenceResult) (h : IsMade g t) where
       total = total;
       closed = h.closed;
       modes = h.modes;
+      variants = h.variants;
       clauses = h.clauses;
       exprs = λ e i. judged g t e (slice_get g.body.exprs e.0) (h.clauses e i);
       pats = λ p i. record { incoming = incoming p; kind = h.kinds p i };
@@ -481,6 +601,7 @@ module _ (g : Given) (t : InferenceResult) (h : IsMade g t) where
       upward = upward;
       truths = truths;
       diagnostics = h.diagnostics;
+      pat_diagnostics = h.pat_diagnostics;
       pat_truths = h.pat_truths;
     }
 

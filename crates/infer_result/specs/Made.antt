@@ -9,12 +9,12 @@ use Rattle.infer_result.specs.declared.result.InferenceResult.{InferenceResult}
 use Rattle.infer_result.specs.declared.result.TypeMismatch.{TypeMismatch}
 use Rattle.infer_result.specs.declared.diagnostics.InferenceDiagnostic.{InferenceDiagnostic}
 use Rattle.infer_result.specs.Table.{At, BindingTy}
-use Rattle.infer_result.specs.Closed.{IsOfBody, IsClosedTable, OnlyBindersHaveModes}
+use Rattle.infer_result.specs.Closed.{IsOfBody, IsClosedTable, OnlyBindersHaveModes, OnlyNamedVariants}
 use Rattle.infer_result.specs.Places.{Given, IsInput, PatIsAtOrMismatch, Demand}
 use Rattle.infer_result.specs.Rules.Expressions.{ObeysOrMismatch, BodyObeysOrMismatch}
 use Rattle.infer_result.specs.Rules.Patterns.{PatRule}
 use Rattle.infer_result.specs.Truth.Mismatch.{IsActual, IsTruePatMismatch}
-use Rattle.infer_result.specs.Truth.Calls.{IsTrueDiagnostic}
+use Rattle.infer_result.specs.Truth.Calls.{IsTrueDiagnostic, IsTruePatDiagnostic}
 
 -- the two types differ, and the second is the actual one
 pub record IsMisfit (g : Given) (t : InferenceResult) (e : ExprId) (x : TypeMismatch) : Type 0 where
@@ -33,4 +33,6 @@ pub record IsMade (g : Given) (t : InferenceResult) : Type 0 where
   pub misfits : (e : ExprId) (x : TypeMismatch) → At t.expr_mismatches e.0 x → IsMisfit g t e x
   pub demands : (e : ExprId) (x : TypeMismatch) → At t.expr_mismatches e.0 x → Demand g t e x.expected
   pub diagnostics : (e : ExprId) (x : InferenceDiagnostic) → At t.expr_diagnostics e.0 x → IsTrueDiagnostic g t e x
+  pub pat_diagnostics : (p : PatId) (x : InferenceDiagnostic) → At t.pat_diagnostics p.0 x → IsTruePatDiagnostic g p x
+  pub variants : OnlyNamedVariants g.body t
   pub pat_truths : (p : PatId) (x : TypeMismatch) → At t.pat_mismatches p.0 x → IsTruePatMismatch g t p x

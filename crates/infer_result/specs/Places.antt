@@ -3,6 +3,7 @@ use Rattle.std.specs.Prelude.{ℕ, ◌<◌, ◌≡◌, ◌⊎◌, true, false, L
 use Rattle.hir_types.specs.declared.ids.ExprId.{ExprId}
 use Rattle.hir_types.specs.declared.ids.PatId.{PatId}
 use Rattle.hir_types.specs.declared.ids.TypeRefId.{TypeRefId}
+use Rattle.hir_types.specs.declared.ids.VariantId.{VariantId}
 use Rattle.hir_types.specs.declared.ids.CallableDefId.{CallableDefId}
 use Rattle.hir_types.specs.declared.ids.ExprOrPatId.{ExprOrPatId}
 use Rattle.hir_types.specs.declared.ids.ExprOrPatId.TheVariants as node
@@ -12,10 +13,11 @@ use Rattle.hir_facts.specs.declared.raw.RawExpr.TheVariants as expr
 use Rattle.hir_facts.specs.declared.raw.RawPat.{RawPat}
 use Rattle.hir_facts.specs.declared.raw.RawPat.TheVariants as pat
 use Rattle.hir_facts.specs.declared.raw.RawBody.{RawBody}
+use Rattle.hir_facts.specs.declared.raw.RawVariant.{RawVariant}
 use Rattle.hir_types.specs.Types.{unit}
 use Rattle.hir_facts.specs.Types.{written_type}
-use Rattle.hir_facts.specs.Signatures.{Signature, signature_of, type_args, at_args}
-use Rattle.hir_facts.specs.Scope.{Scope}
+use Rattle.hir_facts.specs.Signatures.{Signature, signature_of, type_args, at_args, field_types, ctor_type}
+use Rattle.hir_facts.specs.Scope.{Scope, adt_params}
 use Rattle.hir_types.specs.Erasure.{Same}
 use Rattle.hir_facts.specs.Order.{Role, parameter, root, initializer, let_pattern, let_else, statement, tail, element, condition, then_branch, else_branch, scrutinee, arm_pattern, guard, arm, callee, argument, subpattern, pattern_literal, expr_part, Node, the_body, inner, IsNode, part_at}
 use Rattle.infer_result.specs.declared.result.InferenceResult.{InferenceResult}
@@ -34,6 +36,27 @@ pub record StandsAt (b : RawBody) (x : ExprOrPatId) (n : Node) (k : ℕ) (role :
   pub node_is : IsNode b n
   pub part : part_at b n k ≡ Some (record { node = x; role = role })
 
+-- ---- constructors
+
+-- the variant, at as many types as its adt has parameters
+pub record IsVariantAt (g : Given) (v : VariantId) (x : RawVariant) (ts : List Ty) : Type 0 where
+  pub found : slice_get g.scope.facts.variants v.0 ≡ Some x
+  pub count : adt_params g.scope.facts x.adt ≡ Some (length ts)
+
+-- its adt, and the types of its fields, at these types
+abbrev pub adt_at : RawVariant → List Ty → Ty
+adt_at x ts = ty.Adt x.adt (type_args ts)
+
+abbrev pub fields_at : Given → RawVariant → List Ty → List Ty
+fields_at g x ts = map (at_args ts) (field_types g.scope.facts.types x)
+
+-- s is the type of a path to the constructor, at some types
+pub record IsCtorPath (g : Given) (v : VariantId) (s : Ty) : Type 0 where
+  pub variant : RawVariant
+  pub types : List Ty
+  pub is_variant : IsVariantAt g v variant types
+  pub is : s ≡ ctor_type variant v types
+
 -- ---- where an expression and a pattern are
 
 -- the expression is at the type s
@@ -50,8 +73,8 @@ MisfitsAs t p None = ⊥
 MisfitsAs t p (Some pat.Wild) = ⊥
 MisfitsAs t p (Some (pat.Bind v sub)) = ⊥
 MisfitsAs t p (Some (pat.Tuple ps)) = HasPatMismatch t p
-MisfitsAs t p (Some (pat.TupleStruct named ps)) = ⊥
-MisfitsAs t p (Some (pat.Path named)) = ⊥
+MisfitsAs t p (Some (pat.TupleStruct named ps)) = HasPatMismatch t p
+MisfitsAs t p (Some (pat.Path named)) = HasPatMismatch t p
 MisfitsAs t p (Some (pat.Lit e)) = HasMismatch t e
 MisfitsAs t p (Some pat.Other) = ⊥
 
@@ -65,11 +88,30 @@ PatIsAtOrMismatch g t p s = (a : Ty) × PatTy t p a × ((a ≡ s) ⊎ MisfitsAs 
 abbrev pub IsInput : Given → ℕ → Ty → Type 0
 IsInput g i s = (w : TypeRefId) × (slice_get g.inputs i ≡ Some w) × (s ≡ written_type g.scope.facts.types w)
 
--- the type that a pattern gives to its part at this position: the component of its own type
-abbrev pub GivesPart : InferenceResult → Node → ℕ → Ty → Type 0
-GivesPart t the_body i s = ⊥
-GivesPart t (inner (node.ExprId n)) i s = ⊥
-GivesPart t (inner (node.PatId p)) i s = (ss : List Ty) × PatTy t p (ty.Tuple ss) × (slice_get ss i ≡ Some s)
+-- the component of the pattern's own type at this position
+pub record GivesComponent (t : InferenceResult) (p : PatId) (i : ℕ) (s : Ty) : Type 0 where
+  pub types : List Ty
+  pub has : PatTy t p (ty.Tuple types)
+  pub component : slice_get types i ≡ Some s
+
+-- the pattern is a constructor over patterns, and s is the type of its field at this position where the pattern's own
+-- type is its adt
+pub record GivesField (g : Given) (t : InferenceResult) (p : PatId) (i : ℕ) (s : Ty) : Type 0 where
+  pub named : VariantId
+  pub parts : List PatId
+  pub is_pat : slice_get g.body.pats p.0 ≡ Some (pat.TupleStruct named parts)
+  pub variant : RawVariant
+  pub types : List Ty
+  pub is_variant : IsVariantAt g named variant types
+  pub has : PatTy t p (adt_at variant types)
+  pub field : slice_get (fields_at g variant types) i ≡ Some s
+
+-- the type that a pattern gives to its part at this position: a component, or the type of a field. A part beyond the fields
+-- is given none.
+abbrev pub GivesPart : Given → InferenceResult → Node → ℕ → Ty → Type 0
+GivesPart g t the_body i s = ⊥
+GivesPart g t (inner (node.ExprId n)) i s = ⊥
+GivesPart g t (inner (node.PatId p)) i s = GivesComponent t p i s ⊎ GivesField g t p i s
 
 -- the type that the node n gives to a pattern in this role: a written type, or that of the initializer,
 -- of the scrutinee, of the component
@@ -93,7 +135,7 @@ Gives g t n (guard i) s = ⊥
 Gives g t n (arm i) s = ⊥
 Gives g t n callee s = ⊥
 Gives g t n (argument i) s = ⊥
-Gives g t n (subpattern i) s = GivesPart t n i s
+Gives g t n (subpattern i) s = GivesPart g t n i s
 Gives g t n pattern_literal s = ⊥
 
 -- the type that comes into a pattern

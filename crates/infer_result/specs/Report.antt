@@ -5,6 +5,9 @@ use Rattle.std.specs.Fmt.{decimal}
 use Rattle.hir_types.specs.declared.ids.AdtId.{AdtId}
 use Rattle.hir_types.specs.declared.ids.CallableDefId.{CallableDefId}
 use Rattle.hir_types.specs.declared.ids.CallableDefId.TheVariants as callable
+use Rattle.hir_types.specs.declared.ids.VariantId.{VariantId}
+use Rattle.hir_types.specs.declared.ids.ExprOrPatId.{ExprOrPatId}
+use Rattle.hir_types.specs.declared.ids.ExprOrPatId.TheVariants as node
 use Rattle.hir_types.specs.declared.ids.DefWithBodyId.{DefWithBodyId}
 use Rattle.hir_types.specs.declared.ids.DefWithBodyId.TheVariants as def
 use Rattle.hir_facts.specs.declared.raw.RawAdt.{RawAdt}
@@ -187,8 +190,13 @@ def_line (def.ConstId c) = line (codes "const " ++ decimal c.0)
 def_line (def.StaticId s) = line (codes "static " ++ decimal s.0)
 def_line (def.VariantId v) = line (codes "variant " ++ decimal v.0)
 
-abbrev pub expr_line : RawFacts → ℕ → Option Ty → List ℕ
-expr_line raw i t = line (codes "e" ++ decimal i ++ codes " " ++ type_text raw t)
+-- the variant that is recorded, where one is
+abbrev pub variant_text : Option VariantId → List ℕ
+variant_text None = []
+variant_text (Some v) = codes " = variant" ++ decimal v.0
+
+abbrev pub expr_line : RawFacts → List (Option VariantId) → ℕ → Option Ty → List ℕ
+expr_line raw variants i t = line (codes "e" ++ decimal i ++ codes " " ++ type_text raw t ++ variant_text (recorded variants i))
 
 -- how a pattern binds, where it does
 abbrev pub mode_text : Option BindingMode → List ℕ
@@ -197,8 +205,8 @@ mode_text (Some mode.Move) = codes " move"
 mode_text (Some (mode.Ref mutability.Not)) = codes " ref"
 mode_text (Some (mode.Ref mutability.Mut)) = codes " refmut"
 
-abbrev pub pat_line : RawFacts → List (Option BindingMode) → ℕ → Option Ty → List ℕ
-pat_line raw modes i t = line (codes "p" ++ decimal i ++ codes " " ++ type_text raw t ++ mode_text (recorded modes i))
+abbrev pub pat_line : RawFacts → List (Option BindingMode) → List (Option VariantId) → ℕ → Option Ty → List ℕ
+pat_line raw modes variants i t = line (codes "p" ++ decimal i ++ codes " " ++ type_text raw t ++ mode_text (recorded modes i) ++ variant_text (recorded variants i))
 
 abbrev pub binding_line : RawFacts → ℕ → Option Ty → List ℕ
 binding_line raw i t = line (codes "b" ++ decimal i ++ codes " " ++ type_text raw t)
@@ -217,10 +225,20 @@ abbrev pub mismatch_line : RawFacts → ℕ → Option TypeMismatch → List ℕ
 mismatch_line raw i None = []
 mismatch_line raw i (Some m) = line (mismatch_head i ++ mismatch_fields raw m)
 
+unfoldable pub node_text : ExprOrPatId → List ℕ
+node_text (node.ExprId e) = codes "e" ++ decimal e.0
+node_text (node.PatId p) = codes "p" ++ decimal p.0
+
+-- two numbers that differ
+unfoldable pub counts_text : ℕ → ℕ → List ℕ
+counts_text expected found = codes " expected=" ++ decimal expected ++ codes " found=" ++ decimal found
+
 -- another complaint: its name, its node, and what it says of it
 unfoldable pub diagnostic_text : InferenceDiagnostic → List ℕ
 diagnostic_text (diagnostic.MismatchedArgCount n expected found) =
-    codes "MismatchedArgCount e" ++ decimal n.0 ++ codes " expected=" ++ decimal expected ++ codes " found=" ++ decimal found
+    codes "MismatchedArgCount e" ++ decimal n.0 ++ counts_text expected found
+diagnostic_text (diagnostic.MismatchedTupleStructPatArgCount n expected found) =
+    codes "MismatchedTupleStructPatArgCount " ++ node_text n ++ counts_text expected found
 
 abbrev pub diagnostic_line : Option InferenceDiagnostic → List ℕ
 diagnostic_line None = []
@@ -237,15 +255,19 @@ abbrev pub pat_mismatch_line : RawFacts → ℕ → Option TypeMismatch → List
 pat_mismatch_line raw i None = []
 pat_mismatch_line raw i (Some m) = line (pat_mismatch_head i ++ mismatch_fields raw m)
 
+-- the complaints at a pattern: its mismatch, then the other one
+abbrev pub pat_complaints : RawFacts → List (Option InferenceDiagnostic) → ℕ → Option TypeMismatch → List ℕ
+pat_complaints raw diagnostics i m = pat_mismatch_line raw i m ++ diagnostic_line (recorded diagnostics i)
+
 -- ---- the whole
 
 abbrev pub complaint_count : InferenceResult → ℕ
-complaint_count t = count_by is_some t.expr_mismatches + count_by is_some t.expr_diagnostics + count_by is_some t.pat_mismatches
+complaint_count t = count_by is_some t.expr_mismatches + count_by is_some t.expr_diagnostics + count_by is_some t.pat_mismatches + count_by is_some t.pat_diagnostics
 
 abbrev pub report : DefWithBodyId → RawFacts → InferenceResult → List ℕ
 report d raw t =
-    def_line d ++ lines_from (expr_line raw) 0 t.type_of_expr ++ lines_from (pat_line raw t.binding_modes) 0 t.type_of_pat
+    def_line d ++ lines_from (expr_line raw t.expr_variants) 0 t.type_of_expr ++ lines_from (pat_line raw t.binding_modes t.pat_variants) 0 t.type_of_pat
     ++ lines_from (binding_line raw) 0 t.type_of_binding
     ++ lines_from (expr_complaints raw t.expr_diagnostics) 0 t.expr_mismatches
-    ++ lines_from (pat_mismatch_line raw) 0 t.pat_mismatches
+    ++ lines_from (pat_complaints raw t.pat_diagnostics) 0 t.pat_mismatches
     ++ line (codes "complaints " ++ decimal (complaint_count t))

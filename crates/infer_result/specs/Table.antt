@@ -4,6 +4,7 @@ use Rattle.std.specs.Option.{option_and_then}
 use Rattle.hir_types.specs.declared.ids.ExprId.{ExprId}
 use Rattle.hir_types.specs.declared.ids.PatId.{PatId}
 use Rattle.hir_types.specs.declared.ids.BindingId.{BindingId}
+use Rattle.hir_types.specs.declared.ids.VariantId.{VariantId}
 use Rattle.hir_types.specs.declared.ids.ExprOrPatId.{ExprOrPatId}
 use Rattle.hir_types.specs.declared.ids.ExprOrPatId.TheVariants as node
 use Rattle.hir_types.specs.declared.ty.Ty.{Ty}
@@ -19,6 +20,10 @@ recorded xs n = option_and_then (λ x. x) (slice_get xs n)
 abbrev pub node_type : InferenceResult → ExprOrPatId → Option Ty
 node_type t (node.ExprId e) = recorded t.type_of_expr e.0
 node_type t (node.PatId p) = recorded t.type_of_pat p.0
+
+abbrev pub node_variant : InferenceResult → ExprOrPatId → Option VariantId
+node_variant t (node.ExprId e) = recorded t.expr_variants e.0
+node_variant t (node.PatId p) = recorded t.pat_variants p.0
 
 -- x is recorded at n
 abbrev pub At : {A : Type 0} → List (Option A) → ℕ → A → Type 0
@@ -36,6 +41,13 @@ BindingTy t v s = At t.type_of_binding v.0 s
 
 abbrev pub HasMode : InferenceResult → PatId → BindingMode → Type 0
 HasMode t p m = At t.binding_modes p.0 m
+
+-- the expression, the pattern names the constructor of this variant
+abbrev pub ExprVariant : InferenceResult → ExprId → VariantId → Type 0
+ExprVariant t e v = At t.expr_variants e.0 v
+
+abbrev pub PatVariant : InferenceResult → PatId → VariantId → Type 0
+PatVariant t p v = At t.pat_variants p.0 v
 
 abbrev pub mismatch : Ty → Ty → TypeMismatch
 mismatch expected actual = record { expected = expected; actual = actual }
@@ -64,3 +76,7 @@ AnyDiagnostic t e = (x : InferenceDiagnostic) × HasDiagnostic t e x
 -- some mismatch is listed at the pattern
 abbrev pub HasPatMismatch : InferenceResult → PatId → Type 0
 HasPatMismatch t p = (x : TypeMismatch) × At t.pat_mismatches p.0 x
+
+-- this complaint, other than a mismatch, is listed at the pattern
+abbrev pub HasPatDiagnostic : InferenceResult → PatId → InferenceDiagnostic → Type 0
+HasPatDiagnostic t p x = At t.pat_diagnostics p.0 x

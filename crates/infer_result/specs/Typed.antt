@@ -12,7 +12,7 @@ use Rattle.infer_result.specs.declared.result.InferenceResult.{InferenceResult}
 use Rattle.infer_result.specs.declared.result.TypeMismatch.{TypeMismatch}
 use Rattle.infer_result.specs.declared.diagnostics.InferenceDiagnostic.{InferenceDiagnostic}
 use Rattle.infer_result.specs.Table.{At, HasTy}
-use Rattle.infer_result.specs.Closed.{IsOfBody, IsTotal, IsClosedTable, OnlyBindersHaveModes}
+use Rattle.infer_result.specs.Closed.{IsOfBody, IsTotal, IsClosedTable, OnlyBindersHaveModes, OnlyNamedVariants}
 use Rattle.infer_result.specs.Fit.{TypesFit}
 use Rattle.infer_result.specs.Places.{Given}
 use Rattle.infer_result.specs.Rules.Expressions.{ObeysOrMismatch, ObeysExpression, BodyObeysOrMismatch, BodyObeys}
@@ -20,7 +20,7 @@ use Rattle.infer_result.specs.Rules.Patterns.{ObeysPattern}
 use Rattle.infer_result.specs.Excused.{IsExcused, BodyIsExcused}
 use Rattle.infer_result.specs.Upward.{Up}
 use Rattle.infer_result.specs.Truth.Mismatch.{IsTrueMismatch, IsTruePatMismatch}
-use Rattle.infer_result.specs.Truth.Calls.{IsTrueDiagnostic}
+use Rattle.infer_result.specs.Truth.Calls.{IsTrueDiagnostic, IsTruePatDiagnostic}
 
 -- Each node obeys its rule, clause by clause but for listed mismatches, and so each node that is not
 -- excused obeys it whole; each type that a node has by itself stands; and each mismatch and
@@ -30,6 +30,7 @@ pub record IsTyped (g : Given) (t : InferenceResult) : Type 0 where
   pub total : IsTotal g.body t
   pub closed : IsClosedTable t
   pub modes : OnlyBindersHaveModes g.body t
+  pub variants : OnlyNamedVariants g.body t
   pub clauses : (e : ExprId) → e.0 < length g.body.exprs → ObeysOrMismatch g t e
   pub exprs : (e : ExprId) → e.0 < length g.body.exprs → IsExcused g t e ⊎ ObeysExpression g t e
   pub pats : (p : PatId) → p.0 < length g.body.pats → ObeysPattern g t p
@@ -38,6 +39,7 @@ pub record IsTyped (g : Given) (t : InferenceResult) : Type 0 where
   pub upward : (e : ExprId) (s : Ty) → Up g e s → HasTy t e s
   pub truths : (e : ExprId) (x : TypeMismatch) → At t.expr_mismatches e.0 x → IsTrueMismatch g t e x
   pub diagnostics : (e : ExprId) (x : InferenceDiagnostic) → At t.expr_diagnostics e.0 x → IsTrueDiagnostic g t e x
+  pub pat_diagnostics : (p : PatId) (x : InferenceDiagnostic) → At t.pat_diagnostics p.0 x → IsTruePatDiagnostic g p x
   pub pat_truths : (p : PatId) (x : TypeMismatch) → At t.pat_mismatches p.0 x → IsTruePatMismatch g t p x
 
 -- the body of a definition among its facts

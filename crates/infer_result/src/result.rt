@@ -1,10 +1,10 @@
 //! The types, modes and complaints of a body.
 ghost use Rattle.std.specs.Prelude.{◌≡◌, option_copied};
-ghost use Rattle.infer_result.specs.Table.{recorded, node_type};
+ghost use Rattle.infer_result.specs.Table.{recorded, node_type, node_variant};
 
 use crate::diagnostics::InferenceDiagnostic;
 use crate::modes::BindingMode;
-use hir_facts::{BindingId, ExprId, ExprOrPatId, List, PatId, Ty};
+use hir_facts::{BindingId, ExprId, ExprOrPatId, List, PatId, Ty, VariantId};
 
 /// Two types that should be the same, at an expression or a pattern: `infer.rs`, `TypeMismatch`.
 #[derive(Debug, Drop, PartialEq, Eq, Hash)]
@@ -34,6 +34,12 @@ pub struct InferenceResult {
     pub expr_diagnostics: List<Option<InferenceDiagnostic>>,
     /// The mismatch at each pattern, where there is one.
     pub pat_mismatches: List<Option<TypeMismatch>>,
+    /// The complaint, other than a mismatch, at each pattern, where there is one.
+    pub pat_diagnostics: List<Option<InferenceDiagnostic>>,
+    /// The variant whose constructor each expression names, where it is a path to one.
+    pub expr_variants: List<Option<VariantId>>,
+    /// The variant whose constructor each pattern names, where it is one.
+    pub pat_variants: List<Option<VariantId>>,
 }
 
 impl InferenceResult {
@@ -80,5 +86,36 @@ impl InferenceResult {
         ensures { option_copied result ≡ recorded self.now.pat_mismatches p.0 }
     {
         self.pat_mismatches.get(p.0 as usize)?.as_ref()
+    }
+
+    /// The complaint, other than a mismatch, at a pattern; `None` where there is none.
+    pub fn diagnostic_for_pat(&self, p: PatId) -> Option<&InferenceDiagnostic>
+        ensures { option_copied result ≡ recorded self.now.pat_diagnostics p.0 }
+    {
+        self.pat_diagnostics.get(p.0 as usize)?.as_ref()
+    }
+
+    /// The variant whose constructor an expression names; `None` where it names none.
+    pub fn variant_resolution_for_expr(&self, e: ExprId) -> Option<VariantId>
+        ensures { result ≡ recorded self.now.expr_variants e.0 }
+    {
+        *self.expr_variants.get(e.0 as usize)?
+    }
+
+    /// The variant whose constructor a pattern names; `None` where it names none.
+    pub fn variant_resolution_for_pat(&self, p: PatId) -> Option<VariantId>
+        ensures { result ≡ recorded self.now.pat_variants p.0 }
+    {
+        *self.pat_variants.get(p.0 as usize)?
+    }
+
+    /// The variant whose constructor an expression or a pattern names; `None` where it names none.
+    pub fn variant_resolution_for_expr_or_pat(&self, node: ExprOrPatId) -> Option<VariantId>
+        ensures { result ≡ node_variant self.now node }
+    {
+        match node {
+            ExprOrPatId::ExprId(e) => self.variant_resolution_for_expr(e),
+            ExprOrPatId::PatId(p) => self.variant_resolution_for_pat(p),
+        }
     }
 }

@@ -23,8 +23,8 @@ use Rattle.infer_result.specs.Places.{Given, Demand}
 use Rattle.infer_result.specs.Rules.Expressions.{ObeysOrMismatch}
 use Rattle.infer_result.specs.Rules.Patterns.{PatRule}
 use Rattle.infer_result.specs.Truth.Mismatch.{IsTruePatMismatch}
-use Rattle.infer_result.specs.Truth.Calls.{IsTrueDiagnostic}
-use Rattle.infer_result.specs.Closed.{IsBinder}
+use Rattle.infer_result.specs.Truth.Calls.{IsTrueDiagnostic, IsTruePatDiagnostic}
+use Rattle.infer_result.specs.Closed.{IsBinder, NamesVariant, IsVariantPat}
 use Rattle.infer_result.specs.Made.{IsMisfit, IsMade}
 use Rattle.infer_result.specs.Typed.{IsTyped}
 use Rattle.infer_result.specs.Derived.{typed_by_schedule}
@@ -82,6 +82,9 @@ table_of exprs mismatches = record {
   expr_mismatches = mismatches;
   expr_diagnostics = None ∷ None ∷ None ∷ None ∷ None ∷ [];
   pat_mismatches = None ∷ [];
+  pat_diagnostics = None ∷ [];
+  expr_variants = None ∷ None ∷ None ∷ None ∷ None ∷ [];
+  pat_variants = None ∷ [];
 }
 
 abbrev silent : List (Option TypeMismatch)
@@ -95,7 +98,7 @@ right = table_of right_types silent
 
 right_made : IsMade given right
 right_made = record {
-  of_body = record { exprs = refl; pats = refl; bindings = refl; modes = refl; mismatches = refl; diagnostics = refl; pat_mismatches = refl };
+  of_body = record { exprs = refl; pats = refl; bindings = refl; modes = refl; mismatches = refl; diagnostics = refl; pat_mismatches = refl; pat_diagnostics = refl; expr_variants = refl; pat_variants = refl };
   closed = record {
     exprs = each_entry IsClosed right.type_of_expr (closed_bool, (closed_u8, (closed_u8, (closed_u8, (closed_u8, tt)))));
     pats = each_entry IsClosed right.type_of_pat (closed_bool, tt);
@@ -116,6 +119,11 @@ right_made = record {
   demands = λ x. each_entry (λ m. Demand given right x m.expected) right.expr_mismatches tt x.0;
   modes = λ x. each_placed (λ k m. IsBinder body (p k)) right.binding_modes ((b 0, None, refl), tt) x.0;
   diagnostics = λ x. each_entry (IsTrueDiagnostic given right x) right.expr_diagnostics tt x.0;
+  pat_diagnostics = λ x. each_entry (IsTruePatDiagnostic given x) right.pat_diagnostics tt x.0;
+  variants = record {
+    exprs = λ x. each_entry (NamesVariant given.body x) right.expr_variants tt x.0;
+    pats = λ x. each_entry (IsVariantPat given.body x) right.pat_variants tt x.0;
+  };
   pat_truths = λ x. each_entry (IsTruePatMismatch given right x) right.pat_mismatches tt x.0;
 }
 

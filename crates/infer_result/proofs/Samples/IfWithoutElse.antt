@@ -24,8 +24,8 @@ use Rattle.infer_result.specs.Places.{Given, Demand}
 use Rattle.infer_result.specs.Rules.Expressions.{ObeysOrMismatch}
 use Rattle.infer_result.specs.Rules.Patterns.{PatRule}
 use Rattle.infer_result.specs.Truth.Mismatch.{IsTruePatMismatch}
-use Rattle.infer_result.specs.Truth.Calls.{IsTrueDiagnostic}
-use Rattle.infer_result.specs.Closed.{IsBinder}
+use Rattle.infer_result.specs.Truth.Calls.{IsTrueDiagnostic, IsTruePatDiagnostic}
+use Rattle.infer_result.specs.Closed.{IsBinder, NamesVariant, IsVariantPat}
 use Rattle.infer_result.specs.Made.{IsMisfit, IsMade}
 use Rattle.infer_result.specs.Typed.{IsTyped}
 use Rattle.infer_result.specs.Derived.{typed_by_schedule}
@@ -74,6 +74,9 @@ table_of s mismatches = record {
   expr_mismatches = mismatches;
   expr_diagnostics = None ∷ None ∷ None ∷ None ∷ [];
   pat_mismatches = None ∷ None ∷ [];
+  pat_diagnostics = None ∷ None ∷ [];
+  expr_variants = None ∷ None ∷ None ∷ None ∷ [];
+  pat_variants = None ∷ None ∷ [];
 }
 
 abbrev right : Ty → InferenceResult
@@ -81,7 +84,7 @@ right s = table_of s (None ∷ None ∷ Some (mismatch u8 unit) ∷ None ∷ [])
 
 right_made : (s : Ty) → IsClosed s → IsMade given (right s)
 right_made s closed_s = record {
-  of_body = record { exprs = refl; pats = refl; bindings = refl; modes = refl; mismatches = refl; diagnostics = refl; pat_mismatches = refl };
+  of_body = record { exprs = refl; pats = refl; bindings = refl; modes = refl; mismatches = refl; diagnostics = refl; pat_mismatches = refl; pat_diagnostics = refl; expr_variants = refl; pat_variants = refl };
   closed = record {
     exprs = each_entry IsClosed (right s).type_of_expr (closed_bool, (closed_u8, (closed_s, (closed_unit, tt))));
     pats = each_entry IsClosed (right s).type_of_pat (closed_bool, (closed_s, tt));
@@ -102,6 +105,11 @@ right_made s closed_s = record {
   demands = λ x. each_placed (λ k (m : TypeMismatch). Demand given (right s) (e k) m.expected) (right s).expr_mismatches (inr (record { condition = e 0; branch = e 1; is_if = refl; has = refl }), tt) x.0;
   modes = λ x. each_placed (λ k m. IsBinder body (p k)) (right s).binding_modes ((b 0, None, refl), ((b 1, None, refl), tt)) x.0;
   diagnostics = λ x. each_entry (IsTrueDiagnostic given (right s) x) (right s).expr_diagnostics tt x.0;
+  pat_diagnostics = λ x. each_entry (IsTruePatDiagnostic given x) (right s).pat_diagnostics tt x.0;
+  variants = record {
+    exprs = λ x. each_entry (NamesVariant given.body x) (right s).expr_variants tt x.0;
+    pats = λ x. each_entry (IsVariantPat given.body x) (right s).pat_variants tt x.0;
+  };
   pat_truths = λ x. each_entry (IsTruePatMismatch given (right s) x) (right s).pat_mismatches tt x.0;
 }
 

@@ -28,8 +28,8 @@ use Rattle.infer_result.specs.Places.{Given, Demand}
 use Rattle.infer_result.specs.Rules.Expressions.{ObeysOrMismatch}
 use Rattle.infer_result.specs.Rules.Patterns.{PatRule}
 use Rattle.infer_result.specs.Truth.Mismatch.{IsTruePatMismatch}
-use Rattle.infer_result.specs.Truth.Calls.{IsTrueDiagnostic}
-use Rattle.infer_result.specs.Closed.{IsBinder}
+use Rattle.infer_result.specs.Truth.Calls.{IsTrueDiagnostic, IsTruePatDiagnostic}
+use Rattle.infer_result.specs.Closed.{IsBinder, NamesVariant, IsVariantPat}
 use Rattle.infer_result.specs.Made.{IsMisfit, IsMade}
 use Rattle.infer_result.specs.Typed.{IsTyped}
 use Rattle.infer_result.specs.Derived.{tuple_parts, typed_by_schedule}
@@ -104,6 +104,9 @@ table_of seven name last a wild bound mismatches pat_mismatches = record {
   expr_mismatches = mismatches;
   expr_diagnostics = None ∷ None ∷ None ∷ None ∷ None ∷ None ∷ [];
   pat_mismatches = pat_mismatches;
+  pat_diagnostics = None ∷ None ∷ None ∷ None ∷ None ∷ [];
+  expr_variants = None ∷ None ∷ None ∷ None ∷ None ∷ None ∷ [];
+  pat_variants = None ∷ None ∷ None ∷ None ∷ None ∷ [];
 }
 
 abbrev silent : List (Option TypeMismatch)
@@ -126,7 +129,7 @@ match_obeys = ((pair, refl, ((pair, refl, inl refl), ((pair, refl, inl refl), tt
 
 right_made : IsMade given right
 right_made = record {
-  of_body = record { exprs = refl; pats = refl; bindings = refl; modes = refl; mismatches = refl; diagnostics = refl; pat_mismatches = refl };
+  of_body = record { exprs = refl; pats = refl; bindings = refl; modes = refl; mismatches = refl; diagnostics = refl; pat_mismatches = refl; pat_diagnostics = refl; expr_variants = refl; pat_variants = refl };
   closed = record {
     exprs = each_entry IsClosed right.type_of_expr (closed_pair, (closed_i32, (closed_u8, (closed_u8, (closed_u8, (closed_u8, tt))))));
     pats = each_entry IsClosed right.type_of_pat (closed_pair, (closed_pair, (closed_u8, (closed_i32, (closed_pair, tt)))));
@@ -149,6 +152,11 @@ right_made = record {
   demands = λ x. each_entry (λ m. Demand given right x m.expected) right.expr_mismatches tt x.0;
   modes = λ x. each_placed (λ k m. IsBinder body (p k)) right.binding_modes ((b 0, None, refl), ((b 1, None, refl), tt)) x.0;
   diagnostics = λ x. each_entry (IsTrueDiagnostic given right x) right.expr_diagnostics tt x.0;
+  pat_diagnostics = λ x. each_entry (IsTruePatDiagnostic given x) right.pat_diagnostics tt x.0;
+  variants = record {
+    exprs = λ x. each_entry (NamesVariant given.body x) right.expr_variants tt x.0;
+    pats = λ x. each_entry (IsVariantPat given.body x) right.pat_variants tt x.0;
+  };
   pat_truths = λ x. each_entry (IsTruePatMismatch given right x) right.pat_mismatches tt x.0;
 }
 
@@ -168,7 +176,7 @@ other_binding h = (let c = (h.pats (p 2) (omega arith)).kind in u8_is_no_bool (o
 -- the pattern has another type than the component that comes in
 pub other_part : IsTyped given (table_of i32 ty.Bool u8 ty.Bool pair ty.Bool first_arm silent_pats) → ⊥
 other_part h =
-    (let c = (h.pats (p 2) (omega arith)).incoming u8 (record { parent = inner (node.PatId (p 1)); at_part = 0; role = subpattern 0; stands = record { node_is = omega arith; part = refl }; gives = (u8 ∷ i32 ∷ [], refl, refl) }) in
+    (let c = (h.pats (p 2) (omega arith)).incoming u8 (record { parent = inner (node.PatId (p 1)); at_part = 0; role = subpattern 0; stands = record { node_is = omega arith; part = refl }; gives = inl (record { types = u8 ∷ i32 ∷ []; has = refl; component = refl }) }) in
     elim c.2 [ inl same ↦ u8_is_no_bool (sym (only ty.Bool c.0 c.1 ∙ same)) | inr m ↦ absurd m ])
 
 u8_is_no_i32 : u8 ≡ i32 → ⊥
@@ -204,11 +212,6 @@ invented h =
     let a = comes given schedule is_schedule _ (p 1) (inner (node.ExprId (e 4))) 1 (arm_pattern (e 0) 0) u8 (record { node_is = omega arith; part = refl }) m.incoming in
     u8_is_no_tuple (u8 ∷ i32 ∷ []) (sym (only pair u8 a)))
 
--- one at the part `a`, which has the type of the component
+-- one at the part `a`, a binding, which has the type that comes in
 pub invented_at_part : IsTyped given (table_of i32 u8 u8 u8 pair u8 silent (None ∷ None ∷ Some (mismatch i32 u8) ∷ None ∷ None ∷ [])) → ⊥
-invented_at_part h =
-    (let m = h.pat_truths (p 2) (mismatch i32 u8) refl in
-    let a = comes given schedule is_schedule _ (p 2) (inner (node.PatId (p 1))) 0 (subpattern 0) i32 (record { node_is = omega arith; part = refl }) m.incoming in
-    let ss : u8 ∷ i32 ∷ [] ≡ a.0 = tuple_parts (u8 ∷ i32 ∷ []) a.0 (only pair (ty.Tuple a.0) a.1) in
-    let first : slice_get (u8 ∷ i32 ∷ []) 0 ≡ Some i32 = subst (λ us. slice_get us 0 ≡ Some i32) (sym ss) a.2 in
-    let same : u8 ≡ i32 = cc in u8_is_no_i32 same)
+invented_at_part h = (h.pat_truths (p 2) (mismatch i32 u8) refl).says

@@ -19,8 +19,8 @@ use Rattle.infer_result.specs.Places.{Given, Demand}
 use Rattle.infer_result.specs.Rules.Expressions.{ObeysOrMismatch}
 use Rattle.infer_result.specs.Rules.Patterns.{PatRule}
 use Rattle.infer_result.specs.Truth.Mismatch.{IsTruePatMismatch}
-use Rattle.infer_result.specs.Truth.Calls.{IsTrueDiagnostic}
-use Rattle.infer_result.specs.Closed.{IsBinder}
+use Rattle.infer_result.specs.Truth.Calls.{IsTrueDiagnostic, IsTruePatDiagnostic}
+use Rattle.infer_result.specs.Closed.{IsBinder, NamesVariant, IsVariantPat}
 use Rattle.infer_result.specs.Made.{IsMisfit, IsMade}
 use Rattle.infer_result.specs.Typed.{IsTyped}
 use Rattle.infer_result.specs.Derived.{typed_by_schedule}
@@ -56,6 +56,9 @@ table_of types mismatches = record {
   expr_mismatches = mismatches;
   expr_diagnostics = None ∷ None ∷ [];
   pat_mismatches = None ∷ [];
+  pat_diagnostics = None ∷ [];
+  expr_variants = None ∷ None ∷ [];
+  pat_variants = None ∷ [];
 }
 
 abbrev right : InferenceResult
@@ -63,7 +66,7 @@ right = table_of (Some u8 ∷ Some u8 ∷ []) (None ∷ Some (mismatch u8 unit) 
 
 right_made : IsMade given right
 right_made = record {
-  of_body = record { exprs = refl; pats = refl; bindings = refl; modes = refl; mismatches = refl; diagnostics = refl; pat_mismatches = refl };
+  of_body = record { exprs = refl; pats = refl; bindings = refl; modes = refl; mismatches = refl; diagnostics = refl; pat_mismatches = refl; pat_diagnostics = refl; expr_variants = refl; pat_variants = refl };
   closed = record {
     exprs = each_entry IsClosed right.type_of_expr (closed_u8, (closed_u8, tt));
     pats = each_entry IsClosed right.type_of_pat (closed_u8, tt);
@@ -86,6 +89,11 @@ right_made = record {
       (inl (record { parent = the_body; at_part = 0; role = root; stands = record { node_is = tt; part = refl }; asks = (refl, refl) }), tt) x.0;
   modes = λ x. each_placed (λ k m. IsBinder body (p k)) right.binding_modes ((b 0, None, refl), tt) x.0;
   diagnostics = λ x. each_entry (IsTrueDiagnostic given right x) right.expr_diagnostics tt x.0;
+  pat_diagnostics = λ x. each_entry (IsTruePatDiagnostic given x) right.pat_diagnostics tt x.0;
+  variants = record {
+    exprs = λ x. each_entry (NamesVariant given.body x) right.expr_variants tt x.0;
+    pats = λ x. each_entry (IsVariantPat given.body x) right.pat_variants tt x.0;
+  };
   pat_truths = λ x. each_entry (IsTruePatMismatch given right x) right.pat_mismatches tt x.0;
 }
 

@@ -26,8 +26,8 @@ use Rattle.infer_result.specs.Places.{Given, IsOfOther, Demand}
 use Rattle.infer_result.specs.Rules.Expressions.{ObeysOrMismatch}
 use Rattle.infer_result.specs.Rules.Patterns.{PatRule}
 use Rattle.infer_result.specs.Truth.Mismatch.{IsTruePatMismatch}
-use Rattle.infer_result.specs.Truth.Calls.{IsTrueDiagnostic}
-use Rattle.infer_result.specs.Closed.{IsBinder}
+use Rattle.infer_result.specs.Truth.Calls.{IsTrueDiagnostic, IsTruePatDiagnostic}
+use Rattle.infer_result.specs.Closed.{IsBinder, NamesVariant, IsVariantPat}
 use Rattle.infer_result.specs.Made.{IsMisfit, IsMade}
 use Rattle.infer_result.specs.Typed.{IsTyped}
 use Rattle.infer_result.specs.Derived.{typed_by_schedule}
@@ -89,6 +89,9 @@ table_of s mismatches = record {
   expr_mismatches = mismatches;
   expr_diagnostics = None ∷ None ∷ None ∷ None ∷ None ∷ None ∷ None ∷ [];
   pat_mismatches = None ∷ None ∷ None ∷ [];
+  pat_diagnostics = None ∷ None ∷ None ∷ [];
+  expr_variants = None ∷ None ∷ None ∷ None ∷ None ∷ None ∷ None ∷ [];
+  pat_variants = None ∷ None ∷ None ∷ [];
 }
 
 -- a mismatch at the second arm alone
@@ -109,7 +112,7 @@ of_first s = record { other = arm 0; expr = e 3; at_part = 3; stands = refl; is_
 
 right_made : (s : Ty) → IsClosed s → IsMade given (right s)
 right_made s closed_s = record {
-  of_body = record { exprs = refl; pats = refl; bindings = refl; modes = refl; mismatches = refl; diagnostics = refl; pat_mismatches = refl };
+  of_body = record { exprs = refl; pats = refl; bindings = refl; modes = refl; mismatches = refl; diagnostics = refl; pat_mismatches = refl; pat_diagnostics = refl; expr_variants = refl; pat_variants = refl };
   closed = record {
     exprs = each_entry IsClosed (right s).type_of_expr (closed_bool, (closed_bool, (closed_bool, (closed_u8, (closed_bool, (closed_s, (closed_unit, tt)))))));
     pats = each_entry IsClosed (right s).type_of_pat (closed_bool, (closed_bool, (closed_bool, tt)));
@@ -132,6 +135,11 @@ right_made s closed_s = record {
       (inl (record { parent = inner (node.ExprId (e 5)); at_part = 4; role = arm 1; stands = record { node_is = omega arith; part = refl }; asks = inr (of_first s) }), tt) x.0;
   modes = λ x. each_placed (λ k m. IsBinder body (p k)) (right s).binding_modes ((b 0, None, refl), tt) x.0;
   diagnostics = λ x. each_entry (IsTrueDiagnostic given (right s) x) (right s).expr_diagnostics tt x.0;
+  pat_diagnostics = λ x. each_entry (IsTruePatDiagnostic given x) (right s).pat_diagnostics tt x.0;
+  variants = record {
+    exprs = λ x. each_entry (NamesVariant given.body x) (right s).expr_variants tt x.0;
+    pats = λ x. each_entry (IsVariantPat given.body x) (right s).pat_variants tt x.0;
+  };
   pat_truths = λ x. each_entry (IsTruePatMismatch given (right s) x) (right s).pat_mismatches tt x.0;
 }
 

@@ -11,12 +11,13 @@ use Rattle.hir_types.specs.Layers.{has_hole_tuple}
 use Rattle.hir_facts.specs.Order.{element, the_body, inner, IsSchedule, start, end, after, Fits, parts}
 use Rattle.infer_result.specs.declared.result.InferenceResult.{InferenceResult}
 use Rattle.infer_result.specs.declared.result.TypeMismatch.{TypeMismatch}
+use Rattle.infer_result.specs.Closed.{NamesVariant, IsVariantPat}
 use Rattle.infer_result.specs.Table.{mismatch}
 use Rattle.infer_result.specs.Places.{Given, IsAtOrMismatch, Demand}
 use Rattle.infer_result.specs.Rules.Expressions.{ObeysOrMismatch}
 use Rattle.infer_result.specs.Rules.Tuples.{AllAt}
 use Rattle.infer_result.specs.Truth.Mismatch.{IsTruePatMismatch}
-use Rattle.infer_result.specs.Truth.Calls.{IsTrueDiagnostic}
+use Rattle.infer_result.specs.Truth.Calls.{IsTrueDiagnostic, IsTruePatDiagnostic}
 use Rattle.infer_result.specs.Made.{IsMisfit, IsMade}
 use Rattle.infer_result.specs.Typed.{IsTyped}
 use Rattle.infer_result.specs.Derived.{tuple_parts, typed_by_schedule}
@@ -55,6 +56,9 @@ table_of mismatches = record {
   expr_mismatches = mismatches;
   expr_diagnostics = None ∷ None ∷ None ∷ None ∷ [];
   pat_mismatches = [];
+  pat_diagnostics = [];
+  expr_variants = None ∷ None ∷ None ∷ None ∷ [];
+  pat_variants = [];
 }
 
 abbrev right : InferenceResult
@@ -65,7 +69,7 @@ closed_pair = has_hole_tuple (u8 ∷ ty.Bool ∷ []) ∙ rw (closed_u8, closed_b
 
 right_made : IsMade given right
 right_made = record {
-  of_body = record { exprs = refl; pats = refl; bindings = refl; modes = refl; mismatches = refl; diagnostics = refl; pat_mismatches = refl };
+  of_body = record { exprs = refl; pats = refl; bindings = refl; modes = refl; mismatches = refl; diagnostics = refl; pat_mismatches = refl; pat_diagnostics = refl; expr_variants = refl; pat_variants = refl };
   closed = record {
     exprs = each_entry IsClosed right.type_of_expr (closed_u8, (closed_u8, (closed_pair, (closed_pair, tt))));
     pats = λ n s h. absurd (cc);
@@ -88,6 +92,11 @@ right_made = record {
       (inl (record { parent = inner (node.ExprId (e 2)); at_part = 1; role = element 1; stands = record { node_is = omega arith; part = refl }; asks = (u8 ∷ ty.Bool ∷ [], refl, refl) }), tt) x.0;
   modes = λ x m at. absurd (cc);
   diagnostics = λ x. each_entry (IsTrueDiagnostic given right x) right.expr_diagnostics tt x.0;
+  pat_diagnostics = λ x. each_entry (IsTruePatDiagnostic given x) right.pat_diagnostics tt x.0;
+  variants = record {
+    exprs = λ x. each_entry (NamesVariant given.body x) right.expr_variants tt x.0;
+    pats = λ x. each_entry (IsVariantPat given.body x) right.pat_variants tt x.0;
+  };
   pat_truths = λ x. each_entry (IsTruePatMismatch given right x) right.pat_mismatches tt x.0;
 }
 

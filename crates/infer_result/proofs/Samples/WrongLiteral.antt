@@ -25,8 +25,8 @@ use Rattle.infer_result.specs.Places.{Given, Incoming, Demand}
 use Rattle.infer_result.specs.Rules.Expressions.{ObeysOrMismatch}
 use Rattle.infer_result.specs.Rules.Patterns.{PatRule}
 use Rattle.infer_result.specs.Truth.Mismatch.{IsTruePatMismatch}
-use Rattle.infer_result.specs.Truth.Calls.{IsTrueDiagnostic}
-use Rattle.infer_result.specs.Closed.{IsBinder}
+use Rattle.infer_result.specs.Truth.Calls.{IsTrueDiagnostic, IsTruePatDiagnostic}
+use Rattle.infer_result.specs.Closed.{IsBinder, NamesVariant, IsVariantPat}
 use Rattle.infer_result.specs.Made.{IsMisfit, IsMade}
 use Rattle.infer_result.specs.Typed.{IsTyped}
 use Rattle.infer_result.specs.Derived.{typed_by_schedule}
@@ -88,6 +88,9 @@ table_of literal_ guard_ pattern_ = record {
   expr_mismatches = None ∷ literal_ ∷ guard_ ∷ None ∷ None ∷ None ∷ None ∷ [];
   expr_diagnostics = None ∷ None ∷ None ∷ None ∷ None ∷ None ∷ None ∷ [];
   pat_mismatches = None ∷ pattern_ ∷ None ∷ [];
+  pat_diagnostics = None ∷ None ∷ None ∷ [];
+  expr_variants = None ∷ None ∷ None ∷ None ∷ None ∷ None ∷ None ∷ [];
+  pat_variants = None ∷ None ∷ None ∷ [];
 }
 
 -- a `bool` is asked for
@@ -112,7 +115,7 @@ comes_in = record { parent = inner (node.ExprId (e 5)); at_part = 1; role = arm_
 
 right_made : IsMade given right
 right_made = record {
-  of_body = record { exprs = refl; pats = refl; bindings = refl; modes = refl; mismatches = refl; diagnostics = refl; pat_mismatches = refl };
+  of_body = record { exprs = refl; pats = refl; bindings = refl; modes = refl; mismatches = refl; diagnostics = refl; pat_mismatches = refl; pat_diagnostics = refl; expr_variants = refl; pat_variants = refl };
   closed = record {
     exprs = each_entry IsClosed right.type_of_expr (closed_bool, (closed_u8, (closed_u8, (closed_unit, (closed_unit, (closed_unit, (closed_unit, tt)))))));
     pats = each_entry IsClosed right.type_of_pat (closed_bool, (closed_u8, (closed_bool, tt)));
@@ -137,6 +140,11 @@ right_made = record {
       ) x.0;
   modes = λ x. each_placed (λ k m. IsBinder body (p k)) right.binding_modes ((b 0, None, refl), tt) x.0;
   diagnostics = λ x. each_entry (IsTrueDiagnostic given right x) right.expr_diagnostics tt x.0;
+  pat_diagnostics = λ x. each_entry (IsTruePatDiagnostic given x) right.pat_diagnostics tt x.0;
+  variants = record {
+    exprs = λ x. each_entry (NamesVariant given.body x) right.expr_variants tt x.0;
+    pats = λ x. each_entry (IsVariantPat given.body x) right.pat_variants tt x.0;
+  };
   pat_truths = λ x. each_entry (IsTruePatMismatch given right x) right.pat_mismatches tt x.0;
 }
 
@@ -165,7 +173,7 @@ at_pattern h =
 
 -- a mismatch at the pattern beside the one at its literal
 pub twice : IsTyped given (table_of asks_bool asks_bool asks_bool) → ⊥
-twice h = (let is = (h.pat_truths (p 1) (mismatch ty.Bool u8) refl).is_tuple.is_tuple in cc)
+twice h = (h.pat_truths (p 1) (mismatch ty.Bool u8) refl).says
 
 -- the guard in silence
 pub silent_guard : IsTyped given (table_of asks_bool None None) → ⊥

@@ -27,8 +27,8 @@ use Rattle.infer_result.specs.Places.{Given, Incoming, Demand}
 use Rattle.infer_result.specs.Rules.Expressions.{ObeysOrMismatch}
 use Rattle.infer_result.specs.Rules.Patterns.{AllPatsAt, PatRule}
 use Rattle.infer_result.specs.Truth.Mismatch.{IsTruePatMismatch}
-use Rattle.infer_result.specs.Truth.Calls.{IsTrueDiagnostic}
-use Rattle.infer_result.specs.Closed.{IsBinder}
+use Rattle.infer_result.specs.Truth.Calls.{IsTrueDiagnostic, IsTruePatDiagnostic}
+use Rattle.infer_result.specs.Closed.{IsBinder, NamesVariant, IsVariantPat}
 use Rattle.infer_result.specs.Made.{IsMisfit, IsMade}
 use Rattle.infer_result.specs.Typed.{IsTyped}
 use Rattle.infer_result.specs.Derived.{tuple_parts, typed_by_schedule}
@@ -84,6 +84,9 @@ table_of whole second pat_mismatches = record {
   expr_mismatches = None ∷ None ∷ [];
   expr_diagnostics = None ∷ None ∷ [];
   pat_mismatches = pat_mismatches;
+  pat_diagnostics = None ∷ None ∷ None ∷ None ∷ [];
+  expr_variants = None ∷ None ∷ [];
+  pat_variants = None ∷ None ∷ None ∷ None ∷ [];
 }
 
 abbrev right : InferenceResult
@@ -109,7 +112,7 @@ block_obeys = rw (written) ((((single, refl, inl refl), (pair, refl, inr (mismat
 
 right_made : IsMade given right
 right_made = record {
-  of_body = record { exprs = refl; pats = refl; bindings = refl; modes = refl; mismatches = refl; diagnostics = refl; pat_mismatches = refl };
+  of_body = record { exprs = refl; pats = refl; bindings = refl; modes = refl; mismatches = refl; diagnostics = refl; pat_mismatches = refl; pat_diagnostics = refl; expr_variants = refl; pat_variants = refl };
   closed = record {
     exprs = each_entry IsClosed right.type_of_expr (closed_single, (closed_unit, tt));
     pats = each_entry IsClosed right.type_of_pat (closed_single, (closed_pair, (closed_u8, (closed_error, tt))));
@@ -130,9 +133,14 @@ right_made = record {
   demands = λ x. each_entry (λ m. Demand given right x m.expected) right.expr_mismatches tt x.0;
   modes = λ x. each_placed (λ k m. IsBinder body (p k)) right.binding_modes ((b 0, None, refl), ((b 1, None, refl), ((b 2, None, refl), tt))) x.0;
   diagnostics = λ x. each_entry (IsTrueDiagnostic given right x) right.expr_diagnostics tt x.0;
+  pat_diagnostics = λ x. each_entry (IsTruePatDiagnostic given x) right.pat_diagnostics tt x.0;
+  variants = record {
+    exprs = λ x. each_entry (NamesVariant given.body x) right.expr_variants tt x.0;
+    pats = λ x. each_entry (IsVariantPat given.body x) right.pat_variants tt x.0;
+  };
   pat_truths = λ x.
       each_placed (λ k. IsTruePatMismatch given right (p k)) right.pat_mismatches
-      (record { is_tuple = record { parts = p 2 ∷ p 3 ∷ []; is_tuple = refl }; differ = single_differs_pair; actual = refl; incoming = record { parent = inner (node.ExprId (e 1)); at_part = 1; role = let_pattern (Some (w 1)) (Some (e 0)); stands = record { node_is = omega arith; part = refl }; gives = sym written } }, tt) x.0;
+      (record { says = tt; differ = single_differs_pair; actual = refl; incoming = record { parent = inner (node.ExprId (e 1)); at_part = 1; role = let_pattern (Some (w 1)) (Some (e 0)); stands = record { node_is = omega arith; part = refl }; gives = sym written } }, tt) x.0;
 }
 
 pub right_typed : IsTyped given right
@@ -158,7 +166,7 @@ cut h =
 -- `b` has another type than its component
 pub other_part : IsTyped given (table_of pair u8 (None ∷ Some (mismatch single pair) ∷ None ∷ None ∷ [])) → ⊥
 other_part h =
-    (let c = (h.pats (p 3) (omega arith)).incoming ty.Error (record { parent = inner (node.PatId (p 1)); at_part = 1; role = subpattern 1; stands = record { node_is = omega arith; part = refl }; gives = (u8 ∷ ty.Error ∷ [], refl, refl) }) in
+    (let c = (h.pats (p 3) (omega arith)).incoming ty.Error (record { parent = inner (node.PatId (p 1)); at_part = 1; role = subpattern 1; stands = record { node_is = omega arith; part = refl }; gives = inl (record { types = u8 ∷ ty.Error ∷ []; has = refl; component = refl }) }) in
     elim c.2 [ inl same ↦ u8_is_no_error (only u8 c.0 c.1 ∙ same) | inr m ↦ absurd m ])
 
 -- what comes into the pattern is the written type
@@ -175,11 +183,6 @@ another_expected h = u8_is_no_tuple (u8 ∷ []) (sym (incoming _ u8 (h.pat_truth
 pub exchanged : IsTyped given (table_of pair ty.Error (None ∷ Some (mismatch pair single) ∷ None ∷ None ∷ [])) → ⊥
 exchanged h = single_is_no_pair (sym (only pair single (h.pat_truths (p 1) (mismatch pair single) refl).actual))
 
--- one more at the part `a`, which has the type of its component
+-- one more at the part `a`, a binding
 pub one_more : IsTyped given (table_of pair ty.Error (None ∷ Some (mismatch single pair) ∷ Some (mismatch ty.Bool u8) ∷ None ∷ [])) → ⊥
-one_more h =
-    (let m = h.pat_truths (p 2) (mismatch ty.Bool u8) refl in
-    let a = comes given schedule is_schedule _ (p 2) (inner (node.PatId (p 1))) 0 (subpattern 0) ty.Bool (record { node_is = omega arith; part = refl }) m.incoming in
-    let ss : u8 ∷ ty.Error ∷ [] ≡ a.0 = tuple_parts (u8 ∷ ty.Error ∷ []) a.0 (only pair (ty.Tuple a.0) a.1) in
-    let first : slice_get (u8 ∷ ty.Error ∷ []) 0 ≡ Some ty.Bool = subst (λ us. slice_get us 0 ≡ Some ty.Bool) (sym ss) a.2 in
-    let same : u8 ≡ ty.Bool = cc in u8_is_no_bool same)
+one_more h = (h.pat_truths (p 2) (mismatch ty.Bool u8) refl).says

@@ -1,8 +1,13 @@
--- When a complaint about a call is true.
+-- When a complaint about a number of arguments, or of the parts of a constructor's pattern, is true.
 use Rattle.std.specs.Prelude.{ℕ, ◌≡◌, List, length, slice_get, Some}
 use Rattle.hir_types.specs.declared.ids.ExprId.{ExprId}
+use Rattle.hir_types.specs.declared.ids.PatId.{PatId}
+use Rattle.hir_types.specs.declared.ids.VariantId.{VariantId}
+use Rattle.hir_types.specs.declared.ids.ExprOrPatId.TheVariants as node
 use Rattle.hir_types.specs.declared.ty.Ty.{Ty}
 use Rattle.hir_facts.specs.declared.raw.RawExpr.TheVariants as expr
+use Rattle.hir_facts.specs.declared.raw.RawPat.TheVariants as pat
+use Rattle.hir_facts.specs.declared.raw.RawVariant.{RawVariant}
 use Rattle.hir_facts.specs.Signatures.{Signature}
 use Rattle.infer_result.specs.declared.result.InferenceResult.{InferenceResult}
 use Rattle.infer_result.specs.declared.diagnostics.InferenceDiagnostic.{InferenceDiagnostic}
@@ -24,3 +29,20 @@ pub record IsWrongCount (g : Given) (t : InferenceResult) (e : ExprId) (expected
 -- the complaint at e is about e, and what it says is so
 abbrev pub IsTrueDiagnostic : Given → InferenceResult → ExprId → InferenceDiagnostic → Type 0
 IsTrueDiagnostic g t e (diagnostic.MismatchedArgCount n expected found) = (n ≡ e) × IsWrongCount g t e expected found
+IsTrueDiagnostic g t e (diagnostic.MismatchedTupleStructPatArgCount n expected found) = ⊥
+
+-- The pattern is of a constructor with so many fields, has so many parts, and these numbers differ.
+pub record IsWrongFieldCount (g : Given) (p : PatId) (expected found : ℕ) : Type 0 where
+  pub named : VariantId
+  pub parts : List PatId
+  pub is_pat : slice_get g.body.pats p.0 ≡ Some (pat.TupleStruct named parts)
+  pub variant : RawVariant
+  pub is_variant : slice_get g.scope.facts.variants named.0 ≡ Some variant
+  pub is_expected : expected ≡ length variant.fields
+  pub is_found : found ≡ length parts
+  pub differ : expected ≡ found → ⊥
+
+-- the complaint at p is about p, and what it says is so
+abbrev pub IsTruePatDiagnostic : Given → PatId → InferenceDiagnostic → Type 0
+IsTruePatDiagnostic g p (diagnostic.MismatchedArgCount n expected found) = ⊥
+IsTruePatDiagnostic g p (diagnostic.MismatchedTupleStructPatArgCount n expected found) = (n ≡ node.PatId p) × IsWrongFieldCount g p expected found

@@ -6,6 +6,7 @@ use Rattle.hir_types.specs.declared.ids.LabelId.{LabelId}
 use Rattle.hir_types.specs.declared.ty.Ty.{Ty}
 use Rattle.hir_facts.specs.declared.raw.RawStmt.{RawStmt}
 use Rattle.hir_facts.specs.declared.raw.RawExpr.TheVariants as expr
+use Rattle.hir_facts.specs.declared.raw.RawPat.{RawPat}
 use Rattle.hir_facts.specs.declared.raw.RawPat.TheVariants as pat
 use Rattle.hir_facts.specs.declared.raw.RawBody.{RawBody}
 use Rattle.hir_types.specs.Types.{unit}
@@ -43,14 +44,22 @@ pub record IsTrueMismatch (g : Given) (t : InferenceResult) (e : ExprId) (x : Ty
   pub demand : Demand g t e x.expected
   pub no_coercion : (u s : Ty) → Up g e u → Stated g e s → Leads u s → ⊥
 
-pub record IsTuplePat (b : RawBody) (p : PatId) : Type 0 where
-  pub parts : List PatId
-  pub is_tuple : slice_get b.pats p.0 ≡ Some (pat.Tuple parts)
+-- The pattern has a type of its own beside the one that comes in: a tuple, and a constructor. The mismatch of a literal pattern
+-- stands at its literal.
+abbrev pub SaysItsType : Option RawPat → Type 0
+SaysItsType None = ⊥
+SaysItsType (Some pat.Wild) = ⊥
+SaysItsType (Some (pat.Bind v sub)) = ⊥
+SaysItsType (Some (pat.Tuple ps)) = Unit {0}
+SaysItsType (Some (pat.TupleStruct v ps)) = Unit {0}
+SaysItsType (Some (pat.Path q)) = Unit {0}
+SaysItsType (Some (pat.Lit e)) = ⊥
+SaysItsType (Some pat.Other) = ⊥
 
--- The pattern is a tuple (the mismatch of a literal pattern stands at its literal); the two types differ;
--- the first is what comes into the pattern, the second its own.
+-- The pattern is one that may have a mismatch; the two types differ; the first is what comes into the pattern, the second its
+-- own.
 pub record IsTruePatMismatch (g : Given) (t : InferenceResult) (p : PatId) (x : TypeMismatch) : Type 0 where
-  pub is_tuple : IsTuplePat g.body p
+  pub says : SaysItsType (slice_get g.body.pats p.0)
   pub differ : Same x.expected x.actual → ⊥
   pub actual : PatTy t p x.actual
   pub incoming : Incoming g t p x.expected
