@@ -14,5 +14,3 @@ pub mod Calling
 pub mod Call
 pub mod WrongArgument
 pub mod WrongCount
-pub mod NoFunction
-pub mod Placeholder

@@ -1,3 +1,2 @@
 pub mod Mismatch
-pub mod Seen
 pub mod Calls

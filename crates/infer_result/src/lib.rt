@@ -8,4 +8,4 @@ mod result;
 pub use diagnostics::InferenceDiagnostic;
 pub use hir_types::Mutability;
 pub use modes::BindingMode;
-pub use result::{InferenceResult, Seen, TypeMismatch};
+pub use result::{InferenceResult, TypeMismatch};
