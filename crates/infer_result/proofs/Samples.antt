@@ -14,3 +14,5 @@ pub mod Calling
 pub mod Call
 pub mod WrongArgument
 pub mod WrongCount
+pub mod Constructors
+pub mod WrongFieldCount

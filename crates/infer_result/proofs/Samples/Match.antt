@@ -32,7 +32,7 @@ use Rattle.infer_result.specs.Truth.Calls.{IsTrueDiagnostic, IsTruePatDiagnostic
 use Rattle.infer_result.specs.Closed.{IsBinder, NamesVariant, IsVariantPat}
 use Rattle.infer_result.specs.Made.{IsMisfit, IsMade}
 use Rattle.infer_result.specs.Typed.{IsTyped}
-use Rattle.infer_result.specs.Derived.{tuple_parts, typed_by_schedule}
+use Rattle.infer_result.specs.Derived.{typed_by_schedule}
 use Rattle.infer_result.proofs.Samples.Small.{scope_with, e, p, b, w, u8, one_u8, plain, body_with, each_below, each_node, apart_by, comes, one_param, only, each_entry, nowhere, closed_u8, top_uint, top_int, u8_is_no_bool, u8_is_no_tuple, u8_differs_bool, each_placed}
 
 -- the body with another expression in the last arm

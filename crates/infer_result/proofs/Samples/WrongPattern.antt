@@ -32,7 +32,7 @@ use Rattle.infer_result.specs.Closed.{IsBinder, NamesVariant, IsVariantPat}
 use Rattle.infer_result.specs.Made.{IsMisfit, IsMade}
 use Rattle.infer_result.specs.Typed.{IsTyped}
 use Rattle.infer_result.specs.Derived.{tuple_parts, typed_by_schedule}
-use Rattle.infer_result.proofs.Samples.Small.{scope_with, e, p, b, w, u8, plain, body_with, each_below, each_node, apart_by, comes, one_param, only, each_entry, each_placed, closed_u8, closed_unit, closed_error, u8_is_no_bool, u8_is_no_error, u8_is_no_tuple}
+use Rattle.infer_result.proofs.Samples.Small.{scope_with, e, p, b, w, u8, plain, body_with, each_below, each_node, apart_by, comes, one_param, only, each_entry, each_placed, closed_u8, closed_unit, closed_error, u8_is_no_error, u8_is_no_tuple}
 
 abbrev body : RawBody
 body =
