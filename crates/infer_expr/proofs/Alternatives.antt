@@ -1,5 +1,5 @@
 -- The alternatives of a node, one of which gives it its value, and their common type.
-use Rattle.std.proofs.Common.{ℕ, ◌<◌, ◌≡◌, ◌⊎◌, inl, inr, List, [], ◌∷◌, ◌++◌, length, refl, sym, ap, subst, ◌∙◌, Option, Some, None}
+use Rattle.std.proofs.Common.{ℕ, ◌<◌, ◌≡◌, ◌⊎◌, inl, inr, Bool, true, false, List, [], ◌∷◌, ◌++◌, length, refl, sym, ap, subst, ◌∙◌, Option, Some, None}
 use Rattle.std.proofs.lemmas.Option.{slice_get_within}
 use Rattle.hir_types.specs.declared.ids.ExprId.{ExprId}
 use Rattle.hir_types.specs.declared.ids.ExprOrPatId.TheVariants as node
@@ -20,10 +20,10 @@ use Rattle.infer_expr.specs.declared.coerce_many.CoerceMany.TheVariants as commo
 use Rattle.infer_expr.specs.Found.{Found, with_mismatch}
 use Rattle.infer_expr.specs.Context.{IsCarriedExpectation}
 use Rattle.infer_expr.specs.Walks.{Walks, Extends, IsCarriedTable, Owed, PaidBy, OwedByAlternatives, expr_end}
-use Rattle.infer_expr.specs.Under.{OwnDone, AlternativeDone, Merges, AllAtType, IsCommonFrom, AreMerged, Completes, common_of}
+use Rattle.infer_expr.specs.Under.{OwnDone, AlternativeDone, Merges, AllAtType, IsCommonFrom, AreMerged, IsCoercedIf, Completes, common_of}
 use Rattle.infer_expr.proofs.Keeps.{is_at_kept, any_kept}
 use Rattle.infer_expr.proofs.Category.{walks_trans, walks_paid}
-use Rattle.infer_expr.proofs.Noted.{noted_walks, noted_has}
+use Rattle.infer_expr.proofs.Noted.{noted_extends, noted_walks, noted_has}
 
 -- ---- what is judged stays so
 
@@ -39,13 +39,13 @@ module _ (g : Given) (a b : InferenceResult) (x : Extends a b) where
 
   pub merged_kept : (es : List ExprId) (o : Option Ty) (m : CoerceMany) → AreMerged a es o m → AreMerged b es o m
   merged_kept es o common.Nothing h = h
-  merged_kept es o (common.Is t) h = (all_at_kept es t h.0, common_kept es o t h.1)
+  merged_kept es o (common.Is t) h = (elim h.0 [ inl k ↦ inl (all_at_kept es t k) | inr k ↦ inr (any_kept g a b x es k) ], common_kept es o t h.1)
   merged_kept es o common.Unknown h = any_kept g a b x es h
 
 -- none is typed yet
 pub none_merged : (r : InferenceResult) (x : Option Ty) → AreMerged r [] x (common_of x)
 none_merged r None = (refl, refl)
-none_merged r (Some u) = (tt, refl)
+none_merged r (Some u) = (inl tt, refl)
 
 -- ---- one more
 
@@ -165,39 +165,48 @@ module _ (g : Given) (s : Schedule) (n : ExprId) (role : Role) (e : ExprId) (x :
     fits : (m : CoerceMany) → AreMerged mid.result (es ++ e ∷ []) x m → new ≡ mid → Taken es m old new
     fits m h is = subst (λ c. Taken es m old c) (sym is) (own_walks, d.clock, h)
 
-    misfits : (u : Ty) → IsCommonFrom mid.result es x u → (u ≡ t → ⊥) → new ≡ with_mismatch mid e (mismatch u t) → Taken es common.Unknown old new
-    misfits u h differ is =
+    misfits : (m : CoerceMany) (u : Ty) → IsCommonFrom mid.result es x u → (u ≡ t → ⊥) → new ≡ with_mismatch mid e (mismatch u t) → (AnyMismatch (with_mismatch mid e (mismatch u t)).result (es ++ e ∷ []) → AreMerged (with_mismatch mid e (mismatch u t)).result (es ++ e ∷ []) x m) → Taken es m old new
+    misfits m u h differ is merged =
         let carried : IsCarriedTable mid.result = d.walks.state.carried in
         let here : IsCarriedType t = carried.exprs e.0 t d.type_is in
         let there : IsCarriedType u = common_carried mid.result es x u carried expected h in
         let misfit : IsMisfit g mid.result e (mismatch u t) = record { differ = λ same. differ (same_carried u t there here same); actual = inl d.type_is } in
         let long : e.0 < length mid.result.expr_mismatches = has_within g mid.result e t d.walks.state.of_body d.type_is in
-        subst (λ c. Taken es common.Unknown old c) (sym is) (
+        subst (λ c. Taken es m old c) (sym is) (
           noted_walks g s (OwedByAlternatives g n x) old mid e (mismatch u t) there here misfit (common_asked mid.result es x u (mismatch u t) refl first h refl) own_walks,
           d.clock,
-          any_last (with_mismatch mid e (mismatch u t)).result es e (noted_has mid e (mismatch u t) long),
+          merged (any_last (with_mismatch mid e (mismatch u t)).result es e (noted_has mid e (mismatch u t) long)),
         )
 
     -- the first one of all gives the common type
     first_taken : (es ≡ []) × (x ≡ None) → AreMerged mid.result (es ++ e ∷ []) x (common.Is t)
     first_taken h =
-        let only : AreMerged mid.result (e ∷ []) None (common.Is t) = (((t, d.type_is, refl), tt), d.type_is) in
+        let only : AreMerged mid.result (e ∷ []) None (common.Is t) = (inl ((t, d.type_is, refl), tt), d.type_is) in
         subst (λ l. AreMerged mid.result (l ++ e ∷ []) x (common.Is t)) (sym h.0) (
         subst (λ o. AreMerged mid.result (e ∷ []) o (common.Is t)) (sym h.1) only
         )
+
+    -- the common type stays
+    kept : (u : Ty) → AreMerged mid.result es x (common.Is u) → (coerced : Bool) → IsCoercedIf coerced e t u mid new → Taken es (common.Is u) old new
+    kept u q true k =
+        let here : IsAt mid.result e u = (t, d.type_is, ap erased k.0) in
+        fits (common.Is u) (
+          elim q.0 [ inl y ↦ inl (all_at_more mid.result es e u y here) | inr y ↦ inr (any_more mid.result es e y) ],
+          common_more mid.result es e x u q.1,
+        ) k.1
+    kept u q false k =
+        let m : TypeMismatch = mismatch u t in
+        misfits (common.Is u) u q.1 k.0 k.1 (λ any. (inr any, common_more (with_mismatch mid e m).result es e x u (common_kept g mid.result (with_mismatch mid e m).result (noted_extends mid e m) es x u q.1)))
 
     pub taken : (m after : CoerceMany) → AreMerged old.result es x m → Merges e t m after mid new → Taken es after old new
     taken common.Nothing after h k =
         subst (λ l. Taken es l old new) (sym k.0) (fits (common.Is t) (first_taken h) k.1)
     taken (common.Is u) after h (inl k) =
         let q = merged_kept g old.result mid.result d.walks.extends es x (common.Is u) h in
-        let here : IsAt mid.result e u = (t, d.type_is, ap erased k.1.0) in
-        subst (λ l. Taken es l old new) (sym k.0) (
-        fits (common.Is u) (all_at_more mid.result es e u q.0 here, common_more mid.result es e x u q.1) k.1.1
-        )
+        subst (λ l. Taken es l old new) (sym k.0) (kept u q k.1.0 k.1.1)
     taken (common.Is u) after h (inr k) =
         let q = merged_kept g old.result mid.result d.walks.extends es x (common.Is u) h in
-        subst (λ l. Taken es l old new) (sym k.0) (misfits u q.1 k.1.0 k.1.1)
+        subst (λ l. Taken es l old new) (sym k.0) (misfits common.Unknown u q.1 k.1.0 k.1.1 (λ any. any))
     taken common.Unknown after h k =
         let q = merged_kept g old.result mid.result d.walks.extends es x common.Unknown h in
         subst (λ l. Taken es l old new) (sym k.0) (fits common.Unknown (any_more mid.result es e q) k.1)
@@ -233,5 +242,5 @@ completed_paid g n r es x y m t h c e k o =
 -- each of the alternatives is at the type of the node, or a mismatch stands at one of them
 pub completed_at : (r : InferenceResult) (es : List ExprId) (x : Option Ty) (m : CoerceMany) (t : Ty) → (es ≡ [] → ⊥) → AreMerged r es x m → Completes x m t → AllAtType r es t ⊎ AnyMismatch r es
 completed_at r es x common.Nothing t some h c = absurd (some h.0)
-completed_at r es x (common.Is u) t some h c = inl (subst (λ v. AllAtType r es v) (sym c) h.0)
+completed_at r es x (common.Is u) t some h c = subst (λ v. AllAtType r es v ⊎ AnyMismatch r es) (sym c) h.0
 completed_at r es x common.Unknown t some h c = inr h

@@ -18,8 +18,7 @@ use Rattle.infer_expr.specs.Steps.{Follows, Before, Within, CoerceDone, KindDone
 use Rattle.infer_expr.specs.Under.{LieAhead}
 use Rattle.infer_expr.specs.Under as under
 use Rattle.infer_expr.proofs.AtEach.{follows_itself, follows_twice, closes_before, walking_after, expected_carried, within_under}
-use Rattle.infer_expr.proofs.Closed.{closes_earlier}
-use Rattle.infer_expr.proofs.Expressions.{same_found}
+use Rattle.infer_expr.proofs.Closed.{same_found, closes_earlier}
 use Rattle.infer_expr.proofs.FineTypes.{fine_bool, fine_grown, fine_expectation_grown}
 use Rattle.infer_expr.proofs.Arms.{arms_some, PatternLoop, match_before, pattern_start, pattern_before, pattern_next, ArmLoop, arm_start, AtArm, guard_ahead, at_arm, arm_before, arm_next, arms_done, at_arms, match_done, guard_done, no_guard_done}
 use Rattle.infer_expr.proofs.BranchWalk.{less_fine, less_under, fine_common_grown, common_of_under, common_of_fine, completes_under, completed_fine, completed_follows, bool_under}
@@ -172,7 +171,7 @@ module _ (g : Given) (s : Schedule) (n : ExprId) (arms : List RawArm) (x : Optio
       fine = k.fine;
       each = λ a q.
           let l : Closes a f = closes_earlier a f last k.grew q in
-          subst (λ e. under.ArmsDone g s n arms (expected_under a x) (folded a t) (found_under a mid) e) (sym (same_found a f last k.result k.clock)) (
+          subst (λ e. under.ArmsDone g s n arms (expected_under a x) (folded a t) (found_under a mid) e) (sym (same_found a f last k.result k.asked k.clock)) (
           arms_done g s n arms i (expected_under a x) (common_under a m) (folded a t) (found_under a mid) (found_under a f) (h.each a l) b.some over (completes_under a x m t k.is) (completed_fine a x m t f last k q)
           );
     }

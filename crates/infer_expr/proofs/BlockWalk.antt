@@ -1,5 +1,5 @@
 -- The loop over the statements of a block, and its end.
-use Rattle.std.proofs.Common.{ℕ, ◌+◌, ◌<◌, ◌≤◌, ◌≡◌, ◌⊎◌, inl, inr, refl, sym, ap, subst, ◌∙◌, Bool, List, length, get_or, Option, Some, None}
+use Rattle.std.proofs.Common.{ℕ, ◌+◌, ◌<◌, ◌≤◌, ◌≡◌, ◌⊎◌, inl, inr, refl, sym, ap, subst, ◌∙◌, List, length, get_or, Option, Some, None}
 use Rattle.hir_types.specs.declared.ids.ExprId.{ExprId}
 use Rattle.hir_types.specs.declared.ty.Ty.{Ty}
 use Rattle.hir_types.specs.Subst.{Assignment, folded}
@@ -10,13 +10,15 @@ use Rattle.infer_result.specs.Closed.{IsOfBody}
 use Rattle.infer_result.specs.Places.{Given}
 use Rattle.infer_expr.specs.declared.context.InferenceContext.{InferenceContext}
 use Rattle.infer_result.specs.Table.{MismatchAt, mismatch}
-use Rattle.infer_expr.specs.Closings.{Closes, closed_mismatch, found_under, expected_under, IsSound}
+use Rattle.infer_expr.specs.Closings.{Closes, found_under, expected_under, IsSound}
 use Rattle.infer_expr.specs.Fine.{IsFine}
-use Rattle.infer_expr.specs.Steps.{IsWalking, Follows, Within, KindDone, BeforeStmt, StmtDone, BeforeTail, NoTailDone, TailDone, IsCoercedIf}
+use Rattle.infer_expr.specs.Walks.{IsFree}
+use Rattle.infer_expr.specs.declared.coerce.Coerced.{Coerced}
+use Rattle.infer_expr.specs.Steps.{IsWalking, Follows, Within, KindDone, BeforeStmt, StmtDone, BeforeTail, NoTailDone, TailDone, IsCoerced}
 use Rattle.infer_expr.specs.Under as under
 use Rattle.infer_expr.proofs.AtEach.{follows_itself, follows_twice, closes_before, walking_after, within_under}
 use Rattle.infer_expr.proofs.Blocks.{BlockLoop, block_start, block_before, block_next, block_tail, block_done, no_tail_some}
-use Rattle.infer_expr.proofs.Closed.{At-closed}
+use Rattle.infer_expr.proofs.Closed.{At-unasked}
 use Rattle.infer_expr.proofs.Types.{carried_unit}
 use Rattle.infer_expr.proofs.FineTypes.{fine_grown, fine_unit, fine_expectation_grown}
 use Rattle.infer_expr.proofs.OverTypes.{carried_closed}
@@ -103,8 +105,8 @@ no_tail_none g n x t c is h s = record {
 }
 
 -- `()` was coerced to the expected type u, and the block has that or is `()`
-pub no_tail_coerced : (fits : Bool) (g : Given) (n : ExprId) (x : Option Ty) (t u v : Ty) (old new : InferenceContext) → x ≡ Some u → v ≡ unit → IsFine g.scope old.table u → IsCoercedIf fits g n v u old new → (t ≡ v) ⊎ ((t ≡ u) × MismatchAt new.result n u v) → NoTailDone g n x t old new
-no_tail_coerced fits g n x t u v old new e i h d typed = record {
+pub no_tail_coerced : (answer : Coerced) (g : Given) (n : ExprId) (x : Option Ty) (t u v : Ty) (old new : InferenceContext) → x ≡ Some u → v ≡ unit → IsFine g.scope old.table u → IsCoerced answer g n v u old new → (t ≡ v) ⊎ ((t ≡ u) × MismatchAt new.result n u v × IsFree new.asked n.0) → NoTailDone g n x t old new
+no_tail_coerced answer g n x t u v old new e i h d typed = record {
   follows = d.follows;
   fine = elim typed [
     | inl y ↦ subst (λ w. IsFine g.scope new.table w) (sym (y ∙ i)) (fine_unit g.scope new.table)
@@ -112,13 +114,14 @@ no_tail_coerced fits g n x t u v old new e i h d typed = record {
   ];
   each = λ a q.
       let same : folded a v ≡ unit = ap (folded a) i ∙ carried_closed a unit carried_unit in
-      no_tail_some fits n (expected_under a x) (folded a t) (folded a u) (found_under a old) (found_under a new) (ap (expected_under a) e)
-      (subst (λ w. under.IsCoercedIf fits n w (folded a u) (found_under a old) (found_under a new)) same (d.each a q))
+      let z = d.each a q in
+      no_tail_some z.0 n (expected_under a x) (folded a t) (folded a u) (found_under a old) (found_under a new) (ap (expected_under a) e)
+      (subst (λ w. under.IsCoercedIf z.0 n w (folded a u) (found_under a old) (found_under a new)) same z.2)
       (elim typed [
         | inl y ↦ inl (ap (folded a) y ∙ same)
         | inr y ↦ inr (
           ap (folded a) y.0,
-          subst (λ w. MismatchAt (found_under a new).result n (folded a u) w) same (At-closed (closed_mismatch a) new.result.expr_mismatches n.0 (mismatch u v) y.1),
+          subst (λ w. MismatchAt (found_under a new).result n (folded a u) w) same (At-unasked a new.asked new.result.expr_mismatches n.0 (mismatch u v) y.2 y.1),
         )
       ]);
 }

@@ -14,21 +14,26 @@ use Rattle.infer_result.specs.Places.{Given}
 use Rattle.hir_facts.specs.Scope.{Scope}
 use Rattle.infer_expr.specs.declared.context.InferenceContext.{InferenceContext}
 use Rattle.infer_expr.specs.Context.{empty_context}
-use Rattle.infer_expr.specs.Found.{nothing_found}
-use Rattle.infer_expr.specs.Closings.{Closes, closed_mismatch, found_under, IsSound}
+use Rattle.infer_result.specs.Made.{IsMade}
+use Rattle.infer_expr.specs.Found.{Found, expr_variant, pat_variant, nothing_found}
+use Rattle.infer_expr.specs.Closings.{Closes, closed_mismatch, closed_mismatches, found_under, IsSound}
 use Rattle.infer_expr.specs.Fine.{HasFineHeads}
-use Rattle.infer_expr.specs.Steps.{Before, CoerceDone, BeforeParams, ParamsDone, BodyDone}
+use Rattle.infer_expr.specs.Steps.{Before, CoerceDone, BeforeParams, ParamsDone, BodyDone, OnlyBinds}
 use Rattle.infer_expr.specs.Under.{WrittenExist}
 use Rattle.infer_expr.specs.Under as under
 use Rattle.infer_expr.specs.Walks.{expr_end}
 use Rattle.infer_expr.proofs.AtEach.{closes_before, walking_after}
-use Rattle.infer_expr.proofs.Closed.{of_body_unclosed}
+use Rattle.infer_expr.proofs.Closed.{same_found, of_body_unclosed}
 use Rattle.infer_expr.proofs.OverTypes.{carried_fine, carried_closed}
 use Rattle.infer_expr.proofs.Whole.{At-replicate, params_before, root_before, body_made}
 
 none_under : {A B : Type 0} (f : A → B) (n : ℕ) → map (option_map f) (replicate n None) ≡ replicate n None
 none_under f zero = refl
 none_under f (suc n) = ap (λ xs. None ∷ xs) (none_under f n)
+
+none_asked : (a : Assignment) (n : ℕ) → closed_mismatches a (replicate n None) (replicate n None) ≡ replicate n None
+none_asked a zero = refl
+none_asked a (suc n) = ap (λ xs. None ∷ xs) (none_asked a n)
 
 pub nothing_under : (a : Assignment) (b : RawBody) → found_under a (empty_context b) ≡ nothing_found b
 nothing_under a b = λ i. record {
@@ -37,9 +42,12 @@ nothing_under a b = λ i. record {
     type_of_pat = none_under (folded a) (length b.pats) i;
     type_of_binding = none_under (folded a) (length b.bindings) i;
     binding_modes = replicate (length b.pats) None;
-    expr_mismatches = none_under (closed_mismatch a) (length b.exprs) i;
+    expr_mismatches = none_asked a (length b.exprs) i;
     expr_diagnostics = replicate (length b.exprs) None;
     pat_mismatches = none_under (closed_mismatch a) (length b.pats) i;
+    pat_diagnostics = replicate (length b.pats) None;
+    expr_variants = map expr_variant b.exprs;
+    pat_variants = map pat_variant b.pats;
   };
   clock = 1;
 }
@@ -55,6 +63,8 @@ nothing_sound sc b = record {
     pat_expected = λ n m i. absurd (At-replicate (length b.pats) n m i);
     pat_actual = λ n m i. absurd (At-replicate (length b.pats) n m i);
   };
+  asked = λ n m i. absurd (At-replicate (length b.exprs) n m i);
+  pairs = tt;
   bound = tt;
   some = (
     fallback,
@@ -76,7 +86,7 @@ module _ (g : Given) (s : Schedule) (law : IsWalkable g.body s) (written : Writt
         ready = here.ready;
         count = count;
         state = record {
-          of_body = of_body_unclosed fallback g.body (empty_context g.body).result here.state.of_body;
+          of_body = of_body_unclosed fallback g.body (empty_context g.body).asked (empty_context g.body).result here.state.of_body;
           sound = nothing_sound g.scope g.body;
           each = λ a k. (params_under a last is room).state;
         };
@@ -95,15 +105,19 @@ comes_to_root g s old c b d carried heads =
       expected = carried_fine c.table g.scope g.output carried heads;
     }
 
-module _ (g : Given) (s : Schedule) (law : IsWalkable g.body s) (carried : IsCarriedType g.output) (t : Ty) (mid new : InferenceContext) (p : ParamsDone g s (empty_context g.body) mid) (d : CoerceDone g s g.body.root (Some g.output) t mid new) where
+module _ (g : Given) (s : Schedule) (law : IsWalkable g.body s) (carried : IsCarriedType g.output) (t : Ty) (mid new last : InferenceContext) (p : ParamsDone g s (empty_context g.body) mid) (d : CoerceDone g s g.body.root (Some g.output) t mid new) (b : OnlyBinds g new last) where
   typed : (a : Assignment) → Closes a new → under.ParamsDone g s (nothing_found g.body) (found_under a mid)
   typed a q = subst (λ c. under.ParamsDone g s c (found_under a mid)) (nothing_under a g.body) (p.each a (closes_before g a mid new d.follows q))
 
   done : (a : Assignment) → Closes a new → under.CoerceDone g s g.body.root (Some g.output) (folded a t) (found_under a mid) (found_under a new)
   done a q = subst (λ u. under.CoerceDone g s g.body.root (Some u) (folded a t) (found_under a mid) (found_under a new)) (carried_closed a g.output carried) (d.each a q)
 
-  pub body_walked : BodyDone g new
+  -- what waits is unified in the end
+  pub body_walked : BodyDone g last
   body_walked = record {
-    sound = d.follows.sound;
-    made = λ a q. body_made g s law (folded a t) (found_under a mid) (found_under a new) (typed a q) (done a q);
+    sound = b.follows.sound;
+    made = λ a q.
+        let k : Closes a new = closes_before g a new last b.follows q in
+        subst (λ (f : Found). IsMade g f.result) (sym (same_found a new last b.result b.asked b.clock))
+        (body_made g s law (folded a t) (found_under a mid) (found_under a new) (typed a k) (done a k));
   }

@@ -25,8 +25,7 @@ use Rattle.infer_expr.specs.Steps.{Follows, Before, Within, OwnDone, CoerceDone,
 use Rattle.infer_expr.specs.Under.{LieAhead}
 use Rattle.infer_expr.specs.Under as under
 use Rattle.infer_expr.proofs.AtEach.{follows_twice, closes_before, walking_after, within_under}
-use Rattle.infer_expr.proofs.Closed.{closes_earlier}
-use Rattle.infer_expr.proofs.Expressions.{same_found}
+use Rattle.infer_expr.proofs.Closed.{same_found, closes_earlier}
 use Rattle.infer_expr.proofs.FineTypes.{fine_bool, fine_grown, fine_expectation_grown}
 use Rattle.infer_expr.proofs.OverTypes.{carried_closed, fine_closed}
 use Rattle.infer_expr.proofs.Types.{carried_unit}
@@ -193,7 +192,7 @@ module _ (g : Given) (s : Schedule) (n c first : ExprId) (other : Option ExprId)
           let p : Closes a new = closes_earlier a new last k.grew q in
           let l : Closes a f = closes_before g a f new d.follows p in
           let o : Closes a mid = closes_before g a mid f h.follows l in
-          subst (λ e. under.KindDone g s n (expected_under a x) (folded a t) (found_under a mid) e) (sym (same_found a new last k.result k.clock)) (
+          subst (λ e. under.KindDone g s n (expected_under a x) (folded a t) (found_under a mid) e) (sym (same_found a new last k.result k.asked k.clock)) (
           if_done g s n c first other is (expected_under a x) (expected_under a y) (common_under a m) (common_under a after) (folded a t) (found_under a mid) (found_under a f) (found_under a new) (within_under g s a mid o n x w) (less_under a x y less) (h.each a l) (d.each a p) (completes_under a y after t k.is) (completed_fine a y after t new last k q)
           );
     }

@@ -1,5 +1,5 @@
 -- The type of an `if`: its condition, its branch, and the other branch or none.
-use Rattle.std.proofs.Common.{ℕ, ◌<◌, ◌≡◌, ◌⊎◌, inl, inr, List, [], ◌∷◌, length, refl, sym, ap, subst, ◌∙◌, Option, Some, None, slice_get}
+use Rattle.std.proofs.Common.{ℕ, ◌<◌, ◌≡◌, ◌⊎◌, inl, inr, Bool, true, false, List, [], ◌∷◌, length, refl, sym, ap, subst, ◌∙◌, Option, Some, None, slice_get}
 use Rattle.hir_types.specs.declared.ids.ExprId.{ExprId}
 use Rattle.hir_types.specs.declared.ids.ExprOrPatId.TheVariants as node
 use Rattle.hir_types.specs.declared.ty.Ty.{Ty}
@@ -22,7 +22,7 @@ use Rattle.infer_expr.specs.declared.coerce_many.CoerceMany.TheVariants as commo
 use Rattle.infer_expr.specs.Found.{Found, with_mismatch}
 use Rattle.infer_expr.specs.Context.{IsCarriedExpectation, IsLess}
 use Rattle.infer_expr.specs.Walks.{Walks, Extends, Nothing, Owed, PaidBy, OwedByAlternatives, expr_end}
-use Rattle.infer_expr.specs.Under.{LieAhead, Before, Within, KindDone, CoerceDone, AlternativeDone, ElseDone, Merges, AllAtType, IsCommonFrom, AreMerged, Completes, common_of, IsIfOf}
+use Rattle.infer_expr.specs.Under.{LieAhead, Before, Within, KindDone, CoerceDone, AlternativeDone, ElseDone, Merges, AllAtType, IsCommonFrom, AreMerged, IsCoercedIf, Completes, common_of, IsIfOf}
 use Rattle.infer_expr.proofs.Types.{carried_unit}
 use Rattle.infer_expr.proofs.Parts.{ahead_rest, expr_ahead, expr_before}
 use Rattle.infer_expr.proofs.Keeps.{extends_refl, any_kept, at_kept, alternative_kept}
@@ -168,7 +168,7 @@ module _ (g : Given) (s : Schedule) (n c first : ExprId) (is : IsIfOf g.body n c
     paid es r m h done = walks_paid g s (OwedByAlternatives g n y) (PaidBy g n x t) mid f (λ e k o. inr (completed_paid g n r es y x m t h done e k o)) walks
 
     unit_fits : (u : Ty) → AreMerged f.result (first ∷ []) y (common.Is u) → unit ≡ u → t ≡ u → KindDone g s n x t mid f
-    unit_fits u h at done = bare_done f (paid (first ∷ []) f.result (common.Is u) h done) refl (extends_refl f.result) (inl (subst (λ v. IsAt f.result first v) (sym done) h.0.0)) (inl (ap erased (at ∙ sym done)))
+    unit_fits u h at done = bare_done f (paid (first ∷ []) f.result (common.Is u) h done) refl (extends_refl f.result) (elim h.0 [ inl k ↦ inl (subst (λ v. IsAt f.result first v) (sym done) k.0) | inr k ↦ inr (inr k) ]) (inl (ap erased (at ∙ sym done)))
 
     unit_unknown : AnyMismatch f.result (first ∷ []) → Completes y common.Unknown t → KindDone g s n x t mid f
     unit_unknown h done = bare_done f (paid (first ∷ []) f.result common.Unknown h done) refl (extends_refl f.result) (inr (inr h)) (inr (inr h))
@@ -178,23 +178,29 @@ module _ (g : Given) (s : Schedule) (n c first : ExprId) (is : IsIfOf g.body n c
     unit_asked None u at h = inl (inr (record { condition = c; branch = first; is_if = is; has = h }))
     unit_asked (Some v) u at h = inr (inr (subst (λ o. Owed n o n (mismatch u unit)) (sym (less_same x y v less at)) (refl, h)))
 
-    unit_misfits : (u : Ty) → IsCommonFrom f.result (first ∷ []) y u → (u ≡ unit → ⊥) → Completes y common.Unknown t → KindDone g s n x t mid (with_mismatch f n (mismatch u unit))
-    unit_misfits u h differ done =
+    unit_misfits : (u : Ty) → IsCommonFrom f.result (first ∷ []) y u → (u ≡ unit → ⊥) → Walks g s (PaidBy g n x t) mid f → KindDone g s n x t mid (with_mismatch f n (mismatch u unit))
+    unit_misfits u h differ paid_before =
         let new : Found = with_mismatch f n (mismatch u unit) in
         let there : IsCarriedType u = common_carried f.result (first ∷ []) y u walks.state.carried (less_carried x y less w.expected) h in
         let misfit : IsMisfit g f.result n (mismatch u unit) = record { differ = λ same. differ (same_carried u unit there carried_unit same); actual = inr (inr (record { condition = c; branch = first; is_if = is }), refl) } in
         let long : n.0 < length f.result.expr_mismatches = rw walks.state.of_body.mismatches w.within in
         let has = noted_has f n (mismatch u unit) long in
         bare_done new (
-        noted_walks g s (PaidBy g n x t) mid f n (mismatch u unit) there carried_unit misfit (unit_asked y u refl h) (paid (n ∷ first ∷ []) new.result common.Unknown (inl has) done)
+        noted_walks g s (PaidBy g n x t) mid f n (mismatch u unit) there carried_unit misfit (unit_asked y u refl h) paid_before
         ) refl (noted_extends f n (mismatch u unit)) (inr (inl has)) (inr (inl has))
+
+    -- `()` is coerced to the branch's type, which stays the common one
+    unit_kept : (u : Ty) (new : Found) → AreMerged f.result (first ∷ []) y (common.Is u) → (coerced : Bool) → IsCoercedIf coerced n unit u f new → Completes y (common.Is u) t → KindDone g s n x t mid new
+    unit_kept u new h true d done = subst (λ e. KindDone g s n x t mid e) (sym d.1) (unit_fits u h d.0 done)
+    unit_kept u new h false d done = subst (λ e. KindDone g s n x t mid e) (sym d.1) (unit_misfits u h.1 d.0 (paid (first ∷ []) f.result (common.Is u) h done))
 
     merged_done : (m after : CoerceMany) (new : Found) → AreMerged f.result (first ∷ []) y m → Merges n unit m after f new → Completes y after t → KindDone g s n x t mid new
     merged_done common.Nothing after new h d done = absurd (cc)
     merged_done (common.Is u) after new h (inl d) done =
-        subst (λ e. KindDone g s n x t mid e) (sym d.1.1) (unit_fits u h d.1.0 (subst (λ l. Completes y l t) d.0 done))
+        unit_kept u new h d.1.0 d.1.1 (subst (λ l. Completes y l t) d.0 done)
     merged_done (common.Is u) after new h (inr d) done =
-        subst (λ e. KindDone g s n x t mid e) (sym d.1.1) (unit_misfits u h.1 d.1.0 (subst (λ l. Completes y l t) d.0 done))
+        let there : AnyMismatch new.result (n ∷ first ∷ []) = subst (λ c. AnyMismatch c.result (n ∷ first ∷ [])) (sym d.1.1) (inl (noted_has f n (mismatch u unit) (rw walks.state.of_body.mismatches w.within))) in
+        subst (λ e. KindDone g s n x t mid e) (sym d.1.1) (unit_misfits u h.1 d.1.0 (paid (n ∷ first ∷ []) new.result common.Unknown there (subst (λ l. Completes y l t) d.0 done)))
     merged_done common.Unknown after new h d done =
         subst (λ e. KindDone g s n x t mid e) (sym d.1) (unit_unknown h (subst (λ l. Completes y l t) d.0 done))
 

@@ -1,63 +1,75 @@
 -- Calls, under each assignment.
 use Rattle.std.proofs.Common.{ℕ, zero, suc, ◌+◌, ◌<◌, ◌≤◌, ◌≡◌, refl, sym, ap, subst, ◌∙◌, arith, List, [], ◌∷◌, length, map, get_or, Option, Some, None, slice_get}
 use Rattle.std.proofs.lemmas.List.{length-map}
+use Rattle.hir_types.specs.declared.ids.CallableDefId.{CallableDefId}
 use Rattle.hir_types.specs.declared.ids.CallableDefId.TheVariants as callable
 use Rattle.hir_types.specs.declared.ids.ExprId.{ExprId}
-use Rattle.hir_types.specs.declared.ids.FunctionId.{FunctionId}
 use Rattle.hir_types.specs.declared.ty.GenericArg.{GenericArg}
 use Rattle.hir_types.specs.declared.ty.Ty.{Ty}
 use Rattle.hir_types.specs.declared.ty.Ty.TheVariants as ty
-use Rattle.hir_types.specs.Folds.{map_twice}
 use Rattle.hir_types.specs.Subst.{Assignment, folded}
-use Rattle.hir_facts.specs.CarriedBodies.{IsFunctionAt, calls_functions}
+use Rattle.hir_facts.specs.CarriedBodies.{IsItemAt, calls_items}
+use Rattle.hir_facts.specs.Scope.{names_item}
 use Rattle.hir_facts.specs.CarriedTypes.{IsCarriedType}
 use Rattle.hir_facts.specs.declared.raw.RawExpr.TheVariants as expr
+use Rattle.hir_facts.specs.declared.raw.RawPath.{RawPath}
 use Rattle.hir_facts.specs.declared.raw.RawPath.TheVariants as path
 use Rattle.hir_facts.specs.declared.schedule.Schedule.{Schedule}
 use Rattle.hir_facts.specs.Signatures.{type_args, at_args}
-use Rattle.hir_facts.specs.Types.{written_type}
 use Rattle.infer_result.specs.declared.diagnostics.InferenceDiagnostic.TheVariants as diagnostic
 use Rattle.infer_result.specs.Places.{Given}
-use Rattle.hir_types.specs.Terms.{terms_of}
-use Rattle.infer_result.specs.Closed.{IsOfBody}
-use Rattle.infer_table.specs.Completion.{completion}
-use Rattle.infer_table.specs.Solutions.{Respects}
-use Rattle.infer_table.specs.Table.{State, Grew, Meets, AreUnified}
+use Rattle.infer_table.specs.Table.{Grew}
 use Rattle.infer_expr.specs.declared.context.InferenceContext.{InferenceContext}
 use Rattle.infer_expr.specs.declared.given.CallableSig.{CallableSig}
-use Rattle.infer_expr.specs.Callables.{IsFunctionItem, IsSigOf}
+use Rattle.infer_expr.specs.Callables.{IsCallableItem, IsSigOf, IsSigOfItem}
 use Rattle.infer_expr.specs.Context as context
-use Rattle.infer_expr.specs.Closings.{Closes, found_under, IsSound}
+use Rattle.infer_expr.specs.Closings.{Closes, found_under}
 use Rattle.infer_expr.specs.Fine.{IsFine}
 use Rattle.infer_expr.specs.Found as found
-use Rattle.infer_expr.specs.Steps.{Follows, Before, Within, OwnDone, CoerceDone, KindDone, PathDone, AreFreshArgs, CalleeDone, BeforeArgs, BeforeInputs, ArgsDone, OnlyBinds}
+use Rattle.infer_expr.specs.Steps.{Follows, Before, Within, OwnDone, CoerceDone, KindDone, PathDone, ArePartTypes, AreFreshArgs, CalleeDone, BeforeArgs, BeforeInputs, ArgsDone, OnlyBinds}
 use Rattle.infer_expr.specs.Under as under
 use Rattle.infer_expr.specs.Under.{inputs_at}
 use Rattle.infer_expr.proofs.AtEach.{follows_itself, follows_twice, closes_before, walking_after, within_under}
 use Rattle.infer_expr.proofs.Calls.{own_callee, callee_before, past_callee, callee_then, kind_for_any, ArgsLoop, args_start, arg_before, arg_next, args_done, OthersLoop, others_start, other_before, other_next, others_done, call_done}
-use Rattle.infer_expr.proofs.Closed.{of_body_diagnostic, sound_diagnostic}
-use Rattle.infer_expr.proofs.Expressions.{comes_within, own_done, same_found}
+use Rattle.infer_expr.proofs.Closed.{same_found, of_body_diagnostic, sound_diagnostic}
+use Rattle.infer_expr.proofs.Expressions.{comes_within, own_done}
 use Rattle.infer_expr.proofs.FineTypes.{AllFine, every_at, fine_grown}
-use Rattle.infer_expr.proofs.Instances.{written_instance, fine_instance, fine_inputs, inputs_under}
+use Rattle.infer_expr.proofs.Instances.{known_instance, fine_instance, fine_instances, instances_under}
 use Rattle.infer_expr.proofs.OverTypes.{fine_closed, fn_def_closed}
 use Rattle.infer_expr.proofs.PatHoles.{all_fine}
-use Rattle.infer_expr.proofs.PathWalk.{path_kind, function_path}
-use Rattle.infer_expr.proofs.Unified.{with_table, unified_sound}
+use Rattle.infer_expr.proofs.PathWalk.{path_kind, function_path, tuple_path}
+use Rattle.infer_expr.proofs.Items.{ctor_item}
 
 -- ---- what is called
 
+-- a path to an item has that item's type at as many types as it has parameters
+item_path : (g : Given) (s : Schedule) (called : ExprId) (x : Option Ty) (old : InferenceContext) (p : RawPath) (id : CallableDefId) (item : under.IsItem g.scope.facts id) (ts : List Ty) (mid : InferenceContext) → Before g s called x old → slice_get g.body.exprs called.0 ≡ Some (expr.Path p) → names_item p ≡ Some id
+    → ArePartTypes g.scope item.signature.params ts (context.entered old) mid → PathDone g p (ty.FnDef id (type_args ts)) (context.entered old) mid
+item_path g s called x old (path.Local v) id item ts mid h is names made = absurd (cc)
+item_path g s called x old path.Other id item ts mid h is names made = absurd (cc)
+item_path g s called x old (path.Function f) id item ts mid h is names made =
+    let same : callable.FunctionId f ≡ id = cc in
+    let P : CallableDefId → Type 0 = λ i. (it : under.IsItem g.scope.facts i) → ArePartTypes g.scope it.signature.params ts (context.entered old) mid → PathDone g (path.Function f) (ty.FnDef i (type_args ts)) (context.entered old) mid in
+    subst P same (λ it m. function_path g f it ts (context.entered old) mid m) item made
+item_path g s called x old (path.Ctor v) id item ts mid h is names made =
+    let same : callable.VariantId v ≡ id = cc in
+    let y : under.IsVariant g.scope.facts v = h.ready.written.constructors called v is in
+    let P : CallableDefId → Type 0 = λ i. (it : under.IsItem g.scope.facts i) → ArePartTypes g.scope it.signature.params ts (context.entered old) mid → PathDone g (path.Ctor v) (ty.FnDef i (type_args ts)) (context.entered old) mid in
+    subst P same (λ it m.
+    (let (tuple, count) = ctor_item g v y.variant y.params it.signature y.found y.count it.found in
+    tuple_path g v y ts (context.entered old) mid (subst (λ n. ArePartTypes g.scope n ts (context.entered old) mid) (sym count) m) tuple)) item made
+
 -- the path is typed at new holes
-pub callee_typed : (g : Given) (s : Schedule) (called : ExprId) (f : FunctionId) (item : under.IsFunction g.scope.facts f) (xs : List GenericArg) (old mid : InferenceContext) → Before g s called None old → slice_get g.body.exprs called.0 ≡ Some (expr.Path (path.Function f))
-    → AreFreshArgs g.scope (length item.function.params) xs (context.entered old) mid → CalleeDone g s called (ty.FnDef (callable.FunctionId f) xs) old (context.with_expr_ty mid called (ty.FnDef (callable.FunctionId f) xs))
-callee_typed g s called f item xs old mid h is fresh =
-    let id = callable.FunctionId f in
+pub callee_typed : (g : Given) (s : Schedule) (called : ExprId) (p : RawPath) (id : CallableDefId) (item : under.IsItem g.scope.facts id) (xs : List GenericArg) (old mid : InferenceContext) → Before g s called None old → slice_get g.body.exprs called.0 ≡ Some (expr.Path p) → names_item p ≡ Some id
+    → AreFreshArgs g.scope item.signature.params xs (context.entered old) mid → CalleeDone g s called (ty.FnDef id xs) old (context.with_expr_ty mid called (ty.FnDef id xs))
+callee_typed g s called p id item xs old mid h is names fresh =
     let ts : List Ty = fresh.types in
     let t : Ty = ty.FnDef id (type_args ts) in
-    let named : PathDone g (path.Function f) t (context.entered old) mid = function_path g f item ts (context.entered old) mid fresh.made in
-    let own : OwnDone g s called None t old (context.with_expr_ty mid called t) = own_done g s called None t old mid h (path_kind g s called None (path.Function f) t (context.entered old) mid (comes_within g s called None old h) is named) in
+    let named : PathDone g p t (context.entered old) mid = item_path g s called None old p id item ts mid h is names fresh.made in
+    let own : OwnDone g s called None t old (context.with_expr_ty mid called t) = own_done g s called None t old mid h (path_kind g s called None p t (context.entered old) mid (comes_within g s called None old h) is named) in
     let P : List GenericArg → Type 0 = λ ys. CalleeDone g s called (ty.FnDef id ys) old (context.with_expr_ty mid called (ty.FnDef id ys)) in
     subst P (sym fresh.are) (record {
-      function = f;
+      id = id;
       item = item;
       types = ts;
       is = refl;
@@ -66,7 +78,7 @@ callee_typed g s called f item xs old mid h is fresh =
       fine = fresh.made.fine;
       each = λ a q.
           let new : InferenceContext = context.with_expr_ty mid called t in
-          own_callee g s called f (map (folded a) ts) (found_under a old) (found_under a new)
+          own_callee g s called id (map (folded a) ts) (found_under a old) (found_under a new)
           (subst (λ u. under.OwnDone g s called None u (found_under a old) (found_under a new)) (fn_def_closed a id ts) (own.each a q));
     })
 
@@ -77,18 +89,25 @@ module _ (g : Given) (s : Schedule) (n called : ExprId) (args : List ExprId) (c 
       let here = callee_before g s n called args None (found_under q.0 c) (within_under g s q.0 c q.1 n None h) is in
       record { ready = h.ready; state = h.state; within = here.within; here = here.here; expected = tt }
 
-  pub calls_function : IsFunctionAt g.body called
-  calls_function = calls_functions g.body h.ready.law.carried n.0 called args is
+  pub calls_item : IsItemAt g.body called
+  calls_item = calls_items g.body h.ready.law.carried n.0 called args is
+
+  -- which exists
+  pub callee_item : (p : RawPath) (id : CallableDefId) → slice_get g.body.exprs called.0 ≡ Some (expr.Path p) → names_item p ≡ Some id → under.IsItem g.scope.facts id
+  callee_item (path.Local v) id at names = absurd (cc)
+  callee_item path.Other id at names = absurd (cc)
+  callee_item (path.Function f) id at names = (let same : callable.FunctionId f ≡ id = cc in subst (λ i. under.IsItem g.scope.facts i) same (h.ready.written.functions called f at))
+  callee_item (path.Ctor v) id at names = (let same : callable.VariantId v ≡ id = cc in subst (λ i. under.IsItem g.scope.facts i) same (h.ready.written.callees n called args v is at))
 
   pub comes_to_args : (t : Ty) (mid : InferenceContext) → CalleeDone g s called t c mid → BeforeArgs g s n args t mid
   comes_to_args t mid d =
-      let found_at : (a : Assignment) → Closes a mid → under.BeforeArgs g s n called args d.function d.item.function (map (folded a) d.types) (found_under a mid)
-      = λ a q. past_callee g s n called args None (found_under a c) (within_under g s a c (closes_before g a c mid d.follows q) n None h) is d.function d.item.function (map (folded a) d.types) (found_under a mid) d.item.found (d.each a q) in
+      let found_at : (a : Assignment) → Closes a mid → under.BeforeArgs g s n called args d.id d.item.signature (map (folded a) d.types) (found_under a mid)
+      = λ a q. past_callee g s n called args None (found_under a c) (within_under g s a c (closes_before g a c mid d.follows q) n None h) is d.id d.item.signature (map (folded a) d.types) (found_under a mid) d.item.found (d.each a q) in
       record {
         ready = h.ready;
         state = walking_after g s c mid d.follows (λ a q. (found_at a q).state);
         called = called;
-        function = d.function;
+        id = d.id;
         item = d.item;
         types = d.types;
         is = d.is;
@@ -101,7 +120,7 @@ module _ (g : Given) (s : Schedule) (n called : ExprId) (args : List ExprId) (c 
   called_then t u mid new d k = record {
     follows = follows_twice g c mid new d.follows k.follows;
     fine = k.fine;
-    each = λ a q. callee_then g s n called d.function (map (folded a) d.types) (folded a u) (found_under a c) (found_under a mid) (found_under a new) (d.each a (closes_before g a mid new k.follows q)) (k.each a q);
+    each = λ a q. callee_then g s n called d.id (map (folded a) d.types) (folded a u) (found_under a c) (found_under a mid) (found_under a new) (d.each a (closes_before g a mid new k.follows q)) (k.each a q);
   }
 
 -- what is expected does not matter
@@ -117,30 +136,30 @@ call_for_any g s n x t old new k = record {
 
 -- ---- what the item takes and gives
 
-pub names_item : (g : Given) (s : Schedule) (n : ExprId) (args : List ExprId) (t : Ty) (c : InferenceContext) → BeforeArgs g s n args t c → IsFunctionItem g.scope.facts t
-names_item g s n args t c h = record { function = h.function; args = type_args h.types; item = h.item.function; is = h.is; found = h.item.found }
+pub is_callable : (g : Given) (s : Schedule) (n : ExprId) (args : List ExprId) (t : Ty) (c : InferenceContext) → BeforeArgs g s n args t c → IsCallableItem g.scope.facts t
+is_callable g s n args t c h = record { id = h.id; types = h.types; is = h.is; signature = h.item.signature; found = h.item.found; count = h.count }
 
-pub sig_inputs : (g : Given) (s : Schedule) (n : ExprId) (args : List ExprId) (t : Ty) (c : InferenceContext) (h : BeforeArgs g s n args t c) (sig : CallableSig) → IsSigOf g.scope.facts.types h.item.function (type_args h.types) sig → sig.inputs ≡ inputs_at g.scope.facts.types h.item.function h.types
-sig_inputs g s n args t c h sig k = k.inputs ∙ sym (map_twice (at_args h.types) (written_type g.scope.facts.types) h.item.function.inputs)
+pub own_sig : (g : Given) (s : Schedule) (n : ExprId) (args : List ExprId) (t : Ty) (c : InferenceContext) (h : BeforeArgs g s n args t c) (sig : CallableSig) → IsSigOfItem g.scope.facts t sig → IsSigOf h.item.signature h.types sig
+own_sig g s n args t c h sig k = k h.id h.types h.item.signature h.is h.item.found h.count
 
-pub takes_inputs : (g : Given) (s : Schedule) (n : ExprId) (args : List ExprId) (t : Ty) (c : InferenceContext) (h : BeforeArgs g s n args t c) (sig : CallableSig) → IsSigOf g.scope.facts.types h.item.function (type_args h.types) sig → BeforeInputs g s n args sig.inputs c
+pub takes_inputs : (g : Given) (s : Schedule) (n : ExprId) (args : List ExprId) (t : Ty) (c : InferenceContext) (h : BeforeArgs g s n args t c) (sig : CallableSig) → IsSigOfItem g.scope.facts t sig → BeforeInputs g s n args sig.inputs c
 takes_inputs g s n args t c h sig k = record {
   type = t;
   before = h;
-  inputs = sig_inputs g s n args t c h sig k;
+  inputs = (own_sig g s n args t c h sig k).inputs;
 }
 
 module _ (g : Given) (s : Schedule) (n : ExprId) (args : List ExprId) (t : Ty) (mid : InferenceContext) (h : BeforeArgs g s n args t mid) where
   abbrev gives : Ty
-  gives = at_args h.types (written_type g.scope.facts.types h.item.function.output)
+  gives = at_args h.types h.item.signature.output
 
   types_fine : AllFine g.scope mid.table h.types
   types_fine = all_fine g.scope mid.table h.types h.fine
 
   gives_fine : (new : InferenceContext) → Grew mid.table new.table → IsFine g.scope new.table gives
-  gives_fine new grew = fine_grown g.scope mid.table new.table gives grew (fine_instance g.scope mid.table h.item.function h.types h.count types_fine h.item.function.output h.item.output)
+  gives_fine new grew = fine_grown g.scope mid.table new.table gives grew (fine_instance g.scope mid.table h.item.signature.params h.types h.count types_fine h.item.signature.output h.item.output)
 
-  pub ends_call : (ss : List Ty) (u : Ty) (new : InferenceContext) → ss ≡ inputs_at g.scope.facts.types h.item.function h.types → u ≡ gives → ArgsDone g s n args ss mid new → KindDone g s n None u mid new
+  pub ends_call : (ss : List Ty) (u : Ty) (new : InferenceContext) → ss ≡ inputs_at h.item.signature h.types → u ≡ gives → ArgsDone g s n args ss mid new → KindDone g s n None u mid new
   ends_call ss u new inputs output d =
       subst (λ v. KindDone g s n None v mid new) (sym output) (record {
         follows = d.follows;
@@ -148,11 +167,11 @@ module _ (g : Given) (s : Schedule) (n : ExprId) (args : List ExprId) (t : Ty) (
         each = λ a q.
             let m : Closes a mid = closes_before g a mid new d.follows q in
             let ts : List Ty = map (folded a) h.types in
-            let same : folded a gives ≡ at_args ts (written_type g.scope.facts.types h.item.function.output) = written_instance a (under.own_scope g.scope.facts h.item.function) h.item.function.output h.types h.item.output in
-            let taken : map (folded a) ss ≡ inputs_at g.scope.facts.types h.item.function ts = ap (map (folded a)) inputs ∙ inputs_under a g.scope.facts h.item.function h.types h.item.inputs in
+            let same : folded a gives ≡ at_args ts h.item.signature.output = known_instance a (under.own_scope g.scope.facts h.item.signature.params) h.item.signature.output h.types h.item.output in
+            let taken : map (folded a) ss ≡ inputs_at h.item.signature ts = ap (map (folded a)) inputs ∙ instances_under a (under.own_scope g.scope.facts h.item.signature.params) h.types h.item.signature.inputs h.item.inputs in
             let carried = fine_closed g.scope a gives q.closing (gives_fine new d.follows.grew).heads in
             subst (λ v. under.KindDone g s n None v (found_under a mid) (found_under a new)) (sym same)
-            (call_done g s n h.called args h.function h.item.function ts (found_under a mid) (h.each a m) (found_under a new)
+            (call_done g s n h.called args h.id h.item.signature ts (found_under a mid) (h.each a m) (found_under a new)
             (subst (λ us. under.ArgsDone g s n args us (found_under a mid) (found_under a new)) taken (d.each a q))
             (subst (λ v. IsCarriedType v) same carried));
       })
@@ -162,10 +181,10 @@ module _ (g : Given) (s : Schedule) (n : ExprId) (args : List ExprId) (t : Ty) (
 module _ (g : Given) (s : Schedule) (n : ExprId) (args : List ExprId) (ss : List Ty) (mid : InferenceContext) (h : BeforeInputs g s n args ss mid) where
   -- what is taken under an assignment
   abbrev taken_at : Assignment → List Ty
-  taken_at a = inputs_at g.scope.facts.types h.before.item.function (map (folded a) h.before.types)
+  taken_at a = inputs_at h.before.item.signature (map (folded a) h.before.types)
 
   taken_under : (a : Assignment) → map (folded a) ss ≡ taken_at a
-  taken_under a = ap (map (folded a)) h.inputs ∙ inputs_under a g.scope.facts h.before.item.function h.before.types h.before.item.inputs
+  taken_under a = ap (map (folded a)) h.inputs ∙ instances_under a (under.own_scope g.scope.facts h.before.item.signature.params) h.before.types h.before.item.signature.inputs h.before.item.inputs
 
   taken_count : (a : Assignment) → length (taken_at a) ≡ length ss
   taken_count a = sym (ap (λ us. length us) (taken_under a)) ∙ length-map ss (folded a)
@@ -173,7 +192,7 @@ module _ (g : Given) (s : Schedule) (n : ExprId) (args : List ExprId) (ss : List
   all_inputs_fine : AllFine g.scope mid.table ss
   all_inputs_fine =
       subst (λ us. AllFine g.scope mid.table us) (sym h.inputs)
-      (fine_inputs g.scope mid.table h.before.item.function h.before.types h.before.count (all_fine g.scope mid.table h.before.types h.before.fine) h.before.item.inputs)
+      (fine_instances g.scope mid.table h.before.item.signature.params h.before.types h.before.count (all_fine g.scope mid.table h.before.types h.before.fine) h.before.item.signature.inputs h.before.item.inputs)
 
   pub input_fine : (i : ℕ) (u : Ty) → slice_get ss i ≡ Some u → IsFine g.scope mid.table u
   input_fine i u is = every_at (IsFine g.scope mid.table) ss i u all_inputs_fine is
@@ -197,7 +216,7 @@ module _ (g : Given) (s : Schedule) (n : ExprId) (args : List ExprId) (ss : List
   pub begins_args : ArgsWalk 0 mid
   begins_args = record {
     follows = follows_itself g mid h.before.state.of_body h.before.state.sound;
-    each = λ a q. args_start g s n h.before.called args h.before.function h.before.item.function (map (folded a) h.before.types) (taken_at a) (found_under a mid) (h.before.each a q);
+    each = λ a q. args_start g s n h.before.called args h.before.id h.before.item.signature (map (folded a) h.before.types) (taken_at a) (found_under a mid) (h.before.each a q);
   }
 
   module _ (i : ℕ) (c : InferenceContext) (w : ArgsWalk i c) (e : ExprId) (u : Ty) (is : e ≡ get_or args i e) (k : i < length args) (input : slice_get ss i ≡ Some u) where
@@ -206,7 +225,7 @@ module _ (g : Given) (s : Schedule) (n : ExprId) (args : List ExprId) (ss : List
         let q = w.follows.sound.some in
         let m : Closes q.0 mid = closes_before g q.0 mid c w.follows q.1 in
         let fine : IsFine g.scope c.table u = fine_grown g.scope mid.table c.table u w.follows.grew (input_fine i u input) in
-        let here = arg_before g s n h.before.called args h.before.function h.before.item.function (map (folded q.0) h.before.types) (found_under q.0 mid) (h.before.each q.0 m) i (found_under q.0 c) (w.each q.0 q.1) e is k (folded q.0 u) (fine_closed g.scope q.0 u q.1.closing fine.heads) in
+        let here = arg_before g s n h.before.called args h.before.id h.before.item.signature (map (folded q.0) h.before.types) (found_under q.0 mid) (h.before.each q.0 m) i (found_under q.0 c) (w.each q.0 q.1) e is k (folded q.0 u) (fine_closed g.scope q.0 u q.1.closing fine.heads) in
         record {
           ready = h.before.ready;
           state = walking_after g s mid c w.follows (λ a l. (w.each a l).walks.state);
@@ -221,7 +240,7 @@ module _ (g : Given) (s : Schedule) (n : ExprId) (args : List ExprId) (ss : List
       each = λ a q.
           let l : Closes a c = closes_before g a c next d.follows q in
           let m : Closes a mid = closes_before g a mid c w.follows l in
-          arg_next g s n h.before.called args h.before.function h.before.item.function (map (folded a) h.before.types) (found_under a mid) (h.before.each a m) i (found_under a c) (w.each a l) e is k (folded a u) (folded a t) (found_under a next) (count ∙ sym (taken_count a)) (taken_input a i u input) (d.each a q);
+          arg_next g s n h.before.called args h.before.id h.before.item.signature (map (folded a) h.before.types) (found_under a mid) (h.before.each a m) i (found_under a c) (w.each a l) e is k (folded a u) (folded a t) (found_under a next) (count ∙ sym (taken_count a)) (taken_input a i u input) (d.each a q);
     }
 
   pub ends_args : (i : ℕ) (c : InferenceContext) → ArgsWalk i c → length args ≡ length ss → length args ≤ i → ArgsDone g s n args ss mid c
@@ -230,7 +249,7 @@ module _ (g : Given) (s : Schedule) (n : ExprId) (args : List ExprId) (ss : List
     each = λ a q.
         let m : Closes a mid = closes_before g a mid c w.follows q in
         subst (λ us. under.ArgsDone g s n args us (found_under a mid) (found_under a c)) (sym (taken_under a))
-        (args_done g s n h.before.called args h.before.function h.before.item.function (map (folded a) h.before.types) (found_under a mid) (h.before.each a m) i (found_under a c) (w.each a q) (count ∙ sym (taken_count a)) over);
+        (args_done g s n h.before.called args h.before.id h.before.item.signature (map (folded a) h.before.types) (found_under a mid) (h.before.each a m) i (found_under a c) (w.each a q) (count ∙ sym (taken_count a)) over);
   }
 
   -- ---- another number of them
@@ -245,7 +264,7 @@ module _ (g : Given) (s : Schedule) (n : ExprId) (args : List ExprId) (ss : List
     -- the first i arguments are typed
     pub record OthersWalk (i : ℕ) (c : InferenceContext) : Type 0 where
       pub follows : Follows g mid c
-      pub each : (a : Assignment) (q : Closes a mid) → Closes a c → OthersLoop g s n h.before.called args h.before.function h.before.item.function (map (folded a) h.before.types) (found_under a mid) (h.before.each a q) (differ_at a) i (found_under a c)
+      pub each : (a : Assignment) (q : Closes a mid) → Closes a c → OthersLoop g s n h.before.called args h.before.id h.before.item.signature (map (folded a) h.before.types) (found_under a mid) (h.before.each a q) (differ_at a) i (found_under a c)
 
     pub begins_others : OthersWalk 0 told
     begins_others = record {
@@ -256,8 +275,8 @@ module _ (g : Given) (s : Schedule) (n : ExprId) (args : List ExprId) (ss : List
         sound = sound_diagnostic mid h.before.state.sound n (diagnostic.MismatchedArgCount n (length ss) (length args));
       };
       each = λ a q l.
-          let begun = others_start g s n h.before.called args h.before.function h.before.item.function (map (folded a) h.before.types) (found_under a mid) (h.before.each a q) (differ_at a) in
-          let P : ℕ → Type 0 = λ k. OthersLoop g s n h.before.called args h.before.function h.before.item.function (map (folded a) h.before.types) (found_under a mid) (h.before.each a q) (differ_at a) 0 (found.with_diagnostic (found_under a mid) n (diagnostic.MismatchedArgCount n k (length args))) in
+          let begun = others_start g s n h.before.called args h.before.id h.before.item.signature (map (folded a) h.before.types) (found_under a mid) (h.before.each a q) (differ_at a) in
+          let P : ℕ → Type 0 = λ k. OthersLoop g s n h.before.called args h.before.id h.before.item.signature (map (folded a) h.before.types) (found_under a mid) (h.before.each a q) (differ_at a) 0 (found.with_diagnostic (found_under a mid) n (diagnostic.MismatchedArgCount n k (length args))) in
           subst P (taken_count a) begun;
     }
 
@@ -266,7 +285,7 @@ module _ (g : Given) (s : Schedule) (n : ExprId) (args : List ExprId) (ss : List
       comes_to_other =
           let q = w.follows.sound.some in
           let m : Closes q.0 mid = closes_before g q.0 mid c w.follows q.1 in
-          let here = other_before g s n h.before.called args h.before.function h.before.item.function (map (folded q.0) h.before.types) (found_under q.0 mid) (h.before.each q.0 m) (differ_at q.0) i (found_under q.0 c) (w.each q.0 m q.1) e is k in
+          let here = other_before g s n h.before.called args h.before.id h.before.item.signature (map (folded q.0) h.before.types) (found_under q.0 mid) (h.before.each q.0 m) (differ_at q.0) i (found_under q.0 c) (w.each q.0 m q.1) e is k in
           record {
             ready = h.before.ready;
             state = walking_after g s mid c w.follows (λ a l. (w.each a (closes_before g a mid c w.follows l) l).walks.state);
@@ -281,9 +300,9 @@ module _ (g : Given) (s : Schedule) (n : ExprId) (args : List ExprId) (ss : List
         each = λ a q l.
             let j : Closes a next = closes_before g a next last o.follows l in
             let y : Closes a c = closes_before g a c next d.follows j in
-            let P : found.Found → Type 0 = λ z. OthersLoop g s n h.before.called args h.before.function h.before.item.function (map (folded a) h.before.types) (found_under a mid) (h.before.each a q) (differ_at a) (i + 1) z in
-            subst P (sym (same_found a next last o.result o.clock))
-            (other_next g s n h.before.called args h.before.function h.before.item.function (map (folded a) h.before.types) (found_under a mid) (h.before.each a q) (differ_at a) i (found_under a c) (w.each a q y) e is k (folded a t) (found_under a next) (d.each a j));
+            let P : found.Found → Type 0 = λ z. OthersLoop g s n h.before.called args h.before.id h.before.item.signature (map (folded a) h.before.types) (found_under a mid) (h.before.each a q) (differ_at a) (i + 1) z in
+            subst P (sym (same_found a next last o.result o.asked o.clock))
+            (other_next g s n h.before.called args h.before.id h.before.item.signature (map (folded a) h.before.types) (found_under a mid) (h.before.each a q) (differ_at a) i (found_under a c) (w.each a q y) e is k (folded a t) (found_under a next) (d.each a j));
       }
 
     pub ends_others : (i : ℕ) (c : InferenceContext) → OthersWalk i c → length args ≤ i → ArgsDone g s n args ss mid c
@@ -292,22 +311,8 @@ module _ (g : Given) (s : Schedule) (n : ExprId) (args : List ExprId) (ss : List
       each = λ a q.
           let m : Closes a mid = closes_before g a mid c w.follows q in
           subst (λ us. under.ArgsDone g s n args us (found_under a mid) (found_under a c)) (sym (taken_under a))
-          (others_done g s n h.before.called args h.before.function h.before.item.function (map (folded a) h.before.types) (found_under a mid) (h.before.each a m) (differ_at a) i (found_under a c) (w.each a m q) over);
+          (others_done g s n h.before.called args h.before.id h.before.item.signature (map (folded a) h.before.types) (found_under a mid) (h.before.each a m) (differ_at a) i (found_under a c) (w.each a m q) over);
     }
-
--- ---- two types made equal
-
-pub unified_binds : (g : Given) (c : InferenceContext) (t u : Ty) → IsOfBody g.body c.result → IsSound g.scope c → IsFine g.scope c.table t → IsFine g.scope c.table u
-    → (after : State) → AreUnified c.table after t u → Meets (terms_of (completion after)) after → Respects (terms_of (completion after)) → OnlyBinds g c (with_table c after)
-unified_binds g c t u h s ft fu after k m r = record {
-  follows = record { clock = omega arith; grew = k.grown; of_body = h; sound = unified_sound g.scope c t u s ft fu after k m r };
-  result = refl;
-  clock = refl;
-}
-
--- nothing is made equal
-pub binds_nothing : (g : Given) (c : InferenceContext) → IsOfBody g.body c.result → IsSound g.scope c → OnlyBinds g c c
-binds_nothing g c h s = record { follows = follows_itself g c h s; result = refl; clock = refl }
 
 -- ---- the loops over arguments
 

@@ -1,22 +1,19 @@
 -- What a call shows: the item that it calls, and its arguments one after another.
-use Rattle.std.proofs.Common.{ℕ, zero, suc, ◌+◌, ◌<◌, ◌≤◌, ◌≡◌, inl, inr, List, [], ◌∷◌, ◌++◌, length, option_map, take, drop, get_or, refl, sym, ap, subst, ◌∙◌, arith, Option, Some, None, slice_get, append-nil}
+use Rattle.std.proofs.Common.{ℕ, zero, suc, ◌+◌, ◌<◌, ◌≤◌, ◌≡◌, inl, inr, List, [], ◌∷◌, ◌++◌, length, take, drop, get_or, refl, sym, ap, subst, ◌∙◌, arith, Option, Some, None, slice_get, append-nil}
 use Rattle.std.proofs.Math.ListN.{drop_of_length-le, take-append-drop}
 use Rattle.std.proofs.lemmas.List.{take_more, length-map}
 use Rattle.std.proofs.lemmas.Option.{slice_get_read}
 use Rattle.hir_types.specs.declared.ids.ExprId.{ExprId}
-use Rattle.hir_types.specs.declared.ids.FunctionId.{FunctionId}
-use Rattle.hir_types.specs.declared.ids.CallableDefId.TheVariants as callable
+use Rattle.hir_types.specs.declared.ids.CallableDefId.{CallableDefId}
 use Rattle.hir_types.specs.declared.ids.ExprOrPatId.TheVariants as node
 use Rattle.hir_types.specs.declared.ty.Ty.{Ty}
 use Rattle.hir_types.specs.declared.ty.Ty.TheVariants as ty
 use Rattle.hir_types.specs.Instances.{fn_def_tells}
 use Rattle.hir_facts.specs.declared.raw.RawExpr.TheVariants as expr
-use Rattle.hir_facts.specs.declared.raw.RawFn.{RawFn}
 use Rattle.hir_facts.specs.declared.schedule.Schedule.{Schedule}
 use Rattle.hir_facts.specs.CarriedTypes.{IsCarriedType}
 use Rattle.hir_facts.specs.Order.{Role, inner, callee, argument, expr_part, exprs_from, parts_of_expr, part_at, after}
-use Rattle.hir_facts.specs.Signatures.{Signature, signature_of, fn_signature, type_args, at_args}
-use Rattle.hir_facts.specs.Types.{written_type}
+use Rattle.hir_facts.specs.Signatures.{Signature, signature_of, type_args, at_args}
 use Rattle.infer_result.specs.declared.diagnostics.InferenceDiagnostic.{InferenceDiagnostic}
 use Rattle.infer_result.specs.declared.diagnostics.InferenceDiagnostic.TheVariants as diagnostic
 use Rattle.infer_result.specs.declared.result.InferenceResult.{InferenceResult}
@@ -37,8 +34,8 @@ use Rattle.infer_expr.proofs.Tuples.{all_push}
 -- ---- what is called
 
 -- a path's own type is that of what is called
-pub own_callee : (g : Given) (s : Schedule) (called : ExprId) (f : FunctionId) (ts : List Ty) (old new : Found) → OwnDone g s called None (ty.FnDef (callable.FunctionId f) (type_args ts)) old new → CalleeDone g s called f ts old new
-own_callee g s called f ts old new d = record {
+pub own_callee : (g : Given) (s : Schedule) (called : ExprId) (id : CallableDefId) (ts : List Ty) (old new : Found) → OwnDone g s called None (ty.FnDef id (type_args ts)) old new → CalleeDone g s called id ts old new
+own_callee g s called id ts old new d = record {
   walks = walks_paid g s (Owed called None) Nothing old new (λ e m o. absurd o) d.walks;
   clock = d.clock;
   has = d.type_is;
@@ -51,8 +48,8 @@ module _ (g : Given) (s : Schedule) (n called : ExprId) (args : List ExprId) (x 
   pub callee_before : Before g s called None c
   callee_before = expr_before g s (inner (node.ExprId n)) callee called (exprs_from argument 0 args) None c h.ready h.state call_ahead.0 tt
 
-  pub past_callee : (f : FunctionId) (item : RawFn) (ts : List Ty) (mid : Found) → slice_get g.scope.facts.fns f.0 ≡ Some item → CalleeDone g s called f ts c mid → BeforeArgs g s n called args f item ts mid
-  past_callee f item ts mid found d = record {
+  pub past_callee : (id : CallableDefId) (σ : Signature) (ts : List Ty) (mid : Found) → signature_of g.scope.facts id ≡ Some σ → CalleeDone g s called id ts c mid → BeforeArgs g s n called args id σ ts mid
+  past_callee id σ ts mid found d = record {
     ready = h.ready;
     state = d.walks.state;
     calling = record { is_call = is; within = h.within; found = found; has = d.has };
@@ -61,8 +58,8 @@ module _ (g : Given) (s : Schedule) (n called : ExprId) (args : List ExprId) (x 
   }
 
 -- what is called comes first
-pub callee_then : (g : Given) (s : Schedule) (n called : ExprId) (f : FunctionId) (ts : List Ty) (t : Ty) (c mid new : Found) → CalleeDone g s called f ts c mid → KindDone g s n None t mid new → KindDone g s n None t c new
-callee_then g s n called f ts t c mid new d k = record {
+pub callee_then : (g : Given) (s : Schedule) (n called : ExprId) (id : CallableDefId) (ts : List Ty) (t : Ty) (c mid new : Found) → CalleeDone g s called id ts c mid → KindDone g s n None t mid new → KindDone g s n None t c new
+callee_then g s n called id ts t c mid new d k = record {
   walks = walks_trans g s (PaidBy g n None t) c mid new (walks_paid g s Nothing (PaidBy g n None t) c mid (λ e m o. absurd o) d.walks) k.walks;
   clock = k.clock;
   carried = k.carried;
@@ -90,18 +87,15 @@ expr_at role from (n ∷ es) (suc i) e h =
     let z : suc from + i ≡ from + suc i = omega arith in
     expr_at role (suc from) es i e h ∙ ap (λ j. Some (expr_part (role j) e)) z
 
-module _ (g : Given) (n called : ExprId) (args : List ExprId) (f : FunctionId) (item : RawFn) (ts : List Ty) (c : Found) (h : IsCalling g n called args f item ts c) where
-  abbrev own : Signature
-  own = fn_signature g.scope.facts.types item
-
+module _ (g : Given) (n called : ExprId) (args : List ExprId) (id : CallableDefId) (σ : Signature) (ts : List Ty) (c : Found) (h : IsCalling g n called args id σ ts c) where
   abbrev taken : List Ty
-  taken = inputs_at g.scope.facts.types item ts
+  taken = inputs_at σ ts
 
-  input_count : length taken ≡ length own.inputs
-  input_count = length-map own.inputs (at_args ts)
+  input_count : length taken ≡ length σ.inputs
+  input_count = length-map σ.inputs (at_args ts)
 
-  calls : (r : InferenceResult) → Extends c.result r → IsCallee g r called own ts
-  calls r k = record { item = callable.FunctionId f; has = k.exprs called _ h.has; signature = ap (option_map (fn_signature g.scope.facts.types)) h.found }
+  calls : (r : InferenceResult) → Extends c.result r → IsCallee g r called σ ts
+  calls r k = record { item = id; has = k.exprs called _ h.has; signature = h.found }
 
   input_demand : (i : ℕ) (e : ExprId) (u : Ty) (r : InferenceResult) → length args ≡ length taken → Extends c.result r → slice_get args i ≡ Some e → slice_get taken i ≡ Some u → Demand g r e u
   input_demand i e u r count k found input =
@@ -117,7 +111,7 @@ module _ (g : Given) (n called : ExprId) (args : List ExprId) (f : FunctionId) (
           called = called;
           args = args;
           is_call = h.is_call;
-          signature = own;
+          signature = σ;
           types = ts;
           is_callee = calls r k;
           count = count ∙ input_count;
@@ -134,8 +128,8 @@ pub record ArgsLoop (g : Given) (s : Schedule) (n : ExprId) (args : List ExprId)
   pub ends : after g.body s c.clock (exprs_from argument i (drop i args)) ≡ expr_end g.body s n
   pub made : AllAt (IsAtOrMismatch c.result) (take i args) (take i ss)
 
-pub args_start : (g : Given) (s : Schedule) (n called : ExprId) (args : List ExprId) (f : FunctionId) (item : RawFn) (ts ss : List Ty) (c : Found) → BeforeArgs g s n called args f item ts c → ArgsLoop g s n args ss 0 c c
-args_start g s n called args f item ts ss c h = record { walks = walks_refl g s Nothing c h.state; ahead = h.ahead; ends = h.ends; made = tt }
+pub args_start : (g : Given) (s : Schedule) (n called : ExprId) (args : List ExprId) (id : CallableDefId) (σ : Signature) (ts ss : List Ty) (c : Found) → BeforeArgs g s n called args id σ ts c → ArgsLoop g s n args ss 0 c c
+args_start g s n called args id σ ts ss c h = record { walks = walks_refl g s Nothing c h.state; ahead = h.ahead; ends = h.ends; made = tt }
 
 arg_step : (args : List ExprId) (i : ℕ) (e : ExprId) → e ≡ get_or args i e → i < length args → exprs_from argument i (drop i args) ≡ expr_part (argument i) e ∷ exprs_from argument (i + 1) (drop (i + 1) args)
 arg_step args i e is k =
@@ -143,9 +137,9 @@ arg_step args i e is k =
     let z : suc i ≡ i + 1 = omega arith in
     ap (λ l. exprs_from argument i l) d ∙ ap (λ j. expr_part (argument i) e ∷ exprs_from argument j (drop (i + 1) args)) z
 
-module _ (g : Given) (s : Schedule) (n called : ExprId) (args : List ExprId) (f : FunctionId) (item : RawFn) (ts : List Ty) (mid : Found) (b : BeforeArgs g s n called args f item ts mid) where
+module _ (g : Given) (s : Schedule) (n called : ExprId) (args : List ExprId) (id : CallableDefId) (σ : Signature) (ts : List Ty) (mid : Found) (b : BeforeArgs g s n called args id σ ts mid) where
   abbrev ins : List Ty
-  ins = inputs_at g.scope.facts.types item ts
+  ins = inputs_at σ ts
 
   module _ (i : ℕ) (c : Found) (h : ArgsLoop g s n args ins i mid c) (e : ExprId) (is : e ≡ get_or args i e) (k : i < length args) where
     lies : LieAhead g.body s (inner (node.ExprId n)) c.clock (expr_part (argument i) e ∷ exprs_from argument (i + 1) (drop (i + 1) args))
@@ -161,7 +155,7 @@ module _ (g : Given) (s : Schedule) (n called : ExprId) (args : List ExprId) (f 
         walks_paid g s (Owed e (Some u)) Nothing c next (λ a m o. inl (
         subst (λ z. Demand g next.result z m.expected) (sym o.0) (
         subst (λ z. Demand g next.result e z) (sym o.1)
-        (input_demand g n called args f item ts c (record { is_call = b.calling.is_call; within = b.calling.within; found = b.calling.found; has = h.walks.extends.exprs called _ b.calling.has }) i e u next.result count d.walks.extends here input)
+        (input_demand g n called args id σ ts c (record { is_call = b.calling.is_call; within = b.calling.within; found = b.calling.found; has = h.walks.extends.exprs called _ b.calling.has }) i e u next.result count d.walks.extends here input)
         )
         )) d.walks
         ) in
@@ -209,6 +203,9 @@ module _ (g : Given) (s : Schedule) (n called : ExprId) (args : List ExprId) (f 
     pats = λ p t h. h;
     bindings = λ v t h. h;
     modes = λ p m h. h;
+    pat_diagnostics = λ p d h. h;
+    expr_variants = λ n v h. h;
+    pat_variants = λ p v h. h;
     mismatches = λ e m h. h;
     pat_mismatches = λ p m h. h;
     diagnostics = λ e d h. noted-keeps mid.result.expr_diagnostics n.0 e.0 complaint d h;
@@ -222,10 +219,10 @@ module _ (g : Given) (s : Schedule) (n called : ExprId) (args : List ExprId) (f 
       called = called;
       args = args;
       is_call = b.calling.is_call;
-      signature = own g n called args f item ts mid b.calling;
+      signature = σ;
       types = ts;
-      is_callee = calls g n called args f item ts mid b.calling r k;
-      is_expected = input_count g n called args f item ts mid b.calling;
+      is_callee = calls g n called args id σ ts mid b.calling r k;
+      is_expected = input_count g n called args id σ ts mid b.calling;
       is_found = refl;
       differ = λ e. differ (sym e);
     },
@@ -233,16 +230,17 @@ module _ (g : Given) (s : Schedule) (n called : ExprId) (args : List ExprId) (f 
 
   -- and any other that is true says the same
   same_complaint : (d : InferenceDiagnostic) → IsTrueDiagnostic g mid.result n d → d ≡ complaint
+  same_complaint (diagnostic.MismatchedTupleStructPatArgCount m expected found) h = absurd h
   same_complaint (diagnostic.MismatchedArgCount m expected found) (is, w) =
       let one_call : expr.Call w.called w.args ≡ expr.Call called args = (let q : Some (expr.Call w.called w.args) ≡ Some (expr.Call called args) = sym w.is_call ∙ b.calling.is_call in cc) in
       let same_called : w.called ≡ called = cc in
       let same_args : w.args ≡ args = cc in
       let typed : HasTy mid.result called (ty.FnDef w.is_callee.item (type_args w.types)) = subst (λ e. HasTy mid.result e (ty.FnDef w.is_callee.item (type_args w.types))) same_called w.is_callee.has in
-      let one_type : ty.FnDef w.is_callee.item (type_args w.types) ≡ ty.FnDef (callable.FunctionId f) (type_args ts) = only_entry (sym typed ∙ b.calling.has) in
-      let same = fn_def_tells w.is_callee.item (callable.FunctionId f) (type_args w.types) (type_args ts) one_type in
-      let signatures : Some w.signature ≡ Some (own g n called args f item ts mid b.calling) = sym w.is_callee.signature ∙ (ap (signature_of g.scope.facts) same.0 ∙ ap (option_map (fn_signature g.scope.facts.types)) b.calling.found) in
-      let same_signature : w.signature ≡ own g n called args f item ts mid b.calling = only_some signatures in
-      let counts : expected ≡ length ins = w.is_expected ∙ (ap (λ (σ : Signature). length σ.inputs) same_signature ∙ sym (input_count g n called args f item ts mid b.calling)) in
+      let one_type : ty.FnDef w.is_callee.item (type_args w.types) ≡ ty.FnDef id (type_args ts) = only_entry (sym typed ∙ b.calling.has) in
+      let same = fn_def_tells w.is_callee.item id (type_args w.types) (type_args ts) one_type in
+      let signatures : Some w.signature ≡ Some σ = sym w.is_callee.signature ∙ (ap (signature_of g.scope.facts) same.0 ∙ b.calling.found) in
+      let same_signature : w.signature ≡ σ = only_some signatures in
+      let counts : expected ≡ length ins = w.is_expected ∙ (ap (λ (σ : Signature). length σ.inputs) same_signature ∙ sym (input_count g n called args id σ ts mid b.calling)) in
       let founds : found ≡ length args = w.is_found ∙ ap (λ l. length l) same_args in
       λ i. diagnostic.MismatchedArgCount (is i) (counts i) (founds i)
     where
@@ -262,6 +260,9 @@ module _ (g : Given) (s : Schedule) (n called : ExprId) (args : List ExprId) (f 
         exprs = b.state.of_body.exprs;
         pats = b.state.of_body.pats;
         bindings = b.state.of_body.bindings;
+        pat_diagnostics = b.state.of_body.pat_diagnostics;
+        expr_variants = b.state.of_body.expr_variants;
+        pat_variants = b.state.of_body.pat_variants;
         modes = b.state.of_body.modes;
         mismatches = b.state.of_body.mismatches;
         pat_mismatches = b.state.of_body.pat_mismatches;
@@ -277,6 +278,8 @@ module _ (g : Given) (s : Schedule) (n called : ExprId) (args : List ExprId) (f 
         pat_actual = b.state.carried.pat_actual;
       };
       modes = b.state.modes;
+      pat_diagnostics = b.state.pat_diagnostics;
+      variants = record { exprs = b.state.variants.exprs; pats = b.state.variants.pats };
       free_exprs = b.state.free_exprs;
       free_pats = b.state.free_pats;
       free_modes = b.state.free_modes;
@@ -351,16 +354,16 @@ module _ (g : Given) (s : Schedule) (n called : ExprId) (args : List ExprId) (f 
 
   -- ---- the call
 
-  pub call_done : (new : Found) → ArgsDone g s n args ins mid new → IsCarriedType (at_args ts (written_type g.scope.facts.types item.output)) → KindDone g s n None (at_args ts (written_type g.scope.facts.types item.output)) mid new
+  pub call_done : (new : Found) → ArgsDone g s n args ins mid new → IsCarriedType (at_args ts σ.output) → KindDone g s n None (at_args ts σ.output) mid new
   call_done new d carried = record {
-    walks = walks_paid g s Nothing (PaidBy g n None (at_args ts (written_type g.scope.facts.types item.output))) mid new (λ e m o. absurd o) d.walks;
+    walks = walks_paid g s Nothing (PaidBy g n None (at_args ts σ.output)) mid new (λ e m o. absurd o) d.walks;
     clock = d.clock;
     carried = carried;
     rule = λ r k has.
         rule_of g r n (expr.Call called args) b.calling.is_call (
-          own g n called args f item ts mid b.calling,
+          σ,
           ts,
-          callee_kept g new.result r k called (own g n called args f item ts mid b.calling) ts (calls g n called args f item ts mid b.calling new.result d.walks.extends),
+          callee_kept g new.result r k called σ ts (calls g n called args id σ ts mid b.calling new.result d.walks.extends),
           args_kept g new.result r k n args ins d.made,
           has,
         );

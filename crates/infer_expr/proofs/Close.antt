@@ -24,6 +24,8 @@ entered_within g s e x c h = record {
     of_body = h.state.of_body;
     carried = h.state.carried;
     modes = h.state.modes;
+    pat_diagnostics = h.state.pat_diagnostics;
+    variants = h.state.variants;
     diagnostics = h.state.diagnostics;
     free_exprs = λ n i k. h.state.free_exprs n i (omega arith);
     free_pats = λ p i k. h.state.free_pats p i (omega arith);
@@ -58,6 +60,9 @@ module _ (g : Given) (s : Schedule) (e : ExprId) (x : Option Ty) (t : Ty) (old l
     pats = λ p u i. i;
     bindings = λ v u i. i;
     modes = λ p m i. i;
+    pat_diagnostics = λ p d i. i;
+    expr_variants = λ n v i. i;
+    pat_variants = λ p v i. i;
     mismatches = λ n m i. i;
     pat_mismatches = λ p m i. i;
     diagnostics = λ n d i. i;
@@ -96,6 +101,9 @@ module _ (g : Given) (s : Schedule) (e : ExprId) (x : Option Ty) (t : Ty) (old l
       exprs = length-set last.result.type_of_expr e.0 (Some t) ∙ k.walks.state.of_body.exprs;
       pats = k.walks.state.of_body.pats;
       bindings = k.walks.state.of_body.bindings;
+      pat_diagnostics = k.walks.state.of_body.pat_diagnostics;
+      expr_variants = k.walks.state.of_body.expr_variants;
+      pat_variants = k.walks.state.of_body.pat_variants;
       modes = k.walks.state.of_body.modes;
       mismatches = k.walks.state.of_body.mismatches;
       pat_mismatches = k.walks.state.of_body.pat_mismatches;
@@ -103,6 +111,8 @@ module _ (g : Given) (s : Schedule) (e : ExprId) (x : Option Ty) (t : Ty) (old l
     };
     carried = carried;
     modes = k.walks.state.modes;
+    pat_diagnostics = k.walks.state.pat_diagnostics;
+    variants = record { exprs = k.walks.state.variants.exprs; pats = k.walks.state.variants.pats };
     diagnostics = λ n d i. diagnostic_kept g last.result new.result extends n d (k.walks.state.diagnostics n d i);
     free_exprs = λ n i lo.
         other_type n (omega (arith, k.walks.clock, h.here)) ∙ k.walks.state.free_exprs n i lo;

@@ -1,11 +1,12 @@
 -- Tables and contexts under closed types for holes, and what writes do to them.
-use Rattle.std.proofs.Common.{ℕ, zero, suc, ◌≡◌, inl, inr, refl, sym, ap, subst, ◌∙◌, List, [], ◌∷◌, map, length, Option, Some, None, option_map, slice_get, slice_set}
+use Rattle.std.proofs.Common.{ℕ, zero, suc, ◌≡◌, ◌⊎◌, inl, inr, Bool, true, false, refl, sym, ap, subst, ◌∙◌, List, [], ◌∷◌, ◌++◌, ◌+◌, take, map, length, Option, Some, None, option_map, slice_get, slice_set}
 use Rattle.std.proofs.lemmas.List.{length-set, length-map, map-set, map-append}
 use Rattle.std.proofs.lemmas.Option.{slice_get-map}
 use Rattle.hir_types.specs.declared.ids.BindingId.{BindingId}
 use Rattle.hir_types.specs.declared.ids.ExprId.{ExprId}
 use Rattle.hir_types.specs.declared.ids.PatId.{PatId}
 use Rattle.hir_types.specs.declared.head.Hole.{Hole}
+use Rattle.hir_types.proofs.Equal.{ty_decides}
 use Rattle.hir_types.specs.declared.ty.Ty.{Ty}
 use Rattle.hir_types.specs.Subst.{Assignment, folded}
 use Rattle.hir_types.specs.Terms.{Term, terms_of}
@@ -22,13 +23,12 @@ use Rattle.infer_table.specs.LogLemmas.{solves_left}
 use Rattle.infer_table.specs.Solutions.{Log, Solves, entry, log_of}
 use Rattle.infer_table.specs.Table.{State, Grew, Meets, bindings}
 use Rattle.infer_expr.specs.declared.context.InferenceContext.{InferenceContext}
-use Rattle.infer_expr.specs.Closings.{Closes, closed_mismatch, closed_table, found_under, IsSound}
+use Rattle.infer_expr.specs.Closings.{Closes, closed_mismatch, closed_mismatches, closed_table, same_types, unless_same, asked_or_noted, entry_of, first_asked, others_asked, found_under, IsSound}
 use Rattle.infer_expr.specs.Context as context
 use Rattle.infer_expr.specs.Fine.{IsFine}
 use Rattle.infer_expr.specs.Found as found
-use Rattle.infer_expr.specs.Found.{Found}
 use Rattle.infer_expr.specs.Walks.{IsFree}
-use Rattle.infer_expr.proofs.Lists.{length-noted, noted-cases}
+use Rattle.infer_expr.proofs.Lists.{length-noted, noted-cases, take_next}
 
 -- ---- lists of what is recorded, each under a function
 
@@ -72,28 +72,165 @@ module _ (f : TypeMismatch → TypeMismatch) where
   noted-closed xs n m =
       noted-closed_where xs n m (slice_get xs n) ∙ ap (λ o. found.noted_where o (map (option_map f) xs) n (f m)) (sym (slice_get-map (option_map f) xs n))
 
+-- ---- mismatches, asked or noted
+
+noted_where-cons : {A : Type 0} (x : Option A) (xs : List (Option A)) (n : ℕ) (m : A) (o : Option (Option A)) → found.noted_where o (x ∷ xs) (suc n) m ≡ x ∷ found.noted_where o xs n m
+noted_where-cons x xs n m None = refl
+noted_where-cons x xs n m (Some None) = refl
+noted_where-cons x xs n m (Some (Some y)) = refl
+
+noted-cons : {A : Type 0} (x : Option A) (xs : List (Option A)) (n : ℕ) (m : A) → found.noted (x ∷ xs) (suc n) m ≡ x ∷ found.noted xs n m
+noted-cons x xs n m = noted_where-cons x xs n m (slice_get xs n)
+
+module _ (a : Assignment) where
+  abbrev closing : TypeMismatch → TypeMismatch
+  closing = closed_mismatch a
+
+  abbrev closed : List (Option TypeMismatch) → List (Option TypeMismatch) → List (Option TypeMismatch)
+  closed = closed_mismatches a
+
+  abbrev are_same : TypeMismatch → Bool
+  are_same m = same_types (folded a m.expected) (folded a m.actual)
+
+  pub length-closed_mismatches : (qs xs : List (Option TypeMismatch)) → length (closed qs xs) ≡ length xs
+  length-closed_mismatches qs [] = refl
+  length-closed_mismatches qs (x ∷ xs) = ap suc (length-closed_mismatches (others_asked qs) xs)
+
+  -- the first that is noted stays, also where something was asked
+  abbrev first_of : Option TypeMismatch → TypeMismatch → Option TypeMismatch
+  first_of None m = Some m
+  first_of (Some y) m = Some y
+
+  noted_zero : (x : Option TypeMismatch) (xs : List (Option TypeMismatch)) (m : TypeMismatch) → found.noted (x ∷ xs) zero m ≡ first_of x m ∷ xs
+  noted_zero None xs m = refl
+  noted_zero (Some y) xs m = refl
+
+  noted_first : (q x : Option TypeMismatch) (m : TypeMismatch) (rest : List (Option TypeMismatch)) → asked_or_noted a q (first_of x m) ∷ rest ≡ found.noted (asked_or_noted a q x ∷ rest) zero (closing m)
+  noted_first None None m rest = refl
+  noted_first None (Some y) m rest = refl
+  noted_first (Some k) None m rest = by_same (are_same k)
+    where
+      by_same : (b : Bool) → unless_same a b k (Some m) ∷ rest ≡ found.noted (unless_same a b k None ∷ rest) zero (closing m)
+      by_same true = refl
+      by_same false = refl
+  noted_first (Some k) (Some y) m rest = by_same (are_same k)
+    where
+      by_same : (b : Bool) → unless_same a b k (Some y) ∷ rest ≡ found.noted (unless_same a b k (Some y) ∷ rest) zero (closing m)
+      by_same true = refl
+      by_same false = refl
+
+  -- what is noted, beside what was asked
+  pub noted-beside : (qs xs : List (Option TypeMismatch)) (n : ℕ) (m : TypeMismatch) → closed qs (found.noted xs n m) ≡ found.noted (closed qs xs) n (closing m)
+  noted-beside qs [] n m = refl
+  noted-beside qs (x ∷ xs) zero m = ap (closed qs) (noted_zero x xs m) ∙ noted_first (first_asked qs) x m (closed (others_asked qs) xs)
+  noted-beside qs (x ∷ xs) (suc n) m =
+      ap (closed qs) (noted-cons x xs n m)
+      ∙ (ap (λ l. asked_or_noted a (first_asked qs) x ∷ l) (noted-beside (others_asked qs) xs n m)
+      ∙ sym (noted-cons (asked_or_noted a (first_asked qs) x) (closed (others_asked qs) xs) n (closing m)))
+
+  -- what is asked of an expression is no mismatch where its types are the same
+  pub asked-same : (qs xs : List (Option TypeMismatch)) (n : ℕ) (m : TypeMismatch) → IsFree qs n → are_same m ≡ true → closed (found.noted qs n m) xs ≡ closed qs xs
+  asked-same [] xs n m free same = absurd (cc)
+  asked-same (q ∷ qs) [] n m free same = refl
+  asked-same (None ∷ qs) (x ∷ xs) zero m free same = ap (λ b. unless_same a b m x ∷ closed qs xs) same
+  asked-same (Some k ∷ qs) (x ∷ xs) zero m free same = absurd (cc)
+  asked-same (q ∷ qs) (x ∷ xs) (suc n) m free same =
+      ap (λ l. closed l (x ∷ xs)) (noted-cons q qs n m) ∙ ap (λ l. asked_or_noted a q x ∷ l) (asked-same qs xs n m free same)
+
+  -- and one where they differ
+  pub asked-apart : (qs xs : List (Option TypeMismatch)) (n : ℕ) (m : TypeMismatch) → IsFree qs n → IsFree xs n → are_same m ≡ false → closed (found.noted qs n m) xs ≡ found.noted (closed qs xs) n (closing m)
+  asked-apart [] xs n m free clear apart = absurd (cc)
+  asked-apart (q ∷ qs) [] n m free clear apart = absurd (cc)
+  asked-apart (None ∷ qs) (None ∷ xs) zero m free clear apart = ap (λ b. unless_same a b m None ∷ closed qs xs) apart
+  asked-apart (None ∷ qs) (Some y ∷ xs) zero m free clear apart = absurd (cc)
+  asked-apart (Some k ∷ qs) (x ∷ xs) zero m free clear apart = absurd (cc)
+  asked-apart (q ∷ qs) (x ∷ xs) (suc n) m free clear apart =
+      ap (λ l. closed l (x ∷ xs)) (noted-cons q qs n m)
+      ∙ (ap (λ l. asked_or_noted a q x ∷ l) (asked-apart qs xs n m free clear apart)
+      ∙ sym (noted-cons (asked_or_noted a q x) (closed qs xs) n (closing m)))
+
+  -- what is noted at an expression of which nothing was asked
+  pub At-unasked : (qs xs : List (Option TypeMismatch)) (n : ℕ) (m : TypeMismatch) → IsFree qs n → At xs n m → At (closed qs xs) n (closing m)
+  At-unasked [] xs n m free h = absurd (cc)
+  At-unasked (q ∷ qs) [] n m free h = absurd (cc)
+  At-unasked (None ∷ qs) (x ∷ xs) zero m free h = At-closed closing (x ∷ []) zero m h
+  At-unasked (Some k ∷ qs) (x ∷ xs) zero m free h = absurd (cc)
+  At-unasked (q ∷ qs) (x ∷ xs) (suc n) m free h = At-unasked qs xs n m free h
+
+  -- what stands at a place of the two lists
+  pub closed_at : (qs xs : List (Option TypeMismatch)) (i : ℕ) (x : Option TypeMismatch) → slice_get xs i ≡ Some x → slice_get (closed qs xs) i ≡ Some (asked_or_noted a (entry_of (slice_get qs i)) x)
+  closed_at qs [] i x h = absurd (cc)
+  closed_at [] (y ∷ xs) zero x h = (let e : y ≡ x = cc in ap (λ z. Some (asked_or_noted a None z)) e)
+  closed_at (q ∷ qs) (y ∷ xs) zero x h = (let e : y ≡ x = cc in ap (λ z. Some (asked_or_noted a q z)) e)
+  closed_at [] (y ∷ xs) (suc i) x h = closed_at [] xs i x h
+  closed_at (q ∷ qs) (y ∷ xs) (suc i) x h = closed_at qs xs i x h
+
+  -- entry by entry
+  pub closed_next : (qs xs : List (Option TypeMismatch)) (i : ℕ) (x made : Option TypeMismatch) (rs : List (Option TypeMismatch)) → rs ≡ take i (closed qs xs) → slice_get xs i ≡ Some x → made ≡ asked_or_noted a (entry_of (slice_get qs i)) x → rs ++ made ∷ [] ≡ take (i + 1) (closed qs xs)
+  closed_next qs xs i x made rs before at is =
+      let here : Option TypeMismatch = asked_or_noted a (entry_of (slice_get qs i)) x in
+      ap (λ l. l ++ made ∷ []) before
+      ∙ (ap (λ y. take i (closed qs xs) ++ y ∷ []) is
+      ∙ sym (take_next (closed qs xs) i here (closed_at qs xs i x at)))
+
+  pub asked_alike : (m : TypeMismatch) (x : Option TypeMismatch) → folded a m.expected ≡ folded a m.actual → asked_or_noted a (Some m) x ≡ option_map closing x
+  asked_alike m x same = ap (λ b. unless_same a b m x) ((ty_decides (folded a m.expected) (folded a m.actual)).1 same)
+
+  pub asked_unlike : (m : TypeMismatch) (x : Option TypeMismatch) → (folded a m.expected ≡ folded a m.actual → ⊥) → asked_or_noted a (Some m) x ≡ Some (closing m)
+  asked_unlike m x apart = by_same (are_same m) refl
+    where
+      by_same : (b : Bool) → are_same m ≡ b → asked_or_noted a (Some m) x ≡ Some (closing m)
+      by_same true e = absurd (apart ((ty_decides (folded a m.expected) (folded a m.actual)).0 e))
+      by_same false e = ap (λ b. unless_same a b m x) e
+
+  -- what stands in the end was asked or noted
+  abbrev Stems : List (Option TypeMismatch) → List (Option TypeMismatch) → ℕ → TypeMismatch → Type 0
+  Stems qs xs n y = (m : TypeMismatch) × (At qs n m ⊎ At xs n m) × (closing m ≡ y)
+
+  noted_stems : (x : Option TypeMismatch) (y : TypeMismatch) → option_map closing x ≡ Some y → (m : TypeMismatch) × (x ≡ Some m) × (closing m ≡ y)
+  noted_stems None y h = absurd (cc)
+  noted_stems (Some m) y h = (m, refl, cc)
+
+  pub At-stems : (qs xs : List (Option TypeMismatch)) (n : ℕ) (y : TypeMismatch) → At (closed qs xs) n y → Stems qs xs n y
+  At-stems qs [] n y h = absurd (cc)
+  At-stems [] (x ∷ xs) zero y h = (let e : option_map closing x ≡ Some y = cc in let q = noted_stems x y e in (q.0, inr (ap (λ o. Some o) q.1), q.2))
+  At-stems (None ∷ qs) (x ∷ xs) zero y h = (let e : option_map closing x ≡ Some y = cc in let q = noted_stems x y e in (q.0, inr (ap (λ o. Some o) q.1), q.2))
+  At-stems (Some k ∷ qs) (x ∷ xs) zero y h = by_same (are_same k) h
+    where
+      by_same : (b : Bool) → Some (unless_same a b k x) ≡ Some (Some y) → Stems (Some k ∷ qs) (x ∷ xs) zero y
+      by_same true g = (let e : option_map closing x ≡ Some y = cc in let q = noted_stems x y e in (q.0, inr (ap (λ o. Some o) q.1), q.2))
+      by_same false g = (let e : closing k ≡ y = cc in (k, inl refl, e))
+  At-stems [] (x ∷ xs) (suc n) y h = (let q = At-stems [] xs n y h in (q.0, elim q.1 [ inl z ↦ absurd (cc) | inr z ↦ inr z ], q.2))
+  At-stems (q ∷ qs) (x ∷ xs) (suc n) y h = At-stems qs xs n y h
+
 -- ---- tables of a body
 
-pub of_body_closed : (a : Assignment) (b : RawBody) (r : InferenceResult) → IsOfBody b r → IsOfBody b (closed_table a r)
-of_body_closed a b r h = record {
+pub of_body_closed : (a : Assignment) (b : RawBody) (asked : List (Option TypeMismatch)) (r : InferenceResult) → IsOfBody b r → IsOfBody b (closed_table a asked r)
+of_body_closed a b asked r h = record {
   exprs = length-closed (folded a) r.type_of_expr ∙ h.exprs;
   pats = length-closed (folded a) r.type_of_pat ∙ h.pats;
   bindings = length-closed (folded a) r.type_of_binding ∙ h.bindings;
   modes = h.modes;
-  mismatches = length-closed (closed_mismatch a) r.expr_mismatches ∙ h.mismatches;
+  mismatches = length-closed_mismatches a asked r.expr_mismatches ∙ h.mismatches;
   pat_mismatches = length-closed (closed_mismatch a) r.pat_mismatches ∙ h.pat_mismatches;
   diagnostics = h.diagnostics;
+  pat_diagnostics = h.pat_diagnostics;
+  expr_variants = h.expr_variants;
+  pat_variants = h.pat_variants;
 }
 
-pub of_body_unclosed : (a : Assignment) (b : RawBody) (r : InferenceResult) → IsOfBody b (closed_table a r) → IsOfBody b r
-of_body_unclosed a b r h = record {
+pub of_body_unclosed : (a : Assignment) (b : RawBody) (asked : List (Option TypeMismatch)) (r : InferenceResult) → IsOfBody b (closed_table a asked r) → IsOfBody b r
+of_body_unclosed a b asked r h = record {
   exprs = sym (length-closed (folded a) r.type_of_expr) ∙ h.exprs;
   pats = sym (length-closed (folded a) r.type_of_pat) ∙ h.pats;
   bindings = sym (length-closed (folded a) r.type_of_binding) ∙ h.bindings;
   modes = h.modes;
-  mismatches = sym (length-closed (closed_mismatch a) r.expr_mismatches) ∙ h.mismatches;
+  mismatches = sym (length-closed_mismatches a asked r.expr_mismatches) ∙ h.mismatches;
   pat_mismatches = sym (length-closed (closed_mismatch a) r.pat_mismatches) ∙ h.pat_mismatches;
   diagnostics = h.diagnostics;
+  pat_diagnostics = h.pat_diagnostics;
+  expr_variants = h.expr_variants;
+  pat_variants = h.pat_variants;
 }
 
 -- a write leaves the lists as long as they are
@@ -107,6 +244,9 @@ module _ (b : RawBody) (c : InferenceContext) (h : IsOfBody b c.result) where
     mismatches = h.mismatches;
     pat_mismatches = h.pat_mismatches;
     diagnostics = h.diagnostics;
+    pat_diagnostics = h.pat_diagnostics;
+    expr_variants = h.expr_variants;
+    pat_variants = h.pat_variants;
   }
 
   pub of_body_mismatch : (e : ExprId) (m : TypeMismatch) → IsOfBody b (context.with_mismatch c e m).result
@@ -118,6 +258,9 @@ module _ (b : RawBody) (c : InferenceContext) (h : IsOfBody b c.result) where
     mismatches = length-noted c.result.expr_mismatches e.0 m ∙ h.mismatches;
     pat_mismatches = h.pat_mismatches;
     diagnostics = h.diagnostics;
+    pat_diagnostics = h.pat_diagnostics;
+    expr_variants = h.expr_variants;
+    pat_variants = h.pat_variants;
   }
 
   pub of_body_diagnostic : (e : ExprId) (d : InferenceDiagnostic) → IsOfBody b (context.with_diagnostic c e d).result
@@ -129,6 +272,23 @@ module _ (b : RawBody) (c : InferenceContext) (h : IsOfBody b c.result) where
     mismatches = h.mismatches;
     pat_mismatches = h.pat_mismatches;
     diagnostics = length-noted c.result.expr_diagnostics e.0 d ∙ h.diagnostics;
+    pat_diagnostics = h.pat_diagnostics;
+    expr_variants = h.expr_variants;
+    pat_variants = h.pat_variants;
+  }
+
+  pub of_body_pat_diagnostic : (p : PatId) (d : InferenceDiagnostic) → IsOfBody b (context.with_pat_diagnostic c p d).result
+  of_body_pat_diagnostic p d = record {
+    exprs = h.exprs;
+    pats = h.pats;
+    bindings = h.bindings;
+    modes = h.modes;
+    mismatches = h.mismatches;
+    pat_mismatches = h.pat_mismatches;
+    diagnostics = h.diagnostics;
+    pat_diagnostics = length-noted c.result.pat_diagnostics p.0 d ∙ h.pat_diagnostics;
+    expr_variants = h.expr_variants;
+    pat_variants = h.pat_variants;
   }
 
   pub of_body_pat_mismatch : (p : PatId) (m : TypeMismatch) → IsOfBody b (context.with_pat_mismatch c p m).result
@@ -140,6 +300,9 @@ module _ (b : RawBody) (c : InferenceContext) (h : IsOfBody b c.result) where
     mismatches = h.mismatches;
     pat_mismatches = length-noted c.result.pat_mismatches p.0 m ∙ h.pat_mismatches;
     diagnostics = h.diagnostics;
+    pat_diagnostics = h.pat_diagnostics;
+    expr_variants = h.expr_variants;
+    pat_variants = h.pat_variants;
   }
 
   pub of_body_pat_ty : (p : PatId) (t : Ty) → IsOfBody b (context.with_pat_ty c p t).result
@@ -151,6 +314,9 @@ module _ (b : RawBody) (c : InferenceContext) (h : IsOfBody b c.result) where
     mismatches = h.mismatches;
     pat_mismatches = h.pat_mismatches;
     diagnostics = h.diagnostics;
+    pat_diagnostics = h.pat_diagnostics;
+    expr_variants = h.expr_variants;
+    pat_variants = h.pat_variants;
   }
 
   pub of_body_mode : (p : PatId) (m : BindingMode) → IsOfBody b (context.with_mode c p m).result
@@ -162,6 +328,9 @@ module _ (b : RawBody) (c : InferenceContext) (h : IsOfBody b c.result) where
     mismatches = h.mismatches;
     pat_mismatches = h.pat_mismatches;
     diagnostics = h.diagnostics;
+    pat_diagnostics = h.pat_diagnostics;
+    expr_variants = h.expr_variants;
+    pat_variants = h.pat_variants;
   }
 
   pub of_body_binding_ty : (v : BindingId) (t : Ty) → IsOfBody b (context.with_binding_ty c v t).result
@@ -173,6 +342,9 @@ module _ (b : RawBody) (c : InferenceContext) (h : IsOfBody b c.result) where
     mismatches = h.mismatches;
     pat_mismatches = h.pat_mismatches;
     diagnostics = h.diagnostics;
+    pat_diagnostics = h.pat_diagnostics;
+    expr_variants = h.expr_variants;
+    pat_variants = h.pat_variants;
   }
 
 pub of_body_bound_by : (b : RawBody) (c : InferenceContext) (p : PatId) (v : BindingId) (t : Ty) → IsOfBody b c.result → IsOfBody b (context.bound_by c p v t).result
@@ -188,27 +360,31 @@ module _ (a : Assignment) (c : InferenceContext) where
   entered_under = refl
 
   pub expr_ty_under : (e : ExprId) (t : Ty) → found_under a (context.with_expr_ty c e t) ≡ found.with_expr_ty (found_under a c) e (folded a t)
-  expr_ty_under e t = ap (λ xs. record { result = record (closed_table a c.result) { type_of_expr = xs }; clock = c.clock }) (set-closed (folded a) c.result.type_of_expr e.0 t)
+  expr_ty_under e t = ap (λ xs. record { result = record (closed_table a c.asked c.result) { type_of_expr = xs }; clock = c.clock }) (set-closed (folded a) c.result.type_of_expr e.0 t)
 
   pub mismatch_under : (e : ExprId) (m : TypeMismatch) → found_under a (context.with_mismatch c e m) ≡ found.with_mismatch (found_under a c) e (closed_mismatch a m)
-  mismatch_under e m = ap (λ xs. record { result = record (closed_table a c.result) { expr_mismatches = xs }; clock = c.clock }) (noted-closed (closed_mismatch a) c.result.expr_mismatches e.0 m)
+  mismatch_under e m = ap (λ xs. record { result = record (closed_table a c.asked c.result) { expr_mismatches = xs }; clock = c.clock }) (noted-beside a c.asked c.result.expr_mismatches e.0 m)
 
   pub pat_mismatch_under : (p : PatId) (m : TypeMismatch) → found_under a (context.with_pat_mismatch c p m) ≡ found.with_pat_mismatch (found_under a c) p (closed_mismatch a m)
-  pat_mismatch_under p m = ap (λ xs. record { result = record (closed_table a c.result) { pat_mismatches = xs }; clock = c.clock }) (noted-closed (closed_mismatch a) c.result.pat_mismatches p.0 m)
+  pat_mismatch_under p m = ap (λ xs. record { result = record (closed_table a c.asked c.result) { pat_mismatches = xs }; clock = c.clock }) (noted-closed (closed_mismatch a) c.result.pat_mismatches p.0 m)
 
   pub pat_ty_under : (p : PatId) (t : Ty) → found_under a (context.with_pat_ty c p t) ≡ found.with_pat_ty (found_under a c) p (folded a t)
-  pat_ty_under p t = ap (λ xs. record { result = record (closed_table a c.result) { type_of_pat = xs }; clock = c.clock }) (set-closed (folded a) c.result.type_of_pat p.0 t)
+  pat_ty_under p t = ap (λ xs. record { result = record (closed_table a c.asked c.result) { type_of_pat = xs }; clock = c.clock }) (set-closed (folded a) c.result.type_of_pat p.0 t)
 
   pub mode_under : (p : PatId) (m : BindingMode) → found_under a (context.with_mode c p m) ≡ found.with_mode (found_under a c) p m
   mode_under p m = refl
 
   pub binding_ty_under : (v : BindingId) (t : Ty) → found_under a (context.with_binding_ty c v t) ≡ found.with_binding_ty (found_under a c) v (folded a t)
-  binding_ty_under v t = ap (λ xs. record { result = record (closed_table a c.result) { type_of_binding = xs }; clock = c.clock }) (set-closed (folded a) c.result.type_of_binding v.0 t)
+  binding_ty_under v t = ap (λ xs. record { result = record (closed_table a c.asked c.result) { type_of_binding = xs }; clock = c.clock }) (set-closed (folded a) c.result.type_of_binding v.0 t)
 
 pub bound_by_under : (a : Assignment) (c : InferenceContext) (p : PatId) (v : BindingId) (t : Ty) → found_under a (context.bound_by c p v t) ≡ found.bound_by (found_under a c) p v (folded a t)
 bound_by_under a c p v t =
     let d = context.with_mode c p mode.Move in
     binding_ty_under a (context.with_pat_ty d p t) v t ∙ ap (λ x. found.with_binding_ty x v (folded a t)) (pat_ty_under a d p t)
+
+-- what is found is the same where nothing is recorded
+pub same_found : (a : Assignment) (c d : InferenceContext) → d.result ≡ c.result → d.asked ≡ c.asked → d.clock ≡ c.clock → found_under a d ≡ found_under a c
+same_found a c d h j k = λ i. record { result = closed_table a (j i) (h i); clock = k i }
 
 -- ---- assignments that close a context
 
@@ -247,6 +423,8 @@ noted_keeps P xs n x all h m y k = elim (noted-cases xs n m x y k) [ inl q ↦ a
 pub sound_with : {sc : Scope} (c : InferenceContext) (r : InferenceResult) (n : ℕ) → IsSound sc c → AllTypes (IsFine sc c.table) r → IsSound sc (record c { result = r; clock = n })
 sound_with {sc} c r n s h = record {
   fine = h;
+  asked = s.asked;
+  pairs = s.pairs;
   bound = s.bound;
   some = (s.some.0, closes_same s.some.0 c (record c { result = r; clock = n }) refl s.some.1);
 }
@@ -279,6 +457,17 @@ module _ {sc : Scope} (c : InferenceContext) (s : IsSound sc c) where
 
   pub sound_diagnostic : (e : ExprId) (d : InferenceDiagnostic) → IsSound sc (context.with_diagnostic c e d)
   sound_diagnostic e d = sound_with c (context.with_diagnostic c e d).result c.clock s (record {
+    exprs = s.fine.exprs;
+    pats = s.fine.pats;
+    bindings = s.fine.bindings;
+    expected = s.fine.expected;
+    actual = s.fine.actual;
+    pat_expected = s.fine.pat_expected;
+    pat_actual = s.fine.pat_actual;
+  })
+
+  pub sound_pat_diagnostic : (p : PatId) (d : InferenceDiagnostic) → IsSound sc (context.with_pat_diagnostic c p d)
+  sound_pat_diagnostic p d = sound_with c (context.with_pat_diagnostic c p d).result c.clock s (record {
     exprs = s.fine.exprs;
     pats = s.fine.pats;
     bindings = s.fine.bindings;

@@ -1,31 +1,40 @@
 -- The body of a definition of lawful facts, and its return type.
-use Rattle.std.proofs.Common.{◌<◌, ◌≡◌, refl, sym, ap, subst, ◌∙◌, List, length, Option, Some, None, slice_get}
+use Rattle.std.proofs.Common.{ℕ, ◌<◌, ◌≡◌, inl, inr, refl, sym, ap, subst, ◌∙◌, List, length, Option, Some, None, slice_get}
 use Rattle.std.specs.Prelude.{IfSome}
 use Rattle.std.specs.Option.{option_and_then}
 use Rattle.hir_types.specs.declared.ids.BodyId.{BodyId}
 use Rattle.hir_types.specs.declared.ids.FunctionId.{FunctionId}
+use Rattle.hir_types.specs.declared.ids.PatId.{PatId}
+use Rattle.hir_types.specs.declared.ids.VariantId.{VariantId}
 use Rattle.hir_types.specs.declared.ids.TypeRefId.{TypeRefId}
 use Rattle.hir_types.specs.declared.ids.DefWithBodyId.{DefWithBodyId}
 use Rattle.hir_types.specs.declared.ids.DefWithBodyId.TheVariants as def
 use Rattle.hir_types.specs.declared.ty.Ty.{Ty}
 use Rattle.hir_facts.specs.declared.raw.RawFn.{RawFn}
+use Rattle.hir_facts.specs.declared.raw.RawVariant.{RawVariant}
+use Rattle.hir_facts.specs.declared.raw.RawPath.TheVariants as path
+use Rattle.hir_facts.specs.declared.raw.RawPat.TheVariants as pat
 use Rattle.hir_facts.specs.declared.raw.RawBody.{RawBody}
 use Rattle.hir_facts.specs.declared.raw.RawFacts.{RawFacts}
 use Rattle.hir_facts.specs.declared.schedule.Schedule.{Schedule}
 use Rattle.hir_facts.specs.Bodies.{body_id_of, body_of, inputs_of, return_type, IsWalkable}
 use Rattle.hir_facts.specs.Scope.{params_of, scope_of}
-use Rattle.hir_facts.specs.WrittenFits.{lets_fit, definition_inputs_fit, inputs_fit, output_fits}
-use Rattle.hir_facts.specs.Laws.Ids.{IsModuleFn}
+use Rattle.hir_facts.specs.Items.{calls_tuples}
+use Rattle.hir_facts.specs.WrittenFits.{lets_fit, definition_inputs_fit}
+use Rattle.hir_facts.specs.Laws.Ids.{BodyIdsExist}
 use Rattle.hir_facts.specs.LawfulFacts.{fn_ids, body_ids}
 use Rattle.hir_facts.specs.Walkable.{inputs_count}
 use Rattle.hir_facts.specs.Laws.Lawful.{IsLawful}
 use Rattle.infer_result.specs.declared.result.InferenceResult.{InferenceResult}
+use Rattle.infer_result.specs.Closed.{IsVariantPat}
 use Rattle.infer_result.specs.Places.{Given}
 use Rattle.infer_result.specs.Made.{IsMade}
 use Rattle.infer_result.specs.Derived.{typed_by_schedule}
 use Rattle.infer_result.specs.Fit.{TypesFit}
 use Rattle.infer_result.specs.Typed.{IsTableOf}
-use Rattle.infer_expr.specs.Under.{WrittenExist, IsFunction}
+use Rattle.infer_expr.specs.Under.{WrittenExist}
+use Rattle.infer_expr.proofs.Items.{named_function, named_variant, tuple_item}
+use Rattle.infer_expr.proofs.Lists.{found}
 use Rattle.infer_expr.proofs.Written.{is_written}
 
 body_of_fn : (raw : RawFacts) → IsLawful raw → (f : FunctionId) (i : BodyId) (o : Option RawFn) → slice_get raw.fns f.0 ≡ o → option_and_then (λ x. x.body) o ≡ Some i → i.0 < length raw.bodies
@@ -43,14 +52,13 @@ body_within raw (def.VariantId v) i law h = absurd (cc)
 found_body : (raw : RawFacts) (d : DefWithBodyId) (i : BodyId) (b : RawBody) → body_id_of raw d ≡ Some i → slice_get raw.bodies i.0 ≡ Some b → body_of raw d ≡ Some b
 found_body raw d i b id at = ap (λ o. option_and_then (λ k. slice_get raw.bodies k.0) o) id ∙ at
 
--- a function that a path names
-named_function : (raw : RawFacts) → IsLawful raw → (f : FunctionId) → IsModuleFn raw f → IsFunction raw f
-named_function raw law f (x, found, stands) = record {
-  function = x;
-  found = found;
-  inputs = λ k w is. is_written raw law (length x.params) w (inputs_fit raw law f.0 x found k w is);
-  output = is_written raw law (length x.params) x.output (output_fits raw law f.0 x found);
-}
+-- a variant that is named is there
+variant_there : (raw : RawFacts) (v : VariantId) → v.0 < length raw.variants → (x : RawVariant) × (slice_get raw.variants v.0 ≡ Some x)
+variant_there raw v h = found raw.variants v.0 h
+
+pattern_variant : (raw : RawFacts) (i : ℕ) (b : RawBody) → BodyIdsExist raw i b → (p : PatId) (v : VariantId) → IsVariantPat b p v → v.0 < length raw.variants
+pattern_variant raw i b ids p v (inl is) = ids.pat_names p.0 (pat.Path (path.Ctor v)) is
+pattern_variant raw i b ids p v (inr is) = ids.pat_names p.0 (pat.TupleStruct v is.0) is.1
 
 module _ (raw : RawFacts) (d : DefWithBodyId) (i : BodyId) (b : RawBody) (inputs : List TypeRefId) (output : Ty) (law : IsLawful raw) (id : body_id_of raw d ≡ Some i) (at : slice_get raw.bodies i.0 ≡ Some b) (taken : inputs ≡ inputs_of raw d) where
   pub written_exist : WrittenExist (record { scope = scope_of raw d; body = b; inputs = inputs; output = output })
@@ -58,6 +66,9 @@ module _ (raw : RawFacts) (d : DefWithBodyId) (i : BodyId) (b : RawBody) (inputs
     lets = λ e k p w init other is. is_written raw law (params_of raw d) w (lets_fit raw law d b (found_body raw d i b id at) e k p w init other is);
     inputs = λ k w is. is_written raw law (params_of raw d) w (definition_inputs_fit raw law d k w (ap (λ ws. slice_get ws k) (sym taken) ∙ is));
     functions = λ e f is. named_function raw law f ((body_ids raw law i.0 b at).functions e f is);
+    constructors = λ e v is. (let x = variant_there raw v ((body_ids raw law i.0 b at).constructors e v is) in named_variant raw law v x.0 x.1);
+    patterns = λ p v is. (let x = variant_there raw v (pattern_variant raw i.0 b (body_ids raw law i.0 b at) p v is) in named_variant raw law v x.0 x.1);
+    callees = λ n called args v call is. (let x = calls_tuples raw law i.0 b at n.0 called args v call is in tuple_item raw law v x.0 x.1 x.2);
   }
 
   pub inputs_for_params : length inputs ≡ length b.params

@@ -1,23 +1,24 @@
 -- What is expected of an expression, what it has, and what is made of the two.
-use Rattle.std.proofs.Common.{Bool, ◌≡◌, refl, sym, ap, subst, arith, Option, Some, None, slice_get}
+use Rattle.std.proofs.Common.{◌≡◌, refl, sym, ap, subst, arith, Option, Some, None, slice_get}
 use Rattle.hir_types.specs.declared.ids.ExprId.{ExprId}
 use Rattle.hir_types.specs.declared.ty.Ty.{Ty}
-use Rattle.hir_types.specs.Subst.{Assignment, folded}
+use Rattle.hir_types.specs.Subst.{folded}
 use Rattle.hir_facts.specs.declared.raw.RawLiteral.{RawLiteral}
 use Rattle.hir_facts.specs.declared.raw.RawExpr.TheVariants as expr
 use Rattle.hir_facts.specs.declared.schedule.Schedule.{Schedule}
 use Rattle.infer_result.specs.Closed.{IsOfBody}
 use Rattle.infer_result.specs.Places.{Given}
+use Rattle.infer_expr.specs.declared.coerce.Coerced.{Coerced}
 use Rattle.infer_expr.specs.declared.context.InferenceContext.{InferenceContext}
 use Rattle.infer_expr.specs.Context as context
-use Rattle.infer_expr.specs.Closings.{Closes, closed_table, found_under, expected_under}
+use Rattle.infer_expr.specs.Closings.{Closes, found_under, expected_under}
 use Rattle.infer_expr.specs.Fine.{IsFine, IsFineExpectation}
-use Rattle.infer_expr.specs.Steps.{Follows, Before, Within, OwnDone, CoerceDone, KindDone, IsCoercedIf, LiteralDone}
+use Rattle.infer_expr.specs.Steps.{Follows, Before, Within, OwnDone, CoerceDone, KindDone, IsCoerced, LiteralDone}
 use Rattle.infer_expr.specs.Under as under
 use Rattle.infer_expr.proofs.Close.{entered_within, close}
 use Rattle.infer_expr.proofs.Coercions.{coerced_as, uncoerced}
 use Rattle.infer_expr.proofs.Leaves.{literal_done}
-use Rattle.infer_expr.proofs.Closed.{closes_same, closes_earlier, expr_ty_under, of_body_expr_ty, sound_entered, sound_expr_ty}
+use Rattle.infer_expr.proofs.Closed.{same_found, closes_same, closes_earlier, expr_ty_under, of_body_expr_ty, sound_entered, sound_expr_ty}
 use Rattle.infer_expr.proofs.FineTypes.{fine_grown}
 use Rattle.infer_expr.proofs.AtEach.{follows_twice, closes_before, before_under, within_under}
 
@@ -54,8 +55,8 @@ own_done g s e x t old mid h k = record {
       (close g s e (expected_under a x) (folded a t) (found_under a old) (found_under a mid) (before_under g s a old o e x h) (k.each a m));
 }
 
-pub coerced_done : (fits : Bool) (g : Given) (s : Schedule) (e : ExprId) (x : Option Ty) (t u v : Ty) (old mid new : InferenceContext) → Some u ≡ x → v ≡ u → Before g s e x old → OwnDone g s e x t old mid → IsCoercedIf fits g e t u mid new → CoerceDone g s e x v old new
-coerced_done fits g s e x t u v old mid new f i h d k =
+pub coerced_done : (answer : Coerced) (g : Given) (s : Schedule) (e : ExprId) (x : Option Ty) (t u v : Ty) (old mid new : InferenceContext) → Some u ≡ x → v ≡ u → Before g s e x old → OwnDone g s e x t old mid → IsCoerced answer g e t u mid new → CoerceDone g s e x v old new
+coerced_done answer g s e x t u v old mid new f i h d k =
     let all : Follows g old new = follows_twice g old mid new d.follows k.follows in
     record {
       follows = all;
@@ -65,8 +66,9 @@ coerced_done fits g s e x t u v old mid new f i h d k =
       each = λ a q.
           let m : Closes a mid = closes_before g a mid new k.follows q in
           let o : Closes a old = closes_before g a old mid d.follows m in
-          coerced_as g s fits e (expected_under a x) (folded a t) (folded a u) (folded a v) (found_under a old) (found_under a mid) (found_under a new)
-          (ap (expected_under a) f) (ap (folded a) i) (before_under g s a old o e x h) (d.each a m) (k.each a q);
+          let z = k.each a q in
+          coerced_as g s z.0 e (expected_under a x) (folded a t) (folded a u) (folded a v) (found_under a old) (found_under a mid) (found_under a new)
+          (ap (expected_under a) f) (ap (folded a) i) (before_under g s a old o e x h) (d.each a m) z.2;
     }
 
 pub uncoerced_done : (g : Given) (s : Schedule) (e : ExprId) (t : Ty) (old new : InferenceContext) → OwnDone g s e None t old new → CoerceDone g s e None t old new
@@ -77,9 +79,6 @@ uncoerced_done g s e t old new d = record {
 }
 
 -- ---- literals
-
-pub same_found : (a : Assignment) (c d : InferenceContext) → d.result ≡ c.result → d.clock ≡ c.clock → found_under a d ≡ found_under a c
-same_found a c d h k = λ i. record { result = closed_table a (h i); clock = k i }
 
 pub literal_kind : (g : Given) (s : Schedule) (e : ExprId) (x : Option Ty) (l : RawLiteral) (t : Ty) (c new : InferenceContext) → Within g s e x c → slice_get g.body.exprs e.0 ≡ Some (expr.Lit l) → LiteralDone g.scope l t c new → KindDone g s e x t c new
 literal_kind g s e x l t c new h is d = record {
@@ -92,6 +91,6 @@ literal_kind g s e x l t c new h is d = record {
   fine = d.fine;
   each = λ a q.
       let o : Closes a c = closes_earlier a c new d.grew q in
-      subst (λ f. under.KindDone g s e (expected_under a x) (folded a t) (found_under a c) f) (sym (same_found a c new d.result d.clock))
+      subst (λ f. under.KindDone g s e (expected_under a x) (folded a t) (found_under a c) f) (sym (same_found a c new d.result d.asked d.clock))
       (literal_done g s e (expected_under a x) l (folded a t) (found_under a c) (within_under g s a c o e x h) is (d.each a q.closing));
 }

@@ -20,14 +20,16 @@ use Rattle.hir_types.specs.Types.{integer_type, unit}
 use Rattle.hir_facts.specs.Scope.{Scope, adt_params, callable_params, has_params}
 use Rattle.hir_facts.specs.Signatures.{type_args}
 use Rattle.infer_result.specs.declared.result.InferenceResult.{InferenceResult}
+use Rattle.infer_result.specs.declared.result.TypeMismatch.{TypeMismatch}
 use Rattle.infer_result.specs.Closed.{AllTypes}
 use Rattle.infer_table.specs.BindingLaws.{get_last}
 use Rattle.infer_table.specs.LogLemmas.{are_of_hole, are_of_parts}
 use Rattle.infer_table.specs.Preserved.{whole, rest, width, IsMadeOf, NoAlias}
 use Rattle.infer_table.specs.Solutions.{AreOf}
+use Rattle.infer_table.specs.declared.waiting.WaitingPair.{WaitingPair}
 use Rattle.infer_table.specs.Table.{State, HolesAreOf, Grew, hole_count, with_new_hole}
 use Rattle.infer_expr.specs.Context.{component, element_type}
-use Rattle.infer_expr.specs.Fine.{is_fine_head, HasFineHeads, IsFine, IsFineExpectation}
+use Rattle.infer_expr.specs.Fine.{is_fine_head, HasFineHeads, IsFine, IsFineExpectation, AreFinePairs, IsFineAsked}
 use Rattle.infer_expr.proofs.MadeHoles.{AllHolesAreOf, holes_are_of_grown, node_holes_are_of}
 
 -- each type of the list has the property
@@ -217,6 +219,13 @@ module _ (sc : Scope) where
     pat_expected = λ n x i. fine_grown s t x.expected g (h.pat_expected n x i);
     pat_actual = λ n x i. fine_grown s t x.actual g (h.pat_actual n x i);
   }
+
+  pub fine_pairs_grown : (s t : State) (ps : List WaitingPair) → Grew s t → AreFinePairs sc s ps → AreFinePairs sc t ps
+  fine_pairs_grown s t [] g h = tt
+  fine_pairs_grown s t (p ∷ ps) g h = ((fine_grown s t p.source g h.0.0, fine_grown s t p.target g h.0.1), fine_pairs_grown s t ps g h.1)
+
+  pub fine_asked_grown : (s t : State) (xs : List (Option TypeMismatch)) → Grew s t → IsFineAsked sc s xs → IsFineAsked sc t xs
+  fine_asked_grown s t xs g h = λ n m i. (let q = h n m i in (fine_grown s t m.expected g q.0, fine_grown s t m.actual g q.1))
 
 -- ---- neither alias nor `{unknown}`
 

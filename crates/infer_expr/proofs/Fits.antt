@@ -1,5 +1,5 @@
 -- What is typed in a scope names in the end what there is.
-use Rattle.std.proofs.Common.{ℕ, ◌≡◌, length, sym, ap, ◌∙◌, Bool, true, ◌&&◌, List, [], ◌∷◌, map, refl}
+use Rattle.std.proofs.Common.{ℕ, ◌≡◌, inl, inr, length, sym, ap, ◌∙◌, Bool, true, ◌&&◌, List, [], ◌∷◌, map, refl}
 use Rattle.std.specs.List.{list_all}
 use Rattle.std.proofs.lemmas.List.{length-map}
 use Rattle.hir_types.specs.declared.head.Hole.TheVariants as hole_of
@@ -20,7 +20,7 @@ use Rattle.infer_table.specs.Table.{bindings}
 use Rattle.infer_expr.specs.declared.context.InferenceContext.{InferenceContext}
 use Rattle.infer_expr.specs.Closings.{closed_mismatch, closed_table, IsSound}
 use Rattle.infer_expr.specs.Fine.{HasFineHeads, IsFine}
-use Rattle.infer_expr.proofs.Closed.{At-unclosed}
+use Rattle.infer_expr.proofs.Closed.{At-unclosed, At-stems}
 use Rattle.infer_expr.proofs.FineTypes.{Every}
 use Rattle.infer_expr.proofs.OverTypes.{over_fine, adt_closed, fn_def_closed}
 use Rattle.infer_expr.proofs.Unified.{bound_heads}
@@ -83,7 +83,7 @@ module _ (sc : Scope) (c : InferenceContext) (s : IsSound sc c) where
   fits_of t u e h = ap (ty_fits sc) (sym e) ∙ completed_fits t h
 
   -- each type of the completed table fits
-  pub completed_table_fits : AllTypes (λ t. ty_fits sc t ≡ true) (closed_table (completion c.table) c.result)
+  pub completed_table_fits : AllTypes (λ t. ty_fits sc t ≡ true) (closed_table (completion c.table) c.asked c.result)
   completed_table_fits =
       let f : Ty → Ty = folded (completion c.table) in
       let m : TypeMismatch → TypeMismatch = closed_mismatch (completion c.table) in
@@ -91,8 +91,8 @@ module _ (sc : Scope) (c : InferenceContext) (s : IsSound sc c) where
         exprs = λ n t i. (let q = At-unclosed f c.result.type_of_expr n t i in fits_of q.0 t q.2 (s.fine.exprs n q.0 q.1));
         pats = λ n t i. (let q = At-unclosed f c.result.type_of_pat n t i in fits_of q.0 t q.2 (s.fine.pats n q.0 q.1));
         bindings = λ n t i. (let q = At-unclosed f c.result.type_of_binding n t i in fits_of q.0 t q.2 (s.fine.bindings n q.0 q.1));
-        expected = λ n x i. (let q = At-unclosed m c.result.expr_mismatches n x i in fits_of q.0.expected x.expected (ap (λ (y : TypeMismatch). y.expected) q.2) (s.fine.expected n q.0 q.1));
-        actual = λ n x i. (let q = At-unclosed m c.result.expr_mismatches n x i in fits_of q.0.actual x.actual (ap (λ (y : TypeMismatch). y.actual) q.2) (s.fine.actual n q.0 q.1));
+        expected = λ n x i. (let q = At-stems (completion c.table) c.asked c.result.expr_mismatches n x i in fits_of q.0.expected x.expected (ap (λ (y : TypeMismatch). y.expected) q.2) (elim q.1 [ inl z ↦ (s.asked n q.0 z).0 | inr z ↦ s.fine.expected n q.0 z ]));
+        actual = λ n x i. (let q = At-stems (completion c.table) c.asked c.result.expr_mismatches n x i in fits_of q.0.actual x.actual (ap (λ (y : TypeMismatch). y.actual) q.2) (elim q.1 [ inl z ↦ (s.asked n q.0 z).1 | inr z ↦ s.fine.actual n q.0 z ]));
         pat_expected = λ n x i. (let q = At-unclosed m c.result.pat_mismatches n x i in fits_of q.0.expected x.expected (ap (λ (y : TypeMismatch). y.expected) q.2) (s.fine.pat_expected n q.0 q.1));
         pat_actual = λ n x i. (let q = At-unclosed m c.result.pat_mismatches n x i in fits_of q.0.actual x.actual (ap (λ (y : TypeMismatch). y.actual) q.2) (s.fine.pat_actual n q.0 q.1));
       }

@@ -16,11 +16,12 @@ use Rattle.infer_table.specs.HoleLaws.{grew_by_hole}
 use Rattle.infer_table.specs.Resolution.{resolution}
 use Rattle.infer_table.specs.Table.{State, bindings, with_new_hole, hole_count, resolved_type}
 use Rattle.infer_table.specs.UndoLaws.{grew_itself}
+use Rattle.infer_table.specs.Waiting.{waiting}
 use Rattle.infer_expr.specs.declared.context.InferenceContext.{InferenceContext}
 use Rattle.hir_facts.specs.Scope.{Scope}
 use Rattle.infer_expr.specs.Closings.{IsSound}
 use Rattle.infer_expr.specs.Steps.{IsIntegerFor, IsExpectedInteger, IntDone, LiteralDone}
-use Rattle.infer_expr.proofs.FineTypes.{fine_bool, fine_char, fine_integer, fine_int_hole, table_fine_grown}
+use Rattle.infer_expr.proofs.FineTypes.{fine_bool, fine_char, fine_integer, fine_int_hole, table_fine_grown, fine_asked_grown, fine_pairs_grown}
 use Rattle.infer_expr.proofs.OverTypes.{carried_closed}
 use Rattle.infer_expr.proofs.Unified.{with_table}
 
@@ -31,6 +32,8 @@ holed c k = with_table c (with_new_hole c.table k)
 pub holed_sound : {sc : Scope} (c : InferenceContext) (k : HoleKind) → IsSound sc c → IsSound sc (holed c k)
 holed_sound c k s = record {
   fine = table_fine_grown _ c.table (with_new_hole c.table k) c.result (grew_by_hole c.table (with_new_hole c.table k) k refl) s.fine;
+  asked = fine_asked_grown _ c.table (with_new_hole c.table k) c.asked (grew_by_hole c.table (with_new_hole c.table k) k refl) s.asked;
+  pairs = fine_pairs_grown _ c.table (with_new_hole c.table k) (waiting c.table.pairs) (grew_by_hole c.table (with_new_hole c.table k) k refl) s.pairs;
   bound = s.bound;
   some = (s.some.0, record { closing = s.some.1.closing; meets = s.some.1.meets });
 }
@@ -57,6 +60,7 @@ known_integer : {sc : Scope} (c : InferenceContext) (i : IntegerTy) (x : Option 
 known_integer c i x s h = record {
   is = inl h;
   result = refl;
+  asked = refl;
   clock = refl;
   grew = grew_itself c.table;
   sound = s;
@@ -73,6 +77,7 @@ pub int_hole : {sc : Scope} (c : InferenceContext) (x : Option Ty) → IsSound s
 int_hole c x s = record {
   is = inr refl;
   result = refl;
+  asked = refl;
   clock = refl;
   grew = grew_by_hole c.table (with_new_hole c.table kind.Int) kind.Int refl;
   sound = holed_sound c kind.Int s;
@@ -88,6 +93,7 @@ module _ {sc : Scope} (c : InferenceContext) (s : IsSound sc c) where
   pub bool_literal : (b : _) → LiteralDone sc (literal.Bool b) ty.Bool c c
   bool_literal b = record {
     result = refl;
+    asked = refl;
     clock = refl;
     grew = grew_itself c.table;
     sound = s;
@@ -98,6 +104,7 @@ module _ {sc : Scope} (c : InferenceContext) (s : IsSound sc c) where
   pub char_literal : (n : ℕ) → LiteralDone sc (literal.Char n) ty.Char c c
   char_literal n = record {
     result = refl;
+    asked = refl;
     clock = refl;
     grew = grew_itself c.table;
     sound = s;
@@ -108,6 +115,7 @@ module _ {sc : Scope} (c : InferenceContext) (s : IsSound sc c) where
   pub suffixed_literal : (digits : _) (i : IntegerTy) → LiteralDone sc (literal.Int digits (Some i)) (integer_type i) c c
   suffixed_literal digits i = record {
     result = refl;
+    asked = refl;
     clock = refl;
     grew = grew_itself c.table;
     sound = s;
@@ -118,6 +126,7 @@ module _ {sc : Scope} (c : InferenceContext) (s : IsSound sc c) where
 pub unsuffixed_literal : {sc : Scope} (digits : _) (x : Option Ty) (t : Ty) (old new : InferenceContext) → IntDone sc x t old new → LiteralDone sc (literal.Int digits None) t old new
 unsuffixed_literal digits x t old new d = record {
   result = d.result;
+  asked = d.asked;
   clock = d.clock;
   grew = d.grew;
   sound = d.sound;

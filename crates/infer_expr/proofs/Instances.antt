@@ -6,20 +6,17 @@ use Rattle.std.proofs.lemmas.Bool.{ltb-true}
 use Rattle.std.proofs.lemmas.List.{length-map}
 use Rattle.hir_types.specs.declared.ty.Ty.{Ty, Ty-F, fold-roll-Ty}
 use Rattle.hir_types.specs.declared.ty.Ty.TheVariants as ty
-use Rattle.hir_types.specs.declared.ids.TypeRefId.{TypeRefId}
 use Rattle.hir_types.specs.Assigned.{with_params}
 use Rattle.hir_types.specs.Folding.{replaced_bool, replaced_char, replaced_int, replaced_uint, replaced_tuple, replaced_adt, replaced_fn_def}
 use Rattle.hir_types.specs.Instances.{instance_at_types, param_at, types_args_replaced}
 use Rattle.hir_types.specs.Subst.{Assignment, folded}
 use Rattle.hir_facts.specs.declared.raw.RawFacts.{RawFacts}
-use Rattle.hir_facts.specs.declared.raw.RawFn.{RawFn}
 use Rattle.hir_facts.specs.CarriedTypes.{carried_arg, carried_step, carried_bound, carried_trait, is_carried_type, is_carried_arg, IsCarriedType, AreCarriedTypes, carried_tuple, carried_adt, carried_fn_def, carried_type_arg}
 use Rattle.hir_facts.specs.Scope.{Scope, has_params, adt_params, callable_params}
 use Rattle.hir_facts.specs.Signatures.{type_args, at_args}
-use Rattle.hir_facts.specs.Types.{written_type}
 use Rattle.infer_table.specs.Table.{State}
-use Rattle.infer_expr.specs.Fine.{HasFineHeads, IsFine, IsWritten}
-use Rattle.infer_expr.specs.Under.{own_scope, inputs_at}
+use Rattle.infer_expr.specs.Fine.{HasFineHeads, IsFine, IsKnown}
+use Rattle.infer_expr.specs.Under.{own_scope}
 use Rattle.infer_expr.proofs.FineTypes.{Every, AllFine, every_at, fine_bool, fine_char, fine_integer, fine_tuple, fine_adt, fine_fn_def}
 use Rattle.infer_expr.proofs.OverTypes.{over_fine, carried_closed}
 use Rattle.infer_expr.proofs.Lists.{found}
@@ -84,27 +81,21 @@ module _ (sc : Scope) (state : State) (facts : RawFacts) (same : facts ≡ sc.fa
 
 -- ---- what a function takes and gives
 
--- what is written in a signature has no holes
-pub written_instance : (a : Assignment) (sc : Scope) (w : TypeRefId) (ts : List Ty) → IsWritten sc w → folded a (at_args ts (written_type sc.facts.types w)) ≡ at_args (map (folded a) ts) (written_type sc.facts.types w)
-written_instance a sc w ts h = instance_at_types a ts (written_type sc.facts.types w) (λ b. carried_closed b (written_type sc.facts.types w) h.carried)
+-- what is known in a signature has no holes
+pub known_instance : (a : Assignment) (sc : Scope) (t : Ty) (ts : List Ty) → IsKnown sc t → folded a (at_args ts t) ≡ at_args (map (folded a) ts) t
+known_instance a sc t ts h = instance_at_types a ts t (λ b. carried_closed b t h.carried)
 
-module _ (sc : Scope) (state : State) (x : RawFn) (ts : List Ty) (count : length ts ≡ length x.params) (fine : AllFine sc state ts) where
-  pub fine_instance : (w : TypeRefId) → IsWritten (own_scope sc.facts x) w → IsFine sc state (at_args ts (written_type sc.facts.types w))
-  fine_instance w h =
-      let own : HasFineHeads (record { facts = sc.facts; params = length ts }) (written_type sc.facts.types w) = subst (λ n. HasFineHeads (record { facts = sc.facts; params = n }) (written_type sc.facts.types w)) (sym count) h.heads in
-      fine_at_args sc state sc.facts refl ts fine (written_type sc.facts.types w) own h.carried
+module _ (sc : Scope) (state : State) (n : ℕ) (ts : List Ty) (count : length ts ≡ n) (fine : AllFine sc state ts) where
+  pub fine_instance : (t : Ty) → IsKnown (own_scope sc.facts n) t → IsFine sc state (at_args ts t)
+  fine_instance t h =
+      let own : HasFineHeads (record { facts = sc.facts; params = length ts }) t = subst (λ m. HasFineHeads (record { facts = sc.facts; params = m }) t) (sym count) h.heads in
+      fine_at_args sc state sc.facts refl ts fine t own h.carried
 
-  fine_written : (ws : List TypeRefId) → ((k : ℕ) (w : TypeRefId) → slice_get ws k ≡ Some w → IsWritten (own_scope sc.facts x) w) → AllFine sc state (map (at_args ts) (map (written_type sc.facts.types) ws))
-  fine_written [] h = tt
-  fine_written (w ∷ ws) h = (fine_instance w (h 0 w refl), fine_written ws (λ k v e. h (suc k) v e))
-
-  pub fine_inputs : ((k : ℕ) (w : TypeRefId) → slice_get x.inputs k ≡ Some w → IsWritten (own_scope sc.facts x) w) → AllFine sc state (inputs_at sc.facts.types x ts)
-  fine_inputs h = fine_written x.inputs h
-
-written_instances : (a : Assignment) (sc : Scope) (ts : List Ty) (ws : List TypeRefId) → ((k : ℕ) (w : TypeRefId) → slice_get ws k ≡ Some w → IsWritten sc w) → map (folded a) (map (at_args ts) (map (written_type sc.facts.types) ws)) ≡ map (at_args (map (folded a) ts)) (map (written_type sc.facts.types) ws)
-written_instances a sc ts [] h = refl
-written_instances a sc ts (w ∷ ws) h = λ i. written_instance a sc w ts (h 0 w refl) i ∷ written_instances a sc ts ws (λ k v e. h (suc k) v e) i
+  pub fine_instances : (us : List Ty) → ((k : ℕ) (t : Ty) → slice_get us k ≡ Some t → IsKnown (own_scope sc.facts n) t) → AllFine sc state (map (at_args ts) us)
+  fine_instances [] h = tt
+  fine_instances (u ∷ us) h = (fine_instance u (h 0 u refl), fine_instances us (λ k v e. h (suc k) v e))
 
 -- what is taken under an assignment is what is taken at what the types come to
-pub inputs_under : (a : Assignment) (facts : RawFacts) (x : RawFn) (ts : List Ty) → ((k : ℕ) (w : TypeRefId) → slice_get x.inputs k ≡ Some w → IsWritten (own_scope facts x) w) → map (folded a) (inputs_at facts.types x ts) ≡ inputs_at facts.types x (map (folded a) ts)
-inputs_under a facts x ts h = written_instances a (own_scope facts x) ts x.inputs h
+pub instances_under : (a : Assignment) (sc : Scope) (ts us : List Ty) → ((k : ℕ) (t : Ty) → slice_get us k ≡ Some t → IsKnown sc t) → map (folded a) (map (at_args ts) us) ≡ map (at_args (map (folded a) ts)) us
+instances_under a sc ts [] h = refl
+instances_under a sc ts (u ∷ us) h = λ i. known_instance a sc u ts (h 0 u refl) i ∷ instances_under a sc ts us (λ k v e. h (suc k) v e) i

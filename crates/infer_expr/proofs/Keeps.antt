@@ -24,14 +24,14 @@ use Rattle.infer_result.specs.declared.modes.BindingMode.TheVariants as mode
 use Rattle.infer_result.specs.Table.{HasMismatch, AnyMismatch, mismatch}
 use Rattle.infer_result.specs.declared.diagnostics.InferenceDiagnostic.{InferenceDiagnostic}
 use Rattle.infer_result.specs.declared.diagnostics.InferenceDiagnostic.TheVariants as diagnostic
-use Rattle.infer_result.specs.Places.{Given, IsCallee, IsInputAt, IsAt, IsAtOrMismatch, MisfitsAs, PatIsAtOrMismatch, GivesPart, Gives, Incoming, AsksOfAlternative, AsksOf, Asks, IsAsked, Demand}
+use Rattle.infer_result.specs.Places.{Given, fields_at, IsCallee, IsInputAt, IsAt, IsAtOrMismatch, MisfitsAs, PatIsAtOrMismatch, GivesPart, Gives, Incoming, AsksOfAlternative, AsksOf, Asks, IsAsked, Demand}
 use Rattle.infer_result.specs.Rules.Placing.{at_or_mismatch}
 use Rattle.infer_result.specs.Rules.Tuples.{AllAt}
 use Rattle.infer_result.specs.Rules.Calls.{ArgsRule}
 use Rattle.infer_result.specs.Rules.Blocks.{LetRule, StmtRule, StmtsRule, TailRule}
 use Rattle.infer_result.specs.Rules.Branches.{branches_of, ElseRule, arm_exprs, ArmPatterns, GuardRule, ArmsRule}
 use Rattle.infer_result.specs.Rules.Expressions.{Rule, ObeysOrMismatch}
-use Rattle.infer_result.specs.Rules.Patterns.{AllPatsAt, PatRule}
+use Rattle.infer_result.specs.Rules.Patterns.{AllPatsAt, PatsAtFields, PatRule}
 use Rattle.infer_result.specs.Truth.Mismatch.{IsTruePatMismatch}
 use Rattle.infer_result.specs.Truth.Calls.{IsTrueDiagnostic}
 use Rattle.infer_result.specs.Made.{IsMisfit}
@@ -43,6 +43,9 @@ extends_refl a = record {
   pats = λ p t h. h;
   bindings = λ v t h. h;
   modes = λ p m h. h;
+  pat_diagnostics = λ p d h. h;
+  expr_variants = λ n v h. h;
+  pat_variants = λ p v h. h;
   mismatches = λ e m h. h;
   pat_mismatches = λ p m h. h;
   diagnostics = λ e d h. h;
@@ -57,6 +60,9 @@ extends_trans a b c x y = record {
   mismatches = λ e m h. y.mismatches e m (x.mismatches e m h);
   pat_mismatches = λ p m h. y.pat_mismatches p m (x.pat_mismatches p m h);
   diagnostics = λ e d h. y.diagnostics e d (x.diagnostics e d h);
+  pat_diagnostics = λ p d h. y.pat_diagnostics p d (x.pat_diagnostics p d h);
+  expr_variants = λ e v h. y.expr_variants e v (x.expr_variants e v h);
+  pat_variants = λ p v h. y.pat_variants p v (x.pat_variants p v h);
 }
 
 module _ (g : Given) (a b : InferenceResult) (x : Extends a b) where
@@ -80,8 +86,8 @@ module _ (g : Given) (a b : InferenceResult) (x : Extends a b) where
   misfits_as_kept p (Some pat.Wild) h = h
   misfits_as_kept p (Some (pat.Bind v sub)) h = h
   misfits_as_kept p (Some (pat.Tuple ps)) (m, h) = (m, x.pat_mismatches p m h)
-  misfits_as_kept p (Some (pat.TupleStruct named ps)) h = h
-  misfits_as_kept p (Some (pat.Path named)) h = h
+  misfits_as_kept p (Some (pat.TupleStruct named ps)) (m, h) = (m, x.pat_mismatches p m h)
+  misfits_as_kept p (Some (pat.Path named)) (m, h) = (m, x.pat_mismatches p m h)
   misfits_as_kept p (Some (pat.Lit e)) h = mismatch_kept e h
   misfits_as_kept p (Some pat.Other) h = h
 
@@ -161,7 +167,7 @@ module _ (g : Given) (a b : InferenceResult) (x : Extends a b) where
   rule_kept n (Some (expr.Lit l)) (t, h, k) = (t, x.exprs n t h, k)
   rule_kept n (Some (expr.Path (path.Local v))) (t, h, k) = (t, x.exprs n t h, x.bindings v t k)
   rule_kept n (Some (expr.Path (path.Function f))) (ts, h, k) = (ts, x.exprs n _ h, k)
-  rule_kept n (Some (expr.Path (path.Ctor named))) h = h
+  rule_kept n (Some (expr.Path (path.Ctor v))) (t, h, k, r) = (t, x.exprs n t h, k, x.expr_variants n v r)
   rule_kept n (Some (expr.Path path.Other)) h = h
   rule_kept n (Some (expr.Tuple es)) (ts, h, k) = (ts, x.exprs n _ h, all_kept es ts k)
   rule_kept n (Some (expr.Block label stmts last)) (h, (t, k, l)) = (stmts_kept stmts h, (t, x.exprs n t k, tail_kept n last t l))
@@ -181,17 +187,34 @@ module _ (g : Given) (a b : InferenceResult) (x : Extends a b) where
   all_pats_kept (p ∷ ps) [] h = absurd h
   all_pats_kept (p ∷ ps) (t ∷ ts) h = (pat_at_kept p t h.0, all_pats_kept ps ts h.1)
 
+  pub fields_kept : (ps : List PatId) (ts : List Ty) → PatsAtFields g a ps ts → PatsAtFields g b ps ts
+  fields_kept [] ts h = tt
+  fields_kept (p ∷ ps) [] h = tt
+  fields_kept (p ∷ ps) (t ∷ ts) h = (pat_at_kept p t h.0, fields_kept ps ts h.1)
+
   pub pat_kept : (p : PatId) (o : Option RawPat) → PatRule g a p o → PatRule g b p o
   pat_kept p None h = h
   pat_kept p (Some pat.Wild) (t, h) = (t, x.pats p t h)
   pat_kept p (Some (pat.Bind v sub)) (t, h, k, m) = (t, x.pats p t h, x.bindings v t k, x.modes p mode.Move m)
   pat_kept p (Some (pat.Tuple ps)) (ts, h, k) = (ts, x.pats p _ h, all_pats_kept ps ts k)
-  pat_kept p (Some (pat.TupleStruct named ps)) h = h
-  pat_kept p (Some (pat.Path named)) h = h
+  pat_kept p (Some (pat.TupleStruct v ps)) h = record {
+    variant = h.variant;
+    types = h.types;
+    is_variant = h.is_variant;
+    has = x.pats p _ h.has;
+    parts = fields_kept ps (fields_at g h.variant h.types) h.parts;
+    counted = elim h.counted [ inl k ↦ inl k | inr k ↦ inr (x.pat_diagnostics p _ k) ];
+    resolved = x.pat_variants p v h.resolved;
+  }
+  pat_kept p (Some (pat.Path (path.Ctor v))) (t, h, k, r) = (t, x.pats p t h, k, x.pat_variants p v r)
+  pat_kept p (Some (pat.Path (path.Local v))) h = h
+  pat_kept p (Some (pat.Path (path.Function f))) h = h
+  pat_kept p (Some (pat.Path path.Other)) h = h
   pat_kept p (Some (pat.Lit e)) (t, h, k) = (t, x.pats p t h, x.exprs e t k)
   pat_kept p (Some pat.Other) h = h
 
   pub diagnostic_kept : (e : ExprId) (d : InferenceDiagnostic) → IsTrueDiagnostic g a e d → IsTrueDiagnostic g b e d
+  diagnostic_kept e (diagnostic.MismatchedTupleStructPatArgCount n expected found) h = h
   diagnostic_kept e (diagnostic.MismatchedArgCount n expected found) (is, h) = (
     is,
     record {
@@ -215,10 +238,20 @@ module _ (g : Given) (a b : InferenceResult) (x : Extends a b) where
 
   -- ---- what comes in, and what is asked
 
-  gives_part_kept : (n : Node) (i : ℕ) (t : Ty) → GivesPart a n i t → GivesPart b n i t
+  gives_part_kept : (n : Node) (i : ℕ) (t : Ty) → GivesPart g a n i t → GivesPart g b n i t
   gives_part_kept the_body i t h = h
   gives_part_kept (inner (node.ExprId n)) i t h = h
-  gives_part_kept (inner (node.PatId p)) i t (ts, h, k) = (ts, x.pats p _ h, k)
+  gives_part_kept (inner (node.PatId p)) i t (inl h) = inl (record { types = h.types; has = x.pats p _ h.has; component = h.component })
+  gives_part_kept (inner (node.PatId p)) i t (inr h) = inr (record {
+    named = h.named;
+    parts = h.parts;
+    is_pat = h.is_pat;
+    variant = h.variant;
+    types = h.types;
+    is_variant = h.is_variant;
+    has = x.pats p _ h.has;
+    field = h.field;
+  })
 
   gives_kept : (n : Node) (role : Role) (t : Ty) → Gives g a n role t → Gives g b n role t
   gives_kept n (parameter i) t h = h
@@ -253,7 +286,7 @@ module _ (g : Given) (a b : InferenceResult) (x : Extends a b) where
   }
 
   pub pat_truth_kept : (p : PatId) (m : TypeMismatch) → IsTruePatMismatch g a p m → IsTruePatMismatch g b p m
-  pat_truth_kept p m h = record { is_tuple = h.is_tuple; differ = h.differ; actual = x.pats p m.actual h.actual; incoming = incoming_kept p m.expected h.incoming }
+  pat_truth_kept p m h = record { says = h.says; differ = h.differ; actual = x.pats p m.actual h.actual; incoming = incoming_kept p m.expected h.incoming }
 
   alternative_asked_kept : (n : ExprId) (role : Role) (t : Ty) → AsksOfAlternative g a n role t → AsksOfAlternative g b n role t
   alternative_asked_kept n role t (inl h) = inl (x.exprs n t h)

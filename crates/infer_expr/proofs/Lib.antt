@@ -8,6 +8,7 @@ pub mod Closed
 pub mod Carried
 pub mod Parts
 pub mod Keeps
+pub mod Variants
 pub mod Category
 pub mod Noted
 pub mod Alternatives
@@ -17,7 +18,9 @@ pub mod Close
 pub mod Coercions
 pub mod PatSteps
 pub mod Pats
+pub mod PatDemands
 pub mod TuplePats
+pub mod CtorPats
 pub mod Leaves
 pub mod Stmts
 pub mod Tuples
@@ -38,10 +41,13 @@ pub mod StmtWalk
 pub mod PatHoles
 pub mod PathWalk
 pub mod Instances
+pub mod Items
+pub mod Sigs
 pub mod Calls
 pub mod CallWalk
 pub mod PatWalk
 pub mod TuplePatWalk
+pub mod CtorPatWalk
 pub mod ParamsWalk
 pub mod BodyWalk
 pub mod Definitions

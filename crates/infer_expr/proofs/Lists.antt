@@ -1,7 +1,7 @@
 -- Reading lists, and lists of what is recorded, after a write.
-use Rattle.std.proofs.Common.{ℕ, zero, suc, ◌+◌, ◌<◌, ◌≤◌, ◌≡◌, ◌≢◌, ◌⊎◌, inl, inr, List, [], ◌∷◌, ◌++◌, length, get_or, drop, refl, sym, ap, ◌∙◌, arith, add-one, drop-cons, Option, Some, None, slice_get}
+use Rattle.std.proofs.Common.{ℕ, zero, suc, ◌+◌, ◌<◌, ◌≤◌, ◌≡◌, ◌≢◌, ◌⊎◌, inl, inr, List, [], ◌∷◌, ◌++◌, length, get_or, take, drop, refl, sym, ap, ◌∙◌, arith, add-one, drop-cons, Option, Some, None, slice_get}
 use Rattle.std.proofs.Math.ListN.{set, length-set}
-use Rattle.std.proofs.lemmas.List.{get_or-set_same, get_or-set_other}
+use Rattle.std.proofs.lemmas.List.{get_or-set_same, get_or-set_other, take_more}
 use Rattle.std.proofs.lemmas.Option.{slice_get-get_or, slice_get_past, slice_get_within}
 use Rattle.infer_result.specs.Table.{At}
 use Rattle.infer_expr.specs.Found.{noted, noted_where}
@@ -51,6 +51,13 @@ module _ {X : Type 0} where
   found [] n h = absurd (omega arith)
   found (x ∷ xs) zero h = (x, refl)
   found (x ∷ xs) (suc n) h = (let k : n < length xs = omega arith in found xs n k)
+
+-- one entry more
+pub take_next : {X : Type 0} (xs : List X) (i : ℕ) (x : X) → slice_get xs i ≡ Some x → take (i + 1) xs ≡ take i xs ++ x ∷ []
+take_next xs i x h =
+    let k : i < length xs = slice_get_within xs i x h in
+    let e : get_or xs i x ≡ x = (let q = sym (slice_get-get_or xs i x k) ∙ h in cc) in
+    take_more xs i x k ∙ ap (λ y. take i xs ++ y ∷ []) e
 
 module _ {A : Type 0} where
   -- a write where nothing is recorded keeps what is

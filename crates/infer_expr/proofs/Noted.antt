@@ -22,6 +22,9 @@ noted_extends c e m = record {
   mismatches = λ n y h. noted-keeps c.result.expr_mismatches e.0 n.0 m y h;
   pat_mismatches = λ p y h. h;
   diagnostics = λ n d h. h;
+  pat_diagnostics = λ p d h. h;
+  expr_variants = λ n v h. h;
+  pat_variants = λ p v h. h;
 }
 
 pub noted_has : (c : Found) (e : ExprId) (m : TypeMismatch) → e.0 < length c.result.expr_mismatches → HasMismatch (with_mismatch c e m).result e
@@ -33,6 +36,9 @@ noted_walked g s c e m x y h = record {
     exprs = h.of_body.exprs;
     pats = h.of_body.pats;
     bindings = h.of_body.bindings;
+    pat_diagnostics = h.of_body.pat_diagnostics;
+    expr_variants = h.of_body.expr_variants;
+    pat_variants = h.of_body.pat_variants;
     modes = h.of_body.modes;
     mismatches = length-noted c.result.expr_mismatches e.0 m ∙ h.of_body.mismatches;
     pat_mismatches = h.of_body.pat_mismatches;
@@ -48,6 +54,8 @@ noted_walked g s c e m x y h = record {
     pat_actual = h.carried.pat_actual;
   };
   modes = h.modes;
+  pat_diagnostics = h.pat_diagnostics;
+  variants = record { exprs = h.variants.exprs; pats = h.variants.pats };
   diagnostics = λ n d i. diagnostic_kept g c.result (with_mismatch c e m).result (noted_extends c e m) n d (h.diagnostics n d i);
   free_exprs = h.free_exprs;
   free_pats = h.free_pats;

@@ -1,6 +1,5 @@
 -- New holes for the types of patterns, and what a tuple pattern asks of what comes in.
-use Rattle.std.proofs.Common.{ℕ, zero, suc, ◌+◌, ◌≡◌, ◌⊎◌, inl, inr, refl, sym, ap, subst, ◌∙◌, arith, List, [], ◌∷◌, ◌++◌, map, length-append, Option, Some, None, slice_get}
-use Rattle.hir_types.specs.declared.head.Head.TheVariants as head
+use Rattle.std.proofs.Common.{ℕ, zero, suc, ◌+◌, ◌≡◌, ◌⊎◌, inl, inr, true, false, refl, sym, ap, subst, ◌∙◌, arith, List, [], ◌∷◌, ◌++◌, map, length-append, Option, Some, None, slice_get}
 use Rattle.hir_types.specs.declared.head.HoleKind.TheVariants as kind
 use Rattle.hir_types.specs.declared.ids.PatId.{PatId}
 use Rattle.hir_types.specs.declared.ty.Ty.{Ty}
@@ -11,34 +10,34 @@ use Rattle.hir_types.specs.Terms.{Term, term, terms_of}
 use Rattle.hir_types.specs.TermLaws.{term_folded}
 use Rattle.hir_facts.specs.Scope.{Scope}
 use Rattle.hir_facts.specs.CarriedTypes.{IsCarriedType, AreCarriedTypes, carried_tuple}
-use Rattle.infer_table.specs.Completion.{completion}
 use Rattle.infer_table.specs.HoleLaws.{grew_by_hole, grew_twice}
-use Rattle.infer_table.specs.Preserved.{whole, IsMadeOf, made_of_resolved, made_of_within, unified_same, refused_apart, binds_only_unified}
+use Rattle.infer_table.specs.Preserved.{whole, IsMadeOf, made_of_resolved, made_of_within}
 use Rattle.infer_table.specs.Resolution.{resolution, resolution_term}
-use Rattle.infer_table.specs.Solutions.{Respects, log_of, resolved}
-use Rattle.infer_table.specs.Table.{State, Grew, Meets, AreUnified, AreRefused, HolesAreOf, bindings, resolved_type, with_new_hole, hole_count}
+use Rattle.infer_table.specs.Solutions.{log_of, resolved}
+use Rattle.infer_table.specs.Table.{State, Grew, HolesAreOf, bindings, resolved_type, with_new_hole, hole_count}
 use Rattle.infer_table.specs.UndoLaws.{grew_itself}
 use Rattle.infer_result.specs.Closed.{IsOfBody}
 use Rattle.infer_result.specs.Table.{mismatch}
 use Rattle.infer_result.specs.Places.{Given}
 use Rattle.infer_expr.specs.declared.context.InferenceContext.{InferenceContext}
 use Rattle.infer_expr.specs.Context.{with_pat_ty, with_pat_mismatch}
-use Rattle.infer_expr.specs.Closings.{IsClosing, Closes, found_under, expected_under, IsSound}
+use Rattle.infer_expr.specs.Closings.{IsClosing, Closes, closed_mismatch, found_under, expected_under, IsSound}
 use Rattle.infer_expr.specs.Fine.{is_fine_head, IsFine}
 use Rattle.infer_expr.specs.Found as found
-use Rattle.infer_expr.specs.Steps.{Follows, IsGivenOrNew, ArePartTypes, TupleDemanded}
+use Rattle.infer_expr.specs.Steps.{Follows, IsUnifiedIf, IsGivenOrNew, ArePartTypes, PatDemanded}
 use Rattle.infer_expr.specs.Under as under
-use Rattle.infer_expr.proofs.Closed.{closes_same, pat_ty_under, pat_mismatch_under, of_body_pat_ty, of_body_pat_mismatch, sound_pat_ty, sound_pat_mismatch}
-use Rattle.infer_expr.proofs.FineTypes.{AllFine, fine_tuple, fine_hole, fine_grown, table_fine_grown, fine_no_alias}
-use Rattle.infer_expr.proofs.OverTypes.{fine_closed, same_closed, apart_closed, closing_respects}
+use Rattle.infer_expr.proofs.Closed.{same_found, closes_same, pat_ty_under, pat_mismatch_under, of_body_pat_ty, of_body_pat_mismatch, sound_pat_ty, sound_pat_mismatch}
+use Rattle.infer_expr.proofs.FineTypes.{AllFine, fine_tuple, fine_hole, fine_grown, fine_no_alias}
+use Rattle.infer_expr.proofs.OverTypes.{fine_closed}
 use Rattle.infer_expr.proofs.Holes.{holed, holed_sound}
-use Rattle.infer_expr.proofs.Unified.{with_table, bound_heads, completion_closing}
+use Rattle.infer_expr.proofs.Unified.{bound_heads}
 
 -- ---- new holes
 
 pub given_one : {sc : Scope} (c : InferenceContext) (t : Ty) → IsSound sc c → IsFine sc c.table t → IsGivenOrNew sc (Some t) t c c
 given_one c t s h = record {
   result = refl;
+  asked = refl;
   clock = refl;
   grew = grew_itself c.table;
   sound = s;
@@ -50,6 +49,7 @@ given_one c t s h = record {
 pub new_one : {sc : Scope} (c : InferenceContext) → IsSound sc c → IsGivenOrNew sc None (ty.Var (hole_count c.table)) c (holed c kind.Ty)
 new_one c s = record {
   result = refl;
+  asked = refl;
   clock = refl;
   grew = grew_by_hole c.table (with_new_hole c.table kind.Ty) kind.Ty refl;
   sound = holed_sound c kind.Ty s;
@@ -71,6 +71,7 @@ push_cases (v ∷ ts) t (suc i) u e = push_cases ts t i u e
 pub no_part_yet : {sc : Scope} (c : InferenceContext) → IsSound sc c → ArePartTypes sc 0 [] c c
 no_part_yet c s = record {
   result = refl;
+  asked = refl;
   clock = refl;
   grew = grew_itself c.table;
   sound = s;
@@ -81,6 +82,7 @@ no_part_yet c s = record {
 pub one_part_more : {sc : Scope} (n : ℕ) (ts : List Ty) (x : Option Ty) (t : Ty) (old c new : InferenceContext) → ArePartTypes sc n ts old c → IsGivenOrNew sc x t c new → ArePartTypes sc (n + 1) (ts ++ t ∷ []) old new
 one_part_more {sc} n ts x t old c new h d = record {
   result = d.result ∙ h.result;
+  asked = d.asked ∙ h.asked;
   clock = d.clock ∙ h.clock;
   grew = grew_twice old.table c.table new.table h.grew d.grew;
   sound = d.sound;
@@ -129,62 +131,51 @@ carried_each sc a state ts k h =
 
 -- ---- what comes in
 
-module _ (g : Given) (p : PatId) (ts : List Ty) (c : InferenceContext) (h : IsOfBody g.body c.result) (s : IsSound g.scope c) (fine : FineEach g.scope c.table ts) where
-  abbrev own : Ty
-  own = ty.Tuple ts
-
-  -- the record of the tuple, after what is asked
-  recorded : (x : Option Ty) (mid : InferenceContext) → Follows g c mid → mid.clock ≡ c.clock → IsFine g.scope mid.table own → ((a : Assignment) → Closes a mid → under.IsDemanded p (ty.Tuple (map (folded a) ts)) (expected_under a x) (found_under a c) (found_under a mid)) → TupleDemanded g p ts x c (with_pat_ty mid p own)
+module _ (g : Given) (p : PatId) (t : Ty) (c : InferenceContext) (h : IsOfBody g.body c.result) (s : IsSound g.scope c) (fo : IsFine g.scope c.table t) where
+  -- the record of the type, after what is asked
+  recorded : (x : Option Ty) (mid : InferenceContext) → Follows g c mid → mid.clock ≡ c.clock → IsFine g.scope mid.table t → ((a : Assignment) → Closes a mid → under.IsDemanded p (folded a t) (expected_under a x) (found_under a c) (found_under a mid)) → PatDemanded g p t x c (with_pat_ty mid p t)
   recorded x mid f clock k asked = record {
     follows = record {
       clock = f.clock;
       grew = f.grew;
-      of_body = of_body_pat_ty g.body mid f.of_body p own;
-      sound = sound_pat_ty mid f.sound p own k;
+      of_body = of_body_pat_ty g.body mid f.of_body p t;
+      sound = sound_pat_ty mid f.sound p t k;
     };
     clock = clock;
     each = λ a q. record {
       mid = found_under a mid;
-      demanded = asked a (closes_same a (with_pat_ty mid p own) mid refl q);
-      recorded = pat_ty_under a mid p own ∙ ap (λ t. found.with_pat_ty (found_under a mid) p t) (tuple_under a ts);
+      demanded = asked a (closes_same a (with_pat_ty mid p t) mid refl q);
+      recorded = pat_ty_under a mid p t;
     };
   }
 
-  pub demanded_nothing : TupleDemanded g p ts None c (with_pat_ty c p own)
+  pub demanded_nothing : PatDemanded g p t None c (with_pat_ty c p t)
   demanded_nothing =
-      recorded None c (record { clock = omega arith; grew = grew_itself c.table; of_body = h; sound = s }) refl (fine_tuple_of g.scope c.table ts fine) (λ a q. refl)
+      recorded None c (record { clock = omega arith; grew = grew_itself c.table; of_body = h; sound = s }) refl fo (λ a q. refl)
 
   module _ (u : Ty) (fu : IsFine g.scope c.table u) where
-    pub demanded_unified : (after : State) → AreUnified c.table after u own → Meets (terms_of (completion after)) after → Respects (terms_of (completion after)) → TupleDemanded g p ts (Some u) c (with_pat_ty (with_table c after) p own)
-    demanded_unified after k m r =
-        let fo : IsFine g.scope c.table own = fine_tuple_of g.scope c.table ts fine in
-        let bound = binds_only_unified (is_fine_head g.scope) (fine_no_alias g.scope) head.Bool refl c.table after u own k (terms_of (completion after)) m s.bound fu.heads fo.heads in
-        recorded (Some u) (with_table c after) (record {
-          clock = omega arith;
-          grew = k.grown;
-          of_body = h;
-          sound = record {
-            fine = table_fine_grown g.scope c.table after c.result k.grown s.fine;
-            bound = bound;
-            some = (completion after, record { closing = completion_closing g.scope after bound r; meets = m });
-          };
-        }) refl (fine_grown g.scope c.table after own k.grown fo) (λ a q. inl (
-          same_closed g.scope a u own q.closing fu.heads fo.heads (unified_same (is_fine_head g.scope) c.table after u own (fine_no_alias g.scope) s.bound fu.heads fo.heads k (terms_of a) q.meets) ∙ tuple_under a ts,
-          refl,
-        ))
+    module _ (new : InferenceContext) where
+      pub demanded_unified : IsUnifiedIf true g u t c new → PatDemanded g p t (Some u) c (with_pat_ty new p t)
+      demanded_unified k =
+          let f = k.binds.follows in
+          recorded (Some u) new f k.binds.clock (fine_grown g.scope c.table new.table t f.grew fo) (λ a q. inl (
+            k.each a q,
+            same_found a c new k.binds.result k.binds.asked k.binds.clock,
+          ))
 
-    pub demanded_refused : (after : State) → AreRefused c.table after u own → TupleDemanded g p ts (Some u) c (with_pat_ty (with_pat_mismatch (with_table c after) p (mismatch u own)) p own)
-    demanded_refused after k =
-        let fo : IsFine g.scope c.table own = fine_tuple_of g.scope c.table ts fine in
-        let P : State → Type 0 = λ state. TupleDemanded g p ts (Some u) c (with_pat_ty (with_pat_mismatch (with_table c state) p (mismatch u own)) p own) in
-        subst P (sym k.unchanged) (
-        recorded (Some u) (with_pat_mismatch c p (mismatch u own)) (record {
-          clock = omega arith;
-          grew = grew_itself c.table;
-          of_body = of_body_pat_mismatch g.body c h p (mismatch u own);
-          sound = sound_pat_mismatch c s p (mismatch u own) fu fo;
-        }) refl fo (λ a q. inr (
-          λ same. refused_apart (is_fine_head g.scope) c.table u own (fine_no_alias g.scope) s.bound fu.heads fo.heads k.impossible (terms_of a) (closing_respects a q.closing) q.meets (apart_closed a u own (same ∙ sym (tuple_under a ts))),
-          pat_mismatch_under a c p (mismatch u own) ∙ ap (λ t. found.with_pat_mismatch (found_under a c) p (mismatch (folded a u) t)) (tuple_under a ts),
-        ))
-        )
+      pub demanded_refused : IsUnifiedIf false g u t c new → PatDemanded g p t (Some u) c (with_pat_ty (with_pat_mismatch new p (mismatch u t)) p t)
+      demanded_refused k =
+          let f = k.binds.follows in
+          let last : InferenceContext = with_pat_mismatch new p (mismatch u t) in
+          let gu : IsFine g.scope new.table u = fine_grown g.scope c.table new.table u f.grew fu in
+          let gt : IsFine g.scope new.table t = fine_grown g.scope c.table new.table t f.grew fo in
+          recorded (Some u) last (record {
+            clock = f.clock;
+            grew = f.grew;
+            of_body = of_body_pat_mismatch g.body new f.of_body p (mismatch u t);
+            sound = sound_pat_mismatch new f.sound p (mismatch u t) gu gt;
+          }) k.binds.clock gt (λ a q. inr (
+            k.each a (closes_same a last new refl q),
+            pat_mismatch_under a new p (mismatch u t)
+                ∙ ap (λ f. found.with_pat_mismatch f p (closed_mismatch a (mismatch u t))) (same_found a c new k.binds.result k.binds.asked k.binds.clock),
+          ))

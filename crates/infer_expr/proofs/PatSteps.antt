@@ -22,10 +22,10 @@ use Rattle.infer_result.specs.Places.{Given, Demand}
 use Rattle.infer_result.specs.Rules.Expressions.{ObeysOrMismatch}
 use Rattle.infer_result.specs.Rules.Patterns.{PatRule}
 use Rattle.infer_result.specs.Truth.Mismatch.{IsTruePatMismatch}
-use Rattle.infer_result.specs.Truth.Calls.{IsTrueDiagnostic}
+use Rattle.infer_result.specs.Truth.Calls.{IsTrueDiagnostic, IsTruePatDiagnostic}
 use Rattle.infer_result.specs.declared.diagnostics.InferenceDiagnostic.{InferenceDiagnostic}
 use Rattle.infer_result.specs.Made.{IsMisfit}
-use Rattle.infer_expr.specs.Found.{Found, noted, entered}
+use Rattle.infer_expr.specs.Found.{Found, RecordsVariants, noted, entered}
 use Rattle.infer_expr.specs.Walks.{Walks, IsWalked, IsFree, IsCarriedTable, Extends, Nothing, expr_start, pat_start}
 use Rattle.infer_expr.specs.Under.{IsReady, BeforePat}
 use Rattle.infer_expr.proofs.Lists.{lt_or_ge, same_or_not, slice_get-set_same, slice_get-set_other, At-set, At-set_cases, own_set, length-own_set, own_set-at, own_set-other, own_set-cases, noted-keeps, noted-cases, noted-some, length-noted}
@@ -54,6 +54,8 @@ pub record IsOpen (g : Given) (s : Schedule) (p : PatId) (n : ℕ) (c : Found) :
   pub free_bindings : (q : PatId) (v : BindingId) → Binds g.body q v → n ≤ pat_start g.body s q → IsFree c.result.type_of_binding v.0
   pub bound : (q : PatId) (v : BindingId) → Binds g.body q v → (q ≡ p → ⊥) → pat_start g.body s q < n → (t : Ty) × BindingTy c.result v t
   pub diagnostics : (e : ExprId) (d : InferenceDiagnostic) → At c.result.expr_diagnostics e.0 d → IsTrueDiagnostic g c.result e d
+  pub pat_diagnostics : (q : PatId) (d : InferenceDiagnostic) → At c.result.pat_diagnostics q.0 d → IsTruePatDiagnostic g q d
+  pub variants : RecordsVariants g.body c.result
 
 pub open_walked : (g : Given) (s : Schedule) (p : PatId) (c : Found) → IsWalked g s c → IsOpen g s p c.clock c
 open_walked g s p c h = record {
@@ -61,6 +63,8 @@ open_walked g s p c h = record {
   of_body = h.of_body;
   carried = h.carried;
   modes = h.modes;
+  pat_diagnostics = h.pat_diagnostics;
+  variants = h.variants;
   free_exprs = h.free_exprs;
   free_pats = h.free_pats;
   free_modes = h.free_modes;
@@ -96,6 +100,8 @@ module _ (g : Given) (s : Schedule) (p : PatId) (x : Option Ty) (old : Found) (h
       of_body = h.state.of_body;
       carried = h.state.carried;
       modes = h.state.modes;
+      pat_diagnostics = h.state.pat_diagnostics;
+      variants = h.state.variants;
       diagnostics = h.state.diagnostics;
       free_exprs = λ e i lo. h.state.free_exprs e i (omega arith);
       free_pats = λ q i lo. h.state.free_pats q i (omega arith);
@@ -119,6 +125,8 @@ module _ (g : Given) (s : Schedule) (p : PatId) (x : Option Ty) (old : Found) (h
     of_body = enters_now.state.of_body;
     carried = enters_now.state.carried;
     modes = enters_now.state.modes;
+    pat_diagnostics = enters_now.state.pat_diagnostics;
+    variants = enters_now.state.variants;
     diagnostics = enters_now.state.diagnostics;
     free_exprs = enters_now.state.free_exprs;
     free_pats = enters_now.state.free_pats;
@@ -215,6 +223,9 @@ pub record IsBoundBy (old new : Found) (p : PatId) (t : Ty) (o : Option BindingI
   pub mismatches : new.result.expr_mismatches ≡ old.result.expr_mismatches
   pub diagnostics : new.result.expr_diagnostics ≡ old.result.expr_diagnostics
   pub pat_mismatches : new.result.pat_mismatches ≡ maybe_noted old.result.pat_mismatches p.0 y
+  pub pat_diagnostics : new.result.pat_diagnostics ≡ old.result.pat_diagnostics
+  pub expr_variants : new.result.expr_variants ≡ old.result.expr_variants
+  pub pat_variants : new.result.pat_variants ≡ old.result.pat_variants
   pub clock : new.clock ≡ old.clock
 
 -- what the record of a type, and of what is bound, wants
@@ -316,6 +327,9 @@ module _ (g : Given) (s : Schedule) (p : PatId) (t : Ty) (old new : Found) (o : 
     mismatches = λ e m i. rw w.mismatches i;
     pat_mismatches = λ q m i. rw w.pat_mismatches (mismatch_kept y q.0 m i);
     diagnostics = λ e d i. rw w.diagnostics i;
+    pat_diagnostics = λ q d i. rw w.pat_diagnostics i;
+    expr_variants = λ e v i. rw w.expr_variants i;
+    pat_variants = λ q v i. rw w.pat_variants i;
   }
     where
       modes_kept : (z : Option BindingId) → o ≡ z → (q : PatId) (m : BindingMode) → HasMode old.result q m → At (own_set old.result.binding_modes p.0 (mode_of z)) q.0 m
@@ -359,6 +373,9 @@ module _ (g : Given) (s : Schedule) (p : PatId) (t : Ty) (old new : Found) (o : 
     modes = ap (λ l. length l) w.modes ∙ (length-own_set old.result.binding_modes p.0 (mode_of o) ∙ h.state.of_body.modes);
     mismatches = rw w.mismatches h.state.of_body.mismatches;
     diagnostics = rw w.diagnostics h.state.of_body.diagnostics;
+    pat_diagnostics = rw w.pat_diagnostics h.state.of_body.pat_diagnostics;
+    expr_variants = rw w.expr_variants h.state.of_body.expr_variants;
+    pat_variants = rw w.pat_variants h.state.of_body.pat_variants;
     pat_mismatches = ap (λ l. length l) w.pat_mismatches ∙ (mismatch_long y ∙ h.state.of_body.pat_mismatches);
   }
 
@@ -390,6 +407,8 @@ module _ (g : Given) (s : Schedule) (p : PatId) (t : Ty) (old new : Found) (o : 
     carried = carried;
     modes = new_modes;
     diagnostics = λ e d i. diagnostic_kept g old.result new.result extends e d (h.state.diagnostics e d (rw w.diagnostics at i));
+    pat_diagnostics = λ q d i. h.state.pat_diagnostics q d (rw w.pat_diagnostics at i);
+    variants = record { exprs = w.expr_variants ∙ h.state.variants.exprs; pats = w.pat_variants ∙ h.state.variants.pats };
     free_exprs = λ e i lo. rw w.exprs (h.state.free_exprs e i (omega (arith, w.clock)));
     free_pats = λ q i lo.
         rw w.pats (slice_get-set_other old.result.type_of_pat p.0 q.0 (Some t) (other_number q lo) ∙ h.state.free_pats q i (omega (arith, w.clock)));

@@ -1,5 +1,5 @@
 -- Patterns that bind a name or nothing, and literals.
-use Rattle.std.proofs.Common.{◌<◌, ◌≡◌, Bool, length, refl, sym, ap, subst, ◌∙◌, arith, Option, Some, None, slice_get}
+use Rattle.std.proofs.Common.{◌<◌, ◌≡◌, length, refl, sym, ap, subst, ◌∙◌, arith, Option, Some, None, slice_get}
 use Rattle.std.specs.Option.{option_and_then}
 use Rattle.hir_types.specs.declared.ids.BindingId.{BindingId}
 use Rattle.hir_types.specs.declared.ids.ExprId.{ExprId}
@@ -13,17 +13,17 @@ use Rattle.hir_facts.specs.Order.{Binds, binding_of}
 use Rattle.infer_table.specs.HoleLaws.{grew_twice}
 use Rattle.infer_result.specs.Closed.{IsOfBody}
 use Rattle.infer_result.specs.Places.{Given}
+use Rattle.infer_expr.specs.declared.coerce.Coerced.{Coerced}
 use Rattle.infer_expr.specs.declared.context.InferenceContext.{InferenceContext}
 use Rattle.infer_expr.specs.Context as context
 use Rattle.infer_expr.specs.Closings.{Closes, found_under, expected_under}
 use Rattle.infer_expr.specs.Fine.{IsFine, IsFineExpectation}
 use Rattle.infer_expr.specs.Found as found
 use Rattle.infer_expr.specs.Found.{Found}
-use Rattle.infer_expr.specs.Steps.{Follows, Before, OwnDone, IsCoercedIf, BeforePat, PatDone, IsGivenOrNew}
+use Rattle.infer_expr.specs.Steps.{Follows, Before, OwnDone, IsCoerced, BeforePat, PatDone, IsGivenOrNew}
 use Rattle.infer_expr.specs.Under as under
 use Rattle.infer_expr.proofs.AtEach.{follows_itself, closes_before, before_pat_under}
-use Rattle.infer_expr.proofs.Closed.{closes_same, closes_earlier, pat_ty_under, bound_by_under, of_body_pat_ty, of_body_bound_by, sound_entered, sound_pat_ty, sound_bound_by}
-use Rattle.infer_expr.proofs.Expressions.{same_found}
+use Rattle.infer_expr.proofs.Closed.{same_found, closes_same, closes_earlier, pat_ty_under, bound_by_under, of_body_pat_ty, of_body_bound_by, sound_entered, sound_pat_ty, sound_bound_by}
 use Rattle.infer_expr.proofs.FineTypes.{fine_grown, fine_expectation_grown}
 use Rattle.infer_expr.proofs.OverTypes.{fine_closed}
 use Rattle.infer_expr.proofs.Pats.{wild_done, bind_done, IsFitted, lit_before, lit_done}
@@ -41,7 +41,7 @@ module _ (g : Given) (s : Schedule) (p : PatId) (x : Option Ty) (t : Ty) (old mi
 
   -- nothing more is found out so far
   nothing_new : (a : Assignment) → found_under a mid ≡ found.entered (found_under a old)
-  nothing_new a = same_found a (context.entered old) mid d.result d.clock
+  nothing_new a = same_found a (context.entered old) mid d.result d.asked d.clock
 
   module _ (a : Assignment) (q : Closes a mid) where
     earlier : Closes a old
@@ -100,7 +100,7 @@ module _ (g : Given) (s : Schedule) (p : PatId) (x : Option Ty) (t : Ty) (old mi
 -- the literal has what is expected of it, where something is, or that it has not is noted there
 abbrev pub Fits : Given → ExprId → Ty → Option Ty → InferenceContext → InferenceContext → Type 0
 Fits g e t None old new = new ≡ old
-Fits g e t (Some u) old new = (yes : Bool) × IsCoercedIf yes g e t u old new
+Fits g e t (Some u) old new = (answer : Coerced) × IsCoerced answer g e t u old new
 
 module _ (g : Given) (s : Schedule) (p : PatId) (e : ExprId) (x : Option Ty) (old : InferenceContext) (h : BeforePat g s p x old) (is : under.IsLitPatOf g.body p e) where
   pub comes_to_lit : Before g s e x (context.entered old)
@@ -133,7 +133,7 @@ module _ (g : Given) (s : Schedule) (p : PatId) (e : ExprId) (x : Option Ty) (ol
 
     fits_under : (y : Option Ty) (last : InferenceContext) → Fits g e t y mid last → (a : Assignment) → Closes a last → IsFitted e (folded a t) (expected_under a y) (found_under a mid) (found_under a last)
     fits_under None last f a k = ap (λ c. found_under a c) f
-    fits_under (Some u) last f a k = (f.0, f.1.each a k)
+    fits_under (Some u) last f a k = (let z = f.1.each a k in (z.0, z.2))
 
     pub lit_walked : (last : InferenceContext) → Fits g e t x mid last → PatDone g s p x old (context.with_pat_ty last p t)
     lit_walked last f =

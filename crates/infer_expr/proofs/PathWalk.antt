@@ -4,34 +4,39 @@ use Rattle.std.proofs.lemmas.List.{length-map, map-append}
 use Rattle.std.proofs.lemmas.Bool.{eq-eqb}
 use Rattle.hir_types.specs.declared.head.HoleKind.TheVariants as kind
 use Rattle.hir_types.specs.declared.ids.BindingId.{BindingId}
+use Rattle.hir_types.specs.declared.ids.CallableDefId.{CallableDefId}
 use Rattle.hir_types.specs.declared.ids.CallableDefId.TheVariants as callable
 use Rattle.hir_types.specs.declared.ids.ExprId.{ExprId}
 use Rattle.hir_types.specs.declared.ids.FunctionId.{FunctionId}
+use Rattle.hir_types.specs.declared.ids.VariantId.{VariantId}
 use Rattle.hir_types.specs.declared.ty.GenericArg.{GenericArg}
 use Rattle.hir_types.specs.declared.ty.GenericArg.TheVariants as arg
 use Rattle.hir_types.specs.declared.ty.Ty.{Ty}
 use Rattle.hir_types.specs.declared.ty.Ty.TheVariants as ty
 use Rattle.hir_types.specs.Subst.{Assignment, folded}
+use Rattle.hir_facts.specs.declared.raw.RawFn.{RawFn}
 use Rattle.hir_facts.specs.declared.raw.RawPath.{RawPath}
 use Rattle.hir_facts.specs.declared.raw.RawPath.TheVariants as path
+use Rattle.hir_facts.specs.declared.raw.RawCtor.TheVariants as ctor
 use Rattle.hir_facts.specs.declared.raw.RawExpr.TheVariants as expr
 use Rattle.hir_facts.specs.declared.schedule.Schedule.{Schedule}
-use Rattle.hir_facts.specs.Scope.{Scope, fn_params, callable_params, has_params}
-use Rattle.hir_facts.specs.Signatures.{type_args}
+use Rattle.hir_facts.specs.Scope.{Scope, fn_params, adt_params, callable_params, has_params}
+use Rattle.hir_facts.specs.Signatures.{type_args, ctor_type}
 use Rattle.infer_table.specs.Table.{hole_count}
 use Rattle.infer_table.specs.UndoLaws.{grew_itself}
 use Rattle.infer_result.specs.Closed.{IsOfBody}
-use Rattle.infer_result.specs.Places.{Given}
+use Rattle.infer_result.specs.Places.{Given, IsVariantAt}
+use Rattle.infer_result.specs.Derived.{ctor_type_of_unit, ctor_type_of_tuple}
 use Rattle.infer_result.specs.Table.{BindingTy}
 use Rattle.infer_expr.specs.declared.context.InferenceContext.{InferenceContext}
 use Rattle.infer_expr.specs.Closings.{Closes, found_under, expected_under, IsSound}
 use Rattle.infer_expr.specs.Steps.{Within, KindDone, ArePartTypes, PathDone, AreFreshArgs}
 use Rattle.infer_expr.specs.Under as under
-use Rattle.infer_expr.proofs.Closed.{At-closed, At-unclosed, closes_earlier}
-use Rattle.infer_expr.proofs.FineTypes.{fine_fn_def}
-use Rattle.infer_expr.proofs.OverTypes.{fine_closed, fn_def_closed}
+use Rattle.infer_expr.proofs.Closed.{same_found, At-closed, At-unclosed, closes_earlier}
+use Rattle.infer_expr.specs.Fine.{IsFine}
+use Rattle.infer_expr.proofs.FineTypes.{AllFine, fine_fn_def, fine_adt}
+use Rattle.infer_expr.proofs.OverTypes.{fine_closed, adt_closed, fn_def_closed}
 use Rattle.infer_expr.proofs.AtEach.{within_under}
-use Rattle.infer_expr.proofs.Expressions.{same_found}
 use Rattle.infer_expr.proofs.Leaves.{path_done, path_names}
 use Rattle.infer_expr.proofs.Holes.{holed}
 use Rattle.infer_expr.proofs.PatHoles.{all_fine, no_part_yet, one_part_more, new_one}
@@ -47,17 +52,17 @@ path_kind g s e x p t c new h is d = record {
   fine = d.fine;
   each = λ a q.
       let o : Closes a c = closes_earlier a c new d.grew q in
-      subst (λ f. under.KindDone g s e (expected_under a x) (folded a t) (found_under a c) f) (sym (same_found a c new d.result d.clock))
+      subst (λ f. under.KindDone g s e (expected_under a x) (folded a t) (found_under a c) f) (sym (same_found a c new d.result d.asked d.clock))
       (path_done g s e (expected_under a x) p (folded a t) (found_under a c) (within_under g s a c o e x h) is (fine_closed g.scope a t q.closing d.fine.heads) (d.each a q));
 }
 
 names_open : (a : Assignment) (g : Given) (c : InferenceContext) (p : RawPath) → under.NamesTyped g (found_under a c).result p → under.NamesTyped g c.result p
 names_open a g c (path.Local v) (t, h) = let q = At-unclosed (folded a) c.result.type_of_binding v.0 t h in (q.0, q.1)
 names_open a g c (path.Function f) h = h
-names_open a g c (path.Ctor named) h = absurd h
+names_open a g c (path.Ctor v) h = h
 names_open a g c path.Other h = absurd h
 
--- a path names a local, which has a type, or a function
+-- a path names a local, which has a type, a function or a constructor
 pub path_typed : (g : Given) (s : Schedule) (e : ExprId) (x : Option Ty) (p : RawPath) (c : InferenceContext) → Within g s e x c → slice_get g.body.exprs e.0 ≡ Some (expr.Path p) → under.NamesTyped g c.result p
 path_typed g s e x p c h is =
     let q = h.state.sound.some in
@@ -73,6 +78,7 @@ recorded_at (Some (Some u)) t h = ap (λ x. Some x) h
 pub local_path : (g : Given) (v : BindingId) (t : Ty) (c : InferenceContext) → IsOfBody g.body c.result → IsSound g.scope c → BindingTy c.result v t → PathDone g (path.Local v) t c c
 local_path g v t c h s k = record {
   result = refl;
+  asked = refl;
   clock = refl;
   grew = grew_itself c.table;
   sound = s;
@@ -80,24 +86,73 @@ local_path g v t c h s k = record {
   each = λ a q. At-closed (folded a) c.result.type_of_binding v.0 t k;
 }
 
--- the function takes as many types as it has parameters
-pub takes_params : (g : Given) (f : FunctionId) (item : under.IsFunction g.scope.facts f) (ts : List Ty) → length ts ≡ length item.function.params → has_params (callable_params g.scope.facts (callable.FunctionId f)) (length ts) ≡ true
-takes_params g f item ts count =
-    let at : fn_params g.scope.facts f.0 ≡ Some (length item.function.params) = ap (option_map (λ x. length x.params)) item.found in
-    ap (λ o. has_params o (length ts)) at ∙ eq-eqb (length item.function.params) (length ts) (sym count)
+pub same_some : {A : Type 0} {x y : A} → Some x ≡ Some y → x ≡ y
+same_some h = cc
+
+-- how many parameters a function has
+pub fn_size : (g : Given) (f : FunctionId) (item : under.IsItem g.scope.facts (callable.FunctionId f)) (x : RawFn) → slice_get g.scope.facts.fns f.0 ≡ Some x → length x.params ≡ item.signature.params
+fn_size g f item x at = same_some (sym (ap (option_map (λ y. length y.params)) at) ∙ item.count)
+
+-- so many types are as many as there are parameters
+takes : (o : Option ℕ) (n : ℕ) (ts : List Ty) → o ≡ Some n → length ts ≡ n → has_params o (length ts) ≡ true
+takes o n ts at count = ap (λ p. has_params p (length ts)) at ∙ eq-eqb n (length ts) (sym count)
+
+counted_under : (a : Assignment) (o : Option ℕ) (n : ℕ) (ts : List Ty) → o ≡ Some n → length ts ≡ n → o ≡ Some (length (map (folded a) ts))
+counted_under a o n ts at count = at ∙ ap (λ m. Some m) (sym count ∙ sym (length-map ts (folded a)))
+
+-- the type of an item at as many types as it has parameters is fine
+pub item_fine : (g : Given) (id : CallableDefId) (item : under.IsItem g.scope.facts id) (ts : List Ty) (c new : InferenceContext) → ArePartTypes g.scope item.signature.params ts c new → IsFine g.scope new.table (ty.FnDef id (type_args ts))
+item_fine g id item ts c new d = fine_fn_def g.scope new.table id ts (takes (callable_params g.scope.facts id) item.signature.params ts item.count d.count_is) (all_fine g.scope new.table ts d.fine)
 
 -- a function at as many types as it has parameters
-pub function_path : (g : Given) (f : FunctionId) (item : under.IsFunction g.scope.facts f) (ts : List Ty) (c new : InferenceContext) → ArePartTypes g.scope (length item.function.params) ts c new → PathDone g (path.Function f) (ty.FnDef (callable.FunctionId f) (type_args ts)) c new
-function_path g f item ts c new d =
-    let count : fn_params g.scope.facts f.0 ≡ Some (length item.function.params) = ap (option_map (λ x. length x.params)) item.found in
-    record {
-      result = d.result;
-      clock = d.clock;
-      grew = d.grew;
-      sound = d.sound;
-      fine = fine_fn_def g.scope new.table (callable.FunctionId f) ts (takes_params g f item ts d.count_is) (all_fine g.scope new.table ts d.fine);
-      each = λ a q. (map (folded a) ts, fn_def_closed a (callable.FunctionId f) ts, count ∙ ap (λ n. Some n) (sym d.count_is ∙ sym (length-map ts (folded a))));
-    }
+pub function_path : (g : Given) (f : FunctionId) (item : under.IsItem g.scope.facts (callable.FunctionId f)) (ts : List Ty) (c new : InferenceContext) → ArePartTypes g.scope item.signature.params ts c new → PathDone g (path.Function f) (ty.FnDef (callable.FunctionId f) (type_args ts)) c new
+function_path g f item ts c new d = record {
+  result = d.result;
+  asked = d.asked;
+  clock = d.clock;
+  grew = d.grew;
+  sound = d.sound;
+  fine = item_fine g (callable.FunctionId f) item ts c new d;
+  each = λ a q. (map (folded a) ts, fn_def_closed a (callable.FunctionId f) ts, counted_under a (fn_params g.scope.facts f.0) item.signature.params ts item.count d.count_is);
+}
+
+-- ---- constructors
+
+module _ (g : Given) (v : VariantId) (x : under.IsVariant g.scope.facts v) (ts : List Ty) (c new : InferenceContext) (d : ArePartTypes g.scope x.params ts c new) where
+  -- the variant, at what the types come to
+  pub variant_under : (a : Assignment) → IsVariantAt g v x.variant (map (folded a) ts)
+  variant_under a = record { found = x.found; count = counted_under a (adt_params g.scope.facts x.variant.adt) x.params ts x.count d.count_is }
+
+  every_fine : AllFine g.scope new.table ts
+  every_fine = all_fine g.scope new.table ts d.fine
+
+  -- the type of its adt is fine
+  pub ctor_adt_fine : IsFine g.scope new.table (ty.Adt x.variant.adt (type_args ts))
+  ctor_adt_fine = fine_adt g.scope new.table x.variant.adt ts (takes (adt_params g.scope.facts x.variant.adt) x.params ts x.count d.count_is) every_fine
+
+  -- a path to it has the type t, which says under each assignment what the constructor is
+  ctor_path_at : (t : Ty) → IsFine g.scope new.table t → ((a : Assignment) → folded a t ≡ ctor_type x.variant v (map (folded a) ts)) → PathDone g (path.Ctor v) t c new
+  ctor_path_at t fine is = record {
+    result = d.result;
+    asked = d.asked;
+    clock = d.clock;
+    grew = d.grew;
+    sound = d.sound;
+    fine = fine;
+    each = λ a q. record { variant = x.variant; types = map (folded a) ts; is_variant = variant_under a; is = is a };
+  }
+
+  -- one without fields is a value of its adt
+  pub unit_path : x.variant.ctor ≡ ctor.Unit → PathDone g (path.Ctor v) (ty.Adt x.variant.adt (type_args ts)) c new
+  unit_path u = ctor_path_at (ty.Adt x.variant.adt (type_args ts)) ctor_adt_fine (λ a. adt_closed a x.variant.adt ts ∙ sym (ctor_type_of_unit x.variant v (map (folded a) ts) u))
+
+  -- one with fields is an item that can be called
+  pub tuple_path : x.variant.ctor ≡ ctor.Tuple → PathDone g (path.Ctor v) (ty.FnDef (callable.VariantId v) (type_args ts)) c new
+  tuple_path u =
+      let at : callable_params g.scope.facts (callable.VariantId v) ≡ Some x.params = ap (λ o. option_and_then (λ y. adt_params g.scope.facts y.adt) o) x.found ∙ x.count in
+      ctor_path_at (ty.FnDef (callable.VariantId v) (type_args ts))
+      (fine_fn_def g.scope new.table (callable.VariantId v) ts (takes (callable_params g.scope.facts (callable.VariantId v)) x.params ts at d.count_is) every_fine)
+      (λ a. fn_def_closed a (callable.VariantId v) ts ∙ sym (ctor_type_of_tuple x.variant v (map (folded a) ts) u))
 
 -- ---- new holes for parameters
 

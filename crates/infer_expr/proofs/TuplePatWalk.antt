@@ -4,22 +4,25 @@ use Rattle.std.proofs.lemmas.List.{length-map}
 use Rattle.std.proofs.lemmas.Option.{slice_get-map}
 use Rattle.hir_types.specs.declared.ids.PatId.{PatId}
 use Rattle.hir_types.specs.declared.ty.Ty.{Ty}
+use Rattle.hir_types.specs.declared.ty.Ty.TheVariants as ty
 use Rattle.hir_types.specs.Subst.{Assignment, folded}
 use Rattle.hir_facts.specs.declared.schedule.Schedule.{Schedule}
 use Rattle.hir_facts.specs.CarriedTypes.{AreCarriedTypes}
 use Rattle.infer_table.specs.HoleLaws.{grew_twice}
 use Rattle.infer_result.specs.Places.{Given}
+use Rattle.infer_result.specs.Truth.Mismatch.{SaysItsType}
 use Rattle.infer_expr.specs.declared.context.InferenceContext.{InferenceContext}
 use Rattle.infer_expr.specs.Context as context
 use Rattle.infer_expr.specs.Closings.{Closes, found_under, expected_under}
 use Rattle.infer_expr.specs.Found as found
-use Rattle.infer_expr.specs.Steps.{Follows, BeforePat, PatDone, ArePartTypes, TupleDemanded}
+use Rattle.infer_expr.specs.Steps.{Follows, BeforePat, PatDone, ArePartTypes, PatDemanded}
 use Rattle.infer_expr.specs.Under as under
 use Rattle.infer_expr.proofs.AtEach.{follows_itself, follows_twice, closes_before, walking_after, before_pat_under}
-use Rattle.infer_expr.proofs.Closed.{closes_earlier}
-use Rattle.infer_expr.proofs.Expressions.{same_found}
-use Rattle.infer_expr.proofs.PatHoles.{FineEach, fine_each_grown, carried_each}
-use Rattle.infer_expr.proofs.TuplePats.{Demands, tuple_demanded, TuplePatLoop, tuple_pat_start, tuple_pat_before, tuple_pat_next, tuple_pat_done}
+use Rattle.infer_expr.proofs.Closed.{same_found, closes_earlier}
+use Rattle.infer_expr.proofs.PatHoles.{FineEach, fine_each_grown, carried_each, tuple_under}
+use Rattle.infer_expr.proofs.PatDemands.{Demands, entered_opening, pat_demanded}
+use Rattle.infer_expr.proofs.Types.{carried_tuple_of}
+use Rattle.infer_expr.proofs.TuplePats.{TuplePatLoop, tuple_pat_start, tuple_pat_before, tuple_pat_next, tuple_pat_done}
 
 -- the tuple of ts is asked of what comes into the pattern p, of which ps are the parts
 pub record TuplePatBegun (g : Given) (s : Schedule) (p : PatId) (ps : List PatId) (ts : List Ty) (x : Option Ty) (old mid : InferenceContext) : Type 0 where
@@ -27,15 +30,15 @@ pub record TuplePatBegun (g : Given) (s : Schedule) (p : PatId) (ps : List PatId
   pub is : under.IsTuplePatOf g.body p ps
   pub holed : InferenceContext
   pub holes : ArePartTypes g.scope (length ps) ts (context.entered old) holed
-  pub demanded : TupleDemanded g p ts x holed mid
+  pub demanded : PatDemanded g p (ty.Tuple ts) x holed mid
 
-pub tuple_pat_begun : (g : Given) (s : Schedule) (p : PatId) (ps : List PatId) (ts made : List Ty) (x : Option Ty) (old first holed mid : InferenceContext) → BeforePat g s p x old → under.IsTuplePatOf g.body p ps → first ≡ context.entered old → ts ≡ made → ArePartTypes g.scope (length ps) made first holed → TupleDemanded g p ts x holed mid → TuplePatBegun g s p ps ts x old mid
-tuple_pat_begun g s p ps ts made x old first holed mid h is at same holes demanded = record {
+pub tuple_pat_begun : (g : Given) (s : Schedule) (p : PatId) (ps : List PatId) (ts made : List Ty) (own : Ty) (x : Option Ty) (old first holed mid : InferenceContext) → BeforePat g s p x old → under.IsTuplePatOf g.body p ps → first ≡ context.entered old → ts ≡ made → ArePartTypes g.scope (length ps) made first holed → own ≡ ty.Tuple ts → PatDemanded g p own x holed mid → TuplePatBegun g s p ps ts x old mid
+tuple_pat_begun g s p ps ts made own x old first holed mid h is at same holes tuple demanded = record {
   before = h;
   is = is;
   holed = holed;
   holes = subst (λ c. ArePartTypes g.scope (length ps) ts c holed) at (subst (λ us. ArePartTypes g.scope (length ps) us first holed) (sym same) holes);
-  demanded = demanded;
+  demanded = subst (λ t. PatDemanded g p t x holed mid) tuple demanded;
 }
 
 module _ (g : Given) (s : Schedule) (p : PatId) (ps : List PatId) (ts : List Ty) (x : Option Ty) (old mid : InferenceContext) (b : TuplePatBegun g s p ps ts x old mid) where
@@ -52,11 +55,13 @@ module _ (g : Given) (s : Schedule) (p : PatId) (ps : List PatId) (ts : List Ty)
     begun_carried : AreCarriedTypes (map (folded a) ts)
     begun_carried = carried_each g.scope a b.holed.table ts k.closing b.holes.fine
 
-    begun_demands : Demands g s p (map (folded a) ts) (expected_under a x) (found_under a old) (found_under a mid)
+    begun_demands : Demands g s p (ty.Tuple (map (folded a) ts)) (expected_under a x) (found_under a old) (found.entered (found_under a old)) (found_under a mid)
     begun_demands =
-        let e : found_under a b.holed ≡ found.entered (found_under a old) = same_found a (context.entered old) b.holed b.holes.result b.holes.clock in
-        tuple_demanded g s p ps (map (folded a) ts) (expected_under a x) (found_under a old) begun_before b.is begun_carried (found_under a mid)
-        (subst (λ f. under.TupleDemanded p (map (folded a) ts) (expected_under a x) f (found_under a mid)) e (b.demanded.each a k))
+        let e : found_under a b.holed ≡ found.entered (found_under a old) = same_found a (context.entered old) b.holed b.holes.result b.holes.asked b.holes.clock in
+        let asked : under.PatDemanded p (ty.Tuple (map (folded a) ts)) (expected_under a x) (found_under a b.holed) (found_under a mid) = subst (λ t. under.PatDemanded p t (expected_under a x) (found_under a b.holed) (found_under a mid)) (tuple_under a ts) (b.demanded.each a k) in
+        pat_demanded g s p (ty.Tuple (map (folded a) ts)) (expected_under a x) (found_under a old) (found.entered (found_under a old)) begun_before
+        (entered_opening g s p (expected_under a x) (found_under a old) begun_before) (subst (λ o. SaysItsType o) (sym b.is) tt) (carried_tuple_of (map (folded a) ts) begun_carried) (found_under a mid)
+        (subst (λ f. under.PatDemanded p (ty.Tuple (map (folded a) ts)) (expected_under a x) f (found_under a mid)) e asked)
 
   begun_fine : FineEach g.scope mid.table ts
   begun_fine = fine_each_grown g.scope b.holed.table mid.table ts b.demanded.follows.grew b.holes.fine

@@ -1,122 +1,31 @@
--- Tuple patterns: the demand on what comes in, and the loop over the parts.
-use Rattle.std.proofs.Common.{ℕ, suc, ◌+◌, ◌<◌, ◌≤◌, ◌≡◌, inl, inr, List, [], ◌∷◌, ◌++◌, length, take, drop, get_or, refl, sym, ap, subst, ◌∙◌, arith, Option, Some, None, slice_get, append-nil}
+-- Tuple patterns: the loop over the parts.
+use Rattle.std.proofs.Common.{ℕ, suc, ◌+◌, ◌<◌, ◌≤◌, ◌≡◌, inl, List, [], ◌∷◌, ◌++◌, length, take, drop, get_or, sym, ap, subst, ◌∙◌, arith, Option, Some, None, slice_get, append-nil}
 use Rattle.std.proofs.Math.ListN.{drop_of_length-le, take-append-drop}
 use Rattle.std.proofs.lemmas.List.{take_more}
 use Rattle.std.proofs.lemmas.Option.{slice_get-get_or, slice_get_within}
-use Rattle.std.specs.Option.{option_and_then}
 use Rattle.hir_types.specs.declared.ids.ExprOrPatId.TheVariants as node
 use Rattle.hir_types.specs.declared.ids.PatId.{PatId}
 use Rattle.hir_types.specs.declared.ty.Ty.{Ty}
 use Rattle.hir_types.specs.declared.ty.Ty.TheVariants as ty
 use Rattle.hir_facts.specs.declared.raw.RawPat.TheVariants as pat
 use Rattle.hir_facts.specs.declared.schedule.Schedule.{Schedule}
-use Rattle.hir_facts.specs.CarriedTypes.{IsCarriedType, AreCarriedTypes, same_carried}
-use Rattle.hir_facts.specs.Order.{inner, after, binding_of, pat_part, subpattern, subpatterns}
+use Rattle.hir_facts.specs.CarriedTypes.{AreCarriedTypes}
+use Rattle.hir_facts.specs.Order.{inner, after, pat_part, subpattern, subpatterns}
 use Rattle.infer_result.specs.declared.result.InferenceResult.{InferenceResult}
-use Rattle.infer_result.specs.declared.result.TypeMismatch.{TypeMismatch}
-use Rattle.infer_result.specs.Table.{PatTy, mismatch}
-use Rattle.infer_result.specs.Places.{Given, PatIsAtOrMismatch, MisfitsAs}
+use Rattle.infer_result.specs.Table.{PatTy}
+use Rattle.infer_result.specs.Places.{Given, PatIsAtOrMismatch}
 use Rattle.infer_result.specs.Rules.Patterns.{AllPatsAt}
-use Rattle.infer_result.specs.Truth.Mismatch.{IsTruePatMismatch}
-use Rattle.infer_expr.specs.Found.{Found, entered, with_pat_ty, with_pat_mismatch}
-use Rattle.infer_expr.specs.Context.{IsCarriedExpectation}
-use Rattle.infer_expr.specs.Walks.{Walks, IsWalked, Nothing, pat_end}
-use Rattle.infer_expr.specs.Under.{IsReady, LieAhead, BeforePat, PatDone, IsPatPlaced, IsDemanded, TupleDemanded, IsTuplePatOf}
+use Rattle.infer_expr.specs.Found.{Found, entered}
+use Rattle.infer_expr.specs.Walks.{Walks, Nothing, pat_end}
+use Rattle.infer_expr.specs.Under.{IsReady, LieAhead, BeforePat, PatDone, IsPatPlaced, IsTuplePatOf}
 use Rattle.infer_expr.proofs.Category.{walks_refl, walks_trans}
-use Rattle.infer_expr.proofs.Keeps.{incoming_kept, all_pats_kept, pat_at_kept}
+use Rattle.infer_expr.proofs.Keeps.{all_pats_kept, pat_at_kept}
 use Rattle.infer_expr.proofs.Lists.{drop-step}
 use Rattle.infer_expr.proofs.Parts.{ahead_rest, pat_ahead, pat_before}
 use Rattle.infer_expr.proofs.Pats.{pat_rule_of}
-use Rattle.infer_expr.proofs.PatSteps.{Enters, enters_now, enters_more, enters_done, IsBoundBy, IsRecordable, has_type, has_mismatch, recorded_walked, enters_recorded, extends}
-use Rattle.infer_expr.proofs.Types.{carried_at, carried_tuple_of}
-
--- ---- what comes in
-
--- the pattern has the type of a tuple of ts, and nothing of its parts is done
-pub record Demands (g : Given) (s : Schedule) (p : PatId) (ts : List Ty) (x : Option Ty) (old c : Found) : Type 0 where
-  pub enters : Enters g s p old c
-  pub state : IsWalked g s c
-  pub type_is : PatTy c.result p (ty.Tuple ts)
-  pub clock : c.clock ≡ old.clock + 1
-  pub placed : IsPatPlaced g c.result p x
-
-module _ (g : Given) (s : Schedule) (p : PatId) (ps : List PatId) (ts : List Ty) (x : Option Ty) (old : Found) (h : BeforePat g s p x old) (is : IsTuplePatOf g.body p ps) (carried : AreCarriedTypes ts) where
-  abbrev own : Ty
-  own = ty.Tuple ts
-
-  recordable : (y : Option TypeMismatch) → ((m : TypeMismatch) → y ≡ Some m → IsCarriedType m.expected × IsCarriedType m.actual) → IsRecordable g s p own None y (entered old)
-  recordable y k = record {
-    ready = h.ready;
-    within = h.within;
-    past = omega (arith, h.here);
-    state = (enters_now g s p x old h).state;
-    carried = carried_tuple_of ts carried;
-    carried_mismatch = k;
-    binds = ap (λ o. option_and_then binding_of o) is;
-    free_pat = h.state.free_pats p h.within (omega (arith, h.here));
-    free_mode = λ v i. absurd (cc);
-    free_binding = λ v i. absurd (cc);
-  }
-
-  -- what comes in has that type, or nothing does
-  fits : ((u : Ty) → x ≡ Some u → own ≡ u) → (new : Found) → new ≡ with_pat_ty (entered old) p own → Demands g s p ts x old new
-  fits same new e =
-      let last : Found = with_pat_ty (entered old) p own in
-      let r : IsRecordable g s p own None None (entered old) = recordable None (λ m i. absurd (cc)) in
-      let w : IsBoundBy (entered old) last p own None None = record { exprs = refl; pats = refl; bindings = refl; modes = refl; mismatches = refl; diagnostics = refl; pat_mismatches = refl; clock = refl } in
-      let has : PatTy last.result p own = has_type g s p own (entered old) last None None r w in
-      subst (λ c. Demands g s p ts x old c) (sym e) (record {
-        enters = enters_recorded g s p own (entered old) last None None r w old h.here (λ m i. absurd (cc)) (enters_now g s p x old h);
-        state = recorded_walked g s p own (entered old) last None None r w;
-        type_is = has;
-        clock = refl;
-        placed = placed x same has;
-      })
-    where
-      placed : (y : Option Ty) → ((u : Ty) → y ≡ Some u → own ≡ u) → PatTy (with_pat_ty (entered old) p own).result p own → IsPatPlaced g (with_pat_ty (entered old) p own).result p y
-      placed None same has = tt
-      placed (Some u) same has = (own, has, inl (same u refl))
-
-  -- what comes in differs, which is noted
-  misfits : (u : Ty) → x ≡ Some u → IsCarriedType u → (u ≡ own → ⊥) → (mid new : Found) → mid ≡ with_pat_mismatch (entered old) p (mismatch u own) → new ≡ with_pat_ty mid p own → Demands g s p ts x old new
-  misfits u i k differ mid new f e =
-      let noted : Found = with_pat_mismatch (entered old) p (mismatch u own) in
-      let last : Found = with_pat_ty noted p own in
-      let y : Option TypeMismatch = Some (mismatch u own) in
-      let there : new ≡ last = e ∙ ap (λ c. with_pat_ty c p own) f in
-      let tuple : IsCarriedType own = carried_tuple_of ts carried in
-      let r : IsRecordable g s p own None y (entered old) = recordable y (λ m j. subst (λ (z : TypeMismatch). IsCarriedType z.expected × IsCarriedType z.actual) (one_mismatch (mismatch u own) m j) (k, tuple)) in
-      let w : IsBoundBy (entered old) last p own None y = record { exprs = refl; pats = refl; bindings = refl; modes = refl; mismatches = refl; diagnostics = refl; pat_mismatches = refl; clock = refl } in
-      let has : PatTy last.result p own = has_type g s p own (entered old) last None y r w in
-      let true : IsTruePatMismatch g last.result p (mismatch u own) = record {
-        is_tuple = record { parts = ps; is_tuple = is };
-        differ = λ same. differ (same_carried u own k tuple same);
-        actual = has;
-        incoming = incoming_kept g old.result last.result (extends g s p own (entered old) last None y r w) p u (h.incoming u i);
-      } in
-      let at : PatIsAtOrMismatch g last.result p u = (own, has, inr (subst (λ o. MisfitsAs last.result p o) (sym is) (has_mismatch g s p own (entered old) last None y r w (mismatch u own) refl))) in
-      subst (λ c. Demands g s p ts x old c) (sym there) (record {
-        enters =
-            enters_recorded g s p own (entered old) last None y r w old h.here
-            (λ m j. subst (λ z. IsTruePatMismatch g last.result p z) (one_mismatch (mismatch u own) m j) true) (enters_now g s p x old h);
-        state = recorded_walked g s p own (entered old) last None y r w;
-        type_is = has;
-        clock = refl;
-        placed = subst (λ o. IsPatPlaced g last.result p o) (sym i) at;
-      })
-    where
-      one_mismatch : (m n : TypeMismatch) → Some m ≡ Some n → m ≡ n
-      one_mismatch m n j = cc
-
-  demanded : (y : Option Ty) → x ≡ y → IsCarriedExpectation y → (mid new : Found) → IsDemanded p own y (entered old) mid → new ≡ with_pat_ty mid p own → Demands g s p ts x old new
-  demanded None i k mid new f e =
-      fits (λ u j. absurd (cc)) new (e ∙ ap (λ c. with_pat_ty c p own) f)
-  demanded (Some u) i k mid new (inl f) e =
-      fits (λ v j. (let same : u ≡ v = cc in sym f.0 ∙ same)) new (e ∙ ap (λ c. with_pat_ty c p own) f.1)
-  demanded (Some u) i k mid new (inr f) e = misfits u i k f.0 mid new f.1 e
-
-  pub tuple_demanded : (new : Found) → TupleDemanded p ts x (entered old) new → Demands g s p ts x old new
-  tuple_demanded new d = demanded x refl h.carried d.mid new d.demanded d.recorded
+use Rattle.infer_expr.proofs.PatDemands.{Demands}
+use Rattle.infer_expr.proofs.PatSteps.{enters_more, enters_done}
+use Rattle.infer_expr.proofs.Types.{carried_at}
 
 -- ---- the parts
 
@@ -128,7 +37,7 @@ pub record TuplePatLoop (g : Given) (s : Schedule) (p : PatId) (ps : List PatId)
   pub made : AllPatsAt g c.result (take i ps) (take i ts)
   pub type_is : PatTy c.result p (ty.Tuple ts)
 
-pub tuple_pat_start : (g : Given) (s : Schedule) (p : PatId) (ps : List PatId) (ts : List Ty) (x : Option Ty) (old mid : Found) → BeforePat g s p x old → IsTuplePatOf g.body p ps → Demands g s p ts x old mid → TuplePatLoop g s p ps ts 0 mid mid
+pub tuple_pat_start : (g : Given) (s : Schedule) (p : PatId) (ps : List PatId) (ts : List Ty) (x : Option Ty) (old mid : Found) → BeforePat g s p x old → IsTuplePatOf g.body p ps → Demands g s p (ty.Tuple ts) x old (entered old) mid → TuplePatLoop g s p ps ts 0 mid mid
 tuple_pat_start g s p ps ts x old mid h is d =
     let a = pat_ahead g.body s p (pat.Tuple ps) mid.clock h.ready.law.schedule h.within is (omega (arith, h.here, d.clock)) in
     record {
@@ -168,7 +77,7 @@ module _ (g : Given) (s : Schedule) (p : PatId) (ps : List PatId) (ts : List Ty)
     tuple_pat_before ready carried =
         pat_before g s (inner (node.PatId p)) (subpattern i) q (subpatterns (i + 1) (drop (i + 1) ps)) (Some t) c ready h.walks.state ahead_at
         (carried_at ts i t carried type_here)
-        (λ u j. (let same : t ≡ u = cc in (ts, h.type_is, type_here ∙ ap (λ y. Some y) same)))
+        (λ u j. (let same : t ≡ u = cc in inl (record { types = ts; has = h.type_is; component = type_here ∙ ap (λ y. Some y) same })))
 
     pub tuple_pat_next : (next : Found) → PatDone g s q (Some t) c next → TuplePatLoop g s p ps ts (i + 1) mid next
     tuple_pat_next next d =
@@ -193,11 +102,11 @@ module _ (g : Given) (s : Schedule) (p : PatId) (ps : List PatId) (ts : List Ty)
       let none : drop i xs ≡ [] = drop_of_length-le xs over in
       sym (append-nil (take i xs)) ∙ (ap (λ l. take i xs ++ l) (sym none) ∙ take-append-drop i xs)
 
-  placed : (x : Option Ty) (old : Found) → Demands g s p ts x old mid → IsPatPlaced g c.result p x
+  placed : (x : Option Ty) (old : Found) → Demands g s p (ty.Tuple ts) x old (entered old) mid → IsPatPlaced g c.result p x
   placed None old d = tt
   placed (Some u) old d = pat_at_kept g mid.result c.result h.walks.extends p u d.placed
 
-  pub tuple_pat_done : (x : Option Ty) (old : Found) → Demands g s p ts x old mid → IsTuplePatOf g.body p ps → length ts ≡ length ps → length ps ≤ i → PatDone g s p x old c
+  pub tuple_pat_done : (x : Option Ty) (old : Found) → Demands g s p (ty.Tuple ts) x old (entered old) mid → IsTuplePatOf g.body p ps → length ts ≡ length ps → length ps ≤ i → PatDone g s p x old c
   tuple_pat_done x old d is same over =
       let none : drop i ps ≡ [] = drop_of_length-le ps over in
       let made : AllPatsAt g c.result ps ts =

@@ -1,21 +1,72 @@
 -- The loop over the elements of a tuple.
-use Rattle.std.proofs.Common.{ℕ, ◌+◌, ◌<◌, ◌≤◌, ◌≡◌, refl, sym, ap, subst, List, [], ◌∷◌, ◌++◌, length, map, get_or, Option}
+use Rattle.std.proofs.Common.{ℕ, ◌+◌, ◌<◌, ◌≤◌, ◌≡◌, refl, sym, ap, subst, List, [], ◌∷◌, ◌++◌, length, map, get_or, Option, Some, None, arith}
+use Rattle.hir_types.specs.declared.head.HoleKind.TheVariants as kind
 use Rattle.hir_types.specs.declared.ids.ExprId.{ExprId}
 use Rattle.hir_types.specs.declared.ty.Ty.{Ty}
 use Rattle.hir_types.specs.declared.ty.Ty.TheVariants as ty
 use Rattle.hir_types.specs.Subst.{Assignment, folded, with_holes}
 use Rattle.hir_types.specs.Folding.{replaced_tuple}
 use Rattle.hir_facts.specs.declared.schedule.Schedule.{Schedule}
+use Rattle.infer_table.specs.HoleLaws.{grew_by_hole}
+use Rattle.infer_table.specs.Table.{Grew, hole_count, with_new_hole}
 use Rattle.infer_result.specs.Places.{Given}
 use Rattle.infer_expr.specs.declared.context.InferenceContext.{InferenceContext}
 use Rattle.infer_expr.specs.Context.{element_type}
 use Rattle.infer_expr.specs.Closings.{Closes, found_under, expected_under}
-use Rattle.infer_expr.specs.Fine.{IsFineExpectation}
-use Rattle.infer_expr.specs.Steps.{Follows, Before, Within, KindDone, CoerceDone}
+use Rattle.infer_expr.specs.Fine.{IsFine, IsFineExpectation}
+use Rattle.infer_expr.specs.declared.coerce.Coerced.{Coerced}
+use Rattle.infer_expr.specs.Steps.{Follows, Before, Within, KindDone, CoerceDone, IsCoerced}
 use Rattle.infer_expr.specs.Under as under
 use Rattle.infer_expr.proofs.AtEach.{follows_itself, follows_twice, closes_before, walking_after, expected_carried, within_under}
-use Rattle.infer_expr.proofs.FineTypes.{AllFine, all_fine_grown, fine_push, fine_tuple, fine_element, fine_expectation_grown}
-use Rattle.infer_expr.proofs.Tuples.{TupleLoop, tuple_start, tuple_before, tuple_next, tuple_done}
+use Rattle.infer_expr.proofs.FineTypes.{AllFine, all_fine_grown, fine_grown, fine_hole, fine_push, fine_tuple, fine_element, fine_expectation_grown}
+use Rattle.infer_expr.proofs.Closed.{closes_earlier}
+use Rattle.infer_expr.proofs.Holes.{holed, holed_sound}
+use Rattle.infer_expr.proofs.OverTypes.{fine_closed}
+use Rattle.infer_expr.proofs.Tuples.{element_placed, element_coerced, TupleLoop, tuple_start, tuple_before, tuple_next, tuple_done}
+
+-- ---- an element
+
+pub places_element : (g : Given) (s : Schedule) (e : ExprId) (x : Option Ty) (t : Ty) (old new : InferenceContext) → CoerceDone g s e x t old new → CoerceDone g s e (Some t) t old new
+places_element g s e x t old new d = record {
+  follows = d.follows;
+  fine = d.fine;
+  each = λ a q. element_placed g s e (expected_under a x) (folded a t) (found_under a old) (found_under a new) (d.each a q);
+}
+
+-- the element waits for a new hole
+module _ (g : Given) (s : Schedule) (e : ExprId) (t : Ty) (old mid : InferenceContext) (d : CoerceDone g s e None t old mid) where
+  abbrev component : Ty
+  component = ty.Var (hole_count mid.table)
+
+  pub component_grew : Grew mid.table (with_new_hole mid.table kind.Ty)
+  component_grew = grew_by_hole mid.table (with_new_hole mid.table kind.Ty) kind.Ty refl
+
+  pub component_follows : Follows g old (holed mid kind.Ty)
+  component_follows = follows_twice g old mid (holed mid kind.Ty) d.follows (record {
+    clock = omega arith;
+    grew = component_grew;
+    of_body = d.follows.of_body;
+    sound = holed_sound mid kind.Ty d.follows.sound;
+  })
+
+  pub own_fine : IsFine g.scope (with_new_hole mid.table kind.Ty) t
+  own_fine = fine_grown g.scope mid.table (with_new_hole mid.table kind.Ty) t component_grew d.fine
+
+  pub component_fine : IsFine g.scope (with_new_hole mid.table kind.Ty) component
+  component_fine = fine_hole g.scope mid.table
+
+  pub element_waits : (answer : Coerced) (new : InferenceContext) → Before g s e None old → IsCoerced answer g e t component (holed mid kind.Ty) new → CoerceDone g s e (Some component) component old new
+  element_waits answer new b k = record {
+    follows = follows_twice g old (holed mid kind.Ty) new component_follows k.follows;
+    fine = fine_grown g.scope (with_new_hole mid.table kind.Ty) new.table component k.follows.grew component_fine;
+    each = λ a q.
+        let z = k.each a q in
+        let l : Closes a (holed mid kind.Ty) = closes_before g a (holed mid kind.Ty) new k.follows q in
+        let m : Closes a mid = closes_earlier a mid (holed mid kind.Ty) component_grew l in
+        element_coerced g s z.0 e (folded a t) (folded a component) (found_under a old) (found_under a mid) (found_under a new) b.within (fine_closed g.scope a component q.closing component_fine.heads) (d.each a m) z.2;
+  }
+
+-- ---- the loop
 
 -- the first i elements of the tuple n have the types ts, and the others lie ahead
 pub record TupleWalk (g : Given) (s : Schedule) (n : ExprId) (es : List ExprId) (i : ℕ) (ts : List Ty) (mid c : InferenceContext) : Type 0 where
@@ -50,14 +101,14 @@ module _ (g : Given) (s : Schedule) (n : ExprId) (es : List ExprId) (i : ℕ) (t
         expected = expected x w;
       }
 
-  pub goes_past_element : (x : Option Ty) → Within g s n x mid → (e : ExprId) (t : Ty) (next : InferenceContext) → e ≡ get_or es i e → i < length es → CoerceDone g s e (element_type x i) t c next → TupleWalk g s n es (i + 1) (ts ++ t ∷ []) mid next
+  pub goes_past_element : (x : Option Ty) → Within g s n x mid → (e : ExprId) (t : Ty) (next : InferenceContext) → e ≡ get_or es i e → i < length es → CoerceDone g s e (Some t) t c next → TupleWalk g s n es (i + 1) (ts ++ t ∷ []) mid next
   goes_past_element x w e t next is k d = record {
     follows = follows_twice g mid c next h.follows d.follows;
     fine = fine_push g.scope next.table ts t (all_fine_grown g.scope c.table next.table ts d.follows.grew h.fine) d.fine;
     each = λ a q.
         let l : Closes a c = closes_before g a c next d.follows q in
         subst (λ us. TupleLoop g s n es (i + 1) us (found_under a mid) (found_under a next)) (sym (push_each a ts t))
-        (tuple_next g s n es i (map (folded a) ts) (found_under a mid) (found_under a c) (h.each a l) (expected_under a (element_type x i)) (expected_carried g.scope a c.table (element_type x i) l.closing (expected x w)) e (folded a t) (found_under a next) is k (d.each a q));
+        (tuple_next g s n es i (map (folded a) ts) (found_under a mid) (found_under a c) (h.each a l) (Some (folded a t)) (fine_closed g.scope a t q.closing d.fine.heads) e (folded a t) (found_under a next) is k (d.each a q));
   }
 
   pub ends_tuple : (x : Option Ty) → Within g s n x mid → under.IsTupleOf g.body n es → length es ≤ i → KindDone g s n x (ty.Tuple ts) mid c

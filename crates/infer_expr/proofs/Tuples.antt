@@ -1,5 +1,5 @@
 -- The loop over the elements of a tuple.
-use Rattle.std.proofs.Common.{ℕ, zero, suc, ◌+◌, ◌<◌, ◌≤◌, ◌≡◌, inl, inr, List, [], ◌∷◌, ◌++◌, length, take, drop, get_or, refl, sym, ap, subst, ◌∙◌, arith, Option, Some, slice_get, length-append, append-nil}
+use Rattle.std.proofs.Common.{ℕ, zero, suc, ◌+◌, ◌<◌, ◌≤◌, ◌≡◌, inl, inr, Bool, List, [], ◌∷◌, ◌++◌, length, take, drop, get_or, refl, sym, ap, subst, ◌∙◌, arith, Option, Some, None, slice_get, length-append, append-nil}
 use Rattle.std.proofs.Math.ListN.{drop_of_length-le, take-append-drop}
 use Rattle.std.proofs.lemmas.List.{take_more}
 use Rattle.std.proofs.lemmas.Option.{slice_get_read}
@@ -18,15 +18,38 @@ use Rattle.infer_result.specs.Rules.Tuples.{AllAt}
 use Rattle.infer_expr.specs.Found.{Found}
 use Rattle.infer_expr.specs.Context.{IsCarriedExpectation}
 use Rattle.infer_expr.specs.Walks.{Walks, Debt, Owed, OwedAmong, PaidBy, expr_end}
-use Rattle.infer_expr.specs.Under.{IsReady, LieAhead, Before, Within, KindDone, CoerceDone, IsTupleOf}
+use Rattle.infer_expr.specs.Under.{IsReady, LieAhead, Before, Within, KindDone, CoerceDone, IsCoercedIf, IsTupleOf}
 use Rattle.infer_expr.proofs.Lists.{slice_get-append_left, slice_get-push, drop-step}
-use Rattle.hir_facts.specs.CarriedTypes.{AreCarriedTypes}
+use Rattle.hir_facts.specs.CarriedTypes.{AreCarriedTypes, IsCarriedType}
 use Rattle.infer_expr.proofs.Types.{carried_push, carried_tuple_of}
 use Rattle.infer_expr.proofs.Parts.{ahead_rest, expr_ahead, expr_before}
 use Rattle.infer_expr.proofs.Category.{walks_refl, walks_trans, walks_paid}
 use Rattle.infer_expr.proofs.Keeps.{all_kept}
-use Rattle.infer_expr.proofs.Coercions.{placed_at, placed_carried, placed_owed}
+use Rattle.infer_expr.proofs.Coercions.{coerced_walks, coerced_placed, coerced_clock, placed_at, placed_carried, placed_owed}
 use Rattle.infer_expr.proofs.Leaves.{rule_of}
+
+-- ---- an element
+
+-- one that is placed is at the type at which it stands in the tuple
+pub element_placed : (g : Given) (s : Schedule) (e : ExprId) (x : Option Ty) (t : Ty) (old new : Found) → CoerceDone g s e x t old new → CoerceDone g s e (Some t) t old new
+element_placed g s e x t old new d = record {
+  walks = walks_paid g s (Owed e x) (Owed e (Some t)) old new (λ n m o. inr (placed_owed new.result e x t d.placed n m o)) d.walks;
+  clock = d.clock;
+  placed = (refl, placed_at new.result e x t d.placed);
+}
+
+-- one of which nothing is expected is coerced to u
+pub element_coerced : (g : Given) (s : Schedule) (fits : Bool) (e : ExprId) (t u : Ty) (old mid new : Found) → e.0 < length g.body.exprs → IsCarriedType u → CoerceDone g s e None t old mid → IsCoercedIf fits e t u mid new → CoerceDone g s e (Some u) u old new
+element_coerced g s fits e t u old mid new within carried d k =
+    let P : Debt = Owed e (Some u) in
+    let walks : Walks g s P old mid = walks_paid g s (Owed e None) P old mid (λ n m o. absurd o) d.walks in
+    record {
+      walks = coerced_walks g s P e t u old mid walks within d.placed carried fits new (λ differ. inr (refl, refl)) k;
+      clock = coerced_clock fits e t u mid new k ∙ d.clock;
+      placed = (refl, coerced_placed g s P e t u old mid walks within d.placed carried fits new k);
+    }
+
+-- ---- the loop
 
 -- the first i elements of the tuple n have the types ts, and the others lie ahead
 pub record TupleLoop (g : Given) (s : Schedule) (n : ExprId) (es : List ExprId) (i : ℕ) (ts : List Ty) (mid c : Found) : Type 0 where

@@ -1,13 +1,16 @@
 -- Two types unified, or refused, at an expression.
-use Rattle.std.proofs.Common.{◌≡◌, true, false, refl, sym, ap, subst, arith}
+use Rattle.std.proofs.Common.{ℕ, zero, suc, ◌+◌, ◌++◌, ◌≡◌, inl, inr, Bool, true, false, if◌then◌else◌, List, [], ◌∷◌, length, refl, sym, ap, subst, ◌∙◌, arith, Option, Some, None, slice_get}
 use Rattle.hir_types.specs.declared.head.Head.TheVariants as head
 use Rattle.hir_types.specs.declared.head.Hole.{Hole}
 use Rattle.hir_types.specs.declared.head.Hole.TheVariants as hole_of
 use Rattle.hir_types.specs.declared.ids.ExprId.{ExprId}
+use Rattle.hir_types.specs.declared.ids.ExprOrPatId.TheVariants as node
+use Rattle.hir_types.proofs.Equal.{ty_decides}
 use Rattle.hir_types.specs.declared.ty.IntTy.TheVariants as int
 use Rattle.hir_types.specs.declared.ty.IntegerTy.{IntegerTy}
 use Rattle.hir_types.specs.declared.ty.IntegerTy.TheVariants.{Int, Uint}
 use Rattle.hir_types.specs.declared.ty.Ty.{Ty}
+use Rattle.hir_types.specs.declared.ty.Ty.TheVariants as ty
 use Rattle.hir_types.specs.Subst.{Assignment, folded}
 use Rattle.hir_types.specs.Terms.{hole, term, terms_of, IsInt}
 use Rattle.hir_types.specs.TermLaws.{term_bool, term_char, term_error, term_param, term_tuple, term_adt_types, term_fn_def_types}
@@ -16,20 +19,32 @@ use Rattle.hir_facts.specs.CarriedTypes.{IsCarriedType, carried_error, carried_i
 use Rattle.hir_facts.specs.Scope.{Scope}
 use Rattle.infer_table.specs.Completion.{completion, fallback}
 use Rattle.infer_table.specs.Preserved.{whole, IsMadeOf, BindsOnly, made_of_resolved, unified_same, refused_apart, binds_only_unified}
-use Rattle.infer_table.specs.Resolution.{resolution, resolution_terms}
-use Rattle.infer_table.specs.Solutions.{Respects, log_of}
-use Rattle.infer_table.specs.Table.{State, bindings, Meets, AreUnified, AreRefused}
+use Rattle.infer_table.specs.Resolution.{resolution, resolution_terms, IsOpenOrKnown}
+use Rattle.infer_table.specs.Bindings.{Substitution}
+use Rattle.infer_table.specs.Solutions.{Respects, Solves, log_of}
+use Rattle.infer_table.specs.declared.waiting.WaitingPair.{WaitingPair}
+use Rattle.infer_table.specs.Waiting.{Waiting, waiting, with_pair, is_taken}
+use Rattle.infer_table.specs.WaitingLaws.{left_from-push}
+use Rattle.infer_table.specs.UndoLaws.{front_itself}
+use Rattle.infer_table.specs.Table.{State, bindings, Meets, Grew, AreUnified, AreRefused, TakesFirstKnown, TakesKnown, with_waiting, resolved_type, resolved_term, is_type_hole}
+use Rattle.infer_table.specs.TableLaws.{hole_where_open, is_var_at}
 use Rattle.infer_result.specs.Closed.{IsOfBody}
 use Rattle.infer_result.specs.Places.{Given}
+use Rattle.infer_result.specs.declared.result.TypeMismatch.{TypeMismatch}
 use Rattle.infer_result.specs.Table.{mismatch}
 use Rattle.infer_expr.specs.declared.context.InferenceContext.{InferenceContext}
-use Rattle.infer_expr.specs.Context.{with_mismatch}
-use Rattle.infer_expr.specs.Closings.{IsClosing, Closes, IsSound}
-use Rattle.infer_expr.specs.Fine.{is_fine_head, HasFineHeads, IsFine}
-use Rattle.infer_expr.specs.Steps.{IsCoercedIf}
-use Rattle.infer_expr.proofs.AtEach.{follows_itself}
-use Rattle.infer_expr.proofs.Closed.{closes_same, mismatch_under, of_body_mismatch, sound_mismatch}
-use Rattle.infer_expr.proofs.FineTypes.{table_fine_grown, fine_no_alias}
+use Rattle.infer_expr.specs.Context.{with_mismatch, waiting_at}
+use Rattle.infer_expr.specs.Found as found
+use Rattle.infer_expr.specs.Found.{noted}
+use Rattle.infer_expr.specs.Under as under
+use Rattle.infer_expr.specs.Closings.{IsClosing, Closes, IsSound, closed_mismatch, closed_mismatches, closed_table, found_under, same_types}
+use Rattle.infer_expr.specs.Fine.{is_fine_head, HasFineHeads, IsFine, AreFinePairs}
+use Rattle.infer_expr.specs.declared.coerce.Coerced.TheVariants as coerced
+use Rattle.infer_expr.specs.Steps.{OnlyBinds, IsUnifiedIf, Takes, MayWait, IsCoerced}
+use Rattle.infer_expr.proofs.AtEach.{follows_itself, follows_twice, closes_before}
+use Rattle.infer_expr.proofs.Closed.{same_found, closes_same, mismatch_under, asked-same, asked-apart, of_body_mismatch, sound_mismatch}
+use Rattle.infer_expr.proofs.Lists.{noted-cases}
+use Rattle.infer_expr.proofs.FineTypes.{fine_grown, table_fine_grown, fine_pairs_grown, fine_asked_grown, fine_no_alias}
 use Rattle.infer_expr.proofs.OverTypes.{CarriedCases, over_carried, heads_carried, same_closed, apart_closed, closing_respects}
 
 -- ---- the completion of holes closes the context
@@ -73,57 +88,254 @@ with_table c state = record c { table = state }
 
 module _ (sc : Scope) (c : InferenceContext) (t u : Ty) (s : IsSound sc c) (ft : IsFine sc c.table t) (fu : IsFine sc c.table u) where
   -- what is known of the context goes on to hold
-  pub unified_sound : (after : State) → AreUnified c.table after t u → Meets (terms_of (completion after)) after → Respects (terms_of (completion after)) → IsSound sc (with_table c after)
+  unified_sound : (after : State) → AreUnified c.table after t u → Meets (terms_of (completion after)) after → Respects (terms_of (completion after)) → IsSound sc (with_table c after)
   unified_sound after k m r =
       let bound = binds_only_unified (is_fine_head sc) (fine_no_alias sc) head.Bool refl c.table after t u k (terms_of (completion after)) m s.bound ft.heads fu.heads in
       record {
         fine = table_fine_grown sc c.table after c.result k.grown s.fine;
+        asked = fine_asked_grown sc c.table after c.asked k.grown s.asked;
+        pairs = fine_pairs_grown sc c.table after (waiting after.pairs) k.grown (subst (λ w. AreFinePairs sc c.table (waiting w)) (sym k.pairs) s.pairs);
         bound = bound;
         some = (completion after, record { closing = completion_closing sc after bound r; meets = m });
       }
 
   -- the two are the same under each assignment from then on
-  pub unified_closed : (after : State) → AreUnified c.table after t u → (a : Assignment) → Closes a (with_table c after) → folded a t ≡ folded a u
+  unified_closed : (after : State) → AreUnified c.table after t u → (a : Assignment) → Closes a (with_table c after) → folded a t ≡ folded a u
   unified_closed after k a q = same_closed sc a t u q.closing ft.heads fu.heads (unified_same (is_fine_head sc) c.table after t u (fine_no_alias sc) s.bound ft.heads fu.heads k (terms_of a) q.meets)
 
   -- they are the same under none
-  pub refused_closed : (after : State) → AreRefused c.table after t u → (a : Assignment) → Closes a c → folded a t ≡ folded a u → ⊥
+  refused_closed : (after : State) → AreRefused c.table after t u → (a : Assignment) → Closes a c → folded a t ≡ folded a u → ⊥
   refused_closed after k a q same = refused_apart (is_fine_head sc) c.table t u (fine_no_alias sc) s.bound ft.heads fu.heads k.impossible (terms_of a) (closing_respects a q.closing) q.meets (apart_closed a t u same)
+
+-- nothing is found out
+pub binds_nothing : (g : Given) (c : InferenceContext) → IsOfBody g.body c.result → IsSound g.scope c → OnlyBinds g c c
+binds_nothing g c h s = record { follows = follows_itself g c h s; result = refl; asked = refl; clock = refl }
+
+pub binds_twice : (g : Given) (x y z : InferenceContext) → OnlyBinds g x y → OnlyBinds g y z → OnlyBinds g x z
+binds_twice g x y z h k = record {
+  follows = follows_twice g x y z h.follows k.follows;
+  result = k.result ∙ h.result;
+  asked = k.asked ∙ h.asked;
+  clock = k.clock ∙ h.clock;
+}
+
+module _ (g : Given) (t u : Ty) (c : InferenceContext) (h : IsOfBody g.body c.result) (s : IsSound g.scope c) (ft : IsFine g.scope c.table t) (fu : IsFine g.scope c.table u) where
+  pub unified : (after : State) → AreUnified c.table after t u → Meets (terms_of (completion after)) after → Respects (terms_of (completion after)) → IsUnifiedIf true g t u c (with_table c after)
+  unified after k m r = record {
+    binds = record {
+      follows = record {
+        clock = omega arith;
+        grew = k.grown;
+        of_body = h;
+        sound = unified_sound g.scope c t u s ft fu after k m r;
+      };
+      result = refl;
+      asked = refl;
+      clock = refl;
+    };
+    each = unified_closed g.scope c t u s ft fu after k;
+  }
+
+  pub refused : (after : State) → AreRefused c.table after t u → IsUnifiedIf false g t u c (with_table c after)
+  refused after k =
+      subst (λ state. IsUnifiedIf false g t u c (with_table c state)) (sym k.unchanged) (record {
+        binds = binds_nothing g c h s;
+        each = refused_closed g.scope c t u s ft fu after k;
+      })
+
+-- where they are unified, what is found out later changes nothing of that
+pub unified_later : (g : Given) (t u : Ty) (x y z : InferenceContext) → IsUnifiedIf true g t u x y → OnlyBinds g y z → IsUnifiedIf true g t u x z
+unified_later g t u x y z h k = record {
+  binds = binds_twice g x y z h.binds k;
+  each = λ a q. h.each a (closes_before g a y z k.follows q);
+}
+
+-- ---- pairs that wait
+
+module _ (sc : Scope) (state : State) where
+  fine_pairs_right : (ps qs : List WaitingPair) → AreFinePairs sc state (ps ++ qs) → AreFinePairs sc state qs
+  fine_pairs_right [] qs h = h
+  fine_pairs_right (p ∷ ps) qs h = fine_pairs_right ps qs h.1
+
+  fine_pairs_left : (ps qs : List WaitingPair) → AreFinePairs sc state (ps ++ qs) → AreFinePairs sc state ps
+  fine_pairs_left [] qs h = tt
+  fine_pairs_left (p ∷ ps) qs h = (h.0, fine_pairs_left ps qs h.1)
+
+  fine_pairs_append : (ps qs : List WaitingPair) → AreFinePairs sc state ps → AreFinePairs sc state qs → AreFinePairs sc state (ps ++ qs)
+  fine_pairs_append [] qs h k = k
+  fine_pairs_append (p ∷ ps) qs h k = (h.0, fine_pairs_append ps qs h.1 k)
+
+  pub fine_pair_at : (ps : List WaitingPair) (i : ℕ) (p : WaitingPair) → AreFinePairs sc state ps → slice_get ps i ≡ Some p → IsFine sc state p.source × IsFine sc state p.target
+  fine_pair_at [] i p h e = absurd (cc)
+  fine_pair_at (q ∷ ps) zero p h e = (let k : q ≡ p = cc in subst (λ (x : WaitingPair). IsFine sc state x.source × IsFine sc state x.target) k h.0)
+  fine_pair_at (q ∷ ps) (suc i) p h e = fine_pair_at ps i p h.1 e
+
+  -- one pair more
+  pub fine_pair_more : (w : Waiting) (p : WaitingPair) → AreFinePairs sc state (waiting w) → IsFine sc state p.source × IsFine sc state p.target → AreFinePairs sc state (waiting (with_pair w p))
+  fine_pair_more w p h k =
+      subst (λ ps. AreFinePairs sc state ps) (sym (left_from-push w.taken 0 w.made p))
+      (fine_pairs_append (waiting w) (if is_taken w.taken (0 + length w.made) then [] else p ∷ []) h (maybe_one (is_taken w.taken (0 + length w.made))))
+    where
+      maybe_one : (b : Bool) → AreFinePairs sc state (if b then [] else p ∷ [])
+      maybe_one true = tt
+      maybe_one false = (k, tt)
+
+-- a pair is taken off those that wait
+module _ (g : Given) (c : InferenceContext) (h : IsOfBody g.body c.result) (s : IsSound g.scope c) where
+  took_one : (after : State) (p : WaitingPair) → TakesFirstKnown c.table after p → Takes g (Some p) c (with_table c after)
+  took_one after p k =
+      let all : AreFinePairs g.scope c.table (k.ahead ++ p ∷ k.rest) = subst (λ ps. AreFinePairs g.scope c.table ps) k.was s.pairs in
+      let here : AreFinePairs g.scope c.table (p ∷ k.rest) = fine_pairs_right g.scope c.table k.ahead (p ∷ k.rest) all in
+      let left : AreFinePairs g.scope c.table (waiting after.pairs) = subst (λ ps. AreFinePairs g.scope c.table ps) (sym k.is) (
+      fine_pairs_append g.scope c.table k.ahead k.rest (fine_pairs_left g.scope c.table k.ahead (p ∷ k.rest) all) here.1
+      ) in
+      let log : bindings c.table ≡ bindings after = ap (λ (x : Substitution). x.log) (sym k.substitution) in
+      record {
+        binds = record {
+          follows = record {
+            clock = omega arith;
+            grew = k.grown;
+            of_body = h;
+            sound = record {
+              fine = table_fine_grown g.scope c.table after c.result k.grown s.fine;
+              asked = fine_asked_grown g.scope c.table after c.asked k.grown s.asked;
+              pairs = fine_pairs_grown g.scope c.table after (waiting after.pairs) k.grown left;
+              bound = subst (λ bs. BindsOnly (is_fine_head g.scope) (log_of bs)) log s.bound;
+              some = (s.some.0, record { closing = s.some.1.closing; meets = subst (λ bs. Solves (terms_of s.some.0) (log_of bs)) log s.some.1.meets });
+            };
+          };
+          result = refl;
+          asked = refl;
+          clock = refl;
+        };
+        taken = k;
+        fine = λ q e.
+            let same : p ≡ q = cc in
+            let P : WaitingPair → Type 0 = λ x. IsFine g.scope after x.source × IsFine g.scope after x.target in
+            subst P same (fine_grown g.scope c.table after p.source k.grown here.0.0, fine_grown g.scope c.table after p.target k.grown here.0.1);
+      }
+
+  pub took : (after : State) (pair : Option WaitingPair) → TakesKnown c.table after pair → Takes g pair c (with_table c after)
+  took after (Some p) k = took_one after p k
+  took after None k =
+      subst (λ state. Takes g None c (with_table c state)) (sym k.unchanged) (record {
+        binds = binds_nothing g c h s;
+        taken = record { unchanged = refl; none = k.none };
+        fine = λ q e. absurd (cc);
+      })
+
+-- a pair that waited is fine, also once more is found out
+pub pair_still_fine : (g : Given) (old c : InferenceContext) (ps : List WaitingPair) (i : ℕ) (p : WaitingPair) → AreFinePairs g.scope old.table ps → OnlyBinds g old c → slice_get ps i ≡ Some p → IsFine g.scope c.table p.source × IsFine g.scope c.table p.target
+pair_still_fine g old c ps i p h b at = fine_pair_at g.scope c.table ps i p (fine_pairs_grown g.scope old.table c.table ps b.follows.grew h) at
 
 -- ---- coercions
 
-pub same_coerced : (g : Given) (e : ExprId) (t u : Ty) (c : InferenceContext) → IsOfBody g.body c.result → IsSound g.scope c → t ≡ u → IsCoercedIf true g e t u c c
+pub same_coerced : (g : Given) (e : ExprId) (t u : Ty) (c : InferenceContext) → IsOfBody g.body c.result → IsSound g.scope c → t ≡ u → IsCoerced coerced.Yes g e t u c c
 same_coerced g e t u c h s is = record {
   follows = follows_itself g c h s;
   clock = refl;
-  each = λ a q. (ap (folded a) is, refl);
+  waits = λ i. absurd (cc);
+  each = λ a q. (true, refl, (ap (folded a) is, refl));
 }
 
-module _ (g : Given) (e : ExprId) (t u : Ty) (c : InferenceContext) (h : IsOfBody g.body c.result) (s : IsSound g.scope c) (ft : IsFine g.scope c.table t) (fu : IsFine g.scope c.table u) where
-  pub unified_coerced : (after : State) → AreUnified c.table after t u → Meets (terms_of (completion after)) after → Respects (terms_of (completion after)) → IsCoercedIf true g e t u c (with_table c after)
-  unified_coerced after k m r = record {
-    follows = record {
-      clock = omega arith;
-      grew = k.grown;
-      of_body = h;
-      sound = unified_sound g.scope c t u s ft fu after k m r;
-    };
-    clock = refl;
-    each = λ a q. (unified_closed g.scope c t u s ft fu after k a q, refl);
+module _ (g : Given) (e : ExprId) (t u : Ty) (c new : InferenceContext) where
+  pub unified_coerced : IsUnifiedIf true g t u c new → IsCoerced coerced.Yes g e t u c new
+  unified_coerced k = record {
+    follows = k.binds.follows;
+    clock = k.binds.clock;
+    waits = λ i. absurd (cc);
+    each = λ a q. (true, refl, (k.each a q, same_found a c new k.binds.result k.binds.asked k.binds.clock));
   }
 
-  pub refused_coerced : (after : State) → AreRefused c.table after t u → IsCoercedIf false g e t u c (with_mismatch (with_table c after) e (mismatch u t))
-  refused_coerced after k =
-      subst (λ state. IsCoercedIf false g e t u c (with_mismatch (with_table c state) e (mismatch u t))) (sym k.unchanged) (record {
-        follows = record {
-          clock = omega arith;
-          grew = (follows_itself g c h s).grew;
-          of_body = of_body_mismatch g.body c h e (mismatch u t);
-          sound = sound_mismatch c s e (mismatch u t) fu ft;
-        };
-        clock = refl;
-        each = λ a q. (
-          λ same. refused_closed g.scope c t u s ft fu after k a (closes_same a (with_mismatch c e (mismatch u t)) c refl q) (sym same),
-          mismatch_under a c e (mismatch u t),
-        );
-      })
+  module _ (ft : IsFine g.scope c.table t) (fu : IsFine g.scope c.table u) where
+    pub refused_coerced : IsUnifiedIf false g t u c new → IsCoerced coerced.No g e t u c (with_mismatch new e (mismatch u t))
+    refused_coerced k =
+        let f = k.binds.follows in
+        let last : InferenceContext = with_mismatch new e (mismatch u t) in
+        record {
+          follows = record {
+            clock = f.clock;
+            grew = f.grew;
+            of_body = of_body_mismatch g.body new f.of_body e (mismatch u t);
+            sound = sound_mismatch new f.sound e (mismatch u t) (fine_grown g.scope c.table new.table u f.grew fu) (fine_grown g.scope c.table new.table t f.grew ft);
+          };
+          clock = k.binds.clock;
+          waits = λ i. absurd (cc);
+          each = λ a q. (
+            false,
+            refl,
+            (
+              λ same. k.each a (closes_same a last new refl q) (sym same),
+              mismatch_under a new e (mismatch u t) ∙ ap (λ f. found.with_mismatch f e (closed_mismatch a (mismatch u t))) (same_found a c new k.binds.result k.binds.asked k.binds.clock),
+            ),
+          );
+        }
+
+-- ---- an expression that waits
+
+-- the type resolves to an open hole
+pub unknown_at : (state : State) (t r : Ty) (n : ℕ) → resolved_type state r ≡ resolved_type state t → IsOpenOrKnown (bindings state) r → r ≡ ty.Var n → is_type_hole (resolved_term state t) ≡ true
+unknown_at state t r n same open_or_known is = ap (λ (u : Ty). is_type_hole (term u)) (sym same) ∙ (hole_where_open (bindings state) r open_or_known ∙ is_var_at r n is)
+
+module _ (g : Given) (e : ExprId) (t u : Ty) (c : InferenceContext) (h : IsOfBody g.body c.result) (s : IsSound g.scope c) (ft : IsFine g.scope c.table t) (fu : IsFine g.scope c.table u) (may : MayWait c e t u) where
+  abbrev waiting_pair : WaitingPair
+  waiting_pair = record { source = t; target = u; node = node.ExprId e }
+
+  abbrev after_wait : State
+  after_wait = with_waiting c.table t u (node.ExprId e)
+
+  abbrev last : InferenceContext
+  last = waiting_at c e t u
+
+  wait_grew : Grew c.table after_wait
+  wait_grew = record {
+    kinds = front_itself c.table.substitution.kinds;
+    log = front_itself (bindings c.table);
+    made = (waiting_pair ∷ [], refl);
+    taken = front_itself c.table.pairs.taken;
+    diverging = front_itself c.table.diverging;
+  }
+
+  wait_sound : IsSound g.scope last
+  wait_sound = record {
+    fine = table_fine_grown g.scope c.table after_wait c.result wait_grew s.fine;
+    asked = λ n m i.
+        let P : TypeMismatch → Type 0 = λ x. IsFine g.scope after_wait x.expected × IsFine g.scope after_wait x.actual in
+        elim (noted-cases c.asked e.0 n (mismatch u t) m i) [
+          | inl q ↦ fine_asked_grown g.scope c.table after_wait c.asked wait_grew s.asked n m q
+          | inr q ↦ subst P q.1 (fine_grown g.scope c.table after_wait u wait_grew fu, fine_grown g.scope c.table after_wait t wait_grew ft)
+        ];
+    pairs = fine_pairs_grown g.scope c.table after_wait (waiting after_wait.pairs) wait_grew (fine_pair_more g.scope c.table c.table.pairs waiting_pair s.pairs (ft, fu));
+    bound = s.bound;
+    some = (s.some.0, record { closing = s.some.1.closing; meets = s.some.1.meets });
+  }
+
+  asked_under : (a : Assignment) (xs : List (Option TypeMismatch)) → closed_mismatches a (noted c.asked e.0 (mismatch u t)) c.result.expr_mismatches ≡ xs → found_under a last ≡ record { result = record (closed_table a c.asked c.result) { expr_mismatches = xs }; clock = c.clock }
+  asked_under a xs k = ap (λ l. record { result = record (closed_table a c.asked c.result) { expr_mismatches = l }; clock = c.clock }) k
+
+  -- it is coerced under the assignments under which the two are the same
+  decided : (a : Assignment) (b : Bool) → same_types (folded a u) (folded a t) ≡ b → (fits : Bool) × Unit {0} × under.IsCoercedIf fits e (folded a t) (folded a u) (found_under a c) (found_under a last)
+  decided a true k = (
+    true,
+    tt,
+    (
+      sym ((ty_decides (folded a u) (folded a t)).0 k),
+      asked_under a (closed_mismatches a c.asked c.result.expr_mismatches) (asked-same a c.asked c.result.expr_mismatches e.0 (mismatch u t) may.unasked.asked k),
+    ),
+  )
+  decided a false k = (
+    false,
+    tt,
+    (
+      λ same. (let z = (ty_decides (folded a u) (folded a t)).1 same in absurd (cc)),
+      asked_under a (noted (closed_mismatches a c.asked c.result.expr_mismatches) e.0 (closed_mismatch a (mismatch u t))) (asked-apart a c.asked c.result.expr_mismatches e.0 (mismatch u t) may.unasked.asked may.unasked.noted k),
+    ),
+  )
+
+  pub waits_coerced : IsCoerced coerced.Waits g e t u c last
+  waits_coerced = record {
+    follows = record { clock = omega arith; grew = wait_grew; of_body = h; sound = wait_sound };
+    clock = refl;
+    waits = λ i. record { may = may; waits = refl };
+    each = λ a q. decided a (same_types (folded a u) (folded a t)) refl;
+  }

@@ -1,7 +1,7 @@
 -- The walk of a whole body.
 use Rattle.std.proofs.Common.{ℕ, zero, suc, ◌+◌, ◌<◌, ◌≡◌, ◌⊎◌, inl, inr, [], ◌∷◌, ◌^◌, length, refl, sym, subst, ◌∙◌, arith, Option, Some, None}
 use Rattle.std.specs.Prelude.{replicate}
-use Rattle.std.proofs.lemmas.List.{length-replicate}
+use Rattle.std.proofs.lemmas.List.{length-replicate, length-map}
 use Rattle.hir_types.specs.declared.ids.ExprId.{ExprId}
 use Rattle.hir_types.specs.declared.ids.ExprOrPatId.{ExprOrPatId}
 use Rattle.hir_types.specs.declared.ids.ExprOrPatId.TheVariants as node
@@ -17,13 +17,14 @@ use Rattle.infer_result.specs.Table.{At}
 use Rattle.infer_expr.specs.Walks.{IsCarriedTable}
 use Rattle.infer_result.specs.Places.{Given, Demand}
 use Rattle.infer_result.specs.Made.{IsMade, IsMisfit}
-use Rattle.infer_expr.specs.Found.{Found, nothing_found}
+use Rattle.infer_expr.specs.Found.{Found, expr_variant, pat_variant, nothing_found}
 use Rattle.infer_expr.specs.Walks.{Walks, IsWalked, IsFree, Nothing, Owed, expr_end}
 use Rattle.infer_expr.specs.Under.{IsReady, WrittenExist, LieAhead, Before, CoerceDone, BeforeParams, ParamsDone}
 use Rattle.infer_expr.proofs.Types.{table_closed}
 use Rattle.infer_expr.proofs.Parts.{after_append, ahead_start, ahead_right, ahead_stands, expr_before, binds_within}
 use Rattle.infer_expr.proofs.Category.{walks_trans, walks_paid}
 use Rattle.infer_expr.proofs.Keeps.{pat_at_kept}
+use Rattle.infer_expr.proofs.Variants.{only_named}
 
 -- ---- nothing is recorded
 
@@ -87,10 +88,15 @@ empty_walked g s law = record {
     mismatches = length-replicate (length g.body.exprs) None;
     pat_mismatches = length-replicate (length g.body.pats) None;
     diagnostics = length-replicate (length g.body.exprs) None;
+    pat_diagnostics = length-replicate (length g.body.pats) None;
+    expr_variants = length-map g.body.exprs expr_variant;
+    pat_variants = length-map g.body.pats pat_variant;
   };
   carried = empty_carried g.body s law;
   modes = λ p m i. absurd (At-replicate (length g.body.pats) p.0 m i);
   diagnostics = λ e d i. absurd (At-replicate (length g.body.exprs) e.0 d i);
+  pat_diagnostics = λ p d i. absurd (At-replicate (length g.body.pats) p.0 d i);
+  variants = record { exprs = refl; pats = refl };
   free_exprs = λ e i lo. free-replicate (length g.body.exprs) e.0 i;
   free_pats = λ p i lo. free-replicate (length g.body.pats) p.0 i;
   free_modes = λ p i lo. free-replicate (length g.body.pats) p.0 i;
@@ -142,6 +148,8 @@ module _ (g : Given) (s : Schedule) (law : IsWalkable g.body s) (t : Ty) (mid ne
     of_body = walked.state.of_body;
     closed = table_closed new.result walked.state.carried;
     modes = walked.state.modes;
+    pat_diagnostics = walked.state.pat_diagnostics;
+    variants = only_named g.body new.result walked.state.variants;
     clauses = λ e i.
         walked.made e i (inner_start g.body s (node.ExprId e) law.schedule i) (omega (arith, at_end, law.schedule.reached (inner (node.ExprId e)) i));
     kinds = λ p i.

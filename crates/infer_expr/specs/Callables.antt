@@ -1,7 +1,6 @@
--- What a function item takes and gives, written type by written type.
-use Rattle.std.specs.Prelude.{◌≡◌, List, map, slice_get, Some}
-use Rattle.hir_types.specs.declared.ids.FunctionId.{FunctionId}
-use Rattle.hir_types.specs.declared.ids.CallableDefId.TheVariants as callable
+-- What a callable item takes and gives.
+use Rattle.std.specs.Prelude.{◌≡◌, List, length, map, Some}
+use Rattle.hir_types.specs.declared.ids.CallableDefId.{CallableDefId}
 use Rattle.hir_types.specs.declared.ids.TypeRefId.{TypeRefId}
 use Rattle.hir_types.specs.declared.ty.GenericArg.{GenericArg}
 use Rattle.hir_types.specs.declared.ty.Ty.{Ty}
@@ -9,8 +8,11 @@ use Rattle.hir_types.specs.declared.ty.Ty.TheVariants as ty
 use Rattle.hir_types.specs.Assigned.{with_params}
 use Rattle.hir_types.specs.Subst.{replaced}
 use Rattle.hir_facts.specs.declared.raw.RawFacts.{RawFacts}
+use Rattle.hir_facts.specs.declared.raw.RawField.{RawField}
 use Rattle.hir_facts.specs.declared.raw.RawFn.{RawFn}
+use Rattle.hir_facts.specs.declared.raw.RawVariant.{RawVariant}
 use Rattle.hir_facts.specs.declared.raw.RawType.{RawType}
+use Rattle.hir_facts.specs.Signatures.{Signature, signature_of, type_args, at_args}
 use Rattle.hir_facts.specs.Types.{written_type}
 use Rattle.infer_expr.specs.declared.given.CallableSig.{CallableSig}
 
@@ -18,19 +20,33 @@ use Rattle.infer_expr.specs.declared.given.CallableSig.{CallableSig}
 abbrev pub written_at : List RawType → List GenericArg → TypeRefId → Ty
 written_at types xs w = replaced (with_params xs) (written_type types w)
 
--- the type is that of a function that exists
-pub record IsFunctionItem (facts : RawFacts) (t : Ty) : Type 0 where
-  pub function : FunctionId
-  pub args : List GenericArg
-  pub item : RawFn
-  pub is : t ≡ ty.FnDef (callable.FunctionId function) args
-  pub found : slice_get facts.fns function.0 ≡ Some item
+abbrev pub field_at : List RawType → List GenericArg → RawField → Ty
+field_at types xs f = written_at types xs f.ty
 
 -- it is what the function takes and gives at these arguments
-pub record IsSigOf (types : List RawType) (x : RawFn) (xs : List GenericArg) (sig : CallableSig) : Type 0 where
+pub record IsFnSig (types : List RawType) (x : RawFn) (xs : List GenericArg) (sig : CallableSig) : Type 0 where
   pub inputs : sig.inputs ≡ map (written_at types xs) x.inputs
   pub output : sig.output ≡ written_at types xs x.output
 
+-- it is what the constructor takes and gives
+pub record IsCtorSig (types : List RawType) (x : RawVariant) (xs : List GenericArg) (sig : CallableSig) : Type 0 where
+  pub inputs : sig.inputs ≡ map (field_at types xs) x.fields
+  pub output : sig.output ≡ ty.Adt x.adt xs
+
+-- the type is that of an item that can be called, at as many types as it has parameters
+pub record IsCallableItem (facts : RawFacts) (t : Ty) : Type 0 where
+  pub id : CallableDefId
+  pub types : List Ty
+  pub is : t ≡ ty.FnDef id (type_args types)
+  pub signature : Signature
+  pub found : signature_of facts id ≡ Some signature
+  pub count : length types ≡ signature.params
+
+-- it is what an item of this signature takes and gives at these types
+pub record IsSigOf (σ : Signature) (ts : List Ty) (sig : CallableSig) : Type 0 where
+  pub inputs : sig.inputs ≡ map (at_args ts) σ.inputs
+  pub output : sig.output ≡ at_args ts σ.output
+
 -- it is what the item of this type takes and gives
 abbrev pub IsSigOfItem : RawFacts → Ty → CallableSig → Type 0
-IsSigOfItem facts t sig = (f : FunctionId) (xs : List GenericArg) (x : RawFn) → t ≡ ty.FnDef (callable.FunctionId f) xs → slice_get facts.fns f.0 ≡ Some x → IsSigOf facts.types x xs sig
+IsSigOfItem facts t sig = (id : CallableDefId) (ts : List Ty) (σ : Signature) → t ≡ ty.FnDef id (type_args ts) → signature_of facts id ≡ Some σ → length ts ≡ σ.params → IsSigOf σ ts sig

@@ -1,8 +1,9 @@
 -- What the walk reads, what it expects, and what a write does.
-use Rattle.std.specs.Prelude.{◌+◌, ◌≡◌, ◌⊎◌, ℕ, length, replicate, slice_get, slice_set, Option, Some, None}
+use Rattle.std.specs.Prelude.{◌+◌, ◌≡◌, ◌⊎◌, ℕ, length, map, replicate, slice_get, slice_set, Option, Some, None}
 use Rattle.hir_types.specs.declared.ids.ExprId.{ExprId}
 use Rattle.hir_types.specs.declared.ids.PatId.{PatId}
 use Rattle.hir_types.specs.declared.ids.BindingId.{BindingId}
+use Rattle.hir_types.specs.declared.ids.ExprOrPatId.TheVariants as node
 use Rattle.hir_types.specs.declared.ty.AliasBound.{AliasBound}
 use Rattle.hir_types.specs.declared.ty.GenericArg.{GenericArg}
 use Rattle.hir_types.specs.declared.ty.TraitRef.{TraitRef}
@@ -15,9 +16,10 @@ use Rattle.infer_result.specs.declared.result.TypeMismatch.{TypeMismatch}
 use Rattle.infer_result.specs.declared.diagnostics.InferenceDiagnostic.{InferenceDiagnostic}
 use Rattle.infer_result.specs.declared.modes.BindingMode.{BindingMode}
 use Rattle.infer_result.specs.declared.modes.BindingMode.TheVariants as mode
-use Rattle.infer_table.specs.Table.{new_state}
+use Rattle.infer_table.specs.Table.{new_state, with_waiting}
+use Rattle.infer_result.specs.Table.{mismatch}
 use Rattle.infer_result.specs.Places.{Given}
-use Rattle.infer_expr.specs.Found.{noted}
+use Rattle.infer_expr.specs.Found.{noted, expr_variant, pat_variant}
 use Rattle.infer_expr.specs.declared.given.GivenBody.{GivenBody}
 use Rattle.infer_expr.specs.declared.expectation.Expectation.{Expectation}
 use Rattle.infer_expr.specs.declared.expectation.Expectation.TheVariants as expectation
@@ -71,7 +73,11 @@ empty_context b = record {
     expr_mismatches = replicate (length b.exprs) None;
     expr_diagnostics = replicate (length b.exprs) None;
     pat_mismatches = replicate (length b.pats) None;
+    pat_diagnostics = replicate (length b.pats) None;
+    expr_variants = map expr_variant b.exprs;
+    pat_variants = map pat_variant b.pats;
   };
+  asked = replicate (length b.exprs) None;
   clock = 1;
   table = new_state;
 }
@@ -87,11 +93,22 @@ with_expr_ty c e t = record c { result = record c.result { type_of_expr = slice_
 abbrev pub with_mismatch : InferenceContext → ExprId → TypeMismatch → InferenceContext
 with_mismatch c e m = record c { result = record c.result { expr_mismatches = noted c.result.expr_mismatches e.0 m } }
 
+-- with what is asked of an expression while nothing is known of it
+abbrev pub with_asked : InferenceContext → ExprId → TypeMismatch → InferenceContext
+with_asked c e m = record c { asked = noted c.asked e.0 m }
+
+-- the expression of the first type waits to be put at the second
+abbrev pub waiting_at : InferenceContext → ExprId → Ty → Ty → InferenceContext
+waiting_at c e t u = with_asked (record c { table = with_waiting c.table t u (node.ExprId e) }) e (mismatch u t)
+
 abbrev pub with_pat_mismatch : InferenceContext → PatId → TypeMismatch → InferenceContext
 with_pat_mismatch c p m = record c { result = record c.result { pat_mismatches = noted c.result.pat_mismatches p.0 m } }
 
 abbrev pub with_diagnostic : InferenceContext → ExprId → InferenceDiagnostic → InferenceContext
 with_diagnostic c e x = record c { result = record c.result { expr_diagnostics = noted c.result.expr_diagnostics e.0 x } }
+
+abbrev pub with_pat_diagnostic : InferenceContext → PatId → InferenceDiagnostic → InferenceContext
+with_pat_diagnostic c p x = record c { result = record c.result { pat_diagnostics = noted c.result.pat_diagnostics p.0 x } }
 
 abbrev pub with_pat_ty : InferenceContext → PatId → Ty → InferenceContext
 with_pat_ty c p t = record c { result = record c.result { type_of_pat = slice_set c.result.type_of_pat p.0 (Some t) } }

@@ -1,5 +1,5 @@
 -- Types that the walk may have in hand, and what is sound to have found out.
-use Rattle.std.specs.Prelude.{◌<◌, ◌==◌, ◌&&◌, nat_lt, true, false, length, Option, Some, None}
+use Rattle.std.specs.Prelude.{ℕ, List, [], ◌∷◌, ◌<◌, ◌==◌, ◌&&◌, nat_lt, true, false, length, Option, Some, None}
 use Rattle.hir_types.specs.declared.head.Head.TheVariants as head
 use Rattle.hir_types.specs.declared.ids.TypeRefId.{TypeRefId}
 use Rattle.hir_types.specs.declared.ty.Ty.{Ty}
@@ -7,8 +7,11 @@ use Rattle.hir_types.specs.Terms.{term}
 use Rattle.hir_facts.specs.Types.{written_type}
 use Rattle.hir_facts.specs.Scope.{Scope, adt_params, callable_params, has_params}
 use Rattle.hir_facts.specs.CarriedTypes.{IsCarriedType}
+use Rattle.infer_table.specs.declared.waiting.WaitingPair.{WaitingPair}
 use Rattle.infer_table.specs.Table.{State, HolesAreOf}
 use Rattle.infer_table.specs.Preserved.{Shape, whole, IsMadeOf}
+use Rattle.infer_result.specs.declared.result.TypeMismatch.{TypeMismatch}
+use Rattle.infer_result.specs.Table.{At}
 
 -- The heads of the types that the walk makes, and over how many parts: neither `{unknown}` nor an alias is among them,
 -- items have as many arguments as parameters, and parameters are in scope.
@@ -34,6 +37,20 @@ pub record IsFine (sc : Scope) (state : State) (t : Ty) : Type 0 where
 abbrev pub IsFineExpectation : Scope → State → Option Ty → Type 0
 IsFineExpectation sc state None = Unit {0}
 IsFineExpectation sc state (Some t) = IsFine sc state t
+
+-- the type is of carried kinds without `{unknown}`, and in scope
+pub record IsKnown (sc : Scope) (t : Ty) : Type 0 where
+  pub carried : IsCarriedType t
+  pub heads : HasFineHeads sc t
+
+-- both types of each pair that waits are fine
+abbrev pub AreFinePairs : Scope → State → List WaitingPair → Type 0
+AreFinePairs sc state [] = Unit {0}
+AreFinePairs sc state (p ∷ ps) = (IsFine sc state p.source × IsFine sc state p.target) × AreFinePairs sc state ps
+
+-- both types of what is asked of each expression are fine
+abbrev pub IsFineAsked : Scope → State → List (Option TypeMismatch) → Type 0
+IsFineAsked sc state xs = (n : ℕ) (m : TypeMismatch) → At xs n m → IsFine sc state m.expected × IsFine sc state m.actual
 
 -- the written type is one of the facts', and stands for a type of carried kinds without `{unknown}`, in scope
 pub record IsWritten (sc : Scope) (w : TypeRefId) : Type 0 where

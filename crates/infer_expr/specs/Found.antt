@@ -1,9 +1,16 @@
 -- What inference has found out of a body, holes closed.
-use Rattle.std.specs.Prelude.{ℕ, ◌+◌, List, length, replicate, slice_get, slice_set, Option, Some, None}
+use Rattle.std.specs.Prelude.{ℕ, ◌+◌, ◌≡◌, List, length, map, replicate, slice_get, slice_set, Option, Some, None}
 use Rattle.hir_types.specs.declared.ids.ExprId.{ExprId}
 use Rattle.hir_types.specs.declared.ids.PatId.{PatId}
 use Rattle.hir_types.specs.declared.ids.BindingId.{BindingId}
 use Rattle.hir_types.specs.declared.ty.Ty.{Ty}
+use Rattle.hir_types.specs.declared.ids.VariantId.{VariantId}
+use Rattle.hir_facts.specs.declared.raw.RawPath.{RawPath}
+use Rattle.hir_facts.specs.declared.raw.RawPath.TheVariants as path
+use Rattle.hir_facts.specs.declared.raw.RawExpr.{RawExpr}
+use Rattle.hir_facts.specs.declared.raw.RawExpr.TheVariants as expr
+use Rattle.hir_facts.specs.declared.raw.RawPat.{RawPat}
+use Rattle.hir_facts.specs.declared.raw.RawPat.TheVariants as pat
 use Rattle.hir_facts.specs.declared.raw.RawBody.{RawBody}
 use Rattle.infer_result.specs.declared.modes.BindingMode.{BindingMode}
 use Rattle.infer_result.specs.declared.modes.BindingMode.TheVariants as mode
@@ -16,7 +23,38 @@ pub record Found : Type 0 where
   pub result : InferenceResult
   pub clock : ℕ
 
--- nothing yet: the walk has come to the body alone
+-- the variant whose constructor is named
+abbrev pub path_variant : RawPath → Option VariantId
+path_variant (path.Ctor v) = Some v
+path_variant (path.Local v) = None
+path_variant (path.Function f) = None
+path_variant path.Other = None
+
+abbrev pub expr_variant : RawExpr → Option VariantId
+expr_variant (expr.Path p) = path_variant p
+expr_variant (expr.Lit l) = None
+expr_variant (expr.Block label stmts last) = None
+expr_variant (expr.Tuple es) = None
+expr_variant (expr.If c first other) = None
+expr_variant (expr.Match e arms) = None
+expr_variant (expr.Call f args) = None
+expr_variant expr.Other = None
+
+abbrev pub pat_variant : RawPat → Option VariantId
+pat_variant (pat.TupleStruct v ps) = Some v
+pat_variant (pat.Path p) = path_variant p
+pat_variant pat.Wild = None
+pat_variant (pat.Bind v sub) = None
+pat_variant (pat.Tuple ps) = None
+pat_variant (pat.Lit e) = None
+pat_variant pat.Other = None
+
+-- each constructor that is named is recorded, and nothing else
+pub record RecordsVariants (b : RawBody) (t : InferenceResult) : Type 0 where
+  pub exprs : t.expr_variants ≡ map expr_variant b.exprs
+  pub pats : t.pat_variants ≡ map pat_variant b.pats
+
+-- nothing yet: the walk has come to the body alone, and what constructors are named is known
 abbrev pub nothing_found : RawBody → Found
 nothing_found b = record {
   result = record {
@@ -27,6 +65,9 @@ nothing_found b = record {
     expr_mismatches = replicate (length b.exprs) None;
     expr_diagnostics = replicate (length b.exprs) None;
     pat_mismatches = replicate (length b.pats) None;
+    pat_diagnostics = replicate (length b.pats) None;
+    expr_variants = map expr_variant b.exprs;
+    pat_variants = map pat_variant b.pats;
   };
   clock = 1;
 }
@@ -57,6 +98,10 @@ with_pat_mismatch c p m = record c { result = record c.result { pat_mismatches =
 -- the complaint, other than a mismatch, at the expression
 abbrev pub with_diagnostic : Found → ExprId → InferenceDiagnostic → Found
 with_diagnostic c e x = record c { result = record c.result { expr_diagnostics = noted c.result.expr_diagnostics e.0 x } }
+
+-- the complaint, other than a mismatch, at the pattern
+abbrev pub with_pat_diagnostic : Found → PatId → InferenceDiagnostic → Found
+with_pat_diagnostic c p x = record c { result = record c.result { pat_diagnostics = noted c.result.pat_diagnostics p.0 x } }
 
 abbrev pub with_pat_ty : Found → PatId → Ty → Found
 with_pat_ty c p t = record c { result = record c.result { type_of_pat = slice_set c.result.type_of_pat p.0 (Some t) } }

@@ -1,5 +1,5 @@
 -- What each function of the walk is given, and what it does.
-use Rattle.std.specs.Prelude.{ℕ, ◌+◌, ◌<◌, ◌≤◌, ◌≡◌, ◌⊎◌, Bool, List, [], length, map, slice_get, Option, Some, None, IsTrue}
+use Rattle.std.specs.Prelude.{ℕ, ◌+◌, ◌<◌, ◌≤◌, ◌≡◌, ◌⊎◌, Bool, true, false, List, [], length, map, slice_get, Option, Some, None, IsTrue}
 use Rattle.hir_types.specs.declared.ids.ExprId.{ExprId}
 use Rattle.hir_types.specs.declared.ids.PatId.{PatId}
 use Rattle.hir_types.specs.declared.ids.TypeRefId.{TypeRefId}
@@ -16,21 +16,26 @@ use Rattle.hir_facts.specs.declared.raw.RawStmt.{RawStmt}
 use Rattle.hir_facts.specs.declared.schedule.Schedule.{Schedule}
 use Rattle.hir_facts.specs.Laws.Carried.{is_carried_stmt}
 use Rattle.hir_facts.specs.Order.{inner, the_body, stmt_parts, stmt_at, maybe_part, guard, else_branch, arms_parts, tail, body_parts}
-use Rattle.infer_table.specs.Table.{State, Grew, resolved_type, hole_count}
+use Rattle.infer_table.specs.declared.waiting.WaitingPair.{WaitingPair}
+use Rattle.infer_table.specs.Table.{State, Grew, resolved_type, hole_count, IsUnknownPair, TakesKnown}
 use Rattle.infer_result.specs.Closed.{IsOfBody}
 use Rattle.hir_facts.specs.Scope.{Scope}
-use Rattle.hir_facts.specs.Signatures.{type_args}
+use Rattle.hir_facts.specs.Signatures.{type_args, at_args, field_types}
 use Rattle.hir_facts.specs.declared.raw.RawPath.{RawPath}
-use Rattle.hir_types.specs.declared.ids.FunctionId.{FunctionId}
-use Rattle.hir_types.specs.declared.ids.CallableDefId.TheVariants as callable
+use Rattle.hir_types.specs.declared.ids.CallableDefId.{CallableDefId}
+use Rattle.hir_types.specs.declared.ids.VariantId.{VariantId}
 use Rattle.hir_types.specs.declared.ty.GenericArg.{GenericArg}
 use Rattle.infer_result.specs.Places.{Given, Incoming}
 use Rattle.infer_result.specs.Made.{IsMade}
 use Rattle.infer_result.specs.Rules.Literals.{IsLiteralType}
 use Rattle.infer_expr.specs.declared.context.InferenceContext.{InferenceContext}
-use Rattle.infer_expr.specs.Walks.{IsWalked, expr_start, pat_start}
+use Rattle.infer_result.specs.declared.diagnostics.InferenceDiagnostic.TheVariants as diagnostic
+use Rattle.infer_expr.specs.Context.{waiting_at, with_pat_diagnostic}
+use Rattle.infer_expr.specs.Walks.{IsWalked, IsFree, expr_start, pat_start}
 use Rattle.infer_expr.specs.Fine.{IsFine, IsFineExpectation}
 use Rattle.infer_expr.specs.Closings.{IsClosing, Closes, closed_table, found_under, expected_under, common_under, IsSound}
+use Rattle.infer_expr.specs.declared.coerce.Coerced.{Coerced}
+use Rattle.infer_expr.specs.declared.coerce.Coerced.TheVariants as coerced
 use Rattle.infer_expr.specs.declared.coerce_many.CoerceMany.{CoerceMany}
 use Rattle.infer_expr.specs.declared.coerce_many.CoerceMany.TheVariants as common
 use Rattle.infer_expr.specs.Under as under
@@ -97,7 +102,7 @@ pub record BeforePat (g : Given) (s : Schedule) (p : PatId) (x : Option Ty) (c :
   pub within : p.0 < length g.body.pats
   pub here : pat_start g.body s p ≡ c.clock
   pub fine : IsFineExpectation g.scope c.table x
-  pub incoming : (a : Assignment) → Closes a c → (t : Ty) → expected_under a x ≡ Some t → Incoming g (closed_table a c.result) p t
+  pub incoming : (a : Assignment) → Closes a c → (t : Ty) → expected_under a x ≡ Some t → Incoming g (closed_table a c.asked c.result) p t
 
 pub record PatDone (g : Given) (s : Schedule) (p : PatId) (x : Option Ty) (old new : InferenceContext) : Type 0 where
   pub follows : Follows g old new
@@ -106,6 +111,7 @@ pub record PatDone (g : Given) (s : Schedule) (p : PatId) (x : Option Ty) (old n
 -- the type is the given one, or a hole that is new
 pub record IsGivenOrNew (sc : Scope) (x : Option Ty) (t : Ty) (old new : InferenceContext) : Type 0 where
   pub result : new.result ≡ old.result
+  pub asked : new.asked ≡ old.asked
   pub clock : new.clock ≡ old.clock
   pub grew : Grew old.table new.table
   pub sound : IsSound sc new
@@ -116,18 +122,35 @@ pub record IsGivenOrNew (sc : Scope) (x : Option Ty) (t : Ty) (old new : Inferen
 -- as many types as asked for, with some holes more
 pub record ArePartTypes (sc : Scope) (count : ℕ) (ts : List Ty) (old new : InferenceContext) : Type 0 where
   pub result : new.result ≡ old.result
+  pub asked : new.asked ≡ old.asked
   pub clock : new.clock ≡ old.clock
   pub grew : Grew old.table new.table
   pub sound : IsSound sc new
   pub count_is : length ts ≡ count
   pub fine : (i : ℕ) (t : Ty) → slice_get ts i ≡ Some t → IsFine sc new.table t
 
--- The tuple of these types is recorded as that of the pattern, and it is what comes in, or they
--- differ, and that is noted.
-pub record TupleDemanded (g : Given) (p : PatId) (ts : List Ty) (x : Option Ty) (old new : InferenceContext) : Type 0 where
+-- The type t is recorded as that of the pattern, and it is what comes in, or they differ, and that is
+-- noted.
+pub record PatDemanded (g : Given) (p : PatId) (t : Ty) (x : Option Ty) (old new : InferenceContext) : Type 0 where
   pub follows : Follows g old new
   pub clock : new.clock ≡ old.clock
-  pub each : (a : Assignment) → Closes a new → under.TupleDemanded p (map (folded a) ts) (expected_under a x) (found_under a old) (found_under a new)
+  pub each : (a : Assignment) → Closes a new → under.PatDemanded p (folded a t) (expected_under a x) (found_under a old) (found_under a new)
+
+-- there are as many parts as fields, or that there are not is said
+abbrev pub PartsCounted : PatId → ℕ → ℕ → InferenceContext → InferenceContext → Type 0
+PartsCounted p expected found old new = ((expected ≡ found) × (new ≡ old)) ⊎ ((expected ≡ found → ⊥) × (new ≡ with_pat_diagnostic old p (diagnostic.MismatchedTupleStructPatArgCount (node.PatId p) expected found)))
+
+-- The adt of the variant at new holes is recorded as the type of the pattern, which has so many parts, and
+-- is asked of what comes in. The types ss are those of the fields.
+pub record CtorDemanded (g : Given) (p : PatId) (v : VariantId) (parts : ℕ) (ss : List Ty) (x : Option Ty) (old new : InferenceContext) : Type 0 where
+  pub item : under.IsVariant g.scope.facts v
+  pub types : List Ty
+  pub fields : ss ≡ map (at_args types) (field_types g.scope.facts.types item.variant)
+  pub holed : InferenceContext
+  pub holes : ArePartTypes g.scope item.params types old holed
+  pub told : InferenceContext
+  pub counted : PartsCounted p (length item.variant.fields) parts holed told
+  pub demanded : PatDemanded g p (ty.Adt item.variant.adt (type_args types)) x told new
 
 -- ---- parameters
 
@@ -181,14 +204,61 @@ abbrev pub TailDone : Given → Schedule → ExprId → Option ExprId → Option
 TailDone g s n None x t old new = NoTailDone g n x t old new
 TailDone g s n (Some e) x t old new = CoerceDone g s e x t old new
 
+-- ---- two types made equal
+
+-- some holes may be bound, but nothing is recorded
+pub record OnlyBinds (g : Given) (old new : InferenceContext) : Type 0 where
+  pub follows : Follows g old new
+  pub result : new.result ≡ old.result
+  pub asked : new.asked ≡ old.asked
+  pub clock : new.clock ≡ old.clock
+
+-- they are the same, or they differ
+abbrev pub Are : Bool → Ty → Ty → Type 0
+Are true t u = t ≡ u
+Are false t u = t ≡ u → ⊥
+
+-- the two types are the same from here on, or they differ, and nothing is recorded
+pub record IsUnifiedIf (yes : Bool) (g : Given) (t u : Ty) (old new : InferenceContext) : Type 0 where
+  pub binds : OnlyBinds g old new
+  pub each : (a : Assignment) → Closes a new → Are yes (folded a t) (folded a u)
+
+-- a pair may be taken off those that wait
+pub record Takes (g : Given) (pair : Option WaitingPair) (old new : InferenceContext) : Type 0 where
+  pub binds : OnlyBinds g old new
+  pub taken : TakesKnown old.table new.table pair
+  pub fine : (p : WaitingPair) → pair ≡ Some p → IsFine g.scope new.table p.source × IsFine g.scope new.table p.target
+
 -- ---- coercions
 
+-- nothing is noted at the expression, and nothing was asked of it
+pub record IsUnasked (c : InferenceContext) (e : ExprId) : Type 0 where
+  pub asked : IsFree c.asked e.0
+  pub noted : IsFree c.result.expr_mismatches e.0
+
+-- of neither type anything is known, and nothing stands at the expression
+pub record MayWait (c : InferenceContext) (e : ExprId) (actual target : Ty) : Type 0 where
+  pub unasked : IsUnasked c e
+  pub unknown : IsUnknownPair c.table (record { source = actual; target = target; node = node.ExprId e })
+
+-- the expression waits till one of the two types is known
+pub record Waits (e : ExprId) (actual target : Ty) (old new : InferenceContext) : Type 0 where
+  pub may : MayWait old e actual target
+  pub waits : new ≡ waiting_at old e actual target
+
+-- what an answer says of an assignment
+abbrev pub Says : Coerced → Bool → Type 0
+Says coerced.Yes fits = fits ≡ true
+Says coerced.Waits fits = Unit {0}
+Says coerced.No fits = fits ≡ false
+
 -- The two types are the same from here on, or they differ, and that is noted as a mismatch at the
--- expression.
-pub record IsCoercedIf (yes : Bool) (g : Given) (e : ExprId) (actual target : Ty) (old new : InferenceContext) : Type 0 where
+-- expression. Where the expression waits, it depends on the assignment which of the two it is.
+pub record IsCoerced (answer : Coerced) (g : Given) (e : ExprId) (actual target : Ty) (old new : InferenceContext) : Type 0 where
   pub follows : Follows g old new
   pub clock : new.clock ≡ old.clock
-  pub each : (a : Assignment) → Closes a new → under.IsCoercedIf yes e (folded a actual) (folded a target) (found_under a old) (found_under a new)
+  pub waits : answer ≡ coerced.Waits → Waits e actual target old new
+  pub each : (a : Assignment) → Closes a new → (fits : Bool) × Says answer fits × under.IsCoercedIf fits e (folded a actual) (folded a target) (found_under a old) (found_under a new)
 
 -- ---- alternatives
 
@@ -224,11 +294,18 @@ pub record GuardDone (g : Given) (s : Schedule) (o : Option ExprId) (old new : I
   pub follows : Follows g old new
   pub each : (a : Assignment) → Closes a new → under.GuardDone g s o (found_under a old) (found_under a new)
 
+-- the common type u once an alternative was coerced to it
+abbrev pub common_after : Coerced → Ty → CoerceMany
+common_after coerced.Yes u = common.Is u
+common_after coerced.Waits u = common.Is u
+common_after coerced.No u = common.Unknown
+
 -- what the next alternative e, of type t, makes of the common type
 pub record Merges (g : Given) (e : ExprId) (t : Ty) (before after : CoerceMany) (old new : InferenceContext) : Type 0 where
   pub follows : Follows g old new
   pub clock : new.clock ≡ old.clock
   pub fine : IsFineCommon g.scope new.table after
+  pub coerced_to : (u : Ty) → before ≡ common.Is u → (answer : Coerced) × IsCoerced answer g e t u old new × (after ≡ common_after answer u)
   pub each : (a : Assignment) → Closes a new → under.Merges e (folded a t) (common_under a before) (common_under a after) (found_under a old) (found_under a new)
 
 -- the alternative e, of which x is expected, is typed and taken into the common type
@@ -256,6 +333,7 @@ pub record ElseDone (g : Given) (s : Schedule) (n : ExprId) (other : Option Expr
 -- where that is nothing known
 pub record Completes (sc : Scope) (x : Option Ty) (m : CoerceMany) (t : Ty) (old new : InferenceContext) : Type 0 where
   pub result : new.result ≡ old.result
+  pub asked : new.asked ≡ old.asked
   pub clock : new.clock ≡ old.clock
   pub grew : Grew old.table new.table
   pub sound : IsSound sc new
@@ -279,6 +357,7 @@ pub record IsExpectedInteger (x : Option Ty) (t : Ty) (state : State) : Type 0 w
 pub record IntDone (sc : Scope) (x : Option Ty) (t : Ty) (old new : InferenceContext) : Type 0 where
   pub is : IsExpectedInteger x t old.table ⊎ (t ≡ ty.IntVar (hole_count old.table))
   pub result : new.result ≡ old.result
+  pub asked : new.asked ≡ old.asked
   pub clock : new.clock ≡ old.clock
   pub grew : Grew old.table new.table
   pub sound : IsSound sc new
@@ -288,6 +367,7 @@ pub record IntDone (sc : Scope) (x : Option Ty) (t : Ty) (old new : InferenceCon
 -- the type is the literal's, or a new hole for one that it may have
 pub record LiteralDone (sc : Scope) (l : RawLiteral) (t : Ty) (old new : InferenceContext) : Type 0 where
   pub result : new.result ≡ old.result
+  pub asked : new.asked ≡ old.asked
   pub clock : new.clock ≡ old.clock
   pub grew : Grew old.table new.table
   pub sound : IsSound sc new
@@ -299,11 +379,12 @@ pub record LiteralDone (sc : Scope) (l : RawLiteral) (t : Ty) (old new : Inferen
 -- the type is that of what the path names
 pub record PathDone (g : Given) (p : RawPath) (t : Ty) (old new : InferenceContext) : Type 0 where
   pub result : new.result ≡ old.result
+  pub asked : new.asked ≡ old.asked
   pub clock : new.clock ≡ old.clock
   pub grew : Grew old.table new.table
   pub sound : IsSound g.scope new
   pub fine : IsFine g.scope new.table t
-  pub each : (a : Assignment) → Closes a new → under.IsPathType g (closed_table a old.result) p (folded a t)
+  pub each : (a : Assignment) → Closes a new → under.IsPathType g (closed_table a old.asked old.result) p (folded a t)
 
 -- new holes in the place of an item's parameters
 pub record AreFreshArgs (sc : Scope) (count : ℕ) (xs : List GenericArg) (old new : InferenceContext) : Type 0 where
@@ -313,50 +394,44 @@ pub record AreFreshArgs (sc : Scope) (count : ℕ) (xs : List GenericArg) (old n
 
 -- ---- calls
 
--- what is called has this type, which is that of a function
+-- what is called has this type, which is that of a function or a constructor
 pub record CalleeDone (g : Given) (s : Schedule) (called : ExprId) (t : Ty) (old new : InferenceContext) : Type 0 where
-  pub function : FunctionId
-  pub item : under.IsFunction g.scope.facts function
+  pub id : CallableDefId
+  pub item : under.IsItem g.scope.facts id
   pub types : List Ty
-  pub is : t ≡ ty.FnDef (callable.FunctionId function) (type_args types)
-  pub count : length types ≡ length item.function.params
+  pub is : t ≡ ty.FnDef id (type_args types)
+  pub count : length types ≡ item.signature.params
   pub follows : Follows g old new
   pub fine : (i : ℕ) (u : Ty) → slice_get types i ≡ Some u → IsFine g.scope new.table u
-  pub each : (a : Assignment) → Closes a new → under.CalleeDone g s called function (map (folded a) types) (found_under a old) (found_under a new)
+  pub each : (a : Assignment) → Closes a new → under.CalleeDone g s called id (map (folded a) types) (found_under a old) (found_under a new)
 
 -- the node is a call of what has this type, and has come to its arguments
 pub record BeforeArgs (g : Given) (s : Schedule) (n : ExprId) (args : List ExprId) (t : Ty) (c : InferenceContext) : Type 0 where
   pub ready : under.IsReady g s
   pub state : IsWalking g s c
   pub called : ExprId
-  pub function : FunctionId
-  pub item : under.IsFunction g.scope.facts function
+  pub id : CallableDefId
+  pub item : under.IsItem g.scope.facts id
   pub types : List Ty
-  pub is : t ≡ ty.FnDef (callable.FunctionId function) (type_args types)
-  pub count : length types ≡ length item.function.params
+  pub is : t ≡ ty.FnDef id (type_args types)
+  pub count : length types ≡ item.signature.params
   pub fine : (i : ℕ) (u : Ty) → slice_get types i ≡ Some u → IsFine g.scope c.table u
-  pub each : (a : Assignment) → Closes a c → under.BeforeArgs g s n called args function item.function (map (folded a) types) (found_under a c)
+  pub each : (a : Assignment) → Closes a c → under.BeforeArgs g s n called args id item.signature (map (folded a) types) (found_under a c)
 
 -- ss is what the call takes
 pub record BeforeInputs (g : Given) (s : Schedule) (n : ExprId) (args : List ExprId) (ss : List Ty) (c : InferenceContext) : Type 0 where
   pub type : Ty
   pub before : BeforeArgs g s n args type c
-  pub inputs : ss ≡ under.inputs_at g.scope.facts.types before.item.function before.types
+  pub inputs : ss ≡ under.inputs_at before.item.signature before.types
 
 -- the arguments are at what the call takes, or there are not as many, which is said
 pub record ArgsDone (g : Given) (s : Schedule) (n : ExprId) (args : List ExprId) (ss : List Ty) (old new : InferenceContext) : Type 0 where
   pub follows : Follows g old new
   pub each : (a : Assignment) → Closes a new → under.ArgsDone g s n args (map (folded a) ss) (found_under a old) (found_under a new)
 
--- some holes may be bound, but nothing is recorded
-pub record OnlyBinds (g : Given) (old new : InferenceContext) : Type 0 where
-  pub follows : Follows g old new
-  pub result : new.result ≡ old.result
-  pub clock : new.clock ≡ old.clock
-
 -- ---- the whole body
 
 -- each node is made, under each assignment that closes what is found out
 pub record BodyDone (g : Given) (new : InferenceContext) : Type 0 where
   pub sound : IsSound g.scope new
-  pub made : (a : Assignment) → Closes a new → IsMade g (closed_table a new.result)
+  pub made : (a : Assignment) → Closes a new → IsMade g (closed_table a new.asked new.result)

@@ -2,6 +2,8 @@
 use Rattle.std.specs.Prelude.{ℕ, ◌+◌, ◌<◌, ◌≡◌, ◌⊎◌, ◌^◌, Bool, true, false, List, [], ◌∷◌, length, map, slice_get, Option, Some, None, option_map, IsTrue}
 use Rattle.hir_types.specs.declared.ids.ExprId.{ExprId}
 use Rattle.hir_types.specs.declared.ids.FunctionId.{FunctionId}
+use Rattle.hir_types.specs.declared.ids.VariantId.{VariantId}
+use Rattle.hir_types.specs.declared.ids.CallableDefId.{CallableDefId}
 use Rattle.hir_types.specs.declared.ids.CallableDefId.TheVariants as callable
 use Rattle.hir_types.specs.declared.ids.PatId.{PatId}
 use Rattle.hir_types.specs.declared.ids.TypeRefId.{TypeRefId}
@@ -11,8 +13,8 @@ use Rattle.hir_types.specs.declared.ty.Ty.{Ty}
 use Rattle.hir_types.specs.declared.ty.Ty.TheVariants as ty
 use Rattle.hir_facts.specs.declared.raw.RawBody.{RawBody}
 use Rattle.hir_facts.specs.declared.raw.RawFacts.{RawFacts}
-use Rattle.hir_facts.specs.declared.raw.RawFn.{RawFn}
-use Rattle.hir_facts.specs.declared.raw.RawType.{RawType}
+use Rattle.hir_facts.specs.declared.raw.RawCtor.TheVariants as ctor
+use Rattle.hir_facts.specs.declared.raw.RawVariant.{RawVariant}
 use Rattle.hir_facts.specs.declared.raw.RawExpr.TheVariants as expr
 use Rattle.hir_facts.specs.declared.raw.RawPath.{RawPath}
 use Rattle.hir_facts.specs.declared.raw.RawPath.TheVariants as path
@@ -23,43 +25,60 @@ use Rattle.hir_facts.specs.declared.raw.RawStmt.TheVariants as stmt
 use Rattle.hir_facts.specs.declared.schedule.Schedule.{Schedule}
 use Rattle.hir_types.specs.Types.{unit}
 use Rattle.hir_facts.specs.Types.{written_type}
-use Rattle.hir_facts.specs.Scope.{Scope, fn_params}
-use Rattle.hir_facts.specs.Signatures.{type_args, at_args}
+use Rattle.hir_facts.specs.CarriedBodies.{IsItemAt}
+use Rattle.hir_facts.specs.Scope.{Scope, fn_params, adt_params, callable_params, names_item}
+use Rattle.hir_facts.specs.Signatures.{Signature, signature_of, field_types, type_args, at_args}
 use Rattle.hir_facts.specs.CarriedTypes.{IsCarriedType}
 use Rattle.hir_facts.specs.Bodies.{IsWalkable}
 use Rattle.hir_facts.specs.Laws.Carried.{is_carried_stmt}
 use Rattle.hir_facts.specs.Order.{end, inner, the_body, Node, Part, IsNode, part_at, Fits, after, stmt_parts, stmt_at, maybe_part, guard, arms_parts, tail, body_parts, expr_part, exprs_from, argument, root}
 use Rattle.infer_result.specs.declared.result.InferenceResult.{InferenceResult}
+use Rattle.infer_result.specs.declared.diagnostics.InferenceDiagnostic.TheVariants as diagnostic
 use Rattle.infer_result.specs.Table.{HasTy, BindingTy, MismatchAt, AnyMismatch, mismatch}
-use Rattle.infer_result.specs.Places.{Given, IsInput, IsAt, IsAtOrMismatch, PatIsAtOrMismatch, Incoming}
+use Rattle.infer_result.specs.Closed.{NamesVariant, IsVariantPat}
+use Rattle.infer_result.specs.Places.{Given, IsCtorPath, IsInput, IsAt, IsAtOrMismatch, PatIsAtOrMismatch, Incoming}
 use Rattle.infer_result.specs.Rules.Branches.{arm_exprs, GuardRule, ArmsRule}
 use Rattle.infer_result.specs.Rules.Expressions.{ObeysOrMismatch}
 use Rattle.infer_result.specs.Rules.Blocks.{StmtRule}
 use Rattle.infer_result.specs.Rules.Calls.{ArgsRule}
 use Rattle.infer_result.specs.Rules.Placing.{at_or_mismatch}
-use Rattle.infer_expr.specs.Found.{Found, with_mismatch, with_pat_ty, with_pat_mismatch}
+use Rattle.infer_expr.specs.Found.{Found, with_mismatch, with_pat_ty, with_pat_mismatch, with_pat_diagnostic}
 use Rattle.infer_expr.specs.Context.{IsCarriedExpectation}
-use Rattle.infer_expr.specs.Fine.{IsWritten}
+use Rattle.infer_expr.specs.Fine.{IsKnown, IsWritten}
 use Rattle.infer_expr.specs.declared.coerce_many.CoerceMany.{CoerceMany}
 use Rattle.infer_expr.specs.declared.coerce_many.CoerceMany.TheVariants as common
 use Rattle.infer_expr.specs.Walks.{Walks, IsWalked, Extends, Nothing, Owed, PaidBy, expr_start, expr_end, pat_start, pat_end}
 
--- the scope of a function's own signature
-abbrev pub own_scope : RawFacts → RawFn → Scope
-own_scope facts x = record { facts = facts; params = length x.params }
+-- the scope of an item with so many parameters
+abbrev pub own_scope : RawFacts → ℕ → Scope
+own_scope facts n = record { facts = facts; params = n }
 
--- the function exists, and what its signature is written with is in its own scope
-pub record IsFunction (facts : RawFacts) (f : FunctionId) : Type 0 where
-  pub function : RawFn
-  pub found : slice_get facts.fns f.0 ≡ Some function
-  pub inputs : (k : ℕ) (w : TypeRefId) → slice_get function.inputs k ≡ Some w → IsWritten (own_scope facts function) w
-  pub output : IsWritten (own_scope facts function) function.output
+-- the function or constructor exists, and what its signature is written with is in its own scope
+pub record IsItem (facts : RawFacts) (id : CallableDefId) : Type 0 where
+  pub signature : Signature
+  pub found : signature_of facts id ≡ Some signature
+  pub count : callable_params facts id ≡ Some signature.params
+  pub inputs : (k : ℕ) (t : Ty) → slice_get signature.inputs k ≡ Some t → IsKnown (own_scope facts signature.params) t
+  pub output : IsKnown (own_scope facts signature.params) signature.output
 
--- each type that a `let` of the body or a parameter is written with is one of the facts', and each function that is named
+-- the variant exists, its fields have no names, and what they are written with is in its adt's scope
+pub record IsVariant (facts : RawFacts) (v : VariantId) : Type 0 where
+  pub variant : RawVariant
+  pub found : slice_get facts.variants v.0 ≡ Some variant
+  pub params : ℕ
+  pub count : adt_params facts variant.adt ≡ Some params
+  pub fields : (k : ℕ) (t : Ty) → slice_get (field_types facts.types variant) k ≡ Some t → IsKnown (own_scope facts params) t
+  pub unnamed : (variant.ctor ≡ ctor.Unit) ⊎ (variant.ctor ≡ ctor.Tuple)
+
+-- each type that a `let` of the body or a parameter is written with is one of the facts', each function and constructor that is
+-- named exists, and each constructor that is called takes fields
 pub record WrittenExist (g : Given) : Type 0 where
   pub lets : (e : ExprId) (i : ℕ) (p : PatId) (w : TypeRefId) (init other : Option ExprId) → stmt_at g.body e i ≡ Some (stmt.Let p (Some w) init other) → IsWritten g.scope w
   pub inputs : (i : ℕ) (w : TypeRefId) → slice_get g.inputs i ≡ Some w → IsWritten g.scope w
-  pub functions : (e : ExprId) (f : FunctionId) → slice_get g.body.exprs e.0 ≡ Some (expr.Path (path.Function f)) → IsFunction g.scope.facts f
+  pub functions : (e : ExprId) (f : FunctionId) → slice_get g.body.exprs e.0 ≡ Some (expr.Path (path.Function f)) → IsItem g.scope.facts (callable.FunctionId f)
+  pub constructors : (e : ExprId) (v : VariantId) → NamesVariant g.body e v → IsVariant g.scope.facts v
+  pub patterns : (p : PatId) (v : VariantId) → IsVariantPat g.body p v → IsVariant g.scope.facts v
+  pub callees : (n called : ExprId) (args : List ExprId) (v : VariantId) → slice_get g.body.exprs n.0 ≡ Some (expr.Call called args) → NamesVariant g.body called v → IsItem g.scope.facts (callable.VariantId v)
 
 -- the laws of the body, and room for the clock
 pub record IsReady (g : Given) (s : Schedule) : Type 0 where
@@ -132,44 +151,53 @@ IsMatchOf b e d arms = slice_get b.exprs e.0 ≡ Some (expr.Match d arms)
 abbrev pub IsCallOf : RawBody → ExprId → ExprId → List ExprId → Type 0
 IsCallOf b e called args = slice_get b.exprs e.0 ≡ Some (expr.Call called args)
 
--- the path names a local of this type, or a function at as many types as it has parameters
+-- the expression is a path to this item
+abbrev pub NamesItem : RawBody → ExprId → CallableDefId → Type 0
+NamesItem b e id = (p : RawPath) × (slice_get b.exprs e.0 ≡ Some (expr.Path p)) × (names_item p ≡ Some id)
+
+-- it is a path to an item, which exists
+pub record IsCalleeOf (g : Given) (e : ExprId) : Type 0 where
+  pub is_path : IsItemAt g.body e
+  pub items : (id : CallableDefId) → NamesItem g.body e id → IsItem g.scope.facts id
+
+-- the path names a local of this type, or a function or a constructor at as many types as it has parameters
 abbrev pub IsPathType : Given → InferenceResult → RawPath → Ty → Type 0
 IsPathType g r (path.Local v) t = BindingTy r v t
 IsPathType g r (path.Function f) t = (ts : List Ty) × (t ≡ ty.FnDef (callable.FunctionId f) (type_args ts)) × (fn_params g.scope.facts f.0 ≡ Some (length ts))
-IsPathType g r (path.Ctor named) t = ⊥
+IsPathType g r (path.Ctor v) t = IsCtorPath g v t
 IsPathType g r path.Other t = ⊥
 
--- it names a local that has a type, or a function that exists
+-- it names a local that has a type, or a function or a constructor that exists
 abbrev pub NamesTyped : Given → InferenceResult → RawPath → Type 0
 NamesTyped g r (path.Local v) = (t : Ty) × BindingTy r v t
-NamesTyped g r (path.Function f) = IsFunction g.scope.facts f
-NamesTyped g r (path.Ctor named) = ⊥
+NamesTyped g r (path.Function f) = IsItem g.scope.facts (callable.FunctionId f)
+NamesTyped g r (path.Ctor v) = IsVariant g.scope.facts v
 NamesTyped g r path.Other = ⊥
 
 -- ---- calls
 
--- what is called is the function f, at the types ts
-pub record CalleeDone (g : Given) (s : Schedule) (called : ExprId) (f : FunctionId) (ts : List Ty) (old new : Found) : Type 0 where
+-- what is called is the item, at the types ts
+pub record CalleeDone (g : Given) (s : Schedule) (called : ExprId) (id : CallableDefId) (ts : List Ty) (old new : Found) : Type 0 where
   pub walks : Walks g s Nothing old new
   pub clock : new.clock ≡ expr_end g.body s called
-  pub has : HasTy new.result called (ty.FnDef (callable.FunctionId f) (type_args ts))
+  pub has : HasTy new.result called (ty.FnDef id (type_args ts))
 
--- the types that the function takes, at the types ts
-abbrev pub inputs_at : List RawType → RawFn → List Ty → List Ty
-inputs_at types x ts = map (at_args ts) (map (written_type types) x.inputs)
+-- the types that an item of this signature takes, at the types ts
+abbrev pub inputs_at : Signature → List Ty → List Ty
+inputs_at σ ts = map (at_args ts) σ.inputs
 
--- The node is a call of the function f, at the types ts, which has come to its arguments.
-pub record IsCalling (g : Given) (n called : ExprId) (args : List ExprId) (f : FunctionId) (x : RawFn) (ts : List Ty) (c : Found) : Type 0 where
+-- The node is a call of the item, at the types ts, which has come to its arguments.
+pub record IsCalling (g : Given) (n called : ExprId) (args : List ExprId) (id : CallableDefId) (σ : Signature) (ts : List Ty) (c : Found) : Type 0 where
   pub is_call : IsCallOf g.body n called args
   pub within : n.0 < length g.body.exprs
-  pub found : slice_get g.scope.facts.fns f.0 ≡ Some x
-  pub has : HasTy c.result called (ty.FnDef (callable.FunctionId f) (type_args ts))
+  pub found : signature_of g.scope.facts id ≡ Some σ
+  pub has : HasTy c.result called (ty.FnDef id (type_args ts))
 
 -- The arguments of the call n lie ahead, after what is called.
-pub record BeforeArgs (g : Given) (s : Schedule) (n called : ExprId) (args : List ExprId) (f : FunctionId) (x : RawFn) (ts : List Ty) (c : Found) : Type 0 where
+pub record BeforeArgs (g : Given) (s : Schedule) (n called : ExprId) (args : List ExprId) (id : CallableDefId) (σ : Signature) (ts : List Ty) (c : Found) : Type 0 where
   pub ready : IsReady g s
   pub state : IsWalked g s c
-  pub calling : IsCalling g n called args f x ts c
+  pub calling : IsCalling g n called args id σ ts c
   pub ahead : LieAhead g.body s (inner (node.ExprId n)) c.clock (exprs_from argument 0 args)
   pub ends : after g.body s c.clock (exprs_from argument 0 args) ≡ expr_end g.body s n
 
@@ -200,18 +228,29 @@ pub record PatDone (g : Given) (s : Schedule) (p : PatId) (x : Option Ty) (old n
   pub clock : new.clock ≡ pat_end g.body s p
   pub placed : IsPatPlaced g new.result p x
 
--- what comes in is the tuple of these types, or that it is not is noted
+-- what comes in is the type t, or that it is not is noted
 abbrev pub IsDemanded : PatId → Ty → Option Ty → Found → Found → Type 0
 IsDemanded p t None old new = new ≡ old
 IsDemanded p t (Some u) old new = ((u ≡ t) × (new ≡ old)) ⊎ ((u ≡ t → ⊥) × (new ≡ with_pat_mismatch old p (mismatch u t)))
 
-pub record TupleDemanded (p : PatId) (ts : List Ty) (x : Option Ty) (old new : Found) : Type 0 where
+-- and it is recorded as the type of the pattern
+pub record PatDemanded (p : PatId) (t : Ty) (x : Option Ty) (old new : Found) : Type 0 where
   pub mid : Found
-  pub demanded : IsDemanded p (ty.Tuple ts) x old mid
-  pub recorded : new ≡ with_pat_ty mid p (ty.Tuple ts)
+  pub demanded : IsDemanded p t x old mid
+  pub recorded : new ≡ with_pat_ty mid p t
+
+-- there are as many parts as fields, or that there are not is said
+abbrev pub PartsCounted : PatId → ℕ → ℕ → Found → Found → Type 0
+PartsCounted p expected found old new = ((expected ≡ found) × (new ≡ old)) ⊎ ((expected ≡ found → ⊥) × (new ≡ with_pat_diagnostic old p (diagnostic.MismatchedTupleStructPatArgCount (node.PatId p) expected found)))
 
 abbrev pub IsTuplePatOf : RawBody → PatId → List PatId → Type 0
 IsTuplePatOf b p ps = slice_get b.pats p.0 ≡ Some (pat.Tuple ps)
+
+abbrev pub IsCtorPatOf : RawBody → PatId → VariantId → List PatId → Type 0
+IsCtorPatOf b p v ps = slice_get b.pats p.0 ≡ Some (pat.TupleStruct v ps)
+
+abbrev pub IsPathPatOf : RawBody → PatId → RawPath → Type 0
+IsPathPatOf b p q = slice_get b.pats p.0 ≡ Some (pat.Path q)
 
 abbrev pub IsLitPatOf : RawBody → PatId → ExprId → Type 0
 IsLitPatOf b p e = slice_get b.pats p.0 ≡ Some (pat.Lit e)
@@ -263,12 +302,16 @@ abbrev pub IsCoercedIf : Bool → ExprId → Ty → Ty → Found → Found → T
 IsCoercedIf true e actual target old new = (actual ≡ target) × (new ≡ old)
 IsCoercedIf false e actual target old new = (target ≡ actual → ⊥) × (new ≡ with_mismatch old e (mismatch target actual))
 
+-- one of these
+abbrev pub IsCoerced : ExprId → Ty → Ty → Found → Found → Type 0
+IsCoerced e actual target old new = (fits : Bool) × IsCoercedIf fits e actual target old new
+
 -- ---- alternatives
 
--- what the next alternative e, of type t, makes of the common type
+-- What the next alternative e, of type t, makes of the common type. It stays also where e is found later to differ from it.
 abbrev pub Merges : ExprId → Ty → CoerceMany → CoerceMany → Found → Found → Type 0
 Merges e t common.Nothing m old new = (m ≡ common.Is t) × (new ≡ old)
-Merges e t (common.Is u) m old new = ((m ≡ common.Is u) × IsCoercedIf true e t u old new) ⊎ ((m ≡ common.Unknown) × IsCoercedIf false e t u old new)
+Merges e t (common.Is u) m old new = ((m ≡ common.Is u) × IsCoerced e t u old new) ⊎ ((m ≡ common.Unknown) × IsCoercedIf false e t u old new)
 Merges e t common.Unknown m old new = (m ≡ common.Unknown) × (new ≡ old)
 
 -- the alternative e, of which x is expected, is typed and taken into the common type
@@ -314,7 +357,7 @@ pub record ArmsDone (g : Given) (s : Schedule) (n : ExprId) (arms : List RawArm)
 -- The alternatives es, of which x is expected, have the common type, or one of them has a mismatch.
 abbrev pub AreMerged : InferenceResult → List ExprId → Option Ty → CoerceMany → Type 0
 AreMerged r es x common.Nothing = (es ≡ []) × (x ≡ None)
-AreMerged r es x (common.Is t) = AllAtType r es t × IsCommonFrom r es x t
+AreMerged r es x (common.Is t) = (AllAtType r es t ⊎ AnyMismatch r es) × IsCommonFrom r es x t
 AreMerged r es x common.Unknown = AnyMismatch r es
 
 -- the type of a node whose alternatives came to this, where x is expected of them

@@ -3,6 +3,7 @@ use Rattle.std.specs.Prelude.{ℕ, ◌<◌, ◌≤◌, ◌≡◌, ◌⊎◌, Lis
 use Rattle.hir_types.specs.declared.ids.ExprId.{ExprId}
 use Rattle.hir_types.specs.declared.ids.PatId.{PatId}
 use Rattle.hir_types.specs.declared.ids.BindingId.{BindingId}
+use Rattle.hir_types.specs.declared.ids.VariantId.{VariantId}
 use Rattle.hir_types.specs.declared.ids.ExprOrPatId.TheVariants as node
 use Rattle.hir_types.specs.declared.ty.Ty.{Ty}
 use Rattle.hir_facts.specs.declared.schedule.Schedule.{Schedule}
@@ -12,16 +13,16 @@ use Rattle.infer_result.specs.declared.result.InferenceResult.{InferenceResult}
 use Rattle.infer_result.specs.declared.result.TypeMismatch.{TypeMismatch}
 use Rattle.infer_result.specs.declared.modes.BindingMode.{BindingMode}
 use Rattle.infer_result.specs.declared.diagnostics.InferenceDiagnostic.{InferenceDiagnostic}
-use Rattle.infer_result.specs.Table.{At, HasTy, PatTy, BindingTy, HasMode}
+use Rattle.infer_result.specs.Table.{At, HasTy, PatTy, BindingTy, HasMode, ExprVariant, PatVariant}
 use Rattle.infer_result.specs.Closed.{IsOfBody, AllTypes, OnlyBindersHaveModes}
 use Rattle.hir_facts.specs.CarriedTypes.{IsCarriedType}
 use Rattle.infer_result.specs.Places.{Given, Demand}
 use Rattle.infer_result.specs.Rules.Expressions.{ObeysOrMismatch}
 use Rattle.infer_result.specs.Rules.Patterns.{PatRule}
 use Rattle.infer_result.specs.Truth.Mismatch.{IsTruePatMismatch}
-use Rattle.infer_result.specs.Truth.Calls.{IsTrueDiagnostic}
+use Rattle.infer_result.specs.Truth.Calls.{IsTrueDiagnostic, IsTruePatDiagnostic}
 use Rattle.infer_result.specs.Made.{IsMisfit}
-use Rattle.infer_expr.specs.Found.{Found}
+use Rattle.infer_expr.specs.Found.{Found, RecordsVariants}
 
 -- the numbers of an expression and of a pattern in the order of the walk
 abbrev pub expr_start : RawBody → Schedule → ExprId → ℕ
@@ -49,12 +50,16 @@ pub record Extends (old new : InferenceResult) : Type 0 where
   pub mismatches : (e : ExprId) (m : TypeMismatch) → At old.expr_mismatches e.0 m → At new.expr_mismatches e.0 m
   pub pat_mismatches : (p : PatId) (m : TypeMismatch) → At old.pat_mismatches p.0 m → At new.pat_mismatches p.0 m
   pub diagnostics : (e : ExprId) (d : InferenceDiagnostic) → At old.expr_diagnostics e.0 d → At new.expr_diagnostics e.0 d
+  pub pat_diagnostics : (p : PatId) (d : InferenceDiagnostic) → At old.pat_diagnostics p.0 d → At new.pat_diagnostics p.0 d
+  pub expr_variants : (e : ExprId) (v : VariantId) → ExprVariant old e v → ExprVariant new e v
+  pub pat_variants : (p : PatId) (v : VariantId) → PatVariant old p v → PatVariant new p v
 
 -- each type of the table is of a carried kind
 abbrev pub IsCarriedTable : InferenceResult → Type 0
 IsCarriedTable t = AllTypes IsCarriedType t
 
--- The state of the walk: each type is of a carried kind, what has a mode binds a name, each complaint other than a mismatch is true, nothing is
+-- The state of the walk: each type is of a carried kind, what has a mode binds a name, each complaint other than a mismatch is true, the
+-- constructors that are named are recorded, nothing is
 -- recorded at a node from the clock on, and each binding whose pattern comes before it has a type.
 pub record IsWalked (g : Given) (s : Schedule) (c : Found) : Type 0 where
   pub of_body : IsOfBody g.body c.result
@@ -66,6 +71,8 @@ pub record IsWalked (g : Given) (s : Schedule) (c : Found) : Type 0 where
   pub free_bindings : (p : PatId) (v : BindingId) → Binds g.body p v → c.clock ≤ pat_start g.body s p → IsFree c.result.type_of_binding v.0
   pub bound : (p : PatId) (v : BindingId) → Binds g.body p v → pat_start g.body s p < c.clock → (t : Ty) × BindingTy c.result v t
   pub diagnostics : (e : ExprId) (d : InferenceDiagnostic) → At c.result.expr_diagnostics e.0 d → IsTrueDiagnostic g c.result e d
+  pub pat_diagnostics : (p : PatId) (d : InferenceDiagnostic) → At c.result.pat_diagnostics p.0 d → IsTruePatDiagnostic g p d
+  pub variants : RecordsVariants g.body c.result
 
 -- a property of mismatches and the expressions that they stand at: what the places of these have still to show
 abbrev pub Debt : Type 1

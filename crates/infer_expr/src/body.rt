@@ -31,6 +31,7 @@ impl InferenceContext {
         self.infer_expr_coerce(alloc, given, root, expected)?;
         let is_done = self.clock == last;
         prove!(is_done);
+        self.unify_unknown(given)?;
         Ok(())
     }
 

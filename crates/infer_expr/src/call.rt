@@ -1,33 +1,32 @@
 //! The types of calls.
-ghost use Rattle.std.specs.Prelude.{◌≡◌, ◌<◌, IfOk, Some, length, slice_get};
-ghost use Rattle.hir_facts.specs.declared.raw.RawExpr.TheVariants as expr;
-ghost use Rattle.hir_facts.specs.declared.raw.RawPath.TheVariants as path;
-ghost use Rattle.hir_facts.specs.CarriedBodies.{IsFunctionAt};
+ghost use Rattle.std.specs.Prelude.{◌≡◌, ◌<◌, IfOk, length};
+ghost use Rattle.hir_facts.specs.CarriedBodies.{IsItemAt};
 ghost use Rattle.infer_result.specs.Closed.{IsOfBody};
 ghost use Rattle.infer_expr.specs.Closings.{IsSound};
 ghost use Rattle.infer_expr.specs.Context.{given_of, scope_in, schedule_of};
 ghost use Rattle.infer_expr.specs.Fine.{IsFine};
-ghost use Rattle.infer_expr.specs.Under.{IsCallOf};
+ghost use Rattle.infer_expr.specs.Under.{IsCallOf, NamesItem, IsCalleeOf};
 ghost use Rattle.infer_expr.specs.Steps.{Before, Within, KindDone, CalleeDone, BeforeArgs, BeforeInputs, ArgsDone, OnlyBinds};
 
 use crate::context::InferenceContext;
 use crate::expectation::Expectation;
 use crate::given::{CallableSig, GivenBody};
-use hir_facts::{ExprId, FunctionId, RawExpr, RawPath, Ty};
+use hir_facts::{ExprId, RawExpr, RawPath, Ty};
 use hir_types::CallableDefId;
 use infer_result::InferenceDiagnostic;
 use std::alloc::{AllocError, Global};
 
-/// The function that an expression is a path to.
-fn called_function(given: &GivenBody, callee: ExprId) -> FunctionId
+/// The function or constructor that an expression is a path to.
+fn called_item(given: &GivenBody, callee: ExprId) -> CallableDefId
     requires within { callee.0 < length given.now.body.now.exprs }
-    requires names { IsFunctionAt given.now.body.now callee }
-    ensures { slice_get given.now.body.now.exprs callee.0 ≡ Some (expr.Path (path.Function result)) }
+    requires names { IsItemAt given.now.body.now callee }
+    ensures { NamesItem given.now.body.now callee result }
 {
     match &given.body.exprs.as_slice()[callee.0 as usize] {
         RawExpr::Path(path) => match *path {
-            RawPath::Function(function) => function,
-            RawPath::Local(_) | RawPath::Ctor(_) | RawPath::Other => unreachable!(),
+            RawPath::Function(function) => CallableDefId::FunctionId(function),
+            RawPath::Ctor(variant) => CallableDefId::VariantId(variant),
+            RawPath::Local(_) | RawPath::Other => unreachable!(),
         },
         _ => unreachable!(),
     }
@@ -54,7 +53,7 @@ impl InferenceContext {
         Ok(ty)
     }
 
-    /// Types what is called, which is a path to a function.
+    /// Types what is called, which is a path to a function or a constructor.
     fn infer_callee(
         &mut self,
         alloc: Global,
@@ -62,14 +61,14 @@ impl InferenceContext {
         callee: ExprId,
     ) -> Result<Ty, AllocError>
         requires before { Before (given_of given.now) (schedule_of given.now) callee None self.old }
-        requires names { IsFunctionAt given.now.body.now callee }
+        requires names { IsCalleeOf (given_of given.now) callee }
         ensures { IfOk result (λ ty. CalleeDone (given_of given.now) (schedule_of given.now)
             callee ty self.old self.new) }
     {
-        let function = called_function(given, callee);
+        let item = called_item(given, callee);
         self.enter();
-        let args = self.fresh_args_for_item(alloc, given, function)?;
-        let ty = Ty::FnDef(CallableDefId::FunctionId(function), args);
+        let args = self.fresh_args_for_item(alloc, given, given.params_of_item(item))?;
+        let ty = Ty::FnDef(item, args);
         let recorded = ty.dup(alloc)?;
         self.write_expr_ty(callee, recorded);
         Ok(ty)
@@ -183,10 +182,7 @@ impl InferenceContext {
         requires other { IsFine (scope_in given.now) self.old.table other.now }
         ensures { IfOk result (λ _. OnlyBinds (given_of given.now) self.old self.new) }
     {
-        if self.table.unify(ty, other)? {
-            // That some assignment agrees with what is found out now is known of each table.
-            self.table.lawful();
-        }
+        self.unify(given, ty, other)?;
         Ok(())
     }
 }

@@ -1,21 +1,46 @@
 //! Coercions.
-ghost use Rattle.std.specs.Prelude.{◌≡◌, ◌<◌, IfOk, length};
+ghost use Rattle.std.specs.Prelude.{◌≡◌, ◌<◌, IfOk, IsTrue, length};
+ghost use Rattle.hir_types.specs.declared.ids.ExprOrPatId.TheVariants as node;
+ghost use Rattle.infer_table.specs.Table.{IsUnknownPair};
+ghost use Rattle.infer_result.specs.Table.{mismatch};
 ghost use Rattle.infer_result.specs.Closed.{IsOfBody};
-ghost use Rattle.infer_expr.specs.Context.{given_of, scope_in};
+ghost use Rattle.infer_expr.specs.Context.{given_of, scope_in, waiting_at};
 ghost use Rattle.infer_expr.specs.Closings.{IsSound};
 ghost use Rattle.infer_expr.specs.Fine.{IsFine};
-ghost use Rattle.infer_expr.specs.Steps.{IsCoercedIf};
+ghost use Rattle.infer_expr.specs.Steps.{IsCoerced, MayWait};
 
 use crate::context::InferenceContext;
 use crate::given::GivenBody;
-use hir_facts::{ExprId, Ty};
+use hir_facts::{ExprId, ExprOrPatId, Ty};
 use infer_result::TypeMismatch;
 use std::alloc::{AllocError, Global};
 
+/// What came of a coercion.
+#[derive(Clone, Copy, Debug, PartialEq, Eq)]
+pub enum Coerced {
+    /// The two types are the same from then on.
+    Yes,
+    /// Nothing is known of either type: they are unified as soon as one is known.
+    Waits,
+    /// They differ.
+    No,
+}
+
+/// That the type `target` is expected of an expression of type `actual`.
+fn mismatch_of(alloc: Global, actual: &Ty, target: &Ty) -> Result<TypeMismatch, AllocError>
+    ensures { IfOk result (λ made. made ≡ mismatch target.now actual.now) }
+{
+    Ok(TypeMismatch {
+        expected: target.dup(alloc)?,
+        actual: actual.dup(alloc)?,
+    })
+}
+
 impl InferenceContext {
-    /// Whether an expression of type `actual` can be put where `target` is expected: the two are
-    /// unified. Where they can't be, a mismatch is noted. This is `infer/coerce.rs`'s `coerce`, with
-    /// what `infer/expr.rs`'s `infer_expr_coerce` does where that fails.
+    /// Puts an expression of type `actual` where `target` is expected: the two are unified. Where they
+    /// can't be, a mismatch is noted; where nothing is known of either, the expression waits. This
+    /// is `infer/coerce.rs`'s `coerce`, with what `infer/expr.rs`'s `infer_expr_coerce` does where
+    /// that fails.
     pub fn coerce(
         &mut self,
         alloc: Global,
@@ -23,27 +48,67 @@ impl InferenceContext {
         expr: ExprId,
         actual: &Ty,
         target: &Ty,
-    ) -> Result<bool, AllocError>
+    ) -> Result<Coerced, AllocError>
         requires within { expr.0 < length given.now.body.now.exprs }
         requires of_body { IsOfBody given.now.body.now self.old.result }
         requires sound { IsSound (scope_in given.now) self.old }
         requires actual { IsFine (scope_in given.now) self.old.table actual.now }
         requires target { IsFine (scope_in given.now) self.old.table target.now }
-        ensures { IfOk result (λ yes. IsCoercedIf yes (given_of given.now) expr actual.now target.now self.old self.new) }
+        ensures { IfOk result (λ answer. IsCoerced answer (given_of given.now) expr actual.now target.now self.old self.new) }
     {
         if actual.is_same(target) {
-            return Ok(true);
+            return Ok(Coerced::Yes);
         }
-        if self.table.unify(actual, target)? {
-            // That some assignment agrees with what is found out now is known of each table.
-            self.table.lawful();
-            return Ok(true);
+        if self.may_wait(expr, actual, target) {
+            self.wait(alloc, given, expr, actual, target)?;
+            return Ok(Coerced::Waits);
         }
-        let mismatch = TypeMismatch {
-            expected: target.dup(alloc)?,
-            actual: actual.dup(alloc)?,
-        };
+        if self.unify(given, actual, target)? {
+            return Ok(Coerced::Yes);
+        }
+        let mismatch = mismatch_of(alloc, actual, target)?;
         self.note_mismatch(expr, mismatch);
-        Ok(false)
+        Ok(Coerced::No)
+    }
+
+    /// Whether an expression is to wait: nothing is known of either type, they are not the same hole,
+    /// and nothing stands at it.
+    fn may_wait(&self, expr: ExprId, actual: &Ty, target: &Ty) -> bool
+        ensures { IsTrue result → MayWait self.now expr actual.now target.now }
+    {
+        self.are_unknown(actual, target) && self.is_unasked(expr)
+    }
+
+    /// Whether two types are different holes of which nothing is known.
+    fn are_unknown(&self, source: &Ty, target: &Ty) -> bool
+        ensures { IsTrue result → (n : _) → IsUnknownPair self.now.table (record { source = source.now; target = target.now; node = n }) }
+    {
+        match (
+            self.table.shallow_resolve(source),
+            self.table.shallow_resolve(target),
+        ) {
+            (Ty::Var(source), Ty::Var(target)) => source != target,
+            _ => false,
+        }
+    }
+
+    /// Has an expression wait till one of two holes is known: what `infer/coerce.rs`'s `coerce` does
+    /// with two type variables.
+    fn wait(
+        &mut self,
+        alloc: Global,
+        given: &GivenBody,
+        expr: ExprId,
+        actual: &Ty,
+        target: &Ty,
+    ) -> Result<(), AllocError>
+        requires actual { IsFine (scope_in given.now) self.old.table actual.now }
+        requires target { IsFine (scope_in given.now) self.old.table target.now }
+        ensures { IfOk result (λ _. self.new ≡ waiting_at self.old expr actual.now target.now) }
+    {
+        let asked = mismatch_of(alloc, actual, target)?;
+        self.table.wait(actual, target, ExprOrPatId::ExprId(expr))?;
+        self.note_asked(expr, asked);
+        Ok(())
     }
 }

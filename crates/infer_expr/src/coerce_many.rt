@@ -8,6 +8,7 @@ ghost use Rattle.infer_expr.specs.Fine.{IsFine, IsFineExpectation};
 ghost use Rattle.infer_expr.specs.Steps.{IsFineCommon, Merges, Completes};
 ghost use Rattle.infer_expr.specs.Under.{common_of};
 
+use crate::coerce::Coerced;
 use crate::context::InferenceContext;
 use crate::expectation::Expectation;
 use crate::given::GivenBody;
@@ -56,10 +57,9 @@ impl CoerceMany {
         match self {
             CoerceMany::Nothing => Ok(CoerceMany::Is(ty)),
             CoerceMany::Is(common) => {
-                if context.coerce(alloc, given, expr, &ty, &common)? {
-                    Ok(CoerceMany::Is(common))
-                } else {
-                    Ok(CoerceMany::Unknown)
+                match context.coerce(alloc, given, expr, &ty, &common)? {
+                    Coerced::Yes | Coerced::Waits => Ok(CoerceMany::Is(common)),
+                    Coerced::No => Ok(CoerceMany::Unknown),
                 }
             }
             CoerceMany::Unknown => Ok(CoerceMany::Unknown),

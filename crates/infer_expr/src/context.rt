@@ -1,10 +1,12 @@
 //! What inference of a body has found out so far.
-ghost use Rattle.std.specs.Prelude.{◌≡◌, ◌<◌, ◌+◌, ◌^◌, IfOk, IsTrue, None, length, replicate};
+ghost use Rattle.std.specs.Prelude.{◌≡◌, ◌<◌, ◌+◌, ◌^◌, IfOk, IsTrue, None, length, map, replicate};
 ghost use Rattle.infer_result.specs.Table.{MismatchAt};
-ghost use Rattle.infer_expr.specs.Found.{noted};
-ghost use Rattle.infer_expr.specs.Context.{empty_context, entered, with_expr_ty, with_mismatch, with_diagnostic, with_pat_mismatch, with_pat_ty, with_mode, with_binding_ty};
+ghost use Rattle.infer_expr.specs.Found.{noted, path_variant, expr_variant, pat_variant};
+ghost use Rattle.infer_expr.specs.Walks.{IsFree};
+ghost use Rattle.infer_expr.specs.Steps.{IsUnasked};
+ghost use Rattle.infer_expr.specs.Context.{empty_context, entered, with_expr_ty, with_mismatch, with_asked, with_diagnostic, with_pat_mismatch, with_pat_diagnostic, with_pat_ty, with_mode, with_binding_ty};
 
-use hir_facts::{BindingId, ExprId, List, PatId, RawBody, Ty};
+use hir_facts::{BindingId, ExprId, List, PatId, RawBody, RawExpr, RawPat, RawPath, Ty, VariantId};
 use infer_result::{BindingMode, InferenceDiagnostic, InferenceResult, TypeMismatch};
 use infer_table::InferenceTable;
 use std::alloc::{AllocError, Global};
@@ -14,6 +16,9 @@ use std::alloc::{AllocError, Global};
 pub struct InferenceContext {
     /// The table as far as it is filled.
     pub result: InferenceResult,
+    /// What is asked of each expression that waits or waited: that its type be another one, while
+    /// nothing was known of either. Where the two come to differ, that is a mismatch.
+    pub asked: List<Option<TypeMismatch>>,
     /// How many nodes of the body the walk has come to, the body itself counted.
     pub clock: usize,
     /// The holes in the types that are recorded, and what is found out about them.
@@ -29,6 +34,60 @@ fn no_entries<T: Drop>(alloc: Global, count: usize) -> Result<List<Option<T>>, A
         entries.push(None)?;
     }
     Ok(entries)
+}
+
+/// The variant whose constructor a path names.
+fn path_variant(path: RawPath) -> Option<VariantId>
+    ensures { result ≡ path_variant path }
+{
+    match path {
+        RawPath::Ctor(variant) => Some(variant),
+        RawPath::Local(_) | RawPath::Function(_) | RawPath::Other => None,
+    }
+}
+
+fn expr_variant(expr: &RawExpr) -> Option<VariantId>
+    ensures { result ≡ expr_variant expr.now }
+{
+    match expr {
+        RawExpr::Path(path) => path_variant(*path),
+        RawExpr::Lit(_) | RawExpr::Block { .. } | RawExpr::Tuple(_) | RawExpr::If { .. } => None,
+        RawExpr::Match { .. } | RawExpr::Call { .. } | RawExpr::Other => None,
+    }
+}
+
+fn pat_variant(pat: &RawPat) -> Option<VariantId>
+    ensures { result ≡ pat_variant pat.now }
+{
+    match pat {
+        RawPat::TupleStruct { variant, args: _ } => Some(*variant),
+        RawPat::Path(path) => path_variant(*path),
+        RawPat::Wild | RawPat::Bind { .. } | RawPat::Tuple(_) | RawPat::Lit(_) | RawPat::Other =>
+            None,
+    }
+}
+
+/// The variant whose constructor each expression of a body names. The facts' paths are resolved, so
+/// this is known before the walk; it is `infer.rs`'s `write_variant_resolution`.
+fn expr_variants(alloc: Global, body: &RawBody) -> Result<List<Option<VariantId>>, AllocError>
+    ensures { IfOk result (λ variants. variants ≡ map expr_variant body.now.exprs) }
+{
+    let mut variants = List::new(alloc);
+    for expr in body.exprs.as_slice() {
+        variants.push(expr_variant(expr))?;
+    }
+    Ok(variants)
+}
+
+/// The variant whose constructor each pattern of a body names.
+fn pat_variants(alloc: Global, body: &RawBody) -> Result<List<Option<VariantId>>, AllocError>
+    ensures { IfOk result (λ variants. variants ≡ map pat_variant body.now.pats) }
+{
+    let mut variants = List::new(alloc);
+    for pat in body.pats.as_slice() {
+        variants.push(pat_variant(pat))?;
+    }
+    Ok(variants)
 }
 
 /// Notes something in a list of what stands at each node, where nothing is there yet.
@@ -53,9 +112,13 @@ impl InferenceContext {
             expr_mismatches: no_entries(alloc, body.exprs.len())?,
             expr_diagnostics: no_entries(alloc, body.exprs.len())?,
             pat_mismatches: no_entries(alloc, body.pats.len())?,
+            pat_diagnostics: no_entries(alloc, body.pats.len())?,
+            expr_variants: expr_variants(alloc, body)?,
+            pat_variants: pat_variants(alloc, body)?,
         };
         Ok(InferenceContext {
             result,
+            asked: no_entries(alloc, body.exprs.len())?,
             clock: 1,
             table: InferenceTable::new(alloc)?,
         })
@@ -92,10 +155,32 @@ impl InferenceContext {
         note(&mut self.result.expr_diagnostics, expr.0, diagnostic);
     }
 
-    /// Whether this mismatch is noted at an expression.
-    pub fn is_noted(&self, expr: ExprId, expected: &Ty, actual: &Ty) -> bool
-        ensures { IsTrue result → MismatchAt self.now.result expr expected.now actual.now }
+    /// Keeps what is asked of an expression while nothing is known of it. What was asked first stays.
+    pub fn note_asked(&mut self, expr: ExprId, asked: TypeMismatch)
+        ensures { self.new ≡ with_asked self.old expr asked }
     {
+        note(&mut self.asked, expr.0, asked);
+    }
+
+    /// Whether nothing is noted at an expression, and nothing was asked of it.
+    pub fn is_unasked(&self, expr: ExprId) -> bool
+        ensures { IsTrue result → IsUnasked self.now expr }
+    {
+        let (asked, noted) = (&self.asked, &self.result.expr_mismatches);
+        match (asked.get(expr.0 as usize), noted.get(expr.0 as usize)) {
+            (Some(None), Some(None)) => true,
+            _ => false,
+        }
+    }
+
+    /// Whether this mismatch is noted at an expression of which nothing was asked.
+    pub fn is_noted(&self, expr: ExprId, expected: &Ty, actual: &Ty) -> bool
+        ensures mismatch { IsTrue result → MismatchAt self.now.result expr expected.now actual.now }
+        ensures unasked { IsTrue result → IsFree self.now.asked expr.0 }
+    {
+        let Some(None) = self.asked.get(expr.0 as usize) else {
+            return false;
+        };
         match self.result.type_mismatch_for_expr(expr) {
             Some(noted) => noted.expected.is_same(expected) && noted.actual.is_same(actual),
             None => false,
@@ -107,6 +192,14 @@ impl InferenceContext {
         ensures { self.new ≡ with_pat_mismatch self.old pat mismatch }
     {
         note(&mut self.result.pat_mismatches, pat.0, mismatch);
+    }
+
+    /// Notes a complaint, other than a mismatch, at a pattern. The first one there stays. This is
+    /// `infer.rs`'s `push_diagnostic`.
+    pub fn push_pat_diagnostic(&mut self, pat: PatId, diagnostic: InferenceDiagnostic)
+        ensures { self.new ≡ with_pat_diagnostic self.old pat diagnostic }
+    {
+        note(&mut self.result.pat_diagnostics, pat.0, diagnostic);
     }
 
     /// Records the type of a pattern: `infer.rs`, `write_pat_ty`.

@@ -2,10 +2,13 @@
 ghost use Rattle.std.specs.Prelude.{◌≡◌, ◌<◌, IfOk, List, Some, length, map, slice_get};
 ghost use Rattle.hir_facts.specs.Types.{written_type};
 ghost use Rattle.hir_facts.specs.declared.raw.RawFn.{RawFn};
-ghost use Rattle.infer_expr.specs.Callables.{written_at, IsFunctionItem, IsSigOf, IsSigOfItem};
+ghost use Rattle.hir_facts.specs.declared.raw.RawVariant.{RawVariant};
+ghost use Rattle.hir_facts.specs.Scope.{callable_params};
+ghost use Rattle.infer_expr.specs.Under.{IsItem};
+ghost use Rattle.infer_expr.specs.Callables.{written_at, field_at, IsFnSig, IsCtorSig, IsCallableItem, IsSigOfItem};
 
 use hir_facts::{
-    DefWithBodyId, Facts, FunctionId, List, RawBody, Schedule, Ty, TypeRefId, lower_ty,
+    DefWithBodyId, Facts, FunctionId, List, RawBody, Schedule, Ty, TypeRefId, VariantId, lower_ty,
 };
 use hir_types::{CallableDefId, GenericArg, instantiate};
 use std::alloc::{AllocError, Global};
@@ -37,6 +40,26 @@ pub struct CallableSig {
     pub output: Ty,
 }
 
+/// An equal copy.
+fn dup_arg(alloc: Global, arg: &GenericArg) -> Result<GenericArg, AllocError>
+    ensures { IfOk result (λ copy. copy ≡ arg.now) }
+{
+    match arg {
+        GenericArg::Ty(ty) => Ok(GenericArg::Ty(ty.dup(alloc)?)),
+        GenericArg::Const(value) => Ok(GenericArg::Const(*value)),
+    }
+}
+
+fn dup_args(alloc: Global, args: &List<GenericArg>) -> Result<List<GenericArg>, AllocError>
+    ensures { IfOk result (λ copies. copies ≡ args.now) }
+{
+    let mut copies = List::new(alloc);
+    for arg in args.as_slice() {
+        copies.push(dup_arg(alloc, arg)?)?;
+    }
+    Ok(copies)
+}
+
 impl GivenBody<'_> {
     /// The type that a written type stands for: `infer.rs`, `make_body_ty`.
     pub fn make_body_ty(&self, alloc: Global, type_ref: TypeRefId) -> Result<Ty, AllocError>
@@ -46,9 +69,23 @@ impl GivenBody<'_> {
         lower_ty(alloc, self.facts, type_ref)
     }
 
+    /// How many parameters an item has; those of a constructor are its adt's.
+    pub fn params_of_item(&self, item: CallableDefId) -> usize
+        requires { IsItem self.now.facts.now item }
+        ensures { callable_params self.now.facts.now item ≡ Some result }
+    {
+        match item {
+            CallableDefId::FunctionId(function) => self.facts.fn_(function).params.len(),
+            CallableDefId::VariantId(variant) => {
+                let adt = self.facts.variant(variant).adt;
+                self.facts.adt(adt).params.len()
+            }
+        }
+    }
+
     /// What a function item takes and gives: `next_solver/ty.rs`, `callable_sig`.
     pub fn callable_sig(&self, alloc: Global, callee_ty: &Ty) -> Result<CallableSig, AllocError>
-        requires { IsFunctionItem self.now.facts.now callee_ty.now }
+        requires { IsCallableItem self.now.facts.now callee_ty.now }
         ensures { IfOk result (λ sig. IsSigOfItem self.now.facts.now callee_ty.now sig) }
     {
         match callee_ty {
@@ -57,10 +94,47 @@ impl GivenBody<'_> {
                     let sig = self.fn_sig(alloc, function, args)?;
                     Ok(sig)
                 }
-                CallableDefId::VariantId(_) => unreachable!(),
+                CallableDefId::VariantId(variant) => {
+                    let sig = self.ctor_sig(alloc, variant, args)?;
+                    Ok(sig)
+                }
             },
             _ => unreachable!(),
         }
+    }
+
+    /// What a constructor takes and gives, with these arguments in the place of its adt's parameters.
+    fn ctor_sig(
+        &self,
+        alloc: Global,
+        variant: VariantId,
+        args: &List<GenericArg>,
+    ) -> Result<CallableSig, AllocError>
+        requires { variant.0 < length self.now.facts.now.variants }
+        ensures { IfOk result (λ sig. (x : RawVariant) → slice_get self.now.facts.now.variants variant.0 ≡ Some x
+            → IsCtorSig self.now.facts.now.types x args.now sig) }
+    {
+        let inputs = self.field_tys(alloc, variant, args)?;
+        let output = Ty::Adt(self.facts.variant(variant).adt, dup_args(alloc, args)?);
+        Ok(CallableSig { inputs, output })
+    }
+
+    /// The types of a variant's fields, with these arguments in the place of its adt's parameters.
+    pub fn field_tys(
+        &self,
+        alloc: Global,
+        variant: VariantId,
+        args: &List<GenericArg>,
+    ) -> Result<List<Ty>, AllocError>
+        requires { variant.0 < length self.now.facts.now.variants }
+        ensures { IfOk result (λ tys. (x : RawVariant) → slice_get self.now.facts.now.variants variant.0 ≡ Some x
+            → tys ≡ map (field_at self.now.facts.now.types args.now) x.fields) }
+    {
+        let mut tys = List::new(alloc);
+        for field in self.facts.variant(variant).fields.as_slice() {
+            tys.push(self.ty_at(alloc, field.ty, args)?)?;
+        }
+        Ok(tys)
     }
 
     /// What a function takes and gives, with these arguments in the place of its parameters.
@@ -72,7 +146,7 @@ impl GivenBody<'_> {
     ) -> Result<CallableSig, AllocError>
         requires { function.0 < length self.now.facts.now.fns }
         ensures { IfOk result (λ sig. (x : RawFn) → slice_get self.now.facts.now.fns function.0 ≡ Some x
-            → IsSigOf self.now.facts.now.types x args.now sig) }
+            → IsFnSig self.now.facts.now.types x args.now sig) }
     {
         let function = self.facts.fn_(function);
         let inputs = self.tys_at(alloc, function.inputs.as_slice(), args)?;

@@ -19,6 +19,7 @@ mod query;
 mod resolve_all;
 mod stmt;
 mod tuple;
+mod unify;
 
 pub use inspect::{NoInspector, ObligationInspector};
 pub use query::infer_query_with_inspect;

@@ -6,14 +6,15 @@ ghost use Rattle.infer_result.specs.Closed.{IsOfBody};
 ghost use Rattle.infer_expr.specs.Context.{given_of, scope_in, schedule_of, bound_by};
 ghost use Rattle.infer_expr.specs.Closings.{IsSound};
 ghost use Rattle.infer_expr.specs.Fine.{IsFine, IsFineExpectation};
-ghost use Rattle.infer_expr.specs.Under.{IsTuplePatOf, IsLitPatOf};
-ghost use Rattle.infer_expr.specs.Steps.{BeforePat, PatDone, IsGivenOrNew, ArePartTypes, TupleDemanded};
+ghost use Rattle.infer_expr.specs.Under.{IsTuplePatOf, IsCtorPatOf, IsPathPatOf, IsLitPatOf, IsVariant};
+ghost use Rattle.infer_expr.specs.Steps.{BeforePat, PatDone, IsGivenOrNew, ArePartTypes, PatDemanded, PartsCounted, CtorDemanded};
 
 use crate::context::InferenceContext;
 use crate::expectation::Expectation;
 use crate::given::GivenBody;
-use hir_facts::{BindingId, ExprId, List, PatId, RawPat, Ty};
-use infer_result::{BindingMode, TypeMismatch};
+use hir_facts::{BindingId, ExprId, List, PatId, RawPat, RawPath, Ty, VariantId};
+use hir_types::ExprOrPatId;
+use infer_result::{BindingMode, InferenceDiagnostic, TypeMismatch};
 use std::alloc::{AllocError, Global};
 
 impl InferenceContext {
@@ -66,7 +67,11 @@ impl InferenceContext {
                 self.infer_tuple_pat(alloc, given, pat, args.as_slice(), expected)
             }
             RawPat::Lit(expr) => self.infer_lit_pat(alloc, given, pat, *expr, expected),
-            RawPat::TupleStruct { .. } | RawPat::Path(_) | RawPat::Other => unreachable!(),
+            RawPat::TupleStruct { variant, args } => {
+                self.infer_tuple_struct_pat(alloc, given, pat, *variant, args.as_slice(), expected)
+            }
+            RawPat::Path(path) => self.infer_path_pat(alloc, given, pat, *path, expected),
+            RawPat::Other => unreachable!(),
         }
     }
 
@@ -125,11 +130,59 @@ impl InferenceContext {
         self.enter();
         let parts = self.part_tys(alloc, given, args.len(), &expected)?;
         let tys = parts.as_slice();
-        self.demand_tuple(alloc, given, pat, tys, expected)?;
+        let tuple = tuple_of(alloc, tys)?;
+        self.demand_pat_ty(alloc, given, pat, tuple, expected)?;
         for i in 0..args.len() {
             let ty = tys[i].dup(alloc)?;
             self.infer_pat(alloc, given, args[i], Some(ty))?;
         }
+        Ok(())
+    }
+
+    /// Types a pattern of a constructor over patterns, each of which gets the type of its field. One beyond
+    /// the fields gets a type of its own. This is `infer/pat.rs`'s `infer_tuple_struct_pat_like`.
+    #[cycle(infer)]
+    fn infer_tuple_struct_pat(
+        &mut self,
+        alloc: Global,
+        given: &GivenBody,
+        pat: PatId,
+        variant: VariantId,
+        args: &[PatId],
+        expected: Option<Ty>,
+    ) -> Result<(), AllocError>
+        requires before { BeforePat (given_of given.now) (schedule_of given.now) pat expected self.old }
+        requires is { IsCtorPatOf given.now.body.now pat variant args.now }
+        ensures { IfOk result (λ _. PatDone (given_of given.now) (schedule_of given.now)
+            pat expected self.old self.new) }
+    {
+        self.enter();
+        let fields = self.demand_ctor(alloc, given, pat, variant, args.len(), expected)?;
+        let tys = fields.as_slice();
+        for i in 0..args.len() {
+            let ty = ty_at(alloc, tys, i)?;
+            self.infer_pat(alloc, given, args[i], ty)?;
+        }
+        Ok(())
+    }
+
+    /// Types a pattern that is a path to a constructor: `infer/pat.rs`, `infer_pat` at `Pat::Path`.
+    fn infer_path_pat(
+        &mut self,
+        alloc: Global,
+        given: &GivenBody,
+        pat: PatId,
+        path: RawPath,
+        expected: Option<Ty>,
+    ) -> Result<(), AllocError>
+        requires before { BeforePat (given_of given.now) (schedule_of given.now) pat expected self.old }
+        requires is { IsPathPatOf given.now.body.now pat path }
+        ensures { IfOk result (λ _. PatDone (given_of given.now) (schedule_of given.now)
+            pat expected self.old self.new) }
+    {
+        self.enter();
+        let ty = self.infer_expr_path(alloc, given, path)?;
+        self.demand_pat_ty(alloc, given, pat, ty, expected)?;
         Ok(())
     }
 
@@ -214,30 +267,71 @@ impl InferenceContext {
         }
     }
 
-    /// Records the tuple of these types as that of a pattern, and asks that it be what comes in,
-    /// where something does: `infer.rs`, `demand_eqtype`.
-    fn demand_tuple(
+    /// Asks that what comes into a pattern of a constructor be its adt, at new holes for the parameters, and
+    /// says where there are not as many parts as fields. Gives the types of the fields.
+    fn demand_ctor(
         &mut self,
         alloc: Global,
         given: &GivenBody,
         pat: PatId,
-        tys: &[Ty],
+        variant: VariantId,
+        parts: usize,
+        expected: Option<Ty>,
+    ) -> Result<List<Ty>, AllocError>
+        requires within { pat.0 < length given.now.body.now.pats }
+        requires of_body { IsOfBody given.now.body.now self.old.result }
+        requires sound { IsSound (scope_in given.now) self.old }
+        requires named { IsVariant given.now.facts.now variant }
+        requires fine { IsFineExpectation (scope_in given.now) self.old.table expected }
+        ensures { IfOk result (λ tys. CtorDemanded (given_of given.now) pat variant parts tys expected
+            self.old self.new) }
+    {
+        let item = given.facts.variant(variant);
+        let params = given.facts.adt(item.adt).params.len();
+        let args = self.fresh_args_for_item(alloc, given, params)?;
+        let fields = given.field_tys(alloc, variant, &args)?;
+        self.count_parts(pat, item.fields.len(), parts);
+        self.demand_pat_ty(alloc, given, pat, Ty::Adt(item.adt, args), expected)?;
+        Ok(fields)
+    }
+
+    /// Says where a constructor's pattern has not as many parts as the constructor has fields.
+    fn count_parts(&mut self, pat: PatId, expected: usize, found: usize)
+        ensures { PartsCounted pat expected found self.old self.new }
+    {
+        if expected != found {
+            self.push_pat_diagnostic(
+                pat,
+                InferenceDiagnostic::MismatchedTupleStructPatArgCount {
+                    pat: ExprOrPatId::PatId(pat),
+                    expected,
+                    found,
+                },
+            );
+        }
+    }
+
+    /// Records a type as that of a pattern, and asks that it be what comes in, where something does:
+    /// `infer.rs`, `demand_eqtype`.
+    fn demand_pat_ty(
+        &mut self,
+        alloc: Global,
+        given: &GivenBody,
+        pat: PatId,
+        ty: Ty,
         expected: Option<Ty>,
     ) -> Result<(), AllocError>
         requires within { pat.0 < length given.now.body.now.pats }
         requires of_body { IsOfBody given.now.body.now self.old.result }
         requires sound { IsSound (scope_in given.now) self.old }
-        requires tys { (i : ℕ) (t : Ty) → slice_get tys.now i ≡ Some t → IsFine (scope_in given.now) self.old.table t }
+        requires ty { IsFine (scope_in given.now) self.old.table ty }
         requires fine { IsFineExpectation (scope_in given.now) self.old.table expected }
-        ensures { IfOk result (λ _. TupleDemanded (given_of given.now) pat tys.now expected self.old self.new) }
+        ensures { IfOk result (λ _. PatDemanded (given_of given.now) pat ty expected self.old self.new) }
     {
-        let ty = tuple_of(alloc, tys)?;
         match expected {
             Some(expected) => {
                 let actual = ty.dup(alloc)?;
-                if self.table.unify(&expected, &ty)? {
-                    // That some assignment agrees with what is found out now is known of each table.
-                    self.table.lawful();
+                if self.unify(given, &expected, &ty)? {
                     self.write_pat_ty(pat, ty);
                     return Ok(());
                 }
@@ -250,6 +344,19 @@ impl InferenceContext {
                 Ok(())
             }
         }
+    }
+}
+
+/// A copy of the type at a position, where there is one.
+fn ty_at(alloc: Global, tys: &[Ty], at: usize) -> Result<Option<Ty>, AllocError>
+    ensures { IfOk result (λ ty. ty ≡ slice_get tys.now at) }
+{
+    match tys.get(at) {
+        Some(ty) => {
+            let ty = ty.dup(alloc)?;
+            Ok(Some(ty))
+        }
+        None => Ok(None),
     }
 }
 

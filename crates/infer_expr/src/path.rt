@@ -1,21 +1,21 @@
 //! The types of paths.
-ghost use Rattle.std.specs.Prelude.{◌≡◌, ◌<◌, ℕ, IfOk, Some, length, slice_get};
-ghost use Rattle.hir_facts.specs.declared.raw.RawFn.{RawFn};
+ghost use Rattle.std.specs.Prelude.{IfOk};
+ghost use Rattle.hir_facts.specs.declared.raw.RawPath.TheVariants as path;
 ghost use Rattle.infer_result.specs.Closed.{IsOfBody};
 ghost use Rattle.infer_expr.specs.Closings.{IsSound};
 ghost use Rattle.infer_expr.specs.Context.{given_of, scope_in};
-ghost use Rattle.infer_expr.specs.Under.{NamesTyped};
+ghost use Rattle.infer_expr.specs.Under.{NamesTyped, IsVariant};
 ghost use Rattle.infer_expr.specs.Steps.{PathDone, AreFreshArgs};
 
 use crate::context::InferenceContext;
 use crate::given::GivenBody;
-use hir_facts::{FunctionId, List, RawPath, Ty};
+use hir_facts::{List, RawCtor, RawPath, Ty, VariantId};
 use hir_types::{CallableDefId, GenericArg};
 use std::alloc::{AllocError, Global};
 
 impl InferenceContext {
-    /// The type of a path: that of the local that it names, or of the function at new holes:
-    /// `infer/path.rs`, `infer_path`.
+    /// The type of a path: that of the local that it names, or of the function or the constructor at
+    /// new holes: `infer/path.rs`, `infer_path`.
     pub fn infer_expr_path(
         &mut self,
         alloc: Global,
@@ -36,26 +36,51 @@ impl InferenceContext {
                 None => unreachable!(),
             },
             RawPath::Function(function) => {
-                let args = self.fresh_args_for_item(alloc, given, function)?;
+                let params = given.facts.fn_(function).params.len();
+                let args = self.fresh_args_for_item(alloc, given, params)?;
                 Ok(Ty::FnDef(CallableDefId::FunctionId(function), args))
             }
-            RawPath::Ctor(_) | RawPath::Other => unreachable!(),
+            RawPath::Ctor(variant) => {
+                let ty = self.infer_ctor_path(alloc, given, variant)?;
+                Ok(ty)
+            }
+            RawPath::Other => unreachable!(),
         }
     }
 
-    /// New holes in the place of a function's parameters: `infer/unify.rs`, `fresh_args_for_item`.
+    /// The type of a path to a constructor at new holes for the parameters of its adt: without fields
+    /// a value of the adt, else an item that can be called: `infer/path.rs`, `infer_path`.
+    pub fn infer_ctor_path(
+        &mut self,
+        alloc: Global,
+        given: &GivenBody,
+        variant: VariantId,
+    ) -> Result<Ty, AllocError>
+        requires sound { IsSound (scope_in given.now) self.old }
+        requires named { IsVariant given.now.facts.now variant }
+        ensures { IfOk result (λ ty. PathDone (given_of given.now) (path.Ctor variant) ty self.old self.new) }
+    {
+        let item = given.facts.variant(variant);
+        let params = given.facts.adt(item.adt).params.len();
+        let args = self.fresh_args_for_item(alloc, given, params)?;
+        match item.ctor {
+            RawCtor::Unit => Ok(Ty::Adt(item.adt, args)),
+            RawCtor::Tuple => Ok(Ty::FnDef(CallableDefId::VariantId(variant), args)),
+            RawCtor::Record => unreachable!(),
+        }
+    }
+
+    /// New holes in the place of an item's parameters, of which there are so many: `infer/unify.rs`,
+    /// `fresh_args_for_item`.
     pub fn fresh_args_for_item(
         &mut self,
         alloc: Global,
         given: &GivenBody,
-        function: FunctionId,
+        count: usize,
     ) -> Result<List<GenericArg>, AllocError>
-        requires within { function.0 < length given.now.facts.now.fns }
         requires sound { IsSound (scope_in given.now) self.old }
-        ensures { IfOk result (λ args. (f : RawFn) → slice_get given.now.facts.now.fns function.0 ≡ Some f
-            → AreFreshArgs (scope_in given.now) (length f.params) args self.old self.new) }
+        ensures { IfOk result (λ args. AreFreshArgs (scope_in given.now) count args self.old self.new) }
     {
-        let count = given.facts.fn_(function).params.len();
         let mut args = List::new(alloc);
         for _ in 0..count {
             let ty = self.table.next_ty_var()?;

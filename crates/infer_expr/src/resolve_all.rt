@@ -1,11 +1,12 @@
 //! The table of a body whose types have no holes.
-ghost use Rattle.std.specs.Prelude.{◌≡◌, IfOk, option_map, map};
+ghost use Rattle.std.specs.Prelude.{◌≡◌, IfOk, Some, option_map, map};
+ghost use Rattle.std.specs.Option.{option_copied};
 ghost use Rattle.hir_types.specs.Terms.{terms_of};
 ghost use Rattle.hir_types.specs.Subst.{folded};
 ghost use Rattle.infer_table.specs.Completion.{completion};
 ghost use Rattle.infer_table.specs.Solutions.{Respects};
 ghost use Rattle.infer_table.specs.Table.{Meets};
-ghost use Rattle.infer_expr.specs.Closings.{closed_types, closed_mismatch, closed_table};
+ghost use Rattle.infer_expr.specs.Closings.{closed_types, closed_mismatch, closed_mismatches, closed_table, asked_or_noted, entry_of};
 
 use crate::context::InferenceContext;
 use hir_facts::{List, Ty};
@@ -54,6 +55,60 @@ fn resolve_mismatch(
     }
 }
 
+/// A mismatch, resolved, unless its types are the same then, or else the other one, where there is
+/// one.
+fn resolve_unless_same(
+    table: &InferenceTable,
+    asked: &TypeMismatch,
+    noted: &Option<TypeMismatch>,
+) -> Result<Option<TypeMismatch>, AllocError>
+    ensures { IfOk result (λ made. made ≡ asked_or_noted (completion table.now) (Some asked.now) noted.now) }
+{
+    let expected = table.resolve_completely(&asked.expected)?;
+    let actual = table.resolve_completely(&asked.actual)?;
+    if expected.is_same(&actual) {
+        let made = resolve_mismatch(table, noted)?;
+        Ok(made)
+    } else {
+        Ok(Some(TypeMismatch { expected, actual }))
+    }
+}
+
+/// What stands at an expression, resolved: the mismatch that was asked of it, unless its types are
+/// the same, or else the one that is noted.
+fn resolve_asked(
+    table: &InferenceTable,
+    asked: Option<&Option<TypeMismatch>>,
+    noted: &Option<TypeMismatch>,
+) -> Result<Option<TypeMismatch>, AllocError>
+    ensures { IfOk result (λ made. made ≡ asked_or_noted (completion table.now) (entry_of (option_copied asked.entry)) noted.now) }
+{
+    match asked {
+        Some(Some(asked)) => resolve_unless_same(table, asked, noted),
+        _ => {
+            let made = resolve_mismatch(table, noted)?;
+            Ok(made)
+        }
+    }
+}
+
+/// The mismatches at expressions, resolved: what was asked of them and what is noted.
+fn resolve_expr_mismatches(
+    alloc: Global,
+    table: &InferenceTable,
+    asked: &List<Option<TypeMismatch>>,
+    noted: &[Option<TypeMismatch>],
+) -> Result<List<Option<TypeMismatch>>, AllocError>
+    ensures { IfOk result (λ made. made ≡ closed_mismatches (completion table.now) asked.now noted.now) }
+{
+    let mut resolved = List::new(alloc);
+    for i in 0..noted.len() {
+        let made = resolve_asked(table, asked.get(i), &noted[i])?;
+        resolved.push(made)?;
+    }
+    Ok(resolved)
+}
+
 /// Recorded mismatches, resolved.
 fn resolve_mismatches(
     alloc: Global,
@@ -74,7 +129,7 @@ impl InferenceContext {
     /// integer types that are still open with `i32`, and all others with `{unknown}`. This is
     /// `infer.rs`'s `resolve_all`.
     pub fn resolve_all(self, alloc: Global) -> Result<InferenceResult, AllocError>
-        ensures closed { IfOk result (λ made. made ≡ closed_table (completion self.table) self.result) }
+        ensures closed { IfOk result (λ made. made ≡ closed_table (completion self.table) self.asked self.result) }
         ensures meets { Meets (terms_of (completion self.table)) self.table }
         ensures respects { Respects (terms_of (completion self.table)) }
     {
@@ -84,7 +139,8 @@ impl InferenceContext {
         result.type_of_expr = resolve_tys(alloc, table, &result.type_of_expr)?;
         result.type_of_pat = resolve_tys(alloc, table, &result.type_of_pat)?;
         result.type_of_binding = resolve_tys(alloc, table, &result.type_of_binding)?;
-        result.expr_mismatches = resolve_mismatches(alloc, table, &result.expr_mismatches)?;
+        let noted = result.expr_mismatches.as_slice();
+        result.expr_mismatches = resolve_expr_mismatches(alloc, table, &self.asked, noted)?;
         result.pat_mismatches = resolve_mismatches(alloc, table, &result.pat_mismatches)?;
         Ok(result)
     }

@@ -1,8 +1,8 @@
 //! The types of tuples.
-ghost use Rattle.std.specs.Prelude.{◌≡◌, IfOk};
+ghost use Rattle.std.specs.Prelude.{◌≡◌, IfOk, Some};
 ghost use Rattle.infer_expr.specs.Context.{given_of, schedule_of, expected_type};
 ghost use Rattle.infer_expr.specs.Under.{IsTupleOf};
-ghost use Rattle.infer_expr.specs.Steps.{Within, KindDone};
+ghost use Rattle.infer_expr.specs.Steps.{Before, CoerceDone, Within, KindDone};
 
 use crate::context::InferenceContext;
 use crate::expectation::Expectation;
@@ -30,9 +30,39 @@ impl InferenceContext {
     {
         let mut tys = List::new(alloc);
         for i in 0..exprs.len() {
-            let ty = self.infer_expr_coerce(alloc, given, exprs[i], expected.of_element(i))?;
+            let ty = self.infer_element(alloc, given, exprs[i], expected.of_element(i))?;
             tys.push(ty)?;
         }
         Ok(Ty::Tuple(tys))
+    }
+
+    /// The type at which an element stands in its tuple: what is expected of it, else its own. Where
+    /// nothing is known of that, the element waits for a new hole to be known, as in
+    /// `infer/expr.rs`, where the component is a new variable in any case.
+    #[cycle(infer)]
+    fn infer_element(
+        &mut self,
+        alloc: Global,
+        given: &GivenBody,
+        expr: ExprId,
+        expected: Expectation,
+    ) -> Result<Ty, AllocError>
+        requires { Before (given_of given.now) (schedule_of given.now)
+            expr (expected_type expected) self.old }
+        ensures { IfOk result (λ ty. CoerceDone (given_of given.now) (schedule_of given.now)
+            expr (Some ty) ty self.old self.new) }
+    {
+        let ty = self.infer_expr_coerce(alloc, given, expr, expected)?;
+        match expected {
+            Expectation::HasType(_) => Ok(ty),
+            Expectation::None => match self.table.shallow_resolve(&ty) {
+                Ty::Var(_) => {
+                    let component = self.table.next_ty_var()?;
+                    self.coerce(alloc, given, expr, &ty, &component)?;
+                    Ok(component)
+                }
+                _ => Ok(ty),
+            },
+        }
     }
 }

@@ -1,4 +1,4 @@
-use Rattle.std.proofs.Common.{arith, ◌+◌, ◌<◌, ◌≡◌, ◌∙◌, ap, false, true, refl, sym, subst, Some, slice_get, length}
+use Rattle.std.proofs.Common.{arith, ◌+◌, ◌<◌, ◌≡◌, ◌∙◌, inr, ap, false, true, refl, sym, subst, Some, slice_get, length}
 use Rattle.std.proofs.lemmas.Option.{slice_get_read}
 use Rattle.std.proofs.lemmas.List.{get_or_default}
 use Rattle.hir_types.specs.declared.ty.Ty.TheVariants as ty
@@ -9,25 +9,28 @@ use Rattle.hir_facts.specs.declared.raw.RawPat.TheVariants as pat
 use Rattle.hir_facts.specs.Order.{inner}
 use Rattle.hir_types.specs.declared.ids.ExprOrPatId.TheVariants as node
 use Rattle.infer_expr.specs.Closings.{IsSound}
-use Rattle.infer_expr.specs.Fine.{IsFineExpectation}
+use Rattle.infer_expr.specs.Fine.{IsFine, IsFineExpectation}
+use Rattle.infer_table.specs.Table.{hole_count}
 use Rattle.infer_expr.specs.Context.{given_of, scope_in, schedule_of, expected_type, entered, with_expr_ty}
 use Rattle.infer_expr.specs.Under.{declared_type}
-use Rattle.infer_expr.specs.Steps.{Before, Within, OwnDone, KindDone, CoerceDone, StmtDone, BeforeStmt, BeforePat, PatDone, IsGivenOrNew, BeforeInputs, OnlyBinds}
+use Rattle.infer_expr.specs.Steps.{Before, Within, OwnDone, KindDone, CoerceDone, StmtDone, BeforeStmt, BeforePat, PatDone, IsGivenOrNew, BeforeInputs, OnlyBinds, IsCoerced}
 use Rattle.infer_expr.proofs.Expressions.{comes_within, own_done, coerced_done, literal_kind}
 use Rattle.infer_expr.proofs.PathWalk.{path_typed, path_kind}
 use Rattle.infer_expr.proofs.StmtWalk.{let_written, comes_to_init, init_walked, comes_to_pat, let_walked, comes_to_bare_pat, bare_let_walked, expr_walked}
 use Rattle.infer_expr.proofs.Closed.{sound_entered}
 use Rattle.infer_expr.proofs.FineTypes.{fine_expectation_grown}
+use Rattle.infer_expr.proofs.PatHoles.{fine_tuple_of}
 use Rattle.infer_expr.proofs.PatWalk.{wild_walked, bind_walked, bind_within, Fits, comes_to_lit, lit_walked}
 use Rattle.infer_expr.proofs.TuplePatWalk.{tuple_pat_begun, begins_tuple_pat, comes_to_part, goes_past_part, ends_tuple_pat}
-use Rattle.infer_expr.proofs.TupleWalk.{begins_tuple, comes_to_element, goes_past_element, ends_tuple}
+use Rattle.infer_expr.proofs.CtorPatWalk.{ctor_pat_begun, begun_clock, begins_ctor_pat, comes_to_ctor_part, goes_past_ctor_part, ends_ctor_pat}
+use Rattle.infer_expr.proofs.TupleWalk.{places_element, component_follows, own_fine, component_fine, element_waits, begins_tuple, comes_to_element, goes_past_element, ends_tuple}
 use Rattle.infer_expr.proofs.BlockWalk.{begins_block, comes_to_stmt, goes_past_stmt, comes_to_tail, ends_block}
 use Rattle.infer_expr.proofs.BranchWalk.{alternative_done, comes_to_condition, goes_past_condition, comes_to_branch, branch_common, goes_past_branch, comes_to_else, expected_after, ends_if, else_before, else_typed, else_missing}
 use Rattle.infer_expr.proofs.ArmWalk.{arm_at, comes_to_scrutinee, begins_patterns, comes_to_pattern, goes_past_pattern, comes_to_arms, ends_match, begins_arms, comes_to_guard, comes_to_arm, common_at_arm, goes_past_arm, expected_in_arms, ends_arms, comes_to_guard_expr, guard_typed, guard_missing}
 use Rattle.infer_expr.proofs.Branches.{less_twice}
-use Rattle.infer_expr.proofs.CallWalk.{AtOthers, comes_to_callee, calls_function, comes_to_args, called_then, sig_inputs, takes_inputs, ends_call, comes_to_arg, goes_past_arg, ends_args, still_fine, binds_nothing, begins_others, comes_to_other, goes_past_other, ends_others}
+use Rattle.infer_expr.proofs.CallWalk.{AtOthers, call_for_any, comes_to_callee, calls_item, callee_item, comes_to_args, called_then, own_sig, takes_inputs, ends_call, comes_to_arg, goes_past_arg, ends_args, still_fine, begins_others, comes_to_other, goes_past_other, ends_others}
 use Rattle.infer_expr.proofs.AtEach.{follows_twice}
-use Rattle.hir_facts.specs.Signatures.{type_args}
+use Rattle.infer_expr.proofs.Unified.{binds_nothing, with_table}
 use Rattle.infer_expr.proofs.context.InferenceContext.+infer.Goals.{check_miscounted_arguments-then-i-inputs+in_ok-unify_with, check_miscounted_arguments-else-i-inputs}
 use Rattle.infer_expr.proofs.context.InferenceContext.+infer.Goals as goal
 
@@ -147,8 +150,8 @@ infer_let-returns t c = let_walked _ _ _ _ _ _ _ c.requires _ _ _ c.in_ok-ty.ens
 pub infer_tuple-loop-i-init : goal.infer_tuple-loop-i-init
 infer_tuple-loop-i-init t c = rw c.new-tys.ensures (begins_tuple _ _ _ _ _ _ c.requires.before c.requires.is)
 
-pub infer_tuple-infer_expr_coerce-requires : goal.infer_tuple-infer_expr_coerce-requires
-infer_tuple-infer_expr_coerce-requires t c = (
+pub infer_tuple-infer_element-requires : goal.infer_tuple-infer_element-requires
+infer_tuple-infer_element-requires t c = (
   omega (arith, c.decreases, c.loop-i.invariant.follows.clock),
   rw c.of_element.ensures (
       comes_to_element _ _ _ _ _ _ _ _ c.loop-i.invariant _ c.requires.before _ (get_or_default _ _ _ _ c.loop-i-test.true) c.loop-i-test.true
@@ -159,11 +162,55 @@ pub infer_tuple-loop-i-preserved : goal.infer_tuple-loop-i-preserved
 infer_tuple-loop-i-preserved t c =
     rw c.in_ok-push.ensures.ok (
     goes_past_element _ _ _ _ _ _ _ _ c.loop-i.invariant _ c.requires.before _ _ _ (get_or_default _ _ _ _ c.loop-i-test.true) c.loop-i-test.true
-    (rw c.of_element.ensures at c.in_ok-ty.ensures)
+    c.in_ok-ty.ensures
     )
 
 pub infer_tuple-returns : goal.infer_tuple-returns
 infer_tuple-returns t c = ends_tuple _ _ _ _ _ _ _ _ c.loop-i.invariant _ c.requires.before c.requires.is c.loop-i-test.false
+
+pub infer_element-infer_expr_coerce-requires : goal.infer_element-infer_expr_coerce-requires
+infer_element-infer_expr_coerce-requires t c = (omega (arith, c.decreases), c.requires)
+
+pub infer_element-coerce-requires-clause-sound : goal.infer_element-coerce-requires-clause-sound
+infer_element-coerce-requires-clause-sound t c =
+    let g = given_of c.args.given.now in
+    let s = schedule_of c.args.given.now in
+    let mid = c.infer_expr_coerce.new.self in
+    let done = subst (λ x. CoerceDone (given_of c.args.given.now) (schedule_of c.args.given.now) c.args.expr x c.in_ok-ty.ty c.args.self.now c.infer_expr_coerce.new.self) (ap (λ x. expected_type x) c.in-None.is) c.in_ok-ty.ensures in
+    subst (λ state. IsSound (scope_in c.args.given.now) (with_table c.infer_expr_coerce.new.self state)) (sym c.in_ok-component-in-Var.ensures.made) (component_follows g s c.args.expr c.in_ok-ty.ty c.args.self.now mid done).sound
+
+pub infer_element-coerce-requires-clause-actual : goal.infer_element-coerce-requires-clause-actual
+infer_element-coerce-requires-clause-actual t c =
+    let g = given_of c.args.given.now in
+    let s = schedule_of c.args.given.now in
+    let mid = c.infer_expr_coerce.new.self in
+    let done = subst (λ x. CoerceDone (given_of c.args.given.now) (schedule_of c.args.given.now) c.args.expr x c.in_ok-ty.ty c.args.self.now c.infer_expr_coerce.new.self) (ap (λ x. expected_type x) c.in-None.is) c.in_ok-ty.ensures in
+    subst (λ state. IsFine (scope_in c.args.given.now) state c.in_ok-ty.ty) (sym c.in_ok-component-in-Var.ensures.made) (own_fine g s c.args.expr c.in_ok-ty.ty c.args.self.now mid done)
+
+pub infer_element-coerce-requires-clause-target : goal.infer_element-coerce-requires-clause-target
+infer_element-coerce-requires-clause-target t c =
+    let g = given_of c.args.given.now in
+    let s = schedule_of c.args.given.now in
+    let mid = c.infer_expr_coerce.new.self in
+    let done = subst (λ x. CoerceDone (given_of c.args.given.now) (schedule_of c.args.given.now) c.args.expr x c.in_ok-ty.ty c.args.self.now c.infer_expr_coerce.new.self) (ap (λ x. expected_type x) c.in-None.is) c.in_ok-ty.ensures in
+    subst (λ v. IsFine (scope_in c.args.given.now) c.next_ty_var.new.self v) (sym c.in_ok-component-in-Var.ensures.hole)
+    (subst (λ state. IsFine (scope_in c.args.given.now) state (ty.Var (hole_count c.infer_expr_coerce.new.self.table))) (sym c.in_ok-component-in-Var.ensures.made) (component_fine g s c.args.expr c.in_ok-ty.ty c.args.self.now mid done))
+
+pub infer_element-returns-in_ok-coerce-in-Var : goal.infer_element-returns-in_ok-coerce-in-Var
+infer_element-returns-in_ok-coerce-in-Var t c =
+    let g = given_of c.args.given.now in
+    let s = schedule_of c.args.given.now in
+    let mid = c.infer_expr_coerce.new.self in
+    let answer = c.in_ok-coerce-in-Var.field-0 in
+    let before = subst (λ x. Before (given_of c.args.given.now) (schedule_of c.args.given.now) c.args.expr x c.args.self.now) (ap (λ x. expected_type x) c.in-None.is) c.requires in
+    let done = subst (λ x. CoerceDone (given_of c.args.given.now) (schedule_of c.args.given.now) c.args.expr x c.in_ok-ty.ty c.args.self.now c.infer_expr_coerce.new.self) (ap (λ x. expected_type x) c.in-None.is) c.in_ok-ty.ensures in
+    let named = subst (λ v. IsCoerced c.in_ok-coerce-in-Var.field-0 (given_of c.args.given.now) c.args.expr c.in_ok-ty.ty v (with_table c.infer_expr_coerce.new.self c.next_ty_var.new.self) c.coerce.new.self) c.in_ok-component-in-Var.ensures.hole c.in_ok-coerce-in-Var.ensures in
+    let coerced = subst (λ state. IsCoerced c.in_ok-coerce-in-Var.field-0 (given_of c.args.given.now) c.args.expr c.in_ok-ty.ty (ty.Var (hole_count c.infer_expr_coerce.new.self.table)) (with_table c.infer_expr_coerce.new.self state) c.coerce.new.self) c.in_ok-component-in-Var.ensures.made named in
+    subst (λ v. CoerceDone (given_of c.args.given.now) (schedule_of c.args.given.now) c.args.expr (Some v) v c.args.self.now c.coerce.new.self) (sym c.in_ok-component-in-Var.ensures.hole)
+    (element_waits g s c.args.expr c.in_ok-ty.ty c.args.self.now mid done answer c.coerce.new.self before coerced)
+
+pub infer_element-returns-in_default : goal.infer_element-returns-in_default
+infer_element-returns-in_default t c = places_element _ _ _ _ _ _ _ c.in_ok-ty.ensures
 
 pub infer_pat-given_or_new-requires-clause-sound : goal.infer_pat-given_or_new-requires-clause-sound
 infer_pat-given_or_new-requires-clause-sound t c = subst (λ k. IsSound (scope_in c.args.given.now) k) (sym c.enter.ensures) (sound_entered _ c.requires.state.sound)
@@ -261,22 +308,24 @@ infer_tuple_pat-part_tys-requires-clause-sound t c = subst (λ k. IsSound (scope
 pub infer_tuple_pat-part_tys-requires-clause-fine : goal.infer_tuple_pat-part_tys-requires-clause-fine
 infer_tuple_pat-part_tys-requires-clause-fine t c = subst (λ k. IsFineExpectation (scope_in c.args.given.now) k.table c.args.expected) (sym c.enter.ensures) c.requires.before.fine
 
-pub infer_tuple_pat-demand_tuple-requires-clause-tys : goal.infer_tuple_pat-demand_tuple-requires-clause-tys
-infer_tuple_pat-demand_tuple-requires-clause-tys t c = λ i u e. c.in_ok-parts.ensures.fine i u (subst (λ us. slice_get us i ≡ Some u) c.as_slice-tys.ensures e)
+pub infer_tuple_pat-demand_pat_ty-requires-clause-ty : goal.infer_tuple_pat-demand_pat_ty-requires-clause-ty
+infer_tuple_pat-demand_pat_ty-requires-clause-ty t c =
+    subst (λ t. IsFine (scope_in c.args.given.now) c.part_tys.new.self.table t) (sym c.in_ok-tuple.ensures)
+    (fine_tuple_of (scope_in c.args.given.now) c.part_tys.new.self.table c.as_slice-tys.result.now (λ i u e. c.in_ok-parts.ensures.fine i u (subst (λ us. slice_get us i ≡ Some u) c.as_slice-tys.ensures e)))
 
-pub infer_tuple_pat-demand_tuple-requires-clause-fine : goal.infer_tuple_pat-demand_tuple-requires-clause-fine
-infer_tuple_pat-demand_tuple-requires-clause-fine t c =
+pub infer_tuple_pat-demand_pat_ty-requires-clause-fine : goal.infer_tuple_pat-demand_pat_ty-requires-clause-fine
+infer_tuple_pat-demand_pat_ty-requires-clause-fine t c =
     fine_expectation_grown (scope_in c.args.given.now) c.enter.new.self.table c.part_tys.new.self.table c.args.expected c.in_ok-parts.ensures.grew
     (subst (λ k. IsFineExpectation (scope_in c.args.given.now) k.table c.args.expected) (sym c.enter.ensures) c.requires.before.fine)
 
 pub infer_tuple_pat-loop-i-init : goal.infer_tuple_pat-loop-i-init
 infer_tuple_pat-loop-i-init t c =
-    let begun = tuple_pat_begun _ _ _ _ _ _ _ _ _ _ _ c.requires.before c.requires.is c.enter.ensures c.as_slice-tys.ensures c.in_ok-parts.ensures c.in_ok-demand_tuple.ensures in
+    let begun = tuple_pat_begun _ _ _ _ _ _ _ _ _ _ _ _ c.requires.before c.requires.is c.enter.ensures c.as_slice-tys.ensures c.in_ok-parts.ensures c.in_ok-tuple.ensures c.in_ok-demand_pat_ty.ensures in
     begins_tuple_pat _ _ _ _ _ _ _ _ begun
 
 pub infer_tuple_pat-infer_pat-requires : goal.infer_tuple_pat-infer_pat-requires
 infer_tuple_pat-infer_pat-requires t c =
-    let begun = tuple_pat_begun _ _ _ _ _ _ _ _ _ _ _ c.requires.before c.requires.is c.enter.ensures c.as_slice-tys.ensures c.in_ok-parts.ensures c.in_ok-demand_tuple.ensures in
+    let begun = tuple_pat_begun _ _ _ _ _ _ _ _ _ _ _ _ c.requires.before c.requires.is c.enter.ensures c.as_slice-tys.ensures c.in_ok-parts.ensures c.in_ok-tuple.ensures c.in_ok-demand_pat_ty.ensures in
     let within : c.loop-i.i < length c.as_slice-tys.result.now = omega (arith, begun.holes.count_is, c.loop-i-test.true) in
     let type_at : slice_get c.as_slice-tys.result.now c.loop-i.i ≡ Some c.in_ok-ty.ty = slice_get_read c.as_slice-tys.result.now _ c.loop-i.i _ refl within c.index-tys-i.is ∙ ap (λ y. Some y) (sym c.in_ok-ty.ensures) in (
       omega (arith, c.decreases, c.loop-i.invariant.follows.clock, begun.demanded.clock, begun.holes.clock, c.requires.before.here, c.requires.before.ready.room, c.requires.before.ready.law.schedule.reached (inner (node.PatId c.args.pat)) c.requires.before.within),
@@ -285,14 +334,14 @@ infer_tuple_pat-infer_pat-requires t c =
 
 pub infer_tuple_pat-loop-i-preserved : goal.infer_tuple_pat-loop-i-preserved
 infer_tuple_pat-loop-i-preserved t c =
-    let begun = tuple_pat_begun _ _ _ _ _ _ _ _ _ _ _ c.requires.before c.requires.is c.enter.ensures c.as_slice-tys.ensures c.in_ok-parts.ensures c.in_ok-demand_tuple.ensures in
+    let begun = tuple_pat_begun _ _ _ _ _ _ _ _ _ _ _ _ c.requires.before c.requires.is c.enter.ensures c.as_slice-tys.ensures c.in_ok-parts.ensures c.in_ok-tuple.ensures c.in_ok-demand_pat_ty.ensures in
     let within : c.loop-i.i < length c.as_slice-tys.result.now = omega (arith, begun.holes.count_is, c.loop-i-test.true) in
     let type_at : slice_get c.as_slice-tys.result.now c.loop-i.i ≡ Some c.in_ok-ty.ty = slice_get_read c.as_slice-tys.result.now _ c.loop-i.i _ refl within c.index-tys-i.is ∙ ap (λ y. Some y) (sym c.in_ok-ty.ensures) in
     goes_past_part _ _ _ _ _ _ _ _ c.loop-i.invariant _ _ begun _ _ (get_or_default _ _ _ _ c.loop-i-test.true) type_at c.loop-i-test.true _ c.in_ok-infer_pat.ensures
 
 pub infer_tuple_pat-returns : goal.infer_tuple_pat-returns
 infer_tuple_pat-returns t c =
-    let begun = tuple_pat_begun _ _ _ _ _ _ _ _ _ _ _ c.requires.before c.requires.is c.enter.ensures c.as_slice-tys.ensures c.in_ok-parts.ensures c.in_ok-demand_tuple.ensures in
+    let begun = tuple_pat_begun _ _ _ _ _ _ _ _ _ _ _ _ c.requires.before c.requires.is c.enter.ensures c.as_slice-tys.ensures c.in_ok-parts.ensures c.in_ok-tuple.ensures c.in_ok-demand_pat_ty.ensures in
     ends_tuple_pat _ _ _ _ _ _ _ _ c.loop-i.invariant _ _ begun c.loop-i-test.false
 
 -- ---- `if` and `match`
@@ -429,11 +478,14 @@ infer_expr_of_kind-infer_match-requires t c =
 
 -- ---- calls
 
+pub infer_expr_of_kind-returns-in_ok-ty-in-Call : goal.infer_expr_of_kind-returns-in_ok-ty-in-Call
+infer_expr_of_kind-returns-in_ok-ty-in-Call t c = call_for_any _ _ _ _ _ _ _ c.in_ok-ty-in-Call.ensures
+
 pub infer_call-infer_callee-requires-clause-before : goal.infer_call-infer_callee-requires-clause-before
 infer_call-infer_callee-requires-clause-before t c = comes_to_callee _ _ _ _ _ _ c.requires.before c.requires.is
 
 pub infer_call-infer_callee-requires-clause-names : goal.infer_call-infer_callee-requires-clause-names
-infer_call-infer_callee-requires-clause-names t c = calls_function _ _ _ _ _ _ c.requires.before c.requires.is
+infer_call-infer_callee-requires-clause-names t c = record { is_path = calls_item _ _ _ _ _ _ c.requires.before c.requires.is; items = λ id n. callee_item _ _ _ _ _ _ c.requires.before c.requires.is n.0 id n.1 n.2 }
 
 pub infer_call-check_call-requires : goal.infer_call-check_call-requires
 infer_call-check_call-requires t c = (
@@ -445,16 +497,15 @@ pub infer_call-returns : goal.infer_call-returns
 infer_call-returns t c = called_then _ _ _ _ _ _ c.requires.before c.requires.is _ _ _ _ c.in_ok-callee_ty.ensures c.in_ok-ty.ensures
 
 pub check_call-check_call_arguments-requires : goal.check_call-check_call_arguments-requires
-check_call-check_call_arguments-requires t c =
-    let sig = c.in_ok-inputs.ensures c.requires.function (type_args c.requires.types) c.requires.item.function c.requires.is c.requires.item.found in (
-      omega (arith, c.decreases),
-      subst (λ us. BeforeInputs (given_of c.args.given.now) (schedule_of c.args.given.now) c.args.tgt_expr c.args.args.now us c.args.self.now) (sym c.as_slice.ensures) (takes_inputs _ _ _ _ _ _ c.requires c.in_ok-inputs.field-0 sig),
-    )
+check_call-check_call_arguments-requires t c = (
+  omega (arith, c.decreases),
+  subst (λ us. BeforeInputs (given_of c.args.given.now) (schedule_of c.args.given.now) c.args.tgt_expr c.args.args.now us c.args.self.now) (sym c.as_slice.ensures) (takes_inputs _ _ _ _ _ _ c.requires c.in_ok-inputs.field-0 c.in_ok-inputs.ensures),
+)
 
 pub check_call-returns : goal.check_call-returns
 check_call-returns t c =
-    let sig = c.in_ok-inputs.ensures c.requires.function (type_args c.requires.types) c.requires.item.function c.requires.is c.requires.item.found in
-    ends_call _ _ _ _ _ _ c.requires _ _ _ (c.as_slice.ensures ∙ sig_inputs _ _ _ _ _ _ c.requires c.in_ok-inputs.field-0 sig) sig.output c.in_ok-check_call_arguments.ensures
+    let sig = own_sig _ _ _ _ _ _ c.requires c.in_ok-inputs.field-0 c.in_ok-inputs.ensures in
+    ends_call _ _ _ _ _ _ c.requires _ _ _ (c.as_slice.ensures ∙ sig.inputs) sig.output c.in_ok-check_call_arguments.ensures
 
 pub check_arguments-infer_expr_coerce-requires : goal.check_arguments-infer_expr_coerce-requires
 check_arguments-infer_expr_coerce-requires t c =
@@ -512,3 +563,46 @@ check_miscounted_arguments-loop-i-preserved t c =
 
 pub check_miscounted_arguments-returns : goal.check_miscounted_arguments-returns
 check_miscounted_arguments-returns t c = ends_others _ _ _ _ _ _ c.loop-i.invariant.before c.loop-i.invariant.differ _ _ c.loop-i.invariant.walk c.loop-i-test.false
+
+-- ---- patterns of constructors
+
+pub infer_pat-infer_tuple_struct_pat-requires : goal.infer_pat-infer_tuple_struct_pat-requires
+infer_pat-infer_tuple_struct_pat-requires t c =
+    let is : slice_get c.args.given.now.body.now.pats c.args.pat.0 ≡ Some (pat.TupleStruct c.in-TupleStruct.variant c.in-TupleStruct.args)
+    = slice_get_read c.args.given.now.body.now.pats _ c.args.pat.0 _ refl c.requires.within (rw c.as_slice.ensures at c.index-as_slice-pat.is) ∙ ap (λ x. Some x) c.in-TupleStruct.is in
+    (omega (arith, c.decreases), (c.requires, is ∙ ap (λ l. Some (pat.TupleStruct c.in-TupleStruct.variant l)) (sym c.as_slice-in-TupleStruct.ensures)))
+
+pub infer_pat-infer_path_pat-requires-clause-is : goal.infer_pat-infer_path_pat-requires-clause-is
+infer_pat-infer_path_pat-requires-clause-is t c =
+    slice_get_read c.args.given.now.body.now.pats _ c.args.pat.0 _ refl c.requires.within (rw c.as_slice.ensures at c.index-as_slice-pat.is) ∙ ap (λ x. Some x) c.in-Path.is
+
+pub infer_tuple_struct_pat-demand_ctor-requires-clause-sound : goal.infer_tuple_struct_pat-demand_ctor-requires-clause-sound
+infer_tuple_struct_pat-demand_ctor-requires-clause-sound t c = subst (λ k. IsSound (scope_in c.args.given.now) k) (sym c.enter.ensures) (sound_entered _ c.requires.before.state.sound)
+
+pub infer_tuple_struct_pat-demand_ctor-requires-clause-named : goal.infer_tuple_struct_pat-demand_ctor-requires-clause-named
+infer_tuple_struct_pat-demand_ctor-requires-clause-named t c = c.requires.before.ready.written.patterns c.args.pat c.args.variant (inr (c.args.args.now, c.requires.is))
+
+pub infer_tuple_struct_pat-demand_ctor-requires-clause-fine : goal.infer_tuple_struct_pat-demand_ctor-requires-clause-fine
+infer_tuple_struct_pat-demand_ctor-requires-clause-fine t c = subst (λ k. IsFineExpectation (scope_in c.args.given.now) k.table c.args.expected) (sym c.enter.ensures) c.requires.before.fine
+
+pub infer_tuple_struct_pat-loop-i-init : goal.infer_tuple_struct_pat-loop-i-init
+infer_tuple_struct_pat-loop-i-init t c =
+    let begun = ctor_pat_begun _ _ _ _ _ _ _ _ _ _ _ c.requires.before c.requires.is c.enter.ensures c.as_slice-tys.ensures c.in_ok-fields.ensures in
+    begins_ctor_pat _ _ _ _ _ _ _ _ _ begun
+
+pub infer_tuple_struct_pat-infer_pat-requires : goal.infer_tuple_struct_pat-infer_pat-requires
+infer_tuple_struct_pat-infer_pat-requires t c =
+    let begun = ctor_pat_begun _ _ _ _ _ _ _ _ _ _ _ c.requires.before c.requires.is c.enter.ensures c.as_slice-tys.ensures c.in_ok-fields.ensures in (
+      omega (arith, c.decreases, c.loop-i.invariant.follows.clock, begun_clock _ _ _ _ _ _ _ _ _ begun, c.requires.before.here, c.requires.before.ready.room, c.requires.before.ready.law.schedule.reached (inner (node.PatId c.args.pat)) c.requires.before.within),
+      comes_to_ctor_part _ _ _ _ _ _ _ _ c.loop-i.invariant _ _ _ begun _ (get_or_default _ _ _ _ c.loop-i-test.true) c.loop-i-test.true _ c.in_ok-ty.ensures,
+    )
+
+pub infer_tuple_struct_pat-loop-i-preserved : goal.infer_tuple_struct_pat-loop-i-preserved
+infer_tuple_struct_pat-loop-i-preserved t c =
+    let begun = ctor_pat_begun _ _ _ _ _ _ _ _ _ _ _ c.requires.before c.requires.is c.enter.ensures c.as_slice-tys.ensures c.in_ok-fields.ensures in
+    goes_past_ctor_part _ _ _ _ _ _ _ _ c.loop-i.invariant _ _ _ begun _ (get_or_default _ _ _ _ c.loop-i-test.true) c.loop-i-test.true _ c.in_ok-ty.ensures _ c.in_ok-infer_pat.ensures
+
+pub infer_tuple_struct_pat-returns : goal.infer_tuple_struct_pat-returns
+infer_tuple_struct_pat-returns t c =
+    let begun = ctor_pat_begun _ _ _ _ _ _ _ _ _ _ _ c.requires.before c.requires.is c.enter.ensures c.as_slice-tys.ensures c.in_ok-fields.ensures in
+    ends_ctor_pat _ _ _ _ _ _ _ _ c.loop-i.invariant _ _ _ begun c.loop-i-test.false

@@ -3,6 +3,7 @@ use Rattle.infer_expr.specs.Context.{given_of, schedule_of, expected_type}
 use Rattle.infer_expr.proofs.TupleWalk.{TupleWalk}
 use Rattle.infer_expr.proofs.BlockWalk.{BlockWalk}
 use Rattle.infer_expr.proofs.TuplePatWalk.{TuplePatWalk}
+use Rattle.infer_expr.proofs.CtorPatWalk.{CtorPatWalk}
 use Rattle.infer_expr.proofs.ArmWalk.{PatternWalk, ArmWalk}
 use Rattle.infer_expr.proofs.CallWalk.{AtArgs, AtOthers}
 use Rattle.infer_expr.proofs.context.InferenceContext.+infer.Given as goal
@@ -19,6 +20,9 @@ decreases-infer_expr_of_kind l = 16 * (2 ^ 64 - l.self.now.clock) + 10
 
 abbrev pub decreases-infer_tuple : goal.decreases-infer_tuple
 decreases-infer_tuple l = 16 * (2 ^ 64 - l.self.now.clock) + 9
+
+abbrev pub decreases-infer_element : goal.decreases-infer_element
+decreases-infer_element l = 16 * (2 ^ 64 - l.self.now.clock) + 4
 
 abbrev pub decreases-infer_block : goal.decreases-infer_block
 decreases-infer_block l = 16 * (2 ^ 64 - l.self.now.clock) + 9
@@ -61,6 +65,12 @@ decreases-infer_lit_pat l = 16 * (2 ^ 64 - l.self.now.clock) + 3
 
 abbrev pub invariant-infer_tuple_pat-loop-i : goal.invariant-infer_tuple_pat-loop-i
 invariant-infer_tuple_pat-loop-i l = TuplePatWalk (given_of l.given) (schedule_of l.given) l.fn.pat l.args l.tys l.i l.initial.self l.self
+
+abbrev pub decreases-infer_tuple_struct_pat : goal.decreases-infer_tuple_struct_pat
+decreases-infer_tuple_struct_pat l = 16 * (2 ^ 64 - l.self.now.clock) + 3
+
+abbrev pub invariant-infer_tuple_struct_pat-loop-i : goal.invariant-infer_tuple_struct_pat-loop-i
+invariant-infer_tuple_struct_pat-loop-i l = CtorPatWalk (given_of l.given) (schedule_of l.given) l.fn.pat l.args l.tys l.i l.initial.self l.self
 
 -- ---- `if` and `match`
 

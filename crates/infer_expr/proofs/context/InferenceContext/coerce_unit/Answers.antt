@@ -1,4 +1,4 @@
-use Rattle.std.proofs.Common.{◌≡◌, inl, inr, refl, sym, ap, ◌∙◌}
+use Rattle.std.proofs.Common.{inl, inr, refl, sym, ap, ◌∙◌}
 use Rattle.hir_types.specs.declared.ty.Ty.TheVariants as ty
 use Rattle.infer_expr.proofs.BlockWalk.{no_tail_coerced}
 use Rattle.infer_expr.proofs.context.InferenceContext.coerce_unit.Goals as goal
@@ -6,7 +6,7 @@ use Rattle.infer_expr.proofs.context.InferenceContext.coerce_unit.Goals as goal
 pub returns-then-is_noted : goal.returns-then-is_noted
 returns-then-is_noted c =
     no_tail_coerced c.in_ok-coerce.field-0 _ c.args.block _ c.in_ok-ty.ty c.args.target.now (ty.Tuple c.new.result) _ _ refl (ap (λ l. ty.Tuple l) c.new.ensures)
-    c.requires.target c.in_ok-coerce.ensures (inr (c.in_ok-ty.ensures, c.is_noted.ensures c.if-is_noted.true))
+    c.requires.target c.in_ok-coerce.ensures (inr (c.in_ok-ty.ensures, c.is_noted.ensures.mismatch c.if-is_noted.true, c.is_noted.ensures.unasked c.if-is_noted.true))
 
 pub returns : goal.returns
 returns c =

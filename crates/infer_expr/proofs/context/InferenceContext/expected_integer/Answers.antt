@@ -2,7 +2,7 @@ use Rattle.std.proofs.Common.{sym, ap, ◌∙◌}
 use Rattle.std.specs.Option.{option_copied}
 use Rattle.hir_types.specs.declared.ty.IntegerTy.TheVariants.{Int, Uint}
 use Rattle.infer_expr.specs.Context.{expected_type}
-use Rattle.infer_expr.proofs.Holes.{expected_integer_is, expected_char_is}
+use Rattle.infer_expr.proofs.Holes.{expected_integer_is}
 use Rattle.infer_expr.proofs.context.InferenceContext.expected_integer.Goals as goal
 
 pub returns-in-Int : goal.returns-in-Int

@@ -18,6 +18,6 @@ infer_expr_coerce-requires c =
 
 pub returns : goal.returns
 returns c =
-    body_walked _ _ c.requires.law c.requires.carried _ _ _
+    body_walked _ _ c.requires.law c.requires.carried _ _ _ _
     (subst (λ k. ParamsDone (given_of c.args.given.now) (schedule_of c.args.given.now) k c.infer_params.new.self) c.requires.empty c.in_ok-infer_params.ensures)
-    c.in_ok-infer_expr_coerce.ensures
+    c.in_ok-infer_expr_coerce.ensures c.in_ok-unify_unknown.ensures

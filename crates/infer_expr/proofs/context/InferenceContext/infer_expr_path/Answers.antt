@@ -4,9 +4,9 @@ use Rattle.hir_types.specs.declared.ids.CallableDefId.TheVariants as callable
 use Rattle.hir_types.specs.declared.ty.Ty.TheVariants as ty
 use Rattle.hir_facts.specs.declared.raw.RawPath.TheVariants as path
 use Rattle.infer_expr.specs.Context.{given_of}
-use Rattle.infer_expr.specs.Steps.{PathDone}
+use Rattle.infer_expr.specs.Steps.{PathDone, AreFreshArgs}
 use Rattle.infer_expr.specs.Under.{NamesTyped}
-use Rattle.infer_expr.proofs.PathWalk.{local_path, function_path, recorded_at}
+use Rattle.infer_expr.proofs.PathWalk.{local_path, fn_size, function_path, recorded_at}
 use Rattle.infer_expr.proofs.context.InferenceContext.infer_expr_path.Goals as goal
 
 pub returns-in_ok-ty-in-Some : goal.returns-in_ok-ty-in-Some
@@ -25,6 +25,6 @@ returns-in_ok-args-in-Function c =
     let old = c.args.self.now in
     let new = c.fresh_args_for_item.new.self in
     let item = subst (λ p. NamesTyped g old.result p) c.in-Function.is c.requires.names in
-    let fresh = c.in_ok-args-in-Function.ensures item.function item.found in
+    let fresh = subst (λ n. AreFreshArgs g.scope n c.in_ok-args-in-Function.args old new) (c.len-params.ensures ∙ fn_size g f item _ c.fn_.ensures) c.in_ok-args-in-Function.ensures in
     subst (λ p. PathDone g p (ty.FnDef (callable.FunctionId f) c.in_ok-args-in-Function.args) old new) (sym c.in-Function.is)
     (subst (λ xs. PathDone g (path.Function f) (ty.FnDef (callable.FunctionId f) xs) old new) (sym fresh.are) (function_path g f item fresh.types old new fresh.made))

@@ -1,4 +1,4 @@
-use Rattle.std.proofs.Common.{◌+◌, ◌++◌, ◌∷◌, [], sym, subst}
+use Rattle.std.proofs.Common.{◌+◌, sym, subst}
 use Rattle.infer_expr.specs.Context.{scope_in}
 use Rattle.infer_expr.specs.Steps.{ArePartTypes}
 use Rattle.infer_expr.proofs.FineTypes.{fine_expectation_grown}

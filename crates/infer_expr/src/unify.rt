@@ -1,0 +1,103 @@
+//! Types made equal, and the pairs of types that wait for it: `infer/unify.rs`.
+ghost use Rattle.std.specs.Prelude.{IfOk};
+ghost use Rattle.infer_result.specs.Closed.{IsOfBody};
+ghost use Rattle.infer_expr.specs.Closings.{IsSound};
+ghost use Rattle.infer_expr.specs.Context.{given_of, scope_in};
+ghost use Rattle.infer_expr.specs.Fine.{IsFine, AreFinePairs};
+ghost use Rattle.infer_expr.specs.Steps.{IsUnifiedIf, OnlyBinds, Takes};
+
+use crate::context::InferenceContext;
+use crate::given::GivenBody;
+use hir_facts::Ty;
+use infer_table::WaitingPair;
+use std::alloc::AllocError;
+
+impl InferenceContext {
+    /// Makes two types equal, or changes nothing where no types for holes make them so. Then the
+    /// pairs are unified that were waiting and have become known.
+    pub fn unify(&mut self, given: &GivenBody, left: &Ty, right: &Ty) -> Result<bool, AllocError>
+        requires of_body { IsOfBody given.now.body.now self.old.result }
+        requires sound { IsSound (scope_in given.now) self.old }
+        requires left { IsFine (scope_in given.now) self.old.table left.now }
+        requires right { IsFine (scope_in given.now) self.old.table right.now }
+        ensures { IfOk result (λ yes. IsUnifiedIf yes (given_of given.now) left.now right.now self.old self.new) }
+    {
+        if self.unify_alone(given, left, right)? {
+            self.unify_known(given)?;
+            Ok(true)
+        } else {
+            Ok(false)
+        }
+    }
+
+    /// Makes two types equal, or changes nothing. Pairs that wait are left alone.
+    fn unify_alone(&mut self, given: &GivenBody, left: &Ty, right: &Ty) -> Result<bool, AllocError>
+        requires of_body { IsOfBody given.now.body.now self.old.result }
+        requires sound { IsSound (scope_in given.now) self.old }
+        requires left { IsFine (scope_in given.now) self.old.table left.now }
+        requires right { IsFine (scope_in given.now) self.old.table right.now }
+        ensures { IfOk result (λ yes. IsUnifiedIf yes (given_of given.now) left.now right.now self.old self.new) }
+    {
+        if self.table.unify(left, right)? {
+            // That some assignment agrees with what is found out now is known of each table.
+            self.table.lawful();
+            Ok(true)
+        } else {
+            Ok(false)
+        }
+    }
+
+    /// Takes the first pair that waits and of which a side is known.
+    fn take_known(&mut self, given: &GivenBody) -> Result<Option<WaitingPair>, AllocError>
+        requires of_body { IsOfBody given.now.body.now self.old.result }
+        requires sound { IsSound (scope_in given.now) self.old }
+        ensures { IfOk result (λ pair. Takes (given_of given.now) pair self.old self.new) }
+    {
+        let pair = self.table.take_known()?;
+        Ok(pair)
+    }
+
+    /// Unifies the pairs that wait and of which a side is known, till there is none. Where the two
+    /// can't be made equal, they differ from then on, which is a mismatch at the expression that
+    /// waited.
+    fn unify_known(&mut self, given: &GivenBody) -> Result<(), AllocError>
+        requires of_body { IsOfBody given.now.body.now self.old.result }
+        requires sound { IsSound (scope_in given.now) self.old }
+        ensures { IfOk result (λ _. OnlyBinds (given_of given.now) self.old self.new) }
+    {
+        // An expression waits once at most, so no more pairs wait than there are expressions.
+        for _ in 0..self.asked.len() {
+            match self.take_known(given)? {
+                Some(pair) => {
+                    self.unify_alone(given, &pair.source, &pair.target)?;
+                }
+                None => return Ok(()),
+            }
+        }
+        Ok(())
+    }
+
+    /// Unifies the pairs that still wait once the body is typed.
+    pub fn unify_unknown(&mut self, given: &GivenBody) -> Result<(), AllocError>
+        requires of_body { IsOfBody given.now.body.now self.old.result }
+        requires sound { IsSound (scope_in given.now) self.old }
+        ensures { IfOk result (λ _. OnlyBinds (given_of given.now) self.old self.new) }
+    {
+        let pairs = self.table.pairs()?;
+        self.unify_each(given, pairs.as_slice())
+    }
+
+    /// Unifies pairs of types, where that can be.
+    fn unify_each(&mut self, given: &GivenBody, pairs: &[WaitingPair]) -> Result<(), AllocError>
+        requires of_body { IsOfBody given.now.body.now self.old.result }
+        requires sound { IsSound (scope_in given.now) self.old }
+        requires fine { AreFinePairs (scope_in given.now) self.old.table pairs.now }
+        ensures { IfOk result (λ _. OnlyBinds (given_of given.now) self.old self.new) }
+    {
+        for i in 0..pairs.len() {
+            let pair = &pairs[i];
+            self.unify_alone(given, &pair.source, &pair.target)?;
+        }
+        Ok(())
+    }
+}
