@@ -1,4 +1,6 @@
 -- Texts written piece by piece: items joined by commas, and lines.
+use Rattle.std.specs.Prelude.{Result, Ok, Err, OnOk}
+use Rattle.std.specs.declared.alloc.AllocError.{AllocError}
 use Rattle.std.proofs.Common.{◌≡◌, ◌++◌, List, [], ◌∷◌, map, ℕ, ◌+◌, ◌<◌, ◌≤◌, length, take, drop, get_or, refl, sym, ap, ◌∙◌, append_assoc, add-one, drop-cons, arith, codes}
 use Rattle.std.proofs.lemmas.List.{map_more, length-take-le, length-map, drop_all, append-nil}
 use Rattle.infer_result.specs.Report.{joined, separator, lines_from}
@@ -42,3 +44,12 @@ is_written f xs i now total le so_far =
 pub all_seven : (a b c d e f g new after_a after_b after_c after_d after_e after_f after_g : List ℕ) → new ≡ [] → after_a ≡ new ++ a → after_b ≡ after_a ++ b → after_c ≡ after_b ++ c
     → after_d ≡ after_c ++ d → after_e ≡ after_d ++ e → after_f ≡ after_e ++ f → after_g ≡ after_f ++ g → after_g ≡ a ++ b ++ c ++ d ++ e ++ f ++ g
 all_seven a b c d e f g new after_a after_b after_c after_d after_e after_f after_g start p q r s t u v = rw (v, u, t, s, r, q, p, start) refl
+
+-- two texts, one after the other
+pub two_pieces : (start a b now done : List ℕ) → now ≡ start ++ a → done ≡ now ++ b → done ≡ start ++ (a ++ b)
+two_pieces start a b now done p q = q ∙ (ap (λ (w : List ℕ). w ++ b) p ∙ append_assoc start a b)
+
+-- a text, and then another where memory suffices
+pub then_piece : (r : Result (Unit {0}) AllocError) (start a b now done : List ℕ) → now ≡ start ++ a → OnOk r (done ≡ now ++ b) → OnOk r (done ≡ start ++ (a ++ b))
+then_piece (Ok x) start a b now done p q = two_pieces start a b now done p q
+then_piece (Err e) start a b now done p q = q

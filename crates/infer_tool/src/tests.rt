@@ -2,6 +2,7 @@ mod adts;
 mod bodies;
 mod branches;
 mod calls;
+mod constructors;
 mod generics;
 mod integers;
 mod kinds;

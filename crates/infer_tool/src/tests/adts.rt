@@ -139,7 +139,8 @@ const AT_VARIANT: &str =
 
 #[test]
 fn reads_constructors(rt: HostRuntime) -> Result<(), Fail> {
-    check_body(&rt, PATH, 8, "", NOT_CARRIED)?;
+    let fault = format!(in rt.alloc(); "law 1 is broken at bodies[0]: {IDS}")?;
+    check_body(&rt, PATH, 8, "", fault.as_str())?;
     check_body(&rt, TURBOFISH, 8, "", NOT_CARRIED)?;
     check_body(&rt, PATS, 8, "", NOT_CARRIED)?;
     check_body(&rt, NO_VARIANT, 7, "", AT_VARIANT)

@@ -146,11 +146,22 @@ const ENDLESS_LAST: &str =
 fn tells_an_endless_type(rt: HostRuntime) -> Result<(), Fail> {
     let rt = &rt;
     let endless =
-        "fn 0\ne0 fn2<{unknown}>\ne1 {unknown}\ne2 fn3<{unknown}>\ne3 {unknown}\ne4 {unknown}\ne5 ({unknown},)\ne6 ()\ne7 ()\np0 {unknown} move\nb0 {unknown}\nTypeMismatch e5 expected={unknown} actual=({unknown},)\ncomplaints 1\n";
+        "fn 0\ne0 fn2<({unknown},)>\ne1 ({unknown},)\ne2 fn3<({unknown},)>\ne3 ({unknown},)\ne4 ({unknown},)\ne5 ({unknown},)\ne6 ()\ne7 ()\np0 ({unknown},) move\nb0 ({unknown},)\nTypeMismatch e4 expected={unknown} actual=({unknown},)\ncomplaints 1\n";
     reported(rt, 2, ENDLESS, 1, endless)?;
     let endless_last =
-        "fn 0\ne0 fn2<{unknown}>\ne1 {unknown}\ne2 fn3<({unknown},)>\ne3 {unknown}\ne4 ({unknown},)\ne5 {unknown}\ne6 ()\ne7 ()\np0 {unknown} move\nb0 {unknown}\nTypeMismatch e5 expected=({unknown},) actual={unknown}\ncomplaints 1\n";
+        "fn 0\ne0 fn2<({unknown},)>\ne1 ({unknown},)\ne2 fn3<({unknown},)>\ne3 ({unknown},)\ne4 ({unknown},)\ne5 ({unknown},)\ne6 ()\ne7 ()\np0 ({unknown},) move\nb0 ({unknown},)\nTypeMismatch e3 expected={unknown} actual=({unknown},)\ncomplaints 1\n";
     reported(rt, 2, ENDLESS_LAST, 1, endless_last)
+}
+
+/// `let x = make(); let y = id(x); let z: u8 = y;`
+const KNOWN_LATER: &str =
+    r#"6,"exprs":[["path",["fn",2,null]],["call",0,[]],["path",["fn",1,null]],["path",["local",0,null]],["call",2,[3]],["path",["local",1,null]],["block",null,[["let",0,null,1,null],["let",1,null,4,null],["let",2,0,5,null]],null]],"pats":[["bind",0,null],["bind",1,null],["bind",2,null]],"bindings":[["x","plain"],["y","plain"],["z","plain"]]"#;
+
+#[test]
+fn unifies_what_waited_once_it_is_known(rt: HostRuntime) -> Result<(), Fail> {
+    let known_later =
+        "fn 0\ne0 fn2<u8>\ne1 u8\ne2 fn1<u8>\ne3 u8\ne4 u8\ne5 u8\ne6 ()\np0 u8 move\np1 u8 move\np2 u8 move\nb0 u8\nb1 u8\nb2 u8\ncomplaints 0\n";
+    reported(&rt, 2, KNOWN_LATER, 0, known_later)
 }
 
 /// `nothing(1);`

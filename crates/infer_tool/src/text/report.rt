@@ -2,10 +2,10 @@
 ghost use Rattle.std.specs.Prelude.{◌≡◌, ◌++◌, List, OnOk, IfOk, string_bytes, count_by, is_some};
 ghost use Rattle.std.specs.Option.{option_copied};
 ghost use Rattle.infer_result.specs.Table.{recorded};
-ghost use Rattle.infer_result.specs.Report.{def_line, expr_line, mode_text, pat_line, binding_line, mismatch_head, pat_mismatch_head, type_field, mismatch_line, diagnostic_text, diagnostic_line, expr_complaints, pat_mismatch_line, lines_from, complaint_count, report};
+ghost use Rattle.infer_result.specs.Report.{def_line, variant_text, expr_line, mode_text, pat_line, binding_line, mismatch_head, pat_mismatch_head, type_field, mismatch_line, node_text, counts_text, diagnostic_text, diagnostic_line, expr_complaints, pat_mismatch_line, pat_complaints, lines_from, complaint_count, report};
 
 use super::types::{push_ty, push_type};
-use hir_facts::{DefWithBodyId, Facts, RawFacts, Ty};
+use hir_facts::{DefWithBodyId, ExprOrPatId, Facts, RawFacts, Ty, VariantId};
 use infer_result::{BindingMode, InferenceDiagnostic, InferenceResult, Mutability, TypeMismatch};
 use std::alloc::{AllocError, Global};
 
@@ -32,24 +32,49 @@ fn push_def(out: &mut String, def: DefWithBodyId) -> Result<(), AllocError>
     }
 }
 
+fn variant_at(variants: &[Option<VariantId>], at: usize) -> Option<VariantId>
+    ensures { result ≡ recorded variants.now at }
+{
+    *variants.get(at)?
+}
+
+fn push_variant(out: &mut String, variant: Option<VariantId>) -> Result<(), AllocError>
+    ensures { OnOk result (string_bytes out.new ≡ string_bytes out.old ++ variant_text variant) }
+{
+    match variant {
+        None => Ok(()),
+        Some(variant) => {
+            let number = variant.0;
+            write!(out, " = variant{number}")
+        }
+    }
+}
+
 fn push_expr(
     out: &mut String,
     facts: &RawFacts,
+    variants: &[Option<VariantId>],
     at: usize,
     ty: &Option<Ty>,
 ) -> Result<(), AllocError>
-    ensures { OnOk result (string_bytes out.new ≡ string_bytes out.old ++ expr_line facts.now at ty.now) }
+    ensures { OnOk result (string_bytes out.new ≡ string_bytes out.old ++ expr_line facts.now variants.now at ty.now) }
 {
     write!(out, "e{at} ")?;
     push_type(out, facts, ty)?;
+    push_variant(out, variant_at(variants, at))?;
     out.push_str("\n")
 }
 
-fn push_exprs(out: &mut String, facts: &RawFacts, types: &[Option<Ty>]) -> Result<(), AllocError>
-    ensures { OnOk result (string_bytes out.new ≡ string_bytes out.old ++ lines_from (expr_line facts.now) 0 types.now) }
+fn push_exprs(
+    out: &mut String,
+    facts: &RawFacts,
+    variants: &[Option<VariantId>],
+    types: &[Option<Ty>],
+) -> Result<(), AllocError>
+    ensures { OnOk result (string_bytes out.new ≡ string_bytes out.old ++ lines_from (expr_line facts.now variants.now) 0 types.now) }
 {
     for (at, ty) in types.iter().enumerate() {
-        push_expr(out, facts, at, ty)?;
+        push_expr(out, facts, variants, at, ty)?;
     }
     Ok(())
 }
@@ -75,14 +100,16 @@ fn push_pat(
     out: &mut String,
     facts: &RawFacts,
     modes: &[Option<BindingMode>],
+    variants: &[Option<VariantId>],
     at: usize,
     ty: &Option<Ty>,
 ) -> Result<(), AllocError>
-    ensures { OnOk result (string_bytes out.new ≡ string_bytes out.old ++ pat_line facts.now modes.now at ty.now) }
+    ensures { OnOk result (string_bytes out.new ≡ string_bytes out.old ++ pat_line facts.now modes.now variants.now at ty.now) }
 {
     write!(out, "p{at} ")?;
     push_type(out, facts, ty)?;
     out.push_str(mode_name(mode_at(modes, at)))?;
+    push_variant(out, variant_at(variants, at))?;
     out.push_str("\n")
 }
 
@@ -90,12 +117,13 @@ fn push_pats(
     out: &mut String,
     facts: &RawFacts,
     modes: &[Option<BindingMode>],
+    variants: &[Option<VariantId>],
     types: &[Option<Ty>],
 ) -> Result<(), AllocError>
-    ensures { OnOk result (string_bytes out.new ≡ string_bytes out.old ++ lines_from (pat_line facts.now modes.now) 0 types.now) }
+    ensures { OnOk result (string_bytes out.new ≡ string_bytes out.old ++ lines_from (pat_line facts.now modes.now variants.now) 0 types.now) }
 {
     for (at, ty) in types.iter().enumerate() {
-        push_pat(out, facts, modes, at, ty)?;
+        push_pat(out, facts, modes, variants, at, ty)?;
     }
     Ok(())
 }
@@ -163,6 +191,29 @@ fn push_mismatch(
     }
 }
 
+#[tactic(auto, unfolding(infer_result::specs::Report::node_text))]
+fn push_node(out: &mut String, node: ExprOrPatId) -> Result<(), AllocError>
+    ensures { OnOk result (string_bytes out.new ≡ string_bytes out.old ++ node_text node) }
+{
+    match node {
+        ExprOrPatId::ExprId(expr) => {
+            let number = expr.0;
+            write!(out, "e{number}")
+        }
+        ExprOrPatId::PatId(pat) => {
+            let number = pat.0;
+            write!(out, "p{number}")
+        }
+    }
+}
+
+#[tactic(auto, unfolding(infer_result::specs::Report::counts_text))]
+fn push_counts(out: &mut String, expected: usize, found: usize) -> Result<(), AllocError>
+    ensures { OnOk result (string_bytes out.new ≡ string_bytes out.old ++ counts_text expected found) }
+{
+    write!(out, " expected={expected} found={found}")
+}
+
 #[tactic(auto, unfolding(infer_result::specs::Report::diagnostic_text))]
 fn push_diagnostic_text(out: &mut String, diagnostic: InferenceDiagnostic) -> Result<(), AllocError>
     ensures { OnOk result (string_bytes out.new ≡ string_bytes out.old ++ diagnostic_text diagnostic) }
@@ -174,10 +225,17 @@ fn push_diagnostic_text(out: &mut String, diagnostic: InferenceDiagnostic) -> Re
             found,
         } => {
             let call = call_expr.0;
-            write!(
-                out,
-                "MismatchedArgCount e{call} expected={expected} found={found}"
-            )
+            write!(out, "MismatchedArgCount e{call}")?;
+            push_counts(out, expected, found)
+        }
+        InferenceDiagnostic::MismatchedTupleStructPatArgCount {
+            pat,
+            expected,
+            found,
+        } => {
+            out.push_str("MismatchedTupleStructPatArgCount ")?;
+            push_node(out, pat)?;
+            push_counts(out, expected, found)
         }
     }
 }
@@ -252,15 +310,29 @@ fn push_pat_mismatch(
     }
 }
 
-fn push_pat_mismatches(
+fn push_pat_complaints_at(
     out: &mut String,
     facts: &RawFacts,
+    diagnostics: &[Option<InferenceDiagnostic>],
+    at: usize,
+    mismatch: &Option<TypeMismatch>,
+) -> Result<(), AllocError>
+    ensures { OnOk result (string_bytes out.new ≡ string_bytes out.old ++ pat_complaints facts.now diagnostics.now at mismatch.now) }
+{
+    push_pat_mismatch(out, facts, at, mismatch)?;
+    push_diagnostic(out, diagnostic_at(diagnostics, at))
+}
+
+fn push_pat_complaints(
+    out: &mut String,
+    facts: &RawFacts,
+    diagnostics: &[Option<InferenceDiagnostic>],
     mismatches: &[Option<TypeMismatch>],
 ) -> Result<(), AllocError>
-    ensures { OnOk result (string_bytes out.new ≡ string_bytes out.old ++ lines_from (pat_mismatch_line facts.now) 0 mismatches.now) }
+    ensures { OnOk result (string_bytes out.new ≡ string_bytes out.old ++ lines_from (pat_complaints facts.now diagnostics.now) 0 mismatches.now) }
 {
     for (at, mismatch) in mismatches.iter().enumerate() {
-        push_pat_mismatch(out, facts, at, mismatch)?;
+        push_pat_complaints_at(out, facts, diagnostics, at, mismatch)?;
     }
     Ok(())
 }
@@ -278,6 +350,7 @@ pub fn count_complaints(table: &InferenceResult) -> usize
     count_some(table.expr_mismatches.as_slice())
         + count_some(table.expr_diagnostics.as_slice())
         + count_some(table.pat_mismatches.as_slice())
+        + count_some(table.pat_diagnostics.as_slice())
 }
 
 /// The report on the table of a definition's body: docs/FORMAT.md. Its one error is want of memory.
@@ -292,11 +365,17 @@ pub fn write_report(
     let mut out = String::new(alloc);
     let raw = facts.raw();
     push_def(&mut out, def)?;
-    push_exprs(&mut out, raw, table.type_of_expr.as_slice())?;
+    push_exprs(
+        &mut out,
+        raw,
+        table.expr_variants.as_slice(),
+        table.type_of_expr.as_slice(),
+    )?;
     push_pats(
         &mut out,
         raw,
         table.binding_modes.as_slice(),
+        table.pat_variants.as_slice(),
         table.type_of_pat.as_slice(),
     )?;
     push_bindings(&mut out, raw, table.type_of_binding.as_slice())?;
@@ -306,7 +385,12 @@ pub fn write_report(
         table.expr_diagnostics.as_slice(),
         table.expr_mismatches.as_slice(),
     )?;
-    push_pat_mismatches(&mut out, raw, table.pat_mismatches.as_slice())?;
+    push_pat_complaints(
+        &mut out,
+        raw,
+        table.pat_diagnostics.as_slice(),
+        table.pat_mismatches.as_slice(),
+    )?;
     let count = count_complaints(table);
     writeln!(&mut out, "complaints {count}")?;
     Ok(out)
