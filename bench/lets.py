@@ -4,9 +4,12 @@
 The statements are `let v = w;` (copies: each local has the type of the one before); in turn `let v = 1;` and
 `let w: u8 = v;` (integers: each second statement says what an integer of the first is); or in turn `let v = 1;`,
 `let v = if true { w } else { w };` and `let v = match (w, true) { (a, true) => a, (a, _) => a };` (branches); or in turn
-`let v = id(w);` and `same(v, w);` after one `let v = 1;`, of `fn id<T>(x: T) -> T` and `fn same<T>(a: T, b: T)` (calls).
+`let v = id(w);` and `same(v, w);` after one `let v = 1;`, of `fn id<T>(x: T) -> T` and `fn same<T>(a: T, b: T)` (calls);
+or after one such in turn `let v = Just(w);` and `let u = match v { Just(a) => a, Nothing => w };`, of
+`enum Maybe<T> { Nothing, Just(T) }` (constructors).
 Beside each, where rustc is found, the time of its pass `type_check_crate` over the same function.
-Usage: bench/lets.py [copies|integers|branches|calls] [N]       (copies and 40000 where not given; 4N must fit into 2^24 bytes)
+Usage: bench/lets.py [copies|integers|branches|calls|constructors] [N]
+(copies and 40000 where not given; 4N must fit into 2^24 bytes)
 Build the program first: cd crates/infer_tool && rt run -- table fn 0 < ../../examples/first_run.json
 """
 import json
@@ -26,7 +29,8 @@ class Function:
 
     def __init__(self):
         self.exprs, self.pats, self.bindings, self.statements, self.source = [], [], [], [], []
-        self.types, self.called, self.called_source = [["tuple", []], "u8"], [], ""
+        self.types, self.called, self.named_source = [["tuple", []], "u8"], [], ""
+        self.adts, self.variants = [], []
 
     def expr(self, fact):
         self.exprs.append(fact)
@@ -95,7 +99,7 @@ def calls(function, count):
     """`let v0 = 1; let v1 = id(v0); same(v1, v0); let v3 = id(v1); ..`"""
     function.types.append(["param", 0])
     function.called = [fn_fact("id", ["t"], [2], 2, None), fn_fact("same", ["t"], [2, 2], 0, None)]
-    function.called_source = "fn id<T>(x: T) -> T { loop {} }\nfn same<T>(a: T, b: T) {}\n"
+    function.named_source = "fn id<T>(x: T) -> T { loop {} }\nfn same<T>(a: T, b: T) {}\n"
     last = before = function.let("v0", function.expr(["lit", ["int", "1", None]]), None, "let v0 = 1;\n")
     for k in range(1, count):
         names = [function.bindings[binding][0] for binding in (last, before)]
@@ -109,12 +113,41 @@ def calls(function, count):
             function.source.append("same(%s, %s);\n" % tuple(names))
 
 
+def constructors(function, count):
+    """`let v0 = 1; let v1 = Just(v0); let v2 = match v1 { Just(a) => a, Nothing => v0 }; let v3 = Just(v2); ..`"""
+    function.types.append(["param", 0])
+    function.adts = [{"name": "Maybe", "kind": "enum", "params": ["t"], "preds": [], "variants": [0, 1], "repr": None,
+                      "unsize": None}]
+    function.variants = [variant_fact("Nothing", "unit", []),
+                         variant_fact("Just", "tuple", [{"name": "0", "type": 2, "vis": "pub"}])]
+    function.named_source = "pub enum Maybe<T> { Nothing, Just(T) }\nuse Maybe::*;\n"
+    last = before = function.let("v0", function.expr(["lit", ["int", "1", None]]), None, "let v0 = 1;\n")
+    for k in range(1, count):
+        name = "v%d" % k
+        if k % 2:
+            callee = function.expr(["path", ["ctor", 1, None]])
+            call = function.expr(["call", callee, [function.local(last)]])
+            before, last = last, function.let(name, call, None, "let %s = Just(v%d);\n" % (name, k - 1))
+        else:
+            scrutinee, part = function.local(last), function.bind("a")
+            taken = function.local(len(function.bindings) - 1)
+            arms = [[function.pat(["ctor", ["variant", 1, None], [part], None]), None, taken],
+                    [function.pat(["path", ["ctor", 0, None]]), None, function.local(before)]]
+            last = function.let(name, function.expr(["match", scrutinee, arms]), None,
+                                "let %s = match v%d { Just(a) => a, Nothing => v%d };\n" % (name, k - 1, k - 2))
+
+
+def variant_fact(name, kind, fields):
+    return {"adt": 0, "name": name, "ctor": kind, "fields": fields, "body": None}
+
+
 def fn_fact(name, params, inputs, output, body):
     return {"name": name, "at": ["module", 0], "params": params, "preds": [], "has_self": False, "inputs": inputs,
             "output": output, "safe": True, "vis": "pub", "body": body}
 
 
-SHAPES = {"copies": copies, "integers": integers, "branches": branches, "calls": calls}
+SHAPES = {"copies": copies, "integers": integers, "branches": branches, "calls": calls,
+          "constructors": constructors}
 
 
 def made(shape, count):
@@ -134,8 +167,8 @@ def facts(shape, count):
     functions = [fn_fact("f", [], [], 0, 0)] + made_of.called
     value = {
         "profile": 1, "edition": 2021, "never_fallback": False, "new_range": False,
-        "limits": [8, 1000, 8, 10], "types": made_of.types, "modules": [None], "adts": [],
-        "variants": [], "fns": functions, "consts": [], "statics": [], "traits": [],
+        "limits": [8, 1000, 8, 10], "types": made_of.types, "modules": [None], "adts": made_of.adts,
+        "variants": made_of.variants, "fns": functions, "consts": [], "statics": [], "traits": [],
         "aliases": [], "impls": [], "opaques": [], "lang": {}, "bodies": [body],
     }
     return json.dumps(value, separators=(",", ":")).encode()
@@ -176,7 +209,7 @@ def rustc_seconds(shape, count):
         with open(source, "w") as out:
             function = made(shape, count)
             out.write("#![allow(unused)]\n%spub fn f() {\n%s}\n"
-                      % (function.called_source, "".join(function.source)))
+                      % (function.named_source, "".join(function.source)))
         done = subprocess.run(
             [rustc, "--crate-type=lib", "--emit=metadata", "-Ztime-passes", "-o",
              os.path.join(folder, "lets.rmeta"), source],

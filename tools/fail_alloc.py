@@ -14,7 +14,7 @@ import tempfile
 
 TOP = os.path.dirname(os.path.dirname(os.path.abspath(__file__)))
 PROGRAM = os.path.join(TOP, "crates", "infer_tool", "out", "infer_tool")
-EXAMPLES = [os.path.join(TOP, "examples", name) for name in ("first_run.json", "calls.json")]
+EXAMPLES = [os.path.join(TOP, "examples", name) for name in ("first_run.json", "calls.json", "constructors.json")]
 
 # Fails the allocation whose number FAIL_AT gives, from 1, and each one after it where ALL is set.
 SHIM = r"""

@@ -1,12 +1,13 @@
 #!/usr/bin/env python3
 """Asks rustc about bodies of the carried kinds, and lists where it and `table fn N` say different things.
 
-The bodies are some by hand, with uncommon turns, and COUNT made at random from SEED. Each is written as Rust source
-and as facts, with the functions and adts that it may name; it may have type parameters, and call itself. Of each,
-rustc's verdict (a type error or none) stands against whether there is a complaint, and whether it finds a wrong number
-of arguments (E0061) against whether that is complained of. Where rustc finds no type error, its types (its THIR tree,
-by the place in the source) stand against those of the report, for expressions and patterns, function items and adts
-included.
+The bodies are some by hand (`bodies.py`) and COUNT made at random from SEED. Each is written as Rust source and as
+facts, with the functions and adts that it may name; it may have type parameters, and call itself. Of each, rustc's
+verdict (a type error or none) stands against whether there is a complaint, and whether it finds a wrong number of
+arguments (E0061) or of a pattern's parts (E0023) against whether that is complained of. Where rustc finds no type
+error, its types (its THIR tree, by the place in the source) stand against those of the report, for expressions and
+patterns, items of functions and of constructors and adts included. In each report, the variants that nodes resolve to
+stand against those that they name in the source.
 Counted apart, and no difference: bodies in which rustc wants a type written out (E0282, E0283, E0284), where the
 report has `{unknown}`; reads of locals that were never set (E0381), where rustc's types can't be had; bodies where
 rustc reads two function items as pointers (see `reads_pointers`), which are not carried; and bodies at which rustc
@@ -15,7 +16,6 @@ in a source in which all can be copied.
 Usage: tools/judge.py [COUNT] [SEED]      (300 and 1 where not given); status 1 where a difference is listed
 Build the program first: cd crates/infer_tool && rt run -- table fn 0 < ../../examples/first_run.json
 """
-import collections
 import json
 import os
 import random
@@ -25,186 +25,13 @@ import sys
 import tempfile
 from concurrent.futures import ThreadPoolExecutor
 
+sys.dont_write_bytecode = True  # of `bodies`
+from bodies import ADTS, BY_HAND, CALLED, E, FUNCTIONS, OWN, PAIR, PARAMS, PLAIN, UNIT, VARIANTS
+from bodies import Adt, Body, Signature, call, int_, item, local, run
+
 TOP = os.path.dirname(os.path.dirname(os.path.abspath(__file__)))
 PROGRAM = os.path.join(TOP, "crates", "infer_tool", "out", "infer_tool")
 WORDS = ["u8", "i32", "i64", "bool", "char"]
-
-# Types are a word, a tuple of types, an adt (`Adt`), or a type parameter of the function, "T" or "U"; where none is
-# written, the name of a function without type parameters stands for the type of that item too. Expressions are
-# ("int", digits, suffix), ("bool", b), ("char", c), ("local", name), ("item", function), ("call", function,
-# arguments), ("tuple", parts), ("if", condition, block, block or None), ("match", scrutinee, arms), where an arm is a
-# pattern, a guard or None and an expression, and ("block", statements, tail); statements ("let", pattern, type,
-# initializer) and ("expr", e, semicolon). Patterns are a name, `_`, ("tuple", patterns) and a literal. A function is
-# named by a word, and by OWN the one that the body belongs to.
-OWN = "own"
-PARAMS = ["T", "U"]
-
-
-class Adt(collections.namedtuple("Adt", "name args")):
-    """An adt at types. No tuple of types equals it, since it begins with a name of ADTS."""
-
-
-Signature = collections.namedtuple("Signature", "generics inputs output")
-
-# `own` is the signature of the body's function, `names` are the names of its inputs.
-Body = collections.namedtuple("Body", "own names statements tail")
-
-
-def s_of(ty):
-    return Adt("S", (ty,))
-
-
-def p_of(first, second):
-    return Adt("P", (first, second))
-
-
-E = Adt("E", ())
-
-# The adts: kind, number of type parameters, and variants with their fields.
-ADTS = {
-    "S": ("struct", 1, {"S": ["T"]}),
-    "E": ("enum", 0, {"A": [], "B": []}),
-    "P": ("struct", 2, {"P": ["T", "U"]}),
-}
-
-# What bodies may call besides their own functions. None of these has a body among the facts.
-FUNCTIONS = {
-    "id": Signature(1, ["T"], "T"),
-    "make": Signature(1, [], "T"),
-    "same": Signature(1, ["T", "T"], ()),
-    "swap": Signature(2, ["T", "U"], ("U", "T")),
-    "take": Signature(0, ["u8"], "bool"),
-    "check": Signature(0, ["u8"], "bool"),
-    "nothing": Signature(0, [], ()),
-    "red": Signature(0, [], E),
-    "is_red": Signature(0, [E], "bool"),
-    "wrap": Signature(1, ["T"], s_of("T")),
-    "unwrap": Signature(1, [s_of("T")], "T"),
-    "pair": Signature(2, [("T", "U")], p_of("T", "U")),
-    "first": Signature(2, [p_of("T", "U")], "T"),
-    "either": Signature(1, [("T", "T"), "bool"], "T"),
-    "count": Signature(1, [s_of(("T", "u8")), "i64"], ("i64", "T")),
-}
-
-
-def int_(digits, suffix=None):
-    return ("int", digits, suffix)
-
-
-def local(name):
-    return ("local", name)
-
-
-def item(function):
-    return ("item", function)
-
-
-def call(function, *arguments):
-    return ("call", function, list(arguments))
-
-
-def let(pattern, init=None, written=None):
-    return ("let", pattern, written, init)
-
-
-def run(e):
-    return ("expr", e, True)
-
-
-def block(tail):
-    return ("block", [], tail)
-
-
-def if_(first, other):
-    return ("if", ("bool", True), block(first), block(other))
-
-
-WITHOUT_CALLS = [Body(Signature(0, [], output), [], statements, tail) for output, statements, tail in [
-    ("u8", [("let", "x", None, int_(1))], ("local", "x")),
-    ((), [("let", "x", None, int_(1))], None),
-    (("u8", "i64"), [("let", "x", None, int_(1))], ("tuple", [("local", "x"), ("local", "x")])),
-    ("bool", [("let", "x", "char", int_(1))], int_(2)),
-    ("u8", [("let", "x", None, None), ("let", "y", "u8", ("local", "x"))], ("local", "x")),
-    ((), [("let", "x", None, None)], None),
-    (("u8",), [], ("tuple", [int_(1), int_(2)])),
-    (("u8", "i32"), [], ("tuple", [int_(1)])),
-    ("u8", [("expr", ("block", [], int_(1)), False)], int_(1)),
-    ("u8", [("let", "x", "u8", int_(1))], None),
-    ((), [("let", "x", None, ("tuple", [int_(1), int_(2)])), ("let", "y", ("u8", "i64"), ("local", "x"))], None),
-    ("i64", [("let", "_", None, ("block", [("let", "x", None, int_(1))], ("local", "x")))], int_(3, "i64")),
-    ("u8", [("let", "t", None, ("tuple", [int_(1), int_(2)]))],
-     ("match", ("local", "t"), [(("tuple", ["a", int_(7)]), None, ("local", "a")), ("_", None, int_(0))])),
-    ("u8", [("let", "x", None, ("if", ("bool", True), block(int_(1)), None))], int_(2)),
-    ((), [("expr", ("match", ("bool", True), [(("bool", True), None, ("bool", True)), ("_", None, int_(0))]), True)], None),
-    ("u8", [], ("if", int_(1), block(int_(2)), block(("bool", True)))),
-    ((), [("let", ("tuple", ["a", "b"]), None, int_(1))], None),
-    ((), [("let", ("tuple", ["a", "b"]), None, ("tuple", [int_(1), int_(2), int_(3)]))], None),
-    ("u8", [("let", ("tuple", ["a", "b"]), None, None), ("let", "c", "u8", ("local", "a"))], ("local", "b")),
-    ("i64", [("let", "a", None, None), ("let", "x", None, ("if", ("bool", True), block(("local", "a")), block(int_(1))))],
-     ("local", "x")),
-    ((), [("let", "x", None, ("match", int_(1), [(int_(1), ("bool", True), ("char", "a")), ("y", int_(2), ("local", "y"))]))], None),
-]]
-
-# Of a function with at most one input, `x`.
-WITH_CALLS = [Body(Signature(generics, inputs, output), ["x"][:len(inputs)], statements, tail)
-              for generics, inputs, output, statements, tail in [
-    (0, [], (), [let("x", call("id", int_(1)))], None),
-    (0, [], "u8", [], call("id", int_(1))),
-    (0, [], (), [let("x", if_(call("make"), call("make")))], None),
-    (0, [], "bool", [let("x", call("id", int_(1, "u8")))], call("id", ("bool", True))),
-    (0, [], (), [let("x", call("swap", int_(1, "u8"), ("bool", True)))], None),
-    (0, [], "bool", [], call("take", call("id", call("id", int_(1))))),
-    (0, [], (), [let("x", item("swap"))], None),
-    (0, [], (), [let("x", item("take")), let("y", local("x")), run(call("same", local("x"), item("take")))], None),
-    (0, [], (), [run(call("same", item("take"), item("check")))], None),
-    (0, [], (), [let("x", if_(item("take"), item("take")))], None),
-    (0, [], (), [let("x", if_(item("take"), item("check")))], None),
-    (0, [], (), [let("x", if_(item("id"), item("take")))], None),
-    (0, [], (), [let("x", if_(item("id"), item("id")))], None),
-    (0, [], (), [let("x", if_(item("take"), item("nothing")))], None),
-    (0, [], "u8", [let("x", item("id")), run(call("same", ("tuple", [local("x"), int_(1)]), call("make")))], int_(1)),
-    (0, [], "bool", [], call("take", ("bool", True))),
-    (0, [], (), [run(call("same", int_(1, "u8"), ("bool", True)))], None),
-    (0, [], "u8", [], call("take", int_(1))),
-    (0, [], (), [let("x", call("make")), run(call("same", local("x"), ("tuple", [local("x")])))], None),
-    (0, [], (), [let("x", call("make")), run(call("same", ("tuple", [local("x")]), local("x")))], None),
-    (0, [], (), [let("x", call("make")), let("y", call("wrap", local("x"))), run(call("same", local("y"), local("x")))], None),
-    (0, [], (), [run(call("nothing", int_(1)))], None),
-    (0, [], "bool", [], call("take")),
-    (0, [], "u8", [], call("take")),
-    (0, [], (), [run(call("same", int_(1, "u8")))], None),
-    (0, [], "bool", [], call("take", ("bool", True), int_(1))),
-    (0, [], "u8", [], call("id", call("nothing", int_(1)))),
-    (0, [], "u8", [let(("tuple", ["a", "b"]), call("swap", int_(1), ("bool", True))),
-                   run(call("same", local("a"), ("bool", False)))], local("b")),
-    (0, [], "u8", [], call("unwrap", call("wrap", int_(1)))),
-    (0, [], "u8", [], call("first", call("pair", ("tuple", [int_(1), call("red")])))),
-    (0, [], "u8", [let("x"), run(call("same", local("x"), call("wrap", int_(1))))], call("unwrap", local("x"))),
-    (0, [s_of("u8")], "u8", [], call("unwrap", local("x"))),
-    (0, [s_of("u8")], E, [], local("x")),
-    (0, [E], "u8", [], call("unwrap", local("x"))),
-    (0, [E], (E, E), [], ("tuple", [local("x"), local("x")])),
-    (0, [("u8", "bool")], p_of("bool", "u8"), [let(("tuple", ["a", "b"]), local("x"))],
-     call("pair", call("swap", local("a"), local("b")))),
-    (0, ["u8"], "u8", [], call(OWN, call(OWN, int_(1)))),
-    (1, ["T"], s_of("T"), [], call("wrap", local("x"))),
-    (1, ["T"], "T", [], local("x")),
-    (1, ["T"], "T", [], call(OWN, call("id", local("x")))),
-    (1, ["T"], "T", [run(call(OWN, int_(1, "u8"))), run(call(OWN, ("tuple", [local("x")])))], local("x")),
-    (1, ["T"], ("T", "T"), [], ("tuple", [local("x"), local("x")])),
-    (1, ["T"], "u8", [], local("x")),
-    (1, ["T"], "u8", [], call(OWN, int_(1))),
-    (1, [], "T", [], int_(1)),
-    (1, [], "T", [], call(OWN)),
-    (2, ["T"], "U", [], local("x")),
-    (2, ["T"], "U", [], call(OWN, local("x"))),
-    (2, [("T", "U")], p_of("U", "T"), [let(("tuple", ["a", "b"]), local("x"))],
-     call("pair", call("swap", local("a"), local("b")))),
-    (2, [p_of("T", "U")], "T", [], call("first", local("x"))),
-    (2, [p_of("T", "U")], "U", [], call("first", local("x"))),
-]]
-
-BY_HAND = WITHOUT_CALLS + WITH_CALLS
 
 
 def instance(ty, args):
@@ -250,7 +77,7 @@ class Maker:
     def unwritten(self, depth):
         """A type, of which some can't be written."""
         if self.rng.random() < 0.06:
-            return self.rng.choice([name for name, signature in FUNCTIONS.items() if signature.generics == 0])
+            return self.rng.choice(PLAIN)
         if depth and self.rng.random() < 0.06:
             return tuple(self.unwritten(0) for _ in range(2))
         return self.type(depth)
@@ -258,7 +85,7 @@ class Maker:
     def type(self, depth):
         rng = self.rng
         if depth == 0 or rng.random() < 0.7:
-            return rng.choice(WORDS + PARAMS[:self.generics] * 2 + [E])
+            return rng.choice(WORDS + PARAMS[:self.generics] * 2 + [E, PAIR, UNIT])
         if rng.random() < 0.35:
             name = rng.choice(sorted(ADTS))
             return Adt(name, tuple(self.type(depth - 1) for _ in range(ADTS[name][1])))
@@ -285,7 +112,7 @@ class Maker:
         if depth > 0 and rng.random() < 0.15:
             return self.match(names, wanted, depth - 1)
         if self.slips():
-            return item(rng.choice(sorted(FUNCTIONS) + [OWN]))
+            return item(rng.choice(sorted(FUNCTIONS) + sorted(VARIANTS) + [OWN]))
         if isinstance(wanted, tuple) and not isinstance(wanted, Adt):
             return ("tuple", [self.expr(names, part, depth - 1) for part in wanted])
         return self.leaf(wanted)
@@ -294,7 +121,7 @@ class Maker:
         """A call, mostly of a function that can have this output, and mostly with the inputs that it has then."""
         rng, args = self.rng, {}
         fitting = []
-        for name, signature in sorted(FUNCTIONS.items()) + [(OWN, self.own)]:
+        for name, signature in sorted(CALLED.items()) + [(OWN, self.own)]:
             found = {}
             if name == "make" and rng.random() < 0.7:
                 continue  # its type has to come from elsewhere
@@ -332,6 +159,10 @@ class Maker:
             ty = self.type(1)
         if isinstance(ty, tuple) and not isinstance(ty, Adt) and rng.random() < 0.7:
             return ("tuple", [self.pattern(part, first, bound, refutable) for part in ty])
+        if isinstance(ty, Adt) and rng.random() < 0.6:
+            variants = list(ADTS[ty.name][2].items())
+            if refutable or len(variants) == 1:
+                return self.constructor(*rng.choice(variants), ty, first, bound, refutable)
         if refutable and ty in WORDS and rng.random() < 0.4:
             return self.leaf(ty)
         if rng.random() < 0.3:
@@ -340,18 +171,31 @@ class Maker:
         bound[name] = ty
         return name
 
+    def constructor(self, variant, fields, ty, first, bound, refutable):
+        """A pattern of a constructor of this type, mostly with as many parts as there are fields."""
+        if not fields:
+            return ("ctor", variant, None)
+        parts = [instance(field, dict(zip(PARAMS, ty.args))) for field in fields]
+        if self.rng.random() < 3 * self.slip:
+            if self.rng.random() < 0.5:
+                parts.pop()
+            else:
+                parts.append(self.type(1))
+        return ("ctor", variant, [self.pattern(part, first, bound, refutable) for part in parts])
+
     def leaf(self, ty):
-        """A literal, or of other types a call that gives one."""
+        """A literal, or of other types a path or a call that gives one."""
         rng = self.rng
         if ty not in WORDS and rng.random() < 0.1:
             return call("make")
-        if ty in FUNCTIONS:
+        if ty in PLAIN:
             return item(ty)
-        if ty == E:
-            return call("red")
         if isinstance(ty, Adt):
-            parts = [self.leaf(part) for part in ty.args]
-            return call("wrap", *parts) if ty.name == "S" else call("pair", ("tuple", parts))
+            variant, fields = rng.choice(list(ADTS[ty.name][2].items()))
+            parts = [self.leaf(instance(field, dict(zip(PARAMS, ty.args)))) for field in fields]
+            if ty.name in ("S", "P") and rng.random() < 0.5:
+                return call("wrap", *parts) if ty.name == "S" else call("pair", ("tuple", parts))
+            return call(variant, *parts) if fields else item(variant)
         if isinstance(ty, tuple):
             return ("tuple", [self.leaf(part) for part in ty])
         if ty in PARAMS:
@@ -430,11 +274,15 @@ def copied(line):
 
 
 class Writer:
-    """Writes one body as source and as facts, and keeps the place of each expression and pattern in the line."""
+    """Writes one body as source and as facts, and keeps the place of each expression and pattern in the line.
+
+    It keeps besides which nodes name a variant (`named`), and at calls of constructors what is called (`callees`).
+    """
 
     def __init__(self, own):
         self.types, self.text, self.own = [], "", own
         self.exprs, self.pats, self.bindings, self.places = [], [], [], {}
+        self.named, self.callees = {}, {}
 
     def type_id(self, ty):
         if isinstance(ty, Adt):
@@ -484,18 +332,34 @@ class Writer:
             scope[pattern] = len(self.bindings)
             self.bindings.append([pattern, "plain"])
         elif pattern[0] == "tuple":
-            self.text += "("
-            ids = []
-            for part in pattern[1]:
-                ids.append(self.pattern(part, scope))
-                self.text += ", "
-            self.text += ")"
-            fact = ["tuple", ids, None]
+            fact = ["tuple", self.patterns(pattern[1], scope), None]
+        elif pattern[0] == "ctor":
+            _, variant, parts = pattern
+            self.variant(variant)
+            if parts is None:
+                fact = ["path", ["ctor", number_of(variant), None]]
+            else:
+                fact = ["ctor", ["variant", number_of(variant), None], self.patterns(parts, scope), None]
+            self.named["p%d" % len(self.pats)] = number_of(variant)
         else:
             fact = ["lit", self.expr(pattern, scope)]
         self.pats.append(fact)
         self.place("p%d" % (len(self.pats) - 1), begun)
         return len(self.pats) - 1
+
+    def patterns(self, parts, scope):
+        self.text += "("
+        ids = []
+        for part in parts:
+            ids.append(self.pattern(part, scope))
+            self.text += ", "
+        self.text += ")"
+        return ids
+
+    def variant(self, variant):
+        """Writes the path to a variant."""
+        name = VARIANTS[variant].output.name
+        self.text += variant if ADTS[name][0] == "struct" else name + "::" + variant
 
     def place(self, node, begun):
         self.places[node] = (begun + 1, len(self.text) + 1)
@@ -524,9 +388,13 @@ class Writer:
         return ["path", ["local", scope[name], None]]
 
     def item_(self, _, function):
-        """A path to a function. The body's own is function 0, FUNCTIONS come after it."""
+        """A path to a function or a constructor."""
+        if function in VARIANTS:
+            self.variant(function)
+            self.named["e%d" % len(self.exprs)] = number_of(function)
+            return ["path", ["ctor", number_of(function), None]]
         self.text += self.own if function == OWN else function
-        return ["path", ["fn", 0 if function == OWN else 1 + list(FUNCTIONS).index(function), None]]
+        return ["path", ["fn", number_of(function), None]]
 
     def call_(self, scope, function, arguments):
         callee = self.expr(item(function), scope)
@@ -536,6 +404,8 @@ class Writer:
             ids.append(self.expr(argument, scope))
             self.text += ", "
         self.text += ")"
+        if function in VARIANTS:
+            self.callees["e%d" % callee] = "e%d" % len(self.exprs)
         return ["call", callee, ids]
 
     def tuple_(self, scope, parts):
@@ -607,7 +477,7 @@ class Writer:
 
 
 def write_body(number, body):
-    """A function as source, the facts of a crate of it and of all that it may name, and the places of its nodes."""
+    """A function as source, the facts of a crate of it and of all that it may name, and what wrote them."""
     name = "f%d" % number
     writer = Writer(name)
     writer.text = "pub fn %s%s(" % (name, generics_text(body.own.generics))
@@ -623,7 +493,7 @@ def write_body(number, body):
         "profile": 1, "edition": 2021, "never_fallback": False, "new_range": False, "limits": [8, 1000, 8, 10],
         "types": writer.types, "modules": [None], "adts": adts, "variants": variants, "fns": functions, "consts": [],
         "statics": [], "traits": [], "aliases": [], "impls": [], "opaques": [], "lang": {}, "bodies": [facts]})
-    return writer.text, text, writer.places
+    return writer.text, text, writer
 
 
 def rustc(lines, *options, timeout=None):
@@ -705,8 +575,10 @@ def types_of(lines):
 
 
 def in_our_words(ty):
-    """A type of rustc's THIR tree as a report writes it: parameters by number, function items by number and types."""
+    """A type of rustc's THIR tree as a report writes it: parameters by number, items by number and types."""
     ty = re.sub(r"\w+/#(\d+)", r"param\1", ty)
+    ty = re.sub(r"DefId\([^()]*::(\w+)::\{constructor#0\}\)",
+                lambda found: "variant%d" % number_of(found.group(1)), ty)
     ty = re.sub(r"DefId\([^()]*::(\w+)\)", lambda found: "fn%d" % number_of(found.group(1)), ty)
     before = None
     while before != ty:  # the innermost items first
@@ -716,9 +588,22 @@ def in_our_words(ty):
     return ty
 
 
-def number_of(function):
-    """The number of a function in the facts of a body that names it."""
-    return 1 + list(FUNCTIONS).index(function) if function in FUNCTIONS else 0
+def number_of(name):
+    """The number of a variant or of a function in the facts of a body that names it, whose own function is 0."""
+    if name in VARIANTS:
+        return list(VARIANTS).index(name)
+    return 1 + list(FUNCTIONS).index(name) if name in FUNCTIONS else 0
+
+
+def types_in(theirs, number, writer, node):
+    """rustc's types of a node of a body, by the body's number.
+
+    What is called to construct an adt has no node in its tree: it has the types of the adt that the call gives.
+    """
+    if node not in writer.callees:
+        return theirs.get((number, *writer.places[node]), set())
+    return {re.sub(r"^\w+", "variant%d" % writer.named[node], ty)
+            for ty in types_in(theirs, number, writer, writer.callees[node])}
 
 
 def reads_pointers(theirs, number):
@@ -731,25 +616,32 @@ def reads_pointers(theirs, number):
 
 
 def report_of(text):
-    """The types that our report gives the nodes, and the kinds of complaints in it."""
+    """The types that our report gives the nodes, the variants that nodes resolve to, and the kinds of complaints."""
     done = subprocess.run([PROGRAM, "table", "fn", "0"], input=text, capture_output=True, text=True)
     if done.returncode not in (0, 1):
         sys.exit("status %d: %s\n%s" % (done.returncode, done.stderr.strip(), text))
-    types, kinds = {}, set()
+    types, named, kinds = {}, {}, set()
     for line in done.stdout.splitlines():
         node, _, ty = line.partition(" ")
-        if node in ("TypeMismatch", "MismatchedArgCount"):
+        if node in ("TypeMismatch", *COUNTS):
             kinds.add(node)
         if re.fullmatch(r"[ep]\d+", node):
+            ty, _, variant = ty.partition(" = variant")
             types[node] = ty[:-5] if ty.endswith(" move") else ty
+            if variant:
+                named[node] = int(variant)
     if (done.returncode == 1) != bool(kinds):
         sys.exit("status %d: %s\n%s" % (done.returncode, done.stdout, text))
-    return types, kinds
+    return types, named, kinds
 
+
+# What is said of wrong numbers of arguments and of parts.
+COUNTS = {"MismatchedArgCount": "E0061", "MismatchedTupleStructPatArgCount": "E0023"}
 
 # rustc's type errors. E0275 is what it says of some types without end. From the arguments of a call with a wrong number
-# of them the two take different types, so whether E0308 stands beside E0061 is not compared.
-MISMATCHES = {"E0308", "E0317", "E0275", "E0061"}
+# of them, and from the parts of a pattern with one, the two take different types, so whether E0308 stands beside is not
+# compared.
+MISMATCHES = {"E0308", "E0317", "E0275", *COUNTS.values()}
 WANTS = {"E0282", "E0283", "E0284"}
 MOVES = {"E0382"}
 NEVER_SET = {"E0381"}
@@ -762,7 +654,7 @@ def main():
     if not os.path.exists(PROGRAM):
         sys.exit("build the program first (see this script's head)")
     bodies = BY_HAND + [Maker(rng).body() for _ in range(count)]
-    lines, texts, places = zip(*(write_body(number, body) for number, body in enumerate(bodies)))
+    lines, texts, writers = zip(*(write_body(number, body) for number, body in enumerate(bodies)))
     lines = list(lines)
     errors = errors_of(lines)
     theirs = types_of([line if errors.get(number, set()) <= MOVES else "" for number, line in enumerate(lines)])
@@ -772,12 +664,13 @@ def main():
     with ThreadPoolExecutor(2) as pool:
         reports = list(pool.map(report_of, texts))
     for number, line in enumerate(lines):
-        ours, complaints = reports[number]
+        ours, named, complaints = reports[number]
         codes = errors.get(number, set())
         if codes == {NO_ANSWER}:
             kind, fits = "rustc doesn't end", True
         elif codes & MISMATCHES:
-            kind, fits = "refused by both", complaints and ("MismatchedArgCount" in complaints) == ("E0061" in codes)
+            kind, fits = "refused by both", complaints and all(
+                (complaint in complaints) == (code in codes) for complaint, code in COUNTS.items())
         elif codes & WANTS:
             kind, fits = "a type is wanted", not complaints and any("{unknown}" in ty for ty in ours.values())
         elif codes - MOVES == NEVER_SET:
@@ -788,11 +681,13 @@ def main():
             kind, fits = "accepted by both", codes <= MOVES and not complaints
         told = [] if fits else ["rustc: %s; we: %s" % (
             ", ".join(sorted(codes)) or "no error", ", ".join(sorted(complaints)) or "no complaint")]
+        if named != writers[number].named:
+            told.append("variants: named %s; we %s" % (writers[number].named, named))
         if kind == "accepted by both" and fits:
             moved += bool(codes)
-            for node, (begun, ended) in places[number].items():
+            for node in writers[number].places:
                 compared += 1
-                found = theirs.get((number, begun, ended), set())
+                found = types_in(theirs, number, writers[number], node)
                 if found != {ours[node]}:
                     told.append("%s: rustc %s; we %s" % (node, " and ".join(sorted(found)) or "nothing", ours[node]))
         counts[kind] += not told
