@@ -1,5 +1,5 @@
 -- Types of the carried kinds: they have no holes and no labels.
-use Rattle.std.specs.Prelude.{◌≡◌, ℕ, zero, suc, Bool, true, false, ◌&&◌, ◌||◌, List, [], ◌∷◌, map, slice_get, Option, Some, None, refl, IsTrue}
+use Rattle.std.specs.Prelude.{◌≡◌, ℕ, zero, suc, Bool, true, false, ◌&&◌, ◌||◌, List, [], ◌∷◌, map, slice_get, Option, Some, None, refl}
 use Rattle.std.specs.List.{list_all, list_any}
 use Rattle.std.proofs.Common.{sym, ◌∙◌, ap, subst}
 use mathlib.Core.Bool.{true≢false}
@@ -22,9 +22,11 @@ use Rattle.hir_facts.specs.declared.raw.RawType.{RawType}
 use Rattle.hir_facts.specs.declared.raw.RawType.TheVariants as type
 use Rattle.hir_facts.specs.declared.raw.RawFn.{RawFn}
 use Rattle.hir_facts.specs.declared.raw.RawFacts.{RawFacts}
-use Rattle.hir_facts.specs.Laws.Entries.{AllHold}
-use Rattle.hir_facts.specs.Laws.Carried.{is_carried_type as is_carried_kind}
-use Rattle.hir_facts.specs.Types.{lowered_by, lowered_within, written_type}
+use Rattle.hir_facts.specs.Laws.Lawful.{IsLawful}
+use Rattle.hir_facts.specs.Laws.Standing.{HasNoHole}
+use Rattle.hir_facts.specs.Types.{filled_by, filled_within, filled_type, written_type}
+use Rattle.hir_facts.specs.Filled.{filled_written}
+use Rattle.hir_facts.specs.NoHoles.{output_has_no_hole}
 use Rattle.hir_facts.specs.Bodies.{output_by, return_type}
 
 abbrev pub carried_arg : GenericArg-F Bool Bool Bool Bool → Bool
@@ -235,38 +237,36 @@ args_carried : (f : ℕ → Ty) (ts : List TypeRefId) → ((j : ℕ) → IsCarri
 args_carried f [] h = refl
 args_carried f (t ∷ ts) h = ap (λ (b : Bool). b && list_all is_carried_arg (map (λ t. arg.Ty (f t.0)) ts)) (carried_type_arg (f t.0) ∙ h t.0) ∙ args_carried f ts h
 
-by_carried : (f : ℕ → Ty) (x : RawType) → ((j : ℕ) → IsCarriedType (f j)) → IsTrue (is_carried_kind x) → IsCarriedType (lowered_by f (Some x))
-by_carried f type.Bool h c = carried_bool
-by_carried f type.Char h c = carried_char
-by_carried f (type.Integer i) h c = carried_integer i
-by_carried f (type.Tuple ts) h c = carried_tuple (map (λ t. f t.0) ts) ∙ parts_carried f ts h
-by_carried f (type.Adt a ts) h c = carried_adt a (map (λ t. arg.Ty (f t.0)) ts) ∙ args_carried f ts h
-by_carried f (type.Param n) h c = carried_param n
-by_carried f type.Hole h c = absurd (true≢false (sym c))
-by_carried f type.Other h c = carried_error
+by_carried : (u : Ty) (f : ℕ → Ty) (o : Option RawType) → IsCarriedType u → ((j : ℕ) → IsCarriedType (f j)) → IsCarriedType (filled_by u f o)
+by_carried u f None own h = carried_error
+by_carried u f (Some type.Bool) own h = carried_bool
+by_carried u f (Some type.Char) own h = carried_char
+by_carried u f (Some (type.Integer i)) own h = carried_integer i
+by_carried u f (Some (type.Tuple ts)) own h = carried_tuple (map (λ t. f t.0) ts) ∙ parts_carried f ts h
+by_carried u f (Some (type.Adt a ts)) own h = carried_adt a (map (λ t. arg.Ty (f t.0)) ts) ∙ args_carried f ts h
+by_carried u f (Some (type.Param n)) own h = carried_param n
+by_carried u f (Some type.Hole) own h = own
+by_carried u f (Some type.Other) own h = carried_error
 
--- the written types are of carried kinds
-abbrev pub AreCarriedKinds : List RawType → Type 0
-AreCarriedKinds types = AllHold (λ i t. IsTrue (is_carried_kind t)) types
+within_carried : (h : ℕ → Ty) (n : ℕ) (types : List RawType) → ((k : ℕ) → IsCarriedType (h k)) → (i : ℕ) → IsCarriedType (filled_within h n types i)
+unfolding filled_within
+within_carried h zero types own i = carried_error
+within_carried h (suc n) types own i = by_carried (h i) (filled_within h n types) (slice_get types i) (own i) (within_carried h n types own)
 
-found_carried : (f : ℕ → Ty) (i : ℕ) (o : Option RawType) → ((j : ℕ) → IsCarriedType (f j)) → ((x : RawType) → o ≡ Some x → IsTrue (is_carried_kind x)) → IsCarriedType (lowered_by f o)
-found_carried f i None h c = carried_error
-found_carried f i (Some x) h c = by_carried f x h (c x refl)
+-- where each `_` stands for a carried type
+pub filled_carried : (h : ℕ → Ty) (types : List RawType) → ((k : ℕ) → IsCarriedType (h k)) → (t : TypeRefId) → IsCarriedType (filled_type h types t)
+filled_carried h types own t = within_carried h (suc t.0) types own t.0
 
-within_carried : (n : ℕ) (types : List RawType) → AreCarriedKinds types → (i : ℕ) → IsCarriedType (lowered_within n types i)
-unfolding lowered_within
-within_carried zero types all i = carried_error
-within_carried (suc n) types all i = found_carried (lowered_within n types) i (slice_get types i) (within_carried n types all) (all i)
+-- where no `_` stands
+pub written_carried : (types : List RawType) (t : TypeRefId) → HasNoHole types t → IsCarriedType (written_type types t)
+written_carried types t none = subst IsCarriedType (filled_written (λ k. ty.Error) types t none) (filled_carried (λ k. ty.Error) types (λ k. carried_error) t)
 
-pub written_carried : (types : List RawType) → AreCarriedKinds types → (t : TypeRefId) → IsCarriedType (written_type types t)
-written_carried types all t = within_carried (suc t.0) types all t.0
+output_carried : (raw : RawFacts) → IsLawful raw → (f : ℕ) (o : Option RawFn) → slice_get raw.fns f ≡ o → IsCarriedType (output_by raw o)
+output_carried raw law f None found = carried_error
+output_carried raw law f (Some x) found = written_carried raw.types x.output (output_has_no_hole raw law f x found)
 
-output_carried : (raw : RawFacts) → AreCarriedKinds raw.types → (o : Option RawFn) → IsCarriedType (output_by raw o)
-output_carried raw all None = carried_error
-output_carried raw all (Some f) = written_carried raw.types all f.output
-
-pub return_carried : (raw : RawFacts) → AreCarriedKinds raw.types → (d : DefWithBodyId) → IsCarriedType (return_type raw d)
-return_carried raw all (def.FunctionId f) = output_carried raw all (slice_get raw.fns f.0)
-return_carried raw all (def.ConstId c) = carried_error
-return_carried raw all (def.StaticId s) = carried_error
-return_carried raw all (def.VariantId v) = carried_error
+pub return_carried : (raw : RawFacts) → IsLawful raw → (d : DefWithBodyId) → IsCarriedType (return_type raw d)
+return_carried raw law (def.FunctionId f) = output_carried raw law f.0 (slice_get raw.fns f.0) refl
+return_carried raw law (def.ConstId c) = carried_error
+return_carried raw law (def.StaticId s) = carried_error
+return_carried raw law (def.VariantId v) = carried_error

@@ -1,10 +1,8 @@
 -- What each law says of lawful facts.
 use Rattle.std.specs.Prelude.{IsTrue}
-use Rattle.std.specs.List.{list_all}
-use Rattle.std.specs.Cmp.{first_so, second_so}
 use Rattle.hir_facts.specs.declared.raw.RawFacts.{RawFacts}
 use Rattle.hir_facts.specs.Laws.Entries.{AllHold}
-use Rattle.hir_facts.specs.Laws.Carried.{is_carried_type, is_carried_adt, is_carried_variant, is_carried_fn, is_carried_body, takes_fields}
+use Rattle.hir_facts.specs.Laws.Carried.{is_carried_type, is_carried_adt, is_carried_variant, is_carried_fn, is_carried_body}
 use Rattle.hir_facts.specs.Laws.Ids.{ChildrenBefore, TypeIdsExist, ParentBefore, AdtIdsExist, VariantIdsExist, FnIdsExist, BodyIdsExist}
 use Rattle.hir_facts.specs.Laws.Counts.{CountsFit, AdtFits, VariantFits, FnFits}
 use Rattle.hir_facts.specs.Laws.Trees.{IsWellFormed}
@@ -29,11 +27,7 @@ pub fns_carried : (raw : RawFacts) → IsLawful raw → AllHold (λ i f. IsTrue 
 fns_carried raw law = law.all.1.1.1.0
 
 pub bodies_carried : (raw : RawFacts) → IsLawful raw → AllHold (λ i b. IsTrue (is_carried_body b)) raw.bodies
-bodies_carried raw law i b found = first_so (is_carried_body b) (list_all (takes_fields raw.variants b.exprs) b.exprs) (law.all.1.1.1.1.1.1.1.1.1.1.1.0 i b found)
-
--- calls of constructors are calls of variants `V(..)`
-pub calls_carried : (raw : RawFacts) → IsLawful raw → AllHold (λ i b. IsTrue (list_all (takes_fields raw.variants b.exprs) b.exprs)) raw.bodies
-calls_carried raw law i b found = second_so (is_carried_body b) (list_all (takes_fields raw.variants b.exprs) b.exprs) (law.all.1.1.1.1.1.1.1.1.1.1.1.0 i b found)
+bodies_carried raw law = law.all.1.1.1.1.1.1.1.1.1.1.1.0
 
 pub type_ids_exist : (raw : RawFacts) → IsLawful raw → AllHold (TypeIdsExist raw) raw.types
 type_ids_exist raw law = law.all.1.1.1.1.1.1.1.1.1.1.1.1.0

@@ -18,5 +18,9 @@ pub mod LawfulFacts
 pub mod Walkable
 pub mod InRange
 pub mod Most
+pub mod Filled
+pub mod NoHoles
+pub mod OneHole
 pub mod WrittenFits
+pub mod FilledFits
 pub mod Items

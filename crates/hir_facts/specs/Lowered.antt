@@ -12,11 +12,11 @@ use Rattle.hir_facts.specs.Types.{lowered_by, lowered_within, lowered}
 use Rattle.hir_facts.specs.Laws.Entries.{AllHold}
 use Rattle.hir_facts.specs.Laws.Ids.{ChildrenBefore}
 
-tys_same : (f g : ℕ → Ty) (ts : List TypeRefId) → ((k : ℕ) (t : TypeRefId) → slice_get ts k ≡ Some t → f t.0 ≡ g t.0) → map (λ t. f t.0) ts ≡ map (λ t. g t.0) ts
+pub tys_same : (f g : ℕ → Ty) (ts : List TypeRefId) → ((k : ℕ) (t : TypeRefId) → slice_get ts k ≡ Some t → f t.0 ≡ g t.0) → map (λ t. f t.0) ts ≡ map (λ t. g t.0) ts
 tys_same f g [] same = refl
 tys_same f g (t ∷ ts) same = let here : f t.0 ≡ g t.0 = same zero t refl in let rest : map (λ t. f t.0) ts ≡ map (λ t. g t.0) ts = tys_same f g ts (λ k u found. same (suc k) u found) in λ i. here i ∷ rest i
 
-args_same : (f g : ℕ → Ty) (ts : List TypeRefId) → ((k : ℕ) (t : TypeRefId) → slice_get ts k ≡ Some t → f t.0 ≡ g t.0) → map (λ t. arg.Ty (f t.0)) ts ≡ map (λ t. arg.Ty (g t.0)) ts
+pub args_same : (f g : ℕ → Ty) (ts : List TypeRefId) → ((k : ℕ) (t : TypeRefId) → slice_get ts k ≡ Some t → f t.0 ≡ g t.0) → map (λ t. arg.Ty (f t.0)) ts ≡ map (λ t. arg.Ty (g t.0)) ts
 args_same f g [] same = refl
 args_same f g (t ∷ ts) same =
     let here : f t.0 ≡ g t.0 = same zero t refl in let rest : map (λ t. arg.Ty (f t.0)) ts ≡ map (λ t. arg.Ty (g t.0)) ts = args_same f g ts (λ k u found. same (suc k) u found) in λ i. arg.Ty (here i) ∷ rest i

@@ -40,7 +40,7 @@ most_parts own types all i x found =
     ∙ most_by_same own (most_within own i types) (most_in own types) i x (all i x found) (λ j lt. most_far own types all i (suc j) j lt (omega arith)))
 
 -- the number of a part is no greater than that of the type
-most_above : (f : ℕ → ℕ) (ts : List TypeRefId) (k : ℕ) (t : TypeRefId) → slice_get ts k ≡ Some t → f t.0 ≤ most (map (λ t. f t.0) ts)
+pub most_above : (f : ℕ → ℕ) (ts : List TypeRefId) (k : ℕ) (t : TypeRefId) → slice_get ts k ≡ Some t → f t.0 ≤ most (map (λ t. f t.0) ts)
 most_above f [] k t found = absurd (cc)
 most_above f (u ∷ us) zero t found = let same : f t.0 ≡ f u.0 = cc in omega arith
 most_above f (u ∷ us) (suc k) t found = let rest : f t.0 ≤ most (map (λ t. f t.0) us) = most_above f us k t found in omega arith

@@ -1,5 +1,5 @@
 -- Each entry and part is of a kind that is carried.
-use Rattle.std.specs.Prelude.{Bool, true, false, ◌&&◌, List, [], ◌∷◌, Option, Some, None, slice_get, is_none, not}
+use Rattle.std.specs.Prelude.{Bool, true, false, ◌&&◌, List, [], ◌∷◌, is_none, not}
 use Rattle.std.specs.List.{list_all}
 use Rattle.hir_facts.specs.declared.raw.RawType.{RawType}
 use Rattle.hir_facts.specs.declared.raw.RawType.TheVariants as type
@@ -36,7 +36,7 @@ is_carried_type (type.Integer i) = true
 is_carried_type (type.Tuple ts) = true
 is_carried_type (type.Adt a ts) = true
 is_carried_type (type.Param n) = true
-is_carried_type type.Hole = false
+is_carried_type type.Hole = true
 is_carried_type type.Other = false
 
 abbrev pub is_empty : {A : Type 0} → List A → Bool
@@ -128,84 +128,7 @@ is_carried_mode mode.RefMut = false
 abbrev pub is_carried_binding : RawBinding → Bool
 is_carried_binding v = is_carried_mode v.mode
 
--- a function or constructor
-abbrev pub is_item_path : RawPath → Bool
-is_item_path (path.Local v) = false
-is_item_path (path.Function f) = true
-is_item_path (path.Ctor v) = true
-is_item_path path.Other = false
-
--- the expression is there, and is a path to a function or constructor
-abbrev pub is_item : Option RawExpr → Bool
-is_item None = false
-is_item (Some (expr.Lit l)) = false
-is_item (Some (expr.Path p)) = is_item_path p
-is_item (Some (expr.Block label stmts last)) = false
-is_item (Some (expr.Tuple es)) = false
-is_item (Some (expr.If c first other)) = false
-is_item (Some (expr.Match e arms)) = false
-is_item (Some (expr.Call f args)) = false
-is_item (Some expr.Other) = false
-
--- a call calls what a path to a function or constructor names
-abbrev pub is_carried_call : List RawExpr → RawExpr → Bool
-is_carried_call es (expr.Lit l) = true
-is_carried_call es (expr.Path p) = true
-is_carried_call es (expr.Block label stmts last) = true
-is_carried_call es (expr.Tuple xs) = true
-is_carried_call es (expr.If c first other) = true
-is_carried_call es (expr.Match e arms) = true
-is_carried_call es (expr.Call f args) = is_item (slice_get es f.0)
-is_carried_call es expr.Other = true
-
--- its nodes, bindings and calls are, and it has no `self`
+-- its nodes and bindings are, and it has no `self`
 abbrev pub is_carried_body : RawBody → Bool
 is_carried_body b =
-    list_all is_carried_expr b.exprs && (list_all is_carried_pat b.pats
-    && (list_all is_carried_binding b.bindings && (is_none b.self_ && list_all (is_carried_call b.exprs) b.exprs)))
-
--- ---- what its calls say of the variants
-
-abbrev pub is_tuple_ctor : RawCtor → Bool
-is_tuple_ctor ctor.Unit = false
-is_tuple_ctor ctor.Tuple = true
-is_tuple_ctor ctor.Record = false
-
--- the variant is there, and is written `V(..)`
-abbrev pub is_tuple_variant : Option RawVariant → Bool
-is_tuple_variant None = false
-is_tuple_variant (Some v) = is_tuple_ctor v.ctor
-
--- where the path names a constructor, it is that of a variant `V(..)`
-abbrev pub names_tuple : List RawVariant → RawPath → Bool
-names_tuple vs (path.Local v) = true
-names_tuple vs (path.Function f) = true
-names_tuple vs (path.Ctor v) = is_tuple_variant (slice_get vs v.0)
-names_tuple vs path.Other = true
-
--- where the expression is there and is a path to a constructor, it is that of a variant `V(..)`
-abbrev pub calls_tuple : List RawVariant → Option RawExpr → Bool
-calls_tuple vs None = true
-calls_tuple vs (Some (expr.Lit l)) = true
-calls_tuple vs (Some (expr.Path p)) = names_tuple vs p
-calls_tuple vs (Some (expr.Block label stmts last)) = true
-calls_tuple vs (Some (expr.Tuple es)) = true
-calls_tuple vs (Some (expr.If c first other)) = true
-calls_tuple vs (Some (expr.Match e arms)) = true
-calls_tuple vs (Some (expr.Call f args)) = true
-calls_tuple vs (Some expr.Other) = true
-
--- a call of a constructor is one of a variant `V(..)`
-abbrev pub takes_fields : List RawVariant → List RawExpr → RawExpr → Bool
-takes_fields vs es (expr.Lit l) = true
-takes_fields vs es (expr.Path p) = true
-takes_fields vs es (expr.Block label stmts last) = true
-takes_fields vs es (expr.Tuple xs) = true
-takes_fields vs es (expr.If c first other) = true
-takes_fields vs es (expr.Match e arms) = true
-takes_fields vs es (expr.Call f args) = calls_tuple vs (slice_get es f.0)
-takes_fields vs es expr.Other = true
-
--- a body among these variants
-abbrev pub is_carried_in : List RawVariant → RawBody → Bool
-is_carried_in vs b = is_carried_body b && list_all (takes_fields vs b.exprs) b.exprs
+    list_all is_carried_expr b.exprs && (list_all is_carried_pat b.pats && (list_all is_carried_binding b.bindings && is_none b.self_))

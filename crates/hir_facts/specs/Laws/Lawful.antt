@@ -6,7 +6,7 @@ use Rattle.hir_facts.specs.declared.laws.Law.TheVariants as law
 use Rattle.hir_facts.specs.declared.laws.FactsList.{FactsList}
 use Rattle.hir_facts.specs.declared.laws.FactsList.TheVariants as list
 use Rattle.hir_facts.specs.Laws.Entries.{AllHold, BreaksAt}
-use Rattle.hir_facts.specs.Laws.Carried.{is_carried_type, is_carried_adt, is_carried_variant, is_carried_fn, is_carried_in}
+use Rattle.hir_facts.specs.Laws.Carried.{is_carried_type, is_carried_adt, is_carried_variant, is_carried_fn, is_carried_body}
 use Rattle.hir_facts.specs.Laws.Ids.{TypeIdsExist, ParentBefore, AdtIdsExist, VariantIdsExist, FnIdsExist, BodyIdsExist}
 use Rattle.hir_facts.specs.Laws.Counts.{AdtFits, VariantFits, FnFits}
 use Rattle.hir_facts.specs.Laws.Trees.{IsWellFormed}
@@ -42,7 +42,7 @@ carried_at S raw list.Aliases = S _ none_carried raw.aliases
 carried_at S raw list.Impls = S _ none_carried raw.impls
 carried_at S raw list.Opaques = S _ none_carried raw.opaques
 carried_at S raw list.Lang = S _ none_carried raw.lang
-carried_at S raw list.Bodies = S _ (λ i b. IsTrue (is_carried_in raw.variants b)) raw.bodies
+carried_at S raw list.Bodies = S _ (λ i b. IsTrue (is_carried_body b)) raw.bodies
 carried_at S raw list.Limits = S _ all_hold (limits_of raw)
 
 abbrev ids_at : Saying → RawFacts → FactsList → Type 0

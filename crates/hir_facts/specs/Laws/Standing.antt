@@ -88,3 +88,7 @@ wrongs_in raw = most_in (wrong_args raw.adts) raw.types
 -- 0 where no `_` stands in a written type
 abbrev pub holes_in : RawFacts → ℕ → ℕ
 holes_in raw = most_in hole_at raw.types
+
+-- no `_` stands in a written type
+abbrev pub HasNoHole : List RawType → TypeRefId → Type 0
+HasNoHole types t = most_in hole_at types t.0 ≡ 0

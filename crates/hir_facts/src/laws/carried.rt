@@ -2,7 +2,7 @@
 ghost use Rattle.std.specs.Prelude.{◌≡◌, ◌↔◌, IsTrue, MatchOption, slice_get};
 ghost use Rattle.std.specs.List.{list_all};
 ghost use Rattle.hir_facts.specs.Laws.Entries.{AllHold, BreaksAt};
-ghost use Rattle.hir_facts.specs.Laws.Carried.{is_carried_type, is_type_param, is_carried_kind, is_carried_adt, is_carried_ctor, is_carried_variant, is_carried_fn, is_carried_literal, is_carried_path, is_ctor_path, is_item_path, is_item, is_carried_call, is_carried_stmt, is_carried_expr, is_carried_pat, is_carried_binding, is_carried_body, is_tuple_ctor, is_tuple_variant, names_tuple, calls_tuple, takes_fields, is_carried_in};
+ghost use Rattle.hir_facts.specs.Laws.Carried.{is_carried_type, is_type_param, is_carried_kind, is_carried_adt, is_carried_ctor, is_carried_variant, is_carried_fn, is_carried_literal, is_carried_path, is_ctor_path, is_carried_stmt, is_carried_expr, is_carried_pat, is_carried_binding, is_carried_body};
 
 use crate::laws::test::Test;
 use crate::raw::{
@@ -24,8 +24,8 @@ fn carries_type(ty: &RawType) -> bool
 {
     match ty {
         RawType::Bool | RawType::Char | RawType::Integer(_) | RawType::Tuple(_) => true,
-        RawType::Adt { .. } | RawType::Param(_) => true,
-        RawType::Hole | RawType::Other => false,
+        RawType::Adt { .. } | RawType::Param(_) | RawType::Hole => true,
+        RawType::Other => false,
     }
 }
 
@@ -139,37 +139,6 @@ fn carries_expr(expr: &RawExpr) -> bool
     }
 }
 
-fn is_item_path(path: &RawPath) -> bool
-    ensures { result ≡ is_item_path path.now }
-{
-    match path {
-        RawPath::Function(_) | RawPath::Ctor(_) => true,
-        RawPath::Local(_) | RawPath::Other => false,
-    }
-}
-
-fn is_item(exprs: &[RawExpr], expr: ExprId) -> bool
-    ensures { result ≡ is_item (slice_get exprs.now expr.0) }
-{
-    match exprs.get(expr.0 as usize) {
-        None => false,
-        Some(RawExpr::Path(path)) => is_item_path(path),
-        Some(RawExpr::Lit(_) | RawExpr::Block { .. } | RawExpr::Tuple(_)) => false,
-        Some(RawExpr::If { .. } | RawExpr::Match { .. } | RawExpr::Call { .. } | RawExpr::Other) =>
-            false,
-    }
-}
-
-fn carries_call(exprs: &[RawExpr], expr: &RawExpr) -> bool
-    ensures { result ≡ is_carried_call exprs.now expr.now }
-{
-    match expr {
-        RawExpr::Call { callee, args: _ } => is_item(exprs, *callee),
-        RawExpr::Lit(_) | RawExpr::Path(_) | RawExpr::Block { .. } | RawExpr::Tuple(_) => true,
-        RawExpr::If { .. } | RawExpr::Match { .. } | RawExpr::Other => true,
-    }
-}
-
 fn is_ctor_path(path: &RawPath) -> bool
     ensures { result ≡ is_ctor_path path.now }
 {
@@ -206,12 +175,6 @@ fn carries_exprs(exprs: &[RawExpr]) -> bool
     exprs.iter().all(|expr| carries_expr(expr))
 }
 
-fn carries_calls(exprs: &[RawExpr]) -> bool
-    ensures { result ≡ list_all (is_carried_call exprs.now) exprs.now }
-{
-    exprs.iter().all(|expr| carries_call(exprs, expr))
-}
-
 fn carries_pats(pats: &[RawPat]) -> bool
     ensures { result ≡ list_all is_carried_pat pats.now }
 {
@@ -231,67 +194,6 @@ fn carries_body(body: &RawBody) -> bool
         && carries_pats(body.pats.as_slice())
         && carries_bindings(body.bindings.as_slice())
         && body.self_.is_none()
-        && carries_calls(body.exprs.as_slice())
-}
-
-fn is_tuple_ctor(ctor: RawCtor) -> bool
-    ensures { result ≡ is_tuple_ctor ctor }
-{
-    match ctor {
-        RawCtor::Tuple => true,
-        RawCtor::Unit | RawCtor::Record => false,
-    }
-}
-
-fn is_tuple_variant(variants: &[RawVariant], variant: VariantId) -> bool
-    ensures { result ≡ is_tuple_variant (slice_get variants.now variant.0) }
-{
-    match variants.get(variant.0 as usize) {
-        None => false,
-        Some(variant) => is_tuple_ctor(variant.ctor),
-    }
-}
-
-fn names_tuple(variants: &[RawVariant], path: &RawPath) -> bool
-    ensures { result ≡ names_tuple variants.now path.now }
-{
-    match path {
-        RawPath::Ctor(variant) => is_tuple_variant(variants, *variant),
-        RawPath::Local(_) | RawPath::Function(_) | RawPath::Other => true,
-    }
-}
-
-fn calls_tuple(variants: &[RawVariant], exprs: &[RawExpr], expr: ExprId) -> bool
-    ensures { result ≡ calls_tuple variants.now (slice_get exprs.now expr.0) }
-{
-    match exprs.get(expr.0 as usize) {
-        Some(RawExpr::Path(path)) => names_tuple(variants, path),
-        None | Some(RawExpr::Lit(_) | RawExpr::Block { .. } | RawExpr::Tuple(_)) => true,
-        Some(RawExpr::If { .. } | RawExpr::Match { .. } | RawExpr::Call { .. } | RawExpr::Other) =>
-            true,
-    }
-}
-
-fn takes_fields(variants: &[RawVariant], exprs: &[RawExpr], expr: &RawExpr) -> bool
-    ensures { result ≡ takes_fields variants.now exprs.now expr.now }
-{
-    match expr {
-        RawExpr::Call { callee, args: _ } => calls_tuple(variants, exprs, *callee),
-        RawExpr::Lit(_) | RawExpr::Path(_) | RawExpr::Block { .. } | RawExpr::Tuple(_) => true,
-        RawExpr::If { .. } | RawExpr::Match { .. } | RawExpr::Other => true,
-    }
-}
-
-fn take_fields(variants: &[RawVariant], exprs: &[RawExpr]) -> bool
-    ensures { result ≡ list_all (takes_fields variants.now exprs.now) exprs.now }
-{
-    exprs.iter().all(|expr| takes_fields(variants, exprs, expr))
-}
-
-fn carries_body_in(variants: &[RawVariant], body: &RawBody) -> bool
-    ensures { result ≡ is_carried_in variants.now body.now }
-{
-    carries_body(body) && take_fields(variants, body.exprs.as_slice())
 }
 
 /// A written type is of a carried kind.
@@ -386,8 +288,7 @@ impl Test for FnsCarried {
     }
 }
 
-/// The nodes, bindings and calls of a body are of carried kinds, it has no `self`, and it calls no constructor but of
-/// variants `V(..)`.
+/// The nodes and bindings of a body are of carried kinds, and it has no `self`.
 pub struct BodiesCarried;
 
 impl Test for BodiesCarried {
@@ -395,17 +296,17 @@ impl Test for BodiesCarried {
 
     ghost listed = { λ raw. raw.bodies };
 
-    ghost holds = { λ raw i b. IsTrue (is_carried_in raw.variants b) };
+    ghost holds = { λ raw i b. IsTrue (is_carried_body b) };
 
     ghost given = { λ raw s. Unit {0} };
 
     fn test(
         &self,
         _alloc: Global,
-        raw: &RawFacts,
+        _raw: &RawFacts,
         _at: usize,
         item: &RawBody,
     ) -> Result<bool, AllocError> {
-        Ok(carries_body_in(raw.variants.as_slice(), item))
+        Ok(carries_body(item))
     }
 }

@@ -1,0 +1,163 @@
+-- What a written type stands for where each `_` stands for a type.
+use Rattle.std.specs.Prelude.{◌≡◌, ◌<◌, ◌≤◌, ℕ, zero, suc, max, length, List, [], ◌∷◌, map, slice_get, Option, Some, None, refl}
+use Rattle.std.proofs.Common.{◌∙◌, ap, arith}
+use Rattle.std.proofs.lemmas.Option.{slice_get_past}
+use Rattle.hir_types.specs.declared.ids.TypeRefId.{TypeRefId}
+use Rattle.hir_types.specs.declared.ty.IntegerTy.{IntegerTy}
+use Rattle.hir_types.specs.declared.ty.IntegerTy.TheVariants.{Int, Uint}
+use Rattle.hir_types.specs.declared.ty.GenericArg.TheVariants as arg
+use Rattle.hir_types.specs.declared.ty.Ty.{Ty}
+use Rattle.hir_types.specs.declared.ty.Ty.TheVariants as ty
+use Rattle.hir_types.specs.Types.{integer_type, most}
+use Rattle.hir_types.specs.Subst.{Assignment, with_holes, args_replaced, folded}
+use Rattle.hir_types.specs.Folding.{replaced_bool, replaced_char, replaced_int, replaced_uint, replaced_tuple, replaced_adt, replaced_param, replaced_error, arg_replaced_type}
+use Rattle.hir_types.specs.Folds.{map_twice}
+use Rattle.hir_facts.specs.declared.raw.RawType.{RawType}
+use Rattle.hir_facts.specs.declared.raw.RawType.TheVariants as type
+use Rattle.hir_facts.specs.Types.{type_parts, lowered_by, lowered_within, written_type, filled_by, filled_within, filled, filled_type, StandsIn, is_itself, in_part}
+use Rattle.hir_facts.specs.Laws.Entries.{AllHold}
+use Rattle.hir_facts.specs.Laws.Ids.{ChildrenBefore}
+use Rattle.hir_facts.specs.Laws.Standing.{hole_at, most_by, most_within, most_in, HasNoHole}
+use Rattle.hir_facts.specs.Lowered.{tys_same, args_same}
+use Rattle.hir_facts.specs.Most.{most_above, own_most, part_most}
+
+-- ---- part by part
+
+-- two ways to read the parts that agree on them
+pub filled_by_same : (u : Ty) (f g : ℕ → Ty) (x : RawType) → ((k : ℕ) (t : TypeRefId) → slice_get (type_parts x) k ≡ Some t → f t.0 ≡ g t.0) → filled_by u f (Some x) ≡ filled_by u g (Some x)
+filled_by_same u f g type.Bool same = refl
+filled_by_same u f g type.Char same = refl
+filled_by_same u f g (type.Integer i) same = refl
+filled_by_same u f g (type.Tuple ts) same = ap ty.Tuple (tys_same f g ts same)
+filled_by_same u f g (type.Adt a ts) same = ap (ty.Adt a) (args_same f g ts same)
+filled_by_same u f g (type.Param m) same = refl
+filled_by_same u f g type.Hole same = refl
+filled_by_same u f g type.Other same = refl
+
+of_same : (u : Ty) (f g : ℕ → Ty) (i : ℕ) (o : Option RawType) → ((x : RawType) → o ≡ Some x → ChildrenBefore i x) → ((j : ℕ) → j < i → f j ≡ g j) → filled_by u f o ≡ filled_by u g o
+of_same u f g i None before same = refl
+of_same u f g i (Some x) before same = filled_by_same u f g x (λ k t found. same t.0 (before x refl k t found))
+
+-- how far a type is followed does not matter, as long as it is far enough
+filled_far : (h : ℕ → Ty) (types : List RawType) → AllHold ChildrenBefore types → (n m i : ℕ) → i < n → i < m → filled_within h n types i ≡ filled_within h m types i
+unfolding filled_within
+filled_far h types all zero m i a b = absurd (omega arith)
+filled_far h types all (suc n) zero i a b = absurd (omega arith)
+filled_far h types all (suc n) (suc m) i a b =
+    of_same (h i) (filled_within h n types) (filled_within h m types) i (slice_get types i) (λ x found. all i x found) (λ j lt. filled_far h types all n m j (omega arith) (omega arith))
+
+filled_within_step : (h : ℕ → Ty) (types : List RawType) (n i : ℕ) → filled_within h (suc n) types i ≡ filled_by (h i) (filled_within h n types) (slice_get types i)
+unfolding filled_within
+filled_within_step h types n i = refl
+
+-- a type stands for what its parts make
+pub filled_parts : (h : ℕ → Ty) (types : List RawType) → AllHold ChildrenBefore types → (i : ℕ) (x : RawType) → slice_get types i ≡ Some x → filled h types i ≡ filled_by (h i) (filled h types) (Some x)
+filled_parts h types all i x found =
+    filled_within_step h types i i ∙ (ap (filled_by (h i) (filled_within h i types)) found
+    ∙ filled_by_same (h i) (filled_within h i types) (filled h types) x (λ k t at. let lt : t.0 < i = all i x found k t at in filled_far h types all i (suc t.0) t.0 lt (omega arith)))
+
+-- past the end of the list nothing is written
+pub filled_past : (h : ℕ → Ty) (types : List RawType) (i : ℕ) → length types ≤ i → filled h types i ≡ ty.Error
+filled_past h types i le = filled_within_step h types i i ∙ ap (filled_by (h i) (filled_within h i types)) (slice_get_past types i le)
+
+-- ---- by each `_` that stands in it
+
+agree_by : (h g : ℕ → Ty) (f f2 : ℕ → Ty) (types : List RawType) (i : ℕ) (x : RawType) → slice_get types i ≡ Some x → ((k : ℕ) → StandsIn types k i → h k ≡ g k)
+    → ((k : ℕ) (t : TypeRefId) → slice_get (type_parts x) k ≡ Some t → f t.0 ≡ f2 t.0) → filled_by (h i) f (Some x) ≡ filled_by (g i) f2 (Some x)
+agree_by h g f f2 types i type.Hole found same parts = same i (is_itself found)
+agree_by h g f f2 types i type.Bool found same parts = refl
+agree_by h g f f2 types i type.Char found same parts = refl
+agree_by h g f f2 types i (type.Integer n) found same parts = refl
+agree_by h g f f2 types i (type.Tuple ts) found same parts = ap ty.Tuple (tys_same f f2 ts parts)
+agree_by h g f f2 types i (type.Adt a ts) found same parts = ap (ty.Adt a) (args_same f f2 ts parts)
+agree_by h g f f2 types i (type.Param n) found same parts = refl
+agree_by h g f f2 types i type.Other found same parts = refl
+
+found_agree : (h g : ℕ → Ty) (f f2 : ℕ → Ty) (types : List RawType) (i : ℕ) → ((k : ℕ) → StandsIn types k i → h k ≡ g k) → ((j : ℕ) → ((k : ℕ) → StandsIn types k j → h k ≡ g k) → f j ≡ f2 j)
+    → (o : Option RawType) → slice_get types i ≡ o → filled_by (h i) f o ≡ filled_by (g i) f2 o
+found_agree h g f f2 types i same below None found = refl
+found_agree h g f f2 types i same below (Some x) found = agree_by h g f f2 types i x found same (λ k t at. below t.0 (λ j below. same j (in_part i x k t found at below)))
+
+within_agree : (h g : ℕ → Ty) (types : List RawType) (n i : ℕ) → ((k : ℕ) → StandsIn types k i → h k ≡ g k) → filled_within h n types i ≡ filled_within g n types i
+unfolding filled_within
+within_agree h g types zero i same = refl
+within_agree h g types (suc n) i same = found_agree h g (filled_within h n types) (filled_within g n types) types i same (within_agree h g types n) (slice_get types i) refl
+
+-- where two ways to fill agree at each `_` of a type, it stands for the same
+pub filled_agree : (h g : ℕ → Ty) (types : List RawType) (t : TypeRefId) → ((k : ℕ) → StandsIn types k t.0 → h k ≡ g k) → filled_type h types t ≡ filled_type g types t
+filled_agree h g types t same = within_agree h g types (suc t.0) t.0 same
+
+-- what stands in a type as a `_` is one
+pub is_hole : (types : List RawType) (k i : ℕ) → StandsIn types k i → slice_get types k ≡ Some type.Hole
+is_hole types k _ (is_itself found) = found
+is_hole types k _ (in_part i x j t found at below) = is_hole types k t.0 below
+
+-- ---- a type without `_`
+
+none_in : (m : ℕ → ℕ) (c : ℕ) (ts : List TypeRefId) → max c (most (map (λ t. m t.0) ts)) ≡ 0 → (k : ℕ) (t : TypeRefId) → slice_get ts k ≡ Some t → m t.0 ≡ 0
+none_in m c ts h k t at = let le : m t.0 ≤ most (map (λ t. m t.0) ts) = most_above m ts k t at in bounded (m t.0) (most (map (λ t. m t.0) ts)) c le h
+  where
+    bounded : (a b c : ℕ) → a ≤ b → max c b ≡ 0 → a ≡ 0
+    bounded a b c le is = omega arith
+
+written_by : (u : Ty) (f g : ℕ → Ty) (m : ℕ → ℕ) → ((j : ℕ) → m j ≡ 0 → f j ≡ g j) → (o : Option RawType) → most_by hole_at m o ≡ 0 → filled_by u f o ≡ lowered_by g o
+written_by u f g m same None h = refl
+written_by u f g m same (Some type.Bool) h = refl
+written_by u f g m same (Some type.Char) h = refl
+written_by u f g m same (Some (type.Integer i)) h = refl
+written_by u f g m same (Some (type.Tuple ts)) h = ap ty.Tuple (tys_same f g ts (λ k t at. same t.0 (none_in m 0 ts h k t at)))
+written_by u f g m same (Some (type.Adt a ts)) h = ap (ty.Adt a) (args_same f g ts (λ k t at. same t.0 (none_in m 0 ts h k t at)))
+written_by u f g m same (Some (type.Param n)) h = refl
+written_by u f g m same (Some type.Hole) h = absurd (omega arith)
+written_by u f g m same (Some type.Other) h = refl
+
+written_within : (h : ℕ → Ty) (types : List RawType) (n i : ℕ) → most_within hole_at n types i ≡ 0 → filled_within h n types i ≡ lowered_within n types i
+unfolding filled_within lowered_within most_within
+written_within h types zero i none = refl
+written_within h types (suc n) i none = written_by (h i) (filled_within h n types) (lowered_within n types) (most_within hole_at n types) (written_within h types n) (slice_get types i) none
+
+-- stands for the same however a `_` would be filled
+pub filled_written : (h : ℕ → Ty) (types : List RawType) (t : TypeRefId) → HasNoHole types t → filled_type h types t ≡ written_type types t
+filled_written h types t none = written_within h types (suc t.0) t.0 none
+
+at_zero : (a b : ℕ) → a ≤ b → b ≡ 0 → a ≡ 0
+at_zero a b le is = omega arith
+
+pub none_stands : (types : List RawType) → AllHold ChildrenBefore types → (k i : ℕ) → StandsIn types k i → most_in hole_at types i ≡ 0 → ⊥
+none_stands types all k _ (is_itself found) none = let one : 1 ≤ most_in hole_at types k = own_most hole_at types all k type.Hole found in absurd (omega arith)
+none_stands types all k _ (in_part i x j t found at below) none =
+    none_stands types all k t.0 below (at_zero (most_in hole_at types t.0) (most_in hole_at types i) (part_most hole_at types all i x found j t at) none)
+
+pub no_hole_stands : (types : List RawType) → AllHold ChildrenBefore types → (t : TypeRefId) → HasNoHole types t → (k : ℕ) → StandsIn types k t.0 → ⊥
+no_hole_stands types all t none k stands = none_stands types all k t.0 stands none
+
+-- ---- holes that inference made
+
+integer_folded : (a : Assignment) (i : IntegerTy) → folded a (integer_type i) ≡ integer_type i
+integer_folded a (Int i) = replaced_int (with_holes a) i
+integer_folded a (Uint i) = replaced_uint (with_holes a) i
+
+args_at : (a : Assignment) (f : ℕ → Ty) (ts : List TypeRefId) → args_replaced (with_holes a) (map (λ t. arg.Ty (f t.0)) ts) ≡ map (λ t. arg.Ty (folded a (f t.0))) ts
+args_at a f [] = refl
+args_at a f (t ∷ ts) = λ i. arg_replaced_type (with_holes a) (f t.0) i ∷ args_at a f ts i
+
+folded_by : (a : Assignment) (u : Ty) (f : ℕ → Ty) (o : Option RawType) → folded a (filled_by u f o) ≡ filled_by (folded a u) (λ j. folded a (f j)) o
+folded_by a u f None = replaced_error (with_holes a)
+folded_by a u f (Some type.Bool) = replaced_bool (with_holes a)
+folded_by a u f (Some type.Char) = replaced_char (with_holes a)
+folded_by a u f (Some (type.Integer i)) = integer_folded a i
+folded_by a u f (Some (type.Tuple ts)) = replaced_tuple (with_holes a) (map (λ t. f t.0) ts) ∙ ap ty.Tuple (map_twice (folded a) (λ (t : TypeRefId). f t.0) ts)
+folded_by a u f (Some (type.Adt i ts)) = replaced_adt (with_holes a) i (map (λ t. arg.Ty (f t.0)) ts) ∙ ap (ty.Adt i) (args_at a f ts)
+folded_by a u f (Some (type.Param n)) = replaced_param (with_holes a) n
+folded_by a u f (Some type.Hole) = refl
+folded_by a u f (Some type.Other) = replaced_error (with_holes a)
+
+folded_within : (a : Assignment) (h : ℕ → Ty) (types : List RawType) (n i : ℕ) → folded a (filled_within h n types i) ≡ filled_within (λ k. folded a (h k)) n types i
+unfolding filled_within
+folded_within a h types zero i = replaced_error (with_holes a)
+folded_within a h types (suc n) i =
+    folded_by a (h i) (filled_within h n types) (slice_get types i) ∙ ap (λ (f : ℕ → Ty). filled_by (folded a (h i)) f (slice_get types i)) (λ p j. folded_within a h types n j p)
+
+-- may be replaced before or after
+pub filled_folded : (a : Assignment) (h : ℕ → Ty) (types : List RawType) (t : TypeRefId) → folded a (filled_type h types t) ≡ filled_type (λ k. folded a (h k)) types t
+filled_folded a h types t = folded_within a h types (suc t.0) t.0
