@@ -16,3 +16,5 @@ pub mod WrongArgument
 pub mod WrongCount
 pub mod Constructors
 pub mod WrongFieldCount
+pub mod NoFunction
+pub mod Placeholder

@@ -12,6 +12,8 @@ use Rattle.hir_facts.specs.declared.raw.RawBody.{RawBody}
 use Rattle.hir_types.specs.Erasure.{IsClosed}
 use Rattle.infer_result.specs.declared.result.InferenceResult.{InferenceResult}
 use Rattle.infer_result.specs.declared.result.TypeMismatch.{TypeMismatch}
+use Rattle.infer_result.specs.declared.result.Seen.{Seen}
+use Rattle.infer_result.specs.declared.diagnostics.InferenceDiagnostic.TheVariants as diagnostic
 use Rattle.infer_result.specs.declared.modes.BindingMode.{BindingMode}
 use Rattle.infer_result.specs.Table.{At, HasTy, PatTy, BindingTy, HasMode, ExprVariant, PatVariant}
 
@@ -55,16 +57,23 @@ pub record OnlyNamedVariants (b : RawBody) (t : InferenceResult) : Type 0 where
   pub exprs : (e : ExprId) (v : VariantId) → ExprVariant t e v → NamesVariant b e v
   pub pats : (p : PatId) (v : VariantId) → PatVariant t p v → IsVariantPat b p v
 
--- each type of the table has a property
+-- each type of the table has a property, but for those that failed look-ups saw
 pub record AllTypes (P : Ty → Type 0) (t : InferenceResult) : Type 0 where
   pub exprs : (n : ℕ) (s : Ty) → At t.type_of_expr n s → P s
   pub pats : (n : ℕ) (s : Ty) → At t.type_of_pat n s → P s
   pub bindings : (n : ℕ) (s : Ty) → At t.type_of_binding n s → P s
+  pub placeholders : (k : ℕ) (s : Ty) → At t.type_of_placeholder k s → P s
   pub expected : (n : ℕ) (x : TypeMismatch) → At t.expr_mismatches n x → P x.expected
   pub actual : (n : ℕ) (x : TypeMismatch) → At t.expr_mismatches n x → P x.actual
   pub pat_expected : (n : ℕ) (x : TypeMismatch) → At t.pat_mismatches n x → P x.expected
   pub pat_actual : (n : ℕ) (x : TypeMismatch) → At t.pat_mismatches n x → P x.actual
+  pub found : (n : ℕ) (c : ExprId) (s : Ty) → At t.expr_diagnostics n (diagnostic.ExpectedFunction c s) → P s
 
--- no type of the table has a hole, complaints included
+-- each type that a failed look-up saw has a property
+pub record AllSeen (P : Ty → Type 0) (t : InferenceResult) : Type 0 where
+  pub types : (i : ℕ) (x : Seen) → slice_get t.seen i ≡ Some x → P x.ty
+  pub others : (i : ℕ) (x : Seen) (s : Ty) → slice_get t.seen i ≡ Some x → x.other ≡ Some s → P s
+
+-- no type of the table has a hole, complaints included; what failed look-ups saw may have some
 abbrev pub IsClosedTable : InferenceResult → Type 0
 IsClosedTable t = AllTypes IsClosed t

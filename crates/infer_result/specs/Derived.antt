@@ -36,6 +36,7 @@ use Rattle.hir_facts.specs.declared.raw.RawCtor.TheVariants as ctor
 use Rattle.hir_facts.specs.declared.raw.RawVariant.{RawVariant}
 use Rattle.hir_types.specs.Types.{unit}
 use Rattle.hir_facts.specs.Types.{written_type}
+use Rattle.hir_facts.specs.Filled.{filled_written}
 use Rattle.hir_facts.specs.Scope.{names_item, adt_params}
 use Rattle.hir_facts.specs.Signatures.{Signature, fn_signature, ctor_signature, ctor_type, signature_of, type_args, at_args}
 use Rattle.hir_types.specs.Erasure.{erased}
@@ -47,19 +48,20 @@ use Rattle.infer_result.specs.declared.result.TypeMismatch.{TypeMismatch}
 use Rattle.infer_result.specs.declared.diagnostics.InferenceDiagnostic.TheVariants as diagnostic
 use Rattle.infer_result.specs.Table.{At, HasTy, PatTy, HasMismatch, AnyMismatch, AnyDiagnostic, mismatch}
 use Rattle.infer_result.specs.Closed.{IsTotal}
-use Rattle.infer_result.specs.Places.{Given, IsVariantAt, adt_at, fields_at, IsAt, IsAtOrMismatch, MisfitsAs, PatIsAtOrMismatch, IsCallee, IsInputAt, IsAsked, Asks, AsksOf, Gives, GivesComponent, GivesField, GivesPart, Incoming}
+use Rattle.infer_result.specs.Places.{Given, hole_type, declared, AreRecorded, IsVariantAt, adt_at, fields_at, IsAt, IsAtOrMismatch, MisfitsAs, PatIsAtOrMismatch, IsCallee, IsInputAt, IsAsked, Asks, AsksOf, Gives, GivesComponent, GivesField, GivesPart, Incoming}
 use Rattle.infer_result.specs.Rules.Literals.{IsLiteralType, IsOwnType}
 use Rattle.infer_result.specs.Rules.Paths.{PathRule}
 use Rattle.infer_result.specs.Rules.Placing.{Placing, at_or_mismatch, at_types}
 use Rattle.infer_result.specs.Rules.Tuples.{AllAt}
 use Rattle.infer_result.specs.Rules.Blocks.{LetRule, StmtRule, StmtsRule, TailRule}
 use Rattle.infer_result.specs.Rules.Branches.{branches_of, ElseRule, arm_exprs, ArmPatterns, GuardRule, ArmsRule}
-use Rattle.infer_result.specs.Rules.Calls.{ArgsRule}
+use Rattle.infer_result.specs.Rules.Calls.{ArgsRule, ItemCallRule}
 use Rattle.infer_result.specs.Rules.Expressions.{Rule, BodyObeys}
 use Rattle.infer_result.specs.Rules.Patterns.{AllPatsAt, PatsAtFields, PatRule}
 use Rattle.infer_result.specs.Excused.{MaybeMismatch, StmtHasMismatch, StmtsHaveMismatch, GuardsHaveMismatch, ExcusedAs, BodyIsExcused}
 use Rattle.infer_result.specs.Upward.{NamesLet, CallsNonGeneric, Up, of_literal, of_written, of_initializer, of_parameter, of_call, of_unit, IsWrittenInput, Stated}
 use Rattle.infer_result.specs.Truth.Mismatch.{IsBlockWithoutTail, IsIfWithoutElse, EndsInUnit, IsTrueMismatch}
+use Rattle.infer_result.specs.Truth.Seen.{IsPathToItem}
 use Rattle.infer_result.specs.Made.{IsMade}
 use Rattle.infer_result.specs.Parts.{LetStands, ArmStands, PartStands, comes_from}
 use Rattle.infer_result.specs.Typed.{IsTyped}
@@ -164,7 +166,7 @@ module _ (g : Given) (t : InferenceResult) where
   Right = at_types g t
 
   let_obeys : (p : PatId) (w : Option TypeRefId) (init : Option ExprId) → LetRule Made g t p w init → MaybeMismatch t init ⊎ LetRule Right g t p w init
-  let_obeys p (Some w) (Some e) (h, k) = elim (at_or_excused t e (written_type g.scope.facts.types w) h) [ inl a ↦ inr (a, k) | inr m ↦ inl m ]
+  let_obeys p (Some w) (Some e) (r, h, k) = elim (at_or_excused t e (declared g t w) h) [ inl a ↦ inr (r, a, k) | inr m ↦ inl m ]
   let_obeys p (Some w) None h = inr h
   let_obeys p None (Some e) h = inr h
   let_obeys p None None h = inr tt
@@ -232,8 +234,9 @@ module _ (g : Given) (t : InferenceResult) where
       ]
   judged n (Some (expr.If c first other)) (a, (s, k, (x, y))) = if_obeys n c first other s k a x y
   judged n (Some (expr.Match e arms)) (h, (s, k, m)) = elim (arms_obey (arm_exprs arms) arms s m) [ inl x ↦ inl x | inr x ↦ inr (h, (s, k, x)) ]
-  judged n (Some (expr.Call f args)) (σ, ts, c, a, k) =
-      elim (args_obey n args (map (at_args ts) σ.inputs) a) [ inl m ↦ inl m | inr x ↦ inr (σ, ts, c, x, k) ]
+  judged n (Some (expr.Call f args)) (inl (σ, ts, c, a, k)) =
+      elim (args_obey n args (map (at_args ts) σ.inputs) a) [ inl m ↦ inl (inl m) | inr x ↦ inr (inl (σ, ts, c, x, k)) ]
+  judged n (Some (expr.Call f args)) (inr (m, k)) = inl (inr m)
   judged n (Some expr.Other) h = absurd h
 
 -- ---- types are there
@@ -252,7 +255,8 @@ rule_type g t n (Some (expr.Tuple es)) (ss, h, k) = (ty.Tuple ss, h)
 rule_type g t n (Some (expr.Block label ss last)) (h, (s, k, m)) = (s, k)
 rule_type g t n (Some (expr.If c first other)) (a, (s, k, h)) = (s, k)
 rule_type g t n (Some (expr.Match e arms)) (h, (s, k, m)) = (s, k)
-rule_type g t n (Some (expr.Call f args)) (σ, ts, c, a, k) = (at_args ts σ.output, k)
+rule_type g t n (Some (expr.Call f args)) (inl (σ, ts, c, a, k)) = (at_args ts σ.output, k)
+rule_type g t n (Some (expr.Call f args)) (inr (m, k)) = k
 rule_type g t n (Some expr.Other) h = absurd h
 
 pat_type : (g : Given) (t : InferenceResult) (p : PatId) (o : Option RawPat) → PatRule g t p o → (s : Ty) × PatTy t p s
@@ -381,15 +385,20 @@ module _ (g : Given) (t : InferenceResult) (h : IsMade g t) where
   same_pat : (x p q : _) → x ≡ node.PatId p → x ≡ node.PatId q → p ≡ q
   same_pat x p q h k = cc
 
+  -- for each `_` in the type of a `let` its type is recorded
+  let_recorded : (p : PatId) (n : Node) (k : ℕ) (w : TypeRefId) (init : Option ExprId) → part_at g.body n k ≡ Some (record { node = node.PatId p; role = let_pattern (Some w) init }) → AreRecorded g t w
+  let_recorded p n k w (Some e) at = (let (q, here, (m, l)) = comes_from g.body n k _ at in (let_stands m q (Some w) (Some e) l).0)
+  let_recorded p n k w None at = (let (q, here, (m, l)) = comes_from g.body n k _ at in (let_stands m q (Some w) None l).0)
+
   by_role : (p : PatId) (n : Node) (k : ℕ) (role : Role) (s : Ty) → part_at g.body n k ≡ Some (record { node = node.PatId p; role = role }) → Gives g t n role s → PatIsAtOrMismatch g t p s
   by_role p n k (let_pattern (Some w) (Some e)) s at gives =
       (let (q, here, (m, l)) = comes_from g.body n k _ at in
       let r = let_stands m q (Some w) (Some e) l in
-      subst (λ x. PatIsAtOrMismatch g t x s) (same_pat _ q p here refl) (subst (λ u. PatIsAtOrMismatch g t q u) (sym gives) r.1))
+      subst (λ x. PatIsAtOrMismatch g t x s) (same_pat _ q p here refl) (subst (λ u. PatIsAtOrMismatch g t q u) (sym gives.1) r.2))
   by_role p n k (let_pattern (Some w) None) s at gives =
       (let (q, here, (m, l)) = comes_from g.body n k _ at in
       let r = let_stands m q (Some w) None l in
-      subst (λ x. PatIsAtOrMismatch g t x s) (same_pat _ q p here refl) (subst (λ u. PatIsAtOrMismatch g t q u) (sym gives) r))
+      subst (λ x. PatIsAtOrMismatch g t x s) (same_pat _ q p here refl) (subst (λ u. PatIsAtOrMismatch g t q u) (sym gives.1) r.1))
   by_role p n k (let_pattern None (Some e)) s at gives =
       (let (q, here, (m, l)) = comes_from g.body n k _ at in
       let r = let_stands m q None (Some e) l in
@@ -466,13 +475,30 @@ module _ (g : Given) (t : InferenceResult) (h : IsMade g t) where
       let own = c.signature in
       (same_type_args ts [] same.1, cc)
 
+  -- a call by a path to an item was not seen to call no function, so it has that item's output
+  calls_item : (e called : ExprId) (args : List ExprId) → slice_get g.body.exprs e.0 ≡ Some (expr.Call called args) → IsPathToItem g called → ItemCallRule (at_or_mismatch g t) g t e called args
+  calls_item e called args is item =
+      elim (clause_at e (expr.Call called args) is) [
+        | inl c ↦ c
+        | inr m ↦
+            (let seen = m.0 in
+            let x = h.seen seen.position seen.entry seen.found in
+            let here = seen.is_node in
+            let there = x.is_node in
+            let own = x.is_call in
+            let same : called ≡ x.called = cc in
+            absurd (x.no_item (subst (λ c. IsPathToItem g c) same item)))
+      ]
+
   upward : (e : ExprId) (s : Ty) → Up g e s → HasTy t e s
   upward m r (of_literal e l s is own) =
       (let c = clause_at e (expr.Lit l) is in subst (λ u. HasTy t e u) (literal_type l s c.0 own c.2) c.1)
-  upward m r (of_written e w init n) = local_of_let e (Some w) init n (written_type g.scope.facts.types w) (comes_in e (Some w) init n (written_type g.scope.facts.types w) refl)
+  upward m r (of_written e w init n none) =
+      local_of_let e (Some w) init n (written_type g.scope.facts.types w)
+      (comes_in e (Some w) init n (written_type g.scope.facts.types w) (let_recorded n.pattern n.parent n.at_part w init n.stands.part, sym (filled_written (hole_type t) g.scope.facts.types w none)))
   upward m r (of_initializer e i s n u) = local_of_let e None (Some i) n s (comes_in e None (Some i) n s (upward i s u))
   upward m r (of_call e σ c) =
-      (let (τ, ts, is, a, has) = clause_at e (expr.Call c.called c.args) c.is_call in
+      (let (τ, ts, is, a, has) = calls_item e c.called c.args c.is_call (c.path, c.names, record { item = c.item; is_item = c.is_item; signature = σ; is_signature = c.signature }) in
       let (none, one) = non_generic e σ c τ ts is in
       subst (λ (v : Signature). HasTy t e (at_args [] v.output)) one (subst (λ us. HasTy t e (at_args us τ.output)) none has))
   upward m r (of_unit e x n) =
@@ -505,10 +531,10 @@ module _ (g : Given) (t : InferenceResult) (h : IsMade g t) where
   asked_at_root (inner (node.ExprId n)) role s is asks = absurd (subst (λ r. AsksOf g t n r s) is asks)
   asked_at_root (inner (node.PatId p)) role s is asks = (let clash : root ≡ Role.pattern_literal = sym is ∙ asks.0 in cc)
 
-  asked_at_let : (n : Node) (role : Role) (w : TypeRefId) (s : Ty) → role ≡ initializer (Some w) → Asks g t n role s → s ≡ written_type g.scope.facts.types w
+  asked_at_let : (n : Node) (role : Role) (w : TypeRefId) (s : Ty) → role ≡ initializer (Some w) → Asks g t n role s → s ≡ declared g t w
   asked_at_let the_body role w s is asks =
       (let clash : initializer (Some w) ≡ root = sym is ∙ asks.0 in cc)
-  asked_at_let (inner (node.ExprId n)) role w s is asks = subst (λ r. AsksOf g t n r s) is asks
+  asked_at_let (inner (node.ExprId n)) role w s is asks = (let declares : AsksOf g t n (initializer (Some w)) s = subst (λ r. AsksOf g t n r s) is asks in declares.1)
   asked_at_let (inner (node.PatId p)) role w s is asks = (let clash : initializer (Some w) ≡ Role.pattern_literal = sym is ∙ asks.0 in cc)
 
   -- the input of a function without generic parameters
@@ -538,7 +564,7 @@ module _ (g : Given) (t : InferenceResult) (h : IsMade g t) where
         let roles : dm.role ≡ st.role = ap (λ (p : Part). p.role) one in
         elim st.states [
           | inl r ↦ r.1 ∙ sym (asked_at_root dm.parent dm.role d (roles ∙ r.0) dm.asks)
-          | inr (inl w) ↦ w.2 ∙ sym (asked_at_let dm.parent dm.role w.0 d (roles ∙ w.1) dm.asks)
+          | inr (inl w) ↦ w.3 ∙ (sym (filled_written (hole_type t) g.scope.facts.types w.0 w.2) ∙ sym (asked_at_let dm.parent dm.role w.0 d (roles ∙ w.1) dm.asks))
           | inr (inr a) ↦ asked_of_argument dm.parent dm.role a.0 s d (roles ∙ a.1) (subst (λ n. IsWrittenInput g n a.0 s) same.0 a.2) dm.asks
         ]
       where
@@ -547,7 +573,7 @@ module _ (g : Given) (t : InferenceResult) (h : IsMade g t) where
 
     no_up_of_block : (e : ExprId) (u : Ty) → IsBlockWithoutTail g.body e → Up g e u → ⊥
     no_up_of_block m r is (of_literal e l s at own) = (let k = is.is_block in cc)
-    no_up_of_block m r is (of_written e w init n) = (let k = is.is_block in let j = n.names in cc)
+    no_up_of_block m r is (of_written e w init n none) = (let k = is.is_block in let j = n.names in cc)
     no_up_of_block m r is (of_initializer e i s n u) = (let k = is.is_block in let j = n.names in cc)
     no_up_of_block m r is (of_parameter e i s n w) = (let k = is.is_block in let j = n.names in cc)
     no_up_of_block m r is (of_call e σ c) = (let k = is.is_block in let j = c.is_call in cc)
@@ -555,7 +581,7 @@ module _ (g : Given) (t : InferenceResult) (h : IsMade g t) where
 
     no_up_of_if : (e : ExprId) (u : Ty) → IsIfWithoutElse g.body e → Up g e u → ⊥
     no_up_of_if m r is (of_literal e l s at own) = (let k = is.is_if in cc)
-    no_up_of_if m r is (of_written e w init n) = (let k = is.is_if in let j = n.names in cc)
+    no_up_of_if m r is (of_written e w init n none) = (let k = is.is_if in let j = n.names in cc)
     no_up_of_if m r is (of_initializer e i s n u) = (let k = is.is_if in let j = n.names in cc)
     no_up_of_if m r is (of_parameter e i s n w) = (let k = is.is_if in let j = n.names in cc)
     no_up_of_if m r is (of_call e σ c) = (let k = is.is_if in let j = c.is_call in cc)
@@ -592,6 +618,7 @@ module _ (g : Given) (t : InferenceResult) (h : IsMade g t) where
       total = total;
       closed = h.closed;
       modes = h.modes;
+      placeholders = h.placeholders;
       variants = h.variants;
       clauses = h.clauses;
       exprs = λ e i. judged g t e (slice_get g.body.exprs e.0) (h.clauses e i);
@@ -603,6 +630,8 @@ module _ (g : Given) (t : InferenceResult) (h : IsMade g t) where
       diagnostics = h.diagnostics;
       pat_diagnostics = h.pat_diagnostics;
       pat_truths = h.pat_truths;
+      seen = h.seen;
+      said = h.said;
     }
 
 -- in a body whose nodes are numbered in the order of the walk, each stands at one place

@@ -7,7 +7,7 @@ use Rattle.hir_facts.specs.declared.raw.RawArm.{RawArm}
 use Rattle.hir_facts.specs.declared.raw.RawExpr.{RawExpr}
 use Rattle.hir_facts.specs.declared.raw.RawExpr.TheVariants as expr
 use Rattle.infer_result.specs.declared.result.InferenceResult.{InferenceResult}
-use Rattle.infer_result.specs.Table.{HasMismatch, AnyMismatch, AnyDiagnostic}
+use Rattle.infer_result.specs.Table.{HasMismatch, AnyMismatch, AnyDiagnostic, WasSeen}
 use Rattle.infer_result.specs.Places.{Given}
 use Rattle.infer_result.specs.Rules.Branches.{branches_of, arm_exprs}
 
@@ -30,7 +30,8 @@ GuardsHaveMismatch t (a ∷ as_) = MaybeMismatch t a.guard ⊎ GuardsHaveMismatc
 -- A mismatch at a block or at a part of it excuses the block. One at the condition or a branch of an
 -- `if`, or at an `if` without `else` itself, excuses the `if`; one at a guard or an arm the `match`. At
 -- a literal, a path, a tuple or a call it excuses nothing, and at a part of a tuple or an argument that
--- part alone. A call is excused by a complaint about the number of its arguments.
+-- part alone. A call is excused by a complaint about the number of its arguments, and where what it calls was seen
+-- to be no function.
 abbrev pub ExcusedAs : InferenceResult → ExprId → Option RawExpr → Type 0
 ExcusedAs t n None = ⊥
 ExcusedAs t n (Some (expr.Lit l)) = ⊥
@@ -39,7 +40,7 @@ ExcusedAs t n (Some (expr.Tuple es)) = ⊥
 ExcusedAs t n (Some (expr.Block label stmts last)) = HasMismatch t n ⊎ (StmtsHaveMismatch t stmts ⊎ MaybeMismatch t last)
 ExcusedAs t n (Some (expr.If c first other)) = HasMismatch t c ⊎ AnyMismatch t (branches_of n first other)
 ExcusedAs t n (Some (expr.Match e arms)) = GuardsHaveMismatch t arms ⊎ AnyMismatch t (arm_exprs arms)
-ExcusedAs t n (Some (expr.Call f args)) = AnyDiagnostic t n
+ExcusedAs t n (Some (expr.Call f args)) = AnyDiagnostic t n ⊎ WasSeen t n
 ExcusedAs t n (Some expr.Other) = ⊥
 
 abbrev pub IsExcused : Given → InferenceResult → ExprId → Type 0

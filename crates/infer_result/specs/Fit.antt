@@ -4,8 +4,12 @@ use Rattle.hir_types.specs.declared.ids.DefWithBodyId.{DefWithBodyId}
 use Rattle.hir_facts.specs.declared.raw.RawFacts.{RawFacts}
 use Rattle.hir_facts.specs.Fit.{fits}
 use Rattle.infer_result.specs.declared.result.InferenceResult.{InferenceResult}
-use Rattle.infer_result.specs.Closed.{AllTypes}
+use Rattle.infer_result.specs.Closed.{AllTypes, AllSeen}
 
 -- each type of the table fits the facts
 abbrev pub TypesFit : RawFacts → DefWithBodyId → InferenceResult → Type 0
 TypesFit raw d t = AllTypes (λ s. IsTrue (fits raw d s)) t
+
+-- so does each that a failed look-up saw, in which holes fit
+abbrev pub SeenFit : RawFacts → DefWithBodyId → InferenceResult → Type 0
+SeenFit raw d t = AllSeen (λ s. IsTrue (fits raw d s)) t

@@ -4,6 +4,9 @@ pub mod Places
 pub mod Rules
 pub mod Excused
 pub mod Upward
+pub mod Unknown
+pub mod UnknownLayers
+pub mod Heads
 pub mod Truth
 pub mod Parts
 pub mod Fit

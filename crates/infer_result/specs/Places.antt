@@ -1,5 +1,5 @@
 -- What the place of a node asks of it.
-use Rattle.std.specs.Prelude.{ℕ, ◌<◌, ◌≡◌, ◌⊎◌, true, false, List, length, map, slice_get, Option, Some, None}
+use Rattle.std.specs.Prelude.{ℕ, ◌<◌, ◌≡◌, ◌⊎◌, true, false, List, length, map, slice_get, unwrap_or, Option, Some, None}
 use Rattle.hir_types.specs.declared.ids.ExprId.{ExprId}
 use Rattle.hir_types.specs.declared.ids.PatId.{PatId}
 use Rattle.hir_types.specs.declared.ids.TypeRefId.{TypeRefId}
@@ -9,19 +9,20 @@ use Rattle.hir_types.specs.declared.ids.ExprOrPatId.{ExprOrPatId}
 use Rattle.hir_types.specs.declared.ids.ExprOrPatId.TheVariants as node
 use Rattle.hir_types.specs.declared.ty.Ty.{Ty}
 use Rattle.hir_types.specs.declared.ty.Ty.TheVariants as ty
+use Rattle.hir_facts.specs.declared.raw.RawStmt.TheVariants as stmt
 use Rattle.hir_facts.specs.declared.raw.RawExpr.TheVariants as expr
 use Rattle.hir_facts.specs.declared.raw.RawPat.{RawPat}
 use Rattle.hir_facts.specs.declared.raw.RawPat.TheVariants as pat
 use Rattle.hir_facts.specs.declared.raw.RawBody.{RawBody}
 use Rattle.hir_facts.specs.declared.raw.RawVariant.{RawVariant}
 use Rattle.hir_types.specs.Types.{unit}
-use Rattle.hir_facts.specs.Types.{written_type}
+use Rattle.hir_facts.specs.Types.{written_type, filled_type, StandsIn}
 use Rattle.hir_facts.specs.Signatures.{Signature, signature_of, type_args, at_args, field_types, ctor_type}
 use Rattle.hir_facts.specs.Scope.{Scope, adt_params}
 use Rattle.hir_types.specs.Erasure.{Same}
-use Rattle.hir_facts.specs.Order.{Role, parameter, root, initializer, let_pattern, let_else, statement, tail, element, condition, then_branch, else_branch, scrutinee, arm_pattern, guard, arm, callee, argument, subpattern, pattern_literal, expr_part, Node, the_body, inner, IsNode, part_at}
+use Rattle.hir_facts.specs.Order.{Role, parameter, root, initializer, let_pattern, let_else, statement, tail, element, condition, then_branch, else_branch, scrutinee, arm_pattern, guard, arm, callee, argument, subpattern, pattern_literal, expr_part, Node, the_body, inner, IsNode, part_at, stmt_at}
 use Rattle.infer_result.specs.declared.result.InferenceResult.{InferenceResult}
-use Rattle.infer_result.specs.Table.{HasTy, PatTy, HasMismatch, HasPatMismatch}
+use Rattle.infer_result.specs.Table.{recorded, HasTy, PatTy, PlaceholderTy, HasMismatch, HasPatMismatch}
 
 -- a body among its facts: what its types may name, the written types of its parameters, and the type that it is typed
 -- against
@@ -35,6 +36,40 @@ pub record Given : Type 0 where
 pub record StandsAt (b : RawBody) (x : ExprOrPatId) (n : Node) (k : ℕ) (role : Role) : Type 0 where
   pub node_is : IsNode b n
   pub part : part_at b n k ≡ Some (record { node = x; role = role })
+
+-- ---- the types of `let`s
+
+-- what the `_` that is type k of the facts stands for
+abbrev pub hole_type : InferenceResult → ℕ → Ty
+hole_type t k = unwrap_or (recorded t.type_of_placeholder k) ty.Error
+
+-- what the written type of a `let` stands for
+abbrev pub declared : Given → InferenceResult → TypeRefId → Ty
+declared g t w = filled_type (hole_type t) g.scope.facts.types w
+
+-- of each `_` that stands in it the type is recorded
+abbrev pub AreRecorded : Given → InferenceResult → TypeRefId → Type 0
+AreRecorded g t w = (k : ℕ) → StandsIn g.scope.facts.types k w.0 → (s : Ty) × PlaceholderTy t k s
+
+-- they are, and s is what the written type stands for
+abbrev pub IsDeclared : Given → InferenceResult → TypeRefId → Ty → Type 0
+IsDeclared g t w s = AreRecorded g t w × (s ≡ declared g t w)
+
+-- type k of the facts is a `_` that stands in the type of a `let` of the body
+pub record IsPlaceholder (g : Given) (k : ℕ) : Type 0 where
+  pub block : ExprId
+  pub at_stmt : ℕ
+  pub pattern : PatId
+  pub written : TypeRefId
+  pub init : Option ExprId
+  pub other : Option ExprId
+  pub is_let : stmt_at g.body block at_stmt ≡ Some (stmt.Let pattern (Some written) init other)
+  pub stands : StandsIn g.scope.facts.types k written.0
+
+-- there is an entry for each written type, and a type at no other one
+pub record HasPlaceholders (g : Given) (t : InferenceResult) : Type 0 where
+  pub count : length t.type_of_placeholder ≡ length g.scope.facts.types
+  pub only : (k : ℕ) (s : Ty) → PlaceholderTy t k s → IsPlaceholder g k
 
 -- ---- constructors
 
@@ -119,7 +154,7 @@ abbrev pub Gives : Given → InferenceResult → Node → Role → Ty → Type 0
 Gives g t n (parameter i) s = IsInput g i s
 Gives g t n root s = ⊥
 Gives g t n (initializer w) s = ⊥
-Gives g t n (let_pattern (Some w) init) s = s ≡ written_type g.scope.facts.types w
+Gives g t n (let_pattern (Some w) init) s = IsDeclared g t w s
 Gives g t n (let_pattern None (Some e)) s = HasTy t e s
 Gives g t n (let_pattern None None) s = ⊥
 Gives g t n let_else s = ⊥
@@ -190,7 +225,7 @@ pub record IsInputAt (g : Given) (t : InferenceResult) (n : ExprId) (i : ℕ) (s
 abbrev pub AsksOf : Given → InferenceResult → ExprId → Role → Ty → Type 0
 AsksOf g t n (parameter i) s = ⊥
 AsksOf g t n root s = ⊥
-AsksOf g t n (initializer (Some w)) s = s ≡ written_type g.scope.facts.types w
+AsksOf g t n (initializer (Some w)) s = IsDeclared g t w s
 AsksOf g t n (initializer None) s = ⊥
 AsksOf g t n (let_pattern w init) s = ⊥
 AsksOf g t n let_else s = ⊥

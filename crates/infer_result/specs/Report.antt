@@ -234,19 +234,20 @@ unfoldable pub counts_text : ℕ → ℕ → List ℕ
 counts_text expected found = codes " expected=" ++ decimal expected ++ codes " found=" ++ decimal found
 
 -- another complaint: its name, its node, and what it says of it
-unfoldable pub diagnostic_text : InferenceDiagnostic → List ℕ
-diagnostic_text (diagnostic.MismatchedArgCount n expected found) =
+unfoldable pub diagnostic_text : RawFacts → InferenceDiagnostic → List ℕ
+diagnostic_text raw (diagnostic.MismatchedArgCount n expected found) =
     codes "MismatchedArgCount e" ++ decimal n.0 ++ counts_text expected found
-diagnostic_text (diagnostic.MismatchedTupleStructPatArgCount n expected found) =
+diagnostic_text raw (diagnostic.MismatchedTupleStructPatArgCount n expected found) =
     codes "MismatchedTupleStructPatArgCount " ++ node_text n ++ counts_text expected found
+diagnostic_text raw (diagnostic.ExpectedFunction n found) = codes "ExpectedFunction e" ++ decimal n.0 ++ type_field raw (codes " found=") found
 
-abbrev pub diagnostic_line : Option InferenceDiagnostic → List ℕ
-diagnostic_line None = []
-diagnostic_line (Some x) = line (diagnostic_text x)
+abbrev pub diagnostic_line : RawFacts → Option InferenceDiagnostic → List ℕ
+diagnostic_line raw None = []
+diagnostic_line raw (Some x) = line (diagnostic_text raw x)
 
 -- the complaints at an expression: its mismatch, then the other one
 abbrev pub expr_complaints : RawFacts → List (Option InferenceDiagnostic) → ℕ → Option TypeMismatch → List ℕ
-expr_complaints raw diagnostics i m = mismatch_line raw i m ++ diagnostic_line (recorded diagnostics i)
+expr_complaints raw diagnostics i m = mismatch_line raw i m ++ diagnostic_line raw (recorded diagnostics i)
 
 unfoldable pub pat_mismatch_head : ℕ → List ℕ
 pat_mismatch_head i = codes "TypeMismatch p" ++ decimal i
@@ -257,7 +258,7 @@ pat_mismatch_line raw i (Some m) = line (pat_mismatch_head i ++ mismatch_fields 
 
 -- the complaints at a pattern: its mismatch, then the other one
 abbrev pub pat_complaints : RawFacts → List (Option InferenceDiagnostic) → ℕ → Option TypeMismatch → List ℕ
-pat_complaints raw diagnostics i m = pat_mismatch_line raw i m ++ diagnostic_line (recorded diagnostics i)
+pat_complaints raw diagnostics i m = pat_mismatch_line raw i m ++ diagnostic_line raw (recorded diagnostics i)
 
 -- ---- the whole
 

@@ -10,6 +10,7 @@ use Rattle.hir_types.specs.declared.ids.ExprOrPatId.TheVariants as node
 use Rattle.hir_types.specs.declared.ty.Ty.{Ty}
 use Rattle.infer_result.specs.declared.result.InferenceResult.{InferenceResult}
 use Rattle.infer_result.specs.declared.result.TypeMismatch.{TypeMismatch}
+use Rattle.infer_result.specs.declared.result.Seen.{Seen}
 use Rattle.infer_result.specs.declared.diagnostics.InferenceDiagnostic.{InferenceDiagnostic}
 use Rattle.infer_result.specs.declared.modes.BindingMode.{BindingMode}
 
@@ -38,6 +39,10 @@ PatTy t p s = At t.type_of_pat p.0 s
 
 abbrev pub BindingTy : InferenceResult → BindingId → Ty → Type 0
 BindingTy t v s = At t.type_of_binding v.0 s
+
+-- the `_` that is type k of the facts stands for this type
+abbrev pub PlaceholderTy : InferenceResult → ℕ → Ty → Type 0
+PlaceholderTy t k s = At t.type_of_placeholder k s
 
 abbrev pub HasMode : InferenceResult → PatId → BindingMode → Type 0
 HasMode t p m = At t.binding_modes p.0 m
@@ -80,3 +85,10 @@ HasPatMismatch t p = (x : TypeMismatch) × At t.pat_mismatches p.0 x
 -- this complaint, other than a mismatch, is listed at the pattern
 abbrev pub HasPatDiagnostic : InferenceResult → PatId → InferenceDiagnostic → Type 0
 HasPatDiagnostic t p x = At t.pat_diagnostics p.0 x
+
+-- a look-up for this expression failed
+pub record WasSeen (t : InferenceResult) (e : ExprId) : Type 0 where
+  pub position : ℕ
+  pub entry : Seen
+  pub found : slice_get t.seen position ≡ Some entry
+  pub is_node : entry.node ≡ node.ExprId e

@@ -1,2 +1,3 @@
 pub mod Mismatch
+pub mod Seen
 pub mod Calls

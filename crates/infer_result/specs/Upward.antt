@@ -18,6 +18,7 @@ use Rattle.hir_facts.specs.declared.raw.RawPat.TheVariants as pat
 use Rattle.hir_facts.specs.declared.raw.RawBody.{RawBody}
 use Rattle.hir_facts.specs.declared.raw.RawVariant.{RawVariant}
 use Rattle.hir_facts.specs.Types.{written_type}
+use Rattle.hir_facts.specs.Laws.Standing.{HasNoHole}
 use Rattle.hir_facts.specs.Scope.{names_item, adt_params}
 use Rattle.hir_facts.specs.Signatures.{Signature, signature_of, at_args}
 use Rattle.hir_types.specs.Erasure.{Same}
@@ -63,10 +64,10 @@ pub record NamesUnit (g : Given) (e : ExprId) (x : RawVariant) : Type 0 where
   pub unit : x.ctor ≡ ctor.Unit
   pub non_generic : adt_params g.scope.facts x.adt ≡ Some 0
 
--- the type that an expression has by itself
+-- the type that an expression has by itself; a written type says it where no `_` stands in it
 pub data Up (g : Given) : ExprId → Ty → Type 0 where
   of_literal : (e : ExprId) (l : RawLiteral) (s : Ty) → slice_get g.body.exprs e.0 ≡ Some (expr.Lit l) → IsOwnType l s → Up g e s
-  of_written : (e : ExprId) (w : TypeRefId) (init : Option ExprId) → NamesLet g.body e (Some w) init → Up g e (written_type g.scope.facts.types w)
+  of_written : (e : ExprId) (w : TypeRefId) (init : Option ExprId) → NamesLet g.body e (Some w) init → HasNoHole g.scope.facts.types w → Up g e (written_type g.scope.facts.types w)
   of_initializer : (e i : ExprId) (s : Ty) → NamesLet g.body e None (Some i) → Up g i s → Up g e s
   of_parameter : (e : ExprId) (i : ℕ) (s : Ty) → NamesParameter g.body e i → IsInput g i s → Up g e s
   of_call : (e : ExprId) (σ : Signature) → CallsNonGeneric g e σ → Up g e (at_args [] σ.output)
@@ -81,11 +82,11 @@ pub record IsWrittenInput (g : Given) (n : Node) (i : ℕ) (s : Ty) : Type 0 whe
   pub calls : CallsNonGeneric g call signature
   pub is_input : slice_get (map (at_args []) signature.inputs) i ≡ Some s
 
--- the type that is written at the place of a part of the node in this role
+-- the type that is written at the place of a part of the node in this role, without a `_`
 abbrev pub States : Given → Node → Role → Ty → Type 0
 States g n role s =
     ((role ≡ root) × (s ≡ g.output))
-    ⊎ (((w : TypeRefId) × (role ≡ initializer (Some w)) × (s ≡ written_type g.scope.facts.types w)) ⊎ ((i : ℕ) × (role ≡ argument i) × IsWrittenInput g n i s))
+    ⊎ (((w : TypeRefId) × (role ≡ initializer (Some w)) × HasNoHole g.scope.facts.types w × (s ≡ written_type g.scope.facts.types w)) ⊎ ((i : ℕ) × (role ≡ argument i) × IsWrittenInput g n i s))
 
 pub record Stated (g : Given) (e : ExprId) (s : Ty) : Type 0 where
   pub parent : Node

@@ -1,9 +1,12 @@
 //! What is wrong with a node besides its type.
 
-use hir_facts::{ExprId, ExprOrPatId};
+ghost use Rattle.std.specs.Prelude.{◌≡◌, IfOk};
+
+use hir_facts::{ExprId, ExprOrPatId, Ty};
+use std::alloc::{AllocError, Global};
 
 /// A complaint at an expression or a pattern, other than a mismatch: `infer.rs`, `InferenceDiagnostic`.
-#[derive(Clone, Copy, Debug, PartialEq, Eq, Hash)]
+#[derive(Debug, Drop, PartialEq, Eq, Hash)]
 pub enum InferenceDiagnostic {
     /// The call has another number of arguments than its callee takes.
     MismatchedArgCount {
@@ -21,4 +24,45 @@ pub enum InferenceDiagnostic {
         /// How many parts the pattern has.
         found: usize,
     },
+    /// What is called is no function.
+    ExpectedFunction {
+        call_expr: ExprId,
+        /// The type of what is called.
+        found: Ty,
+    },
+}
+
+impl InferenceDiagnostic {
+    /// An equal copy, within the limits of `Ty::dup`.
+    pub fn dup(&self, alloc: Global) -> Result<InferenceDiagnostic, AllocError>
+        ensures { IfOk result (λ copy. copy ≡ self.now) }
+    {
+        match self {
+            InferenceDiagnostic::MismatchedArgCount {
+                call_expr,
+                expected,
+                found,
+            } => Ok(InferenceDiagnostic::MismatchedArgCount {
+                call_expr: *call_expr,
+                expected: *expected,
+                found: *found,
+            }),
+            InferenceDiagnostic::MismatchedTupleStructPatArgCount {
+                pat,
+                expected,
+                found,
+            } => Ok(InferenceDiagnostic::MismatchedTupleStructPatArgCount {
+                pat: *pat,
+                expected: *expected,
+                found: *found,
+            }),
+            InferenceDiagnostic::ExpectedFunction { call_expr, found } => {
+                let found = found.dup(alloc)?;
+                Ok(InferenceDiagnostic::ExpectedFunction {
+                    call_expr: *call_expr,
+                    found,
+                })
+            }
+        }
+    }
 }

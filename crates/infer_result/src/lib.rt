@@ -4,8 +4,10 @@
 mod diagnostics;
 mod modes;
 mod result;
+mod unknown;
 
 pub use diagnostics::InferenceDiagnostic;
 pub use hir_types::Mutability;
 pub use modes::BindingMode;
-pub use result::{InferenceResult, TypeMismatch};
+pub use result::{InferenceResult, Seen, TypeMismatch};
+pub use unknown::references_error;

@@ -4,7 +4,7 @@ ghost use Rattle.infer_result.specs.Table.{recorded, node_type, node_variant};
 
 use crate::diagnostics::InferenceDiagnostic;
 use crate::modes::BindingMode;
-use hir_facts::{BindingId, ExprId, ExprOrPatId, List, PatId, Ty, VariantId};
+use hir_facts::{BindingId, ExprId, ExprOrPatId, List, PatId, Ty, TypeRefId, VariantId};
 
 /// Two types that should be the same, at an expression or a pattern: `infer.rs`, `TypeMismatch`.
 #[derive(Debug, Drop, PartialEq, Eq, Hash)]
@@ -15,9 +15,21 @@ pub struct TypeMismatch {
     pub actual: Ty,
 }
 
-/// What inference found out about a body: `infer.rs`, `InferenceResult`. Each list has an entry for
-/// each node, or for each binding, of the body, in the order of their ids. Each reader answers `None`
-/// for an id that the body has not.
+/// A look-up that failed. Its types are as they were known when the failure was found, so they may have
+/// numbered holes.
+#[derive(Debug, Drop, PartialEq, Eq, Hash)]
+pub struct Seen {
+    /// The node that needs it: a call, where what is called is no function.
+    pub node: ExprOrPatId,
+    /// The type that was looked at: of what is called.
+    pub ty: Ty,
+    /// The type of an operator's right side, or of an index; `None` at a call.
+    pub other: Option<Ty>,
+}
+
+/// What inference found out about a body: `infer.rs`, `InferenceResult`. Each list but `seen` has an
+/// entry for each node, or for each binding, of the body, or for each written type of the facts, in the order of their ids.
+/// Each reader answers `None` for an id that there is not.
 #[derive(Debug, Drop, PartialEq, Eq)]
 pub struct InferenceResult {
     /// The type of each expression.
@@ -26,6 +38,9 @@ pub struct InferenceResult {
     pub type_of_pat: List<Option<Ty>>,
     /// The type of each binding.
     pub type_of_binding: List<Option<Ty>>,
+    /// What each `_` that stands in the type of a `let` stands for, by its number in the list of written
+    /// types; `None` at all other types.
+    pub type_of_placeholder: List<Option<Ty>>,
     /// The mode of each pattern that binds.
     pub binding_modes: List<Option<BindingMode>>,
     /// The mismatch at each expression, where there is one.
@@ -40,6 +55,8 @@ pub struct InferenceResult {
     pub expr_variants: List<Option<VariantId>>,
     /// The variant whose constructor each pattern names, where it is one.
     pub pat_variants: List<Option<VariantId>>,
+    /// The look-ups that failed, in the order in which they did.
+    pub seen: List<Seen>,
 }
 
 impl InferenceResult {
@@ -58,6 +75,13 @@ impl InferenceResult {
         ensures { option_copied result ≡ recorded self.now.type_of_binding binding.0 }
     {
         self.type_of_binding.get(binding.0 as usize)?.as_ref()
+    }
+
+    /// What a written `_` stands for; `None` at any other type.
+    pub fn type_of_type_placeholder(&self, ty: TypeRefId) -> Option<&Ty>
+        ensures { option_copied result ≡ recorded self.now.type_of_placeholder ty.0 }
+    {
+        self.type_of_placeholder.get(ty.0 as usize)?.as_ref()
     }
 
     /// The mode recorded for a pattern; `None` where it binds nothing.
@@ -117,5 +141,12 @@ impl InferenceResult {
             ExprOrPatId::ExprId(e) => self.variant_resolution_for_expr(e),
             ExprOrPatId::PatId(p) => self.variant_resolution_for_pat(p),
         }
+    }
+
+    /// The look-ups that failed, also those of which no complaint tells since `{unknown}` is in the type.
+    pub fn seen(&self) -> &[Seen]
+        ensures { result.now ≡ self.now.seen }
+    {
+        self.seen.as_slice()
     }
 }

@@ -28,8 +28,8 @@ use Rattle.infer_result.specs.Truth.Calls.{IsTrueDiagnostic, IsTruePatDiagnostic
 use Rattle.infer_result.specs.Made.{IsMisfit, IsMade}
 use Rattle.infer_result.specs.Typed.{IsTyped}
 use Rattle.infer_result.specs.Derived.{typed_by_schedule}
-use Rattle.infer_result.proofs.Samples.Small.{e, w, u8, one_u8, function_of, each_below, only, each_entry, closed_u8, u8_is_no_bool, u8_differs_bool}
-use Rattle.infer_result.proofs.Samples.Calling.{function, calling, schedule, is_schedule, item, closed_item, top_arg, obeyed, counted}
+use Rattle.infer_result.proofs.Samples.Small.{e, w, u8, one_u8, function_of, each_below, only, each_entry, each_found, closed_u8, u8_is_no_bool, u8_differs_bool, none_placed, no_placeholders, no_placeholder}
+use Rattle.infer_result.proofs.Samples.Calling.{function, calling, schedule, is_schedule, item, closed_item, top_arg, obeyed, unseen, counted}
 
 abbrev types : List RawType
 types = type.Param 0 ∷ []
@@ -54,6 +54,7 @@ table_of ts s mismatches diagnostics = record {
   type_of_expr = Some (item ts) ∷ Some u8 ∷ Some s ∷ Some u8 ∷ [];
   type_of_pat = [];
   type_of_binding = [];
+  type_of_placeholder = no_placeholders types;
   binding_modes = [];
   expr_mismatches = mismatches;
   expr_diagnostics = diagnostics;
@@ -61,6 +62,7 @@ table_of ts s mismatches diagnostics = record {
   pat_diagnostics = [];
   expr_variants = None ∷ None ∷ None ∷ None ∷ [];
   pat_variants = [];
+  seen = [];
 }
 
 abbrev no_mismatch : List (Option TypeMismatch)
@@ -73,7 +75,7 @@ abbrev right : InferenceResult
 right = table_of (u8 ∷ []) u8 no_mismatch no_diagnostic
 
 call_obeys : ObeysOrMismatch given right (e 2)
-call_obeys = (
+call_obeys = inl (
   fn_signature types id,
   u8 ∷ [],
   record { item = callable.FunctionId function; has = refl; signature = refl },
@@ -91,10 +93,12 @@ right_made = record {
     exprs = each_entry IsClosed right.type_of_expr (closed_callee, (closed_u8, (closed_u8, (closed_u8, tt))));
     pats = λ n s h. absurd (cc);
     bindings = λ n s h. absurd (cc);
+    placeholders = λ k s at. absurd (no_placeholder types k s at);
     expected = each_entry (λ x. IsClosed x.expected) right.expr_mismatches tt;
     actual = each_entry (λ x. IsClosed x.actual) right.expr_mismatches tt;
     pat_expected = each_entry (λ x. IsClosed x.expected) right.pat_mismatches tt;
     pat_actual = each_entry (λ x. IsClosed x.actual) right.pat_mismatches tt;
+    found = each_found IsClosed right.expr_diagnostics tt;
   };
   clauses = λ x h.
       each_below (λ k. ObeysOrMismatch given right (e k)) 4 x.0
@@ -106,12 +110,15 @@ right_made = record {
   misfits = λ x. each_entry (IsMisfit given right x) right.expr_mismatches tt x.0;
   demands = λ x. each_entry (λ m. Demand given right x m.expected) right.expr_mismatches tt x.0;
   modes = λ x m at. absurd (cc);
+  placeholders = none_placed given right refl;
   diagnostics = λ x. each_entry (IsTrueDiagnostic given right x) right.expr_diagnostics tt x.0;
   pat_diagnostics = λ x. each_entry (IsTruePatDiagnostic given x) right.pat_diagnostics tt x.0;
   variants = record {
     exprs = λ x. each_entry (NamesVariant given.body x) right.expr_variants tt x.0;
     pats = λ x. each_entry (IsVariantPat given.body x) right.pat_variants tt x.0;
   };
+  seen = λ i x found. absurd (cc);
+  said = λ i x found. absurd (cc);
   pat_truths = λ x. each_entry (IsTruePatMismatch given right x) right.pat_mismatches tt x.0;
 }
 
@@ -123,7 +130,7 @@ right_typed = typed_by_schedule given right schedule (is_schedule one_u8) right_
 -- the callee at another type than the argument has, of which no mismatch tells, whatever the type of the call
 pub callee_at_bool : (s : Ty) → IsTyped given (table_of (ty.Bool ∷ []) s no_mismatch no_diagnostic) → ⊥
 callee_at_bool s h =
-    elim (obeyed types id one_u8 u8 _ (ty.Bool ∷ []) refl (h.clauses (e 2) (omega arith))).0 [
+    elim (obeyed types id one_u8 u8 _ (ty.Bool ∷ []) refl (h.clauses (e 2) (omega arith)) (unseen _ (e 2) refl)).0 [
       | inr said ↦ (let clash = said in cc)
       | inl all ↦
           (let (a, has, same_or) = all.0 in
@@ -136,7 +143,7 @@ callee_at_bool s h =
 -- the call at another type than the output
 pub call_at_bool : IsTyped given (table_of (u8 ∷ []) ty.Bool (None ∷ None ∷ Some (mismatch u8 ty.Bool) ∷ None ∷ []) no_diagnostic) → ⊥
 call_at_bool h =
-    (let has = (obeyed types id one_u8 u8 _ (u8 ∷ []) refl (h.clauses (e 2) (omega arith))).1 in
+    (let has = (obeyed types id one_u8 u8 _ (u8 ∷ []) refl (h.clauses (e 2) (omega arith)) (unseen _ (e 2) refl)).1 in
     u8_is_no_bool (sym (only ty.Bool (at_args (u8 ∷ []) (written_type types (w 0))) has ∙ at_type u8)))
 
 -- a complaint about the number of arguments, which is right

@@ -1,5 +1,5 @@
 -- What the samples of calls share: a body `{ f(x) }` that calls the one function of the facts with a literal.
-use Rattle.std.proofs.Common.{ℕ, ◌+◌, ◌<◌, ◌≡◌, List, [], ◌∷◌, length, map, refl, sym, ap, subst, ◌∙◌, arith, Some, None, slice_get}
+use Rattle.std.proofs.Common.{ℕ, ◌+◌, ◌<◌, ◌≡◌, inl, inr, List, [], ◌∷◌, length, map, refl, sym, ap, subst, ◌∙◌, arith, Some, None, slice_get}
 use Rattle.hir_types.specs.declared.ids.ExprId.{ExprId}
 use Rattle.hir_types.specs.declared.ids.FunctionId.{FunctionId}
 use Rattle.hir_types.specs.declared.ids.ExprOrPatId.TheVariants as node
@@ -21,7 +21,7 @@ use Rattle.hir_facts.specs.Order.{argument, the_body, inner, IsSchedule, start, 
 use Rattle.hir_facts.specs.Types.{written_type}
 use Rattle.hir_facts.specs.Signatures.{Signature, fn_signature, signature_of, type_args, at_args}
 use Rattle.infer_result.specs.declared.result.InferenceResult.{InferenceResult}
-use Rattle.infer_result.specs.Table.{HasTy}
+use Rattle.infer_result.specs.Table.{HasTy, WasSeen}
 use Rattle.infer_result.specs.Places.{Given, IsCallee, IsOfBranch, Demand}
 use Rattle.infer_result.specs.Rules.Placing.{at_or_mismatch}
 use Rattle.infer_result.specs.Rules.Calls.{ArgsRule}
@@ -62,6 +62,10 @@ is_schedule l = record {
       (the_body ∷ inner (node.ExprId (e 3)) ∷ inner (node.ExprId (e 2)) ∷ inner (node.ExprId (e 0)) ∷ inner (node.ExprId (e 1)) ∷ [])
       (refl, ((((tt, refl), refl), refl), refl), tt);
 }
+
+-- nothing was seen
+pub unseen : (t : InferenceResult) (n : ExprId) → t.seen ≡ [] → WasSeen t n → ⊥
+unseen t n none m = (let found = m.found in cc)
 
 -- ---- the item that is called
 
@@ -105,8 +109,9 @@ module _ (types : List RawType) (f : RawFn) (l : RawLiteral) (o : Ty) (t : Infer
   Arguments ss = ArgsRule (at_or_mismatch Here t) (e 2) (e 1 ∷ []) ss
 
   -- the rule of the call, with the inputs and the output of the function
-  pub obeyed : ObeysOrMismatch Here t (e 2) → Arguments inputs × HasTy t (e 2) (at_args ts (written_type types f.output))
-  obeyed (σ, us, is, a, has) =
+  pub obeyed : ObeysOrMismatch Here t (e 2) → (WasSeen t (e 2) → ⊥) → Arguments inputs × HasTy t (e 2) (at_args ts (written_type types f.output))
+  obeyed (inr (m, k)) unseen = absurd (unseen m)
+  obeyed (inl (σ, us, is, a, has)) unseen =
       let (at, signature) = callee_is (e 0) us σ refl is in (
         subst (λ (x : Signature). Arguments (map (at_args ts) x.inputs)) signature (subst (λ vs. Arguments (map (at_args vs) σ.inputs)) at a),
         subst (λ (x : Signature). HasTy t (e 2) (at_args ts x.output)) signature (subst (λ vs. HasTy t (e 2) (at_args vs σ.output)) at has),

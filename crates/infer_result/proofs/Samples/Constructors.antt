@@ -39,7 +39,7 @@ use Rattle.hir_facts.specs.Order.{subpattern, the_body, inner, IsSchedule, start
 use Rattle.infer_result.specs.declared.result.InferenceResult.{InferenceResult}
 use Rattle.infer_result.specs.declared.result.TypeMismatch.{TypeMismatch}
 use Rattle.infer_result.specs.declared.modes.BindingMode.TheVariants as mode
-use Rattle.infer_result.specs.Table.{HasTy, BindingTy, mismatch}
+use Rattle.infer_result.specs.Table.{HasTy, BindingTy, WasSeen, mismatch}
 use Rattle.infer_result.specs.Places.{Given, IsVariantAt, IsCallee, Demand}
 use Rattle.infer_result.specs.Rules.Placing.{at_or_mismatch}
 use Rattle.infer_result.specs.Rules.Calls.{ArgsRule}
@@ -51,7 +51,8 @@ use Rattle.infer_result.specs.Closed.{IsBinder, NamesVariant, IsVariantPat}
 use Rattle.infer_result.specs.Made.{IsMisfit, IsMade}
 use Rattle.infer_result.specs.Typed.{IsTyped}
 use Rattle.infer_result.specs.Derived.{one_at, fn_def_parts, same_type_args, typed_by_schedule}
-use Rattle.infer_result.proofs.Samples.Small.{facts_with, e, p, b, w, u8, one_u8, plain, body_of, each_below, each_node, apart_by, only, each_entry, each_placed, closed_u8, u8_is_no_bool, u8_differs_bool}
+use Rattle.infer_result.proofs.Samples.Small.{facts_with, e, p, b, w, u8, one_u8, plain, body_of, each_below, each_node, apart_by, only, each_entry, each_found, each_placed, closed_u8, u8_is_no_bool, u8_differs_bool, none_placed, no_placeholders, no_placeholder}
+use Rattle.infer_result.proofs.Samples.Calling.{unseen}
 
 -- ---- adts
 
@@ -169,6 +170,7 @@ table_of callee call name whole x bound mismatches expr_variants pat_variants = 
   type_of_expr = Some callee ∷ Some u8 ∷ Some call ∷ Some name ∷ Some u8 ∷ Some u8 ∷ Some u8 ∷ [];
   type_of_pat = Some whole ∷ Some x ∷ Some whole ∷ [];
   type_of_binding = Some bound ∷ [];
+  type_of_placeholder = no_placeholders types;
   binding_modes = None ∷ Some mode.Move ∷ None ∷ [];
   expr_mismatches = mismatches;
   expr_diagnostics = None ∷ None ∷ None ∷ None ∷ None ∷ None ∷ None ∷ [];
@@ -176,6 +178,7 @@ table_of callee call name whole x bound mismatches expr_variants pat_variants = 
   pat_diagnostics = None ∷ None ∷ None ∷ [];
   expr_variants = expr_variants;
   pat_variants = pat_variants;
+  seen = [];
 }
 
 abbrev silent : List (Option TypeMismatch)
@@ -205,7 +208,7 @@ abbrev signature : Signature
 signature = record { params = 1; inputs = field_types types some; output = own_adt adt 1 }
 
 call_obeys : ObeysOrMismatch given right (e 2)
-call_obeys = (
+call_obeys = inl (
   signature,
   u8 ∷ [],
   record { item = callable.VariantId (v 1); has = refl; signature = refl },
@@ -234,10 +237,12 @@ right_made = record {
     exprs = each_entry IsClosed right.type_of_expr (closed_some, (closed_u8, (closed_maybe, (closed_u8, (closed_u8, (closed_u8, (closed_u8, tt)))))));
     pats = each_entry IsClosed right.type_of_pat (closed_maybe, (closed_u8, (closed_maybe, tt)));
     bindings = each_entry IsClosed right.type_of_binding (closed_u8, tt);
+    placeholders = λ k s at. absurd (no_placeholder types k s at);
     expected = each_entry (λ x. IsClosed x.expected) right.expr_mismatches tt;
     actual = each_entry (λ x. IsClosed x.actual) right.expr_mismatches tt;
     pat_expected = each_entry (λ x. IsClosed x.expected) right.pat_mismatches tt;
     pat_actual = each_entry (λ x. IsClosed x.actual) right.pat_mismatches tt;
+    found = each_found IsClosed right.expr_diagnostics tt;
   };
   clauses = λ x h.
       each_below (λ k. ObeysOrMismatch given right (e k)) 7 x.0 (
@@ -253,12 +258,15 @@ right_made = record {
   misfits = λ x. each_entry (IsMisfit given right x) right.expr_mismatches tt x.0;
   demands = λ x. each_entry (λ m. Demand given right x m.expected) right.expr_mismatches tt x.0;
   modes = λ x. each_placed (λ k m. IsBinder body (p k)) right.binding_modes ((b 0, None, refl), tt) x.0;
+  placeholders = none_placed given right refl;
   diagnostics = λ x. each_entry (IsTrueDiagnostic given right x) right.expr_diagnostics tt x.0;
   pat_diagnostics = λ x. each_entry (IsTruePatDiagnostic given x) right.pat_diagnostics tt x.0;
   variants = record {
     exprs = λ x. each_placed (λ k. NamesVariant given.body (e k)) right.expr_variants (refl, tt) x.0;
     pats = λ x. each_placed (λ k. IsVariantPat given.body (p k)) right.pat_variants (inr (p 1 ∷ [], refl), (inl refl, tt)) x.0;
   };
+  seen = λ i x found. absurd (cc);
+  said = λ i x found. absurd (cc);
   pat_truths = λ x. each_entry (IsTruePatMismatch given right x) right.pat_mismatches tt x.0;
 }
 
@@ -300,8 +308,9 @@ module _ (t : InferenceResult) (s : Ty) (stands : HasTy t (e 0) (some_at s)) whe
       (same_type_args us (s ∷ []) same.1, cc)
 
   -- the rule of the call, with the field as input and the adt as output
-  obeyed : ObeysOrMismatch given t (e 2) → ArgsRule (at_or_mismatch given t) (e 2) (e 1 ∷ []) (at_args (s ∷ []) (written_type types (w 0)) ∷ []) × HasTy t (e 2) (maybe s)
-  obeyed (σ, us, is, a, has) =
+  obeyed : ObeysOrMismatch given t (e 2) → (WasSeen t (e 2) → ⊥) → ArgsRule (at_or_mismatch given t) (e 2) (e 1 ∷ []) (at_args (s ∷ []) (written_type types (w 0)) ∷ []) × HasTy t (e 2) (maybe s)
+  obeyed (inr (m, k)) unseen = absurd (unseen m)
+  obeyed (inl (σ, us, is, a, has)) unseen =
       let (at, own) = callee_is σ us is in (
         subst (λ (x : Signature). ArgsRule (at_or_mismatch given t) (e 2) (e 1 ∷ []) (map (at_args (s ∷ [])) x.inputs)) own (subst (λ vs. ArgsRule (at_or_mismatch given t) (e 2) (e 1 ∷ []) (map (at_args vs) σ.inputs)) at a),
         subst (HasTy t (e 2)) (own_adt_at adt (s ∷ [])) (subst (λ (x : Signature). HasTy t (e 2) (at_args (s ∷ []) x.output)) own (subst (λ vs. HasTy t (e 2) (at_args vs σ.output)) at has)),
@@ -312,7 +321,7 @@ module _ (t : InferenceResult) (s : Ty) (stands : HasTy t (e 0) (some_at s)) whe
 pub callee_at_other : (s call name whole x bound : Ty) (first : Option TypeMismatch) (others : List (Option TypeMismatch)) → (Same u8 s → ⊥)
     → IsTyped given (table_of (some_at s) call name whole x bound (first ∷ None ∷ others) named named_pats) → ⊥
 callee_at_other s call name whole x bound first others differ h =
-    elim (obeyed (table_of (some_at s) call name whole x bound (first ∷ None ∷ others) named named_pats) s refl (h.clauses (e 2) (omega arith))).0 [
+    elim (obeyed (table_of (some_at s) call name whole x bound (first ∷ None ∷ others) named named_pats) s refl (h.clauses (e 2) (omega arith)) (unseen _ (e 2) refl)).0 [
       | inr said ↦ (let clash = said in cc)
       | inl all ↦
           (let (a, has, same_or) = all.0 in
@@ -330,7 +339,7 @@ callee_at_bool = callee_at_other ty.Bool (maybe ty.Bool) ty.Bool (maybe ty.Bool)
 pub call_at_other : (call name whole x bound : Ty) (mismatches : List (Option TypeMismatch)) → (call ≡ maybe u8 → ⊥)
     → IsTyped given (table_of (some_at u8) call name whole x bound mismatches named named_pats) → ⊥
 call_at_other call name whole x bound mismatches differ h =
-    differ (only call (maybe u8) (obeyed (table_of (some_at u8) call name whole x bound mismatches named named_pats) u8 refl (h.clauses (e 2) (omega arith))).1)
+    differ (only call (maybe u8) (obeyed (table_of (some_at u8) call name whole x bound mismatches named named_pats) u8 refl (h.clauses (e 2) (omega arith)) (unseen _ (e 2) refl)).1)
 
 -- ---- refused: variants
 

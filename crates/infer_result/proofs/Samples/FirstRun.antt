@@ -24,7 +24,7 @@ use Rattle.infer_result.specs.Closed.{IsBinder, NamesVariant, IsVariantPat}
 use Rattle.infer_result.specs.Made.{IsMisfit, IsMade}
 use Rattle.infer_result.specs.Typed.{IsTyped}
 use Rattle.infer_result.specs.Derived.{typed_by_schedule}
-use Rattle.infer_result.proofs.Samples.Small.{scope_with, e, p, b, u8, u16, one_u8, plain, body_of, each_below, each_node, apart_by, asked, only, each_entry, closed_u8, u8_is_no_u16, u8_is_no_error, u8_differs_u16, each_placed}
+use Rattle.infer_result.proofs.Samples.Small.{scope_with, e, p, b, u8, u16, one_u8, plain, body_of, each_below, each_node, apart_by, asked, only, each_entry, each_found, closed_u8, u8_is_no_u16, u8_is_no_error, u8_differs_u16, each_placed, none_placed}
 
 abbrev body : RawBody
 body =
@@ -54,6 +54,7 @@ table_of types mismatches = record {
   type_of_expr = types;
   type_of_pat = Some u8 ∷ [];
   type_of_binding = Some u8 ∷ [];
+  type_of_placeholder = [];
   binding_modes = Some mode.Move ∷ [];
   expr_mismatches = mismatches;
   expr_diagnostics = None ∷ None ∷ None ∷ [];
@@ -61,6 +62,7 @@ table_of types mismatches = record {
   pat_diagnostics = None ∷ [];
   expr_variants = None ∷ None ∷ None ∷ [];
   pat_variants = None ∷ [];
+  seen = [];
 }
 
 abbrev right : InferenceResult
@@ -73,10 +75,12 @@ right_made = record {
     exprs = each_entry IsClosed right.type_of_expr (closed_u8, (closed_u8, (closed_u8, tt)));
     pats = each_entry IsClosed right.type_of_pat (closed_u8, tt);
     bindings = each_entry IsClosed right.type_of_binding (closed_u8, tt);
+    placeholders = λ k s at. absurd (cc);
     expected = each_entry (λ x. IsClosed x.expected) right.expr_mismatches tt;
     actual = each_entry (λ x. IsClosed x.actual) right.expr_mismatches tt;
     pat_expected = each_entry (λ x. IsClosed x.expected) right.pat_mismatches tt;
     pat_actual = each_entry (λ x. IsClosed x.actual) right.pat_mismatches tt;
+    found = each_found IsClosed right.expr_diagnostics tt;
   };
   clauses = λ x h. each_below (λ k. ObeysOrMismatch given right (e k)) 3 x.0 (((tt, (u8, refl, refl)), (u8, refl, refl)), (((u8, refl, (u8, refl, inl refl)), tt), (u8, refl, (u8, refl, inl refl)))) h;
   kinds = λ x h. each_below (λ k. PatRule given right (p k) (slice_get body.pats k)) 1 x.0 (tt, (u8, refl, refl, refl)) h;
@@ -86,12 +90,15 @@ right_made = record {
   misfits = λ x. each_entry (IsMisfit given right x) right.expr_mismatches tt x.0;
   demands = λ x. each_entry (λ m. Demand given right x m.expected) right.expr_mismatches tt x.0;
   modes = λ x. each_placed (λ k m. IsBinder body (p k)) right.binding_modes ((b 0, None, refl), tt) x.0;
+  placeholders = none_placed given right refl;
   diagnostics = λ x. each_entry (IsTrueDiagnostic given right x) right.expr_diagnostics tt x.0;
   pat_diagnostics = λ x. each_entry (IsTruePatDiagnostic given x) right.pat_diagnostics tt x.0;
   variants = record {
     exprs = λ x. each_entry (NamesVariant given.body x) right.expr_variants tt x.0;
     pats = λ x. each_entry (IsVariantPat given.body x) right.pat_variants tt x.0;
   };
+  seen = λ i x found. absurd (cc);
+  said = λ i x found. absurd (cc);
   pat_truths = λ x. each_entry (IsTruePatMismatch given right x) right.pat_mismatches tt x.0;
 }
 

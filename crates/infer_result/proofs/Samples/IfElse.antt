@@ -28,7 +28,7 @@ use Rattle.infer_result.specs.Closed.{IsBinder, NamesVariant, IsVariantPat}
 use Rattle.infer_result.specs.Made.{IsMisfit, IsMade}
 use Rattle.infer_result.specs.Typed.{IsTyped}
 use Rattle.infer_result.specs.Derived.{typed_by_schedule}
-use Rattle.infer_result.proofs.Samples.Small.{scope_with, e, p, b, w, u8, u16, one_u8, plain, body_with, each_below, each_node, apart_by, asked, one_param, no_other, only, each_entry, nowhere, closed_u8, closed_bool, u8_is_no_u16, u8_is_no_bool, u8_differs_bool, each_placed}
+use Rattle.infer_result.proofs.Samples.Small.{scope_with, e, p, b, w, u8, u16, one_u8, plain, body_with, each_below, each_node, apart_by, asked, one_param, no_other, only, each_entry, each_found, nowhere, closed_u8, closed_bool, u8_is_no_u16, u8_is_no_bool, u8_differs_bool, each_placed, none_placed, no_placeholders, no_placeholder}
 
 -- the body with another condition, or another expression after `else`
 abbrev body_of : RawExpr → RawExpr → RawBody
@@ -78,6 +78,7 @@ table_of exprs mismatches = record {
   type_of_expr = exprs;
   type_of_pat = Some ty.Bool ∷ [];
   type_of_binding = Some ty.Bool ∷ [];
+  type_of_placeholder = no_placeholders types;
   binding_modes = Some mode.Move ∷ [];
   expr_mismatches = mismatches;
   expr_diagnostics = None ∷ None ∷ None ∷ None ∷ None ∷ [];
@@ -85,6 +86,7 @@ table_of exprs mismatches = record {
   pat_diagnostics = None ∷ [];
   expr_variants = None ∷ None ∷ None ∷ None ∷ None ∷ [];
   pat_variants = None ∷ [];
+  seen = [];
 }
 
 abbrev silent : List (Option TypeMismatch)
@@ -103,10 +105,12 @@ right_made = record {
     exprs = each_entry IsClosed right.type_of_expr (closed_bool, (closed_u8, (closed_u8, (closed_u8, (closed_u8, tt)))));
     pats = each_entry IsClosed right.type_of_pat (closed_bool, tt);
     bindings = each_entry IsClosed right.type_of_binding (closed_bool, tt);
+    placeholders = λ k s at. absurd (no_placeholder types k s at);
     expected = each_entry (λ x. IsClosed x.expected) right.expr_mismatches tt;
     actual = each_entry (λ x. IsClosed x.actual) right.expr_mismatches tt;
     pat_expected = each_entry (λ x. IsClosed x.expected) right.pat_mismatches tt;
     pat_actual = each_entry (λ x. IsClosed x.actual) right.pat_mismatches tt;
+    found = each_found IsClosed right.expr_diagnostics tt;
   };
   clauses = λ x h.
       each_below (λ k. ObeysOrMismatch given right (e k)) 5 x.0
@@ -118,12 +122,15 @@ right_made = record {
   misfits = λ x. each_entry (IsMisfit given right x) right.expr_mismatches tt x.0;
   demands = λ x. each_entry (λ m. Demand given right x m.expected) right.expr_mismatches tt x.0;
   modes = λ x. each_placed (λ k m. IsBinder body (p k)) right.binding_modes ((b 0, None, refl), tt) x.0;
+  placeholders = none_placed given right refl;
   diagnostics = λ x. each_entry (IsTrueDiagnostic given right x) right.expr_diagnostics tt x.0;
   pat_diagnostics = λ x. each_entry (IsTruePatDiagnostic given x) right.pat_diagnostics tt x.0;
   variants = record {
     exprs = λ x. each_entry (NamesVariant given.body x) right.expr_variants tt x.0;
     pats = λ x. each_entry (IsVariantPat given.body x) right.pat_variants tt x.0;
   };
+  seen = λ i x found. absurd (cc);
+  said = λ i x found. absurd (cc);
   pat_truths = λ x. each_entry (IsTruePatMismatch given right x) right.pat_mismatches tt x.0;
 }
 

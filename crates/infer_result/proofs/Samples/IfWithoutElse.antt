@@ -29,7 +29,7 @@ use Rattle.infer_result.specs.Closed.{IsBinder, NamesVariant, IsVariantPat}
 use Rattle.infer_result.specs.Made.{IsMisfit, IsMade}
 use Rattle.infer_result.specs.Typed.{IsTyped}
 use Rattle.infer_result.specs.Derived.{typed_by_schedule}
-use Rattle.infer_result.proofs.Samples.Small.{scope_with, e, p, b, w, u8, one_u8, plain, body_with, each_below, each_node, apart_by, asks_here, asked, one_param, no_other, only, each_entry, each_placed, nowhere, closed_u8, closed_bool, closed_unit, closed_error, u8_is_no_bool, u8_is_no_unit, bool_is_no_error, bool_is_no_unit, u8_differs_unit}
+use Rattle.infer_result.proofs.Samples.Small.{scope_with, e, p, b, w, u8, one_u8, plain, body_with, each_below, each_node, apart_by, asks_here, asked, one_param, no_other, only, each_entry, each_found, each_placed, nowhere, closed_u8, closed_bool, closed_unit, closed_error, u8_is_no_bool, u8_is_no_unit, bool_is_no_error, bool_is_no_unit, u8_differs_unit, none_placed, no_placeholders, no_placeholder}
 
 abbrev types : List RawType
 types = type.Bool ∷ []
@@ -70,6 +70,7 @@ table_of s mismatches = record {
   type_of_expr = Some ty.Bool ∷ Some u8 ∷ Some s ∷ Some unit ∷ [];
   type_of_pat = Some ty.Bool ∷ Some s ∷ [];
   type_of_binding = Some ty.Bool ∷ Some s ∷ [];
+  type_of_placeholder = no_placeholders types;
   binding_modes = Some mode.Move ∷ Some mode.Move ∷ [];
   expr_mismatches = mismatches;
   expr_diagnostics = None ∷ None ∷ None ∷ None ∷ [];
@@ -77,6 +78,7 @@ table_of s mismatches = record {
   pat_diagnostics = None ∷ None ∷ [];
   expr_variants = None ∷ None ∷ None ∷ None ∷ [];
   pat_variants = None ∷ None ∷ [];
+  seen = [];
 }
 
 abbrev right : Ty → InferenceResult
@@ -89,10 +91,12 @@ right_made s closed_s = record {
     exprs = each_entry IsClosed (right s).type_of_expr (closed_bool, (closed_u8, (closed_s, (closed_unit, tt))));
     pats = each_entry IsClosed (right s).type_of_pat (closed_bool, (closed_s, tt));
     bindings = each_entry IsClosed (right s).type_of_binding (closed_bool, (closed_s, tt));
+    placeholders = λ k s at. absurd (no_placeholder types k s at);
     expected = each_entry (λ x. IsClosed x.expected) (right s).expr_mismatches (closed_u8, tt);
     actual = each_entry (λ x. IsClosed x.actual) (right s).expr_mismatches (closed_unit, tt);
     pat_expected = each_entry (λ x. IsClosed x.expected) (right s).pat_mismatches tt;
     pat_actual = each_entry (λ x. IsClosed x.actual) (right s).pat_mismatches tt;
+    found = each_found IsClosed (right s).expr_diagnostics tt;
   };
   clauses = λ x h.
       each_below (λ k. ObeysOrMismatch given (right s) (e k)) 4 x.0
@@ -104,12 +108,15 @@ right_made s closed_s = record {
   misfits = λ x. each_placed (λ k. IsMisfit given (right s) (e k)) (right s).expr_mismatches (record { differ = u8_differs_unit; actual = inr (inr (record { condition = e 0; branch = e 1; is_if = refl }), refl) }, tt) x.0;
   demands = λ x. each_placed (λ k (m : TypeMismatch). Demand given (right s) (e k) m.expected) (right s).expr_mismatches (inr (record { condition = e 0; branch = e 1; is_if = refl; has = refl }), tt) x.0;
   modes = λ x. each_placed (λ k m. IsBinder body (p k)) (right s).binding_modes ((b 0, None, refl), ((b 1, None, refl), tt)) x.0;
+  placeholders = none_placed given (right s) refl;
   diagnostics = λ x. each_entry (IsTrueDiagnostic given (right s) x) (right s).expr_diagnostics tt x.0;
   pat_diagnostics = λ x. each_entry (IsTruePatDiagnostic given x) (right s).pat_diagnostics tt x.0;
   variants = record {
     exprs = λ x. each_entry (NamesVariant given.body x) (right s).expr_variants tt x.0;
     pats = λ x. each_entry (IsVariantPat given.body x) (right s).pat_variants tt x.0;
   };
+  seen = λ i x found. absurd (cc);
+  said = λ i x found. absurd (cc);
   pat_truths = λ x. each_entry (IsTruePatMismatch given (right s) x) (right s).pat_mismatches tt x.0;
 }
 

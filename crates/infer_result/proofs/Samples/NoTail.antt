@@ -24,7 +24,7 @@ use Rattle.infer_result.specs.Closed.{IsBinder, NamesVariant, IsVariantPat}
 use Rattle.infer_result.specs.Made.{IsMisfit, IsMade}
 use Rattle.infer_result.specs.Typed.{IsTyped}
 use Rattle.infer_result.specs.Derived.{typed_by_schedule}
-use Rattle.infer_result.proofs.Samples.Small.{scope_with, e, p, b, u8, one_u8, plain, body_of, each_below, each_node, apart_by, only, each_entry, each_placed, closed_u8, closed_unit, u8_differs_unit, u8_is_no_bool, bool_differs_unit}
+use Rattle.infer_result.proofs.Samples.Small.{scope_with, e, p, b, u8, one_u8, plain, body_of, each_below, each_node, apart_by, only, each_entry, each_found, each_placed, closed_u8, closed_unit, u8_differs_unit, u8_is_no_bool, bool_differs_unit, none_placed}
 
 abbrev body : RawBody
 body = body_of (expr.Lit one_u8 ∷ expr.Block None (stmt.Let (p 0) None (Some (e 0)) None ∷ []) None ∷ []) 1 (pat.Bind (b 0) None ∷ []) (plain ∷ [])
@@ -52,6 +52,7 @@ table_of types mismatches = record {
   type_of_expr = types;
   type_of_pat = Some u8 ∷ [];
   type_of_binding = Some u8 ∷ [];
+  type_of_placeholder = [];
   binding_modes = Some mode.Move ∷ [];
   expr_mismatches = mismatches;
   expr_diagnostics = None ∷ None ∷ [];
@@ -59,6 +60,7 @@ table_of types mismatches = record {
   pat_diagnostics = None ∷ [];
   expr_variants = None ∷ None ∷ [];
   pat_variants = None ∷ [];
+  seen = [];
 }
 
 abbrev right : InferenceResult
@@ -71,10 +73,12 @@ right_made = record {
     exprs = each_entry IsClosed right.type_of_expr (closed_u8, (closed_u8, tt));
     pats = each_entry IsClosed right.type_of_pat (closed_u8, tt);
     bindings = each_entry IsClosed right.type_of_binding (closed_u8, tt);
+    placeholders = λ k s at. absurd (cc);
     expected = each_entry (λ x. IsClosed x.expected) right.expr_mismatches (closed_u8, tt);
     actual = each_entry (λ x. IsClosed x.actual) right.expr_mismatches (closed_unit, tt);
     pat_expected = each_entry (λ x. IsClosed x.expected) right.pat_mismatches tt;
     pat_actual = each_entry (λ x. IsClosed x.actual) right.pat_mismatches tt;
+    found = each_found IsClosed right.expr_diagnostics tt;
   };
   clauses = λ x h. each_below (λ k. ObeysOrMismatch given right (e k)) 2 x.0 ((tt, (u8, refl, refl)), (((u8, refl, (u8, refl, inl refl)), tt), (u8, refl, inr refl))) h;
   kinds = λ x h. each_below (λ k. PatRule given right (p k) (slice_get body.pats k)) 1 x.0 (tt, (u8, refl, refl, refl)) h;
@@ -88,12 +92,15 @@ right_made = record {
       each_placed (λ k (m : TypeMismatch). Demand given right (e k) m.expected) right.expr_mismatches
       (inl (record { parent = the_body; at_part = 0; role = root; stands = record { node_is = tt; part = refl }; asks = (refl, refl) }), tt) x.0;
   modes = λ x. each_placed (λ k m. IsBinder body (p k)) right.binding_modes ((b 0, None, refl), tt) x.0;
+  placeholders = none_placed given right refl;
   diagnostics = λ x. each_entry (IsTrueDiagnostic given right x) right.expr_diagnostics tt x.0;
   pat_diagnostics = λ x. each_entry (IsTruePatDiagnostic given x) right.pat_diagnostics tt x.0;
   variants = record {
     exprs = λ x. each_entry (NamesVariant given.body x) right.expr_variants tt x.0;
     pats = λ x. each_entry (IsVariantPat given.body x) right.pat_variants tt x.0;
   };
+  seen = λ i x found. absurd (cc);
+  said = λ i x found. absurd (cc);
   pat_truths = λ x. each_entry (IsTruePatMismatch given right x) right.pat_mismatches tt x.0;
 }
 

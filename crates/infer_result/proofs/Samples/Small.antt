@@ -22,6 +22,7 @@ use Rattle.hir_facts.specs.declared.raw.RawBinding.{RawBinding}
 use Rattle.hir_facts.specs.declared.raw.BindingAnnotation.TheVariants as annotation
 use Rattle.hir_facts.specs.declared.raw.Edition.TheVariants as edition
 use Rattle.hir_facts.specs.declared.raw.RawType.{RawType}
+use Rattle.hir_facts.specs.declared.raw.RawType.TheVariants as type
 use Rattle.hir_facts.specs.declared.raw.RawParam.{RawParam}
 use Rattle.hir_facts.specs.declared.raw.RawAt.TheVariants as stands
 use Rattle.hir_facts.specs.declared.raw.RawVis.TheVariants as visible
@@ -33,12 +34,15 @@ use Rattle.hir_types.specs.Erasure.{IsClosed, Same}
 use Rattle.hir_types.specs.Layers.{has_hole_tuple, has_hole_bool, has_hole_error, has_hole_integer}
 use Rattle.hir_facts.specs.CarriedTypes.{carried_bool, carried_integer, carried_tuple, same_carried}
 use Rattle.hir_facts.specs.Types.{written_type}
+use Rattle.hir_facts.specs.Filled.{is_hole}
 use Rattle.hir_facts.specs.Scope.{Scope}
 use Rattle.hir_facts.specs.Order.{Role, Part, expr_part, Node, the_body, inner, IsNode, IsSchedule, start, parts, part_at}
 use Rattle.hir_facts.specs.Ways.{one_place}
 use Rattle.infer_result.specs.declared.result.InferenceResult.{InferenceResult}
+use Rattle.infer_result.specs.declared.diagnostics.InferenceDiagnostic.{InferenceDiagnostic}
+use Rattle.infer_result.specs.declared.diagnostics.InferenceDiagnostic.TheVariants as diagnostic
 use Rattle.infer_result.specs.Table.{At, HasTy, PatTy, AnyMismatch}
-use Rattle.infer_result.specs.Places.{Given, StandsAt, PatIsAtOrMismatch, IsInput, Gives, Incoming, IsBefore, IsOfOther, Asks, IsAsked, IsOfBranch, Demand}
+use Rattle.infer_result.specs.Places.{Given, AreRecorded, HasPlaceholders, StandsAt, PatIsAtOrMismatch, IsInput, Gives, Incoming, IsBefore, IsOfOther, Asks, IsAsked, IsOfBranch, Demand}
 
 abbrev pub e : ℕ → ExprId
 e n = record { 0 = n }
@@ -231,6 +235,15 @@ each_entry P (None ∷ xs) h (suc n) x at = each_entry P xs h n x at
 each_entry P (Some y ∷ xs) h zero x at = subst P (only y x at) h.0
 each_entry P (Some y ∷ xs) h (suc n) x at = each_entry P xs h.1 n x at
 
+-- the type that a complaint tells of, where it does, has a property
+abbrev pub FoundHas : (Ty → Type 0) → InferenceDiagnostic → Type 0
+FoundHas P (diagnostic.MismatchedArgCount n expected found) = Unit {0}
+FoundHas P (diagnostic.MismatchedTupleStructPatArgCount n expected found) = Unit {0}
+FoundHas P (diagnostic.ExpectedFunction n found) = P found
+
+pub each_found : (P : Ty → Type 0) (xs : List (Option InferenceDiagnostic)) → AllEntries (FoundHas P) xs → (n : ℕ) (c : ExprId) (s : Ty) → At xs n (diagnostic.ExpectedFunction c s) → P s
+each_found P xs h n c s at = each_entry (FoundHas P) xs h n (diagnostic.ExpectedFunction c s) at
+
 -- each entry that is there has a property at its position
 abbrev pub AllPlaced : {A : Type 0} → (ℕ → A → Type 0) → List (Option A) → Type 0
 AllPlaced P [] = Unit {0}
@@ -249,6 +262,46 @@ pub nowhere : (t : InferenceResult) → AllEntries (λ x. ⊥) t.expr_mismatches
 nowhere t h [] m = m
 nowhere t h (x ∷ xs) (inl m) = each_entry (λ y. ⊥) t.expr_mismatches h x.0 m.0 m.1
 nowhere t h (x ∷ xs) (inr m) = nowhere t h xs m
+
+-- ---- without `_`
+
+-- no written type has a type recorded
+abbrev pub no_placeholders : List RawType → List (Option Ty)
+no_placeholders [] = []
+no_placeholders (x ∷ types) = None ∷ no_placeholders types
+
+pub no_placeholder : (types : List RawType) (k : ℕ) (s : Ty) → At (no_placeholders types) k s → ⊥
+no_placeholder [] k s at = cc
+no_placeholder (x ∷ types) zero s at = cc
+no_placeholder (x ∷ types) (suc k) s at = no_placeholder types k s at
+
+entry_each : (types : List RawType) → length (no_placeholders types) ≡ length types
+entry_each [] = refl
+entry_each (x ∷ types) = ap (λ n. suc n) (entry_each types)
+
+pub none_placed : (g : Given) (t : InferenceResult) → t.type_of_placeholder ≡ no_placeholders g.scope.facts.types → HasPlaceholders g t
+none_placed g t is = record {
+  count = ap length is ∙ entry_each g.scope.facts.types;
+  only = λ k s at. absurd (no_placeholder g.scope.facts.types k s (subst (λ xs. At xs k s) is at));
+}
+
+abbrev IsNoHole : RawType → Type 0
+IsNoHole type.Hole = ⊥
+IsNoHole _ = Unit {0}
+
+-- none of these is a `_`
+abbrev pub AreNoHoles : List RawType → Type 0
+AreNoHoles [] = Unit {0}
+AreNoHoles (x ∷ types) = IsNoHole x × AreNoHoles types
+
+no_hole_at : (types : List RawType) → AreNoHoles types → (k : ℕ) → slice_get types k ≡ Some type.Hole → ⊥
+no_hole_at [] h k at = cc
+no_hole_at (x ∷ types) h zero at = (let is : x ≡ type.Hole = cc in subst IsNoHole is h.0)
+no_hole_at (x ∷ types) h (suc k) at = no_hole_at types h.1 k at
+
+-- so there is nothing to record
+pub none_recorded : (g : Given) (t : InferenceResult) → AreNoHoles g.scope.facts.types → (v : TypeRefId) → AreRecorded g t v
+none_recorded g t none v k stands = absurd (no_hole_at g.scope.facts.types none k (is_hole g.scope.facts.types k v.0 stands))
 
 -- ---- types
 

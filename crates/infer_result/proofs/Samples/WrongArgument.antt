@@ -29,8 +29,8 @@ use Rattle.infer_result.specs.Truth.Calls.{IsTrueDiagnostic, IsTruePatDiagnostic
 use Rattle.infer_result.specs.Made.{IsMisfit, IsMade}
 use Rattle.infer_result.specs.Typed.{IsTyped}
 use Rattle.infer_result.specs.Derived.{typed_by_schedule}
-use Rattle.infer_result.proofs.Samples.Small.{e, w, u8, function_of, each_below, only, each_entry, each_placed, closed_u8, closed_bool, closed_unit, u8_is_no_bool, u8_is_no_unit, u8_differs_bool}
-use Rattle.infer_result.proofs.Samples.Calling.{function, calling, schedule, is_schedule, item, closed_item, obeyed, asked_of_argument}
+use Rattle.infer_result.proofs.Samples.Small.{e, w, u8, function_of, each_below, only, each_entry, each_found, each_placed, closed_u8, closed_bool, closed_unit, u8_is_no_bool, u8_is_no_unit, u8_differs_bool, none_placed, no_placeholders, no_placeholder}
+use Rattle.infer_result.proofs.Samples.Calling.{function, calling, schedule, is_schedule, item, closed_item, obeyed, unseen, asked_of_argument}
 
 abbrev types : List RawType
 types = type.Integer (integer.Uint uint.U8) ∷ type.Tuple [] ∷ []
@@ -64,6 +64,7 @@ table_of s mismatches = record {
   type_of_expr = Some (item []) ∷ Some s ∷ Some unit ∷ Some unit ∷ [];
   type_of_pat = [];
   type_of_binding = [];
+  type_of_placeholder = no_placeholders types;
   binding_modes = [];
   expr_mismatches = mismatches;
   expr_diagnostics = None ∷ None ∷ None ∷ None ∷ [];
@@ -71,6 +72,7 @@ table_of s mismatches = record {
   pat_diagnostics = [];
   expr_variants = None ∷ None ∷ None ∷ None ∷ [];
   pat_variants = [];
+  seen = [];
 }
 
 abbrev right : InferenceResult
@@ -80,7 +82,7 @@ callee_stands : IsCallee given right (e 0) (fn_signature types take) []
 callee_stands = record { item = callable.FunctionId function; has = refl; signature = refl }
 
 call_obeys : ObeysOrMismatch given right (e 2)
-call_obeys = (
+call_obeys = inl (
   fn_signature types take,
   [],
   callee_stands,
@@ -113,10 +115,12 @@ right_made = record {
     exprs = each_entry IsClosed right.type_of_expr (closed_item [] refl, (closed_bool, (closed_unit, (closed_unit, tt))));
     pats = λ n s h. absurd (cc);
     bindings = λ n s h. absurd (cc);
+    placeholders = λ k s at. absurd (no_placeholder types k s at);
     expected = each_entry (λ x. IsClosed x.expected) right.expr_mismatches (closed_u8, tt);
     actual = each_entry (λ x. IsClosed x.actual) right.expr_mismatches (closed_bool, tt);
     pat_expected = each_entry (λ x. IsClosed x.expected) right.pat_mismatches tt;
     pat_actual = each_entry (λ x. IsClosed x.actual) right.pat_mismatches tt;
+    found = each_found IsClosed right.expr_diagnostics tt;
   };
   clauses = λ x h.
       each_below (λ k. ObeysOrMismatch given right (e k)) 4 x.0
@@ -128,12 +132,15 @@ right_made = record {
   misfits = λ x. each_placed (λ k. IsMisfit given right (e k)) right.expr_mismatches (record { differ = u8_differs_bool; actual = inl refl }, tt) x.0;
   demands = λ x. each_placed (λ k (m : TypeMismatch). Demand given right (e k) m.expected) right.expr_mismatches (demanded, tt) x.0;
   modes = λ x m at. absurd (cc);
+  placeholders = none_placed given right refl;
   diagnostics = λ x. each_entry (IsTrueDiagnostic given right x) right.expr_diagnostics tt x.0;
   pat_diagnostics = λ x. each_entry (IsTruePatDiagnostic given x) right.pat_diagnostics tt x.0;
   variants = record {
     exprs = λ x. each_entry (NamesVariant given.body x) right.expr_variants tt x.0;
     pats = λ x. each_entry (IsVariantPat given.body x) right.pat_variants tt x.0;
   };
+  seen = λ i x found. absurd (cc);
+  said = λ i x found. absurd (cc);
   pat_truths = λ x. each_entry (IsTruePatMismatch given right x) right.pat_mismatches tt x.0;
 }
 
@@ -145,7 +152,7 @@ right_typed = typed_by_schedule given right schedule (is_schedule the_argument) 
 -- no mismatch at the argument, whether one stands at the call or not
 silent : (call block : Option TypeMismatch) → IsTyped given (table_of ty.Bool (None ∷ None ∷ call ∷ block ∷ [])) → ⊥
 silent call block h =
-    elim (obeyed types take the_argument unit _ [] refl (h.clauses (e 2) (omega arith))).0 [
+    elim (obeyed types take the_argument unit _ [] refl (h.clauses (e 2) (omega arith)) (unseen _ (e 2) refl)).0 [
       | inr said ↦ (let clash = said in cc)
       | inl all ↦
           (let (a, has, same_or) = all.0 in

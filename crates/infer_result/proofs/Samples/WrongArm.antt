@@ -31,7 +31,7 @@ use Rattle.infer_result.specs.Closed.{IsBinder, NamesVariant, IsVariantPat}
 use Rattle.infer_result.specs.Made.{IsMisfit, IsMade}
 use Rattle.infer_result.specs.Typed.{IsTyped}
 use Rattle.infer_result.specs.Derived.{typed_by_schedule}
-use Rattle.infer_result.proofs.Samples.Small.{scope_with, e, p, b, w, u8, u16, one_u8, plain, body_with, each_below, each_node, apart_by, asked, comes, one_param, no_other, only, each_entry, each_placed, nowhere, closed_u8, closed_bool, closed_unit, closed_error, top_uint, top_error, u8_is_no_bool, bool_is_no_error, u8_is_no_u16, u8_differs_bool}
+use Rattle.infer_result.proofs.Samples.Small.{scope_with, e, p, b, w, u8, u16, one_u8, plain, body_with, each_below, each_node, apart_by, asked, comes, one_param, no_other, only, each_entry, each_found, each_placed, nowhere, closed_u8, closed_bool, closed_unit, closed_error, top_uint, top_error, u8_is_no_bool, bool_is_no_error, u8_is_no_u16, u8_differs_bool, none_placed, no_placeholders, no_placeholder}
 
 abbrev body : RawBody
 body =
@@ -85,6 +85,7 @@ table_of s mismatches = record {
   type_of_expr = Some ty.Bool ∷ Some ty.Bool ∷ Some ty.Bool ∷ Some u8 ∷ Some ty.Bool ∷ Some s ∷ Some unit ∷ [];
   type_of_pat = Some ty.Bool ∷ Some ty.Bool ∷ Some ty.Bool ∷ [];
   type_of_binding = Some ty.Bool ∷ [];
+  type_of_placeholder = no_placeholders types;
   binding_modes = Some mode.Move ∷ None ∷ None ∷ [];
   expr_mismatches = mismatches;
   expr_diagnostics = None ∷ None ∷ None ∷ None ∷ None ∷ None ∷ None ∷ [];
@@ -92,6 +93,7 @@ table_of s mismatches = record {
   pat_diagnostics = None ∷ None ∷ None ∷ [];
   expr_variants = None ∷ None ∷ None ∷ None ∷ None ∷ None ∷ None ∷ [];
   pat_variants = None ∷ None ∷ None ∷ [];
+  seen = [];
 }
 
 -- a mismatch at the second arm alone
@@ -117,10 +119,12 @@ right_made s closed_s = record {
     exprs = each_entry IsClosed (right s).type_of_expr (closed_bool, (closed_bool, (closed_bool, (closed_u8, (closed_bool, (closed_s, (closed_unit, tt)))))));
     pats = each_entry IsClosed (right s).type_of_pat (closed_bool, (closed_bool, (closed_bool, tt)));
     bindings = each_entry IsClosed (right s).type_of_binding (closed_bool, tt);
+    placeholders = λ k s at. absurd (no_placeholder types k s at);
     expected = each_entry (λ x. IsClosed x.expected) (right s).expr_mismatches (closed_u8, tt);
     actual = each_entry (λ x. IsClosed x.actual) (right s).expr_mismatches (closed_bool, tt);
     pat_expected = each_entry (λ x. IsClosed x.expected) (right s).pat_mismatches tt;
     pat_actual = each_entry (λ x. IsClosed x.actual) (right s).pat_mismatches tt;
+    found = each_found IsClosed (right s).expr_diagnostics tt;
   };
   clauses = λ x h.
       each_below (λ k. ObeysOrMismatch given (right s) (e k)) 7 x.0
@@ -134,12 +138,15 @@ right_made s closed_s = record {
       each_placed (λ k (m : TypeMismatch). Demand given (right s) (e k) m.expected) (right s).expr_mismatches
       (inl (record { parent = inner (node.ExprId (e 5)); at_part = 4; role = arm 1; stands = record { node_is = omega arith; part = refl }; asks = inr (of_first s) }), tt) x.0;
   modes = λ x. each_placed (λ k m. IsBinder body (p k)) (right s).binding_modes ((b 0, None, refl), tt) x.0;
+  placeholders = none_placed given (right s) refl;
   diagnostics = λ x. each_entry (IsTrueDiagnostic given (right s) x) (right s).expr_diagnostics tt x.0;
   pat_diagnostics = λ x. each_entry (IsTruePatDiagnostic given x) (right s).pat_diagnostics tt x.0;
   variants = record {
     exprs = λ x. each_entry (NamesVariant given.body x) (right s).expr_variants tt x.0;
     pats = λ x. each_entry (IsVariantPat given.body x) (right s).pat_variants tt x.0;
   };
+  seen = λ i x found. absurd (cc);
+  said = λ i x found. absurd (cc);
   pat_truths = λ x. each_entry (IsTruePatMismatch given (right s) x) (right s).pat_mismatches tt x.0;
 }
 

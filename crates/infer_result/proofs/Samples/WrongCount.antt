@@ -25,8 +25,8 @@ use Rattle.infer_result.specs.Truth.Calls.{IsTrueDiagnostic, IsTruePatDiagnostic
 use Rattle.infer_result.specs.Made.{IsMisfit, IsMade}
 use Rattle.infer_result.specs.Typed.{IsTyped}
 use Rattle.infer_result.specs.Derived.{typed_by_schedule}
-use Rattle.infer_result.proofs.Samples.Small.{e, w, u8, one_u8, function_of, each_below, each_entry, each_placed, closed_u8, closed_unit}
-use Rattle.infer_result.proofs.Samples.Calling.{function, calling, schedule, is_schedule, item, closed_item, obeyed, counted, asked_of_argument}
+use Rattle.infer_result.proofs.Samples.Small.{e, w, u8, one_u8, function_of, each_below, each_entry, each_found, each_placed, closed_u8, closed_unit, none_placed, no_placeholders, no_placeholder}
+use Rattle.infer_result.proofs.Samples.Calling.{function, calling, schedule, is_schedule, item, closed_item, obeyed, unseen, counted, asked_of_argument}
 
 abbrev types : List RawType
 types = type.Tuple [] ∷ []
@@ -50,6 +50,7 @@ table_of at_argument at_call = record {
   type_of_expr = Some (item []) ∷ Some u8 ∷ Some unit ∷ Some unit ∷ [];
   type_of_pat = [];
   type_of_binding = [];
+  type_of_placeholder = no_placeholders types;
   binding_modes = [];
   expr_mismatches = None ∷ at_argument ∷ None ∷ None ∷ [];
   expr_diagnostics = None ∷ None ∷ at_call ∷ None ∷ [];
@@ -57,6 +58,7 @@ table_of at_argument at_call = record {
   pat_diagnostics = [];
   expr_variants = None ∷ None ∷ None ∷ None ∷ [];
   pat_variants = [];
+  seen = [];
 }
 
 abbrev right : InferenceResult
@@ -66,7 +68,7 @@ callee_stands : IsCallee given right (e 0) (fn_signature types none) []
 callee_stands = record { item = callable.FunctionId function; has = refl; signature = refl }
 
 call_obeys : ObeysOrMismatch given right (e 2)
-call_obeys = (fn_signature types none, [], callee_stands, inr refl, subst (HasTy right (e 2)) (sym output_is) refl)
+call_obeys = inl (fn_signature types none, [], callee_stands, inr refl, subst (HasTy right (e 2)) (sym output_is) refl)
 
 true_count : IsTrueDiagnostic given right (e 2) (wrong_count 0 1)
 true_count = (
@@ -91,10 +93,12 @@ right_made = record {
     exprs = each_entry IsClosed right.type_of_expr (closed_item [] refl, (closed_u8, (closed_unit, (closed_unit, tt))));
     pats = λ n s h. absurd (cc);
     bindings = λ n s h. absurd (cc);
+    placeholders = λ k s at. absurd (no_placeholder types k s at);
     expected = each_entry (λ x. IsClosed x.expected) right.expr_mismatches tt;
     actual = each_entry (λ x. IsClosed x.actual) right.expr_mismatches tt;
     pat_expected = each_entry (λ x. IsClosed x.expected) right.pat_mismatches tt;
     pat_actual = each_entry (λ x. IsClosed x.actual) right.pat_mismatches tt;
+    found = each_found IsClosed right.expr_diagnostics (tt, tt);
   };
   clauses = λ x h.
       each_below (λ k. ObeysOrMismatch given right (e k)) 4 x.0
@@ -106,12 +110,15 @@ right_made = record {
   misfits = λ x. each_entry (IsMisfit given right x) right.expr_mismatches tt x.0;
   demands = λ x. each_entry (λ m. Demand given right x m.expected) right.expr_mismatches tt x.0;
   modes = λ x m at. absurd (cc);
+  placeholders = none_placed given right refl;
   diagnostics = λ x. each_placed (λ k. IsTrueDiagnostic given right (e k)) right.expr_diagnostics (true_count, tt) x.0;
   pat_diagnostics = λ x. each_entry (IsTruePatDiagnostic given x) right.pat_diagnostics tt x.0;
   variants = record {
     exprs = λ x. each_entry (NamesVariant given.body x) right.expr_variants tt x.0;
     pats = λ x. each_entry (IsVariantPat given.body x) right.pat_variants tt x.0;
   };
+  seen = λ i x found. absurd (cc);
+  said = λ i x found. absurd (cc);
   pat_truths = λ x. each_entry (IsTruePatMismatch given right x) right.pat_mismatches tt x.0;
 }
 
@@ -123,7 +130,7 @@ right_typed = typed_by_schedule given right schedule (is_schedule one_u8) right_
 -- no complaint
 pub silent : IsTyped given (table_of None None) → ⊥
 silent h =
-    elim (obeyed types none one_u8 unit _ [] refl (h.clauses (e 2) (omega arith))).0 [
+    elim (obeyed types none one_u8 unit _ [] refl (h.clauses (e 2) (omega arith)) (unseen _ (e 2) refl)).0 [
       | inl all ↦ absurd all
       | inr said ↦ (let clash = said in cc)
     ]

@@ -21,7 +21,7 @@ use Rattle.infer_result.specs.Truth.Calls.{IsTrueDiagnostic, IsTruePatDiagnostic
 use Rattle.infer_result.specs.Made.{IsMisfit, IsMade}
 use Rattle.infer_result.specs.Typed.{IsTyped}
 use Rattle.infer_result.specs.Derived.{tuple_parts, typed_by_schedule}
-use Rattle.infer_result.proofs.Samples.Small.{scope_with, e, u8, one_u8, body_of, each_below, each_node, apart_by, asked, only, each_entry, each_placed, closed_u8, closed_bool, u8_is_no_bool, u8_differs_bool}
+use Rattle.infer_result.proofs.Samples.Small.{scope_with, e, u8, one_u8, body_of, each_below, each_node, apart_by, asked, only, each_entry, each_found, each_placed, closed_u8, closed_bool, u8_is_no_bool, u8_differs_bool, none_placed}
 
 abbrev pair : Ty
 pair = ty.Tuple (u8 ∷ ty.Bool ∷ [])
@@ -52,6 +52,7 @@ table_of mismatches = record {
   type_of_expr = Some u8 ∷ Some u8 ∷ Some pair ∷ Some pair ∷ [];
   type_of_pat = [];
   type_of_binding = [];
+  type_of_placeholder = [];
   binding_modes = [];
   expr_mismatches = mismatches;
   expr_diagnostics = None ∷ None ∷ None ∷ None ∷ [];
@@ -59,6 +60,7 @@ table_of mismatches = record {
   pat_diagnostics = [];
   expr_variants = None ∷ None ∷ None ∷ None ∷ [];
   pat_variants = [];
+  seen = [];
 }
 
 abbrev right : InferenceResult
@@ -74,10 +76,12 @@ right_made = record {
     exprs = each_entry IsClosed right.type_of_expr (closed_u8, (closed_u8, (closed_pair, (closed_pair, tt))));
     pats = λ n s h. absurd (cc);
     bindings = λ n s h. absurd (cc);
+    placeholders = λ k s at. absurd (cc);
     expected = each_entry (λ x. IsClosed x.expected) right.expr_mismatches (closed_bool, tt);
     actual = each_entry (λ x. IsClosed x.actual) right.expr_mismatches (closed_u8, tt);
     pat_expected = each_entry (λ x. IsClosed x.expected) right.pat_mismatches tt;
     pat_actual = each_entry (λ x. IsClosed x.actual) right.pat_mismatches tt;
+    found = each_found IsClosed right.expr_diagnostics tt;
   };
   clauses = λ x h.
       each_below (λ k. ObeysOrMismatch given right (e k)) 4 x.0
@@ -91,12 +95,15 @@ right_made = record {
       each_placed (λ k (m : TypeMismatch). Demand given right (e k) m.expected) right.expr_mismatches
       (inl (record { parent = inner (node.ExprId (e 2)); at_part = 1; role = element 1; stands = record { node_is = omega arith; part = refl }; asks = (u8 ∷ ty.Bool ∷ [], refl, refl) }), tt) x.0;
   modes = λ x m at. absurd (cc);
+  placeholders = none_placed given right refl;
   diagnostics = λ x. each_entry (IsTrueDiagnostic given right x) right.expr_diagnostics tt x.0;
   pat_diagnostics = λ x. each_entry (IsTruePatDiagnostic given x) right.pat_diagnostics tt x.0;
   variants = record {
     exprs = λ x. each_entry (NamesVariant given.body x) right.expr_variants tt x.0;
     pats = λ x. each_entry (IsVariantPat given.body x) right.pat_variants tt x.0;
   };
+  seen = λ i x found. absurd (cc);
+  said = λ i x found. absurd (cc);
   pat_truths = λ x. each_entry (IsTruePatMismatch given right x) right.pat_mismatches tt x.0;
 }
 

@@ -41,7 +41,7 @@ use Rattle.infer_result.specs.Closed.{IsBinder, NamesVariant, IsVariantPat}
 use Rattle.infer_result.specs.Made.{IsMisfit, IsMade}
 use Rattle.infer_result.specs.Typed.{IsTyped}
 use Rattle.infer_result.specs.Derived.{typed_by_schedule}
-use Rattle.infer_result.proofs.Samples.Small.{e, p, b, w, u8, plain, body_with, each_below, each_node, apart_by, one_param, only, each_entry, each_placed, closed_u8, closed_unit}
+use Rattle.infer_result.proofs.Samples.Small.{e, p, b, w, u8, plain, body_with, each_below, each_node, apart_by, one_param, only, each_entry, each_found, each_placed, closed_u8, closed_unit, none_placed, no_placeholders, no_placeholder}
 use Rattle.infer_result.proofs.Samples.Constructors.{v, adt, adt_of, variant_of, scope_of_adt}
 
 abbrev body : RawBody
@@ -104,6 +104,7 @@ table_of x at_o at_pattern at_x = record {
   type_of_expr = Some pair ∷ Some unit ∷ [];
   type_of_pat = Some pair ∷ Some pair ∷ Some x ∷ [];
   type_of_binding = Some pair ∷ Some x ∷ [];
+  type_of_placeholder = no_placeholders types;
   binding_modes = Some mode.Move ∷ None ∷ Some mode.Move ∷ [];
   expr_mismatches = None ∷ None ∷ [];
   expr_diagnostics = None ∷ None ∷ [];
@@ -111,6 +112,7 @@ table_of x at_o at_pattern at_x = record {
   pat_diagnostics = at_o ∷ at_pattern ∷ at_x ∷ [];
   expr_variants = None ∷ None ∷ [];
   pat_variants = None ∷ Some (v 0) ∷ None ∷ [];
+  seen = [];
 }
 
 abbrev the_complaint : InferenceDiagnostic
@@ -146,10 +148,12 @@ right_made = record {
     exprs = each_entry IsClosed right.type_of_expr (closed_pair, (closed_unit, tt));
     pats = each_entry IsClosed right.type_of_pat (closed_pair, (closed_pair, (closed_u8, tt)));
     bindings = each_entry IsClosed right.type_of_binding (closed_pair, (closed_u8, tt));
+    placeholders = λ k s at. absurd (no_placeholder types k s at);
     expected = each_entry (λ x. IsClosed x.expected) right.expr_mismatches tt;
     actual = each_entry (λ x. IsClosed x.actual) right.expr_mismatches tt;
     pat_expected = each_entry (λ x. IsClosed x.expected) right.pat_mismatches tt;
     pat_actual = each_entry (λ x. IsClosed x.actual) right.pat_mismatches tt;
+    found = each_found IsClosed right.expr_diagnostics tt;
   };
   clauses = λ x h.
       each_below (λ k. ObeysOrMismatch given right (e k)) 2 x.0
@@ -163,12 +167,15 @@ right_made = record {
   misfits = λ x. each_entry (IsMisfit given right x) right.expr_mismatches tt x.0;
   demands = λ x. each_entry (λ m. Demand given right x m.expected) right.expr_mismatches tt x.0;
   modes = λ x. each_placed (λ k m. IsBinder body (p k)) right.binding_modes ((b 0, None, refl), ((b 1, None, refl), tt)) x.0;
+  placeholders = none_placed given right refl;
   diagnostics = λ x. each_entry (IsTrueDiagnostic given right x) right.expr_diagnostics tt x.0;
   pat_diagnostics = λ x. each_placed (λ k. IsTruePatDiagnostic given (p k)) right.pat_diagnostics (complaint_is_true, tt) x.0;
   variants = record {
     exprs = λ x. each_entry (NamesVariant given.body x) right.expr_variants tt x.0;
     pats = λ x. each_placed (λ k. IsVariantPat given.body (p k)) right.pat_variants (inr (p 2 ∷ [], refl), tt) x.0;
   };
+  seen = λ i x found. absurd (cc);
+  said = λ i x found. absurd (cc);
   pat_truths = λ x. each_entry (IsTruePatMismatch given right x) right.pat_mismatches tt x.0;
 }
 
@@ -211,6 +218,10 @@ exchanged = other_count (node.PatId (p 1)) 1 2 (λ same. (let one = same.1 in ab
 -- a complaint about arguments of a call
 pub of_call : (n : ExprId) (expected found : ℕ) → IsTyped given (table_of u8 None (Some (diagnostic.MismatchedArgCount n expected found)) None) → ⊥
 of_call n expected found h = h.pat_diagnostics (p 1) (diagnostic.MismatchedArgCount n expected found) refl
+
+-- that what is called is no function
+pub of_callee : (n : ExprId) (s : Ty) → IsTyped given (table_of u8 None (Some (diagnostic.ExpectedFunction n s)) None) → ⊥
+of_callee n s h = h.pat_diagnostics (p 1) (diagnostic.ExpectedFunction n s) refl
 
 -- one more at the parameter `o`, or at the part `x`
 pub at_parameter : (n : ExprOrPatId) (expected found : ℕ) → IsTyped given (table_of u8 (Some (wrong_count n expected found)) (Some the_complaint) None) → ⊥

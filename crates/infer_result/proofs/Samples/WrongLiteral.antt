@@ -30,7 +30,7 @@ use Rattle.infer_result.specs.Closed.{IsBinder, NamesVariant, IsVariantPat}
 use Rattle.infer_result.specs.Made.{IsMisfit, IsMade}
 use Rattle.infer_result.specs.Typed.{IsTyped}
 use Rattle.infer_result.specs.Derived.{typed_by_schedule}
-use Rattle.infer_result.proofs.Samples.Small.{scope_with, e, p, b, w, u8, one_u8, plain, body_with, each_below, each_node, apart_by, asked, comes, one_param, only, each_entry, each_placed, closed_u8, closed_bool, closed_unit, u8_is_no_bool, bool_is_no_unit, u8_differs_bool}
+use Rattle.infer_result.proofs.Samples.Small.{scope_with, e, p, b, w, u8, one_u8, plain, body_with, each_below, each_node, apart_by, asked, comes, one_param, only, each_entry, each_found, each_placed, closed_u8, closed_bool, closed_unit, u8_is_no_bool, bool_is_no_unit, u8_differs_bool, none_placed, no_placeholders, no_placeholder}
 
 abbrev body : RawBody
 body =
@@ -84,6 +84,7 @@ table_of literal_ guard_ pattern_ = record {
   type_of_expr = Some ty.Bool ∷ Some u8 ∷ Some u8 ∷ Some unit ∷ Some unit ∷ Some unit ∷ Some unit ∷ [];
   type_of_pat = Some ty.Bool ∷ Some u8 ∷ Some ty.Bool ∷ [];
   type_of_binding = Some ty.Bool ∷ [];
+  type_of_placeholder = no_placeholders types;
   binding_modes = Some mode.Move ∷ None ∷ None ∷ [];
   expr_mismatches = None ∷ literal_ ∷ guard_ ∷ None ∷ None ∷ None ∷ None ∷ [];
   expr_diagnostics = None ∷ None ∷ None ∷ None ∷ None ∷ None ∷ None ∷ [];
@@ -91,6 +92,7 @@ table_of literal_ guard_ pattern_ = record {
   pat_diagnostics = None ∷ None ∷ None ∷ [];
   expr_variants = None ∷ None ∷ None ∷ None ∷ None ∷ None ∷ None ∷ [];
   pat_variants = None ∷ None ∷ None ∷ [];
+  seen = [];
 }
 
 -- a `bool` is asked for
@@ -120,10 +122,12 @@ right_made = record {
     exprs = each_entry IsClosed right.type_of_expr (closed_bool, (closed_u8, (closed_u8, (closed_unit, (closed_unit, (closed_unit, (closed_unit, tt)))))));
     pats = each_entry IsClosed right.type_of_pat (closed_bool, (closed_u8, (closed_bool, tt)));
     bindings = each_entry IsClosed right.type_of_binding (closed_bool, tt);
+    placeholders = λ k s at. absurd (no_placeholder types k s at);
     expected = each_entry (λ x. IsClosed x.expected) right.expr_mismatches (closed_bool, (closed_bool, tt));
     actual = each_entry (λ x. IsClosed x.actual) right.expr_mismatches (closed_u8, (closed_u8, tt));
     pat_expected = each_entry (λ x. IsClosed x.expected) right.pat_mismatches tt;
     pat_actual = each_entry (λ x. IsClosed x.actual) right.pat_mismatches tt;
+    found = each_found IsClosed right.expr_diagnostics tt;
   };
   clauses = λ x h.
       each_below (λ k. ObeysOrMismatch given right (e k)) 7 x.0
@@ -139,12 +143,15 @@ right_made = record {
         (inl (record { parent = inner (node.ExprId (e 5)); at_part = 3; role = guard 0; stands = record { node_is = omega arith; part = refl }; asks = refl }), tt),
       ) x.0;
   modes = λ x. each_placed (λ k m. IsBinder body (p k)) right.binding_modes ((b 0, None, refl), tt) x.0;
+  placeholders = none_placed given right refl;
   diagnostics = λ x. each_entry (IsTrueDiagnostic given right x) right.expr_diagnostics tt x.0;
   pat_diagnostics = λ x. each_entry (IsTruePatDiagnostic given x) right.pat_diagnostics tt x.0;
   variants = record {
     exprs = λ x. each_entry (NamesVariant given.body x) right.expr_variants tt x.0;
     pats = λ x. each_entry (IsVariantPat given.body x) right.pat_variants tt x.0;
   };
+  seen = λ i x found. absurd (cc);
+  said = λ i x found. absurd (cc);
   pat_truths = λ x. each_entry (IsTruePatMismatch given right x) right.pat_mismatches tt x.0;
 }
 

@@ -15,7 +15,7 @@ use Rattle.hir_facts.specs.declared.raw.RawBody.{RawBody}
 use Rattle.hir_facts.specs.declared.schedule.Schedule.{Schedule}
 use Rattle.hir_types.specs.Types.{unit}
 use Rattle.hir_facts.specs.CarriedTypes.{IsCarriedType, carried_integer, carried_error, carried_tuple, same_carried}
-use Rattle.hir_facts.specs.Types.{lowered_within, written_type}
+use Rattle.hir_facts.specs.Types.{lowered_within, written_type, filled_within}
 use Rattle.hir_types.specs.Erasure.{Same, IsClosed}
 use Rattle.hir_types.specs.Layers.{has_hole_tuple}
 use Rattle.hir_facts.specs.Order.{let_pattern, subpattern, the_body, inner, IsSchedule, start, end, after, Fits, parts}
@@ -23,7 +23,7 @@ use Rattle.infer_result.specs.declared.result.InferenceResult.{InferenceResult}
 use Rattle.infer_result.specs.declared.result.TypeMismatch.{TypeMismatch}
 use Rattle.infer_result.specs.declared.modes.BindingMode.TheVariants as mode
 use Rattle.infer_result.specs.Table.{PatTy, BindingTy, mismatch}
-use Rattle.infer_result.specs.Places.{Given, Incoming, Demand}
+use Rattle.infer_result.specs.Places.{Given, declared, Incoming, Demand}
 use Rattle.infer_result.specs.Rules.Expressions.{ObeysOrMismatch}
 use Rattle.infer_result.specs.Rules.Patterns.{AllPatsAt, PatRule}
 use Rattle.infer_result.specs.Truth.Mismatch.{IsTruePatMismatch}
@@ -32,7 +32,7 @@ use Rattle.infer_result.specs.Closed.{IsBinder, NamesVariant, IsVariantPat}
 use Rattle.infer_result.specs.Made.{IsMisfit, IsMade}
 use Rattle.infer_result.specs.Typed.{IsTyped}
 use Rattle.infer_result.specs.Derived.{tuple_parts, typed_by_schedule}
-use Rattle.infer_result.proofs.Samples.Small.{scope_with, e, p, b, w, u8, plain, body_with, each_below, each_node, apart_by, comes, one_param, only, each_entry, each_placed, closed_u8, closed_unit, closed_error, u8_is_no_error, u8_is_no_tuple}
+use Rattle.infer_result.proofs.Samples.Small.{scope_with, e, p, b, w, u8, plain, body_with, each_below, each_node, apart_by, comes, one_param, only, each_entry, each_found, each_placed, closed_u8, closed_unit, closed_error, u8_is_no_error, u8_is_no_tuple, none_placed, no_placeholders, no_placeholder, none_recorded}
 
 abbrev body : RawBody
 body =
@@ -55,6 +55,10 @@ given = record { scope = scope_with types; body = body; inputs = w 1 ∷ []; out
 written : written_type types (w 1) ≡ single
 unfolding lowered_within
 written = refl
+
+declared_single : (t : InferenceResult) → declared given t (w 1) ≡ single
+unfolding filled_within
+declared_single t = refl
 
 abbrev schedule : Schedule
 schedule = record { starts = 3 ∷ 2 ∷ 1 ∷ 4 ∷ 5 ∷ 6 ∷ 0 ∷ []; ends = 4 ∷ 7 ∷ 2 ∷ 7 ∷ 6 ∷ 7 ∷ 7 ∷ []; depths = 2 ∷ 1 ∷ 1 ∷ 2 ∷ 3 ∷ 3 ∷ 0 ∷ [] }
@@ -80,6 +84,7 @@ table_of whole second pat_mismatches = record {
   type_of_expr = Some single ∷ Some unit ∷ [];
   type_of_pat = Some single ∷ Some whole ∷ Some u8 ∷ Some second ∷ [];
   type_of_binding = Some single ∷ Some u8 ∷ Some second ∷ [];
+  type_of_placeholder = no_placeholders types;
   binding_modes = Some mode.Move ∷ None ∷ Some mode.Move ∷ Some mode.Move ∷ [];
   expr_mismatches = None ∷ None ∷ [];
   expr_diagnostics = None ∷ None ∷ [];
@@ -87,6 +92,7 @@ table_of whole second pat_mismatches = record {
   pat_diagnostics = None ∷ None ∷ None ∷ None ∷ [];
   expr_variants = None ∷ None ∷ [];
   pat_variants = None ∷ None ∷ None ∷ None ∷ [];
+  seen = [];
 }
 
 abbrev right : InferenceResult
@@ -108,7 +114,9 @@ single_differs_pair : Same single pair → ⊥
 single_differs_pair h = single_is_no_pair (same_carried single pair (carried_tuple (u8 ∷ []) ∙ rw (carried_u8) refl) (carried_tuple (u8 ∷ ty.Error ∷ []) ∙ rw (carried_u8, carried_error) refl) h)
 
 block_obeys : ObeysOrMismatch given right (e 1)
-block_obeys = rw (written) ((((single, refl, inl refl), (pair, refl, inr (mismatch single pair, refl))), tt), (unit, refl, inl refl))
+block_obeys =
+    rw (declared_single right)
+    (((none_recorded given right (tt, (tt, tt)) (w 1), (single, refl, inl refl), (pair, refl, inr (mismatch single pair, refl))), tt), (unit, refl, inl refl))
 
 right_made : IsMade given right
 right_made = record {
@@ -117,10 +125,12 @@ right_made = record {
     exprs = each_entry IsClosed right.type_of_expr (closed_single, (closed_unit, tt));
     pats = each_entry IsClosed right.type_of_pat (closed_single, (closed_pair, (closed_u8, (closed_error, tt))));
     bindings = each_entry IsClosed right.type_of_binding (closed_single, (closed_u8, (closed_error, tt)));
+    placeholders = λ k s at. absurd (no_placeholder types k s at);
     expected = each_entry (λ x. IsClosed x.expected) right.expr_mismatches tt;
     actual = each_entry (λ x. IsClosed x.actual) right.expr_mismatches tt;
     pat_expected = each_entry (λ x. IsClosed x.expected) right.pat_mismatches (closed_single, tt);
     pat_actual = each_entry (λ x. IsClosed x.actual) right.pat_mismatches (closed_pair, tt);
+    found = each_found IsClosed right.expr_diagnostics tt;
   };
   clauses = λ x h. each_below (λ k. ObeysOrMismatch given right (e k)) 2 x.0 ((tt, (single, refl, refl)), block_obeys) h;
   kinds = λ x h.
@@ -132,15 +142,18 @@ right_made = record {
   misfits = λ x. each_entry (IsMisfit given right x) right.expr_mismatches tt x.0;
   demands = λ x. each_entry (λ m. Demand given right x m.expected) right.expr_mismatches tt x.0;
   modes = λ x. each_placed (λ k m. IsBinder body (p k)) right.binding_modes ((b 0, None, refl), ((b 1, None, refl), ((b 2, None, refl), tt))) x.0;
+  placeholders = none_placed given right refl;
   diagnostics = λ x. each_entry (IsTrueDiagnostic given right x) right.expr_diagnostics tt x.0;
   pat_diagnostics = λ x. each_entry (IsTruePatDiagnostic given x) right.pat_diagnostics tt x.0;
   variants = record {
     exprs = λ x. each_entry (NamesVariant given.body x) right.expr_variants tt x.0;
     pats = λ x. each_entry (IsVariantPat given.body x) right.pat_variants tt x.0;
   };
+  seen = λ i x found. absurd (cc);
+  said = λ i x found. absurd (cc);
   pat_truths = λ x.
       each_placed (λ k. IsTruePatMismatch given right (p k)) right.pat_mismatches
-      (record { says = tt; differ = single_differs_pair; actual = refl; incoming = record { parent = inner (node.ExprId (e 1)); at_part = 1; role = let_pattern (Some (w 1)) (Some (e 0)); stands = record { node_is = omega arith; part = refl }; gives = sym written } }, tt) x.0;
+      (record { says = tt; differ = single_differs_pair; actual = refl; incoming = record { parent = inner (node.ExprId (e 1)); at_part = 1; role = let_pattern (Some (w 1)) (Some (e 0)); stands = record { node_is = omega arith; part = refl }; gives = (none_recorded given right (tt, (tt, tt)) (w 1), sym (declared_single right)) } }, tt) x.0;
 }
 
 pub right_typed : IsTyped given right
@@ -151,9 +164,9 @@ right_typed = typed_by_schedule given right schedule is_schedule right_made
 -- no mismatch
 pub none : IsTyped given (table_of pair ty.Error (None ∷ None ∷ None ∷ None ∷ [])) → ⊥
 none h =
-    (let c = (h.clauses (e 1) (omega arith)).0.0.1 in
+    (let c = (h.clauses (e 1) (omega arith)).0.0.2 in
     let a : pair ≡ c.0 = only pair c.0 c.1 in
-    elim c.2 [ inl same ↦ single_is_no_pair (sym (a ∙ (same ∙ written))) | inr m ↦ (let clash = m.1 in cc) ])
+    elim c.2 [ inl same ↦ single_is_no_pair (sym (a ∙ (same ∙ declared_single (table_of pair ty.Error (None ∷ None ∷ None ∷ None ∷ []))))) | inr m ↦ (let clash = m.1 in cc) ])
 
 -- the pattern at the type that comes in, with a part of which it has no component
 pub cut : IsTyped given (table_of single ty.Error (None ∷ None ∷ None ∷ None ∷ [])) → ⊥
@@ -172,8 +185,8 @@ other_part h =
 -- what comes into the pattern is the written type
 incoming : (t : InferenceResult) (u : Ty) → Incoming given t (p 1) u → single ≡ u
 incoming t u m =
-    sym written
-    ∙ sym (comes given schedule is_schedule t (p 1) (inner (node.ExprId (e 1))) 1 (let_pattern (Some (w 1)) (Some (e 0))) u (record { node_is = omega arith; part = refl }) m)
+    let gives = comes given schedule is_schedule t (p 1) (inner (node.ExprId (e 1))) 1 (let_pattern (Some (w 1)) (Some (e 0))) u (record { node_is = omega arith; part = refl }) m in
+    sym (declared_single t) ∙ sym gives.1
 
 -- another type expected than comes in
 pub another_expected : IsTyped given (table_of pair ty.Error (None ∷ Some (mismatch u8 pair) ∷ None ∷ None ∷ [])) → ⊥

@@ -20,7 +20,7 @@ use Rattle.infer_result.specs.Truth.Calls.{IsTrueDiagnostic, IsTruePatDiagnostic
 use Rattle.infer_result.specs.Made.{IsMisfit, IsMade}
 use Rattle.infer_result.specs.Typed.{IsTyped}
 use Rattle.infer_result.specs.Derived.{typed_by_schedule}
-use Rattle.infer_result.proofs.Samples.Small.{scope_with, e, u8, body_of, each_below, each_node, apart_by, asked, only, each_entry, each_placed, closed_u8, closed_bool, u8_is_no_bool, u8_differs_bool, bool_is_no_error}
+use Rattle.infer_result.proofs.Samples.Small.{scope_with, e, u8, body_of, each_below, each_node, apart_by, asked, only, each_entry, each_found, each_placed, closed_u8, closed_bool, u8_is_no_bool, u8_differs_bool, bool_is_no_error, none_placed}
 
 abbrev body : RawBody
 body = body_of (expr.Lit (literal.Bool true) ∷ expr.Block None [] (Some (e 0)) ∷ []) 1 [] []
@@ -48,6 +48,7 @@ table_of types mismatches = record {
   type_of_expr = types;
   type_of_pat = [];
   type_of_binding = [];
+  type_of_placeholder = [];
   binding_modes = [];
   expr_mismatches = mismatches;
   expr_diagnostics = None ∷ None ∷ [];
@@ -55,6 +56,7 @@ table_of types mismatches = record {
   pat_diagnostics = [];
   expr_variants = None ∷ None ∷ [];
   pat_variants = [];
+  seen = [];
 }
 
 abbrev right : InferenceResult
@@ -70,10 +72,12 @@ right_made = record {
     exprs = each_entry IsClosed right.type_of_expr (closed_bool, (closed_u8, tt));
     pats = λ n s h. absurd (cc);
     bindings = λ n s h. absurd (cc);
+    placeholders = λ k s at. absurd (cc);
     expected = each_entry (λ x. IsClosed x.expected) right.expr_mismatches (closed_u8, tt);
     actual = each_entry (λ x. IsClosed x.actual) right.expr_mismatches (closed_bool, tt);
     pat_expected = each_entry (λ x. IsClosed x.expected) right.pat_mismatches tt;
     pat_actual = each_entry (λ x. IsClosed x.actual) right.pat_mismatches tt;
+    found = each_found IsClosed right.expr_diagnostics tt;
   };
   clauses = λ x h. each_below (λ k. ObeysOrMismatch given right (e k)) 2 x.0 ((tt, (ty.Bool, refl, refl)), (tt, (u8, refl, (ty.Bool, refl, inr (mismatch u8 ty.Bool, refl))))) h;
   kinds = λ x h. absurd (omega arith);
@@ -83,12 +87,15 @@ right_made = record {
   misfits = λ x. each_placed (λ k. IsMisfit given right (e k)) right.expr_mismatches (record { differ = u8_differs_bool; actual = inl refl }, tt) x.0;
   demands = λ x. each_placed (λ k (m : TypeMismatch). Demand given right (e k) m.expected) right.expr_mismatches (demanded, tt) x.0;
   modes = λ x m at. absurd (cc);
+  placeholders = none_placed given right refl;
   diagnostics = λ x. each_entry (IsTrueDiagnostic given right x) right.expr_diagnostics tt x.0;
   pat_diagnostics = λ x. each_entry (IsTruePatDiagnostic given x) right.pat_diagnostics tt x.0;
   variants = record {
     exprs = λ x. each_entry (NamesVariant given.body x) right.expr_variants tt x.0;
     pats = λ x. each_entry (IsVariantPat given.body x) right.pat_variants tt x.0;
   };
+  seen = λ i x found. absurd (cc);
+  said = λ i x found. absurd (cc);
   pat_truths = λ x. each_entry (IsTruePatMismatch given right x) right.pat_mismatches tt x.0;
 }
 

@@ -7,16 +7,16 @@ use Rattle.hir_types.specs.declared.ty.Ty.{Ty}
 use Rattle.hir_facts.specs.declared.raw.RawStmt.{RawStmt}
 use Rattle.hir_facts.specs.declared.raw.RawStmt.TheVariants as stmt
 use Rattle.hir_types.specs.Types.{unit}
-use Rattle.hir_facts.specs.Types.{written_type}
 use Rattle.infer_result.specs.declared.result.InferenceResult.{InferenceResult}
 use Rattle.infer_result.specs.Table.{HasTy}
-use Rattle.infer_result.specs.Places.{Given}
+use Rattle.infer_result.specs.Places.{Given, declared, AreRecorded}
 use Rattle.infer_result.specs.Rules.Placing.{Placing}
 
--- the initializer at the written type and the pattern at that; without one the pattern at the initializer's type
+-- The initializer at the written type and the pattern at that, where it is recorded what each `_` in it stands for; without one
+-- the pattern at the initializer's type.
 abbrev pub LetRule : Placing → Given → InferenceResult → PatId → Option TypeRefId → Option ExprId → Type 0
-LetRule P g t p (Some w) (Some e) = P.at e (written_type g.scope.facts.types w) × P.pattern p (written_type g.scope.facts.types w)
-LetRule P g t p (Some w) None = P.pattern p (written_type g.scope.facts.types w)
+LetRule P g t p (Some w) (Some e) = AreRecorded g t w × P.at e (declared g t w) × P.pattern p (declared g t w)
+LetRule P g t p (Some w) None = AreRecorded g t w × P.pattern p (declared g t w)
 LetRule P g t p None (Some e) = (s : Ty) × HasTy t e s × P.pattern p s
 LetRule P g t p None None = Unit {0}
 

@@ -7,7 +7,7 @@ use Rattle.hir_types.specs.Types.{unit}
 use Rattle.hir_types.specs.Erasure.{Same}
 use Rattle.infer_result.specs.declared.result.InferenceResult.{InferenceResult}
 use Rattle.infer_result.specs.declared.diagnostics.InferenceDiagnostic.TheVariants as diagnostic
-use Rattle.infer_result.specs.Table.{MismatchAt, HasMismatch, AnyMismatch, HasDiagnostic}
+use Rattle.infer_result.specs.Table.{MismatchAt, HasMismatch, AnyMismatch, HasDiagnostic, WasSeen}
 use Rattle.infer_result.specs.Places.{Given, IsAt, IsAtOrMismatch, PatIsAtOrMismatch}
 
 pub record Placing : Type 1 where
@@ -25,10 +25,12 @@ pub record Placing : Type 1 where
   pub no_else : List ExprId → Ty → Type 0
   -- a complaint that a call has another number of arguments, the last number, than its item has inputs
   pub wrong_count : ExprId → ℕ → ℕ → Type 0
+  -- that what a call calls is no function
+  pub no_callee : ExprId → Type 0
 
 -- Each part is at its type, or a mismatch is listed at that very part. For alternatives it may be at
 -- any of them, for `()` at the node itself: at a block that very mismatch. That a call has a wrong number of
--- arguments is listed at the call.
+-- arguments is listed at the call; that it calls no function is kept in what was seen.
 abbrev pub at_or_mismatch : Given → InferenceResult → Placing
 at_or_mismatch g t = record {
   at = IsAtOrMismatch t;
@@ -38,10 +40,11 @@ at_or_mismatch g t = record {
   no_tail = λ n s. Same unit s ⊎ MismatchAt t n s unit;
   no_else = λ es s. Same unit s ⊎ AnyMismatch t es;
   wrong_count = λ n expected found. HasDiagnostic t n (diagnostic.MismatchedArgCount n expected found);
+  no_callee = λ n. WasSeen t n;
 }
 
 -- Each part is at its type, but that a part of a tuple and an argument may have a mismatch of their own, and a
--- pattern too; and no call has a wrong number of arguments.
+-- pattern too; no call has a wrong number of arguments, and each calls a function.
 abbrev pub at_types : Given → InferenceResult → Placing
 at_types g t = record {
   at = IsAt t;
@@ -51,4 +54,5 @@ at_types g t = record {
   no_tail = λ n s. Same unit s;
   no_else = λ es s. Same unit s;
   wrong_count = λ n expected found. ⊥;
+  no_callee = λ n. ⊥;
 }

@@ -1,4 +1,5 @@
--- When a complaint about a number of arguments, or of the parts of a constructor's pattern, is true.
+-- When a complaint about a number of arguments, or of the parts of a constructor's pattern, or that what is called is no function,
+-- is true.
 use Rattle.std.specs.Prelude.{ℕ, ◌≡◌, List, length, slice_get, Some}
 use Rattle.hir_types.specs.declared.ids.ExprId.{ExprId}
 use Rattle.hir_types.specs.declared.ids.PatId.{PatId}
@@ -13,6 +14,7 @@ use Rattle.infer_result.specs.declared.result.InferenceResult.{InferenceResult}
 use Rattle.infer_result.specs.declared.diagnostics.InferenceDiagnostic.{InferenceDiagnostic}
 use Rattle.infer_result.specs.declared.diagnostics.InferenceDiagnostic.TheVariants as diagnostic
 use Rattle.infer_result.specs.Places.{Given, IsCallee}
+use Rattle.infer_result.specs.Truth.Seen.{IsNoFunction}
 
 -- The node is a call of an item with so many inputs, has so many arguments, and these numbers differ.
 pub record IsWrongCount (g : Given) (t : InferenceResult) (e : ExprId) (expected found : ℕ) : Type 0 where
@@ -30,6 +32,7 @@ pub record IsWrongCount (g : Given) (t : InferenceResult) (e : ExprId) (expected
 abbrev pub IsTrueDiagnostic : Given → InferenceResult → ExprId → InferenceDiagnostic → Type 0
 IsTrueDiagnostic g t e (diagnostic.MismatchedArgCount n expected found) = (n ≡ e) × IsWrongCount g t e expected found
 IsTrueDiagnostic g t e (diagnostic.MismatchedTupleStructPatArgCount n expected found) = ⊥
+IsTrueDiagnostic g t e (diagnostic.ExpectedFunction n s) = (n ≡ e) × IsNoFunction g t e s
 
 -- The pattern is of a constructor with so many fields, has so many parts, and these numbers differ.
 pub record IsWrongFieldCount (g : Given) (p : PatId) (expected found : ℕ) : Type 0 where
@@ -46,3 +49,4 @@ pub record IsWrongFieldCount (g : Given) (p : PatId) (expected found : ℕ) : Ty
 abbrev pub IsTruePatDiagnostic : Given → PatId → InferenceDiagnostic → Type 0
 IsTruePatDiagnostic g p (diagnostic.MismatchedArgCount n expected found) = ⊥
 IsTruePatDiagnostic g p (diagnostic.MismatchedTupleStructPatArgCount n expected found) = (n ≡ node.PatId p) × IsWrongFieldCount g p expected found
+IsTruePatDiagnostic g p (diagnostic.ExpectedFunction n s) = ⊥
