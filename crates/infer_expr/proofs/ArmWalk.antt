@@ -20,8 +20,9 @@ use Rattle.infer_expr.specs.Under as under
 use Rattle.infer_expr.proofs.AtEach.{follows_itself, follows_twice, closes_before, walking_after, expected_carried, within_under}
 use Rattle.infer_expr.proofs.Closed.{same_found, closes_earlier}
 use Rattle.infer_expr.proofs.FineTypes.{fine_bool, fine_grown, fine_expectation_grown}
-use Rattle.infer_expr.proofs.Arms.{arms_some, PatternLoop, match_before, pattern_start, pattern_before, pattern_next, ArmLoop, arm_start, AtArm, guard_ahead, at_arm, arm_before, arm_next, arms_done, at_arms, match_done, guard_done, no_guard_done}
+use Rattle.infer_expr.proofs.Arms.{arms_some, PatternLoop, match_before, pattern_start, pattern_before, pattern_next, ArmLoop, arm_start, AtArm, guard_ahead, at_arm, arm_before, arm_next, arms_done, at_arms, match_done, guard_done, no_guard_done, pattern_stands}
 use Rattle.infer_expr.proofs.BranchWalk.{less_fine, less_under, fine_common_grown, common_of_under, common_of_fine, completes_under, completed_fine, completed_follows, bool_under}
+use Rattle.infer_expr.proofs.Tellings.{no_telling_match, arm_tells}
 
 -- the arm that is read at this position
 abbrev pub arm_at : List RawArm → ℕ → RawArm
@@ -58,10 +59,11 @@ module _ (g : Given) (s : Schedule) (n d : ExprId) (arms : List RawArm) where
         let here = pattern_before g s n d arms i (folded q.0 t) (found_under q.0 mid) (found_under q.0 f) (h.each q.0 q.1) w.ready y is k in
         record {
           ready = w.ready;
-          state = walking_after g s mid f h.follows (λ a l. (h.each a l).walks.state);
+          state = walking_after g s mid f w.state.told h.follows (λ a l. (h.each a l).walks.state);
           within = here.within;
           here = here.here;
           fine = h.fine;
+          tells = λ u e. (let place = pattern_stands g s n d arms i (folded q.0 t) (found_under q.0 mid) (found_under q.0 f) (h.each q.0 q.1) y is k in arm_tells g s w.ready.law (inner (node.ExprId n)) place.0 y.pat d i place.1 u);
           incoming = λ a l u at. (pattern_before g s n d arms i (folded a t) (found_under a mid) (found_under a f) (h.each a l) w.ready y is k).incoming u at;
         }
 
@@ -79,7 +81,7 @@ module _ (g : Given) (s : Schedule) (n d : ExprId) (arms : List RawArm) where
         let q = h.follows.sound.some in
         record {
           ready = w.ready;
-          state = walking_after g s mid f h.follows (λ a l. (h.each a l).walks.state);
+          state = walking_after g s mid f w.state.told h.follows (λ a l. (h.each a l).walks.state);
           within = w.within;
           ahead = (at_arms g s n d arms i (folded q.0 t) (found_under q.0 mid) (found_under q.0 f) (h.each q.0 q.1) over).ahead;
           some = arms_some g.body n d arms w.ready.law.carried is;
@@ -90,6 +92,7 @@ module _ (g : Given) (s : Schedule) (n d : ExprId) (arms : List RawArm) where
     ends_match x y is less over u new k = record {
       follows = follows_twice g mid f new h.follows k.follows;
       fine = k.fine;
+      tells = no_telling_match g n d arms is u;
       each = λ a q.
           let l : Closes a f = closes_before g a f new k.follows q in
           match_done g s n d arms (expected_under a x) (expected_under a y) (folded a t) (folded a u) (found_under a mid) (found_under a f) (found_under a new) is (less_under a x y less)
@@ -120,7 +123,7 @@ module _ (g : Given) (s : Schedule) (n : ExprId) (arms : List RawArm) (x : Optio
         let q = h.follows.sound.some in
         record {
           ready = b.ready;
-          state = walking_after g s mid f h.follows (λ a l. (h.each a l).done.walks.state);
+          state = walking_after g s mid f b.state.told h.follows (λ a l. (h.each a l).done.walks.state);
           position = i;
           ahead = guard_ahead g s n arms i (expected_under q.0 x) (common_under q.0 m) (found_under q.0 mid) (found_under q.0 f) (h.each q.0 q.1) y is k;
         }
@@ -144,7 +147,7 @@ module _ (g : Given) (s : Schedule) (n : ExprId) (arms : List RawArm) (x : Optio
           let here = arm_before g s n arms i y (expected_under q.0 x) (common_under q.0 m) (found_under q.0 mid) (found_under q.0 last) (guarded q.0 q.1) (expected_carried g.scope q.0 last.table x q.1.closing expected_at) b.ready in
           record {
             ready = b.ready;
-            state = walking_after g s mid last all_follow (λ a l. (guarded a l).done.walks.state);
+            state = walking_after g s mid last b.state.told all_follow (λ a l. (guarded a l).done.walks.state);
             within = here.within;
             here = here.here;
             expected = expected_at;

@@ -16,7 +16,7 @@ use Rattle.hir_facts.specs.Order.{Part, inner, scrutinee, arm_pattern, guard, ar
 use Rattle.infer_result.specs.declared.result.InferenceResult.{InferenceResult}
 use Rattle.infer_result.specs.declared.result.TypeMismatch.{TypeMismatch}
 use Rattle.infer_result.specs.Table.{HasTy, AnyMismatch}
-use Rattle.infer_result.specs.Places.{Given, Demand}
+use Rattle.infer_result.specs.Places.{Given, Demand, StandsAt}
 use Rattle.infer_result.specs.Rules.Placing.{at_or_mismatch}
 use Rattle.infer_result.specs.Rules.Branches.{arm_exprs, ArmPatterns, GuardRule, ArmsRule, MatchRule}
 use Rattle.infer_result.specs.Rules.Expressions.{Rule, ObeysOrMismatch}
@@ -114,6 +114,9 @@ module _ (g : Given) (s : Schedule) (n d : ExprId) (arms : List RawArm) (i : ℕ
 
   pattern_ahead : (a : RawArm) → a ≡ get_or arms i a → i < length arms → LieAhead g.body s (inner (node.ExprId n)) f.clock (pat_part (arm_pattern d i) a.pat ∷ other_patterns)
   pattern_ahead a is k = subst (λ ps. LieAhead g.body s (inner (node.ExprId n)) f.clock ps) (pattern_step a is k) h.ahead
+
+  pub pattern_stands : (a : RawArm) → a ≡ get_or arms i a → i < length arms → (k : ℕ) × StandsAt g.body (node.PatId a.pat) (inner (node.ExprId n)) k (arm_pattern d i)
+  pattern_stands a is k = ahead_stands g.body s (inner (node.ExprId n)) f.clock (pat_part (arm_pattern d i) a.pat) other_patterns (pattern_ahead a is k)
 
   pub pattern_before : IsReady g s → (a : RawArm) → a ≡ get_or arms i a → i < length arms → BeforePat g s a.pat (Some t) f
   pattern_before ready a is k =

@@ -1,5 +1,5 @@
 -- From what holds of the context to what holds under each assignment that closes it, and back.
-use Rattle.std.proofs.Common.{arith, Option, Some, None}
+use Rattle.std.proofs.Common.{◌≡◌, sym, subst, arith, Option, Some, None}
 use Rattle.hir_types.specs.declared.ids.ExprId.{ExprId}
 use Rattle.hir_types.specs.declared.ids.PatId.{PatId}
 use Rattle.hir_types.specs.declared.ty.Ty.{Ty}
@@ -17,6 +17,7 @@ use Rattle.infer_expr.specs.Context.{IsCarriedExpectation}
 use Rattle.infer_expr.specs.Walks.{IsWalked}
 use Rattle.infer_expr.specs.Closings.{Closes, IsClosing, found_under, expected_under, IsSound}
 use Rattle.infer_expr.specs.Fine.{IsFineExpectation}
+use Rattle.infer_expr.specs.Tells.{TellsRecorded}
 use Rattle.infer_expr.specs.Steps.{IsWalking, Follows, Before, Within, BeforePat, BeforeStmt, BeforeTail}
 use Rattle.infer_expr.specs.Under as under
 use Rattle.infer_expr.proofs.Closed.{closes_earlier}
@@ -25,7 +26,7 @@ use Rattle.infer_expr.proofs.OverTypes.{fine_closed}
 -- ---- one after another
 
 pub follows_itself : (g : Given) (c : InferenceContext) → IsOfBody g.body c.result → IsSound g.scope c → Follows g c c
-follows_itself g c h s = record { clock = omega arith; grew = grew_itself c.table; of_body = h; sound = s }
+follows_itself g c h s = record { clock = omega arith; grew = grew_itself c.table; of_body = h; sound = s; told = λ k. k }
 
 pub follows_twice : (g : Given) (x y z : InferenceContext) → Follows g x y → Follows g y z → Follows g x z
 follows_twice g x y z f h = record {
@@ -33,13 +34,18 @@ follows_twice g x y z f h = record {
   grew = grew_twice x.table y.table z.table f.grew h.grew;
   of_body = h.of_body;
   sound = h.sound;
+  told = λ k. h.told (f.told k);
 }
+
+-- where nothing is recorded, bindings tell what they did
+pub told_same : (g : Given) (c d : InferenceContext) → d.result ≡ c.result → TellsRecorded g c.result → TellsRecorded g d.result
+told_same g c d same told = subst (λ r. TellsRecorded g r) (sym same) told
 
 pub closes_before : (g : Given) (a : Assignment) (x y : InferenceContext) → Follows g x y → Closes a y → Closes a x
 closes_before g a x y f k = closes_earlier a x y f.grew k
 
-pub walking_after : (g : Given) (s : Schedule) (old new : InferenceContext) → Follows g old new → ((a : Assignment) → Closes a new → IsWalked g s (found_under a new)) → IsWalking g s new
-walking_after g s old new f h = record { of_body = f.of_body; sound = f.sound; each = h }
+pub walking_after : (g : Given) (s : Schedule) (old new : InferenceContext) → TellsRecorded g old.result → Follows g old new → ((a : Assignment) → Closes a new → IsWalked g s (found_under a new)) → IsWalking g s new
+walking_after g s old new told f h = record { of_body = f.of_body; sound = f.sound; told = f.told told; each = h }
 
 -- ---- what is expected
 

@@ -22,6 +22,8 @@ use Rattle.infer_expr.proofs.Closed.{At-unasked}
 use Rattle.infer_expr.proofs.Types.{carried_unit}
 use Rattle.infer_expr.proofs.FineTypes.{fine_grown, fine_unit, fine_expectation_grown}
 use Rattle.infer_expr.proofs.OverTypes.{carried_closed}
+use Rattle.infer_expr.specs.Tells.{TellsRecorded}
+use Rattle.infer_expr.proofs.Tellings.{no_telling_block}
 
 -- the first i statements of the block n are made, and the others and the tail lie ahead
 pub record BlockWalk (g : Given) (s : Schedule) (n : ExprId) (ys : List RawStmt) (o : Option ExprId) (i : ℕ) (mid c : InferenceContext) : Type 0 where
@@ -48,8 +50,8 @@ tail_fine g s n None x t c new d = d.fine
 tail_fine g s n (Some e) x t c new d = d.fine
 
 module _ (g : Given) (s : Schedule) (n : ExprId) (ys : List RawStmt) (o : Option ExprId) (i : ℕ) (mid c : InferenceContext) (h : BlockWalk g s n ys o i mid c) where
-  walking : IsWalking g s c
-  walking = walking_after g s mid c h.follows (λ a l. (h.each a l).walks.state)
+  walking : TellsRecorded g mid.result → IsWalking g s c
+  walking told = walking_after g s mid c told h.follows (λ a l. (h.each a l).walks.state)
 
   pub comes_to_stmt : (x : Option Ty) → Within g s n x mid → under.IsBlockOf g.body n ys o → (y : RawStmt) → y ≡ get_or ys i y → i < length ys → BeforeStmt g s n y c
   comes_to_stmt x w is y e k =
@@ -58,7 +60,7 @@ module _ (g : Given) (s : Schedule) (n : ExprId) (ys : List RawStmt) (o : Option
       let here = block_before g s n ys o i (found_under q.0 mid) (found_under q.0 c) (h.each q.0 q.1) (expected_under q.0 x) (found_under q.0 mid) (within_under g s q.0 mid l n x w) is y e k in
       record {
         ready = w.ready;
-        state = walking;
+        state = walking w.state.told;
         ahead = here.ahead;
         stands = here.stands;
         carried = here.carried;
@@ -79,7 +81,7 @@ module _ (g : Given) (s : Schedule) (n : ExprId) (ys : List RawStmt) (o : Option
       let here = block_tail g s n ys o i (found_under q.0 mid) (found_under q.0 c) (h.each q.0 q.1) (expected_under q.0 x) (within_under g s q.0 mid l n x w) is over in
       record {
         ready = w.ready;
-        state = walking;
+        state = walking w.state.told;
         within = w.within;
         ahead = here.ahead;
         expected = fine_expectation_grown g.scope mid.table c.table x h.follows.grew w.expected;
@@ -89,6 +91,7 @@ module _ (g : Given) (s : Schedule) (n : ExprId) (ys : List RawStmt) (o : Option
   ends_block x w is over t new d = record {
     follows = follows_twice g mid c new h.follows (tail_follows g s n o x t c new d);
     fine = tail_fine g s n o x t c new d;
+    tells = no_telling_block g n is.0 ys o is.1 t;
     each = λ a q.
         let m : Closes a c = closes_before g a c new (tail_follows g s n o x t c new d) q in
         let l : Closes a mid = closes_before g a mid c h.follows m in

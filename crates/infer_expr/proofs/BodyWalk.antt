@@ -1,5 +1,5 @@
 -- The walk of a whole body.
-use Rattle.std.proofs.Common.{ℕ, zero, suc, ◌<◌, ◌≡◌, ◌^◌, ◌∷◌, refl, sym, ap, subst, length, map, Some, None}
+use Rattle.std.proofs.Common.{ℕ, zero, suc, ◌<◌, ◌≡◌, ◌^◌, List, [], ◌∷◌, refl, sym, ap, subst, length, map, Some, None}
 use Rattle.std.specs.Prelude.{replicate, option_map}
 use Rattle.hir_types.specs.declared.ty.IntTy.TheVariants as int
 use Rattle.hir_types.specs.declared.ty.IntegerTy.TheVariants.{Int}
@@ -8,6 +8,8 @@ use Rattle.hir_types.specs.Subst.{Assignment, folded}
 use Rattle.hir_facts.specs.Bodies.{IsWalkable}
 use Rattle.hir_facts.specs.CarriedTypes.{IsCarriedType, carried_error}
 use Rattle.hir_facts.specs.declared.raw.RawBody.{RawBody}
+use Rattle.hir_facts.specs.declared.raw.RawType.{RawType}
+use Rattle.infer_result.specs.declared.diagnostics.InferenceDiagnostic.TheVariants as diagnostic
 use Rattle.hir_facts.specs.declared.schedule.Schedule.{Schedule}
 use Rattle.infer_table.specs.Completion.{fallback}
 use Rattle.infer_result.specs.Places.{Given}
@@ -35,12 +37,13 @@ none_asked : (a : Assignment) (n : ℕ) → closed_mismatches a (replicate n Non
 none_asked a zero = refl
 none_asked a (suc n) = ap (λ xs. None ∷ xs) (none_asked a n)
 
-pub nothing_under : (a : Assignment) (b : RawBody) → found_under a (empty_context b) ≡ nothing_found b
-nothing_under a b = λ i. record {
+pub nothing_under : (a : Assignment) (types : List RawType) (b : RawBody) → found_under a (empty_context types b) ≡ nothing_found a types b
+nothing_under a types b = λ i. record {
   result = record {
     type_of_expr = none_under (folded a) (length b.exprs) i;
     type_of_pat = none_under (folded a) (length b.pats) i;
     type_of_binding = none_under (folded a) (length b.bindings) i;
+    type_of_placeholder = none_under (folded a) (length types) i;
     binding_modes = replicate (length b.pats) None;
     expr_mismatches = none_asked a (length b.exprs) i;
     expr_diagnostics = replicate (length b.exprs) None;
@@ -48,21 +51,26 @@ nothing_under a b = λ i. record {
     pat_diagnostics = replicate (length b.pats) None;
     expr_variants = map expr_variant b.exprs;
     pat_variants = map pat_variant b.pats;
+    seen = [];
   };
   clock = 1;
+  holes = a;
 }
 
-nothing_sound : (sc : Scope) (b : RawBody) → IsSound sc (empty_context b)
-nothing_sound sc b = record {
+nothing_sound : (sc : Scope) (types : List RawType) (b : RawBody) → IsSound sc (empty_context types b)
+nothing_sound sc types b = record {
   fine = record {
     exprs = λ n t i. absurd (At-replicate (length b.exprs) n t i);
     pats = λ n t i. absurd (At-replicate (length b.pats) n t i);
     bindings = λ n t i. absurd (At-replicate (length b.bindings) n t i);
+    placeholders = λ n t i. absurd (At-replicate (length types) n t i);
+    found = λ n k t i. absurd (At-replicate (length b.exprs) n (diagnostic.ExpectedFunction k t) i);
     expected = λ n m i. absurd (At-replicate (length b.exprs) n m i);
     actual = λ n m i. absurd (At-replicate (length b.exprs) n m i);
     pat_expected = λ n m i. absurd (At-replicate (length b.pats) n m i);
     pat_actual = λ n m i. absurd (At-replicate (length b.pats) n m i);
   };
+  seen = record { types = λ i y there. absurd (cc); others = λ i y t there is. absurd (cc) };
   asked = λ n m i. absurd (At-replicate (length b.exprs) n m i);
   pairs = tt;
   bound = tt;
@@ -76,18 +84,22 @@ nothing_sound sc b = record {
 }
 
 module _ (g : Given) (s : Schedule) (law : IsWalkable g.body s) (written : WrittenExist g) (count : length g.inputs ≡ length g.body.params) where
-  params_under : (a : Assignment) (last : ℕ) → last ≡ expr_end g.body s g.body.root → last < 2 ^ 64 → under.BeforeParams g s (found_under a (empty_context g.body))
-  params_under a last is room = params_before g s last (found_under a (empty_context g.body)) law written count is room (nothing_under a g.body)
+  abbrev blank : InferenceContext
+  blank = empty_context g.scope.facts.types g.body
 
-  pub comes_to_params : (last : ℕ) (c : InferenceContext) → last ≡ expr_end g.body s g.body.root → last < 2 ^ 64 → c ≡ empty_context g.body → BeforeParams g s c
+  params_under : (a : Assignment) (last : ℕ) → last ≡ expr_end g.body s g.body.root → last < 2 ^ 64 → under.BeforeParams g s (found_under a blank)
+  params_under a last is room = params_before g s a last (found_under a blank) law written count is room (nothing_under a g.scope.facts.types g.body)
+
+  pub comes_to_params : (last : ℕ) (c : InferenceContext) → last ≡ expr_end g.body s g.body.root → last < 2 ^ 64 → c ≡ blank → BeforeParams g s c
   comes_to_params last c is room empty =
       let here = params_under fallback last is room in
       subst (λ d. BeforeParams g s d) (sym empty) (record {
         ready = here.ready;
         count = count;
         state = record {
-          of_body = of_body_unclosed fallback g.body (empty_context g.body).asked (empty_context g.body).result here.state.of_body;
-          sound = nothing_sound g.scope g.body;
+          of_body = of_body_unclosed fallback g.body blank.asked blank.result here.state.of_body;
+          sound = nothing_sound g.scope g.scope.facts.types g.body;
+          told = λ v t i. absurd (At-replicate (length g.body.bindings) v.0 t i);
           each = λ a k. (params_under a last is room).state;
         };
         ahead = here.ahead;
@@ -99,15 +111,15 @@ comes_to_root g s old c b d carried heads =
     let here = root_before g s (found_under q.0 old) (found_under q.0 c) b.ready carried (d.each q.0 q.1) in
     record {
       ready = b.ready;
-      state = walking_after g s old c d.follows (λ a k. (d.each a k).walks.state);
+      state = walking_after g s old c b.state.told d.follows (λ a k. (d.each a k).walks.state);
       within = here.within;
       here = here.here;
       expected = carried_fine c.table g.scope g.output carried heads;
     }
 
-module _ (g : Given) (s : Schedule) (law : IsWalkable g.body s) (carried : IsCarriedType g.output) (t : Ty) (mid new last : InferenceContext) (p : ParamsDone g s (empty_context g.body) mid) (d : CoerceDone g s g.body.root (Some g.output) t mid new) (b : OnlyBinds g new last) where
-  typed : (a : Assignment) → Closes a new → under.ParamsDone g s (nothing_found g.body) (found_under a mid)
-  typed a q = subst (λ c. under.ParamsDone g s c (found_under a mid)) (nothing_under a g.body) (p.each a (closes_before g a mid new d.follows q))
+module _ (g : Given) (s : Schedule) (law : IsWalkable g.body s) (carried : IsCarriedType g.output) (t : Ty) (mid new last : InferenceContext) (p : ParamsDone g s (empty_context g.scope.facts.types g.body) mid) (d : CoerceDone g s g.body.root (Some g.output) t mid new) (b : OnlyBinds g new last) where
+  typed : (a : Assignment) → Closes a new → under.ParamsDone g s (nothing_found a g.scope.facts.types g.body) (found_under a mid)
+  typed a q = subst (λ c. under.ParamsDone g s c (found_under a mid)) (nothing_under a g.scope.facts.types g.body) (p.each a (closes_before g a mid new d.follows q))
 
   done : (a : Assignment) → Closes a new → under.CoerceDone g s g.body.root (Some g.output) (folded a t) (found_under a mid) (found_under a new)
   done a q = subst (λ u. under.CoerceDone g s g.body.root (Some u) (folded a t) (found_under a mid) (found_under a new)) (carried_closed a g.output carried) (d.each a q)
@@ -119,5 +131,5 @@ module _ (g : Given) (s : Schedule) (law : IsWalkable g.body s) (carried : IsCar
     made = λ a q.
         let k : Closes a new = closes_before g a new last b.follows q in
         subst (λ (f : Found). IsMade g f.result) (sym (same_found a new last b.result b.asked b.clock))
-        (body_made g s law (folded a t) (found_under a mid) (found_under a new) (typed a k) (done a k));
+        (body_made g s a law (folded a t) (found_under a mid) (found_under a new) (typed a k) (done a k));
   }

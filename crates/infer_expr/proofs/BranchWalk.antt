@@ -24,12 +24,13 @@ use Rattle.infer_expr.specs.Fine.{IsFineExpectation}
 use Rattle.infer_expr.specs.Steps.{Follows, Before, Within, OwnDone, CoerceDone, KindDone, IsFineCommon, Merges, AlternativeDone, BeforeElse, ElseDone, Completes}
 use Rattle.infer_expr.specs.Under.{LieAhead}
 use Rattle.infer_expr.specs.Under as under
-use Rattle.infer_expr.proofs.AtEach.{follows_twice, closes_before, walking_after, within_under}
+use Rattle.infer_expr.proofs.AtEach.{follows_twice, closes_before, walking_after, within_under, told_same}
 use Rattle.infer_expr.proofs.Closed.{same_found, closes_earlier}
 use Rattle.infer_expr.proofs.FineTypes.{fine_bool, fine_grown, fine_expectation_grown}
 use Rattle.infer_expr.proofs.OverTypes.{carried_closed, fine_closed}
 use Rattle.infer_expr.proofs.Types.{carried_unit}
 use Rattle.infer_expr.proofs.Branches.{AtBranch, AtElse, if_before, at_branch, branch_before, at_else, if_done}
+use Rattle.infer_expr.proofs.Tellings.{no_telling_if}
 
 -- ---- what is expected
 
@@ -98,6 +99,7 @@ completed_follows g x m t first old new f d = record {
   grew = grew_twice first.table old.table new.table f.grew d.grew;
   of_body = subst (λ r. IsOfBody g.body r) (sym d.result) f.of_body;
   sound = d.sound;
+  told = λ k. told_same g old new d.result (f.told k);
 }
 
 -- ---- the condition of an `if`
@@ -143,7 +145,7 @@ module _ (g : Given) (s : Schedule) (n c first : ExprId) (other : Option ExprId)
         let here = branch_before g s n c first other is (expected_under q.0 x) (expected_under q.0 y) (found_under q.0 mid) (found_under q.0 f) (within_under g s q.0 mid o n x w) (less_under q.0 x y less) (h.each q.0 q.1) in
         record {
           ready = w.ready;
-          state = walking_after g s mid f h.follows (λ a l. (h.each a l).walks.state);
+          state = walking_after g s mid f w.state.told h.follows (λ a l. (h.each a l).walks.state);
           within = here.within;
           here = here.here;
           expected = expected_at;
@@ -170,7 +172,7 @@ module _ (g : Given) (s : Schedule) (n c first : ExprId) (other : Option ExprId)
         let q = h.follows.sound.some in
         record {
           ready = w.ready;
-          state = walking_after g s mid f h.follows (λ a l. (h.each a l).done.walks.state);
+          state = walking_after g s mid f w.state.told h.follows (λ a l. (h.each a l).done.walks.state);
           within = w.within;
           ahead = (h.each q.0 q.1).ahead;
           expected = fine_expectation_grown g.scope mid.table f.table y h.follows.grew (less_fine g.scope mid.table x y less w.expected);
@@ -188,6 +190,7 @@ module _ (g : Given) (s : Schedule) (n c first : ExprId) (other : Option ExprId)
     ends_if after t new last d k = record {
       follows = completed_follows g y after t mid new last (follows_twice g mid f new h.follows d.follows) k;
       fine = k.fine;
+      tells = no_telling_if g n c first other is t;
       each = λ a q.
           let p : Closes a new = closes_earlier a new last k.grew q in
           let l : Closes a f = closes_before g a f new d.follows p in

@@ -1,21 +1,12 @@
 -- Calls, under each assignment.
-use Rattle.std.proofs.Common.{ℕ, zero, suc, ◌+◌, ◌<◌, ◌≤◌, ◌≡◌, refl, sym, ap, subst, ◌∙◌, arith, List, [], ◌∷◌, length, map, get_or, Option, Some, None, slice_get}
+use Rattle.std.proofs.Common.{ℕ, zero, suc, ◌+◌, ◌<◌, ◌≤◌, ◌≡◌, sym, ap, subst, ◌∙◌, arith, List, [], ◌∷◌, length, map, get_or, Option, Some, None, slice_get}
 use Rattle.std.proofs.lemmas.List.{length-map}
-use Rattle.hir_types.specs.declared.ids.CallableDefId.{CallableDefId}
-use Rattle.hir_types.specs.declared.ids.CallableDefId.TheVariants as callable
 use Rattle.hir_types.specs.declared.ids.ExprId.{ExprId}
-use Rattle.hir_types.specs.declared.ty.GenericArg.{GenericArg}
 use Rattle.hir_types.specs.declared.ty.Ty.{Ty}
-use Rattle.hir_types.specs.declared.ty.Ty.TheVariants as ty
 use Rattle.hir_types.specs.Subst.{Assignment, folded}
-use Rattle.hir_facts.specs.CarriedBodies.{IsItemAt, calls_items}
-use Rattle.hir_facts.specs.Scope.{names_item}
 use Rattle.hir_facts.specs.CarriedTypes.{IsCarriedType}
-use Rattle.hir_facts.specs.declared.raw.RawExpr.TheVariants as expr
-use Rattle.hir_facts.specs.declared.raw.RawPath.{RawPath}
-use Rattle.hir_facts.specs.declared.raw.RawPath.TheVariants as path
 use Rattle.hir_facts.specs.declared.schedule.Schedule.{Schedule}
-use Rattle.hir_facts.specs.Signatures.{type_args, at_args}
+use Rattle.hir_facts.specs.Signatures.{at_args}
 use Rattle.infer_result.specs.declared.diagnostics.InferenceDiagnostic.TheVariants as diagnostic
 use Rattle.infer_result.specs.Places.{Given}
 use Rattle.infer_table.specs.Table.{Grew}
@@ -26,61 +17,18 @@ use Rattle.infer_expr.specs.Context as context
 use Rattle.infer_expr.specs.Closings.{Closes, found_under}
 use Rattle.infer_expr.specs.Fine.{IsFine}
 use Rattle.infer_expr.specs.Found as found
-use Rattle.infer_expr.specs.Steps.{Follows, Before, Within, OwnDone, CoerceDone, KindDone, PathDone, ArePartTypes, AreFreshArgs, CalleeDone, BeforeArgs, BeforeInputs, ArgsDone, OnlyBinds}
+use Rattle.infer_expr.specs.Steps.{Follows, Before, Within, OwnDone, CoerceDone, KindDone, CalleeDone, BeforeArgs, BeforeInputs, ArgsDone, BeforeLoose, LooseDone, OnlyBinds}
 use Rattle.infer_expr.specs.Under as under
 use Rattle.infer_expr.specs.Under.{inputs_at}
 use Rattle.infer_expr.proofs.AtEach.{follows_itself, follows_twice, closes_before, walking_after, within_under}
-use Rattle.infer_expr.proofs.Calls.{own_callee, callee_before, past_callee, callee_then, kind_for_any, ArgsLoop, args_start, arg_before, arg_next, args_done, OthersLoop, others_start, other_before, other_next, others_done, call_done}
-use Rattle.infer_expr.proofs.Closed.{same_found, of_body_diagnostic, sound_diagnostic}
-use Rattle.infer_expr.proofs.Expressions.{comes_within, own_done}
+use Rattle.infer_expr.proofs.Calls.{callee_before, past_callee, kind_for_any, ArgsLoop, args_start, arg_before, arg_next, args_done, told_loose, others_done, call_done, LooseLoop, loose_start, loose_before, loose_next, loose_done}
+use Rattle.infer_expr.proofs.Closed.{same_found, diagnostic_under, of_body_diagnostic, sound_diagnostic}
 use Rattle.infer_expr.proofs.FineTypes.{AllFine, every_at, fine_grown}
 use Rattle.infer_expr.proofs.Instances.{known_instance, fine_instance, fine_instances, instances_under}
-use Rattle.infer_expr.proofs.OverTypes.{fine_closed, fn_def_closed}
+use Rattle.infer_expr.proofs.OverTypes.{fine_closed}
 use Rattle.infer_expr.proofs.PatHoles.{all_fine}
-use Rattle.infer_expr.proofs.PathWalk.{path_kind, function_path, tuple_path}
-use Rattle.infer_expr.proofs.Items.{ctor_item}
 
 -- ---- what is called
-
--- a path to an item has that item's type at as many types as it has parameters
-item_path : (g : Given) (s : Schedule) (called : ExprId) (x : Option Ty) (old : InferenceContext) (p : RawPath) (id : CallableDefId) (item : under.IsItem g.scope.facts id) (ts : List Ty) (mid : InferenceContext) → Before g s called x old → slice_get g.body.exprs called.0 ≡ Some (expr.Path p) → names_item p ≡ Some id
-    → ArePartTypes g.scope item.signature.params ts (context.entered old) mid → PathDone g p (ty.FnDef id (type_args ts)) (context.entered old) mid
-item_path g s called x old (path.Local v) id item ts mid h is names made = absurd (cc)
-item_path g s called x old path.Other id item ts mid h is names made = absurd (cc)
-item_path g s called x old (path.Function f) id item ts mid h is names made =
-    let same : callable.FunctionId f ≡ id = cc in
-    let P : CallableDefId → Type 0 = λ i. (it : under.IsItem g.scope.facts i) → ArePartTypes g.scope it.signature.params ts (context.entered old) mid → PathDone g (path.Function f) (ty.FnDef i (type_args ts)) (context.entered old) mid in
-    subst P same (λ it m. function_path g f it ts (context.entered old) mid m) item made
-item_path g s called x old (path.Ctor v) id item ts mid h is names made =
-    let same : callable.VariantId v ≡ id = cc in
-    let y : under.IsVariant g.scope.facts v = h.ready.written.constructors called v is in
-    let P : CallableDefId → Type 0 = λ i. (it : under.IsItem g.scope.facts i) → ArePartTypes g.scope it.signature.params ts (context.entered old) mid → PathDone g (path.Ctor v) (ty.FnDef i (type_args ts)) (context.entered old) mid in
-    subst P same (λ it m.
-    (let (tuple, count) = ctor_item g v y.variant y.params it.signature y.found y.count it.found in
-    tuple_path g v y ts (context.entered old) mid (subst (λ n. ArePartTypes g.scope n ts (context.entered old) mid) (sym count) m) tuple)) item made
-
--- the path is typed at new holes
-pub callee_typed : (g : Given) (s : Schedule) (called : ExprId) (p : RawPath) (id : CallableDefId) (item : under.IsItem g.scope.facts id) (xs : List GenericArg) (old mid : InferenceContext) → Before g s called None old → slice_get g.body.exprs called.0 ≡ Some (expr.Path p) → names_item p ≡ Some id
-    → AreFreshArgs g.scope item.signature.params xs (context.entered old) mid → CalleeDone g s called (ty.FnDef id xs) old (context.with_expr_ty mid called (ty.FnDef id xs))
-callee_typed g s called p id item xs old mid h is names fresh =
-    let ts : List Ty = fresh.types in
-    let t : Ty = ty.FnDef id (type_args ts) in
-    let named : PathDone g p t (context.entered old) mid = item_path g s called None old p id item ts mid h is names fresh.made in
-    let own : OwnDone g s called None t old (context.with_expr_ty mid called t) = own_done g s called None t old mid h (path_kind g s called None p t (context.entered old) mid (comes_within g s called None old h) is named) in
-    let P : List GenericArg → Type 0 = λ ys. CalleeDone g s called (ty.FnDef id ys) old (context.with_expr_ty mid called (ty.FnDef id ys)) in
-    subst P (sym fresh.are) (record {
-      id = id;
-      item = item;
-      types = ts;
-      is = refl;
-      count = fresh.made.count_is;
-      follows = own.follows;
-      fine = fresh.made.fine;
-      each = λ a q.
-          let new : InferenceContext = context.with_expr_ty mid called t in
-          own_callee g s called id (map (folded a) ts) (found_under a old) (found_under a new)
-          (subst (λ u. under.OwnDone g s called None u (found_under a old) (found_under a new)) (fn_def_closed a id ts) (own.each a q));
-    })
 
 module _ (g : Given) (s : Schedule) (n called : ExprId) (args : List ExprId) (c : InferenceContext) (h : Within g s n None c) (is : under.IsCallOf g.body n called args) where
   pub comes_to_callee : Before g s called None c
@@ -89,23 +37,13 @@ module _ (g : Given) (s : Schedule) (n called : ExprId) (args : List ExprId) (c 
       let here = callee_before g s n called args None (found_under q.0 c) (within_under g s q.0 c q.1 n None h) is in
       record { ready = h.ready; state = h.state; within = here.within; here = here.here; expected = tt }
 
-  pub calls_item : IsItemAt g.body called
-  calls_item = calls_items g.body h.ready.law.carried n.0 called args is
-
-  -- which exists
-  pub callee_item : (p : RawPath) (id : CallableDefId) → slice_get g.body.exprs called.0 ≡ Some (expr.Path p) → names_item p ≡ Some id → under.IsItem g.scope.facts id
-  callee_item (path.Local v) id at names = absurd (cc)
-  callee_item path.Other id at names = absurd (cc)
-  callee_item (path.Function f) id at names = (let same : callable.FunctionId f ≡ id = cc in subst (λ i. under.IsItem g.scope.facts i) same (h.ready.written.functions called f at))
-  callee_item (path.Ctor v) id at names = (let same : callable.VariantId v ≡ id = cc in subst (λ i. under.IsItem g.scope.facts i) same (h.ready.written.callees n called args v is at))
-
   pub comes_to_args : (t : Ty) (mid : InferenceContext) → CalleeDone g s called t c mid → BeforeArgs g s n args t mid
   comes_to_args t mid d =
       let found_at : (a : Assignment) → Closes a mid → under.BeforeArgs g s n called args d.id d.item.signature (map (folded a) d.types) (found_under a mid)
       = λ a q. past_callee g s n called args None (found_under a c) (within_under g s a c (closes_before g a c mid d.follows q) n None h) is d.id d.item.signature (map (folded a) d.types) (found_under a mid) d.item.found (d.each a q) in
       record {
         ready = h.ready;
-        state = walking_after g s c mid d.follows (λ a q. (found_at a q).state);
+        state = walking_after g s c mid h.state.told d.follows (λ a q. (found_at a q).state);
         called = called;
         id = d.id;
         item = d.item;
@@ -113,15 +51,9 @@ module _ (g : Given) (s : Schedule) (n called : ExprId) (args : List ExprId) (c 
         is = d.is;
         count = d.count;
         fine = d.fine;
+        tells = d.tells n args is;
         each = found_at;
       }
-
-  pub called_then : (t u : Ty) (mid new : InferenceContext) → CalleeDone g s called t c mid → KindDone g s n None u mid new → KindDone g s n None u c new
-  called_then t u mid new d k = record {
-    follows = follows_twice g c mid new d.follows k.follows;
-    fine = k.fine;
-    each = λ a q. callee_then g s n called d.id (map (folded a) d.types) (folded a u) (found_under a c) (found_under a mid) (found_under a new) (d.each a (closes_before g a mid new k.follows q)) (k.each a q);
-  }
 
 -- what is expected does not matter
 pub within_any : (g : Given) (s : Schedule) (n : ExprId) (x : Option Ty) (c : InferenceContext) → Within g s n x c → Within g s n None c
@@ -131,6 +63,7 @@ pub call_for_any : (g : Given) (s : Schedule) (n : ExprId) (x : Option Ty) (t : 
 call_for_any g s n x t old new k = record {
   follows = k.follows;
   fine = k.fine;
+  tells = k.tells;
   each = λ a q. kind_for_any g s n _ (folded a t) (found_under a old) (found_under a new) (k.each a q);
 }
 
@@ -164,6 +97,7 @@ module _ (g : Given) (s : Schedule) (n : ExprId) (args : List ExprId) (t : Ty) (
       subst (λ v. KindDone g s n None v mid new) (sym output) (record {
         follows = d.follows;
         fine = gives_fine new d.follows.grew;
+        tells = h.tells;
         each = λ a q.
             let m : Closes a mid = closes_before g a mid new d.follows q in
             let ts : List Ty = map (folded a) h.types in
@@ -197,9 +131,6 @@ module _ (g : Given) (s : Schedule) (n : ExprId) (args : List ExprId) (ss : List
   pub input_fine : (i : ℕ) (u : Ty) → slice_get ss i ≡ Some u → IsFine g.scope mid.table u
   input_fine i u is = every_at (IsFine g.scope mid.table) ss i u all_inputs_fine is
 
-  pub still_fine : (i : ℕ) (u : Ty) (c : InferenceContext) → Grew mid.table c.table → slice_get ss i ≡ Some u → IsFine g.scope c.table u
-  still_fine i u c grew is = fine_grown g.scope mid.table c.table u grew (input_fine i u is)
-
   taken_input : (a : Assignment) (i : ℕ) (u : Ty) → slice_get ss i ≡ Some u → slice_get (taken_at a) i ≡ Some (folded a u)
   taken_input a i u is = subst (λ us. slice_get us i ≡ Some (folded a u)) (taken_under a) (under_at ss i is)
     where
@@ -228,7 +159,7 @@ module _ (g : Given) (s : Schedule) (n : ExprId) (args : List ExprId) (ss : List
         let here = arg_before g s n h.before.called args h.before.id h.before.item.signature (map (folded q.0) h.before.types) (found_under q.0 mid) (h.before.each q.0 m) i (found_under q.0 c) (w.each q.0 q.1) e is k (folded q.0 u) (fine_closed g.scope q.0 u q.1.closing fine.heads) in
         record {
           ready = h.before.ready;
-          state = walking_after g s mid c w.follows (λ a l. (w.each a l).walks.state);
+          state = walking_after g s mid c h.before.state.told w.follows (λ a l. (w.each a l).walks.state);
           within = here.within;
           here = here.here;
           expected = fine;
@@ -255,64 +186,103 @@ module _ (g : Given) (s : Schedule) (n : ExprId) (args : List ExprId) (ss : List
   -- ---- another number of them
 
   module _ (differ : length args ≡ length ss → ⊥) where
-    pub differ_at : (a : Assignment) → length args ≡ length (taken_at a) → ⊥
+    differ_at : (a : Assignment) → length args ≡ length (taken_at a) → ⊥
     differ_at a e = differ (e ∙ taken_count a)
 
-    abbrev told : InferenceContext
+    abbrev pub told : InferenceContext
     told = context.with_diagnostic mid n (diagnostic.MismatchedArgCount n (length ss) (length args))
 
-    -- the first i arguments are typed
-    pub record OthersWalk (i : ℕ) (c : InferenceContext) : Type 0 where
-      pub follows : Follows g mid c
-      pub each : (a : Assignment) (q : Closes a mid) → Closes a c → OthersLoop g s n h.before.called args h.before.id h.before.item.signature (map (folded a) h.before.types) (found_under a mid) (h.before.each a q) (differ_at a) i (found_under a c)
-
-    pub begins_others : OthersWalk 0 told
-    begins_others = record {
-      follows = record {
-        clock = omega arith;
-        grew = (follows_itself g mid h.before.state.of_body h.before.state.sound).grew;
-        of_body = of_body_diagnostic g.body mid h.before.state.of_body n (diagnostic.MismatchedArgCount n (length ss) (length args));
-        sound = sound_diagnostic mid h.before.state.sound n (diagnostic.MismatchedArgCount n (length ss) (length args));
-      };
-      each = λ a q l.
-          let begun = others_start g s n h.before.called args h.before.id h.before.item.signature (map (folded a) h.before.types) (found_under a mid) (h.before.each a q) (differ_at a) in
-          let P : ℕ → Type 0 = λ k. OthersLoop g s n h.before.called args h.before.id h.before.item.signature (map (folded a) h.before.types) (found_under a mid) (h.before.each a q) (differ_at a) 0 (found.with_diagnostic (found_under a mid) n (diagnostic.MismatchedArgCount n k (length args))) in
-          subst P (taken_count a) begun;
+    told_follows : Follows g mid told
+    told_follows = record {
+      clock = omega arith;
+      grew = (follows_itself g mid h.before.state.of_body h.before.state.sound).grew;
+      of_body = of_body_diagnostic g.body mid h.before.state.of_body n (diagnostic.MismatchedArgCount n (length ss) (length args));
+      sound = sound_diagnostic mid h.before.state.sound n (diagnostic.MismatchedArgCount n (length ss) (length args)) (λ m t e. absurd (cc));
+      told = λ k. k;
     }
 
-    module _ (i : ℕ) (c : InferenceContext) (w : OthersWalk i c) (e : ExprId) (is : e ≡ get_or args i e) (k : i < length args) where
-      pub comes_to_other : Before g s e None c
-      comes_to_other =
-          let q = w.follows.sound.some in
-          let m : Closes q.0 mid = closes_before g q.0 mid c w.follows q.1 in
-          let here = other_before g s n h.before.called args h.before.id h.before.item.signature (map (folded q.0) h.before.types) (found_under q.0 mid) (h.before.each q.0 m) (differ_at q.0) i (found_under q.0 c) (w.each q.0 m q.1) e is k in
-          record {
-            ready = h.before.ready;
-            state = walking_after g s mid c w.follows (λ a l. (w.each a (closes_before g a mid c w.follows l) l).walks.state);
-            within = here.within;
-            here = here.here;
-            expected = tt;
-          }
+    -- what is said of the number, under an assignment
+    abbrev told_at : Assignment → found.Found
+    told_at a = found.with_diagnostic (found_under a mid) n (diagnostic.MismatchedArgCount n (length (taken_at a)) (length args))
 
-      pub goes_past_other : (t : Ty) (next last : InferenceContext) → OwnDone g s e None t c next → OnlyBinds g next last → OthersWalk (i + 1) last
-      goes_past_other t next last d o = record {
-        follows = follows_twice g mid next last (follows_twice g mid c next w.follows d.follows) o.follows;
-        each = λ a q l.
-            let j : Closes a next = closes_before g a next last o.follows l in
-            let y : Closes a c = closes_before g a c next d.follows j in
-            let P : found.Found → Type 0 = λ z. OthersLoop g s n h.before.called args h.before.id h.before.item.signature (map (folded a) h.before.types) (found_under a mid) (h.before.each a q) (differ_at a) (i + 1) z in
-            subst P (sym (same_found a next last o.result o.asked o.clock))
-            (other_next g s n h.before.called args h.before.id h.before.item.signature (map (folded a) h.before.types) (found_under a mid) (h.before.each a q) (differ_at a) i (found_under a c) (w.each a q y) e is k (folded a t) (found_under a next) (d.each a j));
-      }
+    told_is : (a : Assignment) → told_at a ≡ found_under a told
+    told_is a = ap (λ k. found.with_diagnostic (found_under a mid) n (diagnostic.MismatchedArgCount n k (length args))) (taken_count a) ∙ sym (diagnostic_under a mid n (diagnostic.MismatchedArgCount n (length ss) (length args)))
 
-    pub ends_others : (i : ℕ) (c : InferenceContext) → OthersWalk i c → length args ≤ i → ArgsDone g s n args ss mid c
-    ends_others i c w over = record {
-      follows = w.follows;
+    loose_at : (a : Assignment) → Closes a mid → under.BeforeLoose g s n h.before.called args (told_at a)
+    loose_at a q = told_loose g s n h.before.called args h.before.id h.before.item.signature (map (folded a) h.before.types) (found_under a mid) (h.before.each a q) (differ_at a)
+
+    pub comes_to_others : BeforeLoose g s n args ss told
+    comes_to_others =
+        let each : (a : Assignment) → Closes a told → under.BeforeLoose g s n h.before.called args (found_under a told)
+        = λ a q. subst (λ k. under.BeforeLoose g s n h.before.called args k) (told_is a) (loose_at a (closes_before g a mid told told_follows q)) in
+        record {
+          ready = h.before.ready;
+          state = walking_after g s mid told h.before.state.told told_follows (λ a q. (each a q).state);
+          called = h.before.called;
+          fine = input_fine;
+          each = each;
+        }
+
+    pub ends_others : (new : InferenceContext) → LooseDone g s n told new → ArgsDone g s n args ss mid new
+    ends_others new d = record {
+      follows = follows_twice g mid told new told_follows d.follows;
       each = λ a q.
-          let m : Closes a mid = closes_before g a mid c w.follows q in
-          subst (λ us. under.ArgsDone g s n args us (found_under a mid) (found_under a c)) (sym (taken_under a))
-          (others_done g s n h.before.called args h.before.id h.before.item.signature (map (folded a) h.before.types) (found_under a mid) (h.before.each a m) (differ_at a) i (found_under a c) (w.each a m q) over);
+          let l : Closes a told = closes_before g a told new d.follows q in
+          let m : Closes a mid = closes_before g a mid told told_follows l in
+          let typed : under.LooseDone g s n (told_at a) (found_under a new) = subst (λ k. under.LooseDone g s n k (found_under a new)) (sym (told_is a)) (d.each a q) in
+          subst (λ us. under.ArgsDone g s n args us (found_under a mid) (found_under a new)) (sym (taken_under a))
+          (others_done g s n h.before.called args h.before.id h.before.item.signature (map (folded a) h.before.types) (found_under a mid) (h.before.each a m) (differ_at a) (found_under a new) typed);
     }
+
+-- ---- arguments of which nothing is asked
+
+module _ (g : Given) (s : Schedule) (n : ExprId) (args : List ExprId) (ss : List Ty) (mid : InferenceContext) (h : BeforeLoose g s n args ss mid) where
+  -- the first i of them are typed
+  pub record LooseWalk (i : ℕ) (c : InferenceContext) : Type 0 where
+    pub follows : Follows g mid c
+    pub each : (a : Assignment) → Closes a c → LooseLoop g s n args i (found_under a mid) (found_under a c)
+
+  pub begins_loose : LooseWalk 0 mid
+  begins_loose = record {
+    follows = follows_itself g mid h.state.of_body h.state.sound;
+    each = λ a q. loose_start g s n h.called args (found_under a mid) (h.each a q);
+  }
+
+  module _ (i : ℕ) (c : InferenceContext) (w : LooseWalk i c) (e : ExprId) (is : e ≡ get_or args i e) (k : i < length args) where
+    pub comes_to_loose : Before g s e None c
+    comes_to_loose =
+        let q = w.follows.sound.some in
+        let m : Closes q.0 mid = closes_before g q.0 mid c w.follows q.1 in
+        let here = loose_before g s n h.called args (found_under q.0 mid) (h.each q.0 m) i (found_under q.0 c) (w.each q.0 q.1) e is k in
+        record {
+          ready = h.ready;
+          state = walking_after g s mid c h.state.told w.follows (λ a l. (w.each a l).walks.state);
+          within = here.within;
+          here = here.here;
+          expected = tt;
+        }
+
+    pub goes_past_loose : (t : Ty) (next last : InferenceContext) → OwnDone g s e None t c next → OnlyBinds g next last → LooseWalk (i + 1) last
+    goes_past_loose t next last d o = record {
+      follows = follows_twice g mid next last (follows_twice g mid c next w.follows d.follows) o.follows;
+      each = λ a l.
+          let j : Closes a next = closes_before g a next last o.follows l in
+          let y : Closes a c = closes_before g a c next d.follows j in
+          let m : Closes a mid = closes_before g a mid c w.follows y in
+          subst (λ z. LooseLoop g s n args (i + 1) (found_under a mid) z) (sym (same_found a next last o.result o.asked o.clock))
+          (loose_next g s n h.called args (found_under a mid) (h.each a m) i (found_under a c) (w.each a y) e is k (folded a t) (found_under a next) (d.each a j));
+    }
+
+  pub still_fine : (i : ℕ) (u : Ty) (c : InferenceContext) → Grew mid.table c.table → slice_get ss i ≡ Some u → IsFine g.scope c.table u
+  still_fine i u c grew is = fine_grown g.scope mid.table c.table u grew (h.fine i u is)
+
+  pub ends_loose : (i : ℕ) (c : InferenceContext) → LooseWalk i c → length args ≤ i → LooseDone g s n mid c
+  ends_loose i c w over = record {
+    follows = w.follows;
+    each = λ a q.
+        let m : Closes a mid = closes_before g a mid c w.follows q in
+        loose_done g s n h.called args (found_under a mid) (h.each a m) i (found_under a c) (w.each a q) over;
+  }
 
 -- ---- the loops over arguments
 
@@ -321,8 +291,7 @@ pub record AtArgs (g : Given) (s : Schedule) (n : ExprId) (args : List ExprId) (
   pub before : BeforeInputs g s n args ss mid
   pub walk : ArgsWalk g s n args ss mid before i c
 
--- the first i of another number of arguments are typed
-pub record AtOthers (g : Given) (s : Schedule) (n : ExprId) (args : List ExprId) (ss : List Ty) (i : ℕ) (mid c : InferenceContext) : Type 0 where
-  pub before : BeforeInputs g s n args ss mid
-  pub differ : (length args ≡ length ss → ⊥)
-  pub walk : OthersWalk g s n args ss mid before differ i c
+-- the first i of the arguments of which nothing is asked are typed
+pub record AtLoose (g : Given) (s : Schedule) (n : ExprId) (args : List ExprId) (ss : List Ty) (i : ℕ) (mid c : InferenceContext) : Type 0 where
+  pub before : BeforeLoose g s n args ss mid
+  pub walk : LooseWalk g s n args ss mid before i c

@@ -1,11 +1,13 @@
 -- What a call shows: the item that it calls, and its arguments one after another.
-use Rattle.std.proofs.Common.{ℕ, zero, suc, ◌+◌, ◌<◌, ◌≤◌, ◌≡◌, inl, inr, List, [], ◌∷◌, ◌++◌, length, take, drop, get_or, refl, sym, ap, subst, ◌∙◌, arith, Option, Some, None, slice_get, append-nil}
+use Rattle.std.proofs.Common.{ℕ, zero, suc, ◌+◌, ◌<◌, ◌≤◌, ◌≡◌, ◌⊎◌, inl, inr, List, [], ◌∷◌, ◌++◌, length, take, drop, get_or, refl, sym, ap, subst, ◌∙◌, arith, Option, Some, None, slice_get, append-nil}
 use Rattle.std.proofs.Math.ListN.{drop_of_length-le, take-append-drop}
 use Rattle.std.proofs.lemmas.List.{take_more, length-map}
 use Rattle.std.proofs.lemmas.Option.{slice_get_read}
 use Rattle.hir_types.specs.declared.ids.ExprId.{ExprId}
 use Rattle.hir_types.specs.declared.ids.CallableDefId.{CallableDefId}
+use Rattle.hir_types.specs.declared.ids.ExprOrPatId.{ExprOrPatId}
 use Rattle.hir_types.specs.declared.ids.ExprOrPatId.TheVariants as node
+use Rattle.hir_types.specs.Subst.{folded}
 use Rattle.hir_types.specs.declared.ty.Ty.{Ty}
 use Rattle.hir_types.specs.declared.ty.Ty.TheVariants as ty
 use Rattle.hir_types.specs.Instances.{fn_def_tells}
@@ -17,17 +19,24 @@ use Rattle.hir_facts.specs.Signatures.{Signature, signature_of, type_args, at_ar
 use Rattle.infer_result.specs.declared.diagnostics.InferenceDiagnostic.{InferenceDiagnostic}
 use Rattle.infer_result.specs.declared.diagnostics.InferenceDiagnostic.TheVariants as diagnostic
 use Rattle.infer_result.specs.declared.result.InferenceResult.{InferenceResult}
+use Rattle.infer_result.specs.declared.result.Seen.{Seen}
 use Rattle.infer_result.specs.Places.{Given, Demand, IsAtOrMismatch, IsCallee}
+use Rattle.infer_result.specs.Rules.Calls.{ArgsRule}
+use Rattle.infer_result.specs.Rules.Placing.{at_or_mismatch}
+use Rattle.infer_result.specs.Truth.Seen.{IsTrueSeen}
+use Rattle.infer_result.specs.Unknown.{has_unknown, IsKnown}
 use Rattle.infer_result.specs.Rules.Tuples.{AllAt}
-use Rattle.infer_result.specs.Table.{HasTy, HasDiagnostic}
+use Rattle.infer_result.specs.Table.{At, HasTy, HasDiagnostic, WasSeen}
 use Rattle.infer_result.specs.Truth.Calls.{IsTrueDiagnostic}
-use Rattle.infer_expr.specs.Found.{Found, with_diagnostic}
-use Rattle.infer_expr.specs.Walks.{Walks, IsWalked, Extends, Nothing, Owed, PaidBy, expr_end}
-use Rattle.infer_expr.specs.Under.{LieAhead, Before, Within, OwnDone, CoerceDone, KindDone, IsCallOf, IsCalling, CalleeDone, BeforeArgs, ArgsDone, inputs_at}
-use Rattle.infer_expr.proofs.Lists.{drop-step, noted-keeps, noted-cases, noted-some, length-noted}
-use Rattle.infer_expr.proofs.Parts.{ahead_rest, expr_ahead, expr_before}
+use Rattle.infer_expr.specs.Found.{Found, with_diagnostic, with_seen}
+use Rattle.infer_expr.specs.Walks.{Walks, IsWalked, IsSeenAs, Extends, Nothing, Owed, PaidBy, expr_end}
+use Rattle.infer_expr.specs.Under.{LieAhead, Before, Within, OwnDone, CoerceDone, KindDone, IsCallOf, IsCalling, CalleeDone, BeforeArgs, ArgsDone, BeforeLoose, LooseDone, BeforeUncallable, inputs_at}
+use Rattle.infer_expr.proofs.Closed.{push_cases}
+use Rattle.infer_expr.proofs.Lists.{same_or_not, drop-step, slice_get-append_left, slice_get-push, noted-keeps, noted-cases, noted-some, length-noted}
+use Rattle.infer_expr.proofs.Said.{length-said_of, said_of-cases, said_of-keeps, said_of-own}
+use Rattle.infer_expr.proofs.Parts.{expr_id, ahead_rest, expr_ahead, expr_before}
 use Rattle.infer_expr.proofs.Category.{walks_refl, walks_trans, walks_paid}
-use Rattle.infer_expr.proofs.Keeps.{all_kept, args_kept, callee_kept, diagnostic_kept}
+use Rattle.infer_expr.proofs.Keeps.{all_kept, args_kept, callee_kept, diagnostic_kept, true_seen_kept, seen_as_kept}
 use Rattle.infer_expr.proofs.Leaves.{rule_of}
 use Rattle.infer_expr.proofs.Tuples.{all_push}
 
@@ -56,6 +65,30 @@ module _ (g : Given) (s : Schedule) (n called : ExprId) (args : List ExprId) (x 
     ahead = subst (λ k. LieAhead g.body s (inner (node.ExprId n)) k (exprs_from argument 0 args)) (sym d.clock) (ahead_rest g.body s (inner (node.ExprId n)) c.clock (expr_part callee called) (exprs_from argument 0 args) call_ahead.0);
     ends = subst (λ k. after g.body s k (exprs_from argument 0 args) ≡ expr_end g.body s n) (sym d.clock) call_ahead.1;
   }
+
+-- what is called is typed
+pub uncallable_before : (g : Given) (s : Schedule) (n called : ExprId) (args : List ExprId) (x : Option Ty) (c : Found) → Within g s n x c → IsCallOf g.body n called args → (t : Ty) (mid : Found) → OwnDone g s called None t c mid → BeforeUncallable g s n called args t mid
+uncallable_before g s n called args x c h is t mid d =
+    let ahead = call_ahead g s n called args x c h is in
+    record {
+      loose = record {
+        ready = h.ready;
+        state = d.walks.state;
+        is_call = is;
+        within = h.within;
+        ahead = subst (λ k. LieAhead g.body s (inner (node.ExprId n)) k (exprs_from argument 0 args)) (sym d.clock) (ahead_rest g.body s (inner (node.ExprId n)) c.clock (expr_part callee called) (exprs_from argument 0 args) ahead.0);
+        ends = subst (λ k. after g.body s k (exprs_from argument 0 args) ≡ expr_end g.body s n) (sym d.clock) ahead.1;
+      };
+      has = d.type_is;
+    }
+
+pub own_then : (g : Given) (s : Schedule) (n called : ExprId) (u t : Ty) (c mid new : Found) → OwnDone g s called None u c mid → KindDone g s n None t mid new → KindDone g s n None t c new
+own_then g s n called u t c mid new d k = record {
+  walks = walks_trans g s (PaidBy g n None t) c mid new (walks_paid g s (Owed called None) (PaidBy g n None t) c mid (λ e m o. absurd o) d.walks) k.walks;
+  clock = k.clock;
+  carried = k.carried;
+  rule = k.rule;
+}
 
 -- what is called comes first
 pub callee_then : (g : Given) (s : Schedule) (n called : ExprId) (id : CallableDefId) (ts : List Ty) (t : Ty) (c mid new : Found) → CalleeDone g s called id ts c mid → KindDone g s n None t mid new → KindDone g s n None t c new
@@ -186,7 +219,7 @@ module _ (g : Given) (s : Schedule) (n called : ExprId) (args : List ExprId) (id
       record {
         walks = h.walks;
         clock = subst (λ l. after g.body s c.clock (exprs_from argument i l) ≡ expr_end g.body s n) none h.ends;
-        made = inl (subst (λ l. AllAt (IsAtOrMismatch c.result) l ins) (taken_whole args i over) (subst (λ l. AllAt (IsAtOrMismatch c.result) (take i args) l) (taken_whole ins i all_ins) h.made));
+        made = inl (inl (subst (λ l. AllAt (IsAtOrMismatch c.result) l ins) (taken_whole args i over) (subst (λ l. AllAt (IsAtOrMismatch c.result) (take i args) l) (taken_whole ins i all_ins) h.made)));
       }
     where
       taken_whole : {A : Type 0} (xs : List A) (j : ℕ) → length xs ≤ j → take j xs ≡ xs
@@ -208,7 +241,9 @@ module _ (g : Given) (s : Schedule) (n called : ExprId) (args : List ExprId) (id
     pat_variants = λ p v h. h;
     mismatches = λ e m h. h;
     pat_mismatches = λ p m h. h;
-    diagnostics = λ e d h. noted-keeps mid.result.expr_diagnostics n.0 e.0 complaint d h;
+    placeholders = λ k t h. h;
+    diagnostics = λ e d h. inl (noted-keeps mid.result.expr_diagnostics n.0 e.0 complaint d h);
+    seen = λ e h. record { position = h.position; entry = h.entry; found = h.found; is_node = h.is_node };
   }
 
   -- it is true
@@ -228,9 +263,10 @@ module _ (g : Given) (s : Schedule) (n called : ExprId) (args : List ExprId) (id
     },
   )
 
-  -- and any other that is true says the same
-  same_complaint : (d : InferenceDiagnostic) → IsTrueDiagnostic g mid.result n d → d ≡ complaint
+  -- and any other that is true says the same, or that what is called was seen to be no function
+  same_complaint : (d : InferenceDiagnostic) → IsTrueDiagnostic g mid.result n d → (d ≡ complaint) ⊎ WasSeen mid.result n
   same_complaint (diagnostic.MismatchedTupleStructPatArgCount m expected found) h = absurd h
+  same_complaint (diagnostic.ExpectedFunction m t) h = inr h.1.seen
   same_complaint (diagnostic.MismatchedArgCount m expected found) (is, w) =
       let one_call : expr.Call w.called w.args ≡ expr.Call called args = (let q : Some (expr.Call w.called w.args) ≡ Some (expr.Call called args) = sym w.is_call ∙ b.calling.is_call in cc) in
       let same_called : w.called ≡ called = cc in
@@ -242,7 +278,7 @@ module _ (g : Given) (s : Schedule) (n called : ExprId) (args : List ExprId) (id
       let same_signature : w.signature ≡ σ = only_some signatures in
       let counts : expected ≡ length ins = w.is_expected ∙ (ap (λ (σ : Signature). length σ.inputs) same_signature ∙ sym (input_count g n called args id σ ts mid b.calling)) in
       let founds : found ≡ length args = w.is_found ∙ ap (λ l. length l) same_args in
-      λ i. diagnostic.MismatchedArgCount (is i) (counts i) (founds i)
+      inl (λ i. diagnostic.MismatchedArgCount (is i) (counts i) (founds i))
     where
       only_entry : {A : Type 0} {y z : A} → Some (Some y) ≡ Some (Some z) → y ≡ z
       only_entry q = cc
@@ -272,6 +308,8 @@ module _ (g : Given) (s : Schedule) (n called : ExprId) (args : List ExprId) (id
         exprs = b.state.carried.exprs;
         pats = b.state.carried.pats;
         bindings = b.state.carried.bindings;
+        placeholders = b.state.carried.placeholders;
+        found = λ m k t i. elim (noted-cases mid.result.expr_diagnostics n.0 m complaint (diagnostic.ExpectedFunction k t) i) [ inl q ↦ b.state.carried.found m k t q | inr q ↦ absurd (let clash = q.1 in cc) ];
         expected = b.state.carried.expected;
         actual = b.state.carried.actual;
         pat_expected = b.state.carried.pat_expected;
@@ -280,6 +318,8 @@ module _ (g : Given) (s : Schedule) (n called : ExprId) (args : List ExprId) (id
       modes = b.state.modes;
       pat_diagnostics = b.state.pat_diagnostics;
       variants = record { exprs = b.state.variants.exprs; pats = b.state.variants.pats };
+      placeholders = record { count = b.state.placeholders.count; only = b.state.placeholders.only };
+      seen = λ i y there. seen_as_kept g mid told complained_extends (λ e d k. noted-keeps mid.result.expr_diagnostics n.0 e.0 complaint d k) refl y (b.state.seen i y there);
       free_exprs = b.state.free_exprs;
       free_pats = b.state.free_pats;
       free_modes = b.state.free_modes;
@@ -307,50 +347,31 @@ module _ (g : Given) (s : Schedule) (n called : ExprId) (args : List ExprId) (id
       pat_truths = λ p m h. inl h;
     }
 
-    told_has : HasDiagnostic told.result n complaint
+    -- it stands there, or what is called was seen to be no function
+    told_has : HasDiagnostic told.result n complaint ⊎ WasSeen told.result n
     told_has =
         let within : n.0 < length mid.result.expr_diagnostics = rw b.state.of_body.diagnostics b.calling.within in
         let y = noted-some mid.result.expr_diagnostics n.0 complaint within in
         elim (noted-cases mid.result.expr_diagnostics n.0 n.0 complaint y.0 y.1) [
-          | inl q ↦ subst (λ z. HasDiagnostic told.result n z) (same_complaint y.0 (b.state.diagnostics n y.0 q)) y.1
-          | inr q ↦ subst (λ z. HasDiagnostic told.result n z) (sym q.1) y.1
+          | inl q ↦ elim (same_complaint y.0 (b.state.diagnostics n y.0 q)) [
+            | inl same ↦ inl (subst (λ z. HasDiagnostic told.result n z) same y.1)
+            | inr seen ↦ inr (record { position = seen.position; entry = seen.entry; found = seen.found; is_node = seen.is_node })
+          ]
+          | inr q ↦ inl (subst (λ z. HasDiagnostic told.result n z) (sym q.1) y.1)
         ]
 
-    -- the first i arguments are typed
-    pub record OthersLoop (i : ℕ) (c : Found) : Type 0 where
-      pub walks : Walks g s Nothing mid c
-      pub ahead : LieAhead g.body s (inner (node.ExprId n)) c.clock (exprs_from argument i (drop i args))
-      pub ends : after g.body s c.clock (exprs_from argument i (drop i args)) ≡ expr_end g.body s n
-      pub says : HasDiagnostic c.result n complaint
+    pub told_loose : BeforeLoose g s n called args told
+    told_loose = record { ready = b.ready; state = told_walked; is_call = b.calling.is_call; within = b.calling.within; ahead = b.ahead; ends = b.ends }
 
-    pub others_start : OthersLoop 0 told
-    others_start = record { walks = told_walks; ahead = b.ahead; ends = b.ends; says = told_has }
-
-    module _ (i : ℕ) (c : Found) (h : OthersLoop i c) (e : ExprId) (is : e ≡ get_or args i e) (k : i < length args) where
-      lies_other : LieAhead g.body s (inner (node.ExprId n)) c.clock (expr_part (argument i) e ∷ exprs_from argument (i + 1) (drop (i + 1) args))
-      lies_other = subst (λ ps. LieAhead g.body s (inner (node.ExprId n)) c.clock ps) (arg_step args i e is k) h.ahead
-
-      pub other_before : Before g s e None c
-      other_before = expr_before g s (inner (node.ExprId n)) (argument i) e (exprs_from argument (i + 1) (drop (i + 1) args)) None c b.ready h.walks.state lies_other tt
-
-      pub other_next : (t : Ty) (next : Found) → OwnDone g s e None t c next → OthersLoop (i + 1) next
-      other_next t next d =
-          let rest : after g.body s (expr_end g.body s e) (exprs_from argument (i + 1) (drop (i + 1) args)) ≡ expr_end g.body s n = subst (λ ps. after g.body s c.clock ps ≡ expr_end g.body s n) (arg_step args i e is k) h.ends in
-          record {
-            walks = walks_trans g s Nothing mid c next h.walks (walks_paid g s (Owed e None) Nothing c next (λ a m o. absurd o) d.walks);
-            ahead = subst (λ j. LieAhead g.body s (inner (node.ExprId n)) j (exprs_from argument (i + 1) (drop (i + 1) args))) (sym d.clock) (ahead_rest g.body s (inner (node.ExprId n)) c.clock (expr_part (argument i) e) (exprs_from argument (i + 1) (drop (i + 1) args)) lies_other);
-            ends = subst (λ j. after g.body s j (exprs_from argument (i + 1) (drop (i + 1) args)) ≡ expr_end g.body s n) (sym d.clock) rest;
-            says = d.walks.extends.diagnostics n complaint h.says;
-          }
-
-    pub others_done : (i : ℕ) (c : Found) → OthersLoop i c → length args ≤ i → ArgsDone g s n args ins mid c
-    others_done i c h over =
-        let none : drop i args ≡ [] = drop_of_length-le args over in
-        record {
-          walks = h.walks;
-          clock = subst (λ l. after g.body s c.clock (exprs_from argument i l) ≡ expr_end g.body s n) none h.ends;
-          made = inr h.says;
-        }
+    pub others_done : (new : Found) → LooseDone g s n told new → ArgsDone g s n args ins mid new
+    others_done new d = record {
+      walks = walks_trans g s Nothing mid told new told_walks d.walks;
+      clock = d.clock;
+      made = elim told_has [
+        | inl says ↦ elim (d.walks.extends.diagnostics n complaint says) [ inl k ↦ inl (inr k) | inr k ↦ inr k ]
+        | inr seen ↦ inr (d.walks.extends.seen n seen)
+      ];
+    }
 
   -- ---- the call
 
@@ -359,12 +380,204 @@ module _ (g : Given) (s : Schedule) (n called : ExprId) (args : List ExprId) (id
     walks = walks_paid g s Nothing (PaidBy g n None (at_args ts σ.output)) mid new (λ e m o. absurd o) d.walks;
     clock = d.clock;
     carried = carried;
-    rule = λ r k has.
-        rule_of g r n (expr.Call called args) b.calling.is_call (
-          σ,
-          ts,
-          callee_kept g new.result r k called σ ts (calls g n called args id σ ts mid b.calling new.result d.walks.extends),
-          args_kept g new.result r k n args ins d.made,
-          has,
-        );
+    rule = λ r k has. rule_of g r n (expr.Call called args) b.calling.is_call (elim (placed r k) [
+      | inl q ↦ inl (σ, ts, callee_kept g new.result r k called σ ts (calls g n called args id σ ts mid b.calling new.result d.walks.extends), q, has)
+      | inr q ↦ inr (q, (at_args ts σ.output, has))
+    ]);
+  }
+    where
+      placed : (r : InferenceResult) → Extends new.result r → ArgsRule (at_or_mismatch g r) n args ins ⊎ WasSeen r n
+      placed r k = elim d.made [ inl q ↦ args_kept g new.result r k n args ins q | inr q ↦ inr (k.seen n q) ]
+
+-- ---- arguments of which nothing is asked
+
+-- the first i of them are typed
+pub record LooseLoop (g : Given) (s : Schedule) (n : ExprId) (args : List ExprId) (i : ℕ) (mid c : Found) : Type 0 where
+  pub walks : Walks g s Nothing mid c
+  pub ahead : LieAhead g.body s (inner (node.ExprId n)) c.clock (exprs_from argument i (drop i args))
+  pub ends : after g.body s c.clock (exprs_from argument i (drop i args)) ≡ expr_end g.body s n
+
+module _ (g : Given) (s : Schedule) (n called : ExprId) (args : List ExprId) (mid : Found) (b : BeforeLoose g s n called args mid) where
+  pub loose_start : LooseLoop g s n args 0 mid mid
+  loose_start = record { walks = walks_refl g s Nothing mid b.state; ahead = b.ahead; ends = b.ends }
+
+  module _ (i : ℕ) (c : Found) (h : LooseLoop g s n args i mid c) (e : ExprId) (is : e ≡ get_or args i e) (k : i < length args) where
+    lies_loose : LieAhead g.body s (inner (node.ExprId n)) c.clock (expr_part (argument i) e ∷ exprs_from argument (i + 1) (drop (i + 1) args))
+    lies_loose = subst (λ ps. LieAhead g.body s (inner (node.ExprId n)) c.clock ps) (arg_step args i e is k) h.ahead
+
+    pub loose_before : Before g s e None c
+    loose_before = expr_before g s (inner (node.ExprId n)) (argument i) e (exprs_from argument (i + 1) (drop (i + 1) args)) None c b.ready h.walks.state lies_loose tt
+
+    pub loose_next : (t : Ty) (next : Found) → OwnDone g s e None t c next → LooseLoop g s n args (i + 1) mid next
+    loose_next t next d =
+        let rest : after g.body s (expr_end g.body s e) (exprs_from argument (i + 1) (drop (i + 1) args)) ≡ expr_end g.body s n = subst (λ ps. after g.body s c.clock ps ≡ expr_end g.body s n) (arg_step args i e is k) h.ends in
+        record {
+          walks = walks_trans g s Nothing mid c next h.walks (walks_paid g s (Owed e None) Nothing c next (λ a m o. absurd o) d.walks);
+          ahead = subst (λ j. LieAhead g.body s (inner (node.ExprId n)) j (exprs_from argument (i + 1) (drop (i + 1) args))) (sym d.clock) (ahead_rest g.body s (inner (node.ExprId n)) c.clock (expr_part (argument i) e) (exprs_from argument (i + 1) (drop (i + 1) args)) lies_loose);
+          ends = subst (λ j. after g.body s j (exprs_from argument (i + 1) (drop (i + 1) args)) ≡ expr_end g.body s n) (sym d.clock) rest;
+        }
+
+  pub loose_done : (i : ℕ) (c : Found) → LooseLoop g s n args i mid c → length args ≤ i → LooseDone g s n mid c
+  loose_done i c h over =
+      let none : drop i args ≡ [] = drop_of_length-le args over in
+      record { walks = h.walks; clock = subst (λ l. after g.body s c.clock (exprs_from argument i l) ≡ expr_end g.body s n) none h.ends }
+
+-- ---- what is called is no function
+
+module _ (g : Given) (s : Schedule) (n called : ExprId) (args : List ExprId) (t : Ty) (mid : Found) (b : BeforeUncallable g s n called args t mid) (y : Seen) (is_node : y.node ≡ node.ExprId n) (is_type : folded mid.holes y.ty ≡ t) (carried : IsCarriedType t) (so : (r : InferenceResult) → Extends mid.result r → IsTrueSeen g r y) where
+  abbrev saw : Found
+  saw = with_seen mid y
+
+  -- what was there stays, but another complaint at the call
+  saw_extends : Extends mid.result saw.result
+  saw_extends = record {
+    exprs = λ e u h. h;
+    pats = λ p u h. h;
+    bindings = λ v u h. h;
+    modes = λ p m h. h;
+    pat_diagnostics = λ p d h. h;
+    expr_variants = λ n v h. h;
+    pat_variants = λ p v h. h;
+    mismatches = λ e m h. h;
+    pat_mismatches = λ p m h. h;
+    placeholders = λ k u h. h;
+    diagnostics = λ e d h. elim (said_of-keeps mid.holes mid.result.expr_diagnostics y e.0 d h) [ inl k ↦ inl k | inr k ↦ inr (own_seen e k) ];
+    seen = λ e h. record { position = h.position; entry = h.entry; found = slice_get-append_left mid.result.seen (y ∷ []) h.position h.entry h.found; is_node = h.is_node };
+  }
+    where
+      own_seen : (e : ExprId) → y.node ≡ node.ExprId (record { 0 = e.0 }) → WasSeen saw.result e
+      own_seen e is = record { position = length mid.result.seen; entry = y; found = slice_get-push mid.result.seen y; is_node = is }
+
+  saw_it : WasSeen saw.result n
+  saw_it = record { position = length mid.result.seen; entry = y; found = slice_get-push mid.result.seen y; is_node = is_node }
+
+  same_call : (e : ExprId) → y.node ≡ node.ExprId e → e ≡ n
+  same_call e is = (let q : node.ExprId e ≡ node.ExprId n = sym is ∙ is_node in cc)
+
+  -- what is said now is true
+  saw_truths : (e : ExprId) (d : InferenceDiagnostic) → At saw.result.expr_diagnostics e.0 d → IsTrueDiagnostic g saw.result e d
+  saw_truths e d h = elim (said_of-cases mid.holes mid.result.expr_diagnostics y e.0 d h) [
+    | inl k ↦ diagnostic_kept g mid.result saw.result saw_extends e d (b.loose.state.diagnostics e d k)
+    | inr k ↦
+        (let own : k.call ≡ n = same_call k.call k.is_node in
+        let here : e ≡ n = expr_id e k.call k.is_here ∙ own in
+        subst (λ z. IsTrueDiagnostic g saw.result e z) (sym k.is) (
+        subst (λ z. IsTrueDiagnostic g saw.result z (diagnostic.ExpectedFunction k.call (folded mid.holes y.ty))) (sym here) (
+          own,
+          record { called = called; args = args; is_call = b.loose.is_call; has = subst (λ u. HasTy saw.result called u) (sym is_type) b.has; seen = saw_it; known = k.known },
+        )))
+  ]
+
+  one_callee : (c : ExprId) (xs : List ExprId) → slice_get g.body.exprs n.0 ≡ Some (expr.Call c xs) → c ≡ called
+  one_callee c xs h = (let q : Some (expr.Call c xs) ≡ Some (expr.Call called args) = sym h ∙ b.loose.is_call in cc)
+
+  recorded_here : (z : Seen) → folded mid.holes z.ty ≡ t → z.node ≡ node.ExprId n → (call c : ExprId) (xs : List ExprId) → z.node ≡ node.ExprId call → slice_get g.body.exprs call.0 ≡ Some (expr.Call c xs) → HasTy saw.result c (folded mid.holes z.ty)
+  recorded_here z typed at_n call c xs here there =
+      let own : call ≡ n = (let q : node.ExprId call ≡ node.ExprId n = sym here ∙ at_n in cc) in
+      let same : c ≡ called = one_callee c xs (subst (λ (e : ExprId). slice_get g.body.exprs e.0 ≡ Some (expr.Call c xs)) own there) in
+      subst (λ e. HasTy saw.result e (folded mid.holes z.ty)) (sym same) (subst (λ u. HasTy saw.result called u) (sym typed) b.has)
+
+  -- the look-up of the call itself is said
+  said_here : (call c : ExprId) (xs : List ExprId) (u : Ty) → call ≡ n → slice_get g.body.exprs call.0 ≡ Some (expr.Call c xs) → HasTy saw.result c u → IsKnown u → HasDiagnostic saw.result call (diagnostic.ExpectedFunction call u)
+  said_here call c xs u own there has known =
+      let same : c ≡ called = one_callee c xs (subst (λ (e : ExprId). slice_get g.body.exprs e.0 ≡ Some (expr.Call c xs)) own there) in
+      let typed : Some (Some u) ≡ Some (Some t) = sym (subst (λ e. HasTy saw.result e u) same has) ∙ b.has in
+      let one : u ≡ t = cc in
+      let is_u : folded mid.holes y.ty ≡ u = is_type ∙ sym one in
+      let within : n.0 < length mid.result.expr_diagnostics = rw b.loose.state.of_body.diagnostics b.loose.within in
+      let stands : At saw.result.expr_diagnostics n.0 (diagnostic.ExpectedFunction n (folded mid.holes y.ty)) = said_of-own mid.holes mid.result.expr_diagnostics y n is_node (ap has_unknown is_u ∙ known) within in
+      subst (λ e. HasDiagnostic saw.result e (diagnostic.ExpectedFunction e u)) (sym own) (subst (λ w. HasDiagnostic saw.result n (diagnostic.ExpectedFunction n w)) is_u stands)
+
+  call_or_other : (x : ExprOrPatId) → (x ≡ node.ExprId n) ⊎ (x ≡ node.ExprId n → ⊥)
+  call_or_other (node.PatId p) = inr (λ h. absurd (cc))
+  call_or_other (node.ExprId e) = elim (same_or_not e.0 n.0) [ inl k ↦ inl (ap (λ z. node.ExprId z) (expr_id e n k)) | inr k ↦ inr (λ h. (let q : e ≡ n = cc in k (ap (λ (z : ExprId). z.0) q))) ]
+
+  -- and so is each that was there
+  seen_before : (z : Seen) → IsSeenAs g mid z → IsSeenAs g saw z
+  seen_before z h = record {
+    is_true = true_seen_kept g mid.result saw.result saw_extends z h.is_true;
+    is_said = λ call c xs u here there has known. elim (call_or_other (node.ExprId call)) [
+      | inl own ↦ said_here call c xs u (let q : node.ExprId call ≡ node.ExprId n = own in cc) there has known
+      | inr other ↦
+          elim (said_of-keeps mid.holes mid.result.expr_diagnostics y call.0 (diagnostic.ExpectedFunction call u) (h.is_said call c xs u here there has known)) [
+            | inl k ↦ k
+            | inr k ↦ absurd (other (let q : node.ExprId (record { 0 = call.0 }) ≡ node.ExprId n = sym k ∙ is_node in q))
+          ]
+    ];
+    recorded = h.recorded;
+  }
+
+  seen_now : IsSeenAs g saw y
+  seen_now = record {
+    is_true = so saw.result saw_extends;
+    is_said = λ call c xs u here there has known. said_here call c xs u (same_call call here) there has known;
+    recorded = recorded_here y is_type is_node;
+  }
+
+  saw_walked : IsWalked g s saw
+  saw_walked = record {
+    of_body = record {
+      exprs = b.loose.state.of_body.exprs;
+      pats = b.loose.state.of_body.pats;
+      bindings = b.loose.state.of_body.bindings;
+      pat_diagnostics = b.loose.state.of_body.pat_diagnostics;
+      expr_variants = b.loose.state.of_body.expr_variants;
+      pat_variants = b.loose.state.of_body.pat_variants;
+      modes = b.loose.state.of_body.modes;
+      mismatches = b.loose.state.of_body.mismatches;
+      pat_mismatches = b.loose.state.of_body.pat_mismatches;
+      diagnostics = length-said_of mid.holes mid.result.expr_diagnostics y ∙ b.loose.state.of_body.diagnostics;
+    };
+    carried = record {
+      exprs = b.loose.state.carried.exprs;
+      pats = b.loose.state.carried.pats;
+      bindings = b.loose.state.carried.bindings;
+      placeholders = b.loose.state.carried.placeholders;
+      expected = b.loose.state.carried.expected;
+      actual = b.loose.state.carried.actual;
+      pat_expected = b.loose.state.carried.pat_expected;
+      pat_actual = b.loose.state.carried.pat_actual;
+      found = λ m k u i. elim (said_of-cases mid.holes mid.result.expr_diagnostics y m (diagnostic.ExpectedFunction k u) i) [
+        | inl q ↦ b.loose.state.carried.found m k u q
+        | inr q ↦ (let same : u ≡ folded mid.holes y.ty = (let clash = q.is in cc) in subst (λ w. IsCarriedType w) (sym (same ∙ is_type)) carried)
+      ];
+    };
+    modes = b.loose.state.modes;
+    pat_diagnostics = b.loose.state.pat_diagnostics;
+    variants = record { exprs = b.loose.state.variants.exprs; pats = b.loose.state.variants.pats };
+    placeholders = record { count = b.loose.state.placeholders.count; only = b.loose.state.placeholders.only };
+    free_exprs = b.loose.state.free_exprs;
+    free_pats = b.loose.state.free_pats;
+    free_modes = b.loose.state.free_modes;
+    free_bindings = b.loose.state.free_bindings;
+    bound = b.loose.state.bound;
+    diagnostics = saw_truths;
+    seen = λ i z there. elim (push_cases mid.result.seen y i z there) [ inl q ↦ seen_before z (b.loose.state.seen i z q) | inr q ↦ subst (λ w. IsSeenAs g saw w) q seen_now ];
+  }
+
+  saw_walks : Walks g s Nothing mid saw
+  saw_walks = record {
+    clock = omega arith;
+    extends = saw_extends;
+    kept = λ e i k. refl;
+    kept_pats = λ p i k. refl;
+    state = saw_walked;
+    made = λ e i lo hi. absurd (omega arith);
+    pats_made = λ p i lo hi. absurd (omega arith);
+    truths = λ e m h. inl h;
+    pat_truths = λ p m h. inl h;
+  }
+
+  pub saw_loose : BeforeLoose g s n called args saw
+  saw_loose = record { ready = b.loose.ready; state = saw_walked; is_call = b.loose.is_call; within = b.loose.within; ahead = b.loose.ahead; ends = b.loose.ends }
+
+  -- the call has any type
+  pub uncallable_done : (u : Ty) (new : Found) → LooseDone g s n saw new → IsCarriedType u → KindDone g s n None u mid new
+  uncallable_done u new d known = record {
+    walks = walks_trans g s (PaidBy g n None u) mid saw new
+        (walks_paid g s Nothing (PaidBy g n None u) mid saw (λ e m o. absurd o) saw_walks)
+        (walks_paid g s Nothing (PaidBy g n None u) saw new (λ e m o. absurd o) d.walks);
+    clock = d.clock;
+    carried = known;
+    rule = λ r k has. rule_of g r n (expr.Call called args) b.loose.is_call (inr (k.seen n (d.walks.extends.seen n saw_it), (u, has)));
   }

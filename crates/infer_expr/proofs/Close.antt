@@ -1,5 +1,5 @@
 -- The record of an expression's own type closes the walk of its parts.
-use Rattle.std.proofs.Common.{◌<◌, ◌≡◌, ◌≢◌, inl, inr, length, sym, ap, subst, ◌∙◌, arith, Option, Some, slice_get}
+use Rattle.std.proofs.Common.{◌<◌, ◌≡◌, ◌≢◌, inl, inr, refl, length, sym, ap, subst, ◌∙◌, arith, Option, Some, slice_get}
 use Rattle.std.proofs.Math.ListN.{length-set}
 use Rattle.hir_types.specs.declared.ids.ExprId.{ExprId}
 use Rattle.hir_types.specs.declared.ty.Ty.{Ty}
@@ -14,7 +14,7 @@ use Rattle.infer_expr.specs.Walks.{IsWalked, IsFree, Extends, expr_start, pat_st
 use Rattle.infer_expr.specs.Under.{Before, Within, KindDone, OwnDone}
 use Rattle.infer_expr.proofs.Lists.{lt_or_ge, slice_get-set_same, slice_get-set_other, At-set, At-set_cases}
 use Rattle.infer_expr.proofs.Parts.{expr_id, one_expr, expr_is_no_pat, binds_within}
-use Rattle.infer_expr.proofs.Keeps.{extends_trans, obeys_kept, pat_kept, pat_truth_kept, diagnostic_kept, misfit_kept, demand_kept}
+use Rattle.infer_expr.proofs.Keeps.{extends_trans, obeys_kept, pat_kept, pat_truth_kept, diagnostic_kept, seen_as_kept, seen_as_entered, misfit_kept, demand_kept}
 
 -- the clock goes on to the parts of the expression
 pub entered_within : (g : Given) (s : Schedule) (e : ExprId) (x : Option Ty) (c : Found) → Before g s e x c → Within g s e x (entered c)
@@ -26,6 +26,8 @@ entered_within g s e x c h = record {
     modes = h.state.modes;
     pat_diagnostics = h.state.pat_diagnostics;
     variants = h.state.variants;
+    placeholders = h.state.placeholders;
+    seen = λ i y at. seen_as_entered g c y (h.state.seen i y at);
     diagnostics = h.state.diagnostics;
     free_exprs = λ n i k. h.state.free_exprs n i (omega arith);
     free_pats = λ p i k. h.state.free_pats p i (omega arith);
@@ -65,7 +67,9 @@ module _ (g : Given) (s : Schedule) (e : ExprId) (x : Option Ty) (t : Ty) (old l
     pat_variants = λ p v i. i;
     mismatches = λ n m i. i;
     pat_mismatches = λ p m i. i;
-    diagnostics = λ n d i. i;
+    placeholders = λ k u i. i;
+    diagnostics = λ n d i. inl i;
+    seen = λ n h. record { position = h.position; entry = h.entry; found = h.found; is_node = h.is_node };
   }
 
   has : HasTy new.result e t
@@ -89,6 +93,8 @@ module _ (g : Given) (s : Schedule) (e : ExprId) (x : Option Ty) (t : Ty) (old l
             ];
         pats = c.pats;
         bindings = c.bindings;
+        placeholders = c.placeholders;
+        found = c.found;
         expected = c.expected;
         actual = c.actual;
         pat_expected = c.pat_expected;
@@ -113,6 +119,8 @@ module _ (g : Given) (s : Schedule) (e : ExprId) (x : Option Ty) (t : Ty) (old l
     modes = k.walks.state.modes;
     pat_diagnostics = k.walks.state.pat_diagnostics;
     variants = record { exprs = k.walks.state.variants.exprs; pats = k.walks.state.variants.pats };
+    placeholders = record { count = k.walks.state.placeholders.count; only = k.walks.state.placeholders.only };
+    seen = λ i y at. seen_as_kept g last new extends (λ n d q. q) refl y (k.walks.state.seen i y at);
     diagnostics = λ n d i. diagnostic_kept g last.result new.result extends n d (k.walks.state.diagnostics n d i);
     free_exprs = λ n i lo.
         other_type n (omega (arith, k.walks.clock, h.here)) ∙ k.walks.state.free_exprs n i lo;

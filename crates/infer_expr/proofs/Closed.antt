@@ -16,8 +16,10 @@ use Rattle.infer_result.specs.declared.modes.BindingMode.{BindingMode}
 use Rattle.infer_result.specs.declared.modes.BindingMode.TheVariants as mode
 use Rattle.infer_result.specs.declared.result.InferenceResult.{InferenceResult}
 use Rattle.infer_result.specs.declared.result.TypeMismatch.{TypeMismatch}
+use Rattle.infer_result.specs.declared.result.Seen.{Seen}
 use Rattle.infer_result.specs.declared.diagnostics.InferenceDiagnostic.{InferenceDiagnostic}
-use Rattle.infer_result.specs.Closed.{IsOfBody, AllTypes}
+use Rattle.infer_result.specs.declared.diagnostics.InferenceDiagnostic.TheVariants as diagnostic
+use Rattle.infer_result.specs.Closed.{IsOfBody, AllTypes, AllSeen}
 use Rattle.infer_result.specs.Table.{At}
 use Rattle.infer_table.specs.LogLemmas.{solves_left}
 use Rattle.infer_table.specs.Solutions.{Log, Solves, entry, log_of}
@@ -29,6 +31,7 @@ use Rattle.infer_expr.specs.Fine.{IsFine}
 use Rattle.infer_expr.specs.Found as found
 use Rattle.infer_expr.specs.Walks.{IsFree}
 use Rattle.infer_expr.proofs.Lists.{length-noted, noted-cases, take_next}
+use Rattle.infer_expr.proofs.Said.{noted-cons, length-said, said-noted, said-push}
 
 -- ---- lists of what is recorded, each under a function
 
@@ -73,14 +76,6 @@ module _ (f : TypeMismatch → TypeMismatch) where
       noted-closed_where xs n m (slice_get xs n) ∙ ap (λ o. found.noted_where o (map (option_map f) xs) n (f m)) (sym (slice_get-map (option_map f) xs n))
 
 -- ---- mismatches, asked or noted
-
-noted_where-cons : {A : Type 0} (x : Option A) (xs : List (Option A)) (n : ℕ) (m : A) (o : Option (Option A)) → found.noted_where o (x ∷ xs) (suc n) m ≡ x ∷ found.noted_where o xs n m
-noted_where-cons x xs n m None = refl
-noted_where-cons x xs n m (Some None) = refl
-noted_where-cons x xs n m (Some (Some y)) = refl
-
-noted-cons : {A : Type 0} (x : Option A) (xs : List (Option A)) (n : ℕ) (m : A) → found.noted (x ∷ xs) (suc n) m ≡ x ∷ found.noted xs n m
-noted-cons x xs n m = noted_where-cons x xs n m (slice_get xs n)
 
 module _ (a : Assignment) where
   abbrev closing : TypeMismatch → TypeMismatch
@@ -213,7 +208,7 @@ of_body_closed a b asked r h = record {
   modes = h.modes;
   mismatches = length-closed_mismatches a asked r.expr_mismatches ∙ h.mismatches;
   pat_mismatches = length-closed (closed_mismatch a) r.pat_mismatches ∙ h.pat_mismatches;
-  diagnostics = h.diagnostics;
+  diagnostics = length-said a r.seen r.expr_diagnostics ∙ h.diagnostics;
   pat_diagnostics = h.pat_diagnostics;
   expr_variants = h.expr_variants;
   pat_variants = h.pat_variants;
@@ -227,7 +222,7 @@ of_body_unclosed a b asked r h = record {
   modes = h.modes;
   mismatches = sym (length-closed_mismatches a asked r.expr_mismatches) ∙ h.mismatches;
   pat_mismatches = sym (length-closed (closed_mismatch a) r.pat_mismatches) ∙ h.pat_mismatches;
-  diagnostics = h.diagnostics;
+  diagnostics = sym (length-said a r.seen r.expr_diagnostics) ∙ h.diagnostics;
   pat_diagnostics = h.pat_diagnostics;
   expr_variants = h.expr_variants;
   pat_variants = h.pat_variants;
@@ -347,6 +342,34 @@ module _ (b : RawBody) (c : InferenceContext) (h : IsOfBody b c.result) where
     pat_variants = h.pat_variants;
   }
 
+  pub of_body_placeholder : (k : ℕ) (t : Ty) → IsOfBody b (context.with_placeholder_ty c k t).result
+  of_body_placeholder k t = record {
+    exprs = h.exprs;
+    pats = h.pats;
+    bindings = h.bindings;
+    modes = h.modes;
+    mismatches = h.mismatches;
+    pat_mismatches = h.pat_mismatches;
+    diagnostics = h.diagnostics;
+    pat_diagnostics = h.pat_diagnostics;
+    expr_variants = h.expr_variants;
+    pat_variants = h.pat_variants;
+  }
+
+  pub of_body_seen : (x : Seen) → IsOfBody b (context.with_seen c x).result
+  of_body_seen x = record {
+    exprs = h.exprs;
+    pats = h.pats;
+    bindings = h.bindings;
+    modes = h.modes;
+    mismatches = h.mismatches;
+    pat_mismatches = h.pat_mismatches;
+    diagnostics = h.diagnostics;
+    pat_diagnostics = h.pat_diagnostics;
+    expr_variants = h.expr_variants;
+    pat_variants = h.pat_variants;
+  }
+
 pub of_body_bound_by : (b : RawBody) (c : InferenceContext) (p : PatId) (v : BindingId) (t : Ty) → IsOfBody b c.result → IsOfBody b (context.bound_by c p v t).result
 of_body_bound_by b c p v t h =
     let d = context.with_mode c p mode.Move in
@@ -360,22 +383,31 @@ module _ (a : Assignment) (c : InferenceContext) where
   entered_under = refl
 
   pub expr_ty_under : (e : ExprId) (t : Ty) → found_under a (context.with_expr_ty c e t) ≡ found.with_expr_ty (found_under a c) e (folded a t)
-  expr_ty_under e t = ap (λ xs. record { result = record (closed_table a c.asked c.result) { type_of_expr = xs }; clock = c.clock }) (set-closed (folded a) c.result.type_of_expr e.0 t)
+  expr_ty_under e t = ap (λ xs. record { result = record (closed_table a c.asked c.result) { type_of_expr = xs }; clock = c.clock; holes = a }) (set-closed (folded a) c.result.type_of_expr e.0 t)
 
   pub mismatch_under : (e : ExprId) (m : TypeMismatch) → found_under a (context.with_mismatch c e m) ≡ found.with_mismatch (found_under a c) e (closed_mismatch a m)
-  mismatch_under e m = ap (λ xs. record { result = record (closed_table a c.asked c.result) { expr_mismatches = xs }; clock = c.clock }) (noted-beside a c.asked c.result.expr_mismatches e.0 m)
+  mismatch_under e m = ap (λ xs. record { result = record (closed_table a c.asked c.result) { expr_mismatches = xs }; clock = c.clock; holes = a }) (noted-beside a c.asked c.result.expr_mismatches e.0 m)
 
   pub pat_mismatch_under : (p : PatId) (m : TypeMismatch) → found_under a (context.with_pat_mismatch c p m) ≡ found.with_pat_mismatch (found_under a c) p (closed_mismatch a m)
-  pat_mismatch_under p m = ap (λ xs. record { result = record (closed_table a c.asked c.result) { pat_mismatches = xs }; clock = c.clock }) (noted-closed (closed_mismatch a) c.result.pat_mismatches p.0 m)
+  pat_mismatch_under p m = ap (λ xs. record { result = record (closed_table a c.asked c.result) { pat_mismatches = xs }; clock = c.clock; holes = a }) (noted-closed (closed_mismatch a) c.result.pat_mismatches p.0 m)
 
   pub pat_ty_under : (p : PatId) (t : Ty) → found_under a (context.with_pat_ty c p t) ≡ found.with_pat_ty (found_under a c) p (folded a t)
-  pat_ty_under p t = ap (λ xs. record { result = record (closed_table a c.asked c.result) { type_of_pat = xs }; clock = c.clock }) (set-closed (folded a) c.result.type_of_pat p.0 t)
+  pat_ty_under p t = ap (λ xs. record { result = record (closed_table a c.asked c.result) { type_of_pat = xs }; clock = c.clock; holes = a }) (set-closed (folded a) c.result.type_of_pat p.0 t)
 
   pub mode_under : (p : PatId) (m : BindingMode) → found_under a (context.with_mode c p m) ≡ found.with_mode (found_under a c) p m
   mode_under p m = refl
 
   pub binding_ty_under : (v : BindingId) (t : Ty) → found_under a (context.with_binding_ty c v t) ≡ found.with_binding_ty (found_under a c) v (folded a t)
-  binding_ty_under v t = ap (λ xs. record { result = record (closed_table a c.asked c.result) { type_of_binding = xs }; clock = c.clock }) (set-closed (folded a) c.result.type_of_binding v.0 t)
+  binding_ty_under v t = ap (λ xs. record { result = record (closed_table a c.asked c.result) { type_of_binding = xs }; clock = c.clock; holes = a }) (set-closed (folded a) c.result.type_of_binding v.0 t)
+
+  pub diagnostic_under : (e : ExprId) (d : InferenceDiagnostic) → found_under a (context.with_diagnostic c e d) ≡ found.with_diagnostic (found_under a c) e d
+  diagnostic_under e d = ap (λ xs. record { result = record (closed_table a c.asked c.result) { expr_diagnostics = xs }; clock = c.clock; holes = a }) (said-noted a c.result.seen c.result.expr_diagnostics e.0 d)
+
+  pub placeholder_under : (k : ℕ) (t : Ty) → found_under a (context.with_placeholder_ty c k t) ≡ found.with_placeholder_ty (found_under a c) k (folded a t)
+  placeholder_under k t = ap (λ xs. record { result = record (closed_table a c.asked c.result) { type_of_placeholder = xs }; clock = c.clock; holes = a }) (set-closed (folded a) c.result.type_of_placeholder k t)
+
+  pub seen_under : (x : Seen) → found_under a (context.with_seen c x) ≡ found.with_seen (found_under a c) x
+  seen_under x = ap (λ xs. record { result = record (closed_table a c.asked c.result) { expr_diagnostics = xs; seen = c.result.seen ++ x ∷ [] }; clock = c.clock; holes = a }) (said-push a c.result.seen x c.result.expr_diagnostics)
 
 pub bound_by_under : (a : Assignment) (c : InferenceContext) (p : PatId) (v : BindingId) (t : Ty) → found_under a (context.bound_by c p v t) ≡ found.bound_by (found_under a c) p v (folded a t)
 bound_by_under a c p v t =
@@ -384,7 +416,7 @@ bound_by_under a c p v t =
 
 -- what is found is the same where nothing is recorded
 pub same_found : (a : Assignment) (c d : InferenceContext) → d.result ≡ c.result → d.asked ≡ c.asked → d.clock ≡ c.clock → found_under a d ≡ found_under a c
-same_found a c d h j k = λ i. record { result = closed_table a (j i) (h i); clock = k i }
+same_found a c d h j k = λ i. record { result = closed_table a (j i) (h i); clock = k i; holes = a }
 
 -- ---- assignments that close a context
 
@@ -419,10 +451,18 @@ set_keeps P (o ∷ xs) (suc n) x all h (suc m) y k = set_keeps P xs n x (λ i z 
 noted_keeps : (P : TypeMismatch → Type 0) (xs : List (Option TypeMismatch)) (n : ℕ) (x : TypeMismatch) → ((m : ℕ) (y : TypeMismatch) → At xs m y → P y) → P x → (m : ℕ) (y : TypeMismatch) → At (found.noted xs n x) m y → P y
 noted_keeps P xs n x all h m y k = elim (noted-cases xs n m x y k) [ inl q ↦ all m y q | inr q ↦ subst P q.1 h ]
 
+-- what stands in a list with one more
+pub push_cases : {A : Type 0} (xs : List A) (x : A) (i : ℕ) (y : A) → slice_get (xs ++ x ∷ []) i ≡ Some y → (slice_get xs i ≡ Some y) ⊎ (x ≡ y)
+push_cases [] x zero y h = inr (cc)
+push_cases [] x (suc i) y h = absurd (cc)
+push_cases (z ∷ xs) x zero y h = inl h
+push_cases (z ∷ xs) x (suc i) y h = push_cases xs x i y h
+
 -- another table of fine types, and another clock
-pub sound_with : {sc : Scope} (c : InferenceContext) (r : InferenceResult) (n : ℕ) → IsSound sc c → AllTypes (IsFine sc c.table) r → IsSound sc (record c { result = r; clock = n })
-sound_with {sc} c r n s h = record {
+pub sound_with : {sc : Scope} (c : InferenceContext) (r : InferenceResult) (n : ℕ) → IsSound sc c → AllTypes (IsFine sc c.table) r → AllSeen (IsFine sc c.table) r → IsSound sc (record c { result = r; clock = n })
+sound_with {sc} c r n s h k = record {
   fine = h;
+  seen = k;
   asked = s.asked;
   pairs = s.pairs;
   bound = s.bound;
@@ -431,94 +471,139 @@ sound_with {sc} c r n s h = record {
 
 module _ {sc : Scope} (c : InferenceContext) (s : IsSound sc c) where
   pub sound_entered : IsSound sc (context.entered c)
-  sound_entered = sound_with c c.result (context.entered c).clock s s.fine
+  sound_entered = sound_with c c.result (context.entered c).clock s s.fine s.seen
 
   pub sound_expr_ty : (e : ExprId) (t : Ty) → IsFine sc c.table t → IsSound sc (context.with_expr_ty c e t)
   sound_expr_ty e t h = sound_with c (context.with_expr_ty c e t).result c.clock s (record {
     exprs = set_keeps (IsFine sc c.table) c.result.type_of_expr e.0 t s.fine.exprs h;
     pats = s.fine.pats;
     bindings = s.fine.bindings;
+    placeholders = s.fine.placeholders;
     expected = s.fine.expected;
     actual = s.fine.actual;
     pat_expected = s.fine.pat_expected;
     pat_actual = s.fine.pat_actual;
-  })
+    found = s.fine.found;
+  }) (record { types = s.seen.types; others = s.seen.others })
 
   pub sound_mismatch : (e : ExprId) (m : TypeMismatch) → IsFine sc c.table m.expected → IsFine sc c.table m.actual → IsSound sc (context.with_mismatch c e m)
   sound_mismatch e m h k = sound_with c (context.with_mismatch c e m).result c.clock s (record {
     exprs = s.fine.exprs;
     pats = s.fine.pats;
     bindings = s.fine.bindings;
+    placeholders = s.fine.placeholders;
     expected = noted_keeps (λ x. IsFine sc c.table x.expected) c.result.expr_mismatches e.0 m s.fine.expected h;
     actual = noted_keeps (λ x. IsFine sc c.table x.actual) c.result.expr_mismatches e.0 m s.fine.actual k;
     pat_expected = s.fine.pat_expected;
     pat_actual = s.fine.pat_actual;
-  })
+    found = s.fine.found;
+  }) (record { types = s.seen.types; others = s.seen.others })
 
-  pub sound_diagnostic : (e : ExprId) (d : InferenceDiagnostic) → IsSound sc (context.with_diagnostic c e d)
-  sound_diagnostic e d = sound_with c (context.with_diagnostic c e d).result c.clock s (record {
+  pub sound_diagnostic : (e : ExprId) (d : InferenceDiagnostic) → ((n : ExprId) (t : Ty) → d ≡ diagnostic.ExpectedFunction n t → IsFine sc c.table t) → IsSound sc (context.with_diagnostic c e d)
+  sound_diagnostic e d fine = sound_with c (context.with_diagnostic c e d).result c.clock s (record {
     exprs = s.fine.exprs;
     pats = s.fine.pats;
     bindings = s.fine.bindings;
+    placeholders = s.fine.placeholders;
     expected = s.fine.expected;
     actual = s.fine.actual;
     pat_expected = s.fine.pat_expected;
     pat_actual = s.fine.pat_actual;
-  })
+    found = λ n k t i. elim (noted-cases c.result.expr_diagnostics e.0 n d (diagnostic.ExpectedFunction k t) i) [ inl q ↦ s.fine.found n k t q | inr q ↦ fine k t q.1 ];
+  }) (record { types = s.seen.types; others = s.seen.others })
 
   pub sound_pat_diagnostic : (p : PatId) (d : InferenceDiagnostic) → IsSound sc (context.with_pat_diagnostic c p d)
   sound_pat_diagnostic p d = sound_with c (context.with_pat_diagnostic c p d).result c.clock s (record {
     exprs = s.fine.exprs;
     pats = s.fine.pats;
     bindings = s.fine.bindings;
+    placeholders = s.fine.placeholders;
     expected = s.fine.expected;
     actual = s.fine.actual;
     pat_expected = s.fine.pat_expected;
     pat_actual = s.fine.pat_actual;
-  })
+    found = s.fine.found;
+  }) (record { types = s.seen.types; others = s.seen.others })
 
   pub sound_pat_mismatch : (p : PatId) (m : TypeMismatch) → IsFine sc c.table m.expected → IsFine sc c.table m.actual → IsSound sc (context.with_pat_mismatch c p m)
   sound_pat_mismatch p m h k = sound_with c (context.with_pat_mismatch c p m).result c.clock s (record {
     exprs = s.fine.exprs;
     pats = s.fine.pats;
     bindings = s.fine.bindings;
+    placeholders = s.fine.placeholders;
     expected = s.fine.expected;
     actual = s.fine.actual;
     pat_expected = noted_keeps (λ x. IsFine sc c.table x.expected) c.result.pat_mismatches p.0 m s.fine.pat_expected h;
     pat_actual = noted_keeps (λ x. IsFine sc c.table x.actual) c.result.pat_mismatches p.0 m s.fine.pat_actual k;
-  })
+    found = s.fine.found;
+  }) (record { types = s.seen.types; others = s.seen.others })
 
   pub sound_pat_ty : (p : PatId) (t : Ty) → IsFine sc c.table t → IsSound sc (context.with_pat_ty c p t)
   sound_pat_ty p t h = sound_with c (context.with_pat_ty c p t).result c.clock s (record {
     exprs = s.fine.exprs;
     pats = set_keeps (IsFine sc c.table) c.result.type_of_pat p.0 t s.fine.pats h;
     bindings = s.fine.bindings;
+    placeholders = s.fine.placeholders;
     expected = s.fine.expected;
     actual = s.fine.actual;
     pat_expected = s.fine.pat_expected;
     pat_actual = s.fine.pat_actual;
-  })
+    found = s.fine.found;
+  }) (record { types = s.seen.types; others = s.seen.others })
 
   pub sound_mode : (p : PatId) (m : BindingMode) → IsSound sc (context.with_mode c p m)
   sound_mode p m = sound_with c (context.with_mode c p m).result c.clock s (record {
     exprs = s.fine.exprs;
     pats = s.fine.pats;
     bindings = s.fine.bindings;
+    placeholders = s.fine.placeholders;
     expected = s.fine.expected;
     actual = s.fine.actual;
     pat_expected = s.fine.pat_expected;
     pat_actual = s.fine.pat_actual;
-  })
+    found = s.fine.found;
+  }) (record { types = s.seen.types; others = s.seen.others })
 
   pub sound_binding_ty : (v : BindingId) (t : Ty) → IsFine sc c.table t → IsSound sc (context.with_binding_ty c v t)
   sound_binding_ty v t h = sound_with c (context.with_binding_ty c v t).result c.clock s (record {
     exprs = s.fine.exprs;
     pats = s.fine.pats;
     bindings = set_keeps (IsFine sc c.table) c.result.type_of_binding v.0 t s.fine.bindings h;
+    placeholders = s.fine.placeholders;
     expected = s.fine.expected;
     actual = s.fine.actual;
     pat_expected = s.fine.pat_expected;
     pat_actual = s.fine.pat_actual;
+    found = s.fine.found;
+  }) (record { types = s.seen.types; others = s.seen.others })
+
+  pub sound_placeholder : (k : ℕ) (t : Ty) → IsFine sc c.table t → IsSound sc (context.with_placeholder_ty c k t)
+  sound_placeholder k t h = sound_with c (context.with_placeholder_ty c k t).result c.clock s (record {
+    exprs = s.fine.exprs;
+    pats = s.fine.pats;
+    bindings = s.fine.bindings;
+    placeholders = set_keeps (IsFine sc c.table) c.result.type_of_placeholder k t s.fine.placeholders h;
+    expected = s.fine.expected;
+    actual = s.fine.actual;
+    pat_expected = s.fine.pat_expected;
+    pat_actual = s.fine.pat_actual;
+    found = s.fine.found;
+  }) (record { types = s.seen.types; others = s.seen.others })
+
+  pub sound_seen : (x : Seen) → IsFine sc c.table x.ty → x.other ≡ None → IsSound sc (context.with_seen c x)
+  sound_seen x h alone = sound_with c (context.with_seen c x).result c.clock s (record {
+    exprs = s.fine.exprs;
+    pats = s.fine.pats;
+    bindings = s.fine.bindings;
+    placeholders = s.fine.placeholders;
+    expected = s.fine.expected;
+    actual = s.fine.actual;
+    pat_expected = s.fine.pat_expected;
+    pat_actual = s.fine.pat_actual;
+    found = s.fine.found;
+  }) (record {
+    types = λ i y at. elim (push_cases c.result.seen x i y at) [ inl q ↦ s.seen.types i y q | inr q ↦ subst (λ (z : Seen). IsFine sc c.table z.ty) q h ];
+    others = λ i y t at is. elim (push_cases c.result.seen x i y at) [ inl q ↦ s.seen.others i y t q is | inr q ↦ absurd (let none : y.other ≡ None = subst (λ (z : Seen). z.other ≡ None) q alone in cc) ];
   })
 
 pub sound_bound_by : {sc : Scope} (c : InferenceContext) (p : PatId) (v : BindingId) (t : Ty) → IsSound sc c → IsFine sc c.table t → IsSound sc (context.bound_by c p v t)

@@ -23,7 +23,7 @@ use Rattle.infer_table.specs.UndoLaws.{grew_itself}
 use Rattle.infer_result.specs.declared.diagnostics.InferenceDiagnostic.TheVariants as diagnostic
 use Rattle.hir_types.specs.declared.ids.ExprOrPatId.TheVariants as node
 use Rattle.infer_result.specs.Closed.{IsOfBody}
-use Rattle.infer_result.specs.Places.{Given, IsVariantAt, adt_at, fields_at, IsCtorPath}
+use Rattle.infer_result.specs.Places.{Given, IsVariantAt, adt_at, fields_at, IsCtorPath, StandsAt}
 use Rattle.infer_result.specs.Truth.Mismatch.{SaysItsType}
 use Rattle.infer_expr.specs.declared.context.InferenceContext.{InferenceContext}
 use Rattle.infer_expr.specs.Callables.{field_at}
@@ -33,15 +33,17 @@ use Rattle.infer_expr.specs.Fine.{IsFineExpectation, IsFine}
 use Rattle.infer_expr.specs.Found as found
 use Rattle.infer_expr.specs.Steps.{Follows, BeforePat, PatDone, AreFreshArgs, PatDemanded, PartsCounted, CtorDemanded, PathDone}
 use Rattle.infer_expr.specs.Under as under
-use Rattle.infer_expr.proofs.AtEach.{follows_itself, follows_twice, closes_before, walking_after, before_pat_under}
+use Rattle.infer_expr.proofs.AtEach.{follows_itself, follows_twice, closes_before, walking_after, before_pat_under, told_same}
 use Rattle.infer_expr.proofs.Closed.{same_found, closes_earlier, of_body_pat_diagnostic, sound_pat_diagnostic}
-use Rattle.infer_expr.proofs.CtorPats.{CtorPatLoop, Counted, parts_counted, ctor_pat_start, ctor_part_before, ctor_part_next, ctor_pat_done, path_pat_done}
+use Rattle.infer_expr.proofs.CtorPats.{CtorPatLoop, Counted, parts_counted, ctor_pat_start, ctor_part_before, ctor_part_next, ctor_pat_done, path_pat_done, ctor_part_stands}
 use Rattle.infer_expr.proofs.FineTypes.{AllFine, every_at, fine_grown}
 use Rattle.infer_expr.proofs.Instances.{fine_instances, instances_under}
 use Rattle.infer_expr.proofs.OverTypes.{fine_closed, adt_closed}
 use Rattle.infer_expr.proofs.PatDemands.{Demands, entered_opening, pat_demanded}
 use Rattle.infer_expr.proofs.PathWalk.{variant_under, ctor_adt_fine}
 use Rattle.infer_expr.proofs.PatHoles.{FineEach, all_fine, carried_each}
+use Rattle.infer_expr.proofs.Tellings.{part_tells}
+use Rattle.hir_facts.specs.Order.{inner, subpattern}
 
 -- ---- the number of parts
 
@@ -55,6 +57,7 @@ counted_follows g p n m old new h s (inr k) =
       grew = grew_itself old.table;
       of_body = of_body_pat_diagnostic g.body old h p d;
       sound = sound_pat_diagnostic old s p d;
+      told = λ k. k;
     })
 
 counted_clock : (p : PatId) (n m : ℕ) (old new : InferenceContext) → PartsCounted p n m old new → new.clock ≡ old.clock
@@ -132,6 +135,7 @@ module _ (g : Given) (s : Schedule) (p : PatId) (v : VariantId) (ps : List PatId
     grew = grew_twice old.table b.asked.holed.table mid.table b.asked.holes.grew after_holes.grew;
     of_body = b.asked.demanded.follows.of_body;
     sound = b.asked.demanded.follows.sound;
+    told = λ told. after_holes.told (told_same g (context.entered old) b.asked.holed b.asked.holes.result told);
   }
 
   fields_fine : AllFine g.scope b.asked.holed.table ss
@@ -211,6 +215,13 @@ module _ (g : Given) (s : Schedule) (p : PatId) (ps : List PatId) (ss : List Ty)
         i (found_under a c) (h.each a l) q is k (begun_carried g s p v ps ss x old mid b a m)
         )
 
+    part_place : (a : Assignment) → Closes a c → (k : ℕ) × StandsAt g.body (node.PatId q) (inner (node.PatId p)) k (subpattern i)
+    part_place a l =
+        let m : Closes a mid = closes_before g a mid c h.follows l in
+        ctor_part_stands g s p v ps b.asked.item.variant (map (folded a) b.asked.types) (map (folded a) ss) (expected_under a x) (found_under a old) (found_under a b.asked.told) (found_under a mid)
+        (begun_before g s p v ps ss x old mid b a m) b.is (begun_variant g s p v ps ss x old mid b a m) (begun_fields g s p v ps ss x old mid b a m) (begun_demands g s p v ps ss x old mid b a m)
+        i (found_under a c) (h.each a l) q is k
+
     pub comes_to_ctor_part : (y : Option Ty) → y ≡ slice_get ss i → BeforePat g s q y c
     comes_to_ctor_part y e =
         let z = h.follows.sound.some in
@@ -218,7 +229,8 @@ module _ (g : Given) (s : Schedule) (p : PatId) (ps : List PatId) (ss : List Ty)
         let grew : Grew b.asked.holed.table c.table = grew_twice b.asked.holed.table mid.table c.table (after_holes g s p v ps ss x old mid b).grew h.follows.grew in
         subst (λ o. BeforePat g s q o c) (sym e) (record {
           ready = b.before.ready;
-          state = walking_after g s mid c h.follows (λ a l. (h.each a l).walks.state);
+          state = walking_after g s mid c ((ctor_pat_follows g s p v ps ss x old mid b).told b.before.state.told) h.follows (λ a l. (h.each a l).walks.state);
+          tells = λ u j. (let place = part_place z.0 z.1 in part_tells g s b.before.ready.law (inner (node.PatId p)) place.0 q i place.1 u);
           within = here.within;
           here = here.here;
           fine = fine_if g c (slice_get ss i) (λ t j. fine_grown g.scope b.asked.holed.table c.table t grew (each_field_fine g s p v ps ss x old mid b i t j));
@@ -263,6 +275,7 @@ path_pat_walked g s p q t x old mid new h is typed d = record {
     grew = grew_twice old.table mid.table new.table typed.grew d.follows.grew;
     of_body = d.follows.of_body;
     sound = d.follows.sound;
+    told = λ told. d.follows.told (told_same g (context.entered old) mid typed.result told);
   };
   each = λ a k.
       let m : Closes a mid = closes_before g a mid new d.follows k in

@@ -16,7 +16,7 @@ use Rattle.infer_result.specs.declared.diagnostics.InferenceDiagnostic.{Inferenc
 use Rattle.infer_result.specs.declared.diagnostics.InferenceDiagnostic.TheVariants as diagnostic
 use Rattle.infer_result.specs.declared.result.InferenceResult.{InferenceResult}
 use Rattle.infer_result.specs.Table.{HasPatDiagnostic}
-use Rattle.infer_result.specs.Places.{Given, IsVariantAt, adt_at, fields_at, IsCtorPath, PatIsAtOrMismatch}
+use Rattle.infer_result.specs.Places.{Given, IsVariantAt, adt_at, fields_at, IsCtorPath, PatIsAtOrMismatch, StandsAt}
 use Rattle.infer_result.specs.Rules.Patterns.{PatsAtFields}
 use Rattle.infer_result.specs.Truth.Calls.{IsTruePatDiagnostic}
 use Rattle.infer_expr.specs.Context.{IsCarriedExpectation}
@@ -24,9 +24,9 @@ use Rattle.infer_expr.specs.Found.{Found, entered, with_pat_diagnostic}
 use Rattle.infer_expr.specs.Walks.{Walks, Extends, Nothing, pat_end}
 use Rattle.infer_expr.specs.Under.{LieAhead, BeforePat, PatDone, IsPatPlaced, IsCtorPatOf, IsPathPatOf, PartsCounted}
 use Rattle.infer_expr.proofs.Category.{walks_refl, walks_trans}
-use Rattle.infer_expr.proofs.Keeps.{pat_at_kept, obeys_kept, pat_kept, diagnostic_kept}
+use Rattle.infer_expr.proofs.Keeps.{pat_at_kept, obeys_kept, pat_kept, diagnostic_kept, seen_as_kept}
 use Rattle.infer_expr.proofs.Lists.{lt_or_ge, drop-step, noted-keeps, noted-cases, noted-some, length-noted}
-use Rattle.infer_expr.proofs.Parts.{pat_id, ahead_rest, pat_ahead, pat_before}
+use Rattle.infer_expr.proofs.Parts.{pat_id, ahead_rest, pat_ahead, pat_before, ahead_stands}
 use Rattle.infer_expr.proofs.Pats.{pat_rule_of}
 use Rattle.infer_expr.proofs.PatDemands.{IsOpening, entered_opening, Demands}
 use Rattle.infer_expr.proofs.PatSteps.{enters_now, enters_more, enters_done}
@@ -53,7 +53,9 @@ module _ (g : Given) (s : Schedule) (p : PatId) (v : VariantId) (ps : List PatId
     modes = λ q m i. i;
     mismatches = λ e m i. i;
     pat_mismatches = λ q m i. i;
-    diagnostics = λ e d i. i;
+    placeholders = λ k t i. i;
+    diagnostics = λ e d i. inl i;
+    seen = λ e h. record { position = h.position; entry = h.entry; found = h.found; is_node = h.is_node };
     pat_diagnostics = λ q d i. noted-keeps old.result.pat_diagnostics p.0 q.0 complaint d i;
     expr_variants = λ e w i. i;
     pat_variants = λ q w i. i;
@@ -62,6 +64,7 @@ module _ (g : Given) (s : Schedule) (p : PatId) (v : VariantId) (ps : List PatId
   -- what is said of the pattern is this
   same_complaint : (d : InferenceDiagnostic) → IsTruePatDiagnostic g p d → d ≡ complaint
   same_complaint (diagnostic.MismatchedArgCount m expected found) k = absurd k
+  same_complaint (diagnostic.ExpectedFunction m t) k = absurd k
   same_complaint (diagnostic.MismatchedTupleStructPatArgCount m expected found) (same, w) =
       let one : pat.TupleStruct w.named w.parts ≡ pat.TupleStruct v ps = only_some (sym w.is_pat ∙ is) in
       let same_named : w.named ≡ v = cc in
@@ -104,6 +107,8 @@ module _ (g : Given) (s : Schedule) (p : PatId) (v : VariantId) (ps : List PatId
                 exprs = h.state.carried.exprs;
                 pats = h.state.carried.pats;
                 bindings = h.state.carried.bindings;
+                placeholders = h.state.carried.placeholders;
+                found = h.state.carried.found;
                 expected = h.state.carried.expected;
                 actual = h.state.carried.actual;
                 pat_expected = h.state.carried.pat_expected;
@@ -124,6 +129,8 @@ module _ (g : Given) (s : Schedule) (p : PatId) (v : VariantId) (ps : List PatId
                         subst (λ z. IsTruePatDiagnostic g z d) at (subst (λ z. IsTruePatDiagnostic g p z) k.1 true_complaint))
                   ];
               variants = record { exprs = h.state.variants.exprs; pats = h.state.variants.pats };
+              placeholders = record { count = h.state.placeholders.count; only = h.state.placeholders.only };
+              seen = λ i y there. seen_as_kept g old told told_extends (λ e d k. k) refl y (h.state.seen i y there);
             };
             made = λ e i lo hi. obeys_kept g old.result told.result told_extends e (begun.made e i lo hi);
             pats_made = λ q i other lo hi. pat_kept g old.result told.result told_extends q (slice_get g.body.pats q.0) (begun.pats_made q i other lo hi);
@@ -193,6 +200,9 @@ module _ (g : Given) (s : Schedule) (p : PatId) (v : VariantId) (ps : List PatId
 
       lies : LieAhead g.body s (inner (node.PatId p)) c.clock (pat_part (subpattern i) q ∷ subpatterns (i + 1) (drop (i + 1) ps))
       lies = subst (λ qs. LieAhead g.body s (inner (node.PatId p)) c.clock qs) step h.ahead
+
+      pub ctor_part_stands : (k : ℕ) × StandsAt g.body (node.PatId q) (inner (node.PatId p)) k (subpattern i)
+      ctor_part_stands = ahead_stands g.body s (inner (node.PatId p)) c.clock (pat_part (subpattern i) q) (subpatterns (i + 1) (drop (i + 1) ps)) lies
 
       pub ctor_part_before : AreCarriedTypes fs → BeforePat g s q (slice_get fs i) c
       ctor_part_before carried =

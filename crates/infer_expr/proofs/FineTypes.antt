@@ -17,11 +17,11 @@ use Rattle.hir_types.specs.declared.ty.Ty.TheVariants as ty
 use Rattle.hir_types.specs.Terms.{Term, node, chain, leaf, type_part, term}
 use Rattle.hir_types.specs.TermLaws.{type_parts, term_bool, term_char, term_int, term_uint, term_tuple, term_param, term_var, term_int_var, term_adt_types, term_fn_def_types}
 use Rattle.hir_types.specs.Types.{integer_type, unit}
-use Rattle.hir_facts.specs.Scope.{Scope, adt_params, callable_params, has_params}
+use Rattle.hir_facts.specs.Scope.{Scope, adt_params, has_params}
 use Rattle.hir_facts.specs.Signatures.{type_args}
 use Rattle.infer_result.specs.declared.result.InferenceResult.{InferenceResult}
 use Rattle.infer_result.specs.declared.result.TypeMismatch.{TypeMismatch}
-use Rattle.infer_result.specs.Closed.{AllTypes}
+use Rattle.infer_result.specs.Closed.{AllTypes, AllSeen}
 use Rattle.infer_table.specs.BindingLaws.{get_last}
 use Rattle.infer_table.specs.LogLemmas.{are_of_hole, are_of_parts}
 use Rattle.infer_table.specs.Preserved.{whole, rest, width, IsMadeOf, NoAlias}
@@ -29,7 +29,7 @@ use Rattle.infer_table.specs.Solutions.{AreOf}
 use Rattle.infer_table.specs.declared.waiting.WaitingPair.{WaitingPair}
 use Rattle.infer_table.specs.Table.{State, HolesAreOf, Grew, hole_count, with_new_hole}
 use Rattle.infer_expr.specs.Context.{component, element_type}
-use Rattle.infer_expr.specs.Fine.{is_fine_head, HasFineHeads, IsFine, IsFineExpectation, AreFinePairs, IsFineAsked}
+use Rattle.infer_expr.specs.Fine.{item_params, is_fine_head, HasFineHeads, IsFine, IsFineExpectation, AreFinePairs, IsFineAsked}
 use Rattle.infer_expr.proofs.MadeHoles.{AllHolesAreOf, holes_are_of_grown, node_holes_are_of}
 
 -- each type of the list has the property
@@ -93,8 +93,8 @@ module _ (sc : Scope) where
   pub heads_adt : (id : AdtId) (ts : List Ty) → has_params (adt_params sc.facts id) (length ts) ≡ true → Every (HasFineHeads sc) ts → HasFineHeads sc (ty.Adt id (type_args ts))
   heads_adt id ts e h = heads_by (ty.Adt id (type_args ts)) (node (head.Adt id) (type_parts ts)) (term_adt_types id ts) (ap (has_params (adt_params sc.facts id)) (parts_width ts) ∙ e, parts_heads ts h)
 
-  pub heads_fn_def : (id : CallableDefId) (ts : List Ty) → has_params (callable_params sc.facts id) (length ts) ≡ true → Every (HasFineHeads sc) ts → HasFineHeads sc (ty.FnDef id (type_args ts))
-  heads_fn_def id ts e h = heads_by (ty.FnDef id (type_args ts)) (node (head.FnDef id) (type_parts ts)) (term_fn_def_types id ts) (ap (has_params (callable_params sc.facts id)) (parts_width ts) ∙ e, parts_heads ts h)
+  pub heads_fn_def : (id : CallableDefId) (ts : List Ty) → has_params (item_params sc.facts id) (length ts) ≡ true → Every (HasFineHeads sc) ts → HasFineHeads sc (ty.FnDef id (type_args ts))
+  heads_fn_def id ts e h = heads_by (ty.FnDef id (type_args ts)) (node (head.FnDef id) (type_parts ts)) (term_fn_def_types id ts) (ap (has_params (item_params sc.facts id)) (parts_width ts) ∙ e, parts_heads ts h)
 
   -- ---- fine types, kind by kind
 
@@ -129,7 +129,7 @@ module _ (sc : Scope) where
     heads = heads_adt id ts e (every_heads state ts h);
   }
 
-  pub fine_fn_def : (state : State) (id : CallableDefId) (ts : List Ty) → has_params (callable_params sc.facts id) (length ts) ≡ true → AllFine sc state ts → IsFine sc state (ty.FnDef id (type_args ts))
+  pub fine_fn_def : (state : State) (id : CallableDefId) (ts : List Ty) → has_params (item_params sc.facts id) (length ts) ≡ true → AllFine sc state ts → IsFine sc state (ty.FnDef id (type_args ts))
   fine_fn_def state id ts e h = record {
     holes = node_holes_are_of state (ty.FnDef id (type_args ts)) (head.FnDef id) ts (term_fn_def_types id ts) (every_holes state ts h);
     heads = heads_fn_def id ts e (every_heads state ts h);
@@ -214,10 +214,18 @@ module _ (sc : Scope) where
     exprs = λ n x i. fine_grown s t x g (h.exprs n x i);
     pats = λ n x i. fine_grown s t x g (h.pats n x i);
     bindings = λ n x i. fine_grown s t x g (h.bindings n x i);
+    placeholders = λ n x i. fine_grown s t x g (h.placeholders n x i);
+    found = λ n c x i. fine_grown s t x g (h.found n c x i);
     expected = λ n x i. fine_grown s t x.expected g (h.expected n x i);
     actual = λ n x i. fine_grown s t x.actual g (h.actual n x i);
     pat_expected = λ n x i. fine_grown s t x.expected g (h.pat_expected n x i);
     pat_actual = λ n x i. fine_grown s t x.actual g (h.pat_actual n x i);
+  }
+
+  pub seen_fine_grown : (s t : State) (r : InferenceResult) → Grew s t → AllSeen (IsFine sc s) r → AllSeen (IsFine sc t) r
+  seen_fine_grown s t r g h = record {
+    types = λ i x at. fine_grown s t x.ty g (h.types i x at);
+    others = λ i x u at is. fine_grown s t u g (h.others i x u at is);
   }
 
   pub fine_pairs_grown : (s t : State) (ps : List WaitingPair) → Grew s t → AreFinePairs sc s ps → AreFinePairs sc t ps

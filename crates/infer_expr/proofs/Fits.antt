@@ -1,5 +1,5 @@
 -- What is typed in a scope names in the end what there is.
-use Rattle.std.proofs.Common.{ℕ, ◌≡◌, inl, inr, length, sym, ap, ◌∙◌, Bool, true, ◌&&◌, List, [], ◌∷◌, map, refl}
+use Rattle.std.proofs.Common.{ℕ, ◌≡◌, inl, inr, length, sym, ap, ◌∙◌, Bool, true, ◌&&◌, List, [], ◌∷◌, map, refl, Option, Some, None, option_map}
 use Rattle.std.specs.List.{list_all}
 use Rattle.std.proofs.lemmas.List.{length-map}
 use Rattle.hir_types.specs.declared.head.Hole.TheVariants as hole_of
@@ -7,26 +7,40 @@ use Rattle.hir_types.specs.declared.ty.IntTy.TheVariants as int
 use Rattle.hir_types.specs.declared.ty.Ty.{Ty}
 use Rattle.hir_types.specs.declared.ty.Ty.TheVariants as ty
 use Rattle.hir_types.specs.Folding.{replaced_bool, replaced_char, replaced_int, replaced_uint, replaced_tuple, replaced_param, replaced_var, replaced_int_var}
-use Rattle.hir_types.specs.Subst.{Assignment, with_holes, folded}
+use Rattle.hir_types.specs.Subst.{Assignment, with_holes, each_itself, folded}
 use Rattle.hir_facts.specs.Fit.{ty_fits, arg_fits}
-use Rattle.hir_facts.specs.Fitting.{ty_fits_bool, ty_fits_char, ty_fits_int, ty_fits_uint, ty_fits_tuple, ty_fits_adt, ty_fits_fndef, ty_fits_param, ty_fits_error, arg_fits_ty}
+use Rattle.hir_facts.specs.Fitting.{ty_fits_bool, ty_fits_char, ty_fits_int, ty_fits_uint, ty_fits_tuple, ty_fits_adt, ty_fits_fndef, ty_fits_param, ty_fits_error, ty_fits_var, ty_fits_intvar, arg_fits_ty}
 use Rattle.hir_facts.specs.Scope.{Scope, has_params, adt_params, callable_params}
-use Rattle.hir_facts.specs.Signatures.{type_args}
+use Rattle.hir_types.specs.declared.ids.CallableDefId.{CallableDefId}
+use Rattle.hir_types.specs.Folding.{folded_itself}
+use Rattle.hir_facts.specs.declared.raw.RawFacts.{RawFacts}
+use Rattle.hir_facts.specs.Signatures.{Signature, signature_of, type_args}
 use Rattle.infer_result.specs.declared.result.TypeMismatch.{TypeMismatch}
-use Rattle.infer_result.specs.Closed.{AllTypes}
+use Rattle.infer_result.specs.Closed.{AllTypes, AllSeen}
+use Rattle.infer_result.specs.declared.diagnostics.InferenceDiagnostic.TheVariants as diagnostic
 use Rattle.infer_table.specs.Completion.{completion, fallback}
 use Rattle.infer_table.specs.Resolution.{resolution}
 use Rattle.infer_table.specs.Table.{bindings}
 use Rattle.infer_expr.specs.declared.context.InferenceContext.{InferenceContext}
 use Rattle.infer_expr.specs.Closings.{closed_mismatch, closed_table, IsSound}
-use Rattle.infer_expr.specs.Fine.{HasFineHeads, IsFine}
+use Rattle.infer_expr.specs.Fine.{item_params, HasFineHeads, IsFine}
+use Rattle.infer_expr.proofs.Items.{signature_count}
 use Rattle.infer_expr.proofs.Closed.{At-unclosed, At-stems}
+use Rattle.infer_expr.proofs.Said.{said-cases}
 use Rattle.infer_expr.proofs.FineTypes.{Every}
 use Rattle.infer_expr.proofs.OverTypes.{over_fine, adt_closed, fn_def_closed}
 use Rattle.infer_expr.proofs.Unified.{bound_heads}
 
 both_true : (a b : Bool) → a ≡ true → b ≡ true → (a && b) ≡ true
 both_true a b h k = ap (λ (x : Bool). x && b) h ∙ k
+
+-- an item takes as many types as its signature says
+item_counted : (facts : RawFacts) (id : CallableDefId) (n : ℕ) → has_params (item_params facts id) n ≡ true → has_params (callable_params facts id) n ≡ true
+item_counted facts id n h = by_signature (signature_of facts id) refl h
+  where
+    by_signature : (o : Option Signature) → signature_of facts id ≡ o → has_params (option_map (λ σ. σ.params) o) n ≡ true → has_params (callable_params facts id) n ≡ true
+    by_signature None at k = absurd (cc)
+    by_signature (Some σ) at k = ap (λ o. has_params o n) (signature_count facts id σ at) ∙ k
 
 -- types for holes that fit make a type that fits
 module _ (sc : Scope) (a : Assignment) where
@@ -66,9 +80,13 @@ module _ (sc : Scope) (a : Assignment) where
     fn_def = λ id ts k h.
         let us = map (folded a) ts in
         fits_by (ty.FnDef id (type_args ts)) (ty.FnDef id (type_args us)) (fn_def_closed a id ts) (ty_fits_fndef sc id (type_args us)
-        ∙ both_true (has_params (callable_params sc.facts id) (length (type_args us))) (list_all (arg_fits sc) (type_args us)) (ap (has_params (callable_params sc.facts id)) (arg_count ts) ∙ k) (args_fit us (all_fit ts h)));
+        ∙ both_true (has_params (callable_params sc.facts id) (length (type_args us))) (list_all (arg_fits sc) (type_args us)) (ap (has_params (callable_params sc.facts id)) (arg_count ts) ∙ item_counted sc.facts id (length ts) k) (args_fit us (all_fit ts h)));
     param = λ n k. fits_by (ty.Param n) (ty.Param n) (replaced_param (with_holes a) n) (ty_fits_param sc n ∙ k);
   })
+
+-- a fine type fits as it is, its holes too
+fine_fits : (sc : Scope) (t : Ty) → HasFineHeads sc t → ty_fits sc t ≡ true
+fine_fits sc t h = ap (ty_fits sc) (sym (folded_itself t)) ∙ heads_fit sc each_itself (λ n. ty_fits_var sc n) (λ n. ty_fits_intvar sc n) t h
 
 module _ (sc : Scope) (c : InferenceContext) (s : IsSound sc c) where
   fallen_back : (t : Ty) → HasFineHeads sc t → ty_fits sc (folded fallback t) ≡ true
@@ -91,8 +109,20 @@ module _ (sc : Scope) (c : InferenceContext) (s : IsSound sc c) where
         exprs = λ n t i. (let q = At-unclosed f c.result.type_of_expr n t i in fits_of q.0 t q.2 (s.fine.exprs n q.0 q.1));
         pats = λ n t i. (let q = At-unclosed f c.result.type_of_pat n t i in fits_of q.0 t q.2 (s.fine.pats n q.0 q.1));
         bindings = λ n t i. (let q = At-unclosed f c.result.type_of_binding n t i in fits_of q.0 t q.2 (s.fine.bindings n q.0 q.1));
+        placeholders = λ n t i. (let q = At-unclosed f c.result.type_of_placeholder n t i in fits_of q.0 t q.2 (s.fine.placeholders n q.0 q.1));
+        found = λ n k t i. elim (said-cases (completion c.table) c.result.seen c.result.expr_diagnostics n (diagnostic.ExpectedFunction k t) i) [
+          | inl q ↦ fine_fits sc t (s.fine.found n k t q).heads
+          | inr q ↦ fits_of q.1.ty t (let same : diagnostic.ExpectedFunction k t ≡ diagnostic.ExpectedFunction q.3.call (f q.1.ty) = q.3.is in cc) (s.seen.types q.0 q.1 q.2)
+        ];
         expected = λ n x i. (let q = At-stems (completion c.table) c.asked c.result.expr_mismatches n x i in fits_of q.0.expected x.expected (ap (λ (y : TypeMismatch). y.expected) q.2) (elim q.1 [ inl z ↦ (s.asked n q.0 z).0 | inr z ↦ s.fine.expected n q.0 z ]));
         actual = λ n x i. (let q = At-stems (completion c.table) c.asked c.result.expr_mismatches n x i in fits_of q.0.actual x.actual (ap (λ (y : TypeMismatch). y.actual) q.2) (elim q.1 [ inl z ↦ (s.asked n q.0 z).1 | inr z ↦ s.fine.actual n q.0 z ]));
         pat_expected = λ n x i. (let q = At-unclosed m c.result.pat_mismatches n x i in fits_of q.0.expected x.expected (ap (λ (y : TypeMismatch). y.expected) q.2) (s.fine.pat_expected n q.0 q.1));
         pat_actual = λ n x i. (let q = At-unclosed m c.result.pat_mismatches n x i in fits_of q.0.actual x.actual (ap (λ (y : TypeMismatch). y.actual) q.2) (s.fine.pat_actual n q.0 q.1));
       }
+
+  -- so does each that a failed look-up saw
+  pub seen_fits : AllSeen (λ t. ty_fits sc t ≡ true) (closed_table (completion c.table) c.asked c.result)
+  seen_fits = record {
+    types = λ i x at. fine_fits sc x.ty (s.seen.types i x at).heads;
+    others = λ i x t at is. fine_fits sc t (s.seen.others i x t at is).heads;
+  }

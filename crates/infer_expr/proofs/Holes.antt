@@ -21,7 +21,7 @@ use Rattle.infer_expr.specs.declared.context.InferenceContext.{InferenceContext}
 use Rattle.hir_facts.specs.Scope.{Scope}
 use Rattle.infer_expr.specs.Closings.{IsSound}
 use Rattle.infer_expr.specs.Steps.{IsIntegerFor, IsExpectedInteger, IntDone, LiteralDone}
-use Rattle.infer_expr.proofs.FineTypes.{fine_bool, fine_char, fine_integer, fine_int_hole, table_fine_grown, fine_asked_grown, fine_pairs_grown}
+use Rattle.infer_expr.proofs.FineTypes.{fine_bool, fine_char, fine_integer, fine_int_hole, table_fine_grown, seen_fine_grown, fine_asked_grown, fine_pairs_grown}
 use Rattle.infer_expr.proofs.OverTypes.{carried_closed}
 use Rattle.infer_expr.proofs.Unified.{with_table}
 
@@ -32,6 +32,7 @@ holed c k = with_table c (with_new_hole c.table k)
 pub holed_sound : {sc : Scope} (c : InferenceContext) (k : HoleKind) → IsSound sc c → IsSound sc (holed c k)
 holed_sound c k s = record {
   fine = table_fine_grown _ c.table (with_new_hole c.table k) c.result (grew_by_hole c.table (with_new_hole c.table k) k refl) s.fine;
+  seen = seen_fine_grown _ c.table (with_new_hole c.table k) c.result (grew_by_hole c.table (with_new_hole c.table k) k refl) s.seen;
   asked = fine_asked_grown _ c.table (with_new_hole c.table k) c.asked (grew_by_hole c.table (with_new_hole c.table k) k refl) s.asked;
   pairs = fine_pairs_grown _ c.table (with_new_hole c.table k) (waiting c.table.pairs) (grew_by_hole c.table (with_new_hole c.table k) k refl) s.pairs;
   bound = s.bound;
@@ -98,6 +99,7 @@ module _ {sc : Scope} (c : InferenceContext) (s : IsSound sc c) where
     grew = grew_itself c.table;
     sound = s;
     fine = fine_bool _ c.table;
+    own = λ u e. sym e;
     each = λ a k. carried_closed a ty.Bool carried_bool;
   }
 
@@ -109,6 +111,7 @@ module _ {sc : Scope} (c : InferenceContext) (s : IsSound sc c) where
     grew = grew_itself c.table;
     sound = s;
     fine = fine_char _ c.table;
+    own = λ u e. sym e;
     each = λ a k. carried_closed a ty.Char carried_char;
   }
 
@@ -120,6 +123,7 @@ module _ {sc : Scope} (c : InferenceContext) (s : IsSound sc c) where
     grew = grew_itself c.table;
     sound = s;
     fine = fine_integer _ c.table i;
+    own = λ u e. sym e;
     each = λ a k. carried_closed a (integer_type i) (carried_integer i);
   }
 
@@ -131,5 +135,6 @@ unsuffixed_literal digits x t old new d = record {
   grew = d.grew;
   sound = d.sound;
   fine = d.fine;
+  own = λ u e. absurd e;
   each = d.each;
 }

@@ -12,10 +12,10 @@ use Rattle.hir_types.specs.Instances.{instance_at_types, param_at, types_args_re
 use Rattle.hir_types.specs.Subst.{Assignment, folded}
 use Rattle.hir_facts.specs.declared.raw.RawFacts.{RawFacts}
 use Rattle.hir_facts.specs.CarriedTypes.{carried_arg, carried_step, carried_bound, carried_trait, is_carried_type, is_carried_arg, IsCarriedType, AreCarriedTypes, carried_tuple, carried_adt, carried_fn_def, carried_type_arg}
-use Rattle.hir_facts.specs.Scope.{Scope, has_params, adt_params, callable_params}
+use Rattle.hir_facts.specs.Scope.{Scope, has_params, adt_params}
 use Rattle.hir_facts.specs.Signatures.{type_args, at_args}
 use Rattle.infer_table.specs.Table.{State}
-use Rattle.infer_expr.specs.Fine.{HasFineHeads, IsFine, IsKnown}
+use Rattle.infer_expr.specs.Fine.{item_params, HasFineHeads, IsFine, IsKnown}
 use Rattle.infer_expr.specs.Under.{own_scope}
 use Rattle.infer_expr.proofs.FineTypes.{Every, AllFine, every_at, fine_bool, fine_char, fine_integer, fine_tuple, fine_adt, fine_fn_def}
 use Rattle.infer_expr.proofs.OverTypes.{over_fine, carried_closed}
@@ -72,7 +72,7 @@ module _ (sc : Scope) (state : State) (facts : RawFacts) (same : facts ≡ sc.fa
     fn_def = λ id us k h c.
         let vs = map (at_args ts) us in
         fine_by (ty.FnDef id (type_args us)) (ty.FnDef id (type_args vs)) (replaced_fn_def (with_params (type_args ts)) id (type_args us) ∙ ap (ty.FnDef id) (types_args_replaced (with_params (type_args ts)) us)) (
-        fine_fn_def sc state id vs (takes (callable_params facts id) (callable_params sc.facts id) us (ap (λ r. callable_params r id) same) k) (all_fine_at us h (sym (args_as_types us) ∙ (sym (carried_fn_def id (type_args us)) ∙ c)))
+        fine_fn_def sc state id vs (takes (item_params facts id) (item_params sc.facts id) us (ap (λ r. item_params r id) same) k) (all_fine_at us h (sym (args_as_types us) ∙ (sym (carried_fn_def id (type_args us)) ∙ c)))
         );
     param = λ n k c.
         let q = found ts n (ltb-true n (length ts) k) in

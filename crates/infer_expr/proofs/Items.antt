@@ -1,5 +1,5 @@
 -- The functions and constructors of lawful facts.
-use Rattle.std.proofs.Common.{ℕ, zero, suc, ◌+◌, ◌<◌, ◌≤◌, ◌≡◌, ◌&&◌, true, arith, refl, sym, ap, subst, ◌∙◌, List, [], ◌∷◌, map, length, Some, slice_get, option_map, option_and_then}
+use Rattle.std.proofs.Common.{ℕ, zero, suc, ◌+◌, ◌<◌, ◌≤◌, ◌≡◌, ◌&&◌, true, arith, refl, sym, ap, subst, ◌∙◌, List, [], ◌∷◌, map, length, Some, None, slice_get, option_map, option_and_then, Option}
 use Rattle.std.specs.List.{list_all}
 use Rattle.std.proofs.lemmas.Bool.{eq-eqb, lt-ltb}
 use Rattle.hir_types.specs.declared.ids.AdtId.{AdtId}
@@ -19,15 +19,18 @@ use Rattle.hir_facts.specs.Items.{variant_adt, variant_ctor}
 use Rattle.hir_facts.specs.Laws.Ids.{IsModuleFn}
 use Rattle.hir_facts.specs.Laws.Lawful.{IsLawful}
 use Rattle.hir_facts.specs.CarriedTypes.{is_carried_arg, AreCarriedArgs, carried_adt, carried_param, carried_type_arg}
-use Rattle.hir_facts.specs.Scope.{Scope, adt_params, has_params}
+use Rattle.hir_types.specs.declared.ids.CallableDefId.{CallableDefId}
+use Rattle.hir_facts.specs.Scope.{Scope, adt_params, callable_params, has_params}
 use Rattle.hir_facts.specs.Signatures.{Signature, fn_signature, signature_of, ctor_signature, signature_by, field_types, params_from, own_adt, type_args}
 use Rattle.hir_facts.specs.Types.{written_type}
 use Rattle.hir_facts.specs.WrittenFits.{inputs_fit, output_fits, fields_fit}
+use Rattle.hir_facts.specs.NoHoles.{input_has_no_hole, output_has_no_hole, field_has_no_hole}
 use Rattle.infer_result.specs.Places.{Given}
 use Rattle.infer_expr.specs.Fine.{HasFineHeads, IsKnown, IsWritten}
 use Rattle.infer_expr.specs.Under.{own_scope, IsItem, IsVariant}
 use Rattle.infer_expr.proofs.Written.{is_written}
 use Rattle.infer_expr.proofs.FineTypes.{Every, heads_adt, heads_param}
+use Rattle.hir_facts.specs.declared.raw.RawFn.{RawFn}
 
 -- what has a signature is a tuple constructor
 pub ctor_item : (g : Given) (v : VariantId) (x : RawVariant) (n : ℕ) (σ : Signature) → slice_get g.scope.facts.variants v.0 ≡ Some x → adt_params g.scope.facts x.adt ≡ Some n → signature_of g.scope.facts (callable.VariantId v) ≡ Some σ → (x.ctor ≡ ctor.Tuple) × (n ≡ σ.params)
@@ -42,6 +45,54 @@ ctor_item g v x n σ found count s = by_ctor x.ctor refl (sym (signature_at g.sc
     by_ctor ctor.Tuple is made = (is, cc)
     by_ctor ctor.Unit is made = absurd (cc)
     by_ctor ctor.Record is made = absurd (cc)
+
+-- a constructor has a signature where it takes fields
+pub tuple_signature : (raw : RawFacts) (v : VariantId) (x : RawVariant) (n : ℕ) → slice_get raw.variants v.0 ≡ Some x → adt_params raw x.adt ≡ Some n → x.ctor ≡ ctor.Tuple → (σ : Signature) × (signature_of raw (callable.VariantId v) ≡ Some σ) × (σ.params ≡ n)
+tuple_signature raw v x n found count tuple = (
+  record { params = n; inputs = field_types raw.types x; output = own_adt x.adt n },
+  ap (λ o. option_and_then (λ z. option_and_then (λ j. ctor_signature raw.types j z) (adt_params raw z.adt)) o) found
+      ∙ (ap (λ o. option_and_then (λ j. ctor_signature raw.types j x) o) count ∙ ap (λ k. signature_by k raw.types n x) tuple),
+  refl,
+)
+
+-- and only there
+pub variant_with : (raw : RawFacts) (v : VariantId) (σ : Signature) → signature_of raw (callable.VariantId v) ≡ Some σ → (x : RawVariant) × (slice_get raw.variants v.0 ≡ Some x) × (x.ctor ≡ ctor.Tuple)
+variant_with raw v σ found = by_variant (slice_get raw.variants v.0) refl found
+  where
+    by_ctor : (x : RawVariant) (n : ℕ) (k : RawCtor) → x.ctor ≡ k → signature_by k raw.types n x ≡ Some σ → x.ctor ≡ ctor.Tuple
+    by_ctor x n ctor.Tuple is made = is
+    by_ctor x n ctor.Unit is made = absurd (cc)
+    by_ctor x n ctor.Record is made = absurd (cc)
+
+    by_params : (x : RawVariant) (o : Option ℕ) → option_and_then (λ n. ctor_signature raw.types n x) o ≡ Some σ → x.ctor ≡ ctor.Tuple
+    by_params x None made = absurd (cc)
+    by_params x (Some n) made = by_ctor x n x.ctor refl made
+
+    by_variant : (o : Option RawVariant) → slice_get raw.variants v.0 ≡ o → option_and_then (λ x. option_and_then (λ n. ctor_signature raw.types n x) (adt_params raw x.adt)) o ≡ Some σ → (x : RawVariant) × (slice_get raw.variants v.0 ≡ Some x) × (x.ctor ≡ ctor.Tuple)
+    by_variant None at made = absurd (cc)
+    by_variant (Some x) at made = (x, at, by_params x (adt_params raw x.adt) made)
+
+-- what has a signature has as many parameters as that says
+pub signature_count : (raw : RawFacts) (id : CallableDefId) (σ : Signature) → signature_of raw id ≡ Some σ → callable_params raw id ≡ Some σ.params
+signature_count raw (callable.FunctionId f) σ found = by_fn (slice_get raw.fns f.0) found
+  where
+    by_fn : (o : Option RawFn) → option_map (fn_signature raw.types) o ≡ Some σ → option_map (λ y. length y.params) o ≡ Some σ.params
+    by_fn None made = absurd (cc)
+    by_fn (Some x) made = (let same : fn_signature raw.types x ≡ σ = cc in ap (λ (τ : Signature). Some τ.params) same)
+signature_count raw (callable.VariantId v) σ found = by_variant (slice_get raw.variants v.0) found
+  where
+    by_ctor : (x : RawVariant) (n : ℕ) (k : RawCtor) → signature_by k raw.types n x ≡ Some σ → Some n ≡ Some σ.params
+    by_ctor x n ctor.Tuple made = (let same : record { params = n; inputs = field_types raw.types x; output = own_adt x.adt n } ≡ σ = cc in ap (λ (τ : Signature). Some τ.params) same)
+    by_ctor x n ctor.Unit made = absurd (cc)
+    by_ctor x n ctor.Record made = absurd (cc)
+
+    by_params : (x : RawVariant) (o : Option ℕ) → option_and_then (λ n. ctor_signature raw.types n x) o ≡ Some σ → o ≡ Some σ.params
+    by_params x None made = absurd (cc)
+    by_params x (Some n) made = by_ctor x n x.ctor made
+
+    by_variant : (o : Option RawVariant) → option_and_then (λ x. option_and_then (λ n. ctor_signature raw.types n x) (adt_params raw x.adt)) o ≡ Some σ → option_and_then (λ x. adt_params raw x.adt) o ≡ Some σ.params
+    by_variant None made = absurd (cc)
+    by_variant (Some x) made = by_params x (adt_params raw x.adt) made
 
 -- ---- an adt at its own parameters
 
@@ -81,17 +132,20 @@ all_known raw n (w ∷ ws) h (suc k) t is = all_known raw n ws (λ j v e. h (suc
 
 module _ (raw : RawFacts) (law : IsLawful raw) where
   -- a function that a path names
-  pub named_function : (f : FunctionId) → IsModuleFn raw f → IsItem raw (callable.FunctionId f)
-  named_function f (x, found, stands) = record {
+  pub function_item : (f : FunctionId) (x : RawFn) → slice_get raw.fns f.0 ≡ Some x → IsItem raw (callable.FunctionId f)
+  function_item f x found = record {
     signature = fn_signature raw.types x;
     found = ap (option_map (fn_signature raw.types)) found;
     count = ap (option_map (λ y. length y.params)) found;
-    inputs = all_known raw (length x.params) x.inputs (λ k w is. is_written raw law (length x.params) w (inputs_fit raw law f.0 x found k w is));
-    output = known raw (length x.params) x.output (is_written raw law (length x.params) x.output (output_fits raw law f.0 x found));
+    inputs = all_known raw (length x.params) x.inputs (λ k w is. is_written raw law (length x.params) w (inputs_fit raw law f.0 x found k w is) (input_has_no_hole raw law f.0 x found k w is));
+    output = known raw (length x.params) x.output (is_written raw law (length x.params) x.output (output_fits raw law f.0 x found) (output_has_no_hole raw law f.0 x found));
   }
 
+  pub named_function : (f : FunctionId) → IsModuleFn raw f → IsItem raw (callable.FunctionId f)
+  named_function f (x, found, stands) = function_item f x found
+
   fields_known : (v : VariantId) (x : RawVariant) (a : RawAdt) → slice_get raw.variants v.0 ≡ Some x → slice_get raw.adts x.adt.0 ≡ Some a → (k : ℕ) (t : Ty) → slice_get (field_types raw.types x) k ≡ Some t → IsKnown (own_scope raw (length a.params)) t
-  fields_known v x a found adt k t is = among x.fields (λ j f e. is_written raw law (length a.params) f.ty (fields_fit raw law v.0 x a found adt j f e)) k is
+  fields_known v x a found adt k t is = among x.fields (λ j f e. is_written raw law (length a.params) f.ty (fields_fit raw law v.0 x a found adt j f e) (field_has_no_hole raw law v.0 x found j f e)) k is
     where
       among : (fs : List RawField) → ((j : ℕ) (f : RawField) → slice_get fs j ≡ Some f → IsWritten (own_scope raw (length a.params)) f.ty) → (i : ℕ) → slice_get (map (λ f. written_type raw.types f.ty) fs) i ≡ Some t → IsKnown (own_scope raw (length a.params)) t
       among [] h i e = absurd (cc)
@@ -126,3 +180,12 @@ module _ (raw : RawFacts) (law : IsLawful raw) where
         inputs = y.fields;
         output = own_adt_known raw x.adt y.params y.count;
       }
+
+  -- each item that has a signature
+  pub item_with : (id : CallableDefId) (σ : Signature) → signature_of raw id ≡ Some σ → IsItem raw id
+  item_with (callable.FunctionId f) σ found = by_fn (slice_get raw.fns f.0) refl found
+    where
+      by_fn : (o : Option RawFn) → slice_get raw.fns f.0 ≡ o → option_map (fn_signature raw.types) o ≡ Some σ → IsItem raw (callable.FunctionId f)
+      by_fn None at made = absurd (cc)
+      by_fn (Some x) at made = function_item f x at
+  item_with (callable.VariantId v) σ found = (let y = variant_with raw v σ found in tuple_item v y.0 y.1 y.2)

@@ -1,5 +1,5 @@
 -- What is judged stays so, as more is recorded: one lemma for each judgement.
-use Rattle.std.proofs.Common.{ℕ, ◌⊎◌, inl, inr, List, [], ◌∷◌, map, true, false, Option, Some, None, slice_get}
+use Rattle.std.proofs.Common.{ℕ, ◌≡◌, ◌∙◌, ap, sym, subst, ◌⊎◌, inl, inr, List, [], ◌∷◌, map, true, false, Option, Some, None, slice_get, unwrap_or, option_and_then}
 use Rattle.hir_types.specs.declared.ids.ExprId.{ExprId}
 use Rattle.hir_types.specs.declared.ids.PatId.{PatId}
 use Rattle.hir_types.specs.declared.ids.TypeRefId.{TypeRefId}
@@ -16,15 +16,16 @@ use Rattle.hir_facts.specs.declared.raw.RawPat.{RawPat}
 use Rattle.hir_facts.specs.declared.raw.RawPat.TheVariants as pat
 use Rattle.hir_types.specs.Types.{unit}
 use Rattle.hir_facts.specs.Signatures.{Signature, at_args}
-use Rattle.hir_facts.specs.Types.{written_type}
+use Rattle.hir_facts.specs.Filled.{filled_agree}
 use Rattle.hir_facts.specs.Order.{Role, parameter, root, initializer, let_pattern, let_else, statement, tail, element, condition, then_branch, else_branch, scrutinee, arm_pattern, guard, arm, callee, argument, subpattern, pattern_literal, Node, the_body, inner}
 use Rattle.infer_result.specs.declared.result.InferenceResult.{InferenceResult}
 use Rattle.infer_result.specs.declared.result.TypeMismatch.{TypeMismatch}
 use Rattle.infer_result.specs.declared.modes.BindingMode.TheVariants as mode
-use Rattle.infer_result.specs.Table.{HasMismatch, AnyMismatch, mismatch}
+use Rattle.infer_result.specs.declared.result.Seen.{Seen}
+use Rattle.infer_result.specs.Table.{At, HasTy, PlaceholderTy, HasMismatch, AnyMismatch, WasSeen, mismatch}
 use Rattle.infer_result.specs.declared.diagnostics.InferenceDiagnostic.{InferenceDiagnostic}
 use Rattle.infer_result.specs.declared.diagnostics.InferenceDiagnostic.TheVariants as diagnostic
-use Rattle.infer_result.specs.Places.{Given, fields_at, IsCallee, IsInputAt, IsAt, IsAtOrMismatch, MisfitsAs, PatIsAtOrMismatch, GivesPart, Gives, Incoming, AsksOfAlternative, AsksOf, Asks, IsAsked, Demand}
+use Rattle.infer_result.specs.Places.{Given, hole_type, declared, AreRecorded, fields_at, IsCallee, IsInputAt, IsAt, IsAtOrMismatch, MisfitsAs, PatIsAtOrMismatch, GivesPart, Gives, Incoming, AsksOfAlternative, AsksOf, Asks, IsAsked, Demand}
 use Rattle.infer_result.specs.Rules.Placing.{at_or_mismatch}
 use Rattle.infer_result.specs.Rules.Tuples.{AllAt}
 use Rattle.infer_result.specs.Rules.Calls.{ArgsRule}
@@ -33,9 +34,12 @@ use Rattle.infer_result.specs.Rules.Branches.{branches_of, ElseRule, arm_exprs, 
 use Rattle.infer_result.specs.Rules.Expressions.{Rule, ObeysOrMismatch}
 use Rattle.infer_result.specs.Rules.Patterns.{AllPatsAt, PatsAtFields, PatRule}
 use Rattle.infer_result.specs.Truth.Mismatch.{IsTruePatMismatch}
+use Rattle.infer_result.specs.Truth.Seen.{IsTrueSeen}
 use Rattle.infer_result.specs.Truth.Calls.{IsTrueDiagnostic}
 use Rattle.infer_result.specs.Made.{IsMisfit}
-use Rattle.infer_expr.specs.Walks.{Extends}
+use Rattle.hir_types.specs.Subst.{Assignment, folded}
+use Rattle.infer_expr.specs.Found.{Found, entered}
+use Rattle.infer_expr.specs.Walks.{Extends, IsSeenAs}
 
 pub extends_refl : (a : InferenceResult) → Extends a a
 extends_refl a = record {
@@ -48,7 +52,9 @@ extends_refl a = record {
   pat_variants = λ p v h. h;
   mismatches = λ e m h. h;
   pat_mismatches = λ p m h. h;
-  diagnostics = λ e d h. h;
+  placeholders = λ k t h. h;
+  diagnostics = λ e d h. inl h;
+  seen = λ e h. h;
 }
 
 pub extends_trans : (a b c : InferenceResult) → Extends a b → Extends b c → Extends a c
@@ -59,11 +65,17 @@ extends_trans a b c x y = record {
   modes = λ p m h. y.modes p m (x.modes p m h);
   mismatches = λ e m h. y.mismatches e m (x.mismatches e m h);
   pat_mismatches = λ p m h. y.pat_mismatches p m (x.pat_mismatches p m h);
-  diagnostics = λ e d h. y.diagnostics e d (x.diagnostics e d h);
+  placeholders = λ k t h. y.placeholders k t (x.placeholders k t h);
+  diagnostics = λ e d h. elim (x.diagnostics e d h) [ inl k ↦ y.diagnostics e d k | inr k ↦ inr (y.seen e k) ];
+  seen = λ e h. y.seen e (x.seen e h);
   pat_diagnostics = λ p d h. y.pat_diagnostics p d (x.pat_diagnostics p d h);
   expr_variants = λ e v h. y.expr_variants e v (x.expr_variants e v h);
   pat_variants = λ p v h. y.pat_variants p v (x.pat_variants p v h);
 }
+
+-- what is recorded for a `_`
+pub hole_at : (r : InferenceResult) (k : ℕ) (t : Ty) → PlaceholderTy r k t → hole_type r k ≡ t
+hole_at r k t h = ap (λ o. unwrap_or (option_and_then (λ y. y) o) ty.Error) h
 
 module _ (g : Given) (a b : InferenceResult) (x : Extends a b) where
   pub mismatch_kept : (e : ExprId) → HasMismatch a e → HasMismatch b e
@@ -101,9 +113,22 @@ module _ (g : Given) (a b : InferenceResult) (x : Extends a b) where
   all_kept (e ∷ es) [] h = absurd h
   all_kept (e ∷ es) (t ∷ ts) h = (at_kept e t h.0, all_kept es ts h.1)
 
+  -- what each `_` of a written type stands for
+  pub recorded_kept : (w : TypeRefId) → AreRecorded g a w → AreRecorded g b w
+  recorded_kept w h k stands = let q = h k stands in (q.0, x.placeholders k q.0 q.1)
+
+  -- and so what the type stands for
+  pub declared_kept : (w : TypeRefId) → AreRecorded g a w → declared g a w ≡ declared g b w
+  declared_kept w h = filled_agree (hole_type a) (hole_type b) g.scope.facts.types w (λ k stands.
+      (let q = h k stands in hole_at a k q.0 q.1 ∙ sym (hole_at b k q.0 (x.placeholders k q.0 q.1))))
+
   let_kept : (p : PatId) (w : Option TypeRefId) (i : Option ExprId) → LetRule (at_or_mismatch g a) g a p w i → LetRule (at_or_mismatch g b) g b p w i
-  let_kept p (Some w) (Some e) h = (at_kept e (written_type g.scope.facts.types w) h.0, pat_at_kept p (written_type g.scope.facts.types w) h.1)
-  let_kept p (Some w) None h = pat_at_kept p (written_type g.scope.facts.types w) h
+  let_kept p (Some w) (Some e) (r, h, k) = (
+    recorded_kept w r,
+    subst (λ t. IsAtOrMismatch b e t) (declared_kept w r) (at_kept e (declared g a w) h),
+    subst (λ t. PatIsAtOrMismatch g b p t) (declared_kept w r) (pat_at_kept p (declared g a w) k),
+  )
+  let_kept p (Some w) None (r, k) = (recorded_kept w r, subst (λ t. PatIsAtOrMismatch g b p t) (declared_kept w r) (pat_at_kept p (declared g a w) k))
   let_kept p None (Some e) (t, h, k) = (t, x.exprs e t h, pat_at_kept p t k)
   let_kept p None None h = tt
 
@@ -146,9 +171,9 @@ module _ (g : Given) (a b : InferenceResult) (x : Extends a b) where
   pub callee_kept : (f : ExprId) (σ : Signature) (ts : List Ty) → IsCallee g a f σ ts → IsCallee g b f σ ts
   callee_kept f σ ts h = record { item = h.item; has = x.exprs f _ h.has; signature = h.signature }
 
-  pub args_kept : (n : ExprId) (args : List ExprId) (ts : List Ty) → ArgsRule (at_or_mismatch g a) n args ts → ArgsRule (at_or_mismatch g b) n args ts
-  args_kept n args ts (inl h) = inl (all_kept args ts h)
-  args_kept n args ts (inr h) = inr (x.diagnostics n _ h)
+  pub args_kept : (n : ExprId) (args : List ExprId) (ts : List Ty) → ArgsRule (at_or_mismatch g a) n args ts → ArgsRule (at_or_mismatch g b) n args ts ⊎ WasSeen b n
+  args_kept n args ts (inl h) = inl (inl (all_kept args ts h))
+  args_kept n args ts (inr h) = elim (x.diagnostics n _ h) [ inl k ↦ inl (inr k) | inr k ↦ inr k ]
 
   input_kept : (n : ExprId) (i : ℕ) (t : Ty) → IsInputAt g a n i t → IsInputAt g b n i t
   input_kept n i t h = record {
@@ -175,7 +200,11 @@ module _ (g : Given) (a b : InferenceResult) (x : Extends a b) where
       (at_kept c ty.Bool h, (t, x.exprs n t k, (alternative_kept (branches_of n first other) first t l.0, else_kept n first other t l.1)))
   rule_kept n (Some (expr.Match e arms)) ((u, h, i), (t, k, l)) =
       ((u, x.exprs e u h, arm_patterns_kept arms u i), (t, x.exprs n t k, arms_kept (arm_exprs arms) arms t l))
-  rule_kept n (Some (expr.Call f args)) (σ, ts, h, k, l) = (σ, ts, callee_kept f σ ts h, args_kept n args (map (at_args ts) σ.inputs) k, x.exprs n _ l)
+  rule_kept n (Some (expr.Call f args)) (inl (σ, ts, h, k, l)) = elim (args_kept n args (map (at_args ts) σ.inputs) k) [
+    | inl q ↦ inl (σ, ts, callee_kept f σ ts h, q, x.exprs n _ l)
+    | inr q ↦ inr (q, (at_args ts σ.output, x.exprs n _ l))
+  ]
+  rule_kept n (Some (expr.Call f args)) (inr (q, (t, l))) = inr (x.seen n q, (t, x.exprs n t l))
   rule_kept n (Some expr.Other) h = h
 
   pub obeys_kept : (n : ExprId) → ObeysOrMismatch g a n → ObeysOrMismatch g b n
@@ -229,6 +258,25 @@ module _ (g : Given) (a b : InferenceResult) (x : Extends a b) where
       differ = h.differ;
     },
   )
+  diagnostic_kept e (diagnostic.ExpectedFunction n t) (is, h) = (is, record { called = h.called; args = h.args; is_call = h.is_call; has = x.exprs h.called t h.has; seen = x.seen e h.seen; known = h.known })
+
+  -- what is kept of a look-up that failed
+  pub true_seen_kept : (y : Seen) → IsTrueSeen g a y → IsTrueSeen g b y
+  true_seen_kept y h = record {
+    call = h.call;
+    called = h.called;
+    args = h.args;
+    is_node = h.is_node;
+    is_call = h.is_call;
+    alone = h.alone;
+    type = h.type;
+    has = x.exprs h.called h.type h.has;
+    instance = h.instance;
+    not_callable = h.not_callable;
+    no_item = h.no_item;
+    upward = h.upward;
+    head = h.head;
+  }
 
   pub misfit_kept : (e : ExprId) (m : TypeMismatch) → IsMisfit g a e m → IsMisfit g b e m
   misfit_kept e m h = record {
@@ -257,7 +305,7 @@ module _ (g : Given) (a b : InferenceResult) (x : Extends a b) where
   gives_kept n (parameter i) t h = h
   gives_kept n root t h = h
   gives_kept n (initializer w) t h = h
-  gives_kept n (let_pattern (Some w) init) t h = h
+  gives_kept n (let_pattern (Some w) init) t (r, h) = (recorded_kept w r, h ∙ declared_kept w r)
   gives_kept n (let_pattern None (Some e)) t h = x.exprs e t h
   gives_kept n (let_pattern None None) t h = h
   gives_kept n let_else t h = h
@@ -302,7 +350,7 @@ module _ (g : Given) (a b : InferenceResult) (x : Extends a b) where
   asks_of_kept : (n : ExprId) (role : Role) (t : Ty) → AsksOf g a n role t → AsksOf g b n role t
   asks_of_kept n (parameter i) t h = h
   asks_of_kept n root t h = h
-  asks_of_kept n (initializer (Some w)) t h = h
+  asks_of_kept n (initializer (Some w)) t (r, h) = (recorded_kept w r, h ∙ declared_kept w r)
   asks_of_kept n (initializer None) t h = h
   asks_of_kept n (let_pattern w i) t h = h
   asks_of_kept n let_else t h = h
@@ -339,3 +387,22 @@ module _ (g : Given) (a b : InferenceResult) (x : Extends a b) where
   pub demand_kept : (e : ExprId) (t : Ty) → Demand g a e t → Demand g b e t
   demand_kept e t (inl h) = inl (asked_kept e t h)
   demand_kept e t (inr h) = inr (record { condition = h.condition; branch = h.branch; is_if = h.is_if; has = x.exprs h.branch t h.has })
+
+-- each look-up that failed is so and is said, where no complaint gives way
+pub seen_as_kept : (g : Given) (c d : Found) → Extends c.result d.result → ((e : ExprId) (x : InferenceDiagnostic) → At c.result.expr_diagnostics e.0 x → At d.result.expr_diagnostics e.0 x) → d.holes ≡ c.holes → (y : Seen) → IsSeenAs g c y → IsSeenAs g d y
+seen_as_kept g c d x says same y h = record {
+  is_true = true_seen_kept g c.result d.result x y h.is_true;
+  is_said = λ call called args t here there has known.
+      (let was : HasTy c.result called (folded c.holes y.ty) = h.recorded call called args here there in
+      let one : folded c.holes y.ty ≡ t = one_type d.result called (folded c.holes y.ty) t (x.exprs called (folded c.holes y.ty) was) has in
+      says call (diagnostic.ExpectedFunction call t) (h.is_said call called args t here there (subst (λ u. HasTy c.result called u) one was) known));
+  recorded = λ call called args here there.
+      subst (λ (a : Assignment). HasTy d.result called (folded a y.ty)) (sym same) (x.exprs called (folded c.holes y.ty) (h.recorded call called args here there));
+}
+  where
+    one_type : (r : InferenceResult) (e : ExprId) (t u : Ty) → HasTy r e t → HasTy r e u → t ≡ u
+    one_type r e t u h k = (let q : Some (Some t) ≡ Some (Some u) = sym h ∙ k in cc)
+
+-- the clock does not matter
+pub seen_as_entered : (g : Given) (c : Found) (y : Seen) → IsSeenAs g c y → IsSeenAs g (entered c) y
+seen_as_entered g c y h = record { is_true = h.is_true; is_said = h.is_said; recorded = h.recorded }

@@ -1,8 +1,11 @@
 pub mod Lists
+pub mod Said
 pub mod Types
 pub mod MadeHoles
 pub mod FineTypes
 pub mod OverTypes
+pub mod TellingsKept
+pub mod Tellings
 pub mod Written
 pub mod Closed
 pub mod Carried
@@ -44,10 +47,13 @@ pub mod Instances
 pub mod Items
 pub mod Sigs
 pub mod Calls
+pub mod Callees
 pub mod CallWalk
+pub mod Uncallable
 pub mod PatWalk
 pub mod TuplePatWalk
 pub mod CtorPatWalk
 pub mod ParamsWalk
 pub mod BodyWalk
 pub mod Definitions
+pub mod BodyTy

@@ -1,5 +1,5 @@
 -- A mismatch that is noted at an expression.
-use Rattle.std.proofs.Common.{◌<◌, ◌≡◌, ◌⊎◌, inl, inr, length, sym, subst, ◌∙◌, slice_get}
+use Rattle.std.proofs.Common.{◌<◌, ◌≡◌, ◌⊎◌, inl, inr, refl, length, sym, subst, ◌∙◌, slice_get}
 use Rattle.hir_types.specs.declared.ids.ExprId.{ExprId}
 use Rattle.hir_facts.specs.declared.schedule.Schedule.{Schedule}
 use Rattle.hir_facts.specs.CarriedTypes.{IsCarriedType}
@@ -11,7 +11,7 @@ use Rattle.infer_expr.specs.Found.{Found, with_mismatch}
 use Rattle.infer_expr.specs.Walks.{Walks, IsWalked, Extends, Debt}
 use Rattle.infer_expr.proofs.Lists.{noted-keeps, noted-cases, noted-some, length-noted}
 use Rattle.infer_expr.proofs.Parts.{expr_id}
-use Rattle.infer_expr.proofs.Keeps.{extends_trans, obeys_kept, pat_kept, pat_truth_kept, diagnostic_kept, misfit_kept, demand_kept}
+use Rattle.infer_expr.proofs.Keeps.{extends_trans, obeys_kept, pat_kept, pat_truth_kept, diagnostic_kept, seen_as_kept, misfit_kept, demand_kept}
 
 pub noted_extends : (c : Found) (e : ExprId) (m : TypeMismatch) → Extends c.result (with_mismatch c e m).result
 noted_extends c e m = record {
@@ -21,7 +21,9 @@ noted_extends c e m = record {
   modes = λ p k h. h;
   mismatches = λ n y h. noted-keeps c.result.expr_mismatches e.0 n.0 m y h;
   pat_mismatches = λ p y h. h;
-  diagnostics = λ n d h. h;
+  placeholders = λ k t h. h;
+  diagnostics = λ n d h. inl h;
+  seen = λ n h. record { position = h.position; entry = h.entry; found = h.found; is_node = h.is_node };
   pat_diagnostics = λ p d h. h;
   expr_variants = λ n v h. h;
   pat_variants = λ p v h. h;
@@ -48,6 +50,8 @@ noted_walked g s c e m x y h = record {
     exprs = h.carried.exprs;
     pats = h.carried.pats;
     bindings = h.carried.bindings;
+    placeholders = h.carried.placeholders;
+    found = h.carried.found;
     expected = λ n k i. elim (noted-cases c.result.expr_mismatches e.0 n m k i) [ inl q ↦ h.carried.expected n k q | inr q ↦ subst (λ z. IsCarriedType z.expected) q.1 x ];
     actual = λ n k i. elim (noted-cases c.result.expr_mismatches e.0 n m k i) [ inl q ↦ h.carried.actual n k q | inr q ↦ subst (λ z. IsCarriedType z.actual) q.1 y ];
     pat_expected = h.carried.pat_expected;
@@ -56,6 +60,8 @@ noted_walked g s c e m x y h = record {
   modes = h.modes;
   pat_diagnostics = h.pat_diagnostics;
   variants = record { exprs = h.variants.exprs; pats = h.variants.pats };
+  placeholders = record { count = h.placeholders.count; only = h.placeholders.only };
+  seen = λ i y at. seen_as_kept g c (with_mismatch c e m) (noted_extends c e m) (λ n d k. k) refl y (h.seen i y at);
   diagnostics = λ n d i. diagnostic_kept g c.result (with_mismatch c e m).result (noted_extends c e m) n d (h.diagnostics n d i);
   free_exprs = h.free_exprs;
   free_pats = h.free_pats;

@@ -25,14 +25,14 @@ use Rattle.hir_types.specs.Subst.{Assignment, with_holes, folded}
 use Rattle.hir_types.specs.Terms.{Term, chain, type_part, apply, IsInt, term, arg_term, terms_of, ty_step}
 use Rattle.hir_types.specs.TermLaws.{terms, term_at, arg_term_at, term_bool, term_char, term_int, term_uint, term_tuple, term_param, term_error, term_folded, term_adt_types, term_fn_def_types}
 use Rattle.hir_types.specs.Types.{integer_type}
-use Rattle.hir_facts.specs.Scope.{Scope, adt_params, callable_params, has_params}
+use Rattle.hir_facts.specs.Scope.{Scope, adt_params, has_params}
 use Rattle.hir_facts.specs.Signatures.{type_args}
 use Rattle.hir_facts.specs.CarriedTypes.{carried_arg, carried_step, carried_bound, carried_trait, is_carried_type, is_carried_arg, IsCarriedType, AreCarriedTypes, AreCarriedArgs, carried_tuple, carried_adt, carried_fn_def, carried_param, carried_type_arg, carried_bool, carried_char, carried_integer, same_carried}
 use Rattle.infer_table.specs.Preserved.{whole, part, rest, IsMadeOf}
 use Rattle.infer_table.specs.Solutions.{Respects}
 use Rattle.infer_table.specs.Table.{State, HolesAreOf}
 use Rattle.infer_expr.specs.Closings.{IsClosing}
-use Rattle.infer_expr.specs.Fine.{is_fine_head, HasFineHeads, IsFine}
+use Rattle.infer_expr.specs.Fine.{item_params, is_fine_head, HasFineHeads, IsFine}
 use Rattle.infer_expr.proofs.FineTypes.{Every, all_holes, no_holes, parts_width}
 use Rattle.infer_expr.proofs.MadeHoles.{node_holes_are_of}
 
@@ -70,7 +70,7 @@ pub record Cases (sc : Scope) (P : Ty → Type 0) : Type 0 where
   pub int_var : (n : ℕ) → P (ty.IntVar n)
   pub tuple : (ts : List Ty) → Every P ts → P (ty.Tuple ts)
   pub adt : (id : AdtId) (ts : List Ty) → has_params (adt_params sc.facts id) (length ts) ≡ true → Every P ts → P (ty.Adt id (type_args ts))
-  pub fn_def : (id : CallableDefId) (ts : List Ty) → has_params (callable_params sc.facts id) (length ts) ≡ true → Every P ts → P (ty.FnDef id (type_args ts))
+  pub fn_def : (id : CallableDefId) (ts : List Ty) → has_params (item_params sc.facts id) (length ts) ≡ true → Every P ts → P (ty.FnDef id (type_args ts))
   pub param : (n : ℕ) → nat_lt n sc.params ≡ true → P (ty.Param n)
 
 module _ (sc : Scope) (P : Ty → Type 0) (cases : Cases sc P) where
@@ -109,7 +109,7 @@ module _ (sc : Scope) (P : Ty → Type 0) (cases : Cases sc P) where
   fn_def_told : (id : CallableDefId) (xs : List GenericArg) → HasFineHeads sc (ty.FnDef id xs) → AreTypesWith P xs → P (ty.FnDef id xs)
   fn_def_told id xs h are =
       let made = subst Made (term_fn_def_types id are.types) (subst (λ ys. HasFineHeads sc (ty.FnDef id ys)) are.are h) in
-      let arity = ap (has_params (callable_params sc.facts id)) (sym (parts_width are.types)) ∙ made.0 in
+      let arity = ap (has_params (item_params sc.facts id)) (sym (parts_width are.types)) ∙ made.0 in
       subst (λ ys. P (ty.FnDef id ys)) (sym are.are) (cases.fn_def id are.types arity are.each)
 
   layer_told : (y : Ty-F ArgTold Told BoundTold TraitTold) → HasFineHeads sc (roll-Ty (told_of y)) → P (roll-Ty (told_of y))

@@ -1,5 +1,5 @@
 -- The loop over the parameters.
-use Rattle.std.proofs.Common.{ℕ, ◌+◌, ◌<◌, ◌≤◌, ◌≡◌, refl, sym, ap, subst, ◌∙◌, arith, length, get_or, Some, slice_get}
+use Rattle.std.proofs.Common.{ℕ, ◌+◌, ◌<◌, ◌≤◌, ◌≡◌, refl, sym, ap, subst, ◌∙◌, arith, length, get_or, Some, slice_get, inl, inr}
 use Rattle.std.proofs.lemmas.Option.{slice_get_read}
 use Rattle.hir_types.specs.declared.ids.PatId.{PatId}
 use Rattle.hir_types.specs.declared.ids.TypeRefId.{TypeRefId}
@@ -16,6 +16,8 @@ use Rattle.infer_expr.proofs.AtEach.{follows_itself, follows_twice, closes_befor
 use Rattle.infer_expr.proofs.OverTypes.{carried_closed}
 use Rattle.infer_expr.proofs.Written.{written_fine}
 use Rattle.infer_expr.proofs.Params.{ParamsLoop, params_start, param_before, param_next, params_end}
+use Rattle.infer_expr.specs.Tells.{TellsRecorded}
+use Rattle.infer_expr.proofs.Tellings.{param_at_tells}
 
 -- the first i parameters have their written types, and the others and the root lie ahead
 pub record ParamsWalk (g : Given) (s : Schedule) (i : ℕ) (mid c : InferenceContext) : Type 0 where
@@ -29,8 +31,8 @@ begins_params g s c h = record {
 }
 
 module _ (g : Given) (s : Schedule) (i : ℕ) (mid c : InferenceContext) (h : ParamsWalk g s i mid c) where
-  walking : IsWalking g s c
-  walking = walking_after g s mid c h.follows (λ a l. (h.each a l).walks.state)
+  walking : TellsRecorded g mid.result → IsWalking g s c
+  walking told = walking_after g s mid c told h.follows (λ a l. (h.each a l).walks.state)
 
   module _ (b : BeforeParams g s mid) (k : i < length g.body.params) (w : TypeRefId) (at : w ≡ get_or g.inputs i w) where
     input_at : slice_get g.inputs i ≡ Some w
@@ -52,10 +54,11 @@ module _ (g : Given) (s : Schedule) (i : ℕ) (mid c : InferenceContext) (h : Pa
           let here = param_under q.0 q.1 in
           record {
             ready = b.ready;
-            state = walking;
+            state = walking b.state.told;
             within = here.within;
             here = here.here;
             fine = written_fine g.scope c.table w param_written;
+            tells = λ t e. param_at_tells g s b.ready.law i p (slice_get_read g.body.params _ i p refl k is) t (w, input_at, elim e [ inl same ↦ (let q : written_type g.scope.facts.types w ≡ t = cc in sym q) | inr none ↦ absurd (cc) ]);
             incoming = λ a l t e. (param_under a l).incoming t (ap (λ u. Some u) (sym (written_closed a)) ∙ e);
           }
 

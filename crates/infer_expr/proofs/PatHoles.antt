@@ -140,6 +140,7 @@ module _ (g : Given) (p : PatId) (t : Ty) (c : InferenceContext) (h : IsOfBody g
       grew = f.grew;
       of_body = of_body_pat_ty g.body mid f.of_body p t;
       sound = sound_pat_ty mid f.sound p t k;
+      told = f.told;
     };
     clock = clock;
     each = λ a q. record {
@@ -151,7 +152,7 @@ module _ (g : Given) (p : PatId) (t : Ty) (c : InferenceContext) (h : IsOfBody g
 
   pub demanded_nothing : PatDemanded g p t None c (with_pat_ty c p t)
   demanded_nothing =
-      recorded None c (record { clock = omega arith; grew = grew_itself c.table; of_body = h; sound = s }) refl fo (λ a q. refl)
+      recorded None c (record { clock = omega arith; grew = grew_itself c.table; of_body = h; sound = s; told = λ k. k }) refl fo (λ a q. refl)
 
   module _ (u : Ty) (fu : IsFine g.scope c.table u) where
     module _ (new : InferenceContext) where
@@ -174,6 +175,7 @@ module _ (g : Given) (p : PatId) (t : Ty) (c : InferenceContext) (h : IsOfBody g
             grew = f.grew;
             of_body = of_body_pat_mismatch g.body new f.of_body p (mismatch u t);
             sound = sound_pat_mismatch new f.sound p (mismatch u t) gu gt;
+            told = f.told;
           }) k.binds.clock gt (λ a q. inr (
             k.each a (closes_same a last new refl q),
             pat_mismatch_under a new p (mismatch u t)

@@ -18,7 +18,8 @@ use Rattle.infer_result.specs.declared.modes.BindingMode.TheVariants as mode
 use Rattle.infer_result.specs.declared.result.TypeMismatch.{TypeMismatch}
 use Rattle.infer_result.specs.Table.{At, PatTy, BindingTy, HasMode, HasPatMismatch}
 use Rattle.infer_result.specs.Closed.{IsOfBody, IsBinder, OnlyBindersHaveModes}
-use Rattle.infer_result.specs.Places.{Given, Demand}
+use Rattle.infer_result.specs.declared.result.Seen.{Seen}
+use Rattle.infer_result.specs.Places.{Given, HasPlaceholders, Demand}
 use Rattle.infer_result.specs.Rules.Expressions.{ObeysOrMismatch}
 use Rattle.infer_result.specs.Rules.Patterns.{PatRule}
 use Rattle.infer_result.specs.Truth.Mismatch.{IsTruePatMismatch}
@@ -26,11 +27,11 @@ use Rattle.infer_result.specs.Truth.Calls.{IsTrueDiagnostic, IsTruePatDiagnostic
 use Rattle.infer_result.specs.declared.diagnostics.InferenceDiagnostic.{InferenceDiagnostic}
 use Rattle.infer_result.specs.Made.{IsMisfit}
 use Rattle.infer_expr.specs.Found.{Found, RecordsVariants, noted, entered}
-use Rattle.infer_expr.specs.Walks.{Walks, IsWalked, IsFree, IsCarriedTable, Extends, Nothing, expr_start, pat_start}
+use Rattle.infer_expr.specs.Walks.{Walks, IsWalked, IsSeenAs, IsFree, IsCarriedTable, Extends, Nothing, expr_start, pat_start}
 use Rattle.infer_expr.specs.Under.{IsReady, BeforePat}
 use Rattle.infer_expr.proofs.Lists.{lt_or_ge, same_or_not, slice_get-set_same, slice_get-set_other, At-set, At-set_cases, own_set, length-own_set, own_set-at, own_set-other, own_set-cases, noted-keeps, noted-cases, noted-some, length-noted}
 use Rattle.infer_expr.proofs.Parts.{pat_id, binding_id, one_pat, expr_is_no_pat, binds_within}
-use Rattle.infer_expr.proofs.Keeps.{extends_refl, extends_trans, obeys_kept, pat_kept, pat_truth_kept, diagnostic_kept, misfit_kept, demand_kept}
+use Rattle.infer_expr.proofs.Keeps.{extends_refl, extends_trans, obeys_kept, pat_kept, pat_truth_kept, diagnostic_kept, seen_as_kept, seen_as_entered, misfit_kept, demand_kept}
 
 -- what binds a name is a binding pattern
 binder_by : (b : RawBody) (p : PatId) (v : BindingId) (x : Option RawPat) → slice_get b.pats p.0 ≡ x → option_and_then binding_of x ≡ Some v → IsBinder b p
@@ -56,6 +57,8 @@ pub record IsOpen (g : Given) (s : Schedule) (p : PatId) (n : ℕ) (c : Found) :
   pub diagnostics : (e : ExprId) (d : InferenceDiagnostic) → At c.result.expr_diagnostics e.0 d → IsTrueDiagnostic g c.result e d
   pub pat_diagnostics : (q : PatId) (d : InferenceDiagnostic) → At c.result.pat_diagnostics q.0 d → IsTruePatDiagnostic g q d
   pub variants : RecordsVariants g.body c.result
+  pub placeholders : HasPlaceholders g c.result
+  pub seen : (i : ℕ) (y : Seen) → slice_get c.result.seen i ≡ Some y → IsSeenAs g c y
 
 pub open_walked : (g : Given) (s : Schedule) (p : PatId) (c : Found) → IsWalked g s c → IsOpen g s p c.clock c
 open_walked g s p c h = record {
@@ -65,6 +68,8 @@ open_walked g s p c h = record {
   modes = h.modes;
   pat_diagnostics = h.pat_diagnostics;
   variants = h.variants;
+  placeholders = h.placeholders;
+  seen = h.seen;
   free_exprs = h.free_exprs;
   free_pats = h.free_pats;
   free_modes = h.free_modes;
@@ -102,6 +107,8 @@ module _ (g : Given) (s : Schedule) (p : PatId) (x : Option Ty) (old : Found) (h
       modes = h.state.modes;
       pat_diagnostics = h.state.pat_diagnostics;
       variants = h.state.variants;
+      placeholders = h.state.placeholders;
+      seen = λ i y at. seen_as_entered g old y (h.state.seen i y at);
       diagnostics = h.state.diagnostics;
       free_exprs = λ e i lo. h.state.free_exprs e i (omega arith);
       free_pats = λ q i lo. h.state.free_pats q i (omega arith);
@@ -127,6 +134,8 @@ module _ (g : Given) (s : Schedule) (p : PatId) (x : Option Ty) (old : Found) (h
     modes = enters_now.state.modes;
     pat_diagnostics = enters_now.state.pat_diagnostics;
     variants = enters_now.state.variants;
+    placeholders = enters_now.state.placeholders;
+    seen = enters_now.state.seen;
     diagnostics = enters_now.state.diagnostics;
     free_exprs = enters_now.state.free_exprs;
     free_pats = enters_now.state.free_pats;
@@ -226,6 +235,9 @@ pub record IsBoundBy (old new : Found) (p : PatId) (t : Ty) (o : Option BindingI
   pub pat_diagnostics : new.result.pat_diagnostics ≡ old.result.pat_diagnostics
   pub expr_variants : new.result.expr_variants ≡ old.result.expr_variants
   pub pat_variants : new.result.pat_variants ≡ old.result.pat_variants
+  pub placeholders : new.result.type_of_placeholder ≡ old.result.type_of_placeholder
+  pub seen : new.result.seen ≡ old.result.seen
+  pub holes : new.holes ≡ old.holes
   pub clock : new.clock ≡ old.clock
 
 -- what the record of a type, and of what is bound, wants
@@ -326,7 +338,9 @@ module _ (g : Given) (s : Schedule) (p : PatId) (t : Ty) (old new : Found) (o : 
     modes = λ q m i. rw w.modes (modes_kept o refl q m i);
     mismatches = λ e m i. rw w.mismatches i;
     pat_mismatches = λ q m i. rw w.pat_mismatches (mismatch_kept y q.0 m i);
-    diagnostics = λ e d i. rw w.diagnostics i;
+    placeholders = λ k u i. rw w.placeholders i;
+    diagnostics = λ e d i. inl (rw w.diagnostics i);
+    seen = λ e i. record { position = i.position; entry = i.entry; found = rw w.seen i.found; is_node = i.is_node };
     pat_diagnostics = λ q d i. rw w.pat_diagnostics i;
     expr_variants = λ e v i. rw w.expr_variants i;
     pat_variants = λ q v i. rw w.pat_variants i;
@@ -351,6 +365,8 @@ module _ (g : Given) (s : Schedule) (p : PatId) (t : Ty) (old new : Found) (o : 
               | inl q ↦ c.bindings n u q
               | inr q ↦ subst (λ v. IsCarriedType v) q h.carried
             ];
+        placeholders = λ n u i. c.placeholders n u (rw w.placeholders at i);
+        found = λ n k u i. c.found n k u (rw w.diagnostics at i);
         expected = λ n m i. c.expected n m (rw w.mismatches at i);
         actual = λ n m i. c.actual n m (rw w.mismatches at i);
         pat_expected = λ n m i.
@@ -409,6 +425,8 @@ module _ (g : Given) (s : Schedule) (p : PatId) (t : Ty) (old new : Found) (o : 
     diagnostics = λ e d i. diagnostic_kept g old.result new.result extends e d (h.state.diagnostics e d (rw w.diagnostics at i));
     pat_diagnostics = λ q d i. h.state.pat_diagnostics q d (rw w.pat_diagnostics at i);
     variants = record { exprs = w.expr_variants ∙ h.state.variants.exprs; pats = w.pat_variants ∙ h.state.variants.pats };
+    placeholders = record { count = ap (λ l. length l) w.placeholders ∙ h.state.placeholders.count; only = λ k u i. h.state.placeholders.only k u (rw w.placeholders at i) };
+    seen = λ i z there. seen_as_kept g old new extends (λ e d k. rw w.diagnostics k) w.holes z (h.state.seen i z (rw w.seen at there));
     free_exprs = λ e i lo. rw w.exprs (h.state.free_exprs e i (omega (arith, w.clock)));
     free_pats = λ q i lo.
         rw w.pats (slice_get-set_other old.result.type_of_pat p.0 q.0 (Some t) (other_number q lo) ∙ h.state.free_pats q i (omega (arith, w.clock)));

@@ -1,5 +1,5 @@
 -- Patterns that bind a name or nothing, and literals.
-use Rattle.std.proofs.Common.{◌<◌, ◌≡◌, length, refl, sym, ap, subst, ◌∙◌, arith, Option, Some, None, slice_get}
+use Rattle.std.proofs.Common.{◌<◌, ◌≡◌, length, refl, sym, ap, subst, ◌∙◌, arith, Option, Some, None, slice_get, inr, inl}
 use Rattle.std.specs.Option.{option_and_then}
 use Rattle.hir_types.specs.declared.ids.BindingId.{BindingId}
 use Rattle.hir_types.specs.declared.ids.ExprId.{ExprId}
@@ -22,11 +22,14 @@ use Rattle.infer_expr.specs.Found as found
 use Rattle.infer_expr.specs.Found.{Found}
 use Rattle.infer_expr.specs.Steps.{Follows, Before, OwnDone, IsCoerced, BeforePat, PatDone, IsGivenOrNew}
 use Rattle.infer_expr.specs.Under as under
-use Rattle.infer_expr.proofs.AtEach.{follows_itself, closes_before, before_pat_under}
+use Rattle.infer_expr.proofs.AtEach.{follows_itself, closes_before, before_pat_under, told_same}
 use Rattle.infer_expr.proofs.Closed.{same_found, closes_same, closes_earlier, pat_ty_under, bound_by_under, of_body_pat_ty, of_body_bound_by, sound_entered, sound_pat_ty, sound_bound_by}
 use Rattle.infer_expr.proofs.FineTypes.{fine_grown, fine_expectation_grown}
 use Rattle.infer_expr.proofs.OverTypes.{fine_closed}
 use Rattle.infer_expr.proofs.Pats.{wild_done, bind_done, IsFitted, lit_before, lit_done}
+use Rattle.infer_expr.specs.Tells.{TellsBound, TellsRecorded, TellsBinding}
+use Rattle.infer_expr.proofs.Lists.{At-set_cases}
+use Rattle.infer_expr.proofs.Parts.{binding_id}
 
 -- what comes in, under an assignment
 pub given_under : (a : Assignment) (x : Option Ty) (t : Ty) → ((u : Ty) → x ≡ Some u → t ≡ u) → (u : Ty) → expected_under a x ≡ Some u → folded a t ≡ u
@@ -68,6 +71,7 @@ module _ (g : Given) (s : Schedule) (p : PatId) (x : Option Ty) (t : Ty) (old mi
           grew = d.grew;
           of_body = of_body_pat_ty g.body mid of_body p t;
           sound = sound_pat_ty mid d.sound p t d.fine;
+          told = told_same g (context.entered old) mid d.result;
         };
         each = λ a k.
             let q : Closes a mid = closes_same a new mid refl k in
@@ -76,6 +80,22 @@ module _ (g : Given) (s : Schedule) (p : PatId) (x : Option Ty) (t : Ty) (old mi
             subst (λ f. under.PatDone g s p (expected_under a x) (found_under a old) f) (sym there)
             (wild_done g s p (expected_under a x) (folded a t) (found_under a old) (before a q) (carried a q) (given_under a x t d.given) is);
       }
+
+  -- what comes in, or a new hole, tells of what is bound
+  bound_tells : TellsBound g p t
+  bound_tells = by_given x refl
+    where
+      by_given : (y : Option Ty) → x ≡ y → TellsBound g p t
+      by_given None e = h.tells t (inr e)
+      by_given (Some u) e = (let same : t ≡ u = d.given u e in subst (λ w. TellsBound g p w) (sym same) (h.tells u (inl e)))
+
+  bound_told : (v : BindingId) (sub : Option PatId) → slice_get g.body.pats p.0 ≡ Some (pat.Bind v sub) → TellsRecorded g mid.result → TellsRecorded g (context.bound_by mid p v t).result
+  bound_told v sub is told w u i =
+      let own : Binds g.body p v = ap (λ o. option_and_then binding_of o) is in
+      elim (At-set_cases mid.result.type_of_binding v.0 w.0 t u (bind_within v sub is) i) [
+        | inl k ↦ told w u k
+        | inr k ↦ (let same : v ≡ w = sym (binding_id w v k.0) in subst (λ z. TellsBinding g z u) same (subst (λ z. TellsBinding g v z) k.1 (bound_tells v own)))
+      ]
 
   pub bind_walked : (v : BindingId) (sub : Option PatId) → slice_get g.body.pats p.0 ≡ Some (pat.Bind v sub) → PatDone g s p x old (context.bound_by mid p v t)
   bind_walked v sub is =
@@ -86,6 +106,7 @@ module _ (g : Given) (s : Schedule) (p : PatId) (x : Option Ty) (t : Ty) (old mi
           grew = d.grew;
           of_body = of_body_bound_by g.body mid p v t of_body;
           sound = sound_bound_by mid p v t d.sound d.fine;
+          told = λ told. bound_told v sub is (told_same g (context.entered old) mid d.result told);
         };
         each = λ a k.
             let q : Closes a mid = closes_same a new mid refl k in
@@ -112,6 +133,7 @@ module _ (g : Given) (s : Schedule) (p : PatId) (e : ExprId) (x : Option Ty) (ol
         state = record {
           of_body = h.state.of_body;
           sound = sound_entered old h.state.sound;
+          told = h.state.told;
           each = λ a k.
               let o : Closes a old = closes_same a (context.entered old) old refl k in
               (lit_before g s p e (expected_under a x) (found_under a old) (before_pat_under g s a old o p x h) is).state;
@@ -145,6 +167,7 @@ module _ (g : Given) (s : Schedule) (p : PatId) (e : ExprId) (x : Option Ty) (ol
             grew = grew_twice old.table mid.table last.table d.follows.grew k.0.grew;
             of_body = of_body_pat_ty g.body last k.0.of_body p t;
             sound = sound_pat_ty last k.0.sound p t (fine_grown g.scope mid.table last.table t k.0.grew d.fine);
+            told = λ told. k.0.told (d.follows.told told);
           };
           each = λ a q.
               let l : Closes a last = closes_same a new last refl q in

@@ -20,8 +20,8 @@ use Rattle.hir_facts.specs.declared.raw.RawPath.TheVariants as path
 use Rattle.hir_facts.specs.declared.raw.RawCtor.TheVariants as ctor
 use Rattle.hir_facts.specs.declared.raw.RawExpr.TheVariants as expr
 use Rattle.hir_facts.specs.declared.schedule.Schedule.{Schedule}
-use Rattle.hir_facts.specs.Scope.{Scope, fn_params, adt_params, callable_params, has_params}
-use Rattle.hir_facts.specs.Signatures.{type_args, ctor_type}
+use Rattle.hir_facts.specs.Scope.{Scope, fn_params, adt_params, has_params}
+use Rattle.hir_facts.specs.Signatures.{Signature, signature_of, type_args, ctor_type}
 use Rattle.infer_table.specs.Table.{hole_count}
 use Rattle.infer_table.specs.UndoLaws.{grew_itself}
 use Rattle.infer_result.specs.Closed.{IsOfBody}
@@ -33,11 +33,14 @@ use Rattle.infer_expr.specs.Closings.{Closes, found_under, expected_under, IsSou
 use Rattle.infer_expr.specs.Steps.{Within, KindDone, ArePartTypes, PathDone, AreFreshArgs}
 use Rattle.infer_expr.specs.Under as under
 use Rattle.infer_expr.proofs.Closed.{same_found, At-closed, At-unclosed, closes_earlier}
-use Rattle.infer_expr.specs.Fine.{IsFine}
+use Rattle.infer_expr.specs.Fine.{item_params, IsFine}
 use Rattle.infer_expr.proofs.FineTypes.{AllFine, fine_fn_def, fine_adt}
 use Rattle.infer_expr.proofs.OverTypes.{fine_closed, adt_closed, fn_def_closed}
-use Rattle.infer_expr.proofs.AtEach.{within_under}
+use Rattle.infer_expr.proofs.AtEach.{told_same, within_under}
+use Rattle.infer_expr.proofs.Items.{tuple_signature}
 use Rattle.infer_expr.proofs.Leaves.{path_done, path_names}
+use Rattle.infer_expr.proofs.Tellings.{local_tells, function_tells, ctor_tells}
+use Rattle.infer_expr.specs.Tells.{TellsRecorded}
 use Rattle.infer_expr.proofs.Holes.{holed}
 use Rattle.infer_expr.proofs.PatHoles.{all_fine, no_part_yet, one_part_more, new_one}
 
@@ -48,8 +51,10 @@ path_kind g s e x p t c new h is d = record {
     grew = d.grew;
     of_body = subst (λ r. IsOfBody g.body r) (sym d.result) h.state.of_body;
     sound = d.sound;
+    told = told_same g c new d.result;
   };
   fine = d.fine;
+  tells = d.tells e is;
   each = λ a q.
       let o : Closes a c = closes_earlier a c new d.grew q in
       subst (λ f. under.KindDone g s e (expected_under a x) (folded a t) (found_under a c) f) (sym (same_found a c new d.result d.asked d.clock))
@@ -75,14 +80,15 @@ recorded_at (Some None) t h = absurd (cc)
 recorded_at (Some (Some u)) t h = ap (λ x. Some x) h
 
 -- the type that a local has
-pub local_path : (g : Given) (v : BindingId) (t : Ty) (c : InferenceContext) → IsOfBody g.body c.result → IsSound g.scope c → BindingTy c.result v t → PathDone g (path.Local v) t c c
-local_path g v t c h s k = record {
+pub local_path : (g : Given) (v : BindingId) (t : Ty) (c : InferenceContext) → IsOfBody g.body c.result → IsSound g.scope c → TellsRecorded g c.result → BindingTy c.result v t → PathDone g (path.Local v) t c c
+local_path g v t c h s told k = record {
   result = refl;
   asked = refl;
   clock = refl;
   grew = grew_itself c.table;
   sound = s;
   fine = s.fine.bindings v.0 t k;
+  tells = λ e is. local_tells g e v t is (told v t k);
   each = λ a q. At-closed (folded a) c.result.type_of_binding v.0 t k;
 }
 
@@ -102,7 +108,7 @@ counted_under a o n ts at count = at ∙ ap (λ m. Some m) (sym count ∙ sym (l
 
 -- the type of an item at as many types as it has parameters is fine
 pub item_fine : (g : Given) (id : CallableDefId) (item : under.IsItem g.scope.facts id) (ts : List Ty) (c new : InferenceContext) → ArePartTypes g.scope item.signature.params ts c new → IsFine g.scope new.table (ty.FnDef id (type_args ts))
-item_fine g id item ts c new d = fine_fn_def g.scope new.table id ts (takes (callable_params g.scope.facts id) item.signature.params ts item.count d.count_is) (all_fine g.scope new.table ts d.fine)
+item_fine g id item ts c new d = fine_fn_def g.scope new.table id ts (takes (item_params g.scope.facts id) item.signature.params ts (ap (option_map (λ σ. σ.params)) item.found) d.count_is) (all_fine g.scope new.table ts d.fine)
 
 -- a function at as many types as it has parameters
 pub function_path : (g : Given) (f : FunctionId) (item : under.IsItem g.scope.facts (callable.FunctionId f)) (ts : List Ty) (c new : InferenceContext) → ArePartTypes g.scope item.signature.params ts c new → PathDone g (path.Function f) (ty.FnDef (callable.FunctionId f) (type_args ts)) c new
@@ -113,6 +119,7 @@ function_path g f item ts c new d = record {
   grew = d.grew;
   sound = d.sound;
   fine = item_fine g (callable.FunctionId f) item ts c new d;
+  tells = λ e is. function_tells g e f (type_args ts) (ty.FnDef (callable.FunctionId f) (type_args ts)) is refl;
   each = λ a q. (map (folded a) ts, fn_def_closed a (callable.FunctionId f) ts, counted_under a (fn_params g.scope.facts f.0) item.signature.params ts item.count d.count_is);
 }
 
@@ -131,27 +138,30 @@ module _ (g : Given) (v : VariantId) (x : under.IsVariant g.scope.facts v) (ts :
   ctor_adt_fine = fine_adt g.scope new.table x.variant.adt ts (takes (adt_params g.scope.facts x.variant.adt) x.params ts x.count d.count_is) every_fine
 
   -- a path to it has the type t, which says under each assignment what the constructor is
-  ctor_path_at : (t : Ty) → IsFine g.scope new.table t → ((a : Assignment) → folded a t ≡ ctor_type x.variant v (map (folded a) ts)) → PathDone g (path.Ctor v) t c new
-  ctor_path_at t fine is = record {
+  ctor_path_at : (t : Ty) → IsFine g.scope new.table t → t ≡ ctor_type x.variant v ts → ((a : Assignment) → folded a t ≡ ctor_type x.variant v (map (folded a) ts)) → PathDone g (path.Ctor v) t c new
+  ctor_path_at t fine made is = record {
     result = d.result;
     asked = d.asked;
     clock = d.clock;
     grew = d.grew;
     sound = d.sound;
     fine = fine;
+    tells = λ e at. ctor_tells g e v x.variant ts t at x.found (x.count ∙ ap (λ n. Some n) (sym d.count_is)) made;
     each = λ a q. record { variant = x.variant; types = map (folded a) ts; is_variant = variant_under a; is = is a };
   }
 
   -- one without fields is a value of its adt
   pub unit_path : x.variant.ctor ≡ ctor.Unit → PathDone g (path.Ctor v) (ty.Adt x.variant.adt (type_args ts)) c new
-  unit_path u = ctor_path_at (ty.Adt x.variant.adt (type_args ts)) ctor_adt_fine (λ a. adt_closed a x.variant.adt ts ∙ sym (ctor_type_of_unit x.variant v (map (folded a) ts) u))
+  unit_path u = ctor_path_at (ty.Adt x.variant.adt (type_args ts)) ctor_adt_fine (sym (ctor_type_of_unit x.variant v ts u)) (λ a. adt_closed a x.variant.adt ts ∙ sym (ctor_type_of_unit x.variant v (map (folded a) ts) u))
 
   -- one with fields is an item that can be called
   pub tuple_path : x.variant.ctor ≡ ctor.Tuple → PathDone g (path.Ctor v) (ty.FnDef (callable.VariantId v) (type_args ts)) c new
   tuple_path u =
-      let at : callable_params g.scope.facts (callable.VariantId v) ≡ Some x.params = ap (λ o. option_and_then (λ y. adt_params g.scope.facts y.adt) o) x.found ∙ x.count in
+      let made : (σ : Signature) × (signature_of g.scope.facts (callable.VariantId v) ≡ Some σ) × (σ.params ≡ x.params) = tuple_signature g.scope.facts v x.variant x.params x.found x.count u in
+      let at : item_params g.scope.facts (callable.VariantId v) ≡ Some x.params = ap (option_map (λ σ. σ.params)) made.1 ∙ ap (λ n. Some n) made.2 in
       ctor_path_at (ty.FnDef (callable.VariantId v) (type_args ts))
-      (fine_fn_def g.scope new.table (callable.VariantId v) ts (takes (callable_params g.scope.facts (callable.VariantId v)) x.params ts at d.count_is) every_fine)
+      (fine_fn_def g.scope new.table (callable.VariantId v) ts (takes (item_params g.scope.facts (callable.VariantId v)) x.params ts at d.count_is) every_fine)
+      (sym (ctor_type_of_tuple x.variant v ts u))
       (λ a. fn_def_closed a (callable.VariantId v) ts ∙ sym (ctor_type_of_tuple x.variant v (map (folded a) ts) u))
 
 -- ---- new holes for parameters

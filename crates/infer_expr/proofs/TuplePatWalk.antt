@@ -17,12 +17,16 @@ use Rattle.infer_expr.specs.Closings.{Closes, found_under, expected_under}
 use Rattle.infer_expr.specs.Found as found
 use Rattle.infer_expr.specs.Steps.{Follows, BeforePat, PatDone, ArePartTypes, PatDemanded}
 use Rattle.infer_expr.specs.Under as under
-use Rattle.infer_expr.proofs.AtEach.{follows_itself, follows_twice, closes_before, walking_after, before_pat_under}
+use Rattle.infer_expr.proofs.AtEach.{follows_itself, follows_twice, closes_before, walking_after, before_pat_under, told_same}
 use Rattle.infer_expr.proofs.Closed.{same_found, closes_earlier}
 use Rattle.infer_expr.proofs.PatHoles.{FineEach, fine_each_grown, carried_each, tuple_under}
 use Rattle.infer_expr.proofs.PatDemands.{Demands, entered_opening, pat_demanded}
 use Rattle.infer_expr.proofs.Types.{carried_tuple_of}
-use Rattle.infer_expr.proofs.TuplePats.{TuplePatLoop, tuple_pat_start, tuple_pat_before, tuple_pat_next, tuple_pat_done}
+use Rattle.infer_expr.proofs.TuplePats.{TuplePatLoop, tuple_pat_start, tuple_pat_before, tuple_pat_next, tuple_pat_done, part_stands}
+use Rattle.infer_expr.specs.Tells.{TellsRecorded}
+use Rattle.infer_expr.proofs.Tellings.{part_tells}
+use Rattle.hir_facts.specs.Order.{inner}
+use Rattle.hir_types.specs.declared.ids.ExprOrPatId.TheVariants as node
 
 -- the tuple of ts is asked of what comes into the pattern p, of which ps are the parts
 pub record TuplePatBegun (g : Given) (s : Schedule) (p : PatId) (ps : List PatId) (ts : List Ty) (x : Option Ty) (old mid : InferenceContext) : Type 0 where
@@ -63,6 +67,9 @@ module _ (g : Given) (s : Schedule) (p : PatId) (ps : List PatId) (ts : List Ty)
         (entered_opening g s p (expected_under a x) (found_under a old) begun_before) (subst (λ o. SaysItsType o) (sym b.is) tt) (carried_tuple_of (map (folded a) ts) begun_carried) (found_under a mid)
         (subst (λ f. under.PatDemanded p (ty.Tuple (map (folded a) ts)) (expected_under a x) f (found_under a mid)) e asked)
 
+  begun_told : TellsRecorded g mid.result
+  begun_told = b.demanded.follows.told (told_same g (context.entered old) b.holed b.holes.result b.before.state.told)
+
   begun_fine : FineEach g.scope mid.table ts
   begun_fine = fine_each_grown g.scope b.holed.table mid.table ts b.demanded.follows.grew b.holes.fine
 
@@ -93,9 +100,10 @@ module _ (g : Given) (s : Schedule) (p : PatId) (ps : List PatId) (ts : List Ty)
         let here = part_under z.0 z.1 in
         record {
           ready = b.before.ready;
-          state = walking_after g s mid c h.follows (λ a l. (h.each a l).walks.state);
+          state = walking_after g s mid c (begun_told g s p ps ts x old mid b) h.follows (λ a l. (h.each a l).walks.state);
           within = here.within;
           here = here.here;
+          tells = λ u e. (let place = part_stands g s p ps (map (folded z.0) ts) i (found_under z.0 mid) (found_under z.0 c) (h.each z.0 z.1) q (folded z.0 t) is (type_under z.0) k in part_tells g s b.before.ready.law (inner (node.PatId p)) place.0 q i place.1 u);
           fine = fine_each_grown g.scope mid.table c.table ts h.follows.grew (begun_fine g s p ps ts x old mid b) i t type_at;
           incoming = λ a l. (part_under a l).incoming;
         }
@@ -115,6 +123,7 @@ module _ (g : Given) (s : Schedule) (p : PatId) (ps : List PatId) (ts : List Ty)
       grew = grew_twice old.table b.holed.table c.table b.holes.grew (follows_twice g b.holed mid c b.demanded.follows h.follows).grew;
       of_body = h.follows.of_body;
       sound = h.follows.sound;
+      told = λ told. h.follows.told (b.demanded.follows.told (told_same g (context.entered old) b.holed b.holes.result told));
     };
     each = λ a l.
         let m : Closes a mid = closes_before g a mid c h.follows l in

@@ -13,7 +13,7 @@ use Rattle.hir_facts.specs.CarriedTypes.{AreCarriedTypes}
 use Rattle.hir_facts.specs.Order.{inner, after, pat_part, subpattern, subpatterns}
 use Rattle.infer_result.specs.declared.result.InferenceResult.{InferenceResult}
 use Rattle.infer_result.specs.Table.{PatTy}
-use Rattle.infer_result.specs.Places.{Given, PatIsAtOrMismatch}
+use Rattle.infer_result.specs.Places.{Given, PatIsAtOrMismatch, StandsAt}
 use Rattle.infer_result.specs.Rules.Patterns.{AllPatsAt}
 use Rattle.infer_expr.specs.Found.{Found, entered}
 use Rattle.infer_expr.specs.Walks.{Walks, Nothing, pat_end}
@@ -21,7 +21,7 @@ use Rattle.infer_expr.specs.Under.{IsReady, LieAhead, BeforePat, PatDone, IsPatP
 use Rattle.infer_expr.proofs.Category.{walks_refl, walks_trans}
 use Rattle.infer_expr.proofs.Keeps.{all_pats_kept, pat_at_kept}
 use Rattle.infer_expr.proofs.Lists.{drop-step}
-use Rattle.infer_expr.proofs.Parts.{ahead_rest, pat_ahead, pat_before}
+use Rattle.infer_expr.proofs.Parts.{ahead_rest, pat_ahead, pat_before, ahead_stands}
 use Rattle.infer_expr.proofs.Pats.{pat_rule_of}
 use Rattle.infer_expr.proofs.PatDemands.{Demands}
 use Rattle.infer_expr.proofs.PatSteps.{enters_more, enters_done}
@@ -72,6 +72,9 @@ module _ (g : Given) (s : Schedule) (p : PatId) (ps : List PatId) (ts : List Ty)
 
     ahead_at : LieAhead g.body s (inner (node.PatId p)) c.clock (pat_part (subpattern i) q ∷ subpatterns (i + 1) (drop (i + 1) ps))
     ahead_at = subst (λ qs. LieAhead g.body s (inner (node.PatId p)) c.clock qs) step h.ahead
+
+    pub part_stands : (k : ℕ) × StandsAt g.body (node.PatId q) (inner (node.PatId p)) k (subpattern i)
+    part_stands = ahead_stands g.body s (inner (node.PatId p)) c.clock (pat_part (subpattern i) q) (subpatterns (i + 1) (drop (i + 1) ps)) ahead_at
 
     pub tuple_pat_before : IsReady g s → AreCarriedTypes ts → BeforePat g s q (Some t) c
     tuple_pat_before ready carried =

@@ -1,5 +1,5 @@
 -- The loop over the elements of a tuple.
-use Rattle.std.proofs.Common.{ℕ, ◌+◌, ◌<◌, ◌≤◌, ◌≡◌, refl, sym, ap, subst, List, [], ◌∷◌, ◌++◌, length, map, get_or, Option, Some, None, arith}
+use Rattle.std.proofs.Common.{ℕ, ◌+◌, ◌<◌, ◌≤◌, ◌≡◌, refl, sym, ap, subst, List, [], ◌∷◌, ◌++◌, length, map, get_or, Option, Some, None, arith, length-append, ◌∙◌}
 use Rattle.hir_types.specs.declared.head.HoleKind.TheVariants as kind
 use Rattle.hir_types.specs.declared.ids.ExprId.{ExprId}
 use Rattle.hir_types.specs.declared.ty.Ty.{Ty}
@@ -23,6 +23,7 @@ use Rattle.infer_expr.proofs.Closed.{closes_earlier}
 use Rattle.infer_expr.proofs.Holes.{holed, holed_sound}
 use Rattle.infer_expr.proofs.OverTypes.{fine_closed}
 use Rattle.infer_expr.proofs.Tuples.{element_placed, element_coerced, TupleLoop, tuple_start, tuple_before, tuple_next, tuple_done}
+use Rattle.infer_expr.proofs.Tellings.{tuple_tells}
 
 -- ---- an element
 
@@ -30,6 +31,8 @@ pub places_element : (g : Given) (s : Schedule) (e : ExprId) (x : Option Ty) (t 
 places_element g s e x t old new d = record {
   follows = d.follows;
   fine = d.fine;
+  is_expected = λ u k. (let same : t ≡ u = cc in same);
+  tells = λ none. absurd (cc);
   each = λ a q. element_placed g s e (expected_under a x) (folded a t) (found_under a old) (found_under a new) (d.each a q);
 }
 
@@ -47,6 +50,7 @@ module _ (g : Given) (s : Schedule) (e : ExprId) (t : Ty) (old mid : InferenceCo
     grew = component_grew;
     of_body = d.follows.of_body;
     sound = holed_sound mid kind.Ty d.follows.sound;
+    told = λ k. k;
   })
 
   pub own_fine : IsFine g.scope (with_new_hole mid.table kind.Ty) t
@@ -59,6 +63,8 @@ module _ (g : Given) (s : Schedule) (e : ExprId) (t : Ty) (old mid : InferenceCo
   element_waits answer new b k = record {
     follows = follows_twice g old (holed mid kind.Ty) new component_follows k.follows;
     fine = fine_grown g.scope (with_new_hole mid.table kind.Ty) new.table component k.follows.grew component_fine;
+    is_expected = λ u e. (let same : component ≡ u = cc in same);
+    tells = λ none. absurd (cc);
     each = λ a q.
         let z = k.each a q in
         let l : Closes a (holed mid kind.Ty) = closes_before g a (holed mid kind.Ty) new k.follows q in
@@ -72,12 +78,16 @@ module _ (g : Given) (s : Schedule) (e : ExprId) (t : Ty) (old mid : InferenceCo
 pub record TupleWalk (g : Given) (s : Schedule) (n : ExprId) (es : List ExprId) (i : ℕ) (ts : List Ty) (mid c : InferenceContext) : Type 0 where
   pub follows : Follows g mid c
   pub fine : AllFine g.scope c.table ts
+  pub count : length ts ≡ i
+  pub within : i ≤ length es
   pub each : (a : Assignment) → Closes a c → TupleLoop g s n es i (map (folded a) ts) (found_under a mid) (found_under a c)
 
 pub begins_tuple : (g : Given) (s : Schedule) (n : ExprId) (es : List ExprId) (x : Option Ty) (c : InferenceContext) → Within g s n x c → under.IsTupleOf g.body n es → TupleWalk g s n es 0 [] c c
 begins_tuple g s n es x c h is = record {
   follows = follows_itself g c h.state.of_body h.state.sound;
   fine = tt;
+  count = refl;
+  within = omega arith;
   each = λ a k. tuple_start g s n es (expected_under a x) (found_under a c) (within_under g s a c k n x h) is;
 }
 
@@ -95,7 +105,7 @@ module _ (g : Given) (s : Schedule) (n : ExprId) (es : List ExprId) (i : ℕ) (t
       let here = tuple_before g s n es i (map (folded q.0) ts) (found_under q.0 mid) (found_under q.0 c) (h.each q.0 q.1) (expected_under q.0 (element_type x i)) (expected_carried g.scope q.0 c.table (element_type x i) q.1.closing (expected x w)) w.ready e is k in
       record {
         ready = w.ready;
-        state = walking_after g s mid c h.follows (λ a l. (h.each a l).walks.state);
+        state = walking_after g s mid c w.state.told h.follows (λ a l. (h.each a l).walks.state);
         within = here.within;
         here = here.here;
         expected = expected x w;
@@ -105,6 +115,8 @@ module _ (g : Given) (s : Schedule) (n : ExprId) (es : List ExprId) (i : ℕ) (t
   goes_past_element x w e t next is k d = record {
     follows = follows_twice g mid c next h.follows d.follows;
     fine = fine_push g.scope next.table ts t (all_fine_grown g.scope c.table next.table ts d.follows.grew h.fine) d.fine;
+    count = length-append ts (t ∷ []) ∙ ap (λ m. m + 1) h.count;
+    within = omega (arith, k);
     each = λ a q.
         let l : Closes a c = closes_before g a c next d.follows q in
         subst (λ us. TupleLoop g s n es (i + 1) us (found_under a mid) (found_under a next)) (sym (push_each a ts t))
@@ -115,6 +127,7 @@ module _ (g : Given) (s : Schedule) (n : ExprId) (es : List ExprId) (i : ℕ) (t
   ends_tuple x w is over = record {
     follows = h.follows;
     fine = fine_tuple g.scope c.table ts h.fine;
+    tells = (let all : length ts ≡ length es = omega (arith, h.count, h.within, over) in tuple_tells g n es ts (ty.Tuple ts) is all refl);
     each = λ a q.
         let o : Closes a mid = closes_before g a mid c h.follows q in
         subst (λ t. under.KindDone g s n (expected_under a x) t (found_under a mid) (found_under a c)) (sym (replaced_tuple (with_holes a) ts))

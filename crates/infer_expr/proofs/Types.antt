@@ -1,5 +1,5 @@
 -- Types of the carried kinds.
-use Rattle.std.proofs.Common.{ℕ, zero, suc, ◌≡◌, refl, sym, subst, ◌∙◌, Bool, true, false, ◌&&◌, List, [], ◌∷◌, ◌++◌, Option, Some, None, slice_get}
+use Rattle.std.proofs.Common.{ℕ, zero, suc, ◌≡◌, refl, sym, subst, ◌∙◌, Bool, true, false, ◌&&◌, List, [], ◌∷◌, ◌++◌, Option, Some, None, option_and_then, slice_get}
 use Rattle.std.specs.List.{list_all}
 use mathlib.Core.Bool.{true≢false}
 use Rattle.hir_types.specs.declared.ids.TypeRefId.{TypeRefId}
@@ -8,13 +8,13 @@ use Rattle.hir_types.specs.declared.ty.Ty.TheVariants as ty
 use Rattle.hir_types.specs.Types.{unit}
 use Rattle.hir_facts.specs.declared.raw.RawLiteral.{RawLiteral}
 use Rattle.hir_facts.specs.declared.raw.RawLiteral.TheVariants as literal
-use Rattle.hir_facts.specs.CarriedTypes.{is_carried_type, IsCarriedType, AreCarriedTypes, carried_tuple, carried_bool, carried_char, carried_integer, carried_bare}
+use Rattle.hir_facts.specs.CarriedTypes.{is_carried_type, IsCarriedType, AreCarriedTypes, carried_tuple, carried_bool, carried_char, carried_integer, carried_bare, carried_error, filled_carried}
 use Rattle.infer_result.specs.declared.result.InferenceResult.{InferenceResult}
+use Rattle.std.specs.Prelude.{unwrap_or}
 use Rattle.infer_result.specs.Closed.{AllTypes, IsClosedTable}
 use Rattle.infer_result.specs.Rules.Literals.{IsLiteralType}
-use Rattle.infer_result.specs.Places.{Given}
+use Rattle.infer_result.specs.Places.{Given, declared, hole_type}
 use Rattle.infer_expr.specs.Under.{declared_type}
-use Rattle.infer_expr.specs.Fine.{IsWritten}
 use Rattle.infer_expr.specs.Context.{IsCarriedExpectation}
 use Rattle.infer_expr.specs.Walks.{IsCarriedTable}
 
@@ -26,10 +26,12 @@ every P Q t f h = record {
   exprs = λ n s i. f s (h.exprs n s i);
   pats = λ n s i. f s (h.pats n s i);
   bindings = λ n s i. f s (h.bindings n s i);
+  placeholders = λ k s i. f s (h.placeholders k s i);
   expected = λ n x i. f x.expected (h.expected n x i);
   actual = λ n x i. f x.actual (h.actual n x i);
   pat_expected = λ n x i. f x.expected (h.pat_expected n x i);
   pat_actual = λ n x i. f x.actual (h.pat_actual n x i);
+  found = λ n c s i. f s (h.found n c s i);
 }
 
 pub table_closed : (t : InferenceResult) → IsCarriedTable t → IsClosedTable t
@@ -72,6 +74,18 @@ carried_literal literal.Other t h = absurd h
 
 -- ---- written types
 
-pub carried_declared : (g : Given) (w : Option TypeRefId) → ((y : TypeRefId) → w ≡ Some y → IsWritten g.scope y) → IsCarriedExpectation (declared_type g w)
-carried_declared g None h = tt
-carried_declared g (Some w) h = (h w refl).carried
+-- what a `_` stands for
+hole_carried : (r : InferenceResult) → IsCarriedTable r → (k : ℕ) → IsCarriedType (hole_type r k)
+hole_carried r h k = by_entry (slice_get r.type_of_placeholder k) refl
+  where
+    by_entry : (o : Option (Option Ty)) → slice_get r.type_of_placeholder k ≡ o → IsCarriedType (unwrap_or (option_and_then (λ x. x) o) ty.Error)
+    by_entry None is = carried_error
+    by_entry (Some None) is = carried_error
+    by_entry (Some (Some t)) is = h.placeholders k t is
+
+pub declared_carried : (g : Given) (r : InferenceResult) (w : TypeRefId) → IsCarriedTable r → IsCarriedType (declared g r w)
+declared_carried g r w h = filled_carried (hole_type r) g.scope.facts.types (hole_carried r h) w
+
+pub carried_declared : (g : Given) (r : InferenceResult) (w : Option TypeRefId) → IsCarriedTable r → IsCarriedExpectation (declared_type g r w)
+carried_declared g r None h = tt
+carried_declared g r (Some w) h = declared_carried g r w h

@@ -44,7 +44,7 @@ use Rattle.infer_expr.specs.Steps.{OnlyBinds, IsUnifiedIf, Takes, MayWait, IsCoe
 use Rattle.infer_expr.proofs.AtEach.{follows_itself, follows_twice, closes_before}
 use Rattle.infer_expr.proofs.Closed.{same_found, closes_same, mismatch_under, asked-same, asked-apart, of_body_mismatch, sound_mismatch}
 use Rattle.infer_expr.proofs.Lists.{noted-cases}
-use Rattle.infer_expr.proofs.FineTypes.{fine_grown, table_fine_grown, fine_pairs_grown, fine_asked_grown, fine_no_alias}
+use Rattle.infer_expr.proofs.FineTypes.{fine_grown, table_fine_grown, seen_fine_grown, fine_pairs_grown, fine_asked_grown, fine_no_alias}
 use Rattle.infer_expr.proofs.OverTypes.{CarriedCases, over_carried, heads_carried, same_closed, apart_closed, closing_respects}
 
 -- ---- the completion of holes closes the context
@@ -93,6 +93,7 @@ module _ (sc : Scope) (c : InferenceContext) (t u : Ty) (s : IsSound sc c) (ft :
       let bound = binds_only_unified (is_fine_head sc) (fine_no_alias sc) head.Bool refl c.table after t u k (terms_of (completion after)) m s.bound ft.heads fu.heads in
       record {
         fine = table_fine_grown sc c.table after c.result k.grown s.fine;
+        seen = seen_fine_grown sc c.table after c.result k.grown s.seen;
         asked = fine_asked_grown sc c.table after c.asked k.grown s.asked;
         pairs = fine_pairs_grown sc c.table after (waiting after.pairs) k.grown (subst (λ w. AreFinePairs sc c.table (waiting w)) (sym k.pairs) s.pairs);
         bound = bound;
@@ -128,6 +129,7 @@ module _ (g : Given) (t u : Ty) (c : InferenceContext) (h : IsOfBody g.body c.re
         grew = k.grown;
         of_body = h;
         sound = unified_sound g.scope c t u s ft fu after k m r;
+        told = λ told. told;
       };
       result = refl;
       asked = refl;
@@ -198,11 +200,13 @@ module _ (g : Given) (c : InferenceContext) (h : IsOfBody g.body c.result) (s : 
             of_body = h;
             sound = record {
               fine = table_fine_grown g.scope c.table after c.result k.grown s.fine;
+              seen = seen_fine_grown g.scope c.table after c.result k.grown s.seen;
               asked = fine_asked_grown g.scope c.table after c.asked k.grown s.asked;
               pairs = fine_pairs_grown g.scope c.table after (waiting after.pairs) k.grown left;
               bound = subst (λ bs. BindsOnly (is_fine_head g.scope) (log_of bs)) log s.bound;
               some = (s.some.0, record { closing = s.some.1.closing; meets = subst (λ bs. Solves (terms_of s.some.0) (log_of bs)) log s.some.1.meets });
             };
+            told = λ told. told;
           };
           result = refl;
           asked = refl;
@@ -258,6 +262,7 @@ module _ (g : Given) (e : ExprId) (t u : Ty) (c new : InferenceContext) where
             grew = f.grew;
             of_body = of_body_mismatch g.body new f.of_body e (mismatch u t);
             sound = sound_mismatch new f.sound e (mismatch u t) (fine_grown g.scope c.table new.table u f.grew fu) (fine_grown g.scope c.table new.table t f.grew ft);
+            told = f.told;
           };
           clock = k.binds.clock;
           waits = λ i. absurd (cc);
@@ -299,6 +304,7 @@ module _ (g : Given) (e : ExprId) (t u : Ty) (c : InferenceContext) (h : IsOfBod
   wait_sound : IsSound g.scope last
   wait_sound = record {
     fine = table_fine_grown g.scope c.table after_wait c.result wait_grew s.fine;
+    seen = seen_fine_grown g.scope c.table after_wait c.result wait_grew s.seen;
     asked = λ n m i.
         let P : TypeMismatch → Type 0 = λ x. IsFine g.scope after_wait x.expected × IsFine g.scope after_wait x.actual in
         elim (noted-cases c.asked e.0 n (mismatch u t) m i) [
@@ -310,8 +316,8 @@ module _ (g : Given) (e : ExprId) (t u : Ty) (c : InferenceContext) (h : IsOfBod
     some = (s.some.0, record { closing = s.some.1.closing; meets = s.some.1.meets });
   }
 
-  asked_under : (a : Assignment) (xs : List (Option TypeMismatch)) → closed_mismatches a (noted c.asked e.0 (mismatch u t)) c.result.expr_mismatches ≡ xs → found_under a last ≡ record { result = record (closed_table a c.asked c.result) { expr_mismatches = xs }; clock = c.clock }
-  asked_under a xs k = ap (λ l. record { result = record (closed_table a c.asked c.result) { expr_mismatches = l }; clock = c.clock }) k
+  asked_under : (a : Assignment) (xs : List (Option TypeMismatch)) → closed_mismatches a (noted c.asked e.0 (mismatch u t)) c.result.expr_mismatches ≡ xs → found_under a last ≡ record { result = record (closed_table a c.asked c.result) { expr_mismatches = xs }; clock = c.clock; holes = a }
+  asked_under a xs k = ap (λ l. record { result = record (closed_table a c.asked c.result) { expr_mismatches = l }; clock = c.clock; holes = a }) k
 
   -- it is coerced under the assignments under which the two are the same
   decided : (a : Assignment) (b : Bool) → same_types (folded a u) (folded a t) ≡ b → (fits : Bool) × Unit {0} × under.IsCoercedIf fits e (folded a t) (folded a u) (found_under a c) (found_under a last)
@@ -334,7 +340,7 @@ module _ (g : Given) (e : ExprId) (t u : Ty) (c : InferenceContext) (h : IsOfBod
 
   pub waits_coerced : IsCoerced coerced.Waits g e t u c last
   waits_coerced = record {
-    follows = record { clock = omega arith; grew = wait_grew; of_body = h; sound = wait_sound };
+    follows = record { clock = omega arith; grew = wait_grew; of_body = h; sound = wait_sound; told = λ told. told };
     clock = refl;
     waits = λ i. record { may = may; waits = refl };
     each = λ a q. decided a (same_types (folded a u) (folded a t)) refl;

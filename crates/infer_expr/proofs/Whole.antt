@@ -1,12 +1,15 @@
 -- The walk of a whole body.
-use Rattle.std.proofs.Common.{ℕ, zero, suc, ◌+◌, ◌<◌, ◌≡◌, ◌⊎◌, inl, inr, [], ◌∷◌, ◌^◌, length, refl, sym, subst, ◌∙◌, arith, Option, Some, None}
+use Rattle.std.proofs.Common.{ℕ, zero, suc, ◌+◌, ◌<◌, ◌≡◌, ◌⊎◌, inl, inr, List, [], ◌∷◌, ◌^◌, length, refl, sym, subst, ◌∙◌, arith, Option, Some, None}
 use Rattle.std.specs.Prelude.{replicate}
 use Rattle.std.proofs.lemmas.List.{length-replicate, length-map}
 use Rattle.hir_types.specs.declared.ids.ExprId.{ExprId}
 use Rattle.hir_types.specs.declared.ids.ExprOrPatId.{ExprOrPatId}
 use Rattle.hir_types.specs.declared.ids.ExprOrPatId.TheVariants as node
 use Rattle.hir_types.specs.declared.ty.Ty.{Ty}
+use Rattle.hir_types.specs.Subst.{Assignment}
 use Rattle.hir_facts.specs.declared.raw.RawBody.{RawBody}
+use Rattle.hir_facts.specs.declared.raw.RawType.{RawType}
+use Rattle.infer_result.specs.declared.diagnostics.InferenceDiagnostic.TheVariants as diagnostic
 use Rattle.hir_facts.specs.declared.schedule.Schedule.{Schedule}
 use Rattle.hir_facts.specs.Bodies.{IsWalkable}
 use Rattle.hir_facts.specs.CarriedTypes.{IsCarriedType}
@@ -54,11 +57,13 @@ inner_start b s x law h =
     above a n = grind arith
 
 module _ (b : RawBody) (s : Schedule) (law : IsWalkable b s) where
-  empty_carried : IsCarriedTable (nothing_found b).result
-  empty_carried = record {
+  empty_carried : (a : Assignment) (types : List RawType) → IsCarriedTable (nothing_found a types b).result
+  empty_carried a types = record {
     exprs = λ n t i. absurd (At-replicate (length b.exprs) n t i);
     pats = λ n t i. absurd (At-replicate (length b.pats) n t i);
     bindings = λ n t i. absurd (At-replicate (length b.bindings) n t i);
+    placeholders = λ n t i. absurd (At-replicate (length types) n t i);
+    found = λ n k t i. absurd (At-replicate (length b.exprs) n (diagnostic.ExpectedFunction k t) i);
     expected = λ n m i. absurd (At-replicate (length b.exprs) n m i);
     actual = λ n m i. absurd (At-replicate (length b.exprs) n m i);
     pat_expected = λ n m i. absurd (At-replicate (length b.pats) n m i);
@@ -78,8 +83,8 @@ module _ (b : RawBody) (s : Schedule) (law : IsWalkable b s) where
   pub root_within : IsInBody b (node.ExprId b.root)
   root_within = (ahead_right b s the_body 1 (param_parts 0 b.params) (expr_part root b.root ∷ []) body_ahead).fit.0
 
-empty_walked : (g : Given) (s : Schedule) → IsWalkable g.body s → IsWalked g s (nothing_found g.body)
-empty_walked g s law = record {
+empty_walked : (g : Given) (s : Schedule) (a : Assignment) → IsWalkable g.body s → IsWalked g s (nothing_found a g.scope.facts.types g.body)
+empty_walked g s a law = record {
   of_body = record {
     exprs = length-replicate (length g.body.exprs) None;
     pats = length-replicate (length g.body.pats) None;
@@ -92,11 +97,13 @@ empty_walked g s law = record {
     expr_variants = length-map g.body.exprs expr_variant;
     pat_variants = length-map g.body.pats pat_variant;
   };
-  carried = empty_carried g.body s law;
+  carried = empty_carried g.body s law a g.scope.facts.types;
   modes = λ p m i. absurd (At-replicate (length g.body.pats) p.0 m i);
   diagnostics = λ e d i. absurd (At-replicate (length g.body.exprs) e.0 d i);
   pat_diagnostics = λ p d i. absurd (At-replicate (length g.body.pats) p.0 d i);
   variants = record { exprs = refl; pats = refl };
+  placeholders = record { count = length-replicate (length g.scope.facts.types) None; only = λ k t i. absurd (At-replicate (length g.scope.facts.types) k t i) };
+  seen = λ i y there. absurd (cc);
   free_exprs = λ e i lo. free-replicate (length g.body.exprs) e.0 i;
   free_pats = λ p i lo. free-replicate (length g.body.pats) p.0 i;
   free_modes = λ p i lo. free-replicate (length g.body.pats) p.0 i;
@@ -104,10 +111,10 @@ empty_walked g s law = record {
   bound = λ p v i hi. absurd (omega (arith, inner_start g.body s (node.PatId p) law.schedule (binds_within g.body p v i)));
 }
 
-pub params_before : (g : Given) (s : Schedule) (last : ℕ) (c : Found) → IsWalkable g.body s → WrittenExist g → length g.inputs ≡ length g.body.params → last ≡ expr_end g.body s g.body.root → last < 2 ^ 64 → c ≡ nothing_found g.body → BeforeParams g s c
-params_before g s last c law written count is room empty =
+pub params_before : (g : Given) (s : Schedule) (a : Assignment) (last : ℕ) (c : Found) → IsWalkable g.body s → WrittenExist g → length g.inputs ≡ length g.body.params → last ≡ expr_end g.body s g.body.root → last < 2 ^ 64 → c ≡ nothing_found a g.scope.facts.types g.body → BeforeParams g s c
+params_before g s a last c law written count is room empty =
     let ready : IsReady g s = record { law = law; written = written; room = omega (arith, is, root_last g.body s law) } in
-    subst (λ k. BeforeParams g s k) (sym empty) (record { ready = ready; count = count; state = empty_walked g s law; ahead = body_ahead g.body s law })
+    subst (λ k. BeforeParams g s k) (sym empty) (record { ready = ready; count = count; state = empty_walked g s a law; ahead = body_ahead g.body s law })
 
 pub root_before : (g : Given) (s : Schedule) (old c : Found) → IsReady g s → IsCarriedType g.output → ParamsDone g s old c → Before g s g.body.root (Some g.output) c
 root_before g s old c ready carried d = expr_before g s the_body root g.body.root [] (Some g.output) c ready d.walks.state d.ahead carried
@@ -118,14 +125,17 @@ root_demand g s c ahead r =
     let q = ahead_stands g.body s the_body c.clock (expr_part root g.body.root) [] ahead in
     inl (record { parent = the_body; at_part = q.0; role = root; stands = q.1; asks = (refl, refl) })
 
-module _ (g : Given) (s : Schedule) (law : IsWalkable g.body s) (t : Ty) (mid new : Found) (p : ParamsDone g s (nothing_found g.body) mid) (d : CoerceDone g s g.body.root (Some g.output) t mid new) where
+module _ (g : Given) (s : Schedule) (a : Assignment) (law : IsWalkable g.body s) (t : Ty) (mid new : Found) (p : ParamsDone g s (nothing_found a g.scope.facts.types g.body) mid) (d : CoerceDone g s g.body.root (Some g.output) t mid new) where
+  abbrev first : Found
+  first = nothing_found a g.scope.facts.types g.body
+
   at_end : new.clock ≡ end g.body s the_body
   at_end = d.clock ∙ root_last g.body s law
 
-  walked : Walks g s (Owed g.body.root (Some g.output)) (nothing_found g.body) new
+  walked : Walks g s (Owed g.body.root (Some g.output)) first new
   walked =
-      walks_trans g s (Owed g.body.root (Some g.output)) (nothing_found g.body) mid new
-      (walks_paid g s Nothing (Owed g.body.root (Some g.output)) (nothing_found g.body) mid (λ e m o. absurd o) p.walks) d.walks
+      walks_trans g s (Owed g.body.root (Some g.output)) first mid new
+      (walks_paid g s Nothing (Owed g.body.root (Some g.output)) first mid (λ e m o. absurd o) p.walks) d.walks
 
   misfit : (e : ExprId) (m : TypeMismatch) → At new.result.expr_mismatches e.0 m → IsMisfit g new.result e m × Demand g new.result e m.expected
   misfit e m i =
@@ -165,4 +175,7 @@ module _ (g : Given) (s : Schedule) (law : IsWalkable g.body s) (t : Ty) (mid ne
     demands = λ e m i. (misfit e m i).1;
     pat_truths = λ q m i. elim (walked.pat_truths q m i) [ inl o ↦ absurd (At-replicate (length g.body.pats) q.0 m o) | inr o ↦ o ];
     diagnostics = walked.state.diagnostics;
+    placeholders = walked.state.placeholders;
+    seen = λ i y there. (walked.state.seen i y there).is_true;
+    said = λ i y there. (walked.state.seen i y there).is_said;
   }

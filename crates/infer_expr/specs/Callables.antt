@@ -1,5 +1,5 @@
 -- What a callable item takes and gives.
-use Rattle.std.specs.Prelude.{◌≡◌, List, length, map, Some}
+use Rattle.std.specs.Prelude.{◌≡◌, List, length, map, Option, Some, None}
 use Rattle.hir_types.specs.declared.ids.CallableDefId.{CallableDefId}
 use Rattle.hir_types.specs.declared.ids.TypeRefId.{TypeRefId}
 use Rattle.hir_types.specs.declared.ty.GenericArg.{GenericArg}
@@ -50,3 +50,12 @@ pub record IsSigOf (σ : Signature) (ts : List Ty) (sig : CallableSig) : Type 0 
 -- it is what the item of this type takes and gives
 abbrev pub IsSigOfItem : RawFacts → Ty → CallableSig → Type 0
 IsSigOfItem facts t sig = (id : CallableDefId) (ts : List Ty) (σ : Signature) → t ≡ ty.FnDef id (type_args ts) → signature_of facts id ≡ Some σ → length ts ≡ σ.params → IsSigOf σ ts sig
+
+-- where the type is that of an item, that can be called
+abbrev pub ItemsAreCallable : RawFacts → Ty → Type 0
+ItemsAreCallable facts t = (id : CallableDefId) (xs : List GenericArg) → t ≡ ty.FnDef id xs → IsCallableItem facts t
+
+-- what the item of this type takes and gives, or it is that of no item
+abbrev pub IsSigIfItem : RawFacts → Ty → Option CallableSig → Type 0
+IsSigIfItem facts t None = (id : CallableDefId) (xs : List GenericArg) → t ≡ ty.FnDef id xs → ⊥
+IsSigIfItem facts t (Some sig) = IsCallableItem facts t × IsSigOfItem facts t sig

@@ -15,12 +15,13 @@ use Rattle.infer_table.specs.Waiting.{waiting}
 use Rattle.infer_result.specs.declared.result.InferenceResult.{InferenceResult}
 use Rattle.infer_result.specs.declared.result.TypeMismatch.{TypeMismatch}
 use Rattle.infer_result.specs.Table.{mismatch}
-use Rattle.infer_result.specs.Closed.{AllTypes}
+use Rattle.infer_result.specs.Closed.{AllTypes, AllSeen}
 use Rattle.infer_expr.specs.declared.context.InferenceContext.{InferenceContext}
 use Rattle.infer_expr.specs.declared.coerce_many.CoerceMany.{CoerceMany}
 use Rattle.infer_expr.specs.declared.coerce_many.CoerceMany.TheVariants as common
 use Rattle.infer_expr.specs.Fine.{is_fine_head, IsFine, IsFineAsked, AreFinePairs}
 use Rattle.infer_expr.specs.Found.{Found}
+use Rattle.infer_expr.specs.Said.{said}
 
 -- closed types of the carried kinds stand for holes, integer types for holes of integer types
 pub record IsClosing (a : Assignment) : Type 0 where
@@ -76,17 +77,19 @@ closed_table a asked t = record {
   type_of_expr = closed_types a t.type_of_expr;
   type_of_pat = closed_types a t.type_of_pat;
   type_of_binding = closed_types a t.type_of_binding;
+  type_of_placeholder = closed_types a t.type_of_placeholder;
   binding_modes = t.binding_modes;
   expr_mismatches = closed_mismatches a asked t.expr_mismatches;
-  expr_diagnostics = t.expr_diagnostics;
+  expr_diagnostics = said a t.seen t.expr_diagnostics;
   pat_mismatches = map (option_map (closed_mismatch a)) t.pat_mismatches;
   pat_diagnostics = t.pat_diagnostics;
   expr_variants = t.expr_variants;
   pat_variants = t.pat_variants;
+  seen = t.seen;
 }
 
 abbrev pub found_under : Assignment → InferenceContext → Found
-found_under a c = record { result = closed_table a c.asked c.result; clock = c.clock }
+found_under a c = record { result = closed_table a c.asked c.result; clock = c.clock; holes = a }
 
 abbrev pub expected_under : Assignment → Option Ty → Option Ty
 expected_under a x = option_map (folded a) x
@@ -101,6 +104,7 @@ common_under a common.Unknown = common.Unknown
 -- the types in hand are fine, and some assignment closes the context
 pub record IsSound (sc : Scope) (c : InferenceContext) : Type 0 where
   pub fine : AllTypes (IsFine sc c.table) c.result
+  pub seen : AllSeen (IsFine sc c.table) c.result
   pub asked : IsFineAsked sc c.table c.asked
   pub pairs : AreFinePairs sc c.table (waiting c.table.pairs)
   pub bound : BindsOnly (is_fine_head sc) (log_of (bindings c.table))

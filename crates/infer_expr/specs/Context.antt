@@ -1,5 +1,5 @@
 -- What the walk reads, what it expects, and what a write does.
-use Rattle.std.specs.Prelude.{◌+◌, ◌≡◌, ◌⊎◌, ℕ, length, map, replicate, slice_get, slice_set, Option, Some, None}
+use Rattle.std.specs.Prelude.{◌+◌, ◌≡◌, ◌⊎◌, ◌++◌, ℕ, List, [], ◌∷◌, length, map, replicate, slice_get, slice_set, Option, Some, None}
 use Rattle.hir_types.specs.declared.ids.ExprId.{ExprId}
 use Rattle.hir_types.specs.declared.ids.PatId.{PatId}
 use Rattle.hir_types.specs.declared.ids.BindingId.{BindingId}
@@ -8,11 +8,13 @@ use Rattle.hir_types.specs.declared.ty.AliasBound.{AliasBound}
 use Rattle.hir_types.specs.declared.ty.GenericArg.{GenericArg}
 use Rattle.hir_types.specs.declared.ty.TraitRef.{TraitRef}
 use Rattle.hir_types.specs.declared.ty.Ty.{Ty, Ty-F, out-Ty}
+use Rattle.hir_facts.specs.declared.raw.RawType.{RawType}
 use Rattle.hir_facts.specs.declared.raw.RawBody.{RawBody}
 use Rattle.hir_facts.specs.declared.schedule.Schedule.{Schedule}
 use Rattle.hir_facts.specs.CarriedTypes.{IsCarriedType}
 use Rattle.hir_facts.specs.Scope.{Scope, scope_of}
 use Rattle.infer_result.specs.declared.result.TypeMismatch.{TypeMismatch}
+use Rattle.infer_result.specs.declared.result.Seen.{Seen}
 use Rattle.infer_result.specs.declared.diagnostics.InferenceDiagnostic.{InferenceDiagnostic}
 use Rattle.infer_result.specs.declared.modes.BindingMode.{BindingMode}
 use Rattle.infer_result.specs.declared.modes.BindingMode.TheVariants as mode
@@ -63,12 +65,13 @@ IsLess x y = (y ≡ x) ⊎ (y ≡ None)
 -- ---- what is found out
 
 -- nothing yet: the walk has come to the body alone
-abbrev pub empty_context : RawBody → InferenceContext
-empty_context b = record {
+abbrev pub empty_context : List RawType → RawBody → InferenceContext
+empty_context types b = record {
   result = record {
     type_of_expr = replicate (length b.exprs) None;
     type_of_pat = replicate (length b.pats) None;
     type_of_binding = replicate (length b.bindings) None;
+    type_of_placeholder = replicate (length types) None;
     binding_modes = replicate (length b.pats) None;
     expr_mismatches = replicate (length b.exprs) None;
     expr_diagnostics = replicate (length b.exprs) None;
@@ -76,6 +79,7 @@ empty_context b = record {
     pat_diagnostics = replicate (length b.pats) None;
     expr_variants = map expr_variant b.exprs;
     pat_variants = map pat_variant b.pats;
+    seen = [];
   };
   asked = replicate (length b.exprs) None;
   clock = 1;
@@ -118,6 +122,14 @@ with_mode c p m = record c { result = record c.result { binding_modes = slice_se
 
 abbrev pub with_binding_ty : InferenceContext → BindingId → Ty → InferenceContext
 with_binding_ty c v t = record c { result = record c.result { type_of_binding = slice_set c.result.type_of_binding v.0 (Some t) } }
+
+-- the `_` that is type k stands for t
+abbrev pub with_placeholder_ty : InferenceContext → ℕ → Ty → InferenceContext
+with_placeholder_ty c k t = record c { result = record c.result { type_of_placeholder = slice_set c.result.type_of_placeholder k (Some t) } }
+
+-- the look-up failed
+abbrev pub with_seen : InferenceContext → Seen → InferenceContext
+with_seen c x = record c { result = record c.result { seen = c.result.seen ++ x ∷ [] } }
 
 -- the pattern p of type t binds v by move
 abbrev pub bound_by : InferenceContext → PatId → BindingId → Ty → InferenceContext

@@ -1,11 +1,14 @@
 -- Types that the walk may have in hand, and what is sound to have found out.
-use Rattle.std.specs.Prelude.{ℕ, List, [], ◌∷◌, ◌<◌, ◌==◌, ◌&&◌, nat_lt, true, false, length, Option, Some, None}
+use Rattle.std.specs.Prelude.{ℕ, List, [], ◌∷◌, ◌<◌, ◌==◌, ◌&&◌, nat_lt, true, false, length, Option, Some, None, option_map}
 use Rattle.hir_types.specs.declared.head.Head.TheVariants as head
+use Rattle.hir_types.specs.declared.ids.CallableDefId.{CallableDefId}
 use Rattle.hir_types.specs.declared.ids.TypeRefId.{TypeRefId}
 use Rattle.hir_types.specs.declared.ty.Ty.{Ty}
 use Rattle.hir_types.specs.Terms.{term}
+use Rattle.hir_facts.specs.declared.raw.RawFacts.{RawFacts}
 use Rattle.hir_facts.specs.Types.{written_type}
-use Rattle.hir_facts.specs.Scope.{Scope, adt_params, callable_params, has_params}
+use Rattle.hir_facts.specs.Scope.{Scope, adt_params, has_params}
+use Rattle.hir_facts.specs.Signatures.{signature_of}
 use Rattle.hir_facts.specs.CarriedTypes.{IsCarriedType}
 use Rattle.infer_table.specs.declared.waiting.WaitingPair.{WaitingPair}
 use Rattle.infer_table.specs.Table.{State, HolesAreOf}
@@ -13,8 +16,12 @@ use Rattle.infer_table.specs.Preserved.{Shape, whole, IsMadeOf}
 use Rattle.infer_result.specs.declared.result.TypeMismatch.{TypeMismatch}
 use Rattle.infer_result.specs.Table.{At}
 
+-- how many parameters a function has, or a constructor that takes fields
+abbrev pub item_params : RawFacts → CallableDefId → Option ℕ
+item_params facts id = option_map (λ σ. σ.params) (signature_of facts id)
+
 -- The heads of the types that the walk makes, and over how many parts: neither `{unknown}` nor an alias is among them,
--- items have as many arguments as parameters, and parameters are in scope.
+-- adts and items that can be called have as many arguments as parameters, and parameters are in scope.
 abbrev pub is_fine_head : Scope → Shape
 is_fine_head sc head.Bool n = n == 0
 is_fine_head sc head.Char n = n == 0
@@ -22,7 +29,7 @@ is_fine_head sc (head.Int i) n = n == 0
 is_fine_head sc (head.Uint i) n = n == 0
 is_fine_head sc head.Tuple n = true
 is_fine_head sc (head.Adt id) n = has_params (adt_params sc.facts id) n
-is_fine_head sc (head.FnDef id) n = has_params (callable_params sc.facts id) n
+is_fine_head sc (head.FnDef id) n = has_params (item_params sc.facts id) n
 is_fine_head sc (head.Param i) n = n == 0 && nat_lt i sc.params
 is_fine_head sc _ n = false
 

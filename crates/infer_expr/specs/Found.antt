@@ -1,10 +1,12 @@
 -- What inference has found out of a body, holes closed.
-use Rattle.std.specs.Prelude.{ℕ, ◌+◌, ◌≡◌, List, length, map, replicate, slice_get, slice_set, Option, Some, None}
+use Rattle.std.specs.Prelude.{ℕ, ◌+◌, ◌≡◌, ◌++◌, List, [], ◌∷◌, length, map, replicate, slice_get, slice_set, Option, Some, None}
 use Rattle.hir_types.specs.declared.ids.ExprId.{ExprId}
 use Rattle.hir_types.specs.declared.ids.PatId.{PatId}
 use Rattle.hir_types.specs.declared.ids.BindingId.{BindingId}
 use Rattle.hir_types.specs.declared.ty.Ty.{Ty}
 use Rattle.hir_types.specs.declared.ids.VariantId.{VariantId}
+use Rattle.hir_types.specs.Subst.{Assignment}
+use Rattle.hir_facts.specs.declared.raw.RawType.{RawType}
 use Rattle.hir_facts.specs.declared.raw.RawPath.{RawPath}
 use Rattle.hir_facts.specs.declared.raw.RawPath.TheVariants as path
 use Rattle.hir_facts.specs.declared.raw.RawExpr.{RawExpr}
@@ -16,12 +18,15 @@ use Rattle.infer_result.specs.declared.modes.BindingMode.{BindingMode}
 use Rattle.infer_result.specs.declared.modes.BindingMode.TheVariants as mode
 use Rattle.infer_result.specs.declared.result.InferenceResult.{InferenceResult}
 use Rattle.infer_result.specs.declared.result.TypeMismatch.{TypeMismatch}
+use Rattle.infer_result.specs.declared.result.Seen.{Seen}
 use Rattle.infer_result.specs.declared.diagnostics.InferenceDiagnostic.{InferenceDiagnostic}
+use Rattle.infer_expr.specs.Said.{said_of}
 
--- the table as far as it is filled, and to how many nodes the walk has come
+-- the table as far as it is filled, to how many nodes the walk has come, and what stands for holes
 pub record Found : Type 0 where
   pub result : InferenceResult
   pub clock : ℕ
+  pub holes : Assignment
 
 -- the variant whose constructor is named
 abbrev pub path_variant : RawPath → Option VariantId
@@ -55,12 +60,13 @@ pub record RecordsVariants (b : RawBody) (t : InferenceResult) : Type 0 where
   pub pats : t.pat_variants ≡ map pat_variant b.pats
 
 -- nothing yet: the walk has come to the body alone, and what constructors are named is known
-abbrev pub nothing_found : RawBody → Found
-nothing_found b = record {
+abbrev pub nothing_found : Assignment → List RawType → RawBody → Found
+nothing_found a types b = record {
   result = record {
     type_of_expr = replicate (length b.exprs) None;
     type_of_pat = replicate (length b.pats) None;
     type_of_binding = replicate (length b.bindings) None;
+    type_of_placeholder = replicate (length types) None;
     binding_modes = replicate (length b.pats) None;
     expr_mismatches = replicate (length b.exprs) None;
     expr_diagnostics = replicate (length b.exprs) None;
@@ -68,8 +74,10 @@ nothing_found b = record {
     pat_diagnostics = replicate (length b.pats) None;
     expr_variants = map expr_variant b.exprs;
     pat_variants = map pat_variant b.pats;
+    seen = [];
   };
   clock = 1;
+  holes = a;
 }
 
 -- ---- what a write does
@@ -111,6 +119,14 @@ with_mode c p m = record c { result = record c.result { binding_modes = slice_se
 
 abbrev pub with_binding_ty : Found → BindingId → Ty → Found
 with_binding_ty c v t = record c { result = record c.result { type_of_binding = slice_set c.result.type_of_binding v.0 (Some t) } }
+
+-- the `_` that is type k stands for t
+abbrev pub with_placeholder_ty : Found → ℕ → Ty → Found
+with_placeholder_ty c k t = record c { result = record c.result { type_of_placeholder = slice_set c.result.type_of_placeholder k (Some t) } }
+
+-- the look-up failed, which is said unless `{unknown}` stands in its type
+abbrev pub with_seen : Found → Seen → Found
+with_seen c x = record c { result = record c.result { seen = c.result.seen ++ x ∷ []; expr_diagnostics = said_of c.holes c.result.expr_diagnostics x } }
 
 -- the pattern p of type t binds v by move
 abbrev pub bound_by : Found → PatId → BindingId → Ty → Found

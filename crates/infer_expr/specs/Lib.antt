@@ -1,7 +1,9 @@
+pub mod Said
 pub mod Found
 pub mod Context
 pub mod Walks
 pub mod Fine
+pub mod Tells
 pub mod Closings
 pub mod Under
 pub mod Steps

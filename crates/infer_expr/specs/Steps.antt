@@ -11,13 +11,16 @@ use Rattle.hir_types.specs.declared.ty.UintTy.TheVariants as uint
 use Rattle.hir_types.specs.Subst.{Assignment, folded}
 use Rattle.hir_types.specs.Types.{integer_type}
 use Rattle.hir_facts.specs.declared.raw.RawLiteral.{RawLiteral}
+use Rattle.hir_facts.specs.declared.raw.RawExpr.TheVariants as expr
 use Rattle.hir_facts.specs.declared.raw.RawArm.{RawArm}
 use Rattle.hir_facts.specs.declared.raw.RawStmt.{RawStmt}
+use Rattle.hir_facts.specs.declared.raw.RawStmt.TheVariants as stmt
+use Rattle.hir_facts.specs.Types.{filled_type, StandsIn}
 use Rattle.hir_facts.specs.declared.schedule.Schedule.{Schedule}
 use Rattle.hir_facts.specs.Laws.Carried.{is_carried_stmt}
 use Rattle.hir_facts.specs.Order.{inner, the_body, stmt_parts, stmt_at, maybe_part, guard, else_branch, arms_parts, tail, body_parts}
 use Rattle.infer_table.specs.declared.waiting.WaitingPair.{WaitingPair}
-use Rattle.infer_table.specs.Table.{State, Grew, resolved_type, hole_count, IsUnknownPair, TakesKnown}
+use Rattle.infer_table.specs.Table.{State, Grew, resolved_type, hole_count, IsUnknownPair, TakesKnown, bindings}
 use Rattle.infer_result.specs.Closed.{IsOfBody}
 use Rattle.hir_facts.specs.Scope.{Scope}
 use Rattle.hir_facts.specs.Signatures.{type_args, at_args, field_types}
@@ -25,27 +28,33 @@ use Rattle.hir_facts.specs.declared.raw.RawPath.{RawPath}
 use Rattle.hir_types.specs.declared.ids.CallableDefId.{CallableDefId}
 use Rattle.hir_types.specs.declared.ids.VariantId.{VariantId}
 use Rattle.hir_types.specs.declared.ty.GenericArg.{GenericArg}
-use Rattle.infer_result.specs.Places.{Given, Incoming}
+use Rattle.infer_result.specs.Truth.Seen.{IsPathToItem}
+use Rattle.infer_result.specs.Places.{Given, Incoming, IsPlaceholder, AreRecorded, declared}
+use Rattle.infer_result.specs.Table.{PlaceholderTy}
 use Rattle.infer_result.specs.Made.{IsMade}
-use Rattle.infer_result.specs.Rules.Literals.{IsLiteralType}
+use Rattle.infer_result.specs.Rules.Literals.{IsLiteralType, IsOwnType}
 use Rattle.infer_expr.specs.declared.context.InferenceContext.{InferenceContext}
 use Rattle.infer_result.specs.declared.diagnostics.InferenceDiagnostic.TheVariants as diagnostic
 use Rattle.infer_expr.specs.Context.{waiting_at, with_pat_diagnostic}
 use Rattle.infer_expr.specs.Walks.{IsWalked, IsFree, expr_start, pat_start}
 use Rattle.infer_expr.specs.Fine.{IsFine, IsFineExpectation}
+use Rattle.infer_expr.specs.Tells.{Tells, TellsBound, TellsRecorded, TellsLet}
 use Rattle.infer_expr.specs.Closings.{IsClosing, Closes, closed_table, found_under, expected_under, common_under, IsSound}
 use Rattle.infer_expr.specs.declared.coerce.Coerced.{Coerced}
 use Rattle.infer_expr.specs.declared.coerce.Coerced.TheVariants as coerced
 use Rattle.infer_expr.specs.declared.coerce_many.CoerceMany.{CoerceMany}
 use Rattle.infer_expr.specs.declared.coerce_many.CoerceMany.TheVariants as common
 use Rattle.infer_expr.specs.Under as under
+use Rattle.infer_table.specs.Bindings.{AllOf}
 
 -- ---- the state of the walk
 
--- what is found out is sound, and under each assignment that closes it as the walk says
+-- what is found out is sound, the types of bindings tell what their patterns say, and under each assignment that closes it all is as
+-- the walk says
 pub record IsWalking (g : Given) (s : Schedule) (c : InferenceContext) : Type 0 where
   pub of_body : IsOfBody g.body c.result
   pub sound : IsSound g.scope c
+  pub told : TellsRecorded g c.result
   pub each : (a : Assignment) → Closes a c → IsWalked g s (found_under a c)
 
 -- more was found out, and nothing undone
@@ -54,6 +63,7 @@ pub record Follows (g : Given) (old new : InferenceContext) : Type 0 where
   pub grew : Grew old.table new.table
   pub of_body : IsOfBody g.body new.result
   pub sound : IsSound g.scope new
+  pub told : TellsRecorded g old.result → TellsRecorded g new.result
 
 -- ---- expressions
 
@@ -69,12 +79,15 @@ pub record Before (g : Given) (s : Schedule) (e : ExprId) (x : Option Ty) (c : I
 pub record OwnDone (g : Given) (s : Schedule) (e : ExprId) (x : Option Ty) (t : Ty) (old new : InferenceContext) : Type 0 where
   pub follows : Follows g old new
   pub fine : IsFine g.scope new.table t
+  pub tells : Tells g e t
   pub each : (a : Assignment) → Closes a new → under.OwnDone g s e (expected_under a x) (folded a t) (found_under a old) (found_under a new)
 
 -- the expression is at the type t, which is the expected one where one is
 pub record CoerceDone (g : Given) (s : Schedule) (e : ExprId) (x : Option Ty) (t : Ty) (old new : InferenceContext) : Type 0 where
   pub follows : Follows g old new
   pub fine : IsFine g.scope new.table t
+  pub is_expected : (u : Ty) → x ≡ Some u → t ≡ u
+  pub tells : x ≡ None → Tells g e t
   pub each : (a : Assignment) → Closes a new → under.CoerceDone g s e (expected_under a x) (folded a t) (found_under a old) (found_under a new)
 
 -- ---- the kinds of expressions
@@ -91,6 +104,7 @@ pub record Within (g : Given) (s : Schedule) (e : ExprId) (x : Option Ty) (c : I
 pub record KindDone (g : Given) (s : Schedule) (e : ExprId) (x : Option Ty) (t : Ty) (old new : InferenceContext) : Type 0 where
   pub follows : Follows g old new
   pub fine : IsFine g.scope new.table t
+  pub tells : Tells g e t
   pub each : (a : Assignment) → Closes a new → under.KindDone g s e (expected_under a x) (folded a t) (found_under a old) (found_under a new)
 
 -- ---- patterns
@@ -102,6 +116,7 @@ pub record BeforePat (g : Given) (s : Schedule) (p : PatId) (x : Option Ty) (c :
   pub within : p.0 < length g.body.pats
   pub here : pat_start g.body s p ≡ c.clock
   pub fine : IsFineExpectation g.scope c.table x
+  pub tells : (t : Ty) → (x ≡ Some t) ⊎ (x ≡ None) → TellsBound g p t
   pub incoming : (a : Assignment) → Closes a c → (t : Ty) → expected_under a x ≡ Some t → Incoming g (closed_table a c.asked c.result) p t
 
 pub record PatDone (g : Given) (s : Schedule) (p : PatId) (x : Option Ty) (old new : InferenceContext) : Type 0 where
@@ -179,10 +194,69 @@ pub record StmtDone (g : Given) (s : Schedule) (x : RawStmt) (old new : Inferenc
   pub follows : Follows g old new
   pub each : (a : Assignment) → Closes a new → under.StmtDone g s x (found_under a old) (found_under a new)
 
--- the initializer of a `let` with this written type has the type t, or is at the written one
+-- the written type of a `let` is to be read
+pub record BeforeBodyTy (g : Given) (s : Schedule) (w : TypeRefId) (c : InferenceContext) : Type 0 where
+  pub ready : under.IsReady g s
+  pub state : IsWalking g s c
+  pub block : ExprId
+  pub at_stmt : ℕ
+  pub pattern : PatId
+  pub init : Option ExprId
+  pub other : Option ExprId
+  pub is_let : stmt_at g.body block at_stmt ≡ Some (stmt.Let pattern (Some w) init other)
+
+-- it stands for t, where each `_` in it stands for the type that is recorded
+pub record BodyTyDone (g : Given) (s : Schedule) (w : TypeRefId) (t : Ty) (old new : InferenceContext) : Type 0 where
+  pub follows : Follows g old new
+  pub clock : new.clock ≡ old.clock
+  pub fine : IsFine g.scope new.table t
+  pub filled : (h : ℕ → Ty) × (t ≡ filled_type h g.scope.facts.types w)
+  pub each : (a : Assignment) → Closes a new → under.BodyTyDone g s w (folded a t) (found_under a old) (found_under a new)
+
+-- Types are recorded for `_`s that had none, and holes may be made for them. Nothing else is done.
+pub record AddsPlaceholders (g : Given) (old new : InferenceContext) : Type 0 where
+  pub result : new.result ≡ record old.result { type_of_placeholder = new.result.type_of_placeholder }
+  pub asked : new.asked ≡ old.asked
+  pub clock : new.clock ≡ old.clock
+  pub grew : Grew old.table new.table
+  pub sound : IsSound g.scope new
+  pub count : length new.result.type_of_placeholder ≡ length old.result.type_of_placeholder
+  pub kept : (k : ℕ) (t : Ty) → PlaceholderTy old.result k t → PlaceholderTy new.result k t
+  pub only : (k : ℕ) (t : Ty) → PlaceholderTy new.result k t → PlaceholderTy old.result k t ⊎ IsPlaceholder g k
+
+-- a written type, part of that of a `let`, is to be read
+pub record BeforePartTy (g : Given) (w : TypeRefId) (c : InferenceContext) : Type 0 where
+  pub sound : IsSound g.scope c
+  pub count : length c.result.type_of_placeholder ≡ length g.scope.facts.types
+  pub within : w.0 < length g.scope.facts.types
+  pub placeholders : (k : ℕ) → StandsIn g.scope.facts.types k w.0 → IsPlaceholder g k
+
+-- it stands for t, where each `_` in it stands for the type that is recorded
+pub record PartTyDone (g : Given) (w : TypeRefId) (t : Ty) (old new : InferenceContext) : Type 0 where
+  pub adds : AddsPlaceholders g old new
+  pub is : t ≡ declared g new.result w
+  pub recorded : AreRecorded g new.result w
+
+-- written types, parts of that of a `let`, are to be read
+pub record BeforePartTys (g : Given) (ws : List TypeRefId) (c : InferenceContext) : Type 0 where
+  pub sound : IsSound g.scope c
+  pub each : (i : ℕ) (w : TypeRefId) → slice_get ws i ≡ Some w → BeforePartTy g w c
+
+-- of each `_` in them a type is recorded
+pub record PartTysDone (g : Given) (ws : List TypeRefId) (old new : InferenceContext) : Type 0 where
+  pub adds : AddsPlaceholders g old new
+  pub recorded : (i : ℕ) (w : TypeRefId) → slice_get ws i ≡ Some w → AreRecorded g new.result w
+
+-- the type t is recorded for the `_`
+pub record PlaceholderTyDone (g : Given) (w : TypeRefId) (t : Ty) (old new : InferenceContext) : Type 0 where
+  pub adds : AddsPlaceholders g old new
+  pub recorded : PlaceholderTy new.result w.0 t
+
+-- the initializer of a `let` with this written type has the type t, or is at what the written one stands for
 pub record InitDone (g : Given) (s : Schedule) (w : Option TypeRefId) (e : ExprId) (t : Ty) (old new : InferenceContext) : Type 0 where
   pub follows : Follows g old new
   pub fine : IsFine g.scope new.table t
+  pub tells : TellsLet g w (Some e) t
   pub each : (a : Assignment) → Closes a new → under.InitDone g s w e (folded a t) (found_under a old) (found_under a new)
 
 -- ---- the end of a block
@@ -372,6 +446,7 @@ pub record LiteralDone (sc : Scope) (l : RawLiteral) (t : Ty) (old new : Inferen
   pub grew : Grew old.table new.table
   pub sound : IsSound sc new
   pub fine : IsFine sc new.table t
+  pub own : (s : Ty) → IsOwnType l s → t ≡ s
   pub each : (a : Assignment) → IsClosing a → IsLiteralType l (folded a t)
 
 -- ---- paths
@@ -384,6 +459,7 @@ pub record PathDone (g : Given) (p : RawPath) (t : Ty) (old new : InferenceConte
   pub grew : Grew old.table new.table
   pub sound : IsSound g.scope new
   pub fine : IsFine g.scope new.table t
+  pub tells : (e : ExprId) → slice_get g.body.exprs e.0 ≡ Some (expr.Path p) → Tells g e t
   pub each : (a : Assignment) → Closes a new → under.IsPathType g (closed_table a old.asked old.result) p (folded a t)
 
 -- new holes in the place of an item's parameters
@@ -403,7 +479,23 @@ pub record CalleeDone (g : Given) (s : Schedule) (called : ExprId) (t : Ty) (old
   pub count : length types ≡ item.signature.params
   pub follows : Follows g old new
   pub fine : (i : ℕ) (u : Ty) → slice_get types i ≡ Some u → IsFine g.scope new.table u
+  pub tells : (n : ExprId) (args : List ExprId) → under.IsCallOf g.body n called args → Tells g n (at_args types item.signature.output)
   pub each : (a : Assignment) → Closes a new → under.CalleeDone g s called id (map (folded a) types) (found_under a old) (found_under a new)
+
+-- what is called is typed, and has the type t as far as it is known
+pub record CalleeTyped (g : Given) (s : Schedule) (called : ExprId) (t : Ty) (old new : InferenceContext) : Type 0 where
+  pub type : Ty
+  pub typed : OwnDone g s called None type old new
+  pub known : t ≡ resolved_type new.table type
+  pub made : AllOf new.table.substitution.kinds (bindings new.table)
+
+-- The node n is a call. What it calls was typed since the walk came to the call, and has the type t as far as it is known.
+pub record BeforeCall (g : Given) (s : Schedule) (n : ExprId) (args : List ExprId) (t : Ty) (c : InferenceContext) : Type 0 where
+  pub called : ExprId
+  pub before : InferenceContext
+  pub within : Within g s n None before
+  pub is_call : under.IsCallOf g.body n called args
+  pub callee : CalleeTyped g s called t before c
 
 -- the node is a call of what has this type, and has come to its arguments
 pub record BeforeArgs (g : Given) (s : Schedule) (n : ExprId) (args : List ExprId) (t : Ty) (c : InferenceContext) : Type 0 where
@@ -416,6 +508,7 @@ pub record BeforeArgs (g : Given) (s : Schedule) (n : ExprId) (args : List ExprI
   pub is : t ≡ ty.FnDef id (type_args types)
   pub count : length types ≡ item.signature.params
   pub fine : (i : ℕ) (u : Ty) → slice_get types i ≡ Some u → IsFine g.scope c.table u
+  pub tells : Tells g n (at_args types item.signature.output)
   pub each : (a : Assignment) → Closes a c → under.BeforeArgs g s n called args id item.signature (map (folded a) types) (found_under a c)
 
 -- ss is what the call takes
@@ -428,6 +521,31 @@ pub record BeforeInputs (g : Given) (s : Schedule) (n : ExprId) (args : List Exp
 pub record ArgsDone (g : Given) (s : Schedule) (n : ExprId) (args : List ExprId) (ss : List Ty) (old new : InferenceContext) : Type 0 where
   pub follows : Follows g old new
   pub each : (a : Assignment) → Closes a new → under.ArgsDone g s n args (map (folded a) ss) (found_under a old) (found_under a new)
+
+-- The node n is a call of what has this type, as far as it is known: that is no function's. It has come to its arguments.
+pub record BeforeUncallable (g : Given) (s : Schedule) (n : ExprId) (args : List ExprId) (t : Ty) (c : InferenceContext) : Type 0 where
+  pub ready : under.IsReady g s
+  pub state : IsWalking g s c
+  pub called : ExprId
+  pub is_call : under.IsCallOf g.body n called args
+  pub fine : IsFine g.scope c.table t
+  pub tells : Tells g called t
+  pub no_item : (id : CallableDefId) (xs : List GenericArg) → t ≡ ty.FnDef id xs → ⊥
+  pub no_path : (IsPathToItem g called → ⊥)
+  pub each : (a : Assignment) → Closes a c → under.BeforeUncallable g s n called args (folded a t) (found_under a c)
+
+-- the arguments of the call n lie ahead, and nothing is asked of them; the types ss are fine
+pub record BeforeLoose (g : Given) (s : Schedule) (n : ExprId) (args : List ExprId) (ss : List Ty) (c : InferenceContext) : Type 0 where
+  pub ready : under.IsReady g s
+  pub state : IsWalking g s c
+  pub called : ExprId
+  pub fine : (i : ℕ) (u : Ty) → slice_get ss i ≡ Some u → IsFine g.scope c.table u
+  pub each : (a : Assignment) → Closes a c → under.BeforeLoose g s n called args (found_under a c)
+
+-- they are typed
+pub record LooseDone (g : Given) (s : Schedule) (n : ExprId) (old new : InferenceContext) : Type 0 where
+  pub follows : Follows g old new
+  pub each : (a : Assignment) → Closes a new → under.LooseDone g s n (found_under a old) (found_under a new)
 
 -- ---- the whole body
 

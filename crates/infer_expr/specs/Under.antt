@@ -24,9 +24,8 @@ use Rattle.hir_facts.specs.declared.raw.RawStmt.{RawStmt}
 use Rattle.hir_facts.specs.declared.raw.RawStmt.TheVariants as stmt
 use Rattle.hir_facts.specs.declared.schedule.Schedule.{Schedule}
 use Rattle.hir_types.specs.Types.{unit}
-use Rattle.hir_facts.specs.Types.{written_type}
-use Rattle.hir_facts.specs.CarriedBodies.{IsItemAt}
-use Rattle.hir_facts.specs.Scope.{Scope, fn_params, adt_params, callable_params, names_item}
+use Rattle.hir_facts.specs.WrittenFits.{FitsUnder}
+use Rattle.hir_facts.specs.Scope.{Scope, fn_params, adt_params, callable_params}
 use Rattle.hir_facts.specs.Signatures.{Signature, signature_of, field_types, type_args, at_args}
 use Rattle.hir_facts.specs.CarriedTypes.{IsCarriedType}
 use Rattle.hir_facts.specs.Bodies.{IsWalkable}
@@ -34,9 +33,9 @@ use Rattle.hir_facts.specs.Laws.Carried.{is_carried_stmt}
 use Rattle.hir_facts.specs.Order.{end, inner, the_body, Node, Part, IsNode, part_at, Fits, after, stmt_parts, stmt_at, maybe_part, guard, arms_parts, tail, body_parts, expr_part, exprs_from, argument, root}
 use Rattle.infer_result.specs.declared.result.InferenceResult.{InferenceResult}
 use Rattle.infer_result.specs.declared.diagnostics.InferenceDiagnostic.TheVariants as diagnostic
-use Rattle.infer_result.specs.Table.{HasTy, BindingTy, MismatchAt, AnyMismatch, mismatch}
+use Rattle.infer_result.specs.Table.{HasTy, BindingTy, MismatchAt, AnyMismatch, WasSeen, mismatch}
 use Rattle.infer_result.specs.Closed.{NamesVariant, IsVariantPat}
-use Rattle.infer_result.specs.Places.{Given, IsCtorPath, IsInput, IsAt, IsAtOrMismatch, PatIsAtOrMismatch, Incoming}
+use Rattle.infer_result.specs.Places.{Given, declared, AreRecorded, IsCtorPath, IsInput, IsAt, IsAtOrMismatch, PatIsAtOrMismatch, Incoming}
 use Rattle.infer_result.specs.Rules.Branches.{arm_exprs, GuardRule, ArmsRule}
 use Rattle.infer_result.specs.Rules.Expressions.{ObeysOrMismatch}
 use Rattle.infer_result.specs.Rules.Blocks.{StmtRule}
@@ -71,14 +70,14 @@ pub record IsVariant (facts : RawFacts) (v : VariantId) : Type 0 where
   pub unnamed : (variant.ctor ≡ ctor.Unit) ⊎ (variant.ctor ≡ ctor.Tuple)
 
 -- each type that a `let` of the body or a parameter is written with is one of the facts', each function and constructor that is
--- named exists, and each constructor that is called takes fields
+-- named exists, and so does each item that has a signature
 pub record WrittenExist (g : Given) : Type 0 where
-  pub lets : (e : ExprId) (i : ℕ) (p : PatId) (w : TypeRefId) (init other : Option ExprId) → stmt_at g.body e i ≡ Some (stmt.Let p (Some w) init other) → IsWritten g.scope w
+  pub lets : (e : ExprId) (i : ℕ) (p : PatId) (w : TypeRefId) (init other : Option ExprId) → stmt_at g.body e i ≡ Some (stmt.Let p (Some w) init other) → FitsUnder g.scope.facts g.scope.params w.0
   pub inputs : (i : ℕ) (w : TypeRefId) → slice_get g.inputs i ≡ Some w → IsWritten g.scope w
   pub functions : (e : ExprId) (f : FunctionId) → slice_get g.body.exprs e.0 ≡ Some (expr.Path (path.Function f)) → IsItem g.scope.facts (callable.FunctionId f)
   pub constructors : (e : ExprId) (v : VariantId) → NamesVariant g.body e v → IsVariant g.scope.facts v
   pub patterns : (p : PatId) (v : VariantId) → IsVariantPat g.body p v → IsVariant g.scope.facts v
-  pub callees : (n called : ExprId) (args : List ExprId) (v : VariantId) → slice_get g.body.exprs n.0 ≡ Some (expr.Call called args) → NamesVariant g.body called v → IsItem g.scope.facts (callable.VariantId v)
+  pub items : (id : CallableDefId) (σ : Signature) → signature_of g.scope.facts id ≡ Some σ → IsItem g.scope.facts id
 
 -- the laws of the body, and room for the clock
 pub record IsReady (g : Given) (s : Schedule) : Type 0 where
@@ -151,15 +150,6 @@ IsMatchOf b e d arms = slice_get b.exprs e.0 ≡ Some (expr.Match d arms)
 abbrev pub IsCallOf : RawBody → ExprId → ExprId → List ExprId → Type 0
 IsCallOf b e called args = slice_get b.exprs e.0 ≡ Some (expr.Call called args)
 
--- the expression is a path to this item
-abbrev pub NamesItem : RawBody → ExprId → CallableDefId → Type 0
-NamesItem b e id = (p : RawPath) × (slice_get b.exprs e.0 ≡ Some (expr.Path p)) × (names_item p ≡ Some id)
-
--- it is a path to an item, which exists
-pub record IsCalleeOf (g : Given) (e : ExprId) : Type 0 where
-  pub is_path : IsItemAt g.body e
-  pub items : (id : CallableDefId) → NamesItem g.body e id → IsItem g.scope.facts id
-
 -- the path names a local of this type, or a function or a constructor at as many types as it has parameters
 abbrev pub IsPathType : Given → InferenceResult → RawPath → Ty → Type 0
 IsPathType g r (path.Local v) t = BindingTy r v t
@@ -201,11 +191,30 @@ pub record BeforeArgs (g : Given) (s : Schedule) (n called : ExprId) (args : Lis
   pub ahead : LieAhead g.body s (inner (node.ExprId n)) c.clock (exprs_from argument 0 args)
   pub ends : after g.body s c.clock (exprs_from argument 0 args) ≡ expr_end g.body s n
 
--- they are at these types, or there are not as many, which is said
+-- they are at these types, or there are not as many, which is said unless what is called was seen to be no function
 pub record ArgsDone (g : Given) (s : Schedule) (n : ExprId) (args : List ExprId) (ss : List Ty) (old new : Found) : Type 0 where
   pub walks : Walks g s Nothing old new
   pub clock : new.clock ≡ expr_end g.body s n
-  pub made : ArgsRule (at_or_mismatch g new.result) n args ss
+  pub made : ArgsRule (at_or_mismatch g new.result) n args ss ⊎ WasSeen new.result n
+
+-- The arguments of the call n lie ahead, and nothing is asked of them.
+pub record BeforeLoose (g : Given) (s : Schedule) (n called : ExprId) (args : List ExprId) (c : Found) : Type 0 where
+  pub ready : IsReady g s
+  pub state : IsWalked g s c
+  pub is_call : IsCallOf g.body n called args
+  pub within : n.0 < length g.body.exprs
+  pub ahead : LieAhead g.body s (inner (node.ExprId n)) c.clock (exprs_from argument 0 args)
+  pub ends : after g.body s c.clock (exprs_from argument 0 args) ≡ expr_end g.body s n
+
+-- and what is called has this type
+pub record BeforeUncallable (g : Given) (s : Schedule) (n called : ExprId) (args : List ExprId) (t : Ty) (c : Found) : Type 0 where
+  pub loose : BeforeLoose g s n called args c
+  pub has : HasTy c.result called t
+
+-- they are typed
+pub record LooseDone (g : Given) (s : Schedule) (n : ExprId) (old new : Found) : Type 0 where
+  pub walks : Walks g s Nothing old new
+  pub clock : new.clock ≡ expr_end g.body s n
 
 -- ---- patterns
 
@@ -285,15 +294,28 @@ pub record StmtDone (g : Given) (s : Schedule) (x : RawStmt) (old new : Found) :
   pub clock : new.clock ≡ after g.body s old.clock (stmt_parts x)
   pub made : StmtRule (at_or_mismatch g new.result) g new.result x
 
--- the type that is written, where one is
-abbrev pub declared_type : Given → Option TypeRefId → Option Ty
-declared_type g w = option_map (λ t. written_type g.scope.facts.types t) w
+-- the written type of a `let` stands for t, and for each `_` in it the type is recorded that it stands for
+pub record BodyTyDone (g : Given) (s : Schedule) (w : TypeRefId) (t : Ty) (old new : Found) : Type 0 where
+  pub walks : Walks g s Nothing old new
+  pub clock : new.clock ≡ old.clock
+  pub is : t ≡ declared g new.result w
+  pub recorded : AreRecorded g new.result w
 
--- the initializer of a `let` with this written type has the type t, or is at the written one
+-- the type that is written, where one is
+abbrev pub declared_type : Given → InferenceResult → Option TypeRefId → Option Ty
+declared_type g r w = option_map (λ t. declared g r t) w
+
+-- for each `_` in the written type, where there is one, a type is recorded
+abbrev pub MaybeRecorded : Given → InferenceResult → Option TypeRefId → Type 0
+MaybeRecorded g r None = Unit {0}
+MaybeRecorded g r (Some w) = AreRecorded g r w
+
+-- the initializer of a `let` with this written type has the type t, or is at what the written one stands for
 pub record InitDone (g : Given) (s : Schedule) (w : Option TypeRefId) (e : ExprId) (t : Ty) (old new : Found) : Type 0 where
   pub walks : Walks g s Nothing old new
   pub clock : new.clock ≡ expr_end g.body s e
-  pub placed : IsPlaced new.result e (declared_type g w) t
+  pub recorded : MaybeRecorded g new.result w
+  pub placed : IsPlaced new.result e (declared_type g new.result w) t
 
 -- ---- coercions
 

@@ -13,13 +13,17 @@ use Rattle.infer_result.specs.declared.result.InferenceResult.{InferenceResult}
 use Rattle.infer_result.specs.declared.result.TypeMismatch.{TypeMismatch}
 use Rattle.infer_result.specs.declared.modes.BindingMode.{BindingMode}
 use Rattle.infer_result.specs.declared.diagnostics.InferenceDiagnostic.{InferenceDiagnostic}
-use Rattle.infer_result.specs.Table.{At, HasTy, PatTy, BindingTy, HasMode, ExprVariant, PatVariant}
+use Rattle.infer_result.specs.declared.result.Seen.{Seen}
+use Rattle.infer_result.specs.Table.{At, HasTy, PatTy, BindingTy, PlaceholderTy, HasMode, ExprVariant, PatVariant, WasSeen}
 use Rattle.infer_result.specs.Closed.{IsOfBody, AllTypes, OnlyBindersHaveModes}
 use Rattle.hir_facts.specs.CarriedTypes.{IsCarriedType}
-use Rattle.infer_result.specs.Places.{Given, Demand}
+use Rattle.hir_types.specs.Subst.{folded}
+use Rattle.hir_facts.specs.declared.raw.RawExpr.TheVariants as expr
+use Rattle.infer_result.specs.Places.{Given, HasPlaceholders, Demand}
 use Rattle.infer_result.specs.Rules.Expressions.{ObeysOrMismatch}
 use Rattle.infer_result.specs.Rules.Patterns.{PatRule}
 use Rattle.infer_result.specs.Truth.Mismatch.{IsTruePatMismatch}
+use Rattle.infer_result.specs.Truth.Seen.{IsTrueSeen, IsSaid}
 use Rattle.infer_result.specs.Truth.Calls.{IsTrueDiagnostic, IsTruePatDiagnostic}
 use Rattle.infer_result.specs.Made.{IsMisfit}
 use Rattle.infer_expr.specs.Found.{Found, RecordsVariants}
@@ -41,7 +45,7 @@ pat_end b s p = end b s (inner (node.PatId p))
 abbrev pub IsFree : {A : Type 0} → List (Option A) → ℕ → Type 0
 IsFree xs n = slice_get xs n ≡ Some None
 
--- what was recorded stays
+-- what was recorded stays; another complaint may give way where a look-up failed
 pub record Extends (old new : InferenceResult) : Type 0 where
   pub exprs : (e : ExprId) (t : Ty) → HasTy old e t → HasTy new e t
   pub pats : (p : PatId) (t : Ty) → PatTy old p t → PatTy new p t
@@ -49,7 +53,9 @@ pub record Extends (old new : InferenceResult) : Type 0 where
   pub modes : (p : PatId) (m : BindingMode) → HasMode old p m → HasMode new p m
   pub mismatches : (e : ExprId) (m : TypeMismatch) → At old.expr_mismatches e.0 m → At new.expr_mismatches e.0 m
   pub pat_mismatches : (p : PatId) (m : TypeMismatch) → At old.pat_mismatches p.0 m → At new.pat_mismatches p.0 m
-  pub diagnostics : (e : ExprId) (d : InferenceDiagnostic) → At old.expr_diagnostics e.0 d → At new.expr_diagnostics e.0 d
+  pub placeholders : (k : ℕ) (t : Ty) → PlaceholderTy old k t → PlaceholderTy new k t
+  pub diagnostics : (e : ExprId) (d : InferenceDiagnostic) → At old.expr_diagnostics e.0 d → At new.expr_diagnostics e.0 d ⊎ WasSeen new e
+  pub seen : (e : ExprId) → WasSeen old e → WasSeen new e
   pub pat_diagnostics : (p : PatId) (d : InferenceDiagnostic) → At old.pat_diagnostics p.0 d → At new.pat_diagnostics p.0 d
   pub expr_variants : (e : ExprId) (v : VariantId) → ExprVariant old e v → ExprVariant new e v
   pub pat_variants : (p : PatId) (v : VariantId) → PatVariant old p v → PatVariant new p v
@@ -58,8 +64,14 @@ pub record Extends (old new : InferenceResult) : Type 0 where
 abbrev pub IsCarriedTable : InferenceResult → Type 0
 IsCarriedTable t = AllTypes IsCarriedType t
 
+-- What is kept of the look-up is so and is said, and the type that is recorded is the one that was looked at, holes closed.
+pub record IsSeenAs (g : Given) (c : Found) (x : Seen) : Type 0 where
+  pub is_true : IsTrueSeen g c.result x
+  pub is_said : IsSaid g c.result x
+  pub recorded : (call called : ExprId) (args : List ExprId) → x.node ≡ node.ExprId call → slice_get g.body.exprs call.0 ≡ Some (expr.Call called args) → HasTy c.result called (folded c.holes x.ty)
+
 -- The state of the walk: each type is of a carried kind, what has a mode binds a name, each complaint other than a mismatch is true, the
--- constructors that are named are recorded, nothing is
+-- constructors that are named are recorded, a type is recorded for a `_` alone, each look-up that failed is so and is said, nothing is
 -- recorded at a node from the clock on, and each binding whose pattern comes before it has a type.
 pub record IsWalked (g : Given) (s : Schedule) (c : Found) : Type 0 where
   pub of_body : IsOfBody g.body c.result
@@ -73,6 +85,8 @@ pub record IsWalked (g : Given) (s : Schedule) (c : Found) : Type 0 where
   pub diagnostics : (e : ExprId) (d : InferenceDiagnostic) → At c.result.expr_diagnostics e.0 d → IsTrueDiagnostic g c.result e d
   pub pat_diagnostics : (p : PatId) (d : InferenceDiagnostic) → At c.result.pat_diagnostics p.0 d → IsTruePatDiagnostic g p d
   pub variants : RecordsVariants g.body c.result
+  pub placeholders : HasPlaceholders g c.result
+  pub seen : (i : ℕ) (x : Seen) → slice_get c.result.seen i ≡ Some x → IsSeenAs g c x
 
 -- a property of mismatches and the expressions that they stand at: what the places of these have still to show
 abbrev pub Debt : Type 1

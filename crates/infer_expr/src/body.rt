@@ -21,7 +21,7 @@ impl InferenceContext {
         requires count { length given.now.inputs.now ≡ length given.now.body.now.params }
         requires carried { IsCarriedType given.now.return_ty.now }
         requires heads { HasFineHeads (scope_in given.now) given.now.return_ty.now }
-        requires empty { self.old ≡ empty_context given.now.body.now }
+        requires empty { self.old ≡ empty_context given.now.facts.now.types given.now.body.now }
         ensures { IfOk result (λ _. BodyDone (given_of given.now) self.new) }
     {
         let root = given.body.root;
@@ -43,7 +43,7 @@ impl InferenceContext {
     {
         let params = given.body.params.as_slice();
         for i in 0..params.len() {
-            let ty = given.make_body_ty(alloc, given.inputs[i])?;
+            let ty = given.lower_ty(alloc, given.inputs[i])?;
             self.infer_top_pat(alloc, given, params[i], Some(ty))?;
         }
         Ok(())

@@ -1,39 +1,21 @@
 //! The types of calls.
-ghost use Rattle.std.specs.Prelude.{◌≡◌, ◌<◌, IfOk, length};
-ghost use Rattle.hir_facts.specs.CarriedBodies.{IsItemAt};
+ghost use Rattle.std.specs.Prelude.{◌≡◌, IfOk, length};
 ghost use Rattle.infer_result.specs.Closed.{IsOfBody};
 ghost use Rattle.infer_expr.specs.Closings.{IsSound};
 ghost use Rattle.infer_expr.specs.Context.{given_of, scope_in, schedule_of};
 ghost use Rattle.infer_expr.specs.Fine.{IsFine};
-ghost use Rattle.infer_expr.specs.Under.{IsCallOf, NamesItem, IsCalleeOf};
-ghost use Rattle.infer_expr.specs.Steps.{Before, Within, KindDone, CalleeDone, BeforeArgs, BeforeInputs, ArgsDone, OnlyBinds};
+ghost use Rattle.infer_expr.specs.Under.{IsCallOf};
+ghost use Rattle.infer_expr.specs.Steps.{Before, Within, KindDone, CalleeTyped, BeforeCall, BeforeInputs, ArgsDone, BeforeUncallable, BeforeLoose, LooseDone, OnlyBinds};
 
 use crate::context::InferenceContext;
 use crate::expectation::Expectation;
 use crate::given::{CallableSig, GivenBody};
-use hir_facts::{ExprId, RawExpr, RawPath, Ty};
-use hir_types::CallableDefId;
-use infer_result::InferenceDiagnostic;
+use hir_facts::{ExprId, ExprOrPatId, Ty};
+use infer_result::{InferenceDiagnostic, Seen};
 use std::alloc::{AllocError, Global};
 
-/// The function or constructor that an expression is a path to.
-fn called_item(given: &GivenBody, callee: ExprId) -> CallableDefId
-    requires within { callee.0 < length given.now.body.now.exprs }
-    requires names { IsItemAt given.now.body.now callee }
-    ensures { NamesItem given.now.body.now callee result }
-{
-    match &given.body.exprs.as_slice()[callee.0 as usize] {
-        RawExpr::Path(path) => match *path {
-            RawPath::Function(function) => CallableDefId::FunctionId(function),
-            RawPath::Ctor(variant) => CallableDefId::VariantId(variant),
-            RawPath::Local(_) | RawPath::Other => unreachable!(),
-        },
-        _ => unreachable!(),
-    }
-}
-
 impl InferenceContext {
-    /// The type of a call of a function: `infer/expr.rs`, `infer_call`. What is called is typed first.
+    /// The type of a call: `infer/expr.rs`, `infer_call`.
     #[cycle(infer)]
     pub fn infer_call(
         &mut self,
@@ -53,46 +35,78 @@ impl InferenceContext {
         Ok(ty)
     }
 
-    /// Types what is called, which is a path to a function or a constructor.
+    /// Types what is called: its type, as far as it is known.
+    #[cycle(infer)]
     fn infer_callee(
         &mut self,
         alloc: Global,
         given: &GivenBody,
         callee: ExprId,
     ) -> Result<Ty, AllocError>
-        requires before { Before (given_of given.now) (schedule_of given.now) callee None self.old }
-        requires names { IsCalleeOf (given_of given.now) callee }
-        ensures { IfOk result (λ ty. CalleeDone (given_of given.now) (schedule_of given.now)
+        requires { Before (given_of given.now) (schedule_of given.now) callee None self.old }
+        ensures { IfOk result (λ ty. CalleeTyped (given_of given.now) (schedule_of given.now)
             callee ty self.old self.new) }
     {
-        let item = called_item(given, callee);
-        self.enter();
-        let args = self.fresh_args_for_item(alloc, given, given.params_of_item(item))?;
-        let ty = Ty::FnDef(item, args);
-        let recorded = ty.dup(alloc)?;
-        self.write_expr_ty(callee, recorded);
-        Ok(ty)
+        let callee_ty = self.infer_expr_inner(alloc, given, callee, Expectation::None)?;
+        // Each hole that a binding names was made.
+        self.table.lawful();
+        let resolved = self.table.resolve(&callee_ty)?;
+        Ok(resolved)
     }
 
-    /// The type of a call of what has this type, once its arguments are checked: `infer/expr.rs`,
-    /// `check_call`.
+    /// The type of a call of what has this type: `infer/expr.rs`, `check_call`.
     #[cycle(infer)]
     fn check_call(
         &mut self,
         alloc: Global,
         given: &GivenBody,
-        tgt_expr: ExprId,
+        call_expr: ExprId,
         args: &[ExprId],
         callee_ty: &Ty,
     ) -> Result<Ty, AllocError>
-        requires { BeforeArgs (given_of given.now) (schedule_of given.now)
-            tgt_expr args.now callee_ty.now self.old }
+        requires { BeforeCall (given_of given.now) (schedule_of given.now)
+            call_expr args.now callee_ty.now self.old }
         ensures { IfOk result (λ ty. KindDone (given_of given.now) (schedule_of given.now)
-            tgt_expr None ty self.old self.new) }
+            call_expr None ty self.old self.new) }
     {
-        let CallableSig { inputs, output } = given.callable_sig(alloc, callee_ty)?;
-        self.check_call_arguments(alloc, given, tgt_expr, args, inputs.as_slice())?;
-        Ok(output)
+        match given.callable_sig(alloc, callee_ty)? {
+            Some(CallableSig { inputs, output }) => {
+                self.check_call_arguments(alloc, given, call_expr, args, inputs.as_slice())?;
+                Ok(output)
+            }
+            None => {
+                let ty = self.infer_uncallable(alloc, given, call_expr, args, callee_ty)?;
+                Ok(ty)
+            }
+        }
+    }
+
+    /// The type of a call of what has this type, which is no function: any. That it is none is kept, and
+    /// said in the end unless `{unknown}` stands in the type then; of the arguments nothing is
+    /// expected. This is `infer/expr.rs`'s `infer_call` where there is no `callable_sig`.
+    #[cycle(infer)]
+    fn infer_uncallable(
+        &mut self,
+        alloc: Global,
+        given: &GivenBody,
+        call_expr: ExprId,
+        args: &[ExprId],
+        callee_ty: &Ty,
+    ) -> Result<Ty, AllocError>
+        requires { BeforeUncallable (given_of given.now) (schedule_of given.now)
+            call_expr args.now callee_ty.now self.old }
+        ensures { IfOk result (λ ty. KindDone (given_of given.now) (schedule_of given.now)
+            call_expr None ty self.old self.new) }
+    {
+        let seen_ty = callee_ty.dup(alloc)?;
+        self.note_seen(Seen {
+            node: ExprOrPatId::ExprId(call_expr),
+            ty: seen_ty,
+            other: None,
+        })?;
+        self.infer_arguments(alloc, given, call_expr, args, &[])?;
+        let ty = self.table.next_ty_var()?;
+        Ok(ty)
     }
 
     /// Types the arguments of a call, which are to be at these types. Where there are not as many, that
@@ -165,6 +179,26 @@ impl InferenceContext {
                 found: args.len(),
             },
         );
+        self.infer_arguments(alloc, given, call_expr, args, inputs)?;
+        Ok(())
+    }
+
+    /// Types the arguments of a call, of which nothing is expected. What these types tell of the first
+    /// of them is learnt where the two can be made equal.
+    #[cycle(infer)]
+    fn infer_arguments(
+        &mut self,
+        alloc: Global,
+        given: &GivenBody,
+        call_expr: ExprId,
+        args: &[ExprId],
+        inputs: &[Ty],
+    ) -> Result<(), AllocError>
+        requires { BeforeLoose (given_of given.now) (schedule_of given.now)
+            call_expr args.now inputs.now self.old }
+        ensures { IfOk result (λ _. LooseDone (given_of given.now) (schedule_of given.now)
+            call_expr self.old self.new) }
+    {
         for i in 0..args.len() {
             let ty = self.infer_expr_inner(alloc, given, args[i], Expectation::None)?;
             if i < inputs.len() {

@@ -4,10 +4,13 @@ ghost use Rattle.infer_result.specs.Table.{MismatchAt};
 ghost use Rattle.infer_expr.specs.Found.{noted, path_variant, expr_variant, pat_variant};
 ghost use Rattle.infer_expr.specs.Walks.{IsFree};
 ghost use Rattle.infer_expr.specs.Steps.{IsUnasked};
-ghost use Rattle.infer_expr.specs.Context.{empty_context, entered, with_expr_ty, with_mismatch, with_asked, with_diagnostic, with_pat_mismatch, with_pat_diagnostic, with_pat_ty, with_mode, with_binding_ty};
+ghost use Rattle.infer_expr.specs.Context.{empty_context, with_placeholder_ty, with_seen, entered, with_expr_ty, with_mismatch, with_asked, with_diagnostic, with_pat_mismatch, with_pat_diagnostic, with_pat_ty, with_mode, with_binding_ty};
 
-use hir_facts::{BindingId, ExprId, List, PatId, RawBody, RawExpr, RawPat, RawPath, Ty, VariantId};
-use infer_result::{BindingMode, InferenceDiagnostic, InferenceResult, TypeMismatch};
+use hir_facts::{
+    BindingId, ExprId, Facts, List, PatId, RawBody, RawExpr, RawPat, RawPath, Ty, TypeRefId,
+    VariantId,
+};
+use infer_result::{BindingMode, InferenceDiagnostic, InferenceResult, Seen, TypeMismatch};
 use infer_table::InferenceTable;
 use std::alloc::{AllocError, Global};
 
@@ -101,13 +104,14 @@ fn note<T: Drop>(entries: &mut List<Option<T>>, at: u32, entry: T)
 
 impl InferenceContext {
     /// Nothing is found out yet: `infer.rs`, `InferenceContext::new`.
-    pub fn new(alloc: Global, body: &RawBody) -> Result<InferenceContext, AllocError>
-        ensures { IfOk result (λ context. context ≡ empty_context body.now) }
+    pub fn new(alloc: Global, facts: &Facts, body: &RawBody) -> Result<InferenceContext, AllocError>
+        ensures { IfOk result (λ context. context ≡ empty_context facts.now.types body.now) }
     {
         let result = InferenceResult {
             type_of_expr: no_entries(alloc, body.exprs.len())?,
             type_of_pat: no_entries(alloc, body.pats.len())?,
             type_of_binding: no_entries(alloc, body.bindings.len())?,
+            type_of_placeholder: no_entries(alloc, facts.types().len())?,
             binding_modes: no_entries(alloc, body.pats.len())?,
             expr_mismatches: no_entries(alloc, body.exprs.len())?,
             expr_diagnostics: no_entries(alloc, body.exprs.len())?,
@@ -115,6 +119,7 @@ impl InferenceContext {
             pat_diagnostics: no_entries(alloc, body.pats.len())?,
             expr_variants: expr_variants(alloc, body)?,
             pat_variants: pat_variants(alloc, body)?,
+            seen: List::new(alloc),
         };
         Ok(InferenceContext {
             result,
@@ -216,6 +221,24 @@ impl InferenceContext {
         ensures { self.new ≡ with_mode self.old pat mode }
     {
         self.result.binding_modes.set(pat.0 as usize, Some(mode));
+    }
+
+    /// Records the type that a `_` stands for: `infer.rs`, `write_type_placeholder_ty`.
+    pub fn write_type_placeholder_ty(&mut self, type_ref: TypeRefId, ty: Ty)
+        requires { type_ref.0 < length self.old.result.type_of_placeholder }
+        ensures { self.new ≡ with_placeholder_ty self.old type_ref.0 ty }
+    {
+        self.result
+            .type_of_placeholder
+            .set(type_ref.0 as usize, Some(ty));
+    }
+
+    /// Keeps a look-up that failed. That it did is said in the end, unless `{unknown}` stands in its
+    /// type then.
+    pub fn note_seen(&mut self, seen: Seen) -> Result<(), AllocError>
+        ensures { IfOk result (λ _. self.new ≡ with_seen self.old seen) }
+    {
+        self.result.seen.push(seen)
     }
 
     /// Records the type of a binding: `infer.rs`, `write_binding_ty`.

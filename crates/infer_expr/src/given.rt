@@ -3,9 +3,8 @@ ghost use Rattle.std.specs.Prelude.{◌≡◌, ◌<◌, IfOk, List, Some, length
 ghost use Rattle.hir_facts.specs.Types.{written_type};
 ghost use Rattle.hir_facts.specs.declared.raw.RawFn.{RawFn};
 ghost use Rattle.hir_facts.specs.declared.raw.RawVariant.{RawVariant};
-ghost use Rattle.hir_facts.specs.Scope.{callable_params};
-ghost use Rattle.infer_expr.specs.Under.{IsItem};
-ghost use Rattle.infer_expr.specs.Callables.{written_at, field_at, IsFnSig, IsCtorSig, IsCallableItem, IsSigOfItem};
+ghost use Rattle.hir_types.specs.declared.ty.Ty.TheVariants as ty;
+ghost use Rattle.infer_expr.specs.Callables.{written_at, field_at, IsFnSig, IsCtorSig, IsCallableItem, IsSigOfItem, ItemsAreCallable, IsSigIfItem};
 
 use hir_facts::{
     DefWithBodyId, Facts, FunctionId, List, RawBody, Schedule, Ty, TypeRefId, VariantId, lower_ty,
@@ -61,45 +60,52 @@ fn dup_args(alloc: Global, args: &List<GenericArg>) -> Result<List<GenericArg>, 
 }
 
 impl GivenBody<'_> {
-    /// The type that a written type stands for: `infer.rs`, `make_body_ty`.
-    pub fn make_body_ty(&self, alloc: Global, type_ref: TypeRefId) -> Result<Ty, AllocError>
+    /// The type that a written type stands for in which no `_` stands: `hir-ty`'s `lower_ty`.
+    pub fn lower_ty(&self, alloc: Global, type_ref: TypeRefId) -> Result<Ty, AllocError>
         requires { type_ref.0 < length self.now.facts.now.types }
         ensures { IfOk result (λ ty. ty ≡ written_type self.now.facts.now.types type_ref) }
     {
         lower_ty(alloc, self.facts, type_ref)
     }
 
-    /// How many parameters an item has; those of a constructor are its adt's.
-    pub fn params_of_item(&self, item: CallableDefId) -> usize
-        requires { IsItem self.now.facts.now item }
-        ensures { callable_params self.now.facts.now item ≡ Some result }
+    /// What a function item takes and gives; `None` where the type is none: `next_solver/ty.rs`,
+    /// `callable_sig`.
+    pub fn callable_sig(
+        &self,
+        alloc: Global,
+        callee_ty: &Ty,
+    ) -> Result<Option<CallableSig>, AllocError>
+        requires { ItemsAreCallable self.now.facts.now callee_ty.now }
+        ensures { IfOk result (λ sig. IsSigIfItem self.now.facts.now callee_ty.now sig) }
     {
-        match item {
-            CallableDefId::FunctionId(function) => self.facts.fn_(function).params.len(),
-            CallableDefId::VariantId(variant) => {
-                let adt = self.facts.variant(variant).adt;
-                self.facts.adt(adt).params.len()
+        match callee_ty {
+            Ty::FnDef(id, args) => {
+                let sig = self.item_sig(alloc, *id, args)?;
+                Ok(Some(sig))
             }
+            _ => Ok(None),
         }
     }
 
-    /// What a function item takes and gives: `next_solver/ty.rs`, `callable_sig`.
-    pub fn callable_sig(&self, alloc: Global, callee_ty: &Ty) -> Result<CallableSig, AllocError>
-        requires { IsCallableItem self.now.facts.now callee_ty.now }
-        ensures { IfOk result (λ sig. IsSigOfItem self.now.facts.now callee_ty.now sig) }
+    /// What an item takes and gives, with these arguments in the place of its parameters.
+    fn item_sig(
+        &self,
+        alloc: Global,
+        item: CallableDefId,
+        args: &List<GenericArg>,
+    ) -> Result<CallableSig, AllocError>
+        requires { IsCallableItem self.now.facts.now (ty.FnDef item args.now) }
+        ensures { IfOk result (λ sig. IsSigOfItem self.now.facts.now (ty.FnDef item args.now) sig) }
     {
-        match callee_ty {
-            Ty::FnDef(id, args) => match *id {
-                CallableDefId::FunctionId(function) => {
-                    let sig = self.fn_sig(alloc, function, args)?;
-                    Ok(sig)
-                }
-                CallableDefId::VariantId(variant) => {
-                    let sig = self.ctor_sig(alloc, variant, args)?;
-                    Ok(sig)
-                }
-            },
-            _ => unreachable!(),
+        match item {
+            CallableDefId::FunctionId(function) => {
+                let sig = self.fn_sig(alloc, function, args)?;
+                Ok(sig)
+            }
+            CallableDefId::VariantId(variant) => {
+                let sig = self.ctor_sig(alloc, variant, args)?;
+                Ok(sig)
+            }
         }
     }
 

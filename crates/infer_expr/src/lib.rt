@@ -3,6 +3,7 @@
 
 mod block;
 mod body;
+mod body_ty;
 mod branch;
 mod call;
 mod coerce;

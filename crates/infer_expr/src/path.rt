@@ -4,6 +4,7 @@ ghost use Rattle.hir_facts.specs.declared.raw.RawPath.TheVariants as path;
 ghost use Rattle.infer_result.specs.Closed.{IsOfBody};
 ghost use Rattle.infer_expr.specs.Closings.{IsSound};
 ghost use Rattle.infer_expr.specs.Context.{given_of, scope_in};
+ghost use Rattle.infer_expr.specs.Tells.{TellsRecorded};
 ghost use Rattle.infer_expr.specs.Under.{NamesTyped, IsVariant};
 ghost use Rattle.infer_expr.specs.Steps.{PathDone, AreFreshArgs};
 
@@ -24,6 +25,7 @@ impl InferenceContext {
     ) -> Result<Ty, AllocError>
         requires of_body { IsOfBody given.now.body.now self.old.result }
         requires sound { IsSound (scope_in given.now) self.old }
+        requires told { TellsRecorded (given_of given.now) self.old.result }
         requires names { NamesTyped (given_of given.now) self.old.result path }
         ensures { IfOk result (λ ty. PathDone (given_of given.now) path ty self.old self.new) }
     {

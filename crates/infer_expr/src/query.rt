@@ -35,7 +35,7 @@ pub fn infer_query_with_inspect<I: ObligationInspector>(
         inputs: facts.inputs(def),
         return_ty: &return_ty,
     };
-    let mut context = InferenceContext::new(alloc, body)?;
+    let mut context = InferenceContext::new(alloc, facts, body)?;
     context.infer_body(alloc, &given)?;
     let table = context.resolve_all(alloc)?;
     Ok(table)

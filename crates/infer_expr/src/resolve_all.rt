@@ -1,5 +1,5 @@
 //! The table of a body whose types have no holes.
-ghost use Rattle.std.specs.Prelude.{◌≡◌, IfOk, Some, option_map, map};
+ghost use Rattle.std.specs.Prelude.{◌≡◌, IfOk, OnOk, Some, option_map, map};
 ghost use Rattle.std.specs.Option.{option_copied};
 ghost use Rattle.hir_types.specs.Terms.{terms_of};
 ghost use Rattle.hir_types.specs.Subst.{folded};
@@ -7,10 +7,11 @@ ghost use Rattle.infer_table.specs.Completion.{completion};
 ghost use Rattle.infer_table.specs.Solutions.{Respects};
 ghost use Rattle.infer_table.specs.Table.{Meets};
 ghost use Rattle.infer_expr.specs.Closings.{closed_types, closed_mismatch, closed_mismatches, closed_table, asked_or_noted, entry_of};
+ghost use Rattle.infer_expr.specs.Said.{said, said_of};
 
 use crate::context::InferenceContext;
-use hir_facts::{List, Ty};
-use infer_result::{InferenceResult, TypeMismatch};
+use hir_facts::{ExprOrPatId, List, Ty};
+use infer_result::{InferenceDiagnostic, InferenceResult, Seen, TypeMismatch, references_error};
 use infer_table::InferenceTable;
 use std::alloc::{AllocError, Global};
 
@@ -124,10 +125,46 @@ fn resolve_mismatches(
     Ok(resolved)
 }
 
+/// Says of a look-up that failed at a call that what is called is no function, with the type that it
+/// has in the end, unless `{unknown}` stands in that. This is what `infer.rs`'s `resolve_all` does with
+/// `InferenceDiagnostic::ExpectedFunction`.
+fn report_failure(
+    table: &InferenceTable,
+    seen: &Seen,
+    diagnostics: &mut List<Option<InferenceDiagnostic>>,
+) -> Result<(), AllocError>
+    ensures { OnOk result (diagnostics.new ≡ said_of (completion table.now) diagnostics.old seen.now) }
+{
+    let ExprOrPatId::ExprId(call_expr) = seen.node else {
+        return Ok(());
+    };
+    let found = table.resolve_completely(&seen.ty)?;
+    let at = call_expr.0 as usize;
+    if !references_error(&found) && at < diagnostics.len() {
+        let diagnostic = InferenceDiagnostic::ExpectedFunction { call_expr, found };
+        diagnostics.set(at, Some(diagnostic));
+    }
+    Ok(())
+}
+
+/// Says it of each look-up that failed, in their order.
+fn report_failures(
+    table: &InferenceTable,
+    seen: &List<Seen>,
+    diagnostics: &mut List<Option<InferenceDiagnostic>>,
+) -> Result<(), AllocError>
+    ensures { OnOk result (diagnostics.new ≡ said (completion table.now) seen.now diagnostics.old) }
+{
+    for seen in seen.as_slice() {
+        report_failure(table, seen, diagnostics)?;
+    }
+    Ok(())
+}
+
 impl InferenceContext {
     /// The table, once the body is typed: each type with what its holes are bound to, holes of
-    /// integer types that are still open with `i32`, and all others with `{unknown}`. This is
-    /// `infer.rs`'s `resolve_all`.
+    /// integer types that are still open with `i32`, and all others with `{unknown}`, and what is
+    /// said then of the look-ups that failed. This is `infer.rs`'s `resolve_all`.
     pub fn resolve_all(self, alloc: Global) -> Result<InferenceResult, AllocError>
         ensures closed { IfOk result (λ made. made ≡ closed_table (completion self.table) self.asked self.result) }
         ensures meets { Meets (terms_of (completion self.table)) self.table }
@@ -139,8 +176,10 @@ impl InferenceContext {
         result.type_of_expr = resolve_tys(alloc, table, &result.type_of_expr)?;
         result.type_of_pat = resolve_tys(alloc, table, &result.type_of_pat)?;
         result.type_of_binding = resolve_tys(alloc, table, &result.type_of_binding)?;
+        result.type_of_placeholder = resolve_tys(alloc, table, &result.type_of_placeholder)?;
         let noted = result.expr_mismatches.as_slice();
         result.expr_mismatches = resolve_expr_mismatches(alloc, table, &self.asked, noted)?;
+        report_failures(table, &result.seen, &mut result.expr_diagnostics)?;
         result.pat_mismatches = resolve_mismatches(alloc, table, &result.pat_mismatches)?;
         Ok(result)
     }

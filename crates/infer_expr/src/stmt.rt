@@ -82,7 +82,7 @@ impl InferenceContext {
     {
         match type_ref {
             Some(type_ref) => {
-                let ty = given.make_body_ty(alloc, type_ref)?;
+                let ty = self.make_body_ty(alloc, given, type_ref)?;
                 self.infer_top_pat(alloc, given, pat, Some(ty))?;
                 Ok(())
             }
@@ -112,7 +112,7 @@ impl InferenceContext {
     {
         match type_ref {
             Some(type_ref) => {
-                let decl_ty = given.make_body_ty(alloc, type_ref)?;
+                let decl_ty = self.make_body_ty(alloc, given, type_ref)?;
                 let expected = Expectation::HasType(&decl_ty);
                 let ty = self.infer_expr_coerce(alloc, given, initializer, expected)?;
                 Ok(ty)

@@ -1,4 +1,4 @@
-use Rattle.std.proofs.Common.{arith, ◌+◌, ◌<◌, ◌≡◌, ◌∙◌, inr, ap, false, true, refl, sym, subst, Some, slice_get, length}
+use Rattle.std.proofs.Common.{arith, ◌+◌, ◌<◌, ◌≡◌, ◌∙◌, inr, ap, false, true, refl, sym, subst, Some, slice_get, length, None, []}
 use Rattle.std.proofs.lemmas.Option.{slice_get_read}
 use Rattle.std.proofs.lemmas.List.{get_or_default}
 use Rattle.hir_types.specs.declared.ty.Ty.TheVariants as ty
@@ -8,15 +8,15 @@ use Rattle.hir_facts.specs.declared.raw.RawExpr.TheVariants as expr
 use Rattle.hir_facts.specs.declared.raw.RawPat.TheVariants as pat
 use Rattle.hir_facts.specs.Order.{inner}
 use Rattle.hir_types.specs.declared.ids.ExprOrPatId.TheVariants as node
+use Rattle.infer_expr.specs.Callables.{IsSigIfItem}
 use Rattle.infer_expr.specs.Closings.{IsSound}
 use Rattle.infer_expr.specs.Fine.{IsFine, IsFineExpectation}
 use Rattle.infer_table.specs.Table.{hole_count}
-use Rattle.infer_expr.specs.Context.{given_of, scope_in, schedule_of, expected_type, entered, with_expr_ty}
-use Rattle.infer_expr.specs.Under.{declared_type}
-use Rattle.infer_expr.specs.Steps.{Before, Within, OwnDone, KindDone, CoerceDone, StmtDone, BeforeStmt, BeforePat, PatDone, IsGivenOrNew, BeforeInputs, OnlyBinds, IsCoerced}
+use Rattle.infer_expr.specs.Context.{given_of, scope_in, schedule_of, expected_type, entered, with_expr_ty, with_seen}
+use Rattle.infer_expr.specs.Steps.{Before, Within, OwnDone, KindDone, CoerceDone, StmtDone, BeforeStmt, BeforePat, PatDone, InitDone, IsGivenOrNew, BeforeInputs, BeforeLoose, LooseDone, OnlyBinds, IsCoerced}
 use Rattle.infer_expr.proofs.Expressions.{comes_within, own_done, coerced_done, literal_kind}
 use Rattle.infer_expr.proofs.PathWalk.{path_typed, path_kind}
-use Rattle.infer_expr.proofs.StmtWalk.{let_written, comes_to_init, init_walked, comes_to_pat, let_walked, comes_to_bare_pat, bare_let_walked, expr_walked}
+use Rattle.infer_expr.proofs.StmtWalk.{comes_to_body_ty, comes_to_written_init, written_init_walked, comes_to_pat, let_walked, comes_to_written_pat, written_let_walked, comes_to_bare_pat, expr_walked}
 use Rattle.infer_expr.proofs.Closed.{sound_entered}
 use Rattle.infer_expr.proofs.FineTypes.{fine_expectation_grown}
 use Rattle.infer_expr.proofs.PatHoles.{fine_tuple_of}
@@ -28,10 +28,12 @@ use Rattle.infer_expr.proofs.BlockWalk.{begins_block, comes_to_stmt, goes_past_s
 use Rattle.infer_expr.proofs.BranchWalk.{alternative_done, comes_to_condition, goes_past_condition, comes_to_branch, branch_common, goes_past_branch, comes_to_else, expected_after, ends_if, else_before, else_typed, else_missing}
 use Rattle.infer_expr.proofs.ArmWalk.{arm_at, comes_to_scrutinee, begins_patterns, comes_to_pattern, goes_past_pattern, comes_to_arms, ends_match, begins_arms, comes_to_guard, comes_to_arm, common_at_arm, goes_past_arm, expected_in_arms, ends_arms, comes_to_guard_expr, guard_typed, guard_missing}
 use Rattle.infer_expr.proofs.Branches.{less_twice}
-use Rattle.infer_expr.proofs.CallWalk.{AtOthers, call_for_any, comes_to_callee, calls_item, callee_item, comes_to_args, called_then, own_sig, takes_inputs, ends_call, comes_to_arg, goes_past_arg, ends_args, still_fine, begins_others, comes_to_other, goes_past_other, ends_others}
+use Rattle.infer_expr.proofs.CallWalk.{call_for_any, comes_to_callee, comes_to_args, own_sig, takes_inputs, ends_call, comes_to_arg, goes_past_arg, ends_args, comes_to_others, ends_others, begins_loose, comes_to_loose, goes_past_loose, still_fine, ends_loose}
+use Rattle.infer_expr.proofs.Callees.{items_callable, known_fine, callee_known}
+use Rattle.infer_expr.proofs.Uncallable.{call_then, comes_to_uncallable, seen_entry, comes_to_seen, ends_uncallable}
 use Rattle.infer_expr.proofs.AtEach.{follows_twice}
 use Rattle.infer_expr.proofs.Unified.{binds_nothing, with_table}
-use Rattle.infer_expr.proofs.context.InferenceContext.+infer.Goals.{check_miscounted_arguments-then-i-inputs+in_ok-unify_with, check_miscounted_arguments-else-i-inputs}
+use Rattle.infer_expr.proofs.context.InferenceContext.+infer.Goals.{infer_arguments-then-i-inputs+in_ok-unify_with, infer_arguments-else-i-inputs}
 use Rattle.infer_expr.proofs.context.InferenceContext.+infer.Goals as goal
 
 pub infer_block-loop-i-init : goal.infer_block-loop-i-init
@@ -78,7 +80,7 @@ pub infer_expr_of_kind-infer_expr_path-requires : goal.infer_expr_of_kind-infer_
 infer_expr_of_kind-infer_expr_path-requires t c =
     let is : slice_get c.args.given.now.body.now.exprs c.args.tgt_expr.0 ≡ Some (expr.Path c.in-Path.path)
     = slice_get_read c.args.given.now.body.now.exprs _ c.args.tgt_expr.0 _ refl c.requires.within (rw c.as_slice.ensures at c.index-as_slice-tgt_expr.is) ∙ ap (λ x. Some x) c.in-Path.is in
-    record { of_body = c.requires.state.of_body; sound = c.requires.state.sound; names = path_typed _ _ _ _ c.in-Path.path _ c.requires is }
+    record { of_body = c.requires.state.of_body; sound = c.requires.state.sound; told = c.requires.state.told; names = path_typed _ _ _ _ c.in-Path.path _ c.requires is }
 
 pub infer_expr_of_kind-infer_tuple-requires : goal.infer_expr_of_kind-infer_tuple-requires
 infer_expr_of_kind-infer_tuple-requires t c =
@@ -120,23 +122,20 @@ infer_expr_stmt-returns-in_ok-infer_expr_coerce-2 t c =
     (expr_walked _ _ c.args.block c.args.expr false _ before _ _ done)
 
 pub infer_initializer-make_body_ty-requires : goal.infer_initializer-make_body_ty-requires
-infer_initializer-make_body_ty-requires t c = (let_written _ _ _ _ _ c.in-Some.type_ref _ _ c.in-Some.is c.requires).within
+infer_initializer-make_body_ty-requires t c = comes_to_body_ty _ _ _ _ _ c.in-Some.type_ref _ _ c.in-Some.is c.requires
 
 pub infer_initializer-infer_expr_coerce-requires : goal.infer_initializer-infer_expr_coerce-requires
 infer_initializer-infer_expr_coerce-requires t c =
-    let declared : declared_type (given_of c.args.given.now) c.args.type_ref ≡ Some c.in_ok-decl_ty-in-Some.decl_ty
-    = ap (λ w. declared_type (given_of c.args.given.now) w) c.in-Some.is ∙ ap (λ y. Some y) (sym c.in_ok-decl_ty-in-Some.ensures) in (
-      omega (arith, c.decreases),
-      subst (λ x. Before (given_of c.args.given.now) (schedule_of c.args.given.now) c.args.initializer x c.args.self.now) declared (comes_to_init _ _ _ _ _ _ _ c.requires),
+    let before = subst (λ w. BeforeStmt (given_of c.args.given.now) (schedule_of c.args.given.now) c.args.block (stmt.Let c.args.pat w (Some c.args.initializer) None) c.args.self.now) c.in-Some.is c.requires in (
+      omega (arith, c.decreases, c.in_ok-decl_ty-in-Some.ensures.clock),
+      comes_to_written_init _ _ _ _ _ _ _ _ before _ c.in_ok-decl_ty-in-Some.ensures,
     )
 
 pub infer_initializer-returns-in_ok-ty-in-Some : goal.infer_initializer-returns-in_ok-ty-in-Some
 infer_initializer-returns-in_ok-ty-in-Some t c =
-    let declared : declared_type (given_of c.args.given.now) c.args.type_ref ≡ Some c.in_ok-decl_ty-in-Some.decl_ty
-    = ap (λ w. declared_type (given_of c.args.given.now) w) c.in-Some.is ∙ ap (λ y. Some y) (sym c.in_ok-decl_ty-in-Some.ensures) in
-    init_walked _ _ _ _ _ _ _ c.requires _ _ (
-    subst (λ x. CoerceDone (given_of c.args.given.now) (schedule_of c.args.given.now) c.args.initializer x c.in_ok-ty-in-Some.ty c.args.self.now c.infer_expr_coerce.new.self) (sym declared) c.in_ok-ty-in-Some.ensures
-    )
+    let before = subst (λ w. BeforeStmt (given_of c.args.given.now) (schedule_of c.args.given.now) c.args.block (stmt.Let c.args.pat w (Some c.args.initializer) None) c.args.self.now) c.in-Some.is c.requires in
+    subst (λ w. InitDone (given_of c.args.given.now) (schedule_of c.args.given.now) w c.args.initializer c.in_ok-ty-in-Some.ty c.args.self.now c.infer_expr_coerce.new.self) (sym c.in-Some.is)
+    (written_init_walked _ _ _ _ _ _ _ _ before _ c.in_ok-decl_ty-in-Some.ensures _ _ c.in_ok-ty-in-Some.ensures)
 
 pub infer_let-infer_top_pat-requires : goal.infer_let-infer_top_pat-requires
 infer_let-infer_top_pat-requires t c = (
@@ -256,20 +255,26 @@ infer_pat-infer_lit_pat-requires t c =
     = slice_get_read c.args.given.now.body.now.pats _ c.args.pat.0 _ refl c.requires.within (rw c.as_slice.ensures at c.index-as_slice-pat.is) ∙ ap (λ x. Some x) c.in-Lit.is in
     (omega (arith, c.decreases), (c.requires, is))
 
+pub infer_bare_let-make_body_ty-requires : goal.infer_bare_let-make_body_ty-requires
+infer_bare_let-make_body_ty-requires t c = comes_to_body_ty _ _ _ _ _ c.in-Some.type_ref _ _ c.in-Some.is c.requires
+
 pub infer_bare_let-infer_top_pat-requires : goal.infer_bare_let-infer_top_pat-requires
 infer_bare_let-infer_top_pat-requires t c =
-    let declared : declared_type (given_of c.args.given.now) c.args.type_ref ≡ Some c.in_ok-ty-in-Some.ty
-    = ap (λ w. declared_type (given_of c.args.given.now) w) c.in-Some.is ∙ ap (λ y. Some y) (sym c.in_ok-ty-in-Some.ensures) in (
-      omega (arith, c.decreases),
-      subst (λ x. BeforePat (given_of c.args.given.now) (schedule_of c.args.given.now) c.args.pat x c.args.self.now) declared (comes_to_bare_pat _ _ c.args.block _ _ _ c.requires),
+    let before = subst (λ w. BeforeStmt (given_of c.args.given.now) (schedule_of c.args.given.now) c.args.block (stmt.Let c.args.pat w None None) c.args.self.now) c.in-Some.is c.requires in (
+      omega (arith, c.decreases, c.in_ok-ty-in-Some.ensures.clock),
+      comes_to_written_pat _ _ _ _ _ _ _ before _ c.in_ok-ty-in-Some.ensures,
     )
 
 pub infer_bare_let-returns-in_ok-infer_top_pat-in-Some : goal.infer_bare_let-returns-in_ok-infer_top_pat-in-Some
 infer_bare_let-returns-in_ok-infer_top_pat-in-Some t c =
-    let declared : declared_type (given_of c.args.given.now) c.args.type_ref ≡ Some c.in_ok-ty-in-Some.ty
-    = ap (λ w. declared_type (given_of c.args.given.now) w) c.in-Some.is ∙ ap (λ y. Some y) (sym c.in_ok-ty-in-Some.ensures) in
-    bare_let_walked _ _ c.args.block _ _ _ c.requires _
-    (subst (λ x. PatDone (given_of c.args.given.now) (schedule_of c.args.given.now) c.args.pat x c.args.self.now c.infer_top_pat.new.self) (sym declared) c.in_ok-infer_top_pat-in-Some.ensures)
+    let before = subst (λ w. BeforeStmt (given_of c.args.given.now) (schedule_of c.args.given.now) c.args.block (stmt.Let c.args.pat w None None) c.args.self.now) c.in-Some.is c.requires in
+    subst (λ w. StmtDone (given_of c.args.given.now) (schedule_of c.args.given.now) (stmt.Let c.args.pat w None None) c.args.self.now c.infer_top_pat.new.self) (sym c.in-Some.is)
+    (written_let_walked _ _ _ _ _ _ _ before _ c.in_ok-ty-in-Some.ensures _ c.in_ok-infer_top_pat-in-Some.ensures)
+
+pub infer_bare_let-infer_top_pat-requires-in-None : goal.infer_bare_let-infer_top_pat-requires-in-None
+infer_bare_let-infer_top_pat-requires-in-None t c =
+    let before = subst (λ w. BeforeStmt (given_of c.args.given.now) (schedule_of c.args.given.now) c.args.block (stmt.Let c.args.pat w None None) c.args.self.now) c.in-None.is c.requires in
+    (omega (arith, c.decreases), comes_to_bare_pat _ _ _ _ _ before)
 
 pub infer_lit_pat-infer_expr_inner-requires : goal.infer_lit_pat-infer_expr_inner-requires
 infer_lit_pat-infer_expr_inner-requires t c =
@@ -481,31 +486,98 @@ infer_expr_of_kind-infer_match-requires t c =
 pub infer_expr_of_kind-returns-in_ok-ty-in-Call : goal.infer_expr_of_kind-returns-in_ok-ty-in-Call
 infer_expr_of_kind-returns-in_ok-ty-in-Call t c = call_for_any _ _ _ _ _ _ _ c.in_ok-ty-in-Call.ensures
 
-pub infer_call-infer_callee-requires-clause-before : goal.infer_call-infer_callee-requires-clause-before
-infer_call-infer_callee-requires-clause-before t c = comes_to_callee _ _ _ _ _ _ c.requires.before c.requires.is
-
-pub infer_call-infer_callee-requires-clause-names : goal.infer_call-infer_callee-requires-clause-names
-infer_call-infer_callee-requires-clause-names t c = record { is_path = calls_item _ _ _ _ _ _ c.requires.before c.requires.is; items = λ id n. callee_item _ _ _ _ _ _ c.requires.before c.requires.is n.0 id n.1 n.2 }
+pub infer_call-infer_callee-requires : goal.infer_call-infer_callee-requires
+infer_call-infer_callee-requires t c = (omega (arith, c.decreases), comes_to_callee _ _ _ _ _ _ c.requires.before c.requires.is)
 
 pub infer_call-check_call-requires : goal.infer_call-check_call-requires
 infer_call-check_call-requires t c = (
-  omega (arith, c.decreases, c.in_ok-callee_ty.ensures.follows.clock),
-  comes_to_args _ _ _ _ _ _ c.requires.before c.requires.is _ _ c.in_ok-callee_ty.ensures,
+  omega (arith, c.decreases, c.in_ok-callee_ty.ensures.typed.follows.clock),
+  record {
+    called = c.args.callee;
+    before = c.args.self.now;
+    within = c.requires.before;
+    is_call = c.requires.is;
+    callee = c.in_ok-callee_ty.ensures;
+  },
 )
 
 pub infer_call-returns : goal.infer_call-returns
-infer_call-returns t c = called_then _ _ _ _ _ _ c.requires.before c.requires.is _ _ _ _ c.in_ok-callee_ty.ensures c.in_ok-ty.ensures
+infer_call-returns t c = call_then _ _ _ _ _ _ _ _ _ c.in_ok-callee_ty.ensures.typed c.in_ok-ty.ensures
+
+pub infer_callee-infer_expr_inner-requires : goal.infer_callee-infer_expr_inner-requires
+infer_callee-infer_expr_inner-requires t c = (omega (arith, c.decreases), c.requires)
+
+pub infer_callee-returns : goal.infer_callee-returns
+infer_callee-returns t c = record {
+  type = c.in_ok-callee_ty.callee_ty;
+  typed = c.in_ok-callee_ty.ensures;
+  known = c.in_ok-resolved.ensures;
+  made = c.lawful.ensures.made;
+}
+
+pub check_call-callable_sig-requires : goal.check_call-callable_sig-requires
+check_call-callable_sig-requires t c =
+    let g = given_of c.args.given.now in
+    let d = c.requires.callee in
+    items_callable g.scope _ (known_fine g (schedule_of c.args.given.now) c.requires.called _ _ _ _ d.typed d.known d.made).heads
 
 pub check_call-check_call_arguments-requires : goal.check_call-check_call_arguments-requires
-check_call-check_call_arguments-requires t c = (
-  omega (arith, c.decreases),
-  subst (λ us. BeforeInputs (given_of c.args.given.now) (schedule_of c.args.given.now) c.args.tgt_expr c.args.args.now us c.args.self.now) (sym c.as_slice.ensures) (takes_inputs _ _ _ _ _ _ c.requires c.in_ok-inputs.field-0 c.in_ok-inputs.ensures),
-)
+check_call-check_call_arguments-requires t c =
+    let g = given_of c.args.given.now in
+    let s = schedule_of c.args.given.now in
+    let b = c.requires in
+    let sig : IsSigIfItem c.args.given.now.facts.now c.args.callee_ty.now (Some c.in-Some.field-0) = subst (λ o. IsSigIfItem c.args.given.now.facts.now c.args.callee_ty.now o) c.in-Some.is c.in_ok-inputs.ensures in
+    let called = callee_known g s _ _ _ _ _ b.callee.typed b.callee.known b.callee.made b.within.ready sig.0 in
+    let takes : BeforeInputs g s c.args.call_expr c.args.args.now c.in-Some.field-0.inputs c.args.self.now = takes_inputs g s _ _ _ _ (comes_to_args g s _ _ _ _ b.within b.is_call _ _ called) c.in-Some.field-0 sig.1 in (
+      omega (arith, c.decreases),
+      subst (λ xs. BeforeInputs g s c.args.call_expr c.args.args.now xs c.args.self.now) (sym c.as_slice.ensures) takes,
+    )
 
-pub check_call-returns : goal.check_call-returns
-check_call-returns t c =
-    let sig = own_sig _ _ _ _ _ _ c.requires c.in_ok-inputs.field-0 c.in_ok-inputs.ensures in
-    ends_call _ _ _ _ _ _ c.requires _ _ _ (c.as_slice.ensures ∙ sig.inputs) sig.output c.in_ok-check_call_arguments.ensures
+pub check_call-returns-in_ok-check_call_arguments-in-Some : goal.check_call-returns-in_ok-check_call_arguments-in-Some
+check_call-returns-in_ok-check_call_arguments-in-Some t c =
+    let g = given_of c.args.given.now in
+    let s = schedule_of c.args.given.now in
+    let b = c.requires in
+    let sig : IsSigIfItem c.args.given.now.facts.now c.args.callee_ty.now (Some c.in-Some.field-0) = subst (λ o. IsSigIfItem c.args.given.now.facts.now c.args.callee_ty.now o) c.in-Some.is c.in_ok-inputs.ensures in
+    let called = callee_known g s _ _ _ _ _ b.callee.typed b.callee.known b.callee.made b.within.ready sig.0 in
+    let before = comes_to_args g s _ _ _ _ b.within b.is_call _ _ called in
+    let own = own_sig g s _ _ _ _ before c.in-Some.field-0 sig.1 in
+    ends_call g s _ _ _ _ before _ _ _ (c.as_slice.ensures ∙ own.inputs) own.output c.in_ok-check_call_arguments-in-Some.ensures
+
+pub check_call-infer_uncallable-requires : goal.check_call-infer_uncallable-requires
+check_call-infer_uncallable-requires t c =
+    let b = c.requires in
+    let none : IsSigIfItem c.args.given.now.facts.now c.args.callee_ty.now None = subst (λ o. IsSigIfItem c.args.given.now.facts.now c.args.callee_ty.now o) c.in-None.is c.in_ok-inputs.ensures in (
+      omega (arith, c.decreases),
+      comes_to_uncallable (given_of c.args.given.now) (schedule_of c.args.given.now) _ _ _ _ b.within b.is_call _ _ _ b.callee.typed b.callee.known b.callee.made none,
+    )
+
+pub infer_uncallable-infer_arguments-requires : goal.infer_uncallable-infer_arguments-requires
+infer_uncallable-infer_arguments-requires t c =
+    let g = given_of c.args.given.now in
+    let s = schedule_of c.args.given.now in
+    let noted : c.note_seen.new.self ≡ with_seen c.args.self.now (seen_entry g s _ _ _ _ c.requires) = c.in_ok-note_seen.ensures ∙ ap (λ v. with_seen c.args.self.now (record { node = node.ExprId c.args.call_expr; ty = v; other = None })) c.in_ok-seen_ty.ensures in
+    let same : c.note_seen.new.self.clock ≡ c.args.self.now.clock = ap (λ k. k.clock) noted in (
+      omega (arith, c.decreases, same),
+      subst (λ k. BeforeLoose g s c.args.call_expr c.args.args.now [] k) (sym noted) (comes_to_seen g s _ _ _ _ c.requires),
+    )
+
+pub infer_uncallable-returns : goal.infer_uncallable-returns
+infer_uncallable-returns t c =
+    let g = given_of c.args.given.now in
+    let s = schedule_of c.args.given.now in
+    let typed = c.infer_arguments.new.self in
+    let noted : c.note_seen.new.self ≡ with_seen c.args.self.now (seen_entry g s _ _ _ _ c.requires) = c.in_ok-note_seen.ensures ∙ ap (λ v. with_seen c.args.self.now (record { node = node.ExprId c.args.call_expr; ty = v; other = None })) c.in_ok-seen_ty.ensures in
+    let loose = subst (λ k. LooseDone g s c.args.call_expr k typed) noted c.in_ok-infer_arguments.ensures in
+    subst (λ v. KindDone g s c.args.call_expr None v c.args.self.now (with_table typed c.next_ty_var.new.self)) (sym c.in_ok-ty.ensures.hole)
+    (subst (λ k. KindDone g s c.args.call_expr None (ty.Var (hole_count typed.table)) c.args.self.now (with_table typed k)) (sym c.in_ok-ty.ensures.made)
+    (ends_uncallable g s _ _ _ _ c.requires typed loose))
+
+pub check_miscounted_arguments-returns : goal.check_miscounted_arguments-returns
+check_miscounted_arguments-returns t c =
+    let g = given_of c.args.given.now in
+    let s = schedule_of c.args.given.now in
+    ends_others g s _ _ _ _ c.requires.before c.requires.differ _ (subst (λ k. LooseDone g s c.args.call_expr k c.infer_arguments.new.self) c.push_diagnostic.ensures c.in_ok-infer_arguments.ensures)
 
 pub check_arguments-infer_expr_coerce-requires : goal.check_arguments-infer_expr_coerce-requires
 check_arguments-infer_expr_coerce-requires t c =
@@ -527,42 +599,43 @@ check_arguments-loop-i-preserved t c =
 pub check_arguments-returns : goal.check_arguments-returns
 check_arguments-returns t c = ends_args _ _ _ _ _ _ c.loop-i.invariant.before _ _ c.loop-i.invariant.walk c.requires.count c.loop-i-test.false
 
-pub check_miscounted_arguments-loop-i-init : goal.check_miscounted_arguments-loop-i-init
-check_miscounted_arguments-loop-i-init t c =
-    subst (λ k. AtOthers (given_of c.args.given.now) (schedule_of c.args.given.now) c.args.call_expr c.args.args.now c.args.inputs.now 0 c.args.self.now k) (sym c.push_diagnostic.ensures) (record {
-      before = c.requires.before;
-      differ = c.requires.differ;
-      walk = begins_others _ _ _ _ _ _ c.requires.before c.requires.differ;
-    })
-
-pub check_miscounted_arguments-infer_expr_inner-requires : goal.check_miscounted_arguments-infer_expr_inner-requires
-check_miscounted_arguments-infer_expr_inner-requires t c = (
-  omega (arith, c.decreases, c.loop-i.invariant.walk.follows.clock, c.requires.before.before.ready.room),
-  comes_to_other _ _ _ _ _ _ c.loop-i.invariant.before c.loop-i.invariant.differ _ _ c.loop-i.invariant.walk _ (get_or_default _ _ _ _ c.loop-i-test.true) c.loop-i-test.true,
+pub check_miscounted_arguments-infer_arguments-requires : goal.check_miscounted_arguments-infer_arguments-requires
+check_miscounted_arguments-infer_arguments-requires t c = (
+  (let same : c.push_diagnostic.new.self.clock ≡ c.args.self.now.clock = ap (λ k. k.clock) c.push_diagnostic.ensures in omega (arith, c.decreases, same)),
+  subst (λ k. BeforeLoose (given_of c.args.given.now) (schedule_of c.args.given.now) c.args.call_expr c.args.args.now c.args.inputs.now k) (sym c.push_diagnostic.ensures)
+      (comes_to_others _ _ _ _ _ _ c.requires.before c.requires.differ),
 )
 
-pub check_miscounted_arguments-unify_with-requires-clause-other : goal.check_miscounted_arguments-unify_with-requires-clause-other
-check_miscounted_arguments-unify_with-requires-clause-other t c =
+pub infer_arguments-loop-i-init : goal.infer_arguments-loop-i-init
+infer_arguments-loop-i-init t c = record { before = c.requires; walk = begins_loose _ _ _ _ _ _ c.requires }
+
+pub infer_arguments-infer_expr_inner-requires : goal.infer_arguments-infer_expr_inner-requires
+infer_arguments-infer_expr_inner-requires t c = (
+  omega (arith, c.decreases, c.loop-i.invariant.walk.follows.clock, c.requires.ready.room),
+  comes_to_loose _ _ _ _ _ _ c.loop-i.invariant.before _ _ c.loop-i.invariant.walk _ (get_or_default _ _ _ _ c.loop-i-test.true) c.loop-i-test.true,
+)
+
+pub infer_arguments-unify_with-requires-clause-other : goal.infer_arguments-unify_with-requires-clause-other
+infer_arguments-unify_with-requires-clause-other t c =
     let input : slice_get c.args.inputs.now c.loop-i.i ≡ Some c.index-inputs-i.result = slice_get_read c.args.inputs.now _ c.loop-i.i _ refl c.if-i-inputs.true c.index-inputs-i.is in
     still_fine _ _ _ _ _ _ c.loop-i.invariant.before c.loop-i.i _ c.infer_expr_inner.new.self (follows_twice _ _ _ _ c.loop-i.invariant.walk.follows c.in_ok-ty.ensures.follows).grew input
 
-pub check_miscounted_arguments-loop-i-preserved : goal.check_miscounted_arguments-loop-i-preserved
-check_miscounted_arguments-loop-i-preserved t c =
+pub infer_arguments-loop-i-preserved : goal.infer_arguments-loop-i-preserved
+infer_arguments-loop-i-preserved t c =
     let g = given_of c.args.given.now in
     let inv = c.loop-i.invariant in
     let typed = c.infer_expr_inner.new.self in
     let binds : OnlyBinds g typed c.if-i-inputs.self = elim c.if-i-inputs.branch [
-      | check_miscounted_arguments-then-i-inputs+in_ok-unify_with w ↦ subst (λ k. OnlyBinds g typed k) (sym w.self-is) w.in_ok-unify_with.ensures
-      | check_miscounted_arguments-else-i-inputs w ↦ subst (λ k. OnlyBinds g typed k) (sym w.self-is) (binds_nothing g typed c.in_ok-ty.ensures.follows.of_body c.in_ok-ty.ensures.follows.sound)
+      | infer_arguments-then-i-inputs+in_ok-unify_with w ↦ subst (λ k. OnlyBinds g typed k) (sym w.self-is) w.in_ok-unify_with.ensures
+      | infer_arguments-else-i-inputs w ↦ subst (λ k. OnlyBinds g typed k) (sym w.self-is) (binds_nothing g typed c.in_ok-ty.ensures.follows.of_body c.in_ok-ty.ensures.follows.sound)
     ] in
     record {
       before = inv.before;
-      differ = inv.differ;
-      walk = goes_past_other _ _ _ _ _ _ inv.before inv.differ _ _ inv.walk _ (get_or_default _ _ _ _ c.loop-i-test.true) c.loop-i-test.true _ _ _ c.in_ok-ty.ensures binds;
+      walk = goes_past_loose _ _ _ _ _ _ inv.before _ _ inv.walk _ (get_or_default _ _ _ _ c.loop-i-test.true) c.loop-i-test.true _ _ _ c.in_ok-ty.ensures binds;
     }
 
-pub check_miscounted_arguments-returns : goal.check_miscounted_arguments-returns
-check_miscounted_arguments-returns t c = ends_others _ _ _ _ _ _ c.loop-i.invariant.before c.loop-i.invariant.differ _ _ c.loop-i.invariant.walk c.loop-i-test.false
+pub infer_arguments-returns : goal.infer_arguments-returns
+infer_arguments-returns t c = ends_loose _ _ _ _ _ _ c.loop-i.invariant.before _ _ c.loop-i.invariant.walk c.loop-i-test.false
 
 -- ---- patterns of constructors
 

@@ -5,7 +5,7 @@ use Rattle.infer_expr.proofs.BlockWalk.{BlockWalk}
 use Rattle.infer_expr.proofs.TuplePatWalk.{TuplePatWalk}
 use Rattle.infer_expr.proofs.CtorPatWalk.{CtorPatWalk}
 use Rattle.infer_expr.proofs.ArmWalk.{PatternWalk, ArmWalk}
-use Rattle.infer_expr.proofs.CallWalk.{AtArgs, AtOthers}
+use Rattle.infer_expr.proofs.CallWalk.{AtArgs, AtLoose}
 use Rattle.infer_expr.proofs.context.InferenceContext.+infer.Given as goal
 
 -- the room that is left for the clock, and then how near a function stands to the next step of it
@@ -103,8 +103,14 @@ invariant-infer_arms-loop-i l = ArmWalk (given_of l.given) (schedule_of l.given)
 abbrev pub decreases-infer_call : goal.decreases-infer_call
 decreases-infer_call l = 16 * (2 ^ 64 - l.self.now.clock) + 9
 
+abbrev pub decreases-infer_callee : goal.decreases-infer_callee
+decreases-infer_callee l = 16 * (2 ^ 64 - l.self.now.clock) + 8
+
 abbrev pub decreases-check_call : goal.decreases-check_call
 decreases-check_call l = 16 * (2 ^ 64 - l.self.now.clock) + 8
+
+abbrev pub decreases-infer_uncallable : goal.decreases-infer_uncallable
+decreases-infer_uncallable l = 16 * (2 ^ 64 - l.self.now.clock) + 7
 
 abbrev pub decreases-check_call_arguments : goal.decreases-check_call_arguments
 decreases-check_call_arguments l = 16 * (2 ^ 64 - l.self.now.clock) + 7
@@ -118,5 +124,8 @@ decreases-check_miscounted_arguments l = 16 * (2 ^ 64 - l.self.now.clock) + 6
 abbrev pub invariant-check_arguments-loop-i : goal.invariant-check_arguments-loop-i
 invariant-check_arguments-loop-i l = AtArgs (given_of l.given) (schedule_of l.given) l.fn.call_expr l.args l.inputs l.i l.fn.self l.self
 
-abbrev pub invariant-check_miscounted_arguments-loop-i : goal.invariant-check_miscounted_arguments-loop-i
-invariant-check_miscounted_arguments-loop-i l = AtOthers (given_of l.given) (schedule_of l.given) l.fn.call_expr l.args l.inputs l.i l.fn.self l.self
+abbrev pub decreases-infer_arguments : goal.decreases-infer_arguments
+decreases-infer_arguments l = 16 * (2 ^ 64 - l.self.now.clock) + 5
+
+abbrev pub invariant-infer_arguments-loop-i : goal.invariant-infer_arguments-loop-i
+invariant-infer_arguments-loop-i l = AtLoose (given_of l.given) (schedule_of l.given) l.fn.call_expr l.args l.inputs l.i l.fn.self l.self

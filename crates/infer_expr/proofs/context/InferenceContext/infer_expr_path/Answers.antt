@@ -16,7 +16,7 @@ returns-in_ok-ty-in-Some c =
     let has = recorded_at _ _ (sym c.type_of_binding.ensures ∙ ap option_copied c.in-Some.is) in
     subst (λ p. PathDone g p c.in_ok-ty-in-Some.ty old old) (sym c.in-Local.is)
     (subst (λ t. PathDone g (path.Local c.in-Local.binding) t old old) (sym c.in_ok-ty-in-Some.ensures)
-    (local_path g c.in-Local.binding c.in-Some.ty.now old c.requires.of_body c.requires.sound has))
+    (local_path g c.in-Local.binding c.in-Some.ty.now old c.requires.of_body c.requires.sound c.requires.told has))
 
 pub returns-in_ok-args-in-Function : goal.returns-in_ok-args-in-Function
 returns-in_ok-args-in-Function c =

@@ -6,8 +6,8 @@ use Rattle.infer_expr.proofs.context.InferenceContext.infer_params.Goals as goal
 pub loop-i-init : goal.loop-i-init
 loop-i-init c = begins_params _ _ _ c.requires
 
-pub make_body_ty-requires : goal.make_body_ty-requires
-make_body_ty-requires c =
+pub lower_ty-requires : goal.lower_ty-requires
+lower_ty-requires c =
     let k : c.loop-i.i < length c.args.given.now.body.now.params = rw c.as_slice-params.ensures at c.loop-i-test.true in
     let j : c.loop-i.i < length c.args.given.now.inputs.now = omega (arith, k, c.requires.count) in
     (param_written _ _ _ _ _ c.loop-i.invariant c.requires k _ (get_or_default _ _ _ _ j)).within

@@ -1,10 +1,10 @@
-use Rattle.std.proofs.Common.{◌∙◌, ap}
-use Rattle.hir_types.specs.declared.ty.Ty.TheVariants as ty
-use Rattle.infer_expr.proofs.Sigs.{sig_of_function, sig_of_variant}
+use Rattle.std.proofs.Common.{sym, subst}
+use Rattle.infer_expr.specs.Callables.{IsSigOfItem}
 use Rattle.infer_expr.proofs.given.GivenBody.callable_sig.Goals as goal
 
-pub returns-in_ok-sig-in-FunctionId : goal.returns-in_ok-sig-in-FunctionId
-returns-in_ok-sig-in-FunctionId c = sig_of_function c.args.self.now.facts.now _ c.in-FunctionId.function c.in-FnDef.args _ (c.in-FnDef.is ∙ ap (λ i. ty.FnDef i c.in-FnDef.args) c.in-FunctionId.is) c.in_ok-sig-in-FunctionId.ensures
-
-pub returns-in_ok-sig-in-VariantId : goal.returns-in_ok-sig-in-VariantId
-returns-in_ok-sig-in-VariantId c = sig_of_variant c.args.self.now.facts.now _ c.in-VariantId.variant c.in-FnDef.args _ (c.in-FnDef.is ∙ ap (λ i. ty.FnDef i c.in-FnDef.args) c.in-VariantId.is) c.in_ok-sig-in-VariantId.ensures
+pub returns-in_ok-sig-in-FnDef : goal.returns-in_ok-sig-in-FnDef
+returns-in_ok-sig-in-FnDef c =
+    let raw = c.args.self.now.facts.now in (
+      c.requires _ _ c.in-FnDef.is,
+      subst (λ t. IsSigOfItem raw t c.in_ok-sig-in-FnDef.sig) (sym c.in-FnDef.is) c.in_ok-sig-in-FnDef.ensures,
+    )
