@@ -1,6 +1,7 @@
 mod adts;
 mod bodies;
 mod branches;
+mod callees;
 mod calls;
 mod constructors;
 mod generics;
@@ -9,6 +10,7 @@ mod kinds;
 mod laws;
 mod params;
 mod patterns;
+mod placeholders;
 mod rows;
 
 use super::ends::{MemorySink, MemorySource};

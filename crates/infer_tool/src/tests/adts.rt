@@ -1,4 +1,4 @@
-//! Adts, variants, parameters and `_`: what is read of them, and what the first law refuses so far.
+//! Adts, variants and parameters: what is read of them, and what the first law refuses so far.
 use super::laws::{CARRIED, COUNTS, IDS, broken, swapped};
 use super::{LET, LET_REPORT, NOT_CARRIED, PLAIN, check, check_body, with_body};
 use std::process::Abort;
@@ -84,7 +84,6 @@ fn carries_no_other_types(rt: HostRuntime) -> Result<(), Fail> {
     let rt = &rt;
     let types = "[\"u8\"]";
     let at = "0 is broken at types[1]";
-    broken(rt, types, r#"["u8","_"]"#, at, CARRIED)?;
     broken(rt, types, r#"["u8",["adt",0,[["c",3]]]]"#, at, CARRIED)?;
     broken(
         rt,

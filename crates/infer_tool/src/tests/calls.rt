@@ -38,7 +38,7 @@ const MIDDLE: &str =
 const BACK: &str = r#","labels":0}]}"#;
 
 /// Runs on a function with this body and output (0 `u8`, 1 `bool`, 2 `()`), among the functions above.
-fn reported(
+pub fn reported(
     rt: &(impl Abort + AllocGlobal),
     output: u32,
     body: &str,

@@ -153,9 +153,51 @@ fn tells_a_wrong_pattern(rt: HostRuntime) -> Result<(), Fail> {
     ran(&rt, r#""inputs":[5],"output":2"#, PATH, 1, path, "")
 }
 
+/// `let g = Some; g(1)`
+const LOCAL: &str =
+    r#"[],"root":4,"exprs":[["path",["ctor",1,null]],["path",["local",0,null]],["lit",["int","1",null]],["call",1,[2]],["block",null,[["let",0,null,0,null]],3]],"pats":[["bind",0,null]],"bindings":[["g","plain"]]"#;
+
+/// `Unit()`
+const STRUCT_CALL: &str =
+    r#"[],"root":1,"exprs":[["path",["ctor",3,null]],["call",0,[]]],"pats":[],"bindings":[]"#;
+
+/// `Unit(1);`
+const STRUCT_ARGUMENT: &str =
+    r#"[],"root":3,"exprs":[["path",["ctor",3,null]],["lit",["int","1",null]],["call",0,[1]],["block",null,[["expr",2,true]],null]],"pats":[],"bindings":[]"#;
+
 /// `None()`
 const UNIT_CALL: &str =
     r#"[],"root":1,"exprs":[["path",["ctor",0,null]],["call",0,[]]],"pats":[],"bindings":[]"#;
+
+#[test]
+fn calls_those_with_fields(rt: HostRuntime) -> Result<(), Fail> {
+    let rt = &rt;
+    let local =
+        "fn 0\ne0 variant1<u8> = variant1\ne1 variant1<u8>\ne2 u8\ne3 Maybe<u8>\ne4 Maybe<u8>\np0 variant1<u8> move\nb0 variant1<u8>\ncomplaints 0\n";
+    ran(rt, r#""inputs":[],"output":4"#, LOCAL, 0, local, "")?;
+    let struct_call =
+        "fn 0\ne0 Unit = variant3\ne1 Unit\nExpectedFunction e1 found=Unit\ncomplaints 1\n";
+    ran(
+        rt,
+        r#""inputs":[],"output":6"#,
+        STRUCT_CALL,
+        1,
+        struct_call,
+        "",
+    )?;
+    let struct_argument =
+        "fn 0\ne0 Unit = variant3\ne1 i32\ne2 {unknown}\ne3 ()\nExpectedFunction e2 found=Unit\ncomplaints 1\n";
+    ran(
+        rt,
+        r#""inputs":[],"output":2"#,
+        STRUCT_ARGUMENT,
+        1,
+        struct_argument,
+        "",
+    )?;
+    let unit_call = "fn 0\ne0 Maybe<{unknown}> = variant0\ne1 Maybe<u8>\ncomplaints 0\n";
+    ran(rt, r#""inputs":[],"output":4"#, UNIT_CALL, 0, unit_call, "")
+}
 
 /// `None::<u8>`
 const TURBOFISH: &str =
@@ -173,7 +215,6 @@ const UNRESOLVED: &str =
 fn carries_no_others(rt: HostRuntime) -> Result<(), Fail> {
     let rt = &rt;
     let inputs = r#""inputs":[],"output":4"#;
-    ran(rt, inputs, UNIT_CALL, 8, "", NOT_CARRIED)?;
     ran(rt, inputs, TURBOFISH, 8, "", NOT_CARRIED)?;
     let given = r#""inputs":[4],"output":2"#;
     ran(rt, given, REST, 8, "", NOT_CARRIED)?;

@@ -62,10 +62,12 @@ const NO_FUNCTION: &str = r#"0,"exprs":[["path",["fn","f",null]]],"pats":[],"bin
 const AT_FUNCTION: &str =
     "`bodies.0.exprs.0.1.1` has another shape: a part of the literal or of the path, or an expression's number, as the expression's kind asks, is wanted";
 
+const NO_PATH_REPORT: &str = "fn 0\ne0 bool\ne1 u8\nExpectedFunction e1 found=bool\ncomplaints 1\n";
+
 #[test]
 fn reads_calls(rt: HostRuntime) -> Result<(), Fail> {
     check_body(&rt, CALL, 0, "fn 0\ne0 fn0\ne1 u8\ncomplaints 0\n", "")?;
-    check_body(&rt, NO_PATH, 8, "", NOT_CARRIED)?;
+    check_body(&rt, NO_PATH, 1, NO_PATH_REPORT, "")?;
     check_body(&rt, WRITTEN, 8, "", NOT_CARRIED)?;
     check_body(&rt, NO_ARGUMENT, 7, "", AT_ARGUMENT)?;
     check_body(&rt, NO_FUNCTION, 7, "", AT_FUNCTION)

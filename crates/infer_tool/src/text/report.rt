@@ -215,8 +215,12 @@ fn push_counts(out: &mut String, expected: usize, found: usize) -> Result<(), Al
 }
 
 #[tactic(auto, unfolding(infer_result::specs::Report::diagnostic_text))]
-fn push_diagnostic_text(out: &mut String, diagnostic: InferenceDiagnostic) -> Result<(), AllocError>
-    ensures { OnOk result (string_bytes out.new ≡ string_bytes out.old ++ diagnostic_text diagnostic) }
+fn push_diagnostic_text(
+    out: &mut String,
+    facts: &RawFacts,
+    diagnostic: &InferenceDiagnostic,
+) -> Result<(), AllocError>
+    ensures { OnOk result (string_bytes out.new ≡ string_bytes out.old ++ diagnostic_text facts.now diagnostic.now) }
 {
     match diagnostic {
         InferenceDiagnostic::MismatchedArgCount {
@@ -226,7 +230,7 @@ fn push_diagnostic_text(out: &mut String, diagnostic: InferenceDiagnostic) -> Re
         } => {
             let call = call_expr.0;
             write!(out, "MismatchedArgCount e{call}")?;
-            push_counts(out, expected, found)
+            push_counts(out, *expected, *found)
         }
         InferenceDiagnostic::MismatchedTupleStructPatArgCount {
             pat,
@@ -234,22 +238,28 @@ fn push_diagnostic_text(out: &mut String, diagnostic: InferenceDiagnostic) -> Re
             found,
         } => {
             out.push_str("MismatchedTupleStructPatArgCount ")?;
-            push_node(out, pat)?;
-            push_counts(out, expected, found)
+            push_node(out, *pat)?;
+            push_counts(out, *expected, *found)
+        }
+        InferenceDiagnostic::ExpectedFunction { call_expr, found } => {
+            let call = call_expr.0;
+            write!(out, "ExpectedFunction e{call}")?;
+            push_field(out, facts, " found=", found)
         }
     }
 }
 
 fn push_diagnostic(
     out: &mut String,
-    diagnostic: Option<InferenceDiagnostic>,
+    facts: &RawFacts,
+    diagnostic: Option<&InferenceDiagnostic>,
 ) -> Result<(), AllocError>
-    ensures { OnOk result (string_bytes out.new ≡ string_bytes out.old ++ diagnostic_line diagnostic) }
+    ensures { OnOk result (string_bytes out.new ≡ string_bytes out.old ++ diagnostic_line facts.now (option_copied diagnostic.entry)) }
 {
     match diagnostic {
         None => Ok(()),
         Some(diagnostic) => {
-            push_diagnostic_text(out, diagnostic)?;
+            push_diagnostic_text(out, facts, diagnostic)?;
             out.push_str("\n")
         }
     }
@@ -258,10 +268,10 @@ fn push_diagnostic(
 fn diagnostic_at(
     diagnostics: &[Option<InferenceDiagnostic>],
     at: usize,
-) -> Option<InferenceDiagnostic>
-    ensures { result ≡ recorded diagnostics.now at }
+) -> Option<&InferenceDiagnostic>
+    ensures { option_copied result ≡ recorded diagnostics.now at }
 {
-    *diagnostics.get(at)?
+    diagnostics.get(at)?.as_ref()
 }
 
 fn push_complaints_at(
@@ -274,7 +284,7 @@ fn push_complaints_at(
     ensures { OnOk result (string_bytes out.new ≡ string_bytes out.old ++ expr_complaints facts.now diagnostics.now at mismatch.now) }
 {
     push_mismatch(out, facts, at, mismatch)?;
-    push_diagnostic(out, diagnostic_at(diagnostics, at))
+    push_diagnostic(out, facts, diagnostic_at(diagnostics, at))
 }
 
 fn push_expr_complaints(
@@ -320,7 +330,7 @@ fn push_pat_complaints_at(
     ensures { OnOk result (string_bytes out.new ≡ string_bytes out.old ++ pat_complaints facts.now diagnostics.now at mismatch.now) }
 {
     push_pat_mismatch(out, facts, at, mismatch)?;
-    push_diagnostic(out, diagnostic_at(diagnostics, at))
+    push_diagnostic(out, facts, diagnostic_at(diagnostics, at))
 }
 
 fn push_pat_complaints(
