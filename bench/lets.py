@@ -6,9 +6,10 @@ The statements are `let v = w;` (copies: each local has the type of the one befo
 `let v = if true { w } else { w };` and `let v = match (w, true) { (a, true) => a, (a, _) => a };` (branches); or in turn
 `let v = id(w);` and `same(v, w);` after one `let v = 1;`, of `fn id<T>(x: T) -> T` and `fn same<T>(a: T, b: T)` (calls);
 or after one such in turn `let v = Just(w);` and `let u = match v { Just(a) => a, Nothing => w };`, of
-`enum Maybe<T> { Nothing, Just(T) }` (constructors).
+`enum Maybe<T> { Nothing, Just(T) }` (constructors); or after one `let v: _ = 1;` in turn `let v: _ = w;` and
+`let (v, _): (_, u8) = (w, 1);` (placeholders).
 Beside each, where rustc is found, the time of its pass `type_check_crate` over the same function.
-Usage: bench/lets.py [copies|integers|branches|calls|constructors] [N]
+Usage: bench/lets.py [copies|integers|branches|calls|constructors|placeholders] [N]
 (copies and 40000 where not given; 4N must fit into 2^24 bytes)
 Build the program first: cd crates/infer_tool && rt run -- table fn 0 < ../../examples/first_run.json
 """
@@ -137,6 +138,29 @@ def constructors(function, count):
                                 "let %s = match v%d { Just(a) => a, Nothing => v%d };\n" % (name, k - 1, k - 2))
 
 
+def placeholders(function, count):
+    """`let v0: _ = 1; let v1: _ = v0; let (v2, _): (_, u8) = (v1, 1); let v3: _ = v2; ..`"""
+    last = function.let("v0", function.expr(["lit", ["int", "1", None]]), hole(function), "let v0: _ = 1;\n")
+    for k in range(1, count):
+        name = "v%d" % k
+        if k % 2:
+            last = function.let(name, function.local(last), hole(function), "let %s: _ = v%d;\n" % (name, k - 1))
+        else:
+            pair = function.expr(["tuple", [function.local(last), function.expr(["lit", ["int", "1", None]])]])
+            written = len(function.types) + 1
+            function.types += ["_", ["tuple", [written - 1, 1]]]
+            part, wild = function.bind(name), function.pat("wild")
+            last = len(function.bindings) - 1
+            function.statements.append(["let", function.pat(["tuple", [part, wild], None]), written, pair, None])
+            function.source.append("let (%s, _): (_, u8) = (v%d, 1);\n" % (name, k - 1))
+
+
+def hole(function):
+    """A written `_` of its own."""
+    function.types.append("_")
+    return len(function.types) - 1
+
+
 def variant_fact(name, kind, fields):
     return {"adt": 0, "name": name, "ctor": kind, "fields": fields, "body": None}
 
@@ -147,7 +171,7 @@ def fn_fact(name, params, inputs, output, body):
 
 
 SHAPES = {"copies": copies, "integers": integers, "branches": branches, "calls": calls,
-          "constructors": constructors}
+          "constructors": constructors, "placeholders": placeholders}
 
 
 def made(shape, count):
