@@ -24,8 +24,3 @@ pub mod OneHole
 pub mod WrittenFits
 pub mod FilledFits
 pub mod Items
-pub mod Plain
-pub mod PlainAdts
-pub mod Spread
-pub mod PlainMarks
-pub mod PlainBodies
