@@ -35,7 +35,8 @@ impl InferenceContext {
         Ok(ty)
     }
 
-    /// Types what is called: its type, as far as it is known.
+    /// Types what is called, and gives its type as far as it is known: the beginning of
+    /// `infer/expr.rs`'s `infer_call`.
     #[cycle(infer)]
     fn infer_callee(
         &mut self,
@@ -54,7 +55,8 @@ impl InferenceContext {
         Ok(resolved)
     }
 
-    /// The type of a call of what has this type: `infer/expr.rs`, `check_call`.
+    /// The type of a call of what has this type: the rest of `infer/expr.rs`'s `infer_call`, with its
+    /// `check_call`.
     #[cycle(infer)]
     fn check_call(
         &mut self,

@@ -49,6 +49,7 @@ fn path_variant(path: RawPath) -> Option<VariantId>
     }
 }
 
+/// The variant whose constructor an expression is a path to.
 fn expr_variant(expr: &RawExpr) -> Option<VariantId>
     ensures { result ≡ expr_variant expr.now }
 {
@@ -59,6 +60,7 @@ fn expr_variant(expr: &RawExpr) -> Option<VariantId>
     }
 }
 
+/// The variant whose constructor a pattern names.
 fn pat_variant(pat: &RawPat) -> Option<VariantId>
     ensures { result ≡ pat_variant pat.now }
 {

@@ -49,6 +49,7 @@ fn dup_arg(alloc: Global, arg: &GenericArg) -> Result<GenericArg, AllocError>
     }
 }
 
+/// Equal copies of arguments.
 fn dup_args(alloc: Global, args: &List<GenericArg>) -> Result<List<GenericArg>, AllocError>
     ensures { IfOk result (λ copies. copies ≡ args.now) }
 {
@@ -68,7 +69,7 @@ impl GivenBody<'_> {
         lower_ty(alloc, self.facts, type_ref)
     }
 
-    /// What a function item takes and gives; `None` where the type is none: `next_solver/ty.rs`,
+    /// What the item of this type takes and gives; `None` where the type is no item's: `infer/unify.rs`,
     /// `callable_sig`.
     pub fn callable_sig(
         &self,

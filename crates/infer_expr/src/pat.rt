@@ -312,7 +312,7 @@ impl InferenceContext {
     }
 
     /// Records a type as that of a pattern, and asks that it be what comes in, where something does:
-    /// `infer.rs`, `demand_eqtype`.
+    /// `infer.rs`, `demand_eqtype`, and what the end of `infer/pat.rs`'s `infer_pat` asks of constructors.
     fn demand_pat_ty(
         &mut self,
         alloc: Global,

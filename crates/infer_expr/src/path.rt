@@ -16,7 +16,7 @@ use std::alloc::{AllocError, Global};
 
 impl InferenceContext {
     /// The type of a path: that of the local that it names, or of the function or the constructor at
-    /// new holes: `infer/path.rs`, `infer_path`.
+    /// new holes: `infer/expr.rs`, `infer_expr_path`.
     pub fn infer_expr_path(
         &mut self,
         alloc: Global,

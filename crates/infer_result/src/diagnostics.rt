@@ -10,6 +10,7 @@ use std::alloc::{AllocError, Global};
 pub enum InferenceDiagnostic {
     /// The call has another number of arguments than its callee takes.
     MismatchedArgCount {
+        /// The call.
         call_expr: ExprId,
         /// How many the callee takes.
         expected: usize,
@@ -18,6 +19,7 @@ pub enum InferenceDiagnostic {
     },
     /// The pattern of a constructor has another number of parts than the constructor has fields.
     MismatchedTupleStructPatArgCount {
+        /// The pattern.
         pat: ExprOrPatId,
         /// How many fields there are.
         expected: usize,
@@ -26,6 +28,7 @@ pub enum InferenceDiagnostic {
     },
     /// What is called is no function.
     ExpectedFunction {
+        /// The call.
         call_expr: ExprId,
         /// The type of what is called.
         found: Ty,

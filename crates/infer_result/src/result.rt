@@ -23,7 +23,7 @@ pub struct Seen {
     pub node: ExprOrPatId,
     /// The type that was looked at: of what is called.
     pub ty: Ty,
-    /// The type of an operator's right side, or of an index; `None` at a call.
+    /// A second type that was looked at; `None` at a call.
     pub other: Option<Ty>,
 }
 

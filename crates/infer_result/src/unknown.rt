@@ -7,6 +7,7 @@ ghost use Rattle.infer_result.specs.Unknown.{unknown_const, has_unknown, arg_has
 
 use hir_types::{AliasBound, Const, GenericArg, List, TraitRef, Ty};
 
+/// Whether a const is `{unknown}`.
 fn unknown_const(value: Const) -> bool
     ensures { result ≡ unknown_const value }
 {
