@@ -13,4 +13,5 @@ pub mod Fit
 pub mod Made
 pub mod Typed
 pub mod Derived
+pub mod Consequences
 pub mod Report
