@@ -1,21 +1,28 @@
 """What the bodies of `judge.py` are made of, what they may name, and some by hand, with uncommon turns."""
 import collections
+import dataclasses
 
-# Types are a word, a tuple of types, an adt (`Adt`), or a type parameter of the function, "T" or "U"; where none is
-# written, the name of a function without type parameters stands for the type of that item too, and so does that of the
-# variant of such an adt, where it has fields. Expressions are ("int", digits, suffix), ("bool", b), ("char", c),
-# ("local", name), ("item", function), ("call", function, arguments), ("tuple", parts), ("if", condition, block, block
-# or None), ("match", scrutinee, arms), where an arm is a pattern, a guard or None and an expression, and ("block",
-# statements, tail); statements ("let", pattern, type, initializer) and ("expr", e, semicolon). Patterns are a name,
-# `_`, ("tuple", patterns), ("ctor", variant, patterns), the last None where the variant has no fields, and a literal. A
-# function is named by a word, and by OWN the one that the body belongs to. The name of a variant stands in the place of
-# a function for its constructor.
+# Types are a word, a tuple of types, an adt (`Adt`), or a type parameter of the function, "T" or "U"; in the type of a
+# `let` "_" may stand for a type, and where none is written, the type of an item (`Item`) is one too. Expressions are
+# ("int", digits, suffix), ("bool", b), ("char", c), ("local", name), ("item", function), ("call", callee, arguments),
+# ("tuple", parts), ("if", condition, block, block or None), ("match", scrutinee, arms), where an arm is a pattern, a
+# guard or None and an expression, and ("block", statements, tail); statements ("let", pattern, type, initializer) and
+# ("expr", e, semicolon). Patterns are a name, `_`, ("tuple", patterns), ("ctor", variant, patterns), the last None
+# where the variant has no fields, and a literal. A function is named by a word, and by OWN the one that the body
+# belongs to. The name of a variant stands in the place of a function for its constructor.
 OWN = "own"
 PARAMS = ["T", "U"]
 
 
 class Adt(collections.namedtuple("Adt", "name args")):
     """An adt at types. No tuple of types equals it, since it begins with a name of ADTS."""
+
+
+@dataclasses.dataclass(frozen=True)
+class Item:
+    """The type of a function or of the constructor of a variant with fields, at types."""
+    name: str
+    args: tuple
 
 
 Signature = collections.namedtuple("Signature", "generics inputs output")
@@ -94,7 +101,12 @@ def item(function):
 
 
 def call(function, *arguments):
-    return ("call", function, list(arguments))
+    return call_of(item(function), *arguments)
+
+
+def call_of(callee, *arguments):
+    """A call of any expression."""
+    return ("call", callee, list(arguments))
 
 
 def let(pattern, init=None, written=None):
@@ -264,4 +276,171 @@ WITH_CONSTRUCTORS = [Body(Signature(generics, inputs, output), ["x"][:len(inputs
      match(local("x"), (ctor("P", "a", ctor("Just", "b")), call("P", local("b"), local("a"))), ("y", call("make")))),
 ]]
 
-BY_HAND = WITHOUT_CALLS + WITH_CALLS + WITH_CONSTRUCTORS
+TRUE = ("bool", True)
+
+# Of such functions too.
+WITH_PLACEHOLDERS = [Body(Signature(generics, inputs, output), ["x"][:len(inputs)], statements, tail)
+                     for generics, inputs, output, statements, tail in [
+    (0, [], (), [let("y", int_(1, "u8"), "_")], None),
+    (0, [], "u8", [let("y", int_(1), "_")], local("y")),
+    (0, [], (), [let("y", ("tuple", [TRUE, int_(1)]), ("_", "u8"))], None),
+    (0, [], (), [let(("tuple", ["a", "b"]), ("tuple", [TRUE, int_(1, "u8")]), "_")], None),
+    (0, [], "u8", [let(("tuple", ["a", "b"]), ("tuple", [TRUE, int_(1)]), ("_", "u8"))], local("b")),
+    (0, [], "u8", [let(("tuple", ["a", "b"]), ("tuple", [int_(1), int_(2)]), ("_", "i64"))], local("a")),
+    (0, [], "u8", [let("y", None, "_")], local("y")),
+    (0, [], (), [let("y", None, "_")], None),
+    (0, [], (), [let("y", None, ("_", "u8"))], None),
+    (0, [], (), [let("y", int_(1, "u8"), "_"), let("z", TRUE, "_")], None),
+    (0, [], (), [let("y", ("tuple", [TRUE, int_(1)]), ("_", "_"))], None),
+    (0, [], (), [let("y", ("tuple", [("tuple", [int_(1), TRUE]), ("char", "a")]), (("_", "_"), "_"))], None),
+    (0, [], (), [let("y", call("Just", int_(1, "u8")), maybe("_"))], None),
+    (0, [], (), [let("y", NOTHING, maybe("_")), let("z", local("y"), maybe("u8"))], None),
+    (0, [], (), [let("y", NOTHING, maybe("_"))], None),
+    (0, [], (), [let("y", NOTHING, maybe("_")), let("z", local("y"), maybe(("_", "bool")))], None),
+    (0, [], maybe(("u8", "bool")), [let("y", NOTHING, maybe(("_", "bool")))], local("y")),
+    (0, [], "u8", [let(ctor("S", "a"), call("S", int_(1)), s_of("_"))], local("a")),
+    (0, [], "u8", [let("y", call("make"), s_of("_"))], call("unwrap", local("y"))),
+    (0, [], "bool", [let("y", call("pair", ("tuple", [int_(1), call("wrap", TRUE)])), p_of("_", s_of("_")))],
+     match(local("y"), (ctor("P", ctor("S", "_"), "_"), TRUE), (ctor("P", "_", ctor("S", "b")), local("b")))),
+    (0, [], "bool", [let("y", call("pair", ("tuple", [int_(1), call("wrap", TRUE)])), p_of("_", s_of("_")))],
+     match(local("y"), (ctor("P", "_", ctor("S", "b")), local("b")))),
+    (0, [], "u8", [let("y", ("block", [let("z", int_(1), "_")], local("z")), "_")], local("y")),
+    (0, [], "i64", [let("y", if_(int_(1), int_(2)), "_")], local("y")),
+    (0, [], (), [let("y", if_(int_(1, "u8"), TRUE), "_")], None),
+    (0, [], (), [let("y", if_(call("Just", int_(1, "u8")), call("Just", TRUE)), maybe("_"))], None),
+    (0, [], (), [let("y", item("take"), "_"), run(call("same", local("y"), item("take")))], None),
+    (0, [], (), [let("y", item("id"), "_")], None),
+    (0, [], (), [let("y", ("tuple", [item("take"), int_(1)]), ("_", "u8"))], None),
+    (0, [], (), [let("y", ("tuple", [int_(1, "u8"), int_(2, "u8")]), ("_", "bool"))], None),
+    (0, [], (), [let("y", int_(1, "u8"), maybe("_"))], None),
+    (0, [], (), [let("y", call("Just", int_(1, "u8")), maybe(maybe("_")))], None),
+    (0, [], (), [let("y", ("tuple", [TRUE]), ("_", "u8"))], None),
+    (0, [], (), [let("y", ("tuple", [int_(1), TRUE]), ("_",))], None),
+    (0, [], (), [let(("tuple", ["a"]), ("tuple", [TRUE, int_(1)]), ("_", "u8"))], None),
+    (0, [], (), [let(("tuple", ["a", "b"]), int_(1), "_")], None),
+    (0, [], (), [let(("tuple", ["a", "b"]), None, ("_",))], None),
+    (0, [], "bool", [let("y", int_(1, "u8"), "_")], local("y")),
+    (0, [], "u8", [let("y", int_(1), "_"), let("z", local("y"), "i64")], local("y")),
+    (0, [], (), [let("y", call("nothing", int_(1)), "_")], None),
+    (0, [], (), [let("y", call("make"), s_of("_")), run(call("same", call("unwrap", local("y")), local("y")))], None),
+    (0, [], (), [let("y", call("make"), "_"), run(call("same", local("y"), call("wrap", local("y"))))], None),
+    (0, [PAIR], (), [let(ctor("Pair", "a"), local("x"), "_")], None),
+    (0, [PAIR], "u8", [let(ctor("Pair", "a", "_"), local("x"), "_")], local("a")),
+    (0, [E], (), [let("y", local("x"), ("_", "_"))], None),
+    (0, [E], (), [let("y", local("x"), s_of("_"))], None),
+    (1, ["T"], "T", [let("y", local("x"), "_")], local("y")),
+    (1, ["T"], "u8", [let("y", local("x"), "_")], local("y")),
+    (1, ["T"], s_of("T"), [let("y", call("S", local("x")), s_of("_"))], local("y")),
+    (1, ["T"], "T", [let("y", call(OWN, local("x")), "_")], local("y")),
+    (2, [p_of("T", "U")], "U", [let(ctor("P", "a", "b"), local("x"), p_of("_", "U"))], local("b")),
+    (2, [p_of("T", "U")], "U", [let(ctor("P", "a", "b"), local("x"), p_of("U", "_"))], local("b")),
+]]
+
+# Of such functions too.
+WITH_CALLEES = [Body(Signature(generics, inputs, output), ["x"][:len(inputs)], statements, tail)
+                for generics, inputs, output, statements, tail in [
+    (0, [], "bool", [let("h", item("take"))], call_of(local("h"), int_(1))),
+    (0, [], "u8", [let("h", item("id"))], call_of(local("h"), int_(1))),
+    (0, [], (), [let("h", item("id")), run(call_of(local("h"), int_(1, "u8"))), run(call_of(local("h"), TRUE))], None),
+    (0, [], (), [let("h", item("take")), run(call_of(local("h")))], None),
+    (0, [], (), [let("h", item("take")), run(call_of(local("h"), int_(1), int_(2)))], None),
+    (0, [], (), [let("h", item("take")), run(call_of(local("h"), TRUE))], None),
+    (0, [], "u8", [let("h", item("take"))], call_of(local("h"), int_(1))),
+    (0, [], "u8", [let("h", item("id")), let("y", call_of(local("h"), call("make")), "u8")], local("y")),
+    (0, [], (), [let("h", item("id"))], call_of(local("h"), call("make"))),
+    (0, [], (), [let("h", item("make")), let("y", call_of(local("h")))], None),
+    (0, [], "u8", [let("h", item("swap")), let(("tuple", ["a", "b"]), call_of(local("h"), int_(1), TRUE))],
+     local("b")),
+    (0, [], "bool", [let("h", item("take"), "_")], call_of(local("h"), int_(1))),
+    (0, [], "bool", [let(("tuple", ["f", "g"]), ("tuple", [item("take"), item("id")]), ("_", "_"))],
+     call_of(local("f"), call_of(local("g"), int_(1)))),
+    (0, [], "bool", [], match(("tuple", [item("take"), int_(1)]),
+                              (("tuple", ["h", "n"]), call_of(local("h"), local("n"))))),
+    (0, [], (), [let("h"), run(call("same", local("h"), item("take"))), run(call_of(local("h"), int_(1)))], None),
+    (0, [], "u8", [], ("if", call_of(block(item("take")), int_(1)), block(int_(2)), block(int_(3)))),
+    (0, [], "u8", [], call_of(block(item("id")), int_(1))),
+    (0, [], (), [run(call_of(block(item("id")), int_(1)))], None),
+    (0, [], (), [let("y", call_of(block(item("id")), int_(1)))], None),
+    (0, [], "bool", [], call_of(("block", [let("h", item("take"))], local("h")), int_(1))),
+    (0, [], (), [run(call_of(block(item("id"))))], None),
+    (0, [], "bool", [], call_of(block(block(item("take"))), TRUE)),
+    (0, [], (), [run(call_of(("block", [run(item("id"))], None), int_(1)))], None),
+    (0, [], "bool", [], call_of(if_(item("take"), item("take")), int_(1))),
+    (0, [], "u8", [], call_of(if_(item("id"), item("id")), int_(1))),
+    (0, [], (), [run(call_of(if_(item("take"), item("take"))))], None),
+    (0, [], "bool", [], call_of(if_(item("take"), item("check")), int_(1))),
+    (0, [], "bool", [], call_of(match(TRUE, (TRUE, item("take")), ("_", item("take"))), int_(1))),
+    (0, [], maybe("u8"), [], call_of(match(TRUE, (TRUE, item("Just")), ("h", item("Just"))), int_(1))),
+    (0, [], (), [run(call_of(match(TRUE, (TRUE, item("take")), ("_", int_(1))), int_(1)))], None),
+    (0, [], "bool", [], call_of(call("id", item("take")), int_(1))),
+    (0, [], "u8", [], call_of(call("id", item("id")), int_(1))),
+    (0, [], (), [run(call_of(call("id", item("take")), TRUE))], None),
+    (0, [], (), [run(call_of(call("id", item("take"))))], None),
+    (0, [], "bool", [], call_of(call_of(block(item("id")), item("take")), int_(1))),
+    (0, [], "bool", [], call_of(call("unwrap", call("S", item("take"))), int_(1))),
+    (0, [], maybe("u8"), [let("h", item("Just"))], call_of(local("h"), int_(1))),
+    (0, [], (), [let("h", item("Just")), run(call_of(local("h")))], None),
+    (0, [], PAIR, [let("h", item("Pair"))], call_of(local("h"), int_(1), TRUE)),
+    (0, [], PAIR, [let("h", item("Pair"))], call_of(local("h"), TRUE, TRUE)),
+    (0, [], PAIR, [let("h", item("Pair"))], call_of(local("h"), int_(1))),
+    (0, [], s_of("bool"), [], call_of(block(item("S")), TRUE)),
+    (0, [], (), [run(call_of(int_(1, "u8")))], None),
+    (0, [], (), [run(call_of(int_(1, "u8"), int_(2)))], None),
+    (0, [], (), [run(call_of(int_(1), TRUE))], None),
+    (0, [], (), [run(call_of(TRUE))], None),
+    (0, [], "u8", [], call_of(("char", "a"), int_(1))),
+    (0, [], (), [run(call_of(call("nothing")))], None),
+    (0, [], (), [run(call_of(call("take", int_(1)), int_(2)))], None),
+    (0, [], (), [run(call_of(call("take"), int_(2)))], None),
+    (0, [], (), [run(call_of(call("Pair", int_(1), TRUE)))], None),
+    (0, [], (), [run(call_of(int_(1, "u8"), call("take", TRUE)))], None),
+    (0, [], (), [run(call_of(int_(1, "u8"), call("take")))], None),
+    (0, [], (), [run(call_of(call_of(int_(1, "u8"))))], None),
+    (0, [], "bool", [run(call("take", call_of(int_(1, "u8"))))], call_of(block(item("take")), call_of(TRUE))),
+    (0, [], "u8", [let("y", TRUE)], call_of(local("y"), int_(1, "u8"), int_(2))),
+    (0, [], (), [let("y", call_of(int_(1, "u8"), int_(2)), "bool")], None),
+    (0, [], (), [let("y", call_of(int_(1, "u8")), ("_", "u8"))], None),
+    (0, [], "bool", [let("y", call_of(int_(1, "u8")))], local("y")),
+    (0, [], (), [let("y", ("tuple", [TRUE, int_(1)]), ("_", "u8")), run(call_of(local("y")))], None),
+    (0, [], (), [run(call_of(("tuple", [int_(1, "u8"), TRUE])))], None),
+    (0, [], (), [run(call_of(("tuple", [])))], None),
+    (0, [], (), [run(call_of(("tuple", [item("take")]), int_(1)))], None),
+    (0, [], (), [run(call_of(block(int_(1, "u8")), int_(1), int_(2)))], None),
+    (0, [], (), [run(call_of(if_(int_(1), int_(2, "u8"))))], None),
+    (0, [], (), [run(call_of(if_(int_(1, "u8"), TRUE)))], None),
+    (0, [], (), [run(call_of(match(TRUE, (TRUE, item("A")), ("_", item("B")))))], None),
+    (0, [], UNIT, [], call("Unit")),
+    (0, [], (), [run(call("Unit", int_(1)))], None),
+    (0, [], E, [], call("A")),
+    (0, [], E, [let("y", item("A"))], call_of(local("y"))),
+    (0, [], maybe("u8"), [], call("Nothing")),
+    (0, [], maybe("u8"), [], call("Nothing", int_(1))),
+    (0, [], (), [run(call("Nothing", call("take")))], None),
+    (0, [], (), [run(call("Nothing", call("take", TRUE)))], None),
+    (0, [], (), [let("y", NOTHING), run(call_of(local("y"))), let("z", local("y"), maybe("u8"))], None),
+    (0, [], (), [run(call_of(call("wrap", call("make"))))], None),
+    (0, [], (), [run(call_of(call("make"), int_(1)))], None),
+    (0, [], (), [let("y", call("make")), run(call_of(local("y"), int_(1)))], None),
+    (0, [], (), [let("y", None, "_"), run(call_of(local("y"), int_(1)))], None),
+    (0, [], (), [let("y", ("tuple", [call("make"), int_(1, "u8")])), run(call_of(local("y")))], None),
+    (0, [], (), [let("y", ("tuple", [call("make"), int_(1, "u8")])), run(call_of(local("y"))),
+                 let("z", local("y"), ("bool", "u8"))], None),
+    (0, [], (), [let("y", call("make")), run(call_of(local("y"))), let("z", local("y"), "u8")], None),
+    (0, [], (), [let("y", call("make")), run(call_of(local("y"), int_(1))),
+                 run(call("same", local("y"), item("take")))], None),
+    (0, [], (), [let("y", call("make")), run(call("same", local("y"), item("take"))),
+                 run(call_of(local("y"), int_(1)))], None),
+    (0, [], "u8", [let("y", call("make")), run(call("same", local("y"), item("id")))], call_of(local("y"), int_(1))),
+    (0, ["u8"], "u8", [], call_of(local("x"), int_(1))),
+    (0, [E], E, [], call_of(local("x"))),
+    (0, [s_of("u8")], "u8", [], call_of(local("x"))),
+    (1, ["T"], "T", [], call_of(local("x"))),
+    (1, [maybe("T")], "T", [], call_of(local("x"))),
+    (1, ["T"], "T", [let("h", item(OWN))], call_of(local("h"), local("x"))),
+    (1, ["T"], "u8", [let("h", item(OWN))], call_of(local("h"), int_(1))),
+    (1, ["T"], "T", [let("h", item("id"))], call_of(local("h"), local("x"))),
+    (1, ["T"], "T", [let("h", item("id")), run(call_of(local("h"), int_(1)))], call_of(local("h"), local("x"))),
+    (2, ["T"], s_of("U"), [let("h", item("wrap"))], call_of(local("h"), local("x"))),
+]]
+
+BY_HAND = WITHOUT_CALLS + WITH_CALLS + WITH_CONSTRUCTORS + WITH_PLACEHOLDERS + WITH_CALLEES

@@ -3,16 +3,19 @@
 
 The bodies are some by hand (`bodies.py`) and COUNT made at random from SEED. Each is written as Rust source and as
 facts, with the functions and adts that it may name; it may have type parameters, and call itself. Of each, rustc's
-verdict (a type error or none) stands against whether there is a complaint, and whether it finds a wrong number of
-arguments (E0061) or of a pattern's parts (E0023) against whether that is complained of. Where rustc finds no type
+verdict (a type error or none) stands against whether there is a complaint, and whether it finds a wrong number of a
+pattern's parts (E0023) against whether that is complained of. The calls that rustc finds to have a wrong number of
+arguments (E0061) or to call no function (E0618) stand against those of which we complain so. Where rustc finds no type
 error, its types (its THIR tree, by the place in the source) stand against those of the report, for expressions and
 patterns, items of functions and of constructors and adts included. In each report, the variants that nodes resolve to
 stand against those that they name in the source.
 Counted apart, and no difference: bodies in which rustc wants a type written out (E0282, E0283, E0284), where the
-report has `{unknown}`; reads of locals that were never set (E0381), where rustc's types can't be had; bodies where
-rustc reads two function items as pointers (see `reads_pointers`), which are not carried; and bodies at which rustc
-does not end. A value that is used after it moved (E0382) is no type error: rustc is asked for the types of such a body
-in a source in which all can be copied.
+report has `{unknown}`; calls of what is no function, where the report has `{unknown}` in the type of what is called, so
+that nothing is said; what we alone complain of where rustc has an error and no type for what is called (see
+`is_excused`); reads of locals that were never set (E0381), where rustc's types can't be had; bodies where rustc reads
+two function items as pointers (see `reads_pointers`), which are not carried; and bodies at which rustc does not end. A
+value that is used after it moved (E0382) is no type error: rustc is asked for the types of such a body in a source in
+which all can be copied.
 Usage: tools/judge.py [COUNT] [SEED]      (300 and 1 where not given); status 1 where a difference is listed
 Build the program first: cd crates/infer_tool && rt run -- table fn 0 < ../../examples/first_run.json
 """
@@ -27,7 +30,7 @@ from concurrent.futures import ThreadPoolExecutor
 
 sys.dont_write_bytecode = True  # of `bodies`
 from bodies import ADTS, BY_HAND, CALLED, E, FUNCTIONS, OWN, PAIR, PARAMS, PLAIN, UNIT, VARIANTS
-from bodies import Adt, Body, Signature, call, int_, item, local, run
+from bodies import Adt, Body, Item, Signature, call, call_of, int_, item, local, run
 
 TOP = os.path.dirname(os.path.dirname(os.path.abspath(__file__)))
 PROGRAM = os.path.join(TOP, "crates", "infer_tool", "out", "infer_tool")
@@ -76,11 +79,28 @@ class Maker:
 
     def unwritten(self, depth):
         """A type, of which some can't be written."""
-        if self.rng.random() < 0.06:
-            return self.rng.choice(PLAIN)
+        if self.rng.random() < 0.08:
+            return self.item_type(depth)
         if depth and self.rng.random() < 0.06:
             return tuple(self.unwritten(0) for _ in range(2))
         return self.type(depth)
+
+    def item_type(self, depth):
+        """The type of an item that can be called."""
+        name = self.rng.choice(PLAIN if self.rng.random() < 0.5 else sorted(CALLED) + [OWN])
+        return Item(name, tuple(self.type(max(depth - 1, 0)) for _ in range(self.signature(name).generics)))
+
+    def signature(self, name):
+        """What an item that can be called takes and gives."""
+        return self.own if name == OWN else CALLED[name]
+
+    def written(self, ty):
+        """The type as a `let` may write it, with a `_` for some parts, and for all that can't be written."""
+        if isinstance(ty, Item) or self.rng.random() < 0.15:
+            return "_"
+        if isinstance(ty, Adt):
+            return Adt(ty.name, tuple(self.written(part) for part in ty.args))
+        return tuple(self.written(part) for part in ty) if isinstance(ty, tuple) else ty
 
     def type(self, depth):
         rng = self.rng
@@ -118,25 +138,41 @@ class Maker:
         return self.leaf(wanted)
 
     def call(self, names, wanted, depth):
-        """A call, mostly of a function that can have this output, and mostly with the inputs that it has then."""
-        rng, args = self.rng, {}
-        fitting = []
-        for name, signature in sorted(CALLED.items()) + [(OWN, self.own)]:
-            found = {}
-            if name == "make" and rng.random() < 0.7:
-                continue  # its type has to come from elsewhere
-            if self.slips() or is_instance(signature.output, wanted, found):
-                fitting.append((name, signature, found))
-        name, signature, args = rng.choice(fitting)  # `id` and `make` fit always
-        for param in PARAMS[:signature.generics]:
-            args.setdefault(param, self.unwritten(1))
-        inputs = [instance(ty, args) for ty in signature.inputs]
+        """A call, mostly of what can have this output, and mostly with the inputs that it has then."""
+        rng = self.rng
+        if rng.random() < 2 * self.slip:
+            return call_of(*(self.expr(names, None, depth) for _ in range(rng.randrange(1, 4))))
+        held = [(name, of) for name, of in names.items() if isinstance(of, Item) and self.output(of) == wanted]
+        if held and rng.random() < 0.7:
+            name, of = rng.choice(held)
+            callee = local(name)
+        else:
+            of = self.called(wanted)
+            callee = item(of.name) if rng.random() < 0.8 else self.expr(names, of, depth)
+        inputs = [instance(ty, dict(zip(PARAMS, of.args))) for ty in self.signature(of.name).inputs]
         if self.slips():
             if inputs and rng.random() < 0.5:
                 inputs.pop()
             else:
                 inputs.append(self.type(1))
-        return call(name, *(self.expr(names, ty, depth) for ty in inputs))
+        return call_of(callee, *(self.expr(names, ty, depth) for ty in inputs))
+
+    def output(self, of):
+        """What a call of an item of this type gives."""
+        return instance(self.signature(of.name).output, dict(zip(PARAMS, of.args)))
+
+    def called(self, wanted):
+        """The type of an item whose output is mostly this."""
+        fitting = []
+        for name, signature in sorted(CALLED.items()) + [(OWN, self.own)]:
+            found = {}
+            if name == "make" and self.rng.random() < 0.7:
+                continue  # its type has to come from elsewhere
+            if self.slips() or is_instance(signature.output, wanted, found):
+                fitting.append((name, signature, found))
+        name, signature, found = self.rng.choice(fitting)  # `id` and `make` fit always
+        return Item(name, tuple(found[param] if param in found else self.unwritten(1)
+                                for param in PARAMS[:signature.generics]))
 
     def match(self, names, wanted, depth):
         """A `match`, whose last arm takes whatever is left."""
@@ -188,8 +224,8 @@ class Maker:
         rng = self.rng
         if ty not in WORDS and rng.random() < 0.1:
             return call("make")
-        if ty in PLAIN:
-            return item(ty)
+        if isinstance(ty, Item):
+            return item(ty.name)
         if isinstance(ty, Adt):
             variant, fields = rng.choice(list(ADTS[ty.name][2].items()))
             parts = [self.leaf(instance(field, dict(zip(PARAMS, ty.args)))) for field in fields]
@@ -211,11 +247,15 @@ class Maker:
         names, statements = dict(names), []
         for _ in range(rng.randrange(4)):
             if rng.random() < 0.75:
-                is_written, bound = rng.random() < 0.4, {}
-                of = self.type(2) if is_written else self.unwritten(2)
+                held = [of for of in names.values() if isinstance(of, Item)]
+                if held and rng.random() < 0.6:
+                    of = self.output(rng.choice(held))
+                else:
+                    of = self.item_type(1) if rng.random() < 0.08 else self.unwritten(2)
+                written, bound = self.written(of) if rng.random() < 0.4 else None, {}
                 init = self.expr(names, of, depth) if rng.random() < 0.97 else None
                 pattern = self.pattern(of, len(names), bound, False)
-                statements.append(("let", pattern, of if is_written else None, init))
+                statements.append(("let", pattern, written, init))
                 names.update(bound)
             elif rng.random() < 0.8:
                 statements.append(run(self.expr(names, None, depth)))
@@ -276,13 +316,14 @@ def copied(line):
 class Writer:
     """Writes one body as source and as facts, and keeps the place of each expression and pattern in the line.
 
-    It keeps besides which nodes name a variant (`named`), and at calls of constructors what is called (`callees`).
+    It keeps besides which nodes name a variant (`named`), what each call calls (`callees`), and by what they call the
+    calls of paths to constructors (`constructing`).
     """
 
     def __init__(self, own):
         self.types, self.text, self.own = [], "", own
         self.exprs, self.pats, self.bindings, self.places = [], [], [], {}
-        self.named, self.callees = {}, {}
+        self.named, self.callees, self.constructing = {}, {}, {}
 
     def type_id(self, ty):
         if isinstance(ty, Adt):
@@ -291,6 +332,9 @@ class Writer:
             entry = ["tuple", [self.type_id(part) for part in ty]]
         else:
             entry = ["param", PARAMS.index(ty)] if ty in PARAMS else ty
+        if ty == "_":  # each is an entry of its own, and then so is each type in which one stands
+            self.types.append(entry)
+            return len(self.types) - 1
         if entry not in self.types:
             self.types.append(entry)
         return self.types.index(entry)
@@ -396,17 +440,33 @@ class Writer:
         self.text += self.own if function == OWN else function
         return ["path", ["fn", number_of(function), None]]
 
-    def call_(self, scope, function, arguments):
-        callee = self.expr(item(function), scope)
+    def call_(self, scope, callee, arguments):
+        names_constructor = callee[0] == "item" and callee[1] in VARIANTS
+        callee = self.called(callee, scope)
         self.text += "("
         ids = []
         for argument in arguments:
             ids.append(self.expr(argument, scope))
             self.text += ", "
         self.text += ")"
-        if function in VARIANTS:
-            self.callees["e%d" % callee] = "e%d" % len(self.exprs)
+        self.callees["e%d" % len(self.exprs)] = "e%d" % callee
+        if names_constructor:
+            self.constructing["e%d" % callee] = "e%d" % len(self.exprs)
         return ["call", callee, ids]
+
+    def called(self, e, scope):
+        """Writes what is called, in parentheses where a statement could end after it; its place is with these."""
+        begun, is_block_like = len(self.text), e[0] in ("block", "if", "match")
+        self.text += "(" if is_block_like else ""
+        callee = self.expr(e, scope)
+        self.text += ")" if is_block_like else ""
+        self.place("e%d" % callee, begun)
+        return callee
+
+    def tells(self, callee):
+        """Whether what is called says by itself what it is: a literal, a tuple, or a path to an item."""
+        fact = self.exprs[int(callee[1:])]
+        return fact[0] in ("lit", "tuple") or fact[0] == "path" and fact[1][0] != "local"
 
     def tuple_(self, scope, parts):
         self.text += "("
@@ -507,39 +567,39 @@ def rustc(lines, *options, timeout=None):
 
 
 def errors_of(lines):
-    """The codes of rustc's errors, by the number of the line that they stand in.
+    """rustc's errors, each by its code and place in the line, by the number of the line that they stand in.
 
     Lines without an error are asked again by themselves: of some errors (E0275) rustc ends before it looks at moves.
     """
-    codes = errors_in_groups(lines)
-    again = errors_in_groups([line if at not in codes else "" for at, line in enumerate(lines)])
-    return {**codes, **again}
+    errors = errors_in_groups(lines)
+    again = errors_in_groups([line if at not in errors else "" for at, line in enumerate(lines)])
+    return {**errors, **again}
 
 
 def errors_in_groups(lines):
-    """The codes of rustc's errors, by the number of the line that they stand in.
+    """rustc's errors, as above.
 
     It asks of some hundred lines at a time, and of fewer where no answer comes, down to the line that rustc doesn't
     end at (its search for a hint can be endless), whose only code is NO_ANSWER.
     """
-    codes, groups = {}, [range(at, min(at + 200, len(lines))) for at in range(0, len(lines), 200)]
+    errors, groups = {}, [range(at, min(at + 200, len(lines))) for at in range(0, len(lines), 200)]
     while groups:
         group = groups.pop()
         try:
             found = errors_of_group([lines[at] for at in group], 5 + len(group) / 20)
         except subprocess.TimeoutExpired:
-            found = {0: {NO_ANSWER}}
+            found = {0: {(NO_ANSWER, None)}}
             if len(group) > 1:
                 half = len(group) // 2
                 groups += [group[:half], group[half:]]
                 continue
-        codes.update((group[at], of) for at, of in found.items())
-    return codes
+        errors.update((group[at], of) for at, of in found.items())
+    return errors
 
 
 def errors_of_group(lines, seconds):
-    """The codes of rustc's errors, as above."""
-    codes = {}
+    """rustc's errors, as above."""
+    errors = {}
     done = rustc(lines + list(adt_lines()) + list(function_lines()), "--emit=metadata", "--error-format=json",
                  timeout=seconds)
     if done.returncode not in (0, 1):
@@ -549,10 +609,11 @@ def errors_of_group(lines, seconds):
         if said["level"] == "error" and said["spans"]:
             for span in said["spans"]:
                 if span["is_primary"]:
-                    codes.setdefault(span["line_start"] - 2, set()).add(said["code"]["code"] if said["code"] else "?")
-    if max(codes, default=0) >= len(lines):
+                    errors.setdefault(span["line_start"] - 2, set()).add(
+                        (said["code"]["code"] if said["code"] else "?", (span["column_start"], span["column_end"])))
+    if max(errors, default=0) >= len(lines):
         sys.exit("rustc refuses what bodies may name: %s" % done.stderr)
-    return codes
+    return errors
 
 
 def types_of(lines):
@@ -600,10 +661,10 @@ def types_in(theirs, number, writer, node):
 
     What is called to construct an adt has no node in its tree: it has the types of the adt that the call gives.
     """
-    if node not in writer.callees:
+    if node not in writer.constructing:
         return theirs.get((number, *writer.places[node]), set())
     return {re.sub(r"^\w+", "variant%d" % writer.named[node], ty)
-            for ty in types_in(theirs, number, writer, writer.callees[node])}
+            for ty in types_in(theirs, number, writer, writer.constructing[node])}
 
 
 def reads_pointers(theirs, number):
@@ -615,33 +676,57 @@ def reads_pointers(theirs, number):
     return any("fn(" in ty for place, types in theirs.items() if place[0] == number for ty in types)
 
 
+def said_of_calls(errors, said, writer):
+    """What just one of the two says of calls, rustc alone and we alone: each by its kind and what is called."""
+    called = {writer.places[callee]: callee for callee in writer.callees.values()}
+    theirs = {(kind, called.get(place)) for kind, of in CALLS.items() for code, place in errors if code == of}
+    ours = {(kind, writer.callees[node]) for kind, node in said if kind in CALLS}
+    return theirs - ours, ours - theirs
+
+
+def is_excused(unsaid, oversaid, codes, ours, writer):
+    """Whether these, which rustc alone and we alone say of calls, may stand.
+
+    We say nothing of a call of what is no function where `{unknown}` is in its type. rustc says no more of a call of a
+    hole, for which it wants a type unless there was an error before, and of what comes of that or of another error: of
+    a call of what is no function, of a pattern that does not fit, of alternatives that have no type in common. What
+    says by itself what it is can be neither.
+    """
+    if oversaid and not codes & (MISMATCHES | WANTS):
+        return False
+    return all(kind == "ExpectedFunction" and "{unknown}" in ours.get(callee, "") for kind, callee in unsaid) and all(
+        not writer.tells(callee) for _, callee in oversaid)
+
+
 def report_of(text):
-    """The types that our report gives the nodes, the variants that nodes resolve to, and the kinds of complaints."""
+    """The types that our report gives the nodes, the variants that they resolve to, and complaints by kind and node."""
     done = subprocess.run([PROGRAM, "table", "fn", "0"], input=text, capture_output=True, text=True)
     if done.returncode not in (0, 1):
         sys.exit("status %d: %s\n%s" % (done.returncode, done.stderr.strip(), text))
-    types, named, kinds = {}, {}, set()
+    types, named, said = {}, {}, set()
     for line in done.stdout.splitlines():
         node, _, ty = line.partition(" ")
-        if node in ("TypeMismatch", *COUNTS):
-            kinds.add(node)
+        if node in ("TypeMismatch", PARTS, *CALLS):
+            said.add((node, ty.partition(" ")[0]))
         if re.fullmatch(r"[ep]\d+", node):
             ty, _, variant = ty.partition(" = variant")
             types[node] = ty[:-5] if ty.endswith(" move") else ty
             if variant:
                 named[node] = int(variant)
-    if (done.returncode == 1) != bool(kinds):
+    if (done.returncode == 1) != bool(said):
         sys.exit("status %d: %s\n%s" % (done.returncode, done.stdout, text))
-    return types, named, kinds
+    return types, named, said
 
 
-# What is said of wrong numbers of arguments and of parts.
-COUNTS = {"MismatchedArgCount": "E0061", "MismatchedTupleStructPatArgCount": "E0023"}
+# What is said of a wrong number of a pattern's parts; and of calls, where rustc says it at what is called: of a wrong
+# number of arguments, and that what is called is no function.
+PARTS = "MismatchedTupleStructPatArgCount"
+CALLS = {"MismatchedArgCount": "E0061", "ExpectedFunction": "E0618"}
 
 # rustc's type errors. E0275 is what it says of some types without end. From the arguments of a call with a wrong number
 # of them, and from the parts of a pattern with one, the two take different types, so whether E0308 stands beside is not
 # compared.
-MISMATCHES = {"E0308", "E0317", "E0275", *COUNTS.values()}
+MISMATCHES = {"E0308", "E0317", "E0275", "E0023", *CALLS.values()}
 WANTS = {"E0282", "E0283", "E0284"}
 MOVES = {"E0382"}
 NEVER_SET = {"E0381"}
@@ -657,26 +742,36 @@ def main():
     lines, texts, writers = zip(*(write_body(number, body) for number, body in enumerate(bodies)))
     lines = list(lines)
     errors = errors_of(lines)
-    theirs = types_of([line if errors.get(number, set()) <= MOVES else "" for number, line in enumerate(lines)])
+    codes_in = [{code for code, _ in errors.get(number, set())} for number in range(len(lines))]
+    theirs = types_of([line if codes_in[number] <= MOVES else "" for number, line in enumerate(lines)])
     counts = dict.fromkeys(["accepted by both", "refused by both", "a type is wanted", "a local is never set",
-                            "items are pointers", "rustc doesn't end"], 0)
+                            "{unknown} is called", "rustc doesn't know what is called", "items are pointers",
+                            "rustc doesn't end"], 0)
     compared = moved = differences = 0
     with ThreadPoolExecutor(2) as pool:
         reports = list(pool.map(report_of, texts))
     for number, line in enumerate(lines):
-        ours, named, complaints = reports[number]
-        codes = errors.get(number, set())
+        ours, named, said = reports[number]
+        codes, complaints = codes_in[number], {kind for kind, _ in said}
+        unsaid, oversaid = said_of_calls(errors.get(number, set()), said, writers[number])
+        parts_alike = (PARTS in complaints) == ("E0023" in codes)
+        calls_a_hole = any(ours[callee] == "{unknown}" for callee in writers[number].callees.values())
         if codes == {NO_ANSWER}:
             kind, fits = "rustc doesn't end", True
+        elif codes <= MOVES and complaints and reads_pointers(theirs, number):
+            kind, fits = "items are pointers", True
+        elif unsaid or oversaid:
+            kind = "{unknown} is called" if unsaid else "rustc doesn't know what is called"
+            fits = parts_alike and (complaints or codes & MISMATCHES == {"E0618"}) and is_excused(
+                unsaid, oversaid, codes, ours, writers[number])
         elif codes & MISMATCHES:
-            kind, fits = "refused by both", complaints and all(
-                (complaint in complaints) == (code in codes) for complaint, code in COUNTS.items())
+            kind, fits = "refused by both", complaints and parts_alike
+        elif codes & WANTS and complaints and calls_a_hole:
+            kind, fits = "rustc doesn't know what is called", parts_alike
         elif codes & WANTS:
             kind, fits = "a type is wanted", not complaints and any("{unknown}" in ty for ty in ours.values())
         elif codes - MOVES == NEVER_SET:
             kind, fits = "a local is never set", not complaints
-        elif codes <= MOVES and complaints and reads_pointers(theirs, number):
-            kind, fits = "items are pointers", True
         else:
             kind, fits = "accepted by both", codes <= MOVES and not complaints
         told = [] if fits else ["rustc: %s; we: %s" % (
