@@ -71,14 +71,23 @@ solves_after : (f z : Hole → Term) (l : Log) → Solves z l → Solves (λ k. 
 solves_after f z [] h = tt
 solves_after f z (p ∷ l) h = (ap (apply f) h.0 ∙ apply_apply f z p.1, solves_after f z l h.1)
 
-completion_terms : (bs : List Binding) (k : Hole) → terms_of (completion_of bs) k ≡ apply (terms_of fallback) (solution (log_of bs) k)
-completion_terms bs k = terms_composed fallback (resolution bs) k ∙ ap (apply (terms_of fallback)) (resolution_terms bs k)
+closing_terms : (a : Assignment) (bs : List Binding) (k : Hole) → terms_of (composed a (resolution bs)) k ≡ apply (terms_of a) (solution (log_of bs) k)
+closing_terms a bs k = terms_composed a (resolution bs) k ∙ ap (apply (terms_of a)) (resolution_terms bs k)
+
+-- what is known of each hole, with any types in the place of those that are open
+pub closing_meets : (a : Assignment) (s : State) → Triangular (log_of (bindings s)) → Meets (terms_of (composed a (resolution (bindings s)))) s
+closing_meets a s h =
+    let P : (Hole → Term) → Type 0 = λ z. Solves z (log_of (bindings s)) in
+    let same : (λ k. apply (terms_of a) (solution (log_of (bindings s)) k)) ≡ terms_of (composed a (resolution (bindings s))) = λ i k. sym (closing_terms a (bindings s) k) i in
+    subst P same (solves_after (terms_of a) (solution (log_of (bindings s))) (log_of (bindings s)) (solution_solves (log_of (bindings s)) h))
+
+pub closing_respects : (a : Assignment) (s : State) → Triangular (log_of (bindings s)) → Respects (terms_of a) → Respects (terms_of (composed a (resolution (bindings s))))
+closing_respects a s h integers = λ k e.
+    let P : Term → Type 0 = IsInt in
+    subst P (sym (closing_terms a (bindings s) k)) (is_int_apply (terms_of a) (solution (log_of (bindings s)) k) integers (solution_respects (log_of (bindings s)) h k e))
 
 pub completion_meets : (s : State) → Triangular (log_of (bindings s)) → Meets (terms_of (completion s)) s
-completion_meets s h =
-    let P : (Hole → Term) → Type 0 = λ z. Solves z (log_of (bindings s)) in
-    let same : (λ k. apply (terms_of fallback) (solution (log_of (bindings s)) k)) ≡ terms_of (completion s) = λ i k. sym (completion_terms (bindings s) k) i in
-    subst P same (solves_after (terms_of fallback) (solution (log_of (bindings s))) (log_of (bindings s)) (solution_solves (log_of (bindings s)) h))
+completion_meets s h = closing_meets fallback s h
 
 fallback_respects : Respects (terms_of fallback)
 fallback_respects (hole_of.Ty n) h = absurd h
@@ -86,6 +95,4 @@ fallback_respects (hole_of.Int n) h = subst IsInt (sym (term_int int.I32)) tt
 fallback_respects (hole_of.Const n) h = absurd h
 
 pub completion_respects : (s : State) → Triangular (log_of (bindings s)) → Respects (terms_of (completion s))
-completion_respects s h = λ k e.
-    let P : Term → Type 0 = IsInt in
-    subst P (sym (completion_terms (bindings s) k)) (is_int_apply (terms_of fallback) (solution (log_of (bindings s)) k) fallback_respects (solution_respects (log_of (bindings s)) h k e))
+completion_respects s h = closing_respects fallback s h fallback_respects

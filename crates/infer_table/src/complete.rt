@@ -5,7 +5,7 @@ ghost use Rattle.hir_types.specs.Subst.{Assignment, with_holes};
 ghost use Rattle.hir_types.specs.Terms.{terms_of};
 ghost use Rattle.infer_table.specs.Bindings.{AllOf};
 ghost use Rattle.infer_table.specs.Resolution.{resolution, IsOpenOrKnown};
-ghost use Rattle.infer_table.specs.Solutions.{Respects};
+ghost use Rattle.infer_table.specs.Solutions.{Respects, Triangular, log_of};
 ghost use Rattle.infer_table.specs.Table.{bindings, resolved_type, HolesAreOf, Meets};
 ghost use Rattle.infer_table.specs.Completion.{completion_of, completion};
 
@@ -103,12 +103,13 @@ impl InferenceTable {
         value.fold_with(self.alloc, &completer)
     }
 
-    /// What is known of each table: its completion agrees with all bindings and keeps kinds, and no
-    /// binding names a hole that was not made.
+    /// What is known of each table: its completion agrees with all bindings and keeps kinds, no
+    /// binding names a hole that was not made, and no hole comes back in what it is bound to.
     pub fn lawful(&self)
         ensures meets { Meets (terms_of (completion self.now)) self.now }
         ensures respects { Respects (terms_of (completion self.now)) }
         ensures made { AllOf self.now.substitution.kinds (bindings self.now) }
+        ensures acyclic { Triangular (log_of (bindings self.now)) }
     {
         let _log = self.bindings.log();
     }

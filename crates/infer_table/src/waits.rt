@@ -1,5 +1,5 @@
 //! Pairs of a table that wait to be unified.
-ghost use Rattle.std.specs.Prelude.{◌≡◌, ◌↔◌, IsTrue, IfOk, OnOk, OnErr, MatchOption};
+ghost use Rattle.std.specs.Prelude.{◌≡◌, ◌↔◌, ◌++◌, ◌∷◌, [], IsTrue, IfOk, OnOk, OnErr, MatchOption};
 ghost use Rattle.infer_table.specs.Table.{HolesAreOf, IsKnown, AllUnknown, IsFirstKnown, TakesKnown, with_waiting};
 ghost use Rattle.infer_table.specs.Waiting.{waiting};
 
@@ -14,6 +14,7 @@ impl InferenceTable {
         requires source { HolesAreOf self.old source.now }
         requires target { HolesAreOf self.old target.now }
         ensures waits { OnOk result (self.new ≡ with_waiting self.old source.now target.now node) }
+        ensures last { OnOk result (waiting self.new.pairs ≡ waiting self.old.pairs ++ (record { source = source.now; target = target.now; node = node }) ∷ []) }
         ensures err { OnErr result (self.new ≡ self.old) }
     {
         let pair = WaitingPair {
