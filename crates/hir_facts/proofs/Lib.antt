@@ -25,3 +25,9 @@ pub mod Binding
 pub mod Scoping
 pub mod Allowed
 pub mod Lowering
+pub mod Spreading
+pub mod UsersOf
+pub mod PlainGraph
+pub mod PlainFns
+pub mod Callees
+pub mod PlainSamples

@@ -24,3 +24,9 @@ pub mod OneHole
 pub mod WrittenFits
 pub mod FilledFits
 pub mod Items
+pub mod Plain
+pub mod PlainAdts
+pub mod PlainTypes
+pub mod Spread
+pub mod PlainMarks
+pub mod PlainBodies

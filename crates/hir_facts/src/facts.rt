@@ -1,16 +1,19 @@
 //! Lawful facts.
-ghost use Rattle.std.specs.Prelude.{◌≡◌, ◌↔◌, ◌<◌, IfOk, IfErr, IsTrue, Some, slice_get, length};
+ghost use Rattle.std.specs.Prelude.{◌≡◌, ◌↔◌, ◌<◌, ℕ, IfOk, IfErr, IsTrue, Some, slice_get, length};
 ghost use Rattle.hir_facts.specs.declared.raw.RawBody.{RawBody};
 ghost use Rattle.hir_facts.specs.Order.{AreDepths};
 ghost use Rattle.hir_facts.specs.Bodies.{IsWalkable, HasBody, body_id_of, inputs_of};
 ghost use Rattle.hir_facts.specs.Scope.{params_of};
 ghost use Rattle.hir_facts.specs.Fit.{fits};
+ghost use Rattle.hir_facts.specs.WrittenFits.{FitsUnder};
+ghost use Rattle.hir_facts.specs.Plain.{IsPlainAdt, IsPlainOver, IsPlainFn};
 ghost use Rattle.hir_facts.specs.Laws.Lawful.{IsLawful, tests};
 ghost use Rattle.hir_facts.specs.Laws.Refused.{Refuses};
 
 use crate::checks::check;
 use crate::facts_error::FactsError;
 use crate::fit::ty_fits;
+use crate::plain::{PlainMarks, mark_at};
 use crate::raw::{Edition, RawAdt, RawBody, RawFacts, RawFn, RawLimits, RawType, RawVariant};
 use crate::schedule::Schedule;
 use crate::scope::params_of;
@@ -25,6 +28,7 @@ use std::marker::Model;
 pub struct Facts {
     raw: RawFacts,
     schedules: List<Schedule>,
+    plain: PlainMarks,
 }
 
 impl Model for Facts {
@@ -36,19 +40,27 @@ impl Model for Facts {
 
     ghost use Rattle.hir_facts.specs.Laws.Lawful.{IsLawful};
     ghost use Rattle.hir_facts.specs.Laws.Scheduled.{AreSchedules};
+    ghost use Rattle.hir_facts.specs.PlainMarks.{ArePlainMarks};
 
-    ghost invariant = { λ a. IsLawful a.raw × AreSchedules a.raw.bodies a.schedules };
+    ghost invariant = { λ a. IsLawful a.raw × AreSchedules a.raw.bodies a.schedules × ArePlainMarks a.raw a.plain };
 }
 
 impl Facts {
-    /// Tests the laws, and keeps the facts where all hold.
+    /// Tests the laws in their order, and keeps the facts where all hold. `FactsError::Law` names the
+    /// first law that is broken, with the first list and entry that break it (docs/LAWS.md);
+    /// `FactsError::OutOfMemory` says that memory ran out.
     pub fn new(alloc: Global, raw: RawFacts) -> Result<Facts, FactsError>
         ensures facts { IfOk result (λ f. f ≡ raw) }
         ensures lawful { IfOk result (λ f. IsLawful f) }
         ensures broken { IfErr result (λ e. Refuses raw tests e) }
     {
         let schedules = check(alloc, &raw)?;
-        Ok(Facts { raw, schedules })
+        let plain = PlainMarks::new(alloc, &raw)?;
+        Ok(Facts {
+            raw,
+            schedules,
+            plain,
+        })
     }
 
     /// Nothing: callers learn that facts are lawful.
@@ -163,6 +175,28 @@ impl Facts {
     {
         let schedules = self.schedules.as_slice();
         &schedules[body.0 as usize]
+    }
+
+    /// Whether an adt is plain.
+    pub fn is_plain_adt(&self, adt: AdtId) -> bool
+        ensures { IsTrue result ↔ IsPlainAdt self.now adt.0 }
+    {
+        let node = self.raw.types.len() + adt.0 as usize;
+        mark_at(self.plain.nodes.as_slice(), node)
+    }
+
+    /// Whether a written type is plain, over parameters under which it fits.
+    pub fn is_plain_type(&self, ty: TypeRefId) -> bool
+        ensures { (n : ℕ) → FitsUnder self.now n ty.0 → IsTrue result ↔ IsPlainOver self.now n ty }
+    {
+        mark_at(self.plain.nodes.as_slice(), ty.0 as usize)
+    }
+
+    /// Whether a function is there, and its signature is plain.
+    pub fn is_plain_fn(&self, function: FunctionId) -> bool
+        ensures { IsTrue result ↔ IsPlainFn self.now function }
+    {
+        mark_at(self.plain.fns.as_slice(), function.0 as usize)
     }
 
     /// The body of a definition, or `None` where it has none or is not in range.

@@ -9,9 +9,12 @@ mod graph;
 mod laws;
 mod lower;
 mod parts;
+mod plain;
+mod plain_body;
 mod raw;
 mod schedule;
 mod scope;
+mod spread;
 
 pub use facts::Facts;
 pub use facts_error::FactsError;
@@ -22,6 +25,7 @@ pub use hir_types::{
 };
 pub use laws::{FactsList, Law};
 pub use lower::{lower_ty, return_ty};
+pub use plain_body::is_plain;
 pub use raw::{
     BindingAnnotation, Edition, Other, RawAdt, RawAdtKind, RawArm, RawAt, RawBinding, RawBody,
     RawCtor, RawExpr, RawFacts, RawField, RawFn, RawLimits, RawLiteral, RawParam, RawPat, RawPath,

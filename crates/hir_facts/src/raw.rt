@@ -24,9 +24,13 @@ pub enum Edition {
 /// How far a search may go.
 #[derive(Clone, Copy, Debug)]
 pub struct RawLimits {
+    /// Levels of goals, each needed by the one before.
     pub goal_depth: u32,
+    /// Goals that may be selected for a body.
     pub goal_steps: u32,
+    /// Dereferences of a receiver.
     pub autoderef: u32,
+    /// Last fields that are followed for the size of a type.
     pub tail: u32,
 }
 
@@ -89,15 +93,20 @@ pub enum RawVis {
     Module(ModuleId),
 }
 
-/// A struct, enum or union. `unsize` is the parameter that may lose its size.
+/// A struct, enum or union.
 #[derive(Debug, Drop)]
 pub struct RawAdt {
     pub name: Text,
     pub kind: RawAdtKind,
+    /// Its generic parameters.
     pub params: List<RawParam>,
+    /// Its predicates.
     pub preds: List<Other>,
+    /// Its variants; one of a struct or union.
     pub variants: List<VariantId>,
+    /// The integer type of its discriminants, where one is written.
     pub repr: Option<IntegerTy>,
+    /// The number of the parameter that may lose its size.
     pub unsize: Option<u32>,
 }
 
@@ -131,12 +140,17 @@ pub struct RawVariant {
 #[derive(Debug, Drop)]
 pub struct RawFn {
     pub name: Text,
+    /// Where it stands.
     pub at: RawAt,
+    /// Its own generic parameters.
     pub params: List<RawParam>,
+    /// Its predicates.
     pub preds: List<Other>,
+    /// Whether its first input is that of `self`.
     pub has_self: bool,
     pub inputs: List<TypeRefId>,
     pub output: TypeRefId,
+    /// Whether it may be called outside of `unsafe`.
     pub safe: bool,
     pub vis: RawVis,
     pub body: Option<BodyId>,
@@ -252,14 +266,20 @@ pub struct RawBinding {
 /// A body.
 #[derive(Debug, Drop)]
 pub struct RawBody {
+    /// The module from which its items are seen.
     pub module: ModuleId,
+    /// The traits in scope.
     pub traits: List<TraitId>,
+    /// The binding of `self`.
     pub self_: Option<BindingId>,
+    /// The patterns of its parameters, without `self`.
     pub params: List<PatId>,
+    /// The expression that gives its value.
     pub root: ExprId,
     pub exprs: List<RawExpr>,
     pub pats: List<RawPat>,
     pub bindings: List<RawBinding>,
+    /// How many labels it has.
     pub labels: u32,
 }
 

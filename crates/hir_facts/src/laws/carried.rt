@@ -38,7 +38,7 @@ fn is_type_param(param: &RawParam) -> bool
     }
 }
 
-fn are_type_params(params: &[RawParam]) -> bool
+pub fn are_type_params(params: &[RawParam]) -> bool
     ensures { result ≡ list_all is_type_param params.now }
 {
     params.iter().all(|param| is_type_param(param))

@@ -1,0 +1,6 @@
+use Rattle.hir_facts.specs.Plain.{IsPlainExpr}
+use Rattle.hir_facts.proofs.Broken.{Passed}
+use Rattle.hir_facts.proofs.plain_body.are_plain_exprs.Given as goal
+
+abbrev pub invariant-loop-expr : goal.invariant-loop-expr
+invariant-loop-expr l = Passed (λ e x. IsPlainExpr l.facts l.count x) l.exprs l.fn.exprs l.expr-index

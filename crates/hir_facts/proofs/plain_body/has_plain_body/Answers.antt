@@ -1,0 +1,7 @@
+use Rattle.std.proofs.Common.{sym}
+use Rattle.hir_types.specs.declared.ids.DefWithBodyId.TheVariants as def
+use Rattle.hir_facts.specs.InRange.{body_in_range}
+use Rattle.hir_facts.proofs.plain_body.has_plain_body.Goals as goal
+
+pub body-requires : goal.body-requires
+body-requires c = body_in_range c.args.facts.now (def.FunctionId c.args.function) c.in-Some.body c.lawful.ensures (sym c.in-Some.ensures)
