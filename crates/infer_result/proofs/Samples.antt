@@ -18,3 +18,13 @@ pub mod Constructors
 pub mod WrongFieldCount
 pub mod NoFunction
 pub mod Placeholder
+pub mod PartAlone
+pub mod Holes
+pub mod PlainKinds
+pub mod GeneralKnown
+pub mod GeneralInteger
+pub mod GeneralShared
+pub mod SharedDerives
+pub mod PlainDerivation
+pub mod PlainBodies
+pub mod IntegerCloses

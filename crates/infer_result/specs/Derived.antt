@@ -92,7 +92,7 @@ top_adt i xs = ap out-Ty (sym (ty.rolls-Adt i xs)) ∙ out-roll-Ty (Ty-F.Adt i x
 pub adt_parts : (i j : AdtId) (xs ys : List GenericArg) → ty.Adt i xs ≡ ty.Adt j ys → (i ≡ j) × (xs ≡ ys)
 adt_parts i j xs ys h = (let k : Ty-F.Adt i xs ≡ Ty-F.Adt j ys = sym (top_adt i xs) ∙ (ap out-Ty h ∙ top_adt j ys) in (cc, cc))
 
-adt_no_tuple : (i : AdtId) (xs : List GenericArg) (ts : List Ty) → ty.Adt i xs ≡ ty.Tuple ts → ⊥
+pub adt_no_tuple : (i : AdtId) (xs : List GenericArg) (ts : List Ty) → ty.Adt i xs ≡ ty.Tuple ts → ⊥
 adt_no_tuple i xs ts h = (let k : Ty-F.Adt i xs ≡ Ty-F.Tuple ts = sym (top_adt i xs) ∙ (ap out-Ty h ∙ top_tuple ts) in cc)
 
 top_type_arg : (t : Ty) → out-GenericArg (arg.Ty t) ≡ GenericArg-F.Ty t

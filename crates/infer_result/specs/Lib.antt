@@ -14,4 +14,9 @@ pub mod Made
 pub mod Typed
 pub mod Derived
 pub mod Consequences
+pub mod Fallback
+pub mod Derivation
+pub mod DerivationLaws
+pub mod General
 pub mod Report
+pub mod Stable

@@ -4,10 +4,12 @@
 mod diagnostics;
 mod modes;
 mod result;
+mod stable;
 mod unknown;
 
 pub use diagnostics::InferenceDiagnostic;
 pub use hir_types::Mutability;
 pub use modes::BindingMode;
-pub use result::{InferenceResult, Seen, TypeMismatch};
+pub use result::{General, InferenceResult, Seen, TypeMismatch};
+pub use stable::rules_are_stable;
 pub use unknown::references_error;

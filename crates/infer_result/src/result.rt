@@ -27,9 +27,23 @@ pub struct Seen {
     pub other: Option<Ty>,
 }
 
+/// The types of a plain body before open holes fall back to anything: each type that is left open is a
+/// numbered hole, for any type or for integer types. One hole stands for one type throughout the body,
+/// and two that waited for each other are one, unless that was refused and is a mismatch. Each list has an
+/// entry for each node, or for each binding, in the order of their ids.
+#[derive(Debug, Drop, PartialEq, Eq)]
+pub struct General {
+    /// The type of each expression.
+    pub exprs: List<Ty>,
+    /// The type of each pattern.
+    pub pats: List<Ty>,
+    /// The type of each binding.
+    pub bindings: List<Ty>,
+}
+
 /// What inference found out about a body: `infer.rs`, `InferenceResult`. Each list but `seen` has an
-/// entry for each node, or for each binding, of the body, or for each written type of the facts, in the order of their ids.
-/// Each reader answers `None` for an id that there is not.
+/// entry for each node or binding of the body, or for each written type of the facts, in the order of
+/// their ids. A reader that takes an id answers `None` where there is no such id.
 #[derive(Debug, Drop, PartialEq, Eq)]
 pub struct InferenceResult {
     /// The type of each expression.
@@ -57,6 +71,8 @@ pub struct InferenceResult {
     pub pat_variants: List<Option<VariantId>>,
     /// The look-ups that failed, in the order in which they did.
     pub seen: List<Seen>,
+    /// The types before open holes fell back, of a plain body alone.
+    pub general: Option<General>,
 }
 
 impl InferenceResult {
@@ -148,5 +164,12 @@ impl InferenceResult {
         ensures { result.now ≡ self.now.seen }
     {
         self.seen.as_slice()
+    }
+
+    /// The types before open holes fell back to `i32` or `{unknown}`; `None` where the body is not plain.
+    pub fn general(&self) -> Option<&General>
+        ensures { option_copied result ≡ self.now.general }
+    {
+        self.general.as_ref()
     }
 }

@@ -63,6 +63,7 @@ table_of ts s mismatches diagnostics = record {
   expr_variants = None ∷ None ∷ None ∷ None ∷ [];
   pat_variants = [];
   seen = [];
+  general = None;
 }
 
 abbrev no_mismatch : List (Option TypeMismatch)

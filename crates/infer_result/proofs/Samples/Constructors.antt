@@ -179,6 +179,7 @@ table_of callee call name whole x bound mismatches expr_variants pat_variants = 
   expr_variants = expr_variants;
   pat_variants = pat_variants;
   seen = [];
+  general = None;
 }
 
 abbrev silent : List (Option TypeMismatch)

@@ -63,6 +63,7 @@ table_of types mismatches = record {
   expr_variants = None ∷ None ∷ None ∷ [];
   pat_variants = None ∷ [];
   seen = [];
+  general = None;
 }
 
 abbrev right : InferenceResult

@@ -87,6 +87,7 @@ table_of exprs mismatches = record {
   expr_variants = None ∷ None ∷ None ∷ None ∷ None ∷ [];
   pat_variants = None ∷ [];
   seen = [];
+  general = None;
 }
 
 abbrev silent : List (Option TypeMismatch)

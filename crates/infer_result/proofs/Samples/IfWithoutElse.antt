@@ -79,6 +79,7 @@ table_of s mismatches = record {
   expr_variants = None ∷ None ∷ None ∷ None ∷ [];
   pat_variants = None ∷ None ∷ [];
   seen = [];
+  general = None;
 }
 
 abbrev right : Ty → InferenceResult

@@ -100,6 +100,7 @@ table_of said seen = record {
   expr_variants = None ∷ None ∷ None ∷ None ∷ [];
   pat_variants = [];
   seen = seen;
+  general = None;
 }
 
 abbrev right : InferenceResult

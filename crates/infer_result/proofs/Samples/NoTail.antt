@@ -61,6 +61,7 @@ table_of types mismatches = record {
   expr_variants = None ∷ None ∷ [];
   pat_variants = None ∷ [];
   seen = [];
+  general = None;
 }
 
 abbrev right : InferenceResult

@@ -81,6 +81,7 @@ table_of first second = record {
   expr_variants = None ∷ None ∷ None ∷ None ∷ [];
   pat_variants = None ∷ [];
   seen = [];
+  general = None;
 }
 
 abbrev right : InferenceResult

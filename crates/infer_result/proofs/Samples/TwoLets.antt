@@ -81,6 +81,7 @@ table_of mismatches = record {
   expr_variants = None ∷ None ∷ None ∷ [];
   pat_variants = None ∷ None ∷ [];
   seen = [];
+  general = None;
 }
 
 abbrev right : InferenceResult

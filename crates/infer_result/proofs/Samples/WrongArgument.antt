@@ -73,6 +73,7 @@ table_of s mismatches = record {
   expr_variants = None ∷ None ∷ None ∷ None ∷ [];
   pat_variants = [];
   seen = [];
+  general = None;
 }
 
 abbrev right : InferenceResult

@@ -94,6 +94,7 @@ table_of s mismatches = record {
   expr_variants = None ∷ None ∷ None ∷ None ∷ None ∷ None ∷ None ∷ [];
   pat_variants = None ∷ None ∷ None ∷ [];
   seen = [];
+  general = None;
 }
 
 -- a mismatch at the second arm alone

@@ -59,6 +59,7 @@ table_of at_argument at_call = record {
   expr_variants = None ∷ None ∷ None ∷ None ∷ [];
   pat_variants = [];
   seen = [];
+  general = None;
 }
 
 abbrev right : InferenceResult

@@ -61,6 +61,7 @@ table_of mismatches = record {
   expr_variants = None ∷ None ∷ None ∷ None ∷ [];
   pat_variants = [];
   seen = [];
+  general = None;
 }
 
 abbrev right : InferenceResult

@@ -113,6 +113,7 @@ table_of x at_o at_pattern at_x = record {
   expr_variants = None ∷ None ∷ [];
   pat_variants = None ∷ Some (v 0) ∷ None ∷ [];
   seen = [];
+  general = None;
 }
 
 abbrev the_complaint : InferenceDiagnostic

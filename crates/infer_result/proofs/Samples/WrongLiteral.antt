@@ -93,6 +93,7 @@ table_of literal_ guard_ pattern_ = record {
   expr_variants = None ∷ None ∷ None ∷ None ∷ None ∷ None ∷ None ∷ [];
   pat_variants = None ∷ None ∷ None ∷ [];
   seen = [];
+  general = None;
 }
 
 -- a `bool` is asked for

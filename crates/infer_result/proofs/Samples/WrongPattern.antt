@@ -93,6 +93,7 @@ table_of whole second pat_mismatches = record {
   expr_variants = None ∷ None ∷ [];
   pat_variants = None ∷ None ∷ None ∷ None ∷ [];
   seen = [];
+  general = None;
 }
 
 abbrev right : InferenceResult

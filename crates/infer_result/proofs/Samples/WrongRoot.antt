@@ -57,6 +57,7 @@ table_of types mismatches = record {
   expr_variants = None ∷ None ∷ [];
   pat_variants = [];
   seen = [];
+  general = None;
 }
 
 abbrev right : InferenceResult

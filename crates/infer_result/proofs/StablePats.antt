@@ -1,0 +1,167 @@
+-- The rules of patterns hold of a table under an assignment where they hold of the table.
+use Rattle.std.proofs.Common.{ℕ, ◌≡◌, inl, inr, refl, sym, ap, subst, ◌∙◌, List, [], ◌∷◌, map, Option, Some, None, slice_get}
+use Rattle.hir_types.specs.declared.ids.PatId.{PatId}
+use Rattle.hir_types.specs.declared.ids.TypeRefId.{TypeRefId}
+use Rattle.hir_types.specs.declared.ids.VariantId.{VariantId}
+use Rattle.hir_types.specs.declared.ids.ExprOrPatId.TheVariants as node
+use Rattle.hir_types.specs.declared.ty.Ty.{Ty}
+use Rattle.hir_types.specs.declared.ty.Ty.TheVariants as ty
+use Rattle.hir_types.specs.Subst.{Assignment, folded}
+use Rattle.hir_facts.specs.declared.raw.RawPat.{RawPat}
+use Rattle.hir_facts.specs.declared.raw.RawPat.TheVariants as pat
+use Rattle.hir_facts.specs.declared.raw.RawPath.TheVariants as path
+use Rattle.hir_facts.specs.declared.raw.RawVariant.{RawVariant}
+use Rattle.hir_facts.specs.Laws.Lawful.{IsLawful}
+use Rattle.hir_facts.specs.Order.{Role, parameter, root, initializer, let_pattern, let_else, statement, tail, element, condition, then_branch, else_branch, scrutinee, arm_pattern, guard, arm, callee, argument, subpattern, pattern_literal, Node, the_body, inner}
+use Rattle.hir_facts.specs.Signatures.{field_types, type_args}
+use Rattle.hir_facts.specs.Types.{written_type}
+use Rattle.infer_result.specs.declared.result.InferenceResult.{InferenceResult}
+use Rattle.infer_result.specs.Table.{PatTy}
+use Rattle.infer_result.specs.Places.{Given, StandsAt, declared, IsVariantAt, adt_at, fields_at, PatIsAtOrMismatch, GivesComponent, GivesField, GivesPart, Gives}
+use Rattle.infer_result.specs.Derived.{one_at, tuple_parts, adt_parts, adt_no_tuple, same_type_args}
+use Rattle.infer_result.specs.Parts.{PartStands, comes_from}
+use Rattle.infer_result.specs.Rules.Patterns.{AllPatsAt, PatsAtFields, CtorPatRule, PatRule, ObeysPattern}
+use Rattle.infer_result.specs.Stable.{diagnostic_under, table_under, WholeObeys}
+use Rattle.infer_result.proofs.Unchanged.{IsUnchanged, instances_under, fields_unchanged}
+use Rattle.infer_result.proofs.Under.{At-under, At-before, entry_before, tuple_under, adt_under, variant_under, type_under, pat_type_under, recorded_before, declared_under}
+use Rattle.infer_result.proofs.StableExprs.{pat_at_under, ctor_path_under}
+
+module _ (g : Given) (law : IsLawful g.scope.facts) (a : Assignment) (t : InferenceResult) where
+  abbrev after : InferenceResult
+  after = table_under a t
+
+  -- the fields at types are changed as the types are
+  fields_under : (v : VariantId) (x : RawVariant) (ts : List Ty) → IsVariantAt g v x ts → map (folded a) (fields_at g x ts) ≡ fields_at g x (map (folded a) ts)
+  fields_under v x ts h = instances_under a ts (field_types g.scope.facts.types x) (fields_unchanged g.scope.facts law v.0 x h.found)
+
+  -- ---- each kind of pattern
+
+  all_pats_under : (ps : List PatId) (ss : List Ty) → AllPatsAt g t ps ss → AllPatsAt g (table_under a t) ps (map (folded a) ss)
+  all_pats_under [] [] h = tt
+  all_pats_under [] (s ∷ ss) h = absurd h
+  all_pats_under (p ∷ ps) [] h = absurd h
+  all_pats_under (p ∷ ps) (s ∷ ss) h = (pat_at_under g a t p s h.0, all_pats_under ps ss h.1)
+
+  pats_at_under : (ps : List PatId) (ss : List Ty) → PatsAtFields g t ps ss → PatsAtFields g (table_under a t) ps (map (folded a) ss)
+  pats_at_under [] ss h = tt
+  pats_at_under (p ∷ ps) [] h = tt
+  pats_at_under (p ∷ ps) (s ∷ ss) h = (pat_at_under g a t p s h.0, pats_at_under ps ss h.1)
+
+  pub kind_under : (p : PatId) (o : Option RawPat) → PatRule g t p o → PatRule g (table_under a t) p o
+  kind_under p None h = h
+  kind_under p (Some pat.Wild) (s, h) = (folded a s, pat_type_under a t p s (folded a s) h refl)
+  kind_under p (Some (pat.Bind v sub)) (s, h, k, m) = (folded a s, pat_type_under a t p s (folded a s) h refl, At-under (folded a) t.type_of_binding v.0 s k, m)
+  kind_under p (Some (pat.Tuple ps)) (ss, h, k) = (map (folded a) ss, pat_type_under a t p _ _ h (tuple_under a ss), all_pats_under ps ss k)
+  kind_under p (Some (pat.TupleStruct v ps)) h = record {
+    variant = h.variant;
+    types = map (folded a) h.types;
+    is_variant = variant_under a g v h.variant h.types h.is_variant;
+    has = pat_type_under a t p _ _ h.has (adt_under a h.variant.adt h.types);
+    parts = subst (λ ss. PatsAtFields g (table_under a t) ps ss) (fields_under v h.variant h.types h.is_variant) (pats_at_under ps (fields_at g h.variant h.types) h.parts);
+    counted = elim h.counted [ inl k ↦ inl k | inr k ↦ inr (At-under (diagnostic_under a) t.pat_diagnostics p.0 _ k) ];
+    resolved = h.resolved;
+  }
+  kind_under p (Some (pat.Path (path.Ctor v))) (s, h, k, r) = (folded a s, pat_type_under a t p s (folded a s) h refl, ctor_path_under a g v s k, r)
+  kind_under p (Some (pat.Path (path.Local v))) h = h
+  kind_under p (Some (pat.Path (path.Function f))) h = h
+  kind_under p (Some (pat.Path path.Other)) h = h
+  kind_under p (Some (pat.Lit e)) (s, h, k) = (folded a s, pat_type_under a t p s (folded a s) h refl, type_under a t e s (folded a s) k refl)
+  kind_under p (Some pat.Other) h = h
+
+  -- ---- what comes into a pattern
+
+  -- the whole gives a part what it gave before, under the assignment, where it obeys its own rule
+  module _ (q : PatId) where
+    -- its type before and after
+    same_after : (s u : Ty) → PatTy t q s → PatTy (table_under a t) q u → folded a s ≡ u
+    same_after s u h k = one_at after.type_of_pat q.0 (folded a s) u (At-under (folded a) t.type_of_pat q.0 s h) k
+
+    component_of : (ps : List PatId) → PatRule g t q (Some (pat.Tuple ps)) → (i : ℕ) (s : Ty) → GivesComponent (table_under a t) q i s → (u : Ty) × GivesComponent t q i u × (folded a u ≡ s)
+    component_of ps (ss, h, k) i s c =
+        let same : map (folded a) ss ≡ c.types = tuple_parts (map (folded a) ss) c.types (sym (tuple_under a ss) ∙ same_after (ty.Tuple ss) (ty.Tuple c.types) h c.has) in
+        let x = entry_before (folded a) ss i s (ap (λ us. slice_get us i) same ∙ c.component) in
+        (x.0, record { types = ss; has = h; component = x.1 }, x.2)
+
+    no_component : (v : VariantId) (ps : List PatId) → PatRule g t q (Some (pat.TupleStruct v ps)) → (i : ℕ) (s : Ty) → GivesComponent (table_under a t) q i s → ⊥
+    no_component v ps h i s c =
+        adt_no_tuple h.variant.adt (type_args (map (folded a) h.types)) c.types
+        (sym (adt_under a h.variant.adt h.types) ∙ same_after (adt_at h.variant h.types) (ty.Tuple c.types) h.has c.has)
+
+    component_before : (i : ℕ) (p : PatId) → PartStands g.body q i p → PatRule g t q (slice_get g.body.pats q.0) → (s : Ty) → GivesComponent (table_under a t) q i s → (u : Ty) × GivesComponent t q i u × (folded a u ≡ s)
+    component_before i p stands h s c = elim stands.whole [
+      | inl is ↦ component_of stands.parts (subst (λ o. PatRule g t q o) is h) i s c
+      | inr is ↦ absurd (no_component is.0 stands.parts (subst (λ o. PatRule g t q o) is.1 h) i s c)
+    ]
+
+    field_before : (i : ℕ) → PatRule g t q (slice_get g.body.pats q.0) → (s : Ty) → GivesField g (table_under a t) q i s → (u : Ty) × GivesField g t q i u × (folded a u ≡ s)
+    field_before i h s f =
+        let r : CtorPatRule g t q f.named f.parts = subst (λ o. PatRule g t q o) f.is_pat h in
+        let one : r.variant ≡ f.variant = (let e : Some r.variant ≡ Some f.variant = sym r.is_variant.found ∙ f.is_variant.found in cc) in
+        let parts = adt_parts r.variant.adt f.variant.adt (type_args (map (folded a) r.types)) (type_args f.types)
+        (sym (adt_under a r.variant.adt r.types) ∙ same_after (adt_at r.variant r.types) (adt_at f.variant f.types) r.has f.has) in
+        let same : map (folded a) r.types ≡ f.types = same_type_args (map (folded a) r.types) f.types parts.1 in
+        let fields : map (folded a) (fields_at g r.variant r.types) ≡ fields_at g f.variant f.types =
+        fields_under f.named r.variant r.types r.is_variant ∙ (λ j. fields_at g (one j) (same j)) in
+        let x = entry_before (folded a) (fields_at g r.variant r.types) i s (ap (λ us. slice_get us i) fields ∙ f.field) in (
+          x.0,
+          record {
+            named = f.named;
+            parts = f.parts;
+            is_pat = f.is_pat;
+            variant = r.variant;
+            types = r.types;
+            is_variant = r.is_variant;
+            has = r.has;
+            field = x.1;
+          },
+          x.2,
+        )
+
+  -- where the types of parameters have no holes
+  module _ (inputs : (i : ℕ) (w : TypeRefId) → slice_get g.inputs i ≡ Some w → IsUnchanged (written_type g.scope.facts.types w)) (p : PatId) (whole : WholeObeys g t p) where
+    abbrev Before : Node → Role → Ty → Type 0
+    Before n role s = (u : Ty) × Gives g t n role u × (folded a u ≡ s)
+
+    part_before : (n : Node) (k i : ℕ) → StandsAt g.body (node.PatId p) n k (subpattern i) → (s : Ty) → GivesPart g (table_under a t) n i s → Before n (subpattern i) s
+    part_before the_body k i stands s h = absurd h
+    part_before (inner (node.ExprId n)) k i stands s h = absurd h
+    part_before (inner (node.PatId q)) k i stands s (inl h) =
+        let from = comes_from g.body (inner (node.PatId q)) k (record { node = node.PatId p; role = subpattern i }) stands.part in
+        let here : q ≡ from.2.0 = (let e = from.2.1 in cc) in
+        let x = component_before q i from.0 (subst (λ y. PartStands g.body y i from.0) (sym here) from.2.2) (whole q k (subpattern i) stands) s h in
+        (x.0, inl x.1, x.2)
+    part_before (inner (node.PatId q)) k i stands s (inr h) = let x = field_before q i (whole q k (subpattern i) stands) s h in (x.0, inr x.1, x.2)
+
+    type_before : (n : Node) (role : Role) → (k : ℕ) → StandsAt g.body (node.PatId p) n k role → (s : Ty) → Gives g (table_under a t) n role s → Before n role s
+    type_before n (parameter i) k stands s (w, found, is) = (written_type g.scope.facts.types w, (w, found, refl), inputs i w found a ∙ sym is)
+    type_before n root k stands s h = absurd h
+    type_before n (initializer w) k stands s h = absurd h
+    type_before n (let_pattern (Some w) init) k stands s (r, is) =
+        let before = recorded_before a t g w r in
+        (declared g t w, (before, refl), declared_under a t g w before ∙ sym is)
+    type_before n (let_pattern None (Some e)) k stands s h = At-before (folded a) t.type_of_expr e.0 s h
+    type_before n (let_pattern None None) k stands s h = absurd h
+    type_before n let_else k stands s h = absurd h
+    type_before n (statement semicolon) k stands s h = absurd h
+    type_before n tail k stands s h = absurd h
+    type_before n (element i) k stands s h = absurd h
+    type_before n condition k stands s h = absurd h
+    type_before n then_branch k stands s h = absurd h
+    type_before n else_branch k stands s h = absurd h
+    type_before n scrutinee k stands s h = absurd h
+    type_before n (arm_pattern e i) k stands s h = At-before (folded a) t.type_of_expr e.0 s h
+    type_before n (guard i) k stands s h = absurd h
+    type_before n (arm i) k stands s h = absurd h
+    type_before n callee k stands s h = absurd h
+    type_before n (argument i) k stands s h = absurd h
+    type_before n (subpattern i) k stands s h = part_before n k i stands s h
+    type_before n pattern_literal k stands s h = absurd h
+
+    pub pattern_under : ObeysPattern g t p → ObeysPattern g (table_under a t) p
+    pattern_under h = record {
+      incoming = λ s c.
+          (let x = type_before c.parent c.role c.at_part c.stands s c.gives in
+          subst (λ u. PatIsAtOrMismatch g (table_under a t) p u) x.2
+          (pat_at_under g a t p x.0 (h.incoming x.0 (record { parent = c.parent; at_part = c.at_part; role = c.role; stands = c.stands; gives = x.1 }))));
+      kind = kind_under p (slice_get g.body.pats p.0) h.kind;
+    }

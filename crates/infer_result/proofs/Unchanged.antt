@@ -1,0 +1,121 @@
+-- What facts write has no holes that inference made, so no assignment changes it.
+use Rattle.std.proofs.Common.{ℕ, zero, suc, ◌≡◌, refl, sym, ap, subst, ◌∙◌, List, [], ◌∷◌, map, Option, Some, None, slice_get, option_map, option_and_then}
+use Rattle.hir_types.specs.declared.ids.AdtId.{AdtId}
+use Rattle.hir_types.specs.declared.ids.CallableDefId.{CallableDefId}
+use Rattle.hir_types.specs.declared.ids.CallableDefId.TheVariants as callable
+use Rattle.hir_types.specs.declared.ids.DefWithBodyId.{DefWithBodyId}
+use Rattle.hir_types.specs.declared.ids.DefWithBodyId.TheVariants as def
+use Rattle.hir_types.specs.declared.ids.TypeRefId.{TypeRefId}
+use Rattle.hir_types.specs.declared.ty.Ty.{Ty}
+use Rattle.hir_types.specs.declared.ty.Ty.TheVariants as ty
+use Rattle.hir_types.specs.Subst.{Assignment, with_holes, folded}
+use Rattle.hir_types.specs.Folding.{replaced_adt, replaced_error, replaced_param}
+use Rattle.hir_types.specs.Instances.{types_args_folded, instance_at_types}
+use Rattle.hir_facts.specs.declared.raw.RawCtor.{RawCtor}
+use Rattle.hir_facts.specs.declared.raw.RawCtor.TheVariants as ctor
+use Rattle.hir_facts.specs.declared.raw.RawField.{RawField}
+use Rattle.hir_facts.specs.declared.raw.RawFn.{RawFn}
+use Rattle.hir_facts.specs.declared.raw.RawType.{RawType}
+use Rattle.hir_facts.specs.declared.raw.RawVariant.{RawVariant}
+use Rattle.hir_facts.specs.declared.raw.RawFacts.{RawFacts}
+use Rattle.hir_facts.specs.Bodies.{output_by, return_type, inputs_of}
+use Rattle.hir_facts.specs.Filled.{filled_written, filled_folded}
+use Rattle.hir_facts.specs.Laws.Lawful.{IsLawful}
+use Rattle.hir_facts.specs.Laws.Standing.{HasNoHole}
+use Rattle.hir_facts.specs.NoHoles.{input_has_no_hole, output_has_no_hole, field_has_no_hole, definition_input_has_no_hole}
+use Rattle.hir_facts.specs.Scope.{adt_params}
+use Rattle.hir_facts.specs.Signatures.{Signature, fn_signature, signature_of, signature_by, ctor_signature, field_types, own_adt, params_from, type_args, at_args}
+use Rattle.hir_facts.specs.Types.{written_type}
+
+-- no assignment changes the type
+abbrev pub IsUnchanged : Ty → Type 0
+IsUnchanged t = (a : Assignment) → folded a t ≡ t
+
+-- none changes any of these
+abbrev pub AllUnchanged : List Ty → Type 0
+AllUnchanged [] = Unit {0}
+AllUnchanged (t ∷ ts) = IsUnchanged t × AllUnchanged ts
+
+-- at types for its parameters, such a type is changed as these are
+pub instances_under : (a : Assignment) (ts us : List Ty) → AllUnchanged us → map (folded a) (map (at_args ts) us) ≡ map (at_args (map (folded a) ts)) us
+instances_under a ts [] h = refl
+instances_under a ts (u ∷ us) h = λ i. instance_at_types a ts u h.0 i ∷ instances_under a ts us h.1 i
+
+-- ---- written types
+
+fill : ℕ → Ty
+fill k = ty.Bool
+
+pub written_unchanged : (types : List RawType) (w : TypeRefId) → HasNoHole types w → IsUnchanged (written_type types w)
+written_unchanged types w none a =
+    ap (folded a) (sym (filled_written fill types w none)) ∙ (filled_folded a fill types w ∙ filled_written (λ k. folded a (fill k)) types w none)
+
+all_written : (types : List RawType) (ws : List TypeRefId) → ((k : ℕ) (w : TypeRefId) → slice_get ws k ≡ Some w → HasNoHole types w) → AllUnchanged (map (written_type types) ws)
+all_written types [] none = tt
+all_written types (w ∷ ws) none = (written_unchanged types w (none 0 w refl), all_written types ws (λ k v e. none (suc k) v e))
+
+all_fields : (types : List RawType) (fs : List RawField) → ((k : ℕ) (f : RawField) → slice_get fs k ≡ Some f → HasNoHole types f.ty) → AllUnchanged (map (λ (f : RawField). written_type types f.ty) fs)
+all_fields types [] none = tt
+all_fields types (f ∷ fs) none = (written_unchanged types f.ty (none 0 f refl), all_fields types fs (λ k x e. none (suc k) x e))
+
+-- an adt at its own parameters
+params_unchanged : (a : Assignment) (i n : ℕ) → map (folded a) (params_from i n) ≡ params_from i n
+params_unchanged a i zero = refl
+params_unchanged a i (suc n) = λ j. replaced_param (with_holes a) i j ∷ params_unchanged a (suc i) n j
+
+own_adt_unchanged : (id : AdtId) (n : ℕ) → IsUnchanged (own_adt id n)
+own_adt_unchanged id n a =
+    replaced_adt (with_holes a) id (type_args (params_from 0 n)) ∙ ap (ty.Adt id) (types_args_folded a (params_from 0 n) ∙ ap type_args (params_unchanged a 0 n))
+
+-- ---- what lawful facts write
+
+-- of a function or a constructor: what it takes and gives
+pub record IsUnchangedSignature (σ : Signature) : Type 0 where
+  pub inputs : AllUnchanged σ.inputs
+  pub output : IsUnchanged σ.output
+
+module _ (raw : RawFacts) (law : IsLawful raw) where
+  pub fields_unchanged : (v : ℕ) (x : RawVariant) → slice_get raw.variants v ≡ Some x → AllUnchanged (field_types raw.types x)
+  fields_unchanged v x found = all_fields raw.types x.fields (λ k f e. field_has_no_hole raw law v x found k f e)
+
+  by_fn : (f : ℕ) (o : Option RawFn) (σ : Signature) → slice_get raw.fns f ≡ o → option_map (fn_signature raw.types) o ≡ Some σ → IsUnchangedSignature σ
+  by_fn f None σ found is = absurd (cc)
+  by_fn f (Some x) σ found is =
+      let own : fn_signature raw.types x ≡ σ = cc in
+      subst IsUnchangedSignature own (record {
+        inputs = all_written raw.types x.inputs (λ k w e. input_has_no_hole raw law f x found k w e);
+        output = written_unchanged raw.types x.output (output_has_no_hole raw law f x found);
+      })
+
+  by_ctor : (v : ℕ) (x : RawVariant) → slice_get raw.variants v ≡ Some x → (k : RawCtor) (n : ℕ) (σ : Signature) → signature_by k raw.types n x ≡ Some σ → IsUnchangedSignature σ
+  by_ctor v x found ctor.Unit n σ is = absurd (cc)
+  by_ctor v x found ctor.Record n σ is = absurd (cc)
+  by_ctor v x found ctor.Tuple n σ is =
+      let own : record { params = n; inputs = field_types raw.types x; output = own_adt x.adt n } ≡ σ = cc in
+      subst IsUnchangedSignature own (record { inputs = fields_unchanged v x found; output = own_adt_unchanged x.adt n })
+
+  by_params : (v : ℕ) (x : RawVariant) → slice_get raw.variants v ≡ Some x → (o : Option ℕ) (σ : Signature) → option_and_then (λ n. ctor_signature raw.types n x) o ≡ Some σ → IsUnchangedSignature σ
+  by_params v x found None σ is = absurd (cc)
+  by_params v x found (Some n) σ is = by_ctor v x found x.ctor n σ is
+
+  by_variant : (v : ℕ) (o : Option RawVariant) (σ : Signature) → slice_get raw.variants v ≡ o → option_and_then (λ x. option_and_then (λ n. ctor_signature raw.types n x) (adt_params raw x.adt)) o ≡ Some σ → IsUnchangedSignature σ
+  by_variant v None σ found is = absurd (cc)
+  by_variant v (Some x) σ found is = by_params v x found (adt_params raw x.adt) σ is
+
+  pub signature_unchanged : (item : CallableDefId) (σ : Signature) → signature_of raw item ≡ Some σ → IsUnchangedSignature σ
+  signature_unchanged (callable.FunctionId f) σ is = by_fn f.0 (slice_get raw.fns f.0) σ refl is
+  signature_unchanged (callable.VariantId v) σ is = by_variant v.0 (slice_get raw.variants v.0) σ refl is
+
+  by_output : (f : ℕ) (o : Option RawFn) → slice_get raw.fns f ≡ o → IsUnchanged (output_by raw o)
+  by_output f None found a = replaced_error (with_holes a)
+  by_output f (Some x) found a = written_unchanged raw.types x.output (output_has_no_hole raw law f x found) a
+
+  -- of a definition: what its body is typed against
+  pub output_unchanged : (d : DefWithBodyId) → IsUnchanged (return_type raw d)
+  output_unchanged (def.FunctionId f) a = by_output f.0 (slice_get raw.fns f.0) refl a
+  output_unchanged (def.ConstId c) a = replaced_error (with_holes a)
+  output_unchanged (def.StaticId s) a = replaced_error (with_holes a)
+  output_unchanged (def.VariantId v) a = replaced_error (with_holes a)
+
+  pub input_unchanged : (d : DefWithBodyId) (i : ℕ) (w : TypeRefId) → slice_get (inputs_of raw d) i ≡ Some w → IsUnchanged (written_type raw.types w)
+  input_unchanged d i w here = written_unchanged raw.types w (definition_input_has_no_hole raw law d i w here)

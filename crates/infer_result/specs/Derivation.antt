@@ -1,0 +1,72 @@
+-- Derivations: tables without complaint, of types that are known, in which each node obeys its rule.
+use Rattle.std.specs.Prelude.{◌≡◌, ◌<◌, ℕ, List, length, slice_get, Some}
+use Rattle.hir_types.specs.declared.ids.ExprId.{ExprId}
+use Rattle.hir_types.specs.declared.ids.PatId.{PatId}
+use Rattle.hir_types.specs.declared.ids.BindingId.{BindingId}
+use Rattle.hir_types.specs.declared.ids.CallableDefId.{CallableDefId}
+use Rattle.hir_types.specs.declared.ids.DefWithBodyId.{DefWithBodyId}
+use Rattle.hir_types.specs.declared.ty.Ty.{Ty}
+use Rattle.hir_types.specs.declared.ty.Ty.TheVariants as ty
+use Rattle.hir_facts.specs.declared.raw.RawExpr.TheVariants as expr
+use Rattle.hir_facts.specs.declared.raw.RawBody.{RawBody}
+use Rattle.hir_facts.specs.declared.raw.RawFacts.{RawFacts}
+use Rattle.hir_facts.specs.Bodies.{body_of}
+use Rattle.hir_facts.specs.Scope.{Scope, scope_of}
+use Rattle.hir_facts.specs.Signatures.{type_args}
+use Rattle.hir_facts.specs.PlainTypes.{IsPlainIn, ArePlainIn}
+use Rattle.infer_result.specs.declared.result.InferenceResult.{InferenceResult}
+use Rattle.infer_result.specs.declared.result.TypeMismatch.{TypeMismatch}
+use Rattle.infer_result.specs.declared.diagnostics.InferenceDiagnostic.{InferenceDiagnostic}
+use Rattle.infer_result.specs.Table.{At, HasTy, PatTy, BindingTy}
+use Rattle.infer_result.specs.Closed.{IsOfBody, IsTotal, AllTypes, IsClosedTable, OnlyBindersHaveModes, OnlyNamedVariants}
+use Rattle.infer_result.specs.Fit.{TypesFit}
+use Rattle.infer_result.specs.Unknown.{IsKnown}
+use Rattle.infer_result.specs.Places.{HasPlaceholders}
+use Rattle.infer_result.specs.Rules.Expressions.{ObeysExpression, BodyObeys}
+use Rattle.infer_result.specs.Rules.Patterns.{ObeysPattern}
+use Rattle.infer_result.specs.Typed.{given}
+
+-- no complaint stands in the table
+pub record HasNoComplaint (t : InferenceResult) : Type 0 where
+  pub mismatches : (n : ℕ) (m : TypeMismatch) → At t.expr_mismatches n m → ⊥
+  pub diagnostics : (n : ℕ) (d : InferenceDiagnostic) → At t.expr_diagnostics n d → ⊥
+  pub pat_mismatches : (n : ℕ) (m : TypeMismatch) → At t.pat_mismatches n m → ⊥
+  pub pat_diagnostics : (n : ℕ) (d : InferenceDiagnostic) → At t.pat_diagnostics n d → ⊥
+
+-- The table is one of the definition's body, with a type for each node and binding. No hole and no `{unknown}` stands in it, but for
+-- what failed look-ups saw and for types before fallback, and no complaint; its types name what the facts have; modes, variants and
+-- what `_`s stand for are recorded where they belong; and each node, and the body, obeys its rule whole.
+pub record IsDerivation (raw : RawFacts) (d : DefWithBodyId) (t : InferenceResult) : Type 0 where
+  pub body : RawBody
+  pub is_body : body_of raw d ≡ Some body
+  pub of_body : IsOfBody body t
+  pub total : IsTotal body t
+  pub closed : IsClosedTable t
+  pub known : AllTypes IsKnown t
+  pub fit : TypesFit raw d t
+  pub clean : HasNoComplaint t
+  pub modes : OnlyBindersHaveModes body t
+  pub placeholders : HasPlaceholders (given raw d body) t
+  pub variants : OnlyNamedVariants body t
+  pub exprs : (e : ExprId) → e.0 < length body.exprs → ObeysExpression (given raw d body) t e
+  pub pats : (p : PatId) → p.0 < length body.pats → ObeysPattern (given raw d body) t p
+  pub root : BodyObeys (given raw d body) t
+
+-- ---- plain ones
+
+-- the expression is what a call calls
+abbrev pub IsCalled : RawBody → ExprId → Type 0
+IsCalled b e = (n : ExprId) × (args : List ExprId) × (slice_get b.exprs n.0 ≡ Some (expr.Call e args))
+
+-- a function or a constructor, at plain types
+abbrev pub IsPlainItem : Scope → Ty → Type 0
+IsPlainItem sc s = (id : CallableDefId) × (ts : List Ty) × (s ≡ ty.FnDef id (type_args ts)) × ArePlainIn sc ts
+
+-- The types of a derivation are plain, but that what is called has that of an item at plain types. Adjustments, of which it has none,
+-- are not carried yet.
+pub record IsPlainDerivation (raw : RawFacts) (d : DefWithBodyId) (t : InferenceResult) : Type 0 where
+  pub derivation : IsDerivation raw d t
+  pub called : (e : ExprId) (s : Ty) → HasTy t e s → IsCalled derivation.body e → IsPlainItem (scope_of raw d) s
+  pub exprs : (e : ExprId) (s : Ty) → HasTy t e s → (IsCalled derivation.body e → ⊥) → IsPlainIn (scope_of raw d) s
+  pub pats : (p : PatId) (s : Ty) → PatTy t p s → IsPlainIn (scope_of raw d) s
+  pub bindings : (v : BindingId) (s : Ty) → BindingTy t v s → IsPlainIn (scope_of raw d) s

@@ -1,0 +1,91 @@
+-- Typed tables without complaint, of types that are known, are derivations.
+use Rattle.std.specs.Prelude.{◌⊎◌, List, [], ◌∷◌, slice_get, Option, Some, None}
+use Rattle.std.proofs.Common.{inl, inr}
+use Rattle.hir_types.specs.declared.ids.ExprId.{ExprId}
+use Rattle.hir_types.specs.declared.ids.DefWithBodyId.{DefWithBodyId}
+use Rattle.hir_facts.specs.declared.raw.RawStmt.{RawStmt}
+use Rattle.hir_facts.specs.declared.raw.RawStmt.TheVariants as stmt
+use Rattle.hir_facts.specs.declared.raw.RawArm.{RawArm}
+use Rattle.hir_facts.specs.declared.raw.RawExpr.{RawExpr}
+use Rattle.hir_facts.specs.declared.raw.RawExpr.TheVariants as expr
+use Rattle.hir_facts.specs.declared.raw.RawFacts.{RawFacts}
+use Rattle.infer_result.specs.declared.result.InferenceResult.{InferenceResult}
+use Rattle.infer_result.specs.Table.{HasMismatch, AnyMismatch, WasSeen}
+use Rattle.infer_result.specs.Closed.{AllTypes}
+use Rattle.infer_result.specs.Unknown.{IsKnown}
+use Rattle.infer_result.specs.Excused.{MaybeMismatch, StmtHasMismatch, StmtsHaveMismatch, GuardsHaveMismatch, ExcusedAs}
+use Rattle.infer_result.specs.Places.{Given}
+use Rattle.infer_result.specs.Rules.Branches.{branches_of, arm_exprs}
+use Rattle.infer_result.specs.Typed.{IsTyped, IsTableOf}
+use Rattle.infer_result.specs.Derivation.{HasNoComplaint, IsDerivation}
+
+module _ (g : Given) (t : InferenceResult) (h : IsTyped g t) (known : AllTypes IsKnown t) (clean : HasNoComplaint t) where
+  no_mismatch : (e : ExprId) → HasMismatch t e → ⊥
+  no_mismatch e (x, at) = clean.mismatches e.0 x at
+
+  none_of : (es : List ExprId) → AnyMismatch t es → ⊥
+  none_of [] m = m
+  none_of (e ∷ es) (inl m) = no_mismatch e m
+  none_of (e ∷ es) (inr m) = none_of es m
+
+  no_maybe : (o : Option ExprId) → MaybeMismatch t o → ⊥
+  no_maybe None m = m
+  no_maybe (Some e) m = no_mismatch e m
+
+  no_stmt : (s : RawStmt) → StmtHasMismatch t s → ⊥
+  no_stmt (stmt.Let p w init other) m = no_maybe init m
+  no_stmt (stmt.Expr e semicolon) m = no_mismatch e m
+
+  no_stmts : (ss : List RawStmt) → StmtsHaveMismatch t ss → ⊥
+  no_stmts [] m = m
+  no_stmts (s ∷ ss) (inl m) = no_stmt s m
+  no_stmts (s ∷ ss) (inr m) = no_stmts ss m
+
+  no_guards : (arms : List RawArm) → GuardsHaveMismatch t arms → ⊥
+  no_guards [] m = m
+  no_guards (a ∷ arms) (inl m) = no_maybe a.guard m
+  no_guards (a ∷ arms) (inr m) = no_guards arms m
+
+  -- a look-up that failed would be said
+  not_seen : (e : ExprId) → WasSeen t e → ⊥
+  not_seen e w =
+      let x = h.seen w.position w.entry w.found in
+      clean.diagnostics x.call.0 _ (h.said w.position w.entry w.found x.call x.called x.args x.type x.is_node x.is_call x.has (known.exprs x.called.0 x.type x.has))
+
+  not_excused : (n : ExprId) (o : Option RawExpr) → ExcusedAs t n o → ⊥
+  not_excused n None m = m
+  not_excused n (Some (expr.Lit l)) m = m
+  not_excused n (Some (expr.Path p)) m = m
+  not_excused n (Some (expr.Tuple es)) m = m
+  not_excused n (Some (expr.Block label stmts last)) (inl m) = no_mismatch n m
+  not_excused n (Some (expr.Block label stmts last)) (inr (inl m)) = no_stmts stmts m
+  not_excused n (Some (expr.Block label stmts last)) (inr (inr m)) = no_maybe last m
+  not_excused n (Some (expr.If c first other)) (inl m) = no_mismatch c m
+  not_excused n (Some (expr.If c first other)) (inr m) = none_of (branches_of n first other) m
+  not_excused n (Some (expr.Match e arms)) (inl m) = no_guards arms m
+  not_excused n (Some (expr.Match e arms)) (inr m) = none_of (arm_exprs arms) m
+  not_excused n (Some (expr.Call f args)) (inl (d, at)) = clean.diagnostics n.0 d at
+  not_excused n (Some (expr.Call f args)) (inr w) = not_seen n w
+  not_excused n (Some expr.Other) m = m
+
+  obeys : {A B : Type 0} → (A → ⊥) → A ⊎ B → B
+  obeys never (inl a) = absurd (never a)
+  obeys never (inr b) = b
+
+pub derivation_of : (raw : RawFacts) (d : DefWithBodyId) (t : InferenceResult) → IsTableOf raw d t → AllTypes IsKnown t → HasNoComplaint t → IsDerivation raw d t
+derivation_of raw d t h known clean = record {
+  body = h.body;
+  is_body = h.is_body;
+  of_body = h.typed.of_body;
+  total = h.typed.total;
+  closed = h.typed.closed;
+  known = known;
+  fit = h.fit;
+  clean = clean;
+  modes = h.typed.modes;
+  placeholders = h.typed.placeholders;
+  variants = h.typed.variants;
+  exprs = λ e within. obeys _ t h.typed known clean (not_excused _ t h.typed known clean e (slice_get h.body.exprs e.0)) (h.typed.exprs e within);
+  pats = h.typed.pats;
+  root = obeys _ t h.typed known clean (no_mismatch _ t h.typed known clean h.body.root) h.typed.body_rule;
+}

@@ -1,0 +1,80 @@
+-- Node rules are stable: what obeys its rule obeys it too where types stand in the place of more holes.
+use Rattle.std.specs.Prelude.{ℕ, ◌≡◌, ◌<◌, List, length, map, slice_get, Option, Some}
+use Rattle.std.specs.Option.{option_map}
+use Rattle.hir_types.specs.declared.ids.ExprId.{ExprId}
+use Rattle.hir_types.specs.declared.ids.PatId.{PatId}
+use Rattle.hir_types.specs.declared.ids.DefWithBodyId.{DefWithBodyId}
+use Rattle.hir_types.specs.declared.ids.ExprOrPatId.TheVariants as node
+use Rattle.hir_types.specs.Subst.{Assignment, folded, composed}
+use Rattle.hir_facts.specs.declared.raw.RawBody.{RawBody}
+use Rattle.hir_facts.specs.declared.raw.RawFacts.{RawFacts}
+use Rattle.hir_facts.specs.Bodies.{body_of}
+use Rattle.hir_facts.specs.Order.{Role, inner}
+use Rattle.infer_result.specs.declared.result.InferenceResult.{InferenceResult}
+use Rattle.infer_result.specs.declared.result.TypeMismatch.{TypeMismatch}
+use Rattle.infer_result.specs.declared.diagnostics.InferenceDiagnostic.{InferenceDiagnostic}
+use Rattle.infer_result.specs.declared.diagnostics.InferenceDiagnostic.TheVariants as diagnostic
+use Rattle.infer_result.specs.Table.{mismatch}
+use Rattle.infer_result.specs.Places.{Given, StandsAt}
+use Rattle.infer_result.specs.Rules.Expressions.{ObeysOrMismatch, ObeysExpression, BodyObeysOrMismatch, BodyObeys}
+use Rattle.infer_result.specs.Rules.Patterns.{PatRule, ObeysPattern}
+use Rattle.infer_result.specs.Typed.{given}
+
+-- ---- a table under an assignment
+
+-- the same list of what is recorded, each entry under the function
+abbrev pub each_under : {A : Type 0} → (A → A) → List (Option A) → List (Option A)
+each_under f xs = map (option_map f) xs
+
+-- both types under the assignment
+abbrev pub mismatch_under : Assignment → TypeMismatch → TypeMismatch
+mismatch_under a m = mismatch (folded a m.expected) (folded a m.actual)
+
+-- of a complaint that what is called is no function, the type of that
+abbrev pub diagnostic_under : Assignment → InferenceDiagnostic → InferenceDiagnostic
+diagnostic_under a (diagnostic.MismatchedArgCount n expected found) = diagnostic.MismatchedArgCount n expected found
+diagnostic_under a (diagnostic.MismatchedTupleStructPatArgCount n expected found) = diagnostic.MismatchedTupleStructPatArgCount n expected found
+diagnostic_under a (diagnostic.ExpectedFunction n found) = diagnostic.ExpectedFunction n (folded a found)
+
+-- The table with each of its types under the assignment, those of complaints too. Modes and variants stay, and so does what
+-- failed look-ups saw, since that is kept as it was when they failed.
+abbrev pub table_under : Assignment → InferenceResult → InferenceResult
+table_under a t = record t {
+  type_of_expr = each_under (folded a) t.type_of_expr;
+  type_of_pat = each_under (folded a) t.type_of_pat;
+  type_of_binding = each_under (folded a) t.type_of_binding;
+  type_of_placeholder = each_under (folded a) t.type_of_placeholder;
+  expr_mismatches = each_under (mismatch_under a) t.expr_mismatches;
+  expr_diagnostics = each_under (diagnostic_under a) t.expr_diagnostics;
+  pat_mismatches = each_under (mismatch_under a) t.pat_mismatches;
+  pat_diagnostics = each_under (diagnostic_under a) t.pat_diagnostics;
+}
+
+-- ---- stable
+
+-- what holds of a table under an assignment holds of it under each that refines this one, with more types for the holes left
+abbrev pub IsStable : (InferenceResult → Type 0) → Type 0
+IsStable Holds = (t : InferenceResult) (s r : Assignment) → Holds (table_under s t) → Holds (table_under (composed r s) t)
+
+-- the pattern of which this one is a part, where there is one, obeys the rule of its kind
+abbrev pub WholeObeys : Given → InferenceResult → PatId → Type 0
+WholeObeys g t p = (whole : PatId) (k : ℕ) (role : Role) → StandsAt g.body (node.PatId p) (inner (node.PatId whole)) k role → PatRule g t whole (slice_get g.body.pats whole.0)
+
+-- Each rule is stable. No proviso on the types that stand for holes is needed, not even that `{unknown}` is in none: here it is a
+-- type like another, and the integer type that a literal is to have has no hole. Kinds with projections, look-ups of methods,
+-- references and arrays will bring provisos.
+--
+-- What comes into a part of a pattern is only there once the type of the whole is a tuple or an adt. So a part by itself may obey
+-- its rule while the whole has a hole for its type, and no longer with a tuple in the place of that: the law of a pattern asks that
+-- its whole obey too.
+pub record RulesAreStable (g : Given) : Type 0 where
+  pub exprs : (e : ExprId) → IsStable (λ t. ObeysExpression g t e)
+  pub clauses : (e : ExprId) → IsStable (λ t. ObeysOrMismatch g t e)
+  pub pats : (p : PatId) → IsStable (λ t. WholeObeys g t p × ObeysPattern g t p)
+  pub all_pats : IsStable (λ t. (p : PatId) → p.0 < length g.body.pats → ObeysPattern g t p)
+  pub root : IsStable (λ t. BodyObeys g t)
+  pub root_clause : IsStable (λ t. BodyObeysOrMismatch g t)
+
+-- the rules of each body of the facts are
+abbrev pub NodeRulesAreStable : RawFacts → Type 0
+NodeRulesAreStable raw = (d : DefWithBodyId) (b : RawBody) → body_of raw d ≡ Some b → RulesAreStable (given raw d b)
