@@ -7,6 +7,7 @@ use Rattle.hir_facts.specs.Bodies.{HasBody}
 use Rattle.infer_result.specs.declared.result.InferenceResult.{InferenceResult}
 use Rattle.infer_result.specs.Report.{report, complaint_count}
 use Rattle.infer_result.specs.Typed.{IsTableOf}
+use Rattle.infer_result.specs.General.{HasGeneral}
 use Rattle.infer_tool.specs.Causes.{Rose}
 use Rattle.hir_types.specs.declared.ids.DefWithBodyId.{DefWithBodyId}
 use Rattle.hir_facts.specs.declared.raw.RawFacts.{RawFacts}
@@ -154,12 +155,12 @@ status_zero n le = grind (arith, nat_tests)
 status_one : (n : ℕ) → 0 < n → (if nat_lt 0 n then 1 else 0) ≡ suc zero
 status_one n lt = grind (arith, nat_tests)
 
-module _ (def : DefWithBodyId) (raw : RawFacts) (table : InferenceResult) (has_body : HasBody raw def) (typed : IsTableOf raw def table) (old new : Option (List ℕ)) (before now : ℕ) where
+module _ (def : DefWithBodyId) (raw : RawFacts) (table : InferenceResult) (has_body : HasBody raw def) (typed : IsTableOf raw def table) (general : HasGeneral raw def table) (old new : Option (List ℕ)) (before now : ℕ) where
   abbrev pub ran_with : ℕ → Ran
   ran_with n = record { status = n; facts = Some raw; table = Some table; fault = None }
 
   abbrev inferred : (n : ℕ) → IsInferred def raw (ran_with n)
-  inferred n = record { has_body = has_body; table = table; typed = typed; table_is = refl }
+  inferred n = record { has_body = has_body; table = table; typed = typed; general = general; table_is = refl }
 
   pub by_fault_of_sink : Rose before now → AppendsFront old new (report def raw table) → Answered def raw old new before now (ran_with 4)
   by_fault_of_sink rose wrote =

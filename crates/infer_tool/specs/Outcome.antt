@@ -8,6 +8,7 @@ use Rattle.hir_facts.specs.declared.laws.FactsList.{FactsList}
 use Rattle.hir_facts.specs.Bodies.{HasBody}
 use Rattle.infer_result.specs.declared.result.InferenceResult.{InferenceResult}
 use Rattle.infer_result.specs.Typed.{IsTableOf}
+use Rattle.infer_result.specs.General.{HasGeneral}
 use Rattle.infer_result.specs.Report.{report, complaint_count}
 use Rattle.infer_tool.specs.declared.text.fault.ReadError.TheVariants as error
 use Rattle.infer_tool.specs.declared.run.Ran.{Ran}
@@ -58,11 +59,12 @@ pub record HasFacts (words : List (List ℕ)) (e : Ends) (ran : Ran) : Type 0 wh
   pub is_read : IsRead text raw
   pub facts_is : ran.facts ≡ Some raw
 
--- the definition has a body, and this is its table
+-- the definition has a body, and this is its table, which has the types before open holes fell back exactly where the body is plain
 pub record IsInferred (def : DefWithBodyId) (raw : RawFacts) (ran : Ran) : Type 0 where
   pub has_body : HasBody raw def
   pub table : InferenceResult
   pub typed : IsTableOf raw def table
+  pub general : HasGeneral raw def table
   pub table_is : ran.table ≡ Some table
 
 -- the definition, its facts and its table

@@ -4,6 +4,7 @@ ghost use Rattle.std.specs.Io.KnownBytes.{Appends, Consumes, IsAtEnd};
 ghost use Rattle.std.specs.Rc.{rc_str_bytes};
 ghost use Rattle.hir_facts.specs.Bodies.{HasBody};
 ghost use Rattle.infer_result.specs.Typed.{IsTableOf};
+ghost use Rattle.infer_result.specs.General.{HasGeneral};
 ghost use Rattle.infer_result.specs.Report.{report, complaint_count};
 ghost use Rattle.infer_tool.specs.Causes.{Rose, HasCause};
 ghost use Rattle.infer_tool.specs.Outcome.{AppendsFront, Outcome};
@@ -28,7 +29,8 @@ pub struct Ran {
     pub status: u8,
     /// The facts, where they are lawful and memory sufficed.
     pub facts: Option<Facts>,
-    /// The table of the definition's body, where it has one.
+    /// The table of the definition's body, where it has one. Of a plain body it has the types before
+    /// open holes fell back too.
     pub table: Option<InferenceResult>,
     /// Why there are no facts.
     pub fault: Option<ReadError>,
@@ -121,6 +123,7 @@ fn report_on<K: Sink>(
 ) -> Ran
     requires has_body { HasBody facts def }
     requires typed { IsTableOf facts def table }
+    requires general { HasGeneral facts def table }
     ensures { Answered def facts (K.written sink.old) (K.written sink.new) (K.faults sink.old) (K.faults sink.new) result }
 {
     let text = match write_report(alloc, def, &facts, &table) {

@@ -4,6 +4,7 @@ mod branches;
 mod callees;
 mod calls;
 mod constructors;
+mod general;
 mod generics;
 mod integers;
 mod kinds;
@@ -11,6 +12,7 @@ mod laws;
 mod params;
 mod patterns;
 mod placeholders;
+mod plain_bodies;
 mod rows;
 
 use super::ends::{MemorySink, MemorySource};

@@ -106,7 +106,7 @@ pub fn expect_parts(alloc: Global, value: &Value, count: usize) -> Result<(), Mi
 
 /// The word that a value is or begins with, and how many parts it has.
 #[tactic(auto, using(crate::proofs::Counts::count_items_view))]
-pub fn find_tag(value: &Value) -> Option<(&str, usize)>
+fn find_tag(value: &Value) -> Option<(&str, usize)>
     ensures { option_map (λ t. (t.0.now, t.1)) result ≡ tag (view value.now) }
 {
     match value.as_array() {
