@@ -7,9 +7,13 @@ The statements are `let v = w;` (copies: each local has the type of the one befo
 `let v = id(w);` and `same(v, w);` after one `let v = 1;`, of `fn id<T>(x: T) -> T` and `fn same<T>(a: T, b: T)` (calls);
 or after one such in turn `let v = Just(w);` and `let u = match v { Just(a) => a, Nothing => w };`, of
 `enum Maybe<T> { Nothing, Just(T) }` (constructors); or after one `let v: _ = 1;` in turn `let v: _ = w;` and
-`let (v, _): (_, u8) = (w, 1);` (placeholders).
-Beside each, where rustc is found, the time of its pass `type_check_crate` over the same function.
-Usage: bench/lets.py [copies|integers|branches|calls|constructors|placeholders] [N]
+`let (v, _): (_, u8) = (w, 1);` (placeholders); or one of `let v = 1;`, `let v = id(w);`, `let v = if true { w } else { w };`
+and `let v = 7u8;` at each place, as a linear congruence from 1 on decides (mixed: `r' = (5 r + 3) mod 65536`, of which
+`r / 16 mod 4` is the number of the statement, and 0 where there is no local before).
+Beside the time of the whole run stands that of the run without reading: less that of a run on a definition that the facts do
+not have, which reads the text and tests its laws. Beside each, where rustc is found, the time of its pass
+`type_check_crate` over the same function.
+Usage: bench/lets.py [copies|integers|branches|calls|constructors|placeholders|mixed] [N]
 (copies and 40000 where not given; 4N must fit into 2^24 bytes)
 Build the program first: cd crates/infer_tool && rt run -- table fn 0 < ../../examples/first_run.json
 """
@@ -23,6 +27,7 @@ import tempfile
 
 TOP = os.path.dirname(os.path.dirname(os.path.abspath(__file__)))
 PROGRAM = os.path.join(TOP, "crates", "infer_tool", "out", "infer_tool")
+NO_FUNCTION = 1000000  # past the functions of every text made here
 
 
 class Function:
@@ -155,6 +160,31 @@ def placeholders(function, count):
             function.source.append("let (%s, _): (_, u8) = (v%d, 1);\n" % (name, k - 1))
 
 
+def mixed(function, count):
+    """`let v0 = 1; let v1 = ..`, each of four kinds in an order that looks random and is the same in each run."""
+    function.types.append(["param", 0])
+    function.called = [fn_fact("id", ["t"], [2], 2, None)]
+    function.named_source = "fn id<T>(x: T) -> T { loop {} }\n"
+    last, state = None, 1
+    for k in range(count):
+        state = (5 * state + 3) % 65536
+        kind = state // 16 % 4
+        if last is None and kind in (1, 2):
+            kind = 0
+        name, before = "v%d" % k, "v%d" % (k - 1)
+        if kind == 1:
+            call = function.expr(["call", function.expr(["path", ["fn", 1, None]]), [function.local(last)]])
+            last = function.let(name, call, None, "let %s = id(%s);\n" % (name, before))
+        elif kind == 2:
+            branches_of = [function.expr(["block", None, [], function.local(last)]) for _ in range(2)]
+            choice = function.expr(["if", function.expr(["lit", ["bool", True]])] + branches_of)
+            last = function.let(name, choice, None, "let %s = if true { %s } else { %s };\n" % (name, before, before))
+        else:
+            suffix = "u8" if kind == 3 else None
+            literal = function.expr(["lit", ["int", "7" if suffix else "1", suffix]])
+            last = function.let(name, literal, None, "let %s = %s;\n" % (name, "7u8" if suffix else "1"))
+
+
 def hole(function):
     """A written `_` of its own."""
     function.types.append("_")
@@ -171,7 +201,7 @@ def fn_fact(name, params, inputs, output, body):
 
 
 SHAPES = {"copies": copies, "integers": integers, "branches": branches, "calls": calls,
-          "constructors": constructors, "placeholders": placeholders}
+          "constructors": constructors, "placeholders": placeholders, "mixed": mixed}
 
 
 def made(shape, count):
@@ -202,19 +232,19 @@ def facts(shape, count):
 RUN = """
 import os, subprocess, sys, time
 begun = time.monotonic()
-child = subprocess.Popen([sys.argv[1], "table", "fn", "0"])
+child = subprocess.Popen([sys.argv[1], "table", "fn", sys.argv[2]])
 _, status, used = os.wait4(child.pid, 0)
 print(time.monotonic() - begun, used.ru_maxrss / 1024, os.waitstatus_to_exitcode(status), file=sys.stderr)
 child.returncode = 0
 """
 
 
-def measure(text):
-    """Seconds, peak memory in MiB, the status, and the last line of the report or of what was wrong."""
+def measure(text, number=0):
+    """Of `table fn number`: seconds, peak memory in MiB, the status, and the last line of the report or of what was wrong."""
     with tempfile.TemporaryFile() as source, tempfile.TemporaryFile() as sink:
         source.write(text)
         source.seek(0)
-        done = subprocess.run([sys.executable, "-c", RUN, PROGRAM], stdin=source, stdout=sink,
+        done = subprocess.run([sys.executable, "-c", RUN, PROGRAM, str(number)], stdin=source, stdout=sink,
                               stderr=subprocess.PIPE, text=True, check=True)
         said = done.stderr.splitlines()
         seconds, peak, status = said[-1].split()
@@ -254,10 +284,11 @@ def main():
         if len(text) > 1 << 24:
             sys.exit("%d statements don't fit into 2^24 bytes" % count)
         seconds, peak, status, last = measure(text)
+        reading = measure(text, NO_FUNCTION)[0]
         theirs = rustc_seconds(shape, count)
-        print("N %7d  bytes %9d  seconds %7.3f%s  peak MiB %7.1f  status %d  %s  rustc type_check_crate %s"
+        print("N %7d  bytes %9d  seconds %7.3f%s  without reading %7.3f  peak MiB %7.1f  status %d  %s  rustc type_check_crate %s"
               % (count, len(text), seconds, "" if before is None else " (%.2f times)" % (seconds / before),
-                 peak, status, last, "-" if theirs is None else "%.3f" % theirs))
+                 seconds - reading, peak, status, last, "-" if theirs is None else "%.3f" % theirs))
         before = seconds
 
 

@@ -20,7 +20,7 @@ use Rattle.infer_result.specs.Made.{IsMade}
 use Rattle.infer_expr.specs.Found.{Found, expr_variant, pat_variant, nothing_found}
 use Rattle.infer_expr.specs.Closings.{Closes, closed_mismatch, closed_mismatches, found_under, IsSound}
 use Rattle.infer_expr.specs.Fine.{HasFineHeads}
-use Rattle.infer_expr.specs.Steps.{Before, CoerceDone, BeforeParams, ParamsDone, BodyDone, OnlyBinds}
+use Rattle.infer_expr.specs.Steps.{Before, CoerceDone, BeforeParams, ParamsDone, BodyDone, Settles, OnlyBinds}
 use Rattle.infer_expr.specs.Under.{WrittenExist}
 use Rattle.infer_expr.specs.Under as under
 use Rattle.infer_expr.specs.Walks.{expr_end}
@@ -52,6 +52,7 @@ nothing_under a types b = λ i. record {
     expr_variants = map expr_variant b.exprs;
     pat_variants = map pat_variant b.pats;
     seen = [];
+    general = None;
   };
   clock = 1;
   holes = a;
@@ -72,6 +73,7 @@ nothing_sound sc types b = record {
   };
   seen = record { types = λ i y there. absurd (cc); others = λ i y t there is. absurd (cc) };
   asked = λ n m i. absurd (At-replicate (length b.exprs) n m i);
+  kept = λ n m i. absurd (At-replicate (length b.exprs) n m i);
   pairs = tt;
   bound = tt;
   some = (
@@ -117,7 +119,10 @@ comes_to_root g s old c b d carried heads =
       expected = carried_fine c.table g.scope g.output carried heads;
     }
 
-module _ (g : Given) (s : Schedule) (law : IsWalkable g.body s) (carried : IsCarriedType g.output) (t : Ty) (mid new last : InferenceContext) (p : ParamsDone g s (empty_context g.scope.facts.types g.body) mid) (d : CoerceDone g s g.body.root (Some g.output) t mid new) (b : OnlyBinds g new last) where
+module _ (g : Given) (s : Schedule) (law : IsWalkable g.body s) (carried : IsCarriedType g.output) (t : Ty) (mid new last : InferenceContext) (p : ParamsDone g s (empty_context g.scope.facts.types g.body) mid) (d : CoerceDone g s g.body.root (Some g.output) t mid new) (e : Settles g new last) where
+  abbrev b : OnlyBinds g new last
+  b = e.binds
+
   typed : (a : Assignment) → Closes a new → under.ParamsDone g s (nothing_found a g.scope.facts.types g.body) (found_under a mid)
   typed a q = subst (λ c. under.ParamsDone g s c (found_under a mid)) (nothing_under a g.scope.facts.types g.body) (p.each a (closes_before g a mid new d.follows q))
 
@@ -128,6 +133,7 @@ module _ (g : Given) (s : Schedule) (law : IsWalkable g.body s) (carried : IsCar
   pub body_walked : BodyDone g last
   body_walked = record {
     sound = b.follows.sound;
+    decided = e.decided;
     made = λ a q.
         let k : Closes a new = closes_before g a new last b.follows q in
         subst (λ (f : Found). IsMade g f.result) (sym (same_found a new last b.result b.asked b.clock))

@@ -24,8 +24,9 @@ use Rattle.infer_result.specs.Table.{At}
 use Rattle.infer_table.specs.LogLemmas.{solves_left}
 use Rattle.infer_table.specs.Solutions.{Log, Solves, entry, log_of}
 use Rattle.infer_table.specs.Table.{State, Grew, Meets, bindings}
+use Rattle.infer_table.specs.Waiting.{Waiting, waiting}
 use Rattle.infer_expr.specs.declared.context.InferenceContext.{InferenceContext}
-use Rattle.infer_expr.specs.Closings.{Closes, closed_mismatch, closed_mismatches, closed_table, same_types, unless_same, asked_or_noted, entry_of, first_asked, others_asked, found_under, IsSound}
+use Rattle.infer_expr.specs.Closings.{Closes, closed_mismatch, closed_mismatches, closed_table, same_types, unless_same, asked_or_noted, entry_of, first_asked, others_asked, found_under, IsDecided, AskedIsKept, IsSound}
 use Rattle.infer_expr.specs.Context as context
 use Rattle.infer_expr.specs.Fine.{IsFine}
 use Rattle.infer_expr.specs.Found as found
@@ -439,6 +440,20 @@ closes_earlier a old new g h = record {
   meets = meets_earlier (terms_of a) old.table new.table g h.meets;
 }
 
+-- ---- what is asked
+
+-- what is decided stays so
+pub decided_later : (old new : State) (m : TypeMismatch) → Grew old new → IsDecided old m → IsDecided new m
+decided_later old new m g (inl h) = inl (λ a k l. h a k (meets_earlier (terms_of a) old new g l))
+decided_later old new m g (inr h) = inr (λ a k l. h a k (meets_earlier (terms_of a) old new g l))
+
+-- a pair that waits goes on to, where none is taken
+pub kept_later : (old new : State) (asked : List (Option TypeMismatch)) → Grew old new → new.pairs ≡ old.pairs → AskedIsKept old asked → AskedIsKept new asked
+kept_later old new asked g same h n m i = elim (h n m i) [
+  | inl w ↦ inl (record { position = w.position; pair = w.pair; waits = ap (λ (ps : Waiting). slice_get (waiting ps) w.position) same ∙ w.waits; is = w.is })
+  | inr d ↦ inr (decided_later old new m g d)
+]
+
 -- ---- soundness
 
 set_keeps : {A : Type 0} (P : A → Type 0) (xs : List (Option A)) (n : ℕ) (x : A) → ((m : ℕ) (y : A) → At xs m y → P y) → P x → (m : ℕ) (y : A) → At (slice_set xs n (Some x)) m y → P y
@@ -464,6 +479,7 @@ sound_with {sc} c r n s h k = record {
   fine = h;
   seen = k;
   asked = s.asked;
+  kept = s.kept;
   pairs = s.pairs;
   bound = s.bound;
   some = (s.some.0, closes_same s.some.0 c (record c { result = r; clock = n }) refl s.some.1);

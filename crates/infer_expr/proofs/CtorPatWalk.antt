@@ -147,9 +147,6 @@ module _ (g : Given) (s : Schedule) (p : PatId) (v : VariantId) (ps : List PatId
   each_field_fine i t is = every_at (IsFine g.scope b.asked.holed.table) ss i t fields_fine is
 
   module _ (a : Assignment) (k : Closes a mid) where
-    at_told : Closes a b.asked.told
-    at_told = closes_before g a b.asked.told mid b.asked.demanded.follows k
-
     at_old : Closes a old
     at_old = closes_before g a old mid ctor_pat_follows k
 

@@ -1,16 +1,12 @@
 -- The body of a definition of lawful facts, and its return type.
-use Rattle.std.proofs.Common.{ℕ, ◌<◌, ◌≡◌, inl, inr, refl, sym, ap, subst, ◌∙◌, List, length, Option, Some, None, slice_get}
-use Rattle.std.specs.Prelude.{IfSome}
+use Rattle.std.proofs.Common.{ℕ, ◌<◌, ◌≡◌, inl, inr, sym, ap, subst, ◌∙◌, List, length, Some, slice_get}
 use Rattle.std.specs.Option.{option_and_then}
 use Rattle.hir_types.specs.declared.ids.BodyId.{BodyId}
-use Rattle.hir_types.specs.declared.ids.FunctionId.{FunctionId}
 use Rattle.hir_types.specs.declared.ids.PatId.{PatId}
 use Rattle.hir_types.specs.declared.ids.VariantId.{VariantId}
 use Rattle.hir_types.specs.declared.ids.TypeRefId.{TypeRefId}
 use Rattle.hir_types.specs.declared.ids.DefWithBodyId.{DefWithBodyId}
-use Rattle.hir_types.specs.declared.ids.DefWithBodyId.TheVariants as def
 use Rattle.hir_types.specs.declared.ty.Ty.{Ty}
-use Rattle.hir_facts.specs.declared.raw.RawFn.{RawFn}
 use Rattle.hir_facts.specs.declared.raw.RawVariant.{RawVariant}
 use Rattle.hir_facts.specs.declared.raw.RawPath.TheVariants as path
 use Rattle.hir_facts.specs.declared.raw.RawPat.TheVariants as pat
@@ -22,7 +18,7 @@ use Rattle.hir_facts.specs.Scope.{params_of, scope_of}
 use Rattle.hir_facts.specs.NoHoles.{definition_input_has_no_hole}
 use Rattle.hir_facts.specs.WrittenFits.{lets_fit, definition_inputs_fit}
 use Rattle.hir_facts.specs.Laws.Ids.{BodyIdsExist}
-use Rattle.hir_facts.specs.LawfulFacts.{fn_ids, body_ids}
+use Rattle.hir_facts.specs.LawfulFacts.{body_ids}
 use Rattle.hir_facts.specs.Walkable.{inputs_count}
 use Rattle.hir_facts.specs.Laws.Lawful.{IsLawful}
 use Rattle.infer_result.specs.declared.result.InferenceResult.{InferenceResult}
@@ -37,19 +33,7 @@ use Rattle.infer_expr.proofs.Items.{named_function, named_variant, item_with}
 use Rattle.infer_expr.proofs.Lists.{found}
 use Rattle.infer_expr.proofs.Written.{is_written}
 
-body_of_fn : (raw : RawFacts) → IsLawful raw → (f : FunctionId) (i : BodyId) (o : Option RawFn) → slice_get raw.fns f.0 ≡ o → option_and_then (λ x. x.body) o ≡ Some i → i.0 < length raw.bodies
-body_of_fn raw law f i None at h = absurd (cc)
-body_of_fn raw law f i (Some x) at h =
-    let k : IfSome x.body (λ b. b.0 < length raw.bodies) = (fn_ids raw law f.0 x at).body in
-    subst (λ y. IfSome y (λ b. b.0 < length raw.bodies)) h k
-
-pub body_within : (raw : RawFacts) (d : DefWithBodyId) (i : BodyId) → IsLawful raw → body_id_of raw d ≡ Some i → i.0 < length raw.bodies
-body_within raw (def.FunctionId f) i law h = body_of_fn raw law f i (slice_get raw.fns f.0) refl h
-body_within raw (def.ConstId c) i law h = absurd (cc)
-body_within raw (def.StaticId s) i law h = absurd (cc)
-body_within raw (def.VariantId v) i law h = absurd (cc)
-
-found_body : (raw : RawFacts) (d : DefWithBodyId) (i : BodyId) (b : RawBody) → body_id_of raw d ≡ Some i → slice_get raw.bodies i.0 ≡ Some b → body_of raw d ≡ Some b
+pub found_body : (raw : RawFacts) (d : DefWithBodyId) (i : BodyId) (b : RawBody) → body_id_of raw d ≡ Some i → slice_get raw.bodies i.0 ≡ Some b → body_of raw d ≡ Some b
 found_body raw d i b id at = ap (λ o. option_and_then (λ k. slice_get raw.bodies k.0) o) id ∙ at
 
 -- a variant that is named is there

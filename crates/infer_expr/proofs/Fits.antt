@@ -35,7 +35,7 @@ both_true : (a b : Bool) → a ≡ true → b ≡ true → (a && b) ≡ true
 both_true a b h k = ap (λ (x : Bool). x && b) h ∙ k
 
 -- an item takes as many types as its signature says
-item_counted : (facts : RawFacts) (id : CallableDefId) (n : ℕ) → has_params (item_params facts id) n ≡ true → has_params (callable_params facts id) n ≡ true
+pub item_counted : (facts : RawFacts) (id : CallableDefId) (n : ℕ) → has_params (item_params facts id) n ≡ true → has_params (callable_params facts id) n ≡ true
 item_counted facts id n h = by_signature (signature_of facts id) refl h
   where
     by_signature : (o : Option Signature) → signature_of facts id ≡ o → has_params (option_map (λ σ. σ.params) o) n ≡ true → has_params (callable_params facts id) n ≡ true
@@ -85,7 +85,7 @@ module _ (sc : Scope) (a : Assignment) where
   })
 
 -- a fine type fits as it is, its holes too
-fine_fits : (sc : Scope) (t : Ty) → HasFineHeads sc t → ty_fits sc t ≡ true
+pub fine_fits : (sc : Scope) (t : Ty) → HasFineHeads sc t → ty_fits sc t ≡ true
 fine_fits sc t h = ap (ty_fits sc) (sym (folded_itself t)) ∙ heads_fit sc each_itself (λ n. ty_fits_var sc n) (λ n. ty_fits_intvar sc n) t h
 
 module _ (sc : Scope) (c : InferenceContext) (s : IsSound sc c) where

@@ -23,6 +23,7 @@ use Rattle.infer_expr.specs.Closings.{IsSound}
 use Rattle.infer_expr.specs.Steps.{IsIntegerFor, IsExpectedInteger, IntDone, LiteralDone}
 use Rattle.infer_expr.proofs.FineTypes.{fine_bool, fine_char, fine_integer, fine_int_hole, table_fine_grown, seen_fine_grown, fine_asked_grown, fine_pairs_grown}
 use Rattle.infer_expr.proofs.OverTypes.{carried_closed}
+use Rattle.infer_expr.proofs.Closed.{kept_later}
 use Rattle.infer_expr.proofs.Unified.{with_table}
 
 -- with one hole more
@@ -34,6 +35,7 @@ holed_sound c k s = record {
   fine = table_fine_grown _ c.table (with_new_hole c.table k) c.result (grew_by_hole c.table (with_new_hole c.table k) k refl) s.fine;
   seen = seen_fine_grown _ c.table (with_new_hole c.table k) c.result (grew_by_hole c.table (with_new_hole c.table k) k refl) s.seen;
   asked = fine_asked_grown _ c.table (with_new_hole c.table k) c.asked (grew_by_hole c.table (with_new_hole c.table k) k refl) s.asked;
+  kept = kept_later c.table (with_new_hole c.table k) c.asked (grew_by_hole c.table (with_new_hole c.table k) k refl) refl s.kept;
   pairs = fine_pairs_grown _ c.table (with_new_hole c.table k) (waiting c.table.pairs) (grew_by_hole c.table (with_new_hole c.table k) k refl) s.pairs;
   bound = s.bound;
   some = (s.some.0, record { closing = s.some.1.closing; meets = s.some.1.meets });

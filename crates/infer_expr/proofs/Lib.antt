@@ -57,3 +57,6 @@ pub mod ParamsWalk
 pub mod BodyWalk
 pub mod Definitions
 pub mod BodyTy
+pub mod GeneralTypes
+pub mod PlainBodies
+pub mod GeneralTables

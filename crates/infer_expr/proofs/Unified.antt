@@ -1,5 +1,6 @@
 -- Two types unified, or refused, at an expression.
-use Rattle.std.proofs.Common.{ℕ, zero, suc, ◌+◌, ◌++◌, ◌≡◌, inl, inr, Bool, true, false, if◌then◌else◌, List, [], ◌∷◌, length, refl, sym, ap, subst, ◌∙◌, arith, Option, Some, None, slice_get}
+use Rattle.std.proofs.Common.{ℕ, zero, suc, ◌+◌, ◌<◌, ◌++◌, ◌≡◌, ◌⊎◌, inl, inr, Bool, true, false, if◌then◌else◌, List, [], ◌∷◌, length, refl, sym, ap, subst, ◌∙◌, arith, Option, Some, None, slice_get}
+use Rattle.std.proofs.Math.Nat.{eq-or-lt_of_le}
 use Rattle.hir_types.specs.declared.head.Head.TheVariants as head
 use Rattle.hir_types.specs.declared.head.Hole.{Hole}
 use Rattle.hir_types.specs.declared.head.Hole.TheVariants as hole_of
@@ -11,11 +12,11 @@ use Rattle.hir_types.specs.declared.ty.IntegerTy.{IntegerTy}
 use Rattle.hir_types.specs.declared.ty.IntegerTy.TheVariants.{Int, Uint}
 use Rattle.hir_types.specs.declared.ty.Ty.{Ty}
 use Rattle.hir_types.specs.declared.ty.Ty.TheVariants as ty
-use Rattle.hir_types.specs.Subst.{Assignment, folded}
+use Rattle.hir_types.specs.Subst.{Assignment, composed, folded}
 use Rattle.hir_types.specs.Terms.{hole, term, terms_of, IsInt}
 use Rattle.hir_types.specs.TermLaws.{term_bool, term_char, term_error, term_param, term_tuple, term_adt_types, term_fn_def_types}
 use Rattle.hir_types.specs.Types.{integer_type}
-use Rattle.hir_facts.specs.CarriedTypes.{IsCarriedType, carried_error, carried_integer}
+use Rattle.hir_facts.specs.CarriedTypes.{IsCarriedType, carried_error}
 use Rattle.hir_facts.specs.Scope.{Scope}
 use Rattle.infer_table.specs.Completion.{completion, fallback}
 use Rattle.infer_table.specs.Preserved.{whole, IsMadeOf, BindsOnly, made_of_resolved, unified_same, refused_apart, binds_only_unified}
@@ -26,26 +27,28 @@ use Rattle.infer_table.specs.declared.waiting.WaitingPair.{WaitingPair}
 use Rattle.infer_table.specs.Waiting.{Waiting, waiting, with_pair, is_taken}
 use Rattle.infer_table.specs.WaitingLaws.{left_from-push}
 use Rattle.infer_table.specs.UndoLaws.{front_itself}
-use Rattle.infer_table.specs.Table.{State, bindings, Meets, Grew, AreUnified, AreRefused, TakesFirstKnown, TakesKnown, with_waiting, resolved_type, resolved_term, is_type_hole}
+use Rattle.infer_table.specs.HoleLaws.{grew_twice}
+use Rattle.infer_table.specs.BindingLaws.{get_last}
+use Rattle.infer_table.specs.Table.{State, bindings, Meets, Grew, HolesAreOf, AreUnified, AreRefused, AreUnifiedIf, TakesFirstKnown, TakesKnown, with_waiting, resolved_type, resolved_term, is_type_hole}
 use Rattle.infer_table.specs.TableLaws.{hole_where_open, is_var_at}
 use Rattle.infer_result.specs.Closed.{IsOfBody}
 use Rattle.infer_result.specs.Places.{Given}
 use Rattle.infer_result.specs.declared.result.TypeMismatch.{TypeMismatch}
-use Rattle.infer_result.specs.Table.{mismatch}
+use Rattle.infer_result.specs.Table.{At, mismatch}
 use Rattle.infer_expr.specs.declared.context.InferenceContext.{InferenceContext}
 use Rattle.infer_expr.specs.Context.{with_mismatch, waiting_at}
 use Rattle.infer_expr.specs.Found as found
 use Rattle.infer_expr.specs.Found.{noted}
 use Rattle.infer_expr.specs.Under as under
-use Rattle.infer_expr.specs.Closings.{IsClosing, Closes, IsSound, closed_mismatch, closed_mismatches, closed_table, found_under, same_types}
+use Rattle.infer_expr.specs.Closings.{IsClosing, Closes, IsAwaited, IsDecided, AskedIsKept, AskedIsDecided, IsSound, closed_mismatch, closed_mismatches, closed_table, found_under, same_types}
 use Rattle.infer_expr.specs.Fine.{is_fine_head, HasFineHeads, IsFine, AreFinePairs}
 use Rattle.infer_expr.specs.declared.coerce.Coerced.TheVariants as coerced
-use Rattle.infer_expr.specs.Steps.{OnlyBinds, IsUnifiedIf, Takes, MayWait, IsCoerced}
+use Rattle.infer_expr.specs.Steps.{OnlyBinds, IsUnifiedIf, MayWait, IsCoerced}
 use Rattle.infer_expr.proofs.AtEach.{follows_itself, follows_twice, closes_before}
-use Rattle.infer_expr.proofs.Closed.{same_found, closes_same, mismatch_under, asked-same, asked-apart, of_body_mismatch, sound_mismatch}
+use Rattle.infer_expr.proofs.Closed.{same_found, closes_same, decided_later, kept_later, mismatch_under, asked-same, asked-apart, of_body_mismatch, sound_mismatch}
 use Rattle.infer_expr.proofs.Lists.{noted-cases}
 use Rattle.infer_expr.proofs.FineTypes.{fine_grown, table_fine_grown, seen_fine_grown, fine_pairs_grown, fine_asked_grown, fine_no_alias}
-use Rattle.infer_expr.proofs.OverTypes.{CarriedCases, over_carried, heads_carried, same_closed, apart_closed, closing_respects}
+use Rattle.infer_expr.proofs.OverTypes.{CarriedCases, over_carried, fine_closed, same_closed, apart_closed, closing_respects}
 
 -- ---- the completion of holes closes the context
 
@@ -66,17 +69,22 @@ module _ (sc : Scope) (state : State) (h : BindsOnly (is_fine_head sc) (log_of (
   pub bound_heads : (k : Hole) → IsMadeOf (is_fine_head sc) whole (terms_of (resolution (bindings state)) k)
   bound_heads k = subst (λ t. IsMadeOf (is_fine_head sc) whole t) (sym (resolution_terms (bindings state) k)) (made_of_resolved (is_fine_head sc) (log_of (bindings state)) (hole k) h tt)
 
-  completed_carried : (t : Ty) → HasFineHeads sc t → IsCarriedType (folded fallback t)
-  completed_carried t k = heads_carried fallback sc (λ n. carried_error) (λ n. carried_integer (Int int.I32)) t k
+  -- carried types for the holes that are open
+  module _ (a : Assignment) (closing : IsClosing a) where
+    completed_carried : (t : Ty) → HasFineHeads sc t → IsCarriedType (folded a t)
+    completed_carried t k = fine_closed sc a t closing k
+
+    pub composed_closing : Respects (terms_of (composed a (resolution (bindings state)))) → IsClosing (composed a (resolution (bindings state)))
+    composed_closing r = record {
+      var = λ n. completed_carried ((resolution (bindings state)).var n) (bound_heads (hole_of.Ty n));
+      int_var = λ n.
+          let t : Ty = (composed a (resolution (bindings state))).int_var n in
+          let k : IsCarriedType t = completed_carried ((resolution (bindings state)).int_var n) (bound_heads (hole_of.Int n)) in
+          over_carried (λ t. IsInt (term t) → (i : IntegerTy) × (t ≡ integer_type i)) integer_of t k (r (hole_of.Int n) tt);
+    }
 
   pub completion_closing : Respects (terms_of (completion state)) → IsClosing (completion state)
-  completion_closing r = record {
-    var = λ n. completed_carried ((resolution (bindings state)).var n) (bound_heads (hole_of.Ty n));
-    int_var = λ n.
-        let t : Ty = (completion state).int_var n in
-        let k : IsCarriedType t = completed_carried ((resolution (bindings state)).int_var n) (bound_heads (hole_of.Int n)) in
-        over_carried (λ t. IsInt (term t) → (i : IntegerTy) × (t ≡ integer_type i)) integer_of t k (r (hole_of.Int n) tt);
-  }
+  completion_closing r = composed_closing fallback (record { var = λ n. carried_error; int_var = λ n. (Int int.I32, refl) }) r
 
 pub completion_closes : (sc : Scope) (c : InferenceContext) → IsSound sc c → Meets (terms_of (completion c.table)) c.table → Respects (terms_of (completion c.table)) → Closes (completion c.table) c
 completion_closes sc c s m r = record { closing = completion_closing sc c.table s.bound r; meets = m }
@@ -95,6 +103,7 @@ module _ (sc : Scope) (c : InferenceContext) (t u : Ty) (s : IsSound sc c) (ft :
         fine = table_fine_grown sc c.table after c.result k.grown s.fine;
         seen = seen_fine_grown sc c.table after c.result k.grown s.seen;
         asked = fine_asked_grown sc c.table after c.asked k.grown s.asked;
+        kept = kept_later c.table after c.asked k.grown k.pairs s.kept;
         pairs = fine_pairs_grown sc c.table after (waiting after.pairs) k.grown (subst (λ w. AreFinePairs sc c.table (waiting w)) (sym k.pairs) s.pairs);
         bound = bound;
         some = (completion after, record { closing = completion_closing sc after bound r; meets = m });
@@ -145,6 +154,10 @@ module _ (g : Given) (t u : Ty) (c : InferenceContext) (h : IsOfBody g.body c.re
         each = refused_closed g.scope c t u s ft fu after k;
       })
 
+  pub unified_if : (after : State) (yes : Bool) → AreUnifiedIf yes c.table after t u → Meets (terms_of (completion after)) after → Respects (terms_of (completion after)) → IsUnifiedIf yes g t u c (with_table c after)
+  unified_if after true k m r = unified after k m r
+  unified_if after false k m r = refused after k
+
 -- where they are unified, what is found out later changes nothing of that
 pub unified_later : (g : Given) (t u : Ty) (x y z : InferenceContext) → IsUnifiedIf true g t u x y → OnlyBinds g y z → IsUnifiedIf true g t u x z
 unified_later g t u x y z h k = record {
@@ -182,51 +195,134 @@ module _ (sc : Scope) (state : State) where
       maybe_one true = tt
       maybe_one false = (k, tt)
 
--- a pair is taken off those that wait
+-- a pair that waited is still among the others once one was taken, or is that one
+split_at : (xs ys : List WaitingPair) (p q : WaitingPair) (i : ℕ) → slice_get (xs ++ p ∷ ys) i ≡ Some q → (p ≡ q) ⊎ ((j : ℕ) × (slice_get (xs ++ ys) j ≡ Some q))
+split_at [] ys p q zero e = inl (cc)
+split_at [] ys p q (suc i) e = inr (i, e)
+split_at (x ∷ xs) ys p q zero e = inr (0, e)
+split_at (x ∷ xs) ys p q (suc i) e = elim (split_at xs ys p q i e) [ inl k ↦ inl k | inr k ↦ inr (suc k.0, k.1) ]
+
+-- what was asked by a pair that was unified, or was refused, is decided
+pub pair_decided : (yes : Bool) (g : Given) (p : WaitingPair) (old new : InferenceContext) → IsUnifiedIf yes g p.source p.target old new → IsDecided new.table (mismatch p.target p.source)
+pair_decided true g p old new u = inl (λ a k l. sym (u.each a (record { closing = k; meets = l })))
+pair_decided false g p old new u = inr (λ a k l same. u.each a (record { closing = k; meets = l }) (sym same))
+
+same_pairs : (yes : Bool) (old new : State) (t u : Ty) → AreUnifiedIf yes old new t u → new.pairs ≡ old.pairs
+same_pairs true old new t u k = k.pairs
+same_pairs false old new t u k = ap (λ (state : State). state.pairs) k.unchanged
+
+-- a pair is taken off those that wait, and unified or refused
 module _ (g : Given) (c : InferenceContext) (h : IsOfBody g.body c.result) (s : IsSound g.scope c) where
-  took_one : (after : State) (p : WaitingPair) → TakesFirstKnown c.table after p → Takes g (Some p) c (with_table c after)
-  took_one after p k =
-      let all : AreFinePairs g.scope c.table (k.ahead ++ p ∷ k.rest) = subst (λ ps. AreFinePairs g.scope c.table ps) k.was s.pairs in
-      let here : AreFinePairs g.scope c.table (p ∷ k.rest) = fine_pairs_right g.scope c.table k.ahead (p ∷ k.rest) all in
-      let left : AreFinePairs g.scope c.table (waiting after.pairs) = subst (λ ps. AreFinePairs g.scope c.table ps) (sym k.is) (
-      fine_pairs_append g.scope c.table k.ahead k.rest (fine_pairs_left g.scope c.table k.ahead (p ∷ k.rest) all) here.1
-      ) in
-      let log : bindings c.table ≡ bindings after = ap (λ (x : Substitution). x.log) (sym k.substitution) in
-      record {
-        binds = record {
-          follows = record {
-            clock = omega arith;
-            grew = k.grown;
-            of_body = h;
-            sound = record {
-              fine = table_fine_grown g.scope c.table after c.result k.grown s.fine;
-              seen = seen_fine_grown g.scope c.table after c.result k.grown s.seen;
-              asked = fine_asked_grown g.scope c.table after c.asked k.grown s.asked;
-              pairs = fine_pairs_grown g.scope c.table after (waiting after.pairs) k.grown left;
-              bound = subst (λ bs. BindsOnly (is_fine_head g.scope) (log_of bs)) log s.bound;
-              some = (s.some.0, record { closing = s.some.1.closing; meets = subst (λ bs. Solves (terms_of s.some.0) (log_of bs)) log s.some.1.meets });
-            };
-            told = λ told. told;
+  module _ (mid after : State) (p : WaitingPair) (k : TakesFirstKnown c.table mid p) where
+    all_pairs : AreFinePairs g.scope c.table (k.ahead ++ p ∷ k.rest)
+    all_pairs = subst (λ ps. AreFinePairs g.scope c.table ps) k.was s.pairs
+
+    this_pair : AreFinePairs g.scope c.table (p ∷ k.rest)
+    this_pair = fine_pairs_right g.scope c.table k.ahead (p ∷ k.rest) all_pairs
+
+    left_pairs : AreFinePairs g.scope c.table (waiting mid.pairs)
+    left_pairs = subst (λ ps. AreFinePairs g.scope c.table ps) (sym k.is) (
+        fine_pairs_append g.scope c.table k.ahead k.rest (fine_pairs_left g.scope c.table k.ahead (p ∷ k.rest) all_pairs) this_pair.1
+        )
+
+    same_log : bindings c.table ≡ bindings mid
+    same_log = ap (λ (x : Substitution). x.log) (sym k.substitution)
+
+    -- the context as if nothing had been asked: what the pair asked for is open while it is in hand
+    abbrev unasked : State → InferenceContext
+    unasked state = record c { table = state; asked = [] }
+
+    unasked_sound : IsSound g.scope (unasked mid)
+    unasked_sound = record {
+      fine = table_fine_grown g.scope c.table mid c.result k.grown s.fine;
+      seen = seen_fine_grown g.scope c.table mid c.result k.grown s.seen;
+      asked = λ n m i. absurd (cc);
+      kept = λ n m i. absurd (cc);
+      pairs = fine_pairs_grown g.scope c.table mid (waiting mid.pairs) k.grown left_pairs;
+      bound = subst (λ bs. BindsOnly (is_fine_head g.scope) (log_of bs)) same_log s.bound;
+      some = (s.some.0, record { closing = s.some.1.closing; meets = subst (λ bs. Solves (terms_of s.some.0) (log_of bs)) same_log s.some.1.meets });
+    }
+
+    source_fine : IsFine g.scope mid p.source
+    source_fine = fine_grown g.scope c.table mid p.source k.grown this_pair.0.0
+
+    target_fine : IsFine g.scope mid p.target
+    target_fine = fine_grown g.scope c.table mid p.target k.grown this_pair.0.1
+
+    pub taken_source_holes : HolesAreOf mid p.source
+    taken_source_holes = source_fine.holes
+
+    pub taken_target_holes : HolesAreOf mid p.target
+    taken_target_holes = target_fine.holes
+
+    module _ (yes : Bool) (u : AreUnifiedIf yes mid after p.source p.target) (meets : Meets (terms_of (completion after)) after) (respects : Respects (terms_of (completion after))) where
+      tried : IsUnifiedIf yes g p.source p.target (unasked mid) (unasked after)
+      tried = unified_if g p.source p.target (unasked mid) h unasked_sound source_fine target_fine after yes u meets respects
+
+      grew_on : Grew c.table after
+      grew_on = grew_twice c.table mid after k.grown tried.binds.follows.grew
+
+      sound_now : IsSound g.scope (unasked after)
+      sound_now = tried.binds.follows.sound
+
+      still_kept : (m : TypeMismatch) → IsAwaited c.table m → IsAwaited after m ⊎ IsDecided after m
+      still_kept m w = elim (split_at k.ahead k.rest p w.pair w.position (ap (λ ps. slice_get ps w.position) (sym k.was) ∙ w.waits)) [
+        | inl is ↦ inr (subst (λ x. IsDecided after x) (ap (λ (x : WaitingPair). mismatch x.target x.source) is ∙ w.is) (pair_decided yes g p (unasked mid) (unasked after) tried))
+        | inr q ↦ inl (record {
+          position = q.0;
+          pair = w.pair;
+          waits = ap (λ (ps : Waiting). slice_get (waiting ps) q.0) (same_pairs yes mid after p.source p.target u) ∙ (ap (λ ps. slice_get ps q.0) k.is ∙ q.1);
+          is = w.is;
+        })
+      ]
+
+      pub taken_unified : OnlyBinds g c (with_table c after)
+      taken_unified = record {
+        follows = record {
+          clock = omega arith;
+          grew = grew_on;
+          of_body = h;
+          sound = record {
+            fine = sound_now.fine;
+            seen = sound_now.seen;
+            asked = fine_asked_grown g.scope c.table after c.asked grew_on s.asked;
+            kept = λ n m i. elim (s.kept n m i) [ inl w ↦ still_kept m w | inr d ↦ inr (decided_later c.table after m grew_on d) ];
+            pairs = sound_now.pairs;
+            bound = sound_now.bound;
+            some = (sound_now.some.0, closes_same sound_now.some.0 (unasked after) (with_table c after) refl sound_now.some.1);
           };
-          result = refl;
-          asked = refl;
-          clock = refl;
+          told = λ told. told;
         };
-        taken = k;
-        fine = λ q e.
-            let same : p ≡ q = cc in
-            let P : WaitingPair → Type 0 = λ x. IsFine g.scope after x.source × IsFine g.scope after x.target in
-            subst P same (fine_grown g.scope c.table after p.source k.grown here.0.0, fine_grown g.scope c.table after p.target k.grown here.0.1);
+        result = refl;
+        asked = refl;
+        clock = refl;
       }
 
-  pub took : (after : State) (pair : Option WaitingPair) → TakesKnown c.table after pair → Takes g pair c (with_table c after)
-  took after (Some p) k = took_one after p k
-  took after None k =
-      subst (λ state. Takes g None c (with_table c state)) (sym k.unchanged) (record {
-        binds = binds_nothing g c h s;
-        taken = record { unchanged = refl; none = k.none };
-        fine = λ q e. absurd (cc);
-      })
+  -- there was none
+  pub none_taken : (after : State) → TakesKnown c.table after None → OnlyBinds g c (with_table c after)
+  none_taken after k = subst (λ state. OnlyBinds g c (with_table c state)) (sym k.unchanged) (binds_nothing g c h s)
+
+-- each of these pairs was unified or refused
+abbrev pub EachSoFar : Given → List WaitingPair → InferenceContext → InferenceContext → ℕ → Type 0
+EachSoFar g pairs old c n = OnlyBinds g old c × ((i : ℕ) (p : WaitingPair) → i < n → slice_get pairs i ≡ Some p → IsDecided c.table (mismatch p.target p.source))
+
+pub one_more : (g : Given) (pairs : List WaitingPair) (old c new : InferenceContext) (n : ℕ) (p : WaitingPair) (yes : Bool) → EachSoFar g pairs old c n → slice_get pairs n ≡ Some p → IsUnifiedIf yes g p.source p.target c new → EachSoFar g pairs old new (n + 1)
+one_more g pairs old c new n p fits h at u = (
+  binds_twice g old c new h.0 u.binds,
+  λ i q lo there. elim (eq-or-lt_of_le {n = i} {m = n} (omega arith)) [
+    | inl is ↦
+        let same : p ≡ q = (let both : Some p ≡ Some q = sym at ∙ (ap (λ k. slice_get pairs k) (sym is) ∙ there) in cc) in
+        subst (λ (x : WaitingPair). IsDecided new.table (mismatch x.target x.source)) same (pair_decided fits g p c new u)
+    | inr lo ↦ decided_later c.table new.table (mismatch q.target q.source) u.binds.follows.grew (h.1 i q lo there)
+  ],
+)
+
+-- in the end all that is asked is decided, where each pair that waited was tried
+pub all_decided : (g : Given) (old new : InferenceContext) (pairs : List WaitingPair) → AskedIsKept old.table old.asked → pairs ≡ waiting old.table.pairs → OnlyBinds g old new → ((i : ℕ) (p : WaitingPair) → slice_get pairs i ≡ Some p → IsDecided new.table (mismatch p.target p.source)) → AskedIsDecided new.table new.asked
+all_decided g old new pairs kept are b each n m i = elim (kept n m (subst (λ (xs : List (Option TypeMismatch)). At xs n m) b.asked i)) [
+  | inl w ↦ subst (λ x. IsDecided new.table x) w.is (each w.position w.pair (ap (λ ps. slice_get ps w.position) are ∙ w.waits))
+  | inr d ↦ decided_later old.table new.table m b.follows.grew d
+]
 
 -- a pair that waited is fine, also once more is found out
 pub pair_still_fine : (g : Given) (old c : InferenceContext) (ps : List WaitingPair) (i : ℕ) (p : WaitingPair) → AreFinePairs g.scope old.table ps → OnlyBinds g old c → slice_get ps i ≡ Some p → IsFine g.scope c.table p.source × IsFine g.scope c.table p.target
@@ -278,11 +374,17 @@ module _ (g : Given) (e : ExprId) (t u : Ty) (c new : InferenceContext) where
 
 -- ---- an expression that waits
 
+-- what stands in a list stands in it with one more
+get_left : (xs : List WaitingPair) (y : WaitingPair) (i : ℕ) (x : WaitingPair) → slice_get xs i ≡ Some x → slice_get (xs ++ y ∷ []) i ≡ Some x
+get_left [] y i x e = absurd (cc)
+get_left (z ∷ xs) y zero x e = e
+get_left (z ∷ xs) y (suc i) x e = get_left xs y i x e
+
 -- the type resolves to an open hole
 pub unknown_at : (state : State) (t r : Ty) (n : ℕ) → resolved_type state r ≡ resolved_type state t → IsOpenOrKnown (bindings state) r → r ≡ ty.Var n → is_type_hole (resolved_term state t) ≡ true
 unknown_at state t r n same open_or_known is = ap (λ (u : Ty). is_type_hole (term u)) (sym same) ∙ (hole_where_open (bindings state) r open_or_known ∙ is_var_at r n is)
 
-module _ (g : Given) (e : ExprId) (t u : Ty) (c : InferenceContext) (h : IsOfBody g.body c.result) (s : IsSound g.scope c) (ft : IsFine g.scope c.table t) (fu : IsFine g.scope c.table u) (may : MayWait c e t u) where
+module _ (g : Given) (e : ExprId) (t u : Ty) (c : InferenceContext) (h : IsOfBody g.body c.result) (s : IsSound g.scope c) (ft : IsFine g.scope c.table t) (fu : IsFine g.scope c.table u) (may : MayWait c e t u) (is_last : waiting (with_waiting c.table t u (node.ExprId e)).pairs ≡ waiting c.table.pairs ++ (record { source = t; target = u; node = node.ExprId e }) ∷ []) where
   abbrev waiting_pair : WaitingPair
   waiting_pair = record { source = t; target = u; node = node.ExprId e }
 
@@ -310,6 +412,15 @@ module _ (g : Given) (e : ExprId) (t u : Ty) (c : InferenceContext) (h : IsOfBod
         elim (noted-cases c.asked e.0 n (mismatch u t) m i) [
           | inl q ↦ fine_asked_grown g.scope c.table after_wait c.asked wait_grew s.asked n m q
           | inr q ↦ subst P q.1 (fine_grown g.scope c.table after_wait u wait_grew fu, fine_grown g.scope c.table after_wait t wait_grew ft)
+        ];
+    kept = λ n m i.
+        elim (noted-cases c.asked e.0 n (mismatch u t) m i) [
+          | inl q ↦
+              elim (s.kept n m q) [
+                | inl w ↦ inl (record { position = w.position; pair = w.pair; waits = ap (λ ps. slice_get ps w.position) is_last ∙ get_left (waiting c.table.pairs) waiting_pair w.position w.pair w.waits; is = w.is })
+                | inr d ↦ inr (decided_later c.table after_wait m wait_grew d)
+              ]
+          | inr q ↦ inl (record { position = length (waiting c.table.pairs); pair = waiting_pair; waits = ap (λ ps. slice_get ps (length (waiting c.table.pairs))) is_last ∙ get_last (waiting c.table.pairs) waiting_pair; is = q.1 })
         ];
     pairs = fine_pairs_grown g.scope c.table after_wait (waiting after_wait.pairs) wait_grew (fine_pair_more g.scope c.table c.table.pairs waiting_pair s.pairs (ft, fu));
     bound = s.bound;

@@ -1,5 +1,5 @@
 -- What a context comes to under an assignment of closed types to its holes.
-use Rattle.std.specs.Prelude.{◌≡◌, ℕ, Bool, true, false, List, [], ◌∷◌, map, Option, Some, None, option_map}
+use Rattle.std.specs.Prelude.{◌≡◌, ◌⊎◌, ℕ, Bool, true, false, List, [], ◌∷◌, map, Option, Some, None, slice_get, option_map}
 use Rattle.hir_types.specs.declared.ty.IntegerTy.{IntegerTy}
 use Rattle.hir_types.specs.contracts.ty.TyPartialEq.TheImpl as same
 use Rattle.hir_types.specs.declared.ty.Ty.{Ty}
@@ -9,12 +9,13 @@ use Rattle.hir_types.specs.Types.{integer_type}
 use Rattle.hir_facts.specs.CarriedTypes.{IsCarriedType}
 use Rattle.hir_facts.specs.Scope.{Scope}
 use Rattle.infer_table.specs.Solutions.{log_of}
-use Rattle.infer_table.specs.Table.{bindings, Meets}
+use Rattle.infer_table.specs.declared.waiting.WaitingPair.{WaitingPair}
+use Rattle.infer_table.specs.Table.{State, bindings, Meets}
 use Rattle.infer_table.specs.Preserved.{BindsOnly}
 use Rattle.infer_table.specs.Waiting.{waiting}
 use Rattle.infer_result.specs.declared.result.InferenceResult.{InferenceResult}
 use Rattle.infer_result.specs.declared.result.TypeMismatch.{TypeMismatch}
-use Rattle.infer_result.specs.Table.{mismatch}
+use Rattle.infer_result.specs.Table.{At, mismatch}
 use Rattle.infer_result.specs.Closed.{AllTypes, AllSeen}
 use Rattle.infer_expr.specs.declared.context.InferenceContext.{InferenceContext}
 use Rattle.infer_expr.specs.declared.coerce_many.CoerceMany.{CoerceMany}
@@ -86,6 +87,7 @@ closed_table a asked t = record {
   expr_variants = t.expr_variants;
   pat_variants = t.pat_variants;
   seen = t.seen;
+  general = t.general;
 }
 
 abbrev pub found_under : Assignment → InferenceContext → Found
@@ -99,13 +101,37 @@ common_under a common.Nothing = common.Nothing
 common_under a (common.Is t) = common.Is (folded a t)
 common_under a common.Unknown = common.Unknown
 
+-- ---- what is asked
+
+-- a pair waits that is to make these two types the same
+pub record IsAwaited (state : State) (m : TypeMismatch) : Type 0 where
+  pub position : ℕ
+  pub pair : WaitingPair
+  pub waits : slice_get (waiting state.pairs) position ≡ Some pair
+  pub is : mismatch pair.target pair.source ≡ m
+
+-- the two types are the same under each assignment that closes the table, or they differ under each
+abbrev pub IsDecided : State → TypeMismatch → Type 0
+IsDecided state m =
+    ((a : Assignment) → IsClosing a → Meets (terms_of a) state → folded a m.expected ≡ folded a m.actual)
+    ⊎ ((a : Assignment) → IsClosing a → Meets (terms_of a) state → folded a m.expected ≡ folded a m.actual → ⊥)
+
+-- of whatever is asked of an expression a pair waits, or it is decided
+abbrev pub AskedIsKept : State → List (Option TypeMismatch) → Type 0
+AskedIsKept state asked = (n : ℕ) (m : TypeMismatch) → At asked n m → IsAwaited state m ⊎ IsDecided state m
+
+-- it is decided
+abbrev pub AskedIsDecided : State → List (Option TypeMismatch) → Type 0
+AskedIsDecided state asked = (n : ℕ) (m : TypeMismatch) → At asked n m → IsDecided state m
+
 -- ---- soundness
 
--- the types in hand are fine, and some assignment closes the context
+-- the types in hand are fine, nothing that is asked is lost, and some assignment closes the context
 pub record IsSound (sc : Scope) (c : InferenceContext) : Type 0 where
   pub fine : AllTypes (IsFine sc c.table) c.result
   pub seen : AllSeen (IsFine sc c.table) c.result
   pub asked : IsFineAsked sc c.table c.asked
+  pub kept : AskedIsKept c.table c.asked
   pub pairs : AreFinePairs sc c.table (waiting c.table.pairs)
   pub bound : BindsOnly (is_fine_head sc) (log_of (bindings c.table))
   pub some : (a : Assignment) × Closes a c

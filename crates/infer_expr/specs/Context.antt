@@ -13,6 +13,7 @@ use Rattle.hir_facts.specs.declared.raw.RawBody.{RawBody}
 use Rattle.hir_facts.specs.declared.schedule.Schedule.{Schedule}
 use Rattle.hir_facts.specs.CarriedTypes.{IsCarriedType}
 use Rattle.hir_facts.specs.Scope.{Scope, scope_of}
+use Rattle.infer_result.specs.declared.result.General.{General}
 use Rattle.infer_result.specs.declared.result.TypeMismatch.{TypeMismatch}
 use Rattle.infer_result.specs.declared.result.Seen.{Seen}
 use Rattle.infer_result.specs.declared.diagnostics.InferenceDiagnostic.{InferenceDiagnostic}
@@ -80,6 +81,7 @@ empty_context types b = record {
     expr_variants = map expr_variant b.exprs;
     pat_variants = map pat_variant b.pats;
     seen = [];
+    general = None;
   };
   asked = replicate (length b.exprs) None;
   clock = 1;
@@ -104,6 +106,10 @@ with_asked c e m = record c { asked = noted c.asked e.0 m }
 -- the expression of the first type waits to be put at the second
 abbrev pub waiting_at : InferenceContext → ExprId → Ty → Ty → InferenceContext
 waiting_at c e t u = with_asked (record c { table = with_waiting c.table t u (node.ExprId e) }) e (mismatch u t)
+
+-- the types before open holes fall back are kept
+abbrev pub with_general : InferenceContext → Option General → InferenceContext
+with_general c o = record c { result = record c.result { general = o } }
 
 abbrev pub with_pat_mismatch : InferenceContext → PatId → TypeMismatch → InferenceContext
 with_pat_mismatch c p m = record c { result = record c.result { pat_mismatches = noted c.result.pat_mismatches p.0 m } }

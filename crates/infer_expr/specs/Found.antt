@@ -75,6 +75,7 @@ nothing_found a types b = record {
     expr_variants = map expr_variant b.exprs;
     pat_variants = map pat_variant b.pats;
     seen = [];
+    general = None;
   };
   clock = 1;
   holes = a;

@@ -5,6 +5,7 @@ pub mod Walks
 pub mod Fine
 pub mod Tells
 pub mod Closings
+pub mod Generals
 pub mod Under
 pub mod Steps
 pub mod Callables

@@ -20,7 +20,7 @@ use Rattle.hir_facts.specs.declared.schedule.Schedule.{Schedule}
 use Rattle.hir_facts.specs.Laws.Carried.{is_carried_stmt}
 use Rattle.hir_facts.specs.Order.{inner, the_body, stmt_parts, stmt_at, maybe_part, guard, else_branch, arms_parts, tail, body_parts}
 use Rattle.infer_table.specs.declared.waiting.WaitingPair.{WaitingPair}
-use Rattle.infer_table.specs.Table.{State, Grew, resolved_type, hole_count, IsUnknownPair, TakesKnown, bindings}
+use Rattle.infer_table.specs.Table.{State, Grew, resolved_type, hole_count, IsUnknownPair, bindings}
 use Rattle.infer_result.specs.Closed.{IsOfBody}
 use Rattle.hir_facts.specs.Scope.{Scope}
 use Rattle.hir_facts.specs.Signatures.{type_args, at_args, field_types}
@@ -30,7 +30,7 @@ use Rattle.hir_types.specs.declared.ids.VariantId.{VariantId}
 use Rattle.hir_types.specs.declared.ty.GenericArg.{GenericArg}
 use Rattle.infer_result.specs.Truth.Seen.{IsPathToItem}
 use Rattle.infer_result.specs.Places.{Given, Incoming, IsPlaceholder, AreRecorded, declared}
-use Rattle.infer_result.specs.Table.{PlaceholderTy}
+use Rattle.infer_result.specs.Table.{PlaceholderTy, mismatch}
 use Rattle.infer_result.specs.Made.{IsMade}
 use Rattle.infer_result.specs.Rules.Literals.{IsLiteralType, IsOwnType}
 use Rattle.infer_expr.specs.declared.context.InferenceContext.{InferenceContext}
@@ -39,7 +39,7 @@ use Rattle.infer_expr.specs.Context.{waiting_at, with_pat_diagnostic}
 use Rattle.infer_expr.specs.Walks.{IsWalked, IsFree, expr_start, pat_start}
 use Rattle.infer_expr.specs.Fine.{IsFine, IsFineExpectation}
 use Rattle.infer_expr.specs.Tells.{Tells, TellsBound, TellsRecorded, TellsLet}
-use Rattle.infer_expr.specs.Closings.{IsClosing, Closes, closed_table, found_under, expected_under, common_under, IsSound}
+use Rattle.infer_expr.specs.Closings.{IsClosing, Closes, IsDecided, AskedIsDecided, closed_table, found_under, expected_under, common_under, IsSound}
 use Rattle.infer_expr.specs.declared.coerce.Coerced.{Coerced}
 use Rattle.infer_expr.specs.declared.coerce.Coerced.TheVariants as coerced
 use Rattle.infer_expr.specs.declared.coerce_many.CoerceMany.{CoerceMany}
@@ -297,11 +297,15 @@ pub record IsUnifiedIf (yes : Bool) (g : Given) (t u : Ty) (old new : InferenceC
   pub binds : OnlyBinds g old new
   pub each : (a : Assignment) → Closes a new → Are yes (folded a t) (folded a u)
 
--- a pair may be taken off those that wait
-pub record Takes (g : Given) (pair : Option WaitingPair) (old new : InferenceContext) : Type 0 where
+-- each of these pairs was unified or refused, and nothing is recorded
+pub record UnifiesEach (g : Given) (pairs : List WaitingPair) (old new : InferenceContext) : Type 0 where
   pub binds : OnlyBinds g old new
-  pub taken : TakesKnown old.table new.table pair
-  pub fine : (p : WaitingPair) → pair ≡ Some p → IsFine g.scope new.table p.source × IsFine g.scope new.table p.target
+  pub decided : (i : ℕ) (p : WaitingPair) → slice_get pairs i ≡ Some p → IsDecided new.table (mismatch p.target p.source)
+
+-- nothing that is asked of an expression is left open, and nothing is recorded
+pub record Settles (g : Given) (old new : InferenceContext) : Type 0 where
+  pub binds : OnlyBinds g old new
+  pub decided : AskedIsDecided new.table new.asked
 
 -- ---- coercions
 
@@ -549,7 +553,8 @@ pub record LooseDone (g : Given) (s : Schedule) (n : ExprId) (old new : Inferenc
 
 -- ---- the whole body
 
--- each node is made, under each assignment that closes what is found out
+-- each node is made, under each assignment that closes what is found out, and nothing that was asked is left open
 pub record BodyDone (g : Given) (new : InferenceContext) : Type 0 where
   pub sound : IsSound g.scope new
+  pub decided : AskedIsDecided new.table new.asked
   pub made : (a : Assignment) → Closes a new → IsMade g (closed_table a new.asked new.result)

@@ -1,7 +1,8 @@
 //! Coercions.
-ghost use Rattle.std.specs.Prelude.{◌≡◌, ◌<◌, IfOk, IsTrue, length};
+ghost use Rattle.std.specs.Prelude.{◌≡◌, ◌<◌, ◌++◌, ◌∷◌, [], IfOk, IsTrue, length};
 ghost use Rattle.hir_types.specs.declared.ids.ExprOrPatId.TheVariants as node;
 ghost use Rattle.infer_table.specs.Table.{IsUnknownPair};
+ghost use Rattle.infer_table.specs.Waiting.{waiting};
 ghost use Rattle.infer_result.specs.Table.{mismatch};
 ghost use Rattle.infer_result.specs.Closed.{IsOfBody};
 ghost use Rattle.infer_expr.specs.Context.{given_of, scope_in, waiting_at};
@@ -104,7 +105,8 @@ impl InferenceContext {
     ) -> Result<(), AllocError>
         requires actual { IsFine (scope_in given.now) self.old.table actual.now }
         requires target { IsFine (scope_in given.now) self.old.table target.now }
-        ensures { IfOk result (λ _. self.new ≡ waiting_at self.old expr actual.now target.now) }
+        ensures waits { IfOk result (λ _. self.new ≡ waiting_at self.old expr actual.now target.now) }
+        ensures last { IfOk result (λ _. waiting self.new.table.pairs ≡ waiting self.old.table.pairs ++ (record { source = actual.now; target = target.now; node = node.ExprId expr }) ∷ []) }
     {
         let asked = mismatch_of(alloc, actual, target)?;
         self.table.wait(actual, target, ExprOrPatId::ExprId(expr))?;

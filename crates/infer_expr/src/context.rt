@@ -122,6 +122,7 @@ impl InferenceContext {
             expr_variants: expr_variants(alloc, body)?,
             pat_variants: pat_variants(alloc, body)?,
             seen: List::new(alloc),
+            general: None,
         };
         Ok(InferenceContext {
             result,

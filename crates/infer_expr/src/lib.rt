@@ -11,6 +11,7 @@ mod coerce_many;
 mod context;
 mod expectation;
 mod expr;
+mod general;
 mod given;
 mod inspect;
 mod literal;

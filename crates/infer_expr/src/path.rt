@@ -52,7 +52,7 @@ impl InferenceContext {
 
     /// The type of a path to a constructor at new holes for the parameters of its adt: without fields
     /// a value of the adt, else an item that can be called: `infer/path.rs`, `infer_path`.
-    pub fn infer_ctor_path(
+    fn infer_ctor_path(
         &mut self,
         alloc: Global,
         given: &GivenBody,

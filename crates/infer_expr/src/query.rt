@@ -2,6 +2,7 @@
 ghost use Rattle.std.specs.Prelude.{IfOk};
 ghost use Rattle.hir_facts.specs.Bodies.{HasBody};
 ghost use Rattle.infer_result.specs.Typed.{IsTableOf};
+ghost use Rattle.infer_result.specs.General.{HasGeneral};
 
 use crate::context::InferenceContext;
 use crate::given::GivenBody;
@@ -11,7 +12,8 @@ use infer_result::InferenceResult;
 use std::alloc::{AllocError, Global};
 
 /// The table of a definition's body: `infer.rs`, `infer_query_with_inspect`. Its one error is want
-/// of memory. Nothing is inspected yet.
+/// of memory. Nothing is inspected yet. Of a plain body the table keeps its types with holes too, before
+/// these fall back to anything: `InferenceResult::general`.
 pub fn infer_query_with_inspect<I: ObligationInspector>(
     alloc: Global,
     facts: &Facts,
@@ -19,7 +21,8 @@ pub fn infer_query_with_inspect<I: ObligationInspector>(
     _inspect: Option<&mut I>,
 ) -> Result<InferenceResult, AllocError>
     requires { HasBody facts.now def }
-    ensures { IfOk result (λ table. IsTableOf facts.now def table) }
+    ensures table { IfOk result (λ table. IsTableOf facts.now def table) }
+    ensures general { IfOk result (λ table. HasGeneral facts.now def table) }
 {
     let Some(id) = facts.body_id(def) else {
         unreachable!()
@@ -37,6 +40,7 @@ pub fn infer_query_with_inspect<I: ObligationInspector>(
     };
     let mut context = InferenceContext::new(alloc, facts, body)?;
     context.infer_body(alloc, &given)?;
+    context.keep_general(alloc, facts, def)?;
     let table = context.resolve_all(alloc)?;
     Ok(table)
 }

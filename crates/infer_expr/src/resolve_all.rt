@@ -4,8 +4,8 @@ ghost use Rattle.std.specs.Option.{option_copied};
 ghost use Rattle.hir_types.specs.Terms.{terms_of};
 ghost use Rattle.hir_types.specs.Subst.{folded};
 ghost use Rattle.infer_table.specs.Completion.{completion};
-ghost use Rattle.infer_table.specs.Solutions.{Respects};
-ghost use Rattle.infer_table.specs.Table.{Meets};
+ghost use Rattle.infer_table.specs.Solutions.{Respects, Triangular, log_of};
+ghost use Rattle.infer_table.specs.Table.{bindings, Meets};
 ghost use Rattle.infer_expr.specs.Closings.{closed_types, closed_mismatch, closed_mismatches, closed_table, asked_or_noted, entry_of};
 ghost use Rattle.infer_expr.specs.Said.{said, said_of};
 
@@ -169,6 +169,7 @@ impl InferenceContext {
         ensures closed { IfOk result (λ made. made ≡ closed_table (completion self.table) self.asked self.result) }
         ensures meets { Meets (terms_of (completion self.table)) self.table }
         ensures respects { Respects (terms_of (completion self.table)) }
+        ensures acyclic { Triangular (log_of (bindings self.table)) }
     {
         self.table.lawful();
         let mut result = self.result;

@@ -4,7 +4,7 @@ ghost use Rattle.infer_result.specs.Closed.{IsOfBody};
 ghost use Rattle.infer_expr.specs.Closings.{IsSound};
 ghost use Rattle.infer_expr.specs.Context.{given_of, scope_in};
 ghost use Rattle.infer_expr.specs.Fine.{IsFine, AreFinePairs};
-ghost use Rattle.infer_expr.specs.Steps.{IsUnifiedIf, OnlyBinds, Takes};
+ghost use Rattle.infer_expr.specs.Steps.{IsUnifiedIf, OnlyBinds, UnifiesEach, Settles};
 
 use crate::context::InferenceContext;
 use crate::given::GivenBody;
@@ -47,19 +47,26 @@ impl InferenceContext {
         }
     }
 
-    /// Takes the first pair that waits and of which a side is known.
-    fn take_known(&mut self, given: &GivenBody) -> Result<Option<WaitingPair>, AllocError>
+    /// Takes the first pair that waits and of which a side is known, and unifies it. Where the two
+    /// can't be made equal, they differ from then on, which is a mismatch at the expression that
+    /// waited. Answers whether there was such a pair.
+    fn unify_next(&mut self, given: &GivenBody) -> Result<bool, AllocError>
         requires of_body { IsOfBody given.now.body.now self.old.result }
         requires sound { IsSound (scope_in given.now) self.old }
-        ensures { IfOk result (λ pair. Takes (given_of given.now) pair self.old self.new) }
+        ensures { IfOk result (λ _. OnlyBinds (given_of given.now) self.old self.new) }
     {
-        let pair = self.table.take_known()?;
-        Ok(pair)
+        match self.table.take_known()? {
+            Some(pair) => {
+                self.table.unify(&pair.source, &pair.target)?;
+                // That some assignment agrees with what is found out now is known of each table.
+                self.table.lawful();
+                Ok(true)
+            }
+            None => Ok(false),
+        }
     }
 
-    /// Unifies the pairs that wait and of which a side is known, till there is none. Where the two
-    /// can't be made equal, they differ from then on, which is a mismatch at the expression that
-    /// waited.
+    /// Unifies the pairs that wait and of which a side is known, till there is none.
     fn unify_known(&mut self, given: &GivenBody) -> Result<(), AllocError>
         requires of_body { IsOfBody given.now.body.now self.old.result }
         requires sound { IsSound (scope_in given.now) self.old }
@@ -67,24 +74,23 @@ impl InferenceContext {
     {
         // An expression waits once at most, so no more pairs wait than there are expressions.
         for _ in 0..self.asked.len() {
-            match self.take_known(given)? {
-                Some(pair) => {
-                    self.unify_alone(given, &pair.source, &pair.target)?;
-                }
-                None => return Ok(()),
+            if !self.unify_next(given)? {
+                return Ok(());
             }
         }
         Ok(())
     }
 
-    /// Unifies the pairs that still wait once the body is typed.
+    /// Unifies the pairs that still wait once the body is typed, so that each expression which waited
+    /// is of the type that was asked of it, or is not, whatever its open holes come to.
     pub fn unify_unknown(&mut self, given: &GivenBody) -> Result<(), AllocError>
         requires of_body { IsOfBody given.now.body.now self.old.result }
         requires sound { IsSound (scope_in given.now) self.old }
-        ensures { IfOk result (λ _. OnlyBinds (given_of given.now) self.old self.new) }
+        ensures { IfOk result (λ _. Settles (given_of given.now) self.old self.new) }
     {
         let pairs = self.table.pairs()?;
-        self.unify_each(given, pairs.as_slice())
+        self.unify_each(given, pairs.as_slice())?;
+        Ok(())
     }
 
     /// Unifies pairs of types, where that can be.
@@ -92,7 +98,7 @@ impl InferenceContext {
         requires of_body { IsOfBody given.now.body.now self.old.result }
         requires sound { IsSound (scope_in given.now) self.old }
         requires fine { AreFinePairs (scope_in given.now) self.old.table pairs.now }
-        ensures { IfOk result (λ _. OnlyBinds (given_of given.now) self.old self.new) }
+        ensures { IfOk result (λ _. UnifiesEach (given_of given.now) pairs.now self.old self.new) }
     {
         for i in 0..pairs.len() {
             let pair = &pairs[i];

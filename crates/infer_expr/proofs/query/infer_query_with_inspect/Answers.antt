@@ -1,18 +1,16 @@
 use Rattle.std.proofs.Common.{sym}
 use Rattle.hir_facts.specs.CarriedTypes.{return_carried}
-use Rattle.hir_facts.specs.Scope.{scope_of}
-use Rattle.infer_table.specs.Completion.{completion}
-use Rattle.infer_expr.proofs.Definitions.{body_within, written_exist, inputs_for_params, table_of}
+use Rattle.hir_facts.specs.InRange.{body_in_range}
+use Rattle.infer_expr.proofs.Definitions.{written_exist, inputs_for_params}
 use Rattle.infer_expr.proofs.Written.{output_heads}
-use Rattle.infer_expr.proofs.Fits.{completed_table_fits, seen_fits}
-use Rattle.infer_expr.proofs.Unified.{completion_closes}
+use Rattle.infer_expr.proofs.GeneralTables.{has_all_types, ends}
 use Rattle.infer_expr.proofs.query.infer_query_with_inspect.Goals as goal
 
 pub body-body-requires : goal.body-body-requires
-body-body-requires g c = body_within _ _ _ c.lawful.ensures (sym c.in-Some.ensures)
+body-body-requires g c = body_in_range _ _ _ c.lawful.ensures (sym c.in-Some.ensures)
 
 pub schedule-requires : goal.schedule-requires
-schedule-requires g c = body_within _ _ _ c.lawful.ensures (sym c.in-Some.ensures)
+schedule-requires g c = body_in_range _ _ _ c.lawful.ensures (sym c.in-Some.ensures)
 
 pub infer_body-requires-clause-written : goal.infer_body-requires-clause-written
 infer_body-requires-clause-written g c = written_exist c.args.facts.now c.args.def c.in-Some.id _ _ c.in_ok-return_ty.return_ty c.lawful.ensures (sym c.in-Some.ensures) c.body-body.ensures c.inputs.ensures
@@ -27,11 +25,15 @@ infer_body-requires-clause-carried g c = rw c.in_ok-return_ty.ensures (return_ca
 pub infer_body-requires-clause-heads : goal.infer_body-requires-clause-heads
 infer_body-requires-clause-heads g c = rw c.in_ok-return_ty.ensures (output_heads c.args.facts.now c.lawful.ensures c.args.def c.in-Some.id (sym c.in-Some.ensures))
 
-pub returns : goal.returns
-returns g c =
-    let done = c.in_ok-infer_body.ensures in
-    let context = c.infer_body.new.self in
-    let closes = completion_closes (scope_of c.args.facts.now c.args.def) context done.sound c.in_ok-table.ensures.meets c.in_ok-table.ensures.respects in
-    rw c.in_ok-table.ensures.closed (
-    table_of _ _ c.in-Some.id _ _ _ _ _ (sym c.in-Some.ensures) c.body-body.ensures (c.schedule.ensures.walkable _ c.body-body.ensures) c.inputs.ensures c.in_ok-return_ty.ensures (done.made (completion context.table) closes) (completed_table_fits (scope_of c.args.facts.now c.args.def) context done.sound) (seen_fits (scope_of c.args.facts.now c.args.def) context done.sound)
-    )
+pub keep_general-requires : goal.keep_general-requires
+keep_general-requires g c = has_all_types _ _ c.infer_body.new.self (c.schedule.ensures.walkable _ c.body-body.ensures) c.in_ok-infer_body.ensures
+
+pub returns-clause-table : goal.returns-clause-table
+returns-clause-table g c =
+    let made = c.in_ok-table.ensures in
+    rw made.closed (ends _ _ c.in-Some.id _ _ _ _ (sym c.in-Some.ensures) c.body-body.ensures (c.schedule.ensures.walkable _ c.body-body.ensures) c.inputs.ensures c.in_ok-return_ty.ensures c.infer_body.new.self c.in_ok-infer_body.ensures c.keep_general.new.self c.in_ok-keep_general.ensures made.meets made.respects made.acyclic).0
+
+pub returns-clause-general : goal.returns-clause-general
+returns-clause-general g c =
+    let made = c.in_ok-table.ensures in
+    rw made.closed (ends _ _ c.in-Some.id _ _ _ _ (sym c.in-Some.ensures) c.body-body.ensures (c.schedule.ensures.walkable _ c.body-body.ensures) c.inputs.ensures c.in_ok-return_ty.ensures c.infer_body.new.self c.in_ok-infer_body.ensures c.keep_general.new.self c.in_ok-keep_general.ensures made.meets made.respects made.acyclic).1

@@ -1,4 +1,7 @@
-use Rattle.std.proofs.Common.{subst, sym, ◌∙◌, ap}
+use Rattle.std.proofs.Common.{subst, sym, ◌∙◌, ap, ◌≡◌, ◌++◌, ◌∷◌, []}
+use Rattle.hir_types.specs.declared.ids.ExprOrPatId.TheVariants as node
+use Rattle.infer_table.specs.Waiting.{waiting}
+use Rattle.infer_expr.specs.declared.context.InferenceContext.{InferenceContext}
 use Rattle.infer_expr.specs.Context.{given_of, with_mismatch}
 use Rattle.infer_expr.specs.declared.coerce.Coerced.TheVariants as coerced
 use Rattle.infer_expr.specs.Steps.{IsUnifiedIf, IsCoerced}
@@ -8,8 +11,9 @@ use Rattle.infer_expr.proofs.context.InferenceContext.coerce.Goals as goal
 pub returns-then-may_wait : goal.returns-then-may_wait
 returns-then-may_wait c =
     let g = given_of c.args.given.now in
-    subst (λ new. IsCoerced coerced.Waits (given_of c.args.given.now) c.args.expr c.args.actual.now c.args.target.now c.args.self.now new) (sym c.in_ok-wait.ensures)
-    (waits_coerced g c.args.expr c.args.actual.now c.args.target.now c.args.self.now c.requires.of_body c.requires.sound c.requires.actual c.requires.target (c.may_wait.ensures c.if-may_wait.true))
+    subst (λ new. IsCoerced coerced.Waits (given_of c.args.given.now) c.args.expr c.args.actual.now c.args.target.now c.args.self.now new) (sym c.in_ok-wait.ensures.waits)
+    (waits_coerced g c.args.expr c.args.actual.now c.args.target.now c.args.self.now c.requires.of_body c.requires.sound c.requires.actual c.requires.target (c.may_wait.ensures c.if-may_wait.true)
+    (subst (λ (new : InferenceContext). waiting new.table.pairs ≡ waiting c.args.self.now.table.pairs ++ (record { source = c.args.actual.now; target = c.args.target.now; node = node.ExprId c.args.expr }) ∷ []) c.in_ok-wait.ensures.waits c.in_ok-wait.ensures.last))
 
 pub returns-then-branch : goal.returns-then-branch
 returns-then-branch c =
