@@ -1,7 +1,8 @@
 -- The body of a definition, and the laws that a walk of it rests on.
-use Rattle.std.specs.Prelude.{◌≡◌, ◌<◌, List, [], length, slice_get, Option, Some, None, IsSome, IsTrue}
+use Rattle.std.specs.Prelude.{ℕ, ◌≡◌, ◌<◌, List, [], length, slice_get, Option, Some, None, IsSome, IsTrue}
 use Rattle.std.specs.Option.{option_and_then}
 use Rattle.hir_types.specs.declared.ids.BodyId.{BodyId}
+use Rattle.hir_types.specs.declared.ids.ExprId.{ExprId}
 use Rattle.hir_types.specs.declared.ids.PatId.{PatId}
 use Rattle.hir_types.specs.declared.ids.BindingId.{BindingId}
 use Rattle.hir_types.specs.declared.ids.TypeRefId.{TypeRefId}
@@ -18,6 +19,7 @@ use Rattle.hir_facts.specs.Order.{IsSchedule, PartsFit, Binds}
 use Rattle.hir_facts.specs.Laws.Carried.{is_carried_body}
 use Rattle.hir_facts.specs.Laws.Trees.{BoundByPattern}
 use Rattle.hir_facts.specs.Laws.Scopes.{AreInScope}
+use Rattle.hir_facts.specs.Laws.Literals.{IsPatternOf, IsLiteral}
 
 -- no constant, static or variant is carried yet
 abbrev pub body_id_of : RawFacts → DefWithBodyId → Option BodyId
@@ -64,3 +66,4 @@ pub record IsWalkable (b : RawBody) (s : Schedule) : Type 0 where
   pub bound : (v : BindingId) → v.0 < length b.bindings → BoundByPattern b v
   pub scopes : AreInScope b s
   pub no_self : b.self_ ≡ None
+  pub literals : (p : ℕ) (e : ExprId) → IsPatternOf b p e → IsLiteral (slice_get b.exprs e.0)

@@ -18,7 +18,7 @@ use Rattle.hir_facts.specs.Laws.Ids.{BodyIdsExist}
 use Rattle.hir_facts.specs.Laws.Counts.{count_of}
 use Rattle.hir_facts.specs.Laws.Trees.{IsWellFormed}
 use Rattle.hir_facts.specs.Laws.Lawful.{IsLawful}
-use Rattle.hir_facts.specs.LawfulFacts.{fn_ids, bodies_carried, body_ids, counts_fit, bodies_well_formed, scopes_hold, bodies_small}
+use Rattle.hir_facts.specs.LawfulFacts.{fn_ids, bodies_carried, body_ids, counts_fit, bodies_well_formed, scopes_hold, bodies_small, literals_fit}
 
 -- a carried body has no `self`
 pub no_self : (b : RawBody) → IsTrue (is_carried_body b) → b.self_ ≡ None
@@ -38,6 +38,7 @@ walkable raw law i b s found numbered =
       bound = λ v lt. elim (well.bound v lt) [ inl own ↦ absurd (let q : b.self_ ≡ Some v = own.is_self in cc) | inr one ↦ one ];
       scopes = scopes_hold raw law i b found s numbered (bodies_small raw law i b found).low;
       no_self = alone;
+      literals = (literals_fit raw law i b found).under;
     }
 
 -- ---- inputs

@@ -8,7 +8,7 @@ use std::hash::{Hash, Hasher};
 use std::marker::Model;
 
 /// A `Box` that contracts see as its value.
-#[derive(Debug, Drop)]
+#[derive(Debug)]
 pub struct Boxed<T> {
     inner: Box<T>,
 }
@@ -19,6 +19,12 @@ impl<T> Model for Boxed<T> {
     ghost coded = { T.code };
 
     ghost view = { λ b. b.inner.value };
+}
+
+impl<T: Drop> Drop for Boxed<T> {
+    fn drop(self) {
+        let Boxed { inner: _ } = self;
+    }
 }
 
 impl<T> Boxed<T> {

@@ -12,8 +12,6 @@ mod list;
 mod outline;
 mod room;
 mod subst;
-#[cfg(test)]
-mod tests;
 mod text;
 mod ty;
 mod unchanged;

@@ -13,7 +13,7 @@ use std::slice::Iter;
 
 /// A `Vec` that contracts see as the list of its elements, so that two lists are equal where their
 /// elements are.
-#[derive(Debug, Drop)]
+#[derive(Debug)]
 pub struct List<T> {
     items: Vec<T>,
 }
@@ -27,6 +27,13 @@ impl<T> Model for List<T> {
     ghost coded = { coded_list T.code };
 
     ghost view = { λ it. it.items.items };
+}
+
+// A type with a `drop` of its own is let go by one call, which is proved once, here.
+impl<T: Drop> Drop for List<T> {
+    fn drop(self) {
+        let List { items: _ } = self;
+    }
 }
 
 impl<T> List<T> {

@@ -12,7 +12,7 @@ use std::hash::{Hash, Hasher};
 use std::marker::Model;
 
 /// A text, which contracts see as its bytes.
-#[derive(Debug, Drop)]
+#[derive(Debug)]
 pub struct Text {
     text: String,
 }
@@ -21,6 +21,12 @@ impl Model for Text {
     ghost Value = { List ℕ };
 
     ghost view = { λ s. string_bytes s.text };
+}
+
+impl Drop for Text {
+    fn drop(self) {
+        let Text { text: _ } = self;
+    }
 }
 
 impl Text {

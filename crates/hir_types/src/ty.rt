@@ -92,7 +92,7 @@ pub enum Const {
 /// are holes that inference made, for any type and for integer types, by their numbers in the one
 /// numbering of all holes, and stand in no finished table; `Hole` is a written `_` and stands in lowered types alone.
 #[cycle(ty)]
-#[derive(Debug, Drop, PartialEq, Eq, Hash)]
+#[derive(Debug, PartialEq, Eq, Hash)]
 pub enum Ty {
     Bool,
     Char,
@@ -155,6 +155,35 @@ pub struct TraitRef {
 pub struct AliasBound {
     pub alias: TypeAliasId,
     pub ty: Ty,
+}
+
+impl Drop for Ty {
+    #[cycle(drop)]
+    fn drop(self) {
+        match self {
+            Ty::Bool | Ty::Char | Ty::Str | Ty::Never | Ty::Error | Ty::Hole => {}
+            Ty::Int(_) | Ty::Uint(_) | Ty::Float(_) | Ty::Param(_) | Ty::Var(_) | Ty::IntVar(_) =>
+                {}
+            Ty::Tuple(_) | Ty::Array(_, _) | Ty::Slice(_) | Ty::Ref(_, _, _) | Ty::RawPtr(_, _) =>
+                {}
+            Ty::Adt(_, _) | Ty::FnDef(_, _) | Ty::Projection(_, _) | Ty::Opaque(_, _) => {}
+            Ty::FnPtr {
+                safety: _,
+                inputs: _,
+                output: _,
+            } => {}
+            Ty::Closure {
+                id: _,
+                inputs: _,
+                output: _,
+            } => {}
+            Ty::Dynamic {
+                principal: _,
+                projections: _,
+                auto_traits: _,
+            } => {}
+        }
+    }
 }
 
 impl IntegerTy {

@@ -7,7 +7,7 @@ use crate::modes::BindingMode;
 use hir_facts::{BindingId, ExprId, ExprOrPatId, List, PatId, Ty, TypeRefId, VariantId};
 
 /// Two types that should be the same, at an expression or a pattern: `infer.rs`, `TypeMismatch`.
-#[derive(Debug, Drop, PartialEq, Eq, Hash)]
+#[derive(Debug, PartialEq, Eq, Hash)]
 pub struct TypeMismatch {
     /// What the place of an expression asks for, or what comes into a pattern.
     pub expected: Ty,
@@ -15,9 +15,18 @@ pub struct TypeMismatch {
     pub actual: Ty,
 }
 
+impl Drop for TypeMismatch {
+    fn drop(self) {
+        let TypeMismatch {
+            expected: _,
+            actual: _,
+        } = self;
+    }
+}
+
 /// A look-up that failed. Its types are as they were known when the failure was found, so they may have
 /// numbered holes.
-#[derive(Debug, Drop, PartialEq, Eq, Hash)]
+#[derive(Debug, PartialEq, Eq, Hash)]
 pub struct Seen {
     /// The node that needs it: a call, where what is called is no function.
     pub node: ExprOrPatId,
@@ -27,11 +36,21 @@ pub struct Seen {
     pub other: Option<Ty>,
 }
 
+impl Drop for Seen {
+    fn drop(self) {
+        let Seen {
+            node: _,
+            ty: _,
+            other: _,
+        } = self;
+    }
+}
+
 /// The types of a plain body before open holes fall back to anything: each type that is left open is a
 /// numbered hole, for any type or for integer types. One hole stands for one type throughout the body,
 /// and two that waited for each other are one, unless that was refused and is a mismatch. Each list has an
 /// entry for each node, or for each binding, in the order of their ids.
-#[derive(Debug, Drop, PartialEq, Eq)]
+#[derive(Debug, PartialEq, Eq)]
 pub struct General {
     /// The type of each expression.
     pub exprs: List<Ty>,
@@ -41,10 +60,20 @@ pub struct General {
     pub bindings: List<Ty>,
 }
 
+impl Drop for General {
+    fn drop(self) {
+        let General {
+            exprs: _,
+            pats: _,
+            bindings: _,
+        } = self;
+    }
+}
+
 /// What inference found out about a body: `infer.rs`, `InferenceResult`. Each list but `seen` has an
 /// entry for each node or binding of the body, or for each written type of the facts, in the order of
 /// their ids. A reader that takes an id answers `None` where there is no such id.
-#[derive(Debug, Drop, PartialEq, Eq)]
+#[derive(Debug, PartialEq, Eq)]
 pub struct InferenceResult {
     /// The type of each expression.
     pub type_of_expr: List<Option<Ty>>,
@@ -73,6 +102,26 @@ pub struct InferenceResult {
     pub seen: List<Seen>,
     /// The types before open holes fell back, of a plain body alone.
     pub general: Option<General>,
+}
+
+impl Drop for InferenceResult {
+    fn drop(self) {
+        let InferenceResult {
+            type_of_expr: _,
+            type_of_pat: _,
+            type_of_binding: _,
+            type_of_placeholder: _,
+            binding_modes: _,
+            expr_mismatches: _,
+            expr_diagnostics: _,
+            pat_mismatches: _,
+            pat_diagnostics: _,
+            expr_variants: _,
+            pat_variants: _,
+            seen: _,
+            general: _,
+        } = self;
+    }
 }
 
 impl InferenceResult {

@@ -13,8 +13,6 @@ mod resolve;
 mod resolver;
 mod snapshot;
 mod table;
-#[cfg(test)]
-mod tests;
 mod unify;
 mod waiting;
 mod waits;

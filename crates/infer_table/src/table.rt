@@ -15,12 +15,22 @@ use std::marker::Model;
 /// The holes that inference made: what they are bound to, which pairs of types wait to be unified, and
 /// which holes diverge. Contracts see it as a `State`: a substitution without cycle, a list of pairs
 /// and a list of diverging holes. Holes are numbered upward, and a number is never used twice.
-#[derive(Drop)]
 pub struct InferenceTable {
     pub(crate) alloc: Global,
     pub(crate) bindings: Bindings,
     pub(crate) pairs: PairQueue,
     pub(crate) diverging: Vec<usize>,
+}
+
+impl Drop for InferenceTable {
+    fn drop(self) {
+        let InferenceTable {
+            alloc: _,
+            bindings: _,
+            pairs: _,
+            diverging: _,
+        } = self;
+    }
 }
 
 impl Model for InferenceTable {
