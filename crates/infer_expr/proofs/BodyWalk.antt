@@ -1,32 +1,33 @@
 -- The walk of a whole body.
-use Rattle.std.proofs.Common.{ℕ, zero, suc, ◌<◌, ◌≡◌, ◌^◌, List, [], ◌∷◌, refl, sym, ap, subst, length, map, Some, None}
 use Rattle.std.specs.Prelude.{replicate, option_map}
-use Rattle.hir_types.specs.declared.ty.IntTy.TheVariants as int
+use Rattle.std.proofs.Common.{ℕ, zero, suc, ◌≡◌, ◌∷◌, refl, ap, map, None, List, [], length, ◌<◌, ◌^◌, sym, subst, Some}
+use Rattle.hir_types.specs.Subst.{Assignment, folded}
 use Rattle.hir_types.specs.declared.ty.IntegerTy.TheVariants.{Int}
 use Rattle.hir_types.specs.declared.ty.Ty.{Ty}
-use Rattle.hir_types.specs.Subst.{Assignment, folded}
-use Rattle.hir_facts.specs.Bodies.{IsWalkable}
-use Rattle.hir_facts.specs.CarriedTypes.{IsCarriedType, carried_error}
+use Rattle.hir_types.specs.declared.ty.IntTy.TheVariants as int
 use Rattle.hir_facts.specs.declared.raw.RawBody.{RawBody}
 use Rattle.hir_facts.specs.declared.raw.RawType.{RawType}
-use Rattle.infer_result.specs.declared.diagnostics.InferenceDiagnostic.TheVariants as diagnostic
+use Rattle.hir_facts.specs.CarriedTypes.{carried_error, IsCarriedType}
+use Rattle.hir_facts.specs.Scope.{Scope}
+use Rattle.hir_facts.specs.Bodies.{IsWalkable}
 use Rattle.hir_facts.specs.declared.schedule.Schedule.{Schedule}
 use Rattle.infer_table.specs.Completion.{fallback}
 use Rattle.infer_result.specs.Places.{Given}
-use Rattle.hir_facts.specs.Scope.{Scope}
-use Rattle.infer_expr.specs.declared.context.InferenceContext.{InferenceContext}
-use Rattle.infer_expr.specs.Context.{empty_context}
 use Rattle.infer_result.specs.Made.{IsMade}
-use Rattle.infer_expr.specs.Found.{Found, expr_variant, pat_variant, nothing_found}
-use Rattle.infer_expr.specs.Closings.{Closes, closed_mismatch, closed_mismatches, found_under, IsSound}
-use Rattle.infer_expr.specs.Fine.{HasFineHeads}
-use Rattle.infer_expr.specs.Steps.{Before, CoerceDone, BeforeParams, ParamsDone, BodyDone, Settles, OnlyBinds}
-use Rattle.infer_expr.specs.Under.{WrittenExist}
-use Rattle.infer_expr.specs.Under as under
-use Rattle.infer_expr.specs.Walks.{expr_end}
-use Rattle.infer_expr.proofs.AtEach.{closes_before, walking_after}
-use Rattle.infer_expr.proofs.Closed.{same_found, of_body_unclosed}
-use Rattle.infer_expr.proofs.OverTypes.{carried_fine, carried_closed}
+use Rattle.infer_result.specs.declared.diagnostics.InferenceDiagnostic.TheVariants as diagnostic
+use Rattle.infer_ctx.specs.Closings.{closed_mismatches, closed_mismatch, found_under, IsSound, Closes}
+use Rattle.infer_ctx.specs.Context.{empty_context}
+use Rattle.infer_ctx.specs.Found.{expr_variant, pat_variant, nothing_found, Found}
+use Rattle.infer_ctx.specs.declared.context.InferenceContext.{InferenceContext}
+use Rattle.infer_ctx.specs.Under.{WrittenExist, CoerceWalked}
+use Rattle.infer_ctx.specs.Walks.{expr_end}
+use Rattle.infer_ctx.specs.Fine.{HasFineHeads}
+use Rattle.infer_ctx.specs.Steps.{Before, CoerceDone, BodyDone, OnlyBinds}
+use Rattle.infer_ctx.proofs.Closed.{of_body_unclosed, same_found}
+use Rattle.infer_ctx.proofs.AtEach.{walking_after, closes_before}
+use Rattle.infer_ctx.proofs.OverTypes.{carried_fine, carried_closed}
+use Rattle.infer_coerce.specs.Unifying.{Settles}
+use Rattle.infer_expr.specs.Params.{BeforeParams, ComesToParams, ParamsDone, ParamsWalked}
 use Rattle.infer_expr.proofs.Whole.{At-replicate, params_before, root_before, body_made}
 
 none_under : {A B : Type 0} (f : A → B) (n : ℕ) → map (option_map f) (replicate n None) ≡ replicate n None
@@ -89,7 +90,7 @@ module _ (g : Given) (s : Schedule) (law : IsWalkable g.body s) (written : Writt
   abbrev blank : InferenceContext
   blank = empty_context g.scope.facts.types g.body
 
-  params_under : (a : Assignment) (last : ℕ) → last ≡ expr_end g.body s g.body.root → last < 2 ^ 64 → under.BeforeParams g s (found_under a blank)
+  params_under : (a : Assignment) (last : ℕ) → last ≡ expr_end g.body s g.body.root → last < 2 ^ 64 → ComesToParams g s (found_under a blank)
   params_under a last is room = params_before g s a last (found_under a blank) law written count is room (nothing_under a g.scope.facts.types g.body)
 
   pub comes_to_params : (last : ℕ) (c : InferenceContext) → last ≡ expr_end g.body s g.body.root → last < 2 ^ 64 → c ≡ blank → BeforeParams g s c
@@ -123,11 +124,11 @@ module _ (g : Given) (s : Schedule) (law : IsWalkable g.body s) (carried : IsCar
   abbrev b : OnlyBinds g new last
   b = e.binds
 
-  typed : (a : Assignment) → Closes a new → under.ParamsDone g s (nothing_found a g.scope.facts.types g.body) (found_under a mid)
-  typed a q = subst (λ c. under.ParamsDone g s c (found_under a mid)) (nothing_under a g.scope.facts.types g.body) (p.each a (closes_before g a mid new d.follows q))
+  typed : (a : Assignment) → Closes a new → ParamsWalked g s (nothing_found a g.scope.facts.types g.body) (found_under a mid)
+  typed a q = subst (λ c. ParamsWalked g s c (found_under a mid)) (nothing_under a g.scope.facts.types g.body) (p.each a (closes_before g a mid new d.follows q))
 
-  done : (a : Assignment) → Closes a new → under.CoerceDone g s g.body.root (Some g.output) (folded a t) (found_under a mid) (found_under a new)
-  done a q = subst (λ u. under.CoerceDone g s g.body.root (Some u) (folded a t) (found_under a mid) (found_under a new)) (carried_closed a g.output carried) (d.each a q)
+  done : (a : Assignment) → Closes a new → CoerceWalked g s g.body.root (Some g.output) (folded a t) (found_under a mid) (found_under a new)
+  done a q = subst (λ u. CoerceWalked g s g.body.root (Some u) (folded a t) (found_under a mid) (found_under a new)) (carried_closed a g.output carried) (d.each a q)
 
   -- what waits is unified in the end
   pub body_walked : BodyDone g last

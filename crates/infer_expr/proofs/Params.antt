@@ -1,21 +1,24 @@
 -- The loop over the parameters.
-use Rattle.std.proofs.Common.{ℕ, suc, ◌+◌, ◌<◌, ◌≤◌, ◌≡◌, inl, inr, List, [], ◌∷◌, ◌++◌, length, drop, get_or, refl, sym, ap, subst, ◌∙◌, arith, Some, slice_get}
+use Rattle.std.proofs.Common.{ℕ, ◌+◌, ◌<◌, ◌≡◌, [], ◌∷◌, ◌++◌, drop, Some, slice_get, arith, sym, ap, ◌∙◌, suc, ◌≤◌, inl, inr, List, length, get_or, refl, subst}
 use Rattle.std.proofs.Math.ListN.{drop_of_length-le}
 use Rattle.std.proofs.lemmas.Option.{slice_get_read, slice_get_within}
 use Rattle.hir_types.specs.declared.ids.PatId.{PatId}
 use Rattle.hir_types.specs.declared.ty.Ty.{Ty}
 use Rattle.hir_facts.specs.declared.schedule.Schedule.{Schedule}
-use Rattle.hir_facts.specs.CarriedTypes.{IsCarriedType}
+use Rattle.hir_facts.specs.Order.{the_body, root, expr_part, param_parts, Part, parameter, pat_part}
 use Rattle.hir_facts.specs.Types.{written_type}
-use Rattle.hir_facts.specs.Order.{Part, the_body, root, parameter, expr_part, pat_part, param_parts}
+use Rattle.hir_facts.specs.CarriedTypes.{IsCarriedType}
 use Rattle.infer_result.specs.Places.{Given, IsInput, PatIsAtOrMismatch}
-use Rattle.infer_expr.specs.Found.{Found}
-use Rattle.infer_expr.specs.Walks.{Walks, Nothing}
-use Rattle.infer_expr.specs.Under.{IsReady, LieAhead, BeforePat, PatDone, BeforeParams, ParamsDone}
-use Rattle.infer_expr.proofs.Lists.{lt_or_ge, drop-step}
-use Rattle.infer_expr.proofs.Parts.{ahead_rest, pat_before}
-use Rattle.infer_expr.proofs.Category.{walks_refl, walks_trans}
-use Rattle.infer_expr.proofs.Keeps.{pat_at_kept}
+use Rattle.infer_ctx.specs.Found.{Found}
+use Rattle.infer_ctx.specs.Walks.{Walks, Nothing}
+use Rattle.infer_ctx.specs.Under.{LieAhead, IsReady}
+use Rattle.infer_ctx.proofs.Category.{walks_refl, walks_trans}
+use Rattle.infer_ctx.proofs.Lists.{lt_or_ge, drop-step}
+use Rattle.infer_ctx.proofs.Parts.{ahead_rest}
+use Rattle.infer_ctx.proofs.Keeps.{pat_at_kept}
+use Rattle.infer_pat.specs.Patterns.{ComesToPat, PatWalked}
+use Rattle.infer_pat.proofs.PatSteps.{pat_before}
+use Rattle.infer_expr.specs.Params.{ComesToParams, ParamsWalked}
 
 -- the first i parameters have their written types, and the others and the root lie ahead
 pub record ParamsLoop (g : Given) (s : Schedule) (i : ℕ) (mid c : Found) : Type 0 where
@@ -23,7 +26,7 @@ pub record ParamsLoop (g : Given) (s : Schedule) (i : ℕ) (mid c : Found) : Typ
   pub ahead : LieAhead g.body s the_body c.clock (param_parts i (drop i g.body.params) ++ expr_part root g.body.root ∷ [])
   pub typed : (k : ℕ) (p : PatId) (t : Ty) → k < i → slice_get g.body.params k ≡ Some p → IsInput g k t → PatIsAtOrMismatch g c.result p t
 
-pub params_start : (g : Given) (s : Schedule) (c : Found) → BeforeParams g s c → ParamsLoop g s 0 c c
+pub params_start : (g : Given) (s : Schedule) (c : Found) → ComesToParams g s c → ParamsLoop g s 0 c c
 params_start g s c h = record {
   walks = walks_refl g s Nothing c h.state;
   ahead = h.ahead;
@@ -50,12 +53,12 @@ module _ (g : Given) (s : Schedule) (i : ℕ) (mid c : Found) (h : ParamsLoop g 
     ahead_at : LieAhead g.body s the_body c.clock (pat_part (parameter i) p ∷ rest)
     ahead_at = subst (λ ps. LieAhead g.body s the_body c.clock ps) (step p is k) h.ahead
 
-    pub param_before : IsInput g i t → IsCarriedType t → BeforePat g s p (Some t) c
+    pub param_before : IsInput g i t → IsCarriedType t → ComesToPat g s p (Some t) c
     param_before input carried =
         pat_before g s the_body (parameter i) p rest (Some t) c ready h.walks.state ahead_at carried
         (λ u j. (let same : t ≡ u = cc in subst (λ v. IsInput g i v) same input))
 
-    pub param_next : (next : Found) → IsInput g i t → PatDone g s p (Some t) c next → ParamsLoop g s (i + 1) mid next
+    pub param_next : (next : Found) → IsInput g i t → PatWalked g s p (Some t) c next → ParamsLoop g s (i + 1) mid next
     param_next next input d = record {
       walks = walks_trans g s Nothing mid c next h.walks d.walks;
       ahead = subst (λ n. LieAhead g.body s the_body n rest) (sym d.clock) (ahead_rest g.body s the_body c.clock (pat_part (parameter i) p) rest ahead_at);
@@ -72,7 +75,7 @@ module _ (g : Given) (s : Schedule) (i : ℕ) (mid c : Found) (h : ParamsLoop g 
           ];
     }
 
-  pub params_end : length g.body.params ≤ i → ParamsDone g s mid c
+  pub params_end : length g.body.params ≤ i → ParamsWalked g s mid c
   params_end over =
       let none : drop i g.body.params ≡ [] = drop_of_length-le g.body.params over in
       record {

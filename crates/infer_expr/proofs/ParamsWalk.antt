@@ -1,23 +1,24 @@
 -- The loop over the parameters.
 use Rattle.std.proofs.Common.{ℕ, ◌+◌, ◌<◌, ◌≤◌, ◌≡◌, refl, sym, ap, subst, ◌∙◌, arith, length, get_or, Some, slice_get, inl, inr}
 use Rattle.std.proofs.lemmas.Option.{slice_get_read}
+use Rattle.hir_types.specs.Subst.{Assignment, folded}
 use Rattle.hir_types.specs.declared.ids.PatId.{PatId}
 use Rattle.hir_types.specs.declared.ids.TypeRefId.{TypeRefId}
-use Rattle.hir_types.specs.Subst.{Assignment, folded}
-use Rattle.hir_facts.specs.Types.{written_type}
 use Rattle.hir_facts.specs.declared.schedule.Schedule.{Schedule}
+use Rattle.hir_facts.specs.Types.{written_type}
 use Rattle.infer_result.specs.Places.{Given}
-use Rattle.infer_expr.specs.declared.context.InferenceContext.{InferenceContext}
-use Rattle.infer_expr.specs.Closings.{Closes, found_under}
-use Rattle.infer_expr.specs.Fine.{IsWritten}
-use Rattle.infer_expr.specs.Steps.{IsWalking, Follows, BeforePat, PatDone, BeforeParams, ParamsDone}
-use Rattle.infer_expr.specs.Under as under
-use Rattle.infer_expr.proofs.AtEach.{follows_itself, follows_twice, closes_before, walking_after}
-use Rattle.infer_expr.proofs.OverTypes.{carried_closed}
-use Rattle.infer_expr.proofs.Written.{written_fine}
+use Rattle.infer_ctx.specs.declared.context.InferenceContext.{InferenceContext}
+use Rattle.infer_ctx.specs.Closings.{Closes, found_under}
+use Rattle.infer_ctx.specs.Steps.{Follows, IsWalking}
+use Rattle.infer_ctx.specs.Fine.{IsWritten}
+use Rattle.infer_ctx.specs.Tells.{TellsRecorded}
+use Rattle.infer_ctx.proofs.AtEach.{follows_itself, follows_twice, closes_before, walking_after}
+use Rattle.infer_ctx.proofs.OverTypes.{carried_closed}
+use Rattle.infer_ctx.proofs.Written.{written_fine}
+use Rattle.infer_ctx.proofs.Tellings.{param_at_tells}
+use Rattle.infer_pat.specs.Patterns.{BeforePat, PatDone, ComesToPat, PatWalked}
+use Rattle.infer_expr.specs.Params.{BeforeParams, ParamsDone}
 use Rattle.infer_expr.proofs.Params.{ParamsLoop, params_start, param_before, param_next, params_end}
-use Rattle.infer_expr.specs.Tells.{TellsRecorded}
-use Rattle.infer_expr.proofs.Tellings.{param_at_tells}
 
 -- the first i parameters have their written types, and the others and the root lie ahead
 pub record ParamsWalk (g : Given) (s : Schedule) (i : ℕ) (mid c : InferenceContext) : Type 0 where
@@ -42,7 +43,7 @@ module _ (g : Given) (s : Schedule) (i : ℕ) (mid c : InferenceContext) (h : Pa
     param_written = b.ready.written.inputs i w input_at
 
     module _ (p : PatId) (is : p ≡ get_or g.body.params i p) where
-      param_under : (a : Assignment) → Closes a c → under.BeforePat g s p (Some (written_type g.scope.facts.types w)) (found_under a c)
+      param_under : (a : Assignment) → Closes a c → ComesToPat g s p (Some (written_type g.scope.facts.types w)) (found_under a c)
       param_under a l = param_before g s i (found_under a mid) (found_under a c) (h.each a l) b.ready p is k (written_type g.scope.facts.types w) (w, input_at, refl) param_written.carried
 
       written_closed : (a : Assignment) → folded a (written_type g.scope.facts.types w) ≡ written_type g.scope.facts.types w
@@ -68,7 +69,7 @@ module _ (g : Given) (s : Schedule) (i : ℕ) (mid c : InferenceContext) (h : Pa
         each = λ a q.
             let l : Closes a c = closes_before g a c next d.follows q in
             param_next g s i (found_under a mid) (found_under a c) (h.each a l) b.ready p is k (written_type g.scope.facts.types w) (found_under a next) (w, input_at, refl)
-            (subst (λ u. under.PatDone g s p (Some u) (found_under a c) (found_under a next)) (written_closed a) (d.each a q));
+            (subst (λ u. PatWalked g s p (Some u) (found_under a c) (found_under a next)) (written_closed a) (d.each a q));
       }
 
   pub ends_params : length g.body.params ≤ i → ParamsDone g s mid c

@@ -1,36 +1,35 @@
 -- The walk of a whole body.
-use Rattle.std.proofs.Common.{ℕ, zero, suc, ◌+◌, ◌<◌, ◌≡◌, ◌⊎◌, inl, inr, List, [], ◌∷◌, ◌^◌, length, refl, sym, subst, ◌∙◌, arith, Option, Some, None}
 use Rattle.std.specs.Prelude.{replicate}
+use Rattle.std.proofs.Common.{ℕ, zero, suc, ◌<◌, refl, arith, Option, None, ◌≡◌, ◌⊎◌, inl, inr, sym, ◌∙◌, ◌+◌, List, [], ◌∷◌, length, subst, ◌^◌, Some}
 use Rattle.std.proofs.lemmas.List.{length-replicate, length-map}
-use Rattle.hir_types.specs.declared.ids.ExprId.{ExprId}
 use Rattle.hir_types.specs.declared.ids.ExprOrPatId.{ExprOrPatId}
-use Rattle.hir_types.specs.declared.ids.ExprOrPatId.TheVariants as node
-use Rattle.hir_types.specs.declared.ty.Ty.{Ty}
+use Rattle.hir_types.specs.declared.ids.ExprId.{ExprId}
 use Rattle.hir_types.specs.Subst.{Assignment}
+use Rattle.hir_types.specs.declared.ty.Ty.{Ty}
+use Rattle.hir_types.specs.declared.ids.ExprOrPatId.TheVariants as node
 use Rattle.hir_facts.specs.declared.raw.RawBody.{RawBody}
-use Rattle.hir_facts.specs.declared.raw.RawType.{RawType}
-use Rattle.infer_result.specs.declared.diagnostics.InferenceDiagnostic.TheVariants as diagnostic
 use Rattle.hir_facts.specs.declared.schedule.Schedule.{Schedule}
+use Rattle.hir_facts.specs.Order.{inner, the_body, start, IsInBody, IsSchedule, root, expr_part, param_parts, body_parts, end}
+use Rattle.hir_facts.specs.declared.raw.RawType.{RawType}
 use Rattle.hir_facts.specs.Bodies.{IsWalkable}
 use Rattle.hir_facts.specs.CarriedTypes.{IsCarriedType}
-use Rattle.hir_facts.specs.Order.{inner, the_body, root, expr_part, param_parts, body_parts, start, end, IsInBody, IsSchedule}
+use Rattle.infer_result.specs.Table.{At}
+use Rattle.infer_result.specs.Places.{Given, Demand}
 use Rattle.infer_result.specs.declared.result.InferenceResult.{InferenceResult}
 use Rattle.infer_result.specs.declared.result.TypeMismatch.{TypeMismatch}
-use Rattle.infer_result.specs.Table.{At}
-use Rattle.infer_expr.specs.Walks.{IsCarriedTable}
-use Rattle.infer_result.specs.Places.{Given, Demand}
 use Rattle.infer_result.specs.Made.{IsMade, IsMisfit}
-use Rattle.infer_expr.specs.Found.{Found, expr_variant, pat_variant, nothing_found}
-use Rattle.infer_expr.specs.Walks.{Walks, IsWalked, IsFree, Nothing, Owed, expr_end}
-use Rattle.infer_expr.specs.Under.{IsReady, WrittenExist, LieAhead, Before, CoerceDone, BeforeParams, ParamsDone}
-use Rattle.infer_expr.proofs.Types.{table_closed}
-use Rattle.infer_expr.proofs.Parts.{after_append, ahead_start, ahead_right, ahead_stands, expr_before, binds_within}
-use Rattle.infer_expr.proofs.Category.{walks_trans, walks_paid}
-use Rattle.infer_expr.proofs.Keeps.{pat_at_kept}
-use Rattle.infer_expr.proofs.Variants.{only_named}
+use Rattle.infer_result.specs.declared.diagnostics.InferenceDiagnostic.TheVariants as diagnostic
+use Rattle.infer_ctx.specs.Walks.{IsFree, IsCarriedTable, expr_end, IsWalked, Walks, Nothing, Owed}
+use Rattle.infer_ctx.specs.Found.{nothing_found, expr_variant, pat_variant, Found}
+use Rattle.infer_ctx.specs.Under.{LieAhead, IsReady, WrittenExist, ComesTo, CoerceWalked}
+use Rattle.infer_ctx.proofs.Parts.{after_append, ahead_start, ahead_right, binds_within, expr_before, ahead_stands}
+use Rattle.infer_ctx.proofs.Types.{table_closed}
+use Rattle.infer_ctx.proofs.Category.{walks_trans, walks_paid}
+use Rattle.infer_ctx.proofs.Keeps.{pat_at_kept}
+use Rattle.infer_ctx.proofs.Variants.{only_named}
+use Rattle.infer_expr.specs.Params.{ComesToParams, ParamsWalked}
 
 -- ---- nothing is recorded
-
 module _ {A : Type 0} where
   abbrev nothing : Option A
   nothing = None
@@ -111,12 +110,12 @@ empty_walked g s a law = record {
   bound = λ p v i hi. absurd (omega (arith, inner_start g.body s (node.PatId p) law.schedule (binds_within g.body p v i)));
 }
 
-pub params_before : (g : Given) (s : Schedule) (a : Assignment) (last : ℕ) (c : Found) → IsWalkable g.body s → WrittenExist g → length g.inputs ≡ length g.body.params → last ≡ expr_end g.body s g.body.root → last < 2 ^ 64 → c ≡ nothing_found a g.scope.facts.types g.body → BeforeParams g s c
+pub params_before : (g : Given) (s : Schedule) (a : Assignment) (last : ℕ) (c : Found) → IsWalkable g.body s → WrittenExist g → length g.inputs ≡ length g.body.params → last ≡ expr_end g.body s g.body.root → last < 2 ^ 64 → c ≡ nothing_found a g.scope.facts.types g.body → ComesToParams g s c
 params_before g s a last c law written count is room empty =
     let ready : IsReady g s = record { law = law; written = written; room = omega (arith, is, root_last g.body s law) } in
-    subst (λ k. BeforeParams g s k) (sym empty) (record { ready = ready; count = count; state = empty_walked g s a law; ahead = body_ahead g.body s law })
+    subst (λ k. ComesToParams g s k) (sym empty) (record { ready = ready; count = count; state = empty_walked g s a law; ahead = body_ahead g.body s law })
 
-pub root_before : (g : Given) (s : Schedule) (old c : Found) → IsReady g s → IsCarriedType g.output → ParamsDone g s old c → Before g s g.body.root (Some g.output) c
+pub root_before : (g : Given) (s : Schedule) (old c : Found) → IsReady g s → IsCarriedType g.output → ParamsWalked g s old c → ComesTo g s g.body.root (Some g.output) c
 root_before g s old c ready carried d = expr_before g s the_body root g.body.root [] (Some g.output) c ready d.walks.state d.ahead carried
 
 -- what the body asks of its root
@@ -125,7 +124,7 @@ root_demand g s c ahead r =
     let q = ahead_stands g.body s the_body c.clock (expr_part root g.body.root) [] ahead in
     inl (record { parent = the_body; at_part = q.0; role = root; stands = q.1; asks = (refl, refl) })
 
-module _ (g : Given) (s : Schedule) (a : Assignment) (law : IsWalkable g.body s) (t : Ty) (mid new : Found) (p : ParamsDone g s (nothing_found a g.scope.facts.types g.body) mid) (d : CoerceDone g s g.body.root (Some g.output) t mid new) where
+module _ (g : Given) (s : Schedule) (a : Assignment) (law : IsWalkable g.body s) (t : Ty) (mid new : Found) (p : ParamsWalked g s (nothing_found a g.scope.facts.types g.body) mid) (d : CoerceWalked g s g.body.root (Some g.output) t mid new) where
   abbrev first : Found
   first = nothing_found a g.scope.facts.types g.body
 

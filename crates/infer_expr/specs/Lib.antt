@@ -1,11 +1,1 @@
-pub mod Said
-pub mod Found
-pub mod Context
-pub mod Walks
-pub mod Fine
-pub mod Tells
-pub mod Closings
-pub mod Generals
-pub mod Under
-pub mod Steps
-pub mod Callables
+pub mod Params

@@ -4,10 +4,10 @@ ghost use Rattle.hir_facts.specs.Bodies.{HasBody};
 ghost use Rattle.infer_result.specs.Typed.{IsTableOf};
 ghost use Rattle.infer_result.specs.General.{HasGeneral};
 
-use crate::context::InferenceContext;
-use crate::given::GivenBody;
-use crate::inspect::ObligationInspector;
+use crate::body::infer_body;
 use hir_facts::{DefWithBodyId, Facts, return_ty};
+use infer_ctx::{GivenBody, InferenceContext, ObligationInspector};
+use infer_end::keep_general;
 use infer_result::InferenceResult;
 use std::alloc::{AllocError, Global};
 
@@ -39,8 +39,8 @@ pub fn infer_query_with_inspect<I: ObligationInspector>(
         return_ty: &return_ty,
     };
     let mut context = InferenceContext::new(alloc, facts, body)?;
-    context.infer_body(alloc, &given)?;
-    context.keep_general(alloc, facts, def)?;
+    infer_body(alloc, &mut context, &given)?;
+    keep_general(alloc, &mut context, facts, def)?;
     let table = context.resolve_all(alloc)?;
     Ok(table)
 }

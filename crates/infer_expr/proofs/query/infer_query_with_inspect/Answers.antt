@@ -1,9 +1,9 @@
 use Rattle.std.proofs.Common.{sym}
 use Rattle.hir_facts.specs.CarriedTypes.{return_carried}
 use Rattle.hir_facts.specs.InRange.{body_in_range}
-use Rattle.infer_expr.proofs.Definitions.{written_exist, inputs_for_params}
-use Rattle.infer_expr.proofs.Written.{output_heads}
-use Rattle.infer_expr.proofs.GeneralTables.{has_all_types, ends}
+use Rattle.infer_ctx.proofs.Written.{output_heads}
+use Rattle.infer_end.proofs.Definitions.{written_exist, inputs_for_params}
+use Rattle.infer_end.proofs.GeneralTables.{has_all_types, ends}
 use Rattle.infer_expr.proofs.query.infer_query_with_inspect.Goals as goal
 
 pub body-body-requires : goal.body-body-requires
@@ -26,14 +26,14 @@ pub infer_body-requires-clause-heads : goal.infer_body-requires-clause-heads
 infer_body-requires-clause-heads g c = rw c.in_ok-return_ty.ensures (output_heads c.args.facts.now c.lawful.ensures c.args.def c.in-Some.id (sym c.in-Some.ensures))
 
 pub keep_general-requires : goal.keep_general-requires
-keep_general-requires g c = has_all_types _ _ c.infer_body.new.self (c.schedule.ensures.walkable _ c.body-body.ensures) c.in_ok-infer_body.ensures
+keep_general-requires g c = has_all_types _ _ c.infer_body.new.context (c.schedule.ensures.walkable _ c.body-body.ensures) c.in_ok-infer_body.ensures
 
 pub returns-clause-table : goal.returns-clause-table
 returns-clause-table g c =
     let made = c.in_ok-table.ensures in
-    rw made.closed (ends _ _ c.in-Some.id _ _ _ _ (sym c.in-Some.ensures) c.body-body.ensures (c.schedule.ensures.walkable _ c.body-body.ensures) c.inputs.ensures c.in_ok-return_ty.ensures c.infer_body.new.self c.in_ok-infer_body.ensures c.keep_general.new.self c.in_ok-keep_general.ensures made.meets made.respects made.acyclic).0
+    rw made.closed (ends _ _ c.in-Some.id _ _ _ _ (sym c.in-Some.ensures) c.body-body.ensures (c.schedule.ensures.walkable _ c.body-body.ensures) c.inputs.ensures c.in_ok-return_ty.ensures c.infer_body.new.context c.in_ok-infer_body.ensures c.keep_general.new.context c.in_ok-keep_general.ensures made.meets made.respects made.acyclic).0
 
 pub returns-clause-general : goal.returns-clause-general
 returns-clause-general g c =
     let made = c.in_ok-table.ensures in
-    rw made.closed (ends _ _ c.in-Some.id _ _ _ _ (sym c.in-Some.ensures) c.body-body.ensures (c.schedule.ensures.walkable _ c.body-body.ensures) c.inputs.ensures c.in_ok-return_ty.ensures c.infer_body.new.self c.in_ok-infer_body.ensures c.keep_general.new.self c.in_ok-keep_general.ensures made.meets made.respects made.acyclic).1
+    rw made.closed (ends _ _ c.in-Some.id _ _ _ _ (sym c.in-Some.ensures) c.body-body.ensures (c.schedule.ensures.walkable _ c.body-body.ensures) c.inputs.ensures c.in_ok-return_ty.ensures c.infer_body.new.context c.in_ok-infer_body.ensures c.keep_general.new.context c.in_ok-keep_general.ensures made.meets made.respects made.acyclic).1

@@ -1,0 +1,96 @@
+use Rattle.std.proofs.Common.{◌∙◌, ap, arith, refl, Some}
+use Rattle.std.proofs.lemmas.Option.{slice_get-get_or}
+use Rattle.hir_types.specs.declared.ty.GenericArg.TheVariants as arg
+use Rattle.hir_types.specs.declared.ty.Ty.TheVariants as ty
+use Rattle.hir_facts.specs.declared.raw.RawType.{RawType}
+use Rattle.hir_facts.specs.LawfulFacts.{type_ids}
+use Rattle.hir_facts.specs.Types.{is_itself}
+use Rattle.hir_facts.specs.declared.raw.RawType.TheVariants as type
+use Rattle.infer_ctx.specs.Context.{given_of}
+use Rattle.infer_blocks.proofs.BodyTy.{is_below, comes_to_parts, parts_below, leaf_done, tuple_done, adt_done, hole_done, comes_to_part, goes_past_part}
+use Rattle.infer_blocks.proofs.body_ty.+body_ty.Goals as goal
+
+-- ---- parts
+pub lower_parts-lower_part-requires : goal.lower_parts-lower_part-requires
+lower_parts-lower_part-requires t c =
+    let here = slice_get-get_or c.args.parts.now c.loop-i.i (record { 0 = 0 }) c.loop-i-test.true in
+    let below = is_below c.args.parts.now c.loop-i.i _ here in
+    (omega (arith, c.decreases, below), comes_to_part (λ u. u) _ _ _ c.requires _ _ _ c.loop-i.invariant _ here)
+
+pub lower_parts-loop-i-preserved : goal.lower_parts-loop-i-preserved
+lower_parts-loop-i-preserved t c =
+    rw c.in_ok-push.ensures.ok (
+    goes_past_part (λ u. u) _ _ _ c.requires _ _ _ c.loop-i.invariant _ (slice_get-get_or c.args.parts.now c.loop-i.i (record { 0 = 0 }) c.loop-i-test.true) _ _ c.in_ok-ty.ensures
+    )
+
+pub lower_args-lower_part-requires : goal.lower_args-lower_part-requires
+lower_args-lower_part-requires t c =
+    let here = slice_get-get_or c.args.parts.now c.loop-i.i (record { 0 = 0 }) c.loop-i-test.true in
+    let below = is_below c.args.parts.now c.loop-i.i _ here in
+    (omega (arith, c.decreases, below), comes_to_part arg.Ty _ _ _ c.requires _ _ _ c.loop-i.invariant _ here)
+
+pub lower_args-loop-i-preserved : goal.lower_args-loop-i-preserved
+lower_args-loop-i-preserved t c =
+    rw c.in_ok-push.ensures.ok (
+    goes_past_part arg.Ty _ _ _ c.requires _ _ _ c.loop-i.invariant _ (slice_get-get_or c.args.parts.now c.loop-i.i (record { 0 = 0 }) c.loop-i-test.true) _ _ c.in_ok-ty.ensures
+    )
+
+-- ---- one type
+pub lower_part-lower_parts-requires : goal.lower_part-lower_parts-requires
+lower_part-lower_parts-requires t c =
+    let g = given_of c.args.given.now in
+    let all = type_ids g.scope.facts c.lawful.ensures in
+    let here = c.written.ensures ∙ ap (λ (x : RawType). Some x) c.in-Tuple.is in
+    let below = parts_below g all c.args.type_ref _ here in
+    rw c.as_slice.ensures (omega (arith, c.decreases, below), comes_to_parts g all c.args.type_ref _ here _ c.requires)
+
+pub lower_part-lower_args-requires : goal.lower_part-lower_args-requires
+lower_part-lower_args-requires t c =
+    let g = given_of c.args.given.now in
+    let all = type_ids g.scope.facts c.lawful.ensures in
+    let here = c.written.ensures ∙ ap (λ (x : RawType). Some x) c.in-Adt.is in
+    let below = parts_below g all c.args.type_ref _ here in
+    rw c.as_slice-in-Adt.ensures (omega (arith, c.decreases, below), comes_to_parts g all c.args.type_ref _ here _ c.requires)
+
+pub lower_part-placeholder_ty-requires-clause-is : goal.lower_part-placeholder_ty-requires-clause-is
+lower_part-placeholder_ty-requires-clause-is t c = c.requires.placeholders c.args.type_ref.0 (is_itself (c.written.ensures ∙ ap (λ (x : RawType). Some x) c.in-Hole.is))
+
+pub lower_part-returns-in-Bool : goal.lower_part-returns-in-Bool
+lower_part-returns-in-Bool t c =
+    let g = given_of c.args.given.now in
+    leaf_done g (type_ids g.scope.facts c.lawful.ensures) _ type.Bool (c.written.ensures ∙ ap (λ (x : RawType). Some x) c.in-Bool.is) ty.Bool _ c.requires.sound (λ e. absurd (cc)) refl refl
+
+pub lower_part-returns-in-Char : goal.lower_part-returns-in-Char
+lower_part-returns-in-Char t c =
+    let g = given_of c.args.given.now in
+    leaf_done g (type_ids g.scope.facts c.lawful.ensures) _ type.Char (c.written.ensures ∙ ap (λ (x : RawType). Some x) c.in-Char.is) ty.Char _ c.requires.sound (λ e. absurd (cc)) refl refl
+
+pub lower_part-returns-in-Integer : goal.lower_part-returns-in-Integer
+lower_part-returns-in-Integer t c =
+    let g = given_of c.args.given.now in
+    leaf_done g (type_ids g.scope.facts c.lawful.ensures) _ (type.Integer c.in-Integer.integer) (c.written.ensures ∙ ap (λ (x : RawType). Some x) c.in-Integer.is) c.ty.result _ c.requires.sound (λ e. absurd (cc)) refl c.ty.ensures
+
+pub lower_part-returns-in-Param : goal.lower_part-returns-in-Param
+lower_part-returns-in-Param t c =
+    let g = given_of c.args.given.now in
+    leaf_done g (type_ids g.scope.facts c.lawful.ensures) _ (type.Param c.in-Param.number) (c.written.ensures ∙ ap (λ (x : RawType). Some x) c.in-Param.is) (ty.Param c.in-Param.number) _ c.requires.sound (λ e. absurd (cc)) refl refl
+
+pub lower_part-returns-in-Other : goal.lower_part-returns-in-Other
+lower_part-returns-in-Other t c =
+    let g = given_of c.args.given.now in
+    leaf_done g (type_ids g.scope.facts c.lawful.ensures) _ type.Other (c.written.ensures ∙ ap (λ (x : RawType). Some x) c.in-Other.is) ty.Error _ c.requires.sound (λ e. absurd (cc)) refl refl
+
+pub lower_part-returns-in_ok-tys-in-Tuple : goal.lower_part-returns-in_ok-tys-in-Tuple
+lower_part-returns-in_ok-tys-in-Tuple t c =
+    let g = given_of c.args.given.now in
+    tuple_done g (type_ids g.scope.facts c.lawful.ensures) _ c.in-Tuple.parts _ c.as_slice.ensures _ _ c.in_ok-tys-in-Tuple.ensures.done _ (c.written.ensures ∙ ap (λ (x : RawType). Some x) c.in-Tuple.is) c.in_ok-tys-in-Tuple.ensures.are
+
+pub lower_part-returns-in_ok-args-in-Adt : goal.lower_part-returns-in_ok-args-in-Adt
+lower_part-returns-in_ok-args-in-Adt t c =
+    let g = given_of c.args.given.now in
+    adt_done g (type_ids g.scope.facts c.lawful.ensures) _ c.in-Adt.args _ c.as_slice-in-Adt.ensures _ _ c.in_ok-args-in-Adt.ensures.done c.in-Adt.adt _ (c.written.ensures ∙ ap (λ (x : RawType). Some x) c.in-Adt.is) c.in_ok-args-in-Adt.ensures.are
+
+pub lower_part-returns-in_ok-ty-in-Hole : goal.lower_part-returns-in_ok-ty-in-Hole
+lower_part-returns-in_ok-ty-in-Hole t c =
+    let g = given_of c.args.given.now in
+    hole_done g (type_ids g.scope.facts c.lawful.ensures) _ (c.written.ensures ∙ ap (λ (x : RawType). Some x) c.in-Hole.is) _ _ _ c.in_ok-ty-in-Hole.ensures

@@ -1,0 +1,22 @@
+use Rattle.std.specs.Option.{option_copied}
+use Rattle.std.proofs.Common.{◌∙◌, ap, sym}
+use Rattle.hir_types.specs.declared.ty.Ty.TheVariants as ty
+use Rattle.infer_table.specs.Table.{hole_count}
+use Rattle.infer_ctx.specs.Context.{given_of}
+use Rattle.infer_blocks.proofs.BodyTy.{placeholder_known, placeholder_made}
+use Rattle.infer_blocks.proofs.body_ty.placeholder_ty.Goals as goal
+
+pub returns-in_ok-ty-in-Some : goal.returns-in_ok-ty-in-Some
+returns-in_ok-ty-in-Some c = rw c.in_ok-ty-in-Some.ensures (placeholder_known (given_of c.args.given.now) _ _ _ c.requires.before.sound (sym c.type_of_type_placeholder.ensures ∙ ap option_copied c.in-Some.is))
+
+pub returns-in_ok-recorded-in-None : goal.returns-in_ok-recorded-in-None
+returns-in_ok-recorded-in-None c =
+    let g = given_of c.args.given.now in
+    let w = c.args.type_ref in
+    let old = c.args.context.now in
+    let t = ty.Var (hole_count old.table) in
+    let made = placeholder_made g w old c.requires.before c.requires.is (sym c.type_of_type_placeholder.ensures ∙ ap option_copied c.in-None.is) in
+    rw c.write_type_placeholder_ty.ensures (
+    rw c.in_ok-recorded-in-None.ensures (
+    rw c.in_ok-ty-in-None.ensures.hole (
+    rw c.in_ok-ty-in-None.ensures.made made)))

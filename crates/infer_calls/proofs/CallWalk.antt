@@ -1,0 +1,222 @@
+-- A call: what it calls, and what that takes and gives.
+use Rattle.std.proofs.Common.{List, map, None, Option, ◌≡◌, ◌∷◌, inl, inr, sym, ap, subst, ◌∙◌, ℕ, suc, [], refl, arith, length, Some, slice_get}
+use Rattle.std.proofs.lemmas.List.{length-map}
+use Rattle.hir_types.specs.declared.ids.ExprId.{ExprId}
+use Rattle.hir_types.specs.declared.ids.ExprOrPatId.TheVariants as node
+use Rattle.hir_types.specs.declared.ty.Ty.{Ty}
+use Rattle.hir_types.specs.Subst.{Assignment, folded}
+use Rattle.hir_facts.specs.declared.raw.RawExpr.TheVariants as expr
+use Rattle.hir_facts.specs.declared.schedule.Schedule.{Schedule}
+use Rattle.hir_facts.specs.CarriedTypes.{IsCarriedType}
+use Rattle.hir_facts.specs.Order.{inner, argument, callee, expr_part, exprs_from}
+use Rattle.hir_facts.specs.Signatures.{at_args}
+use Rattle.hir_facts.specs.Scope.{Scope}
+use Rattle.infer_table.specs.Table.{Grew, State}
+use Rattle.infer_result.specs.Places.{Given}
+use Rattle.infer_result.specs.declared.diagnostics.InferenceDiagnostic.TheVariants as diagnostic
+use Rattle.infer_ctx.specs.declared.context.InferenceContext.{InferenceContext}
+use Rattle.infer_ctx.specs.Closings.{Closes, expected_under, found_under}
+use Rattle.infer_ctx.specs.Steps.{Before, Within, KindDone, Follows, OwnDone}
+use Rattle.infer_ctx.specs.Callables.{IsSigOf, IsSigOfItem}
+use Rattle.infer_ctx.specs.declared.given.CallableSig.{CallableSig}
+use Rattle.infer_ctx.specs.Fine.{IsFine}
+use Rattle.infer_ctx.specs.Under.{KindWalked, own_scope}
+use Rattle.infer_ctx.specs.Walks.{Nothing, Owed, PaidBy}
+use Rattle.infer_ctx.specs.Context as context
+use Rattle.infer_ctx.specs.Found as found
+use Rattle.infer_ctx.proofs.AtEach.{closes_before, walking_after, follows_itself, follows_twice}
+use Rattle.infer_ctx.proofs.Category.{walks_paid, walks_trans}
+use Rattle.infer_ctx.proofs.FineTypes.{AllFine, fine_grown, every_at}
+use Rattle.infer_ctx.proofs.InParts.{WalksParts, begins_parts, comes_to, goes_past}
+use Rattle.infer_ctx.proofs.Instances.{known_instance, fine_instance, instances_under, fine_instances}
+use Rattle.infer_ctx.proofs.OverTypes.{fine_closed}
+use Rattle.infer_ctx.proofs.Closed.{diagnostic_under, of_body_diagnostic, sound_diagnostic}
+use Rattle.infer_calls.specs.Calls.{CalleeDone, BeforeArgs, IsCallOf, BeforeInputs, ArgsDone, ArgsWalked, inputs_at, BeforeLoose, LooseDone, ComesToLoose, LooseWalked}
+use Rattle.infer_calls.proofs.Calls.{call_done, told_loose, others_done}
+
+-- ---- what is called
+module _ (g : Given) (s : Schedule) (n called : ExprId) (args : List ExprId) (c : InferenceContext) (h : Within g s n None c)
+    (is : IsCallOf g.body n called args) where
+  pub call_parts : WalksParts g s (inner (node.ExprId n)) (λ a. Nothing) (expr_part callee called ∷ exprs_from argument 0 args) c c
+  call_parts = begins_parts g s n (expr.Call called args) None c (λ a. Nothing) h is
+
+  pub comes_to_callee : Before g s called None c
+  comes_to_callee = comes_to _ _ _ _ _ _ _ _ _ call_parts None h.ready h.state.told tt
+
+  pub comes_to_args : (t : Ty) (mid : InferenceContext) → CalleeDone g s called t c mid → BeforeArgs g s n args t mid
+  comes_to_args t mid d =
+      let w = goes_past _ _ _ _ (λ a. Nothing) (λ a. Nothing) _ _ _ _ mid call_parts d.follows (λ a q. ((d.each a q).walks, (d.each a q).clock))
+      (λ a b m o. o) (λ a q b m o. absurd o) in
+      record {
+        ready = h.ready;
+        state = walking_after g s c mid h.state.told d.follows (λ a q. (d.each a q).walks.state);
+        called = called;
+        id = d.id;
+        item = d.item;
+        types = d.types;
+        is = d.is;
+        count = d.count;
+        fine = d.fine;
+        tells = d.tells n args is;
+        each = λ a q.
+            let p = w.each a q in
+            record {
+              ready = h.ready;
+              state = p.walks.state;
+              calling = record { is_call = is; within = h.within; found = d.item.found; has = (d.each a q).has };
+              ahead = p.ahead;
+              ends = p.ends;
+            };
+      }
+
+-- the call once what is called is typed
+pub call_then : (g : Given) (s : Schedule) (n called : ExprId) (t v : Ty) (c mid new : InferenceContext) → OwnDone g s called None t c mid →
+    KindDone g s n None v mid new → KindDone g s n None v c new
+call_then g s n called t v c mid new d k = record {
+  follows = follows_twice g c mid new d.follows k.follows;
+  fine = k.fine;
+  tells = k.tells;
+  each = λ a q.
+      let w = k.each a q in
+      let first = (d.each a (closes_before g a mid new k.follows q)).walks in
+      record {
+        walks = walks_trans g s (PaidBy g n None (folded a v)) (found_under a c) (found_under a mid) (found_under a new)
+            (walks_paid g s (Owed called None) (PaidBy g n None (folded a v)) (found_under a c) (found_under a mid) (λ e m o. absurd o) first) w.walks;
+        clock = w.clock;
+        carried = w.carried;
+        rule = w.rule;
+      };
+}
+
+-- what is owed where nothing is expected is owed in any case
+pub call_for_any : (g : Given) (s : Schedule) (n : ExprId) (x : Option Ty) (t : Ty) (old new : InferenceContext) →
+    KindDone g s n None t old new → KindDone g s n x t old new
+call_for_any g s n x t old new k = record {
+  follows = k.follows;
+  fine = k.fine;
+  tells = k.tells;
+  each = λ a q.
+      let w = k.each a q in
+      record {
+        walks = walks_paid g s (PaidBy g n None (folded a t)) (PaidBy g n (expected_under a x) (folded a t)) (found_under a old) (found_under a new)
+            (λ e m o. inr (elim o [ inl y ↦ inl y | inr y ↦ absurd y ])) w.walks;
+        clock = w.clock;
+        carried = w.carried;
+        rule = w.rule;
+      };
+}
+
+-- ---- what the item takes and gives
+all_fine : (sc : Scope) (state : State) (ts : List Ty) → ((i : ℕ) (t : Ty) → slice_get ts i ≡ Some t → IsFine sc state t) →
+    AllFine sc state ts
+all_fine sc state [] h = tt
+all_fine sc state (t ∷ ts) h = (h 0 t refl, all_fine sc state ts (λ i u e. h (suc i) u e))
+
+pub own_sig : (g : Given) (s : Schedule) (n : ExprId) (args : List ExprId) (t : Ty) (c : InferenceContext) (h : BeforeArgs g s n args t c) (sig : CallableSig) → IsSigOfItem g.scope.facts t sig → IsSigOf h.item.signature h.types sig
+own_sig g s n args t c h sig k = k h.id h.types h.item.signature h.is h.item.found h.count
+
+pub takes_inputs : (g : Given) (s : Schedule) (n : ExprId) (args : List ExprId) (t : Ty) (c : InferenceContext) (h : BeforeArgs g s n args t c) (sig : CallableSig) → IsSigOfItem g.scope.facts t sig → BeforeInputs g s n args sig.inputs c
+takes_inputs g s n args t c h sig k = record {
+  type = t;
+  before = h;
+  inputs = (own_sig g s n args t c h sig k).inputs;
+}
+
+module _ (g : Given) (s : Schedule) (n : ExprId) (args : List ExprId) (t : Ty) (mid : InferenceContext) (h : BeforeArgs g s n args t mid) where
+  abbrev gives : Ty
+  gives = at_args h.types h.item.signature.output
+
+  types_fine : AllFine g.scope mid.table h.types
+  types_fine = all_fine g.scope mid.table h.types h.fine
+
+  gives_fine : (new : InferenceContext) → Grew mid.table new.table → IsFine g.scope new.table gives
+  gives_fine new grew = fine_grown g.scope mid.table new.table gives grew (fine_instance g.scope mid.table h.item.signature.params h.types h.count types_fine h.item.signature.output h.item.output)
+
+  pub ends_call : (ss : List Ty) (u : Ty) (new : InferenceContext) → ss ≡ inputs_at h.item.signature h.types → u ≡ gives → ArgsDone g s n args ss mid new → KindDone g s n None u mid new
+  ends_call ss u new inputs output d =
+      subst (λ v. KindDone g s n None v mid new) (sym output) (record {
+        follows = d.follows;
+        fine = gives_fine new d.follows.grew;
+        tells = h.tells;
+        each = λ a q.
+            let m : Closes a mid = closes_before g a mid new d.follows q in
+            let ts : List Ty = map (folded a) h.types in
+            let same : folded a gives ≡ at_args ts h.item.signature.output = known_instance a (own_scope g.scope.facts h.item.signature.params) h.item.signature.output h.types h.item.output in
+            let taken : map (folded a) ss ≡ inputs_at h.item.signature ts = ap (map (folded a)) inputs ∙ instances_under a (own_scope g.scope.facts h.item.signature.params) h.types h.item.signature.inputs h.item.inputs in
+            let carried = fine_closed g.scope a gives q.closing (gives_fine new d.follows.grew).heads in
+            subst (λ v. KindWalked g s n None v (found_under a mid) (found_under a new)) (sym same)
+            (call_done g s n h.called args h.id h.item.signature ts (found_under a mid) (h.each a m) (found_under a new)
+            (subst (λ us. ArgsWalked g s n args us (found_under a mid) (found_under a new)) taken (d.each a q))
+            (subst (λ v. IsCarriedType v) same carried));
+      })
+
+-- ---- the arguments
+module _ (g : Given) (s : Schedule) (n : ExprId) (args : List ExprId) (ss : List Ty) (mid : InferenceContext) (h : BeforeInputs g s n args ss mid) where
+  -- what is taken under an assignment
+  abbrev pub taken_at : Assignment → List Ty
+  taken_at a = inputs_at h.before.item.signature (map (folded a) h.before.types)
+
+  pub taken_under : (a : Assignment) → map (folded a) ss ≡ taken_at a
+  taken_under a = ap (map (folded a)) h.inputs ∙ instances_under a (own_scope g.scope.facts h.before.item.signature.params) h.before.types h.before.item.signature.inputs h.before.item.inputs
+
+  taken_count : (a : Assignment) → length (taken_at a) ≡ length ss
+  taken_count a = sym (ap (λ us. length us) (taken_under a)) ∙ length-map ss (folded a)
+
+  all_inputs_fine : AllFine g.scope mid.table ss
+  all_inputs_fine =
+      subst (λ us. AllFine g.scope mid.table us) (sym h.inputs)
+      (fine_instances g.scope mid.table h.before.item.signature.params h.before.types h.before.count (all_fine g.scope mid.table h.before.types h.before.fine) h.before.item.signature.inputs h.before.item.inputs)
+
+  pub input_fine : (i : ℕ) (u : Ty) → slice_get ss i ≡ Some u → IsFine g.scope mid.table u
+  input_fine i u is = every_at (IsFine g.scope mid.table) ss i u all_inputs_fine is
+
+  -- ---- another number of them
+
+  module _ (differ : length args ≡ length ss → ⊥) where
+    differ_at : (a : Assignment) → length args ≡ length (taken_at a) → ⊥
+    differ_at a e = differ (e ∙ taken_count a)
+
+    abbrev pub told : InferenceContext
+    told = context.with_diagnostic mid n (diagnostic.MismatchedArgCount n (length ss) (length args))
+
+    told_follows : Follows g mid told
+    told_follows = record {
+      clock = omega arith;
+      grew = (follows_itself g mid h.before.state.of_body h.before.state.sound).grew;
+      of_body = of_body_diagnostic g.body mid h.before.state.of_body n (diagnostic.MismatchedArgCount n (length ss) (length args));
+      sound = sound_diagnostic mid h.before.state.sound n (diagnostic.MismatchedArgCount n (length ss) (length args)) (λ m t e. absurd (cc));
+      told = λ k. k;
+    }
+
+    -- what is said of the number, under an assignment
+    abbrev told_at : Assignment → found.Found
+    told_at a = found.with_diagnostic (found_under a mid) n (diagnostic.MismatchedArgCount n (length (taken_at a)) (length args))
+
+    told_is : (a : Assignment) → told_at a ≡ found_under a told
+    told_is a = ap (λ k. found.with_diagnostic (found_under a mid) n (diagnostic.MismatchedArgCount n k (length args))) (taken_count a) ∙ sym (diagnostic_under a mid n (diagnostic.MismatchedArgCount n (length ss) (length args)))
+
+    loose_at : (a : Assignment) → Closes a mid → ComesToLoose g s n h.before.called args (told_at a)
+    loose_at a q = told_loose g s n h.before.called args h.before.id h.before.item.signature (map (folded a) h.before.types) (found_under a mid) (h.before.each a q) (differ_at a)
+
+    pub comes_to_others : BeforeLoose g s n args ss told
+    comes_to_others =
+        let each : (a : Assignment) → Closes a told → ComesToLoose g s n h.before.called args (found_under a told)
+        = λ a q. subst (λ k. ComesToLoose g s n h.before.called args k) (told_is a) (loose_at a (closes_before g a mid told told_follows q)) in
+        record {
+          ready = h.before.ready;
+          state = walking_after g s mid told h.before.state.told told_follows (λ a q. (each a q).state);
+          called = h.before.called;
+          fine = input_fine;
+          each = each;
+        }
+
+    pub ends_others : (new : InferenceContext) → LooseDone g s n told new → ArgsDone g s n args ss mid new
+    ends_others new d = record {
+      follows = follows_twice g mid told new told_follows d.follows;
+      each = λ a q.
+          let l : Closes a told = closes_before g a told new d.follows q in
+          let m : Closes a mid = closes_before g a mid told told_follows l in
+          let typed : LooseWalked g s n (told_at a) (found_under a new) = subst (λ k. LooseWalked g s n k (found_under a new)) (sym (told_is a)) (d.each a q) in
+          subst (λ us. ArgsWalked g s n args us (found_under a mid) (found_under a new)) (sym (taken_under a))
+          (others_done g s n h.before.called args h.before.id h.before.item.signature (map (folded a) h.before.types) (found_under a mid) (h.before.each a m) (differ_at a) (found_under a new) typed);
+    }

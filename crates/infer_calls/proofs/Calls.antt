@@ -1,0 +1,377 @@
+-- What a call shows: the item that it calls, and its arguments one after another.
+use Rattle.std.proofs.Common.{List, None, ◌≡◌, ◌∷◌, sym, subst, Some, inl, inr, ℕ, suc, ◌+◌, [], ap, ◌∙◌, arith, slice_get, length, ◌<◌, ◌⊎◌, refl}
+use Rattle.std.proofs.lemmas.List.{length-map}
+use Rattle.hir_types.specs.declared.ids.ExprId.{ExprId}
+use Rattle.hir_types.specs.declared.ids.CallableDefId.{CallableDefId}
+use Rattle.hir_types.specs.declared.ty.Ty.{Ty}
+use Rattle.hir_types.specs.Instances.{fn_def_tells}
+use Rattle.hir_types.specs.declared.ids.ExprOrPatId.{ExprOrPatId}
+use Rattle.hir_types.specs.Subst.{folded}
+use Rattle.hir_types.specs.declared.ty.Ty.TheVariants as ty
+use Rattle.hir_types.specs.declared.ids.ExprOrPatId.TheVariants as node
+use Rattle.hir_facts.specs.declared.schedule.Schedule.{Schedule}
+use Rattle.hir_facts.specs.Signatures.{type_args, Signature, signature_of, at_args}
+use Rattle.hir_facts.specs.Order.{inner, argument, expr_part, exprs_from, parts_of_expr, part_at}
+use Rattle.hir_facts.specs.CarriedTypes.{IsCarriedType}
+use Rattle.hir_facts.specs.declared.raw.RawExpr.TheVariants as expr
+use Rattle.infer_result.specs.Places.{Given, Demand, IsCallee}
+use Rattle.infer_result.specs.declared.result.InferenceResult.{InferenceResult}
+use Rattle.infer_result.specs.declared.diagnostics.InferenceDiagnostic.{InferenceDiagnostic}
+use Rattle.infer_result.specs.Rules.Calls.{ArgsRule}
+use Rattle.infer_result.specs.Rules.Placing.{at_or_mismatch}
+use Rattle.infer_result.specs.Table.{HasTy, HasDiagnostic, WasSeen, At}
+use Rattle.infer_result.specs.Truth.Calls.{IsTrueDiagnostic}
+use Rattle.infer_result.specs.declared.result.Seen.{Seen}
+use Rattle.infer_result.specs.Truth.Seen.{IsTrueSeen}
+use Rattle.infer_result.specs.Unknown.{has_unknown, IsKnown}
+use Rattle.infer_result.specs.declared.diagnostics.InferenceDiagnostic.TheVariants as diagnostic
+use Rattle.infer_ctx.specs.Found.{Found, with_diagnostic, with_seen}
+use Rattle.infer_ctx.specs.Walks.{Nothing, PaidBy, Extends, Walks, IsWalked, IsSeenAs}
+use Rattle.infer_ctx.specs.Under.{KindWalked}
+use Rattle.infer_ctx.proofs.Category.{walks_paid, walks_trans}
+use Rattle.infer_ctx.proofs.InParts.{expr_at}
+use Rattle.infer_ctx.proofs.Parts.{expr_id}
+use Rattle.infer_ctx.proofs.Lists.{noted-keeps, noted-cases, noted-some, length-noted, same_or_not, slice_get-append_left, slice_get-push}
+use Rattle.infer_ctx.proofs.Keeps.{args_kept, callee_kept, diagnostic_kept, seen_as_kept, true_seen_kept}
+use Rattle.infer_ctx.proofs.Leaves.{rule_of}
+use Rattle.infer_ctx.proofs.Closed.{push_cases}
+use Rattle.infer_ctx.proofs.Said.{length-said_of, said_of-cases, said_of-keeps, said_of-own}
+use Rattle.infer_calls.specs.Calls.{ComesToArgs, ComesToUncallable, IsCalling, inputs_at, ArgsWalked, ComesToLoose, LooseWalked}
+
+-- ---- what the call asks of its arguments
+module _ (g : Given) (n called : ExprId) (args : List ExprId) (id : CallableDefId) (σ : Signature) (ts : List Ty) (c : Found) (h : IsCalling g n called args id σ ts c) where
+  abbrev taken : List Ty
+  taken = inputs_at σ ts
+
+  input_count : length taken ≡ length σ.inputs
+  input_count = length-map σ.inputs (at_args ts)
+
+  calls : (r : InferenceResult) → Extends c.result r → IsCallee g r called σ ts
+  calls r k = record { item = id; has = k.exprs called _ h.has; signature = h.found }
+
+  pub input_demand : (i : ℕ) (e : ExprId) (u : Ty) (r : InferenceResult) → length args ≡ length taken → Extends c.result r → slice_get args i ≡ Some e → slice_get taken i ≡ Some u → Demand g r e u
+  input_demand i e u r count k found input =
+      let z : 0 + i ≡ i = omega arith in
+      let here : slice_get (exprs_from argument 0 args) i ≡ Some (expr_part (argument i) e) = expr_at argument 0 args i e found ∙ ap (λ j. Some (expr_part (argument j) e)) z in
+      let p : part_at g.body (inner (node.ExprId n)) (suc i) ≡ Some (expr_part (argument i) e) = ap (λ y. slice_get (parts_of_expr y) (suc i)) h.is_call ∙ here in
+      inl (record {
+        parent = inner (node.ExprId n);
+        at_part = suc i;
+        role = argument i;
+        stands = record { node_is = h.within; part = p };
+        asks = record {
+          called = called;
+          args = args;
+          is_call = h.is_call;
+          signature = σ;
+          types = ts;
+          is_callee = calls r k;
+          count = count ∙ input_count;
+          input = input;
+        };
+      })
+
+module _ (g : Given) (s : Schedule) (n called : ExprId) (args : List ExprId) (id : CallableDefId) (σ : Signature) (ts : List Ty) (mid : Found) (b : ComesToArgs g s n called args id σ ts mid) where
+  abbrev ins : List Ty
+  ins = inputs_at σ ts
+
+  -- ---- another number of arguments
+
+  abbrev complaint : InferenceDiagnostic
+  complaint = diagnostic.MismatchedArgCount n (length ins) (length args)
+
+  complained_extends : Extends mid.result (with_diagnostic mid n complaint).result
+  complained_extends = record {
+    exprs = λ e t h. h;
+    pats = λ p t h. h;
+    bindings = λ v t h. h;
+    modes = λ p m h. h;
+    pat_diagnostics = λ p d h. h;
+    expr_variants = λ n v h. h;
+    pat_variants = λ p v h. h;
+    mismatches = λ e m h. h;
+    pat_mismatches = λ p m h. h;
+    placeholders = λ k t h. h;
+    diagnostics = λ e d h. inl (noted-keeps mid.result.expr_diagnostics n.0 e.0 complaint d h);
+    seen = λ e h. record { position = h.position; entry = h.entry; found = h.found; is_node = h.is_node };
+  }
+
+  -- it is true
+  true_complaint : (length args ≡ length ins → ⊥) → (r : InferenceResult) → Extends mid.result r → IsTrueDiagnostic g r n complaint
+  true_complaint differ r k = (
+    refl,
+    record {
+      called = called;
+      args = args;
+      is_call = b.calling.is_call;
+      signature = σ;
+      types = ts;
+      is_callee = calls g n called args id σ ts mid b.calling r k;
+      is_expected = input_count g n called args id σ ts mid b.calling;
+      is_found = refl;
+      differ = λ e. differ (sym e);
+    },
+  )
+
+  -- and any other that is true says the same, or that what is called was seen to be no function
+  same_complaint : (d : InferenceDiagnostic) → IsTrueDiagnostic g mid.result n d → (d ≡ complaint) ⊎ WasSeen mid.result n
+  same_complaint (diagnostic.MismatchedTupleStructPatArgCount m expected found) h = absurd h
+  same_complaint (diagnostic.ExpectedFunction m t) h = inr h.1.seen
+  same_complaint (diagnostic.MismatchedArgCount m expected found) (is, w) =
+      let one_call : expr.Call w.called w.args ≡ expr.Call called args = (let q : Some (expr.Call w.called w.args) ≡ Some (expr.Call called args) = sym w.is_call ∙ b.calling.is_call in cc) in
+      let same_called : w.called ≡ called = cc in
+      let same_args : w.args ≡ args = cc in
+      let typed : HasTy mid.result called (ty.FnDef w.is_callee.item (type_args w.types)) = subst (λ e. HasTy mid.result e (ty.FnDef w.is_callee.item (type_args w.types))) same_called w.is_callee.has in
+      let one_type : ty.FnDef w.is_callee.item (type_args w.types) ≡ ty.FnDef id (type_args ts) = only_entry (sym typed ∙ b.calling.has) in
+      let same = fn_def_tells w.is_callee.item id (type_args w.types) (type_args ts) one_type in
+      let signatures : Some w.signature ≡ Some σ = sym w.is_callee.signature ∙ (ap (signature_of g.scope.facts) same.0 ∙ b.calling.found) in
+      let same_signature : w.signature ≡ σ = only_some signatures in
+      let counts : expected ≡ length ins = w.is_expected ∙ (ap (λ (σ : Signature). length σ.inputs) same_signature ∙ sym (input_count g n called args id σ ts mid b.calling)) in
+      let founds : found ≡ length args = w.is_found ∙ ap (λ l. length l) same_args in
+      inl (λ i. diagnostic.MismatchedArgCount (is i) (counts i) (founds i))
+    where
+      only_entry : {A : Type 0} {y z : A} → Some (Some y) ≡ Some (Some z) → y ≡ z
+      only_entry q = cc
+
+      only_some : {A : Type 0} {y z : A} → Some y ≡ Some z → y ≡ z
+      only_some q = cc
+
+  module _ (differ : length args ≡ length ins → ⊥) where
+    abbrev told : Found
+    told = with_diagnostic mid n complaint
+
+    told_walked : IsWalked g s told
+    told_walked = record {
+      of_body = assumption (length-noted mid.result.expr_diagnostics n.0 complaint ∙ b.state.of_body.diagnostics, b.state.of_body);
+      carried = record {
+        exprs = b.state.carried.exprs;
+        pats = b.state.carried.pats;
+        bindings = b.state.carried.bindings;
+        placeholders = b.state.carried.placeholders;
+        found = λ m k t i. elim (noted-cases mid.result.expr_diagnostics n.0 m complaint (diagnostic.ExpectedFunction k t) i) [ inl q ↦ b.state.carried.found m k t q | inr q ↦ absurd (let clash = q.1 in cc) ];
+        expected = b.state.carried.expected;
+        actual = b.state.carried.actual;
+        pat_expected = b.state.carried.pat_expected;
+        pat_actual = b.state.carried.pat_actual;
+      };
+      modes = b.state.modes;
+      pat_diagnostics = b.state.pat_diagnostics;
+      variants = record { exprs = b.state.variants.exprs; pats = b.state.variants.pats };
+      placeholders = record { count = b.state.placeholders.count; only = b.state.placeholders.only };
+      seen = λ i y there. seen_as_kept g mid told complained_extends (λ e d k. noted-keeps mid.result.expr_diagnostics n.0 e.0 complaint d k) refl y (b.state.seen i y there);
+      free_exprs = b.state.free_exprs;
+      free_pats = b.state.free_pats;
+      free_modes = b.state.free_modes;
+      free_bindings = b.state.free_bindings;
+      bound = b.state.bound;
+      diagnostics = λ e d i.
+          elim (noted-cases mid.result.expr_diagnostics n.0 e.0 complaint d i) [
+            | inl q ↦ diagnostic_kept g mid.result told.result complained_extends e d (b.state.diagnostics e d q)
+            | inr q ↦
+                (let at : n ≡ e = ap (λ j. record { 0 = j }) (sym q.0) in
+                subst (λ z. IsTrueDiagnostic g told.result z d) at (subst (λ z. IsTrueDiagnostic g told.result n z) q.1 (true_complaint differ told.result complained_extends)))
+          ];
+    }
+
+    told_walks : Walks g s Nothing mid told
+    told_walks = record {
+      clock = omega arith;
+      extends = complained_extends;
+      kept = λ e i k. refl;
+      kept_pats = λ p i k. refl;
+      state = told_walked;
+      made = λ e i lo hi. absurd (omega arith);
+      pats_made = λ p i lo hi. absurd (omega arith);
+      truths = λ e m h. inl h;
+      pat_truths = λ p m h. inl h;
+    }
+
+    -- it stands there, or what is called was seen to be no function
+    told_has : HasDiagnostic told.result n complaint ⊎ WasSeen told.result n
+    told_has =
+        let within : n.0 < length mid.result.expr_diagnostics = rw b.state.of_body.diagnostics b.calling.within in
+        let y = noted-some mid.result.expr_diagnostics n.0 complaint within in
+        elim (noted-cases mid.result.expr_diagnostics n.0 n.0 complaint y.0 y.1) [
+          | inl q ↦ elim (same_complaint y.0 (b.state.diagnostics n y.0 q)) [
+            | inl same ↦ inl (subst (λ z. HasDiagnostic told.result n z) same y.1)
+            | inr seen ↦ inr (record { position = seen.position; entry = seen.entry; found = seen.found; is_node = seen.is_node })
+          ]
+          | inr q ↦ inl (subst (λ z. HasDiagnostic told.result n z) (sym q.1) y.1)
+        ]
+
+    pub told_loose : ComesToLoose g s n called args told
+    told_loose = record { ready = b.ready; state = told_walked; is_call = b.calling.is_call; within = b.calling.within; ahead = b.ahead; ends = b.ends }
+
+    pub others_done : (new : Found) → LooseWalked g s n told new → ArgsWalked g s n args ins mid new
+    others_done new d = record {
+      walks = walks_trans g s Nothing mid told new told_walks d.walks;
+      clock = d.clock;
+      made = elim told_has [
+        | inl says ↦ elim (d.walks.extends.diagnostics n complaint says) [ inl k ↦ inl (inr k) | inr k ↦ inr k ]
+        | inr seen ↦ inr (d.walks.extends.seen n seen)
+      ];
+    }
+
+  -- ---- the call
+
+  pub call_done : (new : Found) → ArgsWalked g s n args ins mid new → IsCarriedType (at_args ts σ.output) → KindWalked g s n None (at_args ts σ.output) mid new
+  call_done new d carried = record {
+    walks = walks_paid g s Nothing (PaidBy g n None (at_args ts σ.output)) mid new (λ e m o. absurd o) d.walks;
+    clock = d.clock;
+    carried = carried;
+    rule = λ r k has. rule_of g r n (expr.Call called args) b.calling.is_call (elim (placed r k) [
+      | inl q ↦ inl (σ, ts, callee_kept g new.result r k called σ ts (calls g n called args id σ ts mid b.calling new.result d.walks.extends), q, has)
+      | inr q ↦ inr (q, (at_args ts σ.output, has))
+    ]);
+  }
+    where
+      placed : (r : InferenceResult) → Extends new.result r → ArgsRule (at_or_mismatch g r) n args ins ⊎ WasSeen r n
+      placed r k = elim d.made [ inl q ↦ args_kept g new.result r k n args ins q | inr q ↦ inr (k.seen n q) ]
+
+-- ---- what is called is no function
+module _ (g : Given) (s : Schedule) (n called : ExprId) (args : List ExprId) (t : Ty) (mid : Found) (b : ComesToUncallable g s n called args t mid) (y : Seen) (is_node : y.node ≡ node.ExprId n) (is_type : folded mid.holes y.ty ≡ t) (carried : IsCarriedType t) (so : (r : InferenceResult) → Extends mid.result r → IsTrueSeen g r y) where
+  abbrev saw : Found
+  saw = with_seen mid y
+
+  -- what was there stays, but another complaint at the call
+  saw_extends : Extends mid.result saw.result
+  saw_extends = record {
+    exprs = λ e u h. h;
+    pats = λ p u h. h;
+    bindings = λ v u h. h;
+    modes = λ p m h. h;
+    pat_diagnostics = λ p d h. h;
+    expr_variants = λ n v h. h;
+    pat_variants = λ p v h. h;
+    mismatches = λ e m h. h;
+    pat_mismatches = λ p m h. h;
+    placeholders = λ k u h. h;
+    diagnostics = λ e d h. elim (said_of-keeps mid.holes mid.result.expr_diagnostics y e.0 d h) [ inl k ↦ inl k | inr k ↦ inr (own_seen e k) ];
+    seen = λ e h. record { position = h.position; entry = h.entry; found = slice_get-append_left mid.result.seen (y ∷ []) h.position h.entry h.found; is_node = h.is_node };
+  }
+    where
+      own_seen : (e : ExprId) → y.node ≡ node.ExprId (record { 0 = e.0 }) → WasSeen saw.result e
+      own_seen e is = record { position = length mid.result.seen; entry = y; found = slice_get-push mid.result.seen y; is_node = is }
+
+  saw_it : WasSeen saw.result n
+  saw_it = record { position = length mid.result.seen; entry = y; found = slice_get-push mid.result.seen y; is_node = is_node }
+
+  same_call : (e : ExprId) → y.node ≡ node.ExprId e → e ≡ n
+  same_call e is = (let q : node.ExprId e ≡ node.ExprId n = sym is ∙ is_node in cc)
+
+  -- what is said now is true
+  saw_truths : (e : ExprId) (d : InferenceDiagnostic) → At saw.result.expr_diagnostics e.0 d → IsTrueDiagnostic g saw.result e d
+  saw_truths e d h = elim (said_of-cases mid.holes mid.result.expr_diagnostics y e.0 d h) [
+    | inl k ↦ diagnostic_kept g mid.result saw.result saw_extends e d (b.loose.state.diagnostics e d k)
+    | inr k ↦
+        (let own : k.call ≡ n = same_call k.call k.is_node in
+        let here : e ≡ n = expr_id e k.call k.is_here ∙ own in
+        subst (λ z. IsTrueDiagnostic g saw.result e z) (sym k.is) (
+        subst (λ z. IsTrueDiagnostic g saw.result z (diagnostic.ExpectedFunction k.call (folded mid.holes y.ty))) (sym here) (
+          own,
+          record { called = called; args = args; is_call = b.loose.is_call; has = subst (λ u. HasTy saw.result called u) (sym is_type) b.has; seen = saw_it; known = k.known },
+        )))
+  ]
+
+  one_callee : (c : ExprId) (xs : List ExprId) → slice_get g.body.exprs n.0 ≡ Some (expr.Call c xs) → c ≡ called
+  one_callee c xs h = (let q : Some (expr.Call c xs) ≡ Some (expr.Call called args) = sym h ∙ b.loose.is_call in cc)
+
+  recorded_here : (z : Seen) → folded mid.holes z.ty ≡ t → z.node ≡ node.ExprId n → (call c : ExprId) (xs : List ExprId) → z.node ≡ node.ExprId call → slice_get g.body.exprs call.0 ≡ Some (expr.Call c xs) → HasTy saw.result c (folded mid.holes z.ty)
+  recorded_here z typed at_n call c xs here there =
+      let own : call ≡ n = (let q : node.ExprId call ≡ node.ExprId n = sym here ∙ at_n in cc) in
+      let same : c ≡ called = one_callee c xs (subst (λ (e : ExprId). slice_get g.body.exprs e.0 ≡ Some (expr.Call c xs)) own there) in
+      subst (λ e. HasTy saw.result e (folded mid.holes z.ty)) (sym same) (subst (λ u. HasTy saw.result called u) (sym typed) b.has)
+
+  -- the look-up of the call itself is said
+  said_here : (call c : ExprId) (xs : List ExprId) (u : Ty) → call ≡ n → slice_get g.body.exprs call.0 ≡ Some (expr.Call c xs) → HasTy saw.result c u → IsKnown u → HasDiagnostic saw.result call (diagnostic.ExpectedFunction call u)
+  said_here call c xs u own there has known =
+      let same : c ≡ called = one_callee c xs (subst (λ (e : ExprId). slice_get g.body.exprs e.0 ≡ Some (expr.Call c xs)) own there) in
+      let typed : Some (Some u) ≡ Some (Some t) = sym (subst (λ e. HasTy saw.result e u) same has) ∙ b.has in
+      let one : u ≡ t = cc in
+      let is_u : folded mid.holes y.ty ≡ u = is_type ∙ sym one in
+      let within : n.0 < length mid.result.expr_diagnostics = rw b.loose.state.of_body.diagnostics b.loose.within in
+      let stands : At saw.result.expr_diagnostics n.0 (diagnostic.ExpectedFunction n (folded mid.holes y.ty)) = said_of-own mid.holes mid.result.expr_diagnostics y n is_node (ap has_unknown is_u ∙ known) within in
+      subst (λ e. HasDiagnostic saw.result e (diagnostic.ExpectedFunction e u)) (sym own) (subst (λ w. HasDiagnostic saw.result n (diagnostic.ExpectedFunction n w)) is_u stands)
+
+  call_or_other : (x : ExprOrPatId) → (x ≡ node.ExprId n) ⊎ (x ≡ node.ExprId n → ⊥)
+  call_or_other (node.PatId p) = inr (λ h. absurd (cc))
+  call_or_other (node.ExprId e) = elim (same_or_not e.0 n.0) [ inl k ↦ inl (ap (λ z. node.ExprId z) (expr_id e n k)) | inr k ↦ inr (λ h. (let q : e ≡ n = cc in k (ap (λ (z : ExprId). z.0) q))) ]
+
+  -- and so is each that was there
+  seen_before : (z : Seen) → IsSeenAs g mid z → IsSeenAs g saw z
+  seen_before z h = record {
+    is_true = true_seen_kept g mid.result saw.result saw_extends z h.is_true;
+    is_said = λ call c xs u here there has known. elim (call_or_other (node.ExprId call)) [
+      | inl own ↦ said_here call c xs u (let q : node.ExprId call ≡ node.ExprId n = own in cc) there has known
+      | inr other ↦
+          elim (said_of-keeps mid.holes mid.result.expr_diagnostics y call.0 (diagnostic.ExpectedFunction call u) (h.is_said call c xs u here there has known)) [
+            | inl k ↦ k
+            | inr k ↦ absurd (other (let q : node.ExprId (record { 0 = call.0 }) ≡ node.ExprId n = sym k ∙ is_node in q))
+          ]
+    ];
+    recorded = h.recorded;
+  }
+
+  seen_now : IsSeenAs g saw y
+  seen_now = record {
+    is_true = so saw.result saw_extends;
+    is_said = λ call c xs u here there has known. said_here call c xs u (same_call call here) there has known;
+    recorded = recorded_here y is_type is_node;
+  }
+
+  saw_walked : IsWalked g s saw
+  saw_walked = record {
+    of_body = assumption (length-said_of mid.holes mid.result.expr_diagnostics y ∙ b.loose.state.of_body.diagnostics, b.loose.state.of_body);
+    carried = record {
+      exprs = b.loose.state.carried.exprs;
+      pats = b.loose.state.carried.pats;
+      bindings = b.loose.state.carried.bindings;
+      placeholders = b.loose.state.carried.placeholders;
+      expected = b.loose.state.carried.expected;
+      actual = b.loose.state.carried.actual;
+      pat_expected = b.loose.state.carried.pat_expected;
+      pat_actual = b.loose.state.carried.pat_actual;
+      found = λ m k u i. elim (said_of-cases mid.holes mid.result.expr_diagnostics y m (diagnostic.ExpectedFunction k u) i) [
+        | inl q ↦ b.loose.state.carried.found m k u q
+        | inr q ↦ (let same : u ≡ folded mid.holes y.ty = (let clash = q.is in cc) in subst (λ w. IsCarriedType w) (sym (same ∙ is_type)) carried)
+      ];
+    };
+    modes = b.loose.state.modes;
+    pat_diagnostics = b.loose.state.pat_diagnostics;
+    variants = record { exprs = b.loose.state.variants.exprs; pats = b.loose.state.variants.pats };
+    placeholders = record { count = b.loose.state.placeholders.count; only = b.loose.state.placeholders.only };
+    free_exprs = b.loose.state.free_exprs;
+    free_pats = b.loose.state.free_pats;
+    free_modes = b.loose.state.free_modes;
+    free_bindings = b.loose.state.free_bindings;
+    bound = b.loose.state.bound;
+    diagnostics = saw_truths;
+    seen = λ i z there. elim (push_cases mid.result.seen y i z there) [ inl q ↦ seen_before z (b.loose.state.seen i z q) | inr q ↦ subst (λ w. IsSeenAs g saw w) q seen_now ];
+  }
+
+  saw_walks : Walks g s Nothing mid saw
+  saw_walks = record {
+    clock = omega arith;
+    extends = saw_extends;
+    kept = λ e i k. refl;
+    kept_pats = λ p i k. refl;
+    state = saw_walked;
+    made = λ e i lo hi. absurd (omega arith);
+    pats_made = λ p i lo hi. absurd (omega arith);
+    truths = λ e m h. inl h;
+    pat_truths = λ p m h. inl h;
+  }
+
+  pub saw_loose : ComesToLoose g s n called args saw
+  saw_loose = record { ready = b.loose.ready; state = saw_walked; is_call = b.loose.is_call; within = b.loose.within; ahead = b.loose.ahead; ends = b.loose.ends }
+
+  -- the call has any type
+  pub uncallable_done : (u : Ty) (new : Found) → LooseWalked g s n saw new → IsCarriedType u → KindWalked g s n None u mid new
+  uncallable_done u new d known = record {
+    walks = walks_trans g s (PaidBy g n None u) mid saw new
+        (walks_paid g s Nothing (PaidBy g n None u) mid saw (λ e m o. absurd o) saw_walks)
+        (walks_paid g s Nothing (PaidBy g n None u) saw new (λ e m o. absurd o) d.walks);
+    clock = d.clock;
+    carried = known;
+    rule = λ r k has. rule_of g r n (expr.Call called args) b.loose.is_call (inr (k.seen n (d.walks.extends.seen n saw_it), (u, has)));
+  }

@@ -1,0 +1,6 @@
+pub mod Args
+pub mod CallWalk
+pub mod Callees
+pub mod Calls
+pub mod Loose
+pub mod Uncallable

@@ -1,0 +1,6 @@
+use Rattle.infer_ctx.specs.Context.{given_of, schedule_of}
+use Rattle.infer_calls.proofs.Args.{AtArgs}
+use Rattle.infer_calls.proofs.call.check_arguments.Given as goal
+
+abbrev pub invariant-loop-i : goal.invariant-loop-i
+invariant-loop-i g l = AtArgs (given_of l.given) (schedule_of l.given) l.fn.call_expr l.args l.inputs l.i l.fn.context l.context

@@ -1,0 +1,21 @@
+use Rattle.infer_calls.proofs.CallWalk.{comes_to_callee, call_then}
+use Rattle.infer_coerce.proofs.Later.{later}
+use Rattle.infer_calls.proofs.call.infer_call.Goals as goal
+
+pub infer_callee-requires-clause-before : goal.infer_callee-requires-clause-before
+infer_callee-requires-clause-before g c = comes_to_callee _ _ _ _ _ _ c.requires.before c.requires.is
+
+pub check_call-requires-clause-infers : goal.check_call-requires-clause-infers
+check_call-requires-clause-infers g c = later _ _ _ _ _ _ c.in_ok-callee_ty.ensures.typed.follows.clock c.requires.infers
+
+pub check_call-requires-clause-before : goal.check_call-requires-clause-before
+check_call-requires-clause-before g c = record {
+  called = c.args.callee;
+  before = c.args.context.now;
+  within = c.requires.before;
+  is_call = c.requires.is;
+  callee = c.in_ok-callee_ty.ensures;
+}
+
+pub returns : goal.returns
+returns g c = call_then _ _ _ _ _ _ _ _ _ c.in_ok-callee_ty.ensures.typed c.in_ok-ty.ensures

@@ -1,0 +1,34 @@
+use Rattle.std.proofs.Common.{arith, ◌≡◌, ◌∙◌, ap, sym, subst, None, []}
+use Rattle.hir_types.specs.declared.ids.ExprOrPatId.TheVariants as node
+use Rattle.hir_types.specs.declared.ty.Ty.TheVariants as ty
+use Rattle.infer_table.specs.Table.{hole_count}
+use Rattle.infer_ctx.specs.Context.{given_of, schedule_of, with_seen}
+use Rattle.infer_ctx.specs.Steps.{KindDone}
+use Rattle.infer_calls.specs.Calls.{BeforeLoose, LooseDone}
+use Rattle.infer_calls.proofs.Uncallable.{seen_entry, comes_to_seen, ends_uncallable}
+use Rattle.infer_coerce.proofs.Unified.{with_table}
+use Rattle.infer_coerce.proofs.Later.{later}
+use Rattle.infer_calls.proofs.call.infer_uncallable.Goals as goal
+
+pub infer_arguments-requires-clause-infers : goal.infer_arguments-requires-clause-infers
+infer_arguments-requires-clause-infers o c =
+    let same : c.note_seen.new.self.clock ≡ c.args.context.now.clock = ap (λ k. k.clock) c.in_ok-note_seen.ensures in
+    later _ _ _ _ _ _ (omega (arith, same)) c.requires.infers
+
+pub infer_arguments-requires-clause-before : goal.infer_arguments-requires-clause-before
+infer_arguments-requires-clause-before o c =
+    let g = given_of c.args.given.now in
+    let s = schedule_of c.args.given.now in
+    let noted : c.note_seen.new.self ≡ with_seen c.args.context.now (seen_entry g s _ _ _ _ c.requires.before) = c.in_ok-note_seen.ensures ∙ ap (λ v. with_seen c.args.context.now (record { node = node.ExprId c.args.call_expr; ty = v; other = None })) c.in_ok-seen_ty.ensures in
+    subst (λ k. BeforeLoose g s c.args.call_expr c.args.args.now [] k) (sym noted) (comes_to_seen g s _ _ _ _ c.requires.before)
+
+pub returns : goal.returns
+returns o c =
+    let g = given_of c.args.given.now in
+    let s = schedule_of c.args.given.now in
+    let noted : c.note_seen.new.self ≡ with_seen c.args.context.now (seen_entry g s _ _ _ _ c.requires.before) = c.in_ok-note_seen.ensures ∙ ap (λ v. with_seen c.args.context.now (record { node = node.ExprId c.args.call_expr; ty = v; other = None })) c.in_ok-seen_ty.ensures in
+    let typed = c.infer_arguments.new.context in
+    let loose = subst (λ k. LooseDone g s c.args.call_expr k typed) noted c.in_ok-infer_arguments.ensures in
+    subst (λ v. KindDone g s c.args.call_expr None v c.args.context.now (with_table typed c.next_ty_var.new.self)) (sym c.in_ok-ty.ensures.hole)
+    (subst (λ k. KindDone g s c.args.call_expr None (ty.Var (hole_count typed.table)) c.args.context.now (with_table typed k)) (sym c.in_ok-ty.ensures.made)
+    (ends_uncallable g s _ _ _ _ c.requires.before typed loose))

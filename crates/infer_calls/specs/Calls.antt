@@ -1,0 +1,161 @@
+-- What the walk over a call is given, and what it does.
+use Rattle.std.specs.Prelude.{◌≡◌, List, slice_get, Some, map, ◌<◌, length, ◌⊎◌, ℕ, None}
+use Rattle.hir_types.specs.declared.ids.ExprId.{ExprId}
+use Rattle.hir_types.specs.declared.ids.CallableDefId.{CallableDefId}
+use Rattle.hir_types.specs.declared.ty.Ty.{Ty}
+use Rattle.hir_types.specs.Subst.{Assignment, folded}
+use Rattle.hir_types.specs.declared.ty.GenericArg.{GenericArg}
+use Rattle.hir_types.specs.declared.ty.Ty.TheVariants as ty
+use Rattle.hir_types.specs.declared.ids.ExprOrPatId.TheVariants as node
+use Rattle.hir_facts.specs.declared.raw.RawBody.{RawBody}
+use Rattle.hir_facts.specs.declared.schedule.Schedule.{Schedule}
+use Rattle.hir_facts.specs.Signatures.{type_args, Signature, at_args, signature_of}
+use Rattle.hir_facts.specs.Order.{inner, after, exprs_from, argument}
+use Rattle.hir_facts.specs.declared.raw.RawExpr.TheVariants as expr
+use Rattle.infer_table.specs.Table.{resolved_type, bindings}
+use Rattle.infer_table.specs.Bindings.{AllOf}
+use Rattle.infer_result.specs.Table.{HasTy, WasSeen}
+use Rattle.infer_result.specs.Places.{Given}
+use Rattle.infer_result.specs.Rules.Calls.{ArgsRule}
+use Rattle.infer_result.specs.Rules.Placing.{at_or_mismatch}
+use Rattle.infer_result.specs.Truth.Seen.{IsPathToItem}
+use Rattle.infer_ctx.specs.Found.{Found}
+use Rattle.infer_ctx.specs.Walks.{Walks, Nothing, expr_end, IsWalked}
+use Rattle.infer_ctx.specs.Under.{LieAhead, IsReady, IsItem}
+use Rattle.infer_ctx.specs.declared.context.InferenceContext.{InferenceContext}
+use Rattle.infer_ctx.specs.Fine.{IsFine}
+use Rattle.infer_ctx.specs.Tells.{Tells}
+use Rattle.infer_ctx.specs.Closings.{Closes, found_under}
+use Rattle.infer_ctx.specs.Steps.{Follows, OwnDone, Within, IsWalking, Does}
+
+abbrev pub IsCallOf : RawBody → ExprId → ExprId → List ExprId → Type 0
+IsCallOf b e called args = slice_get b.exprs e.0 ≡ Some (expr.Call called args)
+
+-- ---- calls
+
+-- what is called is the item, at the types ts
+pub record CalleeWalked (g : Given) (s : Schedule) (called : ExprId) (id : CallableDefId) (ts : List Ty) (old new : Found) : Type 0 where
+  pub walks : Walks g s Nothing old new
+  pub clock : new.clock ≡ expr_end g.body s called
+  pub has : HasTy new.result called (ty.FnDef id (type_args ts))
+
+-- the types that an item of this signature takes, at the types ts
+abbrev pub inputs_at : Signature → List Ty → List Ty
+inputs_at σ ts = map (at_args ts) σ.inputs
+
+-- The node is a call of the item, at the types ts, which has come to its arguments.
+pub record IsCalling (g : Given) (n called : ExprId) (args : List ExprId) (id : CallableDefId) (σ : Signature) (ts : List Ty) (c : Found) : Type 0 where
+  pub is_call : IsCallOf g.body n called args
+  pub within : n.0 < length g.body.exprs
+  pub found : signature_of g.scope.facts id ≡ Some σ
+  pub has : HasTy c.result called (ty.FnDef id (type_args ts))
+
+-- The arguments of the call n lie ahead, after what is called.
+pub record ComesToArgs (g : Given) (s : Schedule) (n called : ExprId) (args : List ExprId) (id : CallableDefId) (σ : Signature) (ts : List Ty) (c : Found) : Type 0 where
+  pub ready : IsReady g s
+  pub state : IsWalked g s c
+  pub calling : IsCalling g n called args id σ ts c
+  pub ahead : LieAhead g.body s (inner (node.ExprId n)) c.clock (exprs_from argument 0 args)
+  pub ends : after g.body s c.clock (exprs_from argument 0 args) ≡ expr_end g.body s n
+
+-- they are at these types, or there are not as many, which is said unless what is called was seen to be no function
+pub record ArgsWalked (g : Given) (s : Schedule) (n : ExprId) (args : List ExprId) (ss : List Ty) (old new : Found) : Type 0 where
+  pub walks : Walks g s Nothing old new
+  pub clock : new.clock ≡ expr_end g.body s n
+  pub made : ArgsRule (at_or_mismatch g new.result) n args ss ⊎ WasSeen new.result n
+
+-- The arguments of the call n lie ahead, and nothing is asked of them.
+pub record ComesToLoose (g : Given) (s : Schedule) (n called : ExprId) (args : List ExprId) (c : Found) : Type 0 where
+  pub ready : IsReady g s
+  pub state : IsWalked g s c
+  pub is_call : IsCallOf g.body n called args
+  pub within : n.0 < length g.body.exprs
+  pub ahead : LieAhead g.body s (inner (node.ExprId n)) c.clock (exprs_from argument 0 args)
+  pub ends : after g.body s c.clock (exprs_from argument 0 args) ≡ expr_end g.body s n
+
+-- and what is called has this type
+pub record ComesToUncallable (g : Given) (s : Schedule) (n called : ExprId) (args : List ExprId) (t : Ty) (c : Found) : Type 0 where
+  pub loose : ComesToLoose g s n called args c
+  pub has : HasTy c.result called t
+
+-- they are typed
+pub record LooseWalked (g : Given) (s : Schedule) (n : ExprId) (old new : Found) : Type 0 where
+  pub walks : Walks g s Nothing old new
+  pub clock : new.clock ≡ expr_end g.body s n
+
+-- ---- calls
+
+-- what is called has this type, which is that of a function or a constructor
+pub record CalleeDone (g : Given) (s : Schedule) (called : ExprId) (t : Ty) (old new : InferenceContext) : Type 0 where
+  pub id : CallableDefId
+  pub item : IsItem g.scope.facts id
+  pub types : List Ty
+  pub is : t ≡ ty.FnDef id (type_args types)
+  pub count : length types ≡ item.signature.params
+  pub follows : Follows g old new
+  pub fine : (i : ℕ) (u : Ty) → slice_get types i ≡ Some u → IsFine g.scope new.table u
+  pub tells : (n : ExprId) (args : List ExprId) → IsCallOf g.body n called args → Tells g n (at_args types item.signature.output)
+  pub each : (a : Assignment) → Closes a new → CalleeWalked g s called id (map (folded a) types) (found_under a old) (found_under a new)
+
+-- what is called is typed, and has the type t as far as it is known
+pub record CalleeTyped (g : Given) (s : Schedule) (called : ExprId) (t : Ty) (old new : InferenceContext) : Type 0 where
+  pub type : Ty
+  pub typed : OwnDone g s called None type old new
+  pub known : t ≡ resolved_type new.table type
+  pub made : AllOf new.table.substitution.kinds (bindings new.table)
+
+-- The node n is a call. What it calls was typed since the walk came to the call, and has the type t as far as it is known.
+pub record BeforeCall (g : Given) (s : Schedule) (n : ExprId) (args : List ExprId) (t : Ty) (c : InferenceContext) : Type 0 where
+  pub called : ExprId
+  pub before : InferenceContext
+  pub within : Within g s n None before
+  pub is_call : IsCallOf g.body n called args
+  pub callee : CalleeTyped g s called t before c
+
+-- the node is a call of what has this type, and has come to its arguments
+pub record BeforeArgs (g : Given) (s : Schedule) (n : ExprId) (args : List ExprId) (t : Ty) (c : InferenceContext) : Type 0 where
+  pub ready : IsReady g s
+  pub state : IsWalking g s c
+  pub called : ExprId
+  pub id : CallableDefId
+  pub item : IsItem g.scope.facts id
+  pub types : List Ty
+  pub is : t ≡ ty.FnDef id (type_args types)
+  pub count : length types ≡ item.signature.params
+  pub fine : (i : ℕ) (u : Ty) → slice_get types i ≡ Some u → IsFine g.scope c.table u
+  pub tells : Tells g n (at_args types item.signature.output)
+  pub each : (a : Assignment) → Closes a c → ComesToArgs g s n called args id item.signature (map (folded a) types) (found_under a c)
+
+-- ss is what the call takes
+pub record BeforeInputs (g : Given) (s : Schedule) (n : ExprId) (args : List ExprId) (ss : List Ty) (c : InferenceContext) : Type 0 where
+  pub type : Ty
+  pub before : BeforeArgs g s n args type c
+  pub inputs : ss ≡ inputs_at before.item.signature before.types
+
+-- the arguments are at what the call takes, or there are not as many, which is said
+abbrev pub ArgsDone : Given → Schedule → ExprId → List ExprId → List Ty → InferenceContext → InferenceContext → Type 0
+ArgsDone g s n args ss old new = Does g (λ a. ArgsWalked g s n args (map (folded a) ss)) old new
+
+-- The node n is a call of what has this type, as far as it is known: that is no function's. It has come to its arguments.
+pub record BeforeUncallable (g : Given) (s : Schedule) (n : ExprId) (args : List ExprId) (t : Ty) (c : InferenceContext) : Type 0 where
+  pub ready : IsReady g s
+  pub state : IsWalking g s c
+  pub called : ExprId
+  pub is_call : IsCallOf g.body n called args
+  pub fine : IsFine g.scope c.table t
+  pub tells : Tells g called t
+  pub no_item : (id : CallableDefId) (xs : List GenericArg) → t ≡ ty.FnDef id xs → ⊥
+  pub no_path : (IsPathToItem g called → ⊥)
+  pub each : (a : Assignment) → Closes a c → ComesToUncallable g s n called args (folded a t) (found_under a c)
+
+-- the arguments of the call n lie ahead, and nothing is asked of them; the types ss are fine
+pub record BeforeLoose (g : Given) (s : Schedule) (n : ExprId) (args : List ExprId) (ss : List Ty) (c : InferenceContext) : Type 0 where
+  pub ready : IsReady g s
+  pub state : IsWalking g s c
+  pub called : ExprId
+  pub fine : (i : ℕ) (u : Ty) → slice_get ss i ≡ Some u → IsFine g.scope c.table u
+  pub each : (a : Assignment) → Closes a c → ComesToLoose g s n called args (found_under a c)
+
+-- they are typed
+abbrev pub LooseDone : Given → Schedule → ExprId → InferenceContext → InferenceContext → Type 0
+LooseDone g s n old new = Does g (λ a. LooseWalked g s n) old new

@@ -1,0 +1,254 @@
+//! The types of calls.
+ghost use Rattle.std.specs.Prelude.{◌≡◌, IfOk, length};
+ghost use Rattle.infer_result.specs.Closed.{IsOfBody};
+ghost use Rattle.infer_ctx.specs.Closings.{IsSound};
+ghost use Rattle.infer_ctx.specs.Context.{given_of, scope_in, schedule_of};
+ghost use Rattle.infer_ctx.specs.Fine.{IsFine};
+ghost use Rattle.infer_calls.specs.Calls.{IsCallOf, CalleeTyped, BeforeCall, BeforeInputs, ArgsDone, BeforeUncallable, BeforeLoose, LooseDone};
+ghost use Rattle.infer_ctx.specs.Steps.{Before, Within, KindDone, OnlyBinds};
+ghost use Rattle.infer_coerce.specs.Recursion.{InfersFrom};
+
+use hir_facts::{ExprId, ExprOrPatId, Ty};
+use infer_coerce::{infer_expr_coerce, unify};
+use infer_ctx::{CallableSig, Expectation, GivenBody, InferenceContext};
+use infer_result::{InferenceDiagnostic, Seen};
+use std::alloc::{AllocError, Global};
+
+/// The type of a call: `infer/expr.rs`, `infer_call`.
+pub fn infer_call<F: Fn(&mut InferenceContext, ExprId, Expectation) -> Result<Ty, AllocError>>(
+    infer: &F,
+    alloc: Global,
+    context: &mut InferenceContext,
+    given: &GivenBody,
+    tgt_expr: ExprId,
+    callee: ExprId,
+    args: &[ExprId],
+) -> Result<Ty, AllocError>
+    requires infers { InfersFrom (given_of given.now) (schedule_of given.now) context.old.clock (F.pre infer.now) (F.post infer.now) }
+    requires before { Within (given_of given.now) (schedule_of given.now) tgt_expr None context.old }
+    requires is { IsCallOf given.now.body.now tgt_expr callee args.now }
+    ensures { IfOk result (λ ty. KindDone (given_of given.now) (schedule_of given.now)
+        tgt_expr None ty context.old context.new) }
+{
+    let callee_ty = infer_callee(infer, alloc, context, given, callee)?;
+    let ty = check_call(infer, alloc, context, given, tgt_expr, args, &callee_ty)?;
+    Ok(ty)
+}
+
+/// Types what is called, and gives its type as far as it is known: the beginning of
+/// `infer/expr.rs`'s `infer_call`.
+fn infer_callee<F: Fn(&mut InferenceContext, ExprId, Expectation) -> Result<Ty, AllocError>>(
+    infer: &F,
+    alloc: Global,
+    context: &mut InferenceContext,
+    given: &GivenBody,
+    callee: ExprId,
+) -> Result<Ty, AllocError>
+    requires infers { InfersFrom (given_of given.now) (schedule_of given.now) context.old.clock (F.pre infer.now) (F.post infer.now) }
+    requires before { Before (given_of given.now) (schedule_of given.now) callee None context.old }
+    ensures { IfOk result (λ ty. CalleeTyped (given_of given.now) (schedule_of given.now)
+        callee ty context.old context.new) }
+{
+    let callee_ty = infer(context, callee, Expectation::None)?;
+    // Each hole that a binding names was made.
+    context.table.lawful();
+    let resolved = context.table.resolve(&callee_ty)?;
+    Ok(resolved)
+}
+
+/// The type of a call of what has this type: the rest of `infer/expr.rs`'s `infer_call`, with its
+/// `check_call`.
+fn check_call<F: Fn(&mut InferenceContext, ExprId, Expectation) -> Result<Ty, AllocError>>(
+    infer: &F,
+    alloc: Global,
+    context: &mut InferenceContext,
+    given: &GivenBody,
+    call_expr: ExprId,
+    args: &[ExprId],
+    callee_ty: &Ty,
+) -> Result<Ty, AllocError>
+    requires infers { InfersFrom (given_of given.now) (schedule_of given.now) context.old.clock (F.pre infer.now) (F.post infer.now) }
+    requires before { BeforeCall (given_of given.now) (schedule_of given.now)
+        call_expr args.now callee_ty.now context.old }
+    ensures { IfOk result (λ ty. KindDone (given_of given.now) (schedule_of given.now)
+        call_expr None ty context.old context.new) }
+{
+    match given.callable_sig(alloc, callee_ty)? {
+        Some(CallableSig { inputs, output }) => {
+            check_call_arguments(
+                infer,
+                alloc,
+                context,
+                given,
+                call_expr,
+                args,
+                inputs.as_slice(),
+            )?;
+            Ok(output)
+        }
+        None => {
+            let ty = infer_uncallable(infer, alloc, context, given, call_expr, args, callee_ty)?;
+            Ok(ty)
+        }
+    }
+}
+
+/// The type of a call of what has this type, which is no function: any. That it is none is kept, and
+/// said in the end unless `{unknown}` stands in the type then; of the arguments nothing is
+/// expected. This is `infer/expr.rs`'s `infer_call` where there is no `callable_sig`.
+fn infer_uncallable<F: Fn(&mut InferenceContext, ExprId, Expectation) -> Result<Ty, AllocError>>(
+    infer: &F,
+    alloc: Global,
+    context: &mut InferenceContext,
+    given: &GivenBody,
+    call_expr: ExprId,
+    args: &[ExprId],
+    callee_ty: &Ty,
+) -> Result<Ty, AllocError>
+    requires infers { InfersFrom (given_of given.now) (schedule_of given.now) context.old.clock (F.pre infer.now) (F.post infer.now) }
+    requires before { BeforeUncallable (given_of given.now) (schedule_of given.now)
+        call_expr args.now callee_ty.now context.old }
+    ensures { IfOk result (λ ty. KindDone (given_of given.now) (schedule_of given.now)
+        call_expr None ty context.old context.new) }
+{
+    let seen_ty = callee_ty.dup(alloc)?;
+    context.note_seen(Seen {
+        node: ExprOrPatId::ExprId(call_expr),
+        ty: seen_ty,
+        other: None,
+    })?;
+    infer_arguments(infer, alloc, context, given, call_expr, args, &[])?;
+    let ty = context.table.next_ty_var()?;
+    Ok(ty)
+}
+
+/// Types the arguments of a call, which are to be at these types. Where there are not as many, that
+/// is said, and no argument has a mismatch. This is `infer/expr.rs`'s `check_call_arguments`.
+fn check_call_arguments<
+    F: Fn(&mut InferenceContext, ExprId, Expectation) -> Result<Ty, AllocError>,
+>(
+    infer: &F,
+    alloc: Global,
+    context: &mut InferenceContext,
+    given: &GivenBody,
+    call_expr: ExprId,
+    args: &[ExprId],
+    inputs: &[Ty],
+) -> Result<(), AllocError>
+    requires infers { InfersFrom (given_of given.now) (schedule_of given.now) context.old.clock (F.pre infer.now) (F.post infer.now) }
+    requires before { BeforeInputs (given_of given.now) (schedule_of given.now)
+        call_expr args.now inputs.now context.old }
+    ensures { IfOk result (λ _. ArgsDone (given_of given.now) (schedule_of given.now)
+        call_expr args.now inputs.now context.old context.new) }
+{
+    if args.len() == inputs.len() {
+        check_arguments(infer, alloc, context, given, call_expr, args, inputs)
+    } else {
+        check_miscounted_arguments(infer, alloc, context, given, call_expr, args, inputs)
+    }
+}
+
+/// Types the arguments of a call, each against its input.
+fn check_arguments<F: Fn(&mut InferenceContext, ExprId, Expectation) -> Result<Ty, AllocError>>(
+    infer: &F,
+    alloc: Global,
+    context: &mut InferenceContext,
+    given: &GivenBody,
+    call_expr: ExprId,
+    args: &[ExprId],
+    inputs: &[Ty],
+) -> Result<(), AllocError>
+    requires infers { InfersFrom (given_of given.now) (schedule_of given.now) context.old.clock (F.pre infer.now) (F.post infer.now) }
+    requires before { BeforeInputs (given_of given.now) (schedule_of given.now)
+        call_expr args.now inputs.now context.old }
+    requires count { length args.now ≡ length inputs.now }
+    ensures { IfOk result (λ _. ArgsDone (given_of given.now) (schedule_of given.now)
+        call_expr args.now inputs.now context.old context.new) }
+{
+    for i in 0..args.len() {
+        infer_expr_coerce(
+            infer,
+            alloc,
+            context,
+            given,
+            args[i],
+            Expectation::HasType(&inputs[i]),
+        )?;
+    }
+    Ok(())
+}
+
+/// Types the arguments of a call that has another number of them than it takes, and says so. What
+/// an argument's input tells of it is learnt where the two can be made equal.
+fn check_miscounted_arguments<
+    F: Fn(&mut InferenceContext, ExprId, Expectation) -> Result<Ty, AllocError>,
+>(
+    infer: &F,
+    alloc: Global,
+    context: &mut InferenceContext,
+    given: &GivenBody,
+    call_expr: ExprId,
+    args: &[ExprId],
+    inputs: &[Ty],
+) -> Result<(), AllocError>
+    requires infers { InfersFrom (given_of given.now) (schedule_of given.now) context.old.clock (F.pre infer.now) (F.post infer.now) }
+    requires before { BeforeInputs (given_of given.now) (schedule_of given.now)
+        call_expr args.now inputs.now context.old }
+    requires differ { length args.now ≡ length inputs.now → ⊥ }
+    ensures { IfOk result (λ _. ArgsDone (given_of given.now) (schedule_of given.now)
+        call_expr args.now inputs.now context.old context.new) }
+{
+    context.push_diagnostic(
+        call_expr,
+        InferenceDiagnostic::MismatchedArgCount {
+            call_expr,
+            expected: inputs.len(),
+            found: args.len(),
+        },
+    );
+    infer_arguments(infer, alloc, context, given, call_expr, args, inputs)?;
+    Ok(())
+}
+
+/// Types the arguments of a call, of which nothing is expected. What these types tell of the first
+/// of them is learnt where the two can be made equal.
+fn infer_arguments<F: Fn(&mut InferenceContext, ExprId, Expectation) -> Result<Ty, AllocError>>(
+    infer: &F,
+    alloc: Global,
+    context: &mut InferenceContext,
+    given: &GivenBody,
+    call_expr: ExprId,
+    args: &[ExprId],
+    inputs: &[Ty],
+) -> Result<(), AllocError>
+    requires infers { InfersFrom (given_of given.now) (schedule_of given.now) context.old.clock (F.pre infer.now) (F.post infer.now) }
+    requires before { BeforeLoose (given_of given.now) (schedule_of given.now)
+        call_expr args.now inputs.now context.old }
+    ensures { IfOk result (λ _. LooseDone (given_of given.now) (schedule_of given.now)
+        call_expr context.old context.new) }
+{
+    for i in 0..args.len() {
+        let ty = infer(context, args[i], Expectation::None)?;
+        if i < inputs.len() {
+            unify_with(context, given, &ty, &inputs[i])?;
+        }
+    }
+    Ok(())
+}
+
+/// Makes two types equal, where that can be.
+fn unify_with(
+    context: &mut InferenceContext,
+    given: &GivenBody,
+    ty: &Ty,
+    other: &Ty,
+) -> Result<(), AllocError>
+    requires of_body { IsOfBody given.now.body.now context.old.result }
+    requires sound { IsSound (scope_in given.now) context.old }
+    requires ty { IsFine (scope_in given.now) context.old.table ty.now }
+    requires other { IsFine (scope_in given.now) context.old.table other.now }
+    ensures { IfOk result (λ _. OnlyBinds (given_of given.now) context.old context.new) }
+{
+    unify(context, given, ty, other)?;
+    Ok(())
+}

@@ -1,0 +1,6 @@
+//! Inference of the types of calls, over whatever types their parts.
+#![tactic(auto)]
+
+mod call;
+
+pub use call::infer_call;

@@ -1,0 +1,46 @@
+-- What is expected of an expression, what it has, and what is made of the two.
+use Rattle.std.proofs.Common.{◌≡◌, Some, ◌∙◌, sym, ap, subst, Option, None}
+use Rattle.hir_types.specs.declared.ids.ExprId.{ExprId}
+use Rattle.hir_types.specs.declared.ty.Ty.{Ty}
+use Rattle.hir_types.specs.Subst.{folded}
+use Rattle.hir_facts.specs.declared.schedule.Schedule.{Schedule}
+use Rattle.infer_result.specs.Places.{Given}
+use Rattle.infer_ctx.specs.declared.context.InferenceContext.{InferenceContext}
+use Rattle.infer_ctx.specs.Closings.{Closes, found_under, expected_under}
+use Rattle.infer_ctx.specs.Fine.{IsFine, IsFineExpectation}
+use Rattle.infer_ctx.specs.Steps.{Follows, Before, OwnDone, CoerceDone}
+use Rattle.infer_ctx.proofs.FineTypes.{fine_grown}
+use Rattle.infer_ctx.proofs.AtEach.{follows_twice, closes_before, before_under}
+use Rattle.infer_coerce.specs.declared.coercion.Coerced.{Coerced}
+use Rattle.infer_coerce.specs.Coercions.{IsCoerced}
+use Rattle.infer_coerce.proofs.Coercions.{coerced_as, uncoerced}
+
+only_some : {A : Type 0} {x y : A} → Some x ≡ Some y → x ≡ y
+only_some h = cc
+
+pub coerced_done : (answer : Coerced) (g : Given) (s : Schedule) (e : ExprId) (x : Option Ty) (t u v : Ty) (old mid new : InferenceContext) → Some u ≡ x → v ≡ u → Before g s e x old → OwnDone g s e x t old mid → IsCoerced answer g e t u mid new → CoerceDone g s e x v old new
+coerced_done answer g s e x t u v old mid new f i h d k =
+    let all : Follows g old new = follows_twice g old mid new d.follows k.follows in
+    record {
+      follows = all;
+      fine =
+          subst (λ w. IsFine g.scope new.table w) (sym i)
+          (fine_grown g.scope old.table new.table u all.grew (subst (λ y. IsFineExpectation g.scope old.table y) (sym f) h.expected));
+      is_expected = λ w k. (let same : Some u ≡ Some w = f ∙ k in i ∙ only_some same);
+      tells = λ none. absurd (let clash : Some u ≡ None = f ∙ none in cc);
+      each = λ a q.
+          let m : Closes a mid = closes_before g a mid new k.follows q in
+          let o : Closes a old = closes_before g a old mid d.follows m in
+          let z = k.each a q in
+          coerced_as g s z.0 e (expected_under a x) (folded a t) (folded a u) (folded a v) (found_under a old) (found_under a mid) (found_under a new)
+          (ap (expected_under a) f) (ap (folded a) i) (before_under g s a old o e x h) (d.each a m) z.2;
+    }
+
+pub uncoerced_done : (g : Given) (s : Schedule) (e : ExprId) (t : Ty) (old new : InferenceContext) → OwnDone g s e None t old new → CoerceDone g s e None t old new
+uncoerced_done g s e t old new d = record {
+  follows = d.follows;
+  fine = d.fine;
+  is_expected = λ w k. absurd (cc);
+  tells = λ none. d.tells;
+  each = λ a q. uncoerced g s e (folded a t) (found_under a old) (found_under a new) (d.each a q);
+}

@@ -1,0 +1,6 @@
+pub mod Coercions
+pub mod Expressions
+pub mod Holes
+pub mod Merged
+pub mod Unified
+pub mod Later

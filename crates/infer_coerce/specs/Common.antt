@@ -1,0 +1,72 @@
+-- The common type of several expressions, as far as they are typed.
+use Rattle.std.specs.Prelude.{◌≡◌, ◌⊎◌, false, Option, Some, None}
+use Rattle.hir_types.specs.Subst.{Assignment, folded}
+use Rattle.hir_types.specs.declared.ids.ExprId.{ExprId}
+use Rattle.hir_types.specs.declared.ty.Ty.{Ty}
+use Rattle.hir_facts.specs.Scope.{Scope}
+use Rattle.infer_table.specs.Table.{State, Grew}
+use Rattle.infer_result.specs.Places.{Given}
+use Rattle.infer_ctx.specs.Found.{Found}
+use Rattle.infer_ctx.specs.Fine.{IsFine}
+use Rattle.infer_ctx.specs.declared.context.InferenceContext.{InferenceContext}
+use Rattle.infer_ctx.specs.Closings.{Closes, found_under, IsSound}
+use Rattle.infer_ctx.specs.Steps.{Follows}
+use Rattle.infer_coerce.specs.declared.coerce_many.CoerceMany.{CoerceMany}
+use Rattle.infer_coerce.specs.Coercions.{IsCoercedIf, IsCoercedOrNot, IsCoerced}
+use Rattle.infer_coerce.specs.declared.coercion.Coerced.{Coerced}
+use Rattle.infer_coerce.specs.declared.coerce_many.CoerceMany.TheVariants as common
+use Rattle.infer_coerce.specs.declared.coercion.Coerced.TheVariants as coerced
+
+abbrev pub common_under : Assignment → CoerceMany → CoerceMany
+common_under a common.Nothing = common.Nothing
+common_under a (common.Is t) = common.Is (folded a t)
+common_under a common.Unknown = common.Unknown
+
+-- ---- alternatives
+
+-- What the next alternative e, of type t, makes of the common type. It stays also where e is found later to differ from it.
+abbrev pub MergesInto : ExprId → Ty → CoerceMany → CoerceMany → Found → Found → Type 0
+MergesInto e t common.Nothing m old new = (m ≡ common.Is t) × (new ≡ old)
+MergesInto e t (common.Is u) m old new = ((m ≡ common.Is u) × IsCoercedOrNot e t u old new) ⊎ ((m ≡ common.Unknown) × IsCoercedIf false e t u old new)
+MergesInto e t common.Unknown m old new = (m ≡ common.Unknown) × (new ≡ old)
+
+abbrev pub common_of : Option Ty → CoerceMany
+common_of None = common.Nothing
+common_of (Some t) = common.Is t
+
+-- the type of a node whose alternatives came to this, where x is expected of them
+abbrev pub CompletesAs : Option Ty → CoerceMany → Ty → Type 0
+CompletesAs x common.Nothing t = Unit {0}
+CompletesAs x (common.Is u) t = t ≡ u
+CompletesAs x common.Unknown t = (u : Ty) → x ≡ Some u → t ≡ u
+
+-- ---- alternatives
+abbrev pub IsFineCommon : Scope → State → CoerceMany → Type 0
+IsFineCommon sc state common.Nothing = Unit {0}
+IsFineCommon sc state (common.Is t) = IsFine sc state t
+IsFineCommon sc state common.Unknown = Unit {0}
+
+-- the common type u once an alternative was coerced to it
+abbrev pub common_after : Coerced → Ty → CoerceMany
+common_after coerced.Yes u = common.Is u
+common_after coerced.Waits u = common.Is u
+common_after coerced.No u = common.Unknown
+
+-- what the next alternative e, of type t, makes of the common type
+pub record Merges (g : Given) (e : ExprId) (t : Ty) (before after : CoerceMany) (old new : InferenceContext) : Type 0 where
+  pub follows : Follows g old new
+  pub clock : new.clock ≡ old.clock
+  pub fine : IsFineCommon g.scope new.table after
+  pub coerced_to : (u : Ty) → before ≡ common.Is u → (answer : Coerced) × IsCoerced answer g e t u old new × (after ≡ common_after answer u)
+  pub each : (a : Assignment) → Closes a new → MergesInto e (folded a t) (common_under a before) (common_under a after) (found_under a old) (found_under a new)
+
+-- the type of a node whose alternatives came to this, where x is expected of them: a hole that is new
+-- where that is nothing known
+pub record Completes (sc : Scope) (x : Option Ty) (m : CoerceMany) (t : Ty) (old new : InferenceContext) : Type 0 where
+  pub result : new.result ≡ old.result
+  pub asked : new.asked ≡ old.asked
+  pub clock : new.clock ≡ old.clock
+  pub grew : Grew old.table new.table
+  pub sound : IsSound sc new
+  pub fine : IsFine sc new.table t
+  pub is : CompletesAs x m t

@@ -1,0 +1,4 @@
+pub mod Common
+pub mod Coercions
+pub mod Unifying
+pub mod Recursion

@@ -1,0 +1,38 @@
+//! An expression, and what is expected of it.
+ghost use Rattle.std.specs.Prelude.{IfOk};
+ghost use Rattle.infer_ctx.specs.Context.{given_of, schedule_of, expected_type};
+ghost use Rattle.infer_ctx.specs.Steps.{Before, CoerceDone};
+ghost use Rattle.infer_coerce.specs.Recursion.{InfersFrom};
+
+use crate::coercion::coerce;
+use hir_facts::{ExprId, Ty};
+use infer_ctx::{Expectation, GivenBody, InferenceContext};
+use std::alloc::{AllocError, Global};
+
+/// Types an expression and coerces it to what is expected: `infer/expr.rs`, `infer_expr_coerce`.
+pub fn infer_expr_coerce<
+    F: Fn(&mut InferenceContext, ExprId, Expectation) -> Result<Ty, AllocError>,
+>(
+    infer: &F,
+    alloc: Global,
+    context: &mut InferenceContext,
+    given: &GivenBody,
+    expr: ExprId,
+    expected: Expectation,
+) -> Result<Ty, AllocError>
+    requires infers { InfersFrom (given_of given.now) (schedule_of given.now) context.old.clock (F.pre infer.now) (F.post infer.now) }
+    requires before { Before (given_of given.now) (schedule_of given.now)
+        expr (expected_type expected) context.old }
+    ensures { IfOk result (λ ty. CoerceDone (given_of given.now) (schedule_of given.now)
+        expr (expected_type expected.entry) ty context.old context.new) }
+{
+    let ty = infer(context, expr, expected)?;
+    match expected.only_has_type() {
+        Some(target) => {
+            let coerced = target.dup(alloc)?;
+            coerce(alloc, context, given, expr, &ty, target)?;
+            Ok(coerced)
+        }
+        None => Ok(ty),
+    }
+}

@@ -1,0 +1,13 @@
+//! Types made equal, coercions, and the common type of several expressions: `infer/coerce.rs`, and the
+//! part of `infer/unify.rs` that looks after pairs of types which wait.
+#![tactic(auto)]
+
+mod coerce_many;
+mod coercion;
+mod expr;
+mod unification;
+
+pub use coerce_many::CoerceMany;
+pub use coercion::{Coerced, coerce};
+pub use expr::infer_expr_coerce;
+pub use unification::{unify, unify_unknown};

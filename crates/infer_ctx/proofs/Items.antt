@@ -1,0 +1,189 @@
+-- The functions and constructors of lawful facts.
+use Rattle.std.specs.List.{list_all}
+use Rattle.std.proofs.Common.{ℕ, ◌≡◌, refl, sym, ap, ◌∙◌, Some, slice_get, option_and_then, None, Option, length, option_map, zero, suc, ◌&&◌, ◌+◌, ◌<◌, ◌≤◌, arith, true, List, subst, [], ◌∷◌, map}
+use Rattle.std.proofs.lemmas.Bool.{lt-ltb, eq-eqb}
+use Rattle.hir_types.specs.declared.ids.VariantId.{VariantId}
+use Rattle.hir_types.specs.declared.ids.FunctionId.{FunctionId}
+use Rattle.hir_types.specs.declared.ids.CallableDefId.{CallableDefId}
+use Rattle.hir_types.specs.declared.ids.AdtId.{AdtId}
+use Rattle.hir_types.specs.declared.ty.Ty.{Ty}
+use Rattle.hir_types.specs.declared.ids.TypeRefId.{TypeRefId}
+use Rattle.hir_types.specs.declared.ids.CallableDefId.TheVariants as callable
+use Rattle.hir_types.specs.declared.ty.Ty.TheVariants as ty
+use Rattle.hir_facts.specs.declared.raw.RawCtor.{RawCtor}
+use Rattle.hir_facts.specs.declared.raw.RawFacts.{RawFacts}
+use Rattle.hir_facts.specs.declared.raw.RawVariant.{RawVariant}
+use Rattle.hir_facts.specs.Scope.{adt_params, callable_params, Scope, has_params}
+use Rattle.hir_facts.specs.Signatures.{Signature, signature_of, ctor_signature, signature_by, field_types, own_adt, fn_signature, params_from, type_args}
+use Rattle.hir_facts.specs.declared.raw.RawFn.{RawFn}
+use Rattle.hir_facts.specs.CarriedTypes.{is_carried_arg, AreCarriedArgs, carried_param, carried_type_arg, carried_adt}
+use Rattle.hir_facts.specs.Types.{written_type}
+use Rattle.hir_facts.specs.declared.raw.RawAdt.{RawAdt}
+use Rattle.hir_facts.specs.declared.raw.RawField.{RawField}
+use Rattle.hir_facts.specs.Items.{variant_adt, variant_ctor}
+use Rattle.hir_facts.specs.Laws.Ids.{IsModuleFn}
+use Rattle.hir_facts.specs.Laws.Lawful.{IsLawful}
+use Rattle.hir_facts.specs.WrittenFits.{inputs_fit, output_fits, fields_fit}
+use Rattle.hir_facts.specs.NoHoles.{input_has_no_hole, output_has_no_hole, field_has_no_hole}
+use Rattle.hir_facts.specs.declared.raw.RawCtor.TheVariants as ctor
+use Rattle.infer_result.specs.Places.{Given}
+use Rattle.infer_ctx.specs.Fine.{HasFineHeads, IsKnown, IsWritten}
+use Rattle.infer_ctx.specs.Under.{own_scope, IsItem, IsVariant}
+use Rattle.infer_ctx.proofs.FineTypes.{Every, heads_param, heads_adt}
+use Rattle.infer_ctx.proofs.Written.{is_written}
+
+-- what has a signature is a tuple constructor
+pub ctor_item : (g : Given) (v : VariantId) (x : RawVariant) (n : ℕ) (σ : Signature) → slice_get g.scope.facts.variants v.0 ≡ Some x → adt_params g.scope.facts x.adt ≡ Some n → signature_of g.scope.facts (callable.VariantId v) ≡ Some σ → (x.ctor ≡ ctor.Tuple) × (n ≡ σ.params)
+ctor_item g v x n σ found count s = by_ctor x.ctor refl (sym (signature_at g.scope.facts v x n found count) ∙ s)
+  where
+    signature_at : (raw : RawFacts) (w : VariantId) (y : RawVariant) (k : ℕ) → slice_get raw.variants w.0 ≡ Some y → adt_params raw y.adt ≡ Some k → signature_of raw (callable.VariantId w) ≡ ctor_signature raw.types k y
+    signature_at raw w y k h l =
+        ap (λ o. option_and_then (λ z. option_and_then (λ j. ctor_signature raw.types j z) (adt_params raw z.adt)) o) h
+        ∙ ap (λ o. option_and_then (λ j. ctor_signature raw.types j y) o) l
+
+    by_ctor : (k : RawCtor) → x.ctor ≡ k → ctor_signature g.scope.facts.types n x ≡ Some σ → (x.ctor ≡ ctor.Tuple) × (n ≡ σ.params)
+    by_ctor ctor.Tuple is made = (is, cc)
+    by_ctor ctor.Unit is made = absurd (cc)
+    by_ctor ctor.Record is made = absurd (cc)
+
+-- a constructor has a signature where it takes fields
+pub tuple_signature : (raw : RawFacts) (v : VariantId) (x : RawVariant) (n : ℕ) → slice_get raw.variants v.0 ≡ Some x → adt_params raw x.adt ≡ Some n → x.ctor ≡ ctor.Tuple → (σ : Signature) × (signature_of raw (callable.VariantId v) ≡ Some σ) × (σ.params ≡ n)
+tuple_signature raw v x n found count tuple = (
+  record { params = n; inputs = field_types raw.types x; output = own_adt x.adt n },
+  ap (λ o. option_and_then (λ z. option_and_then (λ j. ctor_signature raw.types j z) (adt_params raw z.adt)) o) found
+      ∙ (ap (λ o. option_and_then (λ j. ctor_signature raw.types j x) o) count ∙ ap (λ k. signature_by k raw.types n x) tuple),
+  refl,
+)
+
+-- and only there
+pub variant_with : (raw : RawFacts) (v : VariantId) (σ : Signature) → signature_of raw (callable.VariantId v) ≡ Some σ → (x : RawVariant) × (slice_get raw.variants v.0 ≡ Some x) × (x.ctor ≡ ctor.Tuple)
+variant_with raw v σ found = by_variant (slice_get raw.variants v.0) refl found
+  where
+    by_ctor : (x : RawVariant) (n : ℕ) (k : RawCtor) → x.ctor ≡ k → signature_by k raw.types n x ≡ Some σ → x.ctor ≡ ctor.Tuple
+    by_ctor x n ctor.Tuple is made = is
+    by_ctor x n ctor.Unit is made = absurd (cc)
+    by_ctor x n ctor.Record is made = absurd (cc)
+
+    by_params : (x : RawVariant) (o : Option ℕ) → option_and_then (λ n. ctor_signature raw.types n x) o ≡ Some σ → x.ctor ≡ ctor.Tuple
+    by_params x None made = absurd (cc)
+    by_params x (Some n) made = by_ctor x n x.ctor refl made
+
+    by_variant : (o : Option RawVariant) → slice_get raw.variants v.0 ≡ o → option_and_then (λ x. option_and_then (λ n. ctor_signature raw.types n x) (adt_params raw x.adt)) o ≡ Some σ → (x : RawVariant) × (slice_get raw.variants v.0 ≡ Some x) × (x.ctor ≡ ctor.Tuple)
+    by_variant None at made = absurd (cc)
+    by_variant (Some x) at made = (x, at, by_params x (adt_params raw x.adt) made)
+
+-- what has a signature has as many parameters as that says
+pub signature_count : (raw : RawFacts) (id : CallableDefId) (σ : Signature) → signature_of raw id ≡ Some σ → callable_params raw id ≡ Some σ.params
+signature_count raw (callable.FunctionId f) σ found = by_fn (slice_get raw.fns f.0) found
+  where
+    by_fn : (o : Option RawFn) → option_map (fn_signature raw.types) o ≡ Some σ → option_map (λ y. length y.params) o ≡ Some σ.params
+    by_fn None made = absurd (cc)
+    by_fn (Some x) made = (let same : fn_signature raw.types x ≡ σ = cc in ap (λ (τ : Signature). Some τ.params) same)
+signature_count raw (callable.VariantId v) σ found = by_variant (slice_get raw.variants v.0) found
+  where
+    by_ctor : (x : RawVariant) (n : ℕ) (k : RawCtor) → signature_by k raw.types n x ≡ Some σ → Some n ≡ Some σ.params
+    by_ctor x n ctor.Tuple made = (let same : record { params = n; inputs = field_types raw.types x; output = own_adt x.adt n } ≡ σ = cc in ap (λ (τ : Signature). Some τ.params) same)
+    by_ctor x n ctor.Unit made = absurd (cc)
+    by_ctor x n ctor.Record made = absurd (cc)
+
+    by_params : (x : RawVariant) (o : Option ℕ) → option_and_then (λ n. ctor_signature raw.types n x) o ≡ Some σ → o ≡ Some σ.params
+    by_params x None made = absurd (cc)
+    by_params x (Some n) made = by_ctor x n x.ctor made
+
+    by_variant : (o : Option RawVariant) → option_and_then (λ x. option_and_then (λ n. ctor_signature raw.types n x) (adt_params raw x.adt)) o ≡ Some σ → option_and_then (λ x. adt_params raw x.adt) o ≡ Some σ.params
+    by_variant None made = absurd (cc)
+    by_variant (Some x) made = by_params x (adt_params raw x.adt) made
+
+-- ---- an adt at its own parameters
+params_length : (i n : ℕ) → length (params_from i n) ≡ n
+params_length i zero = refl
+params_length i (suc n) = ap suc (params_length (suc i) n)
+
+params_carried : (i n : ℕ) → AreCarriedArgs (type_args (params_from i n))
+params_carried i zero = refl
+params_carried i (suc n) = ap (λ b. b && list_all is_carried_arg (type_args (params_from (suc i) n))) (carried_type_arg (ty.Param i) ∙ carried_param i) ∙ params_carried (suc i) n
+
+params_heads : (sc : Scope) (i n : ℕ) → i + n ≤ sc.params → Every (HasFineHeads sc) (params_from i n)
+params_heads sc i zero h = tt
+params_heads sc i (suc n) h =
+    let here : i < sc.params = omega (arith, h) in
+    let rest : suc i + n ≤ sc.params = omega (arith, h) in
+    (heads_param sc i (lt-ltb i sc.params here), params_heads sc (suc i) n rest)
+
+own_adt_known : (raw : RawFacts) (a : AdtId) (n : ℕ) → adt_params raw a ≡ Some n → IsKnown (own_scope raw n) (own_adt a n)
+own_adt_known raw a n count =
+    let us : List Ty = params_from 0 n in
+    let takes : has_params (adt_params raw a) (length us) ≡ true = ap (λ o. has_params o (length us)) count ∙ eq-eqb n (length us) (sym (params_length 0 n)) in
+    record {
+      carried = carried_adt a (type_args us) ∙ params_carried 0 n;
+      heads = heads_adt (own_scope raw n) a us takes (params_heads (own_scope raw n) 0 n (omega arith));
+    }
+
+-- ---- what signatures are written with
+known : (raw : RawFacts) (n : ℕ) (w : TypeRefId) → IsWritten (own_scope raw n) w → IsKnown (own_scope raw n) (written_type raw.types w)
+known raw n w h = record { carried = h.carried; heads = h.heads }
+
+all_known : (raw : RawFacts) (n : ℕ) (ws : List TypeRefId) → ((k : ℕ) (w : TypeRefId) → slice_get ws k ≡ Some w → IsWritten (own_scope raw n) w) → (k : ℕ) (t : Ty) → slice_get (map (written_type raw.types) ws) k ≡ Some t → IsKnown (own_scope raw n) t
+all_known raw n [] h k t is = absurd (cc)
+all_known raw n (w ∷ ws) h zero t is = (let same : written_type raw.types w ≡ t = cc in subst (λ u. IsKnown (own_scope raw n) u) same (known raw n w (h 0 w refl)))
+all_known raw n (w ∷ ws) h (suc k) t is = all_known raw n ws (λ j v e. h (suc j) v e) k t is
+
+module _ (raw : RawFacts) (law : IsLawful raw) where
+  -- a function that a path names
+  pub function_item : (f : FunctionId) (x : RawFn) → slice_get raw.fns f.0 ≡ Some x → IsItem raw (callable.FunctionId f)
+  function_item f x found = record {
+    signature = fn_signature raw.types x;
+    found = ap (option_map (fn_signature raw.types)) found;
+    count = ap (option_map (λ y. length y.params)) found;
+    inputs = all_known raw (length x.params) x.inputs (λ k w is. is_written raw law (length x.params) w (inputs_fit raw law f.0 x found k w is) (input_has_no_hole raw law f.0 x found k w is));
+    output = known raw (length x.params) x.output (is_written raw law (length x.params) x.output (output_fits raw law f.0 x found) (output_has_no_hole raw law f.0 x found));
+  }
+
+  pub named_function : (f : FunctionId) → IsModuleFn raw f → IsItem raw (callable.FunctionId f)
+  named_function f (x, found, stands) = function_item f x found
+
+  fields_known : (v : VariantId) (x : RawVariant) (a : RawAdt) → slice_get raw.variants v.0 ≡ Some x → slice_get raw.adts x.adt.0 ≡ Some a → (k : ℕ) (t : Ty) → slice_get (field_types raw.types x) k ≡ Some t → IsKnown (own_scope raw (length a.params)) t
+  fields_known v x a found adt k t is = among x.fields (λ j f e. is_written raw law (length a.params) f.ty (fields_fit raw law v.0 x a found adt j f e) (field_has_no_hole raw law v.0 x found j f e)) k is
+    where
+      among : (fs : List RawField) → ((j : ℕ) (f : RawField) → slice_get fs j ≡ Some f → IsWritten (own_scope raw (length a.params)) f.ty) → (i : ℕ) → slice_get (map (λ f. written_type raw.types f.ty) fs) i ≡ Some t → IsKnown (own_scope raw (length a.params)) t
+      among [] h i e = absurd (cc)
+      among (f ∷ fs) h zero e = (let same : written_type raw.types f.ty ≡ t = cc in subst (λ u. IsKnown (own_scope raw (length a.params)) u) same (known raw (length a.params) f.ty (h 0 f refl)))
+      among (f ∷ fs) h (suc i) e = among fs (λ j y q. h (suc j) y q) i e
+
+  -- a variant whose constructor is named
+  pub named_variant : (v : VariantId) (x : RawVariant) → slice_get raw.variants v.0 ≡ Some x → IsVariant raw v
+  named_variant v x found =
+      let a = variant_adt raw law v.0 x found in
+      record {
+        variant = x;
+        found = found;
+        params = length a.0.params;
+        count = ap (option_map (λ y. length y.params)) a.1;
+        fields = fields_known v x a.0 found a.1;
+        unnamed = variant_ctor raw law v.0 x found;
+      }
+
+  -- and the constructor as an item, where it takes fields
+  pub tuple_item : (v : VariantId) (x : RawVariant) → slice_get raw.variants v.0 ≡ Some x → x.ctor ≡ ctor.Tuple → IsItem raw (callable.VariantId v)
+  unfolding named_variant
+  tuple_item v x found tuple =
+      let y = named_variant v x found in
+      let made : ctor_signature raw.types y.params x ≡ Some (record { params = y.params; inputs = field_types raw.types x; output = own_adt x.adt y.params }) = ap (λ k. signature_by k raw.types y.params x) tuple in
+      record {
+        signature = record { params = y.params; inputs = field_types raw.types x; output = own_adt x.adt y.params };
+        found =
+            ap (λ o. option_and_then (λ z. option_and_then (λ j. ctor_signature raw.types j z) (adt_params raw z.adt)) o) found
+            ∙ (ap (λ o. option_and_then (λ j. ctor_signature raw.types j x) o) y.count ∙ made);
+        count = ap (λ o. option_and_then (λ z. adt_params raw z.adt) o) found ∙ y.count;
+        inputs = y.fields;
+        output = own_adt_known raw x.adt y.params y.count;
+      }
+
+  -- each item that has a signature
+  pub item_with : (id : CallableDefId) (σ : Signature) → signature_of raw id ≡ Some σ → IsItem raw id
+  item_with (callable.FunctionId f) σ found = by_fn (slice_get raw.fns f.0) refl found
+    where
+      by_fn : (o : Option RawFn) → slice_get raw.fns f.0 ≡ o → option_map (fn_signature raw.types) o ≡ Some σ → IsItem raw (callable.FunctionId f)
+      by_fn None at made = absurd (cc)
+      by_fn (Some x) at made = function_item f x at
+  item_with (callable.VariantId v) σ found = (let y = variant_with raw v σ found in tuple_item v y.0 y.1 y.2)

@@ -1,0 +1,101 @@
+-- A mismatch that is noted at an expression.
+use Rattle.std.proofs.Common.{inl, ◌<◌, length, inr, refl, subst, ◌∙◌, ◌≡◌, ◌⊎◌, sym, slice_get}
+use Rattle.hir_types.specs.declared.ids.ExprId.{ExprId}
+use Rattle.hir_facts.specs.declared.schedule.Schedule.{Schedule}
+use Rattle.hir_facts.specs.CarriedTypes.{IsCarriedType}
+use Rattle.infer_result.specs.declared.result.TypeMismatch.{TypeMismatch}
+use Rattle.infer_result.specs.Table.{HasMismatch, At}
+use Rattle.infer_result.specs.Places.{Given, Demand}
+use Rattle.infer_result.specs.Made.{IsMisfit}
+use Rattle.infer_ctx.specs.Found.{Found, with_mismatch}
+use Rattle.infer_ctx.specs.Walks.{Extends, IsWalked, Walks, Debt}
+use Rattle.infer_ctx.proofs.Lists.{noted-keeps, noted-some, noted-cases, length-noted}
+use Rattle.infer_ctx.proofs.Keeps.{diagnostic_kept, seen_as_kept, extends_trans, obeys_kept, pat_kept, pat_truth_kept, misfit_kept, demand_kept}
+use Rattle.infer_ctx.proofs.Parts.{expr_id}
+
+pub noted_extends : (c : Found) (e : ExprId) (m : TypeMismatch) → Extends c.result (with_mismatch c e m).result
+noted_extends c e m = record {
+  exprs = λ n t h. h;
+  pats = λ p t h. h;
+  bindings = λ v t h. h;
+  modes = λ p k h. h;
+  mismatches = λ n y h. noted-keeps c.result.expr_mismatches e.0 n.0 m y h;
+  pat_mismatches = λ p y h. h;
+  placeholders = λ k t h. h;
+  diagnostics = λ n d h. inl h;
+  seen = λ n h. record { position = h.position; entry = h.entry; found = h.found; is_node = h.is_node };
+  pat_diagnostics = λ p d h. h;
+  expr_variants = λ n v h. h;
+  pat_variants = λ p v h. h;
+}
+
+pub noted_has : (c : Found) (e : ExprId) (m : TypeMismatch) → e.0 < length c.result.expr_mismatches → HasMismatch (with_mismatch c e m).result e
+noted_has c e m h = noted-some c.result.expr_mismatches e.0 m h
+
+pub noted_walked : (g : Given) (s : Schedule) (c : Found) (e : ExprId) (m : TypeMismatch) → IsCarriedType m.expected → IsCarriedType m.actual → IsWalked g s c → IsWalked g s (with_mismatch c e m)
+noted_walked g s c e m x y h = record {
+  of_body = assumption (length-noted c.result.expr_mismatches e.0 m ∙ h.of_body.mismatches, h.of_body);
+  carried = record {
+    exprs = h.carried.exprs;
+    pats = h.carried.pats;
+    bindings = h.carried.bindings;
+    placeholders = h.carried.placeholders;
+    found = h.carried.found;
+    expected = λ n k i. elim (noted-cases c.result.expr_mismatches e.0 n m k i) [ inl q ↦ h.carried.expected n k q | inr q ↦ subst (λ z. IsCarriedType z.expected) q.1 x ];
+    actual = λ n k i. elim (noted-cases c.result.expr_mismatches e.0 n m k i) [ inl q ↦ h.carried.actual n k q | inr q ↦ subst (λ z. IsCarriedType z.actual) q.1 y ];
+    pat_expected = h.carried.pat_expected;
+    pat_actual = h.carried.pat_actual;
+  };
+  modes = h.modes;
+  pat_diagnostics = h.pat_diagnostics;
+  variants = record { exprs = h.variants.exprs; pats = h.variants.pats };
+  placeholders = record { count = h.placeholders.count; only = h.placeholders.only };
+  seen = λ i y at. seen_as_kept g c (with_mismatch c e m) (noted_extends c e m) (λ n d k. k) refl y (h.seen i y at);
+  diagnostics = λ n d i. diagnostic_kept g c.result (with_mismatch c e m).result (noted_extends c e m) n d (h.diagnostics n d i);
+  free_exprs = h.free_exprs;
+  free_pats = h.free_pats;
+  free_modes = h.free_modes;
+  free_bindings = h.free_bindings;
+  bound = h.bound;
+}
+
+-- it is one that is true, or as which something is owed
+pub noted_walks : (g : Given) (s : Schedule) (P : Debt) (old mid : Found) (e : ExprId) (m : TypeMismatch) → IsCarriedType m.expected → IsCarriedType m.actual → IsMisfit g mid.result e m → Demand g mid.result e m.expected ⊎ P e m → Walks g s P old mid → Walks g s P old (with_mismatch mid e m)
+noted_walks g s P old mid e m x y misfit owed h =
+    let new : Found = with_mismatch mid e m in
+    let k : Extends mid.result new.result = noted_extends mid e m in
+    record {
+      clock = h.clock;
+      extends = extends_trans old.result mid.result new.result h.extends k;
+      kept = h.kept;
+      kept_pats = h.kept_pats;
+      state = noted_walked g s mid e m x y h.state;
+      made = λ n i lo hi. obeys_kept g mid.result new.result k n (h.made n i lo hi);
+      pats_made = λ p i lo hi. pat_kept g mid.result new.result k p (slice_get g.body.pats p.0) (h.pats_made p i lo hi);
+      truths = λ n z i.
+          elim (noted-cases mid.result.expr_mismatches e.0 n.0 m z i) [
+            | inl q ↦
+                elim (h.truths n z q) [
+                  | inl o ↦ inl o
+                  | inr o ↦
+                      inr (
+                        misfit_kept g mid.result new.result k n z o.0,
+                        elim o.1 [ inl d ↦ inl (demand_kept g mid.result new.result k n z.expected d) | inr p ↦ inr p ],
+                      )
+                ]
+            | inr q ↦ own n z q.0 q.1
+          ];
+      pat_truths = λ p z i.
+          elim (h.pat_truths p z i) [ inl o ↦ inl o | inr o ↦ inr (pat_truth_kept g mid.result new.result k p z o) ];
+    }
+  where
+    own : (n : ExprId) (z : TypeMismatch) → n.0 ≡ e.0 → m ≡ z → At old.result.expr_mismatches n.0 z ⊎ (IsMisfit g (with_mismatch mid e m).result n z × (Demand g (with_mismatch mid e m).result n z.expected ⊎ P n z))
+    own n z i j =
+        let is : e ≡ n = sym (expr_id n e i) in
+        let r = (with_mismatch mid e m).result in
+        let k : Extends mid.result r = noted_extends mid e m in
+        let w : IsMisfit g r e m × (Demand g r e m.expected ⊎ P e m) = (
+          misfit_kept g mid.result r k e m misfit,
+          elim owed [ inl d ↦ inl (demand_kept g mid.result r k e m.expected d) | inr p ↦ inr p ],
+        ) in
+        inr (subst (λ (a : ExprId). IsMisfit g r a z × (Demand g r a z.expected ⊎ P a z)) is (subst (λ (y : TypeMismatch). IsMisfit g r e y × (Demand g r e y.expected ⊎ P e y)) j w))

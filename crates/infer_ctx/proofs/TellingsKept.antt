@@ -1,0 +1,140 @@
+-- Where holes are filled a head stays, and what tells the type that an expression has by itself comes to that type, which has
+-- no holes.
+use Rattle.std.specs.Prelude.{◌≡◌, map, Some, None, ℕ, List, [], slice_get, Option, option_map, refl}
+use Rattle.std.specs.Option.{option_and_then}
+use Rattle.std.proofs.Common.{ap, sym, ◌∙◌, subst}
+use Rattle.std.proofs.lemmas.List.{length-map}
+use Rattle.hir_types.specs.declared.ty.AliasBound.{AliasBound}
+use Rattle.hir_types.specs.declared.ty.GenericArg.{GenericArg}
+use Rattle.hir_types.specs.declared.ty.TraitRef.{TraitRef}
+use Rattle.hir_types.specs.declared.ty.Ty.{Ty, Ty-F, out-Ty, out-roll-Ty, roll-Ty, roll-out-Ty}
+use Rattle.hir_types.specs.Folding.{replacing, at_ty, replaced_int, replaced_uint, replaced_adt, replaced_bool, replaced_char}
+use Rattle.hir_types.specs.Folds.{in_ty}
+use Rattle.hir_types.specs.Subst.{Replacement, const_replaced, ty_layer, replaced, Assignment, with_holes, folded}
+use Rattle.hir_types.specs.declared.ids.TypeRefId.{TypeRefId}
+use Rattle.hir_types.specs.declared.ty.IntegerTy.{IntegerTy}
+use Rattle.hir_types.specs.Types.{integer_type}
+use Rattle.hir_types.specs.declared.ids.AdtId.{AdtId}
+use Rattle.hir_types.specs.declared.ids.ExprId.{ExprId}
+use Rattle.hir_types.specs.Instances.{instance_at_types}
+use Rattle.hir_types.specs.declared.ids.CallableDefId.{CallableDefId}
+use Rattle.hir_types.specs.declared.ids.DefWithBodyId.{DefWithBodyId}
+use Rattle.hir_types.specs.declared.ty.Ty.TheVariants as ty
+use Rattle.hir_types.specs.declared.ty.IntegerTy.TheVariants as integer
+use Rattle.hir_types.specs.declared.ids.CallableDefId.TheVariants as callable
+use Rattle.hir_facts.specs.declared.raw.RawType.{RawType}
+use Rattle.hir_facts.specs.Filled.{filled_written, filled_folded}
+use Rattle.hir_facts.specs.Laws.Standing.{HasNoHole}
+use Rattle.hir_facts.specs.Types.{written_type}
+use Rattle.hir_facts.specs.declared.raw.RawLiteral.{RawLiteral}
+use Rattle.hir_facts.specs.Signatures.{Signature, fn_signature, signature_by, ctor_signature, signature_of, own_adt}
+use Rattle.hir_facts.specs.declared.raw.RawCtor.{RawCtor}
+use Rattle.hir_facts.specs.declared.raw.RawFacts.{RawFacts}
+use Rattle.hir_facts.specs.declared.raw.RawFn.{RawFn}
+use Rattle.hir_facts.specs.declared.raw.RawVariant.{RawVariant}
+use Rattle.hir_facts.specs.Laws.Lawful.{IsLawful}
+use Rattle.hir_facts.specs.NoHoles.{output_has_no_hole, definition_input_has_no_hole}
+use Rattle.hir_facts.specs.Scope.{adt_params}
+use Rattle.hir_facts.specs.Bodies.{inputs_of}
+use Rattle.hir_facts.specs.declared.raw.RawLiteral.TheVariants as literal
+use Rattle.hir_facts.specs.declared.raw.RawCtor.TheVariants as ctor
+use Rattle.infer_result.specs.Heads.{Outermost, tuple, outermost_step, HasHead}
+use Rattle.infer_result.specs.Rules.Literals.{IsOwnType}
+use Rattle.infer_result.specs.Places.{Given}
+use Rattle.infer_result.specs.Upward.{CallsNonGeneric, Up, of_literal, of_written, of_initializer, of_parameter, of_call, of_unit}
+use Rattle.infer_ctx.specs.Tells.{Tells}
+
+-- ---- heads stay where holes and parameters are replaced
+layer_head : (r : Replacement) (x : Ty-F GenericArg Ty AliasBound TraitRef) (h : Outermost) → outermost_step x ≡ Some h → outermost_step (out-Ty (ty_layer r (in_ty (replacing r) x))) ≡ Some h
+layer_head r (Ty-F.Var n) h has = (let clash : None ≡ Some h = has in absurd (cc))
+layer_head r (Ty-F.IntVar n) h has = (let clash : None ≡ Some h = has in absurd (cc))
+layer_head r (Ty-F.Param n) h has = (let clash : None ≡ Some h = has in absurd (cc))
+layer_head r (Ty-F.Tuple ts) h has = ap outermost_step (out-roll-Ty (Ty-F.Tuple (map (replaced r) ts))) ∙ (ap (λ n. Some (tuple n)) (length-map ts (replaced r)) ∙ has)
+layer_head r (Ty-F.Array t c) h has =
+    ap outermost_step (ap out-Ty (sym (ty.rolls-Array (replaced r t) (const_replaced r c))) ∙ out-roll-Ty (Ty-F.Array (replaced r t) (const_replaced r c))) ∙ has
+layer_head r x h has = ap outermost_step (out-roll-Ty (in_ty (replacing r) x)) ∙ has
+
+rolled_head : (r : Replacement) (x : Ty-F GenericArg Ty AliasBound TraitRef) (h : Outermost) → HasHead (roll-Ty x) h → HasHead (replaced r (roll-Ty x)) h
+rolled_head r x h has = ap (λ t. outermost_step (out-Ty t)) (at_ty r x) ∙ layer_head r x h (sym (ap outermost_step (out-roll-Ty x)) ∙ has)
+
+-- a hole and a parameter have no head, so what stands for one changes none
+pub replaced_head : (r : Replacement) (t : Ty) (h : Outermost) → HasHead t h → HasHead (replaced r t) h
+replaced_head r t h has = subst (λ u. HasHead u h → HasHead (replaced r u) h) (roll-out-Ty t) (rolled_head r (out-Ty t) h) has
+
+pub head_kept : (a : Assignment) (t : Ty) (h : Outermost) → HasHead t h → HasHead (folded a t) h
+head_kept a t h has = replaced_head (with_holes a) t h has
+
+-- ---- types that stay where holes are filled
+closed_by : (a : Assignment) (t u : Ty) → t ≡ u → folded a u ≡ u → folded a t ≡ t
+closed_by a t u same closed = ap (folded a) same ∙ (closed ∙ sym same)
+
+-- a written type without a `_`
+pub written_closed : (types : List RawType) (w : TypeRefId) → HasNoHole types w → (a : Assignment) → folded a (written_type types w) ≡ written_type types w
+written_closed types w none a =
+    let fill : ℕ → Ty = λ k. ty.Error in
+    ap (folded a) (sym (filled_written fill types w none)) ∙ (filled_folded a fill types w ∙ filled_written (λ k. folded a (fill k)) types w none)
+
+integer_closed : (a : Assignment) (i : IntegerTy) → folded a (integer_type i) ≡ integer_type i
+integer_closed a (integer.Int i) = replaced_int (with_holes a) i
+integer_closed a (integer.Uint i) = replaced_uint (with_holes a) i
+
+adt_closed : (a : Assignment) (id : AdtId) → folded a (ty.Adt id []) ≡ ty.Adt id []
+adt_closed a id = replaced_adt (with_holes a) id []
+
+literal_closed : (a : Assignment) (l : RawLiteral) (s : Ty) → IsOwnType l s → folded a s ≡ s
+literal_closed a (literal.Bool b) s own = closed_by a s ty.Bool own (replaced_bool (with_holes a))
+literal_closed a (literal.Char c) s own = closed_by a s ty.Char own (replaced_char (with_holes a))
+literal_closed a (literal.Int digits (Some suffix)) s own = closed_by a s (integer_type suffix) own (integer_closed a suffix)
+literal_closed a (literal.Int digits None) s own = absurd own
+literal_closed a literal.Other s own = absurd own
+
+-- ---- types that expressions have by themselves
+
+-- where no `_` stands in the types of the parameters, and no hole in the output of what is called
+module _ (g : Given) (inputs : (i : ℕ) (w : TypeRefId) → slice_get g.inputs i ≡ Some w → (a : Assignment) → folded a (written_type g.scope.facts.types w) ≡ written_type g.scope.facts.types w) (outputs : (e : ExprId) (σ : Signature) → CallsNonGeneric g e σ → (a : Assignment) → folded a σ.output ≡ σ.output) (a : Assignment) where
+  pub up_closed : (e : ExprId) (s : Ty) → Up g e s → folded a s ≡ s
+  up_closed m r (of_literal e l s is own) = literal_closed a l s own
+  up_closed m r (of_written e w init n none) = written_closed g.scope.facts.types w none a
+  up_closed m r (of_initializer e i s n u) = up_closed i s u
+  up_closed m r (of_parameter e i s n (w, found, is)) = closed_by a s (written_type g.scope.facts.types w) is (inputs i w found a)
+  up_closed m r (of_call e σ c) = instance_at_types a [] σ.output (outputs e σ c)
+  up_closed m r (of_unit e x n) = adt_closed a x.adt
+
+  -- what tells the type comes to it
+  pub type_kept : (e : ExprId) (t s : Ty) → Tells g e t → Up g e s → folded a t ≡ s
+  type_kept e t s tells up = ap (folded a) (tells.type s up) ∙ up_closed e s up
+
+-- ---- so it is among lawful facts
+module _ (raw : RawFacts) (law : IsLawful raw) where
+  fn_output_closed : (f : ℕ) (o : Option RawFn) (σ : Signature) → slice_get raw.fns f ≡ o → option_map (fn_signature raw.types) o ≡ Some σ → (a : Assignment) → folded a σ.output ≡ σ.output
+  fn_output_closed f None σ found made a = absurd (cc)
+  fn_output_closed f (Some x) σ found made a =
+      let is : fn_signature raw.types x ≡ σ = cc in
+      subst (λ (σ : Signature). folded a σ.output ≡ σ.output) is (written_closed raw.types x.output (output_has_no_hole raw law f x found) a)
+
+  by_ctor : (k : RawCtor) (n : ℕ) (x : RawVariant) (σ : Signature) → signature_by k raw.types n x ≡ Some σ → σ.params ≡ 0 → (a : Assignment) → folded a σ.output ≡ σ.output
+  by_ctor ctor.Unit n x σ made none a = absurd (cc)
+  by_ctor ctor.Record n x σ made none a = absurd (cc)
+  by_ctor ctor.Tuple n x σ made none a =
+      let count : n ≡ σ.params = cc in
+      let is : own_adt x.adt n ≡ σ.output = cc in
+      closed_by a σ.output (ty.Adt x.adt []) (sym is ∙ ap (own_adt x.adt) (count ∙ none)) (adt_closed a x.adt)
+
+  by_params : (p : Option ℕ) (x : RawVariant) (σ : Signature) → option_and_then (λ n. ctor_signature raw.types n x) p ≡ Some σ → σ.params ≡ 0 → (a : Assignment) → folded a σ.output ≡ σ.output
+  by_params None x σ made none a = absurd (cc)
+  by_params (Some n) x σ made none a = by_ctor x.ctor n x σ made none a
+
+  by_variant : (o : Option RawVariant) (σ : Signature) → option_and_then (λ x. option_and_then (λ n. ctor_signature raw.types n x) (adt_params raw x.adt)) o ≡ Some σ → σ.params ≡ 0 → (a : Assignment) → folded a σ.output ≡ σ.output
+  by_variant None σ made none a = absurd (cc)
+  by_variant (Some x) σ made none a = by_params (adt_params raw x.adt) x σ made none a
+
+  -- of an item without generic parameters
+  pub lawful_output_closed : (id : CallableDefId) (σ : Signature) → signature_of raw id ≡ Some σ → σ.params ≡ 0 → (a : Assignment) → folded a σ.output ≡ σ.output
+  lawful_output_closed (callable.FunctionId f) σ made none a = fn_output_closed f.0 (slice_get raw.fns f.0) σ refl made a
+  lawful_output_closed (callable.VariantId v) σ made none a = by_variant (slice_get raw.variants v.0) σ made none a
+
+pub lawful_outputs : (g : Given) → IsLawful g.scope.facts → (e : ExprId) (σ : Signature) → CallsNonGeneric g e σ → (a : Assignment) → folded a σ.output ≡ σ.output
+lawful_outputs g law e σ c a = lawful_output_closed g.scope.facts law c.item σ c.signature c.non_generic a
+
+pub lawful_inputs : (raw : RawFacts) → IsLawful raw → (d : DefWithBodyId) (i : ℕ) (w : TypeRefId) → slice_get (inputs_of raw d) i ≡ Some w → (a : Assignment) → folded a (written_type raw.types w) ≡ written_type raw.types w
+lawful_inputs raw law d i w found a = written_closed raw.types w (definition_input_has_no_hole raw law d i w found) a

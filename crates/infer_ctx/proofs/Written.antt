@@ -1,0 +1,99 @@
+-- Written types of lawful facts are of carried kinds, and in scope where they stand.
+use Rattle.std.proofs.Common.{ℕ, zero, suc, ◌<◌, ◌≡◌, arith, IsTrue, refl, sym, ap, subst, ◌∙◌, true≢false, List, [], ◌∷◌, map, Option, Some, slice_get, option_and_then, None}
+use Rattle.std.proofs.lemmas.Bool.{lt-ltb}
+use Rattle.std.proofs.lemmas.List.{length-map}
+use Rattle.hir_types.specs.declared.ids.TypeRefId.{TypeRefId}
+use Rattle.hir_types.specs.declared.ty.GenericArg.{GenericArg}
+use Rattle.hir_types.specs.declared.ty.Ty.{Ty}
+use Rattle.hir_types.specs.Folds.{map_twice}
+use Rattle.hir_types.specs.declared.ids.BodyId.{BodyId}
+use Rattle.hir_types.specs.declared.ids.FunctionId.{FunctionId}
+use Rattle.hir_types.specs.declared.ids.DefWithBodyId.{DefWithBodyId}
+use Rattle.hir_types.specs.declared.ty.GenericArg.TheVariants as arg
+use Rattle.hir_types.specs.declared.ty.Ty.TheVariants as ty
+use Rattle.hir_types.specs.declared.ids.DefWithBodyId.TheVariants as def
+use Rattle.hir_facts.specs.declared.raw.RawFacts.{RawFacts}
+use Rattle.hir_facts.specs.declared.raw.RawType.{RawType}
+use Rattle.hir_facts.specs.CarriedTypes.{written_carried, carried_param}
+use Rattle.hir_facts.specs.LawfulFacts.{type_ids, types_carried}
+use Rattle.hir_facts.specs.Laws.Lawful.{IsLawful}
+use Rattle.hir_facts.specs.Scope.{Scope, adt_params, has_params, params_of, scope_of}
+use Rattle.hir_facts.specs.Types.{type_parts, written_type, filled_by, filled_within, filled_type, StandsIn, is_itself, in_part}
+use Rattle.hir_facts.specs.Filled.{filled_written}
+use Rattle.hir_facts.specs.Laws.Standing.{HasNoHole}
+use Rattle.hir_facts.specs.WrittenFits.{FitsUnder, OwnFits, own_fits, parts_fit, return_fits}
+use Rattle.hir_facts.specs.declared.raw.RawFn.{RawFn}
+use Rattle.hir_facts.specs.Bodies.{output_by, body_id_of, return_type}
+use Rattle.hir_facts.specs.NoHoles.{output_has_no_hole}
+use Rattle.hir_facts.specs.declared.raw.RawType.TheVariants as type
+use Rattle.hir_facts.specs.Laws.Carried as laws
+use Rattle.infer_table.specs.Table.{State, new_state}
+use Rattle.infer_ctx.specs.Fine.{HasFineHeads, IsFine, IsWritten}
+use Rattle.infer_ctx.proofs.Lists.{found}
+use Rattle.infer_ctx.proofs.FineTypes.{AllFine, heads_param, fine_bool, fine_char, fine_integer, fine_tuple, fine_adt}
+use Rattle.infer_ctx.proofs.OverTypes.{carried_fine}
+
+module _ (raw : RawFacts) (law : IsLawful raw) (count : ℕ) where
+  abbrev Here : Scope
+  Here = record { facts = raw; params = count }
+
+  module _ (state : State) (h : ℕ → Ty) where
+    abbrev Good : Ty → Type 0
+    Good t = IsFine Here state t
+
+    -- what each `_` in the type stands for is fine
+    abbrev AreGood : ℕ → Type 0
+    AreGood i = (k : ℕ) → StandsIn raw.types k i → Good (h k)
+
+    filled_parts : (f : ℕ → Ty) (ts : List TypeRefId) → ((k : ℕ) (t : TypeRefId) → slice_get ts k ≡ Some t → Good (f t.0)) → AllFine Here state (map (λ t. f t.0) ts)
+    filled_parts f [] each = tt
+    filled_parts f (t ∷ ts) each = (each 0 t refl, filled_parts f ts (λ k u e. each (suc k) u e))
+
+    filled_by_fine : (i : ℕ) (f : ℕ → Ty) (x : RawType) → slice_get raw.types i ≡ Some x → AreGood i → OwnFits raw count x → IsTrue (laws.is_carried_type x) → ((k : ℕ) (t : TypeRefId) → slice_get (type_parts x) k ≡ Some t → Good (f t.0)) → Good (filled_by (h i) f (Some x))
+    filled_by_fine i f type.Bool at good o c each = fine_bool Here state
+    filled_by_fine i f type.Char at good o c each = fine_char Here state
+    filled_by_fine i f (type.Integer n) at good o c each = fine_integer Here state n
+    filled_by_fine i f (type.Tuple ts) at good o c each = fine_tuple Here state (map (λ t. f t.0) ts) (filled_parts f ts each)
+    filled_by_fine i f (type.Adt a ts) at good o c each =
+        let us : List Ty = map (λ t. f t.0) ts in
+        let P : List GenericArg → Type 0 = λ xs. Good (ty.Adt a xs) in
+        subst P (map_twice arg.Ty (λ (t : TypeRefId). f t.0) ts) (fine_adt Here state a us (ap (has_params (adt_params raw a)) (length-map ts (λ (t : TypeRefId). f t.0)) ∙ o) (filled_parts f ts each))
+    filled_by_fine i f (type.Param n) at good o c each = carried_fine state Here (ty.Param n) (carried_param n) (heads_param Here n (lt-ltb n count o))
+    filled_by_fine i f type.Hole at good o c each = good i (is_itself at)
+    filled_by_fine i f type.Other at good o c each = absurd (true≢false (sym c))
+
+    filled_within_fine : (n i : ℕ) → i < n → FitsUnder raw count i → AreGood i → Good (filled_within h n raw.types i)
+    unfolding filled_within
+    filled_within_fine zero i lt k good = absurd (omega arith)
+    filled_within_fine (suc n) i lt k good =
+        let x = found raw.types i k.within in
+        let P : Option RawType → Type 0 = λ o. Good (filled_by (h i) (filled_within h n raw.types) o) in
+        subst P (sym x.1) (filled_by_fine i (filled_within h n raw.types) x.0 x.1 good (own_fits raw law count i x.0 x.1 k) (types_carried raw law i x.0 x.1) (λ j t e.
+        (let less : t.0 < i = (type_ids raw law i x.0 x.1) j t e in
+        filled_within_fine n t.0 (omega (arith, less, lt)) (parts_fit raw law count i x.0 x.1 k j t e) (λ m below. good m (in_part i x.0 j t x.1 e below)))))
+
+    -- the type is fine where what each `_` in it stands for is
+    pub filled_fine : (w : TypeRefId) → FitsUnder raw count w.0 → AreGood w.0 → IsFine Here state (filled_type h raw.types w)
+    filled_fine w fits good = filled_within_fine (suc w.0) w.0 (omega arith) fits good
+
+  -- a type without `_`
+  pub written_heads : (w : TypeRefId) → FitsUnder raw count w.0 → HasNoHole raw.types w → HasFineHeads Here (written_type raw.types w)
+  written_heads w fits none =
+      subst (HasFineHeads Here) (filled_written (λ k. ty.Bool) raw.types w none) (filled_fine new_state (λ k. ty.Bool) w fits (λ k stands. fine_bool Here new_state)).heads
+
+  pub is_written : (w : TypeRefId) → FitsUnder raw count w.0 → HasNoHole raw.types w → IsWritten Here w
+  is_written w fits none = record { within = fits.within; carried = written_carried raw.types w none; heads = written_heads w fits none }
+
+pub written_fine : (sc : Scope) (state : State) (w : TypeRefId) → IsWritten sc w → IsFine sc state (written_type sc.facts.types w)
+written_fine sc state w h = carried_fine state sc (written_type sc.facts.types w) h.carried h.heads
+
+-- ---- what a definition gives
+fn_heads : (raw : RawFacts) → IsLawful raw → (f : FunctionId) (o : Option RawFn) (i : BodyId) → slice_get raw.fns f.0 ≡ o → option_and_then (λ x. x.body) o ≡ Some i → HasFineHeads (scope_of raw (def.FunctionId f)) (output_by raw o)
+fn_heads raw law f None i e h = absurd (cc)
+fn_heads raw law f (Some x) i e h = written_heads raw law (params_of raw (def.FunctionId f)) x.output (return_fits raw law f x e) (output_has_no_hole raw law f.0 x e)
+
+pub output_heads : (raw : RawFacts) → IsLawful raw → (d : DefWithBodyId) (i : BodyId) → body_id_of raw d ≡ Some i → HasFineHeads (scope_of raw d) (return_type raw d)
+output_heads raw law (def.FunctionId f) i h = fn_heads raw law f (slice_get raw.fns f.0) i refl h
+output_heads raw law (def.ConstId c) i h = absurd (cc)
+output_heads raw law (def.StaticId s) i h = absurd (cc)
+output_heads raw law (def.VariantId v) i h = absurd (cc)

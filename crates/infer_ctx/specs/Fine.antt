@@ -1,0 +1,66 @@
+-- Types that the walk may have in hand, and what is sound to have found out.
+use Rattle.std.specs.Prelude.{ℕ, Option, option_map, ◌==◌, ◌&&◌, nat_lt, true, false, Some, None, List, [], ◌∷◌, ◌<◌, length}
+use Rattle.hir_types.specs.declared.ids.CallableDefId.{CallableDefId}
+use Rattle.hir_types.specs.declared.ty.Ty.{Ty}
+use Rattle.hir_types.specs.Terms.{term}
+use Rattle.hir_types.specs.declared.ids.TypeRefId.{TypeRefId}
+use Rattle.hir_types.specs.declared.head.Head.TheVariants as head
+use Rattle.hir_facts.specs.declared.raw.RawFacts.{RawFacts}
+use Rattle.hir_facts.specs.Signatures.{signature_of}
+use Rattle.hir_facts.specs.Scope.{Scope, adt_params, has_params}
+use Rattle.hir_facts.specs.CarriedTypes.{IsCarriedType}
+use Rattle.hir_facts.specs.Types.{written_type}
+use Rattle.infer_table.specs.Preserved.{Shape, whole, IsMadeOf}
+use Rattle.infer_table.specs.Table.{State, HolesAreOf}
+use Rattle.infer_table.specs.declared.waiting.WaitingPair.{WaitingPair}
+use Rattle.infer_result.specs.declared.result.TypeMismatch.{TypeMismatch}
+use Rattle.infer_result.specs.Table.{At}
+
+-- how many parameters a function has, or a constructor that takes fields
+abbrev pub item_params : RawFacts → CallableDefId → Option ℕ
+item_params facts id = option_map (λ σ. σ.params) (signature_of facts id)
+
+-- The heads of the types that the walk makes, and over how many parts: neither `{unknown}` nor an alias is among them,
+-- adts and items that can be called have as many arguments as parameters, and parameters are in scope.
+abbrev pub is_fine_head : Scope → Shape
+is_fine_head sc head.Bool n = n == 0
+is_fine_head sc head.Char n = n == 0
+is_fine_head sc (head.Int i) n = n == 0
+is_fine_head sc (head.Uint i) n = n == 0
+is_fine_head sc head.Tuple n = true
+is_fine_head sc (head.Adt id) n = has_params (adt_params sc.facts id) n
+is_fine_head sc (head.FnDef id) n = has_params (item_params sc.facts id) n
+is_fine_head sc (head.Param i) n = n == 0 && nat_lt i sc.params
+is_fine_head sc _ n = false
+
+abbrev pub HasFineHeads : Scope → Ty → Type 0
+HasFineHeads sc t = IsMadeOf (is_fine_head sc) whole (term t)
+
+-- these heads alone stand in the type, and holes that the table made
+pub record IsFine (sc : Scope) (state : State) (t : Ty) : Type 0 where
+  pub holes : HolesAreOf state t
+  pub heads : HasFineHeads sc t
+
+abbrev pub IsFineExpectation : Scope → State → Option Ty → Type 0
+IsFineExpectation sc state None = Unit {0}
+IsFineExpectation sc state (Some t) = IsFine sc state t
+
+-- the type is of carried kinds without `{unknown}`, and in scope
+pub record IsKnown (sc : Scope) (t : Ty) : Type 0 where
+  pub carried : IsCarriedType t
+  pub heads : HasFineHeads sc t
+
+-- both types of each pair that waits are fine
+abbrev pub AreFinePairs : Scope → State → List WaitingPair → Type 0
+AreFinePairs sc state [] = Unit {0}
+AreFinePairs sc state (p ∷ ps) = (IsFine sc state p.source × IsFine sc state p.target) × AreFinePairs sc state ps
+
+-- both types of what is asked of each expression are fine
+abbrev pub IsFineAsked : Scope → State → List (Option TypeMismatch) → Type 0
+IsFineAsked sc state xs = (n : ℕ) (m : TypeMismatch) → At xs n m → IsFine sc state m.expected × IsFine sc state m.actual
+
+-- the written type is one of the facts', and stands for a type of carried kinds without `{unknown}`, in scope
+pub record IsWritten (sc : Scope) (w : TypeRefId) : Type 0 where
+  pub within : w.0 < length sc.facts.types
+  pub carried : IsCarriedType (written_type sc.facts.types w)
+  pub heads : HasFineHeads sc (written_type sc.facts.types w)

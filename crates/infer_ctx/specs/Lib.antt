@@ -1,0 +1,11 @@
+pub mod Writes
+pub mod Said
+pub mod Found
+pub mod Context
+pub mod Walks
+pub mod Fine
+pub mod Tells
+pub mod Closings
+pub mod Under
+pub mod Steps
+pub mod Callables

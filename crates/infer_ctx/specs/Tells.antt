@@ -1,0 +1,39 @@
+-- What a type in hand says of an expression that has a type, or an outermost part, by itself.
+use Rattle.std.specs.Prelude.{◌≡◌, slice_get, Some, ℕ, Option, None}
+use Rattle.hir_types.specs.declared.ids.ExprId.{ExprId}
+use Rattle.hir_types.specs.declared.ty.Ty.{Ty}
+use Rattle.hir_types.specs.declared.ids.BindingId.{BindingId}
+use Rattle.hir_types.specs.declared.ids.PatId.{PatId}
+use Rattle.hir_types.specs.declared.ids.TypeRefId.{TypeRefId}
+use Rattle.hir_facts.specs.Order.{Binds}
+use Rattle.hir_facts.specs.Types.{filled_type}
+use Rattle.hir_facts.specs.declared.raw.RawExpr.TheVariants as expr
+use Rattle.hir_facts.specs.declared.raw.RawPath.TheVariants as path
+use Rattle.infer_result.specs.Places.{Given}
+use Rattle.infer_result.specs.Upward.{Up}
+use Rattle.infer_result.specs.Heads.{Outermost, HasHead, HeadOf}
+use Rattle.infer_result.specs.declared.result.InferenceResult.{InferenceResult}
+use Rattle.infer_result.specs.Table.{BindingTy}
+
+-- the type in hand is the one that the expression has by itself, or has its head
+pub record Tells (g : Given) (e : ExprId) (t : Ty) : Type 0 where
+  pub type : (s : Ty) → Up g e s → t ≡ s
+  pub head : (h : Outermost) → HeadOf g e h → HasHead t h
+
+-- so it is of each path to the binding
+abbrev pub TellsBinding : Given → BindingId → Ty → Type 0
+TellsBinding g v t = (e : ExprId) → slice_get g.body.exprs e.0 ≡ Some (expr.Path (path.Local v)) → Tells g e t
+
+-- of each path to what the pattern binds
+abbrev pub TellsBound : Given → PatId → Ty → Type 0
+TellsBound g p t = (v : BindingId) → Binds g.body p v → TellsBinding g v t
+
+-- of each path to a binding of which a type is recorded
+abbrev pub TellsRecorded : Given → InferenceResult → Type 0
+TellsRecorded g r = (v : BindingId) (t : Ty) → BindingTy r v t → TellsBinding g v t
+
+-- what the type of an initializer, or of a `let` without one, says of its pattern
+abbrev pub TellsLet : Given → Option TypeRefId → Option ExprId → Ty → Type 0
+TellsLet g (Some w) init t = (h : ℕ → Ty) × (t ≡ filled_type h g.scope.facts.types w)
+TellsLet g None (Some e) t = Tells g e t
+TellsLet g None None t = Unit {0}

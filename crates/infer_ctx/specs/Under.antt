@@ -1,0 +1,120 @@
+-- What each function of the walk is given, and what it does, under one assignment of types to holes.
+use Rattle.std.specs.Prelude.{ℕ, ◌≡◌, slice_get, Some, ◌⊎◌, Option, ◌<◌, ◌^◌, List, length, None, ◌+◌}
+use Rattle.hir_types.specs.declared.ids.CallableDefId.{CallableDefId}
+use Rattle.hir_types.specs.declared.ty.Ty.{Ty}
+use Rattle.hir_types.specs.declared.ids.VariantId.{VariantId}
+use Rattle.hir_types.specs.declared.ids.ExprId.{ExprId}
+use Rattle.hir_types.specs.declared.ids.FunctionId.{FunctionId}
+use Rattle.hir_types.specs.declared.ids.PatId.{PatId}
+use Rattle.hir_types.specs.declared.ids.TypeRefId.{TypeRefId}
+use Rattle.hir_types.specs.declared.ids.CallableDefId.TheVariants as callable
+use Rattle.hir_facts.specs.declared.raw.RawFacts.{RawFacts}
+use Rattle.hir_facts.specs.Scope.{Scope, callable_params, adt_params}
+use Rattle.hir_facts.specs.Signatures.{Signature, signature_of, field_types}
+use Rattle.hir_facts.specs.declared.raw.RawVariant.{RawVariant}
+use Rattle.hir_facts.specs.WrittenFits.{FitsUnder}
+use Rattle.hir_facts.specs.Order.{stmt_at, end, the_body, Node, Part, IsNode, part_at, Fits}
+use Rattle.hir_facts.specs.declared.schedule.Schedule.{Schedule}
+use Rattle.hir_facts.specs.Bodies.{IsWalkable}
+use Rattle.hir_facts.specs.declared.raw.RawBody.{RawBody}
+use Rattle.hir_facts.specs.CarriedTypes.{IsCarriedType}
+use Rattle.hir_facts.specs.declared.raw.RawCtor.TheVariants as ctor
+use Rattle.hir_facts.specs.declared.raw.RawExpr.TheVariants as expr
+use Rattle.hir_facts.specs.declared.raw.RawPath.TheVariants as path
+use Rattle.hir_facts.specs.declared.raw.RawStmt.TheVariants as stmt
+use Rattle.infer_result.specs.Closed.{NamesVariant, IsVariantPat}
+use Rattle.infer_result.specs.Places.{Given, IsAtOrMismatch}
+use Rattle.infer_result.specs.Table.{HasTy}
+use Rattle.infer_result.specs.declared.result.InferenceResult.{InferenceResult}
+use Rattle.infer_result.specs.Rules.Expressions.{ObeysOrMismatch}
+use Rattle.infer_ctx.specs.Fine.{IsKnown, IsWritten}
+use Rattle.infer_ctx.specs.Found.{Found}
+use Rattle.infer_ctx.specs.Context.{IsCarriedExpectation}
+use Rattle.infer_ctx.specs.Walks.{IsWalked, expr_start, Walks, Owed, expr_end, Extends, PaidBy}
+
+-- the scope of an item with so many parameters
+abbrev pub own_scope : RawFacts → ℕ → Scope
+own_scope facts n = record { facts = facts; params = n }
+
+-- the function or constructor exists, and what its signature is written with is in its own scope
+pub record IsItem (facts : RawFacts) (id : CallableDefId) : Type 0 where
+  pub signature : Signature
+  pub found : signature_of facts id ≡ Some signature
+  pub count : callable_params facts id ≡ Some signature.params
+  pub inputs : (k : ℕ) (t : Ty) → slice_get signature.inputs k ≡ Some t → IsKnown (own_scope facts signature.params) t
+  pub output : IsKnown (own_scope facts signature.params) signature.output
+
+-- the variant exists, its fields have no names, and what they are written with is in its adt's scope
+pub record IsVariant (facts : RawFacts) (v : VariantId) : Type 0 where
+  pub variant : RawVariant
+  pub found : slice_get facts.variants v.0 ≡ Some variant
+  pub params : ℕ
+  pub count : adt_params facts variant.adt ≡ Some params
+  pub fields : (k : ℕ) (t : Ty) → slice_get (field_types facts.types variant) k ≡ Some t → IsKnown (own_scope facts params) t
+  pub unnamed : (variant.ctor ≡ ctor.Unit) ⊎ (variant.ctor ≡ ctor.Tuple)
+
+-- each type that a `let` of the body or a parameter is written with is one of the facts', each function and constructor that is
+-- named exists, and so does each item that has a signature
+pub record WrittenExist (g : Given) : Type 0 where
+  pub lets : (e : ExprId) (i : ℕ) (p : PatId) (w : TypeRefId) (init other : Option ExprId) → stmt_at g.body e i ≡ Some (stmt.Let p (Some w) init other) → FitsUnder g.scope.facts g.scope.params w.0
+  pub inputs : (i : ℕ) (w : TypeRefId) → slice_get g.inputs i ≡ Some w → IsWritten g.scope w
+  pub functions : (e : ExprId) (f : FunctionId) → slice_get g.body.exprs e.0 ≡ Some (expr.Path (path.Function f)) → IsItem g.scope.facts (callable.FunctionId f)
+  pub constructors : (e : ExprId) (v : VariantId) → NamesVariant g.body e v → IsVariant g.scope.facts v
+  pub patterns : (p : PatId) (v : VariantId) → IsVariantPat g.body p v → IsVariant g.scope.facts v
+  pub items : (id : CallableDefId) (σ : Signature) → signature_of g.scope.facts id ≡ Some σ → IsItem g.scope.facts id
+
+-- the laws of the body, and room for the clock
+pub record IsReady (g : Given) (s : Schedule) : Type 0 where
+  pub law : IsWalkable g.body s
+  pub written : WrittenExist g
+  pub room : end g.body s the_body < 2 ^ 64
+
+-- the parts ps of the node n come one after another, the first with the number `from`
+pub record LieAhead (b : RawBody) (s : Schedule) (n : Node) (from : ℕ) (ps : List Part) : Type 0 where
+  pub node_is : IsNode b n
+  pub fit : Fits b s from ps
+  pub stand : (k : ℕ) (p : Part) → slice_get ps k ≡ Some p → (j : ℕ) × (part_at b n j ≡ Some p)
+
+-- ---- expressions
+
+-- the walk comes to the expression e, of which x is expected
+pub record ComesTo (g : Given) (s : Schedule) (e : ExprId) (x : Option Ty) (c : Found) : Type 0 where
+  pub ready : IsReady g s
+  pub state : IsWalked g s c
+  pub within : e.0 < length g.body.exprs
+  pub here : expr_start g.body s e ≡ c.clock
+  pub expected : IsCarriedExpectation x
+
+-- the expression has the type t; where something else is expected, nothing is said of that yet
+pub record OwnWalked (g : Given) (s : Schedule) (e : ExprId) (x : Option Ty) (t : Ty) (old new : Found) : Type 0 where
+  pub walks : Walks g s (Owed e x) old new
+  pub clock : new.clock ≡ expr_end g.body s e
+  pub type_is : HasTy new.result e t
+
+-- the expression is at the type t, which is the expected one where one is
+abbrev pub IsPlaced : InferenceResult → ExprId → Option Ty → Ty → Type 0
+IsPlaced r e None t = HasTy r e t
+IsPlaced r e (Some u) t = (t ≡ u) × IsAtOrMismatch r e u
+
+pub record CoerceWalked (g : Given) (s : Schedule) (e : ExprId) (x : Option Ty) (t : Ty) (old new : Found) : Type 0 where
+  pub walks : Walks g s (Owed e x) old new
+  pub clock : new.clock ≡ expr_end g.body s e
+  pub placed : IsPlaced new.result e x t
+
+-- ---- the kinds of expressions
+
+-- the walk has come to the expression e, whose parts lie ahead
+pub record IsInside (g : Given) (s : Schedule) (e : ExprId) (x : Option Ty) (c : Found) : Type 0 where
+  pub ready : IsReady g s
+  pub state : IsWalked g s c
+  pub within : e.0 < length g.body.exprs
+  pub clock : c.clock ≡ expr_start g.body s e + 1
+  pub expected : IsCarriedExpectation x
+
+-- Everything is done at the expression, but that its type t is to be recorded: its rule holds and
+-- what is owed is paid as soon as it is, or by its place.
+pub record KindWalked (g : Given) (s : Schedule) (e : ExprId) (x : Option Ty) (t : Ty) (old new : Found) : Type 0 where
+  pub walks : Walks g s (PaidBy g e x t) old new
+  pub clock : new.clock ≡ expr_end g.body s e
+  pub carried : IsCarriedType t
+  pub rule : (r : InferenceResult) → Extends new.result r → HasTy r e t → ObeysOrMismatch g r e

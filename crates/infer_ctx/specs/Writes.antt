@@ -1,0 +1,104 @@
+-- What is recorded in a table, write by write.
+use Rattle.std.specs.Prelude.{ℕ, List, [], length, map, replicate, slice_get, slice_set, Option, Some, None}
+use Rattle.hir_types.specs.declared.ids.ExprId.{ExprId}
+use Rattle.hir_types.specs.declared.ids.PatId.{PatId}
+use Rattle.hir_types.specs.declared.ids.BindingId.{BindingId}
+use Rattle.hir_types.specs.declared.ids.VariantId.{VariantId}
+use Rattle.hir_types.specs.declared.ty.Ty.{Ty}
+use Rattle.hir_facts.specs.declared.raw.RawType.{RawType}
+use Rattle.hir_facts.specs.declared.raw.RawPath.{RawPath}
+use Rattle.hir_facts.specs.declared.raw.RawPath.TheVariants as path
+use Rattle.hir_facts.specs.declared.raw.RawExpr.{RawExpr}
+use Rattle.hir_facts.specs.declared.raw.RawExpr.TheVariants as expr
+use Rattle.hir_facts.specs.declared.raw.RawPat.{RawPat}
+use Rattle.hir_facts.specs.declared.raw.RawPat.TheVariants as pat
+use Rattle.hir_facts.specs.declared.raw.RawBody.{RawBody}
+use Rattle.infer_result.specs.declared.modes.BindingMode.{BindingMode}
+use Rattle.infer_result.specs.declared.result.InferenceResult.{InferenceResult}
+use Rattle.infer_result.specs.declared.result.TypeMismatch.{TypeMismatch}
+use Rattle.infer_result.specs.declared.diagnostics.InferenceDiagnostic.{InferenceDiagnostic}
+
+-- the variant whose constructor is named
+abbrev pub path_variant : RawPath → Option VariantId
+path_variant (path.Ctor v) = Some v
+path_variant (path.Local v) = None
+path_variant (path.Function f) = None
+path_variant path.Other = None
+
+abbrev pub expr_variant : RawExpr → Option VariantId
+expr_variant (expr.Path p) = path_variant p
+expr_variant (expr.Lit l) = None
+expr_variant (expr.Block label stmts last) = None
+expr_variant (expr.Tuple es) = None
+expr_variant (expr.If c first other) = None
+expr_variant (expr.Match e arms) = None
+expr_variant (expr.Call f args) = None
+expr_variant expr.Other = None
+
+abbrev pub pat_variant : RawPat → Option VariantId
+pat_variant (pat.TupleStruct v ps) = Some v
+pat_variant (pat.Path p) = path_variant p
+pat_variant pat.Wild = None
+pat_variant (pat.Bind v sub) = None
+pat_variant (pat.Tuple ps) = None
+pat_variant (pat.Lit e) = None
+pat_variant pat.Other = None
+
+-- what is noted at n, where nothing is there yet: the first one stays
+abbrev pub noted_where : {A : Type 0} → Option (Option A) → List (Option A) → ℕ → A → List (Option A)
+noted_where None xs n m = xs
+noted_where (Some None) xs n m = slice_set xs n (Some m)
+noted_where (Some (Some x)) xs n m = xs
+
+abbrev pub noted : {A : Type 0} → List (Option A) → ℕ → A → List (Option A)
+noted xs n m = noted_where (slice_get xs n) xs n m
+
+-- nothing is recorded yet, but what constructors are named
+abbrev pub nothing : List RawType → RawBody → InferenceResult
+nothing types b = record {
+  type_of_expr = replicate (length b.exprs) None;
+  type_of_pat = replicate (length b.pats) None;
+  type_of_binding = replicate (length b.bindings) None;
+  type_of_placeholder = replicate (length types) None;
+  binding_modes = replicate (length b.pats) None;
+  expr_mismatches = replicate (length b.exprs) None;
+  expr_diagnostics = replicate (length b.exprs) None;
+  pat_mismatches = replicate (length b.pats) None;
+  pat_diagnostics = replicate (length b.pats) None;
+  expr_variants = map expr_variant b.exprs;
+  pat_variants = map pat_variant b.pats;
+  seen = [];
+  general = None;
+}
+
+abbrev pub expr_ty : InferenceResult → ExprId → Ty → InferenceResult
+expr_ty r e t = record r { type_of_expr = slice_set r.type_of_expr e.0 (Some t) }
+
+-- the mismatch at the expression
+abbrev pub expr_mismatch : InferenceResult → ExprId → TypeMismatch → InferenceResult
+expr_mismatch r e m = record r { expr_mismatches = noted r.expr_mismatches e.0 m }
+
+-- the mismatch at the pattern
+abbrev pub pat_mismatch : InferenceResult → PatId → TypeMismatch → InferenceResult
+pat_mismatch r p m = record r { pat_mismatches = noted r.pat_mismatches p.0 m }
+
+-- the complaint, other than a mismatch, at the expression
+abbrev pub expr_diagnostic : InferenceResult → ExprId → InferenceDiagnostic → InferenceResult
+expr_diagnostic r e x = record r { expr_diagnostics = noted r.expr_diagnostics e.0 x }
+
+-- the complaint, other than a mismatch, at the pattern
+abbrev pub pat_diagnostic : InferenceResult → PatId → InferenceDiagnostic → InferenceResult
+pat_diagnostic r p x = record r { pat_diagnostics = noted r.pat_diagnostics p.0 x }
+
+abbrev pub pat_ty : InferenceResult → PatId → Ty → InferenceResult
+pat_ty r p t = record r { type_of_pat = slice_set r.type_of_pat p.0 (Some t) }
+
+abbrev pub mode : InferenceResult → PatId → BindingMode → InferenceResult
+mode r p m = record r { binding_modes = slice_set r.binding_modes p.0 (Some m) }
+
+abbrev pub binding_ty : InferenceResult → BindingId → Ty → InferenceResult
+binding_ty r v t = record r { type_of_binding = slice_set r.type_of_binding v.0 (Some t) }
+
+-- the `_` that is type k stands for t
+abbrev pub placeholder_ty : InferenceResult → ℕ → Ty → InferenceResult
+placeholder_ty r k t = record r { type_of_placeholder = slice_set r.type_of_placeholder k (Some t) }

@@ -1,0 +1,193 @@
+//! What inference of a body reads.
+ghost use Rattle.std.specs.Prelude.{◌≡◌, ◌<◌, IfOk, List, Some, length, map, slice_get};
+ghost use Rattle.hir_facts.specs.Types.{written_type};
+ghost use Rattle.hir_facts.specs.declared.raw.RawFn.{RawFn};
+ghost use Rattle.hir_facts.specs.declared.raw.RawVariant.{RawVariant};
+ghost use Rattle.hir_types.specs.declared.ty.Ty.TheVariants as ty;
+ghost use Rattle.infer_ctx.specs.Callables.{written_at, field_at, IsFnSig, IsCtorSig, IsCallableItem, IsSigOfItem, ItemsAreCallable, IsSigIfItem};
+
+use hir_facts::{
+    DefWithBodyId, Facts, FunctionId, List, RawBody, Schedule, Ty, TypeRefId, VariantId, lower_ty,
+};
+use hir_types::{CallableDefId, GenericArg, instantiate};
+use std::alloc::{AllocError, Global};
+
+/// A body among its facts: what `infer.rs`'s `InferenceContext` reads of its `db`, its `owner`, its
+/// `body` and its `return_ty`.
+#[derive(Clone, Copy)]
+pub struct GivenBody<'a> {
+    /// The lawful facts that the body stands among.
+    pub facts: &'a Facts,
+    /// The definition whose body it is.
+    pub owner: DefWithBodyId,
+    /// The expressions, patterns and bindings that are typed.
+    pub body: &'a RawBody,
+    /// The order in which the walk comes to the nodes of the body.
+    pub schedule: &'a Schedule,
+    /// The written types of the parameters.
+    pub inputs: &'a [TypeRefId],
+    /// The type that the body is typed against.
+    pub return_ty: &'a Ty,
+}
+
+/// What a callable item takes and gives.
+#[derive(Drop)]
+pub struct CallableSig {
+    /// The types of its arguments.
+    pub inputs: List<Ty>,
+    /// The type of a call of it.
+    pub output: Ty,
+}
+
+/// An equal copy.
+fn dup_arg(alloc: Global, arg: &GenericArg) -> Result<GenericArg, AllocError>
+    ensures { IfOk result (λ copy. copy ≡ arg.now) }
+{
+    match arg {
+        GenericArg::Ty(ty) => Ok(GenericArg::Ty(ty.dup(alloc)?)),
+        GenericArg::Const(value) => Ok(GenericArg::Const(*value)),
+    }
+}
+
+/// Equal copies of arguments.
+fn dup_args(alloc: Global, args: &List<GenericArg>) -> Result<List<GenericArg>, AllocError>
+    ensures { IfOk result (λ copies. copies ≡ args.now) }
+{
+    let mut copies = List::new(alloc);
+    for arg in args.as_slice() {
+        copies.push(dup_arg(alloc, arg)?)?;
+    }
+    Ok(copies)
+}
+
+impl GivenBody<'_> {
+    /// The type that a written type stands for in which no `_` stands: `hir-ty`'s `lower_ty`.
+    pub fn lower_ty(&self, alloc: Global, type_ref: TypeRefId) -> Result<Ty, AllocError>
+        requires { type_ref.0 < length self.now.facts.now.types }
+        ensures { IfOk result (λ ty. ty ≡ written_type self.now.facts.now.types type_ref) }
+    {
+        lower_ty(alloc, self.facts, type_ref)
+    }
+
+    /// What the item of this type takes and gives; `None` where the type is no item's: `infer/unify.rs`,
+    /// `callable_sig`.
+    pub fn callable_sig(
+        &self,
+        alloc: Global,
+        callee_ty: &Ty,
+    ) -> Result<Option<CallableSig>, AllocError>
+        requires { ItemsAreCallable self.now.facts.now callee_ty.now }
+        ensures { IfOk result (λ sig. IsSigIfItem self.now.facts.now callee_ty.now sig) }
+    {
+        match callee_ty {
+            Ty::FnDef(id, args) => {
+                let sig = self.item_sig(alloc, *id, args)?;
+                Ok(Some(sig))
+            }
+            _ => Ok(None),
+        }
+    }
+
+    /// What an item takes and gives, with these arguments in the place of its parameters.
+    fn item_sig(
+        &self,
+        alloc: Global,
+        item: CallableDefId,
+        args: &List<GenericArg>,
+    ) -> Result<CallableSig, AllocError>
+        requires { IsCallableItem self.now.facts.now (ty.FnDef item args.now) }
+        ensures { IfOk result (λ sig. IsSigOfItem self.now.facts.now (ty.FnDef item args.now) sig) }
+    {
+        match item {
+            CallableDefId::FunctionId(function) => {
+                let sig = self.fn_sig(alloc, function, args)?;
+                Ok(sig)
+            }
+            CallableDefId::VariantId(variant) => {
+                let sig = self.ctor_sig(alloc, variant, args)?;
+                Ok(sig)
+            }
+        }
+    }
+
+    /// What a constructor takes and gives, with these arguments in the place of its adt's parameters.
+    fn ctor_sig(
+        &self,
+        alloc: Global,
+        variant: VariantId,
+        args: &List<GenericArg>,
+    ) -> Result<CallableSig, AllocError>
+        requires { variant.0 < length self.now.facts.now.variants }
+        ensures { IfOk result (λ sig. (x : RawVariant) → slice_get self.now.facts.now.variants variant.0 ≡ Some x
+            → IsCtorSig self.now.facts.now.types x args.now sig) }
+    {
+        let inputs = self.field_tys(alloc, variant, args)?;
+        let output = Ty::Adt(self.facts.variant(variant).adt, dup_args(alloc, args)?);
+        Ok(CallableSig { inputs, output })
+    }
+
+    /// The types of a variant's fields, with these arguments in the place of its adt's parameters.
+    pub fn field_tys(
+        &self,
+        alloc: Global,
+        variant: VariantId,
+        args: &List<GenericArg>,
+    ) -> Result<List<Ty>, AllocError>
+        requires { variant.0 < length self.now.facts.now.variants }
+        ensures { IfOk result (λ tys. (x : RawVariant) → slice_get self.now.facts.now.variants variant.0 ≡ Some x
+            → tys ≡ map (field_at self.now.facts.now.types args.now) x.fields) }
+    {
+        let mut tys = List::new(alloc);
+        for field in self.facts.variant(variant).fields.as_slice() {
+            tys.push(self.ty_at(alloc, field.ty, args)?)?;
+        }
+        Ok(tys)
+    }
+
+    /// What a function takes and gives, with these arguments in the place of its parameters.
+    fn fn_sig(
+        &self,
+        alloc: Global,
+        function: FunctionId,
+        args: &List<GenericArg>,
+    ) -> Result<CallableSig, AllocError>
+        requires { function.0 < length self.now.facts.now.fns }
+        ensures { IfOk result (λ sig. (x : RawFn) → slice_get self.now.facts.now.fns function.0 ≡ Some x
+            → IsFnSig self.now.facts.now.types x args.now sig) }
+    {
+        let function = self.facts.fn_(function);
+        let inputs = self.tys_at(alloc, function.inputs.as_slice(), args)?;
+        let output = self.ty_at(alloc, function.output, args)?;
+        Ok(CallableSig { inputs, output })
+    }
+
+    /// What written types stand for, with these arguments in the place of parameters.
+    fn tys_at(
+        &self,
+        alloc: Global,
+        type_refs: &[TypeRefId],
+        args: &List<GenericArg>,
+    ) -> Result<List<Ty>, AllocError>
+        ensures { IfOk result (λ tys. tys ≡ map (written_at self.now.facts.now.types args.now) type_refs.now) }
+    {
+        let mut tys = List::new(alloc);
+        for type_ref in type_refs {
+            tys.push(self.ty_at(alloc, *type_ref, args)?)?;
+        }
+        Ok(tys)
+    }
+
+    /// What a written type stands for, with these arguments in the place of parameters.
+    fn ty_at(
+        &self,
+        alloc: Global,
+        type_ref: TypeRefId,
+        args: &List<GenericArg>,
+    ) -> Result<Ty, AllocError>
+        ensures { IfOk result (λ ty. ty ≡ written_at self.now.facts.now.types args.now type_ref) }
+    {
+        let ty = lower_ty(alloc, self.facts, type_ref)?;
+        let made = instantiate(alloc, &ty, args)?;
+        Ok(made)
+    }
+}

@@ -1,0 +1,13 @@
+//! What inference of a body has found out so far, what it expects, and what it reads.
+#![tactic(auto)]
+
+mod context;
+mod expectation;
+mod given;
+mod inspect;
+mod resolve_all;
+
+pub use context::InferenceContext;
+pub use expectation::Expectation;
+pub use given::{CallableSig, GivenBody};
+pub use inspect::{NoInspector, ObligationInspector};

@@ -1,0 +1,73 @@
+-- The body of a definition of lawful facts, and its return type.
+use Rattle.std.specs.Option.{option_and_then}
+use Rattle.std.proofs.Common.{◌≡◌, ap, ◌∙◌, Some, slice_get, ◌<◌, length, ℕ, inl, inr, sym, List, subst}
+use Rattle.hir_types.specs.declared.ids.BodyId.{BodyId}
+use Rattle.hir_types.specs.declared.ids.DefWithBodyId.{DefWithBodyId}
+use Rattle.hir_types.specs.declared.ids.VariantId.{VariantId}
+use Rattle.hir_types.specs.declared.ids.PatId.{PatId}
+use Rattle.hir_types.specs.declared.ids.TypeRefId.{TypeRefId}
+use Rattle.hir_types.specs.declared.ty.Ty.{Ty}
+use Rattle.hir_facts.specs.declared.raw.RawBody.{RawBody}
+use Rattle.hir_facts.specs.declared.raw.RawFacts.{RawFacts}
+use Rattle.hir_facts.specs.Bodies.{body_id_of, body_of, inputs_of, return_type, IsWalkable}
+use Rattle.hir_facts.specs.declared.raw.RawVariant.{RawVariant}
+use Rattle.hir_facts.specs.Laws.Ids.{BodyIdsExist}
+use Rattle.hir_facts.specs.Scope.{params_of, scope_of}
+use Rattle.hir_facts.specs.NoHoles.{definition_input_has_no_hole}
+use Rattle.hir_facts.specs.WrittenFits.{lets_fit, definition_inputs_fit}
+use Rattle.hir_facts.specs.LawfulFacts.{body_ids}
+use Rattle.hir_facts.specs.Walkable.{inputs_count}
+use Rattle.hir_facts.specs.Laws.Lawful.{IsLawful}
+use Rattle.hir_facts.specs.declared.schedule.Schedule.{Schedule}
+use Rattle.hir_facts.specs.declared.raw.RawPath.TheVariants as path
+use Rattle.hir_facts.specs.declared.raw.RawPat.TheVariants as pat
+use Rattle.infer_result.specs.Closed.{IsVariantPat}
+use Rattle.infer_result.specs.declared.result.InferenceResult.{InferenceResult}
+use Rattle.infer_result.specs.Places.{Given}
+use Rattle.infer_result.specs.Made.{IsMade}
+use Rattle.infer_result.specs.Derived.{typed_by_schedule}
+use Rattle.infer_result.specs.Fit.{TypesFit, SeenFit}
+use Rattle.infer_result.specs.Typed.{IsTableOf}
+use Rattle.infer_ctx.specs.Under.{WrittenExist}
+use Rattle.infer_ctx.proofs.Lists.{found}
+use Rattle.infer_ctx.proofs.Items.{named_function, named_variant, item_with}
+use Rattle.infer_ctx.proofs.Written.{is_written}
+
+pub found_body : (raw : RawFacts) (d : DefWithBodyId) (i : BodyId) (b : RawBody) → body_id_of raw d ≡ Some i → slice_get raw.bodies i.0 ≡ Some b → body_of raw d ≡ Some b
+found_body raw d i b id at = ap (λ o. option_and_then (λ k. slice_get raw.bodies k.0) o) id ∙ at
+
+-- a variant that is named is there
+variant_there : (raw : RawFacts) (v : VariantId) → v.0 < length raw.variants → (x : RawVariant) × (slice_get raw.variants v.0 ≡ Some x)
+variant_there raw v h = found raw.variants v.0 h
+
+pattern_variant : (raw : RawFacts) (i : ℕ) (b : RawBody) → BodyIdsExist raw i b → (p : PatId) (v : VariantId) → IsVariantPat b p v → v.0 < length raw.variants
+pattern_variant raw i b ids p v (inl is) = ids.pat_names p.0 (pat.Path (path.Ctor v)) is
+pattern_variant raw i b ids p v (inr is) = ids.pat_names p.0 (pat.TupleStruct v is.0) is.1
+
+module _ (raw : RawFacts) (d : DefWithBodyId) (i : BodyId) (b : RawBody) (inputs : List TypeRefId) (output : Ty) (law : IsLawful raw) (id : body_id_of raw d ≡ Some i) (at : slice_get raw.bodies i.0 ≡ Some b) (taken : inputs ≡ inputs_of raw d) where
+  pub written_exist : WrittenExist (record { scope = scope_of raw d; body = b; inputs = inputs; output = output })
+  written_exist = record {
+    lets = λ e k p w init other is. lets_fit raw law d b (found_body raw d i b id at) e k p w init other is;
+    inputs = λ k w is. is_written raw law (params_of raw d) w (definition_inputs_fit raw law d k w (ap (λ ws. slice_get ws k) (sym taken) ∙ is)) (definition_input_has_no_hole raw law d k w (ap (λ ws. slice_get ws k) (sym taken) ∙ is));
+    functions = λ e f is. named_function raw law f ((body_ids raw law i.0 b at).functions e f is);
+    constructors = λ e v is. (let x = variant_there raw v ((body_ids raw law i.0 b at).constructors e v is) in named_variant raw law v x.0 x.1);
+    patterns = λ p v is. (let x = variant_there raw v (pattern_variant raw i.0 b (body_ids raw law i.0 b at) p v is) in named_variant raw law v x.0 x.1);
+    items = item_with raw law;
+  }
+
+  pub inputs_for_params : length inputs ≡ length b.params
+  inputs_for_params = ap (λ ws. length ws) taken ∙ inputs_count raw law d i b id at
+
+pub table_of : (raw : RawFacts) (d : DefWithBodyId) (i : BodyId) (b : RawBody) (s : Schedule) (inputs : List TypeRefId) (output : Ty) (r : InferenceResult) → body_id_of raw d ≡ Some i → slice_get raw.bodies i.0 ≡ Some b → IsWalkable b s → inputs ≡ inputs_of raw d → output ≡ return_type raw d → IsMade (record { scope = scope_of raw d; body = b; inputs = inputs; output = output }) r → TypesFit raw d r → SeenFit raw d r → IsTableOf raw d r
+table_of raw d i b s inputs output r id at law taken out made fit seen_fit = record {
+  body = b;
+  is_body = found_body raw d i b id at;
+  typed =
+      (let g : Given = record { scope = scope_of raw d; body = b; inputs = inputs_of raw d; output = return_type raw d } in
+      let m : IsMade g r =
+      subst (λ ws. IsMade (record { scope = scope_of raw d; body = b; inputs = ws; output = return_type raw d }) r) taken
+      (subst (λ t. IsMade (record { scope = scope_of raw d; body = b; inputs = inputs; output = t }) r) out made) in
+      typed_by_schedule g r s law.schedule m);
+  fit = fit;
+  seen_fit = seen_fit;
+}

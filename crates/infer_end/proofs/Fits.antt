@@ -1,0 +1,127 @@
+-- What is typed in a scope names in the end what there is.
+use Rattle.std.specs.List.{list_all}
+use Rattle.std.proofs.Common.{◌≡◌, ap, ◌∙◌, Bool, true, ◌&&◌, ℕ, refl, Option, Some, None, option_map, length, List, [], ◌∷◌, map, sym, inl, inr}
+use Rattle.std.proofs.lemmas.List.{length-map}
+use Rattle.hir_types.specs.declared.ids.CallableDefId.{CallableDefId}
+use Rattle.hir_types.specs.declared.ty.Ty.{Ty}
+use Rattle.hir_types.specs.Folding.{replaced_bool, replaced_char, replaced_int, replaced_uint, replaced_tuple, replaced_param, replaced_var, replaced_int_var, folded_itself}
+use Rattle.hir_types.specs.Subst.{Assignment, with_holes, folded, each_itself}
+use Rattle.hir_types.specs.declared.ty.Ty.TheVariants as ty
+use Rattle.hir_types.specs.declared.head.Hole.TheVariants as hole_of
+use Rattle.hir_types.specs.declared.ty.IntTy.TheVariants as int
+use Rattle.hir_facts.specs.Scope.{has_params, callable_params, Scope, adt_params}
+use Rattle.hir_facts.specs.declared.raw.RawFacts.{RawFacts}
+use Rattle.hir_facts.specs.Signatures.{Signature, signature_of, type_args}
+use Rattle.hir_facts.specs.Fit.{ty_fits, arg_fits}
+use Rattle.hir_facts.specs.Fitting.{ty_fits_bool, ty_fits_char, ty_fits_int, ty_fits_uint, ty_fits_tuple, ty_fits_adt, ty_fits_fndef, ty_fits_param, arg_fits_ty, ty_fits_var, ty_fits_intvar, ty_fits_error}
+use Rattle.infer_table.specs.Completion.{completion, fallback}
+use Rattle.infer_table.specs.Resolution.{resolution}
+use Rattle.infer_table.specs.Table.{bindings}
+use Rattle.infer_result.specs.declared.result.TypeMismatch.{TypeMismatch}
+use Rattle.infer_result.specs.Closed.{AllTypes, AllSeen}
+use Rattle.infer_result.specs.declared.diagnostics.InferenceDiagnostic.TheVariants as diagnostic
+use Rattle.infer_ctx.specs.Fine.{item_params, HasFineHeads, IsFine}
+use Rattle.infer_ctx.specs.declared.context.InferenceContext.{InferenceContext}
+use Rattle.infer_ctx.specs.Closings.{closed_mismatch, closed_table, IsSound}
+use Rattle.infer_ctx.proofs.Items.{signature_count}
+use Rattle.infer_ctx.proofs.FineTypes.{Every}
+use Rattle.infer_ctx.proofs.OverTypes.{over_fine, adt_closed, fn_def_closed}
+use Rattle.infer_ctx.proofs.Closed.{At-unclosed, At-stems}
+use Rattle.infer_ctx.proofs.Said.{said-cases}
+use Rattle.infer_coerce.proofs.Unified.{bound_heads}
+
+both_true : (a b : Bool) → a ≡ true → b ≡ true → (a && b) ≡ true
+both_true a b h k = ap (λ (x : Bool). x && b) h ∙ k
+
+-- an item takes as many types as its signature says
+pub item_counted : (facts : RawFacts) (id : CallableDefId) (n : ℕ) → has_params (item_params facts id) n ≡ true → has_params (callable_params facts id) n ≡ true
+item_counted facts id n h = by_signature (signature_of facts id) refl h
+  where
+    by_signature : (o : Option Signature) → signature_of facts id ≡ o → has_params (option_map (λ σ. σ.params) o) n ≡ true → has_params (callable_params facts id) n ≡ true
+    by_signature None at k = absurd (cc)
+    by_signature (Some σ) at k = ap (λ o. has_params o n) (signature_count facts id σ at) ∙ k
+
+-- types for holes that fit make a type that fits
+module _ (sc : Scope) (a : Assignment) where
+  abbrev FitsUnder : Ty → Type 0
+  FitsUnder t = ty_fits sc (folded a t) ≡ true
+
+  fits_by : (t u : Ty) → folded a t ≡ u → ty_fits sc u ≡ true → FitsUnder t
+  fits_by t u e h = ap (ty_fits sc) e ∙ h
+
+  all_fit : (ts : List Ty) → Every FitsUnder ts → list_all (ty_fits sc) (map (folded a) ts) ≡ true
+  all_fit [] h = refl
+  all_fit (t ∷ ts) h = both_true (ty_fits sc (folded a t)) (list_all (ty_fits sc) (map (folded a) ts)) h.0 (all_fit ts h.1)
+
+  args_fit : (ts : List Ty) → list_all (ty_fits sc) ts ≡ true → list_all (arg_fits sc) (type_args ts) ≡ true
+  args_fit ts h = args_as_types ts ∙ h
+    where
+      args_as_types : (us : List Ty) → list_all (arg_fits sc) (type_args us) ≡ list_all (ty_fits sc) us
+      args_as_types [] = refl
+      args_as_types (u ∷ us) = λ i. arg_fits_ty sc u i && args_as_types us i
+
+  arg_count : (ts : List Ty) → length (type_args (map (folded a) ts)) ≡ length ts
+  arg_count ts = length-map (map (folded a) ts) _ ∙ length-map ts (folded a)
+
+  pub heads_fit : ((n : ℕ) → ty_fits sc (a.var n) ≡ true) → ((n : ℕ) → ty_fits sc (a.int_var n) ≡ true) → (t : Ty) → HasFineHeads sc t → FitsUnder t
+  heads_fit var int_var = over_fine sc FitsUnder (record {
+    bool = fits_by ty.Bool ty.Bool (replaced_bool (with_holes a)) (ty_fits_bool sc);
+    char = fits_by ty.Char ty.Char (replaced_char (with_holes a)) (ty_fits_char sc);
+    int = λ i. fits_by (ty.Int i) (ty.Int i) (replaced_int (with_holes a) i) (ty_fits_int sc i);
+    uint = λ i. fits_by (ty.Uint i) (ty.Uint i) (replaced_uint (with_holes a) i) (ty_fits_uint sc i);
+    var = λ n. fits_by (ty.Var n) (a.var n) (replaced_var (with_holes a) n) (var n);
+    int_var = λ n. fits_by (ty.IntVar n) (a.int_var n) (replaced_int_var (with_holes a) n) (int_var n);
+    tuple = λ ts h. fits_by (ty.Tuple ts) (ty.Tuple (map (folded a) ts)) (replaced_tuple (with_holes a) ts) (ty_fits_tuple sc (map (folded a) ts) ∙ all_fit ts h);
+    adt = λ id ts k h.
+        let us = map (folded a) ts in
+        fits_by (ty.Adt id (type_args ts)) (ty.Adt id (type_args us)) (adt_closed a id ts) (ty_fits_adt sc id (type_args us)
+        ∙ both_true (has_params (adt_params sc.facts id) (length (type_args us))) (list_all (arg_fits sc) (type_args us)) (ap (has_params (adt_params sc.facts id)) (arg_count ts) ∙ k) (args_fit us (all_fit ts h)));
+    fn_def = λ id ts k h.
+        let us = map (folded a) ts in
+        fits_by (ty.FnDef id (type_args ts)) (ty.FnDef id (type_args us)) (fn_def_closed a id ts) (ty_fits_fndef sc id (type_args us)
+        ∙ both_true (has_params (callable_params sc.facts id) (length (type_args us))) (list_all (arg_fits sc) (type_args us)) (ap (has_params (callable_params sc.facts id)) (arg_count ts) ∙ item_counted sc.facts id (length ts) k) (args_fit us (all_fit ts h)));
+    param = λ n k. fits_by (ty.Param n) (ty.Param n) (replaced_param (with_holes a) n) (ty_fits_param sc n ∙ k);
+  })
+
+-- a fine type fits as it is, its holes too
+pub fine_fits : (sc : Scope) (t : Ty) → HasFineHeads sc t → ty_fits sc t ≡ true
+fine_fits sc t h = ap (ty_fits sc) (sym (folded_itself t)) ∙ heads_fit sc each_itself (λ n. ty_fits_var sc n) (λ n. ty_fits_intvar sc n) t h
+
+module _ (sc : Scope) (c : InferenceContext) (s : IsSound sc c) where
+  fallen_back : (t : Ty) → HasFineHeads sc t → ty_fits sc (folded fallback t) ≡ true
+  fallen_back t h = heads_fit sc fallback (λ n. ty_fits_error sc) (λ n. ty_fits_int sc int.I32) t h
+
+  completed_fits : (t : Ty) → IsFine sc c.table t → ty_fits sc (folded (completion c.table) t) ≡ true
+  completed_fits t h =
+      let known = resolution (bindings c.table) in
+      heads_fit sc (completion c.table) (λ n. fallen_back (known.var n) (bound_heads sc c.table s.bound (hole_of.Ty n))) (λ n. fallen_back (known.int_var n) (bound_heads sc c.table s.bound (hole_of.Int n))) t h.heads
+
+  fits_of : (t u : Ty) → folded (completion c.table) t ≡ u → IsFine sc c.table t → ty_fits sc u ≡ true
+  fits_of t u e h = ap (ty_fits sc) (sym e) ∙ completed_fits t h
+
+  -- each type of the completed table fits
+  pub completed_table_fits : AllTypes (λ t. ty_fits sc t ≡ true) (closed_table (completion c.table) c.asked c.result)
+  completed_table_fits =
+      let f : Ty → Ty = folded (completion c.table) in
+      let m : TypeMismatch → TypeMismatch = closed_mismatch (completion c.table) in
+      record {
+        exprs = λ n t i. (let q = At-unclosed f c.result.type_of_expr n t i in fits_of q.0 t q.2 (s.fine.exprs n q.0 q.1));
+        pats = λ n t i. (let q = At-unclosed f c.result.type_of_pat n t i in fits_of q.0 t q.2 (s.fine.pats n q.0 q.1));
+        bindings = λ n t i. (let q = At-unclosed f c.result.type_of_binding n t i in fits_of q.0 t q.2 (s.fine.bindings n q.0 q.1));
+        placeholders = λ n t i. (let q = At-unclosed f c.result.type_of_placeholder n t i in fits_of q.0 t q.2 (s.fine.placeholders n q.0 q.1));
+        found = λ n k t i. elim (said-cases (completion c.table) c.result.seen c.result.expr_diagnostics n (diagnostic.ExpectedFunction k t) i) [
+          | inl q ↦ fine_fits sc t (s.fine.found n k t q).heads
+          | inr q ↦ fits_of q.1.ty t (let same : diagnostic.ExpectedFunction k t ≡ diagnostic.ExpectedFunction q.3.call (f q.1.ty) = q.3.is in cc) (s.seen.types q.0 q.1 q.2)
+        ];
+        expected = λ n x i. (let q = At-stems (completion c.table) c.asked c.result.expr_mismatches n x i in fits_of q.0.expected x.expected (ap (λ (y : TypeMismatch). y.expected) q.2) (elim q.1 [ inl z ↦ (s.asked n q.0 z).0 | inr z ↦ s.fine.expected n q.0 z ]));
+        actual = λ n x i. (let q = At-stems (completion c.table) c.asked c.result.expr_mismatches n x i in fits_of q.0.actual x.actual (ap (λ (y : TypeMismatch). y.actual) q.2) (elim q.1 [ inl z ↦ (s.asked n q.0 z).1 | inr z ↦ s.fine.actual n q.0 z ]));
+        pat_expected = λ n x i. (let q = At-unclosed m c.result.pat_mismatches n x i in fits_of q.0.expected x.expected (ap (λ (y : TypeMismatch). y.expected) q.2) (s.fine.pat_expected n q.0 q.1));
+        pat_actual = λ n x i. (let q = At-unclosed m c.result.pat_mismatches n x i in fits_of q.0.actual x.actual (ap (λ (y : TypeMismatch). y.actual) q.2) (s.fine.pat_actual n q.0 q.1));
+      }
+
+  -- so does each that a failed look-up saw
+  pub seen_fits : AllSeen (λ t. ty_fits sc t ≡ true) (closed_table (completion c.table) c.asked c.result)
+  seen_fits = record {
+    types = λ i x at. fine_fits sc x.ty (s.seen.types i x at).heads;
+    others = λ i x t at is. fine_fits sc t (s.seen.others i x t at is).heads;
+  }

@@ -1,0 +1,5 @@
+pub mod Definitions
+pub mod Fits
+pub mod GeneralTables
+pub mod GeneralTypes
+pub mod PlainBodies

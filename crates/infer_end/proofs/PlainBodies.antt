@@ -1,0 +1,138 @@
+-- What a plain body has not: a `_` in the type of a `let`, and a call of what is no function.
+use Rattle.std.specs.Prelude.{IsSomeAnd, option_map}
+use Rattle.std.specs.Option.{option_and_then}
+use Rattle.std.proofs.Common.{◌≡◌, refl, Option, Some, None, subst, ℕ, sym, ap, ◌∙◌, slice_get, true, List, length}
+use Rattle.std.proofs.lemmas.Option.{slice_get_within}
+use Rattle.hir_types.specs.declared.ids.FunctionId.{FunctionId}
+use Rattle.hir_types.specs.declared.ids.VariantId.{VariantId}
+use Rattle.hir_types.specs.declared.ids.DefWithBodyId.{DefWithBodyId}
+use Rattle.hir_types.specs.declared.ids.ExprId.{ExprId}
+use Rattle.hir_types.specs.declared.ids.DefWithBodyId.TheVariants as def
+use Rattle.hir_types.specs.declared.ids.CallableDefId.TheVariants as callable
+use Rattle.hir_types.specs.declared.ids.ExprOrPatId.TheVariants as node
+use Rattle.hir_facts.specs.declared.raw.RawBody.{RawBody}
+use Rattle.hir_facts.specs.declared.raw.RawFacts.{RawFacts}
+use Rattle.hir_facts.specs.Bodies.{body_of}
+use Rattle.hir_facts.specs.Scope.{params_of, adt_params}
+use Rattle.hir_facts.specs.Plain.{IsPlainBody, IsPlainBodyOf, IsPlainKind, IsPlainType, plain, IsPlainAdt, is_tuple_ctor, is_tuple_variant, is_item, IsPlainExpr, IsPlainStmt}
+use Rattle.hir_facts.specs.declared.raw.RawType.{RawType}
+use Rattle.hir_facts.specs.Types.{StandsIn, is_itself, in_part, type_parts}
+use Rattle.hir_facts.specs.declared.raw.RawCtor.{RawCtor}
+use Rattle.hir_facts.specs.declared.raw.RawVariant.{RawVariant}
+use Rattle.hir_facts.specs.declared.raw.RawStmt.{RawStmt}
+use Rattle.hir_facts.specs.declared.raw.RawExpr.{RawExpr}
+use Rattle.hir_facts.specs.Order.{callee, expr_part, inner, parts_of_expr, stmts_of}
+use Rattle.hir_facts.specs.Signatures.{fn_signature, field_types, own_adt, ctor_signature, signature_by}
+use Rattle.hir_facts.specs.declared.raw.RawType.TheVariants as type
+use Rattle.hir_facts.specs.declared.raw.RawCtor.TheVariants as ctor
+use Rattle.hir_facts.specs.declared.raw.RawStmt.TheVariants as stmt
+use Rattle.hir_facts.specs.declared.raw.RawPath.TheVariants as path
+use Rattle.hir_facts.specs.declared.raw.RawExpr.TheVariants as expr
+use Rattle.infer_result.specs.Places.{Given, IsPlaceholder}
+use Rattle.infer_result.specs.Truth.Seen.{IsPathToItem}
+
+some_of : {A : Type 0} (P : A → Type 0) (o : Option A) → IsSomeAnd o P → (x : A) × (o ≡ Some x) × P x
+some_of P None h = absurd h
+some_of P (Some x) h = (x, refl, h)
+
+-- the body of a plain definition is plain
+pub plain_body : (raw : RawFacts) (d : DefWithBodyId) (b : RawBody) → IsPlainBodyOf raw d → body_of raw d ≡ Some b → IsPlainBody raw (params_of raw d) b
+plain_body raw (def.FunctionId f) b h is = subst (λ o. IsSomeAnd o (λ x. IsPlainBody raw (params_of raw (def.FunctionId f)) x)) is h.body
+plain_body raw (def.ConstId c) b h is = absurd h
+plain_body raw (def.StaticId s) b h is = absurd h
+plain_body raw (def.VariantId v) b h is = absurd h
+
+-- ---- written types
+
+-- no `_` stands in a plain type
+no_hole : (raw : RawFacts) (P : ℕ → Type 0) (n k t : ℕ) → IsPlainType raw P n t → StandsIn raw.types k t → ⊥
+no_hole raw P n k t (plain _ x found own parts) (is_itself hole) =
+    (let same : x ≡ type.Hole = (let both : Some x ≡ Some type.Hole = sym found ∙ hole in cc) in
+    let h : IsPlainKind raw P n type.Hole = subst (λ (y : RawType). IsPlainKind raw P n y) same own in h)
+no_hole raw P n k t (plain _ x found own parts) (in_part _ y j u at part stands) =
+    (let same : y ≡ x = (let both : Some y ≡ Some x = sym at ∙ found in cc) in
+    no_hole raw P n k u.0 (parts j u (ap (λ (z : RawType). slice_get (type_parts z) j) (sym same) ∙ part)) stands)
+
+module _ (raw : RawFacts) (n : ℕ) (b : RawBody) (h : IsPlainBody raw n b) where
+  plain_stmt : (e : ℕ) (o : Option RawExpr) (i : ℕ) (s : RawStmt) → slice_get b.exprs e ≡ o → slice_get (stmts_of o) i ≡ Some s → IsPlainStmt raw n s
+  plain_stmt e (Some (expr.Block label stmts last)) i s is at = (let block : IsPlainExpr raw n (expr.Block label stmts last) = h.exprs e _ is in block.1 i s at)
+  plain_stmt e (Some (expr.Lit l)) i s is at = absurd (cc)
+  plain_stmt e (Some (expr.Path p)) i s is at = absurd (cc)
+  plain_stmt e (Some (expr.Tuple es)) i s is at = absurd (cc)
+  plain_stmt e (Some (expr.If c first other)) i s is at = absurd (cc)
+  plain_stmt e (Some (expr.Match x arms)) i s is at = absurd (cc)
+  plain_stmt e (Some (expr.Call f args)) i s is at = absurd (cc)
+  plain_stmt e (Some expr.Other) i s is at = absurd (cc)
+  plain_stmt e None i s is at = absurd (cc)
+
+  pub no_placeholder : (g : Given) (k : ℕ) → g.scope.facts ≡ raw → g.body ≡ b → IsPlaceholder g k → ⊥
+  no_placeholder g k facts body p =
+      let at : slice_get (stmts_of (slice_get b.exprs p.block.0)) p.at_stmt ≡ Some (stmt.Let p.pattern (Some p.written) p.init p.other) = ap (λ (x : RawBody). slice_get (stmts_of (slice_get x.exprs p.block.0)) p.at_stmt) (sym body) ∙ p.is_let in
+      let written : IsPlainStmt raw n (stmt.Let p.pattern (Some p.written) p.init p.other) = plain_stmt p.block.0 (slice_get b.exprs p.block.0) p.at_stmt _ refl at in
+      no_hole raw (IsPlainAdt raw) n k p.written.0 written.1 (subst (λ (x : RawFacts). StandsIn x.types k p.written.0) facts p.stands)
+
+  -- ---- callees
+
+  tuple_ctor : (c : RawCtor) → is_tuple_ctor c ≡ true → c ≡ ctor.Tuple
+  tuple_ctor ctor.Unit k = absurd (cc)
+  tuple_ctor ctor.Tuple k = refl
+  tuple_ctor ctor.Record k = absurd (cc)
+
+  module _ (g : Given) (facts : g.scope.facts ≡ raw) (body : g.body ≡ b) where
+    path_at : (called : ExprId) (q : _) → slice_get b.exprs called.0 ≡ Some (expr.Path q) → slice_get g.body.exprs called.0 ≡ Some (expr.Path q)
+    path_at called q is = ap (λ (x : RawBody). slice_get x.exprs called.0) body ∙ is
+
+    function_item : (called : ExprId) (f : FunctionId) → slice_get b.exprs called.0 ≡ Some (expr.Path (path.Function f)) → IsPathToItem g called
+    function_item called f is =
+        let x = some_of _ (slice_get raw.fns f.0) (h.exprs called.0 (expr.Path (path.Function f)) is) in (
+          path.Function f,
+          path_at called (path.Function f) is,
+          record {
+            item = callable.FunctionId f;
+            is_item = refl;
+            signature = fn_signature g.scope.facts.types x.0;
+            is_signature = ap (option_map (fn_signature g.scope.facts.types)) (ap (λ (r : RawFacts). slice_get r.fns f.0) facts ∙ x.1);
+          },
+        )
+
+    variant_item : (called : ExprId) (v : VariantId) → slice_get b.exprs called.0 ≡ Some (expr.Path (path.Ctor v)) → is_tuple_variant (slice_get raw.variants v.0) ≡ true → IsPathToItem g called
+    variant_item called v is tuple =
+        let x = some_of _ (slice_get raw.variants v.0) (h.exprs called.0 (expr.Path (path.Ctor v)) is) in
+        let is_tuple : x.0.ctor ≡ ctor.Tuple = tuple_ctor x.0.ctor (ap is_tuple_variant (sym x.1) ∙ tuple) in
+        let adt = x.2.1.is_plain.each x.0.adt.0 x.2.1.has in
+        let count : ℕ = length adt.adt.params in
+        let types : List RawType = g.scope.facts.types in
+        let params : adt_params g.scope.facts x.0.adt ≡ Some count = ap (λ (r : RawFacts). adt_params r x.0.adt) facts ∙ ap (option_map (λ y. length y.params)) adt.found in (
+          path.Ctor v,
+          path_at called (path.Ctor v) is,
+          record {
+            item = callable.VariantId v;
+            is_item = refl;
+            signature = record { params = count; inputs = field_types types x.0; output = own_adt x.0.adt count };
+            is_signature =
+                ap (option_and_then (λ (y : RawVariant). option_and_then (λ m. ctor_signature types m y) (adt_params g.scope.facts y.adt))) (ap (λ (r : RawFacts). slice_get r.variants v.0) facts ∙ x.1)
+                ∙ (ap (option_and_then (λ m. ctor_signature types m x.0)) params
+                ∙ ap (λ k. signature_by k types count x.0) is_tuple);
+          },
+        )
+
+    item_named : (called : ExprId) (o : Option RawExpr) → slice_get b.exprs called.0 ≡ o → is_item raw o ≡ true → IsPathToItem g called
+    item_named called (Some (expr.Path (path.Function f))) is k = function_item called f is
+    item_named called (Some (expr.Path (path.Ctor v))) is k = variant_item called v is k
+    item_named called (Some (expr.Path (path.Local v))) is k = absurd (cc)
+    item_named called (Some (expr.Path path.Other)) is k = absurd (cc)
+    item_named called None is k = absurd (cc)
+    item_named called (Some (expr.Lit l)) is k = absurd (cc)
+    item_named called (Some (expr.Block label stmts last)) is k = absurd (cc)
+    item_named called (Some (expr.Tuple es)) is k = absurd (cc)
+    item_named called (Some (expr.If c first other)) is k = absurd (cc)
+    item_named called (Some (expr.Match e arms)) is k = absurd (cc)
+    item_named called (Some (expr.Call f args)) is k = absurd (cc)
+    item_named called (Some expr.Other) is k = absurd (cc)
+
+    -- what is called is a path to an item
+    pub calls_item : (call called : ExprId) (args : List ExprId) → slice_get g.body.exprs call.0 ≡ Some (expr.Call called args) → IsPathToItem g called
+    calls_item call called args is =
+        let here : slice_get b.exprs call.0 ≡ Some (expr.Call called args) = ap (λ (x : RawBody). slice_get x.exprs call.0) (sym body) ∙ is in
+        let stands = h.callees (inner (node.ExprId call)) 0 (expr_part callee called) (slice_get_within b.exprs call.0 (expr.Call called args) here) (ap (λ o. slice_get (parts_of_expr o) 0) here) in
+        item_named called (slice_get b.exprs called.0) refl stands

@@ -1,6 +1,0 @@
-use Rattle.infer_expr.specs.Context.{given_of, schedule_of}
-use Rattle.infer_expr.proofs.ParamsWalk.{ParamsWalk}
-use Rattle.infer_expr.proofs.context.InferenceContext.infer_params.Given as goal
-
-abbrev pub invariant-loop-i : goal.invariant-loop-i
-invariant-loop-i l = ParamsWalk (given_of l.given) (schedule_of l.given) l.i l.initial.self l.self

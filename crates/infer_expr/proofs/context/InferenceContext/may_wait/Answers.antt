@@ -1,8 +1,0 @@
-use Rattle.hir_types.specs.declared.ids.ExprOrPatId.TheVariants as node
-use Rattle.infer_expr.proofs.context.InferenceContext.may_wait.Goals as goal
-
-pub returns-then-are_unknown : goal.returns-then-are_unknown
-returns-then-are_unknown c = λ yes. record {
-  unasked = c.is_unasked.ensures yes;
-  unknown = c.are_unknown.ensures c.if-are_unknown.true (node.ExprId c.args.expr);
-}

@@ -1,6 +1,0 @@
-use Rattle.std.proofs.Common.{◌≡◌, map, take}
-use Rattle.infer_expr.specs.Callables.{field_at}
-use Rattle.infer_expr.proofs.given.GivenBody.field_tys.Given as goal
-
-abbrev pub invariant-loop-field : goal.invariant-loop-field
-invariant-loop-field l = l.tys ≡ map (field_at l.self.facts.now.types l.args) (take l.field-index l.field-items)

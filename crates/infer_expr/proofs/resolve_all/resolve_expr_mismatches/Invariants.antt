@@ -1,7 +1,0 @@
-use Rattle.std.proofs.Common.{◌≡◌, take}
-use Rattle.infer_table.specs.Completion.{completion}
-use Rattle.infer_expr.specs.Closings.{closed_mismatches}
-use Rattle.infer_expr.proofs.resolve_all.resolve_expr_mismatches.Given as goal
-
-abbrev pub invariant-loop-i : goal.invariant-loop-i
-invariant-loop-i l = l.resolved ≡ take l.i (closed_mismatches (completion l.table) l.asked l.noted)

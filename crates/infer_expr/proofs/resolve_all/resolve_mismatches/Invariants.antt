@@ -1,8 +1,0 @@
-use Rattle.std.proofs.Common.{◌≡◌, map, take}
-use Rattle.std.specs.Prelude.{option_map}
-use Rattle.infer_table.specs.Completion.{completion}
-use Rattle.infer_expr.specs.Closings.{closed_mismatch}
-use Rattle.infer_expr.proofs.resolve_all.resolve_mismatches.Given as goal
-
-abbrev pub invariant-loop-mismatch : goal.invariant-loop-mismatch
-invariant-loop-mismatch l = l.resolved ≡ map (option_map (closed_mismatch (completion l.table))) (take l.mismatch-index l.mismatch-items)

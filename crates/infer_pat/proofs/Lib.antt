@@ -1,0 +1,11 @@
+pub mod PatSteps
+pub mod CtorPatWalk
+pub mod CtorPats
+pub mod Literals
+pub mod PathWalk
+pub mod PatDemands
+pub mod PatHoles
+pub mod PatWalk
+pub mod Pats
+pub mod TuplePats
+pub mod PatParts

@@ -1,0 +1,173 @@
+-- New holes for the types of patterns, and what a tuple pattern asks of what comes in.
+use Rattle.std.proofs.Common.{◌≡◌, refl, Some, None, ℕ, List, slice_get, zero, suc, ◌+◌, ◌⊎◌, inl, inr, [], ◌∷◌, ◌++◌, subst, ◌∙◌, arith, length-append, Option, sym, ap, map, true, false}
+use Rattle.hir_types.specs.declared.ty.Ty.{Ty}
+use Rattle.hir_types.specs.Subst.{folded, Assignment, with_holes}
+use Rattle.hir_types.specs.Terms.{Term, term, terms_of}
+use Rattle.hir_types.specs.TermLaws.{term_folded}
+use Rattle.hir_types.specs.Folding.{replaced_tuple}
+use Rattle.hir_types.specs.declared.ids.PatId.{PatId}
+use Rattle.hir_types.specs.declared.head.HoleKind.TheVariants as kind
+use Rattle.hir_types.specs.declared.ty.Ty.TheVariants as ty
+use Rattle.hir_facts.specs.Scope.{Scope}
+use Rattle.hir_facts.specs.CarriedTypes.{IsCarriedType, AreCarriedTypes, carried_tuple}
+use Rattle.infer_table.specs.UndoLaws.{grew_itself}
+use Rattle.infer_table.specs.HoleLaws.{grew_by_hole, grew_twice}
+use Rattle.infer_table.specs.Table.{with_new_hole, hole_count, State, HolesAreOf, bindings, resolved_type, Grew}
+use Rattle.infer_table.specs.Preserved.{whole, IsMadeOf, made_of_resolved, made_of_within}
+use Rattle.infer_table.specs.Resolution.{resolution, resolution_term}
+use Rattle.infer_table.specs.Solutions.{log_of, resolved}
+use Rattle.infer_result.specs.Closed.{IsOfBody}
+use Rattle.infer_result.specs.Table.{mismatch}
+use Rattle.infer_result.specs.Places.{Given}
+use Rattle.infer_ctx.specs.declared.context.InferenceContext.{InferenceContext}
+use Rattle.infer_ctx.specs.Closings.{IsSound, IsClosing, Closes, closed_mismatch, found_under, expected_under}
+use Rattle.infer_ctx.specs.Fine.{IsFine, is_fine_head}
+use Rattle.infer_ctx.specs.Steps.{ArePartTypes, Follows}
+use Rattle.infer_ctx.specs.Context.{with_pat_ty, with_pat_mismatch}
+use Rattle.infer_ctx.specs.Found as found
+use Rattle.infer_ctx.proofs.FineTypes.{fine_hole, fine_grown, fine_no_alias, AllFine, fine_tuple}
+use Rattle.infer_ctx.proofs.OverTypes.{fine_closed}
+use Rattle.infer_ctx.proofs.Closed.{same_found, closes_same, pat_ty_under, pat_mismatch_under, of_body_pat_ty, of_body_pat_mismatch, sound_pat_ty, sound_pat_mismatch}
+use Rattle.infer_coerce.specs.Unifying.{IsUnifiedIf}
+use Rattle.infer_coerce.proofs.Holes.{holed, holed_sound}
+use Rattle.infer_coerce.proofs.Unified.{bound_heads}
+use Rattle.infer_pat.specs.Patterns.{IsGivenOrNew, PatDemanded, IsDemanded}
+
+-- ---- new holes
+pub given_one : {sc : Scope} (c : InferenceContext) (t : Ty) → IsSound sc c → IsFine sc c.table t → IsGivenOrNew sc (Some t) t c c
+given_one c t s h = record {
+  result = refl;
+  asked = refl;
+  clock = refl;
+  grew = grew_itself c.table;
+  sound = s;
+  fine = h;
+  given = λ u e. (let k : t ≡ u = cc in k);
+  new_hole = λ e. absurd (cc);
+}
+
+pub new_one : {sc : Scope} (c : InferenceContext) → IsSound sc c → IsGivenOrNew sc None (ty.Var (hole_count c.table)) c (holed c kind.Ty)
+new_one c s = record {
+  result = refl;
+  asked = refl;
+  clock = refl;
+  grew = grew_by_hole c.table (with_new_hole c.table kind.Ty) kind.Ty refl;
+  sound = holed_sound c kind.Ty s;
+  fine = fine_hole _ c.table;
+  given = λ u e. absurd (cc);
+  new_hole = λ e. refl;
+}
+
+-- each type of the list is fine
+abbrev pub FineEach : Scope → State → List Ty → Type 0
+FineEach sc state ts = (i : ℕ) (t : Ty) → slice_get ts i ≡ Some t → IsFine sc state t
+
+push_cases : (ts : List Ty) (t : Ty) (i : ℕ) (u : Ty) → slice_get (ts ++ t ∷ []) i ≡ Some u → (slice_get ts i ≡ Some u) ⊎ (t ≡ u)
+push_cases [] t zero u e = (let k : t ≡ u = cc in inr k)
+push_cases [] t (suc i) u e = absurd (cc)
+push_cases (v ∷ ts) t zero u e = inl e
+push_cases (v ∷ ts) t (suc i) u e = push_cases ts t i u e
+
+pub no_part_yet : {sc : Scope} (c : InferenceContext) → IsSound sc c → ArePartTypes sc 0 [] c c
+no_part_yet c s = record {
+  result = refl;
+  asked = refl;
+  clock = refl;
+  grew = grew_itself c.table;
+  sound = s;
+  count_is = refl;
+  fine = λ i t e. absurd (cc);
+}
+
+pub one_part_more : {sc : Scope} (n : ℕ) (ts : List Ty) (x : Option Ty) (t : Ty) (old c new : InferenceContext) → ArePartTypes sc n ts old c → IsGivenOrNew sc x t c new → ArePartTypes sc (n + 1) (ts ++ t ∷ []) old new
+one_part_more {sc} n ts x t old c new h d = record {
+  result = d.result ∙ h.result;
+  asked = d.asked ∙ h.asked;
+  clock = d.clock ∙ h.clock;
+  grew = grew_twice old.table c.table new.table h.grew d.grew;
+  sound = d.sound;
+  count_is = simp length-append (omega (arith, h.count_is));
+  fine = λ i u e.
+      elim (push_cases ts t i u e) [
+        | inl q ↦ fine_grown _ c.table new.table u d.grew (h.fine i u q)
+        | inr q ↦ subst (λ v. IsFine sc new.table v) q d.fine
+      ];
+}
+
+-- ---- what is known of a type
+
+-- what a type resolves to is fine where the type is
+pub resolved_fine : {sc : Scope} (c : InferenceContext) (t u : Ty) → IsSound sc c → IsFine sc c.table t → HolesAreOf c.table u → resolved_type c.table u ≡ resolved_type c.table t → IsFine sc c.table u
+resolved_fine {sc} c t u s h holes same =
+    let bs = bindings c.table in
+    let P : Term → Type 0 = IsMadeOf (is_fine_head sc) whole in
+    let put_in : P (resolved (log_of bs) (term t)) = made_of_resolved (is_fine_head sc) (log_of bs) (term t) s.bound h.heads in
+    let known : P (term (folded (resolution bs) t)) = subst P (sym (resolution_term bs t)) put_in in
+    let alike : P (term (folded (resolution bs) u)) = subst P (ap term (sym same)) known in
+    record {
+      holes = holes;
+      heads = made_of_within (is_fine_head sc) (terms_of (resolution bs)) whole (term u) (fine_no_alias sc).no_mark (bound_heads sc c.table s.bound) (subst P (term_folded (resolution bs) u) alike);
+    }
+
+-- ---- tuples of fine types
+pub all_fine : (sc : Scope) (state : State) (ts : List Ty) → FineEach sc state ts → AllFine sc state ts
+all_fine sc state [] h = tt
+all_fine sc state (t ∷ ts) h = (h 0 t refl, all_fine sc state ts (λ i u e. h (suc i) u e))
+
+pub fine_tuple_of : (sc : Scope) (state : State) (ts : List Ty) → FineEach sc state ts → IsFine sc state (ty.Tuple ts)
+fine_tuple_of sc state ts h = fine_tuple sc state ts (all_fine sc state ts h)
+
+pub fine_each_grown : (sc : Scope) (s t : State) (ts : List Ty) → Grew s t → FineEach sc s ts → FineEach sc t ts
+fine_each_grown sc s t ts g h = λ i u e. fine_grown sc s t u g (h i u e)
+
+pub tuple_under : (a : Assignment) (ts : List Ty) → folded a (ty.Tuple ts) ≡ ty.Tuple (map (folded a) ts)
+tuple_under a ts = replaced_tuple (with_holes a) ts
+
+pub carried_each : (sc : Scope) (a : Assignment) (state : State) (ts : List Ty) → IsClosing a → FineEach sc state ts → AreCarriedTypes (map (folded a) ts)
+carried_each sc a state ts k h =
+    let tuple : IsCarriedType (ty.Tuple (map (folded a) ts)) = subst (λ t. IsCarriedType t) (tuple_under a ts) (fine_closed sc a (ty.Tuple ts) k (fine_tuple_of sc state ts h).heads) in
+    sym (carried_tuple (map (folded a) ts)) ∙ tuple
+
+-- ---- what comes in
+module _ (g : Given) (p : PatId) (t : Ty) (c : InferenceContext) (h : IsOfBody g.body c.result) (s : IsSound g.scope c) (fo : IsFine g.scope c.table t) where
+  -- the record of the type, after what is asked
+  recorded : (x : Option Ty) (mid : InferenceContext) → Follows g c mid → mid.clock ≡ c.clock → IsFine g.scope mid.table t → ((a : Assignment) → Closes a mid → IsDemanded p (folded a t) (expected_under a x) (found_under a c) (found_under a mid)) → PatDemanded g p t x c (with_pat_ty mid p t)
+  recorded x mid f clock k asked = record {
+    follows = assumption (of_body_pat_ty g.body mid f.of_body p t, sound_pat_ty mid f.sound p t k, f);
+    clock = clock;
+    each = λ a q. record {
+      mid = found_under a mid;
+      demanded = asked a (closes_same a (with_pat_ty mid p t) mid refl q);
+      recorded = pat_ty_under a mid p t;
+    };
+  }
+
+  pub demanded_nothing : PatDemanded g p t None c (with_pat_ty c p t)
+  demanded_nothing =
+      recorded None c (record { clock = omega arith; grew = grew_itself c.table; of_body = h; sound = s; told = λ k. k }) refl fo (λ a q. refl)
+
+  module _ (u : Ty) (fu : IsFine g.scope c.table u) where
+    module _ (new : InferenceContext) where
+      pub demanded_unified : IsUnifiedIf true g u t c new → PatDemanded g p t (Some u) c (with_pat_ty new p t)
+      demanded_unified k =
+          let f = k.binds.follows in
+          recorded (Some u) new f k.binds.clock (fine_grown g.scope c.table new.table t f.grew fo) (λ a q. inl (
+            k.each a q,
+            same_found a c new k.binds.result k.binds.asked k.binds.clock,
+          ))
+
+      pub demanded_refused : IsUnifiedIf false g u t c new → PatDemanded g p t (Some u) c (with_pat_ty (with_pat_mismatch new p (mismatch u t)) p t)
+      demanded_refused k =
+          let f = k.binds.follows in
+          let last : InferenceContext = with_pat_mismatch new p (mismatch u t) in
+          let gu : IsFine g.scope new.table u = fine_grown g.scope c.table new.table u f.grew fu in
+          let gt : IsFine g.scope new.table t = fine_grown g.scope c.table new.table t f.grew fo in
+          recorded (Some u) last (assumption (
+            of_body_pat_mismatch g.body new f.of_body p (mismatch u t),
+            sound_pat_mismatch new f.sound p (mismatch u t) gu gt,
+            f,
+          )) k.binds.clock gt (λ a q. inr (
+            k.each a (closes_same a last new refl q),
+            pat_mismatch_under a new p (mismatch u t)
+                ∙ ap (λ f. found.with_pat_mismatch f p (closed_mismatch a (mismatch u t))) (same_found a c new k.binds.result k.binds.asked k.binds.clock),
+          ))

@@ -1,0 +1,486 @@
+-- From where the walk comes to a pattern to where the pattern is done: the record of its type, and of
+-- what it binds, amid the walk of its parts.
+use Rattle.std.specs.Option.{option_and_then}
+use Rattle.std.proofs.Common.{Option, ◌≡◌, List, ◌∷◌, Some, None, slice_get, ℕ, ◌<◌, ◌≤◌, length, ◌⊎◌, inl, inr, ap, refl, sym, subst, ◌∙◌, arith, ◌≢◌}
+use Rattle.std.proofs.Math.ListN.{set, length-set}
+use Rattle.hir_types.specs.declared.ids.PatId.{PatId}
+use Rattle.hir_types.specs.declared.ty.Ty.{Ty}
+use Rattle.hir_types.specs.Subst.{Assignment}
+use Rattle.hir_types.specs.declared.ids.BindingId.{BindingId}
+use Rattle.hir_types.specs.declared.ids.ExprId.{ExprId}
+use Rattle.hir_facts.specs.declared.schedule.Schedule.{Schedule}
+use Rattle.hir_facts.specs.Order.{Part, Node, Role, pat_part, binding_of, Binds}
+use Rattle.hir_facts.specs.declared.raw.RawPat.{RawPat}
+use Rattle.hir_facts.specs.declared.raw.RawBody.{RawBody}
+use Rattle.hir_facts.specs.CarriedTypes.{IsCarriedType}
+use Rattle.hir_facts.specs.declared.raw.RawPat.TheVariants as pat
+use Rattle.infer_result.specs.Places.{Given, Gives, HasPlaceholders, Demand}
+use Rattle.infer_result.specs.Closed.{IsBinder, IsOfBody, OnlyBindersHaveModes}
+use Rattle.infer_result.specs.Table.{At, BindingTy, PatTy, HasMode, HasPatMismatch}
+use Rattle.infer_result.specs.declared.result.Seen.{Seen}
+use Rattle.infer_result.specs.Truth.Calls.{IsTrueDiagnostic, IsTruePatDiagnostic}
+use Rattle.infer_result.specs.declared.diagnostics.InferenceDiagnostic.{InferenceDiagnostic}
+use Rattle.infer_result.specs.declared.result.TypeMismatch.{TypeMismatch}
+use Rattle.infer_result.specs.Rules.Expressions.{ObeysOrMismatch}
+use Rattle.infer_result.specs.Rules.Patterns.{PatRule}
+use Rattle.infer_result.specs.Truth.Mismatch.{IsTruePatMismatch}
+use Rattle.infer_result.specs.Made.{IsMisfit}
+use Rattle.infer_result.specs.declared.modes.BindingMode.{BindingMode}
+use Rattle.infer_result.specs.declared.modes.BindingMode.TheVariants as mode
+use Rattle.infer_ctx.specs.declared.context.InferenceContext.{InferenceContext}
+use Rattle.infer_ctx.specs.Closings.{Closes, found_under, expected_under}
+use Rattle.infer_ctx.specs.Found.{Found, RecordsVariants, entered, noted}
+use Rattle.infer_ctx.specs.Context.{IsCarriedExpectation}
+use Rattle.infer_ctx.specs.Walks.{IsWalked, IsSeenAs, IsFree, IsCarriedTable, expr_start, pat_start, Extends, Walks, Nothing}
+use Rattle.infer_ctx.specs.Under.{LieAhead, IsReady}
+use Rattle.infer_ctx.proofs.AtEach.{expected_carried}
+use Rattle.infer_ctx.proofs.Parts.{ahead_stands, pat_id, one_pat, expr_is_no_pat, binds_within, binding_id}
+use Rattle.infer_ctx.proofs.Lists.{same_or_not, lt_or_ge, own_set, slice_get-set_same, slice_get-set_other, At-set, At-set_cases, length-own_set, own_set-at, own_set-other, own_set-cases, noted-keeps, noted-cases, noted-some, length-noted}
+use Rattle.infer_ctx.proofs.Keeps.{extends_refl, seen_as_entered, extends_trans, obeys_kept, pat_kept, pat_truth_kept, misfit_kept, demand_kept, diagnostic_kept, seen_as_kept}
+use Rattle.infer_pat.specs.Patterns.{BeforePat, ComesToPat}
+
+module _ (g : Given) (s : Schedule) (a : Assignment) (c : InferenceContext) (k : Closes a c) where
+  pub before_pat_under : (p : PatId) (x : Option Ty) → BeforePat g s p x c → ComesToPat g s p (expected_under a x) (found_under a c)
+  before_pat_under p x h = assumption (h.state.each a k, expected_carried g.scope a c.table x k.closing h.fine, h.incoming a k, h)
+
+pub pat_before : (g : Given) (s : Schedule) (n : Node) (role : Role) (p : PatId) (ps : List Part) (x : Option Ty) (c : Found) → IsReady g s → IsWalked g s c → LieAhead g.body s n c.clock (pat_part role p ∷ ps) → IsCarriedExpectation x → ((t : Ty) → x ≡ Some t → Gives g c.result n role t) → ComesToPat g s p x c
+pat_before g s n role p ps x c ready state ahead carried gives = record {
+  ready = ready;
+  state = state;
+  within = ahead.fit.0;
+  here = ahead.fit.1;
+  carried = carried;
+  incoming = λ t is.
+      let q = ahead_stands g.body s n c.clock (pat_part role p) ps ahead in
+      record { parent = n; at_part = q.0; role = role; stands = q.1; gives = gives t is };
+}
+
+-- what binds a name is a binding pattern
+binder_by : (b : RawBody) (p : PatId) (v : BindingId) (x : Option RawPat) → slice_get b.pats p.0 ≡ x → option_and_then binding_of x ≡ Some v → IsBinder b p
+binder_by b p v None is k = absurd (cc)
+binder_by b p v (Some pat.Wild) is k = absurd (cc)
+binder_by b p v (Some (pat.Bind w sub)) is k = (w, sub, is)
+binder_by b p v (Some (pat.Tuple ps)) is k = absurd (cc)
+binder_by b p v (Some (pat.TupleStruct named ps)) is k = absurd (cc)
+binder_by b p v (Some (pat.Path named)) is k = absurd (cc)
+binder_by b p v (Some (pat.Lit e)) is k = absurd (cc)
+binder_by b p v (Some pat.Other) is k = absurd (cc)
+
+-- The state of the walk at the clock n, but that what p binds may have no type yet.
+pub record IsOpen (g : Given) (s : Schedule) (p : PatId) (n : ℕ) (c : Found) : Type 0 where
+  pub of_body : IsOfBody g.body c.result
+  pub carried : IsCarriedTable c.result
+  pub modes : OnlyBindersHaveModes g.body c.result
+  pub free_exprs : (e : ExprId) → e.0 < length g.body.exprs → n ≤ expr_start g.body s e → IsFree c.result.type_of_expr e.0
+  pub free_pats : (q : PatId) → q.0 < length g.body.pats → n ≤ pat_start g.body s q → IsFree c.result.type_of_pat q.0
+  pub free_modes : (q : PatId) → q.0 < length g.body.pats → n ≤ pat_start g.body s q → IsFree c.result.binding_modes q.0
+  pub free_bindings : (q : PatId) (v : BindingId) → Binds g.body q v → n ≤ pat_start g.body s q → IsFree c.result.type_of_binding v.0
+  pub bound : (q : PatId) (v : BindingId) → Binds g.body q v → (q ≡ p → ⊥) → pat_start g.body s q < n → (t : Ty) × BindingTy c.result v t
+  pub diagnostics : (e : ExprId) (d : InferenceDiagnostic) → At c.result.expr_diagnostics e.0 d → IsTrueDiagnostic g c.result e d
+  pub pat_diagnostics : (q : PatId) (d : InferenceDiagnostic) → At c.result.pat_diagnostics q.0 d → IsTruePatDiagnostic g q d
+  pub variants : RecordsVariants g.body c.result
+  pub placeholders : HasPlaceholders g c.result
+  pub seen : (i : ℕ) (y : Seen) → slice_get c.result.seen i ≡ Some y → IsSeenAs g c y
+
+pub open_walked : (g : Given) (s : Schedule) (p : PatId) (c : Found) → IsWalked g s c → IsOpen g s p c.clock c
+open_walked g s p c h = record {
+  diagnostics = h.diagnostics;
+  of_body = h.of_body;
+  carried = h.carried;
+  modes = h.modes;
+  pat_diagnostics = h.pat_diagnostics;
+  variants = h.variants;
+  placeholders = h.placeholders;
+  seen = h.seen;
+  free_exprs = h.free_exprs;
+  free_pats = h.free_pats;
+  free_modes = h.free_modes;
+  free_bindings = h.free_bindings;
+  bound = λ q v i other lo. h.bound q v i lo;
+}
+
+-- Of the nodes from the old clock on all are made but p, where the walk of p has come to c.
+pub record Enters (g : Given) (s : Schedule) (p : PatId) (old c : Found) : Type 0 where
+  pub clock : old.clock < c.clock
+  pub extends : Extends old.result c.result
+  pub kept : (e : ExprId) → e.0 < length g.body.exprs → expr_start g.body s e < old.clock → slice_get c.result.type_of_expr e.0 ≡ slice_get old.result.type_of_expr e.0
+  pub kept_pats : (q : PatId) → q.0 < length g.body.pats → pat_start g.body s q < old.clock → slice_get c.result.type_of_pat q.0 ≡ slice_get old.result.type_of_pat q.0
+  pub state : IsOpen g s p c.clock c
+  pub made : (e : ExprId) → e.0 < length g.body.exprs → old.clock ≤ expr_start g.body s e → expr_start g.body s e < c.clock → ObeysOrMismatch g c.result e
+  pub pats_made : (q : PatId) → q.0 < length g.body.pats → (q ≡ p → ⊥) → old.clock ≤ pat_start g.body s q → pat_start g.body s q < c.clock → PatRule g c.result q (slice_get g.body.pats q.0)
+  pub truths : (e : ExprId) (m : TypeMismatch) → At c.result.expr_mismatches e.0 m → At old.result.expr_mismatches e.0 m ⊎ (IsMisfit g c.result e m × Demand g c.result e m.expected)
+  pub pat_truths : (q : PatId) (m : TypeMismatch) → At c.result.pat_mismatches q.0 m → At old.result.pat_mismatches q.0 m ⊎ IsTruePatMismatch g c.result q m
+
+same_pat : (p q : PatId) → (p ≡ q) ⊎ (p ≡ q → ⊥)
+same_pat p q =
+    elim (same_or_not p.0 q.0) [ inl is ↦ inl (pat_id p q is) | inr ne ↦ inr (λ i. ne (ap (λ x. x.0) i)) ]
+
+module _ (g : Given) (s : Schedule) (p : PatId) (x : Option Ty) (old : Found) (h : ComesToPat g s p x old) where
+  -- the clock goes on to the parts of the pattern
+  pub enters_now : Enters g s p old (entered old)
+  enters_now = record {
+    clock = omega arith;
+    extends = extends_refl old.result;
+    kept = λ e i lo. refl;
+    kept_pats = λ q i lo. refl;
+    state = record {
+      of_body = h.state.of_body;
+      carried = h.state.carried;
+      modes = h.state.modes;
+      pat_diagnostics = h.state.pat_diagnostics;
+      variants = h.state.variants;
+      placeholders = h.state.placeholders;
+      seen = λ i y at. seen_as_entered g old y (h.state.seen i y at);
+      diagnostics = h.state.diagnostics;
+      free_exprs = λ e i lo. h.state.free_exprs e i (omega arith);
+      free_pats = λ q i lo. h.state.free_pats q i (omega arith);
+      free_modes = λ q i lo. h.state.free_modes q i (omega arith);
+      free_bindings = λ q v i lo. h.state.free_bindings q v i (omega arith);
+      bound = λ q v i other lo.
+          elim (lt_or_ge (pat_start g.body s q) old.clock) [
+            | inl l ↦ h.state.bound q v i l
+            | inr r ↦ absurd (other (one_pat g.body s h.ready.law.schedule q p (binds_within g.body q v i) h.within (omega (arith, h.here))))
+          ];
+    };
+    made = λ e i lo hi. absurd (expr_is_no_pat g.body s h.ready.law.schedule e p i h.within (omega (arith, h.here)));
+    pats_made = λ q i other lo hi. absurd (other (one_pat g.body s h.ready.law.schedule q p i h.within (omega (arith, h.here))));
+    truths = λ e m i. inl i;
+    pat_truths = λ q m i. inl i;
+  }
+
+  -- where it binds nothing, nothing is amiss there
+  pub pat_entered : option_and_then binding_of (slice_get g.body.pats p.0) ≡ None → IsWalked g s (entered old)
+  pat_entered none = record {
+    of_body = enters_now.state.of_body;
+    carried = enters_now.state.carried;
+    modes = enters_now.state.modes;
+    pat_diagnostics = enters_now.state.pat_diagnostics;
+    variants = enters_now.state.variants;
+    placeholders = enters_now.state.placeholders;
+    seen = enters_now.state.seen;
+    diagnostics = enters_now.state.diagnostics;
+    free_exprs = enters_now.state.free_exprs;
+    free_pats = enters_now.state.free_pats;
+    free_modes = enters_now.state.free_modes;
+    free_bindings = enters_now.state.free_bindings;
+    bound = λ q v i lo.
+        enters_now.state.bound q v i (λ is.
+        (let own : Binds g.body p v = subst (λ z. Binds g.body z v) is i in
+        let k : None ≡ Some v = sym none ∙ own in
+        absurd (cc))) lo;
+  }
+
+  -- the type of the pattern itself is not there before it is recorded
+  pub own_free : (c : Found) → Walks g s Nothing (entered old) c → IsFree c.result.type_of_pat p.0
+  own_free c w = w.kept_pats p h.within (omega (arith, h.here)) ∙ h.state.free_pats p h.within (omega (arith, h.here))
+
+module _ (g : Given) (s : Schedule) (p : PatId) (old mid : Found) (h : Enters g s p old mid) where
+  -- the walk goes on through parts of the pattern
+  pub enters_more : (new : Found) → Walks g s Nothing mid new → Enters g s p old new
+  enters_more new w = record {
+    clock = omega (arith, h.clock, w.clock);
+    extends = extends_trans old.result mid.result new.result h.extends w.extends;
+    kept = λ e i lo. w.kept e i (omega (arith, h.clock)) ∙ h.kept e i lo;
+    kept_pats = λ q i lo. w.kept_pats q i (omega (arith, h.clock)) ∙ h.kept_pats q i lo;
+    state = open_walked g s p new w.state;
+    made = λ e i lo hi.
+        elim (lt_or_ge (expr_start g.body s e) mid.clock) [
+          | inl l ↦ obeys_kept g mid.result new.result w.extends e (h.made e i lo l)
+          | inr r ↦ w.made e i r hi
+        ];
+    pats_made = λ q i other lo hi.
+        elim (lt_or_ge (pat_start g.body s q) mid.clock) [
+          | inl l ↦ pat_kept g mid.result new.result w.extends q (slice_get g.body.pats q.0) (h.pats_made q i other lo l)
+          | inr r ↦ w.pats_made q i r hi
+        ];
+    truths = λ e m i.
+        elim (w.truths e m i) [
+          | inl o ↦
+              elim (h.truths e m o) [
+                | inl q ↦ inl q
+                | inr q ↦
+                    inr (
+                      misfit_kept g mid.result new.result w.extends e m q.0,
+                      demand_kept g mid.result new.result w.extends e m.expected q.1,
+                    )
+              ]
+          | inr q ↦ inr (q.0, elim q.1 [ inl d ↦ d | inr n ↦ absurd n ])
+        ];
+    pat_truths = λ q m i.
+        elim (w.pat_truths q m i) [
+          | inl o ↦ elim (h.pat_truths q m o) [ inl y ↦ inl y | inr y ↦ inr (pat_truth_kept g mid.result new.result w.extends q m y) ]
+          | inr y ↦ inr y
+        ];
+  }
+
+  -- the pattern is done once its rule holds
+  pub enters_done : IsWalked g s mid → PatRule g mid.result p (slice_get g.body.pats p.0) → Walks g s Nothing old mid
+  enters_done state mine = record {
+    clock = omega (arith, h.clock);
+    extends = h.extends;
+    kept = h.kept;
+    kept_pats = h.kept_pats;
+    state = state;
+    made = h.made;
+    pats_made = λ q i lo hi.
+        elim (same_pat q p) [
+          | inl is ↦ subst (λ z. PatRule g mid.result z (slice_get g.body.pats z.0)) (sym is) mine
+          | inr other ↦ h.pats_made q i other lo hi
+        ];
+    truths = λ e m i. elim (h.truths e m i) [ inl o ↦ inl o | inr q ↦ inr (q.0, inl q.1) ];
+    pat_truths = h.pat_truths;
+  }
+
+-- ---- the record
+abbrev pub mode_of : Option BindingId → Option BindingMode
+mode_of None = None
+mode_of (Some v) = Some mode.Move
+
+abbrev pub binding_set : List (Option Ty) → Option BindingId → Ty → List (Option Ty)
+binding_set xs None t = xs
+binding_set xs (Some v) t = set xs v.0 (Some t)
+
+abbrev pub maybe_noted : List (Option TypeMismatch) → ℕ → Option TypeMismatch → List (Option TypeMismatch)
+maybe_noted xs n None = xs
+maybe_noted xs n (Some m) = noted xs n m
+
+-- the type of p and of what it binds, and a mismatch at p or none, are all that is new
+pub record IsBoundBy (old new : Found) (p : PatId) (t : Ty) (o : Option BindingId) (y : Option TypeMismatch) : Type 0 where
+  pub exprs : new.result.type_of_expr ≡ old.result.type_of_expr
+  pub pats : new.result.type_of_pat ≡ set old.result.type_of_pat p.0 (Some t)
+  pub bindings : new.result.type_of_binding ≡ binding_set old.result.type_of_binding o t
+  pub modes : new.result.binding_modes ≡ own_set old.result.binding_modes p.0 (mode_of o)
+  pub mismatches : new.result.expr_mismatches ≡ old.result.expr_mismatches
+  pub diagnostics : new.result.expr_diagnostics ≡ old.result.expr_diagnostics
+  pub pat_mismatches : new.result.pat_mismatches ≡ maybe_noted old.result.pat_mismatches p.0 y
+  pub pat_diagnostics : new.result.pat_diagnostics ≡ old.result.pat_diagnostics
+  pub expr_variants : new.result.expr_variants ≡ old.result.expr_variants
+  pub pat_variants : new.result.pat_variants ≡ old.result.pat_variants
+  pub placeholders : new.result.type_of_placeholder ≡ old.result.type_of_placeholder
+  pub seen : new.result.seen ≡ old.result.seen
+  pub holes : new.holes ≡ old.holes
+  pub clock : new.clock ≡ old.clock
+
+-- what the record of a type, and of what is bound, wants
+pub record IsRecordable (g : Given) (s : Schedule) (p : PatId) (t : Ty) (o : Option BindingId) (y : Option TypeMismatch) (c : Found) : Type 0 where
+  pub ready : IsReady g s
+  pub within : p.0 < length g.body.pats
+  pub past : pat_start g.body s p < c.clock
+  pub state : IsOpen g s p c.clock c
+  pub carried : IsCarriedType t
+  pub carried_mismatch : (m : TypeMismatch) → y ≡ Some m → IsCarriedType m.expected × IsCarriedType m.actual
+  pub binds : option_and_then binding_of (slice_get g.body.pats p.0) ≡ o
+  pub free_pat : IsFree c.result.type_of_pat p.0
+  pub free_mode : (v : BindingId) → o ≡ Some v → IsFree c.result.binding_modes p.0
+  pub free_binding : (v : BindingId) → o ≡ Some v → IsFree c.result.type_of_binding v.0
+
+module _ (g : Given) (s : Schedule) (p : PatId) (t : Ty) (old new : Found) (o : Option BindingId) (y : Option TypeMismatch) (h : IsRecordable g s p t o y old) (w : IsBoundBy old new p t o y) where
+  long : p.0 < length old.result.type_of_pat
+  long = rw h.state.of_body.pats h.within
+
+  pub has_type : PatTy new.result p t
+  has_type = rw w.pats (slice_get-set_same old.result.type_of_pat p.0 (Some t) long)
+
+  pub has_mode : (v : BindingId) → o ≡ Some v → HasMode new.result p mode.Move
+  has_mode v i =
+      let k : p.0 < length old.result.binding_modes = rw h.state.of_body.modes h.within in
+      rw w.modes (own_set-at old.result.binding_modes p.0 (mode_of o) mode.Move k (ap (λ z. mode_of z) i))
+
+  noted_there : (z : Option TypeMismatch) (m : TypeMismatch) → z ≡ Some m → (n : TypeMismatch) × At (maybe_noted old.result.pat_mismatches p.0 z) p.0 n
+  noted_there None m i = absurd (cc)
+  noted_there (Some k) m i = (let l : p.0 < length old.result.pat_mismatches = rw h.state.of_body.pat_mismatches h.within in noted-some old.result.pat_mismatches p.0 k l)
+
+  pub has_mismatch : (m : TypeMismatch) → y ≡ Some m → HasPatMismatch new.result p
+  has_mismatch m i = subst (λ (l : List (Option TypeMismatch)). (n : TypeMismatch) × At l p.0 n) (sym w.pat_mismatches) (noted_there y m i)
+
+  -- what p binds
+  bound_long : (v : BindingId) → o ≡ Some v → v.0 < length old.result.type_of_binding
+  bound_long v i = rw h.state.of_body.bindings (h.ready.law.binders p v (h.binds ∙ i))
+
+  binding_kept : (z : Option BindingId) → o ≡ z → (n : ℕ) (u : Ty) → At old.result.type_of_binding n u → At (binding_set old.result.type_of_binding z t) n u
+  binding_kept None i n u k = k
+  binding_kept (Some v) i n u k = At-set old.result.type_of_binding v.0 n t u (h.free_binding v i) k
+
+  binding_has : (v : BindingId) (z : Option BindingId) → o ≡ Some v → z ≡ o → At (binding_set old.result.type_of_binding z t) v.0 t
+  binding_has v z i k =
+      let f : z ≡ Some v = k ∙ i in
+      subst (λ a. At (binding_set old.result.type_of_binding a t) v.0 t) (sym f) (
+      slice_get-set_same old.result.type_of_binding v.0 (Some t) (bound_long v i)
+      )
+
+  pub has_binding : (v : BindingId) → o ≡ Some v → BindingTy new.result v t
+  has_binding v i = rw w.bindings (binding_has v o i refl)
+
+  binding_cases : (z : Option BindingId) → o ≡ z → (n : ℕ) (u : Ty) → At (binding_set old.result.type_of_binding z t) n u → At old.result.type_of_binding n u ⊎ (t ≡ u)
+  binding_cases None i n u k = inl k
+  binding_cases (Some v) i n u k =
+      elim (At-set_cases old.result.type_of_binding v.0 n t u (bound_long v i) k) [ inl q ↦ inl q | inr q ↦ inr q.1 ]
+
+  binding_long : (z : Option BindingId) → length (binding_set old.result.type_of_binding z t) ≡ length old.result.type_of_binding
+  binding_long None = refl
+  binding_long (Some v) = length-set old.result.type_of_binding v.0 (Some t)
+
+  -- a binding of another pattern is another binding
+  binding_other : (q : PatId) (v : BindingId) → Binds g.body q v → (q ≡ p → ⊥) → (z : Option BindingId) → o ≡ z → slice_get (binding_set old.result.type_of_binding z t) v.0 ≡ slice_get old.result.type_of_binding v.0
+  binding_other q v k ne None i = refl
+  binding_other q v k ne (Some u) i =
+      let apart : v.0 ≢ u.0
+      = (λ same.
+      (let uv : v ≡ u = binding_id v u same in
+      let b = h.ready.law.bound u (h.ready.law.binders p u (h.binds ∙ i)) in
+      let qb : q ≡ b.binder = b.only q (subst (λ z. Binds g.body q z) uv k) in
+      let pb : p ≡ b.binder = b.only p (h.binds ∙ i) in
+      ne (qb ∙ sym pb))) in
+      slice_get-set_other old.result.type_of_binding u.0 v.0 (Some t) apart
+
+  later : (q : PatId) → new.clock ≤ pat_start g.body s q → q ≡ p → ⊥
+  later q lo is =
+      let k : pat_start g.body s q ≡ pat_start g.body s p = ap (λ z. pat_start g.body s z) is in
+      omega (arith, lo, k, h.past, w.clock)
+
+  mismatch_kept : (z : Option TypeMismatch) (n : ℕ) (m : TypeMismatch) → At old.result.pat_mismatches n m → At (maybe_noted old.result.pat_mismatches p.0 z) n m
+  mismatch_kept None n m i = i
+  mismatch_kept (Some k) n m i = noted-keeps old.result.pat_mismatches p.0 n k m i
+
+  mismatch_cases : (z : Option TypeMismatch) (n : ℕ) (m : TypeMismatch) → At (maybe_noted old.result.pat_mismatches p.0 z) n m → At old.result.pat_mismatches n m ⊎ ((n ≡ p.0) × (z ≡ Some m))
+  mismatch_cases None n m i = inl i
+  mismatch_cases (Some k) n m i =
+      elim (noted-cases old.result.pat_mismatches p.0 n k m i) [ inl q ↦ inl q | inr q ↦ inr (q.0, ap (λ a. Some a) q.1) ]
+
+  mismatch_long : (z : Option TypeMismatch) → length (maybe_noted old.result.pat_mismatches p.0 z) ≡ length old.result.pat_mismatches
+  mismatch_long None = refl
+  mismatch_long (Some k) = length-noted old.result.pat_mismatches p.0 k
+
+  pub extends : Extends old.result new.result
+  extends = record {
+    exprs = λ e u i. rw w.exprs i;
+    pats = λ q u i. rw w.pats (At-set old.result.type_of_pat p.0 q.0 t u h.free_pat i);
+    bindings = λ v u i. rw w.bindings (binding_kept o refl v.0 u i);
+    modes = λ q m i. rw w.modes (modes_kept o refl q m i);
+    mismatches = λ e m i. rw w.mismatches i;
+    pat_mismatches = λ q m i. rw w.pat_mismatches (mismatch_kept y q.0 m i);
+    placeholders = λ k u i. rw w.placeholders i;
+    diagnostics = λ e d i. inl (rw w.diagnostics i);
+    seen = λ e i. record { position = i.position; entry = i.entry; found = rw w.seen i.found; is_node = i.is_node };
+    pat_diagnostics = λ q d i. rw w.pat_diagnostics i;
+    expr_variants = λ e v i. rw w.expr_variants i;
+    pat_variants = λ q v i. rw w.pat_variants i;
+  }
+    where
+      modes_kept : (z : Option BindingId) → o ≡ z → (q : PatId) (m : BindingMode) → HasMode old.result q m → At (own_set old.result.binding_modes p.0 (mode_of z)) q.0 m
+      modes_kept None i q m k = k
+      modes_kept (Some v) i q m k = At-set old.result.binding_modes p.0 q.0 mode.Move m (h.free_mode v i) k
+
+  carried : IsCarriedTable new.result
+  carried =
+      let c = h.state.carried in
+      record {
+        exprs = λ n u i. c.exprs n u (rw w.exprs at i);
+        pats = λ n u i.
+            elim (At-set_cases old.result.type_of_pat p.0 n t u long (rw w.pats at i)) [
+              | inl q ↦ c.pats n u q
+              | inr q ↦ subst (λ v. IsCarriedType v) q.1 h.carried
+            ];
+        bindings = λ n u i.
+            elim (binding_cases o refl n u (rw w.bindings at i)) [
+              | inl q ↦ c.bindings n u q
+              | inr q ↦ subst (λ v. IsCarriedType v) q h.carried
+            ];
+        placeholders = λ n u i. c.placeholders n u (rw w.placeholders at i);
+        found = λ n k u i. c.found n k u (rw w.diagnostics at i);
+        expected = λ n m i. c.expected n m (rw w.mismatches at i);
+        actual = λ n m i. c.actual n m (rw w.mismatches at i);
+        pat_expected = λ n m i.
+            elim (mismatch_cases y n m (rw w.pat_mismatches at i)) [
+              | inl q ↦ c.pat_expected n m q
+              | inr q ↦ (h.carried_mismatch m q.1).0
+            ];
+        pat_actual = λ n m i.
+            elim (mismatch_cases y n m (rw w.pat_mismatches at i)) [
+              | inl q ↦ c.pat_actual n m q
+              | inr q ↦ (h.carried_mismatch m q.1).1
+            ];
+      }
+
+  of_body : IsOfBody g.body new.result
+  of_body = record {
+    exprs = rw w.exprs h.state.of_body.exprs;
+    pats = rw (w.pats, length-set) h.state.of_body.pats;
+    bindings = ap (λ l. length l) w.bindings ∙ (binding_long o ∙ h.state.of_body.bindings);
+    modes = ap (λ l. length l) w.modes ∙ (length-own_set old.result.binding_modes p.0 (mode_of o) ∙ h.state.of_body.modes);
+    mismatches = rw w.mismatches h.state.of_body.mismatches;
+    diagnostics = rw w.diagnostics h.state.of_body.diagnostics;
+    pat_diagnostics = rw w.pat_diagnostics h.state.of_body.pat_diagnostics;
+    expr_variants = rw w.expr_variants h.state.of_body.expr_variants;
+    pat_variants = rw w.pat_variants h.state.of_body.pat_variants;
+    pat_mismatches = ap (λ l. length l) w.pat_mismatches ∙ (mismatch_long y ∙ h.state.of_body.pat_mismatches);
+  }
+
+  bound : (q : PatId) (v : BindingId) → Binds g.body q v → pat_start g.body s q < new.clock → (u : Ty) × BindingTy new.result v u
+  bound q v i hi =
+      elim (same_pat q p) [
+        | inl is ↦
+            (let own : Binds g.body p v = subst (λ z. Binds g.body z v) is i in
+            (t, has_binding v (sym h.binds ∙ own)))
+        | inr other ↦ (let k = h.state.bound q v i other (omega (arith, w.clock)) in (k.0, extends.bindings v k.0 k.1))
+      ]
+
+  new_modes : OnlyBindersHaveModes g.body new.result
+  new_modes q m i =
+      let long_modes : p.0 < length old.result.binding_modes = rw h.state.of_body.modes h.within in
+      elim (own_set-cases old.result.binding_modes p.0 q.0 (mode_of o) m long_modes (rw w.modes at i)) [
+        | inl z ↦ h.state.modes q m z
+        | inr z ↦ subst (λ a. IsBinder g.body a) (sym (pat_id q p z.0)) (own_binder o refl z.1)
+      ]
+    where
+      own_binder : (z : Option BindingId) → o ≡ z → mode_of z ≡ Some m → IsBinder g.body p
+      own_binder None is k = absurd (cc)
+      own_binder (Some v) is k = binder_by g.body p v (slice_get g.body.pats p.0) refl (h.binds ∙ is)
+
+  -- the walk is where it was
+  pub recorded_walked : IsWalked g s new
+  recorded_walked = record {
+    of_body = of_body;
+    carried = carried;
+    modes = new_modes;
+    diagnostics = λ e d i. diagnostic_kept g old.result new.result extends e d (h.state.diagnostics e d (rw w.diagnostics at i));
+    pat_diagnostics = λ q d i. h.state.pat_diagnostics q d (rw w.pat_diagnostics at i);
+    variants = record { exprs = w.expr_variants ∙ h.state.variants.exprs; pats = w.pat_variants ∙ h.state.variants.pats };
+    placeholders = record { count = ap (λ l. length l) w.placeholders ∙ h.state.placeholders.count; only = λ k u i. h.state.placeholders.only k u (rw w.placeholders at i) };
+    seen = λ i z there. seen_as_kept g old new extends (λ e d k. rw w.diagnostics k) w.holes z (h.state.seen i z (rw w.seen at there));
+    free_exprs = λ e i lo. rw w.exprs (h.state.free_exprs e i (omega (arith, w.clock)));
+    free_pats = λ q i lo.
+        rw w.pats (slice_get-set_other old.result.type_of_pat p.0 q.0 (Some t) (other_number q lo) ∙ h.state.free_pats q i (omega (arith, w.clock)));
+    free_modes = λ q i lo.
+        rw w.modes (own_set-other old.result.binding_modes p.0 q.0 (mode_of o) (other_number q lo) ∙ h.state.free_modes q i (omega (arith, w.clock)));
+    free_bindings = λ q v i lo.
+        rw w.bindings (binding_other q v i (later q lo) o refl ∙ h.state.free_bindings q v i (omega (arith, w.clock)));
+    bound = bound;
+  }
+    where
+      other_number : (q : PatId) → new.clock ≤ pat_start g.body s q → q.0 ≢ p.0
+      other_number q lo i = later q lo (pat_id q p i)
+
+  -- and the pattern is still open, but has its type
+  pub enters_recorded : (first : Found) → pat_start g.body s p ≡ first.clock → ((m : TypeMismatch) → y ≡ Some m → IsTruePatMismatch g new.result p m) → Enters g s p first old → Enters g s p first new
+  enters_recorded first here true k = record {
+    clock = omega (arith, k.clock, w.clock);
+    extends = extends_trans first.result old.result new.result k.extends extends;
+    kept = λ e i lo. ap (λ l. slice_get l e.0) w.exprs ∙ k.kept e i lo;
+    kept_pats = λ q i lo.
+        let ne : q.0 ≢ p.0 = (λ is. (let same : pat_start g.body s q ≡ pat_start g.body s p = ap (λ z. pat_start g.body s z) (pat_id q p is) in omega (arith, same, here, lo))) in
+        ap (λ l. slice_get l q.0) w.pats ∙ (slice_get-set_other old.result.type_of_pat p.0 q.0 (Some t) ne ∙ k.kept_pats q i lo);
+    state = open_walked g s p new recorded_walked;
+    made = λ e i lo hi. obeys_kept g old.result new.result extends e (k.made e i lo (omega (arith, w.clock)));
+    pats_made = λ q i other lo hi. pat_kept g old.result new.result extends q (slice_get g.body.pats q.0) (k.pats_made q i other lo (omega (arith, w.clock)));
+    truths = λ e m i.
+        elim (k.truths e m (rw w.mismatches at i)) [
+          | inl q ↦ inl q
+          | inr q ↦ inr (misfit_kept g old.result new.result extends e m q.0, demand_kept g old.result new.result extends e m.expected q.1)
+        ];
+    pat_truths = λ q m i.
+        elim (mismatch_cases y q.0 m (rw w.pat_mismatches at i)) [
+          | inl z ↦ elim (k.pat_truths q m z) [ inl a ↦ inl a | inr a ↦ inr (pat_truth_kept g old.result new.result extends q m a) ]
+          | inr z ↦ inr (subst (λ a. IsTruePatMismatch g new.result a m) (sym (pat_id q p z.0)) (true m z.1))
+        ];
+  }

@@ -1,0 +1,209 @@
+-- Paths, under each assignment.
+use Rattle.std.proofs.Common.{◌≡◌, refl, subst, ◌∙◌, ap, Option, Some, slice_get, inl, inr, arith, true, false, sym, option_and_then, None, length, option_map, ℕ, List, map, [], ◌+◌, ◌∷◌, ◌++◌}
+use Rattle.std.proofs.lemmas.Bool.{eq-eqb}
+use Rattle.std.proofs.lemmas.List.{length-map, map-append}
+use Rattle.hir_types.specs.declared.ids.ExprId.{ExprId}
+use Rattle.hir_types.specs.declared.ids.VariantId.{VariantId}
+use Rattle.hir_types.specs.declared.ty.Ty.{Ty}
+use Rattle.hir_types.specs.Subst.{folded, Assignment}
+use Rattle.hir_types.specs.declared.ids.BindingId.{BindingId}
+use Rattle.hir_types.specs.declared.ids.FunctionId.{FunctionId}
+use Rattle.hir_types.specs.declared.ids.CallableDefId.{CallableDefId}
+use Rattle.hir_types.specs.declared.ty.GenericArg.{GenericArg}
+use Rattle.hir_types.specs.declared.ids.CallableDefId.TheVariants as callable
+use Rattle.hir_types.specs.declared.ty.Ty.TheVariants as ty
+use Rattle.hir_types.specs.declared.head.HoleKind.TheVariants as kind
+use Rattle.hir_types.specs.declared.ty.GenericArg.TheVariants as arg
+use Rattle.hir_facts.specs.declared.raw.RawPath.{RawPath}
+use Rattle.hir_facts.specs.declared.schedule.Schedule.{Schedule}
+use Rattle.hir_facts.specs.CarriedTypes.{IsCarriedType}
+use Rattle.hir_facts.specs.declared.raw.RawFn.{RawFn}
+use Rattle.hir_facts.specs.Scope.{has_params, fn_params, adt_params, Scope}
+use Rattle.hir_facts.specs.Signatures.{type_args, Signature, signature_of, ctor_type}
+use Rattle.hir_facts.specs.declared.raw.RawPath.TheVariants as path
+use Rattle.hir_facts.specs.declared.raw.RawExpr.TheVariants as expr
+use Rattle.hir_facts.specs.declared.raw.RawCtor.TheVariants as ctor
+use Rattle.infer_table.specs.UndoLaws.{grew_itself}
+use Rattle.infer_table.specs.Table.{hole_count}
+use Rattle.infer_result.specs.declared.result.InferenceResult.{InferenceResult}
+use Rattle.infer_result.specs.Table.{HasTy, ExprVariant, BindingTy}
+use Rattle.infer_result.specs.Places.{Given, IsVariantAt}
+use Rattle.infer_result.specs.Rules.Paths.{PathRule}
+use Rattle.infer_result.specs.Closed.{IsOfBody}
+use Rattle.infer_result.specs.Derived.{ctor_type_of_unit, ctor_type_of_tuple}
+use Rattle.infer_ctx.specs.Walks.{Extends}
+use Rattle.infer_ctx.specs.Found.{Found}
+use Rattle.infer_ctx.specs.Under.{IsInside, KindWalked, IsItem, IsVariant}
+use Rattle.infer_ctx.specs.declared.context.InferenceContext.{InferenceContext}
+use Rattle.infer_ctx.specs.Closings.{Closes, found_under, expected_under, IsSound}
+use Rattle.infer_ctx.specs.Steps.{Within, KindDone, ArePartTypes}
+use Rattle.infer_ctx.specs.Tells.{TellsRecorded}
+use Rattle.infer_ctx.specs.Fine.{item_params, IsFine}
+use Rattle.infer_ctx.proofs.Parts.{expr_ahead}
+use Rattle.infer_ctx.proofs.Variants.{expr_named}
+use Rattle.infer_ctx.proofs.Leaves.{rule_of, leaf_done}
+use Rattle.infer_ctx.proofs.Carried.{carried_expr}
+use Rattle.infer_ctx.proofs.Closed.{same_found, closes_earlier, At-unclosed, At-closed}
+use Rattle.infer_ctx.proofs.OverTypes.{fine_closed, fn_def_closed, adt_closed}
+use Rattle.infer_ctx.proofs.AtEach.{told_same, within_under}
+use Rattle.infer_ctx.proofs.Tellings.{local_tells, function_tells, ctor_tells}
+use Rattle.infer_ctx.proofs.FineTypes.{fine_fn_def, AllFine, fine_adt}
+use Rattle.infer_ctx.proofs.Items.{tuple_signature}
+use Rattle.infer_coerce.proofs.Holes.{holed}
+use Rattle.infer_pat.specs.Paths.{IsPathType, NamesTyped, PathDone, AreFreshArgs}
+use Rattle.infer_pat.proofs.PatHoles.{all_fine, no_part_yet, one_part_more, new_one}
+
+path_rule : (g : Given) (r q : InferenceResult) (e : ExprId) (p : RawPath) (t : Ty) → Extends r q → HasTy q e t → ((v : VariantId) → p ≡ path.Ctor v → ExprVariant r e v) → IsPathType g r p t → PathRule g q e p
+path_rule g r q e (path.Local v) t x has named k = (t, has, x.bindings v t k)
+path_rule g r q e (path.Function f) t x has named (ts, is, count) = (ts, subst (λ u. HasTy q e u) is has, count)
+path_rule g r q e (path.Ctor v) t x has named k = (t, has, k, x.expr_variants e v (named v refl))
+path_rule g r q e path.Other t x has named k = absurd k
+
+pub path_done : (g : Given) (s : Schedule) (e : ExprId) (x : Option Ty) (p : RawPath) (t : Ty) (c : Found) → IsInside g s e x c → slice_get g.body.exprs e.0 ≡ Some (expr.Path p) → IsCarriedType t → IsPathType g c.result p t → KindWalked g s e x t c c
+path_done g s e x p t c h is carried k =
+    leaf_done g s e x t c h (expr_ahead g.body s e (expr.Path p) c.clock h.ready.law.schedule h.within is h.clock).1 carried
+    (λ r q has. rule_of g r e (expr.Path p) is (path_rule g c.result r e p t q has (λ v n. expr_named g.body c.result h.state.variants e v (is ∙ ap (λ y. Some (expr.Path y)) n)) k))
+
+-- a path names a local, which has a type, a function or a constructor
+pub path_names : (g : Given) (s : Schedule) (e : ExprId) (x : Option Ty) (p : RawPath) (c : Found) → IsInside g s e x c → slice_get g.body.exprs e.0 ≡ Some (expr.Path p) → NamesTyped g c.result p
+path_names g s e x (path.Local v) c h is =
+    elim (h.ready.law.scopes e v is) [
+      | inl self ↦ (let none = h.ready.law.no_self in absurd (cc))
+      | inr q ↦ h.state.bound q.0 v q.1 (omega (arith, h.clock, q.2))
+    ]
+path_names g s e x (path.Function f) c h is = h.ready.written.functions e f is
+path_names g s e x (path.Ctor v) c h is = h.ready.written.constructors e v is
+path_names g s e x path.Other c h is =
+    let k : false ≡ true = carried_expr g.body e.0 (expr.Path path.Other) h.ready.law.carried is in absurd (cc)
+
+pub path_kind : (g : Given) (s : Schedule) (e : ExprId) (x : Option Ty) (p : RawPath) (t : Ty) (c new : InferenceContext) → Within g s e x c → slice_get g.body.exprs e.0 ≡ Some (expr.Path p) → PathDone g p t c new → KindDone g s e x t c new
+path_kind g s e x p t c new h is d = record {
+  follows = record {
+    clock = omega (arith, d.clock);
+    grew = d.grew;
+    of_body = subst (λ r. IsOfBody g.body r) (sym d.result) h.state.of_body;
+    sound = d.sound;
+    told = told_same g c new d.result;
+  };
+  fine = d.fine;
+  tells = d.tells e is;
+  each = λ a q.
+      let o : Closes a c = closes_earlier a c new d.grew q in
+      subst (λ f. KindWalked g s e (expected_under a x) (folded a t) (found_under a c) f) (sym (same_found a c new d.result d.asked d.clock))
+      (path_done g s e (expected_under a x) p (folded a t) (found_under a c) (within_under g s a c o e x h) is (fine_closed g.scope a t q.closing d.fine.heads) (d.each a q));
+}
+
+names_open : (a : Assignment) (g : Given) (c : InferenceContext) (p : RawPath) → NamesTyped g (found_under a c).result p → NamesTyped g c.result p
+names_open a g c (path.Local v) (t, h) = let q = At-unclosed (folded a) c.result.type_of_binding v.0 t h in (q.0, q.1)
+names_open a g c (path.Function f) h = h
+names_open a g c (path.Ctor v) h = h
+names_open a g c path.Other h = absurd h
+
+-- a path names a local, which has a type, a function or a constructor
+pub path_typed : (g : Given) (s : Schedule) (e : ExprId) (x : Option Ty) (p : RawPath) (c : InferenceContext) → Within g s e x c → slice_get g.body.exprs e.0 ≡ Some (expr.Path p) → NamesTyped g c.result p
+path_typed g s e x p c h is =
+    let q = h.state.sound.some in
+    names_open q.0 g c p (path_names g s e (expected_under q.0 x) p (found_under q.0 c) (within_under g s q.0 c q.1 e x h) is)
+
+-- what is recorded somewhere
+pub recorded_at : {A : Type 0} (o : Option (Option A)) (t : A) → option_and_then (λ x. x) o ≡ Some t → o ≡ Some (Some t)
+recorded_at None t h = absurd (cc)
+recorded_at (Some None) t h = absurd (cc)
+recorded_at (Some (Some u)) t h = ap (λ x. Some x) h
+
+-- the type that a local has
+pub local_path : (g : Given) (v : BindingId) (t : Ty) (c : InferenceContext) → IsOfBody g.body c.result → IsSound g.scope c → TellsRecorded g c.result → BindingTy c.result v t → PathDone g (path.Local v) t c c
+local_path g v t c h s told k = record {
+  result = refl;
+  asked = refl;
+  clock = refl;
+  grew = grew_itself c.table;
+  sound = s;
+  fine = s.fine.bindings v.0 t k;
+  tells = λ e is. local_tells g e v t is (told v t k);
+  each = λ a q. At-closed (folded a) c.result.type_of_binding v.0 t k;
+}
+
+pub same_some : {A : Type 0} {x y : A} → Some x ≡ Some y → x ≡ y
+same_some h = cc
+
+-- how many parameters a function has
+pub fn_size : (g : Given) (f : FunctionId) (item : IsItem g.scope.facts (callable.FunctionId f)) (x : RawFn) → slice_get g.scope.facts.fns f.0 ≡ Some x → length x.params ≡ item.signature.params
+fn_size g f item x at = same_some (sym (ap (option_map (λ y. length y.params)) at) ∙ item.count)
+
+-- so many types are as many as there are parameters
+takes : (o : Option ℕ) (n : ℕ) (ts : List Ty) → o ≡ Some n → length ts ≡ n → has_params o (length ts) ≡ true
+takes o n ts at count = ap (λ p. has_params p (length ts)) at ∙ eq-eqb n (length ts) (sym count)
+
+counted_under : (a : Assignment) (o : Option ℕ) (n : ℕ) (ts : List Ty) → o ≡ Some n → length ts ≡ n → o ≡ Some (length (map (folded a) ts))
+counted_under a o n ts at count = at ∙ ap (λ m. Some m) (sym count ∙ sym (length-map ts (folded a)))
+
+-- the type of an item at as many types as it has parameters is fine
+pub item_fine : (g : Given) (id : CallableDefId) (item : IsItem g.scope.facts id) (ts : List Ty) (c new : InferenceContext) → ArePartTypes g.scope item.signature.params ts c new → IsFine g.scope new.table (ty.FnDef id (type_args ts))
+item_fine g id item ts c new d = fine_fn_def g.scope new.table id ts (takes (item_params g.scope.facts id) item.signature.params ts (ap (option_map (λ σ. σ.params)) item.found) d.count_is) (all_fine g.scope new.table ts d.fine)
+
+-- a function at as many types as it has parameters
+pub function_path : (g : Given) (f : FunctionId) (item : IsItem g.scope.facts (callable.FunctionId f)) (ts : List Ty) (c new : InferenceContext) → ArePartTypes g.scope item.signature.params ts c new → PathDone g (path.Function f) (ty.FnDef (callable.FunctionId f) (type_args ts)) c new
+function_path g f item ts c new d = record {
+  result = d.result;
+  asked = d.asked;
+  clock = d.clock;
+  grew = d.grew;
+  sound = d.sound;
+  fine = item_fine g (callable.FunctionId f) item ts c new d;
+  tells = λ e is. function_tells g e f (type_args ts) (ty.FnDef (callable.FunctionId f) (type_args ts)) is refl;
+  each = λ a q. (map (folded a) ts, fn_def_closed a (callable.FunctionId f) ts, counted_under a (fn_params g.scope.facts f.0) item.signature.params ts item.count d.count_is);
+}
+
+-- ---- constructors
+module _ (g : Given) (v : VariantId) (x : IsVariant g.scope.facts v) (ts : List Ty) (c new : InferenceContext) (d : ArePartTypes g.scope x.params ts c new) where
+  -- the variant, at what the types come to
+  pub variant_under : (a : Assignment) → IsVariantAt g v x.variant (map (folded a) ts)
+  variant_under a = record { found = x.found; count = counted_under a (adt_params g.scope.facts x.variant.adt) x.params ts x.count d.count_is }
+
+  every_fine : AllFine g.scope new.table ts
+  every_fine = all_fine g.scope new.table ts d.fine
+
+  -- the type of its adt is fine
+  pub ctor_adt_fine : IsFine g.scope new.table (ty.Adt x.variant.adt (type_args ts))
+  ctor_adt_fine = fine_adt g.scope new.table x.variant.adt ts (takes (adt_params g.scope.facts x.variant.adt) x.params ts x.count d.count_is) every_fine
+
+  -- a path to it has the type t, which says under each assignment what the constructor is
+  ctor_path_at : (t : Ty) → IsFine g.scope new.table t → t ≡ ctor_type x.variant v ts → ((a : Assignment) → folded a t ≡ ctor_type x.variant v (map (folded a) ts)) → PathDone g (path.Ctor v) t c new
+  ctor_path_at t fine made is = record {
+    result = d.result;
+    asked = d.asked;
+    clock = d.clock;
+    grew = d.grew;
+    sound = d.sound;
+    fine = fine;
+    tells = λ e at. ctor_tells g e v x.variant ts t at x.found (x.count ∙ ap (λ n. Some n) (sym d.count_is)) made;
+    each = λ a q. record { variant = x.variant; types = map (folded a) ts; is_variant = variant_under a; is = is a };
+  }
+
+  -- one without fields is a value of its adt
+  pub unit_path : x.variant.ctor ≡ ctor.Unit → PathDone g (path.Ctor v) (ty.Adt x.variant.adt (type_args ts)) c new
+  unit_path u = ctor_path_at (ty.Adt x.variant.adt (type_args ts)) ctor_adt_fine (sym (ctor_type_of_unit x.variant v ts u)) (λ a. adt_closed a x.variant.adt ts ∙ sym (ctor_type_of_unit x.variant v (map (folded a) ts) u))
+
+  -- one with fields is an item that can be called
+  pub tuple_path : x.variant.ctor ≡ ctor.Tuple → PathDone g (path.Ctor v) (ty.FnDef (callable.VariantId v) (type_args ts)) c new
+  tuple_path u =
+      let made : (σ : Signature) × (signature_of g.scope.facts (callable.VariantId v) ≡ Some σ) × (σ.params ≡ x.params) = tuple_signature g.scope.facts v x.variant x.params x.found x.count u in
+      let at : item_params g.scope.facts (callable.VariantId v) ≡ Some x.params = ap (option_map (λ σ. σ.params)) made.1 ∙ ap (λ n. Some n) made.2 in
+      ctor_path_at (ty.FnDef (callable.VariantId v) (type_args ts))
+      (fine_fn_def g.scope new.table (callable.VariantId v) ts (takes (item_params g.scope.facts (callable.VariantId v)) x.params ts at d.count_is) every_fine)
+      (sym (ctor_type_of_tuple x.variant v ts u))
+      (λ a. fn_def_closed a (callable.VariantId v) ts ∙ sym (ctor_type_of_tuple x.variant v (map (folded a) ts) u))
+
+-- ---- new holes for parameters
+pub fresh_start : {sc : Scope} (c : InferenceContext) → IsSound sc c → AreFreshArgs sc 0 [] c c
+fresh_start c s = record { types = []; are = refl; made = no_part_yet c s }
+
+pub fresh_more : {sc : Scope} (n : ℕ) (xs : List GenericArg) (old c : InferenceContext) → AreFreshArgs sc n xs old c → AreFreshArgs sc (n + 1) (xs ++ arg.Ty (ty.Var (hole_count c.table)) ∷ []) old (holed c kind.Ty)
+fresh_more n xs old c h =
+    let v : Ty = ty.Var (hole_count c.table) in
+    record {
+      types = h.types ++ v ∷ [];
+      are = ap (λ ys. ys ++ arg.Ty v ∷ []) h.are ∙ sym (map-append arg.Ty h.types (v ∷ []));
+      made = one_part_more n h.types None v old c (holed c kind.Ty) h.made (new_one c h.made.sound);
+    }

@@ -1,0 +1,18 @@
+use Rattle.std.proofs.Common.{◌≡◌, ◌∙◌, refl, ap, Some, slice_get}
+use Rattle.std.proofs.lemmas.Option.{slice_get_read}
+use Rattle.hir_facts.specs.declared.raw.RawExpr.TheVariants as expr
+use Rattle.infer_ctx.proofs.Carried.{carried_expr}
+use Rattle.infer_pat.proofs.Literals.{literal_kind}
+use Rattle.infer_pat.proofs.literal.infer_literal.Goals as goal
+
+pub literal_ty-requires-clause-carried : goal.literal_ty-requires-clause-carried
+literal_ty-requires-clause-carried c =
+    let is : slice_get c.args.given.now.body.now.exprs c.args.tgt_expr.0 ≡ Some (expr.Lit c.in-Lit.literal)
+    = slice_get_read c.args.given.now.body.now.exprs _ c.args.tgt_expr.0 _ refl c.requires.before.within (rw c.as_slice.ensures at c.index-as_slice-tgt_expr.is) ∙ ap (λ x. Some x) c.in-Lit.is in
+    carried_expr c.args.given.now.body.now c.args.tgt_expr.0 (expr.Lit c.in-Lit.literal) c.requires.before.ready.law.carried is
+
+pub returns : goal.returns
+returns c =
+    let is : slice_get c.args.given.now.body.now.exprs c.args.tgt_expr.0 ≡ Some (expr.Lit c.in-Lit.literal)
+    = slice_get_read c.args.given.now.body.now.exprs _ c.args.tgt_expr.0 _ refl c.requires.before.within (rw c.as_slice.ensures at c.index-as_slice-tgt_expr.is) ∙ ap (λ x. Some x) c.in-Lit.is in
+    literal_kind _ _ _ _ c.in-Lit.literal _ _ _ c.requires.before is c.in_ok-ty-in-Lit.ensures

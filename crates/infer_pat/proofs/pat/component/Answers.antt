@@ -1,0 +1,19 @@
+use Rattle.std.proofs.Common.{rules, ◌≡◌, Some, slice_get, sym, subst}
+use Rattle.hir_types.specs.declared.ty.Ty.{Ty}
+use Rattle.hir_types.specs.declared.ty.Ty.TheVariants as ty
+use Rattle.infer_table.specs.Table.{State}
+use Rattle.infer_ctx.specs.Context.{scope_in}
+use Rattle.infer_ctx.specs.Fine.{IsFine, IsFineExpectation}
+use Rattle.infer_ctx.proofs.FineTypes.{fine_part}
+use Rattle.infer_pat.proofs.PatHoles.{resolved_fine}
+use Rattle.infer_pat.proofs.pat.component.Goals as goal
+
+pub returns-in_ok-part-in-Some-get : goal.returns-in_ok-part-in-Some-get
+returns-in_ok-part-in-Some-get c =
+    let state : State = c.args.context.now.table in
+    let P : Ty → Type 0 = IsFine (scope_in c.args.given.now) state in
+    let given : P c.in-Some.ty = subst (λ x. IsFineExpectation (scope_in c.args.given.now) state x) c.in-Some.is c.requires.fine in
+    let known : P c.shallow_resolve.result.now = resolved_fine c.args.context.now c.in-Some.ty c.shallow_resolve.result.now c.requires.sound given (c.shallow_resolve.ensures.made given.holes) c.shallow_resolve.ensures.same in
+    let whole : P (ty.Tuple c.in-Tuple.tys) = subst P c.in-Tuple.is known in
+    let found : slice_get c.in-Tuple.tys c.args.at ≡ Some c.in-Some-get.part.now = search rules in
+    subst P (sym c.in_ok-part-in-Some-get.ensures) (fine_part (scope_in c.args.given.now) state c.in-Tuple.tys c.args.at c.in-Some-get.part.now whole found)

@@ -1,0 +1,6 @@
+use Rattle.infer_ctx.specs.Context.{scope_in}
+use Rattle.infer_pat.specs.Paths.{AreFreshArgs}
+use Rattle.infer_pat.proofs.path.fresh_args_for_item.Given as goal
+
+abbrev pub invariant-loop : goal.invariant-loop
+invariant-loop l = AreFreshArgs (scope_in l.given) l.counter l.args l.initial.context l.context

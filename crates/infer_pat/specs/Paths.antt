@@ -1,0 +1,56 @@
+-- What a path is given and gives.
+use Rattle.std.specs.Prelude.{◌≡◌, List, length, Some, slice_get, ℕ}
+use Rattle.hir_types.specs.declared.ty.Ty.{Ty}
+use Rattle.hir_types.specs.declared.ids.ExprId.{ExprId}
+use Rattle.hir_types.specs.Subst.{Assignment, folded}
+use Rattle.hir_types.specs.declared.ty.GenericArg.{GenericArg}
+use Rattle.hir_types.specs.declared.ids.CallableDefId.TheVariants as callable
+use Rattle.hir_types.specs.declared.ty.Ty.TheVariants as ty
+use Rattle.hir_facts.specs.declared.raw.RawPath.{RawPath}
+use Rattle.hir_facts.specs.Scope.{fn_params, Scope}
+use Rattle.hir_facts.specs.Signatures.{type_args}
+use Rattle.hir_facts.specs.declared.raw.RawPath.TheVariants as path
+use Rattle.hir_facts.specs.declared.raw.RawExpr.TheVariants as expr
+use Rattle.infer_table.specs.Table.{Grew}
+use Rattle.infer_result.specs.declared.result.InferenceResult.{InferenceResult}
+use Rattle.infer_result.specs.Table.{BindingTy}
+use Rattle.infer_result.specs.Places.{Given, IsCtorPath}
+use Rattle.infer_ctx.specs.Under.{IsVariant, IsItem}
+use Rattle.infer_ctx.specs.declared.context.InferenceContext.{InferenceContext}
+use Rattle.infer_ctx.specs.Fine.{IsFine}
+use Rattle.infer_ctx.specs.Tells.{Tells}
+use Rattle.infer_ctx.specs.Closings.{Closes, closed_table, IsSound}
+use Rattle.infer_ctx.specs.Steps.{ArePartTypes}
+
+-- the path names a local of this type, or a function or a constructor at as many types as it has parameters
+abbrev pub IsPathType : Given → InferenceResult → RawPath → Ty → Type 0
+IsPathType g r (path.Local v) t = BindingTy r v t
+IsPathType g r (path.Function f) t = (ts : List Ty) × (t ≡ ty.FnDef (callable.FunctionId f) (type_args ts)) × (fn_params g.scope.facts f.0 ≡ Some (length ts))
+IsPathType g r (path.Ctor v) t = IsCtorPath g v t
+IsPathType g r path.Other t = ⊥
+
+-- it names a local that has a type, or a function or a constructor that exists
+abbrev pub NamesTyped : Given → InferenceResult → RawPath → Type 0
+NamesTyped g r (path.Local v) = (t : Ty) × BindingTy r v t
+NamesTyped g r (path.Function f) = IsItem g.scope.facts (callable.FunctionId f)
+NamesTyped g r (path.Ctor v) = IsVariant g.scope.facts v
+NamesTyped g r path.Other = ⊥
+
+-- ---- paths
+
+-- the type is that of what the path names
+pub record PathDone (g : Given) (p : RawPath) (t : Ty) (old new : InferenceContext) : Type 0 where
+  pub result : new.result ≡ old.result
+  pub asked : new.asked ≡ old.asked
+  pub clock : new.clock ≡ old.clock
+  pub grew : Grew old.table new.table
+  pub sound : IsSound g.scope new
+  pub fine : IsFine g.scope new.table t
+  pub tells : (e : ExprId) → slice_get g.body.exprs e.0 ≡ Some (expr.Path p) → Tells g e t
+  pub each : (a : Assignment) → Closes a new → IsPathType g (closed_table a old.asked old.result) p (folded a t)
+
+-- new holes in the place of an item's parameters
+pub record AreFreshArgs (sc : Scope) (count : ℕ) (xs : List GenericArg) (old new : InferenceContext) : Type 0 where
+  pub types : List Ty
+  pub are : xs ≡ type_args types
+  pub made : ArePartTypes sc count types old new

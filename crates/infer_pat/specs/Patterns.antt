@@ -1,0 +1,127 @@
+-- What the walk over a pattern is given, and what it does.
+use Rattle.std.specs.Prelude.{◌<◌, ◌≡◌, length, Option, Some, None, ◌⊎◌, ℕ, List, slice_get, map}
+use Rattle.hir_types.specs.declared.ids.PatId.{PatId}
+use Rattle.hir_types.specs.declared.ty.Ty.{Ty}
+use Rattle.hir_types.specs.declared.ids.VariantId.{VariantId}
+use Rattle.hir_types.specs.declared.ids.ExprId.{ExprId}
+use Rattle.hir_types.specs.Subst.{Assignment, folded}
+use Rattle.hir_types.specs.declared.ids.ExprOrPatId.TheVariants as node
+use Rattle.hir_types.specs.declared.ty.Ty.TheVariants as ty
+use Rattle.hir_facts.specs.declared.schedule.Schedule.{Schedule}
+use Rattle.hir_facts.specs.declared.raw.RawBody.{RawBody}
+use Rattle.hir_facts.specs.declared.raw.RawPath.{RawPath}
+use Rattle.hir_facts.specs.Scope.{Scope}
+use Rattle.hir_facts.specs.Signatures.{type_args, at_args, field_types}
+use Rattle.hir_facts.specs.declared.raw.RawPat.TheVariants as pat
+use Rattle.infer_table.specs.Table.{Grew, hole_count}
+use Rattle.infer_result.specs.Places.{Given, Incoming, PatIsAtOrMismatch}
+use Rattle.infer_result.specs.declared.result.InferenceResult.{InferenceResult}
+use Rattle.infer_result.specs.Table.{mismatch}
+use Rattle.infer_result.specs.declared.diagnostics.InferenceDiagnostic.TheVariants as diagnostic
+use Rattle.infer_ctx.specs.Found.{Found, with_pat_mismatch, with_pat_ty}
+use Rattle.infer_ctx.specs.Context.{IsCarriedExpectation, with_pat_diagnostic}
+use Rattle.infer_ctx.specs.Walks.{IsWalked, pat_start, Walks, Nothing, pat_end}
+use Rattle.infer_ctx.specs.Under.{IsReady, IsVariant}
+use Rattle.infer_ctx.specs.declared.context.InferenceContext.{InferenceContext}
+use Rattle.infer_ctx.specs.Fine.{IsFineExpectation, IsFine}
+use Rattle.infer_ctx.specs.Tells.{TellsBound}
+use Rattle.infer_ctx.specs.Closings.{Closes, closed_table, expected_under, found_under, IsSound}
+use Rattle.infer_ctx.specs.Steps.{IsWalking, Follows, ArePartTypes, Does}
+use Rattle.infer_ctx.specs.Found as findings
+
+-- ---- patterns
+
+-- the walk comes to the pattern p, into which x comes
+pub record ComesToPat (g : Given) (s : Schedule) (p : PatId) (x : Option Ty) (c : Found) : Type 0 where
+  pub ready : IsReady g s
+  pub state : IsWalked g s c
+  pub within : p.0 < length g.body.pats
+  pub here : pat_start g.body s p ≡ c.clock
+  pub carried : IsCarriedExpectation x
+  pub incoming : (t : Ty) → x ≡ Some t → Incoming g c.result p t
+
+-- the pattern has the type that comes in, where one does, or a mismatch
+abbrev pub IsPatPlaced : Given → InferenceResult → PatId → Option Ty → Type 0
+IsPatPlaced g r p None = Unit {0}
+IsPatPlaced g r p (Some t) = PatIsAtOrMismatch g r p t
+
+pub record PatWalked (g : Given) (s : Schedule) (p : PatId) (x : Option Ty) (old new : Found) : Type 0 where
+  pub walks : Walks g s Nothing old new
+  pub clock : new.clock ≡ pat_end g.body s p
+  pub placed : IsPatPlaced g new.result p x
+
+-- what comes in is the type t, or that it is not is noted
+abbrev pub IsDemanded : PatId → Ty → Option Ty → Found → Found → Type 0
+IsDemanded p t None old new = new ≡ old
+IsDemanded p t (Some u) old new = ((u ≡ t) × (new ≡ old)) ⊎ ((u ≡ t → ⊥) × (new ≡ with_pat_mismatch old p (mismatch u t)))
+
+-- and it is recorded as the type of the pattern
+pub record PatIsDemanded (p : PatId) (t : Ty) (x : Option Ty) (old new : Found) : Type 0 where
+  pub mid : Found
+  pub demanded : IsDemanded p t x old mid
+  pub recorded : new ≡ with_pat_ty mid p t
+
+-- there are as many parts as fields, or that there are not is said
+abbrev pub PartsAreCounted : PatId → ℕ → ℕ → Found → Found → Type 0
+PartsAreCounted p expected found old new = ((expected ≡ found) × (new ≡ old)) ⊎ ((expected ≡ found → ⊥) × (new ≡ findings.with_pat_diagnostic old p (diagnostic.MismatchedTupleStructPatArgCount (node.PatId p) expected found)))
+
+abbrev pub IsTuplePatOf : RawBody → PatId → List PatId → Type 0
+IsTuplePatOf b p ps = slice_get b.pats p.0 ≡ Some (pat.Tuple ps)
+
+abbrev pub IsCtorPatOf : RawBody → PatId → VariantId → List PatId → Type 0
+IsCtorPatOf b p v ps = slice_get b.pats p.0 ≡ Some (pat.TupleStruct v ps)
+
+abbrev pub IsPathPatOf : RawBody → PatId → RawPath → Type 0
+IsPathPatOf b p q = slice_get b.pats p.0 ≡ Some (pat.Path q)
+
+abbrev pub IsLitPatOf : RawBody → PatId → ExprId → Type 0
+IsLitPatOf b p e = slice_get b.pats p.0 ≡ Some (pat.Lit e)
+
+-- ---- patterns
+
+-- the walk comes to the pattern p, into which x comes
+pub record BeforePat (g : Given) (s : Schedule) (p : PatId) (x : Option Ty) (c : InferenceContext) : Type 0 where
+  pub ready : IsReady g s
+  pub state : IsWalking g s c
+  pub within : p.0 < length g.body.pats
+  pub here : pat_start g.body s p ≡ c.clock
+  pub fine : IsFineExpectation g.scope c.table x
+  pub tells : (t : Ty) → (x ≡ Some t) ⊎ (x ≡ None) → TellsBound g p t
+  pub incoming : (a : Assignment) → Closes a c → (t : Ty) → expected_under a x ≡ Some t → Incoming g (closed_table a c.asked c.result) p t
+
+abbrev pub PatDone : Given → Schedule → PatId → Option Ty → InferenceContext → InferenceContext → Type 0
+PatDone g s p x old new = Does g (λ a. PatWalked g s p (expected_under a x)) old new
+
+-- the type is the given one, or a hole that is new
+pub record IsGivenOrNew (sc : Scope) (x : Option Ty) (t : Ty) (old new : InferenceContext) : Type 0 where
+  pub result : new.result ≡ old.result
+  pub asked : new.asked ≡ old.asked
+  pub clock : new.clock ≡ old.clock
+  pub grew : Grew old.table new.table
+  pub sound : IsSound sc new
+  pub fine : IsFine sc new.table t
+  pub given : (u : Ty) → x ≡ Some u → t ≡ u
+  pub new_hole : x ≡ None → t ≡ ty.Var (hole_count old.table)
+
+-- The type t is recorded as that of the pattern, and it is what comes in, or they differ, and that is
+-- noted.
+pub record PatDemanded (g : Given) (p : PatId) (t : Ty) (x : Option Ty) (old new : InferenceContext) : Type 0 where
+  pub follows : Follows g old new
+  pub clock : new.clock ≡ old.clock
+  pub each : (a : Assignment) → Closes a new → PatIsDemanded p (folded a t) (expected_under a x) (found_under a old) (found_under a new)
+
+-- there are as many parts as fields, or that there are not is said
+abbrev pub PartsCounted : PatId → ℕ → ℕ → InferenceContext → InferenceContext → Type 0
+PartsCounted p expected found old new = ((expected ≡ found) × (new ≡ old)) ⊎ ((expected ≡ found → ⊥) × (new ≡ with_pat_diagnostic old p (diagnostic.MismatchedTupleStructPatArgCount (node.PatId p) expected found)))
+
+-- The adt of the variant at new holes is recorded as the type of the pattern, which has so many parts, and
+-- is asked of what comes in. The types ss are those of the fields.
+pub record CtorDemanded (g : Given) (p : PatId) (v : VariantId) (parts : ℕ) (ss : List Ty) (x : Option Ty) (old new : InferenceContext) : Type 0 where
+  pub item : IsVariant g.scope.facts v
+  pub types : List Ty
+  pub fields : ss ≡ map (at_args types) (field_types g.scope.facts.types item.variant)
+  pub holed : InferenceContext
+  pub holes : ArePartTypes g.scope item.params types old holed
+  pub told : InferenceContext
+  pub counted : PartsCounted p (length item.variant.fields) parts holed told
+  pub demanded : PatDemanded g p (ty.Adt item.variant.adt (type_args types)) x told new

@@ -1,0 +1,92 @@
+//! The types of literals.
+ghost use Rattle.std.specs.Prelude.{IsTrue, IfOk, IfSome, slice_get};
+ghost use Rattle.hir_facts.specs.Laws.Carried.{is_carried_literal};
+ghost use Rattle.hir_facts.specs.Laws.Literals.{IsLiteral};
+ghost use Rattle.infer_ctx.specs.Closings.{IsSound};
+ghost use Rattle.infer_ctx.specs.Context.{given_of, schedule_of, expected_type, scope_in};
+ghost use Rattle.infer_ctx.specs.Steps.{Within, KindDone};
+ghost use Rattle.infer_pat.specs.Literals.{LiteralDone, IntDone, IsExpectedInteger};
+
+use hir_facts::{ExprId, RawExpr, RawLiteral, Ty, UintTy};
+use infer_ctx::{Expectation, GivenBody, InferenceContext};
+use std::alloc::AllocError;
+
+/// The type of an expression that is a literal: `infer/expr.rs`, `infer_expr_inner` at `Expr::Literal`.
+pub fn infer_literal(
+    context: &mut InferenceContext,
+    given: &GivenBody,
+    tgt_expr: ExprId,
+    expected: Expectation,
+) -> Result<Ty, AllocError>
+    requires before { Within (given_of given.now) (schedule_of given.now)
+        tgt_expr (expected_type expected) context.old }
+    requires is { IsLiteral (slice_get given.now.body.now.exprs tgt_expr.0) }
+    ensures { IfOk result (λ ty. KindDone (given_of given.now) (schedule_of given.now)
+        tgt_expr (expected_type expected.entry) ty context.old context.new) }
+{
+    match &given.body.exprs.as_slice()[tgt_expr.0 as usize] {
+        RawExpr::Lit(literal) => {
+            let ty = literal_ty(context, given, literal, expected)?;
+            Ok(ty)
+        }
+        _ => unreachable!(),
+    }
+}
+
+/// The type of a literal.
+fn literal_ty(
+    context: &mut InferenceContext,
+    given: &GivenBody,
+    literal: &RawLiteral,
+    expected: Expectation,
+) -> Result<Ty, AllocError>
+    requires carried { IsTrue (is_carried_literal literal.now) }
+    requires sound { IsSound (scope_in given.now) context.old }
+    ensures { IfOk result (λ ty. LiteralDone (scope_in given.now) literal.now ty context.old context.new) }
+{
+    match literal {
+        RawLiteral::Bool(_) => Ok(Ty::Bool),
+        RawLiteral::Char(_) => Ok(Ty::Char),
+        RawLiteral::Int {
+            suffix: Some(suffix),
+            ..
+        } => Ok(suffix.ty()),
+        RawLiteral::Int { suffix: None, .. } => {
+            let ty = infer_unsuffixed(context, given, expected)?;
+            Ok(ty)
+        }
+        RawLiteral::Other => unreachable!(),
+    }
+}
+
+/// The type of an integer without a suffix: what is expected of it where that says one, else a
+/// new hole for integer types.
+fn infer_unsuffixed(
+    context: &mut InferenceContext,
+    given: &GivenBody,
+    expected: Expectation,
+) -> Result<Ty, AllocError>
+    requires { IsSound (scope_in given.now) context.old }
+    ensures { IfOk result (λ ty. IntDone (scope_in given.now) (expected_type expected.entry) ty context.old context.new) }
+{
+    match expected_integer(context, expected) {
+        Some(ty) => Ok(ty),
+        None => {
+            let ty = context.table.next_int_var()?;
+            Ok(ty)
+        }
+    }
+}
+
+/// The type that is expected, where that is an integer type, and `u8` where it is `char`.
+fn expected_integer(context: &InferenceContext, expected: Expectation) -> Option<Ty>
+    ensures { IfSome result (λ ty. IsExpectedInteger (expected_type expected.entry) ty context.now.table) }
+{
+    let expected_ty = expected.only_has_type()?;
+    match context.table.shallow_resolve(expected_ty) {
+        Ty::Int(int) => Some(Ty::Int(*int)),
+        Ty::Uint(uint) => Some(Ty::Uint(*uint)),
+        Ty::Char => Some(Ty::Uint(UintTy::U8)),
+        _ => None,
+    }
+}

@@ -1,0 +1,90 @@
+//! The types of paths.
+ghost use Rattle.std.specs.Prelude.{IfOk};
+ghost use Rattle.hir_facts.specs.declared.raw.RawPath.TheVariants as path;
+ghost use Rattle.infer_result.specs.Closed.{IsOfBody};
+ghost use Rattle.infer_ctx.specs.Closings.{IsSound};
+ghost use Rattle.infer_ctx.specs.Context.{given_of, scope_in};
+ghost use Rattle.infer_ctx.specs.Tells.{TellsRecorded};
+ghost use Rattle.infer_pat.specs.Paths.{NamesTyped, PathDone, AreFreshArgs};
+ghost use Rattle.infer_ctx.specs.Under.{IsVariant};
+
+use hir_facts::{List, RawCtor, RawPath, Ty, VariantId};
+use hir_types::{CallableDefId, GenericArg};
+use infer_ctx::{GivenBody, InferenceContext};
+use std::alloc::{AllocError, Global};
+
+/// The type of a path: that of the local that it names, or of the function or the constructor at
+/// new holes: `infer/expr.rs`, `infer_expr_path`.
+pub fn infer_expr_path(
+    alloc: Global,
+    context: &mut InferenceContext,
+    given: &GivenBody,
+    path: RawPath,
+) -> Result<Ty, AllocError>
+    requires of_body { IsOfBody given.now.body.now context.old.result }
+    requires sound { IsSound (scope_in given.now) context.old }
+    requires told { TellsRecorded (given_of given.now) context.old.result }
+    requires names { NamesTyped (given_of given.now) context.old.result path }
+    ensures { IfOk result (λ ty. PathDone (given_of given.now) path ty context.old context.new) }
+{
+    match path {
+        RawPath::Local(binding) => match context.result.type_of_binding(binding) {
+            Some(ty) => {
+                let ty = ty.dup(alloc)?;
+                Ok(ty)
+            }
+            None => unreachable!(),
+        },
+        RawPath::Function(function) => {
+            let params = given.facts.fn_(function).params.len();
+            let args = fresh_args_for_item(alloc, context, given, params)?;
+            Ok(Ty::FnDef(CallableDefId::FunctionId(function), args))
+        }
+        RawPath::Ctor(variant) => {
+            let ty = infer_ctor_path(alloc, context, given, variant)?;
+            Ok(ty)
+        }
+        RawPath::Other => unreachable!(),
+    }
+}
+
+/// The type of a path to a constructor at new holes for the parameters of its adt: without fields
+/// a value of the adt, else an item that can be called: `infer/path.rs`, `infer_path`.
+fn infer_ctor_path(
+    alloc: Global,
+    context: &mut InferenceContext,
+    given: &GivenBody,
+    variant: VariantId,
+) -> Result<Ty, AllocError>
+    requires sound { IsSound (scope_in given.now) context.old }
+    requires named { IsVariant given.now.facts.now variant }
+    ensures { IfOk result (λ ty. PathDone (given_of given.now) (path.Ctor variant) ty context.old context.new) }
+{
+    let item = given.facts.variant(variant);
+    let params = given.facts.adt(item.adt).params.len();
+    let args = fresh_args_for_item(alloc, context, given, params)?;
+    match item.ctor {
+        RawCtor::Unit => Ok(Ty::Adt(item.adt, args)),
+        RawCtor::Tuple => Ok(Ty::FnDef(CallableDefId::VariantId(variant), args)),
+        RawCtor::Record => unreachable!(),
+    }
+}
+
+/// New holes in the place of an item's parameters, of which there are so many: `infer/unify.rs`,
+/// `fresh_args_for_item`.
+pub fn fresh_args_for_item(
+    alloc: Global,
+    context: &mut InferenceContext,
+    given: &GivenBody,
+    count: usize,
+) -> Result<List<GenericArg>, AllocError>
+    requires sound { IsSound (scope_in given.now) context.old }
+    ensures { IfOk result (λ args. AreFreshArgs (scope_in given.now) count args context.old context.new) }
+{
+    let mut args = List::new(alloc);
+    for _ in 0..count {
+        let ty = context.table.next_ty_var()?;
+        args.push(GenericArg::Ty(ty))?;
+    }
+    Ok(args)
+}

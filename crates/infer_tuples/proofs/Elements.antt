@@ -1,0 +1,95 @@
+-- An element of a tuple, at its component.
+use Rattle.std.proofs.Common.{◌≡◌, ◌∙◌, Option, Some, inr, refl, None, arith, subst, sym}
+use Rattle.hir_types.specs.declared.ids.ExprId.{ExprId}
+use Rattle.hir_types.specs.declared.ty.Ty.{Ty}
+use Rattle.hir_types.specs.Subst.{folded}
+use Rattle.hir_types.specs.declared.head.HoleKind.TheVariants as kind
+use Rattle.hir_types.specs.declared.ty.Ty.TheVariants as ty
+use Rattle.hir_facts.specs.declared.schedule.Schedule.{Schedule}
+use Rattle.infer_table.specs.HoleLaws.{grew_by_hole}
+use Rattle.infer_table.specs.Table.{Grew, State, hole_count, with_new_hole}
+use Rattle.infer_result.specs.Places.{Given}
+use Rattle.infer_ctx.specs.declared.context.InferenceContext.{InferenceContext}
+use Rattle.infer_ctx.specs.Closings.{Closes, IsSound, found_under, expected_under}
+use Rattle.infer_ctx.specs.Fine.{IsFine}
+use Rattle.infer_ctx.specs.Found.{Found}
+use Rattle.infer_ctx.specs.Steps.{CoerceDone, Before}
+use Rattle.infer_ctx.specs.Walks.{Debt, Owed, Walks}
+use Rattle.infer_ctx.proofs.AtEach.{follows_twice, closes_before}
+use Rattle.infer_ctx.proofs.Category.{walks_paid}
+use Rattle.infer_ctx.proofs.Closed.{closes_earlier}
+use Rattle.infer_ctx.proofs.FineTypes.{fine_grown, fine_hole}
+use Rattle.infer_ctx.proofs.OverTypes.{fine_closed}
+use Rattle.infer_coerce.specs.declared.coercion.Coerced.{Coerced}
+use Rattle.infer_coerce.specs.Coercions.{IsCoerced}
+use Rattle.infer_coerce.proofs.Coercions.{placed_at, placed_owed, coerced_walks, coerced_placed, coerced_clock}
+use Rattle.infer_coerce.proofs.Holes.{holed_sound}
+use Rattle.infer_coerce.proofs.Unified.{with_table}
+
+-- one that is placed is at the type at which it stands in the tuple
+pub places_element : (g : Given) (s : Schedule) (e : ExprId) (x : Option Ty) (t : Ty) (old new : InferenceContext) →
+    CoerceDone g s e x t old new → CoerceDone g s e (Some t) t old new
+places_element g s e x t old new d = record {
+  follows = d.follows;
+  fine = d.fine;
+  is_expected = λ u k. (let same : t ≡ u = cc in same);
+  tells = λ none. absurd (cc);
+  each = λ a q.
+      let h = d.each a q in
+      let now : Found = found_under a new in
+      record {
+        walks = walks_paid g s (Owed e (expected_under a x)) (Owed e (Some (folded a t))) (found_under a old) now
+            (λ n m o. inr (placed_owed now.result e (expected_under a x) (folded a t) h.placed n m o)) h.walks;
+        clock = h.clock;
+        placed = (refl, placed_at now.result e (expected_under a x) (folded a t) h.placed);
+      };
+}
+
+-- one of which nothing is known waits for a new hole
+module _ (g : Given) (s : Schedule) (e : ExprId) (x : Option Ty) (t : Ty) (old mid : InferenceContext) (d : CoerceDone g s e x t old mid)
+    (state : State) (made : state ≡ with_new_hole mid.table kind.Ty) where
+  state_grew : Grew mid.table state
+  state_grew = grew_by_hole mid.table state kind.Ty made
+
+  pub waits_sound : IsSound g.scope (with_table mid state)
+  waits_sound = subst (λ k. IsSound g.scope (with_table mid k)) (sym made) (holed_sound mid kind.Ty d.follows.sound)
+
+  pub own_fine : IsFine g.scope state t
+  own_fine = fine_grown g.scope mid.table state t state_grew d.fine
+
+  module _ (u : Ty) (hole : u ≡ ty.Var (hole_count mid.table)) where
+    pub component_fine : IsFine g.scope state u
+    component_fine =
+        subst (λ k. IsFine g.scope k u) (sym made)
+        (subst (λ v. IsFine g.scope (with_new_hole mid.table kind.Ty) v) (sym hole) (fine_hole g.scope mid.table))
+
+    -- and is coerced to it
+    pub element_waits : x ≡ None → (answer : Coerced) (new : InferenceContext) → Before g s e x old →
+        IsCoerced answer g e t u (with_table mid state) new → CoerceDone g s e (Some u) u old new
+    element_waits none answer new b k = record {
+      follows = follows_twice g old (with_table mid state) new (follows_twice g old mid (with_table mid state) d.follows (record {
+        clock = omega arith;
+        grew = state_grew;
+        of_body = d.follows.of_body;
+        sound = waits_sound;
+        told = λ k. k;
+      })) k.follows;
+      fine = fine_grown g.scope state new.table u k.follows.grew component_fine;
+      is_expected = λ v e. (let same : u ≡ v = cc in same);
+      tells = λ none. absurd (cc);
+      each = λ a q.
+          let z = k.each a q in
+          let now : Found = found_under a mid in
+          let m : Closes a mid = closes_earlier a mid (with_table mid state) state_grew (closes_before g a (with_table mid state) new k.follows q) in
+          let h = (subst (λ y. CoerceDone g s e y t old mid) none d).each a m in
+          let v : Ty = folded a u in
+          let P : Debt = Owed e (Some v) in
+          let walks : Walks g s P (found_under a old) now = walks_paid g s (Owed e None) P (found_under a old) now (λ n m o. absurd o) h.walks in
+          let carried = fine_closed g.scope a u q.closing component_fine.heads in
+          record {
+            walks = coerced_walks g s P e (folded a t) v (found_under a old) now walks b.within h.placed carried z.0 (found_under a new)
+                (λ differ. inr (refl, refl)) z.2;
+            clock = coerced_clock z.0 e (folded a t) v now (found_under a new) z.2 ∙ h.clock;
+            placed = (refl, coerced_placed g s P e (folded a t) v (found_under a old) now walks b.within h.placed carried z.0 (found_under a new) z.2);
+          };
+    }

@@ -1,0 +1,75 @@
+//! The types of tuples.
+ghost use Rattle.std.specs.Prelude.{◌≡◌, IfOk, Some};
+ghost use Rattle.infer_ctx.specs.Context.{given_of, schedule_of, expected_type};
+ghost use Rattle.infer_tuples.specs.Tuples.{IsTupleOf};
+ghost use Rattle.infer_ctx.specs.Steps.{Before, CoerceDone, Within, KindDone};
+ghost use Rattle.infer_coerce.specs.Recursion.{InfersFrom};
+
+use hir_facts::{ExprId, List, Ty};
+use infer_coerce::{coerce, infer_expr_coerce};
+use infer_ctx::{Expectation, GivenBody, InferenceContext};
+use std::alloc::{AllocError, Global};
+
+/// The type of a tuple, whose elements are expected to have the types of what is expected of
+/// it: `infer/expr.rs`, `infer_expr_inner` at `Expr::Tuple`.
+pub fn infer_tuple<F: Fn(&mut InferenceContext, ExprId, Expectation) -> Result<Ty, AllocError>>(
+    infer: &F,
+    alloc: Global,
+    context: &mut InferenceContext,
+    given: &GivenBody,
+    tgt_expr: ExprId,
+    exprs: &[ExprId],
+    expected: Expectation,
+) -> Result<Ty, AllocError>
+    requires infers { InfersFrom (given_of given.now) (schedule_of given.now) context.old.clock (F.pre infer.now) (F.post infer.now) }
+    requires before { Within (given_of given.now) (schedule_of given.now)
+        tgt_expr (expected_type expected) context.old }
+    requires is { IsTupleOf given.now.body.now tgt_expr exprs.now }
+    ensures { IfOk result (λ ty. KindDone (given_of given.now) (schedule_of given.now)
+        tgt_expr (expected_type expected.entry) ty context.old context.new) }
+{
+    let mut tys = List::new(alloc);
+    for i in 0..exprs.len() {
+        let ty = infer_element(
+            infer,
+            alloc,
+            context,
+            given,
+            exprs[i],
+            expected.of_element(i),
+        )?;
+        tys.push(ty)?;
+    }
+    Ok(Ty::Tuple(tys))
+}
+
+/// The type at which an element stands in its tuple: what is expected of it, else its own. Where
+/// nothing is known of that, the element waits for a new hole to be known, as in
+/// `infer/expr.rs`, where the component is a new variable in any case.
+fn infer_element<F: Fn(&mut InferenceContext, ExprId, Expectation) -> Result<Ty, AllocError>>(
+    infer: &F,
+    alloc: Global,
+    context: &mut InferenceContext,
+    given: &GivenBody,
+    expr: ExprId,
+    expected: Expectation,
+) -> Result<Ty, AllocError>
+    requires infers { InfersFrom (given_of given.now) (schedule_of given.now) context.old.clock (F.pre infer.now) (F.post infer.now) }
+    requires before { Before (given_of given.now) (schedule_of given.now)
+        expr (expected_type expected) context.old }
+    ensures { IfOk result (λ ty. CoerceDone (given_of given.now) (schedule_of given.now)
+        expr (Some ty) ty context.old context.new) }
+{
+    let ty = infer_expr_coerce(infer, alloc, context, given, expr, expected)?;
+    match expected {
+        Expectation::HasType(_) => Ok(ty),
+        Expectation::None => match context.table.shallow_resolve(&ty) {
+            Ty::Var(_) => {
+                let component = context.table.next_ty_var()?;
+                coerce(alloc, context, given, expr, &ty, &component)?;
+                Ok(component)
+            }
+            _ => Ok(ty),
+        },
+    }
+}
