@@ -1,14 +1,7 @@
 //! Infers the types of a definition's body: facts on standard input, a report on standard output.
 #![tactic(auto)]
 
-mod ends;
-mod run;
-#[cfg(test)]
-mod tests;
-mod text;
-mod words;
-
-use ends::{StdSink, StdSource};
+use infer_run::{StdSink, StdSource, run};
 use std::env::Env;
 use std::process::ExitCode;
 use std::rc::RcStr;
@@ -71,7 +64,7 @@ fn reason(status: u8) -> Option<&'static str> {
 fn run_between(rt: &HostRuntime, words: &[RcStr]) -> u8 {
     let mut source = StdSource::new(rt.reader());
     let mut sink = StdSink::new(io::writer(rt));
-    let ran = run::run(rt.alloc(), words, &mut source, &mut sink);
+    let ran = run(rt.alloc(), words, &mut source, &mut sink);
     if let Some(fault) = &ran.fault {
         let _ = eprintln!(rt; "infer_tool: {fault}");
     }

@@ -1,0 +1,7 @@
+//! The report on a table of types, as text.
+#![tactic(auto)]
+
+mod report;
+mod types;
+
+pub use report::{count_complaints, write_report};

@@ -1,0 +1,201 @@
+//! The top call: reads facts, infers a definition's table, and writes the report on it.
+ghost use Rattle.std.specs.Prelude.{◌≡◌, ◌<◌, ◌≤◌, ◌+◌, ℕ, List, length, map, IfOk, IfSome, OnOk, OnErr, IsErrOf, Some};
+ghost use Rattle.std.specs.Io.KnownBytes.{Appends, Consumes, IsAtEnd};
+ghost use Rattle.std.specs.Rc.{rc_str_bytes};
+ghost use Rattle.hir_facts.specs.Bodies.{HasBody};
+ghost use Rattle.infer_result.specs.Typed.{IsTableOf};
+ghost use Rattle.infer_result.specs.General.{HasGeneral};
+ghost use Rattle.infer_result.specs.Report.{report, complaint_count};
+ghost use Rattle.infer_run.specs.Causes.{Rose, HasCause};
+ghost use Rattle.infer_run.specs.Outcome.{AppendsFront, Outcome};
+ghost use Rattle.infer_run.specs.Answer.{Answered, silence, refusal};
+
+use crate::ends::{Failed, Sink, Source};
+use crate::words::command;
+use hir_facts::{DefWithBodyId, Facts};
+use infer_expr::{NoInspector, infer_query_with_inspect};
+use infer_report::{count_complaints, write_report};
+use infer_result::InferenceResult;
+use infer_text::{ReadError, read_facts};
+use std::alloc::{AllocError, Global};
+use std::rc::RcStr;
+
+/// The most bytes that are read.
+const LIMIT: usize = 16_777_216;
+
+/// How a run ended, and what it found out.
+pub struct Ran {
+    /// The exit status.
+    pub status: u8,
+    /// The facts, where they are lawful and memory sufficed.
+    pub facts: Option<Facts>,
+    /// The table of the definition's body, where it has one. Of a plain body it has the types before
+    /// open holes fell back too.
+    pub table: Option<InferenceResult>,
+    /// Why there are no facts.
+    pub fault: Option<ReadError>,
+}
+
+impl Drop for Ran {
+    fn drop(self) {
+        let Ran {
+            status: _,
+            facts: _,
+            table: _,
+            fault: _,
+        } = self;
+    }
+}
+
+/// Why a source wasn't read to its end.
+#[derive(Clone, Copy, Debug)]
+enum Stopped {
+    Source,
+    TooLong,
+    OutOfMemory,
+}
+
+/// Reads a source to its end.
+fn read_all<S: Source>(alloc: Global, source: &mut S) -> Result<Vec<u8>, Stopped>
+    ensures whole { IfOk result (λ v. (length v.items ≤ LIMIT) × Consumes (S.left source.old) (S.left source.new) v.items × IsAtEnd (S.left source.new)) }
+    ensures long { IsErrOf result Stopped.TooLong → (bytes : List ℕ) × (length bytes ≡ LIMIT + 1) × Consumes (S.left source.old) (S.left source.new) bytes }
+    ensures short { IsErrOf result Stopped.Source → (bytes : List ℕ) × (length bytes ≤ LIMIT) × Consumes (S.left source.old) (S.left source.new) bytes }
+    ensures cause { IsErrOf result Stopped.Source → Rose (S.faults source.old) (S.faults source.new) }
+    ensures later { S.faults source.old ≤ S.faults source.new }
+{
+    let mut text = Vec::new(alloc);
+    let mut buf = [0u8; 4096];
+    while text.len() <= LIMIT {
+        let room = buf.len().min(LIMIT + 1 - text.len());
+        let count = match source.read(&mut buf[..room]) {
+            Ok(count) => count,
+            Err(Failed) => return Err(Stopped::Source),
+        };
+        if count == 0 {
+            return Ok(text);
+        }
+        if text.extend_from_slice(&buf[..count]).is_err() {
+            return Err(Stopped::OutOfMemory);
+        }
+    }
+    Err(Stopped::TooLong)
+}
+
+/// Writes all of a text.
+fn write_all<K: Sink>(sink: &mut K, text: &[u8]) -> Result<(), Failed>
+    ensures whole { OnOk result (Appends (K.written sink.old) (K.written sink.new) text.now) }
+    ensures front { OnErr result (AppendsFront (K.written sink.old) (K.written sink.new) text.now) }
+    ensures cause { HasCause (K.faults sink.old) (K.faults sink.new) result }
+{
+    let mut at = 0;
+    while at < text.len() {
+        at += sink.write(&text[at..])?;
+    }
+    Ok(())
+}
+
+/// The run that ends with nothing but a status.
+fn ended(status: u8) -> Ran
+    ensures { result ≡ silence status }
+{
+    Ran {
+        status,
+        facts: None,
+        table: None,
+        fault: None,
+    }
+}
+
+/// The run that ends with a fault.
+fn refused(fault: ReadError) -> Ran
+    ensures { result ≡ refusal fault }
+{
+    let status = match &fault {
+        ReadError::OutOfMemory => 5,
+        ReadError::Json => 6,
+        ReadError::Shape { .. } => 7,
+        ReadError::Unlawful { .. } => 8,
+    };
+    Ran {
+        status,
+        facts: None,
+        table: None,
+        fault: Some(fault),
+    }
+}
+
+/// Writes the report on a table.
+fn report_on<K: Sink>(
+    alloc: Global,
+    def: DefWithBodyId,
+    facts: Facts,
+    table: InferenceResult,
+    sink: &mut K,
+) -> Ran
+    requires has_body { HasBody facts def }
+    requires typed { IsTableOf facts def table }
+    requires general { HasGeneral facts def table }
+    ensures { Answered def facts (K.written sink.old) (K.written sink.new) (K.faults sink.old) (K.faults sink.new) result }
+{
+    let text = match write_report(alloc, def, &facts, &table) {
+        Ok(text) => text,
+        Err(AllocError) => return refused(ReadError::OutOfMemory),
+    };
+    let status = match write_all(sink, text.as_bytes()) {
+        Err(Failed) => 4,
+        Ok(()) => { if count_complaints(&table) > 0 { 1 } else { 0 } }
+    };
+    Ran {
+        status,
+        facts: Some(facts),
+        table: Some(table),
+        fault: None,
+    }
+}
+
+/// Infers a definition's table, and writes the report on it.
+fn answer<K: Sink>(alloc: Global, def: DefWithBodyId, facts: Facts, sink: &mut K) -> Ran
+    ensures { Answered def facts (K.written sink.old) (K.written sink.new) (K.faults sink.old) (K.faults sink.new) result }
+{
+    if !facts.has_body(def) {
+        return Ran {
+            status: 9,
+            facts: Some(facts),
+            table: None,
+            fault: None,
+        };
+    }
+    match infer_query_with_inspect::<NoInspector>(alloc, &facts, def, None) {
+        Ok(table) => report_on(alloc, def, facts, table, sink),
+        Err(AllocError) => refused(ReadError::OutOfMemory),
+    }
+}
+
+/// Does what the words ask for: `table KIND N` reads facts, infers the table of a definition's
+/// body, and writes the report on it.
+pub fn run<S: Source, K: Sink>(alloc: Global, words: &[RcStr], source: &mut S, sink: &mut K) -> Ran
+    ensures { Outcome (map rc_str_bytes words.now) (record {
+      left = S.left source.old;
+      left_new = S.left source.new;
+      written = K.written sink.old;
+      written_new = K.written sink.new;
+      reads = S.faults source.old;
+      reads_new = S.faults source.new;
+      writes = K.faults sink.old;
+      writes_new = K.faults sink.new;
+    }) result }
+{
+    let Some(def) = command(words) else {
+        return ended(2);
+    };
+    let text = match read_all(alloc, source) {
+        Ok(text) => text,
+        Err(Stopped::Source) => return ended(3),
+        Err(Stopped::TooLong) => return ended(10),
+        Err(Stopped::OutOfMemory) => return refused(ReadError::OutOfMemory),
+    };
+    match read_facts(alloc, &text) {
+        Ok(facts) => answer(alloc, def, facts, sink),
+        Err(fault) => refused(fault),
+    }
+}

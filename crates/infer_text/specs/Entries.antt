@@ -1,0 +1,175 @@
+-- What stands for types, functions, adts, variants and limits.
+use Rattle.std.specs.List.{list_all}
+use Rattle.std.specs.Prelude.{ℕ, ◌==◌, Bool, true, false, List, [], map, Option, Some, None, Result, Ok, Err, codes, replicate, if◌then◌else◌}
+use Rattle.std.specs.Str.{bytes_eq}
+use Rattle.serde_json.specs.Data.{Data, Members}
+use Rattle.serde_json.specs.Find.{as_str, as_object}
+use Rattle.hir_types.specs.declared.ids.AdtId.{AdtId}
+use Rattle.hir_types.specs.declared.ids.TypeRefId.{TypeRefId}
+use Rattle.hir_types.specs.declared.ty.IntegerTy.{IntegerTy}
+use Rattle.hir_facts.specs.declared.raw.RawType.{RawType}
+use Rattle.hir_facts.specs.declared.raw.RawType.TheVariants as type
+use Rattle.hir_facts.specs.declared.raw.RawAt.{RawAt}
+use Rattle.hir_facts.specs.declared.raw.RawAt.TheVariants as stands
+use Rattle.hir_facts.specs.declared.raw.RawVis.{RawVis}
+use Rattle.hir_facts.specs.declared.raw.RawVis.TheVariants as vis
+use Rattle.hir_facts.specs.declared.raw.RawParam.{RawParam}
+use Rattle.hir_facts.specs.declared.raw.RawParam.TheVariants as param
+use Rattle.hir_facts.specs.declared.raw.RawAdt.{RawAdt}
+use Rattle.hir_facts.specs.declared.raw.RawField.{RawField}
+use Rattle.hir_facts.specs.declared.raw.RawVariant.{RawVariant}
+use Rattle.hir_facts.specs.declared.raw.RawFn.{RawFn}
+use Rattle.hir_facts.specs.declared.raw.RawLimits.{RawLimits}
+use Rattle.infer_text.specs.declared.entries.Arg.{Arg}
+use Rattle.infer_text.specs.declared.entries.Arg.TheVariants as argument
+use Rattle.infer_text.specs.declared.entries.Lang.{Lang}
+use Rattle.infer_text.specs.Reading.{◌>>=◌, ◌>>◌, there, field, part, keys_in, parts_in, tag, is_tag, is_kind_of, count_members, bool_in, text_in, u32_in, option_in, list_in}
+use Rattle.infer_text.specs.Leaves.{module_in, adt_id_in, variant_id_in, type_ref_in, body_id_in, other, other_in, integer_name, integer_in, adt_kind_in, ctor_in}
+use Rattle.infer_text.specs.Kinds.{other_types}
+
+-- ---- types
+
+-- an integer type, by its name alone
+abbrev pub integer_tag : List ℕ × ℕ → Option IntegerTy
+integer_tag t = if t.1 == 0 then integer_name t.0 else None
+
+abbrev named_by : Option IntegerTy → List ℕ × ℕ → Result RawType (List ℕ)
+named_by (Some i) t = Ok (type.Integer i)
+named_by None t = if is_kind_of other_types t then Ok type.Other else Err []
+
+-- an integer type, or a kind that is not read
+unfoldable pub named_type : List ℕ × ℕ → Result RawType (List ℕ)
+named_type t = named_by (integer_tag t) t
+
+-- ["t", TYPE] or ["c", C], of which the last is not read
+unfoldable pub arg_in : Data → Result Arg (List ℕ)
+arg_in d = do
+  t ← there (tag d)
+  if is_tag t (codes "t") 2 then part type_ref_in 1 d >>= (λ w. Ok (argument.Type w)) else
+      if is_tag t (codes "c") 2 then Ok argument.Const else
+      Err []
+
+abbrev pub is_type : Arg → Bool
+is_type (argument.Type w) = true
+is_type argument.Const = false
+
+-- the type of an argument; a const argument has none
+abbrev pub type_of : Arg → TypeRefId
+type_of (argument.Type w) = w
+type_of argument.Const = record { 0 = 0 }
+
+-- an adt at types alone is read
+abbrev pub adt_type_by : AdtId → List Arg → RawType
+adt_type_by a xs = if list_all is_type xs then type.Adt a (map type_of xs) else type.Other
+
+unfoldable pub adt_type_in : Data → Result RawType (List ℕ)
+adt_type_in d = do
+  a ← part adt_id_in 1 d
+  xs ← part (list_in arg_in) 2 d
+  Ok (adt_type_by a xs)
+
+-- "bool", "char", "_", ["tuple", [TYPE]], ["adt", a, [A]], ["param", n], the name of an integer type, or another kind
+unfoldable pub type_in : Data → Result RawType (List ℕ)
+type_in d = do
+  t ← there (tag d)
+  if is_tag t (codes "bool") 0 then Ok type.Bool else
+      if is_tag t (codes "char") 0 then Ok type.Char else
+      if is_tag t (codes "tuple") 2 then part (list_in type_ref_in) 1 d >>= (λ ts. Ok (type.Tuple ts)) else
+      if is_tag t (codes "adt") 3 then adt_type_in d else
+      if is_tag t (codes "param") 2 then part u32_in 1 d >>= (λ n. Ok (type.Param n)) else
+      if is_tag t (codes "_") 0 then Ok type.Hole else
+      named_type t
+
+-- "t" or ["c", TYPE], of which the last is not read
+unfoldable pub param_in : Data → Result RawParam (List ℕ)
+param_in d = do
+  t ← there (tag d)
+  if is_tag t (codes "t") 0 then Ok param.Type else
+      if is_tag t (codes "c") 2 then Ok param.Other else
+      Err []
+
+-- ---- functions
+
+-- ["module", m], ["impl", i] or ["trait", t], of which the last two are not read
+unfoldable pub at_in : Data → Result RawAt (List ℕ)
+at_in d = do
+  t ← there (tag d)
+  if is_tag t (codes "module") 2 then part module_in 1 d >>= (λ m. Ok (stands.Module m)) else
+      if is_tag t (codes "impl") 2 then Ok stands.Other else
+      if is_tag t (codes "trait") 2 then Ok stands.Other else
+      Err []
+
+abbrev vis_by : Option (List ℕ) → Data → Result RawVis (List ℕ)
+vis_by (Some s) d = if bytes_eq s (codes "pub") then Ok vis.Pub else Err []
+vis_by None d = module_in d >>= λ m. Ok (vis.Module m)
+
+-- "pub" or a module
+unfoldable pub vis_in : Data → Result RawVis (List ℕ)
+vis_in d = vis_by (as_str d) d
+
+unfoldable pub fn_in : Data → Result RawFn (List ℕ)
+fn_in d = do
+  keys_in 10 d
+  name ← field text_in (codes "name") d
+  place ← field at_in (codes "at") d
+  params ← field (list_in param_in) (codes "params") d
+  preds ← field (list_in other_in) (codes "preds") d
+  has_self ← field bool_in (codes "has_self") d
+  inputs ← field (list_in type_ref_in) (codes "inputs") d
+  output ← field type_ref_in (codes "output") d
+  safe ← field bool_in (codes "safe") d
+  seen ← field vis_in (codes "vis") d
+  body ← field (option_in body_id_in) (codes "body") d
+  Ok (record { name = name; «at» = place; params = params; preds = preds; has_self = has_self; inputs = inputs; output = output; safe = safe; vis = seen; body = body })
+
+-- ---- adts and variants
+
+unfoldable pub adt_in : Data → Result RawAdt (List ℕ)
+adt_in d = do
+  keys_in 7 d
+  name ← field text_in (codes "name") d
+  kind ← field adt_kind_in (codes "kind") d
+  params ← field (list_in param_in) (codes "params") d
+  preds ← field (list_in other_in) (codes "preds") d
+  variants ← field (list_in variant_id_in) (codes "variants") d
+  repr ← field (option_in integer_in) (codes "repr") d
+  unsize ← field (option_in u32_in) (codes "unsize") d
+  Ok (record { name = name; kind = kind; params = params; preds = preds; variants = variants; repr = repr; unsize = unsize })
+
+unfoldable pub field_in : Data → Result RawField (List ℕ)
+field_in d = do
+  keys_in 3 d
+  name ← field text_in (codes "name") d
+  written ← field type_ref_in (codes "type") d
+  seen ← field vis_in (codes "vis") d
+  Ok (record { name = name; ty = written; vis = seen })
+
+unfoldable pub variant_in : Data → Result RawVariant (List ℕ)
+variant_in d = do
+  keys_in 5 d
+  adt ← field adt_id_in (codes "adt") d
+  name ← field text_in (codes "name") d
+  ctor ← field ctor_in (codes "ctor") d
+  fields ← field (list_in field_in) (codes "fields") d
+  body ← field (option_in body_id_in) (codes "body") d
+  Ok (record { adt = adt; name = name; ctor = ctor; fields = fields; body = body })
+
+-- ---- the rest
+
+-- [goal depth, goal steps, autoderef, tail]
+unfoldable pub limits_in : Data → Result RawLimits (List ℕ)
+limits_in d = do
+  parts_in 4 d
+  goal_depth ← part u32_in 0 d
+  goal_steps ← part u32_in 1 d
+  autoderef ← part u32_in 2 d
+  tail ← part u32_in 3 d
+  Ok (record { goal_depth = goal_depth; goal_steps = goal_steps; autoderef = autoderef; tail = tail })
+
+-- an entry for each member
+abbrev pub others_of : Members → Lang
+others_of ms = record { entries = replicate (count_members ms) other }
+
+-- an object, whose members are not read
+unfoldable pub lang_in : Data → Result Lang (List ℕ)
+lang_in d = there (as_object d) >>= λ ms. Ok (others_of ms)

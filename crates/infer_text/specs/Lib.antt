@@ -1,0 +1,6 @@
+pub mod Reading
+pub mod Leaves
+pub mod Kinds
+pub mod Entries
+pub mod Bodies
+pub mod Facts

@@ -1,0 +1,351 @@
+//! Reading types, functions, adts, variants and limits.
+ghost use Rattle.std.specs.Prelude.{◌≡◌, ℕ, List, Result, Some, None, Ok, Err, IfOk, map, replicate};
+ghost use Rattle.std.specs.List.{list_all};
+ghost use Rattle.serde_json.specs.Data.{Data};
+ghost use Rattle.serde_json.specs.View.{view};
+ghost use Rattle.infer_text.specs.Reading.{Gives, is_kind_of};
+ghost use Rattle.infer_text.specs.Leaves.{other};
+ghost use Rattle.infer_text.specs.Kinds.{other_types};
+ghost use Rattle.infer_text.specs.Entries.{integer_tag, named_type, arg_in, is_type, type_of, adt_type_in, type_in, param_in, adt_in, field_in, variant_in, at_in, vis_in, fn_in, limits_in, lang_in};
+
+use super::fault::Misread;
+use super::leaves::integer_of;
+use super::reader::{
+    FromData, expect_keys, expect_parts, field_of, is, is_one_of, misshapen, part_of, tag_of,
+};
+use hir_facts::{
+    IntegerTy, List, ModuleId, Other, RawAdt, RawAt, RawField, RawFn, RawLimits, RawParam, RawType,
+    RawVariant, RawVis, TypeRefId,
+};
+use serde_json::Value;
+use std::alloc::{AllocError, Global};
+
+fn integer_alone(tag: (&str, usize)) -> Option<IntegerTy>
+    ensures { result ≡ integer_tag (tag.entry.0.now, tag.entry.1) }
+{
+    if tag.1 == 0 { integer_of(tag.0) } else { None }
+}
+
+fn is_other_type(tag: (&str, usize)) -> bool
+    ensures { result ≡ is_kind_of other_types (tag.entry.0.now, tag.entry.1) }
+{
+    is_one_of(
+        tag,
+        &[
+            ("str", 0),
+            ("never", 0),
+            ("error", 0),
+            ("f16", 0),
+            ("f32", 0),
+            ("f64", 0),
+            ("f128", 0),
+            ("array", 3),
+            ("slice", 2),
+            ("ref", 4),
+            ("ptr", 3),
+            ("fnptr", 4),
+            ("dyn", 4),
+            ("proj", 3),
+            ("opaque", 3),
+        ],
+    )
+}
+
+#[tactic(auto, unfolding(crate::specs::Entries::named_type))]
+fn other_type(alloc: Global, tag: (&str, usize)) -> Result<RawType, Misread>
+    ensures { Gives result (named_type (tag.entry.0.now, tag.entry.1)) }
+{
+    match integer_alone(tag) {
+        Some(integer) => Ok(RawType::Integer(integer)),
+        None => {
+            if is_other_type(tag) {
+                Ok(RawType::Other)
+            } else {
+                Err(misshapen(alloc))
+            }
+        }
+    }
+}
+
+/// A written argument.
+#[derive(Clone, Copy, Debug)]
+enum Arg {
+    Type(TypeRefId),
+    Const,
+}
+
+#[tactic(auto, unfolding(crate::specs::Entries::arg_in))]
+impl FromData for Arg {
+    ghost reads = { arg_in };
+
+    fn from_data(alloc: Global, value: &Value) -> Result<Arg, Misread> {
+        let tag = tag_of(alloc, value)?;
+        if is(tag, "t", 2) {
+            Ok(Arg::Type(part_of(alloc, value, 1)?))
+        } else if is(tag, "c", 2) {
+            Ok(Arg::Const)
+        } else {
+            Err(misshapen(alloc))
+        }
+    }
+}
+
+fn is_type(arg: &Arg) -> bool
+    ensures { result ≡ is_type arg.now }
+{
+    match arg {
+        Arg::Type(_) => true,
+        Arg::Const => false,
+    }
+}
+
+fn type_of(arg: &Arg) -> TypeRefId
+    ensures { result ≡ type_of arg.now }
+{
+    match arg {
+        Arg::Type(ty) => *ty,
+        Arg::Const => TypeRefId(0),
+    }
+}
+
+fn are_types(args: &[Arg]) -> bool
+    ensures { result ≡ list_all is_type args.now }
+{
+    args.iter().all(|arg| is_type(arg))
+}
+
+fn types_of(alloc: Global, args: &[Arg]) -> Result<Vec<TypeRefId>, AllocError>
+    ensures { IfOk result (λ v. v.items ≡ map type_of args.now) }
+{
+    args.iter().map(|arg| type_of(arg)).collect(alloc)
+}
+
+#[tactic(auto, unfolding(crate::specs::Entries::adt_type_in))]
+fn adt_type(alloc: Global, value: &Value) -> Result<RawType, Misread>
+    ensures { Gives result (adt_type_in (view value.now)) }
+{
+    let adt = part_of(alloc, value, 1)?;
+    let args: List<Arg> = part_of(alloc, value, 2)?;
+    if are_types(args.as_slice()) {
+        let args = List::from_vec(types_of(alloc, args.as_slice())?);
+        Ok(RawType::Adt { adt, args })
+    } else {
+        Ok(RawType::Other)
+    }
+}
+
+#[tactic(auto, unfolding(crate::specs::Entries::type_in))]
+impl FromData for RawType {
+    ghost reads = { type_in };
+
+    fn from_data(alloc: Global, value: &Value) -> Result<RawType, Misread> {
+        let tag = tag_of(alloc, value)?;
+        if is(tag, "bool", 0) {
+            Ok(RawType::Bool)
+        } else if is(tag, "char", 0) {
+            Ok(RawType::Char)
+        } else if is(tag, "tuple", 2) {
+            Ok(RawType::Tuple(part_of(alloc, value, 1)?))
+        } else if is(tag, "adt", 3) {
+            adt_type(alloc, value)
+        } else if is(tag, "param", 2) {
+            Ok(RawType::Param(part_of(alloc, value, 1)?))
+        } else if is(tag, "_", 0) {
+            Ok(RawType::Hole)
+        } else {
+            other_type(alloc, tag)
+        }
+    }
+}
+
+#[tactic(auto, unfolding(crate::specs::Entries::at_in))]
+impl FromData for RawAt {
+    ghost reads = { at_in };
+
+    fn from_data(alloc: Global, value: &Value) -> Result<RawAt, Misread> {
+        let tag = tag_of(alloc, value)?;
+        if is(tag, "module", 2) {
+            Ok(RawAt::Module(part_of(alloc, value, 1)?))
+        } else if is(tag, "impl", 2) {
+            Ok(RawAt::Other)
+        } else if is(tag, "trait", 2) {
+            Ok(RawAt::Other)
+        } else {
+            Err(misshapen(alloc))
+        }
+    }
+}
+
+#[tactic(auto, unfolding(crate::specs::Entries::vis_in))]
+impl FromData for RawVis {
+    ghost reads = { vis_in };
+
+    fn from_data(alloc: Global, value: &Value) -> Result<RawVis, Misread> {
+        match value.as_str() {
+            None => Ok(RawVis::Module(ModuleId::from_data(alloc, value)?)),
+            Some(word) => {
+                if word == "pub" {
+                    Ok(RawVis::Pub)
+                } else {
+                    Err(misshapen(alloc))
+                }
+            }
+        }
+    }
+}
+
+#[tactic(auto, unfolding(crate::specs::Entries::fn_in))]
+impl FromData for RawFn {
+    ghost reads = { fn_in };
+
+    fn from_data(alloc: Global, value: &Value) -> Result<RawFn, Misread> {
+        expect_keys(alloc, value, 10)?;
+        let name = field_of(alloc, value, "name")?;
+        let at = field_of(alloc, value, "at")?;
+        let params = field_of(alloc, value, "params")?;
+        let preds = field_of(alloc, value, "preds")?;
+        let has_self = field_of(alloc, value, "has_self")?;
+        let inputs = field_of(alloc, value, "inputs")?;
+        let output = field_of(alloc, value, "output")?;
+        let safe = field_of(alloc, value, "safe")?;
+        let vis = field_of(alloc, value, "vis")?;
+        let body = field_of(alloc, value, "body")?;
+        Ok(RawFn {
+            name,
+            at,
+            params,
+            preds,
+            has_self,
+            inputs,
+            output,
+            safe,
+            vis,
+            body,
+        })
+    }
+}
+
+#[tactic(auto, unfolding(crate::specs::Entries::limits_in))]
+impl FromData for RawLimits {
+    ghost reads = { limits_in };
+
+    fn from_data(alloc: Global, value: &Value) -> Result<RawLimits, Misread> {
+        expect_parts(alloc, value, 4)?;
+        let goal_depth = part_of(alloc, value, 0)?;
+        let goal_steps = part_of(alloc, value, 1)?;
+        let autoderef = part_of(alloc, value, 2)?;
+        let tail = part_of(alloc, value, 3)?;
+        Ok(RawLimits {
+            goal_depth,
+            goal_steps,
+            autoderef,
+            tail,
+        })
+    }
+}
+
+#[tactic(auto, unfolding(crate::specs::Entries::param_in))]
+impl FromData for RawParam {
+    ghost reads = { param_in };
+
+    fn from_data(alloc: Global, value: &Value) -> Result<RawParam, Misread> {
+        let tag = tag_of(alloc, value)?;
+        if is(tag, "t", 0) {
+            Ok(RawParam::Type)
+        } else if is(tag, "c", 2) {
+            Ok(RawParam::Other)
+        } else {
+            Err(misshapen(alloc))
+        }
+    }
+}
+
+#[tactic(auto, unfolding(crate::specs::Entries::adt_in))]
+impl FromData for RawAdt {
+    ghost reads = { adt_in };
+
+    fn from_data(alloc: Global, value: &Value) -> Result<RawAdt, Misread> {
+        expect_keys(alloc, value, 7)?;
+        let name = field_of(alloc, value, "name")?;
+        let kind = field_of(alloc, value, "kind")?;
+        let params = field_of(alloc, value, "params")?;
+        let preds = field_of(alloc, value, "preds")?;
+        let variants = field_of(alloc, value, "variants")?;
+        let repr = field_of(alloc, value, "repr")?;
+        let unsize = field_of(alloc, value, "unsize")?;
+        Ok(RawAdt {
+            name,
+            kind,
+            params,
+            preds,
+            variants,
+            repr,
+            unsize,
+        })
+    }
+}
+
+#[tactic(auto, unfolding(crate::specs::Entries::field_in))]
+impl FromData for RawField {
+    ghost reads = { field_in };
+
+    fn from_data(alloc: Global, value: &Value) -> Result<RawField, Misread> {
+        expect_keys(alloc, value, 3)?;
+        let name = field_of(alloc, value, "name")?;
+        let ty = field_of(alloc, value, "type")?;
+        let vis = field_of(alloc, value, "vis")?;
+        Ok(RawField { name, ty, vis })
+    }
+}
+
+#[tactic(auto, unfolding(crate::specs::Entries::variant_in))]
+impl FromData for RawVariant {
+    ghost reads = { variant_in };
+
+    fn from_data(alloc: Global, value: &Value) -> Result<RawVariant, Misread> {
+        expect_keys(alloc, value, 5)?;
+        let adt = field_of(alloc, value, "adt")?;
+        let name = field_of(alloc, value, "name")?;
+        let ctor = field_of(alloc, value, "ctor")?;
+        let fields = field_of(alloc, value, "fields")?;
+        let body = field_of(alloc, value, "body")?;
+        Ok(RawVariant {
+            adt,
+            name,
+            ctor,
+            fields,
+            body,
+        })
+    }
+}
+
+/// The lang items, which are not read.
+#[derive(Debug, Drop)]
+pub struct Lang {
+    pub entries: List<Other>,
+}
+
+fn others(alloc: Global, count: usize) -> Result<List<Other>, AllocError>
+    ensures { IfOk result (λ list. list ≡ replicate count other) }
+{
+    let mut list = List::new(alloc);
+    for _ in 0..count {
+        list.push(Other)?;
+    }
+    Ok(list)
+}
+
+#[tactic(auto, using(crate::proofs::Counts::count_members_view), unfolding(crate::specs::Entries::lang_in))]
+impl FromData for Lang {
+    ghost reads = { lang_in };
+
+    fn from_data(alloc: Global, value: &Value) -> Result<Lang, Misread> {
+        match value.as_object() {
+            None => Err(misshapen(alloc)),
+            Some(members) => {
+                let entries = others(alloc, members.len())?;
+                Ok(Lang { entries })
+            }
+        }
+    }
+}

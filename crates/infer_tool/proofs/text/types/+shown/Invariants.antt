@@ -1,9 +1,0 @@
-use Rattle.std.proofs.Common.{◌≡◌, ◌++◌, map, take, string_bytes}
-use Rattle.infer_result.specs.Report.{arg_text, ty_text, joined}
-use Rattle.infer_tool.proofs.text.types.+shown.Given as goal
-
-abbrev pub invariant-push_joined-loop-at : goal.invariant-push_joined-loop-at
-invariant-push_joined-loop-at l = string_bytes l.out ≡ string_bytes l.fn.out ++ joined (map (ty_text l.facts) (take l.at l.types))
-
-abbrev pub invariant-push_joined_args-loop-at : goal.invariant-push_joined_args-loop-at
-invariant-push_joined_args-loop-at l = string_bytes l.out ≡ string_bytes l.fn.out ++ joined (map (arg_text l.facts) (take l.at l.args))
