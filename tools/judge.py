@@ -1,24 +1,16 @@
 #!/usr/bin/env python3
-"""Asks rustc about bodies of the carried kinds, and lists where it and `table fn N` say different things.
+"""Asks rustc about functions of the carried kinds, and lists where it and `table fn N` say different things.
 
-The bodies are some by hand (`bodies.py`) and COUNT made at random from SEED. Each is written as Rust source and as
-facts, with the functions and adts that it may name; it may have type parameters, and call itself. Of each, rustc's
-verdict (a type error or none) stands against whether there is a complaint, and whether it finds a wrong number of a
-pattern's parts (E0023) against whether that is complained of. The calls that rustc finds to have a wrong number of
-arguments (E0061) or to call no function (E0618) stand against those of which we complain so. Where rustc finds no type
-error, its types (its THIR tree, by the place in the source) stand against those of the report, for expressions and
-patterns, items of functions and of constructors and adts included. In each report, the variants that nodes resolve to
-stand against those that they name in the source.
-Counted apart, and no difference: bodies in which rustc wants a type written out (E0282, E0283, E0284), where the
-report has `{unknown}`; calls of what is no function, where the report has `{unknown}` in the type of what is called, so
-that nothing is said; what we alone complain of where rustc has an error and no type for what is called (see
-`is_excused`); reads of locals that were never set (E0381), where rustc's types can't be had; bodies where rustc reads
-two function items as pointers (see `reads_pointers`), which are not carried; and bodies at which rustc does not end. A
-value that is used after it moved (E0382) is no type error: rustc is asked for the types of such a body in a source in
-which all can be copied.
-Usage: tools/judge.py [COUNT] [SEED]      (300 and 1 where not given); status 1 where a difference is listed
-Build the program first: cd crates/infer_tool && rt run -- table fn 0 < ../../examples/first_run.json
+The functions are those in the files and folders that are named: of each file `facts.py` writes the facts. Where none is
+named they are some by hand (`bodies.py`) and COUNT made at random from SEED. Each of those is written as Rust source and as
+facts, with the functions and adts that it may name; it may have type parameters, and call itself. What stands side by side
+is said in `verdicts.py`. Of the bodies made at random, one in which a value is used after it moved (E0382) has rustc's
+types from a source in which all can be copied; in files it has none, nor has any other with an error. With --from-source
+the bodies made at random and by hand are judged as files, so that `facts.py` is tried on them.
+Status 1 where a difference is listed, 2 where nothing can be compared.
 """
+import argparse
+import collections
 import json
 import os
 import random
@@ -26,14 +18,15 @@ import re
 import subprocess
 import sys
 import tempfile
-from concurrent.futures import ThreadPoolExecutor
 
-sys.dont_write_bytecode = True  # of `bodies`
 from bodies import ADTS, BY_HAND, CALLED, E, FUNCTIONS, OWN, PAIR, PARAMS, PLAIN, UNIT, VARIANTS
 from bodies import Adt, Body, Item, Signature, call, call_of, int_, item, local, run
+from facts import NoFacts, add_file_options
+from judge_files import judge_files
+from program import NoReport, Program, add_program_options
+from rustc import NoRustc, errors_in, in_our_words, rustc, thir_types
+from verdicts import MOVES, NO_ANSWER, Judged, Nodes, summary, verdict
 
-TOP = os.path.dirname(os.path.dirname(os.path.abspath(__file__)))
-PROGRAM = os.path.join(TOP, "crates", "infer_tool", "out", "infer_tool")
 WORDS = ["u8", "i32", "i64", "bool", "char"]
 
 
@@ -314,16 +307,11 @@ def copied(line):
 
 
 class Writer:
-    """Writes one body as source and as facts, and keeps the place of each expression and pattern in the line.
-
-    It keeps besides which nodes name a variant (`named`), what each call calls (`callees`), and by what they call the
-    calls of paths to constructors (`constructing`).
-    """
+    """Writes one body as source and as facts, and keeps the place of each expression and pattern in the line."""
 
     def __init__(self, own):
         self.types, self.text, self.own = [], "", own
         self.exprs, self.pats, self.bindings, self.places = [], [], [], {}
-        self.named, self.callees, self.constructing = {}, {}, {}
 
     def type_id(self, ty):
         if isinstance(ty, Adt):
@@ -384,7 +372,6 @@ class Writer:
                 fact = ["path", ["ctor", number_of(variant), None]]
             else:
                 fact = ["ctor", ["variant", number_of(variant), None], self.patterns(parts, scope), None]
-            self.named["p%d" % len(self.pats)] = number_of(variant)
         else:
             fact = ["lit", self.expr(pattern, scope)]
         self.pats.append(fact)
@@ -435,13 +422,11 @@ class Writer:
         """A path to a function or a constructor."""
         if function in VARIANTS:
             self.variant(function)
-            self.named["e%d" % len(self.exprs)] = number_of(function)
             return ["path", ["ctor", number_of(function), None]]
         self.text += self.own if function == OWN else function
         return ["path", ["fn", number_of(function), None]]
 
     def call_(self, scope, callee, arguments):
-        names_constructor = callee[0] == "item" and callee[1] in VARIANTS
         callee = self.called(callee, scope)
         self.text += "("
         ids = []
@@ -449,9 +434,6 @@ class Writer:
             ids.append(self.expr(argument, scope))
             self.text += ", "
         self.text += ")"
-        self.callees["e%d" % len(self.exprs)] = "e%d" % callee
-        if names_constructor:
-            self.constructing["e%d" % callee] = "e%d" % len(self.exprs)
         return ["call", callee, ids]
 
     def called(self, e, scope):
@@ -462,11 +444,6 @@ class Writer:
         self.text += ")" if is_block_like else ""
         self.place("e%d" % callee, begun)
         return callee
-
-    def tells(self, callee):
-        """Whether what is called says by itself what it is: a literal, a tuple, or a path to an item."""
-        fact = self.exprs[int(callee[1:])]
-        return fact[0] in ("lit", "tuple") or fact[0] == "path" and fact[1][0] != "local"
 
     def tuple_(self, scope, parts):
         self.text += "("
@@ -556,14 +533,13 @@ def write_body(number, body):
     return writer.text, text, writer
 
 
-def rustc(lines, *options, timeout=None):
-    """What rustc says of a crate of these lines, below which stands all that they may name."""
+def rustc_of(lines, *options, timeout=None, change=str):
+    """What rustc says of a crate of these lines, below which stands all that they may name, each line changed first."""
     with tempfile.TemporaryDirectory() as folder:
-        source = os.path.join(folder, "judged.rs")
-        with open(source, "w") as out:
-            out.write("#![allow(warnings)]\n" + "".join(line + "\n" for line in lines))
-        return subprocess.run(["rustc", "--crate-type=lib", "--edition=2021", *options, source], capture_output=True,
-                              text=True, cwd=folder, env=dict(os.environ, RUSTC_BOOTSTRAP="1"), timeout=timeout)
+        with open(os.path.join(folder, "judged.rs"), "w") as out:
+            out.write("#![allow(warnings)]\n")
+            out.writelines(change(line) + "\n" for line in [*lines, *adt_lines(), *function_lines()])
+        return rustc("judged.rs", *options, folder=folder, timeout=timeout)
 
 
 def errors_of(lines):
@@ -600,53 +576,31 @@ def errors_in_groups(lines):
 def errors_of_group(lines, seconds):
     """rustc's errors, as above."""
     errors = {}
-    done = rustc(lines + list(adt_lines()) + list(function_lines()), "--emit=metadata", "--error-format=json",
-                 timeout=seconds)
+    done = rustc_of(lines, "--emit=metadata", "--error-format=json", timeout=seconds)
     if done.returncode not in (0, 1):
-        sys.exit("rustc ended with status %d" % done.returncode)
-    for text in done.stderr.splitlines():
-        said = json.loads(text)
-        if said["level"] == "error" and said["spans"]:
-            for span in said["spans"]:
-                if span["is_primary"]:
-                    errors.setdefault(span["line_start"] - 2, set()).add(
-                        (said["code"]["code"] if said["code"] else "?", (span["column_start"], span["column_end"])))
+        raise NoRustc("rustc ended with status %d" % done.returncode)
+    for code, span in errors_in(done):
+        errors.setdefault(span["line_start"] - 2, set()).add((code, (span["column_start"], span["column_end"])))
     if max(errors, default=0) >= len(lines):
-        sys.exit("rustc refuses what bodies may name: %s" % done.stderr)
+        raise NoRustc("rustc refuses what bodies may name: %s" % done.stderr)
     return errors
 
 
 def types_of(lines):
     """rustc's types, by the line and the columns of what has them, as our reports would write them."""
-    types, ty = {}, None
-    lines = [copied(line) for line in lines + list(adt_lines()) + list(function_lines())]
-    done = rustc(lines, "-Zunpretty=thir-tree")
+    types = collections.defaultdict(lambda: collections.defaultdict(set))
+    done = rustc_of(lines, "-Zunpretty=thir-tree", change=copied)
     if done.returncode:
-        sys.exit("rustc gives no types: %s" % done.stderr)
-    for text in done.stdout.splitlines():
-        text = text.strip()
-        if text.startswith("ty: "):
-            ty = text[4:]
-        found = re.match(r"span: \S*judged\.rs:(\d+):(\d+): (\d+):(\d+)", text)
-        if found and ty is not None:
-            line, begun, _, ended = (int(part) for part in found.groups())
-            types.setdefault((line - 2, begun, ended), set()).add(in_our_words(ty))
-            ty = None
+        raise NoRustc("rustc gives no types: %s" % done.stderr)
+    for span, ty in thir_types(done.stdout):
+        types[span.line - 2][span.column, span.end_column].add(in_our_words(ty, word_of))
     return types
 
 
-def in_our_words(ty):
-    """A type of rustc's THIR tree as a report writes it: parameters by number, items by number and types."""
-    ty = re.sub(r"\w+/#(\d+)", r"param\1", ty)
-    ty = re.sub(r"DefId\([^()]*::(\w+)::\{constructor#0\}\)",
-                lambda found: "variant%d" % number_of(found.group(1)), ty)
-    ty = re.sub(r"DefId\([^()]*::(\w+)\)", lambda found: "fn%d" % number_of(found.group(1)), ty)
-    before = None
-    while before != ty:  # the innermost items first
-        before = ty
-        ty = re.sub(r"FnDef\((\w+), \[([^\[\]]*)\]\)",
-                    lambda found: found.group(1) + ("<%s>" % found.group(2) if found.group(2) else ""), ty)
-    return ty
+def word_of(item):
+    """The word for a function or a constructor in a report on a body that names it."""
+    path = item.path.removesuffix("::{constructor#0}")
+    return "%s%d" % ("fn" if path == item.path else "variant", number_of(path.rpartition("::")[2]))
 
 
 def number_of(name):
@@ -656,142 +610,62 @@ def number_of(name):
     return 1 + list(FUNCTIONS).index(name) if name in FUNCTIONS else 0
 
 
-def types_in(theirs, number, writer, node):
-    """rustc's types of a node of a body, by the body's number.
-
-    What is called to construct an adt has no node in its tree: it has the types of the adt that the call gives.
-    """
-    if node not in writer.constructing:
-        return theirs.get((number, *writer.places[node]), set())
-    return {re.sub(r"^\w+", "variant%d" % writer.named[node], ty)
-            for ty in types_in(theirs, number, writer, writer.constructing[node])}
+def bodies_of(count, seed):
+    """The bodies by hand and some made at random: of each its source, its facts, and what wrote them."""
+    rng = random.Random(seed)
+    bodies = BY_HAND + [Maker(rng).body() for _ in range(count)]
+    return zip(*(write_body(number, body) for number, body in enumerate(bodies)))
 
 
-def reads_pointers(theirs, number):
-    """Whether rustc gives something in this line the type of a pointer to a function.
-
-    It does so where the branches of an `if` or the arms of a `match` are different function items, with inputs and
-    outputs that can be the same. Such types are not carried, and we have a complaint there.
-    """
-    return any("fn(" in ty for place, types in theirs.items() if place[0] == number for ty in types)
-
-
-def said_of_calls(errors, said, writer):
-    """What just one of the two says of calls, rustc alone and we alone: each by its kind and what is called."""
-    called = {writer.places[callee]: callee for callee in writer.callees.values()}
-    theirs = {(kind, called.get(place)) for kind, of in CALLS.items() for code, place in errors if code == of}
-    ours = {(kind, writer.callees[node]) for kind, node in said if kind in CALLS}
-    return theirs - ours, ours - theirs
+def judge_sources(count, seed, edition, program):
+    """The Verdicts on these bodies from their sources alone, which stand in files of 20."""
+    lines, _, _ = bodies_of(count, seed)
+    with tempfile.TemporaryDirectory() as folder:
+        for at in range(0, len(lines), 20):
+            with open(os.path.join(folder, "bodies%06d.rs" % at), "w") as out:
+                out.writelines(line + "\n" for line in [*lines[at:at + 20], *adt_lines(), *function_lines()])
+        return judge_files([folder], edition, program, False)
 
 
-def is_excused(unsaid, oversaid, codes, ours, writer):
-    """Whether these, which rustc alone and we alone say of calls, may stand.
-
-    We say nothing of a call of what is no function where `{unknown}` is in its type. rustc says no more of a call of a
-    hole, for which it wants a type unless there was an error before, and of what comes of that or of another error: of
-    a call of what is no function, of a pattern that does not fit, of alternatives that have no type in common. What
-    says by itself what it is can be neither.
-    """
-    if oversaid and not codes & (MISMATCHES | WANTS):
-        return False
-    return all(kind == "ExpectedFunction" and "{unknown}" in ours.get(callee, "") for kind, callee in unsaid) and all(
-        not writer.tells(callee) for _, callee in oversaid)
-
-
-def report_of(text):
-    """The types that our report gives the nodes, the variants that they resolve to, and complaints by kind and node."""
-    done = subprocess.run([PROGRAM, "table", "fn", "0"], input=text, capture_output=True, text=True)
-    if done.returncode not in (0, 1):
-        sys.exit("status %d: %s\n%s" % (done.returncode, done.stderr.strip(), text))
-    types, named, said = {}, {}, set()
-    for line in done.stdout.splitlines():
-        node, _, ty = line.partition(" ")
-        if node in ("TypeMismatch", PARTS, *CALLS):
-            said.add((node, ty.partition(" ")[0]))
-        if re.fullmatch(r"[ep]\d+", node):
-            ty, _, variant = ty.partition(" = variant")
-            types[node] = ty[:-5] if ty.endswith(" move") else ty
-            if variant:
-                named[node] = int(variant)
-    if (done.returncode == 1) != bool(said):
-        sys.exit("status %d: %s\n%s" % (done.returncode, done.stdout, text))
-    return types, named, said
-
-
-# What is said of a wrong number of a pattern's parts; and of calls, where rustc says it at what is called: of a wrong
-# number of arguments, and that what is called is no function.
-PARTS = "MismatchedTupleStructPatArgCount"
-CALLS = {"MismatchedArgCount": "E0061", "ExpectedFunction": "E0618"}
-
-# rustc's type errors. E0275 is what it says of some types without end. From the arguments of a call with a wrong number
-# of them, and from the parts of a pattern with one, the two take different types, so whether E0308 stands beside is not
-# compared.
-MISMATCHES = {"E0308", "E0317", "E0275", "E0023", *CALLS.values()}
-WANTS = {"E0282", "E0283", "E0284"}
-MOVES = {"E0382"}
-NEVER_SET = {"E0381"}
-NO_ANSWER = "no answer"
+def judge_bodies(count, seed, program):
+    """The Verdicts on these bodies, whose differences are printed."""
+    lines, texts, writers = bodies_of(count, seed)
+    errors = errors_of(list(lines))
+    theirs = types_of([line if {code for code, _ in errors.get(number, ())} <= MOVES else ""
+                       for number, line in enumerate(lines)])
+    reports = program.reports([(text, 0) for text in texts])
+    verdicts = []
+    for number, (line, report, writer) in enumerate(zip(lines, reports, writers)):
+        nodes = Nodes(writer.exprs, writer.pats, writer.places)
+        verdicts.append(verdict(Judged(errors.get(number, set()), theirs[number], report, nodes)))
+        for one in verdicts[-1].told:
+            print("%s\n    %s" % (line, one))
+    return verdicts
 
 
 def main():
-    count = int(sys.argv[1]) if len(sys.argv) > 1 else 300
-    rng = random.Random(int(sys.argv[2]) if len(sys.argv) > 2 else 1)
-    if not os.path.exists(PROGRAM):
-        sys.exit("build the program first (see this script's head)")
-    bodies = BY_HAND + [Maker(rng).body() for _ in range(count)]
-    lines, texts, writers = zip(*(write_body(number, body) for number, body in enumerate(bodies)))
-    lines = list(lines)
-    errors = errors_of(lines)
-    codes_in = [{code for code, _ in errors.get(number, set())} for number in range(len(lines))]
-    theirs = types_of([line if codes_in[number] <= MOVES else "" for number, line in enumerate(lines)])
-    counts = dict.fromkeys(["accepted by both", "refused by both", "a type is wanted", "a local is never set",
-                            "{unknown} is called", "rustc doesn't know what is called", "items are pointers",
-                            "rustc doesn't end"], 0)
-    compared = moved = differences = 0
-    with ThreadPoolExecutor(2) as pool:
-        reports = list(pool.map(report_of, texts))
-    for number, line in enumerate(lines):
-        ours, named, said = reports[number]
-        codes, complaints = codes_in[number], {kind for kind, _ in said}
-        unsaid, oversaid = said_of_calls(errors.get(number, set()), said, writers[number])
-        parts_alike = (PARTS in complaints) == ("E0023" in codes)
-        calls_a_hole = any(ours[callee] == "{unknown}" for callee in writers[number].callees.values())
-        if codes == {NO_ANSWER}:
-            kind, fits = "rustc doesn't end", True
-        elif codes <= MOVES and complaints and reads_pointers(theirs, number):
-            kind, fits = "items are pointers", True
-        elif unsaid or oversaid:
-            kind = "{unknown} is called" if unsaid else "rustc doesn't know what is called"
-            fits = parts_alike and (complaints or codes & MISMATCHES == {"E0618"}) and is_excused(
-                unsaid, oversaid, codes, ours, writers[number])
-        elif codes & MISMATCHES:
-            kind, fits = "refused by both", complaints and parts_alike
-        elif codes & WANTS and complaints and calls_a_hole:
-            kind, fits = "rustc doesn't know what is called", parts_alike
-        elif codes & WANTS:
-            kind, fits = "a type is wanted", not complaints and any("{unknown}" in ty for ty in ours.values())
-        elif codes - MOVES == NEVER_SET:
-            kind, fits = "a local is never set", not complaints
+    parser = argparse.ArgumentParser(description=__doc__, formatter_class=argparse.RawDescriptionHelpFormatter)
+    parser.add_argument("words", nargs="*", metavar="COUNT [SEED] | FILE.rs..",
+                        help="numbers, 300 and 1 where not given, or files and folders of them")
+    parser.add_argument("--from-source", action="store_true", help="judge the random bodies as files")
+    add_program_options(parser)
+    add_file_options(parser)
+    given = parser.parse_args()
+    if len(given.words) > 2 and all(word.isdecimal() for word in given.words):
+        parser.error("at most COUNT and SEED are numbers")
+    try:
+        program = Program(given.program, given.unproved)
+        if not all(word.isdecimal() for word in given.words):
+            verdicts = judge_files(given.words, given.edition, program)
         else:
-            kind, fits = "accepted by both", codes <= MOVES and not complaints
-        told = [] if fits else ["rustc: %s; we: %s" % (
-            ", ".join(sorted(codes)) or "no error", ", ".join(sorted(complaints)) or "no complaint")]
-        if named != writers[number].named:
-            told.append("variants: named %s; we %s" % (writers[number].named, named))
-        if kind == "accepted by both" and fits:
-            moved += bool(codes)
-            for node in writers[number].places:
-                compared += 1
-                found = types_in(theirs, number, writers[number], node)
-                if found != {ours[node]}:
-                    told.append("%s: rustc %s; we %s" % (node, " and ".join(sorted(found)) or "nothing", ours[node]))
-        counts[kind] += not told
-        differences += bool(told)
-        for one in told:
-            print("%s\n    %s" % (line, one))
-    print("%d bodies: %s; of the accepted, moved from twice: %d; types compared: %d; differences: %d"
-          % (len(lines), ", ".join("%s %d" % pair for pair in counts.items()), moved, compared, differences))
-    sys.exit(1 if differences else 0)
+            count, seed = [*map(int, given.words), *(300, 1)[len(given.words):]]
+            verdicts = (judge_sources(count, seed, given.edition, program) if given.from_source
+                        else judge_bodies(count, seed, program))
+    except (NoFacts, NoReport, NoRustc) as why:
+        print("judge.py: %s" % why, file=sys.stderr)
+        sys.exit(2)
+    print("%d bodies: %s" % (len(verdicts), summary(verdicts)))
+    sys.exit(1 if any(of.told for of in verdicts) else 0)
 
 
 if __name__ == "__main__":

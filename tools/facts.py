@@ -1,0 +1,264 @@
+#!/usr/bin/env python3
+"""Writes the facts text of the crate in a Rust file, with its names as rustc resolves them.
+
+What has no facts yet is named on standard error with its place, and the function that it stands in has no body in the
+text; with --strict nothing is written then. Items of the core library come from `tools/core.rs`; those of other crates
+are left out. Needs rustc; tried with 1.95.
+Status 0 where the text is written, 1 where --strict refuses it, 2 where there is no such text.
+"""
+import argparse
+import collections
+import json
+import os
+import re
+import sys
+
+from body_facts import BodyWriter
+from crate_items import Items, Lists, Writer, parameters_of
+from hir_tree import OWN, OtherShape, identifier, name_of, owners_in, span_of
+from rustc import TRIED, NoRustc, rustc, version
+from sources import Sources
+
+EDITIONS = [2015, 2018, 2021, 2024]
+CORE = os.path.join(os.path.dirname(os.path.abspath(__file__)), "core.rs")
+LIMITS = [8, 1000, 8, 10]
+REPR = r"\brepr\s*\([^)]*\b([iu](?:8|16|32|64|128|size))\b"
+
+# A function with a body in the source: its path in the crate, its Function, its number among the facts' functions or
+# None, the BodyWriter of its facts' body or None, and what of it is left out.
+Shown = collections.namedtuple("Shown", "name function number writer omissions")
+
+
+class NoFacts(Exception):
+    """There are no facts of a file."""
+
+
+class CrateFacts:
+    """The facts of the crate in a file (`text`), its functions with bodies (`shown`), and what is left out of it."""
+
+    def __init__(self, path, edition):
+        self.sources, self.path = Sources(), path
+        self.items = Items(self.sources)
+        self.items.read(tree_of(path, edition, OWN))
+        self.items.read(tree_of(CORE, 2021, "core"))
+        self.bodies, self.body_numbers = [], {}
+        self.refused = {}  # the adts and functions that can't be written, each with what of it is left out
+        self.refuse_adts()
+        self.refuse_functions()
+        self.lists = Lists(self.items, self.refused)
+        for items, number in ((self.items.modules, self.lists.module), (self.items.adts, self.lists.adt),
+                              (self.items.functions, self.lists.function)):
+            for item in items:
+                if item.crate == OWN and item not in self.refused:
+                    number(item)
+        self.shown = [self.show(of) for of in self.items.functions.values() if is_shown(of)]
+        self.shown.sort(key=lambda of: of.function.span)
+        self.omissions = self.all_omissions()
+        self.text = json.dumps(self.facts(edition), separators=(",", ":"))
+
+    def refuse_adts(self):
+        """Finds the adts that can't be written, until none of the others names one that can't."""
+        found = True
+        while found:
+            found = False
+            for item, adt in self.items.adts.items():
+                writer = Writer(Lists(self.items, self.refused), parameters_of(adt.generics))
+                self.adt(adt, writer)
+                if writer.omissions and item not in self.refused:
+                    found = True
+                    self.refused[item] = writer.omissions
+
+    def refuse_functions(self):
+        """Finds the functions whose signatures can't be written."""
+        for item, function in self.items.functions.items():
+            writer = self.writer(function, Lists(self.items, self.refused))
+            self.function(function, writer)
+            if writer.omissions:
+                self.refused[item] = writer.omissions
+
+    def writer(self, function, lists):
+        writer = BodyWriter(lists, parameters_of(function.generics), function.id.path)
+        writer.place = function.span
+        return writer
+
+    def show(self, function):
+        """Writes a function's body, if nothing of the function is left out."""
+        trial = self.writer(function, Lists(self.items, self.refused))
+        trial.omissions += self.refused.get(function.id, [])
+        if function.within == "module":
+            trial.body(function.body, 0)
+        if trial.omissions:
+            return Shown(trial.function, function, self.lists.functions.get(function.id), None, trial.omissions)
+        writer = self.writer(function, self.lists)
+        self.body_numbers[function.id] = len(self.bodies)
+        self.bodies.append(writer.body(function.body, self.lists.module(function.module)))
+        return Shown(writer.function, function, self.lists.function(function.id), writer, [])
+
+    def all_omissions(self):
+        """All that is left out of the file's crate, by its place."""
+        omissions = set(self.items.others)
+        for item, of in self.refused.items():
+            if item.crate == OWN and (item in self.items.adts or self.items.functions[item].body is None):
+                omissions.update(of)
+        for of in self.shown:
+            omissions.update(of.omissions)
+        return sorted(omissions, key=lambda of: (of.span or (), of.kind))
+
+    def facts(self, edition):
+        features = set(re.findall(r"\w+", " ".join(self.sources.attributes_of_file(self.path))))
+        functions = [self.function(self.items.functions[item], self.writer(self.items.functions[item], self.lists))
+                     for item in self.lists.functions]
+        adts, variants = [], []
+        while len(adts) < len(self.lists.adts):  # an adt of the core library gets its number as it is named
+            adt = self.items.adts[list(self.lists.adts)[len(adts)]]
+            fact, of_adt = self.adt(adt, Writer(self.lists, parameters_of(adt.generics)))
+            adts.append(fact)
+            variants += of_adt
+        return {
+            "profile": 1, "edition": edition, "never_fallback": "never_type_fallback" in features,
+            "new_range": "new_range" in features, "limits": LIMITS, "types": self.lists.types,
+            "modules": [self.parent(module) for module in self.lists.modules], "adts": adts, "variants": variants,
+            "fns": functions, "consts": [], "statics": [], "traits": [], "aliases": [], "impls": [], "opaques": [],
+            "lang": {}, "bodies": self.bodies}
+
+    def parent(self, module):
+        parent = self.items.modules[module]
+        return None if parent is None else self.lists.module(parent)
+
+    def adt(self, adt, writer):
+        """The facts of an adt, and of its variants."""
+        writer.place = adt.span
+        params = writer.generics(adt.generics)
+        for span in adt.discriminants:
+            writer.leave_out("discriminant of a variant", span)
+        vis = self.visibility(adt.vis, adt.module, writer.lists)
+        variants = []
+        for name, data, span in adt.variants:
+            if name_of(data) == "Struct":
+                writer.leave_out("named fields", span)
+                continue
+            fields = [] if data.name == "Unit" else [
+                {"name": identifier(field["ident"]), "type": writer.type(field["ty"])[0],
+                 "vis": vis if adt.kind == "enum" else self.visibility(span_of(field["vis_span"]), adt.module, writer.lists)}
+                for field in data[0]]
+            variants.append({"adt": writer.lists.adt(adt.id), "name": name, "ctor": data.name.lower(), "fields": fields,
+                             "body": None})
+        fact = {"name": adt.name, "kind": adt.kind, "params": params, "preds": [],
+                "variants": [writer.lists.variants[adt.id, at] for at in range(len(variants))],
+                "repr": self.repr(adt), "unsize": None}
+        return fact, variants
+
+    def function(self, function, writer):
+        """The facts of a function without `self`."""
+        header, declared = function.signature["header"], function.signature["decl"]
+        if function.within != "module":
+            writer.leave_out("function of %s" % ("an impl" if function.within == "impl" else "a trait"), function.span)
+            return None
+        if header["asyncness"] != "NotAsync":
+            writer.leave_out("async function", function.span)
+        if declared["c_variadic"]:
+            writer.leave_out("function of any number of arguments", function.span)
+        params = writer.generics(function.generics)
+        inputs = [writer.type(ty)[0] for ty in declared["inputs"]]
+        output = declared["output"]
+        output = writer.type(output[0])[0] if output.name == "Return" else writer.lists.type(["tuple", []])
+        return {"name": function.name, "at": ["module", writer.lists.module(function.module)], "params": params,
+                "preds": [], "has_self": False, "inputs": inputs, "output": output,
+                "safe": name_of(header["safety"]) != "Normal" or header["safety"][0] != "Unsafe",
+                "vis": self.visibility(function.vis, function.module, writer.lists),
+                "body": self.body_numbers.get(function.id)}
+
+    def visibility(self, span, module, lists):
+        """What `pub` in an item's source says: "pub", or the module in which and in whose descendants it is visible."""
+        text = "" if span is None else self.sources.text(span)
+        if text == "pub":
+            return "pub"
+        found = re.fullmatch(r"pub\s*\(\s*(?:in\s+)?([\w:\s]+?)\s*\)", text)
+        for word in re.split(r"\s*::\s*", found.group(1)) if found else ():
+            if word == "crate":
+                module = self.items.paths[module.crate, ""]
+            elif word == "super":
+                module = self.items.modules[module] or module
+            elif word != "self":
+                module = self.items.paths.get((module.crate, (module.path + "::" + word).lstrip(":")), module)
+        return lists.module(module)
+
+    def repr(self, adt):
+        """The integer type that an enum is said to be represented by."""
+        if adt.kind == "enum" and adt.span is not None and not adt.span.context:
+            for attribute in self.sources.attributes_before(adt.span):
+                found = re.search(REPR, attribute)
+                if found:
+                    return found.group(1)
+        return None
+
+
+def is_shown(function):
+    """Whether a function has a body that stands in the source, or in that of a macro by its own name."""
+    return function.body is not None and (function.within == "module" or not function.span.context)
+
+
+def tree_of(path, edition, crate):
+    """The items of a crate as rustc's tree has them."""
+    done = rustc(path, "-Zunpretty=hir-tree", crate=crate, edition=edition)
+    if not done.stdout.strip():
+        raise NoFacts("rustc makes no tree of %s:\n%s" % (path, done.stderr.strip()))
+    return owners_in(done.stdout)
+
+
+def facts_of(path, edition):
+    """The CrateFacts of a file."""
+    try:
+        return CrateFacts(path, edition)
+    except NoRustc as why:
+        raise NoFacts(why) from None
+    except (OtherShape, AttributeError, IndexError, KeyError, TypeError) as shape:
+        raise NoFacts("the tree that %s makes of %s has another shape than that of rustc %s, with which this was tried: %s: %s"
+                      % (version(), path, TRIED, type(shape).__name__, shape)) from shape
+
+
+def place_text(span, path):
+    """A place as editors read it."""
+    return "%s:%d:%d" % (span.file, span.line, span.column) if span is not None else path
+
+
+def omission_text(omission, path):
+    within = " (in `%s`)" % omission.function if omission.function else ""
+    return "%s: left out: %s%s" % (place_text(omission.span, path), omission.kind, within)
+
+
+def put_out(text):
+    """Writes lines to standard output; where nobody reads on, that is the end."""
+    try:
+        print(text, flush=True)
+    except BrokenPipeError:
+        os.dup2(os.open(os.devnull, os.O_WRONLY), sys.stdout.fileno())
+        sys.exit(2)
+
+
+def add_file_options(parser):
+    """The options that say how a file is read."""
+    parser.add_argument("--edition", type=int, choices=EDITIONS, default=2021, help="of the language; 2021 where not given")
+    parser.add_argument("--version", action="version", version="%%(prog)s, of facts of profile 1; tried with rustc %s" % TRIED)
+
+
+def main():
+    parser = argparse.ArgumentParser(description=__doc__, formatter_class=argparse.RawDescriptionHelpFormatter)
+    parser.add_argument("file", metavar="FILE.rs")
+    parser.add_argument("--strict", action="store_true", help="write nothing where something is left out")
+    add_file_options(parser)
+    given = parser.parse_args()
+    try:
+        crate = facts_of(given.file, given.edition)
+    except NoFacts as why:
+        print("facts.py: %s" % why, file=sys.stderr)
+        sys.exit(2)
+    for omission in crate.omissions:
+        print(omission_text(omission, given.file), file=sys.stderr)
+    if given.strict and crate.omissions:
+        sys.exit(1)
+    put_out(crate.text)
+
+
+if __name__ == "__main__":
+    main()

@@ -1,0 +1,64 @@
+"""Asks rustc about a file. The tools that use its trees were tried with rustc 1.95."""
+import json
+import os
+import re
+import subprocess
+
+from hir_tree import OWN, def_id, span_of
+
+TRIED = "1.95"
+
+
+class NoRustc(Exception):
+    """There is no rustc, or it gives no answer that is of use."""
+
+
+def rustc(path, *options, crate=OWN, edition=2021, folder=None, timeout=None):
+    """What rustc says of the crate in this file, which is called so; it takes the options of nightly ones."""
+    words = ["rustc", "--crate-type=lib", "--cap-lints=allow", "--crate-name=" + crate, "--edition=%d" % edition]
+    try:
+        return subprocess.run([*words, *options, path], capture_output=True, text=True, cwd=folder,
+                              env=dict(os.environ, RUSTC_BOOTSTRAP="1"), timeout=timeout)
+    except FileNotFoundError:
+        raise NoRustc("no rustc is found: install a Rust toolchain (tried with %s)" % TRIED) from None
+
+
+def version():
+    """What rustc says of its version."""
+    return subprocess.run(["rustc", "--version"], capture_output=True, text=True).stdout.strip()
+
+
+def errors_in(done):
+    """The errors that rustc tells as JSON: for each of its main places its code, or "?", and the place as it says it."""
+    for text in done.stderr.splitlines():
+        said = json.loads(text)
+        if said.get("level") == "error":
+            for span in said["spans"]:
+                if span["is_primary"]:
+                    yield said["code"]["code"] if said["code"] else "?", span
+
+
+def thir_types(text):
+    """The types in a tree of `-Zunpretty=thir-tree`: of each expression and pattern its Span and type, in rustc's words."""
+    ty = None
+    for line in text.splitlines():
+        line = line.strip()
+        if line.startswith("ty: "):
+            ty = line[4:]
+        elif line.startswith("span: ") and ty is not None:
+            span = span_of(line[6:])
+            if span is not None:
+                yield span, ty
+            ty = None
+
+
+def in_our_words(ty, item):
+    """A type of rustc's as a report writes it; `item` gives the word for the function or constructor of a DefId."""
+    ty = re.sub(r"\w+/#(\d+)", r"param\1", ty)
+    ty = re.sub(r"DefId\([^()]*\)", lambda found: item(def_id(found.group())), ty)
+    before = None
+    while before != ty:  # the innermost items first
+        before = ty
+        ty = re.sub(r"FnDef\((\w+), \[([^\[\]]*)\]\)",
+                    lambda found: found.group(1) + ("<%s>" % found.group(2) if found.group(2) else ""), ty)
+    return re.sub(r"(?:\w+::)+(\w+)", r"\1", ty)
