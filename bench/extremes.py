@@ -6,8 +6,8 @@ Usage: bench/extremes.py
 Build the program first: cd crates/infer_tool && rt run -- table fn 0 < ../../examples/first_run.json
 """
 import json
-
 import lets
+import sys
 
 MOST = (1 << 24) - 64
 
@@ -50,6 +50,9 @@ def deep(depth):
 
 
 def main():
+    if "--help" in sys.argv[1:]:
+        print(__doc__.strip())
+        return
     shapes = [
         ("spaces", b" " * MOST),
         ("one string", b'"' + b"a" * (MOST - 2) + b'"'),

@@ -273,6 +273,9 @@ def rustc_seconds(shape, count):
 
 
 def main():
+    if "--help" in sys.argv[1:]:
+        print(__doc__.strip())
+        return
     words = sys.argv[1:]
     shape = words.pop(0) if words and words[0] in SHAPES else "copies"
     first = int(words[0]) if words else 40000

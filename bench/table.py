@@ -63,6 +63,9 @@ def measure(mode, first):
 
 
 def main():
+    if "--help" in sys.argv[1:]:
+        print(__doc__.strip())
+        return
     first = int(sys.argv[1]) if len(sys.argv) > 1 else 10000
     if not os.path.exists(PROGRAM):
         sys.exit("build the program first (see this script's head)")

@@ -86,6 +86,9 @@ def run(text, number):
 
 
 def main():
+    if "--help" in sys.argv[1:]:
+        print(__doc__.strip())
+        return
     count = int(sys.argv[1]) if len(sys.argv) > 1 else 20000
     rng = random.Random(int(sys.argv[2]) if len(sys.argv) > 2 else 1)
     texts = [open(name, "rb").read() for name in sorted(glob.glob(os.path.join(TOP, "examples", "*.json")))]
