@@ -50,7 +50,6 @@ use Rattle.infer_ctx.proofs.OverTypes.{carried_closed}
 use Rattle.infer_ctx.proofs.Parts.{after_append, ahead_left, ahead_right}
 use Rattle.infer_ctx.proofs.Tellings.{no_telling_block}
 use Rattle.infer_ctx.proofs.Types.{carried_unit}
-use Rattle.infer_coerce.specs.declared.coercion.Coerced.{Coerced}
 use Rattle.infer_coerce.specs.Coercions.{IsCoerced, IsCoercedIf}
 use Rattle.infer_coerce.proofs.Coercions.{placed_at, placed_carried, placed_owed}
 use Rattle.infer_blocks.specs.Blocks.{IsBlockOf, BeforeStmt, StmtDone, BeforeTail, TailDone, NoTailDone, NoTailWalked}
@@ -265,10 +264,10 @@ coerced_unit false n x t u old new e q typed = inr (u, record { asked = e; coerc
 coerced_unit true n x t u old new e q typed = inl (q.1, elim typed [ inl y ↦ y | inr y ↦ y.0 ∙ sym q.0 ])
 
 -- it was coerced to the expected type u, and the block has that or is `()`
-pub no_tail_coerced : (answer : Coerced) (g : Given) (n : ExprId) (x : Option Ty) (t u v : Ty) (old new : InferenceContext)
-    → x ≡ Some u → v ≡ unit → IsFine g.scope old.table u → IsCoerced answer g n v u old new
+pub no_tail_coerced : (could : Bool) (g : Given) (n : ExprId) (x : Option Ty) (t u v : Ty) (old new : InferenceContext)
+    → x ≡ Some u → v ≡ unit → IsFine g.scope old.table u → IsCoerced could g n v u old new
     → (t ≡ v) ⊎ ((t ≡ u) × MismatchAt new.result n u v × IsFree new.asked n.0) → NoTailDone g n x t old new
-no_tail_coerced answer g n x t u v old new e i h d typed = record {
+no_tail_coerced could g n x t u v old new e i h d typed = record {
   follows = d.follows;
   fine = elim typed [
     | inl y ↦ subst (λ w. IsFine g.scope new.table w) (sym (y ∙ i)) (fine_unit g.scope new.table)

@@ -11,7 +11,7 @@ ghost use Rattle.infer_coerce.specs.Recursion.{InfersFrom};
 
 use crate::stmt::infer_stmt;
 use hir_facts::{ExprId, List, RawStmt, Ty};
-use infer_coerce::{coerce, infer_expr_coerce};
+use infer_coerce::{demand_coerce, infer_expr_coerce};
 use infer_ctx::{Expectation, GivenBody, InferenceContext};
 use std::alloc::{AllocError, Global};
 
@@ -104,7 +104,7 @@ fn coerce_unit(
         (Some target.now) ty context.old context.new) }
 {
     let unit = Ty::Tuple(List::new(alloc));
-    coerce(alloc, context, given, block, &unit, target)?;
+    demand_coerce(alloc, context, given, block, &unit, target)?;
     if context.is_noted(block, target, &unit) {
         let ty = target.dup(alloc)?;
         Ok(ty)

@@ -1,25 +1,29 @@
 -- What is expected of an expression, what it has, and what is made of the two.
-use Rattle.std.proofs.Common.{◌≡◌, Some, ◌∙◌, sym, ap, subst, Option, None}
+use Rattle.std.proofs.Common.{Bool, true, false, Result, Ok, Err, ◌≡◌, Some, ◌∙◌, sym, ap, subst, Option, None}
 use Rattle.hir_types.specs.declared.ids.ExprId.{ExprId}
 use Rattle.hir_types.specs.declared.ty.Ty.{Ty}
 use Rattle.hir_types.specs.Subst.{folded}
 use Rattle.hir_facts.specs.declared.schedule.Schedule.{Schedule}
 use Rattle.infer_result.specs.Places.{Given}
+use Rattle.infer_result.specs.Table.{mismatch}
 use Rattle.infer_ctx.specs.declared.context.InferenceContext.{InferenceContext}
+use Rattle.infer_ctx.specs.Context.{with_mismatch}
 use Rattle.infer_ctx.specs.Closings.{Closes, found_under, expected_under}
 use Rattle.infer_ctx.specs.Fine.{IsFine, IsFineExpectation}
 use Rattle.infer_ctx.specs.Steps.{Follows, Before, OwnDone, CoerceDone}
 use Rattle.infer_ctx.proofs.FineTypes.{fine_grown}
 use Rattle.infer_ctx.proofs.AtEach.{follows_twice, closes_before, before_under}
+use Rattle.infer_coerce.specs.Coercions.{IsCoercion, IsCoerced}
 use Rattle.infer_coerce.specs.declared.coercion.Coerced.{Coerced}
-use Rattle.infer_coerce.specs.Coercions.{IsCoerced}
+use Rattle.infer_coerce.specs.declared.coercion.NotCoercible.{NotCoercible}
 use Rattle.infer_coerce.proofs.Coercions.{coerced_as, uncoerced}
+use Rattle.infer_coerce.proofs.Unified.{coercion_coerced, refused_coerced}
 
 only_some : {A : Type 0} {x y : A} → Some x ≡ Some y → x ≡ y
 only_some h = cc
 
-pub coerced_done : (answer : Coerced) (g : Given) (s : Schedule) (e : ExprId) (x : Option Ty) (t u v : Ty) (old mid new : InferenceContext) → Some u ≡ x → v ≡ u → Before g s e x old → OwnDone g s e x t old mid → IsCoerced answer g e t u mid new → CoerceDone g s e x v old new
-coerced_done answer g s e x t u v old mid new f i h d k =
+pub coerced_done : (could : Bool) (g : Given) (s : Schedule) (e : ExprId) (x : Option Ty) (t u v : Ty) (old mid new : InferenceContext) → Some u ≡ x → v ≡ u → Before g s e x old → OwnDone g s e x t old mid → IsCoerced could g e t u mid new → CoerceDone g s e x v old new
+coerced_done could g s e x t u v old mid new f i h d k =
     let all : Follows g old new = follows_twice g old mid new d.follows k.follows in
     record {
       follows = all;
@@ -35,6 +39,19 @@ coerced_done answer g s e x t u v old mid new f i h d k =
           coerced_as g s z.0 e (expected_under a x) (folded a t) (folded a u) (folded a v) (found_under a old) (found_under a mid) (found_under a new)
           (ap (expected_under a) f) (ap (folded a) i) (before_under g s a old o e x h) (d.each a m) z.2;
     }
+
+-- it is coerced, or can't be, and then that is noted
+module _ (g : Given) (s : Schedule) (e : ExprId) (x : Option Ty) (t u : Ty) (old mid new : InferenceContext) (f : Some u ≡ x) (h : Before g s e x old) (d : OwnDone g s e x t old mid) (answer : Result Coerced NotCoercible) (k : IsCoercion answer g e t u mid new) where
+  pub coerced_own : (r : Coerced) → answer ≡ Ok r → CoerceDone g s e x r.ty old new
+  coerced_own r is =
+      let made : IsCoercion (Ok r) g e t u mid new = subst (λ a. IsCoercion a g e t u mid new) is k in
+      coerced_done true g s e x t u r.ty old mid new f made.answers h d (coercion_coerced g e t u mid new r made)
+
+  pub refused_own : (y : NotCoercible) (v : Ty) → answer ≡ Err y → v ≡ y.target → CoerceDone g s e x v old (with_mismatch new e (mismatch y.target y.source))
+  refused_own y v is at =
+      let refused : IsCoercion (Err y) g e t u mid new = subst (λ a. IsCoercion a g e t u mid new) is k in
+      let fine : IsFine g.scope mid.table u = fine_grown g.scope old.table mid.table u d.follows.grew (subst (λ z. IsFineExpectation g.scope old.table z) (sym f) h.expected) in
+      coerced_done false g s e x t u v old mid (with_mismatch new e (mismatch y.target y.source)) f (at ∙ refused.answers.1) h d (refused_coerced g e t u mid new d.fine fine y refused)
 
 pub uncoerced_done : (g : Given) (s : Schedule) (e : ExprId) (t : Ty) (old new : InferenceContext) → OwnDone g s e None t old new → CoerceDone g s e None t old new
 uncoerced_done g s e t old new d = record {

@@ -1,5 +1,5 @@
 -- What an alternative makes of the common type, and the type of a node whose alternatives have none in common.
-use Rattle.std.proofs.Common.{refl, ◌≡◌, inl, inr, Bool, ap, subst, ◌⊎◌, sym, ◌∙◌, Option, Some, None}
+use Rattle.std.proofs.Common.{refl, ◌≡◌, inl, inr, Bool, true, false, ap, subst, ◌⊎◌, sym, ◌∙◌, Option, Some, None}
 use Rattle.hir_types.specs.declared.ids.ExprId.{ExprId}
 use Rattle.hir_types.specs.declared.ty.Ty.{Ty}
 use Rattle.hir_types.specs.Subst.{Assignment, folded}
@@ -16,11 +16,9 @@ use Rattle.infer_ctx.specs.Fine.{IsFine}
 use Rattle.infer_ctx.proofs.AtEach.{follows_itself}
 use Rattle.infer_ctx.proofs.FineTypes.{fine_grown, fine_hole}
 use Rattle.infer_coerce.specs.Common.{Merges, IsFineCommon, common_after, common_under, MergesInto, Completes, CompletesAs}
-use Rattle.infer_coerce.specs.declared.coercion.Coerced.{Coerced}
 use Rattle.infer_coerce.specs.Coercions.{IsCoerced, Says, IsCoercedIf}
 use Rattle.infer_coerce.specs.declared.coerce_many.CoerceMany.{CoerceMany}
 use Rattle.infer_coerce.specs.declared.coerce_many.CoerceMany.TheVariants as common
-use Rattle.infer_coerce.specs.declared.coercion.Coerced.TheVariants as coerced
 use Rattle.infer_coerce.proofs.Holes.{holed, holed_sound}
 
 -- ---- one alternative more
@@ -45,34 +43,24 @@ module _ (g : Given) (e : ExprId) (t : Ty) (c : InferenceContext) (h : IsOfBody 
     each = λ a q. (refl, refl);
   }
 
-after_fine : (sc : Scope) (state : State) (answer : Coerced) (u : Ty) → IsFine sc state u → IsFineCommon sc state (common_after answer u)
-after_fine sc state coerced.Yes u h = h
-after_fine sc state coerced.Waits u h = h
-after_fine sc state coerced.No u h = tt
+after_fine : (sc : Scope) (state : State) (could : Bool) (u : Ty) → IsFine sc state u → IsFineCommon sc state (common_after could u)
+after_fine sc state true u h = h
+after_fine sc state false u h = tt
 
 -- it is coerced to the common type, or waits to be
-pub coerced_merges : (g : Given) (e : ExprId) (t u : Ty) (answer : Coerced) (old new : InferenceContext) → IsFine g.scope old.table u → IsCoerced answer g e t u old new → Merges g e t (common.Is u) (common_after answer u) old new
-coerced_merges g e t u answer old new h k = record {
+pub coerced_merges : (g : Given) (e : ExprId) (t u : Ty) (could : Bool) (old new : InferenceContext) → IsFine g.scope old.table u → IsCoerced could g e t u old new → Merges g e t (common.Is u) (common_after could u) old new
+coerced_merges g e t u could old new h k = record {
   follows = k.follows;
   clock = k.clock;
-  fine = after_fine g.scope new.table answer u (fine_grown g.scope old.table new.table u k.follows.grew h);
-  coerced_to = λ v i. (let same : u ≡ v = cc in (answer, subst (λ w. IsCoerced answer g e t w old new) same k, ap (common_after answer) same));
-  each = λ a q. (let z = k.each a q in merged_under a answer z.0 z.1 z.2);
+  fine = after_fine g.scope new.table could u (fine_grown g.scope old.table new.table u k.follows.grew h);
+  coerced_to = λ v i. (let same : u ≡ v = cc in (could, subst (λ w. IsCoerced could g e t w old new) same k, ap (common_after could) same));
+  each = λ a q. (let z = k.each a q in merged_under a could z.0 z.1 z.2);
 }
   where
-    merged_under : (a : Assignment) (answer : Coerced) (fits : Bool) → Says answer fits → IsCoercedIf fits e (folded a t) (folded a u) (found_under a old) (found_under a new)
-        → MergesInto e (folded a t) (common_under a (common.Is u)) (common_under a (common_after answer u)) (found_under a old) (found_under a new)
-    merged_under a coerced.Yes fits says d = inl (refl, (fits, d))
-    merged_under a coerced.Waits fits says d = inl (refl, (fits, d))
-    merged_under a coerced.No fits says d = inr (refl, subst (λ b. IsCoercedIf b e (folded a t) (folded a u) (found_under a old) (found_under a new)) says d)
-
--- the common type stays
-pub kept_merges : (g : Given) (e : ExprId) (t u : Ty) (answer : Coerced) (old new : InferenceContext) → IsFine g.scope old.table u → (answer ≡ coerced.Yes) ⊎ (answer ≡ coerced.Waits) → IsCoerced answer g e t u old new → Merges g e t (common.Is u) (common.Is u) old new
-kept_merges g e t u answer old new h is k = subst (λ m. Merges g e t (common.Is u) m old new) (stays is) (coerced_merges g e t u answer old new h k)
-  where
-    stays : (answer ≡ coerced.Yes) ⊎ (answer ≡ coerced.Waits) → common_after answer u ≡ common.Is u
-    stays (inl i) = ap (λ y. common_after y u) i
-    stays (inr i) = ap (λ y. common_after y u) i
+    merged_under : (a : Assignment) (could fits : Bool) → Says could fits → IsCoercedIf fits e (folded a t) (folded a u) (found_under a old) (found_under a new)
+        → MergesInto e (folded a t) (common_under a (common.Is u)) (common_under a (common_after could u)) (found_under a old) (found_under a new)
+    merged_under a true fits says d = inl (refl, (fits, d))
+    merged_under a false fits says d = inr (refl, subst (λ b. IsCoercedIf b e (folded a t) (folded a u) (found_under a old) (found_under a new)) says d)
 
 -- ---- none in common
 

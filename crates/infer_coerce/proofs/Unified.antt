@@ -1,5 +1,5 @@
 -- Two types unified, or refused, at an expression.
-use Rattle.std.proofs.Common.{◌≡◌, refl, subst, sym, Bool, ◌∙◌, true, false, arith, ℕ, zero, suc, ◌+◌, ◌++◌, if◌then◌else◌, List, [], ◌∷◌, length, Some, slice_get, ◌⊎◌, inl, inr, ap, None, ◌<◌, Option}
+use Rattle.std.proofs.Common.{◌≡◌, refl, subst, sym, Bool, ◌∙◌, true, false, arith, ℕ, zero, suc, ◌+◌, ◌++◌, if◌then◌else◌, List, [], ◌∷◌, length, Some, slice_get, ◌⊎◌, inl, inr, ap, None, ◌<◌, Option, Ok, Err}
 use Rattle.std.proofs.Math.Nat.{eq-or-lt_of_le}
 use Rattle.hir_types.specs.declared.ty.IntegerTy.{IntegerTy}
 use Rattle.hir_types.specs.declared.ty.IntegerTy.TheVariants.{Int, Uint}
@@ -48,8 +48,9 @@ use Rattle.infer_ctx.proofs.FineTypes.{table_fine_grown, seen_fine_grown, fine_p
 use Rattle.infer_ctx.proofs.AtEach.{follows_itself, follows_twice, closes_before}
 use Rattle.infer_ctx.proofs.Lists.{noted-cases}
 use Rattle.infer_coerce.specs.Unifying.{IsUnifiedIf}
-use Rattle.infer_coerce.specs.Coercions.{IsCoerced, IsCoercedIf, MayWait}
-use Rattle.infer_coerce.specs.declared.coercion.Coerced.TheVariants as coerced
+use Rattle.infer_coerce.specs.Coercions.{IsCoercion, IsCoerced, IsCoercedOrNot, MayWait}
+use Rattle.infer_coerce.specs.declared.coercion.Coerced.{Coerced}
+use Rattle.infer_coerce.specs.declared.coercion.NotCoercible.{NotCoercible}
 
 -- ---- the completion of holes closes the context
 integer_of : CarriedCases (λ t. IsInt (term t) → (i : IntegerTy) × (t ≡ integer_type i))
@@ -327,45 +328,57 @@ pub pair_still_fine : (g : Given) (old c : InferenceContext) (ps : List WaitingP
 pair_still_fine g old c ps i p h b at = fine_pair_at g.scope c.table ps i p (fine_pairs_grown g.scope old.table c.table ps b.follows.grew h) at
 
 -- ---- coercions
-pub same_coerced : (g : Given) (e : ExprId) (t u : Ty) (c : InferenceContext) → IsOfBody g.body c.result → IsSound g.scope c → t ≡ u → IsCoerced coerced.Yes g e t u c c
-same_coerced g e t u c h s is = record {
-  follows = follows_itself g c h s;
-  clock = refl;
-  waits = λ i. absurd (cc);
-  each = λ a q. (true, refl, (ap (folded a) is, refl));
-}
+same_unified : (g : Given) (t u : Ty) (c : InferenceContext) → IsOfBody g.body c.result → IsSound g.scope c → t ≡ u → IsUnifiedIf true g t u c c
+same_unified g t u c h s is = record { binds = binds_nothing g c h s; each = λ a q. ap (folded a) is }
 
 module _ (g : Given) (e : ExprId) (t u : Ty) (c new : InferenceContext) where
-  pub unified_coerced : IsUnifiedIf true g t u c new → IsCoerced coerced.Yes g e t u c new
-  unified_coerced k = record {
+  pub unified_coercion : (r : Coerced) → r.ty ≡ u → IsUnifiedIf true g t u c new → IsCoercion (Ok r) g e t u c new
+  unified_coercion r is k = record {
     follows = k.binds.follows;
     clock = k.binds.clock;
-    waits = λ i. absurd (cc);
-    each = λ a q. (true, refl, (k.each a q, same_found a c new k.binds.result k.binds.asked k.binds.clock));
+    answers = is;
+    comes = inl k;
+    each = λ a q. (true, (k.each a q, same_found a c new k.binds.result k.binds.asked k.binds.clock));
   }
 
+  pub refused_coercion : (x : NotCoercible) → x.source ≡ t → x.target ≡ u → IsUnifiedIf false g t u c new → IsCoercion (Err x) g e t u c new
+  refused_coercion x from to k = record {
+    follows = k.binds.follows;
+    clock = k.binds.clock;
+    answers = (from, to);
+    comes = k;
+    each = λ a q. (λ same. k.each a q (sym same), same_found a c new k.binds.result k.binds.asked k.binds.clock);
+  }
+
+  pub coercion_coerced : (r : Coerced) → IsCoercion (Ok r) g e t u c new → IsCoerced true g e t u c new
+  coercion_coerced r k = record {
+    follows = k.follows;
+    clock = k.clock;
+    each = λ a q. (let z = k.each a q in (z.0, tt, z.1));
+  }
+
+  -- where it can't be made, the mismatch is noted
   module _ (ft : IsFine g.scope c.table t) (fu : IsFine g.scope c.table u) where
-    pub refused_coerced : IsUnifiedIf false g t u c new → IsCoerced coerced.No g e t u c (with_mismatch new e (mismatch u t))
-    refused_coerced k =
-        let f = k.binds.follows in
+    pub refused_coerced : (x : NotCoercible) → IsCoercion (Err x) g e t u c new → IsCoerced false g e t u c (with_mismatch new e (mismatch x.target x.source))
+    refused_coerced x k =
+        let f = k.follows in
         let last : InferenceContext = with_mismatch new e (mismatch u t) in
-        record {
+        let here : IsCoerced false g e t u c last = record {
           follows = assumption (
             of_body_mismatch g.body new f.of_body e (mismatch u t),
             sound_mismatch new f.sound e (mismatch u t) (fine_grown g.scope c.table new.table u f.grew fu) (fine_grown g.scope c.table new.table t f.grew ft),
             f,
           );
-          clock = k.binds.clock;
-          waits = λ i. absurd (cc);
+          clock = k.clock;
           each = λ a q. (
-            false,
-            refl,
-            (
-              λ same. k.each a (closes_same a last new refl q) (sym same),
-              mismatch_under a new e (mismatch u t) ∙ ap (λ f. found.with_mismatch f e (closed_mismatch a (mismatch u t))) (same_found a c new k.binds.result k.binds.asked k.binds.clock),
-            ),
+            let z = k.each a (closes_same a last new refl q) in
+            (false, refl, (z.0, mismatch_under a new e (mismatch u t) ∙ ap (λ f. found.with_mismatch f e (closed_mismatch a (mismatch u t))) z.1))
           );
-        }
+        } in
+        subst (λ m. IsCoerced false g e t u c (with_mismatch new e m)) (ap (λ y. mismatch u y) (sym k.answers.0) ∙ ap (λ y. mismatch y x.source) (sym k.answers.1)) here
+
+pub same_coercion : (g : Given) (e : ExprId) (t u : Ty) (c : InferenceContext) (r : Coerced) → r.ty ≡ u → IsOfBody g.body c.result → IsSound g.scope c → t ≡ u → IsCoercion (Ok r) g e t u c c
+same_coercion g e t u c r at h s is = unified_coercion g e t u c c r at (same_unified g t u c h s is)
 
 -- ---- an expression that waits
 
@@ -426,10 +439,9 @@ module _ (g : Given) (e : ExprId) (t u : Ty) (c : InferenceContext) (h : IsOfBod
   asked_under a xs k = ap (λ l. record { result = record (closed_table a c.asked c.result) { expr_mismatches = l }; clock = c.clock; holes = a }) k
 
   -- it is coerced under the assignments under which the two are the same
-  decided : (a : Assignment) (b : Bool) → same_types (folded a u) (folded a t) ≡ b → (fits : Bool) × Unit {0} × IsCoercedIf fits e (folded a t) (folded a u) (found_under a c) (found_under a last)
+  decided : (a : Assignment) (b : Bool) → same_types (folded a u) (folded a t) ≡ b → IsCoercedOrNot e (folded a t) (folded a u) (found_under a c) (found_under a last)
   decided a true k = (
     true,
-    tt,
     (
       sym ((ty_decides (folded a u) (folded a t)).0 k),
       asked_under a (closed_mismatches a c.asked c.result.expr_mismatches) (asked-same a c.asked c.result.expr_mismatches e.0 (mismatch u t) may.unasked.asked k),
@@ -437,17 +449,17 @@ module _ (g : Given) (e : ExprId) (t u : Ty) (c : InferenceContext) (h : IsOfBod
   )
   decided a false k = (
     false,
-    tt,
     (
       λ same. (let z = (ty_decides (folded a u) (folded a t)).1 same in absurd (cc)),
       asked_under a (noted (closed_mismatches a c.asked c.result.expr_mismatches) e.0 (closed_mismatch a (mismatch u t))) (asked-apart a c.asked c.result.expr_mismatches e.0 (mismatch u t) may.unasked.asked may.unasked.noted k),
     ),
   )
 
-  pub waits_coerced : IsCoerced coerced.Waits g e t u c last
-  waits_coerced = record {
+  pub waits_coercion : (r : Coerced) → r.ty ≡ u → IsCoercion (Ok r) g e t u c last
+  waits_coercion r is = record {
     follows = record { clock = omega arith; grew = wait_grew; of_body = h; sound = wait_sound; told = λ told. told };
     clock = refl;
-    waits = λ i. record { may = may; waits = refl };
+    answers = is;
+    comes = inr (record { may = may; waits = refl });
     each = λ a q. decided a (same_types (folded a u) (folded a t)) refl;
   }

@@ -1,5 +1,5 @@
 -- What comes of a coercion.
-use Rattle.std.specs.Prelude.{◌≡◌, Bool, true, false}
+use Rattle.std.specs.Prelude.{◌≡◌, ◌⊎◌, Bool, true, false, Result, Ok, Err}
 use Rattle.hir_types.specs.declared.ids.ExprId.{ExprId}
 use Rattle.hir_types.specs.declared.ty.Ty.{Ty}
 use Rattle.hir_types.specs.Subst.{Assignment, folded}
@@ -13,7 +13,8 @@ use Rattle.infer_ctx.specs.Steps.{IsUnasked, Follows}
 use Rattle.infer_ctx.specs.Context.{waiting_at}
 use Rattle.infer_ctx.specs.Closings.{Closes, found_under}
 use Rattle.infer_coerce.specs.declared.coercion.Coerced.{Coerced}
-use Rattle.infer_coerce.specs.declared.coercion.Coerced.TheVariants as coerced
+use Rattle.infer_coerce.specs.declared.coercion.NotCoercible.{NotCoercible}
+use Rattle.infer_coerce.specs.Unifying.{IsUnifiedIf}
 
 -- ---- coercions
 
@@ -36,16 +37,37 @@ pub record Waits (e : ExprId) (actual target : Ty) (old new : InferenceContext) 
   pub may : MayWait old e actual target
   pub waits : new ≡ waiting_at old e actual target
 
--- what an answer says of an assignment
-abbrev pub Says : Coerced → Bool → Type 0
-Says coerced.Yes fits = fits ≡ true
-Says coerced.Waits fits = Unit {0}
-Says coerced.No fits = fits ≡ false
+-- the answer is the type that was asked for, or the two types
+abbrev pub Answers : Result Coerced NotCoercible → Ty → Ty → Type 0
+Answers (Ok r) source target = r.ty ≡ target
+Answers (Err x) source target = (x.source ≡ source) × (x.target ≡ target)
+
+-- The two types are the same from then on, or the expression waits; or they were refused.
+abbrev pub Comes : Result Coerced NotCoercible → Given → ExprId → Ty → Ty → InferenceContext → InferenceContext → Type 0
+Comes (Ok r) g e source target old new = IsUnifiedIf true g source target old new ⊎ Waits e source target old new
+Comes (Err x) g e source target old new = IsUnifiedIf false g source target old new
+
+-- The two types are the same, or that they are not is noted, as it is for one that waits; where they were refused nothing is noted.
+abbrev pub ComesUnder : Result Coerced NotCoercible → ExprId → Ty → Ty → Found → Found → Type 0
+ComesUnder (Ok r) e source target old new = IsCoercedOrNot e source target old new
+ComesUnder (Err x) e source target old new = (target ≡ source → ⊥) × (new ≡ old)
+
+-- what a coercion of the expression from the type `source` to `target` answers, and what comes of it
+pub record IsCoercion (answer : Result Coerced NotCoercible) (g : Given) (e : ExprId) (source target : Ty) (old new : InferenceContext) : Type 0 where
+  pub follows : Follows g old new
+  pub clock : new.clock ≡ old.clock
+  pub answers : Answers answer source target
+  pub comes : Comes answer g e source target old new
+  pub each : (a : Assignment) → Closes a new → ComesUnder answer e (folded a source) (folded a target) (found_under a old) (found_under a new)
+
+-- what it says of an assignment that a coercion could be made
+abbrev pub Says : Bool → Bool → Type 0
+Says true fits = Unit {0}
+Says false fits = fits ≡ false
 
 -- The two types are the same from here on, or they differ, and that is noted as a mismatch at the
 -- expression. Where the expression waits, it depends on the assignment which of the two it is.
-pub record IsCoerced (answer : Coerced) (g : Given) (e : ExprId) (actual target : Ty) (old new : InferenceContext) : Type 0 where
+pub record IsCoerced (could : Bool) (g : Given) (e : ExprId) (actual target : Ty) (old new : InferenceContext) : Type 0 where
   pub follows : Follows g old new
   pub clock : new.clock ≡ old.clock
-  pub waits : answer ≡ coerced.Waits → Waits e actual target old new
-  pub each : (a : Assignment) → Closes a new → (fits : Bool) × Says answer fits × IsCoercedIf fits e (folded a actual) (folded a target) (found_under a old) (found_under a new)
+  pub each : (a : Assignment) → Closes a new → (fits : Bool) × Says could fits × IsCoercedIf fits e (folded a actual) (folded a target) (found_under a old) (found_under a new)

@@ -1,5 +1,5 @@
 -- The common type of several expressions, as far as they are typed.
-use Rattle.std.specs.Prelude.{◌≡◌, ◌⊎◌, false, Option, Some, None}
+use Rattle.std.specs.Prelude.{◌≡◌, ◌⊎◌, Bool, true, false, Option, Some, None}
 use Rattle.hir_types.specs.Subst.{Assignment, folded}
 use Rattle.hir_types.specs.declared.ids.ExprId.{ExprId}
 use Rattle.hir_types.specs.declared.ty.Ty.{Ty}
@@ -13,9 +13,7 @@ use Rattle.infer_ctx.specs.Closings.{Closes, found_under, IsSound}
 use Rattle.infer_ctx.specs.Steps.{Follows}
 use Rattle.infer_coerce.specs.declared.coerce_many.CoerceMany.{CoerceMany}
 use Rattle.infer_coerce.specs.Coercions.{IsCoercedIf, IsCoercedOrNot, IsCoerced}
-use Rattle.infer_coerce.specs.declared.coercion.Coerced.{Coerced}
 use Rattle.infer_coerce.specs.declared.coerce_many.CoerceMany.TheVariants as common
-use Rattle.infer_coerce.specs.declared.coercion.Coerced.TheVariants as coerced
 
 abbrev pub common_under : Assignment → CoerceMany → CoerceMany
 common_under a common.Nothing = common.Nothing
@@ -46,18 +44,17 @@ IsFineCommon sc state common.Nothing = Unit {0}
 IsFineCommon sc state (common.Is t) = IsFine sc state t
 IsFineCommon sc state common.Unknown = Unit {0}
 
--- the common type u once an alternative was coerced to it
-abbrev pub common_after : Coerced → Ty → CoerceMany
-common_after coerced.Yes u = common.Is u
-common_after coerced.Waits u = common.Is u
-common_after coerced.No u = common.Unknown
+-- the common type u once an alternative was coerced to it, or could not be
+abbrev pub common_after : Bool → Ty → CoerceMany
+common_after true u = common.Is u
+common_after false u = common.Unknown
 
 -- what the next alternative e, of type t, makes of the common type
 pub record Merges (g : Given) (e : ExprId) (t : Ty) (before after : CoerceMany) (old new : InferenceContext) : Type 0 where
   pub follows : Follows g old new
   pub clock : new.clock ≡ old.clock
   pub fine : IsFineCommon g.scope new.table after
-  pub coerced_to : (u : Ty) → before ≡ common.Is u → (answer : Coerced) × IsCoerced answer g e t u old new × (after ≡ common_after answer u)
+  pub coerced_to : (u : Ty) → before ≡ common.Is u → (could : Bool) × IsCoerced could g e t u old new × (after ≡ common_after could u)
   pub each : (a : Assignment) → Closes a new → MergesInto e (folded a t) (common_under a before) (common_under a after) (found_under a old) (found_under a new)
 
 -- the type of a node whose alternatives came to this, where x is expected of them: a hole that is new

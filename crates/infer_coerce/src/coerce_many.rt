@@ -7,7 +7,7 @@ ghost use Rattle.infer_ctx.specs.Closings.{IsSound};
 ghost use Rattle.infer_ctx.specs.Fine.{IsFine, IsFineExpectation};
 ghost use Rattle.infer_coerce.specs.Common.{IsFineCommon, Merges, Completes, common_of};
 
-use crate::coercion::{Coerced, coerce};
+use crate::coercion::demand_coerce;
 use hir_facts::{ExprId, List, Ty};
 use infer_ctx::{Expectation, GivenBody, InferenceContext};
 use std::alloc::{AllocError, Global};
@@ -56,13 +56,13 @@ impl CoerceMany {
                 *self = CoerceMany::Is(ty);
                 Ok(())
             }
-            CoerceMany::Is(common) => match coerce(alloc, context, given, expr, &ty, common)? {
-                Coerced::Yes | Coerced::Waits => Ok(()),
-                Coerced::No => {
-                    *self = CoerceMany::Unknown;
-                    Ok(())
+            CoerceMany::Is(common) => {
+                if demand_coerce(alloc, context, given, expr, &ty, common)? {
+                    return Ok(());
                 }
-            },
+                *self = CoerceMany::Unknown;
+                Ok(())
+            }
             CoerceMany::Unknown => Ok(()),
         }
     }

@@ -8,7 +8,7 @@ ghost use Rattle.infer_result.specs.Closed.{IsOfBody};
 ghost use Rattle.infer_ctx.specs.Context.{given_of, scope_in, waiting_at};
 ghost use Rattle.infer_ctx.specs.Closings.{IsSound};
 ghost use Rattle.infer_ctx.specs.Fine.{IsFine};
-ghost use Rattle.infer_coerce.specs.Coercions.{IsCoerced, MayWait};
+ghost use Rattle.infer_coerce.specs.Coercions.{IsCoercion, IsCoerced, MayWait};
 
 use crate::unification::unify;
 use hir_facts::{ExprId, ExprOrPatId, Ty};
@@ -16,59 +16,100 @@ use infer_ctx::{GivenBody, InferenceContext};
 use infer_result::TypeMismatch;
 use std::alloc::{AllocError, Global};
 
-/// What came of a coercion.
-#[derive(Clone, Copy, Debug, PartialEq, Eq)]
-pub enum Coerced {
-    /// The two types are the same from then on.
-    Yes,
-    /// Nothing is known of either type: they are unified as soon as one is known.
-    Waits,
-    /// They differ.
-    No,
+/// What an expression is from then on, once it is coerced: what `infer/coerce.rs`'s `coerce` answers.
+#[derive(Drop)]
+pub struct Coerced {
+    /// The type that was asked for.
+    pub ty: Ty,
 }
 
-/// That the type `target` is expected of an expression of type `actual`.
-fn mismatch_of(alloc: Global, actual: &Ty, target: &Ty) -> Result<TypeMismatch, AllocError>
-    ensures { IfOk result (λ made. made ≡ mismatch target.now actual.now) }
+/// Two types that are not the same for any types for their holes: what `infer/coerce.rs`'s `coerce`
+/// answers otherwise.
+#[derive(Drop)]
+pub struct NotCoercible {
+    /// The type that the expression is of.
+    pub source: Ty,
+    /// The type that was asked for.
+    pub target: Ty,
+}
+
+/// What comes of a coercion to `target` that can be.
+fn coerced_to(alloc: Global, target: &Ty) -> Result<Coerced, AllocError>
+    ensures { IfOk result (λ made. made.ty ≡ target.now) }
 {
-    Ok(TypeMismatch {
-        expected: target.dup(alloc)?,
-        actual: actual.dup(alloc)?,
-    })
+    let ty = target.dup(alloc)?;
+    Ok(Coerced { ty })
 }
 
-/// Puts an expression of type `actual` where `target` is expected: the two are unified. Where they
-/// can't be, a mismatch is noted; where nothing is known of either, the expression waits. This
-/// is `infer/coerce.rs`'s `coerce`, with what `infer/expr.rs`'s `infer_expr_coerce` does where
-/// that fails.
+/// What comes of one that can't.
+fn not_coercible(alloc: Global, source: &Ty, target: &Ty) -> Result<NotCoercible, AllocError>
+    ensures source { IfOk result (λ made. made.source ≡ source.now) }
+    ensures target { IfOk result (λ made. made.target ≡ target.now) }
+{
+    let source = source.dup(alloc)?;
+    let target = target.dup(alloc)?;
+    Ok(NotCoercible { source, target })
+}
+
+/// Puts an expression of type `source` where `target` is expected: the two are unified, or, where
+/// nothing is known of either, the expression waits. Where they can't be unified nothing is changed.
+/// This is `infer/coerce.rs`'s `coerce`.
 pub fn coerce(
+    alloc: Global,
+    context: &mut InferenceContext,
+    given: &GivenBody,
+    expr: ExprId,
+    source: &Ty,
+    target: &Ty,
+) -> Result<Result<Coerced, NotCoercible>, AllocError>
+    requires within { expr.0 < length given.now.body.now.exprs }
+    requires of_body { IsOfBody given.now.body.now context.old.result }
+    requires sound { IsSound (scope_in given.now) context.old }
+    requires source { IsFine (scope_in given.now) context.old.table source.now }
+    requires target { IsFine (scope_in given.now) context.old.table target.now }
+    ensures { IfOk result (λ answer. IsCoercion answer (given_of given.now) expr source.now target.now context.old context.new) }
+{
+    if source.is_same(target) {
+        return Ok(Ok(coerced_to(alloc, target)?));
+    }
+    if may_wait(context, expr, source, target) {
+        wait(alloc, context, given, expr, source, target)?;
+        return Ok(Ok(coerced_to(alloc, target)?));
+    }
+    if unify(context, given, source, target)? {
+        return Ok(Ok(coerced_to(alloc, target)?));
+    }
+    Ok(Err(not_coercible(alloc, source, target)?))
+}
+
+/// Coerces an expression of type `actual` to `target`, and notes a mismatch where that can't be:
+/// `infer.rs`, `demand_coerce`. Answers whether it could.
+pub fn demand_coerce(
     alloc: Global,
     context: &mut InferenceContext,
     given: &GivenBody,
     expr: ExprId,
     actual: &Ty,
     target: &Ty,
-) -> Result<Coerced, AllocError>
+) -> Result<bool, AllocError>
     requires within { expr.0 < length given.now.body.now.exprs }
     requires of_body { IsOfBody given.now.body.now context.old.result }
     requires sound { IsSound (scope_in given.now) context.old }
     requires actual { IsFine (scope_in given.now) context.old.table actual.now }
     requires target { IsFine (scope_in given.now) context.old.table target.now }
-    ensures { IfOk result (λ answer. IsCoerced answer (given_of given.now) expr actual.now target.now context.old context.new) }
+    ensures { IfOk result (λ yes. IsCoerced yes (given_of given.now) expr actual.now target.now context.old context.new) }
 {
-    if actual.is_same(target) {
-        return Ok(Coerced::Yes);
+    match coerce(alloc, context, given, expr, actual, target)? {
+        Ok(_) => Ok(true),
+        Err(NotCoercible { source, target }) => {
+            let mismatch = TypeMismatch {
+                expected: target,
+                actual: source,
+            };
+            context.note_mismatch(expr, mismatch);
+            Ok(false)
+        }
     }
-    if may_wait(context, expr, actual, target) {
-        wait(alloc, context, given, expr, actual, target)?;
-        return Ok(Coerced::Waits);
-    }
-    if unify(context, given, actual, target)? {
-        return Ok(Coerced::Yes);
-    }
-    let mismatch = mismatch_of(alloc, actual, target)?;
-    context.note_mismatch(expr, mismatch);
-    Ok(Coerced::No)
 }
 
 /// Whether an expression is to wait: nothing is known of either type, they are not the same hole,
@@ -90,6 +131,16 @@ fn are_unknown(context: &InferenceContext, source: &Ty, target: &Ty) -> bool
         (Ty::Var(source), Ty::Var(target)) => source != target,
         _ => false,
     }
+}
+
+/// That the type `target` is asked of an expression of type `actual`.
+fn mismatch_of(alloc: Global, actual: &Ty, target: &Ty) -> Result<TypeMismatch, AllocError>
+    ensures { IfOk result (λ made. made ≡ mismatch target.now actual.now) }
+{
+    Ok(TypeMismatch {
+        expected: target.dup(alloc)?,
+        actual: actual.dup(alloc)?,
+    })
 }
 
 /// Has an expression wait till one of two holes is known: what `infer/coerce.rs`'s `coerce` does

@@ -4,9 +4,10 @@ ghost use Rattle.infer_ctx.specs.Context.{given_of, schedule_of, expected_type};
 ghost use Rattle.infer_ctx.specs.Steps.{Before, CoerceDone};
 ghost use Rattle.infer_coerce.specs.Recursion.{InfersFrom};
 
-use crate::coercion::coerce;
+use crate::coercion::{Coerced, NotCoercible, coerce};
 use hir_facts::{ExprId, Ty};
 use infer_ctx::{Expectation, GivenBody, InferenceContext};
+use infer_result::TypeMismatch;
 use std::alloc::{AllocError, Global};
 
 /// Types an expression and coerces it to what is expected: `infer/expr.rs`, `infer_expr_coerce`.
@@ -28,11 +29,18 @@ pub fn infer_expr_coerce<
 {
     let ty = infer(context, expr, expected)?;
     match expected.only_has_type() {
-        Some(target) => {
-            let coerced = target.dup(alloc)?;
-            coerce(alloc, context, given, expr, &ty, target)?;
-            Ok(coerced)
-        }
+        Some(target) => match coerce(alloc, context, given, expr, &ty, target)? {
+            Ok(Coerced { ty }) => Ok(ty),
+            Err(NotCoercible { source, target }) => {
+                let coerced = target.dup(alloc)?;
+                let mismatch = TypeMismatch {
+                    expected: target,
+                    actual: source,
+                };
+                context.note_mismatch(expr, mismatch);
+                Ok(coerced)
+            }
+        },
         None => Ok(ty),
     }
 }

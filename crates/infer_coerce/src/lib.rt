@@ -8,6 +8,6 @@ mod expr;
 mod unification;
 
 pub use coerce_many::CoerceMany;
-pub use coercion::{Coerced, coerce};
+pub use coercion::{Coerced, NotCoercible, coerce, demand_coerce};
 pub use expr::infer_expr_coerce;
 pub use unification::{unify, unify_unknown};

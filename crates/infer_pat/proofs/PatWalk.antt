@@ -1,6 +1,6 @@
 -- Patterns that bind a name or nothing, and literals.
 use Rattle.std.specs.Option.{option_and_then}
-use Rattle.std.proofs.Common.{◌≡◌, refl, ap, ◌∙◌, Option, Some, None, ◌<◌, length, sym, subst, arith, slice_get, inr, inl}
+use Rattle.std.proofs.Common.{Bool, ◌≡◌, refl, ap, ◌∙◌, Option, Some, None, ◌<◌, length, sym, subst, arith, slice_get, inr, inl}
 use Rattle.hir_types.specs.declared.ty.Ty.{Ty}
 use Rattle.hir_types.specs.Subst.{Assignment, folded}
 use Rattle.hir_types.specs.declared.ids.BindingId.{BindingId}
@@ -27,7 +27,6 @@ use Rattle.infer_ctx.proofs.OverTypes.{fine_closed}
 use Rattle.infer_ctx.proofs.Lists.{At-set_cases}
 use Rattle.infer_ctx.proofs.Parts.{binding_id}
 use Rattle.infer_ctx.proofs.FineTypes.{fine_grown, fine_expectation_grown}
-use Rattle.infer_coerce.specs.declared.coercion.Coerced.{Coerced}
 use Rattle.infer_coerce.specs.Coercions.{IsCoerced}
 use Rattle.infer_pat.specs.Patterns.{BeforePat, PatDone, IsGivenOrNew, ComesToPat, PatWalked, IsLitPatOf}
 use Rattle.infer_pat.proofs.PatSteps.{before_pat_under}
@@ -122,7 +121,7 @@ module _ (g : Given) (s : Schedule) (p : PatId) (x : Option Ty) (t : Ty) (old mi
 -- the literal has what is expected of it, where something is, or that it has not is noted there
 abbrev pub Fits : Given → ExprId → Ty → Option Ty → InferenceContext → InferenceContext → Type 0
 Fits g e t None old new = new ≡ old
-Fits g e t (Some u) old new = (answer : Coerced) × IsCoerced answer g e t u old new
+Fits g e t (Some u) old new = (could : Bool) × IsCoerced could g e t u old new
 
 module _ (g : Given) (s : Schedule) (p : PatId) (e : ExprId) (x : Option Ty) (old : InferenceContext) (h : BeforePat g s p x old) (is : IsLitPatOf g.body p e) where
   pub comes_to_lit : Before g s e x (context.entered old)

@@ -15,7 +15,7 @@ use crate::literal::infer_literal;
 use crate::path::{fresh_args_for_item, infer_expr_path};
 use hir_facts::{BindingId, ExprId, List, PatId, RawPat, RawPath, Ty, VariantId};
 use hir_types::ExprOrPatId;
-use infer_coerce::{coerce, unify};
+use infer_coerce::{demand_coerce, unify};
 use infer_ctx::{Expectation, GivenBody, InferenceContext};
 use infer_result::{BindingMode, InferenceDiagnostic, TypeMismatch};
 use std::alloc::{AllocError, Global};
@@ -218,7 +218,7 @@ fn infer_lit_pat(
     let ty = infer_pat_literal(alloc, context, given, expr, Expectation::of(&expected))?;
     match &expected {
         Some(target) => {
-            coerce(alloc, context, given, expr, &ty, target)?;
+            demand_coerce(alloc, context, given, expr, &ty, target)?;
             context.write_pat_ty(pat, ty);
             Ok(())
         }

@@ -1,5 +1,5 @@
 -- An element of a tuple, at its component.
-use Rattle.std.proofs.Common.{◌≡◌, ◌∙◌, Option, Some, inr, refl, None, arith, subst, sym}
+use Rattle.std.proofs.Common.{Bool, ◌≡◌, ◌∙◌, Option, Some, inr, refl, None, arith, subst, sym}
 use Rattle.hir_types.specs.declared.ids.ExprId.{ExprId}
 use Rattle.hir_types.specs.declared.ty.Ty.{Ty}
 use Rattle.hir_types.specs.Subst.{folded}
@@ -20,7 +20,6 @@ use Rattle.infer_ctx.proofs.Category.{walks_paid}
 use Rattle.infer_ctx.proofs.Closed.{closes_earlier}
 use Rattle.infer_ctx.proofs.FineTypes.{fine_grown, fine_hole}
 use Rattle.infer_ctx.proofs.OverTypes.{fine_closed}
-use Rattle.infer_coerce.specs.declared.coercion.Coerced.{Coerced}
 use Rattle.infer_coerce.specs.Coercions.{IsCoerced}
 use Rattle.infer_coerce.proofs.Coercions.{placed_at, placed_owed, coerced_walks, coerced_placed, coerced_clock}
 use Rattle.infer_coerce.proofs.Holes.{holed_sound}
@@ -64,9 +63,9 @@ module _ (g : Given) (s : Schedule) (e : ExprId) (x : Option Ty) (t : Ty) (old m
         (subst (λ v. IsFine g.scope (with_new_hole mid.table kind.Ty) v) (sym hole) (fine_hole g.scope mid.table))
 
     -- and is coerced to it
-    pub element_waits : x ≡ None → (answer : Coerced) (new : InferenceContext) → Before g s e x old →
-        IsCoerced answer g e t u (with_table mid state) new → CoerceDone g s e (Some u) u old new
-    element_waits none answer new b k = record {
+    pub element_waits : x ≡ None → (could : Bool) (new : InferenceContext) → Before g s e x old →
+        IsCoerced could g e t u (with_table mid state) new → CoerceDone g s e (Some u) u old new
+    element_waits none could new b k = record {
       follows = follows_twice g old (with_table mid state) new (follows_twice g old mid (with_table mid state) d.follows (record {
         clock = omega arith;
         grew = state_grew;

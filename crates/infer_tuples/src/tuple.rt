@@ -6,7 +6,7 @@ ghost use Rattle.infer_ctx.specs.Steps.{Before, CoerceDone, Within, KindDone};
 ghost use Rattle.infer_coerce.specs.Recursion.{InfersFrom};
 
 use hir_facts::{ExprId, List, Ty};
-use infer_coerce::{coerce, infer_expr_coerce};
+use infer_coerce::{demand_coerce, infer_expr_coerce};
 use infer_ctx::{Expectation, GivenBody, InferenceContext};
 use std::alloc::{AllocError, Global};
 
@@ -66,7 +66,7 @@ fn infer_element<F: Fn(&mut InferenceContext, ExprId, Expectation) -> Result<Ty,
         Expectation::None => match context.table.shallow_resolve(&ty) {
             Ty::Var(_) => {
                 let component = context.table.next_ty_var()?;
-                coerce(alloc, context, given, expr, &ty, &component)?;
+                demand_coerce(alloc, context, given, expr, &ty, &component)?;
                 Ok(component)
             }
             _ => Ok(ty),

@@ -3,22 +3,22 @@ use Rattle.infer_ctx.specs.Context.{expected_type}
 use Rattle.infer_tuples.proofs.Elements.{places_element, waits_sound, own_fine, component_fine, element_waits}
 use Rattle.infer_tuples.proofs.tuple.infer_element.Goals as goal
 
-pub coerce-requires-clause-sound : goal.coerce-requires-clause-sound
-coerce-requires-clause-sound t c = waits_sound _ _ _ _ _ _ _ c.in_ok-ty.ensures _ c.in_ok-component-in-Var.ensures.made
+pub demand_coerce-requires-clause-sound : goal.demand_coerce-requires-clause-sound
+demand_coerce-requires-clause-sound t c = waits_sound _ _ _ _ _ _ _ c.in_ok-ty.ensures _ c.in_ok-component-in-Var.ensures.made
 
-pub coerce-requires-clause-actual : goal.coerce-requires-clause-actual
-coerce-requires-clause-actual t c = own_fine _ _ _ _ _ _ _ c.in_ok-ty.ensures _ c.in_ok-component-in-Var.ensures.made
+pub demand_coerce-requires-clause-actual : goal.demand_coerce-requires-clause-actual
+demand_coerce-requires-clause-actual t c = own_fine _ _ _ _ _ _ _ c.in_ok-ty.ensures _ c.in_ok-component-in-Var.ensures.made
 
-pub coerce-requires-clause-target : goal.coerce-requires-clause-target
-coerce-requires-clause-target t c =
+pub demand_coerce-requires-clause-target : goal.demand_coerce-requires-clause-target
+demand_coerce-requires-clause-target t c =
     let component = c.in_ok-component-in-Var.ensures in
     component_fine _ _ _ _ _ _ _ c.in_ok-ty.ensures _ component.made _ component.hole
 
-pub returns-in_ok-coerce-in-Var : goal.returns-in_ok-coerce-in-Var
-returns-in_ok-coerce-in-Var t c =
+pub returns-in_ok-demand_coerce-in-Var : goal.returns-in_ok-demand_coerce-in-Var
+returns-in_ok-demand_coerce-in-Var t c =
     let component = c.in_ok-component-in-Var.ensures in
     element_waits _ _ _ _ _ _ _ c.in_ok-ty.ensures _ component.made _ component.hole (ap (λ x. expected_type x) c.in-None.is)
-    c.in_ok-coerce-in-Var.field-0 _ c.requires.before c.in_ok-coerce-in-Var.ensures
+    c.in_ok-demand_coerce-in-Var.field-0 _ c.requires.before c.in_ok-demand_coerce-in-Var.ensures
 
 pub returns-in_default : goal.returns-in_default
 returns-in_default t c = places_element _ _ _ _ _ _ _ c.in_ok-ty.ensures
