@@ -12,7 +12,7 @@ use Rattle.hir_facts.specs.declared.laws.namers.Namers.{Namers}
 use Rattle.hir_facts.specs.declared.laws.namers.Namers.TheVariants.{Nobody, One, Several}
 use Rattle.hir_facts.specs.declared.schedule.Schedule.{Schedule}
 use Rattle.hir_facts.specs.Order.{Binds, binding_of, IsTree, IsSchedule, AreDepths}
-use Rattle.hir_facts.specs.Ways.{tree_of_schedule}
+use Rattle.hir_facts.proofs.Ways.{tree_of_schedule}
 use Rattle.hir_facts.specs.Laws.Namers.{IsNamedAt, IsNamedBy}
 use Rattle.hir_facts.specs.Laws.Binders.{bound_binding, AreBinders, is_self, is_bound_once}
 use Rattle.hir_facts.specs.Laws.Trees.{BoundBySelf, BoundByPattern, IsWellFormed}

@@ -22,7 +22,7 @@ use Rattle.hir_facts.specs.declared.raw.RawPat.TheVariants as pat
 use Rattle.hir_facts.specs.declared.raw.RawBody.{RawBody}
 use Rattle.hir_facts.specs.declared.raw.RawFacts.{RawFacts}
 use Rattle.hir_facts.specs.Order.{Role, let_else, initializer, tail, element, else_branch, guard, arm, argument, root, Part, expr_part, maybe_part, stmt_parts, stmts_parts, exprs_from, arm_patterns, arm_parts, arms_parts, expr_parts, param_parts, subpatterns, pat_parts, body_parts, Node, the_body, inner, IsNode, part_at, parts_of_expr, parts_of_pat, stmts_of, stmt_at}
-use Rattle.hir_facts.specs.CarriedBodies.{list_all_at}
+use Rattle.hir_facts.proofs.CarriedBodies.{list_all_at}
 use Rattle.hir_facts.specs.Laws.Literals.{IsLiteral, LiteralsFit}
 use Rattle.hir_facts.specs.Plain.{is_item, is_item_at, is_callee, stands_right, IsPlainBody}
 use Rattle.hir_facts.specs.PlainBodies.{is_value, is_maybe_value, stmt_has_values, arm_has_values, has_callees, StmtFits, LetsFit, LooksPlain}

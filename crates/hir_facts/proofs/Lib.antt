@@ -1,3 +1,12 @@
+pub mod AdtLayers
+pub mod CarriedBodies
+pub mod FilledFits
+pub mod InRange
+pub mod Items
+pub mod OneHole
+pub mod PlainAdts
+pub mod Walkable
+pub mod Ways
 pub mod Broken
 pub mod Named
 pub mod InBodies

@@ -21,7 +21,7 @@ use Rattle.hir_facts.specs.Laws.Lawful.{IsLawful}
 use Rattle.hir_facts.specs.LawfulFacts.{type_ids, type_ids_exist, adt_ids, types_small}
 use Rattle.hir_facts.specs.Spread.{IsMarked, IsUnmarked, ComesToBad, is_bad, by_child, AreGood}
 use Rattle.hir_facts.specs.Plain.{has_plain_params, fields_by, adt_fields, IsPlainKind, IsPlainType, plain, IsPlainWhere, IsPlainSet, IsPlainAdt}
-use Rattle.hir_facts.specs.PlainAdts.{type_more, in_plain_set, plain_where_plain}
+use Rattle.hir_facts.proofs.PlainAdts.{type_more, in_plain_set, plain_where_plain}
 use Rattle.hir_facts.specs.PlainMarks.{named_adt, type_children, field_ids, adt_children, plain_graph, is_fine_type, fine_nodes, ArePlainNodes}
 use Rattle.hir_facts.proofs.Spreading.{marked_or_not, marked_inside, in_split, edge_inside}
 

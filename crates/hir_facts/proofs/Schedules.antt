@@ -11,7 +11,7 @@ use Rattle.hir_facts.specs.declared.schedule.Schedule.{Schedule}
 use Rattle.hir_facts.specs.Order.{IsLow, Part, Node, the_body, inner, IsInBody, IsNode, parts, part_at, follow, HasOneWay, IsTree, PartsFit, position, node_count, start, end, after, Fits, IsSchedule, AreDepths}
 use Rattle.hir_facts.specs.Graph.{kids_of, Edge, KidsFit, leads, OneWay, IsTreeGraph, number_after, Follow, IsNumbering}
 use Rattle.hir_facts.specs.Nodes.{nodes, node_lists, positions, graph_of}
-use Rattle.hir_facts.specs.Ways.{depth_is_steps, way_to, way_to_node}
+use Rattle.hir_facts.proofs.Ways.{depth_is_steps, way_to, way_to_node}
 use Rattle.hir_facts.proofs.Bodies.{lists_size, graph_size, list_at, position_inside, At, node_at, one_position}
 
 -- where a part stands

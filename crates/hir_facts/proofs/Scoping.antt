@@ -17,7 +17,7 @@ use Rattle.hir_facts.specs.declared.schedule.Schedule.{Schedule}
 use Rattle.hir_facts.specs.declared.laws.namers.Namers.{Namers}
 use Rattle.hir_facts.specs.declared.laws.namers.Namers.TheVariants.{Nobody, One, Several}
 use Rattle.hir_facts.specs.Order.{IsSchedule, AreDepths, IsLow, Binds, start, inner}
-use Rattle.hir_facts.specs.Ways.{schedule_unique}
+use Rattle.hir_facts.proofs.Ways.{schedule_unique}
 use Rattle.hir_facts.specs.Laws.Namers.{IsNamedBy}
 use Rattle.hir_facts.specs.Laws.InBody.{LocalsExist}
 use Rattle.hir_facts.specs.Laws.Binders.{bound_binding, AreBinders, IsWithin, HasTypedLocal, is_self, comes_before, is_typed_before}

@@ -9,8 +9,8 @@ use Rattle.hir_facts.specs.declared.raw.RawType.TheVariants as type
 use Rattle.hir_types.specs.declared.ty.Ty.{Ty}
 use Rattle.hir_types.specs.declared.ty.GenericArg.TheVariants as arg
 use Rattle.hir_types.specs.Types.{most, depth, size}
-use Rattle.hir_types.specs.Layers.{depth_tuple, depth_bool, depth_char, depth_integer, depth_error, size_tuple, size_bool, size_char, size_integer, size_error}
-use Rattle.hir_facts.specs.AdtLayers.{depth_of_arg, depth_type_arg, depth_adt, depth_param, depth_hole, size_of_arg, size_type_arg, size_adt, size_param, size_hole}
+use Rattle.hir_types.proofs.Layers.{depth_tuple, depth_bool, depth_char, depth_integer, depth_error, size_tuple, size_bool, size_char, size_integer, size_error}
+use Rattle.hir_facts.proofs.AdtLayers.{depth_of_arg, depth_type_arg, depth_adt, depth_param, depth_hole, size_of_arg, size_type_arg, size_adt, size_param, size_hole}
 use Rattle.hir_facts.specs.Types.{type_parts, lowered, lowered_by}
 use Rattle.hir_facts.specs.Laws.Entries.{AllHold}
 use Rattle.hir_facts.specs.Laws.Ids.{ChildrenBefore}

@@ -24,9 +24,7 @@ use Rattle.hir_facts.specs.Laws.Literals.{IsPatternOf, IsLiteral}
 -- no constant, static or variant is carried yet
 abbrev pub body_id_of : RawFacts → DefWithBodyId → Option BodyId
 body_id_of raw (def.FunctionId f) = option_and_then (λ x. x.body) (slice_get raw.fns f.0)
-body_id_of raw (def.ConstId c) = None
-body_id_of raw (def.StaticId s) = None
-body_id_of raw (def.VariantId v) = None
+body_id_of raw _ = None
 
 -- the definition is in range and has a body
 abbrev pub HasBody : RawFacts → DefWithBodyId → Type 0
@@ -53,9 +51,7 @@ inputs_by (Some f) = f.inputs
 -- the written types of the parameters
 abbrev pub inputs_of : RawFacts → DefWithBodyId → List TypeRefId
 inputs_of raw (def.FunctionId f) = inputs_by (slice_get raw.fns f.0)
-inputs_of raw (def.ConstId c) = []
-inputs_of raw (def.StaticId s) = []
-inputs_of raw (def.VariantId v) = []
+inputs_of raw _ = []
 
 -- the laws of one body, with the order of its walk
 pub record IsWalkable (b : RawBody) (s : Schedule) : Type 0 where

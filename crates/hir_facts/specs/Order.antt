@@ -101,7 +101,8 @@ expr_parts (expr.Lit l) = []
 expr_parts (expr.Path p) = []
 expr_parts (expr.Block label stmts last) = stmts_parts stmts ++ maybe_part tail last
 expr_parts (expr.Tuple es) = element_parts 0 es
-expr_parts (expr.If c first other) = expr_part condition c ∷ expr_part then_branch first ∷ maybe_part else_branch other
+expr_parts (expr.If c first other) =
+    expr_part condition c ∷ expr_part then_branch first ∷ maybe_part else_branch other
 expr_parts (expr.Match e arms) = expr_part scrutinee e ∷ arm_patterns e 0 arms ++ arms_parts 0 arms
 expr_parts (expr.Call f args) = expr_part callee f ∷ exprs_from argument 0 args
 expr_parts expr.Other = []
@@ -209,7 +210,8 @@ after b s from (p ∷ ps) = after b s (end b s (inner p.node)) ps
 -- these parts come one after another, the first with the number `from`
 abbrev pub Fits : RawBody → Schedule → ℕ → List Part → Type 0
 Fits b s from [] = Unit {0}
-Fits b s from (p ∷ ps) = IsInBody b p.node × (start b s (inner p.node) ≡ from) × Fits b s (end b s (inner p.node)) ps
+Fits b s from (p ∷ ps) =
+    IsInBody b p.node × (start b s (inner p.node) ≡ from) × Fits b s (end b s (inner p.node)) ps
 
 -- the numbers are those of the walk: a node, its parts in their order, and then what comes after it
 pub record IsSchedule (b : RawBody) (s : Schedule) : Type 0 where
@@ -226,20 +228,14 @@ pub record IsSchedule (b : RawBody) (s : Schedule) : Type 0 where
 pub record AreDepths (b : RawBody) (s : Schedule) : Type 0 where
   pub size : length s.depths ≡ node_count b
   pub top : slice_index s.depths (position b the_body) ≡ 0
-  pub below : (n : Node) (k : ℕ) (p : Part) → IsNode b n → part_at b n k ≡ Some p → slice_index s.depths (position b (inner p.node)) ≡ slice_index s.depths (position b n) + 1
+  pub below : (n : Node) (k : ℕ) (p : Part) → IsNode b n → part_at b n k ≡ Some p
+      → slice_index s.depths (position b (inner p.node)) ≡ slice_index s.depths (position b n) + 1
 
 -- ---- statements
 
 abbrev pub stmts_of : Option RawExpr → List RawStmt
 stmts_of (Some (expr.Block label stmts last)) = stmts
-stmts_of (Some (expr.Lit l)) = []
-stmts_of (Some (expr.Path p)) = []
-stmts_of (Some (expr.Tuple es)) = []
-stmts_of (Some (expr.If c first other)) = []
-stmts_of (Some (expr.Match e arms)) = []
-stmts_of (Some (expr.Call f args)) = []
-stmts_of (Some expr.Other) = []
-stmts_of None = []
+stmts_of _ = []
 
 -- statement i of the block e
 abbrev pub stmt_at : RawBody → ExprId → ℕ → Option RawStmt
@@ -249,12 +245,7 @@ stmt_at b e i = slice_get (stmts_of (slice_get b.exprs e.0)) i
 
 abbrev pub binding_of : RawPat → Option BindingId
 binding_of (pat.Bind v sub) = Some v
-binding_of pat.Wild = None
-binding_of (pat.Tuple ps) = None
-binding_of (pat.TupleStruct v ps) = None
-binding_of (pat.Path q) = None
-binding_of (pat.Lit e) = None
-binding_of pat.Other = None
+binding_of _ = None
 
 -- the pattern p binds v
 abbrev pub Binds : RawBody → PatId → BindingId → Type 0

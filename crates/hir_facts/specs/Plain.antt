@@ -37,7 +37,7 @@ use Rattle.hir_facts.specs.declared.raw.RawFacts.{RawFacts}
 use Rattle.hir_facts.specs.Types.{type_parts}
 use Rattle.hir_facts.specs.Bodies.{body_of}
 use Rattle.hir_facts.specs.Scope.{adt_params, has_params, params_of}
-use Rattle.hir_facts.specs.Order.{Role, parameter, root, initializer, let_pattern, let_else, statement, tail, element, condition, then_branch, else_branch, scrutinee, arm_pattern, guard, arm, callee, argument, subpattern, pattern_literal, Part, Node, IsNode, part_at}
+use Rattle.hir_facts.specs.Order.{Role, callee, Part, Node, IsNode, part_at}
 use Rattle.hir_facts.specs.Laws.Carried.{is_empty, is_type_param, is_in_module}
 use Rattle.hir_facts.specs.Laws.Entries.{AllHold}
 
@@ -56,7 +56,9 @@ IsPlainKind raw P n type.Other = ⊥
 
 -- written type t is of such a kind, and so is each type that it is made of
 pub data IsPlainType (raw : RawFacts) (P : ℕ → Type 0) (n : ℕ) : ℕ → Type 0 where
-  plain : (t : ℕ) (x : RawType) → slice_get raw.types t ≡ Some x → IsPlainKind raw P n x → ((k : ℕ) (u : TypeRefId) → slice_get (type_parts x) k ≡ Some u → IsPlainType raw P n u.0) → IsPlainType raw P n t
+  plain : (t : ℕ) (x : RawType) → slice_get raw.types t ≡ Some x → IsPlainKind raw P n x
+      → ((k : ℕ) (u : TypeRefId) → slice_get (type_parts x) k ≡ Some u → IsPlainType raw P n u.0)
+      → IsPlainType raw P n t
 
 abbrev pub ArePlainTypes : RawFacts → (ℕ → Type 0) → ℕ → List TypeRefId → Type 0
 ArePlainTypes raw P n ts = (k : ℕ) (t : TypeRefId) → slice_get ts k ≡ Some t → IsPlainType raw P n t.0
@@ -78,7 +80,8 @@ is_plain_adt_kind kind.Union = false
 
 -- a struct or enum whose parameters are types, with no predicates but that these have a size
 abbrev pub has_plain_params : RawAdt → Bool
-has_plain_params a = is_plain_adt_kind a.kind && (list_all is_type_param a.params && list_all is_sized_pred a.preds)
+has_plain_params a =
+    is_plain_adt_kind a.kind && (list_all is_type_param a.params && list_all is_sized_pred a.preds)
 
 abbrev pub fields_by : Option RawVariant → List TypeRefId
 fields_by None = []
@@ -88,7 +91,8 @@ fields_by (Some x) = map (λ f. f.ty) x.fields
 abbrev pub adt_fields : RawFacts → RawAdt → List TypeRefId
 adt_fields raw a = flat_map (λ v. fields_by (slice_get raw.variants v.0)) a.variants
 
--- adt a is plain by itself, where the adts P are: its fields are written with these and with its own parameters
+-- adt a is plain by itself, where the adts P are: its fields are written with these and with its own
+-- parameters
 pub record IsPlainWhere (raw : RawFacts) (P : ℕ → Type 0) (a : ℕ) : Type 0 where
   pub adt : RawAdt
   pub found : slice_get raw.adts a ≡ Some adt
@@ -125,13 +129,16 @@ is_tuple_ctor ctor.Record = false
 
 -- variant v passes the test of how it is written, and its adt is plain
 abbrev pub IsPlainCtor : RawFacts → (RawCtor → Bool) → VariantId → Type 0
-IsPlainCtor raw test v = IsSomeAnd (slice_get raw.variants v.0) (λ x. IsTrue (test x.ctor) × IsPlainAdt raw x.adt.0)
+IsPlainCtor raw test v =
+    IsSomeAnd (slice_get raw.variants v.0) (λ x. IsTrue (test x.ctor) × IsPlainAdt raw x.adt.0)
 
 -- ---- functions
 
--- a function of a module whose parameters are types, with no predicates but that these have a size, and without `self`
+-- a function of a module whose parameters are types, with no predicates but that these have a size, and
+-- without `self`
 abbrev pub has_plain_header : RawFn → Bool
-has_plain_header f = is_in_module f.«at» && (list_all is_type_param f.params && (list_all is_sized_pred f.preds && not f.has_self))
+has_plain_header f =
+    is_in_module f.«at» && (list_all is_type_param f.params && (list_all is_sized_pred f.preds && not f.has_self))
 
 -- such a function, whose inputs and output are plain over its parameters
 pub record IsPlainSignature (raw : RawFacts) (f : RawFn) : Type 0 where
@@ -158,15 +165,8 @@ is_item_path raw (path.Ctor v) = is_tuple_variant (slice_get raw.variants v.0)
 is_item_path raw path.Other = false
 
 abbrev pub is_item : RawFacts → Option RawExpr → Bool
-is_item raw None = false
-is_item raw (Some (expr.Lit l)) = false
 is_item raw (Some (expr.Path p)) = is_item_path raw p
-is_item raw (Some (expr.Block label stmts last)) = false
-is_item raw (Some (expr.Tuple es)) = false
-is_item raw (Some (expr.If c first other)) = false
-is_item raw (Some (expr.Match e arms)) = false
-is_item raw (Some (expr.Call f args)) = false
-is_item raw (Some expr.Other) = false
+is_item raw _ = false
 
 -- expression e of the body is such a path
 abbrev pub is_item_at : RawFacts → RawBody → ExprId → Bool
@@ -174,24 +174,7 @@ is_item_at raw b e = is_item raw (slice_get b.exprs e.0)
 
 abbrev pub is_callee : Role → Bool
 is_callee callee = true
-is_callee (parameter i) = false
-is_callee root = false
-is_callee (initializer written) = false
-is_callee (let_pattern written init) = false
-is_callee let_else = false
-is_callee (statement semicolon) = false
-is_callee tail = false
-is_callee (element i) = false
-is_callee condition = false
-is_callee then_branch = false
-is_callee else_branch = false
-is_callee scrutinee = false
-is_callee (arm_pattern e i) = false
-is_callee (guard i) = false
-is_callee (arm i) = false
-is_callee (argument i) = false
-is_callee (subpattern i) = false
-is_callee pattern_literal = false
+is_callee _ = false
 
 -- a callee is such a path, and no other part is
 abbrev pub stands_by : RawFacts → RawBody → Role → ExprOrPatId → Bool
@@ -261,10 +244,8 @@ is_plain_binding (Some v) = is_plain_mode v.mode
 
 -- to a constructor `V` of a plain adt
 abbrev pub IsPlainPathPat : RawFacts → RawPath → Type 0
-IsPlainPathPat raw (path.Local v) = ⊥
-IsPlainPathPat raw (path.Function f) = ⊥
 IsPlainPathPat raw (path.Ctor v) = IsPlainCtor raw is_unit_ctor v
-IsPlainPathPat raw path.Other = ⊥
+IsPlainPathPat raw _ = ⊥
 
 -- apart from its parts; a binding has no pattern below it, and what a literal pattern is, is a literal by law
 abbrev pub IsPlainPat : RawFacts → RawBody → RawPat → Type 0
@@ -282,7 +263,8 @@ IsPlainPat raw b pat.Other = ⊥
 pub record IsPlainBody (raw : RawFacts) (n : ℕ) (b : RawBody) : Type 0 where
   pub exprs : AllHold (λ e x. IsPlainExpr raw n x) b.exprs
   pub pats : AllHold (λ p x. IsPlainPat raw b x) b.pats
-  pub callees : (m : Node) (k : ℕ) (p : Part) → IsNode b m → part_at b m k ≡ Some p → IsTrue (stands_right raw b p)
+  pub callees : (m : Node) (k : ℕ) (p : Part) → IsNode b m → part_at b m k ≡ Some p
+      → IsTrue (stands_right raw b p)
 
 -- each type parameter of the function has a predicate that it has a size
 abbrev pub HasSizedParams : RawFn → Type 0

@@ -33,7 +33,8 @@ adt_params raw a = option_map (λ x. length x.params) (slice_get raw.adts a.0)
 -- the parameters of a constructor are those of its adt
 abbrev pub callable_params : RawFacts → CallableDefId → Option ℕ
 callable_params raw (callable.FunctionId f) = fn_params raw f.0
-callable_params raw (callable.VariantId v) = option_and_then (λ x. adt_params raw x.adt) (slice_get raw.variants v.0)
+callable_params raw (callable.VariantId v) =
+    option_and_then (λ x. adt_params raw x.adt) (slice_get raw.variants v.0)
 
 -- the item exists, and has this many parameters
 abbrev pub has_params : Option ℕ → ℕ → Bool
@@ -49,9 +50,7 @@ count_or_none (Some n) = n
 -- how many parameters are in scope in the body of a definition
 abbrev pub params_of : RawFacts → DefWithBodyId → ℕ
 params_of raw (def.FunctionId f) = count_or_none (fn_params raw f.0)
-params_of raw (def.ConstId c) = 0
-params_of raw (def.StaticId s) = 0
-params_of raw (def.VariantId v) = 0
+params_of raw _ = 0
 
 abbrev pub scope_of : RawFacts → DefWithBodyId → Scope
 scope_of raw d = record { facts = raw; params = params_of raw d }

@@ -30,7 +30,8 @@ pub record Signature : Type 0 where
   pub output : Ty
 
 abbrev pub fn_signature : List RawType → RawFn → Signature
-fn_signature types f = record { params = length f.params; inputs = map (written_type types) f.inputs; output = written_type types f.output }
+fn_signature types f =
+    record { params = length f.params; inputs = map (written_type types) f.inputs; output = written_type types f.output }
 
 -- types as arguments
 abbrev pub type_args : List Ty → List GenericArg
@@ -57,7 +58,8 @@ field_types types x = map (λ f. written_type types f.ty) x.fields
 -- the constructor of a variant `V(..)` takes its fields and gives its adt
 abbrev pub signature_by : RawCtor → List RawType → ℕ → RawVariant → Option Signature
 signature_by ctor.Unit types n x = None
-signature_by ctor.Tuple types n x = Some (record { params = n; inputs = field_types types x; output = own_adt x.adt n })
+signature_by ctor.Tuple types n x =
+    Some (record { params = n; inputs = field_types types x; output = own_adt x.adt n })
 signature_by ctor.Record types n x = None
 
 -- where the variant's adt has n parameters
@@ -77,7 +79,8 @@ ctor_type x v ts = ctor_type_by x.ctor x.adt v ts
 
 abbrev pub signature_of : RawFacts → CallableDefId → Option Signature
 signature_of raw (callable.FunctionId f) = option_map (fn_signature raw.types) (slice_get raw.fns f.0)
-signature_of raw (callable.VariantId v) = option_and_then (λ x. option_and_then (λ n. ctor_signature raw.types n x) (adt_params raw x.adt)) (slice_get raw.variants v.0)
+signature_of raw (callable.VariantId v) =
+    option_and_then (λ x. option_and_then (λ n. ctor_signature raw.types n x) (adt_params raw x.adt)) (slice_get raw.variants v.0)
 
 -- ---- an adt at its own parameters
 
@@ -90,7 +93,9 @@ plus_zero i = omega arith
 plus_suc : (i k : ℕ) → i + suc k ≡ suc i + k
 plus_suc i k = omega arith
 
-params_at : (ts us : List Ty) (i : ℕ) → ((k : ℕ) (u : Ty) → slice_get us k ≡ Some u → slice_get ts (i + k) ≡ Some u) → map (at_args ts) (params_from i (length us)) ≡ us
+params_at : (ts us : List Ty) (i : ℕ)
+    → ((k : ℕ) (u : Ty) → slice_get us k ≡ Some u → slice_get ts (i + k) ≡ Some u)
+    → map (at_args ts) (params_from i (length us)) ≡ us
 params_at ts [] i h = refl
 params_at ts (u ∷ us) i h =
     let first : at_args ts (ty.Param i) ≡ u = param_at ts i u (subst (λ n. slice_get ts n ≡ Some u) (plus_zero i) (h 0 u refl)) in

@@ -56,7 +56,8 @@ filled_by u f (Some (type.Param n)) = ty.Param n
 filled_by u f (Some type.Hole) = u
 filled_by u f (Some type.Other) = ty.Error
 
--- what type t of the list stands for, over parts at most n steps below it, where the `_` that is type k stands for h k
+-- what type t of the list stands for, over parts at most n steps below it, where the `_` that is type k
+-- stands for h k
 unfoldable pub filled_within : (ℕ → Ty) → ℕ → List RawType → ℕ → Ty
 filled_within h zero types t = ty.Error
 filled_within h (suc n) types t = filled_by (h t) (filled_within h n types) (slice_get types t)
@@ -70,4 +71,5 @@ filled_type h types t = filled h types t.0
 -- the `_` that is type k of the list stands in type i
 pub data StandsIn (types : List RawType) (k : ℕ) : ℕ → Type 0 where
   is_itself : slice_get types k ≡ Some type.Hole → StandsIn types k k
-  in_part : (i : ℕ) (x : RawType) (j : ℕ) (t : TypeRefId) → slice_get types i ≡ Some x → slice_get (type_parts x) j ≡ Some t → StandsIn types k t.0 → StandsIn types k i
+  in_part : (i : ℕ) (x : RawType) (j : ℕ) (t : TypeRefId) → slice_get types i ≡ Some x
+      → slice_get (type_parts x) j ≡ Some t → StandsIn types k t.0 → StandsIn types k i

@@ -1,5 +1,5 @@
 //! The tests of the laws, in their order.
-ghost use Rattle.std.specs.Prelude.{◌≡◌, ◌∷◌, [], IfOk, IfErr, MatchOption, Ok, Err};
+ghost use Rattle.std.specs.Prelude.{◌≡◌, IfOk, IfErr, MatchOption, Ok, Err};
 ghost use Rattle.hir_facts.specs.Laws.Entries.{AllHold};
 ghost use Rattle.hir_facts.specs.Laws.Ids.{TypeIdsExist, BodyIdsExist};
 ghost use Rattle.hir_facts.specs.Laws.Trees.{IsWellFormed};

@@ -1,5 +1,5 @@
 //! Numbers for the nodes of a graph in the order of a walk from a root.
-ghost use Rattle.std.specs.Prelude.{◌≡◌, ◌<◌, ◌-◌, false, ◌⊎◌, length, replicate, slice_get, IfOk, IsTrue, OnOk, OnSome, MatchOption, MatchBool};
+ghost use Rattle.std.specs.Prelude.{◌≡◌, ◌<◌, ◌-◌, false, length, replicate, slice_get, IfOk, OnOk, OnSome, MatchOption, MatchBool};
 ghost use Rattle.hir_facts.specs.Graph.{kids_of, KidsFit, IsTreeGraph, IsNumbering};
 ghost use Rattle.hir_facts.specs.Visits.{marks_of, blank, entered, departed, is_seen, IsReady, Steps, MeetsAgain};
 

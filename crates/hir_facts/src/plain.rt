@@ -3,7 +3,6 @@ ghost use Rattle.std.specs.Prelude.{◌≡◌, ◌↔◌, ◌<◌, ◌^◌, ◌+
 ghost use Rattle.std.specs.List.{list_all, list_any};
 ghost use Rattle.hir_types.specs.declared.ids.TypeRefId.{TypeRefId};
 ghost use Rattle.hir_facts.specs.Laws.Lawful.{IsLawful};
-ghost use Rattle.hir_facts.specs.Laws.Carried.{is_type_param};
 ghost use Rattle.hir_facts.specs.Spread.{IsMarked};
 ghost use Rattle.hir_facts.specs.Plain.{is_sized_of, is_sized_pred, is_plain_adt_kind, has_plain_params, has_plain_header, IsPlainSignature, HasSizedParams};
 ghost use Rattle.hir_facts.specs.PlainMarks.{named_adt, type_children, field_ids, adt_children, plain_graph, is_fine_type, fine_nodes, ArePlainNodes, HasMarkedSignature, ArePlainMarks};

@@ -1,5 +1,5 @@
 //! Whether the body of a definition is plain.
-ghost use Rattle.std.specs.Prelude.{◌≡◌, ◌↔◌, Some, slice_get, IsSomeAnd, IsTrue, not};
+ghost use Rattle.std.specs.Prelude.{◌≡◌, ◌↔◌, Some, slice_get, IsSomeAnd, IsTrue};
 ghost use Rattle.std.specs.List.{list_all};
 ghost use Rattle.hir_types.specs.declared.ids.DefWithBodyId.TheVariants.{FunctionId as fn_def};
 ghost use Rattle.hir_facts.specs.Bodies.{body_of};

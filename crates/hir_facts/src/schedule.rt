@@ -1,5 +1,5 @@
 //! The order in which the walk comes to the nodes of a body.
-ghost use Rattle.std.specs.Prelude.{◌≡◌, ◌+◌, ◌<◌, ◌^◌, ◌++◌, ◌↔◌, ℕ, map, length, slice_get, slice_index, EachIndex, ◌≤◌, Some, IfOk, IsTrue, OnOk, MatchOption};
+ghost use Rattle.std.specs.Prelude.{◌≡◌, ◌+◌, ◌<◌, ◌^◌, ◌++◌, ◌↔◌, ℕ, map, slice_get, slice_index, EachIndex, ◌≤◌, Some, IfOk, IsTrue, OnOk, MatchOption};
 ghost use Rattle.hir_facts.specs.Order.{inner, position, node_count, start, end, expr_parts, pat_parts, IsInBody, PartsFit, IsTree, IsLow, IsSchedule, AreDepths};
 ghost use Rattle.hir_types.specs.declared.ids.ExprOrPatId.{ExprOrPatId};
 ghost use Rattle.hir_facts.specs.Nodes.{nodes, node_lists, positions, graph_of};

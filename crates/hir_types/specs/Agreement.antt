@@ -1,7 +1,6 @@
 -- Two replacements that send the holes of a type to the same give the same type.
-use Rattle.std.proofs.Common.{◌≡◌, ℕ, Bool, true, false, ◌||◌, ◌++◌, nat_eq, refl, sym, ap, subst, ◌∙◌, true≢false, eqb-true, eq-eqb, List, [], ◌∷◌, map, Option, Some, None}
+use Rattle.std.proofs.Common.{◌≡◌, Bool, true, false, ◌||◌, ◌++◌, refl, sym, ap, subst, ◌∙◌, true≢false, eqb-true, eq-eqb, List, [], ◌∷◌, map, Some, None}
 use Rattle.std.specs.List.{flat_map}
-use Rattle.hir_types.specs.declared.ids.TraitId.{TraitId}
 use Rattle.hir_types.specs.declared.head.Head.TheVariants as head
 use Rattle.hir_types.specs.declared.head.Hole.{Hole}
 use Rattle.hir_types.specs.declared.head.Hole.TheVariants as hole_of
@@ -13,10 +12,10 @@ use Rattle.hir_types.specs.declared.ty.GenericArg.{GenericArg, GenericArg-F, rol
 use Rattle.hir_types.specs.declared.ty.GenericArg.TheVariants as arg
 use Rattle.hir_types.specs.declared.ty.TraitRef.{TraitRef, TraitRef-F, roll-TraitRef, map-TraitRef, ind-TraitRef}
 use Rattle.hir_types.specs.declared.ty.AliasBound.{AliasBound, AliasBound-F, roll-AliasBound, map-AliasBound, ind-AliasBound}
-use Rattle.hir_types.specs.Folds.{in_arg, in_ty, in_bound, in_trait}
-use Rattle.hir_types.specs.Folding.{replacing, at_ty, at_arg, trait_replaced_is, bound_replaced_is, folded_itself, arg_folded_itself, const_folded_itself, trait_folded_itself}
+use Rattle.hir_types.specs.Folds.{in_arg, in_ty}
+use Rattle.hir_types.specs.Folding.{replacing, at_ty, at_arg, trait_replaced_is, bound_replaced_is, folded_itself, arg_folded_itself, const_folded_itself}
 use Rattle.hir_types.specs.Subst.{ty_layer, arg_layer, bound_replaced, Assignment, with_holes, each_itself, folded, const_folded, arg_folded, trait_folded}
-use Rattle.hir_types.specs.Terms.{Term, hole, leaf, pair, chain, const_term, type_part, const_part, arg_step, auto_parts, ty_step, term, arg_term, trait_parts, bound_parts, hole_eq, occurs}
+use Rattle.hir_types.specs.Terms.{Term, leaf, pair, chain, const_term, type_part, const_part, arg_step, auto_parts, ty_step, term, arg_term, trait_parts, bound_parts, hole_eq, occurs}
 use Rattle.hir_types.specs.TermLaws.{terms, term_at, arg_term_at, trait_parts_is, bound_parts_is}
 
 -- ---- holes

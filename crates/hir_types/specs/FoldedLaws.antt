@@ -1,5 +1,5 @@
 -- The laws of what holes are replaced in: refinement, and lists, pairs and goals.
-use Rattle.std.proofs.Common.{◌≡◌, refl, sym, ap, ◌∙◌, List, map}
+use Rattle.std.proofs.Common.{◌≡◌, ap, ◌∙◌, List, map}
 use Rattle.hir_types.specs.declared.goal.Goal.{Goal}
 use Rattle.hir_types.specs.declared.goal.Goal.TheVariants as goal
 use Rattle.hir_types.specs.Subst.{Assignment, with_holes, each_itself, composed}

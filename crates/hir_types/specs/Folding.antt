@@ -1,5 +1,5 @@
 -- Laws of replacements: what they give at each variant, the one that changes nothing, two in turn.
-use Rattle.std.proofs.Common.{◌≡◌, ℕ, refl, sym, ap, ◌∙◌, List, [], ◌∷◌, map, Option, Some, None, option_map}
+use Rattle.std.proofs.Common.{◌≡◌, ℕ, refl, sym, ap, ◌∙◌, List, map, Option, Some, None, option_map}
 use Rattle.hir_types.specs.declared.ids.AdtId.{AdtId}
 use Rattle.hir_types.specs.declared.ids.CallableDefId.{CallableDefId}
 use Rattle.hir_types.specs.declared.ids.ClosureId.{ClosureId}
@@ -14,13 +14,13 @@ use Rattle.hir_types.specs.declared.ty.FloatTy.{FloatTy}
 use Rattle.hir_types.specs.declared.ty.Mutability.{Mutability}
 use Rattle.hir_types.specs.declared.ty.Safety.{Safety}
 use Rattle.hir_types.specs.declared.ty.Region.{Region}
-use Rattle.hir_types.specs.declared.ty.Ty.{Ty, Ty-F, roll-Ty, fold-roll-Ty}
+use Rattle.hir_types.specs.declared.ty.Ty.{Ty, Ty-F, roll-Ty}
 use Rattle.hir_types.specs.declared.ty.Ty.TheVariants as ty
-use Rattle.hir_types.specs.declared.ty.GenericArg.{GenericArg, GenericArg-F, roll-GenericArg, fold-roll-GenericArg}
+use Rattle.hir_types.specs.declared.ty.GenericArg.{GenericArg, GenericArg-F, roll-GenericArg}
 use Rattle.hir_types.specs.declared.ty.GenericArg.TheVariants as arg
-use Rattle.hir_types.specs.declared.ty.TraitRef.{TraitRef, TraitRef-F, roll-TraitRef}
-use Rattle.hir_types.specs.declared.ty.AliasBound.{AliasBound, AliasBound-F, roll-AliasBound}
-use Rattle.hir_types.specs.Folds.{map_twice, map_itself, Steps, Maps, folds, folds_follow, Follows, Same, unique, after, itself, in_arg, in_ty, in_bound, in_trait, in_arg_twice, in_ty_twice, in_bound_twice, in_trait_twice, in_arg_itself, in_ty_itself, in_bound_itself, in_trait_itself}
+use Rattle.hir_types.specs.declared.ty.TraitRef.{TraitRef, roll-TraitRef}
+use Rattle.hir_types.specs.declared.ty.AliasBound.{AliasBound, roll-AliasBound}
+use Rattle.hir_types.specs.Folds.{map_twice, map_itself, Steps, Maps, folds, folds_follow, Follows, Same, unique, after, itself, in_arg, in_ty, in_ty_twice, in_ty_itself, in_bound_itself, in_trait_itself}
 use Rattle.hir_types.specs.Subst.{Replacement, const_replaced, ty_layer, arg_layer, replaced, arg_replaced, bound_replaced, trait_replaced, args_replaced, Assignment, with_holes, each_itself, folded, const_folded, arg_folded, trait_folded, composed}
 
 abbrev pub layers : Replacement → Steps GenericArg Ty AliasBound TraitRef

@@ -1,5 +1,5 @@
 -- Folds over types: what goes by one step at each layer is the fold by that step.
-use Rattle.std.proofs.Common.{◌≡◌, refl, sym, ap, subst, ◌∙◌, List, [], ◌∷◌, map, Option, Some, None}
+use Rattle.std.proofs.Common.{◌≡◌, refl, sym, ap, subst, ◌∙◌, List, [], ◌∷◌, map, Some, None}
 use Rattle.hir_types.specs.declared.ty.Ty.{Ty, Ty-F, fold-Ty, roll-Ty, map-Ty, ind-Ty, fold-roll-Ty}
 use Rattle.hir_types.specs.declared.ty.GenericArg.{GenericArg, GenericArg-F, fold-GenericArg, roll-GenericArg, map-GenericArg, ind-GenericArg, fold-roll-GenericArg}
 use Rattle.hir_types.specs.declared.ty.TraitRef.{TraitRef, TraitRef-F, fold-TraitRef, roll-TraitRef, map-TraitRef, ind-TraitRef, fold-roll-TraitRef}

@@ -10,7 +10,5 @@ pub mod Goals
 pub mod TermLaws
 pub mod Outlines
 pub mod Agreement
-pub mod Faithful
 pub mod Types
 pub mod Erasure
-pub mod Layers

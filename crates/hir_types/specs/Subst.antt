@@ -1,13 +1,13 @@
 -- Substitutions: what stands in the place of holes and parameters, in types and what is made of them.
-use Rattle.std.specs.Prelude.{◌≡◌, ℕ, List, map}
+use Rattle.std.specs.Prelude.{ℕ, List, map}
 use Rattle.hir_types.specs.declared.ty.Const.{Const}
 use Rattle.hir_types.specs.declared.ty.Const.TheVariants as const
 use Rattle.hir_types.specs.declared.ty.Ty.{Ty, Ty-F, fold-Ty, roll-Ty}
 use Rattle.hir_types.specs.declared.ty.Ty.TheVariants as ty
 use Rattle.hir_types.specs.declared.ty.GenericArg.{GenericArg, GenericArg-F, fold-GenericArg, roll-GenericArg}
 use Rattle.hir_types.specs.declared.ty.GenericArg.TheVariants as arg
-use Rattle.hir_types.specs.declared.ty.TraitRef.{TraitRef, TraitRef-F, fold-TraitRef, roll-TraitRef}
-use Rattle.hir_types.specs.declared.ty.AliasBound.{AliasBound, AliasBound-F, fold-AliasBound, roll-AliasBound}
+use Rattle.hir_types.specs.declared.ty.TraitRef.{TraitRef, fold-TraitRef, roll-TraitRef}
+use Rattle.hir_types.specs.declared.ty.AliasBound.{AliasBound, fold-AliasBound, roll-AliasBound}
 
 -- what stands for each hole and each parameter
 pub record Replacement : Type 0 where
@@ -39,16 +39,20 @@ arg_layer s y = roll-GenericArg y
 
 -- the type with what the replacement says in the place of holes and parameters
 abbrev pub replaced : Replacement → Ty → Ty
-replaced s = fold-Ty GenericArg Ty AliasBound TraitRef (arg_layer s) (ty_layer s) roll-AliasBound roll-TraitRef
+replaced s =
+    fold-Ty GenericArg Ty AliasBound TraitRef (arg_layer s) (ty_layer s) roll-AliasBound roll-TraitRef
 
 abbrev pub arg_replaced : Replacement → GenericArg → GenericArg
-arg_replaced s = fold-GenericArg GenericArg Ty AliasBound TraitRef (arg_layer s) (ty_layer s) roll-AliasBound roll-TraitRef
+arg_replaced s =
+    fold-GenericArg GenericArg Ty AliasBound TraitRef (arg_layer s) (ty_layer s) roll-AliasBound roll-TraitRef
 
 abbrev pub bound_replaced : Replacement → AliasBound → AliasBound
-bound_replaced s = fold-AliasBound GenericArg Ty AliasBound TraitRef (arg_layer s) (ty_layer s) roll-AliasBound roll-TraitRef
+bound_replaced s =
+    fold-AliasBound GenericArg Ty AliasBound TraitRef (arg_layer s) (ty_layer s) roll-AliasBound roll-TraitRef
 
 abbrev pub trait_replaced : Replacement → TraitRef → TraitRef
-trait_replaced s = fold-TraitRef GenericArg Ty AliasBound TraitRef (arg_layer s) (ty_layer s) roll-AliasBound roll-TraitRef
+trait_replaced s =
+    fold-TraitRef GenericArg Ty AliasBound TraitRef (arg_layer s) (ty_layer s) roll-AliasBound roll-TraitRef
 
 abbrev pub args_replaced : Replacement → List GenericArg → List GenericArg
 args_replaced s = map (arg_replaced s)
@@ -63,7 +67,8 @@ pub record Assignment : Type 0 where
 
 -- holes by the assignment, parameters by themselves
 abbrev pub with_holes : Assignment → Replacement
-with_holes s = record { var = s.var; int_var = s.int_var; const_var = s.const_var; param = ty.Param; const_param = const.Param }
+with_holes s =
+    record { var = s.var; int_var = s.int_var; const_var = s.const_var; param = ty.Param; const_param = const.Param }
 
 -- each hole stands for itself
 abbrev pub each_itself : Assignment

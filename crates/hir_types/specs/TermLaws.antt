@@ -1,5 +1,5 @@
 -- Laws of terms: what stands at each variant; a replacement acts on the term, and only by the holes that are in it.
-use Rattle.std.proofs.Common.{◌≡◌, ℕ, Bool, true, false, ◌||◌, ◌++◌, nat_eq, refl, sym, ap, subst, ◌∙◌, true≢false, eqb-true, eq-eqb, List, [], ◌∷◌, map, Option, Some, None, option_map}
+use Rattle.std.proofs.Common.{◌≡◌, ℕ, ◌++◌, refl, sym, ap, ◌∙◌, List, [], ◌∷◌, map, Option, Some, None, option_map}
 use Rattle.std.specs.List.{flat_map}
 use Rattle.hir_types.specs.declared.ids.AdtId.{AdtId}
 use Rattle.hir_types.specs.declared.ids.CallableDefId.{CallableDefId}
@@ -19,16 +19,16 @@ use Rattle.hir_types.specs.declared.ty.FloatTy.{FloatTy}
 use Rattle.hir_types.specs.declared.ty.Mutability.{Mutability}
 use Rattle.hir_types.specs.declared.ty.Safety.{Safety}
 use Rattle.hir_types.specs.declared.ty.Region.{Region}
-use Rattle.hir_types.specs.declared.ty.Ty.{Ty, Ty-F, roll-Ty, map-Ty, ind-Ty}
+use Rattle.hir_types.specs.declared.ty.Ty.{Ty, Ty-F, roll-Ty}
 use Rattle.hir_types.specs.declared.ty.Ty.TheVariants as ty
-use Rattle.hir_types.specs.declared.ty.GenericArg.{GenericArg, GenericArg-F, roll-GenericArg, map-GenericArg, ind-GenericArg}
+use Rattle.hir_types.specs.declared.ty.GenericArg.{GenericArg, GenericArg-F, roll-GenericArg}
 use Rattle.hir_types.specs.declared.ty.GenericArg.TheVariants as arg
-use Rattle.hir_types.specs.declared.ty.TraitRef.{TraitRef, TraitRef-F, roll-TraitRef, map-TraitRef, ind-TraitRef}
-use Rattle.hir_types.specs.declared.ty.AliasBound.{AliasBound, AliasBound-F, roll-AliasBound, map-AliasBound, ind-AliasBound}
-use Rattle.hir_types.specs.Folds.{map_twice, Steps, Maps, folds, folds_follow, Follows, Same, unique, after, in_arg, in_ty, in_bound, in_trait, in_ty_twice}
-use Rattle.hir_types.specs.Folding.{layers, replacing, at_ty, at_arg, each_same, trait_replaced_is, bound_replaced_is, arg_replaced_const, replaced_array, folded_itself, arg_folded_itself, const_folded_itself}
-use Rattle.hir_types.specs.Subst.{Replacement, const_replaced, ty_layer, arg_layer, replaced, arg_replaced, bound_replaced, trait_replaced, args_replaced, Assignment, with_holes, each_itself, folded, const_folded, arg_folded, trait_folded}
-use Rattle.hir_types.specs.Terms.{Term, hole, leaf, pair, apply, chain, node, const_term, type_part, const_part, arg_step, bound_step, trait_step, principal_parts, auto_parts, ty_step, term, arg_term, trait_parts, bound_parts, terms_of, hole_eq, occurs}
+use Rattle.hir_types.specs.declared.ty.TraitRef.{TraitRef, roll-TraitRef}
+use Rattle.hir_types.specs.declared.ty.AliasBound.{AliasBound, roll-AliasBound}
+use Rattle.hir_types.specs.Folds.{map_twice, Steps, Maps, folds, folds_follow, Follows, Same, unique, after, in_arg, in_ty, in_ty_twice}
+use Rattle.hir_types.specs.Folding.{replacing, at_ty, at_arg, trait_replaced_is, bound_replaced_is}
+use Rattle.hir_types.specs.Subst.{ty_layer, arg_layer, bound_replaced, args_replaced, Assignment, with_holes, folded, const_folded, arg_folded, trait_folded}
+use Rattle.hir_types.specs.Terms.{Term, hole, leaf, pair, apply, chain, node, const_term, type_part, const_part, arg_step, bound_step, trait_step, principal_parts, auto_parts, ty_step, term, arg_term, trait_parts, bound_parts, terms_of}
 
 abbrev pub term_steps : Steps Term Term (List Term) (List Term)
 term_steps = record { arg = arg_step; ty = ty_step; bound = bound_step; trait = trait_step }

@@ -1,7 +1,5 @@
 //! A box that contracts see as its value.
 ghost use Rattle.std.specs.Prelude.{◌≡◌, IfOk};
-ghost use Rattle.std.proofs.Common.{rules};
-ghost use Rattle.std.specs.Cmp.Rules.{hashing};
 
 use std::alloc::{AllocError, Global};
 use std::hash::{Hash, Hasher};

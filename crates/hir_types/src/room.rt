@@ -1,5 +1,5 @@
 //! How large a type may be made.
-ghost use Rattle.std.specs.Prelude.{◌≡◌, ◌<◌, IfOk};
+ghost use Rattle.std.specs.Prelude.{◌<◌, IfOk};
 
 use std::alloc::AllocError;
 

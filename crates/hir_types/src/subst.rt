@@ -1,5 +1,5 @@
 //! Substitutions for holes.
-ghost use Rattle.std.specs.Prelude.{◌≡◌, IfOk};
+ghost use Rattle.std.specs.Prelude.{◌≡◌};
 ghost use Rattle.std.specs.Option.{option_copied};
 ghost use Rattle.hir_types.specs.Subst.{with_holes};
 ghost use Rattle.hir_types.specs.Assigned.{assignment_of, first_for};

@@ -17,13 +17,14 @@ use Rattle.hir_facts.specs.declared.raw.RawExpr.TheVariants as expr
 use Rattle.hir_facts.specs.declared.raw.RawStmt.{RawStmt}
 use Rattle.hir_facts.specs.declared.schedule.Schedule.{Schedule}
 use Rattle.hir_facts.specs.Laws.Carried.{is_carried_stmt, is_carried_body}
-use Rattle.hir_facts.specs.CarriedBodies.{list_all_at}
+use Rattle.hir_facts.proofs.CarriedBodies.{list_all_at}
 use Rattle.hir_facts.specs.CarriedTypes.{IsCarriedType, same_carried}
 use Rattle.hir_facts.specs.Order.{Node, Part, inner, tail, after, end, expr_part, stmt_parts, stmts_parts, stmts_of, maybe_part}
 use Rattle.infer_result.specs.Made.{IsMisfit}
-use Rattle.infer_result.specs.Places.{Given, Demand}
-use Rattle.infer_result.specs.Rules.Blocks.{StmtsRule, StmtRule, TailRule}
-use Rattle.infer_result.specs.Rules.Placing.{at_or_mismatch}
+use Rattle.infer_result.specs.Places.{Given}
+use Rattle.infer_result.specs.Demands.{Demand}
+use Rattle.infer_result.specs.Kinds.Block.{StmtsRule, StmtRule, TailRule}
+use Rattle.infer_result.specs.Placing.{at_or_mismatch}
 use Rattle.infer_result.specs.Table.{MismatchAt, mismatch}
 use Rattle.infer_result.specs.declared.result.InferenceResult.{InferenceResult}
 use Rattle.infer_result.specs.declared.result.TypeMismatch.{TypeMismatch}
@@ -173,7 +174,7 @@ module _ (g : Given) (s : Schedule) (n : ExprId) (label : Option LabelId) (ys : 
     walks = walks;
     clock = clock;
     carried = carried;
-    rule = λ r k has. rule_of g r n (expr.Block label ys o) is (stmts_kept g new.result r k ys made, (t, has, tail_kept g new.result r k n o t ends));
+    rule = λ r k has. rule_of g r n (expr.Block label ys o) is (record { statements = stmts_kept g new.result r k ys made; type = t; has = has; ends = tail_kept g new.result r k n o t ends });
   }
 
 -- without tail, under an assignment

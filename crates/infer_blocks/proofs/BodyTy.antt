@@ -21,8 +21,8 @@ use Rattle.hir_facts.specs.CarriedTypes.{IsCarriedType}
 use Rattle.hir_facts.specs.declared.raw.RawBody.{RawBody}
 use Rattle.hir_facts.specs.Laws.Lawful.{IsLawful}
 use Rattle.hir_facts.specs.declared.raw.RawType.TheVariants as type
-use Rattle.infer_table.specs.HoleLaws.{grew_twice, grew_by_hole}
-use Rattle.infer_table.specs.UndoLaws.{grew_itself}
+use Rattle.infer_table.proofs.HoleLaws.{grew_twice, grew_by_hole}
+use Rattle.infer_table.proofs.UndoLaws.{grew_itself}
 use Rattle.infer_table.specs.Table.{hole_count, with_new_hole}
 use Rattle.infer_result.specs.declared.result.InferenceResult.{InferenceResult}
 use Rattle.infer_result.specs.Places.{Given, HasPlaceholders, AreRecorded, declared, hole_type, IsPlaceholder}
@@ -30,7 +30,7 @@ use Rattle.infer_result.specs.Table.{PlaceholderTy, recorded, At, WasSeen}
 use Rattle.hir_types.specs.declared.ids.ExprId.{ExprId}
 use Rattle.infer_result.specs.declared.diagnostics.InferenceDiagnostic.{InferenceDiagnostic}
 use Rattle.infer_result.specs.declared.result.Seen.{Seen}
-use Rattle.infer_result.specs.Truth.Calls.{IsTrueDiagnostic}
+use Rattle.infer_result.specs.Truth.Diagnostics.{IsTrueDiagnostic}
 use Rattle.infer_result.specs.Closed.{IsOfBody}
 use Rattle.infer_ctx.specs.declared.context.InferenceContext.{InferenceContext}
 use Rattle.infer_ctx.specs.Closings.{IsSound, Closes, closed_table, closed_types, found_under}

@@ -10,9 +10,11 @@ use Rattle.hir_types.specs.Types.{unit}
 use Rattle.hir_facts.specs.declared.raw.RawStmt.TheVariants as stmt
 use Rattle.hir_facts.specs.declared.schedule.Schedule.{Schedule}
 use Rattle.hir_facts.specs.Order.{Part, Role, inner, initializer, let_pattern, statement, expr_part, pat_part}
-use Rattle.infer_result.specs.Places.{Given, Demand, AsksOf, Gives, IsAtOrMismatch, PatIsAtOrMismatch, AreRecorded, declared}
-use Rattle.infer_result.specs.Rules.Blocks.{LetRule}
-use Rattle.infer_result.specs.Rules.Placing.{at_or_mismatch}
+use Rattle.infer_result.specs.Places.{Given, IsAtOrMismatch, PatIsAtOrMismatch, AreRecorded, declared}
+use Rattle.infer_result.specs.Demands.{Demand, AsksOf}
+use Rattle.infer_result.specs.Incoming.{Gives}
+use Rattle.infer_result.specs.Kinds.Block.{LetRule}
+use Rattle.infer_result.specs.Placing.{at_or_mismatch}
 use Rattle.infer_result.specs.Table.{HasTy}
 use Rattle.infer_result.specs.declared.result.InferenceResult.{InferenceResult}
 use Rattle.infer_ctx.specs.declared.context.InferenceContext.{InferenceContext}

@@ -14,8 +14,8 @@ use Rattle.hir_facts.specs.Laws.Carried.{is_carried_stmt}
 use Rattle.hir_facts.specs.Order.{inner, stmt_parts, stmt_at, after, maybe_part, tail}
 use Rattle.hir_facts.specs.declared.raw.RawExpr.TheVariants as expr
 use Rattle.infer_result.specs.Places.{Given, declared, AreRecorded}
-use Rattle.infer_result.specs.Rules.Blocks.{StmtRule}
-use Rattle.infer_result.specs.Rules.Placing.{at_or_mismatch}
+use Rattle.infer_result.specs.Kinds.Block.{StmtRule}
+use Rattle.infer_result.specs.Placing.{at_or_mismatch}
 use Rattle.infer_result.specs.declared.result.InferenceResult.{InferenceResult}
 use Rattle.infer_result.specs.Table.{MismatchAt}
 use Rattle.infer_ctx.specs.Found.{Found}

@@ -1,5 +1,5 @@
 //! The types of blocks.
-ghost use Rattle.std.specs.Prelude.{◌≡◌, ◌<◌, IfOk, Some, length, List};
+ghost use Rattle.std.specs.Prelude.{◌<◌, IfOk, Some, length, List};
 ghost use Rattle.hir_types.specs.Types.{unit};
 ghost use Rattle.infer_result.specs.Closed.{IsOfBody};
 ghost use Rattle.infer_ctx.specs.Context.{given_of, schedule_of, expected_type, scope_in};

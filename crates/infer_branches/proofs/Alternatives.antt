@@ -10,7 +10,9 @@ use Rattle.hir_facts.specs.declared.raw.RawBody.{RawBody}
 use Rattle.hir_facts.specs.CarriedTypes.{IsCarriedType, same_carried}
 use Rattle.hir_facts.specs.declared.schedule.Schedule.{Schedule}
 use Rattle.infer_result.specs.declared.result.InferenceResult.{InferenceResult}
-use Rattle.infer_result.specs.Places.{Given, IsAt, IsBefore, AsksOfAlternative, AsksOf, Demand, StandsAt}
+use Rattle.infer_result.specs.Places.{Given, IsAt, StandsAt}
+use Rattle.infer_result.specs.Kinds.Alternative.{IsBefore, AsksOfAlternative}
+use Rattle.infer_result.specs.Demands.{AsksOf, Demand}
 use Rattle.infer_result.specs.Table.{HasMismatch, AnyMismatch, HasTy, mismatch}
 use Rattle.infer_result.specs.Closed.{IsOfBody}
 use Rattle.infer_result.specs.declared.result.TypeMismatch.{TypeMismatch}

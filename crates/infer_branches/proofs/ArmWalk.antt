@@ -11,7 +11,7 @@ use Rattle.hir_facts.specs.declared.raw.RawArm.{RawArm}
 use Rattle.hir_facts.specs.Order.{Part, after, arm, arms_parts, guard, inner, expr_part, maybe_part}
 use Rattle.hir_facts.specs.declared.schedule.Schedule.{Schedule}
 use Rattle.infer_result.specs.Places.{Given}
-use Rattle.infer_result.specs.Rules.Branches.{arm_exprs}
+use Rattle.infer_result.specs.Kinds.Match.{arm_exprs}
 use Rattle.infer_ctx.specs.declared.context.InferenceContext.{InferenceContext}
 use Rattle.infer_ctx.specs.Closings.{Closes, found_under, expected_under}
 use Rattle.infer_ctx.specs.Steps.{Before, CoerceDone}

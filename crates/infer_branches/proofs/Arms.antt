@@ -11,13 +11,13 @@ use Rattle.hir_facts.specs.declared.raw.RawBody.{RawBody}
 use Rattle.hir_facts.specs.Laws.Carried.{is_carried_expr, is_carried_body}
 use Rattle.hir_facts.specs.declared.schedule.Schedule.{Schedule}
 use Rattle.hir_facts.specs.declared.raw.RawExpr.TheVariants as expr
-use Rattle.infer_result.specs.Rules.Branches.{arm_exprs, ArmPatterns, GuardRule, ArmsRule, MatchRule}
+use Rattle.infer_result.specs.Kinds.Match.{arm_exprs, ArmPatterns, GuardRule, ArmsRule, MatchRule}
 use Rattle.infer_result.specs.declared.result.InferenceResult.{InferenceResult}
 use Rattle.infer_result.specs.Places.{Given}
-use Rattle.infer_result.specs.Rules.Placing.{at_or_mismatch}
+use Rattle.infer_result.specs.Placing.{at_or_mismatch}
 use Rattle.infer_result.specs.Table.{AnyMismatch}
 use Rattle.infer_result.specs.declared.result.TypeMismatch.{TypeMismatch}
-use Rattle.infer_result.specs.Rules.Expressions.{Rule, ObeysOrMismatch}
+use Rattle.infer_result.specs.Rules.{Rule, ObeysOrMismatch}
 use Rattle.infer_ctx.specs.Walks.{Extends, PaidBy, Owed}
 use Rattle.infer_ctx.specs.Under.{LieAhead}
 use Rattle.infer_ctx.specs.Context.{IsLess}

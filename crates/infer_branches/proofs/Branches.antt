@@ -9,10 +9,11 @@ use Rattle.hir_facts.specs.Order.{after}
 use Rattle.hir_facts.specs.declared.schedule.Schedule.{Schedule}
 use Rattle.hir_facts.specs.CarriedTypes.{IsCarriedType, same_carried}
 use Rattle.infer_result.specs.declared.result.InferenceResult.{InferenceResult}
-use Rattle.infer_result.specs.Places.{Given, IsAtOrMismatch, Demand, IsAt}
-use Rattle.infer_result.specs.Rules.Placing.{at_or_mismatch}
-use Rattle.infer_result.specs.Rules.Branches.{IfRule}
-use Rattle.infer_result.specs.Rules.Expressions.{Rule, ObeysOrMismatch}
+use Rattle.infer_result.specs.Places.{Given, IsAtOrMismatch, IsAt}
+use Rattle.infer_result.specs.Demands.{Demand}
+use Rattle.infer_result.specs.Placing.{at_or_mismatch}
+use Rattle.infer_result.specs.Kinds.If.{IfRule}
+use Rattle.infer_result.specs.Rules.{Rule, ObeysOrMismatch}
 use Rattle.infer_result.specs.Table.{AnyMismatch, mismatch}
 use Rattle.infer_result.specs.Made.{IsMisfit}
 use Rattle.infer_ctx.specs.Context.{IsCarriedExpectation, IsLess}
@@ -62,10 +63,13 @@ both_done g s n c first other is x t mid f h ends =
       clock = ends;
       carried = h.carried;
       rule = λ r k has.
-          obeys_if g r n c first (Some other) is (
-            at_kept g f.result r k c ty.Bool h.beside,
-            (t, has, (alternative_kept g f.result r k es first t both.0, alternative_kept g f.result r k es other t both.1)),
-          );
+          obeys_if g r n c first (Some other) is (record {
+            condition = at_kept g f.result r k c ty.Bool h.beside;
+            type = t;
+            has = has;
+            branch = alternative_kept g f.result r k es first t both.0;
+            otherwise = alternative_kept g f.result r k es other t both.1;
+          });
     }
 
 -- ---- without another branch
@@ -81,10 +85,13 @@ module _ (g : Given) (s : Schedule) (n c first : ExprId) (is : IsIfOf g.body n c
     clock = same ∙ ends;
     carried = carried;
     rule = λ r l has.
-        obeys_if g r n c first None is (
-          at_kept g new.result r l c ty.Bool (at_kept g f.result new.result k c ty.Bool condition_at),
-          (t, has, (alternative_kept g new.result r l (n ∷ first ∷ []) first t branch, ends_kept g new.result r l (n ∷ first ∷ []) t own)),
-        );
+        obeys_if g r n c first None is (record {
+          condition = at_kept g new.result r l c ty.Bool (at_kept g f.result new.result k c ty.Bool condition_at);
+          type = t;
+          has = has;
+          branch = alternative_kept g new.result r l (n ∷ first ∷ []) first t branch;
+          otherwise = ends_kept g new.result r l (n ∷ first ∷ []) t own;
+        });
   }
 
   module _ (walks : Walks g s (OwedByAlternatives g n y) mid f) where

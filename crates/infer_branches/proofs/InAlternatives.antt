@@ -11,9 +11,10 @@ use Rattle.hir_facts.specs.declared.schedule.Schedule.{Schedule}
 use Rattle.hir_facts.specs.CarriedTypes.{IsCarriedType}
 use Rattle.hir_facts.specs.Order.{Role, Part, inner, expr_part, after}
 use Rattle.infer_table.specs.Table.{State, Grew}
-use Rattle.infer_table.specs.HoleLaws.{grew_twice}
+use Rattle.infer_table.proofs.HoleLaws.{grew_twice}
 use Rattle.infer_result.specs.declared.result.InferenceResult.{InferenceResult}
-use Rattle.infer_result.specs.Places.{Given, AsksOf}
+use Rattle.infer_result.specs.Places.{Given}
+use Rattle.infer_result.specs.Demands.{AsksOf}
 use Rattle.infer_result.specs.Closed.{IsOfBody}
 use Rattle.infer_ctx.specs.Context.{IsLess}
 use Rattle.infer_ctx.specs.Fine.{IsFineExpectation}

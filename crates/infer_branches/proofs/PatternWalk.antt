@@ -11,8 +11,8 @@ use Rattle.hir_facts.specs.declared.raw.RawExpr.TheVariants as expr
 use Rattle.hir_facts.specs.Order.{Part, arm_pattern, arms_parts, inner, expr_part, pat_part, scrutinee}
 use Rattle.hir_facts.specs.declared.schedule.Schedule.{Schedule}
 use Rattle.infer_result.specs.Places.{Given}
-use Rattle.infer_result.specs.Rules.Branches.{arm_exprs, ArmPatterns}
-use Rattle.infer_result.specs.Rules.Placing.{at_or_mismatch}
+use Rattle.infer_result.specs.Kinds.Match.{arm_exprs, ArmPatterns}
+use Rattle.infer_result.specs.Placing.{at_or_mismatch}
 use Rattle.infer_result.specs.Table.{HasTy}
 use Rattle.infer_ctx.specs.declared.context.InferenceContext.{InferenceContext}
 use Rattle.infer_ctx.specs.Context.{IsLess}
@@ -146,9 +146,13 @@ module _ (g : Given) (s : Schedule) (n d : ExprId) (arms : List RawArm) where
               carried = z.carried;
               rule = λ r b has.
                   let e = extends_trans (found_under a f).result (found_under a new).result r z.walks.extends b in
-                  obeys_match g r n d arms is (
-                    (folded a t, e.exprs d (folded a t) (h.scrutinee_is a l), arm_patterns_kept g _ r e arms (folded a t) made),
-                    (folded a u, has, arms_kept g _ r b (arm_exprs arms) arms (folded a u) z.made),
-                  );
+                  obeys_match g r n d arms is (record {
+                    scrutinee = folded a t;
+                    comes = e.exprs d (folded a t) (h.scrutinee_is a l);
+                    patterns = arm_patterns_kept g _ r e arms (folded a t) made;
+                    type = folded a u;
+                    has = has;
+                    alternatives = arms_kept g _ r b (arm_exprs arms) arms (folded a u) z.made;
+                  });
             };
       }

@@ -14,8 +14,8 @@ use Rattle.hir_facts.specs.declared.raw.RawExpr.TheVariants as expr
 use Rattle.infer_result.specs.Places.{Given, IsAt}
 use Rattle.infer_result.specs.declared.result.InferenceResult.{InferenceResult}
 use Rattle.infer_result.specs.Table.{HasTy, AnyMismatch}
-use Rattle.infer_result.specs.Rules.Branches.{GuardRule, arm_exprs, ArmsRule}
-use Rattle.infer_result.specs.Rules.Placing.{at_or_mismatch}
+use Rattle.infer_result.specs.Kinds.Match.{GuardRule, arm_exprs, ArmsRule}
+use Rattle.infer_result.specs.Placing.{at_or_mismatch}
 use Rattle.infer_ctx.specs.Found.{Found}
 use Rattle.infer_ctx.specs.Under.{OwnWalked, IsReady, LieAhead}
 use Rattle.infer_ctx.specs.Walks.{Walks, Nothing, PaidBy}

@@ -1,5 +1,5 @@
 //! The types of `if` and `match`.
-ghost use Rattle.std.specs.Prelude.{◌≡◌, IfOk};
+ghost use Rattle.std.specs.Prelude.{IfOk};
 ghost use Rattle.infer_ctx.specs.Context.{given_of, schedule_of, expected_type, scope_in};
 ghost use Rattle.infer_branches.specs.Branches.{IsIfOf, IsMatchOf, BeforeElse, ElseDone, AlternativeDone, BeforeArms, ArmsDone, BeforeGuard, GuardDone};
 ghost use Rattle.infer_ctx.specs.Steps.{Before, Within, KindDone};

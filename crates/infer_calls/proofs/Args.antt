@@ -8,9 +8,10 @@ use Rattle.hir_types.specs.declared.ty.Ty.{Ty}
 use Rattle.hir_types.specs.Subst.{Assignment, folded}
 use Rattle.hir_facts.specs.Order.{inner, argument}
 use Rattle.hir_facts.specs.declared.schedule.Schedule.{Schedule}
-use Rattle.infer_result.specs.Places.{Given, Demand, IsAtOrMismatch}
+use Rattle.infer_result.specs.Places.{Given, IsAtOrMismatch}
+use Rattle.infer_result.specs.Demands.{Demand}
 use Rattle.infer_result.specs.declared.result.InferenceResult.{InferenceResult}
-use Rattle.infer_result.specs.Rules.Tuples.{AllAt}
+use Rattle.infer_result.specs.Kinds.Tuple.{AllAt}
 use Rattle.infer_ctx.specs.declared.context.InferenceContext.{InferenceContext}
 use Rattle.infer_ctx.specs.Closings.{Closes, found_under}
 use Rattle.infer_ctx.specs.Steps.{Before, CoerceDone}

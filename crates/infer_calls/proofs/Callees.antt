@@ -21,17 +21,16 @@ use Rattle.hir_facts.specs.declared.raw.RawPath.TheVariants as path
 use Rattle.hir_facts.specs.declared.raw.RawExpr.TheVariants as expr
 use Rattle.infer_table.specs.Table.{bindings, resolved_type, resolved_term}
 use Rattle.infer_table.specs.Bindings.{AllOf}
-use Rattle.infer_table.specs.BindingLaws.{resolved_made}
+use Rattle.infer_table.proofs.BindingLaws.{resolved_made}
 use Rattle.infer_table.specs.Preserved.{made_of_resolved_term, apply_resolved_term}
 use Rattle.infer_table.specs.Resolution.{resolution, resolution_term}
 use Rattle.infer_table.specs.Solutions.{AreOf}
 use Rattle.infer_result.specs.Heads.{other, outermost_step, HeadOf, of_function, of_ctor, Outermost, HasHead}
-use Rattle.infer_result.specs.Truth.Seen.{callable_step, is_callable, IsPathToItem}
+use Rattle.infer_result.specs.Kinds.Call.{callable_step, is_callable, IsPathToItem, CallsNonGeneric}
 use Rattle.infer_result.specs.Places.{Given}
 use Rattle.infer_result.specs.Table.{HasTy}
-use Rattle.infer_result.specs.Derived.{ctor_type_of_tuple}
-use Rattle.infer_result.specs.Upward.{CallsNonGeneric}
-use Rattle.infer_ctx.specs.Fine.{item_params, HasFineHeads, is_fine_head, IsFine, IsKnown}
+use Rattle.infer_result.proofs.Derived.{ctor_type_of_tuple}
+use Rattle.infer_ctx.specs.Fine.{item_params, HasFineHeads, is_fine_head, IsFine, IsCarriedIn}
 use Rattle.infer_ctx.specs.Callables.{ItemsAreCallable, IsCallableItem}
 use Rattle.infer_ctx.specs.declared.context.InferenceContext.{InferenceContext}
 use Rattle.infer_ctx.specs.Closings.{Closes, found_under}
@@ -260,4 +259,4 @@ module _ (g : Given) (s : Schedule) (called : ExprId) (t u : Ty) (old mid : Infe
       outputs e σ c a =
           let item : IsItem g.scope.facts c.item = ready.written.items c.item σ c.signature in
           let same : item.signature ≡ σ = (let q : Some item.signature ≡ Some σ = sym item.found ∙ c.signature in cc) in
-          carried_closed a σ.output (subst (λ (τ : Signature). IsKnown (own_scope g.scope.facts τ.params) τ.output) same item.output).carried
+          carried_closed a σ.output (subst (λ (τ : Signature). IsCarriedIn (own_scope g.scope.facts τ.params) τ.output) same item.output).carried

@@ -14,13 +14,14 @@ use Rattle.hir_facts.specs.Signatures.{type_args, Signature, signature_of, at_ar
 use Rattle.hir_facts.specs.Order.{inner, argument, expr_part, exprs_from, parts_of_expr, part_at}
 use Rattle.hir_facts.specs.CarriedTypes.{IsCarriedType}
 use Rattle.hir_facts.specs.declared.raw.RawExpr.TheVariants as expr
-use Rattle.infer_result.specs.Places.{Given, Demand, IsCallee}
+use Rattle.infer_result.specs.Places.{Given}
+use Rattle.infer_result.specs.Demands.{Demand}
+use Rattle.infer_result.specs.Kinds.Call.{IsCallee, ArgsRule}
 use Rattle.infer_result.specs.declared.result.InferenceResult.{InferenceResult}
 use Rattle.infer_result.specs.declared.diagnostics.InferenceDiagnostic.{InferenceDiagnostic}
-use Rattle.infer_result.specs.Rules.Calls.{ArgsRule}
-use Rattle.infer_result.specs.Rules.Placing.{at_or_mismatch}
+use Rattle.infer_result.specs.Placing.{at_or_mismatch}
 use Rattle.infer_result.specs.Table.{HasTy, HasDiagnostic, WasSeen, At}
-use Rattle.infer_result.specs.Truth.Calls.{IsTrueDiagnostic}
+use Rattle.infer_result.specs.Truth.Diagnostics.{IsTrueDiagnostic}
 use Rattle.infer_result.specs.declared.result.Seen.{Seen}
 use Rattle.infer_result.specs.Truth.Seen.{IsTrueSeen}
 use Rattle.infer_result.specs.Unknown.{has_unknown, IsKnown}
@@ -220,7 +221,14 @@ module _ (g : Given) (s : Schedule) (n called : ExprId) (args : List ExprId) (id
     clock = d.clock;
     carried = carried;
     rule = λ r k has. rule_of g r n (expr.Call called args) b.calling.is_call (elim (placed r k) [
-      | inl q ↦ inl (σ, ts, callee_kept g new.result r k called σ ts (calls g n called args id σ ts mid b.calling new.result d.walks.extends), q, has)
+      | inl q ↦
+          inl (record {
+            signature = σ;
+            types = ts;
+            is_callee = callee_kept g new.result r k called σ ts (calls g n called args id σ ts mid b.calling new.result d.walks.extends);
+            arguments = q;
+            has = has;
+          })
       | inr q ↦ inr (q, (at_args ts σ.output, has))
     ]);
   }

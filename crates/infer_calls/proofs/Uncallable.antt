@@ -9,7 +9,7 @@ use Rattle.hir_types.specs.declared.ty.Ty.TheVariants as ty
 use Rattle.hir_types.specs.declared.head.HoleKind.TheVariants as kind
 use Rattle.hir_types.specs.declared.ids.ExprOrPatId.TheVariants as node
 use Rattle.hir_facts.specs.declared.schedule.Schedule.{Schedule}
-use Rattle.infer_table.specs.HoleLaws.{grew_by_hole}
+use Rattle.infer_table.proofs.HoleLaws.{grew_by_hole}
 use Rattle.infer_table.specs.Table.{Grew, bindings, resolved_type, hole_count}
 use Rattle.infer_table.specs.Bindings.{AllOf}
 use Rattle.infer_result.specs.Places.{Given}

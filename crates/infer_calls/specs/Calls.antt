@@ -16,9 +16,8 @@ use Rattle.infer_table.specs.Table.{resolved_type, bindings}
 use Rattle.infer_table.specs.Bindings.{AllOf}
 use Rattle.infer_result.specs.Table.{HasTy, WasSeen}
 use Rattle.infer_result.specs.Places.{Given}
-use Rattle.infer_result.specs.Rules.Calls.{ArgsRule}
-use Rattle.infer_result.specs.Rules.Placing.{at_or_mismatch}
-use Rattle.infer_result.specs.Truth.Seen.{IsPathToItem}
+use Rattle.infer_result.specs.Kinds.Call.{ArgsRule, IsPathToItem}
+use Rattle.infer_result.specs.Placing.{at_or_mismatch}
 use Rattle.infer_ctx.specs.Found.{Found}
 use Rattle.infer_ctx.specs.Walks.{Walks, Nothing, expr_end, IsWalked}
 use Rattle.infer_ctx.specs.Under.{LieAhead, IsReady, IsItem}

@@ -6,7 +6,8 @@ use Rattle.hir_types.specs.Erasure.{erased}
 use Rattle.hir_facts.specs.declared.schedule.Schedule.{Schedule}
 use Rattle.hir_facts.specs.CarriedTypes.{IsCarriedType, same_carried}
 use Rattle.infer_result.specs.Table.{HasTy, mismatch}
-use Rattle.infer_result.specs.Places.{Given, Demand, IsAtOrMismatch}
+use Rattle.infer_result.specs.Places.{Given, IsAtOrMismatch}
+use Rattle.infer_result.specs.Demands.{Demand}
 use Rattle.infer_result.specs.Made.{IsMisfit}
 use Rattle.infer_result.specs.declared.result.InferenceResult.{InferenceResult}
 use Rattle.infer_result.specs.declared.result.TypeMismatch.{TypeMismatch}

@@ -3,7 +3,7 @@ use Rattle.std.proofs.Common.{refl}
 use Rattle.hir_types.specs.declared.head.HoleKind.{HoleKind}
 use Rattle.hir_facts.specs.Scope.{Scope}
 use Rattle.infer_table.specs.Table.{with_new_hole}
-use Rattle.infer_table.specs.HoleLaws.{grew_by_hole}
+use Rattle.infer_table.proofs.HoleLaws.{grew_by_hole}
 use Rattle.infer_table.specs.Waiting.{waiting}
 use Rattle.infer_ctx.specs.declared.context.InferenceContext.{InferenceContext}
 use Rattle.infer_ctx.specs.Closings.{IsSound}

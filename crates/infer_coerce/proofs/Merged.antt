@@ -7,7 +7,7 @@ use Rattle.hir_types.specs.declared.head.HoleKind.TheVariants as kind
 use Rattle.hir_types.specs.declared.ty.Ty.TheVariants as ty
 use Rattle.hir_facts.specs.Scope.{Scope}
 use Rattle.infer_table.specs.Table.{State, with_new_hole, hole_count}
-use Rattle.infer_table.specs.HoleLaws.{grew_by_hole}
+use Rattle.infer_table.proofs.HoleLaws.{grew_by_hole}
 use Rattle.infer_result.specs.Closed.{IsOfBody}
 use Rattle.infer_result.specs.Places.{Given}
 use Rattle.infer_ctx.specs.declared.context.InferenceContext.{InferenceContext}

@@ -19,18 +19,18 @@ use Rattle.hir_types.proofs.Equal.{ty_decides}
 use Rattle.hir_facts.specs.CarriedTypes.{IsCarriedType, carried_error}
 use Rattle.hir_facts.specs.Scope.{Scope}
 use Rattle.infer_table.specs.Completion.{completion, fallback}
-use Rattle.infer_table.specs.Preserved.{whole, IsMadeOf, BindsOnly, made_of_resolved, unified_same, refused_apart, binds_only_unified}
+use Rattle.infer_table.specs.Preserved.{whole, IsMadeOf, BindsOnly, made_of_resolved, unified_makes_same, refused_apart, binds_only_unified}
 use Rattle.infer_table.specs.Resolution.{resolution, resolution_terms, IsOpenOrKnown}
 use Rattle.infer_table.specs.Solutions.{Respects, log_of, Solves}
 use Rattle.infer_table.specs.Table.{State, bindings, Meets, AreUnified, AreRefused, AreUnifiedIf, Grew, HolesAreOf, TakesFirstKnown, TakesKnown, resolved_type, resolved_term, is_type_hole, with_waiting}
 use Rattle.infer_table.specs.Waiting.{waiting, Waiting, with_pair, is_taken}
 use Rattle.infer_table.specs.declared.waiting.WaitingPair.{WaitingPair}
-use Rattle.infer_table.specs.WaitingLaws.{left_from-push}
+use Rattle.infer_table.proofs.WaitingLaws.{left_from-push}
 use Rattle.infer_table.specs.Bindings.{Substitution}
-use Rattle.infer_table.specs.HoleLaws.{grew_twice}
-use Rattle.infer_table.specs.TableLaws.{hole_where_open, is_var_at}
-use Rattle.infer_table.specs.UndoLaws.{front_itself}
-use Rattle.infer_table.specs.BindingLaws.{get_last}
+use Rattle.infer_table.proofs.HoleLaws.{grew_twice}
+use Rattle.infer_table.proofs.TableLaws.{hole_where_open, is_var_at}
+use Rattle.infer_table.proofs.UndoLaws.{front_itself}
+use Rattle.infer_table.proofs.BindingLaws.{get_last}
 use Rattle.infer_result.specs.Closed.{IsOfBody}
 use Rattle.infer_result.specs.Places.{Given}
 use Rattle.infer_result.specs.Table.{mismatch, At}
@@ -111,7 +111,7 @@ module _ (sc : Scope) (c : InferenceContext) (t u : Ty) (s : IsSound sc c) (ft :
 
   -- the two are the same under each assignment from then on
   unified_closed : (after : State) → AreUnified c.table after t u → (a : Assignment) → Closes a (with_table c after) → folded a t ≡ folded a u
-  unified_closed after k a q = same_closed sc a t u q.closing ft.heads fu.heads (unified_same (is_fine_head sc) c.table after t u (fine_no_alias sc) s.bound ft.heads fu.heads k (terms_of a) q.meets)
+  unified_closed after k a q = same_closed sc a t u q.closing ft.heads fu.heads (unified_makes_same (is_fine_head sc) c.table after t u (fine_no_alias sc) s.bound ft.heads fu.heads k (terms_of a) q.meets)
 
   -- they are the same under none
   refused_closed : (after : State) → AreRefused c.table after t u → (a : Assignment) → Closes a c → folded a t ≡ folded a u → ⊥

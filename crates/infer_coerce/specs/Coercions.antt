@@ -38,9 +38,9 @@ pub record Waits (e : ExprId) (actual target : Ty) (old new : InferenceContext) 
   pub waits : new ≡ waiting_at old e actual target
 
 -- the answer is the type that was asked for, or the two types
-abbrev pub Answers : Result Coerced NotCoercible → Ty → Ty → Type 0
-Answers (Ok r) source target = r.ty ≡ target
-Answers (Err x) source target = (x.source ≡ source) × (x.target ≡ target)
+abbrev pub CoercionAnswers : Result Coerced NotCoercible → Ty → Ty → Type 0
+CoercionAnswers (Ok r) source target = r.ty ≡ target
+CoercionAnswers (Err x) source target = (x.source ≡ source) × (x.target ≡ target)
 
 -- The two types are the same from then on, or the expression waits; or they were refused.
 abbrev pub Comes : Result Coerced NotCoercible → Given → ExprId → Ty → Ty → InferenceContext → InferenceContext → Type 0
@@ -56,7 +56,7 @@ ComesUnder (Err x) e source target old new = (target ≡ source → ⊥) × (new
 pub record IsCoercion (answer : Result Coerced NotCoercible) (g : Given) (e : ExprId) (source target : Ty) (old new : InferenceContext) : Type 0 where
   pub follows : Follows g old new
   pub clock : new.clock ≡ old.clock
-  pub answers : Answers answer source target
+  pub answers : CoercionAnswers answer source target
   pub comes : Comes answer g e source target old new
   pub each : (a : Assignment) → Closes a new → ComesUnder answer e (folded a source) (folded a target) (found_under a old) (found_under a new)
 

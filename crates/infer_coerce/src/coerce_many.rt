@@ -1,5 +1,5 @@
 //! The common type of several expressions.
-ghost use Rattle.std.specs.Prelude.{◌≡◌, ◌<◌, IfOk, length, Option, Some, None};
+ghost use Rattle.std.specs.Prelude.{◌≡◌, ◌<◌, IfOk, length, Some, None};
 ghost use Rattle.hir_types.specs.Types.{unit};
 ghost use Rattle.infer_result.specs.Closed.{IsOfBody};
 ghost use Rattle.infer_ctx.specs.Context.{given_of, scope_in, expected_type};

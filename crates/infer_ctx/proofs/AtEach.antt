@@ -5,8 +5,8 @@ use Rattle.hir_types.specs.declared.ty.Ty.{Ty}
 use Rattle.hir_types.specs.declared.ids.ExprId.{ExprId}
 use Rattle.hir_facts.specs.declared.schedule.Schedule.{Schedule}
 use Rattle.hir_facts.specs.Scope.{Scope}
-use Rattle.infer_table.specs.UndoLaws.{grew_itself}
-use Rattle.infer_table.specs.HoleLaws.{grew_twice}
+use Rattle.infer_table.proofs.UndoLaws.{grew_itself}
+use Rattle.infer_table.proofs.HoleLaws.{grew_twice}
 use Rattle.infer_table.specs.Table.{State}
 use Rattle.infer_result.specs.Closed.{IsOfBody}
 use Rattle.infer_result.specs.Places.{Given}

@@ -3,7 +3,7 @@ use Rattle.std.proofs.Common.{ℕ, ◌≡◌, Some, slice_get, IsTrue}
 use Rattle.hir_facts.specs.declared.raw.RawExpr.{RawExpr}
 use Rattle.hir_facts.specs.declared.raw.RawBody.{RawBody}
 use Rattle.hir_facts.specs.Laws.Carried.{is_carried_expr, is_carried_body, is_carried_pat}
-use Rattle.hir_facts.specs.CarriedBodies.{carried_parts, list_all_at}
+use Rattle.hir_facts.proofs.CarriedBodies.{carried_parts, list_all_at}
 use Rattle.hir_facts.specs.declared.raw.RawPat.{RawPat}
 
 pub carried_expr : (b : RawBody) (e : ℕ) (x : RawExpr) → IsTrue (is_carried_body b) → slice_get b.exprs e ≡ Some x → IsTrue (is_carried_expr x)

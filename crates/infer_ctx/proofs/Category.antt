@@ -2,7 +2,8 @@
 use Rattle.std.proofs.Common.{inl, refl, arith, inr, ◌∙◌, slice_get, ◌⊎◌}
 use Rattle.hir_types.specs.declared.ids.ExprId.{ExprId}
 use Rattle.hir_facts.specs.declared.schedule.Schedule.{Schedule}
-use Rattle.infer_result.specs.Places.{Given, Demand}
+use Rattle.infer_result.specs.Places.{Given}
+use Rattle.infer_result.specs.Demands.{Demand}
 use Rattle.infer_result.specs.declared.result.TypeMismatch.{TypeMismatch}
 use Rattle.infer_ctx.specs.Found.{Found}
 use Rattle.infer_ctx.specs.Walks.{Walks, IsWalked, Debt, expr_start, pat_start}

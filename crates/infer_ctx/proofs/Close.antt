@@ -7,7 +7,7 @@ use Rattle.hir_facts.specs.declared.schedule.Schedule.{Schedule}
 use Rattle.hir_facts.specs.CarriedTypes.{IsCarriedType}
 use Rattle.infer_result.specs.Places.{Given}
 use Rattle.infer_result.specs.Table.{HasTy}
-use Rattle.infer_result.specs.Rules.Expressions.{ObeysOrMismatch}
+use Rattle.infer_result.specs.Rules.{ObeysOrMismatch}
 use Rattle.infer_ctx.specs.Found.{Found, entered, with_expr_ty}
 use Rattle.infer_ctx.specs.Walks.{pat_start, IsCarriedTable, IsWalked, IsFree, Extends, expr_start}
 use Rattle.infer_ctx.specs.Under.{ComesTo, IsInside, KindWalked, OwnWalked}

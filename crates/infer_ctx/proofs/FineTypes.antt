@@ -22,7 +22,7 @@ use Rattle.hir_facts.specs.Signatures.{type_args}
 use Rattle.infer_table.specs.Table.{State, HolesAreOf, Grew, hole_count, with_new_hole}
 use Rattle.infer_table.specs.Solutions.{AreOf}
 use Rattle.infer_table.specs.Preserved.{width, whole, rest, IsMadeOf, NoAlias}
-use Rattle.infer_table.specs.BindingLaws.{get_last}
+use Rattle.infer_table.proofs.BindingLaws.{get_last}
 use Rattle.infer_table.specs.LogLemmas.{are_of_hole, are_of_parts}
 use Rattle.infer_table.specs.declared.waiting.WaitingPair.{WaitingPair}
 use Rattle.infer_result.specs.declared.result.InferenceResult.{InferenceResult}

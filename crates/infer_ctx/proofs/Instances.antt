@@ -16,7 +16,7 @@ use Rattle.hir_facts.specs.Signatures.{type_args, at_args}
 use Rattle.hir_facts.specs.declared.raw.RawFacts.{RawFacts}
 use Rattle.hir_facts.specs.Scope.{Scope, has_params, adt_params}
 use Rattle.infer_table.specs.Table.{State}
-use Rattle.infer_ctx.specs.Fine.{item_params, HasFineHeads, IsFine, IsKnown}
+use Rattle.infer_ctx.specs.Fine.{item_params, HasFineHeads, IsFine, IsCarriedIn}
 use Rattle.infer_ctx.specs.Under.{own_scope}
 use Rattle.infer_ctx.proofs.FineTypes.{Every, AllFine, every_at, fine_bool, fine_char, fine_integer, fine_tuple, fine_adt, fine_fn_def}
 use Rattle.infer_ctx.proofs.OverTypes.{over_fine, carried_closed}
@@ -81,20 +81,20 @@ module _ (sc : Scope) (state : State) (facts : RawFacts) (same : facts ≡ sc.fa
 -- ---- what a function takes and gives
 
 -- what is known in a signature has no holes
-pub known_instance : (a : Assignment) (sc : Scope) (t : Ty) (ts : List Ty) → IsKnown sc t → folded a (at_args ts t) ≡ at_args (map (folded a) ts) t
+pub known_instance : (a : Assignment) (sc : Scope) (t : Ty) (ts : List Ty) → IsCarriedIn sc t → folded a (at_args ts t) ≡ at_args (map (folded a) ts) t
 known_instance a sc t ts h = instance_at_types a ts t (λ b. carried_closed b t h.carried)
 
 module _ (sc : Scope) (state : State) (n : ℕ) (ts : List Ty) (count : length ts ≡ n) (fine : AllFine sc state ts) where
-  pub fine_instance : (t : Ty) → IsKnown (own_scope sc.facts n) t → IsFine sc state (at_args ts t)
+  pub fine_instance : (t : Ty) → IsCarriedIn (own_scope sc.facts n) t → IsFine sc state (at_args ts t)
   fine_instance t h =
       let own : HasFineHeads (record { facts = sc.facts; params = length ts }) t = subst (λ m. HasFineHeads (record { facts = sc.facts; params = m }) t) (sym count) h.heads in
       fine_at_args sc state sc.facts refl ts fine t own h.carried
 
-  pub fine_instances : (us : List Ty) → ((k : ℕ) (t : Ty) → slice_get us k ≡ Some t → IsKnown (own_scope sc.facts n) t) → AllFine sc state (map (at_args ts) us)
+  pub fine_instances : (us : List Ty) → ((k : ℕ) (t : Ty) → slice_get us k ≡ Some t → IsCarriedIn (own_scope sc.facts n) t) → AllFine sc state (map (at_args ts) us)
   fine_instances [] h = tt
   fine_instances (u ∷ us) h = (fine_instance u (h 0 u refl), fine_instances us (λ k v e. h (suc k) v e))
 
 -- what is taken under an assignment is what is taken at what the types come to
-pub instances_under : (a : Assignment) (sc : Scope) (ts us : List Ty) → ((k : ℕ) (t : Ty) → slice_get us k ≡ Some t → IsKnown sc t) → map (folded a) (map (at_args ts) us) ≡ map (at_args (map (folded a) ts)) us
+pub instances_under : (a : Assignment) (sc : Scope) (ts us : List Ty) → ((k : ℕ) (t : Ty) → slice_get us k ≡ Some t → IsCarriedIn sc t) → map (folded a) (map (at_args ts) us) ≡ map (at_args (map (folded a) ts)) us
 instances_under a sc ts [] h = refl
 instances_under a sc ts (u ∷ us) h = λ i. known_instance a sc u ts (h 0 u refl) i ∷ instances_under a sc ts us (λ k v e. h (suc k) v e) i

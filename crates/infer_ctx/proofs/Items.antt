@@ -20,14 +20,14 @@ use Rattle.hir_facts.specs.CarriedTypes.{is_carried_arg, AreCarriedArgs, carried
 use Rattle.hir_facts.specs.Types.{written_type}
 use Rattle.hir_facts.specs.declared.raw.RawAdt.{RawAdt}
 use Rattle.hir_facts.specs.declared.raw.RawField.{RawField}
-use Rattle.hir_facts.specs.Items.{variant_adt, variant_ctor}
+use Rattle.hir_facts.proofs.Items.{variant_adt, variant_ctor}
 use Rattle.hir_facts.specs.Laws.Ids.{IsModuleFn}
 use Rattle.hir_facts.specs.Laws.Lawful.{IsLawful}
 use Rattle.hir_facts.specs.WrittenFits.{inputs_fit, output_fits, fields_fit}
 use Rattle.hir_facts.specs.NoHoles.{input_has_no_hole, output_has_no_hole, field_has_no_hole}
 use Rattle.hir_facts.specs.declared.raw.RawCtor.TheVariants as ctor
 use Rattle.infer_result.specs.Places.{Given}
-use Rattle.infer_ctx.specs.Fine.{HasFineHeads, IsKnown, IsWritten}
+use Rattle.infer_ctx.specs.Fine.{HasFineHeads, IsCarriedIn, IsWritten}
 use Rattle.infer_ctx.specs.Under.{own_scope, IsItem, IsVariant}
 use Rattle.infer_ctx.proofs.FineTypes.{Every, heads_param, heads_adt}
 use Rattle.infer_ctx.proofs.Written.{is_written}
@@ -110,7 +110,7 @@ params_heads sc i (suc n) h =
     let rest : suc i + n ≤ sc.params = omega (arith, h) in
     (heads_param sc i (lt-ltb i sc.params here), params_heads sc (suc i) n rest)
 
-own_adt_known : (raw : RawFacts) (a : AdtId) (n : ℕ) → adt_params raw a ≡ Some n → IsKnown (own_scope raw n) (own_adt a n)
+own_adt_known : (raw : RawFacts) (a : AdtId) (n : ℕ) → adt_params raw a ≡ Some n → IsCarriedIn (own_scope raw n) (own_adt a n)
 own_adt_known raw a n count =
     let us : List Ty = params_from 0 n in
     let takes : has_params (adt_params raw a) (length us) ≡ true = ap (λ o. has_params o (length us)) count ∙ eq-eqb n (length us) (sym (params_length 0 n)) in
@@ -120,12 +120,12 @@ own_adt_known raw a n count =
     }
 
 -- ---- what signatures are written with
-known : (raw : RawFacts) (n : ℕ) (w : TypeRefId) → IsWritten (own_scope raw n) w → IsKnown (own_scope raw n) (written_type raw.types w)
+known : (raw : RawFacts) (n : ℕ) (w : TypeRefId) → IsWritten (own_scope raw n) w → IsCarriedIn (own_scope raw n) (written_type raw.types w)
 known raw n w h = record { carried = h.carried; heads = h.heads }
 
-all_known : (raw : RawFacts) (n : ℕ) (ws : List TypeRefId) → ((k : ℕ) (w : TypeRefId) → slice_get ws k ≡ Some w → IsWritten (own_scope raw n) w) → (k : ℕ) (t : Ty) → slice_get (map (written_type raw.types) ws) k ≡ Some t → IsKnown (own_scope raw n) t
+all_known : (raw : RawFacts) (n : ℕ) (ws : List TypeRefId) → ((k : ℕ) (w : TypeRefId) → slice_get ws k ≡ Some w → IsWritten (own_scope raw n) w) → (k : ℕ) (t : Ty) → slice_get (map (written_type raw.types) ws) k ≡ Some t → IsCarriedIn (own_scope raw n) t
 all_known raw n [] h k t is = absurd (cc)
-all_known raw n (w ∷ ws) h zero t is = (let same : written_type raw.types w ≡ t = cc in subst (λ u. IsKnown (own_scope raw n) u) same (known raw n w (h 0 w refl)))
+all_known raw n (w ∷ ws) h zero t is = (let same : written_type raw.types w ≡ t = cc in subst (λ u. IsCarriedIn (own_scope raw n) u) same (known raw n w (h 0 w refl)))
 all_known raw n (w ∷ ws) h (suc k) t is = all_known raw n ws (λ j v e. h (suc j) v e) k t is
 
 module _ (raw : RawFacts) (law : IsLawful raw) where
@@ -142,12 +142,12 @@ module _ (raw : RawFacts) (law : IsLawful raw) where
   pub named_function : (f : FunctionId) → IsModuleFn raw f → IsItem raw (callable.FunctionId f)
   named_function f (x, found, stands) = function_item f x found
 
-  fields_known : (v : VariantId) (x : RawVariant) (a : RawAdt) → slice_get raw.variants v.0 ≡ Some x → slice_get raw.adts x.adt.0 ≡ Some a → (k : ℕ) (t : Ty) → slice_get (field_types raw.types x) k ≡ Some t → IsKnown (own_scope raw (length a.params)) t
+  fields_known : (v : VariantId) (x : RawVariant) (a : RawAdt) → slice_get raw.variants v.0 ≡ Some x → slice_get raw.adts x.adt.0 ≡ Some a → (k : ℕ) (t : Ty) → slice_get (field_types raw.types x) k ≡ Some t → IsCarriedIn (own_scope raw (length a.params)) t
   fields_known v x a found adt k t is = among x.fields (λ j f e. is_written raw law (length a.params) f.ty (fields_fit raw law v.0 x a found adt j f e) (field_has_no_hole raw law v.0 x found j f e)) k is
     where
-      among : (fs : List RawField) → ((j : ℕ) (f : RawField) → slice_get fs j ≡ Some f → IsWritten (own_scope raw (length a.params)) f.ty) → (i : ℕ) → slice_get (map (λ f. written_type raw.types f.ty) fs) i ≡ Some t → IsKnown (own_scope raw (length a.params)) t
+      among : (fs : List RawField) → ((j : ℕ) (f : RawField) → slice_get fs j ≡ Some f → IsWritten (own_scope raw (length a.params)) f.ty) → (i : ℕ) → slice_get (map (λ f. written_type raw.types f.ty) fs) i ≡ Some t → IsCarriedIn (own_scope raw (length a.params)) t
       among [] h i e = absurd (cc)
-      among (f ∷ fs) h zero e = (let same : written_type raw.types f.ty ≡ t = cc in subst (λ u. IsKnown (own_scope raw (length a.params)) u) same (known raw (length a.params) f.ty (h 0 f refl)))
+      among (f ∷ fs) h zero e = (let same : written_type raw.types f.ty ≡ t = cc in subst (λ u. IsCarriedIn (own_scope raw (length a.params)) u) same (known raw (length a.params) f.ty (h 0 f refl)))
       among (f ∷ fs) h (suc i) e = among fs (λ j y q. h (suc j) y q) i e
 
   -- a variant whose constructor is named

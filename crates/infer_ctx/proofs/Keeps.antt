@@ -21,20 +21,26 @@ use Rattle.hir_facts.specs.declared.raw.RawPath.TheVariants as path
 use Rattle.hir_facts.specs.declared.raw.RawPat.TheVariants as pat
 use Rattle.infer_result.specs.declared.result.InferenceResult.{InferenceResult}
 use Rattle.infer_result.specs.Table.{PlaceholderTy, HasMismatch, AnyMismatch, WasSeen, mismatch, At, HasTy}
-use Rattle.infer_result.specs.Places.{hole_type, Given, declared, AreRecorded, fields_at, IsCallee, IsInputAt, IsAt, IsAtOrMismatch, MisfitsAs, PatIsAtOrMismatch, GivesPart, Gives, Incoming, AsksOfAlternative, AsksOf, Asks, IsAsked, Demand}
+use Rattle.infer_result.specs.Places.{hole_type, Given, declared, AreRecorded, IsAt, IsAtOrMismatch, MisfitsAs, PatIsAtOrMismatch}
+use Rattle.infer_result.specs.Kinds.Constructor.{fields_at}
+use Rattle.infer_result.specs.Kinds.Call.{IsCallee, IsInputAt, ArgsRule}
+use Rattle.infer_result.specs.Incoming.{GivesPart, Gives, Incoming}
+use Rattle.infer_result.specs.Kinds.Alternative.{AsksOfAlternative}
+use Rattle.infer_result.specs.Demands.{AsksOf, Asks, IsAsked, Demand}
 use Rattle.infer_result.specs.declared.result.TypeMismatch.{TypeMismatch}
 use Rattle.infer_result.specs.declared.result.Seen.{Seen}
 use Rattle.infer_result.specs.declared.diagnostics.InferenceDiagnostic.{InferenceDiagnostic}
-use Rattle.infer_result.specs.Rules.Placing.{at_or_mismatch}
-use Rattle.infer_result.specs.Rules.Tuples.{AllAt}
-use Rattle.infer_result.specs.Rules.Calls.{ArgsRule}
-use Rattle.infer_result.specs.Rules.Blocks.{LetRule, StmtRule, StmtsRule, TailRule}
-use Rattle.infer_result.specs.Rules.Branches.{branches_of, ElseRule, arm_exprs, ArmPatterns, GuardRule, ArmsRule}
-use Rattle.infer_result.specs.Rules.Expressions.{Rule, ObeysOrMismatch}
-use Rattle.infer_result.specs.Rules.Patterns.{AllPatsAt, PatsAtFields, PatRule}
+use Rattle.infer_result.specs.Placing.{at_or_mismatch}
+use Rattle.infer_result.specs.Kinds.Tuple.{AllAt}
+use Rattle.infer_result.specs.Kinds.Block.{LetRule, StmtRule, StmtsRule, TailRule}
+use Rattle.infer_result.specs.Kinds.If.{branches_of, ElseRule}
+use Rattle.infer_result.specs.Kinds.Match.{arm_exprs, ArmPatterns, GuardRule, ArmsRule}
+use Rattle.infer_result.specs.Rules.{Rule, ObeysOrMismatch, PatRule}
+use Rattle.infer_result.specs.Pats.Tuple.{AllPatsAt}
+use Rattle.infer_result.specs.Pats.Constructor.{PatsAtFields}
 use Rattle.infer_result.specs.Truth.Mismatch.{IsTruePatMismatch}
 use Rattle.infer_result.specs.Truth.Seen.{IsTrueSeen}
-use Rattle.infer_result.specs.Truth.Calls.{IsTrueDiagnostic}
+use Rattle.infer_result.specs.Truth.Diagnostics.{IsTrueDiagnostic}
 use Rattle.infer_result.specs.Made.{IsMisfit}
 use Rattle.infer_result.specs.declared.modes.BindingMode.TheVariants as mode
 use Rattle.infer_result.specs.declared.diagnostics.InferenceDiagnostic.TheVariants as diagnostic
@@ -195,15 +201,35 @@ module _ (g : Given) (a b : InferenceResult) (x : Extends a b) where
   rule_kept n (Some (expr.Path (path.Ctor v))) (t, h, k, r) = (t, x.exprs n t h, k, x.expr_variants n v r)
   rule_kept n (Some (expr.Path path.Other)) h = h
   rule_kept n (Some (expr.Tuple es)) (ts, h, k) = (ts, x.exprs n _ h, all_kept es ts k)
-  rule_kept n (Some (expr.Block label stmts last)) (h, (t, k, l)) = (stmts_kept stmts h, (t, x.exprs n t k, tail_kept n last t l))
-  rule_kept n (Some (expr.If c first other)) (h, (t, k, l)) =
-      (at_kept c ty.Bool h, (t, x.exprs n t k, (alternative_kept (branches_of n first other) first t l.0, else_kept n first other t l.1)))
-  rule_kept n (Some (expr.Match e arms)) ((u, h, i), (t, k, l)) =
-      ((u, x.exprs e u h, arm_patterns_kept arms u i), (t, x.exprs n t k, arms_kept (arm_exprs arms) arms t l))
-  rule_kept n (Some (expr.Call f args)) (inl (σ, ts, h, k, l)) = elim (args_kept n args (map (at_args ts) σ.inputs) k) [
-    | inl q ↦ inl (σ, ts, callee_kept f σ ts h, q, x.exprs n _ l)
-    | inr q ↦ inr (q, (at_args ts σ.output, x.exprs n _ l))
-  ]
+  rule_kept n (Some (expr.Block label stmts last)) h = record {
+    statements = stmts_kept stmts h.statements;
+    type = h.type;
+    has = x.exprs n h.type h.has;
+    ends = tail_kept n last h.type h.ends;
+  }
+  rule_kept n (Some (expr.If c first other)) h = record {
+    condition = at_kept c ty.Bool h.condition;
+    type = h.type;
+    has = x.exprs n h.type h.has;
+    branch = alternative_kept (branches_of n first other) first h.type h.branch;
+    otherwise = else_kept n first other h.type h.otherwise;
+  }
+  rule_kept n (Some (expr.Match e arms)) h = record {
+    scrutinee = h.scrutinee;
+    comes = x.exprs e h.scrutinee h.comes;
+    patterns = arm_patterns_kept arms h.scrutinee h.patterns;
+    type = h.type;
+    has = x.exprs n h.type h.has;
+    alternatives = arms_kept (arm_exprs arms) arms h.type h.alternatives;
+  }
+  rule_kept n (Some (expr.Call f args)) (inl h) =
+      let σ = h.signature in
+      let ts = h.types in
+      let has : HasTy b n (at_args ts σ.output) = x.exprs n _ h.has in
+      elim (args_kept n args (map (at_args ts) σ.inputs) h.arguments) [
+        | inl q ↦ inl (record { signature = σ; types = ts; is_callee = callee_kept f σ ts h.is_callee; arguments = q; has = has })
+        | inr q ↦ inr (q, (at_args ts σ.output, has))
+      ]
   rule_kept n (Some (expr.Call f args)) (inr (q, (t, l))) = inr (x.seen n q, (t, x.exprs n t l))
   rule_kept n (Some expr.Other) h = h
 

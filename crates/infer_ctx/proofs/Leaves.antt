@@ -9,10 +9,10 @@ use Rattle.hir_facts.specs.declared.raw.RawLiteral.{RawLiteral}
 use Rattle.hir_facts.specs.declared.raw.RawExpr.TheVariants as expr
 use Rattle.infer_result.specs.declared.result.InferenceResult.{InferenceResult}
 use Rattle.infer_result.specs.Places.{Given}
-use Rattle.infer_result.specs.Rules.Placing.{at_or_mismatch}
-use Rattle.infer_result.specs.Rules.Expressions.{Rule, ObeysOrMismatch}
+use Rattle.infer_result.specs.Placing.{at_or_mismatch}
+use Rattle.infer_result.specs.Rules.{Rule, ObeysOrMismatch}
 use Rattle.infer_result.specs.Table.{HasTy}
-use Rattle.infer_result.specs.Rules.Literals.{IsLiteralType}
+use Rattle.infer_result.specs.Kinds.Literal.{IsLiteralType}
 use Rattle.infer_ctx.specs.Found.{Found}
 use Rattle.infer_ctx.specs.Walks.{Extends, PaidBy, expr_end}
 use Rattle.infer_ctx.specs.Under.{IsInside, KindWalked}

@@ -9,7 +9,7 @@ use Rattle.hir_types.specs.TermLaws.{type_parts}
 use Rattle.hir_types.specs.declared.head.Head.{Head}
 use Rattle.hir_types.specs.declared.head.Head.TheVariants as head
 use Rattle.infer_table.specs.Table.{State, HolesAreOf, Grew}
-use Rattle.infer_table.specs.BindingLaws.{get_left}
+use Rattle.infer_table.proofs.BindingLaws.{get_left}
 use Rattle.infer_table.specs.Solutions.{hole_kind, AreOf}
 use Rattle.infer_table.specs.LogLemmas.{are_of_leaf}
 

@@ -5,7 +5,8 @@ use Rattle.hir_facts.specs.declared.schedule.Schedule.{Schedule}
 use Rattle.hir_facts.specs.CarriedTypes.{IsCarriedType}
 use Rattle.infer_result.specs.declared.result.TypeMismatch.{TypeMismatch}
 use Rattle.infer_result.specs.Table.{HasMismatch, At}
-use Rattle.infer_result.specs.Places.{Given, Demand}
+use Rattle.infer_result.specs.Places.{Given}
+use Rattle.infer_result.specs.Demands.{Demand}
 use Rattle.infer_result.specs.Made.{IsMisfit}
 use Rattle.infer_ctx.specs.Found.{Found, with_mismatch}
 use Rattle.infer_ctx.specs.Walks.{Extends, IsWalked, Walks, Debt}

@@ -14,7 +14,7 @@ use Rattle.hir_facts.specs.declared.raw.RawPat.{RawPat}
 use Rattle.hir_facts.specs.declared.raw.RawExpr.{RawExpr}
 use Rattle.infer_result.specs.Places.{StandsAt, Given, IsAtOrMismatch}
 use Rattle.infer_result.specs.declared.result.InferenceResult.{InferenceResult}
-use Rattle.infer_result.specs.Rules.Tuples.{AllAt}
+use Rattle.infer_result.specs.Kinds.Tuple.{AllAt}
 use Rattle.infer_ctx.specs.Walks.{expr_start, pat_start, expr_end, IsWalked, pat_end}
 use Rattle.infer_ctx.specs.Under.{LieAhead, ComesTo, IsReady}
 use Rattle.infer_ctx.specs.Found.{Found}

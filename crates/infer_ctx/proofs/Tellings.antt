@@ -34,17 +34,19 @@ use Rattle.hir_facts.specs.declared.raw.RawBody.{RawBody}
 use Rattle.hir_facts.specs.declared.schedule.Schedule.{Schedule}
 use Rattle.hir_facts.specs.Bodies.{IsWalkable}
 use Rattle.hir_facts.specs.Filled.{filled_written}
-use Rattle.hir_facts.specs.Ways.{one_place}
+use Rattle.hir_facts.proofs.Ways.{one_place}
 use Rattle.hir_facts.specs.declared.raw.RawCtor.TheVariants as ctor
 use Rattle.hir_facts.specs.declared.raw.RawPath.TheVariants as path
 use Rattle.hir_facts.specs.declared.raw.RawExpr.TheVariants as expr
 use Rattle.hir_facts.specs.declared.raw.RawPat.TheVariants as pat
-use Rattle.infer_result.specs.Places.{Given, IsInput, StandsAt}
-use Rattle.infer_result.specs.Heads.{tuple, outermost_step, HasHead, other, Outermost, HeadOf, CallsItem, of_up, of_tuple, of_function, of_ctor, of_output, of_written as head_of_written, of_initializer as head_of_initializer, of_parameter as head_of_parameter, filled_head}
-use Rattle.infer_result.specs.Upward.{NamesLet, NamesParameter, Up, NamesUnit, CallsNonGeneric, of_literal, of_written, of_initializer, of_parameter, of_call, of_unit}
-use Rattle.infer_result.specs.Rules.Literals.{IsOwnType}
-use Rattle.infer_result.specs.Derived.{ctor_type_of_unit}
-use Rattle.infer_result.specs.Truth.Seen.{IsPathToItem}
+use Rattle.infer_result.specs.Places.{Given, StandsAt}
+use Rattle.infer_result.specs.Incoming.{IsInput}
+use Rattle.infer_result.specs.Heads.{tuple, outermost_step, HasHead, other, Outermost, HeadOf, of_up, of_tuple, of_function, of_ctor, of_output, of_written as head_of_written, of_initializer as head_of_initializer, of_parameter as head_of_parameter, filled_head}
+use Rattle.infer_result.specs.Kinds.Call.{CallsItem, CallsNonGeneric, IsPathToItem}
+use Rattle.infer_result.specs.Kinds.Path.{NamesLet, NamesParameter, NamesUnit}
+use Rattle.infer_result.specs.Upward.{Up, of_literal, of_written, of_initializer, of_parameter, of_call, of_unit}
+use Rattle.infer_result.specs.Kinds.Literal.{IsOwnType}
+use Rattle.infer_result.proofs.Derived.{ctor_type_of_unit}
 use Rattle.infer_ctx.specs.Tells.{Tells, TellsBinding, TellsLet, TellsBound}
 use Rattle.infer_ctx.proofs.TellingsKept.{replaced_head}
 

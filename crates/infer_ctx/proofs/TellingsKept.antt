@@ -39,9 +39,10 @@ use Rattle.hir_facts.specs.Bodies.{inputs_of}
 use Rattle.hir_facts.specs.declared.raw.RawLiteral.TheVariants as literal
 use Rattle.hir_facts.specs.declared.raw.RawCtor.TheVariants as ctor
 use Rattle.infer_result.specs.Heads.{Outermost, tuple, outermost_step, HasHead}
-use Rattle.infer_result.specs.Rules.Literals.{IsOwnType}
+use Rattle.infer_result.specs.Kinds.Literal.{IsOwnType}
 use Rattle.infer_result.specs.Places.{Given}
-use Rattle.infer_result.specs.Upward.{CallsNonGeneric, Up, of_literal, of_written, of_initializer, of_parameter, of_call, of_unit}
+use Rattle.infer_result.specs.Kinds.Call.{CallsNonGeneric}
+use Rattle.infer_result.specs.Upward.{Up, of_literal, of_written, of_initializer, of_parameter, of_call, of_unit}
 use Rattle.infer_ctx.specs.Tells.{Tells}
 
 -- ---- heads stay where holes and parameters are replaced

@@ -11,7 +11,7 @@ use Rattle.hir_facts.specs.declared.raw.RawLiteral.{RawLiteral}
 use Rattle.hir_facts.specs.declared.raw.RawLiteral.TheVariants as literal
 use Rattle.infer_result.specs.declared.result.InferenceResult.{InferenceResult}
 use Rattle.infer_result.specs.Closed.{AllTypes, IsClosedTable}
-use Rattle.infer_result.specs.Rules.Literals.{IsLiteralType}
+use Rattle.infer_result.specs.Kinds.Literal.{IsLiteralType}
 use Rattle.infer_result.specs.Places.{hole_type, Given, declared}
 use Rattle.infer_ctx.specs.Walks.{IsCarriedTable}
 use mathlib.Core.Bool.{true≢false}

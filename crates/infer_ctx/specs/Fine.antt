@@ -46,7 +46,7 @@ IsFineExpectation sc state None = Unit {0}
 IsFineExpectation sc state (Some t) = IsFine sc state t
 
 -- the type is of carried kinds without `{unknown}`, and in scope
-pub record IsKnown (sc : Scope) (t : Ty) : Type 0 where
+pub record IsCarriedIn (sc : Scope) (t : Ty) : Type 0 where
   pub carried : IsCarriedType t
   pub heads : HasFineHeads sc t
 

@@ -26,8 +26,8 @@ use Rattle.infer_result.specs.Closed.{NamesVariant, IsVariantPat}
 use Rattle.infer_result.specs.Places.{Given, IsAtOrMismatch}
 use Rattle.infer_result.specs.Table.{HasTy}
 use Rattle.infer_result.specs.declared.result.InferenceResult.{InferenceResult}
-use Rattle.infer_result.specs.Rules.Expressions.{ObeysOrMismatch}
-use Rattle.infer_ctx.specs.Fine.{IsKnown, IsWritten}
+use Rattle.infer_result.specs.Rules.{ObeysOrMismatch}
+use Rattle.infer_ctx.specs.Fine.{IsCarriedIn, IsWritten}
 use Rattle.infer_ctx.specs.Found.{Found}
 use Rattle.infer_ctx.specs.Context.{IsCarriedExpectation}
 use Rattle.infer_ctx.specs.Walks.{IsWalked, expr_start, Walks, Owed, expr_end, Extends, PaidBy}
@@ -41,8 +41,8 @@ pub record IsItem (facts : RawFacts) (id : CallableDefId) : Type 0 where
   pub signature : Signature
   pub found : signature_of facts id ≡ Some signature
   pub count : callable_params facts id ≡ Some signature.params
-  pub inputs : (k : ℕ) (t : Ty) → slice_get signature.inputs k ≡ Some t → IsKnown (own_scope facts signature.params) t
-  pub output : IsKnown (own_scope facts signature.params) signature.output
+  pub inputs : (k : ℕ) (t : Ty) → slice_get signature.inputs k ≡ Some t → IsCarriedIn (own_scope facts signature.params) t
+  pub output : IsCarriedIn (own_scope facts signature.params) signature.output
 
 -- the variant exists, its fields have no names, and what they are written with is in its adt's scope
 pub record IsVariant (facts : RawFacts) (v : VariantId) : Type 0 where
@@ -50,7 +50,7 @@ pub record IsVariant (facts : RawFacts) (v : VariantId) : Type 0 where
   pub found : slice_get facts.variants v.0 ≡ Some variant
   pub params : ℕ
   pub count : adt_params facts variant.adt ≡ Some params
-  pub fields : (k : ℕ) (t : Ty) → slice_get (field_types facts.types variant) k ≡ Some t → IsKnown (own_scope facts params) t
+  pub fields : (k : ℕ) (t : Ty) → slice_get (field_types facts.types variant) k ≡ Some t → IsCarriedIn (own_scope facts params) t
   pub unnamed : (variant.ctor ≡ ctor.Unit) ⊎ (variant.ctor ≡ ctor.Tuple)
 
 -- each type that a `let` of the body or a parameter is written with is one of the facts', each function and constructor that is

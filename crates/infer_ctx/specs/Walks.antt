@@ -19,11 +19,12 @@ use Rattle.infer_result.specs.declared.diagnostics.InferenceDiagnostic.{Inferenc
 use Rattle.infer_result.specs.Table.{At, HasTy, PatTy, BindingTy, PlaceholderTy, HasMode, ExprVariant, PatVariant, WasSeen}
 use Rattle.infer_result.specs.Closed.{AllTypes, IsOfBody, OnlyBindersHaveModes}
 use Rattle.infer_result.specs.declared.result.Seen.{Seen}
-use Rattle.infer_result.specs.Places.{Given, HasPlaceholders, Demand}
-use Rattle.infer_result.specs.Truth.Seen.{IsTrueSeen, IsSaid}
-use Rattle.infer_result.specs.Truth.Calls.{IsTrueDiagnostic, IsTruePatDiagnostic}
-use Rattle.infer_result.specs.Rules.Expressions.{ObeysOrMismatch}
-use Rattle.infer_result.specs.Rules.Patterns.{PatRule}
+use Rattle.infer_result.specs.Places.{Given, HasPlaceholders}
+use Rattle.infer_result.specs.Demands.{Demand}
+use Rattle.infer_result.specs.Truth.Seen.{IsTrueSeen}
+use Rattle.infer_result.specs.Kinds.Call.{IsSaid}
+use Rattle.infer_result.specs.Truth.Diagnostics.{IsTrueDiagnostic, IsTruePatDiagnostic}
+use Rattle.infer_result.specs.Rules.{ObeysOrMismatch, PatRule}
 use Rattle.infer_result.specs.Truth.Mismatch.{IsTruePatMismatch}
 use Rattle.infer_result.specs.Made.{IsMisfit}
 use Rattle.infer_ctx.specs.Found.{Found, RecordsVariants}

@@ -21,28 +21,16 @@ use Rattle.infer_result.specs.declared.diagnostics.InferenceDiagnostic.{Inferenc
 -- the variant whose constructor is named
 abbrev pub path_variant : RawPath → Option VariantId
 path_variant (path.Ctor v) = Some v
-path_variant (path.Local v) = None
-path_variant (path.Function f) = None
-path_variant path.Other = None
+path_variant _ = None
 
 abbrev pub expr_variant : RawExpr → Option VariantId
 expr_variant (expr.Path p) = path_variant p
-expr_variant (expr.Lit l) = None
-expr_variant (expr.Block label stmts last) = None
-expr_variant (expr.Tuple es) = None
-expr_variant (expr.If c first other) = None
-expr_variant (expr.Match e arms) = None
-expr_variant (expr.Call f args) = None
-expr_variant expr.Other = None
+expr_variant _ = None
 
 abbrev pub pat_variant : RawPat → Option VariantId
 pat_variant (pat.TupleStruct v ps) = Some v
 pat_variant (pat.Path p) = path_variant p
-pat_variant pat.Wild = None
-pat_variant (pat.Bind v sub) = None
-pat_variant (pat.Tuple ps) = None
-pat_variant (pat.Lit e) = None
-pat_variant pat.Other = None
+pat_variant _ = None
 
 -- what is noted at n, where nothing is there yet: the first one stays
 abbrev pub noted_where : {A : Type 0} → Option (Option A) → List (Option A) → ℕ → A → List (Option A)

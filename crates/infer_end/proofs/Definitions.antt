@@ -16,7 +16,7 @@ use Rattle.hir_facts.specs.Scope.{params_of, scope_of}
 use Rattle.hir_facts.specs.NoHoles.{definition_input_has_no_hole}
 use Rattle.hir_facts.specs.WrittenFits.{lets_fit, definition_inputs_fit}
 use Rattle.hir_facts.specs.LawfulFacts.{body_ids}
-use Rattle.hir_facts.specs.Walkable.{inputs_count}
+use Rattle.hir_facts.proofs.Walkable.{inputs_count}
 use Rattle.hir_facts.specs.Laws.Lawful.{IsLawful}
 use Rattle.hir_facts.specs.declared.schedule.Schedule.{Schedule}
 use Rattle.hir_facts.specs.declared.raw.RawPath.TheVariants as path
@@ -25,7 +25,7 @@ use Rattle.infer_result.specs.Closed.{IsVariantPat}
 use Rattle.infer_result.specs.declared.result.InferenceResult.{InferenceResult}
 use Rattle.infer_result.specs.Places.{Given}
 use Rattle.infer_result.specs.Made.{IsMade}
-use Rattle.infer_result.specs.Derived.{typed_by_schedule}
+use Rattle.infer_result.proofs.Derived.{typed_by_schedule}
 use Rattle.infer_result.specs.Fit.{TypesFit, SeenFit}
 use Rattle.infer_result.specs.Typed.{IsTableOf}
 use Rattle.infer_ctx.specs.Under.{WrittenExist}

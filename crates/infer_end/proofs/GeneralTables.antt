@@ -31,10 +31,10 @@ use Rattle.infer_result.specs.General.{types_under, IsGeneralType, AreGeneralTyp
 use Rattle.infer_result.specs.declared.result.TypeMismatch.{TypeMismatch}
 use Rattle.infer_result.specs.declared.result.Seen.{Seen}
 use Rattle.infer_result.specs.Derivation.{HasNoComplaint, IsDerivation}
-use Rattle.infer_result.specs.DerivationLaws.{derivation_of}
+use Rattle.infer_result.proofs.DerivationLaws.{derivation_of}
 use Rattle.infer_result.specs.Fallback.{fallback}
 use Rattle.infer_result.specs.Typed.{IsTableOf}
-use Rattle.infer_result.specs.Derived.{typed_by_schedule}
+use Rattle.infer_result.proofs.Derived.{typed_by_schedule}
 use Rattle.infer_ctx.specs.Said.{said}
 use Rattle.infer_ctx.specs.Walks.{Extends}
 use Rattle.infer_ctx.specs.Closings.{closed_types, closed_mismatch, closed_mismatches, same_types, unless_same, asked_or_noted, entry_of, Closes, AskedIsDecided, closed_table}
@@ -45,7 +45,7 @@ use Rattle.infer_ctx.proofs.Keeps.{at_kept, pat_at_kept, obeys_kept, pat_kept, m
 use Rattle.infer_ctx.proofs.Lists.{found}
 use Rattle.infer_ctx.proofs.Closed.{At-unclosed, closed_at, asked_unlike, length-closed_mismatches, At-closed, length-closed}
 use Rattle.infer_coerce.proofs.Unified.{completion_closes}
-use Rattle.infer_end.specs.Generals.{AreResolved, IsResolved, KeepsGeneral, IsFull, HasAllTypes}
+use Rattle.infer_end.specs.Generals.{AreResolved, HoldsResolved, KeepsGeneral, IsFull, HasAllTypes}
 use Rattle.infer_end.proofs.Definitions.{found_body, table_of}
 use Rattle.infer_end.proofs.Fits.{completed_table_fits, fine_fits, seen_fits}
 use Rattle.infer_end.proofs.GeneralTypes.{fine_general, fine_known, chosen, chosen_heads, chosen_closes, known_heads}
@@ -87,10 +87,13 @@ module _ (r : InferenceResult) (o : Option General) where
 
   made_other : (g : Given) → IsMade g r → IsMade g other
   made_other g m = record {
-    of_body = record { exprs = m.of_body.exprs; pats = m.of_body.pats; bindings = m.of_body.bindings; modes = m.of_body.modes; mismatches = m.of_body.mismatches; diagnostics = m.of_body.diagnostics; pat_mismatches = m.of_body.pat_mismatches; pat_diagnostics = m.of_body.pat_diagnostics; expr_variants = m.of_body.expr_variants; pat_variants = m.of_body.pat_variants };
-    closed = all_types_other _ m.closed;
-    modes = m.modes;
-    placeholders = record { count = m.placeholders.count; only = m.placeholders.only };
+    shape = record {
+      of_body = assumption (m.shape.of_body);
+      closed = all_types_other _ m.shape.closed;
+      modes = m.shape.modes;
+      placeholders = record { count = m.shape.placeholders.count; only = m.shape.placeholders.only };
+      variants = record { exprs = m.shape.variants.exprs; pats = m.shape.variants.pats };
+    };
     clauses = λ e i. obeys_kept g r other other_extends e (m.clauses e i);
     kinds = λ p i. pat_kept g r other other_extends p (slice_get g.body.pats p.0) (m.kinds p i);
     params = λ i p s at is. pat_at_kept g r other other_extends p s (m.params i p s at is);
@@ -98,12 +101,13 @@ module _ (r : InferenceResult) (o : Option General) where
     body_clause = at_kept g r other other_extends g.body.root g.output m.body_clause;
     misfits = λ e x at. misfit_kept g r other other_extends e x (m.misfits e x at);
     demands = λ e x at. demand_kept g r other other_extends e x.expected (m.demands e x at);
-    diagnostics = λ e x at. diagnostic_kept g r other other_extends e x (m.diagnostics e x at);
-    pat_diagnostics = m.pat_diagnostics;
-    variants = record { exprs = m.variants.exprs; pats = m.variants.pats };
-    pat_truths = λ p x at. pat_truth_kept g r other other_extends p x (m.pat_truths p x at);
-    seen = λ i x at. true_seen_kept g r other other_extends x (m.seen i x at);
-    said = m.said;
+    complaints = record {
+      diagnostics = λ e x at. diagnostic_kept g r other other_extends e x (m.complaints.diagnostics e x at);
+      pat_diagnostics = m.complaints.pat_diagnostics;
+      pat_truths = λ p x at. pat_truth_kept g r other other_extends p x (m.complaints.pat_truths p x at);
+      seen = λ i x at. true_seen_kept g r other other_extends x (m.complaints.seen i x at);
+      said = m.complaints.said;
+    };
   }
 
 all_types_so : (P Q : Ty → Type 0) (r : InferenceResult) → ((t : Ty) → P t → Q t) → AllTypes P r → AllTypes Q r
@@ -236,7 +240,7 @@ module _ (raw : RawFacts) (d : DefWithBodyId) (i : BodyId) (b : RawBody) (s : Sc
 
     -- ---- of a plain body
 
-    module _ (acyclic : Triangular (log_of (bindings c.table))) (plain : IsPlainBodyOf raw d) (x : General) (resolved : IsResolved c.table c.result x) where
+    module _ (acyclic : Triangular (log_of (bindings c.table))) (plain : IsPlainBodyOf raw d) (x : General) (resolved : HoldsResolved c.table c.result x) where
       abbrev table : InferenceResult
       table = closed_table (completion c.table) c.asked (result_with (Some x))
 
@@ -250,13 +254,13 @@ module _ (raw : RawFacts) (d : DefWithBodyId) (i : BodyId) (b : RawBody) (s : Sc
           by_entries : (xs : List Seen) → c.result.seen ≡ xs → xs ≡ []
           by_entries [] is = refl
           by_entries (y ∷ xs) is =
-              (let h = (done.made (completion c.table) completes).seen 0 y (ap (λ l. slice_get l 0) is) in
+              (let h = (done.made (completion c.table) completes).complaints.seen 0 y (ap (λ l. slice_get l 0) is) in
               absurd (h.no_item (calls_item raw (params_of raw d) b is_plain g refl refl h.call h.called h.args h.is_call)))
 
       no_placeholders : (a : Assignment) → HasNone (closed_types a c.result.type_of_placeholder)
       no_placeholders a n t there =
           (let q = At-unclosed (folded a) c.result.type_of_placeholder n t there in
-          no_placeholder raw (params_of raw d) b is_plain g n refl refl ((done.made (completion c.table) completes).placeholders.only n _ (At-closed (folded (completion c.table)) c.result.type_of_placeholder n q.0 q.1)))
+          no_placeholder raw (params_of raw d) b is_plain g n refl refl ((done.made (completion c.table) completes).shape.placeholders.only n _ (At-closed (folded (completion c.table)) c.result.type_of_placeholder n q.0 q.1)))
 
       said_nothing : (a : Assignment) → said a c.result.seen c.result.expr_diagnostics ≡ c.result.expr_diagnostics
       said_nothing a = ap (λ l. said a l c.result.expr_diagnostics) nothing_seen
@@ -343,7 +347,7 @@ module _ (raw : RawFacts) (d : DefWithBodyId) (i : BodyId) (b : RawBody) (s : Sc
 
       pub general_types : IsGeneralOf raw d table x
       general_types =
-          let of_body = (done.made (completion c.table) completes).of_body in
+          let of_body = (done.made (completion c.table) completes).shape.of_body in
           let count : (ts : List (Option Ty)) (us : List Ty) (n : ℕ) → AreResolved c.table ts us → length (closed_types (completion c.table) ts) ≡ n → length us ≡ n = λ ts us n e k. resolved_count c.table ts us e ∙ (sym (length-closed (folded (completion c.table)) ts) ∙ k) in
           record {
             body = b;
@@ -394,7 +398,7 @@ has_all_types g s c law done =
     let r : InferenceResult = closed_table a c.asked c.result in
     let h = typed_by_schedule g r s law.schedule (done.made a done.sound.some.1) in
     record {
-      exprs = full_under a c.result.type_of_expr (length g.body.exprs) h.of_body.exprs (λ n within. h.total.exprs (record { 0 = n }) within);
-      pats = full_under a c.result.type_of_pat (length g.body.pats) h.of_body.pats (λ n within. h.total.pats (record { 0 = n }) within);
-      bindings = full_under a c.result.type_of_binding (length g.body.bindings) h.of_body.bindings (λ n within. h.total.bindings (record { 0 = n }) within);
+      exprs = full_under a c.result.type_of_expr (length g.body.exprs) h.shape.of_body.exprs (λ n within. h.total.exprs (record { 0 = n }) within);
+      pats = full_under a c.result.type_of_pat (length g.body.pats) h.shape.of_body.pats (λ n within. h.total.pats (record { 0 = n }) within);
+      bindings = full_under a c.result.type_of_binding (length g.body.bindings) h.shape.of_body.bindings (λ n within. h.total.bindings (record { 0 = n }) within);
     }

@@ -13,7 +13,7 @@ use Rattle.hir_facts.specs.CarriedTypes.{is_carried_type, IsCarriedType, carried
 use Rattle.hir_facts.specs.Scope.{Scope, has_params, adt_params}
 use Rattle.hir_facts.specs.Signatures.{type_args}
 use Rattle.hir_facts.specs.PlainTypes.{IsPlainIn, plain_bool, plain_char, plain_integer, plain_tuple, plain_adt, plain_param}
-use Rattle.infer_table.specs.CompletionLaws.{closing_meets, closing_respects as resolved_respects}
+use Rattle.infer_table.proofs.CompletionLaws.{closing_meets, closing_respects as resolved_respects}
 use Rattle.infer_table.specs.Resolution.{resolution}
 use Rattle.infer_table.specs.Solutions.{Triangular, log_of}
 use Rattle.infer_table.specs.Table.{bindings}

@@ -29,7 +29,7 @@ use Rattle.hir_facts.specs.declared.raw.RawStmt.TheVariants as stmt
 use Rattle.hir_facts.specs.declared.raw.RawPath.TheVariants as path
 use Rattle.hir_facts.specs.declared.raw.RawExpr.TheVariants as expr
 use Rattle.infer_result.specs.Places.{Given, IsPlaceholder}
-use Rattle.infer_result.specs.Truth.Seen.{IsPathToItem}
+use Rattle.infer_result.specs.Kinds.Call.{IsPathToItem}
 
 some_of : {A : Type 0} (P : A → Type 0) (o : Option A) → IsSomeAnd o P → (x : A) × (o ≡ Some x) × P x
 some_of P None h = absurd h

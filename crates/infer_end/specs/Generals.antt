@@ -24,7 +24,7 @@ pub record HasAllTypes (r : InferenceResult) : Type 0 where
 abbrev pub AreResolved : State → List (Option Ty) → List Ty → Type 0
 AreResolved state ts us = map Some us ≡ map (option_map (resolved_type state)) ts
 
-pub record IsResolved (state : State) (r : InferenceResult) (x : General) : Type 0 where
+pub record HoldsResolved (state : State) (r : InferenceResult) (x : General) : Type 0 where
   pub exprs : AreResolved state r.type_of_expr x.exprs
   pub pats : AreResolved state r.type_of_pat x.pats
   pub bindings : AreResolved state r.type_of_binding x.bindings
@@ -32,5 +32,5 @@ pub record IsResolved (state : State) (r : InferenceResult) (x : General) : Type
 -- these types are kept exactly where the body is plain, and nothing else is done
 abbrev pub KeepsGeneral : RawFacts → DefWithBodyId → InferenceContext → InferenceContext → Type 0
 KeepsGeneral raw d old new =
-    (IsPlainBodyOf raw d × ((x : General) × IsResolved old.table old.result x × (new ≡ with_general old (Some x))))
+    (IsPlainBodyOf raw d × ((x : General) × HoldsResolved old.table old.result x × (new ≡ with_general old (Some x))))
     ⊎ ((IsPlainBodyOf raw d → ⊥) × (new ≡ with_general old None))

@@ -1,6 +1,6 @@
 //! The types of a plain body before open holes fall back to anything.
 ghost use Rattle.std.specs.Prelude.{IfOk};
-ghost use Rattle.infer_end.specs.Generals.{IsFull, HasAllTypes, AreResolved, IsResolved, KeepsGeneral};
+ghost use Rattle.infer_end.specs.Generals.{IsFull, HasAllTypes, AreResolved, HoldsResolved, KeepsGeneral};
 
 use hir_facts::{DefWithBodyId, Facts, List, Ty, is_plain};
 use infer_ctx::InferenceContext;
@@ -28,7 +28,7 @@ fn resolve_each(
 /// The types of the body before open holes fall back. Each node has one by now.
 fn general(alloc: Global, context: &InferenceContext) -> Result<General, AllocError>
     requires { HasAllTypes context.now.result }
-    ensures { IfOk result (λ made. IsResolved context.now.table context.now.result made) }
+    ensures { IfOk result (λ made. HoldsResolved context.now.table context.now.result made) }
 {
     let (table, result) = (&context.table, &context.result);
     Ok(General {

@@ -8,7 +8,8 @@ use Rattle.hir_facts.specs.declared.schedule.Schedule.{Schedule}
 use Rattle.hir_facts.specs.Order.{the_body, root, expr_part, param_parts, Part, parameter, pat_part}
 use Rattle.hir_facts.specs.Types.{written_type}
 use Rattle.hir_facts.specs.CarriedTypes.{IsCarriedType}
-use Rattle.infer_result.specs.Places.{Given, IsInput, PatIsAtOrMismatch}
+use Rattle.infer_result.specs.Places.{Given, PatIsAtOrMismatch}
+use Rattle.infer_result.specs.Incoming.{IsInput}
 use Rattle.infer_ctx.specs.Found.{Found}
 use Rattle.infer_ctx.specs.Walks.{Walks, Nothing}
 use Rattle.infer_ctx.specs.Under.{LieAhead, IsReady}

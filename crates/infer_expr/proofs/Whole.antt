@@ -14,7 +14,8 @@ use Rattle.hir_facts.specs.declared.raw.RawType.{RawType}
 use Rattle.hir_facts.specs.Bodies.{IsWalkable}
 use Rattle.hir_facts.specs.CarriedTypes.{IsCarriedType}
 use Rattle.infer_result.specs.Table.{At}
-use Rattle.infer_result.specs.Places.{Given, Demand}
+use Rattle.infer_result.specs.Places.{Given}
+use Rattle.infer_result.specs.Demands.{Demand}
 use Rattle.infer_result.specs.declared.result.InferenceResult.{InferenceResult}
 use Rattle.infer_result.specs.declared.result.TypeMismatch.{TypeMismatch}
 use Rattle.infer_result.specs.Made.{IsMade, IsMisfit}
@@ -154,11 +155,13 @@ module _ (g : Given) (s : Schedule) (a : Assignment) (law : IsWalkable g.body s)
 
   pub body_made : IsMade g new.result
   body_made = record {
-    of_body = walked.state.of_body;
-    closed = table_closed new.result walked.state.carried;
-    modes = walked.state.modes;
-    pat_diagnostics = walked.state.pat_diagnostics;
-    variants = only_named g.body new.result walked.state.variants;
+    shape = record {
+      of_body = walked.state.of_body;
+      closed = table_closed new.result walked.state.carried;
+      modes = walked.state.modes;
+      placeholders = walked.state.placeholders;
+      variants = only_named g.body new.result walked.state.variants;
+    };
     clauses = λ e i.
         walked.made e i (inner_start g.body s (node.ExprId e) law.schedule i) (omega (arith, at_end, law.schedule.reached (inner (node.ExprId e)) i));
     kinds = λ p i.
@@ -172,9 +175,11 @@ module _ (g : Given) (s : Schedule) (a : Assignment) (law : IsWalkable g.body s)
     body_clause = d.placed.1;
     misfits = λ e m i. (misfit e m i).0;
     demands = λ e m i. (misfit e m i).1;
-    pat_truths = λ q m i. elim (walked.pat_truths q m i) [ inl o ↦ absurd (At-replicate (length g.body.pats) q.0 m o) | inr o ↦ o ];
-    diagnostics = walked.state.diagnostics;
-    placeholders = walked.state.placeholders;
-    seen = λ i y there. (walked.state.seen i y there).is_true;
-    said = λ i y there. (walked.state.seen i y there).is_said;
+    complaints = record {
+      diagnostics = walked.state.diagnostics;
+      pat_diagnostics = walked.state.pat_diagnostics;
+      pat_truths = λ q m i. elim (walked.pat_truths q m i) [ inl o ↦ absurd (At-replicate (length g.body.pats) q.0 m o) | inr o ↦ o ];
+      seen = λ i y there. (walked.state.seen i y there).is_true;
+      said = λ i y there. (walked.state.seen i y there).is_said;
+    };
   }

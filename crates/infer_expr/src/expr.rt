@@ -1,5 +1,5 @@
 //! The walk over expressions. Here alone calls go round in a cycle.
-ghost use Rattle.std.specs.Prelude.{◌≡◌, IfOk};
+ghost use Rattle.std.specs.Prelude.{IfOk};
 ghost use Rattle.infer_ctx.specs.Context.{given_of, schedule_of, expected_type};
 ghost use Rattle.infer_ctx.specs.Steps.{Before, OwnDone, CoerceDone};
 

@@ -1,5 +1,5 @@
 //! The kinds of expressions.
-ghost use Rattle.std.specs.Prelude.{◌≡◌, IfOk};
+ghost use Rattle.std.specs.Prelude.{IfOk};
 ghost use Rattle.infer_ctx.specs.Context.{given_of, schedule_of, expected_type};
 ghost use Rattle.infer_ctx.specs.Steps.{Within, KindDone};
 ghost use Rattle.infer_coerce.specs.Recursion.{InfersFrom};

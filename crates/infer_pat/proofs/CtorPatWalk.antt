@@ -8,9 +8,9 @@ use Rattle.hir_facts.specs.declared.raw.RawVariant.{RawVariant}
 use Rattle.hir_facts.specs.declared.schedule.Schedule.{Schedule}
 use Rattle.hir_facts.specs.CarriedTypes.{IsCarriedType, AreCarriedTypes}
 use Rattle.infer_result.specs.Table.{PatTy}
-use Rattle.infer_result.specs.Places.{Given, PatIsAtOrMismatch, IsVariantAt, adt_at, fields_at, IsCtorPath}
-use Rattle.infer_result.specs.Rules.Patterns.{PatsAtFields}
-use Rattle.infer_ctx.specs.Found.{entered}
+use Rattle.infer_result.specs.Places.{Given, PatIsAtOrMismatch}
+use Rattle.infer_result.specs.Kinds.Constructor.{IsVariantAt, adt_at, fields_at, IsCtorPath}
+use Rattle.infer_result.specs.Pats.Constructor.{PatsAtFields}
 use Rattle.infer_ctx.specs.Under.{IsVariant, own_scope}
 use Rattle.infer_ctx.proofs.Keeps.{pat_at_kept}
 use Rattle.infer_ctx.proofs.Lists.{lt_or_ge}
@@ -26,9 +26,9 @@ use Rattle.hir_facts.specs.declared.raw.RawField.{RawField}
 use Rattle.hir_facts.specs.Signatures.{field_types, type_args, at_args}
 use Rattle.hir_facts.specs.Types.{written_type}
 use Rattle.hir_facts.specs.declared.raw.RawPath.{RawPath}
-use Rattle.hir_facts.specs.CarriedBodies.{ctor_pattern}
-use Rattle.infer_table.specs.UndoLaws.{grew_itself}
-use Rattle.infer_table.specs.HoleLaws.{grew_twice}
+use Rattle.hir_facts.proofs.CarriedBodies.{ctor_pattern}
+use Rattle.infer_table.proofs.UndoLaws.{grew_itself}
+use Rattle.infer_table.proofs.HoleLaws.{grew_twice}
 use Rattle.infer_table.specs.Table.{Grew}
 use Rattle.infer_result.specs.Closed.{IsOfBody}
 use Rattle.infer_result.specs.Truth.Mismatch.{SaysItsType}

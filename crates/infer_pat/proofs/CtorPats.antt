@@ -7,10 +7,11 @@ use Rattle.hir_facts.specs.declared.raw.RawVariant.{RawVariant}
 use Rattle.hir_facts.specs.declared.schedule.Schedule.{Schedule}
 use Rattle.infer_result.specs.declared.diagnostics.InferenceDiagnostic.{InferenceDiagnostic}
 use Rattle.infer_result.specs.Table.{HasPatDiagnostic}
-use Rattle.infer_result.specs.Places.{Given, PatIsAtOrMismatch, IsCtorPath}
-use Rattle.infer_result.specs.Truth.Calls.{IsTruePatDiagnostic}
+use Rattle.infer_result.specs.Places.{Given, PatIsAtOrMismatch}
+use Rattle.infer_result.specs.Kinds.Constructor.{IsCtorPath}
+use Rattle.infer_result.specs.Truth.Diagnostics.{IsTruePatDiagnostic}
 use Rattle.infer_result.specs.declared.result.InferenceResult.{InferenceResult}
-use Rattle.infer_result.specs.Rules.Patterns.{PatsAtFields}
+use Rattle.infer_result.specs.Pats.Constructor.{PatsAtFields}
 use Rattle.infer_ctx.specs.Found.{Found, entered, with_pat_diagnostic}
 use Rattle.infer_ctx.specs.Walks.{Extends}
 use Rattle.infer_ctx.proofs.Keeps.{obeys_kept, pat_kept, diagnostic_kept, seen_as_kept}

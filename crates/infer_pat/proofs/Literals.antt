@@ -18,8 +18,8 @@ use Rattle.hir_facts.specs.declared.raw.RawExpr.TheVariants as expr
 use Rattle.hir_facts.specs.declared.raw.RawLiteral.TheVariants as literal
 use Rattle.infer_table.specs.Resolution.{resolution}
 use Rattle.infer_table.specs.Table.{State, bindings, resolved_type, with_new_hole, hole_count}
-use Rattle.infer_table.specs.UndoLaws.{grew_itself}
-use Rattle.infer_table.specs.HoleLaws.{grew_by_hole}
+use Rattle.infer_table.proofs.UndoLaws.{grew_itself}
+use Rattle.infer_table.proofs.HoleLaws.{grew_by_hole}
 use Rattle.infer_result.specs.Closed.{IsOfBody}
 use Rattle.infer_result.specs.Places.{Given}
 use Rattle.infer_ctx.specs.declared.context.InferenceContext.{InferenceContext}

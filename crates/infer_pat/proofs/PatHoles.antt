@@ -10,8 +10,8 @@ use Rattle.hir_types.specs.declared.head.HoleKind.TheVariants as kind
 use Rattle.hir_types.specs.declared.ty.Ty.TheVariants as ty
 use Rattle.hir_facts.specs.Scope.{Scope}
 use Rattle.hir_facts.specs.CarriedTypes.{IsCarriedType, AreCarriedTypes, carried_tuple}
-use Rattle.infer_table.specs.UndoLaws.{grew_itself}
-use Rattle.infer_table.specs.HoleLaws.{grew_by_hole, grew_twice}
+use Rattle.infer_table.proofs.UndoLaws.{grew_itself}
+use Rattle.infer_table.proofs.HoleLaws.{grew_by_hole, grew_twice}
 use Rattle.infer_table.specs.Table.{with_new_hole, hole_count, State, HolesAreOf, bindings, resolved_type, Grew}
 use Rattle.infer_table.specs.Preserved.{whole, IsMadeOf, made_of_resolved, made_of_within}
 use Rattle.infer_table.specs.Resolution.{resolution, resolution_term}

@@ -9,7 +9,8 @@ use Rattle.hir_facts.specs.declared.raw.RawPat.{RawPat}
 use Rattle.hir_facts.specs.declared.schedule.Schedule.{Schedule}
 use Rattle.hir_facts.specs.Order.{inner, after, pat_part, pat_parts, subpatterns, subpattern}
 use Rattle.infer_result.specs.Closed.{IsOfBody}
-use Rattle.infer_result.specs.Places.{Given, Gives}
+use Rattle.infer_result.specs.Places.{Given}
+use Rattle.infer_result.specs.Incoming.{Gives}
 use Rattle.infer_ctx.specs.declared.context.InferenceContext.{InferenceContext}
 use Rattle.infer_ctx.specs.Closings.{Closes, IsSound, expected_under, found_under}
 use Rattle.infer_ctx.specs.Fine.{IsFineExpectation}

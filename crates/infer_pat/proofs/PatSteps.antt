@@ -14,15 +14,16 @@ use Rattle.hir_facts.specs.declared.raw.RawPat.{RawPat}
 use Rattle.hir_facts.specs.declared.raw.RawBody.{RawBody}
 use Rattle.hir_facts.specs.CarriedTypes.{IsCarriedType}
 use Rattle.hir_facts.specs.declared.raw.RawPat.TheVariants as pat
-use Rattle.infer_result.specs.Places.{Given, Gives, HasPlaceholders, Demand}
+use Rattle.infer_result.specs.Places.{Given, HasPlaceholders}
+use Rattle.infer_result.specs.Incoming.{Gives}
+use Rattle.infer_result.specs.Demands.{Demand}
 use Rattle.infer_result.specs.Closed.{IsBinder, IsOfBody, OnlyBindersHaveModes}
 use Rattle.infer_result.specs.Table.{At, BindingTy, PatTy, HasMode, HasPatMismatch}
 use Rattle.infer_result.specs.declared.result.Seen.{Seen}
-use Rattle.infer_result.specs.Truth.Calls.{IsTrueDiagnostic, IsTruePatDiagnostic}
+use Rattle.infer_result.specs.Truth.Diagnostics.{IsTrueDiagnostic, IsTruePatDiagnostic}
 use Rattle.infer_result.specs.declared.diagnostics.InferenceDiagnostic.{InferenceDiagnostic}
 use Rattle.infer_result.specs.declared.result.TypeMismatch.{TypeMismatch}
-use Rattle.infer_result.specs.Rules.Expressions.{ObeysOrMismatch}
-use Rattle.infer_result.specs.Rules.Patterns.{PatRule}
+use Rattle.infer_result.specs.Rules.{ObeysOrMismatch, PatRule}
 use Rattle.infer_result.specs.Truth.Mismatch.{IsTruePatMismatch}
 use Rattle.infer_result.specs.Made.{IsMisfit}
 use Rattle.infer_result.specs.declared.modes.BindingMode.{BindingMode}

@@ -10,7 +10,7 @@ use Rattle.hir_facts.specs.declared.schedule.Schedule.{Schedule}
 use Rattle.hir_facts.specs.CarriedTypes.{IsCarriedType}
 use Rattle.hir_facts.specs.Order.{Binds, binding_of}
 use Rattle.hir_facts.specs.declared.raw.RawPat.TheVariants as pat
-use Rattle.infer_table.specs.HoleLaws.{grew_twice}
+use Rattle.infer_table.proofs.HoleLaws.{grew_twice}
 use Rattle.infer_result.specs.Closed.{IsOfBody}
 use Rattle.infer_result.specs.Places.{Given}
 use Rattle.infer_ctx.specs.Closings.{expected_under, Closes, found_under}
@@ -119,9 +119,9 @@ module _ (g : Given) (s : Schedule) (p : PatId) (x : Option Ty) (t : Ty) (old mi
 -- ---- literals
 
 -- the literal has what is expected of it, where something is, or that it has not is noted there
-abbrev pub Fits : Given → ExprId → Ty → Option Ty → InferenceContext → InferenceContext → Type 0
-Fits g e t None old new = new ≡ old
-Fits g e t (Some u) old new = (could : Bool) × IsCoerced could g e t u old new
+abbrev pub FitsExpected : Given → ExprId → Ty → Option Ty → InferenceContext → InferenceContext → Type 0
+FitsExpected g e t None old new = new ≡ old
+FitsExpected g e t (Some u) old new = (could : Bool) × IsCoerced could g e t u old new
 
 module _ (g : Given) (s : Schedule) (p : PatId) (e : ExprId) (x : Option Ty) (old : InferenceContext) (h : BeforePat g s p x old) (is : IsLitPatOf g.body p e) where
   pub comes_to_lit : Before g s e x (context.entered old)
@@ -148,16 +148,16 @@ module _ (g : Given) (s : Schedule) (p : PatId) (e : ExprId) (x : Option Ty) (ol
     pub fine_still : (u : Ty) → x ≡ Some u → IsFine g.scope mid.table u
     fine_still u i = subst (λ y. IsFineExpectation g.scope mid.table y) i (fine_expectation_grown g.scope old.table mid.table x d.follows.grew h.fine)
 
-    fits_follows : (y : Option Ty) (last : InferenceContext) → Fits g e t y mid last → Follows g mid last × (last.clock ≡ mid.clock)
+    fits_follows : (y : Option Ty) (last : InferenceContext) → FitsExpected g e t y mid last → Follows g mid last × (last.clock ≡ mid.clock)
     fits_follows None last f =
         subst (λ c. Follows g mid c × (c.clock ≡ mid.clock)) (sym f) (follows_itself g mid d.follows.of_body d.follows.sound, refl)
     fits_follows (Some u) last f = (f.1.follows, f.1.clock)
 
-    fits_under : (y : Option Ty) (last : InferenceContext) → Fits g e t y mid last → (a : Assignment) → Closes a last → IsFitted e (folded a t) (expected_under a y) (found_under a mid) (found_under a last)
+    fits_under : (y : Option Ty) (last : InferenceContext) → FitsExpected g e t y mid last → (a : Assignment) → Closes a last → IsFitted e (folded a t) (expected_under a y) (found_under a mid) (found_under a last)
     fits_under None last f a k = ap (λ c. found_under a c) f
     fits_under (Some u) last f a k = (let z = f.1.each a k in (z.0, z.2))
 
-    pub lit_walked : (last : InferenceContext) → Fits g e t x mid last → PatDone g s p x old (context.with_pat_ty last p t)
+    pub lit_walked : (last : InferenceContext) → FitsExpected g e t x mid last → PatDone g s p x old (context.with_pat_ty last p t)
     lit_walked last f =
         let new : InferenceContext = context.with_pat_ty last p t in
         let k = fits_follows x last f in

@@ -23,14 +23,15 @@ use Rattle.hir_facts.specs.Signatures.{type_args, Signature, signature_of, ctor_
 use Rattle.hir_facts.specs.declared.raw.RawPath.TheVariants as path
 use Rattle.hir_facts.specs.declared.raw.RawExpr.TheVariants as expr
 use Rattle.hir_facts.specs.declared.raw.RawCtor.TheVariants as ctor
-use Rattle.infer_table.specs.UndoLaws.{grew_itself}
+use Rattle.infer_table.proofs.UndoLaws.{grew_itself}
 use Rattle.infer_table.specs.Table.{hole_count}
 use Rattle.infer_result.specs.declared.result.InferenceResult.{InferenceResult}
 use Rattle.infer_result.specs.Table.{HasTy, ExprVariant, BindingTy}
-use Rattle.infer_result.specs.Places.{Given, IsVariantAt}
-use Rattle.infer_result.specs.Rules.Paths.{PathRule}
+use Rattle.infer_result.specs.Places.{Given}
+use Rattle.infer_result.specs.Kinds.Constructor.{IsVariantAt}
+use Rattle.infer_result.specs.Kinds.Path.{PathRule}
 use Rattle.infer_result.specs.Closed.{IsOfBody}
-use Rattle.infer_result.specs.Derived.{ctor_type_of_unit, ctor_type_of_tuple}
+use Rattle.infer_result.proofs.Derived.{ctor_type_of_unit, ctor_type_of_tuple}
 use Rattle.infer_ctx.specs.Walks.{Extends}
 use Rattle.infer_ctx.specs.Found.{Found}
 use Rattle.infer_ctx.specs.Under.{IsInside, KindWalked, IsItem, IsVariant}

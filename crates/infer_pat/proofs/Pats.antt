@@ -12,8 +12,9 @@ use Rattle.hir_facts.specs.CarriedTypes.{IsCarriedType, same_carried}
 use Rattle.hir_facts.specs.Order.{after, binding_of, pat_parts, inner, expr_part, pattern_literal, part_at, parts_of_pat}
 use Rattle.hir_facts.specs.declared.raw.RawPat.TheVariants as pat
 use Rattle.infer_result.specs.declared.result.InferenceResult.{InferenceResult}
-use Rattle.infer_result.specs.Places.{Given, Demand, MisfitsAs}
-use Rattle.infer_result.specs.Rules.Patterns.{PatRule}
+use Rattle.infer_result.specs.Places.{Given, MisfitsAs}
+use Rattle.infer_result.specs.Demands.{Demand}
+use Rattle.infer_result.specs.Rules.{PatRule}
 use Rattle.infer_result.specs.Table.{PatTy, HasTy, HasMismatch, mismatch}
 use Rattle.infer_ctx.specs.Found.{Found, entered, with_pat_ty, bound_by, with_mismatch}
 use Rattle.infer_ctx.specs.Walks.{pat_end, Walks, Nothing, expr_end}

@@ -9,9 +9,8 @@ use Rattle.hir_facts.specs.declared.schedule.Schedule.{Schedule}
 use Rattle.hir_facts.specs.CarriedTypes.{AreCarriedTypes}
 use Rattle.infer_result.specs.Table.{PatTy}
 use Rattle.infer_result.specs.Places.{Given, PatIsAtOrMismatch}
-use Rattle.infer_result.specs.Rules.Patterns.{AllPatsAt}
+use Rattle.infer_result.specs.Pats.Tuple.{AllPatsAt}
 use Rattle.infer_result.specs.declared.result.InferenceResult.{InferenceResult}
-use Rattle.infer_ctx.specs.Found.{entered}
 use Rattle.infer_ctx.proofs.Keeps.{all_pats_kept, pat_at_kept}
 use Rattle.infer_ctx.proofs.Types.{carried_tuple_of}
 use Rattle.infer_pat.specs.Patterns.{ComesToPat, IsTuplePatOf, IsPatPlaced, BeforePat, PatDemanded, PatIsDemanded, PatDone}
@@ -19,7 +18,7 @@ use Rattle.infer_pat.proofs.PatDemands.{Demands, entered_opening, pat_demanded}
 use Rattle.infer_pat.proofs.PatSteps.{enters_more, enters_done, before_pat_under}
 use Rattle.infer_pat.proofs.Pats.{pat_rule_of}
 use Rattle.hir_types.specs.Subst.{Assignment, folded}
-use Rattle.infer_table.specs.HoleLaws.{grew_twice}
+use Rattle.infer_table.proofs.HoleLaws.{grew_twice}
 use Rattle.infer_result.specs.Truth.Mismatch.{SaysItsType}
 use Rattle.infer_ctx.specs.declared.context.InferenceContext.{InferenceContext}
 use Rattle.infer_ctx.specs.Steps.{ArePartTypes}

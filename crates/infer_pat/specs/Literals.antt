@@ -9,7 +9,7 @@ use Rattle.hir_types.specs.declared.ty.UintTy.TheVariants as uint
 use Rattle.hir_facts.specs.Scope.{Scope}
 use Rattle.hir_facts.specs.declared.raw.RawLiteral.{RawLiteral}
 use Rattle.infer_table.specs.Table.{State, resolved_type, Grew, hole_count}
-use Rattle.infer_result.specs.Rules.Literals.{IsLiteralType, IsOwnType}
+use Rattle.infer_result.specs.Kinds.Literal.{IsLiteralType, IsOwnType}
 use Rattle.infer_ctx.specs.declared.context.InferenceContext.{InferenceContext}
 use Rattle.infer_ctx.specs.Fine.{IsFine}
 use Rattle.infer_ctx.specs.Closings.{IsClosing, IsSound}

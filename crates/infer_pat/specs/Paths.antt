@@ -14,7 +14,8 @@ use Rattle.hir_facts.specs.declared.raw.RawExpr.TheVariants as expr
 use Rattle.infer_table.specs.Table.{Grew}
 use Rattle.infer_result.specs.declared.result.InferenceResult.{InferenceResult}
 use Rattle.infer_result.specs.Table.{BindingTy}
-use Rattle.infer_result.specs.Places.{Given, IsCtorPath}
+use Rattle.infer_result.specs.Places.{Given}
+use Rattle.infer_result.specs.Kinds.Constructor.{IsCtorPath}
 use Rattle.infer_ctx.specs.Under.{IsVariant, IsItem}
 use Rattle.infer_ctx.specs.declared.context.InferenceContext.{InferenceContext}
 use Rattle.infer_ctx.specs.Fine.{IsFine}

@@ -14,7 +14,8 @@ use Rattle.hir_facts.specs.Scope.{Scope}
 use Rattle.hir_facts.specs.Signatures.{type_args, at_args, field_types}
 use Rattle.hir_facts.specs.declared.raw.RawPat.TheVariants as pat
 use Rattle.infer_table.specs.Table.{Grew, hole_count}
-use Rattle.infer_result.specs.Places.{Given, Incoming, PatIsAtOrMismatch}
+use Rattle.infer_result.specs.Places.{Given, PatIsAtOrMismatch}
+use Rattle.infer_result.specs.Incoming.{Incoming}
 use Rattle.infer_result.specs.declared.result.InferenceResult.{InferenceResult}
 use Rattle.infer_result.specs.Table.{mismatch}
 use Rattle.infer_result.specs.declared.diagnostics.InferenceDiagnostic.TheVariants as diagnostic

@@ -1,5 +1,5 @@
 //! The types of patterns.
-ghost use Rattle.std.specs.Prelude.{◌≡◌, ◌<◌, ℕ, IfOk, Some, length, slice_get};
+ghost use Rattle.std.specs.Prelude.{◌≡◌, ◌<◌, IfOk, Some, length, slice_get};
 ghost use Rattle.hir_types.specs.declared.ty.Ty.{Ty};
 ghost use Rattle.hir_types.specs.declared.ty.Ty.TheVariants as ty;
 ghost use Rattle.infer_result.specs.Closed.{IsOfBody};

@@ -1,5 +1,5 @@
 //! The report on a table.
-ghost use Rattle.std.specs.Prelude.{◌≡◌, ◌++◌, List, OnOk, IfOk, string_bytes, count_by, is_some};
+ghost use Rattle.std.specs.Prelude.{◌≡◌, ◌++◌, OnOk, IfOk, string_bytes, count_by, is_some};
 ghost use Rattle.std.specs.Option.{option_copied};
 ghost use Rattle.infer_result.specs.Table.{recorded};
 ghost use Rattle.infer_result.specs.Report.{def_line, variant_text, expr_line, mode_text, pat_line, binding_line, mismatch_head, pat_mismatch_head, type_field, mismatch_line, node_text, counts_text, diagnostic_text, diagnostic_line, expr_complaints, pat_mismatch_line, pat_complaints, lines_from, complaint_count, report};

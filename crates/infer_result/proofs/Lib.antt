@@ -1,3 +1,7 @@
+pub mod Consequences
+pub mod DerivationLaws
+pub mod Derived
+pub mod Parts
 pub mod Samples
 pub mod Unchanged
 pub mod Under

@@ -29,15 +29,17 @@ use Rattle.hir_facts.specs.Signatures.{Signature, at_args}
 use Rattle.infer_result.specs.declared.result.InferenceResult.{InferenceResult}
 use Rattle.infer_result.specs.declared.diagnostics.InferenceDiagnostic.TheVariants as diagnostic
 use Rattle.infer_result.specs.Table.{At, MismatchAt, mismatch}
-use Rattle.infer_result.specs.Places.{Given, IsCtorPath, IsCallee, IsAt, IsAtOrMismatch, MisfitsAs, PatIsAtOrMismatch}
-use Rattle.infer_result.specs.Rules.Literals.{IsLiteralType}
-use Rattle.infer_result.specs.Rules.Paths.{PathRule}
-use Rattle.infer_result.specs.Rules.Placing.{Placing, at_or_mismatch, at_types}
-use Rattle.infer_result.specs.Rules.Tuples.{AllAt}
-use Rattle.infer_result.specs.Rules.Calls.{ArgsRule, CallRule}
-use Rattle.infer_result.specs.Rules.Blocks.{LetRule, StmtRule, StmtsRule, TailRule}
-use Rattle.infer_result.specs.Rules.Branches.{branches_of, ElseRule, arm_exprs, ArmPatterns, GuardRule, ArmsRule}
-use Rattle.infer_result.specs.Rules.Expressions.{Rule, ObeysOrMismatch, ObeysExpression}
+use Rattle.infer_result.specs.Places.{Given, IsAt, IsAtOrMismatch, MisfitsAs, PatIsAtOrMismatch}
+use Rattle.infer_result.specs.Kinds.Constructor.{IsCtorPath}
+use Rattle.infer_result.specs.Kinds.Call.{IsCallee, ArgsRule, CallRule}
+use Rattle.infer_result.specs.Kinds.Literal.{IsLiteralType}
+use Rattle.infer_result.specs.Kinds.Path.{PathRule}
+use Rattle.infer_result.specs.Placing.{Placing, at_or_mismatch, at_types}
+use Rattle.infer_result.specs.Kinds.Tuple.{AllAt}
+use Rattle.infer_result.specs.Kinds.Block.{LetRule, StmtRule, StmtsRule, TailRule}
+use Rattle.infer_result.specs.Kinds.If.{branches_of, ElseRule}
+use Rattle.infer_result.specs.Kinds.Match.{arm_exprs, ArmPatterns, GuardRule, ArmsRule}
+use Rattle.infer_result.specs.Rules.{Rule, ObeysOrMismatch, ObeysExpression}
 use Rattle.infer_result.specs.Stable.{mismatch_under, diagnostic_under, table_under}
 use Rattle.infer_result.proofs.Unchanged.{instances_under, signature_unchanged}
 use Rattle.infer_result.proofs.Under.{At-under, tuple_under, item_under, unit_under, integer_under, ctor_under, same_under, count_under, variant_under, type_under, pat_type_under, has_mismatch_under, any_mismatch_under, has_pat_mismatch_under, seen_under, recorded_under, declared_under}
@@ -193,15 +195,16 @@ module _ (g : Given) (law : IsLawful g.scope.facts) (a : Assignment) (t : Infere
     args_under n args ss (inr h) = inr (subst (λ i. Q.wrong_count n i (length args)) (sym (length-map ss (folded a))) (carry.wrong_count n (length ss) (length args) h))
 
     call_under : (n f : ExprId) (args : List ExprId) → CallRule P g t n f args → CallRule Q g (table_under a t) n f args
-    call_under n f args (inl (σ, ts, h, k, l)) =
-        let own = signature_unchanged g.scope.facts law h.item σ h.signature in
-        inl (
-          σ,
-          map (folded a) ts,
-          callee_under f σ ts h,
-          subst (λ ss. ArgsRule Q n args ss) (instances_under a ts σ.inputs own.inputs) (args_under n args (map (at_args ts) σ.inputs) k),
-          type_under a t n _ _ l (instance_at_types a ts σ.output own.output),
-        )
+    call_under n f args (inl h) =
+        let σ = h.signature in
+        let own = signature_unchanged g.scope.facts law h.is_callee.item h.signature h.is_callee.signature in
+        inl (record {
+          signature = σ;
+          types = map (folded a) h.types;
+          is_callee = callee_under f σ h.types h.is_callee;
+          arguments = subst (λ ss. ArgsRule Q n args ss) (instances_under a h.types σ.inputs own.inputs) (args_under n args (map (at_args h.types) σ.inputs) h.arguments);
+          has = type_under a t n _ _ h.has (instance_at_types a h.types σ.output own.output);
+        })
     call_under n f args (inr (h, (s, l))) = inr (carry.no_callee n h, (folded a s, type_under a t n s (folded a s) l refl))
 
     pub rule_under : (n : ExprId) (o : Option RawExpr) → Rule P g t n o → Rule Q g (table_under a t) n o
@@ -209,15 +212,27 @@ module _ (g : Given) (law : IsLawful g.scope.facts) (a : Assignment) (t : Infere
     rule_under n (Some (expr.Lit l)) (s, h, k) = (folded a s, type_under a t n s (folded a s) h refl, literal_under a l s k)
     rule_under n (Some (expr.Path p)) h = path_under n p h
     rule_under n (Some (expr.Tuple es)) (ss, h, k) = (map (folded a) ss, type_under a t n _ _ h (tuple_under a ss), all_under es ss k)
-    rule_under n (Some (expr.Block label stmts last)) (h, (s, k, l)) = (stmts_under stmts h, (folded a s, type_under a t n s (folded a s) k refl, tail_under n last s l))
-    rule_under n (Some (expr.If c first other)) (h, (s, k, l)) = (
-      at_as c ty.Bool ty.Bool h (replaced_bool (with_holes a)),
-      (folded a s, type_under a t n s (folded a s) k refl, (carry.alternative (branches_of n first other) first s l.0, else_under n first other s l.1)),
-    )
-    rule_under n (Some (expr.Match e arms)) ((u, h, i), (s, k, l)) = (
-      (folded a u, type_under a t e u (folded a u) h refl, arm_patterns_under arms u i),
-      (folded a s, type_under a t n s (folded a s) k refl, arms_under (arm_exprs arms) arms s l),
-    )
+    rule_under n (Some (expr.Block label stmts last)) h = record {
+      statements = stmts_under stmts h.statements;
+      type = folded a h.type;
+      has = type_under a t n h.type (folded a h.type) h.has refl;
+      ends = tail_under n last h.type h.ends;
+    }
+    rule_under n (Some (expr.If c first other)) h = record {
+      condition = at_as c ty.Bool ty.Bool h.condition (replaced_bool (with_holes a));
+      type = folded a h.type;
+      has = type_under a t n h.type (folded a h.type) h.has refl;
+      branch = carry.alternative (branches_of n first other) first h.type h.branch;
+      otherwise = else_under n first other h.type h.otherwise;
+    }
+    rule_under n (Some (expr.Match e arms)) h = record {
+      scrutinee = folded a h.scrutinee;
+      comes = type_under a t e h.scrutinee (folded a h.scrutinee) h.comes refl;
+      patterns = arm_patterns_under arms h.scrutinee h.patterns;
+      type = folded a h.type;
+      has = type_under a t n h.type (folded a h.type) h.has refl;
+      alternatives = arms_under (arm_exprs arms) arms h.type h.alternatives;
+    }
     rule_under n (Some (expr.Call f args)) h = call_under n f args h
     rule_under n (Some expr.Other) h = h
 

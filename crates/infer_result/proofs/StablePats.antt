@@ -17,10 +17,14 @@ use Rattle.hir_facts.specs.Signatures.{field_types, type_args}
 use Rattle.hir_facts.specs.Types.{written_type}
 use Rattle.infer_result.specs.declared.result.InferenceResult.{InferenceResult}
 use Rattle.infer_result.specs.Table.{PatTy}
-use Rattle.infer_result.specs.Places.{Given, StandsAt, declared, IsVariantAt, adt_at, fields_at, PatIsAtOrMismatch, GivesComponent, GivesField, GivesPart, Gives}
-use Rattle.infer_result.specs.Derived.{one_at, tuple_parts, adt_parts, adt_no_tuple, same_type_args}
-use Rattle.infer_result.specs.Parts.{PartStands, comes_from}
-use Rattle.infer_result.specs.Rules.Patterns.{AllPatsAt, PatsAtFields, CtorPatRule, PatRule, ObeysPattern}
+use Rattle.infer_result.specs.Places.{Given, StandsAt, declared, PatIsAtOrMismatch}
+use Rattle.infer_result.specs.Kinds.Constructor.{IsVariantAt, adt_at, fields_at}
+use Rattle.infer_result.specs.Pats.Tuple.{GivesComponent, AllPatsAt}
+use Rattle.infer_result.specs.Pats.Constructor.{GivesField, PatsAtFields, CtorPatRule}
+use Rattle.infer_result.specs.Incoming.{GivesPart, Gives}
+use Rattle.infer_result.proofs.Derived.{one_at, tuple_parts, adt_parts, adt_no_tuple, same_type_args}
+use Rattle.infer_result.proofs.Parts.{PartStands, comes_from}
+use Rattle.infer_result.specs.Rules.{PatRule, ObeysPattern}
 use Rattle.infer_result.specs.Stable.{diagnostic_under, table_under, WholeObeys}
 use Rattle.infer_result.proofs.Unchanged.{IsUnchanged, instances_under, fields_unchanged}
 use Rattle.infer_result.proofs.Under.{At-under, At-before, entry_before, tuple_under, adt_under, variant_under, type_under, pat_type_under, recorded_before, declared_under}

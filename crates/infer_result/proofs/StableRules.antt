@@ -8,8 +8,7 @@ use Rattle.hir_facts.specs.Laws.Lawful.{IsLawful}
 use Rattle.hir_facts.specs.Types.{written_type}
 use Rattle.infer_result.specs.declared.result.InferenceResult.{InferenceResult}
 use Rattle.infer_result.specs.Places.{Given, IsAt, IsAtOrMismatch}
-use Rattle.infer_result.specs.Rules.Expressions.{ObeysOrMismatch, ObeysExpression, BodyObeysOrMismatch, BodyObeys}
-use Rattle.infer_result.specs.Rules.Patterns.{ObeysPattern}
+use Rattle.infer_result.specs.Rules.{ObeysOrMismatch, ObeysExpression, BodyObeysOrMismatch, BodyObeys, ObeysPattern}
 use Rattle.infer_result.specs.Stable.{table_under, WholeObeys, RulesAreStable, NodeRulesAreStable}
 use Rattle.infer_result.specs.Typed.{given}
 use Rattle.infer_result.proofs.Unchanged.{IsUnchanged, output_unchanged, input_unchanged}

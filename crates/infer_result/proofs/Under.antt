@@ -14,7 +14,7 @@ use Rattle.hir_types.specs.declared.ty.IntegerTy.TheVariants.{Int, Uint}
 use Rattle.hir_types.specs.declared.ty.Ty.{Ty}
 use Rattle.hir_types.specs.declared.ty.Ty.TheVariants as ty
 use Rattle.hir_types.specs.Erasure.{Same}
-use Rattle.hir_types.specs.Faithful.{term_tells, erased_tells}
+use Rattle.hir_types.proofs.Faithful.{term_tells, erased_tells}
 use Rattle.hir_types.specs.Folding.{replaced_int, replaced_uint, replaced_tuple, replaced_adt, replaced_fn_def, replaced_error, folded_twice}
 use Rattle.hir_types.specs.Instances.{types_args_folded}
 use Rattle.hir_types.specs.Subst.{Assignment, with_holes, folded, composed}
@@ -31,7 +31,8 @@ use Rattle.infer_result.specs.declared.result.TypeMismatch.{TypeMismatch}
 use Rattle.infer_result.specs.declared.diagnostics.InferenceDiagnostic.{InferenceDiagnostic}
 use Rattle.infer_result.specs.declared.diagnostics.InferenceDiagnostic.TheVariants as diagnostic
 use Rattle.infer_result.specs.Table.{At, HasTy, PatTy, PlaceholderTy, HasMismatch, AnyMismatch, HasPatMismatch, WasSeen}
-use Rattle.infer_result.specs.Places.{Given, hole_type, declared, AreRecorded, IsVariantAt}
+use Rattle.infer_result.specs.Places.{Given, hole_type, declared, AreRecorded}
+use Rattle.infer_result.specs.Kinds.Constructor.{IsVariantAt}
 use Rattle.infer_result.specs.Stable.{each_under, mismatch_under, diagnostic_under, table_under, IsStable}
 
 -- ---- lists under a function

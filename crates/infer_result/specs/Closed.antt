@@ -50,7 +50,9 @@ NamesVariant b e v = slice_get b.exprs e.0 ≡ Some (expr.Path (path.Ctor v))
 
 -- the pattern is the constructor, alone or over patterns
 abbrev pub IsVariantPat : RawBody → PatId → VariantId → Type 0
-IsVariantPat b p v = (slice_get b.pats p.0 ≡ Some (pat.Path (path.Ctor v))) ⊎ ((ps : List PatId) × (slice_get b.pats p.0 ≡ Some (pat.TupleStruct v ps)))
+IsVariantPat b p v =
+    (slice_get b.pats p.0 ≡ Some (pat.Path (path.Ctor v)))
+    ⊎ ((ps : List PatId) × (slice_get b.pats p.0 ≡ Some (pat.TupleStruct v ps)))
 
 -- a variant is recorded only where its constructor is named
 pub record OnlyNamedVariants (b : RawBody) (t : InferenceResult) : Type 0 where

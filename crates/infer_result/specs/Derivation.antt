@@ -18,12 +18,11 @@ use Rattle.infer_result.specs.declared.result.InferenceResult.{InferenceResult}
 use Rattle.infer_result.specs.declared.result.TypeMismatch.{TypeMismatch}
 use Rattle.infer_result.specs.declared.diagnostics.InferenceDiagnostic.{InferenceDiagnostic}
 use Rattle.infer_result.specs.Table.{At, HasTy, PatTy, BindingTy}
-use Rattle.infer_result.specs.Closed.{IsOfBody, IsTotal, AllTypes, IsClosedTable, OnlyBindersHaveModes, OnlyNamedVariants}
+use Rattle.infer_result.specs.Closed.{IsTotal, AllTypes}
 use Rattle.infer_result.specs.Fit.{TypesFit}
 use Rattle.infer_result.specs.Unknown.{IsKnown}
-use Rattle.infer_result.specs.Places.{HasPlaceholders}
-use Rattle.infer_result.specs.Rules.Expressions.{ObeysExpression, BodyObeys}
-use Rattle.infer_result.specs.Rules.Patterns.{ObeysPattern}
+use Rattle.infer_result.specs.Rules.{ObeysExpression, BodyObeys, ObeysPattern}
+use Rattle.infer_result.specs.Shape.{IsShaped}
 use Rattle.infer_result.specs.Typed.{given}
 
 -- no complaint stands in the table
@@ -33,21 +32,17 @@ pub record HasNoComplaint (t : InferenceResult) : Type 0 where
   pub pat_mismatches : (n : ℕ) (m : TypeMismatch) → At t.pat_mismatches n m → ⊥
   pub pat_diagnostics : (n : ℕ) (d : InferenceDiagnostic) → At t.pat_diagnostics n d → ⊥
 
--- The table is one of the definition's body, with a type for each node and binding. No hole and no `{unknown}` stands in it, but for
--- what failed look-ups saw and for types before fallback, and no complaint; its types name what the facts have; modes, variants and
--- what `_`s stand for are recorded where they belong; and each node, and the body, obeys its rule whole.
+-- The table is one of the definition's body, with a type for each node and binding. No hole and no
+-- `{unknown}` stands in it, but for what failed look-ups saw and for types before fallback, and no complaint;
+-- its types name what the facts have; and each node, and the body, obeys its rule whole.
 pub record IsDerivation (raw : RawFacts) (d : DefWithBodyId) (t : InferenceResult) : Type 0 where
   pub body : RawBody
   pub is_body : body_of raw d ≡ Some body
-  pub of_body : IsOfBody body t
+  pub shape : IsShaped (given raw d body) t
   pub total : IsTotal body t
-  pub closed : IsClosedTable t
   pub known : AllTypes IsKnown t
   pub fit : TypesFit raw d t
   pub clean : HasNoComplaint t
-  pub modes : OnlyBindersHaveModes body t
-  pub placeholders : HasPlaceholders (given raw d body) t
-  pub variants : OnlyNamedVariants body t
   pub exprs : (e : ExprId) → e.0 < length body.exprs → ObeysExpression (given raw d body) t e
   pub pats : (p : PatId) → p.0 < length body.pats → ObeysPattern (given raw d body) t p
   pub root : BodyObeys (given raw d body) t
@@ -62,11 +57,13 @@ IsCalled b e = (n : ExprId) × (args : List ExprId) × (slice_get b.exprs n.0 �
 abbrev pub IsPlainItem : Scope → Ty → Type 0
 IsPlainItem sc s = (id : CallableDefId) × (ts : List Ty) × (s ≡ ty.FnDef id (type_args ts)) × ArePlainIn sc ts
 
--- The types of a derivation are plain, but that what is called has that of an item at plain types. Adjustments, of which it has none,
--- are not carried yet.
+-- The types of a derivation are plain, but that what is called has that of an item at plain types.
+-- Adjustments, of which it has none, are not carried yet.
 pub record IsPlainDerivation (raw : RawFacts) (d : DefWithBodyId) (t : InferenceResult) : Type 0 where
   pub derivation : IsDerivation raw d t
-  pub called : (e : ExprId) (s : Ty) → HasTy t e s → IsCalled derivation.body e → IsPlainItem (scope_of raw d) s
-  pub exprs : (e : ExprId) (s : Ty) → HasTy t e s → (IsCalled derivation.body e → ⊥) → IsPlainIn (scope_of raw d) s
+  pub called : (e : ExprId) (s : Ty) → HasTy t e s → IsCalled derivation.body e
+      → IsPlainItem (scope_of raw d) s
+  pub exprs : (e : ExprId) (s : Ty) → HasTy t e s → (IsCalled derivation.body e → ⊥)
+      → IsPlainIn (scope_of raw d) s
   pub pats : (p : PatId) (s : Ty) → PatTy t p s → IsPlainIn (scope_of raw d) s
   pub bindings : (v : BindingId) (s : Ty) → BindingTy t v s → IsPlainIn (scope_of raw d) s

@@ -1,47 +1,27 @@
 -- Nodes whose rule a complaint excuses.
-use Rattle.std.specs.Prelude.{◌⊎◌, slice_get, List, [], ◌∷◌, Option, Some, None}
+use Rattle.std.specs.Prelude.{◌⊎◌, slice_get, Option, Some}
 use Rattle.hir_types.specs.declared.ids.ExprId.{ExprId}
-use Rattle.hir_facts.specs.declared.raw.RawStmt.{RawStmt}
-use Rattle.hir_facts.specs.declared.raw.RawStmt.TheVariants as stmt
-use Rattle.hir_facts.specs.declared.raw.RawArm.{RawArm}
 use Rattle.hir_facts.specs.declared.raw.RawExpr.{RawExpr}
 use Rattle.hir_facts.specs.declared.raw.RawExpr.TheVariants as expr
 use Rattle.infer_result.specs.declared.result.InferenceResult.{InferenceResult}
-use Rattle.infer_result.specs.Table.{HasMismatch, AnyMismatch, AnyDiagnostic, WasSeen}
+use Rattle.infer_result.specs.Table.{HasMismatch, AnyMismatch, WasSeen, AnyDiagnostic, MaybeMismatch}
 use Rattle.infer_result.specs.Places.{Given}
-use Rattle.infer_result.specs.Rules.Branches.{branches_of, arm_exprs}
+use Rattle.infer_result.specs.Kinds.If.{branches_of}
+use Rattle.infer_result.specs.Kinds.Match.{arm_exprs, GuardsHaveMismatch}
+use Rattle.infer_result.specs.Kinds.Block.{StmtsHaveMismatch}
 
-abbrev pub MaybeMismatch : InferenceResult → Option ExprId → Type 0
-MaybeMismatch t None = ⊥
-MaybeMismatch t (Some e) = HasMismatch t e
-
-abbrev pub StmtHasMismatch : InferenceResult → RawStmt → Type 0
-StmtHasMismatch t (stmt.Let p w init other) = MaybeMismatch t init
-StmtHasMismatch t (stmt.Expr e semicolon) = HasMismatch t e
-
-abbrev pub StmtsHaveMismatch : InferenceResult → List RawStmt → Type 0
-StmtsHaveMismatch t [] = ⊥
-StmtsHaveMismatch t (s ∷ ss) = StmtHasMismatch t s ⊎ StmtsHaveMismatch t ss
-
-abbrev pub GuardsHaveMismatch : InferenceResult → List RawArm → Type 0
-GuardsHaveMismatch t [] = ⊥
-GuardsHaveMismatch t (a ∷ as_) = MaybeMismatch t a.guard ⊎ GuardsHaveMismatch t as_
-
--- A mismatch at a block or at a part of it excuses the block. One at the condition or a branch of an
--- `if`, or at an `if` without `else` itself, excuses the `if`; one at a guard or an arm the `match`. At
--- a literal, a path, a tuple or a call it excuses nothing, and at a part of a tuple or an argument that
--- part alone. A call is excused by a complaint about the number of its arguments, and where what it calls was seen
--- to be no function.
+-- A mismatch at a block or at a part of it excuses the block. One at the condition or a branch of an `if`, or
+-- at an `if` without `else` itself, excuses the `if`; one at a guard or an arm the `match`. At a literal, a
+-- path, a tuple or a call it excuses nothing, and at a part of a tuple or an argument that part alone. A call
+-- is excused by a complaint about the number of its arguments, and where what it calls was seen to be no
+-- function.
 abbrev pub ExcusedAs : InferenceResult → ExprId → Option RawExpr → Type 0
-ExcusedAs t n None = ⊥
-ExcusedAs t n (Some (expr.Lit l)) = ⊥
-ExcusedAs t n (Some (expr.Path p)) = ⊥
-ExcusedAs t n (Some (expr.Tuple es)) = ⊥
-ExcusedAs t n (Some (expr.Block label stmts last)) = HasMismatch t n ⊎ (StmtsHaveMismatch t stmts ⊎ MaybeMismatch t last)
+ExcusedAs t n (Some (expr.Block label stmts last)) =
+    HasMismatch t n ⊎ (StmtsHaveMismatch t stmts ⊎ MaybeMismatch t last)
 ExcusedAs t n (Some (expr.If c first other)) = HasMismatch t c ⊎ AnyMismatch t (branches_of n first other)
 ExcusedAs t n (Some (expr.Match e arms)) = GuardsHaveMismatch t arms ⊎ AnyMismatch t (arm_exprs arms)
 ExcusedAs t n (Some (expr.Call f args)) = AnyDiagnostic t n ⊎ WasSeen t n
-ExcusedAs t n (Some expr.Other) = ⊥
+ExcusedAs t n _ = ⊥
 
 abbrev pub IsExcused : Given → InferenceResult → ExprId → Type 0
 IsExcused g t n = ExcusedAs t n (slice_get g.body.exprs n.0)

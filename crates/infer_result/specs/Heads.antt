@@ -6,7 +6,6 @@ use Rattle.hir_types.specs.declared.ids.ExprId.{ExprId}
 use Rattle.hir_types.specs.declared.ids.FunctionId.{FunctionId}
 use Rattle.hir_types.specs.declared.ids.TypeRefId.{TypeRefId}
 use Rattle.hir_types.specs.declared.ids.VariantId.{VariantId}
-use Rattle.hir_types.specs.declared.ids.CallableDefId.{CallableDefId}
 use Rattle.hir_types.specs.declared.ids.CallableDefId.TheVariants as callable
 use Rattle.hir_types.specs.declared.head.Head.{Head}
 use Rattle.hir_types.specs.declared.head.Head.TheVariants as head
@@ -19,15 +18,16 @@ use Rattle.hir_types.specs.declared.ty.Ty.{Ty, Ty-F, out-Ty, out-roll-Ty}
 use Rattle.hir_types.specs.declared.ty.Ty.TheVariants as ty
 use Rattle.hir_facts.specs.declared.raw.RawType.{RawType}
 use Rattle.hir_facts.specs.declared.raw.RawType.TheVariants as type
-use Rattle.hir_facts.specs.declared.raw.RawPath.{RawPath}
 use Rattle.hir_facts.specs.declared.raw.RawPath.TheVariants as path
 use Rattle.hir_facts.specs.declared.raw.RawExpr.TheVariants as expr
 use Rattle.hir_facts.specs.declared.raw.RawVariant.{RawVariant}
 use Rattle.hir_facts.specs.Types.{lowered_by, lowered_within, written_type, filled_by, filled_within, filled_type}
-use Rattle.hir_facts.specs.Scope.{names_item}
-use Rattle.hir_facts.specs.Signatures.{Signature, signature_of, ctor_type}
-use Rattle.infer_result.specs.Places.{Given, IsInput}
-use Rattle.infer_result.specs.Upward.{NamesLet, NamesParameter, Up}
+use Rattle.hir_facts.specs.Signatures.{Signature, ctor_type}
+use Rattle.infer_result.specs.Places.{Given}
+use Rattle.infer_result.specs.Incoming.{IsInput}
+use Rattle.infer_result.specs.Kinds.Call.{CallsItem}
+use Rattle.infer_result.specs.Kinds.Path.{NamesLet, NamesParameter}
+use Rattle.infer_result.specs.Upward.{Up}
 
 -- what stands outermost in a type: a tuple of this length, or another head
 pub data Outermost : Type 0 where
@@ -64,36 +64,35 @@ outermost_step Ty-F.Hole = None
 abbrev pub HasHead : Ty → Outermost → Type 0
 HasHead t h = outermost_step (out-Ty t) ≡ Some h
 
--- e is a call, by a path to it, of a function or a constructor of this signature
-pub record CallsItem (g : Given) (e : ExprId) (σ : Signature) : Type 0 where
-  pub called : ExprId
-  pub args : List ExprId
-  pub is_call : slice_get g.body.exprs e.0 ≡ Some (expr.Call called args)
-  pub path : RawPath
-  pub names : slice_get g.body.exprs called.0 ≡ Some (expr.Path path)
-  pub item : CallableDefId
-  pub is_item : names_item path ≡ Some item
-  pub signature : signature_of g.scope.facts item ≡ Some σ
-
--- The head that an expression has by itself: that of the type that it has by itself; of a tuple, of a path to a function or a
--- constructor, and of a call of one whose output is no parameter, whatever types stand in these; of a local that of its
--- written type, and without one that of its initializer.
+-- The head that an expression has by itself: that of the type that it has by itself; of a tuple, of a path to
+-- a function or a constructor, and of a call of one whose output is no parameter, whatever types stand in
+-- these; of a local that of its written type, and without one that of its initializer.
 pub data HeadOf (g : Given) : ExprId → Outermost → Type 0 where
   of_up : (e : ExprId) (s : Ty) (h : Outermost) → Up g e s → HasHead s h → HeadOf g e h
-  of_tuple : (e : ExprId) (es : List ExprId) → slice_get g.body.exprs e.0 ≡ Some (expr.Tuple es) → HeadOf g e (tuple (length es))
-  of_function : (e : ExprId) (f : FunctionId) → slice_get g.body.exprs e.0 ≡ Some (expr.Path (path.Function f)) → HeadOf g e (other (head.FnDef (callable.FunctionId f)))
-  of_ctor : (e : ExprId) (v : VariantId) (x : RawVariant) (ts : List Ty) (h : Outermost) → slice_get g.body.exprs e.0 ≡ Some (expr.Path (path.Ctor v)) → slice_get g.scope.facts.variants v.0 ≡ Some x → HasHead (ctor_type x v ts) h → HeadOf g e h
-  of_output : (e : ExprId) (σ : Signature) (h : Outermost) → CallsItem g e σ → HasHead σ.output h → HeadOf g e h
-  of_written : (e : ExprId) (w : TypeRefId) (init : Option ExprId) (h : Outermost) → NamesLet g.body e (Some w) init → HasHead (written_type g.scope.facts.types w) h → HeadOf g e h
-  of_initializer : (e i : ExprId) (h : Outermost) → NamesLet g.body e None (Some i) → HeadOf g i h → HeadOf g e h
-  of_parameter : (e : ExprId) (i : ℕ) (s : Ty) (h : Outermost) → NamesParameter g.body e i → IsInput g i s → HasHead s h → HeadOf g e h
+  of_tuple : (e : ExprId) (es : List ExprId) → slice_get g.body.exprs e.0 ≡ Some (expr.Tuple es)
+      → HeadOf g e (tuple (length es))
+  of_function : (e : ExprId) (f : FunctionId)
+      → slice_get g.body.exprs e.0 ≡ Some (expr.Path (path.Function f))
+      → HeadOf g e (other (head.FnDef (callable.FunctionId f)))
+  of_ctor : (e : ExprId) (v : VariantId) (x : RawVariant) (ts : List Ty) (h : Outermost)
+      → slice_get g.body.exprs e.0 ≡ Some (expr.Path (path.Ctor v))
+      → slice_get g.scope.facts.variants v.0 ≡ Some x → HasHead (ctor_type x v ts) h → HeadOf g e h
+  of_output : (e : ExprId) (σ : Signature) (h : Outermost) → CallsItem g e σ → HasHead σ.output h
+      → HeadOf g e h
+  of_written : (e : ExprId) (w : TypeRefId) (init : Option ExprId) (h : Outermost)
+      → NamesLet g.body e (Some w) init → HasHead (written_type g.scope.facts.types w) h → HeadOf g e h
+  of_initializer : (e i : ExprId) (h : Outermost) → NamesLet g.body e None (Some i) → HeadOf g i h
+      → HeadOf g e h
+  of_parameter : (e : ExprId) (i : ℕ) (s : Ty) (h : Outermost) → NamesParameter g.body e i → IsInput g i s
+      → HasHead s h → HeadOf g e h
 
 -- ---- a written type has its head whatever each `_` in it stands for
 
 tuple_head : (ts : List Ty) → outermost_step (out-Ty (ty.Tuple ts)) ≡ Some (tuple (length ts))
 tuple_head ts = ap outermost_step (ap out-Ty (sym (ty.rolls-Tuple ts)) ∙ out-roll-Ty (Ty-F.Tuple ts))
 
-adt_head : (i : AdtId) (xs : List GenericArg) → outermost_step (out-Ty (ty.Adt i xs)) ≡ Some (other (head.Adt i))
+adt_head : (i : AdtId) (xs : List GenericArg)
+    → outermost_step (out-Ty (ty.Adt i xs)) ≡ Some (other (head.Adt i))
 adt_head i xs = ap outermost_step (ap out-Ty (sym (ty.rolls-Adt i xs)) ∙ out-roll-Ty (Ty-F.Adt i xs))
 
 hole_head : outermost_step (out-Ty ty.Hole) ≡ None
@@ -102,7 +101,8 @@ hole_head = ap outermost_step (ap out-Ty (sym ty.rolls-Hole) ∙ out-roll-Ty Ty-
 no_hole_head : (h : Outermost) → HasHead ty.Hole h → ⊥
 no_hole_head h has = (let clash : None ≡ Some h = sym hole_head ∙ has in cc)
 
-head_by : (u : Ty) (f g : ℕ → Ty) (o : Option RawType) (h : Outermost) → HasHead (lowered_by g o) h → HasHead (filled_by u f o) h
+head_by : (u : Ty) (f g : ℕ → Ty) (o : Option RawType) (h : Outermost) → HasHead (lowered_by g o) h
+    → HasHead (filled_by u f o) h
 head_by u f g None h has = has
 head_by u f g (Some type.Bool) h has = has
 head_by u f g (Some type.Char) h has = has
@@ -110,11 +110,14 @@ head_by u f g (Some (type.Integer i)) h has = has
 head_by u f g (Some (type.Tuple ts)) h has =
     let lengths : length (map (λ (t : TypeRefId). f t.0) ts) ≡ length (map (λ (t : TypeRefId). g t.0) ts) = length-map ts (λ (t : TypeRefId). f t.0) ∙ sym (length-map ts (λ (t : TypeRefId). g t.0)) in
     tuple_head (map (λ t. f t.0) ts) ∙ (ap (λ n. Some (tuple n)) lengths ∙ (sym (tuple_head (map (λ t. g t.0) ts)) ∙ has))
-head_by u f g (Some (type.Adt a ts)) h has = adt_head a (map (λ t. arg.Ty (f t.0)) ts) ∙ (sym (adt_head a (map (λ t. arg.Ty (g t.0)) ts)) ∙ has)
+head_by u f g (Some (type.Adt a ts)) h has =
+    adt_head a (map (λ t. arg.Ty (f t.0)) ts) ∙ (sym (adt_head a (map (λ t. arg.Ty (g t.0)) ts)) ∙ has)
 head_by u f g (Some (type.Param n)) h has = has
 head_by u f g (Some type.Hole) h has = absurd (no_hole_head h has)
 head_by u f g (Some type.Other) h has = has
 
-pub filled_head : (fill : ℕ → Ty) (types : List RawType) (w : TypeRefId) (h : Outermost) → HasHead (written_type types w) h → HasHead (filled_type fill types w) h
+pub filled_head : (fill : ℕ → Ty) (types : List RawType) (w : TypeRefId) (h : Outermost)
+    → HasHead (written_type types w) h → HasHead (filled_type fill types w) h
 unfolding lowered_within filled_within
-filled_head fill types w h has = head_by (fill w.0) (filled_within fill w.0 types) (lowered_within w.0 types) (slice_get types w.0) h has
+filled_head fill types w h has =
+    head_by (fill w.0) (filled_within fill w.0 types) (lowered_within w.0 types) (slice_get types w.0) h has

@@ -7,16 +7,13 @@ use Rattle.hir_types.specs.declared.ty.Ty.{Ty}
 use Rattle.hir_types.specs.Erasure.{Same}
 use Rattle.infer_result.specs.declared.result.InferenceResult.{InferenceResult}
 use Rattle.infer_result.specs.declared.result.TypeMismatch.{TypeMismatch}
-use Rattle.infer_result.specs.declared.result.Seen.{Seen}
-use Rattle.infer_result.specs.declared.diagnostics.InferenceDiagnostic.{InferenceDiagnostic}
 use Rattle.infer_result.specs.Table.{At, BindingTy}
-use Rattle.infer_result.specs.Closed.{IsOfBody, IsClosedTable, OnlyBindersHaveModes, OnlyNamedVariants}
-use Rattle.infer_result.specs.Places.{Given, HasPlaceholders, IsInput, PatIsAtOrMismatch, Demand}
-use Rattle.infer_result.specs.Rules.Expressions.{ObeysOrMismatch, BodyObeysOrMismatch}
-use Rattle.infer_result.specs.Rules.Patterns.{PatRule}
-use Rattle.infer_result.specs.Truth.Mismatch.{IsActual, IsTruePatMismatch}
-use Rattle.infer_result.specs.Truth.Seen.{IsTrueSeen, IsSaid}
-use Rattle.infer_result.specs.Truth.Calls.{IsTrueDiagnostic, IsTruePatDiagnostic}
+use Rattle.infer_result.specs.Shape.{IsShaped, IsTruthful}
+use Rattle.infer_result.specs.Places.{Given, PatIsAtOrMismatch}
+use Rattle.infer_result.specs.Incoming.{IsInput}
+use Rattle.infer_result.specs.Demands.{Demand}
+use Rattle.infer_result.specs.Rules.{ObeysOrMismatch, BodyObeysOrMismatch, PatRule}
+use Rattle.infer_result.specs.Truth.Mismatch.{IsActual}
 
 -- the two types differ, and the second is the actual one
 pub record IsMisfit (g : Given) (t : InferenceResult) (e : ExprId) (x : TypeMismatch) : Type 0 where
@@ -24,10 +21,7 @@ pub record IsMisfit (g : Given) (t : InferenceResult) (e : ExprId) (x : TypeMism
   pub actual : IsActual g t e x.actual
 
 pub record IsMade (g : Given) (t : InferenceResult) : Type 0 where
-  pub of_body : IsOfBody g.body t
-  pub closed : IsClosedTable t
-  pub modes : OnlyBindersHaveModes g.body t
-  pub placeholders : HasPlaceholders g t
+  pub shape : IsShaped g t
   pub clauses : (e : ExprId) → e.0 < length g.body.exprs → ObeysOrMismatch g t e
   pub kinds : (p : PatId) → p.0 < length g.body.pats → PatRule g t p (slice_get g.body.pats p.0)
   pub params : (i : ℕ) (p : PatId) (s : Ty) → slice_get g.body.params i ≡ Some p → IsInput g i s → PatIsAtOrMismatch g t p s
@@ -35,9 +29,4 @@ pub record IsMade (g : Given) (t : InferenceResult) : Type 0 where
   pub body_clause : BodyObeysOrMismatch g t
   pub misfits : (e : ExprId) (x : TypeMismatch) → At t.expr_mismatches e.0 x → IsMisfit g t e x
   pub demands : (e : ExprId) (x : TypeMismatch) → At t.expr_mismatches e.0 x → Demand g t e x.expected
-  pub diagnostics : (e : ExprId) (x : InferenceDiagnostic) → At t.expr_diagnostics e.0 x → IsTrueDiagnostic g t e x
-  pub pat_diagnostics : (p : PatId) (x : InferenceDiagnostic) → At t.pat_diagnostics p.0 x → IsTruePatDiagnostic g p x
-  pub variants : OnlyNamedVariants g.body t
-  pub pat_truths : (p : PatId) (x : TypeMismatch) → At t.pat_mismatches p.0 x → IsTruePatMismatch g t p x
-  pub seen : (i : ℕ) (x : Seen) → slice_get t.seen i ≡ Some x → IsTrueSeen g t x
-  pub said : (i : ℕ) (x : Seen) → slice_get t.seen i ≡ Some x → IsSaid g t x
+  pub complaints : IsTruthful g t

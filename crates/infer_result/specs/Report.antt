@@ -167,7 +167,8 @@ abbrev pub ty_text : RawFacts → Ty → List ℕ
 ty_text raw = fold-Ty (List ℕ) (List ℕ) (List ℕ) (List ℕ) text_arg (text_step raw) text_bound text_trait
 
 abbrev pub arg_text : RawFacts → GenericArg → List ℕ
-arg_text raw = fold-GenericArg (List ℕ) (List ℕ) (List ℕ) (List ℕ) text_arg (text_step raw) text_bound text_trait
+arg_text raw =
+    fold-GenericArg (List ℕ) (List ℕ) (List ℕ) (List ℕ) text_arg (text_step raw) text_bound text_trait
 
 -- the type of a node, where it has one
 abbrev pub type_text : RawFacts → Option Ty → List ℕ
@@ -196,7 +197,8 @@ variant_text None = []
 variant_text (Some v) = codes " = variant" ++ decimal v.0
 
 abbrev pub expr_line : RawFacts → List (Option VariantId) → ℕ → Option Ty → List ℕ
-expr_line raw variants i t = line (codes "e" ++ decimal i ++ codes " " ++ type_text raw t ++ variant_text (recorded variants i))
+expr_line raw variants i t =
+    line (codes "e" ++ decimal i ++ codes " " ++ type_text raw t ++ variant_text (recorded variants i))
 
 -- how a pattern binds, where it does
 abbrev pub mode_text : Option BindingMode → List ℕ
@@ -206,7 +208,8 @@ mode_text (Some (mode.Ref mutability.Not)) = codes " ref"
 mode_text (Some (mode.Ref mutability.Mut)) = codes " refmut"
 
 abbrev pub pat_line : RawFacts → List (Option BindingMode) → List (Option VariantId) → ℕ → Option Ty → List ℕ
-pat_line raw modes variants i t = line (codes "p" ++ decimal i ++ codes " " ++ type_text raw t ++ mode_text (recorded modes i) ++ variant_text (recorded variants i))
+pat_line raw modes variants i t =
+    line (codes "p" ++ decimal i ++ codes " " ++ type_text raw t ++ mode_text (recorded modes i) ++ variant_text (recorded variants i))
 
 abbrev pub binding_line : RawFacts → ℕ → Option Ty → List ℕ
 binding_line raw i t = line (codes "b" ++ decimal i ++ codes " " ++ type_text raw t)
@@ -219,7 +222,8 @@ type_field raw name t = name ++ ty_text raw t
 
 -- what was wanted, and what stands there
 abbrev pub mismatch_fields : RawFacts → TypeMismatch → List ℕ
-mismatch_fields raw m = type_field raw (codes " expected=") m.expected ++ type_field raw (codes " actual=") m.actual
+mismatch_fields raw m =
+    type_field raw (codes " expected=") m.expected ++ type_field raw (codes " actual=") m.actual
 
 abbrev pub mismatch_line : RawFacts → ℕ → Option TypeMismatch → List ℕ
 mismatch_line raw i None = []
@@ -239,7 +243,8 @@ diagnostic_text raw (diagnostic.MismatchedArgCount n expected found) =
     codes "MismatchedArgCount e" ++ decimal n.0 ++ counts_text expected found
 diagnostic_text raw (diagnostic.MismatchedTupleStructPatArgCount n expected found) =
     codes "MismatchedTupleStructPatArgCount " ++ node_text n ++ counts_text expected found
-diagnostic_text raw (diagnostic.ExpectedFunction n found) = codes "ExpectedFunction e" ++ decimal n.0 ++ type_field raw (codes " found=") found
+diagnostic_text raw (diagnostic.ExpectedFunction n found) =
+    codes "ExpectedFunction e" ++ decimal n.0 ++ type_field raw (codes " found=") found
 
 abbrev pub diagnostic_line : RawFacts → Option InferenceDiagnostic → List ℕ
 diagnostic_line raw None = []
@@ -263,7 +268,8 @@ pat_complaints raw diagnostics i m = pat_mismatch_line raw i m ++ diagnostic_lin
 -- ---- the whole
 
 abbrev pub complaint_count : InferenceResult → ℕ
-complaint_count t = count_by is_some t.expr_mismatches + count_by is_some t.expr_diagnostics + count_by is_some t.pat_mismatches + count_by is_some t.pat_diagnostics
+complaint_count t =
+    count_by is_some t.expr_mismatches + count_by is_some t.expr_diagnostics + count_by is_some t.pat_mismatches + count_by is_some t.pat_diagnostics
 
 abbrev pub report : DefWithBodyId → RawFacts → InferenceResult → List ℕ
 report d raw t =

@@ -16,8 +16,7 @@ use Rattle.infer_result.specs.declared.diagnostics.InferenceDiagnostic.{Inferenc
 use Rattle.infer_result.specs.declared.diagnostics.InferenceDiagnostic.TheVariants as diagnostic
 use Rattle.infer_result.specs.Table.{mismatch}
 use Rattle.infer_result.specs.Places.{Given, StandsAt}
-use Rattle.infer_result.specs.Rules.Expressions.{ObeysOrMismatch, ObeysExpression, BodyObeysOrMismatch, BodyObeys}
-use Rattle.infer_result.specs.Rules.Patterns.{PatRule, ObeysPattern}
+use Rattle.infer_result.specs.Rules.{ObeysOrMismatch, ObeysExpression, BodyObeysOrMismatch, BodyObeys, PatRule, ObeysPattern}
 use Rattle.infer_result.specs.Typed.{given}
 
 -- ---- a table under an assignment

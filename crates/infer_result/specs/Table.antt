@@ -1,5 +1,5 @@
 -- What a table says of a node.
-use Rattle.std.specs.Prelude.{ℕ, ◌≡◌, ◌⊎◌, List, [], ◌∷◌, slice_get, Option, Some}
+use Rattle.std.specs.Prelude.{ℕ, ◌≡◌, ◌⊎◌, List, [], ◌∷◌, slice_get, Option, Some, None}
 use Rattle.std.specs.Option.{option_and_then}
 use Rattle.hir_types.specs.declared.ids.ExprId.{ExprId}
 use Rattle.hir_types.specs.declared.ids.PatId.{PatId}
@@ -69,6 +69,11 @@ HasMismatch t e = (x : TypeMismatch) × At t.expr_mismatches e.0 x
 abbrev pub AnyMismatch : InferenceResult → List ExprId → Type 0
 AnyMismatch t [] = ⊥
 AnyMismatch t (e ∷ es) = HasMismatch t e ⊎ AnyMismatch t es
+
+-- some is listed at the expression, where there is one
+abbrev pub MaybeMismatch : InferenceResult → Option ExprId → Type 0
+MaybeMismatch t None = ⊥
+MaybeMismatch t (Some e) = HasMismatch t e
 
 -- this complaint, other than a mismatch, is listed at the expression
 abbrev pub HasDiagnostic : InferenceResult → ExprId → InferenceDiagnostic → Type 0

@@ -1,3 +1,3 @@
 pub mod Mismatch
 pub mod Seen
-pub mod Calls
+pub mod Diagnostics

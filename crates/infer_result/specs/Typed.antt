@@ -1,5 +1,5 @@
 -- What a finished table is, node by node: no order, no state.
-use Rattle.std.specs.Prelude.{ℕ, ◌≡◌, ◌<◌, ◌⊎◌, length, slice_get, Some}
+use Rattle.std.specs.Prelude.{◌≡◌, ◌<◌, ◌⊎◌, length, Some}
 use Rattle.hir_types.specs.declared.ids.ExprId.{ExprId}
 use Rattle.hir_types.specs.declared.ids.PatId.{PatId}
 use Rattle.hir_types.specs.declared.ids.DefWithBodyId.{DefWithBodyId}
@@ -10,31 +10,21 @@ use Rattle.hir_facts.specs.Bodies.{body_of, return_type, inputs_of}
 use Rattle.hir_facts.specs.Scope.{scope_of}
 use Rattle.infer_result.specs.declared.result.InferenceResult.{InferenceResult}
 use Rattle.infer_result.specs.declared.result.TypeMismatch.{TypeMismatch}
-use Rattle.infer_result.specs.declared.result.Seen.{Seen}
-use Rattle.infer_result.specs.declared.diagnostics.InferenceDiagnostic.{InferenceDiagnostic}
 use Rattle.infer_result.specs.Table.{At, HasTy}
-use Rattle.infer_result.specs.Closed.{IsOfBody, IsTotal, IsClosedTable, OnlyBindersHaveModes, OnlyNamedVariants}
+use Rattle.infer_result.specs.Closed.{IsTotal}
 use Rattle.infer_result.specs.Fit.{TypesFit, SeenFit}
-use Rattle.infer_result.specs.Places.{Given, HasPlaceholders}
-use Rattle.infer_result.specs.Rules.Expressions.{ObeysOrMismatch, ObeysExpression, BodyObeysOrMismatch, BodyObeys}
-use Rattle.infer_result.specs.Rules.Patterns.{ObeysPattern}
+use Rattle.infer_result.specs.Shape.{IsShaped, IsTruthful}
+use Rattle.infer_result.specs.Places.{Given}
+use Rattle.infer_result.specs.Rules.{ObeysOrMismatch, ObeysExpression, BodyObeysOrMismatch, BodyObeys, ObeysPattern}
 use Rattle.infer_result.specs.Excused.{IsExcused, BodyIsExcused}
 use Rattle.infer_result.specs.Upward.{Up}
-use Rattle.infer_result.specs.Truth.Mismatch.{IsTrueMismatch, IsTruePatMismatch}
-use Rattle.infer_result.specs.Truth.Seen.{IsTrueSeen, IsSaid}
-use Rattle.infer_result.specs.Truth.Calls.{IsTrueDiagnostic, IsTruePatDiagnostic}
+use Rattle.infer_result.specs.Truth.Mismatch.{IsTrueMismatch}
 
 -- Each node obeys its rule, clause by clause but for listed mismatches, and so each node that is not
--- excused obeys it whole; each type that a node has by itself stands; each mismatch and
--- each other complaint is true; and so is each failed look-up that is kept, of which a complaint tells unless `{unknown}` is in
--- the type.
+-- excused obeys it whole; each type that a node has by itself stands; and each complaint is true.
 pub record IsTyped (g : Given) (t : InferenceResult) : Type 0 where
-  pub of_body : IsOfBody g.body t
+  pub shape : IsShaped g t
   pub total : IsTotal g.body t
-  pub closed : IsClosedTable t
-  pub modes : OnlyBindersHaveModes g.body t
-  pub placeholders : HasPlaceholders g t
-  pub variants : OnlyNamedVariants g.body t
   pub clauses : (e : ExprId) → e.0 < length g.body.exprs → ObeysOrMismatch g t e
   pub exprs : (e : ExprId) → e.0 < length g.body.exprs → IsExcused g t e ⊎ ObeysExpression g t e
   pub pats : (p : PatId) → p.0 < length g.body.pats → ObeysPattern g t p
@@ -42,15 +32,12 @@ pub record IsTyped (g : Given) (t : InferenceResult) : Type 0 where
   pub body_rule : BodyIsExcused g t ⊎ BodyObeys g t
   pub upward : (e : ExprId) (s : Ty) → Up g e s → HasTy t e s
   pub truths : (e : ExprId) (x : TypeMismatch) → At t.expr_mismatches e.0 x → IsTrueMismatch g t e x
-  pub diagnostics : (e : ExprId) (x : InferenceDiagnostic) → At t.expr_diagnostics e.0 x → IsTrueDiagnostic g t e x
-  pub pat_diagnostics : (p : PatId) (x : InferenceDiagnostic) → At t.pat_diagnostics p.0 x → IsTruePatDiagnostic g p x
-  pub pat_truths : (p : PatId) (x : TypeMismatch) → At t.pat_mismatches p.0 x → IsTruePatMismatch g t p x
-  pub seen : (i : ℕ) (x : Seen) → slice_get t.seen i ≡ Some x → IsTrueSeen g t x
-  pub said : (i : ℕ) (x : Seen) → slice_get t.seen i ≡ Some x → IsSaid g t x
+  pub complaints : IsTruthful g t
 
 -- the body of a definition among its facts
 abbrev pub given : RawFacts → DefWithBodyId → RawBody → Given
-given raw d b = record { scope = scope_of raw d; body = b; inputs = inputs_of raw d; output = return_type raw d }
+given raw d b =
+    record { scope = scope_of raw d; body = b; inputs = inputs_of raw d; output = return_type raw d }
 
 -- the table is one of the definition's body, typed, and its types name what the facts have
 pub record IsTableOf (raw : RawFacts) (d : DefWithBodyId) (t : InferenceResult) : Type 0 where

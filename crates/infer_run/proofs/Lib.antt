@@ -1,3 +1,5 @@
+pub mod Complete
+pub mod Consequences
 pub mod Pieces
 pub mod Three
 pub mod Endings

@@ -2,5 +2,3 @@ pub mod Causes
 pub mod Command
 pub mod Outcome
 pub mod Answer
-pub mod Consequences
-pub mod Complete

@@ -59,7 +59,8 @@ pub record HasFacts (words : List (List ℕ)) (e : Ends) (ran : Ran) : Type 0 wh
   pub is_read : IsRead text raw
   pub facts_is : ran.facts ≡ Some raw
 
--- the definition has a body, and this is its table, which has the types before open holes fell back exactly where the body is plain
+-- the definition has a body, and this is its table, which has the types before open holes fell back exactly
+-- where the body is plain
 pub record IsInferred (def : DefWithBodyId) (raw : RawFacts) (ran : Ran) : Type 0 where
   pub has_body : HasBody raw def
   pub table : InferenceResult

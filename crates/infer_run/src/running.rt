@@ -1,11 +1,10 @@
 //! The top call: reads facts, infers a definition's table, and writes the report on it.
-ghost use Rattle.std.specs.Prelude.{◌≡◌, ◌<◌, ◌≤◌, ◌+◌, ℕ, List, length, map, IfOk, IfSome, OnOk, OnErr, IsErrOf, Some};
+ghost use Rattle.std.specs.Prelude.{◌≡◌, ◌<◌, ◌≤◌, ◌+◌, ℕ, List, length, map, IfOk, OnOk, OnErr, IsErrOf, Some};
 ghost use Rattle.std.specs.Io.KnownBytes.{Appends, Consumes, IsAtEnd};
 ghost use Rattle.std.specs.Rc.{rc_str_bytes};
 ghost use Rattle.hir_facts.specs.Bodies.{HasBody};
 ghost use Rattle.infer_result.specs.Typed.{IsTableOf};
 ghost use Rattle.infer_result.specs.General.{HasGeneral};
-ghost use Rattle.infer_result.specs.Report.{report, complaint_count};
 ghost use Rattle.infer_run.specs.Causes.{Rose, HasCause};
 ghost use Rattle.infer_run.specs.Outcome.{AppendsFront, Outcome};
 ghost use Rattle.infer_run.specs.Answer.{Answered, silence, refusal};

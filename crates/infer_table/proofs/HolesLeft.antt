@@ -9,7 +9,7 @@ use Rattle.hir_types.specs.Terms.{Term, hole, leaf, pair, apply, occurs, hole_eq
 use Rattle.infer_table.specs.declared.binding.Binding.{Binding}
 use Rattle.infer_table.specs.Solutions.{Log, log_of, Solves, resolved, found, binds, Free, Triangular}
 use Rattle.infer_table.specs.Bindings.{found_binding}
-use Rattle.infer_table.specs.BindingLaws.{found_log_some}
+use Rattle.infer_table.proofs.BindingLaws.{found_log_some}
 use Rattle.infer_table.specs.TermLemmas.{hole_eq_true, hole_eq_same, hole_ne, pair_left, pair_right, apply_agree}
 use Rattle.infer_table.specs.LogLemmas.{found_left, none_found, solution, solution_apply, solution_solves, solves_after, resolved_apply, resolved_open, resolved_free}
 use Rattle.infer_table.specs.Opened.{opened, origins}

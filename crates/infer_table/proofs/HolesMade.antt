@@ -11,7 +11,7 @@ use Rattle.hir_types.specs.Outlines.{part_term, part_terms}
 use Rattle.infer_table.specs.declared.binding.Binding.{Binding}
 use Rattle.infer_table.specs.Solutions.{log_of, IsOf, AreOf}
 use Rattle.infer_table.specs.Bindings.{AllOf}
-use Rattle.infer_table.specs.BindingLaws.{binds_of_all}
+use Rattle.infer_table.proofs.BindingLaws.{binds_of_all}
 use Rattle.infer_table.specs.Resolution.{found_for, found_for_in_log}
 use Rattle.infer_table.specs.LogLemmas.{binds_of_found, are_of_hole, are_of_leaf, are_of_pair, are_of_parts}
 use Rattle.infer_table.specs.TermLemmas.{hole_eq_same}

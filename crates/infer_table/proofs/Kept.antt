@@ -13,7 +13,7 @@ use Rattle.infer_table.specs.declared.binding.Binding.{Binding}
 use Rattle.infer_table.specs.declared.bindings.Variable.{Variable}
 use Rattle.infer_table.specs.Solutions.{Log, log_of, Triangular, hole_kind, IsOf}
 use Rattle.infer_table.specs.Bindings.{Substitution, kinds_of, bound_hole, found_binding, AllOf, IsKept, MayBind}
-use Rattle.infer_table.specs.BindingLaws.{get_left, get_last, get_more, get_set_same, get_set_other, get_set, get_take, get_from_take, is_of_same, found_binding_place, found_binding_none, all_of_last, all_of_left, all_of_at, all_of_more, triangular_bind, log_of_append}
+use Rattle.infer_table.proofs.BindingLaws.{get_left, get_last, get_more, get_set_same, get_set_other, get_set, get_take, get_from_take, is_of_same, found_binding_place, found_binding_none, all_of_last, all_of_left, all_of_at, all_of_more, triangular_bind, log_of_append}
 use Rattle.infer_table.specs.LogLemmas.{triangular_left}
 
 -- ---- the variable of a hole

@@ -1,3 +1,11 @@
+pub mod BindingLaws
+pub mod CompletionLaws
+pub mod FrontLaws
+pub mod HoleLaws
+pub mod TableLaws
+pub mod UndoLaws
+pub mod UnifyLaws
+pub mod WaitingLaws
 pub mod Kept
 pub mod Weights
 pub mod Unifying

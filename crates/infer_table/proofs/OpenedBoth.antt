@@ -7,16 +7,16 @@ use Rattle.infer_table.specs.declared.binding.Binding.{Binding}
 use Rattle.infer_table.specs.declared.open.Origin.{Origin}
 use Rattle.infer_table.specs.Solutions.{Log, log_of, Solves, resolved, Triangular, AreOf, Unified, NoneUnifies}
 use Rattle.infer_table.specs.Bindings.{Substitution, AllOf}
-use Rattle.infer_table.specs.BindingLaws.{log_of_append, binds_of_all}
+use Rattle.infer_table.proofs.BindingLaws.{log_of_append, binds_of_all}
 use Rattle.infer_table.specs.LogLemmas.{are_of_more, resolved_free, solution, solution_respects, solution_solves}
 use Rattle.infer_table.specs.Opened.{place, alias, opened, origins}
 use Rattle.infer_table.specs.OpenedLaws.{AreOrigins, opened_bounds, origins_plain}
 use Rattle.infer_table.specs.OpenedAgree.{AreSettled}
 use Rattle.infer_table.specs.OpenedKinds.{new_kinds, OriginsOf, origins_of_more, origins_of_append, opened_of, below_of, log_below_of}
 use Rattle.infer_table.specs.Opening.{origins_of}
-use Rattle.infer_table.specs.Equating.{OnlyBinds}
+use Rattle.infer_table.specs.Equating.{OnlyAdds}
 use Rattle.infer_table.specs.Least.{first_opened, second_opened, origins_of_both, AreAmong, AreFree, BindsSome, BindsLeast, HolesAreLeft}
-use Rattle.infer_table.specs.Settling.{AreOriginsOf, IsMostGeneral, IsUnified}
+use Rattle.infer_table.specs.Settling.{AreOriginsOf, UnifiesGenerally, IsUnified}
 use Rattle.infer_table.specs.Unifying.{GrownFrom, CanBeSame, left_opened, next_number, right_opened, can_be_same, both_agree, plain_unifies, plain_general, plain_next, cannot_be_same, resolved_grown}
 use Rattle.infer_table.proofs.HolesLeft.{holes_left}
 
@@ -114,7 +114,7 @@ append_twice (x ∷ xs) ys zs = ap (λ (z : List Binding). x ∷ z) (append_twic
 pub record Steps (s : Substitution) (log : List Binding) (z y : Substitution) : Type 0 where
   pub opened_log : log ≡ s.log
   pub equated : (bs : List Binding) × (z.log ≡ log ++ bs)
-  pub settled : OnlyBinds z y
+  pub settled : OnlyAdds z y
   pub made_before : AllOf s.kinds s.log
   pub acyclic_before : Triangular (log_of s.log)
   pub acyclic_after : Triangular (log_of y.log)
@@ -167,7 +167,7 @@ module _ (s : Substitution) (log : List Binding) (z y : Substitution) (t u a b v
         most_general = λ p q.
             let none : os ≡ [] = none_from os (both.origins_are ∙ (λ i. origins_plain n (resolved l a) p i ++ origins_plain (next_number n l a) (resolved l b) q i)) in
             let same = nothing none in
-            let U : Substitution → Type 0 = λ x. IsMostGeneral s x a b in
+            let U : Substitution → Type 0 = λ x. UnifiesGenerally s x a b in
             subst U (sym same) (record {
               unifies = plain_unifies n l (log_of z.log) a b p q joined;
               general = plain_general n l (log_of z.log) a b p q joined;

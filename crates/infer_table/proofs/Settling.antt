@@ -10,15 +10,15 @@ use Rattle.infer_table.specs.declared.binding.Binding.{Binding}
 use Rattle.infer_table.specs.declared.open.Origin.{Origin}
 use Rattle.infer_table.specs.Solutions.{Log, log_of, single, resolved, found, Triangular, Unified}
 use Rattle.infer_table.specs.Bindings.{Substitution, with_binding, bound_hole, bound_term, found_binding}
-use Rattle.infer_table.specs.BindingLaws.{log_of_last, found_log_none}
+use Rattle.infer_table.proofs.BindingLaws.{log_of_last, found_log_none}
 use Rattle.infer_table.specs.Opened.{place, alias}
 use Rattle.infer_table.specs.OpenedAgree.{IsSettled, AreSettled, IsNoTypeHole, settled_inside, settled_here, settle_step, settled_append}
 use Rattle.infer_table.specs.Opening.{origins_of}
 use Rattle.infer_table.specs.Equating.{IsOpenHole, IsResolved}
-use Rattle.infer_table.specs.Least.{IsOneOf, IsFree, BindsSome}
+use Rattle.infer_table.specs.Least.{IsOneOf, CanBeAnything, BindsSome}
 use Rattle.infer_table.specs.LogLemmas.{solution, solution_solves, solves_after, resolved_apply, resolved_open}
 use Rattle.infer_table.specs.TermLemmas.{sub_same}
-use Rattle.infer_table.specs.Unify.{unified_bind, unified_if_put_in_left}
+use Rattle.infer_table.proofs.UnifyLaws.{unified_bind, unified_if_put_in_left}
 use Rattle.infer_table.specs.Settling.{Settled, SettlesOrigin, IsOriginOf, AreOriginsOf}
 use Rattle.infer_table.proofs.Unifying.{resolved_hole}
 
@@ -30,7 +30,7 @@ settles_stands s k t u e o = record {
 }
 
 -- an open hole is free
-free_where_open : (l : Log) (k : ℕ) → Triangular l → found l (hole_of.Ty k) ≡ None → IsFree l k
+free_where_open : (l : Log) (k : ℕ) → Triangular l → found l (hole_of.Ty k) ≡ None → CanBeAnything l k
 free_where_open l k acyclic is_open v =
     let x = hole_of.Ty k in
     let f = single x v in (
@@ -40,7 +40,7 @@ free_where_open l k acyclic is_open v =
     )
 
 -- so is one that comes to it
-free_through : (l : Log) (n k : ℕ) → resolved l (hole (hole_of.Ty n)) ≡ hole (hole_of.Ty k) → IsFree l k → IsFree l n
+free_through : (l : Log) (n k : ℕ) → resolved l (hole (hole_of.Ty n)) ≡ hole (hole_of.Ty k) → CanBeAnything l k → CanBeAnything l n
 free_through l n k e free v =
     let x = free v in
     (x.0, x.1, sym (resolved_apply x.0 l (hole (hole_of.Ty n)) x.1) ∙ ap (apply x.0) e ∙ x.2)
@@ -122,7 +122,7 @@ origin_at kinds (p ∷ os) (suc i) o h e = origin_at kinds os i o h.1 e
 pub binds_none : (l : Log) (ps : List (ℕ × Term)) → BindsSome l l ps
 binds_none l ps = record { bound = []; among = tt; free = tt; keeps = λ s h. h; stand = λ s h. tt; general = λ s h e. h }
 
-binds_one : (l m n : Log) (p : ℕ × Term) (ps : List (ℕ × Term)) → IsOneOf p ps → BindsSome l m ps → Unified m n (hole (hole_of.Ty p.0)) p.1 → IsFree m p.0 → BindsSome l n ps
+binds_one : (l m n : Log) (p : ℕ × Term) (ps : List (ℕ × Term)) → IsOneOf p ps → BindsSome l m ps → Unified m n (hole (hole_of.Ty p.0)) p.1 → CanBeAnything m p.0 → BindsSome l n ps
 binds_one l m n p ps i x u free = record {
   bound = p ∷ x.bound;
   among = (i, x.among);

@@ -8,13 +8,13 @@ use Rattle.infer_table.specs.Solutions.{log_of, resolved}
 use Rattle.infer_table.specs.Bindings.{Substitution}
 use Rattle.infer_table.specs.LogLemmas.{are_of_more}
 use Rattle.infer_table.specs.Resolution.{resolution_term}
-use Rattle.infer_table.specs.Opened.{Agree, IsPlain, Reads}
+use Rattle.infer_table.specs.Opened.{Agree, IsPlain, IsReadAs}
 use Rattle.infer_table.specs.Least.{number_after, BindsLeast, HolesAreLeft}
 use Rattle.infer_table.specs.Settling as settling
 use Rattle.infer_table.specs.Settling.{OnlyGrows, IsUnified, UnifiesOrStays}
 use Rattle.infer_table.specs.Unifying.{CanBeSame}
 use Rattle.infer_table.specs.Table.{State, IsFront, PairsAreOf, hole_count, bindings, resolved_term, HolesAreKept, CanBeEqual, AreUnified, AreUnifiedIf, IsMostGeneral}
-use Rattle.infer_table.specs.UndoLaws.{front_itself}
+use Rattle.infer_table.proofs.UndoLaws.{front_itself}
 
 -- ---- kinds
 
@@ -36,13 +36,13 @@ term_at s t = sym (resolution_term (bindings s) t)
 
 can_be_equal : (s : State) (a b : Ty) → CanBeSame (log_of (bindings s)) (term a) (term b) → CanBeEqual s a b
 can_be_equal s a b c =
-    (c.0, c.1, c.2, c.3, subst (λ (x : Term). Reads c.0 x c.1) (term_at s a) c.4, subst (λ (x : Term). Reads c.0 x c.1) (term_at s b) c.5)
+    (c.0, c.1, c.2, c.3, subst (λ (x : Term). IsReadAs c.0 x c.1) (term_at s a) c.4, subst (λ (x : Term). IsReadAs c.0 x c.1) (term_at s b) c.5)
 
 can_be_same : (s : State) (a b : Ty) → CanBeEqual s a b → CanBeSame (log_of (bindings s)) (term a) (term b)
 can_be_same s a b c =
-    (c.0, c.1, c.2, c.3, subst (λ (x : Term). Reads c.0 x c.1) (sym (term_at s a)) c.4, subst (λ (x : Term). Reads c.0 x c.1) (sym (term_at s b)) c.5)
+    (c.0, c.1, c.2, c.3, subst (λ (x : Term). IsReadAs c.0 x c.1) (sym (term_at s a)) c.4, subst (λ (x : Term). IsReadAs c.0 x c.1) (sym (term_at s b)) c.5)
 
-most_general : (before after : State) (a b : Ty) → settling.IsMostGeneral before.substitution after.substitution (term a) (term b) → IsMostGeneral before after a b
+most_general : (before after : State) (a b : Ty) → settling.UnifiesGenerally before.substitution after.substitution (term a) (term b) → IsMostGeneral before after a b
 most_general before after a b h = record { unifies = h.unifies; general = h.general; no_hole_made = h.no_hole_made }
 
 holes_kept : (before after : State) (a b t : Ty) → HolesAreLeft (hole_count before) (bindings after) (resolved (log_of (bindings before)) (term a)) (resolved (log_of (bindings before)) (term b)) (resolved (log_of (bindings after)) (term t)) → HolesAreKept before after a b t

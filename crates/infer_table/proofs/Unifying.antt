@@ -19,22 +19,22 @@ use Rattle.hir_types.specs.Outlines.{part_term, part_terms}
 use Rattle.infer_table.specs.declared.binding.Binding.{Binding}
 use Rattle.infer_table.specs.Solutions.{Log, log_of, resolved, binds, IsIntHole, Triangular, Free, Kept, IsOf, AreOf, Unified, NoneUnifies, UnifiedIf}
 use Rattle.infer_table.specs.Bindings.{Substitution, bound_hole, bound_term, found_binding, with_binding, AllOf, MayBind, IsTypeHole}
-use Rattle.infer_table.specs.Equating.{OnlyBinds, IsOpenHole, IsResolved, HasHead}
+use Rattle.infer_table.specs.Equating.{OnlyAdds, IsOpenHole, IsResolved, IsHeaded}
 use Rattle.infer_table.specs.TermLemmas.{hole_eq_true, hole_eq_same, hole_eq_flip, hole_ne, hole_same, hole_respects, pair_right, IsNoHole}
 use Rattle.infer_table.specs.LogLemmas.{found_binds, found_none as unbound, resolved_fixed, resolved_free}
-use Rattle.infer_table.specs.BindingLaws.{found_log_some, found_log_none, log_of_last, resolved_made}
+use Rattle.infer_table.proofs.BindingLaws.{found_log_some, found_log_none, log_of_last, resolved_made}
 use Rattle.infer_table.specs.Resolution.{resolution, resolution_term}
-use Rattle.infer_table.specs.Unify.{unified_bind, unified_if_node, unified_flip, unified_same, unified_if_flip, unified_if_put_in, unified_if_put_in_left, unified_if_put_in_right, none_occurs, none_nodes, unified_chain_more, none_chain_more, none_chain_length}
+use Rattle.infer_table.proofs.UnifyLaws.{unified_bind, unified_if_node, unified_flip, unified_equal, unified_if_flip, unified_if_put_in, unified_if_put_in_left, unified_if_put_in_right, none_occurs, none_nodes, unified_chain_more, none_chain_more, none_chain_length}
 
 -- ---- bindings that are added
 
-pub same_bindings : (s t : Substitution) → t ≡ s → OnlyBinds s t
+pub same_bindings : (s t : Substitution) → t ≡ s → OnlyAdds s t
 same_bindings s t e = record {
   kinds = ap (λ (z : Substitution). z.kinds) e;
   added = ([], ap (λ (z : Substitution). z.log) e ∙ sym (append-nil s.log));
 }
 
-pub more_bindings : (r s t : Substitution) → OnlyBinds r s → OnlyBinds s t → OnlyBinds r t
+pub more_bindings : (r s t : Substitution) → OnlyAdds r s → OnlyAdds s t → OnlyAdds r t
 more_bindings r s t f g = record {
   kinds = g.kinds ∙ f.kinds;
   added = (f.added.0 ++ g.added.0, g.added.1 ∙ ap (λ (z : List Binding). z ++ g.added.0) f.added.1 ∙ append_assoc r.log f.added.0 g.added.0);
@@ -109,7 +109,7 @@ unified_binding s t b x u e f r q =
 
 -- ---- a hole and a type that it cannot stand for
 
-pub none_of_cycle : (s : Substitution) (x : Hole) (h : Head) (t : Term) → IsResolved s t → HasHead h t → occurs x t ≡ true → NoneUnifies (log_of s.log) (hole x) t
+pub none_of_cycle : (s : Substitution) (x : Hole) (h : Head) (t : Term) → IsResolved s t → IsHeaded h t → occurs x t ≡ true → NoneUnifies (log_of s.log) (hole x) t
 none_of_cycle s x h t r p o =
     let P : Term → Type 0 = IsNoHole in
     none_occurs (log_of s.log) x t t (sym (resolved_fixed (log_of s.log) t r.none_bound)) (subst P (sym p.is) tt) o
@@ -250,23 +250,23 @@ unified_holes s t b x y p h g n e i j f =
 -- ---- what a call answers
 
 -- where it is an answer
-abbrev pub Unifies : {E : Type 0} → Result Bool E → Log → Log → Term → Term → Type 0
-Unifies r l m a b = IfOk r (λ yes. UnifiedIf yes l m a b)
+abbrev pub AnswersUnified : {E : Type 0} → Result Bool E → Log → Log → Term → Term → Type 0
+AnswersUnified r l m a b = IfOk r (λ yes. UnifiedIf yes l m a b)
 
 if_ok : {A E : Type 0} (P Q : A → Type 0) (r : Result A E) → ((x : A) → P x → Q x) → IfOk r P → IfOk r Q
 if_ok P Q (Ok x) f h = f x h
 if_ok P Q (Err e) f h = h
 
-pub unifies_flip : {E : Type 0} (r : Result Bool E) (l m : Log) (a b : Term) → Unifies r l m a b → Unifies r l m b a
+pub unifies_flip : {E : Type 0} (r : Result Bool E) (l m : Log) (a b : Term) → AnswersUnified r l m a b → AnswersUnified r l m b a
 unifies_flip r l m a b h = if_ok (λ y. UnifiedIf y l m a b) (λ y. UnifiedIf y l m b a) r (λ y u. unified_if_flip y l m a b u) h
 
-pub unifies_put_in_left : {E : Type 0} (r : Result Bool E) (l m : Log) (a a' b : Term) → a' ≡ resolved l a → Unifies r l m a' b → Unifies r l m a b
+pub unifies_put_in_left : {E : Type 0} (r : Result Bool E) (l m : Log) (a a' b : Term) → a' ≡ resolved l a → AnswersUnified r l m a' b → AnswersUnified r l m a b
 unifies_put_in_left r l m a a' b e h = if_ok (λ y. UnifiedIf y l m a' b) (λ y. UnifiedIf y l m a b) r (λ y u. unified_if_put_in_left y l m a a' b e u) h
 
-pub unifies_put_in_right : {E : Type 0} (r : Result Bool E) (l m : Log) (a b b' : Term) → b' ≡ resolved l b → Unifies r l m a b' → Unifies r l m a b
+pub unifies_put_in_right : {E : Type 0} (r : Result Bool E) (l m : Log) (a b b' : Term) → b' ≡ resolved l b → AnswersUnified r l m a b' → AnswersUnified r l m a b
 unifies_put_in_right r l m a b b' e h = if_ok (λ y. UnifiedIf y l m a b') (λ y. UnifiedIf y l m a b) r (λ y u. unified_if_put_in_right y l m a b b' e u) h
 
-pub unifies_put_in : {E : Type 0} (r : Result Bool E) (l m : Log) (a a' b b' : Term) → a' ≡ resolved l a → b' ≡ resolved l b → Unifies r l m a' b' → Unifies r l m a b
+pub unifies_put_in : {E : Type 0} (r : Result Bool E) (l m : Log) (a a' b b' : Term) → a' ≡ resolved l a → b' ≡ resolved l b → AnswersUnified r l m a' b' → AnswersUnified r l m a b
 unifies_put_in r l m a a' b b' e f h = if_ok (λ y. UnifiedIf y l m a' b') (λ y. UnifiedIf y l m a b) r (λ y u. unified_if_put_in y l m a a' b b' e f u) h
 
 -- what putting the bindings in gives
@@ -279,12 +279,12 @@ known_none_bound r s t h a m k = if_ok (λ made. made ≡ folded (resolution s.l
 -- ---- consts and marks that are compared
 
 pub consts_compared : (y : Bool) (l : Log) (c d : Const) → ((n : ℕ) → c ≡ const.Var n → ⊥) → ((n : ℕ) → d ≡ const.Var n → ⊥) → (IsTrue y ↔ c ≡ d) → UnifiedIf y l l (const_term c) (const_term d)
-consts_compared true l c d m n e = unified_same l (const_term c) (const_term d) (ap const_term (e.0 refl))
+consts_compared true l c d m n e = unified_equal l (const_term c) (const_term d) (ap const_term (e.0 refl))
 consts_compared false l c d m n e = none_consts l c d m n (λ q. false≢true (e.1 q))
 
 -- ---- nodes, part by part
 
-pub part_made : (before after : Substitution) (h : Head) (xs : List Part) (i : ℕ) (x : Part) → OnlyBinds before after → slice_get xs i ≡ Some x → AreOf before.kinds (node h (part_terms xs)) → AreOf after.kinds (part_term x)
+pub part_made : (before after : Substitution) (h : Head) (xs : List Part) (i : ℕ) (x : Part) → OnlyAdds before after → slice_get xs i ≡ Some x → AreOf before.kinds (node h (part_terms xs)) → AreOf after.kinds (part_term x)
 part_made before after h xs i x b e m =
     let P : List HoleKind → Type 0 = λ ks. AreOf ks (part_term x) in
     subst P (sym b.kinds) (made_parts before.kinds h xs i x e m)

@@ -8,7 +8,7 @@ use Rattle.infer_table.specs.Solutions.{log_of, Free, IsOf, AreOf}
 use Rattle.infer_table.specs.Bindings.{Substitution, found_binding, IsTypeHole}
 
 -- only bindings are added
-pub record OnlyBinds (before after : Substitution) : Type 0 where
+pub record OnlyAdds (before after : Substitution) : Type 0 where
   pub kinds : after.kinds ≡ before.kinds
   pub added : (bs : List Binding) × (after.log ≡ before.log ++ bs)
 
@@ -24,6 +24,6 @@ pub record IsResolved (s : Substitution) (t : Term) : Type 0 where
   pub none_bound : Free (log_of s.log) t
 
 -- no hole, and what stands outermost
-pub record HasHead (h : Head) (t : Term) : Type 0 where
+pub record IsHeaded (h : Head) (t : Term) : Type 0 where
   pub parts : Term
   pub is : t ≡ pair (leaf h) parts

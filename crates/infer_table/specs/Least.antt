@@ -46,8 +46,8 @@ AreFree P [] = Unit {0}
 AreFree P (p ∷ ps) = ((v : Term) → (s : Hole → Term) × P s × AllStand s ps × (s (hole_of.Ty p.0) ≡ v)) × AreFree P ps
 
 -- whatever the term, some assignment that solves the bindings sends the hole to it
-abbrev pub IsFree : Log → ℕ → Type 0
-IsFree l n = (v : Term) → (s : Hole → Term) × Solves s l × (s (hole_of.Ty n) ≡ v)
+abbrev pub CanBeAnything : Log → ℕ → Type 0
+CanBeAnything l n = (v : Term) → (s : Hole → Term) × Solves s l × (s (hole_of.Ty n) ≡ v)
 
 -- exactly the assignments that solve `before` and have some holes, each free till then, stand for their aliases
 -- solve `after`
@@ -74,9 +74,9 @@ pub record BindsLeast (n : ℕ) (before after : Log) (t u : Term) : Type 0 where
 -- ---- which holes are left
 
 -- an open hole that stands in one of the two terms, or has a number from n on
-pub record IsLeft (n : ℕ) (bindings : List Binding) (t u : Term) (k : Hole) : Type 0 where
+pub record IsLeftHole (n : ℕ) (bindings : List Binding) (t u : Term) (k : Hole) : Type 0 where
   pub is_open : found_binding bindings k ≡ None
   pub from : (occurs k t ≡ true) ⊎ (occurs k u ≡ true) ⊎ (n ≤ hole_number k)
 
 abbrev pub HolesAreLeft : ℕ → List Binding → Term → Term → Term → Type 0
-HolesAreLeft n bindings t u v = (k : Hole) → occurs k v ≡ true → IsLeft n bindings t u k
+HolesAreLeft n bindings t u v = (k : Hole) → occurs k v ≡ true → IsLeftHole n bindings t u k

@@ -9,10 +9,6 @@ pub mod OpenedLists
 pub mod Opening
 pub mod OpenedAgree
 pub mod OpenedKinds
-pub mod Unify
-pub mod BindingLaws
-pub mod WaitingLaws
-pub mod FrontLaws
 pub mod Resolution
 pub mod Equating
 pub mod Unifying
@@ -20,10 +16,6 @@ pub mod Least
 pub mod Table
 pub mod Undo
 pub mod Completion
-pub mod UndoLaws
 pub mod Settling
-pub mod TableLaws
-pub mod CompletionLaws
 pub mod Made
 pub mod Preserved
-pub mod HoleLaws

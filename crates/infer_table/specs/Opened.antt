@@ -30,11 +30,11 @@ IsPlain (pair a b) = (place (pair a b) ≡ plain) × IsPlain a × IsPlain b
 -- ---- reading each at each place as a hole of its own
 
 -- `u` is the term under `s`, with anything in the place of each alias and each `{unknown}`
-abbrev pub Reads : (Hole → Term) → Term → Term → Type 0
-Reads s (hole k) u = s k ≡ u
-Reads s (leaf h) u = leaf h ≡ u
-Reads s (pair a b) u = elim (place (pair a b)) [
-  | plain ↦ (v : Term) × (w : Term) × (u ≡ pair v w) × Reads s a v × Reads s b w
+abbrev pub IsReadAs : (Hole → Term) → Term → Term → Type 0
+IsReadAs s (hole k) u = s k ≡ u
+IsReadAs s (leaf h) u = leaf h ≡ u
+IsReadAs s (pair a b) u = elim (place (pair a b)) [
+  | plain ↦ (v : Term) × (w : Term) × (u ≡ pair v w) × IsReadAs s a v × IsReadAs s b w
   | alias ↦ Unit {0}
   | unknown_type ↦ Unit {0}
   | unknown_const ↦ Unit {0}

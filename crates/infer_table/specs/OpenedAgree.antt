@@ -262,12 +262,12 @@ settled_bound l k u p h e =
 -- ---- going through the origins
 
 -- a step at an origin whose hole resolves to an open type hole that does not stand in the alias
-pub record Settles (l : Log) (k : ℕ) (u : Term) : Type 0 where
+pub record SettlesAtOrigin (l : Log) (k : ℕ) (u : Term) : Type 0 where
   pub keeps : (p : ℕ × Term) → IsSettled l p → IsSettled (l ++ (hole_of.Ty k, u) ∷ []) p
   pub keeps_all : (ps : List (ℕ × Term)) → AreSettled l ps → AreSettled (l ++ (hole_of.Ty k, u) ∷ []) ps
   pub settles : (p : ℕ × Term) → resolved l (hole (hole_of.Ty p.0)) ≡ hole (hole_of.Ty k) → IsSettled (l ++ (hole_of.Ty k, u) ∷ []) p
 
-pub settle_step : (l : Log) (k : ℕ) (t : Term) → place t ≡ alias → Settles l k (resolved l t)
+pub settle_step : (l : Log) (k : ℕ) (t : Term) → place t ≡ alias → SettlesAtOrigin l k (resolved l t)
 settle_step l k t e = let h = alias_no_hole (resolved l t) (alias_resolved l t e) in record {
   keeps = λ p d. settled_more l (hole_of.Ty k) (resolved l t) p h d;
   keeps_all = λ ps d. settled_all_more l (hole_of.Ty k) (resolved l t) ps h d;

@@ -8,7 +8,7 @@ use Rattle.hir_types.specs.declared.head.Hole.TheVariants as hole_of
 use Rattle.hir_types.specs.Terms.{Term, hole, leaf, pair, apply, occurs, hole_eq, hole_number, IsInt}
 use Rattle.infer_table.specs.Solutions.{Log, Solves, Respects, IsIntHole, NoneUnifies}
 use Rattle.infer_table.specs.TermLemmas.{hole_eq_true, hole_eq_same, hole_ne, apply_agree}
-use Rattle.infer_table.specs.Opened.{Place, plain, alias, unknown_type, unknown_const, place, IsPlain, Reads, opened, origins}
+use Rattle.infer_table.specs.Opened.{Place, plain, alias, unknown_type, unknown_const, place, IsPlain, IsReadAs, opened, origins}
 
 -- ---- by the place
 
@@ -30,7 +30,7 @@ origins_at p n a b = elim p [
 
 abbrev pub Reads_at : Place → (Hole → Term) → Term → Term → Term → Type 0
 Reads_at p s a b u = elim p [
-  | plain ↦ (v : Term) × (w : Term) × (u ≡ pair v w) × Reads s a v × Reads s b w
+  | plain ↦ (v : Term) × (w : Term) × (u ≡ pair v w) × IsReadAs s a v × IsReadAs s b w
   | alias ↦ Unit {0}
   | unknown_type ↦ Unit {0}
   | unknown_const ↦ Unit {0}
@@ -184,13 +184,13 @@ opened_below n t h k o = let b = opened_bounds n t in let g = b.grows in
 abbrev pub SameBut : ℕ → ℕ → (Hole → Term) → (Hole → Term) → Type 0
 SameBut low high s z = (k : Hole) → (hole_number k < low) ⊎ (high ≤ hole_number k) → z k ≡ s k
 
-reads_same_at : (p : Place) (s z : Hole → Term) (a b u : Term) → ((v : Term) → Reads s a v → Reads z a v) → ((w : Term) → Reads s b w → Reads z b w) → Reads_at p s a b u → Reads_at p z a b u
+reads_same_at : (p : Place) (s z : Hole → Term) (a b u : Term) → ((v : Term) → IsReadAs s a v → IsReadAs z a v) → ((w : Term) → IsReadAs s b w → IsReadAs z b w) → Reads_at p s a b u → Reads_at p z a b u
 reads_same_at plain s z a b u f g h = (h.0, h.1, h.2, f h.0 h.3, g h.1 h.4)
 reads_same_at alias s z a b u f g h = tt
 reads_same_at unknown_type s z a b u f g h = tt
 reads_same_at unknown_const s z a b u f g h = tt
 
-pub reads_same : (s z : Hole → Term) (t u : Term) → ((k : Hole) → occurs k t ≡ true → z k ≡ s k) → Reads s t u → Reads z t u
+pub reads_same : (s z : Hole → Term) (t u : Term) → ((k : Hole) → occurs k t ≡ true → z k ≡ s k) → IsReadAs s t u → IsReadAs z t u
 reads_same s z (hole k) u f h = f k (hole_eq_same k) ∙ h
 reads_same s z (leaf a) u f h = h
 reads_same s z (pair a b) u f h = reads_same_at (place (pair a b)) s z a b u
@@ -202,7 +202,7 @@ solves_same s z n [] b f h = tt
 solves_same s z n (p ∷ l) b f h =
     (f p.0 b.0 ∙ h.0 ∙ sym (apply_agree z s p.1 (λ k o. f k (b.1 k o))), solves_same s z n l b.2 f h.1)
 
-reads_apply_at : (p : Place) (s : Hole → Term) (n : ℕ) (a b u : Term) → ((m : ℕ) (v : Term) → apply s (opened m a).0 ≡ v → Reads s a v) → ((m : ℕ) (w : Term) → apply s (opened m b).0 ≡ w → Reads s b w) → apply s (opened_at p n a b).0 ≡ u → Reads_at p s a b u
+reads_apply_at : (p : Place) (s : Hole → Term) (n : ℕ) (a b u : Term) → ((m : ℕ) (v : Term) → apply s (opened m a).0 ≡ v → IsReadAs s a v) → ((m : ℕ) (w : Term) → apply s (opened m b).0 ≡ w → IsReadAs s b w) → apply s (opened_at p n a b).0 ≡ u → Reads_at p s a b u
 reads_apply_at plain s n a b u f g e =
     (apply s (opened n a).0, apply s (opened (opened n a).1 b).0, sym e, f n (apply s (opened n a).0) refl, g (opened n a).1 (apply s (opened (opened n a).1 b).0) refl)
 reads_apply_at alias s n a b u f g e = tt
@@ -210,7 +210,7 @@ reads_apply_at unknown_type s n a b u f g e = tt
 reads_apply_at unknown_const s n a b u f g e = tt
 
 -- what stands for the new holes is a reading
-pub reads_apply : (s : Hole → Term) (n : ℕ) (t u : Term) → apply s (opened n t).0 ≡ u → Reads s t u
+pub reads_apply : (s : Hole → Term) (n : ℕ) (t u : Term) → apply s (opened n t).0 ≡ u → IsReadAs s t u
 reads_apply s n (hole k) u e = e
 reads_apply s n (leaf h) u e = e
 reads_apply s n (pair a b) u e = reads_apply_at (place (pair a b)) s n a b u (λ m v. reads_apply s m a v) (λ m w. reads_apply s m b w) e
@@ -245,7 +245,7 @@ fills_const n s u = (
     keeps r (hole_of.Int m) h = r (hole_of.Int m) h
     keeps r (hole_of.Const m) h = absurd h
 
-fills_at : (p : Place) (n : ℕ) (s : Hole → Term) (a b u : Term) → IsBelow n a → IsBelow n b → ((m : ℕ) (z : Hole → Term) (v : Term) → IsBelow m a → Reads z a v → Fills m (opened m a).1 z (opened m a).0 v) → ((m : ℕ) (z : Hole → Term) (w : Term) → IsBelow m b → Reads z b w → Fills m (opened m b).1 z (opened m b).0 w) → Reads_at p s a b u → Fills n (opened_at p n a b).1 s (opened_at p n a b).0 u
+fills_at : (p : Place) (n : ℕ) (s : Hole → Term) (a b u : Term) → IsBelow n a → IsBelow n b → ((m : ℕ) (z : Hole → Term) (v : Term) → IsBelow m a → IsReadAs z a v → Fills m (opened m a).1 z (opened m a).0 v) → ((m : ℕ) (z : Hole → Term) (w : Term) → IsBelow m b → IsReadAs z b w → Fills m (opened m b).1 z (opened m b).0 w) → Reads_at p s a b u → Fills n (opened_at p n a b).1 s (opened_at p n a b).0 u
 fills_at plain n s a b u i j f g h =
     let x = opened_bounds n a in
     let y = opened_bounds (opened n a).1 b in
@@ -266,7 +266,7 @@ fills_at unknown_type n s a b u i j f g h = fills_ty n s u
 fills_at unknown_const n s a b u i j f g h = fills_const n s u
 
 -- each reading comes from what stands for the new holes
-pub reads_fills : (n : ℕ) (s : Hole → Term) (t u : Term) → IsBelow n t → Reads s t u → Fills n (opened n t).1 s (opened n t).0 u
+pub reads_fills : (n : ℕ) (s : Hole → Term) (t u : Term) → IsBelow n t → IsReadAs s t u → Fills n (opened n t).1 s (opened n t).0 u
 reads_fills n s (hole k) u i h = (s, (λ k o. refl), (λ r. r), h)
 reads_fills n s (leaf a) u i h = (s, (λ k o. refl), (λ r. r), h)
 reads_fills n s (pair a b) u i h = fills_at (place (pair a b)) n s a b u
@@ -274,7 +274,7 @@ reads_fills n s (pair a b) u i h = fills_at (place (pair a b)) n s a b u
     (λ m z v. reads_fills m z a v) (λ m z w. reads_fills m z b w) h
 
 -- two terms with a reading in common are made equal by what stands for the new holes
-pub reads_both : (n : ℕ) (s : Hole → Term) (a b u : Term) → IsBelow n a → IsBelow n b → Reads s a u → Reads s b u → (z : Hole → Term) × ((k : Hole) → hole_number k < n → z k ≡ s k) × (Respects s → Respects z) × (apply z (opened n a).0 ≡ apply z (opened (opened n a).1 b).0)
+pub reads_both : (n : ℕ) (s : Hole → Term) (a b u : Term) → IsBelow n a → IsBelow n b → IsReadAs s a u → IsReadAs s b u → (z : Hole → Term) × ((k : Hole) → hole_number k < n → z k ≡ s k) × (Respects s → Respects z) × (apply z (opened n a).0 ≡ apply z (opened (opened n a).1 b).0)
 reads_both n s a b u i j f g =
     let x = opened_bounds n a in
     let xg = x.grows in
@@ -287,7 +287,7 @@ reads_both n s a b u i j f g =
     )
 
 -- where the opened terms cannot be made equal, the two have no reading in common
-pub none_reads : (n : ℕ) (l : Log) (a b : Term) → IsBelow n a → IsBelow n b → LogIsBelow n l → NoneUnifies l (opened n a).0 (opened (opened n a).1 b).0 → (s : Hole → Term) (u : Term) → Respects s → Solves s l → Reads s a u → Reads s b u → ⊥
+pub none_reads : (n : ℕ) (l : Log) (a b : Term) → IsBelow n a → IsBelow n b → LogIsBelow n l → NoneUnifies l (opened n a).0 (opened (opened n a).1 b).0 → (s : Hole → Term) (u : Term) → Respects s → Solves s l → IsReadAs s a u → IsReadAs s b u → ⊥
 none_reads n l a b i j k none s u r h f g =
     let d = reads_both n s a b u i j f g in
     none d.0 (d.2 r) (solves_same s d.0 n l k d.1 h) d.3

@@ -1,6 +1,6 @@
 -- Which heads stand in types and in what holes are bound to, over how many parts each, and that unification brings in no
 -- others.
-use Rattle.std.proofs.Common.{◌≡◌, ℕ, zero, suc, Bool, true, false, cond, if◌then◌else◌, List, [], ◌∷◌, ◌++◌, IsTrue, refl, sym, ap, ap₂, subst, ◌∙◌}
+use Rattle.std.proofs.Common.{◌≡◌, ℕ, suc, Bool, true, false, cond, if◌then◌else◌, List, [], ◌∷◌, ◌++◌, IsTrue, refl, sym, ap, ap₂, subst, ◌∙◌}
 use Rattle.std.proofs.lemmas.Bool.{both_ways}
 use Rattle.std.proofs.lemmas.List.{map-append}
 use Rattle.hir_types.specs.declared.head.Head.{Head}
@@ -13,16 +13,16 @@ use Rattle.hir_types.specs.Terms.{Term, hole, leaf, pair, apply, hole_eq, term}
 use Rattle.infer_table.specs.declared.binding.Binding.{Binding}
 use Rattle.infer_table.specs.Solutions.{Log, single, sub, resolved, Solves, Respects, log_of}
 use Rattle.infer_table.specs.LogLemmas.{solves_left, resolved_apply}
-use Rattle.infer_table.specs.Opened.{plain, place, IsPlain, Reads}
+use Rattle.infer_table.specs.Opened.{plain, place, IsPlain, IsReadAs}
 use Rattle.infer_table.specs.OpenedLaws.{opened_plain, reads_apply}
 use Rattle.infer_table.specs.Resolution.{resolution_term}
 use Rattle.infer_table.specs.Table.{State, bindings, resolved_term, Meets, CanBeEqual, AreUnified, IsMostGeneral}
 
 -- what a term stands for in that of a type: a type, one of its parts, or its parts from one on
-pub data Role : Type 0 where
-  whole : Role
-  part : Role
-  rest : Role
+pub data TermRole : Type 0 where
+  whole : TermRole
+  part : TermRole
+  rest : TermRole
 
 -- which heads may stand over how many parts
 abbrev pub Shape : Type 0
@@ -48,7 +48,7 @@ IsEnd head.End = Unit {0}
 IsEnd _ = ⊥
 
 -- a hole, or one of these heads over as many parts as it may have, each a type of which the same holds
-abbrev pub IsMadeOf : Shape → Role → Term → Type 0
+abbrev pub IsMadeOf : Shape → TermRole → Term → Type 0
 IsMadeOf ok whole (hole k) = Unit {0}
 IsMadeOf ok whole (leaf h) = ⊥
 IsMadeOf ok whole (pair a b) = IsHead ok a (width b) × IsMadeOf ok rest b
@@ -91,7 +91,7 @@ mark_apply s (leaf head.TypePart) h = tt
 mark_apply s (leaf _) h = absurd h
 mark_apply s (pair a b) h = absurd h
 
-pub made_of_apply : (ok : Shape) (s : Hole → Term) (r : Role) (t : Term) → AreMadeOf ok s → IsMadeOf ok r t → IsMadeOf ok r (apply s t)
+pub made_of_apply : (ok : Shape) (s : Hole → Term) (r : TermRole) (t : Term) → AreMadeOf ok s → IsMadeOf ok r t → IsMadeOf ok r (apply s t)
 made_of_apply ok s whole (hole k) f h = f k
 made_of_apply ok s whole (leaf g) f h = absurd h
 made_of_apply ok s whole (pair a b) f h = (head_apply ok s a (width (apply s b)) (width b) (width_apply ok s b h.1) h.0, made_of_apply ok s rest b f h.1)
@@ -145,7 +145,7 @@ mark_within ok s (hole k) f h = absurd (mark_is_none ok (s k) (f k) h)
 mark_within ok s (leaf g) f h = h
 mark_within ok s (pair a b) f h = absurd h
 
-pub made_of_within : (ok : Shape) (s : Hole → Term) (r : Role) (t : Term) → NoMark ok → AreMadeOf ok s → IsMadeOf ok r (apply s t) → IsMadeOf ok r t
+pub made_of_within : (ok : Shape) (s : Hole → Term) (r : TermRole) (t : Term) → NoMark ok → AreMadeOf ok s → IsMadeOf ok r (apply s t) → IsMadeOf ok r t
 made_of_within ok s whole (hole k) m f h = tt
 made_of_within ok s whole (leaf g) m f h = absurd h
 made_of_within ok s whole (pair a b) m f h =
@@ -226,7 +226,7 @@ plain_part ok (hole k) b h = absurd h
 plain_part ok (leaf g) b h = absurd h
 plain_part ok (pair a c) b h = refl
 
-plain_as : (ok : Shape) → NoAlias ok → (r : Role) (t : Term) → IsMadeOf ok r t → IsPlain t
+plain_as : (ok : Shape) → NoAlias ok → (r : TermRole) (t : Term) → IsMadeOf ok r t → IsPlain t
 plain_as ok n whole (hole k) h = tt
 plain_as ok n whole (leaf g) h = absurd h
 plain_as ok n whole (pair a b) h = (plain_first ok n a b (width b) h.0, head_is_plain ok a (width b) h.0, plain_as ok n rest b h.1)
@@ -241,7 +241,7 @@ pub plain_of : (ok : Shape) → NoAlias ok → (t : Term) → IsMadeOf ok whole 
 plain_of ok n t h = plain_as ok n whole t h
 
 -- a plain term is read as itself
-pub reads_plain : (s : Hole → Term) (t : Term) → IsPlain t → Reads s t (apply s t)
+pub reads_plain : (s : Hole → Term) (t : Term) → IsPlain t → IsReadAs s t (apply s t)
 reads_plain s t h = reads_apply s 0 t (apply s t) (ap (λ (x : Term × ℕ). apply s x.0) (opened_plain 0 t h))
 
 -- ---- terms with one type without parts in the place of each that is not of these heads
@@ -254,7 +254,7 @@ only_over ok h (leaf g) b kept = if ok g (width b) then pair (leaf g) kept else 
 only_over ok h (hole k) b kept = bare h
 only_over ok h (pair a c) b kept = bare h
 
-abbrev pub only : Shape → Head → Role → Term → Term
+abbrev pub only : Shape → Head → TermRole → Term → Term
 only ok h whole (hole k) = hole k
 only ok h whole (leaf g) = bare h
 only ok h whole (pair a b) = only_over ok h a b (only ok h rest b)
@@ -279,7 +279,7 @@ over_is_made ok h (hole k) b kept i w m = (i, tt)
 over_is_made ok h (leaf g) b kept i w m = over_made ok h g b kept (ok g (width b)) refl i w m
 over_is_made ok h (pair a c) b kept i w m = (i, tt)
 
-only_is_made : (ok : Shape) (h : Head) (r : Role) (t : Term) → IsTrue (ok h 0) → IsMadeOf ok r (only ok h r t)
+only_is_made : (ok : Shape) (h : Head) (r : TermRole) (t : Term) → IsTrue (ok h 0) → IsMadeOf ok r (only ok h r t)
 only_is_made ok h whole (hole k) i = tt
 only_is_made ok h whole (leaf g) i = (i, tt)
 only_is_made ok h whole (pair a b) i = over_is_made ok h a b (only ok h rest b) i (width_only ok h b) (only_is_made ok h rest b i)
@@ -312,7 +312,7 @@ mark_apply_same z (leaf head.TypePart) i = refl
 mark_apply_same z (leaf _) i = absurd i
 mark_apply_same z (pair a b) i = absurd i
 
-only_apply : (ok : Shape) (h : Head) (s : Hole → Term) (r : Role) (t : Term) → IsMadeOf ok r t → only ok h r (apply s t) ≡ apply (λ k. only ok h whole (s k)) t
+only_apply : (ok : Shape) (h : Head) (s : Hole → Term) (r : TermRole) (t : Term) → IsMadeOf ok r t → only ok h r (apply s t) ≡ apply (λ k. only ok h whole (s k)) t
 only_apply ok h s whole (hole k) i = refl
 only_apply ok h s whole (leaf g) i = absurd i
 only_apply ok h s whole (pair a b) i =
@@ -363,8 +363,8 @@ most_general_of ok n before after a b u h i j = u.most_general
     (plain_of ok n (resolved_term before b) (made_of_resolved_term ok before b h j))
 
 -- each assignment that meets the state after makes the two equal
-pub unified_same : (ok : Shape) (before after : State) (a b : Ty) → NoAlias ok → BindsOnly ok (log_of (bindings before)) → IsMadeOf ok whole (term a) → IsMadeOf ok whole (term b) → AreUnified before after a b → (s : Hole → Term) → Meets s after → apply s (term a) ≡ apply s (term b)
-unified_same ok before after a b n h i j u s m = (most_general_of ok n before after a b u h i j).unifies s m
+pub unified_makes_same : (ok : Shape) (before after : State) (a b : Ty) → NoAlias ok → BindsOnly ok (log_of (bindings before)) → IsMadeOf ok whole (term a) → IsMadeOf ok whole (term b) → AreUnified before after a b → (s : Hole → Term) → Meets s after → apply s (term a) ≡ apply s (term b)
+unified_makes_same ok before after a b n h i j u s m = (most_general_of ok n before after a b u h i j).unifies s m
 
 -- holes are bound to heads of the two types and of earlier bindings alone
 pub binds_only_unified : (ok : Shape) → NoAlias ok → (h : Head) → IsTrue (ok h 0) → (before after : State) (a b : Ty) → AreUnified before after a b → (s : Hole → Term) → Meets s after → BindsOnly ok (log_of (bindings before)) → IsMadeOf ok whole (term a) → IsMadeOf ok whole (term b) → BindsOnly ok (log_of (bindings after))
@@ -380,6 +380,6 @@ pub refused_apart : (ok : Shape) (before : State) (a b : Ty) → NoAlias ok → 
 refused_apart ok before a b n h i j apart s r m e =
     let p = plain_of ok n (resolved_term before a) (made_of_resolved_term ok before a h i) in
     let q = plain_of ok n (resolved_term before b) (made_of_resolved_term ok before b h j) in
-    let P : Term → Type 0 = Reads s (resolved_term before b) in
+    let P : Term → Type 0 = IsReadAs s (resolved_term before b) in
     let same = apply_resolved_term s before b m ∙ sym e ∙ sym (apply_resolved_term s before a m) in
     apart (s, apply s (resolved_term before a), r, m, reads_plain s (resolved_term before a) p, subst P same (reads_plain s (resolved_term before b) q))

@@ -11,7 +11,7 @@ use Rattle.infer_table.specs.Bindings.{Substitution}
 use Rattle.infer_table.specs.Opened.{place, alias, IsPlain, Agree}
 use Rattle.infer_table.specs.OpenedAgree.{IsSettled, IsNoTypeHole}
 use Rattle.infer_table.specs.Unifying.{CanBeSame}
-use Rattle.infer_table.specs.Least.{IsFree, number_after, BindsLeast, HolesAreLeft}
+use Rattle.infer_table.specs.Least.{CanBeAnything, number_after, BindsLeast, HolesAreLeft}
 
 -- the origin has a type hole and an alias of the table
 pub record IsOriginOf (kinds : List HoleKind) (o : Origin) : Type 0 where
@@ -36,21 +36,21 @@ settled_at s = IsSettled (log_of s.log)
 pub record Settled (before after : Substitution) (at : ℕ) (t : Term) : Type 0 where
   pub keeps : (p : ℕ × Term) → settled_at before p → settled_at after p
   pub settles : (n : ℕ) → resolved (log_of before.log) (hole (hole_of.Ty n)) ≡ hole (hole_of.Ty at) → settled_at after (n, t)
-  pub bound : (after ≡ before) ⊎ (Unified (log_of before.log) (log_of after.log) (hole (hole_of.Ty at)) t × IsFree (log_of before.log) at)
+  pub bound : (after ≡ before) ⊎ (Unified (log_of before.log) (log_of after.log) (hole (hole_of.Ty at)) t × CanBeAnything (log_of before.log) at)
 
 -- what was settled stays so, and with it is the origin; nothing is bound but
 -- what has its hole, which was free, come to its alias
 pub record SettlesOrigin (before after : Substitution) (o : Origin) : Type 0 where
   pub keeps : (p : ℕ × Term) → settled_at before p → settled_at after p
   pub settled : settled_at after (o.hole, term o.alias)
-  pub bound : (after ≡ before) ⊎ (Unified (log_of before.log) (log_of after.log) (hole (hole_of.Ty o.hole)) (term o.alias) × IsFree (log_of before.log) o.hole)
+  pub bound : (after ≡ before) ⊎ (Unified (log_of before.log) (log_of after.log) (hole (hole_of.Ty o.hole)) (term o.alias) × CanBeAnything (log_of before.log) o.hole)
 
 -- holes were made and bindings added
 pub record OnlyGrows (before after : Substitution) : Type 0 where
   pub kinds : (ks : List HoleKind) × (after.kinds ≡ before.kinds ++ ks)
   pub log : (bs : List Binding) × (after.log ≡ before.log ++ bs)
 
-pub record IsMostGeneral (before after : Substitution) (a b : Term) : Type 0 where
+pub record UnifiesGenerally (before after : Substitution) (a b : Term) : Type 0 where
   pub unifies : (s : Hole → Term) → Solves s (log_of after.log) → apply s a ≡ apply s b
   pub general : (s : Hole → Term) → Solves s (log_of before.log) → apply s a ≡ apply s b → Solves s (log_of after.log)
   pub no_hole_made : length after.kinds ≡ length before.kinds
@@ -59,7 +59,7 @@ pub record IsUnified (before after : Substitution) (a b : Term) : Type 0 where
   pub possible : CanBeSame (log_of before.log) a b
   pub solvable : (s : Hole → Term) × Respects s × Solves s (log_of after.log)
   pub agree : Agree (resolved (log_of after.log) a) (resolved (log_of after.log) b)
-  pub most_general : IsPlain (resolved (log_of before.log) a) → IsPlain (resolved (log_of before.log) b) → IsMostGeneral before after a b
+  pub most_general : IsPlain (resolved (log_of before.log) a) → IsPlain (resolved (log_of before.log) b) → UnifiesGenerally before after a b
   pub least : BindsLeast (length before.kinds) (log_of before.log) (log_of after.log) (resolved (log_of before.log) a) (resolved (log_of before.log) b)
   pub made : length after.kinds ≡ number_after (length before.kinds) (resolved (log_of before.log) a) (resolved (log_of before.log) b)
   pub left_holes : HolesAreLeft (length before.kinds) after.log (resolved (log_of before.log) a) (resolved (log_of before.log) b) (resolved (log_of after.log) a)

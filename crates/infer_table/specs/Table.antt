@@ -14,7 +14,7 @@ use Rattle.infer_table.specs.declared.snapshot.Snapshot.{Snapshot}
 use Rattle.infer_table.specs.Solutions.{log_of, Solves, Respects, AreOf}
 use Rattle.infer_table.specs.Bindings.{Substitution, no_bindings, with_hole}
 use Rattle.infer_table.specs.Resolution.{resolution}
-use Rattle.infer_table.specs.Opened.{Agree, IsPlain, Reads}
+use Rattle.infer_table.specs.Opened.{Agree, IsPlain, IsReadAs}
 use Rattle.infer_table.specs.Least.{number_after, BindsLeast, HolesAreLeft}
 use Rattle.infer_table.specs.Waiting.{Waiting, no_pairs, with_pair, waiting, AllMade, left_at, left_before}
 
@@ -105,7 +105,7 @@ pub record IsMostGeneral (before after : State) (a b : Ty) : Type 0 where
 
 -- some reading of aliases and `{unknown}`, at each place by anything, makes the two equal
 abbrev pub CanBeEqual : State → Ty → Ty → Type 0
-CanBeEqual state a b = (s : Hole → Term) × (u : Term) × Respects s × Meets s state × Reads s (resolved_term state a) u × Reads s (resolved_term state b) u
+CanBeEqual state a b = (s : Hole → Term) × (u : Term) × Respects s × Meets s state × IsReadAs s (resolved_term state a) u × IsReadAs s (resolved_term state b) u
 
 -- exactly these assignments meet the state after: those that meet the state before, make the two equal with a
 -- new hole of its own in the place of each alias and of each `{unknown}`, and have some of these holes, each
@@ -159,8 +159,8 @@ is_type_hole (hole (hole_of.Ty n)) = true
 is_type_hole _ = false
 
 -- the type resolves to anything but a hole for any type
-abbrev pub IsKnown : State → Ty → Type 0
-IsKnown s t = is_type_hole (resolved_term s t) ≡ false
+abbrev pub IsNoOpenHole : State → Ty → Type 0
+IsNoOpenHole s t = is_type_hole (resolved_term s t) ≡ false
 
 -- both types resolve to holes for any type
 pub record IsUnknownPair (s : State) (p : WaitingPair) : Type 0 where
@@ -175,7 +175,7 @@ AllUnknown s (p ∷ ps) = IsUnknownPair s p × AllUnknown s ps
 pub record IsFirstKnown (s : State) (at : ℕ) : Type 0 where
   pub pair : WaitingPair
   pub left : left_at s.pairs at ≡ Some pair
-  pub known : IsKnown s pair.source ⊎ IsKnown s pair.target
+  pub known : IsNoOpenHole s pair.source ⊎ IsNoOpenHole s pair.target
   pub none_before : AllUnknown s (left_before s.pairs at)
 
 -- the first pair of which a side is known was taken off the list
@@ -185,7 +185,7 @@ pub record TakesFirstKnown (before after : State) (p : WaitingPair) : Type 0 whe
   pub was : waiting before.pairs ≡ ahead ++ p ∷ rest
   pub is : waiting after.pairs ≡ ahead ++ rest
   pub none_before : AllUnknown before ahead
-  pub known : IsKnown before p.source ⊎ IsKnown before p.target
+  pub known : IsNoOpenHole before p.source ⊎ IsNoOpenHole before p.target
   pub substitution : after.substitution ≡ before.substitution
   pub diverging : after.diverging ≡ before.diverging
   pub grown : Grew before after

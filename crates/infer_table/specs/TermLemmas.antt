@@ -171,13 +171,13 @@ IsNoHole (hole k) = ⊥
 IsNoHole (leaf h) = Unit {0}
 IsNoHole (pair a b) = Unit {0}
 
-abbrev pub size : Term → ℕ
-size (hole k) = 1
-size (leaf h) = 1
-size (pair a b) = size a + size b + 1
+abbrev pub term_size : Term → ℕ
+term_size (hole k) = 1
+term_size (leaf h) = 1
+term_size (pair a b) = term_size a + term_size b + 1
 
-pub occurs_le : (s : Hole → Term) (x : Hole) (t : Term) → occurs x t ≡ true → size (s x) ≤ size (apply s t)
-occurs_le s x (hole k) h = let e = ap (λ z. size (s z)) (hole_eq_true x k h) in omega (arith, e)
+pub occurs_le : (s : Hole → Term) (x : Hole) (t : Term) → occurs x t ≡ true → term_size (s x) ≤ term_size (apply s t)
+occurs_le s x (hole k) h = let e = ap (λ z. term_size (s z)) (hole_eq_true x k h) in omega (arith, e)
 occurs_le s x (leaf n) h = absurd (true≢false (sym h))
 occurs_le s x (pair a b) h =
     elim (or_cases (occurs x a) (occurs x b) h) [
@@ -188,8 +188,8 @@ occurs_le s x (pair a b) h =
 pub occurs_pair : (s : Hole → Term) (x : Hole) (a b : Term) → occurs x (pair a b) ≡ true → s x ≡ apply s (pair a b) → ⊥
 occurs_pair s x a b h e =
     elim (or_cases (occurs x a) (occurs x b) h) [
-      | inl p ↦ omega (arith, occurs_le s x a p, ap size e)
-      | inr p ↦ omega (arith, occurs_le s x b p, ap size e)
+      | inl p ↦ omega (arith, occurs_le s x a p, ap term_size e)
+      | inr p ↦ omega (arith, occurs_le s x b p, ap term_size e)
     ]
 
 pub occurs_within : (s : Hole → Term) (x : Hole) (t : Term) → IsNoHole t → occurs x t ≡ true → s x ≡ apply s t → ⊥

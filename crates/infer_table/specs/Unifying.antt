@@ -4,7 +4,7 @@ use Rattle.hir_types.specs.declared.head.Hole.{Hole}
 use Rattle.hir_types.specs.Terms.{Term, apply}
 use Rattle.infer_table.specs.Solutions.{Log, Solves, Respects, resolved, Triangular, Unified, NoneUnifies}
 use Rattle.infer_table.specs.LogLemmas.{solves_left, solution, solution_apply, solution_solves, solution_respects, resolved_apply, resolved_append, resolved_twice}
-use Rattle.infer_table.specs.Opened.{IsPlain, Reads, Agree, opened, origins}
+use Rattle.infer_table.specs.Opened.{IsPlain, IsReadAs, Agree, opened, origins}
 use Rattle.infer_table.specs.OpenedLaws.{opened_plain, reads_apply, IsBelow, LogIsBelow, none_reads}
 use Rattle.infer_table.specs.OpenedAgree.{AreSettled, settled_left, settled_right, opened_agree}
 
@@ -25,7 +25,7 @@ resolved_grown before after t h g = let P : Log → Type 0 = λ l. resolved l (r
 
 -- some reading makes the two equal under the bindings
 abbrev pub CanBeSame : Log → Term → Term → Type 0
-CanBeSame l a b = (s : Hole → Term) × (u : Term) × Respects s × Solves s l × Reads s (resolved l a) u × Reads s (resolved l b) u
+CanBeSame l a b = (s : Hole → Term) × (u : Term) × Respects s × Solves s l × IsReadAs s (resolved l a) u × IsReadAs s (resolved l b) u
 
 -- the opened terms of the two, with holes from number n on
 abbrev pub left_opened : ℕ → Log → Term → Term

@@ -72,6 +72,6 @@ abbrev pub left_past : Waiting → ℕ → List WaitingPair
 left_past w n = left_from w.taken n (drop n w.made)
 
 -- the pair at position i was made to wait and is not taken
-pub record IsLeft (w : Waiting) (i : ℕ) (p : WaitingPair) : Type 0 where
+pub record StillWaits (w : Waiting) (i : ℕ) (p : WaitingPair) : Type 0 where
   pub at : slice_get w.made i ≡ Some p
   pub is_left : is_taken w.taken i ≡ false

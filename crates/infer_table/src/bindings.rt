@@ -1,5 +1,5 @@
 //! Holes, and what they are bound to.
-ghost use Rattle.std.specs.Prelude.{◌≡◌, ◌↔◌, IsTrue, ◌⊎◌, ◌-◌, ◌++◌, ◌∷◌, [], ◌<◌, None, length, take, OnOk, OnErr, IfOk};
+ghost use Rattle.std.specs.Prelude.{◌≡◌, ◌↔◌, IsTrue, ◌⊎◌, ◌-◌, ◌<◌, None, length, take, OnOk, OnErr, IfOk};
 ghost use Rattle.std.specs.Option.{option_copied};
 ghost use Rattle.infer_table.specs.Solutions.{IsOf, hole_kind, IsIntHole, log_of, Triangular};
 ghost use Rattle.infer_table.specs.Bindings.{bound_hole, found_binding, no_bindings, with_hole, with_binding, MayBind, AllOf, IsTypeHole};

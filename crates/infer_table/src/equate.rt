@@ -6,7 +6,7 @@ ghost use Rattle.hir_types.specs.Terms.{hole, node, chain, occurs, hole_eq, term
 ghost use Rattle.hir_types.specs.Outlines.{part_term, part_terms};
 ghost use Rattle.infer_table.specs.Solutions.{log_of, IsOf, AreOf, IsIntHole, Kept, UnifiedIf, resolved};
 ghost use Rattle.infer_table.specs.Bindings.{bound_hole, bound_term, found_binding, IsTypeHole};
-ghost use Rattle.infer_table.specs.Equating.{OnlyBinds, IsOpenHole, IsResolved, HasHead};
+ghost use Rattle.infer_table.specs.Equating.{OnlyAdds, IsOpenHole, IsResolved, IsHeaded};
 
 use crate::binding::Binding;
 use crate::bindings::Bindings;
@@ -141,7 +141,7 @@ impl Bindings {
         requires left { IsOpenHole self.old x }
         requires right { IsOpenHole self.old y }
         ensures unified { IfOk result (λ yes. UnifiedIf yes (log_of self.old.log) (log_of self.new.log) (hole x) (hole y)) }
-        ensures binds { OnlyBinds self.old self.new }
+        ensures binds { OnlyAdds self.old self.new }
     {
         if is_same(x, y) {
             return Ok(true);
@@ -155,9 +155,9 @@ impl Bindings {
     fn bind_type(&mut self, alloc: Global, x: Hole, head: Head, ty: Ty) -> Result<bool, AllocError>
         requires is_open { IsOpenHole self.old x }
         requires none_bound { IsResolved self.old (term ty) }
-        requires has_head { HasHead head (term ty) }
+        requires has_head { IsHeaded head (term ty) }
         ensures unified { IfOk result (λ yes. UnifiedIf yes (log_of self.old.log) (log_of self.new.log) (hole x) (term ty)) }
-        ensures binds { OnlyBinds self.old self.new }
+        ensures binds { OnlyAdds self.old self.new }
     {
         if !may_stand_for(x, head) {
             return Ok(false);
@@ -174,7 +174,7 @@ impl Bindings {
         requires is_open { IsOpenHole self.old x }
         requires made { AreOf self.old.kinds (term ty.now) }
         ensures unified { IfOk result (λ yes. UnifiedIf yes (log_of self.old.log) (log_of self.new.log) (hole x) (term ty.now)) }
-        ensures binds { OnlyBinds self.old self.new }
+        ensures binds { OnlyAdds self.old self.new }
     {
         let known = self.known(alloc, ty)?;
         let head = match known.outline(alloc)? {
@@ -190,7 +190,7 @@ impl Bindings {
         requires is_open { found_binding self.old.log (hole_of.Const hole) ≡ None }
         requires none_bound { IsResolved self.old (const_term value) }
         ensures unified { IfOk result (λ yes. UnifiedIf yes (log_of self.old.log) (log_of self.new.log) (const_term (const.Var hole)) (const_term value)) }
-        ensures binds { OnlyBinds self.old self.new }
+        ensures binds { OnlyAdds self.old self.new }
     {
         if value != Const::Var(hole) {
             self.bind(Binding::Const { hole, value })?;
@@ -214,7 +214,7 @@ impl Bindings {
         requires left { AreOf self.old.kinds (const_term left) }
         requires right { AreOf self.old.kinds (const_term right) }
         ensures unified { IfOk result (λ yes. UnifiedIf yes (log_of self.old.log) (log_of self.new.log) (const_term left) (const_term right)) }
-        ensures binds { OnlyBinds self.old self.new }
+        ensures binds { OnlyAdds self.old self.new }
     {
         let known_left = self.known_const(left);
         let known_right = self.known_const(right);
@@ -240,7 +240,7 @@ impl Bindings {
         requires left { AreOf self.old.kinds (hole x) }
         requires right { AreOf self.old.kinds (term ty.now) }
         ensures unified { IfOk result (λ yes. UnifiedIf yes (log_of self.old.log) (log_of self.new.log) (hole x) (term ty.now)) }
-        ensures binds { OnlyBinds self.old self.new }
+        ensures binds { OnlyAdds self.old self.new }
     {
         let known = self.known(alloc, &hole_type(x))?;
         match known.outline(alloc)? {
@@ -261,7 +261,7 @@ impl Bindings {
         requires left { AreOf self.old.kinds (part_term left.now) }
         requires right { AreOf self.old.kinds (part_term right.now) }
         ensures unified { IfOk result (λ yes. UnifiedIf yes (log_of self.old.log) (log_of self.new.log) (part_term left.now) (part_term right.now)) }
-        ensures binds { OnlyBinds self.old self.new }
+        ensures binds { OnlyAdds self.old self.new }
     {
         match left {
             Part::Ty(left) => match right {
@@ -293,7 +293,7 @@ impl Bindings {
         requires left { AreOf self.old.kinds (node left_head (part_terms left.now)) }
         requires right { AreOf self.old.kinds (node right_head (part_terms right.now)) }
         ensures unified { IfOk result (λ yes. UnifiedIf yes (log_of self.old.log) (log_of self.new.log) (node left_head (part_terms left.now)) (node right_head (part_terms right.now))) }
-        ensures binds { OnlyBinds self.old self.new }
+        ensures binds { OnlyAdds self.old self.new }
     {
         if !is_same_head(left_head, right_head) {
             return Ok(false);
@@ -322,7 +322,7 @@ impl Bindings {
         requires left { AreOf self.old.kinds (term left.now) }
         requires right { AreOf self.old.kinds (term right.now) }
         ensures unified { IfOk result (λ yes. UnifiedIf yes (log_of self.old.log) (log_of self.new.log) (term left.now) (term right.now)) }
-        ensures binds { OnlyBinds self.old self.new }
+        ensures binds { OnlyAdds self.old self.new }
     {
         let below = one_level(levels)?;
         match left.outline(alloc)? {

@@ -1,8 +1,7 @@
 //! Whether a table made the holes of a type.
-ghost use Rattle.std.specs.Prelude.{◌≡◌, ◌↔◌, IsTrue, IfOk};
+ghost use Rattle.std.specs.Prelude.{IfOk};
 ghost use Rattle.hir_types.specs.Terms.{chain, const_term, term};
 ghost use Rattle.hir_types.specs.Outlines.{part_term, part_terms};
-ghost use Rattle.infer_table.specs.Solutions.{IsOf};
 ghost use Rattle.infer_table.specs.Made.{MadeIf, HasMadeIf};
 
 use crate::bindings::Bindings;

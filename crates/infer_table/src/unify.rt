@@ -1,9 +1,9 @@
 //! Unifying two types of a table: `infer/unify.rs`, `unify`, `try_unify`.
-ghost use Rattle.std.specs.Prelude.{◌≡◌, ◌∷◌, [], IfOk, OnOk, OnErr, is_ok};
+ghost use Rattle.std.specs.Prelude.{◌≡◌, [], IfOk, OnOk, OnErr, is_ok};
 ghost use Rattle.hir_types.specs.Terms.{term};
 ghost use Rattle.infer_table.specs.Solutions.{AreOf};
 ghost use Rattle.infer_table.specs.Opened.{place, alias};
-ghost use Rattle.infer_table.specs.Equating.{OnlyBinds};
+ghost use Rattle.infer_table.specs.Equating.{OnlyAdds};
 ghost use Rattle.infer_table.specs.Equating.{IsOpenHole};
 ghost use Rattle.infer_table.specs.Opening.{origins_of};
 ghost use Rattle.infer_table.specs.OpenedAgree.{AreSettled};
@@ -42,7 +42,7 @@ impl Bindings {
         requires is_open { IsOpenHole self.old (hole_of.Ty hole) }
         requires made { AreOf self.old.kinds (term alias_ty.now) }
         requires is_alias { place (term alias_ty.now) ≡ alias }
-        ensures binds { OnlyBinds self.old self.new }
+        ensures binds { OnlyAdds self.old self.new }
         ensures settles { OnOk result (Settled self.old self.new hole (term alias_ty.now)) }
     {
         // That there is no cycle is known of the log.
@@ -59,7 +59,7 @@ impl Bindings {
     /// it.
     fn settle(&mut self, alloc: Global, origin: &Origin) -> Result<(), AllocError>
         requires made { IsOriginOf self.old.kinds origin.now }
-        ensures binds { OnlyBinds self.old self.new }
+        ensures binds { OnlyAdds self.old self.new }
         ensures settles { OnOk result (SettlesOrigin self.old self.new origin.now) }
     {
         let known = self.known(alloc, &Ty::Var(origin.hole))?;
@@ -74,7 +74,7 @@ impl Bindings {
 
     fn settle_all(&mut self, alloc: Global, origins: &[Origin]) -> Result<(), AllocError>
         requires made { AreOriginsOf self.old.kinds origins.now }
-        ensures binds { OnlyBinds self.old self.new }
+        ensures binds { OnlyAdds self.old self.new }
         ensures settles { OnOk result (AreSettled (log_of self.new.log) (origins_of origins.now)) }
         ensures nothing { OnOk result (origins.now ≡ [] → self.new ≡ self.old) }
         ensures least { OnOk result (BindsSome (log_of self.old.log) (log_of self.new.log) (origins_of origins.now)) }

@@ -1,6 +1,6 @@
 //! Pairs of a table that wait to be unified.
 ghost use Rattle.std.specs.Prelude.{◌≡◌, ◌↔◌, ◌++◌, ◌∷◌, [], IsTrue, IfOk, OnOk, OnErr, MatchOption};
-ghost use Rattle.infer_table.specs.Table.{HolesAreOf, IsKnown, AllUnknown, IsFirstKnown, TakesKnown, with_waiting};
+ghost use Rattle.infer_table.specs.Table.{HolesAreOf, IsNoOpenHole, AllUnknown, IsFirstKnown, TakesKnown, with_waiting};
 ghost use Rattle.infer_table.specs.Waiting.{waiting};
 
 use crate::table::InferenceTable;
@@ -35,7 +35,7 @@ impl InferenceTable {
 
     /// Whether a type resolves to anything but a hole for any type.
     fn is_known(&self, ty: &Ty) -> bool
-        ensures { IsTrue result ↔ IsKnown self.now ty.now }
+        ensures { IsTrue result ↔ IsNoOpenHole self.now ty.now }
     {
         !matches!(self.bindings.shallow_resolve(ty), Ty::Var(_))
     }

@@ -219,7 +219,8 @@ ctor_pat_in d = do
   dots ← part (option_in other_in) 3 d
   Ok (ctor_pat_by named.variant ps dots)
 
--- "wild", ["bind", b, p?], ["tuple", [p], dots], ["ctor", V, [p], dots], ["path", P], ["lit", e] or another kind
+-- "wild", ["bind", b, p?], ["tuple", [p], dots], ["ctor", V, [p], dots], ["path", P], ["lit", e] or another
+-- kind
 unfoldable pub pat_in : Data → Result RawPat (List ℕ)
 pat_in d = do
   t ← there (tag d)

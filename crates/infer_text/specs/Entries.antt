@@ -68,7 +68,8 @@ adt_type_in d = do
   xs ← part (list_in arg_in) 2 d
   Ok (adt_type_by a xs)
 
--- "bool", "char", "_", ["tuple", [TYPE]], ["adt", a, [A]], ["param", n], the name of an integer type, or another kind
+-- "bool", "char", "_", ["tuple", [TYPE]], ["adt", a, [A]], ["param", n], the name of an integer type, or
+-- another kind
 unfoldable pub type_in : Data → Result RawType (List ℕ)
 type_in d = do
   t ← there (tag d)

@@ -1,6 +1,5 @@
 //! Reading bodies and their nodes.
-ghost use Rattle.std.specs.Prelude.{◌≡◌, ℕ, List, Result, Some, None, Ok, Err};
-ghost use Rattle.serde_json.specs.Data.{Data};
+ghost use Rattle.std.specs.Prelude.{◌≡◌, List, Result, Some, None, Ok, Err};
 ghost use Rattle.serde_json.specs.View.{view};
 ghost use Rattle.infer_text.specs.Reading.{Gives, is_kind_of};
 ghost use Rattle.infer_text.specs.Kinds.{other_exprs, other_pats, other_paths, other_literals};

@@ -1,7 +1,6 @@
 //! Reading types, functions, adts, variants and limits.
-ghost use Rattle.std.specs.Prelude.{◌≡◌, ℕ, List, Result, Some, None, Ok, Err, IfOk, map, replicate};
+ghost use Rattle.std.specs.Prelude.{◌≡◌, List, Result, Some, None, Ok, Err, IfOk, map, replicate};
 ghost use Rattle.std.specs.List.{list_all};
-ghost use Rattle.serde_json.specs.Data.{Data};
 ghost use Rattle.serde_json.specs.View.{view};
 ghost use Rattle.infer_text.specs.Reading.{Gives, is_kind_of};
 ghost use Rattle.infer_text.specs.Leaves.{other};

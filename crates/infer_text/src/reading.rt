@@ -1,6 +1,5 @@
 //! Reading the facts of a text.
-ghost use Rattle.std.specs.Prelude.{◌≡◌, ℕ, List, Result, Some};
-ghost use Rattle.serde_json.specs.Data.{Data};
+ghost use Rattle.std.specs.Prelude.{List, Result, Some};
 ghost use Rattle.serde_json.specs.View.{view};
 ghost use Rattle.infer_text.specs.Facts.{settings_in, items_in, abstractions_in, facts_in, facts_of, raw_facts, Answers, Reads};
 

@@ -6,7 +6,7 @@ use Rattle.hir_types.specs.Subst.{folded}
 use Rattle.hir_types.specs.declared.head.HoleKind.TheVariants as kind
 use Rattle.hir_types.specs.declared.ty.Ty.TheVariants as ty
 use Rattle.hir_facts.specs.declared.schedule.Schedule.{Schedule}
-use Rattle.infer_table.specs.HoleLaws.{grew_by_hole}
+use Rattle.infer_table.proofs.HoleLaws.{grew_by_hole}
 use Rattle.infer_table.specs.Table.{Grew, State, hole_count, with_new_hole}
 use Rattle.infer_result.specs.Places.{Given}
 use Rattle.infer_ctx.specs.declared.context.InferenceContext.{InferenceContext}

@@ -12,8 +12,9 @@ use Rattle.hir_facts.specs.CarriedTypes.{IsCarriedType}
 use Rattle.hir_facts.specs.Order.{inner, element, expr_part, exprs_from, parts_of_expr, part_at}
 use Rattle.hir_facts.specs.declared.raw.RawExpr.TheVariants as expr
 use Rattle.hir_facts.specs.declared.schedule.Schedule.{Schedule}
-use Rattle.infer_result.specs.Places.{Given, IsAtOrMismatch, Demand}
-use Rattle.infer_result.specs.Rules.Tuples.{AllAt}
+use Rattle.infer_result.specs.Places.{Given, IsAtOrMismatch}
+use Rattle.infer_result.specs.Demands.{Demand}
+use Rattle.infer_result.specs.Kinds.Tuple.{AllAt}
 use Rattle.infer_result.specs.Table.{HasTy}
 use Rattle.infer_result.specs.declared.result.InferenceResult.{InferenceResult}
 use Rattle.infer_result.specs.declared.result.TypeMismatch.{TypeMismatch}

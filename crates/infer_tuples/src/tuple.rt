@@ -1,5 +1,5 @@
 //! The types of tuples.
-ghost use Rattle.std.specs.Prelude.{◌≡◌, IfOk, Some};
+ghost use Rattle.std.specs.Prelude.{IfOk, Some};
 ghost use Rattle.infer_ctx.specs.Context.{given_of, schedule_of, expected_type};
 ghost use Rattle.infer_tuples.specs.Tuples.{IsTupleOf};
 ghost use Rattle.infer_ctx.specs.Steps.{Before, CoerceDone, Within, KindDone};

@@ -4,7 +4,7 @@ use Rattle.std.proofs.Common.{refl, sym, ap, ◌∙◌, subst, append_assoc}
 use Rattle.hir_types.specs.declared.ids.ExprOrPatId.{ExprOrPatId}
 use Rattle.hir_types.specs.declared.ty.Ty.{Ty}
 use Rattle.infer_table.specs.Table.{State, IsFront, Grew, IsBack, with_waiting}
-use Rattle.infer_table.specs.UndoLaws.{front_itself, grew_itself}
+use Rattle.infer_table.proofs.UndoLaws.{front_itself, grew_itself}
 
 pub grew_same : (s t : State) → t ≡ s → Grew s t
 grew_same s t e = let P : State → Type 0 = Grew s in subst P (sym e) (grew_itself s)

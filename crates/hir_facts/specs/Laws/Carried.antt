@@ -55,7 +55,8 @@ is_carried_kind kind.Union = false
 
 -- a struct or enum whose parameters are types, without predicates, of which none may lose its size
 abbrev pub is_carried_adt : RawAdt → Bool
-is_carried_adt a = is_carried_kind a.kind && (list_all is_type_param a.params && (is_empty a.preds && is_none a.unsize))
+is_carried_adt a =
+    is_carried_kind a.kind && (list_all is_type_param a.params && (is_empty a.preds && is_none a.unsize))
 
 abbrev pub is_carried_ctor : RawCtor → Bool
 is_carried_ctor ctor.Unit = true
@@ -72,7 +73,8 @@ is_in_module stands.Other = false
 
 -- a function of a module whose parameters are types, without predicates and `self`
 abbrev pub is_carried_fn : RawFn → Bool
-is_carried_fn f = is_in_module f.«at» && (list_all is_type_param f.params && (is_empty f.preds && not f.has_self))
+is_carried_fn f =
+    is_in_module f.«at» && (list_all is_type_param f.params && (is_empty f.preds && not f.has_self))
 
 -- a truth value, a character, or an integer with a suffix or without
 abbrev pub is_carried_literal : RawLiteral → Bool
@@ -104,10 +106,8 @@ is_carried_expr (expr.Call f args) = true
 is_carried_expr expr.Other = false
 
 abbrev pub is_ctor_path : RawPath → Bool
-is_ctor_path (path.Local v) = false
-is_ctor_path (path.Function f) = false
 is_ctor_path (path.Ctor v) = true
-is_ctor_path path.Other = false
+is_ctor_path _ = false
 
 -- a binding pattern has no pattern below it, and a path is that of a constructor
 abbrev pub is_carried_pat : RawPat → Bool

@@ -1,5 +1,5 @@
--- A function has as many inputs as its body has parameters, `self` counted; what is written fits the parameters in
--- scope; a struct or union has one variant.
+-- A function has as many inputs as its body has parameters, `self` counted; what is written fits the
+-- parameters in scope; a struct or union has one variant.
 use Rattle.std.specs.Prelude.{ℕ, ◌+◌, ◌<◌, ◌≤◌, ◌≡◌, [], List, length, slice_get, Option, Some, None, IfSome}
 use Rattle.hir_types.specs.declared.ids.BindingId.{BindingId}
 use Rattle.hir_types.specs.declared.ids.BodyId.{BodyId}
@@ -23,7 +23,9 @@ count_of None = 0
 count_of (Some v) = 1
 
 abbrev pub CountsFit : RawFacts → RawFn → Type 0
-CountsFit raw f = (i : BodyId) (b : RawBody) → f.body ≡ Some i → slice_get raw.bodies i.0 ≡ Some b → length f.inputs ≡ count_of b.self_ + length b.params
+CountsFit raw f =
+    (i : BodyId) (b : RawBody) → f.body ≡ Some i → slice_get raw.bodies i.0 ≡ Some b
+    → length f.inputs ≡ count_of b.self_ + length b.params
 
 -- ---- written types, where b t bounds the parameters in type t, and w t is 0 where its argument lists are right
 
@@ -88,7 +90,8 @@ IsBare (Some b) = (b.self_ ≡ None) × (b.params ≡ [])
 
 -- the written types of a variant under the parameters of its adt
 pub record VariantFitsBy (b w : ℕ → ℕ) (raw : RawFacts) (v : RawVariant) : Type 0 where
-  pub fields : (k : ℕ) (f : RawField) → slice_get v.fields k ≡ Some f → TypeFits b w (param_count (slice_get raw.adts v.adt.0)) f.ty
+  pub fields : (k : ℕ) (f : RawField) → slice_get v.fields k ≡ Some f
+      → TypeFits b w (param_count (slice_get raw.adts v.adt.0)) f.ty
   pub bare : IsBare (body_at raw v.body)
   pub body : MaybeBodyFits b w (param_count (slice_get raw.adts v.adt.0)) (body_at raw v.body)
 

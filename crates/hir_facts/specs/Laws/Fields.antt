@@ -11,5 +11,7 @@ IsNew fields i f = (j : ℕ) (g : RawField) → j < i → slice_get fields j ≡
 
 -- they are distinct, and those of a tuple are the numbers of their positions
 pub record NamesFit (v : RawVariant) : Type 0 where
-  pub distinct : (i j : ℕ) (f g : RawField) → slice_get v.fields i ≡ Some f → slice_get v.fields j ≡ Some g → f.name ≡ g.name → i ≡ j
-  pub numbered : v.ctor ≡ ctor.Tuple → (i : ℕ) (f : RawField) → slice_get v.fields i ≡ Some f → f.name ≡ decimal i
+  pub distinct : (i j : ℕ) (f g : RawField) → slice_get v.fields i ≡ Some f → slice_get v.fields j ≡ Some g
+      → f.name ≡ g.name → i ≡ j
+  pub numbered : v.ctor ≡ ctor.Tuple → (i : ℕ) (f : RawField) → slice_get v.fields i ≡ Some f
+      → f.name ≡ decimal i

@@ -143,10 +143,14 @@ pub record BodyIdsExist (raw : RawFacts) (i : ℕ) (b : RawBody) : Type 0 where
   pub traits : (k : ℕ) (t : TraitId) → slice_get b.traits k ≡ Some t → t.0 < length raw.traits
   pub self_ : IfSome b.self_ (λ v. v.0 < length b.bindings)
   pub parts : PartsFit b
-  pub locals : (e : ExprId) (v : BindingId) → slice_get b.exprs e.0 ≡ Some (expr.Path (path.Local v)) → v.0 < length b.bindings
-  pub functions : (e : ExprId) (f : FunctionId) → slice_get b.exprs e.0 ≡ Some (expr.Path (path.Function f)) → IsModuleFn raw f
-  pub constructors : (e : ExprId) (v : VariantId) → slice_get b.exprs e.0 ≡ Some (expr.Path (path.Ctor v)) → v.0 < length raw.variants
+  pub locals : (e : ExprId) (v : BindingId) → slice_get b.exprs e.0 ≡ Some (expr.Path (path.Local v))
+      → v.0 < length b.bindings
+  pub functions : (e : ExprId) (f : FunctionId) → slice_get b.exprs e.0 ≡ Some (expr.Path (path.Function f))
+      → IsModuleFn raw f
+  pub constructors : (e : ExprId) (v : VariantId) → slice_get b.exprs e.0 ≡ Some (expr.Path (path.Ctor v))
+      → v.0 < length raw.variants
   pub pat_names : (p : ℕ) (x : RawPat) → slice_get b.pats p ≡ Some x → PatNamesExist raw b x
   pub binders : (p : PatId) (v : BindingId) → Binds b p v → v.0 < length b.bindings
-  pub written : (e : ExprId) (i : ℕ) (p : PatId) (t : TypeRefId) (init other : Option ExprId) → stmt_at b e i ≡ Some (stmt.Let p (Some t) init other) → t.0 < length raw.types
+  pub written : (e : ExprId) (i : ℕ) (p : PatId) (t : TypeRefId) (init other : Option ExprId)
+      → stmt_at b e i ≡ Some (stmt.Let p (Some t) init other) → t.0 < length raw.types
   pub owner : HasOneOwner raw i

@@ -15,13 +15,8 @@ IsSmall o = IsSomeAnd o (λ n. n < 2 ^ 128)
 
 -- the expression that a pattern is, by its number
 abbrev pub literal_of : RawPat → Option ℕ
-literal_of pat.Wild = None
-literal_of (pat.Bind v sub) = None
-literal_of (pat.Tuple ps) = None
-literal_of (pat.TupleStruct v ps) = None
-literal_of (pat.Path q) = None
 literal_of (pat.Lit e) = Some e.0
-literal_of pat.Other = None
+literal_of _ = None
 
 -- which patterns are each expression
 abbrev pub ArePatterns : RawBody → List Namers → Type 0

@@ -96,11 +96,13 @@ abbrev test : Law → FactsList → Test
 test l k = record { law = l; list = k }
 
 abbrev pub item_tests : List Test
-item_tests = test law.Carried list.Types ∷ test law.Carried list.Adts ∷ test law.Carried list.Variants ∷ test law.Carried list.Fns ∷ []
+item_tests =
+    test law.Carried list.Types ∷ test law.Carried list.Adts ∷ test law.Carried list.Variants ∷ test law.Carried list.Fns ∷ []
 
 -- of these lists no entry is carried
 abbrev pub unread_tests : List Test
-unread_tests = test law.Carried list.Consts ∷ test law.Carried list.Statics ∷ test law.Carried list.Traits ∷ test law.Carried list.Aliases ∷ test law.Carried list.Impls ∷ test law.Carried list.Opaques ∷ test law.Carried list.Lang ∷ []
+unread_tests =
+    test law.Carried list.Consts ∷ test law.Carried list.Statics ∷ test law.Carried list.Traits ∷ test law.Carried list.Aliases ∷ test law.Carried list.Impls ∷ test law.Carried list.Opaques ∷ test law.Carried list.Lang ∷ []
 
 abbrev pub body_tests : List Test
 body_tests = test law.Carried list.Bodies ∷ []
@@ -109,7 +111,8 @@ abbrev pub carried_tests : List Test
 carried_tests = item_tests ++ (unread_tests ++ body_tests)
 
 abbrev pub ids_tests : List Test
-ids_tests = test law.Ids list.Types ∷ test law.Ids list.Modules ∷ test law.Ids list.Adts ∷ test law.Ids list.Variants ∷ test law.Ids list.Fns ∷ test law.Ids list.Bodies ∷ []
+ids_tests =
+    test law.Ids list.Types ∷ test law.Ids list.Modules ∷ test law.Ids list.Adts ∷ test law.Ids list.Variants ∷ test law.Ids list.Fns ∷ test law.Ids list.Bodies ∷ []
 
 abbrev pub counts_tests : List Test
 counts_tests = test law.Counts list.Adts ∷ test law.Counts list.Variants ∷ test law.Counts list.Fns ∷ []
@@ -121,7 +124,8 @@ abbrev pub scopes_tests : List Test
 scopes_tests = test law.Scopes list.Bodies ∷ []
 
 abbrev pub sizes_tests : List Test
-sizes_tests = test law.Sizes list.Types ∷ test law.Sizes list.Modules ∷ test law.Sizes list.Adts ∷ test law.Sizes list.Variants ∷ test law.Sizes list.Fns ∷ test law.Sizes list.Bodies ∷ []
+sizes_tests =
+    test law.Sizes list.Types ∷ test law.Sizes list.Modules ∷ test law.Sizes list.Adts ∷ test law.Sizes list.Variants ∷ test law.Sizes list.Fns ∷ test law.Sizes list.Bodies ∷ []
 
 abbrev pub limits_tests : List Test
 limits_tests = test law.Limits list.Limits ∷ []
@@ -134,7 +138,8 @@ holes_tests = test law.Holes list.Types ∷ []
 
 -- by law, then by list
 abbrev pub tests : List Test
-tests = carried_tests ++ (ids_tests ++ (counts_tests ++ (trees_tests ++ (scopes_tests ++ (sizes_tests ++ (limits_tests ++ (literals_tests ++ holes_tests)))))))
+tests =
+    carried_tests ++ (ids_tests ++ (counts_tests ++ (trees_tests ++ (scopes_tests ++ (sizes_tests ++ (limits_tests ++ (literals_tests ++ holes_tests)))))))
 
 abbrev pub Passes : RawFacts → Test → Type 0
 Passes raw t = says (λ A P xs. AllHold P xs) raw t.law t.list
@@ -149,7 +154,8 @@ PassesAll raw (t ∷ ts) = Passes raw t × PassesAll raw ts
 -- the first of these tests that fails is this law at this list, and fails at this entry
 abbrev pub FirstBroken : RawFacts → List Test → Law → FactsList → ℕ → Type 0
 FirstBroken raw [] l k i = ⊥
-FirstBroken raw (t ∷ ts) l k i = ((l ≡ t.law) × (k ≡ t.list) × FailsAt raw t i) ⊎ (Passes raw t × FirstBroken raw ts l k i)
+FirstBroken raw (t ∷ ts) l k i =
+    ((l ≡ t.law) × (k ≡ t.list) × FailsAt raw t i) ⊎ (Passes raw t × FirstBroken raw ts l k i)
 
 pub record IsLawful (raw : RawFacts) : Type 0 where
   pub all : PassesAll raw tests

@@ -42,17 +42,11 @@ abbrev pub IsPatternOf : RawBody → ℕ → ExprId → Type 0
 IsPatternOf b p e = slice_get b.pats p ≡ Some (pat.Lit e)
 
 abbrev pub IsLiteral : Option RawExpr → Type 0
-IsLiteral None = ⊥
 IsLiteral (Some (expr.Lit l)) = Unit {0}
-IsLiteral (Some (expr.Path p)) = ⊥
-IsLiteral (Some (expr.Block label stmts last)) = ⊥
-IsLiteral (Some (expr.Tuple es)) = ⊥
-IsLiteral (Some (expr.If c first other)) = ⊥
-IsLiteral (Some (expr.Match e arms)) = ⊥
-IsLiteral (Some (expr.Call f args)) = ⊥
-IsLiteral (Some expr.Other) = ⊥
+IsLiteral _ = ⊥
 
 -- only a literal that a pattern is may have a minus, and a pattern is no other expression
 pub record LiteralsFit (b : RawBody) : Type 0 where
-  pub each : (e : ExprId) (l : RawLiteral) → slice_get b.exprs e.0 ≡ Some (expr.Lit l) → IsInBits l ⊎ (((p : ℕ) × IsPatternOf b p e) × IsSignedInBits l)
+  pub each : (e : ExprId) (l : RawLiteral) → slice_get b.exprs e.0 ≡ Some (expr.Lit l) → IsInBits l
+      ⊎ (((p : ℕ) × IsPatternOf b p e) × IsSignedInBits l)
   pub under : (p : ℕ) (e : ExprId) → IsPatternOf b p e → IsLiteral (slice_get b.exprs e.0)

@@ -16,8 +16,10 @@ IsNamedAt targets t k = slice_get targets k ≡ Some (Some t)
 -- of the first n entries, none names the place t, or entry k alone, or several do
 abbrev pub IsNamedBy : List (Option ℕ) → ℕ → ℕ → Namers → Type 0
 IsNamedBy targets n t Nobody = (k : ℕ) → k < n → IsNamedAt targets t k → ⊥
-IsNamedBy targets n t (One k) = (k < n) × IsNamedAt targets t k × ((j : ℕ) → j < n → IsNamedAt targets t j → j ≡ k)
-IsNamedBy targets n t Several = (j : ℕ) × (k : ℕ) × IsNamedAt targets t j × IsNamedAt targets t k × (j ≡ k → ⊥)
+IsNamedBy targets n t (One k) =
+    (k < n) × IsNamedAt targets t k × ((j : ℕ) → j < n → IsNamedAt targets t j → j ≡ k)
+IsNamedBy targets n t Several =
+    (j : ℕ) × (k : ℕ) × IsNamedAt targets t j × IsNamedAt targets t k × (j ≡ k → ⊥)
 
 -- for each place below count, which of the first n entries name it
 pub record AreNamers (targets : List (Option ℕ)) (n count : ℕ) (xs : List Namers) : Type 0 where

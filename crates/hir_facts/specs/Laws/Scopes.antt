@@ -12,10 +12,14 @@ use Rattle.hir_facts.specs.Order.{IsSchedule, IsLow, Binds, start, inner}
 
 -- the binding is `self`, or its pattern comes before the expression e
 abbrev pub IsTypedBefore : RawBody → Schedule → ExprId → BindingId → Type 0
-IsTypedBefore b s e v = (b.self_ ≡ Some v) ⊎ ((p : PatId) × Binds b p v × (start b s (inner (node.PatId p)) < start b s (inner (node.ExprId e))))
+IsTypedBefore b s e v =
+    (b.self_ ≡ Some v)
+    ⊎ ((p : PatId) × Binds b p v × (start b s (inner (node.PatId p)) < start b s (inner (node.ExprId e))))
 
 abbrev pub AreInScope : RawBody → Schedule → Type 0
-AreInScope b s = (e : ExprId) (v : BindingId) → slice_get b.exprs e.0 ≡ Some (expr.Path (path.Local v)) → IsTypedBefore b s e v
+AreInScope b s =
+    (e : ExprId) (v : BindingId) → slice_get b.exprs e.0 ≡ Some (expr.Path (path.Local v))
+    → IsTypedBefore b s e v
 
 -- a body that is too deep breaks another law
 abbrev pub ScopesHold : RawBody → Type 0

@@ -57,4 +57,6 @@ HoleFits raw i = (holes_in raw i ≡ 0) ⊎ IsUsedOnce raw i
 
 -- who uses each type
 abbrev pub AreUsers : RawFacts → List Namers → List Namers → Type 0
-AreUsers raw xs ys = AreNamers (inner_uses raw) (length (inner_uses raw)) (length raw.types) xs × AreNamers (item_uses raw) (length (item_uses raw)) (length raw.types) ys
+AreUsers raw xs ys =
+    AreNamers (inner_uses raw) (length (inner_uses raw)) (length raw.types) xs
+    × AreNamers (item_uses raw) (length (item_uses raw)) (length raw.types) ys

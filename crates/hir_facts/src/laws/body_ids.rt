@@ -1,5 +1,5 @@
 //! The ids of a body are in range.
-ghost use Rattle.std.specs.Prelude.{◌≡◌, ◌↔◌, ◌<◌, ◌++◌, ℕ, Some, slice_get, length, map, IsTrue, IfOk, OnOk};
+ghost use Rattle.std.specs.Prelude.{◌≡◌, ◌↔◌, ◌<◌, ◌++◌, ℕ, Some, slice_get, map, IsTrue, IfOk, OnOk};
 ghost use Rattle.hir_types.specs.declared.ids.TraitId.{TraitId};
 ghost use Rattle.hir_facts.specs.Order.{binding_of};
 ghost use Rattle.hir_facts.specs.Laws.InBody.{MaybeExprExists, MaybeTypeExists, MaybeBindingExists, StmtIdsExist, StmtsIdsExist, ElementsExist, PatternsExist, ArmExists, ArmsExist, ExprIdsExist, ExprsIdsExist, PatsIdsExist, PatPartsExist, PatsPartsExist, PatsNamesExist, BodyIdsHere, AreOwners};

@@ -1,9 +1,7 @@
 //! Ids are in range, and smaller where a list asks for it; each body is that of one definition.
-ghost use Rattle.std.specs.Prelude.{◌≡◌, ◌↔◌, ◌<◌, ◌≤◌, ℕ, Some, None, slice_get, length, IsTrue, IfOk, IfSome, option_map, map, slice_index_or};
+ghost use Rattle.std.specs.Prelude.{◌≡◌, ◌↔◌, ◌<◌, ℕ, Some, None, slice_get, length, IsTrue, IfSome};
 ghost use Rattle.hir_types.specs.declared.ids.TypeRefId.{TypeRefId};
-ghost use Rattle.hir_types.specs.declared.ids.TraitId.{TraitId};
-ghost use Rattle.hir_facts.specs.Laws.Entries.{AllHold};
-ghost use Rattle.hir_facts.specs.Laws.Ids.{ChildrenBefore, AdtExists, TypeIdsExist, ParentBefore, PlaceExists, VisExists, FnIdsExist, BodyIdsExist};
+ghost use Rattle.hir_facts.specs.Laws.Ids.{ChildrenBefore, AdtExists, TypeIdsExist, ParentBefore, PlaceExists, VisExists, FnIdsExist};
 
 use crate::laws::test::Test;
 use crate::raw::{RawAt, RawFacts, RawFn, RawType, RawVis};

@@ -1,5 +1,5 @@
 //! The limits are in their ranges.
-ghost use Rattle.std.specs.Prelude.{◌≡◌, ◌↔◌, ℕ, IsTrue};
+ghost use Rattle.std.specs.Prelude.{◌≡◌};
 ghost use Rattle.hir_facts.specs.Laws.Limits.{limits_of, most_at, IsInRange};
 
 use crate::laws::test::Test;

@@ -1,7 +1,6 @@
 //! A local names a binding that the walk has typed before.
-ghost use Rattle.std.specs.Prelude.{◌≡◌, ◌↔◌, ◌<◌, ◌≤◌, ◌+◌, ℕ, Some, IsTrue, IfOk, length, slice_get, slice_index_or};
+ghost use Rattle.std.specs.Prelude.{◌≡◌, ◌↔◌, ◌<◌, ◌+◌, ℕ, Some, IsTrue, IfOk, length, slice_get, slice_index_or};
 ghost use Rattle.hir_facts.specs.Order.{PartsFit, IsTree, IsSchedule, AreDepths, node_count};
-ghost use Rattle.hir_types.specs.declared.ids.BindingId.{BindingId};
 ghost use Rattle.hir_facts.specs.declared.laws.namers.Namers.TheVariants.{Nobody};
 ghost use Rattle.hir_facts.specs.declared.raw.RawExpr.TheVariants.{Path};
 ghost use Rattle.hir_facts.specs.declared.raw.RawPath.TheVariants.{Local};

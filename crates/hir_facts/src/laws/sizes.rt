@@ -1,5 +1,5 @@
 //! How long lists may be, and how deep types.
-ghost use Rattle.std.specs.Prelude.{◌≡◌, ◌↔◌, ◌+◌, ◌<◌, ℕ, Some, map, max, min, sum, length, slice_get, slice_index, IsTrue, IfOk, List};
+ghost use Rattle.std.specs.Prelude.{◌≡◌, ◌↔◌, ◌+◌, ◌<◌, ℕ, Some, map, max, min, sum, length, slice_get, slice_index, IsTrue, IfOk};
 ghost use Rattle.hir_types.specs.declared.ids.TypeRefId.{TypeRefId};
 ghost use Rattle.hir_types.specs.Types.{most, depth, size};
 ghost use Rattle.hir_facts.specs.Laws.Entries.{AllHold};

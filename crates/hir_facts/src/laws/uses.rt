@@ -1,5 +1,5 @@
 //! Where written types are used: a `_` stands once, in a type written in a body.
-ghost use Rattle.std.specs.Prelude.{◌≡◌, ◌↔◌, ◌++◌, Some, map, length, flat_map, IsTrue, IfOk, OnOk};
+ghost use Rattle.std.specs.Prelude.{◌≡◌, ◌++◌, Some, map, length, flat_map, IfOk, OnOk};
 ghost use Rattle.hir_facts.specs.Laws.Entries.{AllHold};
 ghost use Rattle.hir_facts.specs.Laws.Ids.{ChildrenBefore};
 ghost use Rattle.hir_facts.specs.Laws.Standing.{hole_at, AreMosts};

@@ -21,13 +21,14 @@ use Rattle.infer_result.specs.declared.diagnostics.InferenceDiagnostic.{Inferenc
 use Rattle.infer_result.specs.declared.diagnostics.InferenceDiagnostic.TheVariants as diagnostic
 use Rattle.infer_result.specs.Closed.{NamesVariant, IsVariantPat}
 use Rattle.infer_result.specs.Table.{HasTy, mismatch}
-use Rattle.infer_result.specs.Places.{Given, Demand}
-use Rattle.infer_result.specs.Rules.Expressions.{ObeysOrMismatch}
+use Rattle.infer_result.specs.Places.{Given}
+use Rattle.infer_result.specs.Demands.{Demand}
+use Rattle.infer_result.specs.Rules.{ObeysOrMismatch}
 use Rattle.infer_result.specs.Truth.Mismatch.{IsTruePatMismatch}
-use Rattle.infer_result.specs.Truth.Calls.{IsTrueDiagnostic, IsTruePatDiagnostic}
+use Rattle.infer_result.specs.Truth.Diagnostics.{IsTrueDiagnostic, IsTruePatDiagnostic}
 use Rattle.infer_result.specs.Made.{IsMisfit, IsMade}
 use Rattle.infer_result.specs.Typed.{IsTyped}
-use Rattle.infer_result.specs.Derived.{typed_by_schedule}
+use Rattle.infer_result.proofs.Derived.{typed_by_schedule}
 use Rattle.infer_result.proofs.Samples.Small.{e, w, u8, one_u8, function_of, each_below, only, each_entry, each_found, closed_u8, u8_is_no_bool, u8_differs_bool, none_placed, no_placeholders, no_placeholder}
 use Rattle.infer_result.proofs.Samples.Calling.{function, calling, schedule, is_schedule, item, closed_item, top_arg, obeyed, unseen, counted}
 
@@ -76,51 +77,55 @@ abbrev right : InferenceResult
 right = table_of (u8 ∷ []) u8 no_mismatch no_diagnostic
 
 call_obeys : ObeysOrMismatch given right (e 2)
-call_obeys = inl (
-  fn_signature types id,
-  u8 ∷ [],
-  record { item = callable.FunctionId function; has = refl; signature = refl },
-  inl ((u8, refl, inl (ap erased (sym (at_type u8)))), tt),
-  subst (HasTy right (e 2)) (sym (at_type u8)) refl,
-)
+call_obeys = inl (record {
+  signature = fn_signature types id;
+  types = u8 ∷ [];
+  is_callee = record { item = callable.FunctionId function; has = refl; signature = refl };
+  arguments = inl ((u8, refl, inl (ap erased (sym (at_type u8)))), tt);
+  has = subst (HasTy right (e 2)) (sym (at_type u8)) refl;
+})
 
 closed_callee : IsClosed (item (u8 ∷ []))
 closed_callee = closed_item (u8 ∷ []) (rw (carried_type_arg u8 ∙ carried_integer (integer.Uint uint.U8)) refl)
 
 right_made : IsMade given right
 right_made = record {
-  of_body = record { exprs = refl; pats = refl; bindings = refl; modes = refl; mismatches = refl; diagnostics = refl; pat_mismatches = refl; pat_diagnostics = refl; expr_variants = refl; pat_variants = refl };
-  closed = record {
-    exprs = each_entry IsClosed right.type_of_expr (closed_callee, (closed_u8, (closed_u8, (closed_u8, tt))));
-    pats = λ n s h. absurd (cc);
-    bindings = λ n s h. absurd (cc);
-    placeholders = λ k s at. absurd (no_placeholder types k s at);
-    expected = each_entry (λ x. IsClosed x.expected) right.expr_mismatches tt;
-    actual = each_entry (λ x. IsClosed x.actual) right.expr_mismatches tt;
-    pat_expected = each_entry (λ x. IsClosed x.expected) right.pat_mismatches tt;
-    pat_actual = each_entry (λ x. IsClosed x.actual) right.pat_mismatches tt;
-    found = each_found IsClosed right.expr_diagnostics tt;
+  shape = record {
+    of_body = record { exprs = refl; pats = refl; bindings = refl; modes = refl; mismatches = refl; diagnostics = refl; pat_mismatches = refl; pat_diagnostics = refl; expr_variants = refl; pat_variants = refl };
+    closed = record {
+      exprs = each_entry IsClosed right.type_of_expr (closed_callee, (closed_u8, (closed_u8, (closed_u8, tt))));
+      pats = λ n s h. absurd (cc);
+      bindings = λ n s h. absurd (cc);
+      placeholders = λ k s at. absurd (no_placeholder types k s at);
+      expected = each_entry (λ x. IsClosed x.expected) right.expr_mismatches tt;
+      actual = each_entry (λ x. IsClosed x.actual) right.expr_mismatches tt;
+      pat_expected = each_entry (λ x. IsClosed x.expected) right.pat_mismatches tt;
+      pat_actual = each_entry (λ x. IsClosed x.actual) right.pat_mismatches tt;
+      found = each_found IsClosed right.expr_diagnostics tt;
+    };
+    modes = λ x m at. absurd (cc);
+    placeholders = none_placed given right refl;
+    variants = record {
+      exprs = λ x. each_entry (NamesVariant given.body x) right.expr_variants tt x.0;
+      pats = λ x. each_entry (IsVariantPat given.body x) right.pat_variants tt x.0;
+    };
   };
   clauses = λ x h.
       each_below (λ k. ObeysOrMismatch given right (e k)) 4 x.0
-      ((((tt, (u8 ∷ [], refl, refl)), (u8, refl, refl)), call_obeys), (tt, (u8, refl, (u8, refl, inl refl)))) h;
+      ((((tt, (u8 ∷ [], refl, refl)), (u8, refl, refl)), call_obeys), record { statements = tt; type = u8; has = refl; ends = (u8, refl, inl refl) }) h;
   kinds = λ x h. absurd (omega arith);
   params = λ i q s found is. absurd (cc);
   bindings = λ v h. absurd (omega arith);
   body_clause = (u8, refl, inl refl);
   misfits = λ x. each_entry (IsMisfit given right x) right.expr_mismatches tt x.0;
   demands = λ x. each_entry (λ m. Demand given right x m.expected) right.expr_mismatches tt x.0;
-  modes = λ x m at. absurd (cc);
-  placeholders = none_placed given right refl;
-  diagnostics = λ x. each_entry (IsTrueDiagnostic given right x) right.expr_diagnostics tt x.0;
-  pat_diagnostics = λ x. each_entry (IsTruePatDiagnostic given x) right.pat_diagnostics tt x.0;
-  variants = record {
-    exprs = λ x. each_entry (NamesVariant given.body x) right.expr_variants tt x.0;
-    pats = λ x. each_entry (IsVariantPat given.body x) right.pat_variants tt x.0;
+  complaints = record {
+    diagnostics = λ x. each_entry (IsTrueDiagnostic given right x) right.expr_diagnostics tt x.0;
+    pat_diagnostics = λ x. each_entry (IsTruePatDiagnostic given x) right.pat_diagnostics tt x.0;
+    pat_truths = λ x. each_entry (IsTruePatMismatch given right x) right.pat_mismatches tt x.0;
+    seen = λ i x found. absurd (cc);
+    said = λ i x found. absurd (cc);
   };
-  seen = λ i x found. absurd (cc);
-  said = λ i x found. absurd (cc);
-  pat_truths = λ x. each_entry (IsTruePatMismatch given right x) right.pat_mismatches tt x.0;
 }
 
 pub right_typed : IsTyped given right
@@ -151,6 +156,6 @@ call_at_bool h =
 pub invented : (expected found : ℕ) → IsTyped given (table_of (u8 ∷ []) u8 no_mismatch (None ∷ None ∷ Some (diagnostic.MismatchedArgCount (e 2) expected found) ∷ None ∷ []))
     → ⊥
 invented expected found h =
-    (let m = (h.diagnostics (e 2) (diagnostic.MismatchedArgCount (e 2) expected found) refl).1 in
+    (let m = (h.complaints.diagnostics (e 2) (diagnostic.MismatchedArgCount (e 2) expected found) refl).1 in
     let (a, c) = counted types id one_u8 u8 _ (u8 ∷ []) refl expected found m in
     m.differ (a ∙ sym c))

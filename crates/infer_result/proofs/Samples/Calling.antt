@@ -22,12 +22,13 @@ use Rattle.hir_facts.specs.Types.{written_type}
 use Rattle.hir_facts.specs.Signatures.{Signature, fn_signature, signature_of, type_args, at_args}
 use Rattle.infer_result.specs.declared.result.InferenceResult.{InferenceResult}
 use Rattle.infer_result.specs.Table.{HasTy, WasSeen}
-use Rattle.infer_result.specs.Places.{Given, IsCallee, IsOfBranch, Demand}
-use Rattle.infer_result.specs.Rules.Placing.{at_or_mismatch}
-use Rattle.infer_result.specs.Rules.Calls.{ArgsRule}
-use Rattle.infer_result.specs.Rules.Expressions.{ObeysOrMismatch}
-use Rattle.infer_result.specs.Truth.Calls.{IsWrongCount}
-use Rattle.infer_result.specs.Derived.{one_at, fn_def_parts}
+use Rattle.infer_result.specs.Places.{Given}
+use Rattle.infer_result.specs.Kinds.Call.{IsCallee, ArgsRule, IsWrongCount}
+use Rattle.infer_result.specs.Kinds.If.{IsOfBranch}
+use Rattle.infer_result.specs.Demands.{Demand}
+use Rattle.infer_result.specs.Placing.{at_or_mismatch}
+use Rattle.infer_result.specs.Rules.{ObeysOrMismatch}
+use Rattle.infer_result.proofs.Derived.{one_at, fn_def_parts}
 use Rattle.infer_result.proofs.Samples.Small.{scope_among, e, body_of, each_node, apart_by, asked}
 
 abbrev pub function : FunctionId
@@ -111,10 +112,11 @@ module _ (types : List RawType) (f : RawFn) (l : RawLiteral) (o : Ty) (t : Infer
   -- the rule of the call, with the inputs and the output of the function
   pub obeyed : ObeysOrMismatch Here t (e 2) → (WasSeen t (e 2) → ⊥) → Arguments inputs × HasTy t (e 2) (at_args ts (written_type types f.output))
   obeyed (inr (m, k)) unseen = absurd (unseen m)
-  obeyed (inl (σ, us, is, a, has)) unseen =
-      let (at, signature) = callee_is (e 0) us σ refl is in (
-        subst (λ (x : Signature). Arguments (map (at_args ts) x.inputs)) signature (subst (λ vs. Arguments (map (at_args vs) σ.inputs)) at a),
-        subst (λ (x : Signature). HasTy t (e 2) (at_args ts x.output)) signature (subst (λ vs. HasTy t (e 2) (at_args vs σ.output)) at has),
+  obeyed (inl r) unseen =
+      let σ = r.signature in
+      let (at, signature) = callee_is (e 0) r.types r.signature refl r.is_callee in (
+        subst (λ (x : Signature). Arguments (map (at_args ts) x.inputs)) signature (subst (λ vs. Arguments (map (at_args vs) σ.inputs)) at r.arguments),
+        subst (λ (x : Signature). HasTy t (e 2) (at_args ts x.output)) signature (subst (λ vs. HasTy t (e 2) (at_args vs σ.output)) at r.has),
       )
 
   -- what a complaint about the number of arguments says of it

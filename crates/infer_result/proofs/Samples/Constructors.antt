@@ -31,7 +31,7 @@ use Rattle.hir_facts.specs.declared.raw.RawBody.{RawBody}
 use Rattle.hir_facts.specs.declared.schedule.Schedule.{Schedule}
 use Rattle.hir_types.specs.Erasure.{Same, erased, IsClosed}
 use Rattle.hir_types.specs.Instances.{param_at}
-use Rattle.hir_types.specs.Layers.{has_hole_adt, has_hole_fn_def}
+use Rattle.hir_types.proofs.Layers.{has_hole_adt, has_hole_fn_def}
 use Rattle.hir_facts.specs.Types.{lowered_within, written_type}
 use Rattle.hir_facts.specs.Scope.{Scope}
 use Rattle.hir_facts.specs.Signatures.{Signature, type_args, at_args, own_adt, field_types, own_adt_at, signature_of}
@@ -40,17 +40,18 @@ use Rattle.infer_result.specs.declared.result.InferenceResult.{InferenceResult}
 use Rattle.infer_result.specs.declared.result.TypeMismatch.{TypeMismatch}
 use Rattle.infer_result.specs.declared.modes.BindingMode.TheVariants as mode
 use Rattle.infer_result.specs.Table.{HasTy, BindingTy, WasSeen, mismatch}
-use Rattle.infer_result.specs.Places.{Given, IsVariantAt, IsCallee, Demand}
-use Rattle.infer_result.specs.Rules.Placing.{at_or_mismatch}
-use Rattle.infer_result.specs.Rules.Calls.{ArgsRule}
-use Rattle.infer_result.specs.Rules.Expressions.{ObeysOrMismatch}
-use Rattle.infer_result.specs.Rules.Patterns.{PatRule}
+use Rattle.infer_result.specs.Places.{Given}
+use Rattle.infer_result.specs.Kinds.Constructor.{IsVariantAt}
+use Rattle.infer_result.specs.Kinds.Call.{IsCallee, ArgsRule}
+use Rattle.infer_result.specs.Demands.{Demand}
+use Rattle.infer_result.specs.Placing.{at_or_mismatch}
+use Rattle.infer_result.specs.Rules.{ObeysOrMismatch, PatRule}
 use Rattle.infer_result.specs.Truth.Mismatch.{IsTruePatMismatch}
-use Rattle.infer_result.specs.Truth.Calls.{IsTrueDiagnostic, IsTruePatDiagnostic}
+use Rattle.infer_result.specs.Truth.Diagnostics.{IsTrueDiagnostic, IsTruePatDiagnostic}
 use Rattle.infer_result.specs.Closed.{IsBinder, NamesVariant, IsVariantPat}
 use Rattle.infer_result.specs.Made.{IsMisfit, IsMade}
 use Rattle.infer_result.specs.Typed.{IsTyped}
-use Rattle.infer_result.specs.Derived.{one_at, fn_def_parts, same_type_args, typed_by_schedule}
+use Rattle.infer_result.proofs.Derived.{one_at, fn_def_parts, same_type_args, typed_by_schedule}
 use Rattle.infer_result.proofs.Samples.Small.{facts_with, e, p, b, w, u8, one_u8, plain, body_of, each_below, each_node, apart_by, only, each_entry, each_found, each_placed, closed_u8, u8_is_no_bool, u8_differs_bool, none_placed, no_placeholders, no_placeholder}
 use Rattle.infer_result.proofs.Samples.Calling.{unseen}
 
@@ -209,16 +210,23 @@ abbrev signature : Signature
 signature = record { params = 1; inputs = field_types types some; output = own_adt adt 1 }
 
 call_obeys : ObeysOrMismatch given right (e 2)
-call_obeys = inl (
-  signature,
-  u8 ∷ [],
-  record { item = callable.VariantId (v 1); has = refl; signature = refl },
-  inl ((u8, refl, inl (ap erased (sym (field_at u8)))), tt),
-  subst (HasTy right (e 2)) (sym (own_adt_at adt (u8 ∷ []))) refl,
-)
+call_obeys = inl (record {
+  signature = signature;
+  types = u8 ∷ [];
+  is_callee = record { item = callable.VariantId (v 1); has = refl; signature = refl };
+  arguments = inl ((u8, refl, inl (ap erased (sym (field_at u8)))), tt);
+  has = subst (HasTy right (e 2)) (sym (own_adt_at adt (u8 ∷ []))) refl;
+})
 
 match_obeys : ObeysOrMismatch given right (e 5)
-match_obeys = ((maybe u8, refl, ((maybe u8, refl, inl refl), ((maybe u8, refl, inl refl), tt))), (u8, refl, ((tt, inl (u8, refl, refl)), ((tt, inl (u8, refl, refl)), tt))))
+match_obeys = record {
+  scrutinee = maybe u8;
+  comes = refl;
+  patterns = ((maybe u8, refl, inl refl), ((maybe u8, refl, inl refl), tt));
+  type = u8;
+  has = refl;
+  alternatives = ((tt, inl (u8, refl, refl)), ((tt, inl (u8, refl, refl)), tt));
+}
 
 some_obeys : PatRule given right (p 0) (slice_get body.pats 0)
 some_obeys = record {
@@ -233,22 +241,30 @@ some_obeys = record {
 
 right_made : IsMade given right
 right_made = record {
-  of_body = record { exprs = refl; pats = refl; bindings = refl; modes = refl; mismatches = refl; diagnostics = refl; pat_mismatches = refl; pat_diagnostics = refl; expr_variants = refl; pat_variants = refl };
-  closed = record {
-    exprs = each_entry IsClosed right.type_of_expr (closed_some, (closed_u8, (closed_maybe, (closed_u8, (closed_u8, (closed_u8, (closed_u8, tt)))))));
-    pats = each_entry IsClosed right.type_of_pat (closed_maybe, (closed_u8, (closed_maybe, tt)));
-    bindings = each_entry IsClosed right.type_of_binding (closed_u8, tt);
-    placeholders = λ k s at. absurd (no_placeholder types k s at);
-    expected = each_entry (λ x. IsClosed x.expected) right.expr_mismatches tt;
-    actual = each_entry (λ x. IsClosed x.actual) right.expr_mismatches tt;
-    pat_expected = each_entry (λ x. IsClosed x.expected) right.pat_mismatches tt;
-    pat_actual = each_entry (λ x. IsClosed x.actual) right.pat_mismatches tt;
-    found = each_found IsClosed right.expr_diagnostics tt;
+  shape = record {
+    of_body = record { exprs = refl; pats = refl; bindings = refl; modes = refl; mismatches = refl; diagnostics = refl; pat_mismatches = refl; pat_diagnostics = refl; expr_variants = refl; pat_variants = refl };
+    closed = record {
+      exprs = each_entry IsClosed right.type_of_expr (closed_some, (closed_u8, (closed_maybe, (closed_u8, (closed_u8, (closed_u8, (closed_u8, tt)))))));
+      pats = each_entry IsClosed right.type_of_pat (closed_maybe, (closed_u8, (closed_maybe, tt)));
+      bindings = each_entry IsClosed right.type_of_binding (closed_u8, tt);
+      placeholders = λ k s at. absurd (no_placeholder types k s at);
+      expected = each_entry (λ x. IsClosed x.expected) right.expr_mismatches tt;
+      actual = each_entry (λ x. IsClosed x.actual) right.expr_mismatches tt;
+      pat_expected = each_entry (λ x. IsClosed x.expected) right.pat_mismatches tt;
+      pat_actual = each_entry (λ x. IsClosed x.actual) right.pat_mismatches tt;
+      found = each_found IsClosed right.expr_diagnostics tt;
+    };
+    modes = λ x. each_placed (λ k m. IsBinder body (p k)) right.binding_modes ((b 0, None, refl), tt) x.0;
+    placeholders = none_placed given right refl;
+    variants = record {
+      exprs = λ x. each_placed (λ k. NamesVariant given.body (e k)) right.expr_variants (refl, tt) x.0;
+      pats = λ x. each_placed (λ k. IsVariantPat given.body (p k)) right.pat_variants (inr (p 1 ∷ [], refl), (inl refl, tt)) x.0;
+    };
   };
   clauses = λ x h.
       each_below (λ k. ObeysOrMismatch given right (e k)) 7 x.0 (
         ((((((tt, (some_at u8, refl, record { variant = some; types = u8 ∷ []; is_variant = some_is u8; is = refl }, refl)), (u8, refl, refl)), call_obeys), (u8, refl, refl)), (u8, refl, refl)), match_obeys),
-        (tt, (u8, refl, (u8, refl, inl refl))),
+        record { statements = tt; type = u8; has = refl; ends = (u8, refl, inl refl) },
       ) h;
   kinds = λ x h.
       each_below (λ k. PatRule given right (p k) (slice_get body.pats k)) 3 x.0
@@ -258,17 +274,13 @@ right_made = record {
   body_clause = (u8, refl, inl refl);
   misfits = λ x. each_entry (IsMisfit given right x) right.expr_mismatches tt x.0;
   demands = λ x. each_entry (λ m. Demand given right x m.expected) right.expr_mismatches tt x.0;
-  modes = λ x. each_placed (λ k m. IsBinder body (p k)) right.binding_modes ((b 0, None, refl), tt) x.0;
-  placeholders = none_placed given right refl;
-  diagnostics = λ x. each_entry (IsTrueDiagnostic given right x) right.expr_diagnostics tt x.0;
-  pat_diagnostics = λ x. each_entry (IsTruePatDiagnostic given x) right.pat_diagnostics tt x.0;
-  variants = record {
-    exprs = λ x. each_placed (λ k. NamesVariant given.body (e k)) right.expr_variants (refl, tt) x.0;
-    pats = λ x. each_placed (λ k. IsVariantPat given.body (p k)) right.pat_variants (inr (p 1 ∷ [], refl), (inl refl, tt)) x.0;
+  complaints = record {
+    diagnostics = λ x. each_entry (IsTrueDiagnostic given right x) right.expr_diagnostics tt x.0;
+    pat_diagnostics = λ x. each_entry (IsTruePatDiagnostic given x) right.pat_diagnostics tt x.0;
+    pat_truths = λ x. each_entry (IsTruePatMismatch given right x) right.pat_mismatches tt x.0;
+    seen = λ i x found. absurd (cc);
+    said = λ i x found. absurd (cc);
   };
-  seen = λ i x found. absurd (cc);
-  said = λ i x found. absurd (cc);
-  pat_truths = λ x. each_entry (IsTruePatMismatch given right x) right.pat_mismatches tt x.0;
 }
 
 pub right_typed : IsTyped given right
@@ -311,10 +323,11 @@ module _ (t : InferenceResult) (s : Ty) (stands : HasTy t (e 0) (some_at s)) whe
   -- the rule of the call, with the field as input and the adt as output
   obeyed : ObeysOrMismatch given t (e 2) → (WasSeen t (e 2) → ⊥) → ArgsRule (at_or_mismatch given t) (e 2) (e 1 ∷ []) (at_args (s ∷ []) (written_type types (w 0)) ∷ []) × HasTy t (e 2) (maybe s)
   obeyed (inr (m, k)) unseen = absurd (unseen m)
-  obeyed (inl (σ, us, is, a, has)) unseen =
-      let (at, own) = callee_is σ us is in (
-        subst (λ (x : Signature). ArgsRule (at_or_mismatch given t) (e 2) (e 1 ∷ []) (map (at_args (s ∷ [])) x.inputs)) own (subst (λ vs. ArgsRule (at_or_mismatch given t) (e 2) (e 1 ∷ []) (map (at_args vs) σ.inputs)) at a),
-        subst (HasTy t (e 2)) (own_adt_at adt (s ∷ [])) (subst (λ (x : Signature). HasTy t (e 2) (at_args (s ∷ []) x.output)) own (subst (λ vs. HasTy t (e 2) (at_args vs σ.output)) at has)),
+  obeyed (inl r) unseen =
+      let σ = r.signature in
+      let (at, own) = callee_is r.signature r.types r.is_callee in (
+        subst (λ (x : Signature). ArgsRule (at_or_mismatch given t) (e 2) (e 1 ∷ []) (map (at_args (s ∷ [])) x.inputs)) own (subst (λ vs. ArgsRule (at_or_mismatch given t) (e 2) (e 1 ∷ []) (map (at_args vs) σ.inputs)) at r.arguments),
+        subst (HasTy t (e 2)) (own_adt_at adt (s ∷ [])) (subst (λ (x : Signature). HasTy t (e 2) (at_args (s ∷ []) x.output)) own (subst (λ vs. HasTy t (e 2) (at_args vs σ.output)) at r.has)),
       )
 
 -- the path to `Some` is at another type than the argument has, of which no mismatch tells, whatever the types of the call, of
@@ -367,10 +380,10 @@ path_unrecorded = path_misresolved None (λ k. cc)
 
 -- a variant is recorded at the argument, at the call, at the pattern `x`
 pub recorded_at_argument : (i : VariantId) → IsTyped given (recording (Some (v 1) ∷ Some i ∷ None ∷ None ∷ None ∷ None ∷ None ∷ []) named_pats) → ⊥
-recorded_at_argument i h = (let names = h.variants.exprs (e 1) i refl in cc)
+recorded_at_argument i h = (let names = h.shape.variants.exprs (e 1) i refl in cc)
 
 pub recorded_at_call : (i : VariantId) → IsTyped given (recording (Some (v 1) ∷ None ∷ Some i ∷ None ∷ None ∷ None ∷ None ∷ []) named_pats) → ⊥
-recorded_at_call i h = (let names = h.variants.exprs (e 2) i refl in cc)
+recorded_at_call i h = (let names = h.shape.variants.exprs (e 2) i refl in cc)
 
 pub recorded_at_binding : (i : VariantId) → IsTyped given (recording named (Some (v 1) ∷ Some i ∷ Some (v 0) ∷ [])) → ⊥
-recorded_at_binding i h = elim (h.variants.pats (p 1) i refl) [ inl is ↦ (let clash = is in cc) | inr is ↦ (let clash = is.1 in cc) ]
+recorded_at_binding i h = elim (h.shape.variants.pats (p 1) i refl) [ inl is ↦ (let clash = is in cc) | inr is ↦ (let clash = is.1 in cc) ]

@@ -15,15 +15,15 @@ use Rattle.infer_result.specs.declared.result.InferenceResult.{InferenceResult}
 use Rattle.infer_result.specs.declared.result.TypeMismatch.{TypeMismatch}
 use Rattle.infer_result.specs.declared.modes.BindingMode.TheVariants as mode
 use Rattle.infer_result.specs.Table.{BindingTy, mismatch}
-use Rattle.infer_result.specs.Places.{Given, Demand}
-use Rattle.infer_result.specs.Rules.Expressions.{ObeysOrMismatch}
-use Rattle.infer_result.specs.Rules.Patterns.{PatRule}
+use Rattle.infer_result.specs.Places.{Given}
+use Rattle.infer_result.specs.Demands.{Demand}
+use Rattle.infer_result.specs.Rules.{ObeysOrMismatch, PatRule}
 use Rattle.infer_result.specs.Truth.Mismatch.{IsTruePatMismatch}
-use Rattle.infer_result.specs.Truth.Calls.{IsTrueDiagnostic, IsTruePatDiagnostic}
+use Rattle.infer_result.specs.Truth.Diagnostics.{IsTrueDiagnostic, IsTruePatDiagnostic}
 use Rattle.infer_result.specs.Closed.{IsBinder, NamesVariant, IsVariantPat}
 use Rattle.infer_result.specs.Made.{IsMisfit, IsMade}
 use Rattle.infer_result.specs.Typed.{IsTyped}
-use Rattle.infer_result.specs.Derived.{typed_by_schedule}
+use Rattle.infer_result.proofs.Derived.{typed_by_schedule}
 use Rattle.infer_result.proofs.Samples.Small.{scope_with, e, p, b, u8, u16, one_u8, plain, body_of, each_below, each_node, apart_by, asked, only, each_entry, each_found, closed_u8, u8_is_no_u16, u8_is_no_error, u8_differs_u16, each_placed, none_placed}
 
 abbrev body : RawBody
@@ -71,36 +71,40 @@ right = table_of (Some u8 ∷ Some u8 ∷ Some u8 ∷ []) (None ∷ None ∷ Non
 
 right_made : IsMade given right
 right_made = record {
-  of_body = record { exprs = refl; pats = refl; bindings = refl; modes = refl; mismatches = refl; diagnostics = refl; pat_mismatches = refl; pat_diagnostics = refl; expr_variants = refl; pat_variants = refl };
-  closed = record {
-    exprs = each_entry IsClosed right.type_of_expr (closed_u8, (closed_u8, (closed_u8, tt)));
-    pats = each_entry IsClosed right.type_of_pat (closed_u8, tt);
-    bindings = each_entry IsClosed right.type_of_binding (closed_u8, tt);
-    placeholders = λ k s at. absurd (cc);
-    expected = each_entry (λ x. IsClosed x.expected) right.expr_mismatches tt;
-    actual = each_entry (λ x. IsClosed x.actual) right.expr_mismatches tt;
-    pat_expected = each_entry (λ x. IsClosed x.expected) right.pat_mismatches tt;
-    pat_actual = each_entry (λ x. IsClosed x.actual) right.pat_mismatches tt;
-    found = each_found IsClosed right.expr_diagnostics tt;
+  shape = record {
+    of_body = record { exprs = refl; pats = refl; bindings = refl; modes = refl; mismatches = refl; diagnostics = refl; pat_mismatches = refl; pat_diagnostics = refl; expr_variants = refl; pat_variants = refl };
+    closed = record {
+      exprs = each_entry IsClosed right.type_of_expr (closed_u8, (closed_u8, (closed_u8, tt)));
+      pats = each_entry IsClosed right.type_of_pat (closed_u8, tt);
+      bindings = each_entry IsClosed right.type_of_binding (closed_u8, tt);
+      placeholders = λ k s at. absurd (cc);
+      expected = each_entry (λ x. IsClosed x.expected) right.expr_mismatches tt;
+      actual = each_entry (λ x. IsClosed x.actual) right.expr_mismatches tt;
+      pat_expected = each_entry (λ x. IsClosed x.expected) right.pat_mismatches tt;
+      pat_actual = each_entry (λ x. IsClosed x.actual) right.pat_mismatches tt;
+      found = each_found IsClosed right.expr_diagnostics tt;
+    };
+    modes = λ x. each_placed (λ k m. IsBinder body (p k)) right.binding_modes ((b 0, None, refl), tt) x.0;
+    placeholders = none_placed given right refl;
+    variants = record {
+      exprs = λ x. each_entry (NamesVariant given.body x) right.expr_variants tt x.0;
+      pats = λ x. each_entry (IsVariantPat given.body x) right.pat_variants tt x.0;
+    };
   };
-  clauses = λ x h. each_below (λ k. ObeysOrMismatch given right (e k)) 3 x.0 (((tt, (u8, refl, refl)), (u8, refl, refl)), (((u8, refl, (u8, refl, inl refl)), tt), (u8, refl, (u8, refl, inl refl)))) h;
+  clauses = λ x h. each_below (λ k. ObeysOrMismatch given right (e k)) 3 x.0 (((tt, (u8, refl, refl)), (u8, refl, refl)), record { statements = ((u8, refl, (u8, refl, inl refl)), tt); type = u8; has = refl; ends = (u8, refl, inl refl) }) h;
   kinds = λ x h. each_below (λ k. PatRule given right (p k) (slice_get body.pats k)) 1 x.0 (tt, (u8, refl, refl, refl)) h;
   params = λ i q s found is. absurd (cc);
   bindings = λ v h. each_below (λ k. (s : Ty) × BindingTy right (b k) s) 1 v.0 (tt, (u8, refl)) h;
   body_clause = (u8, refl, inl refl);
   misfits = λ x. each_entry (IsMisfit given right x) right.expr_mismatches tt x.0;
   demands = λ x. each_entry (λ m. Demand given right x m.expected) right.expr_mismatches tt x.0;
-  modes = λ x. each_placed (λ k m. IsBinder body (p k)) right.binding_modes ((b 0, None, refl), tt) x.0;
-  placeholders = none_placed given right refl;
-  diagnostics = λ x. each_entry (IsTrueDiagnostic given right x) right.expr_diagnostics tt x.0;
-  pat_diagnostics = λ x. each_entry (IsTruePatDiagnostic given x) right.pat_diagnostics tt x.0;
-  variants = record {
-    exprs = λ x. each_entry (NamesVariant given.body x) right.expr_variants tt x.0;
-    pats = λ x. each_entry (IsVariantPat given.body x) right.pat_variants tt x.0;
+  complaints = record {
+    diagnostics = λ x. each_entry (IsTrueDiagnostic given right x) right.expr_diagnostics tt x.0;
+    pat_diagnostics = λ x. each_entry (IsTruePatDiagnostic given x) right.pat_diagnostics tt x.0;
+    pat_truths = λ x. each_entry (IsTruePatMismatch given right x) right.pat_mismatches tt x.0;
+    seen = λ i x found. absurd (cc);
+    said = λ i x found. absurd (cc);
   };
-  seen = λ i x found. absurd (cc);
-  said = λ i x found. absurd (cc);
-  pat_truths = λ x. each_entry (IsTruePatMismatch given right x) right.pat_mismatches tt x.0;
 }
 
 pub right_typed : IsTyped given right
@@ -126,7 +130,7 @@ other_block h =
 -- a hole
 pub a_hole : IsTyped given (table_of (Some u8 ∷ Some (ty.Var 0) ∷ Some u8 ∷ []) (None ∷ None ∷ None ∷ [])) → ⊥
 a_hole h =
-    (let closed : has_hole (ty.Var 0) ≡ false = h.closed.exprs 1 (ty.Var 0) refl in
+    (let closed : has_hole (ty.Var 0) ≡ false = h.shape.closed.exprs 1 (ty.Var 0) refl in
     let open_ : has_hole (ty.Var 0) ≡ true = ap has_hole (sym (ty.rolls-Var 0)) ∙ fold-roll-Ty Bool Bool Bool Bool hole_arg hole_step hole_bound hole_trait (Ty-F.Var 0) in
     let clash : false ≡ true = sym closed ∙ open_ in cc)
 

@@ -28,7 +28,7 @@ use Rattle.hir_facts.specs.declared.schedule.Schedule.{Schedule}
 use Rattle.hir_types.specs.Erasure.{erased, IsClosed}
 use Rattle.hir_types.specs.Folding.{replaced_int_var, replaced_tuple}
 use Rattle.hir_types.specs.Instances.{param_at}
-use Rattle.hir_types.specs.Layers.{has_hole_integer}
+use Rattle.hir_types.proofs.Layers.{has_hole_integer}
 use Rattle.hir_types.specs.Subst.{Assignment, with_holes, folded}
 use Rattle.hir_types.specs.Types.{integer_type, unit}
 use Rattle.hir_facts.specs.Fit.{fits}
@@ -46,8 +46,7 @@ use Rattle.infer_result.specs.Derivation.{IsDerivation}
 use Rattle.infer_result.specs.Fallback.{fallback}
 use Rattle.infer_result.specs.General.{IsGeneralType, general_integer_hole, general_tuple, general_item, IsGeneralFor, HasTypesOf, IsPlainClosing, closed_by, IsGeneralOf}
 use Rattle.infer_result.specs.Places.{Given}
-use Rattle.infer_result.specs.Rules.Expressions.{ObeysExpression}
-use Rattle.infer_result.specs.Rules.Patterns.{ObeysPattern}
+use Rattle.infer_result.specs.Rules.{ObeysExpression, ObeysPattern}
 use Rattle.infer_result.specs.Table.{HasTy, PatTy, BindingTy}
 use Rattle.infer_result.specs.Typed.{given}
 use Rattle.infer_result.specs.Unknown.{IsKnown}
@@ -200,13 +199,13 @@ all_types P s callee own empty = record {
 }
 
 call_obeys : (s : Ty) → ObeysExpression Here (table_at s) (e 2)
-call_obeys s = inl (
-  fn_signature types id,
-  s ∷ [],
-  record { item = callable.FunctionId function; has = refl; signature = refl },
-  inl (inl (s, refl, ap erased (sym (at_type s))), tt),
-  subst (HasTy (table_at s) (e 2)) (sym (at_type s)) refl,
-)
+call_obeys s = inl (record {
+  signature = fn_signature types id;
+  types = s ∷ [];
+  is_callee = record { item = callable.FunctionId function; has = refl; signature = refl };
+  arguments = inl (inl (s, refl, ap erased (sym (at_type s))), tt);
+  has = subst (HasTy (table_at s) (e 2)) (sym (at_type s)) refl;
+})
 
 pattern_obeys : (s : Ty) → ObeysPattern Here (table_at s) (p 0)
 pattern_obeys s = record {
@@ -219,13 +218,21 @@ pub integer_derives : (i : IntegerTy) → IsDerivation facts f (table_at (intege
 integer_derives i = let s : Ty = integer_type i in record {
   body = body;
   is_body = refl;
-  of_body = record { exprs = refl; pats = refl; bindings = refl; modes = refl; mismatches = refl; diagnostics = refl; pat_mismatches = refl; pat_diagnostics = refl; expr_variants = refl; pat_variants = refl };
+  shape = record {
+    of_body = record { exprs = refl; pats = refl; bindings = refl; modes = refl; mismatches = refl; diagnostics = refl; pat_mismatches = refl; pat_diagnostics = refl; expr_variants = refl; pat_variants = refl };
+    closed = all_types IsClosed s (closed_at s (has_hole_integer i)) (has_hole_integer i) closed_unit;
+    modes = λ x. each_placed (λ k m. IsBinder body (p k)) (table_at s).binding_modes ((b 0, None, refl), tt) x.0;
+    placeholders = none_placed Here (table_at s) refl;
+    variants = record {
+      exprs = λ x. each_entry (NamesVariant body x) (table_at s).expr_variants tt x.0;
+      pats = λ x. each_entry (IsVariantPat body x) (table_at s).pat_variants tt x.0;
+    };
+  };
   total = record {
     exprs = λ x h. each_below (λ k. (u : Ty) × HasTy (table_at s) (e k) u) 4 x.0 ((((tt, (item (s ∷ []), refl)), (s, refl)), (s, refl)), (unit, refl)) h;
     pats = λ x h. each_below (λ k. (u : Ty) × PatTy (table_at s) (p k) u) 1 x.0 (tt, (s, refl)) h;
     bindings = λ v h. each_below (λ k. (u : Ty) × BindingTy (table_at s) (b k) u) 1 v.0 (tt, (s, refl)) h;
   };
-  closed = all_types IsClosed s (closed_at s (has_hole_integer i)) (has_hole_integer i) closed_unit;
   known = all_types IsKnown s (known_at s (known_integer i)) (known_integer i) (has_unknown_tuple []);
   fit = all_types (λ u. IsTrue (fits facts f u)) s (fits_at scope s refl (fits_integer scope i)) (fits_integer scope i) (ty_fits_tuple scope []);
   clean = record {
@@ -234,15 +241,9 @@ integer_derives i = let s : Ty = integer_type i in record {
     pat_mismatches = each_entry (λ m. ⊥) (table_at s).pat_mismatches tt;
     pat_diagnostics = each_entry (λ d. ⊥) (table_at s).pat_diagnostics tt;
   };
-  modes = λ x. each_placed (λ k m. IsBinder body (p k)) (table_at s).binding_modes ((b 0, None, refl), tt) x.0;
-  placeholders = none_placed Here (table_at s) refl;
-  variants = record {
-    exprs = λ x. each_entry (NamesVariant body x) (table_at s).expr_variants tt x.0;
-    pats = λ x. each_entry (IsVariantPat body x) (table_at s).pat_variants tt x.0;
-  };
   exprs = λ x h.
       each_below (λ k. ObeysExpression Here (table_at s) (e k)) 4 x.0
-      ((((tt, (s ∷ [], refl, refl)), (s, refl, (i, refl))), call_obeys s), (((s, refl, (s, refl, inl refl)), tt), (unit, refl, refl))) h;
+      ((((tt, (s ∷ [], refl, refl)), (s, refl, (i, refl))), call_obeys s), record { statements = ((s, refl, (s, refl, inl refl)), tt); type = unit; has = refl; ends = refl }) h;
   pats = λ x h. each_below (λ k. ObeysPattern Here (table_at s) (p k)) 1 x.0 (tt, pattern_obeys s) h;
   root = (unit, refl, ap erased (sym written_unit));
 }

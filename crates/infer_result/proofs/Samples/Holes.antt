@@ -8,7 +8,7 @@ use Rattle.hir_types.specs.declared.ty.Ty.TheVariants as ty
 use Rattle.hir_types.specs.Erasure.{IsClosed}
 use Rattle.hir_types.specs.Folding.{replaced_fn_def}
 use Rattle.hir_types.specs.Instances.{types_args_folded}
-use Rattle.hir_types.specs.Layers.{has_hole_fn_def}
+use Rattle.hir_types.proofs.Layers.{has_hole_fn_def}
 use Rattle.hir_types.specs.Subst.{Assignment, with_holes, folded}
 use Rattle.hir_types.specs.Types.{integer_type}
 use Rattle.hir_facts.specs.Fit.{ty_fits}

@@ -19,15 +19,15 @@ use Rattle.infer_result.specs.declared.result.InferenceResult.{InferenceResult}
 use Rattle.infer_result.specs.declared.result.TypeMismatch.{TypeMismatch}
 use Rattle.infer_result.specs.declared.modes.BindingMode.TheVariants as mode
 use Rattle.infer_result.specs.Table.{PatTy, BindingTy, mismatch}
-use Rattle.infer_result.specs.Places.{Given, Demand}
-use Rattle.infer_result.specs.Rules.Expressions.{ObeysOrMismatch}
-use Rattle.infer_result.specs.Rules.Patterns.{PatRule}
+use Rattle.infer_result.specs.Places.{Given}
+use Rattle.infer_result.specs.Demands.{Demand}
+use Rattle.infer_result.specs.Rules.{ObeysOrMismatch, PatRule}
 use Rattle.infer_result.specs.Truth.Mismatch.{IsTruePatMismatch}
-use Rattle.infer_result.specs.Truth.Calls.{IsTrueDiagnostic, IsTruePatDiagnostic}
+use Rattle.infer_result.specs.Truth.Diagnostics.{IsTrueDiagnostic, IsTruePatDiagnostic}
 use Rattle.infer_result.specs.Closed.{IsBinder, NamesVariant, IsVariantPat}
 use Rattle.infer_result.specs.Made.{IsMisfit, IsMade}
 use Rattle.infer_result.specs.Typed.{IsTyped}
-use Rattle.infer_result.specs.Derived.{typed_by_schedule}
+use Rattle.infer_result.proofs.Derived.{typed_by_schedule}
 use Rattle.infer_result.proofs.Samples.Small.{scope_with, e, p, b, w, u8, u16, one_u8, plain, body_with, each_below, each_node, apart_by, asked, one_param, no_other, only, each_entry, each_found, nowhere, closed_u8, closed_bool, u8_is_no_u16, u8_is_no_bool, u8_differs_bool, each_placed, none_placed, no_placeholders, no_placeholder}
 
 -- the body with another condition, or another expression after `else`
@@ -101,38 +101,48 @@ right = table_of right_types silent
 
 right_made : IsMade given right
 right_made = record {
-  of_body = record { exprs = refl; pats = refl; bindings = refl; modes = refl; mismatches = refl; diagnostics = refl; pat_mismatches = refl; pat_diagnostics = refl; expr_variants = refl; pat_variants = refl };
-  closed = record {
-    exprs = each_entry IsClosed right.type_of_expr (closed_bool, (closed_u8, (closed_u8, (closed_u8, (closed_u8, tt)))));
-    pats = each_entry IsClosed right.type_of_pat (closed_bool, tt);
-    bindings = each_entry IsClosed right.type_of_binding (closed_bool, tt);
-    placeholders = λ k s at. absurd (no_placeholder types k s at);
-    expected = each_entry (λ x. IsClosed x.expected) right.expr_mismatches tt;
-    actual = each_entry (λ x. IsClosed x.actual) right.expr_mismatches tt;
-    pat_expected = each_entry (λ x. IsClosed x.expected) right.pat_mismatches tt;
-    pat_actual = each_entry (λ x. IsClosed x.actual) right.pat_mismatches tt;
-    found = each_found IsClosed right.expr_diagnostics tt;
+  shape = record {
+    of_body = record { exprs = refl; pats = refl; bindings = refl; modes = refl; mismatches = refl; diagnostics = refl; pat_mismatches = refl; pat_diagnostics = refl; expr_variants = refl; pat_variants = refl };
+    closed = record {
+      exprs = each_entry IsClosed right.type_of_expr (closed_bool, (closed_u8, (closed_u8, (closed_u8, (closed_u8, tt)))));
+      pats = each_entry IsClosed right.type_of_pat (closed_bool, tt);
+      bindings = each_entry IsClosed right.type_of_binding (closed_bool, tt);
+      placeholders = λ k s at. absurd (no_placeholder types k s at);
+      expected = each_entry (λ x. IsClosed x.expected) right.expr_mismatches tt;
+      actual = each_entry (λ x. IsClosed x.actual) right.expr_mismatches tt;
+      pat_expected = each_entry (λ x. IsClosed x.expected) right.pat_mismatches tt;
+      pat_actual = each_entry (λ x. IsClosed x.actual) right.pat_mismatches tt;
+      found = each_found IsClosed right.expr_diagnostics tt;
+    };
+    modes = λ x. each_placed (λ k m. IsBinder body (p k)) right.binding_modes ((b 0, None, refl), tt) x.0;
+    placeholders = none_placed given right refl;
+    variants = record {
+      exprs = λ x. each_entry (NamesVariant given.body x) right.expr_variants tt x.0;
+      pats = λ x. each_entry (IsVariantPat given.body x) right.pat_variants tt x.0;
+    };
   };
   clauses = λ x h.
       each_below (λ k. ObeysOrMismatch given right (e k)) 5 x.0
-      (((((tt, (ty.Bool, refl, refl)), (u8, refl, refl)), (u8, refl, refl)), ((ty.Bool, refl, inl refl), (u8, refl, (inl (u8, refl, refl), inl (u8, refl, refl))))), (tt, (u8, refl, (u8, refl, inl refl)))) h;
+      (((((tt, (ty.Bool, refl, refl)), (u8, refl, refl)), (u8, refl, refl)), record {
+        condition = (ty.Bool, refl, inl refl);
+        type = u8;
+        has = refl;
+        branch = inl (u8, refl, refl);
+        otherwise = inl (u8, refl, refl);
+      }), record { statements = tt; type = u8; has = refl; ends = (u8, refl, inl refl) }) h;
   kinds = λ x h. each_below (λ k. PatRule given right (p k) (slice_get body.pats k)) 1 x.0 (tt, (ty.Bool, refl, refl, refl)) h;
   params = one_param given right (p 0) (w 0) refl refl (subst (PatTy right (p 0)) (sym written) refl);
   bindings = λ v h. each_below (λ k. (s : Ty) × BindingTy right (b k) s) 1 v.0 (tt, (ty.Bool, refl)) h;
   body_clause = (u8, refl, inl refl);
   misfits = λ x. each_entry (IsMisfit given right x) right.expr_mismatches tt x.0;
   demands = λ x. each_entry (λ m. Demand given right x m.expected) right.expr_mismatches tt x.0;
-  modes = λ x. each_placed (λ k m. IsBinder body (p k)) right.binding_modes ((b 0, None, refl), tt) x.0;
-  placeholders = none_placed given right refl;
-  diagnostics = λ x. each_entry (IsTrueDiagnostic given right x) right.expr_diagnostics tt x.0;
-  pat_diagnostics = λ x. each_entry (IsTruePatDiagnostic given x) right.pat_diagnostics tt x.0;
-  variants = record {
-    exprs = λ x. each_entry (NamesVariant given.body x) right.expr_variants tt x.0;
-    pats = λ x. each_entry (IsVariantPat given.body x) right.pat_variants tt x.0;
+  complaints = record {
+    diagnostics = λ x. each_entry (IsTrueDiagnostic given right x) right.expr_diagnostics tt x.0;
+    pat_diagnostics = λ x. each_entry (IsTruePatDiagnostic given x) right.pat_diagnostics tt x.0;
+    pat_truths = λ x. each_entry (IsTruePatMismatch given right x) right.pat_mismatches tt x.0;
+    seen = λ i x found. absurd (cc);
+    said = λ i x found. absurd (cc);
   };
-  seen = λ i x found. absurd (cc);
-  said = λ i x found. absurd (cc);
-  pat_truths = λ x. each_entry (IsTruePatMismatch given right x) right.pat_mismatches tt x.0;
 }
 
 pub right_typed : IsTyped given right
@@ -143,7 +153,7 @@ right_typed = typed_by_schedule given right schedule is_schedule right_made
 -- a condition that is no `bool`, in silence
 pub wrong_condition : IsTyped (given_of (expr.Lit one_u8) (expr.Lit one_u8) u8) (table_of (Some u8 ∷ Some u8 ∷ Some u8 ∷ Some u8 ∷ Some u8 ∷ []) silent) → ⊥
 wrong_condition h =
-    (let c = (h.clauses (e 3) (omega arith)).0 in
+    (let c = (h.clauses (e 3) (omega arith)).condition in
     let a : u8 ≡ c.0 = only u8 c.0 c.1 in
     elim c.2 [ inl same ↦ u8_differs_bool (ap erased a ∙ same) | inr m ↦ (let clash = m.1 in cc) ])
 
@@ -153,9 +163,9 @@ silent_branch = table_of (Some ty.Bool ∷ Some u8 ∷ Some ty.Bool ∷ Some u8 
 
 pub wrong_branch : IsTyped (given_of named (expr.Lit (literal.Bool true)) u8) silent_branch → ⊥
 wrong_branch h =
-    (let c = (h.clauses (e 3) (omega arith)).1 in
-    let s : u8 ≡ c.0 = only u8 c.0 c.1 in
-    elim c.2.1 [
+    (let c = h.clauses (e 3) (omega arith) in
+    let s : u8 ≡ c.type = only u8 c.type c.has in
+    elim c.otherwise [
       | inl at ↦ (let a : ty.Bool ≡ at.0 = only ty.Bool at.0 at.1 in u8_differs_bool (ap erased s ∙ sym (ap erased a ∙ at.2)))
       | inr m ↦ nowhere silent_branch tt (e 1 ∷ e 2 ∷ []) m
     ])
@@ -166,9 +176,9 @@ silent_if = table_of (Some ty.Bool ∷ Some u8 ∷ Some u8 ∷ Some ty.Bool ∷ 
 
 pub wrong_if : IsTyped (given_of named (expr.Lit one_u8) ty.Bool) silent_if → ⊥
 wrong_if h =
-    (let c = (h.clauses (e 3) (omega arith)).1 in
-    let s : ty.Bool ≡ c.0 = only ty.Bool c.0 c.1 in
-    elim c.2.0 [
+    (let c = h.clauses (e 3) (omega arith) in
+    let s : ty.Bool ≡ c.type = only ty.Bool c.type c.has in
+    elim c.branch [
       | inl at ↦ (let a : u8 ≡ at.0 = only u8 at.0 at.1 in u8_differs_bool (ap erased a ∙ (at.2 ∙ sym (ap erased s))))
       | inr m ↦ nowhere silent_if tt (e 1 ∷ e 2 ∷ []) m
     ])

@@ -20,15 +20,15 @@ use Rattle.infer_result.specs.declared.result.InferenceResult.{InferenceResult}
 use Rattle.infer_result.specs.declared.result.TypeMismatch.{TypeMismatch}
 use Rattle.infer_result.specs.declared.modes.BindingMode.TheVariants as mode
 use Rattle.infer_result.specs.Table.{HasTy, PatTy, BindingTy, mismatch}
-use Rattle.infer_result.specs.Places.{Given, Demand}
-use Rattle.infer_result.specs.Rules.Expressions.{ObeysOrMismatch}
-use Rattle.infer_result.specs.Rules.Patterns.{PatRule}
+use Rattle.infer_result.specs.Places.{Given}
+use Rattle.infer_result.specs.Demands.{Demand}
+use Rattle.infer_result.specs.Rules.{ObeysOrMismatch, PatRule}
 use Rattle.infer_result.specs.Truth.Mismatch.{IsTruePatMismatch}
-use Rattle.infer_result.specs.Truth.Calls.{IsTrueDiagnostic, IsTruePatDiagnostic}
+use Rattle.infer_result.specs.Truth.Diagnostics.{IsTrueDiagnostic, IsTruePatDiagnostic}
 use Rattle.infer_result.specs.Closed.{IsBinder, NamesVariant, IsVariantPat}
 use Rattle.infer_result.specs.Made.{IsMisfit, IsMade}
 use Rattle.infer_result.specs.Typed.{IsTyped}
-use Rattle.infer_result.specs.Derived.{typed_by_schedule}
+use Rattle.infer_result.proofs.Derived.{typed_by_schedule}
 use Rattle.infer_result.proofs.Samples.Small.{scope_with, e, p, b, w, u8, one_u8, plain, body_with, each_below, each_node, apart_by, asks_here, asked, one_param, no_other, only, each_entry, each_found, each_placed, nowhere, closed_u8, closed_bool, closed_unit, closed_error, u8_is_no_bool, u8_is_no_unit, bool_is_no_error, bool_is_no_unit, u8_differs_unit, none_placed, no_placeholders, no_placeholder}
 
 abbrev types : List RawType
@@ -87,38 +87,48 @@ right s = table_of s (None ∷ None ∷ Some (mismatch u8 unit) ∷ None ∷ [])
 
 right_made : (s : Ty) → IsClosed s → IsMade given (right s)
 right_made s closed_s = record {
-  of_body = record { exprs = refl; pats = refl; bindings = refl; modes = refl; mismatches = refl; diagnostics = refl; pat_mismatches = refl; pat_diagnostics = refl; expr_variants = refl; pat_variants = refl };
-  closed = record {
-    exprs = each_entry IsClosed (right s).type_of_expr (closed_bool, (closed_u8, (closed_s, (closed_unit, tt))));
-    pats = each_entry IsClosed (right s).type_of_pat (closed_bool, (closed_s, tt));
-    bindings = each_entry IsClosed (right s).type_of_binding (closed_bool, (closed_s, tt));
-    placeholders = λ k s at. absurd (no_placeholder types k s at);
-    expected = each_entry (λ x. IsClosed x.expected) (right s).expr_mismatches (closed_u8, tt);
-    actual = each_entry (λ x. IsClosed x.actual) (right s).expr_mismatches (closed_unit, tt);
-    pat_expected = each_entry (λ x. IsClosed x.expected) (right s).pat_mismatches tt;
-    pat_actual = each_entry (λ x. IsClosed x.actual) (right s).pat_mismatches tt;
-    found = each_found IsClosed (right s).expr_diagnostics tt;
+  shape = record {
+    of_body = record { exprs = refl; pats = refl; bindings = refl; modes = refl; mismatches = refl; diagnostics = refl; pat_mismatches = refl; pat_diagnostics = refl; expr_variants = refl; pat_variants = refl };
+    closed = record {
+      exprs = each_entry IsClosed (right s).type_of_expr (closed_bool, (closed_u8, (closed_s, (closed_unit, tt))));
+      pats = each_entry IsClosed (right s).type_of_pat (closed_bool, (closed_s, tt));
+      bindings = each_entry IsClosed (right s).type_of_binding (closed_bool, (closed_s, tt));
+      placeholders = λ k s at. absurd (no_placeholder types k s at);
+      expected = each_entry (λ x. IsClosed x.expected) (right s).expr_mismatches (closed_u8, tt);
+      actual = each_entry (λ x. IsClosed x.actual) (right s).expr_mismatches (closed_unit, tt);
+      pat_expected = each_entry (λ x. IsClosed x.expected) (right s).pat_mismatches tt;
+      pat_actual = each_entry (λ x. IsClosed x.actual) (right s).pat_mismatches tt;
+      found = each_found IsClosed (right s).expr_diagnostics tt;
+    };
+    modes = λ x. each_placed (λ k m. IsBinder body (p k)) (right s).binding_modes ((b 0, None, refl), ((b 1, None, refl), tt)) x.0;
+    placeholders = none_placed given (right s) refl;
+    variants = record {
+      exprs = λ x. each_entry (NamesVariant given.body x) (right s).expr_variants tt x.0;
+      pats = λ x. each_entry (IsVariantPat given.body x) (right s).pat_variants tt x.0;
+    };
   };
   clauses = λ x h.
       each_below (λ k. ObeysOrMismatch given (right s) (e k)) 4 x.0
-      ((((tt, (ty.Bool, refl, refl)), (u8, refl, refl)), ((ty.Bool, refl, inl refl), (s, refl, (inr (inl (mismatch u8 unit, refl)), inr (inl (mismatch u8 unit, refl)))))), (((s, refl, (s, refl, inl refl)), tt), (unit, refl, inl refl))) h;
+      ((((tt, (ty.Bool, refl, refl)), (u8, refl, refl)), record {
+        condition = (ty.Bool, refl, inl refl);
+        type = s;
+        has = refl;
+        branch = inr (inl (mismatch u8 unit, refl));
+        otherwise = inr (inl (mismatch u8 unit, refl));
+      }), record { statements = ((s, refl, (s, refl, inl refl)), tt); type = unit; has = refl; ends = inl refl }) h;
   kinds = λ x h. each_below (λ k. PatRule given (right s) (p k) (slice_get body.pats k)) 2 x.0 ((tt, (ty.Bool, refl, refl, refl)), (s, refl, refl, refl)) h;
   params = one_param given (right s) (p 0) (w 0) refl refl (subst (PatTy (right s) (p 0)) (sym written) refl);
   bindings = λ v h. each_below (λ k. (r : Ty) × BindingTy (right s) (b k) r) 2 v.0 ((tt, (ty.Bool, refl)), (s, refl)) h;
   body_clause = (unit, refl, inl refl);
   misfits = λ x. each_placed (λ k. IsMisfit given (right s) (e k)) (right s).expr_mismatches (record { differ = u8_differs_unit; actual = inr (inr (record { condition = e 0; branch = e 1; is_if = refl }), refl) }, tt) x.0;
   demands = λ x. each_placed (λ k (m : TypeMismatch). Demand given (right s) (e k) m.expected) (right s).expr_mismatches (inr (record { condition = e 0; branch = e 1; is_if = refl; has = refl }), tt) x.0;
-  modes = λ x. each_placed (λ k m. IsBinder body (p k)) (right s).binding_modes ((b 0, None, refl), ((b 1, None, refl), tt)) x.0;
-  placeholders = none_placed given (right s) refl;
-  diagnostics = λ x. each_entry (IsTrueDiagnostic given (right s) x) (right s).expr_diagnostics tt x.0;
-  pat_diagnostics = λ x. each_entry (IsTruePatDiagnostic given x) (right s).pat_diagnostics tt x.0;
-  variants = record {
-    exprs = λ x. each_entry (NamesVariant given.body x) (right s).expr_variants tt x.0;
-    pats = λ x. each_entry (IsVariantPat given.body x) (right s).pat_variants tt x.0;
+  complaints = record {
+    diagnostics = λ x. each_entry (IsTrueDiagnostic given (right s) x) (right s).expr_diagnostics tt x.0;
+    pat_diagnostics = λ x. each_entry (IsTruePatDiagnostic given x) (right s).pat_diagnostics tt x.0;
+    pat_truths = λ x. each_entry (IsTruePatMismatch given (right s) x) (right s).pat_mismatches tt x.0;
+    seen = λ i x found. absurd (cc);
+    said = λ i x found. absurd (cc);
   };
-  seen = λ i x found. absurd (cc);
-  said = λ i x found. absurd (cc);
-  pat_truths = λ x. each_entry (IsTruePatMismatch given (right s) x) (right s).pat_mismatches tt x.0;
 }
 
 pub each_typed : (s : Ty) → IsClosed s → IsTyped given (right s)
@@ -132,10 +142,10 @@ right_typed = each_typed ty.Error closed_error
 -- no mismatch
 pub none : (s : Ty) → IsTyped given (table_of s (None ∷ None ∷ None ∷ None ∷ [])) → ⊥
 none s h =
-    (let c = (h.clauses (e 2) (omega arith)).1 in
-    elim c.2.1 [
+    (let c = h.clauses (e 2) (omega arith) in
+    elim c.otherwise [
       | inl ends ↦
-          elim c.2.0 [
+          elim c.branch [
             | inl at ↦ (let a : u8 ≡ at.0 = only u8 at.0 at.1 in u8_differs_unit (ap erased a ∙ (at.2 ∙ sym ends)))
             | inr m ↦ nowhere (table_of s (None ∷ None ∷ None ∷ None ∷ [])) tt (e 2 ∷ e 1 ∷ []) m
           ]

@@ -18,12 +18,11 @@ use Rattle.hir_facts.specs.Signatures.{Signature, fn_signature, signature_of, ty
 use Rattle.infer_result.specs.declared.result.InferenceResult.{InferenceResult}
 use Rattle.infer_result.specs.Closed.{IsOfBody}
 use Rattle.infer_result.specs.Derivation.{IsCalled, IsPlainItem, IsPlainDerivation}
-use Rattle.infer_result.specs.Derived.{one_at, fn_def_parts, same_type_args}
+use Rattle.infer_result.proofs.Derived.{one_at, fn_def_parts, same_type_args}
 use Rattle.infer_result.specs.General.{IsPlainClosing}
-use Rattle.infer_result.specs.Rules.Calls.{ArgsRule, CallRule}
-use Rattle.infer_result.specs.Rules.Placing.{at_types}
-use Rattle.infer_result.specs.Rules.Expressions.{ObeysExpression}
-use Rattle.infer_result.specs.Rules.Patterns.{ObeysPattern}
+use Rattle.infer_result.specs.Kinds.Call.{ArgsRule, CallRule}
+use Rattle.infer_result.specs.Placing.{at_types}
+use Rattle.infer_result.specs.Rules.{ObeysExpression, ObeysPattern}
 use Rattle.infer_result.specs.Table.{At, HasTy, PatTy, BindingTy}
 use Rattle.infer_result.specs.Typed.{given}
 use Rattle.infer_result.proofs.Samples.Small.{e, p, b}
@@ -81,7 +80,7 @@ module _ (t : InferenceResult) (h : IsPlainDerivation facts f t) where
   same_body = (let found : Some body ≡ Some h.derivation.body = h.derivation.is_body in cc)
 
   of_body : IsOfBody body t
-  of_body = subst (λ (c : RawBody). IsOfBody c t) (sym same_body) h.derivation.of_body
+  of_body = subst (λ (c : RawBody). IsOfBody c t) (sym same_body) h.derivation.shape.of_body
 
   obeys : (k : ℕ) → k < 4 → ObeysExpression Here t (e k)
   obeys k below = subst (λ (c : RawBody). ObeysExpression (given facts f c) t (e k)) (sym same_body) (h.derivation.exprs (e k) (subst (λ (c : RawBody). k < length c.exprs) same_body below))
@@ -117,24 +116,24 @@ module _ (t : InferenceResult) (h : IsPlainDerivation facts f t) where
   -- and so does the call
   called_at : (ts : List Ty) → HasTy t (e 0) (item ts) → Some 1 ≡ Some (length ts) → (s : Ty) → HasTy t (e 1) s → IsPlainIn scope s → CallRule (at_types Here t) Here t (e 2) (e 0) (e 1 ∷ []) → HasTy t (e 0) (item (s ∷ [])) × HasTy t (e 2) s
   called_at ts stands count s is_arg own (inr (none, any)) = absurd none
-  called_at ts stands count s is_arg own (inl (σ, us, callee, args, gives)) = by_types ts stands count
+  called_at ts stands count s is_arg own (inl r) = by_types ts stands count
     where
-      parts : (ts : List Ty) → HasTy t (e 0) (item ts) → (callee.item ≡ callable.FunctionId function) × (type_args us ≡ type_args ts)
-      parts ts has = fn_def_parts callee.item (callable.FunctionId function) (type_args us) (type_args ts) (one_at t.type_of_expr 0 _ _ callee.has has)
+      parts : (ts : List Ty) → HasTy t (e 0) (item ts) → (r.is_callee.item ≡ callable.FunctionId function) × (type_args r.types ≡ type_args ts)
+      parts ts has = fn_def_parts r.is_callee.item (callable.FunctionId function) (type_args r.types) (type_args ts) (one_at t.type_of_expr 0 _ _ r.is_callee.has has)
 
-      is_signature : (ts : List Ty) → HasTy t (e 0) (item ts) → σ ≡ fn_signature types id
-      is_signature ts has = (let made : signature_of facts (callable.FunctionId function) ≡ Some σ = subst (λ (i : CallableDefId). signature_of facts i ≡ Some σ) (parts ts has).0 callee.signature in cc)
+      is_signature : (ts : List Ty) → HasTy t (e 0) (item ts) → r.signature ≡ fn_signature types id
+      is_signature ts has = (let made : signature_of facts (callable.FunctionId function) ≡ Some r.signature = subst (λ (i : CallableDefId). signature_of facts i ≡ Some r.signature) (parts ts has).0 r.is_callee.signature in cc)
 
       by_types : (ts : List Ty) → HasTy t (e 0) (item ts) → Some 1 ≡ Some (length ts) → HasTy t (e 0) (item (s ∷ [])) × HasTy t (e 2) s
       by_types [] has count = absurd (cc)
       by_types (x ∷ y ∷ ts) has count = (let size : 1 ≡ length (x ∷ y ∷ ts) = cc in absurd (omega arith))
       by_types (x ∷ []) has count =
-          let at : us ≡ x ∷ [] = same_type_args us (x ∷ []) (parts (x ∷ []) has).1 in
-          let is : σ ≡ fn_signature types id = is_signature (x ∷ []) has in
+          let at : r.types ≡ x ∷ [] = same_type_args r.types (x ∷ []) (parts (x ∷ []) has).1 in
+          let is : r.signature ≡ fn_signature types id = is_signature (x ∷ []) has in
           let inputs : Arguments x (fn_signature types id).inputs =
-          subst (λ (r : Signature). Arguments x r.inputs) is (subst (λ vs. ArgsRule (at_types Here t) (e 2) (e 1 ∷ []) (map (at_args vs) σ.inputs)) at args) in
+          subst (λ (σ : Signature). Arguments x σ.inputs) is (subst (λ vs. ArgsRule (at_types Here t) (e 2) (e 1 ∷ []) (map (at_args vs) r.signature.inputs)) at r.arguments) in
           let output : HasTy t (e 2) (at_args (x ∷ []) (fn_signature types id).output) =
-          subst (λ (r : Signature). HasTy t (e 2) (at_args (x ∷ []) r.output)) is (subst (λ vs. HasTy t (e 2) (at_args vs σ.output)) at gives) in
+          subst (λ (σ : Signature). HasTy t (e 2) (at_args (x ∷ []) σ.output)) is (subst (λ vs. HasTy t (e 2) (at_args vs r.signature.output)) at r.has) in
           let same : s ≡ x = argument_at s x is_arg own (plain_at x has) inputs in (
             subst (λ u. HasTy t (e 0) (item (u ∷ []))) (sym same) has,
             subst (HasTy t (e 2)) (at_type x ∙ sym same) output,
@@ -142,13 +141,14 @@ module _ (t : InferenceResult) (h : IsPlainDerivation facts f t) where
 
   -- the binding has the type of the initializer
   bound_at : (s : Ty) → HasTy t (e 2) s → ObeysExpression Here t (e 3) → PatTy t (p 0) s × BindingTy t (b 0) s × HasTy t (e 3) unit
-  bound_at s is_call (((v, has, (u, at, so)), rest), (x, block, same)) =
+  bound_at s is_call r =
+      let (v, has, (u, at, so)) = r.statements.0 in
       let here : v ≡ s = one_at t.type_of_expr 2 v s has is_call in
       let is : u ≡ v = elim so [ inl is ↦ is | inr wrong ↦ absurd wrong ] in
       let (y, pattern, binding, moves) = pattern_obeys.kind in
       let own : y ≡ s = one_at t.type_of_pat 0 y u pattern at ∙ (is ∙ here) in
-      let empty : unit ≡ x = same_plain unit x (plain_tuple [] (each_in (IsPlainIn scope) [] tt)) (plain_other 2 x block) same in
-      (subst (PatTy t (p 0)) own pattern, subst (BindingTy t (b 0)) own binding, subst (HasTy t (e 3)) (sym empty) block)
+      let empty : unit ≡ r.type = same_plain unit r.type (plain_tuple [] (each_in (IsPlainIn scope) [] tt)) (plain_other 2 r.type r.has) r.ends in
+      (subst (PatTy t (p 0)) own pattern, subst (BindingTy t (b 0)) own binding, subst (HasTy t (e 3)) (sym empty) r.has)
 
   closed_at : (s : Ty) (i : IntegerTy) → s ≡ integer_type i → HasTy t (e 0) (item (s ∷ [])) × HasTy t (e 2) s → HasTy t (e 1) s → IsPlainClosing scope general t
   closed_at s i is (callee, call) arg =

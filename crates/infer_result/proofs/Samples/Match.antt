@@ -18,21 +18,21 @@ use Rattle.hir_facts.specs.declared.raw.RawBody.{RawBody}
 use Rattle.hir_facts.specs.declared.schedule.Schedule.{Schedule}
 use Rattle.hir_facts.specs.Types.{lowered_within, written_type}
 use Rattle.hir_types.specs.Erasure.{erased, IsClosed}
-use Rattle.hir_types.specs.Layers.{has_hole_tuple, has_hole_integer}
+use Rattle.hir_types.proofs.Layers.{has_hole_tuple, has_hole_integer}
 use Rattle.hir_facts.specs.Order.{arm_pattern, subpattern, the_body, inner, IsSchedule, start, end, after, Fits, parts}
 use Rattle.infer_result.specs.declared.result.InferenceResult.{InferenceResult}
 use Rattle.infer_result.specs.declared.result.TypeMismatch.{TypeMismatch}
 use Rattle.infer_result.specs.declared.modes.BindingMode.TheVariants as mode
 use Rattle.infer_result.specs.Table.{PatTy, BindingTy, mismatch}
-use Rattle.infer_result.specs.Places.{Given, Demand}
-use Rattle.infer_result.specs.Rules.Expressions.{ObeysOrMismatch}
-use Rattle.infer_result.specs.Rules.Patterns.{PatRule}
+use Rattle.infer_result.specs.Places.{Given}
+use Rattle.infer_result.specs.Demands.{Demand}
+use Rattle.infer_result.specs.Rules.{ObeysOrMismatch, PatRule}
 use Rattle.infer_result.specs.Truth.Mismatch.{IsTruePatMismatch}
-use Rattle.infer_result.specs.Truth.Calls.{IsTrueDiagnostic, IsTruePatDiagnostic}
+use Rattle.infer_result.specs.Truth.Diagnostics.{IsTrueDiagnostic, IsTruePatDiagnostic}
 use Rattle.infer_result.specs.Closed.{IsBinder, NamesVariant, IsVariantPat}
 use Rattle.infer_result.specs.Made.{IsMisfit, IsMade}
 use Rattle.infer_result.specs.Typed.{IsTyped}
-use Rattle.infer_result.specs.Derived.{typed_by_schedule}
+use Rattle.infer_result.proofs.Derived.{typed_by_schedule}
 use Rattle.infer_result.proofs.Samples.Small.{scope_with, e, p, b, w, u8, one_u8, plain, body_with, each_below, each_node, apart_by, comes, one_param, only, each_entry, each_found, nowhere, closed_u8, top_uint, top_int, u8_is_no_bool, u8_is_no_tuple, u8_differs_bool, each_placed, none_placed, no_placeholders, no_placeholder}
 
 -- the body with another expression in the last arm
@@ -128,25 +128,40 @@ closed_pair : IsClosed pair
 closed_pair = has_hole_tuple (u8 ∷ i32 ∷ []) ∙ rw (closed_u8, closed_i32) refl
 
 match_obeys : ObeysOrMismatch given right (e 4)
-match_obeys = ((pair, refl, ((pair, refl, inl refl), ((pair, refl, inl refl), tt))), (u8, refl, ((tt, inl (u8, refl, refl)), ((tt, inl (u8, refl, refl)), tt))))
+match_obeys = record {
+  scrutinee = pair;
+  comes = refl;
+  patterns = ((pair, refl, inl refl), ((pair, refl, inl refl), tt));
+  type = u8;
+  has = refl;
+  alternatives = ((tt, inl (u8, refl, refl)), ((tt, inl (u8, refl, refl)), tt));
+}
 
 right_made : IsMade given right
 right_made = record {
-  of_body = record { exprs = refl; pats = refl; bindings = refl; modes = refl; mismatches = refl; diagnostics = refl; pat_mismatches = refl; pat_diagnostics = refl; expr_variants = refl; pat_variants = refl };
-  closed = record {
-    exprs = each_entry IsClosed right.type_of_expr (closed_pair, (closed_i32, (closed_u8, (closed_u8, (closed_u8, (closed_u8, tt))))));
-    pats = each_entry IsClosed right.type_of_pat (closed_pair, (closed_pair, (closed_u8, (closed_i32, (closed_pair, tt)))));
-    bindings = each_entry IsClosed right.type_of_binding (closed_pair, (closed_u8, tt));
-    placeholders = λ k s at. absurd (no_placeholder types k s at);
-    expected = each_entry (λ x. IsClosed x.expected) right.expr_mismatches tt;
-    actual = each_entry (λ x. IsClosed x.actual) right.expr_mismatches tt;
-    pat_expected = each_entry (λ x. IsClosed x.expected) right.pat_mismatches tt;
-    pat_actual = each_entry (λ x. IsClosed x.actual) right.pat_mismatches tt;
-    found = each_found IsClosed right.expr_diagnostics tt;
+  shape = record {
+    of_body = record { exprs = refl; pats = refl; bindings = refl; modes = refl; mismatches = refl; diagnostics = refl; pat_mismatches = refl; pat_diagnostics = refl; expr_variants = refl; pat_variants = refl };
+    closed = record {
+      exprs = each_entry IsClosed right.type_of_expr (closed_pair, (closed_i32, (closed_u8, (closed_u8, (closed_u8, (closed_u8, tt))))));
+      pats = each_entry IsClosed right.type_of_pat (closed_pair, (closed_pair, (closed_u8, (closed_i32, (closed_pair, tt)))));
+      bindings = each_entry IsClosed right.type_of_binding (closed_pair, (closed_u8, tt));
+      placeholders = λ k s at. absurd (no_placeholder types k s at);
+      expected = each_entry (λ x. IsClosed x.expected) right.expr_mismatches tt;
+      actual = each_entry (λ x. IsClosed x.actual) right.expr_mismatches tt;
+      pat_expected = each_entry (λ x. IsClosed x.expected) right.pat_mismatches tt;
+      pat_actual = each_entry (λ x. IsClosed x.actual) right.pat_mismatches tt;
+      found = each_found IsClosed right.expr_diagnostics tt;
+    };
+    modes = λ x. each_placed (λ k m. IsBinder body (p k)) right.binding_modes ((b 0, None, refl), ((b 1, None, refl), tt)) x.0;
+    placeholders = none_placed given right refl;
+    variants = record {
+      exprs = λ x. each_entry (NamesVariant given.body x) right.expr_variants tt x.0;
+      pats = λ x. each_entry (IsVariantPat given.body x) right.pat_variants tt x.0;
+    };
   };
   clauses = λ x h.
       each_below (λ k. ObeysOrMismatch given right (e k)) 6 x.0
-      ((((((tt, (pair, refl, refl)), (i32, refl, (integer.Int int.I32, refl))), (u8, refl, refl)), (u8, refl, refl)), match_obeys), (tt, (u8, refl, (u8, refl, inl refl)))) h;
+      ((((((tt, (pair, refl, refl)), (i32, refl, (integer.Int int.I32, refl))), (u8, refl, refl)), (u8, refl, refl)), match_obeys), record { statements = tt; type = u8; has = refl; ends = (u8, refl, inl refl) }) h;
   kinds = λ x h.
       each_below (λ k. PatRule given right (p k) (slice_get body.pats k)) 5 x.0
       (((((tt, (pair, refl, refl, refl)), (u8 ∷ i32 ∷ [], refl, ((u8, refl, inl refl), ((i32, refl, inl refl), tt)))), (u8, refl, refl, refl)), (i32, refl, refl)), (pair, refl)) h;
@@ -155,17 +170,13 @@ right_made = record {
   body_clause = (u8, refl, inl refl);
   misfits = λ x. each_entry (IsMisfit given right x) right.expr_mismatches tt x.0;
   demands = λ x. each_entry (λ m. Demand given right x m.expected) right.expr_mismatches tt x.0;
-  modes = λ x. each_placed (λ k m. IsBinder body (p k)) right.binding_modes ((b 0, None, refl), ((b 1, None, refl), tt)) x.0;
-  placeholders = none_placed given right refl;
-  diagnostics = λ x. each_entry (IsTrueDiagnostic given right x) right.expr_diagnostics tt x.0;
-  pat_diagnostics = λ x. each_entry (IsTruePatDiagnostic given x) right.pat_diagnostics tt x.0;
-  variants = record {
-    exprs = λ x. each_entry (NamesVariant given.body x) right.expr_variants tt x.0;
-    pats = λ x. each_entry (IsVariantPat given.body x) right.pat_variants tt x.0;
+  complaints = record {
+    diagnostics = λ x. each_entry (IsTrueDiagnostic given right x) right.expr_diagnostics tt x.0;
+    pat_diagnostics = λ x. each_entry (IsTruePatDiagnostic given x) right.pat_diagnostics tt x.0;
+    pat_truths = λ x. each_entry (IsTruePatMismatch given right x) right.pat_mismatches tt x.0;
+    seen = λ i x found. absurd (cc);
+    said = λ i x found. absurd (cc);
   };
-  seen = λ i x found. absurd (cc);
-  said = λ i x found. absurd (cc);
-  pat_truths = λ x. each_entry (IsTruePatMismatch given right x) right.pat_mismatches tt x.0;
 }
 
 pub right_typed : IsTyped given right
@@ -200,9 +211,9 @@ silent_arm = table_of i32 u8 ty.Bool u8 pair u8 silent silent_pats
 
 pub wrong_arm : IsTyped (given_of (expr.Lit (literal.Bool true))) silent_arm → ⊥
 wrong_arm h =
-    (let c = (h.clauses (e 4) (omega arith)).1 in
-    let s : u8 ≡ c.0 = only u8 c.0 c.1 in
-    elim c.2.1.0.1 [
+    (let c = h.clauses (e 4) (omega arith) in
+    let s : u8 ≡ c.type = only u8 c.type c.has in
+    elim c.alternatives.1.0.1 [
       | inl at ↦ (let a : ty.Bool ≡ at.0 = only ty.Bool at.0 at.1 in u8_differs_bool (ap erased s ∙ sym (ap erased a ∙ at.2)))
       | inr m ↦ nowhere silent_arm tt (e 2 ∷ e 3 ∷ []) m
     ])
@@ -216,10 +227,10 @@ other_wildcard h =
 -- a mismatch at the tuple pattern, which has the type of the scrutinee
 pub invented : IsTyped given (table_of i32 u8 u8 u8 pair u8 silent (None ∷ Some (mismatch u8 pair) ∷ None ∷ None ∷ None ∷ [])) → ⊥
 invented h =
-    (let m = h.pat_truths (p 1) (mismatch u8 pair) refl in
+    (let m = h.complaints.pat_truths (p 1) (mismatch u8 pair) refl in
     let a = comes given schedule is_schedule _ (p 1) (inner (node.ExprId (e 4))) 1 (arm_pattern (e 0) 0) u8 (record { node_is = omega arith; part = refl }) m.incoming in
     u8_is_no_tuple (u8 ∷ i32 ∷ []) (sym (only pair u8 a)))
 
 -- one at the part `a`, a binding, which has the type that comes in
 pub invented_at_part : IsTyped given (table_of i32 u8 u8 u8 pair u8 silent (None ∷ None ∷ Some (mismatch i32 u8) ∷ None ∷ None ∷ [])) → ⊥
-invented_at_part h = (h.pat_truths (p 2) (mismatch i32 u8) refl).says
+invented_at_part h = (h.complaints.pat_truths (p 2) (mismatch i32 u8) refl).says

@@ -32,18 +32,20 @@ use Rattle.infer_result.specs.declared.diagnostics.InferenceDiagnostic.{Inferenc
 use Rattle.infer_result.specs.declared.diagnostics.InferenceDiagnostic.TheVariants as diagnostic
 use Rattle.infer_result.specs.Closed.{NamesVariant, IsVariantPat}
 use Rattle.infer_result.specs.Table.{HasTy, HasDiagnostic}
-use Rattle.infer_result.specs.Places.{Given, Demand}
-use Rattle.infer_result.specs.Rules.Literals.{IsOwnType}
-use Rattle.infer_result.specs.Rules.Expressions.{ObeysOrMismatch}
+use Rattle.infer_result.specs.Places.{Given}
+use Rattle.infer_result.specs.Demands.{Demand}
+use Rattle.infer_result.specs.Kinds.Literal.{IsOwnType}
+use Rattle.infer_result.specs.Rules.{ObeysOrMismatch}
 use Rattle.infer_result.specs.Unknown.{unknown_arg, unknown_step, unknown_bound, unknown_trait, has_unknown, IsKnown}
 use Rattle.infer_result.specs.Upward.{Up, of_literal, of_written, of_initializer, of_parameter, of_call, of_unit}
 use Rattle.infer_result.specs.Heads.{Outermost, HasHead, HeadOf}
 use Rattle.infer_result.specs.Truth.Mismatch.{IsTruePatMismatch}
-use Rattle.infer_result.specs.Truth.Seen.{callable_step, IsPathToItem, IsTrueSeen, IsSaid}
-use Rattle.infer_result.specs.Truth.Calls.{IsTrueDiagnostic, IsTruePatDiagnostic}
+use Rattle.infer_result.specs.Kinds.Call.{callable_step, IsPathToItem, IsSaid}
+use Rattle.infer_result.specs.Truth.Seen.{IsTrueSeen}
+use Rattle.infer_result.specs.Truth.Diagnostics.{IsTrueDiagnostic, IsTruePatDiagnostic}
 use Rattle.infer_result.specs.Made.{IsMisfit, IsMade}
 use Rattle.infer_result.specs.Typed.{IsTyped}
-use Rattle.infer_result.specs.Derived.{typed_by_schedule}
+use Rattle.infer_result.proofs.Derived.{typed_by_schedule}
 use Rattle.infer_result.proofs.Samples.Small.{scope_with, e, u8, one_u8, body_of, each_below, each_node, apart_by, only, each_entry, each_found, each_placed, closed_u8, closed_error, closed_unit, top_uint, u8_is_no_bool, none_placed}
 use Rattle.infer_result.proofs.Samples.Calling.{function, calling, unseen}
 
@@ -163,22 +165,30 @@ is_said call called args s at is has known =
 
 right_made : IsMade given right
 right_made = record {
-  of_body = record { exprs = refl; pats = refl; bindings = refl; modes = refl; mismatches = refl; diagnostics = refl; pat_mismatches = refl; pat_diagnostics = refl; expr_variants = refl; pat_variants = refl };
-  closed = record {
-    exprs = each_entry IsClosed right.type_of_expr (closed_u8, (closed_u8, (closed_error, (closed_unit, tt))));
-    pats = λ n s h. absurd (cc);
-    bindings = λ n s h. absurd (cc);
-    placeholders = λ k s at. absurd (cc);
-    expected = each_entry (λ x. IsClosed x.expected) right.expr_mismatches tt;
-    actual = each_entry (λ x. IsClosed x.actual) right.expr_mismatches tt;
-    pat_expected = each_entry (λ x. IsClosed x.expected) right.pat_mismatches tt;
-    pat_actual = each_entry (λ x. IsClosed x.actual) right.pat_mismatches tt;
-    found = each_found IsClosed right.expr_diagnostics (closed_u8, tt);
+  shape = record {
+    of_body = record { exprs = refl; pats = refl; bindings = refl; modes = refl; mismatches = refl; diagnostics = refl; pat_mismatches = refl; pat_diagnostics = refl; expr_variants = refl; pat_variants = refl };
+    closed = record {
+      exprs = each_entry IsClosed right.type_of_expr (closed_u8, (closed_u8, (closed_error, (closed_unit, tt))));
+      pats = λ n s h. absurd (cc);
+      bindings = λ n s h. absurd (cc);
+      placeholders = λ k s at. absurd (cc);
+      expected = each_entry (λ x. IsClosed x.expected) right.expr_mismatches tt;
+      actual = each_entry (λ x. IsClosed x.actual) right.expr_mismatches tt;
+      pat_expected = each_entry (λ x. IsClosed x.expected) right.pat_mismatches tt;
+      pat_actual = each_entry (λ x. IsClosed x.actual) right.pat_mismatches tt;
+      found = each_found IsClosed right.expr_diagnostics (closed_u8, tt);
+    };
+    modes = λ x m at. absurd (cc);
+    placeholders = none_placed given right refl;
+    variants = record {
+      exprs = λ x. each_entry (NamesVariant given.body x) right.expr_variants tt x.0;
+      pats = λ x. each_entry (IsVariantPat given.body x) right.pat_variants tt x.0;
+    };
   };
   clauses = λ x h.
       each_below (λ k. ObeysOrMismatch given right (e k)) 4 x.0 (
         (((tt, (u8, refl, refl)), (u8, refl, refl)), inr (record { position = 0; entry = at_call u8; found = refl; is_node = refl }, (ty.Error, refl))),
-        ((tt, tt), (unit, refl, inl refl)),
+        record { statements = (tt, tt); type = unit; has = refl; ends = inl refl },
       ) h;
   kinds = λ x h. absurd (omega arith);
   params = λ i q s found is. absurd (cc);
@@ -186,19 +196,15 @@ right_made = record {
   body_clause = (unit, refl, inl refl);
   misfits = λ x. each_entry (IsMisfit given right x) right.expr_mismatches tt x.0;
   demands = λ x. each_entry (λ m. Demand given right x m.expected) right.expr_mismatches tt x.0;
-  modes = λ x m at. absurd (cc);
-  placeholders = none_placed given right refl;
-  diagnostics = λ x.
-      each_placed (λ k. IsTrueDiagnostic given right (e k)) right.expr_diagnostics
-      ((refl, record { called = e 0; args = e 1 ∷ []; is_call = refl; has = refl; seen = record { position = 0; entry = at_call u8; found = refl; is_node = refl }; known = known_u8 }), tt) x.0;
-  pat_diagnostics = λ x. each_entry (IsTruePatDiagnostic given x) right.pat_diagnostics tt x.0;
-  variants = record {
-    exprs = λ x. each_entry (NamesVariant given.body x) right.expr_variants tt x.0;
-    pats = λ x. each_entry (IsVariantPat given.body x) right.pat_variants tt x.0;
+  complaints = record {
+    diagnostics = λ x.
+        each_placed (λ k. IsTrueDiagnostic given right (e k)) right.expr_diagnostics
+        ((refl, record { called = e 0; args = e 1 ∷ []; is_call = refl; has = refl; seen = record { position = 0; entry = at_call u8; found = refl; is_node = refl }; known = known_u8 }), tt) x.0;
+    pat_diagnostics = λ x. each_entry (IsTruePatDiagnostic given x) right.pat_diagnostics tt x.0;
+    pat_truths = λ x. each_entry (IsTruePatMismatch given right x) right.pat_mismatches tt x.0;
+    seen = λ i x found. subst (IsTrueSeen given right) (first i (at_call u8) x found) true_seen;
+    said = λ i x found. subst (IsSaid given right) (first i (at_call u8) x found) is_said;
   };
-  pat_truths = λ x. each_entry (IsTruePatMismatch given right x) right.pat_mismatches tt x.0;
-  seen = λ i x found. subst (IsTrueSeen given right) (first i (at_call u8) x found) true_seen;
-  said = λ i x found. subst (IsSaid given right) (first i (at_call u8) x found) is_said;
 }
   where
     first : (i : ℕ) (x y : Seen) → slice_get (x ∷ []) i ≡ Some y → x ≡ y
@@ -224,12 +230,12 @@ u8_is_no_item i xs h = (let k : Ty-F.Uint uint.U8 ≡ Ty-F.FnDef i xs = sym (top
 
 -- no complaint, though the type of what is called is known
 pub in_silence : IsTyped given (table_of None (at_call u8 ∷ [])) → ⊥
-in_silence h = (let clash = h.said 0 (at_call u8) refl (e 2) (e 0) (e 1 ∷ []) u8 refl refl refl known_u8 in cc)
+in_silence h = (let clash = h.complaints.said 0 (at_call u8) refl (e 2) (e 0) (e 1 ∷ []) u8 refl refl refl known_u8 in cc)
 
 -- a hole is seen where what is called has a type by itself
 pub hole_seen : (n : ℕ) → IsTyped given (table_of (Some (no_function u8)) (at_call (ty.Var n) ∷ [])) → ⊥
 hole_seen n h =
-    (let x = h.seen 0 (at_call (ty.Var n)) refl in
+    (let x = h.complaints.seen 0 (at_call (ty.Var n)) refl in
     let at = x.is_node in
     let is = x.is_call in
     let called : e 0 ≡ x.called = cc in
@@ -239,14 +245,14 @@ hole_seen n h =
 pub nothing_seen : (said : Option InferenceDiagnostic) → IsTyped given (table_of said []) → ⊥
 nothing_seen said h =
     elim (h.clauses (e 2) (omega arith)) [
-      | inl r ↦ (let callee = r.2 in u8_is_no_item callee.item _ (only u8 _ callee.has))
+      | inl r ↦ (let callee = r.is_callee in u8_is_no_item callee.item _ (only u8 _ callee.has))
       | inr m ↦ unseen _ (e 2) refl m.0
     ]
 
 -- another type found than that of what is called
 pub another_found : IsTyped given (table_of (Some (no_function ty.Bool)) (at_call u8 ∷ [])) → ⊥
 another_found h =
-    (let m = (h.diagnostics (e 2) (no_function ty.Bool) refl).1 in
+    (let m = (h.complaints.diagnostics (e 2) (no_function ty.Bool) refl).1 in
     let is = m.is_call in
     let has = m.has in
     let called : e 0 ≡ m.called = cc in
@@ -255,7 +261,7 @@ another_found h =
 -- a path to a function is seen to be no function, at any table
 pub function_seen : (types : List RawType) (f : RawFn) (l : RawLiteral) (output s : Ty) (t : InferenceResult) → t.seen ≡ at_call s ∷ [] → IsTyped (calling types f l output) t → ⊥
 function_seen types f l output s t seen h =
-    (let x = h.seen 0 (at_call s) (cc) in
+    (let x = h.complaints.seen 0 (at_call s) (cc) in
     let at = x.is_node in
     let is = x.is_call in
     let called : e 0 ≡ x.called = cc in

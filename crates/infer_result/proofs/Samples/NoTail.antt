@@ -15,15 +15,15 @@ use Rattle.infer_result.specs.declared.result.InferenceResult.{InferenceResult}
 use Rattle.infer_result.specs.declared.result.TypeMismatch.{TypeMismatch}
 use Rattle.infer_result.specs.declared.modes.BindingMode.TheVariants as mode
 use Rattle.infer_result.specs.Table.{BindingTy, mismatch}
-use Rattle.infer_result.specs.Places.{Given, Demand}
-use Rattle.infer_result.specs.Rules.Expressions.{ObeysOrMismatch}
-use Rattle.infer_result.specs.Rules.Patterns.{PatRule}
+use Rattle.infer_result.specs.Places.{Given}
+use Rattle.infer_result.specs.Demands.{Demand}
+use Rattle.infer_result.specs.Rules.{ObeysOrMismatch, PatRule}
 use Rattle.infer_result.specs.Truth.Mismatch.{IsTruePatMismatch}
-use Rattle.infer_result.specs.Truth.Calls.{IsTrueDiagnostic, IsTruePatDiagnostic}
+use Rattle.infer_result.specs.Truth.Diagnostics.{IsTrueDiagnostic, IsTruePatDiagnostic}
 use Rattle.infer_result.specs.Closed.{IsBinder, NamesVariant, IsVariantPat}
 use Rattle.infer_result.specs.Made.{IsMisfit, IsMade}
 use Rattle.infer_result.specs.Typed.{IsTyped}
-use Rattle.infer_result.specs.Derived.{typed_by_schedule}
+use Rattle.infer_result.proofs.Derived.{typed_by_schedule}
 use Rattle.infer_result.proofs.Samples.Small.{scope_with, e, p, b, u8, one_u8, plain, body_of, each_below, each_node, apart_by, only, each_entry, each_found, each_placed, closed_u8, closed_unit, u8_differs_unit, u8_is_no_bool, bool_differs_unit, none_placed}
 
 abbrev body : RawBody
@@ -69,19 +69,27 @@ right = table_of (Some u8 ∷ Some u8 ∷ []) (None ∷ Some (mismatch u8 unit) 
 
 right_made : IsMade given right
 right_made = record {
-  of_body = record { exprs = refl; pats = refl; bindings = refl; modes = refl; mismatches = refl; diagnostics = refl; pat_mismatches = refl; pat_diagnostics = refl; expr_variants = refl; pat_variants = refl };
-  closed = record {
-    exprs = each_entry IsClosed right.type_of_expr (closed_u8, (closed_u8, tt));
-    pats = each_entry IsClosed right.type_of_pat (closed_u8, tt);
-    bindings = each_entry IsClosed right.type_of_binding (closed_u8, tt);
-    placeholders = λ k s at. absurd (cc);
-    expected = each_entry (λ x. IsClosed x.expected) right.expr_mismatches (closed_u8, tt);
-    actual = each_entry (λ x. IsClosed x.actual) right.expr_mismatches (closed_unit, tt);
-    pat_expected = each_entry (λ x. IsClosed x.expected) right.pat_mismatches tt;
-    pat_actual = each_entry (λ x. IsClosed x.actual) right.pat_mismatches tt;
-    found = each_found IsClosed right.expr_diagnostics tt;
+  shape = record {
+    of_body = record { exprs = refl; pats = refl; bindings = refl; modes = refl; mismatches = refl; diagnostics = refl; pat_mismatches = refl; pat_diagnostics = refl; expr_variants = refl; pat_variants = refl };
+    closed = record {
+      exprs = each_entry IsClosed right.type_of_expr (closed_u8, (closed_u8, tt));
+      pats = each_entry IsClosed right.type_of_pat (closed_u8, tt);
+      bindings = each_entry IsClosed right.type_of_binding (closed_u8, tt);
+      placeholders = λ k s at. absurd (cc);
+      expected = each_entry (λ x. IsClosed x.expected) right.expr_mismatches (closed_u8, tt);
+      actual = each_entry (λ x. IsClosed x.actual) right.expr_mismatches (closed_unit, tt);
+      pat_expected = each_entry (λ x. IsClosed x.expected) right.pat_mismatches tt;
+      pat_actual = each_entry (λ x. IsClosed x.actual) right.pat_mismatches tt;
+      found = each_found IsClosed right.expr_diagnostics tt;
+    };
+    modes = λ x. each_placed (λ k m. IsBinder body (p k)) right.binding_modes ((b 0, None, refl), tt) x.0;
+    placeholders = none_placed given right refl;
+    variants = record {
+      exprs = λ x. each_entry (NamesVariant given.body x) right.expr_variants tt x.0;
+      pats = λ x. each_entry (IsVariantPat given.body x) right.pat_variants tt x.0;
+    };
   };
-  clauses = λ x h. each_below (λ k. ObeysOrMismatch given right (e k)) 2 x.0 ((tt, (u8, refl, refl)), (((u8, refl, (u8, refl, inl refl)), tt), (u8, refl, inr refl))) h;
+  clauses = λ x h. each_below (λ k. ObeysOrMismatch given right (e k)) 2 x.0 ((tt, (u8, refl, refl)), record { statements = ((u8, refl, (u8, refl, inl refl)), tt); type = u8; has = refl; ends = inr refl }) h;
   kinds = λ x h. each_below (λ k. PatRule given right (p k) (slice_get body.pats k)) 1 x.0 (tt, (u8, refl, refl, refl)) h;
   params = λ i q s found is. absurd (cc);
   bindings = λ v h. each_below (λ k. (s : Ty) × BindingTy right (b k) s) 1 v.0 (tt, (u8, refl)) h;
@@ -92,17 +100,13 @@ right_made = record {
   demands = λ x.
       each_placed (λ k (m : TypeMismatch). Demand given right (e k) m.expected) right.expr_mismatches
       (inl (record { parent = the_body; at_part = 0; role = root; stands = record { node_is = tt; part = refl }; asks = (refl, refl) }), tt) x.0;
-  modes = λ x. each_placed (λ k m. IsBinder body (p k)) right.binding_modes ((b 0, None, refl), tt) x.0;
-  placeholders = none_placed given right refl;
-  diagnostics = λ x. each_entry (IsTrueDiagnostic given right x) right.expr_diagnostics tt x.0;
-  pat_diagnostics = λ x. each_entry (IsTruePatDiagnostic given x) right.pat_diagnostics tt x.0;
-  variants = record {
-    exprs = λ x. each_entry (NamesVariant given.body x) right.expr_variants tt x.0;
-    pats = λ x. each_entry (IsVariantPat given.body x) right.pat_variants tt x.0;
+  complaints = record {
+    diagnostics = λ x. each_entry (IsTrueDiagnostic given right x) right.expr_diagnostics tt x.0;
+    pat_diagnostics = λ x. each_entry (IsTruePatDiagnostic given x) right.pat_diagnostics tt x.0;
+    pat_truths = λ x. each_entry (IsTruePatMismatch given right x) right.pat_mismatches tt x.0;
+    seen = λ i x found. absurd (cc);
+    said = λ i x found. absurd (cc);
   };
-  seen = λ i x found. absurd (cc);
-  said = λ i x found. absurd (cc);
-  pat_truths = λ x. each_entry (IsTruePatMismatch given right x) right.pat_mismatches tt x.0;
 }
 
 pub right_typed : IsTyped given right
@@ -114,16 +118,16 @@ right_typed = typed_by_schedule given right schedule is_schedule right_made
 pub in_silence : IsTyped given (table_of (Some u8 ∷ Some u8 ∷ []) (None ∷ None ∷ [])) → ⊥
 in_silence h =
     (let c = h.clauses (e 1) (omega arith) in
-    let s : u8 ≡ c.1.0 = only u8 c.1.0 c.1.1 in
-    elim c.1.2 [ inl same ↦ u8_differs_unit (ap erased s ∙ sym same) | inr m ↦ (let clash = m in cc) ])
+    let s : u8 ≡ c.type = only u8 c.type c.has in
+    elim c.ends [ inl same ↦ u8_differs_unit (ap erased s ∙ sym same) | inr m ↦ (let clash = m in cc) ])
 
 -- with the mismatch, but at a type that is neither the expected one nor `()`
 pub another_type : IsTyped given (table_of (Some u8 ∷ Some ty.Bool ∷ []) (None ∷ Some (mismatch u8 unit) ∷ [])) → ⊥
 another_type h =
     (let c = h.clauses (e 1) (omega arith) in
-    let s : ty.Bool ≡ c.1.0 = only ty.Bool c.1.0 c.1.1 in
-    elim c.1.2 [
+    let s : ty.Bool ≡ c.type = only ty.Bool c.type c.has in
+    elim c.ends [
       | inl same ↦ bool_differs_unit (ap erased s ∙ sym same)
-      | inr m ↦ (let k : mismatch c.1.0 unit ≡ mismatch u8 unit = sym (only (mismatch u8 unit) (mismatch c.1.0 unit) m) in
+      | inr m ↦ (let k : mismatch c.type unit ≡ mismatch u8 unit = sym (only (mismatch u8 unit) (mismatch c.type unit) m) in
           u8_is_no_bool (sym (ap (λ (x : TypeMismatch). x.expected) k) ∙ sym s))
     ])

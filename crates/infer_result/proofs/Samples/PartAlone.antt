@@ -14,8 +14,9 @@ use Rattle.hir_facts.specs.declared.raw.RawPat.TheVariants as pat
 use Rattle.hir_facts.specs.declared.schedule.Schedule.{Schedule}
 use Rattle.hir_facts.specs.Order.{subpattern, the_body, inner, IsSchedule, start, end, after, Fits, parts}
 use Rattle.infer_result.specs.declared.result.InferenceResult.{InferenceResult}
-use Rattle.infer_result.specs.Places.{Given, StandsAt, Incoming, PatIsAtOrMismatch}
-use Rattle.infer_result.specs.Rules.Patterns.{ObeysPattern}
+use Rattle.infer_result.specs.Places.{Given, StandsAt, PatIsAtOrMismatch}
+use Rattle.infer_result.specs.Incoming.{Incoming}
+use Rattle.infer_result.specs.Rules.{ObeysPattern}
 use Rattle.infer_result.specs.Stable.{table_under}
 use Rattle.infer_result.proofs.Under.{At-before, pat_type_under}
 use Rattle.infer_result.proofs.Samples.Small.{scope_with, e, p, body_with, each_node, apart_by, comes, only, top_bool, top_tuple}

@@ -15,7 +15,7 @@ use Rattle.hir_facts.specs.declared.raw.RawBody.{RawBody}
 use Rattle.hir_facts.specs.declared.schedule.Schedule.{Schedule}
 use Rattle.hir_types.specs.Types.{unit}
 use Rattle.hir_types.specs.Erasure.{erased, IsClosed, Same}
-use Rattle.hir_types.specs.Layers.{has_hole_tuple}
+use Rattle.hir_types.proofs.Layers.{has_hole_tuple}
 use Rattle.hir_facts.specs.CarriedTypes.{IsCarriedType, carried_bool, carried_integer, carried_tuple, same_carried}
 use Rattle.hir_facts.specs.Filled.{is_hole}
 use Rattle.hir_facts.specs.Order.{the_body, inner, IsSchedule, start, end, after, Fits, parts}
@@ -24,14 +24,14 @@ use Rattle.infer_result.specs.declared.result.InferenceResult.{InferenceResult}
 use Rattle.infer_result.specs.declared.modes.BindingMode.TheVariants as mode
 use Rattle.infer_result.specs.Closed.{IsBinder, NamesVariant, IsVariantPat}
 use Rattle.infer_result.specs.Table.{BindingTy, PlaceholderTy}
-use Rattle.infer_result.specs.Places.{Given, Demand, declared, IsPlaceholder, AreRecorded}
-use Rattle.infer_result.specs.Rules.Expressions.{ObeysOrMismatch}
-use Rattle.infer_result.specs.Rules.Patterns.{PatRule}
+use Rattle.infer_result.specs.Places.{Given, declared, IsPlaceholder, AreRecorded}
+use Rattle.infer_result.specs.Demands.{Demand}
+use Rattle.infer_result.specs.Rules.{ObeysOrMismatch, PatRule}
 use Rattle.infer_result.specs.Truth.Mismatch.{IsTruePatMismatch}
-use Rattle.infer_result.specs.Truth.Calls.{IsTrueDiagnostic, IsTruePatDiagnostic}
+use Rattle.infer_result.specs.Truth.Diagnostics.{IsTrueDiagnostic, IsTruePatDiagnostic}
 use Rattle.infer_result.specs.Made.{IsMisfit, IsMade}
 use Rattle.infer_result.specs.Typed.{IsTyped}
-use Rattle.infer_result.specs.Derived.{tuple_parts, typed_by_schedule}
+use Rattle.infer_result.proofs.Derived.{tuple_parts, typed_by_schedule}
 use Rattle.infer_result.proofs.Samples.Small.{scope_with, e, p, b, w, u8, u16, one_u8, plain, body_of, each_below, each_node, apart_by, only, each_entry, each_found, each_placed, closed_u8, closed_bool, closed_unit, u8_is_no_u16}
 
 -- the pair with this first component
@@ -104,7 +104,7 @@ are_recorded k stands = at k (is_hole types k 2 stands)
     at (suc (suc (suc k))) is = absurd (cc)
 
 block_obeys : ObeysOrMismatch given right (e 3)
-block_obeys = rw (declared_is u8) (((are_recorded, (pair_of u8, refl, inl refl), (pair_of u8, refl, inl refl)), tt), (unit, refl, inl refl))
+block_obeys = record { statements = rw (declared_is u8) ((are_recorded, (pair_of u8, refl, inl refl), (pair_of u8, refl, inl refl)), tt); type = unit; has = refl; ends = inl refl }
 
 closed_pair : IsClosed (pair_of u8)
 closed_pair = has_hole_tuple (u8 ∷ ty.Bool ∷ []) ∙ rw (closed_u8, closed_bool) refl
@@ -114,17 +114,25 @@ is_placeholder = record { block = e 3; at_stmt = 0; pattern = p 0; written = w 2
 
 right_made : IsMade given right
 right_made = record {
-  of_body = record { exprs = refl; pats = refl; bindings = refl; modes = refl; mismatches = refl; diagnostics = refl; pat_mismatches = refl; pat_diagnostics = refl; expr_variants = refl; pat_variants = refl };
-  closed = record {
-    exprs = each_entry IsClosed right.type_of_expr (closed_u8, (closed_bool, (closed_pair, (closed_unit, tt))));
-    pats = each_entry IsClosed right.type_of_pat (closed_pair, tt);
-    bindings = each_entry IsClosed right.type_of_binding (closed_pair, tt);
-    placeholders = each_entry IsClosed right.type_of_placeholder (closed_u8, tt);
-    expected = each_entry (λ x. IsClosed x.expected) right.expr_mismatches tt;
-    actual = each_entry (λ x. IsClosed x.actual) right.expr_mismatches tt;
-    pat_expected = each_entry (λ x. IsClosed x.expected) right.pat_mismatches tt;
-    pat_actual = each_entry (λ x. IsClosed x.actual) right.pat_mismatches tt;
-    found = each_found IsClosed right.expr_diagnostics tt;
+  shape = record {
+    of_body = record { exprs = refl; pats = refl; bindings = refl; modes = refl; mismatches = refl; diagnostics = refl; pat_mismatches = refl; pat_diagnostics = refl; expr_variants = refl; pat_variants = refl };
+    closed = record {
+      exprs = each_entry IsClosed right.type_of_expr (closed_u8, (closed_bool, (closed_pair, (closed_unit, tt))));
+      pats = each_entry IsClosed right.type_of_pat (closed_pair, tt);
+      bindings = each_entry IsClosed right.type_of_binding (closed_pair, tt);
+      placeholders = each_entry IsClosed right.type_of_placeholder (closed_u8, tt);
+      expected = each_entry (λ x. IsClosed x.expected) right.expr_mismatches tt;
+      actual = each_entry (λ x. IsClosed x.actual) right.expr_mismatches tt;
+      pat_expected = each_entry (λ x. IsClosed x.expected) right.pat_mismatches tt;
+      pat_actual = each_entry (λ x. IsClosed x.actual) right.pat_mismatches tt;
+      found = each_found IsClosed right.expr_diagnostics tt;
+    };
+    modes = λ x. each_placed (λ k m. IsBinder body (p k)) right.binding_modes ((b 0, None, refl), tt) x.0;
+    placeholders = record { count = refl; only = each_placed (λ k s. IsPlaceholder given k) right.type_of_placeholder (is_placeholder, tt) };
+    variants = record {
+      exprs = λ x. each_entry (NamesVariant given.body x) right.expr_variants tt x.0;
+      pats = λ x. each_entry (IsVariantPat given.body x) right.pat_variants tt x.0;
+    };
   };
   clauses = λ x h.
       each_below (λ k. ObeysOrMismatch given right (e k)) 4 x.0
@@ -135,17 +143,13 @@ right_made = record {
   body_clause = (unit, refl, inl refl);
   misfits = λ x. each_entry (IsMisfit given right x) right.expr_mismatches tt x.0;
   demands = λ x. each_entry (λ m. Demand given right x m.expected) right.expr_mismatches tt x.0;
-  modes = λ x. each_placed (λ k m. IsBinder body (p k)) right.binding_modes ((b 0, None, refl), tt) x.0;
-  placeholders = record { count = refl; only = each_placed (λ k s. IsPlaceholder given k) right.type_of_placeholder (is_placeholder, tt) };
-  diagnostics = λ x. each_entry (IsTrueDiagnostic given right x) right.expr_diagnostics tt x.0;
-  pat_diagnostics = λ x. each_entry (IsTruePatDiagnostic given x) right.pat_diagnostics tt x.0;
-  variants = record {
-    exprs = λ x. each_entry (NamesVariant given.body x) right.expr_variants tt x.0;
-    pats = λ x. each_entry (IsVariantPat given.body x) right.pat_variants tt x.0;
+  complaints = record {
+    diagnostics = λ x. each_entry (IsTrueDiagnostic given right x) right.expr_diagnostics tt x.0;
+    pat_diagnostics = λ x. each_entry (IsTruePatDiagnostic given x) right.pat_diagnostics tt x.0;
+    pat_truths = λ x. each_entry (IsTruePatMismatch given right x) right.pat_mismatches tt x.0;
+    seen = λ i x found. absurd (cc);
+    said = λ i x found. absurd (cc);
   };
-  seen = λ i x found. absurd (cc);
-  said = λ i x found. absurd (cc);
-  pat_truths = λ x. each_entry (IsTruePatMismatch given right x) right.pat_mismatches tt x.0;
 }
 
 pub right_typed : IsTyped given right
@@ -166,20 +170,20 @@ pairs_differ h =
 -- the `_` recorded as another type, with no mismatch at the initializer
 pub another : IsTyped given (table_of (Some u16) None) → ⊥
 another h =
-    (let c = (h.clauses (e 3) (omega arith)).0.0.1 in
+    (let c = (h.clauses (e 3) (omega arith)).statements.0.1 in
     let a : pair_of u8 ≡ c.0 = only (pair_of u8) c.0 c.1 in
     elim c.2 [ inl same ↦ pairs_differ (ap erased a ∙ (same ∙ ap erased (declared_is u16))) | inr m ↦ (let clash = m.1 in cc) ])
 
 -- what it stands for is not recorded
 pub forgotten : IsTyped given (table_of None None) → ⊥
 forgotten h =
-    (let c = (h.clauses (e 3) (omega arith)).0.0.0 in
+    (let c = (h.clauses (e 3) (omega arith)).statements.0.0 in
     let at = (c 0 hole_stands).1 in
     cc)
 
 -- a type recorded at `bool`, which is no `_`
 pub at_bool : (s : Ty) → IsTyped given (table_of (Some u8) (Some s)) → ⊥
 at_bool s h =
-    (let x = h.placeholders.only 1 s refl in
+    (let x = h.shape.placeholders.only 1 s refl in
     let is = is_hole types 1 x.written.0 x.stands in
     cc)

@@ -21,8 +21,7 @@ use Rattle.infer_result.specs.Closed.{IsBinder, NamesVariant, IsVariantPat, AllT
 use Rattle.infer_result.specs.Derivation.{IsDerivation}
 use Rattle.infer_result.specs.General.{IsGeneralType, general_bool, closed_by, IsGeneralOf}
 use Rattle.infer_result.specs.Places.{Given}
-use Rattle.infer_result.specs.Rules.Expressions.{ObeysExpression}
-use Rattle.infer_result.specs.Rules.Patterns.{ObeysPattern}
+use Rattle.infer_result.specs.Rules.{ObeysExpression, ObeysPattern}
 use Rattle.infer_result.specs.Table.{HasTy, PatTy, BindingTy}
 use Rattle.infer_result.specs.Typed.{given}
 use Rattle.infer_result.specs.Unknown.{IsKnown}
@@ -101,10 +100,10 @@ module _ (s : Ty) where
   }
 
   first_call : ObeysExpression Here table (e 2)
-  first_call = inl (fn_signature types mk, s ∷ [], record { item = callable.FunctionId function; has = refl; signature = refl }, inl tt, subst (HasTy table (e 2)) (sym (at_type s)) refl)
+  first_call = inl (record { signature = fn_signature types mk; types = s ∷ []; is_callee = record { item = callable.FunctionId function; has = refl; signature = refl }; arguments = inl tt; has = subst (HasTy table (e 2)) (sym (at_type s)) refl })
 
   second_call : ObeysExpression Here table (e 5)
-  second_call = inl (fn_signature types mk, s ∷ [], record { item = callable.FunctionId function; has = refl; signature = refl }, inl tt, subst (HasTy table (e 5)) (sym (at_type s)) refl)
+  second_call = inl (record { signature = fn_signature types mk; types = s ∷ []; is_callee = record { item = callable.FunctionId function; has = refl; signature = refl }; arguments = inl tt; has = subst (HasTy table (e 5)) (sym (at_type s)) refl })
 
   input_obeys : ObeysPattern Here table (p 0)
   input_obeys = record {
@@ -126,14 +125,22 @@ module _ (s : Ty) where
   plain_derives is_plain = let of_hole : IsGeneralType scope s = plain_is_general scope s is_plain in record {
     body = body;
     is_body = refl;
-    of_body = record { exprs = refl; pats = refl; bindings = refl; modes = refl; mismatches = refl; diagnostics = refl; pat_mismatches = refl; pat_diagnostics = refl; expr_variants = refl; pat_variants = refl };
+    shape = record {
+      of_body = record { exprs = refl; pats = refl; bindings = refl; modes = refl; mismatches = refl; diagnostics = refl; pat_mismatches = refl; pat_diagnostics = refl; expr_variants = refl; pat_variants = refl };
+      closed = let own : IsClosed s = plain_is_closed scope s is_plain in all_types IsClosed closed_bool (closed_at s own) own closed_unit;
+      modes = λ x. each_placed (λ k m. IsBinder body (p k)) table.binding_modes ((b 0, None, refl), ((b 1, None, refl), tt)) x.0;
+      placeholders = none_placed Here table refl;
+      variants = record {
+        exprs = λ x. each_entry (NamesVariant body x) table.expr_variants tt x.0;
+        pats = λ x. each_entry (IsVariantPat body x) table.pat_variants tt x.0;
+      };
+    };
     total = record {
       exprs = λ x h. each_below (λ k. (u : Ty) × HasTy table (e k) u) 9 x.0
           (((((((((tt, (ty.Bool, refl)), (item (s ∷ []), refl)), (s, refl)), (s, refl)), (item (s ∷ []), refl)), (s, refl)), (s, refl)), (s, refl)), (unit, refl)) h;
       pats = λ x h. each_below (λ k. (u : Ty) × PatTy table (p k) u) 2 x.0 ((tt, (ty.Bool, refl)), (s, refl)) h;
       bindings = λ v h. each_below (λ k. (u : Ty) × BindingTy table (b k) u) 2 v.0 ((tt, (ty.Bool, refl)), (s, refl)) h;
     };
-    closed = let own : IsClosed s = plain_is_closed scope s is_plain in all_types IsClosed closed_bool (closed_at s own) own closed_unit;
     known = let own : IsKnown s = general_is_known scope s of_hole in all_types IsKnown has_unknown_bool (known_at s own) own (has_unknown_tuple []);
     fit = all_types (λ u. IsTrue (fits facts f u)) (general_fits scope ty.Bool general_bool) (fits_at scope s refl (general_fits scope s of_hole)) (general_fits scope s of_hole) (ty_fits_tuple scope []);
     clean = record {
@@ -142,18 +149,12 @@ module _ (s : Ty) where
       pat_mismatches = each_entry (λ m. ⊥) table.pat_mismatches tt;
       pat_diagnostics = each_entry (λ d. ⊥) table.pat_diagnostics tt;
     };
-    modes = λ x. each_placed (λ k m. IsBinder body (p k)) table.binding_modes ((b 0, None, refl), ((b 1, None, refl), tt)) x.0;
-    placeholders = none_placed Here table refl;
-    variants = record {
-      exprs = λ x. each_entry (NamesVariant body x) table.expr_variants tt x.0;
-      pats = λ x. each_entry (IsVariantPat body x) table.pat_variants tt x.0;
-    };
     exprs = λ x h. each_below (λ k. ObeysExpression Here table (e k)) 9 x.0 (
       (
-        (((((((tt, (ty.Bool, refl, refl)), (s ∷ [], refl, refl)), first_call), (tt, (s, refl, (s, refl, refl)))), (s ∷ [], refl, refl)), second_call), (tt, (s, refl, (s, refl, refl)))),
-        ((ty.Bool, refl, refl), (s, refl, ((s, refl, refl), (s, refl, refl)))),
+        (((((((tt, (ty.Bool, refl, refl)), (s ∷ [], refl, refl)), first_call), record { statements = tt; type = s; has = refl; ends = (s, refl, refl) }), (s ∷ [], refl, refl)), second_call), record { statements = tt; type = s; has = refl; ends = (s, refl, refl) }),
+        record { condition = (ty.Bool, refl, refl); type = s; has = refl; branch = (s, refl, refl); otherwise = (s, refl, refl) },
       ),
-      (((s, refl, (s, refl, inl refl)), tt), (unit, refl, refl)),
+      record { statements = ((s, refl, (s, refl, inl refl)), tt); type = unit; has = refl; ends = refl },
     ) h;
     pats = λ x h. each_below (λ k. ObeysPattern Here table (p k)) 2 x.0 ((tt, input_obeys), local_obeys) h;
     root = (unit, refl, ap erased (sym written_unit));

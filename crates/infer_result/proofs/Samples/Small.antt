@@ -31,18 +31,22 @@ use Rattle.hir_facts.specs.declared.raw.RawBody.{RawBody}
 use Rattle.hir_facts.specs.declared.raw.RawFacts.{RawFacts}
 use Rattle.hir_facts.specs.declared.schedule.Schedule.{Schedule}
 use Rattle.hir_types.specs.Erasure.{IsClosed, Same}
-use Rattle.hir_types.specs.Layers.{has_hole_tuple, has_hole_bool, has_hole_error, has_hole_integer}
+use Rattle.hir_types.proofs.Layers.{has_hole_tuple, has_hole_bool, has_hole_error, has_hole_integer}
 use Rattle.hir_facts.specs.CarriedTypes.{carried_bool, carried_integer, carried_tuple, same_carried}
 use Rattle.hir_facts.specs.Types.{written_type}
 use Rattle.hir_facts.specs.Filled.{is_hole}
 use Rattle.hir_facts.specs.Scope.{Scope}
 use Rattle.hir_facts.specs.Order.{Role, Part, expr_part, Node, the_body, inner, IsNode, IsSchedule, start, parts, part_at}
-use Rattle.hir_facts.specs.Ways.{one_place}
+use Rattle.hir_facts.proofs.Ways.{one_place}
 use Rattle.infer_result.specs.declared.result.InferenceResult.{InferenceResult}
 use Rattle.infer_result.specs.declared.diagnostics.InferenceDiagnostic.{InferenceDiagnostic}
 use Rattle.infer_result.specs.declared.diagnostics.InferenceDiagnostic.TheVariants as diagnostic
 use Rattle.infer_result.specs.Table.{At, HasTy, PatTy, AnyMismatch}
-use Rattle.infer_result.specs.Places.{Given, AreRecorded, HasPlaceholders, StandsAt, PatIsAtOrMismatch, IsInput, Gives, Incoming, IsBefore, IsOfOther, Asks, IsAsked, IsOfBranch, Demand}
+use Rattle.infer_result.specs.Places.{Given, AreRecorded, HasPlaceholders, StandsAt, PatIsAtOrMismatch}
+use Rattle.infer_result.specs.Incoming.{IsInput, Gives, Incoming}
+use Rattle.infer_result.specs.Kinds.Alternative.{IsBefore, IsOfOther}
+use Rattle.infer_result.specs.Demands.{Asks, IsAsked, Demand}
+use Rattle.infer_result.specs.Kinds.If.{IsOfBranch}
 
 abbrev pub e : ℕ → ExprId
 e n = record { 0 = n }

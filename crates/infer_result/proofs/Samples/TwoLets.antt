@@ -21,15 +21,15 @@ use Rattle.infer_result.specs.declared.result.InferenceResult.{InferenceResult}
 use Rattle.infer_result.specs.declared.result.TypeMismatch.{TypeMismatch}
 use Rattle.infer_result.specs.declared.modes.BindingMode.TheVariants as mode
 use Rattle.infer_result.specs.Table.{BindingTy, mismatch}
-use Rattle.infer_result.specs.Places.{Given, declared, Demand}
-use Rattle.infer_result.specs.Rules.Expressions.{ObeysOrMismatch}
-use Rattle.infer_result.specs.Rules.Patterns.{PatRule}
+use Rattle.infer_result.specs.Places.{Given, declared}
+use Rattle.infer_result.specs.Demands.{Demand}
+use Rattle.infer_result.specs.Rules.{ObeysOrMismatch, PatRule}
 use Rattle.infer_result.specs.Truth.Mismatch.{IsTruePatMismatch}
-use Rattle.infer_result.specs.Truth.Calls.{IsTrueDiagnostic, IsTruePatDiagnostic}
+use Rattle.infer_result.specs.Truth.Diagnostics.{IsTrueDiagnostic, IsTruePatDiagnostic}
 use Rattle.infer_result.specs.Closed.{IsBinder, NamesVariant, IsVariantPat}
 use Rattle.infer_result.specs.Made.{IsMisfit, IsMade}
 use Rattle.infer_result.specs.Typed.{IsTyped}
-use Rattle.infer_result.specs.Derived.{typed_by_schedule}
+use Rattle.infer_result.proofs.Derived.{typed_by_schedule}
 use Rattle.infer_result.proofs.Samples.Small.{scope_with, e, p, b, w, u8, one_u8, plain, body_of, each_below, each_node, apart_by, only, each_entry, each_found, each_placed, closed_u8, closed_bool, closed_unit, u8_differs_bool, none_placed, no_placeholders, no_placeholder, none_recorded}
 
 abbrev types : List RawType
@@ -89,27 +89,37 @@ right = table_of (Some (mismatch ty.Bool u8) ∷ Some (mismatch u8 ty.Bool) ∷ 
 
 block_obeys : ObeysOrMismatch given right (e 2)
 block_obeys =
-    rw (first_declared right, second_declared right) (
-      (
+    record {
+      statements = rw (first_declared right, second_declared right) (
         (none_recorded given right (tt, (tt, tt)) (w 0), (u8, refl, inr (mismatch ty.Bool u8, refl)), (ty.Bool, refl, inl refl)),
         ((none_recorded given right (tt, (tt, tt)) (w 1), (ty.Bool, refl, inr (mismatch u8 ty.Bool, refl)), (u8, refl, inl refl)), tt),
-      ),
-      (unit, refl, inl refl),
-    )
+      );
+      type = unit;
+      has = refl;
+      ends = inl refl;
+    }
 
 right_made : IsMade given right
 right_made = record {
-  of_body = record { exprs = refl; pats = refl; bindings = refl; modes = refl; mismatches = refl; diagnostics = refl; pat_mismatches = refl; pat_diagnostics = refl; expr_variants = refl; pat_variants = refl };
-  closed = record {
-    exprs = each_entry IsClosed right.type_of_expr (closed_u8, (closed_bool, (closed_unit, tt)));
-    pats = each_entry IsClosed right.type_of_pat (closed_bool, (closed_u8, tt));
-    bindings = each_entry IsClosed right.type_of_binding (closed_bool, (closed_u8, tt));
-    placeholders = λ k s at. absurd (no_placeholder types k s at);
-    expected = each_entry (λ x. IsClosed x.expected) right.expr_mismatches (closed_bool, (closed_u8, tt));
-    actual = each_entry (λ x. IsClosed x.actual) right.expr_mismatches (closed_u8, (closed_bool, tt));
-    pat_expected = each_entry (λ x. IsClosed x.expected) right.pat_mismatches tt;
-    pat_actual = each_entry (λ x. IsClosed x.actual) right.pat_mismatches tt;
-    found = each_found IsClosed right.expr_diagnostics tt;
+  shape = record {
+    of_body = record { exprs = refl; pats = refl; bindings = refl; modes = refl; mismatches = refl; diagnostics = refl; pat_mismatches = refl; pat_diagnostics = refl; expr_variants = refl; pat_variants = refl };
+    closed = record {
+      exprs = each_entry IsClosed right.type_of_expr (closed_u8, (closed_bool, (closed_unit, tt)));
+      pats = each_entry IsClosed right.type_of_pat (closed_bool, (closed_u8, tt));
+      bindings = each_entry IsClosed right.type_of_binding (closed_bool, (closed_u8, tt));
+      placeholders = λ k s at. absurd (no_placeholder types k s at);
+      expected = each_entry (λ x. IsClosed x.expected) right.expr_mismatches (closed_bool, (closed_u8, tt));
+      actual = each_entry (λ x. IsClosed x.actual) right.expr_mismatches (closed_u8, (closed_bool, tt));
+      pat_expected = each_entry (λ x. IsClosed x.expected) right.pat_mismatches tt;
+      pat_actual = each_entry (λ x. IsClosed x.actual) right.pat_mismatches tt;
+      found = each_found IsClosed right.expr_diagnostics tt;
+    };
+    modes = λ x. each_placed (λ k m. IsBinder body (p k)) right.binding_modes ((b 0, None, refl), ((b 1, None, refl), tt)) x.0;
+    placeholders = none_placed given right refl;
+    variants = record {
+      exprs = λ x. each_entry (NamesVariant given.body x) right.expr_variants tt x.0;
+      pats = λ x. each_entry (IsVariantPat given.body x) right.pat_variants tt x.0;
+    };
   };
   clauses = λ x h. each_below (λ k. ObeysOrMismatch given right (e k)) 3 x.0 (((tt, (u8, refl, refl)), (ty.Bool, refl, refl)), block_obeys) h;
   kinds = λ x h. each_below (λ k. PatRule given right (p k) (slice_get body.pats k)) 2 x.0 ((tt, (ty.Bool, refl, refl, refl)), (u8, refl, refl, refl)) h;
@@ -124,17 +134,13 @@ right_made = record {
         inl (record { parent = inner (node.ExprId (e 2)); at_part = 0; role = initializer (Some (w 0)); stands = record { node_is = omega arith; part = refl }; asks = (none_recorded given right (tt, (tt, tt)) (w 0), sym (first_declared right)) }),
         (inl (record { parent = inner (node.ExprId (e 2)); at_part = 2; role = initializer (Some (w 1)); stands = record { node_is = omega arith; part = refl }; asks = (none_recorded given right (tt, (tt, tt)) (w 1), sym (second_declared right)) }), tt),
       ) x.0;
-  modes = λ x. each_placed (λ k m. IsBinder body (p k)) right.binding_modes ((b 0, None, refl), ((b 1, None, refl), tt)) x.0;
-  placeholders = none_placed given right refl;
-  diagnostics = λ x. each_entry (IsTrueDiagnostic given right x) right.expr_diagnostics tt x.0;
-  pat_diagnostics = λ x. each_entry (IsTruePatDiagnostic given x) right.pat_diagnostics tt x.0;
-  variants = record {
-    exprs = λ x. each_entry (NamesVariant given.body x) right.expr_variants tt x.0;
-    pats = λ x. each_entry (IsVariantPat given.body x) right.pat_variants tt x.0;
+  complaints = record {
+    diagnostics = λ x. each_entry (IsTrueDiagnostic given right x) right.expr_diagnostics tt x.0;
+    pat_diagnostics = λ x. each_entry (IsTruePatDiagnostic given x) right.pat_diagnostics tt x.0;
+    pat_truths = λ x. each_entry (IsTruePatMismatch given right x) right.pat_mismatches tt x.0;
+    seen = λ i x found. absurd (cc);
+    said = λ i x found. absurd (cc);
   };
-  seen = λ i x found. absurd (cc);
-  said = λ i x found. absurd (cc);
-  pat_truths = λ x. each_entry (IsTruePatMismatch given right x) right.pat_mismatches tt x.0;
 }
 
 pub right_typed : IsTyped given right
@@ -146,6 +152,6 @@ right_typed = typed_by_schedule given right schedule is_schedule right_made
 pub one_left_out : IsTyped given (table_of (Some (mismatch ty.Bool u8) ∷ None ∷ None ∷ [])) → ⊥
 one_left_out h =
     (let c = h.clauses (e 2) (omega arith) in
-    let at = c.0.1.0.1 in
+    let at = c.statements.1.0.1 in
     let a : ty.Bool ≡ at.0 = only ty.Bool at.0 at.1 in
     elim at.2 [ inl same ↦ u8_differs_bool (sym (ap erased a ∙ (same ∙ ap erased (second_declared (table_of (Some (mismatch ty.Bool u8) ∷ None ∷ None ∷ [])))))) | inr m ↦ (let clash = m.1 in cc) ])

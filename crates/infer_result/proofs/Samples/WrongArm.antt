@@ -22,15 +22,16 @@ use Rattle.infer_result.specs.declared.result.InferenceResult.{InferenceResult}
 use Rattle.infer_result.specs.declared.result.TypeMismatch.{TypeMismatch}
 use Rattle.infer_result.specs.declared.modes.BindingMode.TheVariants as mode
 use Rattle.infer_result.specs.Table.{AnyMismatch, PatTy, BindingTy, mismatch}
-use Rattle.infer_result.specs.Places.{Given, IsOfOther, Demand}
-use Rattle.infer_result.specs.Rules.Expressions.{ObeysOrMismatch}
-use Rattle.infer_result.specs.Rules.Patterns.{PatRule}
+use Rattle.infer_result.specs.Places.{Given}
+use Rattle.infer_result.specs.Kinds.Alternative.{IsOfOther}
+use Rattle.infer_result.specs.Demands.{Demand}
+use Rattle.infer_result.specs.Rules.{ObeysOrMismatch, PatRule}
 use Rattle.infer_result.specs.Truth.Mismatch.{IsTruePatMismatch}
-use Rattle.infer_result.specs.Truth.Calls.{IsTrueDiagnostic, IsTruePatDiagnostic}
+use Rattle.infer_result.specs.Truth.Diagnostics.{IsTrueDiagnostic, IsTruePatDiagnostic}
 use Rattle.infer_result.specs.Closed.{IsBinder, NamesVariant, IsVariantPat}
 use Rattle.infer_result.specs.Made.{IsMisfit, IsMade}
 use Rattle.infer_result.specs.Typed.{IsTyped}
-use Rattle.infer_result.specs.Derived.{typed_by_schedule}
+use Rattle.infer_result.proofs.Derived.{typed_by_schedule}
 use Rattle.infer_result.proofs.Samples.Small.{scope_with, e, p, b, w, u8, u16, one_u8, plain, body_with, each_below, each_node, apart_by, asked, comes, one_param, no_other, only, each_entry, each_found, each_placed, nowhere, closed_u8, closed_bool, closed_unit, closed_error, top_uint, top_error, u8_is_no_bool, bool_is_no_error, u8_is_no_u16, u8_differs_bool, none_placed, no_placeholders, no_placeholder}
 
 abbrev body : RawBody
@@ -108,28 +109,43 @@ listed : (s : Ty) → AnyMismatch (right s) (e 3 ∷ e 4 ∷ [])
 listed s = inr (inl (mismatch u8 ty.Bool, refl))
 
 match_obeys : (s : Ty) → ObeysOrMismatch given (right s) (e 5)
-match_obeys s = ((ty.Bool, refl, ((ty.Bool, refl, inl refl), ((ty.Bool, refl, inl refl), tt))), (s, refl, ((tt, inr (listed s)), ((tt, inr (listed s)), tt))))
+match_obeys s = record {
+  scrutinee = ty.Bool;
+  comes = refl;
+  patterns = ((ty.Bool, refl, inl refl), ((ty.Bool, refl, inl refl), tt));
+  type = s;
+  has = refl;
+  alternatives = ((tt, inr (listed s)), ((tt, inr (listed s)), tt));
+}
 
 of_first : (s : Ty) → IsOfOther body (right s) (e 5) (arm 1) u8
 of_first s = record { other = arm 0; expr = e 3; at_part = 3; stands = refl; is_before = omega arith; has = refl }
 
 right_made : (s : Ty) → IsClosed s → IsMade given (right s)
 right_made s closed_s = record {
-  of_body = record { exprs = refl; pats = refl; bindings = refl; modes = refl; mismatches = refl; diagnostics = refl; pat_mismatches = refl; pat_diagnostics = refl; expr_variants = refl; pat_variants = refl };
-  closed = record {
-    exprs = each_entry IsClosed (right s).type_of_expr (closed_bool, (closed_bool, (closed_bool, (closed_u8, (closed_bool, (closed_s, (closed_unit, tt)))))));
-    pats = each_entry IsClosed (right s).type_of_pat (closed_bool, (closed_bool, (closed_bool, tt)));
-    bindings = each_entry IsClosed (right s).type_of_binding (closed_bool, tt);
-    placeholders = λ k s at. absurd (no_placeholder types k s at);
-    expected = each_entry (λ x. IsClosed x.expected) (right s).expr_mismatches (closed_u8, tt);
-    actual = each_entry (λ x. IsClosed x.actual) (right s).expr_mismatches (closed_bool, tt);
-    pat_expected = each_entry (λ x. IsClosed x.expected) (right s).pat_mismatches tt;
-    pat_actual = each_entry (λ x. IsClosed x.actual) (right s).pat_mismatches tt;
-    found = each_found IsClosed (right s).expr_diagnostics tt;
+  shape = record {
+    of_body = record { exprs = refl; pats = refl; bindings = refl; modes = refl; mismatches = refl; diagnostics = refl; pat_mismatches = refl; pat_diagnostics = refl; expr_variants = refl; pat_variants = refl };
+    closed = record {
+      exprs = each_entry IsClosed (right s).type_of_expr (closed_bool, (closed_bool, (closed_bool, (closed_u8, (closed_bool, (closed_s, (closed_unit, tt)))))));
+      pats = each_entry IsClosed (right s).type_of_pat (closed_bool, (closed_bool, (closed_bool, tt)));
+      bindings = each_entry IsClosed (right s).type_of_binding (closed_bool, tt);
+      placeholders = λ k s at. absurd (no_placeholder types k s at);
+      expected = each_entry (λ x. IsClosed x.expected) (right s).expr_mismatches (closed_u8, tt);
+      actual = each_entry (λ x. IsClosed x.actual) (right s).expr_mismatches (closed_bool, tt);
+      pat_expected = each_entry (λ x. IsClosed x.expected) (right s).pat_mismatches tt;
+      pat_actual = each_entry (λ x. IsClosed x.actual) (right s).pat_mismatches tt;
+      found = each_found IsClosed (right s).expr_diagnostics tt;
+    };
+    modes = λ x. each_placed (λ k m. IsBinder body (p k)) (right s).binding_modes ((b 0, None, refl), tt) x.0;
+    placeholders = none_placed given (right s) refl;
+    variants = record {
+      exprs = λ x. each_entry (NamesVariant given.body x) (right s).expr_variants tt x.0;
+      pats = λ x. each_entry (IsVariantPat given.body x) (right s).pat_variants tt x.0;
+    };
   };
   clauses = λ x h.
       each_below (λ k. ObeysOrMismatch given (right s) (e k)) 7 x.0
-      (((((((tt, (ty.Bool, refl, refl)), (ty.Bool, refl, refl)), (ty.Bool, refl, refl)), (u8, refl, refl)), (ty.Bool, refl, refl)), match_obeys s), ((tt, tt), (unit, refl, inl refl))) h;
+      (((((((tt, (ty.Bool, refl, refl)), (ty.Bool, refl, refl)), (ty.Bool, refl, refl)), (u8, refl, refl)), (ty.Bool, refl, refl)), match_obeys s), record { statements = (tt, tt); type = unit; has = refl; ends = inl refl }) h;
   kinds = λ x h. each_below (λ k. PatRule given (right s) (p k) (slice_get body.pats k)) 3 x.0 (((tt, (ty.Bool, refl, refl, refl)), (ty.Bool, refl, refl)), (ty.Bool, refl, refl)) h;
   params = one_param given (right s) (p 0) (w 0) refl refl (subst (PatTy (right s) (p 0)) (sym written) refl);
   bindings = λ v h. each_below (λ k. (r : Ty) × BindingTy (right s) (b k) r) 1 v.0 (tt, (ty.Bool, refl)) h;
@@ -138,17 +154,13 @@ right_made s closed_s = record {
   demands = λ x.
       each_placed (λ k (m : TypeMismatch). Demand given (right s) (e k) m.expected) (right s).expr_mismatches
       (inl (record { parent = inner (node.ExprId (e 5)); at_part = 4; role = arm 1; stands = record { node_is = omega arith; part = refl }; asks = inr (of_first s) }), tt) x.0;
-  modes = λ x. each_placed (λ k m. IsBinder body (p k)) (right s).binding_modes ((b 0, None, refl), tt) x.0;
-  placeholders = none_placed given (right s) refl;
-  diagnostics = λ x. each_entry (IsTrueDiagnostic given (right s) x) (right s).expr_diagnostics tt x.0;
-  pat_diagnostics = λ x. each_entry (IsTruePatDiagnostic given x) (right s).pat_diagnostics tt x.0;
-  variants = record {
-    exprs = λ x. each_entry (NamesVariant given.body x) (right s).expr_variants tt x.0;
-    pats = λ x. each_entry (IsVariantPat given.body x) (right s).pat_variants tt x.0;
+  complaints = record {
+    diagnostics = λ x. each_entry (IsTrueDiagnostic given (right s) x) (right s).expr_diagnostics tt x.0;
+    pat_diagnostics = λ x. each_entry (IsTruePatDiagnostic given x) (right s).pat_diagnostics tt x.0;
+    pat_truths = λ x. each_entry (IsTruePatMismatch given (right s) x) (right s).pat_mismatches tt x.0;
+    seen = λ i x found. absurd (cc);
+    said = λ i x found. absurd (cc);
   };
-  seen = λ i x found. absurd (cc);
-  said = λ i x found. absurd (cc);
-  pat_truths = λ x. each_entry (IsTruePatMismatch given (right s) x) (right s).pat_mismatches tt x.0;
 }
 
 pub each_typed : (s : Ty) → IsClosed s → IsTyped given (right s)
@@ -165,10 +177,10 @@ silent s = table_of s (None ∷ None ∷ None ∷ None ∷ None ∷ None ∷ Non
 
 pub none : (s : Ty) → IsTyped given (silent s) → ⊥
 none s h =
-    (let c = (h.clauses (e 5) (omega arith)).1 in
-    elim c.2.0.1 [
+    (let c = h.clauses (e 5) (omega arith) in
+    elim c.alternatives.0.1 [
       | inl first ↦
-          elim c.2.1.0.1 [
+          elim c.alternatives.1.0.1 [
             | inl second ↦ (
                 let a : u8 ≡ first.0 = only u8 first.0 first.1 in
                 let d : ty.Bool ≡ second.0 = only ty.Bool second.0 second.1 in

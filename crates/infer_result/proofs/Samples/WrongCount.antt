@@ -18,13 +18,15 @@ use Rattle.infer_result.specs.declared.diagnostics.InferenceDiagnostic.{Inferenc
 use Rattle.infer_result.specs.declared.diagnostics.InferenceDiagnostic.TheVariants as diagnostic
 use Rattle.infer_result.specs.Closed.{NamesVariant, IsVariantPat}
 use Rattle.infer_result.specs.Table.{HasTy, mismatch}
-use Rattle.infer_result.specs.Places.{Given, IsCallee, Demand}
-use Rattle.infer_result.specs.Rules.Expressions.{ObeysOrMismatch}
+use Rattle.infer_result.specs.Places.{Given}
+use Rattle.infer_result.specs.Kinds.Call.{IsCallee}
+use Rattle.infer_result.specs.Demands.{Demand}
+use Rattle.infer_result.specs.Rules.{ObeysOrMismatch}
 use Rattle.infer_result.specs.Truth.Mismatch.{IsTruePatMismatch}
-use Rattle.infer_result.specs.Truth.Calls.{IsTrueDiagnostic, IsTruePatDiagnostic}
+use Rattle.infer_result.specs.Truth.Diagnostics.{IsTrueDiagnostic, IsTruePatDiagnostic}
 use Rattle.infer_result.specs.Made.{IsMisfit, IsMade}
 use Rattle.infer_result.specs.Typed.{IsTyped}
-use Rattle.infer_result.specs.Derived.{typed_by_schedule}
+use Rattle.infer_result.proofs.Derived.{typed_by_schedule}
 use Rattle.infer_result.proofs.Samples.Small.{e, w, u8, one_u8, function_of, each_below, each_entry, each_found, each_placed, closed_u8, closed_unit, none_placed, no_placeholders, no_placeholder}
 use Rattle.infer_result.proofs.Samples.Calling.{function, calling, schedule, is_schedule, item, closed_item, obeyed, unseen, counted, asked_of_argument}
 
@@ -69,7 +71,7 @@ callee_stands : IsCallee given right (e 0) (fn_signature types none) []
 callee_stands = record { item = callable.FunctionId function; has = refl; signature = refl }
 
 call_obeys : ObeysOrMismatch given right (e 2)
-call_obeys = inl (fn_signature types none, [], callee_stands, inr refl, subst (HasTy right (e 2)) (sym output_is) refl)
+call_obeys = inl (record { signature = fn_signature types none; types = []; is_callee = callee_stands; arguments = inr refl; has = subst (HasTy right (e 2)) (sym output_is) refl })
 
 true_count : IsTrueDiagnostic given right (e 2) (wrong_count 0 1)
 true_count = (
@@ -89,38 +91,42 @@ true_count = (
 
 right_made : IsMade given right
 right_made = record {
-  of_body = record { exprs = refl; pats = refl; bindings = refl; modes = refl; mismatches = refl; diagnostics = refl; pat_mismatches = refl; pat_diagnostics = refl; expr_variants = refl; pat_variants = refl };
-  closed = record {
-    exprs = each_entry IsClosed right.type_of_expr (closed_item [] refl, (closed_u8, (closed_unit, (closed_unit, tt))));
-    pats = λ n s h. absurd (cc);
-    bindings = λ n s h. absurd (cc);
-    placeholders = λ k s at. absurd (no_placeholder types k s at);
-    expected = each_entry (λ x. IsClosed x.expected) right.expr_mismatches tt;
-    actual = each_entry (λ x. IsClosed x.actual) right.expr_mismatches tt;
-    pat_expected = each_entry (λ x. IsClosed x.expected) right.pat_mismatches tt;
-    pat_actual = each_entry (λ x. IsClosed x.actual) right.pat_mismatches tt;
-    found = each_found IsClosed right.expr_diagnostics (tt, tt);
+  shape = record {
+    of_body = record { exprs = refl; pats = refl; bindings = refl; modes = refl; mismatches = refl; diagnostics = refl; pat_mismatches = refl; pat_diagnostics = refl; expr_variants = refl; pat_variants = refl };
+    closed = record {
+      exprs = each_entry IsClosed right.type_of_expr (closed_item [] refl, (closed_u8, (closed_unit, (closed_unit, tt))));
+      pats = λ n s h. absurd (cc);
+      bindings = λ n s h. absurd (cc);
+      placeholders = λ k s at. absurd (no_placeholder types k s at);
+      expected = each_entry (λ x. IsClosed x.expected) right.expr_mismatches tt;
+      actual = each_entry (λ x. IsClosed x.actual) right.expr_mismatches tt;
+      pat_expected = each_entry (λ x. IsClosed x.expected) right.pat_mismatches tt;
+      pat_actual = each_entry (λ x. IsClosed x.actual) right.pat_mismatches tt;
+      found = each_found IsClosed right.expr_diagnostics (tt, tt);
+    };
+    modes = λ x m at. absurd (cc);
+    placeholders = none_placed given right refl;
+    variants = record {
+      exprs = λ x. each_entry (NamesVariant given.body x) right.expr_variants tt x.0;
+      pats = λ x. each_entry (IsVariantPat given.body x) right.pat_variants tt x.0;
+    };
   };
   clauses = λ x h.
       each_below (λ k. ObeysOrMismatch given right (e k)) 4 x.0
-      ((((tt, ([], refl, refl)), (u8, refl, refl)), call_obeys), (tt, (unit, refl, (unit, refl, inl refl)))) h;
+      ((((tt, ([], refl, refl)), (u8, refl, refl)), call_obeys), record { statements = tt; type = unit; has = refl; ends = (unit, refl, inl refl) }) h;
   kinds = λ x h. absurd (omega arith);
   params = λ i q s found is. absurd (cc);
   bindings = λ v h. absurd (omega arith);
   body_clause = (unit, refl, inl refl);
   misfits = λ x. each_entry (IsMisfit given right x) right.expr_mismatches tt x.0;
   demands = λ x. each_entry (λ m. Demand given right x m.expected) right.expr_mismatches tt x.0;
-  modes = λ x m at. absurd (cc);
-  placeholders = none_placed given right refl;
-  diagnostics = λ x. each_placed (λ k. IsTrueDiagnostic given right (e k)) right.expr_diagnostics (true_count, tt) x.0;
-  pat_diagnostics = λ x. each_entry (IsTruePatDiagnostic given x) right.pat_diagnostics tt x.0;
-  variants = record {
-    exprs = λ x. each_entry (NamesVariant given.body x) right.expr_variants tt x.0;
-    pats = λ x. each_entry (IsVariantPat given.body x) right.pat_variants tt x.0;
+  complaints = record {
+    diagnostics = λ x. each_placed (λ k. IsTrueDiagnostic given right (e k)) right.expr_diagnostics (true_count, tt) x.0;
+    pat_diagnostics = λ x. each_entry (IsTruePatDiagnostic given x) right.pat_diagnostics tt x.0;
+    pat_truths = λ x. each_entry (IsTruePatMismatch given right x) right.pat_mismatches tt x.0;
+    seen = λ i x found. absurd (cc);
+    said = λ i x found. absurd (cc);
   };
-  seen = λ i x found. absurd (cc);
-  said = λ i x found. absurd (cc);
-  pat_truths = λ x. each_entry (IsTruePatMismatch given right x) right.pat_mismatches tt x.0;
 }
 
 pub right_typed : IsTyped given right
@@ -139,12 +145,12 @@ silent h =
 -- the two numbers exchanged
 pub exchanged : IsTyped given (table_of None (Some (wrong_count 1 0))) → ⊥
 exchanged h =
-    (let m = (h.diagnostics (e 2) (wrong_count 1 0) refl).1 in
+    (let m = (h.complaints.diagnostics (e 2) (wrong_count 1 0) refl).1 in
     let (one, other) = counted types none one_u8 unit _ [] refl 1 0 m in cc)
 
 -- the complaint names another node
 pub of_another : IsTyped given (table_of None (Some (diagnostic.MismatchedArgCount (e 1) 0 1))) → ⊥
-of_another h = (let numbers : (e 1).0 ≡ (e 2).0 = ap (λ (x : ExprId). x.0) (h.diagnostics (e 2) (diagnostic.MismatchedArgCount (e 1) 0 1) refl).0 in cc)
+of_another h = (let numbers : (e 1).0 ≡ (e 2).0 = ap (λ (x : ExprId). x.0) (h.complaints.diagnostics (e 2) (diagnostic.MismatchedArgCount (e 1) 0 1) refl).0 in cc)
 
 -- a mismatch at the argument, of which nothing is asked
 pub surplus : (expected actual : Ty) → IsTyped given (table_of (Some (mismatch expected actual)) (Some (wrong_count 0 1))) → ⊥

@@ -21,7 +21,7 @@ use Rattle.hir_facts.specs.declared.raw.RawBody.{RawBody}
 use Rattle.hir_facts.specs.declared.schedule.Schedule.{Schedule}
 use Rattle.hir_types.specs.Types.{unit}
 use Rattle.hir_types.specs.Erasure.{IsClosed}
-use Rattle.hir_types.specs.Layers.{has_hole_adt}
+use Rattle.hir_types.proofs.Layers.{has_hole_adt}
 use Rattle.hir_types.specs.Assigned.{with_params}
 use Rattle.hir_types.specs.Folding.{replaced_uint}
 use Rattle.hir_facts.specs.Types.{lowered_within, written_type}
@@ -32,15 +32,16 @@ use Rattle.infer_result.specs.declared.diagnostics.InferenceDiagnostic.{Inferenc
 use Rattle.infer_result.specs.declared.diagnostics.InferenceDiagnostic.TheVariants as diagnostic
 use Rattle.infer_result.specs.declared.modes.BindingMode.TheVariants as mode
 use Rattle.infer_result.specs.Table.{PatTy, BindingTy}
-use Rattle.infer_result.specs.Places.{Given, IsVariantAt, Demand}
-use Rattle.infer_result.specs.Rules.Expressions.{ObeysOrMismatch}
-use Rattle.infer_result.specs.Rules.Patterns.{PatRule}
+use Rattle.infer_result.specs.Places.{Given}
+use Rattle.infer_result.specs.Kinds.Constructor.{IsVariantAt}
+use Rattle.infer_result.specs.Demands.{Demand}
+use Rattle.infer_result.specs.Rules.{ObeysOrMismatch, PatRule}
 use Rattle.infer_result.specs.Truth.Mismatch.{IsTruePatMismatch}
-use Rattle.infer_result.specs.Truth.Calls.{IsTrueDiagnostic, IsTruePatDiagnostic}
+use Rattle.infer_result.specs.Truth.Diagnostics.{IsTrueDiagnostic, IsTruePatDiagnostic}
 use Rattle.infer_result.specs.Closed.{IsBinder, NamesVariant, IsVariantPat}
 use Rattle.infer_result.specs.Made.{IsMisfit, IsMade}
 use Rattle.infer_result.specs.Typed.{IsTyped}
-use Rattle.infer_result.specs.Derived.{typed_by_schedule}
+use Rattle.infer_result.proofs.Derived.{typed_by_schedule}
 use Rattle.infer_result.proofs.Samples.Small.{e, p, b, w, u8, plain, body_with, each_below, each_node, apart_by, one_param, only, each_entry, each_found, each_placed, closed_u8, closed_unit, none_placed, no_placeholders, no_placeholder}
 use Rattle.infer_result.proofs.Samples.Constructors.{v, adt, adt_of, variant_of, scope_of_adt}
 
@@ -144,21 +145,29 @@ complaint_is_true = (
 
 right_made : IsMade given right
 right_made = record {
-  of_body = record { exprs = refl; pats = refl; bindings = refl; modes = refl; mismatches = refl; diagnostics = refl; pat_mismatches = refl; pat_diagnostics = refl; expr_variants = refl; pat_variants = refl };
-  closed = record {
-    exprs = each_entry IsClosed right.type_of_expr (closed_pair, (closed_unit, tt));
-    pats = each_entry IsClosed right.type_of_pat (closed_pair, (closed_pair, (closed_u8, tt)));
-    bindings = each_entry IsClosed right.type_of_binding (closed_pair, (closed_u8, tt));
-    placeholders = λ k s at. absurd (no_placeholder types k s at);
-    expected = each_entry (λ x. IsClosed x.expected) right.expr_mismatches tt;
-    actual = each_entry (λ x. IsClosed x.actual) right.expr_mismatches tt;
-    pat_expected = each_entry (λ x. IsClosed x.expected) right.pat_mismatches tt;
-    pat_actual = each_entry (λ x. IsClosed x.actual) right.pat_mismatches tt;
-    found = each_found IsClosed right.expr_diagnostics tt;
+  shape = record {
+    of_body = record { exprs = refl; pats = refl; bindings = refl; modes = refl; mismatches = refl; diagnostics = refl; pat_mismatches = refl; pat_diagnostics = refl; expr_variants = refl; pat_variants = refl };
+    closed = record {
+      exprs = each_entry IsClosed right.type_of_expr (closed_pair, (closed_unit, tt));
+      pats = each_entry IsClosed right.type_of_pat (closed_pair, (closed_pair, (closed_u8, tt)));
+      bindings = each_entry IsClosed right.type_of_binding (closed_pair, (closed_u8, tt));
+      placeholders = λ k s at. absurd (no_placeholder types k s at);
+      expected = each_entry (λ x. IsClosed x.expected) right.expr_mismatches tt;
+      actual = each_entry (λ x. IsClosed x.actual) right.expr_mismatches tt;
+      pat_expected = each_entry (λ x. IsClosed x.expected) right.pat_mismatches tt;
+      pat_actual = each_entry (λ x. IsClosed x.actual) right.pat_mismatches tt;
+      found = each_found IsClosed right.expr_diagnostics tt;
+    };
+    modes = λ x. each_placed (λ k m. IsBinder body (p k)) right.binding_modes ((b 0, None, refl), ((b 1, None, refl), tt)) x.0;
+    placeholders = none_placed given right refl;
+    variants = record {
+      exprs = λ x. each_entry (NamesVariant given.body x) right.expr_variants tt x.0;
+      pats = λ x. each_placed (λ k. IsVariantPat given.body (p k)) right.pat_variants (inr (p 2 ∷ [], refl), tt) x.0;
+    };
   };
   clauses = λ x h.
       each_below (λ k. ObeysOrMismatch given right (e k)) 2 x.0
-      ((tt, (pair, refl, refl)), (((pair, refl, (pair, refl, inl refl)), tt), (unit, refl, inl refl))) h;
+      ((tt, (pair, refl, refl)), record { statements = ((pair, refl, (pair, refl, inl refl)), tt); type = unit; has = refl; ends = inl refl }) h;
   kinds = λ x h.
       each_below (λ k. PatRule given right (p k) (slice_get body.pats k)) 3 x.0
       (((tt, (pair, refl, refl, refl)), pattern_obeys), (u8, refl, refl, refl)) h;
@@ -167,17 +176,13 @@ right_made = record {
   body_clause = (unit, refl, inl refl);
   misfits = λ x. each_entry (IsMisfit given right x) right.expr_mismatches tt x.0;
   demands = λ x. each_entry (λ m. Demand given right x m.expected) right.expr_mismatches tt x.0;
-  modes = λ x. each_placed (λ k m. IsBinder body (p k)) right.binding_modes ((b 0, None, refl), ((b 1, None, refl), tt)) x.0;
-  placeholders = none_placed given right refl;
-  diagnostics = λ x. each_entry (IsTrueDiagnostic given right x) right.expr_diagnostics tt x.0;
-  pat_diagnostics = λ x. each_placed (λ k. IsTruePatDiagnostic given (p k)) right.pat_diagnostics (complaint_is_true, tt) x.0;
-  variants = record {
-    exprs = λ x. each_entry (NamesVariant given.body x) right.expr_variants tt x.0;
-    pats = λ x. each_placed (λ k. IsVariantPat given.body (p k)) right.pat_variants (inr (p 2 ∷ [], refl), tt) x.0;
+  complaints = record {
+    diagnostics = λ x. each_entry (IsTrueDiagnostic given right x) right.expr_diagnostics tt x.0;
+    pat_diagnostics = λ x. each_placed (λ k. IsTruePatDiagnostic given (p k)) right.pat_diagnostics (complaint_is_true, tt) x.0;
+    pat_truths = λ x. each_entry (IsTruePatMismatch given right x) right.pat_mismatches tt x.0;
+    seen = λ i x found. absurd (cc);
+    said = λ i x found. absurd (cc);
   };
-  seen = λ i x found. absurd (cc);
-  said = λ i x found. absurd (cc);
-  pat_truths = λ x. each_entry (IsTruePatMismatch given right x) right.pat_mismatches tt x.0;
 }
 
 pub right_typed : IsTyped given right
@@ -210,7 +215,7 @@ counted n expected found (is, c) =
 -- a complaint with other numbers, or about another node
 pub other_count : (n : ExprOrPatId) (expected found : ℕ) → ((n ≡ node.PatId (p 1)) × (expected ≡ 2) × (found ≡ 1) → ⊥)
     → IsTyped given (table_of u8 None (Some (wrong_count n expected found)) None) → ⊥
-other_count n expected found differ h = differ (counted n expected found (h.pat_diagnostics (p 1) (wrong_count n expected found) refl))
+other_count n expected found differ h = differ (counted n expected found (h.complaints.pat_diagnostics (p 1) (wrong_count n expected found) refl))
 
 -- the numbers exchanged
 pub exchanged : IsTyped given (table_of u8 None (Some (wrong_count (node.PatId (p 1)) 1 2)) None) → ⊥
@@ -218,18 +223,18 @@ exchanged = other_count (node.PatId (p 1)) 1 2 (λ same. (let one = same.1 in ab
 
 -- a complaint about arguments of a call
 pub of_call : (n : ExprId) (expected found : ℕ) → IsTyped given (table_of u8 None (Some (diagnostic.MismatchedArgCount n expected found)) None) → ⊥
-of_call n expected found h = h.pat_diagnostics (p 1) (diagnostic.MismatchedArgCount n expected found) refl
+of_call n expected found h = h.complaints.pat_diagnostics (p 1) (diagnostic.MismatchedArgCount n expected found) refl
 
 -- that what is called is no function
 pub of_callee : (n : ExprId) (s : Ty) → IsTyped given (table_of u8 None (Some (diagnostic.ExpectedFunction n s)) None) → ⊥
-of_callee n s h = h.pat_diagnostics (p 1) (diagnostic.ExpectedFunction n s) refl
+of_callee n s h = h.complaints.pat_diagnostics (p 1) (diagnostic.ExpectedFunction n s) refl
 
 -- one more at the parameter `o`, or at the part `x`
 pub at_parameter : (n : ExprOrPatId) (expected found : ℕ) → IsTyped given (table_of u8 (Some (wrong_count n expected found)) (Some the_complaint) None) → ⊥
-at_parameter n expected found h = (let is = (h.pat_diagnostics (p 0) (wrong_count n expected found) refl).1.is_pat in cc)
+at_parameter n expected found h = (let is = (h.complaints.pat_diagnostics (p 0) (wrong_count n expected found) refl).1.is_pat in cc)
 
 pub at_binding : (n : ExprOrPatId) (expected found : ℕ) → IsTyped given (table_of u8 None (Some the_complaint) (Some (wrong_count n expected found))) → ⊥
-at_binding n expected found h = (let is = (h.pat_diagnostics (p 2) (wrong_count n expected found) refl).1.is_pat in cc)
+at_binding n expected found h = (let is = (h.complaints.pat_diagnostics (p 2) (wrong_count n expected found) refl).1.is_pat in cc)
 
 -- `x` has another type than the first field
 pub other_field : (x : Ty) → (x ≡ u8 → ⊥) → IsTyped given (table_of x None (Some the_complaint) None) → ⊥

@@ -21,15 +21,16 @@ use Rattle.infer_result.specs.declared.result.InferenceResult.{InferenceResult}
 use Rattle.infer_result.specs.declared.result.TypeMismatch.{TypeMismatch}
 use Rattle.infer_result.specs.declared.modes.BindingMode.TheVariants as mode
 use Rattle.infer_result.specs.Table.{HasTy, PatTy, BindingTy, mismatch}
-use Rattle.infer_result.specs.Places.{Given, Incoming, Demand}
-use Rattle.infer_result.specs.Rules.Expressions.{ObeysOrMismatch}
-use Rattle.infer_result.specs.Rules.Patterns.{PatRule}
+use Rattle.infer_result.specs.Places.{Given}
+use Rattle.infer_result.specs.Incoming.{Incoming}
+use Rattle.infer_result.specs.Demands.{Demand}
+use Rattle.infer_result.specs.Rules.{ObeysOrMismatch, PatRule}
 use Rattle.infer_result.specs.Truth.Mismatch.{IsTruePatMismatch}
-use Rattle.infer_result.specs.Truth.Calls.{IsTrueDiagnostic, IsTruePatDiagnostic}
+use Rattle.infer_result.specs.Truth.Diagnostics.{IsTrueDiagnostic, IsTruePatDiagnostic}
 use Rattle.infer_result.specs.Closed.{IsBinder, NamesVariant, IsVariantPat}
 use Rattle.infer_result.specs.Made.{IsMisfit, IsMade}
 use Rattle.infer_result.specs.Typed.{IsTyped}
-use Rattle.infer_result.specs.Derived.{typed_by_schedule}
+use Rattle.infer_result.proofs.Derived.{typed_by_schedule}
 use Rattle.infer_result.proofs.Samples.Small.{scope_with, e, p, b, w, u8, one_u8, plain, body_with, each_below, each_node, apart_by, asked, comes, one_param, only, each_entry, each_found, each_placed, closed_u8, closed_bool, closed_unit, u8_is_no_bool, bool_is_no_unit, u8_differs_bool, none_placed, no_placeholders, no_placeholder}
 
 abbrev body : RawBody
@@ -104,10 +105,14 @@ abbrev right : InferenceResult
 right = table_of asks_bool asks_bool None
 
 match_obeys : ObeysOrMismatch given right (e 5)
-match_obeys = (
-  (ty.Bool, refl, ((u8, refl, inr (mismatch ty.Bool u8, refl)), ((ty.Bool, refl, inl refl), tt))),
-  (unit, refl, (((u8, refl, inr (mismatch ty.Bool u8, refl)), inl (unit, refl, refl)), ((tt, inl (unit, refl, refl)), tt))),
-)
+match_obeys = record {
+  scrutinee = ty.Bool;
+  comes = refl;
+  patterns = ((u8, refl, inr (mismatch ty.Bool u8, refl)), ((ty.Bool, refl, inl refl), tt));
+  type = unit;
+  has = refl;
+  alternatives = (((u8, refl, inr (mismatch ty.Bool u8, refl)), inl (unit, refl, refl)), ((tt, inl (unit, refl, refl)), tt));
+}
 
 is_misfit : (x : ExprId) → HasTy right x u8 → IsMisfit given right x (mismatch ty.Bool u8)
 is_misfit x has = record { differ = λ same. u8_differs_bool (sym same); actual = inl has }
@@ -118,21 +123,29 @@ comes_in = record { parent = inner (node.ExprId (e 5)); at_part = 1; role = arm_
 
 right_made : IsMade given right
 right_made = record {
-  of_body = record { exprs = refl; pats = refl; bindings = refl; modes = refl; mismatches = refl; diagnostics = refl; pat_mismatches = refl; pat_diagnostics = refl; expr_variants = refl; pat_variants = refl };
-  closed = record {
-    exprs = each_entry IsClosed right.type_of_expr (closed_bool, (closed_u8, (closed_u8, (closed_unit, (closed_unit, (closed_unit, (closed_unit, tt)))))));
-    pats = each_entry IsClosed right.type_of_pat (closed_bool, (closed_u8, (closed_bool, tt)));
-    bindings = each_entry IsClosed right.type_of_binding (closed_bool, tt);
-    placeholders = λ k s at. absurd (no_placeholder types k s at);
-    expected = each_entry (λ x. IsClosed x.expected) right.expr_mismatches (closed_bool, (closed_bool, tt));
-    actual = each_entry (λ x. IsClosed x.actual) right.expr_mismatches (closed_u8, (closed_u8, tt));
-    pat_expected = each_entry (λ x. IsClosed x.expected) right.pat_mismatches tt;
-    pat_actual = each_entry (λ x. IsClosed x.actual) right.pat_mismatches tt;
-    found = each_found IsClosed right.expr_diagnostics tt;
+  shape = record {
+    of_body = record { exprs = refl; pats = refl; bindings = refl; modes = refl; mismatches = refl; diagnostics = refl; pat_mismatches = refl; pat_diagnostics = refl; expr_variants = refl; pat_variants = refl };
+    closed = record {
+      exprs = each_entry IsClosed right.type_of_expr (closed_bool, (closed_u8, (closed_u8, (closed_unit, (closed_unit, (closed_unit, (closed_unit, tt)))))));
+      pats = each_entry IsClosed right.type_of_pat (closed_bool, (closed_u8, (closed_bool, tt)));
+      bindings = each_entry IsClosed right.type_of_binding (closed_bool, tt);
+      placeholders = λ k s at. absurd (no_placeholder types k s at);
+      expected = each_entry (λ x. IsClosed x.expected) right.expr_mismatches (closed_bool, (closed_bool, tt));
+      actual = each_entry (λ x. IsClosed x.actual) right.expr_mismatches (closed_u8, (closed_u8, tt));
+      pat_expected = each_entry (λ x. IsClosed x.expected) right.pat_mismatches tt;
+      pat_actual = each_entry (λ x. IsClosed x.actual) right.pat_mismatches tt;
+      found = each_found IsClosed right.expr_diagnostics tt;
+    };
+    modes = λ x. each_placed (λ k m. IsBinder body (p k)) right.binding_modes ((b 0, None, refl), tt) x.0;
+    placeholders = none_placed given right refl;
+    variants = record {
+      exprs = λ x. each_entry (NamesVariant given.body x) right.expr_variants tt x.0;
+      pats = λ x. each_entry (IsVariantPat given.body x) right.pat_variants tt x.0;
+    };
   };
   clauses = λ x h.
       each_below (λ k. ObeysOrMismatch given right (e k)) 7 x.0
-      (((((((tt, (ty.Bool, refl, refl)), (u8, refl, refl)), (u8, refl, refl)), ([], refl, tt)), ([], refl, tt)), match_obeys), ((tt, tt), (unit, refl, inl refl))) h;
+      (((((((tt, (ty.Bool, refl, refl)), (u8, refl, refl)), (u8, refl, refl)), ([], refl, tt)), ([], refl, tt)), match_obeys), record { statements = (tt, tt); type = unit; has = refl; ends = inl refl }) h;
   kinds = λ x h. each_below (λ k. PatRule given right (p k) (slice_get body.pats k)) 3 x.0 (((tt, (ty.Bool, refl, refl, refl)), (u8, refl, refl)), (ty.Bool, refl)) h;
   params = one_param given right (p 0) (w 0) refl refl (subst (PatTy right (p 0)) (sym written) refl);
   bindings = λ v h. each_below (λ k. (s : Ty) × BindingTy right (b k) s) 1 v.0 (tt, (ty.Bool, refl)) h;
@@ -143,17 +156,13 @@ right_made = record {
         inl (record { parent = inner (node.PatId (p 1)); at_part = 0; role = pattern_literal; stands = record { node_is = omega arith; part = refl }; asks = (refl, comes_in) }),
         (inl (record { parent = inner (node.ExprId (e 5)); at_part = 3; role = guard 0; stands = record { node_is = omega arith; part = refl }; asks = refl }), tt),
       ) x.0;
-  modes = λ x. each_placed (λ k m. IsBinder body (p k)) right.binding_modes ((b 0, None, refl), tt) x.0;
-  placeholders = none_placed given right refl;
-  diagnostics = λ x. each_entry (IsTrueDiagnostic given right x) right.expr_diagnostics tt x.0;
-  pat_diagnostics = λ x. each_entry (IsTruePatDiagnostic given x) right.pat_diagnostics tt x.0;
-  variants = record {
-    exprs = λ x. each_entry (NamesVariant given.body x) right.expr_variants tt x.0;
-    pats = λ x. each_entry (IsVariantPat given.body x) right.pat_variants tt x.0;
+  complaints = record {
+    diagnostics = λ x. each_entry (IsTrueDiagnostic given right x) right.expr_diagnostics tt x.0;
+    pat_diagnostics = λ x. each_entry (IsTruePatDiagnostic given x) right.pat_diagnostics tt x.0;
+    pat_truths = λ x. each_entry (IsTruePatMismatch given right x) right.pat_mismatches tt x.0;
+    seen = λ i x found. absurd (cc);
+    said = λ i x found. absurd (cc);
   };
-  seen = λ i x found. absurd (cc);
-  said = λ i x found. absurd (cc);
-  pat_truths = λ x. each_entry (IsTruePatMismatch given right x) right.pat_mismatches tt x.0;
 }
 
 pub right_typed : IsTyped given right
@@ -164,29 +173,29 @@ right_typed = typed_by_schedule given right schedule is_schedule right_made
 -- the literal in silence
 pub silent_literal : IsTyped given (table_of None asks_bool None) → ⊥
 silent_literal h =
-    (let m = (h.clauses (e 5) (omega arith)).0 in
-    let s : ty.Bool ≡ m.0 = only ty.Bool m.0 m.1 in
-    let c = m.2.0 in
+    (let m = h.clauses (e 5) (omega arith) in
+    let s : ty.Bool ≡ m.scrutinee = only ty.Bool m.scrutinee m.comes in
+    let c = m.patterns.0 in
     let a : u8 ≡ c.0 = only u8 c.0 c.1 in
     elim c.2 [ inl same ↦ u8_is_no_bool (a ∙ (same ∙ sym s)) | inr q ↦ (let clash = q.1 in cc) ])
 
 -- the mismatch at the pattern in the place of its literal
 pub at_pattern : IsTyped given (table_of None asks_bool asks_bool) → ⊥
 at_pattern h =
-    (let m = (h.clauses (e 5) (omega arith)).0 in
-    let s : ty.Bool ≡ m.0 = only ty.Bool m.0 m.1 in
-    let c = m.2.0 in
+    (let m = h.clauses (e 5) (omega arith) in
+    let s : ty.Bool ≡ m.scrutinee = only ty.Bool m.scrutinee m.comes in
+    let c = m.patterns.0 in
     let a : u8 ≡ c.0 = only u8 c.0 c.1 in
     elim c.2 [ inl same ↦ u8_is_no_bool (a ∙ (same ∙ sym s)) | inr q ↦ (let clash = q.1 in cc) ])
 
 -- a mismatch at the pattern beside the one at its literal
 pub twice : IsTyped given (table_of asks_bool asks_bool asks_bool) → ⊥
-twice h = (h.pat_truths (p 1) (mismatch ty.Bool u8) refl).says
+twice h = (h.complaints.pat_truths (p 1) (mismatch ty.Bool u8) refl).says
 
 -- the guard in silence
 pub silent_guard : IsTyped given (table_of asks_bool None None) → ⊥
 silent_guard h =
-    (let c = (h.clauses (e 5) (omega arith)).1.2.0.0 in
+    (let c = (h.clauses (e 5) (omega arith)).alternatives.0.0 in
     let a : u8 ≡ c.0 = only u8 c.0 c.1 in
     elim c.2 [ inl same ↦ u8_differs_bool (ap erased a ∙ same) | inr q ↦ (let clash = q.1 in cc) ])
 

@@ -17,21 +17,23 @@ use Rattle.hir_types.specs.Types.{unit}
 use Rattle.hir_facts.specs.CarriedTypes.{IsCarriedType, carried_integer, carried_error, carried_tuple, same_carried}
 use Rattle.hir_facts.specs.Types.{lowered_within, written_type, filled_within}
 use Rattle.hir_types.specs.Erasure.{Same, IsClosed}
-use Rattle.hir_types.specs.Layers.{has_hole_tuple}
+use Rattle.hir_types.proofs.Layers.{has_hole_tuple}
 use Rattle.hir_facts.specs.Order.{let_pattern, subpattern, the_body, inner, IsSchedule, start, end, after, Fits, parts}
 use Rattle.infer_result.specs.declared.result.InferenceResult.{InferenceResult}
 use Rattle.infer_result.specs.declared.result.TypeMismatch.{TypeMismatch}
 use Rattle.infer_result.specs.declared.modes.BindingMode.TheVariants as mode
 use Rattle.infer_result.specs.Table.{PatTy, BindingTy, mismatch}
-use Rattle.infer_result.specs.Places.{Given, declared, Incoming, Demand}
-use Rattle.infer_result.specs.Rules.Expressions.{ObeysOrMismatch}
-use Rattle.infer_result.specs.Rules.Patterns.{AllPatsAt, PatRule}
+use Rattle.infer_result.specs.Places.{Given, declared}
+use Rattle.infer_result.specs.Incoming.{Incoming}
+use Rattle.infer_result.specs.Demands.{Demand}
+use Rattle.infer_result.specs.Rules.{ObeysOrMismatch, PatRule}
+use Rattle.infer_result.specs.Pats.Tuple.{AllPatsAt}
 use Rattle.infer_result.specs.Truth.Mismatch.{IsTruePatMismatch}
-use Rattle.infer_result.specs.Truth.Calls.{IsTrueDiagnostic, IsTruePatDiagnostic}
+use Rattle.infer_result.specs.Truth.Diagnostics.{IsTrueDiagnostic, IsTruePatDiagnostic}
 use Rattle.infer_result.specs.Closed.{IsBinder, NamesVariant, IsVariantPat}
 use Rattle.infer_result.specs.Made.{IsMisfit, IsMade}
 use Rattle.infer_result.specs.Typed.{IsTyped}
-use Rattle.infer_result.specs.Derived.{tuple_parts, typed_by_schedule}
+use Rattle.infer_result.proofs.Derived.{tuple_parts, typed_by_schedule}
 use Rattle.infer_result.proofs.Samples.Small.{scope_with, e, p, b, w, u8, plain, body_with, each_below, each_node, apart_by, comes, one_param, only, each_entry, each_found, each_placed, closed_u8, closed_unit, closed_error, u8_is_no_error, u8_is_no_tuple, none_placed, no_placeholders, no_placeholder, none_recorded}
 
 abbrev body : RawBody
@@ -116,22 +118,34 @@ single_differs_pair h = single_is_no_pair (same_carried single pair (carried_tup
 
 block_obeys : ObeysOrMismatch given right (e 1)
 block_obeys =
-    rw (declared_single right)
-    (((none_recorded given right (tt, (tt, tt)) (w 1), (single, refl, inl refl), (pair, refl, inr (mismatch single pair, refl))), tt), (unit, refl, inl refl))
+    record {
+      statements = rw (declared_single right) ((none_recorded given right (tt, (tt, tt)) (w 1), (single, refl, inl refl), (pair, refl, inr (mismatch single pair, refl))), tt);
+      type = unit;
+      has = refl;
+      ends = inl refl;
+    }
 
 right_made : IsMade given right
 right_made = record {
-  of_body = record { exprs = refl; pats = refl; bindings = refl; modes = refl; mismatches = refl; diagnostics = refl; pat_mismatches = refl; pat_diagnostics = refl; expr_variants = refl; pat_variants = refl };
-  closed = record {
-    exprs = each_entry IsClosed right.type_of_expr (closed_single, (closed_unit, tt));
-    pats = each_entry IsClosed right.type_of_pat (closed_single, (closed_pair, (closed_u8, (closed_error, tt))));
-    bindings = each_entry IsClosed right.type_of_binding (closed_single, (closed_u8, (closed_error, tt)));
-    placeholders = λ k s at. absurd (no_placeholder types k s at);
-    expected = each_entry (λ x. IsClosed x.expected) right.expr_mismatches tt;
-    actual = each_entry (λ x. IsClosed x.actual) right.expr_mismatches tt;
-    pat_expected = each_entry (λ x. IsClosed x.expected) right.pat_mismatches (closed_single, tt);
-    pat_actual = each_entry (λ x. IsClosed x.actual) right.pat_mismatches (closed_pair, tt);
-    found = each_found IsClosed right.expr_diagnostics tt;
+  shape = record {
+    of_body = record { exprs = refl; pats = refl; bindings = refl; modes = refl; mismatches = refl; diagnostics = refl; pat_mismatches = refl; pat_diagnostics = refl; expr_variants = refl; pat_variants = refl };
+    closed = record {
+      exprs = each_entry IsClosed right.type_of_expr (closed_single, (closed_unit, tt));
+      pats = each_entry IsClosed right.type_of_pat (closed_single, (closed_pair, (closed_u8, (closed_error, tt))));
+      bindings = each_entry IsClosed right.type_of_binding (closed_single, (closed_u8, (closed_error, tt)));
+      placeholders = λ k s at. absurd (no_placeholder types k s at);
+      expected = each_entry (λ x. IsClosed x.expected) right.expr_mismatches tt;
+      actual = each_entry (λ x. IsClosed x.actual) right.expr_mismatches tt;
+      pat_expected = each_entry (λ x. IsClosed x.expected) right.pat_mismatches (closed_single, tt);
+      pat_actual = each_entry (λ x. IsClosed x.actual) right.pat_mismatches (closed_pair, tt);
+      found = each_found IsClosed right.expr_diagnostics tt;
+    };
+    modes = λ x. each_placed (λ k m. IsBinder body (p k)) right.binding_modes ((b 0, None, refl), ((b 1, None, refl), ((b 2, None, refl), tt))) x.0;
+    placeholders = none_placed given right refl;
+    variants = record {
+      exprs = λ x. each_entry (NamesVariant given.body x) right.expr_variants tt x.0;
+      pats = λ x. each_entry (IsVariantPat given.body x) right.pat_variants tt x.0;
+    };
   };
   clauses = λ x h. each_below (λ k. ObeysOrMismatch given right (e k)) 2 x.0 ((tt, (single, refl, refl)), block_obeys) h;
   kinds = λ x h.
@@ -142,19 +156,15 @@ right_made = record {
   body_clause = (unit, refl, inl refl);
   misfits = λ x. each_entry (IsMisfit given right x) right.expr_mismatches tt x.0;
   demands = λ x. each_entry (λ m. Demand given right x m.expected) right.expr_mismatches tt x.0;
-  modes = λ x. each_placed (λ k m. IsBinder body (p k)) right.binding_modes ((b 0, None, refl), ((b 1, None, refl), ((b 2, None, refl), tt))) x.0;
-  placeholders = none_placed given right refl;
-  diagnostics = λ x. each_entry (IsTrueDiagnostic given right x) right.expr_diagnostics tt x.0;
-  pat_diagnostics = λ x. each_entry (IsTruePatDiagnostic given x) right.pat_diagnostics tt x.0;
-  variants = record {
-    exprs = λ x. each_entry (NamesVariant given.body x) right.expr_variants tt x.0;
-    pats = λ x. each_entry (IsVariantPat given.body x) right.pat_variants tt x.0;
+  complaints = record {
+    diagnostics = λ x. each_entry (IsTrueDiagnostic given right x) right.expr_diagnostics tt x.0;
+    pat_diagnostics = λ x. each_entry (IsTruePatDiagnostic given x) right.pat_diagnostics tt x.0;
+    pat_truths = λ x.
+        each_placed (λ k. IsTruePatMismatch given right (p k)) right.pat_mismatches
+        (record { says = tt; differ = single_differs_pair; actual = refl; incoming = record { parent = inner (node.ExprId (e 1)); at_part = 1; role = let_pattern (Some (w 1)) (Some (e 0)); stands = record { node_is = omega arith; part = refl }; gives = (none_recorded given right (tt, (tt, tt)) (w 1), sym (declared_single right)) } }, tt) x.0;
+    seen = λ i x found. absurd (cc);
+    said = λ i x found. absurd (cc);
   };
-  seen = λ i x found. absurd (cc);
-  said = λ i x found. absurd (cc);
-  pat_truths = λ x.
-      each_placed (λ k. IsTruePatMismatch given right (p k)) right.pat_mismatches
-      (record { says = tt; differ = single_differs_pair; actual = refl; incoming = record { parent = inner (node.ExprId (e 1)); at_part = 1; role = let_pattern (Some (w 1)) (Some (e 0)); stands = record { node_is = omega arith; part = refl }; gives = (none_recorded given right (tt, (tt, tt)) (w 1), sym (declared_single right)) } }, tt) x.0;
 }
 
 pub right_typed : IsTyped given right
@@ -165,7 +175,7 @@ right_typed = typed_by_schedule given right schedule is_schedule right_made
 -- no mismatch
 pub none : IsTyped given (table_of pair ty.Error (None ∷ None ∷ None ∷ None ∷ [])) → ⊥
 none h =
-    (let c = (h.clauses (e 1) (omega arith)).0.0.2 in
+    (let c = (h.clauses (e 1) (omega arith)).statements.0.2 in
     let a : pair ≡ c.0 = only pair c.0 c.1 in
     elim c.2 [ inl same ↦ single_is_no_pair (sym (a ∙ (same ∙ declared_single (table_of pair ty.Error (None ∷ None ∷ None ∷ None ∷ []))))) | inr m ↦ (let clash = m.1 in cc) ])
 
@@ -191,12 +201,12 @@ incoming t u m =
 
 -- another type expected than comes in
 pub another_expected : IsTyped given (table_of pair ty.Error (None ∷ Some (mismatch u8 pair) ∷ None ∷ None ∷ [])) → ⊥
-another_expected h = u8_is_no_tuple (u8 ∷ []) (sym (incoming _ u8 (h.pat_truths (p 1) (mismatch u8 pair) refl).incoming))
+another_expected h = u8_is_no_tuple (u8 ∷ []) (sym (incoming _ u8 (h.complaints.pat_truths (p 1) (mismatch u8 pair) refl).incoming))
 
 -- the types exchanged
 pub exchanged : IsTyped given (table_of pair ty.Error (None ∷ Some (mismatch pair single) ∷ None ∷ None ∷ [])) → ⊥
-exchanged h = single_is_no_pair (sym (only pair single (h.pat_truths (p 1) (mismatch pair single) refl).actual))
+exchanged h = single_is_no_pair (sym (only pair single (h.complaints.pat_truths (p 1) (mismatch pair single) refl).actual))
 
 -- one more at the part `a`, a binding
 pub one_more : IsTyped given (table_of pair ty.Error (None ∷ Some (mismatch single pair) ∷ Some (mismatch ty.Bool u8) ∷ None ∷ [])) → ⊥
-one_more h = (h.pat_truths (p 2) (mismatch ty.Bool u8) refl).says
+one_more h = (h.complaints.pat_truths (p 2) (mismatch ty.Bool u8) refl).says

@@ -13,13 +13,14 @@ use Rattle.infer_result.specs.declared.result.InferenceResult.{InferenceResult}
 use Rattle.infer_result.specs.declared.result.TypeMismatch.{TypeMismatch}
 use Rattle.infer_result.specs.Closed.{NamesVariant, IsVariantPat}
 use Rattle.infer_result.specs.Table.{mismatch}
-use Rattle.infer_result.specs.Places.{Given, Demand}
-use Rattle.infer_result.specs.Rules.Expressions.{ObeysOrMismatch}
+use Rattle.infer_result.specs.Places.{Given}
+use Rattle.infer_result.specs.Demands.{Demand}
+use Rattle.infer_result.specs.Rules.{ObeysOrMismatch}
 use Rattle.infer_result.specs.Truth.Mismatch.{IsTruePatMismatch}
-use Rattle.infer_result.specs.Truth.Calls.{IsTrueDiagnostic, IsTruePatDiagnostic}
+use Rattle.infer_result.specs.Truth.Diagnostics.{IsTrueDiagnostic, IsTruePatDiagnostic}
 use Rattle.infer_result.specs.Made.{IsMisfit, IsMade}
 use Rattle.infer_result.specs.Typed.{IsTyped}
-use Rattle.infer_result.specs.Derived.{typed_by_schedule}
+use Rattle.infer_result.proofs.Derived.{typed_by_schedule}
 use Rattle.infer_result.proofs.Samples.Small.{scope_with, e, u8, body_of, each_below, each_node, apart_by, asked, only, each_entry, each_found, each_placed, closed_u8, closed_bool, u8_is_no_bool, u8_differs_bool, bool_is_no_error, none_placed}
 
 abbrev body : RawBody
@@ -68,36 +69,40 @@ demanded = inl (record { parent = inner (node.ExprId (e 1)); at_part = 0; role =
 
 right_made : IsMade given right
 right_made = record {
-  of_body = record { exprs = refl; pats = refl; bindings = refl; modes = refl; mismatches = refl; diagnostics = refl; pat_mismatches = refl; pat_diagnostics = refl; expr_variants = refl; pat_variants = refl };
-  closed = record {
-    exprs = each_entry IsClosed right.type_of_expr (closed_bool, (closed_u8, tt));
-    pats = λ n s h. absurd (cc);
-    bindings = λ n s h. absurd (cc);
-    placeholders = λ k s at. absurd (cc);
-    expected = each_entry (λ x. IsClosed x.expected) right.expr_mismatches (closed_u8, tt);
-    actual = each_entry (λ x. IsClosed x.actual) right.expr_mismatches (closed_bool, tt);
-    pat_expected = each_entry (λ x. IsClosed x.expected) right.pat_mismatches tt;
-    pat_actual = each_entry (λ x. IsClosed x.actual) right.pat_mismatches tt;
-    found = each_found IsClosed right.expr_diagnostics tt;
+  shape = record {
+    of_body = record { exprs = refl; pats = refl; bindings = refl; modes = refl; mismatches = refl; diagnostics = refl; pat_mismatches = refl; pat_diagnostics = refl; expr_variants = refl; pat_variants = refl };
+    closed = record {
+      exprs = each_entry IsClosed right.type_of_expr (closed_bool, (closed_u8, tt));
+      pats = λ n s h. absurd (cc);
+      bindings = λ n s h. absurd (cc);
+      placeholders = λ k s at. absurd (cc);
+      expected = each_entry (λ x. IsClosed x.expected) right.expr_mismatches (closed_u8, tt);
+      actual = each_entry (λ x. IsClosed x.actual) right.expr_mismatches (closed_bool, tt);
+      pat_expected = each_entry (λ x. IsClosed x.expected) right.pat_mismatches tt;
+      pat_actual = each_entry (λ x. IsClosed x.actual) right.pat_mismatches tt;
+      found = each_found IsClosed right.expr_diagnostics tt;
+    };
+    modes = λ x m at. absurd (cc);
+    placeholders = none_placed given right refl;
+    variants = record {
+      exprs = λ x. each_entry (NamesVariant given.body x) right.expr_variants tt x.0;
+      pats = λ x. each_entry (IsVariantPat given.body x) right.pat_variants tt x.0;
+    };
   };
-  clauses = λ x h. each_below (λ k. ObeysOrMismatch given right (e k)) 2 x.0 ((tt, (ty.Bool, refl, refl)), (tt, (u8, refl, (ty.Bool, refl, inr (mismatch u8 ty.Bool, refl))))) h;
+  clauses = λ x h. each_below (λ k. ObeysOrMismatch given right (e k)) 2 x.0 ((tt, (ty.Bool, refl, refl)), record { statements = tt; type = u8; has = refl; ends = (ty.Bool, refl, inr (mismatch u8 ty.Bool, refl)) }) h;
   kinds = λ x h. absurd (omega arith);
   params = λ i q s found is. absurd (cc);
   bindings = λ v h. absurd (omega arith);
   body_clause = (u8, refl, inl refl);
   misfits = λ x. each_placed (λ k. IsMisfit given right (e k)) right.expr_mismatches (record { differ = u8_differs_bool; actual = inl refl }, tt) x.0;
   demands = λ x. each_placed (λ k (m : TypeMismatch). Demand given right (e k) m.expected) right.expr_mismatches (demanded, tt) x.0;
-  modes = λ x m at. absurd (cc);
-  placeholders = none_placed given right refl;
-  diagnostics = λ x. each_entry (IsTrueDiagnostic given right x) right.expr_diagnostics tt x.0;
-  pat_diagnostics = λ x. each_entry (IsTruePatDiagnostic given x) right.pat_diagnostics tt x.0;
-  variants = record {
-    exprs = λ x. each_entry (NamesVariant given.body x) right.expr_variants tt x.0;
-    pats = λ x. each_entry (IsVariantPat given.body x) right.pat_variants tt x.0;
+  complaints = record {
+    diagnostics = λ x. each_entry (IsTrueDiagnostic given right x) right.expr_diagnostics tt x.0;
+    pat_diagnostics = λ x. each_entry (IsTruePatDiagnostic given x) right.pat_diagnostics tt x.0;
+    pat_truths = λ x. each_entry (IsTruePatMismatch given right x) right.pat_mismatches tt x.0;
+    seen = λ i x found. absurd (cc);
+    said = λ i x found. absurd (cc);
   };
-  seen = λ i x found. absurd (cc);
-  said = λ i x found. absurd (cc);
-  pat_truths = λ x. each_entry (IsTruePatMismatch given right x) right.pat_mismatches tt x.0;
 }
 
 pub right_typed : IsTyped given right
@@ -109,9 +114,9 @@ right_typed = typed_by_schedule given right schedule is_schedule right_made
 pub none : IsTyped given (table_of (Some ty.Bool ∷ Some u8 ∷ []) (None ∷ None ∷ [])) → ⊥
 none h =
     (let c = h.clauses (e 1) (omega arith) in
-    let s : u8 ≡ c.1.0 = only u8 c.1.0 c.1.1 in
-    let a : ty.Bool ≡ c.1.2.0 = only ty.Bool c.1.2.0 c.1.2.1 in
-    elim c.1.2.2 [ inl same ↦ u8_differs_bool (ap erased s ∙ sym (ap erased a ∙ same)) | inr m ↦ (let clash = m.1 in cc) ])
+    let s : u8 ≡ c.type = only u8 c.type c.has in
+    let a : ty.Bool ≡ c.ends.0 = only ty.Bool c.ends.0 c.ends.1 in
+    elim c.ends.2 [ inl same ↦ u8_differs_bool (ap erased s ∙ sym (ap erased a ∙ same)) | inr m ↦ (let clash = m.1 in cc) ])
 
 -- the types exchanged
 pub exchanged : IsTyped given (table_of (Some ty.Bool ∷ Some u8 ∷ []) (Some (mismatch ty.Bool u8) ∷ None ∷ [])) → ⊥

@@ -1,31 +1,22 @@
 -- When a mismatch is true.
-use Rattle.std.specs.Prelude.{◌≡◌, ◌⊎◌, List, slice_get, Option, Some, None}
+use Rattle.std.specs.Prelude.{◌≡◌, ◌⊎◌, slice_get, Option, Some}
 use Rattle.hir_types.specs.declared.ids.ExprId.{ExprId}
 use Rattle.hir_types.specs.declared.ids.PatId.{PatId}
-use Rattle.hir_types.specs.declared.ids.LabelId.{LabelId}
 use Rattle.hir_types.specs.declared.ty.Ty.{Ty}
-use Rattle.hir_facts.specs.declared.raw.RawStmt.{RawStmt}
-use Rattle.hir_facts.specs.declared.raw.RawExpr.TheVariants as expr
-use Rattle.hir_facts.specs.declared.raw.RawPat.{RawPat}
-use Rattle.hir_facts.specs.declared.raw.RawPat.TheVariants as pat
-use Rattle.hir_facts.specs.declared.raw.RawBody.{RawBody}
 use Rattle.hir_types.specs.Types.{unit}
 use Rattle.hir_types.specs.Erasure.{Same}
+use Rattle.hir_facts.specs.declared.raw.RawPat.{RawPat}
+use Rattle.hir_facts.specs.declared.raw.RawBody.{RawBody}
+use Rattle.hir_facts.specs.declared.raw.RawPat.TheVariants as pat
 use Rattle.infer_result.specs.declared.result.InferenceResult.{InferenceResult}
 use Rattle.infer_result.specs.declared.result.TypeMismatch.{TypeMismatch}
 use Rattle.infer_result.specs.Table.{HasTy, PatTy}
-use Rattle.infer_result.specs.Places.{Given, Incoming, Demand}
+use Rattle.infer_result.specs.Places.{Given}
+use Rattle.infer_result.specs.Incoming.{Incoming}
+use Rattle.infer_result.specs.Demands.{Demand}
 use Rattle.infer_result.specs.Upward.{Up, Stated, Leads}
-
-pub record IsBlockWithoutTail (b : RawBody) (e : ExprId) : Type 0 where
-  pub label : Option LabelId
-  pub stmts : List RawStmt
-  pub is_block : slice_get b.exprs e.0 ≡ Some (expr.Block label stmts None)
-
-pub record IsIfWithoutElse (b : RawBody) (e : ExprId) : Type 0 where
-  pub condition : ExprId
-  pub branch : ExprId
-  pub is_if : slice_get b.exprs e.0 ≡ Some (expr.If condition branch None)
+use Rattle.infer_result.specs.Kinds.Block.{IsBlockWithoutTail}
+use Rattle.infer_result.specs.Kinds.If.{IsIfWithoutElse}
 
 -- the expression may end without a value
 abbrev pub EndsInUnit : RawBody → ExprId → Type 0
@@ -44,20 +35,16 @@ pub record IsTrueMismatch (g : Given) (t : InferenceResult) (e : ExprId) (x : Ty
   pub demand : Demand g t e x.expected
   pub no_coercion : (u s : Ty) → Up g e u → Stated g e s → Leads u s → ⊥
 
--- The pattern has a type of its own beside the one that comes in: a tuple, and a constructor. The mismatch of a literal pattern
--- stands at its literal.
+-- The pattern has a type of its own beside the one that comes in: a tuple, and a constructor. The mismatch of
+-- a literal pattern stands at its literal.
 abbrev pub SaysItsType : Option RawPat → Type 0
-SaysItsType None = ⊥
-SaysItsType (Some pat.Wild) = ⊥
-SaysItsType (Some (pat.Bind v sub)) = ⊥
 SaysItsType (Some (pat.Tuple ps)) = Unit {0}
 SaysItsType (Some (pat.TupleStruct v ps)) = Unit {0}
 SaysItsType (Some (pat.Path q)) = Unit {0}
-SaysItsType (Some (pat.Lit e)) = ⊥
-SaysItsType (Some pat.Other) = ⊥
+SaysItsType _ = ⊥
 
--- The pattern is one that may have a mismatch; the two types differ; the first is what comes into the pattern, the second its
--- own.
+-- The pattern is one that may have a mismatch; the two types differ; the first is what comes into the
+-- pattern, the second its own.
 pub record IsTruePatMismatch (g : Given) (t : InferenceResult) (p : PatId) (x : TypeMismatch) : Type 0 where
   pub says : SaysItsType (slice_get g.body.pats p.0)
   pub differ : Same x.expected x.actual → ⊥

@@ -1,4 +1,4 @@
-use Rattle.std.proofs.Common.{◌≡◌, ◌++◌, map, take}
+use Rattle.std.proofs.Common.{◌≡◌, ◌++◌, take}
 use Rattle.hir_types.specs.TermLaws.{type_parts}
 use Rattle.hir_types.specs.Outlines.{part_terms}
 use Rattle.hir_types.proofs.outline.push_types.Given as goal

@@ -1,4 +1,4 @@
-use Rattle.std.proofs.Common.{subst, Err}
+use Rattle.std.proofs.Common.{subst}
 use Rattle.infer_ctx.specs.Context.{given_of}
 use Rattle.infer_coerce.specs.Coercions.{IsCoercion}
 use Rattle.infer_coerce.proofs.Unified.{refused_coerced}

@@ -1,6 +1,6 @@
 use Rattle.std.proofs.Common.{sym}
 use Rattle.hir_facts.specs.CarriedTypes.{return_carried}
-use Rattle.hir_facts.specs.InRange.{body_in_range}
+use Rattle.hir_facts.proofs.InRange.{body_in_range}
 use Rattle.infer_ctx.proofs.Written.{output_heads}
 use Rattle.infer_end.proofs.Definitions.{written_exist, inputs_for_params}
 use Rattle.infer_end.proofs.GeneralTables.{has_all_types, ends}

@@ -2,7 +2,7 @@ use Rattle.std.proofs.Common.{refl, sym, subst}
 use Rattle.infer_ctx.specs.Context.{given_of, schedule_of, expected_type, entered}
 use Rattle.infer_ctx.specs.Steps.{Before, OwnDone}
 use Rattle.infer_pat.specs.Patterns.{PatDone}
-use Rattle.infer_pat.proofs.PatWalk.{Fits, comes_to_lit, lit_walked}
+use Rattle.infer_pat.proofs.PatWalk.{FitsExpected, comes_to_lit, lit_walked}
 use Rattle.infer_pat.proofs.pat.infer_lit_pat.Goals as goal
 
 pub infer_pat_literal-requires-clause-before : goal.infer_pat_literal-requires-clause-before
@@ -20,8 +20,8 @@ returns-in-Some c =
     = subst (λ k. OwnDone (given_of c.args.given.now) (schedule_of c.args.given.now) c.args.expr (expected_type c.of.result) c.in_ok-ty.ty k c.infer_pat_literal.new.context) c.enter.ensures c.in_ok-ty.ensures in
     let done : OwnDone (given_of c.args.given.now) (schedule_of c.args.given.now) c.args.expr c.args.expected c.in_ok-ty.ty (entered c.args.context.now) c.infer_pat_literal.new.context
     = subst (λ x. OwnDone (given_of c.args.given.now) (schedule_of c.args.given.now) c.args.expr x c.in_ok-ty.ty (entered c.args.context.now) c.infer_pat_literal.new.context) c.of.ensures entering in
-    let fits : Fits (given_of c.args.given.now) c.args.expr c.in_ok-ty.ty c.args.expected c.infer_pat_literal.new.context c.demand_coerce.new.context
-    = subst (λ x. Fits (given_of c.args.given.now) c.args.expr c.in_ok-ty.ty x c.infer_pat_literal.new.context c.demand_coerce.new.context) (sym c.in-Some.is) (c.in_ok-demand_coerce-in-Some.field-0, c.in_ok-demand_coerce-in-Some.ensures) in
+    let fits : FitsExpected (given_of c.args.given.now) c.args.expr c.in_ok-ty.ty c.args.expected c.infer_pat_literal.new.context c.demand_coerce.new.context
+    = subst (λ x. FitsExpected (given_of c.args.given.now) c.args.expr c.in_ok-ty.ty x c.infer_pat_literal.new.context c.demand_coerce.new.context) (sym c.in-Some.is) (c.in_ok-demand_coerce-in-Some.field-0, c.in_ok-demand_coerce-in-Some.ensures) in
     subst (λ k. PatDone (given_of c.args.given.now) (schedule_of c.args.given.now) c.args.pat c.args.expected c.args.context.now k) (sym c.write_pat_ty.ensures)
     (lit_walked _ _ _ c.args.expr _ _ c.requires.before c.requires.is _ _ done _ fits)
 
@@ -31,7 +31,7 @@ returns c =
     = subst (λ k. OwnDone (given_of c.args.given.now) (schedule_of c.args.given.now) c.args.expr (expected_type c.of.result) c.in_ok-ty.ty k c.infer_pat_literal.new.context) c.enter.ensures c.in_ok-ty.ensures in
     let done : OwnDone (given_of c.args.given.now) (schedule_of c.args.given.now) c.args.expr c.args.expected c.in_ok-ty.ty (entered c.args.context.now) c.infer_pat_literal.new.context
     = subst (λ x. OwnDone (given_of c.args.given.now) (schedule_of c.args.given.now) c.args.expr x c.in_ok-ty.ty (entered c.args.context.now) c.infer_pat_literal.new.context) c.of.ensures entering in
-    let fits : Fits (given_of c.args.given.now) c.args.expr c.in_ok-ty.ty c.args.expected c.infer_pat_literal.new.context c.infer_pat_literal.new.context
-    = subst (λ x. Fits (given_of c.args.given.now) c.args.expr c.in_ok-ty.ty x c.infer_pat_literal.new.context c.infer_pat_literal.new.context) (sym c.in-None.is) refl in
+    let fits : FitsExpected (given_of c.args.given.now) c.args.expr c.in_ok-ty.ty c.args.expected c.infer_pat_literal.new.context c.infer_pat_literal.new.context
+    = subst (λ x. FitsExpected (given_of c.args.given.now) c.args.expr c.in_ok-ty.ty x c.infer_pat_literal.new.context c.infer_pat_literal.new.context) (sym c.in-None.is) refl in
     subst (λ k. PatDone (given_of c.args.given.now) (schedule_of c.args.given.now) c.args.pat c.args.expected c.args.context.now k) (sym c.write_pat_ty-in-None.ensures)
     (lit_walked _ _ _ c.args.expr _ _ c.requires.before c.requires.is _ _ done _ fits)

@@ -1,5 +1,5 @@
 use Rattle.std.proofs.Common.{◌≤◌, ◌<◌, length, get_or, arith}
-use Rattle.infer_table.specs.FrontLaws.{is_least_itself, is_least_more}
+use Rattle.infer_table.proofs.FrontLaws.{is_least_itself, is_least_more}
 use Rattle.infer_table.proofs.queue.least_behind.Goals.{then-trail-place, else-trail-place}
 use Rattle.infer_table.proofs.queue.least_behind.Goals as goal
 

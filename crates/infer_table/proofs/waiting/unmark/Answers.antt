@@ -1,6 +1,6 @@
 use Rattle.std.proofs.Common.{◌≡◌, ◌∙◌, ◌+◌, ◌-◌, ◌<◌, length, take, ap, arith}
 use Rattle.std.proofs.lemmas.List.{take-take}
-use Rattle.infer_table.specs.WaitingLaws.{last_taken-made, AreMarked-last, pairs_of-read}
+use Rattle.infer_table.proofs.WaitingLaws.{last_taken-made, AreMarked-last, pairs_of-read}
 use Rattle.infer_table.proofs.waiting.unmark.Goals as goal
 
 pub offset_bounds-entries-at : goal.offset_bounds-entries-at

@@ -2,7 +2,7 @@ use Rattle.std.proofs.Common.{◌+◌, ◌*◌, take}
 use Rattle.hir_types.specs.Terms.{chain}
 use Rattle.hir_types.specs.Outlines.{part_terms}
 use Rattle.infer_table.specs.Solutions.{log_of, Unified}
-use Rattle.infer_table.specs.Equating.{OnlyBinds}
+use Rattle.infer_table.specs.Equating.{OnlyAdds}
 use Rattle.infer_table.proofs.bindings.Bindings.+equate.Given as goal
 
 -- the levels that are left, and then how near a function stands to the next type
@@ -22,5 +22,5 @@ decreases-equate_part l = 3 * l.levels + 1
 abbrev pub invariant-equate_nodes-loop-i : goal.invariant-equate_nodes-loop-i
 invariant-equate_nodes-loop-i l = record {
   unified : Unified (log_of l.initial.self.log) (log_of l.self.log) (chain (part_terms (take l.i l.left))) (chain (part_terms (take l.i l.right)));
-  binds : OnlyBinds l.initial.self l.self;
+  binds : OnlyAdds l.initial.self l.self;
 }

@@ -1,6 +1,6 @@
 use Rattle.std.proofs.Common.{◌≡◌, [], take}
 use Rattle.infer_table.specs.Solutions.{log_of}
-use Rattle.infer_table.specs.Equating.{OnlyBinds}
+use Rattle.infer_table.specs.Equating.{OnlyAdds}
 use Rattle.infer_table.specs.OpenedAgree.{AreSettled}
 use Rattle.infer_table.specs.Opening.{origins_of}
 use Rattle.infer_table.specs.Least.{BindsSome}
@@ -9,7 +9,7 @@ use Rattle.infer_table.proofs.bindings.Bindings.settle_all.Given as goal
 -- the origins so far are settled, and only bindings were added
 abbrev pub invariant-loop-origin : goal.invariant-loop-origin
 invariant-loop-origin l = record {
-  binds : OnlyBinds l.initial.self l.self;
+  binds : OnlyAdds l.initial.self l.self;
   settled : AreSettled (log_of l.self.log) (origins_of (take l.origin-index l.origins));
   least : BindsSome (log_of l.initial.self.log) (log_of l.self.log) (origins_of l.origins);
   nothing : l.origins ≡ [] → l.self ≡ l.initial.self;

@@ -1,5 +1,5 @@
 use Rattle.std.proofs.Common.{sym}
-use Rattle.infer_table.specs.CompletionLaws.{completed_int_var}
+use Rattle.infer_table.proofs.CompletionLaws.{completed_int_var}
 use Rattle.infer_table.proofs.complete.CompleterTypeFolder.fold_int_var.Goals as goal
 
 pub returns : goal.returns

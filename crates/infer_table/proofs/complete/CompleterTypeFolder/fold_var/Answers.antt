@@ -1,5 +1,5 @@
 use Rattle.std.proofs.Common.{sym}
-use Rattle.infer_table.specs.CompletionLaws.{completed_var}
+use Rattle.infer_table.proofs.CompletionLaws.{completed_var}
 use Rattle.infer_table.proofs.complete.CompleterTypeFolder.fold_var.Goals as goal
 
 pub returns : goal.returns

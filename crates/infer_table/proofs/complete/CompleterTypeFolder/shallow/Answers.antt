@@ -1,4 +1,4 @@
-use Rattle.infer_table.specs.CompletionLaws.{completed_same}
+use Rattle.infer_table.proofs.CompletionLaws.{completed_same}
 use Rattle.infer_table.proofs.complete.CompleterTypeFolder.shallow.Goals as goal
 
 pub returns-clause-same : goal.returns-clause-same

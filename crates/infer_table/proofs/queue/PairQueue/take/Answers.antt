@@ -1,5 +1,5 @@
 use Rattle.std.proofs.Common.{sym, subst}
-use Rattle.infer_table.specs.FrontLaws.{all_taken_push}
+use Rattle.infer_table.proofs.FrontLaws.{all_taken_push}
 use Rattle.infer_table.specs.Waiting.{Waiting, AllTakenBelow}
 use Rattle.infer_table.proofs.queue.PairQueue.take.Goals as goal
 

@@ -1,7 +1,7 @@
 use Rattle.std.proofs.Common.{◌≡◌, ◌⊎◌, inl, inr, sym, ap, subst, ◌∙◌, length, Some, None, option_copied, arith, true≢false}
-use Rattle.infer_table.specs.Table.{State, IsKnown}
-use Rattle.infer_table.specs.FrontLaws.{all_unknown_front}
-use Rattle.infer_table.specs.TableLaws.{all_unknown_none, all_unknown_more, unknown_from_not}
+use Rattle.infer_table.specs.Table.{State, IsNoOpenHole}
+use Rattle.infer_table.proofs.FrontLaws.{all_unknown_front}
+use Rattle.infer_table.proofs.TableLaws.{all_unknown_none, all_unknown_more, unknown_from_not}
 use Rattle.infer_table.specs.Waiting.{left_at, AllTakenBelow}
 use Rattle.infer_table.proofs.table.InferenceTable.first_known.Goals.{then-is_known-via-then-is_known, then-is_known-via-else-is_known+then-is_known-2, in-Some+else-is_known+else-is_known-2, in_default}
 use Rattle.infer_table.proofs.table.InferenceTable.first_known.Goals as goal
@@ -10,7 +10,7 @@ pub returns-then-is_known : goal.returns-then-is_known
 returns-then-is_known c =
     let s = c.args.self.now in
     let p = c.in-Some.pair.now in
-    let known : IsKnown s p.source ⊎ IsKnown s p.target = elim c.then-is_known.branch [
+    let known : IsNoOpenHole s p.source ⊎ IsNoOpenHole s p.target = elim c.then-is_known.branch [
       | then-is_known-via-then-is_known w ↦ inl (c.is_known.ensures.0 w.if-is_known.true)
       | then-is_known-via-else-is_known+then-is_known-2 w ↦ inr (w.is_known-else-is_known.ensures.0 w.if-is_known-2.true)
     ] in

@@ -1,6 +1,6 @@
 use Rattle.std.proofs.Common.{◌∙◌, Ok, Err, ap, subst, sym, refl}
 use Rattle.infer_table.specs.Undo.{IsResolvedOr}
-use Rattle.infer_table.specs.UndoLaws.{fresh}
+use Rattle.infer_table.proofs.UndoLaws.{fresh}
 use Rattle.infer_table.proofs.table.InferenceTable.fudge.Goals as goal
 
 pub returns-in-Ok : goal.returns-in-Ok

@@ -1,4 +1,4 @@
-use Rattle.infer_table.specs.CompletionLaws.{completed_if_ok}
+use Rattle.infer_table.proofs.CompletionLaws.{completed_if_ok}
 use Rattle.infer_table.proofs.table.InferenceTable.resolve_completely.Goals as goal
 
 pub returns-clause-no_hole : goal.returns-clause-no_hole

@@ -1,6 +1,6 @@
 use Rattle.std.proofs.Common.{sym, subst}
 use Rattle.infer_table.specs.Table.{State, IsFirstKnown, TakesFirstKnown}
-use Rattle.infer_table.specs.TableLaws.{takes_first_known}
+use Rattle.infer_table.proofs.TableLaws.{takes_first_known}
 use Rattle.infer_table.proofs.table.InferenceTable.take_known.Goals as goal
 
 pub returns-clause-taken : goal.returns-clause-taken

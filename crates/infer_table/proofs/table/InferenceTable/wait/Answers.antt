@@ -3,7 +3,7 @@ use Rattle.hir_types.specs.declared.ty.Ty.{Ty}
 use Rattle.hir_types.specs.Terms.{term}
 use Rattle.infer_table.specs.Solutions.{AreOf}
 use Rattle.infer_table.specs.Table.{State, HolesAreOf, PairsAreOf}
-use Rattle.infer_table.specs.TableLaws.{pairs_are_of_last}
+use Rattle.infer_table.proofs.TableLaws.{pairs_are_of_last}
 use Rattle.infer_table.specs.Waiting.{Waiting}
 use Rattle.infer_table.proofs.table.InferenceTable.wait.Goals as goal
 

@@ -4,7 +4,7 @@ use Rattle.std.proofs.lemmas.List.{length-map}
 use Rattle.std.proofs.lemmas.Option.{slice_get_read, slice_get_within}
 use Rattle.infer_table.specs.declared.waiting.Entry.{Entry}
 use Rattle.infer_table.specs.Waiting.{Waiting, waiting, pairs_of, left_at}
-use Rattle.infer_table.specs.WaitingLaws.{IsLeft-exists, AreMarked-take, pairs_of-mark, waiting-with_taken}
+use Rattle.infer_table.proofs.WaitingLaws.{IsLeft-exists, AreMarked-take, pairs_of-mark, waiting-with_taken}
 use Rattle.infer_table.proofs.waiting.WaitingPairs.take.Goals as goal
 
 entry_at : (c : goal.After-self-1) → slice_get c.self.inside.entries.items c.args.at ≡ Some c.index_mut.result.now

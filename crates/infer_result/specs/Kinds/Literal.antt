@@ -1,11 +1,13 @@
--- The type of a literal.
+-- A literal: Reference, "Literal expressions"; upstream `infer/expr.rs`, `infer_literal`.
 use Rattle.std.specs.Prelude.{◌≡◌, Some, None}
-use Rattle.hir_types.specs.declared.ty.IntegerTy.{IntegerTy}
 use Rattle.hir_types.specs.declared.ty.Ty.{Ty}
+use Rattle.hir_types.specs.declared.ty.IntegerTy.{IntegerTy}
+use Rattle.hir_types.specs.Types.{integer_type}
 use Rattle.hir_types.specs.declared.ty.Ty.TheVariants as ty
 use Rattle.hir_facts.specs.declared.raw.RawLiteral.{RawLiteral}
 use Rattle.hir_facts.specs.declared.raw.RawLiteral.TheVariants as literal
-use Rattle.hir_types.specs.Types.{integer_type}
+
+-- ---- its rule
 
 -- an integer without a suffix may have any integer type
 abbrev pub IsLiteralType : RawLiteral → Ty → Type 0
@@ -15,10 +17,11 @@ IsLiteralType (literal.Int digits (Some suffix)) s = s ≡ integer_type suffix
 IsLiteralType (literal.Int digits None) s = (i : IntegerTy) × (s ≡ integer_type i)
 IsLiteralType literal.Other s = ⊥
 
+-- ---- the type that it has by itself
+
 -- the literal's type is said by itself
 abbrev pub IsOwnType : RawLiteral → Ty → Type 0
 IsOwnType (literal.Bool b) s = s ≡ ty.Bool
 IsOwnType (literal.Char c) s = s ≡ ty.Char
 IsOwnType (literal.Int digits (Some suffix)) s = s ≡ integer_type suffix
-IsOwnType (literal.Int digits None) s = ⊥
-IsOwnType literal.Other s = ⊥
+IsOwnType _ s = ⊥

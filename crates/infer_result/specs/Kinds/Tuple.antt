@@ -1,10 +1,13 @@
--- The parts of a tuple stand at the types of its components.
+-- A tuple, whose parts stand at the types of its components: Reference, "Tuple expressions"; upstream
+-- `infer/expr.rs`, `Expr::Tuple`.
 use Rattle.std.specs.Prelude.{List, [], ◌∷◌}
 use Rattle.hir_types.specs.declared.ids.ExprId.{ExprId}
 use Rattle.hir_types.specs.declared.ty.Ty.{Ty}
 use Rattle.hir_types.specs.declared.ty.Ty.TheVariants as ty
 use Rattle.infer_result.specs.declared.result.InferenceResult.{InferenceResult}
 use Rattle.infer_result.specs.Table.{HasTy}
+
+-- ---- its rule
 
 -- each of these at its type, of which there are as many
 abbrev pub AllAt : (ExprId → Ty → Type 0) → List ExprId → List Ty → Type 0

@@ -10,12 +10,14 @@ use Rattle.hir_facts.specs.declared.raw.RawExpr.{RawExpr}
 use Rattle.hir_facts.specs.declared.raw.RawExpr.TheVariants as expr
 use Rattle.hir_facts.specs.declared.raw.RawFacts.{RawFacts}
 use Rattle.infer_result.specs.declared.result.InferenceResult.{InferenceResult}
-use Rattle.infer_result.specs.Table.{HasMismatch, AnyMismatch, WasSeen}
+use Rattle.infer_result.specs.Table.{HasMismatch, AnyMismatch, WasSeen, MaybeMismatch}
 use Rattle.infer_result.specs.Closed.{AllTypes}
 use Rattle.infer_result.specs.Unknown.{IsKnown}
-use Rattle.infer_result.specs.Excused.{MaybeMismatch, StmtHasMismatch, StmtsHaveMismatch, GuardsHaveMismatch, ExcusedAs}
+use Rattle.infer_result.specs.Kinds.Block.{StmtHasMismatch, StmtsHaveMismatch}
+use Rattle.infer_result.specs.Kinds.Match.{GuardsHaveMismatch, arm_exprs}
+use Rattle.infer_result.specs.Excused.{ExcusedAs}
 use Rattle.infer_result.specs.Places.{Given}
-use Rattle.infer_result.specs.Rules.Branches.{branches_of, arm_exprs}
+use Rattle.infer_result.specs.Kinds.If.{branches_of}
 use Rattle.infer_result.specs.Typed.{IsTyped, IsTableOf}
 use Rattle.infer_result.specs.Derivation.{HasNoComplaint, IsDerivation}
 
@@ -49,8 +51,8 @@ module _ (g : Given) (t : InferenceResult) (h : IsTyped g t) (known : AllTypes I
   -- a look-up that failed would be said
   not_seen : (e : ExprId) → WasSeen t e → ⊥
   not_seen e w =
-      let x = h.seen w.position w.entry w.found in
-      clean.diagnostics x.call.0 _ (h.said w.position w.entry w.found x.call x.called x.args x.type x.is_node x.is_call x.has (known.exprs x.called.0 x.type x.has))
+      let x = h.complaints.seen w.position w.entry w.found in
+      clean.diagnostics x.call.0 _ (h.complaints.said w.position w.entry w.found x.call x.called x.args x.type x.is_node x.is_call x.has (known.exprs x.called.0 x.type x.has))
 
   not_excused : (n : ExprId) (o : Option RawExpr) → ExcusedAs t n o → ⊥
   not_excused n None m = m
@@ -76,15 +78,11 @@ pub derivation_of : (raw : RawFacts) (d : DefWithBodyId) (t : InferenceResult) �
 derivation_of raw d t h known clean = record {
   body = h.body;
   is_body = h.is_body;
-  of_body = h.typed.of_body;
+  shape = h.typed.shape;
   total = h.typed.total;
-  closed = h.typed.closed;
   known = known;
   fit = h.fit;
   clean = clean;
-  modes = h.typed.modes;
-  placeholders = h.typed.placeholders;
-  variants = h.typed.variants;
   exprs = λ e within. obeys _ t h.typed known clean (not_excused _ t h.typed known clean e (slice_get h.body.exprs e.0)) (h.typed.exprs e within);
   pats = h.typed.pats;
   root = obeys _ t h.typed known clean (no_mismatch _ t h.typed known clean h.body.root) h.typed.body_rule;

@@ -14,7 +14,7 @@ use Rattle.infer_run.specs.declared.running.Ran.{Ran}
 use Rattle.infer_run.specs.Command.{IsCommand}
 use Rattle.infer_text.specs.Facts.{Fault, no_json, shape, raw_facts, IsRead}
 use Rattle.infer_run.specs.Outcome.{limit, Ends, TookAll, Outcome}
-use Rattle.infer_run.specs.Consequences.{AreSure, no_source_fault, no_sink_fault, same_definition, took_text, not_too_long}
+use Rattle.infer_run.proofs.Consequences.{AreSure, no_source_fault, no_sink_fault, same_definition, took_text, not_too_long}
 
 -- ---- lawful facts break no law
 
@@ -68,7 +68,7 @@ err_is_not : (f : RawFacts) (x : Fault) (r : Result RawFacts Fault) → r ≡ Ok
 err_is_not f x r p q = let e : Ok f ≡ Err x = sym p ∙ q in cc
 
 -- what is known where a run should make a table
-pub record IsAsked (words : List (List ℕ)) (e : Ends) : Type 0 where
+pub record IsAskedFor (words : List (List ℕ)) (e : Ends) : Type 0 where
   pub def : DefWithBodyId
   pub command : IsCommand words def
   pub text : List ℕ
@@ -79,7 +79,7 @@ pub record IsAsked (words : List (List ℕ)) (e : Ends) : Type 0 where
   pub has_body : HasBody raw def
   pub sure : AreSure e
 
-module _ (words : List (List ℕ)) (e : Ends) (ran : Ran) (o : Outcome words e ran) (a : IsAsked words e) where
+module _ (words : List (List ℕ)) (e : Ends) (ran : Ran) (o : Outcome words e ran) (a : IsAskedFor words e) where
   stands_at : (bytes : List ℕ) → TookAll e bytes → raw_facts bytes ≡ Ok a.raw
   stands_at bytes took = subst (λ t. raw_facts t ≡ Ok a.raw) (took_text e a.text bytes a.tells took) a.is_read.stands
 

@@ -14,15 +14,15 @@ use Rattle.infer_result.specs.declared.result.InferenceResult.{InferenceResult}
 use Rattle.infer_result.specs.declared.diagnostics.InferenceDiagnostic.{InferenceDiagnostic}
 use Rattle.infer_result.specs.Unknown.{has_unknown}
 use Rattle.infer_result.specs.Table.{HasTy, HasMismatch, HasDiagnostic, WasSeen}
-use Rattle.infer_result.specs.Places.{Given, IsAtOrMismatch, IsCallee}
-use Rattle.infer_result.specs.Rules.Placing.{at_or_mismatch}
-use Rattle.infer_result.specs.Rules.Tuples.{AllAt}
-use Rattle.infer_result.specs.Rules.Calls.{ArgsRule, CallRule}
-use Rattle.infer_result.specs.Rules.Expressions.{Rule}
-use Rattle.infer_result.specs.Truth.Seen.{IsPathToItem, IsTrueSeen}
+use Rattle.infer_result.specs.Places.{Given, IsAtOrMismatch}
+use Rattle.infer_result.specs.Kinds.Call.{IsCallee, ArgsRule, CallRule, IsPathToItem}
+use Rattle.infer_result.specs.Placing.{at_or_mismatch}
+use Rattle.infer_result.specs.Kinds.Tuple.{AllAt}
+use Rattle.infer_result.specs.Rules.{Rule}
+use Rattle.infer_result.specs.Truth.Seen.{IsTrueSeen}
 use Rattle.infer_result.specs.Upward.{Up}
 use Rattle.infer_result.specs.Typed.{IsTyped}
-use Rattle.infer_result.specs.Derived.{one_at}
+use Rattle.infer_result.proofs.Derived.{one_at}
 
 -- the call's item is at these types; where its input at this position is a parameter, the type in that one's place is u
 pub record DecidesItsParameter (g : Given) (t : InferenceResult) (called : ExprId) (i : ℕ) (u : Ty) : Type 0 where
@@ -60,9 +60,9 @@ module _ (g : Given) (t : InferenceResult) (h : IsTyped g t) (n called : ExprId)
   by_arguments σ ts (inr wrong) k v input found = absurd (none _ wrong)
 
   by_rule : CallRule (at_or_mismatch g t) g t n called args → DecidesItsParameter g t called i u
-  by_rule (inl (σ, ts, callee, all, has)) = record { signature = σ; types = ts; is_callee = callee; decides = by_arguments σ ts all }
+  by_rule (inl h) = record { signature = h.signature; types = h.types; is_callee = h.is_callee; decides = by_arguments h.signature h.types h.arguments }
   by_rule (inr (w, any)) =
-      let seen = h.seen w.position w.entry w.found in
+      let seen = h.complaints.seen w.position w.entry w.found in
       let same : seen.call ≡ n = same_call seen.call n (sym seen.is_node ∙ w.is_node) in
       let at_n : slice_get g.body.exprs n.0 ≡ Some (expr.Call seen.called seen.args) = subst (λ (z : ExprId). slice_get g.body.exprs z.0 ≡ Some (expr.Call seen.called seen.args)) same seen.is_call in
       absurd (seen.no_item (subst (λ z. IsPathToItem g z) (same_called (slice_get g.body.exprs n.0) called seen.called args seen.args is at_n) path))
@@ -79,7 +79,7 @@ pub seen_for_cause : (g : Given) (t : InferenceResult) → IsTyped g t → (n : 
 seen_for_cause g t h n w = by_type (has_unknown seen.type) refl
   where
     seen : IsTrueSeen g t w.entry
-    seen = h.seen w.position w.entry w.found
+    seen = h.complaints.seen w.position w.entry w.found
 
     same : seen.call ≡ n
     same = same_call seen.call n (sym seen.is_node ∙ w.is_node)
@@ -89,4 +89,4 @@ seen_for_cause g t h n w = by_type (has_unknown seen.type) refl
 
     by_type : (b : Bool) → has_unknown seen.type ≡ b → IsSeenForCause g t n
     by_type true unknown = is_unknown seen.called seen.args seen.type at_n seen.has unknown
-    by_type false known = is_named _ (h.said w.position w.entry w.found n seen.called seen.args seen.type w.is_node at_n seen.has known)
+    by_type false known = is_named _ (h.complaints.said w.position w.entry w.found n seen.called seen.args seen.type w.is_node at_n seen.has known)

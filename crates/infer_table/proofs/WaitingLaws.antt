@@ -6,7 +6,7 @@ use Rattle.std.proofs.lemmas.List.{drop_more, take_more, take_all, length-map, l
 use Rattle.std.proofs.lemmas.Option.{slice_get_within, slice_get-get_or, none-some}
 use Rattle.infer_table.specs.declared.waiting.WaitingPair.{WaitingPair}
 use Rattle.infer_table.specs.declared.waiting.Entry.{Entry}
-use Rattle.infer_table.specs.Waiting.{Waiting, pairs_of, is_taken, left_from, waiting, AllApart, AreMarked, with_pair, with_taken, AllMade, left_at, left_before, left_past, IsLeft}
+use Rattle.infer_table.specs.Waiting.{Waiting, pairs_of, is_taken, left_from, waiting, AllApart, AreMarked, with_pair, with_taken, AllMade, left_at, left_before, left_past, StillWaits}
 
 or_more : (b x y : Bool) → (x ≡ true → y ≡ true) → cond b true x ≡ true → cond b true y ≡ true
 or_more true x y f h = refl
@@ -135,20 +135,20 @@ left_from-push ts k (x ∷ ps) p =
     ap (λ (xs : List WaitingPair). cond (is_taken ts k) xs (x ∷ xs)) r ∙ join (is_taken ts k) x (left_from ts (k + 1) ps) (if is_taken ts (k + suc (length ps)) then [] else p ∷ [])
 
 -- a position of a pair that is left
-pub IsLeft-from_some : (w : Waiting) (i : ℕ) (p : WaitingPair) → left_at w i ≡ Some p → IsLeft w i p
+pub IsLeft-from_some : (w : Waiting) (i : ℕ) (p : WaitingPair) → left_at w i ≡ Some p → StillWaits w i p
 IsLeft-from_some w i p h = by_mark (is_taken w.taken i) refl h
   where
-    by_mark : (b : Bool) → is_taken w.taken i ≡ b → cond b None (slice_get w.made i) ≡ Some p → IsLeft w i p
+    by_mark : (b : Bool) → is_taken w.taken i ≡ b → cond b None (slice_get w.made i) ≡ Some p → StillWaits w i p
     by_mark true q e = absurd (none-some p e)
     by_mark false q e = record { at = e; is_left = q }
 
-pub left_at-is : (w : Waiting) (i : ℕ) (p : WaitingPair) → IsLeft w i p → left_at w i ≡ Some p
+pub left_at-is : (w : Waiting) (i : ℕ) (p : WaitingPair) → StillWaits w i p → left_at w i ≡ Some p
 left_at-is w i p h = cond-false (is_taken w.taken i) None (slice_get w.made i) h.is_left ∙ h.at
 
-pub IsLeft-exists : (w : Waiting) (i : ℕ) → IsSome (left_at w i) → (p : WaitingPair) × IsLeft w i p
+pub IsLeft-exists : (w : Waiting) (i : ℕ) → IsSome (left_at w i) → (p : WaitingPair) × StillWaits w i p
 IsLeft-exists w i h = by_cases (left_at w i) refl h
   where
-    by_cases : (o : Option WaitingPair) → left_at w i ≡ o → IsSome o → (p : WaitingPair) × IsLeft w i p
+    by_cases : (o : Option WaitingPair) → left_at w i ≡ o → IsSome o → (p : WaitingPair) × StillWaits w i p
     by_cases None q e = absurd (false≢true e)
     by_cases (Some p) q e = (p, IsLeft-from_some w i p q)
 
@@ -163,14 +163,14 @@ drop_at xs n y h =
     drop_more xs n y (slice_get_within xs n y h) ∙ ap (λ (z : _). z ∷ drop (n + 1) xs) q
 
 -- the pair that is left at a position stands between those before it and those past it
-pub waiting-at : (w : Waiting) (n : ℕ) (p : WaitingPair) → IsLeft w n p → waiting w ≡ left_before w n ++ p ∷ left_past w (n + 1)
+pub waiting-at : (w : Waiting) (n : ℕ) (p : WaitingPair) → StillWaits w n p → waiting w ≡ left_before w n ++ p ∷ left_past w (n + 1)
 waiting-at w n p h =
     waiting-split w n
     ∙ ap (λ (xs : List WaitingPair). left_before w n ++ left_from w.taken n xs) (drop_at w.made n p h.at)
     ∙ ap (λ (xs : List WaitingPair). left_before w n ++ xs) (cond-false (is_taken w.taken n) (left_past w (n + 1)) (p ∷ left_past w (n + 1)) h.is_left)
 
 -- and goes from there when it is taken
-pub waiting-with_taken : (w : Waiting) (n : ℕ) (p : WaitingPair) → IsLeft w n p → waiting (with_taken w n) ≡ left_before w n ++ left_past w (n + 1)
+pub waiting-with_taken : (w : Waiting) (n : ℕ) (p : WaitingPair) → StillWaits w n p → waiting (with_taken w n) ≡ left_before w n ++ left_past w (n + 1)
 waiting-with_taken w n p h = waiting-split (with_taken w n) n ∙ cc (before, past)
   where
     before : left_before (with_taken w n) n ≡ left_before w n

@@ -13,7 +13,7 @@ use Rattle.hir_facts.specs.declared.schedule.Schedule.{Schedule}
 use Rattle.hir_facts.specs.Order.{IsSchedule}
 use Rattle.hir_facts.specs.Bodies.{IsWalkable, body_id_of, inputs_by, inputs_of}
 use Rattle.hir_facts.specs.Laws.Carried.{is_carried_body}
-use Rattle.hir_facts.specs.CarriedBodies.{carried_parts}
+use Rattle.hir_facts.proofs.CarriedBodies.{carried_parts}
 use Rattle.hir_facts.specs.Laws.Ids.{BodyIdsExist}
 use Rattle.hir_facts.specs.Laws.Counts.{count_of}
 use Rattle.hir_facts.specs.Laws.Trees.{IsWellFormed}

@@ -41,29 +41,33 @@ use Rattle.hir_facts.specs.Scope.{names_item, adt_params}
 use Rattle.hir_facts.specs.Signatures.{Signature, fn_signature, ctor_signature, ctor_type, signature_of, type_args, at_args}
 use Rattle.hir_types.specs.Erasure.{erased}
 use Rattle.hir_facts.specs.declared.schedule.Schedule.{Schedule}
-use Rattle.hir_facts.specs.Ways.{one_place}
+use Rattle.hir_facts.proofs.Ways.{one_place}
 use Rattle.hir_facts.specs.Order.{Role, root, initializer, let_pattern, argument, Part, Node, the_body, inner, IsNode, IsSchedule, part_at, stmts_of, stmt_at}
 use Rattle.infer_result.specs.declared.result.InferenceResult.{InferenceResult}
 use Rattle.infer_result.specs.declared.result.TypeMismatch.{TypeMismatch}
 use Rattle.infer_result.specs.declared.diagnostics.InferenceDiagnostic.TheVariants as diagnostic
-use Rattle.infer_result.specs.Table.{At, HasTy, PatTy, HasMismatch, AnyMismatch, AnyDiagnostic, mismatch}
+use Rattle.infer_result.specs.Table.{At, HasTy, PatTy, HasMismatch, AnyMismatch, AnyDiagnostic, mismatch, MaybeMismatch}
 use Rattle.infer_result.specs.Closed.{IsTotal}
-use Rattle.infer_result.specs.Places.{Given, hole_type, declared, AreRecorded, IsVariantAt, adt_at, fields_at, IsAt, IsAtOrMismatch, MisfitsAs, PatIsAtOrMismatch, IsCallee, IsInputAt, IsAsked, Asks, AsksOf, Gives, GivesComponent, GivesField, GivesPart, Incoming}
-use Rattle.infer_result.specs.Rules.Literals.{IsLiteralType, IsOwnType}
-use Rattle.infer_result.specs.Rules.Paths.{PathRule}
-use Rattle.infer_result.specs.Rules.Placing.{Placing, at_or_mismatch, at_types}
-use Rattle.infer_result.specs.Rules.Tuples.{AllAt}
-use Rattle.infer_result.specs.Rules.Blocks.{LetRule, StmtRule, StmtsRule, TailRule}
-use Rattle.infer_result.specs.Rules.Branches.{branches_of, ElseRule, arm_exprs, ArmPatterns, GuardRule, ArmsRule}
-use Rattle.infer_result.specs.Rules.Calls.{ArgsRule, ItemCallRule}
-use Rattle.infer_result.specs.Rules.Expressions.{Rule, BodyObeys}
-use Rattle.infer_result.specs.Rules.Patterns.{AllPatsAt, PatsAtFields, PatRule}
-use Rattle.infer_result.specs.Excused.{MaybeMismatch, StmtHasMismatch, StmtsHaveMismatch, GuardsHaveMismatch, ExcusedAs, BodyIsExcused}
-use Rattle.infer_result.specs.Upward.{NamesLet, CallsNonGeneric, Up, of_literal, of_written, of_initializer, of_parameter, of_call, of_unit, IsWrittenInput, Stated}
-use Rattle.infer_result.specs.Truth.Mismatch.{IsBlockWithoutTail, IsIfWithoutElse, EndsInUnit, IsTrueMismatch}
-use Rattle.infer_result.specs.Truth.Seen.{IsPathToItem}
+use Rattle.infer_result.specs.Places.{Given, hole_type, declared, AreRecorded, IsAt, IsAtOrMismatch, MisfitsAs, PatIsAtOrMismatch}
+use Rattle.infer_result.specs.Kinds.Constructor.{IsVariantAt, adt_at, fields_at}
+use Rattle.infer_result.specs.Kinds.Call.{IsCallee, IsInputAt, ArgsRule, ItemCallRule, CallsNonGeneric, IsWrittenInput, IsPathToItem}
+use Rattle.infer_result.specs.Demands.{IsAsked, Asks, AsksOf}
+use Rattle.infer_result.specs.Incoming.{Gives, GivesPart, Incoming}
+use Rattle.infer_result.specs.Pats.Tuple.{GivesComponent, AllPatsAt}
+use Rattle.infer_result.specs.Pats.Constructor.{GivesField, PatsAtFields}
+use Rattle.infer_result.specs.Kinds.Literal.{IsLiteralType, IsOwnType}
+use Rattle.infer_result.specs.Kinds.Path.{PathRule, NamesLet}
+use Rattle.infer_result.specs.Placing.{Placing, at_or_mismatch, at_types}
+use Rattle.infer_result.specs.Kinds.Tuple.{AllAt}
+use Rattle.infer_result.specs.Kinds.Block.{LetRule, StmtRule, StmtsRule, TailRule, StmtHasMismatch, StmtsHaveMismatch, IsBlockWithoutTail}
+use Rattle.infer_result.specs.Kinds.If.{branches_of, ElseRule, IsIfWithoutElse}
+use Rattle.infer_result.specs.Kinds.Match.{arm_exprs, ArmPatterns, GuardRule, ArmsRule, GuardsHaveMismatch}
+use Rattle.infer_result.specs.Rules.{Rule, BodyObeys, PatRule}
+use Rattle.infer_result.specs.Excused.{ExcusedAs, BodyIsExcused}
+use Rattle.infer_result.specs.Upward.{Up, of_literal, of_written, of_initializer, of_parameter, of_call, of_unit, Stated}
+use Rattle.infer_result.specs.Truth.Mismatch.{EndsInUnit, IsTrueMismatch}
 use Rattle.infer_result.specs.Made.{IsMade}
-use Rattle.infer_result.specs.Parts.{LetStands, ArmStands, PartStands, comes_from}
+use Rattle.infer_result.proofs.Parts.{LetStands, ArmStands, PartStands, comes_from}
 use Rattle.infer_result.specs.Typed.{IsTyped}
 
 -- a node stands at one place alone
@@ -214,7 +218,7 @@ module _ (g : Given) (t : InferenceResult) where
         | inr m ↦ inl (inl m)
         | inl d ↦ elim x [
           | inr m ↦ inl (inr m)
-          | inl u ↦ elim (else_obeys n first other s y) [ inl m ↦ inl (inr m) | inr v ↦ inr (d, (s, k, (u, v))) ]
+          | inl u ↦ elim (else_obeys n first other s y) [ inl m ↦ inl (inr m) | inr v ↦ inr (record { condition = d; type = s; has = k; branch = u; otherwise = v }) ]
         ]
       ]
 
@@ -227,15 +231,20 @@ module _ (g : Given) (t : InferenceResult) where
   judged n (Some (expr.Lit l)) h = inr h
   judged n (Some (expr.Path p)) h = inr h
   judged n (Some (expr.Tuple es)) (ss, h, k) = inr (ss, h, elements_obey t es ss k)
-  judged n (Some (expr.Block label ss last)) (h, (s, k, m)) =
-      elim (stmts_obey ss h) [
+  judged n (Some (expr.Block label ss last)) h =
+      elim (stmts_obey ss h.statements) [
         | inl x ↦ inl (inr (inl x))
-        | inr a ↦ elim (tail_obeys n last s m) [ inl x ↦ inl (elim x [ inl y ↦ inl y | inr y ↦ inr (inr y) ]) | inr c ↦ inr (a, (s, k, c)) ]
+        | inr a ↦ elim (tail_obeys n last h.type h.ends) [ inl x ↦ inl (elim x [ inl y ↦ inl y | inr y ↦ inr (inr y) ]) | inr c ↦ inr (record { statements = a; type = h.type; has = h.has; ends = c }) ]
       ]
-  judged n (Some (expr.If c first other)) (a, (s, k, (x, y))) = if_obeys n c first other s k a x y
-  judged n (Some (expr.Match e arms)) (h, (s, k, m)) = elim (arms_obey (arm_exprs arms) arms s m) [ inl x ↦ inl x | inr x ↦ inr (h, (s, k, x)) ]
-  judged n (Some (expr.Call f args)) (inl (σ, ts, c, a, k)) =
-      elim (args_obey n args (map (at_args ts) σ.inputs) a) [ inl m ↦ inl (inl m) | inr x ↦ inr (inl (σ, ts, c, x, k)) ]
+  judged n (Some (expr.If c first other)) h = if_obeys n c first other h.type h.has h.condition h.branch h.otherwise
+  judged n (Some (expr.Match e arms)) h = elim (arms_obey (arm_exprs arms) arms h.type h.alternatives) [
+    | inl x ↦ inl x
+    | inr x ↦ inr (record { scrutinee = h.scrutinee; comes = h.comes; patterns = h.patterns; type = h.type; has = h.has; alternatives = x })
+  ]
+  judged n (Some (expr.Call f args)) (inl h) = elim (args_obey n args (map (at_args h.types) h.signature.inputs) h.arguments) [
+    | inl m ↦ inl (inl m)
+    | inr x ↦ inr (inl (record { signature = h.signature; types = h.types; is_callee = h.is_callee; arguments = x; has = h.has }))
+  ]
   judged n (Some (expr.Call f args)) (inr (m, k)) = inl (inr m)
   judged n (Some expr.Other) h = absurd h
 
@@ -252,10 +261,10 @@ rule_type g t n None h = absurd h
 rule_type g t n (Some (expr.Lit l)) (s, h, k) = (s, h)
 rule_type g t n (Some (expr.Path p)) h = path_type g t n p h
 rule_type g t n (Some (expr.Tuple es)) (ss, h, k) = (ty.Tuple ss, h)
-rule_type g t n (Some (expr.Block label ss last)) (h, (s, k, m)) = (s, k)
-rule_type g t n (Some (expr.If c first other)) (a, (s, k, h)) = (s, k)
-rule_type g t n (Some (expr.Match e arms)) (h, (s, k, m)) = (s, k)
-rule_type g t n (Some (expr.Call f args)) (inl (σ, ts, c, a, k)) = (at_args ts σ.output, k)
+rule_type g t n (Some (expr.Block label ss last)) h = (h.type, h.has)
+rule_type g t n (Some (expr.If c first other)) h = (h.type, h.has)
+rule_type g t n (Some (expr.Match e arms)) h = (h.type, h.has)
+rule_type g t n (Some (expr.Call f args)) (inl h) = (at_args h.types h.signature.output, h.has)
 rule_type g t n (Some (expr.Call f args)) (inr (m, k)) = k
 rule_type g t n (Some expr.Other) h = absurd h
 
@@ -291,7 +300,7 @@ block_stmts g t n None h i s e = absurd h
 block_stmts g t n (Some (expr.Lit l)) h i s e = absurd (cc)
 block_stmts g t n (Some (expr.Path p)) h i s e = absurd (cc)
 block_stmts g t n (Some (expr.Tuple es)) h i s e = absurd (cc)
-block_stmts g t n (Some (expr.Block label ss last)) (h, k) i s e = stmt_obeys_at g t ss i s h e
+block_stmts g t n (Some (expr.Block label ss last)) h i s e = stmt_obeys_at g t ss i s h.statements e
 block_stmts g t n (Some (expr.If c first other)) h i s e = absurd (cc)
 block_stmts g t n (Some (expr.Match d arms)) h i s e = absurd (cc)
 block_stmts g t n (Some (expr.Call f args)) h i s e = absurd (cc)
@@ -321,8 +330,8 @@ module _ (g : Given) (t : InferenceResult) (h : IsMade g t) where
   arm_stands : (n e : ExprId) (p : PatId) (s : Ty) → ArmStands g.body n e p → HasTy t e s → PatIsAtOrMismatch g t p s
   arm_stands n e p s a has =
       let r = clause_at n (expr.Match e a.arms) a.is_match in
-      let k : r.0.0 ≡ s = one_at t.type_of_expr e.0 r.0.0 s r.0.1 has in
-      subst (λ q. PatIsAtOrMismatch g t q s) a.is_pattern (subst (λ u. PatIsAtOrMismatch g t a.the_arm.pat u) k (among a.arms a.at_arm a.the_arm r.0.0 r.0.2 a.stands))
+      let k : r.scrutinee ≡ s = one_at t.type_of_expr e.0 r.scrutinee s r.comes has in
+      subst (λ q. PatIsAtOrMismatch g t q s) a.is_pattern (subst (λ u. PatIsAtOrMismatch g t a.the_arm.pat u) k (among a.arms a.at_arm a.the_arm r.scrutinee r.patterns a.stands))
     where
       among : (arms : List RawArm) (i : ℕ) (x : RawArm) (u : Ty) → ArmPatterns (at_or_mismatch g t) arms u → slice_get arms i ≡ Some x → PatIsAtOrMismatch g t x.pat u
       among [] i x u h is = absurd (cc)
@@ -482,7 +491,7 @@ module _ (g : Given) (t : InferenceResult) (h : IsMade g t) where
         | inl c ↦ c
         | inr m ↦
             (let seen = m.0 in
-            let x = h.seen seen.position seen.entry seen.found in
+            let x = h.complaints.seen seen.position seen.entry seen.found in
             let here = seen.is_node in
             let there = x.is_node in
             let own = x.is_call in
@@ -498,9 +507,9 @@ module _ (g : Given) (t : InferenceResult) (h : IsMade g t) where
       (comes_in e (Some w) init n (written_type g.scope.facts.types w) (let_recorded n.pattern n.parent n.at_part w init n.stands.part, sym (filled_written (hole_type t) g.scope.facts.types w none)))
   upward m r (of_initializer e i s n u) = local_of_let e None (Some i) n s (comes_in e None (Some i) n s (upward i s u))
   upward m r (of_call e σ c) =
-      (let (τ, ts, is, a, has) = calls_item e c.called c.args c.is_call (c.path, c.names, record { item = c.item; is_item = c.is_item; signature = σ; is_signature = c.signature }) in
-      let (none, one) = non_generic e σ c τ ts is in
-      subst (λ (v : Signature). HasTy t e (at_args [] v.output)) one (subst (λ us. HasTy t e (at_args us τ.output)) none has))
+      (let r = calls_item e c.called c.args c.is_call (c.path, c.names, record { item = c.item; is_item = c.is_item; signature = σ; is_signature = c.signature }) in
+      let (none, one) = non_generic e σ c r.signature r.types r.is_callee in
+      subst (λ (v : Signature). HasTy t e (at_args [] v.output)) one (subst (λ us. HasTy t e (at_args us r.signature.output)) none r.has))
   upward m r (of_unit e x n) =
       (let (s, has, c, r') = clause_at e (expr.Path (path.Ctor n.variant)) n.names in
       let here = c.is_variant.found in
@@ -614,12 +623,8 @@ module _ (g : Given) (t : InferenceResult) (h : IsMade g t) where
 
     pub typed_from_made : IsTyped g t
     typed_from_made = record {
-      of_body = h.of_body;
+      shape = h.shape;
       total = total;
-      closed = h.closed;
-      modes = h.modes;
-      placeholders = h.placeholders;
-      variants = h.variants;
       clauses = h.clauses;
       exprs = λ e i. judged g t e (slice_get g.body.exprs e.0) (h.clauses e i);
       pats = λ p i. record { incoming = incoming p; kind = h.kinds p i };
@@ -627,11 +632,7 @@ module _ (g : Given) (t : InferenceResult) (h : IsMade g t) where
       body_rule = body_rule;
       upward = upward;
       truths = truths;
-      diagnostics = h.diagnostics;
-      pat_diagnostics = h.pat_diagnostics;
-      pat_truths = h.pat_truths;
-      seen = h.seen;
-      said = h.said;
+      complaints = h.complaints;
     }
 
 -- in a body whose nodes are numbered in the order of the walk, each stands at one place

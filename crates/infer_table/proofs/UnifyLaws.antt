@@ -36,8 +36,8 @@ unified_under_all l a b f = record {
   general = λ s h e. h;
 }
 
-pub unified_same : (l : Log) (a b : Term) → a ≡ b → Unified l l a b
-unified_same l a b e = unified_under_all l a b (λ s h. ap (apply s) e)
+pub unified_equal : (l : Log) (a b : Term) → a ≡ b → Unified l l a b
+unified_equal l a b e = unified_under_all l a b (λ s h. ap (apply s) e)
 
 pub unified_same_resolved : (l : Log) (a b : Term) → resolved l a ≡ resolved l b → Unified l l a b
 unified_same_resolved l a b e = unified_under_all l a b (same_resolved l a b e)
@@ -162,7 +162,7 @@ unified_pair_if false z l m n a b c d u v = none_pair l a b c d u
 
 -- over one and the same leaf
 pub unified_if_over : (y : Bool) (l m : Log) (h : Head) (a b : Term) → UnifiedIf y l m a b → UnifiedIf y l m (pair (leaf h) a) (pair (leaf h) b)
-unified_if_over y l m h a b u = unified_pair y l l m (leaf h) a (leaf h) b (unified_same l (leaf h) (leaf h) refl) u
+unified_if_over y l m h a b u = unified_pair y l l m (leaf h) a (leaf h) b (unified_equal l (leaf h) (leaf h) refl) u
 
 pub unified_if_node : (y : Bool) (l m : Log) (h : Head) (xs ys : List Term) → UnifiedIf y l m (chain xs) (chain ys) → UnifiedIf y l m (node h xs) (node h ys)
 unified_if_node y l m h xs ys u = unified_if_over y l m h (chain xs) (chain ys) u
@@ -182,7 +182,7 @@ none_const_type l c t = none_heads l head.ConstPart head.TypePart (const_term c)
 -- ---- lists of parts
 
 pub unified_chain_none : (l : Log) → Unified l l (chain []) (chain [])
-unified_chain_none l = unified_same l (chain []) (chain []) refl
+unified_chain_none l = unified_equal l (chain []) (chain []) refl
 
 pub unified_chain_more : (l m n : Log) (xs ys : List Term) (x y : Term) → Unified l m (chain xs) (chain ys) → Unified m n x y → Unified l n (chain (xs ++ x ∷ [])) (chain (ys ++ y ∷ []))
 unified_chain_more l m n xs ys x y u v = record {

@@ -12,7 +12,7 @@ use Rattle.hir_types.specs.Terms.{hole_number, occurs}
 use Rattle.infer_table.specs.declared.binding.Binding.{Binding}
 use Rattle.infer_table.specs.Solutions.{IsOf, hole_kind}
 use Rattle.infer_table.specs.Bindings.{AllOf, bound_hole, bound_term}
-use Rattle.infer_table.specs.BindingLaws.{all_of_at}
+use Rattle.infer_table.proofs.BindingLaws.{all_of_at}
 use Rattle.infer_table.specs.Undo.{AreUnusedFrom}
 use Rattle.infer_table.specs.Table.{PairsAreOf, hole_count, State, IsFront, Grew, GrewFrom, Undoes, bindings}
 

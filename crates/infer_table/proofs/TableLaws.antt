@@ -17,11 +17,11 @@ use Rattle.hir_types.specs.TermLaws.{terms, term_at, term_var, term_int_var, ter
 use Rattle.hir_types.specs.Terms.{apply, term, terms_of, ty_step}
 use Rattle.infer_table.specs.declared.binding.Binding.{Binding}
 use Rattle.infer_table.specs.declared.waiting.WaitingPair.{WaitingPair}
-use Rattle.infer_table.specs.BindingLaws.{are_of_last}
+use Rattle.infer_table.proofs.BindingLaws.{are_of_last}
 use Rattle.infer_table.specs.Resolution.{resolution, IsOpenOrKnown, open_var, open_int_var}
-use Rattle.infer_table.specs.Table.{State, bindings, resolved_type, resolved_term, PairIsOf, PairsAreOf, is_type_hole, IsKnown, IsUnknownPair, AllUnknown, IsFirstKnown, TakesFirstKnown}
+use Rattle.infer_table.specs.Table.{State, bindings, resolved_type, resolved_term, PairIsOf, PairsAreOf, is_type_hole, IsNoOpenHole, IsUnknownPair, AllUnknown, IsFirstKnown, TakesFirstKnown}
 use Rattle.infer_table.specs.Waiting.{Waiting, waiting, is_taken, left_from, left_at, left_before, left_past, with_taken}
-use Rattle.infer_table.specs.WaitingLaws.{left_from-push, IsLeft-from_some, waiting-at, waiting-with_taken}
+use Rattle.infer_table.proofs.WaitingLaws.{left_from-push, IsLeft-from_some, waiting-at, waiting-with_taken}
 
 -- ---- whose holes are in the pairs
 
@@ -82,7 +82,7 @@ hole_by_layer bs t x e h = node_is_no_hole bs t x e refl
 pub hole_where_open : (bs : List Binding) (t : Ty) → IsOpenOrKnown bs t → is_type_hole (term (folded (resolution bs) t)) ≡ is_var (out-Ty t)
 hole_where_open bs t h = hole_by_layer bs t (out-Ty t) (sym (roll-out-Ty t)) h
 
-pub unknown_from_not : (s : State) (t : Ty) → (IsKnown s t → ⊥) → is_type_hole (resolved_term s t) ≡ true
+pub unknown_from_not : (s : State) (t : Ty) → (IsNoOpenHole s t → ⊥) → is_type_hole (resolved_term s t) ≡ true
 unknown_from_not s t h = by_cases (is_type_hole (resolved_term s t)) h
   where
     by_cases : (b : Bool) → (b ≡ false → ⊥) → b ≡ true
@@ -144,7 +144,7 @@ known_by_bool true h e = ((λ q. absurd (false≢true q)), (λ q. absurd (true�
 known_by_bool false h e = ((λ _. e), (λ _. refl))
 
 -- the type is known just where what it resolves to is no hole for any type
-pub known_where : (s : State) (t r : Ty) (b : Bool) → resolved_type s r ≡ resolved_type s t → IsOpenOrKnown (bindings s) r → b ≡ is_var (out-Ty r) → (IsTrue (not b) → IsKnown s t) × (IsKnown s t → IsTrue (not b))
+pub known_where : (s : State) (t r : Ty) (b : Bool) → resolved_type s r ≡ resolved_type s t → IsOpenOrKnown (bindings s) r → b ≡ is_var (out-Ty r) → (IsTrue (not b) → IsNoOpenHole s t) × (IsNoOpenHole s t → IsTrue (not b))
 known_where s t r b same open_or_known e =
     known_by_bool b (is_type_hole (resolved_term s t)) (ap (λ (u : Ty). is_type_hole (term u)) (sym same) ∙ hole_where_open (bindings s) r open_or_known ∙ sym e)
 

@@ -4,7 +4,7 @@ use Rattle.std.proofs.Common.{refl, sym, ap, ◌∙◌, subst, append_assoc}
 use Rattle.hir_types.specs.declared.head.HoleKind.{HoleKind}
 use Rattle.infer_table.specs.declared.waiting.WaitingPair.{WaitingPair}
 use Rattle.infer_table.specs.Table.{State, with_new_hole, IsFront, Grew, TakesKnown}
-use Rattle.infer_table.specs.UndoLaws.{front_itself, grew_itself}
+use Rattle.infer_table.proofs.UndoLaws.{front_itself, grew_itself}
 
 front_twice : {X : Type 0} (xs ys zs : List X) → IsFront xs ys → IsFront ys zs → IsFront xs zs
 front_twice xs ys zs f g = (f.0 ++ g.0, g.1 ∙ ap (λ us. us ++ g.0) f.1 ∙ append_assoc xs f.0 g.0)

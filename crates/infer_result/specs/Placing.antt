@@ -5,9 +5,10 @@ use Rattle.hir_types.specs.declared.ids.PatId.{PatId}
 use Rattle.hir_types.specs.declared.ty.Ty.{Ty}
 use Rattle.hir_types.specs.Types.{unit}
 use Rattle.hir_types.specs.Erasure.{Same}
+use Rattle.hir_facts.specs.Order.{element}
 use Rattle.infer_result.specs.declared.result.InferenceResult.{InferenceResult}
 use Rattle.infer_result.specs.declared.diagnostics.InferenceDiagnostic.TheVariants as diagnostic
-use Rattle.infer_result.specs.Table.{MismatchAt, HasMismatch, AnyMismatch, HasDiagnostic, WasSeen}
+use Rattle.infer_result.specs.Table.{HasMismatch, MismatchAt, AnyMismatch, HasDiagnostic, WasSeen}
 use Rattle.infer_result.specs.Places.{Given, IsAt, IsAtOrMismatch, PatIsAtOrMismatch}
 
 pub record Placing : Type 1 where
@@ -43,8 +44,8 @@ at_or_mismatch g t = record {
   no_callee = λ n. WasSeen t n;
 }
 
--- Each part is at its type, but that a part of a tuple and an argument may have a mismatch of their own, and a
--- pattern too; no call has a wrong number of arguments, and each calls a function.
+-- Each part is at its type, but that a part of a tuple and an argument may have a mismatch of their own, and
+-- a pattern too; no call has a wrong number of arguments, and each calls a function.
 abbrev pub at_types : Given → InferenceResult → Placing
 at_types g t = record {
   at = IsAt t;

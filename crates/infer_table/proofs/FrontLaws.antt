@@ -5,7 +5,7 @@ use Rattle.std.proofs.lemmas.List.{length-take, take_more}
 use Rattle.infer_table.specs.declared.waiting.WaitingPair.{WaitingPair}
 use Rattle.infer_table.specs.Table.{State, AllUnknown}
 use Rattle.infer_table.specs.Waiting.{Waiting, is_taken, left_from, left_before, AllTakenBelow}
-use Rattle.infer_table.specs.WaitingLaws.{taken_still, taken_other}
+use Rattle.infer_table.proofs.WaitingLaws.{taken_still, taken_other}
 
 -- one position more that is taken
 pub all_taken_push : (taken : List ℕ) (n at : ℕ) → AllTakenBelow taken n → AllTakenBelow (taken ++ at ∷ []) n
@@ -30,14 +30,14 @@ all_unknown_front s n h =
 -- ---- going back
 
 -- what is taken below a bound, and by none of the later times, is taken by the first ones
-pub record IsLeast (trail : List ℕ) (keep place least : ℕ) : Type 0 where
+pub record IsLeastTaken (trail : List ℕ) (keep place least : ℕ) : Type 0 where
   pub kept : (i : ℕ) → i < least → is_taken (take place trail) i ≡ true → is_taken (take keep trail) i ≡ true
   pub all : AllTakenBelow trail least
 
-pub is_least_itself : (trail : List ℕ) (keep most : ℕ) → AllTakenBelow trail most → IsLeast trail keep keep most
+pub is_least_itself : (trail : List ℕ) (keep most : ℕ) → AllTakenBelow trail most → IsLeastTaken trail keep keep most
 is_least_itself trail keep most h = record { kept = λ i lt e. e; all = h }
 
-pub is_least_more : (trail : List ℕ) (keep place least next : ℕ) → place < length trail → next ≤ least → next ≤ get_or trail place 0 → IsLeast trail keep place least → IsLeast trail keep (place + 1) next
+pub is_least_more : (trail : List ℕ) (keep place least next : ℕ) → place < length trail → next ≤ least → next ≤ get_or trail place 0 → IsLeastTaken trail keep place least → IsLeastTaken trail keep (place + 1) next
 is_least_more trail keep place least next lt le here h = record {
   kept = λ i below e.
       let other : get_or trail place 0 ≡ i → ⊥ = λ same. omega arith in

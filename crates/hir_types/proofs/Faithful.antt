@@ -1,5 +1,5 @@
 -- Terms tell types up to the labels of lifetimes.
-use Rattle.std.proofs.Common.{◌≡◌, ℕ, ◌++◌, refl, sym, ap, subst, ◌∙◌, List, [], ◌∷◌, map, Option, Some, None}
+use Rattle.std.proofs.Common.{◌≡◌, ◌++◌, refl, sym, ap, subst, ◌∙◌, List, [], ◌∷◌, map, Option, Some, None}
 use Rattle.std.specs.List.{flat_map}
 use Rattle.hir_types.specs.declared.ids.TraitId.{TraitId}
 use Rattle.hir_types.specs.declared.head.Head.{Head}
@@ -8,16 +8,15 @@ use Rattle.hir_types.specs.declared.head.Hole.{Hole}
 use Rattle.hir_types.specs.declared.head.Hole.TheVariants as hole_of
 use Rattle.hir_types.specs.declared.ty.Const.{Const}
 use Rattle.hir_types.specs.declared.ty.Const.TheVariants as const
-use Rattle.hir_types.specs.declared.ty.Region.{Region}
-use Rattle.hir_types.specs.declared.ty.Ty.{Ty, Ty-F, roll-Ty, fold-Ty}
+use Rattle.hir_types.specs.declared.ty.Ty.{Ty, Ty-F}
 use Rattle.hir_types.specs.declared.ty.Ty.TheVariants as ty
-use Rattle.hir_types.specs.declared.ty.GenericArg.{GenericArg, GenericArg-F, roll-GenericArg, out-GenericArg, fold-GenericArg, fold_out-GenericArg}
+use Rattle.hir_types.specs.declared.ty.GenericArg.{GenericArg, GenericArg-F, roll-GenericArg, out-GenericArg, fold_out-GenericArg}
 use Rattle.hir_types.specs.declared.ty.GenericArg.TheVariants as arg
-use Rattle.hir_types.specs.declared.ty.TraitRef.{TraitRef, roll-TraitRef, fold-TraitRef}
-use Rattle.hir_types.specs.declared.ty.AliasBound.{AliasBound, roll-AliasBound, fold-AliasBound}
+use Rattle.hir_types.specs.declared.ty.TraitRef.{TraitRef, roll-TraitRef}
+use Rattle.hir_types.specs.declared.ty.AliasBound.{AliasBound, roll-AliasBound}
 use Rattle.hir_types.specs.Erasure.{no_label, erased_step, erased, arg_erased, bound_erased, trait_erased}
 use Rattle.hir_types.specs.Folds.{Steps, Maps, folds, folds_follow, Follows, Same, unique, after, in_arg, in_ty, in_bound, in_trait, in_arg_twice, in_ty_twice, in_bound_twice, in_trait_twice}
-use Rattle.hir_types.specs.Terms.{Term, hole, leaf, pair, chain, node, const_term, type_part, const_part, arg_step, bound_step, trait_step, auto_parts, ty_step, term, arg_term, trait_parts, bound_parts}
+use Rattle.hir_types.specs.Terms.{Term, hole, leaf, pair, chain, node, const_term, type_part, arg_step, bound_step, trait_step, auto_parts, ty_step, term, arg_term, trait_parts, bound_parts}
 use Rattle.hir_types.specs.TermLaws.{term_steps, terms, term_at, arg_term_at, trait_parts_is, bound_parts_is, term_ref}
 
 -- ---- types without labels

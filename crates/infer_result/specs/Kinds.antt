@@ -1,0 +1,9 @@
+pub mod Constructor
+pub mod Literal
+pub mod Path
+pub mod Tuple
+pub mod Block
+pub mod Alternative
+pub mod If
+pub mod Match
+pub mod Call

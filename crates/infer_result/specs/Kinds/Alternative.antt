@@ -1,0 +1,33 @@
+-- The alternatives of an `if` and of a `match`, one of which gives the node its value: Reference, "Least
+-- upper bound coercions"; upstream `infer/coerce.rs`, `CoerceMany`.
+use Rattle.std.specs.Prelude.{ℕ, ◌<◌, ◌≡◌, ◌⊎◌, Some}
+use Rattle.hir_types.specs.declared.ids.ExprId.{ExprId}
+use Rattle.hir_types.specs.declared.ty.Ty.{Ty}
+use Rattle.hir_types.specs.declared.ids.ExprOrPatId.TheVariants as node
+use Rattle.hir_facts.specs.declared.raw.RawBody.{RawBody}
+use Rattle.hir_facts.specs.Order.{Role, then_branch, else_branch, arm, expr_part, inner, part_at}
+use Rattle.infer_result.specs.declared.result.InferenceResult.{InferenceResult}
+use Rattle.infer_result.specs.Table.{HasTy}
+use Rattle.infer_result.specs.Places.{Given}
+
+-- ---- what is asked of them
+
+-- Of the branches of an `if`, or of the arms of a `match`, one gives the node its value. The first of
+-- these comes before the second.
+abbrev pub IsBefore : Role → Role → Type 0
+IsBefore then_branch else_branch = Unit {0}
+IsBefore (arm i) (arm j) = i < j
+IsBefore _ _ = ⊥
+
+-- an alternative of the node n before that in this role has the type s
+pub record IsOfOther (b : RawBody) (t : InferenceResult) (n : ExprId) (role : Role) (s : Ty) : Type 0 where
+  pub other : Role
+  pub expr : ExprId
+  pub at_part : ℕ
+  pub stands : part_at b (inner (node.ExprId n)) at_part ≡ Some (expr_part other expr)
+  pub is_before : IsBefore other role
+  pub has : HasTy t expr s
+
+-- an alternative is to have the type of the node, or that of an earlier alternative
+abbrev pub AsksOfAlternative : Given → InferenceResult → ExprId → Role → Ty → Type 0
+AsksOfAlternative g t n role s = HasTy t n s ⊎ IsOfOther g.body t n role s

@@ -1,0 +1,66 @@
+-- A block: its statements, and its tail at its type. Reference, "Block expressions", "Statements"; upstream
+-- `infer/expr.rs`, `infer_block`.
+use Rattle.std.specs.Prelude.{◌≡◌, ◌⊎◌, true, false, List, slice_get, Option, Some, None, [], ◌∷◌}
+use Rattle.hir_types.specs.declared.ids.ExprId.{ExprId}
+use Rattle.hir_types.specs.declared.ids.PatId.{PatId}
+use Rattle.hir_types.specs.declared.ids.TypeRefId.{TypeRefId}
+use Rattle.hir_types.specs.declared.ty.Ty.{Ty}
+use Rattle.hir_types.specs.Types.{unit}
+use Rattle.hir_types.specs.declared.ids.LabelId.{LabelId}
+use Rattle.hir_facts.specs.declared.raw.RawBody.{RawBody}
+use Rattle.hir_facts.specs.declared.raw.RawStmt.{RawStmt}
+use Rattle.hir_facts.specs.declared.raw.RawStmt.TheVariants as stmt
+use Rattle.hir_facts.specs.declared.raw.RawExpr.TheVariants as expr
+use Rattle.infer_result.specs.declared.result.InferenceResult.{InferenceResult}
+use Rattle.infer_result.specs.Table.{HasTy, HasMismatch, MaybeMismatch}
+use Rattle.infer_result.specs.Places.{Given, declared, AreRecorded}
+use Rattle.infer_result.specs.Placing.{Placing}
+
+-- ---- its rule
+
+-- The initializer at the written type and the pattern at that, where it is recorded what each `_` in it
+-- stands for; without one the pattern at the initializer's type.
+abbrev pub LetRule : Placing → Given → InferenceResult → PatId → Option TypeRefId → Option ExprId → Type 0
+LetRule P g t p (Some w) (Some e) = AreRecorded g t w × P.at e (declared g t w) × P.pattern p (declared g t w)
+LetRule P g t p (Some w) None = AreRecorded g t w × P.pattern p (declared g t w)
+LetRule P g t p None (Some e) = (s : Ty) × HasTy t e s × P.pattern p s
+LetRule P g t p None None = Unit {0}
+
+-- an expression without semicolon is at `()`
+abbrev pub StmtRule : Placing → Given → InferenceResult → RawStmt → Type 0
+StmtRule P g t (stmt.Let p w init other) = LetRule P g t p w init
+StmtRule P g t (stmt.Expr e true) = Unit {0}
+StmtRule P g t (stmt.Expr e false) = P.at e unit
+
+abbrev pub StmtsRule : Placing → Given → InferenceResult → List RawStmt → Type 0
+StmtsRule P g t [] = Unit {0}
+StmtsRule P g t (s ∷ ss) = StmtRule P g t s × StmtsRule P g t ss
+
+-- a block without tail is `()`
+abbrev pub TailRule : Placing → ExprId → Option ExprId → Ty → Type 0
+TailRule P n None s = P.no_tail n s
+TailRule P n (Some e) s = P.at e s
+
+-- the statements obey, and the tail is at the block's type
+pub record BlockRule (P : Placing) (g : Given) (t : InferenceResult) (n : ExprId) (stmts : List RawStmt) (last : Option ExprId) : Type 0 where
+  pub statements : StmtsRule P g t stmts
+  pub type : Ty
+  pub has : HasTy t n type
+  pub ends : TailRule P n last type
+
+-- ---- what excuses it
+
+abbrev pub StmtHasMismatch : InferenceResult → RawStmt → Type 0
+StmtHasMismatch t (stmt.Let p w init other) = MaybeMismatch t init
+StmtHasMismatch t (stmt.Expr e semicolon) = HasMismatch t e
+
+abbrev pub StmtsHaveMismatch : InferenceResult → List RawStmt → Type 0
+StmtsHaveMismatch t [] = ⊥
+StmtsHaveMismatch t (s ∷ ss) = StmtHasMismatch t s ⊎ StmtsHaveMismatch t ss
+
+-- ---- what its complaints say
+
+pub record IsBlockWithoutTail (b : RawBody) (e : ExprId) : Type 0 where
+  pub label : Option LabelId
+  pub stmts : List RawStmt
+  pub is_block : slice_get b.exprs e.0 ≡ Some (expr.Block label stmts None)

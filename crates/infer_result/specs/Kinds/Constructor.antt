@@ -1,0 +1,29 @@
+-- What the constructor of a variant is: Reference, "Struct expressions", "Enumerations"; upstream
+-- `infer/path.rs`.
+use Rattle.std.specs.Prelude.{◌≡◌, List, length, map, slice_get, Some}
+use Rattle.hir_types.specs.declared.ids.VariantId.{VariantId}
+use Rattle.hir_types.specs.declared.ty.Ty.{Ty}
+use Rattle.hir_types.specs.declared.ty.Ty.TheVariants as ty
+use Rattle.hir_facts.specs.declared.raw.RawVariant.{RawVariant}
+use Rattle.hir_facts.specs.Signatures.{type_args, at_args, field_types, ctor_type}
+use Rattle.hir_facts.specs.Scope.{adt_params}
+use Rattle.infer_result.specs.Places.{Given}
+
+-- the variant, at as many types as its adt has parameters
+pub record IsVariantAt (g : Given) (v : VariantId) (x : RawVariant) (ts : List Ty) : Type 0 where
+  pub found : slice_get g.scope.facts.variants v.0 ≡ Some x
+  pub count : adt_params g.scope.facts x.adt ≡ Some (length ts)
+
+-- its adt, and the types of its fields, at these types
+abbrev pub adt_at : RawVariant → List Ty → Ty
+adt_at x ts = ty.Adt x.adt (type_args ts)
+
+abbrev pub fields_at : Given → RawVariant → List Ty → List Ty
+fields_at g x ts = map (at_args ts) (field_types g.scope.facts.types x)
+
+-- s is the type of a path to the constructor, at some types
+pub record IsCtorPath (g : Given) (v : VariantId) (s : Ty) : Type 0 where
+  pub variant : RawVariant
+  pub types : List Ty
+  pub is_variant : IsVariantAt g v variant types
+  pub is : s ≡ ctor_type variant v types

@@ -1,0 +1,47 @@
+-- A `match`, whose arms stand at its type: Reference, "match expressions"; upstream `infer/expr.rs`,
+-- `Expr::Match`.
+use Rattle.std.specs.Prelude.{◌⊎◌, List, Option, Some, None, [], ◌∷◌}
+use Rattle.hir_types.specs.declared.ids.ExprId.{ExprId}
+use Rattle.hir_types.specs.declared.ty.Ty.{Ty}
+use Rattle.hir_types.specs.declared.ty.Ty.TheVariants as ty
+use Rattle.hir_facts.specs.declared.raw.RawArm.{RawArm}
+use Rattle.infer_result.specs.declared.result.InferenceResult.{InferenceResult}
+use Rattle.infer_result.specs.Table.{HasTy, MaybeMismatch}
+use Rattle.infer_result.specs.Placing.{Placing}
+
+-- ---- its rule
+
+-- the expressions of the arms
+abbrev pub arm_exprs : List RawArm → List ExprId
+arm_exprs [] = []
+arm_exprs (a ∷ as_) = a.expr ∷ arm_exprs as_
+
+-- each pattern at the type of the scrutinee
+abbrev pub ArmPatterns : Placing → List RawArm → Ty → Type 0
+ArmPatterns P [] s = Unit {0}
+ArmPatterns P (a ∷ as_) s = P.pattern a.pat s × ArmPatterns P as_ s
+
+-- a guard at `bool`
+abbrev pub GuardRule : Placing → Option ExprId → Type 0
+GuardRule P None = Unit {0}
+GuardRule P (Some e) = P.at e ty.Bool
+
+-- each guard at `bool`, and each arm at the type of the `match`, which these expressions give
+abbrev pub ArmsRule : Placing → List ExprId → List RawArm → Ty → Type 0
+ArmsRule P es [] s = Unit {0}
+ArmsRule P es (a ∷ as_) s = (GuardRule P a.guard × P.alternative es a.expr s) × ArmsRule P es as_ s
+
+-- the patterns at the type of the scrutinee, the arms at the type of the `match`
+pub record MatchRule (P : Placing) (t : InferenceResult) (n e : ExprId) (arms : List RawArm) : Type 0 where
+  pub scrutinee : Ty
+  pub comes : HasTy t e scrutinee
+  pub patterns : ArmPatterns P arms scrutinee
+  pub type : Ty
+  pub has : HasTy t n type
+  pub alternatives : ArmsRule P (arm_exprs arms) arms type
+
+-- ---- what excuses it
+
+abbrev pub GuardsHaveMismatch : InferenceResult → List RawArm → Type 0
+GuardsHaveMismatch t [] = ⊥
+GuardsHaveMismatch t (a ∷ as_) = MaybeMismatch t a.guard ⊎ GuardsHaveMismatch t as_

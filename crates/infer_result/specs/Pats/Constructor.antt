@@ -1,0 +1,68 @@
+-- A pattern by a constructor, over patterns or alone: Reference, "Tuple struct patterns", "Path patterns";
+-- upstream `infer/pat.rs`, `infer_tuple_struct_pat_like`.
+use Rattle.std.specs.Prelude.{ℕ, ◌≡◌, ◌⊎◌, List, length, slice_get, Some, [], ◌∷◌}
+use Rattle.hir_types.specs.declared.ids.PatId.{PatId}
+use Rattle.hir_types.specs.declared.ids.VariantId.{VariantId}
+use Rattle.hir_types.specs.declared.ty.Ty.{Ty}
+use Rattle.hir_types.specs.declared.ids.ExprOrPatId.TheVariants as node
+use Rattle.hir_facts.specs.declared.raw.RawVariant.{RawVariant}
+use Rattle.hir_facts.specs.declared.raw.RawPath.{RawPath}
+use Rattle.hir_facts.specs.declared.raw.RawPat.TheVariants as pat
+use Rattle.hir_facts.specs.declared.raw.RawPath.TheVariants as path
+use Rattle.infer_result.specs.declared.result.InferenceResult.{InferenceResult}
+use Rattle.infer_result.specs.declared.diagnostics.InferenceDiagnostic.TheVariants as diagnostic
+use Rattle.infer_result.specs.Table.{PatTy, PatVariant, HasPatDiagnostic}
+use Rattle.infer_result.specs.Places.{Given, PatIsAtOrMismatch}
+use Rattle.infer_result.specs.Kinds.Constructor.{IsCtorPath, IsVariantAt, adt_at, fields_at}
+
+-- ---- its rule
+
+-- each of these at its type, as far as there are both
+abbrev pub PatsAtFields : Given → InferenceResult → List PatId → List Ty → Type 0
+PatsAtFields g t [] ss = Unit {0}
+PatsAtFields g t (p ∷ ps) [] = Unit {0}
+PatsAtFields g t (p ∷ ps) (s ∷ ss) = PatIsAtOrMismatch g t p s × PatsAtFields g t ps ss
+
+-- The pattern has the type of the constructor's adt, its parts are at the types of the fields, of which there
+-- are as many, or that there are not is said. Which variant it is of is recorded.
+pub record CtorPatRule (g : Given) (t : InferenceResult) (p : PatId) (v : VariantId) (ps : List PatId) : Type 0 where
+  pub variant : RawVariant
+  pub types : List Ty
+  pub is_variant : IsVariantAt g v variant types
+  pub has : PatTy t p (adt_at variant types)
+  pub parts : PatsAtFields g t ps (fields_at g variant types)
+  pub counted : (length variant.fields ≡ length ps)
+      ⊎ HasPatDiagnostic t p (diagnostic.MismatchedTupleStructPatArgCount (node.PatId p) (length variant.fields) (length ps))
+  pub resolved : PatVariant t p v
+
+-- a pattern that is a path has the type of the constructor that it names
+abbrev pub PathPatRule : Given → InferenceResult → PatId → RawPath → Type 0
+PathPatRule g t p (path.Ctor v) = (s : Ty) × PatTy t p s × IsCtorPath g v s × PatVariant t p v
+PathPatRule g t p _ = ⊥
+
+-- ---- what it gives its parts
+
+-- the pattern is a constructor over patterns, and s is the type of its field at this position where the
+-- pattern's own type is its adt
+pub record GivesField (g : Given) (t : InferenceResult) (p : PatId) (i : ℕ) (s : Ty) : Type 0 where
+  pub named : VariantId
+  pub parts : List PatId
+  pub is_pat : slice_get g.body.pats p.0 ≡ Some (pat.TupleStruct named parts)
+  pub variant : RawVariant
+  pub types : List Ty
+  pub is_variant : IsVariantAt g named variant types
+  pub has : PatTy t p (adt_at variant types)
+  pub field : slice_get (fields_at g variant types) i ≡ Some s
+
+-- ---- what its complaints say
+
+-- The pattern is of a constructor with so many fields, has so many parts, and these numbers differ.
+pub record IsWrongFieldCount (g : Given) (p : PatId) (expected found : ℕ) : Type 0 where
+  pub named : VariantId
+  pub parts : List PatId
+  pub is_pat : slice_get g.body.pats p.0 ≡ Some (pat.TupleStruct named parts)
+  pub variant : RawVariant
+  pub is_variant : slice_get g.scope.facts.variants named.0 ≡ Some variant
+  pub is_expected : expected ≡ length variant.fields
+  pub is_found : found ≡ length parts
+  pub differ : expected ≡ found → ⊥

@@ -1,0 +1,35 @@
+-- What a table is whatever its nodes' rules, and that what it complains of is so.
+use Rattle.std.specs.Prelude.{ℕ, ◌≡◌, slice_get, Some}
+use Rattle.hir_types.specs.declared.ids.ExprId.{ExprId}
+use Rattle.hir_types.specs.declared.ids.PatId.{PatId}
+use Rattle.infer_result.specs.declared.result.InferenceResult.{InferenceResult}
+use Rattle.infer_result.specs.declared.result.TypeMismatch.{TypeMismatch}
+use Rattle.infer_result.specs.declared.result.Seen.{Seen}
+use Rattle.infer_result.specs.declared.diagnostics.InferenceDiagnostic.{InferenceDiagnostic}
+use Rattle.infer_result.specs.Table.{At}
+use Rattle.infer_result.specs.Closed.{IsOfBody, IsClosedTable, OnlyBindersHaveModes, OnlyNamedVariants}
+use Rattle.infer_result.specs.Places.{Given, HasPlaceholders}
+use Rattle.infer_result.specs.Kinds.Call.{IsSaid}
+use Rattle.infer_result.specs.Truth.Mismatch.{IsTruePatMismatch}
+use Rattle.infer_result.specs.Truth.Seen.{IsTrueSeen}
+use Rattle.infer_result.specs.Truth.Diagnostics.{IsTrueDiagnostic, IsTruePatDiagnostic}
+
+-- The table has an entry for each node, and no hole; modes, variants and what `_`s stand for are recorded
+-- where they belong.
+pub record IsShaped (g : Given) (t : InferenceResult) : Type 0 where
+  pub of_body : IsOfBody g.body t
+  pub closed : IsClosedTable t
+  pub modes : OnlyBindersHaveModes g.body t
+  pub placeholders : HasPlaceholders g t
+  pub variants : OnlyNamedVariants g.body t
+
+-- Each complaint other than a mismatch of an expression is true, and so is each failed look-up that is kept,
+-- of which a complaint tells unless `{unknown}` is in the type.
+pub record IsTruthful (g : Given) (t : InferenceResult) : Type 0 where
+  pub diagnostics : (e : ExprId) (x : InferenceDiagnostic) → At t.expr_diagnostics e.0 x
+      → IsTrueDiagnostic g t e x
+  pub pat_diagnostics : (p : PatId) (x : InferenceDiagnostic) → At t.pat_diagnostics p.0 x
+      → IsTruePatDiagnostic g p x
+  pub pat_truths : (p : PatId) (x : TypeMismatch) → At t.pat_mismatches p.0 x → IsTruePatMismatch g t p x
+  pub seen : (i : ℕ) (x : Seen) → slice_get t.seen i ≡ Some x → IsTrueSeen g t x
+  pub said : (i : ℕ) (x : Seen) → slice_get t.seen i ≡ Some x → IsSaid g t x

@@ -1,0 +1,24 @@
+-- When a complaint other than a mismatch is true.
+use Rattle.std.specs.Prelude.{◌≡◌}
+use Rattle.hir_types.specs.declared.ids.ExprId.{ExprId}
+use Rattle.hir_types.specs.declared.ids.PatId.{PatId}
+use Rattle.hir_types.specs.declared.ids.ExprOrPatId.TheVariants as node
+use Rattle.infer_result.specs.declared.result.InferenceResult.{InferenceResult}
+use Rattle.infer_result.specs.declared.diagnostics.InferenceDiagnostic.{InferenceDiagnostic}
+use Rattle.infer_result.specs.declared.diagnostics.InferenceDiagnostic.TheVariants as diagnostic
+use Rattle.infer_result.specs.Places.{Given}
+use Rattle.infer_result.specs.Kinds.Call.{IsNoFunction, IsWrongCount}
+use Rattle.infer_result.specs.Pats.Constructor.{IsWrongFieldCount}
+
+-- the complaint at e is about e, and what it says is so
+abbrev pub IsTrueDiagnostic : Given → InferenceResult → ExprId → InferenceDiagnostic → Type 0
+IsTrueDiagnostic g t e (diagnostic.MismatchedArgCount n expected found) =
+    (n ≡ e) × IsWrongCount g t e expected found
+IsTrueDiagnostic g t e (diagnostic.MismatchedTupleStructPatArgCount n expected found) = ⊥
+IsTrueDiagnostic g t e (diagnostic.ExpectedFunction n s) = (n ≡ e) × IsNoFunction g t e s
+
+-- the complaint at p is about p, and what it says is so
+abbrev pub IsTruePatDiagnostic : Given → PatId → InferenceDiagnostic → Type 0
+IsTruePatDiagnostic g p (diagnostic.MismatchedTupleStructPatArgCount n expected found) =
+    (n ≡ node.PatId p) × IsWrongFieldCount g p expected found
+IsTruePatDiagnostic g p _ = ⊥
