@@ -13,7 +13,7 @@ use Rattle.hir_facts.specs.declared.laws.FactsList.{FactsList}
 use Rattle.hir_facts.specs.Laws.Lawful.{IsLawful, FirstBroken, tests}
 use Rattle.infer_text.specs.declared.fault.ReadError.{ReadError}
 use Rattle.infer_text.specs.declared.fault.ReadError.TheVariants as error
-use Rattle.infer_text.specs.Reading.{field, keys_in, bool_in, option_in, list_in}
+use Rattle.infer_text.specs.Reading.{◌>>=◌, ◌>>◌, field, keys_in, bool_in, option_in, list_in}
 use Rattle.infer_text.specs.Leaves.{module_in, other_in, profile_in, edition_in}
 use Rattle.infer_text.specs.Entries.{type_in, adt_in, variant_in, fn_in, limits_in, lang_in}
 use Rattle.infer_text.specs.Bodies.{body_in}
