@@ -1,11 +1,24 @@
 //! Infers the types of a definition's body: facts on standard input, a report on standard output.
 #![tactic(auto)]
 
-use infer_run::{StdSink, StdSource, run};
+mod explain;
+mod kept;
+mod laws;
+mod look;
+mod nodes;
+mod place;
+mod shape;
+mod words;
+
+use explain::explain;
+use infer_run::{Ran, StdSink, StdSource, run};
+use kept::KeptSource;
+use std::alloc::{AllocError, Global};
 use std::env::Env;
 use std::process::ExitCode;
 use std::rc::RcStr;
 use std::{env, io};
+use words::{told_definition, told_words};
 
 const USAGE: &str =
     "usage: infer_tool table KIND N, where KIND is fn, const, static or variant, and N a number; facts are read from standard input";
@@ -14,7 +27,15 @@ const HELP: &str = "infer_tool table KIND N
 
 Reads the facts of a crate from standard input, as JSON, infers the types of the body of
 one definition, and writes a report on standard output. KIND is fn, const, static or
-variant, and N the definition's number in its list.
+variant, and N the definition's number in its list. N counts from 0, as all numbers of
+the facts and of the report do.
+
+The types of the first function of facts.json:
+
+    infer_tool table fn 0 < facts.json
+
+--help prints this, and --version the version. Standard error says in a sentence what
+went wrong.
 
 Status: 0 no complaint, 1 a complaint, 2 wrong words, 3 input failed, 4 output failed,
 5 not enough memory, 6 no JSON, 7 another shape is wanted, 8 a law is broken, 9 no body,
@@ -48,28 +69,58 @@ fn print(rt: &impl Print, text: &str) -> u8 {
     }
 }
 
-/// What was wrong at a status that has no fault.
-fn reason(status: u8) -> Option<&'static str> {
+/// What was wrong at a status, in words that need no memory.
+fn reason(status: u8) -> &'static str {
     match status {
-        2 => Some(USAGE),
-        3 => Some("standard input could not be read"),
-        4 => Some("standard output could not be written"),
-        9 => Some("the definition is out of range, or has no body"),
-        10 => Some("standard input has more than 16777216 bytes"),
-        _ => None,
+        2 => USAGE,
+        3 => "standard input could not be read",
+        4 => "standard output could not be written",
+        9 => "the definition is out of range, or has no body",
+        10 => "standard input has more than 16777216 bytes",
+        _ => "there is not enough memory",
     }
+}
+
+/// What was wrong with a run, by what it read; `None` where `reason` says all.
+fn sentence(
+    alloc: Global,
+    words: &[RcStr],
+    ran: &Ran,
+    bytes: Option<&[u8]>,
+) -> Result<Option<String>, AllocError> {
+    if let Some(fault) = &ran.fault {
+        let told = match bytes {
+            Some(bytes) => explain(alloc, bytes, fault)?,
+            None => fault.to_string(alloc)?,
+        };
+        return Ok(Some(told));
+    }
+    match &ran.facts {
+        None if ran.status == 2 => Ok(Some(told_words(alloc, words)?)),
+        Some(facts) if ran.status == 9 => told_definition(alloc, words, facts),
+        _ => Ok(None),
+    }
+}
+
+/// Says on standard error what was wrong with a run.
+fn complain(rt: &HostRuntime, words: &[RcStr], ran: &Ran, bytes: Option<&[u8]>) {
+    let _ = match (sentence(rt.alloc(), words, ran, bytes), &ran.fault) {
+        (Ok(Some(told)), _) => eprintln!(rt; "infer_tool: {told}"),
+        (Err(AllocError), Some(fault)) => eprintln!(rt; "infer_tool: {fault}"),
+        (Ok(None) | Err(AllocError), _) => {
+            let told = reason(ran.status);
+            eprintln!(rt; "infer_tool: {told}")
+        }
+    };
 }
 
 /// Runs the command between standard input and output, and says on standard error what was wrong.
 fn run_between(rt: &HostRuntime, words: &[RcStr]) -> u8 {
-    let mut source = StdSource::new(rt.reader());
+    let mut source = KeptSource::new(rt.alloc(), StdSource::new(rt.reader()));
     let mut sink = StdSink::new(io::writer(rt));
     let ran = run(rt.alloc(), words, &mut source, &mut sink);
-    if let Some(fault) = &ran.fault {
-        let _ = eprintln!(rt; "infer_tool: {fault}");
-    }
-    if let Some(text) = reason(ran.status) {
-        let _ = eprintln!(rt; "infer_tool: {text}");
+    if ran.status >= 2 {
+        complain(rt, words, &ran, source.kept());
     }
     ran.status
 }

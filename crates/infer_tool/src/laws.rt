@@ -1,0 +1,60 @@
+//! What is wrong where a law is broken, found in the text again.
+
+mod carried;
+mod counts;
+mod holes;
+mod ids;
+mod limits;
+mod literals;
+mod scopes;
+mod sizes;
+mod trees;
+
+use crate::place::{Place, list_name};
+use hir_facts::{FactsList, Law};
+use serde_json::Value;
+use std::alloc::{AllocError, Global};
+use std::fmt;
+
+fn told<W: fmt::Display + Drop>(
+    alloc: Global,
+    law: Law,
+    found: Option<(Place, W)>,
+) -> Result<Option<String>, AllocError> {
+    match found {
+        None => Ok(None),
+        Some((place, wrong)) => {
+            let number = law.number();
+            let text = format!(in alloc; "law {number} is broken at `{place}`: {wrong}")?;
+            Ok(Some(text))
+        }
+    }
+}
+
+/// What is wrong at the entry where a law is broken, first of all laws; `None` where it is not found.
+pub fn told_breach(
+    alloc: Global,
+    facts: &Value,
+    law: Law,
+    list: FactsList,
+    index: usize,
+) -> Result<Option<String>, AllocError> {
+    if law == Law::Carried {
+        return told(alloc, law, carried::find(facts, list, index));
+    }
+    let Some(entry) = facts.get(list_name(list)).and_then(|list| list.get(index)) else {
+        return Ok(None);
+    };
+    let place = Place::new(list, index);
+    match law {
+        Law::Carried => Ok(None),
+        Law::Ids => told(alloc, law, ids::find(alloc, facts, list, index, entry)?),
+        Law::Counts => told(alloc, law, counts::find(alloc, facts, list, index, entry)?),
+        Law::Trees => told(alloc, law, trees::find(alloc, place, entry)?),
+        Law::Scopes => told(alloc, law, scopes::find(alloc, place, entry)?),
+        Law::Sizes => told(alloc, law, sizes::find(alloc, facts, list, index, entry)?),
+        Law::Limits => told(alloc, law, limits::find(facts, index)),
+        Law::Literals => told(alloc, law, literals::find(alloc, list, index, entry)?),
+        Law::Holes => told(alloc, law, holes::find(facts, index)),
+    }
+}

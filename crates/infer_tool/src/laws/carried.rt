@@ -1,0 +1,205 @@
+//! Law 0: what is not carried yet.
+
+use crate::look::{is_there, items, list, number, word};
+use crate::place::{Place, list_name};
+use hir_facts::FactsList;
+use serde_json::Value;
+use std::fmt;
+
+/// What is not carried yet.
+#[derive(Clone, Copy)]
+pub enum Uncarried<'a> {
+    /// What the format has a word for: the word, and what it is one of.
+    Kind(&'a str, &'static str),
+    /// What the format has no word for.
+    Form(&'static str),
+}
+
+impl fmt::Display for Uncarried<'_> {
+    fn fmt<W: fmt::Write>(&self, f: &mut fmt::Formatter<W>) -> fmt::Result {
+        match self {
+            Uncarried::Kind(word, of) => write!(f, "`{word}` {of} are not carried yet"),
+            Uncarried::Form(form) => write!(f, "{form} are not carried yet"),
+        }
+    }
+}
+
+const WRITTEN_ARGUMENTS: Uncarried<'static> = Uncarried::Form("written arguments of paths");
+
+fn of_type(ty: &Value) -> Uncarried<'_> {
+    match word(Some(ty)) {
+        "adt" => Uncarried::Form("const arguments of types"),
+        word => Uncarried::Kind(word, "types"),
+    }
+}
+
+fn of_params(place: Place, entry: &Value) -> Option<(Place, Uncarried<'_>)> {
+    for (at, param) in list(entry, "params").iter().enumerate() {
+        if word(Some(param)) != "t" {
+            return Some((
+                place.item("params", at),
+                Uncarried::Form("const parameters"),
+            ));
+        }
+    }
+    if list(entry, "preds").is_empty() {
+        None
+    } else {
+        Some((place.item("preds", 0), Uncarried::Form("predicates")))
+    }
+}
+
+fn of_adt(place: Place, adt: &Value) -> Option<(Place, Uncarried<'_>)> {
+    if word(adt.get("kind")) == "union" {
+        Some((place.key("kind"), Uncarried::Form("unions")))
+    } else if is_there(adt.get("unsize")) {
+        Some((
+            place.key("unsize"),
+            Uncarried::Form("parameters that may lose their size"),
+        ))
+    } else {
+        of_params(place, adt)
+    }
+}
+
+fn of_variant(place: Place, variant: &Value) -> Option<(Place, Uncarried<'_>)> {
+    if word(variant.get("ctor")) == "record" {
+        Some((
+            place.key("ctor"),
+            Uncarried::Form("variants with named fields"),
+        ))
+    } else if is_there(variant.get("body")) {
+        Some((place.key("body"), Uncarried::Form("bodies of variants")))
+    } else {
+        None
+    }
+}
+
+fn of_fn(place: Place, function: &Value) -> Option<(Place, Uncarried<'_>)> {
+    match word(function.get("at")) {
+        "module" => {}
+        word => return Some((place.key("at"), Uncarried::Kind(word, "functions"))),
+    }
+    match function.get("has_self") {
+        Some(Value::Bool(true)) => {
+            Some((
+                place.key("has_self"),
+                Uncarried::Form("functions with `self`"),
+            ))
+        }
+        _ => of_params(place, function),
+    }
+}
+
+fn of_path(path: Option<&Value>) -> Option<Uncarried<'_>> {
+    match word(path) {
+        "local" | "fn" | "ctor" | "variant" => {
+            if is_there(path?.get(2usize)) {
+                Some(WRITTEN_ARGUMENTS)
+            } else {
+                None
+            }
+        }
+        word => Some(Uncarried::Kind(word, "paths")),
+    }
+}
+
+fn has_else(stmt: &Value) -> bool {
+    word(Some(stmt)) == "let" && is_there(stmt.get(4usize))
+}
+
+fn of_expr(expr: &Value) -> Option<Uncarried<'_>> {
+    match word(Some(expr)) {
+        "lit" => match word(expr.get(1usize)) {
+            "bool" | "char" | "int" => None,
+            word => Some(Uncarried::Kind(word, "literals")),
+        },
+        "path" => of_path(expr.get(1usize)),
+        "block" if is_there(expr.get(1usize)) => Some(Uncarried::Form("labelled blocks")),
+        "block" if items(expr.get(2usize)).iter().any(|stmt| has_else(stmt)) => {
+            Some(Uncarried::Form("`let` statements with `else`"))
+        }
+        "match" if items(expr.get(2usize)).is_empty() => {
+            Some(Uncarried::Form("`match` expressions without arms"))
+        }
+        "block" | "match" | "tuple" | "if" | "call" => None,
+        word => Some(Uncarried::Kind(word, "expressions")),
+    }
+}
+
+fn of_pat(pat: &Value) -> Option<Uncarried<'_>> {
+    match word(Some(pat)) {
+        "bind" if is_there(pat.get(2usize)) => Some(Uncarried::Form("patterns after `@`")),
+        "tuple" if is_there(pat.get(2usize)) => Some(Uncarried::Form("`..` in patterns")),
+        "ctor" if is_there(pat.get(3usize)) => Some(Uncarried::Form("`..` in patterns")),
+        "ctor" => of_path(pat.get(1usize)),
+        "path" => match word(pat.get(1usize)) {
+            "ctor" => of_path(pat.get(1usize)),
+            word => Some(Uncarried::Kind(word, "paths as patterns")),
+        },
+        "wild" | "bind" | "tuple" | "lit" => None,
+        word => Some(Uncarried::Kind(word, "patterns")),
+    }
+}
+
+fn of_binding(binding: &Value) -> Option<Uncarried<'_>> {
+    match word(binding.get(1usize)) {
+        "plain" | "mut" => None,
+        word => Some(Uncarried::Kind(word, "bindings")),
+    }
+}
+
+fn of_body(place: Place, body: &Value) -> Option<(Place, Uncarried<'_>)> {
+    for (at, expr) in list(body, "exprs").iter().enumerate() {
+        if let Some(found) = of_expr(expr) {
+            return Some((place.item("exprs", at), found));
+        }
+    }
+    for (at, pat) in list(body, "pats").iter().enumerate() {
+        if let Some(found) = of_pat(pat) {
+            return Some((place.item("pats", at), found));
+        }
+    }
+    for (at, binding) in list(body, "bindings").iter().enumerate() {
+        if let Some(found) = of_binding(binding) {
+            return Some((place.item("bindings", at), found));
+        }
+    }
+    if number(body.get("self")).is_some() {
+        Some((place.key("self"), Uncarried::Form("bodies with `self`")))
+    } else {
+        None
+    }
+}
+
+/// What the entries of a list are that has no kind that is carried.
+fn unread(list: FactsList) -> Option<&'static str> {
+    match list {
+        FactsList::Consts => Some("consts"),
+        FactsList::Statics => Some("statics"),
+        FactsList::Traits => Some("traits"),
+        FactsList::Aliases => Some("aliases"),
+        FactsList::Impls => Some("impls"),
+        FactsList::Opaques => Some("opaque types"),
+        FactsList::Lang => Some("language items"),
+        FactsList::Types | FactsList::Modules | FactsList::Adts | FactsList::Variants => None,
+        FactsList::Fns | FactsList::Bodies | FactsList::Limits => None,
+    }
+}
+
+/// What the entry has that is not carried yet.
+pub fn find(facts: &Value, list: FactsList, index: usize) -> Option<(Place, Uncarried<'_>)> {
+    let place = Place::new(list, index);
+    if let Some(form) = unread(list) {
+        return Some((place, Uncarried::Form(form)));
+    }
+    let entry = facts.get(list_name(list))?.get(index)?;
+    match list {
+        FactsList::Types => Some((place, of_type(entry))),
+        FactsList::Adts => of_adt(place, entry),
+        FactsList::Variants => of_variant(place, entry),
+        FactsList::Fns => of_fn(place, entry),
+        FactsList::Bodies => of_body(place, entry),
+        _ => None,
+    }
+}

@@ -1,0 +1,104 @@
+//! Law 9: types with a `_` that are not used once, in a body.
+
+use crate::look::{items, list, number, type_id, type_parts, word};
+use crate::place::Place;
+use hir_facts::FactsList;
+use serde_json::Value;
+use std::fmt;
+
+/// How a type in which a `_` stands is used.
+#[derive(Clone, Copy)]
+pub enum WrongUse {
+    /// By a signature or a field.
+    Item(Place),
+    /// By other types and by bodies, so many times.
+    Times(usize),
+}
+
+impl fmt::Display for WrongUse {
+    fn fmt<W: fmt::Write>(&self, f: &mut fmt::Formatter<W>) -> fmt::Result {
+        match self {
+            WrongUse::Item(place) => {
+                write!(
+                    f,
+                    "a `_` stands in it, and it is the type of `{place}`, not of a `let`"
+                )
+            }
+            WrongUse::Times(0) => write!(f, "a `_` stands in it, and no `let` uses it"),
+            WrongUse::Times(times) => {
+                write!(f, "a `_` stands in it, and it is used {times} times")
+            }
+        }
+    }
+}
+
+fn is(value: Option<&Value>, ty: usize) -> bool {
+    number(value) == Some(ty)
+}
+
+/// The first place of a signature or a field where a type stands.
+fn item_of(facts: &Value, ty: usize) -> Option<Place> {
+    for (at, variant) in list(facts, "variants").iter().enumerate() {
+        let place = Place::new(FactsList::Variants, at);
+        for (k, field) in list(variant, "fields").iter().enumerate() {
+            if is(field.get("type"), ty) {
+                return Some(place.item("fields", k));
+            }
+        }
+    }
+    for (at, function) in list(facts, "fns").iter().enumerate() {
+        let place = Place::new(FactsList::Fns, at);
+        for (k, input) in list(function, "inputs").iter().enumerate() {
+            if is(Some(input), ty) {
+                return Some(place.item("inputs", k));
+            }
+        }
+        if is(function.get("output"), ty) {
+            return Some(place.key("output"));
+        }
+    }
+    None
+}
+
+fn times_in_types(facts: &Value, ty: usize) -> usize {
+    let mut times = 0usize;
+    for user in list(facts, "types") {
+        for part in type_parts(user) {
+            if is(type_id(part), ty) {
+                times = times.saturating_add(1);
+            }
+        }
+    }
+    times
+}
+
+fn times_in_body(body: &Value, ty: usize) -> usize {
+    let mut times = 0usize;
+    for expr in list(body, "exprs") {
+        if word(Some(expr)) == "block" {
+            for stmt in items(expr.get(2usize)) {
+                if word(Some(stmt)) == "let" && is(stmt.get(2usize), ty) {
+                    times = times.saturating_add(1);
+                }
+            }
+        }
+    }
+    times
+}
+
+/// How the type is used.
+pub fn find(facts: &Value, index: usize) -> Option<(Place, WrongUse)> {
+    let place = Place::new(FactsList::Types, index);
+    if let Some(item) = item_of(facts, index) {
+        return Some((place, WrongUse::Item(item)));
+    }
+    let mut times = times_in_types(facts, index);
+    for body in list(facts, "bodies") {
+        times = times.saturating_add(times_in_body(body, index));
+    }
+    if times == 1 {
+        None
+    } else {
+        Some((place, WrongUse::Times(times)))
+    }
+}

@@ -1,0 +1,388 @@
+//! Law 1: ids that are out of range, and lists that do not agree.
+
+use crate::look::{items, list, number, type_id, type_parts, word};
+use crate::nodes::{Node, Nodes};
+use crate::place::Place;
+use hir_facts::FactsList;
+use serde_json::Value;
+use std::alloc::{AllocError, Global};
+use std::fmt;
+
+/// What an id names.
+#[derive(Clone, Copy)]
+pub enum Named {
+    Type,
+    Module,
+    Adt,
+    Variant,
+    Fn,
+    Trait,
+    Body,
+    Expr,
+    Pat,
+    Binding,
+}
+
+impl fmt::Display for Named {
+    fn fmt<W: fmt::Write>(&self, f: &mut fmt::Formatter<W>) -> fmt::Result {
+        f.write_str(match self {
+            Named::Type => "type",
+            Named::Module => "module",
+            Named::Adt => "adt",
+            Named::Variant => "variant",
+            Named::Fn => "fn",
+            Named::Trait => "trait",
+            Named::Body => "body",
+            Named::Expr => "expression",
+            Named::Pat => "pattern",
+            Named::Binding => "binding",
+        })
+    }
+}
+
+impl Named {
+    /// What has those that are counted, and its verb.
+    fn owner(self) -> &'static str {
+        match self {
+            Named::Expr | Named::Pat | Named::Binding => "the body has",
+            Named::Type | Named::Module | Named::Adt | Named::Variant => "the facts have",
+            Named::Fn | Named::Trait | Named::Body => "the facts have",
+        }
+    }
+}
+
+/// What is wrong with ids.
+#[derive(Clone, Copy)]
+pub enum WrongId {
+    /// There are only so many.
+    Beyond {
+        named: Named,
+        number: usize,
+        count: usize,
+    },
+    /// It does not come before the entry that names it.
+    Late {
+        named: Named,
+        number: usize,
+    },
+    /// An adt lists a variant of another.
+    OfAnother {
+        variant: usize,
+        adt: usize,
+    },
+    /// So many times adts list a variant.
+    Listed(usize),
+    /// So many definitions have the body.
+    Owned(usize),
+}
+
+impl fmt::Display for WrongId {
+    fn fmt<W: fmt::Write>(&self, f: &mut fmt::Formatter<W>) -> fmt::Result {
+        match self {
+            WrongId::Beyond {
+                named,
+                number,
+                count,
+            } => {
+                let owner = named.owner();
+                write!(f, "{named} {number} is named, {owner} {count}")
+            }
+            WrongId::Late { named, number } => {
+                write!(
+                    f,
+                    "{named} {number} is named, which does not come before it"
+                )
+            }
+            WrongId::OfAnother { variant, adt } => {
+                write!(f, "variant {variant} is listed, which is of adt {adt}")
+            }
+            WrongId::Listed(0) => write!(f, "no adt lists it"),
+            WrongId::Listed(times) => write!(f, "adts list it {times} times"),
+            WrongId::Owned(0) => write!(f, "it is the body of no definition"),
+            WrongId::Owned(times) => write!(f, "it is the body of {times} definitions"),
+        }
+    }
+}
+
+/// An id past the end.
+fn beyond(named: Named, value: Option<&Value>, count: usize) -> Option<WrongId> {
+    let number = number(value)?;
+    if number < count {
+        None
+    } else {
+        Some(WrongId::Beyond {
+            named,
+            number,
+            count,
+        })
+    }
+}
+
+/// An id past the end, or not before the entry that names it.
+fn late(named: Named, value: Option<&Value>, at: usize, count: usize) -> Option<WrongId> {
+    let number = number(value)?;
+    if number < at {
+        None
+    } else if number < count {
+        Some(WrongId::Late { named, number })
+    } else {
+        Some(WrongId::Beyond {
+            named,
+            number,
+            count,
+        })
+    }
+}
+
+fn of_type(facts: &Value, at: usize, ty: &Value) -> Option<WrongId> {
+    let count = list(facts, "types").len();
+    for part in type_parts(ty) {
+        if let Some(wrong) = late(Named::Type, type_id(part), at, count) {
+            return Some(wrong);
+        }
+    }
+    if word(Some(ty)) == "adt" {
+        beyond(Named::Adt, ty.get(1usize), list(facts, "adts").len())
+    } else {
+        None
+    }
+}
+
+fn of_adt(facts: &Value, at: usize, adt: &Value) -> Option<(usize, WrongId)> {
+    let variants = list(facts, "variants");
+    for (k, listed) in list(adt, "variants").iter().enumerate() {
+        if let Some(wrong) = beyond(Named::Variant, Some(listed), variants.len()) {
+            return Some((k, wrong));
+        }
+        let variant = number(Some(listed))?;
+        let adt = number(variants.get(variant)?.get("adt"))?;
+        if adt != at {
+            return Some((k, WrongId::OfAnother { variant, adt }));
+        }
+    }
+    None
+}
+
+/// How many of these values are this number.
+fn times(values: &[Value], wanted: usize) -> usize {
+    let mut count = 0usize;
+    for value in values {
+        if number(Some(value)) == Some(wanted) {
+            count = count.saturating_add(1);
+        }
+    }
+    count
+}
+
+/// How many of these entries have this number under a key.
+fn times_under(entries: &[Value], key: &str, wanted: usize) -> usize {
+    let mut count = 0usize;
+    for entry in entries {
+        if number(entry.get(key)) == Some(wanted) {
+            count = count.saturating_add(1);
+        }
+    }
+    count
+}
+
+/// Where the module of a visibility is out of range.
+fn of_vis(facts: &Value, item: &Value) -> Option<WrongId> {
+    beyond(Named::Module, item.get("vis"), list(facts, "modules").len())
+}
+
+fn of_variant(facts: &Value, place: Place, at: usize, variant: &Value) -> Option<(Place, WrongId)> {
+    let mut listed = 0usize;
+    for adt in list(facts, "adts") {
+        listed = listed.saturating_add(times(list(adt, "variants"), at));
+    }
+    if listed != 1 {
+        return Some((place, WrongId::Listed(listed)));
+    }
+    if let Some(wrong) = beyond(Named::Adt, variant.get("adt"), list(facts, "adts").len()) {
+        return Some((place.key("adt"), wrong));
+    }
+    let types = list(facts, "types").len();
+    for (k, field) in list(variant, "fields").iter().enumerate() {
+        if let Some(wrong) = beyond(Named::Type, field.get("type"), types) {
+            return Some((place.item("fields", k), wrong));
+        }
+        if let Some(wrong) = of_vis(facts, field) {
+            return Some((place.item("fields", k), wrong));
+        }
+    }
+    let wrong = beyond(
+        Named::Body,
+        variant.get("body"),
+        list(facts, "bodies").len(),
+    )?;
+    Some((place.key("body"), wrong))
+}
+
+fn of_fn(facts: &Value, place: Place, function: &Value) -> Option<(Place, WrongId)> {
+    let modules = list(facts, "modules").len();
+    let types = list(facts, "types").len();
+    if let Some(wrong) = beyond(Named::Module, function.get("at")?.get(1usize), modules) {
+        return Some((place.key("at"), wrong));
+    }
+    for (k, input) in list(function, "inputs").iter().enumerate() {
+        if let Some(wrong) = beyond(Named::Type, Some(input), types) {
+            return Some((place.item("inputs", k), wrong));
+        }
+    }
+    if let Some(wrong) = beyond(Named::Type, function.get("output"), types) {
+        return Some((place.key("output"), wrong));
+    }
+    if let Some(wrong) = of_vis(facts, function) {
+        return Some((place.key("vis"), wrong));
+    }
+    let wrong = beyond(
+        Named::Body,
+        function.get("body"),
+        list(facts, "bodies").len(),
+    )?;
+    Some((place.key("body"), wrong))
+}
+
+fn beyond_body(nodes: Nodes<'_>, node: Node) -> Option<WrongId> {
+    let (named, number, count) = match node {
+        Node::Expr(number) => (Named::Expr, number, nodes.exprs.len()),
+        Node::Pat(number) => (Named::Pat, number, nodes.pats.len()),
+    };
+    if number < count {
+        None
+    } else {
+        Some(WrongId::Beyond {
+            named,
+            number,
+            count,
+        })
+    }
+}
+
+fn first_beyond(nodes: Nodes<'_>, parts: &[Node]) -> Option<WrongId> {
+    for part in parts {
+        if let Some(wrong) = beyond_body(nodes, *part) {
+            return Some(wrong);
+        }
+    }
+    None
+}
+
+/// What a path names that is out of range.
+fn of_path(facts: &Value, body: &Value, path: Option<&Value>) -> Option<WrongId> {
+    let path = path?;
+    let named = path.get(1usize);
+    match word(Some(path)) {
+        "local" => beyond(Named::Binding, named, list(body, "bindings").len()),
+        "fn" => beyond(Named::Fn, named, list(facts, "fns").len()),
+        "ctor" | "variant" => beyond(Named::Variant, named, list(facts, "variants").len()),
+        _ => None,
+    }
+}
+
+/// What an expression or a pattern names that is no node of the body.
+fn of_names(facts: &Value, body: &Value, node: Node, entry: &Value) -> Option<WrongId> {
+    match (node, word(Some(entry))) {
+        (_, "path") | (Node::Pat(_), "ctor") => of_path(facts, body, entry.get(1usize)),
+        (Node::Pat(_), "bind") => {
+            beyond(
+                Named::Binding,
+                entry.get(1usize),
+                list(body, "bindings").len(),
+            )
+        }
+        (Node::Expr(_), "block") => {
+            let types = list(facts, "types").len();
+            for stmt in items(entry.get(2usize)) {
+                if word(Some(stmt)) == "let"
+                    && let Some(wrong) = beyond(Named::Type, stmt.get(2usize), types)
+                {
+                    return Some(wrong);
+                }
+            }
+            None
+        }
+        _ => None,
+    }
+}
+
+/// What of the body's own is out of range.
+fn of_head(facts: &Value, place: Place, body: &Value) -> Option<(Place, WrongId)> {
+    let owned = times_under(list(facts, "fns"), "body", place.index()).saturating_add(times_under(
+        list(facts, "variants"),
+        "body",
+        place.index(),
+    ));
+    if owned != 1 {
+        return Some((place, WrongId::Owned(owned)));
+    }
+    if let Some(wrong) = beyond(
+        Named::Module,
+        body.get("module"),
+        list(facts, "modules").len(),
+    ) {
+        return Some((place.key("module"), wrong));
+    }
+    for (k, item) in list(body, "traits").iter().enumerate() {
+        if let Some(wrong) = beyond(Named::Trait, Some(item), list(facts, "traits").len()) {
+            return Some((place.item("traits", k), wrong));
+        }
+    }
+    for (k, param) in list(body, "params").iter().enumerate() {
+        if let Some(wrong) = beyond(Named::Pat, Some(param), list(body, "pats").len()) {
+            return Some((place.item("params", k), wrong));
+        }
+    }
+    let wrong = beyond(Named::Expr, body.get("root"), list(body, "exprs").len())?;
+    Some((place.key("root"), wrong))
+}
+
+fn of_body(
+    alloc: Global,
+    facts: &Value,
+    place: Place,
+    body: &Value,
+) -> Result<Option<(Place, WrongId)>, AllocError> {
+    if let Some(found) = of_head(facts, place, body) {
+        return Ok(Some(found));
+    }
+    let nodes = Nodes::of(body);
+    for position in 0..nodes.count() {
+        let node = nodes.at(position);
+        let parts = nodes.parts(alloc, node)?;
+        let named = match nodes.entry(node) {
+            Some(entry) => of_names(facts, body, node, entry),
+            None => None,
+        };
+        if let Some(wrong) = first_beyond(nodes, &parts).or(named) {
+            return Ok(Some((nodes.place(place, node), wrong)));
+        }
+    }
+    Ok(None)
+}
+
+/// The id of the entry that is wrong.
+pub fn find(
+    alloc: Global,
+    facts: &Value,
+    list_of: FactsList,
+    index: usize,
+    entry: &Value,
+) -> Result<Option<(Place, WrongId)>, AllocError> {
+    let place = Place::new(list_of, index);
+    let found = match list_of {
+        FactsList::Types => of_type(facts, index, entry).map(|wrong| (place, wrong)),
+        FactsList::Modules => {
+            let count = list(facts, "modules").len();
+            late(Named::Module, Some(entry), index, count).map(|wrong| (place, wrong))
+        }
+        FactsList::Adts => {
+            of_adt(facts, index, entry).map(|(k, wrong)| (place.item("variants", k), wrong))
+        }
+        FactsList::Variants => of_variant(facts, place, index, entry),
+        FactsList::Fns => of_fn(facts, place, entry),
+        FactsList::Bodies => return of_body(alloc, facts, place, entry),
+        _ => None,
+    };
+    Ok(found)
+}

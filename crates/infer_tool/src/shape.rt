@@ -1,0 +1,186 @@
+//! What the text has where another shape is wanted.
+
+use crate::place::{Path, Quoted};
+use serde_json::Value;
+use serde_json::value::Map;
+use std::alloc::{AllocError, Global};
+use std::fmt;
+
+/// The most bytes of a value that are shown.
+const MOST_SHOWN: usize = 60;
+
+/// A part of the text by its path.
+#[derive(Clone, Copy)]
+struct At<'a>(&'a str);
+
+impl fmt::Display for At<'_> {
+    fn fmt<W: fmt::Write>(&self, f: &mut fmt::Formatter<W>) -> fmt::Result {
+        if self.0.is_empty() {
+            write!(f, "the whole text")
+        } else {
+            let path = Path(self.0);
+            write!(f, "`{path}`")
+        }
+    }
+}
+
+fn is_number(step: &str) -> bool {
+    step.bytes().all(|byte| byte.is_ascii_digit())
+}
+
+/// Whether a path behind a list's key is that of a field of an entry.
+fn is_field(rest: &str) -> bool {
+    match rest.split_once('.') {
+        None => false,
+        Some((_, inner)) => match inner.split_once('.') {
+            Some(("fields", at)) => is_number(at),
+            _ => false,
+        },
+    }
+}
+
+/// Whether an object that stands at a path has a key.
+fn has_key(path: &str, key: &str) -> bool {
+    wanted_keys(path).iter().any(|wanted| *wanted == key)
+}
+
+/// The keys of the object that is wanted at a path; none where no object is.
+fn wanted_keys(path: &str) -> &'static [&'static str] {
+    if path.is_empty() {
+        return &[
+            "profile",
+            "edition",
+            "never_fallback",
+            "new_range",
+            "limits",
+            "types",
+            "modules",
+            "adts",
+            "variants",
+            "fns",
+            "consts",
+            "statics",
+            "traits",
+            "aliases",
+            "impls",
+            "opaques",
+            "lang",
+            "bodies",
+        ];
+    }
+    match path.split_once('.') {
+        Some(("adts", rest)) if is_number(rest) => {
+            &[
+                "name", "kind", "params", "preds", "variants", "repr", "unsize",
+            ]
+        }
+        Some(("variants", rest)) if is_number(rest) => &["adt", "name", "ctor", "fields", "body"],
+        Some(("variants", rest)) if is_field(rest) => &["name", "type", "vis"],
+        Some(("fns", rest)) if is_number(rest) => &[
+            "name", "at", "params", "preds", "has_self", "inputs", "output", "safe", "vis", "body",
+        ],
+        Some(("bodies", rest)) if is_number(rest) => &[
+            "module", "traits", "self", "params", "root", "exprs", "pats", "bindings", "labels",
+        ],
+        _ => &[],
+    }
+}
+
+/// The first key that an object lacks.
+fn missing(object: &Map<String, Value>, path: &str) -> Option<&'static str> {
+    for key in wanted_keys(path) {
+        if !object.contains_key(*key) {
+            return Some(*key);
+        }
+    }
+    None
+}
+
+/// The first key that an object has too much.
+fn surplus<'a>(object: &'a Map<String, Value>, path: &str) -> Option<Quoted<'a>> {
+    for key in object.keys() {
+        if !has_key(path, key.as_str()) {
+            return Some(Quoted(key.as_str()));
+        }
+    }
+    None
+}
+
+/// Which keys of an object are missing or too much.
+fn told_keys(
+    alloc: Global,
+    path: &str,
+    object: &Map<String, Value>,
+) -> Result<Option<String>, AllocError> {
+    let at = At(path);
+    let told = match (missing(object, path), surplus(object, path)) {
+        (None, None) => return Ok(None),
+        (Some(lacks), None) => format!(in alloc; "{at} has no key `{lacks}`")?,
+        (None, Some(more)) => format!(in alloc;
+            "{at} has the key {more}, which is none of its keys"
+        )?,
+        (Some(lacks), Some(more)) => {
+            format!(in alloc;
+                "{at} has no key `{lacks}`, and has {more}, which is none of its keys"
+            )?
+        }
+    };
+    Ok(Some(told))
+}
+
+/// The value at a path of keys and positions joined by points.
+fn value_at<'a>(root: &'a Value, path: &str) -> Option<&'a Value> {
+    if path.is_empty() {
+        return Some(root);
+    }
+    let mut value = root;
+    for step in path.split('.') {
+        value = match step.parse::<usize>() {
+            Ok(at) => value.get(at)?,
+            Err(_) => value.get(step)?,
+        };
+    }
+    Some(value)
+}
+
+/// A value in words: itself where it is short.
+fn shown(alloc: Global, value: &Value) -> Result<String, AllocError> {
+    if value.is_object() {
+        return String::from_str(alloc, "an object");
+    }
+    let text = value.to_string(alloc)?;
+    match value.as_array() {
+        _ if text.len() <= MOST_SHOWN => format!(in alloc; "`{text}`"),
+        None => String::from_str(alloc, "a long text"),
+        Some(items) => {
+            let count = items.len();
+            format!(in alloc; "a list of {count} entries")
+        }
+    }
+}
+
+/// What stands at a path where another shape is wanted, of which the fault's own words tell.
+pub fn told_shape(
+    alloc: Global,
+    facts: &Value,
+    path: &str,
+    fault: &str,
+) -> Result<Option<String>, AllocError> {
+    let Some(value) = value_at(facts, path) else {
+        return Ok(None);
+    };
+    if let Some(object) = value.as_object()
+        && let Some(told) = told_keys(alloc, path, object)?
+    {
+        return Ok(Some(told));
+    }
+    match fault.split_once(" has another shape: ") {
+        None => Ok(None),
+        Some((_, wanted)) => {
+            let at = At(path);
+            let value = shown(alloc, value)?;
+            let told = format!(in alloc; "{at} is {value}, and {wanted}")?;
+            Ok(Some(told))
+        }
+    }
+}
