@@ -1,0 +1,225 @@
+#!/usr/bin/env python3
+"""Asks the program for its sentences on standard error: each case of examples/sentences.txt must end with its status, write
+nothing on standard output, and say its sentence.
+
+A case is a block of lines, each a word and what follows it:
+  words WORD..      the words of the command, `table fn 0` where there is no such line
+  of EXAMPLE        the text: that of examples/EXAMPLE.json
+  text "..."        or this one, as a string of JSON
+  bytes 22 ff ..    or these bytes, in hexadecimal
+  made NAME         or one that is made here (MADE)
+  set PATH VALUE    the value of JSON that stands at a path, as bodies[0].root; a list is added to at its length
+  drop PATH         what is taken out of it
+  fails END         `input` or `output`, which fails (not asked of a build without proof)
+  says N SENTENCE   the status, and what is said
+A line that begins with # is passed over.
+Usage: tools/sentences.py [--program PATH | --unproved] [--print]
+  --print writes what the program says in the place of the stored sentences, and compares nothing.
+Build the program first: cd crates/infer_tool && rt run -- table fn 0 < ../../examples/first_run.json
+"""
+import argparse
+import json
+import os
+import re
+import subprocess
+import sys
+import tempfile
+from concurrent.futures import ThreadPoolExecutor
+
+import program
+
+CASES = os.path.join(program.TOP, "examples", "sentences.txt")
+FIRST = os.path.join(program.TOP, "examples", "first_run.json")
+
+
+def first_run():
+    return json.load(open(FIRST, encoding="utf-8"))
+
+
+def nested():
+    """One array more than may nest."""
+    return "[\n" + "[" * 127 + "]" * 128
+
+
+def too_long():
+    return " " * (2 ** 24 + 1)
+
+
+def deep_tree():
+    """A body in which tuples nest too deep."""
+    facts = first_run()
+    facts["bodies"][0].update(root=257, pats=[], bindings=[],
+                              exprs=[["lit", ["bool", True]]] + [["tuple", [at]] for at in range(257)])
+    return json.dumps(facts)
+
+
+def deep_type():
+    """Tuple types that nest too deep."""
+    facts = first_run()
+    facts["types"] += [["tuple", [at]] for at in range(64)]
+    return json.dumps(facts)
+
+
+def large_type():
+    """A type that doubles its part, twelve times."""
+    facts = first_run()
+    facts["types"] += [["tuple", [at, at]] for at in range(12)]
+    return json.dumps(facts)
+
+
+def many_modules():
+    facts = first_run()
+    facts["modules"] = [None] * (2 ** 20 + 1)
+    return json.dumps(facts)
+
+
+def wide_type():
+    """A tuple with more parts than a list may have."""
+    facts = first_run()
+    facts["types"].append(["tuple", [0] * (2 ** 20 + 1)])
+    return json.dumps(facts)
+
+
+MADE = {make.__name__: make for make in (nested, too_long, deep_tree, deep_type, large_type, many_modules, wide_type)}
+
+
+def steps_of(path):
+    """The keys and positions of a path."""
+    return [int(at) if at else key for key, at in re.findall(r"(\w+)|\[(\d+)\]", path)]
+
+
+def put(facts, path, value):
+    """Sets the value at a path."""
+    *outer, last = steps_of(path)
+    for step in outer:
+        facts = facts[step]
+    if isinstance(facts, list) and last == len(facts):
+        facts.append(value)
+    else:
+        facts[last] = value
+
+
+def drop(facts, path):
+    """Takes out what stands at a path."""
+    *outer, last = steps_of(path)
+    for step in outer:
+        facts = facts[step]
+    del facts[last]
+
+
+class Case:
+    """A case: the words, the text, the status and the sentence; `at` is the line that it begins at."""
+
+    def __init__(self, at):
+        self.at, self.words, self.text, self.facts = at, ["table", "fn", "0"], b"", None
+        self.status, self.sentence, self.fails = None, None, None
+
+    def read(self, word, rest):
+        if word == "words":
+            self.words = rest.split()
+        elif word == "of":
+            self.facts = json.load(open(os.path.join(program.TOP, "examples", rest + ".json"), encoding="utf-8"))
+        elif word == "text":
+            self.text = json.loads(rest).encode()
+        elif word == "bytes":
+            self.text = bytes.fromhex(rest)
+        elif word == "made":
+            self.text = MADE[rest]().encode()
+        elif word == "set":
+            path, _, value = rest.partition(" ")
+            put(self.facts, path, json.loads(value))
+        elif word == "drop":
+            drop(self.facts, rest)
+        elif word == "fails":
+            self.fails = rest
+        elif word == "says":
+            status, _, self.sentence = rest.partition(" ")
+            self.status = int(status)
+        else:
+            sys.exit("%s:%d: no line begins with %s" % (CASES, self.at, word))
+
+    def input(self):
+        return self.text if self.facts is None else json.dumps(self.facts, separators=(",", ":")).encode()
+
+
+def read_cases():
+    cases = []
+    is_open = False
+    for at, line in enumerate(open(CASES, encoding="utf-8"), 1):
+        line = line.rstrip("\n")
+        if line.startswith("#"):
+            continue
+        if not line:
+            is_open = False
+            continue
+        if not is_open:
+            cases.append(Case(at))
+            is_open = True
+        word, _, rest = line.partition(" ")
+        cases[-1].read(word, rest)
+    return cases
+
+
+def answer(path, case):
+    """The status, what was written, and what was said. A folder can't be read, and on /dev/full nothing can be written."""
+    ends = {"input": case.input(), "stdout": subprocess.PIPE}
+    with open("/dev/full", "wb") as full:
+        if case.fails == "output":
+            ends["stdout"] = full
+        elif case.fails == "input":
+            del ends["input"]
+            ends["stdin"] = os.open(program.TOP, os.O_RDONLY)
+        try:
+            done = subprocess.run([path] + case.words, stderr=subprocess.PIPE, timeout=60, **ends)
+        finally:
+            if "stdin" in ends:
+                os.close(ends["stdin"])
+    return done.returncode, (done.stdout or b"").decode(), done.stderr.decode()
+
+
+def answers_of_try(cases):
+    """The same by a build without proof, of which one run has all cases."""
+    with tempfile.TemporaryDirectory() as folder:
+        for at, case in enumerate(cases):
+            with open(os.path.join(folder, "%04d" % at), "wb") as out:
+                out.write(case.input())
+            with open(os.path.join(folder, "%04d.args" % at), "w", encoding="utf-8") as out:
+                out.writelines(word + "\n" for word in case.words)
+        done = subprocess.run(["rt", "try", "--cases", folder], capture_output=True, text=True, cwd=program.FOLDER)
+    said = re.findall(r"(.*?)^case=(\d+) run=\S+(?: status=(\d+))?.*?\n", done.stderr, re.MULTILINE | re.DOTALL)
+    outputs = dict(re.findall(r"^== (\d+)\n(.*?)(?=^== \d+\n|\Z)", done.stdout, re.MULTILINE | re.DOTALL))
+    if len(said) != len(cases):
+        sys.exit("`rt try` gives no answer:\n%s" % done.stderr)
+    return [(int(status or -1), outputs.get(name, ""), errors) for errors, name, status in said]
+
+
+def main():
+    parser = argparse.ArgumentParser(description=__doc__, formatter_class=argparse.RawDescriptionHelpFormatter)
+    program.add_program_options(parser)
+    parser.add_argument("--print", action="store_true", help="write what the program says, and compare nothing")
+    options = parser.parse_args()
+    cases = read_cases()
+    if options.unproved:
+        cases = [case for case in cases if not case.fails]
+        answers = answers_of_try(cases)
+    else:
+        try:
+            path = program.Program(options.program).path
+        except program.NoReport as e:
+            sys.exit(str(e))
+        with ThreadPoolExecutor(2) as pool:
+            answers = list(pool.map(lambda case: answer(path, case), cases))
+    wrong = 0
+    for case, (status, output, errors) in zip(cases, answers):
+        if options.print:
+            print("%s:%d: %d %s" % (os.path.basename(CASES), case.at, status, errors.strip() or output.strip()))
+        elif (status, output, errors) != (case.status, "", "infer_tool: %s\n" % case.sentence):
+            wrong += 1
+            print("%s:%d: wanted %d, %s\n    and got %d, %s%s" % (
+                os.path.basename(CASES), case.at, case.status, case.sentence, status, output, errors.strip()))
+    print("%d sentences, %d wrong" % (len(cases), wrong))
+    sys.exit(1 if wrong else 0)
+
+
+if __name__ == "__main__":
+    main()
