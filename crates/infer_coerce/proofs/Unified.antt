@@ -371,9 +371,9 @@ module _ (g : Given) (e : ExprId) (t u : Ty) (c new : InferenceContext) where
           );
           clock = k.clock;
           each = λ a q. (
-            let z = k.each a (closes_same a last new refl q) in
-            (false, refl, (z.0, mismatch_under a new e (mismatch u t) ∙ ap (λ f. found.with_mismatch f e (closed_mismatch a (mismatch u t))) z.1))
-          );
+              let z = k.each a (closes_same a last new refl q) in
+              (false, refl, (z.0, mismatch_under a new e (mismatch u t) ∙ ap (λ f. found.with_mismatch f e (closed_mismatch a (mismatch u t))) z.1))
+              );
         } in
         subst (λ m. IsCoerced false g e t u c (with_mismatch new e m)) (ap (λ y. mismatch u y) (sym k.answers.0) ∙ ap (λ y. mismatch y x.source) (sym k.answers.1)) here
 

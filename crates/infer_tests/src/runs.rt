@@ -27,8 +27,13 @@ const FRONT: &str =
 
 const BACK: &str = r#","labels":0}]}"#;
 
+/// `let x = 1u8; x`
 const LET: &str =
     r#"2,"exprs":[["lit",["int","1","u8"]],["path",["local",0,null]],["block",null,[["let",0,null,0,null]],1]],"pats":[["bind",0,null]],"bindings":[["x","plain"]]"#;
+
+/// The same without a suffix.
+const UNSUFFIXED: &str =
+    r#"2,"exprs":[["lit",["int","1",null]],["path",["local",0,null]],["block",null,[["let",0,null,0,null]],1]],"pats":[["bind",0,null]],"bindings":[["x","plain"]]"#;
 
 const TRUE: &str =
     r#"1,"exprs":[["lit",["bool",true]],["block",null,[],0]],"pats":[],"bindings":[]"#;
@@ -184,6 +189,12 @@ fn reports_types_and_mismatches(rt: HostRuntime) -> Result<(), Fail> {
     const ROWS: &[Body] = &[
         Body {
             body: LET,
+            status: 0,
+            written: LET_REPORT,
+            fault: "",
+        },
+        Body {
+            body: UNSUFFIXED,
             status: 0,
             written: LET_REPORT,
             fault: "",

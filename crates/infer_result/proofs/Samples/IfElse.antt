@@ -122,14 +122,19 @@ right_made = record {
     };
   };
   clauses = λ x h.
-      each_below (λ k. ObeysOrMismatch given right (e k)) 5 x.0
-      (((((tt, (ty.Bool, refl, refl)), (u8, refl, refl)), (u8, refl, refl)), record {
-        condition = (ty.Bool, refl, inl refl);
-        type = u8;
-        has = refl;
-        branch = inl (u8, refl, refl);
-        otherwise = inl (u8, refl, refl);
-      }), record { statements = tt; type = u8; has = refl; ends = (u8, refl, inl refl) }) h;
+      each_below (λ k. ObeysOrMismatch given right (e k)) 5 x.0 (
+        (
+          (((tt, (ty.Bool, refl, refl)), (u8, refl, refl)), (u8, refl, refl)),
+          record {
+            condition = (ty.Bool, refl, inl refl);
+            type = u8;
+            has = refl;
+            branch = inl (u8, refl, refl);
+            otherwise = inl (u8, refl, refl);
+          },
+        ),
+        record { statements = tt; type = u8; has = refl; ends = (u8, refl, inl refl) },
+      ) h;
   kinds = λ x h. each_below (λ k. PatRule given right (p k) (slice_get body.pats k)) 1 x.0 (tt, (ty.Bool, refl, refl, refl)) h;
   params = one_param given right (p 0) (w 0) refl refl (subst (PatTy right (p 0)) (sym written) refl);
   bindings = λ v h. each_below (λ k. (s : Ty) × BindingTy right (b k) s) 1 v.0 (tt, (ty.Bool, refl)) h;

@@ -108,14 +108,19 @@ right_made s closed_s = record {
     };
   };
   clauses = λ x h.
-      each_below (λ k. ObeysOrMismatch given (right s) (e k)) 4 x.0
-      ((((tt, (ty.Bool, refl, refl)), (u8, refl, refl)), record {
-        condition = (ty.Bool, refl, inl refl);
-        type = s;
-        has = refl;
-        branch = inr (inl (mismatch u8 unit, refl));
-        otherwise = inr (inl (mismatch u8 unit, refl));
-      }), record { statements = ((s, refl, (s, refl, inl refl)), tt); type = unit; has = refl; ends = inl refl }) h;
+      each_below (λ k. ObeysOrMismatch given (right s) (e k)) 4 x.0 (
+        (
+          ((tt, (ty.Bool, refl, refl)), (u8, refl, refl)),
+          record {
+            condition = (ty.Bool, refl, inl refl);
+            type = s;
+            has = refl;
+            branch = inr (inl (mismatch u8 unit, refl));
+            otherwise = inr (inl (mismatch u8 unit, refl));
+          },
+        ),
+        record { statements = ((s, refl, (s, refl, inl refl)), tt); type = unit; has = refl; ends = inl refl },
+      ) h;
   kinds = λ x h. each_below (λ k. PatRule given (right s) (p k) (slice_get body.pats k)) 2 x.0 ((tt, (ty.Bool, refl, refl, refl)), (s, refl, refl, refl)) h;
   params = one_param given (right s) (p 0) (w 0) refl refl (subst (PatTy (right s) (p 0)) (sym written) refl);
   bindings = λ v h. each_below (λ k. (r : Ty) × BindingTy (right s) (b k) r) 2 v.0 ((tt, (ty.Bool, refl)), (s, refl)) h;

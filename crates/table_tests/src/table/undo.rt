@@ -2,7 +2,7 @@
 ghost use Rattle.infer_table.specs.Table.{Grew};
 
 use super::{check_known, expr, pair, table_of, unify, wait};
-use hir_types::{HoleKind, Ty};
+use hir_types::{HoleKind, Ty, UintTy};
 use infer_table::{InferenceTable, NoUnifier};
 use std::alloc::{AllocError, Global};
 
@@ -16,7 +16,7 @@ fn binds(table: &mut InferenceTable) -> Result<Result<bool, NoUnifier>, AllocErr
 fn binds_and_refuses(table: &mut InferenceTable) -> Result<Result<bool, NoUnifier>, AllocError>
     ensures { Grew table.old table.new }
 {
-    let _unifies = unify(table, &Ty::Var(0), &Ty::Char)?;
+    let _unifies = unify(table, &Ty::Var(0), &Ty::Uint(UintTy::U8))?;
     Ok(Err(NoUnifier))
 }
 

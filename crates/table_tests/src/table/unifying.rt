@@ -29,6 +29,16 @@ fn refuses_and_changes_nothing(rt: HostRuntime) -> Result<(), AllocError> {
     check_known(&rt, &table, Ok(Ty::Var(1)), Ok(Ty::Var(1)))
 }
 
+#[test]
+fn refuses_two_types_for_a_hole(rt: HostRuntime) -> Result<(), AllocError> {
+    let alloc = rt.alloc();
+    let mut table = table_of(alloc, &[HoleKind::Ty])?;
+    let left = pair(alloc, Ty::Var(0), Ty::Var(0));
+    let right = pair(alloc, Ty::Uint(UintTy::U8), Ty::Bool);
+    check_unify(&rt, &mut table, left, right, false)?;
+    check_known(&rt, &table, Ok(Ty::Var(0)), Ok(Ty::Var(0)))
+}
+
 const INTEGERS: [IntegerTy; 12] = [
     IntegerTy::Int(IntTy::Isize),
     IntegerTy::Int(IntTy::I8),
