@@ -354,6 +354,7 @@ module _ (g : Given) (e : ExprId) (t u : Ty) (c new : InferenceContext) where
   coercion_coerced r k = record {
     follows = k.follows;
     clock = k.clock;
+    comes = λ i. k.comes;
     each = λ a q. (let z = k.each a q in (z.0, tt, z.1));
   }
 
@@ -370,6 +371,7 @@ module _ (g : Given) (e : ExprId) (t u : Ty) (c new : InferenceContext) where
             f,
           );
           clock = k.clock;
+          comes = λ i. absurd (cc);
           each = λ a q. (
               let z = k.each a (closes_same a last new refl q) in
               (false, refl, (z.0, mismatch_under a new e (mismatch u t) ∙ ap (λ f. found.with_mismatch f e (closed_mismatch a (mismatch u t))) z.1))

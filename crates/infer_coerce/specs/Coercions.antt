@@ -66,8 +66,10 @@ Says true fits = Unit {0}
 Says false fits = fits ≡ false
 
 -- The two types are the same from here on, or they differ, and that is noted as a mismatch at the
--- expression. Where the expression waits, it depends on the assignment which of the two it is.
+-- expression. Where the coercion could be made, they are the same, or the expression waits: then it depends on
+-- the assignment which of the two it is.
 pub record IsCoerced (could : Bool) (g : Given) (e : ExprId) (actual target : Ty) (old new : InferenceContext) : Type 0 where
   pub follows : Follows g old new
   pub clock : new.clock ≡ old.clock
+  pub comes : could ≡ true → IsUnifiedIf true g actual target old new ⊎ Waits e actual target old new
   pub each : (a : Assignment) → Closes a new → (fits : Bool) × Says could fits × IsCoercedIf fits e (folded a actual) (folded a target) (found_under a old) (found_under a new)
