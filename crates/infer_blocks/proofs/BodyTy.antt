@@ -25,7 +25,7 @@ use Rattle.infer_table.proofs.HoleLaws.{grew_twice, grew_by_hole}
 use Rattle.infer_table.proofs.UndoLaws.{grew_itself}
 use Rattle.infer_table.specs.Table.{hole_count, with_new_hole}
 use Rattle.infer_result.specs.declared.result.InferenceResult.{InferenceResult}
-use Rattle.infer_result.specs.Places.{Given, HasPlaceholders, AreRecorded, declared, hole_type, IsPlaceholder}
+use Rattle.infer_result.specs.Places.{Given, OnlyPlaceholdersHaveTypes, AreRecorded, declared, hole_type, IsPlaceholder}
 use Rattle.infer_result.specs.Table.{PlaceholderTy, recorded, At, WasSeen}
 use Rattle.hir_types.specs.declared.ids.ExprId.{ExprId}
 use Rattle.infer_result.specs.declared.diagnostics.InferenceDiagnostic.{InferenceDiagnostic}
@@ -44,7 +44,7 @@ use Rattle.infer_ctx.proofs.Category.{walks_refl}
 use Rattle.infer_ctx.proofs.Keeps.{extends_refl, hole_at, diagnostic_kept, seen_as_kept}
 use Rattle.infer_ctx.proofs.Closed.{sound_placeholder, push_cases, At-closed, At-unclosed, length-closed, closes_earlier}
 use Rattle.infer_ctx.proofs.FineTypes.{fine_hole}
-use Rattle.infer_ctx.proofs.Lists.{slice_get-set_same, At-set, At-set_cases, take_next}
+use Rattle.infer_ctx.proofs.Lists.{At-put, put-cases, put-here, take_next}
 use Rattle.infer_ctx.proofs.OverTypes.{fine_closed}
 use Rattle.infer_ctx.proofs.Written.{filled_fine}
 use Rattle.infer_coerce.proofs.Holes.{holed, holed_sound}
@@ -84,7 +84,6 @@ module _ (g : Given) where
     clock = q.clock ∙ p.clock;
     grew = grew_twice x.table y.table z.table p.grew q.grew;
     sound = q.sound;
-    count = q.count ∙ p.count;
     kept = λ k t h. q.kept k t (p.kept k t h);
     only = λ k t h. elim (q.only k t h) [ inl i ↦ p.only k t i | inr i ↦ inr i ];
   }
@@ -99,7 +98,7 @@ module _ (g : Given) where
         (let q = r k stands in hole_at x.result k q.0 q.1 ∙ sym (hole_at y.result k q.0 (h.kept k q.0 q.1))))
 
     pub before_still : (w : TypeRefId) → BeforePartTy g w x → BeforePartTy g w y
-    before_still w b = record { sound = h.sound; count = h.count ∙ b.count; within = b.within; placeholders = b.placeholders }
+    before_still w b = record { sound = h.sound; within = b.within; placeholders = b.placeholders }
 
 -- ---- one type
 module _ (g : Given) (all : AllHold ChildrenBefore g.scope.facts.types) (w : TypeRefId) (x : RawType) (here : slice_get g.scope.facts.types w.0 ≡ Some x) where
@@ -134,7 +133,6 @@ module _ (g : Given) (all : AllHold ChildrenBefore g.scope.facts.types) (w : Typ
     sound = b.sound;
     each = λ i v part. record {
       sound = b.sound;
-      count = b.count;
       within = (let lt : v.0 < w.0 = all w.0 x here i v part in let inside : w.0 < length g.scope.facts.types = b.within in omega arith);
       placeholders = λ k stands. b.placeholders k (in_part w.0 x i v here part stands);
     };
@@ -177,19 +175,11 @@ module _ (g : Given) (all : AllHold ChildrenBefore g.scope.facts.types) (w : Typ
 pub placeholder_known : (g : Given) (w : TypeRefId) (t : Ty) (c : InferenceContext) → IsSound g.scope c → recorded c.result.type_of_placeholder w.0 ≡ Some t → PlaceholderTyDone g w t c c
 placeholder_known g w t c s h = record { adds = adds_nothing g c s; recorded = recorded_at _ _ h }
 
-unrecorded : {A : Type 0} (xs : List (Option A)) (n : ℕ) → n < length xs → recorded xs n ≡ None → IsFree xs n
-unrecorded [] n lt h = absurd (omega arith)
-unrecorded (None ∷ xs) zero lt h = refl
-unrecorded (Some x ∷ xs) zero lt h = absurd (cc)
-unrecorded (x ∷ xs) (suc n) lt h = unrecorded xs n (omega arith) h
-
 pub placeholder_made : (g : Given) (w : TypeRefId) (c : InferenceContext) → BeforePartTy g w c → IsPlaceholder g w.0 → recorded c.result.type_of_placeholder w.0 ≡ None
     → PlaceholderTyDone g w (ty.Var (hole_count c.table)) c (with_placeholder_ty (holed c kind.Ty) w.0 (ty.Var (hole_count c.table)))
 placeholder_made g w c b is none =
     let t : Ty = ty.Var (hole_count c.table) in
     let xs : List (Option Ty) = c.result.type_of_placeholder in
-    let inside : w.0 < length xs = (let k : w.0 < length g.scope.facts.types = b.within in rw b.count k) in
-    let free : IsFree xs w.0 = unrecorded xs w.0 inside none in
     record {
       adds = record {
         result = refl;
@@ -197,11 +187,10 @@ placeholder_made g w c b is none =
         clock = refl;
         grew = grew_by_hole c.table (with_new_hole c.table kind.Ty) kind.Ty refl;
         sound = sound_placeholder (holed c kind.Ty) (holed_sound c kind.Ty b.sound) w.0 t (fine_hole g.scope c.table);
-        count = length-set xs w.0 (Some t);
-        kept = λ k s h. At-set xs w.0 k t s free h;
-        only = λ k s h. elim (At-set_cases xs w.0 k t s inside h) [ inl i ↦ inl i | inr i ↦ inr (subst (λ n. IsPlaceholder g n) (sym i.0) is) ];
+        kept = λ k s h. At-put xs w.0 k t s none h;
+        only = λ k s h. elim (put-cases xs w.0 k t s h) [ inl i ↦ inl i | inr i ↦ inr (subst (λ n. IsPlaceholder g n) (sym i.0) is) ];
       };
-      recorded = slice_get-set_same xs w.0 (Some t) inside;
+      recorded = put-here xs w.0 t;
     }
 
 -- ---- the parts, one after another
@@ -252,7 +241,7 @@ abbrev pub with_placeholders : Found → List (Option Ty) → Found
 with_placeholders c xs = record c { result = record c.result { type_of_placeholder = xs } }
 
 module _ (g : Given) (s : Schedule) (old : Found) (xs : List (Option Ty)) (h : IsWalked g s old)
-    (count : length xs ≡ length old.result.type_of_placeholder) (kept : (k : ℕ) (t : Ty) → PlaceholderTy old.result k t → At xs k t)
+    (kept : (k : ℕ) (t : Ty) → PlaceholderTy old.result k t → At xs k t)
     (only : (k : ℕ) (t : Ty) → At xs k t → IsPlaceholder g k × IsCarriedType t) where
   extends : Extends old.result (with_placeholders old xs).result
   extends =
@@ -272,7 +261,7 @@ module _ (g : Given) (s : Schedule) (old : Found) (xs : List (Option Ty)) (h : I
       let said : (e : ExprId) (d : InferenceDiagnostic) → At new.result.expr_diagnostics e.0 d → IsTrueDiagnostic g new.result e d
       = λ e d i. diagnostic_kept g old.result new.result extends e d (h.diagnostics e d i) in
       let variants : RecordsVariants g.body new.result = assumption h.variants in
-      let placeholders : HasPlaceholders g new.result = record { count = count ∙ h.placeholders.count; only = λ k t i. (only k t i).0 } in
+      let placeholders : OnlyPlaceholdersHaveTypes g new.result = λ k t i. (only k t i).0 in
       let seen : (i : ℕ) (y : Seen) → slice_get new.result.seen i ≡ Some y → IsSeenAs g new y
       = λ i y is. seen_as_kept g old new extends (λ e d there. there) refl y (h.seen i y is) in
       assumption (of_body, carried, said, variants, placeholders, seen, h)
@@ -326,7 +315,6 @@ module _ (g : Given) (s : Schedule) (law : IsLawful g.scope.facts) (w : TypeRefI
         let state : IsWalked g s (found_under a old) = h.state.each a earlier in
         subst (λ f. Walks g s Nothing (found_under a old) f) (sym here)
         (walks g s (found_under a old) (closed_types a xs) state
-        (length-closed (folded a) xs ∙ (d.adds.count ∙ sym (length-closed (folded a) ys)))
         (λ n u there. (let q = At-unclosed (folded a) ys n u there in subst (λ v. At (closed_types a xs) n v) q.2 (At-closed (folded a) xs n q.0 (d.adds.kept n q.0 q.1))))
         (λ n u there.
         (let q = At-unclosed (folded a) xs n u there in (

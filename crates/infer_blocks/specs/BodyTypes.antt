@@ -53,14 +53,12 @@ pub record AddsPlaceholders (g : Given) (old new : InferenceContext) : Type 0 wh
   pub clock : new.clock ≡ old.clock
   pub grew : Grew old.table new.table
   pub sound : IsSound g.scope new
-  pub count : length new.result.type_of_placeholder ≡ length old.result.type_of_placeholder
   pub kept : (k : ℕ) (t : Ty) → PlaceholderTy old.result k t → PlaceholderTy new.result k t
   pub only : (k : ℕ) (t : Ty) → PlaceholderTy new.result k t → PlaceholderTy old.result k t ⊎ IsPlaceholder g k
 
 -- a written type, part of that of a `let`, is to be read
 pub record BeforePartTy (g : Given) (w : TypeRefId) (c : InferenceContext) : Type 0 where
   pub sound : IsSound g.scope c
-  pub count : length c.result.type_of_placeholder ≡ length g.scope.facts.types
   pub within : w.0 < length g.scope.facts.types
   pub placeholders : (k : ℕ) → StandsIn g.scope.facts.types k w.0 → IsPlaceholder g k
 

@@ -123,7 +123,7 @@ fn placeholder_ty(
         None => {
             let ty = context.table.next_ty_var()?;
             let recorded = ty.dup(alloc)?;
-            context.write_type_placeholder_ty(type_ref, recorded);
+            context.write_type_placeholder_ty(type_ref, recorded)?;
             Ok(ty)
         }
     }

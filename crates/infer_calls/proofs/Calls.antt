@@ -158,7 +158,7 @@ module _ (g : Given) (s : Schedule) (n called : ExprId) (args : List ExprId) (id
       modes = b.state.modes;
       pat_diagnostics = b.state.pat_diagnostics;
       variants = record { exprs = b.state.variants.exprs; pats = b.state.variants.pats };
-      placeholders = record { count = b.state.placeholders.count; only = b.state.placeholders.only };
+      placeholders = b.state.placeholders;
       seen = λ i y there. seen_as_kept g mid told complained_extends (λ e d k. noted-keeps mid.result.expr_diagnostics n.0 e.0 complaint d k) refl y (b.state.seen i y there);
       free_exprs = b.state.free_exprs;
       free_pats = b.state.free_pats;
@@ -347,7 +347,7 @@ module _ (g : Given) (s : Schedule) (n called : ExprId) (args : List ExprId) (t 
     modes = b.loose.state.modes;
     pat_diagnostics = b.loose.state.pat_diagnostics;
     variants = record { exprs = b.loose.state.variants.exprs; pats = b.loose.state.variants.pats };
-    placeholders = record { count = b.loose.state.placeholders.count; only = b.loose.state.placeholders.only };
+    placeholders = b.loose.state.placeholders;
     free_exprs = b.loose.state.free_exprs;
     free_pats = b.loose.state.free_pats;
     free_modes = b.loose.state.free_modes;

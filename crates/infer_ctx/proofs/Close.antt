@@ -107,7 +107,7 @@ module _ (g : Given) (s : Schedule) (e : ExprId) (x : Option Ty) (t : Ty) (old l
     modes = k.walks.state.modes;
     pat_diagnostics = k.walks.state.pat_diagnostics;
     variants = record { exprs = k.walks.state.variants.exprs; pats = k.walks.state.variants.pats };
-    placeholders = record { count = k.walks.state.placeholders.count; only = k.walks.state.placeholders.only };
+    placeholders = k.walks.state.placeholders;
     seen = λ i y at. seen_as_kept g last new extends (λ n d q. q) refl y (k.walks.state.seen i y at);
     diagnostics = λ n d i. diagnostic_kept g last.result new.result extends n d (k.walks.state.diagnostics n d i);
     free_exprs = λ n i lo.

@@ -31,7 +31,7 @@ use Rattle.infer_ctx.specs.declared.context.InferenceContext.{InferenceContext}
 use Rattle.infer_ctx.specs.Fine.{IsFine}
 use Rattle.infer_ctx.specs.Found as found
 use Rattle.infer_ctx.specs.Context as context
-use Rattle.infer_ctx.proofs.Lists.{take_next, length-noted, noted-cases}
+use Rattle.infer_ctx.proofs.Lists.{take_next, length-noted, noted-cases, put-cases}
 use Rattle.infer_ctx.proofs.Said.{noted-cons, length-said, said-noted, said-push}
 
 -- ---- lists of what is recorded, each under a function
@@ -60,6 +60,12 @@ module _ {A B : Type 0} (f : A → B) where
 
   pub length-closed : (xs : List (Option A)) → length (map (option_map f) xs) ≡ length xs
   length-closed xs = length-map xs (option_map f)
+
+  pub put-closed : (xs : List (Option A)) (n : ℕ) (x : A) → map (option_map f) (found.put xs n x) ≡ found.put (map (option_map f) xs) n (f x)
+  put-closed [] zero x = refl
+  put-closed [] (suc n) x = ap (λ ys. None ∷ ys) (put-closed [] n x)
+  put-closed (o ∷ xs) zero x = refl
+  put-closed (o ∷ xs) (suc n) x = ap (λ ys. option_map f o ∷ ys) (put-closed xs n x)
 
   pub set-closed : (xs : List (Option A)) (n : ℕ) (x : A) → map (option_map f) (slice_set xs n (Some x)) ≡ slice_set (map (option_map f) xs) n (Some (f x))
   set-closed xs n x = map-set (option_map f) xs n (Some x)
@@ -285,7 +291,7 @@ module _ (a : Assignment) (c : InferenceContext) where
   diagnostic_under e d = ap (λ xs. record { result = record (closed_table a c.asked c.result) { expr_diagnostics = xs }; clock = c.clock; holes = a }) (said-noted a c.result.seen c.result.expr_diagnostics e.0 d)
 
   pub placeholder_under : (k : ℕ) (t : Ty) → found_under a (context.with_placeholder_ty c k t) ≡ found.with_placeholder_ty (found_under a c) k (folded a t)
-  placeholder_under k t = ap (λ xs. record { result = record (closed_table a c.asked c.result) { type_of_placeholder = xs }; clock = c.clock; holes = a }) (set-closed (folded a) c.result.type_of_placeholder k t)
+  placeholder_under k t = ap (λ xs. record { result = record (closed_table a c.asked c.result) { type_of_placeholder = xs }; clock = c.clock; holes = a }) (put-closed (folded a) c.result.type_of_placeholder k t)
 
   pub seen_under : (x : Seen) → found_under a (context.with_seen c x) ≡ found.with_seen (found_under a c) x
   seen_under x = ap (λ xs. record { result = record (closed_table a c.asked c.result) { expr_diagnostics = xs; seen = c.result.seen ++ x ∷ [] }; clock = c.clock; holes = a }) (said-push a c.result.seen x c.result.expr_diagnostics)
@@ -341,6 +347,9 @@ set_keeps P (o ∷ xs) zero x all h zero y k = (let e : x ≡ y = cc in subst P 
 set_keeps P (o ∷ xs) zero x all h (suc m) y k = all (suc m) y k
 set_keeps P (o ∷ xs) (suc n) x all h zero y k = all zero y k
 set_keeps P (o ∷ xs) (suc n) x all h (suc m) y k = set_keeps P xs n x (λ i z l. all (suc i) z l) h m y k
+
+put_keeps : {A : Type 0} (P : A → Type 0) (xs : List (Option A)) (n : ℕ) (x : A) → ((m : ℕ) (y : A) → At xs m y → P y) → P x → (m : ℕ) (y : A) → At (found.put xs n x) m y → P y
+put_keeps P xs n x all h m y k = elim (put-cases xs n m x y k) [ inl q ↦ all m y q | inr q ↦ subst P q.1 h ]
 
 noted_keeps : (P : TypeMismatch → Type 0) (xs : List (Option TypeMismatch)) (n : ℕ) (x : TypeMismatch) → ((m : ℕ) (y : TypeMismatch) → At xs m y → P y) → P x → (m : ℕ) (y : TypeMismatch) → At (found.noted xs n x) m y → P y
 noted_keeps P xs n x all h m y k = elim (noted-cases xs n m x y k) [ inl q ↦ all m y q | inr q ↦ subst P q.1 h ]
@@ -415,7 +424,7 @@ module _ {sc : Scope} (c : InferenceContext) (s : IsSound sc c) where
 
   pub sound_placeholder : (k : ℕ) (t : Ty) → IsFine sc c.table t → IsSound sc (context.with_placeholder_ty c k t)
   sound_placeholder k t h = sound_with c (context.with_placeholder_ty c k t).result c.clock s (assumption (
-    set_keeps (IsFine sc c.table) c.result.type_of_placeholder k t s.fine.placeholders h,
+    put_keeps (IsFine sc c.table) c.result.type_of_placeholder k t s.fine.placeholders h,
     s.fine,
   )) (assumption s.seen)
 

@@ -1,11 +1,11 @@
 -- Reading lists, and lists of what is recorded, after a write.
-use Rattle.std.proofs.Common.{ℕ, ◌<◌, ◌≤◌, ◌⊎◌, arith, ◌≡◌, ◌≢◌, zero, suc, ◌+◌, inl, inr, List, [], ◌∷◌, ◌++◌, length, get_or, drop, refl, sym, ap, ◌∙◌, add-one, drop-cons, Some, slice_get, take, Option, None}
+use Rattle.std.proofs.Common.{ℕ, ◌<◌, ◌≤◌, ◌⊎◌, arith, ◌≡◌, ◌≢◌, zero, suc, ◌+◌, inl, inr, List, [], ◌∷◌, ◌++◌, length, get_or, drop, refl, sym, ap, ◌∙◌, add-one, drop-cons, Some, slice_get, take, Option, None, replicate, ◌-◌}
 use Rattle.std.proofs.Math.ListN.{set, length-set}
 use Rattle.std.proofs.lemmas.List.{get_or-set_same, get_or-set_other, take_more}
 use Rattle.std.proofs.lemmas.Option.{slice_get-get_or, slice_get_past, slice_get_within}
-use Rattle.infer_result.specs.Table.{At}
+use Rattle.infer_result.specs.Table.{At, recorded}
 use Rattle.infer_ctx.specs.Walks.{IsFree}
-use Rattle.infer_ctx.specs.Found.{noted_where, noted}
+use Rattle.infer_ctx.specs.Found.{noted_where, noted, put}
 
 pub lt_or_ge : (a b : ℕ) → (a < b) ⊎ (b ≤ a)
 lt_or_ge a b = grind arith
@@ -78,6 +78,41 @@ module _ {A : Type 0} where
             inr (e, g))
         | inr ne ↦ inl (sym (slice_get-set_other xs n m (Some a) ne) ∙ k)
       ]
+
+  -- a write where the list grows
+  pub put-here : (xs : List (Option A)) (n : ℕ) (a : A) → At (put xs n a) n a
+  put-here [] zero a = refl
+  put-here [] (suc n) a = put-here [] n a
+  put-here (o ∷ xs) zero a = refl
+  put-here (o ∷ xs) (suc n) a = put-here xs n a
+
+  pub put-cases : (xs : List (Option A)) (n m : ℕ) (a b : A) → At (put xs n a) m b → At xs m b ⊎ ((m ≡ n) × (a ≡ b))
+  put-cases [] zero zero a b h = (let e : a ≡ b = cc in inr (refl, e))
+  put-cases [] zero (suc m) a b h = absurd (cc)
+  put-cases [] (suc n) zero a b h = absurd (cc)
+  put-cases [] (suc n) (suc m) a b h = elim (put-cases [] n m a b h) [ inl k ↦ absurd (cc) | inr k ↦ inr (ap suc k.0, k.1) ]
+  put-cases (o ∷ xs) zero zero a b h = (let e : a ≡ b = cc in inr (refl, e))
+  put-cases (o ∷ xs) zero (suc m) a b h = inl h
+  put-cases (o ∷ xs) (suc n) zero a b h = inl h
+  put-cases (o ∷ xs) (suc n) (suc m) a b h = elim (put-cases xs n m a b h) [ inl k ↦ inl k | inr k ↦ inr (ap suc k.0, k.1) ]
+
+  -- it keeps what is recorded where nothing was there
+  pub At-put : (xs : List (Option A)) (n m : ℕ) (a b : A) → recorded xs n ≡ None → At xs m b → At (put xs n a) m b
+  At-put [] n m a b free h = absurd (cc)
+  At-put (None ∷ xs) zero zero a b free h = absurd (cc)
+  At-put (Some x ∷ xs) zero zero a b free h = absurd (cc)
+  At-put (o ∷ xs) zero (suc m) a b free h = h
+  At-put (o ∷ xs) (suc n) zero a b free h = h
+  At-put (o ∷ xs) (suc n) (suc m) a b free h = At-put xs n m a b free h
+
+  -- as the code does it: the list is made long enough, and written
+  pub put_made : (xs : List (Option A)) (n : ℕ) (a : A) → set (xs ++ replicate (n + 1 - length xs) None) n (Some a) ≡ put xs n a
+  put_made [] zero a = refl
+  put_made [] (suc n) a = ap (λ ys. None ∷ ys) (put_made [] n a)
+  put_made (o ∷ xs) zero a = (let none : 0 + 1 - length (o ∷ xs) ≡ 0 = omega arith in rw (none, append-nil) refl)
+  put_made (o ∷ xs) (suc n) a =
+      (let less : suc n + 1 - length (o ∷ xs) ≡ n + 1 - length xs = omega arith in
+      rw less (ap (λ ys. o ∷ ys) (put_made xs n a)))
 
   -- a write of nothing, or of a value
   abbrev pub own_set : List (Option A) → ℕ → Option A → List (Option A)

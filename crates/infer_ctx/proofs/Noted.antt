@@ -50,7 +50,7 @@ noted_walked g s c e m x y h = record {
   modes = h.modes;
   pat_diagnostics = h.pat_diagnostics;
   variants = record { exprs = h.variants.exprs; pats = h.variants.pats };
-  placeholders = record { count = h.placeholders.count; only = h.placeholders.only };
+  placeholders = h.placeholders;
   seen = λ i y at. seen_as_kept g c (with_mismatch c e m) (noted_extends c e m) (λ n d k. k) refl y (h.seen i y at);
   diagnostics = λ n d i. diagnostic_kept g c.result (with_mismatch c e m).result (noted_extends c e m) n d (h.diagnostics n d i);
   free_exprs = h.free_exprs;

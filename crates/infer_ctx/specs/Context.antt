@@ -65,9 +65,9 @@ IsLess x y = (y ≡ x) ⊎ (y ≡ None)
 -- ---- what is found out
 
 -- nothing yet: the walk has come to the body alone
-abbrev pub empty_context : List RawType → RawBody → InferenceContext
-empty_context types b = record {
-  result = writes.nothing types b;
+abbrev pub empty_context : RawBody → InferenceContext
+empty_context b = record {
+  result = writes.nothing b;
   asked = replicate (length b.exprs) None;
   clock = 1;
   table = new_state;

@@ -13,7 +13,7 @@ use Rattle.infer_result.specs.declared.diagnostics.InferenceDiagnostic.{Inferenc
 use Rattle.infer_result.specs.declared.modes.BindingMode.{BindingMode}
 use Rattle.infer_result.specs.declared.result.Seen.{Seen}
 use Rattle.infer_result.specs.declared.modes.BindingMode.TheVariants as mode
-pub use Rattle.infer_ctx.specs.Writes.{path_variant, expr_variant, pat_variant, noted_where, noted}
+pub use Rattle.infer_ctx.specs.Writes.{path_variant, expr_variant, pat_variant, noted_where, noted, put}
 use Rattle.infer_ctx.specs.Writes as writes
 use Rattle.infer_ctx.specs.Said.{said_of}
 
@@ -29,9 +29,9 @@ pub record RecordsVariants (b : RawBody) (t : InferenceResult) : Type 0 where
   pub pats : t.pat_variants ≡ map pat_variant b.pats
 
 -- nothing yet: the walk has come to the body alone, and what constructors are named is known
-abbrev pub nothing_found : Assignment → List RawType → RawBody → Found
-nothing_found a types b = record {
-  result = writes.nothing types b;
+abbrev pub nothing_found : Assignment → RawBody → Found
+nothing_found a b = record {
+  result = writes.nothing b;
   clock = 1;
   holes = a;
 }

@@ -19,7 +19,7 @@ use Rattle.infer_result.specs.declared.diagnostics.InferenceDiagnostic.{Inferenc
 use Rattle.infer_result.specs.Table.{At, HasTy, PatTy, BindingTy, PlaceholderTy, HasMode, ExprVariant, PatVariant, WasSeen}
 use Rattle.infer_result.specs.Closed.{AllTypes, IsOfBody, OnlyBindersHaveModes}
 use Rattle.infer_result.specs.declared.result.Seen.{Seen}
-use Rattle.infer_result.specs.Places.{Given, HasPlaceholders}
+use Rattle.infer_result.specs.Places.{Given, OnlyPlaceholdersHaveTypes}
 use Rattle.infer_result.specs.Demands.{Demand}
 use Rattle.infer_result.specs.Truth.Seen.{IsTrueSeen}
 use Rattle.infer_result.specs.Kinds.Call.{IsSaid}
@@ -86,7 +86,7 @@ pub record IsWalked (g : Given) (s : Schedule) (c : Found) : Type 0 where
   pub diagnostics : (e : ExprId) (d : InferenceDiagnostic) → At c.result.expr_diagnostics e.0 d → IsTrueDiagnostic g c.result e d
   pub pat_diagnostics : (p : PatId) (d : InferenceDiagnostic) → At c.result.pat_diagnostics p.0 d → IsTruePatDiagnostic g p d
   pub variants : RecordsVariants g.body c.result
-  pub placeholders : HasPlaceholders g c.result
+  pub placeholders : OnlyPlaceholdersHaveTypes g c.result
   pub seen : (i : ℕ) (x : Seen) → slice_get c.result.seen i ≡ Some x → IsSeenAs g c x
 
 -- a property of mismatches and the expressions that they stand at: what the places of these have still to show

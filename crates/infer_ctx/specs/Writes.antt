@@ -1,11 +1,10 @@
 -- What is recorded in a table, write by write.
-use Rattle.std.specs.Prelude.{ℕ, List, [], length, map, replicate, slice_get, slice_set, Option, Some, None}
+use Rattle.std.specs.Prelude.{ℕ, zero, suc, List, [], ◌∷◌, length, map, replicate, slice_get, slice_set, Option, Some, None}
 use Rattle.hir_types.specs.declared.ids.ExprId.{ExprId}
 use Rattle.hir_types.specs.declared.ids.PatId.{PatId}
 use Rattle.hir_types.specs.declared.ids.BindingId.{BindingId}
 use Rattle.hir_types.specs.declared.ids.VariantId.{VariantId}
 use Rattle.hir_types.specs.declared.ty.Ty.{Ty}
-use Rattle.hir_facts.specs.declared.raw.RawType.{RawType}
 use Rattle.hir_facts.specs.declared.raw.RawPath.{RawPath}
 use Rattle.hir_facts.specs.declared.raw.RawPath.TheVariants as path
 use Rattle.hir_facts.specs.declared.raw.RawExpr.{RawExpr}
@@ -41,13 +40,20 @@ noted_where (Some (Some x)) xs n m = xs
 abbrev pub noted : {A : Type 0} → List (Option A) → ℕ → A → List (Option A)
 noted xs n m = noted_where (slice_get xs n) xs n m
 
+-- x at n, with empty entries before it where the list is too short
+abbrev pub put : {A : Type 0} → List (Option A) → ℕ → A → List (Option A)
+put [] zero x = Some x ∷ []
+put [] (suc n) x = None ∷ put [] n x
+put (o ∷ xs) zero x = Some x ∷ xs
+put (o ∷ xs) (suc n) x = o ∷ put xs n x
+
 -- nothing is recorded yet, but what constructors are named
-abbrev pub nothing : List RawType → RawBody → InferenceResult
-nothing types b = record {
+abbrev pub nothing : RawBody → InferenceResult
+nothing b = record {
   type_of_expr = replicate (length b.exprs) None;
   type_of_pat = replicate (length b.pats) None;
   type_of_binding = replicate (length b.bindings) None;
-  type_of_placeholder = replicate (length types) None;
+  type_of_placeholder = [];
   binding_modes = replicate (length b.pats) None;
   expr_mismatches = replicate (length b.exprs) None;
   expr_diagnostics = replicate (length b.exprs) None;
@@ -89,4 +95,4 @@ binding_ty r v t = record r { type_of_binding = slice_set r.type_of_binding v.0 
 
 -- the `_` that is type k stands for t
 abbrev pub placeholder_ty : InferenceResult → ℕ → Ty → InferenceResult
-placeholder_ty r k t = record r { type_of_placeholder = slice_set r.type_of_placeholder k (Some t) }
+placeholder_ty r k t = record r { type_of_placeholder = put r.type_of_placeholder k t }

@@ -1,13 +1,13 @@
 //! What inference of a body has found out so far.
-ghost use Rattle.std.specs.Prelude.{◌≡◌, ◌<◌, ◌+◌, ◌^◌, IfOk, IsTrue, None, length, map, replicate};
+ghost use Rattle.std.specs.Prelude.{◌≡◌, ◌<◌, ◌+◌, ◌^◌, IfOk, OnOk, IsTrue, None, length, map, replicate};
 ghost use Rattle.infer_result.specs.Table.{MismatchAt};
-ghost use Rattle.infer_ctx.specs.Found.{noted, path_variant, expr_variant, pat_variant};
+ghost use Rattle.infer_ctx.specs.Found.{noted, put, path_variant, expr_variant, pat_variant};
 ghost use Rattle.infer_ctx.specs.Walks.{IsFree};
 ghost use Rattle.infer_ctx.specs.Steps.{IsUnasked};
 ghost use Rattle.infer_ctx.specs.Context.{empty_context, with_placeholder_ty, with_seen, entered, with_expr_ty, with_mismatch, with_asked, with_diagnostic, with_pat_mismatch, with_pat_diagnostic, with_pat_ty, with_mode, with_binding_ty};
 
 use hir_facts::{
-    BindingId, ExprId, Facts, List, PatId, RawBody, RawExpr, RawPat, RawPath, Ty, TypeRefId,
+    BindingId, ExprId, List, PatId, RawBody, RawExpr, RawPat, RawPath, Ty, TypeRefId,
     VariantId,
 };
 use infer_result::{BindingMode, InferenceDiagnostic, InferenceResult, Seen, TypeMismatch};
@@ -104,16 +104,33 @@ fn note<T: Drop>(entries: &mut List<Option<T>>, at: u32, entry: T)
     }
 }
 
+/// Records something in a list of what stands at each place, which grows as far as this one.
+fn put<T: Drop>(
+    entries: &mut List<Option<T>>,
+    at: u32,
+    entry: T,
+) -> Result<(), AllocError>
+    ensures { OnOk result (entries.new ≡ put entries.old at entry) }
+{
+    let at = at as usize;
+    let missing = (at + 1).saturating_sub(entries.len());
+    for _ in 0..missing {
+        entries.push(None)?;
+    }
+    entries.set(at, Some(entry));
+    Ok(())
+}
+
 impl InferenceContext {
     /// Nothing is found out yet: `infer.rs`, `InferenceContext::new`.
-    pub fn new(alloc: Global, facts: &Facts, body: &RawBody) -> Result<InferenceContext, AllocError>
-        ensures { IfOk result (λ context. context ≡ empty_context facts.now.types body.now) }
+    pub fn new(alloc: Global, body: &RawBody) -> Result<InferenceContext, AllocError>
+        ensures { IfOk result (λ context. context ≡ empty_context body.now) }
     {
         let result = InferenceResult {
             type_of_expr: no_entries(alloc, body.exprs.len())?,
             type_of_pat: no_entries(alloc, body.pats.len())?,
             type_of_binding: no_entries(alloc, body.bindings.len())?,
-            type_of_placeholder: no_entries(alloc, facts.types().len())?,
+            type_of_placeholder: List::new(alloc),
             binding_modes: no_entries(alloc, body.pats.len())?,
             expr_mismatches: no_entries(alloc, body.exprs.len())?,
             expr_diagnostics: no_entries(alloc, body.exprs.len())?,
@@ -227,13 +244,14 @@ impl InferenceContext {
     }
 
     /// Records the type that a `_` stands for: `infer.rs`, `write_type_placeholder_ty`.
-    pub fn write_type_placeholder_ty(&mut self, type_ref: TypeRefId, ty: Ty)
-        requires { type_ref.0 < length self.old.result.type_of_placeholder }
-        ensures { self.new ≡ with_placeholder_ty self.old type_ref.0 ty }
+    pub fn write_type_placeholder_ty(
+        &mut self,
+        type_ref: TypeRefId,
+        ty: Ty,
+    ) -> Result<(), AllocError>
+        ensures { OnOk result (self.new ≡ with_placeholder_ty self.old type_ref.0 ty) }
     {
-        self.result
-            .type_of_placeholder
-            .set(type_ref.0 as usize, Some(ty));
+        put(&mut self.result.type_of_placeholder, type_ref.0, ty)
     }
 
     /// Keeps a look-up that failed. That it did is said in the end, unless `{unknown}` stands in its

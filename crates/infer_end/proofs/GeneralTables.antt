@@ -91,7 +91,7 @@ module _ (r : InferenceResult) (o : Option General) where
       of_body = assumption (m.shape.of_body);
       closed = all_types_other _ m.shape.closed;
       modes = m.shape.modes;
-      placeholders = record { count = m.shape.placeholders.count; only = m.shape.placeholders.only };
+      placeholders = m.shape.placeholders;
       variants = record { exprs = m.shape.variants.exprs; pats = m.shape.variants.pats };
     };
     clauses = λ e i. obeys_kept g r other other_extends e (m.clauses e i);
@@ -260,7 +260,7 @@ module _ (raw : RawFacts) (d : DefWithBodyId) (i : BodyId) (b : RawBody) (s : Sc
       no_placeholders : (a : Assignment) → HasNone (closed_types a c.result.type_of_placeholder)
       no_placeholders a n t there =
           (let q = At-unclosed (folded a) c.result.type_of_placeholder n t there in
-          no_placeholder raw (params_of raw d) b is_plain g n refl refl ((done.made (completion c.table) completes).shape.placeholders.only n _ (At-closed (folded (completion c.table)) c.result.type_of_placeholder n q.0 q.1)))
+          no_placeholder raw (params_of raw d) b is_plain g n refl refl ((done.made (completion c.table) completes).shape.placeholders n _ (At-closed (folded (completion c.table)) c.result.type_of_placeholder n q.0 q.1)))
 
       said_nothing : (a : Assignment) → said a c.result.seen c.result.expr_diagnostics ≡ c.result.expr_diagnostics
       said_nothing a = ap (λ l. said a l c.result.expr_diagnostics) nothing_seen

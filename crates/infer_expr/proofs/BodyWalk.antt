@@ -38,13 +38,13 @@ none_asked : (a : Assignment) (n : ℕ) → closed_mismatches a (replicate n Non
 none_asked a zero = refl
 none_asked a (suc n) = ap (λ xs. None ∷ xs) (none_asked a n)
 
-pub nothing_under : (a : Assignment) (types : List RawType) (b : RawBody) → found_under a (empty_context types b) ≡ nothing_found a types b
-nothing_under a types b = λ i. record {
+pub nothing_under : (a : Assignment) (b : RawBody) → found_under a (empty_context b) ≡ nothing_found a b
+nothing_under a b = λ i. record {
   result = record {
     type_of_expr = none_under (folded a) (length b.exprs) i;
     type_of_pat = none_under (folded a) (length b.pats) i;
     type_of_binding = none_under (folded a) (length b.bindings) i;
-    type_of_placeholder = none_under (folded a) (length types) i;
+    type_of_placeholder = [];
     binding_modes = replicate (length b.pats) None;
     expr_mismatches = none_asked a (length b.exprs) i;
     expr_diagnostics = replicate (length b.exprs) None;
@@ -59,13 +59,13 @@ nothing_under a types b = λ i. record {
   holes = a;
 }
 
-nothing_sound : (sc : Scope) (types : List RawType) (b : RawBody) → IsSound sc (empty_context types b)
-nothing_sound sc types b = record {
+nothing_sound : (sc : Scope) (b : RawBody) → IsSound sc (empty_context b)
+nothing_sound sc b = record {
   fine = record {
     exprs = λ n t i. absurd (At-replicate (length b.exprs) n t i);
     pats = λ n t i. absurd (At-replicate (length b.pats) n t i);
     bindings = λ n t i. absurd (At-replicate (length b.bindings) n t i);
-    placeholders = λ n t i. absurd (At-replicate (length types) n t i);
+    placeholders = λ n t i. absurd (cc);
     found = λ n k t i. absurd (At-replicate (length b.exprs) n (diagnostic.ExpectedFunction k t) i);
     expected = λ n m i. absurd (At-replicate (length b.exprs) n m i);
     actual = λ n m i. absurd (At-replicate (length b.exprs) n m i);
@@ -88,10 +88,10 @@ nothing_sound sc types b = record {
 
 module _ (g : Given) (s : Schedule) (law : IsWalkable g.body s) (written : WrittenExist g) (count : length g.inputs ≡ length g.body.params) where
   abbrev blank : InferenceContext
-  blank = empty_context g.scope.facts.types g.body
+  blank = empty_context g.body
 
   params_under : (a : Assignment) (last : ℕ) → last ≡ expr_end g.body s g.body.root → last < 2 ^ 64 → ComesToParams g s (found_under a blank)
-  params_under a last is room = params_before g s a last (found_under a blank) law written count is room (nothing_under a g.scope.facts.types g.body)
+  params_under a last is room = params_before g s a last (found_under a blank) law written count is room (nothing_under a g.body)
 
   pub comes_to_params : (last : ℕ) (c : InferenceContext) → last ≡ expr_end g.body s g.body.root → last < 2 ^ 64 → c ≡ blank → BeforeParams g s c
   comes_to_params last c is room empty =
@@ -101,7 +101,7 @@ module _ (g : Given) (s : Schedule) (law : IsWalkable g.body s) (written : Writt
         count = count;
         state = record {
           of_body = of_body_unclosed fallback g.body blank.asked blank.result here.state.of_body;
-          sound = nothing_sound g.scope g.scope.facts.types g.body;
+          sound = nothing_sound g.scope g.body;
           told = λ v t i. absurd (At-replicate (length g.body.bindings) v.0 t i);
           each = λ a k. (params_under a last is room).state;
         };
@@ -120,12 +120,12 @@ comes_to_root g s old c b d carried heads =
       expected = carried_fine c.table g.scope g.output carried heads;
     }
 
-module _ (g : Given) (s : Schedule) (law : IsWalkable g.body s) (carried : IsCarriedType g.output) (t : Ty) (mid new last : InferenceContext) (p : ParamsDone g s (empty_context g.scope.facts.types g.body) mid) (d : CoerceDone g s g.body.root (Some g.output) t mid new) (e : Settles g new last) where
+module _ (g : Given) (s : Schedule) (law : IsWalkable g.body s) (carried : IsCarriedType g.output) (t : Ty) (mid new last : InferenceContext) (p : ParamsDone g s (empty_context g.body) mid) (d : CoerceDone g s g.body.root (Some g.output) t mid new) (e : Settles g new last) where
   abbrev b : OnlyBinds g new last
   b = e.binds
 
-  typed : (a : Assignment) → Closes a new → ParamsWalked g s (nothing_found a g.scope.facts.types g.body) (found_under a mid)
-  typed a q = subst (λ c. ParamsWalked g s c (found_under a mid)) (nothing_under a g.scope.facts.types g.body) (p.each a (closes_before g a mid new d.follows q))
+  typed : (a : Assignment) → Closes a new → ParamsWalked g s (nothing_found a g.body) (found_under a mid)
+  typed a q = subst (λ c. ParamsWalked g s c (found_under a mid)) (nothing_under a g.body) (p.each a (closes_before g a mid new d.follows q))
 
   done : (a : Assignment) → Closes a new → CoerceWalked g s g.body.root (Some g.output) (folded a t) (found_under a mid) (found_under a new)
   done a q = subst (λ u. CoerceWalked g s g.body.root (Some u) (folded a t) (found_under a mid) (found_under a new)) (carried_closed a g.output carried) (d.each a q)

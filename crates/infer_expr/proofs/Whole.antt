@@ -57,12 +57,12 @@ inner_start b s x law h =
     above a n = grind arith
 
 module _ (b : RawBody) (s : Schedule) (law : IsWalkable b s) where
-  empty_carried : (a : Assignment) (types : List RawType) → IsCarriedTable (nothing_found a types b).result
-  empty_carried a types = record {
+  empty_carried : (a : Assignment) → IsCarriedTable (nothing_found a b).result
+  empty_carried a = record {
     exprs = λ n t i. absurd (At-replicate (length b.exprs) n t i);
     pats = λ n t i. absurd (At-replicate (length b.pats) n t i);
     bindings = λ n t i. absurd (At-replicate (length b.bindings) n t i);
-    placeholders = λ n t i. absurd (At-replicate (length types) n t i);
+    placeholders = λ n t i. absurd (cc);
     found = λ n k t i. absurd (At-replicate (length b.exprs) n (diagnostic.ExpectedFunction k t) i);
     expected = λ n m i. absurd (At-replicate (length b.exprs) n m i);
     actual = λ n m i. absurd (At-replicate (length b.exprs) n m i);
@@ -83,7 +83,7 @@ module _ (b : RawBody) (s : Schedule) (law : IsWalkable b s) where
   pub root_within : IsInBody b (node.ExprId b.root)
   root_within = (ahead_right b s the_body 1 (param_parts 0 b.params) (expr_part root b.root ∷ []) body_ahead).fit.0
 
-empty_walked : (g : Given) (s : Schedule) (a : Assignment) → IsWalkable g.body s → IsWalked g s (nothing_found a g.scope.facts.types g.body)
+empty_walked : (g : Given) (s : Schedule) (a : Assignment) → IsWalkable g.body s → IsWalked g s (nothing_found a g.body)
 empty_walked g s a law = record {
   of_body = record {
     exprs = length-replicate (length g.body.exprs) None;
@@ -97,12 +97,12 @@ empty_walked g s a law = record {
     expr_variants = length-map g.body.exprs expr_variant;
     pat_variants = length-map g.body.pats pat_variant;
   };
-  carried = empty_carried g.body s law a g.scope.facts.types;
+  carried = empty_carried g.body s law a;
   modes = λ p m i. absurd (At-replicate (length g.body.pats) p.0 m i);
   diagnostics = λ e d i. absurd (At-replicate (length g.body.exprs) e.0 d i);
   pat_diagnostics = λ p d i. absurd (At-replicate (length g.body.pats) p.0 d i);
   variants = record { exprs = refl; pats = refl };
-  placeholders = record { count = length-replicate (length g.scope.facts.types) None; only = λ k t i. absurd (At-replicate (length g.scope.facts.types) k t i) };
+  placeholders = λ k t i. absurd (cc);
   seen = λ i y there. absurd (cc);
   free_exprs = λ e i lo. free-replicate (length g.body.exprs) e.0 i;
   free_pats = λ p i lo. free-replicate (length g.body.pats) p.0 i;
@@ -111,7 +111,7 @@ empty_walked g s a law = record {
   bound = λ p v i hi. absurd (omega (arith, inner_start g.body s (node.PatId p) law.schedule (binds_within g.body p v i)));
 }
 
-pub params_before : (g : Given) (s : Schedule) (a : Assignment) (last : ℕ) (c : Found) → IsWalkable g.body s → WrittenExist g → length g.inputs ≡ length g.body.params → last ≡ expr_end g.body s g.body.root → last < 2 ^ 64 → c ≡ nothing_found a g.scope.facts.types g.body → ComesToParams g s c
+pub params_before : (g : Given) (s : Schedule) (a : Assignment) (last : ℕ) (c : Found) → IsWalkable g.body s → WrittenExist g → length g.inputs ≡ length g.body.params → last ≡ expr_end g.body s g.body.root → last < 2 ^ 64 → c ≡ nothing_found a g.body → ComesToParams g s c
 params_before g s a last c law written count is room empty =
     let ready : IsReady g s = record { law = law; written = written; room = omega (arith, is, root_last g.body s law) } in
     subst (λ k. ComesToParams g s k) (sym empty) (record { ready = ready; count = count; state = empty_walked g s a law; ahead = body_ahead g.body s law })
@@ -125,9 +125,9 @@ root_demand g s c ahead r =
     let q = ahead_stands g.body s the_body c.clock (expr_part root g.body.root) [] ahead in
     inl (record { parent = the_body; at_part = q.0; role = root; stands = q.1; asks = (refl, refl) })
 
-module _ (g : Given) (s : Schedule) (a : Assignment) (law : IsWalkable g.body s) (t : Ty) (mid new : Found) (p : ParamsWalked g s (nothing_found a g.scope.facts.types g.body) mid) (d : CoerceWalked g s g.body.root (Some g.output) t mid new) where
+module _ (g : Given) (s : Schedule) (a : Assignment) (law : IsWalkable g.body s) (t : Ty) (mid new : Found) (p : ParamsWalked g s (nothing_found a g.body) mid) (d : CoerceWalked g s g.body.root (Some g.output) t mid new) where
   abbrev first : Found
-  first = nothing_found a g.scope.facts.types g.body
+  first = nothing_found a g.body
 
   at_end : new.clock ≡ end g.body s the_body
   at_end = d.clock ∙ root_last g.body s law

@@ -26,7 +26,7 @@ pub fn infer_body(
     requires count { length given.now.inputs.now ≡ length given.now.body.now.params }
     requires carried { IsCarriedType given.now.return_ty.now }
     requires heads { HasFineHeads (scope_in given.now) given.now.return_ty.now }
-    requires empty { context.old ≡ empty_context given.now.facts.now.types given.now.body.now }
+    requires empty { context.old ≡ empty_context given.now.body.now }
     ensures { IfOk result (λ _. BodyDone (given_of given.now) context.new) }
 {
     let root = given.body.root;

@@ -38,7 +38,7 @@ pub fn infer_query_with_inspect<I: ObligationInspector>(
         inputs: facts.inputs(def),
         return_ty: &return_ty,
     };
-    let mut context = InferenceContext::new(alloc, facts, body)?;
+    let mut context = InferenceContext::new(alloc, body)?;
     infer_body(alloc, &mut context, &given)?;
     keep_general(alloc, &mut context, facts, def)?;
     let table = context.resolve_all(alloc)?;

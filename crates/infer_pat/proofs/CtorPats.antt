@@ -101,7 +101,7 @@ module _ (g : Given) (s : Schedule) (p : PatId) (v : VariantId) (ps : List PatId
                         subst (λ z. IsTruePatDiagnostic g z d) at (subst (λ z. IsTruePatDiagnostic g p z) k.1 true_complaint))
                   ];
               variants = record { exprs = h.state.variants.exprs; pats = h.state.variants.pats };
-              placeholders = record { count = h.state.placeholders.count; only = h.state.placeholders.only };
+              placeholders = h.state.placeholders;
               seen = λ i y there. seen_as_kept g old told told_extends (λ e d k. k) refl y (h.state.seen i y there);
             };
             made = λ e i lo hi. obeys_kept g old.result told.result told_extends e (begun.made e i lo hi);

@@ -14,7 +14,7 @@ use Rattle.hir_facts.specs.declared.raw.RawPat.{RawPat}
 use Rattle.hir_facts.specs.declared.raw.RawBody.{RawBody}
 use Rattle.hir_facts.specs.CarriedTypes.{IsCarriedType}
 use Rattle.hir_facts.specs.declared.raw.RawPat.TheVariants as pat
-use Rattle.infer_result.specs.Places.{Given, HasPlaceholders}
+use Rattle.infer_result.specs.Places.{Given, OnlyPlaceholdersHaveTypes}
 use Rattle.infer_result.specs.Incoming.{Gives}
 use Rattle.infer_result.specs.Demands.{Demand}
 use Rattle.infer_result.specs.Closed.{IsBinder, IsOfBody, OnlyBindersHaveModes}
@@ -80,7 +80,7 @@ pub record IsOpen (g : Given) (s : Schedule) (p : PatId) (n : ℕ) (c : Found) :
   pub diagnostics : (e : ExprId) (d : InferenceDiagnostic) → At c.result.expr_diagnostics e.0 d → IsTrueDiagnostic g c.result e d
   pub pat_diagnostics : (q : PatId) (d : InferenceDiagnostic) → At c.result.pat_diagnostics q.0 d → IsTruePatDiagnostic g q d
   pub variants : RecordsVariants g.body c.result
-  pub placeholders : HasPlaceholders g c.result
+  pub placeholders : OnlyPlaceholdersHaveTypes g c.result
   pub seen : (i : ℕ) (y : Seen) → slice_get c.result.seen i ≡ Some y → IsSeenAs g c y
 
 pub open_walked : (g : Given) (s : Schedule) (p : PatId) (c : Found) → IsWalked g s c → IsOpen g s p c.clock c
@@ -447,7 +447,7 @@ module _ (g : Given) (s : Schedule) (p : PatId) (t : Ty) (old new : Found) (o : 
     diagnostics = λ e d i. diagnostic_kept g old.result new.result extends e d (h.state.diagnostics e d (rw w.diagnostics at i));
     pat_diagnostics = λ q d i. h.state.pat_diagnostics q d (rw w.pat_diagnostics at i);
     variants = record { exprs = w.expr_variants ∙ h.state.variants.exprs; pats = w.pat_variants ∙ h.state.variants.pats };
-    placeholders = record { count = ap (λ l. length l) w.placeholders ∙ h.state.placeholders.count; only = λ k u i. h.state.placeholders.only k u (rw w.placeholders at i) };
+    placeholders = λ k u i. h.state.placeholders k u (rw w.placeholders at i);
     seen = λ i z there. seen_as_kept g old new extends (λ e d k. rw w.diagnostics k) w.holes z (h.state.seen i z (rw w.seen at there));
     free_exprs = λ e i lo. rw w.exprs (h.state.free_exprs e i (omega (arith, w.clock)));
     free_pats = λ q i lo.

@@ -59,10 +59,9 @@ pub record IsPlaceholder (g : Given) (k : ℕ) : Type 0 where
   pub is_let : stmt_at g.body block at_stmt ≡ Some (stmt.Let pattern (Some written) init other)
   pub stands : StandsIn g.scope.facts.types k written.0
 
--- there is an entry for each written type, and a type at no other one
-pub record HasPlaceholders (g : Given) (t : InferenceResult) : Type 0 where
-  pub count : length t.type_of_placeholder ≡ length g.scope.facts.types
-  pub only : (k : ℕ) (s : Ty) → PlaceholderTy t k s → IsPlaceholder g k
+-- what a type is recorded for as that of a `_` is one of the body
+abbrev pub OnlyPlaceholdersHaveTypes : Given → InferenceResult → Type 0
+OnlyPlaceholdersHaveTypes g t = (k : ℕ) (s : Ty) → PlaceholderTy t k s → IsPlaceholder g k
 
 -- ---- where an expression and a pattern are
 

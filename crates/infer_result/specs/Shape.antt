@@ -8,7 +8,7 @@ use Rattle.infer_result.specs.declared.result.Seen.{Seen}
 use Rattle.infer_result.specs.declared.diagnostics.InferenceDiagnostic.{InferenceDiagnostic}
 use Rattle.infer_result.specs.Table.{At}
 use Rattle.infer_result.specs.Closed.{IsOfBody, IsClosedTable, OnlyBindersHaveModes, OnlyNamedVariants}
-use Rattle.infer_result.specs.Places.{Given, HasPlaceholders}
+use Rattle.infer_result.specs.Places.{Given, OnlyPlaceholdersHaveTypes}
 use Rattle.infer_result.specs.Kinds.Call.{IsSaid}
 use Rattle.infer_result.specs.Truth.Mismatch.{IsTruePatMismatch}
 use Rattle.infer_result.specs.Truth.Seen.{IsTrueSeen}
@@ -20,7 +20,7 @@ pub record IsShaped (g : Given) (t : InferenceResult) : Type 0 where
   pub of_body : IsOfBody g.body t
   pub closed : IsClosedTable t
   pub modes : OnlyBindersHaveModes g.body t
-  pub placeholders : HasPlaceholders g t
+  pub placeholders : OnlyPlaceholdersHaveTypes g t
   pub variants : OnlyNamedVariants g.body t
 
 -- Each complaint other than a mismatch of an expression is true, and so is each failed look-up that is kept,

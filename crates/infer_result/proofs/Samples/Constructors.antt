@@ -52,7 +52,7 @@ use Rattle.infer_result.specs.Closed.{IsBinder, NamesVariant, IsVariantPat}
 use Rattle.infer_result.specs.Made.{IsMisfit, IsMade}
 use Rattle.infer_result.specs.Typed.{IsTyped}
 use Rattle.infer_result.proofs.Derived.{one_at, fn_def_parts, same_type_args, typed_by_schedule}
-use Rattle.infer_result.proofs.Samples.Small.{facts_with, e, p, b, w, u8, one_u8, plain, body_of, each_below, each_node, apart_by, only, each_entry, each_found, each_placed, closed_u8, u8_is_no_bool, u8_differs_bool, none_placed, no_placeholders, no_placeholder}
+use Rattle.infer_result.proofs.Samples.Small.{facts_with, e, p, b, w, u8, one_u8, plain, body_of, each_below, each_node, apart_by, only, each_entry, each_found, each_placed, closed_u8, u8_is_no_bool, u8_differs_bool, none_placed}
 use Rattle.infer_result.proofs.Samples.Calling.{unseen}
 
 -- ---- adts
@@ -171,7 +171,7 @@ table_of callee call name whole x bound mismatches expr_variants pat_variants = 
   type_of_expr = Some callee ∷ Some u8 ∷ Some call ∷ Some name ∷ Some u8 ∷ Some u8 ∷ Some u8 ∷ [];
   type_of_pat = Some whole ∷ Some x ∷ Some whole ∷ [];
   type_of_binding = Some bound ∷ [];
-  type_of_placeholder = no_placeholders types;
+  type_of_placeholder = [];
   binding_modes = None ∷ Some mode.Move ∷ None ∷ [];
   expr_mismatches = mismatches;
   expr_diagnostics = None ∷ None ∷ None ∷ None ∷ None ∷ None ∷ None ∷ [];
@@ -247,7 +247,7 @@ right_made = record {
       exprs = each_entry IsClosed right.type_of_expr (closed_some, (closed_u8, (closed_maybe, (closed_u8, (closed_u8, (closed_u8, (closed_u8, tt)))))));
       pats = each_entry IsClosed right.type_of_pat (closed_maybe, (closed_u8, (closed_maybe, tt)));
       bindings = each_entry IsClosed right.type_of_binding (closed_u8, tt);
-      placeholders = λ k s at. absurd (no_placeholder types k s at);
+      placeholders = λ k s at. absurd (cc);
       expected = each_entry (λ x. IsClosed x.expected) right.expr_mismatches tt;
       actual = each_entry (λ x. IsClosed x.actual) right.expr_mismatches tt;
       pat_expected = each_entry (λ x. IsClosed x.expected) right.pat_mismatches tt;

@@ -51,7 +51,7 @@ use Rattle.infer_result.specs.Table.{HasTy, PatTy, BindingTy}
 use Rattle.infer_result.specs.Typed.{given}
 use Rattle.infer_result.specs.Unknown.{IsKnown}
 use Rattle.infer_result.specs.UnknownLayers.{has_unknown_tuple}
-use Rattle.infer_result.proofs.Samples.Small.{e, p, b, w, plain, body_of, function_of, facts_with, each_below, each_node, apart_by, comes, only, each_entry, each_found, each_placed, closed_unit, none_placed, no_placeholders, no_placeholder}
+use Rattle.infer_result.proofs.Samples.Small.{e, p, b, w, plain, body_of, function_of, facts_with, each_below, each_node, apart_by, comes, only, each_entry, each_found, each_placed, closed_unit, none_placed}
 use Rattle.infer_result.proofs.Samples.Calling.{function, item}
 use Rattle.infer_result.proofs.Samples.Holes.{each_in, known_integer, fits_integer, bool_is_no_integer, item_under, closed_at, known_at, fits_at}
 
@@ -120,7 +120,7 @@ table_at s = record {
   type_of_expr = Some (item (s ∷ [])) ∷ Some s ∷ Some s ∷ Some unit ∷ [];
   type_of_pat = Some s ∷ [];
   type_of_binding = Some s ∷ [];
-  type_of_placeholder = no_placeholders types;
+  type_of_placeholder = [];
   binding_modes = Some mode.Move ∷ [];
   expr_mismatches = None ∷ None ∷ None ∷ None ∷ [];
   expr_diagnostics = None ∷ None ∷ None ∷ None ∷ [];
@@ -190,7 +190,7 @@ all_types P s callee own empty = record {
   exprs = each_entry P (table_at s).type_of_expr (callee, (own, (own, (empty, tt))));
   pats = each_entry P (table_at s).type_of_pat (own, tt);
   bindings = each_entry P (table_at s).type_of_binding (own, tt);
-  placeholders = λ k u found. absurd (no_placeholder types k u found);
+  placeholders = λ k u found. absurd (cc);
   expected = each_entry (λ x. P x.expected) (table_at s).expr_mismatches tt;
   actual = each_entry (λ x. P x.actual) (table_at s).expr_mismatches tt;
   pat_expected = each_entry (λ x. P x.expected) (table_at s).pat_mismatches tt;

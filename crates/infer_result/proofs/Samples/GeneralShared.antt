@@ -29,7 +29,7 @@ use Rattle.infer_result.specs.declared.result.InferenceResult.{InferenceResult}
 use Rattle.infer_result.specs.declared.modes.BindingMode.TheVariants as mode
 use Rattle.infer_result.specs.Fallback.{fallback}
 use Rattle.infer_result.specs.General.{IsGeneralType, general_hole, general_bool, general_tuple, general_item, IsGeneralFor, HasTypesOf, IsPlainClosing}
-use Rattle.infer_result.proofs.Samples.Small.{e, p, b, w, u8, plain, body_with, function_of, facts_with, only, u8_is_no_bool, no_placeholders}
+use Rattle.infer_result.proofs.Samples.Small.{e, p, b, w, u8, plain, body_with, function_of, facts_with, only, u8_is_no_bool}
 use Rattle.infer_result.proofs.Samples.Calling.{function, item}
 use Rattle.infer_result.proofs.Samples.Holes.{each_in, item_under}
 
@@ -74,7 +74,7 @@ table_at s u = record {
   type_of_expr = Some ty.Bool ∷ Some (item (s ∷ [])) ∷ Some s ∷ Some s ∷ Some (item (u ∷ [])) ∷ Some u ∷ Some u ∷ Some s ∷ Some unit ∷ [];
   type_of_pat = Some ty.Bool ∷ Some s ∷ [];
   type_of_binding = Some ty.Bool ∷ Some s ∷ [];
-  type_of_placeholder = no_placeholders types;
+  type_of_placeholder = [];
   binding_modes = Some mode.Move ∷ Some mode.Move ∷ [];
   expr_mismatches = None ∷ None ∷ None ∷ None ∷ None ∷ None ∷ None ∷ None ∷ None ∷ [];
   expr_diagnostics = None ∷ None ∷ None ∷ None ∷ None ∷ None ∷ None ∷ None ∷ None ∷ [];

@@ -28,7 +28,7 @@ use Rattle.infer_result.specs.Closed.{IsBinder, NamesVariant, IsVariantPat}
 use Rattle.infer_result.specs.Made.{IsMisfit, IsMade}
 use Rattle.infer_result.specs.Typed.{IsTyped}
 use Rattle.infer_result.proofs.Derived.{typed_by_schedule}
-use Rattle.infer_result.proofs.Samples.Small.{scope_with, e, p, b, w, u8, u16, one_u8, plain, body_with, each_below, each_node, apart_by, asked, one_param, no_other, only, each_entry, each_found, nowhere, closed_u8, closed_bool, u8_is_no_u16, u8_is_no_bool, u8_differs_bool, each_placed, none_placed, no_placeholders, no_placeholder}
+use Rattle.infer_result.proofs.Samples.Small.{scope_with, e, p, b, w, u8, u16, one_u8, plain, body_with, each_below, each_node, apart_by, asked, one_param, no_other, only, each_entry, each_found, nowhere, closed_u8, closed_bool, u8_is_no_u16, u8_is_no_bool, u8_differs_bool, each_placed, none_placed}
 
 -- the body with another condition, or another expression after `else`
 abbrev body_of : RawExpr → RawExpr → RawBody
@@ -78,7 +78,7 @@ table_of exprs mismatches = record {
   type_of_expr = exprs;
   type_of_pat = Some ty.Bool ∷ [];
   type_of_binding = Some ty.Bool ∷ [];
-  type_of_placeholder = no_placeholders types;
+  type_of_placeholder = [];
   binding_modes = Some mode.Move ∷ [];
   expr_mismatches = mismatches;
   expr_diagnostics = None ∷ None ∷ None ∷ None ∷ None ∷ [];
@@ -107,7 +107,7 @@ right_made = record {
       exprs = each_entry IsClosed right.type_of_expr (closed_bool, (closed_u8, (closed_u8, (closed_u8, (closed_u8, tt)))));
       pats = each_entry IsClosed right.type_of_pat (closed_bool, tt);
       bindings = each_entry IsClosed right.type_of_binding (closed_bool, tt);
-      placeholders = λ k s at. absurd (no_placeholder types k s at);
+      placeholders = λ k s at. absurd (cc);
       expected = each_entry (λ x. IsClosed x.expected) right.expr_mismatches tt;
       actual = each_entry (λ x. IsClosed x.actual) right.expr_mismatches tt;
       pat_expected = each_entry (λ x. IsClosed x.expected) right.pat_mismatches tt;

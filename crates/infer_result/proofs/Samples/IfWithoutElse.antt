@@ -29,7 +29,7 @@ use Rattle.infer_result.specs.Closed.{IsBinder, NamesVariant, IsVariantPat}
 use Rattle.infer_result.specs.Made.{IsMisfit, IsMade}
 use Rattle.infer_result.specs.Typed.{IsTyped}
 use Rattle.infer_result.proofs.Derived.{typed_by_schedule}
-use Rattle.infer_result.proofs.Samples.Small.{scope_with, e, p, b, w, u8, one_u8, plain, body_with, each_below, each_node, apart_by, asks_here, asked, one_param, no_other, only, each_entry, each_found, each_placed, nowhere, closed_u8, closed_bool, closed_unit, closed_error, u8_is_no_bool, u8_is_no_unit, bool_is_no_error, bool_is_no_unit, u8_differs_unit, none_placed, no_placeholders, no_placeholder}
+use Rattle.infer_result.proofs.Samples.Small.{scope_with, e, p, b, w, u8, one_u8, plain, body_with, each_below, each_node, apart_by, asks_here, asked, one_param, no_other, only, each_entry, each_found, each_placed, nowhere, closed_u8, closed_bool, closed_unit, closed_error, u8_is_no_bool, u8_is_no_unit, bool_is_no_error, bool_is_no_unit, u8_differs_unit, none_placed}
 
 abbrev types : List RawType
 types = type.Bool ∷ []
@@ -70,7 +70,7 @@ table_of s mismatches = record {
   type_of_expr = Some ty.Bool ∷ Some u8 ∷ Some s ∷ Some unit ∷ [];
   type_of_pat = Some ty.Bool ∷ Some s ∷ [];
   type_of_binding = Some ty.Bool ∷ Some s ∷ [];
-  type_of_placeholder = no_placeholders types;
+  type_of_placeholder = [];
   binding_modes = Some mode.Move ∷ Some mode.Move ∷ [];
   expr_mismatches = mismatches;
   expr_diagnostics = None ∷ None ∷ None ∷ None ∷ [];
@@ -93,7 +93,7 @@ right_made s closed_s = record {
       exprs = each_entry IsClosed (right s).type_of_expr (closed_bool, (closed_u8, (closed_s, (closed_unit, tt))));
       pats = each_entry IsClosed (right s).type_of_pat (closed_bool, (closed_s, tt));
       bindings = each_entry IsClosed (right s).type_of_binding (closed_bool, (closed_s, tt));
-      placeholders = λ k s at. absurd (no_placeholder types k s at);
+      placeholders = λ k s at. absurd (cc);
       expected = each_entry (λ x. IsClosed x.expected) (right s).expr_mismatches (closed_u8, tt);
       actual = each_entry (λ x. IsClosed x.actual) (right s).expr_mismatches (closed_unit, tt);
       pat_expected = each_entry (λ x. IsClosed x.expected) (right s).pat_mismatches tt;

@@ -33,7 +33,7 @@ use Rattle.infer_result.specs.Closed.{IsBinder, NamesVariant, IsVariantPat}
 use Rattle.infer_result.specs.Made.{IsMisfit, IsMade}
 use Rattle.infer_result.specs.Typed.{IsTyped}
 use Rattle.infer_result.proofs.Derived.{typed_by_schedule}
-use Rattle.infer_result.proofs.Samples.Small.{scope_with, e, p, b, w, u8, one_u8, plain, body_with, each_below, each_node, apart_by, comes, one_param, only, each_entry, each_found, nowhere, closed_u8, top_uint, top_int, u8_is_no_bool, u8_is_no_tuple, u8_differs_bool, each_placed, none_placed, no_placeholders, no_placeholder}
+use Rattle.infer_result.proofs.Samples.Small.{scope_with, e, p, b, w, u8, one_u8, plain, body_with, each_below, each_node, apart_by, comes, one_param, only, each_entry, each_found, nowhere, closed_u8, top_uint, top_int, u8_is_no_bool, u8_is_no_tuple, u8_differs_bool, each_placed, none_placed}
 
 -- the body with another expression in the last arm
 abbrev body_of : RawExpr → RawBody
@@ -100,7 +100,7 @@ table_of seven name last a wild bound mismatches pat_mismatches = record {
   type_of_expr = Some pair ∷ Some seven ∷ Some name ∷ Some last ∷ Some u8 ∷ Some u8 ∷ [];
   type_of_pat = Some pair ∷ Some pair ∷ Some a ∷ Some i32 ∷ Some wild ∷ [];
   type_of_binding = Some pair ∷ Some bound ∷ [];
-  type_of_placeholder = no_placeholders types;
+  type_of_placeholder = [];
   binding_modes = Some mode.Move ∷ None ∷ Some mode.Move ∷ None ∷ None ∷ [];
   expr_mismatches = mismatches;
   expr_diagnostics = None ∷ None ∷ None ∷ None ∷ None ∷ None ∷ [];
@@ -145,7 +145,7 @@ right_made = record {
       exprs = each_entry IsClosed right.type_of_expr (closed_pair, (closed_i32, (closed_u8, (closed_u8, (closed_u8, (closed_u8, tt))))));
       pats = each_entry IsClosed right.type_of_pat (closed_pair, (closed_pair, (closed_u8, (closed_i32, (closed_pair, tt)))));
       bindings = each_entry IsClosed right.type_of_binding (closed_pair, (closed_u8, tt));
-      placeholders = λ k s at. absurd (no_placeholder types k s at);
+      placeholders = λ k s at. absurd (cc);
       expected = each_entry (λ x. IsClosed x.expected) right.expr_mismatches tt;
       actual = each_entry (λ x. IsClosed x.actual) right.expr_mismatches tt;
       pat_expected = each_entry (λ x. IsClosed x.expected) right.pat_mismatches tt;

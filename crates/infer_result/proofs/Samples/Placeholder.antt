@@ -72,7 +72,7 @@ table_of first second = record {
   type_of_expr = Some u8 ∷ Some ty.Bool ∷ Some (pair_of u8) ∷ Some unit ∷ [];
   type_of_pat = Some (pair_of u8) ∷ [];
   type_of_binding = Some (pair_of u8) ∷ [];
-  type_of_placeholder = first ∷ second ∷ None ∷ [];
+  type_of_placeholder = first ∷ second ∷ [];
   binding_modes = Some mode.Move ∷ [];
   expr_mismatches = None ∷ None ∷ None ∷ None ∷ [];
   expr_diagnostics = None ∷ None ∷ None ∷ None ∷ [];
@@ -128,7 +128,7 @@ right_made = record {
       found = each_found IsClosed right.expr_diagnostics tt;
     };
     modes = λ x. each_placed (λ k m. IsBinder body (p k)) right.binding_modes ((b 0, None, refl), tt) x.0;
-    placeholders = record { count = refl; only = each_placed (λ k s. IsPlaceholder given k) right.type_of_placeholder (is_placeholder, tt) };
+    placeholders = each_placed (λ k s. IsPlaceholder given k) right.type_of_placeholder (is_placeholder, tt);
     variants = record {
       exprs = λ x. each_entry (NamesVariant given.body x) right.expr_variants tt x.0;
       pats = λ x. each_entry (IsVariantPat given.body x) right.pat_variants tt x.0;
@@ -184,6 +184,6 @@ forgotten h =
 -- a type recorded at `bool`, which is no `_`
 pub at_bool : (s : Ty) → IsTyped given (table_of (Some u8) (Some s)) → ⊥
 at_bool s h =
-    (let x = h.shape.placeholders.only 1 s refl in
+    (let x = h.shape.placeholders 1 s refl in
     let is = is_hole types 1 x.written.0 x.stands in
     cc)

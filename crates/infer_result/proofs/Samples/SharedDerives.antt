@@ -26,7 +26,7 @@ use Rattle.infer_result.specs.Table.{HasTy, PatTy, BindingTy}
 use Rattle.infer_result.specs.Typed.{given}
 use Rattle.infer_result.specs.Unknown.{IsKnown}
 use Rattle.infer_result.specs.UnknownLayers.{has_unknown_bool, has_unknown_tuple}
-use Rattle.infer_result.proofs.Samples.Small.{e, p, b, w, each_below, each_node, apart_by, comes, only, each_entry, each_found, each_placed, closed_bool, closed_unit, none_placed, no_placeholder}
+use Rattle.infer_result.proofs.Samples.Small.{e, p, b, w, each_below, each_node, apart_by, comes, only, each_entry, each_found, each_placed, closed_bool, closed_unit, none_placed}
 use Rattle.infer_result.proofs.Samples.Calling.{function, item}
 use Rattle.infer_result.proofs.Samples.Holes.{closed_at, known_at, fits_at}
 use Rattle.infer_result.proofs.Samples.GeneralKnown.{general_is_known}
@@ -91,7 +91,7 @@ module _ (s : Ty) where
     exprs = each_entry P table.type_of_expr (truth, (callee, (own, (own, (callee, (own, (own, (own, (empty, tt)))))))));
     pats = each_entry P table.type_of_pat (truth, (own, tt));
     bindings = each_entry P table.type_of_binding (truth, (own, tt));
-    placeholders = λ k u found. absurd (no_placeholder types k u found);
+    placeholders = λ k u found. absurd (cc);
     expected = each_entry (λ x. P x.expected) table.expr_mismatches tt;
     actual = each_entry (λ x. P x.actual) table.expr_mismatches tt;
     pat_expected = each_entry (λ x. P x.expected) table.pat_mismatches tt;

@@ -42,7 +42,7 @@ use Rattle.infer_result.specs.declared.result.InferenceResult.{InferenceResult}
 use Rattle.infer_result.specs.declared.diagnostics.InferenceDiagnostic.{InferenceDiagnostic}
 use Rattle.infer_result.specs.declared.diagnostics.InferenceDiagnostic.TheVariants as diagnostic
 use Rattle.infer_result.specs.Table.{At, HasTy, PatTy, AnyMismatch}
-use Rattle.infer_result.specs.Places.{Given, AreRecorded, HasPlaceholders, StandsAt, PatIsAtOrMismatch}
+use Rattle.infer_result.specs.Places.{Given, AreRecorded, OnlyPlaceholdersHaveTypes, StandsAt, PatIsAtOrMismatch}
 use Rattle.infer_result.specs.Incoming.{IsInput, Gives, Incoming}
 use Rattle.infer_result.specs.Kinds.Alternative.{IsBefore, IsOfOther}
 use Rattle.infer_result.specs.Demands.{Asks, IsAsked, Demand}
@@ -269,25 +269,9 @@ nowhere t h (x ∷ xs) (inr m) = nowhere t h xs m
 
 -- ---- without `_`
 
--- no written type has a type recorded
-abbrev pub no_placeholders : List RawType → List (Option Ty)
-no_placeholders [] = []
-no_placeholders (x ∷ types) = None ∷ no_placeholders types
-
-pub no_placeholder : (types : List RawType) (k : ℕ) (s : Ty) → At (no_placeholders types) k s → ⊥
-no_placeholder [] k s at = cc
-no_placeholder (x ∷ types) zero s at = cc
-no_placeholder (x ∷ types) (suc k) s at = no_placeholder types k s at
-
-entry_each : (types : List RawType) → length (no_placeholders types) ≡ length types
-entry_each [] = refl
-entry_each (x ∷ types) = ap (λ n. suc n) (entry_each types)
-
-pub none_placed : (g : Given) (t : InferenceResult) → t.type_of_placeholder ≡ no_placeholders g.scope.facts.types → HasPlaceholders g t
-none_placed g t is = record {
-  count = ap length is ∙ entry_each g.scope.facts.types;
-  only = λ k s at. absurd (no_placeholder g.scope.facts.types k s (subst (λ xs. At xs k s) is at));
-}
+-- no `_` has a type recorded
+pub none_placed : (g : Given) (t : InferenceResult) → t.type_of_placeholder ≡ [] → OnlyPlaceholdersHaveTypes g t
+none_placed g t is k s at = absurd (let none : At [] k s = subst (λ xs. At xs k s) is at in cc)
 
 abbrev IsNoHole : RawType → Type 0
 IsNoHole type.Hole = ⊥

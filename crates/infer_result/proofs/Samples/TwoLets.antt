@@ -30,7 +30,7 @@ use Rattle.infer_result.specs.Closed.{IsBinder, NamesVariant, IsVariantPat}
 use Rattle.infer_result.specs.Made.{IsMisfit, IsMade}
 use Rattle.infer_result.specs.Typed.{IsTyped}
 use Rattle.infer_result.proofs.Derived.{typed_by_schedule}
-use Rattle.infer_result.proofs.Samples.Small.{scope_with, e, p, b, w, u8, one_u8, plain, body_of, each_below, each_node, apart_by, only, each_entry, each_found, each_placed, closed_u8, closed_bool, closed_unit, u8_differs_bool, none_placed, no_placeholders, no_placeholder, none_recorded}
+use Rattle.infer_result.proofs.Samples.Small.{scope_with, e, p, b, w, u8, one_u8, plain, body_of, each_below, each_node, apart_by, only, each_entry, each_found, each_placed, closed_u8, closed_bool, closed_unit, u8_differs_bool, none_placed, none_recorded}
 
 abbrev types : List RawType
 types = type.Bool ∷ type.Integer (integer.Uint uint.U8) ∷ []
@@ -72,7 +72,7 @@ table_of mismatches = record {
   type_of_expr = Some u8 ∷ Some ty.Bool ∷ Some unit ∷ [];
   type_of_pat = Some ty.Bool ∷ Some u8 ∷ [];
   type_of_binding = Some ty.Bool ∷ Some u8 ∷ [];
-  type_of_placeholder = no_placeholders types;
+  type_of_placeholder = [];
   binding_modes = Some mode.Move ∷ Some mode.Move ∷ [];
   expr_mismatches = mismatches;
   expr_diagnostics = None ∷ None ∷ None ∷ [];
@@ -107,7 +107,7 @@ right_made = record {
       exprs = each_entry IsClosed right.type_of_expr (closed_u8, (closed_bool, (closed_unit, tt)));
       pats = each_entry IsClosed right.type_of_pat (closed_bool, (closed_u8, tt));
       bindings = each_entry IsClosed right.type_of_binding (closed_bool, (closed_u8, tt));
-      placeholders = λ k s at. absurd (no_placeholder types k s at);
+      placeholders = λ k s at. absurd (cc);
       expected = each_entry (λ x. IsClosed x.expected) right.expr_mismatches (closed_bool, (closed_u8, tt));
       actual = each_entry (λ x. IsClosed x.actual) right.expr_mismatches (closed_u8, (closed_bool, tt));
       pat_expected = each_entry (λ x. IsClosed x.expected) right.pat_mismatches tt;

@@ -27,7 +27,7 @@ use Rattle.infer_result.specs.Truth.Diagnostics.{IsTrueDiagnostic, IsTruePatDiag
 use Rattle.infer_result.specs.Made.{IsMisfit, IsMade}
 use Rattle.infer_result.specs.Typed.{IsTyped}
 use Rattle.infer_result.proofs.Derived.{typed_by_schedule}
-use Rattle.infer_result.proofs.Samples.Small.{e, w, u8, one_u8, function_of, each_below, each_entry, each_found, each_placed, closed_u8, closed_unit, none_placed, no_placeholders, no_placeholder}
+use Rattle.infer_result.proofs.Samples.Small.{e, w, u8, one_u8, function_of, each_below, each_entry, each_found, each_placed, closed_u8, closed_unit, none_placed}
 use Rattle.infer_result.proofs.Samples.Calling.{function, calling, schedule, is_schedule, item, closed_item, obeyed, unseen, counted, asked_of_argument}
 
 abbrev types : List RawType
@@ -52,7 +52,7 @@ table_of at_argument at_call = record {
   type_of_expr = Some (item []) ∷ Some u8 ∷ Some unit ∷ Some unit ∷ [];
   type_of_pat = [];
   type_of_binding = [];
-  type_of_placeholder = no_placeholders types;
+  type_of_placeholder = [];
   binding_modes = [];
   expr_mismatches = None ∷ at_argument ∷ None ∷ None ∷ [];
   expr_diagnostics = None ∷ None ∷ at_call ∷ None ∷ [];
@@ -97,7 +97,7 @@ right_made = record {
       exprs = each_entry IsClosed right.type_of_expr (closed_item [] refl, (closed_u8, (closed_unit, (closed_unit, tt))));
       pats = λ n s h. absurd (cc);
       bindings = λ n s h. absurd (cc);
-      placeholders = λ k s at. absurd (no_placeholder types k s at);
+      placeholders = λ k s at. absurd (cc);
       expected = each_entry (λ x. IsClosed x.expected) right.expr_mismatches tt;
       actual = each_entry (λ x. IsClosed x.actual) right.expr_mismatches tt;
       pat_expected = each_entry (λ x. IsClosed x.expected) right.pat_mismatches tt;

@@ -42,7 +42,7 @@ use Rattle.infer_result.specs.Closed.{IsBinder, NamesVariant, IsVariantPat}
 use Rattle.infer_result.specs.Made.{IsMisfit, IsMade}
 use Rattle.infer_result.specs.Typed.{IsTyped}
 use Rattle.infer_result.proofs.Derived.{typed_by_schedule}
-use Rattle.infer_result.proofs.Samples.Small.{e, p, b, w, u8, plain, body_with, each_below, each_node, apart_by, one_param, only, each_entry, each_found, each_placed, closed_u8, closed_unit, none_placed, no_placeholders, no_placeholder}
+use Rattle.infer_result.proofs.Samples.Small.{e, p, b, w, u8, plain, body_with, each_below, each_node, apart_by, one_param, only, each_entry, each_found, each_placed, closed_u8, closed_unit, none_placed}
 use Rattle.infer_result.proofs.Samples.Constructors.{v, adt, adt_of, variant_of, scope_of_adt}
 
 abbrev body : RawBody
@@ -105,7 +105,7 @@ table_of x at_o at_pattern at_x = record {
   type_of_expr = Some pair ∷ Some unit ∷ [];
   type_of_pat = Some pair ∷ Some pair ∷ Some x ∷ [];
   type_of_binding = Some pair ∷ Some x ∷ [];
-  type_of_placeholder = no_placeholders types;
+  type_of_placeholder = [];
   binding_modes = Some mode.Move ∷ None ∷ Some mode.Move ∷ [];
   expr_mismatches = None ∷ None ∷ [];
   expr_diagnostics = None ∷ None ∷ [];
@@ -151,7 +151,7 @@ right_made = record {
       exprs = each_entry IsClosed right.type_of_expr (closed_pair, (closed_unit, tt));
       pats = each_entry IsClosed right.type_of_pat (closed_pair, (closed_pair, (closed_u8, tt)));
       bindings = each_entry IsClosed right.type_of_binding (closed_pair, (closed_u8, tt));
-      placeholders = λ k s at. absurd (no_placeholder types k s at);
+      placeholders = λ k s at. absurd (cc);
       expected = each_entry (λ x. IsClosed x.expected) right.expr_mismatches tt;
       actual = each_entry (λ x. IsClosed x.actual) right.expr_mismatches tt;
       pat_expected = each_entry (λ x. IsClosed x.expected) right.pat_mismatches tt;

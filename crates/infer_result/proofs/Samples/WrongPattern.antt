@@ -34,7 +34,7 @@ use Rattle.infer_result.specs.Closed.{IsBinder, NamesVariant, IsVariantPat}
 use Rattle.infer_result.specs.Made.{IsMisfit, IsMade}
 use Rattle.infer_result.specs.Typed.{IsTyped}
 use Rattle.infer_result.proofs.Derived.{tuple_parts, typed_by_schedule}
-use Rattle.infer_result.proofs.Samples.Small.{scope_with, e, p, b, w, u8, plain, body_with, each_below, each_node, apart_by, comes, one_param, only, each_entry, each_found, each_placed, closed_u8, closed_unit, closed_error, u8_is_no_error, u8_is_no_tuple, none_placed, no_placeholders, no_placeholder, none_recorded}
+use Rattle.infer_result.proofs.Samples.Small.{scope_with, e, p, b, w, u8, plain, body_with, each_below, each_node, apart_by, comes, one_param, only, each_entry, each_found, each_placed, closed_u8, closed_unit, closed_error, u8_is_no_error, u8_is_no_tuple, none_placed, none_recorded}
 
 abbrev body : RawBody
 body =
@@ -86,7 +86,7 @@ table_of whole second pat_mismatches = record {
   type_of_expr = Some single ∷ Some unit ∷ [];
   type_of_pat = Some single ∷ Some whole ∷ Some u8 ∷ Some second ∷ [];
   type_of_binding = Some single ∷ Some u8 ∷ Some second ∷ [];
-  type_of_placeholder = no_placeholders types;
+  type_of_placeholder = [];
   binding_modes = Some mode.Move ∷ None ∷ Some mode.Move ∷ Some mode.Move ∷ [];
   expr_mismatches = None ∷ None ∷ [];
   expr_diagnostics = None ∷ None ∷ [];
@@ -133,7 +133,7 @@ right_made = record {
       exprs = each_entry IsClosed right.type_of_expr (closed_single, (closed_unit, tt));
       pats = each_entry IsClosed right.type_of_pat (closed_single, (closed_pair, (closed_u8, (closed_error, tt))));
       bindings = each_entry IsClosed right.type_of_binding (closed_single, (closed_u8, (closed_error, tt)));
-      placeholders = λ k s at. absurd (no_placeholder types k s at);
+      placeholders = λ k s at. absurd (cc);
       expected = each_entry (λ x. IsClosed x.expected) right.expr_mismatches tt;
       actual = each_entry (λ x. IsClosed x.actual) right.expr_mismatches tt;
       pat_expected = each_entry (λ x. IsClosed x.expected) right.pat_mismatches (closed_single, tt);
