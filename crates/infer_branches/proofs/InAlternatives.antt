@@ -16,7 +16,7 @@ use Rattle.infer_result.specs.declared.result.InferenceResult.{InferenceResult}
 use Rattle.infer_result.specs.Places.{Given}
 use Rattle.infer_result.specs.Demands.{AsksOf}
 use Rattle.infer_result.specs.Closed.{IsOfBody}
-use Rattle.infer_ctx.specs.Context.{IsLess}
+use Rattle.infer_ctx.specs.Context.{IsLess, of_alternatives, of_arms}
 use Rattle.infer_ctx.specs.Fine.{IsFineExpectation}
 use Rattle.infer_ctx.specs.Closings.{expected_under, found_under, Closes}
 use Rattle.infer_ctx.specs.declared.context.InferenceContext.{InferenceContext}
@@ -24,6 +24,7 @@ use Rattle.infer_ctx.specs.Steps.{OwnDone, Follows, CoerceDone, Before}
 use Rattle.infer_ctx.specs.Tells.{TellsRecorded}
 use Rattle.infer_ctx.specs.Under.{CoerceWalked, LieAhead, IsReady}
 use Rattle.infer_ctx.specs.Walks.{Walks, Nothing, OwedByAlternatives, Extends, expr_end}
+use Rattle.infer_ctx.proofs.Expected.{alternatives_less, arms_less}
 use Rattle.infer_ctx.proofs.FineTypes.{fine_grown, fine_expectation_grown}
 use Rattle.infer_ctx.proofs.AtEach.{follows_twice, closes_before, told_same, walking_after, expected_carried}
 use Rattle.infer_ctx.proofs.Category.{walks_trans, walks_paid}
@@ -35,12 +36,20 @@ use Rattle.infer_coerce.specs.declared.coerce_many.CoerceMany.{CoerceMany}
 use Rattle.infer_coerce.specs.declared.coerce_many.CoerceMany.TheVariants as common
 use Rattle.infer_coerce.proofs.Coercions.{owed_paid}
 use Rattle.infer_branches.specs.Branches.{AlternativeDone, AreMerged, GuardWalked}
+use Rattle.infer_branches.proofs.Branches.{less_twice}
 use Rattle.infer_branches.proofs.Alternatives.{StandsAs, IsAlternative, FirstBefore, Alternatives, Completed, completed, none_merged, taken}
 
 -- ---- what is expected
 pub less_fine : (sc : Scope) (state : State) (x y : Option Ty) → IsLess x y → IsFineExpectation sc state x → IsFineExpectation sc state y
 less_fine sc state x y (inl h) k = subst (λ o. IsFineExpectation sc state o) (sym h) k
 less_fine sc state x y (inr h) k = subst (λ o. IsFineExpectation sc state o) (sym h) tt
+
+-- what is wanted of the alternatives, and of the arms of a `match`
+pub wanted_less : (state : State) (x y : Option Ty) → y ≡ of_alternatives state x → IsLess x y
+wanted_less state x y is = subst (λ o. IsLess x o) (sym is) (alternatives_less state x)
+
+pub arms_wanted : (state : State) (x y z : Option Ty) → y ≡ of_alternatives state x → z ≡ of_arms state y → IsLess x z
+arms_wanted state x y z is arms = less_twice x y z (wanted_less state x y is) (subst (λ o. IsLess y o) (sym arms) (arms_less state y))
 
 pub less_under : (a : Assignment) (x y : Option Ty) → IsLess x y → IsLess (expected_under a x) (expected_under a y)
 less_under a x y (inl h) = inl (ap (expected_under a) h)

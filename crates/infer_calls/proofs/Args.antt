@@ -24,8 +24,7 @@ use Rattle.infer_ctx.proofs.Keeps.{all_kept, extends_trans}
 use Rattle.infer_ctx.proofs.Lists.{take_next}
 use Rattle.infer_ctx.proofs.Parts.{all_push}
 use Rattle.infer_calls.specs.Calls.{BeforeInputs, ArgsDone}
-use Rattle.infer_calls.proofs.Calls.{input_demand}
-use Rattle.infer_calls.proofs.CallWalk.{input_fine, taken_under}
+use Rattle.infer_calls.proofs.CallWalk.{input_fine, asks_inputs}
 
 -- the first i of them are at the first inputs
 pub record AtArgs (g : Given) (s : Schedule) (n : ExprId) (args : List ExprId) (ss : List Ty) (i : ℕ) (mid c : InferenceContext) : Type 0 where
@@ -59,24 +58,17 @@ module _ (g : Given) (s : Schedule) (n : ExprId) (args : List ExprId) (ss : List
       input_under a = slice_get-map (folded a) ss i ∙ ap (option_map (folded a)) input
 
       -- the call asks it of the argument
-      asks_arg : (a : Assignment) (r : InferenceResult) → Closes a mid → length args ≡ length ss → Extends (found_under a mid).result r →
-          Demand g r e (folded a u)
-      asks_arg a r y count x =
-          let b = h.before.before in
-          let asked = subst (λ vs. length args ≡ length vs × (slice_get vs i ≡ Some (folded a u))) (taken_under g s n args ss mid h.before a)
-          (count ∙ sym (length-map ss (folded a)), input_under a) in
-          input_demand g n b.called args b.id b.item.signature (map (folded a) b.types) (found_under a mid) (b.each a y).calling i e (folded a u) r
-          asked.0 x (slice_get_read args _ i e refl k is) asked.1
+      asks_arg : (a : Assignment) (r : InferenceResult) → Closes a mid → Extends (found_under a mid).result r → Demand g r e (folded a u)
+      asks_arg a r y x = asks_inputs g s n args ss mid h.before a y i e (folded a u) (slice_get_read args _ i e refl k is) (input_under a) r x
 
-      pub goes_past_arg : (t : Ty) (next : InferenceContext) → length args ≡ length ss → CoerceDone g s e (Some u) t c next →
-          AtArgs g s n args ss (i + 1) mid next
-      goes_past_arg t next count d = record {
+      pub goes_past_arg : (t : Ty) (next : InferenceContext) → CoerceDone g s e (Some u) t c next → AtArgs g s n args ss (i + 1) mid next
+      goes_past_arg t next d = record {
         before = h.before;
         walk = past_coerced_part _ _ _ _ _ _ _ _ _ h.walk e is k (λ a. Nothing) (Some u) t next d (λ a b m p. p) (λ a q b m o. inl (
             let now = (found_under a next).result in
             let z : Closes a c = closes_before g a c next d.follows q in
             let x = extends_trans _ _ now (h.walk.each a z).walks.extends (d.each a q).walks.extends in
-            let asked = asks_arg a now (closes_before g a mid c h.walk.follows z) count x in
+            let asked = asks_arg a now (closes_before g a mid c h.walk.follows z) x in
             subst (λ x. Demand g now x m.expected) (sym o.0) (subst (λ x. Demand g now e x) (sym o.1) asked)));
         made = λ a q.
             let now = (found_under a next).result in

@@ -31,8 +31,8 @@ use Rattle.infer_ctx.proofs.InParts.{WalksParts, begins_parts, comes_to, goes_pa
 use Rattle.infer_ctx.proofs.Instances.{known_instance, fine_instance, instances_under, fine_instances}
 use Rattle.infer_ctx.proofs.OverTypes.{fine_closed}
 use Rattle.infer_ctx.proofs.Closed.{diagnostic_under, of_body_diagnostic, sound_diagnostic}
-use Rattle.infer_calls.specs.Calls.{CalleeDone, BeforeArgs, IsCallOf, BeforeInputs, ArgsDone, ArgsWalked, inputs_at, BeforeLoose, LooseDone, ComesToLoose, LooseWalked}
-use Rattle.infer_calls.proofs.Calls.{call_done, told_loose, others_done}
+use Rattle.infer_calls.specs.Calls.{CalleeDone, BeforeArgs, IsCallOf, BeforeInputs, ArgsDone, ArgsWalked, inputs_at, BeforeLoose, LooseDone, ComesToLoose, LooseWalked, AsksInputs}
+use Rattle.infer_calls.proofs.Calls.{call_done, told_loose, others_done, input_demand, complained_extends}
 
 -- ---- what is called
 module _ (g : Given) (s : Schedule) (n called : ExprId) (args : List ExprId) (c : InferenceContext) (h : Within g s n None c)
@@ -88,24 +88,6 @@ call_then g s n called t v c mid new d k = record {
       };
 }
 
--- what is owed where nothing is expected is owed in any case
-pub call_for_any : (g : Given) (s : Schedule) (n : ExprId) (x : Option Ty) (t : Ty) (old new : InferenceContext) →
-    KindDone g s n None t old new → KindDone g s n x t old new
-call_for_any g s n x t old new k = record {
-  follows = k.follows;
-  fine = k.fine;
-  tells = k.tells;
-  each = λ a q.
-      let w = k.each a q in
-      record {
-        walks = walks_paid g s (PaidBy g n None (folded a t)) (PaidBy g n (expected_under a x) (folded a t)) (found_under a old) (found_under a new)
-            (λ e m o. inr (elim o [ inl y ↦ inl y | inr y ↦ absurd y ])) w.walks;
-        clock = w.clock;
-        carried = w.carried;
-        rule = w.rule;
-      };
-}
-
 -- ---- what the item takes and gives
 all_fine : (sc : Scope) (state : State) (ts : List Ty) → ((i : ℕ) (t : Ty) → slice_get ts i ≡ Some t → IsFine sc state t) →
     AllFine sc state ts
@@ -132,6 +114,9 @@ module _ (g : Given) (s : Schedule) (n : ExprId) (args : List ExprId) (t : Ty) (
   gives_fine : (new : InferenceContext) → Grew mid.table new.table → IsFine g.scope new.table gives
   gives_fine new grew = fine_grown g.scope mid.table new.table gives grew (fine_instance g.scope mid.table h.item.signature.params h.types h.count types_fine h.item.signature.output h.item.output)
 
+  pub output_fine : (u : Ty) → u ≡ gives → IsFine g.scope mid.table u
+  output_fine u is = subst (λ v. IsFine g.scope mid.table v) (sym is) (gives_fine mid (grew_itself mid.table))
+
   pub ends_call : (ss : List Ty) (u : Ty) (new : InferenceContext) → ss ≡ inputs_at h.item.signature h.types → u ≡ gives → ArgsDone g s n args ss mid new → KindDone g s n None u mid new
   ends_call ss u new inputs output d =
       subst (λ v. KindDone g s n None v mid new) (sym output) (record {
@@ -149,6 +134,36 @@ module _ (g : Given) (s : Schedule) (n : ExprId) (args : List ExprId) (t : Ty) (
             (subst (λ us. ArgsWalked g s n args us (found_under a mid) (found_under a new)) taken (d.each a q))
             (subst (λ v. IsCarriedType v) same carried));
       })
+
+-- ---- where only bindings were added
+module _ (g : Given) (s : Schedule) (n : ExprId) (args : List ExprId) (c d : InferenceContext) (o : OnlyBinds g c d) where
+  found_same : (a : Assignment) → found_under a c ≡ found_under a d
+  found_same a = sym (same_found a c d o.result o.asked o.clock)
+
+  args_bound : (t : Ty) → BeforeArgs g s n args t c → BeforeArgs g s n args t d
+  args_bound t h = record {
+    ready = h.ready;
+    state = walking_after g s c d h.state.told o.follows (λ a q. subst (λ f. IsWalked g s f) (found_same a) (h.state.each a (closes_before g a c d o.follows q)));
+    called = h.called;
+    id = h.id;
+    item = h.item;
+    types = h.types;
+    is = h.is;
+    count = h.count;
+    fine = λ i u at. fine_grown g.scope c.table d.table u o.follows.grew (h.fine i u at);
+    tells = h.tells;
+    each = λ a q. subst (λ f. ComesToArgs g s n h.called args h.id h.item.signature (map (folded a) h.types) f) (found_same a)
+        (h.each a (closes_before g a c d o.follows q));
+  }
+
+  pub inputs_bound : (ss : List Ty) → BeforeInputs g s n args ss c → BeforeInputs g s n args ss d
+  inputs_bound ss h = record { type = h.type; before = args_bound h.type h.before; inputs = h.inputs }
+
+  pub args_since : (ss : List Ty) (new : InferenceContext) → ArgsDone g s n args ss d new → ArgsDone g s n args ss c new
+  args_since ss new k = record {
+    follows = follows_twice g c d new o.follows k.follows;
+    each = λ a q. subst (λ f. ArgsWalked g s n args (map (folded a) ss) f (found_under a new)) (sym (found_same a)) (k.each a q);
+  }
 
 -- ---- the arguments
 module _ (g : Given) (s : Schedule) (n : ExprId) (args : List ExprId) (ss : List Ty) (mid : InferenceContext) (h : BeforeInputs g s n args ss mid) where
@@ -169,6 +184,13 @@ module _ (g : Given) (s : Schedule) (n : ExprId) (args : List ExprId) (ss : List
 
   pub input_fine : (i : ℕ) (u : Ty) → slice_get ss i ≡ Some u → IsFine g.scope mid.table u
   input_fine i u is = every_at (IsFine g.scope mid.table) ss i u all_inputs_fine is
+
+  -- the call asks of each argument that it be at its input
+  pub asks_inputs : (a : Assignment) → Closes a mid → AsksInputs g args (map (folded a) ss) (found_under a mid).result
+  asks_inputs a q i e u found input r x =
+      let b = h.before in
+      input_demand g n b.called args b.id b.item.signature (map (folded a) b.types) (found_under a mid) (b.each a q).calling i e u r x found
+      (subst (λ vs. slice_get vs i ≡ Some u) (taken_under a) input)
 
   -- ---- another number of them
 
@@ -198,6 +220,9 @@ module _ (g : Given) (s : Schedule) (n : ExprId) (args : List ExprId) (ss : List
     loose_at : (a : Assignment) → Closes a mid → ComesToLoose g s n h.before.called args (told_at a)
     loose_at a q = told_loose g s n h.before.called args h.before.id h.before.item.signature (map (folded a) h.before.types) (found_under a mid) (h.before.each a q) (differ_at a)
 
+    told_extends_at : (a : Assignment) → Closes a mid → Extends (found_under a mid).result (told_at a).result
+    told_extends_at a q = complained_extends g s n h.before.called args h.before.id h.before.item.signature (map (folded a) h.before.types) (found_under a mid) (h.before.each a q)
+
     pub comes_to_others : BeforeLoose g s n args ss told
     comes_to_others =
         let each : (a : Assignment) → Closes a told → ComesToLoose g s n h.before.called args (found_under a told)
@@ -207,6 +232,10 @@ module _ (g : Given) (s : Schedule) (n : ExprId) (args : List ExprId) (ss : List
           state = walking_after g s mid told h.before.state.told told_follows (λ a q. (each a q).state);
           called = h.before.called;
           fine = input_fine;
+          asks = λ a q i e u found input r x.
+              let m : Closes a mid = closes_before g a mid told told_follows q in
+              let y : Extends (told_at a).result r = subst (λ f. Extends f.result r) (sym (told_is a)) x in
+              asks_inputs a m i e u found input r (extends_trans _ _ r (told_extends_at a m) y);
           each = each;
         }
 

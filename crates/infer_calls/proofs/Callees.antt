@@ -177,13 +177,7 @@ path_or_not g e = by_expr (slice_get g.body.exprs e.0) refl
 -- ---- the type of what is called, resolved
 module _ (g : Given) (s : Schedule) (called : ExprId) (t u : Ty) (old mid : InferenceContext) (d : OwnDone g s called None t old mid) (is : u ≡ resolved_type mid.table t) (made : AllOf mid.table.substitution.kinds (bindings mid.table)) where
   pub known_fine : IsFine g.scope mid.table u
-  known_fine =
-      let holes : AreOf mid.table.substitution.kinds (resolved_term mid.table t)
-      = subst (λ x. AreOf mid.table.substitution.kinds x) (sym (resolution_term (bindings mid.table) t)) (resolved_made mid.table.substitution.kinds (bindings mid.table) (term t) made d.fine.holes) in
-      subst (λ v. IsFine g.scope mid.table v) (sym is) (record {
-        holes = holes;
-        heads = made_of_resolved_term (is_fine_head g.scope) mid.table t d.follows.sound.bound d.fine.heads;
-      })
+  known_fine = subst (λ v. IsFine g.scope mid.table v) (sym is) (resolved_fine g.scope mid.table t made d.follows.sound.bound d.fine)
 
   -- it is the type of what is called, under each assignment
   pub known_same : (a : Assignment) → Closes a mid → folded a u ≡ folded a t

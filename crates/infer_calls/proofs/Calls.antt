@@ -50,8 +50,8 @@ module _ (g : Given) (n called : ExprId) (args : List ExprId) (id : CallableDefI
   calls : (r : InferenceResult) → Extends c.result r → IsCallee g r called σ ts
   calls r k = record { item = id; has = k.exprs called _ h.has; signature = h.found }
 
-  pub input_demand : (i : ℕ) (e : ExprId) (u : Ty) (r : InferenceResult) → length args ≡ length taken → Extends c.result r → slice_get args i ≡ Some e → slice_get taken i ≡ Some u → Demand g r e u
-  input_demand i e u r count k found input =
+  pub input_demand : (i : ℕ) (e : ExprId) (u : Ty) (r : InferenceResult) → Extends c.result r → slice_get args i ≡ Some e → slice_get taken i ≡ Some u → Demand g r e u
+  input_demand i e u r k found input =
       let z : 0 + i ≡ i = omega arith in
       let here : slice_get (exprs_from argument 0 args) i ≡ Some (expr_part (argument i) e) = expr_at argument 0 args i e found ∙ ap (λ j. Some (expr_part (argument j) e)) z in
       let p : part_at g.body (inner (node.ExprId n)) (suc i) ≡ Some (expr_part (argument i) e) = ap (λ y. slice_get (parts_of_expr y) (suc i)) h.is_call ∙ here in
@@ -67,7 +67,6 @@ module _ (g : Given) (n called : ExprId) (args : List ExprId) (id : CallableDefI
           signature = σ;
           types = ts;
           is_callee = calls r k;
-          count = count ∙ input_count;
           input = input;
         };
       })
@@ -81,7 +80,7 @@ module _ (g : Given) (s : Schedule) (n called : ExprId) (args : List ExprId) (id
   abbrev complaint : InferenceDiagnostic
   complaint = diagnostic.MismatchedArgCount n (length ins) (length args)
 
-  complained_extends : Extends mid.result (with_diagnostic mid n complaint).result
+  pub complained_extends : Extends mid.result (with_diagnostic mid n complaint).result
   complained_extends = record {
     exprs = λ e t h. h;
     pats = λ p t h. h;

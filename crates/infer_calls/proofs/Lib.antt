@@ -4,3 +4,4 @@ pub mod Callees
 pub mod Calls
 pub mod Loose
 pub mod Uncallable
+pub mod Inputs

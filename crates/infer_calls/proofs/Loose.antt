@@ -1,20 +1,25 @@
--- Arguments of which nothing is asked.
-use Rattle.std.proofs.Common.{ℕ, ◌+◌, ◌<◌, ◌≤◌, ◌≡◌, List, length, get_or, None, Some, slice_get}
+-- Arguments that are typed, each with its one of some types expected of it, as far as there is one.
+use Rattle.std.proofs.Common.{ℕ, ◌+◌, ◌<◌, ◌≤◌, ◌≡◌, inl, refl, sym, ap, subst, ◌∙◌, List, length, get_or, map, Option, None, Some, option_map, slice_get}
+use Rattle.std.proofs.lemmas.Option.{slice_get_read, slice_get-map}
 use Rattle.hir_types.specs.declared.ids.ExprId.{ExprId}
 use Rattle.hir_types.specs.declared.ids.ExprOrPatId.TheVariants as node
 use Rattle.hir_types.specs.declared.ty.Ty.{Ty}
+use Rattle.hir_types.specs.Subst.{Assignment, folded}
 use Rattle.hir_facts.specs.Order.{inner, argument}
 use Rattle.hir_facts.specs.declared.schedule.Schedule.{Schedule}
 use Rattle.infer_result.specs.Places.{Given}
+use Rattle.infer_result.specs.Demands.{Demand}
+use Rattle.infer_result.specs.declared.result.TypeMismatch.{TypeMismatch}
 use Rattle.infer_ctx.specs.declared.context.InferenceContext.{InferenceContext}
-use Rattle.infer_ctx.specs.Closings.{found_under}
-use Rattle.infer_ctx.specs.Fine.{IsFine}
+use Rattle.infer_ctx.specs.Closings.{Closes, expected_under, found_under}
+use Rattle.infer_ctx.specs.Fine.{IsFine, IsFineExpectation}
 use Rattle.infer_ctx.specs.Steps.{Before, Follows, OwnDone, OnlyBinds}
-use Rattle.infer_ctx.specs.Walks.{Nothing}
-use Rattle.infer_ctx.proofs.AtEach.{follows_itself, follows_twice}
+use Rattle.infer_ctx.specs.Walks.{Nothing, Owed}
+use Rattle.infer_ctx.proofs.AtEach.{closes_before, follows_itself, follows_twice}
 use Rattle.infer_ctx.proofs.Category.{walks_refl}
 use Rattle.infer_ctx.proofs.FineTypes.{fine_grown}
 use Rattle.infer_ctx.proofs.InParts.{AtPart, comes_to_part, past_own_part, binds_on, all_past}
+use Rattle.infer_ctx.proofs.Keeps.{extends_trans}
 use Rattle.infer_calls.specs.Calls.{BeforeLoose, LooseDone}
 
 -- the first i of them are typed
@@ -38,16 +43,34 @@ module _ (g : Given) (s : Schedule) (n : ExprId) (args : List ExprId) (ss : List
 
   module _ (i : ℕ) (c : InferenceContext) (h : AtLoose g s n args ss i mid c) where
     module _ (e : ExprId) (is : e ≡ get_or args i e) (k : i < length args) where
-      pub comes_to_loose : Before g s e None c
-      comes_to_loose = comes_to_part _ _ _ _ _ _ _ _ _ h.walk e is k None h.before.ready h.before.state.told tt
+      -- what is expected of it: to be at its one of the types, where there is one
+      fine_at : (x : Option Ty) → slice_get ss i ≡ x → IsFineExpectation g.scope c.table x
+      fine_at None at = tt
+      fine_at (Some u) at = fine_grown g.scope mid.table c.table u h.walk.follows.grew (h.before.fine i u at)
 
-      pub goes_past_loose : (t : Ty) (next last : InferenceContext) → OwnDone g s e None t c next → OnlyBinds g next last →
-          AtLoose g s n args ss (i + 1) mid last
-      goes_past_loose t next last d o = record {
-        before = h.before;
-        walk = binds_on _ _ _ _ _ _ _ _
-            (past_own_part _ _ _ _ _ _ _ _ _ h.walk e is k (λ a. Nothing) None t next d (λ a b m p. p) (λ a q b m p. absurd p)) o;
-      }
+      pub comes_to_loose : Before g s e (slice_get ss i) c
+      comes_to_loose = comes_to_part _ _ _ _ _ _ _ _ _ h.walk e is k (slice_get ss i) h.before.ready h.before.state.told (fine_at (slice_get ss i) refl)
+
+      -- what it owes is asked of it
+      module _ (t : Ty) (next : InferenceContext) (d : OwnDone g s e (slice_get ss i) t c next) where
+        owed_asked : (a : Assignment) → Closes a next → (x : Option Ty) → slice_get ss i ≡ x → (b : ExprId) (m : TypeMismatch) → Owed e (expected_under a x) b m
+            → Demand g (found_under a next).result b m.expected
+        owed_asked a q None at b m o = absurd o
+        owed_asked a q (Some u) at b m o =
+            let now = (found_under a next).result in
+            let z : Closes a c = closes_before g a c next d.follows q in
+            let x = extends_trans _ _ now (h.walk.each a z).walks.extends (d.each a q).walks.extends in
+            let input : slice_get (map (folded a) ss) i ≡ Some (folded a u) = slice_get-map (folded a) ss i ∙ ap (option_map (folded a)) at in
+            let asked = h.before.asks a (closes_before g a mid c h.walk.follows z) i e (folded a u) (slice_get_read args _ i e refl k is) input now x in
+            subst (λ x. Demand g now x m.expected) (sym o.0) (subst (λ x. Demand g now e x) (sym o.1) asked)
+
+        pub goes_past_loose : (last : InferenceContext) → OnlyBinds g next last → AtLoose g s n args ss (i + 1) mid last
+        goes_past_loose last o = record {
+          before = h.before;
+          walk = binds_on _ _ _ _ _ _ _ _
+              (past_own_part _ _ _ _ _ _ _ _ _ h.walk e is k (λ a. Nothing) (slice_get ss i) t next d (λ a b m p. p)
+              (λ a q b m p. inl (owed_asked a q (slice_get ss i) refl b m p))) o;
+        }
 
     -- the type that may be made equal to the next one's is still fine
     pub still_fine : (u : Ty) (next : InferenceContext) → Follows g c next → slice_get ss i ≡ Some u → IsFine g.scope next.table u

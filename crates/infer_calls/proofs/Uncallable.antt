@@ -107,6 +107,7 @@ module _ (g : Given) (s : Schedule) (n : ExprId) (args : List ExprId) (u : Ty) (
     state = walking_after g s c saw h.state.told saw_follows (λ a q. (loose_at a (closes_before g a c saw saw_follows q)).state);
     called = h.called;
     fine = λ i v at. absurd (cc);
+    asks = λ a q i e v at none. absurd (cc);
     each = λ a q. loose_at a (closes_before g a c saw saw_follows q);
   }
 

@@ -15,11 +15,13 @@ use Rattle.hir_facts.specs.declared.raw.RawExpr.TheVariants as expr
 use Rattle.infer_table.specs.Table.{resolved_type, bindings}
 use Rattle.infer_table.specs.Bindings.{AllOf}
 use Rattle.infer_result.specs.Table.{HasTy, WasSeen}
+use Rattle.infer_result.specs.Demands.{Demand}
 use Rattle.infer_result.specs.Places.{Given}
+use Rattle.infer_result.specs.declared.result.InferenceResult.{InferenceResult}
 use Rattle.infer_result.specs.Kinds.Call.{ArgsRule, IsPathToItem}
 use Rattle.infer_result.specs.Placing.{at_or_mismatch}
 use Rattle.infer_ctx.specs.Found.{Found}
-use Rattle.infer_ctx.specs.Walks.{Walks, Nothing, expr_end, IsWalked}
+use Rattle.infer_ctx.specs.Walks.{Walks, Nothing, expr_end, IsWalked, Extends}
 use Rattle.infer_ctx.specs.Under.{LieAhead, IsReady, IsItem}
 use Rattle.infer_ctx.specs.declared.context.InferenceContext.{InferenceContext}
 use Rattle.infer_ctx.specs.Fine.{IsFine}
@@ -63,7 +65,7 @@ pub record ArgsWalked (g : Given) (s : Schedule) (n : ExprId) (args : List ExprI
   pub clock : new.clock ≡ expr_end g.body s n
   pub made : ArgsRule (at_or_mismatch g new.result) n args ss ⊎ WasSeen new.result n
 
--- The arguments of the call n lie ahead, and nothing is asked of them.
+-- The arguments of the call n lie ahead.
 pub record ComesToLoose (g : Given) (s : Schedule) (n called : ExprId) (args : List ExprId) (c : Found) : Type 0 where
   pub ready : IsReady g s
   pub state : IsWalked g s c
@@ -76,6 +78,11 @@ pub record ComesToLoose (g : Given) (s : Schedule) (n called : ExprId) (args : L
 pub record ComesToUncallable (g : Given) (s : Schedule) (n called : ExprId) (args : List ExprId) (t : Ty) (c : Found) : Type 0 where
   pub loose : ComesToLoose g s n called args c
   pub has : HasTy c.result called t
+
+-- each of the arguments is asked to be at its one of these types, as far as there is one
+abbrev pub AsksInputs : Given → List ExprId → List Ty → InferenceResult → Type 0
+AsksInputs g args ss t =
+    (i : ℕ) (e : ExprId) (s : Ty) → slice_get args i ≡ Some e → slice_get ss i ≡ Some s → (later : InferenceResult) → Extends t later → Demand g later e s
 
 -- they are typed
 pub record LooseWalked (g : Given) (s : Schedule) (n : ExprId) (old new : Found) : Type 0 where
@@ -147,12 +154,13 @@ pub record BeforeUncallable (g : Given) (s : Schedule) (n : ExprId) (args : List
   pub no_path : (IsPathToItem g called → ⊥)
   pub each : (a : Assignment) → Closes a c → ComesToUncallable g s n called args (folded a t) (found_under a c)
 
--- the arguments of the call n lie ahead, and nothing is asked of them; the types ss are fine
+-- the arguments of the call n lie ahead, of which the first are asked to be at the types ss, which are fine
 pub record BeforeLoose (g : Given) (s : Schedule) (n : ExprId) (args : List ExprId) (ss : List Ty) (c : InferenceContext) : Type 0 where
   pub ready : IsReady g s
   pub state : IsWalking g s c
   pub called : ExprId
   pub fine : (i : ℕ) (u : Ty) → slice_get ss i ≡ Some u → IsFine g.scope c.table u
+  pub asks : (a : Assignment) → Closes a c → AsksInputs g args (map (folded a) ss) (found_under a c).result
   pub each : (a : Assignment) → Closes a c → ComesToLoose g s n called args (found_under a c)
 
 -- they are typed

@@ -2,12 +2,13 @@
 ghost use Rattle.std.specs.Prelude.{◌≡◌, IfOk, length};
 ghost use Rattle.infer_result.specs.Closed.{IsOfBody};
 ghost use Rattle.infer_ctx.specs.Closings.{IsSound};
-ghost use Rattle.infer_ctx.specs.Context.{given_of, scope_in, schedule_of};
-ghost use Rattle.infer_ctx.specs.Fine.{IsFine};
+ghost use Rattle.infer_ctx.specs.Context.{given_of, scope_in, schedule_of, expected_type};
+ghost use Rattle.infer_ctx.specs.Fine.{IsFine, IsFineExpectation};
 ghost use Rattle.infer_calls.specs.Calls.{IsCallOf, CalleeTyped, BeforeCall, BeforeInputs, ArgsDone, BeforeUncallable, BeforeLoose, LooseDone};
 ghost use Rattle.infer_ctx.specs.Steps.{Before, Within, KindDone, OnlyBinds};
 ghost use Rattle.infer_coerce.specs.Recursion.{InfersFrom};
 
+use crate::inputs::expect_inputs;
 use hir_facts::{ExprId, ExprOrPatId, Ty};
 use infer_coerce::{infer_expr_coerce, unify};
 use infer_ctx::{CallableSig, Expectation, GivenBody, InferenceContext};
@@ -23,15 +24,19 @@ pub fn infer_call<F: Fn(&mut InferenceContext, ExprId, Expectation) -> Result<Ty
     tgt_expr: ExprId,
     callee: ExprId,
     args: &[ExprId],
+    expected: Expectation,
 ) -> Result<Ty, AllocError>
     requires infers { InfersFrom (given_of given.now) (schedule_of given.now) context.old.clock (F.pre infer.now) (F.post infer.now) }
-    requires before { Within (given_of given.now) (schedule_of given.now) tgt_expr None context.old }
+    requires before { Within (given_of given.now) (schedule_of given.now)
+        tgt_expr (expected_type expected) context.old }
     requires is { IsCallOf given.now.body.now tgt_expr callee args.now }
     ensures { IfOk result (λ ty. KindDone (given_of given.now) (schedule_of given.now)
-        tgt_expr None ty context.old context.new) }
+        tgt_expr (expected_type expected.entry) ty context.old context.new) }
 {
     let callee_ty = infer_callee(infer, alloc, context, given, callee)?;
-    let ty = check_call(infer, alloc, context, given, tgt_expr, args, &callee_ty)?;
+    let ty = check_call(
+        infer, alloc, context, given, tgt_expr, args, &callee_ty, expected,
+    )?;
     Ok(ty)
 }
 
@@ -66,10 +71,12 @@ fn check_call<F: Fn(&mut InferenceContext, ExprId, Expectation) -> Result<Ty, Al
     call_expr: ExprId,
     args: &[ExprId],
     callee_ty: &Ty,
+    expected: Expectation,
 ) -> Result<Ty, AllocError>
     requires infers { InfersFrom (given_of given.now) (schedule_of given.now) context.old.clock (F.pre infer.now) (F.post infer.now) }
     requires before { BeforeCall (given_of given.now) (schedule_of given.now)
         call_expr args.now callee_ty.now context.old }
+    requires expected { IsFineExpectation (scope_in given.now) context.old.table (expected_type expected) }
     ensures { IfOk result (λ ty. KindDone (given_of given.now) (schedule_of given.now)
         call_expr None ty context.old context.new) }
 {
@@ -83,6 +90,8 @@ fn check_call<F: Fn(&mut InferenceContext, ExprId, Expectation) -> Result<Ty, Al
                 call_expr,
                 args,
                 inputs.as_slice(),
+                &output,
+                expected,
             )?;
             Ok(output)
         }
@@ -122,8 +131,9 @@ fn infer_uncallable<F: Fn(&mut InferenceContext, ExprId, Expectation) -> Result<
     Ok(ty)
 }
 
-/// Types the arguments of a call, which are to be at these types. Where there are not as many, that
-/// is said, and no argument has a mismatch. This is `infer/expr.rs`'s `check_call_arguments`.
+/// Types the arguments of a call, which are to be at these types, of which what is expected of the
+/// call may tell more. Where there are not as many, that is said, and no argument has a mismatch with
+/// its own. This is `infer/expr.rs`'s `check_call_arguments`.
 fn check_call_arguments<
     F: Fn(&mut InferenceContext, ExprId, Expectation) -> Result<Ty, AllocError>,
 >(
@@ -134,13 +144,18 @@ fn check_call_arguments<
     call_expr: ExprId,
     args: &[ExprId],
     inputs: &[Ty],
+    output: &Ty,
+    expected: Expectation,
 ) -> Result<(), AllocError>
     requires infers { InfersFrom (given_of given.now) (schedule_of given.now) context.old.clock (F.pre infer.now) (F.post infer.now) }
     requires before { BeforeInputs (given_of given.now) (schedule_of given.now)
         call_expr args.now inputs.now context.old }
+    requires output { IsFine (scope_in given.now) context.old.table output.now }
+    requires expected { IsFineExpectation (scope_in given.now) context.old.table (expected_type expected) }
     ensures { IfOk result (λ _. ArgsDone (given_of given.now) (schedule_of given.now)
         call_expr args.now inputs.now context.old context.new) }
 {
+    expect_inputs(alloc, context, given, expected, inputs, output)?;
     if args.len() == inputs.len() {
         check_arguments(infer, alloc, context, given, call_expr, args, inputs)
     } else {
@@ -210,8 +225,8 @@ fn check_miscounted_arguments<
     Ok(())
 }
 
-/// Types the arguments of a call, of which nothing is expected. What these types tell of the first
-/// of them is learnt where the two can be made equal.
+/// Types the arguments of a call, with these types expected of the first of them, and nothing of
+/// the others. What the types tell of these is learnt where the two can be made equal.
 fn infer_arguments<F: Fn(&mut InferenceContext, ExprId, Expectation) -> Result<Ty, AllocError>>(
     infer: &F,
     alloc: Global,
@@ -228,7 +243,7 @@ fn infer_arguments<F: Fn(&mut InferenceContext, ExprId, Expectation) -> Result<T
         call_expr context.old context.new) }
 {
     for i in 0..args.len() {
-        let ty = infer(context, args[i], Expectation::None)?;
+        let ty = infer(context, args[i], Expectation::at(inputs, i))?;
         if i < inputs.len() {
             unify_with(context, given, &ty, &inputs[i])?;
         }

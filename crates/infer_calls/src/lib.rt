@@ -2,5 +2,6 @@
 #![tactic(auto)]
 
 mod call;
+mod inputs;
 
 pub use call::infer_call;

@@ -4,3 +4,4 @@ pub mod Holes
 pub mod Merged
 pub mod Unified
 pub mod Later
+pub mod Resolved

@@ -189,7 +189,6 @@ module _ (g : Given) (a b : InferenceResult) (x : Extends a b) where
     signature = h.signature;
     types = h.types;
     is_callee = callee_kept h.called h.signature h.types h.is_callee;
-    count = h.count;
     input = h.input;
   }
 

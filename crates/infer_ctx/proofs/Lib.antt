@@ -22,3 +22,4 @@ pub mod Types
 pub mod Variants
 pub mod Written
 pub mod InParts
+pub mod Expected

@@ -13,7 +13,7 @@ use Rattle.hir_facts.specs.declared.schedule.Schedule.{Schedule}
 use Rattle.hir_facts.specs.CarriedTypes.{IsCarriedType}
 use Rattle.hir_facts.specs.declared.raw.RawType.{RawType}
 use Rattle.hir_facts.specs.declared.raw.RawBody.{RawBody}
-use Rattle.infer_table.specs.Table.{new_state, with_waiting}
+use Rattle.infer_table.specs.Table.{State, new_state, with_waiting, resolved_type}
 use Rattle.infer_result.specs.Places.{Given}
 use Rattle.infer_result.specs.declared.result.TypeMismatch.{TypeMismatch}
 use Rattle.infer_result.specs.Table.{mismatch}
@@ -57,6 +57,40 @@ element_type (Some t) i = component (out-Ty t) i
 abbrev pub IsCarriedExpectation : Option Ty → Type 0
 IsCarriedExpectation None = Unit {0}
 IsCarriedExpectation (Some t) = IsCarriedType t
+
+-- this type, where there is one
+abbrev pub known_or : Option Ty → Option Ty → Option Ty
+known_or None x = x
+known_or (Some t) x = Some t
+
+-- what a hole that is expected resolves to
+abbrev pub known_step : State → Ty → Ty-F GenericArg Ty AliasBound TraitRef → Option Ty
+known_step s t (Ty-F.Var n) = Some (resolved_type s t)
+known_step s t _ = None
+
+abbrev pub known_hole : State → Option Ty → Option Ty
+known_hole s None = None
+known_hole s (Some t) = known_step s t (out-Ty t)
+
+-- nothing where nothing is known of the type
+abbrev pub unless_open : Ty → Ty-F GenericArg Ty AliasBound TraitRef → Option Ty
+unless_open t (Ty-F.Var n) = None
+unless_open t _ = Some t
+
+-- what is expected of the alternatives of an `if` or a `match`, where this is expected of it
+abbrev pub of_alternatives : State → Option Ty → Option Ty
+of_alternatives s None = None
+of_alternatives s (Some t) = unless_open t (out-Ty (resolved_type s t))
+
+-- nothing where the type is `()`
+abbrev pub unless_empty : Ty → Ty-F GenericArg Ty AliasBound TraitRef → Option Ty
+unless_empty t (Ty-F.Tuple []) = None
+unless_empty t _ = Some t
+
+-- what is expected of the arms of a `match`, where this is expected of its alternatives
+abbrev pub of_arms : State → Option Ty → Option Ty
+of_arms s None = None
+of_arms s (Some t) = unless_empty t (out-Ty (resolved_type s t))
 
 -- the second expects what the first does, or nothing
 abbrev pub IsLess : Option Ty → Option Ty → Type 0

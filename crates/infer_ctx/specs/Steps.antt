@@ -9,6 +9,7 @@ use Rattle.infer_table.specs.Table.{Grew}
 use Rattle.infer_result.specs.Closed.{IsOfBody}
 use Rattle.infer_result.specs.Places.{Given}
 use Rattle.infer_result.specs.Made.{IsMade}
+use Rattle.infer_result.specs.Table.{MismatchAt}
 use Rattle.infer_ctx.specs.declared.context.InferenceContext.{InferenceContext}
 use Rattle.infer_ctx.specs.Found.{Found}
 use Rattle.infer_ctx.specs.Walks.{IsWalked, expr_start, IsFree}
@@ -107,6 +108,11 @@ pub record OnlyBinds (g : Given) (old new : InferenceContext) : Type 0 where
 pub record IsUnasked (c : InferenceContext) (e : ExprId) : Type 0 where
   pub asked : IsFree c.asked e.0
   pub noted : IsFree c.result.expr_mismatches e.0
+
+-- this mismatch is noted at the expression, and nothing was asked of it
+pub record IsNoted (c : InferenceContext) (e : ExprId) (expected actual : Ty) : Type 0 where
+  pub noted : MismatchAt c.result e expected actual
+  pub unasked : IsFree c.asked e.0
 
 -- ---- the whole body
 

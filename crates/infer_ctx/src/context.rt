@@ -1,9 +1,7 @@
 //! What inference of a body has found out so far.
-ghost use Rattle.std.specs.Prelude.{◌≡◌, ◌<◌, ◌+◌, ◌^◌, IfOk, OnOk, IsTrue, None, length, map, replicate};
-ghost use Rattle.infer_result.specs.Table.{MismatchAt};
+ghost use Rattle.std.specs.Prelude.{◌≡◌, ◌<◌, ◌+◌, ◌^◌, ◌↔◌, IfOk, OnOk, IsTrue, None, length, map, replicate};
 ghost use Rattle.infer_ctx.specs.Found.{noted, put, path_variant, expr_variant, pat_variant};
-ghost use Rattle.infer_ctx.specs.Walks.{IsFree};
-ghost use Rattle.infer_ctx.specs.Steps.{IsUnasked};
+ghost use Rattle.infer_ctx.specs.Steps.{IsNoted, IsUnasked};
 ghost use Rattle.infer_ctx.specs.Context.{empty_context, with_placeholder_ty, with_seen, entered, with_expr_ty, with_mismatch, with_asked, with_diagnostic, with_pat_mismatch, with_pat_diagnostic, with_pat_ty, with_mode, with_binding_ty};
 
 use hir_facts::{
@@ -189,7 +187,7 @@ impl InferenceContext {
 
     /// Whether nothing is noted at an expression, and nothing was asked of it.
     pub fn is_unasked(&self, expr: ExprId) -> bool
-        ensures { IsTrue result → IsUnasked self.now expr }
+        ensures { IsTrue result ↔ IsUnasked self.now expr }
     {
         let (asked, noted) = (&self.asked, &self.result.expr_mismatches);
         match (asked.get(expr.0 as usize), noted.get(expr.0 as usize)) {
@@ -200,8 +198,7 @@ impl InferenceContext {
 
     /// Whether this mismatch is noted at an expression of which nothing was asked.
     pub fn is_noted(&self, expr: ExprId, expected: &Ty, actual: &Ty) -> bool
-        ensures mismatch { IsTrue result → MismatchAt self.now.result expr expected.now actual.now }
-        ensures unasked { IsTrue result → IsFree self.now.asked expr.0 }
+        ensures { IsTrue result ↔ IsNoted self.now expr expected.now actual.now }
     {
         let Some(None) = self.asked.get(expr.0 as usize) else {
             return false;

@@ -1,7 +1,7 @@
 //! What is expected of an expression before it is looked at.
-ghost use Rattle.std.specs.Prelude.{◌≡◌};
+ghost use Rattle.std.specs.Prelude.{◌≡◌, slice_get};
 ghost use Rattle.std.specs.Option.{option_copied};
-ghost use Rattle.infer_ctx.specs.Context.{expected_type, element_type, IsLess};
+ghost use Rattle.infer_ctx.specs.Context.{expected_type, element_type, known_or, of_alternatives, of_arms};
 
 use hir_facts::Ty;
 use infer_table::InferenceTable;
@@ -26,6 +26,16 @@ impl<'a> Expectation<'a> {
         }
     }
 
+    /// That an expression can be coerced to the type at this position, where there is one.
+    pub fn at(tys: &'a [Ty], position: usize) -> Expectation<'a>
+        ensures { expected_type result ≡ slice_get tys.now position }
+    {
+        match tys.get(position) {
+            Some(ty) => Expectation::HasType(ty),
+            None => Expectation::None,
+        }
+    }
+
     /// The type that is expected: `infer.rs`, `Expectation::only_has_type`.
     pub fn only_has_type(self) -> Option<&'a Ty>
         ensures { option_copied result ≡ expected_type self.entry }
@@ -33,6 +43,16 @@ impl<'a> Expectation<'a> {
         match self {
             Expectation::None => None,
             Expectation::HasType(ty) => Some(ty),
+        }
+    }
+
+    /// This type, where there is one; else what is expected.
+    pub fn known_as(self, known: &'a Option<Ty>) -> Expectation<'a>
+        ensures { expected_type result ≡ known_or known.now (expected_type self.entry) }
+    {
+        match known {
+            Some(ty) => Expectation::HasType(ty),
+            None => self,
         }
     }
 
@@ -53,7 +73,7 @@ impl<'a> Expectation<'a> {
     /// nothing where that is a type that is not known. This is `infer.rs`'s
     /// `Expectation::adjust_for_branches`.
     pub fn adjust_for_branches(self, table: &InferenceTable) -> Expectation<'a>
-        ensures { IsLess (expected_type self.entry) (expected_type result) }
+        ensures { expected_type result ≡ of_alternatives table.now (expected_type self.entry) }
     {
         match self {
             Expectation::None => Expectation::None,
@@ -67,7 +87,7 @@ impl<'a> Expectation<'a> {
     /// What is expected of the arms of a `match`: nothing where that is `()`, so that the arms of a
     /// `match` that is a statement may have any type that they have in common.
     pub fn unless_unit(self, table: &InferenceTable) -> Expectation<'a>
-        ensures { IsLess (expected_type self.entry) (expected_type result) }
+        ensures { expected_type result ≡ of_arms table.now (expected_type self.entry) }
     {
         match self {
             Expectation::None => Expectation::None,

@@ -92,7 +92,7 @@ pub fn infer_expr_of_kind<
             )
         }
         RawExpr::Call { callee, args } => {
-            let ty = infer_call(
+            infer_call(
                 infer,
                 alloc,
                 context,
@@ -100,8 +100,8 @@ pub fn infer_expr_of_kind<
                 tgt_expr,
                 *callee,
                 args.as_slice(),
-            )?;
-            Ok(ty)
+                expected,
+            )
         }
         RawExpr::Other => unreachable!(),
     }

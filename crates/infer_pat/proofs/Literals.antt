@@ -1,7 +1,10 @@
 -- Literals: the holes that they make, and their types.
-use Rattle.std.proofs.Common.{◌≡◌, sym, subst, arith, Option, Some, slice_get, inl, ap, ◌∙◌, inr, refl, ℕ, None}
+use Rattle.std.proofs.Common.{◌≡◌, sym, subst, arith, Option, Some, slice_get, ap, ◌∙◌, refl, ℕ, None, unwrap_or}
 use Rattle.hir_types.specs.declared.ids.ExprId.{ExprId}
-use Rattle.hir_types.specs.declared.ty.Ty.{Ty}
+use Rattle.hir_types.specs.declared.ty.Ty.{Ty, Ty-F, out-Ty}
+use Rattle.hir_types.specs.declared.ty.AliasBound.{AliasBound}
+use Rattle.hir_types.specs.declared.ty.GenericArg.{GenericArg}
+use Rattle.hir_types.specs.declared.ty.TraitRef.{TraitRef}
 use Rattle.hir_types.specs.Subst.{folded, with_holes}
 use Rattle.hir_types.specs.declared.ty.IntegerTy.{IntegerTy}
 use Rattle.hir_types.specs.Types.{integer_type}
@@ -16,7 +19,7 @@ use Rattle.hir_facts.specs.CarriedTypes.{carried_integer, carried_char, carried_
 use Rattle.hir_facts.specs.Scope.{Scope}
 use Rattle.hir_facts.specs.declared.raw.RawExpr.TheVariants as expr
 use Rattle.hir_facts.specs.declared.raw.RawLiteral.TheVariants as literal
-use Rattle.infer_table.specs.Resolution.{resolution}
+use Rattle.infer_table.specs.Resolution.{IsOpenOrKnown}
 use Rattle.infer_table.specs.Table.{State, bindings, resolved_type, with_new_hole, hole_count}
 use Rattle.infer_table.proofs.UndoLaws.{grew_itself}
 use Rattle.infer_table.proofs.HoleLaws.{grew_by_hole}
@@ -26,6 +29,7 @@ use Rattle.infer_ctx.specs.declared.context.InferenceContext.{InferenceContext}
 use Rattle.infer_ctx.specs.Closings.{Closes, found_under, expected_under, IsSound}
 use Rattle.infer_ctx.specs.Steps.{Within, KindDone}
 use Rattle.infer_ctx.specs.Under.{KindWalked}
+use Rattle.infer_ctx.proofs.Expected.{IsOfLayer, read_alike}
 use Rattle.infer_ctx.proofs.Leaves.{literal_done}
 use Rattle.infer_ctx.proofs.Closed.{same_found, closes_earlier}
 use Rattle.infer_ctx.proofs.Tellings.{literal_tells}
@@ -33,10 +37,10 @@ use Rattle.infer_ctx.proofs.AtEach.{told_same, within_under}
 use Rattle.infer_ctx.proofs.OverTypes.{carried_closed}
 use Rattle.infer_ctx.proofs.FineTypes.{fine_integer, fine_int_hole, fine_bool, fine_char}
 use Rattle.infer_coerce.proofs.Holes.{holed, holed_sound}
-use Rattle.infer_pat.specs.Literals.{LiteralDone, IsExpectedInteger, IsIntegerFor, IntDone}
+use Rattle.infer_pat.specs.Literals.{LiteralDone, IntDone, integer_step, integer_for, expected_integer, unsuffixed_type}
 
 -- ---- literals
-pub literal_kind : (g : Given) (s : Schedule) (e : ExprId) (x : Option Ty) (l : RawLiteral) (t : Ty) (c new : InferenceContext) → Within g s e x c → slice_get g.body.exprs e.0 ≡ Some (expr.Lit l) → LiteralDone g.scope l t c new → KindDone g s e x t c new
+pub literal_kind : (g : Given) (s : Schedule) (e : ExprId) (x : Option Ty) (l : RawLiteral) (t : Ty) (c new : InferenceContext) → Within g s e x c → slice_get g.body.exprs e.0 ≡ Some (expr.Lit l) → LiteralDone g.scope x l t c new → KindDone g s e x t c new
 literal_kind g s e x l t c new h is d = record {
   follows = record {
     clock = omega (arith, d.clock);
@@ -55,25 +59,28 @@ literal_kind g s e x l t c new h is d = record {
 
 -- ---- integers
 
--- what is expected resolves to an integer type
-pub expected_integer_is : (state : State) (x : Option Ty) (e r : Ty) (i : IntegerTy) → x ≡ Some e → resolved_type state r ≡ resolved_type state e → r ≡ integer_type i → IsExpectedInteger x (integer_type i) state
-expected_integer_is state x e r i is same known =
-    let k : resolved_type state e ≡ integer_type i = sym same ∙ (ap (resolved_type state) known ∙ carried_closed (resolution (bindings state)) (integer_type i) (carried_integer i)) in
-    record { expected = e; is_expected = is; gives = inl (i, k, sym k) }
+-- what is read of the type that is expected is read of its outermost layer
+integer_of_layer : IsOfLayer integer_step
+integer_of_layer m x = refl
 
--- and to `char`
-pub expected_char_is : (state : State) (x : Option Ty) (e r : Ty) → x ≡ Some e → resolved_type state r ≡ resolved_type state e → r ≡ ty.Char → IsExpectedInteger x (ty.Uint uint.U8) state
-expected_char_is state x e r is same known =
-    let k : resolved_type state e ≡ ty.Char = sym same ∙ (ap (resolved_type state) known ∙ carried_closed (resolution (bindings state)) ty.Char carried_char) in
-    record { expected = e; is_expected = is; gives = inr (k, refl) }
+pub expected_at : (state : State) (x : Option Ty) (e r : Ty) → x ≡ Some e → resolved_type state r ≡ resolved_type state e → IsOpenOrKnown (bindings state) r
+    → expected_integer state x ≡ integer_for r
+expected_at state x e r is same open_or_known = ap (expected_integer state) is ∙ read_alike integer_step integer_of_layer state e r same open_or_known
 
-integer_for : (s t : Ty) → IsIntegerFor s t → (i : IntegerTy) × (t ≡ integer_type i)
-integer_for s t (inl q) = (q.0, q.2 ∙ q.1)
-integer_for s t (inr q) = (integer.Uint uint.U8, q.1)
+step_integer : (x : Ty-F GenericArg Ty AliasBound TraitRef) (t : Ty) → integer_step x ≡ Some t → (i : IntegerTy) × (t ≡ integer_type i)
+step_integer (Ty-F.Int i) t h = (integer.Int i, (let e : ty.Int i ≡ t = cc in sym e))
+step_integer (Ty-F.Uint i) t h = (integer.Uint i, (let e : ty.Uint i ≡ t = cc in sym e))
+step_integer Ty-F.Char t h = (integer.Uint uint.U8, (let e : ty.Uint uint.U8 ≡ t = cc in sym e))
+step_integer (Ty-F.FnDef i xs) t h = (integer.Uint uint.Usize, (let e : ty.Uint uint.Usize ≡ t = cc in sym e))
+step_integer x t h = absurd (cc)
 
-known_integer : {sc : Scope} (c : InferenceContext) (i : IntegerTy) (x : Option Ty) → IsSound sc c → IsExpectedInteger x (integer_type i) c.table → IntDone sc x (integer_type i) c c
+expected_is_integer : (state : State) (x : Option Ty) (t : Ty) → expected_integer state x ≡ Some t → (i : IntegerTy) × (t ≡ integer_type i)
+expected_is_integer state None t h = absurd (cc)
+expected_is_integer state (Some e) t h = step_integer (out-Ty (resolved_type state e)) t h
+
+known_integer : {sc : Scope} (c : InferenceContext) (i : IntegerTy) (x : Option Ty) → IsSound sc c → integer_type i ≡ unsuffixed_type c.table x → IntDone sc x (integer_type i) c c
 known_integer c i x s h = record {
-  is = inl h;
+  is = h;
   result = refl;
   asked = refl;
   clock = refl;
@@ -83,14 +90,15 @@ known_integer c i x s h = record {
   each = λ a k. (i, carried_closed a (integer_type i) (carried_integer i));
 }
 
-pub known_int : {sc : Scope} (c : InferenceContext) (t : Ty) (x : Option Ty) → IsSound sc c → IsExpectedInteger x t c.table → IntDone sc x t c c
+pub known_int : {sc : Scope} (c : InferenceContext) (t : Ty) (x : Option Ty) → IsSound sc c → expected_integer c.table x ≡ Some t → IntDone sc x t c c
 known_int {sc} c t x s h =
-    let q = integer_for (resolved_type c.table h.expected) t h.gives in
-    subst (λ u. IntDone sc x u c c) (sym q.1) (known_integer c q.0 x s (subst (λ u. IsExpectedInteger x u c.table) q.1 h))
+    let q = expected_is_integer c.table x t h in
+    let is : t ≡ unsuffixed_type c.table x = sym (ap (λ o. unwrap_or o (ty.IntVar (hole_count c.table))) h) in
+    subst (λ u. IntDone sc x u c c) (sym q.1) (known_integer c q.0 x s (sym q.1 ∙ is))
 
-pub int_hole : {sc : Scope} (c : InferenceContext) (x : Option Ty) → IsSound sc c → IntDone sc x (ty.IntVar (hole_count c.table)) c (holed c kind.Int)
-int_hole c x s = record {
-  is = inr refl;
+pub int_hole : {sc : Scope} (c : InferenceContext) (x : Option Ty) → IsSound sc c → expected_integer c.table x ≡ None → IntDone sc x (ty.IntVar (hole_count c.table)) c (holed c kind.Int)
+int_hole c x s none = record {
+  is = sym (ap (λ o. unwrap_or o (ty.IntVar (hole_count c.table))) none);
   result = refl;
   asked = refl;
   clock = refl;
@@ -103,9 +111,10 @@ int_hole c x s = record {
 }
 
 -- ---- literals
-module _ {sc : Scope} (c : InferenceContext) (s : IsSound sc c) where
-  pub bool_literal : (b : _) → LiteralDone sc (literal.Bool b) ty.Bool c c
+module _ {sc : Scope} (c : InferenceContext) (x : Option Ty) (s : IsSound sc c) where
+  pub bool_literal : (b : _) → LiteralDone sc x (literal.Bool b) ty.Bool c c
   bool_literal b = record {
+    is = refl;
     result = refl;
     asked = refl;
     clock = refl;
@@ -116,8 +125,9 @@ module _ {sc : Scope} (c : InferenceContext) (s : IsSound sc c) where
     each = λ a k. carried_closed a ty.Bool carried_bool;
   }
 
-  pub char_literal : (n : ℕ) → LiteralDone sc (literal.Char n) ty.Char c c
+  pub char_literal : (n : ℕ) → LiteralDone sc x (literal.Char n) ty.Char c c
   char_literal n = record {
+    is = refl;
     result = refl;
     asked = refl;
     clock = refl;
@@ -128,8 +138,9 @@ module _ {sc : Scope} (c : InferenceContext) (s : IsSound sc c) where
     each = λ a k. carried_closed a ty.Char carried_char;
   }
 
-  pub suffixed_literal : (digits : _) (i : IntegerTy) → LiteralDone sc (literal.Int digits (Some i)) (integer_type i) c c
+  pub suffixed_literal : (digits : _) (i : IntegerTy) → LiteralDone sc x (literal.Int digits (Some i)) (integer_type i) c c
   suffixed_literal digits i = record {
+    is = refl;
     result = refl;
     asked = refl;
     clock = refl;
@@ -140,8 +151,9 @@ module _ {sc : Scope} (c : InferenceContext) (s : IsSound sc c) where
     each = λ a k. carried_closed a (integer_type i) (carried_integer i);
   }
 
-pub unsuffixed_literal : {sc : Scope} (digits : _) (x : Option Ty) (t : Ty) (old new : InferenceContext) → IntDone sc x t old new → LiteralDone sc (literal.Int digits None) t old new
+pub unsuffixed_literal : {sc : Scope} (digits : _) (x : Option Ty) (t : Ty) (old new : InferenceContext) → IntDone sc x t old new → LiteralDone sc x (literal.Int digits None) t old new
 unsuffixed_literal digits x t old new d = record {
+  is = d.is;
   result = d.result;
   asked = d.asked;
   clock = d.clock;

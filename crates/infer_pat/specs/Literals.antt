@@ -1,13 +1,20 @@
 -- What a literal is given and gives.
-use Rattle.std.specs.Prelude.{◌≡◌, ◌⊎◌, Option, Some}
+use Rattle.std.specs.Prelude.{◌≡◌, Option, Some, None, unwrap_or, slice_get}
+use Rattle.std.specs.Option.{option_and_then}
 use Rattle.hir_types.specs.declared.ty.IntegerTy.{IntegerTy}
-use Rattle.hir_types.specs.declared.ty.Ty.{Ty}
+use Rattle.hir_types.specs.declared.ty.Ty.{Ty, Ty-F, out-Ty}
+use Rattle.hir_types.specs.declared.ty.AliasBound.{AliasBound}
+use Rattle.hir_types.specs.declared.ty.GenericArg.{GenericArg}
+use Rattle.hir_types.specs.declared.ty.TraitRef.{TraitRef}
 use Rattle.hir_types.specs.Types.{integer_type}
 use Rattle.hir_types.specs.Subst.{Assignment, folded}
 use Rattle.hir_types.specs.declared.ty.Ty.TheVariants as ty
 use Rattle.hir_types.specs.declared.ty.UintTy.TheVariants as uint
 use Rattle.hir_facts.specs.Scope.{Scope}
+use Rattle.hir_facts.specs.declared.raw.RawExpr.{RawExpr}
+use Rattle.hir_facts.specs.declared.raw.RawExpr.TheVariants as expr
 use Rattle.hir_facts.specs.declared.raw.RawLiteral.{RawLiteral}
+use Rattle.hir_facts.specs.declared.raw.RawLiteral.TheVariants as literal
 use Rattle.infer_table.specs.Table.{State, resolved_type, Grew, hole_count}
 use Rattle.infer_result.specs.Kinds.Literal.{IsLiteralType, IsOwnType}
 use Rattle.infer_ctx.specs.declared.context.InferenceContext.{InferenceContext}
@@ -16,20 +23,29 @@ use Rattle.infer_ctx.specs.Closings.{IsClosing, IsSound}
 
 -- ---- literals
 
--- what an integer without a suffix takes from what is known of the type that is expected of it: that
--- integer type, and `u8` where it is `char`
-abbrev pub IsIntegerFor : Ty → Ty → Type 0
-IsIntegerFor s t = ((i : IntegerTy) × (s ≡ integer_type i) × (t ≡ s)) ⊎ ((s ≡ ty.Char) × (t ≡ ty.Uint uint.U8))
+-- What an integer without a suffix takes from what is known of the type that is expected of it: that integer
+-- type, `u8` where it is `char`, and `usize` where it is a function item.
+abbrev pub integer_step : Ty-F GenericArg Ty AliasBound TraitRef → Option Ty
+integer_step (Ty-F.Int i) = Some (ty.Int i)
+integer_step (Ty-F.Uint i) = Some (ty.Uint i)
+integer_step Ty-F.Char = Some (ty.Uint uint.U8)
+integer_step (Ty-F.FnDef i xs) = Some (ty.Uint uint.Usize)
+integer_step _ = None
 
--- the type t is the integer type that x says is expected
-pub record IsExpectedInteger (x : Option Ty) (t : Ty) (state : State) : Type 0 where
-  pub expected : Ty
-  pub is_expected : x ≡ Some expected
-  pub gives : IsIntegerFor (resolved_type state expected) t
+abbrev pub integer_for : Ty → Option Ty
+integer_for t = integer_step (out-Ty t)
+
+-- the integer type that is expected, where one is
+abbrev pub expected_integer : State → Option Ty → Option Ty
+expected_integer s x = option_and_then (λ t. integer_for (resolved_type s t)) x
+
+-- it, or else a new hole for one
+abbrev pub unsuffixed_type : State → Option Ty → Ty
+unsuffixed_type s x = unwrap_or (expected_integer s x) (ty.IntVar (hole_count s))
 
 -- the type is the integer type that is expected, or a new hole for one
 pub record IntDone (sc : Scope) (x : Option Ty) (t : Ty) (old new : InferenceContext) : Type 0 where
-  pub is : IsExpectedInteger x t old.table ⊎ (t ≡ ty.IntVar (hole_count old.table))
+  pub is : t ≡ unsuffixed_type old.table x
   pub result : new.result ≡ old.result
   pub asked : new.asked ≡ old.asked
   pub clock : new.clock ≡ old.clock
@@ -38,8 +54,22 @@ pub record IntDone (sc : Scope) (x : Option Ty) (t : Ty) (old new : InferenceCon
   pub fine : IsFine sc new.table t
   pub each : (a : Assignment) → IsClosing a → (i : IntegerTy) × (folded a t ≡ integer_type i)
 
--- the type is the literal's, or a new hole for one that it may have
-pub record LiteralDone (sc : Scope) (l : RawLiteral) (t : Ty) (old new : InferenceContext) : Type 0 where
+-- the type of a literal of which x is expected
+abbrev pub literal_type : State → Option Ty → RawLiteral → Ty
+literal_type s x (literal.Bool b) = ty.Bool
+literal_type s x (literal.Char c) = ty.Char
+literal_type s x (literal.Int digits (Some i)) = integer_type i
+literal_type s x (literal.Int digits None) = unsuffixed_type s x
+literal_type s x literal.Other = ty.Error
+
+-- the type of an expression that is a literal, of which x is expected
+abbrev pub literal_type_at : State → Option Ty → Option RawExpr → Ty
+literal_type_at s x (Some (expr.Lit l)) = literal_type s x l
+literal_type_at s x _ = ty.Error
+
+-- the type is the literal's
+pub record LiteralDone (sc : Scope) (x : Option Ty) (l : RawLiteral) (t : Ty) (old new : InferenceContext) : Type 0 where
+  pub is : t ≡ literal_type old.table x l
   pub result : new.result ≡ old.result
   pub asked : new.asked ≡ old.asked
   pub clock : new.clock ≡ old.clock

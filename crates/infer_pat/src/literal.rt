@@ -1,11 +1,11 @@
 //! The types of literals.
-ghost use Rattle.std.specs.Prelude.{IsTrue, IfOk, IfSome, slice_get};
+ghost use Rattle.std.specs.Prelude.{◌≡◌, IsTrue, IfOk, slice_get};
 ghost use Rattle.hir_facts.specs.Laws.Carried.{is_carried_literal};
 ghost use Rattle.hir_facts.specs.Laws.Literals.{IsLiteral};
 ghost use Rattle.infer_ctx.specs.Closings.{IsSound};
 ghost use Rattle.infer_ctx.specs.Context.{given_of, schedule_of, expected_type, scope_in};
 ghost use Rattle.infer_ctx.specs.Steps.{Within, KindDone};
-ghost use Rattle.infer_pat.specs.Literals.{LiteralDone, IntDone, IsExpectedInteger};
+ghost use Rattle.infer_pat.specs.Literals.{LiteralDone, IntDone, expected_integer, integer_for, literal_type_at};
 
 use hir_facts::{ExprId, RawExpr, RawLiteral, Ty, UintTy};
 use infer_ctx::{Expectation, GivenBody, InferenceContext};
@@ -21,8 +21,10 @@ pub fn infer_literal(
     requires before { Within (given_of given.now) (schedule_of given.now)
         tgt_expr (expected_type expected) context.old }
     requires is { IsLiteral (slice_get given.now.body.now.exprs tgt_expr.0) }
-    ensures { IfOk result (λ ty. KindDone (given_of given.now) (schedule_of given.now)
+    ensures kind { IfOk result (λ ty. KindDone (given_of given.now) (schedule_of given.now)
         tgt_expr (expected_type expected.entry) ty context.old context.new) }
+    ensures typed { IfOk result (λ ty. ty ≡ literal_type_at context.old.table
+        (expected_type expected.entry) (slice_get given.now.body.now.exprs tgt_expr.0)) }
 {
     match &given.body.exprs.as_slice()[tgt_expr.0 as usize] {
         RawExpr::Lit(literal) => {
@@ -42,7 +44,7 @@ fn literal_ty(
 ) -> Result<Ty, AllocError>
     requires carried { IsTrue (is_carried_literal literal.now) }
     requires sound { IsSound (scope_in given.now) context.old }
-    ensures { IfOk result (λ ty. LiteralDone (scope_in given.now) literal.now ty context.old context.new) }
+    ensures { IfOk result (λ ty. LiteralDone (scope_in given.now) (expected_type expected.entry) literal.now ty context.old context.new) }
 {
     match literal {
         RawLiteral::Bool(_) => Ok(Ty::Bool),
@@ -78,15 +80,24 @@ fn infer_unsuffixed(
     }
 }
 
-/// The type that is expected, where that is an integer type, and `u8` where it is `char`.
+/// The integer type that is expected, where one is.
 fn expected_integer(context: &InferenceContext, expected: Expectation) -> Option<Ty>
-    ensures { IfSome result (λ ty. IsExpectedInteger (expected_type expected.entry) ty context.now.table) }
+    ensures { result ≡ expected_integer context.now.table (expected_type expected.entry) }
 {
     let expected_ty = expected.only_has_type()?;
-    match context.table.shallow_resolve(expected_ty) {
+    integer_for(context.table.shallow_resolve(expected_ty))
+}
+
+/// The type of an integer without a suffix of which this type is expected, where that says one: an
+/// integer type itself, `u8` where `char` is expected, `usize` where a function item is.
+fn integer_for(ty: &Ty) -> Option<Ty>
+    ensures { result ≡ integer_for ty.now }
+{
+    match ty {
         Ty::Int(int) => Some(Ty::Int(*int)),
         Ty::Uint(uint) => Some(Ty::Uint(*uint)),
         Ty::Char => Some(Ty::Uint(UintTy::U8)),
+        Ty::FnDef(_, _) => Some(Ty::Uint(UintTy::Usize)),
         _ => None,
     }
 }

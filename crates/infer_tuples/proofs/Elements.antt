@@ -1,17 +1,25 @@
 -- An element of a tuple, at its component.
 use Rattle.std.proofs.Common.{Bool, ◌≡◌, ◌∙◌, Option, Some, inr, refl, None, arith, subst, sym}
 use Rattle.hir_types.specs.declared.ids.ExprId.{ExprId}
-use Rattle.hir_types.specs.declared.ty.Ty.{Ty}
+use Rattle.hir_types.specs.declared.ty.Ty.{Ty, Ty-F, out-Ty}
+use Rattle.hir_types.specs.declared.ty.AliasBound.{AliasBound}
+use Rattle.hir_types.specs.declared.ty.GenericArg.{GenericArg}
+use Rattle.hir_types.specs.declared.ty.TraitRef.{TraitRef}
 use Rattle.hir_types.specs.Subst.{folded}
 use Rattle.hir_types.specs.declared.head.HoleKind.TheVariants as kind
 use Rattle.hir_types.specs.declared.ty.Ty.TheVariants as ty
 use Rattle.hir_facts.specs.declared.schedule.Schedule.{Schedule}
 use Rattle.infer_table.proofs.HoleLaws.{grew_by_hole}
-use Rattle.infer_table.specs.Table.{Grew, State, hole_count, with_new_hole}
+use Rattle.hir_facts.specs.Scope.{Scope}
+use Rattle.infer_table.specs.Bindings.{AllOf}
+use Rattle.infer_table.specs.Preserved.{BindsOnly}
+use Rattle.infer_table.specs.Solutions.{log_of}
+use Rattle.infer_table.specs.Table.{Grew, State, bindings, hole_count, resolved_type, with_new_hole}
 use Rattle.infer_result.specs.Places.{Given}
 use Rattle.infer_ctx.specs.declared.context.InferenceContext.{InferenceContext}
 use Rattle.infer_ctx.specs.Closings.{Closes, IsSound, found_under, expected_under}
-use Rattle.infer_ctx.specs.Fine.{IsFine}
+use Rattle.infer_ctx.specs.Context.{known_hole, known_or, known_step}
+use Rattle.infer_ctx.specs.Fine.{IsFine, IsFineExpectation, is_fine_head}
 use Rattle.infer_ctx.specs.Found.{Found}
 use Rattle.infer_ctx.specs.Steps.{CoerceDone, Before}
 use Rattle.infer_ctx.specs.Walks.{Debt, Owed, Walks}
@@ -23,7 +31,26 @@ use Rattle.infer_ctx.proofs.OverTypes.{fine_closed}
 use Rattle.infer_coerce.specs.Coercions.{IsCoerced}
 use Rattle.infer_coerce.proofs.Coercions.{placed_at, placed_owed, coerced_walks, coerced_placed, coerced_clock}
 use Rattle.infer_coerce.proofs.Holes.{holed_sound}
+use Rattle.infer_coerce.proofs.Resolved.{resolved_fine}
 use Rattle.infer_coerce.proofs.Unified.{with_table}
+
+-- ---- what is expected of the tuple
+
+known_step_fine : (sc : Scope) (state : State) (t : Ty) (x : Ty-F GenericArg Ty AliasBound TraitRef) → IsFine sc state (resolved_type state t) → IsFine sc state t
+    → IsFineExpectation sc state (known_or (known_step state t x) (Some t))
+known_step_fine sc state t (Ty-F.Var n) known fine = known
+known_step_fine sc state t x known fine = fine
+
+-- as far as it is known it is fine
+pub known_fine : (sc : Scope) (state : State) (x known : Option Ty) → AllOf state.substitution.kinds (bindings state)
+    → BindsOnly (is_fine_head sc) (log_of (bindings state)) → known ≡ known_hole state x → IsFineExpectation sc state x
+    → IsFineExpectation sc state (known_or known x)
+known_fine sc state None known made bound is fine = subst (λ k. IsFineExpectation sc state (known_or k None)) (sym is) tt
+known_fine sc state (Some t) known made bound is fine =
+    subst (λ k. IsFineExpectation sc state (known_or k (Some t))) (sym is)
+    (known_step_fine sc state t (out-Ty t) (resolved_fine sc state t made bound fine) fine)
+
+-- ---- an element
 
 -- one that is placed is at the type at which it stands in the tuple
 pub places_element : (g : Given) (s : Schedule) (e : ExprId) (x : Option Ty) (t : Ty) (old new : InferenceContext) →

@@ -1,5 +1,5 @@
 -- The elements of a tuple, one after another.
-use Rattle.std.proofs.Common.{inl, inr, refl, Option, Some, ◌<◌, length, ◌∙◌, ℕ, ◌≡◌, List, take, [], ◌+◌, ◌∷◌, ap, arith, slice_get, ◌≤◌, ◌++◌, get_or, map, sym, subst, length-append}
+use Rattle.std.proofs.Common.{inl, inr, refl, Option, Some, None, ◌<◌, length, ◌∙◌, ℕ, ◌≡◌, List, take, [], ◌+◌, ◌∷◌, ap, arith, slice_get, ◌≤◌, ◌++◌, get_or, map, sym, subst, length-append}
 use Rattle.std.proofs.lemmas.List.{length-map, map-append, take_all}
 use Rattle.std.proofs.lemmas.Option.{slice_get_read}
 use Rattle.hir_types.specs.declared.ids.ExprId.{ExprId}
@@ -19,8 +19,9 @@ use Rattle.infer_result.specs.Table.{HasTy}
 use Rattle.infer_result.specs.declared.result.InferenceResult.{InferenceResult}
 use Rattle.infer_result.specs.declared.result.TypeMismatch.{TypeMismatch}
 use Rattle.infer_ctx.specs.declared.context.InferenceContext.{InferenceContext}
-use Rattle.infer_ctx.specs.Closings.{Closes, expected_under, found_under}
+use Rattle.infer_ctx.specs.Closings.{Closes, found_under}
 use Rattle.infer_ctx.specs.Context.{element_type}
+use Rattle.infer_ctx.specs.Fine.{IsFineExpectation}
 use Rattle.infer_ctx.specs.Found.{Found}
 use Rattle.infer_ctx.specs.Steps.{Before, CoerceDone, KindDone, Within}
 use Rattle.infer_ctx.specs.Under.{KindWalked}
@@ -90,10 +91,10 @@ pub record AtElement (g : Given) (s : Schedule) (n : ExprId) (es : List ExprId) 
   pub within : i ≤ length es
   pub made : (a : Assignment) → Closes a c → AllAt (IsAtOrMismatch (found_under a c).result) (take i es) (map (folded a) ts)
 
-module _ (g : Given) (s : Schedule) (n : ExprId) (es : List ExprId) (x : Option Ty) (mid : InferenceContext) (b : Within g s n x mid) where
+module _ (g : Given) (s : Schedule) (n : ExprId) (es : List ExprId) (x : Option Ty) (mid : InferenceContext) (b : Within g s n None mid) (fine : IsFineExpectation g.scope mid.table x) where
   pub begins_tuple : IsTupleOf g.body n es → AtElement g s n es 0 [] mid mid
   begins_tuple is = record {
-    walk = begins_parts g s n (expr.Tuple es) x mid (OwedEach es []) b is;
+    walk = begins_parts g s n (expr.Tuple es) None mid (OwedEach es []) b is;
     fine = tt;
     count = refl;
     within = omega arith;
@@ -105,7 +106,7 @@ module _ (g : Given) (s : Schedule) (n : ExprId) (es : List ExprId) (x : Option 
       pub comes_to_element : Before g s e (element_type x i) c
       comes_to_element =
           comes_to_part _ _ _ _ _ _ _ _ _ h.walk e is k (element_type x i) b.ready b.state.told
-          (fine_element g.scope c.table x i (fine_expectation_grown g.scope mid.table c.table x h.walk.follows.grew b.expected))
+          (fine_element g.scope c.table x i (fine_expectation_grown g.scope mid.table c.table x h.walk.follows.grew fine))
 
       pub goes_past_element : (t : Ty) (next : InferenceContext) → CoerceDone g s e (Some t) t c next →
           AtElement g s n es (i + 1) (ts ++ t ∷ []) mid next
@@ -128,7 +129,7 @@ module _ (g : Given) (s : Schedule) (n : ExprId) (es : List ExprId) (x : Option 
                 );
           }
 
-    pub ends_tuple : IsTupleOf g.body n es → length es ≤ i → KindDone g s n x (ty.Tuple ts) mid c
+    pub ends_tuple : IsTupleOf g.body n es → length es ≤ i → KindDone g s n None (ty.Tuple ts) mid c
     ends_tuple is over = record {
       follows = h.walk.follows;
       fine = fine_tuple g.scope c.table ts h.fine;
@@ -138,8 +139,8 @@ module _ (g : Given) (s : Schedule) (n : ExprId) (es : List ExprId) (x : Option 
           let now : Found = found_under a c in
           let under_it : folded a (ty.Tuple ts) ≡ ty.Tuple us = replaced_tuple (with_holes a) ts in
           let made : AllAt (IsAtOrMismatch now.result) es us = subst (λ l. AllAt (IsAtOrMismatch now.result) l us) (take_all i es over) (h.made a q) in
-          subst (λ t. KindWalked g s n (expected_under a x) t (found_under a mid) now) (sym under_it) (record {
-            walks = walks_paid g s (OwedAmong es us) (PaidBy g n (expected_under a x) (ty.Tuple us)) (found_under a mid) now
+          subst (λ t. KindWalked g s n None t (found_under a mid) now) (sym under_it) (record {
+            walks = walks_paid g s (OwedAmong es us) (PaidBy g n None (ty.Tuple us)) (found_under a mid) now
                 (λ e m o. inr (inl (element_demand g n es us b.within is e m o))) (h.walk.each a q).walks;
             clock = all_past _ _ _ _ _ _ _ _ _ h.walk over a q;
             carried = subst (λ t. IsCarriedType t) under_it

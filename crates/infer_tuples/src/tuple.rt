@@ -1,6 +1,7 @@
 //! The types of tuples.
-ghost use Rattle.std.specs.Prelude.{IfOk, Some};
-ghost use Rattle.infer_ctx.specs.Context.{given_of, schedule_of, expected_type};
+ghost use Rattle.std.specs.Prelude.{◌≡◌, IfOk, Some, None};
+ghost use Rattle.infer_ctx.specs.Context.{given_of, scope_in, schedule_of, expected_type, known_hole};
+ghost use Rattle.infer_ctx.specs.Fine.{IsFineExpectation};
 ghost use Rattle.infer_tuples.specs.Tuples.{IsTupleOf};
 ghost use Rattle.infer_ctx.specs.Steps.{Before, CoerceDone, Within, KindDone};
 ghost use Rattle.infer_coerce.specs.Recursion.{InfersFrom};
@@ -27,6 +28,58 @@ pub fn infer_tuple<F: Fn(&mut InferenceContext, ExprId, Expectation) -> Result<T
     requires is { IsTupleOf given.now.body.now tgt_expr exprs.now }
     ensures { IfOk result (λ ty. KindDone (given_of given.now) (schedule_of given.now)
         tgt_expr (expected_type expected.entry) ty context.old context.new) }
+{
+    // Each hole that a binding names was made.
+    context.table.lawful();
+    let known = known_ty(context, expected)?;
+    let ty = infer_elements(
+        infer,
+        alloc,
+        context,
+        given,
+        tgt_expr,
+        exprs,
+        expected.known_as(&known),
+    )?;
+    Ok(ty)
+}
+
+/// What is known of the type that is expected of a tuple, where that is a hole. Any other type is
+/// looked at as it is. This is what `infer.rs`'s `Expectation::only_has_type` does.
+fn known_ty(
+    context: &InferenceContext,
+    expected: Expectation,
+) -> Result<Option<Ty>, AllocError>
+    ensures { IfOk result (λ known. known ≡ known_hole context.now.table (expected_type expected.entry)) }
+{
+    match expected {
+        Expectation::HasType(ty) => match ty {
+            Ty::Var(_) => {
+                let known = context.table.resolve(ty)?;
+                Ok(Some(known))
+            }
+            _ => Ok(None),
+        },
+        Expectation::None => Ok(None),
+    }
+}
+
+/// The type of a tuple, whose elements are expected to have the types of this one.
+fn infer_elements<F: Fn(&mut InferenceContext, ExprId, Expectation) -> Result<Ty, AllocError>>(
+    infer: &F,
+    alloc: Global,
+    context: &mut InferenceContext,
+    given: &GivenBody,
+    tgt_expr: ExprId,
+    exprs: &[ExprId],
+    expected: Expectation,
+) -> Result<Ty, AllocError>
+    requires infers { InfersFrom (given_of given.now) (schedule_of given.now) context.old.clock (F.pre infer.now) (F.post infer.now) }
+    requires before { Within (given_of given.now) (schedule_of given.now) tgt_expr None context.old }
+    requires expected { IsFineExpectation (scope_in given.now) context.old.table (expected_type expected) }
+    requires is { IsTupleOf given.now.body.now tgt_expr exprs.now }
+    ensures { IfOk result (λ ty. KindDone (given_of given.now) (schedule_of given.now)
+        tgt_expr None ty context.old context.new) }
 {
     let mut tys = List::new(alloc);
     for i in 0..exprs.len() {

@@ -128,16 +128,13 @@ module _ (types : List RawType) (f : RawFn) (l : RawLiteral) (o : Ty) (t : Infer
       let signature = (callee_is m.called m.types m.signature called m.is_callee).1 in
       (m.is_expected ∙ ap (λ (x : Signature). length x.inputs) signature, m.is_found ∙ ap length (sym args))
 
-  -- what is demanded of its argument: the input of the function, which has one then
-  pub asked_of_argument : (s : Ty) → Demand Here t (e 1) s → (slice_get inputs 0 ≡ Some s) × (1 ≡ length (fn_signature types f).inputs)
+  -- what is demanded of its argument: the input of the function
+  pub asked_of_argument : (s : Ty) → Demand Here t (e 1) s → slice_get inputs 0 ≡ Some s
   asked_of_argument s d =
       let no_if : IsOfBranch Here.body t (e 1) s → ⊥ = λ r. (let is = r.is_if in cc) in
       let q = asked Here schedule (is_schedule l) t (e 1) (inner (node.ExprId (e 2))) 1 (argument 0) s (record { node_is = omega arith; part = refl }) no_if d in
       let call = q.is_call in
       let called : e 0 ≡ q.called = cc in
-      let args : e 1 ∷ [] ≡ q.args = cc in
-      let (at, signature) = callee_is q.called q.types q.signature called q.is_callee in (
-        subst (λ (x : Signature). slice_get (map (at_args ts) x.inputs) 0 ≡ Some s) signature
-            (subst (λ vs. slice_get (map (at_args vs) q.signature.inputs) 0 ≡ Some s) at q.input),
-        ap length args ∙ (q.count ∙ ap (λ (x : Signature). length x.inputs) signature),
-      )
+      let (at, signature) = callee_is q.called q.types q.signature called q.is_callee in
+      subst (λ (x : Signature). slice_get (map (at_args ts) x.inputs) 0 ≡ Some s) signature
+          (subst (λ vs. slice_get (map (at_args vs) q.signature.inputs) 0 ≡ Some s) at q.input)

@@ -179,7 +179,7 @@ at_call = silent (Some (mismatch u8 ty.Bool)) None
 pub another_expected : IsTyped given (table_of ty.Bool (None ∷ Some (mismatch unit ty.Bool) ∷ None ∷ None ∷ [])) → ⊥
 another_expected h =
     (let m = h.truths (e 1) (mismatch unit ty.Bool) refl in
-    let (first, count) = asked_of_argument types take the_argument unit _ [] refl unit m.demand in
+    let first = asked_of_argument types take the_argument unit _ [] refl unit m.demand in
     let same : at_args [] (written_type types (w 0)) ≡ unit = cc in
     u8_is_no_unit (sym input_is ∙ same))
 

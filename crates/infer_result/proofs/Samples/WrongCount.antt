@@ -152,8 +152,8 @@ exchanged h =
 pub of_another : IsTyped given (table_of None (Some (diagnostic.MismatchedArgCount (e 1) 0 1))) → ⊥
 of_another h = (let numbers : (e 1).0 ≡ (e 2).0 = ap (λ (x : ExprId). x.0) (h.complaints.diagnostics (e 2) (diagnostic.MismatchedArgCount (e 1) 0 1) refl).0 in cc)
 
--- a mismatch at the argument, of which nothing is asked
+-- a mismatch at the argument, for which there is no input
 pub surplus : (expected actual : Ty) → IsTyped given (table_of (Some (mismatch expected actual)) (Some (wrong_count 0 1))) → ⊥
 surplus expected actual h =
     (let m = h.truths (e 1) (mismatch expected actual) refl in
-    let (first, count) = asked_of_argument types none one_u8 unit _ [] refl expected m.demand in cc)
+    let first = asked_of_argument types none one_u8 unit _ [] refl expected m.demand in cc)

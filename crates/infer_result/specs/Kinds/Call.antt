@@ -50,8 +50,7 @@ CallRule P g t n callee args = ItemCallRule P g t n callee args ⊎ (P.no_callee
 
 -- ---- what it asks of its arguments
 
--- the node is a call of an item, with as many arguments as that has inputs, and the input at this position
--- has this type, at the arguments of the item
+-- the node is a call of an item, and its input at this position has this type, at the arguments of the item
 pub record IsInputAt (g : Given) (t : InferenceResult) (n : ExprId) (i : ℕ) (s : Ty) : Type 0 where
   pub called : ExprId
   pub args : List ExprId
@@ -59,7 +58,6 @@ pub record IsInputAt (g : Given) (t : InferenceResult) (n : ExprId) (i : ℕ) (s
   pub signature : Signature
   pub types : List Ty
   pub is_callee : IsCallee g t called signature types
-  pub count : length args ≡ length signature.inputs
   pub input : slice_get (map (at_args types) signature.inputs) i ≡ Some s
 
 -- ---- the type and the head that it has by itself, and what is written of its arguments

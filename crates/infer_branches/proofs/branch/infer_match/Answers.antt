@@ -5,7 +5,7 @@ use Rattle.infer_ctx.specs.Context.{given_of, schedule_of}
 use Rattle.infer_coerce.proofs.Later.{later}
 use Rattle.infer_pat.specs.Patterns.{BeforePat, PatDone}
 use Rattle.infer_branches.proofs.PatternWalk.{arm_at, comes_to_scrutinee, begins_patterns, comes_to_pattern, goes_past_pattern, comes_to_arms, ends_match}
-use Rattle.infer_branches.proofs.Branches.{less_twice}
+use Rattle.infer_branches.proofs.InAlternatives.{arms_wanted}
 use Rattle.infer_branches.proofs.branch.infer_match.Goals as goal
 
 pub infer_expr_coerce-requires-clause-before : goal.infer_expr_coerce-requires-clause-before
@@ -31,8 +31,8 @@ infer_arms-requires-clause-infers g c = later _ _ _ _ _ _ c.loop-i.invariant.wal
 
 pub infer_arms-requires-clause-before : goal.infer_arms-requires-clause-before
 infer_arms-requires-clause-before g c =
-    comes_to_arms _ _ _ _ _ _ _ _ _ c.loop-i.invariant c.loop-i-test.false _ _ c.requires.is (less_twice _ _ _ c.adjust_for_branches.ensures c.unless_unit-wanted.ensures) c.requires.before
+    comes_to_arms _ _ _ _ _ _ _ _ _ c.loop-i.invariant c.loop-i-test.false _ _ c.requires.is (arms_wanted _ _ _ _ c.adjust_for_branches.ensures c.unless_unit-wanted.ensures) c.requires.before
 
 pub returns : goal.returns
 returns g c =
-    ends_match _ _ _ _ _ _ _ _ _ c.loop-i.invariant c.loop-i-test.false _ _ c.requires.is (less_twice _ _ _ c.adjust_for_branches.ensures c.unless_unit-wanted.ensures) _ _ c.in_ok-ty-2.ensures
+    ends_match _ _ _ _ _ _ _ _ _ c.loop-i.invariant c.loop-i-test.false _ _ c.requires.is (arms_wanted _ _ _ _ c.adjust_for_branches.ensures c.unless_unit-wanted.ensures) _ _ c.in_ok-ty-2.ensures

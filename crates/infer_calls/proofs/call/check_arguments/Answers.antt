@@ -21,7 +21,7 @@ pub loop-i-preserved : goal.loop-i-preserved
 loop-i-preserved g c =
     let within : c.loop-i.i < length c.args.inputs.now = omega (arith, c.loop-i-test.true, c.requires.count) in
     let input : slice_get c.args.inputs.now c.loop-i.i ≡ Some c.index-inputs-i.result = slice_get_read c.args.inputs.now _ c.loop-i.i _ refl within c.index-inputs-i.is in
-    goes_past_arg _ _ _ _ _ _ _ _ c.loop-i.invariant _ (get_or_default _ _ _ _ c.loop-i-test.true) c.loop-i-test.true _ input _ _ c.requires.count c.in_ok-infer_expr_coerce.ensures
+    goes_past_arg _ _ _ _ _ _ _ _ c.loop-i.invariant _ (get_or_default _ _ _ _ c.loop-i-test.true) c.loop-i-test.true _ input _ _ c.in_ok-infer_expr_coerce.ensures
 
 pub returns : goal.returns
 returns g c = ends_args _ _ _ _ _ _ _ _ c.loop-i.invariant c.requires.count c.loop-i-test.false

@@ -2,7 +2,7 @@ use Rattle.std.proofs.Common.{◌∙◌, sym, subst, Some, None}
 use Rattle.infer_ctx.specs.Context.{given_of, schedule_of}
 use Rattle.infer_ctx.specs.Callables.{IsSigIfItem}
 use Rattle.infer_calls.specs.Calls.{BeforeInputs}
-use Rattle.infer_calls.proofs.CallWalk.{comes_to_args, own_sig, takes_inputs, ends_call}
+use Rattle.infer_calls.proofs.CallWalk.{comes_to_args, own_sig, output_fine, takes_inputs, ends_call}
 use Rattle.infer_calls.proofs.Callees.{items_callable, known_fine, callee_known}
 use Rattle.infer_calls.proofs.Uncallable.{comes_to_uncallable}
 use Rattle.infer_calls.proofs.call.check_call.Goals as goal
@@ -39,3 +39,13 @@ infer_uncallable-requires-clause-before o c =
     let b = c.requires.before in
     let none : IsSigIfItem c.args.given.now.facts.now c.args.callee_ty.now None = subst (λ o. IsSigIfItem c.args.given.now.facts.now c.args.callee_ty.now o) c.in-None.is c.in_ok-inputs.ensures in
     comes_to_uncallable (given_of c.args.given.now) (schedule_of c.args.given.now) _ _ _ _ b.within b.is_call _ _ _ b.callee.typed b.callee.known b.callee.made none
+
+pub check_call_arguments-requires-clause-output : goal.check_call_arguments-requires-clause-output
+check_call_arguments-requires-clause-output o c =
+    let g = given_of c.args.given.now in
+    let s = schedule_of c.args.given.now in
+    let b = c.requires.before in
+    let sig : IsSigIfItem c.args.given.now.facts.now c.args.callee_ty.now (Some c.in-Some.field-0) = subst (λ o. IsSigIfItem c.args.given.now.facts.now c.args.callee_ty.now o) c.in-Some.is c.in_ok-inputs.ensures in
+    let called = callee_known g s _ _ _ _ _ b.callee.typed b.callee.known b.callee.made b.within.ready sig.0 in
+    let before = comes_to_args g s _ _ _ _ b.within b.is_call _ _ called in
+    output_fine g s _ _ _ _ before _ (own_sig g s _ _ _ _ before c.in-Some.field-0 sig.1).output

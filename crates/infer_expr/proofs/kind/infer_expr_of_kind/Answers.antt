@@ -3,7 +3,6 @@ use Rattle.std.proofs.lemmas.Option.{slice_get_read}
 use Rattle.hir_facts.specs.declared.raw.RawExpr.TheVariants as expr
 use Rattle.hir_facts.specs.Laws.Literals.{IsLiteral}
 use Rattle.infer_pat.proofs.PathWalk.{path_typed, path_kind}
-use Rattle.infer_calls.proofs.CallWalk.{call_for_any}
 use Rattle.infer_expr.proofs.kind.infer_expr_of_kind.Goals as goal
 
 pub infer_literal-requires-clause-is : goal.infer_literal-requires-clause-is
@@ -53,6 +52,3 @@ infer_call-requires-clause-is g c =
     let is : slice_get c.args.given.now.body.now.exprs c.args.tgt_expr.0 ≡ Some (expr.Call c.in-Call.callee c.in-Call.args)
     = slice_get_read c.args.given.now.body.now.exprs _ c.args.tgt_expr.0 _ refl c.requires.before.within (rw c.as_slice.ensures at c.index-as_slice-tgt_expr.is) ∙ ap (λ x. Some x) c.in-Call.is in
     is ∙ ap (λ l. Some (expr.Call c.in-Call.callee l)) (sym c.as_slice-in-Call.ensures)
-
-pub returns-in_ok-ty-in-Call : goal.returns-in_ok-ty-in-Call
-returns-in_ok-ty-in-Call g c = call_for_any _ _ _ _ _ _ _ c.in_ok-ty-in-Call.ensures

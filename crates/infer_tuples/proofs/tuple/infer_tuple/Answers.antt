@@ -1,26 +1,18 @@
-use Rattle.std.proofs.lemmas.List.{get_or_default}
-use Rattle.infer_coerce.proofs.Later.{later}
-use Rattle.infer_tuples.proofs.Tuples.{begins_tuple, comes_to_element, goes_past_element, ends_tuple}
+use Rattle.std.proofs.Common.{sym, subst}
+use Rattle.infer_ctx.specs.Context.{scope_in}
+use Rattle.infer_ctx.specs.Fine.{IsFineExpectation}
+use Rattle.infer_ctx.proofs.Expected.{within_for_any, kind_for_any}
+use Rattle.infer_tuples.proofs.Elements.{known_fine}
 use Rattle.infer_tuples.proofs.tuple.infer_tuple.Goals as goal
 
-pub loop-i-init : goal.loop-i-init
-loop-i-init t c = rw c.new-tys.ensures (begins_tuple _ _ _ _ _ _ c.requires.before c.requires.is)
+pub infer_elements-requires-clause-before : goal.infer_elements-requires-clause-before
+infer_elements-requires-clause-before t c = within_for_any _ _ _ _ _ c.requires.before
 
-pub infer_element-requires-clause-infers : goal.infer_element-requires-clause-infers
-infer_element-requires-clause-infers t c = later _ _ _ _ _ _ c.loop-i.invariant.walk.follows.clock c.requires.infers
-
-pub infer_element-requires-clause-before : goal.infer_element-requires-clause-before
-infer_element-requires-clause-before t c =
-    rw c.of_element.ensures (
-    comes_to_element _ _ _ _ _ _ c.requires.before _ _ _ c.loop-i.invariant _ (get_or_default _ _ _ _ c.loop-i-test.true) c.loop-i-test.true
-    )
-
-pub loop-i-preserved : goal.loop-i-preserved
-loop-i-preserved t c =
-    rw c.in_ok-push.ensures.ok (
-    goes_past_element _ _ _ _ _ _ c.requires.before _ _ _ c.loop-i.invariant _ (get_or_default _ _ _ _ c.loop-i-test.true) c.loop-i-test.true _ _
-    c.in_ok-ty.ensures
-    )
+pub infer_elements-requires-clause-expected : goal.infer_elements-requires-clause-expected
+infer_elements-requires-clause-expected t c =
+    let sc = scope_in c.args.given.now in
+    subst (λ x. IsFineExpectation sc c.args.context.now.table x) (sym c.known_as.ensures)
+    (known_fine sc _ _ _ c.lawful.ensures.made c.requires.before.state.sound.bound c.in_ok-known.ensures c.requires.before.expected)
 
 pub returns : goal.returns
-returns t c = ends_tuple _ _ _ _ _ _ c.requires.before _ _ _ c.loop-i.invariant c.requires.is c.loop-i-test.false
+returns t c = kind_for_any _ _ _ _ _ _ _ c.in_ok-ty.ensures

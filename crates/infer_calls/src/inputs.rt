@@ -1,0 +1,129 @@
+//! What is expected of the arguments of a call, from what is expected of the call itself.
+ghost use Rattle.std.specs.Prelude.{◌≡◌, IfOk, length};
+ghost use Rattle.infer_result.specs.Closed.{IsOfBody};
+ghost use Rattle.infer_table.specs.Table.{HolesAreOf, Grew};
+ghost use Rattle.infer_ctx.specs.Closings.{IsSound};
+ghost use Rattle.infer_ctx.specs.Context.{given_of, scope_in, expected_type};
+ghost use Rattle.infer_ctx.specs.Fine.{IsFine, IsFineExpectation};
+ghost use Rattle.infer_calls.specs.Inputs.{AreFine, FindsInputs, ExpectsInputs, IsTried, UnifiesAll};
+
+use hir_facts::{List, Ty};
+use infer_coerce::unify;
+use infer_ctx::{Expectation, GivenBody, InferenceContext};
+use infer_table::{InferenceTable, NoUnifier};
+use std::alloc::{AllocError, Global};
+
+/// Makes what a call takes equal with what is expected of its arguments, where something is: the
+/// beginning of `infer/expr.rs`'s `check_call_arguments`.
+pub fn expect_inputs(
+    alloc: Global,
+    context: &mut InferenceContext,
+    given: &GivenBody,
+    expected: Expectation,
+    inputs: &[Ty],
+    output: &Ty,
+) -> Result<(), AllocError>
+    requires of_body { IsOfBody given.now.body.now context.old.result }
+    requires sound { IsSound (scope_in given.now) context.old }
+    requires inputs { AreFine (scope_in given.now) context.old.table inputs.now }
+    requires output { IsFine (scope_in given.now) context.old.table output.now }
+    requires expected { IsFineExpectation (scope_in given.now) context.old.table (expected_type expected) }
+    ensures { IfOk result (λ _. ExpectsInputs (given_of given.now) (expected_type expected.entry)
+        inputs.now output.now context.old context.new) }
+{
+    match expected_inputs_for_output(alloc, context, given, expected, inputs, output)? {
+        Some(wanted) => {
+            unify_all(context, given, inputs, wanted.as_slice())?;
+            Ok(())
+        }
+        None => Ok(()),
+    }
+}
+
+/// What is expected of the arguments of a call of which this is expected: what the call takes once
+/// what it gives is made equal with that, which is tried and undone. `None` where nothing is expected
+/// of it, or the two cannot be equal.
+fn expected_inputs_for_output(
+    alloc: Global,
+    context: &mut InferenceContext,
+    given: &GivenBody,
+    expected: Expectation,
+    inputs: &[Ty],
+    output: &Ty,
+) -> Result<Option<List<Ty>>, AllocError>
+    requires of_body { IsOfBody given.now.body.now context.old.result }
+    requires sound { IsSound (scope_in given.now) context.old }
+    requires inputs { AreFine (scope_in given.now) context.old.table inputs.now }
+    requires output { IsFine (scope_in given.now) context.old.table output.now }
+    requires expected { IsFineExpectation (scope_in given.now) context.old.table (expected_type expected) }
+    ensures { IfOk result (λ wanted. FindsInputs (given_of given.now) (expected_type expected.entry)
+        inputs.now output.now wanted context.old context.new) }
+{
+    match expected.only_has_type() {
+        Some(expected_output) => {
+            let tried = context
+                .table
+                .fudge(|table| inputs_once(alloc, table, inputs, output, expected_output))?;
+            match tried {
+                Ok(wanted) => Ok(Some(wanted)),
+                Err(_) => Ok(None),
+            }
+        }
+        None => Ok(None),
+    }
+}
+
+/// What a call takes, with what it gives made equal with what is expected of it.
+fn inputs_once(
+    alloc: Global,
+    table: &mut InferenceTable,
+    inputs: &[Ty],
+    output: &Ty,
+    expected_output: &Ty,
+) -> Result<Result<List<Ty>, NoUnifier>, AllocError>
+    requires output { HolesAreOf table.old output.now }
+    requires expected { HolesAreOf table.old expected_output.now }
+    ensures tried { IfOk result (λ answer. IsTried inputs.now output.now expected_output.now table.old table.new answer) }
+    ensures grew { Grew table.old table.new }
+{
+    match table.try_unify(output, expected_output)? {
+        Ok(()) => {
+            // That some assignment agrees with what is found out now is known of each table.
+            table.lawful();
+            let takes = copies(alloc, inputs)?;
+            Ok(Ok(takes))
+        }
+        Err(refusal) => Ok(Err(refusal)),
+    }
+}
+
+/// A copy of each type.
+fn copies(alloc: Global, tys: &[Ty]) -> Result<List<Ty>, AllocError>
+    ensures { IfOk result (λ copies. copies ≡ tys.now) }
+{
+    let mut copies = List::new(alloc);
+    for ty in tys {
+        copies.push(ty.dup(alloc)?)?;
+    }
+    Ok(copies)
+}
+
+/// Makes each of these types equal with its one of the others, where that can be.
+fn unify_all(
+    context: &mut InferenceContext,
+    given: &GivenBody,
+    tys: &[Ty],
+    others: &[Ty],
+) -> Result<(), AllocError>
+    requires of_body { IsOfBody given.now.body.now context.old.result }
+    requires sound { IsSound (scope_in given.now) context.old }
+    requires tys { AreFine (scope_in given.now) context.old.table tys.now }
+    requires others { AreFine (scope_in given.now) context.old.table others.now }
+    requires count { length tys.now ≡ length others.now }
+    ensures { IfOk result (λ _. UnifiesAll (given_of given.now) tys.now others.now context.old context.new) }
+{
+    for i in 0..tys.len() {
+        unify(context, given, &tys[i], &others[i])?;
+    }
+    Ok(())
+}

@@ -1,0 +1,21 @@
+-- Types with what their holes are bound to.
+use Rattle.std.proofs.Common.{sym, subst}
+use Rattle.hir_types.specs.declared.ty.Ty.{Ty}
+use Rattle.hir_types.specs.Terms.{term}
+use Rattle.hir_facts.specs.Scope.{Scope}
+use Rattle.infer_table.specs.Bindings.{AllOf}
+use Rattle.infer_table.specs.Preserved.{BindsOnly, made_of_resolved_term}
+use Rattle.infer_table.specs.Resolution.{resolution_term}
+use Rattle.infer_table.specs.Solutions.{AreOf, log_of}
+use Rattle.infer_table.specs.Table.{State, bindings, resolved_type}
+use Rattle.infer_table.proofs.BindingLaws.{resolved_made}
+use Rattle.infer_ctx.specs.Fine.{IsFine, is_fine_head}
+
+-- a fine type is still fine
+pub resolved_fine : (sc : Scope) (state : State) (t : Ty) → AllOf state.substitution.kinds (bindings state)
+    → BindsOnly (is_fine_head sc) (log_of (bindings state)) → IsFine sc state t → IsFine sc state (resolved_type state t)
+resolved_fine sc state t made bound fine = record {
+  holes = subst (λ x. AreOf state.substitution.kinds x) (sym (resolution_term (bindings state) t))
+      (resolved_made state.substitution.kinds (bindings state) (term t) made fine.holes);
+  heads = made_of_resolved_term (is_fine_head sc) state t bound fine.heads;
+}
