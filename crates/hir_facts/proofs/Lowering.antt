@@ -4,16 +4,16 @@ use Rattle.std.proofs.lemmas.List.{take_all}
 use Rattle.std.proofs.lemmas.Option.{slice_get_read, slice_get-get_or}
 use Rattle.hir_types.specs.declared.ids.AdtId.{AdtId}
 use Rattle.hir_types.specs.declared.ids.TypeRefId.{TypeRefId}
-use Rattle.hir_facts.specs.declared.raw.RawType.{RawType}
-use Rattle.hir_facts.specs.declared.raw.RawType.TheVariants as type
+use Rattle.hir_raw.specs.declared.raw.RawType.{RawType}
+use Rattle.hir_raw.specs.declared.raw.RawType.TheVariants as type
 use Rattle.hir_types.specs.declared.ty.Ty.{Ty}
 use Rattle.hir_types.specs.declared.ty.Ty.TheVariants as ty
 use Rattle.hir_types.specs.declared.ty.GenericArg.{GenericArg}
 use Rattle.hir_types.specs.declared.ty.GenericArg.TheVariants as arg
-use Rattle.hir_facts.specs.Types.{type_parts, lowered, lowered_by}
-use Rattle.hir_facts.specs.Laws.Entries.{AllHold}
-use Rattle.hir_facts.specs.Laws.Ids.{ChildrenBefore}
-use Rattle.hir_facts.specs.Lowered.{lowered_parts}
+use Rattle.hir_raw.specs.Types.{type_parts, lowered, lowered_by}
+use Rattle.hir_ids.specs.Entries.{AllHold}
+use Rattle.hir_ids.specs.Ids.{ChildrenBefore}
+use Rattle.hir_ids.specs.Lowered.{lowered_parts}
 
 pub part_below : (types : List RawType) (t : ℕ) (x y : RawType) (items : List TypeRefId) (i : ℕ) (d : TypeRefId) → AllHold ChildrenBefore types → t < length types → x ≡ get_or types t x → x ≡ y → items ≡ type_parts y → i < length items → (get_or items i d).0 < t
 part_below types t x y items i d all lt read is same below =

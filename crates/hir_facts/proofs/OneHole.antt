@@ -4,19 +4,19 @@ use Rattle.std.proofs.Common.{arith, ap, ◌∙◌, sym, subst, inl, inr}
 use Rattle.hir_types.specs.declared.ids.ExprId.{ExprId}
 use Rattle.hir_types.specs.declared.ids.PatId.{PatId}
 use Rattle.hir_types.specs.declared.ids.TypeRefId.{TypeRefId}
-use Rattle.hir_facts.specs.declared.raw.RawType.{RawType}
-use Rattle.hir_facts.specs.declared.raw.RawType.TheVariants as type
-use Rattle.hir_facts.specs.declared.raw.RawStmt.TheVariants as stmt
-use Rattle.hir_facts.specs.declared.raw.RawExpr.{RawExpr}
-use Rattle.hir_facts.specs.declared.raw.RawBody.{RawBody}
-use Rattle.hir_facts.specs.declared.raw.RawFacts.{RawFacts}
-use Rattle.hir_facts.specs.Types.{type_parts, StandsIn, is_itself, in_part}
-use Rattle.hir_facts.specs.Order.{stmts_of, stmt_at}
-use Rattle.hir_facts.specs.Laws.Uses.{type_uses, stmt_uses, expr_uses, body_uses, inner_uses}
-use Rattle.hir_facts.specs.Laws.Lawful.{IsLawful}
-use Rattle.hir_facts.specs.LawfulFacts.{type_ids, holes_fit}
+use Rattle.hir_raw.specs.declared.raw.RawType.{RawType}
+use Rattle.hir_raw.specs.declared.raw.RawType.TheVariants as type
+use Rattle.hir_raw.specs.declared.raw.RawStmt.TheVariants as stmt
+use Rattle.hir_raw.specs.declared.raw.RawExpr.{RawExpr}
+use Rattle.hir_raw.specs.declared.raw.RawBody.{RawBody}
+use Rattle.hir_raw.specs.declared.raw.RawFacts.{RawFacts}
+use Rattle.hir_raw.specs.Types.{type_parts, StandsIn, is_itself, in_part}
+use Rattle.hir_raw.specs.Order.{stmts_of, stmt_at}
+use Rattle.hir_counts.specs.Uses.{type_uses, stmt_uses, expr_uses, body_uses, inner_uses}
+use Rattle.hir_laws.specs.Lawful.{IsLawful}
+use Rattle.hir_laws.specs.LawfulFacts.{type_ids, holes_fit}
 use Rattle.hir_facts.specs.Filled.{none_stands}
-use Rattle.hir_facts.specs.NoHoles.{In, in_flat}
+use Rattle.hir_laws.specs.NoHoles.{In, in_flat}
 
 -- ---- what stands once in a list
 

@@ -18,16 +18,16 @@ use Rattle.hir_types.specs.declared.ty.Ty.{Ty, Ty-F, map-Ty, ind-Ty, fold-Ty, ro
 use Rattle.hir_types.specs.declared.ty.Ty.TheVariants as ty
 use Rattle.hir_types.specs.Types.{integer_type}
 use Rattle.hir_types.specs.Erasure.{erased, arg_erased, erased_step, Same, has_hole, hole_arg, hole_step, hole_bound, hole_trait, IsClosed}
-use Rattle.hir_facts.specs.declared.raw.RawType.{RawType}
-use Rattle.hir_facts.specs.declared.raw.RawType.TheVariants as type
-use Rattle.hir_facts.specs.declared.raw.RawFn.{RawFn}
-use Rattle.hir_facts.specs.declared.raw.RawFacts.{RawFacts}
-use Rattle.hir_facts.specs.Laws.Lawful.{IsLawful}
-use Rattle.hir_facts.specs.Laws.Standing.{HasNoHole}
-use Rattle.hir_facts.specs.Types.{filled_by, filled_within, filled_type, written_type}
+use Rattle.hir_raw.specs.declared.raw.RawType.{RawType}
+use Rattle.hir_raw.specs.declared.raw.RawType.TheVariants as type
+use Rattle.hir_raw.specs.declared.raw.RawFn.{RawFn}
+use Rattle.hir_raw.specs.declared.raw.RawFacts.{RawFacts}
+use Rattle.hir_laws.specs.Lawful.{IsLawful}
+use Rattle.hir_counts.specs.Standing.{HasNoHole}
+use Rattle.hir_raw.specs.Types.{filled_by, filled_within, filled_type, written_type}
 use Rattle.hir_facts.specs.Filled.{filled_written}
-use Rattle.hir_facts.specs.NoHoles.{output_has_no_hole}
-use Rattle.hir_facts.specs.Bodies.{output_by, return_type}
+use Rattle.hir_laws.specs.NoHoles.{output_has_no_hole}
+use Rattle.hir_laws.specs.Bodies.{output_by, return_type}
 
 abbrev pub carried_arg : GenericArg-F Bool Bool Bool Bool → Bool
 carried_arg (GenericArg-F.Ty b) = b

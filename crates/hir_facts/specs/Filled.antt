@@ -12,14 +12,14 @@ use Rattle.hir_types.specs.Types.{integer_type, most}
 use Rattle.hir_types.specs.Subst.{Assignment, with_holes, args_replaced, folded}
 use Rattle.hir_types.specs.Folding.{replaced_bool, replaced_char, replaced_int, replaced_uint, replaced_tuple, replaced_adt, replaced_param, replaced_error, arg_replaced_type}
 use Rattle.hir_types.specs.Folds.{map_twice}
-use Rattle.hir_facts.specs.declared.raw.RawType.{RawType}
-use Rattle.hir_facts.specs.declared.raw.RawType.TheVariants as type
-use Rattle.hir_facts.specs.Types.{type_parts, lowered_by, lowered_within, written_type, filled_by, filled_within, filled, filled_type, StandsIn, is_itself, in_part}
-use Rattle.hir_facts.specs.Laws.Entries.{AllHold}
-use Rattle.hir_facts.specs.Laws.Ids.{ChildrenBefore}
-use Rattle.hir_facts.specs.Laws.Standing.{hole_at, most_by, most_within, most_in, HasNoHole}
-use Rattle.hir_facts.specs.Lowered.{tys_same, args_same}
-use Rattle.hir_facts.specs.Most.{most_above, own_most, part_most}
+use Rattle.hir_raw.specs.declared.raw.RawType.{RawType}
+use Rattle.hir_raw.specs.declared.raw.RawType.TheVariants as type
+use Rattle.hir_raw.specs.Types.{type_parts, lowered_by, lowered_within, written_type, filled_by, filled_within, filled, filled_type, StandsIn, is_itself, in_part}
+use Rattle.hir_ids.specs.Entries.{AllHold}
+use Rattle.hir_ids.specs.Ids.{ChildrenBefore}
+use Rattle.hir_counts.specs.Standing.{hole_at, most_by, most_within, most_in, HasNoHole}
+use Rattle.hir_ids.specs.Lowered.{tys_same, args_same}
+use Rattle.hir_counts.specs.Most.{most_above, own_most, part_most}
 
 -- ---- part by part
 

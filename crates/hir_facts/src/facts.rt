@@ -1,22 +1,21 @@
 //! Lawful facts.
 ghost use Rattle.std.specs.Prelude.{◌≡◌, ◌↔◌, ◌<◌, ℕ, IfOk, IfErr, IsTrue, Some, slice_get, length};
-ghost use Rattle.hir_facts.specs.declared.raw.RawBody.{RawBody};
-ghost use Rattle.hir_facts.specs.Order.{AreDepths};
-ghost use Rattle.hir_facts.specs.Bodies.{IsWalkable, HasBody, body_id_of, inputs_of};
-ghost use Rattle.hir_facts.specs.Scope.{params_of};
-ghost use Rattle.hir_facts.specs.Fit.{fits};
-ghost use Rattle.hir_facts.specs.WrittenFits.{FitsUnder};
-ghost use Rattle.hir_facts.specs.Plain.{IsPlainAdt, IsPlainOver, IsPlainFn};
-ghost use Rattle.hir_facts.specs.Laws.Lawful.{IsLawful, tests};
-ghost use Rattle.hir_facts.specs.Laws.Refused.{Refuses};
+ghost use Rattle.hir_raw.specs.declared.raw.RawBody.{RawBody};
+ghost use Rattle.hir_raw.specs.Order.{AreDepths};
+ghost use Rattle.hir_laws.specs.Bodies.{IsWalkable, HasBody, body_id_of, inputs_of};
+ghost use Rattle.hir_raw.specs.Scope.{params_of};
+ghost use Rattle.hir_raw.specs.Fit.{fits};
+ghost use Rattle.hir_laws.specs.WrittenFits.{FitsUnder};
+ghost use Rattle.hir_plain.specs.Plain.{IsPlainAdt, IsPlainOver, IsPlainFn};
+ghost use Rattle.hir_laws.specs.Lawful.{IsLawful, tests};
+ghost use Rattle.hir_laws.specs.Refused.{Refuses};
 
-use crate::checks::check;
-use crate::facts_error::FactsError;
-use crate::fit::ty_fits;
-use crate::plain::{PlainMarks, mark_at};
-use crate::raw::{Edition, RawAdt, RawBody, RawFacts, RawFn, RawLimits, RawType, RawVariant};
-use crate::schedule::Schedule;
-use crate::scope::params_of;
+use hir_laws::{FactsError, check};
+use hir_plain::{PlainMarks, mark_at};
+use hir_raw::{
+    Edition, RawAdt, RawBody, RawFacts, RawFn, RawLimits, RawType, RawVariant, Schedule, params_of,
+    ty_fits,
+};
 use hir_types::{
     AdtId, BodyId, DefWithBodyId, FunctionId, List, ModuleId, Ty, TypeRefId, VariantId,
 };
@@ -32,15 +31,15 @@ pub struct Facts {
 }
 
 impl Model for Facts {
-    ghost use Rattle.hir_facts.specs.declared.raw.RawFacts.{RawFacts};
+    ghost use Rattle.hir_raw.specs.declared.raw.RawFacts.{RawFacts};
 
     ghost Value = { RawFacts };
 
     ghost view = { λ a. a.raw };
 
-    ghost use Rattle.hir_facts.specs.Laws.Lawful.{IsLawful};
-    ghost use Rattle.hir_facts.specs.Laws.Scheduled.{AreSchedules};
-    ghost use Rattle.hir_facts.specs.PlainMarks.{ArePlainMarks};
+    ghost use Rattle.hir_laws.specs.Lawful.{IsLawful};
+    ghost use Rattle.hir_laws.specs.Scheduled.{AreSchedules};
+    ghost use Rattle.hir_plain.specs.PlainMarks.{ArePlainMarks};
 
     ghost invariant = { λ a. IsLawful a.raw × AreSchedules a.raw.bodies a.schedules × ArePlainMarks a.raw a.plain };
 }

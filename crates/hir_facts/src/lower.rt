@@ -1,12 +1,12 @@
 //! What written types stand for.
 ghost use Rattle.std.specs.Prelude.{◌≡◌, ◌<◌, IfOk, length};
-ghost use Rattle.hir_facts.specs.Types.{lowered, written_type};
-ghost use Rattle.hir_facts.specs.Bodies.{HasBody, return_type};
-ghost use Rattle.hir_facts.specs.Laws.Entries.{AllHold};
-ghost use Rattle.hir_facts.specs.Laws.Ids.{ChildrenBefore};
+ghost use Rattle.hir_raw.specs.Types.{lowered, written_type};
+ghost use Rattle.hir_laws.specs.Bodies.{HasBody, return_type};
+ghost use Rattle.hir_ids.specs.Entries.{AllHold};
+ghost use Rattle.hir_ids.specs.Ids.{ChildrenBefore};
 
 use crate::facts::Facts;
-use crate::raw::RawType;
+use hir_raw::RawType;
 use hir_types::{DefWithBodyId, GenericArg, List, Ty, TypeRefId};
 use std::alloc::{AllocError, Global};
 
@@ -42,7 +42,7 @@ fn lower(types: &[RawType], t: usize, alloc: Global) -> Result<Ty, AllocError>
 }
 
 /// The type that a written type stands for, or `{unknown}` where it is not in range.
-#[tactic(auto, using(crate::specs::Lowered::lowered_past))]
+#[tactic(auto, using(hir_ids::specs::Lowered::lowered_past))]
 pub fn lower_ty(alloc: Global, facts: &Facts, ty: TypeRefId) -> Result<Ty, AllocError>
     ensures { IfOk result (λ t. t ≡ written_type facts.now.types ty) }
 {

@@ -7,9 +7,9 @@ use Rattle.hir_types.specs.declared.ids.ExprOrPatId.TheVariants as node
 use Rattle.hir_types.specs.declared.ty.Ty.{Ty}
 use Rattle.hir_types.specs.Subst.{Assignment, folded}
 use Rattle.hir_types.specs.Types.{unit}
-use Rattle.hir_facts.specs.declared.raw.RawStmt.TheVariants as stmt
-use Rattle.hir_facts.specs.declared.schedule.Schedule.{Schedule}
-use Rattle.hir_facts.specs.Order.{Part, Role, inner, initializer, let_pattern, statement, expr_part, pat_part}
+use Rattle.hir_raw.specs.declared.raw.RawStmt.TheVariants as stmt
+use Rattle.hir_raw.specs.declared.schedule.Schedule.{Schedule}
+use Rattle.hir_raw.specs.Order.{Part, Role, inner, initializer, let_pattern, statement, expr_part, pat_part}
 use Rattle.infer_result.specs.Places.{Given, IsAtOrMismatch, PatIsAtOrMismatch, AreRecorded, declared}
 use Rattle.infer_result.specs.Demands.{Demand, AsksOf}
 use Rattle.infer_result.specs.Incoming.{Gives}

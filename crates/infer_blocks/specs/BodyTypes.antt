@@ -5,10 +5,10 @@ use Rattle.hir_types.specs.declared.ty.Ty.{Ty}
 use Rattle.hir_types.specs.declared.ids.ExprId.{ExprId}
 use Rattle.hir_types.specs.declared.ids.PatId.{PatId}
 use Rattle.hir_types.specs.Subst.{Assignment, folded}
-use Rattle.hir_facts.specs.declared.schedule.Schedule.{Schedule}
-use Rattle.hir_facts.specs.Order.{stmt_at}
-use Rattle.hir_facts.specs.Types.{filled_type, StandsIn}
-use Rattle.hir_facts.specs.declared.raw.RawStmt.TheVariants as stmt
+use Rattle.hir_raw.specs.declared.schedule.Schedule.{Schedule}
+use Rattle.hir_raw.specs.Order.{stmt_at}
+use Rattle.hir_raw.specs.Types.{filled_type, StandsIn}
+use Rattle.hir_raw.specs.declared.raw.RawStmt.TheVariants as stmt
 use Rattle.infer_table.specs.Table.{Grew}
 use Rattle.infer_result.specs.Places.{Given, declared, AreRecorded, IsPlaceholder}
 use Rattle.infer_result.specs.Table.{PlaceholderTy}

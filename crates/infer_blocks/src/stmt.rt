@@ -1,6 +1,6 @@
 //! The statements of a block.
 ghost use Rattle.std.specs.Prelude.{IfOk, Some, None};
-ghost use Rattle.hir_facts.specs.declared.raw.RawStmt.TheVariants as stmt;
+ghost use Rattle.hir_raw.specs.declared.raw.RawStmt.TheVariants as stmt;
 ghost use Rattle.infer_ctx.specs.Context.{given_of, schedule_of};
 ghost use Rattle.infer_blocks.specs.Blocks.{BeforeStmt, StmtDone, InitDone};
 ghost use Rattle.infer_coerce.specs.Recursion.{InfersFrom};

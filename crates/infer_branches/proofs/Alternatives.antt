@@ -5,10 +5,10 @@ use Rattle.hir_types.specs.declared.ids.ExprId.{ExprId}
 use Rattle.hir_types.specs.declared.ty.Ty.{Ty}
 use Rattle.hir_types.specs.Erasure.{erased}
 use Rattle.hir_types.specs.declared.ids.ExprOrPatId.TheVariants as node
-use Rattle.hir_facts.specs.Order.{Role, then_branch, else_branch, arm, inner}
-use Rattle.hir_facts.specs.declared.raw.RawBody.{RawBody}
+use Rattle.hir_raw.specs.Order.{Role, then_branch, else_branch, arm, inner}
+use Rattle.hir_raw.specs.declared.raw.RawBody.{RawBody}
 use Rattle.hir_facts.specs.CarriedTypes.{IsCarriedType, same_carried}
-use Rattle.hir_facts.specs.declared.schedule.Schedule.{Schedule}
+use Rattle.hir_raw.specs.declared.schedule.Schedule.{Schedule}
 use Rattle.infer_result.specs.declared.result.InferenceResult.{InferenceResult}
 use Rattle.infer_result.specs.Places.{Given, IsAt, StandsAt}
 use Rattle.infer_result.specs.Kinds.Alternative.{IsBefore, AsksOfAlternative}

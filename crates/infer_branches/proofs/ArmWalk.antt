@@ -7,9 +7,9 @@ use Rattle.hir_types.specs.declared.ty.Ty.{Ty}
 use Rattle.hir_types.specs.Subst.{folded}
 use Rattle.hir_types.specs.declared.ids.ExprOrPatId.TheVariants as node
 use Rattle.hir_types.specs.declared.ty.Ty.TheVariants as ty
-use Rattle.hir_facts.specs.declared.raw.RawArm.{RawArm}
-use Rattle.hir_facts.specs.Order.{Part, after, arm, arms_parts, guard, inner, expr_part, maybe_part}
-use Rattle.hir_facts.specs.declared.schedule.Schedule.{Schedule}
+use Rattle.hir_raw.specs.declared.raw.RawArm.{RawArm}
+use Rattle.hir_raw.specs.Order.{Part, after, arm, arms_parts, guard, inner, expr_part, maybe_part}
+use Rattle.hir_raw.specs.declared.schedule.Schedule.{Schedule}
 use Rattle.infer_result.specs.Places.{Given}
 use Rattle.infer_result.specs.Kinds.Match.{arm_exprs}
 use Rattle.infer_ctx.specs.declared.context.InferenceContext.{InferenceContext}

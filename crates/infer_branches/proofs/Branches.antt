@@ -5,8 +5,8 @@ use Rattle.hir_types.specs.declared.ids.ExprId.{ExprId}
 use Rattle.hir_types.specs.Erasure.{Same, erased}
 use Rattle.hir_types.specs.Types.{unit}
 use Rattle.hir_types.specs.declared.ty.Ty.TheVariants as ty
-use Rattle.hir_facts.specs.Order.{after}
-use Rattle.hir_facts.specs.declared.schedule.Schedule.{Schedule}
+use Rattle.hir_raw.specs.Order.{after}
+use Rattle.hir_raw.specs.declared.schedule.Schedule.{Schedule}
 use Rattle.hir_facts.specs.CarriedTypes.{IsCarriedType, same_carried}
 use Rattle.infer_result.specs.declared.result.InferenceResult.{InferenceResult}
 use Rattle.infer_result.specs.Places.{Given, IsAtOrMismatch, IsAt}

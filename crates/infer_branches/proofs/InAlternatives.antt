@@ -6,10 +6,10 @@ use Rattle.hir_types.specs.declared.ids.ExprId.{ExprId}
 use Rattle.hir_types.specs.Folding.{replaced_bool}
 use Rattle.hir_types.specs.declared.ty.Ty.TheVariants as ty
 use Rattle.hir_types.specs.declared.ids.ExprOrPatId.TheVariants as node
-use Rattle.hir_facts.specs.Scope.{Scope}
-use Rattle.hir_facts.specs.declared.schedule.Schedule.{Schedule}
+use Rattle.hir_raw.specs.Scope.{Scope}
+use Rattle.hir_raw.specs.declared.schedule.Schedule.{Schedule}
 use Rattle.hir_facts.specs.CarriedTypes.{IsCarriedType}
-use Rattle.hir_facts.specs.Order.{Role, Part, inner, expr_part, after}
+use Rattle.hir_raw.specs.Order.{Role, Part, inner, expr_part, after}
 use Rattle.infer_table.specs.Table.{State, Grew}
 use Rattle.infer_table.proofs.HoleLaws.{grew_twice}
 use Rattle.infer_result.specs.declared.result.InferenceResult.{InferenceResult}

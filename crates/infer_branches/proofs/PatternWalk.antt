@@ -6,10 +6,10 @@ use Rattle.hir_types.specs.declared.ids.ExprId.{ExprId}
 use Rattle.hir_types.specs.declared.ty.Ty.{Ty}
 use Rattle.hir_types.specs.Subst.{Assignment, folded}
 use Rattle.hir_types.specs.declared.ids.ExprOrPatId.TheVariants as node
-use Rattle.hir_facts.specs.declared.raw.RawArm.{RawArm}
-use Rattle.hir_facts.specs.declared.raw.RawExpr.TheVariants as expr
-use Rattle.hir_facts.specs.Order.{Part, arm_pattern, arms_parts, inner, expr_part, pat_part, scrutinee}
-use Rattle.hir_facts.specs.declared.schedule.Schedule.{Schedule}
+use Rattle.hir_raw.specs.declared.raw.RawArm.{RawArm}
+use Rattle.hir_raw.specs.declared.raw.RawExpr.TheVariants as expr
+use Rattle.hir_raw.specs.Order.{Part, arm_pattern, arms_parts, inner, expr_part, pat_part, scrutinee}
+use Rattle.hir_raw.specs.declared.schedule.Schedule.{Schedule}
 use Rattle.infer_result.specs.Places.{Given}
 use Rattle.infer_result.specs.Kinds.Match.{arm_exprs, ArmPatterns}
 use Rattle.infer_result.specs.Placing.{at_or_mismatch}

@@ -12,13 +12,13 @@ use Rattle.hir_types.specs.Terms.{term, terms_of}
 use Rattle.hir_types.specs.declared.head.Head.TheVariants as head
 use Rattle.hir_types.specs.declared.ty.Ty.TheVariants as ty
 use Rattle.hir_types.specs.declared.ids.CallableDefId.TheVariants as callable
-use Rattle.hir_facts.specs.Scope.{Scope, has_params, names_item}
-use Rattle.hir_facts.specs.Signatures.{type_args, Signature, signature_of, at_args}
-use Rattle.hir_facts.specs.declared.raw.RawPath.{RawPath}
-use Rattle.hir_facts.specs.declared.raw.RawExpr.{RawExpr}
-use Rattle.hir_facts.specs.declared.schedule.Schedule.{Schedule}
-use Rattle.hir_facts.specs.declared.raw.RawPath.TheVariants as path
-use Rattle.hir_facts.specs.declared.raw.RawExpr.TheVariants as expr
+use Rattle.hir_raw.specs.Scope.{Scope, has_params, names_item}
+use Rattle.hir_raw.specs.Signatures.{type_args, Signature, signature_of, at_args}
+use Rattle.hir_raw.specs.declared.raw.RawPath.{RawPath}
+use Rattle.hir_raw.specs.declared.raw.RawExpr.{RawExpr}
+use Rattle.hir_raw.specs.declared.schedule.Schedule.{Schedule}
+use Rattle.hir_raw.specs.declared.raw.RawPath.TheVariants as path
+use Rattle.hir_raw.specs.declared.raw.RawExpr.TheVariants as expr
 use Rattle.infer_table.specs.Table.{bindings, resolved_type, resolved_term}
 use Rattle.infer_table.specs.Bindings.{AllOf}
 use Rattle.infer_table.proofs.BindingLaws.{resolved_made}

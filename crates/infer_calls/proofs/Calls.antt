@@ -9,11 +9,11 @@ use Rattle.hir_types.specs.declared.ids.ExprOrPatId.{ExprOrPatId}
 use Rattle.hir_types.specs.Subst.{folded}
 use Rattle.hir_types.specs.declared.ty.Ty.TheVariants as ty
 use Rattle.hir_types.specs.declared.ids.ExprOrPatId.TheVariants as node
-use Rattle.hir_facts.specs.declared.schedule.Schedule.{Schedule}
-use Rattle.hir_facts.specs.Signatures.{type_args, Signature, signature_of, at_args}
-use Rattle.hir_facts.specs.Order.{inner, argument, expr_part, exprs_from, parts_of_expr, part_at}
+use Rattle.hir_raw.specs.declared.schedule.Schedule.{Schedule}
+use Rattle.hir_raw.specs.Signatures.{type_args, Signature, signature_of, at_args}
+use Rattle.hir_raw.specs.Order.{inner, argument, expr_part, exprs_from, parts_of_expr, part_at}
 use Rattle.hir_facts.specs.CarriedTypes.{IsCarriedType}
-use Rattle.hir_facts.specs.declared.raw.RawExpr.TheVariants as expr
+use Rattle.hir_raw.specs.declared.raw.RawExpr.TheVariants as expr
 use Rattle.infer_result.specs.Places.{Given}
 use Rattle.infer_result.specs.Demands.{Demand}
 use Rattle.infer_result.specs.Kinds.Call.{IsCallee, ArgsRule}

@@ -7,11 +7,11 @@ use Rattle.hir_types.specs.Subst.{Assignment, folded}
 use Rattle.hir_types.specs.declared.ty.GenericArg.{GenericArg}
 use Rattle.hir_types.specs.declared.ty.Ty.TheVariants as ty
 use Rattle.hir_types.specs.declared.ids.ExprOrPatId.TheVariants as node
-use Rattle.hir_facts.specs.declared.raw.RawBody.{RawBody}
-use Rattle.hir_facts.specs.declared.schedule.Schedule.{Schedule}
-use Rattle.hir_facts.specs.Signatures.{type_args, Signature, at_args, signature_of}
-use Rattle.hir_facts.specs.Order.{inner, after, exprs_from, argument}
-use Rattle.hir_facts.specs.declared.raw.RawExpr.TheVariants as expr
+use Rattle.hir_raw.specs.declared.raw.RawBody.{RawBody}
+use Rattle.hir_raw.specs.declared.schedule.Schedule.{Schedule}
+use Rattle.hir_raw.specs.Signatures.{type_args, Signature, at_args, signature_of}
+use Rattle.hir_raw.specs.Order.{inner, after, exprs_from, argument}
+use Rattle.hir_raw.specs.declared.raw.RawExpr.TheVariants as expr
 use Rattle.infer_table.specs.Table.{resolved_type, bindings}
 use Rattle.infer_table.specs.Bindings.{AllOf}
 use Rattle.infer_result.specs.Table.{HasTy, WasSeen}

@@ -1,7 +1,7 @@
 -- New holes, and the types of literals.
 use Rattle.std.proofs.Common.{refl}
 use Rattle.hir_types.specs.declared.head.HoleKind.{HoleKind}
-use Rattle.hir_facts.specs.Scope.{Scope}
+use Rattle.hir_raw.specs.Scope.{Scope}
 use Rattle.infer_table.specs.Table.{with_new_hole}
 use Rattle.infer_table.proofs.HoleLaws.{grew_by_hole}
 use Rattle.infer_table.specs.Waiting.{waiting}

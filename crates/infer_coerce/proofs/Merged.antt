@@ -5,7 +5,7 @@ use Rattle.hir_types.specs.declared.ty.Ty.{Ty}
 use Rattle.hir_types.specs.Subst.{Assignment, folded}
 use Rattle.hir_types.specs.declared.head.HoleKind.TheVariants as kind
 use Rattle.hir_types.specs.declared.ty.Ty.TheVariants as ty
-use Rattle.hir_facts.specs.Scope.{Scope}
+use Rattle.hir_raw.specs.Scope.{Scope}
 use Rattle.infer_table.specs.Table.{State, with_new_hole, hole_count}
 use Rattle.infer_table.proofs.HoleLaws.{grew_by_hole}
 use Rattle.infer_result.specs.Closed.{IsOfBody}

@@ -2,7 +2,7 @@
 use Rattle.std.proofs.Common.{sym, subst}
 use Rattle.hir_types.specs.declared.ty.Ty.{Ty}
 use Rattle.hir_types.specs.Terms.{term}
-use Rattle.hir_facts.specs.Scope.{Scope}
+use Rattle.hir_raw.specs.Scope.{Scope}
 use Rattle.infer_table.specs.Bindings.{AllOf}
 use Rattle.infer_table.specs.Preserved.{BindsOnly, made_of_resolved_term}
 use Rattle.infer_table.specs.Resolution.{resolution_term}

@@ -17,7 +17,7 @@ use Rattle.hir_types.specs.declared.ty.Ty.TheVariants as ty
 use Rattle.hir_types.specs.declared.ids.ExprOrPatId.TheVariants as node
 use Rattle.hir_types.proofs.Equal.{ty_decides}
 use Rattle.hir_facts.specs.CarriedTypes.{IsCarriedType, carried_error}
-use Rattle.hir_facts.specs.Scope.{Scope}
+use Rattle.hir_raw.specs.Scope.{Scope}
 use Rattle.infer_table.specs.Completion.{completion, fallback}
 use Rattle.infer_table.specs.Preserved.{whole, IsMadeOf, BindsOnly, made_of_resolved, unified_makes_same, refused_apart, binds_only_unified}
 use Rattle.infer_table.specs.Resolution.{resolution, resolution_terms, IsOpenOrKnown}

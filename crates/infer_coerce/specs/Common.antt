@@ -3,7 +3,7 @@ use Rattle.std.specs.Prelude.{◌≡◌, ◌⊎◌, Bool, true, false, Option, S
 use Rattle.hir_types.specs.Subst.{Assignment, folded}
 use Rattle.hir_types.specs.declared.ids.ExprId.{ExprId}
 use Rattle.hir_types.specs.declared.ty.Ty.{Ty}
-use Rattle.hir_facts.specs.Scope.{Scope}
+use Rattle.hir_raw.specs.Scope.{Scope}
 use Rattle.infer_table.specs.Table.{State, Grew}
 use Rattle.infer_result.specs.Places.{Given}
 use Rattle.infer_ctx.specs.Found.{Found}

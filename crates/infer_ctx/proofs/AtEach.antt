@@ -3,8 +3,8 @@ use Rattle.std.proofs.Common.{arith, ◌≡◌, sym, subst, Option, Some, None}
 use Rattle.hir_types.specs.Subst.{Assignment}
 use Rattle.hir_types.specs.declared.ty.Ty.{Ty}
 use Rattle.hir_types.specs.declared.ids.ExprId.{ExprId}
-use Rattle.hir_facts.specs.declared.schedule.Schedule.{Schedule}
-use Rattle.hir_facts.specs.Scope.{Scope}
+use Rattle.hir_raw.specs.declared.schedule.Schedule.{Schedule}
+use Rattle.hir_raw.specs.Scope.{Scope}
 use Rattle.infer_table.proofs.UndoLaws.{grew_itself}
 use Rattle.infer_table.proofs.HoleLaws.{grew_twice}
 use Rattle.infer_table.specs.Table.{State}

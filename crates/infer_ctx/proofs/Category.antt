@@ -1,7 +1,7 @@
 -- Walks compose.
 use Rattle.std.proofs.Common.{inl, refl, arith, inr, ◌∙◌, slice_get, ◌⊎◌}
 use Rattle.hir_types.specs.declared.ids.ExprId.{ExprId}
-use Rattle.hir_facts.specs.declared.schedule.Schedule.{Schedule}
+use Rattle.hir_raw.specs.declared.schedule.Schedule.{Schedule}
 use Rattle.infer_result.specs.Places.{Given}
 use Rattle.infer_result.specs.Demands.{Demand}
 use Rattle.infer_result.specs.declared.result.TypeMismatch.{TypeMismatch}

@@ -3,7 +3,7 @@ use Rattle.std.proofs.Common.{inl, inr, arith, Option, ◌<◌, ◌≡◌, ◌�
 use Rattle.std.proofs.Math.ListN.{length-set}
 use Rattle.hir_types.specs.declared.ids.ExprId.{ExprId}
 use Rattle.hir_types.specs.declared.ty.Ty.{Ty}
-use Rattle.hir_facts.specs.declared.schedule.Schedule.{Schedule}
+use Rattle.hir_raw.specs.declared.schedule.Schedule.{Schedule}
 use Rattle.hir_facts.specs.CarriedTypes.{IsCarriedType}
 use Rattle.infer_result.specs.Places.{Given}
 use Rattle.infer_result.specs.Table.{HasTy}

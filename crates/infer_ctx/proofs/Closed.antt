@@ -10,8 +10,8 @@ use Rattle.hir_types.specs.declared.ty.Ty.{Ty}
 use Rattle.hir_types.specs.Terms.{terms_of, Term}
 use Rattle.hir_types.specs.declared.head.Hole.{Hole}
 use Rattle.hir_types.proofs.Equal.{ty_decides}
-use Rattle.hir_facts.specs.declared.raw.RawBody.{RawBody}
-use Rattle.hir_facts.specs.Scope.{Scope}
+use Rattle.hir_raw.specs.declared.raw.RawBody.{RawBody}
+use Rattle.hir_raw.specs.Scope.{Scope}
 use Rattle.infer_table.specs.Table.{bindings, State, Meets, Grew}
 use Rattle.infer_table.specs.LogLemmas.{solves_left}
 use Rattle.infer_table.specs.Solutions.{Log, Solves, entry, log_of}

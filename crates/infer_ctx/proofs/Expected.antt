@@ -12,7 +12,7 @@ use Rattle.infer_table.specs.Resolution.{resolution, IsOpenOrKnown, open_var, op
 use Rattle.infer_table.specs.Table.{State, bindings, resolved_type}
 use Rattle.infer_table.specs.declared.binding.Binding.{Binding}
 use Rattle.hir_types.specs.declared.ids.ExprId.{ExprId}
-use Rattle.hir_facts.specs.declared.schedule.Schedule.{Schedule}
+use Rattle.hir_raw.specs.declared.schedule.Schedule.{Schedule}
 use Rattle.infer_result.specs.Places.{Given}
 use Rattle.infer_ctx.specs.declared.context.InferenceContext.{InferenceContext}
 use Rattle.infer_ctx.specs.Closings.{expected_under, found_under}

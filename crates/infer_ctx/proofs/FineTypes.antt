@@ -17,8 +17,8 @@ use Rattle.hir_types.specs.declared.head.Hole.TheVariants as hole_of
 use Rattle.hir_types.specs.declared.head.HoleKind.TheVariants as kind
 use Rattle.hir_types.specs.declared.ty.IntegerTy.TheVariants as integer
 use Rattle.hir_types.specs.declared.ty.Ty.TheVariants as ty
-use Rattle.hir_facts.specs.Scope.{Scope, adt_params, has_params}
-use Rattle.hir_facts.specs.Signatures.{type_args}
+use Rattle.hir_raw.specs.Scope.{Scope, adt_params, has_params}
+use Rattle.hir_raw.specs.Signatures.{type_args}
 use Rattle.infer_table.specs.Table.{State, HolesAreOf, Grew, hole_count, with_new_hole}
 use Rattle.infer_table.specs.Solutions.{AreOf}
 use Rattle.infer_table.specs.Preserved.{width, whole, rest, IsMadeOf, NoAlias}

@@ -5,9 +5,9 @@ use Rattle.hir_types.specs.declared.ids.ExprId.{ExprId}
 use Rattle.hir_types.specs.declared.ids.ExprOrPatId.TheVariants as node
 use Rattle.hir_types.specs.declared.ty.Ty.{Ty}
 use Rattle.hir_types.specs.Subst.{Assignment}
-use Rattle.hir_facts.specs.Order.{Role, Node, Part, inner, end, after, expr_part, expr_parts, exprs_from}
-use Rattle.hir_facts.specs.declared.raw.RawExpr.{RawExpr}
-use Rattle.hir_facts.specs.declared.schedule.Schedule.{Schedule}
+use Rattle.hir_raw.specs.Order.{Role, Node, Part, inner, end, after, expr_part, expr_parts, exprs_from}
+use Rattle.hir_raw.specs.declared.raw.RawExpr.{RawExpr}
+use Rattle.hir_raw.specs.declared.schedule.Schedule.{Schedule}
 use Rattle.infer_result.specs.declared.result.TypeMismatch.{TypeMismatch}
 use Rattle.infer_result.specs.Places.{Given}
 use Rattle.infer_result.specs.Demands.{Demand}

@@ -12,9 +12,9 @@ use Rattle.hir_types.specs.Subst.{Assignment, folded}
 use Rattle.hir_types.specs.declared.ty.Ty.TheVariants as ty
 use Rattle.hir_types.specs.declared.ty.IntegerTy.TheVariants as integer
 use Rattle.hir_facts.specs.CarriedTypes.{carried_arg, carried_step, carried_bound, carried_trait, is_carried_type, IsCarriedType, is_carried_arg, carried_type_arg, AreCarriedTypes, carried_tuple, carried_adt, carried_fn_def}
-use Rattle.hir_facts.specs.Signatures.{type_args, at_args}
-use Rattle.hir_facts.specs.declared.raw.RawFacts.{RawFacts}
-use Rattle.hir_facts.specs.Scope.{Scope, has_params, adt_params}
+use Rattle.hir_raw.specs.Signatures.{type_args, at_args}
+use Rattle.hir_raw.specs.declared.raw.RawFacts.{RawFacts}
+use Rattle.hir_raw.specs.Scope.{Scope, has_params, adt_params}
 use Rattle.infer_table.specs.Table.{State}
 use Rattle.infer_ctx.specs.Fine.{item_params, HasFineHeads, IsFine, IsCarriedIn}
 use Rattle.infer_ctx.specs.Under.{own_scope}

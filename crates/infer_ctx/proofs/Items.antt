@@ -10,22 +10,22 @@ use Rattle.hir_types.specs.declared.ty.Ty.{Ty}
 use Rattle.hir_types.specs.declared.ids.TypeRefId.{TypeRefId}
 use Rattle.hir_types.specs.declared.ids.CallableDefId.TheVariants as callable
 use Rattle.hir_types.specs.declared.ty.Ty.TheVariants as ty
-use Rattle.hir_facts.specs.declared.raw.RawCtor.{RawCtor}
-use Rattle.hir_facts.specs.declared.raw.RawFacts.{RawFacts}
-use Rattle.hir_facts.specs.declared.raw.RawVariant.{RawVariant}
-use Rattle.hir_facts.specs.Scope.{adt_params, callable_params, Scope, has_params}
-use Rattle.hir_facts.specs.Signatures.{Signature, signature_of, ctor_signature, signature_by, field_types, own_adt, fn_signature, params_from, type_args}
-use Rattle.hir_facts.specs.declared.raw.RawFn.{RawFn}
+use Rattle.hir_raw.specs.declared.raw.RawCtor.{RawCtor}
+use Rattle.hir_raw.specs.declared.raw.RawFacts.{RawFacts}
+use Rattle.hir_raw.specs.declared.raw.RawVariant.{RawVariant}
+use Rattle.hir_raw.specs.Scope.{adt_params, callable_params, Scope, has_params}
+use Rattle.hir_raw.specs.Signatures.{Signature, signature_of, ctor_signature, signature_by, field_types, own_adt, fn_signature, params_from, type_args}
+use Rattle.hir_raw.specs.declared.raw.RawFn.{RawFn}
 use Rattle.hir_facts.specs.CarriedTypes.{is_carried_arg, AreCarriedArgs, carried_param, carried_type_arg, carried_adt}
-use Rattle.hir_facts.specs.Types.{written_type}
-use Rattle.hir_facts.specs.declared.raw.RawAdt.{RawAdt}
-use Rattle.hir_facts.specs.declared.raw.RawField.{RawField}
-use Rattle.hir_facts.proofs.Items.{variant_adt, variant_ctor}
-use Rattle.hir_facts.specs.Laws.Ids.{IsModuleFn}
-use Rattle.hir_facts.specs.Laws.Lawful.{IsLawful}
-use Rattle.hir_facts.specs.WrittenFits.{inputs_fit, output_fits, fields_fit}
-use Rattle.hir_facts.specs.NoHoles.{input_has_no_hole, output_has_no_hole, field_has_no_hole}
-use Rattle.hir_facts.specs.declared.raw.RawCtor.TheVariants as ctor
+use Rattle.hir_raw.specs.Types.{written_type}
+use Rattle.hir_raw.specs.declared.raw.RawAdt.{RawAdt}
+use Rattle.hir_raw.specs.declared.raw.RawField.{RawField}
+use Rattle.hir_laws.proofs.Items.{variant_adt, variant_ctor}
+use Rattle.hir_ids.specs.Ids.{IsModuleFn}
+use Rattle.hir_laws.specs.Lawful.{IsLawful}
+use Rattle.hir_laws.specs.WrittenFits.{inputs_fit, output_fits, fields_fit}
+use Rattle.hir_laws.specs.NoHoles.{input_has_no_hole, output_has_no_hole, field_has_no_hole}
+use Rattle.hir_raw.specs.declared.raw.RawCtor.TheVariants as ctor
 use Rattle.infer_result.specs.Places.{Given}
 use Rattle.infer_ctx.specs.Fine.{HasFineHeads, IsCarriedIn, IsWritten}
 use Rattle.infer_ctx.specs.Under.{own_scope, IsItem, IsVariant}

@@ -1,7 +1,7 @@
 -- A mismatch that is noted at an expression.
 use Rattle.std.proofs.Common.{inl, ◌<◌, length, inr, refl, subst, ◌∙◌, ◌≡◌, ◌⊎◌, sym, slice_get}
 use Rattle.hir_types.specs.declared.ids.ExprId.{ExprId}
-use Rattle.hir_facts.specs.declared.schedule.Schedule.{Schedule}
+use Rattle.hir_raw.specs.declared.schedule.Schedule.{Schedule}
 use Rattle.hir_facts.specs.CarriedTypes.{IsCarriedType}
 use Rattle.infer_result.specs.declared.result.TypeMismatch.{TypeMismatch}
 use Rattle.infer_result.specs.Table.{HasMismatch, At}

@@ -25,8 +25,8 @@ use Rattle.hir_types.specs.declared.ty.Ty.TheVariants as ty
 use Rattle.hir_types.specs.declared.ty.IntegerTy.TheVariants as integer
 use Rattle.hir_types.specs.declared.head.Hole.TheVariants as hole_of
 use Rattle.hir_types.specs.declared.head.Head.TheVariants as head
-use Rattle.hir_facts.specs.Signatures.{type_args}
-use Rattle.hir_facts.specs.Scope.{Scope, adt_params, has_params}
+use Rattle.hir_raw.specs.Signatures.{type_args}
+use Rattle.hir_raw.specs.Scope.{Scope, adt_params, has_params}
 use Rattle.hir_facts.specs.CarriedTypes.{carried_arg, carried_step, carried_bound, carried_trait, is_carried_type, is_carried_arg, IsCarriedType, AreCarriedTypes, AreCarriedArgs, carried_tuple, carried_adt, carried_fn_def, carried_type_arg, carried_param, carried_bool, carried_char, carried_integer, same_carried}
 use Rattle.infer_table.specs.Preserved.{whole, part, rest, IsMadeOf}
 use Rattle.infer_table.specs.Solutions.{Respects}

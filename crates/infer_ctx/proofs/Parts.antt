@@ -7,11 +7,11 @@ use Rattle.hir_types.specs.declared.ids.PatId.{PatId}
 use Rattle.hir_types.specs.declared.ids.BindingId.{BindingId}
 use Rattle.hir_types.specs.declared.ty.Ty.{Ty}
 use Rattle.hir_types.specs.declared.ids.ExprOrPatId.TheVariants as node
-use Rattle.hir_facts.specs.declared.raw.RawBody.{RawBody}
-use Rattle.hir_facts.specs.declared.schedule.Schedule.{Schedule}
-use Rattle.hir_facts.specs.Order.{inner, IsSchedule, binding_of, Binds, Part, end, after, Node, parts, start, IsNode, parts_of_expr, expr_parts, Role, expr_part, parts_of_pat, pat_parts}
-use Rattle.hir_facts.specs.declared.raw.RawPat.{RawPat}
-use Rattle.hir_facts.specs.declared.raw.RawExpr.{RawExpr}
+use Rattle.hir_raw.specs.declared.raw.RawBody.{RawBody}
+use Rattle.hir_raw.specs.declared.schedule.Schedule.{Schedule}
+use Rattle.hir_raw.specs.Order.{inner, IsSchedule, binding_of, Binds, Part, end, after, Node, parts, start, IsNode, parts_of_expr, expr_parts, Role, expr_part, parts_of_pat, pat_parts}
+use Rattle.hir_raw.specs.declared.raw.RawPat.{RawPat}
+use Rattle.hir_raw.specs.declared.raw.RawExpr.{RawExpr}
 use Rattle.infer_result.specs.Places.{StandsAt, Given, IsAtOrMismatch}
 use Rattle.infer_result.specs.declared.result.InferenceResult.{InferenceResult}
 use Rattle.infer_result.specs.Kinds.Tuple.{AllAt}

@@ -8,15 +8,15 @@ use Rattle.hir_types.specs.Folds.{map_twice}
 use Rattle.hir_types.specs.Instances.{fn_def_tells}
 use Rattle.hir_types.specs.declared.ids.CallableDefId.TheVariants as callable
 use Rattle.hir_types.specs.declared.ty.Ty.TheVariants as ty
-use Rattle.hir_facts.specs.declared.raw.RawCtor.{RawCtor}
-use Rattle.hir_facts.specs.declared.raw.RawFacts.{RawFacts}
-use Rattle.hir_facts.specs.declared.raw.RawField.{RawField}
-use Rattle.hir_facts.specs.declared.raw.RawFn.{RawFn}
-use Rattle.hir_facts.specs.declared.raw.RawVariant.{RawVariant}
-use Rattle.hir_facts.specs.Scope.{adt_params}
-use Rattle.hir_facts.specs.Signatures.{Signature, fn_signature, signature_of, signature_by, ctor_signature, field_types, own_adt, own_adt_at, type_args, at_args}
-use Rattle.hir_facts.specs.Types.{written_type}
-use Rattle.hir_facts.specs.declared.raw.RawCtor.TheVariants as ctor
+use Rattle.hir_raw.specs.declared.raw.RawCtor.{RawCtor}
+use Rattle.hir_raw.specs.declared.raw.RawFacts.{RawFacts}
+use Rattle.hir_raw.specs.declared.raw.RawField.{RawField}
+use Rattle.hir_raw.specs.declared.raw.RawFn.{RawFn}
+use Rattle.hir_raw.specs.declared.raw.RawVariant.{RawVariant}
+use Rattle.hir_raw.specs.Scope.{adt_params}
+use Rattle.hir_raw.specs.Signatures.{Signature, fn_signature, signature_of, signature_by, ctor_signature, field_types, own_adt, own_adt_at, type_args, at_args}
+use Rattle.hir_raw.specs.Types.{written_type}
+use Rattle.hir_raw.specs.declared.raw.RawCtor.TheVariants as ctor
 use Rattle.infer_ctx.specs.declared.given.CallableSig.{CallableSig}
 use Rattle.infer_ctx.specs.Callables.{IsFnSig, IsCtorSig, IsSigOf, IsSigOfItem}
 

@@ -18,27 +18,27 @@ use Rattle.hir_types.specs.declared.ty.Ty.TheVariants as ty
 use Rattle.hir_types.specs.declared.head.Head.TheVariants as head
 use Rattle.hir_types.specs.declared.ids.CallableDefId.TheVariants as callable
 use Rattle.hir_types.specs.declared.ids.ExprOrPatId.TheVariants as node
-use Rattle.hir_facts.specs.declared.raw.RawCtor.{RawCtor}
-use Rattle.hir_facts.specs.Signatures.{type_args, ctor_type_by, Signature, at_args, ctor_type, signature_of}
-use Rattle.hir_facts.specs.Laws.Standing.{HasNoHole}
-use Rattle.hir_facts.specs.Types.{written_type}
-use Rattle.hir_facts.specs.declared.raw.RawPath.{RawPath}
-use Rattle.hir_facts.specs.declared.raw.RawVariant.{RawVariant}
-use Rattle.hir_facts.specs.declared.raw.RawExpr.{RawExpr}
-use Rattle.hir_facts.specs.declared.raw.RawArm.{RawArm}
-use Rattle.hir_facts.specs.declared.raw.RawLiteral.{RawLiteral}
-use Rattle.hir_facts.specs.declared.raw.RawStmt.{RawStmt}
-use Rattle.hir_facts.specs.Scope.{names_item, adt_params}
-use Rattle.hir_facts.specs.Order.{Role, parameter, let_pattern, Part, pat_part, param_parts, root, expr_part, the_body, arm_pattern, subpattern, Node, part_at, binding_of, Binds}
-use Rattle.hir_facts.specs.declared.raw.RawBody.{RawBody}
-use Rattle.hir_facts.specs.declared.schedule.Schedule.{Schedule}
-use Rattle.hir_facts.specs.Bodies.{IsWalkable}
+use Rattle.hir_raw.specs.declared.raw.RawCtor.{RawCtor}
+use Rattle.hir_raw.specs.Signatures.{type_args, ctor_type_by, Signature, at_args, ctor_type, signature_of}
+use Rattle.hir_counts.specs.Standing.{HasNoHole}
+use Rattle.hir_raw.specs.Types.{written_type}
+use Rattle.hir_raw.specs.declared.raw.RawPath.{RawPath}
+use Rattle.hir_raw.specs.declared.raw.RawVariant.{RawVariant}
+use Rattle.hir_raw.specs.declared.raw.RawExpr.{RawExpr}
+use Rattle.hir_raw.specs.declared.raw.RawArm.{RawArm}
+use Rattle.hir_raw.specs.declared.raw.RawLiteral.{RawLiteral}
+use Rattle.hir_raw.specs.declared.raw.RawStmt.{RawStmt}
+use Rattle.hir_raw.specs.Scope.{names_item, adt_params}
+use Rattle.hir_raw.specs.Order.{Role, parameter, let_pattern, Part, pat_part, param_parts, root, expr_part, the_body, arm_pattern, subpattern, Node, part_at, binding_of, Binds}
+use Rattle.hir_raw.specs.declared.raw.RawBody.{RawBody}
+use Rattle.hir_raw.specs.declared.schedule.Schedule.{Schedule}
+use Rattle.hir_laws.specs.Bodies.{IsWalkable}
 use Rattle.hir_facts.specs.Filled.{filled_written}
-use Rattle.hir_facts.proofs.Ways.{one_place}
-use Rattle.hir_facts.specs.declared.raw.RawCtor.TheVariants as ctor
-use Rattle.hir_facts.specs.declared.raw.RawPath.TheVariants as path
-use Rattle.hir_facts.specs.declared.raw.RawExpr.TheVariants as expr
-use Rattle.hir_facts.specs.declared.raw.RawPat.TheVariants as pat
+use Rattle.hir_raw.proofs.Ways.{one_place}
+use Rattle.hir_raw.specs.declared.raw.RawCtor.TheVariants as ctor
+use Rattle.hir_raw.specs.declared.raw.RawPath.TheVariants as path
+use Rattle.hir_raw.specs.declared.raw.RawExpr.TheVariants as expr
+use Rattle.hir_raw.specs.declared.raw.RawPat.TheVariants as pat
 use Rattle.infer_result.specs.Places.{Given, StandsAt}
 use Rattle.infer_result.specs.Incoming.{IsInput}
 use Rattle.infer_result.specs.Heads.{tuple, outermost_step, HasHead, other, Outermost, HeadOf, of_up, of_tuple, of_function, of_ctor, of_output, of_written as head_of_written, of_initializer as head_of_initializer, of_parameter as head_of_parameter, filled_head}

@@ -22,22 +22,22 @@ use Rattle.hir_types.specs.declared.ids.DefWithBodyId.{DefWithBodyId}
 use Rattle.hir_types.specs.declared.ty.Ty.TheVariants as ty
 use Rattle.hir_types.specs.declared.ty.IntegerTy.TheVariants as integer
 use Rattle.hir_types.specs.declared.ids.CallableDefId.TheVariants as callable
-use Rattle.hir_facts.specs.declared.raw.RawType.{RawType}
+use Rattle.hir_raw.specs.declared.raw.RawType.{RawType}
 use Rattle.hir_facts.specs.Filled.{filled_written, filled_folded}
-use Rattle.hir_facts.specs.Laws.Standing.{HasNoHole}
-use Rattle.hir_facts.specs.Types.{written_type}
-use Rattle.hir_facts.specs.declared.raw.RawLiteral.{RawLiteral}
-use Rattle.hir_facts.specs.Signatures.{Signature, fn_signature, signature_by, ctor_signature, signature_of, own_adt}
-use Rattle.hir_facts.specs.declared.raw.RawCtor.{RawCtor}
-use Rattle.hir_facts.specs.declared.raw.RawFacts.{RawFacts}
-use Rattle.hir_facts.specs.declared.raw.RawFn.{RawFn}
-use Rattle.hir_facts.specs.declared.raw.RawVariant.{RawVariant}
-use Rattle.hir_facts.specs.Laws.Lawful.{IsLawful}
-use Rattle.hir_facts.specs.NoHoles.{output_has_no_hole, definition_input_has_no_hole}
-use Rattle.hir_facts.specs.Scope.{adt_params}
-use Rattle.hir_facts.specs.Bodies.{inputs_of}
-use Rattle.hir_facts.specs.declared.raw.RawLiteral.TheVariants as literal
-use Rattle.hir_facts.specs.declared.raw.RawCtor.TheVariants as ctor
+use Rattle.hir_counts.specs.Standing.{HasNoHole}
+use Rattle.hir_raw.specs.Types.{written_type}
+use Rattle.hir_raw.specs.declared.raw.RawLiteral.{RawLiteral}
+use Rattle.hir_raw.specs.Signatures.{Signature, fn_signature, signature_by, ctor_signature, signature_of, own_adt}
+use Rattle.hir_raw.specs.declared.raw.RawCtor.{RawCtor}
+use Rattle.hir_raw.specs.declared.raw.RawFacts.{RawFacts}
+use Rattle.hir_raw.specs.declared.raw.RawFn.{RawFn}
+use Rattle.hir_raw.specs.declared.raw.RawVariant.{RawVariant}
+use Rattle.hir_laws.specs.Lawful.{IsLawful}
+use Rattle.hir_laws.specs.NoHoles.{output_has_no_hole, definition_input_has_no_hole}
+use Rattle.hir_raw.specs.Scope.{adt_params}
+use Rattle.hir_laws.specs.Bodies.{inputs_of}
+use Rattle.hir_raw.specs.declared.raw.RawLiteral.TheVariants as literal
+use Rattle.hir_raw.specs.declared.raw.RawCtor.TheVariants as ctor
 use Rattle.infer_result.specs.Heads.{Outermost, tuple, outermost_step, HasHead}
 use Rattle.infer_result.specs.Kinds.Literal.{IsOwnType}
 use Rattle.infer_result.specs.Places.{Given}

@@ -7,8 +7,8 @@ use Rattle.hir_types.specs.Types.{unit}
 use Rattle.hir_types.specs.declared.ids.TypeRefId.{TypeRefId}
 use Rattle.hir_types.specs.declared.ty.Ty.TheVariants as ty
 use Rattle.hir_facts.specs.CarriedTypes.{IsCarriedType, carried_bare, is_carried_type, AreCarriedTypes, carried_tuple, carried_bool, carried_char, carried_integer, carried_error, filled_carried}
-use Rattle.hir_facts.specs.declared.raw.RawLiteral.{RawLiteral}
-use Rattle.hir_facts.specs.declared.raw.RawLiteral.TheVariants as literal
+use Rattle.hir_raw.specs.declared.raw.RawLiteral.{RawLiteral}
+use Rattle.hir_raw.specs.declared.raw.RawLiteral.TheVariants as literal
 use Rattle.infer_result.specs.declared.result.InferenceResult.{InferenceResult}
 use Rattle.infer_result.specs.Closed.{AllTypes, IsClosedTable}
 use Rattle.infer_result.specs.Kinds.Literal.{IsLiteralType}

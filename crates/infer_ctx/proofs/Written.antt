@@ -12,21 +12,21 @@ use Rattle.hir_types.specs.declared.ids.DefWithBodyId.{DefWithBodyId}
 use Rattle.hir_types.specs.declared.ty.GenericArg.TheVariants as arg
 use Rattle.hir_types.specs.declared.ty.Ty.TheVariants as ty
 use Rattle.hir_types.specs.declared.ids.DefWithBodyId.TheVariants as def
-use Rattle.hir_facts.specs.declared.raw.RawFacts.{RawFacts}
-use Rattle.hir_facts.specs.declared.raw.RawType.{RawType}
+use Rattle.hir_raw.specs.declared.raw.RawFacts.{RawFacts}
+use Rattle.hir_raw.specs.declared.raw.RawType.{RawType}
 use Rattle.hir_facts.specs.CarriedTypes.{written_carried, carried_param}
-use Rattle.hir_facts.specs.LawfulFacts.{type_ids, types_carried}
-use Rattle.hir_facts.specs.Laws.Lawful.{IsLawful}
-use Rattle.hir_facts.specs.Scope.{Scope, adt_params, has_params, params_of, scope_of}
-use Rattle.hir_facts.specs.Types.{type_parts, written_type, filled_by, filled_within, filled_type, StandsIn, is_itself, in_part}
+use Rattle.hir_laws.specs.LawfulFacts.{type_ids, types_carried}
+use Rattle.hir_laws.specs.Lawful.{IsLawful}
+use Rattle.hir_raw.specs.Scope.{Scope, adt_params, has_params, params_of, scope_of}
+use Rattle.hir_raw.specs.Types.{type_parts, written_type, filled_by, filled_within, filled_type, StandsIn, is_itself, in_part}
 use Rattle.hir_facts.specs.Filled.{filled_written}
-use Rattle.hir_facts.specs.Laws.Standing.{HasNoHole}
-use Rattle.hir_facts.specs.WrittenFits.{FitsUnder, OwnFits, own_fits, parts_fit, return_fits}
-use Rattle.hir_facts.specs.declared.raw.RawFn.{RawFn}
-use Rattle.hir_facts.specs.Bodies.{output_by, body_id_of, return_type}
-use Rattle.hir_facts.specs.NoHoles.{output_has_no_hole}
-use Rattle.hir_facts.specs.declared.raw.RawType.TheVariants as type
-use Rattle.hir_facts.specs.Laws.Carried as laws
+use Rattle.hir_counts.specs.Standing.{HasNoHole}
+use Rattle.hir_laws.specs.WrittenFits.{FitsUnder, OwnFits, own_fits, parts_fit, return_fits}
+use Rattle.hir_raw.specs.declared.raw.RawFn.{RawFn}
+use Rattle.hir_laws.specs.Bodies.{output_by, body_id_of, return_type}
+use Rattle.hir_laws.specs.NoHoles.{output_has_no_hole}
+use Rattle.hir_raw.specs.declared.raw.RawType.TheVariants as type
+use Rattle.hir_ids.specs.Carried as laws
 use Rattle.infer_table.specs.Table.{State, new_state}
 use Rattle.infer_ctx.specs.Fine.{HasFineHeads, IsFine, IsWritten}
 use Rattle.infer_ctx.proofs.Lists.{found}

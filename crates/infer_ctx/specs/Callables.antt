@@ -7,13 +7,13 @@ use Rattle.hir_types.specs.Assigned.{with_params}
 use Rattle.hir_types.specs.Subst.{replaced}
 use Rattle.hir_types.specs.declared.ids.CallableDefId.{CallableDefId}
 use Rattle.hir_types.specs.declared.ty.Ty.TheVariants as ty
-use Rattle.hir_facts.specs.declared.raw.RawType.{RawType}
-use Rattle.hir_facts.specs.Types.{written_type}
-use Rattle.hir_facts.specs.declared.raw.RawField.{RawField}
-use Rattle.hir_facts.specs.declared.raw.RawFn.{RawFn}
-use Rattle.hir_facts.specs.declared.raw.RawVariant.{RawVariant}
-use Rattle.hir_facts.specs.declared.raw.RawFacts.{RawFacts}
-use Rattle.hir_facts.specs.Signatures.{Signature, signature_of, type_args, at_args}
+use Rattle.hir_raw.specs.declared.raw.RawType.{RawType}
+use Rattle.hir_raw.specs.Types.{written_type}
+use Rattle.hir_raw.specs.declared.raw.RawField.{RawField}
+use Rattle.hir_raw.specs.declared.raw.RawFn.{RawFn}
+use Rattle.hir_raw.specs.declared.raw.RawVariant.{RawVariant}
+use Rattle.hir_raw.specs.declared.raw.RawFacts.{RawFacts}
+use Rattle.hir_raw.specs.Signatures.{Signature, signature_of, type_args, at_args}
 use Rattle.infer_ctx.specs.declared.given.CallableSig.{CallableSig}
 
 -- what the written type stands for, with these arguments in the place of parameters

@@ -7,7 +7,7 @@ use Rattle.hir_types.specs.Terms.{terms_of}
 use Rattle.hir_types.specs.declared.ty.Ty.{Ty}
 use Rattle.hir_types.specs.contracts.ty.TyPartialEq.TheImpl as same
 use Rattle.hir_facts.specs.CarriedTypes.{IsCarriedType}
-use Rattle.hir_facts.specs.Scope.{Scope}
+use Rattle.hir_raw.specs.Scope.{Scope}
 use Rattle.infer_table.specs.Table.{Meets, State, bindings}
 use Rattle.infer_table.specs.declared.waiting.WaitingPair.{WaitingPair}
 use Rattle.infer_table.specs.Waiting.{waiting}

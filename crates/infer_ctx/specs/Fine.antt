@@ -5,11 +5,11 @@ use Rattle.hir_types.specs.declared.ty.Ty.{Ty}
 use Rattle.hir_types.specs.Terms.{term}
 use Rattle.hir_types.specs.declared.ids.TypeRefId.{TypeRefId}
 use Rattle.hir_types.specs.declared.head.Head.TheVariants as head
-use Rattle.hir_facts.specs.declared.raw.RawFacts.{RawFacts}
-use Rattle.hir_facts.specs.Signatures.{signature_of}
-use Rattle.hir_facts.specs.Scope.{Scope, adt_params, has_params}
+use Rattle.hir_raw.specs.declared.raw.RawFacts.{RawFacts}
+use Rattle.hir_raw.specs.Signatures.{signature_of}
+use Rattle.hir_raw.specs.Scope.{Scope, adt_params, has_params}
 use Rattle.hir_facts.specs.CarriedTypes.{IsCarriedType}
-use Rattle.hir_facts.specs.Types.{written_type}
+use Rattle.hir_raw.specs.Types.{written_type}
 use Rattle.infer_table.specs.Preserved.{Shape, whole, IsMadeOf}
 use Rattle.infer_table.specs.Table.{State, HolesAreOf}
 use Rattle.infer_table.specs.declared.waiting.WaitingPair.{WaitingPair}

@@ -3,8 +3,8 @@ use Rattle.std.specs.Prelude.{◌≤◌, ◌<◌, ◌≡◌, length, Option, Som
 use Rattle.hir_types.specs.Subst.{Assignment, folded}
 use Rattle.hir_types.specs.declared.ids.ExprId.{ExprId}
 use Rattle.hir_types.specs.declared.ty.Ty.{Ty}
-use Rattle.hir_facts.specs.declared.schedule.Schedule.{Schedule}
-use Rattle.hir_facts.specs.Scope.{Scope}
+use Rattle.hir_raw.specs.declared.schedule.Schedule.{Schedule}
+use Rattle.hir_raw.specs.Scope.{Scope}
 use Rattle.infer_table.specs.Table.{Grew}
 use Rattle.infer_result.specs.Closed.{IsOfBody}
 use Rattle.infer_result.specs.Places.{Given}

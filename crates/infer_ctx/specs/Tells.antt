@@ -5,10 +5,10 @@ use Rattle.hir_types.specs.declared.ty.Ty.{Ty}
 use Rattle.hir_types.specs.declared.ids.BindingId.{BindingId}
 use Rattle.hir_types.specs.declared.ids.PatId.{PatId}
 use Rattle.hir_types.specs.declared.ids.TypeRefId.{TypeRefId}
-use Rattle.hir_facts.specs.Order.{Binds}
-use Rattle.hir_facts.specs.Types.{filled_type}
-use Rattle.hir_facts.specs.declared.raw.RawExpr.TheVariants as expr
-use Rattle.hir_facts.specs.declared.raw.RawPath.TheVariants as path
+use Rattle.hir_raw.specs.Order.{Binds}
+use Rattle.hir_raw.specs.Types.{filled_type}
+use Rattle.hir_raw.specs.declared.raw.RawExpr.TheVariants as expr
+use Rattle.hir_raw.specs.declared.raw.RawPath.TheVariants as path
 use Rattle.infer_result.specs.Places.{Given}
 use Rattle.infer_result.specs.Upward.{Up}
 use Rattle.infer_result.specs.Heads.{Outermost, HasHead, HeadOf}

@@ -8,20 +8,20 @@ use Rattle.hir_types.specs.declared.ids.FunctionId.{FunctionId}
 use Rattle.hir_types.specs.declared.ids.PatId.{PatId}
 use Rattle.hir_types.specs.declared.ids.TypeRefId.{TypeRefId}
 use Rattle.hir_types.specs.declared.ids.CallableDefId.TheVariants as callable
-use Rattle.hir_facts.specs.declared.raw.RawFacts.{RawFacts}
-use Rattle.hir_facts.specs.Scope.{Scope, callable_params, adt_params}
-use Rattle.hir_facts.specs.Signatures.{Signature, signature_of, field_types}
-use Rattle.hir_facts.specs.declared.raw.RawVariant.{RawVariant}
-use Rattle.hir_facts.specs.WrittenFits.{FitsUnder}
-use Rattle.hir_facts.specs.Order.{stmt_at, end, the_body, Node, Part, IsNode, part_at, Fits}
-use Rattle.hir_facts.specs.declared.schedule.Schedule.{Schedule}
-use Rattle.hir_facts.specs.Bodies.{IsWalkable}
-use Rattle.hir_facts.specs.declared.raw.RawBody.{RawBody}
+use Rattle.hir_raw.specs.declared.raw.RawFacts.{RawFacts}
+use Rattle.hir_raw.specs.Scope.{Scope, callable_params, adt_params}
+use Rattle.hir_raw.specs.Signatures.{Signature, signature_of, field_types}
+use Rattle.hir_raw.specs.declared.raw.RawVariant.{RawVariant}
+use Rattle.hir_laws.specs.WrittenFits.{FitsUnder}
+use Rattle.hir_raw.specs.Order.{stmt_at, end, the_body, Node, Part, IsNode, part_at, Fits}
+use Rattle.hir_raw.specs.declared.schedule.Schedule.{Schedule}
+use Rattle.hir_laws.specs.Bodies.{IsWalkable}
+use Rattle.hir_raw.specs.declared.raw.RawBody.{RawBody}
 use Rattle.hir_facts.specs.CarriedTypes.{IsCarriedType}
-use Rattle.hir_facts.specs.declared.raw.RawCtor.TheVariants as ctor
-use Rattle.hir_facts.specs.declared.raw.RawExpr.TheVariants as expr
-use Rattle.hir_facts.specs.declared.raw.RawPath.TheVariants as path
-use Rattle.hir_facts.specs.declared.raw.RawStmt.TheVariants as stmt
+use Rattle.hir_raw.specs.declared.raw.RawCtor.TheVariants as ctor
+use Rattle.hir_raw.specs.declared.raw.RawExpr.TheVariants as expr
+use Rattle.hir_raw.specs.declared.raw.RawPath.TheVariants as path
+use Rattle.hir_raw.specs.declared.raw.RawStmt.TheVariants as stmt
 use Rattle.infer_result.specs.Closed.{NamesVariant, IsVariantPat}
 use Rattle.infer_result.specs.Places.{Given, IsAtOrMismatch}
 use Rattle.infer_result.specs.Table.{HasTy}

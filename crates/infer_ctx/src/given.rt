@@ -1,8 +1,8 @@
 //! What inference of a body reads.
 ghost use Rattle.std.specs.Prelude.{◌≡◌, ◌<◌, IfOk, List, Some, length, map, slice_get};
-ghost use Rattle.hir_facts.specs.Types.{written_type};
-ghost use Rattle.hir_facts.specs.declared.raw.RawFn.{RawFn};
-ghost use Rattle.hir_facts.specs.declared.raw.RawVariant.{RawVariant};
+ghost use Rattle.hir_raw.specs.Types.{written_type};
+ghost use Rattle.hir_raw.specs.declared.raw.RawFn.{RawFn};
+ghost use Rattle.hir_raw.specs.declared.raw.RawVariant.{RawVariant};
 ghost use Rattle.hir_types.specs.declared.ty.Ty.TheVariants as ty;
 ghost use Rattle.infer_ctx.specs.Callables.{written_at, field_at, IsFnSig, IsCtorSig, IsCallableItem, IsSigOfItem, ItemsAreCallable, IsSigIfItem};
 

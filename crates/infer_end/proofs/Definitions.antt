@@ -7,20 +7,20 @@ use Rattle.hir_types.specs.declared.ids.VariantId.{VariantId}
 use Rattle.hir_types.specs.declared.ids.PatId.{PatId}
 use Rattle.hir_types.specs.declared.ids.TypeRefId.{TypeRefId}
 use Rattle.hir_types.specs.declared.ty.Ty.{Ty}
-use Rattle.hir_facts.specs.declared.raw.RawBody.{RawBody}
-use Rattle.hir_facts.specs.declared.raw.RawFacts.{RawFacts}
-use Rattle.hir_facts.specs.Bodies.{body_id_of, body_of, inputs_of, return_type, IsWalkable}
-use Rattle.hir_facts.specs.declared.raw.RawVariant.{RawVariant}
-use Rattle.hir_facts.specs.Laws.Ids.{BodyIdsExist}
-use Rattle.hir_facts.specs.Scope.{params_of, scope_of}
-use Rattle.hir_facts.specs.NoHoles.{definition_input_has_no_hole}
-use Rattle.hir_facts.specs.WrittenFits.{lets_fit, definition_inputs_fit}
-use Rattle.hir_facts.specs.LawfulFacts.{body_ids}
-use Rattle.hir_facts.proofs.Walkable.{inputs_count}
-use Rattle.hir_facts.specs.Laws.Lawful.{IsLawful}
-use Rattle.hir_facts.specs.declared.schedule.Schedule.{Schedule}
-use Rattle.hir_facts.specs.declared.raw.RawPath.TheVariants as path
-use Rattle.hir_facts.specs.declared.raw.RawPat.TheVariants as pat
+use Rattle.hir_raw.specs.declared.raw.RawBody.{RawBody}
+use Rattle.hir_raw.specs.declared.raw.RawFacts.{RawFacts}
+use Rattle.hir_laws.specs.Bodies.{body_id_of, body_of, inputs_of, return_type, IsWalkable}
+use Rattle.hir_raw.specs.declared.raw.RawVariant.{RawVariant}
+use Rattle.hir_ids.specs.Ids.{BodyIdsExist}
+use Rattle.hir_raw.specs.Scope.{params_of, scope_of}
+use Rattle.hir_laws.specs.NoHoles.{definition_input_has_no_hole}
+use Rattle.hir_laws.specs.WrittenFits.{lets_fit, definition_inputs_fit}
+use Rattle.hir_laws.specs.LawfulFacts.{body_ids}
+use Rattle.hir_laws.proofs.Walkable.{inputs_count}
+use Rattle.hir_laws.specs.Lawful.{IsLawful}
+use Rattle.hir_raw.specs.declared.schedule.Schedule.{Schedule}
+use Rattle.hir_raw.specs.declared.raw.RawPath.TheVariants as path
+use Rattle.hir_raw.specs.declared.raw.RawPat.TheVariants as pat
 use Rattle.infer_result.specs.Closed.{IsVariantPat}
 use Rattle.infer_result.specs.declared.result.InferenceResult.{InferenceResult}
 use Rattle.infer_result.specs.Places.{Given}

@@ -9,11 +9,11 @@ use Rattle.hir_types.specs.Subst.{Assignment, with_holes, folded, each_itself}
 use Rattle.hir_types.specs.declared.ty.Ty.TheVariants as ty
 use Rattle.hir_types.specs.declared.head.Hole.TheVariants as hole_of
 use Rattle.hir_types.specs.declared.ty.IntTy.TheVariants as int
-use Rattle.hir_facts.specs.Scope.{has_params, callable_params, Scope, adt_params}
-use Rattle.hir_facts.specs.declared.raw.RawFacts.{RawFacts}
-use Rattle.hir_facts.specs.Signatures.{Signature, signature_of, type_args}
-use Rattle.hir_facts.specs.Fit.{ty_fits, arg_fits}
-use Rattle.hir_facts.specs.Fitting.{ty_fits_bool, ty_fits_char, ty_fits_int, ty_fits_uint, ty_fits_tuple, ty_fits_adt, ty_fits_fndef, ty_fits_param, arg_fits_ty, ty_fits_var, ty_fits_intvar, ty_fits_error}
+use Rattle.hir_raw.specs.Scope.{has_params, callable_params, Scope, adt_params}
+use Rattle.hir_raw.specs.declared.raw.RawFacts.{RawFacts}
+use Rattle.hir_raw.specs.Signatures.{Signature, signature_of, type_args}
+use Rattle.hir_raw.specs.Fit.{ty_fits, arg_fits}
+use Rattle.hir_raw.specs.Fitting.{ty_fits_bool, ty_fits_char, ty_fits_int, ty_fits_uint, ty_fits_tuple, ty_fits_adt, ty_fits_fndef, ty_fits_param, arg_fits_ty, ty_fits_var, ty_fits_intvar, ty_fits_error}
 use Rattle.infer_table.specs.Completion.{completion, fallback}
 use Rattle.infer_table.specs.Resolution.{resolution}
 use Rattle.infer_table.specs.Table.{bindings}

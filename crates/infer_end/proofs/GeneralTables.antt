@@ -10,13 +10,13 @@ use Rattle.hir_types.specs.declared.ids.TypeRefId.{TypeRefId}
 use Rattle.hir_types.specs.declared.ids.DefWithBodyId.{DefWithBodyId}
 use Rattle.hir_types.specs.Terms.{terms_of}
 use Rattle.hir_types.proofs.Equal.{ty_decides}
-use Rattle.hir_facts.specs.declared.raw.RawBody.{RawBody}
-use Rattle.hir_facts.specs.declared.raw.RawFacts.{RawFacts}
-use Rattle.hir_facts.specs.declared.schedule.Schedule.{Schedule}
-use Rattle.hir_facts.specs.Bodies.{body_id_of, inputs_of, return_type, IsWalkable}
-use Rattle.hir_facts.specs.Fit.{ty_fits}
-use Rattle.hir_facts.specs.Scope.{Scope, scope_of, params_of}
-use Rattle.hir_facts.specs.Plain.{IsPlainBody, IsPlainBodyOf}
+use Rattle.hir_raw.specs.declared.raw.RawBody.{RawBody}
+use Rattle.hir_raw.specs.declared.raw.RawFacts.{RawFacts}
+use Rattle.hir_raw.specs.declared.schedule.Schedule.{Schedule}
+use Rattle.hir_laws.specs.Bodies.{body_id_of, inputs_of, return_type, IsWalkable}
+use Rattle.hir_raw.specs.Fit.{ty_fits}
+use Rattle.hir_raw.specs.Scope.{Scope, scope_of, params_of}
+use Rattle.hir_plain.specs.Plain.{IsPlainBody, IsPlainBodyOf}
 use Rattle.infer_table.specs.Table.{bindings, State, resolved_type, Meets}
 use Rattle.infer_table.specs.Resolution.{resolution}
 use Rattle.infer_table.specs.Completion.{completion}

@@ -10,9 +10,9 @@ use Rattle.hir_types.specs.declared.ty.IntegerTy.TheVariants as integer
 use Rattle.hir_types.specs.declared.ty.Ty.TheVariants as ty
 use Rattle.hir_types.specs.declared.head.Hole.TheVariants as hole_of
 use Rattle.hir_facts.specs.CarriedTypes.{is_carried_type, IsCarriedType, carried_bool, carried_char, carried_integer, carried_tuple, carried_adt, carried_param}
-use Rattle.hir_facts.specs.Scope.{Scope, has_params, adt_params}
-use Rattle.hir_facts.specs.Signatures.{type_args}
-use Rattle.hir_facts.specs.PlainTypes.{IsPlainIn, plain_bool, plain_char, plain_integer, plain_tuple, plain_adt, plain_param}
+use Rattle.hir_raw.specs.Scope.{Scope, has_params, adt_params}
+use Rattle.hir_raw.specs.Signatures.{type_args}
+use Rattle.hir_plain.specs.PlainTypes.{IsPlainIn, plain_bool, plain_char, plain_integer, plain_tuple, plain_adt, plain_param}
 use Rattle.infer_table.proofs.CompletionLaws.{closing_meets, closing_respects as resolved_respects}
 use Rattle.infer_table.specs.Resolution.{resolution}
 use Rattle.infer_table.specs.Solutions.{Triangular, log_of}

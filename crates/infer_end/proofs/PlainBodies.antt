@@ -10,24 +10,24 @@ use Rattle.hir_types.specs.declared.ids.ExprId.{ExprId}
 use Rattle.hir_types.specs.declared.ids.DefWithBodyId.TheVariants as def
 use Rattle.hir_types.specs.declared.ids.CallableDefId.TheVariants as callable
 use Rattle.hir_types.specs.declared.ids.ExprOrPatId.TheVariants as node
-use Rattle.hir_facts.specs.declared.raw.RawBody.{RawBody}
-use Rattle.hir_facts.specs.declared.raw.RawFacts.{RawFacts}
-use Rattle.hir_facts.specs.Bodies.{body_of}
-use Rattle.hir_facts.specs.Scope.{params_of, adt_params}
-use Rattle.hir_facts.specs.Plain.{IsPlainBody, IsPlainBodyOf, IsPlainKind, IsPlainType, plain, IsPlainAdt, is_tuple_ctor, is_tuple_variant, is_item, IsPlainExpr, IsPlainStmt}
-use Rattle.hir_facts.specs.declared.raw.RawType.{RawType}
-use Rattle.hir_facts.specs.Types.{StandsIn, is_itself, in_part, type_parts}
-use Rattle.hir_facts.specs.declared.raw.RawCtor.{RawCtor}
-use Rattle.hir_facts.specs.declared.raw.RawVariant.{RawVariant}
-use Rattle.hir_facts.specs.declared.raw.RawStmt.{RawStmt}
-use Rattle.hir_facts.specs.declared.raw.RawExpr.{RawExpr}
-use Rattle.hir_facts.specs.Order.{callee, expr_part, inner, parts_of_expr, stmts_of}
-use Rattle.hir_facts.specs.Signatures.{fn_signature, field_types, own_adt, ctor_signature, signature_by}
-use Rattle.hir_facts.specs.declared.raw.RawType.TheVariants as type
-use Rattle.hir_facts.specs.declared.raw.RawCtor.TheVariants as ctor
-use Rattle.hir_facts.specs.declared.raw.RawStmt.TheVariants as stmt
-use Rattle.hir_facts.specs.declared.raw.RawPath.TheVariants as path
-use Rattle.hir_facts.specs.declared.raw.RawExpr.TheVariants as expr
+use Rattle.hir_raw.specs.declared.raw.RawBody.{RawBody}
+use Rattle.hir_raw.specs.declared.raw.RawFacts.{RawFacts}
+use Rattle.hir_laws.specs.Bodies.{body_of}
+use Rattle.hir_raw.specs.Scope.{params_of, adt_params}
+use Rattle.hir_plain.specs.Plain.{IsPlainBody, IsPlainBodyOf, IsPlainKind, IsPlainType, plain, IsPlainAdt, is_tuple_ctor, is_tuple_variant, is_item, IsPlainExpr, IsPlainStmt}
+use Rattle.hir_raw.specs.declared.raw.RawType.{RawType}
+use Rattle.hir_raw.specs.Types.{StandsIn, is_itself, in_part, type_parts}
+use Rattle.hir_raw.specs.declared.raw.RawCtor.{RawCtor}
+use Rattle.hir_raw.specs.declared.raw.RawVariant.{RawVariant}
+use Rattle.hir_raw.specs.declared.raw.RawStmt.{RawStmt}
+use Rattle.hir_raw.specs.declared.raw.RawExpr.{RawExpr}
+use Rattle.hir_raw.specs.Order.{callee, expr_part, inner, parts_of_expr, stmts_of}
+use Rattle.hir_raw.specs.Signatures.{fn_signature, field_types, own_adt, ctor_signature, signature_by}
+use Rattle.hir_raw.specs.declared.raw.RawType.TheVariants as type
+use Rattle.hir_raw.specs.declared.raw.RawCtor.TheVariants as ctor
+use Rattle.hir_raw.specs.declared.raw.RawStmt.TheVariants as stmt
+use Rattle.hir_raw.specs.declared.raw.RawPath.TheVariants as path
+use Rattle.hir_raw.specs.declared.raw.RawExpr.TheVariants as expr
 use Rattle.infer_result.specs.Places.{Given, IsPlaceholder}
 use Rattle.infer_result.specs.Kinds.Call.{IsPathToItem}
 

@@ -5,12 +5,12 @@ use Rattle.hir_types.specs.Subst.{Assignment, folded}
 use Rattle.hir_types.specs.declared.ty.IntegerTy.TheVariants.{Int}
 use Rattle.hir_types.specs.declared.ty.Ty.{Ty}
 use Rattle.hir_types.specs.declared.ty.IntTy.TheVariants as int
-use Rattle.hir_facts.specs.declared.raw.RawBody.{RawBody}
-use Rattle.hir_facts.specs.declared.raw.RawType.{RawType}
+use Rattle.hir_raw.specs.declared.raw.RawBody.{RawBody}
+use Rattle.hir_raw.specs.declared.raw.RawType.{RawType}
 use Rattle.hir_facts.specs.CarriedTypes.{carried_error, IsCarriedType}
-use Rattle.hir_facts.specs.Scope.{Scope}
-use Rattle.hir_facts.specs.Bodies.{IsWalkable}
-use Rattle.hir_facts.specs.declared.schedule.Schedule.{Schedule}
+use Rattle.hir_raw.specs.Scope.{Scope}
+use Rattle.hir_laws.specs.Bodies.{IsWalkable}
+use Rattle.hir_raw.specs.declared.schedule.Schedule.{Schedule}
 use Rattle.infer_table.specs.Completion.{fallback}
 use Rattle.infer_result.specs.Places.{Given}
 use Rattle.infer_result.specs.Made.{IsMade}

@@ -4,9 +4,9 @@ use Rattle.std.proofs.Math.ListN.{drop_of_length-le}
 use Rattle.std.proofs.lemmas.Option.{slice_get_read, slice_get_within}
 use Rattle.hir_types.specs.declared.ids.PatId.{PatId}
 use Rattle.hir_types.specs.declared.ty.Ty.{Ty}
-use Rattle.hir_facts.specs.declared.schedule.Schedule.{Schedule}
-use Rattle.hir_facts.specs.Order.{the_body, root, expr_part, param_parts, Part, parameter, pat_part}
-use Rattle.hir_facts.specs.Types.{written_type}
+use Rattle.hir_raw.specs.declared.schedule.Schedule.{Schedule}
+use Rattle.hir_raw.specs.Order.{the_body, root, expr_part, param_parts, Part, parameter, pat_part}
+use Rattle.hir_raw.specs.Types.{written_type}
 use Rattle.hir_facts.specs.CarriedTypes.{IsCarriedType}
 use Rattle.infer_result.specs.Places.{Given, PatIsAtOrMismatch}
 use Rattle.infer_result.specs.Incoming.{IsInput}

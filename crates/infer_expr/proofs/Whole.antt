@@ -7,11 +7,11 @@ use Rattle.hir_types.specs.declared.ids.ExprId.{ExprId}
 use Rattle.hir_types.specs.Subst.{Assignment}
 use Rattle.hir_types.specs.declared.ty.Ty.{Ty}
 use Rattle.hir_types.specs.declared.ids.ExprOrPatId.TheVariants as node
-use Rattle.hir_facts.specs.declared.raw.RawBody.{RawBody}
-use Rattle.hir_facts.specs.declared.schedule.Schedule.{Schedule}
-use Rattle.hir_facts.specs.Order.{inner, the_body, start, IsInBody, IsSchedule, root, expr_part, param_parts, body_parts, end}
-use Rattle.hir_facts.specs.declared.raw.RawType.{RawType}
-use Rattle.hir_facts.specs.Bodies.{IsWalkable}
+use Rattle.hir_raw.specs.declared.raw.RawBody.{RawBody}
+use Rattle.hir_raw.specs.declared.schedule.Schedule.{Schedule}
+use Rattle.hir_raw.specs.Order.{inner, the_body, start, IsInBody, IsSchedule, root, expr_part, param_parts, body_parts, end}
+use Rattle.hir_raw.specs.declared.raw.RawType.{RawType}
+use Rattle.hir_laws.specs.Bodies.{IsWalkable}
 use Rattle.hir_facts.specs.CarriedTypes.{IsCarriedType}
 use Rattle.infer_result.specs.Table.{At}
 use Rattle.infer_result.specs.Places.{Given}

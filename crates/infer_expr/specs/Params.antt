@@ -2,8 +2,8 @@
 use Rattle.std.specs.Prelude.{◌≡◌, length, ℕ, [], ◌∷◌, slice_get, Some}
 use Rattle.hir_types.specs.declared.ids.PatId.{PatId}
 use Rattle.hir_types.specs.declared.ty.Ty.{Ty}
-use Rattle.hir_facts.specs.declared.schedule.Schedule.{Schedule}
-use Rattle.hir_facts.specs.Order.{the_body, body_parts, expr_part, root}
+use Rattle.hir_raw.specs.declared.schedule.Schedule.{Schedule}
+use Rattle.hir_raw.specs.Order.{the_body, body_parts, expr_part, root}
 use Rattle.infer_result.specs.Places.{Given, PatIsAtOrMismatch}
 use Rattle.infer_result.specs.Incoming.{IsInput}
 use Rattle.infer_ctx.specs.Found.{Found}

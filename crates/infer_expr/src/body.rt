@@ -1,6 +1,6 @@
 //! The types of a body.
 ghost use Rattle.std.specs.Prelude.{◌≡◌, ◌<◌, IfOk, length};
-ghost use Rattle.hir_facts.specs.Bodies.{IsWalkable};
+ghost use Rattle.hir_laws.specs.Bodies.{IsWalkable};
 ghost use Rattle.hir_facts.specs.CarriedTypes.{IsCarriedType};
 ghost use Rattle.infer_ctx.specs.Fine.{HasFineHeads};
 ghost use Rattle.infer_ctx.specs.Under.{WrittenExist};

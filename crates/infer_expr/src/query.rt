@@ -1,6 +1,6 @@
 //! Inference of a body, from its facts to its table.
 ghost use Rattle.std.specs.Prelude.{IfOk};
-ghost use Rattle.hir_facts.specs.Bodies.{HasBody};
+ghost use Rattle.hir_laws.specs.Bodies.{HasBody};
 ghost use Rattle.infer_result.specs.Typed.{IsTableOf};
 ghost use Rattle.infer_result.specs.General.{HasGeneral};
 

@@ -4,8 +4,8 @@ use Rattle.std.proofs.lemmas.Option.{slice_get_read, slice_get_within, slice_get
 use Rattle.hir_types.specs.declared.ids.PatId.{PatId}
 use Rattle.hir_types.specs.declared.ids.VariantId.{VariantId}
 use Rattle.hir_types.specs.declared.ty.Ty.{Ty}
-use Rattle.hir_facts.specs.declared.raw.RawVariant.{RawVariant}
-use Rattle.hir_facts.specs.declared.schedule.Schedule.{Schedule}
+use Rattle.hir_raw.specs.declared.raw.RawVariant.{RawVariant}
+use Rattle.hir_raw.specs.declared.schedule.Schedule.{Schedule}
 use Rattle.hir_facts.specs.CarriedTypes.{IsCarriedType, AreCarriedTypes}
 use Rattle.infer_result.specs.Table.{PatTy}
 use Rattle.infer_result.specs.Places.{Given, PatIsAtOrMismatch}
@@ -22,11 +22,11 @@ use Rattle.infer_pat.proofs.Pats.{pat_rule_of}
 use Rattle.hir_types.specs.Subst.{Assignment, folded}
 use Rattle.hir_types.specs.declared.ty.GenericArg.{GenericArg}
 use Rattle.hir_types.specs.Folds.{map_twice}
-use Rattle.hir_facts.specs.declared.raw.RawField.{RawField}
-use Rattle.hir_facts.specs.Signatures.{field_types, type_args, at_args}
-use Rattle.hir_facts.specs.Types.{written_type}
-use Rattle.hir_facts.specs.declared.raw.RawPath.{RawPath}
-use Rattle.hir_facts.proofs.CarriedBodies.{ctor_pattern}
+use Rattle.hir_raw.specs.declared.raw.RawField.{RawField}
+use Rattle.hir_raw.specs.Signatures.{field_types, type_args, at_args}
+use Rattle.hir_raw.specs.Types.{written_type}
+use Rattle.hir_raw.specs.declared.raw.RawPath.{RawPath}
+use Rattle.hir_ids.proofs.CarriedBodies.{ctor_pattern}
 use Rattle.infer_table.proofs.UndoLaws.{grew_itself}
 use Rattle.infer_table.proofs.HoleLaws.{grew_twice}
 use Rattle.infer_table.specs.Table.{Grew}
@@ -48,8 +48,8 @@ use Rattle.infer_pat.proofs.CtorPats.{Counted, parts_counted, path_pat_done, par
 use Rattle.infer_pat.proofs.PatHoles.{FineEach, all_fine, carried_each}
 use Rattle.infer_pat.proofs.PatParts.{AtPat, begins_pats, comes_to_pat, past_pat, pats_past}
 use Rattle.hir_types.specs.declared.ids.ExprOrPatId.TheVariants as node
-use Rattle.hir_facts.specs.declared.raw.RawPat.TheVariants as pat
-use Rattle.hir_facts.specs.declared.raw.RawPath.TheVariants as path
+use Rattle.hir_raw.specs.declared.raw.RawPat.TheVariants as pat
+use Rattle.hir_raw.specs.declared.raw.RawPath.TheVariants as path
 use Rattle.infer_result.specs.declared.diagnostics.InferenceDiagnostic.TheVariants as diagnostic
 use Rattle.hir_types.specs.declared.ty.Ty.TheVariants as ty
 use Rattle.infer_ctx.specs.Context as context

@@ -8,7 +8,7 @@ use Rattle.hir_types.specs.Folding.{replaced_tuple}
 use Rattle.hir_types.specs.declared.ids.PatId.{PatId}
 use Rattle.hir_types.specs.declared.head.HoleKind.TheVariants as kind
 use Rattle.hir_types.specs.declared.ty.Ty.TheVariants as ty
-use Rattle.hir_facts.specs.Scope.{Scope}
+use Rattle.hir_raw.specs.Scope.{Scope}
 use Rattle.hir_facts.specs.CarriedTypes.{IsCarriedType, AreCarriedTypes, carried_tuple}
 use Rattle.infer_table.proofs.UndoLaws.{grew_itself}
 use Rattle.infer_table.proofs.HoleLaws.{grew_by_hole, grew_twice}

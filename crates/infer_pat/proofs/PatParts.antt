@@ -5,9 +5,9 @@ use Rattle.hir_types.specs.declared.ids.PatId.{PatId}
 use Rattle.hir_types.specs.declared.ids.ExprOrPatId.TheVariants as node
 use Rattle.hir_types.specs.declared.ty.Ty.{Ty}
 use Rattle.hir_types.specs.Subst.{Assignment}
-use Rattle.hir_facts.specs.declared.raw.RawPat.{RawPat}
-use Rattle.hir_facts.specs.declared.schedule.Schedule.{Schedule}
-use Rattle.hir_facts.specs.Order.{inner, after, pat_part, pat_parts, subpatterns, subpattern}
+use Rattle.hir_raw.specs.declared.raw.RawPat.{RawPat}
+use Rattle.hir_raw.specs.declared.schedule.Schedule.{Schedule}
+use Rattle.hir_raw.specs.Order.{inner, after, pat_part, pat_parts, subpatterns, subpattern}
 use Rattle.infer_result.specs.Closed.{IsOfBody}
 use Rattle.infer_result.specs.Places.{Given}
 use Rattle.infer_result.specs.Incoming.{Gives}

@@ -6,10 +6,10 @@ use Rattle.hir_types.specs.Subst.{Assignment, folded}
 use Rattle.hir_types.specs.declared.ids.BindingId.{BindingId}
 use Rattle.hir_types.specs.declared.ids.PatId.{PatId}
 use Rattle.hir_types.specs.declared.ids.ExprId.{ExprId}
-use Rattle.hir_facts.specs.declared.schedule.Schedule.{Schedule}
+use Rattle.hir_raw.specs.declared.schedule.Schedule.{Schedule}
 use Rattle.hir_facts.specs.CarriedTypes.{IsCarriedType}
-use Rattle.hir_facts.specs.Order.{Binds, binding_of}
-use Rattle.hir_facts.specs.declared.raw.RawPat.TheVariants as pat
+use Rattle.hir_raw.specs.Order.{Binds, binding_of}
+use Rattle.hir_raw.specs.declared.raw.RawPat.TheVariants as pat
 use Rattle.infer_table.proofs.HoleLaws.{grew_twice}
 use Rattle.infer_result.specs.Closed.{IsOfBody}
 use Rattle.infer_result.specs.Places.{Given}

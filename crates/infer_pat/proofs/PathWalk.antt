@@ -14,15 +14,15 @@ use Rattle.hir_types.specs.declared.ids.CallableDefId.TheVariants as callable
 use Rattle.hir_types.specs.declared.ty.Ty.TheVariants as ty
 use Rattle.hir_types.specs.declared.head.HoleKind.TheVariants as kind
 use Rattle.hir_types.specs.declared.ty.GenericArg.TheVariants as arg
-use Rattle.hir_facts.specs.declared.raw.RawPath.{RawPath}
-use Rattle.hir_facts.specs.declared.schedule.Schedule.{Schedule}
+use Rattle.hir_raw.specs.declared.raw.RawPath.{RawPath}
+use Rattle.hir_raw.specs.declared.schedule.Schedule.{Schedule}
 use Rattle.hir_facts.specs.CarriedTypes.{IsCarriedType}
-use Rattle.hir_facts.specs.declared.raw.RawFn.{RawFn}
-use Rattle.hir_facts.specs.Scope.{has_params, fn_params, adt_params, Scope}
-use Rattle.hir_facts.specs.Signatures.{type_args, Signature, signature_of, ctor_type}
-use Rattle.hir_facts.specs.declared.raw.RawPath.TheVariants as path
-use Rattle.hir_facts.specs.declared.raw.RawExpr.TheVariants as expr
-use Rattle.hir_facts.specs.declared.raw.RawCtor.TheVariants as ctor
+use Rattle.hir_raw.specs.declared.raw.RawFn.{RawFn}
+use Rattle.hir_raw.specs.Scope.{has_params, fn_params, adt_params, Scope}
+use Rattle.hir_raw.specs.Signatures.{type_args, Signature, signature_of, ctor_type}
+use Rattle.hir_raw.specs.declared.raw.RawPath.TheVariants as path
+use Rattle.hir_raw.specs.declared.raw.RawExpr.TheVariants as expr
+use Rattle.hir_raw.specs.declared.raw.RawCtor.TheVariants as ctor
 use Rattle.infer_table.proofs.UndoLaws.{grew_itself}
 use Rattle.infer_table.specs.Table.{hole_count}
 use Rattle.infer_result.specs.declared.result.InferenceResult.{InferenceResult}

@@ -6,11 +6,11 @@ use Rattle.hir_types.specs.declared.ty.Ty.{Ty}
 use Rattle.hir_types.specs.declared.ids.BindingId.{BindingId}
 use Rattle.hir_types.specs.declared.ids.ExprId.{ExprId}
 use Rattle.hir_types.specs.declared.ids.ExprOrPatId.TheVariants as node
-use Rattle.hir_facts.specs.declared.raw.RawPat.{RawPat}
-use Rattle.hir_facts.specs.declared.schedule.Schedule.{Schedule}
+use Rattle.hir_raw.specs.declared.raw.RawPat.{RawPat}
+use Rattle.hir_raw.specs.declared.schedule.Schedule.{Schedule}
 use Rattle.hir_facts.specs.CarriedTypes.{IsCarriedType, same_carried}
-use Rattle.hir_facts.specs.Order.{after, binding_of, pat_parts, inner, expr_part, pattern_literal, part_at, parts_of_pat}
-use Rattle.hir_facts.specs.declared.raw.RawPat.TheVariants as pat
+use Rattle.hir_raw.specs.Order.{after, binding_of, pat_parts, inner, expr_part, pattern_literal, part_at, parts_of_pat}
+use Rattle.hir_raw.specs.declared.raw.RawPat.TheVariants as pat
 use Rattle.infer_result.specs.declared.result.InferenceResult.{InferenceResult}
 use Rattle.infer_result.specs.Places.{Given, MisfitsAs}
 use Rattle.infer_result.specs.Demands.{Demand}

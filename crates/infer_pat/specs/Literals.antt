@@ -10,11 +10,11 @@ use Rattle.hir_types.specs.Types.{integer_type}
 use Rattle.hir_types.specs.Subst.{Assignment, folded}
 use Rattle.hir_types.specs.declared.ty.Ty.TheVariants as ty
 use Rattle.hir_types.specs.declared.ty.UintTy.TheVariants as uint
-use Rattle.hir_facts.specs.Scope.{Scope}
-use Rattle.hir_facts.specs.declared.raw.RawExpr.{RawExpr}
-use Rattle.hir_facts.specs.declared.raw.RawExpr.TheVariants as expr
-use Rattle.hir_facts.specs.declared.raw.RawLiteral.{RawLiteral}
-use Rattle.hir_facts.specs.declared.raw.RawLiteral.TheVariants as literal
+use Rattle.hir_raw.specs.Scope.{Scope}
+use Rattle.hir_raw.specs.declared.raw.RawExpr.{RawExpr}
+use Rattle.hir_raw.specs.declared.raw.RawExpr.TheVariants as expr
+use Rattle.hir_raw.specs.declared.raw.RawLiteral.{RawLiteral}
+use Rattle.hir_raw.specs.declared.raw.RawLiteral.TheVariants as literal
 use Rattle.infer_table.specs.Table.{State, resolved_type, Grew, hole_count}
 use Rattle.infer_result.specs.Kinds.Literal.{IsLiteralType, IsOwnType}
 use Rattle.infer_ctx.specs.declared.context.InferenceContext.{InferenceContext}

@@ -1,6 +1,6 @@
 //! The types of paths.
 ghost use Rattle.std.specs.Prelude.{IfOk};
-ghost use Rattle.hir_facts.specs.declared.raw.RawPath.TheVariants as path;
+ghost use Rattle.hir_raw.specs.declared.raw.RawPath.TheVariants as path;
 ghost use Rattle.infer_result.specs.Closed.{IsOfBody};
 ghost use Rattle.infer_ctx.specs.Closings.{IsSound};
 ghost use Rattle.infer_ctx.specs.Context.{given_of, scope_in};

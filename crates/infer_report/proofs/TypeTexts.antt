@@ -20,7 +20,7 @@ use Rattle.hir_types.specs.declared.ty.TraitRef.{TraitRef}
 use Rattle.hir_types.specs.declared.ty.AliasBound.{AliasBound}
 use Rattle.hir_types.specs.declared.ty.Ty.{Ty, Ty-F, fold-roll-Ty}
 use Rattle.hir_types.specs.declared.ty.Ty.TheVariants as ty
-use Rattle.hir_facts.specs.declared.raw.RawFacts.{RawFacts}
+use Rattle.hir_raw.specs.declared.raw.RawFacts.{RawFacts}
 use Rattle.infer_result.specs.Report.{int_text, uint_text, float_text, const_text, ref_text, ptr_text, label_text, safety_text, callable_text, tuple_text, joined, args_text, adt_text, text_arg, text_step, text_bound, text_trait, arg_text, ty_text}
 
 pub bool_text_is : (raw : RawFacts) → ty_text raw ty.Bool ≡ codes "bool"

@@ -7,9 +7,9 @@ use Rattle.hir_types.specs.declared.ty.Ty.{Ty}
 use Rattle.hir_types.specs.declared.ty.Ty.TheVariants as ty
 use Rattle.hir_types.specs.Erasure.{Same}
 use Rattle.hir_types.specs.Instances.{param_at}
-use Rattle.hir_facts.specs.declared.raw.RawExpr.{RawExpr}
-use Rattle.hir_facts.specs.declared.raw.RawExpr.TheVariants as expr
-use Rattle.hir_facts.specs.Signatures.{Signature, at_args}
+use Rattle.hir_raw.specs.declared.raw.RawExpr.{RawExpr}
+use Rattle.hir_raw.specs.declared.raw.RawExpr.TheVariants as expr
+use Rattle.hir_raw.specs.Signatures.{Signature, at_args}
 use Rattle.infer_result.specs.declared.result.InferenceResult.{InferenceResult}
 use Rattle.infer_result.specs.declared.diagnostics.InferenceDiagnostic.{InferenceDiagnostic}
 use Rattle.infer_result.specs.Unknown.{has_unknown}

@@ -16,33 +16,33 @@ use Rattle.hir_types.specs.declared.ty.GenericArg.{GenericArg, GenericArg-F, out
 use Rattle.hir_types.specs.declared.ty.GenericArg.TheVariants as arg
 use Rattle.hir_types.specs.declared.ty.Ty.{Ty, Ty-F, out-Ty, out-roll-Ty}
 use Rattle.hir_types.specs.declared.ty.Ty.TheVariants as ty
-use Rattle.hir_facts.specs.declared.raw.RawLiteral.{RawLiteral}
-use Rattle.hir_facts.specs.declared.raw.RawLiteral.TheVariants as literal
-use Rattle.hir_facts.specs.declared.raw.RawPath.{RawPath}
-use Rattle.hir_facts.specs.declared.raw.RawPath.TheVariants as path
-use Rattle.hir_facts.specs.declared.raw.RawStmt.{RawStmt}
-use Rattle.hir_facts.specs.declared.raw.RawStmt.TheVariants as stmt
-use Rattle.hir_facts.specs.declared.raw.RawArm.{RawArm}
-use Rattle.hir_facts.specs.declared.raw.RawExpr.{RawExpr}
-use Rattle.hir_facts.specs.declared.raw.RawExpr.TheVariants as expr
-use Rattle.hir_facts.specs.declared.raw.RawPat.{RawPat}
-use Rattle.hir_facts.specs.declared.raw.RawPat.TheVariants as pat
-use Rattle.hir_facts.specs.declared.raw.RawBody.{RawBody}
-use Rattle.hir_facts.specs.declared.raw.RawFn.{RawFn}
-use Rattle.hir_facts.specs.declared.raw.RawFacts.{RawFacts}
-use Rattle.hir_facts.specs.declared.raw.RawType.{RawType}
-use Rattle.hir_facts.specs.declared.raw.RawCtor.{RawCtor}
-use Rattle.hir_facts.specs.declared.raw.RawCtor.TheVariants as ctor
-use Rattle.hir_facts.specs.declared.raw.RawVariant.{RawVariant}
+use Rattle.hir_raw.specs.declared.raw.RawLiteral.{RawLiteral}
+use Rattle.hir_raw.specs.declared.raw.RawLiteral.TheVariants as literal
+use Rattle.hir_raw.specs.declared.raw.RawPath.{RawPath}
+use Rattle.hir_raw.specs.declared.raw.RawPath.TheVariants as path
+use Rattle.hir_raw.specs.declared.raw.RawStmt.{RawStmt}
+use Rattle.hir_raw.specs.declared.raw.RawStmt.TheVariants as stmt
+use Rattle.hir_raw.specs.declared.raw.RawArm.{RawArm}
+use Rattle.hir_raw.specs.declared.raw.RawExpr.{RawExpr}
+use Rattle.hir_raw.specs.declared.raw.RawExpr.TheVariants as expr
+use Rattle.hir_raw.specs.declared.raw.RawPat.{RawPat}
+use Rattle.hir_raw.specs.declared.raw.RawPat.TheVariants as pat
+use Rattle.hir_raw.specs.declared.raw.RawBody.{RawBody}
+use Rattle.hir_raw.specs.declared.raw.RawFn.{RawFn}
+use Rattle.hir_raw.specs.declared.raw.RawFacts.{RawFacts}
+use Rattle.hir_raw.specs.declared.raw.RawType.{RawType}
+use Rattle.hir_raw.specs.declared.raw.RawCtor.{RawCtor}
+use Rattle.hir_raw.specs.declared.raw.RawCtor.TheVariants as ctor
+use Rattle.hir_raw.specs.declared.raw.RawVariant.{RawVariant}
 use Rattle.hir_types.specs.Types.{unit}
-use Rattle.hir_facts.specs.Types.{written_type}
+use Rattle.hir_raw.specs.Types.{written_type}
 use Rattle.hir_facts.specs.Filled.{filled_written}
-use Rattle.hir_facts.specs.Scope.{names_item, adt_params}
-use Rattle.hir_facts.specs.Signatures.{Signature, fn_signature, ctor_signature, ctor_type, signature_of, type_args, at_args}
+use Rattle.hir_raw.specs.Scope.{names_item, adt_params}
+use Rattle.hir_raw.specs.Signatures.{Signature, fn_signature, ctor_signature, ctor_type, signature_of, type_args, at_args}
 use Rattle.hir_types.specs.Erasure.{erased}
-use Rattle.hir_facts.specs.declared.schedule.Schedule.{Schedule}
-use Rattle.hir_facts.proofs.Ways.{one_place}
-use Rattle.hir_facts.specs.Order.{Role, root, initializer, let_pattern, argument, Part, Node, the_body, inner, IsNode, IsSchedule, part_at, stmts_of, stmt_at}
+use Rattle.hir_raw.specs.declared.schedule.Schedule.{Schedule}
+use Rattle.hir_raw.proofs.Ways.{one_place}
+use Rattle.hir_raw.specs.Order.{Role, root, initializer, let_pattern, argument, Part, Node, the_body, inner, IsNode, IsSchedule, part_at, stmts_of, stmt_at}
 use Rattle.infer_result.specs.declared.result.InferenceResult.{InferenceResult}
 use Rattle.infer_result.specs.declared.result.TypeMismatch.{TypeMismatch}
 use Rattle.infer_result.specs.declared.diagnostics.InferenceDiagnostic.TheVariants as diagnostic

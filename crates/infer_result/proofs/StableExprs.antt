@@ -13,19 +13,19 @@ use Rattle.hir_types.specs.Folding.{replaced_bool, replaced_char}
 use Rattle.hir_types.specs.Instances.{instance_at_types}
 use Rattle.hir_types.specs.Subst.{Assignment, with_holes, folded}
 use Rattle.hir_types.specs.Types.{unit}
-use Rattle.hir_facts.specs.declared.raw.RawArm.{RawArm}
-use Rattle.hir_facts.specs.declared.raw.RawExpr.{RawExpr}
-use Rattle.hir_facts.specs.declared.raw.RawExpr.TheVariants as expr
-use Rattle.hir_facts.specs.declared.raw.RawLiteral.{RawLiteral}
-use Rattle.hir_facts.specs.declared.raw.RawLiteral.TheVariants as literal
-use Rattle.hir_facts.specs.declared.raw.RawPat.{RawPat}
-use Rattle.hir_facts.specs.declared.raw.RawPat.TheVariants as pat
-use Rattle.hir_facts.specs.declared.raw.RawPath.{RawPath}
-use Rattle.hir_facts.specs.declared.raw.RawPath.TheVariants as path
-use Rattle.hir_facts.specs.declared.raw.RawStmt.{RawStmt}
-use Rattle.hir_facts.specs.declared.raw.RawStmt.TheVariants as stmt
-use Rattle.hir_facts.specs.Laws.Lawful.{IsLawful}
-use Rattle.hir_facts.specs.Signatures.{Signature, at_args}
+use Rattle.hir_raw.specs.declared.raw.RawArm.{RawArm}
+use Rattle.hir_raw.specs.declared.raw.RawExpr.{RawExpr}
+use Rattle.hir_raw.specs.declared.raw.RawExpr.TheVariants as expr
+use Rattle.hir_raw.specs.declared.raw.RawLiteral.{RawLiteral}
+use Rattle.hir_raw.specs.declared.raw.RawLiteral.TheVariants as literal
+use Rattle.hir_raw.specs.declared.raw.RawPat.{RawPat}
+use Rattle.hir_raw.specs.declared.raw.RawPat.TheVariants as pat
+use Rattle.hir_raw.specs.declared.raw.RawPath.{RawPath}
+use Rattle.hir_raw.specs.declared.raw.RawPath.TheVariants as path
+use Rattle.hir_raw.specs.declared.raw.RawStmt.{RawStmt}
+use Rattle.hir_raw.specs.declared.raw.RawStmt.TheVariants as stmt
+use Rattle.hir_laws.specs.Lawful.{IsLawful}
+use Rattle.hir_raw.specs.Signatures.{Signature, at_args}
 use Rattle.infer_result.specs.declared.result.InferenceResult.{InferenceResult}
 use Rattle.infer_result.specs.declared.diagnostics.InferenceDiagnostic.TheVariants as diagnostic
 use Rattle.infer_result.specs.Table.{At, MismatchAt, mismatch}

@@ -11,21 +11,21 @@ use Rattle.hir_types.specs.declared.ty.Ty.TheVariants as ty
 use Rattle.hir_types.specs.Subst.{Assignment, with_holes, folded}
 use Rattle.hir_types.specs.Folding.{replaced_adt, replaced_error, replaced_param}
 use Rattle.hir_types.specs.Instances.{types_args_folded, instance_at_types}
-use Rattle.hir_facts.specs.declared.raw.RawCtor.{RawCtor}
-use Rattle.hir_facts.specs.declared.raw.RawCtor.TheVariants as ctor
-use Rattle.hir_facts.specs.declared.raw.RawField.{RawField}
-use Rattle.hir_facts.specs.declared.raw.RawFn.{RawFn}
-use Rattle.hir_facts.specs.declared.raw.RawType.{RawType}
-use Rattle.hir_facts.specs.declared.raw.RawVariant.{RawVariant}
-use Rattle.hir_facts.specs.declared.raw.RawFacts.{RawFacts}
-use Rattle.hir_facts.specs.Bodies.{output_by, return_type, inputs_of}
+use Rattle.hir_raw.specs.declared.raw.RawCtor.{RawCtor}
+use Rattle.hir_raw.specs.declared.raw.RawCtor.TheVariants as ctor
+use Rattle.hir_raw.specs.declared.raw.RawField.{RawField}
+use Rattle.hir_raw.specs.declared.raw.RawFn.{RawFn}
+use Rattle.hir_raw.specs.declared.raw.RawType.{RawType}
+use Rattle.hir_raw.specs.declared.raw.RawVariant.{RawVariant}
+use Rattle.hir_raw.specs.declared.raw.RawFacts.{RawFacts}
+use Rattle.hir_laws.specs.Bodies.{output_by, return_type, inputs_of}
 use Rattle.hir_facts.specs.Filled.{filled_written, filled_folded}
-use Rattle.hir_facts.specs.Laws.Lawful.{IsLawful}
-use Rattle.hir_facts.specs.Laws.Standing.{HasNoHole}
-use Rattle.hir_facts.specs.NoHoles.{input_has_no_hole, output_has_no_hole, field_has_no_hole, definition_input_has_no_hole}
-use Rattle.hir_facts.specs.Scope.{adt_params}
-use Rattle.hir_facts.specs.Signatures.{Signature, fn_signature, signature_of, signature_by, ctor_signature, field_types, own_adt, params_from, type_args, at_args}
-use Rattle.hir_facts.specs.Types.{written_type}
+use Rattle.hir_laws.specs.Lawful.{IsLawful}
+use Rattle.hir_counts.specs.Standing.{HasNoHole}
+use Rattle.hir_laws.specs.NoHoles.{input_has_no_hole, output_has_no_hole, field_has_no_hole, definition_input_has_no_hole}
+use Rattle.hir_raw.specs.Scope.{adt_params}
+use Rattle.hir_raw.specs.Signatures.{Signature, fn_signature, signature_of, signature_by, ctor_signature, field_types, own_adt, params_from, type_args, at_args}
+use Rattle.hir_raw.specs.Types.{written_type}
 
 -- no assignment changes the type
 abbrev pub IsUnchanged : Ty → Type 0

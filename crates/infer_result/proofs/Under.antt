@@ -21,11 +21,11 @@ use Rattle.hir_types.specs.Subst.{Assignment, with_holes, folded, composed}
 use Rattle.hir_types.specs.TermLaws.{term_folded}
 use Rattle.hir_types.specs.Terms.{apply, terms_of}
 use Rattle.hir_types.specs.Types.{integer_type, unit}
-use Rattle.hir_facts.specs.declared.raw.RawCtor.{RawCtor}
-use Rattle.hir_facts.specs.declared.raw.RawCtor.TheVariants as ctor
-use Rattle.hir_facts.specs.declared.raw.RawVariant.{RawVariant}
+use Rattle.hir_raw.specs.declared.raw.RawCtor.{RawCtor}
+use Rattle.hir_raw.specs.declared.raw.RawCtor.TheVariants as ctor
+use Rattle.hir_raw.specs.declared.raw.RawVariant.{RawVariant}
 use Rattle.hir_facts.specs.Filled.{filled_agree, filled_folded}
-use Rattle.hir_facts.specs.Signatures.{type_args, ctor_type_by, ctor_type}
+use Rattle.hir_raw.specs.Signatures.{type_args, ctor_type_by, ctor_type}
 use Rattle.infer_result.specs.declared.result.InferenceResult.{InferenceResult}
 use Rattle.infer_result.specs.declared.result.TypeMismatch.{TypeMismatch}
 use Rattle.infer_result.specs.declared.diagnostics.InferenceDiagnostic.{InferenceDiagnostic}

@@ -7,13 +7,13 @@ use Rattle.hir_types.specs.declared.ids.CallableDefId.{CallableDefId}
 use Rattle.hir_types.specs.declared.ids.DefWithBodyId.{DefWithBodyId}
 use Rattle.hir_types.specs.declared.ty.Ty.{Ty}
 use Rattle.hir_types.specs.declared.ty.Ty.TheVariants as ty
-use Rattle.hir_facts.specs.declared.raw.RawExpr.TheVariants as expr
-use Rattle.hir_facts.specs.declared.raw.RawBody.{RawBody}
-use Rattle.hir_facts.specs.declared.raw.RawFacts.{RawFacts}
-use Rattle.hir_facts.specs.Bodies.{body_of}
-use Rattle.hir_facts.specs.Scope.{Scope, scope_of}
-use Rattle.hir_facts.specs.Signatures.{type_args}
-use Rattle.hir_facts.specs.PlainTypes.{IsPlainIn, ArePlainIn}
+use Rattle.hir_raw.specs.declared.raw.RawExpr.TheVariants as expr
+use Rattle.hir_raw.specs.declared.raw.RawBody.{RawBody}
+use Rattle.hir_raw.specs.declared.raw.RawFacts.{RawFacts}
+use Rattle.hir_laws.specs.Bodies.{body_of}
+use Rattle.hir_raw.specs.Scope.{Scope, scope_of}
+use Rattle.hir_raw.specs.Signatures.{type_args}
+use Rattle.hir_plain.specs.PlainTypes.{IsPlainIn, ArePlainIn}
 use Rattle.infer_result.specs.declared.result.InferenceResult.{InferenceResult}
 use Rattle.infer_result.specs.declared.result.TypeMismatch.{TypeMismatch}
 use Rattle.infer_result.specs.declared.diagnostics.InferenceDiagnostic.{InferenceDiagnostic}

@@ -16,13 +16,13 @@ use Rattle.hir_types.specs.declared.ids.AdtId.{AdtId}
 use Rattle.hir_types.specs.declared.ty.GenericArg.TheVariants as arg
 use Rattle.hir_types.specs.declared.ty.Ty.{Ty, Ty-F, out-Ty, out-roll-Ty}
 use Rattle.hir_types.specs.declared.ty.Ty.TheVariants as ty
-use Rattle.hir_facts.specs.declared.raw.RawType.{RawType}
-use Rattle.hir_facts.specs.declared.raw.RawType.TheVariants as type
-use Rattle.hir_facts.specs.declared.raw.RawPath.TheVariants as path
-use Rattle.hir_facts.specs.declared.raw.RawExpr.TheVariants as expr
-use Rattle.hir_facts.specs.declared.raw.RawVariant.{RawVariant}
-use Rattle.hir_facts.specs.Types.{lowered_by, lowered_within, written_type, filled_by, filled_within, filled_type}
-use Rattle.hir_facts.specs.Signatures.{Signature, ctor_type}
+use Rattle.hir_raw.specs.declared.raw.RawType.{RawType}
+use Rattle.hir_raw.specs.declared.raw.RawType.TheVariants as type
+use Rattle.hir_raw.specs.declared.raw.RawPath.TheVariants as path
+use Rattle.hir_raw.specs.declared.raw.RawExpr.TheVariants as expr
+use Rattle.hir_raw.specs.declared.raw.RawVariant.{RawVariant}
+use Rattle.hir_raw.specs.Types.{lowered_by, lowered_within, written_type, filled_by, filled_within, filled_type}
+use Rattle.hir_raw.specs.Signatures.{Signature, ctor_type}
 use Rattle.infer_result.specs.Places.{Given}
 use Rattle.infer_result.specs.Incoming.{IsInput}
 use Rattle.infer_result.specs.Kinds.Call.{CallsItem}

@@ -4,8 +4,8 @@ use Rattle.hir_types.specs.declared.ids.PatId.{PatId}
 use Rattle.hir_types.specs.declared.ids.TypeRefId.{TypeRefId}
 use Rattle.hir_types.specs.declared.ty.Ty.{Ty}
 use Rattle.hir_types.specs.declared.ids.ExprOrPatId.TheVariants as node
-use Rattle.hir_facts.specs.Types.{written_type}
-use Rattle.hir_facts.specs.Order.{Role, parameter, let_pattern, arm_pattern, subpattern, Node, inner}
+use Rattle.hir_raw.specs.Types.{written_type}
+use Rattle.hir_raw.specs.Order.{Role, parameter, let_pattern, arm_pattern, subpattern, Node, inner}
 use Rattle.infer_result.specs.declared.result.InferenceResult.{InferenceResult}
 use Rattle.infer_result.specs.Table.{HasTy}
 use Rattle.infer_result.specs.Places.{Given, StandsAt, IsDeclared}

@@ -5,7 +5,7 @@ use Rattle.hir_types.specs.declared.ids.PatId.{PatId}
 use Rattle.hir_types.specs.declared.ty.Ty.{Ty}
 use Rattle.hir_types.specs.Types.{unit}
 use Rattle.hir_types.specs.Erasure.{Same}
-use Rattle.hir_facts.specs.Order.{element}
+use Rattle.hir_raw.specs.Order.{element}
 use Rattle.infer_result.specs.declared.result.InferenceResult.{InferenceResult}
 use Rattle.infer_result.specs.declared.diagnostics.InferenceDiagnostic.TheVariants as diagnostic
 use Rattle.infer_result.specs.Table.{HasMismatch, MismatchAt, AnyMismatch, HasDiagnostic, WasSeen}

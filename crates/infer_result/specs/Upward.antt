@@ -6,13 +6,13 @@ use Rattle.hir_types.specs.declared.ty.Ty.{Ty}
 use Rattle.hir_types.specs.Erasure.{Same}
 use Rattle.hir_types.specs.declared.ids.ExprOrPatId.TheVariants as node
 use Rattle.hir_types.specs.declared.ty.Ty.TheVariants as ty
-use Rattle.hir_facts.specs.declared.raw.RawVariant.{RawVariant}
-use Rattle.hir_facts.specs.Types.{written_type}
-use Rattle.hir_facts.specs.Signatures.{Signature, at_args}
-use Rattle.hir_facts.specs.Order.{Role, root, initializer, argument, Node}
-use Rattle.hir_facts.specs.declared.raw.RawLiteral.{RawLiteral}
-use Rattle.hir_facts.specs.Laws.Standing.{HasNoHole}
-use Rattle.hir_facts.specs.declared.raw.RawExpr.TheVariants as expr
+use Rattle.hir_raw.specs.declared.raw.RawVariant.{RawVariant}
+use Rattle.hir_raw.specs.Types.{written_type}
+use Rattle.hir_raw.specs.Signatures.{Signature, at_args}
+use Rattle.hir_raw.specs.Order.{Role, root, initializer, argument, Node}
+use Rattle.hir_raw.specs.declared.raw.RawLiteral.{RawLiteral}
+use Rattle.hir_counts.specs.Standing.{HasNoHole}
+use Rattle.hir_raw.specs.declared.raw.RawExpr.TheVariants as expr
 use Rattle.infer_result.specs.Places.{Given, StandsAt}
 use Rattle.infer_result.specs.Incoming.{IsInput}
 use Rattle.infer_result.specs.Kinds.Literal.{IsOwnType}

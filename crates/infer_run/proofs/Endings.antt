@@ -3,14 +3,14 @@ use Rattle.std.proofs.Common.{◌≡◌, ◌≤◌, ◌<◌, nat_lt, length, ℕ
 use Rattle.std.proofs.lemmas.Bool.Decides.{nat_tests}
 use Rattle.std.specs.Prelude.{if◌then◌else◌}
 use Rattle.std.specs.Io.KnownBytes.{Appends, Consumes, IsAtEnd, Keeps}
-use Rattle.hir_facts.specs.Bodies.{HasBody}
+use Rattle.hir_laws.specs.Bodies.{HasBody}
 use Rattle.infer_result.specs.declared.result.InferenceResult.{InferenceResult}
 use Rattle.infer_result.specs.Report.{report, complaint_count}
 use Rattle.infer_result.specs.Typed.{IsTableOf}
 use Rattle.infer_result.specs.General.{HasGeneral}
 use Rattle.infer_run.specs.Causes.{Rose}
 use Rattle.hir_types.specs.declared.ids.DefWithBodyId.{DefWithBodyId}
-use Rattle.hir_facts.specs.declared.raw.RawFacts.{RawFacts}
+use Rattle.hir_raw.specs.declared.raw.RawFacts.{RawFacts}
 use Rattle.infer_text.specs.declared.fault.ReadError.{ReadError}
 use Rattle.infer_text.specs.declared.fault.ReadError.TheVariants as error
 use Rattle.infer_run.specs.declared.running.Ran.{Ran}

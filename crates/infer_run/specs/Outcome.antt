@@ -2,10 +2,10 @@
 use Rattle.std.specs.Prelude.{◌≡◌, ◌==◌, ◌||◌, ◌&&◌, ◌<◌, ◌≤◌, ◌+◌, ◌↔◌, ℕ, List, length, take, Bool, Option, Some, Err, is_some, nat_lt, nat_le, if◌then◌else◌}
 use Rattle.std.specs.Io.KnownBytes.{Appends, Consumes, IsAtEnd, Keeps}
 use Rattle.hir_types.specs.declared.ids.DefWithBodyId.{DefWithBodyId}
-use Rattle.hir_facts.specs.declared.raw.RawFacts.{RawFacts}
-use Rattle.hir_facts.specs.declared.laws.Law.{Law}
-use Rattle.hir_facts.specs.declared.laws.FactsList.{FactsList}
-use Rattle.hir_facts.specs.Bodies.{HasBody}
+use Rattle.hir_raw.specs.declared.raw.RawFacts.{RawFacts}
+use Rattle.hir_laws.specs.declared.laws.Law.{Law}
+use Rattle.hir_laws.specs.declared.laws.FactsList.{FactsList}
+use Rattle.hir_laws.specs.Bodies.{HasBody}
 use Rattle.infer_result.specs.declared.result.InferenceResult.{InferenceResult}
 use Rattle.infer_result.specs.Typed.{IsTableOf}
 use Rattle.infer_result.specs.General.{HasGeneral}

@@ -7,19 +7,19 @@ use Rattle.serde_json.specs.Find.{as_str, as_object}
 use Rattle.hir_types.specs.declared.ids.AdtId.{AdtId}
 use Rattle.hir_types.specs.declared.ids.TypeRefId.{TypeRefId}
 use Rattle.hir_types.specs.declared.ty.IntegerTy.{IntegerTy}
-use Rattle.hir_facts.specs.declared.raw.RawType.{RawType}
-use Rattle.hir_facts.specs.declared.raw.RawType.TheVariants as type
-use Rattle.hir_facts.specs.declared.raw.RawAt.{RawAt}
-use Rattle.hir_facts.specs.declared.raw.RawAt.TheVariants as stands
-use Rattle.hir_facts.specs.declared.raw.RawVis.{RawVis}
-use Rattle.hir_facts.specs.declared.raw.RawVis.TheVariants as vis
-use Rattle.hir_facts.specs.declared.raw.RawParam.{RawParam}
-use Rattle.hir_facts.specs.declared.raw.RawParam.TheVariants as param
-use Rattle.hir_facts.specs.declared.raw.RawAdt.{RawAdt}
-use Rattle.hir_facts.specs.declared.raw.RawField.{RawField}
-use Rattle.hir_facts.specs.declared.raw.RawVariant.{RawVariant}
-use Rattle.hir_facts.specs.declared.raw.RawFn.{RawFn}
-use Rattle.hir_facts.specs.declared.raw.RawLimits.{RawLimits}
+use Rattle.hir_raw.specs.declared.raw.RawType.{RawType}
+use Rattle.hir_raw.specs.declared.raw.RawType.TheVariants as type
+use Rattle.hir_raw.specs.declared.raw.RawAt.{RawAt}
+use Rattle.hir_raw.specs.declared.raw.RawAt.TheVariants as stands
+use Rattle.hir_raw.specs.declared.raw.RawVis.{RawVis}
+use Rattle.hir_raw.specs.declared.raw.RawVis.TheVariants as vis
+use Rattle.hir_raw.specs.declared.raw.RawParam.{RawParam}
+use Rattle.hir_raw.specs.declared.raw.RawParam.TheVariants as param
+use Rattle.hir_raw.specs.declared.raw.RawAdt.{RawAdt}
+use Rattle.hir_raw.specs.declared.raw.RawField.{RawField}
+use Rattle.hir_raw.specs.declared.raw.RawVariant.{RawVariant}
+use Rattle.hir_raw.specs.declared.raw.RawFn.{RawFn}
+use Rattle.hir_raw.specs.declared.raw.RawLimits.{RawLimits}
 use Rattle.infer_text.specs.declared.entries.Arg.{Arg}
 use Rattle.infer_text.specs.declared.entries.Arg.TheVariants as argument
 use Rattle.infer_text.specs.declared.entries.Lang.{Lang}

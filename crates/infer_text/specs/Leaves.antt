@@ -15,15 +15,15 @@ use Rattle.hir_types.specs.declared.ids.ExprId.{ExprId}
 use Rattle.hir_types.specs.declared.ids.PatId.{PatId}
 use Rattle.hir_types.specs.declared.ids.BindingId.{BindingId}
 use Rattle.hir_types.specs.declared.ids.LabelId.{LabelId}
-use Rattle.hir_facts.specs.declared.raw.Other.{Other}
-use Rattle.hir_facts.specs.declared.raw.Edition.{Edition}
-use Rattle.hir_facts.specs.declared.raw.Edition.TheVariants as edition
-use Rattle.hir_facts.specs.declared.raw.RawAdtKind.{RawAdtKind}
-use Rattle.hir_facts.specs.declared.raw.RawAdtKind.TheVariants as kind
-use Rattle.hir_facts.specs.declared.raw.RawCtor.{RawCtor}
-use Rattle.hir_facts.specs.declared.raw.RawCtor.TheVariants as ctor
-use Rattle.hir_facts.specs.declared.raw.BindingAnnotation.{BindingAnnotation}
-use Rattle.hir_facts.specs.declared.raw.BindingAnnotation.TheVariants as mode
+use Rattle.hir_raw.specs.declared.raw.Other.{Other}
+use Rattle.hir_raw.specs.declared.raw.Edition.{Edition}
+use Rattle.hir_raw.specs.declared.raw.Edition.TheVariants as edition
+use Rattle.hir_raw.specs.declared.raw.RawAdtKind.{RawAdtKind}
+use Rattle.hir_raw.specs.declared.raw.RawAdtKind.TheVariants as kind
+use Rattle.hir_raw.specs.declared.raw.RawCtor.{RawCtor}
+use Rattle.hir_raw.specs.declared.raw.RawCtor.TheVariants as ctor
+use Rattle.hir_raw.specs.declared.raw.BindingAnnotation.{BindingAnnotation}
+use Rattle.hir_raw.specs.declared.raw.BindingAnnotation.TheVariants as mode
 use Rattle.hir_types.specs.declared.ty.IntTy.{IntTy}
 use Rattle.hir_types.specs.declared.ty.IntTy.TheVariants as int
 use Rattle.hir_types.specs.declared.ty.UintTy.{UintTy}

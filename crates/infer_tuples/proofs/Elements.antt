@@ -8,9 +8,9 @@ use Rattle.hir_types.specs.declared.ty.TraitRef.{TraitRef}
 use Rattle.hir_types.specs.Subst.{folded}
 use Rattle.hir_types.specs.declared.head.HoleKind.TheVariants as kind
 use Rattle.hir_types.specs.declared.ty.Ty.TheVariants as ty
-use Rattle.hir_facts.specs.declared.schedule.Schedule.{Schedule}
+use Rattle.hir_raw.specs.declared.schedule.Schedule.{Schedule}
 use Rattle.infer_table.proofs.HoleLaws.{grew_by_hole}
-use Rattle.hir_facts.specs.Scope.{Scope}
+use Rattle.hir_raw.specs.Scope.{Scope}
 use Rattle.infer_table.specs.Bindings.{AllOf}
 use Rattle.infer_table.specs.Preserved.{BindsOnly}
 use Rattle.infer_table.specs.Solutions.{log_of}

@@ -9,9 +9,9 @@ use Rattle.hir_types.specs.declared.ty.Ty.TheVariants as ty
 use Rattle.hir_types.specs.Subst.{folded, Assignment, with_holes}
 use Rattle.hir_types.specs.Folding.{replaced_tuple}
 use Rattle.hir_facts.specs.CarriedTypes.{IsCarriedType}
-use Rattle.hir_facts.specs.Order.{inner, element, expr_part, exprs_from, parts_of_expr, part_at}
-use Rattle.hir_facts.specs.declared.raw.RawExpr.TheVariants as expr
-use Rattle.hir_facts.specs.declared.schedule.Schedule.{Schedule}
+use Rattle.hir_raw.specs.Order.{inner, element, expr_part, exprs_from, parts_of_expr, part_at}
+use Rattle.hir_raw.specs.declared.raw.RawExpr.TheVariants as expr
+use Rattle.hir_raw.specs.declared.schedule.Schedule.{Schedule}
 use Rattle.infer_result.specs.Places.{Given, IsAtOrMismatch}
 use Rattle.infer_result.specs.Demands.{Demand}
 use Rattle.infer_result.specs.Kinds.Tuple.{AllAt}

@@ -5,16 +5,16 @@ use Rattle.hir_types.specs.declared.ty.Ty.{Ty}
 use Rattle.hir_types.specs.declared.ty.Ty.TheVariants as ty
 use Rattle.hir_types.specs.declared.ty.UintTy.TheVariants as uint
 use Rattle.hir_types.specs.declared.ty.IntegerTy.TheVariants as integer
-use Rattle.hir_facts.specs.declared.raw.RawType.{RawType}
-use Rattle.hir_facts.specs.declared.raw.RawType.TheVariants as type
-use Rattle.hir_facts.specs.declared.raw.RawParam.TheVariants as parameter
-use Rattle.hir_facts.specs.declared.raw.RawFn.{RawFn}
+use Rattle.hir_raw.specs.declared.raw.RawType.{RawType}
+use Rattle.hir_raw.specs.declared.raw.RawType.TheVariants as type
+use Rattle.hir_raw.specs.declared.raw.RawParam.TheVariants as parameter
+use Rattle.hir_raw.specs.declared.raw.RawFn.{RawFn}
 use Rattle.hir_types.specs.Erasure.{erased, IsClosed}
 use Rattle.hir_types.specs.Assigned.{type_in, with_params}
 use Rattle.hir_types.specs.Folding.{replaced_param}
 use Rattle.hir_facts.specs.CarriedTypes.{carried_type_arg, carried_integer}
-use Rattle.hir_facts.specs.Types.{lowered_within, written_type}
-use Rattle.hir_facts.specs.Signatures.{fn_signature, type_args, at_args}
+use Rattle.hir_raw.specs.Types.{lowered_within, written_type}
+use Rattle.hir_raw.specs.Signatures.{fn_signature, type_args, at_args}
 use Rattle.infer_result.specs.declared.result.InferenceResult.{InferenceResult}
 use Rattle.infer_result.specs.declared.result.TypeMismatch.{TypeMismatch}
 use Rattle.infer_result.specs.declared.diagnostics.InferenceDiagnostic.{InferenceDiagnostic}

@@ -11,31 +11,31 @@ use Rattle.hir_types.specs.declared.ty.Ty.{Ty}
 use Rattle.hir_types.specs.declared.ty.Ty.TheVariants as ty
 use Rattle.hir_types.specs.declared.ty.UintTy.TheVariants as uint
 use Rattle.hir_types.specs.declared.ty.IntegerTy.TheVariants as integer
-use Rattle.hir_facts.specs.declared.raw.RawType.{RawType}
-use Rattle.hir_facts.specs.declared.raw.RawType.TheVariants as type
-use Rattle.hir_facts.specs.declared.raw.RawParam.{RawParam}
-use Rattle.hir_facts.specs.declared.raw.RawParam.TheVariants as parameter
-use Rattle.hir_facts.specs.declared.raw.RawVis.TheVariants as visible
-use Rattle.hir_facts.specs.declared.raw.RawAdtKind.{RawAdtKind}
-use Rattle.hir_facts.specs.declared.raw.RawAdtKind.TheVariants as kind
-use Rattle.hir_facts.specs.declared.raw.RawCtor.{RawCtor}
-use Rattle.hir_facts.specs.declared.raw.RawCtor.TheVariants as ctor
-use Rattle.hir_facts.specs.declared.raw.RawField.{RawField}
-use Rattle.hir_facts.specs.declared.raw.RawVariant.{RawVariant}
-use Rattle.hir_facts.specs.declared.raw.RawAdt.{RawAdt}
-use Rattle.hir_facts.specs.declared.raw.RawLiteral.TheVariants as literal
-use Rattle.hir_facts.specs.declared.raw.RawPath.TheVariants as path
-use Rattle.hir_facts.specs.declared.raw.RawExpr.TheVariants as expr
-use Rattle.hir_facts.specs.declared.raw.RawPat.TheVariants as pat
-use Rattle.hir_facts.specs.declared.raw.RawBody.{RawBody}
-use Rattle.hir_facts.specs.declared.schedule.Schedule.{Schedule}
+use Rattle.hir_raw.specs.declared.raw.RawType.{RawType}
+use Rattle.hir_raw.specs.declared.raw.RawType.TheVariants as type
+use Rattle.hir_raw.specs.declared.raw.RawParam.{RawParam}
+use Rattle.hir_raw.specs.declared.raw.RawParam.TheVariants as parameter
+use Rattle.hir_raw.specs.declared.raw.RawVis.TheVariants as visible
+use Rattle.hir_raw.specs.declared.raw.RawAdtKind.{RawAdtKind}
+use Rattle.hir_raw.specs.declared.raw.RawAdtKind.TheVariants as kind
+use Rattle.hir_raw.specs.declared.raw.RawCtor.{RawCtor}
+use Rattle.hir_raw.specs.declared.raw.RawCtor.TheVariants as ctor
+use Rattle.hir_raw.specs.declared.raw.RawField.{RawField}
+use Rattle.hir_raw.specs.declared.raw.RawVariant.{RawVariant}
+use Rattle.hir_raw.specs.declared.raw.RawAdt.{RawAdt}
+use Rattle.hir_raw.specs.declared.raw.RawLiteral.TheVariants as literal
+use Rattle.hir_raw.specs.declared.raw.RawPath.TheVariants as path
+use Rattle.hir_raw.specs.declared.raw.RawExpr.TheVariants as expr
+use Rattle.hir_raw.specs.declared.raw.RawPat.TheVariants as pat
+use Rattle.hir_raw.specs.declared.raw.RawBody.{RawBody}
+use Rattle.hir_raw.specs.declared.schedule.Schedule.{Schedule}
 use Rattle.hir_types.specs.Erasure.{Same, erased, IsClosed}
 use Rattle.hir_types.specs.Instances.{param_at}
 use Rattle.hir_types.proofs.Layers.{has_hole_adt, has_hole_fn_def}
-use Rattle.hir_facts.specs.Types.{lowered_within, written_type}
-use Rattle.hir_facts.specs.Scope.{Scope}
-use Rattle.hir_facts.specs.Signatures.{Signature, type_args, at_args, own_adt, field_types, own_adt_at, signature_of}
-use Rattle.hir_facts.specs.Order.{subpattern, the_body, inner, IsSchedule, start, end, after, Fits, parts}
+use Rattle.hir_raw.specs.Types.{lowered_within, written_type}
+use Rattle.hir_raw.specs.Scope.{Scope}
+use Rattle.hir_raw.specs.Signatures.{Signature, type_args, at_args, own_adt, field_types, own_adt_at, signature_of}
+use Rattle.hir_raw.specs.Order.{subpattern, the_body, inner, IsSchedule, start, end, after, Fits, parts}
 use Rattle.infer_result.specs.declared.result.InferenceResult.{InferenceResult}
 use Rattle.infer_result.specs.declared.result.TypeMismatch.{TypeMismatch}
 use Rattle.infer_result.specs.declared.modes.BindingMode.TheVariants as mode

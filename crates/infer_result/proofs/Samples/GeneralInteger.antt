@@ -13,31 +13,31 @@ use Rattle.hir_types.specs.declared.ty.IntegerTy.{IntegerTy}
 use Rattle.hir_types.specs.declared.ty.IntegerTy.TheVariants as integer
 use Rattle.hir_types.specs.declared.ty.Ty.{Ty}
 use Rattle.hir_types.specs.declared.ty.Ty.TheVariants as ty
-use Rattle.hir_facts.specs.declared.raw.RawType.{RawType}
-use Rattle.hir_facts.specs.declared.raw.RawType.TheVariants as type
-use Rattle.hir_facts.specs.declared.raw.RawParam.TheVariants as parameter
-use Rattle.hir_facts.specs.declared.raw.RawLiteral.TheVariants as literal
-use Rattle.hir_facts.specs.declared.raw.RawPath.TheVariants as path
-use Rattle.hir_facts.specs.declared.raw.RawStmt.TheVariants as stmt
-use Rattle.hir_facts.specs.declared.raw.RawExpr.TheVariants as expr
-use Rattle.hir_facts.specs.declared.raw.RawPat.TheVariants as pat
-use Rattle.hir_facts.specs.declared.raw.RawFn.{RawFn}
-use Rattle.hir_facts.specs.declared.raw.RawBody.{RawBody}
-use Rattle.hir_facts.specs.declared.raw.RawFacts.{RawFacts}
-use Rattle.hir_facts.specs.declared.schedule.Schedule.{Schedule}
+use Rattle.hir_raw.specs.declared.raw.RawType.{RawType}
+use Rattle.hir_raw.specs.declared.raw.RawType.TheVariants as type
+use Rattle.hir_raw.specs.declared.raw.RawParam.TheVariants as parameter
+use Rattle.hir_raw.specs.declared.raw.RawLiteral.TheVariants as literal
+use Rattle.hir_raw.specs.declared.raw.RawPath.TheVariants as path
+use Rattle.hir_raw.specs.declared.raw.RawStmt.TheVariants as stmt
+use Rattle.hir_raw.specs.declared.raw.RawExpr.TheVariants as expr
+use Rattle.hir_raw.specs.declared.raw.RawPat.TheVariants as pat
+use Rattle.hir_raw.specs.declared.raw.RawFn.{RawFn}
+use Rattle.hir_raw.specs.declared.raw.RawBody.{RawBody}
+use Rattle.hir_raw.specs.declared.raw.RawFacts.{RawFacts}
+use Rattle.hir_raw.specs.declared.schedule.Schedule.{Schedule}
 use Rattle.hir_types.specs.Erasure.{erased, IsClosed}
 use Rattle.hir_types.specs.Folding.{replaced_int_var, replaced_tuple}
 use Rattle.hir_types.specs.Instances.{param_at}
 use Rattle.hir_types.proofs.Layers.{has_hole_integer}
 use Rattle.hir_types.specs.Subst.{Assignment, with_holes, folded}
 use Rattle.hir_types.specs.Types.{integer_type, unit}
-use Rattle.hir_facts.specs.Fit.{fits}
-use Rattle.hir_facts.specs.Fitting.{ty_fits_tuple}
-use Rattle.hir_facts.specs.Order.{let_pattern, the_body, inner, IsSchedule, start, end, after, Fits, parts}
-use Rattle.hir_facts.specs.PlainTypes.{plain_bool}
-use Rattle.hir_facts.specs.Scope.{Scope, scope_of}
-use Rattle.hir_facts.specs.Signatures.{fn_signature, at_args}
-use Rattle.hir_facts.specs.Types.{lowered_within, written_type}
+use Rattle.hir_raw.specs.Fit.{fits}
+use Rattle.hir_raw.specs.Fitting.{ty_fits_tuple}
+use Rattle.hir_raw.specs.Order.{let_pattern, the_body, inner, IsSchedule, start, end, after, Fits, parts}
+use Rattle.hir_plain.specs.PlainTypes.{plain_bool}
+use Rattle.hir_raw.specs.Scope.{Scope, scope_of}
+use Rattle.hir_raw.specs.Signatures.{fn_signature, at_args}
+use Rattle.hir_raw.specs.Types.{lowered_within, written_type}
 use Rattle.infer_result.specs.declared.result.General.{General}
 use Rattle.infer_result.specs.declared.result.InferenceResult.{InferenceResult}
 use Rattle.infer_result.specs.declared.modes.BindingMode.TheVariants as mode

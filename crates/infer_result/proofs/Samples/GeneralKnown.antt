@@ -8,8 +8,8 @@ use Rattle.hir_types.specs.declared.ty.Ty.{Ty}
 use Rattle.hir_types.specs.declared.ty.Ty.TheVariants as ty
 use Rattle.hir_types.specs.Folding.{replaced_var, replaced_int_var}
 use Rattle.hir_types.specs.Subst.{with_holes, folded}
-use Rattle.hir_facts.specs.Scope.{Scope}
-use Rattle.hir_facts.specs.Signatures.{type_args}
+use Rattle.hir_raw.specs.Scope.{Scope}
+use Rattle.hir_raw.specs.Signatures.{type_args}
 use Rattle.infer_result.specs.Fallback.{fallback}
 use Rattle.infer_result.specs.General.{IsGeneralType, general_hole, general_integer_hole, general_bool, general_char, general_integer, general_tuple, general_adt, general_item, general_param}
 use Rattle.infer_result.specs.Unknown.{has_unknown, arg_has_unknown, IsKnown}

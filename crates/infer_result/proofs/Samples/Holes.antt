@@ -11,10 +11,10 @@ use Rattle.hir_types.specs.Instances.{types_args_folded}
 use Rattle.hir_types.proofs.Layers.{has_hole_fn_def}
 use Rattle.hir_types.specs.Subst.{Assignment, with_holes, folded}
 use Rattle.hir_types.specs.Types.{integer_type}
-use Rattle.hir_facts.specs.Fit.{ty_fits}
-use Rattle.hir_facts.specs.Fitting.{ty_fits_int, ty_fits_uint, ty_fits_fndef, arg_fits_ty}
-use Rattle.hir_facts.specs.Scope.{Scope, callable_params, has_params}
-use Rattle.hir_facts.specs.Signatures.{type_args}
+use Rattle.hir_raw.specs.Fit.{ty_fits}
+use Rattle.hir_raw.specs.Fitting.{ty_fits_int, ty_fits_uint, ty_fits_fndef, arg_fits_ty}
+use Rattle.hir_raw.specs.Scope.{Scope, callable_params, has_params}
+use Rattle.hir_raw.specs.Signatures.{type_args}
 use Rattle.infer_result.specs.Unknown.{IsKnown}
 use Rattle.infer_result.specs.UnknownLayers.{has_unknown_int, has_unknown_uint, has_unknown_fn_def, arg_has_unknown_type}
 use Rattle.infer_result.proofs.Samples.Small.{top_int, top_uint, top_bool}

@@ -11,21 +11,21 @@ use Rattle.hir_types.specs.declared.ty.Ty.TheVariants as ty
 use Rattle.hir_types.specs.declared.ty.Const.TheVariants as const
 use Rattle.hir_types.specs.declared.ty.UintTy.TheVariants as uint
 use Rattle.hir_types.specs.declared.ty.IntegerTy.TheVariants as integer
-use Rattle.hir_facts.specs.declared.raw.RawLiteral.{RawLiteral}
-use Rattle.hir_facts.specs.declared.raw.RawLiteral.TheVariants as literal
-use Rattle.hir_facts.specs.declared.raw.RawPath.TheVariants as path
-use Rattle.hir_facts.specs.declared.raw.RawStmt.TheVariants as stmt
-use Rattle.hir_facts.specs.declared.raw.RawExpr.TheVariants as expr
-use Rattle.hir_facts.specs.declared.raw.RawType.{RawType}
-use Rattle.hir_facts.specs.declared.raw.RawFn.{RawFn}
-use Rattle.hir_facts.specs.declared.raw.RawBody.{RawBody}
-use Rattle.hir_facts.specs.declared.schedule.Schedule.{Schedule}
+use Rattle.hir_raw.specs.declared.raw.RawLiteral.{RawLiteral}
+use Rattle.hir_raw.specs.declared.raw.RawLiteral.TheVariants as literal
+use Rattle.hir_raw.specs.declared.raw.RawPath.TheVariants as path
+use Rattle.hir_raw.specs.declared.raw.RawStmt.TheVariants as stmt
+use Rattle.hir_raw.specs.declared.raw.RawExpr.TheVariants as expr
+use Rattle.hir_raw.specs.declared.raw.RawType.{RawType}
+use Rattle.hir_raw.specs.declared.raw.RawFn.{RawFn}
+use Rattle.hir_raw.specs.declared.raw.RawBody.{RawBody}
+use Rattle.hir_raw.specs.declared.schedule.Schedule.{Schedule}
 use Rattle.hir_types.specs.Types.{unit}
 use Rattle.hir_types.specs.Erasure.{IsClosed}
 use Rattle.hir_types.specs.Subst.{Assignment, with_holes}
 use Rattle.hir_types.specs.Folding.{replaced_uint}
-use Rattle.hir_facts.specs.Order.{the_body, inner, IsSchedule, start, end, after, Fits, parts}
-use Rattle.hir_facts.specs.Signatures.{fn_signature}
+use Rattle.hir_raw.specs.Order.{the_body, inner, IsSchedule, start, end, after, Fits, parts}
+use Rattle.hir_raw.specs.Signatures.{fn_signature}
 use Rattle.infer_result.specs.declared.result.InferenceResult.{InferenceResult}
 use Rattle.infer_result.specs.declared.result.Seen.{Seen}
 use Rattle.infer_result.specs.declared.diagnostics.InferenceDiagnostic.{InferenceDiagnostic}

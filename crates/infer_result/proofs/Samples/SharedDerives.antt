@@ -5,17 +5,17 @@ use Rattle.hir_types.specs.declared.ids.CallableDefId.TheVariants as callable
 use Rattle.hir_types.specs.declared.ids.ExprOrPatId.TheVariants as node
 use Rattle.hir_types.specs.declared.ty.Ty.{Ty}
 use Rattle.hir_types.specs.declared.ty.Ty.TheVariants as ty
-use Rattle.hir_facts.specs.declared.schedule.Schedule.{Schedule}
+use Rattle.hir_raw.specs.declared.schedule.Schedule.{Schedule}
 use Rattle.hir_types.specs.Erasure.{erased, IsClosed}
 use Rattle.hir_types.specs.Instances.{param_at}
 use Rattle.hir_types.specs.Subst.{Assignment}
 use Rattle.hir_types.specs.Types.{unit}
-use Rattle.hir_facts.specs.Fit.{fits}
-use Rattle.hir_facts.specs.Fitting.{ty_fits_tuple}
-use Rattle.hir_facts.specs.Order.{parameter as a_parameter, let_pattern, the_body, inner, IsSchedule, start, end, after, Fits, parts}
-use Rattle.hir_facts.specs.PlainTypes.{IsPlainIn, plain_bool}
-use Rattle.hir_facts.specs.Signatures.{fn_signature, at_args}
-use Rattle.hir_facts.specs.Types.{lowered_within, written_type}
+use Rattle.hir_raw.specs.Fit.{fits}
+use Rattle.hir_raw.specs.Fitting.{ty_fits_tuple}
+use Rattle.hir_raw.specs.Order.{parameter as a_parameter, let_pattern, the_body, inner, IsSchedule, start, end, after, Fits, parts}
+use Rattle.hir_plain.specs.PlainTypes.{IsPlainIn, plain_bool}
+use Rattle.hir_raw.specs.Signatures.{fn_signature, at_args}
+use Rattle.hir_raw.specs.Types.{lowered_within, written_type}
 use Rattle.infer_result.specs.declared.result.InferenceResult.{InferenceResult}
 use Rattle.infer_result.specs.Closed.{IsBinder, NamesVariant, IsVariantPat, AllTypes}
 use Rattle.infer_result.specs.Derivation.{IsDerivation}

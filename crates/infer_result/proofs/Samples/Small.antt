@@ -14,30 +14,30 @@ use Rattle.hir_types.specs.declared.ty.UintTy.TheVariants as uint
 use Rattle.hir_types.specs.declared.ty.Ty.{Ty, Ty-F, out-Ty, out-roll-Ty}
 use Rattle.hir_types.specs.declared.ty.Ty.TheVariants as ty
 use Rattle.hir_types.specs.declared.ty.IntegerTy.TheVariants as integer
-use Rattle.hir_facts.specs.declared.raw.RawLiteral.{RawLiteral}
-use Rattle.hir_facts.specs.declared.raw.RawLiteral.TheVariants as literal
-use Rattle.hir_facts.specs.declared.raw.RawExpr.{RawExpr}
-use Rattle.hir_facts.specs.declared.raw.RawPat.{RawPat}
-use Rattle.hir_facts.specs.declared.raw.RawBinding.{RawBinding}
-use Rattle.hir_facts.specs.declared.raw.BindingAnnotation.TheVariants as annotation
-use Rattle.hir_facts.specs.declared.raw.Edition.TheVariants as edition
-use Rattle.hir_facts.specs.declared.raw.RawType.{RawType}
-use Rattle.hir_facts.specs.declared.raw.RawType.TheVariants as type
-use Rattle.hir_facts.specs.declared.raw.RawParam.{RawParam}
-use Rattle.hir_facts.specs.declared.raw.RawAt.TheVariants as stands
-use Rattle.hir_facts.specs.declared.raw.RawVis.TheVariants as visible
-use Rattle.hir_facts.specs.declared.raw.RawFn.{RawFn}
-use Rattle.hir_facts.specs.declared.raw.RawBody.{RawBody}
-use Rattle.hir_facts.specs.declared.raw.RawFacts.{RawFacts}
-use Rattle.hir_facts.specs.declared.schedule.Schedule.{Schedule}
+use Rattle.hir_raw.specs.declared.raw.RawLiteral.{RawLiteral}
+use Rattle.hir_raw.specs.declared.raw.RawLiteral.TheVariants as literal
+use Rattle.hir_raw.specs.declared.raw.RawExpr.{RawExpr}
+use Rattle.hir_raw.specs.declared.raw.RawPat.{RawPat}
+use Rattle.hir_raw.specs.declared.raw.RawBinding.{RawBinding}
+use Rattle.hir_raw.specs.declared.raw.BindingAnnotation.TheVariants as annotation
+use Rattle.hir_raw.specs.declared.raw.Edition.TheVariants as edition
+use Rattle.hir_raw.specs.declared.raw.RawType.{RawType}
+use Rattle.hir_raw.specs.declared.raw.RawType.TheVariants as type
+use Rattle.hir_raw.specs.declared.raw.RawParam.{RawParam}
+use Rattle.hir_raw.specs.declared.raw.RawAt.TheVariants as stands
+use Rattle.hir_raw.specs.declared.raw.RawVis.TheVariants as visible
+use Rattle.hir_raw.specs.declared.raw.RawFn.{RawFn}
+use Rattle.hir_raw.specs.declared.raw.RawBody.{RawBody}
+use Rattle.hir_raw.specs.declared.raw.RawFacts.{RawFacts}
+use Rattle.hir_raw.specs.declared.schedule.Schedule.{Schedule}
 use Rattle.hir_types.specs.Erasure.{IsClosed, Same}
 use Rattle.hir_types.proofs.Layers.{has_hole_tuple, has_hole_bool, has_hole_error, has_hole_integer}
 use Rattle.hir_facts.specs.CarriedTypes.{carried_bool, carried_integer, carried_tuple, same_carried}
-use Rattle.hir_facts.specs.Types.{written_type}
+use Rattle.hir_raw.specs.Types.{written_type}
 use Rattle.hir_facts.specs.Filled.{is_hole}
-use Rattle.hir_facts.specs.Scope.{Scope}
-use Rattle.hir_facts.specs.Order.{Role, Part, expr_part, Node, the_body, inner, IsNode, IsSchedule, start, parts, part_at}
-use Rattle.hir_facts.proofs.Ways.{one_place}
+use Rattle.hir_raw.specs.Scope.{Scope}
+use Rattle.hir_raw.specs.Order.{Role, Part, expr_part, Node, the_body, inner, IsNode, IsSchedule, start, parts, part_at}
+use Rattle.hir_raw.proofs.Ways.{one_place}
 use Rattle.infer_result.specs.declared.result.InferenceResult.{InferenceResult}
 use Rattle.infer_result.specs.declared.diagnostics.InferenceDiagnostic.{InferenceDiagnostic}
 use Rattle.infer_result.specs.declared.diagnostics.InferenceDiagnostic.TheVariants as diagnostic

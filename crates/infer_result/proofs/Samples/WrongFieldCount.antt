@@ -8,25 +8,25 @@ use Rattle.hir_types.specs.declared.ty.Ty.{Ty}
 use Rattle.hir_types.specs.declared.ty.Ty.TheVariants as ty
 use Rattle.hir_types.specs.declared.ty.UintTy.TheVariants as uint
 use Rattle.hir_types.specs.declared.ty.IntegerTy.TheVariants as integer
-use Rattle.hir_facts.specs.declared.raw.RawType.{RawType}
-use Rattle.hir_facts.specs.declared.raw.RawType.TheVariants as type
-use Rattle.hir_facts.specs.declared.raw.RawAdtKind.TheVariants as kind
-use Rattle.hir_facts.specs.declared.raw.RawCtor.TheVariants as ctor
-use Rattle.hir_facts.specs.declared.raw.RawVariant.{RawVariant}
-use Rattle.hir_facts.specs.declared.raw.RawStmt.TheVariants as stmt
-use Rattle.hir_facts.specs.declared.raw.RawPath.TheVariants as path
-use Rattle.hir_facts.specs.declared.raw.RawExpr.TheVariants as expr
-use Rattle.hir_facts.specs.declared.raw.RawPat.TheVariants as pat
-use Rattle.hir_facts.specs.declared.raw.RawBody.{RawBody}
-use Rattle.hir_facts.specs.declared.schedule.Schedule.{Schedule}
+use Rattle.hir_raw.specs.declared.raw.RawType.{RawType}
+use Rattle.hir_raw.specs.declared.raw.RawType.TheVariants as type
+use Rattle.hir_raw.specs.declared.raw.RawAdtKind.TheVariants as kind
+use Rattle.hir_raw.specs.declared.raw.RawCtor.TheVariants as ctor
+use Rattle.hir_raw.specs.declared.raw.RawVariant.{RawVariant}
+use Rattle.hir_raw.specs.declared.raw.RawStmt.TheVariants as stmt
+use Rattle.hir_raw.specs.declared.raw.RawPath.TheVariants as path
+use Rattle.hir_raw.specs.declared.raw.RawExpr.TheVariants as expr
+use Rattle.hir_raw.specs.declared.raw.RawPat.TheVariants as pat
+use Rattle.hir_raw.specs.declared.raw.RawBody.{RawBody}
+use Rattle.hir_raw.specs.declared.schedule.Schedule.{Schedule}
 use Rattle.hir_types.specs.Types.{unit}
 use Rattle.hir_types.specs.Erasure.{IsClosed}
 use Rattle.hir_types.proofs.Layers.{has_hole_adt}
 use Rattle.hir_types.specs.Assigned.{with_params}
 use Rattle.hir_types.specs.Folding.{replaced_uint}
-use Rattle.hir_facts.specs.Types.{lowered_within, written_type}
-use Rattle.hir_facts.specs.Signatures.{at_args}
-use Rattle.hir_facts.specs.Order.{subpattern, the_body, inner, IsSchedule, start, end, after, Fits, parts}
+use Rattle.hir_raw.specs.Types.{lowered_within, written_type}
+use Rattle.hir_raw.specs.Signatures.{at_args}
+use Rattle.hir_raw.specs.Order.{subpattern, the_body, inner, IsSchedule, start, end, after, Fits, parts}
 use Rattle.infer_result.specs.declared.result.InferenceResult.{InferenceResult}
 use Rattle.infer_result.specs.declared.diagnostics.InferenceDiagnostic.{InferenceDiagnostic}
 use Rattle.infer_result.specs.declared.diagnostics.InferenceDiagnostic.TheVariants as diagnostic

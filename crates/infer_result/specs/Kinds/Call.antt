@@ -9,11 +9,11 @@ use Rattle.hir_types.specs.declared.ty.GenericArg.{GenericArg}
 use Rattle.hir_types.specs.declared.ty.TraitRef.{TraitRef}
 use Rattle.hir_types.specs.declared.ids.ExprOrPatId.TheVariants as node
 use Rattle.hir_types.specs.declared.ty.Ty.TheVariants as ty
-use Rattle.hir_facts.specs.Signatures.{Signature, signature_of, type_args, at_args}
-use Rattle.hir_facts.specs.Order.{Node, inner}
-use Rattle.hir_facts.specs.declared.raw.RawPath.{RawPath}
-use Rattle.hir_facts.specs.Scope.{names_item}
-use Rattle.hir_facts.specs.declared.raw.RawExpr.TheVariants as expr
+use Rattle.hir_raw.specs.Signatures.{Signature, signature_of, type_args, at_args}
+use Rattle.hir_raw.specs.Order.{Node, inner}
+use Rattle.hir_raw.specs.declared.raw.RawPath.{RawPath}
+use Rattle.hir_raw.specs.Scope.{names_item}
+use Rattle.hir_raw.specs.declared.raw.RawExpr.TheVariants as expr
 use Rattle.infer_result.specs.declared.result.InferenceResult.{InferenceResult}
 use Rattle.infer_result.specs.declared.result.Seen.{Seen}
 use Rattle.infer_result.specs.declared.diagnostics.InferenceDiagnostic.TheVariants as diagnostic

@@ -4,9 +4,9 @@ use Rattle.std.specs.Prelude.{◌≡◌, List, length, map, slice_get, Some}
 use Rattle.hir_types.specs.declared.ids.VariantId.{VariantId}
 use Rattle.hir_types.specs.declared.ty.Ty.{Ty}
 use Rattle.hir_types.specs.declared.ty.Ty.TheVariants as ty
-use Rattle.hir_facts.specs.declared.raw.RawVariant.{RawVariant}
-use Rattle.hir_facts.specs.Signatures.{type_args, at_args, field_types, ctor_type}
-use Rattle.hir_facts.specs.Scope.{adt_params}
+use Rattle.hir_raw.specs.declared.raw.RawVariant.{RawVariant}
+use Rattle.hir_raw.specs.Signatures.{type_args, at_args, field_types, ctor_type}
+use Rattle.hir_raw.specs.Scope.{adt_params}
 use Rattle.infer_result.specs.Places.{Given}
 
 -- the variant, at as many types as its adt has parameters

@@ -4,7 +4,7 @@ use Rattle.std.specs.Prelude.{◌⊎◌, List, Option, Some, None, [], ◌∷◌
 use Rattle.hir_types.specs.declared.ids.ExprId.{ExprId}
 use Rattle.hir_types.specs.declared.ty.Ty.{Ty}
 use Rattle.hir_types.specs.declared.ty.Ty.TheVariants as ty
-use Rattle.hir_facts.specs.declared.raw.RawArm.{RawArm}
+use Rattle.hir_raw.specs.declared.raw.RawArm.{RawArm}
 use Rattle.infer_result.specs.declared.result.InferenceResult.{InferenceResult}
 use Rattle.infer_result.specs.Table.{HasTy, MaybeMismatch}
 use Rattle.infer_result.specs.Placing.{Placing}

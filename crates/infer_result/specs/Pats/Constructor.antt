@@ -5,10 +5,10 @@ use Rattle.hir_types.specs.declared.ids.PatId.{PatId}
 use Rattle.hir_types.specs.declared.ids.VariantId.{VariantId}
 use Rattle.hir_types.specs.declared.ty.Ty.{Ty}
 use Rattle.hir_types.specs.declared.ids.ExprOrPatId.TheVariants as node
-use Rattle.hir_facts.specs.declared.raw.RawVariant.{RawVariant}
-use Rattle.hir_facts.specs.declared.raw.RawPath.{RawPath}
-use Rattle.hir_facts.specs.declared.raw.RawPat.TheVariants as pat
-use Rattle.hir_facts.specs.declared.raw.RawPath.TheVariants as path
+use Rattle.hir_raw.specs.declared.raw.RawVariant.{RawVariant}
+use Rattle.hir_raw.specs.declared.raw.RawPath.{RawPath}
+use Rattle.hir_raw.specs.declared.raw.RawPat.TheVariants as pat
+use Rattle.hir_raw.specs.declared.raw.RawPath.TheVariants as path
 use Rattle.infer_result.specs.declared.result.InferenceResult.{InferenceResult}
 use Rattle.infer_result.specs.declared.diagnostics.InferenceDiagnostic.TheVariants as diagnostic
 use Rattle.infer_result.specs.Table.{PatTy, PatVariant, HasPatDiagnostic}

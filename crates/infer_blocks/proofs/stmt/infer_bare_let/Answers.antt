@@ -1,5 +1,5 @@
 use Rattle.std.proofs.Common.{sym, subst, None}
-use Rattle.hir_facts.specs.declared.raw.RawStmt.TheVariants as stmt
+use Rattle.hir_raw.specs.declared.raw.RawStmt.TheVariants as stmt
 use Rattle.infer_ctx.specs.Context.{given_of, schedule_of}
 use Rattle.infer_blocks.specs.Blocks.{StmtDone, BeforeStmt}
 use Rattle.infer_blocks.proofs.Stmts.{comes_to_body_ty, comes_to_written_pat, written_let_walked, comes_to_bare_pat}

@@ -1,6 +1,6 @@
 use Rattle.std.proofs.Common.{false, true, sym, subst, Some}
 use Rattle.hir_types.specs.declared.ty.Ty.TheVariants as ty
-use Rattle.hir_facts.specs.declared.raw.RawStmt.TheVariants as stmt
+use Rattle.hir_raw.specs.declared.raw.RawStmt.TheVariants as stmt
 use Rattle.infer_ctx.specs.Context.{given_of, schedule_of}
 use Rattle.infer_ctx.specs.Steps.{CoerceDone}
 use Rattle.infer_blocks.specs.Blocks.{StmtDone, BeforeStmt}

@@ -1,5 +1,5 @@
 use Rattle.std.proofs.Common.{arith, sym, subst, Some, None}
-use Rattle.hir_facts.specs.declared.raw.RawStmt.TheVariants as stmt
+use Rattle.hir_raw.specs.declared.raw.RawStmt.TheVariants as stmt
 use Rattle.infer_ctx.specs.Context.{given_of, schedule_of}
 use Rattle.infer_coerce.proofs.Later.{later}
 use Rattle.infer_blocks.specs.Blocks.{BeforeStmt, InitDone}

@@ -1,6 +1,6 @@
 use Rattle.std.proofs.Common.{sym, subst, Some}
 use Rattle.std.proofs.lemmas.List.{get_or_default}
-use Rattle.hir_facts.specs.declared.raw.RawArm.{RawArm}
+use Rattle.hir_raw.specs.declared.raw.RawArm.{RawArm}
 use Rattle.infer_ctx.specs.Context.{given_of, schedule_of}
 use Rattle.infer_coerce.proofs.Later.{later}
 use Rattle.infer_pat.specs.Patterns.{BeforePat, PatDone}

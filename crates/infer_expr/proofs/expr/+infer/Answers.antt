@@ -1,6 +1,6 @@
 use Rattle.std.proofs.Common.{arith, ◌+◌, ◌≡◌, ◌∙◌, ap, sym, subst}
 use Rattle.hir_types.specs.declared.ids.ExprOrPatId.TheVariants as node
-use Rattle.hir_facts.specs.Order.{inner}
+use Rattle.hir_raw.specs.Order.{inner}
 use Rattle.infer_ctx.specs.Context.{given_of, schedule_of, expected_type, with_expr_ty}
 use Rattle.infer_ctx.specs.Steps.{Within, OwnDone, KindDone}
 use Rattle.infer_ctx.proofs.Expressions.{comes_within, own_done}

@@ -1,6 +1,6 @@
 use Rattle.std.proofs.Common.{◌≡◌, ◌∙◌, refl, ap, Some, slice_get}
 use Rattle.std.proofs.lemmas.Option.{slice_get_read}
-use Rattle.hir_facts.specs.declared.raw.RawExpr.TheVariants as expr
+use Rattle.hir_raw.specs.declared.raw.RawExpr.TheVariants as expr
 use Rattle.infer_ctx.proofs.Carried.{carried_expr}
 use Rattle.infer_pat.proofs.Literals.{literal_kind}
 use Rattle.infer_pat.proofs.literal.infer_literal.Goals as goal

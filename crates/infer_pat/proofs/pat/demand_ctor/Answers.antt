@@ -1,6 +1,6 @@
 use Rattle.std.proofs.Common.{◌≡◌, ◌∙◌, ap, sym, subst, length, option_map, Some}
 use Rattle.hir_types.specs.declared.ty.Ty.TheVariants as ty
-use Rattle.hir_facts.specs.Scope.{adt_params}
+use Rattle.hir_raw.specs.Scope.{adt_params}
 use Rattle.infer_result.specs.Closed.{IsOfBody}
 use Rattle.infer_ctx.specs.Context.{given_of}
 use Rattle.infer_ctx.proofs.FineTypes.{fine_grown, fine_expectation_grown}

@@ -1,8 +1,8 @@
 use Rattle.std.proofs.Common.{◌≡◌, ◌∙◌, ap, sym, subst, length, option_map, Some}
 use Rattle.hir_types.specs.declared.ids.CallableDefId.TheVariants as callable
 use Rattle.hir_types.specs.declared.ty.Ty.TheVariants as ty
-use Rattle.hir_facts.specs.Scope.{adt_params}
-use Rattle.hir_facts.specs.declared.raw.RawPath.TheVariants as path
+use Rattle.hir_raw.specs.Scope.{adt_params}
+use Rattle.hir_raw.specs.declared.raw.RawPath.TheVariants as path
 use Rattle.infer_ctx.specs.Context.{given_of}
 use Rattle.infer_pat.specs.Paths.{PathDone, AreFreshArgs}
 use Rattle.infer_pat.proofs.PathWalk.{same_some, unit_path, tuple_path}

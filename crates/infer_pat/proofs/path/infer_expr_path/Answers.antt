@@ -2,7 +2,7 @@ use Rattle.std.specs.Option.{option_copied}
 use Rattle.std.proofs.Common.{◌∙◌, ap, sym, subst}
 use Rattle.hir_types.specs.declared.ids.CallableDefId.TheVariants as callable
 use Rattle.hir_types.specs.declared.ty.Ty.TheVariants as ty
-use Rattle.hir_facts.specs.declared.raw.RawPath.TheVariants as path
+use Rattle.hir_raw.specs.declared.raw.RawPath.TheVariants as path
 use Rattle.infer_ctx.specs.Context.{given_of}
 use Rattle.infer_pat.specs.Paths.{PathDone, AreFreshArgs, NamesTyped}
 use Rattle.infer_pat.proofs.PathWalk.{local_path, fn_size, function_path, recorded_at}

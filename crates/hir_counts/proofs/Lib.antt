@@ -1,0 +1,6 @@
+pub mod AdtLayers
+pub mod StandingTypes
+pub mod Fits
+pub mod Drops
+pub mod Measured
+pub mod TypeMeasures

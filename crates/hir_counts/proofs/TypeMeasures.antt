@@ -1,0 +1,109 @@
+-- The capped measures of written types, one after another.
+use Rattle.std.proofs.Common.{◌≡◌, ◌<◌, ◌+◌, ℕ, zero, suc, List, [], ◌∷◌, ◌++◌, length, map, min, sum, Some, refl, sym, ◌∙◌, ap, arith, inl, inr, length-append}
+use Rattle.std.specs.Prelude.{slice_get, slice_index}
+use Rattle.std.proofs.lemmas.List.{get_or_push, get_or_append_left}
+use Rattle.std.proofs.Math.Nat.{eq-or-lt_of_le}
+use Rattle.hir_types.specs.declared.ids.TypeRefId.{TypeRefId}
+use Rattle.hir_raw.specs.declared.raw.RawType.{RawType}
+use Rattle.hir_raw.specs.declared.raw.RawType.TheVariants as type
+use Rattle.hir_types.specs.declared.ty.Ty.{Ty}
+use Rattle.hir_types.specs.declared.ty.GenericArg.TheVariants as arg
+use Rattle.hir_types.specs.Types.{most, depth, size}
+use Rattle.hir_types.proofs.Layers.{depth_tuple, depth_bool, depth_char, depth_integer, depth_error, size_tuple, size_bool, size_char, size_integer, size_error}
+use Rattle.hir_counts.proofs.AdtLayers.{depth_of_arg, depth_type_arg, depth_adt, depth_param, depth_hole, size_of_arg, size_type_arg, size_adt, size_param, size_hole}
+use Rattle.hir_raw.specs.Types.{type_parts, lowered, lowered_by}
+use Rattle.hir_ids.specs.Entries.{AllHold}
+use Rattle.hir_ids.specs.Ids.{ChildrenBefore}
+use Rattle.hir_counts.specs.Measures.{depth_by, size_by, AreMeasures}
+use Rattle.hir_ids.specs.Lowered.{lowered_parts}
+use Rattle.hir_counts.proofs.Measured.{sum-cons}
+
+-- a measure that reads the parts alone, and no more of each than the bound
+pub record Measuring (bound : ℕ) (measure : Ty → ℕ) (over : (ℕ → ℕ) → RawType → ℕ) : Type 0 where
+  pub of_parts : (g : ℕ → Ty) (x : RawType) → measure (lowered_by g (Some x)) ≡ over (λ t. measure (g t)) x
+  pub bounds : (n : ℕ) (f g : ℕ → ℕ) (x : RawType) → ChildrenBefore n x → ((j : ℕ) → j < n → f j ≡ min bound (g j)) → min bound (over f x) ≡ min bound (over g x)
+
+map_twice : {A B C : Type 0} (f : B → C) (g : A → B) (xs : List A) → map f (map g xs) ≡ map (λ x. f (g x)) xs
+map_twice f g [] = refl
+map_twice f g (x ∷ xs) = let r : map f (map g xs) ≡ map (λ x. f (g x)) xs = map_twice f g xs in λ i. f (g x) ∷ r i
+
+map_same : {A B : Type 0} (f g : A → B) (xs : List A) → ((x : A) → f x ≡ g x) → map f xs ≡ map g xs
+map_same f g [] same = refl
+map_same f g (x ∷ xs) same = let here : f x ≡ g x = same x in let rest : map f xs ≡ map g xs = map_same f g xs same in λ i. here i ∷ rest i
+
+depth_parts : (g : ℕ → Ty) (x : RawType) → depth (lowered_by g (Some x)) ≡ depth_by (λ t. depth (g t)) x
+depth_parts g type.Bool = depth_bool
+depth_parts g type.Char = depth_char
+depth_parts g (type.Integer i) = depth_integer i
+depth_parts g (type.Tuple ts) = depth_tuple (map (λ t. g t.0) ts) ∙ ap (λ (ns : List ℕ). most ns + 1) (map_twice depth (λ (t : TypeRefId). g t.0) ts)
+depth_parts g (type.Adt a ts) = depth_adt a (map (λ t. arg.Ty (g t.0)) ts) ∙ ap (λ (ns : List ℕ). most ns + 1) (map_twice depth_of_arg (λ (t : TypeRefId). arg.Ty (g t.0)) ts ∙ map_same _ _ ts (λ t. depth_type_arg (g t.0)))
+depth_parts g (type.Param n) = depth_param n
+depth_parts g type.Hole = depth_hole
+depth_parts g type.Other = depth_error
+
+size_parts : (g : ℕ → Ty) (x : RawType) → size (lowered_by g (Some x)) ≡ size_by (λ t. size (g t)) x
+size_parts g type.Bool = size_bool
+size_parts g type.Char = size_char
+size_parts g (type.Integer i) = size_integer i
+size_parts g (type.Tuple ts) = size_tuple (map (λ t. g t.0) ts) ∙ ap (λ (ns : List ℕ). sum ns + 1) (map_twice size (λ (t : TypeRefId). g t.0) ts)
+size_parts g (type.Adt a ts) = size_adt a (map (λ t. arg.Ty (g t.0)) ts) ∙ ap (λ (ns : List ℕ). sum ns + 1) (map_twice size_of_arg (λ (t : TypeRefId). arg.Ty (g t.0)) ts ∙ map_same _ _ ts (λ t. size_type_arg (g t.0)))
+size_parts g (type.Param n) = size_param n
+size_parts g type.Hole = size_hole
+size_parts g type.Other = size_error
+
+most_bound : (bound : ℕ) (f g : TypeRefId → ℕ) (ts : List TypeRefId) → ((k : ℕ) (t : TypeRefId) → slice_get ts k ≡ Some t → f t ≡ min bound (g t)) → min bound (most (map f ts)) ≡ min bound (most (map g ts))
+most_bound bound f g [] same = refl
+most_bound bound f g (t ∷ ts) same =
+    let here : f t ≡ min bound (g t) = same zero t refl in
+    let rest : min bound (most (map f ts)) ≡ min bound (most (map g ts)) = most_bound bound f g ts (λ k u found. same (suc k) u found) in omega arith
+
+sum_bound : (bound : ℕ) (f g : TypeRefId → ℕ) (ts : List TypeRefId) → ((k : ℕ) (t : TypeRefId) → slice_get ts k ≡ Some t → f t ≡ min bound (g t)) → min bound (sum (map f ts)) ≡ min bound (sum (map g ts))
+sum_bound bound f g [] same = refl
+sum_bound bound f g (t ∷ ts) same =
+    let here : f t ≡ min bound (g t) = same zero t refl in
+    let rest : min bound (sum (map f ts)) ≡ min bound (sum (map g ts)) = sum_bound bound f g ts (λ k u found. same (suc k) u found) in
+    let a : sum (map f (t ∷ ts)) ≡ f t + sum (map f ts) = sum-cons (f t) (map f ts) in
+    let b : sum (map g (t ∷ ts)) ≡ g t + sum (map g ts) = sum-cons (g t) (map g ts) in
+    rw (a, b) (sums (f t) (g t) (sum (map f ts)) (sum (map g ts)) bound here rest)
+  where
+    sums : (a b c d bound : ℕ) → a ≡ min bound b → min bound c ≡ min bound d → min bound (a + c) ≡ min bound (b + d)
+    sums a b c d bound p q = omega arith
+
+one_more : (bound a b : ℕ) → min bound a ≡ min bound b → min bound (a + 1) ≡ min bound (b + 1)
+one_more bound a b e = omega arith
+
+depth_bounds : (bound n : ℕ) (f g : ℕ → ℕ) (x : RawType) → ChildrenBefore n x → ((j : ℕ) → j < n → f j ≡ min bound (g j)) → min bound (depth_by f x) ≡ min bound (depth_by g x)
+depth_bounds bound n f g x before same =
+    let ts : List TypeRefId = type_parts x in
+    one_more bound (most (map (λ t. f t.0) ts)) (most (map (λ t. g t.0) ts)) (most_bound bound (λ t. f t.0) (λ t. g t.0) ts (λ k t found. same t.0 (before k t found)))
+
+size_bounds : (bound n : ℕ) (f g : ℕ → ℕ) (x : RawType) → ChildrenBefore n x → ((j : ℕ) → j < n → f j ≡ min bound (g j)) → min bound (size_by f x) ≡ min bound (size_by g x)
+size_bounds bound n f g x before same =
+    let ts : List TypeRefId = type_parts x in
+    one_more bound (sum (map (λ t. f t.0) ts)) (sum (map (λ t. g t.0) ts)) (sum_bound bound (λ t. f t.0) (λ t. g t.0) ts (λ k t found. same t.0 (before k t found)))
+
+pub depth_measures : (bound : ℕ) → Measuring bound depth depth_by
+depth_measures bound = record { of_parts = depth_parts; bounds = depth_bounds bound }
+
+pub size_measures : (bound : ℕ) → Measuring bound size size_by
+size_measures bound = record { of_parts = size_parts; bounds = size_bounds bound }
+
+pub measures_none : (bound : ℕ) (measure : Ty → ℕ) (types : List RawType) (xs : List ℕ) → xs ≡ [] → AreMeasures bound measure types 0 xs
+measures_none bound measure types xs e = record { count = ap length e; each = λ i lt. absurd (omega arith) }
+
+pub measures_more : (bound : ℕ) (measure : Ty → ℕ) (over : (ℕ → ℕ) → RawType → ℕ) (types : List RawType) (n : ℕ) (xs ys : List ℕ) (x : RawType) (d : ℕ) → Measuring bound measure over → AllHold ChildrenBefore types
+    → AreMeasures bound measure types n xs → slice_get types n ≡ Some x → d ≡ min bound (over (λ t. slice_index xs t) x) → ys ≡ xs ++ d ∷ [] → AreMeasures bound measure types (n + 1) ys
+measures_more bound measure over types n xs ys x d m all h found is e =
+    let new : d ≡ min bound (measure (lowered types n)) =
+    is ∙ (m.bounds n (λ t. slice_index xs t) (λ t. measure (lowered types t)) x (all n x found) h.each ∙ ap (min bound) (sym (ap measure (lowered_parts types all n x found) ∙ m.of_parts (lowered types) x))) in
+    let size : length xs ≡ n = h.count in
+    record {
+      count = rw (e, length-append xs (d ∷ [])) (omega arith);
+      each = λ i lt. rw e (elim (eq-or-lt_of_le {n = i} {m = n} (omega arith)) [
+        | inl q ↦ get_or_push xs d 0 i (size ∙ sym q) ∙ (new ∙ ap (λ (j : ℕ). min bound (measure (lowered types j))) (sym q))
+        | inr l ↦ get_or_append_left xs (d ∷ []) 0 i (omega arith) ∙ h.each i l
+      ]);
+    }
+
+pub before_here : (types : List RawType) (n : ℕ) (xs : List ℕ) (x : RawType) → AllHold ChildrenBefore types → length xs ≡ n → slice_get types n ≡ Some x → ChildrenBefore (length xs) x
+before_here types n xs x all e found = rw e (all n x found)

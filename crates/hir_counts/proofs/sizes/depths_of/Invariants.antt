@@ -1,0 +1,6 @@
+use Rattle.hir_types.specs.Types.{depth}
+use Rattle.hir_counts.specs.Measures.{AreMeasures}
+use Rattle.hir_counts.proofs.sizes.depths_of.Given as goal
+
+abbrev pub invariant-loop-ty : goal.invariant-loop-ty
+invariant-loop-ty l = AreMeasures 65 depth l.types l.ty-index l.depths.items

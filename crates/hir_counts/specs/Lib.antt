@@ -1,0 +1,6 @@
+pub mod Counts
+pub mod Sizes
+pub mod Measures
+pub mod Standing
+pub mod Uses
+pub mod Most

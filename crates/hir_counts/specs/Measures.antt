@@ -1,0 +1,19 @@
+-- Measures of the written types, of each by those of its parts.
+use Rattle.std.specs.Prelude.{ℕ, ◌+◌, ◌<◌, ◌≡◌, List, length, map, sum, min, slice_index}
+use Rattle.hir_raw.specs.declared.raw.RawType.{RawType}
+use Rattle.hir_types.specs.declared.ty.Ty.{Ty}
+use Rattle.hir_types.specs.Types.{most}
+use Rattle.hir_raw.specs.Types.{type_parts, lowered}
+
+-- how many levels a type has, where type t of the list has f t
+abbrev pub depth_by : (ℕ → ℕ) → RawType → ℕ
+depth_by f x = most (map (λ t. f t.0) (type_parts x)) + 1
+
+-- how many types a type is written with, where type t of the list is written with f t
+abbrev pub size_by : (ℕ → ℕ) → RawType → ℕ
+size_by f x = sum (map (λ t. f t.0) (type_parts x)) + 1
+
+-- the measures of the first n types, and the cap for each above it
+pub record AreMeasures (cap : ℕ) (measure : Ty → ℕ) (types : List RawType) (n : ℕ) (xs : List ℕ) : Type 0 where
+  pub count : length xs ≡ n
+  pub each : (i : ℕ) → i < n → slice_index xs i ≡ min cap (measure (lowered types i))

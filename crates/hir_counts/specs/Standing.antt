@@ -1,0 +1,94 @@
+-- What stands in written types, of each by what stands in its parts.
+use Rattle.std.specs.Prelude.{ℕ, zero, suc, ◌+◌, ◌<◌, ◌≡◌, ◌==◌, max, List, length, map, slice_get, slice_index, Option, Some, None, if◌then◌else◌}
+use Rattle.hir_types.specs.declared.ids.TypeRefId.{TypeRefId}
+use Rattle.hir_types.specs.Types.{most}
+use Rattle.hir_raw.specs.declared.raw.RawType.{RawType}
+use Rattle.hir_raw.specs.declared.raw.RawType.TheVariants as type
+use Rattle.hir_raw.specs.declared.raw.RawAdt.{RawAdt}
+use Rattle.hir_raw.specs.declared.raw.RawFacts.{RawFacts}
+use Rattle.hir_counts.specs.declared.standing.Sought.{Sought}
+use Rattle.hir_counts.specs.declared.standing.Sought.TheVariants as sought
+use Rattle.hir_raw.specs.Types.{type_parts}
+
+-- the greatest number at a type and at all that stands in it, where that of type t of the list is f t
+abbrev pub most_by : (RawType → ℕ) → (ℕ → ℕ) → Option RawType → ℕ
+most_by own f None = 0
+most_by own f (Some x) = max (own x) (most (map (λ t. f t.0) (type_parts x)))
+
+-- that of type t, over parts at most n steps below it
+unfoldable pub most_within : (RawType → ℕ) → ℕ → List RawType → ℕ → ℕ
+most_within own zero types t = 0
+most_within own (suc n) types t = most_by own (most_within own n types) (slice_get types t)
+
+-- that of type t: parts come before it, so they are fewer than t steps below
+abbrev pub most_in : (RawType → ℕ) → List RawType → ℕ → ℕ
+most_in own types t = most_within own (suc t) types t
+
+-- ---- what is sought
+
+-- one more than the number of a parameter
+abbrev pub param_bound : RawType → ℕ
+param_bound (type.Param n) = n + 1
+param_bound type.Bool = 0
+param_bound type.Char = 0
+param_bound (type.Integer i) = 0
+param_bound (type.Tuple ts) = 0
+param_bound (type.Adt a ts) = 0
+param_bound type.Hole = 0
+param_bound type.Other = 0
+
+-- 1 where the arguments are not as many as the parameters
+abbrev pub wrong_count : Option RawAdt → List TypeRefId → ℕ
+wrong_count None ts = 1
+wrong_count (Some a) ts = if length a.params == length ts then 0 else 1
+
+abbrev pub wrong_args : List RawAdt → RawType → ℕ
+wrong_args adts (type.Adt a ts) = wrong_count (slice_get adts a.0) ts
+wrong_args adts type.Bool = 0
+wrong_args adts type.Char = 0
+wrong_args adts (type.Integer i) = 0
+wrong_args adts (type.Tuple ts) = 0
+wrong_args adts (type.Param n) = 0
+wrong_args adts type.Hole = 0
+wrong_args adts type.Other = 0
+
+-- 1 at `_`
+abbrev pub hole_at : RawType → ℕ
+hole_at type.Hole = 1
+hole_at type.Bool = 0
+hole_at type.Char = 0
+hole_at (type.Integer i) = 0
+hole_at (type.Tuple ts) = 0
+hole_at (type.Adt a ts) = 0
+hole_at (type.Param n) = 0
+hole_at type.Other = 0
+
+abbrev pub own_of : List RawAdt → Sought → RawType → ℕ
+own_of adts sought.Params = param_bound
+own_of adts sought.Args = wrong_args adts
+own_of adts sought.Holes = hole_at
+
+-- the greatest numbers of the first n types
+pub record AreMosts (own : RawType → ℕ) (types : List RawType) (n : ℕ) (xs : List ℕ) : Type 0 where
+  pub count : length xs ≡ n
+  pub each : (i : ℕ) → i < n → slice_index xs i ≡ most_in own types i
+
+-- the number that was found at type t
+unfoldable pub number_in : List ℕ → ℕ → ℕ
+number_in xs t = slice_index xs t
+
+-- the parameters that stand in each written type are below this
+abbrev pub params_in : RawFacts → ℕ → ℕ
+params_in raw = most_in param_bound raw.types
+
+-- 0 where all argument lists in a written type are as many as the parameters
+abbrev pub wrongs_in : RawFacts → ℕ → ℕ
+wrongs_in raw = most_in (wrong_args raw.adts) raw.types
+
+-- 0 where no `_` stands in a written type
+abbrev pub holes_in : RawFacts → ℕ → ℕ
+holes_in raw = most_in hole_at raw.types
+
+-- no `_` stands in a written type
+abbrev pub HasNoHole : List RawType → TypeRefId → Type 0
+HasNoHole types t = most_in hole_at types t.0 ≡ 0

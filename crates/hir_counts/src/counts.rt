@@ -1,0 +1,280 @@
+//! Counts of inputs, arguments, parameters and variants.
+ghost use Rattle.std.specs.Prelude.{◌≡◌, ◌↔◌, ◌+◌, ◌<◌, ℕ, Some, [], length, slice_get, slice_index, IsTrue, IfOk, IfSome};
+ghost use Rattle.hir_raw.specs.declared.raw.RawField.{RawField};
+ghost use Rattle.hir_raw.specs.declared.raw.RawStmt.{RawStmt};
+ghost use Rattle.hir_raw.specs.Order.{stmts_of};
+ghost use Rattle.hir_ids.specs.Entries.{AllHold};
+ghost use Rattle.hir_ids.specs.Ids.{ChildrenBefore};
+ghost use Rattle.hir_counts.specs.Standing.{param_bound, wrong_args, number_in, AreMosts};
+ghost use Rattle.hir_counts.specs.Counts.{count_of, CountsFit, TypeFits, StmtFits, ExprFits, BodyFits, MaybeBodyFits, body_at, AreFitting, FnFitsBy, FnFits, HasVariants, AdtFits, param_count, IsBare, VariantFitsBy, VariantFits};
+
+use crate::standing::{Sought, mosts_of};
+use hir_ids::Test;
+use hir_raw::{
+    RawAdt, RawAdtKind, RawBody, RawExpr, RawFacts, RawField, RawFn, RawStmt, RawVariant,
+};
+use hir_types::{AdtId, BodyId, TypeRefId};
+use std::alloc::{AllocError, Global};
+
+fn takes(body: &RawBody, inputs: usize) -> bool
+    ensures { IsTrue result ↔ (inputs ≡ count_of body.now.self_ + length body.now.params) }
+{
+    match body.self_ {
+        None => inputs == body.params.len(),
+        Some(_) => inputs > 0 && inputs - 1 == body.params.len(),
+    }
+}
+
+fn has_counts(raw: &RawFacts, function: &RawFn) -> bool
+    ensures { IsTrue result ↔ CountsFit raw.now function.now }
+{
+    match function.body {
+        None => true,
+        Some(body) => match raw.bodies.get(body.0 as usize) {
+            None => true,
+            Some(body) => takes(body, function.inputs.len()),
+        },
+    }
+}
+
+/// What stands in the written types: how many parameters they ask for, and whether their argument
+/// lists are right.
+#[derive(Drop)]
+pub struct Standing {
+    bounds: Vec<usize>,
+    wrongs: Vec<usize>,
+}
+
+impl Standing {
+    /// Finds it out.
+    pub fn new(alloc: Global, raw: &RawFacts) -> Result<Standing, AllocError>
+        requires { AllHold ChildrenBefore raw.now.types }
+        ensures bounds { IfOk result (λ it. AreMosts param_bound raw.now.types (length raw.now.types) it.bounds.items) }
+        ensures wrongs { IfOk result (λ it. AreMosts (wrong_args raw.now.adts) raw.now.types (length raw.now.types) it.wrongs.items) }
+    {
+        let adts = raw.adts.as_slice();
+        let types = raw.types.as_slice();
+        let bounds = mosts_of(alloc, adts, Sought::Params, types)?;
+        let wrongs = mosts_of(alloc, adts, Sought::Args, types)?;
+        Ok(Standing { bounds, wrongs })
+    }
+}
+
+/// The number at a written type, 0 past the end.
+pub fn number_at(numbers: &[usize], at: usize) -> usize
+    ensures { result ≡ slice_index numbers.now at }
+{
+    match numbers.get(at) {
+        None => 0,
+        Some(number) => *number,
+    }
+}
+
+#[tactic(auto, unfolding(crate::specs::Standing::number_in))]
+fn fits(standing: &Standing, count: usize, ty: TypeRefId) -> bool
+    ensures { IsTrue result ↔ TypeFits (number_in standing.now.bounds.items) (number_in standing.now.wrongs.items) count ty }
+{
+    number_at(&standing.bounds, ty.0 as usize) <= count
+        && number_at(&standing.wrongs, ty.0 as usize) == 0
+}
+
+fn stmt_fits(standing: &Standing, count: usize, stmt: &RawStmt) -> bool
+    ensures { IsTrue result ↔ StmtFits (number_in standing.now.bounds.items) (number_in standing.now.wrongs.items) count stmt.now }
+{
+    match stmt {
+        RawStmt::Let { type_ref, .. } => match type_ref {
+            None => true,
+            Some(ty) => fits(standing, count, *ty),
+        },
+        RawStmt::Expr { .. } => true,
+    }
+}
+
+/// The statements of an expression, where it is a block.
+pub fn stmts_of(expr: &RawExpr) -> &[RawStmt]
+    ensures { result.now ≡ stmts_of (Some expr.now) }
+{
+    match expr {
+        RawExpr::Block { statements, .. } => statements.as_slice(),
+        RawExpr::Lit(_) | RawExpr::Path(_) | RawExpr::Tuple(_) | RawExpr::If { .. } => &[],
+        RawExpr::Match { .. } | RawExpr::Call { .. } | RawExpr::Other => &[],
+    }
+}
+
+fn stmts_fit(standing: &Standing, count: usize, stmts: &[RawStmt]) -> bool
+    ensures { IsTrue result ↔ ((k : ℕ) (s : RawStmt) → slice_get stmts.now k ≡ Some s → StmtFits (number_in standing.now.bounds.items) (number_in standing.now.wrongs.items) count s) }
+{
+    stmts.iter().all(|stmt| stmt_fits(standing, count, stmt))
+}
+
+fn expr_fits(standing: &Standing, count: usize, expr: &RawExpr) -> bool
+    ensures { IsTrue result ↔ ExprFits (number_in standing.now.bounds.items) (number_in standing.now.wrongs.items) count expr.now }
+{
+    stmts_fit(standing, count, stmts_of(expr))
+}
+
+fn body_fits(standing: &Standing, count: usize, body: &RawBody) -> bool
+    ensures { IsTrue result ↔ BodyFits (number_in standing.now.bounds.items) (number_in standing.now.wrongs.items) count body.now }
+{
+    body.exprs
+        .as_slice()
+        .iter()
+        .all(|expr| expr_fits(standing, count, expr))
+}
+
+fn maybe_body_fits(standing: &Standing, raw: &RawFacts, count: usize, body: Option<BodyId>) -> bool
+    ensures { IsTrue result ↔ MaybeBodyFits (number_in standing.now.bounds.items) (number_in standing.now.wrongs.items) count (body_at raw.now body) }
+{
+    match body {
+        None => true,
+        Some(body) => match raw.bodies.get(body.0 as usize) {
+            None => true,
+            Some(body) => body_fits(standing, count, body),
+        },
+    }
+}
+
+fn are_fitting(standing: &Standing, count: usize, types: &[TypeRefId]) -> bool
+    ensures { IsTrue result ↔ AreFitting (number_in standing.now.bounds.items) (number_in standing.now.wrongs.items) count types.now }
+{
+    types.iter().all(|ty| fits(standing, count, *ty))
+}
+
+fn fn_fits(standing: &Standing, raw: &RawFacts, function: &RawFn) -> bool
+    ensures { IsTrue result ↔ FnFitsBy (number_in standing.now.bounds.items) (number_in standing.now.wrongs.items) raw.now function.now }
+{
+    let count = function.params.len();
+    has_counts(raw, function)
+        && are_fitting(standing, count, function.inputs.as_slice())
+        && fits(standing, count, function.output)
+        && maybe_body_fits(standing, raw, count, function.body)
+}
+
+/// The counts of a function, and its written types under its own parameters.
+#[derive(Drop)]
+pub struct FnCounts<'a> {
+    pub standing: &'a Standing,
+}
+
+impl<'a> Test for FnCounts<'a> {
+    type Item = RawFn;
+
+    ghost listed = { λ raw. raw.fns };
+
+    ghost holds = { λ raw i f. FnFits raw f };
+
+    ghost given = { λ raw s. AreMosts param_bound raw.types (length raw.types) s.standing.now.bounds.items × AreMosts (wrong_args raw.adts) raw.types (length raw.types) s.standing.now.wrongs.items };
+
+    fn test(
+        &self,
+        _alloc: Global,
+        raw: &RawFacts,
+        _at: usize,
+        item: &RawFn,
+    ) -> Result<bool, AllocError> {
+        Ok(fn_fits(self.standing, raw, item))
+    }
+}
+
+fn has_variants(kind: RawAdtKind, count: usize) -> bool
+    ensures { IsTrue result ↔ HasVariants kind count }
+{
+    match kind {
+        RawAdtKind::Struct | RawAdtKind::Union => count == 1,
+        RawAdtKind::Enum => true,
+    }
+}
+
+fn is_below(number: Option<u32>, count: usize) -> bool
+    ensures { IsTrue result ↔ IfSome number (λ n. n < count) }
+{
+    match number {
+        None => true,
+        Some(number) => (number as usize) < count,
+    }
+}
+
+/// A struct or union has one variant.
+pub struct AdtCounts;
+
+impl Test for AdtCounts {
+    type Item = RawAdt;
+
+    ghost listed = { λ raw. raw.adts };
+
+    ghost holds = { λ raw i a. AdtFits a };
+
+    ghost given = { λ raw s. Unit {0} };
+
+    fn test(
+        &self,
+        _alloc: Global,
+        _raw: &RawFacts,
+        _at: usize,
+        item: &RawAdt,
+    ) -> Result<bool, AllocError> {
+        Ok(has_variants(item.kind, item.variants.len()) && is_below(item.unsize, item.params.len()))
+    }
+}
+
+fn param_count(raw: &RawFacts, adt: AdtId) -> usize
+    ensures { result ≡ param_count (slice_get raw.now.adts adt.0) }
+{
+    match raw.adts.get(adt.0 as usize) {
+        None => 0,
+        Some(adt) => adt.params.len(),
+    }
+}
+
+fn fields_fit(standing: &Standing, count: usize, fields: &[RawField]) -> bool
+    ensures { IsTrue result ↔ ((k : ℕ) (f : RawField) → slice_get fields.now k ≡ Some f → TypeFits (number_in standing.now.bounds.items) (number_in standing.now.wrongs.items) count f.ty) }
+{
+    fields.iter().all(|field| fits(standing, count, field.ty))
+}
+
+fn is_bare(raw: &RawFacts, body: Option<BodyId>) -> bool
+    ensures { IsTrue result ↔ IsBare (body_at raw.now body) }
+{
+    match body {
+        None => true,
+        Some(body) => match raw.bodies.get(body.0 as usize) {
+            None => true,
+            Some(body) => body.self_.is_none() && body.params.is_empty(),
+        },
+    }
+}
+
+fn variant_fits(standing: &Standing, raw: &RawFacts, variant: &RawVariant) -> bool
+    ensures { IsTrue result ↔ VariantFitsBy (number_in standing.now.bounds.items) (number_in standing.now.wrongs.items) raw.now variant.now }
+{
+    let count = param_count(raw, variant.adt);
+    fields_fit(standing, count, variant.fields.as_slice())
+        && is_bare(raw, variant.body)
+        && maybe_body_fits(standing, raw, count, variant.body)
+}
+
+/// The written types of a variant under the parameters of its adt.
+#[derive(Drop)]
+pub struct VariantCounts<'a> {
+    pub standing: &'a Standing,
+}
+
+impl<'a> Test for VariantCounts<'a> {
+    type Item = RawVariant;
+
+    ghost listed = { λ raw. raw.variants };
+
+    ghost holds = { λ raw i v. VariantFits raw v };
+
+    ghost given = { λ raw s. AreMosts param_bound raw.types (length raw.types) s.standing.now.bounds.items × AreMosts (wrong_args raw.adts) raw.types (length raw.types) s.standing.now.wrongs.items };
+
+    fn test(
+        &self,
+        _alloc: Global,
+        raw: &RawFacts,
+        _at: usize,
+        item: &RawVariant,
+    ) -> Result<bool, AllocError> {
+        Ok(variant_fits(self.standing, raw, item))
+    }
+}

@@ -1,0 +1,12 @@
+//! The laws of written types: how large they are, which parameters and arguments stand in them, and
+//! where a `_` may stand.
+#![tactic(auto)]
+
+mod counts;
+mod sizes;
+mod standing;
+mod uses;
+
+pub use counts::{AdtCounts, FnCounts, Standing, VariantCounts};
+pub use sizes::{AdtSizes, FnSizes, ModulesEarly, TypeSizes, VariantSizes, is_early, is_short};
+pub use uses::Holes;

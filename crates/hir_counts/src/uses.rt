@@ -1,0 +1,177 @@
+//! Where written types are used: a `_` stands once, in a type written in a body.
+ghost use Rattle.std.specs.Prelude.{◌≡◌, ◌++◌, Some, map, length, flat_map, IfOk, OnOk};
+ghost use Rattle.hir_ids.specs.Entries.{AllHold};
+ghost use Rattle.hir_ids.specs.Ids.{ChildrenBefore};
+ghost use Rattle.hir_counts.specs.Standing.{hole_at, AreMosts};
+ghost use Rattle.hir_counts.specs.Uses.{type_uses, stmt_uses, expr_uses, body_uses, inner_uses, variant_uses, fn_uses, item_uses, HoleFits, AreUsers};
+
+use crate::counts::{number_at, stmts_of};
+use crate::standing::{Sought, mosts_of};
+use hir_ids::{Namers, Test, is_nobody, is_one, namers_of};
+use hir_raw::{RawBody, RawExpr, RawFacts, RawField, RawFn, RawStmt, RawType, RawVariant};
+use hir_types::TypeRefId;
+use std::alloc::{AllocError, Global};
+
+fn push_types(out: &mut Vec<Option<usize>>, types: &[TypeRefId]) -> Result<(), AllocError>
+    ensures { OnOk result (out.new.items ≡ out.old.items ++ map (λ t. Some t.0) types.now) }
+{
+    for ty in types {
+        out.push(Some(ty.0 as usize))?;
+    }
+    Ok(())
+}
+
+fn push_parts(out: &mut Vec<Option<usize>>, types: &[RawType]) -> Result<(), AllocError>
+    ensures { OnOk result (out.new.items ≡ out.old.items ++ flat_map type_uses types.now) }
+{
+    for ty in types {
+        push_types(out, ty.parts())?;
+    }
+    Ok(())
+}
+
+fn push_stmt(out: &mut Vec<Option<usize>>, stmt: &RawStmt) -> Result<(), AllocError>
+    ensures { OnOk result (out.new.items ≡ out.old.items ++ stmt_uses stmt.now) }
+{
+    if let RawStmt::Let {
+        type_ref: Some(ty),
+        ..
+    } = stmt
+    {
+        out.push(Some(ty.0 as usize))?;
+    }
+    Ok(())
+}
+
+fn push_expr(out: &mut Vec<Option<usize>>, expr: &RawExpr) -> Result<(), AllocError>
+    ensures { OnOk result (out.new.items ≡ out.old.items ++ expr_uses expr.now) }
+{
+    for stmt in stmts_of(expr) {
+        push_stmt(out, stmt)?;
+    }
+    Ok(())
+}
+
+fn push_body(out: &mut Vec<Option<usize>>, body: &RawBody) -> Result<(), AllocError>
+    ensures { OnOk result (out.new.items ≡ out.old.items ++ body_uses body.now) }
+{
+    for expr in body.exprs.as_slice() {
+        push_expr(out, expr)?;
+    }
+    Ok(())
+}
+
+fn push_bodies(out: &mut Vec<Option<usize>>, bodies: &[RawBody]) -> Result<(), AllocError>
+    ensures { OnOk result (out.new.items ≡ out.old.items ++ flat_map body_uses bodies.now) }
+{
+    for body in bodies {
+        push_body(out, body)?;
+    }
+    Ok(())
+}
+
+fn inner_uses(alloc: Global, raw: &RawFacts) -> Result<Vec<Option<usize>>, AllocError>
+    ensures { IfOk result (λ v. v.items ≡ inner_uses raw.now) }
+{
+    let mut out = Vec::new(alloc);
+    push_parts(&mut out, raw.types.as_slice())?;
+    push_bodies(&mut out, raw.bodies.as_slice())?;
+    Ok(out)
+}
+
+fn push_fields(out: &mut Vec<Option<usize>>, fields: &[RawField]) -> Result<(), AllocError>
+    ensures { OnOk result (out.new.items ≡ out.old.items ++ map (λ f. Some f.ty.0) fields.now) }
+{
+    for field in fields {
+        out.push(Some(field.ty.0 as usize))?;
+    }
+    Ok(())
+}
+
+fn push_variants(out: &mut Vec<Option<usize>>, variants: &[RawVariant]) -> Result<(), AllocError>
+    ensures { OnOk result (out.new.items ≡ out.old.items ++ flat_map variant_uses variants.now) }
+{
+    for variant in variants {
+        push_fields(out, variant.fields.as_slice())?;
+    }
+    Ok(())
+}
+
+fn push_fn(out: &mut Vec<Option<usize>>, function: &RawFn) -> Result<(), AllocError>
+    ensures { OnOk result (out.new.items ≡ out.old.items ++ fn_uses function.now) }
+{
+    push_types(out, function.inputs.as_slice())?;
+    out.push(Some(function.output.0 as usize))?;
+    Ok(())
+}
+
+fn push_fns(out: &mut Vec<Option<usize>>, fns: &[RawFn]) -> Result<(), AllocError>
+    ensures { OnOk result (out.new.items ≡ out.old.items ++ flat_map fn_uses fns.now) }
+{
+    for function in fns {
+        push_fn(out, function)?;
+    }
+    Ok(())
+}
+
+fn item_uses(alloc: Global, raw: &RawFacts) -> Result<Vec<Option<usize>>, AllocError>
+    ensures { IfOk result (λ v. v.items ≡ item_uses raw.now) }
+{
+    let mut out = Vec::new(alloc);
+    push_variants(&mut out, raw.variants.as_slice())?;
+    push_fns(&mut out, raw.fns.as_slice())?;
+    Ok(out)
+}
+
+/// A type in which a `_` stands is used once, by another type or in a body.
+#[derive(Drop)]
+pub struct Holes {
+    holes: Vec<usize>,
+    inner: Vec<Namers>,
+    items: Vec<Namers>,
+}
+
+impl Holes {
+    /// Finds out in which types a `_` stands, and who uses each type.
+    pub fn new(alloc: Global, raw: &RawFacts) -> Result<Holes, AllocError>
+        requires { AllHold ChildrenBefore raw.now.types }
+        ensures holes { IfOk result (λ it. AreMosts hole_at raw.now.types (length raw.now.types) it.holes.items) }
+        ensures users { IfOk result (λ it. AreUsers raw.now it.inner.items it.items.items) }
+    {
+        let holes = mosts_of(
+            alloc,
+            raw.adts.as_slice(),
+            Sought::Holes,
+            raw.types.as_slice(),
+        )?;
+        let inner = inner_uses(alloc, raw)?;
+        let inner = namers_of(alloc, &inner, raw.types.len())?;
+        let items = item_uses(alloc, raw)?;
+        let items = namers_of(alloc, &items, raw.types.len())?;
+        Ok(Holes {
+            holes,
+            inner,
+            items,
+        })
+    }
+}
+
+impl Test for Holes {
+    type Item = RawType;
+
+    ghost listed = { λ raw. raw.types };
+
+    ghost holds = { λ raw i t. HoleFits raw i };
+
+    ghost given = { λ raw s. AreMosts hole_at raw.types (length raw.types) s.holes.items × AreUsers raw s.inner.items s.items.items };
+
+    fn test(
+        &self,
+        _alloc: Global,
+        _raw: &RawFacts,
+        at: usize,
+        _item: &RawType,
+    ) -> Result<bool, AllocError> {
+        Ok(number_at(&self.holes, at) == 0 || (is_one(self.inner[at]) && is_nobody(self.items[at])))
+    }
+}

@@ -1,6 +1,0 @@
-use Rattle.hir_facts.proofs.Allowed.{allowed}
-use Rattle.hir_facts.specs.Laws.Trees.{IsWellFormed}
-use Rattle.hir_facts.proofs.checks.check_trees.Goals as goal
-
-pub returns-clause-ok : goal.returns-clause-ok
-returns-clause-ok c = (allowed (λ i b. IsWellFormed b) c.args.raw.now.bodies _ _ _ _ _ c.in_ok-bodies.ensures c.allow.ensures c.in_ok-allow.was, tt)

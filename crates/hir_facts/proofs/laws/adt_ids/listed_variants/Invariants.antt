@@ -1,6 +1,0 @@
-use Rattle.std.proofs.Common.{◌≡◌, take}
-use Rattle.hir_facts.specs.Laws.Ids.{listed_variants}
-use Rattle.hir_facts.proofs.laws.adt_ids.listed_variants.Given as goal
-
-abbrev pub invariant-loop-adt : goal.invariant-loop-adt
-invariant-loop-adt l = l.out.items ≡ listed_variants (take l.adt-index l.adts)

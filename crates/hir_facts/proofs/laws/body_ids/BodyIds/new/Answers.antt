@@ -1,8 +1,0 @@
-use Rattle.std.proofs.Common.{◌≡◌, ◌∙◌}
-use Rattle.hir_facts.specs.Laws.Ids.{owned_bodies}
-use Rattle.hir_facts.proofs.laws.body_ids.BodyIds.new.Goals as goal
-
-pub returns : goal.returns
-returns c =
-    let is : c.deref.result.now ≡ owned_bodies c.args.raw.now = c.deref.ensures.value ∙ c.in_ok-owned.ensures in
-    rw (← is, ← c.len.ensures) c.in_ok-owners.ensures

@@ -1,6 +1,0 @@
-use Rattle.std.proofs.Common.{◌≡◌, ◌++◌, take, map}
-use Rattle.hir_facts.specs.Laws.Ids.{variant_body}
-use Rattle.hir_facts.proofs.laws.body_ids.push_variant_bodies.Given as goal
-
-abbrev pub invariant-loop-variant : goal.invariant-loop-variant
-invariant-loop-variant l = l.out.items ≡ l.fn.out.items ++ map variant_body (take l.variant-index l.variants)

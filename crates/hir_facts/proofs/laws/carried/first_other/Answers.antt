@@ -1,6 +1,0 @@
-use Rattle.std.proofs.Common.{rules}
-use Rattle.hir_facts.proofs.Broken.{first_breaks}
-use Rattle.hir_facts.proofs.laws.carried.first_other.Goals as goal
-
-pub returns-else-is_empty : goal.returns-else-is_empty
-returns-else-is_empty g c = first_breaks c.args.items.now (search rules)

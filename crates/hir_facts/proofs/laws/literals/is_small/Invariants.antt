@@ -1,5 +1,0 @@
-use Rattle.hir_facts.proofs.Digits.{Valued}
-use Rattle.hir_facts.proofs.laws.literals.is_small.Given as goal
-
-abbrev pub invariant-loop-c : goal.invariant-loop-c
-invariant-loop-c l = Valued l.digits l.c-index l.value

@@ -1,5 +1,0 @@
-use Rattle.hir_facts.specs.Laws.Namers.{AreNamers}
-use Rattle.hir_facts.proofs.laws.namers.namers_of.Given as goal
-
-abbrev pub invariant-loop-k : goal.invariant-loop-k
-invariant-loop-k l = AreNamers l.targets l.k l.count l.namers.items

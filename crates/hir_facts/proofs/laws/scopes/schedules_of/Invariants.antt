@@ -1,5 +1,0 @@
-use Rattle.hir_facts.proofs.Scoping.{ScheduledSoFar}
-use Rattle.hir_facts.proofs.laws.scopes.schedules_of.Given as goal
-
-abbrev pub invariant-loop-body : goal.invariant-loop-body
-invariant-loop-body l = ScheduledSoFar l.bodies l.body-index l.schedules

@@ -1,5 +1,0 @@
-use Rattle.std.proofs.Common.{refl}
-use Rattle.hir_facts.proofs.laws.sizes.depth_over.Goals as goal
-
-pub returns : goal.returns
-returns c = rw (c.one_deeper.ensures, c.most_of.ensures, c.parts.ensures) refl

@@ -1,6 +1,0 @@
-use Rattle.hir_types.specs.Types.{depth}
-use Rattle.hir_facts.specs.Laws.Measures.{AreMeasures}
-use Rattle.hir_facts.proofs.laws.sizes.depths_of.Given as goal
-
-abbrev pub invariant-loop-ty : goal.invariant-loop-ty
-invariant-loop-ty l = AreMeasures 65 depth l.types l.ty-index l.depths.items

@@ -1,6 +1,0 @@
-use Rattle.hir_types.specs.Types.{size}
-use Rattle.hir_facts.specs.Laws.Measures.{AreMeasures}
-use Rattle.hir_facts.proofs.laws.sizes.sizes_of.Given as goal
-
-abbrev pub invariant-loop-ty : goal.invariant-loop-ty
-invariant-loop-ty l = AreMeasures 4097 size l.types l.ty-index l.sizes.items

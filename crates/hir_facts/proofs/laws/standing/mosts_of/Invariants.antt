@@ -1,5 +1,0 @@
-use Rattle.hir_facts.specs.Laws.Standing.{own_of, AreMosts}
-use Rattle.hir_facts.proofs.laws.standing.mosts_of.Given as goal
-
-abbrev pub invariant-loop-ty : goal.invariant-loop-ty
-invariant-loop-ty l = AreMosts (own_of l.adts l.sought) l.types l.ty-index l.mosts.items

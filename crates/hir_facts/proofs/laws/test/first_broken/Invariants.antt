@@ -1,5 +1,0 @@
-use Rattle.hir_facts.proofs.Broken.{Passed}
-use Rattle.hir_facts.proofs.laws.test.first_broken.Given as goal
-
-abbrev pub invariant-loop-at : goal.invariant-loop-at
-invariant-loop-at g l = Passed (g.T.Test.holds l.raw) l.items (g.T.Test.listed l.raw) l.at

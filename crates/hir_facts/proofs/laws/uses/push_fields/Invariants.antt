@@ -1,5 +1,0 @@
-use Rattle.std.proofs.Common.{◌≡◌, ◌++◌, Some, take, map}
-use Rattle.hir_facts.proofs.laws.uses.push_fields.Given as goal
-
-abbrev pub invariant-loop-field : goal.invariant-loop-field
-invariant-loop-field l = l.out.items ≡ l.fn.out.items ++ map (λ f. Some f.ty.0) (take l.field-index l.fields)

@@ -1,6 +1,0 @@
-use Rattle.std.proofs.Common.{◌≡◌, take, map}
-use Rattle.hir_facts.specs.PlainMarks.{is_fine_type}
-use Rattle.hir_facts.proofs.plain.fine_nodes.Given as goal
-
-abbrev pub invariant-loop-ty : goal.invariant-loop-ty
-invariant-loop-ty l = l.fine.items ≡ map is_fine_type (take l.ty-index l.ty-items)

@@ -1,5 +1,0 @@
-use Rattle.std.proofs.Common.{◌≡◌, [], replicate}
-use Rattle.hir_facts.proofs.spread.no_users.Given as goal
-
-abbrev pub invariant-loop : goal.invariant-loop
-invariant-loop l = l.users.items ≡ replicate l.counter []

@@ -1,5 +1,0 @@
-use Rattle.hir_facts.proofs.UsersOf.{AreUnmarked}
-use Rattle.hir_facts.proofs.spread.unmarked_nodes.Given as goal
-
-abbrev pub invariant-loop-node : goal.invariant-loop-node
-invariant-loop-node l = AreUnmarked l.marks l.node l.nodes.items

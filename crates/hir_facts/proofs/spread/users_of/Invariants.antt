@@ -1,5 +1,0 @@
-use Rattle.hir_facts.specs.Spread.{AreUsers}
-use Rattle.hir_facts.proofs.spread.users_of.Given as goal
-
-abbrev pub invariant-loop-node : goal.invariant-loop-node
-invariant-loop-node l = AreUsers l.kids l.node l.users.items

@@ -1,0 +1,7 @@
+pub mod CarriedBodies
+pub mod Broken
+pub mod Named
+pub mod InBodies
+pub mod Once
+pub mod Uses
+pub mod Owners

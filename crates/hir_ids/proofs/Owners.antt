@@ -1,0 +1,39 @@
+-- Which definitions each body is that of, and which adts list each variant.
+use Rattle.std.proofs.Common.{get_or, Bool, true, false, ◌≡◌, ℕ, List, length, Some}
+use Rattle.std.specs.Prelude.{slice_get, IsTrue}
+use Rattle.std.proofs.lemmas.Option.{slice_get_within}
+use Rattle.hir_raw.specs.declared.raw.RawBody.{RawBody}
+use Rattle.hir_raw.specs.declared.raw.RawVariant.{RawVariant}
+use Rattle.hir_raw.specs.declared.raw.RawFacts.{RawFacts}
+use Rattle.hir_ids.specs.declared.namers.Namers.{Namers}
+use Rattle.hir_ids.specs.Namers.{IsNamedBy, IsOne}
+use Rattle.hir_ids.specs.InBody.{BodyIdsHere, AreOwners, AreListers}
+use Rattle.hir_ids.specs.Ids.{owned_bodies, BodyIdsExist, listed_variants, VariantIdsHere, VariantIdsExist}
+use Rattle.hir_ids.proofs.InBodies.{exists_from_here, here_from_exists}
+use Rattle.hir_ids.proofs.Once.{once_from_one, one_from_once, named_at}
+
+owner_at : (raw : RawFacts) (xs : List Namers) (i : ℕ) (b : RawBody) (x : Namers) → AreOwners raw xs → slice_get raw.bodies i ≡ Some b → x ≡ get_or xs i x → IsNamedBy (owned_bodies raw) (length (owned_bodies raw)) i x
+owner_at raw xs i b x owners found is = named_at (owned_bodies raw) (length raw.bodies) xs i x owners (slice_get_within raw.bodies i b found) is
+
+pub owned_says : (raw : RawFacts) (xs : List Namers) (i : ℕ) (b : RawBody) (x : Namers) (told : Bool) → AreOwners raw xs → slice_get raw.bodies i ≡ Some b → x ≡ get_or xs i x → IsOne x
+    → (IsTrue told → BodyIdsHere raw b) × (BodyIdsHere raw b → IsTrue told) → (IsTrue told → BodyIdsExist raw i b) × (BodyIdsExist raw i b → IsTrue told)
+owned_says raw xs i b x told owners found is one says =
+    (λ h. exists_from_here raw i b (says.0 h) (once_from_one (owned_bodies raw) i x (owner_at raw xs i b x owners found is) one), λ e. says.1 (here_from_exists raw i b e))
+
+pub unowned_says : (raw : RawFacts) (xs : List Namers) (i : ℕ) (b : RawBody) (x : Namers) (told : Bool) → AreOwners raw xs → slice_get raw.bodies i ≡ Some b → x ≡ get_or xs i x → told ≡ false
+    → (IsOne x → IsTrue told) → (IsTrue told → BodyIdsExist raw i b) × (BodyIdsExist raw i b → IsTrue told)
+unowned_says raw xs i b x told owners found is was says =
+    (λ h. absurd (let e : told ≡ true = h in cc), λ e. says (one_from_once (owned_bodies raw) i x (owner_at raw xs i b x owners found is) e.owner))
+
+lister_at : (raw : RawFacts) (xs : List Namers) (i : ℕ) (v : RawVariant) (x : Namers) → AreListers raw xs → slice_get raw.variants i ≡ Some v → x ≡ get_or xs i x → IsNamedBy (listed_variants raw.adts) (length (listed_variants raw.adts)) i x
+lister_at raw xs i v x listers found is = named_at (listed_variants raw.adts) (length raw.variants) xs i x listers (slice_get_within raw.variants i v found) is
+
+pub listed_says : (raw : RawFacts) (xs : List Namers) (i : ℕ) (v : RawVariant) (x : Namers) (told : Bool) → AreListers raw xs → slice_get raw.variants i ≡ Some v → x ≡ get_or xs i x → IsOne x
+    → (IsTrue told → VariantIdsHere raw v) × (VariantIdsHere raw v → IsTrue told) → (IsTrue told → VariantIdsExist raw i v) × (VariantIdsExist raw i v → IsTrue told)
+listed_says raw xs i v x told listers found is one says =
+    (λ h. record { here = says.0 h; listed = once_from_one (listed_variants raw.adts) i x (lister_at raw xs i v x listers found is) one }, λ e. says.1 e.here)
+
+pub unlisted_says : (raw : RawFacts) (xs : List Namers) (i : ℕ) (v : RawVariant) (x : Namers) (told : Bool) → AreListers raw xs → slice_get raw.variants i ≡ Some v → x ≡ get_or xs i x → told ≡ false
+    → (IsOne x → IsTrue told) → (IsTrue told → VariantIdsExist raw i v) × (VariantIdsExist raw i v → IsTrue told)
+unlisted_says raw xs i v x told listers found is was says =
+    (λ h. absurd (let e : told ≡ true = h in cc), λ e. says (one_from_once (listed_variants raw.adts) i x (lister_at raw xs i v x listers found is) e.listed))

@@ -1,0 +1,8 @@
+use Rattle.std.proofs.Common.{◌≡◌, ◌∙◌}
+use Rattle.hir_ids.specs.Ids.{owned_bodies}
+use Rattle.hir_ids.proofs.body_ids.BodyIds.new.Goals as goal
+
+pub returns : goal.returns
+returns c =
+    let is : c.deref.result.now ≡ owned_bodies c.args.raw.now = c.deref.ensures.value ∙ c.in_ok-owned.ensures in
+    rw (← is, ← c.len.ensures) c.in_ok-owners.ensures

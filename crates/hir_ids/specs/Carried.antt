@@ -1,0 +1,134 @@
+-- Each entry and part is of a kind that is carried.
+use Rattle.std.specs.Prelude.{Bool, true, false, ◌&&◌, List, [], ◌∷◌, is_none, not}
+use Rattle.std.specs.List.{list_all}
+use Rattle.hir_raw.specs.declared.raw.RawType.{RawType}
+use Rattle.hir_raw.specs.declared.raw.RawType.TheVariants as type
+use Rattle.hir_raw.specs.declared.raw.RawParam.{RawParam}
+use Rattle.hir_raw.specs.declared.raw.RawParam.TheVariants as param
+use Rattle.hir_raw.specs.declared.raw.RawAdtKind.{RawAdtKind}
+use Rattle.hir_raw.specs.declared.raw.RawAdtKind.TheVariants as kind
+use Rattle.hir_raw.specs.declared.raw.RawAdt.{RawAdt}
+use Rattle.hir_raw.specs.declared.raw.RawCtor.{RawCtor}
+use Rattle.hir_raw.specs.declared.raw.RawCtor.TheVariants as ctor
+use Rattle.hir_raw.specs.declared.raw.RawVariant.{RawVariant}
+use Rattle.hir_raw.specs.declared.raw.RawAt.{RawAt}
+use Rattle.hir_raw.specs.declared.raw.RawAt.TheVariants as stands
+use Rattle.hir_raw.specs.declared.raw.RawFn.{RawFn}
+use Rattle.hir_raw.specs.declared.raw.RawLiteral.{RawLiteral}
+use Rattle.hir_raw.specs.declared.raw.RawLiteral.TheVariants as literal
+use Rattle.hir_raw.specs.declared.raw.RawPath.{RawPath}
+use Rattle.hir_raw.specs.declared.raw.RawPath.TheVariants as path
+use Rattle.hir_raw.specs.declared.raw.RawStmt.{RawStmt}
+use Rattle.hir_raw.specs.declared.raw.RawStmt.TheVariants as stmt
+use Rattle.hir_raw.specs.declared.raw.RawExpr.{RawExpr}
+use Rattle.hir_raw.specs.declared.raw.RawExpr.TheVariants as expr
+use Rattle.hir_raw.specs.declared.raw.RawPat.{RawPat}
+use Rattle.hir_raw.specs.declared.raw.RawPat.TheVariants as pat
+use Rattle.hir_raw.specs.declared.raw.RawBinding.{RawBinding}
+use Rattle.hir_raw.specs.declared.raw.BindingAnnotation.{BindingAnnotation}
+use Rattle.hir_raw.specs.declared.raw.BindingAnnotation.TheVariants as mode
+use Rattle.hir_raw.specs.declared.raw.RawBody.{RawBody}
+
+abbrev pub is_carried_type : RawType → Bool
+is_carried_type type.Bool = true
+is_carried_type type.Char = true
+is_carried_type (type.Integer i) = true
+is_carried_type (type.Tuple ts) = true
+is_carried_type (type.Adt a ts) = true
+is_carried_type (type.Param n) = true
+is_carried_type type.Hole = true
+is_carried_type type.Other = false
+
+abbrev pub is_empty : {A : Type 0} → List A → Bool
+is_empty [] = true
+is_empty (x ∷ xs) = false
+
+-- the parameter stands for a type
+abbrev pub is_type_param : RawParam → Bool
+is_type_param param.Type = true
+is_type_param param.Other = false
+
+abbrev pub is_carried_kind : RawAdtKind → Bool
+is_carried_kind kind.Struct = true
+is_carried_kind kind.Enum = true
+is_carried_kind kind.Union = false
+
+-- a struct or enum whose parameters are types, without predicates, of which none may lose its size
+abbrev pub is_carried_adt : RawAdt → Bool
+is_carried_adt a =
+    is_carried_kind a.kind && (list_all is_type_param a.params && (is_empty a.preds && is_none a.unsize))
+
+abbrev pub is_carried_ctor : RawCtor → Bool
+is_carried_ctor ctor.Unit = true
+is_carried_ctor ctor.Tuple = true
+is_carried_ctor ctor.Record = false
+
+-- `V` or `V(..)`, without a body for its discriminant
+abbrev pub is_carried_variant : RawVariant → Bool
+is_carried_variant v = is_carried_ctor v.ctor && is_none v.body
+
+abbrev pub is_in_module : RawAt → Bool
+is_in_module (stands.Module m) = true
+is_in_module stands.Other = false
+
+-- a function of a module whose parameters are types, without predicates and `self`
+abbrev pub is_carried_fn : RawFn → Bool
+is_carried_fn f =
+    is_in_module f.«at» && (list_all is_type_param f.params && (is_empty f.preds && not f.has_self))
+
+-- a truth value, a character, or an integer with a suffix or without
+abbrev pub is_carried_literal : RawLiteral → Bool
+is_carried_literal (literal.Bool b) = true
+is_carried_literal (literal.Char c) = true
+is_carried_literal (literal.Int digits suffix) = true
+is_carried_literal literal.Other = false
+
+abbrev pub is_carried_path : RawPath → Bool
+is_carried_path (path.Local v) = true
+is_carried_path (path.Function f) = true
+is_carried_path (path.Ctor v) = true
+is_carried_path path.Other = false
+
+-- a `let` has no `else`
+abbrev pub is_carried_stmt : RawStmt → Bool
+is_carried_stmt (stmt.Let p written init other) = is_none other
+is_carried_stmt (stmt.Expr e semicolon) = true
+
+-- a block has no label, and a `match` has an arm
+abbrev pub is_carried_expr : RawExpr → Bool
+is_carried_expr (expr.Lit l) = is_carried_literal l
+is_carried_expr (expr.Path p) = is_carried_path p
+is_carried_expr (expr.Block label stmts last) = is_none label && list_all is_carried_stmt stmts
+is_carried_expr (expr.Tuple es) = true
+is_carried_expr (expr.If c first other) = true
+is_carried_expr (expr.Match e arms) = not (is_empty arms)
+is_carried_expr (expr.Call f args) = true
+is_carried_expr expr.Other = false
+
+abbrev pub is_ctor_path : RawPath → Bool
+is_ctor_path (path.Ctor v) = true
+is_ctor_path _ = false
+
+-- a binding pattern has no pattern below it, and a path is that of a constructor
+abbrev pub is_carried_pat : RawPat → Bool
+is_carried_pat pat.Wild = true
+is_carried_pat (pat.Bind v sub) = is_none sub
+is_carried_pat (pat.Tuple ps) = true
+is_carried_pat (pat.TupleStruct v ps) = true
+is_carried_pat (pat.Path q) = is_ctor_path q
+is_carried_pat (pat.Lit e) = true
+is_carried_pat pat.Other = false
+
+abbrev pub is_carried_mode : BindingAnnotation → Bool
+is_carried_mode mode.Unannotated = true
+is_carried_mode mode.Mutable = true
+is_carried_mode mode.Ref = false
+is_carried_mode mode.RefMut = false
+
+abbrev pub is_carried_binding : RawBinding → Bool
+is_carried_binding v = is_carried_mode v.mode
+
+-- its nodes and bindings are, and it has no `self`
+abbrev pub is_carried_body : RawBody → Bool
+is_carried_body b =
+    list_all is_carried_expr b.exprs && (list_all is_carried_pat b.pats && (list_all is_carried_binding b.bindings && is_none b.self_))

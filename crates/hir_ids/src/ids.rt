@@ -1,0 +1,146 @@
+//! Ids are in range, and smaller where a list asks for it; each body is that of one definition.
+ghost use Rattle.std.specs.Prelude.{◌≡◌, ◌↔◌, ◌<◌, ℕ, Some, None, slice_get, length, IsTrue, IfSome};
+ghost use Rattle.hir_types.specs.declared.ids.TypeRefId.{TypeRefId};
+ghost use Rattle.hir_ids.specs.Ids.{ChildrenBefore, AdtExists, TypeIdsExist, ParentBefore, PlaceExists, VisExists, FnIdsExist};
+
+use crate::test::Test;
+use hir_raw::{RawAt, RawFacts, RawFn, RawType, RawVis};
+use hir_types::{ModuleId, TypeRefId};
+use std::alloc::{AllocError, Global};
+
+fn are_below(types: &[TypeRefId], bound: usize) -> bool
+    ensures { IsTrue result ↔ ((k : ℕ) (t : TypeRefId) → slice_get types.now k ≡ Some t → t.0 < bound) }
+{
+    types.iter().all(|t| (t.0 as usize) < bound)
+}
+
+fn has_children_before(at: usize, ty: &RawType) -> bool
+    ensures { IsTrue result ↔ ChildrenBefore at ty.now }
+{
+    are_below(ty.parts(), at)
+}
+
+fn has_adt(raw: &RawFacts, ty: &RawType) -> bool
+    ensures { IsTrue result ↔ AdtExists raw.now ty.now }
+{
+    match ty {
+        RawType::Adt { adt, args: _ } => (adt.0 as usize) < raw.adts.len(),
+        RawType::Bool | RawType::Char | RawType::Integer(_) | RawType::Tuple(_) => true,
+        RawType::Param(_) | RawType::Hole | RawType::Other => true,
+    }
+}
+
+fn has_parent_before(at: usize, parent: &Option<ModuleId>) -> bool
+    ensures { IsTrue result ↔ ParentBefore at parent.now }
+{
+    match parent {
+        None => true,
+        Some(module) => (module.0 as usize) < at,
+    }
+}
+
+fn has_place(raw: &RawFacts, at: &RawAt) -> bool
+    ensures { IsTrue result ↔ PlaceExists raw.now at.now }
+{
+    match at {
+        RawAt::Module(module) => (module.0 as usize) < raw.modules.len(),
+        RawAt::Other => true,
+    }
+}
+
+pub fn has_vis(raw: &RawFacts, vis: &RawVis) -> bool
+    ensures { IsTrue result ↔ VisExists raw.now vis.now }
+{
+    match vis {
+        RawVis::Pub => true,
+        RawVis::Module(module) => (module.0 as usize) < raw.modules.len(),
+    }
+}
+
+fn has_body(raw: &RawFacts, function: &RawFn) -> bool
+    ensures { IsTrue result ↔ IfSome function.now.body (λ b. b.0 < length raw.now.bodies) }
+{
+    match function.body {
+        None => true,
+        Some(body) => (body.0 as usize) < raw.bodies.len(),
+    }
+}
+
+fn has_fn_ids(raw: &RawFacts, function: &RawFn) -> bool
+    ensures { IsTrue result ↔ FnIdsExist raw.now function.now }
+{
+    has_place(raw, &function.at)
+        && are_below(function.inputs.as_slice(), raw.types.len())
+        && (function.output.0 as usize) < raw.types.len()
+        && has_vis(raw, &function.vis)
+        && has_body(raw, function)
+}
+
+/// The parts of a written type come before it, and an adt that it names exists.
+pub struct TypeIds;
+
+impl Test for TypeIds {
+    type Item = RawType;
+
+    ghost listed = { λ raw. raw.types };
+
+    ghost holds = { TypeIdsExist };
+
+    ghost given = { λ raw s. Unit {0} };
+
+    fn test(
+        &self,
+        _alloc: Global,
+        raw: &RawFacts,
+        at: usize,
+        item: &RawType,
+    ) -> Result<bool, AllocError> {
+        Ok(has_children_before(at, item) && has_adt(raw, item))
+    }
+}
+
+/// A module comes after the one that it stands in.
+pub struct ModuleIds;
+
+impl Test for ModuleIds {
+    type Item = Option<ModuleId>;
+
+    ghost listed = { λ raw. raw.modules };
+
+    ghost holds = { λ raw. ParentBefore };
+
+    ghost given = { λ raw s. Unit {0} };
+
+    fn test(
+        &self,
+        _alloc: Global,
+        _raw: &RawFacts,
+        at: usize,
+        item: &Option<ModuleId>,
+    ) -> Result<bool, AllocError> {
+        Ok(has_parent_before(at, item))
+    }
+}
+
+/// The ids of a function are in range.
+pub struct FnIds;
+
+impl Test for FnIds {
+    type Item = RawFn;
+
+    ghost listed = { λ raw. raw.fns };
+
+    ghost holds = { λ raw i f. FnIdsExist raw f };
+
+    ghost given = { λ raw s. Unit {0} };
+
+    fn test(
+        &self,
+        _alloc: Global,
+        raw: &RawFacts,
+        _at: usize,
+        item: &RawFn,
+    ) -> Result<bool, AllocError> {
+        Ok(has_fn_ids(raw, item))
+    }
+}

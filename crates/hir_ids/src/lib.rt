@@ -1,0 +1,20 @@
+//! The laws of kinds and ids, which each entry of the facts obeys, and how the entries of a list are
+//! tested.
+#![tactic(auto)]
+
+mod adt_ids;
+mod body_ids;
+mod carried;
+mod ids;
+mod namers;
+mod test;
+
+pub use adt_ids::{AdtIds, VariantIds};
+pub use body_ids::{BodyIds, binding_of};
+pub use carried::{
+    AdtsCarried, BodiesCarried, FnsCarried, TypesCarried, VariantsCarried, are_type_params,
+    first_other,
+};
+pub use ids::{FnIds, ModuleIds, TypeIds};
+pub use namers::{Namers, is_nobody, is_one, namers_of};
+pub use test::{Test, first_broken};

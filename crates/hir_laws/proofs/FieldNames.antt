@@ -1,0 +1,48 @@
+-- The names of fields, one after another.
+use Rattle.std.proofs.Common.{◌≡◌, ◌<◌, ◌^◌, ℕ, zero, suc, List, [], ◌∷◌, length, take, Some, refl, sym, ◌∙◌, arith, inl, inr}
+use Rattle.std.specs.Prelude.{slice_get}
+use Rattle.std.specs.Fmt.{decimal}
+use Rattle.std.proofs.lemmas.Fmt.{decimal_injective}
+use Rattle.std.proofs.lemmas.Bool.{cases_lt}
+use Rattle.std.proofs.lemmas.Option.{slice_get_within}
+use Rattle.std.proofs.Math.Nat.{eq-or-lt_of_le}
+use Rattle.hir_raw.specs.declared.raw.RawCtor.TheVariants as ctor
+use Rattle.hir_raw.specs.declared.raw.RawField.{RawField}
+use Rattle.hir_raw.specs.declared.raw.RawVariant.{RawVariant}
+use Rattle.hir_ids.specs.Entries.{AllHold}
+use Rattle.hir_laws.specs.Fields.{IsNew, NamesFit}
+
+take_get : {A : Type 0} (xs : List A) (n j : ℕ) → j < n → slice_get (take n xs) j ≡ slice_get xs j
+take_get xs zero j lt = absurd (omega arith)
+take_get [] (suc n) j lt = refl
+take_get (x ∷ xs) (suc n) zero lt = refl
+take_get (x ∷ xs) (suc n) (suc j) lt = take_get xs n j (omega arith)
+
+-- none of the fields before position i has this name
+pub new_here : (fields : List RawField) (i : ℕ) (f : RawField) → ((j : ℕ) (g : RawField) → slice_get (take i fields) j ≡ Some g → g.name ≡ f.name → ⊥) → IsNew fields i f
+new_here fields i f none j g lt found = none j g (take_get fields i j lt ∙ found)
+
+pub numbered_fits : (v : RawVariant) → length v.fields < 2 ^ 64 → AllHold (λ i f. f.name ≡ decimal i) v.fields → NamesFit v
+numbered_fits v small all = record {
+  distinct = λ i j f g at_i at_j same.
+      (let below_i : i < length v.fields = slice_get_within v.fields i f at_i in
+      let below_j : j < length v.fields = slice_get_within v.fields j g at_j in
+      decimal_injective i j (omega (arith, small)) (omega (arith, small)) (sym (all i f at_i) ∙ (same ∙ all j g at_j)));
+  numbered = λ is i f found. all i f found;
+}
+
+pub distinct_fits : (v : RawVariant) → (v.ctor ≡ ctor.Tuple → ⊥) → AllHold (IsNew v.fields) v.fields → NamesFit v
+distinct_fits v other all = record {
+  distinct = λ i j f g at_i at_j same.
+      elim (cases_lt i j) [
+        | inl lt ↦ absurd (all j g at_j i f lt at_i same)
+        | inr ge ↦ elim (eq-or-lt_of_le {n = j} {m = i} ge) [
+          | inl e ↦ sym e
+          | inr lt ↦ absurd (all i f at_i j g lt at_j (sym same))
+        ]
+      ];
+  numbered = λ is. absurd (other is);
+}
+
+pub new_from_fits : (v : RawVariant) → NamesFit v → AllHold (IsNew v.fields) v.fields
+new_from_fits v fit i f at_i j g lt at_j same = (let e : j ≡ i = fit.distinct j i g f at_j at_i same in omega (arith, e))

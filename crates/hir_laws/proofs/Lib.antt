@@ -1,0 +1,9 @@
+pub mod Items
+pub mod Walkable
+pub mod FieldNames
+pub mod Refusals
+pub mod Digits
+pub mod PatternLiterals
+pub mod Binding
+pub mod Scoping
+pub mod Allowed

@@ -1,0 +1,24 @@
+use Rattle.hir_counts.specs.Sizes.{IsEarly, TypeIsSmall, AdtIsSmall, VariantIsSmall, FnIsSmall, BodyIsSmall}
+use Rattle.hir_laws.proofs.Allowed.{allowed}
+use Rattle.hir_laws.proofs.checks.check_sizes.Goals as goal
+
+pub new-requires : goal.new-requires
+new-requires c i t found = (c.requires.types i t found).before
+
+pub returns-clause-ok : goal.returns-clause-ok
+returns-clause-ok c = (
+  allowed (TypeIsSmall c.args.raw.now) c.args.raw.now.types _ _ _ _ _ c.in_ok-types.ensures c.allow.ensures c.in_ok-allow.was,
+  (
+    allowed (λ i m. IsEarly i) c.args.raw.now.modules _ _ _ _ _ c.in_ok-modules.ensures c.allow-2.ensures c.in_ok-allow-2.was,
+    (
+      allowed AdtIsSmall c.args.raw.now.adts _ _ _ _ _ c.in_ok-adts.ensures c.allow-3.ensures c.in_ok-allow-3.was,
+      (
+        allowed VariantIsSmall c.args.raw.now.variants _ _ _ _ _ c.in_ok-variants.ensures c.allow-4.ensures c.in_ok-allow-4.was,
+        (
+          allowed FnIsSmall c.args.raw.now.fns _ _ _ _ _ c.in_ok-fns.ensures c.allow-5.ensures c.in_ok-allow-5.was,
+          (allowed BodyIsSmall c.args.raw.now.bodies _ _ _ _ _ c.in_ok-bodies.ensures c.allow-6.ensures c.in_ok-allow-6.was, tt),
+        ),
+      ),
+    ),
+  ),
+)

@@ -1,0 +1,8 @@
+use Rattle.std.specs.Prelude.{slice_index_or}
+use Rattle.hir_ids.specs.declared.namers.Namers.TheVariants.{Nobody}
+use Rattle.hir_laws.specs.InBits.{ExprIsInBits}
+use Rattle.hir_ids.proofs.Broken.{Passed}
+use Rattle.hir_laws.proofs.literals.are_in_bits.Given as goal
+
+abbrev pub invariant-loop-e : goal.invariant-loop-e
+invariant-loop-e l = Passed (λ e x. ExprIsInBits (slice_index_or l.patterns e Nobody) x) l.expr-items l.body.exprs l.e

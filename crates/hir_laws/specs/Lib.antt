@@ -1,0 +1,15 @@
+pub mod Names
+pub mod Trees
+pub mod Scopes
+pub mod Limits
+pub mod Literals
+pub mod Binders
+pub mod Scheduled
+pub mod InBits
+pub mod Fields
+pub mod Lawful
+pub mod Refused
+pub mod Bodies
+pub mod LawfulFacts
+pub mod NoHoles
+pub mod WrittenFits

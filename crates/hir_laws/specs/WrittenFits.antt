@@ -1,0 +1,158 @@
+-- Each written type fits under the parameters of its definition: arguments are as many as the parameters of what they
+-- stand at, and parameters are in range.
+use Rattle.std.specs.Prelude.{◌≡◌, ◌<◌, ◌≤◌, ◌==◌, ℕ, Bool, true, false, List, [], length, slice_get, Option, Some, None, option_map, refl, if◌then◌else◌}
+use Rattle.std.specs.Option.{option_and_then}
+use Rattle.std.proofs.Common.{arith, ap, ◌∙◌, subst}
+use Rattle.hir_types.specs.declared.ids.BodyId.{BodyId}
+use Rattle.hir_types.specs.declared.ids.ExprId.{ExprId}
+use Rattle.hir_types.specs.declared.ids.PatId.{PatId}
+use Rattle.hir_types.specs.declared.ids.FunctionId.{FunctionId}
+use Rattle.hir_types.specs.declared.ids.TypeRefId.{TypeRefId}
+use Rattle.hir_types.specs.declared.ids.DefWithBodyId.{DefWithBodyId}
+use Rattle.hir_types.specs.declared.ids.DefWithBodyId.TheVariants as def
+use Rattle.hir_raw.specs.declared.raw.RawType.{RawType}
+use Rattle.hir_raw.specs.declared.raw.RawType.TheVariants as type
+use Rattle.hir_raw.specs.declared.raw.RawAdt.{RawAdt}
+use Rattle.hir_raw.specs.declared.raw.RawField.{RawField}
+use Rattle.hir_raw.specs.declared.raw.RawVariant.{RawVariant}
+use Rattle.hir_raw.specs.declared.raw.RawFn.{RawFn}
+use Rattle.hir_raw.specs.declared.raw.RawStmt.TheVariants as stmt
+use Rattle.hir_raw.specs.declared.raw.RawExpr.{RawExpr}
+use Rattle.hir_raw.specs.declared.raw.RawBody.{RawBody}
+use Rattle.hir_raw.specs.declared.raw.RawFacts.{RawFacts}
+use Rattle.hir_raw.specs.Types.{type_parts}
+use Rattle.hir_raw.specs.Order.{stmts_of, stmt_at}
+use Rattle.hir_raw.specs.Scope.{adt_params, has_params, params_of, count_or_none}
+use Rattle.hir_laws.specs.Bodies.{body_of, inputs_by, inputs_of}
+use Rattle.hir_counts.specs.Standing.{param_bound, wrong_count, wrong_args, params_in, wrongs_in}
+use Rattle.hir_counts.specs.Counts.{TypeFits, ExprFits, BodyFits, MaybeBodyFits, body_at, param_count}
+use Rattle.hir_laws.specs.Lawful.{IsLawful}
+use Rattle.hir_laws.specs.LawfulFacts.{type_ids, variant_ids, variants_fit, fn_ids, fns_fit, body_ids}
+use Rattle.hir_counts.specs.Most.{own_most, part_most}
+
+-- type t of the facts fits under this many parameters
+pub record FitsUnder (raw : RawFacts) (count t : ℕ) : Type 0 where
+  pub within : t < length raw.types
+  pub params : params_in raw t ≤ count
+  pub args : wrongs_in raw t ≡ 0
+
+-- ---- a type and its parts
+
+-- what a type says itself
+abbrev pub OwnFits : RawFacts → ℕ → RawType → Type 0
+OwnFits raw count (type.Adt a ts) = has_params (adt_params raw a) (length ts) ≡ true
+OwnFits raw count (type.Param n) = n < count
+OwnFits raw count type.Bool = Unit {0}
+OwnFits raw count type.Char = Unit {0}
+OwnFits raw count (type.Integer i) = Unit {0}
+OwnFits raw count (type.Tuple ts) = Unit {0}
+OwnFits raw count type.Hole = Unit {0}
+OwnFits raw count type.Other = Unit {0}
+
+none_wrong : (b : Bool) (n : ℕ) → n ≡ (if b then 0 else 1) → n ≡ 0 → b ≡ true
+none_wrong true n is h = refl
+none_wrong false n is h = absurd (omega arith)
+
+counts_agree : (o : Option RawAdt) (ts : List TypeRefId) → wrong_count o ts ≡ 0 → has_params (option_map (λ x. length x.params) o) (length ts) ≡ true
+counts_agree None ts h = absurd (omega arith)
+counts_agree (Some x) ts h = none_wrong (length x.params == length ts) (wrong_count (Some x) ts) refl h
+
+own_by : (raw : RawFacts) (count : ℕ) (x : RawType) → param_bound x ≤ count → wrong_args raw.adts x ≤ 0 → OwnFits raw count x
+own_by raw count (type.Adt a ts) params args = counts_agree (slice_get raw.adts a.0) ts (omega arith)
+own_by raw count (type.Param n) params args = omega arith
+own_by raw count type.Bool params args = tt
+own_by raw count type.Char params args = tt
+own_by raw count (type.Integer i) params args = tt
+own_by raw count (type.Tuple ts) params args = tt
+own_by raw count type.Hole params args = tt
+own_by raw count type.Other params args = tt
+
+below : (a b c : ℕ) → a ≤ b → b ≤ c → a ≤ c
+below a b c p q = omega arith
+
+at_zero : (a b : ℕ) → a ≤ b → b ≡ 0 → a ≡ 0
+at_zero a b p q = omega arith
+
+pub own_fits : (raw : RawFacts) → IsLawful raw → (count i : ℕ) (x : RawType) → slice_get raw.types i ≡ Some x → FitsUnder raw count i → OwnFits raw count x
+own_fits raw law count i x found h =
+    let wrong : wrong_args raw.adts x ≡ 0 = at_zero (wrong_args raw.adts x) (wrongs_in raw i) (own_most (wrong_args raw.adts) raw.types (type_ids raw law) i x found) h.args in
+    own_by raw count x (below (param_bound x) (params_in raw i) count (own_most param_bound raw.types (type_ids raw law) i x found) h.params) (omega arith)
+
+pub parts_fit : (raw : RawFacts) → IsLawful raw → (count i : ℕ) (x : RawType) → slice_get raw.types i ≡ Some x → FitsUnder raw count i → (k : ℕ) (t : TypeRefId) → slice_get (type_parts x) k ≡ Some t → FitsUnder raw count t.0
+parts_fit raw law count i x found h k t here =
+    let before : t.0 < i = type_ids raw law i x found k t here in
+    let inside : i < length raw.types = h.within in
+    record {
+      within = omega arith;
+      params = below (params_in raw t.0) (params_in raw i) count (part_most param_bound raw.types (type_ids raw law) i x found k t here) h.params;
+      args = at_zero (wrongs_in raw t.0) (wrongs_in raw i) (part_most (wrong_args raw.adts) raw.types (type_ids raw law) i x found k t here) h.args;
+    }
+
+-- ---- the types of a function
+
+fits_under : (raw : RawFacts) (count : ℕ) (t : TypeRefId) → t.0 < length raw.types → TypeFits (params_in raw) (wrongs_in raw) count t → FitsUnder raw count t.0
+fits_under raw count t lt h = record { within = lt; params = h.0; args = h.1 }
+
+pub inputs_fit : (raw : RawFacts) → IsLawful raw → (f : ℕ) (x : RawFn) → slice_get raw.fns f ≡ Some x → (k : ℕ) (t : TypeRefId) → slice_get x.inputs k ≡ Some t → FitsUnder raw (length x.params) t.0
+inputs_fit raw law f x found k t here = fits_under raw (length x.params) t ((fn_ids raw law f x found).inputs k t here) ((fns_fit raw law f x found).inputs k t here)
+
+pub output_fits : (raw : RawFacts) → IsLawful raw → (f : ℕ) (x : RawFn) → slice_get raw.fns f ≡ Some x → FitsUnder raw (length x.params) x.output.0
+output_fits raw law f x found = fits_under raw (length x.params) x.output (fn_ids raw law f x found).output (fns_fit raw law f x found).output
+
+-- ---- the fields of a variant
+
+-- fit under the parameters of its adt
+pub fields_fit : (raw : RawFacts) → IsLawful raw → (v : ℕ) (x : RawVariant) (a : RawAdt) → slice_get raw.variants v ≡ Some x → slice_get raw.adts x.adt.0 ≡ Some a → (k : ℕ) (f : RawField) → slice_get x.fields k ≡ Some f → FitsUnder raw (length a.params) f.ty.0
+fields_fit raw law v x a found adt k f here =
+    let fit : TypeFits (params_in raw) (wrongs_in raw) (length a.params) f.ty =
+    subst (λ (o : Option RawAdt). TypeFits (params_in raw) (wrongs_in raw) (param_count o) f.ty) adt ((variants_fit raw law v x found).fields k f here) in
+    fits_under raw (length a.params) f.ty ((variant_ids raw law v x found).here.fields k f here).written fit
+
+-- ---- the types of a definition
+
+input_at : (raw : RawFacts) → IsLawful raw → (f : ℕ) (o : Option RawFn) → slice_get raw.fns f ≡ o → (k : ℕ) (t : TypeRefId) → slice_get (inputs_by o) k ≡ Some t
+    → FitsUnder raw (count_or_none (option_map (λ x. length x.params) o)) t.0
+input_at raw law f None found k t here = absurd (cc)
+input_at raw law f (Some x) found k t here = inputs_fit raw law f x found k t here
+
+no_input : (raw : RawFacts) (k : ℕ) (t : TypeRefId) → slice_get [] k ≡ Some t → FitsUnder raw 0 t.0
+no_input raw k t here = absurd (cc)
+
+pub definition_inputs_fit : (raw : RawFacts) → IsLawful raw → (d : DefWithBodyId) (k : ℕ) (t : TypeRefId) → slice_get (inputs_of raw d) k ≡ Some t → FitsUnder raw (params_of raw d) t.0
+definition_inputs_fit raw law (def.FunctionId f) k t here = input_at raw law f.0 (slice_get raw.fns f.0) refl k t here
+definition_inputs_fit raw law (def.ConstId c) k t here = no_input raw k t here
+definition_inputs_fit raw law (def.StaticId s) k t here = no_input raw k t here
+definition_inputs_fit raw law (def.VariantId v) k t here = no_input raw k t here
+
+pub return_fits : (raw : RawFacts) → IsLawful raw → (f : FunctionId) (x : RawFn) → slice_get raw.fns f.0 ≡ Some x → FitsUnder raw (params_of raw (def.FunctionId f)) x.output.0
+return_fits raw law f x found = rw found (output_fits raw law f.0 x found)
+
+-- ---- the types that are written in its body
+
+let_by : (b w : ℕ → ℕ) (count : ℕ) (o : Option RawExpr) → ((x : RawExpr) → o ≡ Some x → ExprFits b w count x)
+    → (i : ℕ) (p : PatId) (t : TypeRefId) (init other : Option ExprId) → slice_get (stmts_of o) i ≡ Some (stmt.Let p (Some t) init other) → TypeFits b w count t
+let_by b w count None h i p t init other found = absurd (cc)
+let_by b w count (Some x) h i p t init other found = (h x refl).each i (stmt.Let p (Some t) init other) found
+
+let_in : (raw : RawFacts) → IsLawful raw → (f : ℕ) (x : RawFn) → slice_get raw.fns f ≡ Some x → (o : Option BodyId) (b : RawBody) → x.body ≡ o → option_and_then (λ i. slice_get raw.bodies i.0) o ≡ Some b
+    → (e : ExprId) (i : ℕ) (p : PatId) (t : TypeRefId) (init other : Option ExprId) → stmt_at b e i ≡ Some (stmt.Let p (Some t) init other) → FitsUnder raw (length x.params) t.0
+let_in raw law f x found None b is here e i p t init other at = absurd (cc)
+let_in raw law f x found (Some n) b is here e i p t init other at =
+    let fit : MaybeBodyFits (params_in raw) (wrongs_in raw) (length x.params) (body_at raw x.body) = (fns_fit raw law f x found).body in
+    let own : body_at raw x.body ≡ Some b = ap (λ (q : Option BodyId). body_at raw q) is ∙ here in
+    let whole : BodyFits (params_in raw) (wrongs_in raw) (length x.params) b = subst (λ (q : Option RawBody). MaybeBodyFits (params_in raw) (wrongs_in raw) (length x.params) q) own fit in
+    fits_under raw (length x.params) t ((body_ids raw law n.0 b here).written e i p t init other at)
+    (let_by (params_in raw) (wrongs_in raw) (length x.params) (slice_get b.exprs e.0) (λ y is. whole e.0 y is) i p t init other at)
+
+let_at : (raw : RawFacts) → IsLawful raw → (f : ℕ) (o : Option RawFn) (b : RawBody) → slice_get raw.fns f ≡ o → option_and_then (λ i. slice_get raw.bodies i.0) (option_and_then (λ x. x.body) o) ≡ Some b
+    → (e : ExprId) (i : ℕ) (p : PatId) (t : TypeRefId) (init other : Option ExprId) → stmt_at b e i ≡ Some (stmt.Let p (Some t) init other)
+    → FitsUnder raw (count_or_none (option_map (λ x. length x.params) o)) t.0
+let_at raw law f None b found here e i p t init other at = absurd (cc)
+let_at raw law f (Some x) b found here e i p t init other at = let_in raw law f x found x.body b refl here e i p t init other at
+
+pub lets_fit : (raw : RawFacts) → IsLawful raw → (d : DefWithBodyId) (b : RawBody) → body_of raw d ≡ Some b
+    → (e : ExprId) (i : ℕ) (p : PatId) (t : TypeRefId) (init other : Option ExprId) → stmt_at b e i ≡ Some (stmt.Let p (Some t) init other) → FitsUnder raw (params_of raw d) t.0
+lets_fit raw law (def.FunctionId f) b here e i p t init other at = let_at raw law f.0 (slice_get raw.fns f.0) b refl here e i p t init other at
+lets_fit raw law (def.ConstId c) b here e i p t init other at = absurd (cc)
+lets_fit raw law (def.StaticId s) b here e i p t init other at = absurd (cc)
+lets_fit raw law (def.VariantId v) b here e i p t init other at = absurd (cc)

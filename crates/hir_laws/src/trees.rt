@@ -1,0 +1,103 @@
+//! The nodes of a body are a tree, and each binding is bound once.
+ghost use Rattle.std.specs.Prelude.{◌≡◌, ◌↔◌, ◌<◌, ℕ, IsTrue, IfOk, length, map, slice_index_or};
+ghost use Rattle.hir_raw.specs.Order.{PartsFit, IsTree};
+ghost use Rattle.hir_ids.specs.declared.namers.Namers.TheVariants.{Nobody};
+ghost use Rattle.hir_ids.specs.Entries.{AllHold};
+ghost use Rattle.hir_ids.specs.Ids.{BodyIdsExist};
+ghost use Rattle.hir_laws.specs.Binders.{bound_binding, AreBinders, is_self, is_bound_once};
+ghost use Rattle.hir_laws.specs.Trees.{IsWellFormed};
+
+use hir_ids::{Namers, Test, binding_of, namers_of};
+use hir_raw::{RawBody, RawFacts, RawPat, schedule_of};
+use hir_types::BindingId;
+use std::alloc::{AllocError, Global};
+
+fn bound_binding(pat: &RawPat) -> Option<usize>
+    ensures { result ≡ bound_binding pat.now }
+{
+    match binding_of(pat) {
+        None => None,
+        Some(v) => Some(v.0 as usize),
+    }
+}
+
+fn bound_bindings(alloc: Global, pats: &[RawPat]) -> Result<Vec<Option<usize>>, AllocError>
+    ensures { IfOk result (λ v. v.items ≡ map bound_binding pats.now) }
+{
+    pats.iter().map(|pat| bound_binding(pat)).collect(alloc)
+}
+
+/// Which patterns bind each binding of a body.
+pub fn binders_of(alloc: Global, body: &RawBody) -> Result<Vec<Namers>, AllocError>
+    ensures { IfOk result (λ v. AreBinders body.now v.items) }
+{
+    let targets = bound_bindings(alloc, body.pats.as_slice())?;
+    let binders = namers_of(alloc, &targets, body.bindings.len())?;
+    Ok(binders)
+}
+
+/// Whether this binding is `self`.
+pub fn is_self(own: Option<BindingId>, v: usize) -> bool
+    ensures { result ≡ is_self own v }
+{
+    match own {
+        None => false,
+        Some(own) => own.0 as usize == v,
+    }
+}
+
+fn is_bound_once(is_self: bool, binders: Namers) -> bool
+    ensures { result ≡ is_bound_once is_self binders }
+{
+    match binders {
+        Namers::Nobody => is_self,
+        Namers::One(_) => !is_self,
+        Namers::Several => false,
+    }
+}
+
+fn are_bound_once(body: &RawBody, binders: &[Namers]) -> bool
+    ensures { IsTrue result ↔ ((v : ℕ) → v < length binders.now → IsTrue (is_bound_once (is_self body.now.self_ v) (slice_index_or binders.now v Nobody))) }
+{
+    for (v, binder) in binders.iter().enumerate() {
+        if !is_bound_once(is_self(body.self_, v), *binder) {
+            return false;
+        }
+    }
+    true
+}
+
+fn is_tree(alloc: Global, body: &RawBody) -> Result<bool, AllocError>
+    requires { PartsFit body.now }
+    ensures { IfOk result (λ told. IsTrue told ↔ IsTree body.now) }
+{
+    let schedule = schedule_of(alloc, body)?;
+    Ok(schedule.is_some())
+}
+
+/// The nodes of a body are a tree, and each binding is bound once.
+pub struct Trees;
+
+impl Test for Trees {
+    type Item = RawBody;
+
+    ghost listed = { λ raw. raw.bodies };
+
+    ghost holds = { λ raw i b. IsWellFormed b };
+
+    ghost given = { λ raw s. AllHold (BodyIdsExist raw) raw.bodies };
+
+    fn test(
+        &self,
+        alloc: Global,
+        _raw: &RawFacts,
+        _at: usize,
+        item: &RawBody,
+    ) -> Result<bool, AllocError> {
+        if !is_tree(alloc, item)? {
+            return Ok(false);
+        }
+        let binders = binders_of(alloc, item)?;
+        Ok(are_bound_once(item, &binders))
+    }
+}

@@ -1,0 +1,6 @@
+pub mod PlainAdts
+pub mod Spreading
+pub mod UsersOf
+pub mod PlainGraph
+pub mod PlainFns
+pub mod PlainSamples

@@ -1,0 +1,4 @@
+pub mod Plain
+pub mod PlainTypes
+pub mod Spread
+pub mod PlainMarks

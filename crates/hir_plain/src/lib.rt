@@ -1,0 +1,7 @@
+//! Which written types, adts and functions of lawful facts are plain.
+#![tactic(auto)]
+
+mod plain;
+mod spread;
+
+pub use plain::{PlainMarks, has_sized_params, mark_at};

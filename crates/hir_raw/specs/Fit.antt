@@ -1,0 +1,78 @@
+-- Types that name what there is.
+use Rattle.std.specs.List.{list_all}
+use Rattle.std.specs.Prelude.{Bool, true, false, ◌&&◌, nat_lt, List, [], ◌∷◌, length, Option, Some, None}
+use Rattle.hir_types.specs.declared.ids.DefWithBodyId.{DefWithBodyId}
+use Rattle.hir_types.specs.declared.ids.TraitId.{TraitId}
+use Rattle.hir_types.specs.declared.ty.Ty.{Ty, Ty-F, fold-Ty}
+use Rattle.hir_types.specs.declared.ty.AliasBound.{AliasBound-F}
+use Rattle.hir_types.specs.declared.ty.GenericArg.{GenericArg, GenericArg-F, fold-GenericArg}
+use Rattle.hir_types.specs.declared.ty.TraitRef.{TraitRef-F}
+use Rattle.hir_types.specs.declared.ty.Const.{Const}
+use Rattle.hir_types.specs.declared.ty.Const.TheVariants as const
+use Rattle.hir_raw.specs.declared.raw.RawFacts.{RawFacts}
+use Rattle.hir_raw.specs.Scope.{Scope, adt_params, callable_params, has_params, scope_of}
+
+-- no parameter stands for a const yet
+abbrev pub const_fits : Const → Bool
+const_fits (const.Value n) = true
+const_fits (const.Param n) = false
+const_fits const.Unknown = true
+const_fits (const.Var n) = true
+const_fits const.Hole = true
+
+-- so an argument that is a const fits no parameter
+abbrev pub fits_arg : GenericArg-F Bool Bool Bool Bool → Bool
+fits_arg (GenericArg-F.Ty b) = b
+fits_arg (GenericArg-F.Const c) = false
+
+-- no trait, alias or opaque type is carried yet, so what names one does not fit
+abbrev pub fits_bound : AliasBound-F Bool Bool Bool Bool → Bool
+fits_bound b = false
+
+abbrev pub fits_trait : TraitRef-F Bool Bool Bool Bool → Bool
+fits_trait t = false
+
+-- an object type names no trait and no associated type
+abbrev pub names_none : {T B : Type 0} → Option T → List B → List TraitId → Bool
+names_none None [] [] = true
+names_none None [] (t ∷ ts) = false
+names_none None (b ∷ bs) ts = false
+names_none (Some t) bs ts = false
+
+abbrev pub fits_step : Scope → Ty-F Bool Bool Bool Bool → Bool
+fits_step sc Ty-F.Bool = true
+fits_step sc Ty-F.Char = true
+fits_step sc (Ty-F.Int i) = true
+fits_step sc (Ty-F.Uint i) = true
+fits_step sc (Ty-F.Float f) = true
+fits_step sc Ty-F.Str = true
+fits_step sc Ty-F.Never = true
+fits_step sc (Ty-F.Tuple bs) = list_all (λ b. b) bs
+fits_step sc (Ty-F.Array b c) = b && const_fits c
+fits_step sc (Ty-F.Slice b) = b
+fits_step sc (Ty-F.Ref m r b) = b
+fits_step sc (Ty-F.RawPtr m b) = b
+fits_step sc (Ty-F.Adt i bs) = has_params (adt_params sc.facts i) (length bs) && list_all (λ b. b) bs
+fits_step sc (Ty-F.FnDef i bs) = has_params (callable_params sc.facts i) (length bs) && list_all (λ b. b) bs
+fits_step sc (Ty-F.FnPtr s bs b) = list_all (λ b. b) bs && b
+fits_step sc (Ty-F.Closure i bs b) = list_all (λ b. b) bs && b
+fits_step sc (Ty-F.Dynamic o bs ts) = names_none o bs ts
+fits_step sc (Ty-F.Param n) = nat_lt n sc.params
+fits_step sc (Ty-F.Projection i bs) = false
+fits_step sc (Ty-F.Opaque i bs) = false
+fits_step sc Ty-F.Error = true
+fits_step sc (Ty-F.Var n) = true
+fits_step sc (Ty-F.IntVar n) = true
+fits_step sc Ty-F.Hole = true
+
+-- Each id other than a closure's and each parameter in the type is in range, and argument lists are as the
+-- parameters. Holes are not the facts' concern.
+abbrev pub ty_fits : Scope → Ty → Bool
+ty_fits sc = fold-Ty Bool Bool Bool Bool fits_arg (fits_step sc) fits_bound fits_trait
+
+-- an argument is a type that fits
+abbrev pub arg_fits : Scope → GenericArg → Bool
+arg_fits sc = fold-GenericArg Bool Bool Bool Bool fits_arg (fits_step sc) fits_bound fits_trait
+
+abbrev pub fits : RawFacts → DefWithBodyId → Ty → Bool
+fits raw d t = ty_fits (scope_of raw d) t

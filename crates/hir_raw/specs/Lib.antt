@@ -1,0 +1,9 @@
+pub mod Types
+pub mod Order
+pub mod Scope
+pub mod Fit
+pub mod Fitting
+pub mod Signatures
+pub mod Graph
+pub mod Visits
+pub mod Nodes

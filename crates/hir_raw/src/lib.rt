@@ -1,0 +1,19 @@
+//! The facts of a resolved crate as they are written, before any law is known to hold of them: their
+//! entries, the order in which a body is walked, what is in scope, and which types fit.
+#![tactic(auto)]
+
+mod fit;
+mod graph;
+mod parts;
+mod raw;
+mod schedule;
+mod scope;
+
+pub use fit::ty_fits;
+pub use raw::{
+    BindingAnnotation, Edition, Other, RawAdt, RawAdtKind, RawArm, RawAt, RawBinding, RawBody,
+    RawCtor, RawExpr, RawFacts, RawField, RawFn, RawLimits, RawLiteral, RawParam, RawPat, RawPath,
+    RawStmt, RawType, RawVariant, RawVis,
+};
+pub use schedule::{Schedule, is_low, schedule_of};
+pub use scope::params_of;

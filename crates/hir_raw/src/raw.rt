@@ -1,0 +1,306 @@
+//! The facts as they are written: the entries of the facts text, key by key.
+
+ghost use Rattle.std.specs.Prelude.{◌≡◌};
+ghost use Rattle.hir_raw.specs.Types.{type_parts};
+
+use hir_types::{
+    AdtId, BindingId, BodyId, ExprId, FunctionId, IntegerTy, LabelId, List, ModuleId, PatId, Text,
+    TraitId, TypeRefId, VariantId,
+};
+
+/// A part of a kind that is not carried yet; its own parts are not read.
+#[derive(Clone, Copy, Debug)]
+pub struct Other;
+
+/// The edition of a crate.
+#[derive(Clone, Copy, Debug, PartialEq, Eq)]
+pub enum Edition {
+    Edition2015,
+    Edition2018,
+    Edition2021,
+    Edition2024,
+}
+
+/// How far a search may go.
+#[derive(Clone, Copy, Debug)]
+pub struct RawLimits {
+    /// Levels of goals, each needed by the one before.
+    pub goal_depth: u32,
+    /// Goals that may be selected for a body.
+    pub goal_steps: u32,
+    /// Dereferences of a receiver.
+    pub autoderef: u32,
+    /// Last fields that are followed for the size of a type.
+    pub tail: u32,
+}
+
+/// A written type.
+#[derive(Debug, Drop)]
+pub enum RawType {
+    Bool,
+    Char,
+    Integer(IntegerTy),
+    Tuple(List<TypeRefId>),
+    /// A struct, enum or union at its arguments, which are all types.
+    Adt { adt: AdtId, args: List<TypeRefId> },
+    /// The type parameter with this number.
+    Param(u32),
+    /// `_`.
+    Hole,
+    Other,
+}
+
+impl RawType {
+    /// The types that a written type is made of, in their order.
+    pub fn parts(&self) -> &[TypeRefId]
+        ensures { result.now ≡ type_parts self.now }
+    {
+        match self {
+            RawType::Tuple(parts) => parts.as_slice(),
+            RawType::Adt { adt: _, args } => args.as_slice(),
+            RawType::Bool | RawType::Char | RawType::Integer(_) => &[],
+            RawType::Param(_) | RawType::Hole | RawType::Other => &[],
+        }
+    }
+}
+
+/// What a generic parameter stands for.
+#[derive(Clone, Copy, Debug)]
+pub enum RawParam {
+    Type,
+    Other,
+}
+
+/// Which of the three an adt is.
+#[derive(Clone, Copy, Debug, PartialEq, Eq)]
+pub enum RawAdtKind {
+    Struct,
+    Enum,
+    Union,
+}
+
+/// Where a function stands.
+#[derive(Clone, Copy, Debug)]
+pub enum RawAt {
+    Module(ModuleId),
+    Other,
+}
+
+/// Where an item is visible: everywhere, or in a module and its descendants.
+#[derive(Clone, Copy, Debug)]
+pub enum RawVis {
+    Pub,
+    Module(ModuleId),
+}
+
+/// A struct, enum or union.
+#[derive(Debug, Drop)]
+pub struct RawAdt {
+    pub name: Text,
+    pub kind: RawAdtKind,
+    /// Its generic parameters.
+    pub params: List<RawParam>,
+    /// Its predicates.
+    pub preds: List<Other>,
+    /// Its variants; one of a struct or union.
+    pub variants: List<VariantId>,
+    /// The integer type of its discriminants, where one is written.
+    pub repr: Option<IntegerTy>,
+    /// The number of the parameter that may lose its size.
+    pub unsize: Option<u32>,
+}
+
+/// How a variant is written: `V`, `V(..)` or `V { .. }`.
+#[derive(Clone, Copy, Debug, PartialEq, Eq)]
+pub enum RawCtor {
+    Unit,
+    Tuple,
+    Record,
+}
+
+/// A field of a variant.
+#[derive(Debug, Drop)]
+pub struct RawField {
+    pub name: Text,
+    pub ty: TypeRefId,
+    pub vis: RawVis,
+}
+
+/// A variant of an enum, or what a struct or union consists of. `body` is that of its discriminant.
+#[derive(Debug, Drop)]
+pub struct RawVariant {
+    pub adt: AdtId,
+    pub name: Text,
+    pub ctor: RawCtor,
+    pub fields: List<RawField>,
+    pub body: Option<BodyId>,
+}
+
+/// A function.
+#[derive(Debug, Drop)]
+pub struct RawFn {
+    pub name: Text,
+    /// Where it stands.
+    pub at: RawAt,
+    /// Its own generic parameters.
+    pub params: List<RawParam>,
+    /// Its predicates.
+    pub preds: List<Other>,
+    /// Whether its first input is that of `self`.
+    pub has_self: bool,
+    pub inputs: List<TypeRefId>,
+    pub output: TypeRefId,
+    /// Whether it may be called outside of `unsafe`.
+    pub safe: bool,
+    pub vis: RawVis,
+    pub body: Option<BodyId>,
+}
+
+/// A literal. `digits` are decimal digits, after a minus where a pattern's literal has one.
+#[derive(Debug, Drop)]
+pub enum RawLiteral {
+    Bool(bool),
+    Char(u32),
+    Int {
+        digits: Text,
+        suffix: Option<IntegerTy>,
+    },
+    Other,
+}
+
+/// What a path names.
+#[derive(Clone, Copy, Debug)]
+pub enum RawPath {
+    Local(BindingId),
+    Function(FunctionId),
+    /// The constructor of a variant.
+    Ctor(VariantId),
+    Other,
+}
+
+/// A statement of a block.
+#[derive(Clone, Copy, Debug)]
+pub enum RawStmt {
+    Let {
+        pat: PatId,
+        type_ref: Option<TypeRefId>,
+        initializer: Option<ExprId>,
+        else_branch: Option<ExprId>,
+    },
+    Expr {
+        expr: ExprId,
+        has_semi: bool,
+    },
+}
+
+/// An arm of a `match`.
+#[derive(Clone, Copy, Debug)]
+pub struct RawArm {
+    pub pat: PatId,
+    pub guard: Option<ExprId>,
+    pub expr: ExprId,
+}
+
+/// An expression.
+#[derive(Debug, Drop)]
+pub enum RawExpr {
+    Lit(RawLiteral),
+    Path(RawPath),
+    Block {
+        label: Option<LabelId>,
+        statements: List<RawStmt>,
+        tail: Option<ExprId>,
+    },
+    Tuple(List<ExprId>),
+    If {
+        condition: ExprId,
+        then_branch: ExprId,
+        else_branch: Option<ExprId>,
+    },
+    Match {
+        scrutinee: ExprId,
+        arms: List<RawArm>,
+    },
+    Call {
+        callee: ExprId,
+        args: List<ExprId>,
+    },
+    Other,
+}
+
+/// A pattern.
+#[derive(Debug, Drop)]
+pub enum RawPat {
+    Wild,
+    Bind {
+        id: BindingId,
+        subpat: Option<PatId>,
+    },
+    Tuple(List<PatId>),
+    /// The constructor of a variant over patterns of its fields.
+    TupleStruct {
+        variant: VariantId,
+        args: List<PatId>,
+    },
+    Path(RawPath),
+    Lit(ExprId),
+    Other,
+}
+
+/// How a binding is annotated.
+#[derive(Clone, Copy, Debug, PartialEq, Eq)]
+pub enum BindingAnnotation {
+    Unannotated,
+    Mutable,
+    Ref,
+    RefMut,
+}
+
+/// A binding.
+#[derive(Debug, Drop)]
+pub struct RawBinding {
+    pub name: Text,
+    pub mode: BindingAnnotation,
+}
+
+/// A body.
+#[derive(Debug, Drop)]
+pub struct RawBody {
+    /// The module from which its items are seen.
+    pub module: ModuleId,
+    /// The traits in scope.
+    pub traits: List<TraitId>,
+    /// The binding of `self`.
+    pub self_: Option<BindingId>,
+    /// The patterns of its parameters, without `self`.
+    pub params: List<PatId>,
+    /// The expression that gives its value.
+    pub root: ExprId,
+    pub exprs: List<RawExpr>,
+    pub pats: List<RawPat>,
+    pub bindings: List<RawBinding>,
+    /// How many labels it has.
+    pub labels: u32,
+}
+
+/// The facts of a crate.
+#[derive(Debug, Drop)]
+pub struct RawFacts {
+    pub edition: Edition,
+    pub never_fallback: bool,
+    pub new_range: bool,
+    pub limits: RawLimits,
+    pub types: List<RawType>,
+    pub modules: List<Option<ModuleId>>,
+    pub adts: List<RawAdt>,
+    pub variants: List<RawVariant>,
+    pub fns: List<RawFn>,
+    pub consts: List<Other>,
+    pub statics: List<Other>,
+    pub traits: List<Other>,
+    pub aliases: List<Other>,
+    pub impls: List<Other>,
+    pub opaques: List<Other>,
+    pub lang: List<Other>,
+    pub bodies: List<RawBody>,
+}
