@@ -106,7 +106,6 @@ demanded = inl (record {
     signature = fn_signature types take;
     types = [];
     is_callee = callee_stands;
-    count = refl;
     input = ap (λ s. Some s) input_is;
   };
 })
