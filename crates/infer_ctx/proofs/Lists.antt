@@ -1,7 +1,7 @@
 -- Reading lists, and lists of what is recorded, after a write.
-use Rattle.std.proofs.Common.{ℕ, ◌<◌, ◌≤◌, ◌⊎◌, arith, ◌≡◌, ◌≢◌, zero, suc, ◌+◌, inl, inr, List, [], ◌∷◌, ◌++◌, length, get_or, drop, refl, sym, ap, ◌∙◌, add-one, drop-cons, Some, slice_get, take, Option, None, replicate, ◌-◌}
+use Rattle.std.proofs.Common.{ℕ, ◌<◌, ◌≤◌, ◌⊎◌, arith, ◌≡◌, ◌≢◌, zero, suc, ◌+◌, inl, inr, List, [], ◌∷◌, ◌++◌, length, get_or, drop, refl, sym, ap, ◌∙◌, add-one, drop-cons, Some, slice_get, take, Option, None, replicate, ◌-◌, append-nil, append_assoc}
 use Rattle.std.proofs.Math.ListN.{set, length-set}
-use Rattle.std.proofs.lemmas.List.{get_or-set_same, get_or-set_other, take_more}
+use Rattle.std.proofs.lemmas.List.{get_or-set_same, get_or-set_other, take_more, length-append, length-replicate, replicate_more}
 use Rattle.std.proofs.lemmas.Option.{slice_get-get_or, slice_get_past, slice_get_within}
 use Rattle.infer_result.specs.Table.{At, recorded}
 use Rattle.infer_ctx.specs.Walks.{IsFree}
@@ -108,11 +108,23 @@ module _ {A : Type 0} where
   -- as the code does it: the list is made long enough, and written
   pub put_made : (xs : List (Option A)) (n : ℕ) (a : A) → set (xs ++ replicate (n + 1 - length xs) None) n (Some a) ≡ put xs n a
   put_made [] zero a = refl
-  put_made [] (suc n) a = ap (λ ys. None ∷ ys) (put_made [] n a)
-  put_made (o ∷ xs) zero a = (let none : 0 + 1 - length (o ∷ xs) ≡ 0 = omega arith in rw (none, append-nil) refl)
+  put_made [] (suc n) a = (let more : suc n + 1 - 0 ≡ suc (n + 1 - 0) = omega arith in rw more (ap (λ ys. None ∷ ys) (put_made [] n a)))
+  put_made (o ∷ xs) zero a = (let none : 0 + 1 - length (o ∷ xs) ≡ 0 = omega arith in rw none (ap (λ ys. Some a ∷ ys) (append-nil xs)))
   put_made (o ∷ xs) (suc n) a =
       (let less : suc n + 1 - length (o ∷ xs) ≡ n + 1 - length xs = omega arith in
       rw less (ap (λ ys. o ∷ ys) (put_made xs n a)))
+
+  pub put_grown : (xs ys : List (Option A)) (n k : ℕ) (a : A) → ys ≡ xs ++ replicate k None → k ≡ n + 1 - length xs → set ys n (Some a) ≡ put xs n a
+  put_grown xs ys n k a grown enough = rw (grown, enough) (put_made xs n a)
+
+  pub grown_within : (xs ys : List (Option A)) (n k : ℕ) → ys ≡ xs ++ replicate k None → n + 1 - length xs ≤ k → n < length ys
+  grown_within xs ys n k grown enough =
+      (let long : length ys ≡ length xs + k = ap length grown ∙ (length-append xs (replicate k None) ∙ ap (λ m. length xs + m) (length-replicate k None)) in
+      omega (arith, long, enough))
+
+  pub grown_more : (xs ys : List (Option A)) (k : ℕ) → ys ≡ xs ++ replicate k None → ys ++ None ∷ [] ≡ xs ++ replicate (k + 1) None
+  grown_more xs ys k grown =
+      ap (λ zs. zs ++ None ∷ []) grown ∙ (append_assoc xs (replicate k None) (None ∷ []) ∙ ap (λ zs. xs ++ zs) (replicate_more k None))
 
   -- a write of nothing, or of a value
   abbrev pub own_set : List (Option A) → ℕ → Option A → List (Option A)

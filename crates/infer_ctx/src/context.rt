@@ -5,8 +5,7 @@ ghost use Rattle.infer_ctx.specs.Steps.{IsNoted, IsUnasked};
 ghost use Rattle.infer_ctx.specs.Context.{empty_context, with_placeholder_ty, with_seen, entered, with_expr_ty, with_mismatch, with_asked, with_diagnostic, with_pat_mismatch, with_pat_diagnostic, with_pat_ty, with_mode, with_binding_ty};
 
 use hir_facts::{
-    BindingId, ExprId, List, PatId, RawBody, RawExpr, RawPat, RawPath, Ty, TypeRefId,
-    VariantId,
+    BindingId, ExprId, List, PatId, RawBody, RawExpr, RawPat, RawPath, Ty, TypeRefId, VariantId,
 };
 use infer_result::{BindingMode, InferenceDiagnostic, InferenceResult, Seen, TypeMismatch};
 use infer_table::InferenceTable;
@@ -103,11 +102,7 @@ fn note<T: Drop>(entries: &mut List<Option<T>>, at: u32, entry: T)
 }
 
 /// Records something in a list of what stands at each place, which grows as far as this one.
-fn put<T: Drop>(
-    entries: &mut List<Option<T>>,
-    at: u32,
-    entry: T,
-) -> Result<(), AllocError>
+fn put<T: Drop>(entries: &mut List<Option<T>>, at: u32, entry: T) -> Result<(), AllocError>
     ensures { OnOk result (entries.new ≡ put entries.old at entry) }
 {
     let at = at as usize;
