@@ -1,0 +1,2 @@
+pub enum Maybe<T> { None, Some(T) }
+pub use Maybe::*;

@@ -1,0 +1,322 @@
+#!/usr/bin/env python3
+"""Looks whether the facts of the rows in crates/infer_tests/data are those of the Rust beside them, numbers apart.
+
+A row of a file NAME.rows is a block of lines (crates/infer_tests/src/rows.rt says how it is written). Its source, the
+lines that begin with |, stands below BASE.rs, where a block `of BASE` says so; rows without a source are passed over.
+Facts that two texts number otherwise are taken as the same. Without rustc, or with another than the tools were tried
+with, nothing is looked at, and that is said.
+Usage: tools/rows.py [--fill] [FILE.rows ..]
+  --fill writes the facts into rows with a source that have none yet, by the numbers of BASE.json.
+Status 0 where all agree or nothing was looked at, 1 where some do not, 2 where a file cannot be read.
+"""
+import argparse
+import glob
+import json
+import os
+import re
+import sys
+import tempfile
+
+import program
+from facts import NoFacts, facts_of, omission_text
+from rustc import TRIED, NoRustc, rustc, version
+
+DATA = os.path.join(program.TOP, "crates", "infer_tests", "data")
+MARK = r'"\$(\w+)"'
+
+
+class Unread(Exception):
+    """A file of rows or a row cannot be read."""
+
+
+class Row:
+    """A row with a source: the file and line where it begins, its base, and its lines."""
+
+    def __init__(self, path, at, base, lines):
+        self.path, self.at, self.base, self.lines = path, at, base, lines
+        self.source = "\n".join(line[2:] for line in lines if line.startswith("| "))
+        self.has_facts = any(re.match(r"\$|old |facts", line) for line in lines)
+
+    def __str__(self):
+        return "%s:%d" % (os.path.basename(self.path), self.at)
+
+    def module(self):
+        return "row_%s_%d" % (os.path.basename(self.path).replace(".rows", ""), self.at)
+
+    def facts(self):
+        text, old = base_text(self.base), None
+        for line in self.lines:
+            word, _, rest = line.partition(" ")
+            if word == "old":
+                old = rest
+            elif word == "new":
+                text = text.replace(old, rest, 1)
+            elif word == "facts":
+                text = rest
+            elif word.startswith("$"):
+                text = text.replace('"%s"' % word, rest, 1)
+        try:
+            return json.loads(text)
+        except ValueError as why:
+            raise Unread("%s: its facts are no JSON: %s" % (self, why)) from None
+
+
+def base_text(base):
+    with open(os.path.join(DATA, base + ".json"), encoding="utf-8") as text:
+        return text.read().replace("\n", "")
+
+
+def rows_of(path):
+    """The rows of a file that have a source, and those of its headers."""
+    rows, base, at = [], None, 1
+    with open(path, encoding="utf-8") as text:
+        for block in text.read().rstrip("\n").split("\n\n"):
+            lines = block.split("\n")
+            if lines[0].startswith("of "):
+                base = lines[0][3:]
+            if any(line.startswith("| ") for line in lines):
+                rows.append(Row(path, at, base, lines))
+            at += len(lines) + 1
+    return rows
+
+
+class Shape:
+    """What facts say, with names in the place of numbers."""
+
+    def __init__(self, facts):
+        self.facts = facts
+
+    def ty(self, at):
+        ty = self.facts["types"][at]
+        if isinstance(ty, str) or ty[0] == "param":
+            return ty
+        if ty[0] == "tuple":
+            return ["tuple", [self.ty(part) for part in ty[1]]]
+        return ["adt", self.facts["adts"][ty[1]]["name"], [[word, self.ty(part)] for word, part in ty[2]]]
+
+    def adt(self, adt):
+        variants = [self.facts["variants"][at] for at in adt["variants"]]
+        return [adt["name"], adt["kind"], adt["params"], adt["repr"], [
+            [of["name"], of["ctor"], [[field["name"], self.ty(field["type"]), field["vis"] == "pub"] for field in of["fields"]]]
+            for of in variants]]
+
+    def function(self, fn):
+        return [fn["name"], fn["params"], [self.ty(ty) for ty in fn["inputs"]], self.ty(fn["output"]), fn["safe"],
+                fn["vis"] == "pub"]
+
+    def items(self):
+        """The adts and functions by their names."""
+        adts = {adt["name"]: self.adt(adt) for adt in self.facts["adts"]}
+        return adts, {fn["name"]: self.function(fn) for fn in self.facts["fns"]}
+
+    def path(self, path):
+        kind, at, written = path
+        if kind == "local":
+            return ["local", self.binding(at), written]
+        return [kind, self.facts["fns" if kind == "fn" else "variants"][at]["name"], written]
+
+    def binding(self, at):
+        return [self.numbers.setdefault(at, len(self.numbers)), self.body["bindings"][at]]
+
+    def pat(self, at):
+        pat = self.body["pats"][at]
+        if pat == "wild":
+            return pat
+        if pat[0] == "bind":
+            return ["bind", self.binding(pat[1]), pat[2]]
+        if pat[0] == "tuple":
+            return ["tuple", [self.pat(part) for part in pat[1]], pat[2]]
+        if pat[0] == "ctor":
+            return ["ctor", self.path(pat[1]), [self.pat(part) for part in pat[2]], pat[3]]
+        return ["path", self.path(pat[1])] if pat[0] == "path" else ["lit", self.expr(pat[1])]
+
+    def expr(self, at):
+        expr = self.body["exprs"][at]
+        kind = expr[0]
+        if kind == "lit":
+            return expr
+        if kind == "path":
+            return ["path", self.path(expr[1])]
+        if kind == "block":
+            return ["block", expr[1], [self.statement(*of) for of in expr[2]], self.optional(expr[3])]
+        if kind == "match":
+            return ["match", self.expr(expr[1]), [[self.pat(pat), self.optional(guard), self.expr(of)] for pat, guard, of in expr[2]]]
+        return [kind] + [[self.expr(of) for of in part] if isinstance(part, list) else self.optional(part) for part in expr[1:]]
+
+    def optional(self, at):
+        return None if at is None else self.expr(at)
+
+    def statement(self, kind, *parts):
+        if kind == "expr":
+            return ["expr", self.expr(parts[0]), parts[1]]
+        pat, ty, initializer, otherwise = parts
+        return ["let", None if ty is None else self.ty(ty), self.optional(initializer), self.pat(pat), otherwise]
+
+    def of(self, fn):
+        """A function with its body."""
+        self.body, self.numbers = self.facts["bodies"][fn["body"]], {}
+        params = [self.pat(at) for at in self.body["params"]]
+        return [self.function(fn), params, self.expr(self.body["root"])]
+
+
+class Fill:
+    """The lines of facts for a row, by the numbers of its base."""
+
+    def __init__(self, row, facts):
+        self.row, self.shape, self.facts, self.text = row, Shape(facts), facts, base_text(row.base)
+        self.base = json.loads(re.sub(r'"\$signature"', '"inputs":[],"output":0', self.text))
+        self.types = [Shape(self.base).ty(at) for at, ty in enumerate(self.base["types"]) if ty != "$types"]
+        self.named, self.added = len(self.types), []
+
+    def ty(self, at):
+        """A type's number in the base, to which it is added where it is not there; each `_` is."""
+        ty = self.facts["types"][at]
+        shape = self.shape.ty(at)
+        if shape in self.types and "_" not in json.dumps(shape):
+            return self.types.index(shape)
+        if '"$types"' not in self.text:
+            raise Unread("%s: %s.json has no type %s" % (self.row, self.row.base, json.dumps(shape)))
+        if ty[0] == "tuple":
+            ty = ["tuple", [self.ty(part) for part in ty[1]]]
+        elif ty[0] == "adt":
+            ty = ["adt", self.number("adts", ty[1]), [[word, self.ty(part)] for word, part in ty[2]]]
+        self.types.append(shape)
+        self.added.append(ty)
+        return len(self.types) - 1
+
+    def number(self, items, at):
+        name = self.facts[items][at]["name"]
+        return [of["name"] for of in self.base[items]].index(name)
+
+    def path(self, path):
+        items = {"fn": "fns", "ctor": "variants", "variant": "variants"}.get(path[0])
+        return path if items is None else [path[0], self.number(items, path[1]), path[2]]
+
+    def node(self, node):
+        if isinstance(node, list) and node[0] == "path":
+            return ["path", self.path(node[1])]
+        if isinstance(node, list) and node[0] == "ctor":
+            return [node[0], self.path(node[1])] + node[2:]
+        if isinstance(node, list) and node[0] == "block":
+            return node[:2] + [[of if of[0] != "let" or of[2] is None else of[:2] + [self.ty(of[2])] + of[3:] for of in node[2]], node[3]]
+        return node
+
+    def lines(self, fn):
+        body = self.facts["bodies"][fn["body"]]
+        keys = ["root", "exprs", "pats", "bindings"]
+        if '"root":"$body"' not in self.text:
+            keys.insert(0, "params")
+        made = dict(body, exprs=[self.node(of) for of in body["exprs"]], pats=[self.node(of) for of in body["pats"]])
+        signature = {"params": fn["params"], "inputs": [self.ty(ty) for ty in fn["inputs"]], "output": self.ty(fn["output"])}
+        if '"params":[],"preds":[],"has_self":false,"$signature"' in self.text:
+            del signature["params"]
+        fills = {"body": members({key: made[key] for key in keys}).partition(":")[2], "output": str(signature["output"]),
+                 "signature": members(signature), "types": compact(self.added)[1:-1]}
+        return ["$%s %s" % (mark, fills[mark]) for mark in re.findall(MARK, self.text)]
+
+
+def compact(value):
+    return json.dumps(value, separators=(",", ":"))
+
+
+def members(value):
+    return compact(value)[1:-1]
+
+
+def crate_of(base, rows):
+    """The facts of a base's source with those of its rows, each row in a module of its own, and the number of each row's function."""
+    prelude = os.path.join(DATA, base + ".rs")
+    lines = ["#![allow(warnings)]"]
+    if os.path.exists(prelude):
+        with open(prelude, encoding="utf-8") as text:
+            lines.append(text.read())
+    for row in rows:
+        lines += ["pub mod %s {" % row.module(), "pub use super::*;", row.source, "}"]
+    with tempfile.TemporaryDirectory() as folder:
+        path = os.path.join(folder, base + ".rs")
+        with open(path, "w", encoding="utf-8") as out:
+            out.write("\n".join(lines) + "\n")
+        crate = facts_of(path, 2021)
+        omissions = [omission_text(of, path) for of in crate.omissions]
+    return json.loads(crate.text), {of.name: of.number for of in crate.shown if of.writer is not None}, omissions
+
+
+def differences(row, facts, made, number):
+    """What of a row's facts is not that of its source."""
+    if number is None:
+        yield "facts.py writes no body of it"
+        return
+    ours, theirs = Shape(facts), Shape(made)
+    try:
+        if ours.of(facts["fns"][0]) != theirs.of(made["fns"][number]):
+            yield "the facts are of another function"
+    except (IndexError, KeyError, RecursionError, TypeError, ValueError) as shape:
+        yield "the facts have another shape: %s: %s" % (type(shape).__name__, shape)
+    for kind, mine, others in zip(("adt", "function"), ours.items(), theirs.items()):
+        for name in mine:
+            if name != "f" and mine[name] != others.get(name):
+                yield "the facts have another %s `%s`" % (kind, name)
+
+
+def write_fills(path, fills):
+    with open(path, encoding="utf-8") as text:
+        lines = text.read().split("\n")
+    for row in sorted(fills, key=lambda row: -row.at):
+        at = row.at - 1 + max(at for at, line in enumerate(row.lines) if line.startswith("| ")) + 1
+        lines[at:at] = fills[row]
+    with open(path, "w", encoding="utf-8") as out:
+        out.write("\n".join(lines))
+
+
+def is_tried():
+    """Whether rustc is there and one with which the tools were tried; else it is said that nothing is looked at."""
+    try:
+        rustc(os.devnull, "--version")
+        if " %s." % TRIED in version():
+            return True
+        why = "rustc is not %s, but %s" % (TRIED, version())
+    except NoRustc as no_rustc:
+        why = str(no_rustc)
+    print("rows: nothing is looked at: %s" % why)
+    return False
+
+
+def main():
+    parser = argparse.ArgumentParser(description=__doc__, formatter_class=argparse.RawDescriptionHelpFormatter)
+    parser.add_argument("--fill", action="store_true", help="write the facts into rows with a source that have none")
+    parser.add_argument("files", metavar="FILE.rows", nargs="*")
+    given = parser.parse_args()
+    if not is_tried():
+        return 0
+    paths = given.files or sorted(glob.glob(os.path.join(DATA, "*.rows")))
+    rows = [row for path in paths for row in rows_of(path)]
+    wrong, fills = 0, {}
+    for base in sorted({row.base for row in rows}):
+        of_base = [row for row in rows if row.base == base]
+        made, numbers, omissions = crate_of(base, of_base)
+        for row in of_base:
+            number = numbers.get(row.module() + "::f")
+            if row.has_facts:
+                found = list(differences(row, row.facts(), made, number))
+            elif given.fill and number is not None:
+                found, fills[row] = [], Fill(row, made).lines(made["fns"][number])
+            else:
+                found = ["it has no facts"]
+            wrong += bool(found)
+            for what in found:
+                print("%s: %s" % (row, what))
+        if any(number is None for number in numbers.values()):
+            print("\n".join(omissions))
+    for path in {row.path for row in fills}:
+        write_fills(path, {row: fills[row] for row in fills if row.path == path})
+    if not rows:
+        raise Unread("there are no rows")
+    print("%d rows with a source, %d wrong%s" % (len(rows), wrong, ", %d filled" % len(fills) if given.fill else ""))
+    return 1 if wrong else 0
+
+
+if __name__ == "__main__":
+    try:
+        sys.exit(main())
+    except (NoFacts, Unread, OSError) as why:
+        sys.exit("rows: %s" % why)
