@@ -318,7 +318,7 @@ module _ (g : Given) (s : Schedule) (law : IsLawful g.scope.facts) (w : TypeRefI
         (λ n u there. (let q = At-unclosed (folded a) ys n u there in subst (λ v. At (closed_types a xs) n v) q.2 (At-closed (folded a) xs n q.0 (d.adds.kept n q.0 q.1))))
         (λ n u there.
         (let q = At-unclosed (folded a) xs n u there in (
-          elim (d.adds.only n q.0 q.1) [ inl i ↦ state.placeholders.only n (folded a q.0) (At-closed (folded a) ys n q.0 i) | inr i ↦ i ],
+          elim (d.adds.only n q.0 q.1) [ inl i ↦ state.placeholders n (folded a q.0) (At-closed (folded a) ys n q.0 i) | inr i ↦ i ],
           subst IsCarriedType q.2 (fine_closed g.scope a q.0 k.closing (d.adds.sound.fine.placeholders n q.0 q.1).heads),
         ))))
 

@@ -1,5 +1,6 @@
 -- A call: what it calls, and what that takes and gives.
-use Rattle.std.proofs.Common.{List, map, None, Option, ◌≡◌, ◌∷◌, inl, inr, sym, ap, subst, ◌∙◌, ℕ, suc, [], refl, arith, length, Some, slice_get}
+use Rattle.std.proofs.Common.{List, map, None, Option, ◌≡◌, ◌∷◌, inl, inr, sym, ap, subst, ◌∙◌, ℕ, suc, [], refl, arith, length, Some, slice_get, Result, Ok, Err}
+use Rattle.std.specs.Prelude.{IfOk}
 use Rattle.std.proofs.lemmas.List.{length-map}
 use Rattle.hir_types.specs.declared.ids.ExprId.{ExprId}
 use Rattle.hir_types.specs.declared.ids.ExprOrPatId.TheVariants as node
@@ -12,16 +13,17 @@ use Rattle.hir_raw.specs.Order.{inner, argument, callee, expr_part, exprs_from}
 use Rattle.hir_raw.specs.Signatures.{at_args}
 use Rattle.hir_raw.specs.Scope.{Scope}
 use Rattle.infer_table.specs.Table.{Grew, State}
+use Rattle.infer_table.proofs.UndoLaws.{grew_itself}
 use Rattle.infer_result.specs.Places.{Given}
 use Rattle.infer_result.specs.declared.diagnostics.InferenceDiagnostic.TheVariants as diagnostic
 use Rattle.infer_ctx.specs.declared.context.InferenceContext.{InferenceContext}
 use Rattle.infer_ctx.specs.Closings.{Closes, expected_under, found_under}
-use Rattle.infer_ctx.specs.Steps.{Before, Within, KindDone, Follows, OwnDone}
+use Rattle.infer_ctx.specs.Steps.{Before, Within, KindDone, Follows, OnlyBinds, OwnDone}
 use Rattle.infer_ctx.specs.Callables.{IsSigOf, IsSigOfItem}
 use Rattle.infer_ctx.specs.declared.given.CallableSig.{CallableSig}
 use Rattle.infer_ctx.specs.Fine.{IsFine}
 use Rattle.infer_ctx.specs.Under.{KindWalked, own_scope}
-use Rattle.infer_ctx.specs.Walks.{Nothing, Owed, PaidBy}
+use Rattle.infer_ctx.specs.Walks.{Extends, IsWalked, Nothing, Owed, PaidBy}
 use Rattle.infer_ctx.specs.Context as context
 use Rattle.infer_ctx.specs.Found as found
 use Rattle.infer_ctx.proofs.AtEach.{closes_before, walking_after, follows_itself, follows_twice}
@@ -30,8 +32,10 @@ use Rattle.infer_ctx.proofs.FineTypes.{AllFine, fine_grown, every_at}
 use Rattle.infer_ctx.proofs.InParts.{WalksParts, begins_parts, comes_to, goes_past}
 use Rattle.infer_ctx.proofs.Instances.{known_instance, fine_instance, instances_under, fine_instances}
 use Rattle.infer_ctx.proofs.OverTypes.{fine_closed}
-use Rattle.infer_ctx.proofs.Closed.{diagnostic_under, of_body_diagnostic, sound_diagnostic}
-use Rattle.infer_calls.specs.Calls.{CalleeDone, BeforeArgs, IsCallOf, BeforeInputs, ArgsDone, ArgsWalked, inputs_at, BeforeLoose, LooseDone, ComesToLoose, LooseWalked, AsksInputs}
+use Rattle.infer_ctx.proofs.Closed.{diagnostic_under, of_body_diagnostic, same_found, sound_diagnostic}
+use Rattle.infer_ctx.proofs.Keeps.{extends_trans}
+use Rattle.infer_calls.specs.Calls.{CalleeDone, BeforeArgs, ComesToArgs, IsCallOf, BeforeInputs, ArgsDone, ArgsWalked, inputs_at, BeforeLoose, LooseDone, ComesToLoose, LooseWalked, AsksInputs}
+use Rattle.infer_calls.specs.Inputs.{AreFine}
 use Rattle.infer_calls.proofs.Calls.{call_done, told_loose, others_done, input_demand, complained_extends}
 
 -- ---- what is called
@@ -135,6 +139,11 @@ module _ (g : Given) (s : Schedule) (n : ExprId) (args : List ExprId) (t : Ty) (
             (subst (λ v. IsCarriedType v) same carried));
       })
 
+-- what holds where a call answers
+pub if_done : {A E : Type 0} (P Q : A → Type 0) (r : Result A E) → ((x : A) → P x → Q x) → IfOk r P → IfOk r Q
+if_done P Q (Ok x) f h = f x h
+if_done P Q (Err e) f h = tt
+
 -- ---- where only bindings were added
 module _ (g : Given) (s : Schedule) (n : ExprId) (args : List ExprId) (c d : InferenceContext) (o : OnlyBinds g c d) where
   found_same : (a : Assignment) → found_under a c ≡ found_under a d
@@ -157,6 +166,7 @@ module _ (g : Given) (s : Schedule) (n : ExprId) (args : List ExprId) (c d : Inf
   }
 
   pub inputs_bound : (ss : List Ty) → BeforeInputs g s n args ss c → BeforeInputs g s n args ss d
+  unfolding args_bound
   inputs_bound ss h = record { type = h.type; before = args_bound h.type h.before; inputs = h.inputs }
 
   pub args_since : (ss : List Ty) (new : InferenceContext) → ArgsDone g s n args ss d new → ArgsDone g s n args ss c new
@@ -181,6 +191,9 @@ module _ (g : Given) (s : Schedule) (n : ExprId) (args : List ExprId) (ss : List
   all_inputs_fine =
       subst (λ us. AllFine g.scope mid.table us) (sym h.inputs)
       (fine_instances g.scope mid.table h.before.item.signature.params h.before.types h.before.count (all_fine g.scope mid.table h.before.types h.before.fine) h.before.item.signature.inputs h.before.item.inputs)
+
+  pub inputs_fine : AreFine g.scope mid.table ss
+  inputs_fine i u is = every_at (IsFine g.scope mid.table) ss i u all_inputs_fine is
 
   pub input_fine : (i : ℕ) (u : Ty) → slice_get ss i ≡ Some u → IsFine g.scope mid.table u
   input_fine i u is = every_at (IsFine g.scope mid.table) ss i u all_inputs_fine is

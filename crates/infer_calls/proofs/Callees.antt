@@ -21,15 +21,14 @@ use Rattle.hir_raw.specs.declared.raw.RawPath.TheVariants as path
 use Rattle.hir_raw.specs.declared.raw.RawExpr.TheVariants as expr
 use Rattle.infer_table.specs.Table.{bindings, resolved_type, resolved_term}
 use Rattle.infer_table.specs.Bindings.{AllOf}
-use Rattle.infer_table.proofs.BindingLaws.{resolved_made}
 use Rattle.infer_table.specs.Preserved.{made_of_resolved_term, apply_resolved_term}
 use Rattle.infer_table.specs.Resolution.{resolution, resolution_term}
-use Rattle.infer_table.specs.Solutions.{AreOf}
 use Rattle.infer_result.specs.Heads.{other, outermost_step, HeadOf, of_function, of_ctor, Outermost, HasHead}
 use Rattle.infer_result.specs.Kinds.Call.{callable_step, is_callable, IsPathToItem, CallsNonGeneric}
 use Rattle.infer_result.specs.Places.{Given}
 use Rattle.infer_result.specs.Table.{HasTy}
 use Rattle.infer_result.proofs.Derived.{ctor_type_of_tuple}
+use Rattle.infer_coerce.proofs.Resolved.{resolved_fine}
 use Rattle.infer_ctx.specs.Fine.{item_params, HasFineHeads, is_fine_head, IsFine, IsCarriedIn}
 use Rattle.infer_ctx.specs.Callables.{ItemsAreCallable, IsCallableItem}
 use Rattle.infer_ctx.specs.declared.context.InferenceContext.{InferenceContext}

@@ -4,4 +4,4 @@ pub mod Callees
 pub mod Calls
 pub mod Loose
 pub mod Uncallable
-pub mod Inputs
+pub mod ExpectedInputs

@@ -48,28 +48,28 @@ module _ (g : Given) (s : Schedule) (n : ExprId) (args : List ExprId) (ss : List
       fine_at None at = tt
       fine_at (Some u) at = fine_grown g.scope mid.table c.table u h.walk.follows.grew (h.before.fine i u at)
 
-      pub comes_to_loose : Before g s e (slice_get ss i) c
-      comes_to_loose = comes_to_part _ _ _ _ _ _ _ _ _ h.walk e is k (slice_get ss i) h.before.ready h.before.state.told (fine_at (slice_get ss i) refl)
+      pub comes_to_loose : (x : Option Ty) → x ≡ slice_get ss i → Before g s e x c
+      comes_to_loose x own = comes_to_part _ _ _ _ _ _ _ _ _ h.walk e is k x h.before.ready h.before.state.told (fine_at x (sym own))
 
       -- what it owes is asked of it
-      module _ (t : Ty) (next : InferenceContext) (d : OwnDone g s e (slice_get ss i) t c next) where
-        owed_asked : (a : Assignment) → Closes a next → (x : Option Ty) → slice_get ss i ≡ x → (b : ExprId) (m : TypeMismatch) → Owed e (expected_under a x) b m
+      module _ (x : Option Ty) (own : x ≡ slice_get ss i) (t : Ty) (next : InferenceContext) (d : OwnDone g s e x t c next) where
+        owed_asked : (a : Assignment) → Closes a next → (y : Option Ty) → slice_get ss i ≡ y → (b : ExprId) (m : TypeMismatch) → Owed e (expected_under a y) b m
             → Demand g (found_under a next).result b m.expected
         owed_asked a q None at b m o = absurd o
         owed_asked a q (Some u) at b m o =
             let now = (found_under a next).result in
             let z : Closes a c = closes_before g a c next d.follows q in
-            let x = extends_trans _ _ now (h.walk.each a z).walks.extends (d.each a q).walks.extends in
+            let grown = extends_trans _ _ now (h.walk.each a z).walks.extends (d.each a q).walks.extends in
             let input : slice_get (map (folded a) ss) i ≡ Some (folded a u) = slice_get-map (folded a) ss i ∙ ap (option_map (folded a)) at in
-            let asked = h.before.asks a (closes_before g a mid c h.walk.follows z) i e (folded a u) (slice_get_read args _ i e refl k is) input now x in
-            subst (λ x. Demand g now x m.expected) (sym o.0) (subst (λ x. Demand g now e x) (sym o.1) asked)
+            let asked = h.before.asks a (closes_before g a mid c h.walk.follows z) i e (folded a u) (slice_get_read args _ i e refl k is) input now grown in
+            subst (λ n. Demand g now n m.expected) (sym o.0) (subst (λ v. Demand g now e v) (sym o.1) asked)
 
         pub goes_past_loose : (last : InferenceContext) → OnlyBinds g next last → AtLoose g s n args ss (i + 1) mid last
         goes_past_loose last o = record {
           before = h.before;
           walk = binds_on _ _ _ _ _ _ _ _
-              (past_own_part _ _ _ _ _ _ _ _ _ h.walk e is k (λ a. Nothing) (slice_get ss i) t next d (λ a b m p. p)
-              (λ a q b m p. inl (owed_asked a q (slice_get ss i) refl b m p))) o;
+              (past_own_part _ _ _ _ _ _ _ _ _ h.walk e is k (λ a. Nothing) x t next d (λ a b m p. p)
+              (λ a q b m p. inl (owed_asked a q x (sym own) b m p))) o;
         }
 
     -- the type that may be made equal to the next one's is still fine

@@ -9,6 +9,7 @@ use Rattle.hir_types.specs.Subst.{folded, with_holes}
 use Rattle.hir_types.specs.declared.ty.IntegerTy.{IntegerTy}
 use Rattle.hir_types.specs.Types.{integer_type}
 use Rattle.hir_types.specs.Folding.{replaced_int_var}
+use Rattle.hir_types.specs.Folds.{Maps, in_ty}
 use Rattle.hir_types.specs.declared.ty.UintTy.TheVariants as uint
 use Rattle.hir_types.specs.declared.ty.Ty.TheVariants as ty
 use Rattle.hir_types.specs.declared.ty.IntegerTy.TheVariants as integer
@@ -60,8 +61,12 @@ literal_kind g s e x l t c new h is d = record {
 -- ---- integers
 
 -- what is read of the type that is expected is read of its outermost layer
+integer_kept : (m : Maps GenericArg Ty AliasBound TraitRef) (x : Ty-F GenericArg Ty AliasBound TraitRef) → integer_step (in_ty m x) ≡ integer_step x
+integer_kept m (Ty-F.Int i) = refl
+integer_kept m x = refl
+
 integer_of_layer : IsOfLayer integer_step
-integer_of_layer m x = refl
+integer_of_layer = record { kept = integer_kept; arrays = λ a b c d. refl }
 
 pub expected_at : (state : State) (x : Option Ty) (e r : Ty) → x ≡ Some e → resolved_type state r ≡ resolved_type state e → IsOpenOrKnown (bindings state) r
     → expected_integer state x ≡ integer_for r

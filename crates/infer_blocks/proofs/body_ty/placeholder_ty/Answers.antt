@@ -9,14 +9,14 @@ use Rattle.infer_blocks.proofs.body_ty.placeholder_ty.Goals as goal
 pub returns-in_ok-ty-in-Some : goal.returns-in_ok-ty-in-Some
 returns-in_ok-ty-in-Some c = rw c.in_ok-ty-in-Some.ensures (placeholder_known (given_of c.args.given.now) _ _ _ c.requires.before.sound (sym c.type_of_type_placeholder.ensures ∙ ap option_copied c.in-Some.is))
 
-pub returns-in_ok-recorded-in-None : goal.returns-in_ok-recorded-in-None
-returns-in_ok-recorded-in-None c =
+pub returns-in_ok-write_type_placeholder_ty-in-None : goal.returns-in_ok-write_type_placeholder_ty-in-None
+returns-in_ok-write_type_placeholder_ty-in-None c =
     let g = given_of c.args.given.now in
     let w = c.args.type_ref in
     let old = c.args.context.now in
     let t = ty.Var (hole_count old.table) in
     let made = placeholder_made g w old c.requires.before c.requires.is (sym c.type_of_type_placeholder.ensures ∙ ap option_copied c.in-None.is) in
-    rw c.write_type_placeholder_ty.ensures (
+    rw c.in_ok-write_type_placeholder_ty-in-None.ensures (
     rw c.in_ok-recorded-in-None.ensures (
     rw c.in_ok-ty-in-None.ensures.hole (
     rw c.in_ok-ty-in-None.ensures.made made)))

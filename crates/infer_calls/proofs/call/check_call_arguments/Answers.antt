@@ -1,4 +1,17 @@
-use Rattle.std.proofs.Common.{}
-use Rattle.infer_coerce.proofs.Later.{later}
-use Rattle.infer_calls.proofs.CallWalk.{args_since, input_fine, inputs_bound}
+use Rattle.infer_calls.proofs.CallWalk.{args_since, if_done, inputs_bound, inputs_fine}
 use Rattle.infer_calls.proofs.call.check_call_arguments.Goals as goal
+
+pub expect_inputs-requires-clause-inputs : goal.expect_inputs-requires-clause-inputs
+expect_inputs-requires-clause-inputs g c = inputs_fine _ _ _ _ _ _ c.requires.before
+
+pub check_arguments-requires-clause-before : goal.check_arguments-requires-clause-before
+check_arguments-requires-clause-before g c = inputs_bound _ _ _ _ _ _ c.in_ok-expect_inputs.ensures.binds _ c.requires.before
+
+pub check_miscounted_arguments-requires-clause-before : goal.check_miscounted_arguments-requires-clause-before
+check_miscounted_arguments-requires-clause-before g c = inputs_bound _ _ _ _ _ _ c.in_ok-expect_inputs.ensures.binds _ c.requires.before
+
+pub returns-then-args-inputs : goal.returns-then-args-inputs
+returns-then-args-inputs g c = if_done _ _ _ (λ x d. args_since _ _ _ _ _ _ c.in_ok-expect_inputs.ensures.binds _ _ d) c.check_arguments.ensures
+
+pub returns-else-args-inputs : goal.returns-else-args-inputs
+returns-else-args-inputs g c = if_done _ _ _ (λ x d. args_since _ _ _ _ _ _ c.in_ok-expect_inputs.ensures.binds _ _ d) c.check_miscounted_arguments.ensures

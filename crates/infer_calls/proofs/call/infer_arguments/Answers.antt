@@ -1,8 +1,8 @@
 use Rattle.std.proofs.Common.{◌≡◌, refl, sym, subst, Some, slice_get}
 use Rattle.std.proofs.lemmas.Option.{slice_get_read}
 use Rattle.std.proofs.lemmas.List.{get_or_default}
-use Rattle.infer_ctx.specs.Context.{given_of, schedule_of}
-use Rattle.infer_ctx.specs.Steps.{Before, OnlyBinds, OwnDone}
+use Rattle.infer_ctx.specs.Context.{given_of}
+use Rattle.infer_ctx.specs.Steps.{OnlyBinds}
 use Rattle.infer_calls.proofs.Loose.{begins_loose, comes_to_loose, goes_past_loose, still_fine, ends_loose}
 use Rattle.infer_coerce.proofs.Unified.{binds_nothing}
 use Rattle.infer_calls.proofs.call.infer_arguments.Goals.{then-i-inputs+in_ok-unify_with, else-i-inputs}
@@ -13,9 +13,8 @@ loop-i-init g c = begins_loose _ _ _ _ _ _ c.requires.before
 
 pub infer-requires : goal.infer-requires
 infer-requires g c =
-    let here = comes_to_loose _ _ _ _ _ _ _ _ c.loop-i.invariant _ (get_or_default _ _ _ _ c.loop-i-test.true) c.loop-i-test.true in
     c.requires.infers.may _ _ _ c.loop-i.invariant.walk.follows.clock
-    (subst (λ x. Before (given_of c.args.given.now) (schedule_of c.args.given.now) c.index-args-i.result x c.loop-i.context) (sym c.at.ensures) here)
+    (comes_to_loose _ _ _ _ _ _ _ _ c.loop-i.invariant _ (get_or_default _ _ _ _ c.loop-i-test.true) c.loop-i-test.true _ c.at.ensures)
 
 pub unify_with-requires-clause-other : goal.unify_with-requires-clause-other
 unify_with-requires-clause-other g c =
@@ -33,8 +32,7 @@ loop-i-preserved o c =
       | then-i-inputs+in_ok-unify_with w ↦ subst (λ k. OnlyBinds g typed k) (sym w.context-is) w.in_ok-unify_with.ensures
       | else-i-inputs w ↦ subst (λ k. OnlyBinds g typed k) (sym w.context-is) (binds_nothing g typed done.follows.of_body done.follows.sound)
     ] in
-    goes_past_loose _ _ _ _ _ _ _ _ inv _ (get_or_default _ _ _ _ c.loop-i-test.true) c.loop-i-test.true _ _
-    (subst (λ x. OwnDone g (schedule_of c.args.given.now) c.index-args-i.result x c.in_ok-ty.ty c.loop-i.context typed) c.at.ensures done) _ binds
+    goes_past_loose _ _ _ _ _ _ _ _ inv _ (get_or_default _ _ _ _ c.loop-i-test.true) c.loop-i-test.true _ c.at.ensures _ _ done _ binds
 
 pub returns : goal.returns
 returns g c = ends_loose _ _ _ _ _ _ _ _ c.loop-i.invariant c.loop-i-test.false

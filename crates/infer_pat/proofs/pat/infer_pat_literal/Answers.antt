@@ -12,7 +12,7 @@ pub returns : goal.returns
 returns c =
     let g = given_of c.args.given.now in
     let s = schedule_of c.args.given.now in
-    let kind = subst (λ k. KindDone g s c.args.expr (expected_type c.args.expected) c.in_ok-ty.ty k c.infer_literal.new.context) c.enter.ensures c.in_ok-ty.ensures in
+    let kind = subst (λ k. KindDone g s c.args.expr (expected_type c.args.expected) c.in_ok-ty.ty k c.infer_literal.new.context) c.enter.ensures c.in_ok-ty.ensures.kind in
     subst (λ k. OwnDone g s c.args.expr (expected_type c.args.expected) c.in_ok-ty.ty c.args.context.now k)
     (sym (c.write_expr_ty.ensures ∙ ap (λ y. with_expr_ty c.infer_literal.new.context c.args.expr y) c.in_ok-recorded.ensures))
     (own_done _ _ _ _ _ _ _ c.requires.before kind)

@@ -1,21 +1,24 @@
 -- What is expected of the arguments of a call: tried, undone, and made equal with what the call takes.
-use Rattle.std.proofs.Common.{ℕ, ◌≡◌, ◌⊎◌, ◌<◌, ◌≤◌, ◌+◌, inl, inr, refl, sym, ap, subst, ◌∙◌, arith, zero, suc, Bool, true, false, List, [], ◌∷◌, length, map, slice_get, get_or, Option, Some, None}
+use Rattle.std.proofs.Common.{ℕ, ◌≡◌, ◌⊎◌, ◌<◌, ◌≤◌, ◌+◌, inl, inr, refl, sym, ap, subst, ◌∙◌, arith, zero, suc, Bool, true, false, List, [], ◌∷◌, length, map, slice_get, get_or, Option, Some, None, Result, Ok, Err}
 use Rattle.std.proofs.lemmas.Option.{slice_get_within}
 use Rattle.std.proofs.lemmas.List.{length-map}
 use Rattle.hir_types.specs.declared.ty.Ty.{Ty}
 use Rattle.hir_types.specs.Terms.{term, terms_of}
-use Rattle.hir_types.specs.Subst.{Assignment, folded}
+use Rattle.std.specs.Prelude.{IfOk}
+use Rattle.std.specs.declared.alloc.AllocError.{AllocError}
+use Rattle.hir_types.specs.Subst.{Assignment, folded, replaced}
 use Rattle.infer_table.specs.Preserved.{BindsOnly}
 use Rattle.infer_table.specs.Solutions.{AreOf, Solves, log_of}
 use Rattle.infer_table.specs.Table.{State, Grew, IsBack, IsFront, bindings, resolved_type, AreUnified, AreRefused, CanBeEqual}
-use Rattle.infer_table.specs.Undo.{GoesBack}
+use Rattle.infer_table.specs.Undo.{GoesBack, IsResolvedOr}
+use Rattle.infer_table.specs.declared.unify.NoUnifier.{NoUnifier}
 use Rattle.infer_table.specs.Waiting.{Waiting, waiting}
 use Rattle.infer_table.proofs.UndoLaws.{front_itself}
 use Rattle.infer_result.specs.Closed.{IsOfBody}
 use Rattle.infer_result.specs.Places.{Given}
 use Rattle.infer_ctx.specs.declared.context.InferenceContext.{InferenceContext}
 use Rattle.infer_ctx.specs.Closings.{Closes, IsSound}
-use Rattle.infer_ctx.specs.Fine.{AreFinePairs, IsFine, is_fine_head}
+use Rattle.infer_ctx.specs.Fine.{AreFinePairs, IsFine, IsFineExpectation, is_fine_head}
 use Rattle.infer_ctx.specs.Steps.{OnlyBinds}
 use Rattle.infer_ctx.proofs.AtEach.{closes_before}
 use Rattle.infer_ctx.proofs.Closed.{kept_later}
@@ -23,7 +26,7 @@ use Rattle.infer_ctx.proofs.FineTypes.{fine_asked_grown, fine_grown, fine_pairs_
 use Rattle.infer_coerce.specs.Unifying.{IsUnifiedIf}
 use Rattle.infer_coerce.proofs.Resolved.{resolved_fine}
 use Rattle.infer_coerce.proofs.Unified.{binds_nothing, binds_twice, unified, with_table}
-use Rattle.infer_calls.specs.Inputs.{AreFine, AreSettled, ExpectsInputs, FindsInputs, IsLawfulState, IsSettled, TakesOnce, UnifiesAll}
+use Rattle.infer_calls.specs.Inputs.{AreFine, AreFineInputs, AreSettled, ExpectsInputs, FindsInputs, IsLawfulState, IsSettled, IsTried, TakesOnce, UnifiesAll}
 
 -- ---- gone back, with some holes more that nothing names
 module _ (g : Given) (c : InferenceContext) (after : State) (b : IsBack c.table after) where
@@ -98,6 +101,24 @@ module _ (g : Given) (c : InferenceContext) (h : IsOfBody g.body c.result) (s : 
     fine = tt;
   }
 
+-- what is found where this came of the trial
+abbrev pub FindsTried : Given → Option Ty → List Ty → Ty → Result (List Ty) NoUnifier → InferenceContext → InferenceContext → Type 0
+FindsTried g x inputs output (Ok ss) old new = FindsInputs g x inputs output (Some ss) old new
+FindsTried g x inputs output (Err r) old new = FindsInputs g x inputs output None old new
+
+pub found_tried : (g : Given) (c : InferenceContext) → IsOfBody g.body c.result → IsSound g.scope c → (inputs : List Ty) (output e : Ty) → AreFine g.scope c.table inputs
+    → IsFine g.scope c.table output → (x : Option Ty) → x ≡ Some e → IsFineExpectation g.scope c.table x → (during after : State)
+    → (given : Result (Result (List Ty) NoUnifier) AllocError) (tried : Result (List Ty) NoUnifier) → IfOk given (λ answer. IsTried inputs output e c.table during answer)
+    → IsResolvedOr (λ s ts. map (replaced s) ts) during given (Ok tried) → GoesBack c.table during after
+    → FindsTried g x inputs output tried c (with_table c after)
+found_tried g c h s inputs output e fi fo x is fx during after (Ok (Ok ts)) (Ok ss) (u, same, l) resolved back =
+    finds_inputs g c h s inputs output e fi fo (subst (λ y. IsFineExpectation g.scope c.table y) is fx) x is during after ts ss u same l resolved back
+found_tried g c h s inputs output e fi fo x is fx during after (Ok (Ok ts)) (Err r) t resolved back = absurd resolved
+found_tried g c h s inputs output e fi fo x is fx during after (Ok (Err r)) (Ok ss) t resolved back = absurd (cc)
+found_tried g c h s inputs output e fi fo x is fx during after (Ok (Err r)) (Err q) t resolved back =
+    finds_none g c h s inputs output e fi fo (subst (λ y. IsFineExpectation g.scope c.table y) is fx) x is during after t back
+found_tried g c h s inputs output e fi fo x is fx during after (Err r) tried t resolved back = absurd (cc)
+
 pub expects_nothing : (g : Given) (x : Option Ty) (inputs : List Ty) (output : Ty) (c : InferenceContext) → IsOfBody g.body c.result → IsSound g.scope c → x ≡ None
     → FindsInputs g x inputs output None c c
 expects_nothing g x inputs output c h s none = record {
@@ -112,7 +133,7 @@ settled_later : (g : Given) (x y : InferenceContext) (t u : Ty) → OnlyBinds g 
 settled_later g x y t u o (inl same) = inl (λ a q. same a (closes_before g a x y o.follows q))
 settled_later g x y t u o (inr apart) = inr (λ a q. apart a (closes_before g a x y o.follows q))
 
-settled_now : (yes : Bool) (g : Given) (t u : Ty) (x y : InferenceContext) → IsUnifiedIf yes g t u x y → IsSettled y t u
+settled_now : (same : Bool) (g : Given) (t u : Ty) (x y : InferenceContext) → IsUnifiedIf same g t u x y → IsSettled y t u
 settled_now true g t u x y h = inl h.each
 settled_now false g t u x y h = inr h.each
 
@@ -124,7 +145,7 @@ pub record AtUnify (g : Given) (ts us : List Ty) (i : ℕ) (old c : InferenceCon
 pub begins_unify : (g : Given) (ts us : List Ty) (c : InferenceContext) → IsOfBody g.body c.result → IsSound g.scope c → AtUnify g ts us 0 c c
 begins_unify g ts us c h s = record { binds = binds_nothing g c h s; settled = λ i t u lt at there. absurd (omega arith) }
 
-still : (g : Given) (ts : List Ty) (old c : InferenceContext) → OnlyBinds g old c → AreFine g.scope old.table ts → AreFine g.scope c.table ts
+pub still : (g : Given) (ts : List Ty) (old c : InferenceContext) → OnlyBinds g old c → AreFine g.scope old.table ts → AreFine g.scope c.table ts
 still g ts old c o fine i t at = fine_grown g.scope old.table c.table t o.follows.grew (fine i t at)
 
 pub still_fine : (g : Given) (ts : List Ty) (old c : InferenceContext) (i : ℕ) (t : Ty) → OnlyBinds g old c → AreFine g.scope old.table ts → slice_get ts i ≡ Some t
@@ -134,18 +155,18 @@ still_fine g ts old c i t o fine at = still g ts old c o fine i t at
 earlier_or_here : (i n : ℕ) → i < n + 1 → (i < n) ⊎ (i ≡ n)
 earlier_or_here i n lt = grind arith
 
-pub goes_past_unify : (g : Given) (ts us : List Ty) (n : ℕ) (old c next : InferenceContext) (yes : Bool) (t u : Ty) → AtUnify g ts us n old c
-    → slice_get ts n ≡ Some t → slice_get us n ≡ Some u → IsUnifiedIf yes g t u c next → AtUnify g ts us (n + 1) old next
-goes_past_unify g ts us n old c next yes t u h here there k = record {
+pub goes_past_unify : (g : Given) (ts us : List Ty) (n : ℕ) (old c next : InferenceContext) (same : Bool) (t u : Ty) → AtUnify g ts us n old c
+    → slice_get ts n ≡ Some t → slice_get us n ≡ Some u → IsUnifiedIf same g t u c next → AtUnify g ts us (n + 1) old next
+goes_past_unify g ts us n old c next same t u h here there k = record {
   binds = binds_twice g old c next h.binds k.binds;
   settled = λ i v w lt at at_other. elim (earlier_or_here i n lt) [
     | inl l ↦ settled_later g c next v w k.binds (h.settled i v w l at at_other)
-    | inr same ↦
-        (let mine : slice_get ts n ≡ Some v = subst (λ j. slice_get ts j ≡ Some v) same at in
-        let its : slice_get us n ≡ Some w = subst (λ j. slice_get us j ≡ Some w) same at_other in
+    | inr at_n ↦
+        (let mine : slice_get ts n ≡ Some v = subst (λ j. slice_get ts j ≡ Some v) at_n at in
+        let its : slice_get us n ≡ Some w = subst (λ j. slice_get us j ≡ Some w) at_n at_other in
         let one : t ≡ v = (let q : Some t ≡ Some v = sym here ∙ mine in cc) in
         let other : u ≡ w = (let q : Some u ≡ Some w = sym there ∙ its in cc) in
-        subst (λ y. IsSettled next v y) other (subst (λ y. IsSettled next y u) one (settled_now yes g t u c next k)))
+        subst (λ y. IsSettled next v y) other (subst (λ y. IsSettled next y u) one (settled_now same g t u c next k)))
   ];
 }
 
@@ -158,6 +179,10 @@ ends_unify g ts us n old c h over = record {
 }
 
 -- ---- all of it
+
+pub wanted_fine : (g : Given) (x : Option Ty) (inputs : List Ty) (output : Ty) (wanted : Option (List Ty)) (ss : List Ty) (old new : InferenceContext)
+    → FindsInputs g x inputs output wanted old new → wanted ≡ Some ss → AreFine g.scope new.table ss
+wanted_fine g x inputs output wanted ss old new f is = subst (λ o. AreFineInputs g.scope new.table o) is f.fine
 
 pub inputs_count : (ss ts : List Ty) (f : Ty → Ty) → ss ≡ map f ts → length ts ≡ length ss
 inputs_count ss ts f is = sym (ap (λ us. length us) is ∙ length-map ts f)
