@@ -67,6 +67,7 @@ fn main(rt: HostRuntime) -> io::Result<ExitCode> {
     let mut checks = Checks { made: 0, wrong: 0 };
     check_all(&rt, &paths_of(&rt)?, &mut checks)?;
     let Checks { made, wrong } = checks;
-    println!(rt; "{made} checks, {wrong} wrong")?;
+    eprintln!(rt; "{made} checks")?;
+    println!(rt; "{wrong} wrong")?;
     Ok(ExitCode::from(u8::from(wrong > 0)))
 }
