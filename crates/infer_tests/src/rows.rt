@@ -137,12 +137,8 @@ pub fn plain_of(ran: &Ran) -> &'static str {
 
 /// What is wrong with a row: nothing, or what differs.
 fn wrong_with(alloc: Global, row: &Row) -> Result<String, AllocError> {
-    let mut words = Vec::new(alloc);
-    for word in row.words.as_str().split_whitespace() {
-        words.push(word)?;
-    }
     let way = Way {
-        words: words.as_slice(),
+        words: row.words.as_str(),
         ..PLAIN
     };
     let end = ran(alloc, &way, row.facts.as_bytes())?;

@@ -6,22 +6,22 @@ use std::rc::RcStr;
 /// How a run is made: the words, the most bytes that an end moves, and the calls that fail.
 #[derive(Drop)]
 pub struct Way<'a> {
-    pub words: &'a [&'a str],
+    pub words: &'a str,
     pub most: usize,
     pub source_fails: &'a [u64],
     pub sink_fails: &'a [u64],
 }
 
 pub const PLAIN: Way<'static> = Way {
-    words: &["table", "fn", "0"],
+    words: "table fn 0",
     most: 4096,
     source_fails: &[],
     sink_fails: &[],
 };
 
-fn shared(alloc: Global, words: &[&str]) -> Result<Vec<RcStr>, AllocError> {
+fn shared(alloc: Global, words: &str) -> Result<Vec<RcStr>, AllocError> {
     let mut out = Vec::new(alloc);
-    for word in words {
+    for word in words.split_whitespace() {
         out.push(RcStr::from_str(alloc, word)?)?;
     }
     Ok(out)
