@@ -1,20 +1,12 @@
 //! What is wrong where a law is broken, found in the text again.
 
-mod carried;
-mod counts;
-mod holes;
-mod ids;
-mod limits;
-mod literals;
-mod scopes;
-mod sizes;
-mod trees;
-
-use crate::place::{Place, list_name};
 use hir_facts::{FactsList, Law};
 use serde_json::Value;
 use std::alloc::{AllocError, Global};
 use std::fmt;
+use told_bodies::{holes, limits, literals, scopes, sizes, trees};
+use told_items::{carried, counts, ids};
+use told_places::place::{Place, list_name};
 
 fn told<W: fmt::Display + Drop>(
     alloc: Global,

@@ -4,9 +4,6 @@
 mod explain;
 mod kept;
 mod laws;
-mod look;
-mod nodes;
-mod place;
 mod shape;
 mod words;
 

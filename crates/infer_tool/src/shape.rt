@@ -1,10 +1,10 @@
 //! What the text has where another shape is wanted.
 
-use crate::place::{Path, Quoted};
 use serde_json::Value;
 use serde_json::value::Map;
 use std::alloc::{AllocError, Global};
 use std::fmt;
+use told_places::place::{Path, Quoted};
 
 /// The most bytes of a value that are shown.
 const MOST_SHOWN: usize = 60;

@@ -1,11 +1,11 @@
 //! Law 2: counts that do not fit.
 
-use crate::look::{items, list, number, type_id, type_parts, word};
-use crate::place::{Counted, Place};
 use hir_facts::FactsList;
 use serde_json::Value;
 use std::alloc::{AllocError, Global};
 use std::fmt;
+use told_places::look::{items, list, number, type_id, type_parts, word};
+use told_places::place::{Counted, Place};
 
 /// Counts that do not fit.
 #[derive(Clone, Copy)]

@@ -1,10 +1,10 @@
 //! Law 0: what is not carried yet.
 
-use crate::look::{is_there, items, list, number, word};
-use crate::place::{Place, list_name};
 use hir_facts::FactsList;
 use serde_json::Value;
 use std::fmt;
+use told_places::look::{is_there, items, list, number, word};
+use told_places::place::{Place, list_name};
 
 /// What is not carried yet.
 #[derive(Clone, Copy)]

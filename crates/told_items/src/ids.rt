@@ -1,12 +1,12 @@
 //! Law 1: ids that are out of range, and lists that do not agree.
 
-use crate::look::{items, list, number, type_id, type_parts, word};
-use crate::nodes::{Node, Nodes};
-use crate::place::Place;
 use hir_facts::FactsList;
 use serde_json::Value;
 use std::alloc::{AllocError, Global};
 use std::fmt;
+use told_places::look::{items, list, number, type_id, type_parts, word};
+use told_places::nodes::{Node, Nodes};
+use told_places::place::Place;
 
 /// What an id names.
 #[derive(Clone, Copy)]

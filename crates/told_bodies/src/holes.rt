@@ -1,10 +1,10 @@
 //! Law 9: types with a `_` that are not used once, in a body.
 
-use crate::look::{items, list, number, type_id, type_parts, word};
-use crate::place::Place;
 use hir_facts::FactsList;
 use serde_json::Value;
 use std::fmt;
+use told_places::look::{items, list, number, type_id, type_parts, word};
+use told_places::place::Place;
 
 /// How a type in which a `_` stands is used.
 #[derive(Clone, Copy)]

@@ -1,11 +1,11 @@
 //! Law 8: literals without a value, and names of fields.
 
-use crate::look::{list, number, word};
-use crate::place::{Place, Quoted};
 use hir_facts::FactsList;
 use serde_json::Value;
 use std::alloc::{AllocError, Global};
 use std::fmt;
+use told_places::look::{list, number, word};
+use told_places::place::{Place, Quoted};
 
 /// What is wrong with a literal or the name of a field.
 #[derive(Clone, Copy)]

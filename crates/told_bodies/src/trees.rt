@@ -1,11 +1,11 @@
 //! Law 3: nodes that are no tree, and bindings that are not bound once.
 
-use crate::look::{list, number, word};
-use crate::nodes::{Node, Nodes};
-use crate::place::Place;
 use serde_json::Value;
 use std::alloc::{AllocError, Global};
 use std::fmt;
+use told_places::look::{list, number, word};
+use told_places::nodes::{Node, Nodes};
+use told_places::place::Place;
 
 /// What a node is a part of.
 #[derive(Clone, Copy, PartialEq, Eq)]

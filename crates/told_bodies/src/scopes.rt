@@ -1,11 +1,11 @@
 //! Law 4: locals that name a binding too early.
 
-use crate::look::{list, number, word};
-use crate::nodes::{Node, Nodes};
-use crate::place::Place;
 use serde_json::Value;
 use std::alloc::{AllocError, Global};
 use std::fmt;
+use told_places::look::{list, number, word};
+use told_places::nodes::{Node, Nodes};
+use told_places::place::Place;
 
 /// A binding is named before its pattern.
 #[derive(Clone, Copy)]

@@ -1,10 +1,10 @@
 //! Law 6: limits that are not in their ranges.
 
-use crate::look::{list, number};
-use crate::place::Place;
 use hir_facts::FactsList;
 use serde_json::Value;
 use std::fmt;
+use told_places::look::{list, number};
+use told_places::place::Place;
 
 /// A limit that is not in its range.
 #[derive(Clone, Copy)]

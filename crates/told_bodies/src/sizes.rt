@@ -1,12 +1,12 @@
 //! Law 5: what is too long, too deep or too large.
 
-use crate::look::{items, list, number, type_id, type_parts};
-use crate::nodes::{Node, Nodes, Step};
-use crate::place::Place;
 use hir_facts::FactsList;
 use serde_json::Value;
 use std::alloc::{AllocError, Global};
 use std::fmt;
+use told_places::look::{items, list, number, type_id, type_parts};
+use told_places::nodes::{Node, Nodes, Step};
+use told_places::place::Place;
 
 const MOST_ENTRIES: usize = 1_048_576;
 

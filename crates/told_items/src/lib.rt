@@ -1,0 +1,6 @@
+//! What is wrong where one of the first three laws is broken: what is not carried, ids, and counts.
+#![tactic(auto)]
+
+pub mod carried;
+pub mod counts;
+pub mod ids;
