@@ -165,17 +165,39 @@ fn wrong_with(alloc: Global, row: &Row) -> Result<String, AllocError> {
     Ok(wrong)
 }
 
-/// Checks the row in a block that begins at a line of a file.
+/// Checks the row in a block, over these facts.
 fn check_row(
     rt: &(impl Eprint + AllocGlobal),
-    name: &str,
+    (path, at): (&str, usize),
     facts: &str,
     block: &str,
     checks: &mut Checks,
 ) -> io::Result<()> {
     let row = row_of(rt.alloc(), facts, block)?;
     let wrong = wrong_with(rt.alloc(), &row)?;
-    checks.note(rt, name, wrong.as_str())
+    let name = format!(in rt.alloc(); "{path}:{at}")?;
+    checks.note(rt, name.as_str(), wrong.as_str())
+}
+
+/// The facts that a block names, with what it puts into them.
+fn named_facts(
+    rt: &(impl Files + Eprint + AllocGlobal),
+    (path, at): (&str, usize),
+    block: &str,
+    checks: &mut Checks,
+) -> io::Result<String> {
+    let name = block
+        .lines()
+        .next()
+        .and_then(|line| line.strip_prefix("of "));
+    let facts = facts_beside(rt, path, name.unwrap_or(""))?;
+    let row = row_of(rt.alloc(), facts.as_str(), block)?;
+    if !row.mistake.is_empty() {
+        let mistake = row.mistake.as_str();
+        checks.wrong = checks.wrong.saturating_add(1);
+        eprintln!(rt; "{path}:{at}: {mistake}")?;
+    }
+    Ok(row.facts)
 }
 
 /// Goes through the blocks of a file.
@@ -184,22 +206,15 @@ pub fn check(
     path: &str,
     checks: &mut Checks,
 ) -> io::Result<()> {
-    let alloc = rt.alloc();
     let text = fs::read_to_string(rt, path)?;
-    let mut facts = String::new(alloc);
+    let mut facts = String::new(rt.alloc());
     let mut at = 1usize;
     let before = checks.made;
     for block in text.as_str().trim_end().split("\n\n") {
-        let name = format!(in alloc; "{path}:{at}")?;
-        if let Some(named) = block.strip_prefix("of ") {
-            let base = facts_beside(rt, path, named.lines().next().unwrap_or(""))?;
-            let row = row_of(alloc, base.as_str(), block)?;
-            if !row.mistake.is_empty() {
-                checks.note(rt, name.as_str(), row.mistake.as_str())?;
-            }
-            facts = row.facts;
+        if block.starts_with("of ") {
+            facts = named_facts(rt, (path, at), block, checks)?;
         } else if !block.lines().all(|line| line.starts_with('#')) {
-            check_row(rt, name.as_str(), facts.as_str(), block, checks)?;
+            check_row(rt, (path, at), facts.as_str(), block, checks)?;
         }
         at = at.saturating_add(block.lines().count()).saturating_add(1);
     }
