@@ -1,7 +1,6 @@
 -- What a written type stands for where each `_` stands for a type.
-use Rattle.std.specs.Prelude.{◌≡◌, ◌<◌, ◌≤◌, ℕ, zero, suc, max, length, List, [], ◌∷◌, map, slice_get, Option, Some, None, refl}
+use Rattle.std.specs.Prelude.{◌≡◌, ◌<◌, ◌≤◌, ℕ, zero, suc, max, List, [], ◌∷◌, map, slice_get, Option, Some, None, refl}
 use Rattle.std.proofs.Common.{◌∙◌, ap, arith}
-use Rattle.std.proofs.lemmas.Option.{slice_get_past}
 use Rattle.hir_types.specs.declared.ids.TypeRefId.{TypeRefId}
 use Rattle.hir_types.specs.declared.ty.IntegerTy.{IntegerTy}
 use Rattle.hir_types.specs.declared.ty.IntegerTy.TheVariants.{Int, Uint}
@@ -14,51 +13,12 @@ use Rattle.hir_types.specs.Folding.{replaced_bool, replaced_char, replaced_int, 
 use Rattle.hir_types.specs.Folds.{map_twice}
 use Rattle.hir_raw.specs.declared.raw.RawType.{RawType}
 use Rattle.hir_raw.specs.declared.raw.RawType.TheVariants as type
-use Rattle.hir_raw.specs.Types.{type_parts, lowered_by, lowered_within, written_type, filled_by, filled_within, filled, filled_type, StandsIn, is_itself, in_part}
+use Rattle.hir_raw.specs.Types.{type_parts, lowered_by, written_type, filled_by, filled_within, filled_type, StandsIn, is_itself, in_part}
 use Rattle.hir_ids.specs.Entries.{AllHold}
 use Rattle.hir_ids.specs.Ids.{ChildrenBefore}
 use Rattle.hir_counts.specs.Standing.{hole_at, most_by, most_within, most_in, HasNoHole}
 use Rattle.hir_ids.specs.Lowered.{tys_same, args_same}
 use Rattle.hir_counts.specs.Most.{most_above, own_most, part_most}
-
--- ---- part by part
-
--- two ways to read the parts that agree on them
-pub filled_by_same : (u : Ty) (f g : ℕ → Ty) (x : RawType) → ((k : ℕ) (t : TypeRefId) → slice_get (type_parts x) k ≡ Some t → f t.0 ≡ g t.0) → filled_by u f (Some x) ≡ filled_by u g (Some x)
-filled_by_same u f g type.Bool same = refl
-filled_by_same u f g type.Char same = refl
-filled_by_same u f g (type.Integer i) same = refl
-filled_by_same u f g (type.Tuple ts) same = ap ty.Tuple (tys_same f g ts same)
-filled_by_same u f g (type.Adt a ts) same = ap (ty.Adt a) (args_same f g ts same)
-filled_by_same u f g (type.Param m) same = refl
-filled_by_same u f g type.Hole same = refl
-filled_by_same u f g type.Other same = refl
-
-of_same : (u : Ty) (f g : ℕ → Ty) (i : ℕ) (o : Option RawType) → ((x : RawType) → o ≡ Some x → ChildrenBefore i x) → ((j : ℕ) → j < i → f j ≡ g j) → filled_by u f o ≡ filled_by u g o
-of_same u f g i None before same = refl
-of_same u f g i (Some x) before same = filled_by_same u f g x (λ k t found. same t.0 (before x refl k t found))
-
--- how far a type is followed does not matter, as long as it is far enough
-filled_far : (h : ℕ → Ty) (types : List RawType) → AllHold ChildrenBefore types → (n m i : ℕ) → i < n → i < m → filled_within h n types i ≡ filled_within h m types i
-unfolding filled_within
-filled_far h types all zero m i a b = absurd (omega arith)
-filled_far h types all (suc n) zero i a b = absurd (omega arith)
-filled_far h types all (suc n) (suc m) i a b =
-    of_same (h i) (filled_within h n types) (filled_within h m types) i (slice_get types i) (λ x found. all i x found) (λ j lt. filled_far h types all n m j (omega arith) (omega arith))
-
-filled_within_step : (h : ℕ → Ty) (types : List RawType) (n i : ℕ) → filled_within h (suc n) types i ≡ filled_by (h i) (filled_within h n types) (slice_get types i)
-unfolding filled_within
-filled_within_step h types n i = refl
-
--- a type stands for what its parts make
-pub filled_parts : (h : ℕ → Ty) (types : List RawType) → AllHold ChildrenBefore types → (i : ℕ) (x : RawType) → slice_get types i ≡ Some x → filled h types i ≡ filled_by (h i) (filled h types) (Some x)
-filled_parts h types all i x found =
-    filled_within_step h types i i ∙ (ap (filled_by (h i) (filled_within h i types)) found
-    ∙ filled_by_same (h i) (filled_within h i types) (filled h types) x (λ k t at. let lt : t.0 < i = all i x found k t at in filled_far h types all i (suc t.0) t.0 lt (omega arith)))
-
--- past the end of the list nothing is written
-pub filled_past : (h : ℕ → Ty) (types : List RawType) (i : ℕ) → length types ≤ i → filled h types i ≡ ty.Error
-filled_past h types i le = filled_within_step h types i i ∙ ap (filled_by (h i) (filled_within h i types)) (slice_get_past types i le)
 
 -- ---- by each `_` that stands in it
 
@@ -111,10 +71,10 @@ written_by u f g m same (Some (type.Param n)) h = refl
 written_by u f g m same (Some type.Hole) h = absurd (omega arith)
 written_by u f g m same (Some type.Other) h = refl
 
-written_within : (h : ℕ → Ty) (types : List RawType) (n i : ℕ) → most_within hole_at n types i ≡ 0 → filled_within h n types i ≡ lowered_within n types i
-unfolding filled_within lowered_within most_within
+written_within : (h : ℕ → Ty) (types : List RawType) (n i : ℕ) → most_within hole_at n types i ≡ 0 → filled_within h n types i ≡ filled_within (λ k. ty.Hole) n types i
+unfolding filled_within most_within
 written_within h types zero i none = refl
-written_within h types (suc n) i none = written_by (h i) (filled_within h n types) (lowered_within n types) (most_within hole_at n types) (written_within h types n) (slice_get types i) none
+written_within h types (suc n) i none = written_by (h i) (filled_within h n types) (filled_within (λ k. ty.Hole) n types) (most_within hole_at n types) (written_within h types n) (slice_get types i) none
 
 -- stands for the same however a `_` would be filled
 pub filled_written : (h : ℕ → Ty) (types : List RawType) (t : TypeRefId) → HasNoHole types t → filled_type h types t ≡ written_type types t

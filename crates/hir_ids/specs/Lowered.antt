@@ -8,7 +8,7 @@ use Rattle.hir_raw.specs.declared.raw.RawType.TheVariants as type
 use Rattle.hir_types.specs.declared.ty.Ty.{Ty}
 use Rattle.hir_types.specs.declared.ty.Ty.TheVariants as ty
 use Rattle.hir_types.specs.declared.ty.GenericArg.TheVariants as arg
-use Rattle.hir_raw.specs.Types.{lowered_by, lowered_within, lowered}
+use Rattle.hir_raw.specs.Types.{type_parts, filled_by, filled_within, filled, lowered_by, lowered}
 use Rattle.hir_ids.specs.Entries.{AllHold}
 use Rattle.hir_ids.specs.Ids.{ChildrenBefore}
 
@@ -22,38 +22,46 @@ args_same f g (t ∷ ts) same =
     let here : f t.0 ≡ g t.0 = same zero t refl in let rest : map (λ t. arg.Ty (f t.0)) ts ≡ map (λ t. arg.Ty (g t.0)) ts = args_same f g ts (λ k u found. same (suc k) u found) in λ i. arg.Ty (here i) ∷ rest i
 
 -- two ways to read the parts that agree on them
-pub lowered_by_same : (f g : ℕ → Ty) (n : ℕ) (x : RawType) → ChildrenBefore n x → ((j : ℕ) → j < n → f j ≡ g j) → lowered_by f (Some x) ≡ lowered_by g (Some x)
-lowered_by_same f g n type.Bool before same = refl
-lowered_by_same f g n type.Char before same = refl
-lowered_by_same f g n (type.Integer i) before same = refl
-lowered_by_same f g n (type.Tuple ts) before same = ap ty.Tuple (tys_same f g ts (λ k t found. same t.0 (before k t found)))
-lowered_by_same f g n (type.Adt a ts) before same = ap (ty.Adt a) (args_same f g ts (λ k t found. same t.0 (before k t found)))
-lowered_by_same f g n (type.Param m) before same = refl
-lowered_by_same f g n type.Hole before same = refl
-lowered_by_same f g n type.Other before same = refl
+pub filled_by_same : (u : Ty) (f g : ℕ → Ty) (x : RawType) → ((k : ℕ) (t : TypeRefId) → slice_get (type_parts x) k ≡ Some t → f t.0 ≡ g t.0) → filled_by u f (Some x) ≡ filled_by u g (Some x)
+filled_by_same u f g type.Bool same = refl
+filled_by_same u f g type.Char same = refl
+filled_by_same u f g (type.Integer i) same = refl
+filled_by_same u f g (type.Tuple ts) same = ap ty.Tuple (tys_same f g ts same)
+filled_by_same u f g (type.Adt a ts) same = ap (ty.Adt a) (args_same f g ts same)
+filled_by_same u f g (type.Param m) same = refl
+filled_by_same u f g type.Hole same = refl
+filled_by_same u f g type.Other same = refl
 
-of_same : (f g : ℕ → Ty) (i : ℕ) (o : Option RawType) → ((x : RawType) → o ≡ Some x → ChildrenBefore i x) → ((j : ℕ) → j < i → f j ≡ g j) → lowered_by f o ≡ lowered_by g o
-of_same f g i None before same = refl
-of_same f g i (Some x) before same = lowered_by_same f g i x (before x refl) same
+of_same : (u : Ty) (f g : ℕ → Ty) (i : ℕ) (o : Option RawType) → ((x : RawType) → o ≡ Some x → ChildrenBefore i x) → ((j : ℕ) → j < i → f j ≡ g j) → filled_by u f o ≡ filled_by u g o
+of_same u f g i None before same = refl
+of_same u f g i (Some x) before same = filled_by_same u f g x (λ k t found. same t.0 (before x refl k t found))
 
 -- how far a type is followed does not matter, as long as it is far enough
-pub lowered_far : (types : List RawType) → AllHold ChildrenBefore types → (n m i : ℕ) → i < n → i < m → lowered_within n types i ≡ lowered_within m types i
-unfolding lowered_within
-lowered_far types all zero m i a b = absurd (omega arith)
-lowered_far types all (suc n) zero i a b = absurd (omega arith)
-lowered_far types all (suc n) (suc m) i a b =
-    of_same (lowered_within n types) (lowered_within m types) i (slice_get types i) (λ x found. all i x found) (λ j lt. lowered_far types all n m j (omega arith) (omega arith))
+filled_far : (h : ℕ → Ty) (types : List RawType) → AllHold ChildrenBefore types → (n m i : ℕ) → i < n → i < m → filled_within h n types i ≡ filled_within h m types i
+unfolding filled_within
+filled_far h types all zero m i a b = absurd (omega arith)
+filled_far h types all (suc n) zero i a b = absurd (omega arith)
+filled_far h types all (suc n) (suc m) i a b =
+    of_same (h i) (filled_within h n types) (filled_within h m types) i (slice_get types i) (λ x found. all i x found) (λ j lt. filled_far h types all n m j (omega arith) (omega arith))
 
-lowered_within_step : (types : List RawType) (n i : ℕ) → lowered_within (suc n) types i ≡ lowered_by (lowered_within n types) (slice_get types i)
-unfolding lowered_within
-lowered_within_step types n i = refl
+filled_within_step : (h : ℕ → Ty) (types : List RawType) (n i : ℕ) → filled_within h (suc n) types i ≡ filled_by (h i) (filled_within h n types) (slice_get types i)
+unfolding filled_within
+filled_within_step h types n i = refl
 
 -- a type stands for what its parts make
-pub lowered_parts : (types : List RawType) → AllHold ChildrenBefore types → (i : ℕ) (x : RawType) → slice_get types i ≡ Some x → lowered types i ≡ lowered_by (lowered types) (Some x)
-lowered_parts types all i x found =
-    lowered_within_step types i i ∙ (ap (lowered_by (lowered_within i types)) found
-    ∙ lowered_by_same (lowered_within i types) (lowered types) i x (all i x found) (λ j lt. lowered_far types all i (suc j) j lt (omega arith)))
+pub filled_parts : (h : ℕ → Ty) (types : List RawType) → AllHold ChildrenBefore types → (i : ℕ) (x : RawType) → slice_get types i ≡ Some x → filled h types i ≡ filled_by (h i) (filled h types) (Some x)
+filled_parts h types all i x found =
+    filled_within_step h types i i ∙ (ap (filled_by (h i) (filled_within h i types)) found
+    ∙ filled_by_same (h i) (filled_within h i types) (filled h types) x (λ k t at. let lt : t.0 < i = all i x found k t at in filled_far h types all i (suc t.0) t.0 lt (omega arith)))
 
 -- past the end of the list nothing is written
+pub filled_past : (h : ℕ → Ty) (types : List RawType) (i : ℕ) → length types ≤ i → filled h types i ≡ ty.Error
+filled_past h types i le = filled_within_step h types i i ∙ ap (filled_by (h i) (filled_within h i types)) (slice_get_past types i le)
+
+-- ---- as it is written
+
+pub lowered_parts : (types : List RawType) → AllHold ChildrenBefore types → (i : ℕ) (x : RawType) → slice_get types i ≡ Some x → lowered types i ≡ lowered_by (lowered types) (Some x)
+lowered_parts types all i x found = filled_parts (λ k. ty.Hole) types all i x found
+
 pub lowered_past : (types : List RawType) (i : ℕ) → length types ≤ i → lowered types i ≡ ty.Error
-lowered_past types i le = lowered_within_step types i i ∙ ap (lowered_by (lowered_within i types)) (slice_get_past types i le)
+lowered_past types i le = filled_past (λ k. ty.Hole) types i le

@@ -19,32 +19,9 @@ type_parts (type.Param n) = []
 type_parts type.Hole = []
 type_parts type.Other = []
 
-abbrev pub lowered_by : (ℕ → Ty) → Option RawType → Ty
-lowered_by f None = ty.Error
-lowered_by f (Some type.Bool) = ty.Bool
-lowered_by f (Some type.Char) = ty.Char
-lowered_by f (Some (type.Integer i)) = integer_type i
-lowered_by f (Some (type.Tuple ts)) = ty.Tuple (map (λ t. f t.0) ts)
-lowered_by f (Some (type.Adt a ts)) = ty.Adt a (map (λ t. arg.Ty (f t.0)) ts)
-lowered_by f (Some (type.Param n)) = ty.Param n
-lowered_by f (Some type.Hole) = ty.Hole
-lowered_by f (Some type.Other) = ty.Error
-
--- what type t of the list stands for, over parts at most n steps below it
-unfoldable pub lowered_within : ℕ → List RawType → ℕ → Ty
-lowered_within zero types t = ty.Error
-lowered_within (suc n) types t = lowered_by (lowered_within n types) (slice_get types t)
-
--- what type t of the list stands for: parts come before it, so they are fewer than t steps below
-abbrev pub lowered : List RawType → ℕ → Ty
-lowered types t = lowered_within (suc t) types t
-
-abbrev pub written_type : List RawType → TypeRefId → Ty
-written_type types t = lowered types t.0
-
 -- ---- where each `_` stands for a type
 
--- the same where a `_` here stands for u
+-- what a type stands for over what its parts stand for, where a `_` here stands for u
 abbrev pub filled_by : Ty → (ℕ → Ty) → Option RawType → Ty
 filled_by u f None = ty.Error
 filled_by u f (Some type.Bool) = ty.Bool
@@ -62,11 +39,25 @@ unfoldable pub filled_within : (ℕ → Ty) → ℕ → List RawType → ℕ →
 filled_within h zero types t = ty.Error
 filled_within h (suc n) types t = filled_by (h t) (filled_within h n types) (slice_get types t)
 
+-- what type t of the list stands for: parts come before it, so they are fewer than t steps below
 abbrev pub filled : (ℕ → Ty) → List RawType → ℕ → Ty
 filled h types t = filled_within h (suc t) types t
 
 abbrev pub filled_type : (ℕ → Ty) → List RawType → TypeRefId → Ty
 filled_type h types t = filled h types t.0
+
+-- ---- as it is written: a `_` stays one
+
+abbrev pub lowered_by : (ℕ → Ty) → Option RawType → Ty
+lowered_by f o = filled_by ty.Hole f o
+
+abbrev pub lowered : List RawType → ℕ → Ty
+lowered types t = filled (λ k. ty.Hole) types t
+
+abbrev pub written_type : List RawType → TypeRefId → Ty
+written_type types t = lowered types t.0
+
+-- ---- where a `_` stands
 
 -- the `_` that is type k of the list stands in type i
 pub data StandsIn (types : List RawType) (k : ℕ) : ℕ → Type 0 where

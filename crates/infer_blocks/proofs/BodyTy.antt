@@ -11,7 +11,8 @@ use Rattle.hir_types.specs.declared.ty.GenericArg.TheVariants as arg
 use Rattle.hir_types.specs.declared.ty.Ty.TheVariants as ty
 use Rattle.hir_types.specs.declared.head.HoleKind.TheVariants as kind
 use Rattle.hir_counts.specs.Most.{most_above}
-use Rattle.hir_facts.specs.Filled.{filled_agree, filled_parts, filled_folded}
+use Rattle.hir_ids.specs.Lowered.{filled_parts}
+use Rattle.hir_facts.specs.Filled.{filled_agree, filled_folded}
 use Rattle.hir_raw.specs.declared.raw.RawType.{RawType}
 use Rattle.hir_ids.specs.Entries.{AllHold}
 use Rattle.hir_ids.specs.Ids.{ChildrenBefore}

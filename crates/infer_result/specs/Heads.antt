@@ -21,7 +21,7 @@ use Rattle.hir_raw.specs.declared.raw.RawType.TheVariants as type
 use Rattle.hir_raw.specs.declared.raw.RawPath.TheVariants as path
 use Rattle.hir_raw.specs.declared.raw.RawExpr.TheVariants as expr
 use Rattle.hir_raw.specs.declared.raw.RawVariant.{RawVariant}
-use Rattle.hir_raw.specs.Types.{lowered_by, lowered_within, written_type, filled_by, filled_within, filled_type}
+use Rattle.hir_raw.specs.Types.{lowered_by, filled_within, written_type, filled_by, filled_type}
 use Rattle.hir_raw.specs.Signatures.{Signature, ctor_type}
 use Rattle.infer_result.specs.Places.{Given}
 use Rattle.infer_result.specs.Incoming.{IsInput}
@@ -118,6 +118,6 @@ head_by u f g (Some type.Other) h has = has
 
 pub filled_head : (fill : ℕ → Ty) (types : List RawType) (w : TypeRefId) (h : Outermost)
     → HasHead (written_type types w) h → HasHead (filled_type fill types w) h
-unfolding lowered_within filled_within
+unfolding filled_within
 filled_head fill types w h has =
-    head_by (fill w.0) (filled_within fill w.0 types) (lowered_within w.0 types) (slice_get types w.0) h has
+    head_by (fill w.0) (filled_within fill w.0 types) (filled_within (λ k. ty.Hole) w.0 types) (slice_get types w.0) h has

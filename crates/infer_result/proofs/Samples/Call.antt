@@ -13,7 +13,7 @@ use Rattle.hir_types.specs.Erasure.{erased, IsClosed}
 use Rattle.hir_types.specs.Assigned.{type_in, with_params}
 use Rattle.hir_types.specs.Folding.{replaced_param}
 use Rattle.hir_facts.specs.CarriedTypes.{carried_type_arg, carried_integer}
-use Rattle.hir_raw.specs.Types.{lowered_within, written_type}
+use Rattle.hir_raw.specs.Types.{filled_within, written_type}
 use Rattle.hir_raw.specs.Signatures.{fn_signature, type_args, at_args}
 use Rattle.infer_result.specs.declared.result.InferenceResult.{InferenceResult}
 use Rattle.infer_result.specs.declared.result.TypeMismatch.{TypeMismatch}
@@ -42,7 +42,7 @@ abbrev given : Given
 given = calling types id one_u8 u8
 
 written : written_type types (w 0) ≡ ty.Param 0
-unfolding lowered_within
+unfolding filled_within
 written = refl
 
 -- the type of the input and of the output at this type

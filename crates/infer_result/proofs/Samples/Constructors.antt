@@ -32,7 +32,7 @@ use Rattle.hir_raw.specs.declared.schedule.Schedule.{Schedule}
 use Rattle.hir_types.specs.Erasure.{Same, erased, IsClosed}
 use Rattle.hir_types.specs.Instances.{param_at}
 use Rattle.hir_types.proofs.Layers.{has_hole_adt, has_hole_fn_def}
-use Rattle.hir_raw.specs.Types.{lowered_within, written_type}
+use Rattle.hir_raw.specs.Types.{filled_within, written_type}
 use Rattle.hir_raw.specs.Scope.{Scope}
 use Rattle.hir_raw.specs.Signatures.{Signature, type_args, at_args, own_adt, field_types, own_adt_at, signature_of}
 use Rattle.hir_raw.specs.Order.{subpattern, the_body, inner, IsSchedule, start, end, after, Fits, parts}
@@ -128,7 +128,7 @@ some_is : (s : Ty) → IsVariantAt given (v 1) some (s ∷ [])
 some_is s = record { found = refl; count = refl }
 
 written : written_type types (w 0) ≡ ty.Param 0
-unfolding lowered_within
+unfolding filled_within
 written = refl
 
 -- the type of the field at this type

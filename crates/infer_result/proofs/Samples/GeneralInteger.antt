@@ -37,7 +37,7 @@ use Rattle.hir_raw.specs.Order.{let_pattern, the_body, inner, IsSchedule, start,
 use Rattle.hir_plain.specs.PlainTypes.{plain_bool}
 use Rattle.hir_raw.specs.Scope.{Scope, scope_of}
 use Rattle.hir_raw.specs.Signatures.{fn_signature, at_args}
-use Rattle.hir_raw.specs.Types.{lowered_within, written_type}
+use Rattle.hir_raw.specs.Types.{filled_within, written_type}
 use Rattle.infer_result.specs.declared.result.General.{General}
 use Rattle.infer_result.specs.declared.result.InferenceResult.{InferenceResult}
 use Rattle.infer_result.specs.declared.modes.BindingMode.TheVariants as mode
@@ -79,11 +79,11 @@ abbrev pub Here : Given
 Here = given facts f body
 
 written_param : written_type types (w 0) ≡ ty.Param 0
-unfolding lowered_within
+unfolding filled_within
 written_param = refl
 
 written_unit : written_type types (w 1) ≡ unit
-unfolding lowered_within
+unfolding filled_within
 written_unit = refl
 
 -- the type of the input and of the output of `id` at this type

@@ -15,7 +15,7 @@ use Rattle.hir_raw.specs.Fitting.{ty_fits_tuple}
 use Rattle.hir_raw.specs.Order.{parameter as a_parameter, let_pattern, the_body, inner, IsSchedule, start, end, after, Fits, parts}
 use Rattle.hir_plain.specs.PlainTypes.{IsPlainIn, plain_bool}
 use Rattle.hir_raw.specs.Signatures.{fn_signature, at_args}
-use Rattle.hir_raw.specs.Types.{lowered_within, written_type}
+use Rattle.hir_raw.specs.Types.{filled_within, written_type}
 use Rattle.infer_result.specs.declared.result.InferenceResult.{InferenceResult}
 use Rattle.infer_result.specs.Closed.{IsBinder, NamesVariant, IsVariantPat, AllTypes}
 use Rattle.infer_result.specs.Derivation.{IsDerivation}
@@ -37,15 +37,15 @@ abbrev Here : Given
 Here = given facts f body
 
 written_param : written_type types (w 0) ≡ ty.Param 0
-unfolding lowered_within
+unfolding filled_within
 written_param = refl
 
 written_bool : written_type types (w 1) ≡ ty.Bool
-unfolding lowered_within
+unfolding filled_within
 written_bool = refl
 
 written_unit : written_type types (w 2) ≡ unit
-unfolding lowered_within
+unfolding filled_within
 written_unit = refl
 
 -- the output of `mk` at this type

@@ -15,7 +15,7 @@ use Rattle.hir_types.specs.Types.{unit}
 use Rattle.hir_types.specs.Erasure.{erased, IsClosed}
 use Rattle.hir_types.specs.Assigned.{with_params}
 use Rattle.hir_types.specs.Folding.{replaced_uint, replaced_tuple}
-use Rattle.hir_raw.specs.Types.{lowered_within, written_type}
+use Rattle.hir_raw.specs.Types.{filled_within, written_type}
 use Rattle.hir_raw.specs.Order.{argument, inner}
 use Rattle.hir_raw.specs.Signatures.{fn_signature, at_args}
 use Rattle.infer_result.specs.declared.result.InferenceResult.{InferenceResult}
@@ -47,11 +47,11 @@ abbrev given : Given
 given = calling types take the_argument unit
 
 input_written : written_type types (w 0) ≡ u8
-unfolding lowered_within
+unfolding filled_within
 input_written = refl
 
 output_written : written_type types (w 1) ≡ unit
-unfolding lowered_within
+unfolding filled_within
 output_written = refl
 
 input_is : at_args [] (written_type types (w 0)) ≡ u8

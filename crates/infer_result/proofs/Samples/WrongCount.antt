@@ -10,7 +10,7 @@ use Rattle.hir_types.specs.Types.{unit}
 use Rattle.hir_types.specs.Erasure.{IsClosed}
 use Rattle.hir_types.specs.Assigned.{with_params}
 use Rattle.hir_types.specs.Folding.{replaced_tuple}
-use Rattle.hir_raw.specs.Types.{lowered_within, written_type}
+use Rattle.hir_raw.specs.Types.{filled_within, written_type}
 use Rattle.hir_raw.specs.Signatures.{fn_signature, at_args}
 use Rattle.infer_result.specs.declared.result.InferenceResult.{InferenceResult}
 use Rattle.infer_result.specs.declared.result.TypeMismatch.{TypeMismatch}
@@ -40,7 +40,7 @@ abbrev given : Given
 given = calling types none one_u8 unit
 
 output_is : at_args [] (written_type types (w 0)) ≡ unit
-unfolding lowered_within
+unfolding filled_within
 output_is = replaced_tuple (with_params []) []
 
 abbrev wrong_count : ℕ → ℕ → InferenceDiagnostic

@@ -24,7 +24,7 @@ use Rattle.hir_types.specs.Erasure.{IsClosed}
 use Rattle.hir_types.proofs.Layers.{has_hole_adt}
 use Rattle.hir_types.specs.Assigned.{with_params}
 use Rattle.hir_types.specs.Folding.{replaced_uint}
-use Rattle.hir_raw.specs.Types.{lowered_within, written_type}
+use Rattle.hir_raw.specs.Types.{filled_within, written_type}
 use Rattle.hir_raw.specs.Signatures.{at_args}
 use Rattle.hir_raw.specs.Order.{subpattern, the_body, inner, IsSchedule, start, end, after, Fits, parts}
 use Rattle.infer_result.specs.declared.result.InferenceResult.{InferenceResult}
@@ -67,11 +67,11 @@ both_is : IsVariantAt given (v 0) both []
 both_is = record { found = refl; count = refl }
 
 written : written_type types (w 2) ≡ pair
-unfolding lowered_within
+unfolding filled_within
 written = refl
 
 field_written : written_type types (w 0) ≡ u8
-unfolding lowered_within
+unfolding filled_within
 field_written = refl
 
 -- the type of the first field

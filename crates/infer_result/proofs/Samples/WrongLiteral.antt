@@ -14,7 +14,7 @@ use Rattle.hir_raw.specs.declared.raw.RawPat.TheVariants as pat
 use Rattle.hir_raw.specs.declared.raw.RawBody.{RawBody}
 use Rattle.hir_raw.specs.declared.schedule.Schedule.{Schedule}
 use Rattle.hir_types.specs.Types.{unit}
-use Rattle.hir_raw.specs.Types.{lowered_within, written_type}
+use Rattle.hir_raw.specs.Types.{filled_within, written_type}
 use Rattle.hir_types.specs.Erasure.{erased, IsClosed}
 use Rattle.hir_raw.specs.Order.{arm_pattern, guard, pattern_literal, the_body, inner, IsSchedule, start, end, after, Fits, parts}
 use Rattle.infer_result.specs.declared.result.InferenceResult.{InferenceResult}
@@ -47,7 +47,7 @@ abbrev given : Given
 given = record { scope = scope_with types; body = body; inputs = w 0 ∷ []; output = unit }
 
 written : written_type types (w 0) ≡ ty.Bool
-unfolding lowered_within
+unfolding filled_within
 written = refl
 
 abbrev schedule : Schedule

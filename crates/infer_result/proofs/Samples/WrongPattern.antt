@@ -15,7 +15,7 @@ use Rattle.hir_raw.specs.declared.raw.RawBody.{RawBody}
 use Rattle.hir_raw.specs.declared.schedule.Schedule.{Schedule}
 use Rattle.hir_types.specs.Types.{unit}
 use Rattle.hir_facts.specs.CarriedTypes.{IsCarriedType, carried_integer, carried_error, carried_tuple, same_carried}
-use Rattle.hir_raw.specs.Types.{lowered_within, written_type, filled_within}
+use Rattle.hir_raw.specs.Types.{filled_within, written_type}
 use Rattle.hir_types.specs.Erasure.{Same, IsClosed}
 use Rattle.hir_types.proofs.Layers.{has_hole_tuple}
 use Rattle.hir_raw.specs.Order.{let_pattern, subpattern, the_body, inner, IsSchedule, start, end, after, Fits, parts}
@@ -55,7 +55,7 @@ abbrev given : Given
 given = record { scope = scope_with types; body = body; inputs = w 1 ∷ []; output = unit }
 
 written : written_type types (w 1) ≡ single
-unfolding lowered_within
+unfolding filled_within
 written = refl
 
 declared_single : (t : InferenceResult) → declared given t (w 1) ≡ single
