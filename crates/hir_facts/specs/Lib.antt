@@ -1,3 +1,4 @@
 pub mod CarriedTypes
 pub mod Filled
 pub mod PlainBodies
+pub mod Readers

@@ -9,11 +9,12 @@ ghost use Rattle.hir_laws.specs.WrittenFits.{FitsUnder};
 ghost use Rattle.hir_plain.specs.Plain.{IsPlainAdt, IsPlainOver, IsPlainFn};
 ghost use Rattle.hir_laws.specs.Lawful.{IsLawful, tests};
 ghost use Rattle.hir_laws.specs.Refused.{Refuses};
+ghost use Rattle.hir_facts.specs.Readers.{edition_year, limits_in_order};
 
 use hir_laws::{FactsError, check};
 use hir_plain::{PlainMarks, mark_at};
 use hir_raw::{
-    Edition, RawAdt, RawBody, RawFacts, RawFn, RawLimits, RawType, RawVariant, Schedule, params_of,
+    Edition, RawAdt, RawBody, RawFacts, RawFn, RawType, RawVariant, Schedule, params_of,
     ty_fits,
 };
 use hir_types::{
@@ -77,11 +78,16 @@ impl Facts {
         &self.raw
     }
 
-    /// The crate's edition.
-    pub fn edition(&self) -> Edition
-        ensures { result ≡ self.now.edition }
+    /// The year of the crate's edition: 2015, 2018, 2021 or 2024.
+    pub fn edition(&self) -> u16
+        ensures { result ≡ edition_year self.now.edition }
     {
-        self.raw.edition
+        match self.raw.edition {
+            Edition::Edition2015 => 2015,
+            Edition::Edition2018 => 2018,
+            Edition::Edition2021 => 2021,
+            Edition::Edition2024 => 2024,
+        }
     }
 
     /// Whether what never returns falls back to `!`.
@@ -98,11 +104,18 @@ impl Facts {
         self.raw.new_range
     }
 
-    /// How far searches may go.
-    pub fn limits(&self) -> RawLimits
-        ensures { result ≡ self.now.limits }
+    /// How far searches may go: levels of goals, goals selected for a body, dereferences of a
+    /// receiver, and last fields that are followed for the size of a type.
+    pub fn limits(&self) -> [u32; 4]
+        ensures { result ≡ limits_in_order self.now.limits }
     {
-        self.raw.limits
+        let limits = self.raw.limits;
+        [
+            limits.goal_depth,
+            limits.goal_steps,
+            limits.autoderef,
+            limits.tail,
+        ]
     }
 
     /// The written types.
