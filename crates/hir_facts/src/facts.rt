@@ -14,8 +14,7 @@ ghost use Rattle.hir_facts.specs.Readers.{edition_year, limits_in_order};
 use hir_laws::{FactsError, check};
 use hir_plain::{PlainMarks, mark_at};
 use hir_raw::{
-    Edition, RawAdt, RawBody, RawFacts, RawFn, RawType, RawVariant, Schedule, params_of,
-    ty_fits,
+    Edition, RawAdt, RawBody, RawFacts, RawFn, RawType, RawVariant, Schedule, params_of, ty_fits,
 };
 use hir_types::{
     AdtId, BodyId, DefWithBodyId, FunctionId, List, ModuleId, Ty, TypeRefId, VariantId,

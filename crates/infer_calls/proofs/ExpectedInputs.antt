@@ -48,10 +48,13 @@ module _ (g : Given) (c : InferenceContext) (after : State) (b : IsBack c.table 
     pairs = fine_pairs_grown g.scope c.table after (waiting after.pairs) back_grew
         (subst (λ w. AreFinePairs g.scope c.table (waiting w)) (sym b.pairs) s.pairs);
     bound = subst (λ bs. BindsOnly (is_fine_head g.scope) (log_of bs)) (sym b.log) s.bound;
-    some = (s.some.0, record {
-      closing = s.some.1.closing;
-      meets = subst (λ bs. Solves (terms_of s.some.0) (log_of bs)) (sym b.log) s.some.1.meets;
-    });
+    some = (
+      s.some.0,
+      record {
+        closing = s.some.1.closing;
+        meets = subst (λ bs. Solves (terms_of s.some.0) (log_of bs)) (sym b.log) s.some.1.meets;
+      },
+    );
   }
 
   pub binds_back : IsOfBody g.body c.result → IsSound g.scope c → OnlyBinds g c (with_table c after)

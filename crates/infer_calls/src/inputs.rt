@@ -61,9 +61,13 @@ fn expected_inputs_for_output(
 {
     match expected.only_has_type() {
         Some(expected_output) => {
-            let tried = context
-                .table
-                .fudge(|table| inputs_once(alloc, table, inputs, output, expected_output))?;
+            let tried = context.table.fudge(|table| inputs_once(
+                alloc,
+                table,
+                inputs,
+                output,
+                expected_output,
+            ))?;
             match tried {
                 Ok(wanted) => Ok(Some(wanted)),
                 Err(_) => Ok(None),

@@ -46,10 +46,7 @@ pub fn infer_tuple<F: Fn(&mut InferenceContext, ExprId, Expectation) -> Result<T
 
 /// What is known of the type that is expected of a tuple, where that is a hole. Any other type is
 /// looked at as it is. This is what `infer.rs`'s `Expectation::only_has_type` does.
-fn known_ty(
-    context: &InferenceContext,
-    expected: Expectation,
-) -> Result<Option<Ty>, AllocError>
+fn known_ty(context: &InferenceContext, expected: Expectation) -> Result<Option<Ty>, AllocError>
     ensures { IfOk result (λ known. known ≡ known_hole context.now.table (expected_type expected.entry)) }
 {
     match expected {

@@ -137,4 +137,4 @@ module _ (types : List RawType) (f : RawFn) (l : RawLiteral) (o : Ty) (t : Infer
       let called : e 0 ≡ q.called = cc in
       let (at, signature) = callee_is q.called q.types q.signature called q.is_callee in
       subst (λ (x : Signature). slice_get (map (at_args ts) x.inputs) 0 ≡ Some s) signature
-          (subst (λ vs. slice_get (map (at_args vs) q.signature.inputs) 0 ≡ Some s) at q.input)
+      (subst (λ vs. slice_get (map (at_args vs) q.signature.inputs) 0 ≡ Some s) at q.input)
