@@ -139,11 +139,6 @@ module _ (g : Given) (s : Schedule) (n : ExprId) (args : List ExprId) (t : Ty) (
             (subst (λ v. IsCarriedType v) same carried));
       })
 
--- what holds where a call answers
-pub if_done : {A E : Type 0} (P Q : A → Type 0) (r : Result A E) → ((x : A) → P x → Q x) → IfOk r P → IfOk r Q
-if_done P Q (Ok x) f h = f x h
-if_done P Q (Err e) f h = tt
-
 -- ---- where only bindings were added
 module _ (g : Given) (s : Schedule) (n : ExprId) (args : List ExprId) (c d : InferenceContext) (o : OnlyBinds g c d) where
   found_same : (a : Assignment) → found_under a c ≡ found_under a d
@@ -174,6 +169,10 @@ module _ (g : Given) (s : Schedule) (n : ExprId) (args : List ExprId) (c d : Inf
     follows = follows_twice g c d new o.follows k.follows;
     each = λ a q. subst (λ f. ArgsWalked g s n args (map (folded a) ss) f (found_under a new)) (sym (found_same a)) (k.each a q);
   }
+
+  pub answered_since : {A E : Type 0} (ss : List Ty) (new : InferenceContext) (r : Result A E) → IfOk r (λ x. ArgsDone g s n args ss d new) → IfOk r (λ x. ArgsDone g s n args ss c new)
+  answered_since ss new (Ok x) h = args_since ss new h
+  answered_since ss new (Err e) h = tt
 
 -- ---- the arguments
 module _ (g : Given) (s : Schedule) (n : ExprId) (args : List ExprId) (ss : List Ty) (mid : InferenceContext) (h : BeforeInputs g s n args ss mid) where
