@@ -159,6 +159,9 @@ fn wrong_with(alloc: Global, row: &Row) -> Result<String, AllocError> {
     if !row.plain.is_empty() {
         compare(&mut wrong, row.plain.as_str(), plain_of(&end.0))?;
     }
+    if row.ends.is_empty() && !row.report.is_empty() {
+        wrong.push_str("a report without an end\n")?;
+    }
     if row.ends.is_empty() && row.plain.is_empty() {
         wrong.push_str("nothing is asked\n")?;
     }
