@@ -1,7 +1,6 @@
--- When a run ends with a table.
-use Rattle.std.specs.Prelude.{◌≡◌, ◌≤◌, ◌⊎◌, ◌∷◌, [], ℕ, zero, suc, List, length, Some, Ok, Err, Result, refl}
+-- When a run must end with a table, and when as one without.
+use Rattle.std.specs.Prelude.{◌≡◌, ◌<◌, ◌≤◌, ◌⊎◌, ◌∷◌, [], ℕ, zero, suc, List, length, Some, Ok, Err, Result, refl}
 use Rattle.std.proofs.Common.{arith, sym, ◌∙◌, subst, inl, inr}
-use Rattle.hir_types.specs.declared.ids.DefWithBodyId.{DefWithBodyId}
 use Rattle.hir_raw.specs.declared.raw.RawFacts.{RawFacts}
 use Rattle.hir_laws.specs.declared.laws.Law.{Law}
 use Rattle.hir_laws.specs.declared.laws.Law.TheVariants as law
@@ -11,10 +10,10 @@ use Rattle.hir_laws.specs.Bodies.{HasBody}
 use Rattle.hir_ids.specs.Entries.{AllHold, BreaksAt}
 use Rattle.hir_laws.specs.Lawful.{Test, PassesAll, FirstBroken, says, tests}
 use Rattle.infer_run.specs.declared.running.Ran.{Ran}
-use Rattle.infer_run.specs.Command.{IsCommand}
 use Rattle.infer_text.specs.Facts.{Fault, no_json, shape, raw_facts, IsRead}
-use Rattle.infer_run.specs.Outcome.{limit, Ends, TookAll, Outcome}
-use Rattle.infer_run.proofs.Consequences.{AreSure, no_source_fault, no_sink_fault, same_definition, took_text, not_too_long}
+use Rattle.infer_run.specs.Exactly.{Exactly, IsGiven, IsGivenFacts}
+use Rattle.infer_run.specs.Outcome.{limit, Ends, HasFacts, TookAll, Outcome}
+use Rattle.infer_run.proofs.Consequences.{no_source_fault, no_sink_fault, same_definition, took_text, not_too_long}
 
 -- ---- lawful facts break no law
 
@@ -67,55 +66,93 @@ ok_is f g r p q = let e : Ok f ≡ Ok g = sym p ∙ q in cc
 err_is_not : (f : RawFacts) (x : Fault) (r : Result RawFacts Fault) → r ≡ Ok f → r ≡ Err x → ⊥
 err_is_not f x r p q = let e : Ok f ≡ Err x = sym p ∙ q in cc
 
--- what is known where a run should make a table
-pub record IsAskedFor (words : List (List ℕ)) (e : Ends) : Type 0 where
-  pub def : DefWithBodyId
-  pub command : IsCommand words def
-  pub text : List ℕ
-  pub tells : e.left ≡ Some text
-  pub short : length text ≤ limit
-  pub raw : RawFacts
-  pub is_read : IsRead text raw
-  pub has_body : HasBody raw def
-  pub sure : AreSure e
+module _ (words : List (List ℕ)) (e : Ends) (ran : Ran) (o : Outcome words e ran) where
+  -- ---- lawful facts
 
-module _ (words : List (List ℕ)) (e : Ends) (ran : Ran) (o : Outcome words e ran) (a : IsAskedFor words e) where
-  stands_at : (bytes : List ℕ) → TookAll e bytes → raw_facts bytes ≡ Ok a.raw
-  stands_at bytes took = subst (λ t. raw_facts t ≡ Ok a.raw) (took_text e a.text bytes a.tells took) a.is_read.stands
+  module _ (a : IsGivenFacts words e) where
+    stands_at : (bytes : List ℕ) → TookAll e bytes → raw_facts bytes ≡ Ok a.raw
+    stands_at bytes took = subst (λ t. raw_facts t ≡ Ok a.raw) (took_text e a.text bytes a.given.tells took) a.is_read.stands
 
-  not_json : ran.status ≡ 6 → ⊥
-  not_json is = let x = o.json is in err_is_not a.raw no_json (raw_facts x.text) (stands_at x.text x.took) x.stands
+    not_json : ran.status ≡ 6 → ⊥
+    not_json is = let x = o.json is in err_is_not a.raw no_json (raw_facts x.text) (stands_at x.text x.took) x.stands
 
-  not_misshapen : ran.status ≡ 7 → ⊥
-  not_misshapen is = let x = o.misshapen is in err_is_not a.raw (shape x.path) (raw_facts x.text) (stands_at x.text x.took) x.stands
+    not_misshapen : ran.status ≡ 7 → ⊥
+    not_misshapen is = let x = o.misshapen is in err_is_not a.raw (shape x.path) (raw_facts x.text) (stands_at x.text x.took) x.stands
 
-  not_unlawful : ran.status ≡ 8 → ⊥
-  not_unlawful is =
-      let x = o.unlawful is in
-      let same : x.stands.raw ≡ a.raw = ok_is x.stands.raw a.raw (raw_facts x.text) x.stands.stands (stands_at x.text x.took) in
-      none_broken a.raw tests x.law x.list x.index a.is_read.lawful.all (subst (λ r. FirstBroken r tests x.law x.list x.index) same x.stands.first)
+    not_unlawful : ran.status ≡ 8 → ⊥
+    not_unlawful is =
+        let x = o.unlawful is in
+        let same : x.stands.raw ≡ a.raw = ok_is x.stands.raw a.raw (raw_facts x.text) x.stands.stands (stands_at x.text x.took) in
+        none_broken a.raw tests x.law x.list x.index a.is_read.lawful.all (subst (λ r. FirstBroken r tests x.law x.list x.index) same x.stands.first)
 
-  not_without_body : ran.status ≡ 9 → ⊥
-  not_without_body is =
-      let x = o.body is in
-      let same : a.raw ≡ x.found.raw = ok_is a.raw x.found.raw (raw_facts x.found.text) (stands_at x.found.text x.found.took) x.found.is_read.stands in
-      let one : a.def ≡ x.found.def = same_definition words a.def x.found.def a.command x.found.command in
-      x.no_body (subst (λ d. HasBody x.found.raw d) one (subst (λ r. HasBody r a.def) same a.has_body))
+    -- the facts and the definition that were found are these
+    same_raw : (x : HasFacts words e ran) → a.raw ≡ x.raw
+    same_raw x = ok_is a.raw x.raw (raw_facts x.text) (stands_at x.text x.took) x.is_read.stands
 
-  by_status : (n : ℕ) → ran.status ≡ n → n ≤ 10 → (n ≤ 1) ⊎ (n ≡ 5)
-  by_status zero is le = inl (omega arith)
-  by_status (suc zero) is le = inl (omega arith)
-  by_status (suc (suc zero)) is le = absurd (o.no_command.0 is a.def a.command)
-  by_status (suc (suc (suc zero))) is le = absurd (no_source_fault words e ran o a.sure is)
-  by_status (suc (suc (suc (suc zero)))) is le = absurd (no_sink_fault words e ran o a.sure is)
-  by_status (suc (suc (suc (suc (suc zero))))) is le = inr refl
-  by_status (suc (suc (suc (suc (suc (suc zero)))))) is le = absurd (not_json is)
-  by_status (suc (suc (suc (suc (suc (suc (suc zero))))))) is le = absurd (not_misshapen is)
-  by_status (suc (suc (suc (suc (suc (suc (suc (suc zero)))))))) is le = absurd (not_unlawful is)
-  by_status (suc (suc (suc (suc (suc (suc (suc (suc (suc zero))))))))) is le = absurd (not_without_body is)
-  by_status (suc (suc (suc (suc (suc (suc (suc (suc (suc (suc zero)))))))))) is le = absurd (not_too_long words e ran a.text o a.tells a.short is)
-  by_status (suc (suc (suc (suc (suc (suc (suc (suc (suc (suc (suc n))))))))))) is le = absurd (omega arith)
+    same_def : (x : HasFacts words e ran) → a.given.def ≡ x.def
+    same_def x = same_definition words a.given.def x.def a.given.command x.command
 
-  -- then it makes one, or memory ran out
-  pub makes_table : (ran.status ≤ 1) ⊎ (ran.status ≡ 5)
-  makes_table = by_status ran.status refl o.kinds
+    has_body_there : (x : HasFacts words e ran) → HasBody a.raw a.given.def → HasBody x.raw x.def
+    has_body_there x has = subst (λ d. HasBody x.raw d) (same_def x) (subst (λ r. HasBody r a.given.def) (same_raw x) has)
+
+    has_body_here : (x : HasFacts words e ran) → HasBody x.raw x.def → HasBody a.raw a.given.def
+    has_body_here x has = subst (λ r. HasBody r a.given.def) (sym (same_raw x)) (subst (λ d. HasBody x.raw d) (sym (same_def x)) has)
+
+    by_status : (n : ℕ) → ran.status ≡ n → n ≤ 10 → (n ≤ 1) ⊎ (n ≡ 5) ⊎ (n ≡ 9)
+    by_status zero is le = inl (omega arith)
+    by_status (suc zero) is le = inl (omega arith)
+    by_status (suc (suc zero)) is le = absurd (o.no_command.0 is a.given.def a.given.command)
+    by_status (suc (suc (suc zero))) is le = absurd (no_source_fault words e ran o a.given.sure is)
+    by_status (suc (suc (suc (suc zero)))) is le = absurd (no_sink_fault words e ran o a.given.sure is)
+    by_status (suc (suc (suc (suc (suc zero))))) is le = inr (inl refl)
+    by_status (suc (suc (suc (suc (suc (suc zero)))))) is le = absurd (not_json is)
+    by_status (suc (suc (suc (suc (suc (suc (suc zero))))))) is le = absurd (not_misshapen is)
+    by_status (suc (suc (suc (suc (suc (suc (suc (suc zero)))))))) is le = absurd (not_unlawful is)
+    by_status (suc (suc (suc (suc (suc (suc (suc (suc (suc zero))))))))) is le = inr (inr refl)
+    by_status (suc (suc (suc (suc (suc (suc (suc (suc (suc (suc zero)))))))))) is le = absurd (not_too_long words e ran a.text o a.given.tells a.short is)
+    by_status (suc (suc (suc (suc (suc (suc (suc (suc (suc (suc (suc n))))))))))) is le = absurd (omega arith)
+
+    makes_table : HasBody a.raw a.given.def → (ran.status ≤ 1) ⊎ (ran.status ≡ 5)
+    makes_table has = elim (by_status ran.status refl o.kinds) [
+      | inl few ↦ inl few
+      | inr (inl memory) ↦ inr memory
+      | inr (inr none) ↦ (let x = o.body none in absurd (x.no_body (has_body_there x.found has)))
+    ]
+
+    says_no_body : (HasBody a.raw a.given.def → ⊥) → (ran.status ≡ 9) ⊎ (ran.status ≡ 5)
+    says_no_body lacks = elim (by_status ran.status refl o.kinds) [
+      | inl few ↦ (let x = (o.done few).found in absurd (lacks (has_body_here x.facts x.inferred.has_body)))
+      | inr (inl memory) ↦ inr memory
+      | inr (inr none) ↦ inl none
+    ]
+
+  -- ---- a text that is too long
+
+  module _ (text : List ℕ) (g : IsGiven words e text) (long : limit < length text) where
+    -- it is not read whole
+    not_whole : (bytes : List ℕ) → TookAll e bytes → ⊥
+    not_whole bytes took =
+        let short : length bytes ≤ limit = took.took.short in
+        let fits : length text ≤ limit = subst (λ t. length t ≤ limit) (sym (took_text e text bytes g.tells took)) short in
+        absurd (omega (arith, fits, long))
+
+    long_by_status : (n : ℕ) → ran.status ≡ n → n ≤ 10 → (n ≡ 10) ⊎ (n ≡ 5)
+    long_by_status zero is le = (let x = (o.done (omega (arith, is))).found.facts in absurd (not_whole x.text x.took))
+    long_by_status (suc zero) is le = (let x = (o.done (omega (arith, is))).found.facts in absurd (not_whole x.text x.took))
+    long_by_status (suc (suc zero)) is le = absurd (o.no_command.0 is g.def g.command)
+    long_by_status (suc (suc (suc zero))) is le = absurd (no_source_fault words e ran o g.sure is)
+    long_by_status (suc (suc (suc (suc zero)))) is le = absurd (no_sink_fault words e ran o g.sure is)
+    long_by_status (suc (suc (suc (suc (suc zero))))) is le = inr refl
+    long_by_status (suc (suc (suc (suc (suc (suc zero)))))) is le = (let x = o.json is in absurd (not_whole x.text x.took))
+    long_by_status (suc (suc (suc (suc (suc (suc (suc zero))))))) is le = (let x = o.misshapen is in absurd (not_whole x.text x.took))
+    long_by_status (suc (suc (suc (suc (suc (suc (suc (suc zero)))))))) is le = (let x = o.unlawful is in absurd (not_whole x.text x.took))
+    long_by_status (suc (suc (suc (suc (suc (suc (suc (suc (suc zero))))))))) is le = (let x = (o.body is).found in absurd (not_whole x.text x.took))
+    long_by_status (suc (suc (suc (suc (suc (suc (suc (suc (suc (suc zero)))))))))) is le = inl refl
+    long_by_status (suc (suc (suc (suc (suc (suc (suc (suc (suc (suc (suc n))))))))))) is le = absurd (omega arith)
+
+  pub exactly : Exactly words e ran
+  exactly = record {
+    table = makes_table;
+    no_body = says_no_body;
+    too_long = λ text g long. long_by_status text g long ran.status refl o.kinds;
+  }

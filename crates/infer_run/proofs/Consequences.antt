@@ -10,16 +10,10 @@ use Rattle.hir_types.specs.declared.ids.DefWithBodyId.TheVariants as def
 use Rattle.infer_run.specs.declared.running.Ran.{Ran}
 use Rattle.infer_run.specs.Causes.{Rose}
 use Rattle.infer_run.specs.Command.{IsCommand, kind_word, number_in}
+use Rattle.infer_run.specs.Exactly.{AreSure}
 use Rattle.infer_run.specs.Outcome.{limit, Ends, TookAll, Outcome}
 
 -- ---- ends without faults
-
--- neither count rose, and neither stands at its type's last value
-pub record AreSure (e : Ends) : Type 0 where
-  pub reads : e.reads_new ≡ e.reads
-  pub reads_few : e.reads < 2 ^ 64 - 1
-  pub writes : e.writes_new ≡ e.writes
-  pub writes_few : e.writes < 2 ^ 64 - 1
 
 -- ends whose counts are always 0
 pub always_zero : (e : Ends) → e.reads ≡ 0 → e.reads_new ≡ 0 → e.writes ≡ 0 → e.writes_new ≡ 0 → AreSure e

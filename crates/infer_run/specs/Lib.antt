@@ -1,4 +1,5 @@
 pub mod Causes
 pub mod Command
 pub mod Outcome
+pub mod Exactly
 pub mod Answer

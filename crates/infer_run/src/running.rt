@@ -7,6 +7,7 @@ ghost use Rattle.infer_result.specs.Typed.{IsTableOf};
 ghost use Rattle.infer_result.specs.General.{HasGeneral};
 ghost use Rattle.infer_run.specs.Causes.{Rose, HasCause};
 ghost use Rattle.infer_run.specs.Outcome.{AppendsFront, Outcome};
+ghost use Rattle.infer_run.specs.Exactly.{Exactly};
 ghost use Rattle.infer_run.specs.Answer.{Answered, silence, refusal};
 
 use crate::ends::{Failed, Sink, Source};
@@ -173,6 +174,37 @@ fn answer<K: Sink>(alloc: Global, def: DefWithBodyId, facts: Facts, sink: &mut K
 /// Does what the words ask for: `table KIND N` reads facts, infers the table of a definition's
 /// body, and writes the report on it.
 pub fn run<S: Source, K: Sink>(alloc: Global, words: &[RcStr], source: &mut S, sink: &mut K) -> Ran
+    ensures outcome { Outcome (map rc_str_bytes words.now) (record {
+      left = S.left source.old;
+      left_new = S.left source.new;
+      written = K.written sink.old;
+      written_new = K.written sink.new;
+      reads = S.faults source.old;
+      reads_new = S.faults source.new;
+      writes = K.faults sink.old;
+      writes_new = K.faults sink.new;
+    }) result }
+    ensures exactly { Exactly (map rc_str_bytes words.now) (record {
+      left = S.left source.old;
+      left_new = S.left source.new;
+      written = K.written sink.old;
+      written_new = K.written sink.new;
+      reads = S.faults source.old;
+      reads_new = S.faults source.new;
+      writes = K.faults sink.old;
+      writes_new = K.faults sink.new;
+    }) result }
+{
+    run_command(alloc, words, source, sink)
+}
+
+/// Does what the words ask for. How it ends is told here by what each status says of its cause.
+fn run_command<S: Source, K: Sink>(
+    alloc: Global,
+    words: &[RcStr],
+    source: &mut S,
+    sink: &mut K,
+) -> Ran
     ensures { Outcome (map rc_str_bytes words.now) (record {
       left = S.left source.old;
       left_new = S.left source.new;

@@ -44,6 +44,8 @@ impl Source for MemorySource {
 
     ghost faults = { λ s. s.faults };
 
+    /// Reads what fits, at most `most` bytes, or fails at a call that is to fail. That it fails at no
+    /// other is tested; the clauses are those of `Source` alone.
     fn read(&mut self, buf: &mut [u8]) -> Result<usize, Failed> {
         let call = self.call;
         self.call = call.saturating_add(1);
@@ -109,6 +111,9 @@ impl Sink for MemorySink {
 
     ghost faults = { λ s. s.faults };
 
+    /// Writes at most `most` bytes, as far as there is room. It fails at a call that is to fail, and
+    /// where there is no room for one byte. That it fails nowhere else is tested; the clauses are
+    /// those of `Sink` alone.
     fn write(&mut self, bytes: &[u8]) -> Result<usize, Failed> {
         let call = self.call;
         self.call = call.saturating_add(1);
