@@ -146,8 +146,12 @@ def written(modules):
         total += lines
         listed = ", ".join("`%s`" % name if count == 1 else "`%s` %d" % (name, count) for name, count in names)
         rows.append("| `%s` | %d | %s |" % (modules[module].path, lines, listed))
-    summary = "%d definitions in %d files, %d lines; a number behind a name is its lines, where it has more than one.\n\n" % (
-        len(order), len(files), total)
+    parts = {}
+    for module, names in files.items():
+        parts.setdefault(module.split(".")[1], []).append(sum(count for _, count in names))
+    by_crate = ", ".join("%d in `%s`" % (sum(lines), crate) for crate, lines in parts.items())
+    summary = "%d definitions in %d files, %d lines; a number behind a name is its lines, where it has more than one.\n\nOf these lines %s.\n\n" % (
+        len(order), len(files), total, by_crate)
     table = "| File | Lines | Definitions |\n| --- | --- | --- |\n" + "\n".join(rows) + "\n"
     named = "\n## Structs and enums of the sources that they name\n\n" + ", ".join("`%s`" % kind for kind in sorted(types)) + "\n"
     return HEAD + summary + table + named

@@ -3,11 +3,9 @@ use Rattle.std.proofs.Common.{◌≡◌, ℕ, List, length, Bool, Option, Some, 
 use Rattle.std.specs.Prelude.{IsTrue, slice_get, ◌↔◌}
 use Rattle.hir_types.specs.declared.ids.BodyId.{BodyId}
 use Rattle.hir_raw.specs.declared.raw.RawBody.{RawBody}
-use Rattle.hir_raw.specs.declared.raw.RawFn.{RawFn}
-use Rattle.hir_raw.specs.declared.raw.RawVariant.{RawVariant}
 use Rattle.hir_raw.specs.declared.raw.RawFacts.{RawFacts}
-use Rattle.hir_counts.specs.Standing.{param_bound, wrong_args, number_in, params_in, AreMosts}
-use Rattle.hir_counts.specs.Counts.{BodyFits, MaybeBodyFits, body_at, FnFitsBy, FnFits, VariantFitsBy, VariantFits}
+use Rattle.hir_counts.specs.Standing.{param_bound, wrong_args, number_in, params_in, wrongs_in, AreMosts}
+use Rattle.hir_counts.specs.Counts.{BodyFits, MaybeBodyFits, body_at}
 use Rattle.hir_counts.proofs.StandingTypes.{mosts_are}
 
 -- a body that was found
@@ -20,14 +18,9 @@ body_says b w count raw o i body told is found says =
 abbrev AreFound : RawFacts → List ℕ → List ℕ → Type 0
 AreFound raw bs ws = AreMosts param_bound raw.types (length raw.types) bs × AreMosts (wrong_args raw.adts) raw.types (length raw.types) ws
 
-pub fn_says : (raw : RawFacts) (bs ws : List ℕ) (f : RawFn) (told : Bool) → AreFound raw bs ws
-    → IsTrue told ↔ FnFitsBy (number_in bs) (number_in ws) raw f → IsTrue told ↔ FnFits raw f
-fn_says raw bs ws f told found says =
-    subst (λ (w : ℕ → ℕ). IsTrue told ↔ FnFitsBy (params_in raw) w raw f) (mosts_are (wrong_args raw.adts) raw.types ws found.1)
-    (subst (λ (b : ℕ → ℕ). IsTrue told ↔ FnFitsBy b (number_in ws) raw f) (mosts_are param_bound raw.types bs found.0) says)
-
-pub variant_says : (raw : RawFacts) (bs ws : List ℕ) (v : RawVariant) (told : Bool) → AreFound raw bs ws
-    → IsTrue told ↔ VariantFitsBy (number_in bs) (number_in ws) raw v → IsTrue told ↔ VariantFits raw v
-variant_says raw bs ws v told found says =
-    subst (λ (w : ℕ → ℕ). IsTrue told ↔ VariantFitsBy (params_in raw) w raw v) (mosts_are (wrong_args raw.adts) raw.types ws found.1)
-    (subst (λ (b : ℕ → ℕ). IsTrue told ↔ VariantFitsBy b (number_in ws) raw v) (mosts_are param_bound raw.types bs found.0) says)
+-- what is told by the numbers that were found is told of the facts
+pub fits_says : {X : Type 0} (Fits : (b w : ℕ → ℕ) → RawFacts → X → Type 0) (raw : RawFacts) (bs ws : List ℕ) (x : X) (told : Bool) → AreFound raw bs ws
+    → IsTrue told ↔ Fits (number_in bs) (number_in ws) raw x → IsTrue told ↔ Fits (params_in raw) (wrongs_in raw) raw x
+fits_says Fits raw bs ws x told found says =
+    subst (λ (w : ℕ → ℕ). IsTrue told ↔ Fits (params_in raw) w raw x) (mosts_are (wrong_args raw.adts) raw.types ws found.1)
+    (subst (λ (b : ℕ → ℕ). IsTrue told ↔ Fits b (number_in ws) raw x) (mosts_are param_bound raw.types bs found.0) says)

@@ -4,3 +4,4 @@ pub mod Fits
 pub mod Drops
 pub mod Measured
 pub mod TypeMeasures
+pub mod GoalUses

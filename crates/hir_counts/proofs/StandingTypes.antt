@@ -7,7 +7,7 @@ use Rattle.std.proofs.lemmas.Bool.{cases_lt}
 use Rattle.std.proofs.Math.Nat.{eq-or-lt_of_le}
 use Rattle.hir_types.specs.Types.{most}
 use Rattle.hir_raw.specs.declared.raw.RawType.{RawType}
-use Rattle.hir_raw.specs.Types.{type_parts}
+use Rattle.hir_raw.specs.WrittenTypes.{type_parts}
 use Rattle.hir_ids.specs.Entries.{AllHold}
 use Rattle.hir_ids.specs.Ids.{ChildrenBefore}
 use Rattle.hir_counts.specs.Standing.{most_by, most_within, most_in, number_in, AreMosts}

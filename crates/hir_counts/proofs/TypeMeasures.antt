@@ -1,5 +1,5 @@
 -- The capped measures of written types, one after another.
-use Rattle.std.proofs.Common.{◌≡◌, ◌<◌, ◌+◌, ℕ, zero, suc, List, [], ◌∷◌, ◌++◌, length, map, min, sum, Some, refl, sym, ◌∙◌, ap, arith, inl, inr, length-append}
+use Rattle.std.proofs.Common.{◌≡◌, ◌<◌, ◌+◌, ℕ, zero, suc, List, [], ◌∷◌, ◌++◌, length, map, max, min, sum, Some, refl, sym, ◌∙◌, ap, arith, inl, inr, length-append}
 use Rattle.std.specs.Prelude.{slice_get, slice_index}
 use Rattle.std.proofs.lemmas.List.{get_or_push, get_or_append_left}
 use Rattle.std.proofs.Math.Nat.{eq-or-lt_of_le}
@@ -8,13 +8,13 @@ use Rattle.hir_raw.specs.declared.raw.RawType.{RawType}
 use Rattle.hir_raw.specs.declared.raw.RawType.TheVariants as type
 use Rattle.hir_types.specs.declared.ty.Ty.{Ty}
 use Rattle.hir_types.specs.declared.ty.GenericArg.TheVariants as arg
-use Rattle.hir_types.specs.Types.{most, depth, size}
-use Rattle.hir_types.proofs.Layers.{depth_tuple, depth_bool, depth_char, depth_integer, depth_error, size_tuple, size_bool, size_char, size_integer, size_error}
-use Rattle.hir_counts.proofs.AdtLayers.{depth_of_arg, depth_type_arg, depth_adt, depth_param, depth_hole, size_of_arg, size_type_arg, size_adt, size_param, size_hole}
-use Rattle.hir_raw.specs.Types.{type_parts, lowered, lowered_by}
+use Rattle.hir_types.specs.Types.{most, measured, depth, size}
+use Rattle.hir_types.proofs.Layers.{measured_tuple, measured_bool, measured_char, measured_integer, measured_error}
+use Rattle.hir_counts.proofs.AdtLayers.{measured_of_arg, measured_type_arg, measured_adt, measured_param, measured_hole}
+use Rattle.hir_raw.specs.WrittenTypes.{type_parts, lowered, lowered_by}
 use Rattle.hir_ids.specs.Entries.{AllHold}
 use Rattle.hir_ids.specs.Ids.{ChildrenBefore}
-use Rattle.hir_counts.specs.Measures.{depth_by, size_by, AreMeasures}
+use Rattle.hir_counts.specs.Measures.{measured_by, depth_by, size_by, AreMeasures}
 use Rattle.hir_ids.specs.Lowered.{lowered_parts}
 use Rattle.hir_counts.proofs.Measured.{sum-cons}
 
@@ -31,25 +31,27 @@ map_same : {A B : Type 0} (f g : A → B) (xs : List A) → ((x : A) → f x ≡
 map_same f g [] same = refl
 map_same f g (x ∷ xs) same = let here : f x ≡ g x = same x in let rest : map f xs ≡ map g xs = map_same f g xs same in λ i. here i ∷ rest i
 
-depth_parts : (g : ℕ → Ty) (x : RawType) → depth (lowered_by g (Some x)) ≡ depth_by (λ t. depth (g t)) x
-depth_parts g type.Bool = depth_bool
-depth_parts g type.Char = depth_char
-depth_parts g (type.Integer i) = depth_integer i
-depth_parts g (type.Tuple ts) = depth_tuple (map (λ t. g t.0) ts) ∙ ap (λ (ns : List ℕ). most ns + 1) (map_twice depth (λ (t : TypeRefId). g t.0) ts)
-depth_parts g (type.Adt a ts) = depth_adt a (map (λ t. arg.Ty (g t.0)) ts) ∙ ap (λ (ns : List ℕ). most ns + 1) (map_twice depth_of_arg (λ (t : TypeRefId). arg.Ty (g t.0)) ts ∙ map_same _ _ ts (λ t. depth_type_arg (g t.0)))
-depth_parts g (type.Param n) = depth_param n
-depth_parts g type.Hole = depth_hole
-depth_parts g type.Other = depth_error
+-- a list of none comes to nothing
+module _ (of_list : List ℕ → ℕ) (of_two : ℕ → ℕ → ℕ) (none : of_list [] ≡ 0) where
+  abbrev measure : Ty → ℕ
+  measure = measured of_list of_two
 
-size_parts : (g : ℕ → Ty) (x : RawType) → size (lowered_by g (Some x)) ≡ size_by (λ t. size (g t)) x
-size_parts g type.Bool = size_bool
-size_parts g type.Char = size_char
-size_parts g (type.Integer i) = size_integer i
-size_parts g (type.Tuple ts) = size_tuple (map (λ t. g t.0) ts) ∙ ap (λ (ns : List ℕ). sum ns + 1) (map_twice size (λ (t : TypeRefId). g t.0) ts)
-size_parts g (type.Adt a ts) = size_adt a (map (λ t. arg.Ty (g t.0)) ts) ∙ ap (λ (ns : List ℕ). sum ns + 1) (map_twice size_of_arg (λ (t : TypeRefId). arg.Ty (g t.0)) ts ∙ map_same _ _ ts (λ t. size_type_arg (g t.0)))
-size_parts g (type.Param n) = size_param n
-size_parts g type.Hole = size_hole
-size_parts g type.Other = size_error
+  single : (n : ℕ) → n ≡ 1 → n ≡ of_list [] + 1
+  single n is = is ∙ ap (λ (m : ℕ). m + 1) (sym none)
+
+  measured_parts : (g : ℕ → Ty) (x : RawType) → measure (lowered_by g (Some x)) ≡ measured_by of_list (λ t. measure (g t)) x
+  measured_parts g type.Bool = single _ (measured_bool of_list of_two)
+  measured_parts g type.Char = single _ (measured_char of_list of_two)
+  measured_parts g (type.Integer i) = single _ (measured_integer of_list of_two i)
+  measured_parts g (type.Tuple ts) =
+      measured_tuple of_list of_two (map (λ t. g t.0) ts)
+      ∙ ap (λ (ns : List ℕ). of_list ns + 1) (map_twice measure (λ (t : TypeRefId). g t.0) ts)
+  measured_parts g (type.Adt a ts) =
+      measured_adt of_list of_two a (map (λ t. arg.Ty (g t.0)) ts)
+      ∙ ap (λ (ns : List ℕ). of_list ns + 1) (map_twice (measured_of_arg of_list of_two) (λ (t : TypeRefId). arg.Ty (g t.0)) ts ∙ map_same _ _ ts (λ t. measured_type_arg of_list of_two (g t.0)))
+  measured_parts g (type.Param n) = single _ (measured_param of_list of_two n)
+  measured_parts g type.Hole = single _ (measured_hole of_list of_two)
+  measured_parts g type.Other = single _ (measured_error of_list of_two)
 
 most_bound : (bound : ℕ) (f g : TypeRefId → ℕ) (ts : List TypeRefId) → ((k : ℕ) (t : TypeRefId) → slice_get ts k ≡ Some t → f t ≡ min bound (g t)) → min bound (most (map f ts)) ≡ min bound (most (map g ts))
 most_bound bound f g [] same = refl
@@ -72,21 +74,17 @@ sum_bound bound f g (t ∷ ts) same =
 one_more : (bound a b : ℕ) → min bound a ≡ min bound b → min bound (a + 1) ≡ min bound (b + 1)
 one_more bound a b e = omega arith
 
-depth_bounds : (bound n : ℕ) (f g : ℕ → ℕ) (x : RawType) → ChildrenBefore n x → ((j : ℕ) → j < n → f j ≡ min bound (g j)) → min bound (depth_by f x) ≡ min bound (depth_by g x)
-depth_bounds bound n f g x before same =
-    let ts : List TypeRefId = type_parts x in
-    one_more bound (most (map (λ t. f t.0) ts)) (most (map (λ t. g t.0) ts)) (most_bound bound (λ t. f t.0) (λ t. g t.0) ts (λ k t found. same t.0 (before k t found)))
-
-size_bounds : (bound n : ℕ) (f g : ℕ → ℕ) (x : RawType) → ChildrenBefore n x → ((j : ℕ) → j < n → f j ≡ min bound (g j)) → min bound (size_by f x) ≡ min bound (size_by g x)
-size_bounds bound n f g x before same =
-    let ts : List TypeRefId = type_parts x in
-    one_more bound (sum (map (λ t. f t.0) ts)) (sum (map (λ t. g t.0) ts)) (sum_bound bound (λ t. f t.0) (λ t. g t.0) ts (λ k t found. same t.0 (before k t found)))
-
 pub depth_measures : (bound : ℕ) → Measuring bound depth depth_by
-depth_measures bound = record { of_parts = depth_parts; bounds = depth_bounds bound }
+depth_measures bound = record {
+  of_parts = measured_parts most max refl;
+  bounds = λ n f g x before same. one_more bound _ _ (most_bound bound (λ t. f t.0) (λ t. g t.0) (type_parts x) (λ k t found. same t.0 (before k t found)));
+}
 
 pub size_measures : (bound : ℕ) → Measuring bound size size_by
-size_measures bound = record { of_parts = size_parts; bounds = size_bounds bound }
+size_measures bound = record {
+  of_parts = measured_parts sum (λ m n. m + n) refl;
+  bounds = λ n f g x before same. one_more bound _ _ (sum_bound bound (λ t. f t.0) (λ t. g t.0) (type_parts x) (λ k t found. same t.0 (before k t found)));
+}
 
 pub measures_none : (bound : ℕ) (measure : Ty → ℕ) (types : List RawType) (xs : List ℕ) → xs ≡ [] → AreMeasures bound measure types 0 xs
 measures_none bound measure types xs e = record { count = ap length e; each = λ i lt. absurd (omega arith) }

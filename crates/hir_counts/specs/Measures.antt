@@ -3,15 +3,19 @@ use Rattle.std.specs.Prelude.{ℕ, ◌+◌, ◌<◌, ◌≡◌, List, length, ma
 use Rattle.hir_raw.specs.declared.raw.RawType.{RawType}
 use Rattle.hir_types.specs.declared.ty.Ty.{Ty}
 use Rattle.hir_types.specs.Types.{most}
-use Rattle.hir_raw.specs.Types.{type_parts, lowered}
+use Rattle.hir_raw.specs.WrittenTypes.{type_parts, lowered}
+
+-- what is measured of a type, where f t is measured of type t of the list
+abbrev pub measured_by : (List ℕ → ℕ) → (ℕ → ℕ) → RawType → ℕ
+measured_by of_list f x = of_list (map (λ t. f t.0) (type_parts x)) + 1
 
 -- how many levels a type has, where type t of the list has f t
 abbrev pub depth_by : (ℕ → ℕ) → RawType → ℕ
-depth_by f x = most (map (λ t. f t.0) (type_parts x)) + 1
+depth_by = measured_by most
 
 -- how many types a type is written with, where type t of the list is written with f t
 abbrev pub size_by : (ℕ → ℕ) → RawType → ℕ
-size_by f x = sum (map (λ t. f t.0) (type_parts x)) + 1
+size_by = measured_by sum
 
 -- the measures of the first n types, and the cap for each above it
 pub record AreMeasures (cap : ℕ) (measure : Ty → ℕ) (types : List RawType) (n : ℕ) (xs : List ℕ) : Type 0 where

@@ -1,18 +1,25 @@
 -- How long lists may be, and how deep trees and types.
-use Rattle.std.specs.Prelude.{ℕ, ◌<◌, ◌≤◌, ◌^◌, ◌≡◌, List, length, slice_get, Some}
+use Rattle.std.specs.Prelude.{ℕ, ◌<◌, ◌≤◌, ◌^◌, ◌≡◌, List, length, slice_get, Some, IfSome}
 use Rattle.hir_raw.specs.declared.raw.RawType.{RawType}
 use Rattle.hir_raw.specs.declared.raw.RawExpr.{RawExpr}
 use Rattle.hir_raw.specs.declared.raw.RawExpr.TheVariants as expr
 use Rattle.hir_raw.specs.declared.raw.RawPat.{RawPat}
 use Rattle.hir_raw.specs.declared.raw.RawPat.TheVariants as pat
+use Rattle.hir_raw.specs.declared.raw.RawGoal.{RawGoal}
+use Rattle.hir_raw.specs.declared.raw.RawGoal.TheVariants as goal
+use Rattle.hir_raw.specs.declared.raw.RawTraitRef.{RawTraitRef}
+use Rattle.hir_raw.specs.declared.raw.RawTrait.{RawTrait}
+use Rattle.hir_raw.specs.declared.raw.RawAlias.{RawAlias}
+use Rattle.hir_raw.specs.declared.raw.RawImpl.{RawImpl}
 use Rattle.hir_raw.specs.declared.raw.RawAdt.{RawAdt}
 use Rattle.hir_raw.specs.declared.raw.RawVariant.{RawVariant}
 use Rattle.hir_raw.specs.declared.raw.RawFn.{RawFn}
 use Rattle.hir_raw.specs.declared.raw.RawBody.{RawBody}
 use Rattle.hir_raw.specs.declared.raw.RawFacts.{RawFacts}
+use Rattle.hir_raw.specs.Goals.{arg_types}
 use Rattle.hir_raw.specs.Order.{IsLow}
 use Rattle.hir_types.specs.Types.{depth, size}
-use Rattle.hir_raw.specs.Types.{type_parts, lowered}
+use Rattle.hir_raw.specs.WrittenTypes.{type_parts, lowered}
 
 -- a list of at most 2 ^ 20 entries
 abbrev pub IsShort : {A : Type 0} → List A → Type 0
@@ -29,10 +36,40 @@ pub record TypeIsSmall (raw : RawFacts) (i : ℕ) (t : RawType) : Type 0 where
   pub low : depth (lowered raw.types i) ≤ 64
   pub small : size (lowered raw.types i) ≤ 4096
 
+-- the arguments of a goal are few
+abbrev pub GoalIsShort : RawGoal → Type 0
+GoalIsShort (goal.Trait r) = IsShort (arg_types r.args)
+GoalIsShort (goal.Projection a xs t) = IsShort (arg_types xs)
+
+pub record GoalsAreShort (gs : List RawGoal) : Type 0 where
+  pub all : IsShort gs
+  pub each : (k : ℕ) (g : RawGoal) → slice_get gs k ≡ Some g → GoalIsShort g
+
+pub record TraitIsSmall (i : ℕ) (t : RawTrait) : Type 0 where
+  pub early : IsEarly i
+  pub params : IsShort t.params
+  pub preds : GoalsAreShort t.preds
+  pub fns : IsShort t.fns
+  pub consts : IsShort t.consts
+  pub types : IsShort t.types
+
+pub record AliasIsSmall (i : ℕ) (a : RawAlias) : Type 0 where
+  pub early : IsEarly i
+  pub bounds : GoalsAreShort a.bounds
+
+pub record ImplIsSmall (i : ℕ) (p : RawImpl) : Type 0 where
+  pub early : IsEarly i
+  pub trait_ : IfSome p.trait_ (λ r. IsShort (arg_types r.args))
+  pub params : IsShort p.params
+  pub preds : GoalsAreShort p.preds
+  pub fns : IsShort p.fns
+  pub consts : IsShort p.consts
+  pub types : IsShort p.types
+
 pub record AdtIsSmall (i : ℕ) (a : RawAdt) : Type 0 where
   pub early : IsEarly i
   pub params : IsShort a.params
-  pub preds : IsShort a.preds
+  pub preds : GoalsAreShort a.preds
   pub variants : IsShort a.variants
 
 pub record VariantIsSmall (i : ℕ) (v : RawVariant) : Type 0 where
@@ -42,7 +79,7 @@ pub record VariantIsSmall (i : ℕ) (v : RawVariant) : Type 0 where
 pub record FnIsSmall (i : ℕ) (f : RawFn) : Type 0 where
   pub early : IsEarly i
   pub params : IsShort f.params
-  pub preds : IsShort f.preds
+  pub preds : GoalsAreShort f.preds
   pub inputs : IsShort f.inputs
 
 abbrev pub ExprIsShort : RawExpr → Type 0

@@ -8,7 +8,7 @@ use Rattle.hir_raw.specs.declared.raw.RawAdt.{RawAdt}
 use Rattle.hir_raw.specs.declared.raw.RawFacts.{RawFacts}
 use Rattle.hir_counts.specs.declared.standing.Sought.{Sought}
 use Rattle.hir_counts.specs.declared.standing.Sought.TheVariants as sought
-use Rattle.hir_raw.specs.Types.{type_parts}
+use Rattle.hir_raw.specs.WrittenTypes.{type_parts}
 
 -- the greatest number at a type and at all that stands in it, where that of type t of the list is f t
 abbrev pub most_by : (RawType → ℕ) → (ℕ → ℕ) → Option RawType → ℕ
@@ -91,4 +91,4 @@ holes_in raw = most_in hole_at raw.types
 
 -- no `_` stands in a written type
 abbrev pub HasNoHole : List RawType → TypeRefId → Type 0
-HasNoHole types t = most_in hole_at types t.0 ≡ 0
+HasNoHole types w = most_in hole_at types w.0 ≡ 0

@@ -9,7 +9,12 @@ use Rattle.hir_raw.specs.declared.raw.RawExpr.{RawExpr}
 use Rattle.hir_raw.specs.declared.raw.RawBody.{RawBody}
 use Rattle.hir_raw.specs.declared.raw.RawFacts.{RawFacts}
 use Rattle.hir_ids.specs.declared.namers.Namers.{Namers}
-use Rattle.hir_raw.specs.Types.{type_parts}
+use Rattle.hir_raw.specs.declared.raw.RawTraitRef.{RawTraitRef}
+use Rattle.hir_raw.specs.declared.raw.RawGoal.{RawGoal}
+use Rattle.hir_raw.specs.declared.raw.RawGoal.TheVariants as goal
+use Rattle.hir_raw.specs.declared.raw.RawImpl.{RawImpl}
+use Rattle.hir_raw.specs.Goals.{arg_types}
+use Rattle.hir_raw.specs.WrittenTypes.{type_parts}
 use Rattle.hir_raw.specs.Order.{stmts_of}
 use Rattle.hir_ids.specs.Namers.{AreNamers, NamedOnce, IsUnnamed}
 use Rattle.hir_counts.specs.Standing.{holes_in}
@@ -36,13 +41,40 @@ inner_uses raw = flat_map type_uses raw.types ++ flat_map body_uses raw.bodies
 -- ---- in fields and signatures
 
 abbrev pub variant_uses : RawVariant → List (Option ℕ)
-variant_uses v = map (λ f. Some f.ty.0) v.fields
+variant_uses v = map (λ f. Some f.type_.0) v.fields
 
 abbrev pub fn_uses : RawFn → List (Option ℕ)
 fn_uses f = map (λ t. Some t.0) f.inputs ++ Some f.output.0 ∷ []
 
+-- ---- in goals and impls
+
+abbrev pub goal_uses : RawGoal → List (Option ℕ)
+goal_uses (goal.Trait r) = map (λ t. Some t.0) (arg_types r.args)
+goal_uses (goal.Projection a xs t) = map (λ t. Some t.0) (arg_types xs) ++ Some t.0 ∷ []
+
+abbrev pub goals_uses : List RawGoal → List (Option ℕ)
+goals_uses gs = flat_map goal_uses gs
+
+abbrev pub trait_ref_uses : Option RawTraitRef → List (Option ℕ)
+trait_ref_uses None = []
+trait_ref_uses (Some r) = map (λ t. Some t.0) (arg_types r.args)
+
+-- by what an impl is of, and what it gives
+abbrev pub impl_uses : RawImpl → List (Option ℕ)
+impl_uses p = trait_ref_uses p.trait_ ++ Some p.self_.0 ∷ map (λ g. Some g.ty.0) p.types
+
+-- by the predicates and bounds of all items, and by impls
+abbrev pub abstract_uses : RawFacts → List (Option ℕ)
+abstract_uses raw =
+    flat_map (λ a. goals_uses a.preds) raw.adts
+    ++ (flat_map (λ f. goals_uses f.preds) raw.fns
+    ++ (flat_map (λ t. goals_uses t.preds) raw.traits
+    ++ (flat_map (λ a. goals_uses a.bounds) raw.aliases
+    ++ (flat_map (λ p. goals_uses p.preds) raw.impls
+    ++ flat_map impl_uses raw.impls))))
+
 abbrev pub item_uses : RawFacts → List (Option ℕ)
-item_uses raw = flat_map variant_uses raw.variants ++ flat_map fn_uses raw.fns
+item_uses raw = flat_map variant_uses raw.variants ++ (flat_map fn_uses raw.fns ++ abstract_uses raw)
 
 -- ---- holes
 
@@ -56,7 +88,7 @@ abbrev pub HoleFits : RawFacts → ℕ → Type 0
 HoleFits raw i = (holes_in raw i ≡ 0) ⊎ IsUsedOnce raw i
 
 -- who uses each type
-abbrev pub AreUsers : RawFacts → List Namers → List Namers → Type 0
-AreUsers raw xs ys =
+abbrev pub AreTypeUsers : RawFacts → List Namers → List Namers → Type 0
+AreTypeUsers raw xs ys =
     AreNamers (inner_uses raw) (length (inner_uses raw)) (length raw.types) xs
     × AreNamers (item_uses raw) (length (item_uses raw)) (length raw.types) ys

@@ -6,8 +6,9 @@ ghost use Rattle.hir_raw.specs.Order.{stmts_of};
 ghost use Rattle.hir_ids.specs.Entries.{AllHold};
 ghost use Rattle.hir_ids.specs.Ids.{ChildrenBefore};
 ghost use Rattle.hir_counts.specs.Standing.{param_bound, wrong_args, number_in, AreMosts};
-ghost use Rattle.hir_counts.specs.Counts.{count_of, CountsFit, TypeFits, StmtFits, ExprFits, BodyFits, MaybeBodyFits, body_at, AreFitting, FnFitsBy, FnFits, HasVariants, AdtFits, param_count, IsBare, VariantFitsBy, VariantFits};
+ghost use Rattle.hir_counts.specs.Counts.{count_of, CountsFit, AdtFitsBy, TypeFits, StmtFits, ExprFits, BodyFits, MaybeBodyFits, body_at, AreFitting, FnFitsBy, FnFits, HasVariants, AdtFits, param_count, IsBare, VariantFitsBy, VariantFits};
 
+use crate::goal_counts::goals_fit;
 use crate::standing::{Sought, mosts_of};
 use hir_ids::Test;
 use hir_raw::{
@@ -70,8 +71,9 @@ pub fn number_at(numbers: &[usize], at: usize) -> usize
     }
 }
 
+/// Whether a written type fits under so many parameters.
 #[tactic(auto, unfolding(crate::specs::Standing::number_in))]
-fn fits(standing: &Standing, count: usize, ty: TypeRefId) -> bool
+pub fn fits(standing: &Standing, count: usize, ty: TypeRefId) -> bool
     ensures { IsTrue result ↔ TypeFits (number_in standing.now.bounds.items) (number_in standing.now.wrongs.items) count ty }
 {
     number_at(&standing.bounds, ty.0 as usize) <= count
@@ -96,8 +98,7 @@ pub fn stmts_of(expr: &RawExpr) -> &[RawStmt]
 {
     match expr {
         RawExpr::Block { statements, .. } => statements.as_slice(),
-        RawExpr::Lit(_) | RawExpr::Path(_) | RawExpr::Tuple(_) | RawExpr::If { .. } => &[],
-        RawExpr::Match { .. } | RawExpr::Call { .. } | RawExpr::Other => &[],
+        _ => &[],
     }
 }
 
@@ -134,7 +135,8 @@ fn maybe_body_fits(standing: &Standing, raw: &RawFacts, count: usize, body: Opti
     }
 }
 
-fn are_fitting(standing: &Standing, count: usize, types: &[TypeRefId]) -> bool
+/// Whether written types fit under so many parameters.
+pub fn are_fitting(standing: &Standing, count: usize, types: &[TypeRefId]) -> bool
     ensures { IsTrue result ↔ AreFitting (number_in standing.now.bounds.items) (number_in standing.now.wrongs.items) count types.now }
 {
     types.iter().all(|ty| fits(standing, count, *ty))
@@ -147,6 +149,7 @@ fn fn_fits(standing: &Standing, raw: &RawFacts, function: &RawFn) -> bool
     has_counts(raw, function)
         && are_fitting(standing, count, function.inputs.as_slice())
         && fits(standing, count, function.output)
+        && goals_fit(standing, raw, count, function.preds.as_slice())
         && maybe_body_fits(standing, raw, count, function.body)
 }
 
@@ -194,26 +197,37 @@ fn is_below(number: Option<u32>, count: usize) -> bool
     }
 }
 
-/// A struct or union has one variant.
-pub struct AdtCounts;
+fn adt_fits(standing: &Standing, raw: &RawFacts, adt: &RawAdt) -> bool
+    ensures { IsTrue result ↔ AdtFitsBy (number_in standing.now.bounds.items) (number_in standing.now.wrongs.items) raw.now adt.now }
+{
+    has_variants(adt.kind, adt.variants.len())
+        && is_below(adt.unsize, adt.params.len())
+        && goals_fit(standing, raw, adt.params.len(), adt.preds.as_slice())
+}
 
-impl Test for AdtCounts {
+/// A struct or union has one variant; what an adt asks for fits under its parameters.
+#[derive(Drop)]
+pub struct AdtCounts<'a> {
+    pub standing: &'a Standing,
+}
+
+impl<'a> Test for AdtCounts<'a> {
     type Item = RawAdt;
 
     ghost listed = { λ raw. raw.adts };
 
-    ghost holds = { λ raw i a. AdtFits a };
+    ghost holds = { λ raw i a. AdtFits raw a };
 
-    ghost given = { λ raw s. Unit {0} };
+    ghost given = { λ raw s. AreMosts param_bound raw.types (length raw.types) s.standing.now.bounds.items × AreMosts (wrong_args raw.adts) raw.types (length raw.types) s.standing.now.wrongs.items };
 
     fn test(
         &self,
         _alloc: Global,
-        _raw: &RawFacts,
+        raw: &RawFacts,
         _at: usize,
         item: &RawAdt,
     ) -> Result<bool, AllocError> {
-        Ok(has_variants(item.kind, item.variants.len()) && is_below(item.unsize, item.params.len()))
+        Ok(adt_fits(self.standing, raw, item))
     }
 }
 
@@ -227,9 +241,11 @@ fn param_count(raw: &RawFacts, adt: AdtId) -> usize
 }
 
 fn fields_fit(standing: &Standing, count: usize, fields: &[RawField]) -> bool
-    ensures { IsTrue result ↔ ((k : ℕ) (f : RawField) → slice_get fields.now k ≡ Some f → TypeFits (number_in standing.now.bounds.items) (number_in standing.now.wrongs.items) count f.ty) }
+    ensures { IsTrue result ↔ ((k : ℕ) (f : RawField) → slice_get fields.now k ≡ Some f → TypeFits (number_in standing.now.bounds.items) (number_in standing.now.wrongs.items) count f.type_) }
 {
-    fields.iter().all(|field| fits(standing, count, field.ty))
+    fields
+        .iter()
+        .all(|field| fits(standing, count, field.type_))
 }
 
 fn is_bare(raw: &RawFacts, body: Option<BodyId>) -> bool

@@ -3,10 +3,15 @@
 #![tactic(auto)]
 
 mod counts;
+mod goal_counts;
+mod goal_sizes;
+mod goal_uses;
 mod sizes;
 mod standing;
 mod uses;
 
 pub use counts::{AdtCounts, FnCounts, Standing, VariantCounts};
+pub use goal_counts::{AliasCounts, ImplCounts, TraitCounts};
+pub use goal_sizes::{AliasSizes, ImplSizes, LangEarly, TraitSizes};
 pub use sizes::{AdtSizes, FnSizes, ModulesEarly, TypeSizes, VariantSizes, is_early, is_short};
 pub use uses::Holes;

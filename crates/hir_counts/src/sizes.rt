@@ -7,6 +7,7 @@ ghost use Rattle.hir_ids.specs.Ids.{ChildrenBefore};
 ghost use Rattle.hir_counts.specs.Sizes.{IsShort, IsEarly, TypeIsSmall, AdtIsSmall, VariantIsSmall, FnIsSmall};
 ghost use Rattle.hir_counts.specs.Measures.{depth_by, size_by, AreMeasures};
 
+use crate::goal_sizes::goals_are_short;
 use hir_ids::Test;
 use hir_raw::{RawAdt, RawFacts, RawFn, RawType, RawVariant};
 use hir_types::{ModuleId, TypeRefId};
@@ -216,7 +217,7 @@ impl Test for AdtSizes {
         Ok(
             is_early(at)
                 && is_short(item.params.as_slice())
-                && is_short(item.preds.as_slice())
+                && goals_are_short(item.preds.as_slice())
                 && is_short(item.variants.as_slice()),
         )
     }
@@ -267,7 +268,7 @@ impl Test for FnSizes {
         Ok(
             is_early(at)
                 && is_short(item.params.as_slice())
-                && is_short(item.preds.as_slice())
+                && goals_are_short(item.preds.as_slice())
                 && is_short(item.inputs.as_slice()),
         )
     }

@@ -1,7 +1,7 @@
 //! What stands in written types.
 ghost use Rattle.std.specs.Prelude.{◌≡◌, max, map, length, slice_index, IfOk};
 ghost use Rattle.hir_types.specs.Types.{most};
-ghost use Rattle.hir_raw.specs.Types.{type_parts};
+ghost use Rattle.hir_raw.specs.WrittenTypes.{type_parts};
 ghost use Rattle.hir_ids.specs.Entries.{AllHold};
 ghost use Rattle.hir_ids.specs.Ids.{ChildrenBefore};
 ghost use Rattle.hir_counts.specs.Standing.{param_bound, wrong_args, hole_at, own_of, AreMosts};

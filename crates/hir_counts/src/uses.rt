@@ -3,16 +3,18 @@ ghost use Rattle.std.specs.Prelude.{◌≡◌, ◌++◌, Some, map, length, flat
 ghost use Rattle.hir_ids.specs.Entries.{AllHold};
 ghost use Rattle.hir_ids.specs.Ids.{ChildrenBefore};
 ghost use Rattle.hir_counts.specs.Standing.{hole_at, AreMosts};
-ghost use Rattle.hir_counts.specs.Uses.{type_uses, stmt_uses, expr_uses, body_uses, inner_uses, variant_uses, fn_uses, item_uses, HoleFits, AreUsers};
+ghost use Rattle.hir_counts.specs.Uses.{type_uses, stmt_uses, expr_uses, body_uses, inner_uses, variant_uses, fn_uses, abstract_uses, item_uses, HoleFits, AreTypeUsers};
 
 use crate::counts::{number_at, stmts_of};
+use crate::goal_uses::{push_goals_of, push_impls};
 use crate::standing::{Sought, mosts_of};
 use hir_ids::{Namers, Test, is_nobody, is_one, namers_of};
 use hir_raw::{RawBody, RawExpr, RawFacts, RawField, RawFn, RawStmt, RawType, RawVariant};
 use hir_types::TypeRefId;
 use std::alloc::{AllocError, Global};
 
-fn push_types(out: &mut Vec<Option<usize>>, types: &[TypeRefId]) -> Result<(), AllocError>
+/// The types, after those that are there.
+pub fn push_types(out: &mut Vec<Option<usize>>, types: &[TypeRefId]) -> Result<(), AllocError>
     ensures { OnOk result (out.new.items ≡ out.old.items ++ map (λ t. Some t.0) types.now) }
 {
     for ty in types {
@@ -80,10 +82,10 @@ fn inner_uses(alloc: Global, raw: &RawFacts) -> Result<Vec<Option<usize>>, Alloc
 }
 
 fn push_fields(out: &mut Vec<Option<usize>>, fields: &[RawField]) -> Result<(), AllocError>
-    ensures { OnOk result (out.new.items ≡ out.old.items ++ map (λ f. Some f.ty.0) fields.now) }
+    ensures { OnOk result (out.new.items ≡ out.old.items ++ map (λ f. Some f.type_.0) fields.now) }
 {
     for field in fields {
-        out.push(Some(field.ty.0 as usize))?;
+        out.push(Some(field.type_.0 as usize))?;
     }
     Ok(())
 }
@@ -114,12 +116,26 @@ fn push_fns(out: &mut Vec<Option<usize>>, fns: &[RawFn]) -> Result<(), AllocErro
     Ok(())
 }
 
+/// The types that goals, items with goals and impls are written with, after those that are there.
+fn push_abstract(out: &mut Vec<Option<usize>>, raw: &RawFacts) -> Result<(), AllocError>
+    ensures { OnOk result (out.new.items ≡ out.old.items ++ abstract_uses raw.now) }
+{
+    push_goals_of(out, raw.adts.as_slice())?;
+    push_goals_of(out, raw.fns.as_slice())?;
+    push_goals_of(out, raw.traits.as_slice())?;
+    push_goals_of(out, raw.aliases.as_slice())?;
+    push_goals_of(out, raw.impls.as_slice())?;
+    push_impls(out, raw.impls.as_slice())?;
+    Ok(())
+}
+
 fn item_uses(alloc: Global, raw: &RawFacts) -> Result<Vec<Option<usize>>, AllocError>
     ensures { IfOk result (λ v. v.items ≡ item_uses raw.now) }
 {
     let mut out = Vec::new(alloc);
     push_variants(&mut out, raw.variants.as_slice())?;
     push_fns(&mut out, raw.fns.as_slice())?;
+    push_abstract(&mut out, raw)?;
     Ok(out)
 }
 
@@ -136,7 +152,7 @@ impl Holes {
     pub fn new(alloc: Global, raw: &RawFacts) -> Result<Holes, AllocError>
         requires { AllHold ChildrenBefore raw.now.types }
         ensures holes { IfOk result (λ it. AreMosts hole_at raw.now.types (length raw.now.types) it.holes.items) }
-        ensures users { IfOk result (λ it. AreUsers raw.now it.inner.items it.items.items) }
+        ensures users { IfOk result (λ it. AreTypeUsers raw.now it.inner.items it.items.items) }
     {
         let holes = mosts_of(
             alloc,
@@ -163,7 +179,7 @@ impl Test for Holes {
 
     ghost holds = { λ raw i t. HoleFits raw i };
 
-    ghost given = { λ raw s. AreMosts hole_at raw.types (length raw.types) s.holes.items × AreUsers raw s.inner.items s.items.items };
+    ghost given = { λ raw s. AreMosts hole_at raw.types (length raw.types) s.holes.items × AreTypeUsers raw s.inner.items s.items.items };
 
     fn test(
         &self,

@@ -25,7 +25,7 @@ use Rattle.hir_raw.specs.Order.{Role, let_else, initializer, tail, element, else
 use Rattle.hir_ids.proofs.CarriedBodies.{list_all_at}
 use Rattle.hir_laws.specs.Literals.{IsLiteral, LiteralsFit}
 use Rattle.hir_plain.specs.Plain.{is_item, is_item_at, is_callee, stands_right, IsPlainBody}
-use Rattle.hir_facts.specs.PlainBodies.{is_value, is_maybe_value, stmt_has_values, arm_has_values, has_callees, StmtFits, LetsFit, LooksPlain}
+use Rattle.hir_facts.specs.PlainBodies.{is_value, is_maybe_value, stmt_has_values, arm_has_values, has_callees, LetFits, LetsFit, LooksPlain}
 use Rattle.hir_laws.specs.Bodies.{body_id_of, body_of}
 use Rattle.hir_raw.specs.Scope.{params_of}
 use Rattle.hir_laws.specs.WrittenFits.{FitsUnder, lets_fit}
@@ -84,15 +84,13 @@ module _ (raw : RawFacts) (b : RawBody) where
   arms_right i (a ∷ as_) = list_all-append right (arm_parts i a) (arms_parts (suc i) as_) ∙ and_both _ _ _ _ (arm_right i a) (arms_right (suc i) as_)
 
   expr_right : (x : RawExpr) → list_all right (expr_parts x) ≡ has_callees raw b x
-  expr_right (expr.Lit l) = refl
-  expr_right (expr.Path p) = refl
   expr_right (expr.Block label stmts last) = list_all-append right (stmts_parts stmts) (maybe_part tail last) ∙ and_both _ _ _ _ (stmts_right stmts) (maybe_right tail last refl)
   expr_right (expr.Tuple es) = exprs_right element (λ i. refl) 0 es
   expr_right (expr.If c first other) = and_both _ _ _ _ refl (and_both _ _ _ _ refl (maybe_right else_branch other refl))
   expr_right (expr.Match e arms) =
       and_both _ _ _ _ refl (list_all-append right (arm_patterns e 0 arms) (arms_parts 0 arms) ∙ (and_both _ _ _ _ (arm_patterns_right e 0 arms) refl ∙ arms_right 0 arms))
   expr_right (expr.Call f args) = and_both _ _ _ _ refl (exprs_right argument (λ i. refl) 0 args)
-  expr_right expr.Other = refl
+  expr_right _ = refl
 
   -- ---- the parts of a pattern, and of the body
 
@@ -101,24 +99,14 @@ module _ (raw : RawFacts) (b : RawBody) where
   subpatterns_right i (p ∷ ps) = subpatterns_right (suc i) ps
 
   no_item : (o : Option RawExpr) → IsLiteral o → not (is_item raw o) ≡ true
-  no_item None h = absurd h
   no_item (Some (expr.Lit l)) h = refl
-  no_item (Some (expr.Path p)) h = absurd h
-  no_item (Some (expr.Block label stmts last)) h = absurd h
-  no_item (Some (expr.Tuple es)) h = absurd h
-  no_item (Some (expr.If c first other)) h = absurd h
-  no_item (Some (expr.Match e arms)) h = absurd h
-  no_item (Some (expr.Call f args)) h = absurd h
-  no_item (Some expr.Other) h = absurd h
+  no_item _ h = absurd h
 
   pat_right : LiteralsFit b → (p : ℕ) (x : RawPat) → slice_get b.pats p ≡ Some x → list_all right (pat_parts x) ≡ true
-  pat_right fit p pat.Wild found = refl
-  pat_right fit p (pat.Bind v sub) found = refl
   pat_right fit p (pat.Tuple ps) found = subpatterns_right 0 ps
   pat_right fit p (pat.TupleStruct v ps) found = subpatterns_right 0 ps
-  pat_right fit p (pat.Path q) found = refl
   pat_right fit p (pat.Lit e) found = and_true (is_value raw b e) ∙ no_item (slice_get b.exprs e.0) (fit.under p e found)
-  pat_right fit p pat.Other found = refl
+  pat_right fit p _ found = refl
 
   params_right : (i : ℕ) (ps : List PatId) → list_all right (param_parts i ps) ≡ true
   params_right i [] = refl
@@ -167,7 +155,7 @@ body_looks_plain raw n b h = record { exprs = h.exprs; pats = h.pats; callees = 
 
 stmt_fits : (raw : RawFacts) (n : ℕ) (b : RawBody)
     → ((e : ExprId) (i : ℕ) (p : PatId) (t : TypeRefId) (init other : Option ExprId) → stmt_at b e i ≡ Some (stmt.Let p (Some t) init other) → FitsUnder raw n t.0)
-    → (e : ExprId) (k : ℕ) (s : RawStmt) → stmt_at b e k ≡ Some s → StmtFits raw n s
+    → (e : ExprId) (k : ℕ) (s : RawStmt) → stmt_at b e k ≡ Some s → LetFits raw n s
 stmt_fits raw n b h e k (stmt.Let p None init other) at = tt
 stmt_fits raw n b h e k (stmt.Let p (Some t) init other) at = h e k p t init other at
 stmt_fits raw n b h e k (stmt.Expr x semicolon) at = tt

@@ -1,4 +1,3 @@
-pub mod FilledFits
 pub mod InRange
 pub mod OneHole
 pub mod Lowering

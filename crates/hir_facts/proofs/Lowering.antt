@@ -10,7 +10,7 @@ use Rattle.hir_types.specs.declared.ty.Ty.{Ty}
 use Rattle.hir_types.specs.declared.ty.Ty.TheVariants as ty
 use Rattle.hir_types.specs.declared.ty.GenericArg.{GenericArg}
 use Rattle.hir_types.specs.declared.ty.GenericArg.TheVariants as arg
-use Rattle.hir_raw.specs.Types.{type_parts, lowered, lowered_by}
+use Rattle.hir_raw.specs.WrittenTypes.{type_parts, lowered, lowered_by}
 use Rattle.hir_ids.specs.Entries.{AllHold}
 use Rattle.hir_ids.specs.Ids.{ChildrenBefore}
 use Rattle.hir_ids.specs.Lowered.{lowered_parts}

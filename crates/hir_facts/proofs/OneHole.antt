@@ -10,7 +10,7 @@ use Rattle.hir_raw.specs.declared.raw.RawStmt.TheVariants as stmt
 use Rattle.hir_raw.specs.declared.raw.RawExpr.{RawExpr}
 use Rattle.hir_raw.specs.declared.raw.RawBody.{RawBody}
 use Rattle.hir_raw.specs.declared.raw.RawFacts.{RawFacts}
-use Rattle.hir_raw.specs.Types.{type_parts, StandsIn, is_itself, in_part}
+use Rattle.hir_raw.specs.WrittenTypes.{type_parts, StandsIn, is_itself, in_part}
 use Rattle.hir_raw.specs.Order.{stmts_of, stmt_at}
 use Rattle.hir_counts.specs.Uses.{type_uses, stmt_uses, expr_uses, body_uses, inner_uses}
 use Rattle.hir_laws.specs.Lawful.{IsLawful}
@@ -85,11 +85,11 @@ flat_once f (x ∷ xs) y once (suc i) j (suc m) n h k =
 -- ---- a type and what stands in it
 
 -- type i is type k, or k stands in it
-pub data IsPart (types : List RawType) (k : ℕ) : ℕ → Type 0 where
-  at_once : IsPart types k k
-  further : (i : ℕ) (x : RawType) (j : ℕ) (t : TypeRefId) → slice_get types i ≡ Some x → slice_get (type_parts x) j ≡ Some t → IsPart types k t.0 → IsPart types k i
+pub data IsOrHolds (types : List RawType) (k : ℕ) : ℕ → Type 0 where
+  at_once : IsOrHolds types k k
+  further : (i : ℕ) (x : RawType) (j : ℕ) (t : TypeRefId) → slice_get types i ≡ Some x → slice_get (type_parts x) j ≡ Some t → IsOrHolds types k t.0 → IsOrHolds types k i
 
-part_of : (types : List RawType) (k i : ℕ) → StandsIn types k i → IsPart types k i
+part_of : (types : List RawType) (k i : ℕ) → StandsIn types k i → IsOrHolds types k i
 part_of types k _ (is_itself found) = at_once
 part_of types k _ (in_part i x j t found at below) = further i x j t found at (part_of types k t.0 below)
 
@@ -107,7 +107,7 @@ type_use types k i x j t found at same = record { of = x; found = found; made = 
     named (u ∷ ts) zero at = (let is : u ≡ t = cc in λ p. Some (Some ((ap (λ (v : TypeRefId). v.0) is ∙ same) p)))
     named (u ∷ ts) (suc j) at = named ts j at
 
-same_or_part : (types : List RawType) (k i : ℕ) → IsPart types k i → (k ≡ i) ⊎ IsPartOf types k
+same_or_part : (types : List RawType) (k i : ℕ) → IsOrHolds types k i → (k ≡ i) ⊎ IsPartOf types k
 same_or_part types k _ at_once = inl refl
 same_or_part types k _ (further i x j t found at below) = elim (same_or_part types k t.0 below) as (λ _. (k ≡ i) ⊎ IsPartOf types k) [
   | inl same ↦ inr (record { whole = i; at_part = j; used = type_use types k i x j t found at (sym same) })
@@ -137,25 +137,25 @@ module _ (raw : RawFacts) (law : IsLawful raw) (k : ℕ) where
   one_whole i stands a j b m h g = flat_once type_uses raw.types (Some i) (by_types i stands) a j b m h g
 
   -- where type i is a part of type a, all that i stands in a is a part of
-  above : (i a m : ℕ) → StandsIn raw.types k i → IsFrom type_uses raw.types (Some i) a m → (b : ℕ) → IsPart raw.types i b → (i ≡ b) ⊎ IsPart raw.types a b
+  above : (i a m : ℕ) → StandsIn raw.types k i → IsFrom type_uses raw.types (Some i) a m → (b : ℕ) → IsOrHolds raw.types i b → (i ≡ b) ⊎ IsOrHolds raw.types a b
   above i a m stands used _ at_once = inl refl
-  above i a m stands used _ (further b x j t found at below) = elim (above i a m stands used t.0 below) as (λ _. (i ≡ b) ⊎ IsPart raw.types a b) [
-    | inl same ↦ inr (let one : (a ≡ b) × (m ≡ j) = one_whole i stands a m b j used (type_use raw.types i b x j t found at (sym same)) in subst (λ z. IsPart raw.types a z) one.0 at_once)
+  above i a m stands used _ (further b x j t found at below) = elim (above i a m stands used t.0 below) as (λ _. (i ≡ b) ⊎ IsOrHolds raw.types a b) [
+    | inl same ↦ inr (let one : (a ≡ b) × (m ≡ j) = one_whole i stands a m b j used (type_use raw.types i b x j t found at (sym same)) in subst (λ z. IsOrHolds raw.types a z) one.0 at_once)
     | inr part ↦ inr (further b x j t found at part)
   ]
 
   -- of two types in which it stands, one is a part of the other
-  meet : (i j : ℕ) → StandsIn raw.types k i → StandsIn raw.types k j → IsPart raw.types i j ⊎ IsPart raw.types j i
+  meet : (i j : ℕ) → StandsIn raw.types k i → StandsIn raw.types k j → IsOrHolds raw.types i j ⊎ IsOrHolds raw.types j i
   meet _ j (is_itself found) other = inl (part_of raw.types k j other)
-  meet _ j (in_part i x m t found at below) other = elim (meet t.0 j below other) as (λ _. IsPart raw.types i j ⊎ IsPart raw.types j i) [
-    | inl part ↦ elim (above t.0 i m below (type_use raw.types t.0 i x m t found at refl) j part) as (λ _. IsPart raw.types i j ⊎ IsPart raw.types j i) [
-      | inl same ↦ inr (further i x m t found at (subst (λ z. IsPart raw.types j z) (sym same) at_once))
+  meet _ j (in_part i x m t found at below) other = elim (meet t.0 j below other) as (λ _. IsOrHolds raw.types i j ⊎ IsOrHolds raw.types j i) [
+    | inl part ↦ elim (above t.0 i m below (type_use raw.types t.0 i x m t found at refl) j part) as (λ _. IsOrHolds raw.types i j ⊎ IsOrHolds raw.types j i) [
+      | inl same ↦ inr (further i x m t found at (subst (λ z. IsOrHolds raw.types j z) (sym same) at_once))
       | inr whole ↦ inl whole
     ]
     | inr part ↦ inr (further i x m t found at part)
   ]
 
-  same_let : (i j : ℕ) → StandsIn raw.types k i → StandsIn raw.types k j → (m n : ℕ) → slice_get (flat_map body_uses raw.bodies) m ≡ Some (Some i) → slice_get (flat_map body_uses raw.bodies) n ≡ Some (Some j) → IsPart raw.types i j → i ≡ j
+  same_let : (i j : ℕ) → StandsIn raw.types k i → StandsIn raw.types k j → (m n : ℕ) → slice_get (flat_map body_uses raw.bodies) m ≡ Some (Some i) → slice_get (flat_map body_uses raw.bodies) n ≡ Some (Some j) → IsOrHolds raw.types i j → i ≡ j
   same_let i j a b m n here there part = elim (same_or_part raw.types i j part) as (λ _. i ≡ j) [
     | inl same ↦ same
     | inr whole ↦ absurd (once_apart (flat_map type_uses raw.types) (flat_map body_uses raw.bodies) (Some i) (used_once i a) (from_in type_uses raw.types (Some i) whole.whole whole.at_part whole.used) (m, here))
@@ -176,12 +176,12 @@ module _ (raw : RawFacts) (law : IsLawful raw) (k : ℕ) where
     | inr part ↦ sym (beside i x n m u t found there here b a part)
   ]
     where
-      not_below : (a b : ℕ) → IsPart raw.types a b → a ≤ b
+      not_below : (a b : ℕ) → IsOrHolds raw.types a b → a ≤ b
       not_below a _ at_once = omega arith
       not_below a _ (further b x j t found at below) = let lt : t.0 < b = type_ids raw law b x found j t at in let le : a ≤ t.0 = not_below a t.0 below in omega arith
 
       beside : (i : ℕ) (x : RawType) (m n : ℕ) (t u : TypeRefId) → slice_get raw.types i ≡ Some x → slice_get (type_parts x) m ≡ Some t → slice_get (type_parts x) n ≡ Some u
-          → StandsIn raw.types k t.0 → StandsIn raw.types k u.0 → IsPart raw.types t.0 u.0 → m ≡ n
+          → StandsIn raw.types k t.0 → StandsIn raw.types k u.0 → IsOrHolds raw.types t.0 u.0 → m ≡ n
       beside i x m n t u found here there a b part = elim (above t.0 i m a (type_use raw.types t.0 i x m t found here refl) u.0 part) as (λ _. m ≡ n) [
         | inl same ↦ (one_whole t.0 a i m i n (type_use raw.types t.0 i x m t found here refl) (type_use raw.types t.0 i x n u found there (sym same))).1
         | inr whole ↦ absurd (let lt : u.0 < i = type_ids raw law i x found n u there in let le : i ≤ u.0 = not_below i u.0 whole in omega arith)

@@ -24,7 +24,7 @@ use Rattle.hir_raw.specs.declared.raw.RawFn.{RawFn}
 use Rattle.hir_raw.specs.declared.raw.RawFacts.{RawFacts}
 use Rattle.hir_laws.specs.Lawful.{IsLawful}
 use Rattle.hir_counts.specs.Standing.{HasNoHole}
-use Rattle.hir_raw.specs.Types.{filled_by, filled_within, filled_type, written_type}
+use Rattle.hir_raw.specs.WrittenTypes.{filled_by, filled_within, filled_type, written_type}
 use Rattle.hir_facts.specs.Filled.{filled_written}
 use Rattle.hir_laws.specs.NoHoles.{output_has_no_hole}
 use Rattle.hir_laws.specs.Bodies.{output_by, return_type}
@@ -116,17 +116,17 @@ record BareArg (x : GenericArg) : Type 0 where
   arg_closed : arg_has_hole x ≡ false
   arg_unlabelled : arg_erased x ≡ x
 
-abbrev Told : Type 0
-Told = (t : Ty) × (IsCarriedType t → Bare t)
+abbrev BareIfCarried : Type 0
+BareIfCarried = (t : Ty) × (IsCarriedType t → Bare t)
 
-abbrev ArgTold : Type 0
-ArgTold = (x : GenericArg) × (is_carried_arg x ≡ true → BareArg x)
+abbrev BareArgIfCarried : Type 0
+BareArgIfCarried = (x : GenericArg) × (is_carried_arg x ≡ true → BareArg x)
 
 both : (a b : Bool) → (a && b) ≡ true → (a ≡ true) × (b ≡ true)
 both true b h = (refl, h)
 both false b h = absurd (true≢false (sym h))
 
-all_bare : (ts : List Told) → list_all (λ b. b) (map is_carried_type (map (λ e. e.0) ts)) ≡ true
+all_bare : (ts : List BareIfCarried) → list_all (λ b. b) (map is_carried_type (map (λ e. e.0) ts)) ≡ true
     → (list_any (λ b. b) (map has_hole (map (λ e. e.0) ts)) ≡ false) × (map erased (map (λ e. e.0) ts) ≡ map (λ e. e.0) ts)
 all_bare [] h = (refl, refl)
 all_bare (t ∷ ts) h =
@@ -137,7 +137,7 @@ all_bare (t ∷ ts) h =
       λ i. here.unlabelled i ∷ rest.1 i,
     )
 
-args_bare : (xs : List ArgTold) → list_all (λ b. b) (map is_carried_arg (map (λ e. e.0) xs)) ≡ true
+args_bare : (xs : List BareArgIfCarried) → list_all (λ b. b) (map is_carried_arg (map (λ e. e.0) xs)) ≡ true
     → (list_any (λ b. b) (map arg_has_hole (map (λ e. e.0) xs)) ≡ false) × (map arg_erased (map (λ e. e.0) xs) ≡ map (λ e. e.0) xs)
 args_bare [] h = (refl, refl)
 args_bare (x ∷ xs) h =
@@ -148,19 +148,19 @@ args_bare (x ∷ xs) h =
       λ i. here.arg_unlabelled i ∷ rest.1 i,
     )
 
-abbrev BoundTold : Type 0
-BoundTold = AliasBound × Unit {0}
+abbrev AnyBound : Type 0
+AnyBound = AliasBound × Unit {0}
 
-abbrev TraitTold : Type 0
-TraitTold = TraitRef × Unit {0}
+abbrev AnyTrait : Type 0
+AnyTrait = TraitRef × Unit {0}
 
-abbrev told_of : Ty-F ArgTold Told BoundTold TraitTold → Ty-F GenericArg Ty AliasBound TraitRef
-told_of = map-Ty ArgTold Told BoundTold TraitTold GenericArg Ty AliasBound TraitRef (λ e. e.0) (λ e. e.0) (λ e. e.0) (λ e. e.0)
+abbrev layer_of : Ty-F BareArgIfCarried BareIfCarried AnyBound AnyTrait → Ty-F GenericArg Ty AliasBound TraitRef
+layer_of = map-Ty BareArgIfCarried BareIfCarried AnyBound AnyTrait GenericArg Ty AliasBound TraitRef (λ e. e.0) (λ e. e.0) (λ e. e.0) (λ e. e.0)
 
-abbrev told_of_arg : GenericArg-F ArgTold Told BoundTold TraitTold → GenericArg-F GenericArg Ty AliasBound TraitRef
-told_of_arg = map-GenericArg ArgTold Told BoundTold TraitTold GenericArg Ty AliasBound TraitRef (λ e. e.0) (λ e. e.0) (λ e. e.0) (λ e. e.0)
+abbrev arg_layer_of : GenericArg-F BareArgIfCarried BareIfCarried AnyBound AnyTrait → GenericArg-F GenericArg Ty AliasBound TraitRef
+arg_layer_of = map-GenericArg BareArgIfCarried BareIfCarried AnyBound AnyTrait GenericArg Ty AliasBound TraitRef (λ e. e.0) (λ e. e.0) (λ e. e.0) (λ e. e.0)
 
-layer_bare : (y : Ty-F ArgTold Told BoundTold TraitTold) → IsCarriedType (roll-Ty (told_of y)) → Bare (roll-Ty (told_of y))
+layer_bare : (y : Ty-F BareArgIfCarried BareIfCarried AnyBound AnyTrait) → IsCarriedType (roll-Ty (layer_of y)) → Bare (roll-Ty (layer_of y))
 layer_bare Ty-F.Bool h = record { closed = fold-roll-Ty Bool Bool Bool Bool hole_arg hole_step hole_bound hole_trait Ty-F.Bool; unlabelled = fold-roll-Ty GenericArg Ty AliasBound TraitRef roll-GenericArg erased_step roll-AliasBound roll-TraitRef Ty-F.Bool }
 layer_bare Ty-F.Char h = record { closed = fold-roll-Ty Bool Bool Bool Bool hole_arg hole_step hole_bound hole_trait Ty-F.Char; unlabelled = fold-roll-Ty GenericArg Ty AliasBound TraitRef roll-GenericArg erased_step roll-AliasBound roll-TraitRef Ty-F.Char }
 layer_bare (Ty-F.Int i) h = record { closed = fold-roll-Ty Bool Bool Bool Bool hole_arg hole_step hole_bound hole_trait (Ty-F.Int i); unlabelled = fold-roll-Ty GenericArg Ty AliasBound TraitRef roll-GenericArg erased_step roll-AliasBound roll-TraitRef (Ty-F.Int i) }
@@ -173,13 +173,13 @@ layer_bare (Ty-F.Tuple ts) h =
       closed = fold-roll-Ty Bool Bool Bool Bool hole_arg hole_step hole_bound hole_trait (Ty-F.Tuple us) ∙ all.0;
       unlabelled = fold-roll-Ty GenericArg Ty AliasBound TraitRef roll-GenericArg erased_step roll-AliasBound roll-TraitRef (Ty-F.Tuple us) ∙ ap (λ vs. roll-Ty (Ty-F.Tuple vs)) all.1;
     }
-layer_bare (Ty-F.Float f) h = absurd (true≢false (sym h ∙ fold-roll-Ty Bool Bool Bool Bool carried_arg carried_step carried_bound carried_trait (told_of (Ty-F.Float f))))
-layer_bare Ty-F.Str h = absurd (true≢false (sym h ∙ fold-roll-Ty Bool Bool Bool Bool carried_arg carried_step carried_bound carried_trait (told_of Ty-F.Str)))
-layer_bare Ty-F.Never h = absurd (true≢false (sym h ∙ fold-roll-Ty Bool Bool Bool Bool carried_arg carried_step carried_bound carried_trait (told_of Ty-F.Never)))
-layer_bare (Ty-F.Array t c) h = absurd (true≢false (sym h ∙ fold-roll-Ty Bool Bool Bool Bool carried_arg carried_step carried_bound carried_trait (told_of (Ty-F.Array t c))))
-layer_bare (Ty-F.Slice t) h = absurd (true≢false (sym h ∙ fold-roll-Ty Bool Bool Bool Bool carried_arg carried_step carried_bound carried_trait (told_of (Ty-F.Slice t))))
-layer_bare (Ty-F.Ref m r t) h = absurd (true≢false (sym h ∙ fold-roll-Ty Bool Bool Bool Bool carried_arg carried_step carried_bound carried_trait (told_of (Ty-F.Ref m r t))))
-layer_bare (Ty-F.RawPtr m t) h = absurd (true≢false (sym h ∙ fold-roll-Ty Bool Bool Bool Bool carried_arg carried_step carried_bound carried_trait (told_of (Ty-F.RawPtr m t))))
+layer_bare (Ty-F.Float f) h = absurd (true≢false (sym h ∙ fold-roll-Ty Bool Bool Bool Bool carried_arg carried_step carried_bound carried_trait (layer_of (Ty-F.Float f))))
+layer_bare Ty-F.Str h = absurd (true≢false (sym h ∙ fold-roll-Ty Bool Bool Bool Bool carried_arg carried_step carried_bound carried_trait (layer_of Ty-F.Str)))
+layer_bare Ty-F.Never h = absurd (true≢false (sym h ∙ fold-roll-Ty Bool Bool Bool Bool carried_arg carried_step carried_bound carried_trait (layer_of Ty-F.Never)))
+layer_bare (Ty-F.Array t c) h = absurd (true≢false (sym h ∙ fold-roll-Ty Bool Bool Bool Bool carried_arg carried_step carried_bound carried_trait (layer_of (Ty-F.Array t c))))
+layer_bare (Ty-F.Slice t) h = absurd (true≢false (sym h ∙ fold-roll-Ty Bool Bool Bool Bool carried_arg carried_step carried_bound carried_trait (layer_of (Ty-F.Slice t))))
+layer_bare (Ty-F.Ref m r t) h = absurd (true≢false (sym h ∙ fold-roll-Ty Bool Bool Bool Bool carried_arg carried_step carried_bound carried_trait (layer_of (Ty-F.Ref m r t))))
+layer_bare (Ty-F.RawPtr m t) h = absurd (true≢false (sym h ∙ fold-roll-Ty Bool Bool Bool Bool carried_arg carried_step carried_bound carried_trait (layer_of (Ty-F.RawPtr m t))))
 layer_bare (Ty-F.Adt i xs) h =
     let us : List GenericArg = map (λ e. e.0) xs in
     let all = args_bare xs (sym (fold-roll-Ty Bool Bool Bool Bool carried_arg carried_step carried_bound carried_trait (Ty-F.Adt i us)) ∙ h) in
@@ -194,20 +194,20 @@ layer_bare (Ty-F.FnDef i xs) h =
       closed = fold-roll-Ty Bool Bool Bool Bool hole_arg hole_step hole_bound hole_trait (Ty-F.FnDef i us) ∙ all.0;
       unlabelled = fold-roll-Ty GenericArg Ty AliasBound TraitRef roll-GenericArg erased_step roll-AliasBound roll-TraitRef (Ty-F.FnDef i us) ∙ ap (λ vs. roll-Ty (Ty-F.FnDef i vs)) all.1;
     }
-layer_bare (Ty-F.FnPtr s ts t) h = absurd (true≢false (sym h ∙ fold-roll-Ty Bool Bool Bool Bool carried_arg carried_step carried_bound carried_trait (told_of (Ty-F.FnPtr s ts t))))
-layer_bare (Ty-F.Closure i ts t) h = absurd (true≢false (sym h ∙ fold-roll-Ty Bool Bool Bool Bool carried_arg carried_step carried_bound carried_trait (told_of (Ty-F.Closure i ts t))))
-layer_bare (Ty-F.Dynamic o bs ts) h = absurd (true≢false (sym h ∙ fold-roll-Ty Bool Bool Bool Bool carried_arg carried_step carried_bound carried_trait (told_of (Ty-F.Dynamic o bs ts))))
+layer_bare (Ty-F.FnPtr s ts t) h = absurd (true≢false (sym h ∙ fold-roll-Ty Bool Bool Bool Bool carried_arg carried_step carried_bound carried_trait (layer_of (Ty-F.FnPtr s ts t))))
+layer_bare (Ty-F.Closure i ts t) h = absurd (true≢false (sym h ∙ fold-roll-Ty Bool Bool Bool Bool carried_arg carried_step carried_bound carried_trait (layer_of (Ty-F.Closure i ts t))))
+layer_bare (Ty-F.Dynamic o bs ts) h = absurd (true≢false (sym h ∙ fold-roll-Ty Bool Bool Bool Bool carried_arg carried_step carried_bound carried_trait (layer_of (Ty-F.Dynamic o bs ts))))
 layer_bare (Ty-F.Param n) h = record { closed = fold-roll-Ty Bool Bool Bool Bool hole_arg hole_step hole_bound hole_trait (Ty-F.Param n); unlabelled = fold-roll-Ty GenericArg Ty AliasBound TraitRef roll-GenericArg erased_step roll-AliasBound roll-TraitRef (Ty-F.Param n) }
-layer_bare (Ty-F.Projection i xs) h = absurd (true≢false (sym h ∙ fold-roll-Ty Bool Bool Bool Bool carried_arg carried_step carried_bound carried_trait (told_of (Ty-F.Projection i xs))))
-layer_bare (Ty-F.Opaque i xs) h = absurd (true≢false (sym h ∙ fold-roll-Ty Bool Bool Bool Bool carried_arg carried_step carried_bound carried_trait (told_of (Ty-F.Opaque i xs))))
-layer_bare (Ty-F.Var n) h = absurd (true≢false (sym h ∙ fold-roll-Ty Bool Bool Bool Bool carried_arg carried_step carried_bound carried_trait (told_of (Ty-F.Var n))))
-layer_bare (Ty-F.IntVar n) h = absurd (true≢false (sym h ∙ fold-roll-Ty Bool Bool Bool Bool carried_arg carried_step carried_bound carried_trait (told_of (Ty-F.IntVar n))))
-layer_bare Ty-F.Hole h = absurd (true≢false (sym h ∙ fold-roll-Ty Bool Bool Bool Bool carried_arg carried_step carried_bound carried_trait (told_of Ty-F.Hole)))
+layer_bare (Ty-F.Projection i xs) h = absurd (true≢false (sym h ∙ fold-roll-Ty Bool Bool Bool Bool carried_arg carried_step carried_bound carried_trait (layer_of (Ty-F.Projection i xs))))
+layer_bare (Ty-F.Opaque i xs) h = absurd (true≢false (sym h ∙ fold-roll-Ty Bool Bool Bool Bool carried_arg carried_step carried_bound carried_trait (layer_of (Ty-F.Opaque i xs))))
+layer_bare (Ty-F.Var n) h = absurd (true≢false (sym h ∙ fold-roll-Ty Bool Bool Bool Bool carried_arg carried_step carried_bound carried_trait (layer_of (Ty-F.Var n))))
+layer_bare (Ty-F.IntVar n) h = absurd (true≢false (sym h ∙ fold-roll-Ty Bool Bool Bool Bool carried_arg carried_step carried_bound carried_trait (layer_of (Ty-F.IntVar n))))
+layer_bare Ty-F.Hole h = absurd (true≢false (sym h ∙ fold-roll-Ty Bool Bool Bool Bool carried_arg carried_step carried_bound carried_trait (layer_of Ty-F.Hole)))
 
-step_bare : (x : Ty-F GenericArg Ty AliasBound TraitRef) (y : Ty-F ArgTold Told BoundTold TraitTold) → told_of y ≡ x → IsCarriedType (roll-Ty x) → Bare (roll-Ty x)
+step_bare : (x : Ty-F GenericArg Ty AliasBound TraitRef) (y : Ty-F BareArgIfCarried BareIfCarried AnyBound AnyTrait) → layer_of y ≡ x → IsCarriedType (roll-Ty x) → Bare (roll-Ty x)
 step_bare x y is = subst (λ z. IsCarriedType (roll-Ty z) → Bare (roll-Ty z)) is (layer_bare y)
 
-layer_bare_arg : (y : GenericArg-F ArgTold Told BoundTold TraitTold) → is_carried_arg (roll-GenericArg (told_of_arg y)) ≡ true → BareArg (roll-GenericArg (told_of_arg y))
+layer_bare_arg : (y : GenericArg-F BareArgIfCarried BareIfCarried AnyBound AnyTrait) → is_carried_arg (roll-GenericArg (arg_layer_of y)) ≡ true → BareArg (roll-GenericArg (arg_layer_of y))
 layer_bare_arg (GenericArg-F.Ty t) h =
     let is = fold-roll-GenericArg Bool Bool Bool Bool carried_arg carried_step carried_bound carried_trait (GenericArg-F.Ty t.0) in
     let here = t.1 (sym is ∙ h) in
@@ -217,7 +217,7 @@ layer_bare_arg (GenericArg-F.Ty t) h =
     }
 layer_bare_arg (GenericArg-F.Const c) h = absurd (true≢false (sym h ∙ fold-roll-GenericArg Bool Bool Bool Bool carried_arg carried_step carried_bound carried_trait (GenericArg-F.Const c)))
 
-step_bare_arg : (x : GenericArg-F GenericArg Ty AliasBound TraitRef) (y : GenericArg-F ArgTold Told BoundTold TraitTold) → told_of_arg y ≡ x → is_carried_arg (roll-GenericArg x) ≡ true → BareArg (roll-GenericArg x)
+step_bare_arg : (x : GenericArg-F GenericArg Ty AliasBound TraitRef) (y : GenericArg-F BareArgIfCarried BareIfCarried AnyBound AnyTrait) → arg_layer_of y ≡ x → is_carried_arg (roll-GenericArg x) ≡ true → BareArg (roll-GenericArg x)
 step_bare_arg x y is = subst (λ z. is_carried_arg (roll-GenericArg z) ≡ true → BareArg (roll-GenericArg z)) is (layer_bare_arg y)
 
 pub carried_bare : (t : Ty) → IsCarriedType t → Bare t

@@ -1,5 +1,5 @@
 -- What a written type stands for where each `_` stands for a type.
-use Rattle.std.specs.Prelude.{◌≡◌, ◌<◌, ◌≤◌, ℕ, zero, suc, max, List, [], ◌∷◌, map, slice_get, Option, Some, None, refl}
+use Rattle.std.specs.Prelude.{◌≡◌, ◌≤◌, ℕ, zero, suc, max, List, [], ◌∷◌, map, slice_get, Option, Some, None, refl}
 use Rattle.std.proofs.Common.{◌∙◌, ap, arith}
 use Rattle.hir_types.specs.declared.ids.TypeRefId.{TypeRefId}
 use Rattle.hir_types.specs.declared.ty.IntegerTy.{IntegerTy}
@@ -9,11 +9,11 @@ use Rattle.hir_types.specs.declared.ty.Ty.{Ty}
 use Rattle.hir_types.specs.declared.ty.Ty.TheVariants as ty
 use Rattle.hir_types.specs.Types.{integer_type, most}
 use Rattle.hir_types.specs.Subst.{Assignment, with_holes, args_replaced, folded}
-use Rattle.hir_types.specs.Folding.{replaced_bool, replaced_char, replaced_int, replaced_uint, replaced_tuple, replaced_adt, replaced_param, replaced_error, arg_replaced_type}
+use Rattle.hir_types.specs.Replacements.{replaced_bool, replaced_char, replaced_int, replaced_uint, replaced_tuple, replaced_adt, replaced_param, replaced_error, arg_replaced_type}
 use Rattle.hir_types.specs.Folds.{map_twice}
 use Rattle.hir_raw.specs.declared.raw.RawType.{RawType}
 use Rattle.hir_raw.specs.declared.raw.RawType.TheVariants as type
-use Rattle.hir_raw.specs.Types.{type_parts, lowered_by, written_type, filled_by, filled_within, filled_type, StandsIn, is_itself, in_part}
+use Rattle.hir_raw.specs.WrittenTypes.{type_parts, lowered_by, written_type, filled_by, filled_within, filled_type, StandsIn, is_itself, in_part}
 use Rattle.hir_ids.specs.Entries.{AllHold}
 use Rattle.hir_ids.specs.Ids.{ChildrenBefore}
 use Rattle.hir_counts.specs.Standing.{hole_at, most_by, most_within, most_in, HasNoHole}
@@ -87,9 +87,6 @@ pub none_stands : (types : List RawType) → AllHold ChildrenBefore types → (k
 none_stands types all k _ (is_itself found) none = let one : 1 ≤ most_in hole_at types k = own_most hole_at types all k type.Hole found in absurd (omega arith)
 none_stands types all k _ (in_part i x j t found at below) none =
     none_stands types all k t.0 below (at_zero (most_in hole_at types t.0) (most_in hole_at types i) (part_most hole_at types all i x found j t at) none)
-
-pub no_hole_stands : (types : List RawType) → AllHold ChildrenBefore types → (t : TypeRefId) → HasNoHole types t → (k : ℕ) → StandsIn types k t.0 → ⊥
-no_hole_stands types all t none k stands = none_stands types all k t.0 stands none
 
 -- ---- holes that inference made
 

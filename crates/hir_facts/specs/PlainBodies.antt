@@ -50,12 +50,12 @@ WrittenFits raw n None = Unit {0}
 WrittenFits raw n (Some t) = FitsUnder raw n t.0
 
 -- the written type of a `let` fits under n parameters
-abbrev pub StmtFits : RawFacts → ℕ → RawStmt → Type 0
-StmtFits raw n (stmt.Let p written init other) = WrittenFits raw n written
-StmtFits raw n (stmt.Expr e semicolon) = Unit {0}
+abbrev pub LetFits : RawFacts → ℕ → RawStmt → Type 0
+LetFits raw n (stmt.Let p written init other) = WrittenFits raw n written
+LetFits raw n (stmt.Expr e semicolon) = Unit {0}
 
 abbrev pub LetsFit : RawFacts → ℕ → RawExpr → Type 0
-LetsFit raw n x = AllHold (λ k s. StmtFits raw n s) (stmts_of (Some x))
+LetsFit raw n x = AllHold (λ k s. LetFits raw n s) (stmts_of (Some x))
 
 -- ---- bodies
 

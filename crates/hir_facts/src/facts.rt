@@ -3,7 +3,6 @@ ghost use Rattle.std.specs.Prelude.{◌≡◌, ◌↔◌, ◌<◌, ℕ, IfOk, If
 ghost use Rattle.hir_raw.specs.declared.raw.RawBody.{RawBody};
 ghost use Rattle.hir_raw.specs.Order.{AreDepths};
 ghost use Rattle.hir_laws.specs.Bodies.{IsWalkable, HasBody, body_id_of, inputs_of};
-ghost use Rattle.hir_raw.specs.Scope.{params_of};
 ghost use Rattle.hir_raw.specs.Fit.{fits};
 ghost use Rattle.hir_laws.specs.WrittenFits.{FitsUnder};
 ghost use Rattle.hir_plain.specs.Plain.{IsPlainAdt, IsPlainOver, IsPlainFn};
@@ -14,10 +13,12 @@ ghost use Rattle.hir_facts.specs.Readers.{edition_year, limits_in_order};
 use hir_laws::{FactsError, check};
 use hir_plain::{PlainMarks, mark_at};
 use hir_raw::{
-    Edition, RawAdt, RawBody, RawFacts, RawFn, RawType, RawVariant, Schedule, params_of, ty_fits,
+    Edition, RawAdt, RawAlias, RawBody, RawFacts, RawFn, RawImpl, RawTrait, RawType, RawVariant,
+    Schedule, generic_params, ty_fits,
 };
 use hir_types::{
-    AdtId, BodyId, DefWithBodyId, FunctionId, List, ModuleId, Ty, TypeRefId, VariantId,
+    AdtId, BodyId, DefWithBodyId, FunctionId, GenericDefId, ImplId, List, ModuleId, TraitId, Ty,
+    TypeAliasId, TypeRefId, VariantId,
 };
 use std::alloc::Global;
 use std::marker::Model;
@@ -169,6 +170,33 @@ impl Facts {
         &fns[function.0 as usize]
     }
 
+    /// A trait.
+    pub fn trait_(&self, id: TraitId) -> &RawTrait
+        requires { id.0 < length self.now.traits }
+        ensures { slice_get self.now.traits id.0 ≡ Some result.now }
+    {
+        let traits = self.raw.traits.as_slice();
+        &traits[id.0 as usize]
+    }
+
+    /// An associated type.
+    pub fn alias(&self, alias: TypeAliasId) -> &RawAlias
+        requires { alias.0 < length self.now.aliases }
+        ensures { slice_get self.now.aliases alias.0 ≡ Some result.now }
+    {
+        let aliases = self.raw.aliases.as_slice();
+        &aliases[alias.0 as usize]
+    }
+
+    /// An impl.
+    pub fn impl_(&self, id: ImplId) -> &RawImpl
+        requires { id.0 < length self.now.impls }
+        ensures { slice_get self.now.impls id.0 ≡ Some result.now }
+    {
+        let impls = self.raw.impls.as_slice();
+        &impls[id.0 as usize]
+    }
+
     /// A body.
     pub fn body(&self, body: BodyId) -> &RawBody
         requires { body.0 < length self.now.bodies }
@@ -245,17 +273,11 @@ impl Facts {
         self.body_id(def).is_some()
     }
 
-    /// How many parameters are in scope in the body of a definition.
-    pub fn param_count(&self, def: DefWithBodyId) -> usize
-        ensures { result ≡ params_of self.now def }
+    /// Whether each id and parameter in a type is in range, under the parameters of an item, and
+    /// arguments are as many as parameters.
+    pub fn fits(&self, item: GenericDefId, ty: &Ty) -> bool
+        ensures { result ≡ fits self.now item ty.now }
     {
-        params_of(&self.raw, def)
-    }
-
-    /// Whether each id and parameter in a type is in range, and arguments are as many as parameters.
-    pub fn fits(&self, def: DefWithBodyId, ty: &Ty) -> bool
-        ensures { result ≡ fits self.now def ty.now }
-    {
-        ty_fits(&self.raw, self.param_count(def), ty)
+        ty_fits(&self.raw, generic_params(&self.raw, item), ty)
     }
 }

@@ -8,14 +8,17 @@ mod plain_body;
 pub use facts::Facts;
 pub use hir_laws::{FactsError, FactsList, Law};
 pub use hir_raw::{
-    BindingAnnotation, Edition, Other, RawAdt, RawAdtKind, RawArm, RawAt, RawBinding, RawBody,
-    RawCtor, RawExpr, RawFacts, RawField, RawFn, RawLimits, RawLiteral, RawParam, RawPat, RawPath,
-    RawStmt, RawType, RawVariant, RawVis, Schedule,
+    BindingAnnotation, Edition, Other, RawAdt, RawAdtKind, RawAlias, RawArgs, RawArm, RawAssocType,
+    RawAt, RawBinding, RawBody, RawCtor, RawExpr, RawFacts, RawField, RawFn, RawGoal, RawImpl,
+    RawLang, RawLimits, RawLiteral, RawParam, RawPat, RawPath, RawStmt, RawTrait, RawTraitRef,
+    RawType, RawVariant, RawVis, Schedule,
 };
 pub use hir_types::{
-    AdtId, BindingId, BodyId, ConstId, DefWithBodyId, ExprId, ExprOrPatId, FunctionId, IntTy,
-    IntegerTy, LabelId, List, ModuleId, PatId, StaticId, Text, TraitId, Ty, TypeRefId, UintTy,
-    VariantId,
+    AdtId, AliasBound, BindingId, BodyId, Boxed, CallableDefId, Canonical, ClosureId, Const,
+    ConstId, DefWithBodyId, ExprId, ExprOrPatId, FloatTy, Folded, FunctionId, GenericArg,
+    GenericDefId, Goal, HoleKind, ImplId, IntTy, IntegerTy, LabelId, List, ModuleId, Mutability,
+    OpaqueId, PatId, Region, Safety, StaticId, Subst, Text, TraitId, TraitRef, Ty, TypeAliasId,
+    TypeRefId, UintTy, VariantId, instantiate,
 };
 pub use lower::{lower_ty, return_ty};
 pub use plain_body::is_plain;

@@ -1,6 +1,6 @@
 //! What written types stand for.
 ghost use Rattle.std.specs.Prelude.{◌≡◌, ◌<◌, IfOk, length};
-ghost use Rattle.hir_raw.specs.Types.{lowered, written_type};
+ghost use Rattle.hir_raw.specs.WrittenTypes.{lowered, written_type};
 ghost use Rattle.hir_laws.specs.Bodies.{HasBody, return_type};
 ghost use Rattle.hir_ids.specs.Entries.{AllHold};
 ghost use Rattle.hir_ids.specs.Ids.{ChildrenBefore};
@@ -49,8 +49,7 @@ pub fn lower_ty(alloc: Global, facts: &Facts, ty: TypeRefId) -> Result<Ty, Alloc
     facts.lawful();
     let types = facts.types();
     if (ty.0 as usize) < types.len() {
-        let lowered = lower(types, ty.0 as usize, alloc)?;
-        Ok(lowered)
+        lower(types, ty.0 as usize, alloc)
     } else {
         Ok(Ty::Error)
     }
@@ -65,8 +64,7 @@ pub fn return_ty(alloc: Global, facts: &Facts, def: DefWithBodyId) -> Result<Ty,
     match def {
         DefWithBodyId::FunctionId(function) => {
             let function = facts.fn_(function);
-            let ty = lower_ty(alloc, facts, function.output)?;
-            Ok(ty)
+            lower_ty(alloc, facts, function.output)
         }
         DefWithBodyId::ConstId(_) | DefWithBodyId::StaticId(_) | DefWithBodyId::VariantId(_) => Ok(
             Ty::Error,

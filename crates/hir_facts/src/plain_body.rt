@@ -1,12 +1,13 @@
 //! Whether the body of a definition is plain.
-ghost use Rattle.std.specs.Prelude.{◌≡◌, ◌↔◌, Some, slice_get, IsSomeAnd, IsTrue};
+ghost use Rattle.std.specs.Prelude.{◌≡◌, ◌↔◌, ℕ, Some, slice_get, IsSomeAnd, IsTrue};
 ghost use Rattle.std.specs.List.{list_all};
+ghost use Rattle.hir_types.specs.declared.ids.FunctionId.{FunctionId};
 ghost use Rattle.hir_types.specs.declared.ids.DefWithBodyId.TheVariants.{FunctionId as fn_def};
 ghost use Rattle.hir_laws.specs.Bodies.{body_of};
 ghost use Rattle.hir_raw.specs.Scope.{params_of};
 ghost use Rattle.hir_ids.specs.Entries.{AllHold};
 ghost use Rattle.hir_plain.specs.Plain.{is_unit_ctor, is_tuple_ctor, is_unit_or_tuple, IsPlainCtor, is_item_path, is_item, is_item_at, is_plain_literal, IsPlainPath, IsPlainWritten, IsPlainStmt, ArePlainStmts, IsPlainExpr, is_plain_mode, is_plain_binding, IsPlainPathPat, IsPlainPat, IsPlainBody, HasSizedParams, HasPlainBody, IsPlainBodyOf};
-ghost use Rattle.hir_facts.specs.PlainBodies.{is_value, is_maybe_value, stmt_has_values, arm_has_values, has_callees, WrittenFits, StmtFits, LetsFit, LooksPlain};
+ghost use Rattle.hir_facts.specs.PlainBodies.{is_value, is_maybe_value, stmt_has_values, arm_has_values, has_callees, WrittenFits, LetFits, LetsFit, LooksPlain};
 
 use crate::facts::Facts;
 use hir_plain::has_sized_params;
@@ -93,9 +94,10 @@ fn is_plain_path(facts: &Facts, path: &RawPath) -> bool
     }
 }
 
-fn is_plain_written(facts: &Facts, _count: usize, written: Option<TypeRefId>) -> bool
-    requires { WrittenFits facts.now _count written }
-    ensures { IsTrue result ↔ IsPlainWritten facts.now _count written }
+fn is_plain_written(facts: &Facts, written: Option<TypeRefId>) -> bool
+    ghost count: { ℕ }
+    requires { WrittenFits facts.now count written }
+    ensures { IsTrue result ↔ IsPlainWritten facts.now count written }
 {
     match written {
         None => true,
@@ -103,8 +105,9 @@ fn is_plain_written(facts: &Facts, _count: usize, written: Option<TypeRefId>) ->
     }
 }
 
-fn is_plain_stmt(facts: &Facts, count: usize, stmt: &RawStmt) -> bool
-    requires { StmtFits facts.now count stmt.now }
+fn is_plain_stmt(facts: &Facts, stmt: &RawStmt) -> bool
+    ghost count: { ℕ }
+    requires { LetFits facts.now count stmt.now }
     ensures { IsTrue result ↔ IsPlainStmt facts.now count stmt.now }
 {
     match stmt {
@@ -112,24 +115,26 @@ fn is_plain_stmt(facts: &Facts, count: usize, stmt: &RawStmt) -> bool
             type_ref,
             else_branch,
             ..
-        } => else_branch.is_none() && is_plain_written(facts, count, *type_ref),
+        } => else_branch.is_none() && is_plain_written(facts, *type_ref),
         RawStmt::Expr { .. } => true,
     }
 }
 
-fn are_plain_stmts(facts: &Facts, count: usize, stmts: &[RawStmt]) -> bool
-    requires { AllHold (λ k s. StmtFits facts.now count s) stmts.now }
+fn are_plain_stmts(facts: &Facts, stmts: &[RawStmt]) -> bool
+    ghost count: { ℕ }
+    requires { AllHold (λ k s. LetFits facts.now count s) stmts.now }
     ensures { IsTrue result ↔ ArePlainStmts facts.now count stmts.now }
 {
     for stmt in stmts {
-        if !is_plain_stmt(facts, count, stmt) {
+        if !is_plain_stmt(facts, stmt) {
             return false;
         }
     }
     true
 }
 
-fn is_plain_expr(facts: &Facts, count: usize, expr: &RawExpr) -> bool
+fn is_plain_expr(facts: &Facts, expr: &RawExpr) -> bool
+    ghost count: { ℕ }
     requires { LetsFit facts.now count expr.now }
     ensures { IsTrue result ↔ IsPlainExpr facts.now count expr.now }
 {
@@ -140,19 +145,20 @@ fn is_plain_expr(facts: &Facts, count: usize, expr: &RawExpr) -> bool
             label,
             statements,
             tail: _,
-        } => label.is_none() && are_plain_stmts(facts, count, statements.as_slice()),
+        } => label.is_none() && are_plain_stmts(facts, statements.as_slice()),
         RawExpr::Tuple(_) | RawExpr::If { .. } | RawExpr::Call { .. } => true,
         RawExpr::Match { scrutinee: _, arms } => !arms.is_empty(),
         RawExpr::Other => false,
     }
 }
 
-fn are_plain_exprs(facts: &Facts, count: usize, exprs: &[RawExpr]) -> bool
+fn are_plain_exprs(facts: &Facts, exprs: &[RawExpr]) -> bool
+    ghost count: { ℕ }
     requires { AllHold (λ e x. LetsFit facts.now count x) exprs.now }
     ensures { IsTrue result ↔ AllHold (λ e x. IsPlainExpr facts.now count x) exprs.now }
 {
     for expr in exprs {
-        if !is_plain_expr(facts, count, expr) {
+        if !is_plain_expr(facts, expr) {
             return false;
         }
     }
@@ -222,8 +228,7 @@ fn is_item(raw: &RawFacts, expr: &RawExpr) -> bool
 {
     match expr {
         RawExpr::Path(path) => is_item_path(raw, path),
-        RawExpr::Lit(_) | RawExpr::Block { .. } | RawExpr::Tuple(_) | RawExpr::Other => false,
-        RawExpr::If { .. } | RawExpr::Match { .. } | RawExpr::Call { .. } => false,
+        _ => false,
     }
 }
 
@@ -325,37 +330,42 @@ fn have_callees(raw: &RawFacts, body: &RawBody) -> bool
         .all(|expr| has_callees(raw, body, expr))
 }
 
-fn looks_plain(facts: &Facts, count: usize, body: &RawBody) -> bool
+fn looks_plain(facts: &Facts, body: &RawBody) -> bool
+    ghost count: { ℕ }
     requires { AllHold (λ e x. LetsFit facts.now count x) body.now.exprs }
     ensures { IsTrue result ↔ LooksPlain facts.now count body.now }
 {
-    are_plain_exprs(facts, count, body.exprs.as_slice())
+    are_plain_exprs(facts, body.exprs.as_slice())
         && are_plain_pats(facts, body, body.pats.as_slice())
         && have_callees(facts.raw(), body)
         && is_value(facts.raw(), body, body.root)
 }
 
-/// Whether a body, that of this function, is plain.
-fn is_plain_body(facts: &Facts, function: FunctionId, body: &RawBody) -> bool
-    requires { body_of facts.now (fn_def function) ≡ Some body.now }
-    ensures { IsTrue result ↔ IsPlainBody facts.now (params_of facts.now (fn_def function)) body.now }
+/// Whether the body of a function is plain.
+fn is_plain_body(facts: &Facts, body: &RawBody) -> bool
+    ghost owner: { FunctionId }
+    requires { body_of facts.now (fn_def owner) ≡ Some body.now }
+    ensures { IsTrue result ↔ IsPlainBody facts.now (params_of facts.now (fn_def owner)) body.now }
 {
     facts.lawful();
-    let count = facts.param_count(DefWithBodyId::FunctionId(function));
-    looks_plain(facts, count, body)
+    looks_plain(facts, body)
 }
 
 /// Whether each type parameter of a function that is there has a size.
 fn is_sized_fn(facts: &Facts, function: FunctionId) -> bool
-    ensures { IsTrue result ↔ IsSomeAnd (slice_get facts.now.fns function.0) HasSizedParams }
+    ensures { IsTrue result ↔ IsSomeAnd (slice_get facts.now.fns function.0) (HasSizedParams facts.now) }
 {
     match facts.raw().fns.get(function.0 as usize) {
         None => false,
-        Some(function) => has_sized_params(function),
+        Some(function) => has_sized_params(facts.raw(), function),
     }
 }
 
+/// Whether a function has a plain body. `owner` is the function again, whose parameters the contracts
+/// of the calls below speak of.
 fn has_plain_body(facts: &Facts, function: FunctionId) -> bool
+    ghost owner: { FunctionId }
+    requires { owner ≡ function }
     ensures { IsTrue result ↔ HasPlainBody facts.now function }
 {
     facts.lawful();
@@ -363,7 +373,7 @@ fn has_plain_body(facts: &Facts, function: FunctionId) -> bool
         None => false,
         Some(body) => facts.is_plain_fn(function)
             && is_sized_fn(facts, function)
-            && is_plain_body(facts, function, facts.body(body)),
+            && is_plain_body(facts, facts.body(body)),
     }
 }
 

@@ -145,8 +145,6 @@ params_out b i (q ∷ ps) all zero p found = let e : q ≡ p = cc in rw (← e) 
 params_out b i (q ∷ ps) all (suc k) p found = params_out b (suc i) ps (in_tail b (pat_part (parameter i) q) (param_parts (suc i) ps) all) k p found
 
 expr_in : (raw : RawFacts) (b : RawBody) (x : RawExpr) → ExprIdsExist raw b x → AllIn b (expr_parts x)
-expr_in raw b (expr.Lit l) h = in_nil b
-expr_in raw b (expr.Path p) h = in_nil b
 expr_in raw b (expr.Block label stmts last) h = in_append b (stmts_parts stmts) (maybe_part tail last) (stmts_in raw b stmts h.0) (maybe_in b tail last h.1)
 expr_in raw b (expr.Tuple es) h = elements_in b element 0 es h
 expr_in raw b (expr.If c first other) h =
@@ -156,25 +154,19 @@ expr_in raw b (expr.Match e arms) h =
     in_cons b (expr_part scrutinee e) (arm_patterns e 0 arms ++ arms_parts 0 arms) h.0
     (in_append b (arm_patterns e 0 arms) (arms_parts 0 arms) (arm_patterns_in b e 0 arms h.1) (arms_in b 0 arms h.1))
 expr_in raw b (expr.Call f args) h = in_cons b (expr_part callee f) (exprs_from argument 0 args) h.0 (elements_in b argument 0 args h.1)
-expr_in raw b expr.Other h = in_nil b
+expr_in raw b _ h = in_nil b
 
 pat_in : (b : RawBody) (x : RawPat) → PatPartsExist b x → AllIn b (pat_parts x)
-pat_in b pat.Wild h = in_nil b
-pat_in b (pat.Bind v sub) h = in_nil b
 pat_in b (pat.Tuple ps) h = subpatterns_in b 0 ps h
 pat_in b (pat.TupleStruct v ps) h = subpatterns_in b 0 ps h
-pat_in b (pat.Path q) h = in_nil b
 pat_in b (pat.Lit e) h = in_cons b (expr_part pattern_literal e) [] h (in_nil b)
-pat_in b pat.Other h = in_nil b
+pat_in b _ h = in_nil b
 
 pat_out : (b : RawBody) (x : RawPat) → AllIn b (pat_parts x) → PatPartsExist b x
-pat_out b pat.Wild all = tt
-pat_out b (pat.Bind v sub) all = tt
 pat_out b (pat.Tuple ps) all = subpatterns_out b 0 ps all
 pat_out b (pat.TupleStruct v ps) all = subpatterns_out b 0 ps all
-pat_out b (pat.Path q) all = tt
 pat_out b (pat.Lit e) all = in_head b (expr_part pattern_literal e) [] all
-pat_out b pat.Other all = tt
+pat_out b _ all = tt
 
 -- what a path names and the written types of an expression exist
 record Rest (raw : RawFacts) (b : RawBody) (x : RawExpr) : Type 0 where
@@ -182,7 +174,6 @@ record Rest (raw : RawFacts) (b : RawBody) (x : RawExpr) : Type 0 where
   written : (k : ℕ) (s : RawStmt) → slice_get (stmts_of (Some x)) k ≡ Some s → MaybeTypeExists raw (written_of s)
 
 expr_out : (raw : RawFacts) (b : RawBody) (x : RawExpr) → Rest raw b x → AllIn b (expr_parts x) → ExprIdsExist raw b x
-expr_out raw b (expr.Lit l) rest all = tt
 expr_out raw b (expr.Path p) rest all = rest.local_ p refl
 expr_out raw b (expr.Block label stmts last) rest all = (stmts_out raw b stmts rest.written (in_left b (stmts_parts stmts) (maybe_part tail last) all), maybe_out b tail last (in_right b (stmts_parts stmts) (maybe_part tail last) all))
 expr_out raw b (expr.Tuple es) rest all = elements_out b element 0 es all
@@ -201,7 +192,7 @@ expr_out raw b (expr.Call f args) rest all = (
   in_head b (expr_part callee f) (exprs_from argument 0 args) all,
   elements_out b argument 0 args (in_tail b (expr_part callee f) (exprs_from argument 0 args) all),
 )
-expr_out raw b expr.Other rest all = tt
+expr_out raw b _ rest all = tt
 
 -- ---- a body
 
@@ -227,15 +218,8 @@ if_maybe b None h = tt
 if_maybe b (Some v) h = h
 
 written_at : (raw : RawFacts) (b : RawBody) (o : Option RawExpr) → ((x : RawExpr) → o ≡ Some x → ExprIdsExist raw b x) → (i : ℕ) (p : PatId) (t : TypeRefId) (init other : Option ExprId) → slice_get (stmts_of o) i ≡ Some (stmt.Let p (Some t) init other) → t.0 < length raw.types
-written_at raw b None h i p t init other found = cc
-written_at raw b (Some (expr.Lit l)) h i p t init other found = cc
-written_at raw b (Some (expr.Path q)) h i p t init other found = cc
 written_at raw b (Some (expr.Block label stmts last)) h i p t init other found = let s : StmtIdsExist raw b (stmt.Let p (Some t) init other) = (h (expr.Block label stmts last) refl).0 i (stmt.Let p (Some t) init other) found in s.1
-written_at raw b (Some (expr.Tuple es)) h i p t init other found = cc
-written_at raw b (Some (expr.If c first last)) h i p t init other found = cc
-written_at raw b (Some (expr.Match e arms)) h i p t init other found = cc
-written_at raw b (Some (expr.Call f args)) h i p t init other found = cc
-written_at raw b (Some expr.Other) h i p t init other found = cc
+written_at raw b _ h i p t init other found = cc
 
 pub exists_from_here : (raw : RawFacts) (i : ℕ) (b : RawBody) → BodyIdsHere raw b → HasOneOwner raw i → BodyIdsExist raw i b
 exists_from_here raw i b h one = record {

@@ -4,7 +4,7 @@ use Rattle.std.proofs.lemmas.List.{get_or_read_under}
 use Rattle.std.proofs.lemmas.Option.{slice_get_within}
 use Rattle.hir_ids.specs.declared.namers.Namers.{Namers}
 use Rattle.hir_ids.specs.declared.namers.Namers.TheVariants.{Nobody, One, Several}
-use Rattle.hir_ids.specs.Namers.{IsNamedBy, AreNamers, IsOne, IsNobody, NamedOnce, IsUnnamed}
+use Rattle.hir_ids.specs.Namers.{IsNamedBy, AreNamers, IsOne, NamedOnce}
 
 pub once_from_one : (targets : List (Option ℕ)) (t : ℕ) (x : Namers) → IsNamedBy targets (length targets) t x → IsOne x → NamedOnce targets t
 once_from_one targets t Nobody named one = absurd one
@@ -15,16 +15,6 @@ pub one_from_once : (targets : List (Option ℕ)) (t : ℕ) (x : Namers) → IsN
 one_from_once targets t Nobody named once = absurd (named once.entry (slice_get_within targets once.entry (Some t) once.names) once.names)
 one_from_once targets t (One k) named once = tt
 one_from_once targets t Several named once = absurd (named.4 (once.only named.0 named.2 ∙ sym (once.only named.1 named.3)))
-
-pub unnamed_from_nobody : (targets : List (Option ℕ)) (t : ℕ) (x : Namers) → IsNamedBy targets (length targets) t x → IsNobody x → IsUnnamed targets t
-unnamed_from_nobody targets t Nobody named none k h = named k (slice_get_within targets k (Some t) h) h
-unnamed_from_nobody targets t (One k) named none j h = none
-unnamed_from_nobody targets t Several named none k h = none
-
-pub nobody_from_unnamed : (targets : List (Option ℕ)) (t : ℕ) (x : Namers) → IsNamedBy targets (length targets) t x → IsUnnamed targets t → IsNobody x
-nobody_from_unnamed targets t Nobody named un = tt
-nobody_from_unnamed targets t (One k) named un = un k named.1
-nobody_from_unnamed targets t Several named un = un named.0 named.2
 
 -- who is found at place i
 pub named_at : (targets : List (Option ℕ)) (count : ℕ) (xs : List Namers) (i : ℕ) (x : Namers) → AreNamers targets (length targets) count xs → i < count → x ≡ get_or xs i x → IsNamedBy targets (length targets) i x

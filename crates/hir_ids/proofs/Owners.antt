@@ -1,14 +1,16 @@
--- Which definitions each body is that of, and which adts list each variant.
+-- Which definitions each body is that of, which adts list each variant, and which traits each associated type.
 use Rattle.std.proofs.Common.{get_or, Bool, true, false, ◌≡◌, ℕ, List, length, Some}
 use Rattle.std.specs.Prelude.{slice_get, IsTrue}
 use Rattle.std.proofs.lemmas.Option.{slice_get_within}
 use Rattle.hir_raw.specs.declared.raw.RawBody.{RawBody}
 use Rattle.hir_raw.specs.declared.raw.RawVariant.{RawVariant}
+use Rattle.hir_raw.specs.declared.raw.RawAlias.{RawAlias}
 use Rattle.hir_raw.specs.declared.raw.RawFacts.{RawFacts}
 use Rattle.hir_ids.specs.declared.namers.Namers.{Namers}
 use Rattle.hir_ids.specs.Namers.{IsNamedBy, IsOne}
 use Rattle.hir_ids.specs.InBody.{BodyIdsHere, AreOwners, AreListers}
 use Rattle.hir_ids.specs.Ids.{owned_bodies, BodyIdsExist, listed_variants, VariantIdsHere, VariantIdsExist}
+use Rattle.hir_ids.specs.GoalIds.{listed_aliases, AreAliasListers, AliasIdsHere, AliasIdsExist}
 use Rattle.hir_ids.proofs.InBodies.{exists_from_here, here_from_exists}
 use Rattle.hir_ids.proofs.Once.{once_from_one, one_from_once, named_at}
 
@@ -37,3 +39,16 @@ pub unlisted_says : (raw : RawFacts) (xs : List Namers) (i : ℕ) (v : RawVarian
     → (IsOne x → IsTrue told) → (IsTrue told → VariantIdsExist raw i v) × (VariantIdsExist raw i v → IsTrue told)
 unlisted_says raw xs i v x told listers found is was says =
     (λ h. absurd (let e : told ≡ true = h in cc), λ e. says (one_from_once (listed_variants raw.adts) i x (lister_at raw xs i v x listers found is) e.listed))
+
+alias_lister_at : (raw : RawFacts) (xs : List Namers) (i : ℕ) (a : RawAlias) (x : Namers) → AreAliasListers raw xs → slice_get raw.aliases i ≡ Some a → x ≡ get_or xs i x → IsNamedBy (listed_aliases raw.traits) (length (listed_aliases raw.traits)) i x
+alias_lister_at raw xs i a x listers found is = named_at (listed_aliases raw.traits) (length raw.aliases) xs i x listers (slice_get_within raw.aliases i a found) is
+
+pub alias_says : (raw : RawFacts) (xs : List Namers) (i : ℕ) (a : RawAlias) (x : Namers) (told : Bool) → AreAliasListers raw xs → slice_get raw.aliases i ≡ Some a → x ≡ get_or xs i x → IsOne x
+    → (IsTrue told → AliasIdsHere raw a) × (AliasIdsHere raw a → IsTrue told) → (IsTrue told → AliasIdsExist raw i a) × (AliasIdsExist raw i a → IsTrue told)
+alias_says raw xs i a x told listers found is one says =
+    (λ h. record { here = says.0 h; listed = once_from_one (listed_aliases raw.traits) i x (alias_lister_at raw xs i a x listers found is) one }, λ e. says.1 e.here)
+
+pub unlisted_alias_says : (raw : RawFacts) (xs : List Namers) (i : ℕ) (a : RawAlias) (x : Namers) (told : Bool) → AreAliasListers raw xs → slice_get raw.aliases i ≡ Some a → x ≡ get_or xs i x → told ≡ false
+    → (IsOne x → IsTrue told) → (IsTrue told → AliasIdsExist raw i a) × (AliasIdsExist raw i a → IsTrue told)
+unlisted_alias_says raw xs i a x told listers found is was says =
+    (λ h. absurd (let e : told ≡ true = h in cc), λ e. says (one_from_once (listed_aliases raw.traits) i x (alias_lister_at raw xs i a x listers found is) e.listed))

@@ -1,5 +1,5 @@
 -- Each entry and part is of a kind that is carried.
-use Rattle.std.specs.Prelude.{Bool, true, false, ◌&&◌, List, [], ◌∷◌, is_none, not}
+use Rattle.std.specs.Prelude.{Bool, true, false, ◌&&◌, List, [], ◌∷◌, Option, Some, None, is_none, not}
 use Rattle.std.specs.List.{list_all}
 use Rattle.hir_raw.specs.declared.raw.RawType.{RawType}
 use Rattle.hir_raw.specs.declared.raw.RawType.TheVariants as type
@@ -8,6 +8,16 @@ use Rattle.hir_raw.specs.declared.raw.RawParam.TheVariants as param
 use Rattle.hir_raw.specs.declared.raw.RawAdtKind.{RawAdtKind}
 use Rattle.hir_raw.specs.declared.raw.RawAdtKind.TheVariants as kind
 use Rattle.hir_raw.specs.declared.raw.RawAdt.{RawAdt}
+use Rattle.hir_raw.specs.declared.raw.RawArgs.{RawArgs}
+use Rattle.hir_raw.specs.declared.raw.RawArgs.TheVariants as args
+use Rattle.hir_raw.specs.declared.raw.RawTraitRef.{RawTraitRef}
+use Rattle.hir_raw.specs.declared.raw.RawGoal.{RawGoal}
+use Rattle.hir_raw.specs.declared.raw.RawGoal.TheVariants as goal
+use Rattle.hir_raw.specs.declared.raw.RawTrait.{RawTrait}
+use Rattle.hir_raw.specs.declared.raw.RawAlias.{RawAlias}
+use Rattle.hir_raw.specs.declared.raw.RawImpl.{RawImpl}
+use Rattle.hir_raw.specs.declared.raw.RawLang.{RawLang}
+use Rattle.hir_raw.specs.declared.raw.RawLang.TheVariants as lang
 use Rattle.hir_raw.specs.declared.raw.RawCtor.{RawCtor}
 use Rattle.hir_raw.specs.declared.raw.RawCtor.TheVariants as ctor
 use Rattle.hir_raw.specs.declared.raw.RawVariant.{RawVariant}
@@ -29,15 +39,15 @@ use Rattle.hir_raw.specs.declared.raw.BindingAnnotation.{BindingAnnotation}
 use Rattle.hir_raw.specs.declared.raw.BindingAnnotation.TheVariants as mode
 use Rattle.hir_raw.specs.declared.raw.RawBody.{RawBody}
 
-abbrev pub is_carried_type : RawType → Bool
-is_carried_type type.Bool = true
-is_carried_type type.Char = true
-is_carried_type (type.Integer i) = true
-is_carried_type (type.Tuple ts) = true
-is_carried_type (type.Adt a ts) = true
-is_carried_type (type.Param n) = true
-is_carried_type type.Hole = true
-is_carried_type type.Other = false
+abbrev pub is_carried_written_type : RawType → Bool
+is_carried_written_type type.Bool = true
+is_carried_written_type type.Char = true
+is_carried_written_type (type.Integer i) = true
+is_carried_written_type (type.Tuple ts) = true
+is_carried_written_type (type.Adt a ts) = true
+is_carried_written_type (type.Param n) = true
+is_carried_written_type type.Hole = true
+is_carried_written_type type.Other = false
 
 abbrev pub is_empty : {A : Type 0} → List A → Bool
 is_empty [] = true
@@ -48,15 +58,25 @@ abbrev pub is_type_param : RawParam → Bool
 is_type_param param.Type = true
 is_type_param param.Other = false
 
+-- arguments are types
+abbrev pub is_carried_args : RawArgs → Bool
+is_carried_args (args.Types ts) = true
+is_carried_args args.Other = false
+
+abbrev pub is_carried_goal : RawGoal → Bool
+is_carried_goal (goal.Trait r) = is_carried_args r.args
+is_carried_goal (goal.Projection a xs t) = is_carried_args xs
+
 abbrev pub is_carried_kind : RawAdtKind → Bool
 is_carried_kind kind.Struct = true
 is_carried_kind kind.Enum = true
 is_carried_kind kind.Union = false
 
--- a struct or enum whose parameters are types, without predicates, of which none may lose its size
+-- a struct or enum whose parameters are types, of which none may lose its size
 abbrev pub is_carried_adt : RawAdt → Bool
 is_carried_adt a =
-    is_carried_kind a.kind && (list_all is_type_param a.params && (is_empty a.preds && is_none a.unsize))
+    is_carried_kind a.kind && (list_all is_type_param a.params
+    && (list_all is_carried_goal a.preds && is_none a.unsize))
 
 abbrev pub is_carried_ctor : RawCtor → Bool
 is_carried_ctor ctor.Unit = true
@@ -71,10 +91,38 @@ abbrev pub is_in_module : RawAt → Bool
 is_in_module (stands.Module m) = true
 is_in_module stands.Other = false
 
--- a function of a module whose parameters are types, without predicates and `self`
+-- a function of a module whose parameters are types, without `self`
 abbrev pub is_carried_fn : RawFn → Bool
 is_carried_fn f =
-    is_in_module f.«at» && (list_all is_type_param f.params && (is_empty f.preds && not f.has_self))
+    is_in_module f.«at» && (list_all is_type_param f.params
+    && (list_all is_carried_goal f.preds && not f.has_self))
+
+-- a trait whose parameters are types, with associated types alone
+abbrev pub is_carried_trait : RawTrait → Bool
+is_carried_trait t =
+    list_all is_type_param t.params
+    && (list_all is_carried_goal t.preds && (is_empty t.fns && is_empty t.consts))
+
+abbrev pub is_carried_alias : RawAlias → Bool
+is_carried_alias a = list_all is_carried_goal a.bounds
+
+-- the arguments of the trait that is implemented, if any, are types
+abbrev pub has_carried_trait : Option RawTraitRef → Bool
+has_carried_trait None = true
+has_carried_trait (Some r) = is_carried_args r.args
+
+-- an impl whose parameters are types, with associated types alone
+abbrev pub is_carried_impl : RawImpl → Bool
+is_carried_impl p =
+    has_carried_trait p.trait_ && (list_all is_type_param p.params
+    && (list_all is_carried_goal p.preds && (is_empty p.fns && is_empty p.consts)))
+
+-- one of `sized`, `copy` and `clone`
+abbrev pub is_carried_lang : RawLang → Bool
+is_carried_lang (lang.Sized t) = true
+is_carried_lang (lang.Copy t) = true
+is_carried_lang (lang.Clone t) = true
+is_carried_lang lang.Other = false
 
 -- a truth value, a character, or an integer with a suffix or without
 abbrev pub is_carried_literal : RawLiteral → Bool
@@ -131,4 +179,5 @@ is_carried_binding v = is_carried_mode v.mode
 -- its nodes and bindings are, and it has no `self`
 abbrev pub is_carried_body : RawBody → Bool
 is_carried_body b =
-    list_all is_carried_expr b.exprs && (list_all is_carried_pat b.pats && (list_all is_carried_binding b.bindings && is_none b.self_))
+    list_all is_carried_expr b.exprs
+    && (list_all is_carried_pat b.pats && (list_all is_carried_binding b.bindings && is_none b.self_))

@@ -27,12 +27,13 @@ use Rattle.hir_raw.specs.declared.raw.RawExpr.TheVariants as expr
 use Rattle.hir_raw.specs.declared.raw.RawBody.{RawBody}
 use Rattle.hir_raw.specs.declared.raw.RawFacts.{RawFacts}
 use Rattle.hir_raw.specs.Order.{PartsFit, Binds, stmt_at}
-use Rattle.hir_raw.specs.Types.{type_parts}
+use Rattle.hir_raw.specs.WrittenTypes.{type_parts}
 use Rattle.hir_ids.specs.Namers.{NamedOnce}
+use Rattle.hir_ids.specs.GoalIds.{GoalsExist}
 
 -- the parts of a type come before it
 abbrev pub ChildrenBefore : ℕ → RawType → Type 0
-ChildrenBefore i x = (k : ℕ) (t : TypeRefId) → slice_get (type_parts x) k ≡ Some t → t.0 < i
+ChildrenBefore i x = (k : ℕ) (w : TypeRefId) → slice_get (type_parts x) k ≡ Some w → w.0 < i
 
 -- the adt that a type names is in range
 abbrev pub AdtExists : RawFacts → RawType → Type 0
@@ -65,9 +66,10 @@ VisExists raw (vis.Module m) = m.0 < length raw.modules
 abbrev pub IsVariantOf : RawFacts → ℕ → VariantId → Type 0
 IsVariantOf raw i v = (x : RawVariant) × (slice_get raw.variants v.0 ≡ Some x) × (x.adt.0 ≡ i)
 
--- the variants of an adt are in range, and agree that they are its variants
+-- the variants of an adt are in range, and agree that they are its variants; what it asks for names what exists
 pub record AdtIdsExist (raw : RawFacts) (i : ℕ) (a : RawAdt) : Type 0 where
   pub variants : (k : ℕ) (v : VariantId) → slice_get a.variants k ≡ Some v → IsVariantOf raw i v
+  pub preds : GoalsExist raw a.preds
 
 -- the variants that adts list, one adt after another
 abbrev pub adt_variants : RawAdt → List (Option ℕ)
@@ -77,7 +79,7 @@ abbrev pub listed_variants : List RawAdt → List (Option ℕ)
 listed_variants adts = flat_map adt_variants adts
 
 pub record FieldIdsExist (raw : RawFacts) (f : RawField) : Type 0 where
-  pub written : f.ty.0 < length raw.types
+  pub written : f.type_.0 < length raw.types
   pub vis : VisExists raw f.vis
 
 pub record VariantIdsHere (raw : RawFacts) (v : RawVariant) : Type 0 where
@@ -101,7 +103,8 @@ IsModuleFn raw f = (x : RawFn) × (slice_get raw.fns f.0 ≡ Some x) × IsInModu
 
 pub record FnIdsExist (raw : RawFacts) (f : RawFn) : Type 0 where
   pub stands : PlaceExists raw f.«at»
-  pub inputs : (k : ℕ) (t : TypeRefId) → slice_get f.inputs k ≡ Some t → t.0 < length raw.types
+  pub preds : GoalsExist raw f.preds
+  pub inputs : (k : ℕ) (w : TypeRefId) → slice_get f.inputs k ≡ Some w → w.0 < length raw.types
   pub output : f.output.0 < length raw.types
   pub vis : VisExists raw f.vis
   pub body : IfSome f.body (λ b. b.0 < length raw.bodies)

@@ -4,3 +4,5 @@ pub mod Ids
 pub mod Namers
 pub mod InBody
 pub mod Lowered
+pub mod Owed
+pub mod GoalIds

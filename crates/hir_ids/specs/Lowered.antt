@@ -8,7 +8,7 @@ use Rattle.hir_raw.specs.declared.raw.RawType.TheVariants as type
 use Rattle.hir_types.specs.declared.ty.Ty.{Ty}
 use Rattle.hir_types.specs.declared.ty.Ty.TheVariants as ty
 use Rattle.hir_types.specs.declared.ty.GenericArg.TheVariants as arg
-use Rattle.hir_raw.specs.Types.{type_parts, filled_by, filled_within, filled, lowered_by, lowered}
+use Rattle.hir_raw.specs.WrittenTypes.{type_parts, filled_by, filled_within, filled, lowered_by, lowered}
 use Rattle.hir_ids.specs.Entries.{AllHold}
 use Rattle.hir_ids.specs.Ids.{ChildrenBefore}
 

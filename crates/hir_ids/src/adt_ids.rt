@@ -5,6 +5,7 @@ ghost use Rattle.hir_raw.specs.declared.raw.RawField.{RawField};
 ghost use Rattle.hir_ids.specs.InBody.{AreListers};
 ghost use Rattle.hir_ids.specs.Ids.{IsVariantOf, AdtIdsExist, listed_variants, FieldIdsExist, VariantIdsHere, VariantIdsExist};
 
+use crate::goal_ids::have_goal_ids;
 use crate::ids::has_vis;
 use crate::namers::{Namers, is_one, namers_of};
 use crate::test::Test;
@@ -29,7 +30,7 @@ fn are_variants_of(raw: &RawFacts, at: usize, variants: &[VariantId]) -> bool
         .all(|variant| is_variant_of(raw, at, *variant))
 }
 
-/// The variants of an adt exist, and say that they are its.
+/// The variants of an adt exist, and say that they are its; what it asks for names what exists.
 pub struct AdtIds;
 
 impl Test for AdtIds {
@@ -48,7 +49,10 @@ impl Test for AdtIds {
         at: usize,
         item: &RawAdt,
     ) -> Result<bool, AllocError> {
-        Ok(are_variants_of(raw, at, item.variants.as_slice()))
+        Ok(
+            are_variants_of(raw, at, item.variants.as_slice())
+                && have_goal_ids(raw, item.preds.as_slice()),
+        )
     }
 }
 
@@ -74,7 +78,7 @@ fn listed_variants(alloc: Global, adts: &[RawAdt]) -> Result<Vec<Option<usize>>,
 fn has_field_ids(raw: &RawFacts, field: &RawField) -> bool
     ensures { IsTrue result ↔ FieldIdsExist raw.now field.now }
 {
-    (field.ty.0 as usize) < raw.types.len() && has_vis(raw, &field.vis)
+    (field.type_.0 as usize) < raw.types.len() && has_vis(raw, &field.vis)
 }
 
 fn have_field_ids(raw: &RawFacts, fields: &[RawField]) -> bool

@@ -167,8 +167,7 @@ pub fn binding_of(pat: &RawPat) -> Option<BindingId>
 {
     match pat {
         RawPat::Bind { id, subpat: _ } => Some(*id),
-        RawPat::Wild | RawPat::Tuple(_) | RawPat::TupleStruct { .. } => None,
-        RawPat::Path(_) | RawPat::Lit(_) | RawPat::Other => None,
+        _ => None,
     }
 }
 

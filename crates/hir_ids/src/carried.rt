@@ -2,8 +2,11 @@
 ghost use Rattle.std.specs.Prelude.{◌≡◌, IsTrue, MatchOption};
 ghost use Rattle.std.specs.List.{list_all};
 ghost use Rattle.hir_ids.specs.Entries.{AllHold, BreaksAt};
-ghost use Rattle.hir_ids.specs.Carried.{is_carried_type, is_type_param, is_carried_kind, is_carried_adt, is_carried_ctor, is_carried_variant, is_carried_fn, is_carried_literal, is_carried_path, is_ctor_path, is_carried_stmt, is_carried_expr, is_carried_pat, is_carried_binding, is_carried_body};
+ghost use Rattle.hir_ids.specs.Carried.{is_carried_written_type, is_type_param, is_carried_kind, is_carried_adt, is_carried_ctor, is_carried_variant, is_carried_fn, is_carried_literal, is_carried_path, is_ctor_path, is_carried_stmt, is_carried_expr, is_carried_pat, is_carried_binding, is_carried_body};
+ghost use Rattle.hir_ids.specs.Owed.{BodyIsCarried};
 
+use crate::carried_goals::carries_goals;
+use crate::owed::body_owes_nothing;
 use crate::test::Test;
 use hir_raw::{
     BindingAnnotation, RawAdt, RawAdtKind, RawAt, RawBinding, RawBody, RawCtor, RawExpr, RawFacts,
@@ -20,7 +23,7 @@ pub fn first_other<T>(items: &[T]) -> Option<usize>
 }
 
 fn carries_type(ty: &RawType) -> bool
-    ensures { result ≡ is_carried_type ty.now }
+    ensures { result ≡ is_carried_written_type ty.now }
 {
     match ty {
         RawType::Bool | RawType::Char | RawType::Integer(_) | RawType::Tuple(_) => true,
@@ -58,7 +61,7 @@ fn carries_adt(adt: &RawAdt) -> bool
 {
     carries_kind(adt.kind)
         && are_type_params(adt.params.as_slice())
-        && adt.preds.is_empty()
+        && carries_goals(adt.preds.as_slice())
         && adt.unsize.is_none()
 }
 
@@ -82,7 +85,7 @@ fn carries_fn(function: &RawFn) -> bool
 {
     matches!(function.at, RawAt::Module(_))
         && are_type_params(function.params.as_slice())
-        && function.preds.is_empty()
+        && carries_goals(function.preds.as_slice())
         && !function.has_self
 }
 
@@ -204,7 +207,7 @@ impl Test for TypesCarried {
 
     ghost listed = { λ raw. raw.types };
 
-    ghost holds = { λ raw i t. IsTrue (is_carried_type t) };
+    ghost holds = { λ raw i t. IsTrue (is_carried_written_type t) };
 
     ghost given = { λ raw s. Unit {0} };
 
@@ -288,7 +291,8 @@ impl Test for FnsCarried {
     }
 }
 
-/// The nodes and bindings of a body are of carried kinds, and it has no `self`.
+/// The nodes and bindings of a body are of carried kinds, it has no `self`, and names no item with
+/// predicates.
 pub struct BodiesCarried;
 
 impl Test for BodiesCarried {
@@ -296,17 +300,17 @@ impl Test for BodiesCarried {
 
     ghost listed = { λ raw. raw.bodies };
 
-    ghost holds = { λ raw i b. IsTrue (is_carried_body b) };
+    ghost holds = { λ raw i b. BodyIsCarried raw b };
 
     ghost given = { λ raw s. Unit {0} };
 
     fn test(
         &self,
         _alloc: Global,
-        _raw: &RawFacts,
+        raw: &RawFacts,
         _at: usize,
         item: &RawBody,
     ) -> Result<bool, AllocError> {
-        Ok(carries_body(item))
+        Ok(carries_body(item) && body_owes_nothing(raw, item))
     }
 }

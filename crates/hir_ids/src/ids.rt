@@ -3,12 +3,13 @@ ghost use Rattle.std.specs.Prelude.{◌≡◌, ◌↔◌, ◌<◌, ℕ, Some, No
 ghost use Rattle.hir_types.specs.declared.ids.TypeRefId.{TypeRefId};
 ghost use Rattle.hir_ids.specs.Ids.{ChildrenBefore, AdtExists, TypeIdsExist, ParentBefore, PlaceExists, VisExists, FnIdsExist};
 
+use crate::goal_ids::have_goal_ids;
 use crate::test::Test;
 use hir_raw::{RawAt, RawFacts, RawFn, RawType, RawVis};
 use hir_types::{ModuleId, TypeRefId};
 use std::alloc::{AllocError, Global};
 
-fn are_below(types: &[TypeRefId], bound: usize) -> bool
+pub fn are_below(types: &[TypeRefId], bound: usize) -> bool
     ensures { IsTrue result ↔ ((k : ℕ) (t : TypeRefId) → slice_get types.now k ≡ Some t → t.0 < bound) }
 {
     types.iter().all(|t| (t.0 as usize) < bound)
@@ -70,6 +71,7 @@ fn has_fn_ids(raw: &RawFacts, function: &RawFn) -> bool
     ensures { IsTrue result ↔ FnIdsExist raw.now function.now }
 {
     has_place(raw, &function.at)
+        && have_goal_ids(raw, function.preds.as_slice())
         && are_below(function.inputs.as_slice(), raw.types.len())
         && (function.output.0 as usize) < raw.types.len()
         && has_vis(raw, &function.vis)

@@ -5,8 +5,11 @@
 mod adt_ids;
 mod body_ids;
 mod carried;
+mod carried_goals;
+mod goal_ids;
 mod ids;
 mod namers;
+mod owed;
 mod test;
 
 pub use adt_ids::{AdtIds, VariantIds};
@@ -15,6 +18,8 @@ pub use carried::{
     AdtsCarried, BodiesCarried, FnsCarried, TypesCarried, VariantsCarried, are_type_params,
     first_other,
 };
+pub use carried_goals::{AliasesCarried, ImplsCarried, LangCarried, TraitsCarried, carries_goals};
+pub use goal_ids::{AliasIds, ImplIds, LangIds, TraitIds, have_goal_ids};
 pub use ids::{FnIds, ModuleIds, TypeIds};
 pub use namers::{Namers, is_nobody, is_one, namers_of};
 pub use test::{Test, first_broken};

@@ -116,6 +116,3 @@ told_tree b told xs names tree says = (λ h. record { tree = tree; bound = bound
 pub tree_says : (b : RawBody) (o : Option Schedule) (told : Bool) → MatchOption o (IsTree b → ⊥) (λ s. IsSchedule b s × AreDepths b s) → told ≡ is_some o → (IsTrue told → IsTree b) × (IsTree b → IsTrue told)
 tree_says b None told h is = (λ t. cc, λ tree. absurd (h tree))
 tree_says b (Some s) told h is = (λ t. tree_of_schedule b s h.0, λ tree. is)
-
-pub no_tree : (b : RawBody) (told : Bool) → told ≡ false → (IsTree b → IsTrue told) → (IsTrue false → IsWellFormed b) × (IsWellFormed b → IsTrue false)
-no_tree b told was says = (λ h. cc, λ w. (let t : told ≡ true = says w.tree in cc))

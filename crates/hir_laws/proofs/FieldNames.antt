@@ -1,12 +1,9 @@
 -- The names of fields, one after another.
-use Rattle.std.proofs.Common.{◌≡◌, ◌<◌, ◌^◌, ℕ, zero, suc, List, [], ◌∷◌, length, take, Some, refl, sym, ◌∙◌, arith, inl, inr}
+use Rattle.std.proofs.Common.{◌≡◌, ◌<◌, ◌^◌, ℕ, zero, suc, List, [], ◌∷◌, length, take, Some, refl, sym, ◌∙◌, arith}
 use Rattle.std.specs.Prelude.{slice_get}
 use Rattle.std.specs.Fmt.{decimal}
 use Rattle.std.proofs.lemmas.Fmt.{decimal_injective}
-use Rattle.std.proofs.lemmas.Bool.{cases_lt}
 use Rattle.std.proofs.lemmas.Option.{slice_get_within}
-use Rattle.std.proofs.Math.Nat.{eq-or-lt_of_le}
-use Rattle.hir_raw.specs.declared.raw.RawCtor.TheVariants as ctor
 use Rattle.hir_raw.specs.declared.raw.RawField.{RawField}
 use Rattle.hir_raw.specs.declared.raw.RawVariant.{RawVariant}
 use Rattle.hir_ids.specs.Entries.{AllHold}
@@ -30,19 +27,3 @@ numbered_fits v small all = record {
       decimal_injective i j (omega (arith, small)) (omega (arith, small)) (sym (all i f at_i) ∙ (same ∙ all j g at_j)));
   numbered = λ is i f found. all i f found;
 }
-
-pub distinct_fits : (v : RawVariant) → (v.ctor ≡ ctor.Tuple → ⊥) → AllHold (IsNew v.fields) v.fields → NamesFit v
-distinct_fits v other all = record {
-  distinct = λ i j f g at_i at_j same.
-      elim (cases_lt i j) [
-        | inl lt ↦ absurd (all j g at_j i f lt at_i same)
-        | inr ge ↦ elim (eq-or-lt_of_le {n = j} {m = i} ge) [
-          | inl e ↦ sym e
-          | inr lt ↦ absurd (all i f at_i j g lt at_j (sym same))
-        ]
-      ];
-  numbered = λ is. absurd (other is);
-}
-
-pub new_from_fits : (v : RawVariant) → NamesFit v → AllHold (IsNew v.fields) v.fields
-new_from_fits v fit i f at_i j g lt at_j same = (let e : j ≡ i = fit.distinct j i g f at_j at_i same in omega (arith, e))

@@ -7,3 +7,4 @@ pub mod PatternLiterals
 pub mod Binding
 pub mod Scoping
 pub mod Allowed
+pub mod LateLaws

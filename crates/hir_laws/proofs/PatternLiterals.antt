@@ -1,5 +1,5 @@
 -- Literals that patterns are.
-use Rattle.std.proofs.Common.{◌≡◌, ℕ, List, length, get_or, map, Option, Some, None, sym, ◌∙◌, ap, inl, inr}
+use Rattle.std.proofs.Common.{◌≡◌, ℕ, List, length, get_or, map, Option, Some, sym, ◌∙◌, ap, inl, inr}
 use Rattle.std.specs.Prelude.{slice_get, option_map}
 use Rattle.std.proofs.lemmas.Option.{slice_get_within, slice_get-map}
 use Rattle.hir_types.specs.declared.ids.ExprId.{ExprId}
@@ -16,14 +16,8 @@ use Rattle.hir_laws.specs.Literals.{IsPatternOf, LiteralsFit}
 use Rattle.hir_laws.specs.InBits.{literal_of, ArePatterns, IsSomeones, ExprIsInBits, PatIsLiteral}
 
 place_at : (o : Option RawPat) (t : ℕ) → option_map literal_of o ≡ Some (Some t) → o ≡ Some (pat.Lit (record { 0 = t }))
-place_at None t h = cc
-place_at (Some pat.Wild) t h = cc
-place_at (Some (pat.Bind v sub)) t h = cc
-place_at (Some (pat.Tuple ps)) t h = cc
-place_at (Some (pat.TupleStruct v ps)) t h = cc
-place_at (Some (pat.Path q)) t h = cc
 place_at (Some (pat.Lit e)) t h = let q : e.0 ≡ t = cc in ap (λ (n : ℕ). Some (pat.Lit (record { 0 = n }))) q
-place_at (Some pat.Other) t h = cc
+place_at _ t h = cc
 
 pattern_from_named : (b : RawBody) (p : ℕ) (e : ExprId) → IsNamedAt (map literal_of b.pats) e.0 p → IsPatternOf b p e
 pattern_from_named b p e h = place_at (slice_get b.pats p) e.0 (sym (slice_get-map literal_of b.pats p) ∙ h)
@@ -58,19 +52,8 @@ module _ (b : RawBody) (xs : List Namers) (names : ArePatterns b xs) where
         | inl plain ↦ inl plain
         | inr h ↦ inr (pattern_someones b (record { 0 = e }) (get_or xs e Nobody) (names.each e (slice_get_within b.exprs e (expr.Lit l) found)) h.0.0 h.0.1, h.1)
       ]
-  bits_from fit e (expr.Path p) found = tt
-  bits_from fit e (expr.Block label stmts last) found = tt
-  bits_from fit e (expr.Tuple es) found = tt
-  bits_from fit e (expr.If c first other) found = tt
-  bits_from fit e (expr.Match d arms) found = tt
-  bits_from fit e (expr.Call f args) found = tt
-  bits_from fit e expr.Other found = tt
+  bits_from fit e _ found = tt
 
   pub literals_from : LiteralsFit b → (p : ℕ) (x : RawPat) → slice_get b.pats p ≡ Some x → PatIsLiteral b x
-  literals_from fit p pat.Wild found = tt
-  literals_from fit p (pat.Bind v sub) found = tt
-  literals_from fit p (pat.Tuple ps) found = tt
-  literals_from fit p (pat.TupleStruct v ps) found = tt
-  literals_from fit p (pat.Path q) found = tt
   literals_from fit p (pat.Lit e) found = fit.under p e found
-  literals_from fit p pat.Other found = tt
+  literals_from fit p _ found = tt

@@ -3,8 +3,7 @@ use Rattle.std.proofs.Common.{◌≡◌, ◌⊎◌, ◌<◌, ◌+◌, ℕ, List,
 use Rattle.std.specs.Prelude.{slice_get, IsTrue}
 use Rattle.std.proofs.Math.Nat.{eq-or-lt_of_le}
 use Rattle.std.proofs.lemmas.Option.{slice_get_within, slice_get-get_or, get_or_from_slice_get, slice_get_read}
-use Rattle.std.proofs.lemmas.Bool.{ltb-true, lt-ltb, cases_lt}
-use Rattle.std.proofs.Math.ListN.{get_or-eq_default}
+use Rattle.std.proofs.lemmas.Bool.{ltb-true, lt-ltb}
 use Rattle.std.proofs.lemmas.List.{get_or_push, get_or_append_left}
 use Rattle.hir_types.specs.declared.ids.BindingId.{BindingId}
 use Rattle.hir_types.specs.declared.ids.ExprId.{ExprId}
@@ -20,7 +19,7 @@ use Rattle.hir_raw.specs.Order.{IsSchedule, AreDepths, IsLow, Binds, start, inne
 use Rattle.hir_raw.proofs.Ways.{schedule_unique}
 use Rattle.hir_ids.specs.Namers.{IsNamedBy}
 use Rattle.hir_ids.specs.InBody.{LocalsExist}
-use Rattle.hir_laws.specs.Binders.{bound_binding, AreBinders, IsWithin, HasTypedLocal, is_self, comes_before, is_typed_before}
+use Rattle.hir_laws.specs.Binders.{bound_binding, AreBinders, HasTypedLocal, is_self, comes_before, is_typed_before}
 use Rattle.hir_laws.specs.Trees.{BoundBySelf, BoundByPattern, IsWellFormed}
 use Rattle.hir_laws.specs.Scopes.{IsTypedBefore, AreInScope, ScopesHold}
 use Rattle.hir_laws.proofs.Binding.{binds_from_named, named_from_binds, pat_within, self_from, is_self_from}
@@ -31,9 +30,6 @@ use Rattle.hir_laws.specs.Scheduled.{AreSchedules}
 pub record ScheduledSoFar (bodies : List RawBody) (n : ℕ) (schedules : List Schedule) : Type 0 where
   pub size : length schedules ≡ n
   pub each : (i : ℕ) (b : RawBody) (s : Schedule) → slice_get bodies i ≡ Some b → slice_get schedules i ≡ Some s → IsSchedule b s × AreDepths b s
-
-pub scheduled_none : (bodies : List RawBody) (schedules : List Schedule) → schedules ≡ [] → ScheduledSoFar bodies 0 schedules
-scheduled_none bodies schedules e = record { size = ap length e; each = λ i b s at_b at_s. (let q : slice_get {X = Schedule} [] i ≡ Some s = rw e at at_s in cc) }
 
 pub scheduled_more : (bodies : List RawBody) (n : ℕ) (old new : List Schedule) (b : RawBody) (s : Schedule) → ScheduledSoFar bodies n old → slice_get bodies n ≡ Some b → new ≡ old ++ s ∷ [] → IsSchedule b s × AreDepths b s → ScheduledSoFar bodies (n + 1) new
 scheduled_more bodies n old new b s h found e law =
@@ -54,9 +50,6 @@ scheduled_more bodies n old new b s h found e law =
             | inr l ↦ h.each i c t at_c (let before : i < length old = omega arith in slice_get-get_or old i t before ∙ ap (λ (x : Schedule). Some x) (sym (get_or_append_left old (s ∷ []) t i before) ∙ get_or_from_slice_get (old ++ s ∷ []) i t t at_u))
           ];
     }
-
-pub scheduled_all : (bodies : List RawBody) (n : ℕ) (schedules : List Schedule) → ScheduledSoFar bodies n schedules → n ≡ length bodies → AreSchedules bodies schedules
-scheduled_all bodies n schedules h e = record { size = h.size ∙ e; each = h.each }
 
 -- ---- locals
 
@@ -98,32 +91,12 @@ module _ (b : RawBody) (s : Schedule) where
   typed_from_scope : (xs : List Namers) → AreBinders b xs → LocalsExist b → IsWellFormed b → AreInScope b s → AllHold (HasTypedLocal b s.starts xs) b.exprs
   typed_from_scope xs names exist well scope e (expr.Path (path.Local v)) found =
       typed_told (record { 0 = e }) v (get_or xs v.0 Nobody) (names.each v.0 (exist e v found)) (well.bound v (exist e v found)) (scope (record { 0 = e }) v found)
-  typed_from_scope xs names exist well scope e (expr.Path (path.Function f)) found = tt
-  typed_from_scope xs names exist well scope e (expr.Path (path.Ctor v)) found = tt
-  typed_from_scope xs names exist well scope e (expr.Path path.Other) found = tt
-  typed_from_scope xs names exist well scope e (expr.Lit l) found = tt
-  typed_from_scope xs names exist well scope e (expr.Block label stmts last) found = tt
-  typed_from_scope xs names exist well scope e (expr.Tuple es) found = tt
-  typed_from_scope xs names exist well scope e (expr.If c first other) found = tt
-  typed_from_scope xs names exist well scope e (expr.Match d arms) found = tt
-  typed_from_scope xs names exist well scope e (expr.Call f args) found = tt
-  typed_from_scope xs names exist well scope e expr.Other found = tt
+  typed_from_scope xs names exist well scope e _ found = tt
 
   pub scope_says : (xs : List Namers) (starts : List ℕ) (told : Bool) → starts ≡ s.starts → AreBinders b xs → LocalsExist b → IsWellFormed b → (IsTrue told → AllHold (HasTypedLocal b starts xs) b.exprs) × (AllHold (HasTypedLocal b starts xs) b.exprs → IsTrue told)
       → (IsTrue told → AreInScope b s) × (AreInScope b s → IsTrue told)
   scope_says xs starts told e names exist well says =
       (λ h. scope_from_typed xs names exist (let all : AllHold (HasTypedLocal b starts xs) b.exprs = says.0 h in rw e at all), λ scope. says.1 (rw e (typed_from_scope xs names exist well scope)))
-
-pub binders_within : (b : RawBody) (xs : List Namers) → AreBinders b xs → (w : ℕ) → IsWithin (length b.pats) (get_or xs w Nobody)
-binders_within b xs names w = elim (cases_lt w (length b.bindings)) [
-  | inl lt ↦ within_named b w (get_or xs w Nobody) (names.each w lt)
-  | inr le ↦ rw (get_or-eq_default xs Nobody {n = w} (rw names.size le)) tt
-]
-  where
-    within_named : (b : RawBody) (w : ℕ) (x : Namers) → IsNamedBy (map bound_binding b.pats) (length b.pats) w x → IsWithin (length b.pats) x
-    within_named b w Nobody named = tt
-    within_named b w (One k) named = named.0
-    within_named b w Several named = tt
 
 -- what holds for one numbering holds for each, since there is one
 scope_moves : (b : RawBody) (s t : Schedule) → IsSchedule b s → IsSchedule b t → AreInScope b s → AreInScope b t

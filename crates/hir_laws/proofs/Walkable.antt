@@ -1,9 +1,8 @@
 -- The bodies of lawful facts can be walked, and their functions have a written type for each parameter.
-use Rattle.std.specs.Prelude.{◌≡◌, ◌<◌, ◌+◌, ℕ, [], length, slice_get, Option, Some, None, IsTrue, refl}
+use Rattle.std.specs.Prelude.{◌≡◌, ◌+◌, ℕ, length, slice_get, Option, Some, None, IsTrue, refl}
 use Rattle.std.specs.Option.{option_and_then}
 use Rattle.std.proofs.Common.{ap, arith, inl, inr}
 use Rattle.hir_types.specs.declared.ids.BodyId.{BodyId}
-use Rattle.hir_types.specs.declared.ids.TypeRefId.{TypeRefId}
 use Rattle.hir_types.specs.declared.ids.DefWithBodyId.{DefWithBodyId}
 use Rattle.hir_types.specs.declared.ids.DefWithBodyId.TheVariants as def
 use Rattle.hir_raw.specs.declared.raw.RawFn.{RawFn}
@@ -18,7 +17,7 @@ use Rattle.hir_ids.specs.Ids.{BodyIdsExist}
 use Rattle.hir_counts.specs.Counts.{count_of}
 use Rattle.hir_laws.specs.Trees.{IsWellFormed}
 use Rattle.hir_laws.specs.Lawful.{IsLawful}
-use Rattle.hir_laws.specs.LawfulFacts.{fn_ids, bodies_carried, body_ids, counts_fit, bodies_well_formed, scopes_hold, bodies_small, literals_fit}
+use Rattle.hir_laws.specs.LawfulFacts.{bodies_carried, body_ids, counts_fit, bodies_well_formed, scopes_hold, bodies_small, literals_fit}
 
 -- a carried body has no `self`
 pub no_self : (b : RawBody) → IsTrue (is_carried_body b) → b.self_ ≡ None
@@ -56,17 +55,3 @@ inputs_count raw law (def.FunctionId f) i b is here = count_at raw law f.0 (slic
 inputs_count raw law (def.ConstId c) i b is here = absurd (cc)
 inputs_count raw law (def.StaticId s) i b is here = absurd (cc)
 inputs_count raw law (def.VariantId v) i b is here = absurd (cc)
-
-within_at : (raw : RawFacts) → IsLawful raw → (f : ℕ) (o : Option RawFn) → slice_get raw.fns f ≡ o → (k : ℕ) (w : TypeRefId) → slice_get (inputs_by o) k ≡ Some w → w.0 < length raw.types
-within_at raw law f None found k w is = absurd (cc)
-within_at raw law f (Some x) found k w is = (fn_ids raw law f x found).inputs k w is
-
-no_input : (raw : RawFacts) (k : ℕ) (w : TypeRefId) → slice_get [] k ≡ Some w → w.0 < length raw.types
-no_input raw k w is = absurd (cc)
-
--- and it is one of the facts'
-pub inputs_within : (raw : RawFacts) → IsLawful raw → (d : DefWithBodyId) (k : ℕ) (w : TypeRefId) → slice_get (inputs_of raw d) k ≡ Some w → w.0 < length raw.types
-inputs_within raw law (def.FunctionId f) k w is = within_at raw law f.0 (slice_get raw.fns f.0) refl k w is
-inputs_within raw law (def.ConstId c) k w is = no_input raw k w is
-inputs_within raw law (def.StaticId s) k w is = no_input raw k w is
-inputs_within raw law (def.VariantId v) k w is = no_input raw k w is

@@ -14,7 +14,7 @@ use Rattle.hir_raw.specs.declared.raw.RawFacts.{RawFacts}
 use Rattle.hir_raw.specs.declared.schedule.Schedule.{Schedule}
 use Rattle.hir_types.specs.declared.ty.Ty.{Ty}
 use Rattle.hir_types.specs.declared.ty.Ty.TheVariants as ty
-use Rattle.hir_raw.specs.Types.{written_type}
+use Rattle.hir_raw.specs.WrittenTypes.{written_type}
 use Rattle.hir_raw.specs.Order.{IsSchedule, PartsFit, Binds}
 use Rattle.hir_ids.specs.Carried.{is_carried_body}
 use Rattle.hir_laws.specs.Trees.{BoundByPattern}

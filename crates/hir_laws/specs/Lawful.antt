@@ -6,13 +6,16 @@ use Rattle.hir_laws.specs.declared.laws.Law.TheVariants as law
 use Rattle.hir_laws.specs.declared.laws.FactsList.{FactsList}
 use Rattle.hir_laws.specs.declared.laws.FactsList.TheVariants as list
 use Rattle.hir_ids.specs.Entries.{AllHold, BreaksAt}
-use Rattle.hir_ids.specs.Carried.{is_carried_type, is_carried_adt, is_carried_variant, is_carried_fn, is_carried_body}
+use Rattle.hir_ids.specs.Carried.{is_carried_written_type, is_carried_adt, is_carried_variant, is_carried_fn, is_carried_trait, is_carried_alias, is_carried_impl, is_carried_lang}
+use Rattle.hir_ids.specs.Owed.{BodyIsCarried}
+use Rattle.hir_ids.specs.GoalIds.{TraitIdsExist, AliasIdsExist, ImplIdsExist, LangExists}
 use Rattle.hir_ids.specs.Ids.{TypeIdsExist, ParentBefore, AdtIdsExist, VariantIdsExist, FnIdsExist, BodyIdsExist}
-use Rattle.hir_counts.specs.Counts.{AdtFits, VariantFits, FnFits}
+use Rattle.hir_counts.specs.Counts.{AdtFits, VariantFits, FnFits, TraitFits, AliasFits, ImplFits}
 use Rattle.hir_laws.specs.Trees.{IsWellFormed}
 use Rattle.hir_laws.specs.Scopes.{ScopesHold}
-use Rattle.hir_counts.specs.Sizes.{IsEarly, TypeIsSmall, AdtIsSmall, VariantIsSmall, FnIsSmall, BodyIsSmall}
+use Rattle.hir_counts.specs.Sizes.{IsEarly, TypeIsSmall, AdtIsSmall, VariantIsSmall, FnIsSmall, TraitIsSmall, AliasIsSmall, ImplIsSmall, BodyIsSmall}
 use Rattle.hir_laws.specs.Limits.{limits_of, IsInRange}
+use Rattle.hir_laws.specs.Lang.{LangFits}
 use Rattle.hir_laws.specs.Fields.{NamesFit}
 use Rattle.hir_laws.specs.Literals.{LiteralsFit}
 use Rattle.hir_counts.specs.Uses.{HoleFits}
@@ -30,19 +33,19 @@ abbrev all_hold : {A : Type 0} → ℕ → A → Type 0
 all_hold i x = Unit {0}
 
 abbrev carried_at : Saying → RawFacts → FactsList → Type 0
-carried_at S raw list.Types = S _ (λ i t. IsTrue (is_carried_type t)) raw.types
+carried_at S raw list.Types = S _ (λ i t. IsTrue (is_carried_written_type t)) raw.types
 carried_at S raw list.Modules = S _ all_hold raw.modules
 carried_at S raw list.Adts = S _ (λ i a. IsTrue (is_carried_adt a)) raw.adts
 carried_at S raw list.Variants = S _ (λ i v. IsTrue (is_carried_variant v)) raw.variants
 carried_at S raw list.Fns = S _ (λ i f. IsTrue (is_carried_fn f)) raw.fns
 carried_at S raw list.Consts = S _ none_carried raw.consts
 carried_at S raw list.Statics = S _ none_carried raw.statics
-carried_at S raw list.Traits = S _ none_carried raw.traits
-carried_at S raw list.Aliases = S _ none_carried raw.aliases
-carried_at S raw list.Impls = S _ none_carried raw.impls
+carried_at S raw list.Traits = S _ (λ i t. IsTrue (is_carried_trait t)) raw.traits
+carried_at S raw list.Aliases = S _ (λ i a. IsTrue (is_carried_alias a)) raw.aliases
+carried_at S raw list.Impls = S _ (λ i p. IsTrue (is_carried_impl p)) raw.impls
 carried_at S raw list.Opaques = S _ none_carried raw.opaques
-carried_at S raw list.Lang = S _ none_carried raw.lang
-carried_at S raw list.Bodies = S _ (λ i b. IsTrue (is_carried_body b)) raw.bodies
+carried_at S raw list.Lang = S _ (λ i l. IsTrue (is_carried_lang l)) raw.lang
+carried_at S raw list.Bodies = S _ (λ i b. BodyIsCarried raw b) raw.bodies
 carried_at S raw list.Limits = S _ all_hold (limits_of raw)
 
 abbrev ids_at : Saying → RawFacts → FactsList → Type 0
@@ -51,13 +54,20 @@ ids_at S raw list.Modules = S _ ParentBefore raw.modules
 ids_at S raw list.Adts = S _ (AdtIdsExist raw) raw.adts
 ids_at S raw list.Variants = S _ (VariantIdsExist raw) raw.variants
 ids_at S raw list.Fns = S _ (λ i f. FnIdsExist raw f) raw.fns
+ids_at S raw list.Traits = S _ (TraitIdsExist raw) raw.traits
+ids_at S raw list.Aliases = S _ (AliasIdsExist raw) raw.aliases
+ids_at S raw list.Impls = S _ (λ i p. ImplIdsExist raw p) raw.impls
+ids_at S raw list.Lang = S _ (λ i l. LangExists raw l) raw.lang
 ids_at S raw list.Bodies = S _ (BodyIdsExist raw) raw.bodies
 ids_at S raw _ = S ℕ all_hold []
 
 abbrev counts_at : Saying → RawFacts → FactsList → Type 0
-counts_at S raw list.Adts = S _ (λ i a. AdtFits a) raw.adts
+counts_at S raw list.Adts = S _ (λ i a. AdtFits raw a) raw.adts
 counts_at S raw list.Variants = S _ (λ i v. VariantFits raw v) raw.variants
 counts_at S raw list.Fns = S _ (λ i f. FnFits raw f) raw.fns
+counts_at S raw list.Traits = S _ (λ i t. TraitFits raw t) raw.traits
+counts_at S raw list.Aliases = S _ (λ i a. AliasFits raw a) raw.aliases
+counts_at S raw list.Impls = S _ (λ i p. ImplFits raw p) raw.impls
 counts_at S raw _ = S ℕ all_hold []
 
 abbrev sizes_at : Saying → RawFacts → FactsList → Type 0
@@ -66,6 +76,10 @@ sizes_at S raw list.Modules = S _ (λ i m. IsEarly i) raw.modules
 sizes_at S raw list.Adts = S _ AdtIsSmall raw.adts
 sizes_at S raw list.Variants = S _ VariantIsSmall raw.variants
 sizes_at S raw list.Fns = S _ FnIsSmall raw.fns
+sizes_at S raw list.Traits = S _ TraitIsSmall raw.traits
+sizes_at S raw list.Aliases = S _ AliasIsSmall raw.aliases
+sizes_at S raw list.Impls = S _ ImplIsSmall raw.impls
+sizes_at S raw list.Lang = S _ (λ i l. IsEarly i) raw.lang
 sizes_at S raw list.Bodies = S _ BodyIsSmall raw.bodies
 sizes_at S raw _ = S ℕ all_hold []
 
@@ -83,6 +97,7 @@ says S raw law.Trees l = S _ (λ i b. IsWellFormed b) raw.bodies
 says S raw law.Scopes l = S _ (λ i b. ScopesHold b) raw.bodies
 says S raw law.Sizes l = sizes_at S raw l
 says S raw law.Limits l = S _ IsInRange (limits_of raw)
+says S raw law.Lang l = S _ (λ i x. LangFits raw x) raw.lang
 says S raw law.Literals l = literals_at S raw l
 says S raw law.Holes l = S _ (λ i t. HoleFits raw i) raw.types
 
@@ -97,25 +112,35 @@ test l k = record { law = l; list = k }
 
 abbrev pub item_tests : List Test
 item_tests =
-    test law.Carried list.Types ∷ test law.Carried list.Adts ∷ test law.Carried list.Variants ∷ test law.Carried list.Fns ∷ []
+    test law.Carried list.Types ∷ test law.Carried list.Adts ∷ test law.Carried list.Variants
+    ∷ test law.Carried list.Fns ∷ []
 
--- of these lists no entry is carried
+-- of constants, statics and opaque types no entry is carried
 abbrev pub unread_tests : List Test
-unread_tests =
-    test law.Carried list.Consts ∷ test law.Carried list.Statics ∷ test law.Carried list.Traits ∷ test law.Carried list.Aliases ∷ test law.Carried list.Impls ∷ test law.Carried list.Opaques ∷ test law.Carried list.Lang ∷ []
+unread_tests = test law.Carried list.Consts ∷ test law.Carried list.Statics ∷ []
+
+abbrev pub abstract_tests : List Test
+abstract_tests =
+    test law.Carried list.Traits ∷ test law.Carried list.Aliases ∷ test law.Carried list.Impls
+    ∷ test law.Carried list.Opaques ∷ test law.Carried list.Lang ∷ []
 
 abbrev pub body_tests : List Test
 body_tests = test law.Carried list.Bodies ∷ []
 
 abbrev pub carried_tests : List Test
-carried_tests = item_tests ++ (unread_tests ++ body_tests)
+carried_tests = item_tests ++ (unread_tests ++ (abstract_tests ++ body_tests))
 
 abbrev pub ids_tests : List Test
 ids_tests =
-    test law.Ids list.Types ∷ test law.Ids list.Modules ∷ test law.Ids list.Adts ∷ test law.Ids list.Variants ∷ test law.Ids list.Fns ∷ test law.Ids list.Bodies ∷ []
+    test law.Ids list.Types ∷ test law.Ids list.Modules ∷ test law.Ids list.Adts
+    ∷ test law.Ids list.Variants ∷ test law.Ids list.Fns ∷ test law.Ids list.Traits
+    ∷ test law.Ids list.Aliases ∷ test law.Ids list.Impls ∷ test law.Ids list.Lang
+    ∷ test law.Ids list.Bodies ∷ []
 
 abbrev pub counts_tests : List Test
-counts_tests = test law.Counts list.Adts ∷ test law.Counts list.Variants ∷ test law.Counts list.Fns ∷ []
+counts_tests =
+    test law.Counts list.Adts ∷ test law.Counts list.Variants ∷ test law.Counts list.Fns
+    ∷ test law.Counts list.Traits ∷ test law.Counts list.Aliases ∷ test law.Counts list.Impls ∷ []
 
 abbrev pub trees_tests : List Test
 trees_tests = test law.Trees list.Bodies ∷ []
@@ -125,10 +150,16 @@ scopes_tests = test law.Scopes list.Bodies ∷ []
 
 abbrev pub sizes_tests : List Test
 sizes_tests =
-    test law.Sizes list.Types ∷ test law.Sizes list.Modules ∷ test law.Sizes list.Adts ∷ test law.Sizes list.Variants ∷ test law.Sizes list.Fns ∷ test law.Sizes list.Bodies ∷ []
+    test law.Sizes list.Types ∷ test law.Sizes list.Modules ∷ test law.Sizes list.Adts
+    ∷ test law.Sizes list.Variants ∷ test law.Sizes list.Fns ∷ test law.Sizes list.Traits
+    ∷ test law.Sizes list.Aliases ∷ test law.Sizes list.Impls ∷ test law.Sizes list.Lang
+    ∷ test law.Sizes list.Bodies ∷ []
 
 abbrev pub limits_tests : List Test
 limits_tests = test law.Limits list.Limits ∷ []
+
+abbrev pub lang_tests : List Test
+lang_tests = test law.Lang list.Lang ∷ []
 
 abbrev pub literals_tests : List Test
 literals_tests = test law.Literals list.Variants ∷ test law.Literals list.Bodies ∷ []
@@ -139,7 +170,9 @@ holes_tests = test law.Holes list.Types ∷ []
 -- by law, then by list
 abbrev pub tests : List Test
 tests =
-    carried_tests ++ (ids_tests ++ (counts_tests ++ (trees_tests ++ (scopes_tests ++ (sizes_tests ++ (limits_tests ++ (literals_tests ++ holes_tests)))))))
+    carried_tests ++ (ids_tests
+    ++ (counts_tests ++ (trees_tests
+    ++ (scopes_tests ++ (sizes_tests ++ (limits_tests ++ (lang_tests ++ (literals_tests ++ holes_tests))))))))
 
 abbrev pub Passes : RawFacts → Test → Type 0
 Passes raw t = says (λ A P xs. AllHold P xs) raw t.law t.list

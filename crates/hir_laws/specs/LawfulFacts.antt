@@ -1,39 +1,32 @@
--- What each law says of lawful facts.
+-- What laws say of lawful facts, list by list.
 use Rattle.std.specs.Prelude.{IsTrue}
 use Rattle.hir_raw.specs.declared.raw.RawFacts.{RawFacts}
 use Rattle.hir_ids.specs.Entries.{AllHold}
-use Rattle.hir_ids.specs.Carried.{is_carried_type, is_carried_adt, is_carried_variant, is_carried_fn, is_carried_body}
-use Rattle.hir_ids.specs.Ids.{ChildrenBefore, TypeIdsExist, ParentBefore, AdtIdsExist, VariantIdsExist, FnIdsExist, BodyIdsExist}
-use Rattle.hir_counts.specs.Counts.{CountsFit, AdtFits, VariantFits, FnFits}
+use Rattle.hir_ids.specs.Carried.{is_carried_written_type, is_carried_variant, is_carried_body}
+use Rattle.hir_ids.specs.Owed.{BodyIsCarried}
+use Rattle.hir_ids.specs.Ids.{ChildrenBefore, TypeIdsExist, AdtIdsExist, VariantIdsExist, FnIdsExist, BodyIdsExist}
+use Rattle.hir_counts.specs.Counts.{CountsFit, VariantFits, FnFits}
 use Rattle.hir_laws.specs.Trees.{IsWellFormed}
 use Rattle.hir_laws.specs.Scopes.{ScopesHold}
-use Rattle.hir_counts.specs.Sizes.{IsEarly, TypeIsSmall, AdtIsSmall, VariantIsSmall, FnIsSmall, BodyIsSmall}
-use Rattle.hir_laws.specs.Limits.{limits_of, IsInRange}
-use Rattle.hir_laws.specs.Fields.{NamesFit}
+use Rattle.hir_counts.specs.Sizes.{TypeIsSmall, BodyIsSmall}
 use Rattle.hir_laws.specs.Literals.{LiteralsFit}
 use Rattle.hir_counts.specs.Uses.{HoleFits}
 use Rattle.hir_laws.specs.Lawful.{IsLawful}
 
-pub types_carried : (raw : RawFacts) → IsLawful raw → AllHold (λ i t. IsTrue (is_carried_type t)) raw.types
+pub types_carried : (raw : RawFacts) → IsLawful raw → AllHold (λ i t. IsTrue (is_carried_written_type t)) raw.types
 types_carried raw law = law.all.0
-
-pub adts_carried : (raw : RawFacts) → IsLawful raw → AllHold (λ i a. IsTrue (is_carried_adt a)) raw.adts
-adts_carried raw law = law.all.1.0
 
 pub variants_carried : (raw : RawFacts) → IsLawful raw → AllHold (λ i v. IsTrue (is_carried_variant v)) raw.variants
 variants_carried raw law = law.all.1.1.0
 
-pub fns_carried : (raw : RawFacts) → IsLawful raw → AllHold (λ i f. IsTrue (is_carried_fn f)) raw.fns
-fns_carried raw law = law.all.1.1.1.0
+carried_bodies : (raw : RawFacts) → IsLawful raw → AllHold (λ i b. BodyIsCarried raw b) raw.bodies
+carried_bodies raw law = law.all.1.1.1.1.1.1.1.1.1.1.1.0
 
 pub bodies_carried : (raw : RawFacts) → IsLawful raw → AllHold (λ i b. IsTrue (is_carried_body b)) raw.bodies
-bodies_carried raw law = law.all.1.1.1.1.1.1.1.1.1.1.1.0
+bodies_carried raw law i b found = (carried_bodies raw law i b found).kinds
 
 pub type_ids_exist : (raw : RawFacts) → IsLawful raw → AllHold (TypeIdsExist raw) raw.types
 type_ids_exist raw law = law.all.1.1.1.1.1.1.1.1.1.1.1.1.0
-
-pub module_ids : (raw : RawFacts) → IsLawful raw → AllHold ParentBefore raw.modules
-module_ids raw law = law.all.1.1.1.1.1.1.1.1.1.1.1.1.1.0
 
 pub adt_ids : (raw : RawFacts) → IsLawful raw → AllHold (AdtIdsExist raw) raw.adts
 adt_ids raw law = law.all.1.1.1.1.1.1.1.1.1.1.1.1.1.1.0
@@ -45,52 +38,31 @@ pub fn_ids : (raw : RawFacts) → IsLawful raw → AllHold (λ i f. FnIdsExist r
 fn_ids raw law = law.all.1.1.1.1.1.1.1.1.1.1.1.1.1.1.1.1.0
 
 pub body_ids : (raw : RawFacts) → IsLawful raw → AllHold (BodyIdsExist raw) raw.bodies
-body_ids raw law = law.all.1.1.1.1.1.1.1.1.1.1.1.1.1.1.1.1.1.0
-
-pub adts_fit : (raw : RawFacts) → IsLawful raw → AllHold (λ i a. AdtFits a) raw.adts
-adts_fit raw law = law.all.1.1.1.1.1.1.1.1.1.1.1.1.1.1.1.1.1.1.0
+body_ids raw law = law.all.1.1.1.1.1.1.1.1.1.1.1.1.1.1.1.1.1.1.1.1.1.0
 
 pub variants_fit : (raw : RawFacts) → IsLawful raw → AllHold (λ i v. VariantFits raw v) raw.variants
-variants_fit raw law = law.all.1.1.1.1.1.1.1.1.1.1.1.1.1.1.1.1.1.1.1.0
+variants_fit raw law = law.all.1.1.1.1.1.1.1.1.1.1.1.1.1.1.1.1.1.1.1.1.1.1.1.0
 
 pub fns_fit : (raw : RawFacts) → IsLawful raw → AllHold (λ i f. FnFits raw f) raw.fns
-fns_fit raw law = law.all.1.1.1.1.1.1.1.1.1.1.1.1.1.1.1.1.1.1.1.1.0
+fns_fit raw law = law.all.1.1.1.1.1.1.1.1.1.1.1.1.1.1.1.1.1.1.1.1.1.1.1.1.0
 
 pub bodies_well_formed : (raw : RawFacts) → IsLawful raw → AllHold (λ i b. IsWellFormed b) raw.bodies
-bodies_well_formed raw law = law.all.1.1.1.1.1.1.1.1.1.1.1.1.1.1.1.1.1.1.1.1.1.0
+bodies_well_formed raw law = law.all.1.1.1.1.1.1.1.1.1.1.1.1.1.1.1.1.1.1.1.1.1.1.1.1.1.1.1.1.0
 
 pub scopes_hold : (raw : RawFacts) → IsLawful raw → AllHold (λ i b. ScopesHold b) raw.bodies
-scopes_hold raw law = law.all.1.1.1.1.1.1.1.1.1.1.1.1.1.1.1.1.1.1.1.1.1.1.0
+scopes_hold raw law = law.all.1.1.1.1.1.1.1.1.1.1.1.1.1.1.1.1.1.1.1.1.1.1.1.1.1.1.1.1.1.0
 
 pub types_small : (raw : RawFacts) → IsLawful raw → AllHold (TypeIsSmall raw) raw.types
-types_small raw law = law.all.1.1.1.1.1.1.1.1.1.1.1.1.1.1.1.1.1.1.1.1.1.1.1.0
-
-pub modules_early : (raw : RawFacts) → IsLawful raw → AllHold (λ i m. IsEarly i) raw.modules
-modules_early raw law = law.all.1.1.1.1.1.1.1.1.1.1.1.1.1.1.1.1.1.1.1.1.1.1.1.1.0
-
-pub adts_small : (raw : RawFacts) → IsLawful raw → AllHold AdtIsSmall raw.adts
-adts_small raw law = law.all.1.1.1.1.1.1.1.1.1.1.1.1.1.1.1.1.1.1.1.1.1.1.1.1.1.0
-
-pub variants_small : (raw : RawFacts) → IsLawful raw → AllHold VariantIsSmall raw.variants
-variants_small raw law = law.all.1.1.1.1.1.1.1.1.1.1.1.1.1.1.1.1.1.1.1.1.1.1.1.1.1.1.0
-
-pub fns_small : (raw : RawFacts) → IsLawful raw → AllHold FnIsSmall raw.fns
-fns_small raw law = law.all.1.1.1.1.1.1.1.1.1.1.1.1.1.1.1.1.1.1.1.1.1.1.1.1.1.1.1.0
+types_small raw law = law.all.1.1.1.1.1.1.1.1.1.1.1.1.1.1.1.1.1.1.1.1.1.1.1.1.1.1.1.1.1.1.0
 
 pub bodies_small : (raw : RawFacts) → IsLawful raw → AllHold BodyIsSmall raw.bodies
-bodies_small raw law = law.all.1.1.1.1.1.1.1.1.1.1.1.1.1.1.1.1.1.1.1.1.1.1.1.1.1.1.1.1.0
-
-pub limits_in_range : (raw : RawFacts) → IsLawful raw → AllHold IsInRange (limits_of raw)
-limits_in_range raw law = law.all.1.1.1.1.1.1.1.1.1.1.1.1.1.1.1.1.1.1.1.1.1.1.1.1.1.1.1.1.1.0
-
-pub names_fit : (raw : RawFacts) → IsLawful raw → AllHold (λ i v. NamesFit v) raw.variants
-names_fit raw law = law.all.1.1.1.1.1.1.1.1.1.1.1.1.1.1.1.1.1.1.1.1.1.1.1.1.1.1.1.1.1.1.0
+bodies_small raw law = law.all.1.1.1.1.1.1.1.1.1.1.1.1.1.1.1.1.1.1.1.1.1.1.1.1.1.1.1.1.1.1.1.1.1.1.1.1.1.1.1.0
 
 pub literals_fit : (raw : RawFacts) → IsLawful raw → AllHold (λ i b. LiteralsFit b) raw.bodies
-literals_fit raw law = law.all.1.1.1.1.1.1.1.1.1.1.1.1.1.1.1.1.1.1.1.1.1.1.1.1.1.1.1.1.1.1.1.0
+literals_fit raw law = law.all.1.1.1.1.1.1.1.1.1.1.1.1.1.1.1.1.1.1.1.1.1.1.1.1.1.1.1.1.1.1.1.1.1.1.1.1.1.1.1.1.1.1.1.0
 
 pub holes_fit : (raw : RawFacts) → IsLawful raw → AllHold (λ i t. HoleFits raw i) raw.types
-holes_fit raw law = law.all.1.1.1.1.1.1.1.1.1.1.1.1.1.1.1.1.1.1.1.1.1.1.1.1.1.1.1.1.1.1.1.1.0
+holes_fit raw law = law.all.1.1.1.1.1.1.1.1.1.1.1.1.1.1.1.1.1.1.1.1.1.1.1.1.1.1.1.1.1.1.1.1.1.1.1.1.1.1.1.1.1.1.1.1.0
 
 pub type_ids : (raw : RawFacts) → IsLawful raw → AllHold ChildrenBefore raw.types
 type_ids raw law i t found = (type_ids_exist raw law i t found).before

@@ -13,3 +13,4 @@ pub mod Bodies
 pub mod LawfulFacts
 pub mod NoHoles
 pub mod WrittenFits
+pub mod Lang

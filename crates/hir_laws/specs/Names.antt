@@ -13,6 +13,7 @@ law_number law.Trees = 3
 law_number law.Scopes = 4
 law_number law.Sizes = 5
 law_number law.Limits = 6
+law_number law.Lang = 7
 law_number law.Literals = 8
 law_number law.Holes = 9
 

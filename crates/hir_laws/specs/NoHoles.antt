@@ -11,7 +11,7 @@ use Rattle.hir_raw.specs.declared.raw.RawFn.{RawFn}
 use Rattle.hir_raw.specs.declared.raw.RawFacts.{RawFacts}
 use Rattle.hir_laws.specs.Bodies.{inputs_by, inputs_of}
 use Rattle.hir_counts.specs.Standing.{HasNoHole}
-use Rattle.hir_counts.specs.Uses.{variant_uses, fn_uses, item_uses}
+use Rattle.hir_counts.specs.Uses.{variant_uses, fn_uses, abstract_uses, item_uses}
 use Rattle.hir_laws.specs.Lawful.{IsLawful}
 use Rattle.hir_laws.specs.LawfulFacts.{fn_ids, variant_ids, holes_fit}
 
@@ -56,7 +56,9 @@ item_has_no_hole raw law t lt used = let there = type_there raw.types t.0 lt in 
 ]
 
 in_fn : (raw : RawFacts) (f : ℕ) (x : RawFn) (y : Option ℕ) → slice_get raw.fns f ≡ Some x → In (fn_uses x) y → In (item_uses raw) y
-in_fn raw f x y found h = in_last (flat_map variant_uses raw.variants) (flat_map fn_uses raw.fns) y (in_flat fn_uses raw.fns f x y found h)
+in_fn raw f x y found h =
+    in_last (flat_map variant_uses raw.variants) (flat_map fn_uses raw.fns ++ abstract_uses raw) y
+    (in_first (flat_map fn_uses raw.fns) (abstract_uses raw) y (in_flat fn_uses raw.fns f x y found h))
 
 pub input_has_no_hole : (raw : RawFacts) → IsLawful raw → (f : ℕ) (x : RawFn) → slice_get raw.fns f ≡ Some x → (k : ℕ) (t : TypeRefId) → slice_get x.inputs k ≡ Some t → HasNoHole raw.types t
 input_has_no_hole raw law f x found k t here =
@@ -68,11 +70,11 @@ output_has_no_hole raw law f x found =
     item_has_no_hole raw law x.output (fn_ids raw law f x found).output
     (in_fn raw f x (Some x.output.0) found (in_last (map (λ (u : TypeRefId). Some u.0) x.inputs) (Some x.output.0 ∷ []) (Some x.output.0) (zero, refl)))
 
-pub field_has_no_hole : (raw : RawFacts) → IsLawful raw → (v : ℕ) (x : RawVariant) → slice_get raw.variants v ≡ Some x → (k : ℕ) (f : RawField) → slice_get x.fields k ≡ Some f → HasNoHole raw.types f.ty
+pub field_has_no_hole : (raw : RawFacts) → IsLawful raw → (v : ℕ) (x : RawVariant) → slice_get raw.variants v ≡ Some x → (k : ℕ) (f : RawField) → slice_get x.fields k ≡ Some f → HasNoHole raw.types f.type_
 field_has_no_hole raw law v x found k f here =
-    let used : In (variant_uses x) (Some f.ty.0) = in_map (λ (y : RawField). Some y.ty.0) x.fields k f here in
-    item_has_no_hole raw law f.ty ((variant_ids raw law v x found).here.fields k f here).written
-    (in_first (flat_map variant_uses raw.variants) (flat_map fn_uses raw.fns) (Some f.ty.0) (in_flat variant_uses raw.variants v x (Some f.ty.0) found used))
+    let used : In (variant_uses x) (Some f.type_.0) = in_map (λ (y : RawField). Some y.type_.0) x.fields k f here in
+    item_has_no_hole raw law f.type_ ((variant_ids raw law v x found).here.fields k f here).written
+    (in_first (flat_map variant_uses raw.variants) (flat_map fn_uses raw.fns ++ abstract_uses raw) (Some f.type_.0) (in_flat variant_uses raw.variants v x (Some f.type_.0) found used))
 
 -- ---- the parameters of a definition
 

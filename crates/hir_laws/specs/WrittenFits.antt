@@ -20,7 +20,7 @@ use Rattle.hir_raw.specs.declared.raw.RawStmt.TheVariants as stmt
 use Rattle.hir_raw.specs.declared.raw.RawExpr.{RawExpr}
 use Rattle.hir_raw.specs.declared.raw.RawBody.{RawBody}
 use Rattle.hir_raw.specs.declared.raw.RawFacts.{RawFacts}
-use Rattle.hir_raw.specs.Types.{type_parts}
+use Rattle.hir_raw.specs.WrittenTypes.{type_parts}
 use Rattle.hir_raw.specs.Order.{stmts_of, stmt_at}
 use Rattle.hir_raw.specs.Scope.{adt_params, has_params, params_of, count_or_none}
 use Rattle.hir_laws.specs.Bodies.{body_of, inputs_by, inputs_of}
@@ -102,11 +102,11 @@ output_fits raw law f x found = fits_under raw (length x.params) x.output (fn_id
 -- ---- the fields of a variant
 
 -- fit under the parameters of its adt
-pub fields_fit : (raw : RawFacts) → IsLawful raw → (v : ℕ) (x : RawVariant) (a : RawAdt) → slice_get raw.variants v ≡ Some x → slice_get raw.adts x.adt.0 ≡ Some a → (k : ℕ) (f : RawField) → slice_get x.fields k ≡ Some f → FitsUnder raw (length a.params) f.ty.0
+pub fields_fit : (raw : RawFacts) → IsLawful raw → (v : ℕ) (x : RawVariant) (a : RawAdt) → slice_get raw.variants v ≡ Some x → slice_get raw.adts x.adt.0 ≡ Some a → (k : ℕ) (f : RawField) → slice_get x.fields k ≡ Some f → FitsUnder raw (length a.params) f.type_.0
 fields_fit raw law v x a found adt k f here =
-    let fit : TypeFits (params_in raw) (wrongs_in raw) (length a.params) f.ty =
-    subst (λ (o : Option RawAdt). TypeFits (params_in raw) (wrongs_in raw) (param_count o) f.ty) adt ((variants_fit raw law v x found).fields k f here) in
-    fits_under raw (length a.params) f.ty ((variant_ids raw law v x found).here.fields k f here).written fit
+    let fit : TypeFits (params_in raw) (wrongs_in raw) (length a.params) f.type_ =
+    subst (λ (o : Option RawAdt). TypeFits (params_in raw) (wrongs_in raw) (param_count o) f.type_) adt ((variants_fit raw law v x found).fields k f here) in
+    fits_under raw (length a.params) f.type_ ((variant_ids raw law v x found).here.fields k f here).written fit
 
 -- ---- the types of a definition
 

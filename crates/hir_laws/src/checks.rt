@@ -4,23 +4,26 @@ ghost use Rattle.hir_ids.specs.Entries.{AllHold};
 ghost use Rattle.hir_ids.specs.Ids.{TypeIdsExist, BodyIdsExist};
 ghost use Rattle.hir_laws.specs.Trees.{IsWellFormed};
 ghost use Rattle.hir_laws.specs.Scheduled.{AreSchedules};
-ghost use Rattle.hir_laws.specs.Lawful.{IsLawful, PassesAll, item_tests, unread_tests, body_tests, carried_tests, ids_tests, counts_tests, trees_tests, scopes_tests, sizes_tests, limits_tests, literals_tests, holes_tests, tests};
+ghost use Rattle.hir_laws.specs.Lawful.{IsLawful, PassesAll, item_tests, unread_tests, abstract_tests, body_tests, carried_tests, ids_tests, counts_tests, trees_tests, scopes_tests, sizes_tests, limits_tests, lang_tests, literals_tests, holes_tests, tests};
 ghost use Rattle.hir_laws.specs.Refused.{Refuses};
 
 use crate::body_sizes::BodySizes;
 use crate::facts_error::FactsError;
 use crate::fields::FieldNames;
+use crate::lang::LangShapes;
 use crate::laws::{FactsList, Law};
 use crate::limits::LimitsInRange;
 use crate::literals::LiteralsInBits;
 use crate::scopes::{Scopes, schedules_of};
 use crate::trees::Trees;
 use hir_counts::{
-    AdtCounts, AdtSizes, FnCounts, FnSizes, Holes, ModulesEarly, Standing, TypeSizes,
-    VariantCounts, VariantSizes,
+    AdtCounts, AdtSizes, AliasCounts, AliasSizes, FnCounts, FnSizes, Holes, ImplCounts, ImplSizes,
+    LangEarly, ModulesEarly, Standing, TraitCounts, TraitSizes, TypeSizes, VariantCounts,
+    VariantSizes,
 };
 use hir_ids::{
-    AdtIds, AdtsCarried, BodiesCarried, BodyIds, FnIds, FnsCarried, ModuleIds, TypeIds,
+    AdtIds, AdtsCarried, AliasIds, AliasesCarried, BodiesCarried, BodyIds, FnIds, FnsCarried,
+    ImplIds, ImplsCarried, LangCarried, LangIds, ModuleIds, TraitIds, TraitsCarried, TypeIds,
     TypesCarried, VariantIds, VariantsCarried, first_broken, first_other,
 };
 use hir_raw::{RawFacts, Schedule};
@@ -59,15 +62,22 @@ fn check_unread(raw: &RawFacts) -> Result<(), FactsError>
     allow(Law::Carried, FactsList::Consts, consts)?;
     let statics = first_other(raw.statics.as_slice());
     allow(Law::Carried, FactsList::Statics, statics)?;
-    let traits = first_other(raw.traits.as_slice());
+    Ok(())
+}
+
+fn check_abstract(alloc: Global, raw: &RawFacts) -> Result<(), FactsError>
+    ensures ok { IfOk result (λ _. PassesAll raw.now abstract_tests) }
+    ensures err { IfErr result (λ e. Refuses raw.now abstract_tests e) }
+{
+    let traits = first_broken(alloc, &TraitsCarried, raw, raw.traits.as_slice())?;
     allow(Law::Carried, FactsList::Traits, traits)?;
-    let aliases = first_other(raw.aliases.as_slice());
+    let aliases = first_broken(alloc, &AliasesCarried, raw, raw.aliases.as_slice())?;
     allow(Law::Carried, FactsList::Aliases, aliases)?;
-    let impls = first_other(raw.impls.as_slice());
+    let impls = first_broken(alloc, &ImplsCarried, raw, raw.impls.as_slice())?;
     allow(Law::Carried, FactsList::Impls, impls)?;
     let opaques = first_other(raw.opaques.as_slice());
     allow(Law::Carried, FactsList::Opaques, opaques)?;
-    let lang = first_other(raw.lang.as_slice());
+    let lang = first_broken(alloc, &LangCarried, raw, raw.lang.as_slice())?;
     allow(Law::Carried, FactsList::Lang, lang)?;
     Ok(())
 }
@@ -87,6 +97,7 @@ fn check_carried(alloc: Global, raw: &RawFacts) -> Result<(), FactsError>
 {
     check_items(alloc, raw)?;
     check_unread(raw)?;
+    check_abstract(alloc, raw)?;
     check_bodies(alloc, raw)?;
     Ok(())
 }
@@ -106,6 +117,15 @@ fn check_ids(alloc: Global, raw: &RawFacts) -> Result<(), FactsError>
     allow(Law::Ids, FactsList::Variants, variants)?;
     let fns = first_broken(alloc, &FnIds, raw, raw.fns.as_slice())?;
     allow(Law::Ids, FactsList::Fns, fns)?;
+    let traits = first_broken(alloc, &TraitIds, raw, raw.traits.as_slice())?;
+    allow(Law::Ids, FactsList::Traits, traits)?;
+    let alias_ids = AliasIds::new(alloc, raw)?;
+    let aliases = first_broken(alloc, &alias_ids, raw, raw.aliases.as_slice())?;
+    allow(Law::Ids, FactsList::Aliases, aliases)?;
+    let impls = first_broken(alloc, &ImplIds, raw, raw.impls.as_slice())?;
+    allow(Law::Ids, FactsList::Impls, impls)?;
+    let lang = first_broken(alloc, &LangIds, raw, raw.lang.as_slice())?;
+    allow(Law::Ids, FactsList::Lang, lang)?;
     let body_ids = BodyIds::new(alloc, raw)?;
     let bodies = first_broken(alloc, &body_ids, raw, raw.bodies.as_slice())?;
     allow(Law::Ids, FactsList::Bodies, bodies)?;
@@ -117,9 +137,12 @@ fn check_counts(alloc: Global, raw: &RawFacts) -> Result<(), FactsError>
     ensures ok { IfOk result (λ _. PassesAll raw.now counts_tests) }
     ensures err { IfErr result (λ e. Refuses raw.now counts_tests e) }
 {
-    let adts = first_broken(alloc, &AdtCounts, raw, raw.adts.as_slice())?;
-    allow(Law::Counts, FactsList::Adts, adts)?;
     let standing = Standing::new(alloc, raw)?;
+    let adt_counts = AdtCounts {
+        standing: &standing,
+    };
+    let adts = first_broken(alloc, &adt_counts, raw, raw.adts.as_slice())?;
+    allow(Law::Counts, FactsList::Adts, adts)?;
     let variant_counts = VariantCounts {
         standing: &standing,
     };
@@ -130,6 +153,21 @@ fn check_counts(alloc: Global, raw: &RawFacts) -> Result<(), FactsError>
     };
     let fns = first_broken(alloc, &fn_counts, raw, raw.fns.as_slice())?;
     allow(Law::Counts, FactsList::Fns, fns)?;
+    let trait_counts = TraitCounts {
+        standing: &standing,
+    };
+    let traits = first_broken(alloc, &trait_counts, raw, raw.traits.as_slice())?;
+    allow(Law::Counts, FactsList::Traits, traits)?;
+    let alias_counts = AliasCounts {
+        standing: &standing,
+    };
+    let aliases = first_broken(alloc, &alias_counts, raw, raw.aliases.as_slice())?;
+    allow(Law::Counts, FactsList::Aliases, aliases)?;
+    let impl_counts = ImplCounts {
+        standing: &standing,
+    };
+    let impls = first_broken(alloc, &impl_counts, raw, raw.impls.as_slice())?;
+    allow(Law::Counts, FactsList::Impls, impls)?;
     Ok(())
 }
 
@@ -173,6 +211,14 @@ fn check_sizes(alloc: Global, raw: &RawFacts, schedules: &List<Schedule>) -> Res
     allow(Law::Sizes, FactsList::Variants, variants)?;
     let fns = first_broken(alloc, &FnSizes, raw, raw.fns.as_slice())?;
     allow(Law::Sizes, FactsList::Fns, fns)?;
+    let traits = first_broken(alloc, &TraitSizes, raw, raw.traits.as_slice())?;
+    allow(Law::Sizes, FactsList::Traits, traits)?;
+    let aliases = first_broken(alloc, &AliasSizes, raw, raw.aliases.as_slice())?;
+    allow(Law::Sizes, FactsList::Aliases, aliases)?;
+    let impls = first_broken(alloc, &ImplSizes, raw, raw.impls.as_slice())?;
+    allow(Law::Sizes, FactsList::Impls, impls)?;
+    let lang = first_broken(alloc, &LangEarly, raw, raw.lang.as_slice())?;
+    allow(Law::Sizes, FactsList::Lang, lang)?;
     let body_sizes = BodySizes { schedules };
     let bodies = first_broken(alloc, &body_sizes, raw, raw.bodies.as_slice())?;
     allow(Law::Sizes, FactsList::Bodies, bodies)?;
@@ -191,6 +237,15 @@ fn check_limits(alloc: Global, raw: &RawFacts) -> Result<(), FactsError>
     ];
     let broken = first_broken(alloc, &LimitsInRange, raw, &limits)?;
     allow(Law::Limits, FactsList::Limits, broken)?;
+    Ok(())
+}
+
+fn check_lang(alloc: Global, raw: &RawFacts) -> Result<(), FactsError>
+    ensures ok { IfOk result (λ _. PassesAll raw.now lang_tests) }
+    ensures err { IfErr result (λ e. Refuses raw.now lang_tests e) }
+{
+    let lang = first_broken(alloc, &LangShapes, raw, raw.lang.as_slice())?;
+    allow(Law::Lang, FactsList::Lang, lang)?;
     Ok(())
 }
 
@@ -230,6 +285,7 @@ pub fn check(alloc: Global, raw: &RawFacts) -> Result<List<Schedule>, FactsError
     check_scopes(alloc, raw, &schedules)?;
     check_sizes(alloc, raw, &schedules)?;
     check_limits(alloc, raw)?;
+    check_lang(alloc, raw)?;
     check_literals(alloc, raw)?;
     check_holes(alloc, raw)?;
     Ok(schedules)

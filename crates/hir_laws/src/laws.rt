@@ -8,7 +8,7 @@ pub enum Law {
     /// Each entry and part is of a kind that is carried.
     Carried,
     /// Ids are in range, and smaller where a list asks for it; each body is that of one definition;
-    /// adts and variants agree.
+    /// adts and variants agree, and so do traits and associated types.
     Ids,
     /// A function has as many inputs as its body has parameters, `self` counted; arguments are as
     /// many as parameters, and parameters in range; a struct has one variant.
@@ -21,6 +21,8 @@ pub enum Law {
     Sizes,
     /// The limits are in their ranges.
     Limits,
+    /// Language items have the shape that they are known by.
+    Lang,
     /// Literals stand for values of at most 128 bits, and characters are scalar values; the names of
     /// fields are distinct, those of a tuple numbers.
     Literals,
@@ -48,7 +50,7 @@ pub enum FactsList {
 }
 
 impl Law {
-    /// The law's number, from 0; 7 is of kinds that are not read yet.
+    /// The law's number, from 0.
     pub fn number(self) -> u32
         ensures { result ≡ law_number self }
     {
@@ -60,8 +62,28 @@ impl Law {
             Law::Scopes => 4,
             Law::Sizes => 5,
             Law::Limits => 6,
+            Law::Lang => 7,
             Law::Literals => 8,
             Law::Holes => 9,
+        }
+    }
+
+    /// What the law says.
+    pub(crate) fn text(self) -> &'static str {
+        match self {
+            Law::Carried => "each entry and part is of a kind that is carried",
+            Law::Ids =>
+                "ids are in range, and smaller where a list asks for it, each body is that of one definition, and an entry agrees with the one that lists it",
+            Law::Counts =>
+                "inputs are as many as parameters of the body, arguments as parameters, and a struct has one variant",
+            Law::Trees => "the nodes of a body are a tree, and each binding is bound once",
+            Law::Scopes => "a local names a binding that the walk has typed before",
+            Law::Sizes => "lists are not too long, and trees and types not too deep or too large",
+            Law::Limits => "the limits are in their ranges",
+            Law::Lang => "language items have the shape that they are known by",
+            Law::Literals =>
+                "literals stand for values of at most 128 bits, characters are scalar values, and names of fields are distinct",
+            Law::Holes => "a `_` stands once, in a type that is written in a body",
         }
     }
 }
@@ -86,6 +108,26 @@ impl FactsList {
             FactsList::Lang => 11,
             FactsList::Bodies => 12,
             FactsList::Limits => 13,
+        }
+    }
+
+    /// The list's key in the facts text (docs/FORMAT.md).
+    pub fn key(self) -> &'static str {
+        match self {
+            FactsList::Types => "types",
+            FactsList::Modules => "modules",
+            FactsList::Adts => "adts",
+            FactsList::Variants => "variants",
+            FactsList::Fns => "fns",
+            FactsList::Consts => "consts",
+            FactsList::Statics => "statics",
+            FactsList::Traits => "traits",
+            FactsList::Aliases => "aliases",
+            FactsList::Impls => "impls",
+            FactsList::Opaques => "opaques",
+            FactsList::Lang => "lang",
+            FactsList::Bodies => "bodies",
+            FactsList::Limits => "limits",
         }
     }
 }

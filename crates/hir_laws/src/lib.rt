@@ -5,6 +5,7 @@ mod body_sizes;
 mod checks;
 mod facts_error;
 mod fields;
+mod lang;
 mod laws;
 mod limits;
 mod literals;

@@ -82,8 +82,7 @@ fn literal_of(pat: &RawPat) -> Option<usize>
 {
     match pat {
         RawPat::Lit(e) => Some(e.0 as usize),
-        RawPat::Wild | RawPat::Bind { .. } | RawPat::Tuple(_) => None,
-        RawPat::TupleStruct { .. } | RawPat::Path(_) | RawPat::Other => None,
+        _ => None,
     }
 }
 
@@ -98,8 +97,7 @@ fn patterns_of(alloc: Global, body: &RawBody) -> Result<Vec<Namers>, AllocError>
     ensures { IfOk result (λ v. ArePatterns body.now v.items) }
 {
     let targets = literals_of(alloc, body.pats.as_slice())?;
-    let patterns = namers_of(alloc, &targets, body.exprs.len())?;
-    Ok(patterns)
+    namers_of(alloc, &targets, body.exprs.len())
 }
 
 fn is_someones(namers: Namers) -> bool
@@ -118,8 +116,7 @@ fn expr_is_in_bits(namers: Namers, expr: &RawExpr) -> bool
         RawExpr::Lit(literal) => {
             is_in_bits(literal) || (is_someones(namers) && is_signed_in_bits(literal))
         }
-        RawExpr::Path(_) | RawExpr::Block { .. } | RawExpr::Tuple(_) | RawExpr::Other => true,
-        RawExpr::If { .. } | RawExpr::Match { .. } | RawExpr::Call { .. } => true,
+        _ => true,
     }
 }
 
@@ -138,12 +135,7 @@ fn are_in_bits(body: &RawBody, patterns: &[Namers]) -> bool
 fn is_literal(body: &RawBody, expr: ExprId) -> bool
     ensures { IsTrue result ↔ IsLiteral (slice_get body.now.exprs expr.0) }
 {
-    match body.exprs.get(expr.0 as usize) {
-        Some(RawExpr::Lit(_)) => true,
-        Some(RawExpr::Path(_) | RawExpr::Block { .. } | RawExpr::Tuple(_)) => false,
-        Some(RawExpr::If { .. } | RawExpr::Match { .. } | RawExpr::Call { .. }) => false,
-        Some(RawExpr::Other) | None => false,
-    }
+    matches!(body.exprs.get(expr.0 as usize), Some(RawExpr::Lit(_)))
 }
 
 fn pat_is_literal(body: &RawBody, pat: &RawPat) -> bool
@@ -151,8 +143,7 @@ fn pat_is_literal(body: &RawBody, pat: &RawPat) -> bool
 {
     match pat {
         RawPat::Lit(e) => is_literal(body, *e),
-        RawPat::Wild | RawPat::Bind { .. } | RawPat::Tuple(_) => true,
-        RawPat::TupleStruct { .. } | RawPat::Path(_) | RawPat::Other => true,
+        _ => true,
     }
 }
 

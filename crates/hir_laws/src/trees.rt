@@ -32,8 +32,7 @@ pub fn binders_of(alloc: Global, body: &RawBody) -> Result<Vec<Namers>, AllocErr
     ensures { IfOk result (λ v. AreBinders body.now v.items) }
 {
     let targets = bound_bindings(alloc, body.pats.as_slice())?;
-    let binders = namers_of(alloc, &targets, body.bindings.len())?;
-    Ok(binders)
+    namers_of(alloc, &targets, body.bindings.len())
 }
 
 /// Whether this binding is `self`.

@@ -15,7 +15,7 @@ use Rattle.hir_plain.specs.Plain.{IsPlainSignature}
 use Rattle.hir_plain.specs.PlainMarks.{ArePlainNodes, HasMarkedSignature, ArePlainMarks}
 
 -- where the types of a signature are marked, they are plain
-pub signature_plain : (raw : RawFacts) (nodes : List Bool) (f : ℕ) (x : RawFn) → IsLawful raw → ArePlainNodes raw nodes → slice_get raw.fns f ≡ Some x → HasMarkedSignature nodes x → IsPlainSignature raw x
+pub signature_plain : (raw : RawFacts) (nodes : List Bool) (f : ℕ) (x : RawFn) → IsLawful raw → ArePlainNodes raw nodes → slice_get raw.fns f ≡ Some x → HasMarkedSignature raw nodes x → IsPlainSignature raw x
 signature_plain raw nodes f x law are found h = record {
   header = h.header;
   inputs = λ k t here. are.types (length x.params) t (inputs_fit raw law f x found k t here) (h.inputs k t here);
@@ -23,7 +23,7 @@ signature_plain raw nodes f x law are found h = record {
 }
 
 -- and where they are plain, they are marked
-pub signature_marked : (raw : RawFacts) (nodes : List Bool) (x : RawFn) → ArePlainNodes raw nodes → IsPlainSignature raw x → HasMarkedSignature nodes x
+pub signature_marked : (raw : RawFacts) (nodes : List Bool) (x : RawFn) → ArePlainNodes raw nodes → IsPlainSignature raw x → HasMarkedSignature raw nodes x
 signature_marked raw nodes x are h = record {
   header = h.header;
   inputs = λ k t here. are.plain_types (length x.params) t (h.inputs k t here);
@@ -34,9 +34,6 @@ signature_marked raw nodes x are h = record {
 pub record FnsMarked (raw : RawFacts) (n : ℕ) (marks : List Bool) : Type 0 where
   pub size : length marks ≡ n
   pub each : (f : ℕ) (x : RawFn) → f < n → slice_get raw.fns f ≡ Some x → IsMarked marks f ↔ IsPlainSignature raw x
-
-pub fns_none : (raw : RawFacts) (marks : List Bool) → marks ≡ [] → FnsMarked raw 0 marks
-fns_none raw marks is = record { size = ap length is; each = λ f x lt found. absurd (omega arith) }
 
 pub fns_more : (raw : RawFacts) (n : ℕ) (marks new : List Bool) (x : RawFn) (b : Bool) → FnsMarked raw n marks → slice_get raw.fns n ≡ Some x → IsTrue b ↔ IsPlainSignature raw x → new ≡ marks ++ b ∷ [] → FnsMarked raw (n + 1) new
 fns_more raw n marks new x b m found told is = record {

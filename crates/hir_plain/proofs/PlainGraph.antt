@@ -12,7 +12,7 @@ use Rattle.hir_raw.specs.declared.raw.RawAdt.{RawAdt}
 use Rattle.hir_raw.specs.declared.raw.RawField.{RawField}
 use Rattle.hir_raw.specs.declared.raw.RawVariant.{RawVariant}
 use Rattle.hir_raw.specs.declared.raw.RawFacts.{RawFacts}
-use Rattle.hir_raw.specs.Types.{type_parts}
+use Rattle.hir_raw.specs.WrittenTypes.{type_parts}
 use Rattle.hir_raw.specs.Graph.{KidsFit, Edge, kids_of}
 use Rattle.hir_laws.specs.NoHoles.{In, in_first, in_last}
 use Rattle.hir_ids.specs.Ids.{AdtExists, IsVariantOf}
@@ -60,9 +60,9 @@ map_join : {X Y : Type 0} (f : X → Y) (xs ys : List X) → map f (xs ++ ys) �
 map_join f [] ys = refl
 map_join f (x ∷ xs) ys = let rest = map_join f xs ys in λ i. f x ∷ rest i
 
-ids_of_fields : (fs : List RawField) → map (λ (f : RawField). f.ty.0) fs ≡ map (λ (t : TypeRefId). t.0) (map (λ (f : RawField). f.ty) fs)
+ids_of_fields : (fs : List RawField) → map (λ (f : RawField). f.type_.0) fs ≡ map (λ (t : TypeRefId). t.0) (map (λ (f : RawField). f.type_) fs)
 ids_of_fields [] = refl
-ids_of_fields (f ∷ fs) = let rest = ids_of_fields fs in λ i. f.ty.0 ∷ rest i
+ids_of_fields (f ∷ fs) = let rest = ids_of_fields fs in λ i. f.type_.0 ∷ rest i
 
 ids_by : (o : Option RawVariant) → field_ids o ≡ map (λ (t : TypeRefId). t.0) (fields_by o)
 ids_by None = refl
@@ -88,12 +88,12 @@ record FieldOf (variants : List RawVariant) (vs : List VariantId) (t : TypeRefId
   k : ℕ
   field : RawField
   here : slice_get variant.fields k ≡ Some field
-  is : field.ty ≡ t
+  is : field.type_ ≡ t
 
 field_by : (variants : List RawVariant) (vs : List VariantId) (v : VariantId) (o : Option RawVariant) → slice_get variants v.0 ≡ o → (k : ℕ) (t : TypeRefId) → slice_get (fields_by o) k ≡ Some t → FieldOf variants (v ∷ vs) t
 field_by variants vs v None was k t found = absurd (cc)
 field_by variants vs v (Some x) was k t found =
-    let f = from_map (λ (f : RawField). f.ty) x.fields k t found in
+    let f = from_map (λ (f : RawField). f.type_) x.fields k t found in
     record { at = zero; v = v; listed = refl; variant = x; found = was; k = f.at; field = f.x; here = f.found; is = f.is }
 
 field_of : (variants : List RawVariant) (vs : List VariantId) (k : ℕ) (t : TypeRefId) → slice_get (flat_map (λ (v : VariantId). fields_by (slice_get variants v.0)) vs) k ≡ Some t → FieldOf variants vs t
@@ -138,28 +138,20 @@ module _ (raw : RawFacts) (law : IsLawful raw) where
   fine_type t x found =
       let lt : t < length raw.types = slice_get_within raw.types t x found in
       let size : length (map is_fine_type raw.types) ≡ length raw.types = length-map raw.types is_fine_type in
-      get_or_append_left (map is_fine_type raw.types) (map has_plain_params raw.adts) false t (omega arith) ∙ mapped is_fine_type raw.types t x false found
+      get_or_append_left (map is_fine_type raw.types) (map (has_plain_params raw) raw.adts) false t (omega arith) ∙ mapped is_fine_type raw.types t x false found
 
-  fine_adt : (a : ℕ) (y : RawAdt) → slice_get raw.adts a ≡ Some y → get_or (fine_nodes raw) (count + a) false ≡ has_plain_params y
+  fine_adt : (a : ℕ) (y : RawAdt) → slice_get raw.adts a ≡ Some y → get_or (fine_nodes raw) (count + a) false ≡ has_plain_params raw y
   fine_adt a y found =
       let size : length (map is_fine_type raw.types) ≡ length raw.types = length-map raw.types is_fine_type in
-      let at : get_or (fine_nodes raw) (length (map is_fine_type raw.types) + a) false ≡ get_or (map has_plain_params raw.adts) a false =
-      get_or-append-add (map is_fine_type raw.types) (map has_plain_params raw.adts) a false in
-      ap (λ (n : ℕ). get_or (fine_nodes raw) (n + a) false) (sym size) ∙ (at ∙ mapped has_plain_params raw.adts a y false found)
+      let at : get_or (fine_nodes raw) (length (map is_fine_type raw.types) + a) false ≡ get_or (map (has_plain_params raw) raw.adts) a false =
+      get_or-append-add (map is_fine_type raw.types) (map (has_plain_params raw) raw.adts) a false in
+      ap (λ (n : ℕ). get_or (fine_nodes raw) (n + a) false) (sym size) ∙ (at ∙ mapped (has_plain_params raw) raw.adts a y false found)
 
   graph_size : length (plain_graph raw) ≡ count + length raw.adts
   graph_size =
       let a : length (map (type_children count) raw.types) ≡ length raw.types = length-map raw.types (type_children count) in
       let b : length (map (adt_children raw.variants) raw.adts) ≡ length raw.adts = length-map raw.adts (adt_children raw.variants) in
       let c : length (plain_graph raw) ≡ length (map (type_children count) raw.types) + length (map (adt_children raw.variants) raw.adts) = length-append (map (type_children count) raw.types) (map (adt_children raw.variants) raw.adts) in
-      omega arith
-
-  pub fine_size : length (fine_nodes raw) ≡ length (plain_graph raw)
-  fine_size =
-      let a : length (map is_fine_type raw.types) ≡ length raw.types = length-map raw.types is_fine_type in
-      let b : length (map has_plain_params raw.adts) ≡ length raw.adts = length-map raw.adts has_plain_params in
-      let c : length (fine_nodes raw) ≡ length (map is_fine_type raw.types) + length (map has_plain_params raw.adts) = length-append (map is_fine_type raw.types) (map has_plain_params raw.adts) in
-      let d : length (plain_graph raw) ≡ count + length raw.adts = graph_size in
       omega arith
 
   pub few_types : length raw.types < 2 ^ 32
@@ -258,8 +250,8 @@ module _ (raw : RawFacts) (law : IsLawful raw) where
     bad_adt : (node a : ℕ) → IsUnmarked (fine_nodes raw) node → node ≡ count + a → IsPlainWhere raw P a → ⊥
     bad_adt node a bad is h =
         let e : get_or (fine_nodes raw) node false ≡ get_or (fine_nodes raw) (count + a) false = ap (λ (m : ℕ). get_or (fine_nodes raw) m false) is in
-        let f : get_or (fine_nodes raw) (count + a) false ≡ has_plain_params h.adt = fine_adt a h.adt h.found in
-        let g : has_plain_params h.adt ≡ true = h.params in cc
+        let f : get_or (fine_nodes raw) (count + a) false ≡ has_plain_params raw h.adt = fine_adt a h.adt h.found in
+        let g : has_plain_params raw h.adt ≡ true = h.params in cc
 
     named_not : (n : ℕ) (x : RawType) (k c : ℕ) → IsPlainKind raw P n x → slice_get (named_adt count x) k ≡ Some c → NotPlain P c → ⊥
     named_not n (type.Adt a ts) zero c own found not = (let same : count + a.0 ≡ c = cc in not.adt a.0 (sym same) own.0)
@@ -367,7 +359,3 @@ module _ (raw : RawFacts) (law : IsLawful raw) where
       adts = in_plain_set raw marked_adts marked_set;
       plain_adts = closed_marked (IsPlainAdt raw) (plain_where_plain raw);
     }
-
-    -- so whatever set of adts is closed, each of its adts is plain
-    pub closed_plain : (P : ℕ → Type 0) → ((a : ℕ) → P a → IsPlainWhere raw P a) → (a : ℕ) → P a → IsPlainAdt raw a
-    closed_plain P closed a h = in_plain_set raw marked_adts marked_set a (closed_marked P closed a h)

@@ -53,7 +53,7 @@ abbrev adt_of : RawAdtKind → List VariantId → RawAdt
 adt_of k vs = record { name = codes "A"; kind = k; params = []; preds = []; variants = vs; repr = None; unsize = None }
 
 abbrev field_of : ℕ → RawField
-field_of t = record { name = codes "0"; ty = w t; vis = visible.Pub }
+field_of t = record { name = codes "0"; type_ = w t; vis = visible.Pub }
 
 abbrev variant_of : ℕ → RawCtor → List RawField → RawVariant
 variant_of a c fields = record { adt = record { 0 = a }; name = codes "V"; ctor = c; fields = fields; body = None }
@@ -116,7 +116,7 @@ no_union : (set : ℕ → Bool) → IsPlainSet united set → IsTrue (set 0) →
 no_union set h has =
     let here = h.each 0 has in
     let same : adt_of kind.Union (v 0 ∷ []) ≡ here.adt = (let found : Some (adt_of kind.Union (v 0 ∷ [])) ≡ Some here.adt = here.found in cc) in
-    let params : has_plain_params (adt_of kind.Union (v 0 ∷ [])) ≡ true = ap has_plain_params same ∙ here.params in
+    let params : has_plain_params united (adt_of kind.Union (v 0 ∷ [])) ≡ true = ap (has_plain_params united) same ∙ here.params in
     let told : false ≡ true = params in absurd (cc)
 
 names_union : (set : ℕ → Bool) → IsPlainSet united set → (n t : ℕ) → t ≡ 1 → IsPlainType united (λ a. IsTrue (set a)) n t → ⊥
@@ -229,7 +229,7 @@ pub adt_with_const_is_not_plain : (raw : RawFacts) → slice_get raw.adts 0 ≡ 
 adt_with_const_is_not_plain raw at h =
     let here = h.is_plain.each 0 h.has in
     let same : with_const ≡ here.adt = (let found : Some with_const ≡ Some here.adt = sym at ∙ here.found in cc) in
-    let told : false ≡ true = ap has_plain_params same ∙ here.params in absurd (cc)
+    let told : false ≡ true = ap (has_plain_params raw) same ∙ here.params in absurd (cc)
 
 -- a function of a module with these parameters, and with `self` or not
 abbrev fn_of : List RawParam → Bool → RawFn
@@ -257,12 +257,12 @@ fn_with_self_is_not_plain raw h = let told : false ≡ true = h.header in absurd
 -- no plain body where no predicate says that the type parameter has a size, as in fn f<T: ?Sized>()
 pub unsized_has_no_plain_body : (raw : RawFacts) → slice_get raw.fns 0 ≡ Some (fn_of (parameter.Type ∷ []) false) → HasPlainBody raw (record { 0 = 0 }) → ⊥
 unsized_has_no_plain_body raw at h =
-    let sized : HasSizedParams (fn_of (parameter.Type ∷ []) false) = subst (λ o. IsSomeAnd o HasSizedParams) at h.sized in
+    let sized : HasSizedParams raw (fn_of (parameter.Type ∷ []) false) = subst (λ o. IsSomeAnd o (HasSizedParams raw)) at h.sized in
     let told : false ≡ true = sized 0 (omega arith) in absurd (cc)
 
 -- where there is no type parameter none lacks a size
-pub no_param_is_sized : (has_self : Bool) → HasSizedParams (fn_of [] has_self)
-no_param_is_sized has_self i below = absurd (omega arith)
+pub no_param_is_sized : (raw : RawFacts) (has_self : Bool) → HasSizedParams raw (fn_of [] has_self)
+no_param_is_sized raw has_self i below = absurd (omega arith)
 
 -- ---- expressions that are not plain
 

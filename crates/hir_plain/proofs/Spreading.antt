@@ -5,7 +5,7 @@ use Rattle.std.proofs.lemmas.Bool.{cases_lt, cases_eq}
 use Rattle.std.proofs.lemmas.List.{get_or_past, length_push}
 use Rattle.hir_raw.specs.Graph.{KidsFit, Edge, kids_of}
 use Rattle.hir_laws.specs.NoHoles.{In, in_first, in_last}
-use Rattle.hir_plain.specs.Spread.{IsMarked, IsUnmarked, ComesToBad, is_bad, by_child, AreGood, users_at, AreUsers, Marks, unmarked}
+use Rattle.hir_plain.specs.Spread.{IsMarked, IsUnmarked, ComesToBad, is_bad, by_child, users_at, AreUsers, Marks, unmarked}
 
 told : (b : Bool) → (b ≡ true) ⊎ (b ≡ false)
 told true = inl refl
@@ -257,15 +257,3 @@ module _ (kids users : List (List ℕ)) (fine : List Bool) (m : Marks) (rest : L
       let same : marked_count after.good + length after.waiting ≡ marked_count m.good + length rest = step.count in
       let one : length m.waiting ≡ length rest + 1 = ap length t.split ∙ length_push rest node in
       omega arith
-
--- where none waits, the marks are right
-pub spread_out : (kids : List (List ℕ)) (fine : List Bool) (m : Marks) → Spreading kids fine m → m.waiting ≡ [] → AreGood kids fine m.good
-spread_out kids fine m s none = record {
-  size = s.size;
-  own = s.own;
-  children = λ n k c edge marked. elim (s.edges n k c edge marked) as (λ _. IsMarked m.good c) [
-    | inl good ↦ good
-    | inr waiting ↦ absurd (none_in c (subst (λ (ns : List ℕ). In ns c) none waiting))
-  ];
-  others = s.others;
-}

@@ -1,5 +1,5 @@
 -- The users of each node of a graph, one edge after another, and the nodes without a mark.
-use Rattle.std.proofs.Common.{◌≡◌, ◌≢◌, ◌⊎◌, inl, inr, ℕ, zero, suc, ◌+◌, ◌<◌, Bool, false, List, [], ◌∷◌, ◌++◌, length, get_or, take, replicate, Some, refl, sym, ◌∙◌, ap, subst, arith, length-set, get_or-set_same, get_or-set_other}
+use Rattle.std.proofs.Common.{◌≡◌, ◌≢◌, ◌⊎◌, inl, inr, ℕ, zero, ◌+◌, ◌<◌, Bool, false, List, [], ◌∷◌, ◌++◌, length, get_or, take, Some, refl, sym, ◌∙◌, ap, subst, arith, length-set, get_or-set_same, get_or-set_other}
 use Rattle.std.specs.Prelude.{slice_set}
 use Rattle.std.proofs.lemmas.Bool.{cases_eq}
 use Rattle.std.proofs.lemmas.List.{take_more}
@@ -7,7 +7,7 @@ use Rattle.std.proofs.Math.Nat.{eq-or-lt_of_le}
 use Rattle.hir_raw.specs.Graph.{Edge, kids_of}
 use Rattle.hir_laws.specs.NoHoles.{In, in_first, in_last}
 use Rattle.hir_plain.specs.Spread.{IsMarked, IsUnmarked, users_at, AreUsers, AddsUser}
-use Rattle.hir_plain.proofs.Spreading.{in_split, in_one, none_in}
+use Rattle.hir_plain.proofs.Spreading.{in_split, in_one}
 
 -- ---- one more user of one node
 
@@ -39,9 +39,6 @@ module _ (mid new : List (List ℕ)) (c n : ℕ) (lt : c < length mid) (is : new
     | inr other ↦ inl (subst (λ (us : List ℕ). In us m) (at_other d other) h)
   ]
 
-pub adds_none : (us : List (List ℕ)) (n : ℕ) → AddsUser us us n []
-adds_none us n = record { size = refl; kept = λ c m h. h; added = λ c h. absurd (none_in c h); only = λ c m h. inl h }
-
 adds_one : (old mid new : List (List ℕ)) (n : ℕ) (cs : List ℕ) (c : ℕ) → AddsUser old mid n cs → c < length mid → new ≡ slice_set mid c (users_at mid c ++ n ∷ []) → AddsUser old new n (cs ++ c ∷ [])
 adds_one old mid new n cs c a lt is = record {
   size = size_same mid new c n lt is ∙ a.size;
@@ -66,18 +63,6 @@ adds_more old mid new n cs i lt a inside is = subst (λ (xs : List ℕ). AddsUse
 
 -- ---- node after node
 
-empty_at : (i c : ℕ) → users_at (replicate i []) c ≡ []
-empty_at zero c = refl
-empty_at (suc i) zero = refl
-empty_at (suc i) (suc c) = empty_at i c
-
-pub users_none : (kids users : List (List ℕ)) (count : ℕ) → count ≡ length kids → length users ≡ count → users ≡ replicate count [] → AreUsers kids 0 users
-users_none kids users count size long is = record {
-  size = long ∙ size;
-  all = λ n k c lt edge. absurd (omega arith);
-  only = λ c n h. absurd (none_in n (subst (λ (us : List ℕ). In us n) (ap (λ (us : List (List ℕ)). users_at us c) is ∙ empty_at count c) h));
-}
-
 pub users_more : (kids old new : List (List ℕ)) (i : ℕ) → AreUsers kids i old → AddsUser old new i (kids_of kids i) → AreUsers kids (i + 1) new
 users_more kids old new i are adds = record {
   size = adds.size ∙ are.size;
@@ -97,12 +82,6 @@ users_more kids old new i are adds = record {
 pub record AreUnmarked (marks : List Bool) (i : ℕ) (ns : List ℕ) : Type 0 where
   pub all : (n : ℕ) → n < i → IsUnmarked marks n → In ns n
   pub only : (n : ℕ) → In ns n → (n < i) × IsUnmarked marks n
-
-pub unmarked_none : (marks : List Bool) (ns : List ℕ) → ns ≡ [] → AreUnmarked marks 0 ns
-unmarked_none marks ns is = record {
-  all = λ n lt h. absurd (omega arith);
-  only = λ n h. absurd (none_in n (subst (λ (xs : List ℕ). In xs n) is h));
-}
 
 -- the next node has a mark
 pub unmarked_kept : (marks : List Bool) (i : ℕ) (ns : List ℕ) → IsMarked marks i → AreUnmarked marks i ns → AreUnmarked marks (i + 1) ns

@@ -2,3 +2,4 @@ pub mod Plain
 pub mod PlainTypes
 pub mod Spread
 pub mod PlainMarks
+pub mod Sized

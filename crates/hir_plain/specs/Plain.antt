@@ -9,7 +9,6 @@ use Rattle.hir_types.specs.declared.ids.ExprOrPatId.{ExprOrPatId}
 use Rattle.hir_types.specs.declared.ids.ExprOrPatId.TheVariants as node
 use Rattle.hir_types.specs.declared.ids.DefWithBodyId.{DefWithBodyId}
 use Rattle.hir_types.specs.declared.ids.DefWithBodyId.TheVariants as def
-use Rattle.hir_raw.specs.declared.raw.Other.{Other}
 use Rattle.hir_raw.specs.declared.raw.RawType.{RawType}
 use Rattle.hir_raw.specs.declared.raw.RawType.TheVariants as type
 use Rattle.hir_raw.specs.declared.raw.RawAdtKind.{RawAdtKind}
@@ -34,12 +33,13 @@ use Rattle.hir_raw.specs.declared.raw.BindingAnnotation.TheVariants as mode
 use Rattle.hir_raw.specs.declared.raw.RawBinding.{RawBinding}
 use Rattle.hir_raw.specs.declared.raw.RawBody.{RawBody}
 use Rattle.hir_raw.specs.declared.raw.RawFacts.{RawFacts}
-use Rattle.hir_raw.specs.Types.{type_parts}
+use Rattle.hir_raw.specs.WrittenTypes.{type_parts}
 use Rattle.hir_laws.specs.Bodies.{body_of}
 use Rattle.hir_raw.specs.Scope.{adt_params, has_params, params_of}
 use Rattle.hir_raw.specs.Order.{Role, callee, Part, Node, IsNode, part_at}
 use Rattle.hir_ids.specs.Carried.{is_empty, is_type_param, is_in_module}
 use Rattle.hir_ids.specs.Entries.{AllHold}
+use Rattle.hir_plain.specs.Sized.{is_sized_of, is_sized_pred}
 
 -- ---- types
 
@@ -61,17 +61,9 @@ pub data IsPlainType (raw : RawFacts) (P : ℕ → Type 0) (n : ℕ) : ℕ → T
       → IsPlainType raw P n t
 
 abbrev pub ArePlainTypes : RawFacts → (ℕ → Type 0) → ℕ → List TypeRefId → Type 0
-ArePlainTypes raw P n ts = (k : ℕ) (t : TypeRefId) → slice_get ts k ≡ Some t → IsPlainType raw P n t.0
+ArePlainTypes raw P n ts = (k : ℕ) (w : TypeRefId) → slice_get ts k ≡ Some w → IsPlainType raw P n w.0
 
 -- ---- adts
-
--- the predicate says that type parameter i of its item has a size: none that is read does yet
-abbrev pub is_sized_of : ℕ → Other → Bool
-is_sized_of i p = false
-
--- it says so of some type parameter of its item
-abbrev pub is_sized_pred : Other → Bool
-is_sized_pred p = false
 
 abbrev pub is_plain_adt_kind : RawAdtKind → Bool
 is_plain_adt_kind kind.Struct = true
@@ -79,13 +71,14 @@ is_plain_adt_kind kind.Enum = true
 is_plain_adt_kind kind.Union = false
 
 -- a struct or enum whose parameters are types, with no predicates but that these have a size
-abbrev pub has_plain_params : RawAdt → Bool
-has_plain_params a =
-    is_plain_adt_kind a.kind && (list_all is_type_param a.params && list_all is_sized_pred a.preds)
+abbrev pub has_plain_params : RawFacts → RawAdt → Bool
+has_plain_params raw a =
+    is_plain_adt_kind a.kind
+    && (list_all is_type_param a.params && list_all (is_sized_pred raw (length a.params)) a.preds)
 
 abbrev pub fields_by : Option RawVariant → List TypeRefId
 fields_by None = []
-fields_by (Some x) = map (λ f. f.ty) x.fields
+fields_by (Some x) = map (λ f. f.type_) x.fields
 
 -- the types of the fields of an adt, variant after variant
 abbrev pub adt_fields : RawFacts → RawAdt → List TypeRefId
@@ -96,7 +89,7 @@ adt_fields raw a = flat_map (λ v. fields_by (slice_get raw.variants v.0)) a.var
 pub record IsPlainWhere (raw : RawFacts) (P : ℕ → Type 0) (a : ℕ) : Type 0 where
   pub adt : RawAdt
   pub found : slice_get raw.adts a ≡ Some adt
-  pub params : IsTrue (has_plain_params adt)
+  pub params : IsTrue (has_plain_params raw adt)
   pub fields : ArePlainTypes raw P (length adt.params) (adt_fields raw adt)
 
 -- each adt of the set is plain where all of them are
@@ -109,9 +102,9 @@ pub record IsPlainAdt (raw : RawFacts) (a : ℕ) : Type 0 where
   pub is_plain : IsPlainSet raw set
   pub has : IsTrue (set a)
 
--- written type t is plain over n parameters
+-- written type w is plain over n parameters
 abbrev pub IsPlainOver : RawFacts → ℕ → TypeRefId → Type 0
-IsPlainOver raw n t = IsPlainType raw (IsPlainAdt raw) n t.0
+IsPlainOver raw n w = IsPlainType raw (IsPlainAdt raw) n w.0
 
 -- ---- constructors
 
@@ -136,13 +129,15 @@ IsPlainCtor raw test v =
 
 -- a function of a module whose parameters are types, with no predicates but that these have a size, and
 -- without `self`
-abbrev pub has_plain_header : RawFn → Bool
-has_plain_header f =
-    is_in_module f.«at» && (list_all is_type_param f.params && (list_all is_sized_pred f.preds && not f.has_self))
+abbrev pub has_plain_header : RawFacts → RawFn → Bool
+has_plain_header raw f =
+    is_in_module f.«at»
+    && (list_all is_type_param f.params
+    && (list_all (is_sized_pred raw (length f.params)) f.preds && not f.has_self))
 
 -- such a function, whose inputs and output are plain over its parameters
 pub record IsPlainSignature (raw : RawFacts) (f : RawFn) : Type 0 where
-  pub header : IsTrue (has_plain_header f)
+  pub header : IsTrue (has_plain_header raw f)
   pub inputs : ArePlainTypes raw (IsPlainAdt raw) (length f.params) f.inputs
   pub output : IsPlainOver raw (length f.params) f.output
 
@@ -267,13 +262,13 @@ pub record IsPlainBody (raw : RawFacts) (n : ℕ) (b : RawBody) : Type 0 where
       → IsTrue (stands_right raw b p)
 
 -- each type parameter of the function has a predicate that it has a size
-abbrev pub HasSizedParams : RawFn → Type 0
-HasSizedParams f = (i : ℕ) → i < length f.params → IsTrue (list_any (is_sized_of i) f.preds)
+abbrev pub HasSizedParams : RawFacts → RawFn → Type 0
+HasSizedParams raw f = (i : ℕ) → i < length f.params → IsTrue (list_any (is_sized_of raw i) f.preds)
 
 -- a plain function whose own type parameters have a size, with a plain body
 pub record HasPlainBody (raw : RawFacts) (f : FunctionId) : Type 0 where
   pub header : IsPlainFn raw f
-  pub sized : IsSomeAnd (slice_get raw.fns f.0) HasSizedParams
+  pub sized : IsSomeAnd (slice_get raw.fns f.0) (HasSizedParams raw)
   pub body : IsSomeAnd (body_of raw (def.FunctionId f)) (λ b. IsPlainBody raw (params_of raw (def.FunctionId f)) b)
 
 -- bodies of constants, statics and variants are not plain

@@ -8,7 +8,7 @@ use Rattle.hir_raw.specs.declared.raw.RawVariant.{RawVariant}
 use Rattle.hir_raw.specs.declared.raw.RawFn.{RawFn}
 use Rattle.hir_raw.specs.declared.raw.RawFacts.{RawFacts}
 use Rattle.hir_plain.specs.declared.plain.PlainMarks.{PlainMarks}
-use Rattle.hir_raw.specs.Types.{type_parts}
+use Rattle.hir_raw.specs.WrittenTypes.{type_parts}
 use Rattle.hir_laws.specs.WrittenFits.{FitsUnder}
 use Rattle.hir_plain.specs.Plain.{has_plain_params, has_plain_header, IsPlainOver, IsPlainAdt, IsPlainSignature}
 use Rattle.hir_plain.specs.Spread.{IsMarked}
@@ -32,7 +32,7 @@ type_children count x = map (λ t. t.0) (type_parts x) ++ named_adt count x
 
 abbrev pub field_ids : Option RawVariant → List ℕ
 field_ids None = []
-field_ids (Some x) = map (λ f. f.ty.0) x.fields
+field_ids (Some x) = map (λ f. f.type_.0) x.fields
 
 -- those of an adt are the types of its fields
 abbrev pub adt_children : List RawVariant → RawAdt → List ℕ
@@ -54,21 +54,21 @@ is_fine_type type.Other = false
 
 -- which nodes may be plain, apart from what they are made of
 abbrev pub fine_nodes : RawFacts → List Bool
-fine_nodes raw = map is_fine_type raw.types ++ map has_plain_params raw.adts
+fine_nodes raw = map is_fine_type raw.types ++ map (has_plain_params raw) raw.adts
 
 -- ---- marks
 
 -- marked are the written types that are plain where they fit, and the plain adts
 pub record ArePlainNodes (raw : RawFacts) (nodes : List Bool) : Type 0 where
-  pub types : (n : ℕ) (t : TypeRefId) → FitsUnder raw n t.0 → IsMarked nodes t.0 → IsPlainOver raw n t
-  pub plain_types : (n : ℕ) (t : TypeRefId) → IsPlainOver raw n t → IsMarked nodes t.0
+  pub types : (n : ℕ) (w : TypeRefId) → FitsUnder raw n w.0 → IsMarked nodes w.0 → IsPlainOver raw n w
+  pub plain_types : (n : ℕ) (w : TypeRefId) → IsPlainOver raw n w → IsMarked nodes w.0
   pub adts : (a : ℕ) → IsMarked nodes (length raw.types + a) → IsPlainAdt raw a
   pub plain_adts : (a : ℕ) → IsPlainAdt raw a → IsMarked nodes (length raw.types + a)
 
 -- the header of a function is plain, and its types are marked
-pub record HasMarkedSignature (nodes : List Bool) (f : RawFn) : Type 0 where
-  pub header : IsTrue (has_plain_header f)
-  pub inputs : (k : ℕ) (t : TypeRefId) → slice_get f.inputs k ≡ Some t → IsMarked nodes t.0
+pub record HasMarkedSignature (raw : RawFacts) (nodes : List Bool) (f : RawFn) : Type 0 where
+  pub header : IsTrue (has_plain_header raw f)
+  pub inputs : (k : ℕ) (w : TypeRefId) → slice_get f.inputs k ≡ Some w → IsMarked nodes w.0
   pub output : IsMarked nodes f.output.0
 
 -- marked are the nodes that are plain, and the functions with a plain signature

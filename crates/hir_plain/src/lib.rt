@@ -2,6 +2,7 @@
 #![tactic(auto)]
 
 mod plain;
+mod sized;
 mod spread;
 
 pub use plain::{PlainMarks, has_sized_params, mark_at};

@@ -1,15 +1,15 @@
 //! Which written types, adts and functions are plain.
 ghost use Rattle.std.specs.Prelude.{◌≡◌, ◌↔◌, ◌<◌, ◌^◌, ◌++◌, ℕ, Some, map, length, slice_get, slice_index_or, false, IfOk, IsTrue, OnOk};
-ghost use Rattle.std.specs.List.{list_all, list_any};
 ghost use Rattle.hir_types.specs.declared.ids.TypeRefId.{TypeRefId};
 ghost use Rattle.hir_laws.specs.Lawful.{IsLawful};
 ghost use Rattle.hir_plain.specs.Spread.{IsMarked};
-ghost use Rattle.hir_plain.specs.Plain.{is_sized_of, is_sized_pred, is_plain_adt_kind, has_plain_params, has_plain_header, IsPlainSignature, HasSizedParams};
+ghost use Rattle.hir_plain.specs.Plain.{is_plain_adt_kind, has_plain_params, has_plain_header, IsPlainSignature, HasSizedParams};
 ghost use Rattle.hir_plain.specs.PlainMarks.{named_adt, type_children, field_ids, adt_children, plain_graph, is_fine_type, fine_nodes, ArePlainNodes, HasMarkedSignature, ArePlainMarks};
 
+use crate::sized::{are_sized_preds, is_sized_param};
 use crate::spread::good_nodes;
 use hir_ids::are_type_params;
-use hir_raw::{Other, RawAdt, RawAdtKind, RawAt, RawFacts, RawField, RawFn, RawType, RawVariant};
+use hir_raw::{RawAdt, RawAdtKind, RawAt, RawFacts, RawField, RawFn, RawType, RawVariant};
 use hir_types::{List, TypeRefId, VariantId};
 use std::alloc::{AllocError, Global};
 
@@ -54,10 +54,10 @@ fn children_of_type(alloc: Global, count: usize, ty: &RawType) -> Result<List<us
 }
 
 fn push_fields(out: &mut Vec<usize>, fields: &[RawField]) -> Result<(), AllocError>
-    ensures { OnOk result (out.new.items ≡ out.old.items ++ map (λ f. f.ty.0) fields.now) }
+    ensures { OnOk result (out.new.items ≡ out.old.items ++ map (λ f. f.type_.0) fields.now) }
 {
     for field in fields {
-        out.push(field.ty.0 as usize)?;
+        out.push(field.type_.0 as usize)?;
     }
     Ok(())
 }
@@ -146,39 +146,12 @@ fn is_fine_type(ty: &RawType) -> bool
     }
 }
 
-/// Whether a predicate says that this type parameter of its item has a size. No predicate that is
-/// read says anything yet.
-fn is_sized_of(_param: usize, _pred: &Other) -> bool
-    ensures { result ≡ is_sized_of _param _pred.now }
-{
-    false
-}
-
-/// Whether it says so of some type parameter of its item.
-fn is_sized_pred(_pred: &Other) -> bool
-    ensures { result ≡ is_sized_pred _pred.now }
-{
-    false
-}
-
-fn are_sized_preds(preds: &[Other]) -> bool
-    ensures { result ≡ list_all is_sized_pred preds.now }
-{
-    preds.iter().all(|pred| is_sized_pred(pred))
-}
-
-fn is_sized_param(preds: &[Other], param: usize) -> bool
-    ensures { result ≡ list_any (is_sized_of param) preds.now }
-{
-    preds.iter().any(|pred| is_sized_of(param, pred))
-}
-
 /// Whether each type parameter of a function has a predicate that it has a size.
-pub fn has_sized_params(function: &RawFn) -> bool
-    ensures { IsTrue result ↔ HasSizedParams function.now }
+pub fn has_sized_params(raw: &RawFacts, function: &RawFn) -> bool
+    ensures { IsTrue result ↔ HasSizedParams raw.now function.now }
 {
     for param in 0..function.params.len() {
-        if !is_sized_param(function.preds.as_slice(), param) {
+        if !is_sized_param(raw, function.preds.as_slice(), param) {
             return false;
         }
     }
@@ -194,12 +167,12 @@ fn is_plain_kind(kind: RawAdtKind) -> bool
     }
 }
 
-fn has_plain_params(adt: &RawAdt) -> bool
-    ensures { result ≡ has_plain_params adt.now }
+fn has_plain_params(raw: &RawFacts, adt: &RawAdt) -> bool
+    ensures { result ≡ has_plain_params raw.now adt.now }
 {
     is_plain_kind(adt.kind)
         && are_type_params(adt.params.as_slice())
-        && are_sized_preds(adt.preds.as_slice())
+        && are_sized_preds(raw, adt.params.len(), adt.preds.as_slice())
 }
 
 /// Which nodes may be plain, apart from what they are made of.
@@ -210,15 +183,15 @@ fn fine_nodes(alloc: Global, raw: &RawFacts) -> Result<Vec<bool>, AllocError>
     for ty in raw.types.as_slice() {
         fine.push(is_fine_type(ty))?;
     }
-    push_fine_adts(&mut fine, raw.adts.as_slice())?;
+    push_fine_adts(&mut fine, raw, raw.adts.as_slice())?;
     Ok(fine)
 }
 
-fn push_fine_adts(fine: &mut Vec<bool>, adts: &[RawAdt]) -> Result<(), AllocError>
-    ensures { OnOk result (fine.new.items ≡ fine.old.items ++ map has_plain_params adts.now) }
+fn push_fine_adts(fine: &mut Vec<bool>, raw: &RawFacts, adts: &[RawAdt]) -> Result<(), AllocError>
+    ensures { OnOk result (fine.new.items ≡ fine.old.items ++ map (has_plain_params raw.now) adts.now) }
 {
     for adt in adts {
-        fine.push(has_plain_params(adt))?;
+        fine.push(has_plain_params(raw, adt))?;
     }
     Ok(())
 }
@@ -230,16 +203,15 @@ fn plain_nodes(alloc: Global, raw: &RawFacts) -> Result<Vec<bool>, AllocError>
 {
     let kids = graph_of(alloc, raw)?;
     let fine = fine_nodes(alloc, raw)?;
-    let good = good_nodes(alloc, &kids, &fine)?;
-    Ok(good)
+    good_nodes(alloc, &kids, &fine)
 }
 
-fn has_plain_header(function: &RawFn) -> bool
-    ensures { result ≡ has_plain_header function.now }
+fn has_plain_header(raw: &RawFacts, function: &RawFn) -> bool
+    ensures { result ≡ has_plain_header raw.now function.now }
 {
     matches!(function.at, RawAt::Module(_))
         && are_type_params(function.params.as_slice())
-        && are_sized_preds(function.preds.as_slice())
+        && are_sized_preds(raw, function.params.len(), function.preds.as_slice())
         && !function.has_self
 }
 
@@ -249,21 +221,21 @@ fn are_marked(nodes: &[bool], types: &[TypeRefId]) -> bool
     types.iter().all(|ty| mark_at(nodes, ty.0 as usize))
 }
 
-fn has_marked_signature(nodes: &[bool], function: &RawFn) -> bool
-    ensures { IsTrue result ↔ HasMarkedSignature nodes.now function.now }
+fn has_marked_signature(raw: &RawFacts, nodes: &[bool], function: &RawFn) -> bool
+    ensures { IsTrue result ↔ HasMarkedSignature raw.now nodes.now function.now }
 {
-    has_plain_header(function)
+    has_plain_header(raw, function)
         && are_marked(nodes, function.inputs.as_slice())
         && mark_at(nodes, function.output.0 as usize)
 }
 
-fn has_plain_signature(_raw: &RawFacts, nodes: &[bool], _at: usize, function: &RawFn) -> bool
-    requires lawful { IsLawful _raw.now }
-    requires nodes { ArePlainNodes _raw.now nodes.now }
-    requires found { slice_get _raw.now.fns _at ≡ Some function.now }
-    ensures { IsTrue result ↔ IsPlainSignature _raw.now function.now }
+fn has_plain_signature(raw: &RawFacts, nodes: &[bool], _at: usize, function: &RawFn) -> bool
+    requires lawful { IsLawful raw.now }
+    requires nodes { ArePlainNodes raw.now nodes.now }
+    requires found { slice_get raw.now.fns _at ≡ Some function.now }
+    ensures { IsTrue result ↔ IsPlainSignature raw.now function.now }
 {
-    has_marked_signature(nodes, function)
+    has_marked_signature(raw, nodes, function)
 }
 
 /// Which written types, adts and functions are plain.

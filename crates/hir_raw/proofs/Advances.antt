@@ -5,11 +5,11 @@ use Rattle.std.proofs.lemmas.List.Elements.{Contains-push, Contains-append_left}
 use Rattle.std.proofs.lemmas.Bool.{cases_lt, cases_eq, false≢true}
 use Rattle.std.proofs.lemmas.Option.{slice_get_within}
 use Rattle.hir_raw.specs.Graph.{kids_of, Edge}
-use Rattle.hir_raw.specs.Visits.{Marks, is_seen, next_of, unseen, advanced, IsReady}
+use Rattle.hir_raw.specs.Visits.{Visited, is_seen, next_of, unseen, advanced, HasRoomFor}
 use Rattle.hir_raw.proofs.Walking.{IsSeen, start_of, end_of, depth_of, on, Reaches, Passed, Goes, Stands, Walking, Keeps, other_seen, fewer_unseen, reaches_kept, passed_kept, goes_kept}
 
 -- a walk that enters c from the node n on top, of which it was not entered before
-pub record Entering (kids : List (List ℕ)) (root : ℕ) (m : Marks) (n c : ℕ) : Type 0 where
+pub record Entering (kids : List (List ℕ)) (root : ℕ) (m : Visited) (n c : ℕ) : Type 0 where
   pub walking : Walking kids root m
   pub inside : n < length kids
   pub child_inside : c < length kids
@@ -18,11 +18,11 @@ pub record Entering (kids : List (List ℕ)) (root : ℕ) (m : Marks) (n c : ℕ
   pub edge : Edge kids n (next_of m n) c
   pub fresh : is_seen m c ≡ false
 
-module _ (kids : List (List ℕ)) (root : ℕ) (m : Marks) (n c : ℕ) (h : Entering kids root m n c) where
-  abbrev new : Marks
+module _ (kids : List (List ℕ)) (root : ℕ) (m : Visited) (n c : ℕ) (h : Entering kids root m n c) where
+  abbrev new : Visited
   new = advanced m n c
 
-  ready : IsReady (length kids) m
+  ready : HasRoomFor (length kids) m
   ready = h.walking.ready
 
   top_place : (i : ℕ) × (suc i ≡ length m.stack)

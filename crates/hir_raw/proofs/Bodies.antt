@@ -82,12 +82,12 @@ list_at b (inner (node.PatId p)) h =
     ∙ (ap (λ (o : Option RawPat). option_map (λ p. nodes (pat_parts p)) o) x.1 ∙ ap (λ (o : Option RawPat). Some (nodes (parts_of_pat o))) (sym x.1))))
 
 -- a node at each position
-pub record At (b : RawBody) (k : ℕ) : Type 0 where
+pub record NodeAt (b : RawBody) (k : ℕ) : Type 0 where
   pub here : Node
   pub is_node : IsNode b here
   pub place : position b here ≡ k
 
-pub node_at : (b : RawBody) (k : ℕ) → k < node_count b → At b k
+pub node_at : (b : RawBody) (k : ℕ) → k < node_count b → NodeAt b k
 node_at b k lt =
     elim (cases_lt k (length b.exprs)) [
       | inl e ↦ record { here = inner (node.ExprId (record { 0 = k })); is_node = e; place = refl }

@@ -4,22 +4,22 @@ use Rattle.std.specs.List.{Contains}
 use Rattle.std.proofs.lemmas.List.{get_or-set_same, get_or-set_other, length-set, length-take-le, get_or-take, get_or_default}
 use Rattle.std.proofs.lemmas.Bool.{cases_lt, cases_eq}
 use Rattle.hir_raw.specs.Graph.{kids_of, Edge}
-use Rattle.hir_raw.specs.Visits.{Marks, is_seen, next_of, departed, IsReady}
+use Rattle.hir_raw.specs.Visits.{Visited, is_seen, next_of, departed, HasRoomFor}
 use Rattle.hir_raw.proofs.Walking.{IsSeen, start_of, end_of, depth_of, on, Reaches, Goes, Stands, Walking, Keeps, reaches_kept, passed_kept, entry_kept, goes_kept}
 
 -- a walk that leaves the node n on top, all children of which were entered
-pub record Leaving (kids : List (List ℕ)) (root : ℕ) (m : Marks) (n : ℕ) : Type 0 where
+pub record Leaving (kids : List (List ℕ)) (root : ℕ) (m : Visited) (n : ℕ) : Type 0 where
   pub walking : Walking kids root m
   pub inside : n < length kids
   pub top : (i : ℕ) → suc i ≡ length m.stack → on m i ≡ n
   pub under_way : 0 < length m.stack
   pub all : length (kids_of kids n) ≤ next_of m n
 
-module _ (kids : List (List ℕ)) (root : ℕ) (m : Marks) (n : ℕ) (h : Leaving kids root m n) where
-  abbrev new : Marks
+module _ (kids : List (List ℕ)) (root : ℕ) (m : Visited) (n : ℕ) (h : Leaving kids root m n) where
+  abbrev new : Visited
   new = departed m n
 
-  ready : IsReady (length kids) m
+  ready : HasRoomFor (length kids) m
   ready = h.walking.ready
 
   top_place : (i : ℕ) × (suc i ≡ length m.stack)

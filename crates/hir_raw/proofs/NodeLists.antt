@@ -1,6 +1,6 @@
 -- The nodes that something is made of, list by list.
 use Rattle.std.proofs.Common.{◌≡◌, ◌+◌, ◌<◌, ℕ, suc, List, [], ◌∷◌, ◌++◌, length, map, get_or, take, Option, Some, None, refl, sym, ap, ◌∙◌}
-use Rattle.std.proofs.lemmas.List.{append_assoc, map-append, map_more, take_more}
+use Rattle.std.proofs.lemmas.List.{append_assoc, map-append, take_more}
 use Rattle.hir_types.specs.declared.ids.ExprId.{ExprId}
 use Rattle.hir_types.specs.declared.ids.PatId.{PatId}
 use Rattle.hir_types.specs.declared.ids.ExprOrPatId.{ExprOrPatId}
@@ -130,11 +130,3 @@ tuple_pushed x es new all ds is none same pushed =
     let start : all ≡ map (λ e. node.ExprId e) es =
     pushed ∙ (ap (λ (ns : List ExprOrPatId). ns ++ map (λ e. node.ExprId e) ds) none ∙ ap (λ (rs : List ExprId). map (λ e. node.ExprId e) rs) same) in
     start ∙ (sym (nodes-exprs element 0 es) ∙ ap (λ (y : RawExpr). nodes (expr_parts y)) (sym is))
-
--- one more of a list is mapped
-pub mapped_more : {X Y : Type 0} (f : X → Y) (old now new : List Y) (xs : List X) (i : ℕ) (d : X) (y : Y) → i < length xs → now ≡ old ++ map f (take i xs)
-    → new ≡ now ++ y ∷ [] → y ≡ f (get_or xs i d) → new ≡ old ++ map f (take (i + 1) xs)
-mapped_more {X} {Y} f old now new xs i d y lt before pushed is =
-    let more : map f (take (i + 1) xs) ≡ map f (take i xs) ++ f (get_or xs i d) ∷ [] = map_more f xs i d lt in
-    pushed ∙ (ap (λ (ys : List Y). ys ++ y ∷ []) before ∙ (append_assoc old (map f (take i xs)) (y ∷ [])
-    ∙ (ap (λ (z : Y). old ++ (map f (take i xs) ++ z ∷ [])) is ∙ ap (λ (ys : List Y). old ++ ys) (sym more))))

@@ -8,11 +8,11 @@ use Rattle.std.proofs.lemmas.Bool.{cases_lt, cases_eq, false≢true}
 use Rattle.std.proofs.lemmas.Option.{slice_get_within, option_and_then_some}
 use Rattle.hir_raw.specs.declared.schedule.Schedule.{Schedule}
 use Rattle.hir_raw.specs.Graph.{kids_of, Edge, leads, OneWay, IsTreeGraph, IsNumbering, Follow, number_after, start_at, end_at}
-use Rattle.hir_raw.specs.Visits.{Marks, next_of, unseen, blank, entered, MeetsAgain}
+use Rattle.hir_raw.specs.Visits.{Visited, next_of, unseen, blank, entered, MeetsAgain}
 use Rattle.hir_raw.proofs.Walking.{IsSeen, start_of, end_of, depth_of, on, Passed, Ended, Entry, Goes, Stands, Walking, seen_in, blank_at, fewer_unseen, none_unseen}
 
 module _ (kids : List (List ℕ)) (root : ℕ) (inside : root < length kids) where
-  abbrev begun : Marks
+  abbrev begun : Visited
   begun = entered (blank (length kids)) root
 
   begun_seen : IsSeen begun root
@@ -91,7 +91,7 @@ module _ (kids : List (List ℕ)) (root : ℕ) (inside : root < length kids) whe
 
 -- ---- where it ends without numbers
 
-module _ (kids : List (List ℕ)) (root : ℕ) (m : Marks) (w : Walking kids root m) where
+module _ (kids : List (List ℕ)) (root : ℕ) (m : Visited) (w : Walking kids root m) where
   step_from : (n k c : ℕ) (way : List ℕ) → leads kids root way ≡ Some n → Edge kids n k c → leads kids root (k ∷ way) ≡ Some c
   step_from n k c way there edge = rw there edge
 
@@ -164,7 +164,7 @@ after_all s from to [] none last = sym (none refl)
 after_all s from to (c ∷ cs) none last =
     after_all s (end_at s c) to cs (λ z. sym (last 0 c (omega arith) refl)) (λ j d e p. last (suc j) d (omega arith) p)
 
-module _ (kids : List (List ℕ)) (root : ℕ) (m : Marks) (w : Walking kids root m) (empty : length m.stack ≡ 0) (all : m.clock ≡ length kids) (s : Schedule)
+module _ (kids : List (List ℕ)) (root : ℕ) (m : Visited) (w : Walking kids root m) (empty : length m.stack ≡ 0) (all : m.clock ≡ length kids) (s : Schedule)
     (starts : s.starts ≡ m.starts) (ends : s.ends ≡ m.ends) (depths : s.depths ≡ m.depths) where
   start_is : (n : ℕ) → start_at s n ≡ start_of m n
   start_is n = ap (λ (xs : List ℕ). get_or xs n 0) starts

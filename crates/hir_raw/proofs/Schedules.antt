@@ -12,7 +12,7 @@ use Rattle.hir_raw.specs.Order.{IsLow, Part, Node, the_body, inner, IsInBody, Is
 use Rattle.hir_raw.specs.Graph.{kids_of, Edge, KidsFit, leads, OneWay, IsTreeGraph, number_after, Follow, IsNumbering}
 use Rattle.hir_raw.specs.Nodes.{nodes, node_lists, positions, graph_of}
 use Rattle.hir_raw.proofs.Ways.{depth_is_steps, way_to, way_to_node}
-use Rattle.hir_raw.proofs.Bodies.{lists_size, graph_size, list_at, position_inside, At, node_at, one_position}
+use Rattle.hir_raw.proofs.Bodies.{lists_size, graph_size, list_at, position_inside, NodeAt, node_at, one_position}
 
 -- where a part stands
 abbrev place_of : RawBody → Part → ℕ
@@ -41,7 +41,7 @@ pub kids_fit : (b : RawBody) → PartsFit b → KidsFit (graph_of b)
 kids_fit b fit n k c edge =
     elim (cases_lt n (length (graph_of b))) [
       | inl lt ↦
-          (let at : At b n = node_at b n (let z = graph_size b in omega arith) in
+          (let at : NodeAt b n = node_at b n (let z = graph_size b in omega arith) in
           let edge2 : Edge (graph_of b) (position b at.here) k c = subst (λ (x : ℕ). Edge (graph_of b) x k c) (sym at.place) edge in
           let part = from_map b (part_at b at.here k) c (sym (edge_is b at.here k at.is_node) ∙ edge2) in
           let inside = position_inside b (inner part.0.node) (fit at.here k part.0 at.is_node part.1) in
@@ -101,7 +101,7 @@ module _ (b : RawBody) (fit : PartsFit b) where
   node_from None k e = absurd (cc)
   node_from (Some n) k e = (n, refl, cc)
 
-  way_in_graph : (k : ℕ) → (at : At b k) → HasOneWay b at.here → OneWay (graph_of b) (position b the_body) k
+  way_in_graph : (k : ℕ) → (at : NodeAt b k) → HasOneWay b at.here → OneWay (graph_of b) (position b the_body) k
   way_in_graph k at one = record {
     way = one.way;
     there = leads_same one.way ∙ (ap (λ (o : Option Node). option_map (position b) o) one.there ∙ ap (λ (x : ℕ). Some x) at.place);
@@ -114,7 +114,7 @@ module _ (b : RawBody) (fit : PartsFit b) where
   pub tree_in_graph : IsTree b → IsTreeGraph (graph_of b) (position b the_body)
   tree_in_graph tree = record {
     each = λ k lt.
-        let at : At b k = node_at b k (let z = graph_size b in omega arith) in
+        let at : NodeAt b k = node_at b k (let z = graph_size b in omega arith) in
         way_in_graph k at (one_way tree at.here at.is_node);
   }
 
@@ -167,7 +167,7 @@ pub listed_inside : (b : RawBody) → PartsFit b → (lists : List (List ExprOrP
     → lists ≡ node_lists b → i < length lists → xs ≡ get_or lists i xs → slice_get xs k ≡ Some x → IsInBody b x
 listed_inside b fit lists xs i k x same lt is at =
     let size : length lists ≡ node_count b = ap length same ∙ lists_size b in
-    let here : At b i = node_at b i (omega arith) in
+    let here : NodeAt b i = node_at b i (omega arith) in
     let there : slice_get (node_lists b) i ≡ Some (nodes (parts b here.here)) =
     subst (λ (j : ℕ). slice_get (node_lists b) j ≡ Some (nodes (parts b here.here))) here.place (list_at b here.here here.is_node) in
     let xs_is : xs ≡ nodes (parts b here.here) =
@@ -196,7 +196,7 @@ low_exact b s limit law depths = (
         omega arith;
   }),
   (λ low k lt.
-      let at : At b k = node_at b k (let size = depths.size in omega arith) in
+      let at : NodeAt b k = node_at b k (let size = depths.size in omega arith) in
       let way = way_to b s law at.here at.is_node in
       let steps = depth_is_steps b s law depths way.0 at.here way.1 in
       let short = low.each at.here way.0 way.1 in

@@ -5,17 +5,17 @@ use Rattle.std.proofs.lemmas.Bool.{cases_lt}
 use Rattle.std.proofs.lemmas.List.{length_push, length-take-le}
 use Rattle.std.proofs.lemmas.Option.{slice_get_within, get_or_from_slice_get}
 use Rattle.hir_raw.specs.Graph.{KidsFit}
-use Rattle.hir_raw.specs.Visits.{Marks, next_of, unseen, Advances, Departs, advanced, departed}
+use Rattle.hir_raw.specs.Visits.{Visited, next_of, unseen, Advances, Departs, advanced, departed}
 use Rattle.hir_raw.proofs.Walking.{IsSeen, on, Walking, seen_in}
 use Rattle.hir_raw.proofs.Advances.{Entering, walking_on, fewer}
 use Rattle.hir_raw.proofs.Departs.{Leaving, walking_back}
 
 -- the node n is on top
-pub record Top (kids : List (List ℕ)) (root : ℕ) (m : Marks) (n : ℕ) : Type 0 where
+pub record Top (kids : List (List ℕ)) (root : ℕ) (m : Visited) (n : ℕ) : Type 0 where
   pub walking : Walking kids root m
   pub read : slice_get m.stack (length m.stack - 1) ≡ Some n
 
-module _ (kids : List (List ℕ)) (root : ℕ) (m : Marks) (n : ℕ) (t : Top kids root m n) where
+module _ (kids : List (List ℕ)) (root : ℕ) (m : Visited) (n : ℕ) (t : Top kids root m n) where
   under_way : 0 < length m.stack
   under_way = let lt = slice_get_within m.stack (length m.stack - 1) n t.read in omega arith
 
@@ -32,7 +32,7 @@ module _ (kids : List (List ℕ)) (root : ℕ) (m : Marks) (n : ℕ) (t : Top ki
   pub top_inside : n < length kids
   top_inside = let lt = seen_in m.seen n top_seen in let r = t.walking.ready.seen in omega arith
 
-  entering : KidsFit kids → (new : Marks) (a : Advances kids m new n) → Entering kids root m n a.child
+  entering : KidsFit kids → (new : Visited) (a : Advances kids m new n) → Entering kids root m n a.child
   entering fit new a = record {
     walking = t.walking;
     inside = top_inside;
@@ -43,17 +43,17 @@ module _ (kids : List (List ℕ)) (root : ℕ) (m : Marks) (n : ℕ) (t : Top ki
     fresh = a.fresh;
   }
 
-  leaving : (new : Marks) → Departs kids m new n → Leaving kids root m n
+  leaving : (new : Visited) → Departs kids m new n → Leaving kids root m n
   leaving new d = record { walking = t.walking; inside = top_inside; top = is_top; under_way = under_way; all = d.all }
 
-  pub walking_step : KidsFit kids → (new : Marks) → Advances kids m new n ⊎ Departs kids m new n → Walking kids root new
-  walking_step fit new (inl a) = subst (λ (x : Marks). Walking kids root x) (sym a.after) (walking_on kids root m n a.child (entering fit new a))
-  walking_step fit new (inr d) = subst (λ (x : Marks). Walking kids root x) (sym d.after) (walking_back kids root m n (leaving new d))
+  pub walking_step : KidsFit kids → (new : Visited) → Advances kids m new n ⊎ Departs kids m new n → Walking kids root new
+  walking_step fit new (inl a) = subst (λ (x : Visited). Walking kids root x) (sym a.after) (walking_on kids root m n a.child (entering fit new a))
+  walking_step fit new (inr d) = subst (λ (x : Visited). Walking kids root x) (sym d.after) (walking_back kids root m n (leaving new d))
 
-  abbrev left_of : Marks → ℕ
+  abbrev left_of : Visited → ℕ
   left_of x = 2 * unseen x.seen + length x.stack
 
-  pub less_left : KidsFit kids → (new : Marks) → Advances kids m new n ⊎ Departs kids m new n → left_of new < left_of m
+  pub less_left : KidsFit kids → (new : Visited) → Advances kids m new n ⊎ Departs kids m new n → left_of new < left_of m
   less_left fit new (inl a) =
       let same : left_of new ≡ left_of (advanced m n a.child) = ap left_of a.after in
       let f = fewer kids root m n a.child (entering fit new a) in

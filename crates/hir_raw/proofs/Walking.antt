@@ -6,42 +6,42 @@ use Rattle.std.proofs.lemmas.List.{length-replicate, get_or-replicate, get_or_pa
 use Rattle.std.proofs.lemmas.List.Sums.{sum_by-set, get_or-le-sum_by}
 use Rattle.std.proofs.lemmas.Bool.{cases_lt, cases_Bool, false≢true}
 use Rattle.hir_raw.specs.Graph.{kids_of, Edge, leads}
-use Rattle.hir_raw.specs.Visits.{Marks, is_seen, next_of, unseen, IsReady}
+use Rattle.hir_raw.specs.Visits.{Visited, is_seen, next_of, unseen, HasRoomFor}
 
-abbrev pub IsSeen : Marks → ℕ → Type 0
+abbrev pub IsSeen : Visited → ℕ → Type 0
 IsSeen m n = is_seen m n ≡ true
 
-abbrev pub start_of : Marks → ℕ → ℕ
+abbrev pub start_of : Visited → ℕ → ℕ
 start_of m n = get_or m.starts n 0
 
-abbrev pub end_of : Marks → ℕ → ℕ
+abbrev pub end_of : Visited → ℕ → ℕ
 end_of m n = get_or m.ends n 0
 
-abbrev pub depth_of : Marks → ℕ → ℕ
+abbrev pub depth_of : Visited → ℕ → ℕ
 depth_of m n = get_or m.depths n 0
 
 -- the node at a position of the stack
-abbrev pub on : Marks → ℕ → ℕ
+abbrev pub on : Visited → ℕ → ℕ
 on m i = get_or m.stack i 0
 
 -- the number after the first k children of n
-pub record Reaches (kids : List (List ℕ)) (m : Marks) (n k number : ℕ) : Type 0 where
+pub record Reaches (kids : List (List ℕ)) (m : Visited) (n k number : ℕ) : Type 0 where
   pub none : k ≡ 0 → number ≡ start_of m n + 1
   pub last : (j c : ℕ) → suc j ≡ k → Edge kids n j c → (0 < end_of m c) × (end_of m c ≡ number)
 
 -- child k of n, which is c, was entered
-pub record Passed (kids : List (List ℕ)) (m : Marks) (n k c : ℕ) : Type 0 where
+pub record Passed (kids : List (List ℕ)) (m : Visited) (n k c : ℕ) : Type 0 where
   pub seen : IsSeen m c
   pub deep : depth_of m c ≡ depth_of m n + 1
   pub reaches : Reaches kids m n k (start_of m c)
 
-pub record Ended (kids : List (List ℕ)) (m : Marks) (n : ℕ) : Type 0 where
+pub record Ended (kids : List (List ℕ)) (m : Visited) (n : ℕ) : Type 0 where
   pub whole : next_of m n ≡ length (kids_of kids n)
   pub order : start_of m n < end_of m n
   pub reaches : Reaches kids m n (length (kids_of kids n)) (end_of m n)
 
 -- x was entered as child k of n
-pub record Entry (kids : List (List ℕ)) (m : Marks) (x : ℕ) : Type 0 where
+pub record Entry (kids : List (List ℕ)) (m : Visited) (x : ℕ) : Type 0 where
   pub parent : ℕ
   pub place : ℕ
   pub seen : IsSeen m parent
@@ -49,7 +49,7 @@ pub record Entry (kids : List (List ℕ)) (m : Marks) (x : ℕ) : Type 0 where
   pub passed : place < next_of m parent
 
 -- what is known of a node that was entered
-pub record Goes (kids : List (List ℕ)) (root : ℕ) (m : Marks) (n : ℕ) : Type 0 where
+pub record Goes (kids : List (List ℕ)) (root : ℕ) (m : Visited) (n : ℕ) : Type 0 where
   pub early : start_of m n < m.clock
   pub within : next_of m n ≤ length (kids_of kids n)
   pub passed : (k c : ℕ) → k < next_of m n → Edge kids n k c → Passed kids m n k c
@@ -59,15 +59,15 @@ pub record Goes (kids : List (List ℕ)) (root : ℕ) (m : Marks) (n : ℕ) : Ty
   pub entry : (n ≡ root) ⊎ Entry kids m n
 
 -- what is known of the node x at the position i of the stack
-pub record Stands (kids : List (List ℕ)) (m : Marks) (i x : ℕ) : Type 0 where
+pub record Stands (kids : List (List ℕ)) (m : Visited) (i x : ℕ) : Type 0 where
   pub seen : IsSeen m x
   pub waits : end_of m x ≡ 0
   pub deep : depth_of m x ≡ i
   pub link : suc i < length m.stack → (k : ℕ) × (next_of m x ≡ suc k) × Edge kids x k (on m (suc i))
   pub cursor : suc i ≡ length m.stack → Reaches kids m x (next_of m x) m.clock
 
-pub record Walking (kids : List (List ℕ)) (root : ℕ) (m : Marks) : Type 0 where
-  pub ready : IsReady (length kids) m
+pub record Walking (kids : List (List ℕ)) (root : ℕ) (m : Visited) : Type 0 where
+  pub ready : HasRoomFor (length kids) m
   pub root_seen : IsSeen m root
   pub root_first : start_of m root ≡ 0
   pub root_deep : depth_of m root ≡ 0
@@ -79,7 +79,7 @@ pub record Walking (kids : List (List ℕ)) (root : ℕ) (m : Marks) : Type 0 wh
   pub bottom : 0 < length m.stack → on m 0 ≡ root
 
 -- what was said of the nodes that were entered stays
-pub record Keeps (old new : Marks) : Type 0 where
+pub record Keeps (old new : Visited) : Type 0 where
   pub seen : (n : ℕ) → IsSeen old n → IsSeen new n
   pub start : (n : ℕ) → IsSeen old n → start_of new n ≡ start_of old n
   pub depth : (n : ℕ) → IsSeen old n → depth_of new n ≡ depth_of old n
@@ -103,7 +103,7 @@ blank_at n x d =
       | inr ge ↦ get_or_past (replicate n d) x d (omega (arith, length-replicate n d, ge))
     ]
 
-pub other_seen : (m : Marks) (x c : ℕ) → IsSeen m x → is_seen m c ≡ false → x ≢ c
+pub other_seen : (m : Visited) (x c : ℕ) → IsSeen m x → is_seen m c ≡ false → x ≢ c
 other_seen m x c p q e = false≢true (sym q ∙ (ap (λ (y : ℕ). is_seen m y) (sym e) ∙ p))
 
 pub fewer_unseen : (seen : List Bool) (c : ℕ) → c < length seen → get_or seen c false ≡ false → unseen (slice_set seen c true) + 1 ≡ unseen seen
@@ -126,7 +126,7 @@ none_unseen seen x none lt =
 
 -- ---- what stays
 
-module _ (kids : List (List ℕ)) (root : ℕ) (old new : Marks) (keeps : Keeps old new) where
+module _ (kids : List (List ℕ)) (root : ℕ) (old new : Visited) (keeps : Keeps old new) where
   pub reaches_kept : (n k number : ℕ) → IsSeen old n → Reaches kids old n k number → Reaches kids new n k number
   reaches_kept n k number seen r = record {
     none = λ z. r.none z ∙ ap (λ (x : ℕ). x + 1) (sym (keeps.start n seen));

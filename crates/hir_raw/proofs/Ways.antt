@@ -80,9 +80,6 @@ module _ (b : RawBody) (s : Schedule) (law : IsSchedule b s) where
       let q = part_within (start b s n + 1) (parts b n) i p (law.fits n h) e in
       (q.0, omega (arith, q.1), omega (arith, q.2, law.ends n h))
 
-  pub start_below_part : (n : Node) (i : ℕ) (p : Part) → IsNode b n → part_at b n i ≡ Some p → start b s n < start b s (inner p.node)
-  start_below_part n i p h e = (part_inside n i p h e).1
-
   pub parts_fit : PartsFit b
   parts_fit n k p h e = (part_inside n k p h e).0
 
@@ -297,6 +294,3 @@ module _ (b : RawBody) (s t : Schedule) (law : IsSchedule b s) (other : IsSchedu
   pub schedule_unique : (n : Node) → IsNode b n → start b s n ≡ start b t n
   schedule_unique the_body h = law.first ∙ sym other.first
   schedule_unique (inner x) h = same_inner (start b s (inner x) + 1) x h (omega arith)
-
-  pub end_unique : (n : Node) → IsNode b n → end b s n ≡ end b t n
-  end_unique n h = omega (arith, schedule_unique n h, same_size_at n h)

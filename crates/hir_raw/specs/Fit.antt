@@ -1,7 +1,7 @@
 -- Types that name what there is.
 use Rattle.std.specs.List.{list_all}
 use Rattle.std.specs.Prelude.{Bool, true, false, ◌&&◌, nat_lt, List, [], ◌∷◌, length, Option, Some, None}
-use Rattle.hir_types.specs.declared.ids.DefWithBodyId.{DefWithBodyId}
+use Rattle.hir_types.specs.declared.ids.GenericDefId.{GenericDefId}
 use Rattle.hir_types.specs.declared.ids.TraitId.{TraitId}
 use Rattle.hir_types.specs.declared.ty.Ty.{Ty, Ty-F, fold-Ty}
 use Rattle.hir_types.specs.declared.ty.AliasBound.{AliasBound-F}
@@ -10,7 +10,7 @@ use Rattle.hir_types.specs.declared.ty.TraitRef.{TraitRef-F}
 use Rattle.hir_types.specs.declared.ty.Const.{Const}
 use Rattle.hir_types.specs.declared.ty.Const.TheVariants as const
 use Rattle.hir_raw.specs.declared.raw.RawFacts.{RawFacts}
-use Rattle.hir_raw.specs.Scope.{Scope, adt_params, callable_params, has_params, scope_of}
+use Rattle.hir_raw.specs.Scope.{Scope, adt_params, callable_params, has_params, item_scope}
 
 -- no parameter stands for a const yet
 abbrev pub const_fits : Const → Bool
@@ -74,5 +74,6 @@ ty_fits sc = fold-Ty Bool Bool Bool Bool fits_arg (fits_step sc) fits_bound fits
 abbrev pub arg_fits : Scope → GenericArg → Bool
 arg_fits sc = fold-GenericArg Bool Bool Bool Bool fits_arg (fits_step sc) fits_bound fits_trait
 
-abbrev pub fits : RawFacts → DefWithBodyId → Ty → Bool
-fits raw d t = ty_fits (scope_of raw d) t
+-- under the parameters of this item
+abbrev pub fits : RawFacts → GenericDefId → Ty → Bool
+fits raw item t = ty_fits (item_scope raw item) t

@@ -1,4 +1,4 @@
-pub mod Types
+pub mod WrittenTypes
 pub mod Order
 pub mod Scope
 pub mod Fit
@@ -7,3 +7,4 @@ pub mod Signatures
 pub mod Graph
 pub mod Visits
 pub mod Nodes
+pub mod Goals

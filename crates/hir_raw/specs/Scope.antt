@@ -1,11 +1,15 @@
 -- What the types of a definition may name: the items of the facts, and the definition's own parameters.
-use Rattle.std.specs.Prelude.{ℕ, Bool, false, ◌==◌, length, slice_get, Option, Some, None, option_map}
+use Rattle.std.specs.Prelude.{ℕ, ◌+◌, Bool, false, ◌==◌, length, slice_get, Option, Some, None, option_map}
 use Rattle.std.specs.Option.{option_and_then}
 use Rattle.hir_types.specs.declared.ids.AdtId.{AdtId}
 use Rattle.hir_types.specs.declared.ids.CallableDefId.{CallableDefId}
 use Rattle.hir_types.specs.declared.ids.CallableDefId.TheVariants as callable
 use Rattle.hir_types.specs.declared.ids.DefWithBodyId.{DefWithBodyId}
 use Rattle.hir_types.specs.declared.ids.DefWithBodyId.TheVariants as def
+use Rattle.hir_types.specs.declared.ids.TraitId.{TraitId}
+use Rattle.hir_types.specs.declared.ids.GenericDefId.{GenericDefId}
+use Rattle.hir_types.specs.declared.ids.GenericDefId.TheVariants as generic
+use Rattle.hir_raw.specs.declared.raw.RawAlias.{RawAlias}
 use Rattle.hir_raw.specs.declared.raw.RawPath.{RawPath}
 use Rattle.hir_raw.specs.declared.raw.RawPath.TheVariants as path
 use Rattle.hir_raw.specs.declared.raw.RawFacts.{RawFacts}
@@ -41,13 +45,39 @@ abbrev pub has_params : Option ℕ → ℕ → Bool
 has_params None n = false
 has_params (Some m) n = m == n
 
--- ---- definitions
+-- those of a trait: the type that implements it, and its own
+abbrev pub params_in_trait : RawFacts → TraitId → Option ℕ
+params_in_trait raw t = option_map (λ x. length x.params + 1) (slice_get raw.traits t.0)
+
+-- those of an associated type are its trait's
+abbrev pub alias_params_by : RawFacts → Option RawAlias → Option ℕ
+alias_params_by raw None = None
+alias_params_by raw (Some a) = params_in_trait raw a.trait_
+
+-- those of an item, where it exists and items of its kind are carried
+abbrev pub params_of_item : RawFacts → GenericDefId → Option ℕ
+params_of_item raw (generic.AdtId a) = adt_params raw a
+params_of_item raw (generic.FunctionId f) = fn_params raw f.0
+params_of_item raw (generic.TraitId t) = params_in_trait raw t
+params_of_item raw (generic.TypeAliasId a) = alias_params_by raw (slice_get raw.aliases a.0)
+params_of_item raw (generic.ImplId i) = option_map (λ x. length x.params) (slice_get raw.impls i.0)
+params_of_item raw (generic.ConstId c) = None
+params_of_item raw (generic.StaticId s) = None
 
 abbrev pub count_or_none : Option ℕ → ℕ
 count_or_none None = 0
 count_or_none (Some n) = n
 
--- how many parameters are in scope in the body of a definition
+-- ---- how many are in scope
+
+-- in the types of an item
+abbrev pub generic_params : RawFacts → GenericDefId → ℕ
+generic_params raw item = count_or_none (params_of_item raw item)
+
+abbrev pub item_scope : RawFacts → GenericDefId → Scope
+item_scope raw item = record { facts = raw; params = generic_params raw item }
+
+-- in the body of a definition
 abbrev pub params_of : RawFacts → DefWithBodyId → ℕ
 params_of raw (def.FunctionId f) = count_or_none (fn_params raw f.0)
 params_of raw _ = 0

@@ -12,7 +12,7 @@ use Rattle.hir_types.specs.declared.ty.Ty.{Ty}
 use Rattle.hir_types.specs.declared.ty.Ty.TheVariants as ty
 use Rattle.hir_types.specs.Assigned.{with_params}
 use Rattle.hir_types.specs.Subst.{Replacement, replaced}
-use Rattle.hir_types.specs.Folding.{replaced_adt}
+use Rattle.hir_types.specs.Replacements.{replaced_adt}
 use Rattle.hir_types.specs.Instances.{param_at, types_args_replaced}
 use Rattle.hir_raw.specs.declared.raw.RawType.{RawType}
 use Rattle.hir_raw.specs.declared.raw.RawCtor.{RawCtor}
@@ -20,7 +20,7 @@ use Rattle.hir_raw.specs.declared.raw.RawCtor.TheVariants as ctor
 use Rattle.hir_raw.specs.declared.raw.RawVariant.{RawVariant}
 use Rattle.hir_raw.specs.declared.raw.RawFn.{RawFn}
 use Rattle.hir_raw.specs.declared.raw.RawFacts.{RawFacts}
-use Rattle.hir_raw.specs.Types.{written_type}
+use Rattle.hir_raw.specs.WrittenTypes.{written_type}
 use Rattle.hir_raw.specs.Scope.{adt_params}
 
 -- how many parameters an item has, and in these what it takes and gives
@@ -31,7 +31,11 @@ pub record Signature : Type 0 where
 
 abbrev pub fn_signature : List RawType → RawFn → Signature
 fn_signature types f =
-    record { params = length f.params; inputs = map (written_type types) f.inputs; output = written_type types f.output }
+    record {
+      params = length f.params;
+      inputs = map (written_type types) f.inputs;
+      output = written_type types f.output;
+    }
 
 -- types as arguments
 abbrev pub type_args : List Ty → List GenericArg
@@ -53,7 +57,7 @@ abbrev pub own_adt : AdtId → ℕ → Ty
 own_adt a n = ty.Adt a (type_args (params_from 0 n))
 
 abbrev pub field_types : List RawType → RawVariant → List Ty
-field_types types x = map (λ f. written_type types f.ty) x.fields
+field_types types x = map (λ f. written_type types f.type_) x.fields
 
 -- the constructor of a variant `V(..)` takes its fields and gives its adt
 abbrev pub signature_by : RawCtor → List RawType → ℕ → RawVariant → Option Signature

@@ -4,7 +4,7 @@ use Rattle.hir_raw.specs.Graph.{kids_of, Edge}
 use Rattle.hir_raw.specs.declared.graph.Walk.{Walk}
 
 -- which nodes were entered, how many of their children were, their numbers, and the nodes that are open
-pub record Marks : Type 0 where
+pub record Visited : Type 0 where
   pub seen : List Bool
   pub next : List ℕ
   pub starts : List ℕ
@@ -13,13 +13,13 @@ pub record Marks : Type 0 where
   pub stack : List ℕ
   pub clock : ℕ
 
-abbrev pub marks_of : Walk → Marks
-marks_of w = record { seen = w.seen.items; next = w.next.items; starts = w.starts; ends = w.ends; depths = w.depths; stack = w.stack.items; clock = w.clock }
+abbrev pub visited_by : Walk → Visited
+visited_by w = record { seen = w.seen.items; next = w.next.items; starts = w.starts; ends = w.ends; depths = w.depths; stack = w.stack.items; clock = w.clock }
 
-abbrev pub is_seen : Marks → ℕ → Bool
+abbrev pub is_seen : Visited → ℕ → Bool
 is_seen m n = get_or m.seen n false
 
-abbrev pub next_of : Marks → ℕ → ℕ
+abbrev pub next_of : Visited → ℕ → ℕ
 next_of m n = get_or m.next n 0
 
 -- how many nodes were not entered
@@ -27,11 +27,11 @@ abbrev pub unseen : List Bool → ℕ
 unseen seen = sum_by (λ b. if b then 0 else 1) seen
 
 -- before the walk through n nodes
-abbrev pub blank : ℕ → Marks
+abbrev pub blank : ℕ → Visited
 blank n = record { seen = replicate n false; next = replicate n 0; starts = replicate n 0; ends = replicate n 0; depths = replicate n 0; stack = []; clock = 0 }
 
 -- a node is entered
-abbrev pub entered : Marks → ℕ → Marks
+abbrev pub entered : Visited → ℕ → Visited
 entered m n = record m {
   seen = slice_set m.seen n true;
   starts = slice_set m.starts n m.clock;
@@ -41,15 +41,15 @@ entered m n = record m {
 }
 
 -- one more child of a node is entered
-abbrev pub advanced : Marks → ℕ → ℕ → Marks
+abbrev pub advanced : Visited → ℕ → ℕ → Visited
 advanced m n c = entered (record m { next = slice_set m.next n (next_of m n + 1) }) c
 
 -- the node n on top is left
-abbrev pub departed : Marks → ℕ → Marks
+abbrev pub departed : Visited → ℕ → Visited
 departed m n = record m { ends = slice_set m.ends n m.clock; stack = take (length m.stack - 1) m.stack }
 
 -- there is room for each of n nodes, and the clock counts those that were entered
-pub record IsReady (n : ℕ) (m : Marks) : Type 0 where
+pub record HasRoomFor (n : ℕ) (m : Visited) : Type 0 where
   pub seen : length m.seen ≡ n
   pub next : length m.next ≡ n
   pub starts : length m.starts ≡ n
@@ -58,23 +58,23 @@ pub record IsReady (n : ℕ) (m : Marks) : Type 0 where
   pub count : m.clock + unseen m.seen ≡ n
 
 -- the node's next child was not entered before, and is now
-pub record Advances (kids : List (List ℕ)) (old new : Marks) (n : ℕ) : Type 0 where
+pub record Advances (kids : List (List ℕ)) (old new : Visited) (n : ℕ) : Type 0 where
   pub child : ℕ
   pub edge : Edge kids n (next_of old n) child
   pub fresh : is_seen old child ≡ false
   pub after : new ≡ advanced old n child
 
 -- the node has no further child, and is left
-pub record Departs (kids : List (List ℕ)) (old new : Marks) (n : ℕ) : Type 0 where
+pub record Departs (kids : List (List ℕ)) (old new : Visited) (n : ℕ) : Type 0 where
   pub all : length (kids_of kids n) ≤ next_of old n
   pub after : new ≡ departed old n
 
 -- the node's next child is entered, or the node is left
-abbrev pub Steps : List (List ℕ) → Marks → Marks → ℕ → Type 0
-Steps kids old new n = Advances kids old new n ⊎ Departs kids old new n
+abbrev pub MovesOn : List (List ℕ) → Visited → Visited → ℕ → Type 0
+MovesOn kids old new n = Advances kids old new n ⊎ Departs kids old new n
 
 -- the node's next child was entered before
-pub record MeetsAgain (kids : List (List ℕ)) (old : Marks) (n : ℕ) : Type 0 where
+pub record MeetsAgain (kids : List (List ℕ)) (old : Visited) (n : ℕ) : Type 0 where
   pub child : ℕ
   pub edge : Edge kids n (next_of old n) child
   pub seen : is_seen old child ≡ true

@@ -1,7 +1,7 @@
 //! Numbers for the nodes of a graph in the order of a walk from a root.
 ghost use Rattle.std.specs.Prelude.{◌≡◌, ◌<◌, ◌-◌, false, length, replicate, slice_get, IfOk, OnOk, OnSome, MatchOption, MatchBool};
 ghost use Rattle.hir_raw.specs.Graph.{kids_of, KidsFit, IsTreeGraph, IsNumbering};
-ghost use Rattle.hir_raw.specs.Visits.{marks_of, blank, entered, departed, is_seen, IsReady, Steps, MeetsAgain};
+ghost use Rattle.hir_raw.specs.Visits.{visited_by, blank, entered, departed, is_seen, HasRoomFor, MovesOn, MeetsAgain};
 
 use crate::schedule::Schedule;
 use hir_types::List;
@@ -46,7 +46,7 @@ fn child_at(kids: &List<List<usize>>, node: usize, at: usize) -> Option<usize>
 
 impl Walk {
     fn new(alloc: Global, count: usize) -> Result<Walk, AllocError>
-        ensures { IfOk result (λ w. marks_of w ≡ blank count) }
+        ensures { IfOk result (λ w. visited_by w ≡ blank count) }
     {
         Ok(Walk {
             seen: vec![in alloc; false; count]?,
@@ -61,10 +61,10 @@ impl Walk {
 
     /// Enters a node that was not entered before.
     fn enter(&mut self, node: usize) -> Result<(), AllocError>
-        requires ready { IsReady (length self.old.starts) (marks_of self.old) }
+        requires ready { HasRoomFor (length self.old.starts) (visited_by self.old) }
         requires node { node < length self.old.starts }
-        requires fresh { is_seen (marks_of self.old) node ≡ false }
-        ensures { OnOk result (marks_of self.new ≡ entered (marks_of self.old) node) }
+        requires fresh { is_seen (visited_by self.old) node ≡ false }
+        ensures { OnOk result (visited_by self.new ≡ entered (visited_by self.old) node) }
     {
         self.seen[node] = true;
         self.starts.set(node, self.clock);
@@ -77,7 +77,7 @@ impl Walk {
     /// Leaves the node on top.
     fn leave(&mut self, node: usize)
         requires node { node < length self.old.ends }
-        ensures { marks_of self.new ≡ departed (marks_of self.old) node }
+        ensures { visited_by self.new ≡ departed (visited_by self.old) node }
     {
         self.ends.set(node, self.clock);
         self.stack.pop();
@@ -94,11 +94,11 @@ impl Walk {
     /// the child was entered before.
     fn step(&mut self, kids: &List<List<usize>>, node: usize) -> Result<bool, AllocError>
         requires fit { KidsFit kids.now }
-        requires ready { IsReady (length kids.now) (marks_of self.old) }
+        requires ready { HasRoomFor (length kids.now) (visited_by self.old) }
         requires node { node < length kids.now }
         ensures { IfOk result (λ is_new. MatchBool is_new
-            (Steps kids.now (marks_of self.old) (marks_of self.new) node)
-            (MeetsAgain kids.now (marks_of self.old) node)) }
+            (MovesOn kids.now (visited_by self.old) (visited_by self.new) node)
+            (MeetsAgain kids.now (visited_by self.old) node)) }
     {
         let at = self.next[node];
         let Some(child) = child_at(kids, node, at) else {

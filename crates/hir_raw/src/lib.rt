@@ -11,9 +11,10 @@ mod scope;
 
 pub use fit::ty_fits;
 pub use raw::{
-    BindingAnnotation, Edition, Other, RawAdt, RawAdtKind, RawArm, RawAt, RawBinding, RawBody,
-    RawCtor, RawExpr, RawFacts, RawField, RawFn, RawLimits, RawLiteral, RawParam, RawPat, RawPath,
-    RawStmt, RawType, RawVariant, RawVis,
+    BindingAnnotation, Edition, HasGoals, Other, RawAdt, RawAdtKind, RawAlias, RawArgs, RawArm,
+    RawAssocType, RawAt, RawBinding, RawBody, RawCtor, RawExpr, RawFacts, RawField, RawFn, RawGoal,
+    RawImpl, RawLang, RawLimits, RawLiteral, RawParam, RawPat, RawPath, RawStmt, RawTrait,
+    RawTraitRef, RawType, RawVariant, RawVis,
 };
 pub use schedule::{Schedule, is_low, schedule_of};
-pub use scope::params_of;
+pub use scope::generic_params;

@@ -1,11 +1,13 @@
 //! The facts as they are written: the entries of the facts text, key by key.
 
-ghost use Rattle.std.specs.Prelude.{◌≡◌};
-ghost use Rattle.hir_raw.specs.Types.{type_parts};
+ghost use Rattle.std.specs.Prelude.{◌≡◌, List};
+ghost use Rattle.hir_raw.specs.declared.raw.RawGoal.{RawGoal};
+ghost use Rattle.hir_raw.specs.Goals.{arg_types};
+ghost use Rattle.hir_raw.specs.WrittenTypes.{type_parts};
 
 use hir_types::{
-    AdtId, BindingId, BodyId, ExprId, FunctionId, IntegerTy, LabelId, List, ModuleId, PatId, Text,
-    TraitId, TypeRefId, VariantId,
+    AdtId, BindingId, BodyId, ConstId, ExprId, FunctionId, IntegerTy, LabelId, List, ModuleId,
+    PatId, Text, TraitId, TypeAliasId, TypeRefId, VariantId,
 };
 
 /// A part of a kind that is not carried yet; its own parts are not read.
@@ -64,6 +66,45 @@ impl RawType {
     }
 }
 
+/// Written arguments: types, or some that are consts, which are not read.
+#[derive(Debug, Drop)]
+pub enum RawArgs {
+    Types(List<TypeRefId>),
+    Other,
+}
+
+impl RawArgs {
+    /// The types, in their order; none where some argument is a const.
+    pub fn types(&self) -> &[TypeRefId]
+        ensures { result.now ≡ arg_types self.now }
+    {
+        match self {
+            RawArgs::Types(types) => types.as_slice(),
+            RawArgs::Other => &[],
+        }
+    }
+}
+
+/// A trait at arguments.
+#[derive(Debug, Drop)]
+pub struct RawTraitRef {
+    pub trait_: TraitId,
+    pub args: RawArgs,
+}
+
+/// What is asked of types: a predicate of an item, or a bound of an associated type.
+#[derive(Debug, Drop)]
+pub enum RawGoal {
+    /// That the first argument implements the trait at the others.
+    Trait(RawTraitRef),
+    /// That the associated type at the arguments, its trait's self type first, is this type.
+    Projection {
+        alias: TypeAliasId,
+        args: RawArgs,
+        ty: TypeRefId,
+    },
+}
+
 /// What a generic parameter stands for.
 #[derive(Clone, Copy, Debug)]
 pub enum RawParam {
@@ -101,7 +142,7 @@ pub struct RawAdt {
     /// Its generic parameters.
     pub params: List<RawParam>,
     /// Its predicates.
-    pub preds: List<Other>,
+    pub preds: List<RawGoal>,
     /// Its variants; one of a struct or union.
     pub variants: List<VariantId>,
     /// The integer type of its discriminants, where one is written.
@@ -122,7 +163,7 @@ pub enum RawCtor {
 #[derive(Debug, Drop)]
 pub struct RawField {
     pub name: Text,
-    pub ty: TypeRefId,
+    pub type_: TypeRefId,
     pub vis: RawVis,
 }
 
@@ -145,7 +186,7 @@ pub struct RawFn {
     /// Its own generic parameters.
     pub params: List<RawParam>,
     /// Its predicates.
-    pub preds: List<Other>,
+    pub preds: List<RawGoal>,
     /// Whether its first input is that of `self`.
     pub has_self: bool,
     pub inputs: List<TypeRefId>,
@@ -154,6 +195,71 @@ pub struct RawFn {
     pub safe: bool,
     pub vis: RawVis,
     pub body: Option<BodyId>,
+}
+
+/// A trait. Its parameter 0 is the type that implements it, and its own come after that one.
+#[derive(Debug, Drop)]
+pub struct RawTrait {
+    pub name: Text,
+    /// Its own generic parameters.
+    pub params: List<RawParam>,
+    /// Its predicates; one on the type that implements it names a supertrait.
+    pub preds: List<RawGoal>,
+    /// Its functions.
+    pub fns: List<FunctionId>,
+    /// Its constants.
+    pub consts: List<ConstId>,
+    /// Its associated types.
+    pub types: List<TypeAliasId>,
+    /// Whether types implement it where their parts do.
+    pub auto: bool,
+}
+
+/// An associated type of a trait. Its parameters are those of the trait.
+#[derive(Debug, Drop)]
+pub struct RawAlias {
+    pub name: Text,
+    pub trait_: TraitId,
+    /// What is known of it, whatever type it is.
+    pub bounds: List<RawGoal>,
+}
+
+/// What an `impl` says that an associated type is.
+#[derive(Clone, Copy, Debug)]
+pub struct RawAssocType {
+    pub alias: TypeAliasId,
+    pub ty: TypeRefId,
+}
+
+/// An `impl` block.
+#[derive(Debug, Drop)]
+pub struct RawImpl {
+    /// The trait that is implemented, at its arguments without the self type.
+    pub trait_: Option<RawTraitRef>,
+    /// Its generic parameters.
+    pub params: List<RawParam>,
+    /// Its predicates.
+    pub preds: List<RawGoal>,
+    /// The self type.
+    pub self_: TypeRefId,
+    /// Its functions.
+    pub fns: List<FunctionId>,
+    /// Its constants.
+    pub consts: List<ConstId>,
+    /// Its associated types.
+    pub types: List<RawAssocType>,
+}
+
+/// An item by which the language knows something.
+#[derive(Clone, Copy, Debug)]
+pub enum RawLang {
+    /// The trait of types whose size is known.
+    Sized(TraitId),
+    /// The trait of types that are copied where they are used.
+    Copy(TraitId),
+    /// The trait of types that can be cloned.
+    Clone(TraitId),
+    Other,
 }
 
 /// A literal. `digits` are decimal digits, after a minus where a pattern's literal has one.
@@ -297,10 +403,61 @@ pub struct RawFacts {
     pub fns: List<RawFn>,
     pub consts: List<Other>,
     pub statics: List<Other>,
-    pub traits: List<Other>,
-    pub aliases: List<Other>,
-    pub impls: List<Other>,
+    pub traits: List<RawTrait>,
+    pub aliases: List<RawAlias>,
+    pub impls: List<RawImpl>,
     pub opaques: List<Other>,
-    pub lang: List<Other>,
+    /// In the order of the names.
+    pub lang: List<RawLang>,
     pub bodies: List<RawBody>,
+}
+
+/// An item with predicates or bounds.
+pub trait HasGoals {
+    // they
+    ghost goals: { Self → List RawGoal };
+
+    /// They, in their order.
+    fn goals(&self) -> &[RawGoal]
+        ensures { result.now ≡ goals self.now };
+}
+
+impl HasGoals for RawAdt {
+    ghost goals = { λ a. a.preds };
+
+    fn goals(&self) -> &[RawGoal] {
+        self.preds.as_slice()
+    }
+}
+
+impl HasGoals for RawFn {
+    ghost goals = { λ f. f.preds };
+
+    fn goals(&self) -> &[RawGoal] {
+        self.preds.as_slice()
+    }
+}
+
+impl HasGoals for RawTrait {
+    ghost goals = { λ t. t.preds };
+
+    fn goals(&self) -> &[RawGoal] {
+        self.preds.as_slice()
+    }
+}
+
+impl HasGoals for RawAlias {
+    ghost goals = { λ a. a.bounds };
+
+    fn goals(&self) -> &[RawGoal] {
+        self.bounds.as_slice()
+    }
+}
+
+impl HasGoals for RawImpl {
+    ghost goals = { λ p. p.preds };
+
+    fn goals(&self) -> &[RawGoal] {
+        self.preds.as_slice()
+    }
 }

@@ -115,8 +115,7 @@ pub fn schedule_of(alloc: Global, body: &RawBody) -> Result<Option<Schedule>, Al
 {
     let kids = graph(alloc, body)?;
     let root = kids.len() - 1;
-    let schedule = number_graph(alloc, &kids, root)?;
-    Ok(schedule)
+    number_graph(alloc, &kids, root)
 }
 
 impl Schedule {

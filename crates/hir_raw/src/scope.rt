@@ -1,9 +1,10 @@
 //! How many parameters items have.
-ghost use Rattle.std.specs.Prelude.{◌≡◌};
-ghost use Rattle.hir_raw.specs.Scope.{fn_params, adt_params, callable_params, has_params, params_of};
+ghost use Rattle.std.specs.Prelude.{◌≡◌, slice_get};
+ghost use Rattle.hir_raw.specs.Scope.{fn_params, adt_params, callable_params, has_params, params_in_trait, alias_params_by, params_of_item, generic_params};
+ghost use Rattle.hir_types.specs.declared.ids.GenericDefId.TheVariants as generic;
 
 use crate::raw::RawFacts;
-use hir_types::{AdtId, CallableDefId, DefWithBodyId, FunctionId};
+use hir_types::{AdtId, CallableDefId, FunctionId, GenericDefId, ImplId, TraitId, TypeAliasId};
 
 fn fn_params(raw: &RawFacts, function: FunctionId) -> Option<usize>
     ensures { result ≡ fn_params raw.now function.0 }
@@ -47,15 +48,49 @@ pub fn has_params(params: Option<usize>, count: usize) -> bool
     }
 }
 
-/// How many parameters are in scope in the body of a definition.
-pub fn params_of(raw: &RawFacts, def: DefWithBodyId) -> usize
-    ensures { result ≡ params_of raw.now def }
+fn params_in_trait(raw: &RawFacts, id: TraitId) -> Option<usize>
+    ensures { result ≡ params_in_trait raw.now id }
 {
-    match def {
-        DefWithBodyId::FunctionId(function) => match fn_params(raw, function) {
-            Some(params) => params,
-            None => 0,
-        },
-        DefWithBodyId::ConstId(_) | DefWithBodyId::StaticId(_) | DefWithBodyId::VariantId(_) => 0,
+    match raw.traits.get(id.0 as usize) {
+        Some(item) => Some(item.params.as_slice().len() + 1),
+        None => None,
+    }
+}
+
+fn alias_params(raw: &RawFacts, alias: TypeAliasId) -> Option<usize>
+    ensures { result ≡ alias_params_by raw.now (slice_get raw.now.aliases alias.0) }
+{
+    match raw.aliases.get(alias.0 as usize) {
+        Some(alias) => params_in_trait(raw, alias.trait_),
+        None => None,
+    }
+}
+
+fn impl_params(raw: &RawFacts, id: ImplId) -> Option<usize>
+    ensures { result ≡ params_of_item raw.now (generic.ImplId id) }
+{
+    match raw.impls.get(id.0 as usize) {
+        Some(item) => Some(item.params.len()),
+        None => None,
+    }
+}
+
+/// How many parameters are in scope in the types of an item in range: its own, and in a trait and its
+/// associated types also the type that implements it. Constants and statics are not carried yet, and have
+/// none.
+pub fn generic_params(raw: &RawFacts, item: GenericDefId) -> usize
+    ensures { result ≡ generic_params raw.now item }
+{
+    let params = match item {
+        GenericDefId::AdtId(adt) => adt_params(raw, adt),
+        GenericDefId::FunctionId(function) => fn_params(raw, function),
+        GenericDefId::TraitId(id) => params_in_trait(raw, id),
+        GenericDefId::TypeAliasId(alias) => alias_params(raw, alias),
+        GenericDefId::ImplId(id) => impl_params(raw, id),
+        GenericDefId::ConstId(_) | GenericDefId::StaticId(_) => None,
+    };
+    match params {
+        Some(params) => params,
+        None => 0,
     }
 }

@@ -10,7 +10,7 @@ use Rattle.std.specs.Bool.{Decides}
 use Rattle.std.specs.Cmp.{first_so, second_so, unsigned_Decides}
 use Rattle.std.specs.Option.{option_eq}
 use Rattle.std.specs.Cmp.Lexicographic.{pointwise, pointwise_decides}
-use Rattle.hir_types.proofs.Tells.{Tells, one_tells, pair_tells, items_tell, TellsAt, by_tells, nat_tells}
+use Rattle.hir_types.proofs.ExactEquality.{IsExactAt, one_tells, pair_tells, items_tell, AreExactAt, by_tells, nat_tells}
 use Rattle.hir_types.specs.declared.ids.AdtId.{AdtId}
 use Rattle.hir_types.specs.declared.ids.TraitId.{TraitId}
 use Rattle.hir_types.specs.declared.ids.TypeAliasId.{TypeAliasId}
@@ -24,10 +24,10 @@ use Rattle.hir_types.specs.declared.ty.Mutability.{Mutability}
 use Rattle.hir_types.specs.declared.ty.Safety.{Safety}
 use Rattle.hir_types.specs.declared.ty.Region.{Region}
 use Rattle.hir_types.specs.declared.ty.Const.{Const}
-use Rattle.hir_types.specs.declared.ty.TraitRef.{TraitRef, TraitRef-F, map-TraitRef, ind-TraitRef, roll-TraitRef}
-use Rattle.hir_types.specs.declared.ty.AliasBound.{AliasBound, AliasBound-F, map-AliasBound, ind-AliasBound, roll-AliasBound}
+use Rattle.hir_types.specs.declared.ty.TraitRef.{TraitRef, TraitRef-F, map-TraitRef, roll-TraitRef}
+use Rattle.hir_types.specs.declared.ty.AliasBound.{AliasBound, AliasBound-F, map-AliasBound, roll-AliasBound}
 use Rattle.hir_types.specs.declared.ty.Ty.{Ty, Ty-F, map-Ty, ind-Ty, roll-Ty, out-roll-Ty}
-use Rattle.hir_types.specs.declared.ty.GenericArg.{GenericArg, GenericArg-F, map-GenericArg, ind-GenericArg, roll-GenericArg, out-roll-GenericArg}
+use Rattle.hir_types.specs.declared.ty.GenericArg.{GenericArg, GenericArg-F, map-GenericArg, roll-GenericArg, out-roll-GenericArg}
 use Rattle.hir_types.specs.declared.ty.GenericArg.TheBlock.{the_members, the_sigs, the_carrier, split-Ty, split-GenericArg}
 use Rattle.hir_types.specs.declared.ty.GenericArg.TheViews.{parts_is-GenericArg}
 use Rattle.hir_types.specs.contracts.ty.Ty as ty
@@ -46,9 +46,6 @@ use Rattle.hir_types.specs.contracts.ty.GenericArgPartialEq.TheImpl.Laws as arg_
 use Rattle.hir_types.specs.contracts.ty.TyPartialEq.TheImpl as ty_impl
 use Rattle.hir_types.specs.contracts.ty.TyPartialEq.TheImpl.Laws as ty_laws
 use Rattle.hir_types.specs.contracts.ty.TyEq.TheImpl.Laws as ty_equiv
-use Rattle.hir_types.specs.contracts.ty.GenericArgEq.TheImpl.Laws as arg_equiv
-use Rattle.hir_types.specs.contracts.ty.TraitRefEq.TheImpl.Laws as trait_equiv
-use Rattle.hir_types.specs.contracts.ty.AliasBoundEq.TheImpl.Laws as bound_equiv
 use Rattle.hir_types.specs.contracts.ty.IntTyPartialEq.TheImpl as int_impl
 use Rattle.hir_types.specs.contracts.ty.UintTyPartialEq.TheImpl as uint_impl
 use Rattle.hir_types.specs.contracts.ty.FloatTyPartialEq.TheImpl as float_impl
@@ -104,52 +101,52 @@ closure_id_eq = closure_id_impl.ghosts.eq
 abbrev callable_id_eq : CallableDefId → CallableDefId → Bool
 callable_id_eq = callable_id_impl.ghosts.eq
 
-int_tells : (a : IntTy) → Tells int_eq a
+int_tells : (a : IntTy) → IsExactAt int_eq a
 int_tells = same_true int.the_type tt
 
-uint_tells : (a : UintTy) → Tells uint_eq a
+uint_tells : (a : UintTy) → IsExactAt uint_eq a
 uint_tells = same_true uint.the_type tt
 
-float_tells : (a : FloatTy) → Tells float_eq a
+float_tells : (a : FloatTy) → IsExactAt float_eq a
 float_tells = same_true float.the_type tt
 
-mutability_tells : (a : Mutability) → Tells mutability_eq a
+mutability_tells : (a : Mutability) → IsExactAt mutability_eq a
 mutability_tells = same_true mutability.the_type tt
 
-safety_tells : (a : Safety) → Tells safety_eq a
+safety_tells : (a : Safety) → IsExactAt safety_eq a
 safety_tells = same_true safety.the_type tt
 
-text_tells : (a : List ℕ) → Tells (pointwise nat_eq) a
+text_tells : (a : List ℕ) → IsExactAt (pointwise nat_eq) a
 text_tells a b h = (pointwise_decides unsigned_Decides a b).0 h
 
-region_tells : (a : Region) → Tells region_eq a
+region_tells : (a : Region) → IsExactAt region_eq a
 region_tells a b h = let e : a.0 ≡ b.0 = text_tells a.0 b.0 h in λ i. record { 0 = e i }
 
-const_tells : (a : Const) → Tells const_eq a
+const_tells : (a : Const) → IsExactAt const_eq a
 const_tells a b h = search rules
 
-adt_id_tells : (a : AdtId) → Tells adt_id_eq a
+adt_id_tells : (a : AdtId) → IsExactAt adt_id_eq a
 adt_id_tells a b h = search rules
 
-trait_id_tells : (a : TraitId) → Tells trait_id_eq a
+trait_id_tells : (a : TraitId) → IsExactAt trait_id_eq a
 trait_id_tells a b h = search rules
 
-alias_id_tells : (a : TypeAliasId) → Tells alias_id_eq a
+alias_id_tells : (a : TypeAliasId) → IsExactAt alias_id_eq a
 alias_id_tells a b h = search rules
 
-opaque_id_tells : (a : OpaqueId) → Tells opaque_id_eq a
+opaque_id_tells : (a : OpaqueId) → IsExactAt opaque_id_eq a
 opaque_id_tells a b h = search rules
 
-closure_id_tells : (a : ClosureId) → Tells closure_id_eq a
+closure_id_tells : (a : ClosureId) → IsExactAt closure_id_eq a
 closure_id_tells a b h = search rules
 
-callable_id_tells : (a : CallableDefId) → Tells callable_id_eq a
+callable_id_tells : (a : CallableDefId) → IsExactAt callable_id_eq a
 callable_id_tells a b h = search rules
 
 trait_id_decides : (a b : TraitId) → Decides (trait_id_eq a b) (a ≡ b)
 trait_id_decides a b = search rules
 
-trait_ids_tell : (xs : List TraitId) → Tells (pointwise trait_id_eq) xs
+trait_ids_tell : (xs : List TraitId) → IsExactAt (pointwise trait_id_eq) xs
 trait_ids_tell xs ys h = (pointwise_decides trait_id_decides xs ys).0 h
 
 -- ---- of types, arguments, traits and bounds
@@ -172,18 +169,18 @@ trait_same a b e f = λ i. record { id = e i; args = f i }
 bound_same : (a b : AliasBound) → a.alias ≡ b.alias → a.ty ≡ b.ty → a ≡ b
 bound_same a b e f = λ i. record { alias = e i; ty = f i }
 
-trait_from_parts : (a : TraitRef) → Tells (pointwise arg_eq) a.args → Tells trait_eq a
+trait_from_parts : (a : TraitRef) → IsExactAt (pointwise arg_eq) a.args → IsExactAt trait_eq a
 trait_from_parts a t b h =
     let g : (trait_id_eq a.id b.id && pointwise arg_eq a.args b.args) ≡ true = sym (trait_laws.is a b) ∙ h in
     trait_same a b (trait_id_tells a.id b.id (first_so (trait_id_eq a.id b.id) (pointwise arg_eq a.args b.args) g)) (t b.args (second_so (trait_id_eq a.id b.id) (pointwise arg_eq a.args b.args) g))
 
-bound_from_parts : (a : AliasBound) → Tells ty_eq a.ty → Tells bound_eq a
+bound_from_parts : (a : AliasBound) → IsExactAt ty_eq a.ty → IsExactAt bound_eq a
 bound_from_parts a t b h =
     let g : (alias_id_eq a.alias b.alias && ty_eq a.ty b.ty) ≡ true = sym (bound_laws.is a b) ∙ h in
     bound_same a b (alias_id_tells a.alias b.alias (first_so (alias_id_eq a.alias b.alias) (ty_eq a.ty b.ty) g)) (t b.ty (second_so (alias_id_eq a.alias b.alias) (ty_eq a.ty b.ty) g))
 
 -- at a value or none
-maybe_tells : {A : Type 0} (E : A → A → Bool) (o : Option ((a : A) × Tells E a)) → Tells (option_eq E) (option_map (λ x. x.0) o)
+maybe_tells : {A : Type 0} (E : A → A → Bool) (o : Option ((a : A) × IsExactAt E a)) → IsExactAt (option_eq E) (option_map (λ x. x.0) o)
 maybe_tells E None None h = refl
 maybe_tells E None (Some y) h = absurd (true≢false (sym h))
 maybe_tells E (Some x) None h = absurd (true≢false (sym h))
@@ -198,50 +195,50 @@ ty_each = (λ a b. true, (λ a b. true, (λ a b. int_eq a.0 b.0, (λ a b. uint_e
 abbrev arg_each : Each Bool arg.the_parts
 arg_each = (λ a b. ty_eq a.0 b.0, (λ a b. const_eq a.0 b.0, tt))
 
-ty_from_parts : (a : Ty) → TellsAt ty.the_parts ty_each (ty.as_values a) → Tells ty_eq a
+ty_from_parts : (a : Ty) → AreExactAt ty.the_parts ty_each (ty.as_values a) → IsExactAt ty_eq a
 ty_from_parts a t b h = values_one ty.enum a b (by_tells ty.the_parts ty_each (ty.as_values a) (ty.as_values b) t (sym (ty_laws.is a b) ∙ h))
 
-arg_from_parts : (a : GenericArg) → TellsAt arg.the_parts arg_each (arg.as_values a) → Tells arg_eq a
+arg_from_parts : (a : GenericArg) → AreExactAt arg.the_parts arg_each (arg.as_values a) → IsExactAt arg_eq a
 arg_from_parts a t b h = values_one arg.enum a b (by_tells arg.the_parts arg_each (arg.as_values a) (arg.as_values b) t (sym (arg_laws.is a b) ∙ h))
 
-abbrev TyTold : Type 0
-TyTold = (a : Ty) × Tells ty_eq a
+abbrev ExactTy : Type 0
+ExactTy = (a : Ty) × IsExactAt ty_eq a
 
-abbrev ArgTold : Type 0
-ArgTold = (a : GenericArg) × Tells arg_eq a
+abbrev ExactArg : Type 0
+ExactArg = (a : GenericArg) × IsExactAt arg_eq a
 
-abbrev BoundTold : Type 0
-BoundTold = (a : AliasBound) × Tells bound_eq a
+abbrev ExactBound : Type 0
+ExactBound = (a : AliasBound) × IsExactAt bound_eq a
 
-abbrev TraitTold : Type 0
-TraitTold = (a : TraitRef) × Tells trait_eq a
+abbrev ExactTrait : Type 0
+ExactTrait = (a : TraitRef) × IsExactAt trait_eq a
 
-abbrev ty_of : Ty-F ArgTold TyTold BoundTold TraitTold → Ty-F GenericArg Ty AliasBound TraitRef
-ty_of = map-Ty ArgTold TyTold BoundTold TraitTold GenericArg Ty AliasBound TraitRef (λ e. e.0) (λ e. e.0) (λ e. e.0) (λ e. e.0)
+abbrev ty_of : Ty-F ExactArg ExactTy ExactBound ExactTrait → Ty-F GenericArg Ty AliasBound TraitRef
+ty_of = map-Ty ExactArg ExactTy ExactBound ExactTrait GenericArg Ty AliasBound TraitRef (λ e. e.0) (λ e. e.0) (λ e. e.0) (λ e. e.0)
 
-abbrev arg_of : GenericArg-F ArgTold TyTold BoundTold TraitTold → GenericArg-F GenericArg Ty AliasBound TraitRef
-arg_of = map-GenericArg ArgTold TyTold BoundTold TraitTold GenericArg Ty AliasBound TraitRef (λ e. e.0) (λ e. e.0) (λ e. e.0) (λ e. e.0)
+abbrev arg_of : GenericArg-F ExactArg ExactTy ExactBound ExactTrait → GenericArg-F GenericArg Ty AliasBound TraitRef
+arg_of = map-GenericArg ExactArg ExactTy ExactBound ExactTrait GenericArg Ty AliasBound TraitRef (λ e. e.0) (λ e. e.0) (λ e. e.0) (λ e. e.0)
 
-abbrev bound_of : AliasBound-F ArgTold TyTold BoundTold TraitTold → AliasBound-F GenericArg Ty AliasBound TraitRef
-bound_of = map-AliasBound ArgTold TyTold BoundTold TraitTold GenericArg Ty AliasBound TraitRef (λ e. e.0) (λ e. e.0) (λ e. e.0) (λ e. e.0)
+abbrev bound_of : AliasBound-F ExactArg ExactTy ExactBound ExactTrait → AliasBound-F GenericArg Ty AliasBound TraitRef
+bound_of = map-AliasBound ExactArg ExactTy ExactBound ExactTrait GenericArg Ty AliasBound TraitRef (λ e. e.0) (λ e. e.0) (λ e. e.0) (λ e. e.0)
 
-abbrev trait_of : TraitRef-F ArgTold TyTold BoundTold TraitTold → TraitRef-F GenericArg Ty AliasBound TraitRef
-trait_of = map-TraitRef ArgTold TyTold BoundTold TraitTold GenericArg Ty AliasBound TraitRef (λ e. e.0) (λ e. e.0) (λ e. e.0) (λ e. e.0)
+abbrev trait_of : TraitRef-F ExactArg ExactTy ExactBound ExactTrait → TraitRef-F GenericArg Ty AliasBound TraitRef
+trait_of = map-TraitRef ExactArg ExactTy ExactBound ExactTrait GenericArg Ty AliasBound TraitRef (λ e. e.0) (λ e. e.0) (λ e. e.0) (λ e. e.0)
 
 -- a field before a list of arguments
-with_args : {A : Type 0} (E : A → A → Bool) (a : A) (xs : List ArgTold) → Tells E a → (y : A × (List GenericArg × Unit {0})) → (E a y.0 && pointwise arg_eq (map (λ e. e.0) xs) y.1.0) ≡ true → (a, (map (λ e. e.0) xs, tt)) ≡ y
+with_args : {A : Type 0} (E : A → A → Bool) (a : A) (xs : List ExactArg) → IsExactAt E a → (y : A × (List GenericArg × Unit {0})) → (E a y.0 && pointwise arg_eq (map (λ e. e.0) xs) y.1.0) ≡ true → (a, (map (λ e. e.0) xs, tt)) ≡ y
 with_args E a xs t = pair_tells E (λ u v. pointwise arg_eq u.0 v.0) a (map (λ e. e.0) xs, tt) t (one_tells (pointwise arg_eq) (map (λ e. e.0) xs) (items_tell arg_eq xs))
 
 -- a field before inputs and an output
-with_types : {A : Type 0} (E : A → A → Bool) (a : A) (ts : List TyTold) (t : TyTold) → Tells E a → (y : A × (List Ty × (Ty × Unit {0}))) → (E a y.0 && (pointwise ty_eq (map (λ e. e.0) ts) y.1.0 && ty_eq t.0 y.1.1.0)) ≡ true → (a, (map (λ e. e.0) ts, (t.0, tt))) ≡ y
+with_types : {A : Type 0} (E : A → A → Bool) (a : A) (ts : List ExactTy) (t : ExactTy) → IsExactAt E a → (y : A × (List Ty × (Ty × Unit {0}))) → (E a y.0 && (pointwise ty_eq (map (λ e. e.0) ts) y.1.0 && ty_eq t.0 y.1.1.0)) ≡ true → (a, (map (λ e. e.0) ts, (t.0, tt))) ≡ y
 with_types E a ts t p = pair_tells E (λ u v. pointwise ty_eq u.0 v.0 && ty_eq u.1.0 v.1.0) a (map (λ e. e.0) ts, (t.0, tt)) p
     (pair_tells (pointwise ty_eq) (λ u v. ty_eq u.0 v.0) (map (λ e. e.0) ts) (t.0, tt) (items_tell ty_eq ts) (one_tells ty_eq t.0 t.1))
 
-with_traits : (o : Option TraitTold) (bs : List BoundTold) (ts : List TraitId) (y : Option TraitRef × (List AliasBound × (List TraitId × Unit {0}))) → (option_eq trait_eq (option_map (λ e. e.0) o) y.0 && (pointwise bound_eq (map (λ e. e.0) bs) y.1.0 && pointwise trait_id_eq ts y.1.1.0)) ≡ true → (option_map (λ e. e.0) o, (map (λ e. e.0) bs, (ts, tt))) ≡ y
+with_traits : (o : Option ExactTrait) (bs : List ExactBound) (ts : List TraitId) (y : Option TraitRef × (List AliasBound × (List TraitId × Unit {0}))) → (option_eq trait_eq (option_map (λ e. e.0) o) y.0 && (pointwise bound_eq (map (λ e. e.0) bs) y.1.0 && pointwise trait_id_eq ts y.1.1.0)) ≡ true → (option_map (λ e. e.0) o, (map (λ e. e.0) bs, (ts, tt))) ≡ y
 with_traits o bs ts = pair_tells (option_eq trait_eq) (λ (a b : List AliasBound × (List TraitId × Unit {0})). pointwise bound_eq a.0 b.0 && pointwise trait_id_eq a.1.0 b.1.0) (option_map (λ e. e.0) o) (map (λ e. e.0) bs, (ts, tt)) (maybe_tells trait_eq o)
     (pair_tells (pointwise bound_eq) (λ (a b : List TraitId × Unit {0}). pointwise trait_id_eq a.0 b.0) (map (λ e. e.0) bs) (ts, tt) (items_tell bound_eq bs) (one_tells (pointwise trait_id_eq) ts (trait_ids_tell ts)))
 
-ty_parts : (y : Ty-F ArgTold TyTold BoundTold TraitTold) → TellsAt ty.the_parts ty_each (split-Ty V (ty_of y))
+ty_parts : (y : Ty-F ExactArg ExactTy ExactBound ExactTrait) → AreExactAt ty.the_parts ty_each (split-Ty V (ty_of y))
 ty_parts Ty-F.Bool = λ y h. refl
 ty_parts Ty-F.Char = λ y h. refl
 ty_parts (Ty-F.Int i) = one_tells int_eq i (int_tells i)
@@ -269,50 +266,24 @@ ty_parts (Ty-F.Var n) = one_tells nat_eq n (nat_tells n)
 ty_parts (Ty-F.IntVar n) = one_tells nat_eq n (nat_tells n)
 ty_parts Ty-F.Hole = λ y h. refl
 
-arg_parts : (y : GenericArg-F ArgTold TyTold BoundTold TraitTold) → TellsAt arg.the_parts arg_each (split-GenericArg V (arg_of y))
+arg_parts : (y : GenericArg-F ExactArg ExactTy ExactBound ExactTrait) → AreExactAt arg.the_parts arg_each (split-GenericArg V (arg_of y))
 arg_parts (GenericArg-F.Ty t) = one_tells ty_eq t.0 t.1
 arg_parts (GenericArg-F.Const c) = one_tells const_eq c (const_tells c)
 
-ty_step : (x : Ty-F GenericArg Ty AliasBound TraitRef) (y : Ty-F ArgTold TyTold BoundTold TraitTold) → ty_of y ≡ x → Tells ty_eq (roll-Ty x)
-ty_step x y is = ty_from_parts (roll-Ty x) (subst (λ z. TellsAt ty.the_parts ty_each (split-Ty V z)) (is ∙ sym (out-roll-Ty x)) (ty_parts y))
+ty_step : (x : Ty-F GenericArg Ty AliasBound TraitRef) (y : Ty-F ExactArg ExactTy ExactBound ExactTrait) → ty_of y ≡ x → IsExactAt ty_eq (roll-Ty x)
+ty_step x y is = ty_from_parts (roll-Ty x) (subst (λ z. AreExactAt ty.the_parts ty_each (split-Ty V z)) (is ∙ sym (out-roll-Ty x)) (ty_parts y))
 
-arg_step : (x : GenericArg-F GenericArg Ty AliasBound TraitRef) (y : GenericArg-F ArgTold TyTold BoundTold TraitTold) → arg_of y ≡ x → Tells arg_eq (roll-GenericArg x)
-arg_step x y is = arg_from_parts (roll-GenericArg x) (subst (TellsAt arg.the_parts arg_each) (ap (split-GenericArg V) (is ∙ sym (out-roll-GenericArg x)) ∙ sym (parts_is-GenericArg (roll-GenericArg x))) (arg_parts y))
+arg_step : (x : GenericArg-F GenericArg Ty AliasBound TraitRef) (y : GenericArg-F ExactArg ExactTy ExactBound ExactTrait) → arg_of y ≡ x → IsExactAt arg_eq (roll-GenericArg x)
+arg_step x y is = arg_from_parts (roll-GenericArg x) (subst (AreExactAt arg.the_parts arg_each) (ap (split-GenericArg V) (is ∙ sym (out-roll-GenericArg x)) ∙ sym (parts_is-GenericArg (roll-GenericArg x))) (arg_parts y))
 
-bound_step : (x : AliasBound-F GenericArg Ty AliasBound TraitRef) (y : AliasBound-F ArgTold TyTold BoundTold TraitTold) → bound_of y ≡ x → Tells bound_eq (roll-AliasBound x)
-bound_step x y is = subst (λ z. Tells bound_eq (roll-AliasBound z)) is (bound_from_parts (roll-AliasBound (bound_of y)) y.ty.1)
+bound_step : (x : AliasBound-F GenericArg Ty AliasBound TraitRef) (y : AliasBound-F ExactArg ExactTy ExactBound ExactTrait) → bound_of y ≡ x → IsExactAt bound_eq (roll-AliasBound x)
+bound_step x y is = subst (λ z. IsExactAt bound_eq (roll-AliasBound z)) is (bound_from_parts (roll-AliasBound (bound_of y)) y.ty.1)
 
-trait_step : (x : TraitRef-F GenericArg Ty AliasBound TraitRef) (y : TraitRef-F ArgTold TyTold BoundTold TraitTold) → trait_of y ≡ x → Tells trait_eq (roll-TraitRef x)
-trait_step x y is = subst (λ z. Tells trait_eq (roll-TraitRef z)) is (trait_from_parts (roll-TraitRef (trait_of y)) (items_tell arg_eq y.args))
+trait_step : (x : TraitRef-F GenericArg Ty AliasBound TraitRef) (y : TraitRef-F ExactArg ExactTy ExactBound ExactTrait) → trait_of y ≡ x → IsExactAt trait_eq (roll-TraitRef x)
+trait_step x y is = subst (λ z. IsExactAt trait_eq (roll-TraitRef z)) is (trait_from_parts (roll-TraitRef (trait_of y)) (items_tell arg_eq y.args))
 
-pub ty_tells : (a : Ty) → Tells ty_eq a
-ty_tells = ind-Ty (Tells arg_eq) (Tells ty_eq) (Tells bound_eq) (Tells trait_eq) arg_step ty_step bound_step trait_step
-
-pub arg_tells : (a : GenericArg) → Tells arg_eq a
-arg_tells = ind-GenericArg (Tells arg_eq) (Tells ty_eq) (Tells bound_eq) (Tells trait_eq) arg_step ty_step bound_step trait_step
-
-pub bound_tells : (a : AliasBound) → Tells bound_eq a
-bound_tells = ind-AliasBound (Tells arg_eq) (Tells ty_eq) (Tells bound_eq) (Tells trait_eq) arg_step ty_step bound_step trait_step
-
-pub trait_tells : (a : TraitRef) → Tells trait_eq a
-trait_tells = ind-TraitRef (Tells arg_eq) (Tells ty_eq) (Tells bound_eq) (Tells trait_eq) arg_step ty_step bound_step trait_step
+pub ty_tells : (a : Ty) → IsExactAt ty_eq a
+ty_tells = ind-Ty (IsExactAt arg_eq) (IsExactAt ty_eq) (IsExactAt bound_eq) (IsExactAt trait_eq) arg_step ty_step bound_step trait_step
 
 pub ty_decides : (a b : Ty) → Decides (ty_eq a b) (a ≡ b)
 ty_decides a b = (ty_tells a b, λ e. subst (λ z. ty_eq a z ≡ true) e (ty_equiv.laws-law.refl a))
-
-pub arg_decides : (a b : GenericArg) → Decides (arg_eq a b) (a ≡ b)
-arg_decides a b = (arg_tells a b, λ e. subst (λ z. arg_eq a z ≡ true) e (arg_equiv.laws-law.refl a))
-
-pub trait_decides : (a b : TraitRef) → Decides (trait_eq a b) (a ≡ b)
-trait_decides a b = (trait_tells a b, λ e. subst (λ z. trait_eq a z ≡ true) e (trait_equiv.laws-law.refl a))
-
-pub bound_decides : (a b : AliasBound) → Decides (bound_eq a b) (a ≡ b)
-bound_decides a b = (bound_tells a b, λ e. subst (λ z. bound_eq a z ≡ true) e (bound_equiv.laws-law.refl a))
-
-pub tys_decide : (a b : List Ty) → Decides (pointwise ty_eq a b) (a ≡ b)
-tys_decide = pointwise_decides ty_decides
-
-pub args_decide : (a b : List GenericArg) → Decides (pointwise arg_eq a b) (a ≡ b)
-args_decide = pointwise_decides arg_decides
-
-pub ruleset type_equality = (ty_decides, arg_decides, trait_decides, bound_decides, tys_decide, args_decide)

@@ -14,8 +14,8 @@ use Rattle.hir_types.specs.declared.ty.GenericArg.{GenericArg, GenericArg-F, rol
 use Rattle.hir_types.specs.declared.ty.GenericArg.TheVariants as arg
 use Rattle.hir_types.specs.declared.ty.TraitRef.{TraitRef, roll-TraitRef}
 use Rattle.hir_types.specs.declared.ty.AliasBound.{AliasBound, roll-AliasBound}
-use Rattle.hir_types.specs.Erasure.{no_label, erased_step, erased, arg_erased, bound_erased, trait_erased}
-use Rattle.hir_types.specs.Folds.{Steps, Maps, folds, folds_follow, Follows, Same, unique, after, in_arg, in_ty, in_bound, in_trait, in_arg_twice, in_ty_twice, in_bound_twice, in_trait_twice}
+use Rattle.hir_types.specs.Erasure.{no_label, erased_step, erased}
+use Rattle.hir_types.specs.Folds.{Steps, Maps, folds, folds_follow, GoBySteps, SameMaps, unique, maps_after, in_arg, in_ty, in_bound, in_trait, in_arg_twice, in_ty_twice, in_bound_twice, in_trait_twice}
 use Rattle.hir_types.specs.Terms.{Term, hole, leaf, pair, chain, node, const_term, type_part, arg_step, bound_step, trait_step, auto_parts, ty_step, term, arg_term, trait_parts, bound_parts}
 use Rattle.hir_types.specs.TermLaws.{term_steps, terms, term_at, arg_term_at, trait_parts_is, bound_parts_is, term_ref}
 
@@ -31,33 +31,33 @@ erasing = folds erased_steps
 -- ---- what a term is read back as
 
 -- a mark, a type or a const, or none of them
-pub data Part : Type 0 where
-  mark : Head → Part
-  type_of : Ty → Part
-  const_of : Const → Part
-  unread : Part
+pub data ReadPart : Type 0 where
+  mark : Head → ReadPart
+  type_of : Ty → ReadPart
+  const_of : Const → ReadPart
+  unread : ReadPart
 
-abbrev types : List Part → List Ty
+abbrev types : List ReadPart → List Ty
 types [] = []
 types (type_of t ∷ ps) = t ∷ types ps
 types (_ ∷ ps) = types ps
 
-abbrev first_type : List Part → Ty
+abbrev first_type : List ReadPart → Ty
 first_type (type_of t ∷ ps) = t
 first_type _ = ty.Error
 
-abbrev first_const : List Part → Const
+abbrev first_const : List ReadPart → Const
 first_const [] = const.Unknown
 first_const (const_of c ∷ ps) = c
 first_const (_ ∷ ps) = first_const ps
 
-abbrev arg_of : Part → GenericArg
+abbrev arg_of : ReadPart → GenericArg
 arg_of (type_of t) = arg.Ty t
 arg_of (const_of c) = arg.Const c
 arg_of _ = arg.Const const.Unknown
 
 -- the arguments before the first mark
-abbrev leading_args : List Part → List GenericArg
+abbrev leading_args : List ReadPart → List GenericArg
 leading_args (type_of t ∷ ps) = arg.Ty t ∷ leading_args ps
 leading_args (const_of c ∷ ps) = arg.Const c ∷ leading_args ps
 leading_args _ = []
@@ -72,29 +72,29 @@ last [] = ty.Error
 last (t ∷ []) = t
 last (t ∷ u ∷ us) = last (u ∷ us)
 
-abbrev principal_of : List Part → Option TraitRef
+abbrev principal_of : List ReadPart → Option TraitRef
 principal_of (mark (head.Principal id) ∷ ps) = Some (record { id = id; args = leading_args ps })
 principal_of _ = None
 
 -- a part with the parts behind it, before the bounds among these
-abbrev bound_before : Part → List Part → List AliasBound → List AliasBound
+abbrev bound_before : ReadPart → List ReadPart → List AliasBound → List AliasBound
 bound_before (mark (head.Bound a)) (type_of t ∷ ps) bs = record { alias = a; ty = t } ∷ bs
 bound_before _ ps bs = bs
 
-abbrev bounds_of : List Part → List AliasBound
+abbrev bounds_of : List ReadPart → List AliasBound
 bounds_of [] = []
 bounds_of (p ∷ ps) = bound_before p ps (bounds_of ps)
 
-abbrev auto_before : Part → List TraitId → List TraitId
+abbrev auto_before : ReadPart → List TraitId → List TraitId
 auto_before (mark (head.AutoTrait id)) ids = id ∷ ids
 auto_before _ ids = ids
 
-abbrev autos_of : List Part → List TraitId
+abbrev autos_of : List ReadPart → List TraitId
 autos_of [] = []
 autos_of (p ∷ ps) = auto_before p (autos_of ps)
 
 -- a type by its head and the parts behind it
-abbrev read_type : Part → List Part → Ty
+abbrev read_type : ReadPart → List ReadPart → Ty
 read_type (mark head.Bool) ps = ty.Bool
 read_type (mark head.Char) ps = ty.Char
 read_type (mark (head.Int i)) ps = ty.Int i
@@ -119,35 +119,35 @@ read_type (mark head.Error) ps = ty.Error
 read_type (mark head.Hole) ps = ty.Hole
 read_type _ ps = ty.Error
 
-abbrev read_const : Part → Const
+abbrev read_const : ReadPart → Const
 read_const (mark (head.Value n)) = const.Value n
 read_const (mark (head.ConstParam n)) = const.Param n
 read_const (mark head.ConstHole) = const.Hole
 read_const _ = const.Unknown
 
-abbrev read_part : Part → Ty → Const → Part
+abbrev read_part : ReadPart → Ty → Const → ReadPart
 read_part (mark head.TypePart) t c = type_of t
 read_part (mark head.ConstPart) t c = const_of c
 read_part _ t c = unread
 
-abbrev hole_type : Hole → Ty
-hole_type (hole_of.Ty n) = ty.Var n
-hole_type (hole_of.Int n) = ty.IntVar n
-hole_type (hole_of.Const n) = ty.Error
+abbrev type_of_hole : Hole → Ty
+type_of_hole (hole_of.Ty n) = ty.Var n
+type_of_hole (hole_of.Int n) = ty.IntVar n
+type_of_hole (hole_of.Const n) = ty.Error
 
-abbrev hole_const : Hole → Const
-hole_const (hole_of.Const n) = const.Var n
-hole_const _ = const.Unknown
+abbrev const_of_hole : Hole → Const
+const_of_hole (hole_of.Const n) = const.Var n
+const_of_hole _ = const.Unknown
 
 -- a term, read as a type, as a const, as one part and as a chain of parts
 pub record Reading : Type 0 where
   pub type : Ty
   pub const : Const
-  pub part : Part
-  pub parts : List Part
+  pub part : ReadPart
+  pub parts : List ReadPart
 
 abbrev pub read : Term → Reading
-read (hole k) = record { type = hole_type k; const = hole_const k; part = unread; parts = [] }
+read (hole k) = record { type = type_of_hole k; const = const_of_hole k; part = unread; parts = [] }
 read (leaf h) = record { type = ty.Error; const = const.Unknown; part = mark h; parts = [] }
 read (pair a b) = record {
   type = read_type (read a).part (read b).parts;
@@ -162,7 +162,7 @@ type_of_term u = (read u).type
 abbrev pub const_of_term : Term → Const
 const_of_term u = (read u).const
 
-abbrev parts_of : List Term → List Part
+abbrev parts_of : List Term → List ReadPart
 parts_of us = (read (chain us)).parts
 
 -- ---- a type's term is read as the type without labels
@@ -183,7 +183,7 @@ reading = record {
 }
 
 -- a type or a const
-abbrev IsArg : Part → Type 0
+abbrev IsArg : ReadPart → Type 0
 IsArg (type_of t) = Unit {0}
 IsArg (const_of c) = Unit {0}
 IsArg _ = ⊥
@@ -195,19 +195,19 @@ arg_step_read (GenericArg-F.Const c) = tt
 arg_is : (x : GenericArg) → IsArg (read (arg_term x)).part
 arg_is x = subst (λ u. IsArg (read u).part) (sym (fold_out-GenericArg Term Term (List Term) (List Term) arg_step ty_step bound_step trait_step x)) (arg_step_read (in_arg terms (out-GenericArg x)))
 
-arg_leads : (p : Part) (ps : List Part) → IsArg p → leading_args (p ∷ ps) ≡ arg_of p ∷ leading_args ps
+arg_leads : (p : ReadPart) (ps : List ReadPart) → IsArg p → leading_args (p ∷ ps) ≡ arg_of p ∷ leading_args ps
 arg_leads (type_of t) ps h = refl
 arg_leads (const_of c) ps h = refl
 arg_leads (mark m) ps h = absurd h
 arg_leads unread ps h = absurd h
 
-no_bound_before : (p : Part) (ps : List Part) (bs : List AliasBound) → IsArg p → bound_before p ps bs ≡ bs
+no_bound_before : (p : ReadPart) (ps : List ReadPart) (bs : List AliasBound) → IsArg p → bound_before p ps bs ≡ bs
 no_bound_before (type_of t) ps bs h = refl
 no_bound_before (const_of c) ps bs h = refl
 no_bound_before (mark m) ps bs h = absurd h
 no_bound_before unread ps bs h = refl
 
-no_auto_before : (p : Part) (ids : List TraitId) → IsArg p → auto_before p ids ≡ ids
+no_auto_before : (p : ReadPart) (ids : List TraitId) → IsArg p → auto_before p ids ≡ ids
 no_auto_before (type_of t) ids h = refl
 no_auto_before (const_of c) ids h = refl
 no_auto_before (mark m) ids h = absurd h
@@ -244,9 +244,6 @@ args_read (x ∷ xs) = arg_leads (read (arg_term x)).part (parts_of (map arg_ter
 -- the parts of a bound and of a trait, written out
 abbrev plain_bound : AliasBound → List Term
 plain_bound b = leaf (head.Bound b.alias) ∷ type_part (term b.ty) ∷ []
-
-abbrev plain_trait : TraitRef → List Term
-plain_trait r = leaf (head.Principal r.id) ∷ map arg_term r.args
 
 abbrev plain_bounds : List AliasBound → List Term
 plain_bounds bs = flat_map (λ us. us) (map plain_bound bs)
@@ -334,7 +331,7 @@ ty_read_at (Ty-F.Var n) = sym (ty.rolls-Var n)
 ty_read_at (Ty-F.IntVar n) = sym (ty.rolls-IntVar n)
 ty_read_at Ty-F.Hole = sym ty.rolls-Hole
 
-reading_follows : Follows erased_steps reading
+reading_follows : GoBySteps erased_steps reading
 reading_follows = record {
   arg = λ x. ap (λ u. arg_of (read u).part) (arg_term_at x) ∙ arg_read_at x;
   ty = λ x. ap type_of_term (term_at x) ∙ ty_read_at x;
@@ -342,26 +339,23 @@ reading_follows = record {
   trait = λ x. refl;
 }
 
-reading_same : Same reading erasing
+reading_same : SameMaps reading erasing
 reading_same = unique erased_steps reading erasing reading_follows (folds_follow erased_steps)
 
 -- `type_of_term` gives back the type without labels
 pub term_read : (t : Ty) → type_of_term (term t) ≡ erased t
 term_read = reading_same.ty
 
-pub arg_term_read : (x : GenericArg) → arg_of (read (arg_term x)).part ≡ arg_erased x
-arg_term_read = reading_same.arg
-
 -- ---- labels do not show in terms
 
 abbrev erased_first : Maps Term Term (List Term) (List Term)
-erased_first = after terms erasing
+erased_first = maps_after terms erasing
 
 erased_ty_layer : (x : Ty-F GenericArg Ty AliasBound TraitRef) → term (erased_step (in_ty erasing x)) ≡ ty_step (in_ty erased_first x)
 erased_ty_layer (Ty-F.Ref m r t) = term_ref m no_label (erased t)
 erased_ty_layer x = term_at (in_ty erasing x) ∙ ap ty_step (in_ty_twice terms erasing x)
 
-erased_first_follows : Follows term_steps erased_first
+erased_first_follows : GoBySteps term_steps erased_first
 erased_first_follows = record {
   arg = λ x. ap arg_term ((folds_follow erased_steps).arg x) ∙ arg_term_at (in_arg erasing x) ∙ ap arg_step (in_arg_twice terms erasing x);
   ty = λ x. ap term ((folds_follow erased_steps).ty x) ∙ erased_ty_layer x;
@@ -369,20 +363,11 @@ erased_first_follows = record {
   trait = λ x. ap trait_parts ((folds_follow erased_steps).trait x) ∙ (folds_follow term_steps).trait (in_trait erasing x) ∙ ap trait_step (in_trait_twice terms erasing x);
 }
 
-erased_first_same : Same erased_first terms
+erased_first_same : SameMaps erased_first terms
 erased_first_same = unique term_steps erased_first terms erased_first_follows (folds_follow term_steps)
 
 pub term_erased : (t : Ty) → term (erased t) ≡ term t
 term_erased = erased_first_same.ty
-
-pub arg_term_erased : (x : GenericArg) → arg_term (arg_erased x) ≡ arg_term x
-arg_term_erased = erased_first_same.arg
-
-pub trait_parts_erased : (r : TraitRef) → trait_parts (trait_erased r) ≡ trait_parts r
-trait_parts_erased = erased_first_same.trait
-
-pub bound_parts_erased : (b : AliasBound) → bound_parts (bound_erased b) ≡ bound_parts b
-bound_parts_erased = erased_first_same.bound
 
 -- ---- both ways
 
@@ -394,13 +379,3 @@ erased_tells a b e = sym (term_erased a) ∙ ap term e ∙ term_erased b
 
 pub const_term_tells : (a b : Const) → const_term a ≡ const_term b → a ≡ b
 const_term_tells a b e = sym (const_read a) ∙ ap const_of_term e ∙ const_read b
-
-pub arg_term_tells : (a b : GenericArg) → arg_term a ≡ arg_term b → arg_erased a ≡ arg_erased b
-arg_term_tells a b e = sym (arg_term_read a) ∙ ap (λ u. arg_of (read u).part) e ∙ arg_term_read b
-
-pub arg_erased_tells : (a b : GenericArg) → arg_erased a ≡ arg_erased b → arg_term a ≡ arg_term b
-arg_erased_tells a b e = sym (arg_term_erased a) ∙ ap arg_term e ∙ arg_term_erased b
-
--- to erase twice is to erase once
-pub erased_twice : (t : Ty) → erased (erased t) ≡ erased t
-erased_twice t = term_tells (erased t) t (term_erased t)

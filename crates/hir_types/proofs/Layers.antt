@@ -1,5 +1,5 @@
 -- What is measured of a type, from what is measured of its parts.
-use Rattle.std.specs.Prelude.{◌≡◌, ℕ, ◌+◌, Bool, false, ◌||◌, List, [], ◌∷◌, map, sum, refl}
+use Rattle.std.specs.Prelude.{◌≡◌, ℕ, ◌+◌, Bool, false, ◌||◌, List, [], ◌∷◌, map, refl}
 use Rattle.std.specs.List.{list_any}
 use Rattle.std.proofs.Common.{sym, ◌∙◌, ap}
 use Rattle.hir_types.specs.declared.ids.AdtId.{AdtId}
@@ -10,44 +10,30 @@ use Rattle.hir_types.specs.declared.ty.IntegerTy.{IntegerTy}
 use Rattle.hir_types.specs.declared.ty.IntegerTy.TheVariants.{Int, Uint}
 use Rattle.hir_types.specs.declared.ty.Ty.{Ty, Ty-F, fold-roll-Ty}
 use Rattle.hir_types.specs.declared.ty.Ty.TheVariants as ty
-use Rattle.hir_types.specs.Types.{integer_type, most, depth, depth_arg, depth_step, depth_bound, depth_trait, size, size_arg, size_step, size_bound, size_trait}
+use Rattle.hir_types.specs.Types.{integer_type, measured, measured_arg, measured_step, measured_bound, measured_trait}
 use Rattle.hir_types.specs.Erasure.{has_hole, hole_arg, hole_step, hole_bound, hole_trait}
 
--- ---- levels
+-- ---- levels and sizes
 
-pub depth_tuple : (ts : List Ty) → depth (ty.Tuple ts) ≡ most (map depth ts) + 1
-depth_tuple ts = ap depth (sym (ty.rolls-Tuple ts)) ∙ fold-roll-Ty ℕ ℕ ℕ ℕ depth_arg depth_step depth_bound depth_trait (Ty-F.Tuple ts)
+module _ (of_list : List ℕ → ℕ) (of_two : ℕ → ℕ → ℕ) where
+  abbrev measure : Ty → ℕ
+  measure = measured of_list of_two
 
-pub depth_bool : depth ty.Bool ≡ 1
-depth_bool = ap depth (sym ty.rolls-Bool) ∙ fold-roll-Ty ℕ ℕ ℕ ℕ depth_arg depth_step depth_bound depth_trait Ty-F.Bool
+  pub measured_tuple : (ts : List Ty) → measure (ty.Tuple ts) ≡ of_list (map measure ts) + 1
+  measured_tuple ts = ap measure (sym (ty.rolls-Tuple ts)) ∙ fold-roll-Ty ℕ ℕ ℕ ℕ measured_arg (measured_step of_list of_two) measured_bound (measured_trait of_list) (Ty-F.Tuple ts)
 
-pub depth_char : depth ty.Char ≡ 1
-depth_char = ap depth (sym ty.rolls-Char) ∙ fold-roll-Ty ℕ ℕ ℕ ℕ depth_arg depth_step depth_bound depth_trait Ty-F.Char
+  pub measured_bool : measure ty.Bool ≡ 1
+  measured_bool = ap measure (sym ty.rolls-Bool) ∙ fold-roll-Ty ℕ ℕ ℕ ℕ measured_arg (measured_step of_list of_two) measured_bound (measured_trait of_list) Ty-F.Bool
 
-pub depth_error : depth ty.Error ≡ 1
-depth_error = ap depth (sym ty.rolls-Error) ∙ fold-roll-Ty ℕ ℕ ℕ ℕ depth_arg depth_step depth_bound depth_trait Ty-F.Error
+  pub measured_char : measure ty.Char ≡ 1
+  measured_char = ap measure (sym ty.rolls-Char) ∙ fold-roll-Ty ℕ ℕ ℕ ℕ measured_arg (measured_step of_list of_two) measured_bound (measured_trait of_list) Ty-F.Char
 
-pub depth_integer : (i : IntegerTy) → depth (integer_type i) ≡ 1
-depth_integer (Int i) = ap depth (sym (ty.rolls-Int i)) ∙ fold-roll-Ty ℕ ℕ ℕ ℕ depth_arg depth_step depth_bound depth_trait (Ty-F.Int i)
-depth_integer (Uint i) = ap depth (sym (ty.rolls-Uint i)) ∙ fold-roll-Ty ℕ ℕ ℕ ℕ depth_arg depth_step depth_bound depth_trait (Ty-F.Uint i)
+  pub measured_error : measure ty.Error ≡ 1
+  measured_error = ap measure (sym ty.rolls-Error) ∙ fold-roll-Ty ℕ ℕ ℕ ℕ measured_arg (measured_step of_list of_two) measured_bound (measured_trait of_list) Ty-F.Error
 
--- ---- sizes
-
-pub size_tuple : (ts : List Ty) → size (ty.Tuple ts) ≡ sum (map size ts) + 1
-size_tuple ts = ap size (sym (ty.rolls-Tuple ts)) ∙ fold-roll-Ty ℕ ℕ ℕ ℕ size_arg size_step size_bound size_trait (Ty-F.Tuple ts)
-
-pub size_bool : size ty.Bool ≡ 1
-size_bool = ap size (sym ty.rolls-Bool) ∙ fold-roll-Ty ℕ ℕ ℕ ℕ size_arg size_step size_bound size_trait Ty-F.Bool
-
-pub size_char : size ty.Char ≡ 1
-size_char = ap size (sym ty.rolls-Char) ∙ fold-roll-Ty ℕ ℕ ℕ ℕ size_arg size_step size_bound size_trait Ty-F.Char
-
-pub size_error : size ty.Error ≡ 1
-size_error = ap size (sym ty.rolls-Error) ∙ fold-roll-Ty ℕ ℕ ℕ ℕ size_arg size_step size_bound size_trait Ty-F.Error
-
-pub size_integer : (i : IntegerTy) → size (integer_type i) ≡ 1
-size_integer (Int i) = ap size (sym (ty.rolls-Int i)) ∙ fold-roll-Ty ℕ ℕ ℕ ℕ size_arg size_step size_bound size_trait (Ty-F.Int i)
-size_integer (Uint i) = ap size (sym (ty.rolls-Uint i)) ∙ fold-roll-Ty ℕ ℕ ℕ ℕ size_arg size_step size_bound size_trait (Ty-F.Uint i)
+  pub measured_integer : (i : IntegerTy) → measure (integer_type i) ≡ 1
+  measured_integer (Int i) = ap measure (sym (ty.rolls-Int i)) ∙ fold-roll-Ty ℕ ℕ ℕ ℕ measured_arg (measured_step of_list of_two) measured_bound (measured_trait of_list) (Ty-F.Int i)
+  measured_integer (Uint i) = ap measure (sym (ty.rolls-Uint i)) ∙ fold-roll-Ty ℕ ℕ ℕ ℕ measured_arg (measured_step of_list of_two) measured_bound (measured_trait of_list) (Ty-F.Uint i)
 
 -- ---- holes
 

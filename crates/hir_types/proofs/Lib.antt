@@ -1,4 +1,4 @@
 pub mod Faithful
 pub mod Layers
-pub mod Tells
+pub mod ExactEquality
 pub mod Equal

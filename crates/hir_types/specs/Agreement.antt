@@ -8,12 +8,12 @@ use Rattle.hir_types.specs.declared.ty.Const.{Const}
 use Rattle.hir_types.specs.declared.ty.Const.TheVariants as const
 use Rattle.hir_types.specs.declared.ty.Ty.{Ty, Ty-F, roll-Ty, map-Ty, ind-Ty}
 use Rattle.hir_types.specs.declared.ty.Ty.TheVariants as ty
-use Rattle.hir_types.specs.declared.ty.GenericArg.{GenericArg, GenericArg-F, roll-GenericArg, map-GenericArg, ind-GenericArg}
+use Rattle.hir_types.specs.declared.ty.GenericArg.{GenericArg, GenericArg-F, roll-GenericArg, map-GenericArg}
 use Rattle.hir_types.specs.declared.ty.GenericArg.TheVariants as arg
-use Rattle.hir_types.specs.declared.ty.TraitRef.{TraitRef, TraitRef-F, roll-TraitRef, map-TraitRef, ind-TraitRef}
-use Rattle.hir_types.specs.declared.ty.AliasBound.{AliasBound, AliasBound-F, roll-AliasBound, map-AliasBound, ind-AliasBound}
+use Rattle.hir_types.specs.declared.ty.TraitRef.{TraitRef, TraitRef-F, roll-TraitRef, map-TraitRef}
+use Rattle.hir_types.specs.declared.ty.AliasBound.{AliasBound, AliasBound-F, roll-AliasBound, map-AliasBound}
 use Rattle.hir_types.specs.Folds.{in_arg, in_ty}
-use Rattle.hir_types.specs.Folding.{replacing, at_ty, at_arg, trait_replaced_is, bound_replaced_is, folded_itself, arg_folded_itself, const_folded_itself}
+use Rattle.hir_types.specs.Replacements.{replacing, at_ty, at_arg, trait_replaced_is, bound_replaced_is, folded_itself, const_folded_itself}
 use Rattle.hir_types.specs.Subst.{ty_layer, arg_layer, bound_replaced, Assignment, with_holes, each_itself, folded, const_folded, arg_folded, trait_folded}
 use Rattle.hir_types.specs.Terms.{Term, leaf, pair, chain, const_term, type_part, const_part, arg_step, auto_parts, ty_step, term, arg_term, trait_parts, bound_parts, hole_eq, occurs}
 use Rattle.hir_types.specs.TermLaws.{terms, term_at, arg_term_at, trait_parts_is, bound_parts_is}
@@ -247,20 +247,6 @@ module _ (f g : Assignment) where
   pub folded_agree : (t : Ty) → SameOn f g (term t) → folded f t ≡ folded g t
   folded_agree = ind-Ty ArgAgrees TyAgrees BoundAgrees TraitAgrees arg_agrees_at ty_agrees_at bound_agrees_at trait_agrees_at
 
-  pub arg_folded_agree : (x : GenericArg) → SameOn f g (arg_term x) → arg_folded f x ≡ arg_folded g x
-  arg_folded_agree = ind-GenericArg ArgAgrees TyAgrees BoundAgrees TraitAgrees arg_agrees_at ty_agrees_at bound_agrees_at trait_agrees_at
-
-  pub bound_folded_agree : (b : AliasBound) → SameOn f g (chain (bound_parts b)) → bound_replaced (with_holes f) b ≡ bound_replaced (with_holes g) b
-  bound_folded_agree = ind-AliasBound ArgAgrees TyAgrees BoundAgrees TraitAgrees arg_agrees_at ty_agrees_at bound_agrees_at trait_agrees_at
-
-  pub trait_folded_agree : (r : TraitRef) → SameOn f g (chain (trait_parts r)) → trait_folded f r ≡ trait_folded g r
-  trait_folded_agree = ind-TraitRef ArgAgrees TyAgrees BoundAgrees TraitAgrees arg_agrees_at ty_agrees_at bound_agrees_at trait_agrees_at
-
-  pub args_folded_agree : (xs : List GenericArg) → SameOn f g (chain (map arg_term xs)) → map (arg_folded f) xs ≡ map (arg_folded g) xs
-  args_folded_agree [] h = refl
-  args_folded_agree (x ∷ xs) h =
-      λ i. arg_folded_agree x (on_left (arg_term x) (chain (map arg_term xs)) h) i ∷ args_folded_agree xs (on_right (arg_term x) (chain (map arg_term xs)) h) i
-
 -- ---- an assignment of one hole, at what does not have it
 
 -- every other hole stands for itself
@@ -279,6 +265,3 @@ folded_absent x f h t none = folded_agree f each_itself t (same_where_absent x f
 
 pub const_folded_absent : (x : Hole) (f : Assignment) → MovesOnly x f → (c : Const) → occurs x (const_term c) ≡ false → const_folded f c ≡ c
 const_folded_absent x f h c none = const_folded_agree f each_itself c (same_where_absent x f h (const_term c) none) ∙ const_folded_itself c
-
-pub arg_folded_absent : (x : Hole) (f : Assignment) → MovesOnly x f → (a : GenericArg) → occurs x (arg_term a) ≡ false → arg_folded f a ≡ a
-arg_folded_absent x f h a none = arg_folded_agree f each_itself a (same_where_absent x f h (arg_term a) none) ∙ arg_folded_itself a

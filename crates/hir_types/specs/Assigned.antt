@@ -30,9 +30,9 @@ assignment_of s = record {
 
 -- ---- arguments
 
-abbrev pub type_in : GenericArg-F GenericArg Ty AliasBound TraitRef → Ty
-type_in (GenericArg-F.Ty t) = t
-type_in (GenericArg-F.Const c) = ty.Error
+abbrev pub arg_as_type : GenericArg-F GenericArg Ty AliasBound TraitRef → Ty
+arg_as_type (GenericArg-F.Ty t) = t
+arg_as_type (GenericArg-F.Const c) = ty.Error
 
 abbrev pub const_in : GenericArg-F GenericArg Ty AliasBound TraitRef → Const
 const_in (GenericArg-F.Ty t) = const.Unknown
@@ -41,7 +41,7 @@ const_in (GenericArg-F.Const c) = c
 -- the argument where it is a type, else `{unknown}`
 abbrev pub type_of : Option GenericArg → Ty
 type_of None = ty.Error
-type_of (Some x) = type_in (out-GenericArg x)
+type_of (Some x) = arg_as_type (out-GenericArg x)
 
 -- the argument where it is a const, else `{unknown}`
 abbrev pub const_of : Option GenericArg → Const

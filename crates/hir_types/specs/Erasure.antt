@@ -4,9 +4,9 @@ use Rattle.std.specs.List.{list_any}
 use Rattle.hir_types.specs.declared.ty.Const.{Const}
 use Rattle.hir_types.specs.declared.ty.Const.TheVariants as const
 use Rattle.hir_types.specs.declared.ty.Region.{Region}
-use Rattle.hir_types.specs.declared.ty.AliasBound.{AliasBound, AliasBound-F, fold-AliasBound, roll-AliasBound}
+use Rattle.hir_types.specs.declared.ty.AliasBound.{AliasBound, AliasBound-F, roll-AliasBound}
 use Rattle.hir_types.specs.declared.ty.GenericArg.{GenericArg, GenericArg-F, fold-GenericArg, roll-GenericArg}
-use Rattle.hir_types.specs.declared.ty.TraitRef.{TraitRef, TraitRef-F, fold-TraitRef, roll-TraitRef}
+use Rattle.hir_types.specs.declared.ty.TraitRef.{TraitRef, TraitRef-F, roll-TraitRef}
 use Rattle.hir_types.specs.declared.ty.Ty.{Ty, Ty-F, fold-Ty, roll-Ty}
 use Rattle.hir_types.specs.declared.ty.Ty.TheVariants as ty
 
@@ -27,14 +27,6 @@ erased = fold-Ty GenericArg Ty AliasBound TraitRef roll-GenericArg erased_step r
 
 abbrev pub arg_erased : GenericArg → GenericArg
 arg_erased = fold-GenericArg GenericArg Ty AliasBound TraitRef roll-GenericArg erased_step
-    roll-AliasBound roll-TraitRef
-
-abbrev pub bound_erased : AliasBound → AliasBound
-bound_erased = fold-AliasBound GenericArg Ty AliasBound TraitRef roll-GenericArg erased_step
-    roll-AliasBound roll-TraitRef
-
-abbrev pub trait_erased : TraitRef → TraitRef
-trait_erased = fold-TraitRef GenericArg Ty AliasBound TraitRef roll-GenericArg erased_step
     roll-AliasBound roll-TraitRef
 
 -- the two types are the same but for labels

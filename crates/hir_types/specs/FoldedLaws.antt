@@ -5,7 +5,7 @@ use Rattle.hir_types.specs.declared.goal.Goal.TheVariants as goal
 use Rattle.hir_types.specs.Subst.{Assignment, with_holes, each_itself, composed}
 use Rattle.hir_types.specs.Goals.{goal_replaced}
 use Rattle.hir_types.specs.Folds.{map_twice, map_itself}
-use Rattle.hir_types.specs.Folding.{each_same, folded_itself, args_folded_itself, trait_folded_itself, folded_twice, args_folded_twice, trait_folded_twice}
+use Rattle.hir_types.specs.Replacements.{each_same, folded_itself, args_folded_itself, trait_folded_itself, folded_twice, args_folded_twice, trait_folded_twice}
 
 -- an instance stays an instance
 pub refined : {A : Type 0} (r : Assignment → A → A) → ((f g : Assignment) (t : A) → r f (r g t) ≡ r (composed f g) t) → (f : Assignment) (t u : A) → ((g : Assignment) × (u ≡ r g t)) → ((h : Assignment) × (r f u ≡ r h t))

@@ -16,12 +16,12 @@ map_itself [] = refl
 map_itself (x ∷ xs) = ap (◌∷◌ x) (map_itself xs)
 
 -- a value at which two maps agree
-abbrev pub Told : {X Y : Type 0} → (X → Y) → (X → Y) → Type 0
-Told {X = X} h k = (x : X) × (h x ≡ k x)
+abbrev pub AgreedOn : {X Y : Type 0} → (X → Y) → (X → Y) → Type 0
+AgreedOn {X = X} h k = (x : X) × (h x ≡ k x)
 
-pub map_told : {X Y : Type 0} (h k : X → Y) (xs : List (Told h k)) → map h (map (λ e. e.0) xs) ≡ map k (map (λ e. e.0) xs)
-map_told h k [] = refl
-map_told h k (x ∷ xs) = λ i. x.1 i ∷ map_told h k xs i
+pub map_agreed : {X Y : Type 0} (h k : X → Y) (xs : List (AgreedOn h k)) → map h (map (λ e. e.0) xs) ≡ map k (map (λ e. e.0) xs)
+map_agreed h k [] = refl
+map_agreed h k (x ∷ xs) = λ i. x.1 i ∷ map_agreed h k xs i
 
 -- ---- steps and maps
 
@@ -61,13 +61,13 @@ abbrev pub in_trait : {A T B R : Type 0} → Maps A T B R → TraitRef-F Generic
 in_trait {A = A} {T = T} {B = B} {R = R} m = map-TraitRef GenericArg Ty AliasBound TraitRef A T B R m.arg m.ty m.bound m.trait
 
 -- the maps go by the steps
-pub record Follows {A T B R : Type 0} (s : Steps A T B R) (m : Maps A T B R) : Type 0 where
+pub record GoBySteps {A T B R : Type 0} (s : Steps A T B R) (m : Maps A T B R) : Type 0 where
   pub arg : (x : GenericArg-F GenericArg Ty AliasBound TraitRef) → m.arg (roll-GenericArg x) ≡ s.arg (in_arg m x)
   pub ty : (x : Ty-F GenericArg Ty AliasBound TraitRef) → m.ty (roll-Ty x) ≡ s.ty (in_ty m x)
   pub bound : (x : AliasBound-F GenericArg Ty AliasBound TraitRef) → m.bound (roll-AliasBound x) ≡ s.bound (in_bound m x)
   pub trait : (x : TraitRef-F GenericArg Ty AliasBound TraitRef) → m.trait (roll-TraitRef x) ≡ s.trait (in_trait m x)
 
-pub folds_follow : {A T B R : Type 0} (s : Steps A T B R) → Follows s (folds s)
+pub folds_follow : {A T B R : Type 0} (s : Steps A T B R) → GoBySteps s (folds s)
 folds_follow {A = A} {T = T} {B = B} {R = R} s = record {
   arg = fold-roll-GenericArg A T B R s.arg s.ty s.bound s.trait;
   ty = fold-roll-Ty A T B R s.arg s.ty s.bound s.trait;
@@ -77,67 +77,67 @@ folds_follow {A = A} {T = T} {B = B} {R = R} s = record {
 
 -- ---- maps that go by the same steps are the same
 
-module _ (A T B R : Type 0) (s : Steps A T B R) (m n : Maps A T B R) (by_m : Follows s m) (by_n : Follows s n) where
-  abbrev ArgTold : Type 0
-  ArgTold = Told m.arg n.arg
+module _ (A T B R : Type 0) (s : Steps A T B R) (m n : Maps A T B R) (by_m : GoBySteps s m) (by_n : GoBySteps s n) where
+  abbrev AgreedArg : Type 0
+  AgreedArg = AgreedOn m.arg n.arg
 
-  abbrev TyTold : Type 0
-  TyTold = Told m.ty n.ty
+  abbrev AgreedTy : Type 0
+  AgreedTy = AgreedOn m.ty n.ty
 
-  abbrev BoundTold : Type 0
-  BoundTold = Told m.bound n.bound
+  abbrev AgreedBound : Type 0
+  AgreedBound = AgreedOn m.bound n.bound
 
-  abbrev TraitTold : Type 0
-  TraitTold = Told m.trait n.trait
+  abbrev AgreedTrait : Type 0
+  AgreedTrait = AgreedOn m.trait n.trait
 
-  abbrev arg_values : GenericArg-F ArgTold TyTold BoundTold TraitTold → GenericArg-F GenericArg Ty AliasBound TraitRef
-  arg_values = map-GenericArg ArgTold TyTold BoundTold TraitTold GenericArg Ty AliasBound TraitRef (λ e. e.0) (λ e. e.0) (λ e. e.0) (λ e. e.0)
+  abbrev arg_values : GenericArg-F AgreedArg AgreedTy AgreedBound AgreedTrait → GenericArg-F GenericArg Ty AliasBound TraitRef
+  arg_values = map-GenericArg AgreedArg AgreedTy AgreedBound AgreedTrait GenericArg Ty AliasBound TraitRef (λ e. e.0) (λ e. e.0) (λ e. e.0) (λ e. e.0)
 
-  abbrev ty_values : Ty-F ArgTold TyTold BoundTold TraitTold → Ty-F GenericArg Ty AliasBound TraitRef
-  ty_values = map-Ty ArgTold TyTold BoundTold TraitTold GenericArg Ty AliasBound TraitRef (λ e. e.0) (λ e. e.0) (λ e. e.0) (λ e. e.0)
+  abbrev ty_values : Ty-F AgreedArg AgreedTy AgreedBound AgreedTrait → Ty-F GenericArg Ty AliasBound TraitRef
+  ty_values = map-Ty AgreedArg AgreedTy AgreedBound AgreedTrait GenericArg Ty AliasBound TraitRef (λ e. e.0) (λ e. e.0) (λ e. e.0) (λ e. e.0)
 
-  abbrev bound_values : AliasBound-F ArgTold TyTold BoundTold TraitTold → AliasBound-F GenericArg Ty AliasBound TraitRef
-  bound_values = map-AliasBound ArgTold TyTold BoundTold TraitTold GenericArg Ty AliasBound TraitRef (λ e. e.0) (λ e. e.0) (λ e. e.0) (λ e. e.0)
+  abbrev bound_values : AliasBound-F AgreedArg AgreedTy AgreedBound AgreedTrait → AliasBound-F GenericArg Ty AliasBound TraitRef
+  bound_values = map-AliasBound AgreedArg AgreedTy AgreedBound AgreedTrait GenericArg Ty AliasBound TraitRef (λ e. e.0) (λ e. e.0) (λ e. e.0) (λ e. e.0)
 
-  abbrev trait_values : TraitRef-F ArgTold TyTold BoundTold TraitTold → TraitRef-F GenericArg Ty AliasBound TraitRef
-  trait_values = map-TraitRef ArgTold TyTold BoundTold TraitTold GenericArg Ty AliasBound TraitRef (λ e. e.0) (λ e. e.0) (λ e. e.0) (λ e. e.0)
+  abbrev trait_values : TraitRef-F AgreedArg AgreedTy AgreedBound AgreedTrait → TraitRef-F GenericArg Ty AliasBound TraitRef
+  trait_values = map-TraitRef AgreedArg AgreedTy AgreedBound AgreedTrait GenericArg Ty AliasBound TraitRef (λ e. e.0) (λ e. e.0) (λ e. e.0) (λ e. e.0)
 
-  arg_layer_same : (y : GenericArg-F ArgTold TyTold BoundTold TraitTold) → in_arg m (arg_values y) ≡ in_arg n (arg_values y)
+  arg_layer_same : (y : GenericArg-F AgreedArg AgreedTy AgreedBound AgreedTrait) → in_arg m (arg_values y) ≡ in_arg n (arg_values y)
   arg_layer_same (GenericArg-F.Ty t) = λ i. GenericArg-F.Ty (t.1 i)
   arg_layer_same (GenericArg-F.Const c) = refl
 
-  ty_layer_same : (y : Ty-F ArgTold TyTold BoundTold TraitTold) → in_ty m (ty_values y) ≡ in_ty n (ty_values y)
-  ty_layer_same (Ty-F.Tuple ts) = λ i. Ty-F.Tuple (map_told m.ty n.ty ts i)
+  ty_layer_same : (y : Ty-F AgreedArg AgreedTy AgreedBound AgreedTrait) → in_ty m (ty_values y) ≡ in_ty n (ty_values y)
+  ty_layer_same (Ty-F.Tuple ts) = λ i. Ty-F.Tuple (map_agreed m.ty n.ty ts i)
   ty_layer_same (Ty-F.Array t c) = λ i. Ty-F.Array (t.1 i) c
   ty_layer_same (Ty-F.Slice t) = λ i. Ty-F.Slice (t.1 i)
   ty_layer_same (Ty-F.Ref u r t) = λ i. Ty-F.Ref u r (t.1 i)
   ty_layer_same (Ty-F.RawPtr u t) = λ i. Ty-F.RawPtr u (t.1 i)
-  ty_layer_same (Ty-F.Adt id xs) = λ i. Ty-F.Adt id (map_told m.arg n.arg xs i)
-  ty_layer_same (Ty-F.FnDef id xs) = λ i. Ty-F.FnDef id (map_told m.arg n.arg xs i)
-  ty_layer_same (Ty-F.FnPtr u ts t) = λ i. Ty-F.FnPtr u (map_told m.ty n.ty ts i) (t.1 i)
-  ty_layer_same (Ty-F.Closure id ts t) = λ i. Ty-F.Closure id (map_told m.ty n.ty ts i) (t.1 i)
-  ty_layer_same (Ty-F.Dynamic None bs ids) = λ i. Ty-F.Dynamic None (map_told m.bound n.bound bs i) ids
-  ty_layer_same (Ty-F.Dynamic (Some r) bs ids) = λ i. Ty-F.Dynamic (Some (r.1 i)) (map_told m.bound n.bound bs i) ids
-  ty_layer_same (Ty-F.Projection id xs) = λ i. Ty-F.Projection id (map_told m.arg n.arg xs i)
-  ty_layer_same (Ty-F.Opaque id xs) = λ i. Ty-F.Opaque id (map_told m.arg n.arg xs i)
+  ty_layer_same (Ty-F.Adt id xs) = λ i. Ty-F.Adt id (map_agreed m.arg n.arg xs i)
+  ty_layer_same (Ty-F.FnDef id xs) = λ i. Ty-F.FnDef id (map_agreed m.arg n.arg xs i)
+  ty_layer_same (Ty-F.FnPtr u ts t) = λ i. Ty-F.FnPtr u (map_agreed m.ty n.ty ts i) (t.1 i)
+  ty_layer_same (Ty-F.Closure id ts t) = λ i. Ty-F.Closure id (map_agreed m.ty n.ty ts i) (t.1 i)
+  ty_layer_same (Ty-F.Dynamic None bs ids) = λ i. Ty-F.Dynamic None (map_agreed m.bound n.bound bs i) ids
+  ty_layer_same (Ty-F.Dynamic (Some r) bs ids) = λ i. Ty-F.Dynamic (Some (r.1 i)) (map_agreed m.bound n.bound bs i) ids
+  ty_layer_same (Ty-F.Projection id xs) = λ i. Ty-F.Projection id (map_agreed m.arg n.arg xs i)
+  ty_layer_same (Ty-F.Opaque id xs) = λ i. Ty-F.Opaque id (map_agreed m.arg n.arg xs i)
   ty_layer_same _ = refl
 
-  bound_layer_same : (y : AliasBound-F ArgTold TyTold BoundTold TraitTold) → in_bound m (bound_values y) ≡ in_bound n (bound_values y)
+  bound_layer_same : (y : AliasBound-F AgreedArg AgreedTy AgreedBound AgreedTrait) → in_bound m (bound_values y) ≡ in_bound n (bound_values y)
   bound_layer_same y = λ i. record { alias = y.alias; ty = y.ty.1 i }
 
-  trait_layer_same : (y : TraitRef-F ArgTold TyTold BoundTold TraitTold) → in_trait m (trait_values y) ≡ in_trait n (trait_values y)
-  trait_layer_same y = λ i. record { id = y.id; args = map_told m.arg n.arg y.args i }
+  trait_layer_same : (y : TraitRef-F AgreedArg AgreedTy AgreedBound AgreedTrait) → in_trait m (trait_values y) ≡ in_trait n (trait_values y)
+  trait_layer_same y = λ i. record { id = y.id; args = map_agreed m.arg n.arg y.args i }
 
-  arg_same_at : (x : GenericArg-F GenericArg Ty AliasBound TraitRef) (y : GenericArg-F ArgTold TyTold BoundTold TraitTold) → arg_values y ≡ x → m.arg (roll-GenericArg x) ≡ n.arg (roll-GenericArg x)
+  arg_same_at : (x : GenericArg-F GenericArg Ty AliasBound TraitRef) (y : GenericArg-F AgreedArg AgreedTy AgreedBound AgreedTrait) → arg_values y ≡ x → m.arg (roll-GenericArg x) ≡ n.arg (roll-GenericArg x)
   arg_same_at x y is = by_m.arg x ∙ ap s.arg (subst (λ z. in_arg m z ≡ in_arg n z) is (arg_layer_same y)) ∙ sym (by_n.arg x)
 
-  ty_same_at : (x : Ty-F GenericArg Ty AliasBound TraitRef) (y : Ty-F ArgTold TyTold BoundTold TraitTold) → ty_values y ≡ x → m.ty (roll-Ty x) ≡ n.ty (roll-Ty x)
+  ty_same_at : (x : Ty-F GenericArg Ty AliasBound TraitRef) (y : Ty-F AgreedArg AgreedTy AgreedBound AgreedTrait) → ty_values y ≡ x → m.ty (roll-Ty x) ≡ n.ty (roll-Ty x)
   ty_same_at x y is = by_m.ty x ∙ ap s.ty (subst (λ z. in_ty m z ≡ in_ty n z) is (ty_layer_same y)) ∙ sym (by_n.ty x)
 
-  bound_same_at : (x : AliasBound-F GenericArg Ty AliasBound TraitRef) (y : AliasBound-F ArgTold TyTold BoundTold TraitTold) → bound_values y ≡ x → m.bound (roll-AliasBound x) ≡ n.bound (roll-AliasBound x)
+  bound_same_at : (x : AliasBound-F GenericArg Ty AliasBound TraitRef) (y : AliasBound-F AgreedArg AgreedTy AgreedBound AgreedTrait) → bound_values y ≡ x → m.bound (roll-AliasBound x) ≡ n.bound (roll-AliasBound x)
   bound_same_at x y is = by_m.bound x ∙ ap s.bound (subst (λ z. in_bound m z ≡ in_bound n z) is (bound_layer_same y)) ∙ sym (by_n.bound x)
 
-  trait_same_at : (x : TraitRef-F GenericArg Ty AliasBound TraitRef) (y : TraitRef-F ArgTold TyTold BoundTold TraitTold) → trait_values y ≡ x → m.trait (roll-TraitRef x) ≡ n.trait (roll-TraitRef x)
+  trait_same_at : (x : TraitRef-F GenericArg Ty AliasBound TraitRef) (y : TraitRef-F AgreedArg AgreedTy AgreedBound AgreedTrait) → trait_values y ≡ x → m.trait (roll-TraitRef x) ≡ n.trait (roll-TraitRef x)
   trait_same_at x y is = by_m.trait x ∙ ap s.trait (subst (λ z. in_trait m z ≡ in_trait n z) is (trait_layer_same y)) ∙ sym (by_n.trait x)
 
   abbrev ArgSame : GenericArg → Type 0
@@ -164,14 +164,14 @@ module _ (A T B R : Type 0) (s : Steps A T B R) (m n : Maps A T B R) (by_m : Fol
   pub trait_unique : (r : TraitRef) → m.trait r ≡ n.trait r
   trait_unique = ind-TraitRef ArgSame TySame BoundSame TraitSame arg_same_at ty_same_at bound_same_at trait_same_at
 
-pub record Same {A T B R : Type 0} (m n : Maps A T B R) : Type 0 where
+pub record SameMaps {A T B R : Type 0} (m n : Maps A T B R) : Type 0 where
   pub arg : (x : GenericArg) → m.arg x ≡ n.arg x
   pub ty : (t : Ty) → m.ty t ≡ n.ty t
   pub bound : (b : AliasBound) → m.bound b ≡ n.bound b
   pub trait : (r : TraitRef) → m.trait r ≡ n.trait r
 
 -- maps that go by the same steps are the same
-pub unique : {A T B R : Type 0} (s : Steps A T B R) (m n : Maps A T B R) → Follows s m → Follows s n → Same m n
+pub unique : {A T B R : Type 0} (s : Steps A T B R) (m n : Maps A T B R) → GoBySteps s m → GoBySteps s n → SameMaps m n
 unique {A = A} {T = T} {B = B} {R = R} s m n by_m by_n = record {
   arg = arg_unique A T B R s m n by_m by_n;
   ty = ty_unique A T B R s m n by_m by_n;
@@ -182,14 +182,14 @@ unique {A = A} {T = T} {B = B} {R = R} s m n by_m by_n = record {
 -- ---- two maps, one after the other
 
 -- the second maps lead from the four types to themselves
-abbrev pub after : {A T B R : Type 0} → Maps A T B R → Maps GenericArg Ty AliasBound TraitRef → Maps A T B R
-after m n = record { arg = λ x. m.arg (n.arg x); ty = λ t. m.ty (n.ty t); bound = λ b. m.bound (n.bound b); trait = λ r. m.trait (n.trait r) }
+abbrev pub maps_after : {A T B R : Type 0} → Maps A T B R → Maps GenericArg Ty AliasBound TraitRef → Maps A T B R
+maps_after m n = record { arg = λ x. m.arg (n.arg x); ty = λ t. m.ty (n.ty t); bound = λ b. m.bound (n.bound b); trait = λ r. m.trait (n.trait r) }
 
-pub in_arg_twice : {A T B R : Type 0} (m : Maps A T B R) (n : Maps GenericArg Ty AliasBound TraitRef) (x : GenericArg-F GenericArg Ty AliasBound TraitRef) → in_arg m (in_arg n x) ≡ in_arg (after m n) x
+pub in_arg_twice : {A T B R : Type 0} (m : Maps A T B R) (n : Maps GenericArg Ty AliasBound TraitRef) (x : GenericArg-F GenericArg Ty AliasBound TraitRef) → in_arg m (in_arg n x) ≡ in_arg (maps_after m n) x
 in_arg_twice m n (GenericArg-F.Ty t) = refl
 in_arg_twice m n (GenericArg-F.Const c) = refl
 
-pub in_ty_twice : {A T B R : Type 0} (m : Maps A T B R) (n : Maps GenericArg Ty AliasBound TraitRef) (x : Ty-F GenericArg Ty AliasBound TraitRef) → in_ty m (in_ty n x) ≡ in_ty (after m n) x
+pub in_ty_twice : {A T B R : Type 0} (m : Maps A T B R) (n : Maps GenericArg Ty AliasBound TraitRef) (x : Ty-F GenericArg Ty AliasBound TraitRef) → in_ty m (in_ty n x) ≡ in_ty (maps_after m n) x
 in_ty_twice m n (Ty-F.Tuple ts) = λ i. Ty-F.Tuple (map_twice m.ty n.ty ts i)
 in_ty_twice m n (Ty-F.Adt id xs) = λ i. Ty-F.Adt id (map_twice m.arg n.arg xs i)
 in_ty_twice m n (Ty-F.FnDef id xs) = λ i. Ty-F.FnDef id (map_twice m.arg n.arg xs i)
@@ -201,20 +201,16 @@ in_ty_twice m n (Ty-F.Projection id xs) = λ i. Ty-F.Projection id (map_twice m.
 in_ty_twice m n (Ty-F.Opaque id xs) = λ i. Ty-F.Opaque id (map_twice m.arg n.arg xs i)
 in_ty_twice m n _ = refl
 
-pub in_bound_twice : {A T B R : Type 0} (m : Maps A T B R) (n : Maps GenericArg Ty AliasBound TraitRef) (x : AliasBound-F GenericArg Ty AliasBound TraitRef) → in_bound m (in_bound n x) ≡ in_bound (after m n) x
+pub in_bound_twice : {A T B R : Type 0} (m : Maps A T B R) (n : Maps GenericArg Ty AliasBound TraitRef) (x : AliasBound-F GenericArg Ty AliasBound TraitRef) → in_bound m (in_bound n x) ≡ in_bound (maps_after m n) x
 in_bound_twice m n x = refl
 
-pub in_trait_twice : {A T B R : Type 0} (m : Maps A T B R) (n : Maps GenericArg Ty AliasBound TraitRef) (x : TraitRef-F GenericArg Ty AliasBound TraitRef) → in_trait m (in_trait n x) ≡ in_trait (after m n) x
+pub in_trait_twice : {A T B R : Type 0} (m : Maps A T B R) (n : Maps GenericArg Ty AliasBound TraitRef) (x : TraitRef-F GenericArg Ty AliasBound TraitRef) → in_trait m (in_trait n x) ≡ in_trait (maps_after m n) x
 in_trait_twice m n x = λ i. record { id = x.id; args = map_twice m.arg n.arg x.args i }
 
 -- ---- each value itself
 
 abbrev pub itself : Maps GenericArg Ty AliasBound TraitRef
 itself = record { arg = λ x. x; ty = λ t. t; bound = λ b. b; trait = λ r. r }
-
-pub in_arg_itself : (x : GenericArg-F GenericArg Ty AliasBound TraitRef) → in_arg itself x ≡ x
-in_arg_itself (GenericArg-F.Ty t) = refl
-in_arg_itself (GenericArg-F.Const c) = refl
 
 pub in_ty_itself : (x : Ty-F GenericArg Ty AliasBound TraitRef) → in_ty itself x ≡ x
 in_ty_itself (Ty-F.Tuple ts) = λ i. Ty-F.Tuple (map_itself ts i)

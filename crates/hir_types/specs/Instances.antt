@@ -10,8 +10,8 @@ use Rattle.hir_types.specs.declared.ty.GenericArg.{GenericArg, GenericArg-F, rol
 use Rattle.hir_types.specs.declared.ty.GenericArg.TheVariants as arg
 use Rattle.hir_types.specs.declared.ty.TraitRef.{TraitRef}
 use Rattle.hir_types.specs.declared.ty.AliasBound.{AliasBound}
-use Rattle.hir_types.specs.Assigned.{type_in, const_in, type_of, const_of, with_params}
-use Rattle.hir_types.specs.Folding.{replaced_error, replaced_param, arg_replaced_type, arg_replaced_const, replaced_same, in_turn, replaced_twice}
+use Rattle.hir_types.specs.Assigned.{arg_as_type, const_in, type_of, const_of, with_params}
+use Rattle.hir_types.specs.Replacements.{replaced_error, replaced_param, arg_replaced_type, arg_replaced_const, replaced_same, in_turn, replaced_twice}
 use Rattle.hir_types.specs.Subst.{Replacement, replaced, const_replaced, arg_replaced, args_replaced, Assignment, with_holes, folded}
 
 -- ---- a type without holes
@@ -54,7 +54,7 @@ IsReplaced s x =
 type_is_replaced : (s : Replacement) (t : Ty) → IsReplaced s (arg.Ty t)
 type_is_replaced s t =
     let now : out-GenericArg (arg_replaced s (arg.Ty t)) ≡ GenericArg-F.Ty (replaced s t) = ap out-GenericArg (arg_replaced_type s t) ∙ top_type (replaced s t) in (
-      ap (λ y. replaced s (type_in y)) (top_type t) ∙ sym (ap type_in now),
+      ap (λ y. replaced s (arg_as_type y)) (top_type t) ∙ sym (ap arg_as_type now),
       ap (λ y. const_replaced s (const_in y)) (top_type t) ∙ sym (ap const_in now),
     )
 
@@ -62,7 +62,7 @@ const_is_replaced : (s : Replacement) (c : Const) → IsReplaced s (arg.Const c)
 const_is_replaced s c =
     let now : out-GenericArg (arg_replaced s (arg.Const c)) ≡ GenericArg-F.Const (const_replaced s c) =
     ap out-GenericArg (arg_replaced_const s c) ∙ top_const (const_replaced s c) in (
-      ap (λ y. replaced s (type_in y)) (top_const c) ∙ replaced_error s ∙ sym (ap type_in now),
+      ap (λ y. replaced s (arg_as_type y)) (top_const c) ∙ replaced_error s ∙ sym (ap arg_as_type now),
       ap (λ y. const_replaced s (const_in y)) (top_const c) ∙ sym (ap const_in now),
     )
 
@@ -109,16 +109,9 @@ pub param_at : (ts : List Ty) (n : ℕ) (u : Ty) → slice_get ts n ≡ Some u �
 param_at ts n u e =
     replaced_param (with_params (map arg.Ty ts)) n
     ∙ ap type_of (slice_get-map arg.Ty ts n ∙ ap (option_map arg.Ty) e)
-    ∙ ap type_in (top_type u)
+    ∙ ap arg_as_type (top_type u)
 
 -- ---- what equal arguments and equal function items tell
-
-types_in_args : (ts : List Ty) → map (λ x. type_of (Some x)) (map arg.Ty ts) ≡ ts
-types_in_args [] = refl
-types_in_args (t ∷ ts) = λ i. type_in (top_type t i) ∷ types_in_args ts i
-
-pub type_args_tell : (xs ys : List Ty) → map arg.Ty xs ≡ map arg.Ty ys → xs ≡ ys
-type_args_tell xs ys e = sym (types_in_args xs) ∙ ap (map (λ x. type_of (Some x))) e ∙ types_in_args ys
 
 top_fn_def : (id : CallableDefId) (xs : List GenericArg) → out-Ty (ty.FnDef id xs) ≡ Ty-F.FnDef id xs
 top_fn_def id xs = ap out-Ty (sym (ty.rolls-FnDef id xs)) ∙ out-roll-Ty (Ty-F.FnDef id xs)

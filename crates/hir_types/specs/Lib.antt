@@ -4,7 +4,7 @@ pub mod Folds
 pub mod formers
 pub mod Subst
 pub mod Terms
-pub mod Folding
+pub mod Replacements
 pub mod Instances
 pub mod Goals
 pub mod TermLaws
@@ -12,3 +12,4 @@ pub mod Outlines
 pub mod Agreement
 pub mod Types
 pub mod Erasure
+pub mod Fallback

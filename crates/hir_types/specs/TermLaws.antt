@@ -25,9 +25,9 @@ use Rattle.hir_types.specs.declared.ty.GenericArg.{GenericArg, GenericArg-F, rol
 use Rattle.hir_types.specs.declared.ty.GenericArg.TheVariants as arg
 use Rattle.hir_types.specs.declared.ty.TraitRef.{TraitRef, roll-TraitRef}
 use Rattle.hir_types.specs.declared.ty.AliasBound.{AliasBound, roll-AliasBound}
-use Rattle.hir_types.specs.Folds.{map_twice, Steps, Maps, folds, folds_follow, Follows, Same, unique, after, in_arg, in_ty, in_ty_twice}
-use Rattle.hir_types.specs.Folding.{replacing, at_ty, at_arg, trait_replaced_is, bound_replaced_is}
-use Rattle.hir_types.specs.Subst.{ty_layer, arg_layer, bound_replaced, args_replaced, Assignment, with_holes, folded, const_folded, arg_folded, trait_folded}
+use Rattle.hir_types.specs.Folds.{map_twice, Steps, Maps, folds, folds_follow, GoBySteps, SameMaps, unique, maps_after, in_arg, in_ty, in_ty_twice}
+use Rattle.hir_types.specs.Replacements.{replacing, at_ty, at_arg, trait_replaced_is, bound_replaced_is}
+use Rattle.hir_types.specs.Subst.{ty_layer, arg_layer, bound_replaced, Assignment, with_holes, folded, const_folded, arg_folded, trait_folded}
 use Rattle.hir_types.specs.Terms.{Term, hole, leaf, pair, apply, chain, node, const_term, type_part, const_part, arg_step, bound_step, trait_step, principal_parts, auto_parts, ty_step, term, arg_term, trait_parts, bound_parts, terms_of}
 
 abbrev pub term_steps : Steps Term Term (List Term) (List Term)
@@ -39,8 +39,8 @@ terms = folds term_steps
 
 -- ---- at each variant
 
-abbrev pub type_parts : List Ty → List Term
-type_parts = map (λ t. type_part (term t))
+abbrev pub parts_of_types : List Ty → List Term
+parts_of_types = map (λ t. type_part (term t))
 
 flat_map_map : {X : Type 0} (f : X → List Term) (xs : List X) → flat_map (λ us. us) (map f xs) ≡ flat_map f xs
 flat_map_map f [] = refl
@@ -73,7 +73,7 @@ term_str = ap term (sym ty.rolls-Str) ∙ term_at Ty-F.Str
 pub term_never : term ty.Never ≡ node head.Never []
 term_never = ap term (sym ty.rolls-Never) ∙ term_at Ty-F.Never
 
-pub term_tuple : (ts : List Ty) → term (ty.Tuple ts) ≡ node head.Tuple (type_parts ts)
+pub term_tuple : (ts : List Ty) → term (ty.Tuple ts) ≡ node head.Tuple (parts_of_types ts)
 term_tuple ts = ap term (sym (ty.rolls-Tuple ts)) ∙ term_at (Ty-F.Tuple ts) ∙ ap (node head.Tuple) (map_twice type_part term ts)
 
 pub term_array : (t : Ty) (c : Const) → term (ty.Array t c) ≡ node head.Array (type_part (term t) ∷ const_part c ∷ [])
@@ -94,10 +94,10 @@ term_adt id xs = ap term (sym (ty.rolls-Adt id xs)) ∙ term_at (Ty-F.Adt id xs)
 pub term_fn_def : (id : CallableDefId) (xs : List GenericArg) → term (ty.FnDef id xs) ≡ node (head.FnDef id) (map arg_term xs)
 term_fn_def id xs = ap term (sym (ty.rolls-FnDef id xs)) ∙ term_at (Ty-F.FnDef id xs)
 
-pub term_fn_ptr : (u : Safety) (ts : List Ty) (t : Ty) → term (ty.FnPtr u ts t) ≡ node (head.FnPtr u) (type_parts ts ++ type_part (term t) ∷ [])
+pub term_fn_ptr : (u : Safety) (ts : List Ty) (t : Ty) → term (ty.FnPtr u ts t) ≡ node (head.FnPtr u) (parts_of_types ts ++ type_part (term t) ∷ [])
 term_fn_ptr u ts t = ap term (sym (ty.rolls-FnPtr u ts t)) ∙ term_at (Ty-F.FnPtr u ts t) ∙ ap (λ us. node (head.FnPtr u) (us ++ type_part (term t) ∷ [])) (map_twice type_part term ts)
 
-pub term_closure : (id : ClosureId) (ts : List Ty) (t : Ty) → term (ty.Closure id ts t) ≡ node (head.Closure id) (type_parts ts ++ type_part (term t) ∷ [])
+pub term_closure : (id : ClosureId) (ts : List Ty) (t : Ty) → term (ty.Closure id ts t) ≡ node (head.Closure id) (parts_of_types ts ++ type_part (term t) ∷ [])
 term_closure id ts t = ap term (sym (ty.rolls-Closure id ts t)) ∙ term_at (Ty-F.Closure id ts t) ∙ ap (λ us. node (head.Closure id) (us ++ type_part (term t) ∷ [])) (map_twice type_part term ts)
 
 pub term_dynamic : (p : Option TraitRef) (bs : List AliasBound) (ids : List TraitId) → term (ty.Dynamic p bs ids) ≡ node head.Dynamic (principal_parts (option_map trait_parts p) ++ flat_map bound_parts bs ++ auto_parts ids)
@@ -133,14 +133,14 @@ arg_term_type t = ap arg_term (sym (arg.rolls-Ty t)) ∙ arg_term_at (GenericArg
 pub arg_term_const : (c : Const) → arg_term (arg.Const c) ≡ const_part c
 arg_term_const c = ap arg_term (sym (arg.rolls-Const c)) ∙ arg_term_at (GenericArg-F.Const c)
 
-pub args_terms : (ts : List Ty) → map arg_term (map arg.Ty ts) ≡ type_parts ts
+pub args_terms : (ts : List Ty) → map arg_term (map arg.Ty ts) ≡ parts_of_types ts
 args_terms [] = refl
 args_terms (t ∷ ts) = λ i. arg_term_type t i ∷ args_terms ts i
 
-pub term_adt_types : (id : AdtId) (ts : List Ty) → term (ty.Adt id (map arg.Ty ts)) ≡ node (head.Adt id) (type_parts ts)
+pub term_adt_types : (id : AdtId) (ts : List Ty) → term (ty.Adt id (map arg.Ty ts)) ≡ node (head.Adt id) (parts_of_types ts)
 term_adt_types id ts = term_adt id (map arg.Ty ts) ∙ ap (node (head.Adt id)) (args_terms ts)
 
-pub term_fn_def_types : (id : CallableDefId) (ts : List Ty) → term (ty.FnDef id (map arg.Ty ts)) ≡ node (head.FnDef id) (type_parts ts)
+pub term_fn_def_types : (id : CallableDefId) (ts : List Ty) → term (ty.FnDef id (map arg.Ty ts)) ≡ node (head.FnDef id) (parts_of_types ts)
 term_fn_def_types id ts = term_fn_def id (map arg.Ty ts) ∙ ap (node (head.FnDef id)) (args_terms ts)
 
 pub trait_parts_is : (r : TraitRef) → trait_parts r ≡ leaf (head.Principal r.id) ∷ map arg_term r.args
@@ -187,7 +187,7 @@ assigned s = record { arg = assigned_arg s; ty = assigned_ty s; bound = bound_st
 
 -- first the replacement
 abbrev replaced_first : Assignment → Maps Term Term (List Term) (List Term)
-replaced_first s = after terms (replacing (with_holes s))
+replaced_first s = maps_after terms (replacing (with_holes s))
 
 replaced_arg_layer : (s : Assignment) (x : GenericArg-F GenericArg Ty AliasBound TraitRef) → arg_term (arg_layer (with_holes s) (in_arg (replacing (with_holes s)) x)) ≡ assigned_arg s (in_arg (replaced_first s) x)
 replaced_arg_layer s (GenericArg-F.Ty t) = arg_term_at (GenericArg-F.Ty (folded s t))
@@ -206,7 +206,7 @@ replaced_trait s r = ap trait_parts (trait_replaced_is (with_holes s) r) ∙ tra
 replaced_bound : (s : Assignment) (b : AliasBound) → bound_parts (bound_replaced (with_holes s) b) ≡ leaf (head.Bound b.alias) ∷ type_part (term (folded s b.ty)) ∷ []
 replaced_bound s b = ap bound_parts (bound_replaced_is (with_holes s) b) ∙ bound_parts_is (record { alias = b.alias; ty = folded s b.ty })
 
-replaced_first_follows : (s : Assignment) → Follows (assigned s) (replaced_first s)
+replaced_first_follows : (s : Assignment) → GoBySteps (assigned s) (replaced_first s)
 replaced_first_follows s = record {
   arg = λ x. ap arg_term (at_arg (with_holes s) x) ∙ replaced_arg_layer s x;
   ty = λ x. ap term (at_ty (with_holes s) x) ∙ replaced_ty_layer s x;
@@ -272,7 +272,7 @@ term_trait s r = ap (map (apply s)) (trait_parts_is r) ∙ ap (◌∷◌ (leaf (
 term_bound : (s : Hole → Term) (b : AliasBound) → map (apply s) (bound_parts b) ≡ leaf (head.Bound b.alias) ∷ type_part (apply s (term b.ty)) ∷ []
 term_bound s b = ap (map (apply s)) (bound_parts_is b)
 
-term_first_follows : (s : Assignment) → Follows (assigned s) (term_first (terms_of s))
+term_first_follows : (s : Assignment) → GoBySteps (assigned s) (term_first (terms_of s))
 term_first_follows s = record {
   arg = λ x. ap (apply (terms_of s)) (arg_term_at x) ∙ term_arg_layer s x;
   ty = λ x. ap (apply (terms_of s)) (term_at x) ∙ term_ty_layer s x;
@@ -280,25 +280,8 @@ term_first_follows s = record {
   trait = λ x. term_trait (terms_of s) (roll-TraitRef x);
 }
 
-terms_folded : (s : Assignment) → Same (replaced_first s) (term_first (terms_of s))
+terms_folded : (s : Assignment) → SameMaps (replaced_first s) (term_first (terms_of s))
 terms_folded s = unique (assigned s) (replaced_first s) (term_first (terms_of s)) (replaced_first_follows s) (term_first_follows s)
 
 pub term_folded : (s : Assignment) (t : Ty) → term (folded s t) ≡ apply (terms_of s) (term t)
 term_folded s = (terms_folded s).ty
-
-pub arg_term_folded : (s : Assignment) (x : GenericArg) → arg_term (arg_folded s x) ≡ apply (terms_of s) (arg_term x)
-arg_term_folded s = (terms_folded s).arg
-
-pub trait_parts_folded : (s : Assignment) (r : TraitRef) → trait_parts (trait_folded s r) ≡ map (apply (terms_of s)) (trait_parts r)
-trait_parts_folded s = (terms_folded s).trait
-
-pub bound_parts_folded : (s : Assignment) (b : AliasBound) → bound_parts (bound_replaced (with_holes s) b) ≡ map (apply (terms_of s)) (bound_parts b)
-bound_parts_folded s = (terms_folded s).bound
-
-pub types_terms_folded : (s : Assignment) (ts : List Ty) → map term (map (folded s) ts) ≡ map (apply (terms_of s)) (map term ts)
-types_terms_folded s [] = refl
-types_terms_folded s (t ∷ ts) = λ i. term_folded s t i ∷ types_terms_folded s ts i
-
-pub args_terms_folded : (s : Assignment) (xs : List GenericArg) → map arg_term (args_replaced (with_holes s) xs) ≡ map (apply (terms_of s)) (map arg_term xs)
-args_terms_folded s [] = refl
-args_terms_folded s (x ∷ xs) = λ i. arg_term_folded s x i ∷ args_terms_folded s xs i

@@ -17,7 +17,7 @@ integer_type (Uint uint) = ty.Uint uint
 abbrev pub unit : Ty
 unit = ty.Tuple []
 
--- ---- levels
+-- ---- measures
 
 abbrev pub most : List ℕ → ℕ
 most [] = 0
@@ -27,84 +27,51 @@ abbrev pub number_or_none : Option ℕ → ℕ
 number_or_none None = 0
 number_or_none (Some n) = n
 
-abbrev pub depth_arg : GenericArg-F ℕ ℕ ℕ ℕ → ℕ
-depth_arg (GenericArg-F.Ty n) = n
-depth_arg (GenericArg-F.Const c) = 0
+abbrev pub measured_arg : GenericArg-F ℕ ℕ ℕ ℕ → ℕ
+measured_arg (GenericArg-F.Ty n) = n
+measured_arg (GenericArg-F.Const c) = 0
 
-abbrev pub depth_bound : AliasBound-F ℕ ℕ ℕ ℕ → ℕ
-depth_bound b = b.ty
+abbrev pub measured_bound : AliasBound-F ℕ ℕ ℕ ℕ → ℕ
+measured_bound b = b.ty
 
-abbrev pub depth_trait : TraitRef-F ℕ ℕ ℕ ℕ → ℕ
-depth_trait t = most t.args
+abbrev pub measured_trait : (List ℕ → ℕ) → TraitRef-F ℕ ℕ ℕ ℕ → ℕ
+measured_trait of_list t = of_list t.args
 
-abbrev pub depth_step : Ty-F ℕ ℕ ℕ ℕ → ℕ
-depth_step Ty-F.Bool = 1
-depth_step Ty-F.Char = 1
-depth_step (Ty-F.Int i) = 1
-depth_step (Ty-F.Uint i) = 1
-depth_step (Ty-F.Float f) = 1
-depth_step Ty-F.Str = 1
-depth_step Ty-F.Never = 1
-depth_step (Ty-F.Tuple ns) = most ns + 1
-depth_step (Ty-F.Array n c) = n + 1
-depth_step (Ty-F.Slice n) = n + 1
-depth_step (Ty-F.Ref m r n) = n + 1
-depth_step (Ty-F.RawPtr m n) = n + 1
-depth_step (Ty-F.Adt i ns) = most ns + 1
-depth_step (Ty-F.FnDef i ns) = most ns + 1
-depth_step (Ty-F.FnPtr s ns n) = max (most ns) n + 1
-depth_step (Ty-F.Closure i ns n) = max (most ns) n + 1
-depth_step (Ty-F.Dynamic o ns ts) = max (number_or_none o) (most ns) + 1
-depth_step (Ty-F.Param n) = 1
-depth_step (Ty-F.Projection i ns) = most ns + 1
-depth_step (Ty-F.Opaque i ns) = most ns + 1
-depth_step Ty-F.Error = 1
-depth_step (Ty-F.Var n) = 1
-depth_step (Ty-F.IntVar n) = 1
-depth_step Ty-F.Hole = 1
+abbrev pub measured_step : (List ℕ → ℕ) → (ℕ → ℕ → ℕ) → Ty-F ℕ ℕ ℕ ℕ → ℕ
+measured_step of_list of_two Ty-F.Bool = 1
+measured_step of_list of_two Ty-F.Char = 1
+measured_step of_list of_two (Ty-F.Int i) = 1
+measured_step of_list of_two (Ty-F.Uint i) = 1
+measured_step of_list of_two (Ty-F.Float f) = 1
+measured_step of_list of_two Ty-F.Str = 1
+measured_step of_list of_two Ty-F.Never = 1
+measured_step of_list of_two (Ty-F.Tuple ns) = of_list ns + 1
+measured_step of_list of_two (Ty-F.Array n c) = n + 1
+measured_step of_list of_two (Ty-F.Slice n) = n + 1
+measured_step of_list of_two (Ty-F.Ref m r n) = n + 1
+measured_step of_list of_two (Ty-F.RawPtr m n) = n + 1
+measured_step of_list of_two (Ty-F.Adt i ns) = of_list ns + 1
+measured_step of_list of_two (Ty-F.FnDef i ns) = of_list ns + 1
+measured_step of_list of_two (Ty-F.FnPtr s ns n) = of_two (of_list ns) n + 1
+measured_step of_list of_two (Ty-F.Closure i ns n) = of_two (of_list ns) n + 1
+measured_step of_list of_two (Ty-F.Dynamic o ns ts) = of_two (number_or_none o) (of_list ns) + 1
+measured_step of_list of_two (Ty-F.Param n) = 1
+measured_step of_list of_two (Ty-F.Projection i ns) = of_list ns + 1
+measured_step of_list of_two (Ty-F.Opaque i ns) = of_list ns + 1
+measured_step of_list of_two Ty-F.Error = 1
+measured_step of_list of_two (Ty-F.Var n) = 1
+measured_step of_list of_two (Ty-F.IntVar n) = 1
+measured_step of_list of_two Ty-F.Hole = 1
+
+-- one more than what is measured of the parts, where `of_list` says what a list of them comes to, and
+-- `of_two` what it does with a part beside it
+abbrev pub measured : (List ℕ → ℕ) → (ℕ → ℕ → ℕ) → Ty → ℕ
+measured of_list of_two = fold-Ty ℕ ℕ ℕ ℕ measured_arg (measured_step of_list of_two) measured_bound (measured_trait of_list)
 
 -- how many levels a type has
 abbrev pub depth : Ty → ℕ
-depth = fold-Ty ℕ ℕ ℕ ℕ depth_arg depth_step depth_bound depth_trait
-
--- ---- sizes
-
-abbrev pub size_arg : GenericArg-F ℕ ℕ ℕ ℕ → ℕ
-size_arg (GenericArg-F.Ty n) = n
-size_arg (GenericArg-F.Const c) = 0
-
-abbrev pub size_bound : AliasBound-F ℕ ℕ ℕ ℕ → ℕ
-size_bound b = b.ty
-
-abbrev pub size_trait : TraitRef-F ℕ ℕ ℕ ℕ → ℕ
-size_trait t = sum t.args
-
-abbrev pub size_step : Ty-F ℕ ℕ ℕ ℕ → ℕ
-size_step Ty-F.Bool = 1
-size_step Ty-F.Char = 1
-size_step (Ty-F.Int i) = 1
-size_step (Ty-F.Uint i) = 1
-size_step (Ty-F.Float f) = 1
-size_step Ty-F.Str = 1
-size_step Ty-F.Never = 1
-size_step (Ty-F.Tuple ns) = sum ns + 1
-size_step (Ty-F.Array n c) = n + 1
-size_step (Ty-F.Slice n) = n + 1
-size_step (Ty-F.Ref m r n) = n + 1
-size_step (Ty-F.RawPtr m n) = n + 1
-size_step (Ty-F.Adt i ns) = sum ns + 1
-size_step (Ty-F.FnDef i ns) = sum ns + 1
-size_step (Ty-F.FnPtr s ns n) = sum ns + n + 1
-size_step (Ty-F.Closure i ns n) = sum ns + n + 1
-size_step (Ty-F.Dynamic o ns ts) = number_or_none o + sum ns + 1
-size_step (Ty-F.Param n) = 1
-size_step (Ty-F.Projection i ns) = sum ns + 1
-size_step (Ty-F.Opaque i ns) = sum ns + 1
-size_step Ty-F.Error = 1
-size_step (Ty-F.Var n) = 1
-size_step (Ty-F.IntVar n) = 1
-size_step Ty-F.Hole = 1
+depth = measured most max
 
 -- how many types a type is written with, itself counted
 abbrev pub size : Ty → ℕ
-size = fold-Ty ℕ ℕ ℕ ℕ size_arg size_step size_bound size_trait
+size = measured sum (λ m n. m + n)

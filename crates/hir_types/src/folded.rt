@@ -3,7 +3,7 @@ ghost use Rattle.std.specs.Prelude.{◌≡◌, IfOk, map};
 ghost use Rattle.hir_types.specs.Subst.{Replacement, Assignment, with_holes, each_itself, composed, replaced, const_replaced, arg_replaced, trait_replaced};
 ghost use Rattle.hir_types.specs.Assigned.{assignment_of};
 ghost use Rattle.hir_types.specs.Goals.{goal_replaced};
-ghost use Rattle.hir_types.specs.Folding.{folded_itself, const_folded_itself, arg_folded_itself, trait_folded_itself, folded_twice, const_folded_twice, arg_folded_twice, trait_folded_twice};
+ghost use Rattle.hir_types.specs.Replacements.{folded_itself, const_folded_itself, arg_folded_itself, trait_folded_itself, folded_twice, const_folded_twice, arg_folded_twice, trait_folded_twice};
 ghost use Rattle.hir_types.specs.FoldedLaws.{refined, list_itself, list_twice, pair_itself, goal_itself, goal_twice};
 
 use crate::fold::{TypeFolder, fold_arg, fold_args, fold_const, fold_trait, fold_ty};

@@ -90,3 +90,15 @@ pub enum CallableDefId {
     FunctionId(FunctionId),
     VariantId(VariantId),
 }
+
+/// An item that may have generic parameters: `GenericDefId` of rust-analyzer's `hir-def`.
+#[derive(Clone, Copy, Debug, PartialEq, Eq, Hash)]
+pub enum GenericDefId {
+    AdtId(AdtId),
+    ConstId(ConstId),
+    FunctionId(FunctionId),
+    ImplId(ImplId),
+    StaticId(StaticId),
+    TraitId(TraitId),
+    TypeAliasId(TypeAliasId),
+}

@@ -23,12 +23,12 @@ pub use goal::{Canonical, Goal};
 pub use head::{Head, Hole, HoleKind};
 pub use ids::{
     AdtId, BindingId, BodyId, CallableDefId, ClosureId, ConstId, DefWithBodyId, ExprId,
-    ExprOrPatId, FunctionId, ImplId, LabelId, ModuleId, OpaqueId, PatId, StaticId, TraitId,
-    TypeAliasId, TypeRefId, VariantId,
+    ExprOrPatId, FunctionId, GenericDefId, ImplId, LabelId, ModuleId, OpaqueId, PatId, StaticId,
+    TraitId, TypeAliasId, TypeRefId, VariantId,
 };
 pub use instances::instantiate;
 pub use list::List;
-pub use outline::{Outline, Part};
+pub use outline::{Outline, OutlinePart};
 pub use room::{MOST_LEVELS, Room};
 pub use subst::Subst;
 pub use text::Text;

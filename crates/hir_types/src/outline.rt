@@ -3,7 +3,7 @@ ghost use Rattle.std.specs.Prelude.{◌≡◌, ◌++◌, ◌∷◌, [], map, IfO
 ghost use Rattle.std.specs.List.{flat_map};
 ghost use Rattle.hir_types.specs.declared.head.Head.TheVariants as head;
 ghost use Rattle.hir_types.specs.Terms.{term, node, type_part, const_part, arg_term, trait_parts, bound_parts, principal_parts, auto_parts};
-ghost use Rattle.hir_types.specs.TermLaws.{type_parts};
+ghost use Rattle.hir_types.specs.TermLaws.{parts_of_types};
 ghost use Rattle.hir_types.specs.Outlines.{part_term, part_terms, outline_term};
 
 use crate::head::{Head, Hole};
@@ -14,7 +14,7 @@ use std::alloc::{AllocError, Global};
 
 /// A part of a type: a type or a const in it, or a mark between the parts.
 #[derive(Clone, Copy, Debug)]
-pub enum Part<'a> {
+pub enum OutlinePart<'a> {
     Ty(&'a Ty),
     Const(Const),
     Mark(Head),
@@ -24,7 +24,7 @@ pub enum Part<'a> {
 #[derive(Debug, Drop)]
 pub enum Outline<'a> {
     Hole(Hole),
-    Node(Head, Vec<Part<'a>>),
+    Node(Head, Vec<OutlinePart<'a>>),
 }
 
 fn leaf<'a>(alloc: Global, head: Head) -> Outline<'a>
@@ -37,30 +37,33 @@ fn over<'a>(alloc: Global, head: Head, ty: &'a Ty) -> Result<Outline<'a>, AllocE
     ensures { IfOk result (λ o. outline_term o ≡ node head (type_part (term ty.now) ∷ [])) }
 {
     let mut parts = Vec::new(alloc);
-    parts.push(Part::Ty(ty))?;
+    parts.push(OutlinePart::Ty(ty))?;
     Ok(Outline::Node(head, parts))
 }
 
-fn push_types<'a>(parts: &mut Vec<Part<'a>>, tys: &'a List<Ty>) -> Result<(), AllocError>
-    ensures { OnOk result (part_terms parts.new.items ≡ part_terms parts.old.items ++ type_parts tys.now) }
+fn push_types<'a>(parts: &mut Vec<OutlinePart<'a>>, tys: &'a List<Ty>) -> Result<(), AllocError>
+    ensures { OnOk result (part_terms parts.new.items ≡ part_terms parts.old.items ++ parts_of_types tys.now) }
 {
     for ty in tys.as_slice() {
-        parts.push(Part::Ty(ty))?;
+        parts.push(OutlinePart::Ty(ty))?;
     }
     Ok(())
 }
 
 #[tactic(auto, using(crate::specs::TermLaws::term_is))]
-fn part_of<'a>(arg: &'a GenericArg) -> Part<'a>
+fn part_of<'a>(arg: &'a GenericArg) -> OutlinePart<'a>
     ensures { part_term result ≡ arg_term arg.now }
 {
     match arg {
-        GenericArg::Ty(ty) => Part::Ty(ty),
-        GenericArg::Const(value) => Part::Const(*value),
+        GenericArg::Ty(ty) => OutlinePart::Ty(ty),
+        GenericArg::Const(value) => OutlinePart::Const(*value),
     }
 }
 
-fn push_args<'a>(parts: &mut Vec<Part<'a>>, args: &'a List<GenericArg>) -> Result<(), AllocError>
+fn push_args<'a>(
+    parts: &mut Vec<OutlinePart<'a>>,
+    args: &'a List<GenericArg>,
+) -> Result<(), AllocError>
     ensures { OnOk result (part_terms parts.new.items ≡ part_terms parts.old.items ++ map arg_term args.now) }
 {
     for arg in args.as_slice() {
@@ -71,18 +74,18 @@ fn push_args<'a>(parts: &mut Vec<Part<'a>>, args: &'a List<GenericArg>) -> Resul
 
 #[tactic(auto, using(crate::specs::TermLaws::term_is))]
 fn push_principal<'a>(
-    parts: &mut Vec<Part<'a>>,
+    parts: &mut Vec<OutlinePart<'a>>,
     principal: &'a Option<TraitRef>,
 ) -> Result<(), AllocError>
     ensures { OnOk result (part_terms parts.new.items ≡ part_terms parts.old.items ++ principal_parts (option_map trait_parts principal.now)) }
 {
     match principal {
         None => {
-            parts.push(Part::Mark(Head::NoPrincipal))?;
+            parts.push(OutlinePart::Mark(Head::NoPrincipal))?;
             Ok(())
         }
         Some(principal) => {
-            parts.push(Part::Mark(Head::Principal(principal.id)))?;
+            parts.push(OutlinePart::Mark(Head::Principal(principal.id)))?;
             push_args(parts, &principal.args)?;
             Ok(())
         }
@@ -91,26 +94,26 @@ fn push_principal<'a>(
 
 #[tactic(auto, using(crate::specs::TermLaws::term_is))]
 fn push_bounds<'a>(
-    parts: &mut Vec<Part<'a>>,
+    parts: &mut Vec<OutlinePart<'a>>,
     bounds: &'a List<AliasBound>,
 ) -> Result<(), AllocError>
     ensures { OnOk result (part_terms parts.new.items ≡ part_terms parts.old.items ++ flat_map bound_parts bounds.now) }
 {
     for bound in bounds.as_slice() {
-        parts.push(Part::Mark(Head::Bound(bound.alias)))?;
-        parts.push(Part::Ty(&bound.ty))?;
+        parts.push(OutlinePart::Mark(Head::Bound(bound.alias)))?;
+        parts.push(OutlinePart::Ty(&bound.ty))?;
     }
     Ok(())
 }
 
 fn push_autos<'a>(
-    parts: &mut Vec<Part<'a>>,
+    parts: &mut Vec<OutlinePart<'a>>,
     auto_traits: &'a List<TraitId>,
 ) -> Result<(), AllocError>
     ensures { OnOk result (part_terms parts.new.items ≡ part_terms parts.old.items ++ auto_parts auto_traits.now) }
 {
     for auto_trait in auto_traits.as_slice() {
-        parts.push(Part::Mark(Head::AutoTrait(*auto_trait)))?;
+        parts.push(OutlinePart::Mark(Head::AutoTrait(*auto_trait)))?;
     }
     Ok(())
 }
@@ -133,16 +136,16 @@ fn over_signature<'a>(
     inputs: &'a List<Ty>,
     output: &'a Ty,
 ) -> Result<Outline<'a>, AllocError>
-    ensures { IfOk result (λ o. outline_term o ≡ node head (type_parts inputs.now ++ type_part (term output.now) ∷ [])) }
+    ensures { IfOk result (λ o. outline_term o ≡ node head (parts_of_types inputs.now ++ type_part (term output.now) ∷ [])) }
 {
     let mut parts = Vec::new(alloc);
     push_types(&mut parts, inputs)?;
-    parts.push(Part::Ty(output))?;
+    parts.push(OutlinePart::Ty(output))?;
     Ok(Outline::Node(head, parts))
 }
 
 fn over_types<'a>(alloc: Global, tys: &'a List<Ty>) -> Result<Outline<'a>, AllocError>
-    ensures { IfOk result (λ o. outline_term o ≡ node head.Tuple (type_parts tys.now)) }
+    ensures { IfOk result (λ o. outline_term o ≡ node head.Tuple (parts_of_types tys.now)) }
 {
     let mut parts = Vec::new(alloc);
     push_types(&mut parts, tys)?;
@@ -153,8 +156,8 @@ fn over_array<'a>(alloc: Global, ty: &'a Ty, length: Const) -> Result<Outline<'a
     ensures { IfOk result (λ o. outline_term o ≡ node head.Array (type_part (term ty.now) ∷ const_part length ∷ [])) }
 {
     let mut parts = Vec::new(alloc);
-    parts.push(Part::Ty(ty))?;
-    parts.push(Part::Const(length))?;
+    parts.push(OutlinePart::Ty(ty))?;
+    parts.push(OutlinePart::Const(length))?;
     Ok(Outline::Node(Head::Array, parts))
 }
 

@@ -40,7 +40,7 @@ use Rattle.infer_ctx.specs.Walks.{Walks, Debt, Nothing, Owed, PaidBy, IsFree, ex
 use Rattle.infer_ctx.proofs.AtEach.{follows_twice, closes_before, walking_after, expected_carried}
 use Rattle.infer_ctx.proofs.Carried.{carried_expr}
 use Rattle.infer_ctx.proofs.Category.{walks_trans, walks_paid}
-use Rattle.infer_ctx.proofs.Closed.{At-unasked}
+use Rattle.infer_ctx.proofs.UnderClosings.{At-unasked}
 use Rattle.infer_ctx.proofs.FineTypes.{fine_expectation_grown, fine_unit, fine_grown}
 use Rattle.infer_ctx.proofs.InParts.{WalksParts, begins_parts, goes_past_coerced}
 use Rattle.infer_ctx.proofs.Keeps.{stmts_kept, tail_kept}

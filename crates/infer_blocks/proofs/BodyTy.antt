@@ -16,7 +16,7 @@ use Rattle.hir_facts.specs.Filled.{filled_agree, filled_folded}
 use Rattle.hir_raw.specs.declared.raw.RawType.{RawType}
 use Rattle.hir_ids.specs.Entries.{AllHold}
 use Rattle.hir_ids.specs.Ids.{ChildrenBefore}
-use Rattle.hir_raw.specs.Types.{type_parts, filled_by, filled, StandsIn, is_itself, in_part}
+use Rattle.hir_raw.specs.WrittenTypes.{type_parts, filled_by, filled, StandsIn, is_itself, in_part}
 use Rattle.hir_raw.specs.declared.schedule.Schedule.{Schedule}
 use Rattle.hir_facts.specs.CarriedTypes.{IsCarriedType}
 use Rattle.hir_raw.specs.declared.raw.RawBody.{RawBody}
@@ -43,7 +43,7 @@ use Rattle.infer_ctx.specs.Steps.{Follows}
 use Rattle.infer_ctx.specs.Tells.{TellsRecorded}
 use Rattle.infer_ctx.proofs.Category.{walks_refl}
 use Rattle.infer_ctx.proofs.Keeps.{extends_refl, hole_at, diagnostic_kept, seen_as_kept}
-use Rattle.infer_ctx.proofs.Closed.{sound_placeholder, push_cases, At-closed, At-unclosed, length-closed, closes_earlier}
+use Rattle.infer_ctx.proofs.UnderClosings.{sound_placeholder, push_cases, At-closed, At-unclosed, length-closed, closes_earlier}
 use Rattle.infer_ctx.proofs.FineTypes.{fine_hole}
 use Rattle.infer_ctx.proofs.Lists.{At-put, put-cases, put-here, take_next}
 use Rattle.infer_ctx.proofs.OverTypes.{fine_closed}

@@ -7,7 +7,7 @@ use Rattle.hir_types.specs.declared.ids.PatId.{PatId}
 use Rattle.hir_types.specs.Subst.{Assignment, folded}
 use Rattle.hir_raw.specs.declared.schedule.Schedule.{Schedule}
 use Rattle.hir_raw.specs.Order.{stmt_at}
-use Rattle.hir_raw.specs.Types.{filled_type, StandsIn}
+use Rattle.hir_raw.specs.WrittenTypes.{filled_type, StandsIn}
 use Rattle.hir_raw.specs.declared.raw.RawStmt.TheVariants as stmt
 use Rattle.infer_table.specs.Table.{Grew}
 use Rattle.infer_result.specs.Places.{Given, declared, AreRecorded, IsPlaceholder}

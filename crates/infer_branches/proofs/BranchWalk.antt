@@ -18,7 +18,7 @@ use Rattle.infer_ctx.specs.Under.{KindWalked, LieAhead}
 use Rattle.infer_ctx.specs.Walks.{Nothing, expr_end}
 use Rattle.infer_ctx.proofs.FineTypes.{fine_bool, fine_expectation_grown}
 use Rattle.infer_ctx.proofs.AtEach.{follows_twice, closes_before, walking_after, within_under}
-use Rattle.infer_ctx.proofs.Closed.{same_found, closes_earlier}
+use Rattle.infer_ctx.proofs.UnderClosings.{same_found, closes_earlier}
 use Rattle.infer_ctx.proofs.InParts.{WalksParts, begins_parts, comes_to, goes_past}
 use Rattle.infer_ctx.proofs.Keeps.{at_kept}
 use Rattle.infer_ctx.proofs.OverTypes.{carried_closed}

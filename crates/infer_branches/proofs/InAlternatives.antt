@@ -3,7 +3,7 @@ use Rattle.std.proofs.Common.{inl, inr, sym, subst, Option, ap, ◌≡◌, refl,
 use Rattle.hir_types.specs.declared.ty.Ty.{Ty}
 use Rattle.hir_types.specs.Subst.{Assignment, folded, with_holes}
 use Rattle.hir_types.specs.declared.ids.ExprId.{ExprId}
-use Rattle.hir_types.specs.Folding.{replaced_bool}
+use Rattle.hir_types.specs.Replacements.{replaced_bool}
 use Rattle.hir_types.specs.declared.ty.Ty.TheVariants as ty
 use Rattle.hir_types.specs.declared.ids.ExprOrPatId.TheVariants as node
 use Rattle.hir_raw.specs.Scope.{Scope}
@@ -28,7 +28,7 @@ use Rattle.infer_ctx.proofs.Expected.{alternatives_less, arms_less}
 use Rattle.infer_ctx.proofs.FineTypes.{fine_grown, fine_expectation_grown}
 use Rattle.infer_ctx.proofs.AtEach.{follows_twice, closes_before, told_same, walking_after, expected_carried}
 use Rattle.infer_ctx.proofs.Category.{walks_trans, walks_paid}
-use Rattle.infer_ctx.proofs.Closed.{same_found, closes_earlier}
+use Rattle.infer_ctx.proofs.UnderClosings.{same_found, closes_earlier}
 use Rattle.infer_ctx.proofs.OverTypes.{fine_closed}
 use Rattle.infer_ctx.proofs.Parts.{ahead_rest, ahead_stands}
 use Rattle.infer_coerce.specs.Common.{common_under, common_of, IsFineCommon, Completes, CompletesAs, Merges}

@@ -21,21 +21,20 @@ use Rattle.infer_ctx.specs.Closings.{Closes, expected_under, found_under}
 use Rattle.infer_ctx.specs.Steps.{Before, Within, KindDone, Follows, OnlyBinds, OwnDone}
 use Rattle.infer_ctx.specs.Callables.{IsSigOf, IsSigOfItem}
 use Rattle.infer_ctx.specs.declared.given.CallableSig.{CallableSig}
-use Rattle.infer_ctx.specs.Fine.{IsFine}
+use Rattle.infer_ctx.specs.Fine.{IsFine, AllFine}
 use Rattle.infer_ctx.specs.Under.{KindWalked, own_scope}
 use Rattle.infer_ctx.specs.Walks.{Extends, IsWalked, Nothing, Owed, PaidBy}
 use Rattle.infer_ctx.specs.Context as context
 use Rattle.infer_ctx.specs.Found as found
 use Rattle.infer_ctx.proofs.AtEach.{closes_before, walking_after, follows_itself, follows_twice}
 use Rattle.infer_ctx.proofs.Category.{walks_paid, walks_trans}
-use Rattle.infer_ctx.proofs.FineTypes.{AllFine, fine_grown, every_at}
+use Rattle.infer_ctx.proofs.FineTypes.{fine_grown, every_at, every_from}
 use Rattle.infer_ctx.proofs.InParts.{WalksParts, begins_parts, comes_to, goes_past}
 use Rattle.infer_ctx.proofs.Instances.{known_instance, fine_instance, instances_under, fine_instances}
 use Rattle.infer_ctx.proofs.OverTypes.{fine_closed}
-use Rattle.infer_ctx.proofs.Closed.{diagnostic_under, of_body_diagnostic, same_found, sound_diagnostic}
+use Rattle.infer_ctx.proofs.UnderClosings.{diagnostic_under, of_body_diagnostic, same_found, sound_diagnostic}
 use Rattle.infer_ctx.proofs.Keeps.{extends_trans}
 use Rattle.infer_calls.specs.Calls.{CalleeDone, BeforeArgs, ComesToArgs, IsCallOf, BeforeInputs, ArgsDone, ArgsWalked, inputs_at, BeforeLoose, LooseDone, ComesToLoose, LooseWalked, AsksInputs}
-use Rattle.infer_calls.specs.Inputs.{AreFine}
 use Rattle.infer_calls.proofs.Calls.{call_done, told_loose, others_done, input_demand, complained_extends}
 
 -- ---- what is called
@@ -93,11 +92,6 @@ call_then g s n called t v c mid new d k = record {
 }
 
 -- ---- what the item takes and gives
-all_fine : (sc : Scope) (state : State) (ts : List Ty) → ((i : ℕ) (t : Ty) → slice_get ts i ≡ Some t → IsFine sc state t) →
-    AllFine sc state ts
-all_fine sc state [] h = tt
-all_fine sc state (t ∷ ts) h = (h 0 t refl, all_fine sc state ts (λ i u e. h (suc i) u e))
-
 pub own_sig : (g : Given) (s : Schedule) (n : ExprId) (args : List ExprId) (t : Ty) (c : InferenceContext) (h : BeforeArgs g s n args t c) (sig : CallableSig) → IsSigOfItem g.scope.facts t sig → IsSigOf h.item.signature h.types sig
 own_sig g s n args t c h sig k = k h.id h.types h.item.signature h.is h.item.found h.count
 
@@ -113,7 +107,7 @@ module _ (g : Given) (s : Schedule) (n : ExprId) (args : List ExprId) (t : Ty) (
   gives = at_args h.types h.item.signature.output
 
   types_fine : AllFine g.scope mid.table h.types
-  types_fine = all_fine g.scope mid.table h.types h.fine
+  types_fine = every_from (IsFine g.scope mid.table) h.types h.fine
 
   gives_fine : (new : InferenceContext) → Grew mid.table new.table → IsFine g.scope new.table gives
   gives_fine new grew = fine_grown g.scope mid.table new.table gives grew (fine_instance g.scope mid.table h.item.signature.params h.types h.count types_fine h.item.signature.output h.item.output)
@@ -186,16 +180,13 @@ module _ (g : Given) (s : Schedule) (n : ExprId) (args : List ExprId) (ss : List
   taken_count : (a : Assignment) → length (taken_at a) ≡ length ss
   taken_count a = sym (ap (λ us. length us) (taken_under a)) ∙ length-map ss (folded a)
 
-  all_inputs_fine : AllFine g.scope mid.table ss
-  all_inputs_fine =
+  pub inputs_fine : AllFine g.scope mid.table ss
+  inputs_fine =
       subst (λ us. AllFine g.scope mid.table us) (sym h.inputs)
-      (fine_instances g.scope mid.table h.before.item.signature.params h.before.types h.before.count (all_fine g.scope mid.table h.before.types h.before.fine) h.before.item.signature.inputs h.before.item.inputs)
-
-  pub inputs_fine : AreFine g.scope mid.table ss
-  inputs_fine i u is = every_at (IsFine g.scope mid.table) ss i u all_inputs_fine is
+      (fine_instances g.scope mid.table h.before.item.signature.params h.before.types h.before.count (every_from (IsFine g.scope mid.table) h.before.types h.before.fine) h.before.item.signature.inputs h.before.item.inputs)
 
   pub input_fine : (i : ℕ) (u : Ty) → slice_get ss i ≡ Some u → IsFine g.scope mid.table u
-  input_fine i u is = every_at (IsFine g.scope mid.table) ss i u all_inputs_fine is
+  input_fine i u is = every_at (IsFine g.scope mid.table) ss i u inputs_fine is
 
   -- the call asks of each argument that it be at its input
   pub asks_inputs : (a : Assignment) → Closes a mid → AsksInputs g args (map (folded a) ss) (found_under a mid).result
@@ -251,7 +242,7 @@ module _ (g : Given) (s : Schedule) (n : ExprId) (args : List ExprId) (ss : List
           each = each;
         }
 
-    pub ends_others : (new : InferenceContext) → LooseDone g s n told new → ArgsDone g s n args ss mid new
+    pub ends_others : (new : InferenceContext) → LooseDone g s n args ss told new → ArgsDone g s n args ss mid new
     ends_others new d = record {
       follows = follows_twice g mid told new told_follows d.follows;
       each = λ a q.

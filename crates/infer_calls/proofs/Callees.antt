@@ -29,7 +29,7 @@ use Rattle.infer_result.specs.Places.{Given}
 use Rattle.infer_result.specs.Table.{HasTy}
 use Rattle.infer_result.proofs.Derived.{ctor_type_of_tuple}
 use Rattle.infer_coerce.proofs.Resolved.{resolved_fine}
-use Rattle.infer_ctx.specs.Fine.{item_params, HasFineHeads, is_fine_head, IsFine, IsCarriedIn}
+use Rattle.infer_ctx.specs.Fine.{item_params, HasFineHeads, is_fine_head, IsFine, IsCarriedIn, AllFine}
 use Rattle.infer_ctx.specs.Callables.{ItemsAreCallable, IsCallableItem}
 use Rattle.infer_ctx.specs.declared.context.InferenceContext.{InferenceContext}
 use Rattle.infer_ctx.specs.Closings.{Closes, found_under}
@@ -40,7 +40,7 @@ use Rattle.infer_ctx.specs.Walks.{Nothing, Owed}
 use Rattle.infer_ctx.proofs.Category.{walks_paid}
 use Rattle.infer_ctx.proofs.OverTypes.{over_fine, carried_closed, fn_def_closed, same_closed}
 use Rattle.infer_ctx.proofs.Items.{variant_with}
-use Rattle.infer_ctx.proofs.FineTypes.{AllFine, every_at, fine_fn_args}
+use Rattle.infer_ctx.proofs.FineTypes.{every_at, fine_fn_args}
 use Rattle.infer_ctx.proofs.Tellings.{call_tells, other_call_tells}
 use Rattle.infer_ctx.proofs.TellingsKept.{head_kept, type_kept}
 use Rattle.infer_calls.specs.Calls.{CalleeDone, IsCallOf}
@@ -164,14 +164,7 @@ path_or_not g e = by_expr (slice_get g.body.exprs e.0) refl
 
     by_expr : (o : Option RawExpr) → slice_get g.body.exprs e.0 ≡ o → IsPathToItem g e ⊎ (IsPathToItem g e → ⊥)
     by_expr (Some (expr.Path p)) at = by_item p at (names_item p) refl
-    by_expr None at = inr (λ q. (let clash : None ≡ Some (expr.Path q.0) = sym at ∙ q.1 in cc))
-    by_expr (Some (expr.Lit l)) at = inr (λ q. (let clash : Some (expr.Lit l) ≡ Some (expr.Path q.0) = sym at ∙ q.1 in cc))
-    by_expr (Some (expr.Block label ss last)) at = inr (λ q. (let clash : Some (expr.Block label ss last) ≡ Some (expr.Path q.0) = sym at ∙ q.1 in cc))
-    by_expr (Some (expr.Tuple es)) at = inr (λ q. (let clash : Some (expr.Tuple es) ≡ Some (expr.Path q.0) = sym at ∙ q.1 in cc))
-    by_expr (Some (expr.If c first last)) at = inr (λ q. (let clash : Some (expr.If c first last) ≡ Some (expr.Path q.0) = sym at ∙ q.1 in cc))
-    by_expr (Some (expr.Match d arms)) at = inr (λ q. (let clash : Some (expr.Match d arms) ≡ Some (expr.Path q.0) = sym at ∙ q.1 in cc))
-    by_expr (Some (expr.Call f xs)) at = inr (λ q. (let clash : Some (expr.Call f xs) ≡ Some (expr.Path q.0) = sym at ∙ q.1 in cc))
-    by_expr (Some expr.Other) at = inr (λ q. (let clash : Some expr.Other ≡ Some (expr.Path q.0) = sym at ∙ q.1 in cc))
+    by_expr o at = inr (λ q. (let clash : o ≡ Some (expr.Path q.0) = sym at ∙ q.1 in cc))
 
 -- ---- the type of what is called, resolved
 module _ (g : Given) (s : Schedule) (called : ExprId) (t u : Ty) (old mid : InferenceContext) (d : OwnDone g s called None t old mid) (is : u ≡ resolved_type mid.table t) (made : AllOf mid.table.substitution.kinds (bindings mid.table)) where

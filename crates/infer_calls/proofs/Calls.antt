@@ -35,7 +35,7 @@ use Rattle.infer_ctx.proofs.Parts.{expr_id}
 use Rattle.infer_ctx.proofs.Lists.{noted-keeps, noted-cases, noted-some, length-noted, same_or_not, slice_get-append_left, slice_get-push}
 use Rattle.infer_ctx.proofs.Keeps.{args_kept, callee_kept, diagnostic_kept, seen_as_kept, true_seen_kept}
 use Rattle.infer_ctx.proofs.Leaves.{rule_of}
-use Rattle.infer_ctx.proofs.Closed.{push_cases}
+use Rattle.infer_ctx.proofs.UnderClosings.{push_cases}
 use Rattle.infer_ctx.proofs.Said.{length-said_of, said_of-cases, said_of-keeps, said_of-own}
 use Rattle.infer_calls.specs.Calls.{ComesToArgs, ComesToUncallable, IsCalling, inputs_at, ArgsWalked, ComesToLoose, LooseWalked}
 

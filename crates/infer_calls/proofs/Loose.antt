@@ -1,6 +1,6 @@
 -- Arguments that are typed, each with its one of some types expected of it, as far as there is one.
-use Rattle.std.proofs.Common.{ℕ, ◌+◌, ◌<◌, ◌≤◌, ◌≡◌, inl, refl, sym, ap, subst, ◌∙◌, List, length, get_or, map, Option, None, Some, option_map, slice_get}
-use Rattle.std.proofs.lemmas.Option.{slice_get_read, slice_get-map}
+use Rattle.std.proofs.Common.{ℕ, ◌+◌, ◌<◌, ◌≤◌, ◌≡◌, arith, inl, inr, refl, sym, ap, subst, ◌∙◌, List, length, get_or, map, Option, None, Some, option_map, slice_get}
+use Rattle.std.proofs.lemmas.Option.{slice_get_read, slice_get-map, slice_get_within}
 use Rattle.hir_types.specs.declared.ids.ExprId.{ExprId}
 use Rattle.hir_types.specs.declared.ids.ExprOrPatId.TheVariants as node
 use Rattle.hir_types.specs.declared.ty.Ty.{Ty}
@@ -9,23 +9,30 @@ use Rattle.hir_raw.specs.Order.{inner, argument}
 use Rattle.hir_raw.specs.declared.schedule.Schedule.{Schedule}
 use Rattle.infer_result.specs.Places.{Given}
 use Rattle.infer_result.specs.Demands.{Demand}
+use Rattle.infer_result.specs.Table.{HasTy}
 use Rattle.infer_result.specs.declared.result.TypeMismatch.{TypeMismatch}
 use Rattle.infer_ctx.specs.declared.context.InferenceContext.{InferenceContext}
 use Rattle.infer_ctx.specs.Closings.{Closes, expected_under, found_under}
 use Rattle.infer_ctx.specs.Fine.{IsFine, IsFineExpectation}
+use Rattle.infer_ctx.specs.Found.{Found}
 use Rattle.infer_ctx.specs.Steps.{Before, Follows, OwnDone, OnlyBinds}
+use Rattle.infer_ctx.specs.Under.{OwnWalked}
 use Rattle.infer_ctx.specs.Walks.{Nothing, Owed}
 use Rattle.infer_ctx.proofs.AtEach.{closes_before, follows_itself, follows_twice}
 use Rattle.infer_ctx.proofs.Category.{walks_refl}
+use Rattle.infer_ctx.proofs.UnderClosings.{same_found}
 use Rattle.infer_ctx.proofs.FineTypes.{fine_grown}
 use Rattle.infer_ctx.proofs.InParts.{AtPart, comes_to_part, past_own_part, binds_on, all_past}
 use Rattle.infer_ctx.proofs.Keeps.{extends_trans}
-use Rattle.infer_calls.specs.Calls.{BeforeLoose, LooseDone}
+use Rattle.infer_coerce.specs.MadeEqual.{SameOrDiffer}
+use Rattle.infer_coerce.proofs.Settled.{earlier_or_here, settled_later}
+use Rattle.infer_calls.specs.Calls.{BeforeLoose, IsMet, LooseDone}
 
 -- the first i of them are typed
 pub record AtLoose (g : Given) (s : Schedule) (n : ExprId) (args : List ExprId) (ss : List Ty) (i : ℕ) (mid c : InferenceContext) : Type 0 where
   pub before : BeforeLoose g s n args ss mid
   pub walk : AtPart g s (inner (node.ExprId n)) (λ a. Nothing) argument args i mid c
+  pub met : (j : ℕ) (e : ExprId) (u : Ty) → j < i → slice_get args j ≡ Some e → slice_get ss j ≡ Some u → IsMet c e u
 
 module _ (g : Given) (s : Schedule) (n : ExprId) (args : List ExprId) (ss : List Ty) (mid : InferenceContext) where
   pub begins_loose : BeforeLoose g s n args ss mid → AtLoose g s n args ss 0 mid mid
@@ -39,6 +46,7 @@ module _ (g : Given) (s : Schedule) (n : ExprId) (args : List ExprId) (ss : List
         ends = (h.each a q).ends;
       };
     };
+    met = λ j e u low at there. absurd (omega arith);
   }
 
   module _ (i : ℕ) (c : InferenceContext) (h : AtLoose g s n args ss i mid c) where
@@ -64,20 +72,50 @@ module _ (g : Given) (s : Schedule) (n : ExprId) (args : List ExprId) (ss : List
             let asked = h.before.asks a (closes_before g a mid c h.walk.follows z) i e (folded a u) (slice_get_read args _ i e refl k is) input now grown in
             subst (λ n. Demand g now n m.expected) (sym o.0) (subst (λ v. Demand g now e v) (sym o.1) asked)
 
-        pub goes_past_loose : (last : InferenceContext) → OnlyBinds g next last → AtLoose g s n args ss (i + 1) mid last
-        goes_past_loose last o = record {
-          before = h.before;
-          walk = binds_on _ _ _ _ _ _ _ _
-              (past_own_part _ _ _ _ _ _ _ _ _ h.walk e is k (λ a. Nothing) x t next d (λ a b m p. p)
-              (λ a q b m p. inl (owed_asked a q x (sym own) b m p))) o;
-        }
+        module _ (last : InferenceContext) (o : OnlyBinds g next last) where
+          as_found : (a : Assignment) (b : ExprId) (v : Ty) → HasTy (found_under a next).result b v → HasTy (found_under a last).result b v
+          as_found a b v has = subst (λ (f : Found). HasTy f.result b v) (sym (same_found a next last o.result o.asked o.clock)) has
+
+          typed_last : (a : Assignment) → Closes a last → OwnWalked g s e (expected_under a x) (folded a t) (found_under a c) (found_under a next)
+          typed_last a q = d.each a (closes_before g a next last o.follows q)
+
+          -- those before it are as they were
+          still_met : (b : ExprId) (u : Ty) → IsMet c b u → IsMet last b u
+          still_met b u m =
+              let f : Follows g c last = follows_twice g c next last d.follows o.follows in
+              record {
+                type = m.type;
+                has = λ a q. as_found a b (folded a m.type) ((typed_last a q).walks.extends.exprs b (folded a m.type) (m.has a (closes_before g a c last f q)));
+                settled = settled_later g c last m.type u f m.settled;
+              }
+
+          -- and so is it itself
+          now_met : (u : Ty) → SameOrDiffer last t u → IsMet last e u
+          now_met u settled = record { type = t; has = λ a q. as_found a e (folded a t) (typed_last a q).type_is; settled = settled }
+
+          pub goes_past_loose : ((u : Ty) → slice_get ss i ≡ Some u → SameOrDiffer last t u) → AtLoose g s n args ss (i + 1) mid last
+          goes_past_loose settled = record {
+            before = h.before;
+            walk = binds_on _ _ _ _ _ _ _ _
+                (past_own_part _ _ _ _ _ _ _ _ _ h.walk e is k (λ a. Nothing) x t next d (λ a b m p. p)
+                (λ a q b m p. inl (owed_asked a q x (sym own) b m p))) o;
+            met = λ j b u low at there. elim (earlier_or_here j i low) [
+              | inl l ↦ still_met b u (h.met j b u l at there)
+              | inr at_i ↦
+                  (let here : slice_get args i ≡ Some e = slice_get_read args _ i e refl k is in
+                  let mine : slice_get args i ≡ Some b = subst (λ m. slice_get args m ≡ Some b) at_i at in
+                  let same : e ≡ b = (let q : Some e ≡ Some b = sym here ∙ mine in cc) in
+                  subst (λ v. IsMet last v u) same (now_met u (settled u (subst (λ m. slice_get ss m ≡ Some u) at_i there))))
+            ];
+          }
 
     -- the type that may be made equal to the next one's is still fine
     pub still_fine : (u : Ty) (next : InferenceContext) → Follows g c next → slice_get ss i ≡ Some u → IsFine g.scope next.table u
     still_fine u next f is = fine_grown g.scope mid.table next.table u (follows_twice g mid c next h.walk.follows f).grew (h.before.fine i u is)
 
-    pub ends_loose : length args ≤ i → LooseDone g s n mid c
+    pub ends_loose : length args ≤ i → LooseDone g s n args ss mid c
     ends_loose over = record {
       follows = h.walk.follows;
       each = λ a q. record { walks = (h.walk.each a q).walks; clock = all_past _ _ _ _ _ _ _ _ _ h.walk over a q };
+      met = λ j e u at there. (let within : j < length args = slice_get_within args j e at in h.met j e u (omega (arith, within, over)) at there);
     }

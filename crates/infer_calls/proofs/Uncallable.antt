@@ -27,7 +27,7 @@ use Rattle.infer_ctx.proofs.InParts.{goes_past_own}
 use Rattle.infer_ctx.specs.Context as context
 use Rattle.infer_ctx.specs.Found as found
 use Rattle.infer_ctx.proofs.AtEach.{follows_twice, closes_before, walking_after, follows_itself}
-use Rattle.infer_ctx.proofs.Closed.{same_found, closes_earlier, seen_under, of_body_seen, sound_seen}
+use Rattle.infer_ctx.proofs.UnderClosings.{same_found, closes_earlier, seen_under, of_body_seen, sound_seen}
 use Rattle.infer_ctx.proofs.FineTypes.{fine_hole}
 use Rattle.infer_ctx.proofs.OverTypes.{fine_closed}
 use Rattle.infer_ctx.proofs.Tellings.{other_call_tells}
@@ -112,7 +112,7 @@ module _ (g : Given) (s : Schedule) (n : ExprId) (args : List ExprId) (u : Ty) (
   }
 
   -- the call has any type
-  pub ends_uncallable : (new : InferenceContext) → LooseDone g s n saw new → KindDone g s n None (ty.Var (hole_count new.table)) c (holed new kind.Ty)
+  pub ends_uncallable : (new : InferenceContext) → LooseDone g s n args [] saw new → KindDone g s n None (ty.Var (hole_count new.table)) c (holed new kind.Ty)
   ends_uncallable new d =
       let v : Ty = ty.Var (hole_count new.table) in
       let last : InferenceContext = holed new kind.Ty in

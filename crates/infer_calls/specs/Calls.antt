@@ -28,6 +28,7 @@ use Rattle.infer_ctx.specs.Fine.{IsFine}
 use Rattle.infer_ctx.specs.Tells.{Tells}
 use Rattle.infer_ctx.specs.Closings.{Closes, found_under}
 use Rattle.infer_ctx.specs.Steps.{Follows, OwnDone, Within, IsWalking, Does}
+use Rattle.infer_coerce.specs.MadeEqual.{SameOrDiffer}
 
 abbrev pub IsCallOf : RawBody → ExprId → ExprId → List ExprId → Type 0
 IsCallOf b e called args = slice_get b.exprs e.0 ≡ Some (expr.Call called args)
@@ -81,8 +82,8 @@ pub record ComesToUncallable (g : Given) (s : Schedule) (n called : ExprId) (arg
 
 -- each of the arguments is asked to be at its one of these types, as far as there is one
 abbrev pub AsksInputs : Given → List ExprId → List Ty → InferenceResult → Type 0
-AsksInputs g args ss t =
-    (i : ℕ) (e : ExprId) (s : Ty) → slice_get args i ≡ Some e → slice_get ss i ≡ Some s → (later : InferenceResult) → Extends t later → Demand g later e s
+AsksInputs g args ss r =
+    (i : ℕ) (e : ExprId) (t : Ty) → slice_get args i ≡ Some e → slice_get ss i ≡ Some t → (later : InferenceResult) → Extends r later → Demand g later e t
 
 -- they are typed
 pub record LooseWalked (g : Given) (s : Schedule) (n : ExprId) (old new : Found) : Type 0 where
@@ -163,6 +164,18 @@ pub record BeforeLoose (g : Given) (s : Schedule) (n : ExprId) (args : List Expr
   pub asks : (a : Assignment) → Closes a c → AsksInputs g args (map (folded a) ss) (found_under a c).result
   pub each : (a : Assignment) → Closes a c → ComesToLoose g s n called args (found_under a c)
 
--- they are typed
-abbrev pub LooseDone : Given → Schedule → ExprId → InferenceContext → InferenceContext → Type 0
-LooseDone g s n old new = Does g (λ a. LooseWalked g s n) old new
+-- the type of the argument e and its input u are the same from here on, or they differ
+pub record IsMet (c : InferenceContext) (e : ExprId) (u : Ty) : Type 0 where
+  pub type : Ty
+  pub has : (a : Assignment) → Closes a c → HasTy (found_under a c).result e (folded a type)
+  pub settled : SameOrDiffer c type u
+
+-- so are, or do, the types of each of the arguments and its one of these types, as far as there is one
+abbrev pub AreMet : List ExprId → List Ty → InferenceContext → Type 0
+AreMet args ss c = (i : ℕ) (e : ExprId) (u : Ty) → slice_get args i ≡ Some e → slice_get ss i ≡ Some u → IsMet c e u
+
+-- the arguments are typed, and each of them that has its one of these types was made equal with it, or differs from it
+pub record LooseDone (g : Given) (s : Schedule) (n : ExprId) (args : List ExprId) (ss : List Ty) (old new : InferenceContext) : Type 0 where
+  pub follows : Follows g old new
+  pub each : (a : Assignment) → Closes a new → LooseWalked g s n (found_under a old) (found_under a new)
+  pub met : AreMet args ss new

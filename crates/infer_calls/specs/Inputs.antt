@@ -1,23 +1,15 @@
 -- What is expected of the arguments of a call, from what is expected of the call: upstream `infer/expr.rs`, the
 -- beginning of `check_call_arguments`.
-use Rattle.std.specs.Prelude.{ℕ, ◌≡◌, ◌⊎◌, ◌<◌, List, slice_get, map, Option, Some, None, Result, Ok, Err}
+use Rattle.std.specs.Prelude.{ℕ, ◌≡◌, List, slice_get, map, Option, Some, None, Result, Ok, Err}
 use Rattle.hir_types.specs.declared.ty.Ty.{Ty}
-use Rattle.hir_types.specs.Subst.{Assignment, folded}
-use Rattle.hir_types.specs.Terms.{terms_of}
 use Rattle.hir_raw.specs.Scope.{Scope}
-use Rattle.infer_table.specs.Bindings.{AllOf}
-use Rattle.infer_table.specs.Completion.{completion}
-use Rattle.infer_table.specs.Solutions.{Respects}
-use Rattle.infer_table.specs.Table.{State, Meets, bindings, resolved_type, AreUnified, AreRefused, CanBeEqual}
+use Rattle.infer_table.specs.Lawful.{IsLawfulState}
+use Rattle.infer_table.specs.Table.{State, resolved_type, AreUnified, AreRefused, CanBeEqual}
 use Rattle.infer_result.specs.Places.{Given}
 use Rattle.infer_ctx.specs.declared.context.InferenceContext.{InferenceContext}
-use Rattle.infer_ctx.specs.Closings.{Closes}
-use Rattle.infer_ctx.specs.Fine.{IsFine}
+use Rattle.infer_ctx.specs.Fine.{AllFine}
 use Rattle.infer_ctx.specs.Steps.{OnlyBinds}
-
--- each of the types is fine
-abbrev pub AreFine : Scope → State → List Ty → Type 0
-AreFine sc state ts = (i : ℕ) (t : Ty) → slice_get ts i ≡ Some t → IsFine sc state t
+use Rattle.infer_coerce.specs.MadeEqual.{SameOrDiffer}
 
 -- Once what the call gives is made equal with the type e, it takes the types ss.
 pub record TakesOnce (before : State) (inputs : List Ty) (output e : Ty) (ss : List Ty) : Type 0 where
@@ -34,7 +26,7 @@ AreExpectedInputs before x inputs output None = (e : Ty) → x ≡ Some e → Ca
 -- these are fine, if any
 abbrev pub AreFineInputs : Scope → State → Option (List Ty) → Type 0
 AreFineInputs sc state None = Unit {0}
-AreFineInputs sc state (Some ss) = AreFine sc state ss
+AreFineInputs sc state (Some ss) = AllFine sc state ss
 
 -- they are found, and nothing else is found out
 pub record FindsInputs (g : Given) (x : Option Ty) (inputs : List Ty) (output : Ty) (wanted : Option (List Ty)) (old new : InferenceContext) : Type 0 where
@@ -42,31 +34,12 @@ pub record FindsInputs (g : Given) (x : Option Ty) (inputs : List Ty) (output : 
   pub are : AreExpectedInputs old.table x inputs output wanted
   pub fine : AreFineInputs g.scope new.table wanted
 
--- the two types are the same from here on, or they differ
-abbrev pub IsSettled : InferenceContext → Ty → Ty → Type 0
-IsSettled c t u = ((a : Assignment) → Closes a c → folded a t ≡ folded a u) ⊎ ((a : Assignment) → Closes a c → folded a t ≡ folded a u → ⊥)
-
--- so is each of the first n of these types and its one of the others
-abbrev pub AreSettled : ℕ → List Ty → List Ty → InferenceContext → Type 0
-AreSettled n ts us c = (i : ℕ) (t u : Ty) → i < n → slice_get ts i ≡ Some t → slice_get us i ≡ Some u → IsSettled c t u
-
--- each of these types was made equal with its one of the others, or differs, and nothing is recorded
-pub record UnifiesAll (g : Given) (ts us : List Ty) (old new : InferenceContext) : Type 0 where
-  pub binds : OnlyBinds g old new
-  pub each : (i : ℕ) (t u : Ty) → slice_get ts i ≡ Some t → slice_get us i ≡ Some u → IsSettled new t u
-
 -- what the call takes was made equal with what is expected of its arguments, or differs
 pub record ExpectsInputs (g : Given) (x : Option Ty) (inputs : List Ty) (output : Ty) (old new : InferenceContext) : Type 0 where
   pub binds : OnlyBinds g old new
   pub wanted : Option (List Ty)
   pub are : AreExpectedInputs old.table x inputs output wanted
-  pub each : (ss : List Ty) → wanted ≡ Some ss → (i : ℕ) (t u : Ty) → slice_get inputs i ≡ Some t → slice_get ss i ≡ Some u → IsSettled new t u
-
--- a table in which some assignment agrees with what is found out, and each hole that is named was made
-pub record IsLawfulState (state : State) : Type 0 where
-  pub meets : Meets (terms_of (completion state)) state
-  pub respects : Respects (terms_of (completion state))
-  pub made : AllOf state.substitution.kinds (bindings state)
+  pub each : (ss : List Ty) → wanted ≡ Some ss → (i : ℕ) (t u : Ty) → slice_get inputs i ≡ Some t → slice_get ss i ≡ Some u → SameOrDiffer new t u
 
 -- what the call gives was made equal with the type e, and it takes what it did; or it was refused
 abbrev pub IsTried : {E : Type 0} → List Ty → Ty → Ty → State → State → Result (List Ty) E → Type 0

@@ -4,9 +4,10 @@ ghost use Rattle.infer_result.specs.Closed.{IsOfBody};
 ghost use Rattle.infer_ctx.specs.Closings.{IsSound};
 ghost use Rattle.infer_ctx.specs.Context.{given_of, scope_in, schedule_of, expected_type};
 ghost use Rattle.infer_ctx.specs.Fine.{IsFine, IsFineExpectation};
-ghost use Rattle.infer_calls.specs.Calls.{IsCallOf, CalleeTyped, BeforeCall, BeforeInputs, ArgsDone, BeforeUncallable, BeforeLoose, LooseDone};
-ghost use Rattle.infer_ctx.specs.Steps.{Before, Within, KindDone, OnlyBinds};
+ghost use Rattle.infer_calls.specs.Calls.{IsCallOf, CalleeTyped, BeforeCall, BeforeInputs, ArgsDone, BeforeUncallable, BeforeLoose, LooseDone, AreMet};
+ghost use Rattle.infer_ctx.specs.Steps.{Before, Within, KindDone};
 ghost use Rattle.infer_coerce.specs.Recursion.{InfersFrom};
+ghost use Rattle.infer_coerce.specs.MadeEqual.{UnifiesOne};
 
 use crate::inputs::expect_inputs;
 use hir_facts::{ExprId, ExprOrPatId, Ty};
@@ -34,10 +35,9 @@ pub fn infer_call<F: Fn(&mut InferenceContext, ExprId, Expectation) -> Result<Ty
         tgt_expr (expected_type expected.entry) ty context.old context.new) }
 {
     let callee_ty = infer_callee(infer, alloc, context, given, callee)?;
-    let ty = check_call(
+    check_call(
         infer, alloc, context, given, tgt_expr, args, &callee_ty, expected,
-    )?;
-    Ok(ty)
+    )
 }
 
 /// Types what is called, and gives its type as far as it is known: the beginning of
@@ -57,8 +57,7 @@ fn infer_callee<F: Fn(&mut InferenceContext, ExprId, Expectation) -> Result<Ty, 
     let callee_ty = infer(context, callee, Expectation::None)?;
     // Each hole that a binding names was made.
     context.table.lawful();
-    let resolved = context.table.resolve(&callee_ty)?;
-    Ok(resolved)
+    context.table.resolve(&callee_ty)
 }
 
 /// The type of a call of what has this type: the rest of `infer/expr.rs`'s `infer_call`, with its
@@ -95,10 +94,7 @@ fn check_call<F: Fn(&mut InferenceContext, ExprId, Expectation) -> Result<Ty, Al
             )?;
             Ok(output)
         }
-        None => {
-            let ty = infer_uncallable(infer, alloc, context, given, call_expr, args, callee_ty)?;
-            Ok(ty)
-        }
+        None => infer_uncallable(infer, alloc, context, given, call_expr, args, callee_ty),
     }
 }
 
@@ -180,21 +176,21 @@ fn check_arguments<F: Fn(&mut InferenceContext, ExprId, Expectation) -> Result<T
     ensures { IfOk result (λ _. ArgsDone (given_of given.now) (schedule_of given.now)
         call_expr args.now inputs.now context.old context.new) }
 {
-    for i in 0..args.len() {
+    for (i, arg) in args.iter().enumerate() {
         infer_expr_coerce(
             infer,
             alloc,
             context,
             given,
-            args[i],
+            *arg,
             Expectation::HasType(&inputs[i]),
         )?;
     }
     Ok(())
 }
 
-/// Types the arguments of a call that has another number of them than it takes, and says so. What
-/// an argument's input tells of it is learnt where the two can be made equal.
+/// Types the arguments of a call that has another number of them than it takes, and says so. The type
+/// of each that has an input is made equal with it, where that can be.
 fn check_miscounted_arguments<
     F: Fn(&mut InferenceContext, ExprId, Expectation) -> Result<Ty, AllocError>,
 >(
@@ -210,8 +206,9 @@ fn check_miscounted_arguments<
     requires before { BeforeInputs (given_of given.now) (schedule_of given.now)
         call_expr args.now inputs.now context.old }
     requires differ { length args.now ≡ length inputs.now → ⊥ }
-    ensures { IfOk result (λ _. ArgsDone (given_of given.now) (schedule_of given.now)
+    ensures done { IfOk result (λ _. ArgsDone (given_of given.now) (schedule_of given.now)
         call_expr args.now inputs.now context.old context.new) }
+    ensures met { IfOk result (λ _. AreMet args.now inputs.now context.new) }
 {
     context.push_diagnostic(
         call_expr,
@@ -226,7 +223,7 @@ fn check_miscounted_arguments<
 }
 
 /// Types the arguments of a call, with these types expected of the first of them, and nothing of
-/// the others. What the types tell of these is learnt where the two can be made equal.
+/// the others. The type of each of the first is made equal with its one of these, where that can be.
 fn infer_arguments<F: Fn(&mut InferenceContext, ExprId, Expectation) -> Result<Ty, AllocError>>(
     infer: &F,
     alloc: Global,
@@ -240,10 +237,10 @@ fn infer_arguments<F: Fn(&mut InferenceContext, ExprId, Expectation) -> Result<T
     requires before { BeforeLoose (given_of given.now) (schedule_of given.now)
         call_expr args.now inputs.now context.old }
     ensures { IfOk result (λ _. LooseDone (given_of given.now) (schedule_of given.now)
-        call_expr context.old context.new) }
+        call_expr args.now inputs.now context.old context.new) }
 {
-    for i in 0..args.len() {
-        let ty = infer(context, args[i], Expectation::at(inputs, i))?;
+    for (i, arg) in args.iter().enumerate() {
+        let ty = infer(context, *arg, Expectation::at(inputs, i))?;
         if i < inputs.len() {
             unify_with(context, given, &ty, &inputs[i])?;
         }
@@ -251,7 +248,7 @@ fn infer_arguments<F: Fn(&mut InferenceContext, ExprId, Expectation) -> Result<T
     Ok(())
 }
 
-/// Makes two types equal, where that can be.
+/// Makes two types equal, where that can be; else they differ.
 fn unify_with(
     context: &mut InferenceContext,
     given: &GivenBody,
@@ -262,7 +259,7 @@ fn unify_with(
     requires sound { IsSound (scope_in given.now) context.old }
     requires ty { IsFine (scope_in given.now) context.old.table ty.now }
     requires other { IsFine (scope_in given.now) context.old.table other.now }
-    ensures { IfOk result (λ _. OnlyBinds (given_of given.now) context.old context.new) }
+    ensures { IfOk result (λ _. UnifiesOne (given_of given.now) ty.now other.now context.old context.new) }
 {
     unify(context, given, ty, other)?;
     Ok(())

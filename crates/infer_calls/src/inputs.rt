@@ -1,14 +1,14 @@
 //! What is expected of the arguments of a call, from what is expected of the call itself.
-ghost use Rattle.std.specs.Prelude.{◌≡◌, IfOk, length};
+ghost use Rattle.std.specs.Prelude.{IfOk};
 ghost use Rattle.infer_result.specs.Closed.{IsOfBody};
 ghost use Rattle.infer_table.specs.Table.{HolesAreOf, Grew};
 ghost use Rattle.infer_ctx.specs.Closings.{IsSound};
 ghost use Rattle.infer_ctx.specs.Context.{given_of, scope_in, expected_type};
-ghost use Rattle.infer_ctx.specs.Fine.{IsFine, IsFineExpectation};
-ghost use Rattle.infer_calls.specs.Inputs.{AreFine, FindsInputs, ExpectsInputs, IsTried, UnifiesAll};
+ghost use Rattle.infer_ctx.specs.Fine.{IsFine, AllFine, IsFineExpectation};
+ghost use Rattle.infer_calls.specs.Inputs.{FindsInputs, ExpectsInputs, IsTried};
 
 use hir_facts::{List, Ty};
-use infer_coerce::unify;
+use infer_coerce::{copies, unify_all};
 use infer_ctx::{Expectation, GivenBody, InferenceContext};
 use infer_table::{InferenceTable, NoUnifier};
 use std::alloc::{AllocError, Global};
@@ -25,7 +25,7 @@ pub fn expect_inputs(
 ) -> Result<(), AllocError>
     requires of_body { IsOfBody given.now.body.now context.old.result }
     requires sound { IsSound (scope_in given.now) context.old }
-    requires inputs { AreFine (scope_in given.now) context.old.table inputs.now }
+    requires inputs { AllFine (scope_in given.now) context.old.table inputs.now }
     requires output { IsFine (scope_in given.now) context.old.table output.now }
     requires expected { IsFineExpectation (scope_in given.now) context.old.table (expected_type expected) }
     ensures { IfOk result (λ _. ExpectsInputs (given_of given.now) (expected_type expected.entry)
@@ -53,7 +53,7 @@ fn expected_inputs_for_output(
 ) -> Result<Option<List<Ty>>, AllocError>
     requires of_body { IsOfBody given.now.body.now context.old.result }
     requires sound { IsSound (scope_in given.now) context.old }
-    requires inputs { AreFine (scope_in given.now) context.old.table inputs.now }
+    requires inputs { AllFine (scope_in given.now) context.old.table inputs.now }
     requires output { IsFine (scope_in given.now) context.old.table output.now }
     requires expected { IsFineExpectation (scope_in given.now) context.old.table (expected_type expected) }
     ensures { IfOk result (λ wanted. FindsInputs (given_of given.now) (expected_type expected.entry)
@@ -99,35 +99,4 @@ fn inputs_once(
         }
         Err(refusal) => Ok(Err(refusal)),
     }
-}
-
-/// A copy of each type.
-fn copies(alloc: Global, tys: &[Ty]) -> Result<List<Ty>, AllocError>
-    ensures { IfOk result (λ copies. copies ≡ tys.now) }
-{
-    let mut copies = List::new(alloc);
-    for ty in tys {
-        copies.push(ty.dup(alloc)?)?;
-    }
-    Ok(copies)
-}
-
-/// Makes each of these types equal with its one of the others, where that can be.
-fn unify_all(
-    context: &mut InferenceContext,
-    given: &GivenBody,
-    tys: &[Ty],
-    others: &[Ty],
-) -> Result<(), AllocError>
-    requires of_body { IsOfBody given.now.body.now context.old.result }
-    requires sound { IsSound (scope_in given.now) context.old }
-    requires tys { AreFine (scope_in given.now) context.old.table tys.now }
-    requires others { AreFine (scope_in given.now) context.old.table others.now }
-    requires count { length tys.now ≡ length others.now }
-    ensures { IfOk result (λ _. UnifiesAll (given_of given.now) tys.now others.now context.old context.new) }
-{
-    for i in 0..tys.len() {
-        unify(context, given, &tys[i], &others[i])?;
-    }
-    Ok(())
 }

@@ -58,9 +58,6 @@ coerced_as g s fits e x t u v old mid new f i h d k =
     )
     )
 
-pub uncoerced : (g : Given) (s : Schedule) (e : ExprId) (t : Ty) (old new : Found) → OwnWalked g s e None t old new → CoerceWalked g s e None t old new
-uncoerced g s e t old new d = record { walks = d.walks; clock = d.clock; placed = d.type_is }
-
 -- ---- what is placed
 pub placed_at : (r : InferenceResult) (e : ExprId) (x : Option Ty) (t : Ty) → IsPlaced r e x t → IsAtOrMismatch r e t
 placed_at r e None t h = (t, h, inl refl)

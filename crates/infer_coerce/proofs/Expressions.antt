@@ -16,7 +16,7 @@ use Rattle.infer_ctx.proofs.AtEach.{follows_twice, closes_before, before_under}
 use Rattle.infer_coerce.specs.Coercions.{IsCoercion, IsCoerced}
 use Rattle.infer_coerce.specs.declared.coercion.Coerced.{Coerced}
 use Rattle.infer_coerce.specs.declared.coercion.NotCoercible.{NotCoercible}
-use Rattle.infer_coerce.proofs.Coercions.{coerced_as, uncoerced}
+use Rattle.infer_coerce.proofs.Coercions.{coerced_as}
 use Rattle.infer_coerce.proofs.Unified.{coercion_coerced, refused_coerced}
 
 only_some : {A : Type 0} {x y : A} → Some x ≡ Some y → x ≡ y
@@ -52,12 +52,3 @@ module _ (g : Given) (s : Schedule) (e : ExprId) (x : Option Ty) (t u : Ty) (old
       let refused : IsCoercion (Err y) g e t u mid new = subst (λ a. IsCoercion a g e t u mid new) is k in
       let fine : IsFine g.scope mid.table u = fine_grown g.scope old.table mid.table u d.follows.grew (subst (λ z. IsFineExpectation g.scope old.table z) (sym f) h.expected) in
       coerced_done false g s e x t u v old mid (with_mismatch new e (mismatch y.target y.source)) f (at ∙ refused.answers.1) h d (refused_coerced g e t u mid new d.fine fine y refused)
-
-pub uncoerced_done : (g : Given) (s : Schedule) (e : ExprId) (t : Ty) (old new : InferenceContext) → OwnDone g s e None t old new → CoerceDone g s e None t old new
-uncoerced_done g s e t old new d = record {
-  follows = d.follows;
-  fine = d.fine;
-  is_expected = λ w k. absurd (cc);
-  tells = λ none. d.tells;
-  each = λ a q. uncoerced g s e (folded a t) (found_under a old) (found_under a new) (d.each a q);
-}

@@ -8,7 +8,7 @@ use Rattle.infer_table.specs.Waiting.{waiting}
 use Rattle.infer_ctx.specs.declared.context.InferenceContext.{InferenceContext}
 use Rattle.infer_ctx.specs.Closings.{IsSound}
 use Rattle.infer_ctx.proofs.FineTypes.{table_fine_grown, seen_fine_grown, fine_asked_grown, fine_pairs_grown}
-use Rattle.infer_ctx.proofs.Closed.{kept_later}
+use Rattle.infer_ctx.proofs.UnderClosings.{kept_later}
 use Rattle.infer_coerce.proofs.Unified.{with_table}
 
 -- with one hole more

@@ -5,3 +5,6 @@ pub mod Merged
 pub mod Unified
 pub mod Later
 pub mod Resolved
+pub mod Settled
+pub mod Undone
+pub mod KnownPairs

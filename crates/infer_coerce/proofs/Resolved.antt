@@ -1,5 +1,5 @@
 -- Types with what their holes are bound to.
-use Rattle.std.proofs.Common.{sym, subst}
+use Rattle.std.proofs.Common.{sym, subst, List, [], ◌∷◌, map}
 use Rattle.hir_types.specs.declared.ty.Ty.{Ty}
 use Rattle.hir_types.specs.Terms.{term}
 use Rattle.hir_raw.specs.Scope.{Scope}
@@ -9,7 +9,7 @@ use Rattle.infer_table.specs.Resolution.{resolution_term}
 use Rattle.infer_table.specs.Solutions.{AreOf, log_of}
 use Rattle.infer_table.specs.Table.{State, bindings, resolved_type}
 use Rattle.infer_table.proofs.BindingLaws.{resolved_made}
-use Rattle.infer_ctx.specs.Fine.{IsFine, is_fine_head}
+use Rattle.infer_ctx.specs.Fine.{AllFine, IsFine, is_fine_head}
 
 -- a fine type is still fine
 pub resolved_fine : (sc : Scope) (state : State) (t : Ty) → AllOf state.substitution.kinds (bindings state)
@@ -19,3 +19,8 @@ resolved_fine sc state t made bound fine = record {
       (resolved_made state.substitution.kinds (bindings state) (term t) made fine.holes);
   heads = made_of_resolved_term (is_fine_head sc) state t bound fine.heads;
 }
+
+pub all_resolved_fine : (sc : Scope) (state : State) (ts : List Ty) → AllOf state.substitution.kinds (bindings state)
+    → BindsOnly (is_fine_head sc) (log_of (bindings state)) → AllFine sc state ts → AllFine sc state (map (resolved_type state) ts)
+all_resolved_fine sc state [] made bound fine = tt
+all_resolved_fine sc state (t ∷ ts) made bound fine = (resolved_fine sc state t made bound fine.0, all_resolved_fine sc state ts made bound fine.1)

@@ -18,11 +18,12 @@ use Rattle.hir_types.specs.declared.ids.ExprOrPatId.TheVariants as node
 use Rattle.hir_types.proofs.Equal.{ty_decides}
 use Rattle.hir_facts.specs.CarriedTypes.{IsCarriedType, carried_error}
 use Rattle.hir_raw.specs.Scope.{Scope}
-use Rattle.infer_table.specs.Completion.{completion, fallback}
+use Rattle.hir_types.specs.Fallback.{fallback}
+use Rattle.infer_table.specs.Completion.{completion}
 use Rattle.infer_table.specs.Preserved.{whole, IsMadeOf, BindsOnly, made_of_resolved, unified_makes_same, refused_apart, binds_only_unified}
 use Rattle.infer_table.specs.Resolution.{resolution, resolution_terms, IsOpenOrKnown}
 use Rattle.infer_table.specs.Solutions.{Respects, log_of, Solves}
-use Rattle.infer_table.specs.Table.{State, bindings, Meets, AreUnified, AreRefused, AreUnifiedIf, Grew, HolesAreOf, TakesFirstKnown, TakesKnown, resolved_type, resolved_term, is_type_hole, with_waiting}
+use Rattle.infer_table.specs.Table.{State, bindings, Meets, AreUnified, AreRefused, AreUnifiedIf, Grew, TakesFirstKnown, TakesKnown, resolved_type, resolved_term, is_type_hole, with_waiting}
 use Rattle.infer_table.specs.Waiting.{waiting, Waiting, with_pair, is_taken}
 use Rattle.infer_table.specs.declared.waiting.WaitingPair.{WaitingPair}
 use Rattle.infer_table.proofs.WaitingLaws.{left_from-push}
@@ -43,11 +44,11 @@ use Rattle.infer_ctx.specs.Context.{with_mismatch, waiting_at}
 use Rattle.infer_ctx.specs.Found.{noted}
 use Rattle.infer_ctx.specs.Found as found
 use Rattle.infer_ctx.proofs.OverTypes.{CarriedCases, over_carried, fine_closed, same_closed, apart_closed, closing_respects}
-use Rattle.infer_ctx.proofs.Closed.{kept_later, closes_same, decided_later, same_found, mismatch_under, of_body_mismatch, sound_mismatch, asked-same, asked-apart}
+use Rattle.infer_ctx.proofs.UnderClosings.{kept_later, closes_same, decided_later, mismatch_under, of_body_mismatch, sound_mismatch, asked-same, asked-apart}
 use Rattle.infer_ctx.proofs.FineTypes.{table_fine_grown, seen_fine_grown, fine_pairs_grown, fine_asked_grown, fine_no_alias, fine_grown}
 use Rattle.infer_ctx.proofs.AtEach.{follows_itself, follows_twice, closes_before}
 use Rattle.infer_ctx.proofs.Lists.{noted-cases}
-use Rattle.infer_coerce.specs.Unifying.{IsUnifiedIf}
+use Rattle.infer_coerce.specs.MadeEqual.{SameOrDiffer, IsUnifiedIf, UnifiesFirst, UnifiesNext}
 use Rattle.infer_coerce.specs.Coercions.{IsCoercion, IsCoerced, IsCoercedOrNot, MayWait}
 use Rattle.infer_coerce.specs.declared.coercion.Coerced.{Coerced}
 use Rattle.infer_coerce.specs.declared.coercion.NotCoercible.{NotCoercible}
@@ -165,6 +166,11 @@ unified_later g t u x y z h k = record {
   each = λ a q. h.each a (closes_before g a y z k.follows q);
 }
 
+-- where they are unified or refused, they are the same from here on, or differ
+pub settled_by : (yes : Bool) (g : Given) (t u : Ty) (x y z : InferenceContext) → z.table ≡ y.table → IsUnifiedIf yes g t u x y → SameOrDiffer z t u
+settled_by true g t u x y z same h = inl (λ a q. h.each a (closes_same a z y same q))
+settled_by false g t u x y z same h = inr (λ a q. h.each a (closes_same a z y same q))
+
 -- ---- pairs that wait
 module _ (sc : Scope) (state : State) where
   fine_pairs_right : (ps qs : List WaitingPair) → AreFinePairs sc state (ps ++ qs) → AreFinePairs sc state qs
@@ -248,12 +254,6 @@ module _ (g : Given) (c : InferenceContext) (h : IsOfBody g.body c.result) (s : 
     target_fine : IsFine g.scope mid p.target
     target_fine = fine_grown g.scope c.table mid p.target k.grown this_pair.0.1
 
-    pub taken_source_holes : HolesAreOf mid p.source
-    taken_source_holes = source_fine.holes
-
-    pub taken_target_holes : HolesAreOf mid p.target
-    taken_target_holes = target_fine.holes
-
     module _ (yes : Bool) (u : AreUnifiedIf yes mid after p.source p.target) (meets : Meets (terms_of (completion after)) after) (respects : Respects (terms_of (completion after))) where
       tried : IsUnifiedIf yes g p.source p.target (unasked mid) (unasked after)
       tried = unified_if g p.source p.target (unasked mid) h unasked_sound source_fine target_fine after yes u meets respects
@@ -275,7 +275,7 @@ module _ (g : Given) (c : InferenceContext) (h : IsOfBody g.body c.result) (s : 
         })
       ]
 
-      pub taken_unified : OnlyBinds g c (with_table c after)
+      taken_unified : OnlyBinds g c (with_table c after)
       taken_unified = record {
         follows = record {
           clock = omega arith;
@@ -297,9 +297,19 @@ module _ (g : Given) (c : InferenceContext) (h : IsOfBody g.body c.result) (s : 
         clock = refl;
       }
 
-  -- there was none
-  pub none_taken : (after : State) → TakesKnown c.table after None → OnlyBinds g c (with_table c after)
-  none_taken after k = subst (λ state. OnlyBinds g c (with_table c state)) (sym k.unchanged) (binds_nothing g c h s)
+      pub first_unified : UnifiesFirst g c (with_table c after)
+      first_unified = record {
+        pair = p;
+        taken = mid;
+        takes = k;
+        others = same_pairs yes mid after p.source p.target u;
+        binds = taken_unified;
+        settled = settled_by yes g p.source p.target (unasked mid) (unasked after) (with_table c after) refl tried;
+      }
+
+-- there was none
+pub none_taken : (g : Given) (c : InferenceContext) (after : State) → TakesKnown c.table after None → UnifiesNext false g c (with_table c after)
+none_taken g c after k = (k.none, ap (λ state. with_table c state) k.unchanged)
 
 -- each of these pairs was unified or refused
 abbrev pub EachSoFar : Given → List WaitingPair → InferenceContext → InferenceContext → ℕ → Type 0
@@ -328,28 +338,8 @@ pub pair_still_fine : (g : Given) (old c : InferenceContext) (ps : List WaitingP
 pair_still_fine g old c ps i p h b at = fine_pair_at g.scope c.table ps i p (fine_pairs_grown g.scope old.table c.table ps b.follows.grew h) at
 
 -- ---- coercions
-same_unified : (g : Given) (t u : Ty) (c : InferenceContext) → IsOfBody g.body c.result → IsSound g.scope c → t ≡ u → IsUnifiedIf true g t u c c
-same_unified g t u c h s is = record { binds = binds_nothing g c h s; each = λ a q. ap (folded a) is }
 
 module _ (g : Given) (e : ExprId) (t u : Ty) (c new : InferenceContext) where
-  pub unified_coercion : (r : Coerced) → r.ty ≡ u → IsUnifiedIf true g t u c new → IsCoercion (Ok r) g e t u c new
-  unified_coercion r is k = record {
-    follows = k.binds.follows;
-    clock = k.binds.clock;
-    answers = is;
-    comes = inl k;
-    each = λ a q. (true, (k.each a q, same_found a c new k.binds.result k.binds.asked k.binds.clock));
-  }
-
-  pub refused_coercion : (x : NotCoercible) → x.source ≡ t → x.target ≡ u → IsUnifiedIf false g t u c new → IsCoercion (Err x) g e t u c new
-  refused_coercion x from to k = record {
-    follows = k.binds.follows;
-    clock = k.binds.clock;
-    answers = (from, to);
-    comes = k;
-    each = λ a q. (λ same. k.each a q (sym same), same_found a c new k.binds.result k.binds.asked k.binds.clock);
-  }
-
   pub coercion_coerced : (r : Coerced) → IsCoercion (Ok r) g e t u c new → IsCoerced true g e t u c new
   coercion_coerced r k = record {
     follows = k.follows;
@@ -378,9 +368,6 @@ module _ (g : Given) (e : ExprId) (t u : Ty) (c new : InferenceContext) where
               );
         } in
         subst (λ m. IsCoerced false g e t u c (with_mismatch new e m)) (ap (λ y. mismatch u y) (sym k.answers.0) ∙ ap (λ y. mismatch y x.source) (sym k.answers.1)) here
-
-pub same_coercion : (g : Given) (e : ExprId) (t u : Ty) (c : InferenceContext) (r : Coerced) → r.ty ≡ u → IsOfBody g.body c.result → IsSound g.scope c → t ≡ u → IsCoercion (Ok r) g e t u c c
-same_coercion g e t u c r at h s is = unified_coercion g e t u c c r at (same_unified g t u c h s is)
 
 -- ---- an expression that waits
 

@@ -14,7 +14,7 @@ use Rattle.infer_ctx.specs.Context.{waiting_at}
 use Rattle.infer_ctx.specs.Closings.{Closes, found_under}
 use Rattle.infer_coerce.specs.declared.coercion.Coerced.{Coerced}
 use Rattle.infer_coerce.specs.declared.coercion.NotCoercible.{NotCoercible}
-use Rattle.infer_coerce.specs.Unifying.{IsUnifiedIf}
+use Rattle.infer_coerce.specs.MadeEqual.{IsUnifiedIf}
 
 -- ---- coercions
 

@@ -1,4 +1,4 @@
 pub mod Common
 pub mod Coercions
-pub mod Unifying
+pub mod MadeEqual
 pub mod Recursion

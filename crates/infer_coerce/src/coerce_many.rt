@@ -102,10 +102,7 @@ impl CoerceMany {
         match self {
             CoerceMany::Is(ty) => Ok(ty),
             CoerceMany::Nothing | CoerceMany::Unknown => match expected.only_has_type() {
-                Some(ty) => {
-                    let ty = ty.dup(alloc)?;
-                    Ok(ty)
-                }
+                Some(ty) => ty.dup(alloc),
                 None => {
                     let ty = context.table.next_ty_var()?;
                     Ok(ty)

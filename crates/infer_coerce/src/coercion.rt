@@ -15,6 +15,7 @@ use hir_facts::{ExprId, ExprOrPatId, Ty};
 use infer_ctx::{GivenBody, InferenceContext};
 use infer_result::TypeMismatch;
 use std::alloc::{AllocError, Global};
+use thiserror::Error;
 
 /// What an expression is from then on, once it is coerced: what `infer/coerce.rs`'s `coerce` answers.
 #[derive(Drop)]
@@ -25,7 +26,8 @@ pub struct Coerced {
 
 /// Two types that are not the same for any types for their holes: what `infer/coerce.rs`'s `coerce`
 /// answers otherwise.
-#[derive(Drop)]
+#[derive(Debug, Drop, Error)]
+#[error("the expression cannot be coerced to the type that was asked for")]
 pub struct NotCoercible {
     /// The type that the expression is of.
     pub source: Ty,

@@ -1,11 +1,10 @@
 //! Types made equal, and the pairs of types that wait for it: `infer/unify.rs`.
-ghost use Rattle.std.specs.Prelude.{IfOk};
+ghost use Rattle.std.specs.Prelude.{◌≡◌, IfOk, length, true};
 ghost use Rattle.infer_result.specs.Closed.{IsOfBody};
 ghost use Rattle.infer_ctx.specs.Closings.{IsSound};
 ghost use Rattle.infer_ctx.specs.Context.{given_of, scope_in};
-ghost use Rattle.infer_ctx.specs.Fine.{IsFine, AreFinePairs};
-ghost use Rattle.infer_coerce.specs.Unifying.{IsUnifiedIf, UnifiesEach, Settles};
-ghost use Rattle.infer_ctx.specs.Steps.{OnlyBinds};
+ghost use Rattle.infer_ctx.specs.Fine.{IsFine, AllFine, AreFinePairs};
+ghost use Rattle.infer_coerce.specs.MadeEqual.{IsUnifiedIf, NoneIsKnown, UnifiesAll, UnifiesNext, UnifiesKnown, UnifiesEach, Settles};
 
 use hir_facts::Ty;
 use infer_ctx::{GivenBody, InferenceContext};
@@ -13,7 +12,8 @@ use infer_table::WaitingPair;
 use std::alloc::AllocError;
 
 /// Makes two types equal, or changes nothing where no types for holes make them so. Then the
-/// pairs are unified that were waiting and have become known.
+/// pairs are unified that were waiting and have become known, so that of none which still waits a
+/// side is known.
 pub fn unify(
     context: &mut InferenceContext,
     given: &GivenBody,
@@ -24,7 +24,8 @@ pub fn unify(
     requires sound { IsSound (scope_in given.now) context.old }
     requires left { IsFine (scope_in given.now) context.old.table left.now }
     requires right { IsFine (scope_in given.now) context.old.table right.now }
-    ensures { IfOk result (λ yes. IsUnifiedIf yes (given_of given.now) left.now right.now context.old context.new) }
+    ensures unified { IfOk result (λ yes. IsUnifiedIf yes (given_of given.now) left.now right.now context.old context.new) }
+    ensures known { IfOk result (λ yes. yes ≡ true → NoneIsKnown context.new) }
 {
     if unify_alone(context, given, left, right)? {
         unify_known(context, given)?;
@@ -32,6 +33,26 @@ pub fn unify(
     } else {
         Ok(false)
     }
+}
+
+/// Makes each of these types equal with its one of the others, where that can be.
+pub fn unify_all(
+    context: &mut InferenceContext,
+    given: &GivenBody,
+    tys: &[Ty],
+    others: &[Ty],
+) -> Result<(), AllocError>
+    requires of_body { IsOfBody given.now.body.now context.old.result }
+    requires sound { IsSound (scope_in given.now) context.old }
+    requires tys { AllFine (scope_in given.now) context.old.table tys.now }
+    requires others { AllFine (scope_in given.now) context.old.table others.now }
+    requires count { length tys.now ≡ length others.now }
+    ensures { IfOk result (λ _. UnifiesAll (given_of given.now) tys.now others.now context.old context.new) }
+{
+    for i in 0..tys.len() {
+        unify(context, given, &tys[i], &others[i])?;
+    }
+    Ok(())
 }
 
 /// Makes two types equal, or changes nothing. Pairs that wait are left alone.
@@ -56,13 +77,13 @@ fn unify_alone(
     }
 }
 
-/// Takes the first pair that waits and of which a side is known, and unifies it. Where the two
-/// can't be made equal, they differ from then on, which is a mismatch at the expression that
-/// waited. Answers whether there was such a pair.
+/// Takes the first pair that waits and of which a side is known off those that wait, and unifies it:
+/// its two types are the same from then on, or they differ, which is a mismatch at the
+/// expression that waited. Answers whether there was such a pair; where there was none, nothing changes.
 fn unify_next(context: &mut InferenceContext, given: &GivenBody) -> Result<bool, AllocError>
     requires of_body { IsOfBody given.now.body.now context.old.result }
     requires sound { IsSound (scope_in given.now) context.old }
-    ensures { IfOk result (λ _. OnlyBinds (given_of given.now) context.old context.new) }
+    ensures { IfOk result (λ yes. UnifiesNext yes (given_of given.now) context.old context.new) }
 {
     match context.table.take_known()? {
         Some(pair) => {
@@ -75,14 +96,15 @@ fn unify_next(context: &mut InferenceContext, given: &GivenBody) -> Result<bool,
     }
 }
 
-/// Unifies the pairs that wait and of which a side is known, till there is none.
+/// Unifies pairs that wait and of which a side is known, till there is none, also among those that
+/// become known on the way.
 fn unify_known(context: &mut InferenceContext, given: &GivenBody) -> Result<(), AllocError>
     requires of_body { IsOfBody given.now.body.now context.old.result }
     requires sound { IsSound (scope_in given.now) context.old }
-    ensures { IfOk result (λ _. OnlyBinds (given_of given.now) context.old context.new) }
+    ensures { IfOk result (λ _. UnifiesKnown (given_of given.now) context.old context.new) }
 {
-    // An expression waits once at most, so no more pairs wait than there are expressions.
-    for _ in 0..context.asked.len() {
+    // Each time one pair less waits, and no more wait than ever were made to.
+    for _ in 0..context.table.pair_count() {
         if !unify_next(context, given)? {
             return Ok(());
         }
@@ -113,8 +135,7 @@ fn unify_each(
     requires fine { AreFinePairs (scope_in given.now) context.old.table pairs.now }
     ensures { IfOk result (λ _. UnifiesEach (given_of given.now) pairs.now context.old context.new) }
 {
-    for i in 0..pairs.len() {
-        let pair = &pairs[i];
+    for pair in pairs {
         unify_alone(context, given, &pair.source, &pair.target)?;
     }
     Ok(())

@@ -18,7 +18,7 @@ use Rattle.infer_ctx.specs.Walks.{IsWalked}
 use Rattle.infer_ctx.specs.Context.{IsCarriedExpectation}
 use Rattle.infer_ctx.specs.Fine.{IsFineExpectation}
 use Rattle.infer_ctx.specs.Under.{ComesTo, IsInside}
-use Rattle.infer_ctx.proofs.Closed.{closes_earlier}
+use Rattle.infer_ctx.proofs.UnderClosings.{closes_earlier}
 use Rattle.infer_ctx.proofs.OverTypes.{fine_closed}
 
 -- ---- one after another

@@ -1,7 +1,7 @@
 -- What is read of a type that is resolved at its top, and what is expected of parts.
 use Rattle.std.proofs.Common.{◌≡◌, refl, sym, ap, ◌∙◌, inl, inr, ℕ, List, [], ◌∷◌, Option, Some, None}
 use Rattle.hir_types.specs.Subst.{folded, const_folded, with_holes, Replacement}
-use Rattle.hir_types.specs.Folding.{replacing, at_ty, replaced_array, replaced_var, replaced_int_var, replaced_param}
+use Rattle.hir_types.specs.Replacements.{replacing, at_ty, replaced_array, replaced_var, replaced_int_var, replaced_param}
 use Rattle.hir_types.specs.Folds.{in_ty, Maps}
 use Rattle.hir_types.specs.declared.ty.AliasBound.{AliasBound}
 use Rattle.hir_types.specs.declared.ty.Const.{Const}
@@ -95,9 +95,6 @@ known_by_layer t r x e h = refl
 
 pub unless_open_known : (t r : Ty) → ((n : ℕ) → r ≡ ty.Var n → ⊥) → unless_open t (out-Ty r) ≡ Some t
 unless_open_known t r h = known_by_layer t r (out-Ty r) (sym (roll-out-Ty r)) h
-
-pub unless_empty_unit : (t r : Ty) → r ≡ ty.Tuple [] → unless_empty t (out-Ty r) ≡ None
-unless_empty_unit t r e = ap (λ u. unless_empty t (out-Ty u)) (e ∙ sym (ty.rolls-Tuple [])) ∙ ap (unless_empty t) (out-roll-Ty (Ty-F.Tuple []))
 
 not_empty : (t : Ty) (ts : List Ty) → (ts ≡ [] → ⊥) → unless_empty t (Ty-F.Tuple ts) ≡ Some t
 not_empty t [] h = absurd (h refl)

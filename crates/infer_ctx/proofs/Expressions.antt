@@ -10,8 +10,8 @@ use Rattle.infer_ctx.specs.Closings.{Closes, found_under, expected_under}
 use Rattle.infer_ctx.specs.Steps.{Before, Within, OwnDone, KindDone}
 use Rattle.infer_ctx.specs.Under.{OwnWalked}
 use Rattle.infer_ctx.specs.Context as context
-use Rattle.infer_ctx.proofs.Close.{entered_within, close}
-use Rattle.infer_ctx.proofs.Closed.{closes_same, sound_entered, expr_ty_under, of_body_expr_ty, sound_expr_ty}
+use Rattle.infer_ctx.proofs.OwnRecord.{entered_within, close}
+use Rattle.infer_ctx.proofs.UnderClosings.{closes_same, sound_entered, expr_ty_under, of_body_expr_ty, sound_expr_ty}
 use Rattle.infer_ctx.proofs.AtEach.{before_under, closes_before}
 
 -- the clock goes on to the parts of the expression

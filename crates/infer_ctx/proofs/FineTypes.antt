@@ -4,7 +4,7 @@ use Rattle.std.proofs.Common.{List, [], ◌∷◌, ℕ, zero, suc, ◌≡◌, su
 use Rattle.hir_types.specs.declared.ty.Ty.{Ty, Ty-F, out-Ty, roll-Ty, roll-out-Ty}
 use Rattle.hir_types.specs.declared.head.Head.{Head}
 use Rattle.hir_types.specs.Terms.{Term, node, term, chain, leaf, type_part}
-use Rattle.hir_types.specs.TermLaws.{type_parts, term_bool, term_char, term_int, term_uint, term_tuple, term_param, term_var, term_int_var, term_adt_types, term_fn_def_types}
+use Rattle.hir_types.specs.TermLaws.{parts_of_types, term_bool, term_char, term_int, term_uint, term_tuple, term_param, term_var, term_int_var, term_adt_types, term_fn_def_types}
 use Rattle.hir_types.specs.declared.ids.AdtId.{AdtId}
 use Rattle.hir_types.specs.declared.ids.CallableDefId.{CallableDefId}
 use Rattle.hir_types.specs.declared.ty.AliasBound.{AliasBound}
@@ -28,19 +28,18 @@ use Rattle.infer_table.specs.declared.waiting.WaitingPair.{WaitingPair}
 use Rattle.infer_result.specs.declared.result.InferenceResult.{InferenceResult}
 use Rattle.infer_result.specs.declared.result.TypeMismatch.{TypeMismatch}
 use Rattle.infer_result.specs.Closed.{AllTypes, AllSeen}
-use Rattle.infer_ctx.specs.Fine.{IsFine, item_params, is_fine_head, HasFineHeads, IsFineExpectation, AreFinePairs, IsFineAsked}
+use Rattle.infer_ctx.specs.Fine.{IsFine, Every, AllFine, item_params, is_fine_head, HasFineHeads, IsFineExpectation, AreFinePairs, IsFineAsked}
 use Rattle.infer_ctx.specs.Context.{component, element_type}
 use Rattle.infer_ctx.proofs.MadeHoles.{AllHolesAreOf, holes_are_of_grown, node_holes_are_of}
-
--- each type of the list has the property
-abbrev pub Every : (Ty → Type 0) → List Ty → Type 0
-Every P [] = Unit {0}
-Every P (t ∷ ts) = P t × Every P ts
 
 pub every_at : (P : Ty → Type 0) (ts : List Ty) (i : ℕ) (t : Ty) → Every P ts → slice_get ts i ≡ Some t → P t
 every_at P [] i t h e = absurd (cc)
 every_at P (u ∷ ts) zero t h e = (let k : u ≡ t = cc in subst P k h.0)
 every_at P (u ∷ ts) (suc i) t h e = every_at P ts i t h.1 e
+
+pub every_from : (P : Ty → Type 0) (ts : List Ty) → ((i : ℕ) (t : Ty) → slice_get ts i ≡ Some t → P t) → Every P ts
+every_from P [] h = tt
+every_from P (t ∷ ts) h = (h 0 t refl, every_from P ts (λ i u at. h (suc i) u at))
 
 pub every_same : (P Q : Ty → Type 0) (ts : List Ty) → ((t : Ty) → P t → Q t) → Every P ts → Every Q ts
 every_same P Q [] f h = tt
@@ -54,12 +53,9 @@ all_holes state (t ∷ ts) h = (h.0, all_holes state ts h.1)
 pub no_holes : (state : State) (t : Ty) (h : Head) → term t ≡ node h [] → HolesAreOf state t
 no_holes state t h e = (let P : Term → Type 0 = AreOf state.substitution.kinds in subst P (sym e) (λ k g. absurd (true≢false (sym g))))
 
-pub parts_width : (ts : List Ty) → width (chain (type_parts ts)) ≡ length ts
+pub parts_width : (ts : List Ty) → width (chain (parts_of_types ts)) ≡ length ts
 parts_width [] = refl
 parts_width (t ∷ ts) = ap suc (parts_width ts)
-
-abbrev pub AllFine : Scope → State → List Ty → Type 0
-AllFine sc state = Every (IsFine sc state)
 
 module _ (sc : Scope) where
   abbrev Made : Term → Type 0
@@ -83,18 +79,18 @@ module _ (sc : Scope) where
   pub heads_param : (n : ℕ) → nat_lt n sc.params ≡ true → HasFineHeads sc (ty.Param n)
   heads_param n h = heads_by (ty.Param n) (node (head.Param n) []) (term_param n) (h, tt)
 
-  parts_heads : (ts : List Ty) → Every (HasFineHeads sc) ts → IsMadeOf (is_fine_head sc) rest (chain (type_parts ts))
+  parts_heads : (ts : List Ty) → Every (HasFineHeads sc) ts → IsMadeOf (is_fine_head sc) rest (chain (parts_of_types ts))
   parts_heads [] h = tt
   parts_heads (t ∷ ts) h = ((tt, h.0), parts_heads ts h.1)
 
   pub heads_tuple : (ts : List Ty) → Every (HasFineHeads sc) ts → HasFineHeads sc (ty.Tuple ts)
-  heads_tuple ts h = heads_by (ty.Tuple ts) (node head.Tuple (type_parts ts)) (term_tuple ts) (refl, parts_heads ts h)
+  heads_tuple ts h = heads_by (ty.Tuple ts) (node head.Tuple (parts_of_types ts)) (term_tuple ts) (refl, parts_heads ts h)
 
   pub heads_adt : (id : AdtId) (ts : List Ty) → has_params (adt_params sc.facts id) (length ts) ≡ true → Every (HasFineHeads sc) ts → HasFineHeads sc (ty.Adt id (type_args ts))
-  heads_adt id ts e h = heads_by (ty.Adt id (type_args ts)) (node (head.Adt id) (type_parts ts)) (term_adt_types id ts) (ap (has_params (adt_params sc.facts id)) (parts_width ts) ∙ e, parts_heads ts h)
+  heads_adt id ts e h = heads_by (ty.Adt id (type_args ts)) (node (head.Adt id) (parts_of_types ts)) (term_adt_types id ts) (ap (has_params (adt_params sc.facts id)) (parts_width ts) ∙ e, parts_heads ts h)
 
   pub heads_fn_def : (id : CallableDefId) (ts : List Ty) → has_params (item_params sc.facts id) (length ts) ≡ true → Every (HasFineHeads sc) ts → HasFineHeads sc (ty.FnDef id (type_args ts))
-  heads_fn_def id ts e h = heads_by (ty.FnDef id (type_args ts)) (node (head.FnDef id) (type_parts ts)) (term_fn_def_types id ts) (ap (has_params (item_params sc.facts id)) (parts_width ts) ∙ e, parts_heads ts h)
+  heads_fn_def id ts e h = heads_by (ty.FnDef id (type_args ts)) (node (head.FnDef id) (parts_of_types ts)) (term_fn_def_types id ts) (ap (has_params (item_params sc.facts id)) (parts_width ts) ∙ e, parts_heads ts h)
 
   -- ---- fine types, kind by kind
 
@@ -158,21 +154,21 @@ module _ (sc : Scope) where
 
   -- ---- parts of fine types
 
-  fine_parts : (state : State) (ts : List Ty) → AreOf state.substitution.kinds (chain (type_parts ts)) → IsMadeOf (is_fine_head sc) rest (chain (type_parts ts)) → AllFine sc state ts
+  fine_parts : (state : State) (ts : List Ty) → AreOf state.substitution.kinds (chain (parts_of_types ts)) → IsMadeOf (is_fine_head sc) rest (chain (parts_of_types ts)) → AllFine sc state ts
   fine_parts state [] h k = tt
   fine_parts state (t ∷ ts) h k =
       let kinds = state.substitution.kinds in
-      let parts = are_of_parts kinds (type_part (term t)) (chain (type_parts ts)) h in (
+      let parts = are_of_parts kinds (type_part (term t)) (chain (parts_of_types ts)) h in (
         record { holes = (are_of_parts kinds (leaf head.TypePart) (term t) parts.0).1; heads = k.0.1 },
         fine_parts state ts parts.1 k.1,
       )
 
   -- what a head stands over is fine
-  fine_over : (state : State) (t : Ty) (h : Head) (ts : List Ty) → term t ≡ node h (type_parts ts) → IsFine sc state t → AllFine sc state ts
+  fine_over : (state : State) (t : Ty) (h : Head) (ts : List Ty) → term t ≡ node h (parts_of_types ts) → IsFine sc state t → AllFine sc state ts
   fine_over state t h ts is k =
       let kinds = state.substitution.kinds in
       let P : Term → Type 0 = AreOf kinds in
-      fine_parts state ts (are_of_parts kinds (leaf h) (chain (type_parts ts)) (subst P is k.holes)).1 (subst Made is k.heads).1
+      fine_parts state ts (are_of_parts kinds (leaf h) (chain (parts_of_types ts)) (subst P is k.holes)).1 (subst Made is k.heads).1
 
   pub fine_elements : (state : State) (ts : List Ty) → IsFine sc state (ty.Tuple ts) → AllFine sc state ts
   fine_elements state ts h = fine_over state (ty.Tuple ts) head.Tuple ts (term_tuple ts) h

@@ -20,7 +20,7 @@ use Rattle.infer_ctx.specs.Tells.{TellsRecorded}
 use Rattle.infer_ctx.specs.Under.{IsReady, LieAhead}
 use Rattle.infer_ctx.specs.Walks.{Walks, Debt, Owed}
 use Rattle.infer_ctx.proofs.AtEach.{follows_itself, follows_twice, closes_before, walking_after}
-use Rattle.infer_ctx.proofs.Closed.{same_found}
+use Rattle.infer_ctx.proofs.UnderClosings.{same_found}
 use Rattle.infer_ctx.proofs.Category.{walks_refl, walks_trans, walks_paid}
 use Rattle.infer_ctx.proofs.Lists.{drop-step}
 use Rattle.infer_ctx.proofs.Parts.{ahead_rest, expr_ahead}

@@ -6,7 +6,7 @@ use Rattle.std.proofs.lemmas.Bool.{ltb-true}
 use Rattle.std.proofs.lemmas.List.{length-map}
 use Rattle.hir_types.specs.declared.ty.Ty.{Ty-F, fold-roll-Ty, Ty}
 use Rattle.hir_types.specs.Assigned.{with_params}
-use Rattle.hir_types.specs.Folding.{replaced_bool, replaced_char, replaced_int, replaced_uint, replaced_tuple, replaced_adt, replaced_fn_def}
+use Rattle.hir_types.specs.Replacements.{replaced_bool, replaced_char, replaced_int, replaced_uint, replaced_tuple, replaced_adt, replaced_fn_def}
 use Rattle.hir_types.specs.Instances.{param_at, types_args_replaced, instance_at_types}
 use Rattle.hir_types.specs.Subst.{Assignment, folded}
 use Rattle.hir_types.specs.declared.ty.Ty.TheVariants as ty
@@ -16,9 +16,9 @@ use Rattle.hir_raw.specs.Signatures.{type_args, at_args}
 use Rattle.hir_raw.specs.declared.raw.RawFacts.{RawFacts}
 use Rattle.hir_raw.specs.Scope.{Scope, has_params, adt_params}
 use Rattle.infer_table.specs.Table.{State}
-use Rattle.infer_ctx.specs.Fine.{item_params, HasFineHeads, IsFine, IsCarriedIn}
+use Rattle.infer_ctx.specs.Fine.{item_params, HasFineHeads, IsFine, IsCarriedIn, Every, AllFine}
 use Rattle.infer_ctx.specs.Under.{own_scope}
-use Rattle.infer_ctx.proofs.FineTypes.{Every, AllFine, every_at, fine_bool, fine_char, fine_integer, fine_tuple, fine_adt, fine_fn_def}
+use Rattle.infer_ctx.proofs.FineTypes.{every_at, fine_bool, fine_char, fine_integer, fine_tuple, fine_adt, fine_fn_def}
 use Rattle.infer_ctx.proofs.OverTypes.{over_fine, carried_closed}
 use Rattle.infer_ctx.proofs.Lists.{found}
 

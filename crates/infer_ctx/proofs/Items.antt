@@ -17,7 +17,7 @@ use Rattle.hir_raw.specs.Scope.{adt_params, callable_params, Scope, has_params}
 use Rattle.hir_raw.specs.Signatures.{Signature, signature_of, ctor_signature, signature_by, field_types, own_adt, fn_signature, params_from, type_args}
 use Rattle.hir_raw.specs.declared.raw.RawFn.{RawFn}
 use Rattle.hir_facts.specs.CarriedTypes.{is_carried_arg, AreCarriedArgs, carried_param, carried_type_arg, carried_adt}
-use Rattle.hir_raw.specs.Types.{written_type}
+use Rattle.hir_raw.specs.WrittenTypes.{written_type}
 use Rattle.hir_raw.specs.declared.raw.RawAdt.{RawAdt}
 use Rattle.hir_raw.specs.declared.raw.RawField.{RawField}
 use Rattle.hir_laws.proofs.Items.{variant_adt, variant_ctor}
@@ -26,25 +26,10 @@ use Rattle.hir_laws.specs.Lawful.{IsLawful}
 use Rattle.hir_laws.specs.WrittenFits.{inputs_fit, output_fits, fields_fit}
 use Rattle.hir_laws.specs.NoHoles.{input_has_no_hole, output_has_no_hole, field_has_no_hole}
 use Rattle.hir_raw.specs.declared.raw.RawCtor.TheVariants as ctor
-use Rattle.infer_result.specs.Places.{Given}
-use Rattle.infer_ctx.specs.Fine.{HasFineHeads, IsCarriedIn, IsWritten}
+use Rattle.infer_ctx.specs.Fine.{HasFineHeads, IsCarriedIn, IsWritten, Every}
 use Rattle.infer_ctx.specs.Under.{own_scope, IsItem, IsVariant}
-use Rattle.infer_ctx.proofs.FineTypes.{Every, heads_param, heads_adt}
+use Rattle.infer_ctx.proofs.FineTypes.{heads_param, heads_adt}
 use Rattle.infer_ctx.proofs.Written.{is_written}
-
--- what has a signature is a tuple constructor
-pub ctor_item : (g : Given) (v : VariantId) (x : RawVariant) (n : ℕ) (σ : Signature) → slice_get g.scope.facts.variants v.0 ≡ Some x → adt_params g.scope.facts x.adt ≡ Some n → signature_of g.scope.facts (callable.VariantId v) ≡ Some σ → (x.ctor ≡ ctor.Tuple) × (n ≡ σ.params)
-ctor_item g v x n σ found count s = by_ctor x.ctor refl (sym (signature_at g.scope.facts v x n found count) ∙ s)
-  where
-    signature_at : (raw : RawFacts) (w : VariantId) (y : RawVariant) (k : ℕ) → slice_get raw.variants w.0 ≡ Some y → adt_params raw y.adt ≡ Some k → signature_of raw (callable.VariantId w) ≡ ctor_signature raw.types k y
-    signature_at raw w y k h l =
-        ap (λ o. option_and_then (λ z. option_and_then (λ j. ctor_signature raw.types j z) (adt_params raw z.adt)) o) h
-        ∙ ap (λ o. option_and_then (λ j. ctor_signature raw.types j y) o) l
-
-    by_ctor : (k : RawCtor) → x.ctor ≡ k → ctor_signature g.scope.facts.types n x ≡ Some σ → (x.ctor ≡ ctor.Tuple) × (n ≡ σ.params)
-    by_ctor ctor.Tuple is made = (is, cc)
-    by_ctor ctor.Unit is made = absurd (cc)
-    by_ctor ctor.Record is made = absurd (cc)
 
 -- a constructor has a signature where it takes fields
 pub tuple_signature : (raw : RawFacts) (v : VariantId) (x : RawVariant) (n : ℕ) → slice_get raw.variants v.0 ≡ Some x → adt_params raw x.adt ≡ Some n → x.ctor ≡ ctor.Tuple → (σ : Signature) × (signature_of raw (callable.VariantId v) ≡ Some σ) × (σ.params ≡ n)
@@ -143,11 +128,11 @@ module _ (raw : RawFacts) (law : IsLawful raw) where
   named_function f (x, found, stands) = function_item f x found
 
   fields_known : (v : VariantId) (x : RawVariant) (a : RawAdt) → slice_get raw.variants v.0 ≡ Some x → slice_get raw.adts x.adt.0 ≡ Some a → (k : ℕ) (t : Ty) → slice_get (field_types raw.types x) k ≡ Some t → IsCarriedIn (own_scope raw (length a.params)) t
-  fields_known v x a found adt k t is = among x.fields (λ j f e. is_written raw law (length a.params) f.ty (fields_fit raw law v.0 x a found adt j f e) (field_has_no_hole raw law v.0 x found j f e)) k is
+  fields_known v x a found adt k t is = among x.fields (λ j f e. is_written raw law (length a.params) f.type_ (fields_fit raw law v.0 x a found adt j f e) (field_has_no_hole raw law v.0 x found j f e)) k is
     where
-      among : (fs : List RawField) → ((j : ℕ) (f : RawField) → slice_get fs j ≡ Some f → IsWritten (own_scope raw (length a.params)) f.ty) → (i : ℕ) → slice_get (map (λ f. written_type raw.types f.ty) fs) i ≡ Some t → IsCarriedIn (own_scope raw (length a.params)) t
+      among : (fs : List RawField) → ((j : ℕ) (f : RawField) → slice_get fs j ≡ Some f → IsWritten (own_scope raw (length a.params)) f.type_) → (i : ℕ) → slice_get (map (λ f. written_type raw.types f.type_) fs) i ≡ Some t → IsCarriedIn (own_scope raw (length a.params)) t
       among [] h i e = absurd (cc)
-      among (f ∷ fs) h zero e = (let same : written_type raw.types f.ty ≡ t = cc in subst (λ u. IsCarriedIn (own_scope raw (length a.params)) u) same (known raw (length a.params) f.ty (h 0 f refl)))
+      among (f ∷ fs) h zero e = (let same : written_type raw.types f.type_ ≡ t = cc in subst (λ u. IsCarriedIn (own_scope raw (length a.params)) u) same (known raw (length a.params) f.type_ (h 0 f refl)))
       among (f ∷ fs) h (suc i) e = among fs (λ j y q. h (suc j) y q) i e
 
   -- a variant whose constructor is named

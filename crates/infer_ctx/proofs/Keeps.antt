@@ -14,7 +14,7 @@ use Rattle.hir_raw.specs.declared.raw.RawExpr.{RawExpr}
 use Rattle.hir_raw.specs.declared.raw.RawPat.{RawPat}
 use Rattle.hir_raw.specs.Signatures.{Signature, at_args}
 use Rattle.hir_facts.specs.Filled.{filled_agree}
-use Rattle.hir_raw.specs.Order.{Role, parameter, root, initializer, let_pattern, let_else, statement, tail, element, condition, then_branch, else_branch, scrutinee, arm_pattern, guard, arm, callee, argument, subpattern, pattern_literal, Node, the_body, inner}
+use Rattle.hir_raw.specs.Order.{Role, initializer, let_pattern, tail, element, condition, then_branch, else_branch, scrutinee, arm_pattern, guard, arm, argument, subpattern, Node, the_body, inner}
 use Rattle.hir_raw.specs.declared.raw.RawStmt.TheVariants as stmt
 use Rattle.hir_raw.specs.declared.raw.RawExpr.TheVariants as expr
 use Rattle.hir_raw.specs.declared.raw.RawPath.TheVariants as path
@@ -100,14 +100,11 @@ module _ (g : Given) (a b : InferenceResult) (x : Extends a b) where
   at_kept e t (u, h, inr k) = (u, x.exprs e u h, inr (mismatch_kept e k))
 
   misfits_as_kept : (p : PatId) (o : Option RawPat) → MisfitsAs a p o → MisfitsAs b p o
-  misfits_as_kept p None h = h
-  misfits_as_kept p (Some pat.Wild) h = h
-  misfits_as_kept p (Some (pat.Bind v sub)) h = h
   misfits_as_kept p (Some (pat.Tuple ps)) (m, h) = (m, x.pat_mismatches p m h)
   misfits_as_kept p (Some (pat.TupleStruct named ps)) (m, h) = (m, x.pat_mismatches p m h)
   misfits_as_kept p (Some (pat.Path named)) (m, h) = (m, x.pat_mismatches p m h)
   misfits_as_kept p (Some (pat.Lit e)) h = mismatch_kept e h
-  misfits_as_kept p (Some pat.Other) h = h
+  misfits_as_kept p _ h = h
 
   pub pat_at_kept : (p : PatId) (t : Ty) → PatIsAtOrMismatch g a p t → PatIsAtOrMismatch g b p t
   pat_at_kept p t (u, h, inl k) = (u, x.pats p u h, inl k)
@@ -327,27 +324,11 @@ module _ (g : Given) (a b : InferenceResult) (x : Extends a b) where
   })
 
   gives_kept : (n : Node) (role : Role) (t : Ty) → Gives g a n role t → Gives g b n role t
-  gives_kept n (parameter i) t h = h
-  gives_kept n root t h = h
-  gives_kept n (initializer w) t h = h
   gives_kept n (let_pattern (Some w) init) t (r, h) = (recorded_kept w r, h ∙ declared_kept w r)
   gives_kept n (let_pattern None (Some e)) t h = x.exprs e t h
-  gives_kept n (let_pattern None None) t h = h
-  gives_kept n let_else t h = h
-  gives_kept n (statement semicolon) t h = h
-  gives_kept n tail t h = h
-  gives_kept n (element i) t h = h
-  gives_kept n condition t h = h
-  gives_kept n then_branch t h = h
-  gives_kept n else_branch t h = h
-  gives_kept n scrutinee t h = h
   gives_kept n (arm_pattern e i) t h = x.exprs e t h
-  gives_kept n (guard i) t h = h
-  gives_kept n (arm i) t h = h
-  gives_kept n callee t h = h
-  gives_kept n (argument i) t h = h
   gives_kept n (subpattern i) t h = gives_part_kept n i t h
-  gives_kept n pattern_literal t h = h
+  gives_kept n _ t h = h
 
   pub incoming_kept : (p : PatId) (t : Ty) → Incoming g a p t → Incoming g b p t
   incoming_kept p t h = record {
@@ -373,27 +354,14 @@ module _ (g : Given) (a b : InferenceResult) (x : Extends a b) where
   })
 
   asks_of_kept : (n : ExprId) (role : Role) (t : Ty) → AsksOf g a n role t → AsksOf g b n role t
-  asks_of_kept n (parameter i) t h = h
-  asks_of_kept n root t h = h
   asks_of_kept n (initializer (Some w)) t (r, h) = (recorded_kept w r, h ∙ declared_kept w r)
-  asks_of_kept n (initializer None) t h = h
-  asks_of_kept n (let_pattern w i) t h = h
-  asks_of_kept n let_else t h = h
-  asks_of_kept n (statement true) t h = h
-  asks_of_kept n (statement false) t h = h
   asks_of_kept n tail t h = x.exprs n t h
   asks_of_kept n (element i) t (ts, h, k) = (ts, x.exprs n _ h, k)
-  asks_of_kept n condition t h = h
   asks_of_kept n then_branch t h = alternative_asked_kept n then_branch t h
   asks_of_kept n else_branch t h = alternative_asked_kept n else_branch t h
-  asks_of_kept n scrutinee t h = h
-  asks_of_kept n (arm_pattern e i) t h = h
-  asks_of_kept n (guard i) t h = h
   asks_of_kept n (arm i) t h = alternative_asked_kept n (arm i) t h
-  asks_of_kept n callee t h = h
   asks_of_kept n (argument i) t h = input_kept n i t h
-  asks_of_kept n (subpattern i) t h = h
-  asks_of_kept n pattern_literal t h = h
+  asks_of_kept n _ t h = h
 
   asks_kept : (n : Node) (role : Role) (t : Ty) → Asks g a n role t → Asks g b n role t
   asks_kept the_body role t h = h

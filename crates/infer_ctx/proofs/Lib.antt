@@ -1,8 +1,8 @@
 pub mod AtEach
 pub mod Carried
 pub mod Category
-pub mod Close
-pub mod Closed
+pub mod OwnRecord
+pub mod UnderClosings
 pub mod Expressions
 pub mod FineTypes
 pub mod Instances

@@ -43,10 +43,6 @@ module _ {X : Type 0} where
   pub drop-step : (xs : List X) (i : ℕ) (x : X) → i < length xs → drop i xs ≡ get_or xs i x ∷ drop (i + 1) xs
   drop-step xs i x h = rw (add-one, drop-cons xs i x)
 
-  -- what a read at i gave
-  pub read_at : (xs : List X) (i : ℕ) (d x : X) → i < length xs → get_or xs i d ≡ x → slice_get xs i ≡ Some x
-  read_at xs i d x h e = slice_get-get_or xs i d h ∙ ap (λ y. Some y) e
-
   pub found : (xs : List X) (n : ℕ) → n < length xs → (x : X) × (slice_get xs n ≡ Some x)
   found [] n h = absurd (omega arith)
   found (x ∷ xs) zero h = (x, refl)
@@ -135,10 +131,6 @@ module _ {A : Type 0} where
   length-own_set xs n None = refl
   length-own_set xs n (Some a) = length-set xs n (Some a)
 
-  pub At-own_set : (xs : List (Option A)) (n m : ℕ) (o : Option A) (b : A) → IsFree xs n → At xs m b → At (own_set xs n o) m b
-  At-own_set xs n m None b free h = h
-  At-own_set xs n m (Some a) b free h = At-set xs n m a b free h
-
   pub own_set-at : (xs : List (Option A)) (n : ℕ) (o : Option A) (a : A) → n < length xs → o ≡ Some a → At (own_set xs n o) n a
   own_set-at xs n None a h e = cc
   own_set-at xs n (Some b) a h e = (let k : b ≡ a = cc in rw k (slice_get-set_same xs n (Some a) h))
@@ -151,10 +143,6 @@ module _ {A : Type 0} where
   own_set-cases xs n m None b h k = inl k
   own_set-cases xs n m (Some a) b h k =
       elim (At-set_cases xs n m a b h k) [ inl q ↦ inl q | inr q ↦ inr (q.0, ap (λ x. Some x) q.1) ]
-
-  pub own_set-free : (xs : List (Option A)) (n : ℕ) (o : Option A) → IsFree xs n → IsFree (own_set xs n o) n ⊎ ((a : A) × (o ≡ Some a))
-  own_set-free xs n None free = inl free
-  own_set-free xs n (Some a) free = inr (a, refl)
 
 -- ---- mismatches, of which the first one stays
 noted-keeps_where : {A : Type 0} (xs : List (Option A)) (n k : ℕ) (m y : A) (o : Option (Option A)) → slice_get xs n ≡ o → At xs k y → At (noted_where o xs n m) k y

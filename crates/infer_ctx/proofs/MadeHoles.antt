@@ -5,7 +5,7 @@ use Rattle.std.proofs.lemmas.Bool.{or_cases}
 use Rattle.hir_types.specs.declared.ty.Ty.{Ty}
 use Rattle.hir_types.specs.declared.head.HoleKind.{HoleKind}
 use Rattle.hir_types.specs.Terms.{hole_number, chain, occurs, term, Term, node}
-use Rattle.hir_types.specs.TermLaws.{type_parts}
+use Rattle.hir_types.specs.TermLaws.{parts_of_types}
 use Rattle.hir_types.specs.declared.head.Head.{Head}
 use Rattle.hir_types.specs.declared.head.Head.TheVariants as head
 use Rattle.infer_table.specs.Table.{State, HolesAreOf, Grew}
@@ -24,15 +24,15 @@ holes_are_of_grown s t x g h k e =
     let P : List HoleKind → Type 0 = λ kinds. slice_get kinds (hole_number k) ≡ Some (hole_kind k) in
     subst P (sym g.kinds.1) (get_left s.substitution.kinds g.kinds.0 (hole_number k) (hole_kind k) (h k e))
 
-parts_are_of : (s : State) (ts : List Ty) → AllHolesAreOf s ts → AreOf s.substitution.kinds (chain (type_parts ts))
+parts_are_of : (s : State) (ts : List Ty) → AllHolesAreOf s ts → AreOf s.substitution.kinds (chain (parts_of_types ts))
 parts_are_of s [] h = are_of_leaf s.substitution.kinds head.End
-parts_are_of s (t ∷ ts) h = λ k e. elim (or_cases (occurs k (term t)) (occurs k (chain (type_parts ts))) e) [
+parts_are_of s (t ∷ ts) h = λ k e. elim (or_cases (occurs k (term t)) (occurs k (chain (parts_of_types ts))) e) [
   | inl q ↦ h.0 k q
   | inr q ↦ parts_are_of s ts h.1 k q
 ]
 
 -- of a head over these types
-pub node_holes_are_of : (s : State) (t : Ty) (h : Head) (ts : List Ty) → term t ≡ node h (type_parts ts) → AllHolesAreOf s ts → HolesAreOf s t
+pub node_holes_are_of : (s : State) (t : Ty) (h : Head) (ts : List Ty) → term t ≡ node h (parts_of_types ts) → AllHolesAreOf s ts → HolesAreOf s t
 node_holes_are_of s t h ts is made =
     let P : Term → Type 0 = AreOf s.substitution.kinds in
     subst P (sym is) (parts_are_of s ts made)

@@ -14,7 +14,7 @@ use Rattle.hir_types.specs.declared.ty.UintTy.{UintTy}
 use Rattle.hir_types.specs.Folds.{in_ty}
 use Rattle.hir_types.specs.Terms.{Term, chain, type_part, term, arg_term, ty_step, apply, terms_of, IsInt}
 use Rattle.hir_types.specs.TermLaws.{terms, term_at, arg_term_at, term_adt_types, term_fn_def_types, term_folded, term_int, term_uint, term_bool, term_char, term_tuple, term_param, term_error}
-use Rattle.hir_types.specs.Folding.{replaced_bool, replaced_char, replaced_int, replaced_uint, replaced_tuple, replaced_adt, replaced_fn_def, replaced_param, replaced_var, replaced_int_var, replaced_error}
+use Rattle.hir_types.specs.Replacements.{replaced_bool, replaced_char, replaced_int, replaced_uint, replaced_tuple, replaced_adt, replaced_fn_def, replaced_param, replaced_var, replaced_int_var, replaced_error}
 use Rattle.hir_types.specs.Instances.{types_args_folded}
 use Rattle.hir_types.specs.Subst.{Assignment, with_holes, folded}
 use Rattle.hir_types.proofs.Faithful.{term_tells}
@@ -31,16 +31,16 @@ use Rattle.hir_facts.specs.CarriedTypes.{carried_arg, carried_step, carried_boun
 use Rattle.infer_table.specs.Preserved.{whole, part, rest, IsMadeOf}
 use Rattle.infer_table.specs.Solutions.{Respects}
 use Rattle.infer_table.specs.Table.{State, HolesAreOf}
-use Rattle.infer_ctx.specs.Fine.{item_params, is_fine_head, HasFineHeads, IsFine}
+use Rattle.infer_ctx.specs.Fine.{item_params, is_fine_head, HasFineHeads, IsFine, Every}
 use Rattle.infer_ctx.specs.Closings.{IsClosing}
-use Rattle.infer_ctx.proofs.FineTypes.{Every, parts_width, all_holes, no_holes}
+use Rattle.infer_ctx.proofs.FineTypes.{parts_width, all_holes, no_holes}
 use Rattle.infer_ctx.proofs.MadeHoles.{node_holes_are_of}
 
-abbrev BoundTold : Type 0
-BoundTold = AliasBound × Unit {0}
+abbrev AnyBound : Type 0
+AnyBound = AliasBound × Unit {0}
 
-abbrev TraitTold : Type 0
-TraitTold = TraitRef × Unit {0}
+abbrev AnyTrait : Type 0
+AnyTrait = TraitRef × Unit {0}
 
 -- the argument is a type with the property
 abbrev IsTypeWith : (Ty → Type 0) → GenericArg → Type 0
@@ -74,28 +74,28 @@ pub record Cases (sc : Scope) (P : Ty → Type 0) : Type 0 where
   pub param : (n : ℕ) → nat_lt n sc.params ≡ true → P (ty.Param n)
 
 module _ (sc : Scope) (P : Ty → Type 0) (cases : Cases sc P) where
-  abbrev Told : Type 0
-  Told = (t : Ty) × (HasFineHeads sc t → P t)
+  abbrev HoldsIfFine : Type 0
+  HoldsIfFine = (t : Ty) × (HasFineHeads sc t → P t)
 
-  abbrev ArgTold : Type 0
-  ArgTold = (x : GenericArg) × (IsMadeOf (is_fine_head sc) part (arg_term x) → IsTypeWith P x)
+  abbrev ArgHoldsIfFine : Type 0
+  ArgHoldsIfFine = (x : GenericArg) × (IsMadeOf (is_fine_head sc) part (arg_term x) → IsTypeWith P x)
 
-  abbrev told_of : Ty-F ArgTold Told BoundTold TraitTold → Ty-F GenericArg Ty AliasBound TraitRef
-  told_of = map-Ty ArgTold Told BoundTold TraitTold GenericArg Ty AliasBound TraitRef (λ e. e.0) (λ e. e.0) (λ e. e.0) (λ e. e.0)
+  abbrev layer_of : Ty-F ArgHoldsIfFine HoldsIfFine AnyBound AnyTrait → Ty-F GenericArg Ty AliasBound TraitRef
+  layer_of = map-Ty ArgHoldsIfFine HoldsIfFine AnyBound AnyTrait GenericArg Ty AliasBound TraitRef (λ e. e.0) (λ e. e.0) (λ e. e.0) (λ e. e.0)
 
-  abbrev told_of_arg : GenericArg-F ArgTold Told BoundTold TraitTold → GenericArg-F GenericArg Ty AliasBound TraitRef
-  told_of_arg = map-GenericArg ArgTold Told BoundTold TraitTold GenericArg Ty AliasBound TraitRef (λ e. e.0) (λ e. e.0) (λ e. e.0) (λ e. e.0)
+  abbrev arg_layer_of : GenericArg-F ArgHoldsIfFine HoldsIfFine AnyBound AnyTrait → GenericArg-F GenericArg Ty AliasBound TraitRef
+  arg_layer_of = map-GenericArg ArgHoldsIfFine HoldsIfFine AnyBound AnyTrait GenericArg Ty AliasBound TraitRef (λ e. e.0) (λ e. e.0) (λ e. e.0) (λ e. e.0)
 
   heads_at : (x : Ty-F GenericArg Ty AliasBound TraitRef) → HasFineHeads sc (roll-Ty x) → IsMadeOf (is_fine_head sc) whole (ty_step (in_ty terms x))
   heads_at x h = (let Q : Term → Type 0 = IsMadeOf (is_fine_head sc) whole in subst Q (term_at x) h)
 
-  parts_told : (ts : List Told) → IsMadeOf (is_fine_head sc) rest (chain (map type_part (map term (map (λ e. e.0) ts)))) → Every P (map (λ e. e.0) ts)
-  parts_told [] h = tt
-  parts_told (t ∷ ts) h = (t.1 h.0.1, parts_told ts h.1)
+  parts_hold : (ts : List HoldsIfFine) → IsMadeOf (is_fine_head sc) rest (chain (map type_part (map term (map (λ e. e.0) ts)))) → Every P (map (λ e. e.0) ts)
+  parts_hold [] h = tt
+  parts_hold (t ∷ ts) h = (t.1 h.0.1, parts_hold ts h.1)
 
-  args_told : (xs : List ArgTold) → IsMadeOf (is_fine_head sc) rest (chain (map arg_term (map (λ e. e.0) xs))) → AreTypesWith P (map (λ e. e.0) xs)
-  args_told [] h = no_types P
-  args_told (x ∷ xs) h = one_more_type P x.0 (map (λ e. e.0) xs) (x.1 h.0) (args_told xs h.1)
+  args_hold : (xs : List ArgHoldsIfFine) → IsMadeOf (is_fine_head sc) rest (chain (map arg_term (map (λ e. e.0) xs))) → AreTypesWith P (map (λ e. e.0) xs)
+  args_hold [] h = no_types P
+  args_hold (x ∷ xs) h = one_more_type P x.0 (map (λ e. e.0) xs) (x.1 h.0) (args_hold xs h.1)
 
   abbrev Made : Term → Type 0
   Made = IsMadeOf (is_fine_head sc) whole
@@ -112,7 +112,7 @@ module _ (sc : Scope) (P : Ty → Type 0) (cases : Cases sc P) where
       let arity = ap (has_params (item_params sc.facts id)) (sym (parts_width are.types)) ∙ made.0 in
       subst (λ ys. P (ty.FnDef id ys)) (sym are.are) (cases.fn_def id are.types arity are.each)
 
-  layer_told : (y : Ty-F ArgTold Told BoundTold TraitTold) → HasFineHeads sc (roll-Ty (told_of y)) → P (roll-Ty (told_of y))
+  layer_told : (y : Ty-F ArgHoldsIfFine HoldsIfFine AnyBound AnyTrait) → HasFineHeads sc (roll-Ty (layer_of y)) → P (roll-Ty (layer_of y))
   layer_told Ty-F.Bool h = subst P (sym ty.rolls-Bool) cases.bool
   layer_told Ty-F.Char h = subst P (sym ty.rolls-Char) cases.char
   layer_told (Ty-F.Int i) h = subst P (sym (ty.rolls-Int i)) (cases.int i)
@@ -121,17 +121,17 @@ module _ (sc : Scope) (P : Ty → Type 0) (cases : Cases sc P) where
   layer_told (Ty-F.IntVar n) h = subst P (sym (ty.rolls-IntVar n)) (cases.int_var n)
   layer_told (Ty-F.Tuple ts) h =
       let us : List Ty = map (λ e. e.0) ts in
-      subst P (sym (ty.rolls-Tuple us)) (cases.tuple us (parts_told ts (heads_at (Ty-F.Tuple us) h).1))
+      subst P (sym (ty.rolls-Tuple us)) (cases.tuple us (parts_hold ts (heads_at (Ty-F.Tuple us) h).1))
   layer_told (Ty-F.Adt id xs) h =
       let us : List GenericArg = map (λ e. e.0) xs in
-      subst P (sym (ty.rolls-Adt id us)) (adt_told id us (subst (HasFineHeads sc) (ty.rolls-Adt id us) h) (args_told xs (heads_at (Ty-F.Adt id us) h).1))
+      subst P (sym (ty.rolls-Adt id us)) (adt_told id us (subst (HasFineHeads sc) (ty.rolls-Adt id us) h) (args_hold xs (heads_at (Ty-F.Adt id us) h).1))
   layer_told (Ty-F.FnDef id xs) h =
       let us : List GenericArg = map (λ e. e.0) xs in
-      subst P (sym (ty.rolls-FnDef id us)) (fn_def_told id us (subst (HasFineHeads sc) (ty.rolls-FnDef id us) h) (args_told xs (heads_at (Ty-F.FnDef id us) h).1))
+      subst P (sym (ty.rolls-FnDef id us)) (fn_def_told id us (subst (HasFineHeads sc) (ty.rolls-FnDef id us) h) (args_hold xs (heads_at (Ty-F.FnDef id us) h).1))
   layer_told (Ty-F.Param n) h = subst P (sym (ty.rolls-Param n)) (cases.param n (heads_at (Ty-F.Param n) h).0)
-  layer_told y h = absurd (true≢false (sym (heads_at (told_of y) h).0))
+  layer_told y h = absurd (true≢false (sym (heads_at (layer_of y) h).0))
 
-  layer_told_arg : (y : GenericArg-F ArgTold Told BoundTold TraitTold) → IsMadeOf (is_fine_head sc) part (arg_term (roll-GenericArg (told_of_arg y))) → IsTypeWith P (roll-GenericArg (told_of_arg y))
+  layer_told_arg : (y : GenericArg-F ArgHoldsIfFine HoldsIfFine AnyBound AnyTrait) → IsMadeOf (is_fine_head sc) part (arg_term (roll-GenericArg (arg_layer_of y))) → IsTypeWith P (roll-GenericArg (arg_layer_of y))
   layer_told_arg (GenericArg-F.Ty t) h =
       let Q : Term → Type 0 = IsMadeOf (is_fine_head sc) part in
       (t.0, arg.rolls-Ty t.0, t.1 (subst Q (arg_term_at (GenericArg-F.Ty t.0)) h).1)
@@ -139,10 +139,10 @@ module _ (sc : Scope) (P : Ty → Type 0) (cases : Cases sc P) where
       let Q : Term → Type 0 = IsMadeOf (is_fine_head sc) part in
       absurd (subst Q (arg_term_at (GenericArg-F.Const c)) h).0
 
-  step_told : (x : Ty-F GenericArg Ty AliasBound TraitRef) (y : Ty-F ArgTold Told BoundTold TraitTold) → told_of y ≡ x → HasFineHeads sc (roll-Ty x) → P (roll-Ty x)
+  step_told : (x : Ty-F GenericArg Ty AliasBound TraitRef) (y : Ty-F ArgHoldsIfFine HoldsIfFine AnyBound AnyTrait) → layer_of y ≡ x → HasFineHeads sc (roll-Ty x) → P (roll-Ty x)
   step_told x y is = subst (λ z. HasFineHeads sc (roll-Ty z) → P (roll-Ty z)) is (layer_told y)
 
-  step_told_arg : (x : GenericArg-F GenericArg Ty AliasBound TraitRef) (y : GenericArg-F ArgTold Told BoundTold TraitTold) → told_of_arg y ≡ x → IsMadeOf (is_fine_head sc) part (arg_term (roll-GenericArg x)) → IsTypeWith P (roll-GenericArg x)
+  step_told_arg : (x : GenericArg-F GenericArg Ty AliasBound TraitRef) (y : GenericArg-F ArgHoldsIfFine HoldsIfFine AnyBound AnyTrait) → arg_layer_of y ≡ x → IsMadeOf (is_fine_head sc) part (arg_term (roll-GenericArg x)) → IsTypeWith P (roll-GenericArg x)
   step_told_arg x y is = subst (λ z. IsMadeOf (is_fine_head sc) part (arg_term (roll-GenericArg z)) → IsTypeWith P (roll-GenericArg z)) is (layer_told_arg y)
 
   pub over_fine : (t : Ty) → HasFineHeads sc t → P t
@@ -169,11 +169,11 @@ module _ (P : Ty → Type 0) (cases : CarriedCases P) where
   abbrev ArgCarried : Type 0
   ArgCarried = (x : GenericArg) × (is_carried_arg x ≡ true → IsTypeWith P x)
 
-  abbrev carried_of : Ty-F ArgCarried ToldCarried BoundTold TraitTold → Ty-F GenericArg Ty AliasBound TraitRef
-  carried_of = map-Ty ArgCarried ToldCarried BoundTold TraitTold GenericArg Ty AliasBound TraitRef (λ e. e.0) (λ e. e.0) (λ e. e.0) (λ e. e.0)
+  abbrev carried_of : Ty-F ArgCarried ToldCarried AnyBound AnyTrait → Ty-F GenericArg Ty AliasBound TraitRef
+  carried_of = map-Ty ArgCarried ToldCarried AnyBound AnyTrait GenericArg Ty AliasBound TraitRef (λ e. e.0) (λ e. e.0) (λ e. e.0) (λ e. e.0)
 
-  abbrev carried_of_arg : GenericArg-F ArgCarried ToldCarried BoundTold TraitTold → GenericArg-F GenericArg Ty AliasBound TraitRef
-  carried_of_arg = map-GenericArg ArgCarried ToldCarried BoundTold TraitTold GenericArg Ty AliasBound TraitRef (λ e. e.0) (λ e. e.0) (λ e. e.0) (λ e. e.0)
+  abbrev carried_of_arg : GenericArg-F ArgCarried ToldCarried AnyBound AnyTrait → GenericArg-F GenericArg Ty AliasBound TraitRef
+  carried_of_arg = map-GenericArg ArgCarried ToldCarried AnyBound AnyTrait GenericArg Ty AliasBound TraitRef (λ e. e.0) (λ e. e.0) (λ e. e.0) (λ e. e.0)
 
   parts_carried : (ts : List ToldCarried) → AreCarriedTypes (map (λ e. e.0) ts) → Every P (map (λ e. e.0) ts)
   parts_carried [] h = tt
@@ -187,7 +187,7 @@ module _ (P : Ty → Type 0) (cases : CarriedCases P) where
       let all = list_all is_carried_arg (map (λ e. e.0) xs) in
       one_more_type P x.0 (map (λ e. e.0) xs) (x.1 (first_so (is_carried_arg x.0) all h)) (args_carried xs (second_so (is_carried_arg x.0) all h))
 
-  layer_carried : (y : Ty-F ArgCarried ToldCarried BoundTold TraitTold) → IsCarriedType (roll-Ty (carried_of y)) → P (roll-Ty (carried_of y))
+  layer_carried : (y : Ty-F ArgCarried ToldCarried AnyBound AnyTrait) → IsCarriedType (roll-Ty (carried_of y)) → P (roll-Ty (carried_of y))
   layer_carried Ty-F.Bool h = subst P (sym ty.rolls-Bool) cases.bool
   layer_carried Ty-F.Char h = subst P (sym ty.rolls-Char) cases.char
   layer_carried (Ty-F.Int i) h = subst P (sym (ty.rolls-Int i)) (cases.int i)
@@ -207,14 +207,14 @@ module _ (P : Ty → Type 0) (cases : CarriedCases P) where
   layer_carried (Ty-F.Param n) h = subst P (sym (ty.rolls-Param n)) (cases.param n)
   layer_carried y h = absurd (true≢false (sym h ∙ fold-roll-Ty Bool Bool Bool Bool carried_arg carried_step carried_bound carried_trait (carried_of y)))
 
-  layer_carried_arg : (y : GenericArg-F ArgCarried ToldCarried BoundTold TraitTold) → is_carried_arg (roll-GenericArg (carried_of_arg y)) ≡ true → IsTypeWith P (roll-GenericArg (carried_of_arg y))
+  layer_carried_arg : (y : GenericArg-F ArgCarried ToldCarried AnyBound AnyTrait) → is_carried_arg (roll-GenericArg (carried_of_arg y)) ≡ true → IsTypeWith P (roll-GenericArg (carried_of_arg y))
   layer_carried_arg (GenericArg-F.Ty t) h = (t.0, arg.rolls-Ty t.0, t.1 (sym (carried_type_arg t.0) ∙ (ap is_carried_arg (sym (arg.rolls-Ty t.0)) ∙ h)))
   layer_carried_arg (GenericArg-F.Const c) h = absurd (true≢false (sym h ∙ fold-roll-GenericArg Bool Bool Bool Bool carried_arg carried_step carried_bound carried_trait (GenericArg-F.Const c)))
 
-  step_carried : (x : Ty-F GenericArg Ty AliasBound TraitRef) (y : Ty-F ArgCarried ToldCarried BoundTold TraitTold) → carried_of y ≡ x → IsCarriedType (roll-Ty x) → P (roll-Ty x)
+  step_carried : (x : Ty-F GenericArg Ty AliasBound TraitRef) (y : Ty-F ArgCarried ToldCarried AnyBound AnyTrait) → carried_of y ≡ x → IsCarriedType (roll-Ty x) → P (roll-Ty x)
   step_carried x y is = subst (λ z. IsCarriedType (roll-Ty z) → P (roll-Ty z)) is (layer_carried y)
 
-  step_carried_arg : (x : GenericArg-F GenericArg Ty AliasBound TraitRef) (y : GenericArg-F ArgCarried ToldCarried BoundTold TraitTold) → carried_of_arg y ≡ x → is_carried_arg (roll-GenericArg x) ≡ true → IsTypeWith P (roll-GenericArg x)
+  step_carried_arg : (x : GenericArg-F GenericArg Ty AliasBound TraitRef) (y : GenericArg-F ArgCarried ToldCarried AnyBound AnyTrait) → carried_of_arg y ≡ x → is_carried_arg (roll-GenericArg x) ≡ true → IsTypeWith P (roll-GenericArg x)
   step_carried_arg x y is = subst (λ z. is_carried_arg (roll-GenericArg z) ≡ true → IsTypeWith P (roll-GenericArg z)) is (layer_carried_arg y)
 
   pub over_carried : (t : Ty) → IsCarriedType t → P t

@@ -15,7 +15,7 @@ use Rattle.hir_raw.specs.declared.raw.RawFn.{RawFn}
 use Rattle.hir_raw.specs.declared.raw.RawVariant.{RawVariant}
 use Rattle.hir_raw.specs.Scope.{adt_params}
 use Rattle.hir_raw.specs.Signatures.{Signature, fn_signature, signature_of, signature_by, ctor_signature, field_types, own_adt, own_adt_at, type_args, at_args}
-use Rattle.hir_raw.specs.Types.{written_type}
+use Rattle.hir_raw.specs.WrittenTypes.{written_type}
 use Rattle.hir_raw.specs.declared.raw.RawCtor.TheVariants as ctor
 use Rattle.infer_ctx.specs.declared.given.CallableSig.{CallableSig}
 use Rattle.infer_ctx.specs.Callables.{IsFnSig, IsCtorSig, IsSigOf, IsSigOfItem}
@@ -43,7 +43,7 @@ module _ (raw : RawFacts) (sig : CallableSig) where
       let own : record { params = n; inputs = field_types raw.types x; output = own_adt x.adt n } ≡ σ = cc in
       let size : length ts ≡ n = count ∙ sym (ap (λ (s : Signature). s.params) own) in
       subst (λ s. IsSigOf s ts sig) own (record {
-        inputs = h.inputs ∙ sym (map_twice (at_args ts) (λ (f : RawField). written_type raw.types f.ty) x.fields);
+        inputs = h.inputs ∙ sym (map_twice (at_args ts) (λ (f : RawField). written_type raw.types f.type_) x.fields);
         output = h.output ∙ (sym (own_adt_at x.adt ts) ∙ ap (λ m. at_args ts (own_adt x.adt m)) size);
       })
 

@@ -21,7 +21,7 @@ use Rattle.hir_types.specs.declared.ids.ExprOrPatId.TheVariants as node
 use Rattle.hir_raw.specs.declared.raw.RawCtor.{RawCtor}
 use Rattle.hir_raw.specs.Signatures.{type_args, ctor_type_by, Signature, at_args, ctor_type, signature_of}
 use Rattle.hir_counts.specs.Standing.{HasNoHole}
-use Rattle.hir_raw.specs.Types.{written_type}
+use Rattle.hir_raw.specs.WrittenTypes.{written_type}
 use Rattle.hir_raw.specs.declared.raw.RawPath.{RawPath}
 use Rattle.hir_raw.specs.declared.raw.RawVariant.{RawVariant}
 use Rattle.hir_raw.specs.declared.raw.RawExpr.{RawExpr}
@@ -156,10 +156,6 @@ module _ (g : Given) where
 
   pub no_telling_match : (e d : ExprId) (arms : List RawArm) → At e ≡ Some (expr.Match d arms) → (t : Ty) → Tells g e t
   no_telling_match e d arms is t = tells_by e (Some (expr.Match d arms)) is t (λ s up. absurd up) (λ h has. absurd has)
-
-  -- an expression of a form that is not carried
-  pub no_telling_other : (e : ExprId) → At e ≡ Some expr.Other → (t : Ty) → Tells g e t
-  no_telling_other e is t = tells_by e (Some expr.Other) is t (λ s up. absurd up) (λ h has. absurd has)
 
   pub literal_tells : (e : ExprId) (l : RawLiteral) (t : Ty) → At e ≡ Some (expr.Lit l) → ((s : Ty) → IsOwnType l s → t ≡ s) → Tells g e t
   literal_tells e l t is own = tells_by e (Some (expr.Lit l)) is t own (λ h has. absurd has)

@@ -1,14 +1,13 @@
 -- Where holes are filled a head stays, and what tells the type that an expression has by itself comes to that type, which has
 -- no holes.
-use Rattle.std.specs.Prelude.{◌≡◌, map, Some, None, ℕ, List, [], slice_get, Option, option_map, refl}
-use Rattle.std.specs.Option.{option_and_then}
+use Rattle.std.specs.Prelude.{◌≡◌, map, Some, None, ℕ, List, [], slice_get}
 use Rattle.std.proofs.Common.{ap, sym, ◌∙◌, subst}
 use Rattle.std.proofs.lemmas.List.{length-map}
 use Rattle.hir_types.specs.declared.ty.AliasBound.{AliasBound}
 use Rattle.hir_types.specs.declared.ty.GenericArg.{GenericArg}
 use Rattle.hir_types.specs.declared.ty.TraitRef.{TraitRef}
 use Rattle.hir_types.specs.declared.ty.Ty.{Ty, Ty-F, out-Ty, out-roll-Ty, roll-Ty, roll-out-Ty}
-use Rattle.hir_types.specs.Folding.{replacing, at_ty, replaced_int, replaced_uint, replaced_adt, replaced_bool, replaced_char}
+use Rattle.hir_types.specs.Replacements.{replacing, at_ty, replaced_int, replaced_uint, replaced_adt, replaced_bool, replaced_char}
 use Rattle.hir_types.specs.Folds.{in_ty}
 use Rattle.hir_types.specs.Subst.{Replacement, const_replaced, ty_layer, replaced, Assignment, with_holes, folded}
 use Rattle.hir_types.specs.declared.ids.TypeRefId.{TypeRefId}
@@ -17,27 +16,17 @@ use Rattle.hir_types.specs.Types.{integer_type}
 use Rattle.hir_types.specs.declared.ids.AdtId.{AdtId}
 use Rattle.hir_types.specs.declared.ids.ExprId.{ExprId}
 use Rattle.hir_types.specs.Instances.{instance_at_types}
-use Rattle.hir_types.specs.declared.ids.CallableDefId.{CallableDefId}
-use Rattle.hir_types.specs.declared.ids.DefWithBodyId.{DefWithBodyId}
 use Rattle.hir_types.specs.declared.ty.Ty.TheVariants as ty
 use Rattle.hir_types.specs.declared.ty.IntegerTy.TheVariants as integer
-use Rattle.hir_types.specs.declared.ids.CallableDefId.TheVariants as callable
 use Rattle.hir_raw.specs.declared.raw.RawType.{RawType}
 use Rattle.hir_facts.specs.Filled.{filled_written, filled_folded}
 use Rattle.hir_counts.specs.Standing.{HasNoHole}
-use Rattle.hir_raw.specs.Types.{written_type}
+use Rattle.hir_raw.specs.WrittenTypes.{written_type}
 use Rattle.hir_raw.specs.declared.raw.RawLiteral.{RawLiteral}
-use Rattle.hir_raw.specs.Signatures.{Signature, fn_signature, signature_by, ctor_signature, signature_of, own_adt}
-use Rattle.hir_raw.specs.declared.raw.RawCtor.{RawCtor}
+use Rattle.hir_raw.specs.Signatures.{Signature}
 use Rattle.hir_raw.specs.declared.raw.RawFacts.{RawFacts}
-use Rattle.hir_raw.specs.declared.raw.RawFn.{RawFn}
-use Rattle.hir_raw.specs.declared.raw.RawVariant.{RawVariant}
 use Rattle.hir_laws.specs.Lawful.{IsLawful}
-use Rattle.hir_laws.specs.NoHoles.{output_has_no_hole, definition_input_has_no_hole}
-use Rattle.hir_raw.specs.Scope.{adt_params}
-use Rattle.hir_laws.specs.Bodies.{inputs_of}
 use Rattle.hir_raw.specs.declared.raw.RawLiteral.TheVariants as literal
-use Rattle.hir_raw.specs.declared.raw.RawCtor.TheVariants as ctor
 use Rattle.infer_result.specs.Heads.{Outermost, tuple, outermost_step, HasHead}
 use Rattle.infer_result.specs.Kinds.Literal.{IsOwnType}
 use Rattle.infer_result.specs.Places.{Given}
@@ -104,38 +93,3 @@ module _ (g : Given) (inputs : (i : ℕ) (w : TypeRefId) → slice_get g.inputs 
   -- what tells the type comes to it
   pub type_kept : (e : ExprId) (t s : Ty) → Tells g e t → Up g e s → folded a t ≡ s
   type_kept e t s tells up = ap (folded a) (tells.type s up) ∙ up_closed e s up
-
--- ---- so it is among lawful facts
-module _ (raw : RawFacts) (law : IsLawful raw) where
-  fn_output_closed : (f : ℕ) (o : Option RawFn) (σ : Signature) → slice_get raw.fns f ≡ o → option_map (fn_signature raw.types) o ≡ Some σ → (a : Assignment) → folded a σ.output ≡ σ.output
-  fn_output_closed f None σ found made a = absurd (cc)
-  fn_output_closed f (Some x) σ found made a =
-      let is : fn_signature raw.types x ≡ σ = cc in
-      subst (λ (σ : Signature). folded a σ.output ≡ σ.output) is (written_closed raw.types x.output (output_has_no_hole raw law f x found) a)
-
-  by_ctor : (k : RawCtor) (n : ℕ) (x : RawVariant) (σ : Signature) → signature_by k raw.types n x ≡ Some σ → σ.params ≡ 0 → (a : Assignment) → folded a σ.output ≡ σ.output
-  by_ctor ctor.Unit n x σ made none a = absurd (cc)
-  by_ctor ctor.Record n x σ made none a = absurd (cc)
-  by_ctor ctor.Tuple n x σ made none a =
-      let count : n ≡ σ.params = cc in
-      let is : own_adt x.adt n ≡ σ.output = cc in
-      closed_by a σ.output (ty.Adt x.adt []) (sym is ∙ ap (own_adt x.adt) (count ∙ none)) (adt_closed a x.adt)
-
-  by_params : (p : Option ℕ) (x : RawVariant) (σ : Signature) → option_and_then (λ n. ctor_signature raw.types n x) p ≡ Some σ → σ.params ≡ 0 → (a : Assignment) → folded a σ.output ≡ σ.output
-  by_params None x σ made none a = absurd (cc)
-  by_params (Some n) x σ made none a = by_ctor x.ctor n x σ made none a
-
-  by_variant : (o : Option RawVariant) (σ : Signature) → option_and_then (λ x. option_and_then (λ n. ctor_signature raw.types n x) (adt_params raw x.adt)) o ≡ Some σ → σ.params ≡ 0 → (a : Assignment) → folded a σ.output ≡ σ.output
-  by_variant None σ made none a = absurd (cc)
-  by_variant (Some x) σ made none a = by_params (adt_params raw x.adt) x σ made none a
-
-  -- of an item without generic parameters
-  pub lawful_output_closed : (id : CallableDefId) (σ : Signature) → signature_of raw id ≡ Some σ → σ.params ≡ 0 → (a : Assignment) → folded a σ.output ≡ σ.output
-  lawful_output_closed (callable.FunctionId f) σ made none a = fn_output_closed f.0 (slice_get raw.fns f.0) σ refl made a
-  lawful_output_closed (callable.VariantId v) σ made none a = by_variant (slice_get raw.variants v.0) σ made none a
-
-pub lawful_outputs : (g : Given) → IsLawful g.scope.facts → (e : ExprId) (σ : Signature) → CallsNonGeneric g e σ → (a : Assignment) → folded a σ.output ≡ σ.output
-lawful_outputs g law e σ c a = lawful_output_closed g.scope.facts law c.item σ c.signature c.non_generic a
-
-pub lawful_inputs : (raw : RawFacts) → IsLawful raw → (d : DefWithBodyId) (i : ℕ) (w : TypeRefId) → slice_get (inputs_of raw d) i ≡ Some w → (a : Assignment) → folded a (written_type raw.types w) ≡ written_type raw.types w
-lawful_inputs raw law d i w found a = written_closed raw.types w (definition_input_has_no_hole raw law d i w found) a

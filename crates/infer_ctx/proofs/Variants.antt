@@ -24,28 +24,16 @@ entry_of f (x ∷ xs) (suc n) y h = entry_of f xs n y h
 
 names_ctor : (p : RawPath) (v : VariantId) → path_variant p ≡ Some v → p ≡ path.Ctor v
 names_ctor (path.Ctor w) v h = (let k : w ≡ v = cc in ap path.Ctor k)
-names_ctor (path.Local w) v h = absurd (cc)
-names_ctor (path.Function f) v h = absurd (cc)
-names_ctor path.Other v h = absurd (cc)
+names_ctor _ v h = absurd (cc)
 
 is_ctor_path : (x : RawExpr) (v : VariantId) → expr_variant x ≡ Some v → x ≡ expr.Path (path.Ctor v)
 is_ctor_path (expr.Path p) v h = ap expr.Path (names_ctor p v h)
-is_ctor_path (expr.Lit l) v h = absurd (cc)
-is_ctor_path (expr.Block label stmts last) v h = absurd (cc)
-is_ctor_path (expr.Tuple es) v h = absurd (cc)
-is_ctor_path (expr.If c first other) v h = absurd (cc)
-is_ctor_path (expr.Match e arms) v h = absurd (cc)
-is_ctor_path (expr.Call f args) v h = absurd (cc)
-is_ctor_path expr.Other v h = absurd (cc)
+is_ctor_path _ v h = absurd (cc)
 
 is_ctor_pat : (b : RawBody) (p : PatId) (x : RawPat) (v : VariantId) → slice_get b.pats p.0 ≡ Some x → pat_variant x ≡ Some v → IsVariantPat b p v
 is_ctor_pat b p (pat.TupleStruct w ps) v is h = (let k : w ≡ v = cc in inr (ps, is ∙ ap (λ u. Some (pat.TupleStruct u ps)) k))
 is_ctor_pat b p (pat.Path q) v is h = inl (is ∙ ap (λ u. Some (pat.Path u)) (names_ctor q v h))
-is_ctor_pat b p pat.Wild v is h = absurd (cc)
-is_ctor_pat b p (pat.Bind w sub) v is h = absurd (cc)
-is_ctor_pat b p (pat.Tuple ps) v is h = absurd (cc)
-is_ctor_pat b p (pat.Lit e) v is h = absurd (cc)
-is_ctor_pat b p pat.Other v is h = absurd (cc)
+is_ctor_pat b p _ v is h = absurd (cc)
 
 module _ (b : RawBody) (t : InferenceResult) (h : RecordsVariants b t) where
   -- only constructors are recorded

@@ -18,7 +18,7 @@ use Rattle.hir_facts.specs.CarriedTypes.{written_carried, carried_param}
 use Rattle.hir_laws.specs.LawfulFacts.{type_ids, types_carried}
 use Rattle.hir_laws.specs.Lawful.{IsLawful}
 use Rattle.hir_raw.specs.Scope.{Scope, adt_params, has_params, params_of, scope_of}
-use Rattle.hir_raw.specs.Types.{type_parts, written_type, filled_by, filled_within, filled_type, StandsIn, is_itself, in_part}
+use Rattle.hir_raw.specs.WrittenTypes.{type_parts, written_type, filled_by, filled_within, filled_type, StandsIn, is_itself, in_part}
 use Rattle.hir_facts.specs.Filled.{filled_written}
 use Rattle.hir_counts.specs.Standing.{HasNoHole}
 use Rattle.hir_laws.specs.WrittenFits.{FitsUnder, OwnFits, own_fits, parts_fit, return_fits}
@@ -28,9 +28,9 @@ use Rattle.hir_laws.specs.NoHoles.{output_has_no_hole}
 use Rattle.hir_raw.specs.declared.raw.RawType.TheVariants as type
 use Rattle.hir_ids.specs.Carried as laws
 use Rattle.infer_table.specs.Table.{State, new_state}
-use Rattle.infer_ctx.specs.Fine.{HasFineHeads, IsFine, IsWritten}
+use Rattle.infer_ctx.specs.Fine.{HasFineHeads, IsFine, IsWritten, AllFine}
 use Rattle.infer_ctx.proofs.Lists.{found}
-use Rattle.infer_ctx.proofs.FineTypes.{AllFine, heads_param, fine_bool, fine_char, fine_integer, fine_tuple, fine_adt}
+use Rattle.infer_ctx.proofs.FineTypes.{heads_param, fine_bool, fine_char, fine_integer, fine_tuple, fine_adt}
 use Rattle.infer_ctx.proofs.OverTypes.{carried_fine}
 
 module _ (raw : RawFacts) (law : IsLawful raw) (count : ℕ) where
@@ -49,7 +49,7 @@ module _ (raw : RawFacts) (law : IsLawful raw) (count : ℕ) where
     filled_parts f [] each = tt
     filled_parts f (t ∷ ts) each = (each 0 t refl, filled_parts f ts (λ k u e. each (suc k) u e))
 
-    filled_by_fine : (i : ℕ) (f : ℕ → Ty) (x : RawType) → slice_get raw.types i ≡ Some x → AreGood i → OwnFits raw count x → IsTrue (laws.is_carried_type x) → ((k : ℕ) (t : TypeRefId) → slice_get (type_parts x) k ≡ Some t → Good (f t.0)) → Good (filled_by (h i) f (Some x))
+    filled_by_fine : (i : ℕ) (f : ℕ → Ty) (x : RawType) → slice_get raw.types i ≡ Some x → AreGood i → OwnFits raw count x → IsTrue (laws.is_carried_written_type x) → ((k : ℕ) (t : TypeRefId) → slice_get (type_parts x) k ≡ Some t → Good (f t.0)) → Good (filled_by (h i) f (Some x))
     filled_by_fine i f type.Bool at good o c each = fine_bool Here state
     filled_by_fine i f type.Char at good o c each = fine_char Here state
     filled_by_fine i f (type.Integer n) at good o c each = fine_integer Here state n

@@ -8,7 +8,7 @@ use Rattle.hir_types.specs.Subst.{replaced}
 use Rattle.hir_types.specs.declared.ids.CallableDefId.{CallableDefId}
 use Rattle.hir_types.specs.declared.ty.Ty.TheVariants as ty
 use Rattle.hir_raw.specs.declared.raw.RawType.{RawType}
-use Rattle.hir_raw.specs.Types.{written_type}
+use Rattle.hir_raw.specs.WrittenTypes.{written_type}
 use Rattle.hir_raw.specs.declared.raw.RawField.{RawField}
 use Rattle.hir_raw.specs.declared.raw.RawFn.{RawFn}
 use Rattle.hir_raw.specs.declared.raw.RawVariant.{RawVariant}
@@ -21,7 +21,7 @@ abbrev pub written_at : List RawType → List GenericArg → TypeRefId → Ty
 written_at types xs w = replaced (with_params xs) (written_type types w)
 
 abbrev pub field_at : List RawType → List GenericArg → RawField → Ty
-field_at types xs f = written_at types xs f.ty
+field_at types xs f = written_at types xs f.type_
 
 -- it is what the function takes and gives at these arguments
 pub record IsFnSig (types : List RawType) (x : RawFn) (xs : List GenericArg) (sig : CallableSig) : Type 0 where

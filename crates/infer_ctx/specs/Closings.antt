@@ -71,20 +71,20 @@ closed_mismatches a asked [] = []
 closed_mismatches a asked (x ∷ xs) = asked_or_noted a (first_asked asked) x ∷ closed_mismatches a (others_asked asked) xs
 
 abbrev pub closed_table : Assignment → List (Option TypeMismatch) → InferenceResult → InferenceResult
-closed_table a asked t = record {
-  type_of_expr = closed_types a t.type_of_expr;
-  type_of_pat = closed_types a t.type_of_pat;
-  type_of_binding = closed_types a t.type_of_binding;
-  type_of_placeholder = closed_types a t.type_of_placeholder;
-  binding_modes = t.binding_modes;
-  expr_mismatches = closed_mismatches a asked t.expr_mismatches;
-  expr_diagnostics = said a t.seen t.expr_diagnostics;
-  pat_mismatches = map (option_map (closed_mismatch a)) t.pat_mismatches;
-  pat_diagnostics = t.pat_diagnostics;
-  expr_variants = t.expr_variants;
-  pat_variants = t.pat_variants;
-  seen = t.seen;
-  general = t.general;
+closed_table a asked r = record {
+  type_of_expr = closed_types a r.type_of_expr;
+  type_of_pat = closed_types a r.type_of_pat;
+  type_of_binding = closed_types a r.type_of_binding;
+  type_of_placeholder = closed_types a r.type_of_placeholder;
+  binding_modes = r.binding_modes;
+  expr_mismatches = closed_mismatches a asked r.expr_mismatches;
+  expr_diagnostics = said a r.seen r.expr_diagnostics;
+  pat_mismatches = map (option_map (closed_mismatch a)) r.pat_mismatches;
+  pat_diagnostics = r.pat_diagnostics;
+  expr_variants = r.expr_variants;
+  pat_variants = r.pat_variants;
+  seen = r.seen;
+  general = r.general;
 }
 
 abbrev pub found_under : Assignment → InferenceContext → Found

@@ -9,7 +9,7 @@ use Rattle.hir_raw.specs.declared.raw.RawFacts.{RawFacts}
 use Rattle.hir_raw.specs.Signatures.{signature_of}
 use Rattle.hir_raw.specs.Scope.{Scope, adt_params, has_params}
 use Rattle.hir_facts.specs.CarriedTypes.{IsCarriedType}
-use Rattle.hir_raw.specs.Types.{written_type}
+use Rattle.hir_raw.specs.WrittenTypes.{written_type}
 use Rattle.infer_table.specs.Preserved.{Shape, whole, IsMadeOf}
 use Rattle.infer_table.specs.Table.{State, HolesAreOf}
 use Rattle.infer_table.specs.declared.waiting.WaitingPair.{WaitingPair}
@@ -40,6 +40,15 @@ HasFineHeads sc t = IsMadeOf (is_fine_head sc) whole (term t)
 pub record IsFine (sc : Scope) (state : State) (t : Ty) : Type 0 where
   pub holes : HolesAreOf state t
   pub heads : HasFineHeads sc t
+
+-- each type of the list has the property
+abbrev pub Every : (Ty → Type 0) → List Ty → Type 0
+Every P [] = Unit {0}
+Every P (t ∷ ts) = P t × Every P ts
+
+-- each of the types is fine
+abbrev pub AllFine : Scope → State → List Ty → Type 0
+AllFine sc state = Every (IsFine sc state)
 
 abbrev pub IsFineExpectation : Scope → State → Option Ty → Type 0
 IsFineExpectation sc state None = Unit {0}

@@ -24,9 +24,9 @@ pub record Found : Type 0 where
   pub holes : Assignment
 
 -- each constructor that is named is recorded, and nothing else
-pub record RecordsVariants (b : RawBody) (t : InferenceResult) : Type 0 where
-  pub exprs : t.expr_variants ≡ map expr_variant b.exprs
-  pub pats : t.pat_variants ≡ map pat_variant b.pats
+pub record RecordsVariants (b : RawBody) (r : InferenceResult) : Type 0 where
+  pub exprs : r.expr_variants ≡ map expr_variant b.exprs
+  pub pats : r.pat_variants ≡ map pat_variant b.pats
 
 -- nothing yet: the walk has come to the body alone, and what constructors are named is known
 abbrev pub nothing_found : Assignment → RawBody → Found
@@ -65,10 +65,6 @@ with_mode c p m = record c { result = writes.mode c.result p m }
 
 abbrev pub with_binding_ty : Found → BindingId → Ty → Found
 with_binding_ty c v t = record c { result = writes.binding_ty c.result v t }
-
--- the `_` that is type k stands for t
-abbrev pub with_placeholder_ty : Found → ℕ → Ty → Found
-with_placeholder_ty c k t = record c { result = writes.placeholder_ty c.result k t }
 
 -- the look-up failed, which is said unless `{unknown}` stands in its type
 abbrev pub with_seen : Found → Seen → Found

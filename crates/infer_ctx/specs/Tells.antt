@@ -6,7 +6,7 @@ use Rattle.hir_types.specs.declared.ids.BindingId.{BindingId}
 use Rattle.hir_types.specs.declared.ids.PatId.{PatId}
 use Rattle.hir_types.specs.declared.ids.TypeRefId.{TypeRefId}
 use Rattle.hir_raw.specs.Order.{Binds}
-use Rattle.hir_raw.specs.Types.{filled_type}
+use Rattle.hir_raw.specs.WrittenTypes.{filled_type}
 use Rattle.hir_raw.specs.declared.raw.RawExpr.TheVariants as expr
 use Rattle.hir_raw.specs.declared.raw.RawPath.TheVariants as path
 use Rattle.infer_result.specs.Places.{Given}

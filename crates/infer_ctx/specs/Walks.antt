@@ -63,7 +63,7 @@ pub record Extends (old new : InferenceResult) : Type 0 where
 
 -- each type of the table is of a carried kind
 abbrev pub IsCarriedTable : InferenceResult → Type 0
-IsCarriedTable t = AllTypes IsCarriedType t
+IsCarriedTable r = AllTypes IsCarriedType r
 
 -- What is kept of the look-up is so and is said, and the type that is recorded is the one that was looked at, holes closed.
 pub record IsSeenAs (g : Given) (c : Found) (x : Seen) : Type 0 where

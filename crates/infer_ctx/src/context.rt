@@ -52,8 +52,7 @@ fn expr_variant(expr: &RawExpr) -> Option<VariantId>
 {
     match expr {
         RawExpr::Path(path) => path_variant(*path),
-        RawExpr::Lit(_) | RawExpr::Block { .. } | RawExpr::Tuple(_) | RawExpr::If { .. } => None,
-        RawExpr::Match { .. } | RawExpr::Call { .. } | RawExpr::Other => None,
+        _ => None,
     }
 }
 
@@ -64,8 +63,7 @@ fn pat_variant(pat: &RawPat) -> Option<VariantId>
     match pat {
         RawPat::TupleStruct { variant, args: _ } => Some(*variant),
         RawPat::Path(path) => path_variant(*path),
-        RawPat::Wild | RawPat::Bind { .. } | RawPat::Tuple(_) | RawPat::Lit(_) | RawPat::Other =>
-            None,
+        _ => None,
     }
 }
 

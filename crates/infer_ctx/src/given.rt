@@ -1,6 +1,6 @@
 //! What inference of a body reads.
 ghost use Rattle.std.specs.Prelude.{◌≡◌, ◌<◌, IfOk, List, Some, length, map, slice_get};
-ghost use Rattle.hir_raw.specs.Types.{written_type};
+ghost use Rattle.hir_raw.specs.WrittenTypes.{written_type};
 ghost use Rattle.hir_raw.specs.declared.raw.RawFn.{RawFn};
 ghost use Rattle.hir_raw.specs.declared.raw.RawVariant.{RawVariant};
 ghost use Rattle.hir_types.specs.declared.ty.Ty.TheVariants as ty;
@@ -99,14 +99,8 @@ impl GivenBody<'_> {
         ensures { IfOk result (λ sig. IsSigOfItem self.now.facts.now (ty.FnDef item args.now) sig) }
     {
         match item {
-            CallableDefId::FunctionId(function) => {
-                let sig = self.fn_sig(alloc, function, args)?;
-                Ok(sig)
-            }
-            CallableDefId::VariantId(variant) => {
-                let sig = self.ctor_sig(alloc, variant, args)?;
-                Ok(sig)
-            }
+            CallableDefId::FunctionId(function) => self.fn_sig(alloc, function, args),
+            CallableDefId::VariantId(variant) => self.ctor_sig(alloc, variant, args),
         }
     }
 
@@ -139,7 +133,7 @@ impl GivenBody<'_> {
     {
         let mut tys = List::new(alloc);
         for field in self.facts.variant(variant).fields.as_slice() {
-            tys.push(self.ty_at(alloc, field.ty, args)?)?;
+            tys.push(self.ty_at(alloc, field.type_, args)?)?;
         }
         Ok(tys)
     }
@@ -187,7 +181,6 @@ impl GivenBody<'_> {
         ensures { IfOk result (λ ty. ty ≡ written_at self.now.facts.now.types args.now type_ref) }
     {
         let ty = lower_ty(alloc, self.facts, type_ref)?;
-        let made = instantiate(alloc, &ty, args)?;
-        Ok(made)
+        instantiate(alloc, &ty, args)
     }
 }

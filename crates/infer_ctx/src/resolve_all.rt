@@ -68,8 +68,7 @@ fn resolve_unless_same(
     let expected = table.resolve_completely(&asked.expected)?;
     let actual = table.resolve_completely(&asked.actual)?;
     if expected.is_same(&actual) {
-        let made = resolve_mismatch(table, noted)?;
-        Ok(made)
+        resolve_mismatch(table, noted)
     } else {
         Ok(Some(TypeMismatch { expected, actual }))
     }
@@ -86,10 +85,7 @@ fn resolve_asked(
 {
     match asked {
         Some(Some(asked)) => resolve_unless_same(table, asked, noted),
-        _ => {
-            let made = resolve_mismatch(table, noted)?;
-            Ok(made)
-        }
+        _ => resolve_mismatch(table, noted),
     }
 }
 
@@ -103,8 +99,8 @@ fn resolve_expr_mismatches(
     ensures { IfOk result (λ made. made ≡ closed_mismatches (completion table.now) asked.now noted.now) }
 {
     let mut resolved = List::new(alloc);
-    for i in 0..noted.len() {
-        let made = resolve_asked(table, asked.get(i), &noted[i])?;
+    for (i, entry) in noted.iter().enumerate() {
+        let made = resolve_asked(table, asked.get(i), entry)?;
         resolved.push(made)?;
     }
     Ok(resolved)

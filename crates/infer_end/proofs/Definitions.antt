@@ -26,7 +26,7 @@ use Rattle.infer_result.specs.declared.result.InferenceResult.{InferenceResult}
 use Rattle.infer_result.specs.Places.{Given}
 use Rattle.infer_result.specs.Made.{IsMade}
 use Rattle.infer_result.proofs.Derived.{typed_by_schedule}
-use Rattle.infer_result.specs.Fit.{TypesFit, SeenFit}
+use Rattle.infer_result.specs.TypesFit.{TypesFit, SeenFit}
 use Rattle.infer_result.specs.Typed.{IsTableOf}
 use Rattle.infer_ctx.specs.Under.{WrittenExist}
 use Rattle.infer_ctx.proofs.Lists.{found}

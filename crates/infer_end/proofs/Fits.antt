@@ -4,7 +4,7 @@ use Rattle.std.proofs.Common.{◌≡◌, ap, ◌∙◌, Bool, true, ◌&&◌, �
 use Rattle.std.proofs.lemmas.List.{length-map}
 use Rattle.hir_types.specs.declared.ids.CallableDefId.{CallableDefId}
 use Rattle.hir_types.specs.declared.ty.Ty.{Ty}
-use Rattle.hir_types.specs.Folding.{replaced_bool, replaced_char, replaced_int, replaced_uint, replaced_tuple, replaced_param, replaced_var, replaced_int_var, folded_itself}
+use Rattle.hir_types.specs.Replacements.{replaced_bool, replaced_char, replaced_int, replaced_uint, replaced_tuple, replaced_param, replaced_var, replaced_int_var, folded_itself}
 use Rattle.hir_types.specs.Subst.{Assignment, with_holes, folded, each_itself}
 use Rattle.hir_types.specs.declared.ty.Ty.TheVariants as ty
 use Rattle.hir_types.specs.declared.head.Hole.TheVariants as hole_of
@@ -14,19 +14,19 @@ use Rattle.hir_raw.specs.declared.raw.RawFacts.{RawFacts}
 use Rattle.hir_raw.specs.Signatures.{Signature, signature_of, type_args}
 use Rattle.hir_raw.specs.Fit.{ty_fits, arg_fits}
 use Rattle.hir_raw.specs.Fitting.{ty_fits_bool, ty_fits_char, ty_fits_int, ty_fits_uint, ty_fits_tuple, ty_fits_adt, ty_fits_fndef, ty_fits_param, arg_fits_ty, ty_fits_var, ty_fits_intvar, ty_fits_error}
-use Rattle.infer_table.specs.Completion.{completion, fallback}
+use Rattle.hir_types.specs.Fallback.{fallback}
+use Rattle.infer_table.specs.Completion.{completion}
 use Rattle.infer_table.specs.Resolution.{resolution}
 use Rattle.infer_table.specs.Table.{bindings}
 use Rattle.infer_result.specs.declared.result.TypeMismatch.{TypeMismatch}
 use Rattle.infer_result.specs.Closed.{AllTypes, AllSeen}
 use Rattle.infer_result.specs.declared.diagnostics.InferenceDiagnostic.TheVariants as diagnostic
-use Rattle.infer_ctx.specs.Fine.{item_params, HasFineHeads, IsFine}
+use Rattle.infer_ctx.specs.Fine.{item_params, HasFineHeads, IsFine, Every}
 use Rattle.infer_ctx.specs.declared.context.InferenceContext.{InferenceContext}
 use Rattle.infer_ctx.specs.Closings.{closed_mismatch, closed_table, IsSound}
 use Rattle.infer_ctx.proofs.Items.{signature_count}
-use Rattle.infer_ctx.proofs.FineTypes.{Every}
 use Rattle.infer_ctx.proofs.OverTypes.{over_fine, adt_closed, fn_def_closed}
-use Rattle.infer_ctx.proofs.Closed.{At-unclosed, At-stems}
+use Rattle.infer_ctx.proofs.UnderClosings.{At-unclosed, At-stems}
 use Rattle.infer_ctx.proofs.Said.{said-cases}
 use Rattle.infer_coerce.proofs.Unified.{bound_heads}
 

@@ -3,7 +3,7 @@ use Rattle.std.proofs.Common.{inl, Option, slice_get, ℕ, List, suc, ◌≡◌,
 use Rattle.std.proofs.lemmas.Option.{slice_get-map, slice_get_within}
 use Rattle.std.proofs.lemmas.List.{length-map}
 use Rattle.hir_types.specs.declared.ty.Ty.{Ty}
-use Rattle.hir_types.specs.Folding.{folded_twice}
+use Rattle.hir_types.specs.Replacements.{folded_twice}
 use Rattle.hir_types.specs.Subst.{Assignment, composed, folded}
 use Rattle.hir_types.specs.declared.ids.BodyId.{BodyId}
 use Rattle.hir_types.specs.declared.ids.TypeRefId.{TypeRefId}
@@ -32,7 +32,7 @@ use Rattle.infer_result.specs.declared.result.TypeMismatch.{TypeMismatch}
 use Rattle.infer_result.specs.declared.result.Seen.{Seen}
 use Rattle.infer_result.specs.Derivation.{HasNoComplaint, IsDerivation}
 use Rattle.infer_result.proofs.DerivationLaws.{derivation_of}
-use Rattle.infer_result.specs.Fallback.{fallback}
+use Rattle.hir_types.specs.Fallback.{fallback}
 use Rattle.infer_result.specs.Typed.{IsTableOf}
 use Rattle.infer_result.proofs.Derived.{typed_by_schedule}
 use Rattle.infer_ctx.specs.Said.{said}
@@ -43,9 +43,9 @@ use Rattle.infer_ctx.specs.Fine.{HasFineHeads, IsFine}
 use Rattle.infer_ctx.specs.Steps.{BodyDone}
 use Rattle.infer_ctx.proofs.Keeps.{at_kept, pat_at_kept, obeys_kept, pat_kept, misfit_kept, demand_kept, diagnostic_kept, pat_truth_kept, true_seen_kept}
 use Rattle.infer_ctx.proofs.Lists.{found}
-use Rattle.infer_ctx.proofs.Closed.{At-unclosed, closed_at, asked_unlike, length-closed_mismatches, At-closed, length-closed}
+use Rattle.infer_ctx.proofs.UnderClosings.{At-unclosed, closed_at, asked_unlike, length-closed_mismatches, At-closed, length-closed}
 use Rattle.infer_coerce.proofs.Unified.{completion_closes}
-use Rattle.infer_end.specs.Generals.{AreResolved, HoldsResolved, KeepsGeneral, IsFull, HasAllTypes}
+use Rattle.infer_end.specs.KeptTypes.{AreResolved, HoldsResolved, KeepsGeneral, IsFull, HasAllTypes}
 use Rattle.infer_end.proofs.Definitions.{found_body, table_of}
 use Rattle.infer_end.proofs.Fits.{completed_table_fits, fine_fits, seen_fits}
 use Rattle.infer_end.proofs.GeneralTypes.{fine_general, fine_known, chosen, chosen_heads, chosen_closes, known_heads}

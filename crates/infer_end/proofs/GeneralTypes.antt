@@ -5,7 +5,7 @@ use Rattle.std.proofs.lemmas.Bool.{ltb-true, lt-ltb}
 use Rattle.std.proofs.lemmas.List.{length-map}
 use Rattle.hir_types.specs.declared.ty.Ty.{Ty}
 use Rattle.hir_types.specs.Subst.{Assignment, with_holes, each_itself, composed, folded}
-use Rattle.hir_types.specs.Folding.{replaced_bool, replaced_char, replaced_int, replaced_uint, replaced_var, replaced_int_var, replaced_tuple, replaced_param}
+use Rattle.hir_types.specs.Replacements.{replaced_bool, replaced_char, replaced_int, replaced_uint, replaced_var, replaced_int_var, replaced_tuple, replaced_param}
 use Rattle.hir_types.specs.declared.ty.IntegerTy.TheVariants as integer
 use Rattle.hir_types.specs.declared.ty.Ty.TheVariants as ty
 use Rattle.hir_types.specs.declared.head.Hole.TheVariants as hole_of
@@ -22,15 +22,11 @@ use Rattle.infer_result.specs.Unknown.{IsKnown, has_unknown, arg_has_unknown}
 use Rattle.infer_result.specs.UnknownLayers.{has_unknown_bool, has_unknown_char, has_unknown_int, has_unknown_uint, has_unknown_var, has_unknown_int_var, has_unknown_tuple, has_unknown_adt, has_unknown_fn_def, has_unknown_param, arg_has_unknown_type}
 use Rattle.infer_ctx.specs.declared.context.InferenceContext.{InferenceContext}
 use Rattle.infer_ctx.specs.Closings.{IsClosing, Closes, IsSound}
-use Rattle.infer_ctx.specs.Fine.{item_params, HasFineHeads}
-use Rattle.infer_ctx.proofs.FineTypes.{Every, every_at, heads_bool, heads_char, heads_integer, heads_param, heads_tuple, heads_adt, heads_fn_def}
+use Rattle.infer_ctx.specs.Fine.{item_params, HasFineHeads, Every}
+use Rattle.infer_ctx.proofs.FineTypes.{every_at, every_from, heads_bool, heads_char, heads_integer, heads_param, heads_tuple, heads_adt, heads_fn_def}
 use Rattle.infer_ctx.proofs.OverTypes.{over_fine, adt_closed, fn_def_closed, carried_args, closing_respects}
 use Rattle.infer_coerce.proofs.Unified.{bound_heads, composed_closing}
 use Rattle.infer_end.proofs.Fits.{item_counted}
-
-every_from : (P : Ty → Type 0) (ts : List Ty) → ((k : ℕ) (u : Ty) → slice_get ts k ≡ Some u → P u) → Every P ts
-every_from P [] h = tt
-every_from P (t ∷ ts) h = (h 0 t refl, every_from P ts (λ k u at. h (suc k) u at))
 
 all_so : (f : Ty → Bool) (ts : List Ty) → ((k : ℕ) (u : Ty) → slice_get ts k ≡ Some u → f u ≡ true) → list_all f ts ≡ true
 all_so f [] h = refl

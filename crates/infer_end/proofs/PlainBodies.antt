@@ -16,7 +16,7 @@ use Rattle.hir_laws.specs.Bodies.{body_of}
 use Rattle.hir_raw.specs.Scope.{params_of, adt_params}
 use Rattle.hir_plain.specs.Plain.{IsPlainBody, IsPlainBodyOf, IsPlainKind, IsPlainType, plain, IsPlainAdt, is_tuple_ctor, is_tuple_variant, is_item, IsPlainExpr, IsPlainStmt}
 use Rattle.hir_raw.specs.declared.raw.RawType.{RawType}
-use Rattle.hir_raw.specs.Types.{StandsIn, is_itself, in_part, type_parts}
+use Rattle.hir_raw.specs.WrittenTypes.{StandsIn, is_itself, in_part, type_parts}
 use Rattle.hir_raw.specs.declared.raw.RawCtor.{RawCtor}
 use Rattle.hir_raw.specs.declared.raw.RawVariant.{RawVariant}
 use Rattle.hir_raw.specs.declared.raw.RawStmt.{RawStmt}
@@ -56,14 +56,7 @@ no_hole raw P n k t (plain _ x found own parts) (in_part _ y j u at part stands)
 module _ (raw : RawFacts) (n : ℕ) (b : RawBody) (h : IsPlainBody raw n b) where
   plain_stmt : (e : ℕ) (o : Option RawExpr) (i : ℕ) (s : RawStmt) → slice_get b.exprs e ≡ o → slice_get (stmts_of o) i ≡ Some s → IsPlainStmt raw n s
   plain_stmt e (Some (expr.Block label stmts last)) i s is at = (let block : IsPlainExpr raw n (expr.Block label stmts last) = h.exprs e _ is in block.1 i s at)
-  plain_stmt e (Some (expr.Lit l)) i s is at = absurd (cc)
-  plain_stmt e (Some (expr.Path p)) i s is at = absurd (cc)
-  plain_stmt e (Some (expr.Tuple es)) i s is at = absurd (cc)
-  plain_stmt e (Some (expr.If c first other)) i s is at = absurd (cc)
-  plain_stmt e (Some (expr.Match x arms)) i s is at = absurd (cc)
-  plain_stmt e (Some (expr.Call f args)) i s is at = absurd (cc)
-  plain_stmt e (Some expr.Other) i s is at = absurd (cc)
-  plain_stmt e None i s is at = absurd (cc)
+  plain_stmt e _ i s is at = absurd (cc)
 
   pub no_placeholder : (g : Given) (k : ℕ) → g.scope.facts ≡ raw → g.body ≡ b → IsPlaceholder g k → ⊥
   no_placeholder g k facts body p =
@@ -119,16 +112,7 @@ module _ (raw : RawFacts) (n : ℕ) (b : RawBody) (h : IsPlainBody raw n b) wher
     item_named : (called : ExprId) (o : Option RawExpr) → slice_get b.exprs called.0 ≡ o → is_item raw o ≡ true → IsPathToItem g called
     item_named called (Some (expr.Path (path.Function f))) is k = function_item called f is
     item_named called (Some (expr.Path (path.Ctor v))) is k = variant_item called v is k
-    item_named called (Some (expr.Path (path.Local v))) is k = absurd (cc)
-    item_named called (Some (expr.Path path.Other)) is k = absurd (cc)
-    item_named called None is k = absurd (cc)
-    item_named called (Some (expr.Lit l)) is k = absurd (cc)
-    item_named called (Some (expr.Block label stmts last)) is k = absurd (cc)
-    item_named called (Some (expr.Tuple es)) is k = absurd (cc)
-    item_named called (Some (expr.If c first other)) is k = absurd (cc)
-    item_named called (Some (expr.Match e arms)) is k = absurd (cc)
-    item_named called (Some (expr.Call f args)) is k = absurd (cc)
-    item_named called (Some expr.Other) is k = absurd (cc)
+    item_named called _ is k = absurd (cc)
 
     -- what is called is a path to an item
     pub calls_item : (call called : ExprId) (args : List ExprId) → slice_get g.body.exprs call.0 ≡ Some (expr.Call called args) → IsPathToItem g called

@@ -1,1 +1,1 @@
-pub mod Generals
+pub mod KeptTypes

@@ -1,6 +1,6 @@
 //! The types of a plain body before open holes fall back to anything.
 ghost use Rattle.std.specs.Prelude.{IfOk};
-ghost use Rattle.infer_end.specs.Generals.{IsFull, HasAllTypes, AreResolved, HoldsResolved, KeepsGeneral};
+ghost use Rattle.infer_end.specs.KeptTypes.{IsFull, HasAllTypes, AreResolved, HoldsResolved, KeepsGeneral};
 
 use hir_facts::{DefWithBodyId, Facts, List, Ty, is_plain};
 use infer_ctx::InferenceContext;

@@ -11,7 +11,7 @@ use Rattle.hir_facts.specs.CarriedTypes.{carried_error, IsCarriedType}
 use Rattle.hir_raw.specs.Scope.{Scope}
 use Rattle.hir_laws.specs.Bodies.{IsWalkable}
 use Rattle.hir_raw.specs.declared.schedule.Schedule.{Schedule}
-use Rattle.infer_table.specs.Completion.{fallback}
+use Rattle.hir_types.specs.Fallback.{fallback}
 use Rattle.infer_result.specs.Places.{Given}
 use Rattle.infer_result.specs.Made.{IsMade}
 use Rattle.infer_result.specs.declared.diagnostics.InferenceDiagnostic.TheVariants as diagnostic
@@ -23,10 +23,10 @@ use Rattle.infer_ctx.specs.Under.{WrittenExist, CoerceWalked}
 use Rattle.infer_ctx.specs.Walks.{expr_end}
 use Rattle.infer_ctx.specs.Fine.{HasFineHeads}
 use Rattle.infer_ctx.specs.Steps.{Before, CoerceDone, BodyDone, OnlyBinds}
-use Rattle.infer_ctx.proofs.Closed.{of_body_unclosed, same_found}
+use Rattle.infer_ctx.proofs.UnderClosings.{of_body_unclosed, same_found}
 use Rattle.infer_ctx.proofs.AtEach.{walking_after, closes_before}
 use Rattle.infer_ctx.proofs.OverTypes.{carried_fine, carried_closed}
-use Rattle.infer_coerce.specs.Unifying.{Settles}
+use Rattle.infer_coerce.specs.MadeEqual.{Settles}
 use Rattle.infer_expr.specs.Params.{BeforeParams, ComesToParams, ParamsDone, ParamsWalked}
 use Rattle.infer_expr.proofs.Whole.{At-replicate, params_before, root_before, body_made}
 

@@ -6,7 +6,7 @@ use Rattle.hir_types.specs.declared.ids.VariantId.{VariantId}
 use Rattle.hir_types.specs.declared.ty.Ty.{Ty}
 use Rattle.hir_raw.specs.declared.raw.RawVariant.{RawVariant}
 use Rattle.hir_raw.specs.declared.schedule.Schedule.{Schedule}
-use Rattle.hir_facts.specs.CarriedTypes.{IsCarriedType, AreCarriedTypes}
+use Rattle.hir_facts.specs.CarriedTypes.{IsCarriedType}
 use Rattle.infer_result.specs.Table.{PatTy}
 use Rattle.infer_result.specs.Places.{Given, PatIsAtOrMismatch}
 use Rattle.infer_result.specs.Kinds.Constructor.{IsVariantAt, adt_at, fields_at, IsCtorPath}
@@ -24,7 +24,7 @@ use Rattle.hir_types.specs.declared.ty.GenericArg.{GenericArg}
 use Rattle.hir_types.specs.Folds.{map_twice}
 use Rattle.hir_raw.specs.declared.raw.RawField.{RawField}
 use Rattle.hir_raw.specs.Signatures.{field_types, type_args, at_args}
-use Rattle.hir_raw.specs.Types.{written_type}
+use Rattle.hir_raw.specs.WrittenTypes.{written_type}
 use Rattle.hir_raw.specs.declared.raw.RawPath.{RawPath}
 use Rattle.hir_ids.proofs.CarriedBodies.{ctor_pattern}
 use Rattle.infer_table.proofs.UndoLaws.{grew_itself}
@@ -36,16 +36,15 @@ use Rattle.infer_ctx.specs.declared.context.InferenceContext.{InferenceContext}
 use Rattle.infer_ctx.specs.Closings.{IsSound, found_under, Closes, expected_under}
 use Rattle.infer_ctx.specs.Steps.{Follows}
 use Rattle.infer_ctx.specs.Callables.{field_at}
-use Rattle.infer_ctx.specs.Fine.{IsFine, IsFineExpectation}
+use Rattle.infer_ctx.specs.Fine.{IsFine, IsFineExpectation, AllFine}
 use Rattle.infer_ctx.proofs.AtEach.{follows_itself, follows_twice, closes_before, told_same}
-use Rattle.infer_ctx.proofs.Closed.{of_body_pat_diagnostic, sound_pat_diagnostic, same_found, closes_earlier}
-use Rattle.infer_ctx.proofs.FineTypes.{AllFine, every_at, fine_grown}
+use Rattle.infer_ctx.proofs.UnderClosings.{of_body_pat_diagnostic, sound_pat_diagnostic, same_found, closes_earlier}
+use Rattle.infer_ctx.proofs.FineTypes.{every_at, every_from, fine_grown}
 use Rattle.infer_ctx.proofs.Instances.{fine_instances, instances_under}
 use Rattle.infer_ctx.proofs.OverTypes.{fine_closed, adt_closed}
 use Rattle.infer_pat.specs.Paths.{AreFreshArgs, NamesTyped, PathDone, IsPathType}
 use Rattle.infer_pat.proofs.PathWalk.{ctor_adt_fine, variant_under}
 use Rattle.infer_pat.proofs.CtorPats.{Counted, parts_counted, path_pat_done, parts_at}
-use Rattle.infer_pat.proofs.PatHoles.{FineEach, all_fine, carried_each}
 use Rattle.infer_pat.proofs.PatParts.{AtPat, begins_pats, comes_to_pat, past_pat, pats_past}
 use Rattle.hir_types.specs.declared.ids.ExprOrPatId.TheVariants as node
 use Rattle.hir_raw.specs.declared.raw.RawPat.TheVariants as pat
@@ -93,7 +92,7 @@ module _ (g : Given) (v : VariantId) (item : IsVariant g.scope.facts v) (y : Raw
   fields_of ss h =
       h item.variant item.found
       ∙ (ap (λ zs. map (field_at g.scope.facts.types zs) item.variant.fields) fresh.are
-      ∙ sym (map_twice (at_args fresh.types) (λ (f : RawField). written_type g.scope.facts.types f.ty) item.variant.fields))
+      ∙ sym (map_twice (at_args fresh.types) (λ (f : RawField). written_type g.scope.facts.types f.type_) item.variant.fields))
 
   pub ctor_demanded : (p : PatId) (parts : ℕ) (ss : List Ty) (x : Option Ty) (told new : InferenceContext) → ((z : RawVariant) → slice_get g.scope.facts.variants v.0 ≡ Some z → ss ≡ map (field_at g.scope.facts.types xs) z.fields) → PartsCounted p (length y.fields) parts holed told → PatDemanded g p (ty.Adt y.adt xs) x told new → CtorDemanded g p v parts ss x old new
   ctor_demanded p parts ss x told new h counted demanded = record {
@@ -151,10 +150,10 @@ module _ (g : Given) (s : Schedule) (p : PatId) (v : VariantId) (ps : List PatId
   fields_fine : AllFine g.scope b.asked.holed.table ss
   fields_fine =
       subst (λ us. AllFine g.scope b.asked.holed.table us) (sym b.asked.fields)
-      (fine_instances g.scope b.asked.holed.table b.asked.item.params b.asked.types b.asked.holes.count_is (all_fine g.scope b.asked.holed.table b.asked.types b.asked.holes.fine) (field_types g.scope.facts.types variant) b.asked.item.fields)
+      (fine_instances g.scope b.asked.holed.table b.asked.item.params b.asked.types b.asked.holes.count_is (every_from (IsFine g.scope b.asked.holed.table) b.asked.types b.asked.holes.fine) (field_types g.scope.facts.types variant) b.asked.item.fields)
 
-  each_field_fine : FineEach g.scope b.asked.holed.table ss
-  each_field_fine i t is = every_at (IsFine g.scope b.asked.holed.table) ss i t fields_fine is
+  field_fine : (i : ℕ) (t : Ty) → slice_get ss i ≡ Some t → IsFine g.scope b.asked.holed.table t
+  field_fine i t is = every_at (IsFine g.scope b.asked.holed.table) ss i t fields_fine is
 
   module _ (a : Assignment) (k : Closes a mid) where
     at_old : Closes a old
@@ -168,9 +167,6 @@ module _ (g : Given) (s : Schedule) (p : PatId) (v : VariantId) (ps : List PatId
 
     begun_fields : map (folded a) ss ≡ fields_at g variant (types_at a)
     begun_fields = ap (map (folded a)) b.asked.fields ∙ instances_under a (own_scope g.scope.facts b.asked.item.params) b.asked.types (field_types g.scope.facts.types variant) b.asked.item.fields
-
-    begun_carried : AreCarriedTypes (map (folded a) ss)
-    begun_carried = carried_each g.scope a b.asked.holed.table ss k.closing each_field_fine
 
     begun_counted : Counted g s p v ps variant (expected_under a x) (found_under a old) begun_before b.is b.asked.item.found (found_under a b.asked.told)
     begun_counted =
@@ -228,7 +224,7 @@ module _ (g : Given) (s : Schedule) (p : PatId) (v : VariantId) (ps : List PatId
           let grew : Grew b.asked.holed.table c.table = grew_twice b.asked.holed.table mid.table c.table (after_holes g s p v ps ss x old mid b).grew h.walk.follows.grew in
           subst (λ o. BeforePat g s q o c) (sym e) (
           comes_to_pat g s p ps i mid c h.walk q is k (slice_get ss i) b.before.ready ((ctor_pat_follows g s p v ps ss x old mid b).told b.before.state.told)
-          (fine_if g c (slice_get ss i) (λ t j. fine_grown g.scope b.asked.holed.table c.table t grew (each_field_fine g s p v ps ss x old mid b i t j)))
+          (fine_if g c (slice_get ss i) (λ t j. fine_grown g.scope b.asked.holed.table c.table t grew (field_fine g s p v ps ss x old mid b i t j)))
           (λ a l t j. inr (record {
             named = v;
             parts = ps;

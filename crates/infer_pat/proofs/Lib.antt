@@ -9,3 +9,4 @@ pub mod PatWalk
 pub mod Pats
 pub mod TuplePats
 pub mod PatParts
+pub mod Components

@@ -1,5 +1,5 @@
 -- Literals: the holes that they make, and their types.
-use Rattle.std.proofs.Common.{◌≡◌, sym, subst, arith, Option, Some, slice_get, ap, ◌∙◌, refl, ℕ, None, unwrap_or}
+use Rattle.std.proofs.Common.{◌≡◌, sym, subst, arith, Option, Some, slice_get, ap, ◌∙◌, refl, None, unwrap_or}
 use Rattle.hir_types.specs.declared.ids.ExprId.{ExprId}
 use Rattle.hir_types.specs.declared.ty.Ty.{Ty, Ty-F, out-Ty}
 use Rattle.hir_types.specs.declared.ty.AliasBound.{AliasBound}
@@ -8,7 +8,7 @@ use Rattle.hir_types.specs.declared.ty.TraitRef.{TraitRef}
 use Rattle.hir_types.specs.Subst.{folded, with_holes}
 use Rattle.hir_types.specs.declared.ty.IntegerTy.{IntegerTy}
 use Rattle.hir_types.specs.Types.{integer_type}
-use Rattle.hir_types.specs.Folding.{replaced_int_var}
+use Rattle.hir_types.specs.Replacements.{replaced_int_var}
 use Rattle.hir_types.specs.Folds.{Maps, in_ty}
 use Rattle.hir_types.specs.declared.ty.UintTy.TheVariants as uint
 use Rattle.hir_types.specs.declared.ty.Ty.TheVariants as ty
@@ -16,10 +16,9 @@ use Rattle.hir_types.specs.declared.ty.IntegerTy.TheVariants as integer
 use Rattle.hir_types.specs.declared.head.HoleKind.TheVariants as kind
 use Rattle.hir_raw.specs.declared.raw.RawLiteral.{RawLiteral}
 use Rattle.hir_raw.specs.declared.schedule.Schedule.{Schedule}
-use Rattle.hir_facts.specs.CarriedTypes.{carried_integer, carried_char, carried_bool}
+use Rattle.hir_facts.specs.CarriedTypes.{carried_integer}
 use Rattle.hir_raw.specs.Scope.{Scope}
 use Rattle.hir_raw.specs.declared.raw.RawExpr.TheVariants as expr
-use Rattle.hir_raw.specs.declared.raw.RawLiteral.TheVariants as literal
 use Rattle.infer_table.specs.Resolution.{IsOpenOrKnown}
 use Rattle.infer_table.specs.Table.{State, bindings, resolved_type, with_new_hole, hole_count}
 use Rattle.infer_table.proofs.UndoLaws.{grew_itself}
@@ -32,11 +31,11 @@ use Rattle.infer_ctx.specs.Steps.{Within, KindDone}
 use Rattle.infer_ctx.specs.Under.{KindWalked}
 use Rattle.infer_ctx.proofs.Expected.{IsOfLayer, read_alike}
 use Rattle.infer_ctx.proofs.Leaves.{literal_done}
-use Rattle.infer_ctx.proofs.Closed.{same_found, closes_earlier}
+use Rattle.infer_ctx.proofs.UnderClosings.{same_found, closes_earlier}
 use Rattle.infer_ctx.proofs.Tellings.{literal_tells}
 use Rattle.infer_ctx.proofs.AtEach.{told_same, within_under}
 use Rattle.infer_ctx.proofs.OverTypes.{carried_closed}
-use Rattle.infer_ctx.proofs.FineTypes.{fine_integer, fine_int_hole, fine_bool, fine_char}
+use Rattle.infer_ctx.proofs.FineTypes.{fine_integer, fine_int_hole}
 use Rattle.infer_coerce.proofs.Holes.{holed, holed_sound}
 use Rattle.infer_pat.specs.Literals.{LiteralDone, IntDone, integer_step, integer_for, expected_integer, unsuffixed_type}
 
@@ -113,58 +112,4 @@ int_hole c x s none = record {
   each = λ a k.
       let q = k.int_var (hole_count c.table) in
       (q.0, replaced_int_var (with_holes a) (hole_count c.table) ∙ q.1);
-}
-
--- ---- literals
-module _ {sc : Scope} (c : InferenceContext) (x : Option Ty) (s : IsSound sc c) where
-  pub bool_literal : (b : _) → LiteralDone sc x (literal.Bool b) ty.Bool c c
-  bool_literal b = record {
-    is = refl;
-    result = refl;
-    asked = refl;
-    clock = refl;
-    grew = grew_itself c.table;
-    sound = s;
-    fine = fine_bool _ c.table;
-    own = λ u e. sym e;
-    each = λ a k. carried_closed a ty.Bool carried_bool;
-  }
-
-  pub char_literal : (n : ℕ) → LiteralDone sc x (literal.Char n) ty.Char c c
-  char_literal n = record {
-    is = refl;
-    result = refl;
-    asked = refl;
-    clock = refl;
-    grew = grew_itself c.table;
-    sound = s;
-    fine = fine_char _ c.table;
-    own = λ u e. sym e;
-    each = λ a k. carried_closed a ty.Char carried_char;
-  }
-
-  pub suffixed_literal : (digits : _) (i : IntegerTy) → LiteralDone sc x (literal.Int digits (Some i)) (integer_type i) c c
-  suffixed_literal digits i = record {
-    is = refl;
-    result = refl;
-    asked = refl;
-    clock = refl;
-    grew = grew_itself c.table;
-    sound = s;
-    fine = fine_integer _ c.table i;
-    own = λ u e. sym e;
-    each = λ a k. carried_closed a (integer_type i) (carried_integer i);
-  }
-
-pub unsuffixed_literal : {sc : Scope} (digits : _) (x : Option Ty) (t : Ty) (old new : InferenceContext) → IntDone sc x t old new → LiteralDone sc x (literal.Int digits None) t old new
-unsuffixed_literal digits x t old new d = record {
-  is = d.is;
-  result = d.result;
-  asked = d.asked;
-  clock = d.clock;
-  grew = d.grew;
-  sound = d.sound;
-  fine = d.fine;
-  own = λ u e. absurd e;
-  each = d.each;
 }

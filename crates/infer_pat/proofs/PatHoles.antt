@@ -1,10 +1,10 @@
 -- New holes for the types of patterns, and what a tuple pattern asks of what comes in.
-use Rattle.std.proofs.Common.{◌≡◌, refl, Some, None, ℕ, List, slice_get, zero, suc, ◌+◌, ◌⊎◌, inl, inr, [], ◌∷◌, ◌++◌, subst, ◌∙◌, arith, length-append, Option, sym, ap, map, true, false}
+use Rattle.std.proofs.Common.{◌≡◌, refl, Some, None, ℕ, List, slice_get, zero, suc, ◌+◌, ◌⊎◌, inl, inr, length, [], ◌∷◌, ◌++◌, subst, ◌∙◌, arith, length-append, Option, sym, ap, map, true, false}
 use Rattle.hir_types.specs.declared.ty.Ty.{Ty}
 use Rattle.hir_types.specs.Subst.{folded, Assignment, with_holes}
 use Rattle.hir_types.specs.Terms.{Term, term, terms_of}
 use Rattle.hir_types.specs.TermLaws.{term_folded}
-use Rattle.hir_types.specs.Folding.{replaced_tuple}
+use Rattle.hir_types.specs.Replacements.{replaced_tuple}
 use Rattle.hir_types.specs.declared.ids.PatId.{PatId}
 use Rattle.hir_types.specs.declared.head.HoleKind.TheVariants as kind
 use Rattle.hir_types.specs.declared.ty.Ty.TheVariants as ty
@@ -21,30 +21,19 @@ use Rattle.infer_result.specs.Table.{mismatch}
 use Rattle.infer_result.specs.Places.{Given}
 use Rattle.infer_ctx.specs.declared.context.InferenceContext.{InferenceContext}
 use Rattle.infer_ctx.specs.Closings.{IsSound, IsClosing, Closes, closed_mismatch, found_under, expected_under}
-use Rattle.infer_ctx.specs.Fine.{IsFine, is_fine_head}
+use Rattle.infer_ctx.specs.Fine.{IsFine, is_fine_head, AllFine}
 use Rattle.infer_ctx.specs.Steps.{ArePartTypes, Follows}
 use Rattle.infer_ctx.specs.Context.{with_pat_ty, with_pat_mismatch}
 use Rattle.infer_ctx.specs.Found as found
-use Rattle.infer_ctx.proofs.FineTypes.{fine_hole, fine_grown, fine_no_alias, AllFine, fine_tuple}
+use Rattle.infer_ctx.proofs.FineTypes.{fine_hole, fine_grown, fine_no_alias, fine_tuple}
 use Rattle.infer_ctx.proofs.OverTypes.{fine_closed}
-use Rattle.infer_ctx.proofs.Closed.{same_found, closes_same, pat_ty_under, pat_mismatch_under, of_body_pat_ty, of_body_pat_mismatch, sound_pat_ty, sound_pat_mismatch}
-use Rattle.infer_coerce.specs.Unifying.{IsUnifiedIf}
+use Rattle.infer_ctx.proofs.UnderClosings.{same_found, closes_same, pat_ty_under, pat_mismatch_under, of_body_pat_ty, of_body_pat_mismatch, sound_pat_ty, sound_pat_mismatch}
+use Rattle.infer_coerce.specs.MadeEqual.{IsUnifiedIf}
 use Rattle.infer_coerce.proofs.Holes.{holed, holed_sound}
 use Rattle.infer_coerce.proofs.Unified.{bound_heads}
 use Rattle.infer_pat.specs.Patterns.{IsGivenOrNew, PatDemanded, IsDemanded}
 
 -- ---- new holes
-pub given_one : {sc : Scope} (c : InferenceContext) (t : Ty) → IsSound sc c → IsFine sc c.table t → IsGivenOrNew sc (Some t) t c c
-given_one c t s h = record {
-  result = refl;
-  asked = refl;
-  clock = refl;
-  grew = grew_itself c.table;
-  sound = s;
-  fine = h;
-  given = λ u e. (let k : t ≡ u = cc in k);
-  new_hole = λ e. absurd (cc);
-}
 
 pub new_one : {sc : Scope} (c : InferenceContext) → IsSound sc c → IsGivenOrNew sc None (ty.Var (hole_count c.table)) c (holed c kind.Ty)
 new_one c s = record {
@@ -56,17 +45,14 @@ new_one c s = record {
   fine = fine_hole _ c.table;
   given = λ u e. absurd (cc);
   new_hole = λ e. refl;
+  table = refl;
 }
 
--- each type of the list is fine
-abbrev pub FineEach : Scope → State → List Ty → Type 0
-FineEach sc state ts = (i : ℕ) (t : Ty) → slice_get ts i ≡ Some t → IsFine sc state t
-
-push_cases : (ts : List Ty) (t : Ty) (i : ℕ) (u : Ty) → slice_get (ts ++ t ∷ []) i ≡ Some u → (slice_get ts i ≡ Some u) ⊎ (t ≡ u)
-push_cases [] t zero u e = (let k : t ≡ u = cc in inr k)
-push_cases [] t (suc i) u e = absurd (cc)
-push_cases (v ∷ ts) t zero u e = inl e
-push_cases (v ∷ ts) t (suc i) u e = push_cases ts t i u e
+pub push_cases : {X : Type 0} (xs : List X) (x : X) (i : ℕ) (y : X) → slice_get (xs ++ x ∷ []) i ≡ Some y → (slice_get xs i ≡ Some y) ⊎ ((i ≡ length xs) × (x ≡ y))
+push_cases [] x zero y e = (let k : x ≡ y = cc in inr (refl, k))
+push_cases [] x (suc i) y e = absurd (cc)
+push_cases (z ∷ xs) x zero y e = inl e
+push_cases (z ∷ xs) x (suc i) y e = elim (push_cases xs x i y e) [ inl q ↦ inl q | inr q ↦ inr (ap suc q.0, q.1) ]
 
 pub no_part_yet : {sc : Scope} (c : InferenceContext) → IsSound sc c → ArePartTypes sc 0 [] c c
 no_part_yet c s = record {
@@ -90,7 +76,7 @@ one_part_more {sc} n ts x t old c new h d = record {
   fine = λ i u e.
       elim (push_cases ts t i u e) [
         | inl q ↦ fine_grown _ c.table new.table u d.grew (h.fine i u q)
-        | inr q ↦ subst (λ v. IsFine sc new.table v) q d.fine
+        | inr q ↦ subst (λ v. IsFine sc new.table v) q.1 d.fine
       ];
 }
 
@@ -110,22 +96,12 @@ resolved_fine {sc} c t u s h holes same =
     }
 
 -- ---- tuples of fine types
-pub all_fine : (sc : Scope) (state : State) (ts : List Ty) → FineEach sc state ts → AllFine sc state ts
-all_fine sc state [] h = tt
-all_fine sc state (t ∷ ts) h = (h 0 t refl, all_fine sc state ts (λ i u e. h (suc i) u e))
-
-pub fine_tuple_of : (sc : Scope) (state : State) (ts : List Ty) → FineEach sc state ts → IsFine sc state (ty.Tuple ts)
-fine_tuple_of sc state ts h = fine_tuple sc state ts (all_fine sc state ts h)
-
-pub fine_each_grown : (sc : Scope) (s t : State) (ts : List Ty) → Grew s t → FineEach sc s ts → FineEach sc t ts
-fine_each_grown sc s t ts g h = λ i u e. fine_grown sc s t u g (h i u e)
-
 pub tuple_under : (a : Assignment) (ts : List Ty) → folded a (ty.Tuple ts) ≡ ty.Tuple (map (folded a) ts)
 tuple_under a ts = replaced_tuple (with_holes a) ts
 
-pub carried_each : (sc : Scope) (a : Assignment) (state : State) (ts : List Ty) → IsClosing a → FineEach sc state ts → AreCarriedTypes (map (folded a) ts)
+pub carried_each : (sc : Scope) (a : Assignment) (state : State) (ts : List Ty) → IsClosing a → AllFine sc state ts → AreCarriedTypes (map (folded a) ts)
 carried_each sc a state ts k h =
-    let tuple : IsCarriedType (ty.Tuple (map (folded a) ts)) = subst (λ t. IsCarriedType t) (tuple_under a ts) (fine_closed sc a (ty.Tuple ts) k (fine_tuple_of sc state ts h).heads) in
+    let tuple : IsCarriedType (ty.Tuple (map (folded a) ts)) = subst (λ t. IsCarriedType t) (tuple_under a ts) (fine_closed sc a (ty.Tuple ts) k (fine_tuple sc state ts h).heads) in
     sym (carried_tuple (map (folded a) ts)) ∙ tuple
 
 -- ---- what comes in

@@ -17,16 +17,15 @@ use Rattle.infer_ctx.specs.Closings.{expected_under, Closes, found_under}
 use Rattle.infer_ctx.specs.declared.context.InferenceContext.{InferenceContext}
 use Rattle.infer_ctx.specs.Found.{Found}
 use Rattle.infer_ctx.specs.Tells.{TellsBound, TellsRecorded, TellsBinding}
-use Rattle.infer_ctx.specs.Fine.{IsFine, IsFineExpectation}
 use Rattle.infer_ctx.specs.Steps.{Follows, Before, OwnDone}
 use Rattle.infer_ctx.specs.Context as context
 use Rattle.infer_ctx.specs.Found as found
 use Rattle.infer_ctx.proofs.AtEach.{told_same, follows_itself, closes_before}
-use Rattle.infer_ctx.proofs.Closed.{same_found, closes_same, closes_earlier, pat_ty_under, bound_by_under, of_body_pat_ty, of_body_bound_by, sound_pat_ty, sound_bound_by, sound_entered}
+use Rattle.infer_ctx.proofs.UnderClosings.{same_found, closes_same, closes_earlier, pat_ty_under, bound_by_under, of_body_pat_ty, of_body_bound_by, sound_pat_ty, sound_bound_by, sound_entered}
 use Rattle.infer_ctx.proofs.OverTypes.{fine_closed}
 use Rattle.infer_ctx.proofs.Lists.{At-set_cases}
 use Rattle.infer_ctx.proofs.Parts.{binding_id}
-use Rattle.infer_ctx.proofs.FineTypes.{fine_grown, fine_expectation_grown}
+use Rattle.infer_ctx.proofs.FineTypes.{fine_grown}
 use Rattle.infer_coerce.specs.Coercions.{IsCoerced}
 use Rattle.infer_pat.specs.Patterns.{BeforePat, PatDone, IsGivenOrNew, ComesToPat, PatWalked, IsLitPatOf}
 use Rattle.infer_pat.proofs.PatSteps.{before_pat_under}
@@ -144,10 +143,6 @@ module _ (g : Given) (s : Schedule) (p : PatId) (e : ExprId) (x : Option Ty) (ol
       }
 
   module _ (t : Ty) (mid : InferenceContext) (d : OwnDone g s e x t (context.entered old) mid) where
-    -- what comes in is fine where the literal is done
-    pub fine_still : (u : Ty) → x ≡ Some u → IsFine g.scope mid.table u
-    fine_still u i = subst (λ y. IsFineExpectation g.scope mid.table y) i (fine_expectation_grown g.scope old.table mid.table x d.follows.grew h.fine)
-
     fits_follows : (y : Option Ty) (last : InferenceContext) → FitsExpected g e t y mid last → Follows g mid last × (last.clock ≡ mid.clock)
     fits_follows None last f =
         subst (λ c. Follows g mid c × (c.clock ≡ mid.clock)) (sym f) (follows_itself g mid d.follows.of_body d.follows.sound, refl)

@@ -39,20 +39,20 @@ use Rattle.infer_ctx.specs.declared.context.InferenceContext.{InferenceContext}
 use Rattle.infer_ctx.specs.Closings.{Closes, found_under, expected_under, IsSound}
 use Rattle.infer_ctx.specs.Steps.{Within, KindDone, ArePartTypes}
 use Rattle.infer_ctx.specs.Tells.{TellsRecorded}
-use Rattle.infer_ctx.specs.Fine.{item_params, IsFine}
+use Rattle.infer_ctx.specs.Fine.{item_params, IsFine, AllFine}
 use Rattle.infer_ctx.proofs.Parts.{expr_ahead}
 use Rattle.infer_ctx.proofs.Variants.{expr_named}
 use Rattle.infer_ctx.proofs.Leaves.{rule_of, leaf_done}
 use Rattle.infer_ctx.proofs.Carried.{carried_expr}
-use Rattle.infer_ctx.proofs.Closed.{same_found, closes_earlier, At-unclosed, At-closed}
+use Rattle.infer_ctx.proofs.UnderClosings.{same_found, closes_earlier, At-unclosed, At-closed}
 use Rattle.infer_ctx.proofs.OverTypes.{fine_closed, fn_def_closed, adt_closed}
 use Rattle.infer_ctx.proofs.AtEach.{told_same, within_under}
 use Rattle.infer_ctx.proofs.Tellings.{local_tells, function_tells, ctor_tells}
-use Rattle.infer_ctx.proofs.FineTypes.{fine_fn_def, AllFine, fine_adt}
+use Rattle.infer_ctx.proofs.FineTypes.{every_from, fine_fn_def, fine_adt}
 use Rattle.infer_ctx.proofs.Items.{tuple_signature}
 use Rattle.infer_coerce.proofs.Holes.{holed}
 use Rattle.infer_pat.specs.Paths.{IsPathType, NamesTyped, PathDone, AreFreshArgs}
-use Rattle.infer_pat.proofs.PatHoles.{all_fine, no_part_yet, one_part_more, new_one}
+use Rattle.infer_pat.proofs.PatHoles.{no_part_yet, one_part_more, new_one}
 
 path_rule : (g : Given) (r q : InferenceResult) (e : ExprId) (p : RawPath) (t : Ty) → Extends r q → HasTy q e t → ((v : VariantId) → p ≡ path.Ctor v → ExprVariant r e v) → IsPathType g r p t → PathRule g q e p
 path_rule g r q e (path.Local v) t x has named k = (t, has, x.bindings v t k)
@@ -141,7 +141,7 @@ counted_under a o n ts at count = at ∙ ap (λ m. Some m) (sym count ∙ sym (l
 
 -- the type of an item at as many types as it has parameters is fine
 pub item_fine : (g : Given) (id : CallableDefId) (item : IsItem g.scope.facts id) (ts : List Ty) (c new : InferenceContext) → ArePartTypes g.scope item.signature.params ts c new → IsFine g.scope new.table (ty.FnDef id (type_args ts))
-item_fine g id item ts c new d = fine_fn_def g.scope new.table id ts (takes (item_params g.scope.facts id) item.signature.params ts (ap (option_map (λ σ. σ.params)) item.found) d.count_is) (all_fine g.scope new.table ts d.fine)
+item_fine g id item ts c new d = fine_fn_def g.scope new.table id ts (takes (item_params g.scope.facts id) item.signature.params ts (ap (option_map (λ σ. σ.params)) item.found) d.count_is) (every_from (IsFine g.scope new.table) ts d.fine)
 
 -- a function at as many types as it has parameters
 pub function_path : (g : Given) (f : FunctionId) (item : IsItem g.scope.facts (callable.FunctionId f)) (ts : List Ty) (c new : InferenceContext) → ArePartTypes g.scope item.signature.params ts c new → PathDone g (path.Function f) (ty.FnDef (callable.FunctionId f) (type_args ts)) c new
@@ -163,7 +163,7 @@ module _ (g : Given) (v : VariantId) (x : IsVariant g.scope.facts v) (ts : List 
   variant_under a = record { found = x.found; count = counted_under a (adt_params g.scope.facts x.variant.adt) x.params ts x.count d.count_is }
 
   every_fine : AllFine g.scope new.table ts
-  every_fine = all_fine g.scope new.table ts d.fine
+  every_fine = every_from (IsFine g.scope new.table) ts d.fine
 
   -- the type of its adt is fine
   pub ctor_adt_fine : IsFine g.scope new.table (ty.Adt x.variant.adt (type_args ts))

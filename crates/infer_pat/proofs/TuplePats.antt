@@ -13,7 +13,7 @@ use Rattle.infer_result.specs.Pats.Tuple.{AllPatsAt}
 use Rattle.infer_result.specs.declared.result.InferenceResult.{InferenceResult}
 use Rattle.infer_ctx.proofs.Keeps.{all_pats_kept, pat_at_kept}
 use Rattle.infer_ctx.proofs.Types.{carried_tuple_of}
-use Rattle.infer_pat.specs.Patterns.{ComesToPat, IsTuplePatOf, IsPatPlaced, BeforePat, PatDemanded, PatIsDemanded, PatDone}
+use Rattle.infer_pat.specs.Patterns.{AreTupleParts, HandsParts, ComesToPat, IsTuplePatOf, IsPatPlaced, BeforePat, PatDemanded, PatIsDemanded, PatDone}
 use Rattle.infer_pat.proofs.PatDemands.{Demands, entered_opening, pat_demanded}
 use Rattle.infer_pat.proofs.PatSteps.{enters_more, enters_done, before_pat_under}
 use Rattle.infer_pat.proofs.Pats.{pat_rule_of}
@@ -21,12 +21,13 @@ use Rattle.hir_types.specs.Subst.{Assignment, folded}
 use Rattle.infer_table.proofs.HoleLaws.{grew_twice}
 use Rattle.infer_result.specs.Truth.Mismatch.{SaysItsType}
 use Rattle.infer_ctx.specs.declared.context.InferenceContext.{InferenceContext}
-use Rattle.infer_ctx.specs.Steps.{ArePartTypes}
 use Rattle.infer_ctx.specs.Closings.{Closes, found_under, expected_under}
 use Rattle.infer_ctx.specs.Tells.{TellsRecorded}
 use Rattle.infer_ctx.proofs.AtEach.{closes_before, told_same, follows_twice}
-use Rattle.infer_ctx.proofs.Closed.{same_found, closes_earlier}
-use Rattle.infer_pat.proofs.PatHoles.{FineEach, fine_each_grown, carried_each, tuple_under}
+use Rattle.infer_ctx.proofs.UnderClosings.{same_found, closes_earlier}
+use Rattle.infer_ctx.specs.Fine.{IsFine, AllFine}
+use Rattle.infer_ctx.proofs.FineTypes.{all_fine_grown, every_at, every_from}
+use Rattle.infer_pat.proofs.PatHoles.{carried_each, tuple_under}
 use Rattle.infer_pat.proofs.PatParts.{AtPat, begins_pats, comes_to_pat, past_pat, pats_past}
 use Rattle.hir_types.specs.declared.ty.Ty.TheVariants as ty
 use Rattle.hir_raw.specs.declared.raw.RawPat.TheVariants as pat
@@ -38,45 +39,48 @@ pub record TuplePatBegun (g : Given) (s : Schedule) (p : PatId) (ps : List PatId
   pub before : BeforePat g s p x old
   pub is : IsTuplePatOf g.body p ps
   pub holed : InferenceContext
-  pub holes : ArePartTypes g.scope (length ps) ts (context.entered old) holed
+  pub parts : AreTupleParts g.scope x (length ps) ts (context.entered old) holed
   pub demanded : PatDemanded g p (ty.Tuple ts) x holed mid
 
-pub tuple_pat_begun : (g : Given) (s : Schedule) (p : PatId) (ps : List PatId) (ts made : List Ty) (own : Ty) (x : Option Ty) (old first holed mid : InferenceContext) → BeforePat g s p x old → IsTuplePatOf g.body p ps → first ≡ context.entered old → ts ≡ made → ArePartTypes g.scope (length ps) made first holed → own ≡ ty.Tuple ts → PatDemanded g p own x holed mid → TuplePatBegun g s p ps ts x old mid
-tuple_pat_begun g s p ps ts made own x old first holed mid h is at same holes tuple demanded = record {
+pub tuple_pat_begun : (g : Given) (s : Schedule) (p : PatId) (ps : List PatId) (ts made : List Ty) (own : Ty) (x : Option Ty) (old first holed mid : InferenceContext) → BeforePat g s p x old → IsTuplePatOf g.body p ps → first ≡ context.entered old → ts ≡ made → AreTupleParts g.scope x (length ps) made first holed → own ≡ ty.Tuple ts → PatDemanded g p own x holed mid → TuplePatBegun g s p ps ts x old mid
+tuple_pat_begun g s p ps ts made own x old first holed mid h is at same parts tuple demanded = record {
   before = h;
   is = is;
   holed = holed;
-  holes = subst (λ c. ArePartTypes g.scope (length ps) ts c holed) at (subst (λ us. ArePartTypes g.scope (length ps) us first holed) (sym same) holes);
+  parts = subst (λ c. AreTupleParts g.scope x (length ps) ts c holed) at (subst (λ us. AreTupleParts g.scope x (length ps) us first holed) (sym same) parts);
   demanded = subst (λ t. PatDemanded g p t x holed mid) tuple demanded;
 }
 
 module _ (g : Given) (s : Schedule) (p : PatId) (ps : List PatId) (ts : List Ty) (x : Option Ty) (old mid : InferenceContext) (b : TuplePatBegun g s p ps ts x old mid) where
+  holed_fine : AllFine g.scope b.holed.table ts
+  holed_fine = every_from (IsFine g.scope b.holed.table) ts b.parts.made.fine
+
   module _ (a : Assignment) (k : Closes a mid) where
     at_holes : Closes a b.holed
     at_holes = closes_before g a b.holed mid b.demanded.follows k
 
     at_old : Closes a old
-    at_old = closes_earlier a old b.holed b.holes.grew at_holes
+    at_old = closes_earlier a old b.holed b.parts.made.grew at_holes
 
     begun_before : ComesToPat g s p (expected_under a x) (found_under a old)
     begun_before = before_pat_under g s a old at_old p x b.before
 
     begun_carried : AreCarriedTypes (map (folded a) ts)
-    begun_carried = carried_each g.scope a b.holed.table ts k.closing b.holes.fine
+    begun_carried = carried_each g.scope a b.holed.table ts k.closing holed_fine
 
     begun_demands : Demands g s p (ty.Tuple (map (folded a) ts)) (expected_under a x) (found_under a old) (found.entered (found_under a old)) (found_under a mid)
     begun_demands =
-        let e : found_under a b.holed ≡ found.entered (found_under a old) = same_found a (context.entered old) b.holed b.holes.result b.holes.asked b.holes.clock in
+        let e : found_under a b.holed ≡ found.entered (found_under a old) = same_found a (context.entered old) b.holed b.parts.made.result b.parts.made.asked b.parts.made.clock in
         let asked : PatIsDemanded p (ty.Tuple (map (folded a) ts)) (expected_under a x) (found_under a b.holed) (found_under a mid) = subst (λ t. PatIsDemanded p t (expected_under a x) (found_under a b.holed) (found_under a mid)) (tuple_under a ts) (b.demanded.each a k) in
         pat_demanded g s p (ty.Tuple (map (folded a) ts)) (expected_under a x) (found_under a old) (found.entered (found_under a old)) begun_before
         (entered_opening g s p (expected_under a x) (found_under a old) begun_before) (subst (λ o. SaysItsType o) (sym b.is) tt) (carried_tuple_of (map (folded a) ts) begun_carried) (found_under a mid)
         (subst (λ f. PatIsDemanded p (ty.Tuple (map (folded a) ts)) (expected_under a x) f (found_under a mid)) e asked)
 
   begun_told : TellsRecorded g mid.result
-  begun_told = b.demanded.follows.told (told_same g (context.entered old) b.holed b.holes.result b.before.state.told)
+  begun_told = b.demanded.follows.told (told_same g (context.entered old) b.holed b.parts.made.result b.before.state.told)
 
-  begun_fine : FineEach g.scope mid.table ts
-  begun_fine = fine_each_grown g.scope b.holed.table mid.table ts b.demanded.follows.grew b.holes.fine
+  begun_fine : AllFine g.scope mid.table ts
+  begun_fine = all_fine_grown g.scope b.holed.table mid.table ts b.demanded.follows.grew holed_fine
 
 -- ---- the parts
 
@@ -93,7 +97,7 @@ pats_push g r (q ∷ ps) (u ∷ ts) p t h k = (h.0, pats_push g r ps ts p t h.1 
 
 module _ (g : Given) (s : Schedule) (p : PatId) (ps : List PatId) (ts : List Ty) (x : Option Ty) (old mid : InferenceContext) (b : TuplePatBegun g s p ps ts x old mid) where
   pub begun_clock : mid.clock ≡ old.clock + 1
-  begun_clock = b.demanded.clock ∙ b.holes.clock
+  begun_clock = b.demanded.clock ∙ b.parts.made.clock
 
   pub begins_tuple_pat : TupleParts g s p ps ts 0 mid mid
   begins_tuple_pat = record {
@@ -117,7 +121,7 @@ module _ (g : Given) (s : Schedule) (p : PatId) (ps : List PatId) (ts : List Ty)
       pub comes_to_part : BeforePat g s q (Some t) c
       comes_to_part =
           comes_to_pat g s p ps i mid c h.walk q is k (Some t) b.before.ready (begun_told g s p ps ts x old mid b)
-          (fine_each_grown g.scope mid.table c.table ts h.walk.follows.grew (begun_fine g s p ps ts x old mid b) i t type_at)
+          (every_at (IsFine g.scope c.table) ts i t (all_fine_grown g.scope mid.table c.table ts h.walk.follows.grew (begun_fine g s p ps ts x old mid b)) type_at)
           (λ a l u e. (let same : folded a t ≡ u = cc in inl (record { types = map (folded a) ts; has = has_tuple a l; component = type_under a ∙ ap (λ y. Some y) same })))
 
       pub goes_past_part : (next : InferenceContext) → PatDone g s q (Some t) c next → TupleParts g s p ps ts (i + 1) mid next
@@ -138,6 +142,10 @@ module _ (g : Given) (s : Schedule) (p : PatId) (ps : List PatId) (ts : List Ty)
             );
       }
 
+    -- what its parts got
+    pub hands_parts : HandsParts g p x (length ps) old c
+    hands_parts = record { types = ts; holed = b.holed; parts = b.parts; each = has_tuple }
+
     whole : {X : Type 0} (xs : List X) → length xs ≤ i → take i xs ≡ xs
     whole xs over =
         let none : drop i xs ≡ [] = drop_of_length-le xs over in
@@ -151,17 +159,17 @@ module _ (g : Given) (s : Schedule) (p : PatId) (ps : List PatId) (ts : List Ty)
     ends_tuple_pat over = record {
       follows = record {
         clock = omega (arith, begun_clock, h.walk.follows.clock);
-        grew = grew_twice old.table b.holed.table c.table b.holes.grew (follows_twice g b.holed mid c b.demanded.follows h.walk.follows).grew;
+        grew = grew_twice old.table b.holed.table c.table b.parts.made.grew (follows_twice g b.holed mid c b.demanded.follows h.walk.follows).grew;
         of_body = h.walk.follows.of_body;
         sound = h.walk.follows.sound;
-        told = λ told. h.walk.follows.told (b.demanded.follows.told (told_same g (context.entered old) b.holed b.holes.result told));
+        told = λ told. h.walk.follows.told (b.demanded.follows.told (told_same g (context.entered old) b.holed b.parts.made.result told));
       };
       each = λ a l.
           let us : List Ty = map (folded a) ts in
           let r = (found_under a c).result in
           let d = demands_at a l in
           let all = (h.walk.each a l).walks in
-          let same : length us ≡ length ps = length-map ts (folded a) ∙ b.holes.count_is in
+          let same : length us ≡ length ps = length-map ts (folded a) ∙ b.parts.made.count_is in
           let made : AllPatsAt g r ps us =
           subst (λ l. AllPatsAt g r l us) (whole ps over) (subst (λ l. AllPatsAt g r (take i ps) l) (whole us (omega (arith, same, over))) (h.made a l)) in
           record {

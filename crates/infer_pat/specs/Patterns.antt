@@ -1,11 +1,12 @@
 -- What the walk over a pattern is given, and what it does.
-use Rattle.std.specs.Prelude.{◌<◌, ◌≡◌, length, Option, Some, None, ◌⊎◌, ℕ, List, slice_get, map}
+use Rattle.std.specs.Prelude.{◌<◌, ◌≡◌, length, Option, Some, None, ◌⊎◌, ℕ, List, [], ◌∷◌, slice_get, map}
 use Rattle.hir_types.specs.declared.ids.PatId.{PatId}
 use Rattle.hir_types.specs.declared.ty.Ty.{Ty}
 use Rattle.hir_types.specs.declared.ids.VariantId.{VariantId}
 use Rattle.hir_types.specs.declared.ids.ExprId.{ExprId}
 use Rattle.hir_types.specs.Subst.{Assignment, folded}
 use Rattle.hir_types.specs.declared.ids.ExprOrPatId.TheVariants as node
+use Rattle.hir_types.specs.declared.head.HoleKind.TheVariants as kind
 use Rattle.hir_types.specs.declared.ty.Ty.TheVariants as ty
 use Rattle.hir_raw.specs.declared.schedule.Schedule.{Schedule}
 use Rattle.hir_raw.specs.declared.raw.RawBody.{RawBody}
@@ -13,14 +14,15 @@ use Rattle.hir_raw.specs.declared.raw.RawPath.{RawPath}
 use Rattle.hir_raw.specs.Scope.{Scope}
 use Rattle.hir_raw.specs.Signatures.{type_args, at_args, field_types}
 use Rattle.hir_raw.specs.declared.raw.RawPat.TheVariants as pat
-use Rattle.infer_table.specs.Table.{Grew, hole_count}
+use Rattle.infer_table.specs.Resolution.{IsOpenOrKnown}
+use Rattle.infer_table.specs.Table.{State, Grew, bindings, hole_count, resolved_type, with_new_hole}
 use Rattle.infer_result.specs.Places.{Given, PatIsAtOrMismatch}
 use Rattle.infer_result.specs.Incoming.{Incoming}
 use Rattle.infer_result.specs.declared.result.InferenceResult.{InferenceResult}
-use Rattle.infer_result.specs.Table.{mismatch}
+use Rattle.infer_result.specs.Table.{PatTy, mismatch}
 use Rattle.infer_result.specs.declared.diagnostics.InferenceDiagnostic.TheVariants as diagnostic
 use Rattle.infer_ctx.specs.Found.{Found, with_pat_mismatch, with_pat_ty}
-use Rattle.infer_ctx.specs.Context.{IsCarriedExpectation, with_pat_diagnostic}
+use Rattle.infer_ctx.specs.Context.{IsCarriedExpectation, element_type, entered, with_pat_diagnostic}
 use Rattle.infer_ctx.specs.Walks.{IsWalked, pat_start, Walks, Nothing, pat_end}
 use Rattle.infer_ctx.specs.Under.{IsReady, IsVariant}
 use Rattle.infer_ctx.specs.declared.context.InferenceContext.{InferenceContext}
@@ -93,6 +95,11 @@ pub record BeforePat (g : Given) (s : Schedule) (p : PatId) (x : Option Ty) (c :
 abbrev pub PatDone : Given → Schedule → PatId → Option Ty → InferenceContext → InferenceContext → Type 0
 PatDone g s p x old new = Does g (λ a. PatWalked g s p (expected_under a x)) old new
 
+-- the table has a new hole more where no type is given
+abbrev pub after_given : State → Option Ty → State
+after_given s None = with_new_hole s kind.Ty
+after_given s (Some t) = s
+
 -- the type is the given one, or a hole that is new
 pub record IsGivenOrNew (sc : Scope) (x : Option Ty) (t : Ty) (old new : InferenceContext) : Type 0 where
   pub result : new.result ≡ old.result
@@ -103,6 +110,49 @@ pub record IsGivenOrNew (sc : Scope) (x : Option Ty) (t : Ty) (old new : Inferen
   pub fine : IsFine sc new.table t
   pub given : (u : Ty) → x ≡ Some u → t ≡ u
   pub new_hole : x ≡ None → t ≡ ty.Var (hole_count old.table)
+  pub table : new.table ≡ after_given old.table x
+
+-- ---- tuple patterns
+
+-- r is what the type t is resolved to at the top
+pub record IsTopOf (s : State) (t r : Ty) : Type 0 where
+  pub same : resolved_type s r ≡ resolved_type s t
+  pub top : IsOpenOrKnown (bindings s) r
+
+-- what is known of the part i: the component of what comes in, where that is resolved to a tuple which has it, or else nothing
+abbrev pub IsComponentOf : State → Option Ty → ℕ → Option Ty → Type 0
+IsComponentOf s None i known = known ≡ None
+IsComponentOf s (Some t) i known = (r : Ty) × IsTopOf s t r × (known ≡ element_type (Some r) i)
+
+-- each of these types, with the next new hole in the place of each that is not given
+abbrev pub given_types : State → List (Option Ty) → List Ty
+given_types s [] = []
+given_types s (None ∷ xs) = ty.Var (hole_count s) ∷ given_types (with_new_hole s kind.Ty) xs
+given_types s (Some t ∷ xs) = t ∷ given_types s xs
+
+-- the table has these holes more
+abbrev pub after_all_given : State → List (Option Ty) → State
+after_all_given s [] = s
+after_all_given s (x ∷ xs) = after_all_given (after_given s x) xs
+
+-- the types of so many parts of a tuple pattern, into which x comes: each is the component of what comes in, where that is
+-- known, or a new hole of its own
+pub record AreTupleParts (sc : Scope) (x : Option Ty) (count : ℕ) (ts : List Ty) (old new : InferenceContext) : Type 0 where
+  pub made : ArePartTypes sc count ts old new
+  pub known : List (Option Ty)
+  pub count_is : length known ≡ count
+  pub each : (i : ℕ) (k : Option Ty) → slice_get known i ≡ Some k → IsComponentOf old.table x i k
+  pub types : ts ≡ given_types old.table known
+  pub table : new.table ≡ after_all_given old.table known
+
+-- the pattern p is of the tuple of these types, which its parts get
+pub record HandsParts (g : Given) (p : PatId) (x : Option Ty) (count : ℕ) (old new : InferenceContext) : Type 0 where
+  pub types : List Ty
+  pub holed : InferenceContext
+  pub parts : AreTupleParts g.scope x count types (entered old) holed
+  pub each : (a : Assignment) → Closes a new → PatTy (found_under a new).result p (ty.Tuple (map (folded a) types))
+
+-- ---- what is asked of what comes in
 
 -- The type t is recorded as that of the pattern, and it is what comes in, or they differ, and that is
 -- noted.

@@ -6,16 +6,16 @@ ghost use Rattle.infer_result.specs.Closed.{IsOfBody};
 ghost use Rattle.infer_ctx.specs.Context.{given_of, scope_in, schedule_of, expected_type, bound_by};
 ghost use Rattle.infer_ctx.specs.Closings.{IsSound};
 ghost use Rattle.infer_ctx.specs.Fine.{IsFine, IsFineExpectation};
-ghost use Rattle.infer_pat.specs.Patterns.{IsTuplePatOf, IsCtorPatOf, IsPathPatOf, IsLitPatOf, BeforePat, PatDone, IsGivenOrNew, PatDemanded, PartsCounted, CtorDemanded};
+ghost use Rattle.infer_pat.specs.Patterns.{IsTuplePatOf, IsCtorPatOf, IsPathPatOf, IsLitPatOf, BeforePat, PatDone, IsGivenOrNew, IsComponentOf, AreTupleParts, HandsParts, PatDemanded, PartsCounted, CtorDemanded};
 ghost use Rattle.infer_ctx.specs.Under.{IsVariant};
-ghost use Rattle.infer_ctx.specs.Steps.{ArePartTypes, Before, OwnDone};
+ghost use Rattle.infer_ctx.specs.Steps.{Before, OwnDone};
 ghost use Rattle.hir_laws.specs.Literals.{IsLiteral};
 
 use crate::literal::infer_literal;
 use crate::path::{fresh_args_for_item, infer_expr_path};
 use hir_facts::{BindingId, ExprId, List, PatId, RawPat, RawPath, Ty, VariantId};
 use hir_types::ExprOrPatId;
-use infer_coerce::{demand_coerce, unify};
+use infer_coerce::{copies, demand_coerce, unify};
 use infer_ctx::{Expectation, GivenBody, InferenceContext};
 use infer_result::{BindingMode, InferenceDiagnostic, TypeMismatch};
 use std::alloc::{AllocError, Global};
@@ -124,8 +124,8 @@ fn infer_bind_pat(
 }
 
 /// Types a tuple pattern: its own type is a tuple of what is known of the components that come
-/// in, and of new holes, which is unified with what comes in; then its parts are typed. This is
-/// `infer/pat.rs`'s `infer_tuple_pat_like`.
+/// in, and of new holes, which is unified with what comes in; then its parts are typed, into each of which
+/// its one of these types comes. This is `infer/pat.rs`'s `infer_tuple_pat_like`.
 #[cycle(pats)]
 fn infer_tuple_pat(
     alloc: Global,
@@ -137,8 +137,10 @@ fn infer_tuple_pat(
 ) -> Result<(), AllocError>
     requires before { BeforePat (given_of given.now) (schedule_of given.now) pat expected context.old }
     requires is { IsTuplePatOf given.now.body.now pat args.now }
-    ensures { IfOk result (λ _. PatDone (given_of given.now) (schedule_of given.now)
+    ensures done { IfOk result (λ _. PatDone (given_of given.now) (schedule_of given.now)
         pat expected context.old context.new) }
+    ensures hands { IfOk result (λ _. HandsParts (given_of given.now) pat expected (length args.now)
+        context.old context.new) }
 {
     context.enter();
     let parts = part_tys(alloc, context, given, args.len(), &expected)?;
@@ -250,8 +252,8 @@ fn infer_pat_literal(
     Ok(ty)
 }
 
-/// The types of the parts of a tuple pattern: the components of what comes in, as far as it is
-/// known to have them, then new holes.
+/// The types of so many parts of a tuple pattern: each is the component at its position of what comes in,
+/// as far as that is known to be a tuple which has it, or else a new hole of its own.
 fn part_tys(
     alloc: Global,
     context: &mut InferenceContext,
@@ -261,7 +263,7 @@ fn part_tys(
 ) -> Result<List<Ty>, AllocError>
     requires sound { IsSound (scope_in given.now) context.old }
     requires fine { IsFineExpectation (scope_in given.now) context.old.table expected.now }
-    ensures { IfOk result (λ tys. ArePartTypes (scope_in given.now) count tys context.old context.new) }
+    ensures { IfOk result (λ tys. AreTupleParts (scope_in given.now) expected.now count tys context.old context.new) }
 {
     let mut tys = List::new(alloc);
     for i in 0..count {
@@ -272,8 +274,8 @@ fn part_tys(
     Ok(tys)
 }
 
-/// The component at a position of what comes into a pattern, where that is known to be a tuple
-/// which has it.
+/// The component at a position of what comes into a pattern: `Some` where that is resolved to a tuple
+/// which has it, else `None`.
 fn component(
     alloc: Global,
     context: &InferenceContext,
@@ -283,7 +285,8 @@ fn component(
 ) -> Result<Option<Ty>, AllocError>
     requires sound { IsSound (scope_in given.now) context.now }
     requires fine { IsFineExpectation (scope_in given.now) context.now.table expected.now }
-    ensures { IfOk result (λ known. IsFineExpectation (scope_in given.now) context.now.table known) }
+    ensures fine { IfOk result (λ known. IsFineExpectation (scope_in given.now) context.now.table known) }
+    ensures is { IfOk result (λ known. IsComponentOf context.now.table expected.now at known) }
 {
     let Some(ty) = expected else {
         return Ok(None);
@@ -403,9 +406,6 @@ fn ty_at(alloc: Global, tys: &[Ty], at: usize) -> Result<Option<Ty>, AllocError>
 fn tuple_of(alloc: Global, tys: &[Ty]) -> Result<Ty, AllocError>
     ensures { IfOk result (λ tuple. tuple ≡ ty.Tuple tys.now) }
 {
-    let mut parts = List::new(alloc);
-    for ty in tys {
-        parts.push(ty.dup(alloc)?)?;
-    }
+    let parts = copies(alloc, tys)?;
     Ok(Ty::Tuple(parts))
 }

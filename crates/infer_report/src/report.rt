@@ -2,7 +2,7 @@
 ghost use Rattle.std.specs.Prelude.{◌≡◌, ◌++◌, OnOk, IfOk, string_bytes, count_by, is_some};
 ghost use Rattle.std.specs.Option.{option_copied};
 ghost use Rattle.infer_result.specs.Table.{recorded};
-ghost use Rattle.infer_result.specs.Report.{def_line, variant_text, expr_line, mode_text, pat_line, binding_line, mismatch_head, pat_mismatch_head, type_field, mismatch_line, node_text, counts_text, diagnostic_text, diagnostic_line, expr_complaints, pat_mismatch_line, pat_complaints, lines_from, complaint_count, report};
+ghost use Rattle.infer_result.specs.Report.{def_line, variant_text, expr_line, mode_text, pat_line, binding_line, mismatch_head, type_field, mismatch_line, node_text, counts_text, diagnostic_text, diagnostic_line, complaints, lines_from, complaint_count, report};
 
 use super::types::{push_ty, push_type};
 use hir_facts::{DefWithBodyId, ExprOrPatId, Facts, RawFacts, Ty, VariantId};
@@ -151,17 +151,10 @@ fn push_bindings(out: &mut String, facts: &RawFacts, types: &[Option<Ty>]) -> Re
 }
 
 #[tactic(auto, unfolding(infer_result::specs::Report::mismatch_head))]
-fn push_head(out: &mut String, at: usize) -> Result<(), AllocError>
-    ensures { OnOk result (string_bytes out.new ≡ string_bytes out.old ++ mismatch_head at) }
+fn push_head(out: &mut String, letter: &str, at: usize) -> Result<(), AllocError>
+    ensures { OnOk result (string_bytes out.new ≡ string_bytes out.old ++ mismatch_head letter.now at) }
 {
-    write!(out, "TypeMismatch e{at}")
-}
-
-#[tactic(auto, unfolding(infer_result::specs::Report::pat_mismatch_head))]
-fn push_pat_head(out: &mut String, at: usize) -> Result<(), AllocError>
-    ensures { OnOk result (string_bytes out.new ≡ string_bytes out.old ++ pat_mismatch_head at) }
-{
-    write!(out, "TypeMismatch p{at}")
+    write!(out, "TypeMismatch {letter}{at}")
 }
 
 #[tactic(auto, unfolding(infer_result::specs::Report::type_field))]
@@ -175,15 +168,16 @@ fn push_field(out: &mut String, facts: &RawFacts, name: &str, ty: &Ty) -> Result
 fn push_mismatch(
     out: &mut String,
     facts: &RawFacts,
+    letter: &str,
     at: usize,
     mismatch: &Option<TypeMismatch>,
 ) -> Result<(), AllocError>
-    ensures { OnOk result (string_bytes out.new ≡ string_bytes out.old ++ mismatch_line facts.now at mismatch.now) }
+    ensures { OnOk result (string_bytes out.new ≡ string_bytes out.old ++ mismatch_line facts.now letter.now at mismatch.now) }
 {
     match mismatch {
         None => Ok(()),
         Some(mismatch) => {
-            push_head(out, at)?;
+            push_head(out, letter, at)?;
             push_field(out, facts, " expected=", &mismatch.expected)?;
             push_field(out, facts, " actual=", &mismatch.actual)?;
             out.push_str("\n")
@@ -277,72 +271,29 @@ fn diagnostic_at(
 fn push_complaints_at(
     out: &mut String,
     facts: &RawFacts,
+    letter: &str,
     diagnostics: &[Option<InferenceDiagnostic>],
     at: usize,
     mismatch: &Option<TypeMismatch>,
 ) -> Result<(), AllocError>
-    ensures { OnOk result (string_bytes out.new ≡ string_bytes out.old ++ expr_complaints facts.now diagnostics.now at mismatch.now) }
+    ensures { OnOk result (string_bytes out.new ≡ string_bytes out.old ++ complaints facts.now letter.now diagnostics.now at mismatch.now) }
 {
-    push_mismatch(out, facts, at, mismatch)?;
+    push_mismatch(out, facts, letter, at, mismatch)?;
     push_diagnostic(out, facts, diagnostic_at(diagnostics, at))
 }
 
-fn push_expr_complaints(
+/// The complaints at all expressions, or at all patterns, whose letter this is.
+fn push_complaints(
     out: &mut String,
     facts: &RawFacts,
+    letter: &str,
     diagnostics: &[Option<InferenceDiagnostic>],
     mismatches: &[Option<TypeMismatch>],
 ) -> Result<(), AllocError>
-    ensures { OnOk result (string_bytes out.new ≡ string_bytes out.old ++ lines_from (expr_complaints facts.now diagnostics.now) 0 mismatches.now) }
+    ensures { OnOk result (string_bytes out.new ≡ string_bytes out.old ++ lines_from (complaints facts.now letter.now diagnostics.now) 0 mismatches.now) }
 {
     for (at, mismatch) in mismatches.iter().enumerate() {
-        push_complaints_at(out, facts, diagnostics, at, mismatch)?;
-    }
-    Ok(())
-}
-
-fn push_pat_mismatch(
-    out: &mut String,
-    facts: &RawFacts,
-    at: usize,
-    mismatch: &Option<TypeMismatch>,
-) -> Result<(), AllocError>
-    ensures { OnOk result (string_bytes out.new ≡ string_bytes out.old ++ pat_mismatch_line facts.now at mismatch.now) }
-{
-    match mismatch {
-        None => Ok(()),
-        Some(mismatch) => {
-            push_pat_head(out, at)?;
-            push_field(out, facts, " expected=", &mismatch.expected)?;
-            push_field(out, facts, " actual=", &mismatch.actual)?;
-            out.push_str("\n")
-        }
-    }
-}
-
-fn push_pat_complaints_at(
-    out: &mut String,
-    facts: &RawFacts,
-    diagnostics: &[Option<InferenceDiagnostic>],
-    at: usize,
-    mismatch: &Option<TypeMismatch>,
-) -> Result<(), AllocError>
-    ensures { OnOk result (string_bytes out.new ≡ string_bytes out.old ++ pat_complaints facts.now diagnostics.now at mismatch.now) }
-{
-    push_pat_mismatch(out, facts, at, mismatch)?;
-    push_diagnostic(out, facts, diagnostic_at(diagnostics, at))
-}
-
-fn push_pat_complaints(
-    out: &mut String,
-    facts: &RawFacts,
-    diagnostics: &[Option<InferenceDiagnostic>],
-    mismatches: &[Option<TypeMismatch>],
-) -> Result<(), AllocError>
-    ensures { OnOk result (string_bytes out.new ≡ string_bytes out.old ++ lines_from (pat_complaints facts.now diagnostics.now) 0 mismatches.now) }
-{
-    for (at, mismatch) in mismatches.iter().enumerate() {
-        push_pat_complaints_at(out, facts, diagnostics, at, mismatch)?;
+        push_complaints_at(out, facts, letter, diagnostics, at, mismatch)?;
     }
     Ok(())
 }
@@ -389,15 +340,17 @@ pub fn write_report(
         table.type_of_pat.as_slice(),
     )?;
     push_bindings(&mut out, raw, table.type_of_binding.as_slice())?;
-    push_expr_complaints(
+    push_complaints(
         &mut out,
         raw,
+        "e",
         table.expr_diagnostics.as_slice(),
         table.expr_mismatches.as_slice(),
     )?;
-    push_pat_complaints(
+    push_complaints(
         &mut out,
         raw,
+        "p",
         table.pat_diagnostics.as_slice(),
         table.pat_mismatches.as_slice(),
     )?;

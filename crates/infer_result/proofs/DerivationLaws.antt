@@ -55,10 +55,6 @@ module _ (g : Given) (t : InferenceResult) (h : IsTyped g t) (known : AllTypes I
       clean.diagnostics x.call.0 _ (h.complaints.said w.position w.entry w.found x.call x.called x.args x.type x.is_node x.is_call x.has (known.exprs x.called.0 x.type x.has))
 
   not_excused : (n : ExprId) (o : Option RawExpr) → ExcusedAs t n o → ⊥
-  not_excused n None m = m
-  not_excused n (Some (expr.Lit l)) m = m
-  not_excused n (Some (expr.Path p)) m = m
-  not_excused n (Some (expr.Tuple es)) m = m
   not_excused n (Some (expr.Block label stmts last)) (inl m) = no_mismatch n m
   not_excused n (Some (expr.Block label stmts last)) (inr (inl m)) = no_stmts stmts m
   not_excused n (Some (expr.Block label stmts last)) (inr (inr m)) = no_maybe last m
@@ -68,7 +64,7 @@ module _ (g : Given) (t : InferenceResult) (h : IsTyped g t) (known : AllTypes I
   not_excused n (Some (expr.Match e arms)) (inr m) = none_of (arm_exprs arms) m
   not_excused n (Some (expr.Call f args)) (inl (d, at)) = clean.diagnostics n.0 d at
   not_excused n (Some (expr.Call f args)) (inr w) = not_seen n w
-  not_excused n (Some expr.Other) m = m
+  not_excused n _ m = m
 
   obeys : {A B : Type 0} → (A → ⊥) → A ⊎ B → B
   obeys never (inl a) = absurd (never a)

@@ -35,7 +35,7 @@ use Rattle.hir_raw.specs.declared.raw.RawCtor.{RawCtor}
 use Rattle.hir_raw.specs.declared.raw.RawCtor.TheVariants as ctor
 use Rattle.hir_raw.specs.declared.raw.RawVariant.{RawVariant}
 use Rattle.hir_types.specs.Types.{unit}
-use Rattle.hir_raw.specs.Types.{written_type}
+use Rattle.hir_raw.specs.WrittenTypes.{written_type}
 use Rattle.hir_facts.specs.Filled.{filled_written}
 use Rattle.hir_raw.specs.Scope.{names_item, adt_params}
 use Rattle.hir_raw.specs.Signatures.{Signature, fn_signature, ctor_signature, ctor_type, signature_of, type_args, at_args}
@@ -296,15 +296,8 @@ stmt_obeys_at g t (u ∷ ss) zero s h e = (let k : u ≡ s = cc in subst (λ v. 
 stmt_obeys_at g t (u ∷ ss) (suc i) s h e = stmt_obeys_at g t ss i s h.1 e
 
 block_stmts : (g : Given) (t : InferenceResult) (n : ExprId) (o : Option RawExpr) → Rule (at_or_mismatch g t) g t n o → (i : ℕ) (s : RawStmt) → slice_get (stmts_of o) i ≡ Some s → StmtRule (at_or_mismatch g t) g t s
-block_stmts g t n None h i s e = absurd h
-block_stmts g t n (Some (expr.Lit l)) h i s e = absurd (cc)
-block_stmts g t n (Some (expr.Path p)) h i s e = absurd (cc)
-block_stmts g t n (Some (expr.Tuple es)) h i s e = absurd (cc)
 block_stmts g t n (Some (expr.Block label ss last)) h i s e = stmt_obeys_at g t ss i s h.statements e
-block_stmts g t n (Some (expr.If c first other)) h i s e = absurd (cc)
-block_stmts g t n (Some (expr.Match d arms)) h i s e = absurd (cc)
-block_stmts g t n (Some (expr.Call f args)) h i s e = absurd (cc)
-block_stmts g t n (Some expr.Other) h i s e = absurd h
+block_stmts g t n _ h i s e = absurd (cc)
 
 -- an expression that is there stands among those of the body
 is_there : (b : RawBody) (n : ExprId) (i : ℕ) (s : RawStmt) → stmt_at b n i ≡ Some s → n.0 < length b.exprs
@@ -412,31 +405,16 @@ module _ (g : Given) (t : InferenceResult) (h : IsMade g t) where
       (let (q, here, (m, l)) = comes_from g.body n k _ at in
       let r = let_stands m q None (Some e) l in
       subst (λ x. PatIsAtOrMismatch g t x s) (same_pat _ q p here refl) (subst (λ u. PatIsAtOrMismatch g t q u) (one_at t.type_of_expr e.0 r.0 s r.1 gives) r.2))
-  by_role p n k (let_pattern None None) s at gives = absurd gives
   by_role p n k (Role.parameter i) s at gives =
       (let (q, here, is) = comes_from g.body n k _ at in
       subst (λ x. PatIsAtOrMismatch g t x s) (same_pat _ q p here refl) (h.params i q s is gives))
-  by_role p n k root s at gives = absurd gives
-  by_role p n k (initializer w) s at gives = absurd gives
-  by_role p n k Role.let_else s at gives = absurd gives
-  by_role p n k (Role.statement semicolon) s at gives = absurd gives
-  by_role p n k Role.tail s at gives = absurd gives
-  by_role p n k (Role.element i) s at gives = absurd gives
-  by_role p n k Role.condition s at gives = absurd gives
-  by_role p n k Role.then_branch s at gives = absurd gives
-  by_role p n k Role.else_branch s at gives = absurd gives
-  by_role p n k Role.scrutinee s at gives = absurd gives
   by_role p n k (Role.arm_pattern e i) s at gives =
       (let (q, here, (m, a)) = comes_from g.body n k _ at in
       subst (λ x. PatIsAtOrMismatch g t x s) (same_pat _ q p here refl) (arm_stands m e q s a gives))
-  by_role p n k (Role.guard i) s at gives = absurd gives
-  by_role p n k (Role.arm i) s at gives = absurd gives
-  by_role p n k Role.callee s at gives = absurd gives
-  by_role p n k (Role.argument i) s at gives = absurd gives
   by_role p n k (Role.subpattern i) s at gives =
       (let (q, here, (m, is, a)) = comes_from g.body n k _ at in
       subst (λ x. PatIsAtOrMismatch g t x s) (same_pat _ q p here refl) (part_stands m q i s a (subst (λ x. GivesPart g t x i s) is gives)))
-  by_role p n k Role.pattern_literal s at gives = absurd gives
+  by_role p n k _ s at gives = absurd gives
 
   incoming : (p : PatId) (s : Ty) → Incoming g t p s → PatIsAtOrMismatch g t p s
   incoming p s i = by_role p i.parent i.at_part i.role s i.stands.part i.gives

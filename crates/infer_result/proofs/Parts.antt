@@ -1,5 +1,5 @@
 -- Which node a part comes from.
-use Rattle.std.specs.Prelude.{ℕ, zero, suc, ◌+◌, ◌<◌, ◌≡◌, ◌⊎◌, List, [], ◌∷◌, ◌++◌, length, slice_get, Option, Some, None, refl}
+use Rattle.std.specs.Prelude.{ℕ, zero, suc, ◌+◌, ◌≡◌, ◌⊎◌, List, [], ◌∷◌, ◌++◌, slice_get, Option, Some, None, refl}
 use Rattle.std.proofs.Common.{inl, inr, ap, subst, arith, ◌∙◌}
 use Rattle.hir_types.specs.declared.ids.ExprId.{ExprId}
 use Rattle.hir_types.specs.declared.ids.PatId.{PatId}
@@ -27,11 +27,6 @@ module _ {X : Type 0} where
   pub no_entry : (k : ℕ) (x : X) → slice_get [] k ≡ Some x → ⊥
   no_entry k x e = cc
 
-  pub entry_of : (xs : List X) (n : ℕ) → n < length xs → (x : X) × (slice_get xs n ≡ Some x)
-  entry_of [] n h = absurd (omega arith)
-  entry_of (x ∷ xs) zero h = (x, refl)
-  entry_of (x ∷ xs) (suc n) h = (let k : n < length xs = omega arith in entry_of xs n k)
-
 -- ---- where a pattern may come from
 
 -- the statement is a `let` of this pattern, written type and initializer
@@ -55,13 +50,13 @@ pub record ArmStands (b : RawBody) (n e : ExprId) (p : PatId) : Type 0 where
   pub is_pattern : the_arm.pat ≡ p
 
 -- the pattern is one of these parts: a tuple, or of a constructor
-abbrev pub IsWhole : RawBody → PatId → List PatId → Type 0
-IsWhole b q parts = (slice_get b.pats q.0 ≡ Some (pat.Tuple parts)) ⊎ ((named : VariantId) × (slice_get b.pats q.0 ≡ Some (pat.TupleStruct named parts)))
+abbrev pub HasParts : RawBody → PatId → List PatId → Type 0
+HasParts b q parts = (slice_get b.pats q.0 ≡ Some (pat.Tuple parts)) ⊎ ((named : VariantId) × (slice_get b.pats q.0 ≡ Some (pat.TupleStruct named parts)))
 
 -- the part of the pattern q at this position
 pub record PartStands (b : RawBody) (q : PatId) (i : ℕ) (p : PatId) : Type 0 where
   pub parts : List PatId
-  pub whole : IsWhole b q parts
+  pub whole : HasParts b q parts
   pub stands : slice_get parts i ≡ Some p
 
 -- where a part of the node n in this role comes from, as far as it is a pattern
@@ -135,9 +130,6 @@ module _ (b : RawBody) (n : Node) where
         (from_arms (suc i) arms)
 
     from_expr : (o : Option RawExpr) → slice_get b.exprs m.0 ≡ o → Each From (parts_of_expr o)
-    from_expr None is = each_nil From
-    from_expr (Some (expr.Lit l)) is = each_nil From
-    from_expr (Some (expr.Path q)) is = each_nil From
     from_expr (Some (expr.Tuple es)) is = each_expr From element 0 es (λ j e. tt)
     from_expr (Some (expr.Block label ss last)) is =
         each_append From (stmts_parts ss) (maybe_part tail last)
@@ -150,10 +142,10 @@ module _ (b : RawBody) (n : Node) where
         each_cons From (expr_part scrutinee d) (arm_patterns d 0 arms ++ arms_parts 0 arms) tt
         (each_append From (arm_patterns d 0 arms) (arms_parts 0 arms) (from_arm_patterns d arms is arms 0 (λ i a e. subst (λ j. slice_get arms j ≡ Some a) (from_zero i) e)) (from_arms 0 arms))
     from_expr (Some (expr.Call f args)) is = each_cons From (expr_part callee f) (exprs_from argument 0 args) tt (each_expr From argument 0 args (λ j e. tt))
-    from_expr (Some expr.Other) is = each_nil From
+    from_expr _ is = each_nil From
 
   module _ (q : PatId) (here : n ≡ inner (node.PatId q)) where
-    from_subpatterns : (ps : List PatId) → IsWhole b q ps → (rest : List PatId) (from : ℕ) → ((i : ℕ) (p : PatId) → slice_get rest i ≡ Some p → slice_get ps (from + i) ≡ Some p) → Each From (subpatterns from rest)
+    from_subpatterns : (ps : List PatId) → HasParts b q ps → (rest : List PatId) (from : ℕ) → ((i : ℕ) (p : PatId) → slice_get rest i ≡ Some p → slice_get ps (from + i) ≡ Some p) → Each From (subpatterns from rest)
     from_subpatterns ps is [] from at = each_nil From
     from_subpatterns ps is (p ∷ rest) from at =
         each_cons From (pat_part (subpattern from) p) (subpatterns (suc from) rest)
@@ -161,14 +153,10 @@ module _ (b : RawBody) (n : Node) where
         (from_subpatterns ps is rest (suc from) (λ i u e. (let k : from + suc i ≡ suc from + i = omega arith in subst (λ j. slice_get ps j ≡ Some u) k (at (suc i) u e))))
 
     from_pat : (o : Option RawPat) → slice_get b.pats q.0 ≡ o → Each From (parts_of_pat o)
-    from_pat None is = each_nil From
-    from_pat (Some pat.Wild) is = each_nil From
-    from_pat (Some (pat.Bind v sub)) is = each_nil From
     from_pat (Some (pat.TupleStruct named ps)) is = from_subpatterns ps (inr (named, is)) ps 0 (λ i p e. subst (λ j. slice_get ps j ≡ Some p) (from_zero i) e)
-    from_pat (Some (pat.Path named)) is = each_nil From
     from_pat (Some (pat.Tuple ps)) is = from_subpatterns ps (inl is) ps 0 (λ i p e. subst (λ j. slice_get ps j ≡ Some p) (from_zero i) e)
     from_pat (Some (pat.Lit d)) is = each_cons From (expr_part pattern_literal d) [] tt (each_nil From)
-    from_pat (Some pat.Other) is = each_nil From
+    from_pat _ is = each_nil From
 
   from_params : (rest : List PatId) (from : ℕ) → ((i : ℕ) (p : PatId) → slice_get rest i ≡ Some p → slice_get b.params (from + i) ≡ Some p) → Each From (param_parts from rest)
   from_params [] from at = each_nil From

@@ -9,7 +9,7 @@ use Rattle.hir_types.specs.declared.ids.VariantId.{VariantId}
 use Rattle.hir_types.specs.declared.ty.Ty.{Ty}
 use Rattle.hir_types.specs.declared.ty.Ty.TheVariants as ty
 use Rattle.hir_types.specs.Erasure.{Same}
-use Rattle.hir_types.specs.Folding.{replaced_bool, replaced_char}
+use Rattle.hir_types.specs.Replacements.{replaced_bool, replaced_char}
 use Rattle.hir_types.specs.Instances.{instance_at_types}
 use Rattle.hir_types.specs.Subst.{Assignment, with_holes, folded}
 use Rattle.hir_types.specs.Types.{unit}
@@ -66,14 +66,11 @@ module _ (g : Given) (a : Assignment) (t : InferenceResult) where
   at_or_mismatch_under e s (u, h, inr k) = (folded a u, type_under a t e u (folded a u) h refl, inr (has_mismatch_under a t e k))
 
   misfits_under : (p : PatId) (o : Option RawPat) → MisfitsAs t p o → MisfitsAs (table_under a t) p o
-  misfits_under p None h = h
-  misfits_under p (Some pat.Wild) h = h
-  misfits_under p (Some (pat.Bind v sub)) h = h
   misfits_under p (Some (pat.Tuple ps)) h = has_pat_mismatch_under a t p h
   misfits_under p (Some (pat.TupleStruct named ps)) h = has_pat_mismatch_under a t p h
   misfits_under p (Some (pat.Path named)) h = has_pat_mismatch_under a t p h
   misfits_under p (Some (pat.Lit e)) h = has_mismatch_under a t e h
-  misfits_under p (Some pat.Other) h = h
+  misfits_under p _ h = h
 
   pub pat_at_under : (p : PatId) (s : Ty) → PatIsAtOrMismatch g t p s → PatIsAtOrMismatch g (table_under a t) p (folded a s)
   pat_at_under p s (u, h, inl k) = (folded a u, pat_type_under a t p u (folded a u) h refl, inl (ap (folded a) k))

@@ -12,9 +12,9 @@ use Rattle.hir_raw.specs.declared.raw.RawPat.TheVariants as pat
 use Rattle.hir_raw.specs.declared.raw.RawPath.TheVariants as path
 use Rattle.hir_raw.specs.declared.raw.RawVariant.{RawVariant}
 use Rattle.hir_laws.specs.Lawful.{IsLawful}
-use Rattle.hir_raw.specs.Order.{Role, parameter, root, initializer, let_pattern, let_else, statement, tail, element, condition, then_branch, else_branch, scrutinee, arm_pattern, guard, arm, callee, argument, subpattern, pattern_literal, Node, the_body, inner}
+use Rattle.hir_raw.specs.Order.{Role, parameter, let_pattern, arm_pattern, subpattern, Node, the_body, inner}
 use Rattle.hir_raw.specs.Signatures.{field_types, type_args}
-use Rattle.hir_raw.specs.Types.{written_type}
+use Rattle.hir_raw.specs.WrittenTypes.{written_type}
 use Rattle.infer_result.specs.declared.result.InferenceResult.{InferenceResult}
 use Rattle.infer_result.specs.Table.{PatTy}
 use Rattle.infer_result.specs.Places.{Given, StandsAt, declared, PatIsAtOrMismatch}
@@ -138,28 +138,13 @@ module _ (g : Given) (law : IsLawful g.scope.facts) (a : Assignment) (t : Infere
 
     type_before : (n : Node) (role : Role) → (k : ℕ) → StandsAt g.body (node.PatId p) n k role → (s : Ty) → Gives g (table_under a t) n role s → Before n role s
     type_before n (parameter i) k stands s (w, found, is) = (written_type g.scope.facts.types w, (w, found, refl), inputs i w found a ∙ sym is)
-    type_before n root k stands s h = absurd h
-    type_before n (initializer w) k stands s h = absurd h
     type_before n (let_pattern (Some w) init) k stands s (r, is) =
         let before = recorded_before a t g w r in
         (declared g t w, (before, refl), declared_under a t g w before ∙ sym is)
     type_before n (let_pattern None (Some e)) k stands s h = At-before (folded a) t.type_of_expr e.0 s h
-    type_before n (let_pattern None None) k stands s h = absurd h
-    type_before n let_else k stands s h = absurd h
-    type_before n (statement semicolon) k stands s h = absurd h
-    type_before n tail k stands s h = absurd h
-    type_before n (element i) k stands s h = absurd h
-    type_before n condition k stands s h = absurd h
-    type_before n then_branch k stands s h = absurd h
-    type_before n else_branch k stands s h = absurd h
-    type_before n scrutinee k stands s h = absurd h
     type_before n (arm_pattern e i) k stands s h = At-before (folded a) t.type_of_expr e.0 s h
-    type_before n (guard i) k stands s h = absurd h
-    type_before n (arm i) k stands s h = absurd h
-    type_before n callee k stands s h = absurd h
-    type_before n (argument i) k stands s h = absurd h
     type_before n (subpattern i) k stands s h = part_before n k i stands s h
-    type_before n pattern_literal k stands s h = absurd h
+    type_before n _ k stands s h = absurd h
 
     pub pattern_under : ObeysPattern g t p → ObeysPattern g (table_under a t) p
     pattern_under h = record {

@@ -9,7 +9,7 @@ use Rattle.hir_types.specs.declared.ids.TypeRefId.{TypeRefId}
 use Rattle.hir_types.specs.declared.ty.Ty.{Ty}
 use Rattle.hir_types.specs.declared.ty.Ty.TheVariants as ty
 use Rattle.hir_types.specs.Subst.{Assignment, with_holes, folded}
-use Rattle.hir_types.specs.Folding.{replaced_adt, replaced_error, replaced_param}
+use Rattle.hir_types.specs.Replacements.{replaced_adt, replaced_error, replaced_param}
 use Rattle.hir_types.specs.Instances.{types_args_folded, instance_at_types}
 use Rattle.hir_raw.specs.declared.raw.RawCtor.{RawCtor}
 use Rattle.hir_raw.specs.declared.raw.RawCtor.TheVariants as ctor
@@ -25,7 +25,7 @@ use Rattle.hir_counts.specs.Standing.{HasNoHole}
 use Rattle.hir_laws.specs.NoHoles.{input_has_no_hole, output_has_no_hole, field_has_no_hole, definition_input_has_no_hole}
 use Rattle.hir_raw.specs.Scope.{adt_params}
 use Rattle.hir_raw.specs.Signatures.{Signature, fn_signature, signature_of, signature_by, ctor_signature, field_types, own_adt, params_from, type_args, at_args}
-use Rattle.hir_raw.specs.Types.{written_type}
+use Rattle.hir_raw.specs.WrittenTypes.{written_type}
 
 -- no assignment changes the type
 abbrev pub IsUnchanged : Ty → Type 0
@@ -54,9 +54,9 @@ all_written : (types : List RawType) (ws : List TypeRefId) → ((k : ℕ) (w : T
 all_written types [] none = tt
 all_written types (w ∷ ws) none = (written_unchanged types w (none 0 w refl), all_written types ws (λ k v e. none (suc k) v e))
 
-all_fields : (types : List RawType) (fs : List RawField) → ((k : ℕ) (f : RawField) → slice_get fs k ≡ Some f → HasNoHole types f.ty) → AllUnchanged (map (λ (f : RawField). written_type types f.ty) fs)
+all_fields : (types : List RawType) (fs : List RawField) → ((k : ℕ) (f : RawField) → slice_get fs k ≡ Some f → HasNoHole types f.type_) → AllUnchanged (map (λ (f : RawField). written_type types f.type_) fs)
 all_fields types [] none = tt
-all_fields types (f ∷ fs) none = (written_unchanged types f.ty (none 0 f refl), all_fields types fs (λ k x e. none (suc k) x e))
+all_fields types (f ∷ fs) none = (written_unchanged types f.type_ (none 0 f refl), all_fields types fs (λ k x e. none (suc k) x e))
 
 -- an adt at its own parameters
 params_unchanged : (a : Assignment) (i n : ℕ) → map (folded a) (params_from i n) ≡ params_from i n

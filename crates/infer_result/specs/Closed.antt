@@ -18,23 +18,23 @@ use Rattle.infer_result.specs.declared.modes.BindingMode.{BindingMode}
 use Rattle.infer_result.specs.Table.{At, HasTy, PatTy, BindingTy, HasMode, ExprVariant, PatVariant}
 
 -- the lists have an entry for each node and binding, and no more
-pub record IsOfBody (b : RawBody) (t : InferenceResult) : Type 0 where
-  pub exprs : length t.type_of_expr ≡ length b.exprs
-  pub pats : length t.type_of_pat ≡ length b.pats
-  pub bindings : length t.type_of_binding ≡ length b.bindings
-  pub modes : length t.binding_modes ≡ length b.pats
-  pub mismatches : length t.expr_mismatches ≡ length b.exprs
-  pub diagnostics : length t.expr_diagnostics ≡ length b.exprs
-  pub pat_mismatches : length t.pat_mismatches ≡ length b.pats
-  pub pat_diagnostics : length t.pat_diagnostics ≡ length b.pats
-  pub expr_variants : length t.expr_variants ≡ length b.exprs
-  pub pat_variants : length t.pat_variants ≡ length b.pats
+pub record IsOfBody (b : RawBody) (r : InferenceResult) : Type 0 where
+  pub exprs : length r.type_of_expr ≡ length b.exprs
+  pub pats : length r.type_of_pat ≡ length b.pats
+  pub bindings : length r.type_of_binding ≡ length b.bindings
+  pub modes : length r.binding_modes ≡ length b.pats
+  pub mismatches : length r.expr_mismatches ≡ length b.exprs
+  pub diagnostics : length r.expr_diagnostics ≡ length b.exprs
+  pub pat_mismatches : length r.pat_mismatches ≡ length b.pats
+  pub pat_diagnostics : length r.pat_diagnostics ≡ length b.pats
+  pub expr_variants : length r.expr_variants ≡ length b.exprs
+  pub pat_variants : length r.pat_variants ≡ length b.pats
 
 -- each expression, pattern and binding has a type
-pub record IsTotal (b : RawBody) (t : InferenceResult) : Type 0 where
-  pub exprs : (e : ExprId) → e.0 < length b.exprs → (s : Ty) × HasTy t e s
-  pub pats : (p : PatId) → p.0 < length b.pats → (s : Ty) × PatTy t p s
-  pub bindings : (v : BindingId) → v.0 < length b.bindings → (s : Ty) × BindingTy t v s
+pub record IsTotal (b : RawBody) (r : InferenceResult) : Type 0 where
+  pub exprs : (e : ExprId) → e.0 < length b.exprs → (t : Ty) × HasTy r e t
+  pub pats : (p : PatId) → p.0 < length b.pats → (t : Ty) × PatTy r p t
+  pub bindings : (v : BindingId) → v.0 < length b.bindings → (t : Ty) × BindingTy r v t
 
 -- the pattern binds a name
 abbrev pub IsBinder : RawBody → PatId → Type 0
@@ -42,7 +42,7 @@ IsBinder b p = (v : BindingId) × (sub : Option PatId) × (slice_get b.pats p.0 
 
 -- what has a mode is a pattern that binds a name
 abbrev pub OnlyBindersHaveModes : RawBody → InferenceResult → Type 0
-OnlyBindersHaveModes b t = (p : PatId) (m : BindingMode) → HasMode t p m → IsBinder b p
+OnlyBindersHaveModes b r = (p : PatId) (m : BindingMode) → HasMode r p m → IsBinder b p
 
 -- the expression is a path to the constructor
 abbrev pub NamesVariant : RawBody → ExprId → VariantId → Type 0
@@ -55,27 +55,27 @@ IsVariantPat b p v =
     ⊎ ((ps : List PatId) × (slice_get b.pats p.0 ≡ Some (pat.TupleStruct v ps)))
 
 -- a variant is recorded only where its constructor is named
-pub record OnlyNamedVariants (b : RawBody) (t : InferenceResult) : Type 0 where
-  pub exprs : (e : ExprId) (v : VariantId) → ExprVariant t e v → NamesVariant b e v
-  pub pats : (p : PatId) (v : VariantId) → PatVariant t p v → IsVariantPat b p v
+pub record OnlyNamedVariants (b : RawBody) (r : InferenceResult) : Type 0 where
+  pub exprs : (e : ExprId) (v : VariantId) → ExprVariant r e v → NamesVariant b e v
+  pub pats : (p : PatId) (v : VariantId) → PatVariant r p v → IsVariantPat b p v
 
 -- each type of the table has a property, but for those that failed look-ups saw
-pub record AllTypes (P : Ty → Type 0) (t : InferenceResult) : Type 0 where
-  pub exprs : (n : ℕ) (s : Ty) → At t.type_of_expr n s → P s
-  pub pats : (n : ℕ) (s : Ty) → At t.type_of_pat n s → P s
-  pub bindings : (n : ℕ) (s : Ty) → At t.type_of_binding n s → P s
-  pub placeholders : (k : ℕ) (s : Ty) → At t.type_of_placeholder k s → P s
-  pub expected : (n : ℕ) (x : TypeMismatch) → At t.expr_mismatches n x → P x.expected
-  pub actual : (n : ℕ) (x : TypeMismatch) → At t.expr_mismatches n x → P x.actual
-  pub pat_expected : (n : ℕ) (x : TypeMismatch) → At t.pat_mismatches n x → P x.expected
-  pub pat_actual : (n : ℕ) (x : TypeMismatch) → At t.pat_mismatches n x → P x.actual
-  pub found : (n : ℕ) (c : ExprId) (s : Ty) → At t.expr_diagnostics n (diagnostic.ExpectedFunction c s) → P s
+pub record AllTypes (P : Ty → Type 0) (r : InferenceResult) : Type 0 where
+  pub exprs : (n : ℕ) (t : Ty) → At r.type_of_expr n t → P t
+  pub pats : (n : ℕ) (t : Ty) → At r.type_of_pat n t → P t
+  pub bindings : (n : ℕ) (t : Ty) → At r.type_of_binding n t → P t
+  pub placeholders : (k : ℕ) (t : Ty) → At r.type_of_placeholder k t → P t
+  pub expected : (n : ℕ) (x : TypeMismatch) → At r.expr_mismatches n x → P x.expected
+  pub actual : (n : ℕ) (x : TypeMismatch) → At r.expr_mismatches n x → P x.actual
+  pub pat_expected : (n : ℕ) (x : TypeMismatch) → At r.pat_mismatches n x → P x.expected
+  pub pat_actual : (n : ℕ) (x : TypeMismatch) → At r.pat_mismatches n x → P x.actual
+  pub found : (n : ℕ) (c : ExprId) (t : Ty) → At r.expr_diagnostics n (diagnostic.ExpectedFunction c t) → P t
 
 -- each type that a failed look-up saw has a property
-pub record AllSeen (P : Ty → Type 0) (t : InferenceResult) : Type 0 where
-  pub types : (i : ℕ) (x : Seen) → slice_get t.seen i ≡ Some x → P x.ty
-  pub others : (i : ℕ) (x : Seen) (s : Ty) → slice_get t.seen i ≡ Some x → x.other ≡ Some s → P s
+pub record AllSeen (P : Ty → Type 0) (r : InferenceResult) : Type 0 where
+  pub types : (i : ℕ) (x : Seen) → slice_get r.seen i ≡ Some x → P x.ty
+  pub others : (i : ℕ) (x : Seen) (t : Ty) → slice_get r.seen i ≡ Some x → x.other ≡ Some t → P t
 
 -- no type of the table has a hole, complaints included; what failed look-ups saw may have some
 abbrev pub IsClosedTable : InferenceResult → Type 0
-IsClosedTable t = AllTypes IsClosed t
+IsClosedTable r = AllTypes IsClosed r

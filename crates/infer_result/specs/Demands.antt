@@ -16,34 +16,34 @@ use Rattle.infer_result.specs.Kinds.Call.{IsInputAt}
 
 -- the type that an expression asks of its part in this role
 abbrev pub AsksOf : Given → InferenceResult → ExprId → Role → Ty → Type 0
-AsksOf g t n (initializer (Some w)) s = IsDeclared g t w s
-AsksOf g t n (statement false) s = s ≡ unit
-AsksOf g t n tail s = HasTy t n s
-AsksOf g t n (element i) s = (ss : List Ty) × HasTy t n (ty.Tuple ss) × (slice_get ss i ≡ Some s)
-AsksOf g t n condition s = s ≡ ty.Bool
-AsksOf g t n then_branch s = AsksOfAlternative g t n then_branch s
-AsksOf g t n else_branch s = AsksOfAlternative g t n else_branch s
-AsksOf g t n (guard i) s = s ≡ ty.Bool
-AsksOf g t n (arm i) s = AsksOfAlternative g t n (arm i) s
-AsksOf g t n (argument i) s = IsInputAt g t n i s
-AsksOf g t n _ s = ⊥
+AsksOf g r n (initializer (Some w)) t = IsDeclared g r w t
+AsksOf g r n (statement false) t = t ≡ unit
+AsksOf g r n tail t = HasTy r n t
+AsksOf g r n (element i) t = (ss : List Ty) × HasTy r n (ty.Tuple ss) × (slice_get ss i ≡ Some t)
+AsksOf g r n condition t = t ≡ ty.Bool
+AsksOf g r n then_branch t = AsksOfAlternative g r n then_branch t
+AsksOf g r n else_branch t = AsksOfAlternative g r n else_branch t
+AsksOf g r n (guard i) t = t ≡ ty.Bool
+AsksOf g r n (arm i) t = AsksOfAlternative g r n (arm i) t
+AsksOf g r n (argument i) t = IsInputAt g r n i t
+AsksOf g r n _ t = ⊥
 
 -- The type that a node asks of its part in this role: the body asks that its root have the output, a
 -- pattern that its literal have the type that comes into it.
 abbrev pub Asks : Given → InferenceResult → Node → Role → Ty → Type 0
-Asks g t the_body role s = (role ≡ root) × (s ≡ g.output)
-Asks g t (inner (node.ExprId n)) role s = AsksOf g t n role s
-Asks g t (inner (node.PatId p)) role s = (role ≡ pattern_literal) × Incoming g t p s
+Asks g r the_body role t = (role ≡ root) × (t ≡ g.output)
+Asks g r (inner (node.ExprId n)) role t = AsksOf g r n role t
+Asks g r (inner (node.PatId p)) role t = (role ≡ pattern_literal) × Incoming g r p t
 
 -- what the place of an expression asks of it
-pub record IsAsked (g : Given) (t : InferenceResult) (e : ExprId) (s : Ty) : Type 0 where
+pub record IsAsked (g : Given) (r : InferenceResult) (e : ExprId) (t : Ty) : Type 0 where
   pub parent : Node
   pub at_part : ℕ
   pub role : Role
   pub stands : StandsAt g.body (node.ExprId e) parent at_part role
-  pub asks : Asks g t parent role s
+  pub asks : Asks g r parent role t
 
 -- the demand on an expression: what its place asks of it, and of an `if` without `else` the type of
 -- its branch too
 abbrev pub Demand : Given → InferenceResult → ExprId → Ty → Type 0
-Demand g t e s = IsAsked g t e s ⊎ IsOfBranch g.body t e s
+Demand g r e t = IsAsked g r e t ⊎ IsOfBranch g.body r e t

@@ -19,33 +19,33 @@ use Rattle.infer_result.specs.declared.result.TypeMismatch.{TypeMismatch}
 use Rattle.infer_result.specs.declared.diagnostics.InferenceDiagnostic.{InferenceDiagnostic}
 use Rattle.infer_result.specs.Table.{At, HasTy, PatTy, BindingTy}
 use Rattle.infer_result.specs.Closed.{IsTotal, AllTypes}
-use Rattle.infer_result.specs.Fit.{TypesFit}
+use Rattle.infer_result.specs.TypesFit.{TypesFit}
 use Rattle.infer_result.specs.Unknown.{IsKnown}
 use Rattle.infer_result.specs.Rules.{ObeysExpression, BodyObeys, ObeysPattern}
 use Rattle.infer_result.specs.Shape.{IsShaped}
 use Rattle.infer_result.specs.Typed.{given}
 
 -- no complaint stands in the table
-pub record HasNoComplaint (t : InferenceResult) : Type 0 where
-  pub mismatches : (n : ℕ) (m : TypeMismatch) → At t.expr_mismatches n m → ⊥
-  pub diagnostics : (n : ℕ) (d : InferenceDiagnostic) → At t.expr_diagnostics n d → ⊥
-  pub pat_mismatches : (n : ℕ) (m : TypeMismatch) → At t.pat_mismatches n m → ⊥
-  pub pat_diagnostics : (n : ℕ) (d : InferenceDiagnostic) → At t.pat_diagnostics n d → ⊥
+pub record HasNoComplaint (r : InferenceResult) : Type 0 where
+  pub mismatches : (n : ℕ) (m : TypeMismatch) → At r.expr_mismatches n m → ⊥
+  pub diagnostics : (n : ℕ) (d : InferenceDiagnostic) → At r.expr_diagnostics n d → ⊥
+  pub pat_mismatches : (n : ℕ) (m : TypeMismatch) → At r.pat_mismatches n m → ⊥
+  pub pat_diagnostics : (n : ℕ) (d : InferenceDiagnostic) → At r.pat_diagnostics n d → ⊥
 
 -- The table is one of the definition's body, with a type for each node and binding. No hole and no
 -- `{unknown}` stands in it, but for what failed look-ups saw and for types before fallback, and no complaint;
 -- its types name what the facts have; and each node, and the body, obeys its rule whole.
-pub record IsDerivation (raw : RawFacts) (d : DefWithBodyId) (t : InferenceResult) : Type 0 where
+pub record IsDerivation (raw : RawFacts) (d : DefWithBodyId) (r : InferenceResult) : Type 0 where
   pub body : RawBody
   pub is_body : body_of raw d ≡ Some body
-  pub shape : IsShaped (given raw d body) t
-  pub total : IsTotal body t
-  pub known : AllTypes IsKnown t
-  pub fit : TypesFit raw d t
-  pub clean : HasNoComplaint t
-  pub exprs : (e : ExprId) → e.0 < length body.exprs → ObeysExpression (given raw d body) t e
-  pub pats : (p : PatId) → p.0 < length body.pats → ObeysPattern (given raw d body) t p
-  pub root : BodyObeys (given raw d body) t
+  pub shape : IsShaped (given raw d body) r
+  pub total : IsTotal body r
+  pub known : AllTypes IsKnown r
+  pub fit : TypesFit raw d r
+  pub clean : HasNoComplaint r
+  pub exprs : (e : ExprId) → e.0 < length body.exprs → ObeysExpression (given raw d body) r e
+  pub pats : (p : PatId) → p.0 < length body.pats → ObeysPattern (given raw d body) r p
+  pub root : BodyObeys (given raw d body) r
 
 -- ---- plain ones
 
@@ -55,15 +55,15 @@ IsCalled b e = (n : ExprId) × (args : List ExprId) × (slice_get b.exprs n.0 �
 
 -- a function or a constructor, at plain types
 abbrev pub IsPlainItem : Scope → Ty → Type 0
-IsPlainItem sc s = (id : CallableDefId) × (ts : List Ty) × (s ≡ ty.FnDef id (type_args ts)) × ArePlainIn sc ts
+IsPlainItem sc t = (id : CallableDefId) × (ts : List Ty) × (t ≡ ty.FnDef id (type_args ts)) × ArePlainIn sc ts
 
 -- The types of a derivation are plain, but that what is called has that of an item at plain types.
 -- Adjustments, of which it has none, are not carried yet.
-pub record IsPlainDerivation (raw : RawFacts) (d : DefWithBodyId) (t : InferenceResult) : Type 0 where
-  pub derivation : IsDerivation raw d t
-  pub called : (e : ExprId) (s : Ty) → HasTy t e s → IsCalled derivation.body e
-      → IsPlainItem (scope_of raw d) s
-  pub exprs : (e : ExprId) (s : Ty) → HasTy t e s → (IsCalled derivation.body e → ⊥)
-      → IsPlainIn (scope_of raw d) s
-  pub pats : (p : PatId) (s : Ty) → PatTy t p s → IsPlainIn (scope_of raw d) s
-  pub bindings : (v : BindingId) (s : Ty) → BindingTy t v s → IsPlainIn (scope_of raw d) s
+pub record IsPlainDerivation (raw : RawFacts) (d : DefWithBodyId) (r : InferenceResult) : Type 0 where
+  pub derivation : IsDerivation raw d r
+  pub called : (e : ExprId) (t : Ty) → HasTy r e t → IsCalled derivation.body e
+      → IsPlainItem (scope_of raw d) t
+  pub exprs : (e : ExprId) (t : Ty) → HasTy r e t → (IsCalled derivation.body e → ⊥)
+      → IsPlainIn (scope_of raw d) t
+  pub pats : (p : PatId) (t : Ty) → PatTy r p t → IsPlainIn (scope_of raw d) t
+  pub bindings : (v : BindingId) (t : Ty) → BindingTy r v t → IsPlainIn (scope_of raw d) t

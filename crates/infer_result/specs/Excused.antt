@@ -16,16 +16,16 @@ use Rattle.infer_result.specs.Kinds.Block.{StmtsHaveMismatch}
 -- is excused by a complaint about the number of its arguments, and where what it calls was seen to be no
 -- function.
 abbrev pub ExcusedAs : InferenceResult → ExprId → Option RawExpr → Type 0
-ExcusedAs t n (Some (expr.Block label stmts last)) =
-    HasMismatch t n ⊎ (StmtsHaveMismatch t stmts ⊎ MaybeMismatch t last)
-ExcusedAs t n (Some (expr.If c first other)) = HasMismatch t c ⊎ AnyMismatch t (branches_of n first other)
-ExcusedAs t n (Some (expr.Match e arms)) = GuardsHaveMismatch t arms ⊎ AnyMismatch t (arm_exprs arms)
-ExcusedAs t n (Some (expr.Call f args)) = AnyDiagnostic t n ⊎ WasSeen t n
-ExcusedAs t n _ = ⊥
+ExcusedAs r n (Some (expr.Block label stmts last)) =
+    HasMismatch r n ⊎ (StmtsHaveMismatch r stmts ⊎ MaybeMismatch r last)
+ExcusedAs r n (Some (expr.If c first other)) = HasMismatch r c ⊎ AnyMismatch r (branches_of n first other)
+ExcusedAs r n (Some (expr.Match e arms)) = GuardsHaveMismatch r arms ⊎ AnyMismatch r (arm_exprs arms)
+ExcusedAs r n (Some (expr.Call f args)) = AnyDiagnostic r n ⊎ WasSeen r n
+ExcusedAs r n _ = ⊥
 
 abbrev pub IsExcused : Given → InferenceResult → ExprId → Type 0
-IsExcused g t n = ExcusedAs t n (slice_get g.body.exprs n.0)
+IsExcused g r n = ExcusedAs r n (slice_get g.body.exprs n.0)
 
 -- the body's own rule is excused by a mismatch at its root
 abbrev pub BodyIsExcused : Given → InferenceResult → Type 0
-BodyIsExcused g t = HasMismatch t g.body.root
+BodyIsExcused g r = HasMismatch r g.body.root

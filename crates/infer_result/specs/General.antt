@@ -18,7 +18,7 @@ use Rattle.hir_plain.specs.Plain.{IsPlainBodyOf}
 use Rattle.hir_plain.specs.PlainTypes.{IsPlainIn}
 use Rattle.infer_result.specs.declared.result.General.{General}
 use Rattle.infer_result.specs.declared.result.InferenceResult.{InferenceResult}
-use Rattle.infer_result.specs.Fallback.{fallback}
+use Rattle.hir_types.specs.Fallback.{fallback}
 use Rattle.infer_result.specs.Derivation.{HasNoComplaint, IsDerivation}
 
 -- ---- types with holes
@@ -61,10 +61,10 @@ abbrev pub types_under : Assignment → List Ty → List (Option Ty)
 types_under a ts = map (λ t. Some (folded a t)) ts
 
 -- the types of the table are these under the assignment
-pub record HasTypesOf (x : General) (a : Assignment) (t : InferenceResult) : Type 0 where
-  pub exprs : t.type_of_expr ≡ types_under a x.exprs
-  pub pats : t.type_of_pat ≡ types_under a x.pats
-  pub bindings : t.type_of_binding ≡ types_under a x.bindings
+pub record HasTypesOf (x : General) (a : Assignment) (r : InferenceResult) : Type 0 where
+  pub exprs : r.type_of_expr ≡ types_under a x.exprs
+  pub pats : r.type_of_pat ≡ types_under a x.pats
+  pub bindings : r.type_of_binding ≡ types_under a x.bindings
 
 -- plain types stand for holes, integer types for holes of integer types
 pub record GivesPlain (sc : Scope) (a : Assignment) : Type 0 where
@@ -73,30 +73,34 @@ pub record GivesPlain (sc : Scope) (a : Assignment) : Type 0 where
 
 -- The types of the table are these with plain types in the place of holes, integer types in that of integer
 -- holes. Of what else is in the table nothing is said.
-pub record IsPlainClosing (sc : Scope) (x : General) (t : InferenceResult) : Type 0 where
+pub record IsPlainClosing (sc : Scope) (x : General) (r : InferenceResult) : Type 0 where
   pub types : Assignment
   pub are_plain : GivesPlain sc types
-  pub has : HasTypesOf x types t
+  pub has : HasTypesOf x types r
 
 -- the table with these types under the assignment in the place of its own
 abbrev pub closed_by : Assignment → General → InferenceResult → InferenceResult
-closed_by a x t =
-    record t { type_of_expr = types_under a x.exprs; type_of_pat = types_under a x.pats; type_of_binding = types_under a x.bindings }
+closed_by a x r =
+    record r {
+      type_of_expr = types_under a x.exprs;
+      type_of_pat = types_under a x.pats;
+      type_of_binding = types_under a x.bindings;
+    }
 
 -- ---- of a table
 
 -- These are types for the definition's body, with holes. Where open holes fall back to `i32` or `{unknown}`
 -- they are the table's, and where no complaint stands in that, each choice of plain types for the holes, of
 -- integer types for integer holes, makes a derivation of it.
-pub record IsGeneralOf (raw : RawFacts) (d : DefWithBodyId) (t : InferenceResult) (x : General) : Type 0 where
+pub record IsGeneralOf (raw : RawFacts) (d : DefWithBodyId) (r : InferenceResult) (x : General) : Type 0 where
   pub body : RawBody
   pub is_body : body_of raw d ≡ Some body
   pub types : IsGeneralFor (scope_of raw d) body x
-  pub falls_back : HasTypesOf x fallback t
-  pub closings : HasNoComplaint t → (a : Assignment) → GivesPlain (scope_of raw d) a
-      → IsDerivation raw d (closed_by a x t)
+  pub falls_back : HasTypesOf x fallback r
+  pub closings : HasNoComplaint r → (a : Assignment) → GivesPlain (scope_of raw d) a
+      → IsDerivation raw d (closed_by a x r)
 
 -- the table has such types exactly where the body is plain
-pub record HasGeneral (raw : RawFacts) (d : DefWithBodyId) (t : InferenceResult) : Type 0 where
-  pub plain : IsPlainBodyOf raw d → (x : General) × (t.general ≡ Some x) × IsGeneralOf raw d t x
-  pub other : (IsPlainBodyOf raw d → ⊥) → t.general ≡ None
+pub record HasGeneral (raw : RawFacts) (d : DefWithBodyId) (r : InferenceResult) : Type 0 where
+  pub plain : IsPlainBodyOf raw d → (x : General) × (r.general ≡ Some x) × IsGeneralOf raw d r x
+  pub other : (IsPlainBodyOf raw d → ⊥) → r.general ≡ None

@@ -21,7 +21,7 @@ use Rattle.hir_raw.specs.declared.raw.RawType.TheVariants as type
 use Rattle.hir_raw.specs.declared.raw.RawPath.TheVariants as path
 use Rattle.hir_raw.specs.declared.raw.RawExpr.TheVariants as expr
 use Rattle.hir_raw.specs.declared.raw.RawVariant.{RawVariant}
-use Rattle.hir_raw.specs.Types.{lowered_by, filled_within, written_type, filled_by, filled_type}
+use Rattle.hir_raw.specs.WrittenTypes.{lowered_by, filled_within, written_type, filled_by, filled_type}
 use Rattle.hir_raw.specs.Signatures.{Signature, ctor_type}
 use Rattle.infer_result.specs.Places.{Given}
 use Rattle.infer_result.specs.Incoming.{IsInput}
@@ -68,7 +68,7 @@ HasHead t h = outermost_step (out-Ty t) ≡ Some h
 -- a function or a constructor, and of a call of one whose output is no parameter, whatever types stand in
 -- these; of a local that of its written type, and without one that of its initializer.
 pub data HeadOf (g : Given) : ExprId → Outermost → Type 0 where
-  of_up : (e : ExprId) (s : Ty) (h : Outermost) → Up g e s → HasHead s h → HeadOf g e h
+  of_up : (e : ExprId) (t : Ty) (h : Outermost) → Up g e t → HasHead t h → HeadOf g e h
   of_tuple : (e : ExprId) (es : List ExprId) → slice_get g.body.exprs e.0 ≡ Some (expr.Tuple es)
       → HeadOf g e (tuple (length es))
   of_function : (e : ExprId) (f : FunctionId)
@@ -83,8 +83,8 @@ pub data HeadOf (g : Given) : ExprId → Outermost → Type 0 where
       → NamesLet g.body e (Some w) init → HasHead (written_type g.scope.facts.types w) h → HeadOf g e h
   of_initializer : (e i : ExprId) (h : Outermost) → NamesLet g.body e None (Some i) → HeadOf g i h
       → HeadOf g e h
-  of_parameter : (e : ExprId) (i : ℕ) (s : Ty) (h : Outermost) → NamesParameter g.body e i → IsInput g i s
-      → HasHead s h → HeadOf g e h
+  of_parameter : (e : ExprId) (i : ℕ) (t : Ty) (h : Outermost) → NamesParameter g.body e i → IsInput g i t
+      → HasHead t h → HeadOf g e h
 
 -- ---- a written type has its head whatever each `_` in it stands for
 

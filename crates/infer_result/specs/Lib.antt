@@ -13,11 +13,10 @@ pub mod Unknown
 pub mod UnknownLayers
 pub mod Heads
 pub mod Truth
-pub mod Fit
+pub mod TypesFit
 pub mod Shape
 pub mod Made
 pub mod Typed
-pub mod Fallback
 pub mod Derivation
 pub mod General
 pub mod Report

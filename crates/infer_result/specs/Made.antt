@@ -16,17 +16,17 @@ use Rattle.infer_result.specs.Rules.{ObeysOrMismatch, BodyObeysOrMismatch, PatRu
 use Rattle.infer_result.specs.Truth.Mismatch.{IsActual}
 
 -- the two types differ, and the second is the actual one
-pub record IsMisfit (g : Given) (t : InferenceResult) (e : ExprId) (x : TypeMismatch) : Type 0 where
+pub record IsMisfit (g : Given) (r : InferenceResult) (e : ExprId) (x : TypeMismatch) : Type 0 where
   pub differ : Same x.expected x.actual → ⊥
-  pub actual : IsActual g t e x.actual
+  pub actual : IsActual g r e x.actual
 
-pub record IsMade (g : Given) (t : InferenceResult) : Type 0 where
-  pub shape : IsShaped g t
-  pub clauses : (e : ExprId) → e.0 < length g.body.exprs → ObeysOrMismatch g t e
-  pub kinds : (p : PatId) → p.0 < length g.body.pats → PatRule g t p (slice_get g.body.pats p.0)
-  pub params : (i : ℕ) (p : PatId) (s : Ty) → slice_get g.body.params i ≡ Some p → IsInput g i s → PatIsAtOrMismatch g t p s
-  pub bindings : (v : BindingId) → v.0 < length g.body.bindings → (s : Ty) × BindingTy t v s
-  pub body_clause : BodyObeysOrMismatch g t
-  pub misfits : (e : ExprId) (x : TypeMismatch) → At t.expr_mismatches e.0 x → IsMisfit g t e x
-  pub demands : (e : ExprId) (x : TypeMismatch) → At t.expr_mismatches e.0 x → Demand g t e x.expected
-  pub complaints : IsTruthful g t
+pub record IsMade (g : Given) (r : InferenceResult) : Type 0 where
+  pub shape : IsShaped g r
+  pub clauses : (e : ExprId) → e.0 < length g.body.exprs → ObeysOrMismatch g r e
+  pub kinds : (p : PatId) → p.0 < length g.body.pats → PatRule g r p (slice_get g.body.pats p.0)
+  pub params : (i : ℕ) (p : PatId) (t : Ty) → slice_get g.body.params i ≡ Some p → IsInput g i t → PatIsAtOrMismatch g r p t
+  pub bindings : (v : BindingId) → v.0 < length g.body.bindings → (t : Ty) × BindingTy r v t
+  pub body_clause : BodyObeysOrMismatch g r
+  pub misfits : (e : ExprId) (x : TypeMismatch) → At r.expr_mismatches e.0 x → IsMisfit g r e x
+  pub demands : (e : ExprId) (x : TypeMismatch) → At r.expr_mismatches e.0 x → Demand g r e x.expected
+  pub complaints : IsTruthful g r

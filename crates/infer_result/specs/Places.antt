@@ -9,7 +9,7 @@ use Rattle.hir_types.specs.Erasure.{Same}
 use Rattle.hir_types.specs.declared.ty.Ty.TheVariants as ty
 use Rattle.hir_raw.specs.declared.raw.RawPat.{RawPat}
 use Rattle.hir_raw.specs.declared.raw.RawBody.{RawBody}
-use Rattle.hir_raw.specs.Types.{filled_type, StandsIn}
+use Rattle.hir_raw.specs.WrittenTypes.{filled_type, StandsIn}
 use Rattle.hir_raw.specs.Scope.{Scope}
 use Rattle.hir_raw.specs.Order.{Role, Node, IsNode, part_at, stmt_at}
 use Rattle.hir_raw.specs.declared.raw.RawStmt.TheVariants as stmt
@@ -34,19 +34,19 @@ pub record StandsAt (b : RawBody) (x : ExprOrPatId) (n : Node) (k : ℕ) (role :
 
 -- what the `_` that is type k of the facts stands for
 abbrev pub hole_type : InferenceResult → ℕ → Ty
-hole_type t k = unwrap_or (recorded t.type_of_placeholder k) ty.Error
+hole_type r k = unwrap_or (recorded r.type_of_placeholder k) ty.Error
 
 -- what the written type of a `let` stands for
 abbrev pub declared : Given → InferenceResult → TypeRefId → Ty
-declared g t w = filled_type (hole_type t) g.scope.facts.types w
+declared g r w = filled_type (hole_type r) g.scope.facts.types w
 
 -- of each `_` that stands in it the type is recorded
 abbrev pub AreRecorded : Given → InferenceResult → TypeRefId → Type 0
-AreRecorded g t w = (k : ℕ) → StandsIn g.scope.facts.types k w.0 → (s : Ty) × PlaceholderTy t k s
+AreRecorded g r w = (k : ℕ) → StandsIn g.scope.facts.types k w.0 → (t : Ty) × PlaceholderTy r k t
 
--- they are, and s is what the written type stands for
+-- they are, and t is what the written type stands for
 abbrev pub IsDeclared : Given → InferenceResult → TypeRefId → Ty → Type 0
-IsDeclared g t w s = AreRecorded g t w × (s ≡ declared g t w)
+IsDeclared g r w t = AreRecorded g r w × (t ≡ declared g r w)
 
 -- type k of the facts is a `_` that stands in the type of a `let` of the body
 pub record IsPlaceholder (g : Given) (k : ℕ) : Type 0 where
@@ -61,26 +61,26 @@ pub record IsPlaceholder (g : Given) (k : ℕ) : Type 0 where
 
 -- what a type is recorded for as that of a `_` is one of the body
 abbrev pub OnlyPlaceholdersHaveTypes : Given → InferenceResult → Type 0
-OnlyPlaceholdersHaveTypes g t = (k : ℕ) (s : Ty) → PlaceholderTy t k s → IsPlaceholder g k
+OnlyPlaceholdersHaveTypes g r = (k : ℕ) (t : Ty) → PlaceholderTy r k t → IsPlaceholder g k
 
 -- ---- where an expression and a pattern are
 
--- the expression is at the type s
+-- the expression is at the type t
 abbrev pub IsAt : InferenceResult → ExprId → Ty → Type 0
-IsAt t e s = (a : Ty) × HasTy t e a × Same a s
+IsAt r e t = (a : Ty) × HasTy r e a × Same a t
 
 -- it is, or a mismatch is listed at it
 abbrev pub IsAtOrMismatch : InferenceResult → ExprId → Ty → Type 0
-IsAtOrMismatch t e s = (a : Ty) × HasTy t e a × (Same a s ⊎ HasMismatch t e)
+IsAtOrMismatch r e t = (a : Ty) × HasTy r e a × (Same a t ⊎ HasMismatch r e)
 
 -- A mismatch stands at the pattern, or at the literal that it is. What binds a name or nothing has none.
 abbrev pub MisfitsAs : InferenceResult → PatId → Option RawPat → Type 0
-MisfitsAs t p (Some (pat.Tuple ps)) = HasPatMismatch t p
-MisfitsAs t p (Some (pat.TupleStruct named ps)) = HasPatMismatch t p
-MisfitsAs t p (Some (pat.Path named)) = HasPatMismatch t p
-MisfitsAs t p (Some (pat.Lit e)) = HasMismatch t e
-MisfitsAs t p _ = ⊥
+MisfitsAs r p (Some (pat.Tuple ps)) = HasPatMismatch r p
+MisfitsAs r p (Some (pat.TupleStruct named ps)) = HasPatMismatch r p
+MisfitsAs r p (Some (pat.Path named)) = HasPatMismatch r p
+MisfitsAs r p (Some (pat.Lit e)) = HasMismatch r e
+MisfitsAs r p _ = ⊥
 
 -- the pattern has the type that comes in, or a mismatch is listed at it
 abbrev pub PatIsAtOrMismatch : Given → InferenceResult → PatId → Ty → Type 0
-PatIsAtOrMismatch g t p s = (a : Ty) × PatTy t p a × ((a ≡ s) ⊎ MisfitsAs t p (slice_get g.body.pats p.0))
+PatIsAtOrMismatch g r p t = (a : Ty) × PatTy r p a × ((a ≡ t) ⊎ MisfitsAs r p (slice_get g.body.pats p.0))

@@ -33,27 +33,27 @@ pub record Placing : Type 1 where
 -- any of them, for `()` at the node itself: at a block that very mismatch. That a call has a wrong number of
 -- arguments is listed at the call; that it calls no function is kept in what was seen.
 abbrev pub at_or_mismatch : Given → InferenceResult → Placing
-at_or_mismatch g t = record {
-  at = IsAtOrMismatch t;
-  element = IsAtOrMismatch t;
-  alternative = λ es e s. IsAt t e s ⊎ AnyMismatch t es;
-  pattern = PatIsAtOrMismatch g t;
-  no_tail = λ n s. Same unit s ⊎ MismatchAt t n s unit;
-  no_else = λ es s. Same unit s ⊎ AnyMismatch t es;
-  wrong_count = λ n expected found. HasDiagnostic t n (diagnostic.MismatchedArgCount n expected found);
-  no_callee = λ n. WasSeen t n;
+at_or_mismatch g r = record {
+  at = IsAtOrMismatch r;
+  element = IsAtOrMismatch r;
+  alternative = λ es e t. IsAt r e t ⊎ AnyMismatch r es;
+  pattern = PatIsAtOrMismatch g r;
+  no_tail = λ n t. Same unit t ⊎ MismatchAt r n t unit;
+  no_else = λ es t. Same unit t ⊎ AnyMismatch r es;
+  wrong_count = λ n expected found. HasDiagnostic r n (diagnostic.MismatchedArgCount n expected found);
+  no_callee = λ n. WasSeen r n;
 }
 
 -- Each part is at its type, but that a part of a tuple and an argument may have a mismatch of their own, and
 -- a pattern too; no call has a wrong number of arguments, and each calls a function.
 abbrev pub at_types : Given → InferenceResult → Placing
-at_types g t = record {
-  at = IsAt t;
-  element = λ e s. IsAt t e s ⊎ HasMismatch t e;
-  alternative = λ es e s. IsAt t e s;
-  pattern = PatIsAtOrMismatch g t;
-  no_tail = λ n s. Same unit s;
-  no_else = λ es s. Same unit s;
+at_types g r = record {
+  at = IsAt r;
+  element = λ e t. IsAt r e t ⊎ HasMismatch r e;
+  alternative = λ es e t. IsAt r e t;
+  pattern = PatIsAtOrMismatch g r;
+  no_tail = λ n t. Same unit t;
+  no_else = λ es t. Same unit t;
   wrong_count = λ n expected found. ⊥;
   no_callee = λ n. ⊥;
 }

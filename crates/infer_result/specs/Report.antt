@@ -209,13 +209,15 @@ mode_text (Some (mode.Ref mutability.Mut)) = codes " refmut"
 
 abbrev pub pat_line : RawFacts → List (Option BindingMode) → List (Option VariantId) → ℕ → Option Ty → List ℕ
 pat_line raw modes variants i t =
-    line (codes "p" ++ decimal i ++ codes " " ++ type_text raw t ++ mode_text (recorded modes i) ++ variant_text (recorded variants i))
+    line (codes "p" ++ decimal i ++ codes " " ++ type_text raw t ++ mode_text (recorded modes i)
+    ++ variant_text (recorded variants i))
 
 abbrev pub binding_line : RawFacts → ℕ → Option Ty → List ℕ
 binding_line raw i t = line (codes "b" ++ decimal i ++ codes " " ++ type_text raw t)
 
-unfoldable pub mismatch_head : ℕ → List ℕ
-mismatch_head i = codes "TypeMismatch e" ++ decimal i
+-- the letter is that of expressions or of patterns
+unfoldable pub mismatch_head : List ℕ → ℕ → List ℕ
+mismatch_head letter i = codes "TypeMismatch " ++ letter ++ decimal i
 
 unfoldable pub type_field : RawFacts → List ℕ → Ty → List ℕ
 type_field raw name t = name ++ ty_text raw t
@@ -225,9 +227,9 @@ abbrev pub mismatch_fields : RawFacts → TypeMismatch → List ℕ
 mismatch_fields raw m =
     type_field raw (codes " expected=") m.expected ++ type_field raw (codes " actual=") m.actual
 
-abbrev pub mismatch_line : RawFacts → ℕ → Option TypeMismatch → List ℕ
-mismatch_line raw i None = []
-mismatch_line raw i (Some m) = line (mismatch_head i ++ mismatch_fields raw m)
+abbrev pub mismatch_line : RawFacts → List ℕ → ℕ → Option TypeMismatch → List ℕ
+mismatch_line raw letter i None = []
+mismatch_line raw letter i (Some m) = line (mismatch_head letter i ++ mismatch_fields raw m)
 
 unfoldable pub node_text : ExprOrPatId → List ℕ
 node_text (node.ExprId e) = codes "e" ++ decimal e.0
@@ -250,31 +252,23 @@ abbrev pub diagnostic_line : RawFacts → Option InferenceDiagnostic → List �
 diagnostic_line raw None = []
 diagnostic_line raw (Some x) = line (diagnostic_text raw x)
 
--- the complaints at an expression: its mismatch, then the other one
-abbrev pub expr_complaints : RawFacts → List (Option InferenceDiagnostic) → ℕ → Option TypeMismatch → List ℕ
-expr_complaints raw diagnostics i m = mismatch_line raw i m ++ diagnostic_line raw (recorded diagnostics i)
-
-unfoldable pub pat_mismatch_head : ℕ → List ℕ
-pat_mismatch_head i = codes "TypeMismatch p" ++ decimal i
-
-abbrev pub pat_mismatch_line : RawFacts → ℕ → Option TypeMismatch → List ℕ
-pat_mismatch_line raw i None = []
-pat_mismatch_line raw i (Some m) = line (pat_mismatch_head i ++ mismatch_fields raw m)
-
--- the complaints at a pattern: its mismatch, then the other one
-abbrev pub pat_complaints : RawFacts → List (Option InferenceDiagnostic) → ℕ → Option TypeMismatch → List ℕ
-pat_complaints raw diagnostics i m = pat_mismatch_line raw i m ++ diagnostic_line raw (recorded diagnostics i)
+-- the complaints at an expression or a pattern: its mismatch, then the other one
+abbrev pub complaints : RawFacts → List ℕ → List (Option InferenceDiagnostic) → ℕ → Option TypeMismatch
+    → List ℕ
+complaints raw letter diagnostics i m = mismatch_line raw letter i m
+    ++ diagnostic_line raw (recorded diagnostics i)
 
 -- ---- the whole
 
 abbrev pub complaint_count : InferenceResult → ℕ
-complaint_count t =
-    count_by is_some t.expr_mismatches + count_by is_some t.expr_diagnostics + count_by is_some t.pat_mismatches + count_by is_some t.pat_diagnostics
+complaint_count r =
+    count_by is_some r.expr_mismatches + count_by is_some r.expr_diagnostics + count_by is_some r.pat_mismatches + count_by is_some r.pat_diagnostics
 
 abbrev pub report : DefWithBodyId → RawFacts → InferenceResult → List ℕ
-report d raw t =
-    def_line d ++ lines_from (expr_line raw t.expr_variants) 0 t.type_of_expr ++ lines_from (pat_line raw t.binding_modes t.pat_variants) 0 t.type_of_pat
-    ++ lines_from (binding_line raw) 0 t.type_of_binding
-    ++ lines_from (expr_complaints raw t.expr_diagnostics) 0 t.expr_mismatches
-    ++ lines_from (pat_complaints raw t.pat_diagnostics) 0 t.pat_mismatches
-    ++ line (codes "complaints " ++ decimal (complaint_count t))
+report d raw r =
+    def_line d ++ lines_from (expr_line raw r.expr_variants) 0 r.type_of_expr
+    ++ lines_from (pat_line raw r.binding_modes r.pat_variants) 0 r.type_of_pat
+    ++ lines_from (binding_line raw) 0 r.type_of_binding
+    ++ lines_from (complaints raw (codes "e") r.expr_diagnostics) 0 r.expr_mismatches
+    ++ lines_from (complaints raw (codes "p") r.pat_diagnostics) 0 r.pat_mismatches
+    ++ line (codes "complaints " ++ decimal (complaint_count r))

@@ -26,44 +26,44 @@ use Rattle.infer_result.specs.Pats.Constructor.{CtorPatRule, PathPatRule}
 
 -- the rule of an expression, whose parts stand at their types as `P` says
 abbrev pub Rule : Placing → Given → InferenceResult → ExprId → Option RawExpr → Type 0
-Rule P g t n (Some (expr.Lit l)) = (s : Ty) × HasTy t n s × IsLiteralType l s
-Rule P g t n (Some (expr.Path p)) = PathRule g t n p
-Rule P g t n (Some (expr.Tuple es)) = TupleRule P.element t n es
-Rule P g t n (Some (expr.Block label stmts last)) = BlockRule P g t n stmts last
-Rule P g t n (Some (expr.If c first other)) = IfRule P t n c first other
-Rule P g t n (Some (expr.Match e arms)) = MatchRule P t n e arms
-Rule P g t n (Some (expr.Call f args)) = CallRule P g t n f args
-Rule P g t n _ = ⊥
+Rule P g r n (Some (expr.Lit l)) = (t : Ty) × HasTy r n t × IsLiteralType l t
+Rule P g r n (Some (expr.Path p)) = PathRule g r n p
+Rule P g r n (Some (expr.Tuple es)) = TupleRule P.element r n es
+Rule P g r n (Some (expr.Block label stmts last)) = BlockRule P g r n stmts last
+Rule P g r n (Some (expr.If c first other)) = IfRule P r n c first other
+Rule P g r n (Some (expr.Match e arms)) = MatchRule P r n e arms
+Rule P g r n (Some (expr.Call f args)) = CallRule P g r n f args
+Rule P g r n _ = ⊥
 
 -- each clause holds, or a mismatch is listed where it does not
 abbrev pub ObeysOrMismatch : Given → InferenceResult → ExprId → Type 0
-ObeysOrMismatch g t n = Rule (at_or_mismatch g t) g t n (slice_get g.body.exprs n.0)
+ObeysOrMismatch g r n = Rule (at_or_mismatch g r) g r n (slice_get g.body.exprs n.0)
 
 -- each clause holds, but for parts of tuples, arguments and patterns with a mismatch of their own
 abbrev pub ObeysExpression : Given → InferenceResult → ExprId → Type 0
-ObeysExpression g t n = Rule (at_types g t) g t n (slice_get g.body.exprs n.0)
+ObeysExpression g r n = Rule (at_types g r) g r n (slice_get g.body.exprs n.0)
 
 -- the body's own rule: its root is at the output
 abbrev pub BodyObeysOrMismatch : Given → InferenceResult → Type 0
-BodyObeysOrMismatch g t = IsAtOrMismatch t g.body.root g.output
+BodyObeysOrMismatch g r = IsAtOrMismatch r g.body.root g.output
 
 abbrev pub BodyObeys : Given → InferenceResult → Type 0
-BodyObeys g t = IsAt t g.body.root g.output
+BodyObeys g r = IsAt r g.body.root g.output
 
 -- ---- patterns
 
 -- A plain or `mut` binding moves, and has the pattern's type. The parts of a tuple are at its
 -- components, and a literal has the pattern's type.
 abbrev pub PatRule : Given → InferenceResult → PatId → Option RawPat → Type 0
-PatRule g t p (Some pat.Wild) = (s : Ty) × PatTy t p s
-PatRule g t p (Some (pat.Bind v sub)) = (s : Ty) × PatTy t p s × BindingTy t v s × HasMode t p mode.Move
-PatRule g t p (Some (pat.Tuple ps)) = (ss : List Ty) × PatTy t p (ty.Tuple ss) × AllPatsAt g t ps ss
-PatRule g t p (Some (pat.TupleStruct v ps)) = CtorPatRule g t p v ps
-PatRule g t p (Some (pat.Path named)) = PathPatRule g t p named
-PatRule g t p (Some (pat.Lit e)) = (s : Ty) × PatTy t p s × HasTy t e s
-PatRule g t p _ = ⊥
+PatRule g r p (Some pat.Wild) = (t : Ty) × PatTy r p t
+PatRule g r p (Some (pat.Bind v sub)) = (t : Ty) × PatTy r p t × BindingTy r v t × HasMode r p mode.Move
+PatRule g r p (Some (pat.Tuple ps)) = (ss : List Ty) × PatTy r p (ty.Tuple ss) × AllPatsAt g r ps ss
+PatRule g r p (Some (pat.TupleStruct v ps)) = CtorPatRule g r p v ps
+PatRule g r p (Some (pat.Path named)) = PathPatRule g r p named
+PatRule g r p (Some (pat.Lit e)) = (t : Ty) × PatTy r p t × HasTy r e t
+PatRule g r p _ = ⊥
 
 -- the pattern has the type that comes in, or a mismatch, and obeys the rule of its kind
-pub record ObeysPattern (g : Given) (t : InferenceResult) (p : PatId) : Type 0 where
-  pub incoming : (s : Ty) → Incoming g t p s → PatIsAtOrMismatch g t p s
-  pub kind : PatRule g t p (slice_get g.body.pats p.0)
+pub record ObeysPattern (g : Given) (r : InferenceResult) (p : PatId) : Type 0 where
+  pub incoming : (t : Ty) → Incoming g r p t → PatIsAtOrMismatch g r p t
+  pub kind : PatRule g r p (slice_get g.body.pats p.0)

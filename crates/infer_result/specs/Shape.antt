@@ -16,20 +16,20 @@ use Rattle.infer_result.specs.Truth.Diagnostics.{IsTrueDiagnostic, IsTruePatDiag
 
 -- The table has an entry for each node, and no hole; modes, variants and what `_`s stand for are recorded
 -- where they belong.
-pub record IsShaped (g : Given) (t : InferenceResult) : Type 0 where
-  pub of_body : IsOfBody g.body t
-  pub closed : IsClosedTable t
-  pub modes : OnlyBindersHaveModes g.body t
-  pub placeholders : OnlyPlaceholdersHaveTypes g t
-  pub variants : OnlyNamedVariants g.body t
+pub record IsShaped (g : Given) (r : InferenceResult) : Type 0 where
+  pub of_body : IsOfBody g.body r
+  pub closed : IsClosedTable r
+  pub modes : OnlyBindersHaveModes g.body r
+  pub placeholders : OnlyPlaceholdersHaveTypes g r
+  pub variants : OnlyNamedVariants g.body r
 
 -- Each complaint other than a mismatch of an expression is true, and so is each failed look-up that is kept,
 -- of which a complaint tells unless `{unknown}` is in the type.
-pub record IsTruthful (g : Given) (t : InferenceResult) : Type 0 where
-  pub diagnostics : (e : ExprId) (x : InferenceDiagnostic) → At t.expr_diagnostics e.0 x
-      → IsTrueDiagnostic g t e x
-  pub pat_diagnostics : (p : PatId) (x : InferenceDiagnostic) → At t.pat_diagnostics p.0 x
+pub record IsTruthful (g : Given) (r : InferenceResult) : Type 0 where
+  pub diagnostics : (e : ExprId) (x : InferenceDiagnostic) → At r.expr_diagnostics e.0 x
+      → IsTrueDiagnostic g r e x
+  pub pat_diagnostics : (p : PatId) (x : InferenceDiagnostic) → At r.pat_diagnostics p.0 x
       → IsTruePatDiagnostic g p x
-  pub pat_truths : (p : PatId) (x : TypeMismatch) → At t.pat_mismatches p.0 x → IsTruePatMismatch g t p x
-  pub seen : (i : ℕ) (x : Seen) → slice_get t.seen i ≡ Some x → IsTrueSeen g t x
-  pub said : (i : ℕ) (x : Seen) → slice_get t.seen i ≡ Some x → IsSaid g t x
+  pub pat_truths : (p : PatId) (x : TypeMismatch) → At r.pat_mismatches p.0 x → IsTruePatMismatch g r p x
+  pub seen : (i : ℕ) (x : Seen) → slice_get r.seen i ≡ Some x → IsTrueSeen g r x
+  pub said : (i : ℕ) (x : Seen) → slice_get r.seen i ≡ Some x → IsSaid g r x

@@ -38,15 +38,15 @@ diagnostic_under a (diagnostic.ExpectedFunction n found) = diagnostic.ExpectedFu
 -- The table with each of its types under the assignment, those of complaints too. Modes and variants stay, and so does what
 -- failed look-ups saw, since that is kept as it was when they failed.
 abbrev pub table_under : Assignment → InferenceResult → InferenceResult
-table_under a t = record t {
-  type_of_expr = each_under (folded a) t.type_of_expr;
-  type_of_pat = each_under (folded a) t.type_of_pat;
-  type_of_binding = each_under (folded a) t.type_of_binding;
-  type_of_placeholder = each_under (folded a) t.type_of_placeholder;
-  expr_mismatches = each_under (mismatch_under a) t.expr_mismatches;
-  expr_diagnostics = each_under (diagnostic_under a) t.expr_diagnostics;
-  pat_mismatches = each_under (mismatch_under a) t.pat_mismatches;
-  pat_diagnostics = each_under (diagnostic_under a) t.pat_diagnostics;
+table_under a r = record r {
+  type_of_expr = each_under (folded a) r.type_of_expr;
+  type_of_pat = each_under (folded a) r.type_of_pat;
+  type_of_binding = each_under (folded a) r.type_of_binding;
+  type_of_placeholder = each_under (folded a) r.type_of_placeholder;
+  expr_mismatches = each_under (mismatch_under a) r.expr_mismatches;
+  expr_diagnostics = each_under (diagnostic_under a) r.expr_diagnostics;
+  pat_mismatches = each_under (mismatch_under a) r.pat_mismatches;
+  pat_diagnostics = each_under (diagnostic_under a) r.pat_diagnostics;
 }
 
 -- ---- stable
@@ -57,7 +57,7 @@ IsStable Holds = (t : InferenceResult) (s r : Assignment) → Holds (table_under
 
 -- the pattern of which this one is a part, where there is one, obeys the rule of its kind
 abbrev pub WholeObeys : Given → InferenceResult → PatId → Type 0
-WholeObeys g t p = (whole : PatId) (k : ℕ) (role : Role) → StandsAt g.body (node.PatId p) (inner (node.PatId whole)) k role → PatRule g t whole (slice_get g.body.pats whole.0)
+WholeObeys g r p = (whole : PatId) (k : ℕ) (role : Role) → StandsAt g.body (node.PatId p) (inner (node.PatId whole)) k role → PatRule g r whole (slice_get g.body.pats whole.0)
 
 -- Each rule is stable. No proviso on the types that stand for holes is needed, not even that `{unknown}` is in none: here it is a
 -- type like another, and the integer type that a literal is to have has no hole. Kinds with projections, look-ups of methods,

@@ -19,12 +19,12 @@ abbrev pub recorded : {A : Type 0} → List (Option A) → ℕ → Option A
 recorded xs n = option_and_then (λ x. x) (slice_get xs n)
 
 abbrev pub node_type : InferenceResult → ExprOrPatId → Option Ty
-node_type t (node.ExprId e) = recorded t.type_of_expr e.0
-node_type t (node.PatId p) = recorded t.type_of_pat p.0
+node_type r (node.ExprId e) = recorded r.type_of_expr e.0
+node_type r (node.PatId p) = recorded r.type_of_pat p.0
 
 abbrev pub node_variant : InferenceResult → ExprOrPatId → Option VariantId
-node_variant t (node.ExprId e) = recorded t.expr_variants e.0
-node_variant t (node.PatId p) = recorded t.pat_variants p.0
+node_variant r (node.ExprId e) = recorded r.expr_variants e.0
+node_variant r (node.PatId p) = recorded r.pat_variants p.0
 
 -- x is recorded at n
 abbrev pub At : {A : Type 0} → List (Option A) → ℕ → A → Type 0
@@ -32,68 +32,68 @@ At xs n x = slice_get xs n ≡ Some (Some x)
 
 -- the expression, the pattern, the binding has this type
 abbrev pub HasTy : InferenceResult → ExprId → Ty → Type 0
-HasTy t e s = At t.type_of_expr e.0 s
+HasTy r e t = At r.type_of_expr e.0 t
 
 abbrev pub PatTy : InferenceResult → PatId → Ty → Type 0
-PatTy t p s = At t.type_of_pat p.0 s
+PatTy r p t = At r.type_of_pat p.0 t
 
 abbrev pub BindingTy : InferenceResult → BindingId → Ty → Type 0
-BindingTy t v s = At t.type_of_binding v.0 s
+BindingTy r v t = At r.type_of_binding v.0 t
 
 -- the `_` that is type k of the facts stands for this type
 abbrev pub PlaceholderTy : InferenceResult → ℕ → Ty → Type 0
-PlaceholderTy t k s = At t.type_of_placeholder k s
+PlaceholderTy r k t = At r.type_of_placeholder k t
 
 abbrev pub HasMode : InferenceResult → PatId → BindingMode → Type 0
-HasMode t p m = At t.binding_modes p.0 m
+HasMode r p m = At r.binding_modes p.0 m
 
 -- the expression, the pattern names the constructor of this variant
 abbrev pub ExprVariant : InferenceResult → ExprId → VariantId → Type 0
-ExprVariant t e v = At t.expr_variants e.0 v
+ExprVariant r e v = At r.expr_variants e.0 v
 
 abbrev pub PatVariant : InferenceResult → PatId → VariantId → Type 0
-PatVariant t p v = At t.pat_variants p.0 v
+PatVariant r p v = At r.pat_variants p.0 v
 
 abbrev pub mismatch : Ty → Ty → TypeMismatch
 mismatch expected actual = record { expected = expected; actual = actual }
 
 -- this mismatch is listed at the expression
 abbrev pub MismatchAt : InferenceResult → ExprId → Ty → Ty → Type 0
-MismatchAt t e expected actual = At t.expr_mismatches e.0 (mismatch expected actual)
+MismatchAt r e expected actual = At r.expr_mismatches e.0 (mismatch expected actual)
 
 -- some mismatch is
 abbrev pub HasMismatch : InferenceResult → ExprId → Type 0
-HasMismatch t e = (x : TypeMismatch) × At t.expr_mismatches e.0 x
+HasMismatch r e = (x : TypeMismatch) × At r.expr_mismatches e.0 x
 
 -- some mismatch is listed at one of these expressions
 abbrev pub AnyMismatch : InferenceResult → List ExprId → Type 0
-AnyMismatch t [] = ⊥
-AnyMismatch t (e ∷ es) = HasMismatch t e ⊎ AnyMismatch t es
+AnyMismatch r [] = ⊥
+AnyMismatch r (e ∷ es) = HasMismatch r e ⊎ AnyMismatch r es
 
 -- some is listed at the expression, where there is one
 abbrev pub MaybeMismatch : InferenceResult → Option ExprId → Type 0
-MaybeMismatch t None = ⊥
-MaybeMismatch t (Some e) = HasMismatch t e
+MaybeMismatch r None = ⊥
+MaybeMismatch r (Some e) = HasMismatch r e
 
 -- this complaint, other than a mismatch, is listed at the expression
 abbrev pub HasDiagnostic : InferenceResult → ExprId → InferenceDiagnostic → Type 0
-HasDiagnostic t e x = At t.expr_diagnostics e.0 x
+HasDiagnostic r e x = At r.expr_diagnostics e.0 x
 
 -- some is
 abbrev pub AnyDiagnostic : InferenceResult → ExprId → Type 0
-AnyDiagnostic t e = (x : InferenceDiagnostic) × HasDiagnostic t e x
+AnyDiagnostic r e = (x : InferenceDiagnostic) × HasDiagnostic r e x
 
 -- some mismatch is listed at the pattern
 abbrev pub HasPatMismatch : InferenceResult → PatId → Type 0
-HasPatMismatch t p = (x : TypeMismatch) × At t.pat_mismatches p.0 x
+HasPatMismatch r p = (x : TypeMismatch) × At r.pat_mismatches p.0 x
 
 -- this complaint, other than a mismatch, is listed at the pattern
 abbrev pub HasPatDiagnostic : InferenceResult → PatId → InferenceDiagnostic → Type 0
-HasPatDiagnostic t p x = At t.pat_diagnostics p.0 x
+HasPatDiagnostic r p x = At r.pat_diagnostics p.0 x
 
 -- a look-up for this expression failed
-pub record WasSeen (t : InferenceResult) (e : ExprId) : Type 0 where
+pub record WasSeen (r : InferenceResult) (e : ExprId) : Type 0 where
   pub position : ℕ
   pub entry : Seen
-  pub found : slice_get t.seen position ≡ Some entry
+  pub found : slice_get r.seen position ≡ Some entry
   pub is_node : entry.node ≡ node.ExprId e

@@ -7,7 +7,7 @@ use Rattle.hir_types.specs.Erasure.{Same}
 use Rattle.hir_types.specs.declared.ids.ExprOrPatId.TheVariants as node
 use Rattle.hir_types.specs.declared.ty.Ty.TheVariants as ty
 use Rattle.hir_raw.specs.declared.raw.RawVariant.{RawVariant}
-use Rattle.hir_raw.specs.Types.{written_type}
+use Rattle.hir_raw.specs.WrittenTypes.{written_type}
 use Rattle.hir_raw.specs.Signatures.{Signature, at_args}
 use Rattle.hir_raw.specs.Order.{Role, root, initializer, argument, Node}
 use Rattle.hir_raw.specs.declared.raw.RawLiteral.{RawLiteral}
@@ -21,12 +21,12 @@ use Rattle.infer_result.specs.Kinds.Call.{CallsNonGeneric, IsWrittenInput}
 
 -- the type that an expression has by itself; a written type says it where no `_` stands in it
 pub data Up (g : Given) : ExprId → Ty → Type 0 where
-  of_literal : (e : ExprId) (l : RawLiteral) (s : Ty) → slice_get g.body.exprs e.0 ≡ Some (expr.Lit l)
-      → IsOwnType l s → Up g e s
+  of_literal : (e : ExprId) (l : RawLiteral) (t : Ty) → slice_get g.body.exprs e.0 ≡ Some (expr.Lit l)
+      → IsOwnType l t → Up g e t
   of_written : (e : ExprId) (w : TypeRefId) (init : Option ExprId) → NamesLet g.body e (Some w) init
       → HasNoHole g.scope.facts.types w → Up g e (written_type g.scope.facts.types w)
-  of_initializer : (e i : ExprId) (s : Ty) → NamesLet g.body e None (Some i) → Up g i s → Up g e s
-  of_parameter : (e : ExprId) (i : ℕ) (s : Ty) → NamesParameter g.body e i → IsInput g i s → Up g e s
+  of_initializer : (e i : ExprId) (t : Ty) → NamesLet g.body e None (Some i) → Up g i t → Up g e t
+  of_parameter : (e : ExprId) (i : ℕ) (t : Ty) → NamesParameter g.body e i → IsInput g i t → Up g e t
   of_call : (e : ExprId) (σ : Signature) → CallsNonGeneric g e σ → Up g e (at_args [] σ.output)
   of_unit : (e : ExprId) (x : RawVariant) → NamesUnit g e x → Up g e (ty.Adt x.adt [])
 
@@ -34,17 +34,17 @@ pub data Up (g : Given) : ExprId → Ty → Type 0 where
 
 -- the type that is written at the place of a part of the node in this role, without a `_`
 abbrev pub States : Given → Node → Role → Ty → Type 0
-States g n role s =
-    ((role ≡ root) × (s ≡ g.output))
+States g n role t =
+    ((role ≡ root) × (t ≡ g.output))
     ⊎ (((w : TypeRefId) × (role ≡ initializer (Some w)) × HasNoHole g.scope.facts.types w
-    × (s ≡ written_type g.scope.facts.types w)) ⊎ ((i : ℕ) × (role ≡ argument i) × IsWrittenInput g n i s))
+    × (t ≡ written_type g.scope.facts.types w)) ⊎ ((i : ℕ) × (role ≡ argument i) × IsWrittenInput g n i t))
 
-pub record Stated (g : Given) (e : ExprId) (s : Ty) : Type 0 where
+pub record Stated (g : Given) (e : ExprId) (t : Ty) : Type 0 where
   pub parent : Node
   pub at_part : ℕ
   pub role : Role
   pub stands : StandsAt g.body (node.ExprId e) parent at_part role
-  pub states : States g parent role s
+  pub states : States g parent role t
 
 -- between carried types a coercion leads only where they are the same
 abbrev pub Leads : Ty → Ty → Type 0

@@ -48,6 +48,7 @@ passes_and_fails raw law.Sizes list.Fns i p q = clash _ _ i p q
 passes_and_fails raw law.Sizes list.Bodies i p q = clash _ _ i p q
 passes_and_fails raw law.Sizes k i p q = clash _ _ i p q
 passes_and_fails raw law.Limits k i p q = clash _ _ i p q
+passes_and_fails raw law.Lang k i p q = clash _ _ i p q
 passes_and_fails raw law.Literals list.Variants i p q = clash _ _ i p q
 passes_and_fails raw law.Literals list.Bodies i p q = clash _ _ i p q
 passes_and_fails raw law.Literals k i p q = clash _ _ i p q

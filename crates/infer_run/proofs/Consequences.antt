@@ -9,7 +9,7 @@ use Rattle.hir_types.specs.declared.ids.DefWithBodyId.{DefWithBodyId}
 use Rattle.hir_types.specs.declared.ids.DefWithBodyId.TheVariants as def
 use Rattle.infer_run.specs.declared.running.Ran.{Ran}
 use Rattle.infer_run.specs.Causes.{Rose}
-use Rattle.infer_run.specs.Command.{IsCommand, kind_word, number_in}
+use Rattle.infer_run.specs.Command.{IsCommand, kind_word, definition_number}
 use Rattle.infer_run.specs.Exactly.{AreSure}
 use Rattle.infer_run.specs.Outcome.{limit, Ends, TookAll, Outcome}
 
@@ -34,7 +34,7 @@ no_sink_fault words e ran o sure is = stays e.writes e.writes_new sure.writes su
 by_number : (m n : ℕ) → m < 2 ^ 32 → n < 2 ^ 32 → decimal m ≡ decimal n → m ≡ n
 by_number m n p q is = decimal_injective m n (omega arith) (omega arith) is
 
-by_kind : (a b : DefWithBodyId) → kind_word a ≡ kind_word b → number_in a ≡ number_in b → a ≡ b
+by_kind : (a b : DefWithBodyId) → kind_word a ≡ kind_word b → definition_number a ≡ definition_number b → a ≡ b
 by_kind (def.FunctionId f) (def.FunctionId g) k n = ap (λ (m : ℕ). def.FunctionId (record { 0 = m })) n
 by_kind (def.FunctionId f) (def.ConstId g) k n = absurd (cc)
 by_kind (def.FunctionId f) (def.StaticId g) k n = absurd (cc)
@@ -60,8 +60,8 @@ numbers_agree x k m y l n h = cc
 
 pub same_definition : (words : List (List ℕ)) (a b : DefWithBodyId) → IsCommand words a → IsCommand words b → a ≡ b
 same_definition words a b p q =
-    let both : codes "table" ∷ kind_word a ∷ decimal (number_in a) ∷ [] ≡ codes "table" ∷ kind_word b ∷ decimal (number_in b) ∷ [] = sym p.words_are ∙ q.words_are in
-    by_kind a b (kinds_agree _ _ _ _ _ _ both) (by_number (number_in a) (number_in b) p.fits q.fits (numbers_agree _ _ _ _ _ _ both))
+    let both : codes "table" ∷ kind_word a ∷ decimal (definition_number a) ∷ [] ≡ codes "table" ∷ kind_word b ∷ decimal (definition_number b) ∷ [] = sym p.words_are ∙ q.words_are in
+    by_kind a b (kinds_agree _ _ _ _ _ _ both) (by_number (definition_number a) (definition_number b) p.fits q.fits (numbers_agree _ _ _ _ _ _ both))
 
 -- ---- all bytes of a source that tells them
 

@@ -17,7 +17,7 @@ use Rattle.infer_run.specs.declared.running.Ran.{Ran}
 use Rattle.infer_run.specs.Command.{IsCommand}
 use Rattle.infer_text.specs.Facts.{IsRead, Reads}
 use Rattle.infer_run.specs.Outcome.{Ends, TookAll, HasFacts, Reported, SourceFailed, SinkFailed, IsNoJson, IsMisshapen, BreaksLaw, HasNoBody, IsTooLong, Outcome, IsInferred, AppendsFront, has_facts, has_table, has_fault}
-use Rattle.infer_run.specs.Answer.{Answered, is_answer, silence, refusal}
+use Rattle.infer_run.specs.Answer.{Answered, is_answer, refusal}
 
 -- what holds at a status
 abbrev pub AtStatus : List (List ℕ) → Ends → Ran → ℕ → Type 0
@@ -82,19 +82,9 @@ whole words e ran here none silent facts table fault =
       fault = fault;
     }
 
--- the words are no command, and nothing was touched
-pub without_command : (words : List (List ℕ)) (e : Ends) → ((d : DefWithBodyId) → IsCommand words d → ⊥) → Keeps e.left e.left_new → Keeps e.written e.written_new → Outcome words e (silence 2)
-without_command words e none left written = whole words e (silence 2) (none, left) (λ h. refl) (λ h k. written) refl refl refl
-
 module _ (words : List (List ℕ)) (e : Ends) (def : DefWithBodyId) (command : IsCommand words def) where
   named : (n : ℕ) → ((d : DefWithBodyId) → IsCommand words d → ⊥) → n ≡ 2
   named n none = absurd (none def command)
-
-  pub by_source : SourceFailed e → Keeps e.written e.written_new → Outcome words e (silence 3)
-  by_source failed written = whole words e (silence 3) failed (named 3) (λ h k. written) refl refl refl
-
-  pub by_length : IsTooLong e → Keeps e.written e.written_new → Outcome words e (silence 10)
-  by_length long written = whole words e (silence 10) long (named 10) (λ h k. written) refl refl refl
 
   pub by_memory : Keeps e.written e.written_new → Outcome words e (refusal error.OutOfMemory)
   by_memory written = whole words e (refusal error.OutOfMemory) refl (named 5) (λ h k. written) refl refl refl

@@ -34,5 +34,7 @@ pub record IsGivenFacts (words : List (List ℕ)) (e : Ends) : Type 0 where
 -- text that is too long that is said.
 pub record Exactly (words : List (List ℕ)) (e : Ends) (ran : Ran) : Type 0 where
   pub table : (x : IsGivenFacts words e) → HasBody x.raw x.given.def → (ran.status ≤ 1) ⊎ (ran.status ≡ 5)
-  pub no_body : (x : IsGivenFacts words e) → (HasBody x.raw x.given.def → ⊥) → (ran.status ≡ 9) ⊎ (ran.status ≡ 5)
-  pub too_long : (text : List ℕ) → IsGiven words e text → limit < length text → (ran.status ≡ 10) ⊎ (ran.status ≡ 5)
+  pub no_body : (x : IsGivenFacts words e) → (HasBody x.raw x.given.def → ⊥) → (ran.status ≡ 9)
+      ⊎ (ran.status ≡ 5)
+  pub too_long : (text : List ℕ) → IsGiven words e text → limit < length text → (ran.status ≡ 10)
+      ⊎ (ran.status ≡ 5)

@@ -31,6 +31,20 @@ pub record Ends : Type 0 where
   pub writes : ℕ
   pub writes_new : ℕ
 
+-- the ends of a run, of a source and a sink as they were and as they are now, by what each tells
+abbrev pub between : {S K : Type 0} → (S → Option (List ℕ)) → (S → ℕ) → (K → Option (List ℕ)) → (K → ℕ) → S
+    → S → K → K → Ends
+between left reads written writes source source_new sink sink_new = record {
+  left = left source;
+  left_new = left source_new;
+  written = written sink;
+  written_new = written sink_new;
+  reads = reads source;
+  reads_new = reads source_new;
+  writes = writes sink;
+  writes_new = writes sink_new;
+}
+
 -- these are the bytes that were read
 pub record Took (e : Ends) (bytes : List ℕ) : Type 0 where
   pub short : length bytes ≤ limit
@@ -79,7 +93,7 @@ due x = report x.facts.def x.facts.raw x.inferred.table
 
 -- 1 exactly where there is a complaint
 abbrev pub status_of : InferenceResult → ℕ
-status_of t = if nat_lt 0 (complaint_count t) then 1 else 0
+status_of r = if nat_lt 0 (complaint_count r) then 1 else 0
 
 -- ---- each status
 

@@ -6,7 +6,7 @@ ghost use Rattle.hir_laws.specs.Bodies.{HasBody};
 ghost use Rattle.infer_result.specs.Typed.{IsTableOf};
 ghost use Rattle.infer_result.specs.General.{HasGeneral};
 ghost use Rattle.infer_run.specs.Causes.{Rose, HasCause};
-ghost use Rattle.infer_run.specs.Outcome.{AppendsFront, Outcome};
+ghost use Rattle.infer_run.specs.Outcome.{AppendsFront, Outcome, between};
 ghost use Rattle.infer_run.specs.Exactly.{Exactly};
 ghost use Rattle.infer_run.specs.Answer.{Answered, silence, refusal};
 
@@ -174,26 +174,10 @@ fn answer<K: Sink>(alloc: Global, def: DefWithBodyId, facts: Facts, sink: &mut K
 /// Does what the words ask for: `table KIND N` reads facts, infers the table of a definition's
 /// body, and writes the report on it.
 pub fn run<S: Source, K: Sink>(alloc: Global, words: &[RcStr], source: &mut S, sink: &mut K) -> Ran
-    ensures outcome { Outcome (map rc_str_bytes words.now) (record {
-      left = S.left source.old;
-      left_new = S.left source.new;
-      written = K.written sink.old;
-      written_new = K.written sink.new;
-      reads = S.faults source.old;
-      reads_new = S.faults source.new;
-      writes = K.faults sink.old;
-      writes_new = K.faults sink.new;
-    }) result }
-    ensures exactly { Exactly (map rc_str_bytes words.now) (record {
-      left = S.left source.old;
-      left_new = S.left source.new;
-      written = K.written sink.old;
-      written_new = K.written sink.new;
-      reads = S.faults source.old;
-      reads_new = S.faults source.new;
-      writes = K.faults sink.old;
-      writes_new = K.faults sink.new;
-    }) result }
+    ensures outcome { Outcome (map rc_str_bytes words.now)
+        (between S.left S.faults K.written K.faults source.old source.new sink.old sink.new) result }
+    ensures exactly { Exactly (map rc_str_bytes words.now)
+        (between S.left S.faults K.written K.faults source.old source.new sink.old sink.new) result }
 {
     run_command(alloc, words, source, sink)
 }
@@ -205,16 +189,8 @@ fn run_command<S: Source, K: Sink>(
     source: &mut S,
     sink: &mut K,
 ) -> Ran
-    ensures { Outcome (map rc_str_bytes words.now) (record {
-      left = S.left source.old;
-      left_new = S.left source.new;
-      written = K.written sink.old;
-      written_new = K.written sink.new;
-      reads = S.faults source.old;
-      reads_new = S.faults source.new;
-      writes = K.faults sink.old;
-      writes_new = K.faults sink.new;
-    }) result }
+    ensures { Outcome (map rc_str_bytes words.now)
+        (between S.left S.faults K.written K.faults source.old source.new sink.old sink.new) result }
 {
     let Some(def) = command(words) else {
         return ended(2);

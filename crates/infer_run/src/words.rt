@@ -3,7 +3,7 @@ ghost use Rattle.std.specs.Prelude.{◌≡◌, ◌<◌, ◌^◌, ℕ, map, IfSom
 ghost use Rattle.std.specs.Fmt.{decimal};
 ghost use Rattle.std.specs.Rc.{rc_str_bytes};
 ghost use Rattle.hir_types.specs.declared.ids.DefWithBodyId.{DefWithBodyId};
-ghost use Rattle.infer_run.specs.Command.{kind_word, number_in, IsNamed, IsCommand};
+ghost use Rattle.infer_run.specs.Command.{kind_word, definition_number, IsNamed, IsCommand};
 
 use hir_facts::{ConstId, DefWithBodyId, FunctionId, StaticId, VariantId};
 use itoa::Buffer;
@@ -29,7 +29,7 @@ fn number_of(word: &str) -> Option<u32>
 
 /// The definition of this kind with this number.
 fn definition(kind: &str, number: u32) -> Option<DefWithBodyId>
-    ensures some { IfSome result (λ d. (kind.now ≡ kind_word d) × (number_in d ≡ number)) }
+    ensures some { IfSome result (λ d. (kind.now ≡ kind_word d) × (definition_number d ≡ number)) }
     ensures none { IfNone result ((d : DefWithBodyId) → kind.now ≡ kind_word d → ⊥) }
 {
     if kind == "fn" {

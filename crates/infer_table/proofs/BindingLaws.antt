@@ -1,20 +1,18 @@
 -- Laws of the bindings of a table: where each stands, whose holes are in them, and what a hole's place says.
 use Rattle.std.specs.Prelude.{◌≡◌, ℕ, zero, suc, ◌<◌, Bool, true, false, cond, List, [], ◌∷◌, ◌++◌, Option, Some, None, slice_get, take, length, set, ◌≢◌}
 use Rattle.std.specs.Option.{option_map}
-use Rattle.std.proofs.Common.{◌⊎◌, inl, inr, refl, sym, ap, ap₂, ◌∙◌, subst, arith, true≢false}
-use Rattle.std.proofs.lemmas.Bool.{both_ways, false_from_ne_true}
+use Rattle.std.proofs.Common.{◌⊎◌, inl, inr, refl, sym, ap, ◌∙◌, subst, arith, true≢false}
 use Rattle.std.proofs.lemmas.Option.{same_Some}
 use Rattle.hir_types.specs.declared.head.Hole.{Hole}
 use Rattle.hir_types.specs.declared.head.Hole.TheVariants as hole_of
 use Rattle.hir_types.specs.declared.head.HoleKind.{HoleKind}
-use Rattle.hir_types.specs.Terms.{Term, hole, occurs, hole_eq, hole_number}
+use Rattle.hir_types.specs.Terms.{Term, occurs, hole_eq, hole_number}
 use Rattle.infer_table.specs.declared.binding.Binding.{Binding}
 use Rattle.infer_table.specs.declared.binding.Binding.TheVariants as binding
-use Rattle.infer_table.specs.declared.bindings.Variable.{Variable}
-use Rattle.infer_table.specs.Solutions.{Log, found, binds, IsIntHole, resolved, Absent, Triangular, Free, Kept, entry, log_of, hole_kind, IsOf, AreOf}
-use Rattle.infer_table.specs.TermLemmas.{hole_respects, hole_eq_true, hole_eq_from}
-use Rattle.infer_table.specs.LogLemmas.{found_none, are_of_hole, BindsOf, resolved_are_of, triangular_last, triangular_take}
-use Rattle.infer_table.specs.Bindings.{Substitution, MayBind, kinds_of, bound_hole, bound_term, found_binding, AllOf, IsKept}
+use Rattle.infer_table.specs.Solutions.{Log, found, resolved, Triangular, Free, Kept, entry, log_of, hole_kind, IsOf, AreOf}
+use Rattle.infer_table.specs.TermLemmas.{hole_eq_true, hole_eq_from}
+use Rattle.infer_table.specs.LogLemmas.{BindsOf, resolved_are_of, triangular_last}
+use Rattle.infer_table.specs.Bindings.{bound_hole, bound_term, found_binding, AllOf}
 
 -- ---- elements of lists by their places
 
@@ -134,12 +132,6 @@ pub all_of_last : (kinds : List HoleKind) (bs : List Binding) (b : Binding) → 
 all_of_last kinds [] b h i j = (i, j, tt)
 all_of_last kinds (a ∷ bs) b h i j = (h.0, h.1, all_of_last kinds bs b h.2 i j)
 
-pub all_of_take : (kinds : List HoleKind) (bs : List Binding) (n : ℕ) → AllOf kinds bs → AllOf kinds (take n bs)
-all_of_take kinds [] zero h = tt
-all_of_take kinds [] (suc n) h = tt
-all_of_take kinds (b ∷ bs) zero h = tt
-all_of_take kinds (b ∷ bs) (suc n) h = (h.0, h.1, all_of_take kinds bs n h.2)
-
 pub all_of_left : (kinds : List HoleKind) (bs cs : List Binding) → AllOf kinds (bs ++ cs) → AllOf kinds bs
 all_of_left kinds [] cs h = tt
 all_of_left kinds (b ∷ bs) cs h = (h.0, h.1, all_of_left kinds bs cs h.2)
@@ -150,14 +142,6 @@ all_of_at kinds (a ∷ bs) zero b h e =
     let P : Binding → Type 0 = λ z. IsOf kinds (bound_hole z) × AreOf kinds (bound_term z) in
     subst P (same_Some a b e) (h.0, h.1)
 all_of_at kinds (a ∷ bs) (suc i) b h e = all_of_at kinds bs i b h.2 e
-
--- the binding of a hole binds that hole, which was made, as each hole was that stands in its term
-pub all_of_found : (kinds : List HoleKind) (bs : List Binding) (k : Hole) (b : Binding) → AllOf kinds bs → found_binding bs k ≡ Some b → (bound_hole b ≡ k) × IsOf kinds k × AreOf kinds (bound_term b)
-all_of_found kinds bs k b h e =
-    let p = found_binding_place bs k b e in
-    let q = all_of_at kinds bs p.0 b h p.1 in
-    let P : Hole → Type 0 = IsOf kinds in
-    (p.2, subst P p.2 q.0, q.1)
 
 -- holes that are made later take nothing away
 pub is_of_last : (kinds : List HoleKind) (c : HoleKind) (k : Hole) → IsOf kinds k → IsOf (kinds ++ c ∷ []) k
@@ -170,40 +154,6 @@ pub all_of_more : (kinds : List HoleKind) (c : HoleKind) (bs : List Binding) →
 all_of_more kinds c [] h = tt
 all_of_more kinds c (b ∷ bs) h = (is_of_last kinds c (bound_hole b) h.0, are_of_last kinds c (bound_term b) h.1, all_of_more kinds c bs h.2)
 
--- ---- later bindings only
-
-absent_at : (x : Hole) (bs : List Binding) (i : ℕ) (b : Binding) → Absent x (log_of bs) → slice_get bs i ≡ Some b → occurs x (bound_term b) ≡ false
-absent_at x [] i b h e = cc
-absent_at x (binding.Ty n t ∷ bs) zero b h e = let P : Binding → Type 0 = λ z. occurs x (bound_term z) ≡ false in subst P (same_Some (binding.Ty n t) b e) h.1
-absent_at x (binding.Int n t ∷ bs) zero b h e = let P : Binding → Type 0 = λ z. occurs x (bound_term z) ≡ false in subst P (same_Some (binding.Int n t) b e) h.1
-absent_at x (binding.Const n t ∷ bs) zero b h e = let P : Binding → Type 0 = λ z. occurs x (bound_term z) ≡ false in subst P (same_Some (binding.Const n t) b e) h.1
-absent_at x (a ∷ bs) (suc i) b h e = absent_at x bs i b h.2 e
-
-entry_hole : (b : Binding) → (entry b).0 ≡ bound_hole b
-entry_hole (binding.Ty n t) = refl
-entry_hole (binding.Int n t) = refl
-entry_hole (binding.Const n c) = refl
-
-entry_term : (b : Binding) → (entry b).1 ≡ bound_term b
-entry_term (binding.Ty n t) = refl
-entry_term (binding.Int n t) = refl
-entry_term (binding.Const n c) = refl
-
--- a bound hole stands in earlier terms alone
-pub occurs_earlier : (bs : List Binding) (i j : ℕ) (b c : Binding) → Triangular (log_of bs) → slice_get bs i ≡ Some b → slice_get bs j ≡ Some c → occurs (bound_hole c) (bound_term b) ≡ true → i < j
-occurs_earlier [] i j b c h e f o = cc
-occurs_earlier (a ∷ bs) zero zero b c h e f o =
-    let p = ap bound_hole (same_Some a c f) in
-    let q = ap bound_term (same_Some a b e) in
-    absurd (true≢false (sym o ∙ ap₂ occurs (sym p ∙ sym (entry_hole a)) (sym q ∙ sym (entry_term a)) ∙ h.0))
-occurs_earlier (a ∷ bs) zero (suc j) b c h e f o = omega arith
-occurs_earlier (a ∷ bs) (suc i) zero b c h e f o =
-    let p = ap bound_hole (same_Some a c f) in
-    let P : Hole → Type 0 = λ z. occurs z (bound_term b) ≡ false in
-    absurd (true≢false (sym o ∙ subst P (entry_hole a ∙ p) (absent_at (entry a).0 bs i b h.2 e)))
-occurs_earlier (a ∷ bs) (suc i) (suc j) b c h e f o =
-    let r = occurs_earlier bs i j b c h.3 e f o in omega arith
-
 -- ---- bindings, as a log of terms
 
 pub entry_parts : (b : Binding) → entry b ≡ (bound_hole b, bound_term b)
@@ -214,12 +164,6 @@ entry_parts (binding.Const n c) = refl
 pub log_of_last : (bs : List Binding) (b : Binding) → log_of (bs ++ b ∷ []) ≡ log_of bs ++ (bound_hole b, bound_term b) ∷ []
 log_of_last [] b = ap (λ (p : Hole × Term). p ∷ []) (entry_parts b)
 log_of_last (a ∷ bs) b = ap (λ (l : Log). entry a ∷ l) (log_of_last bs b)
-
-pub log_of_take : (bs : List Binding) (n : ℕ) → log_of (take n bs) ≡ take n (log_of bs)
-log_of_take [] zero = refl
-log_of_take [] (suc n) = refl
-log_of_take (b ∷ bs) zero = refl
-log_of_take (b ∷ bs) (suc n) = ap (λ (l : Log). entry b ∷ l) (log_of_take bs n)
 
 pub log_of_append : (bs cs : List Binding) → log_of (bs ++ cs) ≡ log_of bs ++ log_of cs
 log_of_append [] cs = refl
@@ -238,9 +182,6 @@ triangular_bind bs b h e f o k =
     let P : Log → Type 0 = Triangular in
     subst P (sym (log_of_last bs b)) (triangular_last (log_of bs) (bound_hole b) (bound_term b) h (found_log_none bs (bound_hole b) e) f o k)
 
-pub triangular_cut : (bs : List Binding) (n : ℕ) → Triangular (log_of bs) → Triangular (log_of (take n bs))
-triangular_cut bs n h = let P : Log → Type 0 = Triangular in subst P (sym (log_of_take bs n)) (triangular_take (log_of bs) n h)
-
 pub binds_of_all : (kinds : List HoleKind) (bs : List Binding) → AllOf kinds bs → BindsOf kinds (log_of bs)
 binds_of_all kinds [] h = tt
 binds_of_all kinds (binding.Ty n t ∷ bs) h = (h.0, h.1, binds_of_all kinds bs h.2)
@@ -250,26 +191,3 @@ binds_of_all kinds (binding.Const n c ∷ bs) h = (h.0, h.1, binds_of_all kinds 
 -- putting the bindings in brings in no hole that was not made
 pub resolved_made : (kinds : List HoleKind) (bs : List Binding) (t : Term) → AllOf kinds bs → AreOf kinds t → AreOf kinds (resolved (log_of bs) t)
 resolved_made kinds bs t h g = resolved_are_of kinds (log_of bs) t (binds_of_all kinds bs h) g
-
-pub kept_resolved : (vs : List Variable) (bs : List Binding) (t : Term) → IsKept vs bs → AreOf (kinds_of vs) t → AreOf (kinds_of vs) (resolved (log_of bs) t)
-kept_resolved vs bs t h g = resolved_made (kinds_of vs) bs t h.made g
-
--- ---- an open hole bound to another
-
-kept_hole : (x y : Hole) → (IsIntHole x → IsIntHole y) → Kept x (hole y)
-kept_hole x y h i = hole_respects y (h i)
-
-free_hole : (l : Log) (k : Hole) → found l k ≡ None → Free l (hole k)
-free_hole l k e y b = false_from_ne_true (hole_eq y k) (λ f.
-    let P : Hole → Type 0 = λ z. binds l z ≡ true in
-    both_ways (binds l k) (found_none l k e) (subst P (hole_eq_true y k f) b))
-
-pub may_bind_hole : (s : Substitution) (b : Binding) (x y : Hole) → bound_hole b ≡ x → bound_term b ≡ hole y → IsOf s.kinds x → IsOf s.kinds y → found_binding s.log x ≡ None → found_binding s.log y ≡ None → hole_eq x y ≡ false → (IsIntHole x → IsIntHole y) → MayBind s b
-may_bind_hole s b x y e f i j o p n k = record {
-  made = (let P : Hole → Type 0 = IsOf s.kinds in subst P (sym e) i);
-  is_open = ap (found_binding s.log) e ∙ o;
-  holes_made = (let P : Term → Type 0 = AreOf s.kinds in subst P (sym f) (are_of_hole s.kinds y j));
-  none_bound = (let P : Term → Type 0 = Free (log_of s.log) in subst P (sym f) (free_hole (log_of s.log) y (found_log_none s.log y p)));
-  no_cycle = ap₂ occurs e f ∙ n;
-  kind_kept = (let P : Hole → Type 0 = λ z. Kept z (bound_term b) in let Q : Term → Type 0 = λ z. Kept x z in subst P (sym e) (subst Q (sym f) (kept_hole x y k)));
-}

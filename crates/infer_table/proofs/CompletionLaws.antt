@@ -8,11 +8,12 @@ use Rattle.hir_types.specs.declared.ty.IntTy.TheVariants as int
 use Rattle.hir_types.specs.declared.ty.Ty.{Ty}
 use Rattle.hir_types.specs.declared.ty.Ty.TheVariants as ty
 use Rattle.hir_types.specs.Subst.{Replacement, Assignment, with_holes, composed, folded, const_folded}
-use Rattle.hir_types.specs.Folding.{same_assignments, replaced_error, replaced_int, replaced_var, replaced_int_var, folded_twice, const_folded_twice}
+use Rattle.hir_types.specs.Replacements.{same_assignments, replaced_error, replaced_int, replaced_var, replaced_int_var, folded_twice, const_folded_twice}
 use Rattle.infer_table.specs.declared.binding.Binding.{Binding}
 use Rattle.hir_types.specs.TermLaws.{term_int}
 use Rattle.hir_types.specs.Terms.{Term, apply, terms_of, IsInt}
-use Rattle.infer_table.specs.Completion.{fallback, completion_of, completion}
+use Rattle.hir_types.specs.Fallback.{fallback}
+use Rattle.infer_table.specs.Completion.{completion_of, completion}
 use Rattle.infer_table.specs.LogLemmas.{solution, solution_solves, solution_respects}
 use Rattle.infer_table.specs.Resolution.{resolution, IsOpenOrKnown, open_var, open_int_var, terms_composed, resolution_terms}
 use Rattle.infer_table.specs.Solutions.{Log, Solves, Respects, Triangular, log_of}

@@ -4,7 +4,7 @@ use Rattle.std.specs.Bool.{Decides}
 use denote.Enum.Declared.{values_one}
 use denote.Enum.Compared.{Each}
 use denote.Enum.Bare.{same_true}
-use Rattle.hir_types.proofs.Tells.{Tells, TellsAt, one_tells, by_tells, nat_tells}
+use Rattle.hir_types.proofs.ExactEquality.{IsExactAt, AreExactAt, one_tells, by_tells, nat_tells}
 use Rattle.hir_types.specs.declared.head.Head.{Head}
 use Rattle.hir_types.specs.declared.head.Head.TheVariants as head
 use Rattle.hir_types.specs.contracts.head.Head as the_head
@@ -41,67 +41,67 @@ use Rattle.hir_types.specs.contracts.ids.CallableDefIdPartialEq.TheImpl as calla
 abbrev int_eq : IntTy → IntTy → Bool
 int_eq = int_impl.ghosts.eq
 
-int_tells : (a : IntTy) → Tells int_eq a
+int_tells : (a : IntTy) → IsExactAt int_eq a
 int_tells = same_true int.the_type tt
 
 abbrev uint_eq : UintTy → UintTy → Bool
 uint_eq = uint_impl.ghosts.eq
 
-uint_tells : (a : UintTy) → Tells uint_eq a
+uint_tells : (a : UintTy) → IsExactAt uint_eq a
 uint_tells = same_true uint.the_type tt
 
 abbrev float_eq : FloatTy → FloatTy → Bool
 float_eq = float_impl.ghosts.eq
 
-float_tells : (a : FloatTy) → Tells float_eq a
+float_tells : (a : FloatTy) → IsExactAt float_eq a
 float_tells = same_true float.the_type tt
 
 abbrev mutability_eq : Mutability → Mutability → Bool
 mutability_eq = mutability_impl.ghosts.eq
 
-mutability_tells : (a : Mutability) → Tells mutability_eq a
+mutability_tells : (a : Mutability) → IsExactAt mutability_eq a
 mutability_tells = same_true mutability.the_type tt
 
 abbrev safety_eq : Safety → Safety → Bool
 safety_eq = safety_impl.ghosts.eq
 
-safety_tells : (a : Safety) → Tells safety_eq a
+safety_tells : (a : Safety) → IsExactAt safety_eq a
 safety_tells = same_true safety.the_type tt
 
 abbrev adt_id_eq : AdtId → AdtId → Bool
 adt_id_eq = adt_id_impl.ghosts.eq
 
-adt_id_tells : (a : AdtId) → Tells adt_id_eq a
+adt_id_tells : (a : AdtId) → IsExactAt adt_id_eq a
 adt_id_tells a b h = search rules
 
 abbrev trait_id_eq : TraitId → TraitId → Bool
 trait_id_eq = trait_id_impl.ghosts.eq
 
-trait_id_tells : (a : TraitId) → Tells trait_id_eq a
+trait_id_tells : (a : TraitId) → IsExactAt trait_id_eq a
 trait_id_tells a b h = search rules
 
 abbrev alias_id_eq : TypeAliasId → TypeAliasId → Bool
 alias_id_eq = alias_id_impl.ghosts.eq
 
-alias_id_tells : (a : TypeAliasId) → Tells alias_id_eq a
+alias_id_tells : (a : TypeAliasId) → IsExactAt alias_id_eq a
 alias_id_tells a b h = search rules
 
 abbrev opaque_id_eq : OpaqueId → OpaqueId → Bool
 opaque_id_eq = opaque_id_impl.ghosts.eq
 
-opaque_id_tells : (a : OpaqueId) → Tells opaque_id_eq a
+opaque_id_tells : (a : OpaqueId) → IsExactAt opaque_id_eq a
 opaque_id_tells a b h = search rules
 
 abbrev closure_id_eq : ClosureId → ClosureId → Bool
 closure_id_eq = closure_id_impl.ghosts.eq
 
-closure_id_tells : (a : ClosureId) → Tells closure_id_eq a
+closure_id_tells : (a : ClosureId) → IsExactAt closure_id_eq a
 closure_id_tells a b h = search rules
 
 abbrev callable_id_eq : CallableDefId → CallableDefId → Bool
 callable_id_eq = callable_id_impl.ghosts.eq
 
-callable_id_tells : (a : CallableDefId) → Tells callable_id_eq a
+callable_id_tells : (a : CallableDefId) → IsExactAt callable_id_eq a
 callable_id_tells a b h = search rules
 
 abbrev pub head_eq : Head → Head → Bool
@@ -110,7 +110,7 @@ head_eq = head_impl.ghosts.eq
 abbrev head_each : Each Bool the_head.the_parts
 head_each = (λ a b. true, (λ a b. true, (λ a b. int_eq a.0 b.0, (λ a b. uint_eq a.0 b.0, (λ a b. float_eq a.0 b.0, (λ a b. true, (λ a b. true, (λ a b. true, (λ a b. true, (λ a b. true, (λ a b. mutability_eq a.0 b.0, (λ a b. mutability_eq a.0 b.0, (λ a b. adt_id_eq a.0 b.0, (λ a b. callable_id_eq a.0 b.0, (λ a b. safety_eq a.0 b.0, (λ a b. closure_id_eq a.0 b.0, (λ a b. true, (λ a b. nat_eq a.0 b.0, (λ a b. alias_id_eq a.0 b.0, (λ a b. opaque_id_eq a.0 b.0, (λ a b. true, (λ a b. true, (λ a b. nat_eq a.0 b.0, (λ a b. nat_eq a.0 b.0, (λ a b. true, (λ a b. true, (λ a b. true, (λ a b. true, (λ a b. trait_id_eq a.0 b.0, (λ a b. true, (λ a b. alias_id_eq a.0 b.0, (λ a b. trait_id_eq a.0 b.0, (λ a b. true, tt)))))))))))))))))))))))))))))))))
 
-head_parts : (a : Head) → TellsAt the_head.the_parts head_each (the_head.as_values a)
+head_parts : (a : Head) → AreExactAt the_head.the_parts head_each (the_head.as_values a)
 head_parts head.Bool = λ y h. refl
 head_parts head.Char = λ y h. refl
 head_parts (head.Int x) = one_tells int_eq x (int_tells x)
@@ -145,7 +145,7 @@ head_parts (head.Bound x) = one_tells alias_id_eq x (alias_id_tells x)
 head_parts (head.AutoTrait x) = one_tells trait_id_eq x (trait_id_tells x)
 head_parts head.End = λ y h. refl
 
-head_tells : (a : Head) → Tells head_eq a
+head_tells : (a : Head) → IsExactAt head_eq a
 head_tells a b h = values_one the_head.enum a b (by_tells the_head.the_parts head_each (the_head.as_values a) (the_head.as_values b) (head_parts a) h)
 
 pub head_decides : (a b : Head) → Decides (head_eq a b) (a ≡ b)

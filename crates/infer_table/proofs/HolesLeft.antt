@@ -98,8 +98,8 @@ origin_of_both n t u p h =
 
 -- ---- a hole that is neither in the two terms nor new
 
-abbrev IsKept : ℕ → Term → Term → Hole → Type 0
-IsKept n t u k = (occurs k t ≡ true) ⊎ (occurs k u ≡ true) ⊎ (n ≤ hole_number k)
+abbrev MayBeLeft : ℕ → Term → Term → Hole → Type 0
+MayBeLeft n t u k = (occurs k t ≡ true) ⊎ (occurs k u ≡ true) ⊎ (n ≤ hole_number k)
 
 module _ (n : ℕ) (before after : Log) (t u : Term) (k : Hole) where
   -- the solution of the bindings after, seen from those before, but for this hole, which comes to a leaf
@@ -120,8 +120,8 @@ module _ (n : ℕ) (before after : Log) (t u : Term) (k : Hole) where
   other_open : (h : Hole) → found before h ≡ None → other h ≡ put h
   other_open h e = ap (apply put) (resolved_open before h e)
 
-  module _ (below : LogIsBelow n before) (free_t : Free before t) (free_u : Free before u) (gone : IsKept n t u k → ⊥) where
-    kept_open : (h : Hole) → IsKept n t u h → found before h ≡ None
+  module _ (below : LogIsBelow n before) (free_t : Free before t) (free_u : Free before u) (gone : MayBeLeft n t u k → ⊥) where
+    kept_open : (h : Hole) → MayBeLeft n t u h → found before h ≡ None
     kept_open h i = elim i [
       | inl o ↦ not_bound before h t free_t o
       | inr r ↦ elim r [
@@ -131,12 +131,12 @@ module _ (n : ℕ) (before after : Log) (t u : Term) (k : Hole) where
     ]
 
     -- at the holes of the two terms, and at new ones, it is the solution after
-    other_kept : (h : Hole) → IsKept n t u h → other h ≡ solution after h
+    other_kept : (h : Hole) → MayBeLeft n t u h → other h ≡ solution after h
     other_kept h i =
-        let e = hole_ne k h (λ q. let P : Hole → Type 0 = IsKept n t u in gone (subst P (sym q) i)) in
+        let e = hole_ne k h (λ q. let P : Hole → Type 0 = MayBeLeft n t u in gone (subst P (sym q) i)) in
         other_open h (kept_open h i) ∙ put_other h (hole_eq k h) refl e
 
-    same_on : (v : Term) → ((h : Hole) → occurs h v ≡ true → IsKept n t u h) → apply other v ≡ apply (solution after) v
+    same_on : (v : Term) → ((h : Hole) → occurs h v ≡ true → MayBeLeft n t u h) → apply other v ≡ apply (solution after) v
     same_on v i = apply_agree other (solution after) v (λ h o. other_kept h (i h o))
 
     same_first : apply other (first_opened n t) ≡ apply (solution after) (first_opened n t)
@@ -169,7 +169,7 @@ module _ (n : ℕ) (before after : Log) (t u : Term) (k : Hole) where
           (same_first ∙ least.unifies s h ∙ sym same_second) (stand_too least.bound least.among (least.stand s h))
 
       -- so it does not stand in what a term of kept holes comes to
-      none_but_kept : (v : Term) → ((h : Hole) → occurs h v ≡ true → IsKept n t u h) → GrownFrom before after → occurs k (resolved after v) ≡ true → ⊥
+      none_but_kept : (v : Term) → ((h : Hole) → occurs h v ≡ true → MayBeLeft n t u h) → GrownFrom before after → occurs k (resolved after v) ≡ true → ⊥
       none_but_kept v i g o =
           let w = resolved after v in
           let e = resolved_apply other after v other_solves ∙ same_on v i ∙ solution_apply after v in
@@ -178,10 +178,10 @@ module _ (n : ℕ) (before after : Log) (t u : Term) (k : Hole) where
           cc
 
 -- whether it is one, in cases
-kept_or_not : (n : ℕ) (t u : Term) (k : Hole) → ((IsKept n t u k → ⊥) → ⊥) → IsKept n t u k
+kept_or_not : (n : ℕ) (t u : Term) (k : Hole) → ((MayBeLeft n t u k → ⊥) → ⊥) → MayBeLeft n t u k
 kept_or_not n t u k h = go (occurs k t) refl
   where
-    at_new : occurs k t ≡ false → occurs k u ≡ false → (hole_number k < n) ⊎ (n ≤ hole_number k) → IsKept n t u k
+    at_new : occurs k t ≡ false → occurs k u ≡ false → (hole_number k < n) ⊎ (n ≤ hole_number k) → MayBeLeft n t u k
     at_new e f (inr o) = inr (inr o)
     at_new e f (inl o) = absurd (h (λ i. elim i [
       | inl r ↦ both_ways (occurs k t) e r
@@ -191,11 +191,11 @@ kept_or_not n t u k h = go (occurs k t) refl
       ]
     ]))
 
-    at_second : occurs k t ≡ false → (b : Bool) → occurs k u ≡ b → IsKept n t u k
+    at_second : occurs k t ≡ false → (b : Bool) → occurs k u ≡ b → MayBeLeft n t u k
     at_second e true f = inr (inl f)
     at_second e false f = at_new e f (cases_lt (hole_number k) n)
 
-    go : (b : Bool) → occurs k t ≡ b → IsKept n t u k
+    go : (b : Bool) → occurs k t ≡ b → MayBeLeft n t u k
     go true e = inl e
     go false e = at_second e (occurs k u) refl
 

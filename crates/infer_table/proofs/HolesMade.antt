@@ -4,7 +4,7 @@ use Rattle.std.specs.Prelude.{slice_get}
 use Rattle.hir_types.specs.declared.head.Head.TheVariants as head
 use Rattle.hir_types.specs.declared.head.Hole.{Hole}
 use Rattle.hir_types.specs.declared.head.HoleKind.{HoleKind}
-use Rattle.hir_types.specs.declared.outline.Part.{Part}
+use Rattle.hir_types.specs.declared.outline.OutlinePart.{OutlinePart}
 use Rattle.hir_types.specs.declared.ty.Ty.{Ty}
 use Rattle.hir_types.specs.Terms.{Term, hole, leaf, chain, term}
 use Rattle.hir_types.specs.Outlines.{part_term, part_terms}
@@ -15,7 +15,7 @@ use Rattle.infer_table.proofs.BindingLaws.{binds_of_all}
 use Rattle.infer_table.specs.Resolution.{found_for, found_for_in_log}
 use Rattle.infer_table.specs.LogLemmas.{binds_of_found, are_of_hole, are_of_leaf, are_of_pair, are_of_parts}
 use Rattle.infer_table.specs.TermLemmas.{hole_eq_same}
-use Rattle.infer_table.specs.Made.{MadeIf}
+use Rattle.infer_table.specs.MadeTest.{MadeIf}
 use Rattle.infer_table.proofs.Unifying.{parts_until, parts_around}
 
 pub hole_made : (z : Bool) (kinds : List HoleKind) (k : Hole) → (IsTrue z ↔ IsOf kinds k) → MadeIf z kinds (hole k)
@@ -34,11 +34,11 @@ chain_part : (kinds : List HoleKind) (xs : List Term) (x : Term) (ys : List Term
 chain_part kinds [] x ys h = (are_of_parts kinds x (chain ys) h).0
 chain_part kinds (y ∷ xs) x ys h = chain_part kinds xs x ys (are_of_parts kinds y (chain (xs ++ x ∷ ys)) h).1
 
-pub made_more : (kinds : List HoleKind) (xs : List Part) (i : ℕ) (x : Part) → slice_get xs i ≡ Some x → AreOf kinds (chain (part_terms (take i xs))) → AreOf kinds (part_term x) → AreOf kinds (chain (part_terms (take (i + 1) xs)))
+pub made_more : (kinds : List HoleKind) (xs : List OutlinePart) (i : ℕ) (x : OutlinePart) → slice_get xs i ≡ Some x → AreOf kinds (chain (part_terms (take i xs))) → AreOf kinds (part_term x) → AreOf kinds (chain (part_terms (take (i + 1) xs)))
 made_more kinds xs i x e h k =
     subst (λ (z : List Term). AreOf kinds (chain z)) (sym (parts_until xs i x e)) (chain_last kinds (part_terms (take i xs)) (part_term x) h k)
 
-pub not_made : (kinds : List HoleKind) (xs : List Part) (i : ℕ) (x : Part) → slice_get xs i ≡ Some x → (AreOf kinds (part_term x) → ⊥) → AreOf kinds (chain (part_terms xs)) → ⊥
+pub not_made : (kinds : List HoleKind) (xs : List OutlinePart) (i : ℕ) (x : OutlinePart) → slice_get xs i ≡ Some x → (AreOf kinds (part_term x) → ⊥) → AreOf kinds (chain (part_terms xs)) → ⊥
 not_made kinds xs i x e h all =
     h (chain_part kinds (part_terms (take i xs)) (part_term x) (part_terms (drop (suc i) xs)) (subst (λ (z : List Term). AreOf kinds (chain z)) (parts_around xs i x e) all))
 

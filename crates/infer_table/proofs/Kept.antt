@@ -1,5 +1,5 @@
 -- What a table's invariant says of each hole, and that each change keeps it.
-use Rattle.std.specs.Prelude.{◌≡◌, ℕ, zero, suc, ◌+◌, ◌≤◌, List, [], ◌∷◌, ◌++◌, Option, Some, None, slice_get, take, length, set, get_or}
+use Rattle.std.specs.Prelude.{◌≡◌, ℕ, zero, suc, ◌+◌, List, [], ◌∷◌, ◌++◌, Option, Some, None, slice_get, take, length, set, get_or}
 use Rattle.std.specs.Option.{option_map}
 use Rattle.std.proofs.Common.{inl, inr, refl, sym, ap, ap₂, ◌∙◌, subst, arith}
 use Rattle.std.proofs.lemmas.Option.{same_Some, none-some, slice_get-map, slice_get_within, get_or_from_slice_get}
@@ -223,20 +223,6 @@ kept_forget vs log n h a = record {
     placed = λ m v i e f. h.placed.placed m v i (get_from_take vs n m v e).1 f;
   };
 }
-
--- ---- bindings undone, one after another
-
-pub take_before : {X : Type 0} (xs : List X) (n m : ℕ) → n ≤ m → take n (take m xs) ≡ take n xs
-take_before xs zero m h = take_zero xs m
-  where
-    take_zero : {X : Type 0} (xs : List X) (m : ℕ) → take 0 (take m xs) ≡ take 0 xs
-    take_zero [] zero = refl
-    take_zero [] (suc m) = refl
-    take_zero (x ∷ xs) zero = refl
-    take_zero (x ∷ xs) (suc m) = refl
-take_before xs (suc n) zero h = absurd (omega arith)
-take_before [] (suc n) (suc m) h = refl
-take_before {X} (x ∷ xs) (suc n) (suc m) h = ap (λ (ys : List X). x ∷ ys) (take_before xs n m (omega arith))
 
 -- ---- what contracts see
 

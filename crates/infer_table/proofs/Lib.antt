@@ -16,3 +16,4 @@ pub mod HolesLeft
 pub mod OpenedBoth
 pub mod UnifiedTables
 pub mod HolesMade
+pub mod WaitingCounts

@@ -111,7 +111,7 @@ append_twice [] ys zs = refl
 append_twice (x ∷ xs) ys zs = ap (λ (z : List Binding). x ∷ z) (append_twice xs ys zs)
 
 -- the steps from the first state to the last
-pub record Steps (s : Substitution) (log : List Binding) (z y : Substitution) : Type 0 where
+pub record StepsBetween (s : Substitution) (log : List Binding) (z y : Substitution) : Type 0 where
   pub opened_log : log ≡ s.log
   pub equated : (bs : List Binding) × (z.log ≡ log ++ bs)
   pub settled : OnlyAdds z y
@@ -143,7 +143,7 @@ holes_after s y a b c made acyclic_before acyclic_after g least within =
     (holes_left (length s.kinds) l y.log (resolved l a) (resolved l b) (resolved l c) below (resolved_free l a acyclic_before) (resolved_free l b acyclic_before) acyclic_before acyclic_after g least within)
 
 module _ (s : Substitution) (log : List Binding) (z y : Substitution) (t u a b v w : Term) (os : List Origin) where
-  pub opened_unified : t ≡ resolved (log_of s.log) a → u ≡ resolved (log_of s.log) b → BothOpened (length s.kinds) z.kinds t u v w os → Steps s log z y → Unified (log_of log) (log_of z.log) v w → AreSettled (log_of y.log) (origins_of os) → (os ≡ [] → y ≡ z) → BindsSome (log_of z.log) (log_of y.log) (origins_of os) → IsUnified s y a b
+  pub opened_unified : t ≡ resolved (log_of s.log) a → u ≡ resolved (log_of s.log) b → BothOpened (length s.kinds) z.kinds t u v w os → StepsBetween s log z y → Unified (log_of log) (log_of z.log) v w → AreSettled (log_of y.log) (origins_of os) → (os ≡ [] → y ≡ z) → BindsSome (log_of z.log) (log_of y.log) (origins_of os) → IsUnified s y a b
   opened_unified e f h steps unified settled nothing some =
       let l = log_of s.log in
       let n = length s.kinds in

@@ -10,7 +10,7 @@ use Rattle.hir_types.specs.declared.ty.GenericArg.{GenericArg}
 use Rattle.hir_types.specs.declared.ty.TraitRef.{TraitRef}
 use Rattle.hir_types.specs.declared.ty.AliasBound.{AliasBound}
 use Rattle.hir_types.specs.Terms.{Term, term, arg_term}
-use Rattle.hir_types.specs.TermLaws.{type_parts}
+use Rattle.hir_types.specs.TermLaws.{parts_of_types}
 use Rattle.infer_table.specs.OpenedLists.{Opens, OpensParts, principal_terms, bounds_terms, types_push, args_push, bounds_push, opens_dynamic}
 
 -- ---- one more of a list
@@ -26,8 +26,8 @@ parts_same {old = old} {new = new} {os = os} {ps = ps} {X = X} f {us = us} {vs =
     let Q : List X → Type 0 = λ z. OpensParts old new os ps (f vs) (f z) in
     subst Q (sym g) (subst P (sym e) x)
 
-pub types_step : {old mid new : List HoleKind} {os ms ps : List (ℕ × Term)} (ts items us us2 : List Ty) (i : ℕ) (t u : Ty) → items ≡ ts → i < length items → t ≡ get_or items i t → us2 ≡ us ++ u ∷ [] → OpensParts old mid os ms (type_parts (take i ts)) (type_parts us) → Opens mid new ms ps (term t) (term u) → OpensParts old new os ps (type_parts (take (i + 1) ts)) (type_parts us2)
-types_step ts items us us2 i t u s h e g x y = parts_same type_parts (taken ts items i t s h e) g (types_push (take i ts) us t u x y)
+pub types_step : {old mid new : List HoleKind} {os ms ps : List (ℕ × Term)} (ts items us us2 : List Ty) (i : ℕ) (t u : Ty) → items ≡ ts → i < length items → t ≡ get_or items i t → us2 ≡ us ++ u ∷ [] → OpensParts old mid os ms (parts_of_types (take i ts)) (parts_of_types us) → Opens mid new ms ps (term t) (term u) → OpensParts old new os ps (parts_of_types (take (i + 1) ts)) (parts_of_types us2)
+types_step ts items us us2 i t u s h e g x y = parts_same parts_of_types (taken ts items i t s h e) g (types_push (take i ts) us t u x y)
 
 pub args_step : {old mid new : List HoleKind} {os ms ps : List (ℕ × Term)} (xs items ys ys2 : List GenericArg) (i : ℕ) (t u : GenericArg) → items ≡ xs → i < length items → t ≡ get_or items i t → ys2 ≡ ys ++ u ∷ [] → OpensParts old mid os ms (map arg_term (take i xs)) (map arg_term ys) → OpensParts mid new ms ps (arg_term t ∷ []) (arg_term u ∷ []) → OpensParts old new os ps (map arg_term (take (i + 1) xs)) (map arg_term ys2)
 args_step xs items ys ys2 i t u s h e g x y = parts_same (map arg_term) (taken xs items i t s h e) g (args_push (take i xs) ys t u x y)

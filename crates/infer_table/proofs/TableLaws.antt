@@ -2,7 +2,7 @@
 use Rattle.std.specs.Prelude.{◌≡◌, ℕ, zero, suc, ◌+◌, ◌<◌, ◌++◌, Bool, true, false, cond, if◌then◌else◌, List, [], ◌∷◌, length, take, Option, Some, None, slice_get}
 use Rattle.std.proofs.Common.{refl, sym, ap, ◌∙◌, subst, get_or, arith, true≢false, IsTrue, not}
 use Rattle.std.proofs.lemmas.Bool.{false≢true}
-use Rattle.std.proofs.lemmas.List.{append-nil, length-take, take_all, take_more}
+use Rattle.std.proofs.lemmas.List.{append-nil, length-take, take_more}
 use Rattle.std.proofs.lemmas.Option.{same_Some, slice_get_within, slice_get-get_or}
 use Rattle.hir_types.specs.declared.head.HoleKind.{HoleKind}
 use Rattle.hir_types.specs.declared.ty.Ty.{Ty, Ty-F, roll-Ty, out-Ty, out-roll-Ty, roll-out-Ty}
@@ -11,7 +11,7 @@ use Rattle.hir_types.specs.declared.ty.GenericArg.{GenericArg}
 use Rattle.hir_types.specs.declared.ty.AliasBound.{AliasBound}
 use Rattle.hir_types.specs.declared.ty.TraitRef.{TraitRef}
 use Rattle.hir_types.specs.Folds.{in_ty}
-use Rattle.hir_types.specs.Folding.{replaced_var, replaced_int_var}
+use Rattle.hir_types.specs.Replacements.{replaced_var, replaced_int_var}
 use Rattle.hir_types.specs.Subst.{with_holes, folded}
 use Rattle.hir_types.specs.TermLaws.{terms, term_at, term_var, term_int_var, term_folded}
 use Rattle.hir_types.specs.Terms.{apply, term, terms_of, ty_step}
@@ -20,7 +20,7 @@ use Rattle.infer_table.specs.declared.waiting.WaitingPair.{WaitingPair}
 use Rattle.infer_table.proofs.BindingLaws.{are_of_last}
 use Rattle.infer_table.specs.Resolution.{resolution, IsOpenOrKnown, open_var, open_int_var}
 use Rattle.infer_table.specs.Table.{State, bindings, resolved_type, resolved_term, PairIsOf, PairsAreOf, is_type_hole, IsNoOpenHole, IsUnknownPair, AllUnknown, IsFirstKnown, TakesFirstKnown}
-use Rattle.infer_table.specs.Waiting.{Waiting, waiting, is_taken, left_from, left_at, left_before, left_past, with_taken}
+use Rattle.infer_table.specs.Waiting.{Waiting, is_taken, left_from, left_at, left_before, left_past, with_taken}
 use Rattle.infer_table.proofs.WaitingLaws.{left_from-push, IsLeft-from_some, waiting-at, waiting-with_taken}
 
 -- ---- whose holes are in the pairs
@@ -36,12 +36,6 @@ pairs_are_of_hole kinds k (p ∷ ps) h = (pair_is_of_hole kinds k p h.0, pairs_a
 pub pairs_are_of_last : (kinds : List HoleKind) (ps : List WaitingPair) (p : WaitingPair) → PairsAreOf kinds ps → PairIsOf kinds p → PairsAreOf kinds (ps ++ p ∷ [])
 pairs_are_of_last kinds [] p h g = (g, tt)
 pairs_are_of_last kinds (q ∷ ps) p h g = (h.0, pairs_are_of_last kinds ps p h.1 g)
-
-pub pairs_are_of_take : (kinds : List HoleKind) (ps : List WaitingPair) (n : ℕ) → PairsAreOf kinds ps → PairsAreOf kinds (take n ps)
-pairs_are_of_take kinds [] zero h = tt
-pairs_are_of_take kinds [] (suc n) h = tt
-pairs_are_of_take kinds (p ∷ ps) zero h = tt
-pairs_are_of_take kinds (p ∷ ps) (suc n) h = (h.0, pairs_are_of_take kinds ps n h.1)
 
 pub pairs_are_of_at : (kinds : List HoleKind) (ps : List WaitingPair) (i : ℕ) (p : WaitingPair) → PairsAreOf kinds ps → slice_get ps i ≡ Some p → PairIsOf kinds p
 pairs_are_of_at kinds [] i p h e = cc
@@ -130,12 +124,6 @@ all_unknown_more s i p e u h =
     let P : List WaitingPair → Type 0 = AllUnknown s in
     let m = left_before-more s.pairs i p left.at ∙ ap (λ (b : Bool). left_before s.pairs i ++ (if b then [] else p ∷ [])) left.is_left in
     subst P (sym m) (all_unknown_append s (left_before s.pairs i) (p ∷ []) h (u, tt))
-
--- the pairs that wait are those before the end
-pub all_unknown_all : (s : State) → AllUnknown s (left_before s.pairs (length s.pairs.made)) → AllUnknown s (waiting s.pairs)
-all_unknown_all s h =
-    let P : List WaitingPair → Type 0 = λ ps. AllUnknown s (left_from s.pairs.taken 0 ps) in
-    subst P (take_all (length s.pairs.made) s.pairs.made (omega arith)) h
 
 -- ---- whether a type is known
 

@@ -9,7 +9,7 @@ use Rattle.infer_table.specs.Bindings.{Substitution}
 use Rattle.infer_table.specs.LogLemmas.{are_of_more}
 use Rattle.infer_table.specs.Resolution.{resolution_term}
 use Rattle.infer_table.specs.Opened.{Agree, IsPlain, IsReadAs}
-use Rattle.infer_table.specs.Least.{number_after, BindsLeast, HolesAreLeft}
+use Rattle.infer_table.specs.Least.{number_after_both, BindsLeast, HolesAreLeft}
 use Rattle.infer_table.specs.Settling as settling
 use Rattle.infer_table.specs.Settling.{OnlyGrows, IsUnified, UnifiesOrStays}
 use Rattle.infer_table.specs.Unifying.{CanBeSame}
@@ -74,8 +74,8 @@ are_unified before after a b pairs diverging grows h = record {
       subst (λ (x : Term). BindsLeast (hole_count before) (log_of (bindings before)) (log_of (bindings after)) (resolved_term before a) x) (term_at before b)
       (subst (λ (x : Term). BindsLeast (hole_count before) (log_of (bindings before)) (log_of (bindings after)) x (resolved (log_of (bindings before)) (term b))) (term_at before a) h.least);
   made =
-      subst (λ (x : Term). hole_count after ≡ number_after (hole_count before) (resolved_term before a) x) (term_at before b)
-      (subst (λ (x : Term). hole_count after ≡ number_after (hole_count before) x (resolved (log_of (bindings before)) (term b))) (term_at before a) h.made);
+      subst (λ (x : Term). hole_count after ≡ number_after_both (hole_count before) (resolved_term before a) x) (term_at before b)
+      (subst (λ (x : Term). hole_count after ≡ number_after_both (hole_count before) x (resolved (log_of (bindings before)) (term b))) (term_at before a) h.made);
   left_holes = holes_kept before after a b a h.left_holes;
   right_holes = holes_kept before after a b b h.right_holes;
 }

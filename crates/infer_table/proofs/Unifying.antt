@@ -10,7 +10,7 @@ use Rattle.hir_types.specs.declared.head.HoleKind.{HoleKind}
 use Rattle.hir_types.specs.declared.ty.Const.{Const}
 use Rattle.hir_types.specs.declared.ty.Const.TheVariants as const
 use Rattle.hir_types.specs.declared.ty.Ty.{Ty, Ty-F, out-Ty, roll-out-Ty}
-use Rattle.hir_types.specs.declared.outline.Part.{Part}
+use Rattle.hir_types.specs.declared.outline.OutlinePart.{OutlinePart}
 use Rattle.hir_types.specs.Folds.{in_ty}
 use Rattle.hir_types.specs.Subst.{folded}
 use Rattle.hir_types.specs.Terms.{Term, hole, occurs, hole_eq, chain, node, const_term, term, ty_step}
@@ -140,75 +140,75 @@ none_consts l c d m n h =
 
 -- ---- parts
 
-pub made_parts : (kinds : List HoleKind) (h : Head) (xs : List Part) (i : ℕ) (x : Part) → slice_get xs i ≡ Some x → AreOf kinds (node h (part_terms xs)) → AreOf kinds (part_term x)
+pub made_parts : (kinds : List HoleKind) (h : Head) (xs : List OutlinePart) (i : ℕ) (x : OutlinePart) → slice_get xs i ≡ Some x → AreOf kinds (node h (part_terms xs)) → AreOf kinds (part_term x)
 made_parts kinds h [] i x e m = cc
 made_parts kinds h (y ∷ xs) zero x e m =
     let f : y ≡ x = cc in
-    let P : Part → Type 0 = λ z. AreOf kinds (part_term z) in
+    let P : OutlinePart → Type 0 = λ z. AreOf kinds (part_term z) in
     subst P f (λ k o. m k (or_left (occurs k (part_term y)) (occurs k (chain (part_terms xs))) o))
 made_parts kinds h (y ∷ xs) (suc i) x e m =
     made_parts kinds h xs i x e (λ k o. m k (or_right (occurs k (part_term y)) (occurs k (chain (part_terms xs))) o))
 
 -- the parts around one
-parts_through : (xs : List Part) (i : ℕ) (x : Part) → slice_get xs i ≡ Some x → part_terms (take (suc i) xs) ≡ part_terms (take i xs) ++ part_term x ∷ []
+parts_through : (xs : List OutlinePart) (i : ℕ) (x : OutlinePart) → slice_get xs i ≡ Some x → part_terms (take (suc i) xs) ≡ part_terms (take i xs) ++ part_term x ∷ []
 parts_through [] i x e = cc
-parts_through (y ∷ xs) zero x e = let f : y ≡ x = cc in ap (λ (z : Part). part_term z ∷ []) f
+parts_through (y ∷ xs) zero x e = let f : y ≡ x = cc in ap (λ (z : OutlinePart). part_term z ∷ []) f
 parts_through (y ∷ xs) (suc i) x e = ap (λ (zs : List Term). part_term y ∷ zs) (parts_through xs i x e)
 
-pub parts_until : (xs : List Part) (i : ℕ) (x : Part) → slice_get xs i ≡ Some x → part_terms (take (i + 1) xs) ≡ part_terms (take i xs) ++ part_term x ∷ []
+pub parts_until : (xs : List OutlinePart) (i : ℕ) (x : OutlinePart) → slice_get xs i ≡ Some x → part_terms (take (i + 1) xs) ≡ part_terms (take i xs) ++ part_term x ∷ []
 parts_until xs i x e = let n : i + 1 ≡ suc i = omega arith in ap (λ (k : ℕ). part_terms (take k xs)) n ∙ parts_through xs i x e
 
-pub parts_around : (xs : List Part) (i : ℕ) (x : Part) → slice_get xs i ≡ Some x → part_terms xs ≡ part_terms (take i xs) ++ part_term x ∷ part_terms (drop (suc i) xs)
+pub parts_around : (xs : List OutlinePart) (i : ℕ) (x : OutlinePart) → slice_get xs i ≡ Some x → part_terms xs ≡ part_terms (take i xs) ++ part_term x ∷ part_terms (drop (suc i) xs)
 parts_around [] i x e = cc
-parts_around (y ∷ xs) zero x e = let f : y ≡ x = cc in ap (λ (z : Part). part_term z ∷ part_terms xs) f
+parts_around (y ∷ xs) zero x e = let f : y ≡ x = cc in ap (λ (z : OutlinePart). part_term z ∷ part_terms xs) f
 parts_around (y ∷ xs) (suc i) x e = ap (λ (zs : List Term). part_term y ∷ zs) (parts_around xs i x e)
 
-length_front : (xs ys : List Part) (i : ℕ) → length xs ≡ length ys → length (part_terms (take i xs)) ≡ length (part_terms (take i ys))
+length_front : (xs ys : List OutlinePart) (i : ℕ) → length xs ≡ length ys → length (part_terms (take i xs)) ≡ length (part_terms (take i ys))
 length_front xs ys zero e = refl
 length_front [] [] (suc i) e = refl
 length_front [] (y ∷ ys) (suc i) e = absurd (omega (arith, e))
 length_front (x ∷ xs) [] (suc i) e = absurd (omega (arith, e))
 length_front (x ∷ xs) (y ∷ ys) (suc i) e = let h = length_front xs ys i (omega (arith, e)) in omega (arith, h)
 
-length_parts : (xs : List Part) → length (part_terms xs) ≡ length xs
+length_parts : (xs : List OutlinePart) → length (part_terms xs) ≡ length xs
 length_parts [] = refl
 length_parts (x ∷ xs) = ap suc (length_parts xs)
 
-pub unified_parts_more : (l m n : Log) (xs ys : List Part) (i : ℕ) (x y : Part) → slice_get xs i ≡ Some x → slice_get ys i ≡ Some y → Unified l m (chain (part_terms (take i xs))) (chain (part_terms (take i ys))) → Unified m n (part_term x) (part_term y) → Unified l n (chain (part_terms (take (i + 1) xs))) (chain (part_terms (take (i + 1) ys)))
+pub unified_parts_more : (l m n : Log) (xs ys : List OutlinePart) (i : ℕ) (x y : OutlinePart) → slice_get xs i ≡ Some x → slice_get ys i ≡ Some y → Unified l m (chain (part_terms (take i xs))) (chain (part_terms (take i ys))) → Unified m n (part_term x) (part_term y) → Unified l n (chain (part_terms (take (i + 1) xs))) (chain (part_terms (take (i + 1) ys)))
 unified_parts_more l m n xs ys i x y e f u v =
     let P : List Term → Type 0 = λ z. Unified l n (chain z) (chain (part_terms (take (i + 1) ys))) in
     let Q : List Term → Type 0 = λ z. Unified l n (chain (part_terms (take i xs) ++ part_term x ∷ [])) (chain z) in
     subst P (sym (parts_until xs i x e)) (subst Q (sym (parts_until ys i y f)) (unified_chain_more l m n (part_terms (take i xs)) (part_terms (take i ys)) (part_term x) (part_term y) u v))
 
-pub none_parts_more : (l m : Log) (xs ys : List Part) (i : ℕ) (x y : Part) → length xs ≡ length ys → slice_get xs i ≡ Some x → slice_get ys i ≡ Some y → Unified l m (chain (part_terms (take i xs))) (chain (part_terms (take i ys))) → NoneUnifies m (part_term x) (part_term y) → NoneUnifies l (chain (part_terms xs)) (chain (part_terms ys))
+pub none_parts_more : (l m : Log) (xs ys : List OutlinePart) (i : ℕ) (x y : OutlinePart) → length xs ≡ length ys → slice_get xs i ≡ Some x → slice_get ys i ≡ Some y → Unified l m (chain (part_terms (take i xs))) (chain (part_terms (take i ys))) → NoneUnifies m (part_term x) (part_term y) → NoneUnifies l (chain (part_terms xs)) (chain (part_terms ys))
 none_parts_more l m xs ys i x y k e f u n =
     let P : List Term → Type 0 = λ z. NoneUnifies l (chain z) (chain (part_terms ys)) in
     let Q : List Term → Type 0 = λ z. NoneUnifies l (chain (part_terms (take i xs) ++ part_term x ∷ part_terms (drop (suc i) xs))) (chain z) in
     subst P (sym (parts_around xs i x e)) (subst Q (sym (parts_around ys i y f))
     (none_chain_more l m (part_terms (take i xs)) (part_terms (take i ys)) (part_term x) (part_term y) (part_terms (drop (suc i) xs)) (part_terms (drop (suc i) ys)) (length_front xs ys i k) u n))
 
-pub none_parts_length : (l : Log) (xs ys : List Part) → (length xs ≡ length ys → ⊥) → NoneUnifies l (chain (part_terms xs)) (chain (part_terms ys))
+pub none_parts_length : (l : Log) (xs ys : List OutlinePart) → (length xs ≡ length ys → ⊥) → NoneUnifies l (chain (part_terms xs)) (chain (part_terms ys))
 none_parts_length l xs ys n = none_chain_length l (part_terms xs) (part_terms ys) (λ e. n (sym (length_parts xs) ∙ e ∙ length_parts ys))
 
 -- ---- a hole in a list of parts
 
-pub in_parts : (x : Hole) (xs : List Part) (i : ℕ) (p : Part) → slice_get xs i ≡ Some p → occurs x (part_term p) ≡ true → occurs x (chain (part_terms xs)) ≡ true
+pub in_parts : (x : Hole) (xs : List OutlinePart) (i : ℕ) (p : OutlinePart) → slice_get xs i ≡ Some p → occurs x (part_term p) ≡ true → occurs x (chain (part_terms xs)) ≡ true
 in_parts x [] i p e o = cc
 in_parts x (y ∷ xs) zero p e o =
     let f : y ≡ p = cc in
-    or_left (occurs x (part_term y)) (occurs x (chain (part_terms xs))) (ap (λ (z : Part). occurs x (part_term z)) f ∙ o)
+    or_left (occurs x (part_term y)) (occurs x (chain (part_terms xs))) (ap (λ (z : OutlinePart). occurs x (part_term z)) f ∙ o)
 in_parts x (y ∷ xs) (suc i) p e o = or_right (occurs x (part_term y)) (occurs x (chain (part_terms xs))) (in_parts x xs i p e o)
 
-not_in_through : (x : Hole) (xs : List Part) (i : ℕ) (p : Part) → slice_get xs i ≡ Some p → occurs x (part_term p) ≡ false → occurs x (chain (part_terms (take i xs))) ≡ false → occurs x (chain (part_terms (take (suc i) xs))) ≡ false
+not_in_through : (x : Hole) (xs : List OutlinePart) (i : ℕ) (p : OutlinePart) → slice_get xs i ≡ Some p → occurs x (part_term p) ≡ false → occurs x (chain (part_terms (take i xs))) ≡ false → occurs x (chain (part_terms (take (suc i) xs))) ≡ false
 not_in_through x [] i p e o n = cc
 not_in_through x (y ∷ xs) zero p e o n =
     let f : y ≡ p = cc in
-    or_from (occurs x (part_term y)) false (ap (λ (z : Part). occurs x (part_term z)) f ∙ o) refl
+    or_from (occurs x (part_term y)) false (ap (λ (z : OutlinePart). occurs x (part_term z)) f ∙ o) refl
 not_in_through x (y ∷ xs) (suc i) p e o n =
     let q = or_parts (occurs x (part_term y)) (occurs x (chain (part_terms (take i xs)))) n in
     or_from (occurs x (part_term y)) (occurs x (chain (part_terms (take (suc i) xs)))) q.0 (not_in_through x xs i p e o q.1)
 
-pub not_in_more : (x : Hole) (xs : List Part) (i : ℕ) (p : Part) → slice_get xs i ≡ Some p → occurs x (part_term p) ≡ false → occurs x (chain (part_terms (take i xs))) ≡ false → occurs x (chain (part_terms (take (i + 1) xs))) ≡ false
+pub not_in_more : (x : Hole) (xs : List OutlinePart) (i : ℕ) (p : OutlinePart) → slice_get xs i ≡ Some p → occurs x (part_term p) ≡ false → occurs x (chain (part_terms (take i xs))) ≡ false → occurs x (chain (part_terms (take (i + 1) xs))) ≡ false
 not_in_more x xs i p e o n =
     let m : i + 1 ≡ suc i = omega arith in
     ap (λ (k : ℕ). occurs x (chain (part_terms (take k xs)))) m ∙ not_in_through x xs i p e o n
@@ -284,28 +284,28 @@ consts_compared false l c d m n e = none_consts l c d m n (λ q. false≢true (e
 
 -- ---- nodes, part by part
 
-pub part_made : (before after : Substitution) (h : Head) (xs : List Part) (i : ℕ) (x : Part) → OnlyAdds before after → slice_get xs i ≡ Some x → AreOf before.kinds (node h (part_terms xs)) → AreOf after.kinds (part_term x)
+pub part_made : (before after : Substitution) (h : Head) (xs : List OutlinePart) (i : ℕ) (x : OutlinePart) → OnlyAdds before after → slice_get xs i ≡ Some x → AreOf before.kinds (node h (part_terms xs)) → AreOf after.kinds (part_term x)
 part_made before after h xs i x b e m =
     let P : List HoleKind → Type 0 = λ ks. AreOf ks (part_term x) in
     subst P (sym b.kinds) (made_parts before.kinds h xs i x e m)
 
-pub none_nodes_length : (l : Log) (g h : Head) (xs ys : List Part) → (length xs ≡ length ys → ⊥) → NoneUnifies l (node g (part_terms xs)) (node h (part_terms ys))
+pub none_nodes_length : (l : Log) (g h : Head) (xs ys : List OutlinePart) → (length xs ≡ length ys → ⊥) → NoneUnifies l (node g (part_terms xs)) (node h (part_terms ys))
 none_nodes_length l g h xs ys n s r k e = none_parts_length l xs ys n s r k (pair_right e)
 
-pub none_nodes_part : (l m : Log) (g h : Head) (xs ys : List Part) (i : ℕ) (x y : Part) (z : Bool) → length xs ≡ length ys → slice_get xs i ≡ Some x → slice_get ys i ≡ Some y → Unified l m (chain (part_terms (take i xs))) (chain (part_terms (take i ys))) → z ≡ false → (n : Log) → UnifiedIf z m n (part_term x) (part_term y) → NoneUnifies l (node g (part_terms xs)) (node h (part_terms ys))
+pub none_nodes_part : (l m : Log) (g h : Head) (xs ys : List OutlinePart) (i : ℕ) (x y : OutlinePart) (z : Bool) → length xs ≡ length ys → slice_get xs i ≡ Some x → slice_get ys i ≡ Some y → Unified l m (chain (part_terms (take i xs))) (chain (part_terms (take i ys))) → z ≡ false → (n : Log) → UnifiedIf z m n (part_term x) (part_term y) → NoneUnifies l (node g (part_terms xs)) (node h (part_terms ys))
 none_nodes_part l m g h xs ys i x y z k e f u p n v s r q w =
     let P : Bool → Type 0 = λ b. UnifiedIf b m n (part_term x) (part_term y) in
     none_parts_more l m xs ys i x y k e f u (subst P p v) s r q (pair_right w)
 
-pub unified_nodes_part : (l m n : Log) (xs ys : List Part) (i : ℕ) (x y : Part) (z : Bool) → slice_get xs i ≡ Some x → slice_get ys i ≡ Some y → Unified l m (chain (part_terms (take i xs))) (chain (part_terms (take i ys))) → z ≡ true → UnifiedIf z m n (part_term x) (part_term y) → Unified l n (chain (part_terms (take (i + 1) xs))) (chain (part_terms (take (i + 1) ys)))
+pub unified_nodes_part : (l m n : Log) (xs ys : List OutlinePart) (i : ℕ) (x y : OutlinePart) (z : Bool) → slice_get xs i ≡ Some x → slice_get ys i ≡ Some y → Unified l m (chain (part_terms (take i xs))) (chain (part_terms (take i ys))) → z ≡ true → UnifiedIf z m n (part_term x) (part_term y) → Unified l n (chain (part_terms (take (i + 1) xs))) (chain (part_terms (take (i + 1) ys)))
 unified_nodes_part l m n xs ys i x y z e f u p v =
     let P : Bool → Type 0 = λ b. UnifiedIf b m n (part_term x) (part_term y) in
     unified_parts_more l m n xs ys i x y e f u (subst P p v)
 
-pub unified_nodes : (l m : Log) (g h : Head) (xs ys : List Part) (i : ℕ) → g ≡ h → length xs ≡ length ys → length xs ≤ i → Unified l m (chain (part_terms (take i xs))) (chain (part_terms (take i ys))) → Unified l m (node g (part_terms xs)) (node h (part_terms ys))
+pub unified_nodes : (l m : Log) (g h : Head) (xs ys : List OutlinePart) (i : ℕ) → g ≡ h → length xs ≡ length ys → length xs ≤ i → Unified l m (chain (part_terms (take i xs))) (chain (part_terms (take i ys))) → Unified l m (node g (part_terms xs)) (node h (part_terms ys))
 unified_nodes l m g h xs ys i e k j u =
-    let P : List Part → Type 0 = λ z. Unified l m (chain (part_terms z)) (chain (part_terms (take i ys))) in
-    let Q : List Part → Type 0 = λ z. Unified l m (chain (part_terms xs)) (chain (part_terms z)) in
+    let P : List OutlinePart → Type 0 = λ z. Unified l m (chain (part_terms z)) (chain (part_terms (take i ys))) in
+    let Q : List OutlinePart → Type 0 = λ z. Unified l m (chain (part_terms xs)) (chain (part_terms z)) in
     let R : Head → Type 0 = λ z. Unified l m (node g (part_terms xs)) (node z (part_terms ys)) in
     let v = subst Q (take_all i ys (omega (arith, k, j))) (subst P (take_all i xs j) u) in
     subst R e (unified_if_node true l m g (part_terms xs) (part_terms ys) v)

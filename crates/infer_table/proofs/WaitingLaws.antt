@@ -142,9 +142,6 @@ IsLeft-from_some w i p h = by_mark (is_taken w.taken i) refl h
     by_mark true q e = absurd (none-some p e)
     by_mark false q e = record { at = e; is_left = q }
 
-pub left_at-is : (w : Waiting) (i : ℕ) (p : WaitingPair) → StillWaits w i p → left_at w i ≡ Some p
-left_at-is w i p h = cond-false (is_taken w.taken i) None (slice_get w.made i) h.is_left ∙ h.at
-
 pub IsLeft-exists : (w : Waiting) (i : ℕ) → IsSome (left_at w i) → (p : WaitingPair) × StillWaits w i p
 IsLeft-exists w i h = by_cases (left_at w i) refl h
   where

@@ -18,8 +18,8 @@ abbrev pub second_opened : ℕ → Term → Term → Term
 second_opened n t u = (opened (opened n t).1 u).0
 
 -- the number after them
-abbrev pub number_after : ℕ → Term → Term → ℕ
-number_after n t u = (opened (opened n t).1 u).1
+abbrev pub number_after_both : ℕ → Term → Term → ℕ
+number_after_both n t u = (opened (opened n t).1 u).1
 
 -- those that stand for aliases, each with its alias
 abbrev pub origins_of_both : ℕ → Term → Term → List (ℕ × Term)

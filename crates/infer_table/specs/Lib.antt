@@ -17,5 +17,7 @@ pub mod Table
 pub mod Undo
 pub mod Completion
 pub mod Settling
-pub mod Made
+pub mod MadeTest
 pub mod Preserved
+pub mod Kinds
+pub mod Lawful

@@ -1,13 +1,12 @@
 -- Lemmas on bindings: what a hole is bound to, terms with each binding put in, and that solutions exist.
-use Rattle.std.specs.Prelude.{◌≡◌, ℕ, zero, suc, Bool, true, false, cond, List, [], ◌∷◌, ◌++◌, Option, Some, None, map, slice_get, take}
+use Rattle.std.specs.Prelude.{◌≡◌, ℕ, zero, suc, Bool, true, false, cond, List, [], ◌∷◌, ◌++◌, Option, Some, None, slice_get}
 use Rattle.std.proofs.Common.{◌⊎◌, inl, inr, refl, sym, ap, ap₂, ◌∙◌, subst, true≢false}
 use Rattle.std.proofs.lemmas.Bool.{both_ways, or_cases, or_parts, or_left, or_right, false_from_ne_true}
 use Rattle.std.proofs.lemmas.Option.{same_Some}
 use Rattle.hir_types.specs.declared.head.Head.{Head}
-use Rattle.hir_types.specs.declared.head.Head.TheVariants as head
 use Rattle.hir_types.specs.declared.head.Hole.{Hole}
 use Rattle.hir_types.specs.declared.head.HoleKind.{HoleKind}
-use Rattle.hir_types.specs.Terms.{Term, hole, leaf, pair, apply, occurs, hole_eq, hole_number, IsInt, chain, node, type_part}
+use Rattle.hir_types.specs.Terms.{Term, hole, leaf, pair, apply, occurs, hole_eq, hole_number, IsInt}
 use Rattle.infer_table.specs.Solutions.{Log, single, sub, resolved, found, binds, Solves, Respects, Kept, Absent, Triangular, Free, hole_kind, IsOf, AreOf}
 use Rattle.infer_table.specs.TermLemmas.{hole_eq_true, hole_eq_same, hole_eq_flip, apply_apply, apply_sub, sub_absent, sub_same, sub_gone, sub_holes, sub_without, single_respects, is_int_apply, hole_respects}
 
@@ -76,19 +75,6 @@ found_left (p ∷ l) m k u e = elim (some_case p.1 u (found l k) (hole_eq k p.0)
   | inr q ↦ at_false p.1 (found (l ++ m) k) (hole_eq k p.0) q.0 ∙ found_left l m k u q.1
 ]
 
-pub found_right : (l m : Log) (k : Hole) → found l k ≡ None → found (l ++ m) k ≡ found m k
-found_right [] m k e = refl
-found_right (p ∷ l) m k e = let q = none_case p.1 (found l k) (hole_eq k p.0) e in
-    at_false p.1 (found (l ++ m) k) (hole_eq k p.0) q.0 ∙ found_right l m k q.1
-
--- one binding more
-pub found_last : (l : Log) (x : Hole) (t : Term) → found l x ≡ None → found (l ++ (x, t) ∷ []) x ≡ Some t
-found_last l x t e = found_right l ((x, t) ∷ []) x e ∙ at_true t None (hole_eq x x) (hole_eq_same x)
-
-pub found_other : (l : Log) (x k : Hole) (t : Term) → hole_eq k x ≡ false → found (l ++ (x, t) ∷ []) k ≡ found l k
-found_other [] x k t e = at_false t None (hole_eq k x) e
-found_other (p ∷ l) x k t e = ap (cond (hole_eq k p.0) (Some p.1)) (found_other l x k t e)
-
 -- by the binding's place
 pub found_place : (l : Log) (x : Hole) (t : Term) → found l x ≡ Some t → (i : ℕ) × (slice_get l i ≡ Some (x, t))
 found_place [] x t e = cc
@@ -101,23 +87,6 @@ same_pair : {x y : Hole} {t u : Term} → ◌≡◌ {A = Option (Hole × Term)} 
 same_pair {x = x} {y = y} {t = t} {u = u} e =
     let f : ◌≡◌ {A = Hole × Term} (x, t) (y, u) = same_Some (x, t) (y, u) e in
     (ap (λ (z : Hole × Term). z.0) f, ap (λ (z : Hole × Term). z.1) f)
-
-absent_at : (x : Hole) (l : Log) (i : ℕ) (y : Hole) (u : Term) → Absent x l → slice_get l i ≡ Some (y, u) → (hole_eq x y ≡ false) × (occurs x u ≡ false)
-absent_at x [] i y u h e = cc
-absent_at x ((z, v) ∷ l) zero y u h e =
-    let q = same_pair e in
-    let P : Hole → Type 0 = λ w. hole_eq x w ≡ false in
-    let Q : Term → Type 0 = λ w. occurs x w ≡ false in
-    (subst P q.0 h.0, subst Q q.1 h.1)
-absent_at x (p ∷ l) (suc i) y u h e = absent_at x l i y u h.2 e
-
-pub found_at : (l : Log) (i : ℕ) (x : Hole) (t : Term) → Triangular l → slice_get l i ≡ Some (x, t) → found l x ≡ Some t
-found_at [] i x t h e = cc
-found_at ((z, v) ∷ l) zero x t h e =
-    let q = same_pair e in
-    at_true v (found l x) (hole_eq x z) (hole_eq_flip z x true (ap (hole_eq z) (sym q.0) ∙ hole_eq_same z)) ∙ ap Some q.1
-found_at ((z, v) ∷ l) (suc i) x t h e =
-    at_false v (found l x) (hole_eq x z) (hole_eq_flip z x false (absent_at z l i x t h.2 e).0) ∙ found_at l i x t h.3 e
 
 -- ---- a term with the bindings put in
 
@@ -133,26 +102,9 @@ pub resolved_pair : (l : Log) (a b : Term) → resolved l (pair a b) ≡ pair (r
 resolved_pair [] a b = refl
 resolved_pair (p ∷ l) a b = resolved_pair l (sub p.0 p.1 a) (sub p.0 p.1 b)
 
--- over a leaf, as at the head of a type and at each part
-pub resolved_under : (l : Log) (h : Head) (t : Term) → resolved l (pair (leaf h) t) ≡ pair (leaf h) (resolved l t)
-resolved_under l h t = resolved_pair l (leaf h) t ∙ ap (λ (z : Term). pair z (resolved l t)) (resolved_leaf l h)
-
-pub resolved_chain : (l : Log) (ts : List Term) → resolved l (chain ts) ≡ chain (map (resolved l) ts)
-resolved_chain l [] = resolved_leaf l head.End
-resolved_chain l (t ∷ ts) = resolved_pair l t (chain ts) ∙ ap (pair (resolved l t)) (resolved_chain l ts)
-
-pub resolved_node : (l : Log) (h : Head) (ts : List Term) → resolved l (node h ts) ≡ node h (map (resolved l) ts)
-resolved_node l h ts = resolved_under l h (chain ts) ∙ ap (pair (leaf h)) (resolved_chain l ts)
-
-pub resolved_type_part : (l : Log) (t : Term) → resolved l (type_part t) ≡ type_part (resolved l t)
-resolved_type_part l t = resolved_under l head.TypePart t
-
 pub resolved_append : (l m : Log) (t : Term) → resolved (l ++ m) t ≡ resolved m (resolved l t)
 resolved_append [] m t = refl
 resolved_append (p ∷ l) m t = resolved_append l m (sub p.0 p.1 t)
-
-pub resolved_last : (l : Log) (x : Hole) (u t : Term) → resolved (l ++ (x, u) ∷ []) t ≡ sub x u (resolved l t)
-resolved_last l x u t = resolved_append l ((x, u) ∷ []) t
 
 -- a term without bound holes stays
 pub resolved_fixed : (l : Log) (t : Term) → Free l t → resolved l t ≡ t
@@ -179,38 +131,11 @@ resolved_free (p ∷ l) t h y e =
 pub resolved_twice : (l : Log) (t : Term) → Triangular l → resolved l (resolved l t) ≡ resolved l t
 resolved_twice l t h = resolved_fixed l (resolved l t) (resolved_free l t h)
 
--- what is bound later does not name a hole that is absent from there on
-found_absent : (x : Hole) (l : Log) (k : Hole) (u : Term) → Absent x l → found l k ≡ Some u → occurs x u ≡ false
-found_absent x [] k u h e = cc
-found_absent x (p ∷ l) k u h e =
-    elim (some_case p.1 u (found l k) (hole_eq k p.0) e) [
-      | inl q ↦ let P : Term → Type 0 = λ z. occurs x z ≡ false in subst P q.1 h.1
-      | inr q ↦ found_absent x l k u h.2 q.1
-    ]
-
-pub resolved_found : (l : Log) (k : Hole) (u : Term) → Triangular l → found l k ≡ Some u → resolved l (hole k) ≡ resolved l u
-resolved_found [] k u t e = cc
-resolved_found (p ∷ l) k u t e =
-    elim (some_case p.1 u (found l k) (hole_eq k p.0) e) [
-      | inl q ↦ ap (λ (z : Hole). resolved l (sub p.0 p.1 (hole z))) (hole_eq_true k p.0 q.0) ∙ ap (resolved l) (sub_same p.0 p.1)
-          ∙ ap (resolved l) (sym (sub_absent p.0 p.1 p.1 t.0)) ∙ ap (λ (z : Term). resolved l (sub p.0 p.1 z)) q.1
-      | inr q ↦ ap (resolved l) (sub_absent p.0 p.1 (hole k) (hole_eq_flip k p.0 false q.0)) ∙ resolved_found l k u t.3 q.1
-          ∙ ap (resolved l) (sym (sub_absent p.0 p.1 u (found_absent p.0 l k u t.2 q.1)))
-    ]
-
 pub resolved_open : (l : Log) (k : Hole) → found l k ≡ None → resolved l (hole k) ≡ hole k
 resolved_open [] k e = refl
 resolved_open (p ∷ l) k e =
     let q = none_case p.1 (found l k) (hole_eq k p.0) e in
     ap (resolved l) (sub_absent p.0 p.1 (hole k) (hole_eq_flip k p.0 false q.0)) ∙ resolved_open l k q.1
-
--- a solution sends a bound hole where it sends what the hole is bound to
-pub solves_found : (s : Hole → Term) (l : Log) (k : Hole) (u : Term) → Solves s l → found l k ≡ Some u → s k ≡ apply s u
-solves_found s [] k u h e = cc
-solves_found s (p ∷ l) k u h e = elim (some_case p.1 u (found l k) (hole_eq k p.0) e) [
-  | inl q ↦ ap s (hole_eq_true k p.0 q.0) ∙ h.0 ∙ ap (apply s) q.1
-  | inr q ↦ solves_found s l k u h.1 q.1
-]
 
 -- ---- without cycles
 
@@ -236,18 +161,6 @@ triangular_last l x t h e f o k = triangular_append l ((x, t) ∷ []) h (o, k, t
   f y b,
   tt,
 ))
-
-absent_take : (x : Hole) (l : Log) (n : ℕ) → Absent x l → Absent x (take n l)
-absent_take x [] zero h = tt
-absent_take x [] (suc n) h = tt
-absent_take x (p ∷ l) zero h = tt
-absent_take x (p ∷ l) (suc n) h = (h.0, h.1, absent_take x l n h.2)
-
-pub triangular_take : (l : Log) (n : ℕ) → Triangular l → Triangular (take n l)
-triangular_take [] zero h = tt
-triangular_take [] (suc n) h = tt
-triangular_take (p ∷ l) zero h = tt
-triangular_take (p ∷ l) (suc n) h = (h.0, h.1, absent_take p.0 l n h.2, triangular_take l n h.3)
 
 absent_left : (x : Hole) (l m : Log) → Absent x (l ++ m) → Absent x l
 absent_left x [] m h = tt
@@ -289,13 +202,6 @@ resolved_int (p ∷ l) t h e = resolved_int l (sub p.0 p.1 t) h.3 (is_int_apply 
 pub solution_respects : (l : Log) → Triangular l → Respects (solution l)
 solution_respects l h = λ k e. resolved_int l (hole k) h (hole_respects k e)
 
-pub solution_of : (l : Log) → Triangular l → Respects (solution l) × Solves (solution l) l
-solution_of l h = (solution_respects l h, solution_solves l h)
-
--- a solution comes after putting the bindings in
-pub solves_through : (s : Hole → Term) (l : Log) (t : Term) → Solves s l → apply s (apply (solution l) t) ≡ apply s t
-solves_through s l t h = ap (apply s) (solution_apply l t) ∙ resolved_apply s l t h
-
 -- what comes after a solution is one
 pub solves_after : (f g : Hole → Term) (l : Log) → Solves g l → Solves (λ h. apply f (g h)) l
 solves_after f g [] h = tt
@@ -308,19 +214,6 @@ abbrev pub BindsOf : List HoleKind → Log → Type 0
 BindsOf kinds [] = Unit {0}
 BindsOf kinds (p ∷ l) = IsOf kinds p.0 × AreOf kinds p.1 × BindsOf kinds l
 
-pub binds_of_append : (kinds : List HoleKind) (l m : Log) → BindsOf kinds l → BindsOf kinds m → BindsOf kinds (l ++ m)
-binds_of_append kinds [] m h k = k
-binds_of_append kinds (p ∷ l) m h k = (h.0, h.1, binds_of_append kinds l m h.2 k)
-
-pub binds_of_last : (kinds : List HoleKind) (l : Log) (x : Hole) (t : Term) → BindsOf kinds l → IsOf kinds x → AreOf kinds t → BindsOf kinds (l ++ (x, t) ∷ [])
-binds_of_last kinds l x t h i j = binds_of_append kinds l ((x, t) ∷ []) h (i, j, tt)
-
-pub binds_of_take : (kinds : List HoleKind) (l : Log) (n : ℕ) → BindsOf kinds l → BindsOf kinds (take n l)
-binds_of_take kinds [] zero h = tt
-binds_of_take kinds [] (suc n) h = tt
-binds_of_take kinds (p ∷ l) zero h = tt
-binds_of_take kinds (p ∷ l) (suc n) h = (h.0, h.1, binds_of_take kinds l n h.2)
-
 pub binds_of_at : (kinds : List HoleKind) (l : Log) (i : ℕ) (x : Hole) (t : Term) → BindsOf kinds l → slice_get l i ≡ Some (x, t) → IsOf kinds x × AreOf kinds t
 binds_of_at kinds [] i x t h e = cc
 binds_of_at kinds ((z, v) ∷ l) zero x t h e =
@@ -329,10 +222,6 @@ binds_of_at kinds ((z, v) ∷ l) zero x t h e =
     let Q : Term → Type 0 = AreOf kinds in
     (subst P q.0 h.0, subst Q q.1 h.1)
 binds_of_at kinds (p ∷ l) (suc i) x t h e = binds_of_at kinds l i x t h.2 e
-
-pub binds_of_from : (kinds : List HoleKind) (l : Log) → ((i : ℕ) (x : Hole) (t : Term) → slice_get l i ≡ Some (x, t) → IsOf kinds x × AreOf kinds t) → BindsOf kinds l
-binds_of_from kinds [] h = tt
-binds_of_from kinds ((z, v) ∷ l) h = let q = h 0 z v refl in (q.0, q.1, binds_of_from kinds l (λ i x t e. h (suc i) x t e))
 
 pub binds_of_found : (kinds : List HoleKind) (l : Log) (x : Hole) (t : Term) → BindsOf kinds l → found l x ≡ Some t → IsOf kinds x × AreOf kinds t
 binds_of_found kinds l x t h e = let p = found_place l x t e in binds_of_at kinds l p.0 x t h p.1
@@ -368,7 +257,3 @@ is_of_more kinds more k h = get_more kinds more (hole_number k) (hole_kind k) h
 
 pub are_of_more : (kinds more : List HoleKind) (t : Term) → AreOf kinds t → AreOf (kinds ++ more) t
 are_of_more kinds more t h k e = is_of_more kinds more k (h k e)
-
-pub binds_of_more : (kinds more : List HoleKind) (l : Log) → BindsOf kinds l → BindsOf (kinds ++ more) l
-binds_of_more kinds more [] h = tt
-binds_of_more kinds more (p ∷ l) h = (is_of_more kinds more p.0 h.0, are_of_more kinds more p.1 h.1, binds_of_more kinds more l h.2)

@@ -1,11 +1,11 @@
 -- When two terms agree but for aliases and unknowns: from equal opened terms, where each alias is settled.
-use Rattle.std.proofs.Common.{◌≡◌, ℕ, Bool, true, false, cond, ◌⊎◌, inl, inr, List, [], ◌∷◌, ◌++◌, refl, sym, ap, ap₂, ◌∙◌, subst, eq-eqb}
+use Rattle.std.proofs.Common.{◌≡◌, ℕ, Bool, true, false, cond, ◌⊎◌, inl, inr, List, [], ◌∷◌, ◌++◌, refl, sym, ap, ◌∙◌, subst, eq-eqb}
 use Rattle.std.proofs.lemmas.Bool.{or_cases, or_left, or_right}
 use Rattle.hir_types.specs.declared.head.Hole.{Hole}
 use Rattle.hir_types.specs.declared.head.Hole.TheVariants as hole_of
 use Rattle.hir_types.specs.Terms.{Term, hole, leaf, pair, occurs, hole_eq}
 use Rattle.infer_table.specs.Solutions.{Log, resolved, sub}
-use Rattle.infer_table.specs.Opened.{Place, plain, alias, unknown_type, unknown_const, place, IsPlain, opened, origins, MayDifferFrom, MayDiffer, Agree}
+use Rattle.infer_table.specs.Opened.{Place, plain, alias, unknown_type, unknown_const, place, opened, origins, MayDifferFrom, MayDiffer, Agree}
 use Rattle.infer_table.specs.OpenedLaws.{opened_at, origins_at, place_leaf}
 use Rattle.infer_table.specs.TermLemmas.{hole_eq_true, hole_eq_same, pair_left, pair_right}
 use Rattle.infer_table.specs.LogLemmas.{resolved_leaf, resolved_pair, resolved_append}
@@ -59,29 +59,6 @@ differs_at p a b = elim p [
   | unknown_type ↦ Unit {0}
   | unknown_const ↦ Unit {0}
 ]
-
--- nothing may differ at a plain place
-plain_never : (a b : Term) → place a ≡ plain → MayDiffer a b → ⊥
-plain_never a b e h = let P : Place → Type 0 = λ p. differs_at p a b in subst P e h
-
-plain_outside : (a : Term) → IsPlain a → place a ≡ plain
-plain_outside (hole k) h = refl
-plain_outside (leaf k) h = refl
-plain_outside (pair a b) h = h.0
-
-last_of : {A B C : Type 0} → (A → ⊥) → (B → ⊥) → A ⊎ B ⊎ C → C
-last_of f g (inl a) = absurd (f a)
-last_of f g (inr (inl b)) = absurd (g b)
-last_of f g (inr (inr c)) = c
-
-pub agree_plain : (a b : Term) → IsPlain a → IsPlain b → Agree a b → a ≡ b
-agree_plain (hole k) b p q h = last_of (λ d. d) (λ d. plain_never b (hole k) (plain_outside b q) d) h
-agree_plain (leaf k) b p q h = last_of (λ d. d) (λ d. plain_never b (leaf k) (plain_outside b q) d) h
-agree_plain (pair a c) (hole k) p q h = last_of (λ d. plain_never (pair a c) (hole k) p.0 d) (λ d. d) h
-agree_plain (pair a c) (leaf k) p q h = last_of (λ d. plain_never (pair a c) (leaf k) p.0 d) (λ d. d) h
-agree_plain (pair a c) (pair b d) p q h =
-    let e = last_of (λ i. plain_never (pair a c) (pair b d) p.0 i) (λ i. plain_never (pair b d) (pair a c) q.0 i) h in
-    ap₂ pair (agree_plain a b p.1 q.1 e.0) (agree_plain c d p.2 q.2 e.1)
 
 -- ---- resolved terms
 
@@ -280,7 +257,3 @@ settled_here l p h = differs_from (resolved l p.1) (resolved l (hole (hole_of.Ty
 
 pub settled_inside : (l : Log) (p : ℕ × Term) (k : ℕ) → resolved l (hole (hole_of.Ty p.0)) ≡ hole (hole_of.Ty k) → occurs (hole_of.Ty k) (resolved l p.1) ≡ true → IsSettled l p
 settled_inside l p k e h = let P : Term → Type 0 = λ z. MayDifferFrom (resolved l p.1) z in subst P (sym e) h
-
--- what resolves to one term does so after more bindings
-pub equal_more : (l m : Log) (a b : Term) → resolved l a ≡ resolved l b → resolved (l ++ m) a ≡ resolved (l ++ m) b
-equal_more l m a b e = resolved_append l m a ∙ ap (resolved m) e ∙ sym (resolved_append l m b)

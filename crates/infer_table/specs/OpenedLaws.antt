@@ -66,29 +66,6 @@ place_leaf head.Error b c = refl
 place_leaf head.UnknownConst b c = refl
 place_leaf _ b c = refl
 
--- no leaf comes in first
-opened_first_at : (p : Place) (n : ℕ) (a b c : Term) → place (pair (opened_at p n a b).0 c) ≡ plain
-opened_first_at plain n a b c = refl
-opened_first_at alias n a b c = refl
-opened_first_at unknown_type n a b c = refl
-opened_first_at unknown_const n a b c = refl
-
-opened_first : (n : ℕ) (a b c : Term) → place (pair a b) ≡ plain → place (pair (opened n a).0 c) ≡ plain
-opened_first n (hole k) b c e = refl
-opened_first n (leaf h) b c e = place_leaf h c b ∙ e
-opened_first n (pair a d) b c e = opened_first_at (place (pair a d)) n a d c
-
-plain_opened_at : (p : Place) (n : ℕ) (a b : Term) → place (pair a b) ≡ p → ((m : ℕ) → IsPlain (opened m a).0) → ((m : ℕ) → IsPlain (opened m b).0) → IsPlain (opened_at p n a b).0
-plain_opened_at plain n a b e f g = (opened_first n a b (opened (opened n a).1 b).0 e, f n, g (opened n a).1)
-plain_opened_at alias n a b e f g = tt
-plain_opened_at unknown_type n a b e f g = tt
-plain_opened_at unknown_const n a b e f g = tt
-
-pub opened_is_plain : (n : ℕ) (t : Term) → IsPlain (opened n t).0
-opened_is_plain n (hole k) = tt
-opened_is_plain n (leaf h) = tt
-opened_is_plain n (pair a b) = plain_opened_at (place (pair a b)) n a b refl (λ m. opened_is_plain m a) (λ m. opened_is_plain m b)
-
 -- ---- numbers
 
 -- a hole of types or of consts, with its number in a range

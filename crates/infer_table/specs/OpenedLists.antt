@@ -1,37 +1,28 @@
 -- Opening a type part by part: what each part adds to the kinds of the holes and to the origins.
-use Rattle.std.specs.Prelude.{◌≡◌, ℕ, ◌+◌, List, [], ◌∷◌, ◌++◌, length, map, Option, Some, None}
+use Rattle.std.specs.Prelude.{◌≡◌, ℕ, ◌+◌, List, [], ◌∷◌, ◌++◌, length, map, Option}
 use Rattle.std.specs.Option.{option_map}
 use Rattle.std.specs.List.{flat_map}
-use Rattle.std.proofs.Common.{refl, sym, ap, ◌∙◌, subst, arith}
-use Rattle.std.proofs.lemmas.List.{length-append, map_push}
+use Rattle.std.proofs.Common.{refl, sym, ap, ◌∙◌, subst}
+use Rattle.std.proofs.lemmas.List.{map_push}
 use Rattle.hir_types.specs.declared.ids.AdtId.{AdtId}
 use Rattle.hir_types.specs.declared.ids.CallableDefId.{CallableDefId}
 use Rattle.hir_types.specs.declared.ids.ClosureId.{ClosureId}
-use Rattle.hir_types.specs.declared.ids.OpaqueId.{OpaqueId}
 use Rattle.hir_types.specs.declared.ids.TraitId.{TraitId}
 use Rattle.hir_types.specs.declared.ids.TypeAliasId.{TypeAliasId}
 use Rattle.hir_types.specs.declared.head.Head.{Head}
 use Rattle.hir_types.specs.declared.head.Head.TheVariants as head
-use Rattle.hir_types.specs.declared.head.Hole.{Hole}
-use Rattle.hir_types.specs.declared.head.Hole.TheVariants as hole_of
 use Rattle.hir_types.specs.declared.head.HoleKind.{HoleKind}
 use Rattle.hir_types.specs.declared.head.HoleKind.TheVariants as kind
 use Rattle.hir_types.specs.declared.ty.Const.{Const}
-use Rattle.hir_types.specs.declared.ty.Const.TheVariants as const
-use Rattle.hir_types.specs.declared.ty.IntTy.{IntTy}
-use Rattle.hir_types.specs.declared.ty.UintTy.{UintTy}
-use Rattle.hir_types.specs.declared.ty.FloatTy.{FloatTy}
-use Rattle.hir_types.specs.declared.ty.Mutability.{Mutability}
 use Rattle.hir_types.specs.declared.ty.Safety.{Safety}
-use Rattle.hir_types.specs.declared.ty.Region.{Region}
 use Rattle.hir_types.specs.declared.ty.Ty.{Ty}
 use Rattle.hir_types.specs.declared.ty.Ty.TheVariants as ty
 use Rattle.hir_types.specs.declared.ty.GenericArg.{GenericArg}
 use Rattle.hir_types.specs.declared.ty.GenericArg.TheVariants as arg
 use Rattle.hir_types.specs.declared.ty.TraitRef.{TraitRef}
 use Rattle.hir_types.specs.declared.ty.AliasBound.{AliasBound}
-use Rattle.hir_types.specs.Terms.{Term, hole, leaf, pair, chain, node, const_term, type_part, const_part, principal_parts, auto_parts, term, arg_term, trait_parts, bound_parts}
-use Rattle.hir_types.specs.TermLaws.{type_parts, term_bool, term_char, term_int, term_uint, term_float, term_str, term_never, term_tuple, term_array, term_slice, term_ref, term_raw_ptr, term_adt, term_fn_def, term_fn_ptr, term_closure, term_dynamic, term_param, term_projection, term_opaque, term_error, term_var, term_int_var, term_hole, arg_term_type, arg_term_const, trait_parts_is, bound_parts_is}
+use Rattle.hir_types.specs.Terms.{Term, leaf, pair, chain, node, const_term, type_part, const_part, principal_parts, auto_parts, term, arg_term, trait_parts, bound_parts}
+use Rattle.hir_types.specs.TermLaws.{parts_of_types, term_tuple, term_array, term_adt, term_fn_def, term_fn_ptr, term_closure, term_dynamic, arg_term_const, bound_parts_is}
 use Rattle.infer_table.specs.Opened.{Place, plain, alias, unknown_type, unknown_const, place, opened, origins}
 use Rattle.infer_table.specs.OpenedLaws.{opened_at, origins_at}
 use Rattle.infer_table.specs.OpenedKinds.{new_kinds}
@@ -44,12 +35,12 @@ pub record Opens (old new : List HoleKind) (os ps : List (ℕ × Term)) (t u : T
   pub aliases : ps ≡ os ++ origins (length old) t
 
 -- whatever follows it, it begins neither an alias nor `{unknown}`
-abbrev pub IsPart : Term → Type 0
-IsPart t = (c : Term) → place (pair t c) ≡ plain
+abbrev pub IsPlainPart : Term → Type 0
+IsPlainPart t = (c : Term) → place (pair t c) ≡ plain
 
 abbrev OpensEach : List HoleKind → List HoleKind → List (ℕ × Term) → List (ℕ × Term) → List Term → List Term → Type 0
 OpensEach old new os ps [] [] = (new ≡ old) × (ps ≡ os)
-OpensEach old new os ps (t ∷ ts) (u ∷ us) = (mid : List HoleKind) × (ms : List (ℕ × Term)) × IsPart t × Opens old mid os ms t u × OpensEach mid new ms ps ts us
+OpensEach old new os ps (t ∷ ts) (u ∷ us) = (mid : List HoleKind) × (ms : List (ℕ × Term)) × IsPlainPart t × Opens old mid os ms t u × OpensEach mid new ms ps ts us
 OpensEach old new os ps _ _ = ⊥
 
 -- the parts were opened as `us`, one after the other
@@ -99,14 +90,6 @@ opens_pair old mid new os ms ps a b u v e x y = record {
 pub opens_leaf : (old : List HoleKind) (os : List (ℕ × Term)) (h : Head) → Opens old old os os (leaf h) (leaf h)
 opens_leaf old os h = record { holes = append_none old; term = refl; next = refl; aliases = append_none os }
 
-pub opens_hole : (old : List HoleKind) (os : List (ℕ × Term)) (k : Hole) → Opens old old os os (hole k) (hole k)
-opens_hole old os k = record { holes = append_none old; term = refl; next = refl; aliases = append_none os }
-
--- ---- new holes
-
-one_more : (old : List HoleKind) (c : HoleKind) → length (old ++ c ∷ []) ≡ length old + 1
-one_more old c = omega (arith, length-append old (c ∷ []))
-
 -- ---- parts one after the other
 
 each_chain : (old new : List HoleKind) (os ps : List (ℕ × Term)) (ts us : List Term) → OpensEach old new os ps ts us → Opens old new os ps (chain ts) (chain us)
@@ -127,17 +110,14 @@ each_append old mid new os ms ps (t ∷ ts) (u ∷ us) vs ws h g = (h.0, h.1, h.
 pub parts_none : (old : List HoleKind) (os : List (ℕ × Term)) → OpensParts old old os os [] []
 parts_none old os = record { each = (refl, refl) }
 
-pub parts_one : (old new : List HoleKind) (os ps : List (ℕ × Term)) (t u : Term) → IsPart t → Opens old new os ps t u → OpensParts old new os ps (t ∷ []) (u ∷ [])
+pub parts_one : (old new : List HoleKind) (os ps : List (ℕ × Term)) (t u : Term) → IsPlainPart t → Opens old new os ps t u → OpensParts old new os ps (t ∷ []) (u ∷ [])
 parts_one old new os ps t u e x = record { each = (new, ps, e, x, (refl, refl)) }
 
 pub parts_append : (old mid new : List HoleKind) (os ms ps : List (ℕ × Term)) (ts us vs ws : List Term) → OpensParts old mid os ms ts us → OpensParts mid new ms ps vs ws → OpensParts old new os ps (ts ++ vs) (us ++ ws)
 parts_append old mid new os ms ps ts us vs ws x y = record { each = each_append old mid new os ms ps ts us vs ws x.each y.each }
 
-pub opens_node : (old new : List HoleKind) (os ps : List (ℕ × Term)) (h : Head) (ts us : List Term) → IsPart (leaf h) → OpensParts old new os ps ts us → Opens old new os ps (node h ts) (node h us)
+pub opens_node : (old new : List HoleKind) (os ps : List (ℕ × Term)) (h : Head) (ts us : List Term) → IsPlainPart (leaf h) → OpensParts old new os ps ts us → Opens old new os ps (node h ts) (node h us)
 opens_node old new os ps h ts us e x = opens_pair old old new os os ps (leaf h) (chain ts) (leaf h) (chain us) (e (chain ts)) (opens_leaf old os h) (each_chain old new os ps ts us x.each)
-
-opens_alone : (old : List HoleKind) (os : List (ℕ × Term)) (h : Head) → IsPart (leaf h) → Opens old old os os (node h []) (node h [])
-opens_alone old os h e = opens_node old old os os h [] [] e (parts_none old os)
 
 -- ---- the parts of a type
 
@@ -153,7 +133,7 @@ part_type old new os ps t u x = parts_one old new os ps (type_part t) (type_part
 pub part_const : (old new : List HoleKind) (os ps : List (ℕ × Term)) (c d : Const) → Opens old new os ps (const_term c) (const_term d) → OpensParts old new os ps (const_part c ∷ []) (const_part d ∷ [])
 part_const old new os ps c d x = parts_one old new os ps (const_part c) (const_part d) (λ z. refl) (opens_const_part old new os ps c d x)
 
-pub part_mark : (old : List HoleKind) (os : List (ℕ × Term)) (h : Head) → IsPart (leaf h) → OpensParts old old os os (leaf h ∷ []) (leaf h ∷ [])
+pub part_mark : (old : List HoleKind) (os : List (ℕ × Term)) (h : Head) → IsPlainPart (leaf h) → OpensParts old old os os (leaf h ∷ []) (leaf h ∷ [])
 part_mark old os h e = parts_one old old os os (leaf h) (leaf h) e (opens_leaf old os h)
 
 -- by equal terms
@@ -169,93 +149,10 @@ parts_by {old = old} {new = new} {os = os} {ps = ps} {t = t} {w = w} e f x =
     let Q : List Term → Type 0 = λ z. OpensParts old new os ps t z in
     subst Q (sym f) (subst P (sym e) x)
 
--- ---- types and consts that stay
-
-pub opens_bool : (old : List HoleKind) (os : List (ℕ × Term)) → Opens old old os os (term ty.Bool) (term ty.Bool)
-opens_bool old os = opens_by term_bool term_bool (opens_alone old os head.Bool (λ c. refl))
-
-pub opens_char : (old : List HoleKind) (os : List (ℕ × Term)) → Opens old old os os (term ty.Char) (term ty.Char)
-opens_char old os = opens_by term_char term_char (opens_alone old os head.Char (λ c. refl))
-
-pub opens_int : (old : List HoleKind) (os : List (ℕ × Term)) (i : IntTy) → Opens old old os os (term (ty.Int i)) (term (ty.Int i))
-opens_int old os i = opens_by (term_int i) (term_int i) (opens_alone old os (head.Int i) (λ c. refl))
-
-pub opens_uint : (old : List HoleKind) (os : List (ℕ × Term)) (i : UintTy) → Opens old old os os (term (ty.Uint i)) (term (ty.Uint i))
-opens_uint old os i = opens_by (term_uint i) (term_uint i) (opens_alone old os (head.Uint i) (λ c. refl))
-
-pub opens_float : (old : List HoleKind) (os : List (ℕ × Term)) (i : FloatTy) → Opens old old os os (term (ty.Float i)) (term (ty.Float i))
-opens_float old os i = opens_by (term_float i) (term_float i) (opens_alone old os (head.Float i) (λ c. refl))
-
-pub opens_str : (old : List HoleKind) (os : List (ℕ × Term)) → Opens old old os os (term ty.Str) (term ty.Str)
-opens_str old os = opens_by term_str term_str (opens_alone old os head.Str (λ c. refl))
-
-pub opens_never : (old : List HoleKind) (os : List (ℕ × Term)) → Opens old old os os (term ty.Never) (term ty.Never)
-opens_never old os = opens_by term_never term_never (opens_alone old os head.Never (λ c. refl))
-
-pub opens_param : (old : List HoleKind) (os : List (ℕ × Term)) (n : ℕ) → Opens old old os os (term (ty.Param n)) (term (ty.Param n))
-opens_param old os n = opens_by (term_param n) (term_param n) (opens_alone old os (head.Param n) (λ c. refl))
-
-pub opens_var : (old : List HoleKind) (os : List (ℕ × Term)) (n : ℕ) → Opens old old os os (term (ty.Var n)) (term (ty.Var n))
-opens_var old os n = opens_by (term_var n) (term_var n) (opens_hole old os (hole_of.Ty n))
-
-pub opens_int_var : (old : List HoleKind) (os : List (ℕ × Term)) (n : ℕ) → Opens old old os os (term (ty.IntVar n)) (term (ty.IntVar n))
-opens_int_var old os n = opens_by (term_int_var n) (term_int_var n) (opens_hole old os (hole_of.Int n))
-
-pub opens_written_hole : (old : List HoleKind) (os : List (ℕ × Term)) → Opens old old os os (term ty.Hole) (term ty.Hole)
-opens_written_hole old os = opens_by term_hole term_hole (opens_alone old os head.Hole (λ c. refl))
-
-pub ruleset opens_alike = (opens_bool, opens_char, opens_int, opens_uint, opens_float, opens_str, opens_never, opens_param, opens_var, opens_int_var, opens_written_hole)
-
-pub opens_const_value : (old : List HoleKind) (os : List (ℕ × Term)) (n : ℕ) → Opens old old os os (const_term (const.Value n)) (const_term (const.Value n))
-opens_const_value old os n = opens_alone old os (head.Value n) (λ c. refl)
-
-pub opens_const_param : (old : List HoleKind) (os : List (ℕ × Term)) (n : ℕ) → Opens old old os os (const_term (const.Param n)) (const_term (const.Param n))
-opens_const_param old os n = opens_alone old os (head.ConstParam n) (λ c. refl)
-
-pub opens_const_var : (old : List HoleKind) (os : List (ℕ × Term)) (n : ℕ) → Opens old old os os (const_term (const.Var n)) (const_term (const.Var n))
-opens_const_var old os n = opens_hole old os (hole_of.Const n)
-
-pub opens_const_hole : (old : List HoleKind) (os : List (ℕ × Term)) → Opens old old os os (const_term const.Hole) (const_term const.Hole)
-opens_const_hole old os = opens_alone old os head.ConstHole (λ c. refl)
-
--- ---- types and consts that a hole is put in the place of
-
-alias_at : (old : List HoleKind) (os : List (ℕ × Term)) (p : Place) (a b : Term) → p ≡ alias → (kinds_at p a b ≡ kind.Ty ∷ []) × (opened_at p (length old) a b ≡ (hole (hole_of.Ty (length old)), length old + 1)) × (origins_at p (length old) a b ≡ (length old, pair a b) ∷ [])
-unfolding kinds_at
-alias_at old os p a b e =
-    let P : Place → Type 0 = λ z. (kinds_at z a b ≡ kind.Ty ∷ []) × (opened_at z (length old) a b ≡ (hole (hole_of.Ty (length old)), length old + 1)) × (origins_at z (length old) a b ≡ (length old, pair a b) ∷ []) in
-    subst P (sym e) (refl, refl, refl)
-
-pub opens_alias_term : (old : List HoleKind) (os : List (ℕ × Term)) (t : Term) → place t ≡ alias → Opens old (old ++ kind.Ty ∷ []) os (os ++ (length old, t) ∷ []) t (hole (hole_of.Ty (length old)))
-unfolding kinds_at
-opens_alias_term old os (hole k) e = absurd (cc)
-opens_alias_term old os (leaf h) e = absurd (cc)
-opens_alias_term old os (pair a b) e = let q = alias_at old os (place (pair a b)) a b e in record {
-  holes = ap (λ (z : List HoleKind). old ++ z) (sym q.0);
-  term = ap (λ (z : Term × ℕ). z.0) (sym q.1);
-  next = one_more old kind.Ty ∙ ap (λ (z : Term × ℕ). z.1) (sym q.1);
-  aliases = ap (λ (z : List (ℕ × Term)). os ++ z) (sym q.2);
-}
-
-pub opens_alias : (old : List HoleKind) (os : List (ℕ × Term)) (t : Ty) → place (term t) ≡ alias → Opens old (old ++ kind.Ty ∷ []) os (os ++ (length old, term t) ∷ []) (term t) (term (ty.Var (length old)))
-opens_alias old os t e = opens_by refl (term_var (length old)) (opens_alias_term old os (term t) e)
-
-pub place_projection : (id : TypeAliasId) (xs : List GenericArg) → place (term (ty.Projection id xs)) ≡ alias
-place_projection id xs = ap place (term_projection id xs)
-
-pub place_opaque : (id : OpaqueId) (xs : List GenericArg) → place (term (ty.Opaque id xs)) ≡ alias
-place_opaque id xs = ap place (term_opaque id xs)
-
-pub opens_error : (old : List HoleKind) (os : List (ℕ × Term)) → Opens old (old ++ kind.Ty ∷ []) os os (term ty.Error) (term (ty.Var (length old)))
-opens_error old os = opens_by term_error (term_var (length old)) (record { holes = refl; term = refl; next = one_more old kind.Ty; aliases = append_none os })
-
-pub opens_const_unknown : (old : List HoleKind) (os : List (ℕ × Term)) → Opens old (old ++ kind.Const ∷ []) os os (const_term const.Unknown) (const_term (const.Var (length old)))
-opens_const_unknown old os = record { holes = refl; term = refl; next = one_more old kind.Const; aliases = append_none os }
-
 -- ---- types over parts
 
-pub opens_tuple : {old new : List HoleKind} {os ps : List (ℕ × Term)} (ts us : List Ty) → OpensParts old new os ps (type_parts ts) (type_parts us) → Opens old new os ps (term (ty.Tuple ts)) (term (ty.Tuple us))
-opens_tuple {old = old} {new = new} {os = os} {ps = ps} ts us x = opens_by (term_tuple ts) (term_tuple us) (opens_node old new os ps head.Tuple (type_parts ts) (type_parts us) (λ c. refl) x)
+pub opens_tuple : {old new : List HoleKind} {os ps : List (ℕ × Term)} (ts us : List Ty) → OpensParts old new os ps (parts_of_types ts) (parts_of_types us) → Opens old new os ps (term (ty.Tuple ts)) (term (ty.Tuple us))
+opens_tuple {old = old} {new = new} {os = os} {ps = ps} ts us x = opens_by (term_tuple ts) (term_tuple us) (opens_node old new os ps head.Tuple (parts_of_types ts) (parts_of_types us) (λ c. refl) x)
 
 pub opens_array : {old mid new : List HoleKind} {os ms ps : List (ℕ × Term)} (t u : Ty) (c d : Const) → Opens old mid os ms (term t) (term u) → Opens mid new ms ps (const_term c) (const_term d) → Opens old new os ps (term (ty.Array t c)) (term (ty.Array u d))
 opens_array {old = old} {mid = mid} {new = new} {os = os} {ms = ms} {ps = ps} t u c d x y = opens_by (term_array t c) (term_array u d)
@@ -263,35 +160,23 @@ opens_array {old = old} {mid = mid} {new = new} {os = os} {ms = ms} {ps = ps} t 
     (parts_append old mid new os ms ps (type_part (term t) ∷ []) (type_part (term u) ∷ []) (const_part c ∷ []) (const_part d ∷ [])
     (part_type old mid os ms (term t) (term u) x) (part_const mid new ms ps c d y)))
 
-pub opens_slice : {old new : List HoleKind} {os ps : List (ℕ × Term)} (t u : Ty) → Opens old new os ps (term t) (term u) → Opens old new os ps (term (ty.Slice t)) (term (ty.Slice u))
-opens_slice {old = old} {new = new} {os = os} {ps = ps} t u x = opens_by (term_slice t) (term_slice u)
-    (opens_node old new os ps head.Slice (type_part (term t) ∷ []) (type_part (term u) ∷ []) (λ c. refl) (part_type old new os ps (term t) (term u) x))
-
-pub opens_ref : {old new : List HoleKind} {os ps : List (ℕ × Term)} (m : Mutability) (r s : Region) (t u : Ty) → Opens old new os ps (term t) (term u) → Opens old new os ps (term (ty.Ref m r t)) (term (ty.Ref m s u))
-opens_ref {old = old} {new = new} {os = os} {ps = ps} m r s t u x = opens_by (term_ref m r t) (term_ref m s u)
-    (opens_node old new os ps (head.Ref m) (type_part (term t) ∷ []) (type_part (term u) ∷ []) (λ c. refl) (part_type old new os ps (term t) (term u) x))
-
-pub opens_raw_ptr : {old new : List HoleKind} {os ps : List (ℕ × Term)} (m : Mutability) (t u : Ty) → Opens old new os ps (term t) (term u) → Opens old new os ps (term (ty.RawPtr m t)) (term (ty.RawPtr m u))
-opens_raw_ptr {old = old} {new = new} {os = os} {ps = ps} m t u x = opens_by (term_raw_ptr m t) (term_raw_ptr m u)
-    (opens_node old new os ps (head.RawPtr m) (type_part (term t) ∷ []) (type_part (term u) ∷ []) (λ c. refl) (part_type old new os ps (term t) (term u) x))
-
 pub opens_adt : {old new : List HoleKind} {os ps : List (ℕ × Term)} (id : AdtId) (xs ys : List GenericArg) → OpensParts old new os ps (map arg_term xs) (map arg_term ys) → Opens old new os ps (term (ty.Adt id xs)) (term (ty.Adt id ys))
 opens_adt {old = old} {new = new} {os = os} {ps = ps} id xs ys x = opens_by (term_adt id xs) (term_adt id ys) (opens_node old new os ps (head.Adt id) (map arg_term xs) (map arg_term ys) (λ c. refl) x)
 
 pub opens_fn_def : {old new : List HoleKind} {os ps : List (ℕ × Term)} (id : CallableDefId) (xs ys : List GenericArg) → OpensParts old new os ps (map arg_term xs) (map arg_term ys) → Opens old new os ps (term (ty.FnDef id xs)) (term (ty.FnDef id ys))
 opens_fn_def {old = old} {new = new} {os = os} {ps = ps} id xs ys x = opens_by (term_fn_def id xs) (term_fn_def id ys) (opens_node old new os ps (head.FnDef id) (map arg_term xs) (map arg_term ys) (λ c. refl) x)
 
-signature : {old mid new : List HoleKind} {os ms ps : List (ℕ × Term)} (ts us : List Ty) (t u : Ty) → OpensParts old mid os ms (type_parts ts) (type_parts us) → Opens mid new ms ps (term t) (term u) → OpensParts old new os ps (type_parts ts ++ type_part (term t) ∷ []) (type_parts us ++ type_part (term u) ∷ [])
+signature : {old mid new : List HoleKind} {os ms ps : List (ℕ × Term)} (ts us : List Ty) (t u : Ty) → OpensParts old mid os ms (parts_of_types ts) (parts_of_types us) → Opens mid new ms ps (term t) (term u) → OpensParts old new os ps (parts_of_types ts ++ type_part (term t) ∷ []) (parts_of_types us ++ type_part (term u) ∷ [])
 signature {old = old} {mid = mid} {new = new} {os = os} {ms = ms} {ps = ps} ts us t u x y =
-    parts_append old mid new os ms ps (type_parts ts) (type_parts us) (type_part (term t) ∷ []) (type_part (term u) ∷ []) x (part_type mid new ms ps (term t) (term u) y)
+    parts_append old mid new os ms ps (parts_of_types ts) (parts_of_types us) (type_part (term t) ∷ []) (type_part (term u) ∷ []) x (part_type mid new ms ps (term t) (term u) y)
 
-pub opens_fn_ptr : {old mid new : List HoleKind} {os ms ps : List (ℕ × Term)} (s : Safety) (ts us : List Ty) (t u : Ty) → OpensParts old mid os ms (type_parts ts) (type_parts us) → Opens mid new ms ps (term t) (term u) → Opens old new os ps (term (ty.FnPtr s ts t)) (term (ty.FnPtr s us u))
+pub opens_fn_ptr : {old mid new : List HoleKind} {os ms ps : List (ℕ × Term)} (s : Safety) (ts us : List Ty) (t u : Ty) → OpensParts old mid os ms (parts_of_types ts) (parts_of_types us) → Opens mid new ms ps (term t) (term u) → Opens old new os ps (term (ty.FnPtr s ts t)) (term (ty.FnPtr s us u))
 opens_fn_ptr {old = old} {new = new} {os = os} {ps = ps} s ts us t u x y = opens_by (term_fn_ptr s ts t) (term_fn_ptr s us u)
-    (opens_node old new os ps (head.FnPtr s) (type_parts ts ++ type_part (term t) ∷ []) (type_parts us ++ type_part (term u) ∷ []) (λ c. refl) (signature ts us t u x y))
+    (opens_node old new os ps (head.FnPtr s) (parts_of_types ts ++ type_part (term t) ∷ []) (parts_of_types us ++ type_part (term u) ∷ []) (λ c. refl) (signature ts us t u x y))
 
-pub opens_closure : {old mid new : List HoleKind} {os ms ps : List (ℕ × Term)} (id : ClosureId) (ts us : List Ty) (t u : Ty) → OpensParts old mid os ms (type_parts ts) (type_parts us) → Opens mid new ms ps (term t) (term u) → Opens old new os ps (term (ty.Closure id ts t)) (term (ty.Closure id us u))
+pub opens_closure : {old mid new : List HoleKind} {os ms ps : List (ℕ × Term)} (id : ClosureId) (ts us : List Ty) (t u : Ty) → OpensParts old mid os ms (parts_of_types ts) (parts_of_types us) → Opens mid new ms ps (term t) (term u) → Opens old new os ps (term (ty.Closure id ts t)) (term (ty.Closure id us u))
 opens_closure {old = old} {new = new} {os = os} {ps = ps} id ts us t u x y = opens_by (term_closure id ts t) (term_closure id us u)
-    (opens_node old new os ps (head.Closure id) (type_parts ts ++ type_part (term t) ∷ []) (type_parts us ++ type_part (term u) ∷ []) (λ c. refl) (signature ts us t u x y))
+    (opens_node old new os ps (head.Closure id) (parts_of_types ts ++ type_part (term t) ∷ []) (parts_of_types us ++ type_part (term u) ∷ []) (λ c. refl) (signature ts us t u x y))
 
 parts_autos : (old : List HoleKind) (os : List (ℕ × Term)) (ids : List TraitId) → OpensParts old old os os (auto_parts ids) (auto_parts ids)
 parts_autos old os [] = parts_none old os
@@ -311,26 +196,11 @@ opens_dynamic {old = old} {mid = mid} {new = new} {os = os} {ms = ms} {ps = ps} 
     (parts_append old mid new os ms ps (principal_terms p) (principal_terms q) (bounds_terms bs) (bounds_terms cs) x y)
     (parts_autos new ps ids)))
 
-pub ruleset opens_over = (opens_tuple, opens_array, opens_slice, opens_ref, opens_raw_ptr, opens_adt, opens_fn_def, opens_fn_ptr, opens_closure, opens_dynamic)
-
 -- ---- the parts themselves
-
-pub opens_arg_type : {old new : List HoleKind} {os ps : List (ℕ × Term)} (t u : Ty) → Opens old new os ps (term t) (term u) → OpensParts old new os ps (arg_term (arg.Ty t) ∷ []) (arg_term (arg.Ty u) ∷ [])
-opens_arg_type {old = old} {new = new} {os = os} {ps = ps} t u x =
-    parts_by (ap (λ (z : Term). z ∷ []) (arg_term_type t)) (ap (λ (z : Term). z ∷ []) (arg_term_type u)) (part_type old new os ps (term t) (term u) x)
 
 pub opens_arg_const : {old new : List HoleKind} {os ps : List (ℕ × Term)} (c d : Const) → Opens old new os ps (const_term c) (const_term d) → OpensParts old new os ps (arg_term (arg.Const c) ∷ []) (arg_term (arg.Const d) ∷ [])
 opens_arg_const {old = old} {new = new} {os = os} {ps = ps} c d x =
     parts_by (ap (λ (z : Term). z ∷ []) (arg_term_const c)) (ap (λ (z : Term). z ∷ []) (arg_term_const d)) (part_const old new os ps c d x)
-
-pub opens_no_principal : (old : List HoleKind) (os : List (ℕ × Term)) → OpensParts old old os os (principal_terms None) (principal_terms None)
-opens_no_principal old os = part_mark old os head.NoPrincipal (λ c. refl)
-
-pub opens_principal : {old new : List HoleKind} {os ps : List (ℕ × Term)} (r s : TraitRef) → s.id ≡ r.id → OpensParts old new os ps (map arg_term r.args) (map arg_term s.args) → OpensParts old new os ps (principal_terms (Some r)) (principal_terms (Some s))
-opens_principal {old = old} {new = new} {os = os} {ps = ps} r s e x =
-    parts_by (trait_parts_is r) (trait_parts_is s ∙ ap (λ (z : TraitId). leaf (head.Principal z) ∷ map arg_term s.args) e)
-    (parts_append old old new os os ps (leaf (head.Principal r.id) ∷ []) (leaf (head.Principal r.id) ∷ []) (map arg_term r.args) (map arg_term s.args)
-    (part_mark old os (head.Principal r.id) (λ c. refl)) x)
 
 opens_bound : {old new : List HoleKind} {os ps : List (ℕ × Term)} (b c : AliasBound) → c.alias ≡ b.alias → Opens old new os ps (term b.ty) (term c.ty) → OpensParts old new os ps (bound_parts b) (bound_parts c)
 opens_bound {old = old} {new = new} {os = os} {ps = ps} b c e x =
@@ -340,7 +210,7 @@ opens_bound {old = old} {new = new} {os = os} {ps = ps} b c e x =
 
 -- ---- one part more
 
-pub types_push : {old mid new : List HoleKind} {os ms ps : List (ℕ × Term)} (ts us : List Ty) (t u : Ty) → OpensParts old mid os ms (type_parts ts) (type_parts us) → Opens mid new ms ps (term t) (term u) → OpensParts old new os ps (type_parts (ts ++ t ∷ [])) (type_parts (us ++ u ∷ []))
+pub types_push : {old mid new : List HoleKind} {os ms ps : List (ℕ × Term)} (ts us : List Ty) (t u : Ty) → OpensParts old mid os ms (parts_of_types ts) (parts_of_types us) → Opens mid new ms ps (term t) (term u) → OpensParts old new os ps (parts_of_types (ts ++ t ∷ [])) (parts_of_types (us ++ u ∷ []))
 types_push ts us t u x y = parts_by (map_push (λ (z : Ty). type_part (term z)) ts t) (map_push (λ (z : Ty). type_part (term z)) us u) (signature ts us t u x y)
 
 pub args_push : {old mid new : List HoleKind} {os ms ps : List (ℕ × Term)} (xs ys : List GenericArg) (x y : GenericArg) → OpensParts old mid os ms (map arg_term xs) (map arg_term ys) → OpensParts mid new ms ps (arg_term x ∷ []) (arg_term y ∷ []) → OpensParts old new os ps (map arg_term (xs ++ x ∷ [])) (map arg_term (ys ++ y ∷ []))

@@ -4,7 +4,7 @@ use Rattle.std.proofs.Common.{refl, ap, ◌∙◌}
 use Rattle.hir_types.specs.declared.head.HoleKind.{HoleKind}
 use Rattle.hir_types.specs.Terms.{Term, term}
 use Rattle.infer_table.specs.declared.open.Origin.{Origin}
-use Rattle.infer_table.specs.Bindings.{Substitution, with_hole}
+use Rattle.infer_table.specs.Bindings.{Substitution}
 
 -- the holes that stand for aliases, each with its alias
 abbrev pub origins_of : List Origin → List (ℕ × Term)
@@ -15,19 +15,9 @@ pub record OnlyMakes (before after : Substitution) : Type 0 where
   pub log : after.log ≡ before.log
   pub made : (kinds : List HoleKind) × (after.kinds ≡ before.kinds ++ kinds)
 
-append_none : (a : List HoleKind) → a ≡ a ++ []
-append_none [] = refl
-append_none (x ∷ a) = ap (λ (z : List HoleKind). x ∷ z) (append_none a)
-
 append_assoc : (a b c : List HoleKind) → (a ++ b) ++ c ≡ a ++ (b ++ c)
 append_assoc [] b c = refl
 append_assoc (x ∷ a) b c = ap (λ (z : List HoleKind). x ∷ z) (append_assoc a b c)
-
-pub makes_none : (s : Substitution) → OnlyMakes s s
-makes_none s = record { log = refl; made = ([], append_none s.kinds) }
-
-pub makes_one : (s : Substitution) (k : HoleKind) → OnlyMakes s (with_hole s k)
-makes_one s k = record { log = refl; made = (k ∷ [], refl) }
 
 pub makes_both : {s m z : Substitution} → OnlyMakes s m → OnlyMakes m z → OnlyMakes s z
 makes_both {s = s} {m = m} x y = record {

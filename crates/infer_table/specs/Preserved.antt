@@ -1,6 +1,6 @@
 -- Which heads stand in types and in what holes are bound to, over how many parts each, and that unification brings in no
 -- others.
-use Rattle.std.proofs.Common.{◌≡◌, ℕ, suc, Bool, true, false, cond, if◌then◌else◌, List, [], ◌∷◌, ◌++◌, IsTrue, refl, sym, ap, ap₂, subst, ◌∙◌}
+use Rattle.std.proofs.Common.{◌≡◌, ℕ, suc, Bool, true, false, cond, if◌then◌else◌, List, [], ◌∷◌, IsTrue, refl, sym, ap, ap₂, subst, ◌∙◌}
 use Rattle.std.proofs.lemmas.Bool.{both_ways}
 use Rattle.std.proofs.lemmas.List.{map-append}
 use Rattle.hir_types.specs.declared.head.Head.{Head}
@@ -168,20 +168,6 @@ made_of_sub ok x u t h g = made_of_apply ok (single x u) whole t (λ k. made_of_
 pub made_of_resolved : (ok : Shape) (l : Log) (t : Term) → BindsOnly ok l → IsMadeOf ok whole t → IsMadeOf ok whole (resolved l t)
 made_of_resolved ok [] t h g = g
 made_of_resolved ok (p ∷ l) t h g = made_of_resolved ok l (sub p.0 p.1 t) h.1 (made_of_sub ok p.0 p.1 t h.0 g)
-
--- ---- bindings one after the other
-
-pub binds_only_append : (ok : Shape) (l m : Log) → BindsOnly ok l → BindsOnly ok m → BindsOnly ok (l ++ m)
-binds_only_append ok [] m h g = g
-binds_only_append ok (p ∷ l) m h g = (h.0, binds_only_append ok l m h.1 g)
-
-pub binds_only_left : (ok : Shape) (l m : Log) → BindsOnly ok (l ++ m) → BindsOnly ok l
-binds_only_left ok [] m h = tt
-binds_only_left ok (p ∷ l) m h = (h.0, binds_only_left ok l m h.1)
-
-pub binds_only_right : (ok : Shape) (l m : Log) → BindsOnly ok (l ++ m) → BindsOnly ok m
-binds_only_right ok [] m h = h
-binds_only_right ok (p ∷ l) m h = binds_only_right ok l m h.1
 
 -- ---- without aliases and unknowns
 

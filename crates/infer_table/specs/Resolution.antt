@@ -12,7 +12,7 @@ use Rattle.hir_types.specs.declared.ty.AliasBound.{AliasBound}
 use Rattle.hir_types.specs.declared.ty.TraitRef.{TraitRef}
 use Rattle.hir_types.specs.Subst.{Assignment, with_holes, each_itself, composed, folded, const_folded}
 use Rattle.hir_types.specs.Terms.{Term, hole, apply, occurs, hole_eq, term, const_term, terms_of}
-use Rattle.hir_types.specs.Folding.{replaced_var, replaced_int_var, folded_twice, const_folded_twice}
+use Rattle.hir_types.specs.Replacements.{replaced_var, replaced_int_var, folded_twice, const_folded_twice}
 use Rattle.hir_types.specs.TermLaws.{term_var, term_int_var, term_folded, const_term_folded}
 use Rattle.hir_types.specs.Agreement.{SameAt, folded_absent, const_folded_absent}
 use Rattle.infer_table.specs.declared.binding.Binding.{Binding}
@@ -20,7 +20,7 @@ use Rattle.infer_table.specs.declared.binding.Binding.TheVariants as binding
 use Rattle.infer_table.specs.Solutions.{single, sub, resolved, found, Kept, Absent, Triangular, log_of}
 use Rattle.infer_table.specs.Bindings.{bound_hole, bound_term, found_binding}
 use Rattle.infer_table.specs.TermLemmas.{hole_eq_true, hole_eq_same, hole_eq_flip, apply_agree}
-use Rattle.infer_table.specs.LogLemmas.{solution, solution_apply, found_binds, resolved_free}
+use Rattle.infer_table.specs.LogLemmas.{solution, solution_apply}
 
 -- the bound hole by what it is bound to, each other hole by itself
 abbrev pub single_assignment : Binding → Assignment
@@ -158,11 +158,6 @@ found_in_log (a ∷ bs) k b e = elim (some_binding a b (found_binding bs k) (hol
   | inr q ↦ found_step a bs k ∙ ap (λ (c : Bool). cond c (Some (bound_term a)) (found (log_of bs) k)) q.0 ∙ found_in_log bs k b q.1
 ]
 
-pub open_in_log : (bs : List Binding) (k : Hole) → found_binding bs k ≡ None → found (log_of bs) k ≡ None
-open_in_log [] k e = refl
-open_in_log (a ∷ bs) k e = let q = no_binding a (found_binding bs k) (hole_eq k (bound_hole a)) e in
-    found_step a bs k ∙ ap (λ (c : Bool). cond c (Some (bound_term a)) (found (log_of bs) k)) q.0 ∙ open_in_log bs k q.1
-
 absent_step : (x : Hole) (a : Binding) (bs : List Binding) → Absent x (log_of (a ∷ bs)) → (hole_eq x (bound_hole a) ≡ false) × (occurs x (bound_term a) ≡ false) × Absent x (log_of bs)
 absent_step x (binding.Ty y u) bs h = h
 absent_step x (binding.Int y u) bs h = h
@@ -262,16 +257,6 @@ open_int_var bs n e = open_itself bs (hole_of.Int n) e
 pub open_const_var : (bs : List Binding) (n : ℕ) → found_binding bs (hole_of.Const n) ≡ None → (resolution bs).const_var n ≡ const.Var n
 open_const_var bs n e = open_itself bs (hole_of.Const n) e
 
--- ---- no bound hole is left
-
-pub none_left : (bs : List Binding) (k : Hole) (b : Binding) (t : Ty) → Triangular (log_of bs) → found_binding bs k ≡ Some b → occurs k (term (folded (resolution bs) t)) ≡ false
-none_left bs k b t h e =
-    ap (occurs k) (resolution_term bs t) ∙ resolved_free (log_of bs) (term t) h k (found_binds (log_of bs) k (bound_term b) (found_in_log bs k b e))
-
-pub none_left_const : (bs : List Binding) (k : Hole) (b : Binding) (c : Const) → Triangular (log_of bs) → found_binding bs k ≡ Some b → occurs k (const_term (const_folded (resolution bs) c)) ≡ false
-none_left_const bs k b c h e =
-    ap (occurs k) (resolution_const_term bs c) ∙ resolved_free (log_of bs) (const_term c) h k (found_binds (log_of bs) k (bound_term b) (found_in_log bs k b e))
-
 -- ---- looking types and consts up
 
 -- what a type hole or a hole of integer types is bound to
@@ -349,9 +334,9 @@ some_has_const n (binding.Int m u) h e = cc
 some_has_const n (binding.Const m c) h e = cc
 
 -- a binding that is found, from what it holds
-binding_of : {X : Type 0} (f : Option Binding → Option X) (o : Option Binding) (x : X) → f None ≡ None → f o ≡ Some x → (b : Binding) × (o ≡ Some b) × (f (Some b) ≡ Some x)
-binding_of f None x n e = let g = sym n ∙ e in cc
-binding_of f (Some b) x n e = (b, refl, e)
+binding_behind : {X : Type 0} (f : Option Binding → Option X) (o : Option Binding) (x : X) → f None ≡ None → f o ≡ Some x → (b : Binding) × (o ≡ Some b) × (f (Some b) ≡ Some x)
+binding_behind f None x n e = let g = sym n ∙ e in cc
+binding_behind f (Some b) x n e = (b, refl, e)
 
 none_of : {X : Type 0} (f : Option Binding → Option X) (o : Option Binding) → ((b : Binding) → o ≡ Some b → f (Some b) ≡ None → ⊥) → f o ≡ None → o ≡ None
 none_of f None h e = refl
@@ -359,17 +344,17 @@ none_of f (Some b) h e = absurd (h b refl e)
 
 pub type_found : (bs : List Binding) (n : ℕ) (t : Ty) → found_type bs (hole_of.Ty n) ≡ Some t → found_binding bs (hole_of.Ty n) ≡ Some (binding.Ty n t)
 type_found bs n t e =
-    let p = binding_of type_bound (found_binding bs (hole_of.Ty n)) t refl e in
+    let p = binding_behind type_bound (found_binding bs (hole_of.Ty n)) t refl e in
     p.1 ∙ ap Some (bound_is_type n p.0 t (found_is bs (hole_of.Ty n) p.0 p.1) p.2)
 
 pub int_found : (bs : List Binding) (n : ℕ) (t : Ty) → found_type bs (hole_of.Int n) ≡ Some t → found_binding bs (hole_of.Int n) ≡ Some (binding.Int n t)
 int_found bs n t e =
-    let p = binding_of type_bound (found_binding bs (hole_of.Int n)) t refl e in
+    let p = binding_behind type_bound (found_binding bs (hole_of.Int n)) t refl e in
     p.1 ∙ ap Some (bound_is_int n p.0 t (found_is bs (hole_of.Int n) p.0 p.1) p.2)
 
 pub const_found : (bs : List Binding) (n : ℕ) (c : Const) → found_const bs n ≡ Some c → found_binding bs (hole_of.Const n) ≡ Some (binding.Const n c)
 const_found bs n c e =
-    let p = binding_of const_bound (found_binding bs (hole_of.Const n)) c refl e in
+    let p = binding_behind const_bound (found_binding bs (hole_of.Const n)) c refl e in
     p.1 ∙ ap Some (bound_is_const n p.0 c (found_is bs (hole_of.Const n) p.0 p.1) p.2)
 
 pub no_type_found : (bs : List Binding) (n : ℕ) → found_type bs (hole_of.Ty n) ≡ None → found_binding bs (hole_of.Ty n) ≡ None
@@ -384,12 +369,12 @@ no_const_found bs n e = none_of const_bound (found_binding bs (hole_of.Const n))
 -- among terms
 pub type_in_log : (bs : List Binding) (k : Hole) (t : Ty) → found_type bs k ≡ Some t → found (log_of bs) k ≡ Some (term t)
 type_in_log bs k t e =
-    let p = binding_of type_bound (found_binding bs k) t refl e in
+    let p = binding_behind type_bound (found_binding bs k) t refl e in
     found_in_log bs k p.0 p.1 ∙ ap Some (bound_has_term p.0 t p.2)
 
 pub const_in_log : (bs : List Binding) (n : ℕ) (c : Const) → found_const bs n ≡ Some c → found (log_of bs) (hole_of.Const n) ≡ Some (const_term c)
 const_in_log bs n c e =
-    let p = binding_of const_bound (found_binding bs (hole_of.Const n)) c refl e in
+    let p = binding_behind const_bound (found_binding bs (hole_of.Const n)) c refl e in
     found_in_log bs (hole_of.Const n) p.0 p.1 ∙ ap Some (bound_has_const p.0 c p.2)
 
 -- ---- the same by a type
@@ -401,10 +386,10 @@ pub found_for_int_var : (bs : List Binding) (n : ℕ) → found_for bs (ty.IntVa
 found_for_int_var bs n = ap (found_at bs) (ap out-Ty (sym (ty.rolls-IntVar n)) ∙ out-roll-Ty (Ty-F.IntVar n))
 
 -- a type is bound only where it is a hole
-hole_at : (bs : List Binding) (x : Ty-F GenericArg Ty AliasBound TraitRef) (u : Ty) → found_at bs x ≡ Some u → ((n : ℕ) × (x ≡ Ty-F.Var n)) ⊎ ((n : ℕ) × (x ≡ Ty-F.IntVar n))
-hole_at bs (Ty-F.Var n) u e = inl (n, refl)
-hole_at bs (Ty-F.IntVar n) u e = inr (n, refl)
-hole_at bs _ u e = cc
+bound_is_hole : (bs : List Binding) (x : Ty-F GenericArg Ty AliasBound TraitRef) (u : Ty) → found_at bs x ≡ Some u → ((n : ℕ) × (x ≡ Ty-F.Var n)) ⊎ ((n : ℕ) × (x ≡ Ty-F.IntVar n))
+bound_is_hole bs (Ty-F.Var n) u e = inl (n, refl)
+bound_is_hole bs (Ty-F.IntVar n) u e = inr (n, refl)
+bound_is_hole bs _ u e = cc
 
 out_var : (t : Ty) (n : ℕ) → out-Ty t ≡ Ty-F.Var n → t ≡ ty.Var n
 out_var t n e = sym (roll-out-Ty t) ∙ ap roll-Ty e ∙ ty.rolls-Var n
@@ -413,7 +398,7 @@ out_int_var : (t : Ty) (n : ℕ) → out-Ty t ≡ Ty-F.IntVar n → t ≡ ty.Int
 out_int_var t n e = sym (roll-out-Ty t) ∙ ap roll-Ty e ∙ ty.rolls-IntVar n
 
 pub hole_for : (bs : List Binding) (t u : Ty) → found_for bs t ≡ Some u → ((n : ℕ) × (t ≡ ty.Var n)) ⊎ ((n : ℕ) × (t ≡ ty.IntVar n))
-hole_for bs t u e = elim (hole_at bs (out-Ty t) u e) [
+hole_for bs t u e = elim (bound_is_hole bs (out-Ty t) u e) [
   | inl q ↦ inl (q.0, out_var t q.0 q.1)
   | inr q ↦ inr (q.0, out_int_var t q.0 q.1)
 ]

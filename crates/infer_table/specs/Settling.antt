@@ -11,7 +11,7 @@ use Rattle.infer_table.specs.Bindings.{Substitution}
 use Rattle.infer_table.specs.Opened.{place, alias, IsPlain, Agree}
 use Rattle.infer_table.specs.OpenedAgree.{IsSettled, IsNoTypeHole}
 use Rattle.infer_table.specs.Unifying.{CanBeSame}
-use Rattle.infer_table.specs.Least.{CanBeAnything, number_after, BindsLeast, HolesAreLeft}
+use Rattle.infer_table.specs.Least.{CanBeAnything, number_after_both, BindsLeast, HolesAreLeft}
 
 -- the origin has a type hole and an alias of the table
 pub record IsOriginOf (kinds : List HoleKind) (o : Origin) : Type 0 where
@@ -61,7 +61,7 @@ pub record IsUnified (before after : Substitution) (a b : Term) : Type 0 where
   pub agree : Agree (resolved (log_of after.log) a) (resolved (log_of after.log) b)
   pub most_general : IsPlain (resolved (log_of before.log) a) → IsPlain (resolved (log_of before.log) b) → UnifiesGenerally before after a b
   pub least : BindsLeast (length before.kinds) (log_of before.log) (log_of after.log) (resolved (log_of before.log) a) (resolved (log_of before.log) b)
-  pub made : length after.kinds ≡ number_after (length before.kinds) (resolved (log_of before.log) a) (resolved (log_of before.log) b)
+  pub made : length after.kinds ≡ number_after_both (length before.kinds) (resolved (log_of before.log) a) (resolved (log_of before.log) b)
   pub left_holes : HolesAreLeft (length before.kinds) after.log (resolved (log_of before.log) a) (resolved (log_of before.log) b) (resolved (log_of after.log) a)
   pub right_holes : HolesAreLeft (length before.kinds) after.log (resolved (log_of before.log) a) (resolved (log_of before.log) b) (resolved (log_of after.log) b)
 

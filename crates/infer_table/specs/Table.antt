@@ -15,7 +15,7 @@ use Rattle.infer_table.specs.Solutions.{log_of, Solves, Respects, AreOf}
 use Rattle.infer_table.specs.Bindings.{Substitution, no_bindings, with_hole}
 use Rattle.infer_table.specs.Resolution.{resolution}
 use Rattle.infer_table.specs.Opened.{Agree, IsPlain, IsReadAs}
-use Rattle.infer_table.specs.Least.{number_after, BindsLeast, HolesAreLeft}
+use Rattle.infer_table.specs.Least.{number_after_both, BindsLeast, HolesAreLeft}
 use Rattle.infer_table.specs.Waiting.{Waiting, no_pairs, with_pair, waiting, AllMade, left_at, left_before}
 
 -- a substitution without cycle over the holes that were made, the pairs that wait, and the numbers of
@@ -129,7 +129,7 @@ pub record AreUnified (before after : State) (a b : Ty) : Type 0 where
   pub agree : Agree (resolved_term after a) (resolved_term after b)
   pub most_general : IsPlain (resolved_term before a) → IsPlain (resolved_term before b) → IsMostGeneral before after a b
   pub least : IsLeast before after a b
-  pub made : hole_count after ≡ number_after (hole_count before) (resolved_term before a) (resolved_term before b)
+  pub made : hole_count after ≡ number_after_both (hole_count before) (resolved_term before a) (resolved_term before b)
   pub left_holes : HolesAreKept before after a b a
   pub right_holes : HolesAreKept before after a b b
 

@@ -1,12 +1,12 @@
 -- Lemmas on holes, on terms, and on terms under what stands for each hole.
-use Rattle.std.specs.Prelude.{◌≡◌, ℕ, ◌+◌, ◌≤◌, Bool, true, false, cond, List, [], ◌∷◌, ◌++◌, length, map}
+use Rattle.std.specs.Prelude.{◌≡◌, ℕ, ◌+◌, ◌≤◌, Bool, true, false, cond, List, [], ◌∷◌, ◌++◌, length}
 use Rattle.std.proofs.Common.{◌⊎◌, inl, inr, refl, sym, ap, ap₂, ◌∙◌, subst, arith, true≢false}
 use Rattle.std.proofs.lemmas.Bool.{eqb-true, eq-eqb, both_ways, or_cases, or_parts, or_left, or_right, or_from, false_from_ne_true}
 use Rattle.hir_types.specs.declared.head.Head.{Head}
 use Rattle.hir_types.specs.declared.head.Head.TheVariants as head
 use Rattle.hir_types.specs.declared.head.Hole.{Hole}
 use Rattle.hir_types.specs.declared.head.Hole.TheVariants as hole_of
-use Rattle.hir_types.specs.Terms.{Term, hole, leaf, pair, apply, occurs, hole_eq, IsInt, chain, node, type_part}
+use Rattle.hir_types.specs.Terms.{Term, hole, leaf, pair, apply, occurs, hole_eq, IsInt, chain}
 use Rattle.infer_table.specs.Solutions.{single, sub, IsIntHole, Respects, Kept}
 
 -- ---- the test of two holes
@@ -36,9 +36,6 @@ pub hole_eq_flip : (x y : Hole) (b : Bool) → hole_eq x y ≡ b → hole_eq y x
 hole_eq_flip x y true e = hole_eq_from y x (sym (hole_eq_true x y e))
 hole_eq_flip x y false e = hole_ne y x (λ f. hole_eq_false x y e (sym f))
 
-pub hole_eq_sym : (x y : Hole) → hole_eq x y ≡ hole_eq y x
-hole_eq_sym x y = sym (hole_eq_flip x y (hole_eq x y) refl)
-
 -- ---- parts of terms that are equal
 
 pub pair_left : {a b c d : Term} → pair a b ≡ pair c d → a ≡ c
@@ -58,12 +55,6 @@ leaf_pair e = cc
 
 -- ---- terms under what stands for each hole
 
--- each hole by itself
-pub apply_hole : (t : Term) → apply hole t ≡ t
-apply_hole (hole k) = refl
-apply_hole (leaf h) = refl
-apply_hole (pair a b) = ap₂ pair (apply_hole a) (apply_hole b)
-
 -- one after the other
 pub apply_apply : (f g : Hole → Term) (t : Term) → apply f (apply g t) ≡ apply (λ k. apply f (g k)) t
 apply_apply f g (hole k) = refl
@@ -77,33 +68,6 @@ apply_agree f g (leaf n) h = refl
 apply_agree f g (pair a b) h = ap₂ pair
     (apply_agree f g a (λ k e. h k (or_left (occurs k a) (occurs k b) e)))
     (apply_agree f g b (λ k e. h k (or_right (occurs k a) (occurs k b) e)))
-
-pub apply_chain : (s : Hole → Term) (ts : List Term) → apply s (chain ts) ≡ chain (map (apply s) ts)
-apply_chain s [] = refl
-apply_chain s (t ∷ ts) = ap (pair (apply s t)) (apply_chain s ts)
-
-pub apply_node : (s : Hole → Term) (h : Head) (ts : List Term) → apply s (node h ts) ≡ node h (map (apply s) ts)
-apply_node s h ts = ap (pair (leaf h)) (apply_chain s ts)
-
-pub apply_type_part : (s : Hole → Term) (t : Term) → apply s (type_part t) ≡ type_part (apply s t)
-apply_type_part s t = refl
-
--- a hole of the result comes from what stands for a hole of the term
-pub occurs_apply : (s : Hole → Term) (k : Hole) (t : Term) → occurs k (apply s t) ≡ true → (j : Hole) × (occurs j t ≡ true) × (occurs k (s j) ≡ true)
-occurs_apply s k (hole j) h = (j, hole_eq_same j, h)
-occurs_apply s k (leaf n) h = absurd (true≢false (sym h))
-occurs_apply s k (pair a b) h = elim (or_cases (occurs k (apply s a)) (occurs k (apply s b)) h) [
-  | inl e ↦ let p = occurs_apply s k a e in (p.0, or_left (occurs p.0 a) (occurs p.0 b) p.1, p.2)
-  | inr e ↦ let p = occurs_apply s k b e in (p.0, or_right (occurs p.0 a) (occurs p.0 b) p.1, p.2)
-]
-
-pub occurs_apply_from : (s : Hole → Term) (k j : Hole) (t : Term) → occurs j t ≡ true → occurs k (s j) ≡ true → occurs k (apply s t) ≡ true
-occurs_apply_from s k j (hole i) h g = let P : Hole → Type 0 = λ z. occurs k (s z) ≡ true in subst P (hole_eq_true j i h) g
-occurs_apply_from s k j (leaf n) h g = absurd (true≢false (sym h))
-occurs_apply_from s k j (pair a b) h g = elim (or_cases (occurs j a) (occurs j b) h) [
-  | inl e ↦ or_left (occurs k (apply s a)) (occurs k (apply s b)) (occurs_apply_from s k j a e g)
-  | inr e ↦ or_right (occurs k (apply s a)) (occurs k (apply s b)) (occurs_apply_from s k j b e g)
-]
 
 -- ---- one hole replaced
 
@@ -197,9 +161,6 @@ occurs_within s x (hole k) n h e = n
 occurs_within s x (leaf g) n h e = true≢false (sym h)
 occurs_within s x (pair a b) n h e = occurs_pair s x a b h e
 
-pub occurs_hole : (x k : Hole) → occurs x (hole k) ≡ true → hole k ≡ hole x
-occurs_hole x k h = ap hole (sym (hole_eq_true x k h))
-
 -- ---- integer types
 
 pub is_int_apply : (s : Hole → Term) (t : Term) → Respects s → IsInt t → IsInt (apply s t)
@@ -207,12 +168,6 @@ is_int_apply s (hole (hole_of.Int n)) r h = r (hole_of.Int n) tt
 is_int_apply s (pair (leaf (head.Int i)) t) r h = tt
 is_int_apply s (pair (leaf (head.Uint i)) t) r h = tt
 is_int_apply s _ r h = absurd h
-
--- a head over parts is an integer type by its head alone
-pub is_int_head : (h : Head) (a b : Term) → IsInt (pair (leaf h) a) → IsInt (pair (leaf h) b)
-is_int_head (head.Int i) a b p = tt
-is_int_head (head.Uint i) a b p = tt
-is_int_head _ a b p = absurd p
 
 single_kept : (x k : Hole) (u : Term) (b : Bool) → hole_eq x k ≡ b → Kept x u → IsIntHole k → IsInt (hole k) → IsInt (cond b u (hole k))
 single_kept x k u true e h i j = let P : Hole → Type 0 = IsIntHole in h (subst P (sym (hole_eq_true x k e)) i)

@@ -11,7 +11,7 @@ ghost use Rattle.infer_table.specs.Equating.{OnlyAdds, IsOpenHole, IsResolved, I
 use crate::binding::Binding;
 use crate::bindings::Bindings;
 use crate::levels::one_level;
-use hir_types::{Const, Head, Hole, MOST_LEVELS, Outline, Part, Ty};
+use hir_types::{Const, Head, Hole, MOST_LEVELS, Outline, OutlinePart, Ty};
 use std::alloc::{AllocError, Global};
 
 fn is_same(x: Hole, y: Hole) -> bool
@@ -62,7 +62,7 @@ pub(crate) fn stands_in(alloc: Global, x: Hole, ty: &Ty, levels: u32) -> Result<
 fn stands_in_parts(
     alloc: Global,
     x: Hole,
-    parts: &[Part<'_>],
+    parts: &[OutlinePart<'_>],
     levels: u32,
 ) -> Result<bool, AllocError>
     ensures { IfOk result (λ yes. yes ≡ occurs x (chain (part_terms parts.now))) }
@@ -76,13 +76,18 @@ fn stands_in_parts(
 }
 
 #[cycle(stands)]
-fn stands_in_part(alloc: Global, x: Hole, part: &Part<'_>, levels: u32) -> Result<bool, AllocError>
+fn stands_in_part(
+    alloc: Global,
+    x: Hole,
+    part: &OutlinePart<'_>,
+    levels: u32,
+) -> Result<bool, AllocError>
     ensures { IfOk result (λ yes. yes ≡ occurs x (part_term part.now)) }
 {
     match part {
-        Part::Ty(ty) => stands_in(alloc, x, ty, levels),
-        Part::Const(value) => Ok(stands_in_const(x, *value)),
-        Part::Mark(_) => Ok(false),
+        OutlinePart::Ty(ty) => stands_in(alloc, x, ty, levels),
+        OutlinePart::Const(value) => Ok(stands_in_const(x, *value)),
+        OutlinePart::Mark(_) => Ok(false),
     }
 }
 
@@ -254,8 +259,8 @@ impl Bindings {
     fn equate_part(
         &mut self,
         alloc: Global,
-        left: &Part<'_>,
-        right: &Part<'_>,
+        left: &OutlinePart<'_>,
+        right: &OutlinePart<'_>,
         levels: u32,
     ) -> Result<bool, AllocError>
         requires left { AreOf self.old.kinds (part_term left.now) }
@@ -264,17 +269,17 @@ impl Bindings {
         ensures binds { OnlyAdds self.old self.new }
     {
         match left {
-            Part::Ty(left) => match right {
-                Part::Ty(right) => self.equate(alloc, left, right, levels),
-                Part::Const(_) | Part::Mark(_) => Ok(false),
+            OutlinePart::Ty(left) => match right {
+                OutlinePart::Ty(right) => self.equate(alloc, left, right, levels),
+                OutlinePart::Const(_) | OutlinePart::Mark(_) => Ok(false),
             },
-            Part::Const(left) => match right {
-                Part::Const(right) => self.equate_const(*left, *right),
-                Part::Ty(_) | Part::Mark(_) => Ok(false),
+            OutlinePart::Const(left) => match right {
+                OutlinePart::Const(right) => self.equate_const(*left, *right),
+                OutlinePart::Ty(_) | OutlinePart::Mark(_) => Ok(false),
             },
-            Part::Mark(left) => match right {
-                Part::Mark(right) => Ok(is_same_head(*left, *right)),
-                Part::Ty(_) | Part::Const(_) => Ok(false),
+            OutlinePart::Mark(left) => match right {
+                OutlinePart::Mark(right) => Ok(is_same_head(*left, *right)),
+                OutlinePart::Ty(_) | OutlinePart::Const(_) => Ok(false),
             },
         }
     }
@@ -285,9 +290,9 @@ impl Bindings {
         &mut self,
         alloc: Global,
         left_head: Head,
-        left: &[Part<'_>],
+        left: &[OutlinePart<'_>],
         right_head: Head,
-        right: &[Part<'_>],
+        right: &[OutlinePart<'_>],
         levels: u32,
     ) -> Result<bool, AllocError>
         requires left { AreOf self.old.kinds (node left_head (part_terms left.now)) }

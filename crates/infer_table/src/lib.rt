@@ -5,6 +5,7 @@ mod binding;
 mod bindings;
 mod complete;
 mod equate;
+mod kinds;
 mod levels;
 mod made;
 mod open;
@@ -17,6 +18,7 @@ mod unify;
 mod waiting;
 mod waits;
 
+pub use kinds::composition_keeps_kinds;
 pub use snapshot::Snapshot;
 pub use table::InferenceTable;
 pub use unify::NoUnifier;

@@ -2,12 +2,12 @@
 ghost use Rattle.std.specs.Prelude.{IfOk};
 ghost use Rattle.hir_types.specs.Terms.{chain, const_term, term};
 ghost use Rattle.hir_types.specs.Outlines.{part_term, part_terms};
-ghost use Rattle.infer_table.specs.Made.{MadeIf, HasMadeIf};
+ghost use Rattle.infer_table.specs.MadeTest.{MadeIf, HasMadeIf};
 
 use crate::bindings::Bindings;
 use crate::levels::one_level;
 use crate::table::InferenceTable;
-use hir_types::{Const, Hole, MOST_LEVELS, Outline, Part, Ty};
+use hir_types::{Const, Hole, MOST_LEVELS, Outline, OutlinePart, Ty};
 use std::alloc::{AllocError, Global};
 
 impl Bindings {
@@ -22,13 +22,18 @@ impl Bindings {
     }
 
     #[cycle(made)]
-    fn part_is_made(&self, alloc: Global, part: &Part<'_>, levels: u32) -> Result<bool, AllocError>
+    fn part_is_made(
+        &self,
+        alloc: Global,
+        part: &OutlinePart<'_>,
+        levels: u32,
+    ) -> Result<bool, AllocError>
         ensures { IfOk result (λ yes. MadeIf yes self.now.kinds (part_term part.now)) }
     {
         match part {
-            Part::Ty(ty) => self.type_is_made(alloc, ty, levels),
-            Part::Const(value) => Ok(self.const_is_made(*value)),
-            Part::Mark(_) => Ok(true),
+            OutlinePart::Ty(ty) => self.type_is_made(alloc, ty, levels),
+            OutlinePart::Const(value) => Ok(self.const_is_made(*value)),
+            OutlinePart::Mark(_) => Ok(true),
         }
     }
 
@@ -36,7 +41,7 @@ impl Bindings {
     fn parts_are_made(
         &self,
         alloc: Global,
-        parts: &[Part<'_>],
+        parts: &[OutlinePart<'_>],
         levels: u32,
     ) -> Result<bool, AllocError>
         ensures { IfOk result (λ yes. MadeIf yes self.now.kinds (chain (part_terms parts.now))) }

@@ -3,7 +3,7 @@ ghost use Rattle.std.specs.Prelude.{◌≡◌, ℕ, ◌∷◌, [], ◌++◌, Lis
 ghost use Rattle.hir_types.specs.declared.head.HoleKind.{HoleKind};
 ghost use Rattle.hir_types.specs.declared.ty.Ty.TheVariants as ty_of;
 ghost use Rattle.hir_types.specs.Terms.{Term, term, arg_term, const_term};
-ghost use Rattle.hir_types.specs.TermLaws.{type_parts};
+ghost use Rattle.hir_types.specs.TermLaws.{parts_of_types};
 ghost use Rattle.infer_table.specs.Opened.{place, alias, opened, origins};
 ghost use Rattle.infer_table.specs.OpenedKinds.{new_kinds};
 ghost use Rattle.infer_table.specs.OpenedLists.{Opens, OpensParts, principal_terms, bounds_terms};
@@ -188,7 +188,7 @@ impl Bindings {
         levels: u32,
     ) -> Result<List<Ty>, AllocError>
         ensures makes { OnlyMakes self.old self.new }
-        ensures opens { IfOk result (λ made. OpensParts self.old.kinds self.new.kinds (origins_of found.old.items) (origins_of found.new.items) (type_parts types.now) (type_parts made)) }
+        ensures opens { IfOk result (λ made. OpensParts self.old.kinds self.new.kinds (origins_of found.old.items) (origins_of found.new.items) (parts_of_types types.now) (parts_of_types made)) }
     {
         let mut made = List::new(alloc);
         for ty in types.as_slice() {

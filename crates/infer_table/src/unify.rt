@@ -19,9 +19,11 @@ use crate::open::Origin;
 use crate::table::InferenceTable;
 use hir_types::{Hole, MOST_LEVELS, Outline, Ty};
 use std::alloc::{AllocError, Global};
+use thiserror::Error;
 
 /// That two types cannot be unified.
-#[derive(Clone, Copy, Debug, PartialEq, Eq)]
+#[derive(Clone, Copy, Debug, PartialEq, Eq, Error)]
+#[error("the two types cannot be unified")]
 pub struct NoUnifier;
 
 /// The number of the hole for any type that a type is.

@@ -1,5 +1,5 @@
 //! Pairs of a table that wait to be unified.
-ghost use Rattle.std.specs.Prelude.{◌≡◌, ◌↔◌, ◌++◌, ◌∷◌, [], IsTrue, IfOk, OnOk, OnErr, MatchOption};
+ghost use Rattle.std.specs.Prelude.{◌≡◌, ◌↔◌, ◌++◌, ◌∷◌, [], length, IsTrue, IfOk, OnOk, OnErr, MatchOption};
 ghost use Rattle.infer_table.specs.Table.{HolesAreOf, IsNoOpenHole, AllUnknown, IsFirstKnown, TakesKnown, with_waiting};
 ghost use Rattle.infer_table.specs.Waiting.{waiting};
 
@@ -31,6 +31,13 @@ impl InferenceTable {
         ensures { IfOk result (λ pairs. pairs.items ≡ waiting self.now.pairs) }
     {
         self.pairs.copies(self.alloc)
+    }
+
+    /// How many pairs were ever made to wait, so that no more wait now.
+    pub fn pair_count(&self) -> usize
+        ensures { result ≡ length self.now.pairs.made }
+    {
+        self.pairs.made_count()
     }
 
     /// Whether a type resolves to anything but a hole for any type.

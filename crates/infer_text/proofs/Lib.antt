@@ -1,3 +1,4 @@
 pub mod Counts
 pub mod Items
 pub mod Whole
+pub mod LangItems

@@ -255,4 +255,14 @@ body_in d = do
   pats ← field (list_in pat_in) (codes "pats") d
   bindings ← field (list_in binding_in) (codes "bindings") d
   labels ← field u32_in (codes "labels") d
-  Ok (record { «module» = inside; traits = traits; self_ = self_; params = params; root = root; exprs = exprs; pats = pats; bindings = bindings; labels = labels })
+  Ok (record {
+    «module» = inside;
+    traits = traits;
+    self_ = self_;
+    params = params;
+    root = root;
+    exprs = exprs;
+    pats = pats;
+    bindings = bindings;
+    labels = labels;
+  })

@@ -1,14 +1,19 @@
 -- What stands for types, functions, adts, variants and limits.
 use Rattle.std.specs.List.{list_all}
-use Rattle.std.specs.Prelude.{ℕ, ◌==◌, Bool, true, false, List, [], map, Option, Some, None, Result, Ok, Err, codes, replicate, if◌then◌else◌}
+use Rattle.std.specs.Prelude.{ℕ, ◌+◌, ◌==◌, Bool, true, false, List, [], map, Option, Some, None, Result, Ok, Err, codes, if◌then◌else◌}
 use Rattle.std.specs.Str.{bytes_eq}
-use Rattle.serde_json.specs.Data.{Data, Members}
-use Rattle.serde_json.specs.Find.{as_str, as_object}
+use Rattle.serde_json.specs.Data.{Data}
+use Rattle.serde_json.specs.Find.{as_str}
 use Rattle.hir_types.specs.declared.ids.AdtId.{AdtId}
 use Rattle.hir_types.specs.declared.ids.TypeRefId.{TypeRefId}
 use Rattle.hir_types.specs.declared.ty.IntegerTy.{IntegerTy}
 use Rattle.hir_raw.specs.declared.raw.RawType.{RawType}
 use Rattle.hir_raw.specs.declared.raw.RawType.TheVariants as type
+use Rattle.hir_raw.specs.declared.raw.RawArgs.{RawArgs}
+use Rattle.hir_raw.specs.declared.raw.RawArgs.TheVariants as args
+use Rattle.hir_raw.specs.declared.raw.RawTraitRef.{RawTraitRef}
+use Rattle.hir_raw.specs.declared.raw.RawGoal.{RawGoal}
+use Rattle.hir_raw.specs.declared.raw.RawGoal.TheVariants as goal
 use Rattle.hir_raw.specs.declared.raw.RawAt.{RawAt}
 use Rattle.hir_raw.specs.declared.raw.RawAt.TheVariants as stands
 use Rattle.hir_raw.specs.declared.raw.RawVis.{RawVis}
@@ -22,9 +27,8 @@ use Rattle.hir_raw.specs.declared.raw.RawFn.{RawFn}
 use Rattle.hir_raw.specs.declared.raw.RawLimits.{RawLimits}
 use Rattle.infer_text.specs.declared.entries.Arg.{Arg}
 use Rattle.infer_text.specs.declared.entries.Arg.TheVariants as argument
-use Rattle.infer_text.specs.declared.entries.Lang.{Lang}
-use Rattle.infer_text.specs.Reading.{◌>>=◌, ◌>>◌, there, field, part, keys_in, parts_in, tag, is_tag, is_kind_of, count_members, bool_in, text_in, u32_in, option_in, list_in}
-use Rattle.infer_text.specs.Leaves.{module_in, adt_id_in, variant_id_in, type_ref_in, body_id_in, other, other_in, integer_name, integer_in, adt_kind_in, ctor_in}
+use Rattle.infer_text.specs.Reading.{◌>>=◌, ◌>>◌, there, field, part, keys_in, parts_in, tag, is_tag, is_kind_of, bool_in, text_in, u32_in, option_in, list_in}
+use Rattle.infer_text.specs.Leaves.{module_in, trait_in, alias_id_in, adt_id_in, variant_id_in, type_ref_in, body_id_in, integer_name, integer_in, adt_kind_in, ctor_in}
 use Rattle.infer_text.specs.Kinds.{other_types}
 
 -- ---- types
@@ -54,18 +58,26 @@ is_type (argument.Type w) = true
 is_type argument.Const = false
 
 -- the type of an argument; a const argument has none
-abbrev pub type_of : Arg → TypeRefId
-type_of (argument.Type w) = w
-type_of argument.Const = record { 0 = 0 }
+abbrev pub arg_type : Arg → TypeRefId
+arg_type (argument.Type w) = w
+arg_type argument.Const = record { 0 = 0 }
+
+-- types alone are read
+abbrev pub args_by : List Arg → RawArgs
+args_by xs = if list_all is_type xs then args.Types (map arg_type xs) else args.Other
+
+unfoldable pub args_in : Data → Result RawArgs (List ℕ)
+args_in d = list_in arg_in d >>= λ xs. Ok (args_by xs)
 
 -- an adt at types alone is read
-abbrev pub adt_type_by : AdtId → List Arg → RawType
-adt_type_by a xs = if list_all is_type xs then type.Adt a (map type_of xs) else type.Other
+abbrev pub adt_type_by : AdtId → RawArgs → RawType
+adt_type_by a (args.Types ts) = type.Adt a ts
+adt_type_by a args.Other = type.Other
 
 unfoldable pub adt_type_in : Data → Result RawType (List ℕ)
 adt_type_in d = do
   a ← part adt_id_in 1 d
-  xs ← part (list_in arg_in) 2 d
+  xs ← part args_in 2 d
   Ok (adt_type_by a xs)
 
 -- "bool", "char", "_", ["tuple", [TYPE]], ["adt", a, [A]], ["param", n], the name of an integer type, or
@@ -87,6 +99,30 @@ param_in d = do
   t ← there (tag d)
   if is_tag t (codes "t") 0 then Ok param.Type else
       if is_tag t (codes "c") 2 then Ok param.Other else
+      Err []
+
+-- ---- goals
+
+-- a trait, and its arguments, at these positions
+abbrev pub trait_ref_at : ℕ → Data → Result RawTraitRef (List ℕ)
+trait_ref_at i d = do
+  t ← part trait_in i d
+  xs ← part args_in (i + 1) d
+  Ok (record { trait_ = t; args = xs })
+
+unfoldable pub projection_in : Data → Result RawGoal (List ℕ)
+projection_in d = do
+  a ← part alias_id_in 1 d
+  xs ← part args_in 2 d
+  t ← part type_ref_in 3 d
+  Ok (goal.Projection a xs t)
+
+-- ["trait", t, [A]] or ["proj", alias, [A], TYPE]
+unfoldable pub goal_in : Data → Result RawGoal (List ℕ)
+goal_in d = do
+  t ← there (tag d)
+  if is_tag t (codes "trait") 3 then trait_ref_at 1 d >>= (λ r. Ok (goal.Trait r)) else
+      if is_tag t (codes "proj") 4 then projection_in d else
       Err []
 
 -- ---- functions
@@ -114,14 +150,25 @@ fn_in d = do
   name ← field text_in (codes "name") d
   place ← field at_in (codes "at") d
   params ← field (list_in param_in) (codes "params") d
-  preds ← field (list_in other_in) (codes "preds") d
+  preds ← field (list_in goal_in) (codes "preds") d
   has_self ← field bool_in (codes "has_self") d
   inputs ← field (list_in type_ref_in) (codes "inputs") d
   output ← field type_ref_in (codes "output") d
   safe ← field bool_in (codes "safe") d
   seen ← field vis_in (codes "vis") d
   body ← field (option_in body_id_in) (codes "body") d
-  Ok (record { name = name; «at» = place; params = params; preds = preds; has_self = has_self; inputs = inputs; output = output; safe = safe; vis = seen; body = body })
+  Ok (record {
+    name = name;
+    «at» = place;
+    params = params;
+    preds = preds;
+    has_self = has_self;
+    inputs = inputs;
+    output = output;
+    safe = safe;
+    vis = seen;
+    body = body;
+  })
 
 -- ---- adts and variants
 
@@ -131,11 +178,19 @@ adt_in d = do
   name ← field text_in (codes "name") d
   kind ← field adt_kind_in (codes "kind") d
   params ← field (list_in param_in) (codes "params") d
-  preds ← field (list_in other_in) (codes "preds") d
+  preds ← field (list_in goal_in) (codes "preds") d
   variants ← field (list_in variant_id_in) (codes "variants") d
   repr ← field (option_in integer_in) (codes "repr") d
   unsize ← field (option_in u32_in) (codes "unsize") d
-  Ok (record { name = name; kind = kind; params = params; preds = preds; variants = variants; repr = repr; unsize = unsize })
+  Ok (record {
+    name = name;
+    kind = kind;
+    params = params;
+    preds = preds;
+    variants = variants;
+    repr = repr;
+    unsize = unsize;
+  })
 
 unfoldable pub field_in : Data → Result RawField (List ℕ)
 field_in d = do
@@ -143,7 +198,7 @@ field_in d = do
   name ← field text_in (codes "name") d
   written ← field type_ref_in (codes "type") d
   seen ← field vis_in (codes "vis") d
-  Ok (record { name = name; ty = written; vis = seen })
+  Ok (record { name = name; type_ = written; vis = seen })
 
 unfoldable pub variant_in : Data → Result RawVariant (List ℕ)
 variant_in d = do
@@ -166,11 +221,3 @@ limits_in d = do
   autoderef ← part u32_in 2 d
   tail ← part u32_in 3 d
   Ok (record { goal_depth = goal_depth; goal_steps = goal_steps; autoderef = autoderef; tail = tail })
-
--- an entry for each member
-abbrev pub others_of : Members → Lang
-others_of ms = record { entries = replicate (count_members ms) other }
-
--- an object, whose members are not read
-unfoldable pub lang_in : Data → Result Lang (List ℕ)
-lang_in d = there (as_object d) >>= λ ms. Ok (others_of ms)

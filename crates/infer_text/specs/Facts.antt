@@ -15,7 +15,8 @@ use Rattle.infer_text.specs.declared.fault.ReadError.{ReadError}
 use Rattle.infer_text.specs.declared.fault.ReadError.TheVariants as error
 use Rattle.infer_text.specs.Reading.{◌>>=◌, ◌>>◌, field, keys_in, bool_in, option_in, list_in}
 use Rattle.infer_text.specs.Leaves.{module_in, other_in, profile_in, edition_in}
-use Rattle.infer_text.specs.Entries.{type_in, adt_in, variant_in, fn_in, limits_in, lang_in}
+use Rattle.infer_text.specs.Entries.{type_in, adt_in, variant_in, fn_in, limits_in}
+use Rattle.infer_text.specs.Abstract.{trait_item_in, alias_in, impl_in, lang_in}
 use Rattle.infer_text.specs.Bodies.{body_in}
 
 -- ---- the keys of the whole, in three groups
@@ -38,16 +39,24 @@ items_in d = do
   fns ← field (list_in fn_in) (codes "fns") d
   consts ← field (list_in other_in) (codes "consts") d
   statics ← field (list_in other_in) (codes "statics") d
-  Ok (record { types = types; modules = modules; adts = adts; variants = variants; fns = fns; consts = consts; statics = statics })
+  Ok (record {
+    types = types;
+    modules = modules;
+    adts = adts;
+    variants = variants;
+    fns = fns;
+    consts = consts;
+    statics = statics;
+  })
 
 unfoldable pub abstractions_in : Data → Result Abstractions (List ℕ)
 abstractions_in d = do
-  traits ← field (list_in other_in) (codes "traits") d
-  aliases ← field (list_in other_in) (codes "aliases") d
-  impls ← field (list_in other_in) (codes "impls") d
+  traits ← field (list_in trait_item_in) (codes "traits") d
+  aliases ← field (list_in alias_in) (codes "aliases") d
+  impls ← field (list_in impl_in) (codes "impls") d
   opaques ← field (list_in other_in) (codes "opaques") d
   lang ← field lang_in (codes "lang") d
-  Ok (record { traits = traits; aliases = aliases; impls = impls; opaques = opaques; lang = lang.entries })
+  Ok (record { traits = traits; aliases = aliases; impls = impls; opaques = opaques; lang = lang.items })
 
 abbrev whole : Settings → Items → Abstractions → List RawBody → RawFacts
 whole s i a bodies =

@@ -8,6 +8,8 @@ use Rattle.hir_types.specs.declared.ids.AdtId.{AdtId}
 use Rattle.hir_types.specs.declared.ids.ModuleId.{ModuleId}
 use Rattle.hir_types.specs.declared.ids.VariantId.{VariantId}
 use Rattle.hir_types.specs.declared.ids.TraitId.{TraitId}
+use Rattle.hir_types.specs.declared.ids.TypeAliasId.{TypeAliasId}
+use Rattle.hir_types.specs.declared.ids.ConstId.{ConstId}
 use Rattle.hir_types.specs.declared.ids.TypeRefId.{TypeRefId}
 use Rattle.hir_types.specs.declared.ids.FunctionId.{FunctionId}
 use Rattle.hir_types.specs.declared.ids.BodyId.{BodyId}
@@ -39,6 +41,12 @@ module_in d = u32_in d >>= λ n. Ok (record { 0 = n })
 
 abbrev pub trait_in : Data → Result TraitId (List ℕ)
 trait_in d = u32_in d >>= λ n. Ok (record { 0 = n })
+
+abbrev pub alias_id_in : Data → Result TypeAliasId (List ℕ)
+alias_id_in d = u32_in d >>= λ n. Ok (record { 0 = n })
+
+abbrev pub const_id_in : Data → Result ConstId (List ℕ)
+const_id_in d = u32_in d >>= λ n. Ok (record { 0 = n })
 
 abbrev pub adt_id_in : Data → Result AdtId (List ℕ)
 adt_id_in d = u32_in d >>= λ n. Ok (record { 0 = n })

@@ -4,3 +4,4 @@ pub mod Kinds
 pub mod Entries
 pub mod Bodies
 pub mod Facts
+pub mod Abstract

@@ -21,14 +21,14 @@ abbrev pub ◌>>◌ : {B : Type 0} → Result (Unit {0}) (List ℕ) → Result B
 (Err path) >> r = Err path
 
 -- a step, and the path after it
-abbrev pub joined : List ℕ → List ℕ → List ℕ
-joined step [] = step
-joined step (x ∷ path) = step ++ 46 ∷ x ∷ path
+abbrev pub joined_path : List ℕ → List ℕ → List ℕ
+joined_path step [] = step
+joined_path step (x ∷ path) = step ++ 46 ∷ x ∷ path
 
 -- a fault inside, seen from outside
 abbrev pub under : {A : Type 0} → List ℕ → Result A (List ℕ) → Result A (List ℕ)
 under step (Ok x) = Ok x
-under step (Err path) = Err (joined step path)
+under step (Err path) = Err (joined_path step path)
 
 -- the value that is there, or a fault here
 abbrev pub there : {A : Type 0} → Option A → Result A (List ℕ)
@@ -43,14 +43,14 @@ Fails misread.OutOfMemory read = Unit {0}
 Fails (misread.Shape path) read = read ≡ Err path
 
 -- it gave what reading gives, unless memory ran out
-abbrev pub Gives : {A : Type 0} → Result A Misread → Result A (List ℕ) → Type 0
-Gives (Ok x) read = read ≡ Ok x
-Gives (Err e) read = Fails e read
+abbrev pub IsAsRead : {A : Type 0} → Result A Misread → Result A (List ℕ) → Type 0
+IsAsRead (Ok x) read = read ≡ Ok x
+IsAsRead (Err e) read = Fails e read
 
 -- the same of a function that returns a vector
-abbrev pub GivesItems : {A : Type 0} → Result (Vec A Global) Misread → Result (List A) (List ℕ) → Type 0
-GivesItems (Ok v) read = read ≡ Ok v.items
-GivesItems (Err e) read = Fails e read
+abbrev pub AreAsRead : {A : Type 0} → Result (Vec A Global) Misread → Result (List A) (List ℕ) → Type 0
+AreAsRead (Ok v) read = read ≡ Ok v.items
+AreAsRead (Err e) read = Fails e read
 
 -- ---- parts
 
@@ -129,9 +129,9 @@ option_in f (array ds) = f (array ds) >>= λ x. Ok (Some x)
 option_in f (object ms) = f (object ms) >>= λ x. Ok (Some x)
 
 -- each of the items, the first of which has position i
-abbrev pub items_in : {A : Type 0} → (Data → Result A (List ℕ)) → ℕ → Items → Result (List A) (List ℕ)
-items_in f i no_items = Ok []
-items_in f i (item d ds) = under (decimal i) (f d) >>= λ x. items_in f (i + 1) ds >>= λ xs. Ok (x ∷ xs)
+abbrev pub read_each : {A : Type 0} → (Data → Result A (List ℕ)) → ℕ → Items → Result (List A) (List ℕ)
+read_each f i no_items = Ok []
+read_each f i (item d ds) = under (decimal i) (f d) >>= λ x. read_each f (i + 1) ds >>= λ xs. Ok (x ∷ xs)
 
 unfoldable pub list_in : {A : Type 0} → (Data → Result A (List ℕ)) → Data → Result (List A) (List ℕ)
-list_in f d = there (as_array d) >>= items_in f 0
+list_in f d = there (as_array d) >>= read_each f 0

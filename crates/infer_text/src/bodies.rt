@@ -1,7 +1,7 @@
 //! Reading bodies and their nodes.
 ghost use Rattle.std.specs.Prelude.{◌≡◌, List, Result, Some, None, Ok, Err};
 ghost use Rattle.serde_json.specs.View.{view};
-ghost use Rattle.infer_text.specs.Reading.{Gives, is_kind_of};
+ghost use Rattle.infer_text.specs.Reading.{IsAsRead, is_kind_of};
 ghost use Rattle.infer_text.specs.Kinds.{other_exprs, other_pats, other_paths, other_literals};
 ghost use Rattle.infer_text.specs.Bodies.{int_literal_in, literal_in, local_in, function_in, ctor_path_in, path_in, let_in, expr_stmt_in, stmt_in, block_in, if_in, arm_in, match_in, call_in, expr_in, bind_in, tuple_pat_in, named_variant_in, variant_path_in, ctor_pat_in, pat_in, binding_in, body_in};
 
@@ -18,7 +18,7 @@ use std::alloc::Global;
 
 #[tactic(auto, unfolding(crate::specs::Bodies::int_literal_in))]
 fn int_literal(alloc: Global, value: &Value) -> Result<RawLiteral, Misread>
-    ensures { Gives result (int_literal_in (view value.now)) }
+    ensures { IsAsRead result (int_literal_in (view value.now)) }
 {
     let digits = part_of(alloc, value, 1)?;
     let suffix = part_of(alloc, value, 2)?;
@@ -53,7 +53,7 @@ impl FromData for RawLiteral {
 
 #[tactic(auto, unfolding(crate::specs::Bodies::local_in))]
 fn local(alloc: Global, value: &Value) -> Result<RawPath, Misread>
-    ensures { Gives result (local_in (view value.now)) }
+    ensures { IsAsRead result (local_in (view value.now)) }
 {
     let binding = part_of(alloc, value, 1)?;
     let args: Option<List<Other>> = part_of(alloc, value, 2)?;
@@ -65,7 +65,7 @@ fn local(alloc: Global, value: &Value) -> Result<RawPath, Misread>
 
 #[tactic(auto, unfolding(crate::specs::Bodies::function_in))]
 fn function(alloc: Global, value: &Value) -> Result<RawPath, Misread>
-    ensures { Gives result (function_in (view value.now)) }
+    ensures { IsAsRead result (function_in (view value.now)) }
 {
     let function = part_of(alloc, value, 1)?;
     let args: Option<List<Other>> = part_of(alloc, value, 2)?;
@@ -77,7 +77,7 @@ fn function(alloc: Global, value: &Value) -> Result<RawPath, Misread>
 
 #[tactic(auto, unfolding(crate::specs::Bodies::ctor_path_in))]
 fn ctor_path(alloc: Global, value: &Value) -> Result<RawPath, Misread>
-    ensures { Gives result (ctor_path_in (view value.now)) }
+    ensures { IsAsRead result (ctor_path_in (view value.now)) }
 {
     let variant = part_of(alloc, value, 1)?;
     let args: Option<List<Other>> = part_of(alloc, value, 2)?;
@@ -126,7 +126,7 @@ impl FromData for RawPath {
 
 #[tactic(auto, unfolding(crate::specs::Bodies::let_in))]
 fn let_stmt(alloc: Global, value: &Value) -> Result<RawStmt, Misread>
-    ensures { Gives result (let_in (view value.now)) }
+    ensures { IsAsRead result (let_in (view value.now)) }
 {
     let pat = part_of(alloc, value, 1)?;
     let type_ref = part_of(alloc, value, 2)?;
@@ -142,7 +142,7 @@ fn let_stmt(alloc: Global, value: &Value) -> Result<RawStmt, Misread>
 
 #[tactic(auto, unfolding(crate::specs::Bodies::expr_stmt_in))]
 fn expr_stmt(alloc: Global, value: &Value) -> Result<RawStmt, Misread>
-    ensures { Gives result (expr_stmt_in (view value.now)) }
+    ensures { IsAsRead result (expr_stmt_in (view value.now)) }
 {
     let expr = part_of(alloc, value, 1)?;
     let has_semi = part_of(alloc, value, 2)?;
@@ -167,7 +167,7 @@ impl FromData for RawStmt {
 
 #[tactic(auto, unfolding(crate::specs::Bodies::block_in))]
 fn block(alloc: Global, value: &Value) -> Result<RawExpr, Misread>
-    ensures { Gives result (block_in (view value.now)) }
+    ensures { IsAsRead result (block_in (view value.now)) }
 {
     let label = part_of(alloc, value, 1)?;
     let statements = part_of(alloc, value, 2)?;
@@ -181,7 +181,7 @@ fn block(alloc: Global, value: &Value) -> Result<RawExpr, Misread>
 
 #[tactic(auto, unfolding(crate::specs::Bodies::if_in))]
 fn if_expr(alloc: Global, value: &Value) -> Result<RawExpr, Misread>
-    ensures { Gives result (if_in (view value.now)) }
+    ensures { IsAsRead result (if_in (view value.now)) }
 {
     let condition = part_of(alloc, value, 1)?;
     let then_branch = part_of(alloc, value, 2)?;
@@ -208,7 +208,7 @@ impl FromData for RawArm {
 
 #[tactic(auto, unfolding(crate::specs::Bodies::match_in))]
 fn match_expr(alloc: Global, value: &Value) -> Result<RawExpr, Misread>
-    ensures { Gives result (match_in (view value.now)) }
+    ensures { IsAsRead result (match_in (view value.now)) }
 {
     let scrutinee = part_of(alloc, value, 1)?;
     let arms = part_of(alloc, value, 2)?;
@@ -217,7 +217,7 @@ fn match_expr(alloc: Global, value: &Value) -> Result<RawExpr, Misread>
 
 #[tactic(auto, unfolding(crate::specs::Bodies::call_in))]
 fn call(alloc: Global, value: &Value) -> Result<RawExpr, Misread>
-    ensures { Gives result (call_in (view value.now)) }
+    ensures { IsAsRead result (call_in (view value.now)) }
 {
     let callee = part_of(alloc, value, 1)?;
     let args = part_of(alloc, value, 2)?;
@@ -289,7 +289,7 @@ impl FromData for RawExpr {
 
 #[tactic(auto, unfolding(crate::specs::Bodies::bind_in))]
 fn bind(alloc: Global, value: &Value) -> Result<RawPat, Misread>
-    ensures { Gives result (bind_in (view value.now)) }
+    ensures { IsAsRead result (bind_in (view value.now)) }
 {
     let id = part_of(alloc, value, 1)?;
     let subpat = part_of(alloc, value, 2)?;
@@ -298,7 +298,7 @@ fn bind(alloc: Global, value: &Value) -> Result<RawPat, Misread>
 
 #[tactic(auto, unfolding(crate::specs::Bodies::tuple_pat_in))]
 fn tuple_pat(alloc: Global, value: &Value) -> Result<RawPat, Misread>
-    ensures { Gives result (tuple_pat_in (view value.now)) }
+    ensures { IsAsRead result (tuple_pat_in (view value.now)) }
 {
     let pats = part_of(alloc, value, 1)?;
     let dots: Option<Other> = part_of(alloc, value, 2)?;
@@ -316,7 +316,7 @@ struct VariantPath {
 
 #[tactic(auto, unfolding(crate::specs::Bodies::named_variant_in))]
 fn named_variant(alloc: Global, value: &Value) -> Result<VariantPath, Misread>
-    ensures { Gives result (named_variant_in (view value.now)) }
+    ensures { IsAsRead result (named_variant_in (view value.now)) }
 {
     let variant = part_of(alloc, value, 1)?;
     let args: Option<List<Other>> = part_of(alloc, value, 2)?;
@@ -350,7 +350,7 @@ impl FromData for VariantPath {
 
 #[tactic(auto, unfolding(crate::specs::Bodies::ctor_pat_in))]
 fn ctor_pat(alloc: Global, value: &Value) -> Result<RawPat, Misread>
-    ensures { Gives result (ctor_pat_in (view value.now)) }
+    ensures { IsAsRead result (ctor_pat_in (view value.now)) }
 {
     let named: VariantPath = part_of(alloc, value, 1)?;
     let args = part_of(alloc, value, 2)?;

@@ -1,11 +1,10 @@
 //! Reading types, functions, adts, variants and limits.
-ghost use Rattle.std.specs.Prelude.{◌≡◌, List, Result, Some, None, Ok, Err, IfOk, map, replicate};
+ghost use Rattle.std.specs.Prelude.{◌≡◌, ◌<◌, List, Result, Some, None, Ok, Err, IfOk, map};
 ghost use Rattle.std.specs.List.{list_all};
 ghost use Rattle.serde_json.specs.View.{view};
-ghost use Rattle.infer_text.specs.Reading.{Gives, is_kind_of};
-ghost use Rattle.infer_text.specs.Leaves.{other};
+ghost use Rattle.infer_text.specs.Reading.{IsAsRead, is_kind_of};
 ghost use Rattle.infer_text.specs.Kinds.{other_types};
-ghost use Rattle.infer_text.specs.Entries.{integer_tag, named_type, arg_in, is_type, type_of, adt_type_in, type_in, param_in, adt_in, field_in, variant_in, at_in, vis_in, fn_in, limits_in, lang_in};
+ghost use Rattle.infer_text.specs.Entries.{integer_tag, named_type, arg_in, is_type, arg_type, args_in, adt_type_in, trait_ref_at, projection_in, goal_in, type_in, param_in, adt_in, field_in, variant_in, at_in, vis_in, fn_in, limits_in};
 
 use super::fault::Misread;
 use super::leaves::integer_of;
@@ -13,8 +12,8 @@ use super::reader::{
     FromData, expect_keys, expect_parts, field_of, is, is_one_of, misshapen, part_of, tag_of,
 };
 use hir_facts::{
-    IntegerTy, List, ModuleId, Other, RawAdt, RawAt, RawField, RawFn, RawLimits, RawParam, RawType,
-    RawVariant, RawVis, TypeRefId,
+    IntegerTy, List, ModuleId, RawAdt, RawArgs, RawAt, RawField, RawFn, RawGoal, RawLimits,
+    RawParam, RawTraitRef, RawType, RawVariant, RawVis, TypeRefId,
 };
 use serde_json::Value;
 use std::alloc::{AllocError, Global};
@@ -52,7 +51,7 @@ fn is_other_type(tag: (&str, usize)) -> bool
 
 #[tactic(auto, unfolding(crate::specs::Entries::named_type))]
 fn other_type(alloc: Global, tag: (&str, usize)) -> Result<RawType, Misread>
-    ensures { Gives result (named_type (tag.entry.0.now, tag.entry.1)) }
+    ensures { IsAsRead result (named_type (tag.entry.0.now, tag.entry.1)) }
 {
     match integer_alone(tag) {
         Some(integer) => Ok(RawType::Integer(integer)),
@@ -98,8 +97,8 @@ fn is_type(arg: &Arg) -> bool
     }
 }
 
-fn type_of(arg: &Arg) -> TypeRefId
-    ensures { result ≡ type_of arg.now }
+fn arg_type(arg: &Arg) -> TypeRefId
+    ensures { result ≡ arg_type arg.now }
 {
     match arg {
         Arg::Type(ty) => *ty,
@@ -114,22 +113,33 @@ fn are_types(args: &[Arg]) -> bool
 }
 
 fn types_of(alloc: Global, args: &[Arg]) -> Result<Vec<TypeRefId>, AllocError>
-    ensures { IfOk result (λ v. v.items ≡ map type_of args.now) }
+    ensures { IfOk result (λ v. v.items ≡ map arg_type args.now) }
 {
-    args.iter().map(|arg| type_of(arg)).collect(alloc)
+    args.iter().map(|arg| arg_type(arg)).collect(alloc)
+}
+
+#[tactic(auto, unfolding(crate::specs::Entries::args_in))]
+impl FromData for RawArgs {
+    ghost reads = { args_in };
+
+    fn from_data(alloc: Global, value: &Value) -> Result<RawArgs, Misread> {
+        let args: List<Arg> = List::from_data(alloc, value)?;
+        if are_types(args.as_slice()) {
+            Ok(RawArgs::Types(List::from_vec(types_of(alloc, args.as_slice())?)))
+        } else {
+            Ok(RawArgs::Other)
+        }
+    }
 }
 
 #[tactic(auto, unfolding(crate::specs::Entries::adt_type_in))]
 fn adt_type(alloc: Global, value: &Value) -> Result<RawType, Misread>
-    ensures { Gives result (adt_type_in (view value.now)) }
+    ensures { IsAsRead result (adt_type_in (view value.now)) }
 {
     let adt = part_of(alloc, value, 1)?;
-    let args: List<Arg> = part_of(alloc, value, 2)?;
-    if are_types(args.as_slice()) {
-        let args = List::from_vec(types_of(alloc, args.as_slice())?);
-        Ok(RawType::Adt { adt, args })
-    } else {
-        Ok(RawType::Other)
+    match part_of(alloc, value, 2)? {
+        RawArgs::Types(args) => Ok(RawType::Adt { adt, args }),
+        RawArgs::Other => Ok(RawType::Other),
     }
 }
 
@@ -153,6 +163,42 @@ impl FromData for RawType {
             Ok(RawType::Hole)
         } else {
             other_type(alloc, tag)
+        }
+    }
+}
+
+/// A trait at a position, and after it its arguments.
+pub fn trait_ref_at(alloc: Global, value: &Value, at: usize) -> Result<RawTraitRef, Misread>
+    requires { at < 2 }
+    ensures { IsAsRead result (trait_ref_at at (view value.now)) }
+{
+    let trait_ = part_of(alloc, value, at)?;
+    let args = part_of(alloc, value, at + 1)?;
+    Ok(RawTraitRef { trait_, args })
+}
+
+#[tactic(auto, unfolding(crate::specs::Entries::projection_in))]
+fn projection(alloc: Global, value: &Value) -> Result<RawGoal, Misread>
+    ensures { IsAsRead result (projection_in (view value.now)) }
+{
+    let alias = part_of(alloc, value, 1)?;
+    let args = part_of(alloc, value, 2)?;
+    let ty = part_of(alloc, value, 3)?;
+    Ok(RawGoal::Projection { alias, args, ty })
+}
+
+#[tactic(auto, unfolding(crate::specs::Entries::goal_in))]
+impl FromData for RawGoal {
+    ghost reads = { goal_in };
+
+    fn from_data(alloc: Global, value: &Value) -> Result<RawGoal, Misread> {
+        let tag = tag_of(alloc, value)?;
+        if is(tag, "trait", 3) {
+            Ok(RawGoal::Trait(trait_ref_at(alloc, value, 1)?))
+        } else if is(tag, "proj", 4) {
+            projection(alloc, value)
+        } else {
+            Err(misshapen(alloc))
         }
     }
 }
@@ -291,9 +337,9 @@ impl FromData for RawField {
     fn from_data(alloc: Global, value: &Value) -> Result<RawField, Misread> {
         expect_keys(alloc, value, 3)?;
         let name = field_of(alloc, value, "name")?;
-        let ty = field_of(alloc, value, "type")?;
+        let type_ = field_of(alloc, value, "type")?;
         let vis = field_of(alloc, value, "vis")?;
-        Ok(RawField { name, ty, vis })
+        Ok(RawField { name, type_, vis })
     }
 }
 
@@ -315,36 +361,5 @@ impl FromData for RawVariant {
             fields,
             body,
         })
-    }
-}
-
-/// The lang items, which are not read.
-#[derive(Debug, Drop)]
-pub struct Lang {
-    pub entries: List<Other>,
-}
-
-fn others(alloc: Global, count: usize) -> Result<List<Other>, AllocError>
-    ensures { IfOk result (λ list. list ≡ replicate count other) }
-{
-    let mut list = List::new(alloc);
-    for _ in 0..count {
-        list.push(Other)?;
-    }
-    Ok(list)
-}
-
-#[tactic(auto, using(crate::proofs::Counts::count_members_view), unfolding(crate::specs::Entries::lang_in))]
-impl FromData for Lang {
-    ghost reads = { lang_in };
-
-    fn from_data(alloc: Global, value: &Value) -> Result<Lang, Misread> {
-        match value.as_object() {
-            None => Err(misshapen(alloc)),
-            Some(members) => {
-                let entries = others(alloc, members.len())?;
-                Ok(Lang { entries })
-            }
-        }
     }
 }

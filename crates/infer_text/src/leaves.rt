@@ -1,14 +1,14 @@
 //! Reading the parts that have no parts of their own.
 ghost use Rattle.std.specs.Prelude.{◌≡◌, Result, Some, None, Ok, Err};
 ghost use Rattle.infer_text.specs.Reading.{bool_in, text_in, u32_in};
-ghost use Rattle.infer_text.specs.Leaves.{module_in, trait_in, adt_id_in, variant_id_in, type_ref_in, function_id_in, body_id_in, expr_id_in, pat_id_in, binding_id_in, label_in, other_in, int_name, uint_name, integer_name, integer_in, profile_in, edition_in, adt_kind_in, ctor_in, annotation_in};
+ghost use Rattle.infer_text.specs.Leaves.{module_in, trait_in, alias_id_in, const_id_in, adt_id_in, variant_id_in, type_ref_in, function_id_in, body_id_in, expr_id_in, pat_id_in, binding_id_in, label_in, other_in, int_name, uint_name, integer_name, integer_in, profile_in, edition_in, adt_kind_in, ctor_in, annotation_in};
 
 use super::fault::Misread;
 use super::reader::{FromData, misshapen};
 use hir_facts::{
-    AdtId, BindingAnnotation, BindingId, BodyId, Edition, ExprId, FunctionId, IntTy, IntegerTy,
-    LabelId, ModuleId, Other, PatId, RawAdtKind, RawCtor, Text, TraitId, TypeRefId, UintTy,
-    VariantId,
+    AdtId, BindingAnnotation, BindingId, BodyId, ConstId, Edition, ExprId, FunctionId, IntTy,
+    IntegerTy, LabelId, ModuleId, Other, PatId, RawAdtKind, RawCtor, Text, TraitId, TypeAliasId,
+    TypeRefId, UintTy, VariantId,
 };
 use serde_json::Value;
 use std::alloc::Global;
@@ -75,6 +75,22 @@ impl FromData for TraitId {
 
     fn from_data(alloc: Global, value: &Value) -> Result<TraitId, Misread> {
         Ok(TraitId(u32::from_data(alloc, value)?))
+    }
+}
+
+impl FromData for TypeAliasId {
+    ghost reads = { alias_id_in };
+
+    fn from_data(alloc: Global, value: &Value) -> Result<TypeAliasId, Misread> {
+        Ok(TypeAliasId(u32::from_data(alloc, value)?))
+    }
+}
+
+impl FromData for ConstId {
+    ghost reads = { const_id_in };
+
+    fn from_data(alloc: Global, value: &Value) -> Result<ConstId, Misread> {
+        Ok(ConstId(u32::from_data(alloc, value)?))
     }
 }
 

@@ -1,6 +1,7 @@
 //! Facts as JSON text.
 #![tactic(auto)]
 
+mod abstractions;
 mod bodies;
 mod entries;
 mod fault;
@@ -8,6 +9,7 @@ mod leaves;
 mod reader;
 mod reading;
 mod wanted;
+mod wanted_traits;
 
 pub use fault::ReadError;
 pub use reading::read_facts;

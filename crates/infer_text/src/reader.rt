@@ -4,7 +4,7 @@ ghost use Rattle.std.specs.Fmt.{decimal};
 ghost use Rattle.std.specs.List.{list_any};
 ghost use Rattle.serde_json.specs.Data.{Data};
 ghost use Rattle.serde_json.specs.View.{view, items_view};
-ghost use Rattle.infer_text.specs.Reading.{Gives, GivesItems, Fails, under, joined, field, part, items_in, keys_in, parts_in, tag, is_tag, there, option_in, list_in};
+ghost use Rattle.infer_text.specs.Reading.{IsAsRead, AreAsRead, Fails, under, joined_path, field, part, read_each, keys_in, parts_in, tag, is_tag, there, option_in, list_in};
 
 use super::fault::Misread;
 use hir_facts::{List, Text};
@@ -16,7 +16,7 @@ pub trait FromData: Sized {
     ghost reads: { Data → Result Self (List ℕ) };
 
     fn from_data(alloc: Global, value: &Value) -> Result<Self, Misread>
-        ensures { Gives result (reads (view value.now)) };
+        ensures { IsAsRead result (reads (view value.now)) };
 }
 
 /// The fault of a value of another shape.
@@ -29,7 +29,7 @@ pub fn misshapen(alloc: Global) -> Misread
 }
 
 fn join(alloc: Global, step: &str, path: &Text) -> Result<String, AllocError>
-    ensures { IfOk result (λ s. string_bytes s ≡ joined step.now path.now) }
+    ensures { IfOk result (λ s. string_bytes s ≡ joined_path step.now path.now) }
 {
     let rest = path.as_str();
     if rest.is_empty() {
@@ -40,8 +40,8 @@ fn join(alloc: Global, step: &str, path: &Text) -> Result<String, AllocError>
 }
 
 /// A fault inside, seen from outside.
-fn stepped<T>(alloc: Global, step: &str, read: Result<T, Misread>) -> Result<T, Misread>
-    ensures { (r : Result T (List ℕ)) → Gives read r → Gives result (under step.now r) }
+pub fn stepped<T>(alloc: Global, step: &str, read: Result<T, Misread>) -> Result<T, Misread>
+    ensures { (r : Result T (List ℕ)) → IsAsRead read r → IsAsRead result (under step.now r) }
 {
     match read {
         Ok(x) => Ok(x),
@@ -56,7 +56,7 @@ fn stepped<T>(alloc: Global, step: &str, read: Result<T, Misread>) -> Result<T, 
 /// What stands under a key.
 #[tactic(auto, unfolding(crate::specs::Reading::field))]
 pub fn field_of<T: FromData>(alloc: Global, value: &Value, key: &str) -> Result<T, Misread>
-    ensures { Gives result (field T.reads key.now (view value.now)) }
+    ensures { IsAsRead result (field T.reads key.now (view value.now)) }
 {
     match value.get(key) {
         None => Err(misshapen(alloc)),
@@ -65,7 +65,7 @@ pub fn field_of<T: FromData>(alloc: Global, value: &Value, key: &str) -> Result<
 }
 
 fn item_of<T: FromData>(alloc: Global, at: usize, value: &Value) -> Result<T, Misread>
-    ensures { Gives result (under (decimal at) (T.reads (view value.now))) }
+    ensures { IsAsRead result (under (decimal at) (T.reads (view value.now))) }
 {
     let step = at.to_string(alloc)?;
     stepped(alloc, step.as_str(), T::from_data(alloc, value))
@@ -74,7 +74,7 @@ fn item_of<T: FromData>(alloc: Global, at: usize, value: &Value) -> Result<T, Mi
 /// What stands at a position.
 #[tactic(auto, unfolding(crate::specs::Reading::part))]
 pub fn part_of<T: FromData>(alloc: Global, value: &Value, at: usize) -> Result<T, Misread>
-    ensures { Gives result (part T.reads at (view value.now)) }
+    ensures { IsAsRead result (part T.reads at (view value.now)) }
 {
     match value.get(at) {
         None => Err(misshapen(alloc)),
@@ -85,7 +85,7 @@ pub fn part_of<T: FromData>(alloc: Global, value: &Value, at: usize) -> Result<T
 /// Wants an object of so many keys.
 #[tactic(auto, using(crate::proofs::Counts::count_members_view), unfolding(crate::specs::Reading::keys_in))]
 pub fn expect_keys(alloc: Global, value: &Value, count: usize) -> Result<(), Misread>
-    ensures { Gives result (keys_in count (view value.now)) }
+    ensures { IsAsRead result (keys_in count (view value.now)) }
 {
     match value.as_object() {
         Some(members) if members.len() == count => Ok(()),
@@ -96,7 +96,7 @@ pub fn expect_keys(alloc: Global, value: &Value, count: usize) -> Result<(), Mis
 /// Wants an array of so many parts.
 #[tactic(auto, using(crate::proofs::Counts::count_items_view), unfolding(crate::specs::Reading::parts_in))]
 pub fn expect_parts(alloc: Global, value: &Value, count: usize) -> Result<(), Misread>
-    ensures { Gives result (parts_in count (view value.now)) }
+    ensures { IsAsRead result (parts_in count (view value.now)) }
 {
     match value.as_array() {
         Some(parts) if parts.len() == count => Ok(()),
@@ -167,7 +167,7 @@ impl<T: FromData + Drop> FromData for List<T> {
 }
 
 fn items_of<T: FromData + Drop>(alloc: Global, values: &[Value]) -> Result<Vec<T>, Misread>
-    ensures { GivesItems result (items_in T.reads 0 (items_view values.now)) }
+    ensures { AreAsRead result (read_each T.reads 0 (items_view values.now)) }
 {
     let mut out = Vec::new(alloc);
     for (at, value) in values.iter().enumerate() {

@@ -3,13 +3,13 @@ ghost use Rattle.std.specs.Prelude.{List, Result, Some};
 ghost use Rattle.serde_json.specs.View.{view};
 ghost use Rattle.infer_text.specs.Facts.{settings_in, items_in, abstractions_in, facts_in, facts_of, raw_facts, Answers, Reads};
 
-use super::entries::Lang;
+use super::abstractions::Lang;
 use super::fault::{Misread, ReadError};
 use super::leaves::Profile;
 use super::reader::{FromData, expect_keys, field_of};
 use hir_facts::{
-    Edition, Facts, FactsError, List, ModuleId, Other, RawAdt, RawFacts, RawFn, RawLimits, RawType,
-    RawVariant,
+    Edition, Facts, FactsError, List, ModuleId, Other, RawAdt, RawAlias, RawFacts, RawFn, RawImpl,
+    RawLang, RawLimits, RawTrait, RawType, RawVariant,
 };
 use serde_json::{Category, Value};
 use std::alloc::Global;
@@ -81,11 +81,11 @@ impl FromData for Items {
 /// The lists of traits and of what goes with them.
 #[derive(Drop)]
 struct Abstractions {
-    traits: List<Other>,
-    aliases: List<Other>,
-    impls: List<Other>,
+    traits: List<RawTrait>,
+    aliases: List<RawAlias>,
+    impls: List<RawImpl>,
     opaques: List<Other>,
-    lang: List<Other>,
+    lang: List<RawLang>,
 }
 
 #[tactic(auto, unfolding(crate::specs::Facts::abstractions_in))]
@@ -97,7 +97,7 @@ impl FromData for Abstractions {
         let aliases = field_of(alloc, value, "aliases")?;
         let impls = field_of(alloc, value, "impls")?;
         let opaques = field_of(alloc, value, "opaques")?;
-        let Lang { entries: lang } = field_of(alloc, value, "lang")?;
+        let Lang { items: lang } = field_of(alloc, value, "lang")?;
         Ok(Abstractions {
             traits,
             aliases,

@@ -1,26 +1,28 @@
 //! What a facts text has to have at a path, in words.
 
+use crate::wanted_traits::wanted_of_traits;
+
 /// A path, with `#` for each position, and what is wanted there.
-struct Wanted {
-    path: &'static [u8],
-    what: &'static str,
+pub struct Wanted {
+    pub path: &'static [u8],
+    pub what: &'static str,
 }
 
 const NUMBER: &str = "a whole number from 0, below 2^32";
 
-const ANY_LIST: &str = "a list";
+pub const ANY_LIST: &str = "a list";
 
-const TRUTH: &str = "true or false";
+pub const TRUTH: &str = "true or false";
 
-const TEXT: &str = "a text";
+pub const TEXT: &str = "a text";
 
-const INDEX_OF_TYPE: &str = "an index into `types`";
+pub const INDEX_OF_TYPE: &str = "an index into `types`";
 
 const EXPRESSION: &str = "an expression's number";
 
 const MAYBE_EXPRESSION: &str = "an expression's number, or null";
 
-const PARAM: &str = "\"t\" or [\"c\", TYPE]";
+pub const PARAM: &str = "\"t\" or [\"c\", TYPE]";
 
 const VIS: &str = "\"pub\" or a module's number";
 
@@ -394,7 +396,7 @@ fn after_digits(text: &[u8]) -> &[u8] {
 }
 
 /// Whether a path has the form of a pattern.
-fn fits(pattern: &[u8], path: &[u8]) -> bool {
+pub fn fits(pattern: &[u8], path: &[u8]) -> bool {
     let mut rest = path;
     for wanted in pattern {
         if *wanted == b'#' {
@@ -420,5 +422,8 @@ pub fn wanted_at(path: &str) -> &'static str {
             return place.what;
         }
     }
-    "a part of the kind that docs/FORMAT.md names"
+    match wanted_of_traits(path.as_bytes()) {
+        Some(what) => what,
+        None => "a part of the kind that docs/FORMAT.md names",
+    }
 }

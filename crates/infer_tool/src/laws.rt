@@ -6,7 +6,7 @@ use std::alloc::{AllocError, Global};
 use std::fmt;
 use told_bodies::{holes, limits, literals, scopes, sizes, trees};
 use told_items::{carried, counts, ids};
-use told_places::place::{Place, list_name};
+use told_places::place::Place;
 
 fn told<W: fmt::Display + Drop>(
     alloc: Global,
@@ -34,7 +34,7 @@ pub fn told_breach(
     if law == Law::Carried {
         return told(alloc, law, carried::find(facts, list, index));
     }
-    let Some(entry) = facts.get(list_name(list)).and_then(|list| list.get(index)) else {
+    let Some(entry) = facts.get(list.key()).and_then(|list| list.get(index)) else {
         return Ok(None);
     };
     let place = Place::new(list, index);
@@ -46,6 +46,7 @@ pub fn told_breach(
         Law::Scopes => told(alloc, law, scopes::find(alloc, place, entry)?),
         Law::Sizes => told(alloc, law, sizes::find(alloc, facts, list, index, entry)?),
         Law::Limits => told(alloc, law, limits::find(facts, index)),
+        Law::Lang => Ok(None),
         Law::Literals => told(alloc, law, literals::find(alloc, list, index, entry)?),
         Law::Holes => told(alloc, law, holes::find(facts, index)),
     }

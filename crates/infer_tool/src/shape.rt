@@ -79,6 +79,13 @@ fn wanted_keys(path: &str) -> &'static [&'static str] {
         Some(("fns", rest)) if is_number(rest) => &[
             "name", "at", "params", "preds", "has_self", "inputs", "output", "safe", "vis", "body",
         ],
+        Some(("traits", rest)) if is_number(rest) => &[
+            "name", "params", "preds", "fns", "consts", "types", "auto",
+        ],
+        Some(("aliases", rest)) if is_number(rest) => &["name", "trait", "bounds"],
+        Some(("impls", rest)) if is_number(rest) => &[
+            "trait", "params", "preds", "self", "fns", "consts", "types",
+        ],
         Some(("bodies", rest)) if is_number(rest) => &[
             "module", "traits", "self", "params", "root", "exprs", "pats", "bindings", "labels",
         ],

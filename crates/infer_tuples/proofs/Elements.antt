@@ -25,7 +25,7 @@ use Rattle.infer_ctx.specs.Steps.{CoerceDone, Before}
 use Rattle.infer_ctx.specs.Walks.{Debt, Owed, Walks}
 use Rattle.infer_ctx.proofs.AtEach.{follows_twice, closes_before}
 use Rattle.infer_ctx.proofs.Category.{walks_paid}
-use Rattle.infer_ctx.proofs.Closed.{closes_earlier}
+use Rattle.infer_ctx.proofs.UnderClosings.{closes_earlier}
 use Rattle.infer_ctx.proofs.FineTypes.{fine_grown, fine_hole}
 use Rattle.infer_ctx.proofs.OverTypes.{fine_closed}
 use Rattle.infer_coerce.specs.Coercions.{IsCoerced}

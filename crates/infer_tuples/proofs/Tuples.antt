@@ -7,7 +7,7 @@ use Rattle.hir_types.specs.declared.ids.ExprOrPatId.TheVariants as node
 use Rattle.hir_types.specs.declared.ty.Ty.{Ty}
 use Rattle.hir_types.specs.declared.ty.Ty.TheVariants as ty
 use Rattle.hir_types.specs.Subst.{folded, Assignment, with_holes}
-use Rattle.hir_types.specs.Folding.{replaced_tuple}
+use Rattle.hir_types.specs.Replacements.{replaced_tuple}
 use Rattle.hir_facts.specs.CarriedTypes.{IsCarriedType}
 use Rattle.hir_raw.specs.Order.{inner, element, expr_part, exprs_from, parts_of_expr, part_at}
 use Rattle.hir_raw.specs.declared.raw.RawExpr.TheVariants as expr
@@ -21,14 +21,14 @@ use Rattle.infer_result.specs.declared.result.TypeMismatch.{TypeMismatch}
 use Rattle.infer_ctx.specs.declared.context.InferenceContext.{InferenceContext}
 use Rattle.infer_ctx.specs.Closings.{Closes, found_under}
 use Rattle.infer_ctx.specs.Context.{element_type}
-use Rattle.infer_ctx.specs.Fine.{IsFineExpectation}
+use Rattle.infer_ctx.specs.Fine.{IsFineExpectation, AllFine}
 use Rattle.infer_ctx.specs.Found.{Found}
 use Rattle.infer_ctx.specs.Steps.{Before, CoerceDone, KindDone, Within}
 use Rattle.infer_ctx.specs.Under.{KindWalked}
 use Rattle.infer_ctx.specs.Walks.{Debt, OwedAmong, PaidBy}
 use Rattle.infer_ctx.proofs.AtEach.{closes_before}
 use Rattle.infer_ctx.proofs.Category.{walks_paid}
-use Rattle.infer_ctx.proofs.FineTypes.{AllFine, all_fine_grown, fine_push, fine_tuple, fine_element, fine_expectation_grown}
+use Rattle.infer_ctx.proofs.FineTypes.{all_fine_grown, fine_push, fine_tuple, fine_element, fine_expectation_grown}
 use Rattle.infer_ctx.proofs.InParts.{AtPart, begins_parts, comes_to_part, past_coerced_part, all_past, expr_at}
 use Rattle.infer_ctx.proofs.Keeps.{all_kept}
 use Rattle.infer_ctx.proofs.Leaves.{rule_of}

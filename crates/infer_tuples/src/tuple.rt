@@ -32,7 +32,7 @@ pub fn infer_tuple<F: Fn(&mut InferenceContext, ExprId, Expectation) -> Result<T
     // Each hole that a binding names was made.
     context.table.lawful();
     let known = known_ty(context, expected)?;
-    let ty = infer_elements(
+    infer_elements(
         infer,
         alloc,
         context,
@@ -40,8 +40,7 @@ pub fn infer_tuple<F: Fn(&mut InferenceContext, ExprId, Expectation) -> Result<T
         tgt_expr,
         exprs,
         expected.known_as(&known),
-    )?;
-    Ok(ty)
+    )
 }
 
 /// What is known of the type that is expected of a tuple, where that is a hole. Any other type is
@@ -79,15 +78,8 @@ fn infer_elements<F: Fn(&mut InferenceContext, ExprId, Expectation) -> Result<Ty
         tgt_expr None ty context.old context.new) }
 {
     let mut tys = List::new(alloc);
-    for i in 0..exprs.len() {
-        let ty = infer_element(
-            infer,
-            alloc,
-            context,
-            given,
-            exprs[i],
-            expected.of_element(i),
-        )?;
+    for (i, expr) in exprs.iter().enumerate() {
+        let ty = infer_element(infer, alloc, context, given, *expr, expected.of_element(i))?;
         tys.push(ty)?;
     }
     Ok(Ty::Tuple(tys))

@@ -1,32 +1,13 @@
 //! Why a run ends early.
-use std::alloc::{AllocError, AllocFailed};
-use std::fmt;
+use std::alloc::AllocError;
+use thiserror::Error;
 
 /// Why a run ends early.
-#[derive(Clone, Copy, Debug)]
+#[derive(Clone, Copy, Debug, Error)]
 pub enum Fault {
-    Memory,
+    #[error("there is not enough memory")]
+    Memory(#[from(alloc)] AllocError),
     /// A hole stands in a type that the table did not make.
+    #[error("a hole was not made")]
     NotMade,
-}
-
-impl From<AllocError> for Fault {
-    fn from(_error: AllocError) -> Fault {
-        Fault::Memory
-    }
-}
-
-impl<T: Drop> From<AllocFailed<T>> for Fault {
-    fn from(_error: AllocFailed<T>) -> Fault {
-        Fault::Memory
-    }
-}
-
-impl fmt::Display for Fault {
-    fn fmt<W: fmt::Write>(&self, f: &mut fmt::Formatter<W>) -> fmt::Result {
-        match self {
-            Fault::Memory => write!(f, "there is not enough memory"),
-            Fault::NotMade => write!(f, "a hole was not made"),
-        }
-    }
 }

@@ -15,7 +15,7 @@ ghost use Rattle.std.specs.Prelude.{◌<◌, ◌^◌};
 use fault::Fault;
 use infer_table::InferenceTable;
 use outcome::Outcome;
-use std::alloc::Global;
+use std::alloc::{AllocError, Global};
 use std::env::Env;
 use std::process::ExitCode;
 use std::rc::RcStr;
@@ -68,7 +68,7 @@ fn measured(alloc: Global, mode: Mode, count: usize) -> Result<Outcome, Fault>
 fn explain(rt: &impl Eprint, fault: Fault) -> u8 {
     let _ = eprintln!(rt; "table_bench: {fault}");
     match fault {
-        Fault::Memory => 5,
+        Fault::Memory(AllocError) => 5,
         Fault::NotMade => 1,
     }
 }
@@ -139,7 +139,10 @@ fn main(rt: HostRuntime) -> ExitCode {
             Some(text) => print(&rt, text),
             None => run_request(&rt, &words),
         },
-        Err(error) if error.kind() == io::ErrorKind::OutOfMemory => explain(&rt, Fault::Memory),
+        Err(error) if error.kind() == io::ErrorKind::OutOfMemory => explain(
+            &rt,
+            Fault::Memory(AllocError),
+        ),
         Err(_) => {
             let _ = rt.eprintln(USAGE);
             2

@@ -9,7 +9,7 @@ use told_places::place::Place;
 /// How a type in which a `_` stands is used.
 #[derive(Clone, Copy)]
 pub enum WrongUse {
-    /// By a signature or a field.
+    /// By a signature, a field, a goal or an impl.
     Item(Place),
     /// By other types and by bodies, so many times.
     Times(usize),
@@ -60,6 +60,65 @@ fn item_of(facts: &Value, ty: usize) -> Option<Place> {
     None
 }
 
+/// Whether a type stands among the arguments of a goal, or is what one gives.
+fn is_in_goal(goal: &Value, ty: usize) -> bool {
+    items(goal.get(2usize))
+        .iter()
+        .any(|argument| is(type_id(argument), ty))
+        || is(goal.get(3usize), ty)
+}
+
+/// The first goal under a key of the entries of a list in which a type stands.
+fn goal_of(facts: &Value, list_of: FactsList, key: &'static str, ty: usize) -> Option<Place> {
+    for (at, entry) in list(facts, list_of.key()).iter().enumerate() {
+        for (k, goal) in list(entry, key).iter().enumerate() {
+            if is_in_goal(goal, ty) {
+                return Some(Place::new(list_of, at).item(key, k));
+            }
+        }
+    }
+    None
+}
+
+/// The first place of an impl, apart from its predicates, where a type stands.
+fn impl_of(facts: &Value, ty: usize) -> Option<Place> {
+    for (at, entry) in list(facts, "impls").iter().enumerate() {
+        let place = Place::new(FactsList::Impls, at);
+        let of_trait = entry.get("trait").and_then(|of_trait| of_trait.get(1usize));
+        if items(of_trait)
+            .iter()
+            .any(|argument| is(type_id(argument), ty))
+        {
+            return Some(place.key("trait"));
+        }
+        if is(entry.get("self"), ty) {
+            return Some(place.key("self"));
+        }
+        for (k, given) in list(entry, "types").iter().enumerate() {
+            if is(given.get(1usize), ty) {
+                return Some(place.item("types", k));
+            }
+        }
+    }
+    None
+}
+
+fn abstract_of(facts: &Value, ty: usize) -> Option<Place> {
+    const GOALS: [(FactsList, &str); 5] = [
+        (FactsList::Adts, "preds"),
+        (FactsList::Fns, "preds"),
+        (FactsList::Traits, "preds"),
+        (FactsList::Aliases, "bounds"),
+        (FactsList::Impls, "preds"),
+    ];
+    for (list_of, key) in GOALS {
+        if let Some(place) = goal_of(facts, list_of, key, ty) {
+            return Some(place);
+        }
+    }
+    impl_of(facts, ty)
+}
+
 fn times_in_types(facts: &Value, ty: usize) -> usize {
     let mut times = 0usize;
     for user in list(facts, "types") {
@@ -89,7 +148,7 @@ fn times_in_body(body: &Value, ty: usize) -> usize {
 /// How the type is used.
 pub fn find(facts: &Value, index: usize) -> Option<(Place, WrongUse)> {
     let place = Place::new(FactsList::Types, index);
-    if let Some(item) = item_of(facts, index) {
+    if let Some(item) = item_of(facts, index).or(abstract_of(facts, index)) {
         return Some((place, WrongUse::Item(item)));
     }
     let mut times = times_in_types(facts, index);

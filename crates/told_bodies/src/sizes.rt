@@ -180,6 +180,13 @@ pub fn find(
         FactsList::Adts => Ok(of_keys(place, entry, &["params", "preds", "variants"])),
         FactsList::Variants => Ok(of_keys(place, entry, &["fields"])),
         FactsList::Fns => Ok(of_keys(place, entry, &["params", "preds", "inputs"])),
+        FactsList::Traits => {
+            Ok(of_keys(place, entry, &["params", "preds", "fns", "consts", "types"]))
+        }
+        FactsList::Aliases => Ok(of_keys(place, entry, &["bounds"])),
+        FactsList::Impls => {
+            Ok(of_keys(place, entry, &["params", "preds", "fns", "consts", "types"]))
+        }
         FactsList::Bodies => of_body(alloc, place, entry),
         _ => Ok(None),
     }

@@ -4,7 +4,7 @@ use hir_facts::FactsList;
 use serde_json::Value;
 use std::fmt;
 use told_places::look::{is_there, items, list, number, word};
-use told_places::place::{Place, list_name};
+use told_places::place::Place;
 
 /// What is not carried yet.
 #[derive(Clone, Copy)]
@@ -33,7 +33,27 @@ fn of_type(ty: &Value) -> Uncarried<'_> {
     }
 }
 
-fn of_params(place: Place, entry: &Value) -> Option<(Place, Uncarried<'_>)> {
+const CONST_ARGUMENTS: Uncarried<'static> = Uncarried::Form("const arguments of traits");
+
+fn is_const(argument: &Value) -> bool {
+    word(Some(argument)) == "c"
+}
+
+fn has_const(arguments: Option<&Value>) -> bool {
+    items(arguments).iter().any(|argument| is_const(argument))
+}
+
+/// What is not carried of the goals under a key.
+fn of_goals(place: Place, entry: &Value, key: &'static str) -> Option<(Place, Uncarried<'static>)> {
+    for (at, goal) in list(entry, key).iter().enumerate() {
+        if has_const(goal.get(2usize)) {
+            return Some((place.item(key, at), CONST_ARGUMENTS));
+        }
+    }
+    None
+}
+
+fn of_params(place: Place, entry: &Value) -> Option<(Place, Uncarried<'static>)> {
     for (at, param) in list(entry, "params").iter().enumerate() {
         if word(Some(param)) != "t" {
             return Some((
@@ -42,11 +62,72 @@ fn of_params(place: Place, entry: &Value) -> Option<(Place, Uncarried<'_>)> {
             ));
         }
     }
-    if list(entry, "preds").is_empty() {
-        None
-    } else {
-        Some((place.item("preds", 0), Uncarried::Form("predicates")))
+    of_goals(place, entry, "preds")
+}
+
+/// What is not carried of a trait or an impl.
+fn of_members(place: Place, entry: &Value) -> Option<(Place, Uncarried<'static>)> {
+    if let Some(found) = of_params(place, entry) {
+        return Some(found);
     }
+    if !list(entry, "fns").is_empty() {
+        let form = Uncarried::Form("functions of traits and impls");
+        return Some((place.item("fns", 0), form));
+    }
+    if !list(entry, "consts").is_empty() {
+        let form = Uncarried::Form("constants of traits and impls");
+        return Some((place.item("consts", 0), form));
+    }
+    None
+}
+
+fn of_impl(place: Place, entry: &Value) -> Option<(Place, Uncarried<'static>)> {
+    let arguments = entry.get("trait").and_then(|of_trait| of_trait.get(1usize));
+    if has_const(arguments) {
+        Some((place.key("trait"), CONST_ARGUMENTS))
+    } else {
+        of_members(place, entry)
+    }
+}
+
+/// Whether what stands at a number in a list has predicates.
+fn asks(facts: &Value, key: &str, id: Option<&Value>) -> Option<bool> {
+    let entry = list(facts, key).get(number(id)?)?;
+    Some(!list(entry, "preds").is_empty())
+}
+
+/// Whether a path names an item with predicates.
+fn owes(facts: &Value, path: Option<&Value>) -> Option<bool> {
+    match word(path) {
+        "fn" => asks(facts, "fns", path?.get(1usize)),
+        "ctor" | "variant" => {
+            let variant = list(facts, "variants").get(number(path?.get(1usize))?)?;
+            asks(facts, "adts", variant.get("adt"))
+        }
+        _ => None,
+    }
+}
+
+/// The path that an expression or a pattern is, or that it has in front.
+fn path_in(node: &Value) -> Option<&Value> {
+    match word(Some(node)) {
+        "path" | "ctor" => node.get(1usize),
+        _ => None,
+    }
+}
+
+/// The first node of a body that names an item with predicates.
+fn of_owing(facts: &Value, place: Place, body: &Value) -> Option<(Place, Uncarried<'static>)> {
+    const KEYS: [&str; 2] = ["exprs", "pats"];
+    for key in KEYS {
+        for (at, node) in list(body, key).iter().enumerate() {
+            if owes(facts, path_in(node)) == Some(true) {
+                let form = Uncarried::Form("paths to items with predicates");
+                return Some((place.item(key, at), form));
+            }
+        }
+    }
+    None
 }
 
 fn of_adt(place: Place, adt: &Value) -> Option<(Place, Uncarried<'_>)> {
@@ -149,7 +230,7 @@ fn of_binding(binding: &Value) -> Option<Uncarried<'_>> {
     }
 }
 
-fn of_body(place: Place, body: &Value) -> Option<(Place, Uncarried<'_>)> {
+fn of_body<'a>(facts: &Value, place: Place, body: &'a Value) -> Option<(Place, Uncarried<'a>)> {
     for (at, expr) in list(body, "exprs").iter().enumerate() {
         if let Some(found) = of_expr(expr) {
             return Some((place.item("exprs", at), found));
@@ -168,7 +249,7 @@ fn of_body(place: Place, body: &Value) -> Option<(Place, Uncarried<'_>)> {
     if number(body.get("self")).is_some() {
         Some((place.key("self"), Uncarried::Form("bodies with `self`")))
     } else {
-        None
+        of_owing(facts, place, body)
     }
 }
 
@@ -177,11 +258,9 @@ fn unread(list: FactsList) -> Option<&'static str> {
     match list {
         FactsList::Consts => Some("consts"),
         FactsList::Statics => Some("statics"),
-        FactsList::Traits => Some("traits"),
-        FactsList::Aliases => Some("aliases"),
-        FactsList::Impls => Some("impls"),
         FactsList::Opaques => Some("opaque types"),
-        FactsList::Lang => Some("language items"),
+        FactsList::Lang => Some("language items but `sized`, `copy` and `clone`"),
+        FactsList::Traits | FactsList::Aliases | FactsList::Impls => None,
         FactsList::Types | FactsList::Modules | FactsList::Adts | FactsList::Variants => None,
         FactsList::Fns | FactsList::Bodies | FactsList::Limits => None,
     }
@@ -193,13 +272,16 @@ pub fn find(facts: &Value, list: FactsList, index: usize) -> Option<(Place, Unca
     if let Some(form) = unread(list) {
         return Some((place, Uncarried::Form(form)));
     }
-    let entry = facts.get(list_name(list))?.get(index)?;
+    let entry = facts.get(list.key())?.get(index)?;
     match list {
         FactsList::Types => Some((place, of_type(entry))),
         FactsList::Adts => of_adt(place, entry),
         FactsList::Variants => of_variant(place, entry),
         FactsList::Fns => of_fn(place, entry),
-        FactsList::Bodies => of_body(place, entry),
+        FactsList::Traits => of_members(place, entry),
+        FactsList::Aliases => of_goals(place, entry, "bounds"),
+        FactsList::Impls => of_impl(place, entry),
+        FactsList::Bodies => of_body(facts, place, entry),
         _ => None,
     }
 }

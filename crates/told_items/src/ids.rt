@@ -1,5 +1,6 @@
 //! Law 1: ids that are out of range, and lists that do not agree.
 
+use crate::goal_ids::{of_alias, of_goals, of_impl, of_trait};
 use hir_facts::FactsList;
 use serde_json::Value;
 use std::alloc::{AllocError, Global};
@@ -17,6 +18,7 @@ pub enum Named {
     Variant,
     Fn,
     Trait,
+    Alias,
     Body,
     Expr,
     Pat,
@@ -32,6 +34,7 @@ impl fmt::Display for Named {
             Named::Variant => "variant",
             Named::Fn => "fn",
             Named::Trait => "trait",
+            Named::Alias => "associated type",
             Named::Body => "body",
             Named::Expr => "expression",
             Named::Pat => "pattern",
@@ -46,7 +49,7 @@ impl Named {
         match self {
             Named::Expr | Named::Pat | Named::Binding => "the body has",
             Named::Type | Named::Module | Named::Adt | Named::Variant => "the facts have",
-            Named::Fn | Named::Trait | Named::Body => "the facts have",
+            Named::Fn | Named::Trait | Named::Alias | Named::Body => "the facts have",
         }
     }
 }
@@ -70,6 +73,15 @@ pub enum WrongId {
         variant: usize,
         adt: usize,
     },
+    /// An associated type of another trait is listed or given.
+    OfAnotherTrait {
+        alias: usize,
+        of_trait: usize,
+    },
+    /// An impl of no trait gives an associated type.
+    OfNoTrait,
+    /// So many times traits list an associated type.
+    AliasListed(usize),
     /// So many times adts list a variant.
     Listed(usize),
     /// So many definitions have the body.
@@ -96,6 +108,16 @@ impl fmt::Display for WrongId {
             WrongId::OfAnother { variant, adt } => {
                 write!(f, "variant {variant} is listed, which is of adt {adt}")
             }
+            WrongId::OfAnotherTrait { alias, of_trait } => write!(
+                f,
+                "associated type {alias} is named, which is of trait {of_trait}"
+            ),
+            WrongId::OfNoTrait => write!(
+                f,
+                "an associated type is given, and the impl is of no trait"
+            ),
+            WrongId::AliasListed(0) => write!(f, "no trait lists it"),
+            WrongId::AliasListed(times) => write!(f, "traits list it {times} times"),
             WrongId::Listed(0) => write!(f, "no adt lists it"),
             WrongId::Listed(times) => write!(f, "adts list it {times} times"),
             WrongId::Owned(0) => write!(f, "it is the body of no definition"),
@@ -105,7 +127,7 @@ impl fmt::Display for WrongId {
 }
 
 /// An id past the end.
-fn beyond(named: Named, value: Option<&Value>, count: usize) -> Option<WrongId> {
+pub fn beyond(named: Named, value: Option<&Value>, count: usize) -> Option<WrongId> {
     let number = number(value)?;
     if number < count {
         None
@@ -164,7 +186,7 @@ fn of_adt(facts: &Value, at: usize, adt: &Value) -> Option<(usize, WrongId)> {
 }
 
 /// How many of these values are this number.
-fn times(values: &[Value], wanted: usize) -> usize {
+pub fn times(values: &[Value], wanted: usize) -> usize {
     let mut count = 0usize;
     for value in values {
         if number(Some(value)) == Some(wanted) {
@@ -223,6 +245,9 @@ fn of_fn(facts: &Value, place: Place, function: &Value) -> Option<(Place, WrongI
     let types = list(facts, "types").len();
     if let Some(wrong) = beyond(Named::Module, function.get("at")?.get(1usize), modules) {
         return Some((place.key("at"), wrong));
+    }
+    if let Some(found) = of_goals(facts, place, function, "preds") {
+        return Some(found);
     }
     for (k, input) in list(function, "inputs").iter().enumerate() {
         if let Some(wrong) = beyond(Named::Type, Some(input), types) {
@@ -376,11 +401,15 @@ pub fn find(
             let count = list(facts, "modules").len();
             late(Named::Module, Some(entry), index, count).map(|wrong| (place, wrong))
         }
-        FactsList::Adts => {
-            of_adt(facts, index, entry).map(|(k, wrong)| (place.item("variants", k), wrong))
-        }
+        FactsList::Adts => match of_adt(facts, index, entry) {
+            Some((k, wrong)) => Some((place.item("variants", k), wrong)),
+            None => of_goals(facts, place, entry, "preds"),
+        },
         FactsList::Variants => of_variant(facts, place, index, entry),
         FactsList::Fns => of_fn(facts, place, entry),
+        FactsList::Traits => of_trait(facts, place, entry),
+        FactsList::Aliases => of_alias(facts, place, entry),
+        FactsList::Impls => of_impl(facts, place, entry),
         FactsList::Bodies => return of_body(alloc, facts, place, entry),
         _ => None,
     };

@@ -3,29 +3,9 @@
 use hir_facts::FactsList;
 use std::fmt;
 
-/// The key of a list of the facts.
-pub fn list_name(list: FactsList) -> &'static str {
-    match list {
-        FactsList::Types => "types",
-        FactsList::Modules => "modules",
-        FactsList::Adts => "adts",
-        FactsList::Variants => "variants",
-        FactsList::Fns => "fns",
-        FactsList::Consts => "consts",
-        FactsList::Statics => "statics",
-        FactsList::Traits => "traits",
-        FactsList::Aliases => "aliases",
-        FactsList::Impls => "impls",
-        FactsList::Opaques => "opaques",
-        FactsList::Lang => "lang",
-        FactsList::Bodies => "bodies",
-        FactsList::Limits => "limits",
-    }
-}
-
 /// What of an entry is meant.
 #[derive(Clone, Copy)]
-enum Part {
+enum PlaceStep {
     Whole,
     Key(&'static str),
     Item(&'static str, usize),
@@ -36,7 +16,7 @@ enum Part {
 pub struct Place {
     list: FactsList,
     index: usize,
-    part: Part,
+    part: PlaceStep,
 }
 
 impl Place {
@@ -45,7 +25,7 @@ impl Place {
         Place {
             list,
             index,
-            part: Part::Whole,
+            part: PlaceStep::Whole,
         }
     }
 
@@ -57,7 +37,7 @@ impl Place {
     /// What the entry has under a key.
     pub fn key(self, key: &'static str) -> Place {
         Place {
-            part: Part::Key(key),
+            part: PlaceStep::Key(key),
             ..self
         }
     }
@@ -65,7 +45,7 @@ impl Place {
     /// An item of a list of the entry.
     pub fn item(self, key: &'static str, at: usize) -> Place {
         Place {
-            part: Part::Item(key, at),
+            part: PlaceStep::Item(key, at),
             ..self
         }
     }
@@ -73,13 +53,13 @@ impl Place {
 
 impl fmt::Display for Place {
     fn fmt<W: fmt::Write>(&self, f: &mut fmt::Formatter<W>) -> fmt::Result {
-        let list = list_name(self.list);
+        let list = self.list.key();
         let index = self.index;
         write!(f, "{list}[{index}]")?;
         match self.part {
-            Part::Whole => Ok(()),
-            Part::Key(key) => write!(f, ".{key}"),
-            Part::Item(key, at) => write!(f, ".{key}[{at}]"),
+            PlaceStep::Whole => Ok(()),
+            PlaceStep::Key(key) => write!(f, ".{key}"),
+            PlaceStep::Item(key, at) => write!(f, ".{key}[{at}]"),
         }
     }
 }

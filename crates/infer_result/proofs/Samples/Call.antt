@@ -10,10 +10,10 @@ use Rattle.hir_raw.specs.declared.raw.RawType.TheVariants as type
 use Rattle.hir_raw.specs.declared.raw.RawParam.TheVariants as parameter
 use Rattle.hir_raw.specs.declared.raw.RawFn.{RawFn}
 use Rattle.hir_types.specs.Erasure.{erased, IsClosed}
-use Rattle.hir_types.specs.Assigned.{type_in, with_params}
-use Rattle.hir_types.specs.Folding.{replaced_param}
+use Rattle.hir_types.specs.Assigned.{arg_as_type, with_params}
+use Rattle.hir_types.specs.Replacements.{replaced_param}
 use Rattle.hir_facts.specs.CarriedTypes.{carried_type_arg, carried_integer}
-use Rattle.hir_raw.specs.Types.{filled_within, written_type}
+use Rattle.hir_raw.specs.WrittenTypes.{filled_within, written_type}
 use Rattle.hir_raw.specs.Signatures.{fn_signature, type_args, at_args}
 use Rattle.infer_result.specs.declared.result.InferenceResult.{InferenceResult}
 use Rattle.infer_result.specs.declared.result.TypeMismatch.{TypeMismatch}
@@ -47,7 +47,7 @@ written = refl
 
 -- the type of the input and of the output at this type
 at_type : (s : Ty) → at_args (s ∷ []) (written_type types (w 0)) ≡ s
-at_type s = ap (at_args (s ∷ [])) written ∙ (replaced_param (with_params (type_args (s ∷ []))) 0 ∙ ap type_in (top_arg s))
+at_type s = ap (at_args (s ∷ [])) written ∙ (replaced_param (with_params (type_args (s ∷ []))) 0 ∙ ap arg_as_type (top_arg s))
 
 -- the types that the callee stands at, and the type of the call
 abbrev table_of : List Ty → Ty → List (Option TypeMismatch) → List (Option InferenceDiagnostic) → InferenceResult

@@ -18,7 +18,7 @@ use Rattle.hir_raw.specs.declared.schedule.Schedule.{Schedule}
 use Rattle.hir_types.specs.Erasure.{IsClosed}
 use Rattle.hir_facts.specs.CarriedTypes.{AreCarriedArgs, carried_fn_def, carried_bare}
 use Rattle.hir_raw.specs.Order.{argument, the_body, inner, IsSchedule, start, end, after, Fits, parts}
-use Rattle.hir_raw.specs.Types.{written_type}
+use Rattle.hir_raw.specs.WrittenTypes.{written_type}
 use Rattle.hir_raw.specs.Signatures.{Signature, fn_signature, signature_of, type_args, at_args}
 use Rattle.infer_result.specs.declared.result.InferenceResult.{InferenceResult}
 use Rattle.infer_result.specs.Table.{HasTy, WasSeen}

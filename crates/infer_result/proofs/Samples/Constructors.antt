@@ -32,7 +32,7 @@ use Rattle.hir_raw.specs.declared.schedule.Schedule.{Schedule}
 use Rattle.hir_types.specs.Erasure.{Same, erased, IsClosed}
 use Rattle.hir_types.specs.Instances.{param_at}
 use Rattle.hir_types.proofs.Layers.{has_hole_adt, has_hole_fn_def}
-use Rattle.hir_raw.specs.Types.{filled_within, written_type}
+use Rattle.hir_raw.specs.WrittenTypes.{filled_within, written_type}
 use Rattle.hir_raw.specs.Scope.{Scope}
 use Rattle.hir_raw.specs.Signatures.{Signature, type_args, at_args, own_adt, field_types, own_adt_at, signature_of}
 use Rattle.hir_raw.specs.Order.{subpattern, the_body, inner, IsSchedule, start, end, after, Fits, parts}
@@ -76,7 +76,7 @@ adt_of k params variants = record {
 }
 
 abbrev pub field : TypeRefId → RawField
-field t = record { name = codes "0"; ty = t; vis = visible.Pub }
+field t = record { name = codes "0"; type_ = t; vis = visible.Pub }
 
 -- a variant of that adt, with fields of these types
 abbrev pub variant_of : RawCtor → List TypeRefId → RawVariant

@@ -26,24 +26,24 @@ use Rattle.hir_raw.specs.declared.raw.RawBody.{RawBody}
 use Rattle.hir_raw.specs.declared.raw.RawFacts.{RawFacts}
 use Rattle.hir_raw.specs.declared.schedule.Schedule.{Schedule}
 use Rattle.hir_types.specs.Erasure.{erased, IsClosed}
-use Rattle.hir_types.specs.Folding.{replaced_int_var, replaced_tuple}
+use Rattle.hir_types.specs.Replacements.{replaced_int_var, replaced_tuple}
 use Rattle.hir_types.specs.Instances.{param_at}
 use Rattle.hir_types.proofs.Layers.{has_hole_integer}
 use Rattle.hir_types.specs.Subst.{Assignment, with_holes, folded}
 use Rattle.hir_types.specs.Types.{integer_type, unit}
-use Rattle.hir_raw.specs.Fit.{fits}
+use Rattle.hir_raw.specs.Fit.{ty_fits}
 use Rattle.hir_raw.specs.Fitting.{ty_fits_tuple}
 use Rattle.hir_raw.specs.Order.{let_pattern, the_body, inner, IsSchedule, start, end, after, Fits, parts}
 use Rattle.hir_plain.specs.PlainTypes.{plain_bool}
 use Rattle.hir_raw.specs.Scope.{Scope, scope_of}
 use Rattle.hir_raw.specs.Signatures.{fn_signature, at_args}
-use Rattle.hir_raw.specs.Types.{filled_within, written_type}
+use Rattle.hir_raw.specs.WrittenTypes.{filled_within, written_type}
 use Rattle.infer_result.specs.declared.result.General.{General}
 use Rattle.infer_result.specs.declared.result.InferenceResult.{InferenceResult}
 use Rattle.infer_result.specs.declared.modes.BindingMode.TheVariants as mode
 use Rattle.infer_result.specs.Closed.{IsBinder, NamesVariant, IsVariantPat, AllTypes}
 use Rattle.infer_result.specs.Derivation.{IsDerivation}
-use Rattle.infer_result.specs.Fallback.{fallback}
+use Rattle.hir_types.specs.Fallback.{fallback}
 use Rattle.infer_result.specs.General.{IsGeneralType, general_integer_hole, general_tuple, general_item, IsGeneralFor, HasTypesOf, IsPlainClosing, closed_by, IsGeneralOf}
 use Rattle.infer_result.specs.Places.{Given}
 use Rattle.infer_result.specs.Rules.{ObeysExpression, ObeysPattern}
@@ -234,7 +234,7 @@ integer_derives i = let s : Ty = integer_type i in record {
     bindings = λ v h. each_below (λ k. (u : Ty) × BindingTy (table_at s) (b k) u) 1 v.0 (tt, (s, refl)) h;
   };
   known = all_types IsKnown s (known_at s (known_integer i)) (known_integer i) (has_unknown_tuple []);
-  fit = all_types (λ u. IsTrue (fits facts f u)) s (fits_at scope s refl (fits_integer scope i)) (fits_integer scope i) (ty_fits_tuple scope []);
+  fit = all_types (λ u. IsTrue (ty_fits scope u)) s (fits_at scope s refl (fits_integer scope i)) (fits_integer scope i) (ty_fits_tuple scope []);
   clean = record {
     mismatches = each_entry (λ m. ⊥) (table_at s).expr_mismatches tt;
     diagnostics = each_entry (λ d. ⊥) (table_at s).expr_diagnostics tt;

@@ -19,7 +19,7 @@ use Rattle.hir_raw.specs.declared.raw.RawPat.TheVariants as pat
 use Rattle.hir_raw.specs.declared.raw.RawFn.{RawFn}
 use Rattle.hir_raw.specs.declared.raw.RawBody.{RawBody}
 use Rattle.hir_raw.specs.declared.raw.RawFacts.{RawFacts}
-use Rattle.hir_types.specs.Folding.{replaced_var, replaced_bool, replaced_tuple}
+use Rattle.hir_types.specs.Replacements.{replaced_var, replaced_bool, replaced_tuple}
 use Rattle.hir_types.specs.Subst.{Assignment, with_holes, folded}
 use Rattle.hir_types.specs.Types.{unit}
 use Rattle.hir_plain.specs.PlainTypes.{IsPlainIn, plain_bool}
@@ -27,7 +27,7 @@ use Rattle.hir_raw.specs.Scope.{Scope, scope_of}
 use Rattle.infer_result.specs.declared.result.General.{General}
 use Rattle.infer_result.specs.declared.result.InferenceResult.{InferenceResult}
 use Rattle.infer_result.specs.declared.modes.BindingMode.TheVariants as mode
-use Rattle.infer_result.specs.Fallback.{fallback}
+use Rattle.hir_types.specs.Fallback.{fallback}
 use Rattle.infer_result.specs.General.{IsGeneralType, general_hole, general_bool, general_tuple, general_item, IsGeneralFor, HasTypesOf, IsPlainClosing}
 use Rattle.infer_result.proofs.Samples.Small.{e, p, b, w, u8, plain, body_with, function_of, facts_with, only, u8_is_no_bool}
 use Rattle.infer_result.proofs.Samples.Calling.{function, item}

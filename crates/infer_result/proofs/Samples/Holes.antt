@@ -6,7 +6,7 @@ use Rattle.hir_types.specs.declared.ty.IntegerTy.TheVariants as integer
 use Rattle.hir_types.specs.declared.ty.Ty.{Ty, Ty-F, out-Ty}
 use Rattle.hir_types.specs.declared.ty.Ty.TheVariants as ty
 use Rattle.hir_types.specs.Erasure.{IsClosed}
-use Rattle.hir_types.specs.Folding.{replaced_fn_def}
+use Rattle.hir_types.specs.Replacements.{replaced_fn_def}
 use Rattle.hir_types.specs.Instances.{types_args_folded}
 use Rattle.hir_types.proofs.Layers.{has_hole_fn_def}
 use Rattle.hir_types.specs.Subst.{Assignment, with_holes, folded}

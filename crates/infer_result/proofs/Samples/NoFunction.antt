@@ -23,7 +23,7 @@ use Rattle.hir_raw.specs.declared.schedule.Schedule.{Schedule}
 use Rattle.hir_types.specs.Types.{unit}
 use Rattle.hir_types.specs.Erasure.{IsClosed}
 use Rattle.hir_types.specs.Subst.{Assignment, with_holes}
-use Rattle.hir_types.specs.Folding.{replaced_uint}
+use Rattle.hir_types.specs.Replacements.{replaced_uint}
 use Rattle.hir_raw.specs.Order.{the_body, inner, IsSchedule, start, end, after, Fits, parts}
 use Rattle.hir_raw.specs.Signatures.{fn_signature}
 use Rattle.infer_result.specs.declared.result.InferenceResult.{InferenceResult}

@@ -5,7 +5,7 @@ use Rattle.hir_types.specs.declared.ids.ExprOrPatId.TheVariants as node
 use Rattle.hir_types.specs.declared.ty.Const.TheVariants as const
 use Rattle.hir_types.specs.declared.ty.Ty.{Ty, Ty-F, out-Ty, out-roll-Ty}
 use Rattle.hir_types.specs.declared.ty.Ty.TheVariants as ty
-use Rattle.hir_types.specs.Folding.{replaced_bool, replaced_var}
+use Rattle.hir_types.specs.Replacements.{replaced_bool, replaced_var}
 use Rattle.hir_types.specs.Subst.{Assignment, with_holes, folded}
 use Rattle.hir_types.specs.Types.{unit}
 use Rattle.hir_raw.specs.declared.raw.RawBody.{RawBody}

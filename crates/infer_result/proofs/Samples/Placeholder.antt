@@ -19,7 +19,7 @@ use Rattle.hir_types.proofs.Layers.{has_hole_tuple}
 use Rattle.hir_facts.specs.CarriedTypes.{IsCarriedType, carried_bool, carried_integer, carried_tuple, same_carried}
 use Rattle.hir_facts.specs.Filled.{is_hole}
 use Rattle.hir_raw.specs.Order.{the_body, inner, IsSchedule, start, end, after, Fits, parts}
-use Rattle.hir_raw.specs.Types.{filled_within, StandsIn, is_itself, in_part}
+use Rattle.hir_raw.specs.WrittenTypes.{filled_within, StandsIn, is_itself, in_part}
 use Rattle.infer_result.specs.declared.result.InferenceResult.{InferenceResult}
 use Rattle.infer_result.specs.declared.modes.BindingMode.TheVariants as mode
 use Rattle.infer_result.specs.Closed.{IsBinder, NamesVariant, IsVariantPat}

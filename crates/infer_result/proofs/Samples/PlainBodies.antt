@@ -15,10 +15,10 @@ use Rattle.infer_result.proofs.Samples.GeneralInteger as integer
 use Rattle.infer_result.proofs.Samples.GeneralShared as shared
 
 -- each part of each node stands where it may
-abbrev AllStand : RawFacts → RawBody → Type 0
-AllStand raw b = AllNodes b (λ m. AllIn (λ q. IsTrue (stands_right raw b q)) (parts b m))
+abbrev AllStandRight : RawFacts → RawBody → Type 0
+AllStandRight raw b = AllNodes b (λ m. AllIn (λ q. IsTrue (stands_right raw b q)) (parts b m))
 
-each_stands : (raw : RawFacts) (b : RawBody) → AllStand raw b → (m : Node) (k : ℕ) (q : Part) → IsNode b m → part_at b m k ≡ Some q → IsTrue (stands_right raw b q)
+each_stands : (raw : RawFacts) (b : RawBody) → AllStandRight raw b → (m : Node) (k : ℕ) (q : Part) → IsNode b m → part_at b m k ≡ Some q → IsTrue (stands_right raw b q)
 each_stands raw b h m k q is found = each_in (λ r. IsTrue (stands_right raw b r)) (parts b m) (each_node b (λ n. AllIn (λ r. IsTrue (stands_right raw b r)) (parts b n)) h m is) k q found
 
 -- a written type without parts

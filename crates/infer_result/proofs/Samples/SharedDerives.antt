@@ -10,12 +10,12 @@ use Rattle.hir_types.specs.Erasure.{erased, IsClosed}
 use Rattle.hir_types.specs.Instances.{param_at}
 use Rattle.hir_types.specs.Subst.{Assignment}
 use Rattle.hir_types.specs.Types.{unit}
-use Rattle.hir_raw.specs.Fit.{fits}
+use Rattle.hir_raw.specs.Fit.{ty_fits}
 use Rattle.hir_raw.specs.Fitting.{ty_fits_tuple}
 use Rattle.hir_raw.specs.Order.{parameter as a_parameter, let_pattern, the_body, inner, IsSchedule, start, end, after, Fits, parts}
 use Rattle.hir_plain.specs.PlainTypes.{IsPlainIn, plain_bool}
 use Rattle.hir_raw.specs.Signatures.{fn_signature, at_args}
-use Rattle.hir_raw.specs.Types.{filled_within, written_type}
+use Rattle.hir_raw.specs.WrittenTypes.{filled_within, written_type}
 use Rattle.infer_result.specs.declared.result.InferenceResult.{InferenceResult}
 use Rattle.infer_result.specs.Closed.{IsBinder, NamesVariant, IsVariantPat, AllTypes}
 use Rattle.infer_result.specs.Derivation.{IsDerivation}
@@ -142,7 +142,7 @@ module _ (s : Ty) where
       bindings = λ v h. each_below (λ k. (u : Ty) × BindingTy table (b k) u) 2 v.0 ((tt, (ty.Bool, refl)), (s, refl)) h;
     };
     known = let own : IsKnown s = general_is_known scope s of_hole in all_types IsKnown has_unknown_bool (known_at s own) own (has_unknown_tuple []);
-    fit = all_types (λ u. IsTrue (fits facts f u)) (general_fits scope ty.Bool general_bool) (fits_at scope s refl (general_fits scope s of_hole)) (general_fits scope s of_hole) (ty_fits_tuple scope []);
+    fit = all_types (λ u. IsTrue (ty_fits scope u)) (general_fits scope ty.Bool general_bool) (fits_at scope s refl (general_fits scope s of_hole)) (general_fits scope s of_hole) (ty_fits_tuple scope []);
     clean = record {
       mismatches = each_entry (λ m. ⊥) table.expr_mismatches tt;
       diagnostics = each_entry (λ d. ⊥) table.expr_diagnostics tt;

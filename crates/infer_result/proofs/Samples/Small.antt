@@ -33,7 +33,7 @@ use Rattle.hir_raw.specs.declared.schedule.Schedule.{Schedule}
 use Rattle.hir_types.specs.Erasure.{IsClosed, Same}
 use Rattle.hir_types.proofs.Layers.{has_hole_tuple, has_hole_bool, has_hole_error, has_hole_integer}
 use Rattle.hir_facts.specs.CarriedTypes.{carried_bool, carried_integer, carried_tuple, same_carried}
-use Rattle.hir_raw.specs.Types.{written_type}
+use Rattle.hir_raw.specs.WrittenTypes.{written_type}
 use Rattle.hir_facts.specs.Filled.{is_hole}
 use Rattle.hir_raw.specs.Scope.{Scope}
 use Rattle.hir_raw.specs.Order.{Role, Part, expr_part, Node, the_body, inner, IsNode, IsSchedule, start, parts, part_at}

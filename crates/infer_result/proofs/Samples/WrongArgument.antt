@@ -14,8 +14,8 @@ use Rattle.hir_raw.specs.declared.raw.RawFn.{RawFn}
 use Rattle.hir_types.specs.Types.{unit}
 use Rattle.hir_types.specs.Erasure.{erased, IsClosed}
 use Rattle.hir_types.specs.Assigned.{with_params}
-use Rattle.hir_types.specs.Folding.{replaced_uint, replaced_tuple}
-use Rattle.hir_raw.specs.Types.{filled_within, written_type}
+use Rattle.hir_types.specs.Replacements.{replaced_uint, replaced_tuple}
+use Rattle.hir_raw.specs.WrittenTypes.{filled_within, written_type}
 use Rattle.hir_raw.specs.Order.{argument, inner}
 use Rattle.hir_raw.specs.Signatures.{fn_signature, at_args}
 use Rattle.infer_result.specs.declared.result.InferenceResult.{InferenceResult}

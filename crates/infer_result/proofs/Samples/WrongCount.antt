@@ -9,8 +9,8 @@ use Rattle.hir_raw.specs.declared.raw.RawFn.{RawFn}
 use Rattle.hir_types.specs.Types.{unit}
 use Rattle.hir_types.specs.Erasure.{IsClosed}
 use Rattle.hir_types.specs.Assigned.{with_params}
-use Rattle.hir_types.specs.Folding.{replaced_tuple}
-use Rattle.hir_raw.specs.Types.{filled_within, written_type}
+use Rattle.hir_types.specs.Replacements.{replaced_tuple}
+use Rattle.hir_raw.specs.WrittenTypes.{filled_within, written_type}
 use Rattle.hir_raw.specs.Signatures.{fn_signature, at_args}
 use Rattle.infer_result.specs.declared.result.InferenceResult.{InferenceResult}
 use Rattle.infer_result.specs.declared.result.TypeMismatch.{TypeMismatch}

@@ -23,8 +23,8 @@ use Rattle.hir_types.specs.Types.{unit}
 use Rattle.hir_types.specs.Erasure.{IsClosed}
 use Rattle.hir_types.proofs.Layers.{has_hole_adt}
 use Rattle.hir_types.specs.Assigned.{with_params}
-use Rattle.hir_types.specs.Folding.{replaced_uint}
-use Rattle.hir_raw.specs.Types.{filled_within, written_type}
+use Rattle.hir_types.specs.Replacements.{replaced_uint}
+use Rattle.hir_raw.specs.WrittenTypes.{filled_within, written_type}
 use Rattle.hir_raw.specs.Signatures.{at_args}
 use Rattle.hir_raw.specs.Order.{subpattern, the_body, inner, IsSchedule, start, end, after, Fits, parts}
 use Rattle.infer_result.specs.declared.result.InferenceResult.{InferenceResult}

@@ -14,7 +14,7 @@ use Rattle.hir_raw.specs.declared.raw.RawPat.TheVariants as pat
 use Rattle.hir_raw.specs.declared.raw.RawBody.{RawBody}
 use Rattle.hir_raw.specs.declared.schedule.Schedule.{Schedule}
 use Rattle.hir_types.specs.Types.{unit}
-use Rattle.hir_raw.specs.Types.{filled_within, written_type}
+use Rattle.hir_raw.specs.WrittenTypes.{filled_within, written_type}
 use Rattle.hir_types.specs.Erasure.{erased, IsClosed}
 use Rattle.hir_raw.specs.Order.{arm_pattern, guard, pattern_literal, the_body, inner, IsSchedule, start, end, after, Fits, parts}
 use Rattle.infer_result.specs.declared.result.InferenceResult.{InferenceResult}

@@ -15,7 +15,7 @@ use Rattle.hir_raw.specs.declared.raw.RawBody.{RawBody}
 use Rattle.hir_raw.specs.declared.schedule.Schedule.{Schedule}
 use Rattle.hir_types.specs.Types.{unit}
 use Rattle.hir_facts.specs.CarriedTypes.{IsCarriedType, carried_integer, carried_error, carried_tuple, same_carried}
-use Rattle.hir_raw.specs.Types.{filled_within, written_type}
+use Rattle.hir_raw.specs.WrittenTypes.{filled_within, written_type}
 use Rattle.hir_types.specs.Erasure.{Same, IsClosed}
 use Rattle.hir_types.proofs.Layers.{has_hole_tuple}
 use Rattle.hir_raw.specs.Order.{let_pattern, subpattern, the_body, inner, IsSchedule, start, end, after, Fits, parts}

@@ -19,15 +19,15 @@ IsBefore then_branch else_branch = Unit {0}
 IsBefore (arm i) (arm j) = i < j
 IsBefore _ _ = ⊥
 
--- an alternative of the node n before that in this role has the type s
-pub record IsOfOther (b : RawBody) (t : InferenceResult) (n : ExprId) (role : Role) (s : Ty) : Type 0 where
+-- an alternative of the node n before that in this role has the type t
+pub record IsOfOther (b : RawBody) (r : InferenceResult) (n : ExprId) (role : Role) (t : Ty) : Type 0 where
   pub other : Role
   pub expr : ExprId
   pub at_part : ℕ
   pub stands : part_at b (inner (node.ExprId n)) at_part ≡ Some (expr_part other expr)
   pub is_before : IsBefore other role
-  pub has : HasTy t expr s
+  pub has : HasTy r expr t
 
 -- an alternative is to have the type of the node, or that of an earlier alternative
 abbrev pub AsksOfAlternative : Given → InferenceResult → ExprId → Role → Ty → Type 0
-AsksOfAlternative g t n role s = HasTy t n s ⊎ IsOfOther g.body t n role s
+AsksOfAlternative g r n role t = HasTy r n t ⊎ IsOfOther g.body r n role t

@@ -21,42 +21,42 @@ use Rattle.infer_result.specs.Placing.{Placing}
 -- The initializer at the written type and the pattern at that, where it is recorded what each `_` in it
 -- stands for; without one the pattern at the initializer's type.
 abbrev pub LetRule : Placing → Given → InferenceResult → PatId → Option TypeRefId → Option ExprId → Type 0
-LetRule P g t p (Some w) (Some e) = AreRecorded g t w × P.at e (declared g t w) × P.pattern p (declared g t w)
-LetRule P g t p (Some w) None = AreRecorded g t w × P.pattern p (declared g t w)
-LetRule P g t p None (Some e) = (s : Ty) × HasTy t e s × P.pattern p s
-LetRule P g t p None None = Unit {0}
+LetRule P g r p (Some w) (Some e) = AreRecorded g r w × P.at e (declared g r w) × P.pattern p (declared g r w)
+LetRule P g r p (Some w) None = AreRecorded g r w × P.pattern p (declared g r w)
+LetRule P g r p None (Some e) = (t : Ty) × HasTy r e t × P.pattern p t
+LetRule P g r p None None = Unit {0}
 
 -- an expression without semicolon is at `()`
 abbrev pub StmtRule : Placing → Given → InferenceResult → RawStmt → Type 0
-StmtRule P g t (stmt.Let p w init other) = LetRule P g t p w init
-StmtRule P g t (stmt.Expr e true) = Unit {0}
-StmtRule P g t (stmt.Expr e false) = P.at e unit
+StmtRule P g r (stmt.Let p w init other) = LetRule P g r p w init
+StmtRule P g r (stmt.Expr e true) = Unit {0}
+StmtRule P g r (stmt.Expr e false) = P.at e unit
 
 abbrev pub StmtsRule : Placing → Given → InferenceResult → List RawStmt → Type 0
-StmtsRule P g t [] = Unit {0}
-StmtsRule P g t (s ∷ ss) = StmtRule P g t s × StmtsRule P g t ss
+StmtsRule P g r [] = Unit {0}
+StmtsRule P g r (s ∷ ss) = StmtRule P g r s × StmtsRule P g r ss
 
 -- a block without tail is `()`
 abbrev pub TailRule : Placing → ExprId → Option ExprId → Ty → Type 0
-TailRule P n None s = P.no_tail n s
-TailRule P n (Some e) s = P.at e s
+TailRule P n None t = P.no_tail n t
+TailRule P n (Some e) t = P.at e t
 
 -- the statements obey, and the tail is at the block's type
-pub record BlockRule (P : Placing) (g : Given) (t : InferenceResult) (n : ExprId) (stmts : List RawStmt) (last : Option ExprId) : Type 0 where
-  pub statements : StmtsRule P g t stmts
+pub record BlockRule (P : Placing) (g : Given) (r : InferenceResult) (n : ExprId) (stmts : List RawStmt) (last : Option ExprId) : Type 0 where
+  pub statements : StmtsRule P g r stmts
   pub type : Ty
-  pub has : HasTy t n type
+  pub has : HasTy r n type
   pub ends : TailRule P n last type
 
 -- ---- what excuses it
 
 abbrev pub StmtHasMismatch : InferenceResult → RawStmt → Type 0
-StmtHasMismatch t (stmt.Let p w init other) = MaybeMismatch t init
-StmtHasMismatch t (stmt.Expr e semicolon) = HasMismatch t e
+StmtHasMismatch r (stmt.Let p w init other) = MaybeMismatch r init
+StmtHasMismatch r (stmt.Expr e semicolon) = HasMismatch r e
 
 abbrev pub StmtsHaveMismatch : InferenceResult → List RawStmt → Type 0
-StmtsHaveMismatch t [] = ⊥
-StmtsHaveMismatch t (s ∷ ss) = StmtHasMismatch t s ⊎ StmtsHaveMismatch t ss
+StmtsHaveMismatch r [] = ⊥
+StmtsHaveMismatch r (s ∷ ss) = StmtHasMismatch r s ⊎ StmtsHaveMismatch r ss
 
 -- ---- what its complaints say
 

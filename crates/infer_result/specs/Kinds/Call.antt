@@ -26,9 +26,9 @@ use Rattle.infer_result.specs.Unknown.{IsKnown}
 -- ---- its rule
 
 -- what is called is an item of this signature, at these types as arguments
-pub record IsCallee (g : Given) (t : InferenceResult) (callee : ExprId) (σ : Signature) (ts : List Ty) : Type 0 where
+pub record IsCallee (g : Given) (r : InferenceResult) (callee : ExprId) (σ : Signature) (ts : List Ty) : Type 0 where
   pub item : CallableDefId
-  pub has : HasTy t callee (ty.FnDef item (type_args ts))
+  pub has : HasTy r callee (ty.FnDef item (type_args ts))
   pub signature : signature_of g.scope.facts item ≡ Some σ
 
 -- the arguments at the inputs, or there is another number of them, which is said at the call
@@ -37,28 +37,28 @@ ArgsRule P n args ss = AllAt P.element args ss ⊎ P.wrong_count n (length ss) (
 
 -- what is called is an item, the arguments are at its inputs, and the call is at its output, at the arguments
 -- of the item
-pub record ItemCallRule (P : Placing) (g : Given) (t : InferenceResult) (n callee : ExprId) (args : List ExprId) : Type 0 where
+pub record ItemCallRule (P : Placing) (g : Given) (r : InferenceResult) (n callee : ExprId) (args : List ExprId) : Type 0 where
   pub signature : Signature
   pub types : List Ty
-  pub is_callee : IsCallee g t callee signature types
+  pub is_callee : IsCallee g r callee signature types
   pub arguments : ArgsRule P n args (map (at_args types) signature.inputs)
-  pub has : HasTy t n (at_args types signature.output)
+  pub has : HasTy r n (at_args types signature.output)
 
 -- or it is no function: then the call has any type, and nothing is asked of its arguments
 abbrev pub CallRule : Placing → Given → InferenceResult → ExprId → ExprId → List ExprId → Type 0
-CallRule P g t n callee args = ItemCallRule P g t n callee args ⊎ (P.no_callee n × ((s : Ty) × HasTy t n s))
+CallRule P g r n callee args = ItemCallRule P g r n callee args ⊎ (P.no_callee n × ((t : Ty) × HasTy r n t))
 
 -- ---- what it asks of its arguments
 
 -- the node is a call of an item, and its input at this position has this type, at the arguments of the item
-pub record IsInputAt (g : Given) (t : InferenceResult) (n : ExprId) (i : ℕ) (s : Ty) : Type 0 where
+pub record IsInputAt (g : Given) (r : InferenceResult) (n : ExprId) (i : ℕ) (t : Ty) : Type 0 where
   pub called : ExprId
   pub args : List ExprId
   pub is_call : slice_get g.body.exprs n.0 ≡ Some (expr.Call called args)
   pub signature : Signature
   pub types : List Ty
-  pub is_callee : IsCallee g t called signature types
-  pub input : slice_get (map (at_args types) signature.inputs) i ≡ Some s
+  pub is_callee : IsCallee g r called signature types
+  pub input : slice_get (map (at_args types) signature.inputs) i ≡ Some t
 
 -- ---- the type and the head that it has by itself, and what is written of its arguments
 
@@ -75,14 +75,14 @@ pub record CallsNonGeneric (g : Given) (e : ExprId) (σ : Signature) : Type 0 wh
   pub signature : signature_of g.scope.facts item ≡ Some σ
   pub non_generic : σ.params ≡ 0
 
--- the node is a call of a function or a constructor without generic parameters, and s is the written type of
+-- the node is a call of a function or a constructor without generic parameters, and t is the written type of
 -- the input at this position
-pub record IsWrittenInput (g : Given) (n : Node) (i : ℕ) (s : Ty) : Type 0 where
+pub record IsWrittenInput (g : Given) (n : Node) (i : ℕ) (t : Ty) : Type 0 where
   pub call : ExprId
   pub is_node : n ≡ inner (node.ExprId call)
   pub signature : Signature
   pub calls : CallsNonGeneric g call signature
-  pub is_input : slice_get (map (at_args []) signature.inputs) i ≡ Some s
+  pub is_input : slice_get (map (at_args []) signature.inputs) i ≡ Some t
 
 -- e is a call, by a path to it, of a function or a constructor of this signature
 pub record CallsItem (g : Given) (e : ExprId) (σ : Signature) : Type 0 where
@@ -98,25 +98,25 @@ pub record CallsItem (g : Given) (e : ExprId) (σ : Signature) : Type 0 where
 -- ---- what its complaints say
 
 -- The node is a call of an item with so many inputs, has so many arguments, and these numbers differ.
-pub record IsWrongCount (g : Given) (t : InferenceResult) (e : ExprId) (expected found : ℕ) : Type 0 where
+pub record IsWrongCount (g : Given) (r : InferenceResult) (e : ExprId) (expected found : ℕ) : Type 0 where
   pub called : ExprId
   pub args : List ExprId
   pub is_call : slice_get g.body.exprs e.0 ≡ Some (expr.Call called args)
   pub signature : Signature
   pub types : List Ty
-  pub is_callee : IsCallee g t called signature types
+  pub is_callee : IsCallee g r called signature types
   pub is_expected : expected ≡ length signature.inputs
   pub is_found : found ≡ length args
   pub differ : expected ≡ found → ⊥
 
--- The node is a call, s is the recorded type of what it calls, and that was seen to be no function.
-pub record IsNoFunction (g : Given) (t : InferenceResult) (e : ExprId) (s : Ty) : Type 0 where
+-- The node is a call, t is the recorded type of what it calls, and that was seen to be no function.
+pub record IsNoFunction (g : Given) (r : InferenceResult) (e : ExprId) (t : Ty) : Type 0 where
   pub called : ExprId
   pub args : List ExprId
   pub is_call : slice_get g.body.exprs e.0 ≡ Some (expr.Call called args)
-  pub has : HasTy t called s
-  pub seen : WasSeen t e
-  pub known : IsKnown s
+  pub has : HasTy r called t
+  pub seen : WasSeen r e
+  pub known : IsKnown t
 
 -- function items, function pointers and closures can be called; of a hole that is not known
 abbrev pub callable_step : Ty-F GenericArg Ty AliasBound TraitRef → Bool
@@ -160,7 +160,7 @@ IsPathToItem g e = (p : RawPath) × (slice_get g.body.exprs e.0 ≡ Some (expr.P
 
 -- Where `{unknown}` is not in the recorded type of what is called, the complaint stands at the call.
 abbrev pub IsSaid : Given → InferenceResult → Seen → Type 0
-IsSaid g t x =
-    (call called : ExprId) (args : List ExprId) (s : Ty) → x.node ≡ node.ExprId call
-    → slice_get g.body.exprs call.0 ≡ Some (expr.Call called args) → HasTy t called s → IsKnown s
-    → HasDiagnostic t call (diagnostic.ExpectedFunction call s)
+IsSaid g r x =
+    (call called : ExprId) (args : List ExprId) (t : Ty) → x.node ≡ node.ExprId call
+    → slice_get g.body.exprs call.0 ≡ Some (expr.Call called args) → HasTy r called t → IsKnown t
+    → HasDiagnostic r call (diagnostic.ExpectedFunction call t)

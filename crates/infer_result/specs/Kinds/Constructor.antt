@@ -21,9 +21,9 @@ adt_at x ts = ty.Adt x.adt (type_args ts)
 abbrev pub fields_at : Given → RawVariant → List Ty → List Ty
 fields_at g x ts = map (at_args ts) (field_types g.scope.facts.types x)
 
--- s is the type of a path to the constructor, at some types
-pub record IsCtorPath (g : Given) (v : VariantId) (s : Ty) : Type 0 where
+-- t is the type of a path to the constructor, at some types
+pub record IsCtorPath (g : Given) (v : VariantId) (t : Ty) : Type 0 where
   pub variant : RawVariant
   pub types : List Ty
   pub is_variant : IsVariantAt g v variant types
-  pub is : s ≡ ctor_type variant v types
+  pub is : t ≡ ctor_type variant v types

@@ -20,25 +20,25 @@ branches_of n first None = n ∷ first ∷ []
 
 -- the `else` at the type of the `if`; without one that is `()`
 abbrev pub ElseRule : Placing → ExprId → ExprId → Option ExprId → Ty → Type 0
-ElseRule P n first (Some other) s = P.alternative (branches_of n first (Some other)) other s
-ElseRule P n first None s = P.no_else (branches_of n first None) s
+ElseRule P n first (Some other) t = P.alternative (branches_of n first (Some other)) other t
+ElseRule P n first None t = P.no_else (branches_of n first None) t
 
 -- the condition at `bool`, the branches at the type of the `if`
-pub record IfRule (P : Placing) (t : InferenceResult) (n c first : ExprId) (other : Option ExprId) : Type 0 where
+pub record IfRule (P : Placing) (r : InferenceResult) (n c first : ExprId) (other : Option ExprId) : Type 0 where
   pub condition : P.at c ty.Bool
   pub type : Ty
-  pub has : HasTy t n type
+  pub has : HasTy r n type
   pub branch : P.alternative (branches_of n first other) first type
   pub otherwise : ElseRule P n first other type
 
 -- ---- what is asked of one without `else`
 
 -- the expression is an `if` without `else`, and its branch has this type
-pub record IsOfBranch (b : RawBody) (t : InferenceResult) (e : ExprId) (s : Ty) : Type 0 where
+pub record IsOfBranch (b : RawBody) (r : InferenceResult) (e : ExprId) (t : Ty) : Type 0 where
   pub condition : ExprId
   pub branch : ExprId
   pub is_if : slice_get b.exprs e.0 ≡ Some (expr.If condition branch None)
-  pub has : HasTy t branch s
+  pub has : HasTy r branch t
 
 -- ---- what its complaints say
 

@@ -11,17 +11,17 @@ use Rattle.hir_raw.specs.declared.raw.RawLiteral.TheVariants as literal
 
 -- an integer without a suffix may have any integer type
 abbrev pub IsLiteralType : RawLiteral → Ty → Type 0
-IsLiteralType (literal.Bool b) s = s ≡ ty.Bool
-IsLiteralType (literal.Char c) s = s ≡ ty.Char
-IsLiteralType (literal.Int digits (Some suffix)) s = s ≡ integer_type suffix
-IsLiteralType (literal.Int digits None) s = (i : IntegerTy) × (s ≡ integer_type i)
-IsLiteralType literal.Other s = ⊥
+IsLiteralType (literal.Bool b) t = t ≡ ty.Bool
+IsLiteralType (literal.Char c) t = t ≡ ty.Char
+IsLiteralType (literal.Int digits (Some suffix)) t = t ≡ integer_type suffix
+IsLiteralType (literal.Int digits None) t = (i : IntegerTy) × (t ≡ integer_type i)
+IsLiteralType literal.Other t = ⊥
 
 -- ---- the type that it has by itself
 
 -- the literal's type is said by itself
 abbrev pub IsOwnType : RawLiteral → Ty → Type 0
-IsOwnType (literal.Bool b) s = s ≡ ty.Bool
-IsOwnType (literal.Char c) s = s ≡ ty.Char
-IsOwnType (literal.Int digits (Some suffix)) s = s ≡ integer_type suffix
-IsOwnType _ s = ⊥
+IsOwnType (literal.Bool b) t = t ≡ ty.Bool
+IsOwnType (literal.Char c) t = t ≡ ty.Char
+IsOwnType (literal.Int digits (Some suffix)) t = t ≡ integer_type suffix
+IsOwnType _ t = ⊥

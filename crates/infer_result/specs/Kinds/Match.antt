@@ -18,8 +18,8 @@ arm_exprs (a ∷ as_) = a.expr ∷ arm_exprs as_
 
 -- each pattern at the type of the scrutinee
 abbrev pub ArmPatterns : Placing → List RawArm → Ty → Type 0
-ArmPatterns P [] s = Unit {0}
-ArmPatterns P (a ∷ as_) s = P.pattern a.pat s × ArmPatterns P as_ s
+ArmPatterns P [] t = Unit {0}
+ArmPatterns P (a ∷ as_) t = P.pattern a.pat t × ArmPatterns P as_ t
 
 -- a guard at `bool`
 abbrev pub GuardRule : Placing → Option ExprId → Type 0
@@ -28,20 +28,20 @@ GuardRule P (Some e) = P.at e ty.Bool
 
 -- each guard at `bool`, and each arm at the type of the `match`, which these expressions give
 abbrev pub ArmsRule : Placing → List ExprId → List RawArm → Ty → Type 0
-ArmsRule P es [] s = Unit {0}
-ArmsRule P es (a ∷ as_) s = (GuardRule P a.guard × P.alternative es a.expr s) × ArmsRule P es as_ s
+ArmsRule P es [] t = Unit {0}
+ArmsRule P es (a ∷ as_) t = (GuardRule P a.guard × P.alternative es a.expr t) × ArmsRule P es as_ t
 
 -- the patterns at the type of the scrutinee, the arms at the type of the `match`
-pub record MatchRule (P : Placing) (t : InferenceResult) (n e : ExprId) (arms : List RawArm) : Type 0 where
+pub record MatchRule (P : Placing) (r : InferenceResult) (n e : ExprId) (arms : List RawArm) : Type 0 where
   pub scrutinee : Ty
-  pub comes : HasTy t e scrutinee
+  pub comes : HasTy r e scrutinee
   pub patterns : ArmPatterns P arms scrutinee
   pub type : Ty
-  pub has : HasTy t n type
+  pub has : HasTy r n type
   pub alternatives : ArmsRule P (arm_exprs arms) arms type
 
 -- ---- what excuses it
 
 abbrev pub GuardsHaveMismatch : InferenceResult → List RawArm → Type 0
-GuardsHaveMismatch t [] = ⊥
-GuardsHaveMismatch t (a ∷ as_) = MaybeMismatch t a.guard ⊎ GuardsHaveMismatch t as_
+GuardsHaveMismatch r [] = ⊥
+GuardsHaveMismatch r (a ∷ as_) = MaybeMismatch r a.guard ⊎ GuardsHaveMismatch r as_

@@ -31,12 +31,12 @@ use Rattle.infer_result.specs.Kinds.Constructor.{IsCtorPath}
 -- a function stands at as many types as it has parameters, a constructor at as many as its adt has; which
 -- variant it is of is recorded
 abbrev pub PathRule : Given → InferenceResult → ExprId → RawPath → Type 0
-PathRule g t e (path.Local v) = (s : Ty) × HasTy t e s × BindingTy t v s
-PathRule g t e (path.Function f) =
-    (ts : List Ty) × HasTy t e (ty.FnDef (callable.FunctionId f) (type_args ts))
+PathRule g r e (path.Local v) = (t : Ty) × HasTy r e t × BindingTy r v t
+PathRule g r e (path.Function f) =
+    (ts : List Ty) × HasTy r e (ty.FnDef (callable.FunctionId f) (type_args ts))
     × (fn_params g.scope.facts f.0 ≡ Some (length ts))
-PathRule g t e (path.Ctor v) = (s : Ty) × HasTy t e s × IsCtorPath g v s × ExprVariant t e v
-PathRule g t e path.Other = ⊥
+PathRule g r e (path.Ctor v) = (t : Ty) × HasTy r e t × IsCtorPath g v t × ExprVariant r e v
+PathRule g r e path.Other = ⊥
 
 -- ---- the type that it has by itself
 

@@ -17,4 +17,4 @@ AllAt At (e ∷ es) [] = ⊥
 AllAt At (e ∷ es) (s ∷ ss) = At e s × AllAt At es ss
 
 abbrev pub TupleRule : (ExprId → Ty → Type 0) → InferenceResult → ExprId → List ExprId → Type 0
-TupleRule At t e es = (ss : List Ty) × HasTy t e (ty.Tuple ss) × AllAt At es ss
+TupleRule At r e es = (ss : List Ty) × HasTy r e (ty.Tuple ss) × AllAt At es ss

@@ -19,40 +19,40 @@ use Rattle.infer_result.specs.Kinds.Constructor.{IsCtorPath, IsVariantAt, adt_at
 
 -- each of these at its type, as far as there are both
 abbrev pub PatsAtFields : Given → InferenceResult → List PatId → List Ty → Type 0
-PatsAtFields g t [] ss = Unit {0}
-PatsAtFields g t (p ∷ ps) [] = Unit {0}
-PatsAtFields g t (p ∷ ps) (s ∷ ss) = PatIsAtOrMismatch g t p s × PatsAtFields g t ps ss
+PatsAtFields g r [] ss = Unit {0}
+PatsAtFields g r (p ∷ ps) [] = Unit {0}
+PatsAtFields g r (p ∷ ps) (s ∷ ss) = PatIsAtOrMismatch g r p s × PatsAtFields g r ps ss
 
 -- The pattern has the type of the constructor's adt, its parts are at the types of the fields, of which there
 -- are as many, or that there are not is said. Which variant it is of is recorded.
-pub record CtorPatRule (g : Given) (t : InferenceResult) (p : PatId) (v : VariantId) (ps : List PatId) : Type 0 where
+pub record CtorPatRule (g : Given) (r : InferenceResult) (p : PatId) (v : VariantId) (ps : List PatId) : Type 0 where
   pub variant : RawVariant
   pub types : List Ty
   pub is_variant : IsVariantAt g v variant types
-  pub has : PatTy t p (adt_at variant types)
-  pub parts : PatsAtFields g t ps (fields_at g variant types)
+  pub has : PatTy r p (adt_at variant types)
+  pub parts : PatsAtFields g r ps (fields_at g variant types)
   pub counted : (length variant.fields ≡ length ps)
-      ⊎ HasPatDiagnostic t p (diagnostic.MismatchedTupleStructPatArgCount (node.PatId p) (length variant.fields) (length ps))
-  pub resolved : PatVariant t p v
+      ⊎ HasPatDiagnostic r p (diagnostic.MismatchedTupleStructPatArgCount (node.PatId p) (length variant.fields) (length ps))
+  pub resolved : PatVariant r p v
 
 -- a pattern that is a path has the type of the constructor that it names
 abbrev pub PathPatRule : Given → InferenceResult → PatId → RawPath → Type 0
-PathPatRule g t p (path.Ctor v) = (s : Ty) × PatTy t p s × IsCtorPath g v s × PatVariant t p v
-PathPatRule g t p _ = ⊥
+PathPatRule g r p (path.Ctor v) = (t : Ty) × PatTy r p t × IsCtorPath g v t × PatVariant r p v
+PathPatRule g r p _ = ⊥
 
 -- ---- what it gives its parts
 
--- the pattern is a constructor over patterns, and s is the type of its field at this position where the
+-- the pattern is a constructor over patterns, and t is the type of its field at this position where the
 -- pattern's own type is its adt
-pub record GivesField (g : Given) (t : InferenceResult) (p : PatId) (i : ℕ) (s : Ty) : Type 0 where
+pub record GivesField (g : Given) (r : InferenceResult) (p : PatId) (i : ℕ) (t : Ty) : Type 0 where
   pub named : VariantId
   pub parts : List PatId
   pub is_pat : slice_get g.body.pats p.0 ≡ Some (pat.TupleStruct named parts)
   pub variant : RawVariant
   pub types : List Ty
   pub is_variant : IsVariantAt g named variant types
-  pub has : PatTy t p (adt_at variant types)
-  pub field : slice_get (fields_at g variant types) i ≡ Some s
+  pub has : PatTy r p (adt_at variant types)
+  pub field : slice_get (fields_at g variant types) i ≡ Some t
 
 -- ---- what its complaints say
 

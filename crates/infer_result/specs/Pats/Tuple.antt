@@ -11,15 +11,15 @@ use Rattle.infer_result.specs.Places.{Given, PatIsAtOrMismatch}
 
 -- each of these at its type, of which there are as many
 abbrev pub AllPatsAt : Given → InferenceResult → List PatId → List Ty → Type 0
-AllPatsAt g t [] [] = Unit {0}
-AllPatsAt g t [] (s ∷ ss) = ⊥
-AllPatsAt g t (p ∷ ps) [] = ⊥
-AllPatsAt g t (p ∷ ps) (s ∷ ss) = PatIsAtOrMismatch g t p s × AllPatsAt g t ps ss
+AllPatsAt g r [] [] = Unit {0}
+AllPatsAt g r [] (s ∷ ss) = ⊥
+AllPatsAt g r (p ∷ ps) [] = ⊥
+AllPatsAt g r (p ∷ ps) (s ∷ ss) = PatIsAtOrMismatch g r p s × AllPatsAt g r ps ss
 
 -- ---- what it gives its parts
 
 -- the component of the pattern's own type at this position
-pub record GivesComponent (t : InferenceResult) (p : PatId) (i : ℕ) (s : Ty) : Type 0 where
+pub record GivesComponent (r : InferenceResult) (p : PatId) (i : ℕ) (t : Ty) : Type 0 where
   pub types : List Ty
-  pub has : PatTy t p (ty.Tuple types)
-  pub component : slice_get types i ≡ Some s
+  pub has : PatTy r p (ty.Tuple types)
+  pub component : slice_get types i ≡ Some t

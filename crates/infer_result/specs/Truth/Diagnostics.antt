@@ -12,10 +12,10 @@ use Rattle.infer_result.specs.Pats.Constructor.{IsWrongFieldCount}
 
 -- the complaint at e is about e, and what it says is so
 abbrev pub IsTrueDiagnostic : Given → InferenceResult → ExprId → InferenceDiagnostic → Type 0
-IsTrueDiagnostic g t e (diagnostic.MismatchedArgCount n expected found) =
-    (n ≡ e) × IsWrongCount g t e expected found
-IsTrueDiagnostic g t e (diagnostic.MismatchedTupleStructPatArgCount n expected found) = ⊥
-IsTrueDiagnostic g t e (diagnostic.ExpectedFunction n s) = (n ≡ e) × IsNoFunction g t e s
+IsTrueDiagnostic g r e (diagnostic.MismatchedArgCount n expected found) =
+    (n ≡ e) × IsWrongCount g r e expected found
+IsTrueDiagnostic g r e (diagnostic.MismatchedTupleStructPatArgCount n expected found) = ⊥
+IsTrueDiagnostic g r e (diagnostic.ExpectedFunction n s) = (n ≡ e) × IsNoFunction g r e s
 
 -- the complaint at p is about p, and what it says is so
 abbrev pub IsTruePatDiagnostic : Given → PatId → InferenceDiagnostic → Type 0

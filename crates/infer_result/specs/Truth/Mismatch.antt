@@ -24,16 +24,16 @@ EndsInUnit b e = IsBlockWithoutTail b e ⊎ IsIfWithoutElse b e
 
 -- the actual type is the expression's, or `()` at a block without tail or an `if` without `else`
 abbrev pub IsActual : Given → InferenceResult → ExprId → Ty → Type 0
-IsActual g t e s = HasTy t e s ⊎ (EndsInUnit g.body e × (s ≡ unit))
+IsActual g r e t = HasTy r e t ⊎ (EndsInUnit g.body e × (t ≡ unit))
 
 -- The two types differ; the first is what the place asks for, the second what stands there; and
 -- where the node has a type by itself and another is written at its place, no coercion leads from
 -- the one to the other.
-pub record IsTrueMismatch (g : Given) (t : InferenceResult) (e : ExprId) (x : TypeMismatch) : Type 0 where
+pub record IsTrueMismatch (g : Given) (r : InferenceResult) (e : ExprId) (x : TypeMismatch) : Type 0 where
   pub differ : Same x.expected x.actual → ⊥
-  pub actual : IsActual g t e x.actual
-  pub demand : Demand g t e x.expected
-  pub no_coercion : (u s : Ty) → Up g e u → Stated g e s → Leads u s → ⊥
+  pub actual : IsActual g r e x.actual
+  pub demand : Demand g r e x.expected
+  pub no_coercion : (u t : Ty) → Up g e u → Stated g e t → Leads u t → ⊥
 
 -- The pattern has a type of its own beside the one that comes in: a tuple, and a constructor. The mismatch of
 -- a literal pattern stands at its literal.
@@ -45,8 +45,8 @@ SaysItsType _ = ⊥
 
 -- The pattern is one that may have a mismatch; the two types differ; the first is what comes into the
 -- pattern, the second its own.
-pub record IsTruePatMismatch (g : Given) (t : InferenceResult) (p : PatId) (x : TypeMismatch) : Type 0 where
+pub record IsTruePatMismatch (g : Given) (r : InferenceResult) (p : PatId) (x : TypeMismatch) : Type 0 where
   pub says : SaysItsType (slice_get g.body.pats p.0)
   pub differ : Same x.expected x.actual → ⊥
-  pub actual : PatTy t p x.actual
-  pub incoming : Incoming g t p x.expected
+  pub actual : PatTy r p x.actual
+  pub incoming : Incoming g r p x.expected

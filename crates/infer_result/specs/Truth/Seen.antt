@@ -24,7 +24,7 @@ pub record IsInstance (general special : Ty) : Type 0 where
 -- The entry is about a call. Of what that calls, the type was known so far as the entry says: what is
 -- recorded is an instance of it, it is the type that the callee has by itself, or has its head. As far as it
 -- was known it cannot be called, and the callee is no path to a function or a tuple constructor.
-pub record IsTrueSeen (g : Given) (t : InferenceResult) (x : Seen) : Type 0 where
+pub record IsTrueSeen (g : Given) (r : InferenceResult) (x : Seen) : Type 0 where
   pub call : ExprId
   pub called : ExprId
   pub args : List ExprId
@@ -32,9 +32,9 @@ pub record IsTrueSeen (g : Given) (t : InferenceResult) (x : Seen) : Type 0 wher
   pub is_call : slice_get g.body.exprs call.0 ≡ Some (expr.Call called args)
   pub alone : x.other ≡ None
   pub type : Ty
-  pub has : HasTy t called type
+  pub has : HasTy r called type
   pub instance : IsInstance x.ty type
   pub not_callable : is_callable x.ty ≡ false
   pub no_item : IsPathToItem g called → ⊥
-  pub upward : (s : Ty) → Up g called s → x.ty ≡ s
+  pub upward : (t : Ty) → Up g called t → x.ty ≡ t
   pub head : (h : Outermost) → HeadOf g called h → HasHead x.ty h

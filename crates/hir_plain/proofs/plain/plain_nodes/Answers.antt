@@ -1,4 +1,5 @@
 use Rattle.std.proofs.Common.{◌≡◌, ◌∙◌, sym, subst, ℕ, List, Bool}
+use Rattle.std.proofs.lemmas.Result.{IfOk-weaker}
 use Rattle.hir_raw.specs.Graph.{KidsFit}
 use Rattle.hir_plain.specs.Spread.{AreGood}
 use Rattle.hir_plain.specs.PlainMarks.{fine_nodes}
@@ -14,5 +15,6 @@ good_nodes-requires-clause-fit c = subst (λ (kids : List (List ℕ)). KidsFit k
 pub returns : goal.returns
 returns c =
     let fine : c.deref.result.now ≡ fine_nodes c.args.raw.now = c.deref.ensures.value ∙ c.in_ok-fine.ensures in
-    let here : AreGood c.in_ok-kids.kids (fine_nodes c.args.raw.now) c.in_ok-good.good.items = subst (λ (f : List Bool). AreGood c.in_ok-kids.kids f c.in_ok-good.good.items) fine c.in_ok-good.ensures in
-    plain_nodes c.args.raw.now c.requires c.in_ok-good.good.items (subst (λ (kids : List (List ℕ)). AreGood kids (fine_nodes c.args.raw.now) c.in_ok-good.good.items) c.in_ok-kids.ensures here)
+    IfOk-weaker c.good_nodes.result _ _ (λ v good. plain_nodes c.args.raw.now c.requires v.items
+    (subst (λ (kids : List (List ℕ)). AreGood kids (fine_nodes c.args.raw.now) v.items) c.in_ok-kids.ensures
+    (subst (λ (f : List Bool). AreGood c.in_ok-kids.kids f v.items) fine good))) c.good_nodes.ensures

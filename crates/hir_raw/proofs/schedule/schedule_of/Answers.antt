@@ -1,4 +1,5 @@
 use Rattle.std.proofs.Common.{◌≡◌, ◌-◌, ◌∙◌, ℕ, List, ap, length, subst, sym, arith}
+use Rattle.std.proofs.lemmas.Result.{IfOk-weaker}
 use Rattle.hir_raw.specs.Order.{position, the_body}
 use Rattle.hir_raw.specs.Graph.{KidsFit}
 use Rattle.hir_raw.proofs.Bodies.{graph_size}
@@ -12,4 +13,4 @@ pub returns : goal.returns
 returns c =
     let size = ap length c.in_ok-kids.ensures ∙ graph_size c.args.body.now in
     let root : c.len-root.result - 1 ≡ position c.args.body.now the_body = (let a = c.len-root.ensures in omega arith) in
-    answer_from_graph c.args.body.now c.requires c.in_ok-kids.kids (c.len-root.result - 1) c.in_ok-kids.ensures root c.in_ok-schedule.schedule c.in_ok-schedule.ensures
+    IfOk-weaker _ _ _ (λ s h. answer_from_graph c.args.body.now c.requires c.in_ok-kids.kids (c.len-root.result - 1) c.in_ok-kids.ensures root s h) c.number_graph.ensures

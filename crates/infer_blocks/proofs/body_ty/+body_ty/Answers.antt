@@ -4,7 +4,7 @@ use Rattle.hir_types.specs.declared.ty.GenericArg.TheVariants as arg
 use Rattle.hir_types.specs.declared.ty.Ty.TheVariants as ty
 use Rattle.hir_raw.specs.declared.raw.RawType.{RawType}
 use Rattle.hir_laws.specs.LawfulFacts.{type_ids}
-use Rattle.hir_raw.specs.Types.{is_itself}
+use Rattle.hir_raw.specs.WrittenTypes.{is_itself}
 use Rattle.hir_raw.specs.declared.raw.RawType.TheVariants as type
 use Rattle.infer_ctx.specs.Context.{given_of}
 use Rattle.infer_blocks.proofs.BodyTy.{is_below, comes_to_parts, parts_below, leaf_done, tuple_done, adt_done, hole_done, comes_to_part, goes_past_part}

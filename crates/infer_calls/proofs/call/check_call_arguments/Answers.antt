@@ -19,4 +19,4 @@ returns-then-args-inputs g c =
 pub returns-else-args-inputs : goal.returns-else-args-inputs
 returns-else-args-inputs g c =
     answered_since (given_of c.args.given.now) (schedule_of c.args.given.now) c.args.call_expr c.args.args.now c.args.context.now c.expect_inputs.new.context
-    c.in_ok-expect_inputs.ensures.binds c.args.inputs.now c.check_miscounted_arguments.new.context c.check_miscounted_arguments.result c.check_miscounted_arguments.ensures
+    c.in_ok-expect_inputs.ensures.binds c.args.inputs.now c.check_miscounted_arguments.new.context c.check_miscounted_arguments.result c.check_miscounted_arguments.ensures.done

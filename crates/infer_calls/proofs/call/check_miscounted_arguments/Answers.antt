@@ -15,8 +15,8 @@ infer_arguments-requires-clause-before o c =
     subst (λ k. BeforeLoose (given_of c.args.given.now) (schedule_of c.args.given.now) c.args.call_expr c.args.args.now c.args.inputs.now k) (sym c.push_diagnostic.ensures)
     (comes_to_others _ _ _ _ _ _ c.requires.before c.requires.differ)
 
-pub returns : goal.returns
-returns o c =
+pub returns-clause-done : goal.returns-clause-done
+returns-clause-done o c =
     let g = given_of c.args.given.now in
     let s = schedule_of c.args.given.now in
-    ends_others g s _ _ _ _ c.requires.before c.requires.differ _ (subst (λ k. LooseDone g s c.args.call_expr k c.infer_arguments.new.context) c.push_diagnostic.ensures c.in_ok-infer_arguments.ensures)
+    ends_others g s _ _ _ _ c.requires.before c.requires.differ _ (subst (λ k. LooseDone g s c.args.call_expr c.args.args.now c.args.inputs.now k c.infer_arguments.new.context) c.push_diagnostic.ensures c.in_ok-infer_arguments.ensures)

@@ -1,3 +1,4 @@
+use Rattle.std.proofs.lemmas.Result.{IfOk-weaker}
 use Rattle.infer_ctx.proofs.Expected.{kind_for_any, within_for_any}
 use Rattle.infer_ctx.proofs.FineTypes.{fine_expectation_grown}
 use Rattle.infer_calls.proofs.CallWalk.{comes_to_callee, call_then}
@@ -23,4 +24,4 @@ pub check_call-requires-clause-expected : goal.check_call-requires-clause-expect
 check_call-requires-clause-expected g c = fine_expectation_grown _ _ _ _ c.in_ok-callee_ty.ensures.typed.follows.grew c.requires.before.expected
 
 pub returns : goal.returns
-returns g c = kind_for_any _ _ _ _ _ _ _ (call_then _ _ _ _ _ _ _ _ _ c.in_ok-callee_ty.ensures.typed c.in_ok-ty.ensures)
+returns g c = IfOk-weaker c.check_call.result _ _ (λ ty done. kind_for_any _ _ _ _ _ _ _ (call_then _ _ _ _ _ _ _ _ _ c.in_ok-callee_ty.ensures.typed done)) c.check_call.ensures

@@ -28,7 +28,7 @@ returns o c =
     let s = schedule_of c.args.given.now in
     let noted : c.note_seen.new.self ≡ with_seen c.args.context.now (seen_entry g s _ _ _ _ c.requires.before) = c.in_ok-note_seen.ensures ∙ ap (λ v. with_seen c.args.context.now (record { node = node.ExprId c.args.call_expr; ty = v; other = None })) c.in_ok-seen_ty.ensures in
     let typed = c.infer_arguments.new.context in
-    let loose = subst (λ k. LooseDone g s c.args.call_expr k typed) noted c.in_ok-infer_arguments.ensures in
+    let loose = subst (λ k. LooseDone g s c.args.call_expr c.args.args.now [] k typed) noted c.in_ok-infer_arguments.ensures in
     subst (λ v. KindDone g s c.args.call_expr None v c.args.context.now (with_table typed c.next_ty_var.new.self)) (sym c.in_ok-ty.ensures.hole)
     (subst (λ k. KindDone g s c.args.call_expr None (ty.Var (hole_count typed.table)) c.args.context.now (with_table typed k)) (sym c.in_ok-ty.ensures.made)
     (ends_uncallable g s _ _ _ _ c.requires.before typed loose))

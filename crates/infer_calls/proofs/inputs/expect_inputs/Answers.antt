@@ -1,7 +1,9 @@
 use Rattle.std.proofs.Common.{subst}
 use Rattle.infer_ctx.specs.Context.{expected_type, given_of}
-use Rattle.infer_calls.specs.Inputs.{FindsInputs, UnifiesAll}
-use Rattle.infer_calls.proofs.ExpectedInputs.{expected_met, still, wanted_fine}
+use Rattle.infer_coerce.specs.MadeEqual.{UnifiesAll}
+use Rattle.infer_coerce.proofs.Settled.{still}
+use Rattle.infer_calls.specs.Inputs.{FindsInputs}
+use Rattle.infer_calls.proofs.ExpectedInputs.{expected_met, wanted_fine}
 use Rattle.infer_calls.proofs.inputs.expect_inputs.Goals as goal
 
 pub unify_all-requires-clause-tys : goal.unify_all-requires-clause-tys

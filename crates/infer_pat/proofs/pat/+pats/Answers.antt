@@ -7,12 +7,11 @@ use Rattle.hir_raw.specs.declared.raw.RawPat.TheVariants as pat
 use Rattle.infer_ctx.specs.Closings.{IsSound}
 use Rattle.infer_ctx.specs.Fine.{IsFine, IsFineExpectation}
 use Rattle.infer_ctx.specs.Context.{given_of, scope_in, schedule_of, entered}
-use Rattle.infer_ctx.proofs.Closed.{sound_entered}
-use Rattle.infer_ctx.proofs.FineTypes.{fine_expectation_grown}
+use Rattle.infer_ctx.proofs.UnderClosings.{sound_entered}
+use Rattle.infer_ctx.proofs.FineTypes.{every_from, fine_expectation_grown, fine_tuple}
 use Rattle.infer_pat.specs.Patterns.{PatDone, IsGivenOrNew}
-use Rattle.infer_pat.proofs.PatHoles.{fine_tuple_of}
 use Rattle.infer_pat.proofs.PatWalk.{wild_walked, bind_walked, bind_within}
-use Rattle.infer_pat.proofs.TuplePats.{tuple_pat_begun, begins_tuple_pat, comes_to_part, goes_past_part, ends_tuple_pat}
+use Rattle.infer_pat.proofs.TuplePats.{tuple_pat_begun, begins_tuple_pat, comes_to_part, goes_past_part, ends_tuple_pat, hands_parts}
 use Rattle.infer_pat.proofs.CtorPatWalk.{ctor_pat_begun, begun_clock, begins_ctor_pat, comes_to_ctor_part, goes_past_ctor_part, ends_ctor_pat}
 use Rattle.infer_pat.proofs.pat.+pats.Goals as goal
 
@@ -77,11 +76,11 @@ infer_tuple_pat-part_tys-requires-clause-fine t c = subst (λ k. IsFineExpectati
 pub infer_tuple_pat-demand_pat_ty-requires-clause-ty : goal.infer_tuple_pat-demand_pat_ty-requires-clause-ty
 infer_tuple_pat-demand_pat_ty-requires-clause-ty t c =
     subst (λ t. IsFine (scope_in c.args.given.now) c.part_tys.new.context.table t) (sym c.in_ok-tuple.ensures)
-    (fine_tuple_of (scope_in c.args.given.now) c.part_tys.new.context.table c.as_slice-tys.result.now (λ i u e. c.in_ok-parts.ensures.fine i u (subst (λ us. slice_get us i ≡ Some u) c.as_slice-tys.ensures e)))
+    (fine_tuple (scope_in c.args.given.now) c.part_tys.new.context.table c.as_slice-tys.result.now (every_from (IsFine (scope_in c.args.given.now) c.part_tys.new.context.table) c.as_slice-tys.result.now (λ i u e. c.in_ok-parts.ensures.made.fine i u (subst (λ us. slice_get us i ≡ Some u) c.as_slice-tys.ensures e))))
 
 pub infer_tuple_pat-demand_pat_ty-requires-clause-fine : goal.infer_tuple_pat-demand_pat_ty-requires-clause-fine
 infer_tuple_pat-demand_pat_ty-requires-clause-fine t c =
-    fine_expectation_grown (scope_in c.args.given.now) c.enter.new.self.table c.part_tys.new.context.table c.args.expected c.in_ok-parts.ensures.grew
+    fine_expectation_grown (scope_in c.args.given.now) c.enter.new.self.table c.part_tys.new.context.table c.args.expected c.in_ok-parts.ensures.made.grew
     (subst (λ k. IsFineExpectation (scope_in c.args.given.now) k.table c.args.expected) (sym c.enter.ensures) c.requires.before.fine)
 
 pub infer_tuple_pat-loop-i-init : goal.infer_tuple_pat-loop-i-init
@@ -92,23 +91,28 @@ infer_tuple_pat-loop-i-init t c =
 pub infer_tuple_pat-infer_pat-requires : goal.infer_tuple_pat-infer_pat-requires
 infer_tuple_pat-infer_pat-requires t c =
     let begun = tuple_pat_begun _ _ _ _ _ _ _ _ _ _ _ _ c.requires.before c.requires.is c.enter.ensures c.as_slice-tys.ensures c.in_ok-parts.ensures c.in_ok-tuple.ensures c.in_ok-demand_pat_ty.ensures in
-    let within : c.loop-i.i < length c.as_slice-tys.result.now = omega (arith, begun.holes.count_is, c.loop-i-test.true) in
+    let within : c.loop-i.i < length c.as_slice-tys.result.now = omega (arith, begun.parts.made.count_is, c.loop-i-test.true) in
     let type_at : slice_get c.as_slice-tys.result.now c.loop-i.i ≡ Some c.in_ok-ty.ty = slice_get_read c.as_slice-tys.result.now _ c.loop-i.i _ refl within c.index-tys-i.is ∙ ap (λ y. Some y) (sym c.in_ok-ty.ensures) in (
-      omega (arith, c.decreases, c.loop-i.invariant.walk.follows.clock, begun.demanded.clock, begun.holes.clock, c.requires.before.here, c.requires.before.ready.room, c.requires.before.ready.law.schedule.reached (inner (node.PatId c.args.pat)) c.requires.before.within),
+      omega (arith, c.decreases, c.loop-i.invariant.walk.follows.clock, begun.demanded.clock, begun.parts.made.clock, c.requires.before.here, c.requires.before.ready.room, c.requires.before.ready.law.schedule.reached (inner (node.PatId c.args.pat)) c.requires.before.within),
       comes_to_part _ _ _ _ _ _ _ _ begun _ _ c.loop-i.invariant _ _ (get_or_default _ _ _ _ c.loop-i-test.true) type_at c.loop-i-test.true,
     )
 
 pub infer_tuple_pat-loop-i-preserved : goal.infer_tuple_pat-loop-i-preserved
 infer_tuple_pat-loop-i-preserved t c =
     let begun = tuple_pat_begun _ _ _ _ _ _ _ _ _ _ _ _ c.requires.before c.requires.is c.enter.ensures c.as_slice-tys.ensures c.in_ok-parts.ensures c.in_ok-tuple.ensures c.in_ok-demand_pat_ty.ensures in
-    let within : c.loop-i.i < length c.as_slice-tys.result.now = omega (arith, begun.holes.count_is, c.loop-i-test.true) in
+    let within : c.loop-i.i < length c.as_slice-tys.result.now = omega (arith, begun.parts.made.count_is, c.loop-i-test.true) in
     let type_at : slice_get c.as_slice-tys.result.now c.loop-i.i ≡ Some c.in_ok-ty.ty = slice_get_read c.as_slice-tys.result.now _ c.loop-i.i _ refl within c.index-tys-i.is ∙ ap (λ y. Some y) (sym c.in_ok-ty.ensures) in
     goes_past_part _ _ _ _ _ _ _ _ begun _ _ c.loop-i.invariant _ _ (get_or_default _ _ _ _ c.loop-i-test.true) type_at c.loop-i-test.true _ c.in_ok-infer_pat.ensures
 
-pub infer_tuple_pat-returns : goal.infer_tuple_pat-returns
-infer_tuple_pat-returns t c =
+pub infer_tuple_pat-returns-clause-done : goal.infer_tuple_pat-returns-clause-done
+infer_tuple_pat-returns-clause-done t c =
     let begun = tuple_pat_begun _ _ _ _ _ _ _ _ _ _ _ _ c.requires.before c.requires.is c.enter.ensures c.as_slice-tys.ensures c.in_ok-parts.ensures c.in_ok-tuple.ensures c.in_ok-demand_pat_ty.ensures in
     ends_tuple_pat _ _ _ _ _ _ _ _ begun _ _ c.loop-i.invariant c.loop-i-test.false
+
+pub infer_tuple_pat-returns-clause-hands : goal.infer_tuple_pat-returns-clause-hands
+infer_tuple_pat-returns-clause-hands t c =
+    let begun = tuple_pat_begun _ _ _ _ _ _ _ _ _ _ _ _ c.requires.before c.requires.is c.enter.ensures c.as_slice-tys.ensures c.in_ok-parts.ensures c.in_ok-tuple.ensures c.in_ok-demand_pat_ty.ensures in
+    hands_parts _ _ _ _ _ _ _ _ begun _ _ c.loop-i.invariant
 
 pub infer_tuple_struct_pat-demand_ctor-requires-clause-sound : goal.infer_tuple_struct_pat-demand_ctor-requires-clause-sound
 infer_tuple_struct_pat-demand_ctor-requires-clause-sound t c = subst (λ k. IsSound (scope_in c.args.given.now) k) (sym c.enter.ensures) (sound_entered _ c.requires.before.state.sound)

@@ -1,15 +1,16 @@
-use Rattle.std.proofs.Common.{rules, ◌≡◌, Some, slice_get, sym, subst}
+use Rattle.std.proofs.Common.{rules, ◌≡◌, ◌∙◌, Some, slice_get, sym, subst, ap}
 use Rattle.hir_types.specs.declared.ty.Ty.{Ty}
 use Rattle.hir_types.specs.declared.ty.Ty.TheVariants as ty
 use Rattle.infer_table.specs.Table.{State}
 use Rattle.infer_ctx.specs.Context.{scope_in}
 use Rattle.infer_ctx.specs.Fine.{IsFine, IsFineExpectation}
 use Rattle.infer_ctx.proofs.FineTypes.{fine_part}
+use Rattle.infer_pat.proofs.Components.{component_at, other_component, tuple_component}
 use Rattle.infer_pat.proofs.PatHoles.{resolved_fine}
 use Rattle.infer_pat.proofs.pat.component.Goals as goal
 
-pub returns-in_ok-part-in-Some-get : goal.returns-in_ok-part-in-Some-get
-returns-in_ok-part-in-Some-get c =
+pub returns-in_ok-part-in-Some-get-clause-fine : goal.returns-in_ok-part-in-Some-get-clause-fine
+returns-in_ok-part-in-Some-get-clause-fine c =
     let state : State = c.args.context.now.table in
     let P : Ty → Type 0 = IsFine (scope_in c.args.given.now) state in
     let given : P c.in-Some.ty = subst (λ x. IsFineExpectation (scope_in c.args.given.now) state x) c.in-Some.is c.requires.fine in
@@ -17,3 +18,10 @@ returns-in_ok-part-in-Some-get c =
     let whole : P (ty.Tuple c.in-Tuple.tys) = subst P c.in-Tuple.is known in
     let found : slice_get c.in-Tuple.tys c.args.at ≡ Some c.in-Some-get.part.now = search rules in
     subst P (sym c.in_ok-part-in-Some-get.ensures) (fine_part (scope_in c.args.given.now) state c.in-Tuple.tys c.args.at c.in-Some-get.part.now whole found)
+
+pub returns-in_ok-part-in-Some-get-clause-is : goal.returns-in_ok-part-in-Some-get-clause-is
+returns-in_ok-part-in-Some-get-clause-is c =
+    let r = c.shallow_resolve.result.now in
+    let found : slice_get c.in-Tuple.tys c.args.at ≡ Some c.in-Some-get.part.now = search rules in
+    component_at c.args.context.now.table c.args.expected.now c.in-Some.ty r c.args.at (Some c.in_ok-part-in-Some-get.part) c.in-Some.is c.shallow_resolve.ensures.same c.shallow_resolve.ensures.open
+    (ap (λ t. Some t) c.in_ok-part-in-Some-get.ensures ∙ (sym found ∙ sym (tuple_component r c.in-Tuple.tys c.args.at c.in-Tuple.is)))

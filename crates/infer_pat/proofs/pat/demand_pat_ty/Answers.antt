@@ -2,7 +2,7 @@ use Rattle.std.proofs.Common.{◌∙◌, ap, true, false, sym, subst}
 use Rattle.infer_result.specs.Table.{mismatch}
 use Rattle.infer_ctx.specs.Context.{given_of, scope_in, with_pat_ty, with_pat_mismatch}
 use Rattle.infer_ctx.specs.Fine.{IsFine, IsFineExpectation}
-use Rattle.infer_coerce.specs.Unifying.{IsUnifiedIf}
+use Rattle.infer_coerce.specs.MadeEqual.{IsUnifiedIf}
 use Rattle.infer_pat.specs.Patterns.{PatDemanded}
 use Rattle.infer_pat.proofs.PatHoles.{demanded_nothing, demanded_unified, demanded_refused}
 use Rattle.infer_pat.proofs.pat.demand_pat_ty.Goals as goal
@@ -17,7 +17,7 @@ returns-then-branch c =
     let after = c.unify.new.context in
     let fine : IsFine (scope_in c.args.given.now) old.table c.in-Some.expected = subst (λ x. IsFineExpectation (scope_in c.args.given.now) c.args.context.now.table x) c.in-Some.is c.requires.fine in
     let unified : IsUnifiedIf true g c.in-Some.expected c.args.ty old after
-    = subst (λ yes. IsUnifiedIf yes (given_of c.args.given.now) c.in-Some.expected c.args.ty c.args.context.now c.unify.new.context) c.if-branch.true c.in_ok-unify-in-Some.ensures in
+    = subst (λ yes. IsUnifiedIf yes (given_of c.args.given.now) c.in-Some.expected c.args.ty c.args.context.now c.unify.new.context) c.if-branch.true c.in_ok-unify-in-Some.ensures.unified in
     subst (λ k. PatDemanded (given_of c.args.given.now) c.args.pat c.args.ty c.args.expected c.args.context.now k) (sym c.write_pat_ty.ensures)
     (subst (λ x. PatDemanded (given_of c.args.given.now) c.args.pat c.args.ty x c.args.context.now (with_pat_ty c.unify.new.context c.args.pat c.args.ty)) (sym c.in-Some.is)
     (demanded_unified g c.args.pat c.args.ty old c.requires.of_body c.requires.sound c.requires.ty c.in-Some.expected fine after unified))
@@ -29,7 +29,7 @@ returns-else-branch c =
     let after = c.unify.new.context in
     let fine : IsFine (scope_in c.args.given.now) old.table c.in-Some.expected = subst (λ x. IsFineExpectation (scope_in c.args.given.now) c.args.context.now.table x) c.in-Some.is c.requires.fine in
     let refused : IsUnifiedIf false g c.in-Some.expected c.args.ty old after
-    = subst (λ yes. IsUnifiedIf yes (given_of c.args.given.now) c.in-Some.expected c.args.ty c.args.context.now c.unify.new.context) c.if-branch.false c.in_ok-unify-in-Some.ensures in
+    = subst (λ yes. IsUnifiedIf yes (given_of c.args.given.now) c.in-Some.expected c.args.ty c.args.context.now c.unify.new.context) c.if-branch.false c.in_ok-unify-in-Some.ensures.unified in
     subst (λ k. PatDemanded (given_of c.args.given.now) c.args.pat c.args.ty c.args.expected c.args.context.now k)
     (sym (
     c.write_pat_ty-in-Some.ensures

@@ -1,4 +1,5 @@
 use Rattle.std.proofs.Common.{sym, subst}
+use Rattle.std.proofs.lemmas.Result.{IfOk-weaker}
 use Rattle.infer_ctx.specs.Context.{scope_in}
 use Rattle.infer_ctx.specs.Fine.{IsFineExpectation}
 use Rattle.infer_ctx.proofs.Expected.{within_for_any, kind_for_any}
@@ -15,4 +16,4 @@ infer_elements-requires-clause-expected t c =
     (known_fine sc _ _ _ c.lawful.ensures.made c.requires.before.state.sound.bound c.in_ok-known.ensures c.requires.before.expected)
 
 pub returns : goal.returns
-returns t c = kind_for_any _ _ _ _ _ _ _ c.in_ok-ty.ensures
+returns t c = IfOk-weaker c.infer_elements.result _ _ (λ ty done. kind_for_any _ _ _ _ _ _ _ done) c.infer_elements.ensures

@@ -1,3 +1,4 @@
+use Rattle.std.proofs.lemmas.Result.{IfOk-weaker}
 use Rattle.hir_laws.proofs.Scoping.{scheduled_at, scopes_say, deep_scopes}
 use Rattle.hir_laws.proofs.scopes.ScopesTest.test.Goals as goal
 
@@ -20,4 +21,4 @@ pub returns-then-not-is_low : goal.returns-then-not-is_low
 returns-then-not-is_low c = deep_scopes c.args.item.now c.is_low.result c.if-not-is_low.true c.is_low.ensures.1
 
 pub returns : goal.returns
-returns c = scopes_say c.args.item.now c.index-as_slice-at.result c.in_ok-told.told (scheduled_at c.args._raw.now.bodies c.args.self.now.schedules.now c.as_slice.result.now c.args.at c.args.item.now c.index-as_slice-at.result c.requires.given.2 c.requires.listed c.as_slice.ensures c.index-as_slice-at.is).0 (c.is_low.ensures.0 c.if-not-is_low.false) c.in_ok-told.ensures
+returns c = IfOk-weaker _ _ _ (λ told says. scopes_say c.args.item.now c.index-as_slice-at.result told (scheduled_at c.args._raw.now.bodies c.args.self.now.schedules.now c.as_slice.result.now c.args.at c.args.item.now c.index-as_slice-at.result c.requires.given.2 c.requires.listed c.as_slice.ensures c.index-as_slice-at.is).0 (c.is_low.ensures.0 c.if-not-is_low.false) says) c.are_in_scope.ensures

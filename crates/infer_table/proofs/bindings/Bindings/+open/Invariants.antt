@@ -1,6 +1,6 @@
 use Rattle.std.proofs.Common.{map, take}
 use Rattle.hir_types.specs.Terms.{arg_term}
-use Rattle.hir_types.specs.TermLaws.{type_parts}
+use Rattle.hir_types.specs.TermLaws.{parts_of_types}
 use Rattle.infer_table.specs.OpenedLists.{OpensParts, bounds_terms}
 use Rattle.infer_table.specs.Opening.{OnlyMakes, origins_of}
 use Rattle.infer_table.proofs.bindings.Bindings.+open.Given as goal
@@ -8,7 +8,7 @@ use Rattle.infer_table.proofs.bindings.Bindings.+open.Given as goal
 abbrev pub invariant-open_types-loop-ty : goal.invariant-open_types-loop-ty
 invariant-open_types-loop-ty l = record {
   makes : OnlyMakes l.initial.self l.self;
-  opens : OpensParts l.initial.self.kinds l.self.kinds (origins_of l.initial.found.items) (origins_of l.found.items) (type_parts (take l.ty-index l.types)) (type_parts l.made);
+  opens : OpensParts l.initial.self.kinds l.self.kinds (origins_of l.initial.found.items) (origins_of l.found.items) (parts_of_types (take l.ty-index l.types)) (parts_of_types l.made);
 }
 
 abbrev pub invariant-open_args-loop-arg : goal.invariant-open_args-loop-arg

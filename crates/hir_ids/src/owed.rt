@@ -1,0 +1,82 @@
+//! Bodies that name no item with predicates.
+ghost use Rattle.std.specs.Prelude.{◌≡◌, slice_get};
+ghost use Rattle.std.specs.List.{list_all};
+ghost use Rattle.hir_ids.specs.Owed.{fn_asks_nothing, adt_asks_nothing, ctor_asks_nothing, path_owes_nothing, expr_owes_nothing, pat_owes_nothing, body_owes_nothing};
+
+use hir_raw::{RawBody, RawExpr, RawFacts, RawPat, RawPath};
+use hir_types::{AdtId, FunctionId, VariantId};
+
+fn fn_asks_nothing(raw: &RawFacts, function: FunctionId) -> bool
+    ensures { result ≡ fn_asks_nothing (slice_get raw.now.fns function.0) }
+{
+    match raw.fns.get(function.0 as usize) {
+        None => true,
+        Some(function) => function.preds.is_empty(),
+    }
+}
+
+fn adt_asks_nothing(raw: &RawFacts, adt: AdtId) -> bool
+    ensures { result ≡ adt_asks_nothing (slice_get raw.now.adts adt.0) }
+{
+    match raw.adts.get(adt.0 as usize) {
+        None => true,
+        Some(adt) => adt.preds.is_empty(),
+    }
+}
+
+fn ctor_asks_nothing(raw: &RawFacts, variant: VariantId) -> bool
+    ensures { result ≡ ctor_asks_nothing raw.now (slice_get raw.now.variants variant.0) }
+{
+    match raw.variants.get(variant.0 as usize) {
+        None => true,
+        Some(variant) => adt_asks_nothing(raw, variant.adt),
+    }
+}
+
+fn path_owes_nothing(raw: &RawFacts, path: &RawPath) -> bool
+    ensures { result ≡ path_owes_nothing raw.now path.now }
+{
+    match path {
+        RawPath::Function(function) => fn_asks_nothing(raw, *function),
+        RawPath::Ctor(variant) => ctor_asks_nothing(raw, *variant),
+        RawPath::Local(_) | RawPath::Other => true,
+    }
+}
+
+fn expr_owes_nothing(raw: &RawFacts, expr: &RawExpr) -> bool
+    ensures { result ≡ expr_owes_nothing raw.now expr.now }
+{
+    match expr {
+        RawExpr::Path(path) => path_owes_nothing(raw, path),
+        _ => true,
+    }
+}
+
+fn pat_owes_nothing(raw: &RawFacts, pat: &RawPat) -> bool
+    ensures { result ≡ pat_owes_nothing raw.now pat.now }
+{
+    match pat {
+        RawPat::TupleStruct { variant, .. } => ctor_asks_nothing(raw, *variant),
+        RawPat::Path(path) => path_owes_nothing(raw, path),
+        _ => true,
+    }
+}
+
+fn exprs_owe_nothing(raw: &RawFacts, exprs: &[RawExpr]) -> bool
+    ensures { result ≡ list_all (expr_owes_nothing raw.now) exprs.now }
+{
+    exprs.iter().all(|expr| expr_owes_nothing(raw, expr))
+}
+
+fn pats_owe_nothing(raw: &RawFacts, pats: &[RawPat]) -> bool
+    ensures { result ≡ list_all (pat_owes_nothing raw.now) pats.now }
+{
+    pats.iter().all(|pat| pat_owes_nothing(raw, pat))
+}
+
+/// Whether naming the items that a body names owes no goal, since none of them has predicates.
+pub fn body_owes_nothing(raw: &RawFacts, body: &RawBody) -> bool
+    ensures { result ≡ body_owes_nothing raw.now body.now }
+{
+    exprs_owe_nothing(raw, body.exprs.as_slice()) && pats_owe_nothing(raw, body.pats.as_slice())
+}

@@ -1,0 +1,54 @@
+-- Predicates that say that a type parameter has a size.
+use Rattle.std.specs.Prelude.{ℕ, ◌==◌, nat_lt, Bool, false, List, [], ◌∷◌, slice_get, Option, Some, None, if◌then◌else◌}
+use Rattle.std.specs.List.{list_any}
+use Rattle.hir_types.specs.declared.ids.TraitId.{TraitId}
+use Rattle.hir_types.specs.declared.ids.TypeRefId.{TypeRefId}
+use Rattle.hir_raw.specs.declared.raw.RawType.{RawType}
+use Rattle.hir_raw.specs.declared.raw.RawType.TheVariants as type
+use Rattle.hir_raw.specs.declared.raw.RawGoal.{RawGoal}
+use Rattle.hir_raw.specs.declared.raw.RawGoal.TheVariants as goal
+use Rattle.hir_raw.specs.declared.raw.RawLang.{RawLang}
+use Rattle.hir_raw.specs.declared.raw.RawLang.TheVariants as lang
+use Rattle.hir_raw.specs.declared.raw.RawFacts.{RawFacts}
+use Rattle.hir_raw.specs.Goals.{arg_types}
+
+abbrev pub is_sized_lang : TraitId → RawLang → Bool
+is_sized_lang t (lang.Sized u) = u.0 == t.0
+is_sized_lang t (lang.Copy u) = false
+is_sized_lang t (lang.Clone u) = false
+is_sized_lang t lang.Other = false
+
+-- the trait is that of types whose size is known
+abbrev pub is_sized_trait : RawFacts → TraitId → Bool
+is_sized_trait raw t = list_any (is_sized_lang t) raw.lang
+
+-- the number of the parameter that a written type is
+abbrev pub param_number : Option RawType → Option ℕ
+param_number (Some (type.Param n)) = Some n
+param_number _ = None
+
+-- the number of the parameter that a list's one type is
+abbrev pub only_param : RawFacts → List TypeRefId → Option ℕ
+only_param raw (t ∷ []) = param_number (slice_get raw.types t.0)
+only_param raw _ = None
+
+-- the number of the parameter of which a predicate says that it has a size
+abbrev pub sized_param : RawFacts → RawGoal → Option ℕ
+sized_param raw (goal.Trait r) = if is_sized_trait raw r.trait_ then only_param raw (arg_types r.args) else None
+sized_param raw (goal.Projection a xs t) = None
+
+abbrev pub is_number : ℕ → Option ℕ → Bool
+is_number i None = false
+is_number i (Some n) = n == i
+
+abbrev pub is_below : ℕ → Option ℕ → Bool
+is_below count None = false
+is_below count (Some n) = nat_lt n count
+
+-- the predicate says that type parameter i of its item has a size
+abbrev pub is_sized_of : RawFacts → ℕ → RawGoal → Bool
+is_sized_of raw i g = is_number i (sized_param raw g)
+
+-- it says so of one of the item's type parameters, of which there are this many
+abbrev pub is_sized_pred : RawFacts → ℕ → RawGoal → Bool
+is_sized_pred raw count g = is_below count (sized_param raw g)

@@ -1,6 +1,0 @@
-use Rattle.infer_ctx.specs.Context.{given_of}
-use Rattle.infer_calls.proofs.ExpectedInputs.{AtUnify}
-use Rattle.infer_calls.proofs.inputs.unify_all.Given as goal
-
-abbrev pub invariant-loop-i : goal.invariant-loop-i
-invariant-loop-i l = AtUnify (given_of l.given) l.tys l.others l.i l.fn.context l.context

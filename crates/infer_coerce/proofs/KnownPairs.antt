@@ -1,0 +1,50 @@
+-- Pairs that wait and become known, taken off one after the other.
+use Rattle.std.proofs.Common.{ℕ, ◌≡◌, ◌≤◌, ◌+◌, ◌++◌, ◌∷◌, [], sym, subst, ap, ◌∙◌, arith, true, false, List, length, length-append}
+use Rattle.infer_table.specs.Table.{State, AllUnknown}
+use Rattle.infer_table.specs.Waiting.{Waiting, waiting}
+use Rattle.infer_table.specs.declared.waiting.WaitingPair.{WaitingPair}
+use Rattle.infer_table.proofs.WaitingCounts.{waiting_count}
+use Rattle.infer_result.specs.Closed.{IsOfBody}
+use Rattle.infer_result.specs.Places.{Given}
+use Rattle.infer_ctx.specs.declared.context.InferenceContext.{InferenceContext}
+use Rattle.infer_ctx.specs.Closings.{IsSound}
+use Rattle.infer_ctx.specs.Steps.{OnlyBinds}
+use Rattle.infer_coerce.specs.MadeEqual.{UnifiesFirst, UnifiesKnown, UnifiesNext}
+use Rattle.infer_coerce.proofs.Unified.{binds_nothing, binds_twice}
+
+-- so many of the pairs were taken
+pub record KnownSoFar (g : Given) (n : ℕ) (old c : InferenceContext) : Type 0 where
+  pub binds : OnlyBinds g old c
+  pub left : length (waiting c.table.pairs) + n ≤ length old.table.pairs.made
+
+one_less : (xs ys zs ws : List WaitingPair) (p : WaitingPair) → ws ≡ xs ++ p ∷ ys → zs ≡ xs ++ ys → length ws ≡ length zs + 1
+one_less xs ys zs ws p was is =
+    let before : length ws ≡ length xs + (length ys + 1) = ap (λ (us : List WaitingPair). length us) was ∙ simp length-append (omega arith) in
+    let after : length zs ≡ length xs + length ys = ap (λ (us : List WaitingPair). length us) is ∙ simp length-append in
+    omega arith
+
+none_left : (s : State) (ps : List WaitingPair) → length ps ≤ 0 → AllUnknown s ps
+none_left s [] h = tt
+none_left s (p ∷ ps) h = absurd (omega arith)
+
+module _ (g : Given) (old : InferenceContext) where
+  pub begins_known : IsOfBody g.body old.result → IsSound g.scope old → KnownSoFar g 0 old old
+  begins_known h s = record { binds = binds_nothing g old h s; left = omega (arith, waiting_count old.table.pairs) }
+
+  module _ (n : ℕ) (c : InferenceContext) (h : KnownSoFar g n old c) where
+    pub goes_past_known : (next : InferenceContext) → UnifiesFirst g c next → KnownSoFar g (n + 1) old next
+    goes_past_known next u =
+        let is : waiting next.table.pairs ≡ u.takes.ahead ++ u.takes.rest = ap (λ (w : Waiting). waiting w) u.others ∙ u.takes.is in
+        let one = one_less u.takes.ahead u.takes.rest (waiting next.table.pairs) (waiting c.table.pairs) u.pair u.takes.was is in
+        record { binds = binds_twice g old c next h.binds u.binds; left = omega (arith, one, h.left) }
+
+    -- there is none any more
+    pub no_known : (next : InferenceContext) → UnifiesNext false g c next → UnifiesKnown g old next
+    no_known next u = subst (λ k. UnifiesKnown g old k) (sym u.1) (record { binds = h.binds; none = u.0 })
+
+    -- all were taken
+    pub ends_known : length old.table.pairs.made ≤ n → UnifiesKnown g old c
+    ends_known over = record {
+      binds = h.binds;
+      none = none_left c.table (waiting c.table.pairs) (omega (arith, h.left, over));
+    }

@@ -1,0 +1,121 @@
+//! What a facts text has to have at a path of a goal, a trait, an associated type, an impl or a language item.
+
+use crate::wanted::{ANY_LIST, INDEX_OF_TYPE, PARAM, TEXT, TRUTH, Wanted, fits};
+
+const GOAL: &str =
+    "[\"trait\", trait, [ARGUMENT]] or [\"proj\", associated type, [ARGUMENT], TYPE]";
+
+const TRAIT: &str = "a trait's number";
+
+static PLACES: [Wanted; 25] = [
+    Wanted {
+        path: b"adts.#.preds.#",
+        what: GOAL,
+    },
+    Wanted {
+        path: b"fns.#.preds.#",
+        what: GOAL,
+    },
+    Wanted {
+        path: b"traits.#",
+        what: "an object with exactly the seven keys of a trait",
+    },
+    Wanted {
+        path: b"traits.#.name",
+        what: TEXT,
+    },
+    Wanted {
+        path: b"traits.#.params",
+        what: ANY_LIST,
+    },
+    Wanted {
+        path: b"traits.#.params.#",
+        what: PARAM,
+    },
+    Wanted {
+        path: b"traits.#.preds",
+        what: ANY_LIST,
+    },
+    Wanted {
+        path: b"traits.#.preds.#",
+        what: GOAL,
+    },
+    Wanted {
+        path: b"traits.#.auto",
+        what: TRUTH,
+    },
+    Wanted {
+        path: b"aliases.#",
+        what: "an object with exactly the three keys of an associated type",
+    },
+    Wanted {
+        path: b"aliases.#.name",
+        what: TEXT,
+    },
+    Wanted {
+        path: b"aliases.#.bounds",
+        what: ANY_LIST,
+    },
+    Wanted {
+        path: b"aliases.#.bounds.#",
+        what: GOAL,
+    },
+    Wanted {
+        path: b"impls.#",
+        what: "an object with exactly the seven keys of an impl",
+    },
+    Wanted {
+        path: b"impls.#.trait",
+        what: "[trait, [ARGUMENT]], or null",
+    },
+    Wanted {
+        path: b"impls.#.params",
+        what: ANY_LIST,
+    },
+    Wanted {
+        path: b"impls.#.params.#",
+        what: PARAM,
+    },
+    Wanted {
+        path: b"impls.#.preds",
+        what: ANY_LIST,
+    },
+    Wanted {
+        path: b"impls.#.preds.#",
+        what: GOAL,
+    },
+    Wanted {
+        path: b"impls.#.self",
+        what: INDEX_OF_TYPE,
+    },
+    Wanted {
+        path: b"impls.#.types",
+        what: ANY_LIST,
+    },
+    Wanted {
+        path: b"impls.#.types.#",
+        what: "[associated type, TYPE]",
+    },
+    Wanted {
+        path: b"lang.sized",
+        what: TRAIT,
+    },
+    Wanted {
+        path: b"lang.copy",
+        what: TRAIT,
+    },
+    Wanted {
+        path: b"lang.clone",
+        what: TRAIT,
+    },
+];
+
+/// What a facts text has to have at such a path; `None` at another.
+pub fn wanted_of_traits(path: &[u8]) -> Option<&'static str> {
+    for place in &PLACES {
+        if fits(place.path, path) {
+            return Some(place.what);
+        }
+    }
+    None
+}
