@@ -1,0 +1,10 @@
+pub mod Lists
+pub mod Parts
+pub mod Readings
+pub mod Filled
+pub mod Deeper
+pub mod One
+pub mod Proved
+pub mod Levels
+pub mod Fits
+pub mod Upto

@@ -1,0 +1,8 @@
+pub mod SoFar
+pub mod Heads
+pub mod Refuting
+pub mod Deciding
+pub mod Walking
+pub mod Given
+pub mod Copying
+pub mod Small

@@ -1,0 +1,6 @@
+pub mod Sources
+pub mod Holes
+pub mod Parts
+pub mod Combined
+pub mod Searching
+pub mod Keeping

@@ -1,0 +1,21 @@
+//! The search for the answer to a goal.
+#![tactic(auto)]
+
+mod answer;
+mod first;
+mod holes;
+mod kept;
+mod parts;
+mod rows;
+mod rules;
+mod search;
+mod sources;
+#[cfg(test)]
+mod tests;
+mod told;
+
+pub use answer::Answer;
+pub use holes::Holes;
+pub use kept::Kept;
+pub use search::{alias_reads, evaluate, read};
+pub use sources::{Asked, Kind, Rule, Sources};

@@ -1,0 +1,10 @@
+pub mod Owned
+pub mod Parts
+pub mod HeadLaws
+pub mod Unifiers
+pub mod Logs
+pub mod Matches
+pub mod Read
+pub mod Openings
+pub mod Commons
+pub mod Sames

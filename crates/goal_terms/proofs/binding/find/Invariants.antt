@@ -1,0 +1,8 @@
+use Rattle.std.proofs.Common.{◌≡◌, drop}
+use Rattle.infer_table.specs.Solutions.{found}
+use Rattle.goal_terms.specs.Bindings.{log_of}
+use Rattle.goal_terms.proofs.binding.find.Given as goal
+
+-- no binding before this one is of the hole
+abbrev pub invariant-loop-binding : goal.invariant-loop-binding
+invariant-loop-binding l = found (log_of (drop l.binding-index l.bindings)) l.hole ≡ found (log_of l.bindings) l.hole

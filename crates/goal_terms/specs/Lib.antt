@@ -1,0 +1,6 @@
+pub mod Terms
+pub mod Bindings
+pub mod Matching
+pub mod Unifying
+pub mod Opening
+pub mod Same
