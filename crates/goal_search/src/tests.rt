@@ -290,3 +290,36 @@ fn lets_a_clause_shadow_an_impl(rt: HostRuntime) -> Result<(), Fail> {
     );
     Ok(())
 }
+
+/// Adds an impl of one trait for `W<T>` where `T` implements both, and one for `u8`.
+fn add_chained(alloc: Global, sources: &mut Sources, wanted: TraitId) -> Result<(), AllocError> {
+    sources
+        .rules
+        .push(fact(alloc, implements(alloc, wanted, BYTE)?))?;
+    let mut wrapped = fact(
+        alloc,
+        implements(alloc, wanted, adt(alloc, 0, Ty::Var(0))?)?,
+    );
+    wrapped.preds.push(implements(alloc, SHOW, Ty::Var(0))?)?;
+    wrapped.preds.push(implements(alloc, COPY, Ty::Var(0))?)?;
+    sources.rules.push(wrapped)?;
+    Ok(())
+}
+
+/// Each level asks two goals of the one below: searched anew each time, they would be a billion.
+#[test]
+fn asks_no_goal_twice(rt: HostRuntime) -> Result<(), Fail> {
+    let alloc = rt.alloc();
+    let mut sources = no_sources(alloc)?;
+    add_chained(alloc, &mut sources, SHOW)?;
+    add_chained(alloc, &mut sources, COPY)?;
+    let mut ty = BYTE;
+    for _ in 0..30u32 {
+        ty = adt(alloc, 0, ty)?;
+    }
+    assert_eq!(rt;
+        ask(alloc, &sources, implements(alloc, SHOW, ty), 32)?,
+        Answer::Yes
+    );
+    Ok(())
+}
