@@ -1,0 +1,86 @@
+-- Arguments that stand for parameters, and terms at arguments.
+use Rattle.std.specs.Prelude.{◌≡◌, ◌+◌, ◌<◌, ℕ, zero, suc, true, List, [], ◌∷◌, ◌++◌, map, Some, None, refl}
+use Rattle.std.specs.List.{range_with_len}
+use Rattle.std.proofs.Common.{sym, ap, ◌∙◌, subst, arith}
+use Rattle.std.proofs.lemmas.Bool.{or_left, or_right}
+use Rattle.hir_types.specs.declared.ids.TypeRefId.{TypeRefId}
+use Rattle.hir_types.specs.declared.head.Hole.{Hole}
+use Rattle.hir_types.specs.declared.ty.GenericArg.{GenericArg}
+use Rattle.hir_types.specs.declared.ty.GenericArg.TheVariants as arg
+use Rattle.hir_types.specs.Terms.{Term, hole, leaf, pair, apply, occurs, hole_number, chain, type_part, term, arg_term}
+use Rattle.hir_types.specs.TermLaws.{arg_term_type}
+use Rattle.infer_table.specs.TermLemmas.{apply_agree, hole_eq_same}
+use Rattle.hir_raw.specs.declared.raw.RawFacts.{RawFacts}
+use Rattle.hir_raw.specs.declared.raw.RawGoal.{RawGoal}
+use Rattle.goal_answers.specs.Reading.{Fill, plain, role}
+use Rattle.goal_answers.specs.Goals.{Asked, asked_at}
+use Rattle.goal_answers.specs.Rows.{IsNth, AreArgs}
+use Rattle.goal_answers.proofs.Parts.{nth_one}
+use Rattle.goal_terms.specs.Terms.{IsHead, HasHeads}
+use Rattle.goal_facts.specs.Arguments.{instance, instances, args_at, goal_at}
+use Rattle.goal_facts.specs.Environment.{SaysAt}
+
+pub range_more : (a n m : ℕ) → m ≡ suc n → range_with_len a m ≡ range_with_len a n ++ (a + n) ∷ []
+range_more a zero m e = let h : a + 0 ≡ a = omega arith in rw e (λ i. sym h i ∷ [])
+range_more a (suc n) m e =
+    let h : (a + 1) + n ≡ a + suc n = omega arith in
+    rw e (ap (λ (ks : List ℕ). a ∷ ks) (range_more (a + 1) n (suc n) refl ∙ ap (λ (k : ℕ). range_with_len (a + 1) n ++ k ∷ []) h))
+
+pub map_more : {X Y : Type 0} (f : X → Y) (xs : List X) (x : X) → map f (xs ++ x ∷ []) ≡ map f xs ++ f x ∷ []
+map_more f [] x = refl
+map_more f (y ∷ xs) x = ap (λ zs. f y ∷ zs) (map_more f xs x)
+
+-- the parameters before the next, and the next
+pub counted_more : {X : Type 0} (f : ℕ → X) (n : ℕ) → map f (range_with_len 0 (n + 1)) ≡ map f (range_with_len 0 n) ++ f n ∷ []
+counted_more f n =
+    let e : n + 1 ≡ suc n = omega arith in
+    ap (map f) (range_more 0 n (n + 1) e) ∙ map_more f (range_with_len 0 n) n
+
+-- ---- what stands first
+
+pub args_are_head : (raw : RawFacts) (xs : List GenericArg) (ws : List TypeRefId) → IsHead (args_at raw xs ws)
+args_are_head raw xs [] = tt
+args_are_head raw xs (w ∷ ws) = ap role (arg_term_type (instance raw xs w))
+
+pub part_is_head : (a b : Term) → role a ≡ plain → IsHead (pair a b)
+part_is_head a b h = h
+
+nth_heads : (n : ℕ) (ts u : Term) → IsNth n ts u → HasHeads ts → HasHeads u
+nth_heads zero (pair (pair m t) b) u l h = subst HasHeads (sym l) h.1.2
+nth_heads (suc n) (pair a b) u l h = nth_heads n b u l h.2
+nth_heads zero (pair (hole k) b) u l h = absurd l
+nth_heads zero (pair (leaf x) b) u l h = absurd l
+nth_heads zero (hole k) u l h = absurd l
+nth_heads zero (leaf x) u l h = absurd l
+nth_heads (suc n) (hole k) u l h = absurd l
+nth_heads (suc n) (leaf x) u l h = absurd l
+
+role_at : (p : Fill) (a : Term) → IsHead a → role a ≡ plain → role (apply p a) ≡ plain
+role_at p (hole k) h e = absurd h
+role_at p (leaf x) h e = e
+role_at p (pair a b) h e = refl
+
+head_at : (p : Fill) (a : Term) → HasHeads a → IsHead a → IsHead (apply p a)
+head_at p (hole k) h e = absurd e
+head_at p (leaf x) h e = tt
+head_at p (pair a b) h e = role_at p a h.0 e
+
+heads_at : (p : Fill) (t : Term) → HasHeads t → ((k : Hole) → occurs k t ≡ true → HasHeads (p k)) → HasHeads (apply p t)
+heads_at p (hole k) h fills = fills k (hole_eq_same k)
+heads_at p (leaf x) h fills = tt
+heads_at p (pair a b) h fills = (
+  head_at p a h.1 h.0,
+  heads_at p a h.1 (λ k o. fills k (or_left (occurs k a) (occurs k b) o)),
+  heads_at p b h.2 (λ k o. fills k (or_right (occurs k a) (occurs k b) o)),
+)
+
+-- at arguments
+pub heads_at_args : (args : Term) (p : Fill) (t : Term) → HasHeads args → HasHeads t → AreArgs args p t → HasHeads (apply p t)
+heads_at_args args p t h k are = heads_at p t k (λ x o. nth_heads (hole_number x) args (p x) (are x o) h)
+
+-- one thing is said at arguments
+pub says_one : (raw : RawFacts) (xs : List GenericArg) (args : Term) (g : RawGoal) (d e : Asked) → SaysAt raw xs args g d → SaysAt raw xs args g e → d ≡ e
+says_one raw xs args g d e (on, p, are_p, is_d) (on', q, are_q, is_e) =
+    let t : Term = (goal_at raw xs g).parts in
+    let same : apply p t ≡ apply q t = apply_agree p q t (λ k o. nth_one (hole_number k) args (p k) (q k) (are_p k o) (are_q k o)) in
+    is_d ∙ (ap (λ (x : Term). the Asked (record { kind = (goal_at raw xs g).kind; parts = x })) same ∙ sym is_e)

@@ -1,0 +1,4 @@
+pub mod Adding
+pub mod Arguing
+pub mod Following
+pub mod Systems

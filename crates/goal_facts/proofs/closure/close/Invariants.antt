@@ -1,0 +1,7 @@
+use Rattle.goal_search.specs.Sources.{asked_list}
+use Rattle.goal_facts.specs.Additions.{Has}
+use Rattle.goal_facts.specs.Levels.{IsLevel}
+use Rattle.goal_facts.proofs.closure.close.Given as goal
+
+abbrev pub invariant-loop : goal.invariant-loop
+invariant-loop l = IsLevel l.facts (Has (asked_list l.fn.goals.items)) l.counter l.from (asked_list l.goals.items)

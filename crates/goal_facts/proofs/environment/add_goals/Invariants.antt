@@ -1,0 +1,8 @@
+use Rattle.std.proofs.Common.{◌≡◌}
+use Rattle.goal_search.specs.Sources.{asked_list}
+use Rattle.goal_facts.specs.Arguments.{goal_at}
+use Rattle.goal_facts.specs.Additions.{Adds, SomeSaysBefore}
+use Rattle.goal_facts.proofs.environment.add_goals.Given as goal
+
+abbrev pub invariant-loop-goal : goal.invariant-loop-goal
+invariant-loop-goal l = Adds (SomeSaysBefore (λ i g d. d ≡ goal_at l.facts l.args g) l.goals l.goal-index) (asked_list l.fn.made.items) (asked_list l.made.items)

@@ -1,0 +1,36 @@
+-- What impls say: The Rust Reference, "Implementations".
+use Rattle.std.specs.Prelude.{ℕ, List, [], ◌∷◌, map, length, Option, Some, None}
+use Rattle.hir_types.specs.declared.ty.GenericArg.{GenericArg}
+use Rattle.hir_types.specs.Terms.{Term, pair}
+use Rattle.hir_raw.specs.declared.raw.RawTraitRef.{RawTraitRef}
+use Rattle.hir_raw.specs.declared.raw.RawAssocType.{RawAssocType}
+use Rattle.hir_raw.specs.declared.raw.RawImpl.{RawImpl}
+use Rattle.hir_raw.specs.declared.raw.RawFacts.{RawFacts}
+use Rattle.hir_raw.specs.Goals.{arg_types}
+use Rattle.goal_answers.specs.Goals.{Asked, Rule, implements, projects}
+use Rattle.goal_facts.specs.Arguments.{holes, type_at, args_at, goal_at}
+
+abbrev pub impl_holes : RawImpl → List GenericArg
+impl_holes p = holes (length p.params)
+
+-- where its predicates hold
+abbrev pub impl_rule : RawFacts → RawImpl → Asked → Rule
+impl_rule raw p head = record { head = head; preds = map (goal_at raw (impl_holes p)) p.preds }
+
+-- the arguments of its trait, the self type first
+abbrev pub impl_args : RawFacts → RawImpl → RawTraitRef → Term
+impl_args raw p r = args_at raw (impl_holes p) (p.self_ ∷ arg_types r.args)
+
+abbrev pub trait_rule : RawFacts → RawImpl → RawTraitRef → Rule
+trait_rule raw p r = impl_rule raw p (record { kind = implements r.trait_; parts = impl_args raw p r })
+
+abbrev pub assoc_rule : RawFacts → RawImpl → RawTraitRef → RawAssocType → Rule
+assoc_rule raw p r x = impl_rule raw p (record { kind = projects x.alias; parts = pair (impl_args raw p r) (type_at raw (impl_holes p) x.ty) })
+
+-- that the trait is implemented, and what each of its associated types is
+abbrev pub rules_for : RawFacts → RawImpl → Option RawTraitRef → List Rule
+rules_for raw p None = []
+rules_for raw p (Some r) = trait_rule raw p r ∷ map (assoc_rule raw p r) p.types
+
+abbrev pub impl_rules : RawFacts → RawImpl → List Rule
+impl_rules raw p = rules_for raw p p.trait_

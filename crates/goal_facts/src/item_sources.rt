@@ -1,0 +1,86 @@
+//! What the goals of an item are answered by, and the answers.
+ghost use Rattle.std.specs.Prelude.{◌≡◌, IfOk};
+ghost use Rattle.goal_search.specs.Sources.{system};
+ghost use Rattle.goal_facts.specs.Goals.{asked_goal, IsAnswer};
+ghost use Rattle.goal_facts.specs.Systems.{IsSystemOf};
+
+use crate::asked::asked;
+use crate::sources::sources_of;
+use goal_search::{Answer, Holes, Kept, Sources, evaluate};
+use hir_facts::{Facts, GenericDefId, Goal};
+use std::alloc::{AllocError, Global};
+use std::marker::Model;
+
+/// What the goals of an item of the facts are answered by: what the item states, all impls, and the
+/// bounds of associated types.
+#[derive(Debug, Drop)]
+pub struct ItemSources<'a> {
+    facts: &'a Facts,
+    item: GenericDefId,
+    sources: Sources,
+}
+
+impl<'a> Model for ItemSources<'a> {
+    ghost use Rattle.goal_search.specs.Sources.{system};
+    ghost use Rattle.goal_search.specs.Searching.{SystemHasHeads};
+    ghost use Rattle.goal_facts.specs.Goals.{ItemSources};
+    ghost use Rattle.goal_facts.specs.Systems.{IsSystemOf};
+
+    ghost Value = { ItemSources };
+
+    ghost view = { λ a. record { facts = a.facts.now; item = a.item; sources = a.sources } };
+
+    ghost invariant = { λ a. IsSystemOf a.facts.now a.item (system a.sources) × SystemHasHeads (system a.sources) };
+}
+
+impl<'a> ItemSources<'a> {
+    /// Reads them off the facts.
+    pub fn new(
+        alloc: Global,
+        facts: &'a Facts,
+        item: GenericDefId,
+    ) -> Result<ItemSources<'a>, AllocError>
+        ensures facts { IfOk result (λ made. made.facts ≡ facts.now) }
+        ensures item { IfOk result (λ made. made.item ≡ item) }
+    {
+        let sources = sources_of(alloc, facts, item)?;
+        Ok(ItemSources {
+            facts,
+            item,
+            sources,
+        })
+    }
+
+    /// Nothing: callers learn that these are the item's.
+    pub fn lawful(&self)
+        ensures { IsSystemOf self.now.facts self.now.item (system self.now.sources) }
+    {
+        let _sources = &self.sources;
+    }
+
+    /// The facts.
+    pub fn facts(&self) -> &'a Facts
+        ensures { result.now ≡ self.now.facts }
+    {
+        self.facts
+    }
+
+    /// The item.
+    pub fn item(&self) -> GenericDefId
+        ensures { result ≡ self.now.item }
+    {
+        self.item
+    }
+
+    /// The answer to a goal, whose holes stay, at the depth to which the facts let goals be followed.
+    pub fn evaluate(&self, alloc: Global, goal: &Goal) -> Result<Answer, AllocError>
+        ensures { IfOk result (λ answer. IsAnswer (system self.now.sources) self.now.facts.limits.goal_depth (asked_goal goal.now) answer) }
+    {
+        self.facts.lawful();
+        let goal = asked(alloc, goal)?;
+        let mut kept = Kept::new(alloc);
+        let steps = self.facts.raw().limits.goal_depth + 1;
+        evaluate(alloc, &self.sources, &mut kept, &goal, Holes::Stay, steps)
+    }
+}
+

@@ -1,0 +1,15 @@
+//! What goals are answered by, from the facts.
+#![tactic(auto)]
+
+mod additions;
+mod arguments;
+mod asked;
+mod bounds;
+mod closure;
+mod environment;
+mod impls;
+mod item_sources;
+mod sources;
+
+pub use goal_search::Answer;
+pub use item_sources::ItemSources;

@@ -1,0 +1,9 @@
+//! The goals that inference meets, and their answers.
+#![tactic(auto)]
+
+mod inspect;
+mod table;
+
+pub use goal_facts::Answer;
+pub use inspect::{ObligationInspector, ToldList};
+pub use table::GoalTable;

@@ -1,0 +1,94 @@
+//! The goals that inference of a body meets.
+ghost use Rattle.std.specs.Prelude.{◌≡◌, ◌++◌, ◌∷◌, [], true, IfOk};
+ghost use Rattle.infer_table.specs.Table.{new_state};
+ghost use Rattle.goal_search.specs.Sources.{system};
+ghost use Rattle.goal_facts.specs.Goals.{asked_goal, IsAnswer};
+ghost use Rattle.infer_goals.specs.Told.{resolved_goal, IsToldOf};
+
+use crate::inspect::ObligationInspector;
+use goal_facts::{Answer, ItemSources};
+use hir_facts::{Facts, GenericDefId, Goal, Ty};
+use infer_table::InferenceTable;
+use std::alloc::{AllocError, Global};
+
+/// The goals that inference of a body meets, with the table of its holes.
+#[derive(Drop)]
+pub struct GoalTable<'a, I> {
+    alloc: Global,
+    /// The holes that were made, and what is known of them.
+    pub table: InferenceTable,
+    /// Whether goals are still selected under a bound: true until holes fall back.
+    pub bounded: bool,
+    sources: ItemSources<'a>,
+    inspect: Option<&'a mut I>,
+    told: Vec<(Goal, Answer)>,
+}
+
+impl<'a, I: ObligationInspector> GoalTable<'a, I> {
+    /// A table without holes, of which nothing was told, for the goals of an item of the facts.
+    pub fn new(
+        alloc: Global,
+        facts: &'a Facts,
+        env: GenericDefId,
+        inspect: Option<&'a mut I>,
+    ) -> Result<GoalTable<'a, I>, AllocError>
+        ensures facts { IfOk result (λ made. made.sources.facts ≡ facts.now) }
+        ensures env { IfOk result (λ made. made.sources.item ≡ env) }
+        ensures table { IfOk result (λ made. made.table ≡ new_state) }
+        ensures bounded { IfOk result (λ made. made.bounded ≡ true) }
+        ensures told { IfOk result (λ made. made.told.items ≡ []) }
+        ensures inspect { IfOk result (λ made. made.inspect ≡ inspect) }
+    {
+        Ok(GoalTable {
+            alloc,
+            table: InferenceTable::new(alloc)?,
+            bounded: true,
+            sources: ItemSources::new(alloc, facts, env)?,
+            inspect,
+            told: Vec::new(alloc),
+        })
+    }
+
+    /// The facts.
+    pub fn facts(&self) -> &'a Facts
+        ensures { result.now ≡ self.now.sources.facts }
+    {
+        self.sources.facts()
+    }
+
+    /// The item in whose scope the goals are.
+    pub fn env(&self) -> GenericDefId
+        ensures { result ≡ self.now.sources.item }
+    {
+        self.sources.item()
+    }
+
+    /// The answer to a goal with what is known of its holes; the goal so and its answer are told, once.
+    pub fn evaluate(&mut self, goal: &Goal) -> Result<Answer, AllocError>
+        ensures answer { IfOk result (λ answer. IsAnswer (system self.old.sources.sources) self.old.sources.facts.limits.goal_depth (asked_goal (resolved_goal self.old.table goal.now)) answer) }
+        ensures told { IfOk result (λ answer. self.new.told.items ≡ self.old.told.items ++ (resolved_goal self.old.table goal.now, answer) ∷ []) }
+        ensures inspector { IfOk result (λ answer. IsToldOf I.list (resolved_goal self.old.table goal.now) answer self.old.inspect self.new.inspect) }
+        ensures table { self.new.table ≡ self.old.table }
+        ensures sources { self.new.sources ≡ self.old.sources }
+    {
+        let goal = self.table.resolve(goal)?;
+        let answer = self.sources.evaluate(self.alloc, &goal)?;
+        if let Some(inspect) = &mut self.inspect {
+            inspect.told(&goal, answer)?;
+        }
+        self.told.push((goal, answer))?;
+        Ok(answer)
+    }
+
+    /// What was told, in its order: copies.
+    pub fn told(&self) -> Result<Vec<(Goal, Answer)>, AllocError>
+        ensures { IfOk result (λ told. told.items ≡ self.now.told.items) }
+    {
+        let mut told = Vec::new(self.alloc);
+        for (goal, answer) in &self.told {
+            told.push((goal.dup(self.alloc)?, *answer))?;
+        }
+        Ok(told)
+    }
+}
+
