@@ -1,7 +1,8 @@
--- What is measured of adts, parameters and holes, from what is measured of their arguments.
+-- What is measured of adts, projections, parameters and holes, from what is measured of their arguments.
 use Rattle.std.specs.Prelude.{◌≡◌, ℕ, ◌+◌, List, map}
 use Rattle.std.proofs.Common.{sym, ◌∙◌, ap}
 use Rattle.hir_types.specs.declared.ids.AdtId.{AdtId}
+use Rattle.hir_types.specs.declared.ids.TypeAliasId.{TypeAliasId}
 use Rattle.hir_types.specs.declared.ty.Ty.{Ty, Ty-F, fold-roll-Ty}
 use Rattle.hir_types.specs.declared.ty.Ty.TheVariants as ty
 use Rattle.hir_types.specs.declared.ty.GenericArg.{GenericArg, GenericArg-F, fold-GenericArg, fold-roll-GenericArg}
@@ -22,6 +23,11 @@ module _ (of_list : List ℕ → ℕ) (of_two : ℕ → ℕ → ℕ) where
 
   pub measured_adt : (a : AdtId) (xs : List GenericArg) → measure (ty.Adt a xs) ≡ of_list (map measured_of_arg xs) + 1
   measured_adt a xs = ap measure (sym (ty.rolls-Adt a xs)) ∙ fold-roll-Ty ℕ ℕ ℕ ℕ measured_arg (measured_step of_list of_two) measured_bound (measured_trait of_list) (Ty-F.Adt a xs)
+
+  pub measured_projection : (a : TypeAliasId) (xs : List GenericArg) → measure (ty.Projection a xs) ≡ of_list (map measured_of_arg xs) + 1
+  measured_projection a xs =
+      ap measure (sym (ty.rolls-Projection a xs))
+      ∙ fold-roll-Ty ℕ ℕ ℕ ℕ measured_arg (measured_step of_list of_two) measured_bound (measured_trait of_list) (Ty-F.Projection a xs)
 
   pub measured_param : (n : ℕ) → measure (ty.Param n) ≡ 1
   measured_param n = ap measure (sym (ty.rolls-Param n)) ∙ fold-roll-Ty ℕ ℕ ℕ ℕ measured_arg (measured_step of_list of_two) measured_bound (measured_trait of_list) (Ty-F.Param n)

@@ -16,11 +16,11 @@ body_says b w count raw o i body told is found says =
     rw at says
 
 abbrev AreFound : RawFacts → List ℕ → List ℕ → Type 0
-AreFound raw bs ws = AreMosts param_bound raw.types (length raw.types) bs × AreMosts (wrong_args raw.adts) raw.types (length raw.types) ws
+AreFound raw bs ws = AreMosts param_bound raw.types (length raw.types) bs × AreMosts (wrong_args raw) raw.types (length raw.types) ws
 
 -- what is told by the numbers that were found is told of the facts
 pub fits_says : {X : Type 0} (Fits : (b w : ℕ → ℕ) → RawFacts → X → Type 0) (raw : RawFacts) (bs ws : List ℕ) (x : X) (told : Bool) → AreFound raw bs ws
     → IsTrue told ↔ Fits (number_in bs) (number_in ws) raw x → IsTrue told ↔ Fits (params_in raw) (wrongs_in raw) raw x
 fits_says Fits raw bs ws x told found says =
-    subst (λ (w : ℕ → ℕ). IsTrue told ↔ Fits (params_in raw) w raw x) (mosts_are (wrong_args raw.adts) raw.types ws found.1)
+    subst (λ (w : ℕ → ℕ). IsTrue told ↔ Fits (params_in raw) w raw x) (mosts_are (wrong_args raw) raw.types ws found.1)
     (subst (λ (b : ℕ → ℕ). IsTrue told ↔ Fits b (number_in ws) raw x) (mosts_are param_bound raw.types bs found.0) says)

@@ -10,7 +10,7 @@ use Rattle.hir_types.specs.declared.ty.Ty.{Ty}
 use Rattle.hir_types.specs.declared.ty.GenericArg.TheVariants as arg
 use Rattle.hir_types.specs.Types.{most, measured, depth, size}
 use Rattle.hir_types.proofs.Layers.{measured_tuple, measured_bool, measured_char, measured_integer, measured_error}
-use Rattle.hir_counts.proofs.AdtLayers.{measured_of_arg, measured_type_arg, measured_adt, measured_param, measured_hole}
+use Rattle.hir_counts.proofs.AdtLayers.{measured_of_arg, measured_type_arg, measured_adt, measured_projection, measured_param, measured_hole}
 use Rattle.hir_raw.specs.WrittenTypes.{type_parts, lowered, lowered_by}
 use Rattle.hir_ids.specs.Entries.{AllHold}
 use Rattle.hir_ids.specs.Ids.{ChildrenBefore}
@@ -39,6 +39,10 @@ module _ (of_list : List ℕ → ℕ) (of_two : ℕ → ℕ → ℕ) (none : of_
   single : (n : ℕ) → n ≡ 1 → n ≡ of_list [] + 1
   single n is = is ∙ ap (λ (m : ℕ). m + 1) (sym none)
 
+  measured_args : (g : ℕ → Ty) (ts : List TypeRefId) → of_list (map (measured_of_arg of_list of_two) (map (λ t. arg.Ty (g t.0)) ts)) + 1 ≡ of_list (map (λ t. measure (g t.0)) ts) + 1
+  measured_args g ts =
+      ap (λ (ns : List ℕ). of_list ns + 1) (map_twice (measured_of_arg of_list of_two) (λ (t : TypeRefId). arg.Ty (g t.0)) ts ∙ map_same _ _ ts (λ t. measured_type_arg of_list of_two (g t.0)))
+
   measured_parts : (g : ℕ → Ty) (x : RawType) → measure (lowered_by g (Some x)) ≡ measured_by of_list (λ t. measure (g t)) x
   measured_parts g type.Bool = single _ (measured_bool of_list of_two)
   measured_parts g type.Char = single _ (measured_char of_list of_two)
@@ -46,9 +50,8 @@ module _ (of_list : List ℕ → ℕ) (of_two : ℕ → ℕ → ℕ) (none : of_
   measured_parts g (type.Tuple ts) =
       measured_tuple of_list of_two (map (λ t. g t.0) ts)
       ∙ ap (λ (ns : List ℕ). of_list ns + 1) (map_twice measure (λ (t : TypeRefId). g t.0) ts)
-  measured_parts g (type.Adt a ts) =
-      measured_adt of_list of_two a (map (λ t. arg.Ty (g t.0)) ts)
-      ∙ ap (λ (ns : List ℕ). of_list ns + 1) (map_twice (measured_of_arg of_list of_two) (λ (t : TypeRefId). arg.Ty (g t.0)) ts ∙ map_same _ _ ts (λ t. measured_type_arg of_list of_two (g t.0)))
+  measured_parts g (type.Adt a ts) = measured_adt of_list of_two a (map (λ t. arg.Ty (g t.0)) ts) ∙ measured_args g ts
+  measured_parts g (type.Projection a ts) = measured_projection of_list of_two a (map (λ t. arg.Ty (g t.0)) ts) ∙ measured_args g ts
   measured_parts g (type.Param n) = single _ (measured_param of_list of_two n)
   measured_parts g type.Hole = single _ (measured_hole of_list of_two)
   measured_parts g type.Other = single _ (measured_error of_list of_two)

@@ -8,6 +8,7 @@ use Rattle.hir_raw.specs.declared.raw.RawAdt.{RawAdt}
 use Rattle.hir_raw.specs.declared.raw.RawFacts.{RawFacts}
 use Rattle.hir_counts.specs.declared.standing.Sought.{Sought}
 use Rattle.hir_counts.specs.declared.standing.Sought.TheVariants as sought
+use Rattle.hir_raw.specs.Scope.{alias_params_by, has_params}
 use Rattle.hir_raw.specs.WrittenTypes.{type_parts}
 
 -- the greatest number at a type and at all that stands in it, where that of type t of the list is f t
@@ -34,6 +35,7 @@ param_bound type.Char = 0
 param_bound (type.Integer i) = 0
 param_bound (type.Tuple ts) = 0
 param_bound (type.Adt a ts) = 0
+param_bound (type.Projection a ts) = 0
 param_bound type.Hole = 0
 param_bound type.Other = 0
 
@@ -42,15 +44,20 @@ abbrev pub wrong_count : Option RawAdt → List TypeRefId → ℕ
 wrong_count None ts = 1
 wrong_count (Some a) ts = if length a.params == length ts then 0 else 1
 
-abbrev pub wrong_args : List RawAdt → RawType → ℕ
-wrong_args adts (type.Adt a ts) = wrong_count (slice_get adts a.0) ts
-wrong_args adts type.Bool = 0
-wrong_args adts type.Char = 0
-wrong_args adts (type.Integer i) = 0
-wrong_args adts (type.Tuple ts) = 0
-wrong_args adts (type.Param n) = 0
-wrong_args adts type.Hole = 0
-wrong_args adts type.Other = 0
+-- likewise, of an associated type those of its trait
+abbrev pub wrong_alias_count : Option ℕ → List TypeRefId → ℕ
+wrong_alias_count params ts = if has_params params (length ts) then 0 else 1
+
+abbrev pub wrong_args : RawFacts → RawType → ℕ
+wrong_args raw (type.Adt a ts) = wrong_count (slice_get raw.adts a.0) ts
+wrong_args raw (type.Projection a ts) = wrong_alias_count (alias_params_by raw (slice_get raw.aliases a.0)) ts
+wrong_args raw type.Bool = 0
+wrong_args raw type.Char = 0
+wrong_args raw (type.Integer i) = 0
+wrong_args raw (type.Tuple ts) = 0
+wrong_args raw (type.Param n) = 0
+wrong_args raw type.Hole = 0
+wrong_args raw type.Other = 0
 
 -- 1 at `_`
 abbrev pub hole_at : RawType → ℕ
@@ -60,13 +67,14 @@ hole_at type.Char = 0
 hole_at (type.Integer i) = 0
 hole_at (type.Tuple ts) = 0
 hole_at (type.Adt a ts) = 0
+hole_at (type.Projection a ts) = 0
 hole_at (type.Param n) = 0
 hole_at type.Other = 0
 
-abbrev pub own_of : List RawAdt → Sought → RawType → ℕ
-own_of adts sought.Params = param_bound
-own_of adts sought.Args = wrong_args adts
-own_of adts sought.Holes = hole_at
+abbrev pub own_of : RawFacts → Sought → RawType → ℕ
+own_of raw sought.Params = param_bound
+own_of raw sought.Args = wrong_args raw
+own_of raw sought.Holes = hole_at
 
 -- the greatest numbers of the first n types
 pub record AreMosts (own : RawType → ℕ) (types : List RawType) (n : ℕ) (xs : List ℕ) : Type 0 where
@@ -83,7 +91,7 @@ params_in raw = most_in param_bound raw.types
 
 -- 0 where all argument lists in a written type are as many as the parameters
 abbrev pub wrongs_in : RawFacts → ℕ → ℕ
-wrongs_in raw = most_in (wrong_args raw.adts) raw.types
+wrongs_in raw = most_in (wrong_args raw) raw.types
 
 -- 0 where no `_` stands in a written type
 abbrev pub holes_in : RawFacts → ℕ → ℕ

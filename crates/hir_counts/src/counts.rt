@@ -10,7 +10,7 @@ ghost use Rattle.hir_counts.specs.Counts.{count_of, CountsFit, AdtFitsBy, TypeFi
 
 use crate::goal_counts::goals_fit;
 use crate::standing::{Sought, mosts_of};
-use hir_ids::Test;
+use hir_ids::{Test, stmts_of};
 use hir_raw::{
     RawAdt, RawAdtKind, RawBody, RawExpr, RawFacts, RawField, RawFn, RawStmt, RawVariant,
 };
@@ -51,12 +51,11 @@ impl Standing {
     pub fn new(alloc: Global, raw: &RawFacts) -> Result<Standing, AllocError>
         requires { AllHold ChildrenBefore raw.now.types }
         ensures bounds { IfOk result (λ it. AreMosts param_bound raw.now.types (length raw.now.types) it.bounds.items) }
-        ensures wrongs { IfOk result (λ it. AreMosts (wrong_args raw.now.adts) raw.now.types (length raw.now.types) it.wrongs.items) }
+        ensures wrongs { IfOk result (λ it. AreMosts (wrong_args raw.now) raw.now.types (length raw.now.types) it.wrongs.items) }
     {
-        let adts = raw.adts.as_slice();
         let types = raw.types.as_slice();
-        let bounds = mosts_of(alloc, adts, Sought::Params, types)?;
-        let wrongs = mosts_of(alloc, adts, Sought::Args, types)?;
+        let bounds = mosts_of(alloc, raw, Sought::Params, types)?;
+        let wrongs = mosts_of(alloc, raw, Sought::Args, types)?;
         Ok(Standing { bounds, wrongs })
     }
 }
@@ -89,16 +88,6 @@ fn stmt_fits(standing: &Standing, count: usize, stmt: &RawStmt) -> bool
             Some(ty) => fits(standing, count, *ty),
         },
         RawStmt::Expr { .. } => true,
-    }
-}
-
-/// The statements of an expression, where it is a block.
-pub fn stmts_of(expr: &RawExpr) -> &[RawStmt]
-    ensures { result.now ≡ stmts_of (Some expr.now) }
-{
-    match expr {
-        RawExpr::Block { statements, .. } => statements.as_slice(),
-        _ => &[],
     }
 }
 
@@ -166,7 +155,7 @@ impl<'a> Test for FnCounts<'a> {
 
     ghost holds = { λ raw i f. FnFits raw f };
 
-    ghost given = { λ raw s. AreMosts param_bound raw.types (length raw.types) s.standing.now.bounds.items × AreMosts (wrong_args raw.adts) raw.types (length raw.types) s.standing.now.wrongs.items };
+    ghost given = { λ raw s. AreMosts param_bound raw.types (length raw.types) s.standing.now.bounds.items × AreMosts (wrong_args raw) raw.types (length raw.types) s.standing.now.wrongs.items };
 
     fn test(
         &self,
@@ -218,7 +207,7 @@ impl<'a> Test for AdtCounts<'a> {
 
     ghost holds = { λ raw i a. AdtFits raw a };
 
-    ghost given = { λ raw s. AreMosts param_bound raw.types (length raw.types) s.standing.now.bounds.items × AreMosts (wrong_args raw.adts) raw.types (length raw.types) s.standing.now.wrongs.items };
+    ghost given = { λ raw s. AreMosts param_bound raw.types (length raw.types) s.standing.now.bounds.items × AreMosts (wrong_args raw) raw.types (length raw.types) s.standing.now.wrongs.items };
 
     fn test(
         &self,
@@ -282,7 +271,7 @@ impl<'a> Test for VariantCounts<'a> {
 
     ghost holds = { λ raw i v. VariantFits raw v };
 
-    ghost given = { λ raw s. AreMosts param_bound raw.types (length raw.types) s.standing.now.bounds.items × AreMosts (wrong_args raw.adts) raw.types (length raw.types) s.standing.now.wrongs.items };
+    ghost given = { λ raw s. AreMosts param_bound raw.types (length raw.types) s.standing.now.bounds.items × AreMosts (wrong_args raw) raw.types (length raw.types) s.standing.now.wrongs.items };
 
     fn test(
         &self,

@@ -128,7 +128,7 @@ impl<'a> Test for TraitCounts<'a> {
 
     ghost holds = { λ raw i t. TraitFits raw t };
 
-    ghost given = { λ raw s. AreMosts param_bound raw.types (length raw.types) s.standing.now.bounds.items × AreMosts (wrong_args raw.adts) raw.types (length raw.types) s.standing.now.wrongs.items };
+    ghost given = { λ raw s. AreMosts param_bound raw.types (length raw.types) s.standing.now.bounds.items × AreMosts (wrong_args raw) raw.types (length raw.types) s.standing.now.wrongs.items };
 
     fn test(
         &self,
@@ -154,7 +154,7 @@ impl<'a> Test for AliasCounts<'a> {
 
     ghost holds = { λ raw i a. AliasFits raw a };
 
-    ghost given = { λ raw s. AreMosts param_bound raw.types (length raw.types) s.standing.now.bounds.items × AreMosts (wrong_args raw.adts) raw.types (length raw.types) s.standing.now.wrongs.items };
+    ghost given = { λ raw s. AreMosts param_bound raw.types (length raw.types) s.standing.now.bounds.items × AreMosts (wrong_args raw) raw.types (length raw.types) s.standing.now.wrongs.items };
 
     fn test(
         &self,
@@ -180,7 +180,7 @@ impl<'a> Test for ImplCounts<'a> {
 
     ghost holds = { λ raw i p. ImplFits raw p };
 
-    ghost given = { λ raw s. AreMosts param_bound raw.types (length raw.types) s.standing.now.bounds.items × AreMosts (wrong_args raw.adts) raw.types (length raw.types) s.standing.now.wrongs.items };
+    ghost given = { λ raw s. AreMosts param_bound raw.types (length raw.types) s.standing.now.bounds.items × AreMosts (wrong_args raw) raw.types (length raw.types) s.standing.now.wrongs.items };
 
     fn test(
         &self,

@@ -7,7 +7,7 @@ ghost use Rattle.hir_ids.specs.Ids.{ChildrenBefore};
 ghost use Rattle.hir_counts.specs.Standing.{param_bound, wrong_args, hole_at, own_of, AreMosts};
 
 use crate::sizes::{larger, most_of};
-use hir_raw::{RawAdt, RawType};
+use hir_raw::{RawFacts, RawType, alias_params, has_params};
 use std::alloc::{AllocError, Global};
 
 /// What is sought in a written type.
@@ -27,18 +27,26 @@ fn param_bound(ty: &RawType) -> usize
     match ty {
         RawType::Param(number) => *number as usize + 1,
         RawType::Bool | RawType::Char | RawType::Integer(_) | RawType::Tuple(_) => 0,
-        RawType::Adt { .. } | RawType::Hole | RawType::Other => 0,
+        RawType::Adt { .. } | RawType::Projection { .. } => 0,
+        RawType::Hole | RawType::Other => 0,
     }
 }
 
-fn wrong_args(adts: &[RawAdt], ty: &RawType) -> usize
-    ensures { result ≡ wrong_args adts.now ty.now }
+fn wrong_args(raw: &RawFacts, ty: &RawType) -> usize
+    ensures { result ≡ wrong_args raw.now ty.now }
 {
     match ty {
-        RawType::Adt { adt, args } => match adts.get(adt.0 as usize) {
+        RawType::Adt { adt, args } => match raw.adts.get(adt.0 as usize) {
             None => 1,
             Some(adt) => if adt.params.len() == args.len() { 0 } else { 1 },
         },
+        RawType::Projection { alias, args } => {
+            if has_params(alias_params(raw, *alias), args.len()) {
+                0
+            } else {
+                1
+            }
+        }
         RawType::Bool | RawType::Char | RawType::Integer(_) | RawType::Tuple(_) => 0,
         RawType::Param(_) | RawType::Hole | RawType::Other => 0,
     }
@@ -50,16 +58,17 @@ fn hole_at(ty: &RawType) -> usize
     match ty {
         RawType::Hole => 1,
         RawType::Bool | RawType::Char | RawType::Integer(_) | RawType::Tuple(_) => 0,
-        RawType::Adt { .. } | RawType::Param(_) | RawType::Other => 0,
+        RawType::Adt { .. } | RawType::Projection { .. } => 0,
+        RawType::Param(_) | RawType::Other => 0,
     }
 }
 
-fn own_of(adts: &[RawAdt], sought: Sought, ty: &RawType) -> usize
-    ensures { result ≡ own_of adts.now sought ty.now }
+fn own_of(raw: &RawFacts, sought: Sought, ty: &RawType) -> usize
+    ensures { result ≡ own_of raw.now sought ty.now }
 {
     match sought {
         Sought::Params => param_bound(ty),
-        Sought::Args => wrong_args(adts, ty),
+        Sought::Args => wrong_args(raw, ty),
         Sought::Holes => hole_at(ty),
     }
 }
@@ -74,16 +83,16 @@ fn most_over(mosts: &[usize], own: usize, ty: &RawType) -> usize
 /// The greatest number of what is sought, at each written type and all that stands in it.
 pub fn mosts_of(
     alloc: Global,
-    adts: &[RawAdt],
+    raw: &RawFacts,
     sought: Sought,
     types: &[RawType],
 ) -> Result<Vec<usize>, AllocError>
     requires { AllHold ChildrenBefore types.now }
-    ensures { IfOk result (λ v. AreMosts (own_of adts.now sought) types.now (length types.now) v.items) }
+    ensures { IfOk result (λ v. AreMosts (own_of raw.now sought) types.now (length types.now) v.items) }
 {
     let mut mosts = Vec::new(alloc);
     for ty in types {
-        let own = own_of(adts, sought, ty);
+        let own = own_of(raw, sought, ty);
         let most = most_over(&mosts, own, ty);
         mosts.push(most)?;
     }

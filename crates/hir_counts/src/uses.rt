@@ -5,10 +5,10 @@ ghost use Rattle.hir_ids.specs.Ids.{ChildrenBefore};
 ghost use Rattle.hir_counts.specs.Standing.{hole_at, AreMosts};
 ghost use Rattle.hir_counts.specs.Uses.{type_uses, stmt_uses, expr_uses, body_uses, inner_uses, variant_uses, fn_uses, abstract_uses, item_uses, HoleFits, AreTypeUsers};
 
-use crate::counts::{number_at, stmts_of};
+use crate::counts::number_at;
 use crate::goal_uses::{push_goals_of, push_impls};
 use crate::standing::{Sought, mosts_of};
-use hir_ids::{Namers, Test, is_nobody, is_one, namers_of};
+use hir_ids::{Namers, Test, is_nobody, is_one, namers_of, stmts_of};
 use hir_raw::{RawBody, RawExpr, RawFacts, RawField, RawFn, RawStmt, RawType, RawVariant};
 use hir_types::TypeRefId;
 use std::alloc::{AllocError, Global};
@@ -154,12 +154,7 @@ impl Holes {
         ensures holes { IfOk result (λ it. AreMosts hole_at raw.now.types (length raw.now.types) it.holes.items) }
         ensures users { IfOk result (λ it. AreTypeUsers raw.now it.inner.items it.items.items) }
     {
-        let holes = mosts_of(
-            alloc,
-            raw.adts.as_slice(),
-            Sought::Holes,
-            raw.types.as_slice(),
-        )?;
+        let holes = mosts_of(alloc, raw, Sought::Holes, raw.types.as_slice())?;
         let inner = inner_uses(alloc, raw)?;
         let inner = namers_of(alloc, &inner, raw.types.len())?;
         let items = item_uses(alloc, raw)?;

@@ -2,7 +2,6 @@
 use Rattle.std.proofs.Common.{◌≡◌, ◌<◌, ℕ, List, length, get_or, map, take, ◌≤◌, Some, refl, sym, ◌∙◌, ap}
 use Rattle.std.proofs.lemmas.List.{take_all}
 use Rattle.std.proofs.lemmas.Option.{slice_get_read, slice_get-get_or}
-use Rattle.hir_types.specs.declared.ids.AdtId.{AdtId}
 use Rattle.hir_types.specs.declared.ids.TypeRefId.{TypeRefId}
 use Rattle.hir_raw.specs.declared.raw.RawType.{RawType}
 use Rattle.hir_raw.specs.declared.raw.RawType.TheVariants as type
@@ -30,8 +29,10 @@ tuple_here types t x parts items tys i all lt read is same made le =
     let made2 : tys ≡ map (λ (p : TypeRefId). lowered types p.0) parts = made ∙ ap (map (λ (p : TypeRefId). lowered types p.0)) whole in
     ap ty.Tuple made2 ∙ lowered_here types t x (type.Tuple parts) all lt read is
 
-pub adt_here : (types : List RawType) (t : ℕ) (x : RawType) (a : AdtId) (parts items : List TypeRefId) (tys : List GenericArg) (i : ℕ) → AllHold ChildrenBefore types → t < length types → x ≡ get_or types t x → x ≡ type.Adt a parts → items ≡ parts → tys ≡ map (λ (p : TypeRefId). arg.Ty (lowered types p.0)) (take i items) → length items ≤ i → ty.Adt a tys ≡ lowered types t
-adt_here types t x a parts items tys i all lt read is same made le =
+-- one at arguments
+pub args_here : (types : List RawType) (t : ℕ) (x y : RawType) (make : List GenericArg → Ty) (parts items : List TypeRefId) (tys : List GenericArg) (i : ℕ) → AllHold ChildrenBefore types → t < length types → x ≡ get_or types t x → x ≡ y
+    → lowered_by (lowered types) (Some y) ≡ make (map (λ (p : TypeRefId). arg.Ty (lowered types p.0)) parts) → items ≡ parts → tys ≡ map (λ (p : TypeRefId). arg.Ty (lowered types p.0)) (take i items) → length items ≤ i → make tys ≡ lowered types t
+args_here types t x y make parts items tys i all lt read is makes same made le =
     let whole : take i items ≡ parts = take_all i items le ∙ same in
     let made2 : tys ≡ map (λ (p : TypeRefId). arg.Ty (lowered types p.0)) parts = made ∙ ap (map (λ (p : TypeRefId). arg.Ty (lowered types p.0))) whole in
-    ap (ty.Adt a) made2 ∙ lowered_here types t x (type.Adt a parts) all lt read is
+    ap make made2 ∙ (sym makes ∙ lowered_here types t x y all lt read is)

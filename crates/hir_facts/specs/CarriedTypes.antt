@@ -1,7 +1,7 @@
 -- Types of the carried kinds: they have no holes and no labels.
-use Rattle.std.specs.Prelude.{◌≡◌, ℕ, zero, suc, Bool, true, false, ◌&&◌, ◌||◌, List, [], ◌∷◌, map, slice_get, Option, Some, None, refl}
+use Rattle.std.specs.Prelude.{◌≡◌, ◌<◌, ℕ, zero, suc, Bool, true, false, ◌&&◌, ◌||◌, List, [], ◌∷◌, map, length, slice_get, Option, Some, None, refl}
 use Rattle.std.specs.List.{list_all, list_any}
-use Rattle.std.proofs.Common.{sym, ◌∙◌, ap, subst}
+use Rattle.std.proofs.Common.{arith, sym, ◌∙◌, ap, subst}
 use mathlib.Core.Bool.{true≢false}
 use Rattle.hir_types.specs.declared.ids.DefWithBodyId.{DefWithBodyId}
 use Rattle.hir_types.specs.declared.ids.DefWithBodyId.TheVariants as def
@@ -24,9 +24,11 @@ use Rattle.hir_raw.specs.declared.raw.RawFn.{RawFn}
 use Rattle.hir_raw.specs.declared.raw.RawFacts.{RawFacts}
 use Rattle.hir_laws.specs.Lawful.{IsLawful}
 use Rattle.hir_counts.specs.Standing.{HasNoHole}
-use Rattle.hir_raw.specs.WrittenTypes.{filled_by, filled_within, filled_type, written_type}
+use Rattle.hir_raw.specs.WrittenTypes.{type_parts, filled_by, filled_within, written_type}
 use Rattle.hir_facts.specs.Filled.{filled_written}
-use Rattle.hir_laws.specs.NoHoles.{output_has_no_hole}
+use Rattle.hir_laws.specs.LawfulFacts.{type_ids}
+use Rattle.hir_laws.specs.NoHoles.{type_there, output_has_no_hole}
+use Rattle.hir_laws.specs.WrittenFits.{FitsUnder, OwnFits, own_fits, parts_fit, output_fits}
 use Rattle.hir_laws.specs.Bodies.{output_by, return_type}
 
 abbrev pub carried_arg : GenericArg-F Bool Bool Bool Bool → Bool
@@ -229,41 +231,45 @@ same_carried s t h k e = sym (carried_bare s h).unlabelled ∙ (e ∙ (carried_b
 
 -- ---- written types
 
-parts_carried : (f : ℕ → Ty) (ts : List TypeRefId) → ((j : ℕ) → IsCarriedType (f j)) → AreCarriedTypes (map (λ t. f t.0) ts)
+parts_carried : (f : ℕ → Ty) (ts : List TypeRefId) → ((k : ℕ) (t : TypeRefId) → slice_get ts k ≡ Some t → IsCarriedType (f t.0)) → AreCarriedTypes (map (λ t. f t.0) ts)
 parts_carried f [] h = refl
-parts_carried f (t ∷ ts) h = ap (λ (b : Bool). b && list_all is_carried_type (map (λ t. f t.0) ts)) (h t.0) ∙ parts_carried f ts h
+parts_carried f (t ∷ ts) h = ap (λ (b : Bool). b && list_all is_carried_type (map (λ t. f t.0) ts)) (h zero t refl) ∙ parts_carried f ts (λ k u found. h (suc k) u found)
 
-args_carried : (f : ℕ → Ty) (ts : List TypeRefId) → ((j : ℕ) → IsCarriedType (f j)) → AreCarriedArgs (map (λ t. arg.Ty (f t.0)) ts)
+args_carried : (f : ℕ → Ty) (ts : List TypeRefId) → ((k : ℕ) (t : TypeRefId) → slice_get ts k ≡ Some t → IsCarriedType (f t.0)) → AreCarriedArgs (map (λ t. arg.Ty (f t.0)) ts)
 args_carried f [] h = refl
-args_carried f (t ∷ ts) h = ap (λ (b : Bool). b && list_all is_carried_arg (map (λ t. arg.Ty (f t.0)) ts)) (carried_type_arg (f t.0) ∙ h t.0) ∙ args_carried f ts h
+args_carried f (t ∷ ts) h =
+    ap (λ (b : Bool). b && list_all is_carried_arg (map (λ t. arg.Ty (f t.0)) ts)) (carried_type_arg (f t.0) ∙ h zero t refl) ∙ args_carried f ts (λ k u found. h (suc k) u found)
 
-by_carried : (u : Ty) (f : ℕ → Ty) (o : Option RawType) → IsCarriedType u → ((j : ℕ) → IsCarriedType (f j)) → IsCarriedType (filled_by u f o)
-by_carried u f None own h = carried_error
-by_carried u f (Some type.Bool) own h = carried_bool
-by_carried u f (Some type.Char) own h = carried_char
-by_carried u f (Some (type.Integer i)) own h = carried_integer i
-by_carried u f (Some (type.Tuple ts)) own h = carried_tuple (map (λ t. f t.0) ts) ∙ parts_carried f ts h
-by_carried u f (Some (type.Adt a ts)) own h = carried_adt a (map (λ t. arg.Ty (f t.0)) ts) ∙ args_carried f ts h
-by_carried u f (Some (type.Param n)) own h = carried_param n
-by_carried u f (Some type.Hole) own h = own
-by_carried u f (Some type.Other) own h = carried_error
+module _ (raw : RawFacts) (law : IsLawful raw) (count : ℕ) where
+  by_carried : (u : Ty) (f : ℕ → Ty) (x : RawType) → OwnFits raw count x → IsCarriedType u → ((k : ℕ) (t : TypeRefId) → slice_get (type_parts x) k ≡ Some t → IsCarriedType (f t.0)) → IsCarriedType (filled_by u f (Some x))
+  by_carried u f type.Bool fits own h = carried_bool
+  by_carried u f type.Char fits own h = carried_char
+  by_carried u f (type.Integer i) fits own h = carried_integer i
+  by_carried u f (type.Tuple ts) fits own h = carried_tuple (map (λ t. f t.0) ts) ∙ parts_carried f ts h
+  by_carried u f (type.Adt a ts) fits own h = carried_adt a (map (λ t. arg.Ty (f t.0)) ts) ∙ args_carried f ts h
+  by_carried u f (type.Projection a ts) fits own h = absurd fits
+  by_carried u f (type.Param n) fits own h = carried_param n
+  by_carried u f type.Hole fits own h = own
+  by_carried u f type.Other fits own h = carried_error
 
-within_carried : (h : ℕ → Ty) (n : ℕ) (types : List RawType) → ((k : ℕ) → IsCarriedType (h k)) → (i : ℕ) → IsCarriedType (filled_within h n types i)
-unfolding filled_within
-within_carried h zero types own i = carried_error
-within_carried h (suc n) types own i = by_carried (h i) (filled_within h n types) (slice_get types i) (own i) (within_carried h n types own)
+  within_carried : (h : ℕ → Ty) → ((k : ℕ) → IsCarriedType (h k)) → (n i : ℕ) → i < n → FitsUnder raw count i → IsCarriedType (filled_within h n raw.types i)
+  unfolding filled_within
+  within_carried h own zero i lt fits = absurd (omega arith)
+  within_carried h own (suc n) i lt fits =
+      let x = type_there raw.types i fits.within in
+      let filled : IsCarriedType (filled_by (h i) (filled_within h n raw.types) (Some x.0)) = by_carried (h i) (filled_within h n raw.types) x.0 (own_fits raw law count i x.0 x.1 fits) (own i) (λ k t found.
+      (let less : t.0 < i = type_ids raw law i x.0 x.1 k t found in
+      within_carried h own n t.0 (omega (arith, less, lt)) (parts_fit raw law count i x.0 x.1 fits k t found))) in
+      subst (λ (o : Option RawType). IsCarriedType (filled_by (h i) (filled_within h n raw.types) o)) (sym x.1) filled
 
--- where each `_` stands for a carried type
-pub filled_carried : (h : ℕ → Ty) (types : List RawType) → ((k : ℕ) → IsCarriedType (h k)) → (t : TypeRefId) → IsCarriedType (filled_type h types t)
-filled_carried h types own t = within_carried h (suc t.0) types own t.0
-
--- where no `_` stands
-pub written_carried : (types : List RawType) (t : TypeRefId) → HasNoHole types t → IsCarriedType (written_type types t)
-written_carried types t none = subst IsCarriedType (filled_written (λ k. ty.Error) types t none) (filled_carried (λ k. ty.Error) types (λ k. carried_error) t)
+  -- where no `_` stands
+  pub written_carried : (t : TypeRefId) → FitsUnder raw count t.0 → HasNoHole raw.types t → IsCarriedType (written_type raw.types t)
+  written_carried t fits none =
+      subst IsCarriedType (filled_written (λ k. ty.Error) raw.types t none) (within_carried (λ k. ty.Error) (λ k. carried_error) (suc t.0) t.0 (omega arith) fits)
 
 output_carried : (raw : RawFacts) → IsLawful raw → (f : ℕ) (o : Option RawFn) → slice_get raw.fns f ≡ o → IsCarriedType (output_by raw o)
 output_carried raw law f None found = carried_error
-output_carried raw law f (Some x) found = written_carried raw.types x.output (output_has_no_hole raw law f x found)
+output_carried raw law f (Some x) found = written_carried raw law (length x.params) x.output (output_fits raw law f x found) (output_has_no_hole raw law f x found)
 
 pub return_carried : (raw : RawFacts) → IsLawful raw → (d : DefWithBodyId) → IsCarriedType (return_type raw d)
 return_carried raw law (def.FunctionId f) = output_carried raw law f.0 (slice_get raw.fns f.0) refl

@@ -1,15 +1,17 @@
 -- What a written type stands for where each `_` stands for a type.
 use Rattle.std.specs.Prelude.{◌≡◌, ◌≤◌, ℕ, zero, suc, max, List, [], ◌∷◌, map, slice_get, Option, Some, None, refl}
-use Rattle.std.proofs.Common.{◌∙◌, ap, arith}
+use Rattle.std.proofs.Common.{◌∙◌, sym, ap, arith}
+use Rattle.hir_types.specs.declared.ids.TypeAliasId.{TypeAliasId}
 use Rattle.hir_types.specs.declared.ids.TypeRefId.{TypeRefId}
 use Rattle.hir_types.specs.declared.ty.IntegerTy.{IntegerTy}
 use Rattle.hir_types.specs.declared.ty.IntegerTy.TheVariants.{Int, Uint}
+use Rattle.hir_types.specs.declared.ty.GenericArg.{GenericArg}
 use Rattle.hir_types.specs.declared.ty.GenericArg.TheVariants as arg
-use Rattle.hir_types.specs.declared.ty.Ty.{Ty}
+use Rattle.hir_types.specs.declared.ty.Ty.{Ty, Ty-F}
 use Rattle.hir_types.specs.declared.ty.Ty.TheVariants as ty
 use Rattle.hir_types.specs.Types.{integer_type, most}
-use Rattle.hir_types.specs.Subst.{Assignment, with_holes, args_replaced, folded}
-use Rattle.hir_types.specs.Replacements.{replaced_bool, replaced_char, replaced_int, replaced_uint, replaced_tuple, replaced_adt, replaced_param, replaced_error, arg_replaced_type}
+use Rattle.hir_types.specs.Subst.{Assignment, Replacement, with_holes, replaced, args_replaced, folded}
+use Rattle.hir_types.specs.Replacements.{at_ty, replaced_bool, replaced_char, replaced_int, replaced_uint, replaced_tuple, replaced_adt, replaced_param, replaced_error, arg_replaced_type}
 use Rattle.hir_types.specs.Folds.{map_twice}
 use Rattle.hir_raw.specs.declared.raw.RawType.{RawType}
 use Rattle.hir_raw.specs.declared.raw.RawType.TheVariants as type
@@ -30,6 +32,7 @@ agree_by h g f f2 types i type.Char found same parts = refl
 agree_by h g f f2 types i (type.Integer n) found same parts = refl
 agree_by h g f f2 types i (type.Tuple ts) found same parts = ap ty.Tuple (tys_same f f2 ts parts)
 agree_by h g f f2 types i (type.Adt a ts) found same parts = ap (ty.Adt a) (args_same f f2 ts parts)
+agree_by h g f f2 types i (type.Projection a ts) found same parts = ap (ty.Projection a) (args_same f f2 ts parts)
 agree_by h g f f2 types i (type.Param n) found same parts = refl
 agree_by h g f f2 types i type.Other found same parts = refl
 
@@ -67,6 +70,7 @@ written_by u f g m same (Some type.Char) h = refl
 written_by u f g m same (Some (type.Integer i)) h = refl
 written_by u f g m same (Some (type.Tuple ts)) h = ap ty.Tuple (tys_same f g ts (λ k t at. same t.0 (none_in m 0 ts h k t at)))
 written_by u f g m same (Some (type.Adt a ts)) h = ap (ty.Adt a) (args_same f g ts (λ k t at. same t.0 (none_in m 0 ts h k t at)))
+written_by u f g m same (Some (type.Projection a ts)) h = ap (ty.Projection a) (args_same f g ts (λ k t at. same t.0 (none_in m 0 ts h k t at)))
 written_by u f g m same (Some (type.Param n)) h = refl
 written_by u f g m same (Some type.Hole) h = absurd (omega arith)
 written_by u f g m same (Some type.Other) h = refl
@@ -98,6 +102,9 @@ args_at : (a : Assignment) (f : ℕ → Ty) (ts : List TypeRefId) → args_repla
 args_at a f [] = refl
 args_at a f (t ∷ ts) = λ i. arg_replaced_type (with_holes a) (f t.0) i ∷ args_at a f ts i
 
+replaced_projection : (s : Replacement) (i : TypeAliasId) (xs : List GenericArg) → replaced s (ty.Projection i xs) ≡ ty.Projection i (args_replaced s xs)
+replaced_projection s i xs = ap (replaced s) (sym (ty.rolls-Projection i xs)) ∙ at_ty s (Ty-F.Projection i xs) ∙ ty.rolls-Projection i (args_replaced s xs)
+
 folded_by : (a : Assignment) (u : Ty) (f : ℕ → Ty) (o : Option RawType) → folded a (filled_by u f o) ≡ filled_by (folded a u) (λ j. folded a (f j)) o
 folded_by a u f None = replaced_error (with_holes a)
 folded_by a u f (Some type.Bool) = replaced_bool (with_holes a)
@@ -105,6 +112,7 @@ folded_by a u f (Some type.Char) = replaced_char (with_holes a)
 folded_by a u f (Some (type.Integer i)) = integer_folded a i
 folded_by a u f (Some (type.Tuple ts)) = replaced_tuple (with_holes a) (map (λ t. f t.0) ts) ∙ ap ty.Tuple (map_twice (folded a) (λ (t : TypeRefId). f t.0) ts)
 folded_by a u f (Some (type.Adt i ts)) = replaced_adt (with_holes a) i (map (λ t. arg.Ty (f t.0)) ts) ∙ ap (ty.Adt i) (args_at a f ts)
+folded_by a u f (Some (type.Projection i ts)) = replaced_projection (with_holes a) i (map (λ t. arg.Ty (f t.0)) ts) ∙ ap (ty.Projection i) (args_at a f ts)
 folded_by a u f (Some (type.Param n)) = replaced_param (with_holes a) n
 folded_by a u f (Some type.Hole) = refl
 folded_by a u f (Some type.Other) = replaced_error (with_holes a)

@@ -35,6 +35,14 @@ fn lower(types: &[RawType], t: usize, alloc: Global) -> Result<Ty, AllocError>
             }
             Ok(Ty::Adt(*adt, lowered))
         }
+        RawType::Projection { alias, args } => {
+            let mut lowered = List::new(alloc);
+            for arg in args.as_slice() {
+                let ty = lower(types, arg.0 as usize, alloc)?;
+                lowered.push(GenericArg::Ty(ty))?;
+            }
+            Ok(Ty::Projection(*alias, lowered))
+        }
         RawType::Param(number) => Ok(Ty::Param(*number)),
         RawType::Hole => Ok(Ty::Hole),
         RawType::Other => Ok(Ty::Error),

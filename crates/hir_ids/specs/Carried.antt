@@ -45,6 +45,7 @@ is_carried_written_type type.Char = true
 is_carried_written_type (type.Integer i) = true
 is_carried_written_type (type.Tuple ts) = true
 is_carried_written_type (type.Adt a ts) = true
+is_carried_written_type (type.Projection a ts) = true
 is_carried_written_type (type.Param n) = true
 is_carried_written_type type.Hole = true
 is_carried_written_type type.Other = false

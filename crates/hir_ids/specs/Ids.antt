@@ -35,20 +35,21 @@ use Rattle.hir_ids.specs.GoalIds.{GoalsExist}
 abbrev pub ChildrenBefore : ℕ → RawType → Type 0
 ChildrenBefore i x = (k : ℕ) (w : TypeRefId) → slice_get (type_parts x) k ≡ Some w → w.0 < i
 
--- the adt that a type names is in range
-abbrev pub AdtExists : RawFacts → RawType → Type 0
-AdtExists raw (type.Adt a ts) = a.0 < length raw.adts
-AdtExists raw type.Bool = Unit {0}
-AdtExists raw type.Char = Unit {0}
-AdtExists raw (type.Integer n) = Unit {0}
-AdtExists raw (type.Tuple ts) = Unit {0}
-AdtExists raw (type.Param n) = Unit {0}
-AdtExists raw type.Hole = Unit {0}
-AdtExists raw type.Other = Unit {0}
+-- the adt or the associated type that a type names is in range
+abbrev pub ItemExists : RawFacts → RawType → Type 0
+ItemExists raw (type.Adt a ts) = a.0 < length raw.adts
+ItemExists raw (type.Projection a ts) = a.0 < length raw.aliases
+ItemExists raw type.Bool = Unit {0}
+ItemExists raw type.Char = Unit {0}
+ItemExists raw (type.Integer n) = Unit {0}
+ItemExists raw (type.Tuple ts) = Unit {0}
+ItemExists raw (type.Param n) = Unit {0}
+ItemExists raw type.Hole = Unit {0}
+ItemExists raw type.Other = Unit {0}
 
 pub record TypeIdsExist (raw : RawFacts) (i : ℕ) (t : RawType) : Type 0 where
   pub before : ChildrenBefore i t
-  pub named : AdtExists raw t
+  pub named : ItemExists raw t
 
 -- a module comes after the one that it stands in
 abbrev pub ParentBefore : ℕ → Option ModuleId → Type 0

@@ -4,5 +4,6 @@ pub mod Ids
 pub mod Namers
 pub mod InBody
 pub mod Lowered
+pub mod Projections
 pub mod Owed
 pub mod GoalIds

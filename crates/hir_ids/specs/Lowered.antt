@@ -28,6 +28,7 @@ filled_by_same u f g type.Char same = refl
 filled_by_same u f g (type.Integer i) same = refl
 filled_by_same u f g (type.Tuple ts) same = ap ty.Tuple (tys_same f g ts same)
 filled_by_same u f g (type.Adt a ts) same = ap (ty.Adt a) (args_same f g ts same)
+filled_by_same u f g (type.Projection a ts) same = ap (ty.Projection a) (args_same f g ts same)
 filled_by_same u f g (type.Param m) same = refl
 filled_by_same u f g type.Hole same = refl
 filled_by_same u f g type.Other same = refl

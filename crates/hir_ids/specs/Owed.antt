@@ -13,6 +13,7 @@ use Rattle.hir_raw.specs.declared.raw.RawPat.TheVariants as pat
 use Rattle.hir_raw.specs.declared.raw.RawBody.{RawBody}
 use Rattle.hir_raw.specs.declared.raw.RawFacts.{RawFacts}
 use Rattle.hir_ids.specs.Carried.{is_empty, is_carried_body}
+use Rattle.hir_ids.specs.Projections.{BodyNamesNone}
 
 abbrev pub fn_asks_nothing : Option RawFn → Bool
 fn_asks_nothing None = true
@@ -45,7 +46,8 @@ pat_owes_nothing raw _ = true
 abbrev pub body_owes_nothing : RawFacts → RawBody → Bool
 body_owes_nothing raw b = list_all (expr_owes_nothing raw) b.exprs && list_all (pat_owes_nothing raw) b.pats
 
--- its nodes and bindings are of carried kinds, and no item that it names has predicates
+-- its nodes and bindings are of carried kinds, no item that it names has predicates, and no type in it is a projection
 pub record BodyIsCarried (raw : RawFacts) (b : RawBody) : Type 0 where
   pub kinds : IsTrue (is_carried_body b)
   pub owes : IsTrue (body_owes_nothing raw b)
+  pub types : BodyNamesNone raw b

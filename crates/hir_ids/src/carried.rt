@@ -4,9 +4,13 @@ ghost use Rattle.std.specs.List.{list_all};
 ghost use Rattle.hir_ids.specs.Entries.{AllHold, BreaksAt};
 ghost use Rattle.hir_ids.specs.Carried.{is_carried_written_type, is_type_param, is_carried_kind, is_carried_adt, is_carried_ctor, is_carried_variant, is_carried_fn, is_carried_literal, is_carried_path, is_ctor_path, is_carried_stmt, is_carried_expr, is_carried_pat, is_carried_binding, is_carried_body};
 ghost use Rattle.hir_ids.specs.Owed.{BodyIsCarried};
+ghost use Rattle.hir_ids.specs.Projections.{TypeIsCarried, VariantIsCarried, FnIsCarried};
 
 use crate::carried_goals::carries_goals;
 use crate::owed::body_owes_nothing;
+use crate::projections::{
+    body_names_none, fields_name_none, held_types, is_no_projection, name_no_projection,
+};
 use crate::test::Test;
 use hir_raw::{
     BindingAnnotation, RawAdt, RawAdtKind, RawAt, RawBinding, RawBody, RawCtor, RawExpr, RawFacts,
@@ -27,7 +31,8 @@ fn carries_type(ty: &RawType) -> bool
 {
     match ty {
         RawType::Bool | RawType::Char | RawType::Integer(_) | RawType::Tuple(_) => true,
-        RawType::Adt { .. } | RawType::Param(_) | RawType::Hole => true,
+        RawType::Adt { .. } | RawType::Projection { .. } => true,
+        RawType::Param(_) | RawType::Hole => true,
         RawType::Other => false,
     }
 }
@@ -199,7 +204,7 @@ fn carries_body(body: &RawBody) -> bool
         && body.self_.is_none()
 }
 
-/// A written type is of a carried kind.
+/// A written type is of a carried kind, and holds no projection.
 pub struct TypesCarried;
 
 impl Test for TypesCarried {
@@ -207,18 +212,18 @@ impl Test for TypesCarried {
 
     ghost listed = { λ raw. raw.types };
 
-    ghost holds = { λ raw i t. IsTrue (is_carried_written_type t) };
+    ghost holds = { λ raw i t. TypeIsCarried raw t };
 
     ghost given = { λ raw s. Unit {0} };
 
     fn test(
         &self,
         _alloc: Global,
-        _raw: &RawFacts,
+        raw: &RawFacts,
         _at: usize,
         item: &RawType,
     ) -> Result<bool, AllocError> {
-        Ok(carries_type(item))
+        Ok(carries_type(item) && name_no_projection(raw, held_types(item)))
     }
 }
 
@@ -245,7 +250,7 @@ impl Test for AdtsCarried {
     }
 }
 
-/// A variant is of a carried kind.
+/// A variant is of a carried kind, and no field is a projection.
 pub struct VariantsCarried;
 
 impl Test for VariantsCarried {
@@ -253,22 +258,22 @@ impl Test for VariantsCarried {
 
     ghost listed = { λ raw. raw.variants };
 
-    ghost holds = { λ raw i v. IsTrue (is_carried_variant v) };
+    ghost holds = { λ raw i v. VariantIsCarried raw v };
 
     ghost given = { λ raw s. Unit {0} };
 
     fn test(
         &self,
         _alloc: Global,
-        _raw: &RawFacts,
+        raw: &RawFacts,
         _at: usize,
         item: &RawVariant,
     ) -> Result<bool, AllocError> {
-        Ok(carries_variant(item))
+        Ok(carries_variant(item) && fields_name_none(raw, item.fields.as_slice()))
     }
 }
 
-/// A function is of a carried kind.
+/// A function is of a carried kind, and no input or output is a projection.
 pub struct FnsCarried;
 
 impl Test for FnsCarried {
@@ -276,23 +281,27 @@ impl Test for FnsCarried {
 
     ghost listed = { λ raw. raw.fns };
 
-    ghost holds = { λ raw i f. IsTrue (is_carried_fn f) };
+    ghost holds = { λ raw i f. FnIsCarried raw f };
 
     ghost given = { λ raw s. Unit {0} };
 
     fn test(
         &self,
         _alloc: Global,
-        _raw: &RawFacts,
+        raw: &RawFacts,
         _at: usize,
         item: &RawFn,
     ) -> Result<bool, AllocError> {
-        Ok(carries_fn(item))
+        Ok(
+            carries_fn(item)
+                && name_no_projection(raw, item.inputs.as_slice())
+                && is_no_projection(raw, item.output),
+        )
     }
 }
 
-/// The nodes and bindings of a body are of carried kinds, it has no `self`, and names no item with
-/// predicates.
+/// The nodes and bindings of a body are of carried kinds, it has no `self`, names no item with
+/// predicates, and no `let` is written with a projection.
 pub struct BodiesCarried;
 
 impl Test for BodiesCarried {
@@ -311,6 +320,6 @@ impl Test for BodiesCarried {
         _at: usize,
         item: &RawBody,
     ) -> Result<bool, AllocError> {
-        Ok(carries_body(item) && body_owes_nothing(raw, item))
+        Ok(carries_body(item) && body_owes_nothing(raw, item) && body_names_none(raw, item))
     }
 }

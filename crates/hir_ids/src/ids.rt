@@ -1,7 +1,7 @@
 //! Ids are in range, and smaller where a list asks for it; each body is that of one definition.
 ghost use Rattle.std.specs.Prelude.{◌≡◌, ◌↔◌, ◌<◌, ℕ, Some, None, slice_get, length, IsTrue, IfSome};
 ghost use Rattle.hir_types.specs.declared.ids.TypeRefId.{TypeRefId};
-ghost use Rattle.hir_ids.specs.Ids.{ChildrenBefore, AdtExists, TypeIdsExist, ParentBefore, PlaceExists, VisExists, FnIdsExist};
+ghost use Rattle.hir_ids.specs.Ids.{ChildrenBefore, ItemExists, TypeIdsExist, ParentBefore, PlaceExists, VisExists, FnIdsExist};
 
 use crate::goal_ids::have_goal_ids;
 use crate::test::Test;
@@ -21,11 +21,12 @@ fn has_children_before(at: usize, ty: &RawType) -> bool
     are_below(ty.parts(), at)
 }
 
-fn has_adt(raw: &RawFacts, ty: &RawType) -> bool
-    ensures { IsTrue result ↔ AdtExists raw.now ty.now }
+fn has_item(raw: &RawFacts, ty: &RawType) -> bool
+    ensures { IsTrue result ↔ ItemExists raw.now ty.now }
 {
     match ty {
         RawType::Adt { adt, args: _ } => (adt.0 as usize) < raw.adts.len(),
+        RawType::Projection { alias, args: _ } => (alias.0 as usize) < raw.aliases.len(),
         RawType::Bool | RawType::Char | RawType::Integer(_) | RawType::Tuple(_) => true,
         RawType::Param(_) | RawType::Hole | RawType::Other => true,
     }
@@ -78,7 +79,7 @@ fn has_fn_ids(raw: &RawFacts, function: &RawFn) -> bool
         && has_body(raw, function)
 }
 
-/// The parts of a written type come before it, and an adt that it names exists.
+/// The parts of a written type come before it, and an adt or associated type that it names exists.
 pub struct TypeIds;
 
 impl Test for TypeIds {
@@ -97,7 +98,7 @@ impl Test for TypeIds {
         at: usize,
         item: &RawType,
     ) -> Result<bool, AllocError> {
-        Ok(has_children_before(at, item) && has_adt(raw, item))
+        Ok(has_children_before(at, item) && has_item(raw, item))
     }
 }
 

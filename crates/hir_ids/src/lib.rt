@@ -10,6 +10,7 @@ mod goal_ids;
 mod ids;
 mod namers;
 mod owed;
+mod projections;
 mod test;
 
 pub use adt_ids::{AdtIds, VariantIds};
@@ -22,4 +23,5 @@ pub use carried_goals::{AliasesCarried, ImplsCarried, LangCarried, TraitsCarried
 pub use goal_ids::{AliasIds, ImplIds, LangIds, TraitIds, have_goal_ids};
 pub use ids::{FnIds, ModuleIds, TypeIds};
 pub use namers::{Namers, is_nobody, is_one, namers_of};
+pub use projections::stmts_of;
 pub use test::{Test, first_broken};

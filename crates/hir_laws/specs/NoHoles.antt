@@ -44,7 +44,7 @@ in_map f (z ∷ xs) (suc k) x found = let rest = in_map f xs k x found in (suc r
 
 -- ---- items
 
-type_there : (types : List RawType) (i : ℕ) → i < length types → (x : RawType) × (slice_get types i ≡ Some x)
+pub type_there : (types : List RawType) (i : ℕ) → i < length types → (x : RawType) × (slice_get types i ≡ Some x)
 type_there [] i lt = absurd (omega arith)
 type_there (x ∷ types) zero lt = (x, refl)
 type_there (x ∷ types) (suc i) lt = type_there types i (omega arith)

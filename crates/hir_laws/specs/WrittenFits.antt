@@ -1,6 +1,6 @@
--- Each written type fits under the parameters of its definition: arguments are as many as the parameters of what they
--- stand at, and parameters are in range.
-use Rattle.std.specs.Prelude.{◌≡◌, ◌<◌, ◌≤◌, ◌==◌, ℕ, Bool, true, false, List, [], length, slice_get, Option, Some, None, option_map, refl, if◌then◌else◌}
+-- Each written type that bodies read fits under the parameters of its definition: arguments are as many as the parameters of
+-- what they stand at, parameters are in range, and no projection stands in it.
+use Rattle.std.specs.Prelude.{◌≡◌, ◌<◌, ◌≤◌, ◌==◌, ℕ, Bool, true, false, List, [], length, slice_get, Option, Some, None, IsTrue, not, option_map, refl, if◌then◌else◌}
 use Rattle.std.specs.Option.{option_and_then}
 use Rattle.std.proofs.Common.{arith, ap, ◌∙◌, subst}
 use Rattle.hir_types.specs.declared.ids.BodyId.{BodyId}
@@ -27,12 +27,14 @@ use Rattle.hir_laws.specs.Bodies.{body_of, inputs_by, inputs_of}
 use Rattle.hir_counts.specs.Standing.{param_bound, wrong_count, wrong_args, params_in, wrongs_in}
 use Rattle.hir_counts.specs.Counts.{TypeFits, ExprFits, BodyFits, MaybeBodyFits, body_at, param_count}
 use Rattle.hir_laws.specs.Lawful.{IsLawful}
-use Rattle.hir_laws.specs.LawfulFacts.{type_ids, variant_ids, variants_fit, fn_ids, fns_fit, body_ids}
+use Rattle.hir_ids.specs.Projections.{is_projection, IsNoProjection, NameNoProjection, held_types, ExprNamesNone}
+use Rattle.hir_laws.specs.LawfulFacts.{carried_types, carried_variants, carried_fns, carried_bodies, type_ids, variant_ids, variants_fit, fn_ids, fns_fit, body_ids}
 use Rattle.hir_counts.specs.Most.{own_most, part_most}
 
--- type t of the facts fits under this many parameters
+-- type t of the facts fits under this many parameters, and is no projection
 pub record FitsUnder (raw : RawFacts) (count t : ℕ) : Type 0 where
   pub within : t < length raw.types
+  pub direct : IsNoProjection raw t
   pub params : params_in raw t ≤ count
   pub args : wrongs_in raw t ≡ 0
 
@@ -41,6 +43,7 @@ pub record FitsUnder (raw : RawFacts) (count t : ℕ) : Type 0 where
 -- what a type says itself
 abbrev pub OwnFits : RawFacts → ℕ → RawType → Type 0
 OwnFits raw count (type.Adt a ts) = has_params (adt_params raw a) (length ts) ≡ true
+OwnFits raw count (type.Projection a ts) = ⊥
 OwnFits raw count (type.Param n) = n < count
 OwnFits raw count type.Bool = Unit {0}
 OwnFits raw count type.Char = Unit {0}
@@ -57,15 +60,16 @@ counts_agree : (o : Option RawAdt) (ts : List TypeRefId) → wrong_count o ts �
 counts_agree None ts h = absurd (omega arith)
 counts_agree (Some x) ts h = none_wrong (length x.params == length ts) (wrong_count (Some x) ts) refl h
 
-own_by : (raw : RawFacts) (count : ℕ) (x : RawType) → param_bound x ≤ count → wrong_args raw.adts x ≤ 0 → OwnFits raw count x
-own_by raw count (type.Adt a ts) params args = counts_agree (slice_get raw.adts a.0) ts (omega arith)
-own_by raw count (type.Param n) params args = omega arith
-own_by raw count type.Bool params args = tt
-own_by raw count type.Char params args = tt
-own_by raw count (type.Integer i) params args = tt
-own_by raw count (type.Tuple ts) params args = tt
-own_by raw count type.Hole params args = tt
-own_by raw count type.Other params args = tt
+own_by : (raw : RawFacts) (count : ℕ) (x : RawType) → param_bound x ≤ count → wrong_args raw x ≤ 0 → IsTrue (not (is_projection (Some x))) → OwnFits raw count x
+own_by raw count (type.Adt a ts) params args direct = counts_agree (slice_get raw.adts a.0) ts (omega arith)
+own_by raw count (type.Projection a ts) params args direct = absurd (cc)
+own_by raw count (type.Param n) params args direct = omega arith
+own_by raw count type.Bool params args direct = tt
+own_by raw count type.Char params args direct = tt
+own_by raw count (type.Integer i) params args direct = tt
+own_by raw count (type.Tuple ts) params args direct = tt
+own_by raw count type.Hole params args direct = tt
+own_by raw count type.Other params args direct = tt
 
 below : (a b c : ℕ) → a ≤ b → b ≤ c → a ≤ c
 below a b c p q = omega arith
@@ -73,31 +77,42 @@ below a b c p q = omega arith
 at_zero : (a b : ℕ) → a ≤ b → b ≡ 0 → a ≡ 0
 at_zero a b p q = omega arith
 
+-- a type in the list that is no projection
+direct_here : (raw : RawFacts) (i : ℕ) (x : RawType) → slice_get raw.types i ≡ Some x → IsNoProjection raw i → IsTrue (not (is_projection (Some x)))
+direct_here raw i x found h = subst (λ (o : Option RawType). IsTrue (not (is_projection o))) found h
+
+holds_parts : (b : Bool) (ts : List TypeRefId) → IsTrue (not b) → (if b then [] else ts) ≡ ts
+holds_parts true ts h = absurd (cc)
+holds_parts false ts h = refl
+
 pub own_fits : (raw : RawFacts) → IsLawful raw → (count i : ℕ) (x : RawType) → slice_get raw.types i ≡ Some x → FitsUnder raw count i → OwnFits raw count x
 own_fits raw law count i x found h =
-    let wrong : wrong_args raw.adts x ≡ 0 = at_zero (wrong_args raw.adts x) (wrongs_in raw i) (own_most (wrong_args raw.adts) raw.types (type_ids raw law) i x found) h.args in
-    own_by raw count x (below (param_bound x) (params_in raw i) count (own_most param_bound raw.types (type_ids raw law) i x found) h.params) (omega arith)
+    let wrong : wrong_args raw x ≡ 0 = at_zero (wrong_args raw x) (wrongs_in raw i) (own_most (wrong_args raw) raw.types (type_ids raw law) i x found) h.args in
+    own_by raw count x (below (param_bound x) (params_in raw i) count (own_most param_bound raw.types (type_ids raw law) i x found) h.params) (omega arith) (direct_here raw i x found h.direct)
 
 pub parts_fit : (raw : RawFacts) → IsLawful raw → (count i : ℕ) (x : RawType) → slice_get raw.types i ≡ Some x → FitsUnder raw count i → (k : ℕ) (t : TypeRefId) → slice_get (type_parts x) k ≡ Some t → FitsUnder raw count t.0
 parts_fit raw law count i x found h k t here =
     let before : t.0 < i = type_ids raw law i x found k t here in
     let inside : i < length raw.types = h.within in
+    let held : held_types x ≡ type_parts x = holds_parts (is_projection (Some x)) (type_parts x) (direct_here raw i x found h.direct) in
+    let direct : NameNoProjection raw (type_parts x) = subst (NameNoProjection raw) held (carried_types raw law i x found).parts in
     record {
       within = omega arith;
+      direct = direct k t here;
       params = below (params_in raw t.0) (params_in raw i) count (part_most param_bound raw.types (type_ids raw law) i x found k t here) h.params;
-      args = at_zero (wrongs_in raw t.0) (wrongs_in raw i) (part_most (wrong_args raw.adts) raw.types (type_ids raw law) i x found k t here) h.args;
+      args = at_zero (wrongs_in raw t.0) (wrongs_in raw i) (part_most (wrong_args raw) raw.types (type_ids raw law) i x found k t here) h.args;
     }
 
 -- ---- the types of a function
 
-fits_under : (raw : RawFacts) (count : ℕ) (t : TypeRefId) → t.0 < length raw.types → TypeFits (params_in raw) (wrongs_in raw) count t → FitsUnder raw count t.0
-fits_under raw count t lt h = record { within = lt; params = h.0; args = h.1 }
+fits_under : (raw : RawFacts) (count : ℕ) (t : TypeRefId) → t.0 < length raw.types → IsNoProjection raw t.0 → TypeFits (params_in raw) (wrongs_in raw) count t → FitsUnder raw count t.0
+fits_under raw count t lt direct h = record { within = lt; direct = direct; params = h.0; args = h.1 }
 
 pub inputs_fit : (raw : RawFacts) → IsLawful raw → (f : ℕ) (x : RawFn) → slice_get raw.fns f ≡ Some x → (k : ℕ) (t : TypeRefId) → slice_get x.inputs k ≡ Some t → FitsUnder raw (length x.params) t.0
-inputs_fit raw law f x found k t here = fits_under raw (length x.params) t ((fn_ids raw law f x found).inputs k t here) ((fns_fit raw law f x found).inputs k t here)
+inputs_fit raw law f x found k t here = fits_under raw (length x.params) t ((fn_ids raw law f x found).inputs k t here) ((carried_fns raw law f x found).inputs k t here) ((fns_fit raw law f x found).inputs k t here)
 
 pub output_fits : (raw : RawFacts) → IsLawful raw → (f : ℕ) (x : RawFn) → slice_get raw.fns f ≡ Some x → FitsUnder raw (length x.params) x.output.0
-output_fits raw law f x found = fits_under raw (length x.params) x.output (fn_ids raw law f x found).output (fns_fit raw law f x found).output
+output_fits raw law f x found = fits_under raw (length x.params) x.output (fn_ids raw law f x found).output (carried_fns raw law f x found).output (fns_fit raw law f x found).output
 
 -- ---- the fields of a variant
 
@@ -106,7 +121,7 @@ pub fields_fit : (raw : RawFacts) → IsLawful raw → (v : ℕ) (x : RawVariant
 fields_fit raw law v x a found adt k f here =
     let fit : TypeFits (params_in raw) (wrongs_in raw) (length a.params) f.type_ =
     subst (λ (o : Option RawAdt). TypeFits (params_in raw) (wrongs_in raw) (param_count o) f.type_) adt ((variants_fit raw law v x found).fields k f here) in
-    fits_under raw (length a.params) f.type_ ((variant_ids raw law v x found).here.fields k f here).written fit
+    fits_under raw (length a.params) f.type_ ((variant_ids raw law v x found).here.fields k f here).written ((carried_variants raw law v x found).fields k f here) fit
 
 -- ---- the types of a definition
 
@@ -134,6 +149,11 @@ let_by : (b w : ℕ → ℕ) (count : ℕ) (o : Option RawExpr) → ((x : RawExp
 let_by b w count None h i p t init other found = absurd (cc)
 let_by b w count (Some x) h i p t init other found = (h x refl).each i (stmt.Let p (Some t) init other) found
 
+let_direct : (raw : RawFacts) (o : Option RawExpr) → ((x : RawExpr) → o ≡ Some x → ExprNamesNone raw x)
+    → (i : ℕ) (p : PatId) (t : TypeRefId) (init other : Option ExprId) → slice_get (stmts_of o) i ≡ Some (stmt.Let p (Some t) init other) → IsNoProjection raw t.0
+let_direct raw None h i p t init other found = absurd (cc)
+let_direct raw (Some x) h i p t init other found = (h x refl).each i (stmt.Let p (Some t) init other) found
+
 let_in : (raw : RawFacts) → IsLawful raw → (f : ℕ) (x : RawFn) → slice_get raw.fns f ≡ Some x → (o : Option BodyId) (b : RawBody) → x.body ≡ o → option_and_then (λ i. slice_get raw.bodies i.0) o ≡ Some b
     → (e : ExprId) (i : ℕ) (p : PatId) (t : TypeRefId) (init other : Option ExprId) → stmt_at b e i ≡ Some (stmt.Let p (Some t) init other) → FitsUnder raw (length x.params) t.0
 let_in raw law f x found None b is here e i p t init other at = absurd (cc)
@@ -142,6 +162,7 @@ let_in raw law f x found (Some n) b is here e i p t init other at =
     let own : body_at raw x.body ≡ Some b = ap (λ (q : Option BodyId). body_at raw q) is ∙ here in
     let whole : BodyFits (params_in raw) (wrongs_in raw) (length x.params) b = subst (λ (q : Option RawBody). MaybeBodyFits (params_in raw) (wrongs_in raw) (length x.params) q) own fit in
     fits_under raw (length x.params) t ((body_ids raw law n.0 b here).written e i p t init other at)
+    (let_direct raw (slice_get b.exprs e.0) (λ y is. (carried_bodies raw law n.0 b here).types e.0 y is) i p t init other at)
     (let_by (params_in raw) (wrongs_in raw) (length x.params) (slice_get b.exprs e.0) (λ y is. whole e.0 y is) i p t init other at)
 
 let_at : (raw : RawFacts) → IsLawful raw → (f : ℕ) (o : Option RawFn) (b : RawBody) → slice_get raw.fns f ≡ o → option_and_then (λ i. slice_get raw.bodies i.0) (option_and_then (λ x. x.body) o) ≡ Some b

@@ -11,6 +11,7 @@ kind_more raw P Q n more type.Char h = h
 kind_more raw P Q n more (type.Integer i) h = h
 kind_more raw P Q n more (type.Tuple ts) h = h
 kind_more raw P Q n more (type.Adt a ts) h = (more a.0 h.0, h.1)
+kind_more raw P Q n more (type.Projection a ts) h = h
 kind_more raw P Q n more (type.Param i) h = h
 kind_more raw P Q n more type.Hole h = h
 kind_more raw P Q n more type.Other h = h

@@ -15,7 +15,7 @@ use Rattle.hir_raw.specs.declared.raw.RawFacts.{RawFacts}
 use Rattle.hir_raw.specs.WrittenTypes.{type_parts}
 use Rattle.hir_raw.specs.Graph.{KidsFit, Edge, kids_of}
 use Rattle.hir_laws.specs.NoHoles.{In, in_first, in_last}
-use Rattle.hir_ids.specs.Ids.{AdtExists, IsVariantOf}
+use Rattle.hir_ids.specs.Ids.{ItemExists, IsVariantOf}
 use Rattle.hir_laws.specs.WrittenFits.{FitsUnder, OwnFits, own_fits, parts_fit, fields_fit}
 use Rattle.hir_laws.specs.Lawful.{IsLawful}
 use Rattle.hir_laws.specs.LawfulFacts.{type_ids, type_ids_exist, adt_ids, types_small}
@@ -193,13 +193,14 @@ module _ (raw : RawFacts) (law : IsLawful raw) where
   type_child : (t : ℕ) (x : RawType) → slice_get raw.types t ≡ Some x → (k c : ℕ) → Edge (plain_graph raw) t k c → TypeChild x c
   type_child t x found k c edge = child_of x k c (subst (λ (cs : List ℕ). slice_get cs k ≡ Some c) (graph_type t x found) edge)
 
-  named_inside : (x : RawType) (k c : ℕ) → AdtExists raw x → slice_get (named_adt count x) k ≡ Some c → c < count + length raw.adts
+  named_inside : (x : RawType) (k c : ℕ) → ItemExists raw x → slice_get (named_adt count x) k ≡ Some c → c < count + length raw.adts
   named_inside (type.Adt a ts) zero c h found = (let same : count + a.0 ≡ c = cc in omega arith)
   named_inside (type.Adt a ts) (suc k) c h found = absurd (cc)
   named_inside type.Bool k c h found = absurd (cc)
   named_inside type.Char k c h found = absurd (cc)
   named_inside (type.Integer i) k c h found = absurd (cc)
   named_inside (type.Tuple ts) k c h found = absurd (cc)
+  named_inside (type.Projection a ts) k c h found = absurd (cc)
   named_inside (type.Param n) k c h found = absurd (cc)
   named_inside type.Hole k c h found = absurd (cc)
   named_inside type.Other k c h found = absurd (cc)
@@ -232,6 +233,7 @@ module _ (raw : RawFacts) (law : IsLawful raw) where
   kind_fine P n (type.Integer i) h = refl
   kind_fine P n (type.Tuple ts) h = refl
   kind_fine P n (type.Adt a ts) h = refl
+  kind_fine P n (type.Projection a ts) h = absurd h
   kind_fine P n (type.Param i) h = refl
   kind_fine P n type.Hole h = absurd h
   kind_fine P n type.Other h = absurd h
@@ -260,6 +262,7 @@ module _ (raw : RawFacts) (law : IsLawful raw) where
     named_not n type.Char k c own found not = absurd (cc)
     named_not n (type.Integer i) k c own found not = absurd (cc)
     named_not n (type.Tuple ts) k c own found not = absurd (cc)
+    named_not n (type.Projection a ts) k c own found not = absurd (cc)
     named_not n (type.Param i) k c own found not = absurd (cc)
     named_not n type.Hole k c own found not = absurd (cc)
     named_not n type.Other k c own found not = absurd (cc)
@@ -300,6 +303,7 @@ module _ (raw : RawFacts) (law : IsLawful raw) where
     kind_marked n (type.Integer i) fine fits marked = tt
     kind_marked n (type.Tuple ts) fine fits marked = tt
     kind_marked n (type.Adt a ts) fine fits marked = (marked zero (count + a.0) refl, fits)
+    kind_marked n (type.Projection a ts) fine fits marked = absurd fits
     kind_marked n (type.Param i) fine fits marked = fits
     kind_marked n type.Hole fine fits marked = absurd (cc)
     kind_marked n type.Other fine fits marked = absurd (cc)

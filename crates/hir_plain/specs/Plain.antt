@@ -50,6 +50,7 @@ IsPlainKind raw P n type.Char = Unit {0}
 IsPlainKind raw P n (type.Integer i) = Unit {0}
 IsPlainKind raw P n (type.Tuple ts) = Unit {0}
 IsPlainKind raw P n (type.Adt a ts) = P a.0 × IsTrue (has_params (adt_params raw a) (length ts))
+IsPlainKind raw P n (type.Projection a ts) = ⊥
 IsPlainKind raw P n (type.Param i) = i < n
 IsPlainKind raw P n type.Hole = ⊥
 IsPlainKind raw P n type.Other = ⊥

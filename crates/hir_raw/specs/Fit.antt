@@ -1,6 +1,6 @@
 -- Types that name what there is.
 use Rattle.std.specs.List.{list_all}
-use Rattle.std.specs.Prelude.{Bool, true, false, ◌&&◌, nat_lt, List, [], ◌∷◌, length, Option, Some, None}
+use Rattle.std.specs.Prelude.{Bool, true, false, ◌&&◌, nat_lt, List, [], ◌∷◌, length, slice_get, Option, Some, None}
 use Rattle.hir_types.specs.declared.ids.GenericDefId.{GenericDefId}
 use Rattle.hir_types.specs.declared.ids.TraitId.{TraitId}
 use Rattle.hir_types.specs.declared.ty.Ty.{Ty, Ty-F, fold-Ty}
@@ -10,7 +10,7 @@ use Rattle.hir_types.specs.declared.ty.TraitRef.{TraitRef-F}
 use Rattle.hir_types.specs.declared.ty.Const.{Const}
 use Rattle.hir_types.specs.declared.ty.Const.TheVariants as const
 use Rattle.hir_raw.specs.declared.raw.RawFacts.{RawFacts}
-use Rattle.hir_raw.specs.Scope.{Scope, adt_params, callable_params, has_params, item_scope}
+use Rattle.hir_raw.specs.Scope.{Scope, adt_params, alias_params_by, callable_params, has_params, item_scope}
 
 -- no parameter stands for a const yet
 abbrev pub const_fits : Const → Bool
@@ -25,7 +25,7 @@ abbrev pub fits_arg : GenericArg-F Bool Bool Bool Bool → Bool
 fits_arg (GenericArg-F.Ty b) = b
 fits_arg (GenericArg-F.Const c) = false
 
--- no trait, alias or opaque type is carried yet, so what names one does not fit
+-- no object type that names a trait is carried yet, and no opaque type, so what is one does not fit
 abbrev pub fits_bound : AliasBound-F Bool Bool Bool Bool → Bool
 fits_bound b = false
 
@@ -58,7 +58,7 @@ fits_step sc (Ty-F.FnPtr s bs b) = list_all (λ b. b) bs && b
 fits_step sc (Ty-F.Closure i bs b) = list_all (λ b. b) bs && b
 fits_step sc (Ty-F.Dynamic o bs ts) = names_none o bs ts
 fits_step sc (Ty-F.Param n) = nat_lt n sc.params
-fits_step sc (Ty-F.Projection i bs) = false
+fits_step sc (Ty-F.Projection i bs) = has_params (alias_params_by sc.facts (slice_get sc.facts.aliases i.0)) (length bs) && list_all (λ b. b) bs
 fits_step sc (Ty-F.Opaque i bs) = false
 fits_step sc Ty-F.Error = true
 fits_step sc (Ty-F.Var n) = true

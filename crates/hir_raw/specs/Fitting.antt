@@ -2,6 +2,7 @@
 use Rattle.std.proofs.Common.{◌≡◌, refl, sym, ap, ◌∙◌, Bool, true, false, ◌&&◌, ℕ, List, [], ◌∷◌, map, length, Option, Some, None, nat_lt, ◌⊎◌, inl, inr}
 use Rattle.std.proofs.lemmas.List.{length-map}
 use Rattle.std.specs.List.{list_all}
+use Rattle.std.specs.Prelude.{slice_get}
 use Rattle.hir_types.specs.declared.ids.AdtId.{AdtId}
 use Rattle.hir_types.specs.declared.ids.CallableDefId.{CallableDefId}
 use Rattle.hir_types.specs.declared.ids.ClosureId.{ClosureId}
@@ -21,7 +22,7 @@ use Rattle.hir_types.specs.declared.ty.TraitRef.{TraitRef}
 use Rattle.hir_types.specs.declared.ty.AliasBound.{AliasBound}
 use Rattle.hir_types.specs.declared.ty.Ty.{Ty, Ty-F, fold-roll-Ty}
 use Rattle.hir_types.specs.declared.ty.Ty.TheVariants as ty
-use Rattle.hir_raw.specs.Scope.{Scope, adt_params, callable_params, has_params}
+use Rattle.hir_raw.specs.Scope.{Scope, adt_params, alias_params_by, callable_params, has_params}
 use Rattle.hir_raw.specs.Fit.{const_fits, fits_arg, fits_step, fits_bound, fits_trait, ty_fits, arg_fits, names_none}
 
 list_all_map : {X : Type 0} (f : X → Bool) (xs : List X) → list_all (λ b. b) (map f xs) ≡ list_all f xs
@@ -88,8 +89,10 @@ fits_inputs sc t ts u (inr c) = ap (ty_fits sc) c.1 ∙ ty_fits_closure sc c.0 t
 pub ty_fits_param : (sc : Scope) (n : ℕ) → ty_fits sc (ty.Param n) ≡ nat_lt n sc.params
 ty_fits_param sc n = ap (ty_fits sc) (sym (ty.rolls-Param n)) ∙ fold-roll-Ty Bool Bool Bool Bool fits_arg (fits_step sc) fits_bound fits_trait (Ty-F.Param n)
 
-pub ty_fits_projection : (sc : Scope) (i : TypeAliasId) (xs : List GenericArg) → ty_fits sc (ty.Projection i xs) ≡ false
-ty_fits_projection sc i xs = ap (ty_fits sc) (sym (ty.rolls-Projection i xs)) ∙ fold-roll-Ty Bool Bool Bool Bool fits_arg (fits_step sc) fits_bound fits_trait (Ty-F.Projection i xs)
+pub ty_fits_projection : (sc : Scope) (i : TypeAliasId) (xs : List GenericArg) → ty_fits sc (ty.Projection i xs) ≡ (has_params (alias_params_by sc.facts (slice_get sc.facts.aliases i.0)) (length xs) && list_all (arg_fits sc) xs)
+ty_fits_projection sc i xs =
+    ap (ty_fits sc) (sym (ty.rolls-Projection i xs))
+    ∙ (fold-roll-Ty Bool Bool Bool Bool fits_arg (fits_step sc) fits_bound fits_trait (Ty-F.Projection i xs) ∙ args_map sc (alias_params_by sc.facts (slice_get sc.facts.aliases i.0)) xs)
 
 pub ty_fits_opaque : (sc : Scope) (i : OpaqueId) (xs : List GenericArg) → ty_fits sc (ty.Opaque i xs) ≡ false
 ty_fits_opaque sc i xs = ap (ty_fits sc) (sym (ty.rolls-Opaque i xs)) ∙ fold-roll-Ty Bool Bool Bool Bool fits_arg (fits_step sc) fits_bound fits_trait (Ty-F.Opaque i xs)

@@ -4,7 +4,7 @@ ghost use Rattle.std.specs.List.{list_all};
 ghost use Rattle.hir_raw.specs.Fit.{const_fits, names_none, ty_fits, arg_fits};
 
 use crate::raw::RawFacts;
-use crate::scope::{adt_params, callable_params, has_params};
+use crate::scope::{adt_params, alias_params, callable_params, has_params};
 use hir_types::{AliasBound, Const, GenericArg, List, TraitId, TraitRef, Ty};
 
 fn const_fits(value: Const) -> bool
@@ -27,8 +27,8 @@ fn names_none(
 }
 
 /// Whether each id other than a closure's and each parameter in a type is in range, under this many
-/// parameters, and the arguments of adts and function items are as many as their parameters. The facts
-/// carry no traits, aliases and opaque types yet, so what names one does not fit.
+/// parameters, and the arguments of adts, function items and associated types are as many as their
+/// parameters. The facts carry no opaque types and no object types that name traits yet, so none fits.
 #[cycle(fit)]
 #[tactic(auto, using(crate::specs::Fitting::ty_fits_is))]
 pub fn ty_fits(raw: &RawFacts, params: usize, ty: &Ty) -> bool
@@ -44,6 +44,9 @@ pub fn ty_fits(raw: &RawFacts, params: usize, ty: &Ty) -> bool
         Ty::FnDef(id, args) => {
             has_params(callable_params(raw, *id), args.len()) && args_fit(raw, params, args)
         }
+        Ty::Projection(id, args) => {
+            has_params(alias_params(raw, *id), args.len()) && args_fit(raw, params, args)
+        }
         Ty::FnPtr { inputs, output, .. } | Ty::Closure { inputs, output, .. } => {
             all_fit(raw, params, inputs) && ty_fits(raw, params, output.get())
         }
@@ -53,7 +56,7 @@ pub fn ty_fits(raw: &RawFacts, params: usize, ty: &Ty) -> bool
             auto_traits,
         } => names_none(principal, projections, auto_traits),
         Ty::Param(number) => (*number as usize) < params,
-        Ty::Projection(..) | Ty::Opaque(..) => false,
+        Ty::Opaque(..) => false,
         Ty::Bool | Ty::Char | Ty::Int(_) | Ty::Uint(_) | Ty::Float(_) | Ty::Str | Ty::Never => true,
         Ty::Error | Ty::Var(_) | Ty::IntVar(_) | Ty::Hole => true,
     }

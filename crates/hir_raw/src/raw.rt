@@ -45,6 +45,11 @@ pub enum RawType {
     Tuple(List<TypeRefId>),
     /// A struct, enum or union at its arguments, which are all types.
     Adt { adt: AdtId, args: List<TypeRefId> },
+    /// An associated type at the arguments of its trait, which are all types, the self type first.
+    Projection {
+        alias: TypeAliasId,
+        args: List<TypeRefId>,
+    },
     /// The type parameter with this number.
     Param(u32),
     /// `_`.
@@ -60,6 +65,7 @@ impl RawType {
         match self {
             RawType::Tuple(parts) => parts.as_slice(),
             RawType::Adt { adt: _, args } => args.as_slice(),
+            RawType::Projection { alias: _, args } => args.as_slice(),
             RawType::Bool | RawType::Char | RawType::Integer(_) => &[],
             RawType::Param(_) | RawType::Hole | RawType::Other => &[],
         }

@@ -57,7 +57,8 @@ fn params_in_trait(raw: &RawFacts, id: TraitId) -> Option<usize>
     }
 }
 
-fn alias_params(raw: &RawFacts, alias: TypeAliasId) -> Option<usize>
+/// How many parameters an associated type has, those of its trait, or `None` where it is not in range.
+pub fn alias_params(raw: &RawFacts, alias: TypeAliasId) -> Option<usize>
     ensures { result ≡ alias_params_by raw.now (slice_get raw.now.aliases alias.0) }
 {
     match raw.aliases.get(alias.0 as usize) {

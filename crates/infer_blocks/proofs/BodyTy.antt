@@ -5,6 +5,7 @@ use Rattle.hir_types.specs.declared.ids.TypeRefId.{TypeRefId}
 use Rattle.hir_types.specs.Types.{most}
 use Rattle.hir_types.specs.declared.ty.Ty.{Ty}
 use Rattle.hir_types.specs.declared.ids.AdtId.{AdtId}
+use Rattle.hir_types.specs.declared.ids.TypeAliasId.{TypeAliasId}
 use Rattle.hir_types.specs.declared.ty.GenericArg.{GenericArg}
 use Rattle.hir_types.specs.Subst.{Assignment, folded}
 use Rattle.hir_types.specs.declared.ty.GenericArg.TheVariants as arg
@@ -158,7 +159,7 @@ module _ (g : Given) (all : AllHold ChildrenBefore g.scope.facts.types) (w : Typ
           let same : y ≡ type.Hole = cc in
           absurd (let none : slice_get [] j ≡ Some v = subst (λ z. slice_get (type_parts z) j ≡ Some v) same part in cc))
 
--- a tuple and an adt, whose parts are read
+-- a tuple, an adt and a projection, whose parts are read
 module _ (g : Given) (all : AllHold ChildrenBefore g.scope.facts.types) (w : TypeRefId) (parts items : List TypeRefId) (same : items ≡ parts) (old new : InferenceContext) (d : PartTysDone g items old new) where
   pub tuple_done : (ts : List Ty) → slice_get g.scope.facts.types w.0 ≡ Some (type.Tuple parts) → ts ≡ map (λ v. declared g new.result v) items → PartTyDone g w (ty.Tuple ts) old new
   tuple_done ts here are =
@@ -170,6 +171,12 @@ module _ (g : Given) (all : AllHold ChildrenBefore g.scope.facts.types) (w : Typ
   adt_done a xs here are =
       part_done g all w (type.Adt a parts) here (ty.Adt a xs) old new (λ e. absurd (cc)) d.adds
       (ap (ty.Adt a) (are ∙ ap (map (λ v. arg.Ty (declared g new.result v))) same))
+      (subst (λ vs. (i : ℕ) (v : TypeRefId) → slice_get vs i ≡ Some v → AreRecorded g new.result v) same d.recorded)
+
+  pub projection_done : (a : TypeAliasId) (xs : List GenericArg) → slice_get g.scope.facts.types w.0 ≡ Some (type.Projection a parts) → xs ≡ map (λ v. arg.Ty (declared g new.result v)) items → PartTyDone g w (ty.Projection a xs) old new
+  projection_done a xs here are =
+      part_done g all w (type.Projection a parts) here (ty.Projection a xs) old new (λ e. absurd (cc)) d.adds
+      (ap (ty.Projection a) (are ∙ ap (map (λ v. arg.Ty (declared g new.result v))) same))
       (subst (λ vs. (i : ℕ) (v : TypeRefId) → slice_get vs i ≡ Some v → AreRecorded g new.result v) same d.recorded)
 
 -- ---- one `_`

@@ -52,6 +52,10 @@ fn lower_part(
             let args = lower_args(alloc, context, given, args.as_slice())?;
             Ok(Ty::Adt(*adt, args))
         }
+        RawType::Projection { alias, args } => {
+            let args = lower_args(alloc, context, given, args.as_slice())?;
+            Ok(Ty::Projection(*alias, args))
+        }
         RawType::Param(number) => Ok(Ty::Param(*number)),
         RawType::Hole => {
             let ty = placeholder_ty(alloc, context, given, type_ref)?;
@@ -82,7 +86,7 @@ fn lower_parts(
     Ok(tys)
 }
 
-/// What the arguments of a written adt stand for.
+/// What the arguments of a written adt or projection stand for.
 #[cycle(body_ty)]
 fn lower_args(
     alloc: Global,

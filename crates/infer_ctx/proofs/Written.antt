@@ -58,6 +58,7 @@ module _ (raw : RawFacts) (law : IsLawful raw) (count : ℕ) where
         let us : List Ty = map (λ t. f t.0) ts in
         let P : List GenericArg → Type 0 = λ xs. Good (ty.Adt a xs) in
         subst P (map_twice arg.Ty (λ (t : TypeRefId). f t.0) ts) (fine_adt Here state a us (ap (has_params (adt_params raw a)) (length-map ts (λ (t : TypeRefId). f t.0)) ∙ o) (filled_parts f ts each))
+    filled_by_fine i f (type.Projection a ts) at good o c each = absurd o
     filled_by_fine i f (type.Param n) at good o c each = carried_fine state Here (ty.Param n) (carried_param n) (heads_param Here n (lt-ltb n count o))
     filled_by_fine i f type.Hole at good o c each = good i (is_itself at)
     filled_by_fine i f type.Other at good o c each = absurd (true≢false (sym c))
@@ -82,7 +83,7 @@ module _ (raw : RawFacts) (law : IsLawful raw) (count : ℕ) where
       subst (HasFineHeads Here) (filled_written (λ k. ty.Bool) raw.types w none) (filled_fine new_state (λ k. ty.Bool) w fits (λ k stands. fine_bool Here new_state)).heads
 
   pub is_written : (w : TypeRefId) → FitsUnder raw count w.0 → HasNoHole raw.types w → IsWritten Here w
-  is_written w fits none = record { within = fits.within; carried = written_carried raw.types w none; heads = written_heads w fits none }
+  is_written w fits none = record { within = fits.within; carried = written_carried raw law count w fits none; heads = written_heads w fits none }
 
 pub written_fine : (sc : Scope) (state : State) (w : TypeRefId) → IsWritten sc w → IsFine sc state (written_type sc.facts.types w)
 written_fine sc state w h = carried_fine state sc (written_type sc.facts.types w) h.carried h.heads

@@ -13,6 +13,7 @@ use Rattle.hir_types.specs.declared.ty.AliasBound.{AliasBound}
 use Rattle.hir_types.specs.declared.ty.GenericArg.{GenericArg}
 use Rattle.hir_types.specs.declared.ty.TraitRef.{TraitRef}
 use Rattle.hir_types.specs.declared.ids.AdtId.{AdtId}
+use Rattle.hir_types.specs.declared.ids.TypeAliasId.{TypeAliasId}
 use Rattle.hir_types.specs.declared.ty.GenericArg.TheVariants as arg
 use Rattle.hir_types.specs.declared.ty.Ty.{Ty, Ty-F, out-Ty, out-roll-Ty}
 use Rattle.hir_types.specs.declared.ty.Ty.TheVariants as ty
@@ -101,6 +102,13 @@ hole_head = ap outermost_step (ap out-Ty (sym ty.rolls-Hole) ∙ out-roll-Ty Ty-
 no_hole_head : (h : Outermost) → HasHead ty.Hole h → ⊥
 no_hole_head h has = (let clash : None ≡ Some h = sym hole_head ∙ has in cc)
 
+projection_head : (i : TypeAliasId) (xs : List GenericArg) → outermost_step (out-Ty (ty.Projection i xs)) ≡ None
+projection_head i xs =
+    ap outermost_step (ap out-Ty (sym (ty.rolls-Projection i xs)) ∙ out-roll-Ty (Ty-F.Projection i xs))
+
+no_projection_head : (i : TypeAliasId) (xs : List GenericArg) (h : Outermost) → HasHead (ty.Projection i xs) h → ⊥
+no_projection_head i xs h has = (let clash : None ≡ Some h = sym (projection_head i xs) ∙ has in cc)
+
 head_by : (u : Ty) (f g : ℕ → Ty) (o : Option RawType) (h : Outermost) → HasHead (lowered_by g o) h
     → HasHead (filled_by u f o) h
 head_by u f g None h has = has
@@ -112,6 +120,7 @@ head_by u f g (Some (type.Tuple ts)) h has =
     tuple_head (map (λ t. f t.0) ts) ∙ (ap (λ n. Some (tuple n)) lengths ∙ (sym (tuple_head (map (λ t. g t.0) ts)) ∙ has))
 head_by u f g (Some (type.Adt a ts)) h has =
     adt_head a (map (λ t. arg.Ty (f t.0)) ts) ∙ (sym (adt_head a (map (λ t. arg.Ty (g t.0)) ts)) ∙ has)
+head_by u f g (Some (type.Projection a ts)) h has = absurd (no_projection_head a (map (λ t. arg.Ty (g t.0)) ts) h has)
 head_by u f g (Some (type.Param n)) h has = has
 head_by u f g (Some type.Hole) h has = absurd (no_hole_head h has)
 head_by u f g (Some type.Other) h has = has

@@ -5,6 +5,7 @@ use Rattle.std.specs.Str.{bytes_eq}
 use Rattle.serde_json.specs.Data.{Data}
 use Rattle.serde_json.specs.Find.{as_str}
 use Rattle.hir_types.specs.declared.ids.AdtId.{AdtId}
+use Rattle.hir_types.specs.declared.ids.TypeAliasId.{TypeAliasId}
 use Rattle.hir_types.specs.declared.ids.TypeRefId.{TypeRefId}
 use Rattle.hir_types.specs.declared.ty.IntegerTy.{IntegerTy}
 use Rattle.hir_raw.specs.declared.raw.RawType.{RawType}
@@ -80,8 +81,19 @@ adt_type_in d = do
   xs ← part args_in 2 d
   Ok (adt_type_by a xs)
 
--- "bool", "char", "_", ["tuple", [TYPE]], ["adt", a, [A]], ["param", n], the name of an integer type, or
--- another kind
+-- so is an associated type
+abbrev pub projection_type_by : TypeAliasId → RawArgs → RawType
+projection_type_by a (args.Types ts) = type.Projection a ts
+projection_type_by a args.Other = type.Other
+
+unfoldable pub projection_type_in : Data → Result RawType (List ℕ)
+projection_type_in d = do
+  a ← part alias_id_in 1 d
+  xs ← part args_in 2 d
+  Ok (projection_type_by a xs)
+
+-- "bool", "char", "_", ["tuple", [TYPE]], ["adt", a, [A]], ["proj", alias, [A]], ["param", n], the name of an
+-- integer type, or another kind
 unfoldable pub type_in : Data → Result RawType (List ℕ)
 type_in d = do
   t ← there (tag d)
@@ -89,6 +101,7 @@ type_in d = do
       if is_tag t (codes "char") 0 then Ok type.Char else
       if is_tag t (codes "tuple") 2 then part (list_in type_ref_in) 1 d >>= (λ ts. Ok (type.Tuple ts)) else
       if is_tag t (codes "adt") 3 then adt_type_in d else
+      if is_tag t (codes "proj") 3 then projection_type_in d else
       if is_tag t (codes "param") 2 then part u32_in 1 d >>= (λ n. Ok (type.Param n)) else
       if is_tag t (codes "_") 0 then Ok type.Hole else
       named_type t

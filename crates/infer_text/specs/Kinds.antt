@@ -8,7 +8,7 @@ other_types =
     (codes "f16", 0) ∷ (codes "f32", 0) ∷ (codes "f64", 0) ∷ (codes "f128", 0) ∷
     (codes "array", 3) ∷ (codes "slice", 2) ∷ (codes "ref", 4) ∷ (codes "ptr", 3) ∷
     (codes "fnptr", 4) ∷ (codes "dyn", 4) ∷
-    (codes "proj", 3) ∷ (codes "opaque", 3) ∷ []
+    (codes "opaque", 3) ∷ []
 
 abbrev pub other_literals : List (List ℕ × ℕ)
 other_literals = (codes "str", 2) ∷ (codes "bytes", 2) ∷ (codes "cstr", 0) ∷ []

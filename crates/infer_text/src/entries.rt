@@ -4,7 +4,7 @@ ghost use Rattle.std.specs.List.{list_all};
 ghost use Rattle.serde_json.specs.View.{view};
 ghost use Rattle.infer_text.specs.Reading.{IsAsRead, is_kind_of};
 ghost use Rattle.infer_text.specs.Kinds.{other_types};
-ghost use Rattle.infer_text.specs.Entries.{integer_tag, named_type, arg_in, is_type, arg_type, args_in, adt_type_in, trait_ref_at, projection_in, goal_in, type_in, param_in, adt_in, field_in, variant_in, at_in, vis_in, fn_in, limits_in};
+ghost use Rattle.infer_text.specs.Entries.{integer_tag, named_type, arg_in, is_type, arg_type, args_in, adt_type_in, projection_type_in, trait_ref_at, projection_in, goal_in, type_in, param_in, adt_in, field_in, variant_in, at_in, vis_in, fn_in, limits_in};
 
 use super::fault::Misread;
 use super::leaves::integer_of;
@@ -43,7 +43,6 @@ fn is_other_type(tag: (&str, usize)) -> bool
             ("ptr", 3),
             ("fnptr", 4),
             ("dyn", 4),
-            ("proj", 3),
             ("opaque", 3),
         ],
     )
@@ -143,6 +142,17 @@ fn adt_type(alloc: Global, value: &Value) -> Result<RawType, Misread>
     }
 }
 
+#[tactic(auto, unfolding(crate::specs::Entries::projection_type_in))]
+fn projection_type(alloc: Global, value: &Value) -> Result<RawType, Misread>
+    ensures { IsAsRead result (projection_type_in (view value.now)) }
+{
+    let alias = part_of(alloc, value, 1)?;
+    match part_of(alloc, value, 2)? {
+        RawArgs::Types(args) => Ok(RawType::Projection { alias, args }),
+        RawArgs::Other => Ok(RawType::Other),
+    }
+}
+
 #[tactic(auto, unfolding(crate::specs::Entries::type_in))]
 impl FromData for RawType {
     ghost reads = { type_in };
@@ -157,6 +167,8 @@ impl FromData for RawType {
             Ok(RawType::Tuple(part_of(alloc, value, 1)?))
         } else if is(tag, "adt", 3) {
             adt_type(alloc, value)
+        } else if is(tag, "proj", 3) {
+            projection_type(alloc, value)
         } else if is(tag, "param", 2) {
             Ok(RawType::Param(part_of(alloc, value, 1)?))
         } else if is(tag, "_", 0) {

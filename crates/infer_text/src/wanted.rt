@@ -71,7 +71,7 @@ static PLACES: [Wanted; 88] = [
     },
     Wanted {
         path: b"types.#.1",
-        what: "a list of indexes into `types`, or the number of an adt or a parameter, as the type's kind asks,",
+        what: "a list of indexes into `types`, or the number of an adt, an associated type or a parameter, as the type's kind asks,",
     },
     Wanted {
         path: b"types.#.1.#",

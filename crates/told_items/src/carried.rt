@@ -26,13 +26,6 @@ impl fmt::Display for Uncarried<'_> {
 
 const WRITTEN_ARGUMENTS: Uncarried<'static> = Uncarried::Form("written arguments of paths");
 
-fn of_type(ty: &Value) -> Uncarried<'_> {
-    match word(Some(ty)) {
-        "adt" => Uncarried::Form("const arguments of types"),
-        word => Uncarried::Kind(word, "types"),
-    }
-}
-
 const CONST_ARGUMENTS: Uncarried<'static> = Uncarried::Form("const arguments of traits");
 
 fn is_const(argument: &Value) -> bool {
@@ -41,6 +34,26 @@ fn is_const(argument: &Value) -> bool {
 
 fn has_const(arguments: Option<&Value>) -> bool {
     items(arguments).iter().any(|argument| is_const(argument))
+}
+
+const PROJECTIONS: Uncarried<'static> =
+    Uncarried::Form("projections but in goals, impls and other projections");
+
+fn is_projection(facts: &Value, ty: Option<&Value>) -> bool {
+    match number(ty) {
+        Some(ty) => word(list(facts, "types").get(ty)) == "proj",
+        None => false,
+    }
+}
+
+fn of_type(ty: &Value) -> Uncarried<'_> {
+    match word(Some(ty)) {
+        "adt" | "proj" if has_const(ty.get(2usize)) => {
+            Uncarried::Form("const arguments of types")
+        }
+        "adt" | "tuple" => PROJECTIONS,
+        word => Uncarried::Kind(word, "types"),
+    }
 }
 
 /// What is not carried of the goals under a key.
@@ -143,7 +156,25 @@ fn of_adt(place: Place, adt: &Value) -> Option<(Place, Uncarried<'_>)> {
     }
 }
 
-fn of_variant(place: Place, variant: &Value) -> Option<(Place, Uncarried<'_>)> {
+/// The first field whose type is a projection.
+fn of_fields(
+    facts: &Value,
+    place: Place,
+    variant: &Value,
+) -> Option<(Place, Uncarried<'static>)> {
+    for (at, field) in list(variant, "fields").iter().enumerate() {
+        if is_projection(facts, field.get("type")) {
+            return Some((place.item("fields", at), PROJECTIONS));
+        }
+    }
+    None
+}
+
+fn of_variant<'a>(
+    facts: &Value,
+    place: Place,
+    variant: &'a Value,
+) -> Option<(Place, Uncarried<'a>)> {
     if word(variant.get("ctor")) == "record" {
         Some((
             place.key("ctor"),
@@ -152,11 +183,29 @@ fn of_variant(place: Place, variant: &Value) -> Option<(Place, Uncarried<'_>)> {
     } else if is_there(variant.get("body")) {
         Some((place.key("body"), Uncarried::Form("bodies of variants")))
     } else {
+        of_fields(facts, place, variant)
+    }
+}
+
+/// The first input that is a projection, or the output where it is one.
+fn of_signature(
+    facts: &Value,
+    place: Place,
+    function: &Value,
+) -> Option<(Place, Uncarried<'static>)> {
+    for (at, input) in list(function, "inputs").iter().enumerate() {
+        if is_projection(facts, Some(input)) {
+            return Some((place.item("inputs", at), PROJECTIONS));
+        }
+    }
+    if is_projection(facts, function.get("output")) {
+        Some((place.key("output"), PROJECTIONS))
+    } else {
         None
     }
 }
 
-fn of_fn(place: Place, function: &Value) -> Option<(Place, Uncarried<'_>)> {
+fn of_fn<'a>(facts: &Value, place: Place, function: &'a Value) -> Option<(Place, Uncarried<'a>)> {
     match word(function.get("at")) {
         "module" => {}
         word => return Some((place.key("at"), Uncarried::Kind(word, "functions"))),
@@ -168,7 +217,7 @@ fn of_fn(place: Place, function: &Value) -> Option<(Place, Uncarried<'_>)> {
                 Uncarried::Form("functions with `self`"),
             ))
         }
-        _ => of_params(place, function),
+        _ => of_params(place, function).or(of_signature(facts, place, function)),
     }
 }
 
@@ -230,6 +279,24 @@ fn of_binding(binding: &Value) -> Option<Uncarried<'_>> {
     }
 }
 
+fn is_let_of_projection(facts: &Value, stmt: &Value) -> bool {
+    word(Some(stmt)) == "let" && is_projection(facts, stmt.get(2usize))
+}
+
+/// The first expression with a `let` that is written with a projection.
+fn of_lets(facts: &Value, place: Place, body: &Value) -> Option<(Place, Uncarried<'static>)> {
+    for (at, expr) in list(body, "exprs").iter().enumerate() {
+        if word(Some(expr)) == "block"
+            && items(expr.get(2usize))
+                .iter()
+                .any(|stmt| is_let_of_projection(facts, stmt))
+        {
+            return Some((place.item("exprs", at), PROJECTIONS));
+        }
+    }
+    None
+}
+
 fn of_body<'a>(facts: &Value, place: Place, body: &'a Value) -> Option<(Place, Uncarried<'a>)> {
     for (at, expr) in list(body, "exprs").iter().enumerate() {
         if let Some(found) = of_expr(expr) {
@@ -249,7 +316,7 @@ fn of_body<'a>(facts: &Value, place: Place, body: &'a Value) -> Option<(Place, U
     if number(body.get("self")).is_some() {
         Some((place.key("self"), Uncarried::Form("bodies with `self`")))
     } else {
-        of_owing(facts, place, body)
+        of_owing(facts, place, body).or(of_lets(facts, place, body))
     }
 }
 
@@ -276,8 +343,8 @@ pub fn find(facts: &Value, list: FactsList, index: usize) -> Option<(Place, Unca
     match list {
         FactsList::Types => Some((place, of_type(entry))),
         FactsList::Adts => of_adt(place, entry),
-        FactsList::Variants => of_variant(place, entry),
-        FactsList::Fns => of_fn(place, entry),
+        FactsList::Variants => of_variant(facts, place, entry),
+        FactsList::Fns => of_fn(facts, place, entry),
         FactsList::Traits => of_members(place, entry),
         FactsList::Aliases => of_goals(place, entry, "bounds"),
         FactsList::Impls => of_impl(place, entry),

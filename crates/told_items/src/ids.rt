@@ -163,10 +163,10 @@ fn of_type(facts: &Value, at: usize, ty: &Value) -> Option<WrongId> {
             return Some(wrong);
         }
     }
-    if word(Some(ty)) == "adt" {
-        beyond(Named::Adt, ty.get(1usize), list(facts, "adts").len())
-    } else {
-        None
+    match word(Some(ty)) {
+        "adt" => beyond(Named::Adt, ty.get(1usize), list(facts, "adts").len()),
+        "proj" => beyond(Named::Alias, ty.get(1usize), list(facts, "aliases").len()),
+        _ => None,
     }
 }
 

@@ -44,7 +44,7 @@ pub fn is_there(value: Option<&Value>) -> bool {
 pub fn type_parts(ty: &Value) -> &[Value] {
     match word(Some(ty)) {
         "tuple" => items(ty.get(1usize)),
-        "adt" => items(ty.get(2usize)),
+        "adt" | "proj" => items(ty.get(2usize)),
         _ => &[],
     }
 }

@@ -1,5 +1,6 @@
-use Rattle.std.proofs.Common.{◌<◌, arith, get_or, ◌∙◌}
-use Rattle.hir_facts.proofs.Lowering.{part_below, lowered_here, tuple_here, adt_here}
+use Rattle.std.proofs.Common.{◌<◌, arith, get_or, refl, ◌∙◌}
+use Rattle.hir_types.specs.declared.ty.Ty.TheVariants as ty
+use Rattle.hir_facts.proofs.Lowering.{part_below, lowered_here, tuple_here, args_here}
 use Rattle.hir_facts.proofs.lower.+lower.Goals as goal
 
 pub lower-requires : goal.lower-requires
@@ -12,6 +13,12 @@ pub lower-requires-in-loop-arg : goal.lower-requires-in-loop-arg
 lower-requires-in-loop-arg t c =
     let below : (get_or c.as_slice-arg-items.result.now c.loop-arg.arg-index (record { 0 = 0 })).0 < c.args.t =
     part_below c.args.types.now c.args.t c.index-types-t.result _ c.as_slice-arg-items.result.now c.loop-arg.arg-index (record { 0 = 0 }) c.requires.before c.requires.within c.index-types-t.is c.in-Adt.is c.as_slice-arg-items.ensures c.loop-arg-test.true in
+    (omega (arith, below), (c.requires.before, omega (arith, below)))
+
+pub lower-requires-in-loop-arg-2 : goal.lower-requires-in-loop-arg-2
+lower-requires-in-loop-arg-2 t c =
+    let below : (get_or c.as_slice-arg-items-in-Projection.result.now c.loop-arg-2.arg-index (record { 0 = 0 })).0 < c.args.t =
+    part_below c.args.types.now c.args.t c.index-types-t.result _ c.as_slice-arg-items-in-Projection.result.now c.loop-arg-2.arg-index (record { 0 = 0 }) c.requires.before c.requires.within c.index-types-t.is c.in-Projection.is c.as_slice-arg-items-in-Projection.ensures c.loop-arg-2-test.true in
     (omega (arith, below), (c.requires.before, omega (arith, below)))
 
 pub returns-in-Bool : goal.returns-in-Bool
@@ -27,7 +34,12 @@ pub returns-after-loop-part : goal.returns-after-loop-part
 returns-after-loop-part t c = tuple_here c.args.types.now c.args.t c.index-types-t.result c.in-Tuple.parts c.as_slice-part-items.result.now c.loop-part.tys c.loop-part.part-index c.requires.before c.requires.within c.index-types-t.is c.in-Tuple.is c.as_slice-part-items.ensures c.loop-part.invariant c.loop-part-test.false
 
 pub returns-after-loop-arg : goal.returns-after-loop-arg
-returns-after-loop-arg t c = adt_here c.args.types.now c.args.t c.index-types-t.result c.in-Adt.adt c.in-Adt.args c.as_slice-arg-items.result.now c.loop-arg.lowered c.loop-arg.arg-index c.requires.before c.requires.within c.index-types-t.is c.in-Adt.is c.as_slice-arg-items.ensures c.loop-arg.invariant c.loop-arg-test.false
+returns-after-loop-arg t c =
+    args_here c.args.types.now c.args.t c.index-types-t.result _ (ty.Adt c.in-Adt.adt) c.in-Adt.args c.as_slice-arg-items.result.now c.loop-arg.lowered c.loop-arg.arg-index c.requires.before c.requires.within c.index-types-t.is c.in-Adt.is refl c.as_slice-arg-items.ensures c.loop-arg.invariant c.loop-arg-test.false
+
+pub returns-after-loop-arg-2 : goal.returns-after-loop-arg-2
+returns-after-loop-arg-2 t c =
+    args_here c.args.types.now c.args.t c.index-types-t.result _ (ty.Projection c.in-Projection.alias) c.in-Projection.args c.as_slice-arg-items-in-Projection.result.now c.loop-arg-2.lowered c.loop-arg-2.arg-index c.requires.before c.requires.within c.index-types-t.is c.in-Projection.is refl c.as_slice-arg-items-in-Projection.ensures c.loop-arg-2.invariant c.loop-arg-2-test.false
 
 pub returns-in-Param : goal.returns-in-Param
 returns-in-Param t c = lowered_here c.args.types.now c.args.t c.index-types-t.result _ c.requires.before c.requires.within c.index-types-t.is c.in-Param.is

@@ -11,3 +11,6 @@ invariant-loop-part l = l.tys ≡ map (λ t. lowered l.types t.0) (take l.part-i
 
 abbrev pub invariant-loop-arg : goal.invariant-loop-arg
 invariant-loop-arg l = l.lowered ≡ map (λ t. arg.Ty (lowered l.types t.0)) (take l.arg-index l.arg-items)
+
+abbrev pub invariant-loop-arg-2 : goal.invariant-loop-arg-2
+invariant-loop-arg-2 l = l.lowered ≡ map (λ t. arg.Ty (lowered l.types t.0)) (take l.arg-index l.arg-items)

@@ -1,6 +1,6 @@
 use Rattle.std.proofs.Common.{rules}
 use Rattle.hir_raw.specs.Scope.{Scope}
-use Rattle.hir_raw.specs.Fitting.{ty_fits_tuple, ty_fits_adt, ty_fits_fndef, fits_inputs}
+use Rattle.hir_raw.specs.Fitting.{ty_fits_tuple, ty_fits_adt, ty_fits_fndef, ty_fits_projection, fits_inputs}
 use Rattle.hir_raw.proofs.fit.+fit.Goals as goal
 
 pub ty_fits-returns-in-Tuple : goal.ty_fits-returns-in-Tuple
@@ -27,6 +27,16 @@ pub ty_fits-returns-else-has_params-2 : goal.ty_fits-returns-else-has_params-2
 ty_fits-returns-else-has_params-2 t c =
     let sc : Scope = record { facts = c.args.raw.now; params = c.args.params } in
     rw (c.in-FnDef.is, ty_fits_fndef sc _ _) (search (rules, c.callable_params.ensures, c.has_params-in-FnDef.ensures))
+
+pub ty_fits-returns-then-has_params-3 : goal.ty_fits-returns-then-has_params-3
+ty_fits-returns-then-has_params-3 t c =
+    let sc : Scope = record { facts = c.args.raw.now; params = c.args.params } in
+    rw (c.in-Projection.is, ty_fits_projection sc _ _) (search (rules, c.alias_params.ensures, c.has_params-in-Projection.ensures, c.args_fit-then-has_params-3.ensures))
+
+pub ty_fits-returns-else-has_params-3 : goal.ty_fits-returns-else-has_params-3
+ty_fits-returns-else-has_params-3 t c =
+    let sc : Scope = record { facts = c.args.raw.now; params = c.args.params } in
+    rw (c.in-Projection.is, ty_fits_projection sc _ _) (search (rules, c.alias_params.ensures, c.has_params-in-Projection.ensures))
 
 pub ty_fits-returns-then-all_fit : goal.ty_fits-returns-then-all_fit
 ty_fits-returns-then-all_fit t c =

@@ -7,7 +7,7 @@ use Rattle.hir_laws.specs.LawfulFacts.{type_ids}
 use Rattle.hir_raw.specs.WrittenTypes.{is_itself}
 use Rattle.hir_raw.specs.declared.raw.RawType.TheVariants as type
 use Rattle.infer_ctx.specs.Context.{given_of}
-use Rattle.infer_blocks.proofs.BodyTy.{is_below, comes_to_parts, parts_below, leaf_done, tuple_done, adt_done, hole_done, comes_to_part, goes_past_part}
+use Rattle.infer_blocks.proofs.BodyTy.{is_below, comes_to_parts, parts_below, leaf_done, tuple_done, adt_done, projection_done, hole_done, comes_to_part, goes_past_part}
 use Rattle.infer_blocks.proofs.body_ty.+body_ty.Goals as goal
 
 -- ---- parts
@@ -52,6 +52,14 @@ lower_part-lower_args-requires t c =
     let below = parts_below g all c.args.type_ref _ here in
     rw c.as_slice-in-Adt.ensures (omega (arith, c.decreases, below), comes_to_parts g all c.args.type_ref _ here _ c.requires)
 
+pub lower_part-lower_args-requires-2 : goal.lower_part-lower_args-requires-2
+lower_part-lower_args-requires-2 t c =
+    let g = given_of c.args.given.now in
+    let all = type_ids g.scope.facts c.lawful.ensures in
+    let here = c.written.ensures ∙ ap (λ (x : RawType). Some x) c.in-Projection.is in
+    let below = parts_below g all c.args.type_ref _ here in
+    rw c.as_slice-in-Projection.ensures (omega (arith, c.decreases, below), comes_to_parts g all c.args.type_ref _ here _ c.requires)
+
 pub lower_part-placeholder_ty-requires-clause-is : goal.lower_part-placeholder_ty-requires-clause-is
 lower_part-placeholder_ty-requires-clause-is t c = c.requires.placeholders c.args.type_ref.0 (is_itself (c.written.ensures ∙ ap (λ (x : RawType). Some x) c.in-Hole.is))
 
@@ -89,6 +97,11 @@ pub lower_part-returns-in_ok-args-in-Adt : goal.lower_part-returns-in_ok-args-in
 lower_part-returns-in_ok-args-in-Adt t c =
     let g = given_of c.args.given.now in
     adt_done g (type_ids g.scope.facts c.lawful.ensures) _ c.in-Adt.args _ c.as_slice-in-Adt.ensures _ _ c.in_ok-args-in-Adt.ensures.done c.in-Adt.adt _ (c.written.ensures ∙ ap (λ (x : RawType). Some x) c.in-Adt.is) c.in_ok-args-in-Adt.ensures.are
+
+pub lower_part-returns-in_ok-args-in-Projection : goal.lower_part-returns-in_ok-args-in-Projection
+lower_part-returns-in_ok-args-in-Projection t c =
+    let g = given_of c.args.given.now in
+    projection_done g (type_ids g.scope.facts c.lawful.ensures) _ c.in-Projection.args _ c.as_slice-in-Projection.ensures _ _ c.in_ok-args-in-Projection.ensures.done c.in-Projection.alias _ (c.written.ensures ∙ ap (λ (x : RawType). Some x) c.in-Projection.is) c.in_ok-args-in-Projection.ensures.are
 
 pub lower_part-returns-in_ok-ty-in-Hole : goal.lower_part-returns-in_ok-ty-in-Hole
 lower_part-returns-in_ok-ty-in-Hole t c =
