@@ -117,7 +117,7 @@ before_next P xs n x a b c within is h k =
     here = get_here xs n x within is
 
     to : (d : Asked) → SomeSaysBefore P xs n d ⊎ P n x d → SomeSaysBefore P xs (n + 1) d
-    to d (inl s) = let less = s.1 in (s.0, omega (arith, less), s.2)
+    to d (inl s) = let less = s.1 in (s.0, omega (arith, less), s.2, s.3, s.4)
     to d (inr p) = (n, omega arith, x, here, p)
 
     from : (d : Asked) → SomeSaysBefore P xs (n + 1) d → SomeSaysBefore P xs n d ⊎ P n x d
@@ -128,7 +128,7 @@ before_next P xs n x a b c within is h k =
 
 pub before_all : {X : Type 0} (P : ℕ → X → Asked → Type 0) (xs : List X) (n : ℕ) (a b : List Asked) → length xs ≤ n → Adds (SomeSaysBefore P xs n) a b → Adds (SomeSays P xs) a b
 before_all P xs n a b done h =
-    adds_as (SomeSaysBefore P xs n) (SomeSays P xs) a b (λ d s. (s.0, s.2)) from h
+    adds_as (SomeSaysBefore P xs n) (SomeSays P xs) a b (λ d s. (s.0, s.2, s.3, s.4)) from h
   where
     from : (d : Asked) → SomeSays P xs d → SomeSaysBefore P xs n d
     from d (i, x, at, p) = let within = get_within xs i x at in (i, omega (arith, within, done), x, at, p)

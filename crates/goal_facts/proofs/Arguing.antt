@@ -34,7 +34,8 @@ map_more f (y ∷ xs) x = ap (λ zs. f y ∷ zs) (map_more f xs x)
 pub counted_more : {X : Type 0} (f : ℕ → X) (n : ℕ) → map f (range_with_len 0 (n + 1)) ≡ map f (range_with_len 0 n) ++ f n ∷ []
 counted_more f n =
     let e : n + 1 ≡ suc n = omega arith in
-    ap (map f) (range_more 0 n (n + 1) e) ∙ map_more f (range_with_len 0 n) n
+    let z : 0 + n ≡ n = omega arith in
+    ap (map f) (range_more 0 n (n + 1) e ∙ ap (λ (k : ℕ). range_with_len 0 n ++ k ∷ []) z) ∙ map_more f (range_with_len 0 n) n
 
 -- ---- what stands first
 
@@ -83,4 +84,5 @@ pub says_one : (raw : RawFacts) (xs : List GenericArg) (args : Term) (g : RawGoa
 says_one raw xs args g d e (on, p, are_p, is_d) (on', q, are_q, is_e) =
     let t : Term = (goal_at raw xs g).parts in
     let same : apply p t ≡ apply q t = apply_agree p q t (λ k o. nth_one (hole_number k) args (p k) (q k) (are_p k o) (are_q k o)) in
-    is_d ∙ (ap (λ (x : Term). the Asked (record { kind = (goal_at raw xs g).kind; parts = x })) same ∙ sym is_e)
+    let both : asked_at p (goal_at raw xs g) ≡ asked_at q (goal_at raw xs g) = λ i. record { kind = (goal_at raw xs g).kind; parts = same i } in
+    is_d ∙ (both ∙ sym is_e)

@@ -41,7 +41,7 @@ supers_next raw from n c ds a b low here h k =
     adds_as (λ d. SomeSuper raw from n ds d ⊎ IsSuper raw c d) (SomeSuper raw from (n + 1) ds) ds b to back (adds_then (SomeSuper raw from n ds) (IsSuper raw c) ds a b h k)
   where
     to : (d : Asked) → SomeSuper raw from n ds d ⊎ IsSuper raw c d → SomeSuper raw from (n + 1) ds d
-    to d (inl s) = let less = s.3 in (s.0, s.1, s.2, omega (arith, less), s.4)
+    to d (inl s) = let less = s.3 in (s.0, s.1, s.2, omega (arith, less), s.4, s.5)
     to d (inr p) = (n, c, low, omega arith, here, p)
 
     back : (d : Asked) → SomeSuper raw from (n + 1) ds d → SomeSuper raw from n ds d ⊎ IsSuper raw c d

@@ -21,12 +21,16 @@ pub struct ItemSources<'a> {
 }
 
 impl<'a> Model for ItemSources<'a> {
+    ghost use Rattle.goal_terms.specs.contracts.term.Term as term;
+    ghost use Rattle.std.specs.Coded.{codes};
     ghost use Rattle.goal_search.specs.Sources.{system};
     ghost use Rattle.goal_search.specs.Searching.{SystemHasHeads};
     ghost use Rattle.goal_facts.specs.Goals.{ItemSources};
     ghost use Rattle.goal_facts.specs.Systems.{IsSystemOf};
 
     ghost Value = { ItemSources };
+
+    ghost coded = { Prim.hlevel (codes, term.the_row.coded) };
 
     ghost view = { λ a. record { facts = a.facts.now; item = a.item; sources = a.sources } };
 
