@@ -132,3 +132,10 @@ before_all P xs n a b done h =
   where
     from : (d : Asked) → SomeSays P xs d → SomeSaysBefore P xs n d
     from d (i, x, at, p) = let within = get_within xs i x at in (i, omega (arith, within, done), x, at, p)
+
+-- what was added is all that is said
+pub adds_said : (P : Asked → Type 0) (f : Asked) (a b : List Asked) → ((d e : Asked) → P d → P e → d ≡ e) → P f → Adds (λ d. d ≡ f) a b → Adds P a b
+adds_said P f a b one said h = adds_as (λ d. d ≡ f) P a b (λ d e. subst P (sym e) said) (λ d p. one d f p said) h
+
+pub adds_nothing : (P : Asked → Type 0) (a : List Asked) → ((d : Asked) → P d → ⊥) → Adds P a a
+adds_nothing P a none = adds_none P a (λ d p. absurd (none d p))

@@ -3,6 +3,7 @@ use Rattle.std.specs.Prelude.{◌≡◌, ◌+◌, ◌<◌, ℕ, zero, suc, true,
 use Rattle.std.specs.List.{range_with_len}
 use Rattle.std.proofs.Common.{sym, ap, ◌∙◌, subst, arith}
 use Rattle.std.proofs.lemmas.Bool.{or_left, or_right}
+use Rattle.hir_types.specs.declared.ids.TypeAliasId.{TypeAliasId}
 use Rattle.hir_types.specs.declared.ids.TypeRefId.{TypeRefId}
 use Rattle.hir_types.specs.declared.head.Hole.{Hole}
 use Rattle.hir_types.specs.declared.ty.GenericArg.{GenericArg}
@@ -12,13 +13,14 @@ use Rattle.hir_types.specs.TermLaws.{arg_term_type}
 use Rattle.infer_table.specs.TermLemmas.{apply_agree, hole_eq_same}
 use Rattle.hir_raw.specs.declared.raw.RawFacts.{RawFacts}
 use Rattle.hir_raw.specs.declared.raw.RawGoal.{RawGoal}
-use Rattle.goal_answers.specs.Reading.{Fill, plain, role}
+use Rattle.goal_answers.specs.Reading.{Fill, plain, role, staying}
 use Rattle.goal_answers.specs.Goals.{Asked, asked_at}
 use Rattle.goal_answers.specs.Rows.{IsNth, AreArgs}
 use Rattle.goal_answers.proofs.Parts.{nth_one}
 use Rattle.goal_terms.specs.Terms.{IsHead, HasHeads}
-use Rattle.goal_facts.specs.Arguments.{instance, instances, args_at, goal_at}
+use Rattle.goal_facts.specs.Arguments.{instance, instances, args_at, goal_with, goal_at}
 use Rattle.goal_facts.specs.Environment.{SaysAt}
+use Rattle.goal_facts.specs.Bounds.{BoundSays}
 
 pub range_more : (a n m : ℕ) → m ≡ suc n → range_with_len a m ≡ range_with_len a n ++ (a + n) ∷ []
 range_more a zero m e = let h : a + 0 ≡ a = omega arith in rw e (λ i. sym h i ∷ [])
@@ -86,3 +88,13 @@ says_one raw xs args g d e (on, p, are_p, is_d) (on', q, are_q, is_e) =
     let same : apply p t ≡ apply q t = apply_agree p q t (λ k o. nth_one (hole_number k) args (p k) (q k) (are_p k o) (are_q k o)) in
     let both : asked_at p (goal_at raw xs g) ≡ asked_at q (goal_at raw xs g) = λ i. record { kind = (goal_at raw xs g).kind; parts = same i } in
     is_d ∙ (both ∙ sym is_e)
+
+abbrev rest_of : List TypeRefId → List TypeRefId
+rest_of [] = []
+rest_of (w ∷ ws) = ws
+
+-- one thing is said by a bound
+pub bound_one : (raw : RawFacts) (k : TypeAliasId) (xs : List GenericArg) (g : RawGoal) (d e : Asked) → BoundSays raw k xs g d → BoundSays raw k xs g e → d ≡ e
+bound_one raw k xs g d e (w, ws, types, is, says) (w', ws', types', is', says') =
+    let same : ws ≡ ws' = ap rest_of (sym types ∙ types') in
+    says ∙ (ap (λ us. goal_with raw xs g (pair (type_part (staying k (chain (map arg_term xs)))) (args_at raw xs us))) same ∙ sym says')

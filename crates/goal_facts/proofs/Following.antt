@@ -1,11 +1,14 @@
 -- What follows from goals in one more step.
-use Rattle.std.specs.Prelude.{◌≡◌, ◌⊎◌, ◌+◌, ◌<◌, ◌≤◌, ℕ, zero, suc, List, length, slice_get, Some, None, refl}
+use Rattle.std.specs.Prelude.{◌≡◌, ◌⊎◌, ◌+◌, ◌<◌, ◌≤◌, ℕ, zero, suc, List, [], ◌∷◌, length, slice_get, Option, Some, None, refl}
 use Rattle.std.proofs.Common.{inl, inr, sym, ap, ◌∙◌, subst, arith}
 use Rattle.std.proofs.lemmas.Option.{same_Some}
+use Rattle.hir_types.specs.declared.ids.TraitId.{TraitId}
+use Rattle.hir_types.specs.declared.ty.GenericArg.{GenericArg}
+use Rattle.hir_raw.specs.declared.raw.RawGoal.{RawGoal}
 use Rattle.hir_raw.specs.declared.raw.RawFacts.{RawFacts}
-use Rattle.goal_answers.specs.Goals.{Asked}
-use Rattle.goal_facts.specs.Additions.{Has, AreDistinct, AllHaveHeads, Adds}
-use Rattle.goal_facts.specs.Environment.{IsSuper, Follows, IsClosure}
+use Rattle.goal_answers.specs.Goals.{Kind, implements, projects, Asked}
+use Rattle.goal_facts.specs.Additions.{Has, AreDistinct, AllHaveHeads, Adds, SomeSays}
+use Rattle.goal_facts.specs.Environment.{trait_preds, trait_holes, SaysAt, IsSuper, Follows, IsClosure}
 use Rattle.goal_facts.specs.Levels.{SomeSuper, IsLevel}
 use Rattle.goal_facts.proofs.Adding.{get_within, adds_as, adds_then, adds_none}
 
@@ -52,7 +55,7 @@ supers_next raw from n c ds a b low here h k =
 
 -- ---- the next level
 
-entry_at : {X : Type 0} (xs : List X) (i : ℕ) → i < length xs → (x : X) × (slice_get xs i ≡ Some x)
+pub entry_at : {X : Type 0} (xs : List X) (i : ℕ) → i < length xs → (x : X) × (slice_get xs i ≡ Some x)
 entry_at [] i h = absurd (omega (arith, h))
 entry_at (x ∷ xs) zero h = (x, refl)
 entry_at (x ∷ xs) (suc i) h = entry_at xs i (omega (arith, h))
@@ -71,12 +74,18 @@ low_or_high (suc i) (suc n) = elim (low_or_high i n) [
   | inr k ↦ inr (omega (arith, k))
 ]
 
+-- what stands in a place before more is added stands there after
+pub stayed : (xs ys : List Asked) → ((i : ℕ) (d : Asked) → slice_get xs i ≡ Some d → slice_get ys i ≡ Some d) → (i : ℕ) (d : Asked) → i < length xs → slice_get ys i ≡ Some d → slice_get xs i ≡ Some d
+stayed xs ys stay i d within at =
+    let old = entry_at xs i within in
+    old.1 ∙ (sym (stay i old.0 old.1) ∙ at)
+
 pub next_level : (raw : RawFacts) (S : Asked → Type 0) (n m from to : ℕ) (ds es : List Asked) → m ≡ suc n → to ≡ length ds → IsLevel raw S n from ds
     → Adds (SomeSuper raw from to ds) ds es → IsLevel raw S m to es
 next_level raw S n m from to ds es next end level adds =
     rw next (record {
       closure = record { all = all; only = only; once = adds.once level.closure.once };
-      supers = λ i c less at d p. let within = rw end at less in supers i c within (kept i c within at) d p;
+      supers = λ i c less at d p. let within = rw end at less in supers i c within (stayed ds es adds.stay i c within at) d p;
       heads = adds.heads level.heads;
       within = grown;
     })
@@ -98,10 +107,23 @@ next_level raw S n m from to ds es next end level adds =
       | inr s ↦ inr (s.1, level.closure.only s.0 s.1 s.4, s.5)
     ]
 
-    kept : (i : ℕ) (c : Asked) → i < length ds → slice_get es i ≡ Some c → slice_get ds i ≡ Some c
-    kept i c within at =
-        let old = entry_at ds i within in
-        old.1 ∙ (sym (adds.stay i old.0 old.1) ∙ at)
-
     grown : to ≤ length es
     grown = let long = no_shorter ds es adds.stay in omega (arith, long, end)
+
+-- ---- along one supertrait
+
+abbrev trait_in : Kind → Option TraitId
+trait_in (implements t) = Some t
+trait_in (projects k) = None
+
+pub supers_said : (raw : RawFacts) (c : Asked) (t : TraitId) (xs : List GenericArg) (gs : List RawGoal) (a b : List Asked) → c.kind ≡ implements t → xs ≡ trait_holes raw t → gs ≡ trait_preds raw t
+    → Adds (SomeSays (λ i g. SaysAt raw xs c.parts g) gs) a b → Adds (IsSuper raw c) a b
+supers_said raw c t xs gs a b kind args preds h =
+    adds_as (SomeSays (λ i g. SaysAt raw (trait_holes raw t) c.parts g) (trait_preds raw t)) (IsSuper raw c) a b
+    (λ d s. record { trait_ = t; kind = kind; says = s })
+    (λ d s. subst (λ u. SomeSays (λ i g. SaysAt raw (trait_holes raw u) c.parts g) (trait_preds raw u) d) (same s.trait_ s.kind) s.says)
+    (subst (λ ys. Adds (SomeSays (λ i g. SaysAt raw (trait_holes raw t) c.parts g) ys) a b) preds (subst (λ ys. Adds (SomeSays (λ i g. SaysAt raw ys c.parts g) gs) a b) args h))
+  where
+    same : (u : TraitId) → c.kind ≡ implements u → u ≡ t
+    same u e = same_Some u t (ap trait_in (sym e ∙ kind))
+

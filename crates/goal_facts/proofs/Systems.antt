@@ -4,12 +4,21 @@ use Rattle.std.specs.Option.{option_and_then}
 use Rattle.std.proofs.Common.{inl, inr, sym, ap, ◌∙◌, subst, arith}
 use Rattle.std.proofs.lemmas.Option.{same_Some}
 use Rattle.hir_types.specs.Terms.{Term}
+use Rattle.hir_types.specs.declared.ids.TypeAliasId.{TypeAliasId}
+use Rattle.hir_types.specs.declared.ids.GenericDefId.{GenericDefId}
+use Rattle.hir_types.specs.declared.ty.GenericArg.{GenericArg}
+use Rattle.hir_raw.specs.declared.raw.RawGoal.{RawGoal}
+use Rattle.hir_raw.specs.declared.raw.RawAlias.{RawAlias}
 use Rattle.hir_raw.specs.declared.raw.RawFacts.{RawFacts}
+use Rattle.hir_raw.specs.Scope.{generic_params}
 use Rattle.goal_answers.specs.Goals.{Asked, Rule, Each}
 use Rattle.goal_terms.specs.Terms.{HasHeads}
 use Rattle.goal_search.specs.Searching.{RuleHasHeads}
-use Rattle.goal_facts.specs.Additions.{Has, AreDistinct, AllHaveHeads, Adds}
-use Rattle.goal_facts.specs.Environment.{Follows, IsClosure}
+use Rattle.goal_facts.specs.Arguments.{own_params, goal_at}
+use Rattle.goal_facts.specs.Additions.{Has, AreDistinct, AllHaveHeads, Adds, SomeSays}
+use Rattle.goal_facts.specs.Environment.{env_preds, IsOwn, IsStated, trait_holes, Follows, IsClosure}
+use Rattle.goal_facts.specs.Bounds.{BoundSays, AliasLists}
+use Rattle.goal_facts.proofs.Adding.{adds_as, adds_then}
 use Rattle.goal_facts.specs.Systems.{fact}
 
 -- ---- closures of what was added to nothing
@@ -78,3 +87,22 @@ some_heads f (Some (Some y)) t h e = subst HasHeads (same_Some (f y) t e) (h (So
 
 pub field_heads : {X : Type 0} (f : X → Term) (xs : List (Option X)) → Each (λ o. IfSome o (λ y. HasHeads (f y))) xs → (i : ℕ) (t : Term) → option_map f (option_and_then (λ x. x) (slice_get xs i)) ≡ Some t → HasHeads t
 field_heads f xs h i t e = some_heads f (slice_get xs i) t (λ x at. each_get (λ o. IfSome o (λ y. HasHeads (f y))) xs i x h at) e
+
+-- ---- what an item states, what an associated type lists
+
+pub stated_by : (raw r : RawFacts) (item : GenericDefId) (n : ℕ) (xs : List GenericArg) (gs : List RawGoal) (start a b : List Asked) → r ≡ raw → n ≡ generic_params r item → xs ≡ own_params n → gs ≡ env_preds r item → start ≡ []
+    → Adds (IsOwn r n item) start a → Adds (SomeSays (λ i g d. d ≡ goal_at raw xs g) gs) a b → Adds (IsStated raw item) [] b
+stated_by raw r item n xs gs start a b same count args preds empty own says =
+    adds_then (IsOwn raw (generic_params raw item) item) (SomeSays (λ i g d. d ≡ goal_at raw (own_params (generic_params raw item)) g) (env_preds raw item)) [] a b
+    (rw (empty, count, same) at own) (rw (args, preds, count, same) at says)
+
+pub alias_lists : (raw : RawFacts) (i : ℕ) (k : TypeAliasId) (a : RawAlias) (xs : List GenericArg) (gs : List RawGoal) (x y : List Asked) → k.0 ≡ i → xs ≡ trait_holes raw a.trait_ → gs ≡ a.bounds
+    → Adds (SomeSays (λ j g. BoundSays raw k xs g) gs) x y → Adds (AliasLists raw i a) x y
+alias_lists raw i k a xs gs x y is args bounds h =
+    adds_as (SomeSays (λ j g. BoundSays raw k (trait_holes raw a.trait_) g) a.bounds) (AliasLists raw i a) x y
+    (λ d s. (k, is, s))
+    (λ d s. subst (λ u. SomeSays (λ j g. BoundSays raw u (trait_holes raw a.trait_) g) a.bounds d) (same s.0 s.1) s.2)
+    (rw (args, bounds) at h)
+  where
+    same : (m : TypeAliasId) → m.0 ≡ i → m ≡ k
+    same m e j = record { 0 = (e ∙ sym is) j }

@@ -46,9 +46,12 @@ env_preds raw item = preds_of_trait raw (env_trait raw item)
 abbrev pub own_clause : ℕ → TraitId → Asked
 own_clause n t = record { kind = implements t; parts = chain (map arg_term (own_params n)) }
 
+abbrev pub IsOwn : RawFacts → ℕ → GenericDefId → Asked → Type 0
+IsOwn raw n item d = (t : TraitId) × (env_trait raw item ≡ Some t) × (d ≡ own_clause n t)
+
 abbrev pub IsStated : RawFacts → GenericDefId → Asked → Type 0
 IsStated raw item d =
-    ((t : TraitId) × (env_trait raw item ≡ Some t) × (d ≡ own_clause (generic_params raw item) t))
+    IsOwn raw (generic_params raw item) item d
     ⊎ SomeSays (λ i g d. d ≡ goal_at raw (own_params (generic_params raw item)) g) (env_preds raw item) d
 
 -- ---- what follows

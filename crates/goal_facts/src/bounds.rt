@@ -74,6 +74,22 @@ fn bound_says(
     Ok(Some(goal_with(alloc, facts, args, bound, parts)?))
 }
 
+fn add_bound(
+    alloc: Global,
+    facts: &Facts,
+    alias: TypeAliasId,
+    args: &List<GenericArg>,
+    bound: &RawGoal,
+    made: &mut Vec<Asked>,
+) -> Result<(), AllocError>
+    ensures { OnOk result (Adds (BoundSays facts.now alias args.now bound.now) (asked_list made.old.items) (asked_list made.new.items)) }
+{
+    match bound_says(alloc, facts, alias, args, bound)? {
+        Some(found) => add(made, found),
+        None => Ok(()),
+    }
+}
+
 fn add_bounds(
     alloc: Global,
     facts: &Facts,
@@ -85,9 +101,7 @@ fn add_bounds(
     ensures { OnOk result (Adds (SomeSays (λ i g. BoundSays facts.now alias args.now g) bounds.now) (asked_list made.old.items) (asked_list made.new.items)) }
 {
     for bound in bounds {
-        if let Some(found) = bound_says(alloc, facts, alias, args, bound)? {
-            add(made, found)?;
-        }
+        add_bound(alloc, facts, alias, args, bound, made)?;
     }
     Ok(())
 }

@@ -1,5 +1,5 @@
 //! What follows from goals along supertraits.
-ghost use Rattle.std.specs.Prelude.{◌≡◌, ◌≤◌, ◌↔◌, length, option_map, IsTrue, IfOk, IfSome, OnOk};
+ghost use Rattle.std.specs.Prelude.{◌≡◌, ◌<◌, ◌≤◌, ◌↔◌, length, slice_get, Some, option_map, IsTrue, IfOk, IfSome, OnOk};
 ghost use Rattle.hir_types.specs.declared.head.Hole.TheVariants as hole_of;
 ghost use Rattle.hir_types.specs.Terms.{hole};
 ghost use Rattle.goal_terms.specs.Terms.{term_of, HasHeads};
@@ -53,6 +53,23 @@ fn says_at(
     }
 }
 
+fn add_said_by(
+    alloc: Global,
+    facts: &Facts,
+    holes: &List<GenericArg>,
+    args: &Term,
+    pred: &RawGoal,
+    goals: &mut Vec<Asked>,
+) -> Result<(), AllocError>
+    requires { HasHeads (term_of args.now) }
+    ensures { OnOk result (Adds (SaysAt facts.now holes.now (term_of args.now) pred.now) (asked_list goals.old.items) (asked_list goals.new.items)) }
+{
+    match says_at(alloc, facts, holes, args, pred)? {
+        Some(found) => add(goals, found),
+        None => Ok(()),
+    }
+}
+
 fn add_said(
     alloc: Global,
     facts: &Facts,
@@ -65,9 +82,7 @@ fn add_said(
     ensures { OnOk result (Adds (SomeSays (λ i g. SaysAt facts.now holes.now (term_of args.now) g) preds.now) (asked_list goals.old.items) (asked_list goals.new.items)) }
 {
     for pred in preds {
-        if let Some(found) = says_at(alloc, facts, holes, args, pred)? {
-            add(goals, found)?;
-        }
+        add_said_by(alloc, facts, holes, args, pred, goals)?;
     }
     Ok(())
 }
@@ -93,6 +108,23 @@ fn add_supers(
     }
 }
 
+/// Adds what follows along one supertrait from the goal at this place.
+fn add_supers_at(
+    alloc: Global,
+    facts: &Facts,
+    goals: &mut Vec<Asked>,
+    place: usize,
+) -> Result<(), AllocError>
+    requires place { place < length goals.old.items }
+    requires heads { AllHaveHeads (asked_list goals.old.items) }
+    ensures { OnOk result ((c : _) → slice_get (asked_list goals.old.items) place ≡ Some c → Adds (IsSuper facts.now c) (asked_list goals.old.items) (asked_list goals.new.items)) }
+{
+    let clause = &goals.as_slice()[place];
+    let kind = clause.kind;
+    let args = clause.parts.dup(alloc)?;
+    add_supers(alloc, facts, kind, &args, goals)
+}
+
 /// Adds what follows along one supertrait from the goals between these places.
 fn add_level(
     alloc: Global,
@@ -107,9 +139,7 @@ fn add_level(
     ensures { OnOk result (Adds (SomeSuper facts.now from to (asked_list goals.old.items)) (asked_list goals.old.items) (asked_list goals.new.items)) }
 {
     for place in from..to {
-        let kind = goals[place].kind;
-        let args = goals[place].parts.dup(alloc)?;
-        add_supers(alloc, facts, kind, &args, goals)?;
+        add_supers_at(alloc, facts, goals, place)?;
     }
     Ok(())
 }
@@ -128,7 +158,7 @@ pub fn close(
 {
     let mut from = 0;
     for _ in 0..steps {
-        let to = goals.len();
+        let to = goals.as_slice().len();
         add_level(alloc, facts, &mut goals, from, to)?;
         from = to;
     }

@@ -4,7 +4,7 @@ ghost use Rattle.goal_terms.specs.Terms.{term_of, HasHeads};
 ghost use Rattle.goal_search.specs.Sources.{asked_of, asked_list};
 ghost use Rattle.goal_facts.specs.Arguments.{goal_at, own_params};
 ghost use Rattle.goal_facts.specs.Additions.{Adds, SomeSays};
-ghost use Rattle.goal_facts.specs.Environment.{trait_preds, env_trait, preds_of_trait, env_preds, own_clause, IsStated};
+ghost use Rattle.goal_facts.specs.Environment.{trait_preds, env_trait, preds_of_trait, env_preds, own_clause, IsOwn, IsStated};
 
 use crate::additions::add;
 use crate::arguments::{goal_at, own_params};
@@ -85,6 +85,24 @@ fn own_clause(
     })
 }
 
+/// Adds that `Self` implements the trait, within one.
+fn add_own(
+    alloc: Global,
+    raw: &RawFacts,
+    args: &List<GenericArg>,
+    item: GenericDefId,
+    count: usize,
+    made: &mut Vec<Asked>,
+) -> Result<(), AllocError>
+    requires { args.now ≡ own_params count }
+    ensures { OnOk result (Adds (IsOwn raw.now count item) (asked_list made.old.items) (asked_list made.new.items)) }
+{
+    match env_trait(raw, item) {
+        Some(id) => add(made, own_clause(alloc, args, id, count)?),
+        None => Ok(()),
+    }
+}
+
 fn add_goals(
     alloc: Global,
     facts: &Facts,
@@ -108,9 +126,7 @@ pub fn stated(alloc: Global, facts: &Facts, item: GenericDefId) -> Result<Vec<As
     let count = generic_params(raw, item);
     let args = own_params(alloc, count)?;
     let mut made = Vec::new(alloc);
-    if let Some(id) = env_trait(raw, item) {
-        add(&mut made, own_clause(alloc, &args, id, count)?)?;
-    }
+    add_own(alloc, raw, &args, item, count, &mut made)?;
     add_goals(alloc, facts, &args, env_preds(raw, item), &mut made)?;
     Ok(made)
 }
