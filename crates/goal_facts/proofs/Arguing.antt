@@ -6,10 +6,9 @@ use Rattle.std.proofs.lemmas.Bool.{or_left, or_right}
 use Rattle.hir_types.specs.declared.ids.TypeAliasId.{TypeAliasId}
 use Rattle.hir_types.specs.declared.ids.TypeRefId.{TypeRefId}
 use Rattle.hir_types.specs.declared.head.Hole.{Hole}
-use Rattle.hir_types.specs.declared.ty.GenericArg.{GenericArg}
+use Rattle.hir_types.specs.declared.ty.GenericArg.{GenericArg, GenericArg-F, fold_out-GenericArg}
 use Rattle.hir_types.specs.declared.ty.GenericArg.TheVariants as arg
-use Rattle.hir_types.specs.Terms.{Term, hole, leaf, pair, apply, occurs, hole_number, chain, type_part, term, arg_term}
-use Rattle.hir_types.specs.TermLaws.{arg_term_type}
+use Rattle.hir_types.specs.Terms.{Term, hole, leaf, pair, apply, occurs, hole_number, chain, type_part, term, arg_term, arg_step, ty_step, bound_step, trait_step}
 use Rattle.infer_table.specs.TermLemmas.{apply_agree, hole_eq_same}
 use Rattle.hir_raw.specs.declared.raw.RawFacts.{RawFacts}
 use Rattle.hir_raw.specs.declared.raw.RawGoal.{RawGoal}
@@ -41,12 +40,16 @@ counted_more f n =
 
 -- ---- what stands first
 
-pub args_are_head : (raw : RawFacts) (xs : List GenericArg) (ws : List TypeRefId) → IsHead (args_at raw xs ws)
-args_are_head raw xs [] = tt
-args_are_head raw xs (w ∷ ws) = ap role (arg_term_type (instance raw xs w))
+step_is_plain : (x : GenericArg-F Term Term (List Term) (List Term)) → role (arg_step x) ≡ plain
+step_is_plain (GenericArg-F.Ty t) = refl
+step_is_plain (GenericArg-F.Const c) = refl
 
-pub part_is_head : (a b : Term) → role a ≡ plain → IsHead (pair a b)
-part_is_head a b h = h
+arg_is_plain : (x : GenericArg) → role (arg_term x) ≡ plain
+arg_is_plain x = ap role (fold_out-GenericArg Term Term (List Term) (List Term) arg_step ty_step bound_step trait_step x) ∙ step_is_plain _
+
+pub list_is_head : (xs : List GenericArg) → IsHead (chain (map arg_term xs))
+list_is_head [] = tt
+list_is_head (x ∷ xs) = arg_is_plain x
 
 nth_heads : (n : ℕ) (ts u : Term) → IsNth n ts u → HasHeads ts → HasHeads u
 nth_heads zero (pair (pair m t) b) u l h = subst HasHeads (sym l) h.1.2

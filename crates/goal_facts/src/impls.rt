@@ -123,6 +123,22 @@ fn push_rules_for(
     push_assoc_rules(alloc, facts, &holes, item, trait_ref, rules)
 }
 
+fn push_rules_of(
+    alloc: Global,
+    facts: &Facts,
+    item: &RawImpl,
+    rules: &mut Vec<Rule>,
+) -> Result<(), AllocError>
+    requires { Each RuleHasHeads (rules_of rules.old.items) }
+    ensures is { OnOk result (rules_of rules.new.items ≡ rules_of rules.old.items ++ impl_rules facts.now item.now) }
+    ensures heads { OnOk result (Each RuleHasHeads (rules_of rules.new.items)) }
+{
+    match &item.trait_ {
+        Some(trait_ref) => push_rules_for(alloc, facts, item, trait_ref, rules),
+        None => Ok(()),
+    }
+}
+
 /// What the impls say, each that its trait is implemented, and what each of its associated types is.
 pub fn push_impl_rules(
     alloc: Global,
@@ -135,9 +151,7 @@ pub fn push_impl_rules(
     ensures heads { OnOk result (Each RuleHasHeads (rules_of rules.new.items)) }
 {
     for item in impls {
-        if let Some(trait_ref) = &item.trait_ {
-            push_rules_for(alloc, facts, item, trait_ref, rules)?;
-        }
+        push_rules_of(alloc, facts, item, rules)?;
     }
     Ok(())
 }

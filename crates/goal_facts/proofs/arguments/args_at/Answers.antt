@@ -1,13 +1,12 @@
-use Rattle.std.proofs.Common.{◌≡◌, ◌++◌, sym, ap, ◌∙◌, subst, map}
+use Rattle.std.proofs.Common.{◌≡◌, sym, subst, map}
 use Rattle.std.proofs.lemmas.Result.{IfOk-weaker}
 use Rattle.hir_types.specs.Terms.{chain, arg_term}
 use Rattle.goal_terms.specs.Terms.{term_of, IsHead}
-use Rattle.goal_facts.specs.Arguments.{instances}
-use Rattle.goal_facts.proofs.Arguing.{args_are_head}
+use Rattle.goal_facts.proofs.Arguing.{list_is_head}
 use Rattle.goal_facts.proofs.arguments.args_at.Goals as goal
 
 pub returns-clause-head : goal.returns-clause-head
 returns-clause-head c =
     IfOk-weaker c.args_term.result (λ made. term_of made ≡ chain (map arg_term c.push_instances.new.made)) (λ made. IsHead (term_of made))
-    (λ made is. subst IsHead (sym (is ∙ ap (λ xs. chain (map arg_term xs)) (c.in_ok-push_instances.ensures ∙ ap (λ xs. xs ++ instances c.args.facts.now c.args.args.now c.args.tys.now) c.new-made.ensures))) (args_are_head c.args.facts.now c.args.args.now c.args.tys.now))
+    (λ made is. subst IsHead (sym is) (list_is_head c.push_instances.new.made))
     c.args_term.ensures.is
