@@ -1,14 +1,14 @@
 //! The answer to a goal, and what an alias reads as, at each depth.
 ghost use Rattle.std.specs.Prelude.{◌≡◌, ◌↔◌, ◌+◌, ◌<◌, IfOk, IsTrue, map, Some, option_map};
-ghost use Rattle.goal_answers.specs.Goals.{asked_at, only, Each, SomeOf, IsKnown};
+ghost use Rattle.goal_answers.specs.Goals.{asked_at, Each, SomeOf};
 ghost use Rattle.goal_answers.specs.Answers.{IsRefuted, HasSource, HasNoSource, YesAt, NoAt, answers};
-ghost use Rattle.goal_answers.specs.Rows.{SizedYes, SizedNo};
 ghost use Rattle.goal_answers.specs.Steps.{known_below, ReadingIs, AliasIs, HoldsIf};
 ghost use Rattle.goal_terms.specs.Terms.{term_of, HasHeads};
 ghost use Rattle.goal_terms.specs.Bindings.{log_of, fill_of};
 ghost use Rattle.goal_search.specs.Sources.{kind_of, asked_of, asked_list, rule_of, rules_of, system};
 ghost use Rattle.goal_search.specs.Holes.{holes_fill};
 ghost use Rattle.goal_search.specs.Keeping.{AreKept};
+ghost use Rattle.goal_search.specs.Sized.{WalkIs, IsSizedAt};
 ghost use Rattle.goal_search.specs.Searching.{Decides, IsDone, FillsAreDone, PredIsDone, IsLevelBelow, RuleHasHeads, SystemHasHeads, side_part, side_preds, Holds, HoldsNot, GivenIs};
 
 use crate::answer::{Answer, either, is_no, is_yes, shadowed, unless_no};
@@ -401,13 +401,14 @@ fn source(
     Ok(shadowed(by_clauses, shadows, either(by_rules, by_parts)))
 }
 
-/// Whether a type has a size: a walk along last fields and last parts, over at most `left` types.
+/// Whether a type has a size: a walk along last fields and last parts, over at most `left` types. Of
+/// parameters, aliases and opaque types the sources of the kind say so, where there is one.
 #[cycle(evaluate)]
 fn sized(
     alloc: Global,
     sources: &Sources,
     kept: &mut Kept,
-    kind: Kind,
+    kind: Option<Kind>,
     ty: &Term,
     left: u32,
     depth: u32,
@@ -416,7 +417,7 @@ fn sized(
     requires system { SystemHasHeads (system sources.now) }
     requires ty { IsDone (term_of ty.now) }
     ensures kept { AreKept (system sources.now) kept.new.entries.items }
-    ensures answer { IfOk result (λ answer. Decides (SizedYes (system sources.now) (answers (system sources.now) depth).Alias (λ t. IsKnown (only t) × HasSource (system sources.now) (answers (system sources.now) depth).Alias (known_below (system sources.now) depth) (kind_of kind) (only t)) left (term_of ty.now)) (SizedNo (system sources.now) (answers (system sources.now) depth).Alias (λ t. IsKnown (only t) × HasNoSource (system sources.now) (answers (system sources.now) depth).Alias (known_below (system sources.now) depth) (kind_of kind) (only t)) left (term_of ty.now)) answer) }
+    ensures answer { IfOk result (λ answer. WalkIs (system sources.now) depth (option_map kind_of kind) left (term_of ty.now) answer) }
 {
     if left == 0 {
         return Ok(Answer::Yes);
@@ -425,7 +426,6 @@ fn sized(
         Tail::HasSize => Ok(Answer::Yes),
         Tail::HasNone => Ok(Answer::No),
         Tail::Unclear => Ok(Answer::Undecided),
-        Tail::Asked => source(alloc, sources, kept, kind, &only(alloc, ty)?, depth),
         Tail::Last(parts) => match last_type(parts) {
             Some(last) => sized(alloc, sources, kept, kind, last, left - 1, depth),
             None => Ok(Answer::Undecided),
@@ -447,6 +447,10 @@ fn sized(
                 None => Ok(Answer::Undecided),
             }
         }
+        Tail::Asked => match kind {
+            Some(kind) => source(alloc, sources, kept, kind, &only(alloc, ty)?, depth),
+            None => Ok(Answer::Undecided),
+        },
     }
 }
 
@@ -472,7 +476,7 @@ fn decide(
     }
     if is_among(&sources.sized, kind) {
         let ty = self_type(target, &end);
-        return sized(alloc, sources, kept, kind, ty, sources.tail, depth);
+        return sized(alloc, sources, kept, Some(kind), ty, sources.tail, depth);
     }
     match is_itself(alloc, kind, target)? {
         Answer::Yes => Ok(Answer::Yes),
@@ -517,4 +521,37 @@ pub fn evaluate(
     let answer = decide(alloc, sources, kept, goal.kind, &parts, depth)?;
     kept.keep(goal.kind, parts, depth, answer)?;
     Ok(answer)
+}
+
+/// Whether a type has a size, as far as is known at the depth. Of parameters, aliases and opaque types
+/// a source of the trait of such types has to say so.
+pub fn is_sized(
+    alloc: Global,
+    sources: &Sources,
+    kept: &mut Kept,
+    ty: &Term,
+    depth: u32,
+) -> Result<bool, AllocError>
+    requires kept { AreKept (system sources.now) kept.old.entries.items }
+    requires system { SystemHasHeads (system sources.now) }
+    requires heads { HasHeads (term_of ty.now) }
+    ensures kept { AreKept (system sources.now) kept.new.entries.items }
+    ensures answer { IfOk result (λ yes. IsTrue yes ↔ IsSizedAt (system sources.now) depth (term_of ty.now)) }
+{
+    let Some(reading) = read(alloc, sources, kept, ty, Holes::Stay, depth, MOST_LEVELS)? else {
+        return Ok(false);
+    };
+    // First no source is asked, and then those of each trait of such types.
+    let ty = &reading;
+    let tail = sources.tail;
+    if is_yes(sized(alloc, sources, kept, None, ty, tail, depth)?) {
+        return Ok(true);
+    }
+    for listed in sources.sized.as_slice() {
+        let kind = Some(Kind::Implements(*listed));
+        if is_yes(sized(alloc, sources, kept, kind, ty, tail, depth)?) {
+            return Ok(true);
+        }
+    }
+    Ok(false)
 }

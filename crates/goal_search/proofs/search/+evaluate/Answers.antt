@@ -1,4 +1,4 @@
-use Rattle.std.proofs.Common.{◌≡◌, inr, ℕ, suc, ◌-◌, true, true≢false, refl, sym, ap, ◌∙◌, subst, arith}
+use Rattle.std.proofs.Common.{◌≡◌, inr, ℕ, suc, ◌-◌, true, true≢false, refl, sym, ap, ◌∙◌, subst, arith, Some, None}
 use Rattle.std.specs.Option.{option_map}
 use Rattle.std.proofs.lemmas.Result.{IfOk-weaker}
 use Rattle.hir_types.specs.Terms.{Term, hole}
@@ -14,8 +14,10 @@ use Rattle.goal_search.specs.Sources.{kind_of, asked_of, rule_of, system}
 use Rattle.goal_search.specs.Holes.{holes_fill}
 use Rattle.goal_search.specs.Parts.{tail_as}
 use Rattle.goal_search.specs.declared.answer.Answer.{Answer}
+use Rattle.goal_search.specs.declared.answer.Answer.TheVariants as answer
 use Rattle.goal_search.specs.Searching.{PredIsDone, RuleHasHeads, Decides, side_part, Holds, HoldsNot}
 use Rattle.goal_search.specs.Keeping.{IsKeptRight}
+use Rattle.goal_search.specs.Sized.{IsSaid, IsDenied, WalkIs}
 use Rattle.goal_search.proofs.SoFar.{each_append, all_yes, all_open, all_end, any_no, any_open, any_end, decides_same}
 use Rattle.goal_search.proofs.Heads.{type_heads, may_done, reading_done}
 use Rattle.goal_search.proofs.Refuting.{not_refuted_now, side_heads, common_done, fills_done, preds_done, none_holds, open_holds_not, other_holds_not, preds_hold_not, holds_here, no_refutes, same_refutes_if, open_refutes_not}
@@ -406,20 +408,6 @@ read-returns-in-Some-clause-answer t c =
 
 -- ---- the walk
 
-pub sized-returns-in-Asked-clause-answer : goal.sized-returns-in-Asked-clause-answer
-sized-returns-in-Asked-clause-answer t c =
-    let f = system c.args.sources.now in let k = kind_of c.args.kind in let n = c.args.depth in
-    let A = (answers f n).Alias in let v = known_below f n in
-    let Y = λ (u : Term). IsKnown (only u) × HasSource f A v k (only u) in
-    let N = λ (u : Term). IsKnown (only u) × HasNoSource f A v k (only u) in
-    let ty = term_of c.args.ty.now in
-    let left : c.args.left ≡ suc (c.args.left - 1) = omega (arith, c.if-left-eq0.false) in
-    let tail = sym c.tail_of.ensures ∙ ap tail_as c.in-Asked.is in
-    let known = asked_known f ty tail in
-    IfOk-weaker c.source.result (λ a. Decides (HasSource f A v k (only ty)) (HasNoSource f A v k (only ty)) a) (λ a. Decides (SizedYes f A Y c.args.left ty) (SizedNo f A N c.args.left ty) a)
-    (λ a d. asked_decides f A (level f n n).one Y N c.args.left (c.args.left - 1) left ty tail a (decides_same a (λ y. (known, y)) (λ y. y.1) (λ y. (known, y)) (λ y. y.1) d))
-    (rw c.in_ok-only-in-Asked.ensures at c.source.ensures.answer)
-
 pub sized-sized-requires : goal.sized-sized-requires
 sized-sized-requires t c =
     let f = system c.args.sources.now in
@@ -431,16 +419,13 @@ sized-sized-requires t c =
 
 pub sized-returns-in-Some-clause-answer : goal.sized-returns-in-Some-clause-answer
 sized-returns-in-Some-clause-answer t c =
-    let f = system c.args.sources.now in let k = kind_of c.args.kind in let n = c.args.depth in
-    let A = (answers f n).Alias in let v = known_below f n in
-    let Y = λ (u : Term). IsKnown (only u) × HasSource f A v k (only u) in
-    let N = λ (u : Term). IsKnown (only u) × HasNoSource f A v k (only u) in
+    let f = system c.args.sources.now in let n = c.args.depth in let o = option_map kind_of c.args.kind in
     let ty = term_of c.args.ty.now in
     let left : c.args.left ≡ suc (c.args.left - 1) = omega (arith, c.if-left-eq0.false) in
     let tail = sym c.tail_of.ensures ∙ ap tail_as c.in-Last.is in
     let is_last = rw c.in-Some.is at c.last_type.ensures in
-    IfOk-weaker c.sized.result (λ a. Decides (SizedYes f A Y (c.args.left - 1) (term_of c.in-Some.last.now)) (SizedNo f A N (c.args.left - 1) (term_of c.in-Some.last.now)) a) (λ a. Decides (SizedYes f A Y c.args.left ty) (SizedNo f A N c.args.left ty) a)
-    (λ a d. last_decides f A (level f n n).one Y N c.args.left (c.args.left - 1) left ty (term_of c.in-Last.parts.now) (term_of c.in-Some.last.now) tail is_last a d) c.sized.ensures.answer
+    IfOk-weaker c.sized.result (WalkIs f n o (c.args.left - 1) (term_of c.in-Some.last.now)) (WalkIs f n o c.args.left ty)
+    (λ a d. last_decides f (answers f n).Alias (level f n n).one (IsSaid f n o) (IsDenied f n o) c.args.left (c.args.left - 1) left ty (term_of c.in-Last.parts.now) (term_of c.in-Some.last.now) tail is_last a d) c.sized.ensures.answer
 
 pub sized-read-requires : goal.sized-read-requires
 sized-read-requires t c =
@@ -467,31 +452,44 @@ sized-sized-requires-in-Some-3 t c =
 
 pub sized-returns-in-Some-3-clause-answer : goal.sized-returns-in-Some-3-clause-answer
 sized-returns-in-Some-3-clause-answer t c =
-    let f = system c.args.sources.now in let k = kind_of c.args.kind in let n = c.args.depth in
-    let A = (answers f n).Alias in let v = known_below f n in
-    let Y = λ (u : Term). IsKnown (only u) × HasSource f A v k (only u) in
-    let N = λ (u : Term). IsKnown (only u) × HasNoSource f A v k (only u) in
+    let f = system c.args.sources.now in let n = c.args.depth in let o = option_map kind_of c.args.kind in
     let ty = term_of c.args.ty.now in
     let left : c.args.left ≡ suc (c.args.left - 1) = omega (arith, c.if-left-eq0.false) in
     let tail = sym c.tail_of.ensures ∙ ap tail_as c.in-Field.is in
     let at = rw c.in-Some-2.is at c.in_ok-field-in-Field.ensures in
     let r = rw c.in-Some-3.is at c.in_ok-field-in-Field-2.ensures.answer in
-    IfOk-weaker c.sized-in-Some-3.result (λ a. Decides (SizedYes f A Y (c.args.left - 1) (term_of c.in-Some-3.field)) (SizedNo f A N (c.args.left - 1) (term_of c.in-Some-3.field)) a) (λ a. Decides (SizedYes f A Y c.args.left ty) (SizedNo f A N c.args.left ty) a)
-    (λ a d. field_decides f A (level f n n).one Y N c.args.left (c.args.left - 1) left ty (term_of c.in-Field.field.now) (term_of c.in-Field.args.now) (term_of c.in-Some-2.field) (term_of c.in-Some-3.field) tail at r a d)
+    IfOk-weaker c.sized-in-Some-3.result (WalkIs f n o (c.args.left - 1) (term_of c.in-Some-3.field)) (WalkIs f n o c.args.left ty)
+    (λ a d. field_decides f (answers f n).Alias (level f n n).one (IsSaid f n o) (IsDenied f n o) c.args.left (c.args.left - 1) left ty (term_of c.in-Field.field.now) (term_of c.in-Field.args.now) (term_of c.in-Some-2.field) (term_of c.in-Some-3.field) tail at r a d)
     c.sized-in-Some-3.ensures.answer
 
-pub sized-returns-clause-answer : goal.sized-returns-clause-answer
-sized-returns-clause-answer t c =
-    let f = system c.args.sources.now in let k = kind_of c.args.kind in let n = c.args.depth in
-    let A = (answers f n).Alias in let v = known_below f n in
-    let Y = λ (u : Term). IsKnown (only u) × HasSource f A v k (only u) in
-    let N = λ (u : Term). IsKnown (only u) × HasNoSource f A v k (only u) in
+pub sized-returns-in-Field-clause-answer : goal.sized-returns-in-Field-clause-answer
+sized-returns-in-Field-clause-answer t c =
+    let f = system c.args.sources.now in let n = c.args.depth in let o = option_map kind_of c.args.kind in
     let ty = term_of c.args.ty.now in
     let left : c.args.left ≡ suc (c.args.left - 1) = omega (arith, c.if-left-eq0.false) in
     let tail = sym c.tail_of.ensures ∙ ap tail_as c.in-Field.is in
     let at = rw c.in-Some-2.is at c.in_ok-field-in-Field.ensures in
     let none = rw c.in-None-2.is at c.in_ok-field-in-Field-2.ensures.answer in
-    field_open f A (level f n n).one Y N c.args.left (c.args.left - 1) left ty (term_of c.in-Field.field.now) (term_of c.in-Field.args.now) (term_of c.in-Some-2.field) tail at none
+    field_open f (answers f n).Alias (level f n n).one (IsSaid f n o) (IsDenied f n o) c.args.left (c.args.left - 1) left ty (term_of c.in-Field.field.now) (term_of c.in-Field.args.now) (term_of c.in-Some-2.field) tail at none
+
+pub sized-returns-in-Some-kind-clause-answer : goal.sized-returns-in-Some-kind-clause-answer
+sized-returns-in-Some-kind-clause-answer t c =
+    let f = system c.args.sources.now in let n = c.args.depth in let k = kind_of c.in-Some-kind.kind in
+    let A = (answers f n).Alias in let v = known_below f n in
+    let ty = term_of c.args.ty.now in
+    let left : c.args.left ≡ suc (c.args.left - 1) = omega (arith, c.if-left-eq0.false) in
+    let tail = sym c.tail_of.ensures ∙ ap tail_as c.in-Asked.is in
+    let known = asked_known f ty tail in
+    rw c.in-Some-kind.is (IfOk-weaker c.source.result (Decides (HasSource f A v k (only ty)) (HasNoSource f A v k (only ty))) (WalkIs f n (Some k) c.args.left ty)
+    (λ a d. asked_decides f A (level f n n).one (IsSaid f n (Some k)) (IsDenied f n (Some k)) c.args.left (c.args.left - 1) left ty tail a (decides_same a (λ y. (known, y)) (λ y. y.1) (λ y. (known, y)) (λ y. y.1) d))
+    (rw c.in_ok-only-in-Some-kind.ensures at c.source.ensures.answer))
+
+pub sized-returns-clause-answer : goal.sized-returns-clause-answer
+sized-returns-clause-answer t c =
+    let f = system c.args.sources.now in let n = c.args.depth in
+    let left : c.args.left ≡ suc (c.args.left - 1) = omega (arith, c.if-left-eq0.false) in
+    let tail = sym c.tail_of.ensures ∙ ap tail_as c.in-Asked.is in
+    rw c.in-None-kind.is (asked_decides f (answers f n).Alias (level f n n).one (IsSaid f n None) (IsDenied f n None) c.args.left (c.args.left - 1) left (term_of c.args.ty.now) tail answer.Undecided (λ y. y, λ y. y))
 
 -- ---- sources and answers
 
