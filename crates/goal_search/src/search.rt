@@ -523,8 +523,8 @@ pub fn evaluate(
     Ok(answer)
 }
 
-/// Whether a type has a size, as far as is known at the depth. Of parameters, aliases and opaque types
-/// a source of the trait of such types has to say so.
+/// Whether a type is known to have a size at the depth. Of parameters, aliases and opaque types a source
+/// of the trait of types with a size has to say so; where there is no such trait, nothing does.
 pub fn is_sized(
     alloc: Global,
     sources: &Sources,
@@ -541,7 +541,7 @@ pub fn is_sized(
     let Some(reading) = read(alloc, sources, kept, ty, Holes::Stay, depth, MOST_LEVELS)? else {
         return Ok(false);
     };
-    // First no source is asked, and then those of each trait of such types.
+    // First no source is asked, and then those of each trait of types with a size.
     let ty = &reading;
     let tail = sources.tail;
     if is_yes(sized(alloc, sources, kept, None, ty, tail, depth)?) {
