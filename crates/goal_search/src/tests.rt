@@ -7,7 +7,7 @@ ghost use Rattle.goal_terms.specs.Terms.{term_of, HasHeads};
 ghost use Rattle.goal_search.specs.Sources.{asked_list, rules_of, system};
 ghost use Rattle.goal_search.specs.Searching.{RuleHasHeads, SystemHasHeads};
 
-use crate::{Answer, Asked, Holes, Kept, Kind, Rule, Sources, evaluate, is_sized};
+use crate::{Answer, Asked, Holes, Kind, Rule, Search, Sources};
 use goal_terms::{Term, args_term, type_term};
 use hir_types::{AdtId, GenericArg, List, TraitId, Ty, TypeAliasId, UintTy};
 use std::alloc::{AllocError, Global};
@@ -86,8 +86,8 @@ fn ask(
     if !sources_have_heads(sources) || !goal.parts.has_heads() {
         return Err(AllocError);
     }
-    let mut kept = Kept::new(alloc);
-    evaluate(alloc, sources, &mut kept, &goal, Holes::Stay, steps)
+    let mut search = Search::new(alloc, sources);
+    search.evaluate(&goal, Holes::Stay, steps)
 }
 
 /// Whether the type has a size; an error where what stands first in some pair isn't known.
@@ -95,8 +95,8 @@ fn has_size(alloc: Global, sources: &Sources, ty: Ty, depth: u32) -> Result<bool
     if !sources_have_heads(sources) {
         return Err(AllocError);
     }
-    let mut kept = Kept::new(alloc);
-    is_sized(alloc, sources, &mut kept, &type_term(alloc, &ty)?, depth)
+    let mut search = Search::new(alloc, sources);
+    search.is_sized(&type_term(alloc, &ty)?, depth)
 }
 
 // ---- goals and rules
