@@ -13,6 +13,8 @@ use Rattle.goal_answers.proofs.Readings.{role_read, ReadsBy, MayReadBy, stands_b
 use Rattle.goal_answers.proofs.One.{occurs_type}
 use Rattle.goal_answers.proofs.Levels.{AliasIsRead, FillsAreRead, reads_read, may_read, answers_read}
 use Rattle.goal_terms.specs.Terms.{IsHead, HasHeads}
+use Rattle.goal_search.specs.declared.sources.Sources.{Sources}
+use Rattle.goal_search.specs.Sources.{system}
 use Rattle.goal_search.specs.Searching.{IsDone, FillsAreDone, RuleHasHeads, SystemHasHeads}
 
 -- ---- parts with heads
@@ -126,6 +128,10 @@ reading_done f h n p t u heads d r = record {
   read = reads_read (answers f n).Alias (answers_read f n) p t u (fills_read p t d) r;
   heads = reads_heads (answers f n).Alias (answers_read f n) (answers_heads f h n) p t u heads d r;
 }
+
+-- of the same sources
+pub heads_in : {s t : Sources} → s ≡ t → SystemHasHeads (system s) → SystemHasHeads (system t)
+heads_in e h = subst (λ (x : Sources). SystemHasHeads (system x)) e h
 
 -- ---- a goal with what stands for its holes
 

@@ -6,3 +6,4 @@ pub mod Walking
 pub mod Given
 pub mod Copying
 pub mod Small
+pub mod Sizes

@@ -4,3 +4,4 @@ pub mod Parts
 pub mod Combined
 pub mod Searching
 pub mod Keeping
+pub mod Sized

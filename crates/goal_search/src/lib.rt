@@ -16,8 +16,7 @@ mod told;
 
 pub use answer::Answer;
 pub use holes::Holes;
-pub use kept::Kept;
 pub use parts::{is_same_kind, key_of, self_type};
 pub use rows::field_at;
-pub use search::{alias_reads, evaluate, read};
+pub use search::Search;
 pub use sources::{Asked, Kind, Rule, Sources};

@@ -1,11 +1,13 @@
 //! Goals, with answers that were worked out by hand.
+mod readings;
+
 ghost use Rattle.std.specs.Prelude.{IsTrue, IfSome};
 ghost use Rattle.goal_answers.specs.Goals.{Each};
 ghost use Rattle.goal_terms.specs.Terms.{term_of, HasHeads};
 ghost use Rattle.goal_search.specs.Sources.{asked_list, rules_of, system};
 ghost use Rattle.goal_search.specs.Searching.{RuleHasHeads, SystemHasHeads};
 
-use crate::{Answer, Asked, Holes, Kept, Kind, Rule, Sources, evaluate};
+use crate::{Answer, Asked, Holes, Kind, Rule, Search, Sources};
 use goal_terms::{Term, args_term, type_term};
 use hir_types::{AdtId, GenericArg, List, TraitId, Ty, TypeAliasId, UintTy};
 use std::alloc::{AllocError, Global};
@@ -84,8 +86,17 @@ fn ask(
     if !sources_have_heads(sources) || !goal.parts.has_heads() {
         return Err(AllocError);
     }
-    let mut kept = Kept::new(alloc);
-    evaluate(alloc, sources, &mut kept, &goal, Holes::Stay, steps)
+    let mut search = Search::new(alloc, sources);
+    search.evaluate(&goal, Holes::Stay, steps)
+}
+
+/// Whether the type has a size; an error where what stands first in some pair isn't known.
+fn has_size(alloc: Global, sources: &Sources, ty: Ty, depth: u32) -> Result<bool, AllocError> {
+    if !sources_have_heads(sources) {
+        return Err(AllocError);
+    }
+    let mut search = Search::new(alloc, sources);
+    search.is_sized(&type_term(alloc, &ty)?, depth)
 }
 
 // ---- goals and rules
@@ -320,6 +331,42 @@ fn asks_no_goal_twice(rt: HostRuntime) -> Result<(), Fail> {
     assert_eq!(rt;
         ask(alloc, &sources, implements(alloc, SHOW, ty), 32)?,
         Answer::Yes
+    );
+    Ok(())
+}
+
+#[test]
+fn tells_what_has_a_size(rt: HostRuntime) -> Result<(), Fail> {
+    let alloc = rt.alloc();
+    let mut sources = no_sources(alloc)?;
+    sources
+        .clauses
+        .push(fact(alloc, implements(alloc, SIZED, Ty::Param(0))?))?;
+    sources
+        .rules
+        .push(fact(alloc, item_is(alloc, BYTE, Ty::Bool)?))?;
+    assert_eq!(rt; has_size(alloc, &sources, Ty::Param(0), 0)?, true);
+    assert_eq!(rt; has_size(alloc, &sources, Ty::Param(1), 0)?, false);
+    assert_eq!(rt; has_size(alloc, &sources, Ty::Var(0), 0)?, false);
+    assert_eq!(rt; has_size(alloc, &sources, item_of(alloc, BYTE)?, 0)?, false);
+    assert_eq!(rt; has_size(alloc, &sources, item_of(alloc, BYTE)?, 1)?, true);
+    Ok(())
+}
+
+/// Nothing is known of parameters, and of other types the same.
+#[test]
+fn tells_sizes_without_a_trait_of_them(rt: HostRuntime) -> Result<(), Fail> {
+    let alloc = rt.alloc();
+    let mut sources = no_sources(alloc)?;
+    sources
+        .clauses
+        .push(fact(alloc, implements(alloc, SIZED, Ty::Param(0))?))?;
+    sources.sized = Vec::new(alloc);
+    assert_eq!(rt; has_size(alloc, &sources, Ty::Param(0), 0)?, false);
+    assert_eq!(rt; has_size(alloc, &sources, tuple(alloc, BYTE)?, 0)?, true);
+    assert_eq!(rt;
+        has_size(alloc, &sources, tuple(alloc, Ty::Str)?, 0)?,
+        false
     );
     Ok(())
 }

@@ -1,4 +1,4 @@
-use Rattle.std.proofs.Common.{ℕ, ◌+◌, ◌*◌}
+use Rattle.std.proofs.Common.{◌≡◌, ℕ, ◌+◌, ◌*◌}
 use Rattle.std.specs.Option.{option_map}
 use Rattle.goal_answers.specs.Goals.{asked_at}
 use Rattle.goal_answers.specs.Answers.{answers}
@@ -6,10 +6,9 @@ use Rattle.goal_answers.specs.Steps.{known_below}
 use Rattle.goal_terms.specs.Terms.{term_of}
 use Rattle.goal_search.specs.Sources.{kind_of, asked_of, rule_of, system}
 use Rattle.goal_search.specs.Holes.{holes_fill}
-use Rattle.goal_search.specs.Keeping.{AreKept}
 use Rattle.goal_search.specs.Searching.{Holds, HoldsNot}
 use Rattle.goal_search.proofs.SoFar.{AllSoFar, AnySoFar, GivenSoFar}
-use Rattle.goal_search.proofs.search.+evaluate.Given as goal
+use Rattle.goal_search.proofs.search.Search.+evaluate.Given as goal
 
 -- more than any number of levels and of types to be looked at
 abbrev one : ℕ
@@ -53,27 +52,27 @@ decreases-decide l = (2 * l.depth + 1) * one + half + 4294967310
 
 abbrev pub invariant-ask_preds-loop-pred : goal.invariant-ask_preds-loop-pred
 invariant-ask_preds-loop-pred l =
-    let v = known_below (system l.sources) l.steps in
+    let v = known_below (system l.fn.self) l.steps in
     let p = holes_fill l.holes in
     record {
-      kept : AreKept (system l.sources) l.kept.entries.items;
+      same : l.self ≡ l.fn.self;
       so_far : AllSoFar (λ q. v.Yes (asked_at p (asked_of q))) (λ q. v.No (asked_at p (asked_of q))) l.preds l.pred-index l.left;
     }
 
 abbrev pub invariant-ask_rules-loop-rule : goal.invariant-ask_rules-loop-rule
 invariant-ask_rules-loop-rule l =
-    let f = system l.sources in
+    let f = system l.fn.self in
     let A = (answers f l.depth).Alias in
     let v = known_below f l.steps in
     record {
-      kept : AreKept f l.kept.entries.items;
+      same : l.self ≡ l.fn.self;
       so_far : AnySoFar (λ r. Holds A v l.side (kind_of l.kind) (term_of l.target) (rule_of r)) (λ r. HoldsNot A v l.side (kind_of l.kind) (term_of l.target) (rule_of r)) l.rules l.rule-index l.left;
     }
 
 abbrev pub invariant-ask_given-loop-rule : goal.invariant-ask_given-loop-rule
 invariant-ask_given-loop-rule l =
-    let v = known_below (system l.sources) l.steps in
+    let v = known_below (system l.fn.self) l.steps in
     record {
-      kept : AreKept (system l.sources) l.kept.entries.items;
+      same : l.self ≡ l.fn.self;
       so_far : GivenSoFar v l.alias (term_of l.args) l.rules l.rule-index (option_map term_of l.found);
     }
