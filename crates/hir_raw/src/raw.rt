@@ -44,7 +44,10 @@ pub enum RawType {
     Integer(IntegerTy),
     Tuple(List<TypeRefId>),
     /// A struct, enum or union at its arguments, which are all types.
-    Adt { adt: AdtId, args: List<TypeRefId> },
+    Adt {
+        adt: AdtId,
+        args: List<TypeRefId>,
+    },
     /// An associated type at the arguments of its trait, which are all types, the self type first.
     Projection {
         alias: TypeAliasId,

@@ -36,8 +36,9 @@ fn has_const(arguments: Option<&Value>) -> bool {
     items(arguments).iter().any(|argument| is_const(argument))
 }
 
-const PROJECTIONS: Uncarried<'static> =
-    Uncarried::Form("projections but in goals, impls and other projections");
+const PROJECTIONS: Uncarried<'static> = Uncarried::Form(
+    "projections but in goals, impls and other projections",
+);
 
 fn is_projection(facts: &Value, ty: Option<&Value>) -> bool {
     match number(ty) {
@@ -157,11 +158,7 @@ fn of_adt(place: Place, adt: &Value) -> Option<(Place, Uncarried<'_>)> {
 }
 
 /// The first field whose type is a projection.
-fn of_fields(
-    facts: &Value,
-    place: Place,
-    variant: &Value,
-) -> Option<(Place, Uncarried<'static>)> {
+fn of_fields(facts: &Value, place: Place, variant: &Value) -> Option<(Place, Uncarried<'static>)> {
     for (at, field) in list(variant, "fields").iter().enumerate() {
         if is_projection(facts, field.get("type")) {
             return Some((place.item("fields", at), PROJECTIONS));

@@ -52,8 +52,8 @@ lower_part-lower_args-requires t c =
     let below = parts_below g all c.args.type_ref _ here in
     rw c.as_slice-in-Adt.ensures (omega (arith, c.decreases, below), comes_to_parts g all c.args.type_ref _ here _ c.requires)
 
-pub lower_part-lower_args-requires-2 : goal.lower_part-lower_args-requires-2
-lower_part-lower_args-requires-2 t c =
+pub lower_part-lower_args-requires-in-Projection : goal.lower_part-lower_args-requires-in-Projection
+lower_part-lower_args-requires-in-Projection t c =
     let g = given_of c.args.given.now in
     let all = type_ids g.scope.facts c.lawful.ensures in
     let here = c.written.ensures ∙ ap (λ (x : RawType). Some x) c.in-Projection.is in
