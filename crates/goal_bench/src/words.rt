@@ -1,0 +1,68 @@
+//! The words of the command.
+use std::rc::RcStr;
+
+/// What is asked.
+#[derive(Clone, Copy, Debug, PartialEq, Eq)]
+pub enum Mode {
+    /// A goal about the last of many ADTs, each of which has an impl.
+    Impls,
+    /// A goal about a nested type, of which each level asks two of the one below.
+    Chain,
+    /// A goal that asks one about a larger type, and so on.
+    Endless,
+}
+
+/// All modes.
+pub const MODES: [Mode; 3] = [Mode::Impls, Mode::Chain, Mode::Endless];
+
+/// How large the question is, and how often it is asked.
+#[derive(Clone, Copy, Debug)]
+pub struct Load {
+    pub size: u16,
+    pub times: u32,
+}
+
+/// What is to be run.
+#[derive(Clone, Copy, Debug)]
+pub enum Request {
+    One(Mode, Load),
+    All(Load),
+}
+
+/// The mode of this name.
+fn mode_of(word: &str) -> Option<Mode> {
+    if word == "impls" {
+        Some(Mode::Impls)
+    } else if word == "chain" {
+        Some(Mode::Chain)
+    } else if word == "endless" {
+        Some(Mode::Endless)
+    } else {
+        None
+    }
+}
+
+/// A size and how often, neither of which is 0.
+fn load_of(size: &str, times: &str) -> Option<Load> {
+    match (size.parse::<u16>(), times.parse::<u32>()) {
+        (Ok(size), Ok(times)) if size != 0 && times != 0 => Some(Load { size, times }),
+        _ => None,
+    }
+}
+
+fn request_of(mode: &str, size: &str, times: &str) -> Option<Request> {
+    let load = load_of(size, times)?;
+    if mode == "all" {
+        return Some(Request::All(load));
+    }
+    Some(Request::One(mode_of(mode)?, load))
+}
+
+/// What the words ask for.
+pub fn asked(words: &[RcStr]) -> Option<Request> {
+    match words {
+        [mode, size] => request_of(mode.as_str(), size.as_str(), "1"),
+        [mode, size, times] => request_of(mode.as_str(), size.as_str(), times.as_str()),
+        _ => None,
+    }
+}
