@@ -18,8 +18,8 @@ const USAGE: &str = "usage: goal_bench MODE N [TIMES] (goal_bench --help names t
 const HELP: &str = "goal_bench MODE N [TIMES]
 
 Makes impls, asks a goal of them, to be measured, so many times (once where TIMES is not
-given), and prints the answer: yes, no or undecided. N is from 1 to 65535, TIMES at least
-1, and MODE is one of
+given), and prints the answer: yes, no or undecided. N is from 1 to 1000, of impls to
+65535, TIMES is at least 1, and MODE is one of
 
 impls    each of N types has an impl, and the goal is about the last: yes
 chain    a type of N levels, of which each asks two goals of the one below: yes

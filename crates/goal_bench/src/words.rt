@@ -1,4 +1,6 @@
 //! The words of the command.
+ghost use Rattle.std.specs.Prelude.{◌≤◌, ◌<◌, IfSome};
+
 use std::rc::RcStr;
 
 /// What is asked.
@@ -14,6 +16,9 @@ pub enum Mode {
 
 /// All modes.
 pub const MODES: [Mode; 3] = [Mode::Impls, Mode::Chain, Mode::Endless];
+
+/// How large a question is that is searched as deep as it is large: the stack suffices.
+const DEEPEST: u16 = 1000;
 
 /// How large the question is, and how often it is asked.
 #[derive(Clone, Copy, Debug)]
@@ -42,20 +47,33 @@ fn mode_of(word: &str) -> Option<Mode> {
     }
 }
 
-/// A size and how often, neither of which is 0.
-fn load_of(size: &str, times: &str) -> Option<Load> {
+/// The largest size of a mode.
+fn most_of(mode: Mode) -> u16 {
+    match mode {
+        Mode::Impls => u16::MAX,
+        Mode::Chain | Mode::Endless => DEEPEST,
+    }
+}
+
+/// A size from 1 to the most, and how often, which is not 0.
+fn load_of(size: &str, times: &str, most: u16) -> Option<Load>
+    ensures size { IfSome result (λ load. (0 < load.size) × (load.size ≤ most)) }
+    ensures times { IfSome result (λ load. 0 < load.times) }
+{
     match (size.parse::<u16>(), times.parse::<u32>()) {
-        (Ok(size), Ok(times)) if size != 0 && times != 0 => Some(Load { size, times }),
+        (Ok(size), Ok(times)) if 0 < size && size <= most && 0 < times => {
+            Some(Load { size, times })
+        }
         _ => None,
     }
 }
 
 fn request_of(mode: &str, size: &str, times: &str) -> Option<Request> {
-    let load = load_of(size, times)?;
     if mode == "all" {
-        return Some(Request::All(load));
+        return Some(Request::All(load_of(size, times, DEEPEST)?));
     }
-    Some(Request::One(mode_of(mode)?, load))
+    let mode = mode_of(mode)?;
+    Some(Request::One(mode, load_of(size, times, most_of(mode))?))
 }
 
 /// What the words ask for.
