@@ -1,0 +1,16 @@
+-- A goal whose holes stay is itself, and the answer to a mode's question is that to what the mode asks.
+use Rattle.std.proofs.Common.{◌≡◌, ℕ, ap}
+use Rattle.hir_types.specs.Terms.{hole}
+use Rattle.goal_answers.specs.Goals.{Asked, asked_at}
+use Rattle.goal_answers.proofs.Readings.{apply_hole}
+use Rattle.goal_search.specs.declared.answer.Answer.{Answer}
+use Rattle.goal_search.specs.Sources.{asked_of, system}
+use Rattle.goal_bench.specs.declared.words.Mode.{Mode}
+use Rattle.goal_bench.specs.declared.question.Question.{Question}
+use Rattle.goal_bench.specs.Questions.{IsAnswer, IsAnswerTo, IsQuestion}
+
+pub asked_itself : (g : Asked) → asked_at hole g ≡ g
+asked_itself g = ap (λ t. record g { parts = t }) (apply_hole g.parts)
+
+pub answer_is : (m : Mode) (n : ℕ) (q : Question) (a : Answer) → IsQuestion m n q → IsAnswer (system q.sources) (asked_of q.goal) q.steps a → IsAnswerTo m n a
+answer_is m n q a h is = rw (h.sources, h.goal, h.steps) at is

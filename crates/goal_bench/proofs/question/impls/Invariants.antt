@@ -1,0 +1,12 @@
+use Rattle.std.proofs.Common.{◌≡◌}
+use Rattle.goal_answers.specs.Goals.{Each}
+use Rattle.goal_search.specs.Sources.{rules_of}
+use Rattle.goal_search.specs.Searching.{RuleHasHeads}
+use Rattle.goal_bench.specs.Impls.{impls}
+use Rattle.goal_bench.proofs.question.impls.Given as goal
+
+abbrev pub invariant-loop-number : goal.invariant-loop-number
+invariant-loop-number l = record {
+  is : rules_of l.rules.items ≡ impls l.number;
+  heads : Each RuleHasHeads (rules_of l.rules.items);
+}

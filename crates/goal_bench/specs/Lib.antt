@@ -1,0 +1,2 @@
+pub mod Impls
+pub mod Questions
