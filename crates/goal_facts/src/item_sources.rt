@@ -1,13 +1,16 @@
 //! What the goals of an item are answered by, and the answers.
-ghost use Rattle.std.specs.Prelude.{◌≡◌, IfOk};
+ghost use Rattle.std.specs.Prelude.{◌≡◌, ◌↔◌, IsTrue, IfOk};
+ghost use Rattle.hir_types.specs.Terms.{term};
 ghost use Rattle.goal_search.specs.Sources.{system};
+ghost use Rattle.goal_search.specs.Sized.{IsSizedAt};
 ghost use Rattle.goal_facts.specs.Goals.{asked_goal, IsAnswer};
 ghost use Rattle.goal_facts.specs.Systems.{IsSystemOf};
 
 use crate::asked::asked;
 use crate::sources::sources_of;
-use goal_search::{Answer, Holes, Kept, Sources, evaluate};
-use hir_facts::{Facts, GenericDefId, Goal};
+use goal_search::{Answer, Holes, Search, Sources};
+use goal_terms::type_term;
+use hir_facts::{Facts, GenericDefId, Goal, Ty};
 use std::alloc::{AllocError, Global};
 use std::marker::Model;
 
@@ -82,9 +85,18 @@ impl<'a> ItemSources<'a> {
     {
         self.facts.lawful();
         let goal = asked(alloc, goal)?;
-        let mut kept = Kept::new(alloc);
-        let steps = self.facts.raw().limits.goal_depth + 1;
-        evaluate(alloc, &self.sources, &mut kept, &goal, Holes::Stay, steps)
+        let depth = self.facts.raw().limits.goal_depth;
+        Search::new(alloc, &self.sources).evaluate(&goal, Holes::Stay, depth + 1)
+    }
+
+    /// Whether a type, whose holes stay, is known to have a size: a walk along last fields and last parts
+    /// says so, which ends at the limit of the facts. Of parameters, associated types that stay and opaque
+    /// types something has to say it.
+    pub fn is_sized(&self, alloc: Global, ty: &Ty) -> Result<bool, AllocError>
+        ensures { IfOk result (λ yes. IsTrue yes ↔ IsSizedAt (system self.now.sources) self.now.facts.limits.goal_depth (term ty.now)) }
+    {
+        let ty = type_term(alloc, ty)?;
+        let depth = self.facts.raw().limits.goal_depth;
+        Search::new(alloc, &self.sources).is_sized(&ty, depth)
     }
 }
-

@@ -1,7 +1,9 @@
 //! The goals that inference of a body meets.
-ghost use Rattle.std.specs.Prelude.{◌≡◌, ◌++◌, ◌∷◌, [], true, IfOk};
-ghost use Rattle.infer_table.specs.Table.{new_state};
+ghost use Rattle.std.specs.Prelude.{◌≡◌, ◌↔◌, ◌++◌, ◌∷◌, [], true, IsTrue, IfOk};
+ghost use Rattle.hir_types.specs.Terms.{term};
+ghost use Rattle.infer_table.specs.Table.{new_state, resolved_type};
 ghost use Rattle.goal_search.specs.Sources.{system};
+ghost use Rattle.goal_search.specs.Sized.{IsSizedAt};
 ghost use Rattle.goal_facts.specs.Goals.{asked_goal, IsAnswer};
 ghost use Rattle.infer_goals.specs.Told.{resolved_goal, IsToldOf};
 
@@ -78,6 +80,15 @@ impl<'a, I: ObligationInspector> GoalTable<'a, I> {
         }
         self.told.push((goal, answer))?;
         Ok(answer)
+    }
+
+    /// Whether a type, with what is known of its holes, is known to have a size: a walk along last fields and
+    /// last parts says so, which ends at the limit of the facts. Nothing is told of what it asks.
+    pub fn is_sized(&self, ty: &Ty) -> Result<bool, AllocError>
+        ensures { IfOk result (λ yes. IsTrue yes ↔ IsSizedAt (system self.now.sources.sources) self.now.sources.facts.limits.goal_depth (term (resolved_type self.now.table ty.now))) }
+    {
+        let ty = self.table.resolve(ty)?;
+        self.sources.is_sized(self.alloc, &ty)
     }
 
     /// What was told, in its order: copies.

@@ -3,10 +3,18 @@ use Rattle.std.proofs.lemmas.Result.{IfOk-weaker}
 use Rattle.hir_types.specs.Terms.{pair}
 use Rattle.goal_answers.specs.Goals.{projects}
 use Rattle.goal_terms.specs.Terms.{term_of}
-use Rattle.goal_search.specs.Sources.{asked_of, rule_of}
+use Rattle.goal_search.specs.Sources.{rule_of}
 use Rattle.goal_facts.specs.Arguments.{type_at}
 use Rattle.goal_facts.specs.Impls.{impl_holes, impl_args, impl_rule, assoc_rule}
 use Rattle.goal_facts.proofs.impls.assoc_rule.Goals as goal
 
 pub returns-clause-is : goal.returns-clause-is
-returns-clause-is c = ?
+returns-clause-is c =
+    let raw = c.args.facts.now in
+    let item = c.args.item.now in
+    let x = c.args.given in
+    let parts : term_of c.in_ok-join.field-0 ≡ pair (impl_args raw item c.args.trait_ref.now) (type_at raw (impl_holes item) x.ty) =
+    c.in_ok-join.ensures.is ∙ ap₂ pair c.in_ok-args.ensures.is (c.in_ok-ty.ensures.is ∙ ap (λ xs. type_at raw xs x.ty) c.requires) in
+    IfOk-weaker c.impl_rule.result (λ made. rule_of made ≡ impl_rule raw item (record { kind = projects x.alias; parts = term_of c.in_ok-join.field-0 })) (λ made. rule_of made ≡ assoc_rule raw item c.args.trait_ref.now x)
+    (λ made is. is ∙ (λ i. impl_rule raw item (record { kind = projects x.alias; parts = parts i })))
+    c.impl_rule.ensures.is

@@ -12,4 +12,4 @@ returns-clause-is c =
     let start = asked_list c.in_ok-goals.goals.items in
     IfOk-weaker c.close.result (λ made. IsClosure raw (Has start) raw.limits.goal_depth (asked_list made.items)) (λ made. IsClosure raw (IsListed c.args.facts.now) raw.limits.goal_depth (asked_list made.items))
     (λ made h. closure_of raw (IsListed c.args.facts.now) start raw.limits.goal_depth (asked_list made.items) c.in_ok-goals.ensures h)
-    ?
+    (rw c.raw.ensures.value at c.close.ensures.is)

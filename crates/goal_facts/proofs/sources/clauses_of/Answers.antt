@@ -12,4 +12,4 @@ returns-clause-is c =
     let start = asked_list c.in_ok-goals.goals.items in
     IfOk-weaker c.close.result (λ made. IsClosure raw (Has start) raw.limits.goal_depth (asked_list made.items)) (λ made. IsClosure raw (IsStated c.args.facts.now c.args.item) raw.limits.goal_depth (asked_list made.items))
     (λ made h. closure_of raw (IsStated c.args.facts.now c.args.item) start raw.limits.goal_depth (asked_list made.items) c.in_ok-goals.ensures h)
-    ?
+    (rw c.raw.ensures.value at c.close.ensures.is)

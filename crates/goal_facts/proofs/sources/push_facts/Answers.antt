@@ -1,13 +1,39 @@
-use Rattle.std.proofs.Common.{◌≡◌, ◌++◌, ◌∙◌, sym, ap, subst, map}
+use Rattle.std.proofs.Common.{◌≡◌, ◌∷◌, [], ◌++◌, List, length, refl, sym, ap, subst, ◌∙◌, append_assoc, append-nil, arith, map}
+use Rattle.std.specs.Vec.Iter.{into_iter_items}
 use Rattle.goal_answers.specs.Goals.{Each}
-use Rattle.goal_search.specs.Sources.{asked_list, rules_of}
+use Rattle.goal_search.specs.Sources.{asked_of, asked_list, rule_of, rules_of}
 use Rattle.goal_search.specs.Searching.{RuleHasHeads}
 use Rattle.goal_facts.specs.Systems.{fact}
-use Rattle.goal_facts.proofs.Systems.{each_append, facts_heads}
+use Rattle.goal_facts.proofs.Arguing.{map_more}
+use Rattle.goal_facts.proofs.Systems.{each_append, facts_heads, nothing_left}
 use Rattle.goal_facts.proofs.sources.push_facts.Goals as goal
 
+pub loop-head-preserved : goal.loop-head-preserved
+loop-head-preserved c =
+    let at = c.loop-head in
+    let x = c.in-Some.head in
+    let steps : into_iter_items at.head-iterator ≡ x ∷ into_iter_items c.next.new.self = c.in-Some.ensures.steps.0 in (
+      append_assoc at.yielded (x ∷ []) _ ∙ rw (← steps) at.invariant.0,
+      ?,
+      let was = at.invariant.2 in
+          let gone = c.in-Some.ensures.steps.1 in
+          let short = ap length steps in
+          omega arith,
+    )
+
 pub returns-clause-is : goal.returns-clause-is
-returns-clause-is c = ?
+returns-clause-is c =
+    let at = c.loop-head in
+    let none = c.in-None.ensures.steps in
+    let empty : into_iter_items at.head-iterator ≡ [] = nothing_left _ (sym at.invariant.2 ∙ none.0) in
+    let all = sym (append-nil at.yielded) ∙ (rw empty at at.invariant.0 ∙ c.into_iter-head-iterator.ensures.into_iter_gives.0) in
+    subst (λ hs. rules_of at.rules.items ≡ rules_of c.args.rules.now.items ++ map fact (asked_list hs)) all at.invariant.1
 
 pub returns-clause-heads : goal.returns-clause-heads
-returns-clause-heads c = ?
+returns-clause-heads c =
+    let at = c.loop-head in
+    let none = c.in-None.ensures.steps in
+    let empty : into_iter_items at.head-iterator ≡ [] = nothing_left _ (sym at.invariant.2 ∙ none.0) in
+    let all = sym (append-nil at.yielded) ∙ (rw empty at at.invariant.0 ∙ c.into_iter-head-iterator.ensures.into_iter_gives.0) in
+    let are = subst (λ hs. rules_of at.rules.items ≡ rules_of c.args.rules.now.items ++ map fact (asked_list hs)) all at.invariant.1 in
+    subst (Each RuleHasHeads) (sym are) (each_append RuleHasHeads (rules_of c.args.rules.now.items) (map fact (asked_list c.args.goals.items)) c.requires.rules (facts_heads (asked_list c.args.goals.items) c.requires.goals))
