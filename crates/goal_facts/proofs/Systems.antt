@@ -1,9 +1,10 @@
 -- What is found of an item is what its goals are answered by.
-use Rattle.std.specs.Prelude.{◌≡◌, ◌⊎◌, ℕ, zero, suc, List, [], ◌∷◌, ◌++◌, length, map, slice_get, Option, Some, None, option_map, IfSome, refl}
+use Rattle.std.specs.Prelude.{◌≡◌, ◌⊎◌, ◌≤◌, ℕ, zero, suc, List, [], ◌∷◌, ◌++◌, length, map, slice_get, Option, Some, None, option_map, IfOk, IfSome, Result, refl}
 use Rattle.std.specs.Option.{option_and_then}
 use Rattle.std.proofs.Common.{inl, inr, sym, ap, ◌∙◌, subst, arith}
+use Rattle.std.specs.declared.alloc.AllocError.{AllocError}
 use Rattle.std.proofs.lemmas.Option.{same_Some}
-use Rattle.hir_types.specs.Terms.{Term}
+use Rattle.hir_types.specs.Terms.{Term, hole}
 use Rattle.hir_types.specs.declared.ids.TypeAliasId.{TypeAliasId}
 use Rattle.hir_types.specs.declared.ids.GenericDefId.{GenericDefId}
 use Rattle.hir_types.specs.declared.ty.GenericArg.{GenericArg}
@@ -11,15 +12,20 @@ use Rattle.hir_raw.specs.declared.raw.RawGoal.{RawGoal}
 use Rattle.hir_raw.specs.declared.raw.RawAlias.{RawAlias}
 use Rattle.hir_raw.specs.declared.raw.RawFacts.{RawFacts}
 use Rattle.hir_raw.specs.Scope.{generic_params}
-use Rattle.goal_answers.specs.Goals.{Asked, Rule, Each}
+use Rattle.hir_laws.specs.Lawful.{IsLawful}
+use Rattle.goal_answers.specs.Goals.{Asked, Rule, System, Each, asked_at}
+use Rattle.goal_answers.specs.Steps.{known_below}
+use Rattle.goal_answers.proofs.Readings.{apply_hole}
+use Rattle.goal_search.specs.declared.answer.Answer.{Answer}
 use Rattle.goal_terms.specs.Terms.{HasHeads}
-use Rattle.goal_search.specs.Searching.{RuleHasHeads}
+use Rattle.goal_search.specs.Searching.{RuleHasHeads, Decides}
 use Rattle.goal_facts.specs.Arguments.{own_params, goal_at}
 use Rattle.goal_facts.specs.Additions.{Has, AreDistinct, AllHaveHeads, Adds, SomeSays}
 use Rattle.goal_facts.specs.Environment.{env_preds, IsOwn, IsStated, trait_holes, Follows, IsClosure}
 use Rattle.goal_facts.specs.Bounds.{BoundSays, AliasLists}
 use Rattle.goal_facts.proofs.Adding.{adds_as, adds_then}
 use Rattle.goal_facts.specs.Systems.{fact}
+use Rattle.goal_facts.specs.Goals.{IsAnswer}
 
 -- ---- closures of what was added to nothing
 
@@ -110,3 +116,18 @@ alias_lists raw i k a xs gs x y is args bounds h =
 pub nothing_left : {X : Type 0} (xs : List X) → length xs ≡ 0 → xs ≡ []
 nothing_left [] h = refl
 nothing_left (x ∷ xs) h = absurd (omega (arith, h))
+
+-- ---- answers
+
+pub depth_is_small : (raw : RawFacts) → IsLawful raw → raw.limits.goal_depth ≤ 32
+depth_is_small raw law = (law.all.1.1.1.1.1.1.1.1.1.1.1.1.1.1.1.1.1.1.1.1.1.1.1.1.1.1.1.1.1.1.1.1.1.1.1.1.1.1.1.1.0 0 raw.limits.goal_depth refl).1
+
+-- a goal whose holes stay is itself
+asked_itself : (g : Asked) → asked_at hole g ≡ g
+asked_itself g = ap (λ t. record g { parts = t }) (apply_hole g.parts)
+
+pub answer_is : (f : System) (n m : ℕ) (g h : Asked) (r : Result Answer AllocError) → m ≡ suc n → g ≡ h
+    → IfOk r (λ a. Decides ((known_below f m).Yes (asked_at hole g)) ((known_below f m).No (asked_at hole g)) a) → IfOk r (IsAnswer f n h)
+answer_is f n m g h r next same found =
+    subst (λ x. IfOk r (IsAnswer f n x)) (asked_itself g ∙ same)
+    (subst (λ k. IfOk r (λ a. Decides ((known_below f k).Yes (asked_at hole g)) ((known_below f k).No (asked_at hole g)) a)) next found)

@@ -1,7 +1,6 @@
 -- What the goals of an item are answered by.
-use Rattle.std.specs.Prelude.{◌≡◌, ◌++◌, ℕ, Bool, true, false, List, [], ◌∷◌, map, length, slice_get, Option, Some, None, option_map, flat_map}
+use Rattle.std.specs.Prelude.{◌≡◌, ◌++◌, ◌-◌, List, [], ◌∷◌, map, length, slice_get, Option, Some, None, option_map, flat_map}
 use Rattle.std.specs.Option.{option_and_then}
-use Rattle.std.specs.List.{last_or}
 use Rattle.hir_types.specs.declared.ids.AdtId.{AdtId}
 use Rattle.hir_types.specs.declared.ids.TraitId.{TraitId}
 use Rattle.hir_types.specs.declared.ids.GenericDefId.{GenericDefId}
@@ -39,7 +38,7 @@ copied_by _ = []
 -- ---- last fields
 
 abbrev pub last_of : {X : Type 0} → List X → Option X
-last_of xs = last_or None xs
+last_of xs = slice_get xs (length xs - 1)
 
 -- of the one variant of a struct
 abbrev pub variant_of : RawFacts → RawAdt → RawAdtKind → Option RawVariant

@@ -1,14 +1,16 @@
-use Rattle.std.proofs.Common.{rules, ◌≡◌, ◌++◌, map, option_map, flat_map, IfOk, IfSome, OnOk, ℕ, ◌+◌, ◌-◌, ◌*◌, ◌<◌, ◌≤◌, length, ◌/◌, ◌%◌, Bool, true, false, nat_eq, nat_lt, List, [], ◌∷◌, slice_index_or, slice_set, bit_and, bit_or, Fits, w8, w32, w64, Bor, MutBor}
-use Rattle.goal_answers.specs.Goals.{Each}
-use Rattle.goal_terms.specs.Terms.{term_of, HasHeads}
-use Rattle.goal_search.specs.Sources.{asked_list, rules_of, system}
-use Rattle.goal_search.specs.Searching.{RuleHasHeads, SystemHasHeads}
-use Rattle.goal_facts.specs.Additions.{AllHaveHeads}
-use Rattle.goal_facts.specs.Environment.{IsStated, IsClosure}
-use Rattle.goal_facts.specs.Bounds.{IsListed}
-use Rattle.goal_facts.specs.Systems.{fact, sized_by, copied_by, variant_of, last_field_of, RulesAre, IsSystemOf}
+use Rattle.std.proofs.Common.{◌≡◌, ◌∙◌, sym, ap, length}
+use Rattle.std.specs.Prelude.{Some, option_map}
+use Rattle.std.specs.Option.{option_and_then}
+use Rattle.goal_facts.specs.Arguments.{holes, type_at}
+use Rattle.goal_facts.specs.Systems.{last_of, variant_of}
 use Rattle.goal_facts.proofs.sources.last_field_of.Goals as goal
 
--- src/sources.rt:98:1
 pub returns-clause-is : goal.returns-clause-is
-returns-clause-is c = ?
+returns-clause-is c =
+    let raw = c.args.facts.now in
+    let adt = c.args.adt.now in
+    let v : variant_of raw adt adt.kind ≡ Some c.in-Some.variant.now =
+    ap (λ r. variant_of r adt adt.kind) (sym c.raw.ensures.value) ∙ (sym c.variant_of.ensures ∙ ap (option_map (λ v. v.now)) c.in-Some.is) in
+    let l : last_of c.in-Some.variant.now.fields ≡ Some c.in-Some-last.field.now = ap last_of (sym c.as_slice.ensures) ∙ sym c.in-Some-last.ensures.value in
+    ap Some (c.in_ok-type_at.ensures.is ∙ ap (λ xs. type_at raw xs c.in-Some-last.field.now.type_) (c.in_ok-holes.ensures ∙ ap holes c.len.ensures))
+    ∙ sym (ap (λ o. option_map (λ x. type_at raw (holes (length adt.params)) x.type_) (option_and_then (λ v. last_of v.fields) o)) v ∙ ap (option_map (λ x. type_at raw (holes (length adt.params)) x.type_)) l)

@@ -1,12 +1,31 @@
-use Rattle.std.proofs.Common.{◌≡◌, sym, ap}
+use Rattle.std.proofs.Common.{◌≡◌, ◌++◌, ◌∙◌, [], sym, ap, map}
+use Rattle.std.specs.Prelude.{flat_map}
 use Rattle.goal_terms.specs.Terms.{term_of}
-use Rattle.goal_search.specs.Sources.{rules_of}
-use Rattle.goal_facts.specs.Systems.{last_field_of}
+use Rattle.goal_search.specs.Sources.{asked_list, rules_of}
+use Rattle.goal_facts.specs.Systems.{fact, sized_by, copied_by, last_field_of}
 use Rattle.goal_facts.proofs.Systems.{entries_agree, field_heads}
 use Rattle.goal_facts.proofs.sources.sources_of.Goals as goal
 
 pub returns-clause-is : goal.returns-clause-is
-returns-clause-is c = ?
+returns-clause-is c =
+    let raw = c.raw-raw.ensures.value in
+    record {
+      clauses = record {
+        stated = asked_list c.in_ok-clauses_of.field-0.items;
+        closed = c.in_ok-clauses_of.ensures.is;
+        are = c.in_ok-push_facts.ensures.is ∙ ap (λ xs. rules_of xs ++ map fact (asked_list c.in_ok-clauses_of.field-0.items)) c.new-clauses.ensures.items;
+      };
+      rules = c.in_ok-rules_of.ensures.is;
+      sized = c.in_ok-sized_traits.ensures ∙ ap (flat_map sized_by) (c.as_slice.ensures ∙ ap (λ r. r.lang) raw);
+      copied = c.in_ok-copied_traits.ensures ∙ ap (flat_map copied_by) (c.as_slice-2.ensures ∙ ap (λ r. r.lang) raw);
+      last_field = λ a. entries_agree term_of (last_field_of c.args.facts.now) c.in_ok-last_fields.field-0.items c.args.facts.now.adts (c.in_ok-last_fields.ensures.is ∙ ap (map (last_field_of c.args.facts.now)) (c.as_slice-3.ensures ∙ ap (λ r. r.adts) raw)) a.0;
+      tail = ap (λ r. r.limits.tail) raw;
+    }
 
 pub returns-clause-heads : goal.returns-clause-heads
-returns-clause-heads c = ?
+returns-clause-heads c =
+    record {
+      clauses = c.in_ok-push_facts.ensures.heads;
+      rules = c.in_ok-rules_of.ensures.heads;
+      fields = λ a t e. field_heads term_of c.in_ok-last_fields.field-0.items c.in_ok-last_fields.ensures.heads a.0 t e;
+    }
