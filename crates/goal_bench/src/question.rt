@@ -8,7 +8,7 @@ ghost use Rattle.goal_bench.specs.Questions.{rules_for, type_for, steps_for, IsA
 
 use crate::goals::{BYTE, impl_for, impl_where, implemented, nested, wrapped};
 use crate::words::Mode;
-use goal_search::{Answer, Asked, Holes, Kept, Rule, Sources, evaluate};
+use goal_search::{Answer, Asked, Holes, Rule, Search, Sources};
 use hir_types::{AdtId, List, TraitId, Ty};
 use std::alloc::{AllocError, Global};
 
@@ -152,16 +152,8 @@ fn ask(alloc: Global, question: &Question) -> Result<Answer, AllocError>
     requires { MayBeAsked question.now }
     ensures { IfOk result (IsAnswer (system question.now.sources) (asked_of question.now.goal) question.now.steps) }
 {
-    let mut kept = Kept::new(alloc);
-    let goal = &question.goal;
-    evaluate(
-        alloc,
-        &question.sources,
-        &mut kept,
-        goal,
-        Holes::Stay,
-        question.steps,
-    )
+    let mut search = Search::new(alloc, &question.sources);
+    search.evaluate(&question.goal, Holes::Stay, question.steps)
 }
 
 /// The answer to what a mode asks, searched for so many times.
