@@ -126,4 +126,3 @@ supers_said raw c t xs gs a b kind args preds h =
   where
     same : (u : TraitId) → c.kind ≡ implements u → u ≡ t
     same u e = same_Some u t (ap trait_in (sym e ∙ kind))
-

@@ -117,7 +117,10 @@ pub fn listed(alloc: Global, facts: &Facts) -> Result<Vec<Asked>, AllocError>
         let alias = &aliases[place];
         // No list of so many associated types is in memory.
         let number = u32::try_from(place).map_err(|_| AllocError)?;
-        let args = holes(alloc, generic_params(raw, GenericDefId::TraitId(alias.trait_)))?;
+        let args = holes(
+            alloc,
+            generic_params(raw, GenericDefId::TraitId(alias.trait_)),
+        )?;
         let bounds = alias.bounds.as_slice();
         add_bounds(alloc, facts, TypeAliasId(number), &args, bounds, &mut made)?;
     }

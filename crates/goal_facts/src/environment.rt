@@ -64,7 +64,9 @@ fn env_preds(raw: &RawFacts, item: GenericDefId) -> &[RawGoal]
             Some(item) => item.preds.as_slice(),
             None => &[],
         },
-        GenericDefId::TraitId(_) | GenericDefId::TypeAliasId(_) | GenericDefId::ConstId(_)
+        GenericDefId::TraitId(_)
+        | GenericDefId::TypeAliasId(_)
+        | GenericDefId::ConstId(_)
         | GenericDefId::StaticId(_) => preds_of_trait(raw, env_trait(raw, item)),
     }
 }

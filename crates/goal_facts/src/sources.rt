@@ -137,11 +137,7 @@ fn rules_of(alloc: Global, facts: &Facts) -> Result<Vec<Rule>, AllocError>
 
 /// What the goals of an item are answered by: what it states, all impls, and the bounds of associated
 /// types.
-pub fn sources_of(
-    alloc: Global,
-    facts: &Facts,
-    item: GenericDefId,
-) -> Result<Sources, AllocError>
+pub fn sources_of(alloc: Global, facts: &Facts, item: GenericDefId) -> Result<Sources, AllocError>
     ensures is { IfOk result (λ made. IsSystemOf facts.now item (system made)) }
     ensures heads { IfOk result (λ made. SystemHasHeads (system made)) }
 {
@@ -157,4 +153,3 @@ pub fn sources_of(
         tail: raw.limits.tail,
     })
 }
-

@@ -1,5 +1,5 @@
 -- What a table of goals tells of those that it evaluates.
-use Rattle.std.specs.Prelude.{◌≡◌, ◌×◌, ◌++◌, List, [], ◌∷◌, Option, Some, None}
+use Rattle.std.specs.Prelude.{◌≡◌, ◌++◌, List, [], ◌∷◌, Option, Some, None}
 use denote.Ref.{MutBor}
 use Rattle.hir_types.specs.declared.goal.Goal.{Goal}
 use Rattle.hir_types.specs.Subst.{with_holes}

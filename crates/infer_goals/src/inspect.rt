@@ -1,5 +1,5 @@
 //! Who is told of the goals that inference meets.
-ghost use Rattle.std.specs.Prelude.{◌≡◌, ◌++◌, ◌∷◌, [], ◌×◌, List, OnOk};
+ghost use Rattle.std.specs.Prelude.{◌≡◌, ◌++◌, ◌∷◌, [], List, OnOk};
 ghost use Rattle.hir_types.specs.declared.goal.Goal.{Goal};
 ghost use Rattle.goal_search.specs.declared.answer.Answer.{Answer};
 

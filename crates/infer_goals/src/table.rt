@@ -39,7 +39,7 @@ impl<'a, I: ObligationInspector> GoalTable<'a, I> {
         ensures table { IfOk result (λ made. made.table ≡ new_state) }
         ensures bounded { IfOk result (λ made. made.bounded ≡ true) }
         ensures told { IfOk result (λ made. made.told.items ≡ []) }
-        ensures inspect { IfOk result (λ made. made.inspect ≡ inspect) }
+        ensures inspect { IfOk result (λ made. made.inspect ≡ inspect.entry) }
     {
         Ok(GoalTable {
             alloc,
@@ -73,12 +73,12 @@ impl<'a, I: ObligationInspector> GoalTable<'a, I> {
         ensures table { self.new.table ≡ self.old.table }
         ensures sources { self.new.sources ≡ self.old.sources }
     {
-        let goal = self.table.resolve(goal)?;
-        let answer = self.sources.evaluate(self.alloc, &goal)?;
+        let resolved = self.table.resolve(goal)?;
+        let answer = self.sources.evaluate(self.alloc, &resolved)?;
         if let Some(inspect) = &mut self.inspect {
-            inspect.told(&goal, answer)?;
+            inspect.told(&resolved, answer)?;
         }
-        self.told.push((goal, answer))?;
+        self.told.push((resolved, answer))?;
         Ok(answer)
     }
 
@@ -96,10 +96,9 @@ impl<'a, I: ObligationInspector> GoalTable<'a, I> {
         ensures { IfOk result (λ told. told.items ≡ self.now.told.items) }
     {
         let mut told = Vec::new(self.alloc);
-        for (goal, answer) in &self.told {
-            told.push((goal.dup(self.alloc)?, *answer))?;
+        for entry in self.told.as_slice() {
+            told.push((entry.0.dup(self.alloc)?, entry.1))?;
         }
         Ok(told)
     }
 }
-

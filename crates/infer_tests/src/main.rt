@@ -3,6 +3,7 @@
 #![tactic(auto)]
 
 mod before_fallback;
+mod goals;
 mod plain_bodies;
 mod rows;
 mod runs;

@@ -14,9 +14,11 @@
 //!     > LINE | LINE    lines of the report
 //!     ? LINE | LINE    lines of the types before fallback
 //!     plain yes|no     whether the body is plain, and so has such types
-use crate::Checks;
+//!     in KIND N: ..    in the scope of this item, the answers to the predicates of function 0, `yes`, `no` or `undecided`, and
+//!                      whether its inputs have a size, `sized` or `unsized`
 use crate::before_fallback::text_of;
 use crate::runs::{PLAIN, Way, compare, compare_end, ran};
+use crate::{Checks, goals};
 use hir_facts::is_plain;
 use hir_types::{DefWithBodyId, FunctionId};
 use infer_run::Ran;
@@ -34,6 +36,7 @@ struct Row {
     report: String,
     before_fallback: String,
     plain: String,
+    answers: String,
     mistake: String,
 }
 
@@ -76,6 +79,7 @@ impl Row {
             report: String::new(alloc),
             before_fallback: String::new(alloc),
             plain: String::new(alloc),
+            answers: String::new(alloc),
             mistake: String::new(alloc),
         })
     }
@@ -101,6 +105,7 @@ impl Row {
             "ends" => self.ends = String::from_str(alloc, rest)?,
             ">" => push_lines(&mut self.report, rest)?,
             "?" => push_lines(&mut self.before_fallback, rest)?,
+            "in" => push_lines(&mut self.answers, rest)?,
             "plain" => self.plain = String::from_str(alloc, rest)?,
             _ if word.starts_with('$') => {
                 let mark = format!(in alloc; "\"{word}\"")?;
@@ -162,7 +167,12 @@ fn wrong_with(alloc: Global, row: &Row) -> Result<String, AllocError> {
     if row.ends.is_empty() && !row.report.is_empty() {
         wrong.push_str("a report without an end\n")?;
     }
-    if row.ends.is_empty() && row.plain.is_empty() {
+    for line in row.answers.as_str().lines() {
+        let (item, expected) = line.split_once(": ").unwrap_or((line, ""));
+        let answers = goals::answers(alloc, row.facts.as_str(), item)?;
+        compare(&mut wrong, expected, answers.as_str().trim_end())?;
+    }
+    if row.ends.is_empty() && row.plain.is_empty() && row.answers.is_empty() {
         wrong.push_str("nothing is asked\n")?;
     }
     Ok(wrong)

@@ -13,7 +13,7 @@ returns-in-Some c =
     let said = subst (λ o. BoundSaysIf c.args.facts.now c.args.alias c.args.args.now c.args.bound.now (option_map asked_of o)) c.in-Some.is c.in_ok-found.ensures.is in
     on_ok_weaker c.add.result
     (adds_said (BoundSays c.args.facts.now c.args.alias c.args.args.now c.args.bound.now) (asked_of c.in-Some.found) (asked_list c.args.made.now.items) (asked_list c.add.new.goals.items)
-      (bound_one c.args.facts.now c.args.alias c.args.args.now c.args.bound.now) said)
+    (bound_one c.args.facts.now c.args.alias c.args.args.now c.args.bound.now) said)
     c.add.ensures
 
 pub returns-in-None : goal.returns-in-None

@@ -17,7 +17,7 @@ loop-place-preserved c =
     before_next (AliasLists raw) c.as_slice-aliases.result.now c.loop-place.place c.index-aliases-place.result [] (asked_list c.loop-place.made.items) (asked_list c.add_bounds.new.made.items)
     c.loop-place-test.true c.index-aliases-place.is c.loop-place.invariant
     (alias_lists raw c.loop-place.place (record { 0 = c.in_ok-number.number }) c.index-aliases-place.result c.in_ok-args.args c.as_slice-bounds.result.now
-      (asked_list c.loop-place.made.items) (asked_list c.add_bounds.new.made.items) number args c.as_slice-bounds.ensures c.in_ok-add_bounds.ensures)
+    (asked_list c.loop-place.made.items) (asked_list c.add_bounds.new.made.items) number args c.as_slice-bounds.ensures c.in_ok-add_bounds.ensures)
 
 pub returns : goal.returns
 returns c =

@@ -19,7 +19,7 @@ loop-place-preserved c =
     let entry = entry_at old c.loop-place.place (omega (arith, c.requires.to, c.loop-place-test.true)) in (
       omega (arith, low),
       supers_next c.args.facts.now c.args.from c.loop-place.place entry.0 old (asked_list c.loop-place.goals.items) (asked_list c.add_supers_at.new.goals.items) low entry.1 c.loop-place.invariant.1
-      (c.in_ok-add_supers_at.ensures entry.0 (c.loop-place.invariant.1.stay c.loop-place.place entry.0 entry.1)),
+          (c.in_ok-add_supers_at.ensures entry.0 (c.loop-place.invariant.1.stay c.loop-place.place entry.0 entry.1)),
     )
 
 pub returns : goal.returns

@@ -14,7 +14,7 @@ returns-in-Some c =
     let said = subst (λ o. SaysIf c.args.facts.now c.args.holes.now (term_of c.args.args.now) c.args.pred.now (option_map asked_of o)) c.in-Some.is c.in_ok-found.ensures.is in
     on_ok_weaker c.add.result
     (adds_said (SaysAt c.args.facts.now c.args.holes.now (term_of c.args.args.now) c.args.pred.now) (asked_of c.in-Some.found) (asked_list c.args.goals.now.items) (asked_list c.add.new.goals.items)
-      (says_one c.args.facts.now c.args.holes.now (term_of c.args.args.now) c.args.pred.now) said)
+    (says_one c.args.facts.now c.args.holes.now (term_of c.args.args.now) c.args.pred.now) said)
     c.add.ensures
 
 pub returns-in-None : goal.returns-in-None

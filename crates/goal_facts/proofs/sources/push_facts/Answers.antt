@@ -16,11 +16,11 @@ loop-head-preserved c =
     let steps : into_iter_items at.head-iterator ≡ x ∷ into_iter_items c.next.new.self = c.in-Some.ensures.steps.0 in (
       append_assoc at.yielded (x ∷ []) _ ∙ rw (← steps) at.invariant.0,
       ap rules_of c.in_ok-push.ensures.items
-      ∙ (map_more rule_of at.rules.items (record { head = x; preds = c.new.result })
-      ∙ (ap (λ rs. rs ++ rule_of (record { head = x; preds = c.new.result }) ∷ []) at.invariant.1
-      ∙ (append_assoc (rules_of c.args.rules.now.items) (map fact (asked_list at.yielded)) (rule_of (record { head = x; preds = c.new.result }) ∷ [])
-      ∙ ap (λ rs. rules_of c.args.rules.now.items ++ rs)
-        (ap (λ r. map fact (asked_list at.yielded) ++ r ∷ []) bare ∙ sym (ap (map fact) (map_more asked_of at.yielded x) ∙ map_more fact (asked_list at.yielded) (asked_of x)))))),
+          ∙ (map_more rule_of at.rules.items (record { head = x; preds = c.new.result })
+          ∙ (ap (λ rs. rs ++ rule_of (record { head = x; preds = c.new.result }) ∷ []) at.invariant.1
+          ∙ (append_assoc (rules_of c.args.rules.now.items) (map fact (asked_list at.yielded)) (rule_of (record { head = x; preds = c.new.result }) ∷ [])
+          ∙ ap (λ rs. rules_of c.args.rules.now.items ++ rs)
+          (ap (λ r. map fact (asked_list at.yielded) ++ r ∷ []) bare ∙ sym (ap (map fact) (map_more asked_of at.yielded x) ∙ map_more fact (asked_list at.yielded) (asked_of x)))))),
       let was = at.invariant.2 in
           let gone = c.in-Some.ensures.steps.1 in
           let short = ap length steps in

@@ -14,4 +14,4 @@ returns c =
     let next : depth + 1 ≡ suc depth = omega arith in
     subst (λ q. IfOk c.evaluate.result (IsAnswer (system q.sources) q.facts.limits.goal_depth (asked_goal c.args.goal.now))) c.self.view_is
     (answer_is (system inside.sources) depth (depth + 1) (asked_of c.in_ok-goal.goal) (asked_goal c.args.goal.now) c.evaluate.result next c.in_ok-goal.ensures.is
-      (rw (c.new.ensures, c.raw.ensures.value) at c.evaluate.ensures.answer))
+    (rw (c.new.ensures, c.raw.ensures.value) at c.evaluate.ensures.answer))
