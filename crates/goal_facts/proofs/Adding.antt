@@ -1,10 +1,10 @@
 -- What is added one after another.
-use Rattle.std.specs.Prelude.{◌≡◌, ◌⊎◌, ◌+◌, ◌<◌, ◌≤◌, ℕ, zero, suc, List, [], ◌∷◌, ◌++◌, length, map, slice_get, Some, None, refl}
+use Rattle.std.specs.Prelude.{◌≡◌, ◌⊎◌, ◌+◌, ◌<◌, ◌≤◌, ℕ, zero, suc, List, [], ◌∷◌, ◌++◌, length, map, slice_get, Some, refl}
 use Rattle.std.proofs.Common.{inl, inr, sym, ap, ◌∙◌, subst, arith, get_or}
 use Rattle.std.proofs.lemmas.Option.{same_Some}
 use Rattle.goal_answers.specs.Goals.{Asked}
 use Rattle.goal_terms.specs.Terms.{HasHeads}
-use Rattle.goal_facts.specs.Additions.{Has, AreDistinct, AllHaveHeads, Adds, SomeSays, SomeSaysBefore}
+use Rattle.goal_facts.specs.Additions.{Has, AreDistinct, Adds, SomeSays, SomeSaysBefore}
 use Rattle.infer_table.proofs.BindingLaws.{get_left, get_last, get_more}
 
 -- ---- places

@@ -1,5 +1,5 @@
 -- Arguments that stand for parameters, and terms at arguments.
-use Rattle.std.specs.Prelude.{◌≡◌, ◌+◌, ◌<◌, ℕ, zero, suc, true, List, [], ◌∷◌, ◌++◌, map, Some, None, refl}
+use Rattle.std.specs.Prelude.{◌≡◌, ◌+◌, ℕ, zero, suc, true, List, [], ◌∷◌, ◌++◌, map, refl}
 use Rattle.std.specs.List.{range_with_len}
 use Rattle.std.proofs.Common.{sym, ap, ◌∙◌, subst, arith}
 use Rattle.std.proofs.lemmas.Bool.{or_left, or_right}
@@ -7,8 +7,7 @@ use Rattle.hir_types.specs.declared.ids.TypeAliasId.{TypeAliasId}
 use Rattle.hir_types.specs.declared.ids.TypeRefId.{TypeRefId}
 use Rattle.hir_types.specs.declared.head.Hole.{Hole}
 use Rattle.hir_types.specs.declared.ty.GenericArg.{GenericArg, GenericArg-F, fold_out-GenericArg}
-use Rattle.hir_types.specs.declared.ty.GenericArg.TheVariants as arg
-use Rattle.hir_types.specs.Terms.{Term, hole, leaf, pair, apply, occurs, hole_number, chain, type_part, term, arg_term, arg_step, ty_step, bound_step, trait_step}
+use Rattle.hir_types.specs.Terms.{Term, hole, leaf, pair, apply, occurs, hole_number, chain, type_part, arg_term, arg_step, ty_step, bound_step, trait_step}
 use Rattle.infer_table.specs.TermLemmas.{apply_agree, hole_eq_same}
 use Rattle.hir_raw.specs.declared.raw.RawFacts.{RawFacts}
 use Rattle.hir_raw.specs.declared.raw.RawGoal.{RawGoal}
@@ -17,7 +16,7 @@ use Rattle.goal_answers.specs.Goals.{Asked, asked_at}
 use Rattle.goal_answers.specs.Rows.{IsNth, AreArgs}
 use Rattle.goal_answers.proofs.Parts.{nth_one}
 use Rattle.goal_terms.specs.Terms.{IsHead, HasHeads}
-use Rattle.goal_facts.specs.Arguments.{instance, instances, args_at, goal_with, goal_at}
+use Rattle.goal_facts.specs.Arguments.{args_at, goal_with, goal_at}
 use Rattle.goal_facts.specs.Environment.{SaysAt}
 use Rattle.goal_facts.specs.Bounds.{BoundSays}
 

@@ -8,7 +8,7 @@ use Rattle.hir_raw.specs.declared.raw.RawGoal.{RawGoal}
 use Rattle.hir_raw.specs.declared.raw.RawFacts.{RawFacts}
 use Rattle.goal_answers.specs.Goals.{Kind, implements, projects, Asked}
 use Rattle.goal_facts.specs.Additions.{Has, AreDistinct, AllHaveHeads, Adds, SomeSays}
-use Rattle.goal_facts.specs.Environment.{trait_preds, trait_holes, SaysAt, IsSuper, Follows, IsClosure}
+use Rattle.goal_facts.specs.Environment.{trait_preds, trait_holes, SaysAt, IsSuper, Follows}
 use Rattle.goal_facts.specs.Levels.{SomeSuper, IsLevel}
 use Rattle.goal_facts.proofs.Adding.{get_within, adds_as, adds_then, adds_none}
 

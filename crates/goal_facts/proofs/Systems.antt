@@ -1,5 +1,5 @@
 -- What is found of an item is what its goals are answered by.
-use Rattle.std.specs.Prelude.{◌≡◌, ◌⊎◌, ◌≤◌, ℕ, zero, suc, List, [], ◌∷◌, ◌++◌, length, map, slice_get, Option, Some, None, option_map, IfOk, IfSome, Result, refl}
+use Rattle.std.specs.Prelude.{◌≡◌, ◌≤◌, ℕ, zero, suc, List, [], ◌∷◌, ◌++◌, length, map, slice_get, Option, Some, None, option_map, IfOk, IfSome, Result, refl}
 use Rattle.std.specs.Option.{option_and_then}
 use Rattle.std.proofs.Common.{inl, inr, sym, ap, ◌∙◌, subst, arith}
 use Rattle.std.specs.declared.alloc.AllocError.{AllocError}
@@ -13,7 +13,7 @@ use Rattle.hir_raw.specs.declared.raw.RawAlias.{RawAlias}
 use Rattle.hir_raw.specs.declared.raw.RawFacts.{RawFacts}
 use Rattle.hir_raw.specs.Scope.{generic_params}
 use Rattle.hir_laws.specs.Lawful.{IsLawful}
-use Rattle.goal_answers.specs.Goals.{Asked, Rule, System, Each, asked_at}
+use Rattle.goal_answers.specs.Goals.{Asked, System, Each, asked_at}
 use Rattle.goal_answers.specs.Steps.{known_below}
 use Rattle.goal_answers.proofs.Readings.{apply_hole}
 use Rattle.goal_search.specs.declared.answer.Answer.{Answer}

@@ -1,7 +1,6 @@
 -- The clauses of an environment, and what follows from clauses along supertraits: The Rust Reference, "Trait and lifetime
 -- bounds", "Supertraits".
 use Rattle.std.specs.Prelude.{◌≡◌, ◌⊎◌, ℕ, zero, suc, List, [], map, slice_get, Option, Some, None, option_map, unwrap_or}
-use Rattle.std.specs.Option.{option_and_then}
 use Rattle.hir_types.specs.declared.ids.TraitId.{TraitId}
 use Rattle.hir_types.specs.declared.ids.GenericDefId.{GenericDefId}
 use Rattle.hir_types.specs.declared.ids.GenericDefId.TheVariants as generic

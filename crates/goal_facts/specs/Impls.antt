@@ -1,5 +1,5 @@
 -- What impls say: The Rust Reference, "Implementations".
-use Rattle.std.specs.Prelude.{ℕ, List, [], ◌∷◌, map, length, Option, Some, None}
+use Rattle.std.specs.Prelude.{List, [], ◌∷◌, map, length, Option, Some, None}
 use Rattle.hir_types.specs.declared.ty.GenericArg.{GenericArg}
 use Rattle.hir_types.specs.Terms.{Term, pair}
 use Rattle.hir_raw.specs.declared.raw.RawTraitRef.{RawTraitRef}

@@ -1,5 +1,5 @@
 -- What the goals of an item are answered by.
-use Rattle.std.specs.Prelude.{◌≡◌, ◌++◌, ◌-◌, List, [], ◌∷◌, map, length, slice_get, Option, Some, None, option_map, flat_map}
+use Rattle.std.specs.Prelude.{◌≡◌, ◌++◌, ◌-◌, List, [], ◌∷◌, map, length, slice_get, Option, None, option_map, flat_map}
 use Rattle.std.specs.Option.{option_and_then}
 use Rattle.hir_types.specs.declared.ids.AdtId.{AdtId}
 use Rattle.hir_types.specs.declared.ids.TraitId.{TraitId}
@@ -10,7 +10,6 @@ use Rattle.hir_raw.specs.declared.raw.RawAdtKind.{RawAdtKind}
 use Rattle.hir_raw.specs.declared.raw.RawAdtKind.TheVariants as kind
 use Rattle.hir_raw.specs.declared.raw.RawLang.{RawLang}
 use Rattle.hir_raw.specs.declared.raw.RawLang.TheVariants as lang
-use Rattle.hir_raw.specs.declared.raw.RawField.{RawField}
 use Rattle.hir_raw.specs.declared.raw.RawVariant.{RawVariant}
 use Rattle.hir_raw.specs.declared.raw.RawFacts.{RawFacts}
 use Rattle.goal_answers.specs.Goals.{Asked, Rule, System}

@@ -1,4 +1,4 @@
-use Rattle.std.proofs.Common.{◌≡◌, sym, subst}
+use Rattle.std.proofs.Common.{sym, subst}
 use Rattle.goal_terms.specs.Terms.{term_of, IsHead}
 use Rattle.goal_facts.proofs.Arguing.{list_is_head}
 use Rattle.goal_facts.proofs.asked.asked.Goals as goal

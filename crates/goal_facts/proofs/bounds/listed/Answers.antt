@@ -1,4 +1,4 @@
-use Rattle.std.proofs.Common.{rules, ◌≡◌, ◌∙◌, sym, ap, subst}
+use Rattle.std.proofs.Common.{rules, ◌≡◌, ◌∙◌, ap, subst}
 use Rattle.goal_search.specs.Sources.{asked_list}
 use Rattle.std.specs.Prelude.{[]}
 use Rattle.goal_facts.specs.Additions.{Adds, SomeSays}

@@ -1,4 +1,4 @@
-use Rattle.std.proofs.Common.{◌≡◌, ◌<◌, ◌≤◌, ◌∙◌, sym, ap, subst, arith, length}
+use Rattle.std.proofs.Common.{◌≡◌, subst, arith}
 use Rattle.std.proofs.lemmas.List.{length-map}
 use Rattle.goal_search.specs.Sources.{asked_of, asked_list}
 use Rattle.goal_facts.specs.Additions.{Adds}

@@ -1,4 +1,4 @@
-use Rattle.std.proofs.Common.{◌≡◌, sym, subst}
+use Rattle.std.proofs.Common.{sym, subst}
 use Rattle.std.specs.Prelude.{Some, option_map}
 use Rattle.goal_terms.specs.Terms.{term_of, HasHeads}
 use Rattle.goal_search.specs.Parts.{IsFieldAt}

@@ -1,4 +1,4 @@
-use Rattle.std.proofs.Common.{◌≡◌, ◌∷◌, [], ◌++◌, List, length, refl, sym, ap, subst, ◌∙◌, append_assoc, append-nil, arith, map}
+use Rattle.std.proofs.Common.{◌≡◌, ◌∷◌, [], ◌++◌, length, sym, ap, subst, ◌∙◌, append_assoc, append-nil, arith, map}
 use Rattle.std.specs.Vec.Iter.{into_iter_items}
 use Rattle.goal_answers.specs.Goals.{Each}
 use Rattle.goal_search.specs.Sources.{asked_of, asked_list, rule_of, rules_of}

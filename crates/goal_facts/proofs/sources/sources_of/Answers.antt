@@ -1,4 +1,4 @@
-use Rattle.std.proofs.Common.{◌≡◌, ◌++◌, ◌∙◌, [], sym, ap, map}
+use Rattle.std.proofs.Common.{◌++◌, ◌∙◌, ap, map}
 use Rattle.std.specs.Prelude.{flat_map}
 use Rattle.goal_terms.specs.Terms.{term_of}
 use Rattle.goal_search.specs.Sources.{asked_list, rules_of}
