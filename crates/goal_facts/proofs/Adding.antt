@@ -99,7 +99,7 @@ adds_as P Q a b to from h =
 pub before_none : {X : Type 0} (P : ℕ → X → Asked → Type 0) (xs : List X) (ds : List Asked) → Adds (SomeSaysBefore P xs 0) ds ds
 before_none P xs ds = adds_none (SomeSaysBefore P xs 0) ds (λ d h. absurd (omega (arith, h.1)))
 
-less_or_last : (i n : ℕ) → i < n + 1 → (i < n) ⊎ (i ≡ n)
+pub less_or_last : (i n : ℕ) → i < n + 1 → (i < n) ⊎ (i ≡ n)
 less_or_last zero zero h = inr refl
 less_or_last zero (suc n) h = inl (omega arith)
 less_or_last (suc i) zero h = absurd (omega (arith, h))

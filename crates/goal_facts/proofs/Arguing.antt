@@ -3,6 +3,7 @@ use Rattle.std.specs.Prelude.{◌≡◌, ◌+◌, ℕ, zero, suc, true, List, []
 use Rattle.std.specs.List.{range_with_len}
 use Rattle.std.proofs.Common.{sym, ap, ◌∙◌, subst, arith}
 use Rattle.std.proofs.lemmas.Bool.{or_left, or_right}
+use Rattle.std.proofs.lemmas.List.{map-append}
 use Rattle.hir_types.specs.declared.ids.TypeAliasId.{TypeAliasId}
 use Rattle.hir_types.specs.declared.ids.TypeRefId.{TypeRefId}
 use Rattle.hir_types.specs.declared.head.Hole.{Hole}
@@ -26,16 +27,12 @@ range_more a (suc n) m e =
     let h : (a + 1) + n ≡ a + suc n = omega arith in
     rw e (ap (λ (ks : List ℕ). a ∷ ks) (range_more (a + 1) n (suc n) refl ∙ ap (λ (k : ℕ). range_with_len (a + 1) n ++ k ∷ []) h))
 
-pub map_more : {X Y : Type 0} (f : X → Y) (xs : List X) (x : X) → map f (xs ++ x ∷ []) ≡ map f xs ++ f x ∷ []
-map_more f [] x = refl
-map_more f (y ∷ xs) x = ap (λ zs. f y ∷ zs) (map_more f xs x)
-
 -- the parameters before the next, and the next
 pub counted_more : {X : Type 0} (f : ℕ → X) (n : ℕ) → map f (range_with_len 0 (n + 1)) ≡ map f (range_with_len 0 n) ++ f n ∷ []
 counted_more f n =
     let e : n + 1 ≡ suc n = omega arith in
     let z : 0 + n ≡ n = omega arith in
-    ap (map f) (range_more 0 n (n + 1) e ∙ ap (λ (k : ℕ). range_with_len 0 n ++ k ∷ []) z) ∙ map_more f (range_with_len 0 n) n
+    ap (map f) (range_more 0 n (n + 1) e ∙ ap (λ (k : ℕ). range_with_len 0 n ++ k ∷ []) z) ∙ map-append f (range_with_len 0 n) (n ∷ [])
 
 -- ---- what stands first
 

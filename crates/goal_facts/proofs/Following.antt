@@ -10,7 +10,7 @@ use Rattle.goal_answers.specs.Goals.{Kind, implements, projects, Asked}
 use Rattle.goal_facts.specs.Additions.{Has, AreDistinct, AllHaveHeads, Adds, SomeSays}
 use Rattle.goal_facts.specs.Environment.{trait_preds, trait_holes, SaysAt, IsSuper, Follows}
 use Rattle.goal_facts.specs.Levels.{SomeSuper, IsLevel}
-use Rattle.goal_facts.proofs.Adding.{get_within, adds_as, adds_then, adds_none}
+use Rattle.goal_facts.proofs.Adding.{less_or_last, get_within, adds_as, adds_then, adds_none}
 
 -- ---- the first level
 
@@ -28,15 +28,6 @@ first_level raw ds distinct heads =
 pub supers_none : (raw : RawFacts) (from : ℕ) (ds : List Asked) → Adds (SomeSuper raw from from ds) ds ds
 supers_none raw from ds = adds_none (SomeSuper raw from from ds) ds (λ d h. absurd (omega (arith, h.2, h.3)))
 
-less_or_here : (i n : ℕ) → i < n + 1 → (i < n) ⊎ (i ≡ n)
-less_or_here zero zero h = inr refl
-less_or_here zero (suc n) h = inl (omega arith)
-less_or_here (suc i) zero h = absurd (omega (arith, h))
-less_or_here (suc i) (suc n) h = elim (less_or_here i n (omega (arith, h))) [
-  | inl k ↦ inl (omega (arith, k))
-  | inr k ↦ inr (ap suc k)
-]
-
 -- those of one more
 pub supers_next : (raw : RawFacts) (from n : ℕ) (c : Asked) (ds a b : List Asked) → from ≤ n → slice_get ds n ≡ Some c
     → Adds (SomeSuper raw from n ds) ds a → Adds (IsSuper raw c) a b → Adds (SomeSuper raw from (n + 1) ds) ds b
@@ -48,7 +39,7 @@ supers_next raw from n c ds a b low here h k =
     to d (inr p) = (n, c, low, omega arith, here, p)
 
     back : (d : Asked) → SomeSuper raw from (n + 1) ds d → SomeSuper raw from n ds d ⊎ IsSuper raw c d
-    back d (i, x, more, less, at, p) = elim (less_or_here i n less) [
+    back d (i, x, more, less, at, p) = elim (less_or_last i n less) [
       | inl l ↦ inl (i, x, more, l, at, p)
       | inr l ↦ inr (subst (λ y. IsSuper raw y d) (same_Some x c (sym at ∙ (ap (slice_get ds) l ∙ here))) p)
     ]

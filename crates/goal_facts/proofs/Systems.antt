@@ -113,10 +113,6 @@ alias_lists raw i k a xs gs x y is args bounds h =
     same : (m : TypeAliasId) → m.0 ≡ i → m ≡ k
     same m e j = record { 0 = (e ∙ sym is) j }
 
-pub nothing_left : {X : Type 0} (xs : List X) → length xs ≡ 0 → xs ≡ []
-nothing_left [] h = refl
-nothing_left (x ∷ xs) h = absurd (omega (arith, h))
-
 -- ---- answers
 
 pub depth_is_small : (raw : RawFacts) → IsLawful raw → raw.limits.goal_depth ≤ 32
