@@ -81,7 +81,8 @@ impl<'a> ItemSources<'a> {
 
     /// The answer to a goal, whose holes stay, at the depth to which the facts let goals be followed.
     pub fn evaluate(&self, alloc: Global, goal: &Goal) -> Result<Answer, AllocError>
-        ensures { IfOk result (λ answer. IsAnswer (system self.now.sources) self.now.facts.limits.goal_depth (asked_goal goal.now) answer) }
+        ensures given { IfOk result (λ _. IsSystemOf self.now.facts self.now.item (system self.now.sources)) }
+        ensures answer { IfOk result (λ answer. IsAnswer (system self.now.sources) self.now.facts.limits.goal_depth (asked_goal goal.now) answer) }
     {
         self.facts.lawful();
         let goal = asked(alloc, goal)?;
@@ -93,7 +94,8 @@ impl<'a> ItemSources<'a> {
     /// says so, which ends at the limit of the facts. Of parameters, associated types that stay and opaque
     /// types something has to say it.
     pub fn is_sized(&self, alloc: Global, ty: &Ty) -> Result<bool, AllocError>
-        ensures { IfOk result (λ yes. IsTrue yes ↔ IsSizedAt (system self.now.sources) self.now.facts.limits.goal_depth (term ty.now)) }
+        ensures given { IfOk result (λ _. IsSystemOf self.now.facts self.now.item (system self.now.sources)) }
+        ensures answer { IfOk result (λ yes. IsTrue yes ↔ IsSizedAt (system self.now.sources) self.now.facts.limits.goal_depth (term ty.now)) }
     {
         let ty = type_term(alloc, ty)?;
         let depth = self.facts.raw().limits.goal_depth;

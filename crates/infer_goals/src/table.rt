@@ -5,6 +5,7 @@ ghost use Rattle.infer_table.specs.Table.{new_state, resolved_type};
 ghost use Rattle.goal_search.specs.Sources.{system};
 ghost use Rattle.goal_search.specs.Sized.{IsSizedAt};
 ghost use Rattle.goal_facts.specs.Goals.{asked_goal, IsAnswer};
+ghost use Rattle.goal_facts.specs.Systems.{IsSystemOf};
 ghost use Rattle.infer_goals.specs.Told.{resolved_goal, IsToldOf};
 
 use crate::inspect::ObligationInspector;
@@ -67,6 +68,7 @@ impl<'a, I: ObligationInspector> GoalTable<'a, I> {
 
     /// The answer to a goal with what is known of its holes; the goal so and its answer are told, once.
     pub fn evaluate(&mut self, goal: &Goal) -> Result<Answer, AllocError>
+        ensures given { IfOk result (λ _. IsSystemOf self.old.sources.facts self.old.sources.item (system self.old.sources.sources)) }
         ensures answer { IfOk result (λ answer. IsAnswer (system self.old.sources.sources) self.old.sources.facts.limits.goal_depth (asked_goal (resolved_goal self.old.table goal.now)) answer) }
         ensures told { IfOk result (λ answer. self.new.told.items ≡ self.old.told.items ++ (resolved_goal self.old.table goal.now, answer) ∷ []) }
         ensures inspector { IfOk result (λ answer. IsToldOf I.list (resolved_goal self.old.table goal.now) answer self.old.inspect self.new.inspect) }
@@ -85,7 +87,8 @@ impl<'a, I: ObligationInspector> GoalTable<'a, I> {
     /// Whether a type, with what is known of its holes, is known to have a size: a walk along last fields and
     /// last parts says so, which ends at the limit of the facts. Nothing is told of what it asks.
     pub fn is_sized(&self, ty: &Ty) -> Result<bool, AllocError>
-        ensures { IfOk result (λ yes. IsTrue yes ↔ IsSizedAt (system self.now.sources.sources) self.now.sources.facts.limits.goal_depth (term (resolved_type self.now.table ty.now))) }
+        ensures given { IfOk result (λ _. IsSystemOf self.now.sources.facts self.now.sources.item (system self.now.sources.sources)) }
+        ensures answer { IfOk result (λ yes. IsTrue yes ↔ IsSizedAt (system self.now.sources.sources) self.now.sources.facts.limits.goal_depth (term (resolved_type self.now.table ty.now))) }
     {
         let ty = self.table.resolve(ty)?;
         self.sources.is_sized(self.alloc, &ty)

@@ -7,8 +7,8 @@ use Rattle.goal_facts.proofs.item_sources.ItemSources.evaluate.Goals as goal
 pub overflow_add-depth : goal.overflow_add-depth
 overflow_add-depth c = let h = depth_is_small c.raw.result.now c.raw.ensures.lawful in omega (arith, h)
 
-pub returns : goal.returns
-returns c =
+pub returns-clause-answer : goal.returns-clause-answer
+returns-clause-answer c =
     let inside = c.self.inside in
     let depth = inside.facts.now.limits.goal_depth in
     let next : depth + 1 ≡ suc depth = omega arith in
