@@ -4,10 +4,8 @@
 mod context;
 mod expectation;
 mod given;
-mod inspect;
 mod resolve_all;
 
 pub use context::InferenceContext;
 pub use expectation::Expectation;
 pub use given::{CallableSig, GivenBody};
-pub use inspect::{NoInspector, ObligationInspector};

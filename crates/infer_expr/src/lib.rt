@@ -7,5 +7,5 @@ mod expr;
 mod kind;
 mod query;
 
-pub use infer_ctx::{NoInspector, ObligationInspector};
+pub use infer_goals::{ObligationInspector, ToldList};
 pub use query::infer_query_with_inspect;

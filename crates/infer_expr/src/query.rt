@@ -6,8 +6,9 @@ ghost use Rattle.infer_result.specs.General.{HasGeneral};
 
 use crate::body::infer_body;
 use hir_facts::{DefWithBodyId, Facts, return_ty};
-use infer_ctx::{GivenBody, InferenceContext, ObligationInspector};
+use infer_ctx::{GivenBody, InferenceContext};
 use infer_end::keep_general;
+use infer_goals::ObligationInspector;
 use infer_result::InferenceResult;
 use std::alloc::{AllocError, Global};
 

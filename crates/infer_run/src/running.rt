@@ -13,7 +13,7 @@ ghost use Rattle.infer_run.specs.Answer.{Answered, silence, refusal};
 use crate::ends::{Failed, Sink, Source};
 use crate::words::command;
 use hir_facts::{DefWithBodyId, Facts};
-use infer_expr::{NoInspector, infer_query_with_inspect};
+use infer_expr::{ToldList, infer_query_with_inspect};
 use infer_report::{count_complaints, write_report};
 use infer_result::InferenceResult;
 use infer_text::{ReadError, read_facts};
@@ -165,7 +165,7 @@ fn answer<K: Sink>(alloc: Global, def: DefWithBodyId, facts: Facts, sink: &mut K
             fault: None,
         };
     }
-    match infer_query_with_inspect::<NoInspector>(alloc, &facts, def, None) {
+    match infer_query_with_inspect::<ToldList>(alloc, &facts, def, None) {
         Ok(table) => report_on(alloc, def, facts, table, sink),
         Err(AllocError) => refused(ReadError::OutOfMemory),
     }
