@@ -12,8 +12,8 @@ use Rattle.goal_search.specs.declared.answer.Answer.{Answer}
 abbrev pub resolved_goal : State → Goal → Goal
 resolved_goal s g = goal_replaced (with_holes (resolution (bindings s))) g
 
--- the inspector, where there is one, was told of this as well
+-- the inspector, where there is one, is the one that was lent, and was told of this as well
 abbrev pub IsToldOf : {I : Type 0} → (I → List (Goal × Answer)) → Goal → Answer → Option (MutBor I) → Option (MutBor I) → Type 0
 IsToldOf list g a None after = after ≡ None
 IsToldOf list g a (Some i) None = ⊥
-IsToldOf list g a (Some i) (Some j) = list j.now ≡ list i.now ++ (g, a) ∷ []
+IsToldOf list g a (Some i) (Some j) = (j.ghost_name ≡ i.ghost_name) × (list j.now ≡ list i.now ++ (g, a) ∷ [])

@@ -73,6 +73,7 @@ impl<'a, I: ObligationInspector> GoalTable<'a, I> {
         ensures told { IfOk result (λ answer. self.new.told.items ≡ self.old.told.items ++ (resolved_goal self.old.table goal.now, answer) ∷ []) }
         ensures inspector { IfOk result (λ answer. IsToldOf I.list (resolved_goal self.old.table goal.now) answer self.old.inspect self.new.inspect) }
         ensures table { self.new.table ≡ self.old.table }
+        ensures bounded { self.new.bounded ≡ self.old.bounded }
         ensures sources { self.new.sources ≡ self.old.sources }
     {
         let resolved = self.table.resolve(goal)?;
