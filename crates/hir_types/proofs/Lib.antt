@@ -1,4 +1,3 @@
-pub mod Faithful
 pub mod Layers
 pub mod ExactEquality
 pub mod Equal

@@ -13,3 +13,4 @@ pub mod Agreement
 pub mod Types
 pub mod Erasure
 pub mod Fallback
+pub mod Faithful

@@ -17,7 +17,7 @@ use Rattle.hir_types.specs.TermLaws.{terms, term_at, arg_term_at, term_adt_types
 use Rattle.hir_types.specs.Replacements.{replaced_bool, replaced_char, replaced_int, replaced_uint, replaced_tuple, replaced_adt, replaced_fn_def, replaced_param, replaced_var, replaced_int_var, replaced_error}
 use Rattle.hir_types.specs.Instances.{types_args_folded}
 use Rattle.hir_types.specs.Subst.{Assignment, with_holes, folded}
-use Rattle.hir_types.proofs.Faithful.{term_tells}
+use Rattle.hir_types.specs.Faithful.{term_tells}
 use Rattle.hir_types.specs.declared.ty.IntegerTy.{IntegerTy}
 use Rattle.hir_types.specs.Types.{integer_type}
 use Rattle.hir_types.specs.declared.ty.GenericArg.TheVariants as arg

@@ -14,7 +14,7 @@ use Rattle.hir_types.specs.declared.ty.IntegerTy.TheVariants.{Int, Uint}
 use Rattle.hir_types.specs.declared.ty.Ty.{Ty}
 use Rattle.hir_types.specs.declared.ty.Ty.TheVariants as ty
 use Rattle.hir_types.specs.Erasure.{Same}
-use Rattle.hir_types.proofs.Faithful.{term_tells, erased_tells}
+use Rattle.hir_types.specs.Faithful.{term_tells, erased_tells}
 use Rattle.hir_types.specs.Replacements.{replaced_int, replaced_uint, replaced_tuple, replaced_adt, replaced_fn_def, replaced_error, folded_twice}
 use Rattle.hir_types.specs.Instances.{types_args_folded}
 use Rattle.hir_types.specs.Subst.{Assignment, with_holes, folded, composed}

@@ -1,14 +1,15 @@
 //! The inference table: `infer/unify.rs`, `InferenceTable`.
-ghost use Rattle.std.specs.Prelude.{◌≡◌, IfOk, OnOk, OnErr};
+ghost use Rattle.std.specs.Prelude.{◌≡◌, length, slice_get, option_map, IfOk, OnOk, OnErr};
 ghost use Rattle.hir_types.specs.declared.head.HoleKind.TheVariants as kind;
 ghost use Rattle.hir_types.specs.declared.ty.Ty.TheVariants as ty;
 ghost use Rattle.hir_types.specs.declared.ty.Const.TheVariants as const;
-ghost use Rattle.infer_table.specs.Table.{new_state, hole_count, with_new_hole, with_diverging};
+ghost use Rattle.infer_table.specs.Bindings.{bound_hole};
+ghost use Rattle.infer_table.specs.Table.{new_state, hole_count, bindings, with_new_hole, with_diverging};
 ghost use Rattle.infer_table.specs.Undo.{AreUnusedFrom};
 
 use crate::bindings::Bindings;
 use crate::queue::PairQueue;
-use hir_types::{Const, HoleKind, Ty};
+use hir_types::{Const, Hole, HoleKind, Ty};
 use std::alloc::{AllocError, Global};
 use std::marker::Model;
 
@@ -118,6 +119,30 @@ impl InferenceTable {
                 Err(error)
             }
         }
+    }
+
+    /// How many holes are bound.
+    pub fn bound_count(&self) -> usize
+        ensures { result ≡ length (bindings self.now) }
+    {
+        self.bindings.bound_count()
+    }
+
+    /// The hole that was bound after so many others, where so many are bound.
+    pub fn bound_hole(&self, place: usize) -> Option<Hole>
+        ensures { result ≡ option_map bound_hole (slice_get (bindings self.now) place) }
+    {
+        match self.bindings.log().get(place) {
+            Some(binding) => Some(binding.hole()),
+            None => None,
+        }
+    }
+
+    /// How many holes were made.
+    pub fn hole_count(&self) -> usize
+        ensures { result ≡ hole_count self.now }
+    {
+        self.bindings.hole_count()
     }
 
     /// The numbers of the diverging holes, in the order in which they were made.

@@ -37,64 +37,64 @@ pub data ReadPart : Type 0 where
   const_of : Const → ReadPart
   unread : ReadPart
 
-abbrev types : List ReadPart → List Ty
+abbrev pub types : List ReadPart → List Ty
 types [] = []
 types (type_of t ∷ ps) = t ∷ types ps
 types (_ ∷ ps) = types ps
 
-abbrev first_type : List ReadPart → Ty
+abbrev pub first_type : List ReadPart → Ty
 first_type (type_of t ∷ ps) = t
 first_type _ = ty.Error
 
-abbrev first_const : List ReadPart → Const
+abbrev pub first_const : List ReadPart → Const
 first_const [] = const.Unknown
 first_const (const_of c ∷ ps) = c
 first_const (_ ∷ ps) = first_const ps
 
-abbrev arg_of : ReadPart → GenericArg
+abbrev pub arg_of : ReadPart → GenericArg
 arg_of (type_of t) = arg.Ty t
 arg_of (const_of c) = arg.Const c
 arg_of _ = arg.Const const.Unknown
 
 -- the arguments before the first mark
-abbrev leading_args : List ReadPart → List GenericArg
+abbrev pub leading_args : List ReadPart → List GenericArg
 leading_args (type_of t ∷ ps) = arg.Ty t ∷ leading_args ps
 leading_args (const_of c ∷ ps) = arg.Const c ∷ leading_args ps
 leading_args _ = []
 
-abbrev all_but_last : List Ty → List Ty
+abbrev pub all_but_last : List Ty → List Ty
 all_but_last [] = []
 all_but_last (t ∷ []) = []
 all_but_last (t ∷ u ∷ us) = t ∷ all_but_last (u ∷ us)
 
-abbrev last : List Ty → Ty
+abbrev pub last : List Ty → Ty
 last [] = ty.Error
 last (t ∷ []) = t
 last (t ∷ u ∷ us) = last (u ∷ us)
 
-abbrev principal_of : List ReadPart → Option TraitRef
+abbrev pub principal_of : List ReadPart → Option TraitRef
 principal_of (mark (head.Principal id) ∷ ps) = Some (record { id = id; args = leading_args ps })
 principal_of _ = None
 
 -- a part with the parts behind it, before the bounds among these
-abbrev bound_before : ReadPart → List ReadPart → List AliasBound → List AliasBound
+abbrev pub bound_before : ReadPart → List ReadPart → List AliasBound → List AliasBound
 bound_before (mark (head.Bound a)) (type_of t ∷ ps) bs = record { alias = a; ty = t } ∷ bs
 bound_before _ ps bs = bs
 
-abbrev bounds_of : List ReadPart → List AliasBound
+abbrev pub bounds_of : List ReadPart → List AliasBound
 bounds_of [] = []
 bounds_of (p ∷ ps) = bound_before p ps (bounds_of ps)
 
-abbrev auto_before : ReadPart → List TraitId → List TraitId
+abbrev pub auto_before : ReadPart → List TraitId → List TraitId
 auto_before (mark (head.AutoTrait id)) ids = id ∷ ids
 auto_before _ ids = ids
 
-abbrev autos_of : List ReadPart → List TraitId
+abbrev pub autos_of : List ReadPart → List TraitId
 autos_of [] = []
 autos_of (p ∷ ps) = auto_before p (autos_of ps)
 
 -- a type by its head and the parts behind it
-abbrev read_type : ReadPart → List ReadPart → Ty
+abbrev pub read_type : ReadPart → List ReadPart → Ty
 read_type (mark head.Bool) ps = ty.Bool
 read_type (mark head.Char) ps = ty.Char
 read_type (mark (head.Int i)) ps = ty.Int i
@@ -119,23 +119,23 @@ read_type (mark head.Error) ps = ty.Error
 read_type (mark head.Hole) ps = ty.Hole
 read_type _ ps = ty.Error
 
-abbrev read_const : ReadPart → Const
+abbrev pub read_const : ReadPart → Const
 read_const (mark (head.Value n)) = const.Value n
 read_const (mark (head.ConstParam n)) = const.Param n
 read_const (mark head.ConstHole) = const.Hole
 read_const _ = const.Unknown
 
-abbrev read_part : ReadPart → Ty → Const → ReadPart
+abbrev pub read_part : ReadPart → Ty → Const → ReadPart
 read_part (mark head.TypePart) t c = type_of t
 read_part (mark head.ConstPart) t c = const_of c
 read_part _ t c = unread
 
-abbrev type_of_hole : Hole → Ty
+abbrev pub type_of_hole : Hole → Ty
 type_of_hole (hole_of.Ty n) = ty.Var n
 type_of_hole (hole_of.Int n) = ty.IntVar n
 type_of_hole (hole_of.Const n) = ty.Error
 
-abbrev const_of_hole : Hole → Const
+abbrev pub const_of_hole : Hole → Const
 const_of_hole (hole_of.Const n) = const.Var n
 const_of_hole _ = const.Unknown
 
