@@ -5,3 +5,4 @@ pub mod Answers
 pub mod Laws
 pub mod Proofs
 pub mod Steps
+pub mod Selecting
