@@ -9,7 +9,9 @@ mod closure;
 mod environment;
 mod impls;
 mod item_sources;
+mod proof;
 mod sources;
 
 pub use goal_search::Answer;
 pub use item_sources::ItemSources;
+pub use proof::{Proof, ProofSource};
