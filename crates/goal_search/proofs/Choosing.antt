@@ -1,12 +1,12 @@
 -- Which source a goal is selected by.
-use Rattle.std.proofs.Common.{◌≡◌, ◌⊎◌, inl, inr, ℕ, suc, ◌+◌, arith, Bool, true, false, refl, sym, ap, ◌∙◌, subst, List, Option, Some, None}
+use Rattle.std.proofs.Common.{◌≡◌, ◌⊎◌, inl, inr, ℕ, suc, ◌+◌, arith, Bool, true, false, refl, sym, ap, subst, List, Option, Some, None}
 use Rattle.std.specs.Option.{option_map}
 use Rattle.hir_types.specs.declared.head.Head.{Head}
 use Rattle.hir_types.specs.declared.head.Head.TheVariants as head
 use Rattle.hir_types.specs.Terms.{Term, hole, leaf, pair}
 use Rattle.goal_answers.specs.Reading.{Aliases, Reads, role, IsReadLeaf, IsRead}
 use Rattle.goal_answers.specs.Goals.{Kind, implements, projects, Asked, Rule, System, asked_at, key, self_type, is_among, OneIf, Each, SomeOf, Verdicts}
-use Rattle.goal_answers.specs.Rows.{Copied, with_parts, by_impls, unclear, copied, types_of, CopyYes, CopyNo}
+use Rattle.goal_answers.specs.Rows.{Copied, with_parts, by_impls, unclear, copied, CopyYes, CopyNo}
 use Rattle.goal_answers.specs.Answers.{NeverSame, Proves, RuleIsRefuted, Shadows, ShadowsNot, answers}
 use Rattle.goal_answers.specs.Steps.{known_below}
 use Rattle.goal_answers.specs.Selecting.{Choice as Source, by_clause, by_rule, by_parts, by_size, IsConcreteHead, IsConcrete, IsTraitKind, IsSelectable, IsOnlyOf, HasConcreteHead, CopiesParts, IsOnlySource, SizeIsBy, IsDeep, Selects, IsChoice}
@@ -177,31 +177,6 @@ module _ (f : System) (n : ℕ) (c : Kind) (w : Term) (trait_ : IsTraitKind c) w
 
 -- ---- what is copied
 
-copies_known : {a b : Answer} → copies.Known a ≡ copies.Known b → a ≡ b
-copies_known e = cc
-
-not_with_parts : {t : Term} → unclear ≡ with_parts t → ⊥
-not_with_parts e = cc
-
-known_parts_not : (f : System) (c : Kind) (w : Term) (a : Answer) → CopiesAre f c w (copies.Known a) → (a ≡ answer.No → ⊥) → (ts : List Term) → CopiesParts f c w ts → ⊥
-known_parts_not f c w a are no_ ts p = by_among (is_among f.copied c) are
-  where
-    by_row : (y : Copied) → copied (self_type w) ≡ y → CopiedAre c y (copies.Known a) → ⊥
-    by_row (with_parts us) e h = no_types (types_of us) h.0 (ap types_of (same_parts (sym e ∙ p.copied)) ∙ p.types)
-      where
-        same_parts : {a b : Term} → with_parts a ≡ with_parts b → a ≡ b
-        same_parts e = cc
-
-        no_types : (o : Option (List Term)) → o ≡ None → o ≡ Some ts → ⊥
-        no_types None e g = cc
-        no_types (Some us) e g = cc
-    by_row by_impls e h = no_ (copies_known h)
-    by_row unclear e h = not_with_parts (sym e ∙ p.copied)
-
-    by_among : (b : Bool) → CopiesIf b c w (copies.Known a) → ⊥
-    by_among true h = by_row (copied (self_type w)) refl h
-    by_among false h = no_ (copies_known h)
-
 goals_parts : (f : System) (c : Kind) (w : Term) (goals : _) → CopiesAre f c w (copies.Of goals) → (ts : List Term) × CopiesParts f c w ts
 goals_parts f c w goals are = by_among (is_among f.copied c) refl are
   where
@@ -231,9 +206,6 @@ module _ (f : System) (n : ℕ) (c : Kind) (w : Term) where
 
   pub row_refuted : (x : Copies) (b : Answer) → CopiesAre f c w x → PartsAnswer f n x b → b ≡ answer.No → IsRow f vs c w row.Refuted
   row_refuted x b are d e = refuted_if b (copies_decide f n c w x b are d) e
-
-  pub row_unclear : (b : Answer) → CopiesAre f c w (copies.Known b) → (b ≡ answer.No → ⊥) → IsRow f vs c w row.Unclear
-  row_unclear b are other = (not_refuted_if b (copies_decide f n c w (copies.Known b) b are refl) other, known_parts_not f c w b are other)
 
   pub row_of_parts : (goals : _) (b : Answer) → CopiesAre f c w (copies.Of goals) → PartsAnswer f n (copies.Of goals) b → (b ≡ answer.No → ⊥) → IsRow f vs c w row.OfParts
   row_of_parts goals b are d other = (not_refuted_if b (copies_decide f n c w (copies.Of goals) b are d) other, goals_parts f c w goals are)

@@ -28,7 +28,7 @@ IsLeft Out xs left.Nothing = Each Out xs
 IsLeft Out xs (left.One i) = IsOnlyOf Out xs i
 IsLeft Out xs left.Several = (Each Out xs → ⊥) × ((i : ℕ) → IsOnlyOf Out xs i → ⊥)
 
--- that the goal's self type is copied with its parts is refuted, or isn't, and may be so or may not
+-- that the self type is copied with its parts: it is refuted; it isn't, and these are the parts; it isn't, and the parts aren't known
 abbrev pub IsRow : System → Verdicts → Kind → Term → Row → Type 0
 IsRow f v c w row.Refuted = CopyNo f v.No c w
 IsRow f v c w row.OfParts = (CopyNo f v.No c w → ⊥) × ((ts : List Term) × CopiesParts f c w ts)
