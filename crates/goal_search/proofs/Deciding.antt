@@ -117,7 +117,7 @@ module _ (f : System) (n : ℕ) where
   proves_holds : (c : Kind) (w : Term) (r : Rule) → Proves A v.Yes c w r → Holds A v side.Whole c w r
   proves_holds c w r h = record { kind = h.kind; at = h.at; holds = record { told = h.told; part = h.head; preds = h.preds } }
 
-  holds_shadows : (c : Kind) (w : Term) (r : Rule) → Holds A v side.Key c (key c w) r → Shadows A c w r
+  pub holds_shadows : (c : Kind) (w : Term) (r : Rule) → Holds A v side.Key c (key c w) r → Shadows A c w r
   holds_shadows c w r h = record {
     kind = h.kind;
     told = h.holds.told;
@@ -125,7 +125,7 @@ module _ (f : System) (n : ℕ) where
     head = subst (λ (d : Kind). Reads A h.at (key d r.head.parts) (key c w)) h.kind h.holds.part;
   }
 
-  shadows_holds : (c : Kind) (w : Term) (r : Rule) → Shadows A c w r → Holds A v side.Key c (key c w) r
+  pub shadows_holds : (c : Kind) (w : Term) (r : Rule) → Shadows A c w r → Holds A v side.Key c (key c w) r
   shadows_holds c w r h = record {
     kind = h.kind;
     at = h.at;
@@ -135,14 +135,14 @@ module _ (f : System) (n : ℕ) where
   abbrev KeyRefuted : Kind → Term → Rule → Kind → Type 0
   KeyRefuted c w r d = IsRefuted A v r (key d r.head.parts) [] (key c w)
 
-  key_refuted : (c : Kind) (w : Term) (r : Rule) → HoldsNot A v side.Key c (key c w) r → ShadowsNot A v c w r
+  pub key_refuted : (c : Kind) (w : Term) (r : Rule) → HoldsNot A v side.Key c (key c w) r → ShadowsNot A v c w r
   key_refuted c w r (inl x) = inl x
   key_refuted c w r (inr x) = elim (same_kind_or r.head.kind c) [
     | inl e ↦ inr (subst (KeyRefuted c w r) e x)
     | inr e ↦ inl e
   ]
 
-  refuted_key : (c : Kind) (w : Term) (r : Rule) → ShadowsNot A v c w r → HoldsNot A v side.Key c (key c w) r
+  pub refuted_key : (c : Kind) (w : Term) (r : Rule) → ShadowsNot A v c w r → HoldsNot A v side.Key c (key c w) r
   refuted_key c w r (inl x) = inl x
   refuted_key c w r (inr x) = elim (same_kind_or r.head.kind c) [
     | inl e ↦ inr (subst (KeyRefuted c w r) (sym e) x)
@@ -205,7 +205,7 @@ module _ (f : System) (n : ℕ) where
   copied_decide c by_impls x b p d = refused ⊥ (Unit {0}) b (subst (λ (y : Copies). PartsAnswer y b) p d) tt
   copied_decide c unclear x b p d = undecided b (subst (λ (y : Copies). PartsAnswer y b) p d) (λ y. y) (λ y. y)
 
-  copies_decide : (c : Kind) (w : Term) (x : Copies) (b : Answer) → CopiesAre f c w x → PartsAnswer x b → Decides (CopyYes f v.Yes c w) (CopyNo f v.No c w) b
+  pub copies_decide : (c : Kind) (w : Term) (x : Copies) (b : Answer) → CopiesAre f c w x → PartsAnswer x b → Decides (CopyYes f v.Yes c w) (CopyNo f v.No c w) b
   copies_decide c w x b p d = by_among (is_among f.copied c) refl p
     where
       add : (e : is_among f.copied c ≡ true) (b : Answer) → Decides (CopyYesBy v.Yes c (copied (self_type w))) (CopyNoBy v.No c (copied (self_type w))) b → Decides (CopyYes f v.Yes c w) (CopyNo f v.No c w) b

@@ -7,3 +7,5 @@ pub mod Given
 pub mod Copying
 pub mod Small
 pub mod Sizes
+pub mod Only
+pub mod Choosing

@@ -5,3 +5,4 @@ pub mod Combined
 pub mod Searching
 pub mod Keeping
 pub mod Sized
+pub mod Choosing

@@ -2,6 +2,7 @@
 #![tactic(auto)]
 
 mod answer;
+mod choose;
 mod first;
 mod holes;
 mod kept;
@@ -15,6 +16,7 @@ mod tests;
 mod told;
 
 pub use answer::Answer;
+pub use choose::Choice;
 pub use holes::Holes;
 pub use parts::{is_same_kind, key_of, self_type};
 pub use rows::field_at;

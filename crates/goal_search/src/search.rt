@@ -84,6 +84,18 @@ impl<'a> Search<'a> {
         }
     }
 
+    /// What is searched.
+    pub(crate) fn sources(&self) -> &'a Sources
+        ensures is { result.now ≡ self.now }
+        ensures heads { SystemHasHeads (system self.now) }
+    {
+        self.sources
+    }
+
+    pub(crate) fn alloc(&self) -> Global {
+        self.alloc
+    }
+
     /// The term with what stands for its holes and what its aliases read as at the depth; `None` where an
     /// alias is open.
     #[cycle(evaluate)]
@@ -131,7 +143,7 @@ impl<'a> Search<'a> {
 
     /// Whether each predicate is Yes at what stands for its holes, or some is No.
     #[cycle(evaluate)]
-    fn ask_preds(
+    pub(crate) fn ask_preds(
         &mut self,
         preds: &[Asked],
         holes: Holes<'_>,
@@ -154,7 +166,7 @@ impl<'a> Search<'a> {
 
     /// What stands for the holes of a rule where its side reads as the target and its predicates are Yes.
     #[cycle(evaluate)]
-    fn fits(
+    pub(crate) fn fits(
         &mut self,
         rule: &Rule,
         side: Side,
@@ -191,7 +203,7 @@ impl<'a> Search<'a> {
 
     /// Whether a rule's side is apart from the target, or fails wherever it is not.
     #[cycle(evaluate)]
-    fn is_refuted(
+    pub(crate) fn is_refuted(
         &mut self,
         rule: &Rule,
         side: Side,
@@ -225,7 +237,7 @@ impl<'a> Search<'a> {
 
     /// Whether a rule of this kind holds, each is refuted, or neither.
     #[cycle(evaluate)]
-    fn ask_rules(
+    pub(crate) fn ask_rules(
         &mut self,
         rules: &[Rule],
         side: Side,
