@@ -25,6 +25,12 @@ pub struct Proof {
     pub children: List<usize>,
 }
 
+fn dup_args(alloc: Global, args: &List<GenericArg>) -> Result<List<GenericArg>, AllocError>
+    ensures { IfOk result (λ copy. copy ≡ args.now) }
+{
+    args.fold_with(alloc, &Unchanged)
+}
+
 impl ProofSource {
     /// An equal copy.
     pub fn dup(&self, alloc: Global) -> Result<ProofSource, AllocError>
@@ -32,7 +38,7 @@ impl ProofSource {
     {
         match self {
             ProofSource::Clause(goal) => Ok(ProofSource::Clause(goal.dup(alloc)?)),
-            ProofSource::Impl(id, args) => Ok(ProofSource::Impl(*id, args.fold_with(alloc, &Unchanged)?)),
+            ProofSource::Impl(id, args) => Ok(ProofSource::Impl(*id, dup_args(alloc, args)?)),
             ProofSource::BuiltIn => Ok(ProofSource::BuiltIn),
         }
     }
