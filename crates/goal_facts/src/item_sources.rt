@@ -20,7 +20,7 @@ use std::marker::Model;
 pub struct ItemSources<'a> {
     facts: &'a Facts,
     item: GenericDefId,
-    sources: Sources,
+    pub(crate) sources: Sources,
 }
 
 impl<'a> Model for ItemSources<'a> {

@@ -5,6 +5,7 @@ mod additions;
 mod arguments;
 mod asked;
 mod bounds;
+mod clauses;
 mod closure;
 mod environment;
 mod impls;

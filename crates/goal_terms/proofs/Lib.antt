@@ -8,3 +8,4 @@ pub mod Read
 pub mod Openings
 pub mod Commons
 pub mod Sames
+pub mod ReadBack

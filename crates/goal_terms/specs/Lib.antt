@@ -4,3 +4,4 @@ pub mod Matching
 pub mod Unifying
 pub mod Opening
 pub mod Same
+pub mod Types

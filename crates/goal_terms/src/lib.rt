@@ -12,6 +12,7 @@ mod same;
 mod term;
 #[cfg(test)]
 mod tests;
+mod types;
 
 pub use binding::{Binding, filled, find};
 pub use common::find_common;
@@ -20,3 +21,4 @@ pub use equate::{MOST_DEPTH, make_equal};
 pub use matching::find_match;
 pub use same::{can_be_itself, can_be_same, staying_term};
 pub use term::{Role, Term};
+pub use types::{is_concrete, push_holes, term_args, term_type};

@@ -3,10 +3,13 @@ ghost use Rattle.std.specs.Prelude.{IfOk};
 ghost use Rattle.goal_terms.specs.Terms.{term_of, HasHeads};
 
 use crate::{
-    Binding, Term, can_be_itself, can_be_same, filled, find, find_common, find_match, staying_term,
-    type_term,
+    Binding, Term, args_term, can_be_itself, can_be_same, filled, find, find_common, find_match,
+    is_concrete, push_holes, staying_term, term_args, term_type, type_term,
 };
-use hir_types::{GenericArg, Hole, List, Ty, TypeAliasId, UintTy};
+use hir_types::{
+    AliasBound, Boxed, Const, GenericArg, Hole, List, Safety, TraitId, TraitRef, Ty, TypeAliasId,
+    UintTy,
+};
 use std::alloc::{AllocError, Global};
 use std::test::Fail;
 
@@ -133,5 +136,66 @@ fn tells_what_can_be_itself(rt: HostRuntime) -> Result<(), Fail> {
     assert!(rt; !can_be_itself(alloc, &args, &bool, ITEM)?);
     let itself = staying_term(alloc, ITEM, &args)?;
     assert!(rt; itself.is_read());
+    Ok(())
+}
+
+/// `(fn(?7, [?2; 3]) -> bool, dyn Trait<{const}, Item = str> + Auto)`.
+fn large(alloc: Global) -> Result<Ty, AllocError> {
+    let mut inputs = List::new(alloc);
+    inputs.push(Ty::Var(7))?;
+    inputs.push(Ty::Array(Boxed::new(alloc, Ty::IntVar(2))?, Const::Value(3)))?;
+    let function = Ty::FnPtr {
+        safety: Safety::Safe,
+        inputs,
+        output: Boxed::new(alloc, Ty::Bool)?,
+    };
+    let mut args = List::new(alloc);
+    args.push(GenericArg::Const(Const::Unknown))?;
+    let mut projections = List::new(alloc);
+    projections.push(AliasBound {
+        alias: ITEM,
+        ty: Ty::Str,
+    })?;
+    let mut auto_traits = List::new(alloc);
+    auto_traits.push(TraitId(9))?;
+    let object = Ty::Dynamic {
+        principal: Some(TraitRef {
+            id: TraitId(8),
+            args,
+        }),
+        projections,
+        auto_traits,
+    };
+    pair(alloc, function, object)
+}
+
+#[test]
+fn reads_types_back(rt: HostRuntime) -> Result<(), Fail> {
+    let alloc = rt.alloc();
+    let ty = large(alloc)?;
+    let read = term_type(alloc, &type_term(alloc, &ty)?)?;
+    assert!(rt; read.is_same(&ty));
+    let mut args = List::new(alloc);
+    args.push(GenericArg::Ty(ty))?;
+    args.push(GenericArg::Const(Const::Var(1)))?;
+    let read = term_args(alloc, &args_term(alloc, &args)?)?;
+    assert!(rt; read == args);
+    Ok(())
+}
+
+#[test]
+fn tells_holes_and_what_is_concrete(rt: HostRuntime) -> Result<(), Fail> {
+    let alloc = rt.alloc();
+    let large = type_term(alloc, &large(alloc)?)?;
+    let mut holes = Vec::new(alloc);
+    push_holes(&large, &mut holes)?;
+    push_holes(&term(alloc, Ok(Ty::Var(7)))?, &mut holes)?;
+    assert_eq!(rt;
+        holes.as_slice(),
+        [Hole::Ty(7), Hole::Int(2), Hole::Ty(7)].as_slice()
+    );
+    assert!(rt; !is_concrete(&large));
+    assert!(rt; is_concrete(&term(alloc, pair(alloc, Ty::Var(7), Ty::Str))?));
+    assert!(rt; !is_concrete(&term(alloc, item_of(alloc, Ty::Str))?));
     Ok(())
 }
