@@ -6,3 +6,4 @@ pub mod Levels
 pub mod Impls
 pub mod Systems
 pub mod Goals
+pub mod ImplGoals

@@ -7,9 +7,11 @@ mod asked;
 mod bounds;
 mod closure;
 mod environment;
+mod impl_goals;
 mod impls;
 mod item_sources;
 mod sources;
 
 pub use goal_search::Answer;
+pub use impl_goals::RuleGoals;
 pub use item_sources::ItemSources;
