@@ -7,3 +7,4 @@ pub mod Impls
 pub mod Systems
 pub mod Goals
 pub mod Proofs
+pub mod ImplGoals

@@ -33,7 +33,7 @@ pub fn own_params(alloc: Global, count: usize) -> Result<List<GenericArg>, Alloc
     Ok(made)
 }
 
-fn instance(
+pub fn instance(
     alloc: Global,
     facts: &Facts,
     args: &List<GenericArg>,
@@ -45,7 +45,7 @@ fn instance(
     instantiate(alloc, &ty, args)
 }
 
-fn push_instances(
+pub fn push_instances(
     alloc: Global,
     facts: &Facts,
     args: &List<GenericArg>,

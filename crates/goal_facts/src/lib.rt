@@ -8,11 +8,13 @@ mod bounds;
 mod clauses;
 mod closure;
 mod environment;
+mod impl_goals;
 mod impls;
 mod item_sources;
 mod proof;
 mod sources;
 
 pub use goal_search::Answer;
+pub use impl_goals::RuleGoals;
 pub use item_sources::ItemSources;
 pub use proof::{Proof, ProofSource};
