@@ -313,7 +313,7 @@ module _ (f : System) (s : Fill) (filling : IsFilling s) (v : Verdicts) (stays :
     preds = preds_filled f s filling v stays h.at r.preds h.preds;
   }
 
-  rule_refuted_filled : (c : Kind) (w : Term) (r : Rule) → RuleIsRefuted A v c w r → RuleIsRefuted A v c (apply s w) r
+  pub rule_refuted_filled : (c : Kind) (w : Term) (r : Rule) → RuleIsRefuted A v c w r → RuleIsRefuted A v c (apply s w) r
   rule_refuted_filled c w r h = or_map (λ i. i) (refuted_filled s filling A v r r.head.parts r.preds w) h
 
   shadows_filled : (c : Kind) (w : Term) → IsKnown (key c w) → (r : Rule) → Shadows A c w r → Shadows A c (apply s w) r
@@ -324,7 +324,7 @@ module _ (f : System) (s : Fill) (filling : IsFilling s) (v : Verdicts) (stays :
     head = subst (Reads A (λ k. apply s (h.at k)) (key c r.head.parts)) (sym (key_filled s c w known)) (reads_filled s A alias_stays h.at (key c r.head.parts) (key c w) h.head);
   }
 
-  shadows_not_filled : (c : Kind) (w : Term) → IsKnown (key c w) → (r : Rule) → ShadowsNot A v c w r → ShadowsNot A v c (apply s w) r
+  pub shadows_not_filled : (c : Kind) (w : Term) → IsKnown (key c w) → (r : Rule) → ShadowsNot A v c w r → ShadowsNot A v c (apply s w) r
   shadows_not_filled c w known r h =
       or_map (λ i. i) (λ i. subst (IsRefuted A v r (key c r.head.parts) []) (sym (key_filled s c w known)) (refuted_filled s filling A v r (key c r.head.parts) [] (key c w) i)) h
 
@@ -336,7 +336,7 @@ module _ (f : System) (s : Fill) (filling : IsFilling s) (v : Verdicts) (stays :
         (copied_yes_filled s (implements n) v.Yes v.Yes (only_filled f s filling v stays (implements n)) (self_type w) y.1),
   )
 
-  copy_no_filled : (c : Kind) (w : Term) → IsKnown (key c w) → CopyNo f v.No c w → CopyNo f v.No c (apply s w)
+  pub copy_no_filled : (c : Kind) (w : Term) → IsKnown (key c w) → CopyNo f v.No c w → CopyNo f v.No c (apply s w)
   copy_no_filled c w known (inl n) = inl n
   copy_no_filled (projects k) w known (inr y) = inl (λ e. true≢false (sym e))
   copy_no_filled (implements n) w known (inr y) =

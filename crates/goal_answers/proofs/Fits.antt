@@ -1,5 +1,5 @@
 -- What the most general common instance and the one match tell of a rule.
-use Rattle.std.proofs.Common.{◌≡◌, ◌⊎◌, inl, inr, true, sym, ap, ◌∙◌, subst, List, [], ◌∷◌}
+use Rattle.std.proofs.Common.{◌≡◌, ◌⊎◌, inl, inr, true, sym, ap, ◌∙◌, subst, List}
 use Rattle.hir_types.specs.declared.head.Hole.{Hole}
 use Rattle.hir_types.specs.Terms.{Term, apply, occurs}
 use Rattle.infer_table.specs.TermLemmas.{apply_apply, apply_agree, is_int_apply}

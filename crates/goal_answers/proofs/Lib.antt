@@ -8,3 +8,4 @@ pub mod Proved
 pub mod Levels
 pub mod Fits
 pub mod Upto
+pub mod Sole

@@ -16,7 +16,7 @@ use Rattle.goal_answers.proofs.Deeper.{IsWithin, within_itself, within_twice, co
 use Rattle.goal_answers.proofs.One.{head_tells, key_tells, args_tell, Never, AlwaysStays, AliasAlwaysStays, not_refuted, copy_or, sized_or, itself_or, answers_sound}
 
 -- the sides are the same, or there is a source
-abbrev IsProvedBy : System → Aliases → (Asked → Type 0) → Kind → Term → Type 0
+abbrev pub IsProvedBy : System → Aliases → (Asked → Type 0) → Kind → Term → Type 0
 IsProvedBy f P Proved c w = IsItself c w ⊎ OneIf (is_among f.sized c) (SizedYes f P (λ t. HasSource f P Proved c (only t)) f.tail (self_type w)) (HasSource f P Proved c w)
 
 pub first_always : (f : System) → AlwaysStays (nothing f)
@@ -108,7 +108,7 @@ yes_has_proofs f n = (
 -- ---- No
 
 module _ (f : System) (P : Aliases) (one : IsOne P) (v : Verdicts) (stays : AlwaysStays v) (A : Aliases) (alias_stays : AliasAlwaysStays A) (i : AliasWithin A P) (Proved : Asked → Type 0) (never : Never Proved v) where
-  refuted_source : (c : Kind) (w : Term) (r : Rule) → IsSource P Proved c w r → RuleIsRefuted A v c w r → ⊥
+  pub refuted_source : (c : Kind) (w : Term) (r : Rule) → IsSource P Proved c w r → RuleIsRefuted A v c w r → ⊥
   refuted_source c w r h (inl n) = n h.kind
   refuted_source c w r h (inr n) = not_refuted v stays Proved never A alias_stays P one (λ p t u x. reads_within A P i p t u x) r r.head.parts w r.preds h.at (head_tells r) h.head h.preds n
 

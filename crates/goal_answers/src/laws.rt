@@ -1,5 +1,5 @@
 //! Laws of answers.
-ghost use Rattle.goal_answers.specs.Laws.{AnswersAreOne, DecidedAnswersStay, DeeperAnswersAgree};
+ghost use Rattle.goal_answers.specs.Laws.{AnswersAreOne, DecidedAnswersStay, DeeperAnswersAgree, SelectedIsTheSource};
 ghost use Rattle.goal_answers.specs.Proofs.{YesHasProofs, NoHasNoProof};
 
 /// What a goal is answered stays where its holes are filled with types without aliases.
@@ -22,4 +22,10 @@ pub fn answers_are_one()
 pub fn answers_tell_proofs()
     ensures yes { YesHasProofs }
     ensures no { NoHasNoProof }
+{}
+
+/// A goal selected by a rule, or by its parts being copied, has no proof by anything else, however its
+/// holes are filled with types without aliases.
+pub fn selected_is_the_source()
+    ensures { SelectedIsTheSource }
 {}

@@ -3,4 +3,7 @@
 
 mod laws;
 
-pub use laws::{answers_are_one, answers_tell_proofs, decided_answers_stay, deeper_answers_agree};
+pub use laws::{
+    answers_are_one, answers_tell_proofs, decided_answers_stay, deeper_answers_agree,
+    selected_is_the_source,
+};
