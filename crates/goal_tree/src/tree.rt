@@ -66,12 +66,7 @@ impl GoalTree {
     }
 
     /// Asks a goal for a node, which may be followed for so many steps.
-    pub fn register(
-        &mut self,
-        goal: Goal,
-        node: ExprOrPatId,
-        depth: u32,
-    ) -> Result<(), AllocError>
+    pub fn register(&mut self, goal: Goal, node: ExprOrPatId, depth: u32) -> Result<(), AllocError>
         requires { IsTree self.old }
         ensures tree { OnOk result (IsTree self.new) }
         ensures asked { OnOk result (IsAsked self.old self.new (registered goal node depth ∷ [])) }
