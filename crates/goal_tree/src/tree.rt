@@ -1,9 +1,9 @@
 //! Goals that were asked, with their sources and proofs.
 ghost use Rattle.std.specs.Prelude.{◌≡◌, ◌↔◌, ◌<◌, ◌≤◌, ◌+◌, ◌∷◌, [], Some, length, map, slice_get, IsTrue, IfOk, OnOk};
-ghost use Rattle.goal_tree.specs.Trees.{IsTree, IsOpenAt, registered, asked_by, IsAsked, AreProvedAs};
+ghost use Rattle.goal_tree.specs.Trees.{IsTree, IsTreeBut, IsOpenAt, IsWaitingAt, registered, asked_by, IsAsked, AreProvedAs, IsProvedNext, IsMoreProved, IsProvedUpTo, IsSelectedBy};
 
 use crate::obligation::{Obligation, Standing};
-use goal_facts::Proof;
+use goal_facts::{Proof, ProofSource};
 use hir_facts::{ExprOrPatId, Goal, List};
 use std::alloc::{AllocError, Global};
 
@@ -113,5 +113,94 @@ impl GoalTree {
             }
         }
         Ok(Some(numbers))
+    }
+
+    /// Keeps the proof of the one with this number, whose source asks for so many from another on.
+    fn prove(
+        &mut self,
+        at: usize,
+        proof: Proof,
+        first: usize,
+        count: usize,
+    ) -> Result<(), AllocError>
+        requires { at < length self.old.standings.items }
+        ensures { OnOk result (IsProvedNext self.old self.new at proof first count) }
+    {
+        let number = self.proofs.len();
+        self.proofs.push(proof)?;
+        self.standings[at] = Standing::Proved {
+            proof: number,
+            first,
+            count,
+        };
+        Ok(())
+    }
+
+    /// Proves the one with this number where all that its source asks for is proved, and says which one
+    /// asks for it, since that may be proved next.
+    fn advance(&mut self, at: usize) -> Result<Option<usize>, AllocError>
+        requires tree { IsTreeBut (λ i. i ≡ at) self.old }
+        requires waiting { IsWaitingAt self.old.standings.items at }
+        ensures { IfOk result (λ parent. IsProvedUpTo self.old self.new at parent) }
+    {
+        let Standing::Selected {
+            source,
+            first,
+            count,
+        } = &self.standings.as_slice()[at]
+        else {
+            return Ok(None);
+        };
+        let (first, count) = (*first, *count);
+        let Some(children) = self.proofs_of(first, count)? else {
+            return Ok(None);
+        };
+        let proof = Proof {
+            goal: self.obligation(at).goal.dup(self.alloc)?,
+            source: source.dup(self.alloc)?,
+            children,
+        };
+        self.prove(at, proof, first, count)?;
+        Ok(self.obligation(at).parent)
+    }
+
+    /// Proves the one with this number and those that wait for it, as far as it goes.
+    fn finish(&mut self, at: usize) -> Result<(), AllocError>
+        requires tree { IsTreeBut (λ i. i ≡ at) self.old }
+        requires waiting { IsWaitingAt self.old.standings.items at }
+        ensures tree { OnOk result (IsTree self.new) }
+        ensures proved { OnOk result (IsMoreProved self.old self.new) }
+    {
+        let mut at = at;
+        while let Some(parent) = self.advance(at)? {
+            at = parent;
+        }
+        Ok(())
+    }
+
+    /// Selects an open one by a source, which asks for these goals, and proves what is proved by that.
+    pub fn select(
+        &mut self,
+        at: usize,
+        source: ProofSource,
+        goals: Vec<Goal>,
+    ) -> Result<(), AllocError>
+        requires tree { IsTree self.old }
+        requires is_open { IsOpenAt self.old.standings.items at }
+        ensures tree { OnOk result (IsTree self.new) }
+        ensures selected { OnOk result (IsSelectedBy self.old self.new at source goals.items) }
+    {
+        let first = self.obligations.len();
+        let count = goals.len();
+        let asking = self.obligation(at);
+        let (node, depth) = (asking.node, asking.depth.saturating_sub(1));
+        self.ask(goals, node, depth, at)?;
+        self.standings[at] = Standing::Selected {
+            source,
+            first,
+            count,
+        };
+        self.finish(at)?;
+        Ok(())
     }
 }
