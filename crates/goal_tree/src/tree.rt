@@ -1,5 +1,5 @@
 //! Goals that were asked, with their sources and proofs.
-ghost use Rattle.std.specs.Prelude.{◌≡◌, ◌↔◌, ◌<◌, ◌≤◌, ◌+◌, ◌∷◌, [], Some, length, map, slice_get, IsTrue, IfOk, OnOk};
+ghost use Rattle.std.specs.Prelude.{◌≡◌, ◌↔◌, ◌<◌, ◌≤◌, ◌+◌, ◌∷◌, [], Some, length, map, slice_get, slice_set, IsTrue, IfOk, OnOk};
 ghost use Rattle.goal_tree.specs.Trees.{IsTree, IsTreeBut, IsOpenAt, IsWaitingAt, registered, asked_by, IsAsked, AreProvedAs, IsProvedNext, IsMoreProved, IsProvedUpTo, IsSelectedBy};
 
 use crate::obligation::{Obligation, Standing};
@@ -115,6 +115,16 @@ impl GoalTree {
         Ok(Some(numbers))
     }
 
+    /// Keeps how far the one with this number came.
+    fn put(&mut self, at: usize, standing: Standing)
+        requires { at < length self.old.standings.items }
+        ensures obligations { self.new.obligations.items ≡ self.old.obligations.items }
+        ensures standings { self.new.standings.items ≡ slice_set self.old.standings.items at standing }
+        ensures proofs { self.new.proofs.items ≡ self.old.proofs.items }
+    {
+        self.standings[at] = standing;
+    }
+
     /// Keeps the proof of the one with this number, whose source asks for so many from another on.
     fn prove(
         &mut self,
@@ -128,11 +138,12 @@ impl GoalTree {
     {
         let number = self.proofs.len();
         self.proofs.push(proof)?;
-        self.standings[at] = Standing::Proved {
+        let standing = Standing::Proved {
             proof: number,
             first,
             count,
         };
+        self.put(at, standing);
         Ok(())
     }
 
@@ -190,16 +201,17 @@ impl GoalTree {
         ensures tree { OnOk result (IsTree self.new) }
         ensures selected { OnOk result (IsSelectedBy self.old self.new at source goals.items) }
     {
-        let first = self.obligations.len();
+        let first = self.len();
         let count = goals.len();
         let asking = self.obligation(at);
         let (node, depth) = (asking.node, asking.depth.saturating_sub(1));
         self.ask(goals, node, depth, at)?;
-        self.standings[at] = Standing::Selected {
+        let standing = Standing::Selected {
             source,
             first,
             count,
         };
+        self.put(at, standing);
         self.finish(at)?;
         Ok(())
     }
