@@ -1,5 +1,6 @@
 pub mod Asking
 pub mod Growing
+pub mod Pending
 pub mod Proving
 pub mod Selecting
 pub mod Standings

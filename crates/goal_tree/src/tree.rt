@@ -1,6 +1,6 @@
 //! Goals that were asked, with their sources and proofs.
 ghost use Rattle.std.specs.Prelude.{◌≡◌, ◌↔◌, ◌<◌, ◌≤◌, ◌+◌, ◌∷◌, [], Some, length, map, slice_get, slice_set, IsTrue, IfOk, OnOk};
-ghost use Rattle.goal_tree.specs.Trees.{IsTree, IsTreeBut, IsOpenAt, IsWaitingAt, registered, asked_by, IsAsked, AreProvedAs, IsProvedNext, IsMoreProved, IsProvedUpTo, IsSelectedBy};
+ghost use Rattle.goal_tree.specs.Trees.{IsTree, IsTreeBut, IsOpenAt, IsWaitingAt, registered, asked_by, IsAsked, AreProvedAs, IsProvedNext, IsMoreProved, IsProvedUpTo, IsSelectedBy, pending_of};
 
 use crate::obligation::{Obligation, Standing};
 use goal_facts::{Proof, ProofSource};
@@ -214,5 +214,30 @@ impl GoalTree {
         self.put(at, standing);
         self.finish(at)?;
         Ok(())
+    }
+
+    /// The goals of nodes that have no proof, with their nodes, in the order in which they were asked.
+    pub fn pending(&self) -> Result<Vec<(Goal, ExprOrPatId)>, AllocError>
+        requires { IsTree self.now }
+        ensures { IfOk result (λ made. made.items ≡ pending_of self.now.obligations.items self.now.standings.items) }
+    {
+        let mut pending = Vec::new(self.alloc);
+        for at in 0..self.len() {
+            let standing = &self.standings.as_slice()[at];
+            self.obligation(at)
+                .add_pending(self.alloc, standing, &mut pending)?;
+        }
+        Ok(pending)
+    }
+
+    /// The proofs, by their numbers.
+    pub fn proofs(&self) -> Result<Vec<Proof>, AllocError>
+        ensures { IfOk result (λ made. made.items ≡ self.now.proofs.items) }
+    {
+        let mut copies = Vec::new(self.alloc);
+        for proof in self.proofs.as_slice() {
+            copies.push(proof.dup(self.alloc)?)?;
+        }
+        Ok(copies)
     }
 }
