@@ -14,14 +14,14 @@ same_or_not i j = grind arith
 pub set_other : {X : Type 0} (xs : List X) (i j : ℕ) (y : X) → (j ≡ i → ⊥) → slice_get (slice_set xs i y) j ≡ slice_get xs j
 set_other xs i j y other = get_set_other xs i y j (slice_get xs j) other refl
 
-mapped_get : {X Y : Type 0} (f : X → Y) (xs : List X) (i : ℕ) (y : Y) → slice_get (map f xs) i ≡ Some y → (x : X) × (f x ≡ y)
+pub mapped_get : {X Y : Type 0} (f : X → Y) (xs : List X) (i : ℕ) (y : Y) → slice_get (map f xs) i ≡ Some y → (x : X) × (slice_get xs i ≡ Some x) × (f x ≡ y)
 mapped_get f [] i y e = cc
-mapped_get f (x ∷ xs) zero y e = (x, same_Some (f x) y e)
+mapped_get f (x ∷ xs) zero y e = (x, refl, same_Some (f x) y e)
 mapped_get f (x ∷ xs) (suc i) y e = mapped_get f xs i y e
 
 -- one that was there, or one that came
 pub more_get : {X Y : Type 0} (f : X → Y) (ys : List Y) (xs : List X) (i : ℕ) (y : Y) → slice_get (ys ++ map f xs) i ≡ Some y → (slice_get ys i ≡ Some y) ⊎ ((length ys ≤ i) × ((x : X) × (f x ≡ y)))
-more_get f [] xs i y e = inr (omega arith, mapped_get f xs i y e)
+more_get f [] xs i y e = (let h = mapped_get f xs i y e in inr (omega arith, (h.0, h.2)))
 more_get f (z ∷ ys) xs zero y e = inl e
 more_get f (z ∷ ys) xs (suc i) y e = elim (more_get f ys xs i y e) [
   | inl q ↦ inl q
