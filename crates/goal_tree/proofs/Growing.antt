@@ -1,19 +1,16 @@
 -- What stays of a tree where goals are asked, and where one is selected.
-use Rattle.std.proofs.Common.{◌≡◌, ◌⊎◌, inl, inr, ℕ, ◌+◌, ◌<◌, ◌≤◌, List, [], ◌∷◌, ◌++◌, length, map, refl, sym, ap, ◌∙◌, subst, arith, length-append, length-set}
+use Rattle.std.proofs.Common.{◌≡◌, ◌⊎◌, inl, inr, ℕ, ◌+◌, ◌≤◌, List, [], ◌∷◌, length, sym, ap, subst, arith, length-append}
 use Rattle.std.proofs.lemmas.List.{length-map}
-use Rattle.std.specs.Prelude.{Some, None, slice_get, slice_set}
-use Rattle.std.proofs.lemmas.Option.{same_Some, slice_get_within}
+use Rattle.std.specs.Prelude.{Some, None, slice_get}
+use Rattle.std.proofs.lemmas.Option.{slice_get_within}
 use Rattle.infer_table.specs.Table.{IsFront}
-use Rattle.hir_types.specs.declared.ids.ExprOrPatId.{ExprOrPatId}
-use Rattle.hir_types.specs.declared.goal.Goal.{Goal}
-use Rattle.goal_facts.specs.declared.proof.Proof.{Proof}
 use Rattle.goal_facts.specs.declared.proof.ProofSource.{ProofSource}
 use Rattle.goal_tree.specs.declared.obligation.Obligation.{Obligation}
 use Rattle.goal_tree.specs.declared.obligation.Standing.{Standing}
 use Rattle.goal_tree.specs.declared.obligation.Standing.TheVariants as standing
 use Rattle.goal_tree.specs.declared.tree.GoalTree.{GoalTree}
-use Rattle.goal_tree.specs.Trees.{IsOpenAt, IsProvedAt, IsSelectedAt, IsProvedBy, HasSource, AreAskedBy, IsAskedBy, AreChildren, IsProofAt, SomeUnproved, IsTreeBut, IsTree, opens, IsAsked}
-use Rattle.goal_tree.proofs.Standings.{same_or_not, set_same, set_other, front_get, last_get, push_get, back_get, more_get, new_get, open_selected, open_proved, selected_proved, same_standing}
+use Rattle.goal_tree.specs.Trees.{IsOpenAt, IsSelectedAt, HasSource, AreAskedBy, IsAskedBy, AreChildren, IsProofAt, SomeUnproved, IsTreeBut, IsTree, opens, IsAsked}
+use Rattle.goal_tree.proofs.Standings.{front_get, push_get, back_get, more_get, open_selected, open_proved, same_standing}
 
 -- those at `at` were open, and have no proof now; the others stay, and what comes is open
 pub record Grows (at : ℕ → Type 0) (t u : GoalTree) : Type 0 where

@@ -1,22 +1,19 @@
 -- Where each obligation that has a source has it rightly, the proofs of the tree are proofs.
-use Rattle.std.proofs.Common.{◌≡◌, inr, ℕ, zero, suc, ◌+◌, ◌-◌, ◌<◌, ◌≤◌, List, [], ◌∷◌, length, map, take, drop, refl, sym, ap, ◌∙◌, subst, arith, length-take, length-drop}
+use Rattle.std.proofs.Common.{◌≡◌, inr, ℕ, zero, suc, ◌+◌, ◌<◌, ◌≤◌, List, [], ◌∷◌, length, take, drop, refl, sym, ap, ◌∙◌, subst, arith, length-take, length-drop}
 use Rattle.std.specs.Prelude.{Some, slice_get}
 use Rattle.std.proofs.lemmas.Option.{same_Some}
 use Rattle.std.proofs.lemmas.List.{length-map}
-use Rattle.hir_types.specs.Terms.{Term}
 use Rattle.hir_raw.specs.declared.raw.RawFacts.{RawFacts}
 use Rattle.infer_table.proofs.BindingLaws.{get_from_take}
-use Rattle.goal_answers.specs.Reading.{Fill, Aliases, ReadsAs}
+use Rattle.goal_answers.specs.Reading.{Fill, Aliases}
 use Rattle.goal_answers.specs.Goals.{Asked, System}
-use Rattle.hir_types.specs.declared.goal.Goal.{Goal}
 use Rattle.goal_facts.specs.declared.proof.Proof.{Proof}
-use Rattle.goal_facts.specs.declared.proof.ProofSource.{ProofSource}
 use Rattle.goal_facts.specs.Proofs.{filled_goal, IsSame, IsSource, MayHaveSource, IsProofOf, AreProofsOf, Holds, AreProofs}
 use Rattle.goal_tree.specs.declared.obligation.Obligation.{Obligation}
 use Rattle.goal_tree.specs.declared.obligation.Standing.TheVariants as standing
 use Rattle.goal_tree.specs.declared.tree.GoalTree.{GoalTree}
 use Rattle.goal_tree.specs.Trees.{HasSource, IsTreeBut, IsProofAt, AreChildren}
-use Rattle.goal_tree.specs.Right.{filled_goals, HasRightly, IsRight}
+use Rattle.goal_tree.specs.Right.{filled_goals, IsRight}
 use Rattle.goal_tree.proofs.Standings.{mapped_get}
 
 dropped_get : {X : Type 0} (xs : List X) (m j : ℕ) (x : X) → slice_get (drop m xs) j ≡ Some x → slice_get xs (m + j) ≡ Some x

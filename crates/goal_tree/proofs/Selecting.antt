@@ -10,7 +10,7 @@ use Rattle.goal_tree.specs.declared.obligation.Obligation.{Obligation}
 use Rattle.goal_tree.specs.declared.obligation.Standing.{Standing}
 use Rattle.goal_tree.specs.declared.obligation.Standing.TheVariants as standing
 use Rattle.goal_tree.specs.declared.tree.GoalTree.{GoalTree}
-use Rattle.goal_tree.specs.Trees.{IsOpenAt, IsSelectedAt, IsWaitingAt, HasSource, AreAskedBy, IsAskedBy, IsTreeBut, IsTree, asked_by, opens, IsAsked, IsMoreProved, IsLater, IsSelectedBy}
+use Rattle.goal_tree.specs.Trees.{IsOpenAt, IsSelectedAt, IsWaitingAt, HasSource, AreAskedBy, IsAskedBy, IsTreeBut, IsTree, asked_by, IsAsked, IsMoreProved, IsLater, IsSelectedBy}
 use Rattle.goal_tree.proofs.Standings.{same_or_not, set_same, set_other, front_get, more_get, new_get, selected_proved, same_standing}
 use Rattle.goal_tree.proofs.Growing.{Grows, asked_as_many, source_on, source_back, proved_on, grown_tree}
 use Rattle.goal_tree.proofs.Proving.{later_then}

@@ -1,7 +1,7 @@
 -- Elements of lists by their numbers, where one is set, and where more come.
-use Rattle.std.proofs.Common.{◌≡◌, ◌⊎◌, inl, inr, ℕ, zero, suc, ◌+◌, ◌<◌, ◌≤◌, List, [], ◌∷◌, ◌++◌, length, map, refl, sym, ap, ◌∙◌, subst, arith}
-use Rattle.std.specs.Prelude.{Option, Some, slice_get, slice_set}
-use Rattle.std.proofs.lemmas.Option.{same_Some, slice_get_within}
+use Rattle.std.proofs.Common.{◌≡◌, ◌⊎◌, inl, inr, ℕ, zero, suc, ◌+◌, ◌<◌, ◌≤◌, List, [], ◌∷◌, ◌++◌, length, map, refl, sym, ◌∙◌, arith}
+use Rattle.std.specs.Prelude.{Some, slice_get, slice_set}
+use Rattle.std.proofs.lemmas.Option.{same_Some}
 use Rattle.infer_table.proofs.BindingLaws.{get_set_other}
 use Rattle.goal_tree.specs.declared.obligation.Standing.{Standing}
 use Rattle.goal_tree.specs.declared.obligation.Standing.TheVariants as standing

@@ -7,8 +7,7 @@ use goal_facts::{Proof, ProofSource};
 use hir_facts::{ExprOrPatId, Goal, List};
 use std::alloc::{AllocError, Global};
 
-/// The goals that were asked, in their order: first those of nodes, and behind each that has a source
-/// those that this asks for.
+/// The goals that were asked, in their order. Behind one that has a source stand those that this asks for.
 #[derive(Debug, Drop)]
 pub struct GoalTree {
     alloc: Global,
@@ -138,12 +137,12 @@ impl GoalTree {
     {
         let number = self.proofs.len();
         self.proofs.push(proof)?;
-        let standing = Standing::Proved {
+        let proved = Standing::Proved {
             proof: number,
             first,
             count,
         };
-        self.put(at, standing);
+        self.put(at, proved);
         Ok(())
     }
 
@@ -206,12 +205,12 @@ impl GoalTree {
         let asking = self.obligation(at);
         let (node, depth) = (asking.node, asking.depth.saturating_sub(1));
         self.ask(goals, node, depth, at)?;
-        let standing = Standing::Selected {
+        let selected = Standing::Selected {
             source,
             first,
             count,
         };
-        self.put(at, standing);
+        self.put(at, selected);
         self.finish(at)?;
         Ok(())
     }

@@ -1,4 +1,4 @@
-use Rattle.std.proofs.Common.{◌≡◌, ◌<◌, ◌≤◌, ◌+◌, ℕ, List, get_or, length, refl, sym, ap, ◌∙◌, inl, subst, arith}
+use Rattle.std.proofs.Common.{◌≡◌, ◌<◌, ℕ, List, get_or, length, refl, sym, ap, ◌∙◌, inl, subst, arith}
 use Rattle.std.specs.Prelude.{Some, slice_get}
 use Rattle.std.proofs.lemmas.Option.{same_Some, slice_get_read, slice_get_within}
 use Rattle.goal_tree.specs.declared.obligation.Obligation.{Obligation}
@@ -23,7 +23,9 @@ proofs_of-requires c =
     let t = c.args.self.now in
     let here = read_at t c.args.at c.as_slice.result.now c.index-as_slice-at.result (standing.Selected c.in-Selected.source c.in-Selected.first c.in-Selected.count) c.requires.waiting c.as_slice.ensures.value c.index-as_slice-at.is c.in-Selected.is in
     let asked = c.requires.tree.selected c.args.at c.in-Selected.first c.in-Selected.count c.in-Selected.source (inl here) in
-    subst (λ n. c.in-Selected.first + c.in-Selected.count ≤ n) (sym c.requires.tree.as_many) asked.within
+    let within = asked.within in
+    let many = c.requires.tree.as_many in
+    omega (arith, within, many)
 
 pub returns-in_default-2 : goal.returns-in_default-2
 returns-in_default-2 c =

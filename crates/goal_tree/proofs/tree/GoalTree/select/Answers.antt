@@ -1,4 +1,4 @@
-use Rattle.std.proofs.Common.{◌≡◌, ℕ, ◌<◌, ◌∙◌, List, length, map, refl, sym, ap, subst, rules}
+use Rattle.std.proofs.Common.{◌≡◌, ℕ, ◌∙◌, List, length, map, refl, sym, ap, subst, arith, rules}
 use Rattle.std.specs.Prelude.{Some, slice_get, slice_set}
 use Rattle.std.proofs.lemmas.Option.{slice_get_within}
 use Rattle.hir_types.specs.declared.ids.ExprOrPatId.{ExprOrPatId}
@@ -6,7 +6,7 @@ use Rattle.hir_types.specs.declared.goal.Goal.{Goal}
 use Rattle.goal_facts.specs.declared.proof.ProofSource.{ProofSource}
 use Rattle.goal_tree.specs.declared.obligation.Standing.TheVariants as standing
 use Rattle.goal_tree.specs.declared.tree.GoalTree.{GoalTree}
-use Rattle.goal_tree.specs.Trees.{IsTree, IsOpenAt, asked_by, opens, IsAsked}
+use Rattle.goal_tree.specs.Trees.{IsTree, IsOpenAt, asked_by, IsAsked}
 use Rattle.goal_tree.proofs.Standings.{front_get}
 use Rattle.goal_tree.proofs.Selecting.{Selects, selected_tree, selected_waits, selected_by}
 use Rattle.goal_tree.proofs.tree.GoalTree.select.Goals as goal
@@ -32,7 +32,8 @@ pub put-requires : goal.put-requires
 put-requires c =
     let before = c.args.self.now.standings.items in
     let after = c.ask.new.self.standings.items in
-    slice_get_within after c.args.at standing.Open (subst (λ ss. slice_get ss c.args.at ≡ Some standing.Open) (sym c.in_ok-ask.ensures.standings) (front_get before _ c.args.at standing.Open c.requires.is_open))
+    let within = slice_get_within after c.args.at standing.Open (subst (λ ss. slice_get ss c.args.at ≡ Some standing.Open) (sym c.in_ok-ask.ensures.standings) (front_get before _ c.args.at standing.Open c.requires.is_open)) in
+    omega (arith, within)
 
 pub finish-requires-clause-tree : goal.finish-requires-clause-tree
 finish-requires-clause-tree c =
