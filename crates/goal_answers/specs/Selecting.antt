@@ -6,7 +6,7 @@ use Rattle.hir_types.specs.Terms.{Term, hole, leaf, pair}
 use Rattle.goal_answers.specs.Reading.{Aliases}
 use Rattle.goal_answers.specs.Goals.{Kind, implements, projects, Asked, Rule, System, IsKnown, self_type, is_among, OneIf, Each, Verdicts}
 use Rattle.goal_answers.specs.Rows.{with_parts, copied, types_of, CopyNo}
-use Rattle.goal_answers.specs.Answers.{RuleIsRefuted, Proves, Shadows, ShadowsNot, answers}
+use Rattle.goal_answers.specs.Answers.{RuleIsRefuted, Proves, ShadowsNot, answers}
 use Rattle.goal_answers.specs.Steps.{known_below}
 
 -- what a goal is proved by: a clause or a rule, by its place; that the parts of its self type are copied; that this has a size
@@ -75,12 +75,12 @@ IsOnlySource f A v c w by_size = ⊥
 abbrev pub IsByClause : Aliases → Verdicts → Kind → Term → List Rule → ℕ → Type 0
 IsByClause A v c w rs i = (r : Rule) × (slice_get rs i ≡ Some r) × Proves A v.Yes c w r
 
--- that a type has a size binds nothing: a clause says so, or else the walk along last fields
+-- that a type has a size binds nothing: a clause is the goal, or none is about it, and the walk along last fields says so
 abbrev pub SizeIsBy : System → Aliases → Verdicts → Kind → Term → Choice → Type 0
 SizeIsBy f A v c w (by_clause i) = IsByClause A v c w f.clauses i
 SizeIsBy f A v c w (by_rule i) = ⊥
 SizeIsBy f A v c w by_parts = ⊥
-SizeIsBy f A v c w by_size = Each (λ r. Shadows A c w r → ⊥) f.clauses
+SizeIsBy f A v c w by_size = Each (ShadowsNot A v c w) f.clauses
 
 -- ---- at a depth
 

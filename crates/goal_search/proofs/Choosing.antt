@@ -111,16 +111,16 @@ module _ (f : System) (n : ℕ) (c : Kind) (w : Term) (trait_ : IsTraitKind c) w
   abbrev IsSize : Source → Type 0
   IsSize = SizeIsBy f A v c w
 
-  pub size_shadowed : (SomeOf (Proves A v.Yes c w) f.clauses → ⊥) → (a : Answer) → Decides Shadowing NotShadowing a → a ≡ answer.Yes → IsBy IsSize None
-  size_shadowed none a d e (by_clause i) h = none (some_get (Proves A v.Yes c w) f.clauses i h.0 h.1 h.2)
-  size_shadowed none a d e (by_rule i) h = h
-  size_shadowed none a d e by_parts h = h
-  size_shadowed none a d e by_size h = none_of (Shadows A c w) f.clauses h (some_map shadows_here f.clauses (subst (Decides Shadowing NotShadowing) e d))
+  pub size_shadowed : (SomeOf (Proves A v.Yes c w) f.clauses → ⊥) → (a : Answer) → Decides Shadowing NotShadowing a → (a ≡ answer.No → ⊥) → IsBy IsSize None
+  size_shadowed none a d some (by_clause i) h = none (some_get (Proves A v.Yes c w) f.clauses i h.0 h.1 h.2)
+  size_shadowed none a d some (by_rule i) h = h
+  size_shadowed none a d some by_parts h = h
+  size_shadowed none answer.Yes d some by_size h = shadowing_not d h
+  size_shadowed none answer.No d some by_size h = some refl
+  size_shadowed none answer.Undecided d some by_size h = d.1 (each_map holds_not_here f.clauses h)
 
-  pub size_walked : (a : Answer) → Decides Shadowing NotShadowing a → (a ≡ answer.Yes → ⊥) → IsSize by_size
-  size_walked answer.Yes d no_ = absurd (no_ refl)
-  size_walked answer.No d no_ = each_map (λ r h x. shadows_excluded r x (shadows_not_here r h)) f.clauses d
-  size_walked answer.Undecided d no_ = each_map (λ r h x. h (holds_here r x)) f.clauses (each_none (Holds A v side.Key c w) f.clauses d.0)
+  pub size_walked : (a : Answer) → Decides Shadowing NotShadowing a → a ≡ answer.No → IsSize by_size
+  size_walked a d e = each_map shadows_not_here f.clauses (subst (Decides Shadowing NotShadowing) e d)
 
   -- ---- sources
 

@@ -154,7 +154,7 @@ impl<'a> Search<'a> {
             return Ok(Some(Choice::Clause(number)));
         }
         let clauses = self.sources().clauses.as_slice();
-        if is_yes(self.ask_rules(clauses, Side::Key, kind, target, depth, depth)?) {
+        if !is_no(self.ask_rules(clauses, Side::Key, kind, target, depth, depth)?) {
             return Ok(None);
         }
         Ok(Some(Choice::Size))
