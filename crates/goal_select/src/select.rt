@@ -1,0 +1,109 @@
+//! The source that a goal is selected by, and what it asks for: as rust-analyzer's trait solver confirms
+//! a candidate.
+ghost use Rattle.std.specs.Prelude.{◌≡◌, ◌≤◌, IfOk};
+ghost use Rattle.goal_search.specs.Sources.{system};
+ghost use Rattle.goal_facts.specs.Systems.{IsSystemOf};
+ghost use Rattle.goal_select.specs.Steps.{GoalIsOf, IsSelectedIf};
+
+use crate::meeting::meet;
+use crate::parts::part_goals;
+use goal_facts::{Choice, ItemSources, ProofSource};
+use hir_facts::{GenericArg, Goal, Ty};
+use hir_types::TraitRef;
+use infer_table::InferenceTable;
+use std::alloc::{AllocError, Global};
+
+/// What a goal was selected by, and the goals that this asks for.
+#[derive(Debug, Drop)]
+pub struct Selected {
+    pub source: ProofSource,
+    pub preds: Vec<Goal>,
+}
+
+/// Selects a goal, with what is known of its holes, by its only source that isn't refuted, which may be
+/// followed for so many steps: makes it equal to what the source says. `None`, with nothing changed,
+/// where nothing selects it.
+pub fn select_goal(
+    alloc: Global,
+    sources: &ItemSources<'_>,
+    table: &mut InferenceTable,
+    goal: &Goal,
+    depth: u32,
+) -> Result<Option<Selected>, AllocError>
+    requires holes { GoalIsOf table.old goal.now }
+    requires depth { depth ≤ sources.now.facts.limits.goal_depth }
+    ensures given { IfOk result (λ _. IsSystemOf sources.now.facts sources.now.item (system sources.now.sources)) }
+    ensures selected { IfOk result (λ found. IsSelectedIf sources.now.facts (system sources.now.sources) depth table.old table.new goal.now found) }
+{
+    let known = table.resolve(goal)?;
+    let Some(choice) = sources.choose(alloc, &known, depth)? else {
+        return Ok(None);
+    };
+    let Goal::Trait(trait_ref) = &known else {
+        unreachable!()
+    };
+    let selected = match choice {
+        Choice::Clause(place) => by_clause(alloc, sources, table, trait_ref, place)?,
+        Choice::Rule(place) => by_rule(alloc, sources, table, trait_ref, place)?,
+        Choice::Parts => by_parts(alloc, trait_ref)?,
+        Choice::Size => Selected {
+            source: ProofSource::BuiltIn,
+            preds: Vec::new(alloc),
+        },
+    };
+    Ok(Some(selected))
+}
+
+fn by_clause(
+    alloc: Global,
+    sources: &ItemSources<'_>,
+    table: &mut InferenceTable,
+    goal: &TraitRef,
+    place: usize,
+) -> Result<Selected, AllocError> {
+    let clause = sources.clause(alloc, place)?;
+    let Goal::Trait(head) = &clause else {
+        unreachable!()
+    };
+    if !meet(alloc, table, goal, head)? {
+        unreachable!()
+    }
+    Ok(Selected {
+        source: ProofSource::Clause(clause),
+        preds: Vec::new(alloc),
+    })
+}
+
+fn by_rule(
+    alloc: Global,
+    sources: &ItemSources<'_>,
+    table: &mut InferenceTable,
+    goal: &TraitRef,
+    place: usize,
+) -> Result<Selected, AllocError> {
+    let rule = sources.rule_goals(alloc, place, table.hole_count())?;
+    for _ in 0..rule.args.len() {
+        table.next_ty_var()?;
+    }
+    let Goal::Trait(head) = &rule.head else {
+        unreachable!()
+    };
+    if !meet(alloc, table, goal, head)? {
+        unreachable!()
+    }
+    Ok(Selected {
+        source: ProofSource::Impl(rule.source, rule.args),
+        preds: rule.preds,
+    })
+}
+
+fn by_parts(alloc: Global, goal: &TraitRef) -> Result<Selected, AllocError> {
+    let preds = match goal.args.get(0) {
+        Some(GenericArg::Ty(ty)) => part_goals(alloc, goal.id, ty)?,
+        Some(GenericArg::Const(_)) | None => Vec::new(alloc),
+    };
+    Ok(Selected {
+        source: ProofSource::BuiltIn,
+        preds,
+    })
+}
