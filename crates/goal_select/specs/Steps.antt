@@ -6,6 +6,7 @@ use Rattle.hir_types.specs.declared.ids.TypeAliasId.{TypeAliasId}
 use Rattle.hir_types.specs.declared.goal.Goal.{Goal}
 use Rattle.hir_types.specs.declared.goal.Goal.TheVariants as goal
 use Rattle.hir_types.specs.declared.head.Hole.{Hole}
+use Rattle.hir_types.specs.declared.ty.AliasBound.{AliasBound}
 use Rattle.hir_types.specs.declared.ty.GenericArg.{GenericArg}
 use Rattle.hir_types.specs.declared.ty.GenericArg.TheVariants as arg
 use Rattle.hir_types.specs.declared.ty.TraitRef.{TraitRef, out-TraitRef}
@@ -40,7 +41,7 @@ GoalIsOf s g = AreOf s.substitution.kinds (asked_goal g).parts
 
 -- a type with the arguments of the trait
 abbrev pub goal_type : TraitRef → Ty
-goal_type r = ty.Adt (record { field-0 = 0 }) (out-TraitRef r).args
+goal_type r = ty.Adt (record { 0 = 0 }) (out-TraitRef r).args
 
 -- ---- parts
 
@@ -48,7 +49,7 @@ goal_type r = ty.Adt (record { field-0 = 0 }) (out-TraitRef r).args
 abbrev pub only_goal : TraitId → Ty → Goal
 only_goal id t = goal.Trait (record { id = id; args = arg.Ty t ∷ [] })
 
-abbrev pub part_types : Ty-F GenericArg Ty _ _ → List Ty
+abbrev pub part_types : Ty-F GenericArg Ty AliasBound TraitRef → List Ty
 part_types (Ty-F.Tuple ts) = ts
 part_types (Ty-F.Array t c) = t ∷ []
 part_types _ = []

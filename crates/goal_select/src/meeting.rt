@@ -1,7 +1,7 @@
 //! Goals made equal.
 ghost use Rattle.std.specs.Prelude.{◌≡◌, IfOk};
-ghost use Rattle.infer_table.specs.Table.{AreUnifiedIf};
-ghost use Rattle.goal_select.specs.Steps.{goal_type, GoalIsOf};
+ghost use Rattle.infer_table.specs.Table.{HolesAreOf, AreUnifiedIf};
+ghost use Rattle.goal_select.specs.Steps.{goal_type};
 
 use hir_facts::{AdtId, GenericArg, Goal, List, Ty};
 use hir_types::{Folded, TraitRef, Unchanged};

@@ -7,7 +7,7 @@ ghost use Rattle.goal_select.specs.Steps.{GoalIsOf, IsSelectedIf};
 
 use crate::meeting::meet;
 use crate::parts::part_goals;
-use goal_facts::{Choice, ItemSources, ProofSource};
+use goal_facts::{ItemSources, ProofSource};
 use hir_facts::{GenericArg, Goal, Ty};
 use hir_types::TraitRef;
 use infer_table::InferenceTable;
@@ -18,40 +18,6 @@ use std::alloc::{AllocError, Global};
 pub struct Selected {
     pub source: ProofSource,
     pub preds: Vec<Goal>,
-}
-
-/// Selects a goal, with what is known of its holes, by its only source that isn't refuted, which may be
-/// followed for so many steps: makes it equal to what the source says. `None`, with nothing changed,
-/// where nothing selects it.
-pub fn select_goal(
-    alloc: Global,
-    sources: &ItemSources<'_>,
-    table: &mut InferenceTable,
-    goal: &Goal,
-    depth: u32,
-) -> Result<Option<Selected>, AllocError>
-    requires holes { GoalIsOf table.old goal.now }
-    requires depth { depth ≤ sources.now.facts.limits.goal_depth }
-    ensures given { IfOk result (λ _. IsSystemOf sources.now.facts sources.now.item (system sources.now.sources)) }
-    ensures selected { IfOk result (λ found. IsSelectedIf sources.now.facts (system sources.now.sources) depth table.old table.new goal.now found) }
-{
-    let known = table.resolve(goal)?;
-    let Some(choice) = sources.choose(alloc, &known, depth)? else {
-        return Ok(None);
-    };
-    let Goal::Trait(trait_ref) = &known else {
-        unreachable!()
-    };
-    let selected = match choice {
-        Choice::Clause(place) => by_clause(alloc, sources, table, trait_ref, place)?,
-        Choice::Rule(place) => by_rule(alloc, sources, table, trait_ref, place)?,
-        Choice::Parts => by_parts(alloc, trait_ref)?,
-        Choice::Size => Selected {
-            source: ProofSource::BuiltIn,
-            preds: Vec::new(alloc),
-        },
-    };
-    Ok(Some(selected))
 }
 
 fn by_clause(
