@@ -48,7 +48,7 @@ goal_type_resolved s r =
 
 -- ---- what is known put in
 
-args_folded : (a : Assignment) (xs : List GenericArg) → chain (map arg_term (args_replaced (with_holes a) xs)) ≡ apply (terms_of a) (chain (map arg_term xs))
+pub args_folded : (a : Assignment) (xs : List GenericArg) → chain (map arg_term (args_replaced (with_holes a) xs)) ≡ apply (terms_of a) (chain (map arg_term xs))
 args_folded a xs =
     let id : AdtId = record { 0 = 0 } in
     pair_right (sym (term_adt id (args_replaced (with_holes a) xs)) ∙ ap term (sym (replaced_adt (with_holes a) id xs)) ∙ term_folded a (ty.Adt id xs) ∙ ap (apply (terms_of a)) (term_adt id xs))

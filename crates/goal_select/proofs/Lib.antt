@@ -1,3 +1,4 @@
 pub mod Known
 pub mod Fills
 pub mod Uniting
+pub mod Clauses
