@@ -2,3 +2,4 @@ pub mod Known
 pub mod Fills
 pub mod Uniting
 pub mod Clauses
+pub mod Choices
