@@ -3,3 +3,4 @@ pub mod Fills
 pub mod Uniting
 pub mod Clauses
 pub mod Choices
+pub mod ClauseSteps
