@@ -1,8 +1,15 @@
 -- What a choice tells at each filling of the goal's holes.
-use Rattle.std.proofs.Common.{◌≡◌, ◌≤◌, ◌+◌, ◌-◌, inl, inr, ℕ, Bool, true, false, nat_eq, refl, sym, ap, ◌∙◌, subst, arith, [], slice_get, Some, true≢false}
+use Rattle.std.proofs.Common.{◌≡◌, ◌≤◌, ◌+◌, ◌-◌, ◌++◌, map, inl, inr, ℕ, Bool, true, false, nat_eq, refl, sym, ap, ◌∙◌, subst, arith, [], slice_get, Some, true≢false}
 use Rattle.std.proofs.lemmas.Bool.{eqb-true, eqb-false, both_ways, eq-eqb}
 use Rattle.hir_types.specs.declared.ids.TraitId.{TraitId}
+use Rattle.hir_types.specs.declared.goal.Goal.{Goal}
+use Rattle.hir_types.specs.declared.goal.Goal.TheVariants as goal
+use Rattle.hir_types.specs.declared.ty.TraitRef.{TraitRef}
 use Rattle.hir_types.specs.Terms.{Term, hole, apply}
+use Rattle.infer_table.specs.Solutions.{log_of, Solves}
+use Rattle.infer_table.specs.LogLemmas.{solves_left}
+use Rattle.infer_table.specs.Table.{State, bindings, Meets, Grew}
+use Rattle.infer_table.proofs.BindingLaws.{log_of_append}
 use Rattle.hir_raw.specs.declared.raw.RawFacts.{RawFacts}
 use Rattle.goal_answers.specs.Reading.{Fill, IsRead, IsFilling, Aliases, Reads, ReadsAs}
 use Rattle.goal_answers.specs.Goals.{Kind, implements, projects, Asked, Rule, System, asked_at, key, IsKnown, is_among, OneIf, Each, Verdicts}
@@ -17,7 +24,11 @@ use Rattle.goal_answers.proofs.Deeper.{IsWithin, deeper}
 use Rattle.goal_answers.proofs.One.{key_tells, not_refuted, answers_sound, answers_are_one}
 use Rattle.goal_answers.proofs.Levels.{IsLevel, level}
 use Rattle.goal_terms.specs.Types.{concrete_read}
-use Rattle.goal_facts.specs.Proofs.{IsUnshadowed, MayHaveSource}
+use Rattle.goal_facts.specs.Goals.{trait_goal}
+use Rattle.goal_facts.specs.Proofs.{filled_goal, IsUnshadowed, MayHaveSource}
+use Rattle.goal_select.specs.declared.select.Selected.{Selected}
+use Rattle.goal_select.specs.Steps.{known_goal, IsSourceBy, IsRightSource}
+use Rattle.goal_select.proofs.Known.{known_filled}
 
 -- ---- kinds
 
@@ -87,3 +98,27 @@ module _ (raw : RawFacts) (f : System) (n : ℕ) (below : n ≤ raw.limits.goal_
 
   pub sized : MayHaveSource raw f (asked_at s g)
   sized e none = (answers_are_one f raw.limits.goal_depth raw.limits.goal_depth).0 (asked_at s g) (has_size e) none
+
+-- ---- the goal that was asked
+
+pub meets_before : (before after : State) → Grew before after → (t : Fill) → Meets t after → Meets t before
+meets_before before after grew t m =
+    let bs = bindings before in
+    let zs = grew.log.0 in
+    let whole : Solves t (log_of bs ++ log_of zs) = subst (λ l. Solves t l) (ap log_of grew.log.1 ∙ log_of_append bs zs) m in
+    solves_left t (log_of bs) (log_of zs) whole
+
+-- one that comes to it has the source, at what meets the table
+pub right_source : (raw : RawFacts) (f : System) (n : ℕ) → n ≤ raw.limits.goal_depth → (before after : State) (g : Goal) (k : TraitRef) → known_goal before g ≡ goal.Trait k → (by : Choice) → Selects f n (trait_goal k) by → Grew before after
+    → (made : Selected)
+    → ((t : Fill) → IsFilling t → Meets t after → IsSourceBy by raw f (answers f raw.limits.goal_depth).Alias t (asked_at t (trait_goal k)) made.source (map (filled_goal t) made.preds.items))
+    → (t : Fill) → IsFilling t → Meets t after → IsRightSource by raw f t g made.source made.preds.items
+right_source raw f n below before after g k is by selects grew made source t filling m =
+    let e : asked_at t (trait_goal k) ≡ filled_goal t g = sym (known_filled before g k is t (meets_before before after grew t m)) in
+    record {
+      source = subst (λ x. IsSourceBy by raw f (answers f raw.limits.goal_depth).Alias t x made.source (map (filled_goal t) made.preds.items)) e (source t filling m);
+      sized = subst (MayHaveSource raw f) e (sized raw f n below (trait_goal k) by selects t filling);
+      readable =
+          let there = apply t (trait_goal k).parts in
+          (there, subst (λ (x : Asked). ReadsAs (answers f raw.limits.goal_depth).Alias x.parts there) e (goal_reads raw f n below (trait_goal k) by selects t filling));
+    }

@@ -38,7 +38,7 @@ module _ (s : State) (acyclic : Triangular (log s)) (f : Fill) (filling : IsFill
 
 -- ---- what a clause may read as
 
-no_holes_stay : (s : State) (t : Term) → HasNoHoles t → resolved (log s) t ≡ t
+pub no_holes_stay : (s : State) (t : Term) → HasNoHoles t → resolved (log s) t ≡ t
 no_holes_stay s t none = resolved_fixed (log s) t (λ y b. false_from_ne_true (occurs y t) (none y))
 
 -- where the clause may read as the goal at some filling, the two can be made equal

@@ -4,3 +4,4 @@ pub mod Uniting
 pub mod Clauses
 pub mod Choices
 pub mod ClauseSteps
+pub mod ClauseChoices
