@@ -2,8 +2,9 @@
 //! a candidate.
 ghost use Rattle.std.specs.Prelude.{◌≡◌, ◌≤◌, IfOk};
 ghost use Rattle.goal_search.specs.Sources.{system};
+ghost use Rattle.goal_answers.specs.Selecting.{by_clause, by_rule, by_parts, by_size};
 ghost use Rattle.goal_facts.specs.Systems.{IsSystemOf};
-ghost use Rattle.goal_select.specs.Steps.{GoalIsOf, IsSelectedIf};
+ghost use Rattle.goal_select.specs.Steps.{GoalIsOf, IsKnownIn, IsChosen, SelectsKnown, IsSelectedIf};
 
 use crate::meeting::meet;
 use crate::parts::part_goals;
@@ -20,13 +21,20 @@ pub struct Selected {
     pub preds: Vec<Goal>,
 }
 
+/// By the clause of this number, which holds without more.
 fn by_clause(
     alloc: Global,
     sources: &ItemSources<'_>,
     table: &mut InferenceTable,
     goal: &TraitRef,
     place: usize,
-) -> Result<Selected, AllocError> {
+) -> Result<Selected, AllocError>
+    requires known { IsKnownIn table.old goal.now }
+    requires chosen { IsChosen sources.now.facts (system sources.now.sources) goal.now (by_clause place) }
+    ensures { IfOk result (λ made. SelectsKnown sources.now.facts (system sources.now.sources) table.old table.new goal.now (by_clause place) made) }
+{
+    sources.lawful();
+    table.lawful();
     let clause = sources.clause(alloc, place)?;
     let Goal::Trait(head) = &clause else {
         unreachable!()
