@@ -5,3 +5,4 @@ pub mod Clauses
 pub mod Choices
 pub mod ClauseSteps
 pub mod ClauseChoices
+pub mod PartSteps

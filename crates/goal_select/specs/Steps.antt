@@ -1,5 +1,5 @@
 -- One step of selection: what a goal is made equal to, and what its source asks for.
-use Rattle.std.specs.Prelude.{◌≡◌, ◌<◌, ◌≤◌, ℕ, suc, false, List, [], ◌∷◌, map, Option, Some, None}
+use Rattle.std.specs.Prelude.{◌≡◌, ◌<◌, ◌≤◌, ℕ, suc, false, List, [], ◌∷◌, map, slice_get, Option, Some, None}
 use Rattle.hir_types.specs.declared.ids.AdtId.{AdtId}
 use Rattle.hir_types.specs.declared.ids.TraitId.{TraitId}
 use Rattle.hir_types.specs.declared.ids.TypeAliasId.{TypeAliasId}
@@ -57,6 +57,14 @@ part_types _ = []
 
 abbrev pub part_goals : TraitId → Ty → List Goal
 part_goals id t = map (only_goal id) (part_types (out-Ty t))
+
+abbrev pub goals_of_first : TraitId → Option GenericArg → List Goal
+goals_of_first id (Some (arg.Ty t)) = part_goals id t
+goals_of_first id _ = []
+
+-- those of the parts of the self type
+abbrev pub self_part_goals : TraitRef → List Goal
+self_part_goals r = goals_of_first (out-TraitRef r).id (slice_get (out-TraitRef r).args 0)
 
 -- ---- a step
 

@@ -3,8 +3,9 @@
 ghost use Rattle.std.specs.Prelude.{◌≡◌, ◌≤◌, IfOk};
 ghost use Rattle.goal_search.specs.Sources.{system};
 ghost use Rattle.goal_answers.specs.Selecting.{by_clause, by_rule, by_parts, by_size};
+ghost use Rattle.goal_facts.specs.declared.proof.ProofSource.TheVariants as source;
 ghost use Rattle.goal_facts.specs.Systems.{IsSystemOf};
-ghost use Rattle.goal_select.specs.Steps.{GoalIsOf, IsKnownIn, IsChosen, SelectsKnown, IsSelectedIf};
+ghost use Rattle.goal_select.specs.Steps.{GoalIsOf, IsKnownIn, IsChosen, SelectsKnown, self_part_goals, IsSelectedIf};
 
 use crate::meeting::meet;
 use crate::parts::part_goals;
@@ -71,7 +72,11 @@ fn by_rule(
     })
 }
 
-fn by_parts(alloc: Global, goal: &TraitRef) -> Result<Selected, AllocError> {
+/// By its parts, which are copied where each of them is.
+fn by_parts(alloc: Global, goal: &TraitRef) -> Result<Selected, AllocError>
+    ensures source { IfOk result (λ made. made.source ≡ source.BuiltIn) }
+    ensures preds { IfOk result (λ made. made.preds.items ≡ self_part_goals goal.now) }
+{
     let preds = match goal.args.get(0) {
         Some(GenericArg::Ty(ty)) => part_goals(alloc, goal.id, ty)?,
         Some(GenericArg::Const(_)) | None => Vec::new(alloc),
