@@ -6,3 +6,4 @@ pub mod Choices
 pub mod ClauseSteps
 pub mod ClauseChoices
 pub mod PartSteps
+pub mod PartChoices
