@@ -7,3 +7,4 @@ pub mod ClauseSteps
 pub mod ClauseChoices
 pub mod PartSteps
 pub mod PartChoices
+pub mod TypeHeads
