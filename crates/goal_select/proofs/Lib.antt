@@ -8,3 +8,4 @@ pub mod ClauseChoices
 pub mod PartSteps
 pub mod PartChoices
 pub mod TypeHeads
+pub mod ReadFills
