@@ -9,3 +9,5 @@ pub mod PartSteps
 pub mod PartChoices
 pub mod TypeHeads
 pub mod ReadFills
+pub mod Params
+pub mod RuleSteps

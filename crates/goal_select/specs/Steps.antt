@@ -1,11 +1,13 @@
 -- One step of selection: what a goal is made equal to, and what its source asks for.
-use Rattle.std.specs.Prelude.{◌≡◌, ◌<◌, ◌≤◌, ℕ, suc, false, List, [], ◌∷◌, map, slice_get, Option, Some, None}
+use Rattle.std.specs.Prelude.{◌≡◌, ◌<◌, ◌≤◌, ◌++◌, ℕ, suc, false, List, [], ◌∷◌, map, slice_get, Option, Some, None}
+use Rattle.std.specs.List.{range_with_len}
 use Rattle.hir_types.specs.declared.ids.AdtId.{AdtId}
 use Rattle.hir_types.specs.declared.ids.TraitId.{TraitId}
 use Rattle.hir_types.specs.declared.ids.TypeAliasId.{TypeAliasId}
 use Rattle.hir_types.specs.declared.goal.Goal.{Goal}
 use Rattle.hir_types.specs.declared.goal.Goal.TheVariants as goal
 use Rattle.hir_types.specs.declared.head.Hole.{Hole}
+use Rattle.hir_types.specs.declared.head.HoleKind.TheVariants as kind
 use Rattle.hir_types.specs.declared.ty.AliasBound.{AliasBound}
 use Rattle.hir_types.specs.declared.ty.GenericArg.{GenericArg}
 use Rattle.hir_types.specs.declared.ty.GenericArg.TheVariants as arg
@@ -43,6 +45,10 @@ GoalIsOf s g = AreOf s.substitution.kinds (asked_goal g).parts
 -- a type with the arguments of the trait
 abbrev pub goal_type : TraitRef → Ty
 goal_type r = ty.Adt (record { 0 = 0 }) (out-TraitRef r).args
+
+-- with so many new holes for any type
+abbrev pub with_type_holes : State → ℕ → State
+with_type_holes s n = record s { substitution = record s.substitution { kinds = s.substitution.kinds ++ map (λ j. kind.Ty) (range_with_len 0 n) } }
 
 -- ---- parts
 
