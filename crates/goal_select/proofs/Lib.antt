@@ -11,3 +11,5 @@ pub mod TypeHeads
 pub mod ReadFills
 pub mod Params
 pub mod RuleSteps
+pub mod RuleChoices
+pub mod RuleSelected

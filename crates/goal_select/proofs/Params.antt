@@ -69,7 +69,7 @@ fresh_concrete first (hole (hole_of.Const k)) h = tt
 fresh_concrete first (leaf x) h = h
 fresh_concrete first (pair a b) h = (fresh_concrete first a h.0, fresh_concrete first b h.1)
 
-abbrev with_types : List HoleKind → ℕ → List HoleKind
+abbrev pub with_types : List HoleKind → ℕ → List HoleKind
 with_types kinds n = kinds ++ map (λ j. kind.Ty) (range_with_len 0 n)
 
 hole_of_table : (kinds : List HoleKind) (n j : ℕ) → j < n → AreOf (with_types kinds n) (fresh (length kinds) (hole_of.Ty j))
