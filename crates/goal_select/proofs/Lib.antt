@@ -13,3 +13,4 @@ pub mod Params
 pub mod RuleSteps
 pub mod RuleChoices
 pub mod RuleSelected
+pub mod RuleProofs

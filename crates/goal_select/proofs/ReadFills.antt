@@ -61,7 +61,7 @@ module _ (P : Aliases) (one : IsOne P) (reads : AliasIsRead P) (at : Fill) where
   -- ---- what is read in the place of what is not
 
   module _ (v : Fill) where
-    abbrev IsReadBy : Hole → Type 0
+    abbrev pub IsReadBy : Hole → Type 0
     IsReadBy k = ReadsAs P (at k) (v k) × IsRead (v k)
 
     pub reads_by : (t u : Term) → HasHeads t → ((k : Hole) → occurs k t ≡ true → IsReadBy k) → ReadsAs P (apply at t) u → ReadsAs P (apply v t) u
