@@ -1,14 +1,16 @@
 //! What the goals of an item are answered by, and the answers.
-ghost use Rattle.std.specs.Prelude.{◌≡◌, ◌↔◌, IsTrue, IfOk};
+ghost use Rattle.std.specs.Prelude.{◌≡◌, ◌↔◌, IsTrue, IfOk, option_map};
 ghost use Rattle.hir_types.specs.Terms.{term};
+ghost use Rattle.goal_answers.specs.Selecting.{IsChoice};
 ghost use Rattle.goal_search.specs.Sources.{system};
 ghost use Rattle.goal_search.specs.Sized.{IsSizedAt};
+ghost use Rattle.goal_search.specs.Choosing.{choice_of};
 ghost use Rattle.goal_facts.specs.Goals.{asked_goal, IsAnswer};
 ghost use Rattle.goal_facts.specs.Systems.{IsSystemOf};
 
 use crate::asked::asked;
 use crate::sources::sources_of;
-use goal_search::{Answer, Holes, Search, Sources};
+use goal_search::{Answer, Choice, Holes, Search, Sources};
 use goal_terms::type_term;
 use hir_facts::{Facts, GenericDefId, Goal, Ty};
 use std::alloc::{AllocError, Global};
@@ -88,6 +90,23 @@ impl<'a> ItemSources<'a> {
         let goal = asked(alloc, goal)?;
         let depth = self.facts.raw().limits.goal_depth;
         Search::new(alloc, &self.sources).evaluate(&goal, Holes::Stay, depth + 1)
+    }
+
+    /// What a goal, whose holes stay, is selected by at the depth: the clause or the rule of this number, or
+    /// the parts of its self type, where all else is refuted; and that a type has a size by a clause that
+    /// says so, or else by a walk. Nothing where several are left, at depth 0 for all but sizes, and of goals
+    /// about associated types, with aliases in them, or with a hole for their self type.
+    pub fn choose(
+        &self,
+        alloc: Global,
+        goal: &Goal,
+        depth: u32,
+    ) -> Result<Option<Choice>, AllocError>
+        ensures given { IfOk result (λ _. IsSystemOf self.now.facts self.now.item (system self.now.sources)) }
+        ensures answer { IfOk result (λ found. IsChoice (system self.now.sources) depth (asked_goal goal.now) (option_map choice_of found)) }
+    {
+        let goal = asked(alloc, goal)?;
+        Search::new(alloc, &self.sources).choose(&goal, depth)
     }
 
     /// Whether a type, whose holes stay, is known to have a size: a walk along last fields and last parts

@@ -14,7 +14,7 @@ mod item_sources;
 mod proof;
 mod sources;
 
-pub use goal_search::Answer;
+pub use goal_search::{Answer, Choice};
 pub use impl_goals::RuleGoals;
 pub use item_sources::ItemSources;
 pub use proof::{Proof, ProofSource};

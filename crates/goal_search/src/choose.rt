@@ -3,7 +3,7 @@ ghost use Rattle.std.specs.Prelude.{◌≡◌, ◌↔◌, ◌+◌, ◌<◌, IfOk
 ghost use Rattle.goal_answers.specs.Goals.{Each};
 ghost use Rattle.goal_answers.specs.Answers.{Proves, RuleIsRefuted, answers};
 ghost use Rattle.goal_answers.specs.Steps.{known_below};
-ghost use Rattle.goal_answers.specs.Selecting.{IsConcreteHead, IsConcrete, IsTraitKind, IsSelectable, HasConcreteHead, IsOnlySource, SizeIsBy, IsChoice};
+ghost use Rattle.goal_answers.specs.Selecting.{IsTraitKind, IsSelectable, HasConcreteHead, IsOnlySource, SizeIsBy, IsChoice};
 ghost use Rattle.goal_terms.specs.Terms.{term_of, HasHeads};
 ghost use Rattle.goal_search.specs.Sources.{kind_of, asked_of, rule_of, rules_of, system};
 ghost use Rattle.goal_search.specs.Searching.{IsDone, RuleHasHeads};
@@ -16,8 +16,7 @@ use crate::rows::{Copies, copied_goals};
 use crate::rules::Side;
 use crate::search::Search;
 use crate::sources::{Asked, Kind, Rule};
-use goal_terms::Term;
-use hir_types::Head;
+use goal_terms::{Term, is_concrete};
 use std::alloc::AllocError;
 
 /// What a goal is selected by.
@@ -50,28 +49,6 @@ pub enum Row {
     OfParts,
     /// The parts aren't known.
     Unclear,
-}
-
-fn is_concrete_head(head: Head) -> bool
-    ensures { IsTrue result ↔ IsConcreteHead head }
-{
-    match head {
-        Head::Projection(_) | Head::Opaque(_) | Head::Bound(_) => false,
-        Head::Error | Head::UnknownConst => false,
-        _ => true,
-    }
-}
-
-/// Whether neither an alias, nor an opaque type, nor `{unknown}` is in the term.
-#[tactic(auto, using(goal_terms::specs::Terms::term_is))]
-fn is_concrete(term: &Term) -> bool
-    ensures { IsTrue result ↔ IsConcrete (term_of term.now) }
-{
-    match term {
-        Term::Hole(_) => true,
-        Term::Leaf(head) => is_concrete_head(*head),
-        Term::Pair(first, second) => is_concrete(first.get()) && is_concrete(second.get()),
-    }
 }
 
 fn is_trait_kind(kind: Kind) -> bool

@@ -370,3 +370,74 @@ fn tells_sizes_without_a_trait_of_them(rt: HostRuntime) -> Result<(), Fail> {
     );
     Ok(())
 }
+
+// ---- what a goal is selected by
+
+fn chosen(
+    alloc: Global,
+    sources: &Sources,
+    goal: Result<Asked, AllocError>,
+    depth: u32,
+) -> Result<Option<crate::Choice>, AllocError> {
+    let goal = goal?;
+    if !sources_have_heads(sources) || !goal.parts.has_heads() {
+        return Err(AllocError);
+    }
+    let mut search = Search::new(alloc, sources);
+    search.choose(&goal, depth)
+}
+
+#[test]
+fn chooses(rt: HostRuntime) -> Result<(), Fail> {
+    let alloc = rt.alloc();
+    let mut sources = no_sources(alloc)?;
+    sources
+        .rules
+        .push(fact(alloc, implements(alloc, SHOW, Ty::Bool)?))?;
+    sources.rules.push(fact(alloc, implements(alloc, SHOW, adt(alloc, 0, BYTE)?)?))?;
+    sources
+        .rules
+        .push(fact(alloc, implements(alloc, COPY, BYTE)?))?;
+    sources
+        .clauses
+        .push(fact(alloc, implements(alloc, SIZED, Ty::Param(0))?))?;
+    sources.clauses.push(fact(alloc, implements(alloc, SHOW, adt(alloc, 1, Ty::Char)?)?))?;
+    let goal = implements(alloc, SHOW, adt(alloc, 0, Ty::Var(3))?);
+    assert_eq!(rt;
+        chosen(alloc, &sources, goal, 1)?,
+        Some(crate::Choice::Rule(1))
+    );
+    let goal = implements(alloc, SHOW, adt(alloc, 0, Ty::Var(3))?);
+    assert_eq!(rt; chosen(alloc, &sources, goal, 0)?, None);
+    let goal = implements(alloc, SHOW, adt(alloc, 1, Ty::Var(3))?);
+    assert_eq!(rt;
+        chosen(alloc, &sources, goal, 1)?,
+        Some(crate::Choice::Clause(1))
+    );
+    let goal = implements(alloc, SHOW, adt(alloc, 1, Ty::Bool)?);
+    assert_eq!(rt; chosen(alloc, &sources, goal, 1)?, None);
+    let goal = implements(alloc, SHOW, Ty::Var(3));
+    assert_eq!(rt; chosen(alloc, &sources, goal, 1)?, None);
+    let goal = implements(alloc, COPY, tuple(alloc, Ty::Var(3))?);
+    assert_eq!(rt;
+        chosen(alloc, &sources, goal, 1)?,
+        Some(crate::Choice::Parts)
+    );
+    let goal = implements(alloc, COPY, tuple(alloc, Ty::Str)?);
+    assert_eq!(rt; chosen(alloc, &sources, goal, 3)?, None);
+    let goal = implements(alloc, SIZED, tuple(alloc, BYTE)?);
+    assert_eq!(rt;
+        chosen(alloc, &sources, goal, 0)?,
+        Some(crate::Choice::Size)
+    );
+    let goal = implements(alloc, SIZED, Ty::Param(0));
+    assert_eq!(rt;
+        chosen(alloc, &sources, goal, 0)?,
+        Some(crate::Choice::Clause(0))
+    );
+    let goal = implements(alloc, SIZED, Ty::Param(1));
+    assert_eq!(rt; chosen(alloc, &sources, goal, 0)?, None);
+    let goal = implements(alloc, SHOW, item_of(alloc, Ty::Bool)?);
+    assert_eq!(rt; chosen(alloc, &sources, goal, 2)?, None);
+    Ok(())
+}

@@ -1,1 +1,7 @@
 pub mod Asking
+pub mod Growing
+pub mod Pending
+pub mod Proving
+pub mod Right
+pub mod Selecting
+pub mod Standings

@@ -1,5 +1,5 @@
 -- Goals that were asked, what each was selected by, and the proofs of those that are done.
-use Rattle.std.specs.Prelude.{◌≡◌, ◌⊎◌, ◌<◌, ◌≤◌, ◌+◌, ◌-◌, ◌++◌, ℕ, Bool, false, if◌then◌else◌, List, [], ◌∷◌, length, map, slice_get, Option, Some, None, is_none}
+use Rattle.std.specs.Prelude.{◌≡◌, ◌⊎◌, ◌<◌, ◌≤◌, ◌+◌, ◌-◌, ◌++◌, ℕ, Bool, false, if◌then◌else◌, List, [], ◌∷◌, length, map, slice_get, slice_set, Option, Some, None, is_none}
 use Rattle.infer_table.specs.Table.{IsFront}
 use Rattle.hir_types.specs.declared.ids.ExprOrPatId.{ExprOrPatId}
 use Rattle.hir_types.specs.declared.goal.Goal.{Goal}
@@ -21,6 +21,9 @@ IsProvedAt ss i = (k : ℕ) × (m : ℕ) × (n : ℕ) × (slice_get ss i ≡ Som
 -- it has this source, which asks for `n` obligations from number `m` on
 abbrev pub IsSelectedAt : List Standing → ℕ → ProofSource → ℕ → ℕ → Type 0
 IsSelectedAt ss i src m n = slice_get ss i ≡ Some (standing.Selected src m n)
+
+abbrev pub IsWaitingAt : List Standing → ℕ → Type 0
+IsWaitingAt ss i = (src : ProofSource) × (m : ℕ) × (n : ℕ) × IsSelectedAt ss i src m n
 
 -- the same where it is proved
 pub record IsProvedBy (ss : List Standing) (ps : List Proof) (i : ℕ) (src : ProofSource) (m n : ℕ) : Type 0 where
@@ -109,6 +112,24 @@ pub record IsLater (t u : GoalTree) : Type 0 where
   pub sources : (i m n : ℕ) (src : ProofSource) → HasSource t i src m n → HasSource u i src m n
   pub proved : (i k m n : ℕ) → slice_get t.standings.items i ≡ Some (standing.Proved k m n) → slice_get u.standings.items i ≡ Some (standing.Proved k m n)
   pub proofs : IsFront t.proofs.items u.proofs.items
+
+-- the obligation `at`, whose source asks for `n` from number `m` on, has the next proof
+pub record IsProvedNext (t u : GoalTree) (at : ℕ) (x : Proof) (m n : ℕ) : Type 0 where
+  pub obligations : u.obligations.items ≡ t.obligations.items
+  pub standings : u.standings.items ≡ slice_set t.standings.items at (standing.Proved (length t.proofs.items) m n)
+  pub proofs : u.proofs.items ≡ t.proofs.items ++ x ∷ []
+
+-- some of those that have a source may be proved now; all else stays
+pub record IsMoreProved (t u : GoalTree) : Type 0 where
+  pub obligations : u.obligations.items ≡ t.obligations.items
+  pub later : IsLater t u
+  pub sources : (i m n : ℕ) (src : ProofSource) → HasSource u i src m n → HasSource t i src m n
+  pub still_open : (i : ℕ) → IsOpenAt t.standings.items i → IsOpenAt u.standings.items i
+
+-- and the one that is named may be proved next; where none is, none can be proved
+abbrev pub IsProvedUpTo : GoalTree → GoalTree → ℕ → Option ℕ → Type 0
+IsProvedUpTo t u at (Some p) = IsMoreProved t u × IsTreeBut (λ i. i ≡ p) u × IsWaitingAt u.standings.items p × (p < at)
+IsProvedUpTo t u at None = IsMoreProved t u × IsTree u
 
 -- the obligation `at` was selected by the source, which asks for these goals; what else is open stays so, and nothing else was selected
 pub record IsSelectedBy (t u : GoalTree) (at : ℕ) (src : ProofSource) (gs : List Goal) : Type 0 where

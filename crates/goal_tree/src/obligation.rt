@@ -1,6 +1,10 @@
 //! Goals that were asked.
+ghost use Rattle.std.specs.Prelude.{◌≡◌, ◌∷◌, ◌++◌, [], OnOk};
+ghost use Rattle.goal_tree.specs.Trees.{is_pending, pending_of};
+
 use goal_facts::ProofSource;
 use hir_facts::{ExprOrPatId, Goal};
+use std::alloc::{AllocError, Global};
 
 /// A goal that a node asks, or that the source of another asks.
 #[derive(Debug, Drop)]
@@ -30,4 +34,33 @@ pub enum Standing {
         first: usize,
         count: usize,
     },
+}
+
+impl Obligation {
+    /// Whether a node asks it, and it has no proof, where it came so far.
+    fn is_pending(&self, standing: &Standing) -> bool
+        ensures { result ≡ is_pending self.now standing.now }
+    {
+        match standing {
+            Standing::Open | Standing::Selected { .. } => self.parent.is_none(),
+            Standing::Proved { .. } => false,
+        }
+    }
+
+    /// Adds its goal and node to those that are pending, if it is.
+    pub(crate) fn add_pending(
+        &self,
+        alloc: Global,
+        standing: &Standing,
+        pending: &mut Vec<(Goal, ExprOrPatId)>,
+    ) -> Result<(), AllocError>
+        ensures { OnOk result (pending.new.items ≡ pending.old.items ++ pending_of (self.now ∷ []) (standing.now ∷ [])) }
+    {
+        if !self.is_pending(standing) {
+            return Ok(());
+        }
+        let goal = self.goal.dup(alloc)?;
+        pending.push((goal, self.node))?;
+        Ok(())
+    }
 }

@@ -1,8 +1,8 @@
-use Rattle.std.proofs.Common.{◌≡◌, ◌∷◌, [], ◌++◌, length, map, sym, ap, subst, ◌∙◌, append_assoc, append-nil, arith}
+use Rattle.std.proofs.Common.{◌≡◌, ◌∷◌, [], length, map, sym, ap, subst, ◌∙◌, append_assoc, append-nil, arith}
 use Rattle.std.proofs.lemmas.List.{map-append, nil_from_length}
 use Rattle.std.specs.Vec.Iter.{into_iter_items}
 use Rattle.goal_tree.specs.Trees.{asked_by, IsAsked}
-use Rattle.goal_tree.proofs.Asking.{asked_none, asked_more}
+use Rattle.goal_tree.proofs.Asking.{asked_more}
 use Rattle.goal_tree.proofs.tree.GoalTree.ask.Goals as goal
 
 pub loop-goal-preserved : goal.loop-goal-preserved
