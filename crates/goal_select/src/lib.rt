@@ -5,4 +5,4 @@ mod meeting;
 mod parts;
 mod select;
 
-pub use select::Selected;
+pub use select::{Selected, select_goal};

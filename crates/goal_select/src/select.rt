@@ -1,15 +1,15 @@
 //! The source that a goal is selected by, and what it asks for: as rust-analyzer's trait solver confirms
 //! a candidate.
-ghost use Rattle.std.specs.Prelude.{◌≡◌, ◌≤◌, IfOk};
+ghost use Rattle.std.specs.Prelude.{◌≡◌, ◌≤◌, IfOk, OnOk};
 ghost use Rattle.goal_search.specs.Sources.{system};
 ghost use Rattle.goal_answers.specs.Selecting.{by_clause, by_rule, by_parts, by_size};
 ghost use Rattle.goal_facts.specs.declared.proof.ProofSource.TheVariants as source;
 ghost use Rattle.goal_facts.specs.Systems.{IsSystemOf};
-ghost use Rattle.goal_select.specs.Steps.{GoalIsOf, IsKnownIn, IsChosen, SelectsKnown, self_part_goals, IsSelectedIf};
+ghost use Rattle.goal_select.specs.Steps.{GoalIsOf, with_type_holes, IsKnownIn, IsChosen, SelectsKnown, self_part_goals, IsSelectedIf};
 
 use crate::meeting::meet;
 use crate::parts::part_goals;
-use goal_facts::{ItemSources, ProofSource};
+use goal_facts::{Choice, ItemSources, ProofSource};
 use hir_facts::{GenericArg, Goal, Ty};
 use hir_types::TraitRef;
 use infer_table::InferenceTable;
@@ -20,6 +20,40 @@ use std::alloc::{AllocError, Global};
 pub struct Selected {
     pub source: ProofSource,
     pub preds: Vec<Goal>,
+}
+
+/// Selects a goal, with what is known of its holes, by its only source that isn't refuted, which may be
+/// followed for so many steps: makes it equal to what the source says. `None`, with nothing changed,
+/// where nothing selects it.
+pub fn select_goal(
+    alloc: Global,
+    sources: &ItemSources<'_>,
+    table: &mut InferenceTable,
+    goal: &Goal,
+    depth: u32,
+) -> Result<Option<Selected>, AllocError>
+    requires holes { GoalIsOf table.old goal.now }
+    requires depth { depth ≤ sources.now.facts.limits.goal_depth }
+    ensures given { IfOk result (λ _. IsSystemOf sources.now.facts sources.now.item (system sources.now.sources)) }
+    ensures selected { IfOk result (λ found. IsSelectedIf sources.now.facts (system sources.now.sources) depth table.old table.new goal.now found) }
+{
+    let known = table.resolve(goal)?;
+    let Some(choice) = sources.choose(alloc, &known, depth)? else {
+        return Ok(None);
+    };
+    let Goal::Trait(trait_ref) = &known else {
+        unreachable!()
+    };
+    let selected = match choice {
+        Choice::Clause(place) => by_clause(alloc, sources, table, trait_ref, place)?,
+        Choice::Rule(place) => by_rule(alloc, sources, table, trait_ref, place)?,
+        Choice::Parts => by_parts(alloc, trait_ref)?,
+        Choice::Size => Selected {
+            source: ProofSource::BuiltIn,
+            preds: Vec::new(alloc),
+        },
+    };
+    Ok(Some(selected))
 }
 
 /// By the clause of this number, which holds without more.
@@ -49,17 +83,31 @@ fn by_clause(
     })
 }
 
+/// Makes so many holes for any type.
+fn make_holes(table: &mut InferenceTable, count: usize) -> Result<(), AllocError>
+    ensures { OnOk result (table.new ≡ with_type_holes table.old count) }
+{
+    for _ in 0..count {
+        table.next_ty_var()?;
+    }
+    Ok(())
+}
+
+/// By the rule of this number, which an impl has, with new holes for the impl's parameters.
 fn by_rule(
     alloc: Global,
     sources: &ItemSources<'_>,
     table: &mut InferenceTable,
     goal: &TraitRef,
     place: usize,
-) -> Result<Selected, AllocError> {
+) -> Result<Selected, AllocError>
+    requires known { IsKnownIn table.old goal.now }
+    requires chosen { IsChosen sources.now.facts (system sources.now.sources) goal.now (by_rule place) }
+    ensures { IfOk result (λ made. SelectsKnown sources.now.facts (system sources.now.sources) table.old table.new goal.now (by_rule place) made) }
+{
+    table.lawful();
     let rule = sources.rule_goals(alloc, place, table.hole_count())?;
-    for _ in 0..rule.args.len() {
-        table.next_ty_var()?;
-    }
+    make_holes(table, rule.args.len())?;
     let Goal::Trait(head) = &rule.head else {
         unreachable!()
     };
