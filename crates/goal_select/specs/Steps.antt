@@ -139,3 +139,7 @@ abbrev pub SelectsKnown : RawFacts → System → State → State → TraitRef �
 SelectsKnown raw f before after k by made =
     (n : ℕ) → n ≤ raw.limits.goal_depth → Selects f n (trait_goal k) by → (g : Goal) → GoalIsOf before g → known_goal before g ≡ goal.Trait k →
     IsSelected raw f n before after g made
+
+-- built in, where this is asked for
+abbrev pub IsBuiltInBy : Selected → List Goal → Type 0
+IsBuiltInBy made qs = (made.source ≡ source.BuiltIn) × (made.preds.items ≡ qs)

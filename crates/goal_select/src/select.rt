@@ -1,11 +1,11 @@
 //! The source that a goal is selected by, and what it asks for: as rust-analyzer's trait solver confirms
 //! a candidate.
-ghost use Rattle.std.specs.Prelude.{◌≡◌, ◌≤◌, IfOk, OnOk};
+ghost use Rattle.std.specs.Prelude.{◌≡◌, ◌≤◌, [], IfOk, OnOk};
 ghost use Rattle.goal_search.specs.Sources.{system};
-ghost use Rattle.goal_answers.specs.Selecting.{by_clause, by_rule, by_parts, by_size};
-ghost use Rattle.goal_facts.specs.declared.proof.ProofSource.TheVariants as source;
+ghost use Rattle.goal_answers.specs.Selecting.{by_clause, by_rule};
+ghost use Rattle.goal_search.specs.Choosing.{choice_of};
 ghost use Rattle.goal_facts.specs.Systems.{IsSystemOf};
-ghost use Rattle.goal_select.specs.Steps.{GoalIsOf, with_type_holes, IsKnownIn, IsChosen, SelectsKnown, self_part_goals, IsSelectedIf};
+ghost use Rattle.goal_select.specs.Steps.{GoalIsOf, with_type_holes, IsKnownIn, IsChosen, SelectsKnown, self_part_goals, IsBuiltInBy, IsSelectedIf};
 
 use crate::meeting::meet;
 use crate::parts::part_goals;
@@ -41,19 +41,41 @@ pub fn select_goal(
     let Some(choice) = sources.choose(alloc, &known, depth)? else {
         return Ok(None);
     };
-    let Goal::Trait(trait_ref) = &known else {
+    let Goal::Trait(known) = &known else {
         unreachable!()
     };
-    let selected = match choice {
-        Choice::Clause(place) => by_clause(alloc, sources, table, trait_ref, place)?,
-        Choice::Rule(place) => by_rule(alloc, sources, table, trait_ref, place)?,
-        Choice::Parts => by_parts(alloc, trait_ref)?,
-        Choice::Size => Selected {
-            source: ProofSource::BuiltIn,
-            preds: Vec::new(alloc),
-        },
-    };
-    Ok(Some(selected))
+    Ok(Some(by_choice(alloc, sources, table, known, choice)?))
+}
+
+/// By what was chosen for it, of which nothing is known but what the goal has put in already.
+fn by_choice(
+    alloc: Global,
+    sources: &ItemSources<'_>,
+    table: &mut InferenceTable,
+    goal: &TraitRef,
+    choice: Choice,
+) -> Result<Selected, AllocError>
+    requires known { IsKnownIn table.old goal.now }
+    requires chosen { IsChosen sources.now.facts (system sources.now.sources) goal.now (choice_of choice) }
+    ensures { IfOk result (λ made. SelectsKnown sources.now.facts (system sources.now.sources) table.old table.new goal.now (choice_of choice) made) }
+{
+    table.lawful();
+    match choice {
+        Choice::Clause(place) => by_clause(alloc, sources, table, goal, place),
+        Choice::Rule(place) => by_rule(alloc, sources, table, goal, place),
+        Choice::Parts => by_parts(alloc, goal),
+        Choice::Size => Ok(by_size(alloc)),
+    }
+}
+
+/// By its size, which asks for nothing.
+fn by_size(alloc: Global) -> Selected
+    ensures { IsBuiltInBy result [] }
+{
+    Selected {
+        source: ProofSource::BuiltIn,
+        preds: Vec::new(alloc),
+    }
 }
 
 /// By the clause of this number, which holds without more.
@@ -122,8 +144,7 @@ fn by_rule(
 
 /// By its parts, which are copied where each of them is.
 fn by_parts(alloc: Global, goal: &TraitRef) -> Result<Selected, AllocError>
-    ensures source { IfOk result (λ made. made.source ≡ source.BuiltIn) }
-    ensures preds { IfOk result (λ made. made.preds.items ≡ self_part_goals goal.now) }
+    ensures { IfOk result (λ made. IsBuiltInBy made (self_part_goals goal.now)) }
 {
     let preds = match goal.args.get(0) {
         Some(GenericArg::Ty(ty)) => part_goals(alloc, goal.id, ty)?,
