@@ -1,21 +1,20 @@
 -- What a choice tells at each filling of the goal's holes.
-use Rattle.std.proofs.Common.{◌≡◌, ◌≤◌, ◌+◌, ◌-◌, ◌++◌, map, inl, inr, ℕ, Bool, true, false, nat_eq, refl, sym, ap, ◌∙◌, subst, arith, [], slice_get, Some, true≢false}
-use Rattle.std.proofs.lemmas.Bool.{eqb-true, eqb-false, both_ways, eq-eqb}
+use Rattle.std.proofs.Common.{◌≡◌, ◌≤◌, ◌+◌, ◌-◌, ◌++◌, map, inl, inr, ℕ, Bool, true, false, nat_eq, refl, sym, ap, ◌∙◌, subst, arith, []}
+use Rattle.std.proofs.lemmas.Bool.{eqb-true, eqb-false}
 use Rattle.hir_types.specs.declared.ids.TraitId.{TraitId}
 use Rattle.hir_types.specs.declared.goal.Goal.{Goal}
 use Rattle.hir_types.specs.declared.goal.Goal.TheVariants as goal
 use Rattle.hir_types.specs.declared.ty.TraitRef.{TraitRef}
-use Rattle.hir_types.specs.Terms.{Term, hole, apply}
+use Rattle.hir_types.specs.Terms.{Term, apply}
 use Rattle.infer_table.specs.Solutions.{log_of, Solves}
 use Rattle.infer_table.specs.LogLemmas.{solves_left}
 use Rattle.infer_table.specs.Table.{State, bindings, Meets, Grew}
 use Rattle.infer_table.proofs.BindingLaws.{log_of_append}
 use Rattle.hir_raw.specs.declared.raw.RawFacts.{RawFacts}
-use Rattle.goal_answers.specs.Reading.{Fill, IsRead, IsFilling, Aliases, Reads, ReadsAs}
+use Rattle.goal_answers.specs.Reading.{Fill, IsRead, IsFilling, Aliases, ReadsAs}
 use Rattle.goal_answers.specs.Goals.{Kind, implements, projects, Asked, Rule, System, asked_at, key, IsKnown, is_among, OneIf, Each, Verdicts}
-use Rattle.goal_answers.specs.Answers.{RuleIsRefuted, Shadows, ShadowsNot, answers}
+use Rattle.goal_answers.specs.Answers.{Shadows, ShadowsNot, answers}
 use Rattle.goal_answers.specs.Steps.{known_below}
-use Rattle.goal_answers.specs.Proofs.{IsOne}
 use Rattle.goal_answers.specs.Selecting.{Choice, IsTraitKind, IsDeep, IsOnlySource, SizeIsBy, Selects}
 use Rattle.goal_answers.proofs.Lists.{each_map}
 use Rattle.goal_answers.proofs.Readings.{AliasWithin, read_filled, read_reads, reads_within}

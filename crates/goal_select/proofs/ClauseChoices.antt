@@ -1,24 +1,23 @@
 -- A goal that is selected by a clause.
-use Rattle.std.proofs.Common.{◌≡◌, ◌<◌, ◌≤◌, ◌⊎◌, inl, inr, ℕ, Bool, true, false, [], length, map, slice_get, Some, refl, sym, ap, ◌∙◌, subst}
-use Rattle.std.proofs.lemmas.Option.{same_Some, slice_get_within}
+use Rattle.std.proofs.Common.{◌≡◌, ◌<◌, ◌≤◌, ◌⊎◌, inl, inr, ℕ, Bool, true, false, [], length, map, slice_get, Some, sym, ap, ◌∙◌, subst}
+use Rattle.std.proofs.lemmas.Option.{slice_get_within}
 use Rattle.hir_types.specs.declared.ids.GenericDefId.{GenericDefId}
 use Rattle.hir_types.specs.declared.goal.Goal.{Goal}
 use Rattle.hir_types.specs.declared.goal.Goal.TheVariants as goal
 use Rattle.hir_types.specs.declared.ty.TraitRef.{TraitRef}
-use Rattle.hir_types.specs.Terms.{Term, hole, apply, occurs}
+use Rattle.hir_types.specs.Terms.{Term, hole, apply}
 use Rattle.hir_raw.specs.declared.raw.RawFacts.{RawFacts}
 use Rattle.infer_table.specs.Solutions.{resolved, Triangular}
 use Rattle.infer_table.specs.TermLemmas.{apply_agree}
-use Rattle.infer_table.specs.Table.{State, bindings, Meets, CanBeEqual, AreUnified}
-use Rattle.goal_answers.specs.Reading.{Fill, IsFilling, MayRead, Aliases, Reads, ReadsAs}
+use Rattle.infer_table.specs.Table.{State, Meets, CanBeEqual, AreUnified}
+use Rattle.goal_answers.specs.Reading.{Fill, IsFilling, MayRead, Aliases, ReadsAs}
 use Rattle.goal_answers.specs.Goals.{Asked, Rule, System, asked_at, is_among, OneIf, Each}
 use Rattle.goal_answers.specs.Answers.{Proves, RuleIsRefuted, answers}
 use Rattle.goal_answers.specs.Steps.{known_below}
-use Rattle.goal_answers.specs.Selecting.{Choice, by_clause, IsConcrete, IsOnlySource, SizeIsBy, IsDeep, Selects}
+use Rattle.goal_answers.specs.Selecting.{by_clause, IsConcrete, IsOnlySource, SizeIsBy, IsDeep, Selects}
 use Rattle.goal_answers.proofs.Readings.{apply_hole, hole_filling, read_reads, reads_filled, reads_within, reads_agree, reads_may, may_here}
 use Rattle.goal_answers.proofs.Filled.{answers_stay}
 use Rattle.goal_terms.specs.Types.{concrete_plain, concrete_read}
-use Rattle.goal_facts.specs.declared.proof.ProofSource.{ProofSource}
 use Rattle.goal_facts.specs.declared.proof.ProofSource.TheVariants as source
 use Rattle.goal_facts.specs.Goals.{trait_goal, asked_goal}
 use Rattle.goal_facts.specs.Systems.{ClausesAre}
@@ -29,7 +28,7 @@ use Rattle.goal_select.specs.Steps.{known_goal, goal_type, GoalIsOf, IsSelected}
 use Rattle.goal_select.proofs.Known.{log, known_stays}
 use Rattle.goal_select.proofs.Uniting.{united}
 use Rattle.goal_select.proofs.Clauses.{HasNoHoles, IsClosedFact, clause_closed}
-use Rattle.goal_select.proofs.Choices.{same_kind, within, more_aliases, goal_reads, right_source}
+use Rattle.goal_select.proofs.Choices.{same_kind, more_aliases, goal_reads, right_source}
 use Rattle.goal_select.proofs.ClauseSteps.{no_holes_stay, clause_can}
 
 -- a term without holes stays
@@ -118,8 +117,8 @@ module _ (raw : RawFacts) (item : GenericDefId) (f : System) (are : ClausesAre r
           by_case (inr p) =
               let plain : IsConcrete (trait_goal h).parts = subst (λ (y : Asked). IsConcrete y.parts) (sym is) p.0 in
               let same : there ≡ x =
-                  united before k h (known_stays before g k known acyclic) (no_holes_stay before (trait_goal h).parts head_none) after met (concrete_plain (trait_goal k).parts selects.selectable.concrete) (concrete_plain (trait_goal h).parts plain) t m
-                  ∙ no_holes_apply t (trait_goal h).parts head_none ∙ ap (λ (y : Asked). y.parts) is in
+              united before k h (known_stays before g k known acyclic) (no_holes_stay before (trait_goal h).parts head_none) after met (concrete_plain (trait_goal k).parts selects.selectable.concrete) (concrete_plain (trait_goal h).parts plain) t m
+              ∙ no_holes_apply t (trait_goal h).parts head_none ∙ ap (λ (y : Asked). y.parts) is in
               subst (ReadsAs P x) (sym same) (read_reads P x (concrete_read x p.0))
 
       pub clause_selected : (made : Selected) → made.source ≡ source.Clause (goal.Trait h) → made.preds.items ≡ [] → IsSelected raw f n before after g made

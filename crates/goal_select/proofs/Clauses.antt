@@ -17,7 +17,7 @@ use Rattle.hir_raw.specs.declared.raw.RawFacts.{RawFacts}
 use Rattle.hir_raw.specs.Scope.{generic_params}
 use Rattle.infer_table.specs.TermLemmas.{hole_eq_true, hole_eq_same, pair_left, pair_right}
 use Rattle.goal_answers.specs.Reading.{Fill}
-use Rattle.goal_answers.specs.Goals.{Asked, Rule, asked_at}
+use Rattle.goal_answers.specs.Goals.{Asked, Rule}
 use Rattle.goal_answers.specs.Rows.{IsNth}
 use Rattle.goal_facts.specs.Arguments.{own_params, goal_at}
 use Rattle.goal_facts.specs.Environment.{own_clause, trait_holes, IsStated, IsSuper, Follows}

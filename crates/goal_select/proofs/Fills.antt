@@ -1,12 +1,12 @@
 -- What stands for the holes of a table, and for those that are made for the parameters of an impl.
-use Rattle.std.proofs.Common.{◌≡◌, ◌<◌, ◌≤◌, ◌+◌, ◌-◌, ℕ, Bool, true, false, cond, nat_lt, refl, sym, ap, ap₂, ◌∙◌, subst, arith, List, length, inl, inr, true≢false}
+use Rattle.std.proofs.Common.{◌≡◌, ◌<◌, ◌≤◌, ◌+◌, ◌-◌, ℕ, Bool, true, false, cond, nat_lt, sym, ap, ◌∙◌, subst, arith, List, length, inl, inr, true≢false}
 use Rattle.std.proofs.lemmas.Bool.{or_cases, false_from_ne_true, lt-ltb, le-ltb}
 use Rattle.std.proofs.lemmas.Option.{slice_get_within}
 use Rattle.hir_types.specs.declared.head.Hole.{Hole}
 use Rattle.hir_types.specs.declared.head.Hole.TheVariants as hole_of
 use Rattle.hir_types.specs.declared.head.HoleKind.{HoleKind}
 use Rattle.hir_types.specs.Terms.{Term, hole, leaf, pair, apply, occurs, hole_number, IsInt}
-use Rattle.infer_table.specs.Solutions.{Log, resolved, binds, Solves, Respects, Free, hole_kind, AreOf}
+use Rattle.infer_table.specs.Solutions.{Log, Solves, Respects, Free, hole_kind, AreOf}
 use Rattle.infer_table.specs.LogLemmas.{BindsOf, binds_found, binds_of_found}
 use Rattle.infer_table.specs.OpenedLaws.{solves_same}
 use Rattle.infer_table.specs.OpenedKinds.{below_of, log_below_of}
@@ -66,9 +66,9 @@ pub joined_fresh : (n m : ℕ) (s v : Fill) (t : Term) → HasHolesBelow m t →
 joined_fresh n m s v t h =
     apply_apply (joined n s v) (fresh n) t
     ∙ apply_agree (λ k. apply (joined n s v) (fresh n k)) v t (λ k o.
-        let q = h k o in
-        let P : Hole → Type 0 = λ x. apply (joined n s v) (fresh n x) ≡ v x in
-        subst P (sym q.2) (joined_new n s v q.0))
+    let q = h k o in
+    let P : Hole → Type 0 = λ x. apply (joined n s v) (fresh n x) ≡ v x in
+    subst P (sym q.2) (joined_new n s v q.0))
 
 respects_at : (n : ℕ) (s v : Fill) (m : ℕ) (b : Bool) → Respects s → IsInt (cond b (s (hole_of.Int m)) (hole (hole_of.Int m)))
 respects_at n s v m true r = r (hole_of.Int m) tt

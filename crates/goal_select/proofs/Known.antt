@@ -1,10 +1,9 @@
 -- Goals with what is known of their holes.
-use Rattle.std.proofs.Common.{◌≡◌, refl, sym, ap, ◌∙◌, subst, map, [], List}
+use Rattle.std.proofs.Common.{◌≡◌, sym, ap, ◌∙◌, subst, map, List}
 use Rattle.hir_types.specs.declared.ids.AdtId.{AdtId}
 use Rattle.hir_types.specs.declared.goal.Goal.{Goal}
 use Rattle.hir_types.specs.declared.goal.Goal.TheVariants as goal
 use Rattle.hir_types.specs.declared.head.Head.TheVariants as head
-use Rattle.hir_types.specs.declared.head.Hole.{Hole}
 use Rattle.hir_types.specs.declared.head.HoleKind.{HoleKind}
 use Rattle.hir_types.specs.declared.ty.GenericArg.{GenericArg}
 use Rattle.hir_types.specs.declared.ty.TraitRef.{TraitRef, out-TraitRef}
@@ -12,7 +11,7 @@ use Rattle.hir_types.specs.declared.ty.Ty.TheVariants as ty
 use Rattle.hir_types.specs.Goals.{goal_replaced}
 use Rattle.hir_types.specs.Subst.{Assignment, with_holes, args_replaced, trait_replaced}
 use Rattle.hir_types.specs.Replacements.{replaced_adt, trait_replaced_is}
-use Rattle.hir_types.specs.Terms.{Term, hole, leaf, pair, chain, apply, term, arg_term, terms_of}
+use Rattle.hir_types.specs.Terms.{Term, leaf, pair, chain, apply, term, arg_term, terms_of}
 use Rattle.hir_types.specs.TermLaws.{term_folded, term_adt}
 use Rattle.infer_table.specs.declared.binding.Binding.{Binding}
 use Rattle.infer_table.specs.Solutions.{Log, resolved, log_of, Triangular, AreOf}
@@ -20,7 +19,7 @@ use Rattle.infer_table.specs.LogLemmas.{solution, solution_apply, resolved_apply
 use Rattle.infer_table.specs.TermLemmas.{apply_agree, pair_right}
 use Rattle.infer_table.specs.Resolution.{resolution, resolution_terms, resolution_term}
 use Rattle.infer_table.specs.Bindings.{AllOf}
-use Rattle.infer_table.specs.Table.{State, bindings, resolved_term, HolesAreOf, Meets}
+use Rattle.infer_table.specs.Table.{State, bindings, resolved_term, Meets}
 use Rattle.infer_table.proofs.BindingLaws.{resolved_made}
 use Rattle.goal_answers.specs.Reading.{Fill}
 use Rattle.goal_answers.specs.Goals.{Asked, implements, projects, asked_at}

@@ -1,15 +1,14 @@
 -- Holes that are made for the parameters of an impl.
-use Rattle.std.proofs.Common.{◌≡◌, ◌<◌, ◌+◌, ◌++◌, inl, inr, ℕ, zero, suc, true, refl, sym, ap, ◌∙◌, subst, arith, List, [], ◌∷◌, length, map, slice_get, Some, append_assoc, append-nil, true≢false}
+use Rattle.std.proofs.Common.{◌≡◌, ◌<◌, ◌+◌, ◌++◌, ℕ, zero, suc, refl, sym, ap, ◌∙◌, subst, arith, List, [], ◌∷◌, length, map, slice_get, Some, append_assoc, append-nil}
 use Rattle.std.specs.List.{range_with_len}
-use Rattle.std.proofs.lemmas.Bool.{or_cases, or_left, or_right}
+use Rattle.std.proofs.lemmas.Bool.{or_left, or_right}
 use Rattle.hir_types.specs.declared.head.Hole.{Hole}
 use Rattle.hir_types.specs.declared.head.Hole.TheVariants as hole_of
 use Rattle.hir_types.specs.declared.head.HoleKind.{HoleKind}
 use Rattle.hir_types.specs.declared.head.HoleKind.TheVariants as kind
 use Rattle.hir_types.specs.declared.ty.Ty.TheVariants as ty
-use Rattle.hir_types.specs.declared.ty.GenericArg.{GenericArg}
 use Rattle.hir_types.specs.declared.ty.GenericArg.TheVariants as arg
-use Rattle.hir_types.specs.Terms.{Term, hole, leaf, pair, apply, occurs, term}
+use Rattle.hir_types.specs.Terms.{Term, hole, leaf, pair, apply, occurs}
 use Rattle.hir_types.specs.TermLaws.{term_var}
 use Rattle.infer_table.specs.Solutions.{AreOf}
 use Rattle.infer_table.specs.LogLemmas.{are_of_hole, are_of_leaf, are_of_pair}
@@ -55,9 +54,9 @@ param_at t first n j less =
 pub at_params : (t : Fill) (first n : ℕ) (u : Term) → HasHolesBelow n u → apply (args_fill t (holes_from first n)) u ≡ apply t (apply (fresh first) u)
 at_params t first n u h =
     apply_agree (args_fill t (holes_from first n)) (λ k. apply t (fresh first k)) u (λ k o.
-        let q = h k o in
-        let P : Hole → Type 0 = λ x. args_fill t (holes_from first n) x ≡ apply t (fresh first x) in
-        subst P (sym q.2) (param_at t first n q.0 q.1))
+    let q = h k o in
+    let P : Hole → Type 0 = λ x. args_fill t (holes_from first n) x ≡ apply t (fresh first x) in
+    subst P (sym q.2) (param_at t first n q.0 q.1))
     ∙ sym (apply_apply t (fresh first) u)
 
 -- ---- terms over the holes

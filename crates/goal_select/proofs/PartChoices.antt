@@ -1,17 +1,16 @@
 -- A goal that is selected by the parts of its self type, or by its size.
-use Rattle.std.proofs.Common.{◌≡◌, ◌≤◌, inl, inr, ℕ, suc, Bool, true, false, refl, sym, ap, ◌∙◌, subst, List, [], ◌∷◌, map, Option, Some}
-use Rattle.hir_types.specs.declared.ids.TypeAliasId.{TypeAliasId}
+use Rattle.std.proofs.Common.{◌≡◌, ◌≤◌, inl, inr, ℕ, suc, Bool, true, false, refl, sym, ap, ◌∙◌, subst, List, [], ◌∷◌, map}
 use Rattle.hir_types.specs.declared.goal.Goal.{Goal}
 use Rattle.hir_types.specs.declared.goal.Goal.TheVariants as goal
 use Rattle.hir_types.specs.declared.ty.TraitRef.{TraitRef}
 use Rattle.hir_types.specs.Terms.{Term, apply}
 use Rattle.hir_raw.specs.declared.raw.RawFacts.{RawFacts}
 use Rattle.infer_table.specs.Bindings.{AllOf}
-use Rattle.infer_table.specs.Table.{State, bindings, Meets}
+use Rattle.infer_table.specs.Table.{State, bindings}
 use Rattle.infer_table.proofs.UndoLaws.{grew_itself}
-use Rattle.goal_answers.specs.Reading.{Fill, IsFilling, Aliases}
-use Rattle.goal_answers.specs.Goals.{Kind, Asked, System, asked_at, self_type, only, is_among, OneIf, Each}
-use Rattle.goal_answers.specs.Rows.{types_of, EachType, Copied, copied, CopyYes}
+use Rattle.goal_answers.specs.Reading.{Fill}
+use Rattle.goal_answers.specs.Goals.{Kind, Asked, System, asked_at, only, is_among, OneIf, Each}
+use Rattle.goal_answers.specs.Rows.{types_of, EachType, Copied, CopyYes}
 use Rattle.goal_answers.specs.Answers.{answers}
 use Rattle.goal_answers.specs.Steps.{known_below}
 use Rattle.goal_answers.specs.Proofs.{HasProof, Says}
@@ -22,7 +21,7 @@ use Rattle.goal_facts.specs.declared.proof.ProofSource.TheVariants as source
 use Rattle.goal_facts.specs.Goals.{trait_goal, asked_goal}
 use Rattle.goal_facts.specs.Proofs.{filled_goal, IsSource}
 use Rattle.goal_select.specs.declared.select.Selected.{Selected}
-use Rattle.goal_select.specs.Steps.{known_goal, GoalIsOf, self_part_goals, IsSourceBy, IsTableOf, LosesNothing, IsSelected}
+use Rattle.goal_select.specs.Steps.{known_goal, GoalIsOf, self_part_goals, LosesNothing, IsSelected}
 use Rattle.goal_select.proofs.Known.{known_of, known_filled}
 use Rattle.goal_select.proofs.Choices.{goal_reads, unshadowed, has_size, right_source}
 use Rattle.goal_select.proofs.PartSteps.{types_at, parts_at, part_goals_at, part_goals_of}

@@ -1,30 +1,28 @@
 -- A goal that is selected by the parts of its self type.
-use Rattle.std.proofs.Common.{◌≡◌, inl, inr, ℕ, Bool, true, false, refl, sym, ap, ap₂, ◌∙◌, subst, List, [], ◌∷◌, map, Some, Option, None, slice_get}
+use Rattle.std.proofs.Common.{◌≡◌, refl, sym, ap, ap₂, ◌∙◌, subst, List, [], ◌∷◌, map, Some, Option, None, slice_get}
 use Rattle.hir_types.specs.declared.ids.TraitId.{TraitId}
 use Rattle.hir_types.specs.declared.head.Head.TheVariants as head
 use Rattle.hir_types.specs.declared.head.HoleKind.{HoleKind}
-use Rattle.hir_types.specs.declared.goal.Goal.{Goal}
 use Rattle.hir_types.specs.declared.ty.AliasBound.{AliasBound}
 use Rattle.hir_types.specs.declared.ty.Const.{Const}
 use Rattle.hir_types.specs.declared.ty.Const.TheVariants as const
 use Rattle.hir_types.specs.declared.ty.GenericArg.{GenericArg}
 use Rattle.hir_types.specs.declared.ty.GenericArg.TheVariants as arg
-use Rattle.hir_types.specs.declared.ty.Mutability.{Mutability}
 use Rattle.hir_types.specs.declared.ty.Mutability.TheVariants as mutability
 use Rattle.hir_types.specs.declared.ty.TraitRef.{TraitRef, out-TraitRef}
-use Rattle.hir_types.specs.declared.ty.Ty.{Ty, Ty-F, out-Ty, roll-Ty, roll-out-Ty}
-use Rattle.hir_types.specs.Folds.{map_twice, in_ty}
+use Rattle.hir_types.specs.declared.ty.Ty.{Ty, Ty-F, out-Ty, roll-out-Ty}
+use Rattle.hir_types.specs.Folds.{in_ty}
 use Rattle.hir_types.specs.Terms.{Term, hole, leaf, pair, chain, apply, type_part, const_term, const_part, arg_term, ty_step, term}
 use Rattle.hir_types.specs.TermLaws.{terms, term_at, arg_term_type, arg_term_const}
 use Rattle.infer_table.specs.Solutions.{AreOf}
 use Rattle.infer_table.specs.LogLemmas.{are_of_leaf, are_of_pair, are_of_parts}
 use Rattle.goal_answers.specs.Reading.{Fill}
 use Rattle.goal_answers.specs.Goals.{Kind, implements, Asked, System, IsKnown, self_type, only, Each}
-use Rattle.goal_answers.specs.Rows.{with_part, types_of, Copied, with_parts, by_impls, unclear, copied}
+use Rattle.goal_answers.specs.Rows.{with_part, types_of, with_parts, copied}
 use Rattle.goal_answers.specs.Selecting.{CopiesParts}
 use Rattle.goal_facts.specs.Goals.{trait_goal, asked_goal}
 use Rattle.goal_facts.specs.Proofs.{filled_goal}
-use Rattle.goal_select.specs.Steps.{only_goal, part_types, part_goals, goals_of_first, self_part_goals}
+use Rattle.goal_select.specs.Steps.{only_goal, part_types, goals_of_first, self_part_goals}
 
 -- ---- the parts of a type
 
@@ -40,7 +38,6 @@ no_types s t e = record { parts = leaf head.End; copied = e; types = refl }
 tuple_types : (s : Fill) (ts : List Ty) → types_of (apply s (chain (map type_part (map term ts)))) ≡ Some (map (λ u. apply s (term u)) ts)
 tuple_types s [] = refl
 tuple_types s (t ∷ ts) = ap (with_part (pair (leaf head.TypePart) (apply s (term t)))) (tuple_types s ts)
-
 
 step_parts : (s : Fill) (x : Ty-F GenericArg Ty AliasBound TraitRef) (p : Term) → copied (ty_step (in_ty terms x)) ≡ with_parts p → HasParts s (ty_step (in_ty terms x)) (part_types x)
 step_parts s Ty-F.Never p e = no_types s (ty_step (in_ty terms Ty-F.Never)) refl

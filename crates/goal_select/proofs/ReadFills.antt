@@ -1,12 +1,12 @@
 -- What stands for the holes of a rule, read.
-use Rattle.std.proofs.Common.{◌≡◌, ◌⊎◌, inl, inr, ℕ, zero, suc, Bool, true, false, ◌||◌, refl, sym, ap, ◌∙◌, subst, List, [], ◌∷◌, true≢false}
+use Rattle.std.proofs.Common.{◌≡◌, ◌⊎◌, inl, inr, ℕ, zero, suc, Bool, true, false, ◌||◌, refl, sym, subst, List, [], ◌∷◌, true≢false}
 use Rattle.std.proofs.lemmas.Bool.{or_cases, or_left, or_right}
 use Rattle.hir_types.specs.declared.head.Hole.{Hole}
 use Rattle.hir_types.specs.declared.ids.TypeAliasId.{TypeAliasId}
 use Rattle.hir_types.specs.Terms.{Term, hole, leaf, pair, apply, occurs}
 use Rattle.infer_table.specs.TermLemmas.{apply_agree, hole_eq_true, hole_eq_same}
-use Rattle.goal_answers.specs.Reading.{Fill, Role, plain, alias, role, IsRead, Aliases, Reads, ReadsAs}
-use Rattle.goal_answers.specs.Goals.{Asked, System, asked_at, Each}
+use Rattle.goal_answers.specs.Reading.{Fill, Role, plain, alias, role, IsRead, Aliases, ReadsAs}
+use Rattle.goal_answers.specs.Goals.{Asked, System, asked_at}
 use Rattle.goal_answers.specs.Proofs.{IsOne, HasProof}
 use Rattle.goal_answers.proofs.Readings.{ReadsBy, read_reads, reads_one}
 use Rattle.goal_answers.proofs.Levels.{AliasIsRead, reads_read}

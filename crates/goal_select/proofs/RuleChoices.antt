@@ -1,38 +1,28 @@
 -- A goal that is selected by a rule.
-use Rattle.std.proofs.Common.{◌≡◌, ◌<◌, ◌≤◌, ◌⊎◌, inl, inr, ℕ, suc, Bool, true, false, refl, sym, ap, ap₂, ◌∙◌, subst, List, [], ◌∷◌, length, map, slice_get, Some}
-use Rattle.std.proofs.lemmas.Option.{same_Some, slice_get_within}
+use Rattle.std.proofs.Common.{◌≡◌, ◌<◌, inl, ℕ, Bool, true, false, refl, sym, ap, ap₂, ◌∙◌, subst, List, [], ◌∷◌, length, map, slice_get, Some}
 use Rattle.hir_types.specs.declared.ids.GenericDefId.TheVariants as generic
 use Rattle.hir_types.specs.declared.head.HoleKind.{HoleKind}
-use Rattle.hir_types.specs.declared.goal.Goal.{Goal}
-use Rattle.hir_types.specs.declared.goal.Goal.TheVariants as goal
-use Rattle.hir_types.specs.declared.ty.TraitRef.{TraitRef}
 use Rattle.hir_types.specs.Folds.{map_twice}
-use Rattle.hir_types.specs.Terms.{Term, apply}
+use Rattle.hir_types.specs.Terms.{apply}
 use Rattle.hir_raw.specs.declared.raw.RawFacts.{RawFacts}
 use Rattle.hir_raw.specs.Scope.{generic_params}
-use Rattle.infer_table.specs.Bindings.{AllOf}
-use Rattle.infer_table.specs.Solutions.{Triangular, AreOf}
+use Rattle.infer_table.specs.Solutions.{AreOf}
 use Rattle.infer_table.specs.LogLemmas.{are_of_more}
-use Rattle.infer_table.specs.Table.{State, bindings, hole_count, Meets, Grew, CanBeEqual, AreUnified}
-use Rattle.infer_table.proofs.HoleLaws.{grew_twice}
-use Rattle.goal_answers.specs.Reading.{Fill, IsFilling, MayRead, Aliases, ReadsAs}
+use Rattle.infer_table.specs.Table.{State, hole_count, Grew}
+use Rattle.goal_answers.specs.Reading.{Fill}
 use Rattle.goal_answers.specs.Goals.{Asked, Rule, System, asked_at, is_among, OneIf, Each}
 use Rattle.goal_answers.specs.Answers.{RuleIsRefuted, answers}
 use Rattle.goal_answers.specs.Steps.{known_below}
 use Rattle.goal_answers.proofs.Lists.{each_map}
-use Rattle.goal_answers.specs.Selecting.{Choice, by_rule, IsConcrete, IsTraitKind, IsOnlySource, SizeIsBy, IsDeep, Selects}
+use Rattle.goal_answers.specs.Selecting.{by_rule, IsConcrete, IsTraitKind, IsOnlySource, SizeIsBy, IsDeep, Selects}
 use Rattle.goal_facts.specs.declared.impl_goals.RuleGoals.{RuleGoals}
-use Rattle.goal_facts.specs.declared.proof.ProofSource.TheVariants as source
-use Rattle.goal_facts.specs.Goals.{trait_goal, asked_goal}
+use Rattle.goal_facts.specs.Goals.{asked_goal}
 use Rattle.goal_facts.specs.ImplGoals.{fresh, holes_from, HasHolesBelow, AreGoalsOf}
-use Rattle.goal_facts.specs.Proofs.{filled_goal, args_fill, IsSource, IsImplAt}
-use Rattle.goal_facts.proofs.Following.{entry_at}
-use Rattle.goal_select.specs.Steps.{known_goal, goal_type, GoalIsOf, with_type_holes}
-use Rattle.goal_select.proofs.Known.{log}
-use Rattle.goal_select.proofs.Choices.{same_kind, goal_reads, unshadowed}
+use Rattle.goal_facts.specs.Proofs.{filled_goal, args_fill}
+use Rattle.goal_select.specs.Steps.{GoalIsOf, with_type_holes}
+use Rattle.goal_select.proofs.Choices.{same_kind}
 use Rattle.goal_select.proofs.PartChoices.{each_from_map}
 use Rattle.goal_select.proofs.Params.{at_params, with_types, fresh_of}
-use Rattle.goal_select.proofs.RuleSteps.{rule_can}
 
 -- ---- the rule that is chosen
 
@@ -92,12 +82,16 @@ module _ (raw : RawFacts) (s : State) (r : Rule) (made : RuleGoals) (are : AreGo
   pub head_filled : (t : Fill) → apply (args_fill t made.args) r.head.parts ≡ apply t (apply (fresh (hole_count s)) r.head.parts)
   head_filled t = ap (λ xs. apply (args_fill t xs) r.head.parts) are.args ∙ at_params t (hole_count s) params r.head.parts are.head_holes
 
-  -- and the table made their holes
+  -- what the table made it has made afterwards
+  later_of : (after : State) → Grew (with_type_holes s params) after → (q : Asked) → AreOf (with_types s.substitution.kinds params) q.parts → AreOf after.substitution.kinds q.parts
+  later_of after grew q h =
+      let kinds = with_types s.substitution.kinds params in
+      subst (λ ks. AreOf ks q.parts) (sym grew.kinds.1) (are_of_more kinds grew.kinds.0 q.parts h)
+
+  -- the table made their holes
   pub preds_of : (after : State) → Grew (with_type_holes s params) after → Each (GoalIsOf after) made.preds.items
   preds_of after grew =
       let kinds = s.substitution.kinds in
       let P : Asked → Type 0 = λ q. AreOf after.substitution.kinds q.parts in
-      let more : (q : Asked) → AreOf (with_types kinds params) q.parts → P q =
-          λ q h. subst (λ ks. AreOf ks q.parts) (sym grew.kinds.1) (are_of_more (with_types kinds params) grew.kinds.0 q.parts h) in
-      let all = each_map more (map (asked_at (fresh (length kinds))) r.preds) (fresh_preds_of kinds params r.preds are.pred_holes) in
+      let all = each_map (later_of after grew) (map (asked_at (fresh (length kinds))) r.preds) (fresh_preds_of kinds params r.preds are.pred_holes) in
       each_from_map P asked_goal made.preds.items (subst (Each P) (sym are.preds) all)

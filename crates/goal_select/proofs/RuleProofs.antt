@@ -1,5 +1,5 @@
 -- The proofs that a goal has where a rule selects it.
-use Rattle.std.proofs.Common.{◌≡◌, ◌<◌, inl, inr, ℕ, zero, suc, Bool, true, false, refl, sym, ap, ◌∙◌, subst, List, [], ◌∷◌, length, map, slice_get, Option, Some, None, true≢false}
+use Rattle.std.proofs.Common.{◌≡◌, inl, inr, ℕ, zero, suc, true, sym, ap, ◌∙◌, subst, List, [], ◌∷◌, map, slice_get, Option, Some, None, true≢false}
 use Rattle.std.proofs.lemmas.Bool.{or_cases, or_left, or_right}
 use Rattle.std.proofs.lemmas.Option.{same_Some}
 use Rattle.hir_types.specs.declared.ids.TypeAliasId.{TypeAliasId}
@@ -7,7 +7,7 @@ use Rattle.hir_types.specs.declared.head.Hole.{Hole}
 use Rattle.hir_types.specs.declared.goal.Goal.{Goal}
 use Rattle.hir_types.specs.declared.goal.Goal.TheVariants as goal
 use Rattle.hir_types.specs.declared.ty.TraitRef.{TraitRef}
-use Rattle.hir_types.specs.Terms.{Term, hole, apply, occurs}
+use Rattle.hir_types.specs.Terms.{Term, apply, occurs}
 use Rattle.hir_raw.specs.declared.raw.RawFacts.{RawFacts}
 use Rattle.hir_raw.specs.declared.raw.RawGoal.{RawGoal}
 use Rattle.hir_raw.specs.declared.raw.RawImpl.{RawImpl}
@@ -16,10 +16,9 @@ use Rattle.infer_table.specs.Bindings.{AllOf}
 use Rattle.infer_table.specs.Solutions.{Triangular}
 use Rattle.infer_table.specs.Table.{State, bindings, hole_count, Meets, AreUnified}
 use Rattle.goal_answers.specs.Reading.{Fill, IsRead, IsFilling, Aliases}
-use Rattle.goal_answers.specs.Goals.{Kind, Asked, Rule, System, asked_at, Each}
-use Rattle.goal_answers.specs.Answers.{answers}
+use Rattle.goal_answers.specs.Goals.{Asked, Rule, System, asked_at, Each}
 use Rattle.goal_answers.specs.Proofs.{IsOne, IsSource, HasProof, Says}
-use Rattle.goal_answers.specs.Selecting.{by_rule, IsConcrete, Selects}
+use Rattle.goal_answers.specs.Selecting.{by_rule, Selects}
 use Rattle.goal_answers.proofs.Readings.{read_filled, read_reads}
 use Rattle.goal_answers.proofs.Levels.{AliasIsRead}
 use Rattle.goal_answers.proofs.Sole.{selected_is_the_source}
@@ -27,7 +26,7 @@ use Rattle.goal_terms.specs.Terms.{HasHeads}
 use Rattle.goal_terms.specs.Types.{concrete_read, concrete_reads}
 use Rattle.goal_facts.specs.declared.impl_goals.RuleGoals.{RuleGoals}
 use Rattle.goal_facts.specs.Arguments.{goal_at}
-use Rattle.goal_facts.specs.Impls.{impl_holes, trait_rule, assoc_rule, impl_rules, rules_for}
+use Rattle.goal_facts.specs.Impls.{impl_holes, trait_rule, assoc_rule, rules_for}
 use Rattle.goal_facts.specs.Goals.{trait_goal, asked_goal}
 use Rattle.goal_facts.specs.ImplGoals.{fresh, HasHolesBelow, AreGoalsOf}
 use Rattle.goal_facts.specs.Proofs.{filled_goal}
@@ -85,20 +84,20 @@ module _ (f : System) (P : Aliases) (one : IsOne P) (reads : AliasIsRead P) (at 
     abbrev pub terms : List Term
     terms = r.head.parts ∷ map (λ q. q.parts) r.preds
 
-    pub known : (k : Hole) → some_has terms k ≡ true → IsReadAt P at k
-    known k o = elim (or_cases (occurs k r.head.parts) (some_has (map (λ q. q.parts) r.preds) k) o) [
+    pub hole_read : (k : Hole) → some_has terms k ≡ true → IsReadAt P at k
+    hole_read k o = elim (or_cases (occurs k r.head.parts) (some_has (map (λ q. q.parts) r.preds) k) o) [
       | inl e ↦ let here = read_of_read at r.head.parts read k e in record { term = at k; reads = read_reads P (at k) here; read = here }
       | inr e ↦ preds_read r.preds heads proofs k e
     ]
 
     abbrev pub rule_fill : Fill
-    rule_fill = read_fill P at terms known
+    rule_fill = read_fill P at terms hole_read
 
     pub rule_fill_read : (k : Hole) → IsRead (rule_fill k)
-    rule_fill_read = fill_read P at terms known
+    rule_fill_read = fill_read P at terms hole_read
 
     is_by : (k : Hole) → some_has terms k ≡ true → IsReadBy P one reads at rule_fill k
-    is_by k o = (fill_reads P at terms known k o, rule_fill_read k)
+    is_by k o = (fill_reads P at terms hole_read k o, rule_fill_read k)
 
     pub rule_fill_head : apply rule_fill r.head.parts ≡ apply at r.head.parts
     rule_fill_head = same_by P one reads at rule_fill r.head.parts read (λ k o. is_by k (or_left (occurs k r.head.parts) (some_has (map (λ q. q.parts) r.preds) k) o))
@@ -153,8 +152,7 @@ module _ (raw : RawFacts) (f : System) (n : ℕ) (k : TraitRef) (i : ℕ) (selec
     lost_nothing =
         let first = hole_count before in
         let t = joined first s v in
-        let proofs = fresh_preds (HasProof f P height) first (params raw before r goals are) s v r.preds are.pred_holes (rule_fill_preds f P one of_table.read from.at height r head_read heads from.preds) in
-        (
+        let proofs = fresh_preds (HasProof f P height) first (params raw before r goals are) s v r.preds are.pred_holes (rule_fill_preds f P one of_table.read from.at height r head_read heads from.preds) in (
           t,
           joined_filling first s v filling (rule_fill_read f P one of_table.read from.at height r head_read heads from.preds),
           joined_below first s v,

@@ -1,17 +1,16 @@
 -- What comes of a rule that is chosen.
-use Rattle.std.proofs.Common.{◌≡◌, ◌<◌, ◌≤◌, ◌⊎◌, inl, inr, ℕ, suc, Bool, true, false, refl, sym, ap, ap₂, ◌∙◌, subst, List, [], ◌∷◌, length, map, slice_get, Some}
-use Rattle.std.proofs.lemmas.Option.{same_Some}
+use Rattle.std.proofs.Common.{◌≡◌, ◌≤◌, inl, inr, ℕ, sym, ap, ◌∙◌, subst, map, slice_get, Some}
 use Rattle.hir_types.specs.declared.goal.Goal.{Goal}
 use Rattle.hir_types.specs.declared.goal.Goal.TheVariants as goal
 use Rattle.hir_types.specs.declared.ty.TraitRef.{TraitRef}
-use Rattle.hir_types.specs.Terms.{Term, apply}
+use Rattle.hir_types.specs.Terms.{apply}
 use Rattle.hir_raw.specs.declared.raw.RawFacts.{RawFacts}
 use Rattle.infer_table.specs.Bindings.{AllOf}
 use Rattle.infer_table.specs.Solutions.{Triangular}
 use Rattle.infer_table.specs.Table.{State, bindings, hole_count, Meets, CanBeEqual, AreUnified}
 use Rattle.infer_table.proofs.HoleLaws.{grew_twice}
 use Rattle.goal_answers.specs.Reading.{Fill, IsFilling, Aliases, ReadsAs}
-use Rattle.goal_answers.specs.Goals.{Asked, Rule, System, asked_at, Each}
+use Rattle.goal_answers.specs.Goals.{Rule, System, asked_at, Each}
 use Rattle.goal_answers.specs.Answers.{answers}
 use Rattle.goal_answers.specs.Selecting.{by_rule, Selects}
 use Rattle.goal_facts.specs.declared.impl_goals.RuleGoals.{RuleGoals}
@@ -21,10 +20,10 @@ use Rattle.goal_facts.specs.ImplGoals.{fresh, AreGoalsOf}
 use Rattle.goal_facts.specs.Proofs.{filled_goal, args_fill, IsSource}
 use Rattle.goal_select.specs.declared.select.Selected.{Selected}
 use Rattle.goal_select.specs.Steps.{known_goal, goal_type, GoalIsOf, with_type_holes, LosesNothing, IsSelected}
-use Rattle.goal_select.proofs.Known.{log, known_of, known_stays, known_filled}
+use Rattle.goal_select.proofs.Known.{log, known_of, known_stays}
 use Rattle.goal_select.proofs.Choices.{goal_reads, unshadowed, right_source}
 use Rattle.goal_select.proofs.Params.{type_holes_grew}
-use Rattle.goal_select.proofs.RuleSteps.{rule_can, rule_united, rule_unites}
+use Rattle.goal_select.proofs.RuleSteps.{rule_can, rule_united}
 use Rattle.goal_select.proofs.RuleChoices.{IsRuleFor, rule_only, rule_for, params, preds_filled, head_filled, preds_of}
 
 module _ (raw : RawFacts) (f : System) (n : ℕ) (k : TraitRef) (i : ℕ) (selects : Selects f n (trait_goal k) (by_rule i)) (before : State) (acyclic : Triangular (log before)) (made_holes : AllOf before.substitution.kinds (bindings before))

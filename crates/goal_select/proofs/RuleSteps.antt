@@ -1,8 +1,8 @@
 -- A rule's head, at fresh holes, beside a goal of the table.
-use Rattle.std.proofs.Common.{◌≡◌, ◌<◌, ◌≤◌, ℕ, Bool, true, false, refl, sym, ap, ◌∙◌, subst, List, [], ◌∷◌, length, map, slice_get, Some}
+use Rattle.std.proofs.Common.{◌≡◌, ℕ, sym, ap, ◌∙◌, subst, List, length}
 use Rattle.hir_types.specs.declared.head.HoleKind.{HoleKind}
 use Rattle.hir_types.specs.declared.ty.TraitRef.{TraitRef}
-use Rattle.hir_types.specs.Terms.{Term, hole, apply}
+use Rattle.hir_types.specs.Terms.{Term, apply}
 use Rattle.infer_table.specs.Bindings.{AllOf}
 use Rattle.infer_table.specs.Solutions.{resolved, Triangular, AreOf}
 use Rattle.infer_table.specs.LogLemmas.{BindsOf, resolved_fixed}

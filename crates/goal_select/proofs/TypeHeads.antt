@@ -1,8 +1,7 @@
 -- What stands first in each pair is known in types, and so in the predicates of impls.
-use Rattle.std.proofs.Common.{◌≡◌, refl, sym, ap, ◌∙◌, subst, List, [], ◌∷◌, ◌++◌, map, Some, None, slice_get, ℕ}
+use Rattle.std.proofs.Common.{◌≡◌, refl, sym, subst, List, [], ◌∷◌, ◌++◌, map, Some, None}
 use Rattle.std.specs.List.{flat_map}
 use Rattle.hir_types.specs.declared.ids.TraitId.{TraitId}
-use Rattle.hir_types.specs.declared.ids.TypeRefId.{TypeRefId}
 use Rattle.hir_types.specs.declared.head.Head.{Head}
 use Rattle.hir_types.specs.declared.head.Head.TheVariants as head
 use Rattle.hir_types.specs.declared.ty.Const.{Const}
@@ -12,12 +11,11 @@ use Rattle.hir_types.specs.declared.ty.GenericArg.{GenericArg, GenericArg-F, rol
 use Rattle.hir_types.specs.declared.ty.TraitRef.{TraitRef, TraitRef-F, roll-TraitRef, map-TraitRef}
 use Rattle.hir_types.specs.declared.ty.AliasBound.{AliasBound, AliasBound-F, roll-AliasBound, map-AliasBound}
 use Rattle.hir_types.specs.Folds.{in_arg, in_ty}
-use Rattle.hir_types.specs.Terms.{Term, hole, leaf, pair, chain, node, const_term, type_part, const_part, arg_step, auto_parts, ty_step, term, arg_term, trait_parts, bound_parts}
+use Rattle.hir_types.specs.Terms.{Term, leaf, chain, node, const_term, type_part, const_part, arg_step, auto_parts, ty_step, term, arg_term, trait_parts, bound_parts}
 use Rattle.hir_types.specs.TermLaws.{terms, term_at, arg_term_at, trait_parts_is, bound_parts_is}
 use Rattle.hir_raw.specs.declared.raw.RawFacts.{RawFacts}
 use Rattle.hir_raw.specs.declared.raw.RawGoal.{RawGoal}
 use Rattle.hir_raw.specs.declared.raw.RawGoal.TheVariants as goal
-use Rattle.hir_raw.specs.Goals.{arg_types}
 use Rattle.goal_answers.specs.Goals.{Each}
 use Rattle.goal_terms.specs.Terms.{IsHead, HasHeads}
 use Rattle.goal_facts.specs.Arguments.{instance, instances, goal_types, goal_at}

@@ -5,13 +5,13 @@ use Rattle.hir_types.specs.declared.head.Head.{Head}
 use Rattle.hir_types.specs.declared.head.Head.TheVariants as head
 use Rattle.hir_types.specs.declared.head.Hole.{Hole}
 use Rattle.hir_types.specs.declared.ty.TraitRef.{TraitRef}
-use Rattle.hir_types.specs.Terms.{Term, hole, leaf, pair, apply, occurs, term}
+use Rattle.hir_types.specs.Terms.{Term, hole, leaf, pair, apply, occurs}
 use Rattle.infer_table.specs.Solutions.{resolved, Respects}
 use Rattle.infer_table.specs.Opened.{Place, plain as plain_place, alias as alias_place, unknown_type, unknown_const, place, IsPlain, IsReadAs}
 use Rattle.infer_table.specs.OpenedLaws.{Reads_at, opened_plain, reads_apply}
 use Rattle.infer_table.specs.TermLemmas.{hole_eq_same, pair_right}
 use Rattle.infer_table.specs.Table.{State, resolved_term, Meets, IsMostGeneral, CanBeEqual, AreUnified}
-use Rattle.goal_answers.specs.Reading.{Fill, Role, plain, alias, role, MayRead}
+use Rattle.goal_answers.specs.Reading.{Fill, Role, plain, role, MayRead}
 use Rattle.goal_answers.proofs.Readings.{MayReadBy}
 use Rattle.goal_facts.specs.Goals.{trait_goal}
 use Rattle.goal_select.specs.Steps.{goal_type}

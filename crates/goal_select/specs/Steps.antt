@@ -1,7 +1,6 @@
 -- One step of selection: what a goal is made equal to, and what its source asks for.
-use Rattle.std.specs.Prelude.{◌≡◌, ◌<◌, ◌≤◌, ◌++◌, ℕ, suc, false, List, [], ◌∷◌, map, slice_get, Option, Some, None}
+use Rattle.std.specs.Prelude.{◌≡◌, ◌<◌, ◌≤◌, ◌++◌, ℕ, suc, List, [], ◌∷◌, map, slice_get, Option, Some, None}
 use Rattle.std.specs.List.{range_with_len}
-use Rattle.hir_types.specs.declared.ids.AdtId.{AdtId}
 use Rattle.hir_types.specs.declared.ids.TraitId.{TraitId}
 use Rattle.hir_types.specs.declared.ids.TypeAliasId.{TypeAliasId}
 use Rattle.hir_types.specs.declared.goal.Goal.{Goal}
@@ -56,6 +55,7 @@ with_type_holes s n = record s { substitution = record s.substitution { kinds = 
 abbrev pub only_goal : TraitId → Ty → Goal
 only_goal id t = goal.Trait (record { id = id; args = arg.Ty t ∷ [] })
 
+-- of a tuple or an array those that it is made of, and of others none
 abbrev pub part_types : Ty-F GenericArg Ty AliasBound TraitRef → List Ty
 part_types (Ty-F.Tuple ts) = ts
 part_types (Ty-F.Array t c) = t ∷ []
@@ -64,6 +64,7 @@ part_types _ = []
 abbrev pub part_goals : TraitId → Ty → List Goal
 part_goals id t = map (only_goal id) (part_types (out-Ty t))
 
+-- where the first argument is a type, those of its parts
 abbrev pub goals_of_first : TraitId → Option GenericArg → List Goal
 goals_of_first id (Some (arg.Ty t)) = part_goals id t
 goals_of_first id _ = []
@@ -74,7 +75,7 @@ self_part_goals r = goals_of_first (out-TraitRef r).id (slice_get (out-TraitRef 
 
 -- ---- a step
 
--- that a type has a size isn't shadowed by a clause that says so too once holes are filled
+-- the goal has a source that fits what was chosen. A size is one whether or not a clause says so too once holes are filled
 abbrev pub IsSourceBy : Choice → RawFacts → System → Aliases → Fill → Asked → ProofSource → List Asked → Type 0
 IsSourceBy by_size raw f P s g src qs = (src ≡ source.BuiltIn) × IsBuiltIn raw f P g qs
 IsSourceBy _ raw f P s g src qs = IsSource raw f P s g src qs
@@ -140,6 +141,6 @@ SelectsKnown raw f before after k by made =
     (n : ℕ) → n ≤ raw.limits.goal_depth → Selects f n (trait_goal k) by → (g : Goal) → GoalIsOf before g → known_goal before g ≡ goal.Trait k →
     IsSelected raw f n before after g made
 
--- built in, where this is asked for
+-- it is built in, and asks for these
 abbrev pub IsBuiltInBy : Selected → List Goal → Type 0
 IsBuiltInBy made qs = (made.source ≡ source.BuiltIn) × (made.preds.items ≡ qs)

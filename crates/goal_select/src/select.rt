@@ -47,7 +47,7 @@ pub fn select_goal(
     Ok(Some(by_choice(alloc, sources, table, known, choice)?))
 }
 
-/// By what was chosen for it, of which nothing is known but what the goal has put in already.
+/// Selects a goal, in which what is known of its holes is put in, by what was chosen for it.
 fn by_choice(
     alloc: Global,
     sources: &ItemSources<'_>,
@@ -68,7 +68,7 @@ fn by_choice(
     }
 }
 
-/// By its size, which asks for nothing.
+/// That its self type has a size, which asks for nothing.
 fn by_size(alloc: Global) -> Selected
     ensures { IsBuiltInBy result [] }
 {
@@ -78,7 +78,7 @@ fn by_size(alloc: Global) -> Selected
     }
 }
 
-/// By the clause of this number, which holds without more.
+/// Selects a goal by the clause of this number, which holds without more.
 fn by_clause(
     alloc: Global,
     sources: &ItemSources<'_>,
@@ -115,7 +115,7 @@ fn make_holes(table: &mut InferenceTable, count: usize) -> Result<(), AllocError
     Ok(())
 }
 
-/// By the rule of this number, which an impl has, with new holes for the impl's parameters.
+/// Selects a goal by the rule of this number, which an impl has, with new holes for the impl's parameters.
 fn by_rule(
     alloc: Global,
     sources: &ItemSources<'_>,
@@ -142,7 +142,7 @@ fn by_rule(
     })
 }
 
-/// By its parts, which are copied where each of them is.
+/// That its self type is copied, which asks that each of the type's parts is.
 fn by_parts(alloc: Global, goal: &TraitRef) -> Result<Selected, AllocError>
     ensures { IfOk result (λ made. IsBuiltInBy made (self_part_goals goal.now)) }
 {

@@ -1,6 +1,6 @@
-use Rattle.std.proofs.Common.{sym, ap, subst}
+use Rattle.std.proofs.Common.{subst}
 use Rattle.std.proofs.lemmas.Result.{IfOk-weaker}
-use Rattle.goal_answers.specs.Selecting.{by_parts, by_size, Selects}
+use Rattle.goal_answers.specs.Selecting.{Selects}
 use Rattle.goal_search.specs.Sources.{system}
 use Rattle.goal_search.specs.Choosing.{choice_of}
 use Rattle.goal_facts.specs.Goals.{trait_goal}

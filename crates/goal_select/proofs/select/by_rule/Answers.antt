@@ -1,4 +1,4 @@
-use Rattle.std.proofs.Common.{◌≡◌, refl, sym, ap, ◌∙◌, subst, length, map, slice_get, Some}
+use Rattle.std.proofs.Common.{◌≡◌, refl, sym, ap, ◌∙◌, subst, length, map}
 use Rattle.std.specs.List.{range_with_len}
 use Rattle.hir_types.specs.declared.head.HoleKind.TheVariants as kind
 use Rattle.infer_table.specs.LogLemmas.{are_of_more}
