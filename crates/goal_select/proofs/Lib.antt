@@ -1,0 +1,16 @@
+pub mod Known
+pub mod Fills
+pub mod Uniting
+pub mod Clauses
+pub mod Choices
+pub mod ClauseSteps
+pub mod ClauseChoices
+pub mod PartSteps
+pub mod PartChoices
+pub mod TypeHeads
+pub mod ReadFills
+pub mod Params
+pub mod RuleSteps
+pub mod RuleChoices
+pub mod RuleSelected
+pub mod RuleProofs

@@ -1,0 +1,84 @@
+-- What comes of a rule that is chosen.
+use Rattle.std.proofs.Common.{◌≡◌, ◌≤◌, inl, inr, ℕ, sym, ap, ◌∙◌, subst, map, slice_get, Some}
+use Rattle.hir_types.specs.declared.goal.Goal.{Goal}
+use Rattle.hir_types.specs.declared.goal.Goal.TheVariants as goal
+use Rattle.hir_types.specs.declared.ty.TraitRef.{TraitRef}
+use Rattle.hir_types.specs.Terms.{apply}
+use Rattle.hir_raw.specs.declared.raw.RawFacts.{RawFacts}
+use Rattle.infer_table.specs.Bindings.{AllOf}
+use Rattle.infer_table.specs.Solutions.{Triangular}
+use Rattle.infer_table.specs.Table.{State, bindings, hole_count, Meets, CanBeEqual, AreUnified}
+use Rattle.infer_table.proofs.HoleLaws.{grew_twice}
+use Rattle.goal_answers.specs.Reading.{Fill, IsFilling, Aliases, ReadsAs}
+use Rattle.goal_answers.specs.Goals.{Rule, System, asked_at, Each}
+use Rattle.goal_answers.specs.Answers.{answers}
+use Rattle.goal_answers.specs.Selecting.{by_rule, Selects}
+use Rattle.goal_facts.specs.declared.impl_goals.RuleGoals.{RuleGoals}
+use Rattle.goal_facts.specs.declared.proof.ProofSource.TheVariants as source
+use Rattle.goal_facts.specs.Goals.{trait_goal, asked_goal}
+use Rattle.goal_facts.specs.ImplGoals.{fresh, AreGoalsOf}
+use Rattle.goal_facts.specs.Proofs.{filled_goal, args_fill, IsSource}
+use Rattle.goal_select.specs.declared.select.Selected.{Selected}
+use Rattle.goal_select.specs.Steps.{known_goal, goal_type, GoalIsOf, with_type_holes, LosesNothing, IsSelected}
+use Rattle.goal_select.proofs.Known.{log, known_of, known_stays}
+use Rattle.goal_select.proofs.Choices.{goal_reads, unshadowed, right_source}
+use Rattle.goal_select.proofs.Params.{type_holes_grew}
+use Rattle.goal_select.proofs.RuleSteps.{rule_can, rule_united}
+use Rattle.goal_select.proofs.RuleChoices.{IsRuleFor, rule_only, rule_for, params, preds_filled, head_filled, preds_of}
+
+module _ (raw : RawFacts) (f : System) (n : ℕ) (k : TraitRef) (i : ℕ) (selects : Selects f n (trait_goal k) (by_rule i)) (before : State) (acyclic : Triangular (log before)) (made_holes : AllOf before.substitution.kinds (bindings before))
+    (g : Goal) (of : GoalIsOf before g) (known : known_goal before g ≡ goal.Trait k) (r : Rule) (at : slice_get f.rules i ≡ Some r) (goals : RuleGoals) (are : AreGoalsOf raw (hole_count before) r goals) (h : TraitRef) (head : goals.head ≡ goal.Trait h) where
+  rule : IsRuleFor f n (trait_goal k) i r
+  rule = rule_for f n (trait_goal k) i selects r at
+
+  abbrev mid : State
+  mid = with_type_holes before (params raw before r goals are)
+
+  is : trait_goal h ≡ asked_at (fresh (hole_count before)) r.head
+  is = ap asked_goal (sym head) ∙ are.head
+
+  -- the head can be made equal to the goal
+  pub rule_met : (CanBeEqual mid (goal_type k) (goal_type h) → ⊥) → ⊥
+  rule_met refused =
+      rule.remains (inr (inl (λ q t filling may. refused
+      (rule_can before acyclic made_holes k (known_stays before g k known acyclic) (known_of before g k known made_holes of) selects.selectable.concrete (params raw before r goals are) r.head.parts rule.concrete are.head_holes h (ap (λ x. x.parts) is) q t filling may))))
+
+  module _ (below : n ≤ raw.limits.goal_depth) (after : State) (met : AreUnified mid after (goal_type k) (goal_type h)) where
+    abbrev P : Aliases
+    P = (answers f raw.limits.goal_depth).Alias
+
+    same : (t : Fill) → Meets t after → apply t (trait_goal k).parts ≡ apply t (apply (fresh (hole_count before)) r.head.parts)
+    same t m = rule_united before acyclic made_holes k (known_stays before g k known acyclic) (known_of before g k known made_holes of) selects.selectable.concrete (params raw before r goals are) r.head.parts rule.concrete are.head_holes h (ap (λ x. x.parts) is) after met t m
+
+    head_reads : (t : Fill) → IsFilling t → Meets t after → ReadsAs P (apply (args_fill t goals.args) r.head.parts) (apply t (trait_goal k).parts)
+    head_reads t filling m =
+        subst (λ u. ReadsAs P u (apply t (trait_goal k).parts)) (same t m ∙ sym (head_filled raw before r goals are t)) (goal_reads raw f n below (trait_goal k) (by_rule i) selects t filling)
+
+    right : (t : Fill) → IsFilling t → Meets t after → IsSource raw f P t (asked_at t (trait_goal k)) (source.Impl goals.source goals.args) (map (filled_goal t) goals.preds.items)
+    right t filling m = (
+      unshadowed raw f n below (trait_goal k) (by_rule i) selects t filling (rule_only f n (trait_goal k) i selects).1.0,
+      record {
+        item = are.source.0;
+        listed = are.source.1;
+        at = are.source.2.0;
+        rule = r;
+        of = are.source.2.1;
+        same = (rule.kind, apply t (trait_goal k).parts, head_reads t filling m, goal_reads raw f n below (trait_goal k) (by_rule i) selects t filling);
+        asks = preds_filled raw before r goals are t;
+      },
+    )
+
+    pub rule_selected : (made : Selected) → made.source ≡ source.Impl goals.source goals.args → made.preds.items ≡ goals.preds.items → LosesNothing f n before after g goals.preds.items → IsSelected raw f n before after g made
+    rule_selected made by preds loses =
+        let grew = grew_twice before mid after (type_holes_grew before (params raw before r goals are)) met.grown in
+        record {
+          by = by_rule i;
+          chosen = subst (λ y. Selects f n y (by_rule i)) (ap asked_goal (sym known)) selects;
+          grew = grew;
+          pairs = met.pairs;
+          diverging = met.diverging;
+          right = right_source raw f n below before after g k known (by_rule i) selects grew made
+              (λ t filling m. rw (by, preds) (right t filling m));
+          general = λ sole. subst (LosesNothing f n before after g) (sym preds) loses;
+          holes = subst (Each (GoalIsOf after)) (sym preds) (preds_of raw before r goals are after met.grown);
+        }

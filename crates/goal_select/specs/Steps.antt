@@ -1,0 +1,146 @@
+-- One step of selection: what a goal is made equal to, and what its source asks for.
+use Rattle.std.specs.Prelude.{◌≡◌, ◌<◌, ◌≤◌, ◌++◌, ℕ, suc, List, [], ◌∷◌, map, slice_get, Option, Some, None}
+use Rattle.std.specs.List.{range_with_len}
+use Rattle.hir_types.specs.declared.ids.TraitId.{TraitId}
+use Rattle.hir_types.specs.declared.ids.TypeAliasId.{TypeAliasId}
+use Rattle.hir_types.specs.declared.goal.Goal.{Goal}
+use Rattle.hir_types.specs.declared.goal.Goal.TheVariants as goal
+use Rattle.hir_types.specs.declared.head.Hole.{Hole}
+use Rattle.hir_types.specs.declared.head.HoleKind.TheVariants as kind
+use Rattle.hir_types.specs.declared.ty.AliasBound.{AliasBound}
+use Rattle.hir_types.specs.declared.ty.GenericArg.{GenericArg}
+use Rattle.hir_types.specs.declared.ty.GenericArg.TheVariants as arg
+use Rattle.hir_types.specs.declared.ty.TraitRef.{TraitRef, out-TraitRef}
+use Rattle.hir_types.specs.declared.ty.Ty.{Ty, Ty-F, out-Ty}
+use Rattle.hir_types.specs.declared.ty.Ty.TheVariants as ty
+use Rattle.hir_types.specs.Goals.{goal_replaced}
+use Rattle.hir_types.specs.Subst.{with_holes}
+use Rattle.hir_types.specs.Terms.{Term, hole_number}
+use Rattle.hir_raw.specs.declared.raw.RawFacts.{RawFacts}
+use Rattle.infer_table.specs.Resolution.{resolution}
+use Rattle.infer_table.specs.Solutions.{AreOf}
+use Rattle.infer_table.specs.Table.{State, bindings, hole_count, Meets, Grew}
+use Rattle.goal_answers.specs.Reading.{Fill, IsRead, IsFilling, Aliases, ReadsAs}
+use Rattle.goal_answers.specs.Goals.{Asked, System, Each}
+use Rattle.goal_answers.specs.Answers.{answers}
+use Rattle.goal_answers.specs.Proofs.{Says, HasProof}
+use Rattle.goal_answers.specs.Selecting.{Choice, by_clause, by_rule, by_parts, by_size, Selects}
+use Rattle.goal_facts.specs.declared.proof.ProofSource.{ProofSource}
+use Rattle.goal_facts.specs.declared.proof.ProofSource.TheVariants as source
+use Rattle.goal_facts.specs.Goals.{trait_goal, asked_goal}
+use Rattle.goal_facts.specs.Proofs.{filled_goal, IsBuiltIn, IsSource, MayHaveSource}
+use Rattle.goal_select.specs.declared.select.Selected.{Selected}
+
+-- ---- goals and tables
+
+-- the goal with what is known of its holes
+abbrev pub known_goal : State → Goal → Goal
+known_goal s g = goal_replaced (with_holes (resolution (bindings s))) g
+
+-- each hole of the goal is one that the table made
+abbrev pub GoalIsOf : State → Goal → Type 0
+GoalIsOf s g = AreOf s.substitution.kinds (asked_goal g).parts
+
+-- a type with the arguments of the trait
+abbrev pub goal_type : TraitRef → Ty
+goal_type r = ty.Adt (record { 0 = 0 }) (out-TraitRef r).args
+
+-- with so many new holes for any type
+abbrev pub with_type_holes : State → ℕ → State
+with_type_holes s n = record s { substitution = record s.substitution { kinds = s.substitution.kinds ++ map (λ j. kind.Ty) (range_with_len 0 n) } }
+
+-- ---- parts
+
+-- that a type implements a trait without parameters
+abbrev pub only_goal : TraitId → Ty → Goal
+only_goal id t = goal.Trait (record { id = id; args = arg.Ty t ∷ [] })
+
+-- of a tuple or an array those that it is made of, and of others none
+abbrev pub part_types : Ty-F GenericArg Ty AliasBound TraitRef → List Ty
+part_types (Ty-F.Tuple ts) = ts
+part_types (Ty-F.Array t c) = t ∷ []
+part_types _ = []
+
+abbrev pub part_goals : TraitId → Ty → List Goal
+part_goals id t = map (only_goal id) (part_types (out-Ty t))
+
+-- where the first argument is a type, those of its parts
+abbrev pub goals_of_first : TraitId → Option GenericArg → List Goal
+goals_of_first id (Some (arg.Ty t)) = part_goals id t
+goals_of_first id _ = []
+
+-- those of the parts of the self type
+abbrev pub self_part_goals : TraitRef → List Goal
+self_part_goals r = goals_of_first (out-TraitRef r).id (slice_get (out-TraitRef r).args 0)
+
+-- ---- a step
+
+-- the goal has a source that fits what was chosen. A size is one whether or not a clause says so too once holes are filled
+abbrev pub IsSourceBy : Choice → RawFacts → System → Aliases → Fill → Asked → ProofSource → List Asked → Type 0
+IsSourceBy by_size raw f P s g src qs = (src ≡ source.BuiltIn) × IsBuiltIn raw f P g qs
+IsSourceBy _ raw f P s g src qs = IsSource raw f P s g src qs
+
+-- at a filling of the goal's holes: it has the source, which asks for these goals
+pub record IsRightSource (by : Choice) (raw : RawFacts) (f : System) (s : Fill) (g : Goal) (src : ProofSource) (qs : List Goal) : Type 0 where
+  pub source : IsSourceBy by raw f (answers f raw.limits.goal_depth).Alias s (filled_goal s g) src (map (filled_goal s) qs)
+  pub sized : MayHaveSource raw f (filled_goal s g)
+  pub readable : (w : Term) × ReadsAs (answers f raw.limits.goal_depth).Alias (filled_goal s g).parts w
+
+-- the two fill the first `n` holes alike
+abbrev pub SameBelow : ℕ → Fill → Fill → Type 0
+SameBelow n s t = (k : Hole) → hole_number k < n → t k ≡ s k
+
+-- rules and rows; a clause comes before rules that might prove the goal too, and a size binds nothing
+abbrev pub IsSole : Choice → Type 0
+IsSole (by_clause i) = ⊥
+IsSole (by_rule i) = Unit {0}
+IsSole by_parts = Unit {0}
+IsSole by_size = ⊥
+
+-- what it says of an alias agrees with the answers at this depth, and is read where the arguments are
+pub record IsTableOf (f : System) (n : ℕ) (table : TypeAliasId → Term → Option Term) : Type 0 where
+  pub agrees : (k : TypeAliasId) (w u : Term) → (answers f n).Alias k w u → Says table k w u
+  pub read : (k : TypeAliasId) (w u : Term) → IsRead w → Says table k w u → IsRead u
+
+-- a filling at which the goal has a proof agrees with what is known afterwards, with something for the new holes, at which what is
+-- asked for has proofs that are lower
+abbrev pub LosesNothing : System → ℕ → State → State → Goal → List Goal → Type 0
+LosesNothing f n before after g qs =
+    (table : TypeAliasId → Term → Option Term) → IsTableOf f n table →
+    (s : Fill) → IsFilling s → Meets s before → (height : ℕ) → HasProof f (Says table) (suc height) (filled_goal s g) →
+    (t : Fill) × IsFilling t × SameBelow (hole_count before) s t × Meets t after × Each (λ q. HasProof f (Says table) height (filled_goal t q)) qs
+
+pub record IsSelected (raw : RawFacts) (f : System) (n : ℕ) (before after : State) (g : Goal) (made : Selected) : Type 0 where
+  pub by : Choice
+  pub chosen : Selects f n (asked_goal (known_goal before g)) by
+  pub grew : Grew before after
+  pub pairs : after.pairs ≡ before.pairs
+  pub diverging : after.diverging ≡ before.diverging
+  pub right : (s : Fill) → IsFilling s → Meets s after → IsRightSource by raw f s g made.source made.preds.items
+  pub general : IsSole by → LosesNothing f n before after g made.preds.items
+  pub holes : Each (GoalIsOf after) made.preds.items
+
+-- it was, or nothing selects it
+abbrev pub IsSelectedIf : RawFacts → System → ℕ → State → State → Goal → Option Selected → Type 0
+IsSelectedIf raw f n before after g (Some made) = IsSelected raw f n before after g made
+IsSelectedIf raw f n before after g None = (after ≡ before) × ((by : Choice) → Selects f n (asked_goal (known_goal before g)) by → ⊥)
+
+-- ---- what a source makes of a goal
+
+-- a goal of the table comes to this one
+abbrev pub IsKnownIn : State → TraitRef → Type 0
+IsKnownIn s k = (g : Goal) × GoalIsOf s g × (known_goal s g ≡ goal.Trait k)
+
+-- it is chosen at some depth to which goals may be followed
+abbrev pub IsChosen : RawFacts → System → TraitRef → Choice → Type 0
+IsChosen raw f k by = (n : ℕ) × (n ≤ raw.limits.goal_depth) × Selects f n (trait_goal k) by
+
+-- each goal that comes to the one for which it is chosen was selected
+abbrev pub SelectsKnown : RawFacts → System → State → State → TraitRef → Choice → Selected → Type 0
+SelectsKnown raw f before after k by made =
+    (n : ℕ) → n ≤ raw.limits.goal_depth → Selects f n (trait_goal k) by → (g : Goal) → GoalIsOf before g → known_goal before g ≡ goal.Trait k →
+    IsSelected raw f n before after g made
+
+-- it is built in, and asks for these
+abbrev pub IsBuiltInBy : Selected → List Goal → Type 0
+IsBuiltInBy made qs = (made.source ≡ source.BuiltIn) × (made.preds.items ≡ qs)
