@@ -24,9 +24,9 @@ use Rattle.goal_answers.proofs.One.{key_tells, not_refuted, answers_sound, answe
 use Rattle.goal_answers.proofs.Levels.{IsLevel, level}
 use Rattle.goal_terms.specs.Types.{concrete_read}
 use Rattle.goal_facts.specs.Goals.{trait_goal}
-use Rattle.goal_facts.specs.Proofs.{filled_goal, IsUnshadowed, MayHaveSource}
+use Rattle.goal_facts.specs.Proofs.{IsSource, filled_goal, IsUnshadowed, MayHaveSource}
 use Rattle.goal_select.specs.declared.select.Selected.{Selected}
-use Rattle.goal_select.specs.Steps.{known_goal, IsSourceBy, IsRightSource}
+use Rattle.goal_select.specs.Steps.{known_goal, IsRightSource}
 use Rattle.goal_select.proofs.Known.{known_filled}
 
 -- ---- kinds
@@ -110,12 +110,12 @@ meets_before before after grew t m =
 -- one that comes to it has the source, at what meets the table
 pub right_source : (raw : RawFacts) (f : System) (n : ℕ) → n ≤ raw.limits.goal_depth → (before after : State) (g : Goal) (k : TraitRef) → known_goal before g ≡ goal.Trait k → (by : Choice) → Selects f n (trait_goal k) by → Grew before after
     → (made : Selected)
-    → ((t : Fill) → IsFilling t → Meets t after → IsSourceBy by raw f (answers f raw.limits.goal_depth).Alias t (asked_at t (trait_goal k)) made.source (map (filled_goal t) made.preds.items))
-    → (t : Fill) → IsFilling t → Meets t after → IsRightSource by raw f t g made.source made.preds.items
+    → ((t : Fill) → IsFilling t → Meets t after → IsSource raw f (answers f raw.limits.goal_depth).Alias t (asked_at t (trait_goal k)) made.source (map (filled_goal t) made.preds.items))
+    → (t : Fill) → IsFilling t → Meets t after → IsRightSource raw f t g made.source made.preds.items
 right_source raw f n below before after g k is by selects grew made source t filling m =
     let e : asked_at t (trait_goal k) ≡ filled_goal t g = sym (known_filled before g k is t (meets_before before after grew t m)) in
     record {
-      source = subst (λ x. IsSourceBy by raw f (answers f raw.limits.goal_depth).Alias t x made.source (map (filled_goal t) made.preds.items)) e (source t filling m);
+      source = subst (λ x. IsSource raw f (answers f raw.limits.goal_depth).Alias t x made.source (map (filled_goal t) made.preds.items)) e (source t filling m);
       sized = subst (MayHaveSource raw f) e (sized raw f n below (trait_goal k) by selects t filling);
       readable =
           let there = apply t (trait_goal k).parts in

@@ -11,7 +11,7 @@ use Rattle.infer_table.proofs.UndoLaws.{grew_itself}
 use Rattle.goal_answers.specs.Reading.{Fill}
 use Rattle.goal_answers.specs.Goals.{Kind, Asked, System, asked_at, only, is_among, OneIf, Each}
 use Rattle.goal_answers.specs.Rows.{types_of, EachType, Copied, CopyYes}
-use Rattle.goal_answers.specs.Answers.{answers}
+use Rattle.goal_answers.specs.Answers.{ShadowsNot, answers}
 use Rattle.goal_answers.specs.Steps.{known_below}
 use Rattle.goal_answers.specs.Proofs.{HasProof, Says}
 use Rattle.goal_answers.specs.Selecting.{Choice, by_parts, by_size, CopiesParts, IsOnlySource, SizeIsBy, IsDeep, Selects}
@@ -39,11 +39,11 @@ parts_only f n g selects = by_kind (is_among f.sized g.kind) refl selects.source
     by_kind true e h = absurd h.1
     by_kind false e h = (e, h.1)
 
-size_only : (f : System) (n : ℕ) (g : Asked) → Selects f n g by_size → is_among f.sized g.kind ≡ true
+size_only : (f : System) (n : ℕ) (g : Asked) → Selects f n g by_size → (is_among f.sized g.kind ≡ true) × Each (ShadowsNot (answers f n).Alias (known_below f n) g.kind g.parts) f.clauses
 size_only f n g selects = by_kind (is_among f.sized g.kind) refl selects.source
   where
-    by_kind : (b : Bool) → is_among f.sized g.kind ≡ b → IsBy f n g by_size b → is_among f.sized g.kind ≡ true
-    by_kind true e h = e
+    by_kind : (b : Bool) → is_among f.sized g.kind ≡ b → IsBy f n g by_size b → (is_among f.sized g.kind ≡ true) × Each (ShadowsNot (answers f n).Alias (known_below f n) g.kind g.parts) f.clauses
+    by_kind true e h = (e, h.1)
     by_kind false e h = absurd h.1
 
 -- ---- parts
@@ -101,14 +101,19 @@ module _ (raw : RawFacts) (f : System) (n : ℕ) (below : n ≤ raw.limits.goal_
     }
 
   pub size_selected : Selects f n (trait_goal k) by_size → made.preds.items ≡ [] → IsSelected raw f n before before g made
-  size_selected selects none = record {
+  size_selected selects none =
+    let only_size = size_only f n (trait_goal k) selects in
+    record {
     by = by_size;
     chosen = chosen by_size selects;
     grew = grew_itself before;
     pairs = refl;
     diverging = refl;
     right = right_source raw f n below before before g k known by_size selects (grew_itself before) made
-        (λ t filling m. (by, inr (inl (ap (map (filled_goal t)) none, size_only f n (trait_goal k) selects, has_size raw f n below (trait_goal k) by_size selects t filling (size_only f n (trait_goal k) selects)))));
+        (λ t filling m. subst (λ y. IsSource raw f (answers f raw.limits.goal_depth).Alias t (asked_at t (trait_goal k)) y (map (filled_goal t) made.preds.items)) (sym by) (
+          unshadowed raw f n below (trait_goal k) by_size selects t filling only_size.1,
+          inr (inl (ap (map (filled_goal t)) none, only_size.0, has_size raw f n below (trait_goal k) by_size selects t filling only_size.0)),
+        ));
     general = λ is. absurd is;
     holes = subst (Each (GoalIsOf before)) (sym none) tt;
   }

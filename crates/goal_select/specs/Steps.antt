@@ -75,14 +75,9 @@ self_part_goals r = goals_of_first (out-TraitRef r).id (slice_get (out-TraitRef 
 
 -- ---- a step
 
--- the goal has a source that fits what was chosen. A size is one whether or not a clause says so too once holes are filled
-abbrev pub IsSourceBy : Choice → RawFacts → System → Aliases → Fill → Asked → ProofSource → List Asked → Type 0
-IsSourceBy by_size raw f P s g src qs = (src ≡ source.BuiltIn) × IsBuiltIn raw f P g qs
-IsSourceBy _ raw f P s g src qs = IsSource raw f P s g src qs
-
 -- at a filling of the goal's holes: it has the source, which asks for these goals
-pub record IsRightSource (by : Choice) (raw : RawFacts) (f : System) (s : Fill) (g : Goal) (src : ProofSource) (qs : List Goal) : Type 0 where
-  pub source : IsSourceBy by raw f (answers f raw.limits.goal_depth).Alias s (filled_goal s g) src (map (filled_goal s) qs)
+pub record IsRightSource (raw : RawFacts) (f : System) (s : Fill) (g : Goal) (src : ProofSource) (qs : List Goal) : Type 0 where
+  pub source : IsSource raw f (answers f raw.limits.goal_depth).Alias s (filled_goal s g) src (map (filled_goal s) qs)
   pub sized : MayHaveSource raw f (filled_goal s g)
   pub readable : (w : Term) × ReadsAs (answers f raw.limits.goal_depth).Alias (filled_goal s g).parts w
 
@@ -116,7 +111,7 @@ pub record IsSelected (raw : RawFacts) (f : System) (n : ℕ) (before after : St
   pub grew : Grew before after
   pub pairs : after.pairs ≡ before.pairs
   pub diverging : after.diverging ≡ before.diverging
-  pub right : (s : Fill) → IsFilling s → Meets s after → IsRightSource by raw f s g made.source made.preds.items
+  pub right : (s : Fill) → IsFilling s → Meets s after → IsRightSource raw f s g made.source made.preds.items
   pub general : IsSole by → LosesNothing f n before after g made.preds.items
   pub holes : Each (GoalIsOf after) made.preds.items
 
