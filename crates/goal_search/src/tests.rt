@@ -7,7 +7,7 @@ ghost use Rattle.goal_terms.specs.Terms.{term_of, HasHeads};
 ghost use Rattle.goal_search.specs.Sources.{asked_list, rules_of, system};
 ghost use Rattle.goal_search.specs.Searching.{RuleHasHeads, SystemHasHeads};
 
-use crate::{Answer, Asked, Holes, Kind, Rule, Search, Sources};
+use crate::{Answer, Asked, Choice, Holes, Kind, Rule, Search, Sources};
 use goal_terms::{Term, args_term, type_term};
 use hir_types::{AdtId, GenericArg, List, TraitId, Ty, TypeAliasId, UintTy};
 use std::alloc::{AllocError, Global};
@@ -378,7 +378,7 @@ fn chosen(
     sources: &Sources,
     goal: Result<Asked, AllocError>,
     depth: u32,
-) -> Result<Option<crate::Choice>, AllocError> {
+) -> Result<Option<Choice>, AllocError> {
     let goal = goal?;
     if !sources_have_heads(sources) || !goal.parts.has_heads() {
         return Err(AllocError);
@@ -387,57 +387,58 @@ fn chosen(
     search.choose(&goal, depth)
 }
 
-#[test]
-fn chooses(rt: HostRuntime) -> Result<(), Fail> {
-    let alloc = rt.alloc();
+/// An impl of `Show` for `bool` and one for `A0<u8>`, one of `Copy` for `u8`; where `P0` has a size, and
+/// `A1<char>` is `Show`.
+fn sources_to_choose_from(alloc: Global) -> Result<Sources, AllocError> {
     let mut sources = no_sources(alloc)?;
+    let shows_byte = implements(alloc, SHOW, adt(alloc, 0, BYTE)?)?;
+    let shows_char = implements(alloc, SHOW, adt(alloc, 1, Ty::Char)?)?;
     sources
         .rules
         .push(fact(alloc, implements(alloc, SHOW, Ty::Bool)?))?;
-    sources.rules.push(fact(alloc, implements(alloc, SHOW, adt(alloc, 0, BYTE)?)?))?;
+    sources.rules.push(fact(alloc, shows_byte))?;
     sources
         .rules
         .push(fact(alloc, implements(alloc, COPY, BYTE)?))?;
     sources
         .clauses
         .push(fact(alloc, implements(alloc, SIZED, Ty::Param(0))?))?;
-    sources.clauses.push(fact(alloc, implements(alloc, SHOW, adt(alloc, 1, Ty::Char)?)?))?;
+    sources.clauses.push(fact(alloc, shows_char))?;
+    Ok(sources)
+}
+
+#[test]
+fn chooses_the_only_source(rt: HostRuntime) -> Result<(), Fail> {
+    let alloc = rt.alloc();
+    let sources = sources_to_choose_from(alloc)?;
     let goal = implements(alloc, SHOW, adt(alloc, 0, Ty::Var(3))?);
-    assert_eq!(rt;
-        chosen(alloc, &sources, goal, 1)?,
-        Some(crate::Choice::Rule(1))
-    );
+    assert_eq!(rt; chosen(alloc, &sources, goal, 1)?, Some(Choice::Rule(1)));
     let goal = implements(alloc, SHOW, adt(alloc, 0, Ty::Var(3))?);
     assert_eq!(rt; chosen(alloc, &sources, goal, 0)?, None);
     let goal = implements(alloc, SHOW, adt(alloc, 1, Ty::Var(3))?);
-    assert_eq!(rt;
-        chosen(alloc, &sources, goal, 1)?,
-        Some(crate::Choice::Clause(1))
-    );
+    assert_eq!(rt; chosen(alloc, &sources, goal, 1)?, Some(Choice::Clause(1)));
     let goal = implements(alloc, SHOW, adt(alloc, 1, Ty::Bool)?);
     assert_eq!(rt; chosen(alloc, &sources, goal, 1)?, None);
     let goal = implements(alloc, SHOW, Ty::Var(3));
     assert_eq!(rt; chosen(alloc, &sources, goal, 1)?, None);
+    let goal = implements(alloc, SHOW, item_of(alloc, Ty::Bool)?);
+    assert_eq!(rt; chosen(alloc, &sources, goal, 2)?, None);
+    Ok(())
+}
+
+#[test]
+fn chooses_parts_and_sizes(rt: HostRuntime) -> Result<(), Fail> {
+    let alloc = rt.alloc();
+    let sources = sources_to_choose_from(alloc)?;
     let goal = implements(alloc, COPY, tuple(alloc, Ty::Var(3))?);
-    assert_eq!(rt;
-        chosen(alloc, &sources, goal, 1)?,
-        Some(crate::Choice::Parts)
-    );
+    assert_eq!(rt; chosen(alloc, &sources, goal, 1)?, Some(Choice::Parts));
     let goal = implements(alloc, COPY, tuple(alloc, Ty::Str)?);
     assert_eq!(rt; chosen(alloc, &sources, goal, 3)?, None);
     let goal = implements(alloc, SIZED, tuple(alloc, BYTE)?);
-    assert_eq!(rt;
-        chosen(alloc, &sources, goal, 0)?,
-        Some(crate::Choice::Size)
-    );
+    assert_eq!(rt; chosen(alloc, &sources, goal, 0)?, Some(Choice::Size));
     let goal = implements(alloc, SIZED, Ty::Param(0));
-    assert_eq!(rt;
-        chosen(alloc, &sources, goal, 0)?,
-        Some(crate::Choice::Clause(0))
-    );
+    assert_eq!(rt; chosen(alloc, &sources, goal, 0)?, Some(Choice::Clause(0)));
     let goal = implements(alloc, SIZED, Ty::Param(1));
     assert_eq!(rt; chosen(alloc, &sources, goal, 0)?, None);
-    let goal = implements(alloc, SHOW, item_of(alloc, Ty::Bool)?);
-    assert_eq!(rt; chosen(alloc, &sources, goal, 2)?, None);
     Ok(())
 }
