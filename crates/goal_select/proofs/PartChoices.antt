@@ -102,18 +102,18 @@ module _ (raw : RawFacts) (f : System) (n : ℕ) (below : n ≤ raw.limits.goal_
 
   pub size_selected : Selects f n (trait_goal k) by_size → made.preds.items ≡ [] → IsSelected raw f n before before g made
   size_selected selects none =
-    let only_size = size_only f n (trait_goal k) selects in
-    record {
-    by = by_size;
-    chosen = chosen by_size selects;
-    grew = grew_itself before;
-    pairs = refl;
-    diverging = refl;
-    right = right_source raw f n below before before g k known by_size selects (grew_itself before) made
-        (λ t filling m. subst (λ y. IsSource raw f (answers f raw.limits.goal_depth).Alias t (asked_at t (trait_goal k)) y (map (filled_goal t) made.preds.items)) (sym by) (
-          unshadowed raw f n below (trait_goal k) by_size selects t filling only_size.1,
-          inr (inl (ap (map (filled_goal t)) none, only_size.0, has_size raw f n below (trait_goal k) by_size selects t filling only_size.0)),
-        ));
-    general = λ is. absurd is;
-    holes = subst (Each (GoalIsOf before)) (sym none) tt;
-  }
+      let only_size = size_only f n (trait_goal k) selects in
+      record {
+        by = by_size;
+        chosen = chosen by_size selects;
+        grew = grew_itself before;
+        pairs = refl;
+        diverging = refl;
+        right = right_source raw f n below before before g k known by_size selects (grew_itself before) made
+            (λ t filling m. subst (λ y. IsSource raw f (answers f raw.limits.goal_depth).Alias t (asked_at t (trait_goal k)) y (map (filled_goal t) made.preds.items)) (sym by) (
+              unshadowed raw f n below (trait_goal k) by_size selects t filling only_size.1,
+              inr (inl (ap (map (filled_goal t)) none, only_size.0, has_size raw f n below (trait_goal k) by_size selects t filling only_size.0)),
+            ));
+        general = λ is. absurd is;
+        holes = subst (Each (GoalIsOf before)) (sym none) tt;
+      }

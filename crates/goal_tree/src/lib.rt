@@ -2,6 +2,8 @@
 #![tactic(auto)]
 
 mod obligation;
+#[cfg(test)]
+mod tests;
 mod tree;
 
 pub use obligation::{Obligation, Standing};
