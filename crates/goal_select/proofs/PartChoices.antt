@@ -114,6 +114,6 @@ module _ (raw : RawFacts) (f : System) (n : ℕ) (below : n ≤ raw.limits.goal_
               unshadowed raw f n below (trait_goal k) by_size selects t filling only_size.1,
               inr (inl (ap (map (filled_goal t)) none, only_size.0, has_size raw f n below (trait_goal k) by_size selects t filling only_size.0)),
             ));
-        general = λ is. absurd is;
+        general = λ is table are s filling meets height proof. (s, filling, λ j less. refl, meets, subst (Each (λ q. HasProof f (Says table) height (filled_goal s q))) (sym none) tt);
         holes = subst (Each (GoalIsOf before)) (sym none) tt;
       }

@@ -85,12 +85,12 @@ pub record IsRightSource (raw : RawFacts) (f : System) (s : Fill) (g : Goal) (sr
 abbrev pub SameBelow : ℕ → Fill → Fill → Type 0
 SameBelow n s t = (k : Hole) → hole_number k < n → t k ≡ s k
 
--- rules and rows; a clause comes before rules that might prove the goal too, and a size binds nothing
+-- all but a clause, which comes before rules that might prove the goal too
 abbrev pub IsSole : Choice → Type 0
 IsSole (by_clause i) = ⊥
 IsSole (by_rule i) = Unit {0}
 IsSole by_parts = Unit {0}
-IsSole by_size = ⊥
+IsSole by_size = Unit {0}
 
 -- what it says of an alias agrees with the answers at this depth, and is read where the arguments are
 pub record IsTableOf (f : System) (n : ℕ) (table : TypeAliasId → Term → Option Term) : Type 0 where
