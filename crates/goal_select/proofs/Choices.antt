@@ -52,6 +52,14 @@ within f n m le =
     let e : (m - n) + n ≡ m = omega (arith, le) in
     subst (λ k. IsWithin (answers f n) (answers f k)) e (deeper f n (m - n))
 
+-- what isn't chosen for a size is only chosen where goals are answered
+pub chosen_deep : (f : System) (n : ℕ) (g : Asked) (by : Choice) → Selects f n g by → (SizeIsBy f (answers f n).Alias (known_below f n) g.kind g.parts by → ⊥) → IsDeep n
+chosen_deep f n g by selects none = by_kind (is_among f.sized g.kind) selects.source
+  where
+    by_kind : (b : Bool) → OneIf b ((answers f n).Yes g × SizeIsBy f (answers f n).Alias (known_below f n) g.kind g.parts by) (IsDeep n × IsOnlySource f (answers f n).Alias (known_below f n) g.kind g.parts by) → IsDeep n
+    by_kind true h = absurd (none h.1)
+    by_kind false h = h.0
+
 -- ---- at a filling
 
 module _ (raw : RawFacts) (f : System) (n : ℕ) (below : n ≤ raw.limits.goal_depth) (g : Asked) (by : Choice) (selects : Selects f n g by) (s : Fill) (filling : IsFilling s) where

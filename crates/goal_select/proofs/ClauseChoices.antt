@@ -14,7 +14,7 @@ use Rattle.goal_answers.specs.Reading.{Fill, IsFilling, MayRead, Aliases, ReadsA
 use Rattle.goal_answers.specs.Goals.{Asked, Rule, System, asked_at, is_among, OneIf, Each}
 use Rattle.goal_answers.specs.Answers.{Proves, RuleIsRefuted, answers}
 use Rattle.goal_answers.specs.Steps.{known_below}
-use Rattle.goal_answers.specs.Selecting.{by_clause, IsConcrete, IsOnlySource, SizeIsBy, IsDeep, Selects}
+use Rattle.goal_answers.specs.Selecting.{by_clause, IsConcrete, IsTraitKind, IsOnlySource, SizeIsBy, IsDeep, Selects}
 use Rattle.goal_answers.proofs.Readings.{apply_hole, hole_filling, read_reads, reads_filled, reads_within, reads_agree, reads_may, may_here}
 use Rattle.goal_answers.proofs.Filled.{answers_stay}
 use Rattle.goal_terms.specs.Types.{concrete_plain, concrete_read}
@@ -24,9 +24,10 @@ use Rattle.goal_facts.specs.Systems.{ClausesAre}
 use Rattle.goal_facts.specs.Proofs.{filled_goal, IsSource}
 use Rattle.goal_facts.proofs.Following.{entry_at}
 use Rattle.goal_select.specs.declared.select.Selected.{Selected}
-use Rattle.goal_select.specs.Steps.{known_goal, goal_type, GoalIsOf, IsSelected}
+use Rattle.goal_select.specs.Steps.{known_goal, goal_type, GoalIsOf, HasHeadsOf, IsSelected}
 use Rattle.goal_select.proofs.Known.{log, known_stays}
 use Rattle.goal_select.proofs.Uniting.{united}
+use Rattle.goal_select.proofs.Heads.{known_heads, heads_united}
 use Rattle.goal_select.proofs.Clauses.{HasNoHoles, IsClosedFact, clause_closed}
 use Rattle.goal_select.proofs.Choices.{same_kind, more_aliases, goal_reads, right_source}
 use Rattle.goal_select.proofs.ClauseSteps.{no_holes_stay, clause_can}
@@ -139,4 +140,10 @@ module _ (raw : RawFacts) (item : GenericDefId) (f : System) (are : ClausesAre r
             }));
         general = λ sole. absurd sole;
         holes = subst (Each (GoalIsOf after)) (sym none) tt;
+        heads = λ P alias x ok sources binds heads. (
+          heads_united P alias x ok before after k h met binds (known_heads P before g k known binds heads)
+              (subst (HasHeadsOf P) (sym is) (sources.clauses i found.rule found.listed (subst IsTraitKind (sym found.kind) selects.selectable.trait_)).0),
+          subst (Each (λ q. HasHeadsOf P (asked_goal q))) (sym none) tt,
+        );
+        depth = inr none;
       }

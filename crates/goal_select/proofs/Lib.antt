@@ -1,11 +1,13 @@
 pub mod Known
 pub mod Fills
 pub mod Uniting
+pub mod Heads
 pub mod Clauses
 pub mod Choices
 pub mod ClauseSteps
 pub mod ClauseChoices
 pub mod PartSteps
+pub mod SourceHeads
 pub mod PartChoices
 pub mod TypeHeads
 pub mod ReadFills

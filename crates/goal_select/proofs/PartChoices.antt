@@ -21,9 +21,11 @@ use Rattle.goal_facts.specs.declared.proof.ProofSource.TheVariants as source
 use Rattle.goal_facts.specs.Goals.{trait_goal, asked_goal}
 use Rattle.goal_facts.specs.Proofs.{filled_goal, IsSource}
 use Rattle.goal_select.specs.declared.select.Selected.{Selected}
-use Rattle.goal_select.specs.Steps.{known_goal, GoalIsOf, self_part_goals, LosesNothing, IsSelected}
+use Rattle.goal_select.specs.Steps.{known_goal, GoalIsOf, self_part_goals, HasHeadsOf, LosesNothing, IsSelected}
 use Rattle.goal_select.proofs.Known.{known_of, known_filled}
-use Rattle.goal_select.proofs.Choices.{goal_reads, unshadowed, has_size, right_source}
+use Rattle.goal_select.proofs.Heads.{known_heads}
+use Rattle.goal_select.proofs.SourceHeads.{part_heads}
+use Rattle.goal_select.proofs.Choices.{chosen_deep, goal_reads, unshadowed, has_size, right_source}
 use Rattle.goal_select.proofs.PartSteps.{types_at, parts_at, part_goals_at, part_goals_of}
 
 -- ---- what was chosen
@@ -54,7 +56,7 @@ parts_proved f Proved c w ts h y =
     let by_types : EachType (λ t. Proved (record { kind = c; parts = only t })) (types_of h.parts) = subst (λ (x : Copied). CopyYesBy Proved c x) h.copied y.1 in
     subst (EachType (λ t. Proved (record { kind = c; parts = only t }))) h.types by_types
 
-each_mapped : {X Y : Type 0} (P : Y → Type 0) (f : X → Y) (xs : List X) → Each (λ x. P (f x)) xs → Each P (map f xs)
+pub each_mapped : {X Y : Type 0} (P : Y → Type 0) (f : X → Y) (xs : List X) → Each (λ x. P (f x)) xs → Each P (map f xs)
 each_mapped P f [] h = tt
 each_mapped P f (x ∷ xs) h = (h.0, each_mapped P f xs h.1)
 
@@ -98,6 +100,8 @@ module _ (raw : RawFacts) (f : System) (n : ℕ) (below : n ≤ raw.limits.goal_
           ));
       general = λ is. loses_nothing;
       holes = subst (Each (GoalIsOf before)) (sym preds) (part_goals_of before.substitution.kinds k (known_of before g k known made_holes of));
+      heads = λ P none x is sources binds heads. (binds, subst (Each (λ q. HasHeadsOf P (asked_goal q))) (sym preds) (part_heads P k (known_heads P before g k known binds heads)));
+      depth = inl (chosen_deep f n (trait_goal k) by_parts selects (λ sized. sized));
     }
 
   pub size_selected : Selects f n (trait_goal k) by_size → made.preds.items ≡ [] → IsSelected raw f n before before g made
@@ -116,4 +120,6 @@ module _ (raw : RawFacts) (f : System) (n : ℕ) (below : n ≤ raw.limits.goal_
             ));
         general = λ is table are s filling meets height proof. (s, filling, λ j less. refl, meets, subst (Each (λ q. HasProof f (Says table) height (filled_goal s q))) (sym none) tt);
         holes = subst (Each (GoalIsOf before)) (sym none) tt;
+        heads = λ P alias x is sources binds heads. (binds, subst (Each (λ q. HasHeadsOf P (asked_goal q))) (sym none) tt);
+        depth = inr none;
       }

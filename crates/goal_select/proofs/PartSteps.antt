@@ -49,7 +49,7 @@ step_parts s (Ty-F.Tuple ts) p e = record { parts = apply s (chain (map type_par
 step_parts s (Ty-F.Array t c) p e = record { parts = apply s (chain (type_part (term t) ∷ const_part c ∷ [])); copied = refl; types = refl }
 step_parts s _ p e = cc
 
-type_is : (t : Ty) → term t ≡ ty_step (in_ty terms (out-Ty t))
+pub type_is : (t : Ty) → term t ≡ ty_step (in_ty terms (out-Ty t))
 type_is t = ap term (sym (roll-out-Ty t)) ∙ term_at (out-Ty t)
 
 pub type_parts : (s : Fill) (t : Ty) (p : Term) → copied (term t) ≡ with_parts p → HasParts s (term t) (part_types (out-Ty t))
@@ -103,7 +103,7 @@ parts_at f s k c ts known h =
 
 -- ---- what is asked for
 
-goals_are : (id : TraitId) (o : Option GenericArg) → goals_of_first id o ≡ map (only_goal id) (first_types o)
+pub goals_are : (id : TraitId) (o : Option GenericArg) → goals_of_first id o ≡ map (only_goal id) (first_types o)
 goals_are id None = refl
 goals_are id (Some (arg.Ty t)) = refl
 goals_are id (Some (arg.Const c)) = refl

@@ -12,16 +12,20 @@ use Rattle.infer_table.proofs.HoleLaws.{grew_twice}
 use Rattle.goal_answers.specs.Reading.{Fill, IsFilling, Aliases, ReadsAs}
 use Rattle.goal_answers.specs.Goals.{Rule, System, asked_at, Each}
 use Rattle.goal_answers.specs.Answers.{answers}
-use Rattle.goal_answers.specs.Selecting.{by_rule, Selects}
+use Rattle.goal_answers.proofs.Lists.{each_map}
+use Rattle.goal_answers.specs.Selecting.{by_rule, IsTraitKind, Selects}
 use Rattle.goal_facts.specs.declared.impl_goals.RuleGoals.{RuleGoals}
 use Rattle.goal_facts.specs.declared.proof.ProofSource.TheVariants as source
 use Rattle.goal_facts.specs.Goals.{trait_goal, asked_goal}
 use Rattle.goal_facts.specs.ImplGoals.{fresh, AreGoalsOf}
 use Rattle.goal_facts.specs.Proofs.{filled_goal, args_fill, IsSource}
 use Rattle.goal_select.specs.declared.select.Selected.{Selected}
-use Rattle.goal_select.specs.Steps.{known_goal, goal_type, GoalIsOf, with_type_holes, LosesNothing, IsSelected}
+use Rattle.goal_select.specs.Steps.{known_goal, goal_type, GoalIsOf, with_type_holes, HasHeadsOf, BringsNoHead, LosesNothing, IsSelected}
 use Rattle.goal_select.proofs.Known.{log, known_of, known_stays}
-use Rattle.goal_select.proofs.Choices.{goal_reads, unshadowed, right_source}
+use Rattle.goal_select.proofs.Heads.{known_heads, heads_united}
+use Rattle.goal_select.proofs.SourceHeads.{fresh_heads}
+use Rattle.goal_select.proofs.PartChoices.{each_mapped, each_from_map}
+use Rattle.goal_select.proofs.Choices.{chosen_deep, goal_reads, unshadowed, right_source}
 use Rattle.goal_select.proofs.Params.{type_holes_grew}
 use Rattle.goal_select.proofs.RuleSteps.{rule_can, rule_united}
 use Rattle.goal_select.proofs.RuleChoices.{IsRuleFor, rule_only, rule_for, params, preds_filled, head_filled, preds_of}
@@ -68,6 +72,15 @@ module _ (raw : RawFacts) (f : System) (n : ℕ) (k : TraitRef) (i : ℕ) (selec
       },
     )
 
+    heads : BringsNoHead f before after g goals.preds.items
+    heads Q none x ok sources binds made =
+        let first = hole_count before in
+        let has = sources.rules i r at (subst IsTraitKind (sym rule.kind) selects.selectable.trait_) in
+        let preds = each_mapped (HasHeadsOf Q) (asked_at (fresh first)) r.preds (each_map (fresh_heads Q first) r.preds has.1) in (
+          heads_united Q none x ok mid after k h met binds (known_heads Q before g k known binds made) (subst (HasHeadsOf Q) (sym is) (fresh_heads Q first r.head has.0)),
+          each_from_map (HasHeadsOf Q) asked_goal goals.preds.items (subst (Each (HasHeadsOf Q)) (sym are.preds) preds),
+        )
+
     pub rule_selected : (made : Selected) → made.source ≡ source.Impl goals.source goals.args → made.preds.items ≡ goals.preds.items → LosesNothing f n before after g goals.preds.items → IsSelected raw f n before after g made
     rule_selected made by preds loses =
         let grew = grew_twice before mid after (type_holes_grew before (params raw before r goals are)) met.grown in
@@ -81,4 +94,6 @@ module _ (raw : RawFacts) (f : System) (n : ℕ) (k : TraitRef) (i : ℕ) (selec
               (λ t filling m. rw (by, preds) (right t filling m));
           general = λ sole. subst (LosesNothing f n before after g) (sym preds) loses;
           holes = subst (Each (GoalIsOf after)) (sym preds) (preds_of raw before r goals are after met.grown);
+          heads = subst (BringsNoHead f before after g) (sym preds) heads;
+          depth = inl (chosen_deep f n (trait_goal k) (by_rule i) selects (λ sized. sized));
         }

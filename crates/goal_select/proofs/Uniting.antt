@@ -54,7 +54,17 @@ may_be_read q s (pair a b) u e m =
 pub plain_read : (s : Fill) (t : Term) → IsPlain t → IsReadAs s t (apply s t)
 plain_read s t h = reads_apply s 0 t (apply s t) (ap (λ x. apply s x.0) (opened_plain 0 t h))
 
--- ---- two goals about a trait, with nothing that is bound in them
+-- ---- two goals about a trait
+
+-- they are equal at what meets the table afterwards, and what makes them equal does
+module _ (s after : State) (k h : TraitRef) (most : IsMostGeneral s after (goal_type k) (goal_type h)) where
+  pub united_by : (f : Fill) → Meets f after → apply f (trait_goal k).parts ≡ apply f (trait_goal h).parts
+  united_by f m = pair_right (ap (apply f) (sym (goal_type_term k)) ∙ most.unifies f m ∙ ap (apply f) (goal_type_term h))
+
+  pub unites_by : (f : Fill) → Meets f s → apply f (trait_goal k).parts ≡ apply f (trait_goal h).parts → Meets f after
+  unites_by f m e = most.general f m (ap (apply f) (goal_type_term k) ∙ ap (pair adt_head) e ∙ ap (apply f) (sym (goal_type_term h)))
+
+-- with nothing that is bound in them
 
 module _ (s : State) (k h : TraitRef) (known : resolved (log s) (trait_goal k).parts ≡ (trait_goal k).parts) (stays : resolved (log s) (trait_goal h).parts ≡ (trait_goal h).parts) where
   left_is : resolved_term s (goal_type k) ≡ pair adt_head (trait_goal k).parts
@@ -78,9 +88,8 @@ module _ (s : State) (k h : TraitRef) (known : resolved (log s) (trait_goal k).p
     most_general : IsMostGeneral s after (goal_type k) (goal_type h)
     most_general = met.most_general (subst IsPlain (sym left_is) (refl, tt, left)) (subst IsPlain (sym right_is) (refl, tt, right))
 
-    -- they are equal at what meets the table afterwards, and what makes them equal does
     pub united : (f : Fill) → Meets f after → apply f (trait_goal k).parts ≡ apply f (trait_goal h).parts
-    united f m = pair_right (ap (apply f) (sym (goal_type_term k)) ∙ most_general.unifies f m ∙ ap (apply f) (goal_type_term h))
+    united = united_by s after k h most_general
 
     pub unites : (f : Fill) → Meets f s → apply f (trait_goal k).parts ≡ apply f (trait_goal h).parts → Meets f after
-    unites f m e = most_general.general f m (ap (apply f) (goal_type_term k) ∙ ap (pair adt_head) e ∙ ap (apply f) (sym (goal_type_term h)))
+    unites = unites_by s after k h most_general
