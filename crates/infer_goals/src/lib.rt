@@ -2,8 +2,10 @@
 #![tactic(auto)]
 
 mod inspect;
+mod obligations;
 mod table;
 
 pub use goal_facts::Answer;
 pub use inspect::{ObligationInspector, ToldList};
+pub use obligations::Obligations;
 pub use table::GoalTable;
