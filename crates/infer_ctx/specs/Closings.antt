@@ -84,6 +84,8 @@ closed_table a asked r = record {
   expr_variants = r.expr_variants;
   pat_variants = r.pat_variants;
   seen = r.seen;
+  proofs = r.proofs;
+  expr_gaps = r.expr_gaps;
   general = r.general;
 }
 

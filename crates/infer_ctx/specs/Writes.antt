@@ -62,6 +62,8 @@ nothing b = record {
   expr_variants = map expr_variant b.exprs;
   pat_variants = map pat_variant b.pats;
   seen = [];
+  proofs = [];
+  expr_gaps = [];
   general = None;
 }
 

@@ -130,6 +130,8 @@ impl InferenceContext {
             expr_variants: expr_variants(alloc, body)?,
             pat_variants: pat_variants(alloc, body)?,
             seen: List::new(alloc),
+            proofs: List::new(alloc),
+            expr_gaps: List::new(alloc),
             general: None,
         };
         Ok(InferenceContext {

@@ -334,6 +334,8 @@ module _ (raw : RawFacts) (d : DefWithBodyId) (i : BodyId) (b : RawBody) (s : Sc
               expr_variants = r.expr_variants;
               pat_variants = r.pat_variants;
               seen = r.seen;
+              proofs = r.proofs;
+              expr_gaps = r.expr_gaps;
               general = Some x;
             }
 

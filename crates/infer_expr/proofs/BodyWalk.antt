@@ -53,6 +53,8 @@ nothing_under a b = λ i. record {
     expr_variants = map expr_variant b.exprs;
     pat_variants = map pat_variant b.pats;
     seen = [];
+    proofs = [];
+    expr_gaps = [];
     general = None;
   };
   clock = 1;

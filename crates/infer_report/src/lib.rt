@@ -1,6 +1,7 @@
 //! The report on a table of types, as text.
 #![tactic(auto)]
 
+mod goals;
 mod report;
 mod types;
 

@@ -1,12 +1,15 @@
 //! The report on a table.
-ghost use Rattle.std.specs.Prelude.{◌≡◌, ◌++◌, OnOk, IfOk, string_bytes, count_by, is_some};
+ghost use Rattle.std.specs.Prelude.{◌≡◌, ◌≤◌, ◌+◌, ◌^◌, ◌++◌, OnOk, IfOk, List, length, string_bytes, count_by, sum_by, is_some};
 ghost use Rattle.std.specs.Option.{option_copied};
-ghost use Rattle.infer_result.specs.Table.{recorded};
-ghost use Rattle.infer_result.specs.Report.{def_line, variant_text, expr_line, mode_text, pat_line, binding_line, mismatch_head, type_field, mismatch_line, node_text, counts_text, diagnostic_text, diagnostic_line, complaints, lines_from, complaint_count, report};
+ghost use Rattle.infer_result.specs.Table.{recorded, gaps_at};
+ghost use Rattle.infer_result.specs.Report.{line, def_line, variant_text, expr_line, mode_text, pat_line, binding_line, mismatch_head, type_field, mismatch_line, node_text, counts_text, diagnostic_text, diagnostic_line, gap_text, gap_line, complaints, lines_from, complaint_count, report};
 
+use super::goals::push_goal;
 use super::types::{push_ty, push_type};
-use hir_facts::{DefWithBodyId, ExprOrPatId, Facts, RawFacts, Ty, VariantId};
-use infer_result::{BindingMode, InferenceDiagnostic, InferenceResult, Mutability, TypeMismatch};
+use hir_facts::{DefWithBodyId, ExprOrPatId, Facts, List, RawFacts, Ty, VariantId};
+use infer_result::{
+    BindingMode, Gap, InferenceDiagnostic, InferenceResult, Mutability, TypeMismatch,
+};
 use std::alloc::{AllocError, Global};
 
 fn push_def(out: &mut String, def: DefWithBodyId) -> Result<(), AllocError>
@@ -268,18 +271,56 @@ fn diagnostic_at(
     diagnostics.get(at)?.as_ref()
 }
 
+#[tactic(auto, unfolding(infer_result::specs::Report::gap_text))]
+fn push_gap_text(out: &mut String, facts: &RawFacts, gap: &Gap) -> Result<(), AllocError>
+    ensures { OnOk result (string_bytes out.new ≡ string_bytes out.old ++ gap_text facts.now gap.now) }
+{
+    let Gap::Unproved { node, goal } = gap;
+    out.push_str("Unproved ")?;
+    push_node(out, *node)?;
+    out.push_str(" goal=")?;
+    push_goal(out, facts, goal)
+}
+
+fn push_gap(out: &mut String, facts: &RawFacts, gap: &Gap) -> Result<(), AllocError>
+    ensures { OnOk result (string_bytes out.new ≡ string_bytes out.old ++ line (gap_text facts.now gap.now)) }
+{
+    push_gap_text(out, facts, gap)?;
+    out.push_str("\n")
+}
+
+fn push_gaps(out: &mut String, facts: &RawFacts, gaps: &[Gap]) -> Result<(), AllocError>
+    ensures { OnOk result (string_bytes out.new ≡ string_bytes out.old ++ lines_from (gap_line facts.now) 0 gaps.now) }
+{
+    for gap in gaps {
+        push_gap(out, facts, gap)?;
+    }
+    Ok(())
+}
+
+fn gaps_of(gaps: &[List<Gap>], at: usize) -> &[Gap]
+    ensures { result.now ≡ gaps_at gaps.now at }
+{
+    match gaps.get(at) {
+        Some(gaps) => gaps.as_slice(),
+        None => &[],
+    }
+}
+
 fn push_complaints_at(
     out: &mut String,
     facts: &RawFacts,
     letter: &str,
     diagnostics: &[Option<InferenceDiagnostic>],
+    gaps: &[List<Gap>],
     at: usize,
     mismatch: &Option<TypeMismatch>,
 ) -> Result<(), AllocError>
-    ensures { OnOk result (string_bytes out.new ≡ string_bytes out.old ++ complaints facts.now letter.now diagnostics.now at mismatch.now) }
+    ensures { OnOk result (string_bytes out.new ≡ string_bytes out.old ++ complaints facts.now letter.now diagnostics.now gaps.now at mismatch.now) }
 {
     push_mismatch(out, facts, letter, at, mismatch)?;
-    push_diagnostic(out, facts, diagnostic_at(diagnostics, at))
+    push_diagnostic(out, facts, diagnostic_at(diagnostics, at))?;
+    push_gaps(out, facts, gaps_of(gaps, at))
 }
 
 /// The complaints at all expressions, or at all patterns, whose letter this is.
@@ -288,12 +329,13 @@ fn push_complaints(
     facts: &RawFacts,
     letter: &str,
     diagnostics: &[Option<InferenceDiagnostic>],
+    gaps: &[List<Gap>],
     mismatches: &[Option<TypeMismatch>],
 ) -> Result<(), AllocError>
-    ensures { OnOk result (string_bytes out.new ≡ string_bytes out.old ++ lines_from (complaints facts.now letter.now diagnostics.now) 0 mismatches.now) }
+    ensures { OnOk result (string_bytes out.new ≡ string_bytes out.old ++ lines_from (complaints facts.now letter.now diagnostics.now gaps.now) 0 mismatches.now) }
 {
     for (at, mismatch) in mismatches.iter().enumerate() {
-        push_complaints_at(out, facts, letter, diagnostics, at, mismatch)?;
+        push_complaints_at(out, facts, letter, diagnostics, gaps, at, mismatch)?;
     }
     Ok(())
 }
@@ -304,14 +346,27 @@ fn count_some<T>(entries: &[Option<T>]) -> usize
     entries.iter().filter(|entry| entry.is_some()).count()
 }
 
-/// How many complaints a table has.
-pub fn count_complaints(table: &InferenceResult) -> usize
+fn count_gaps(lists: &[List<Gap>]) -> u128
+    ensures value { result ≡ sum_by length lists.now }
+    ensures room { result + 2 ^ 64 ≤ 2 ^ 128 }
+{
+    let mut count = 0;
+    for gaps in lists {
+        count += gaps.len() as u128;
+    }
+    count
+}
+
+/// How many complaints a table has. There is a list of gaps for each expression, so that `usize` would
+/// not do.
+pub fn count_complaints(table: &InferenceResult) -> u128
     ensures { result ≡ complaint_count table.now }
 {
-    count_some(table.expr_mismatches.as_slice())
+    let others = count_some(table.expr_mismatches.as_slice())
         + count_some(table.expr_diagnostics.as_slice())
         + count_some(table.pat_mismatches.as_slice())
-        + count_some(table.pat_diagnostics.as_slice())
+        + count_some(table.pat_diagnostics.as_slice());
+    others as u128 + count_gaps(table.expr_gaps.as_slice())
 }
 
 /// The report on the table of a definition's body: docs/FORMAT.md. Its one error is want of memory.
@@ -345,6 +400,7 @@ pub fn write_report(
         raw,
         "e",
         table.expr_diagnostics.as_slice(),
+        table.expr_gaps.as_slice(),
         table.expr_mismatches.as_slice(),
     )?;
     push_complaints(
@@ -352,6 +408,7 @@ pub fn write_report(
         raw,
         "p",
         table.pat_diagnostics.as_slice(),
+        &[],
         table.pat_mismatches.as_slice(),
     )?;
     let count = count_complaints(table);

@@ -192,15 +192,16 @@ fn push_joined_args(
     Ok(())
 }
 
+/// Writes generic arguments, where there are any.
 #[cycle(shown)]
-fn push_args(out: &mut String, facts: &RawFacts, args: &List<GenericArg>) -> Result<(), AllocError>
+pub fn push_args(out: &mut String, facts: &RawFacts, args: &[GenericArg]) -> Result<(), AllocError>
     ensures { OnOk result (string_bytes out.new ≡ string_bytes out.old ++ args_text (map (arg_text facts.now) args.now)) }
 {
     if args.is_empty() {
         return Ok(());
     }
     out.push_str("<")?;
-    push_joined_args(out, facts, args.as_slice())?;
+    push_joined_args(out, facts, args)?;
     out.push_str(">")
 }
 
@@ -217,7 +218,7 @@ fn push_adt(
         None => out.push_str("{unknown}"),
         Some(adt) => {
             out.push_str(adt.name.as_str())?;
-            push_args(out, facts, args)
+            push_args(out, facts, args.as_slice())
         }
     }
 }
@@ -272,7 +273,7 @@ pub fn push_ty(out: &mut String, facts: &RawFacts, ty: &Ty) -> Result<(), AllocE
         Ty::Adt(id, args) => push_adt(out, facts, *id, args),
         Ty::FnDef(id, args) => {
             push_callable(out, *id)?;
-            push_args(out, facts, args)
+            push_args(out, facts, args.as_slice())
         }
         Ty::FnPtr {
             safety,

@@ -17,6 +17,7 @@ pub mod WrongCount
 pub mod Constructors
 pub mod WrongFieldCount
 pub mod NoFunction
+pub mod UnmetBound
 pub mod Placeholder
 pub mod PartAlone
 pub mod Holes

@@ -1,6 +1,6 @@
 -- What is reported of a table: a line for the definition, for each expression, pattern and binding,
 -- and for each complaint, and the number of complaints last.
-use Rattle.std.specs.Prelude.{ℕ, zero, suc, ◌+◌, List, [], ◌∷◌, ◌++◌, Option, Some, None, codes, count_by, is_some, slice_get}
+use Rattle.std.specs.Prelude.{ℕ, zero, suc, ◌+◌, List, [], ◌∷◌, ◌++◌, Option, Some, None, codes, count_by, sum_by, is_some, length, map, slice_get}
 use Rattle.std.specs.Fmt.{decimal}
 use Rattle.hir_types.specs.declared.ids.AdtId.{AdtId}
 use Rattle.hir_types.specs.declared.ids.CallableDefId.{CallableDefId}
@@ -10,7 +10,11 @@ use Rattle.hir_types.specs.declared.ids.ExprOrPatId.{ExprOrPatId}
 use Rattle.hir_types.specs.declared.ids.ExprOrPatId.TheVariants as node
 use Rattle.hir_types.specs.declared.ids.DefWithBodyId.{DefWithBodyId}
 use Rattle.hir_types.specs.declared.ids.DefWithBodyId.TheVariants as def
+use Rattle.hir_types.specs.declared.goal.Goal.{Goal}
+use Rattle.hir_types.specs.declared.goal.Goal.TheVariants as goal
 use Rattle.hir_raw.specs.declared.raw.RawAdt.{RawAdt}
+use Rattle.hir_raw.specs.declared.raw.RawAlias.{RawAlias}
+use Rattle.hir_raw.specs.declared.raw.RawTrait.{RawTrait}
 use Rattle.hir_raw.specs.declared.raw.RawFacts.{RawFacts}
 use Rattle.hir_types.specs.declared.ty.IntTy.{IntTy}
 use Rattle.hir_types.specs.declared.ty.IntTy.TheVariants as int
@@ -26,15 +30,18 @@ use Rattle.hir_types.specs.declared.ty.Const.{Const}
 use Rattle.hir_types.specs.declared.ty.Const.TheVariants as const
 use Rattle.hir_types.specs.declared.ty.AliasBound.{AliasBound-F}
 use Rattle.hir_types.specs.declared.ty.GenericArg.{GenericArg, GenericArg-F, fold-GenericArg}
-use Rattle.hir_types.specs.declared.ty.TraitRef.{TraitRef-F}
+use Rattle.hir_types.specs.declared.ty.GenericArg.TheVariants as arg
+use Rattle.hir_types.specs.declared.ty.TraitRef.{TraitRef-F, out-TraitRef}
 use Rattle.hir_types.specs.declared.ty.Ty.{Ty, Ty-F, fold-Ty}
 use Rattle.infer_result.specs.declared.modes.BindingMode.{BindingMode}
 use Rattle.infer_result.specs.declared.modes.BindingMode.TheVariants as mode
 use Rattle.infer_result.specs.declared.diagnostics.InferenceDiagnostic.{InferenceDiagnostic}
 use Rattle.infer_result.specs.declared.diagnostics.InferenceDiagnostic.TheVariants as diagnostic
+use Rattle.infer_result.specs.declared.gaps.Gap.{Gap}
+use Rattle.infer_result.specs.declared.gaps.Gap.TheVariants as gap
 use Rattle.infer_result.specs.declared.result.TypeMismatch.{TypeMismatch}
 use Rattle.infer_result.specs.declared.result.InferenceResult.{InferenceResult}
-use Rattle.infer_result.specs.Table.{recorded}
+use Rattle.infer_result.specs.Table.{recorded, gaps_at}
 
 -- ---- types
 
@@ -175,6 +182,24 @@ abbrev pub type_text : RawFacts → Option Ty → List ℕ
 type_text raw None = codes "{unknown}"
 type_text raw (Some t) = ty_text raw t
 
+-- ---- goals
+
+-- the self type and a trait at its other arguments, with this between them
+abbrev pub implements_text : RawFacts → List ℕ → Option RawTrait → List GenericArg → List ℕ
+implements_text raw between (Some x) (arg.Ty t ∷ xs) = ty_text raw t ++ between ++ x.name ++ args_text (map (arg_text raw) xs)
+implements_text raw between _ _ = codes "{unknown}"
+
+-- the associated type at the arguments of its trait
+abbrev pub alias_text : RawFacts → Option RawAlias → List GenericArg → List ℕ
+alias_text raw None xs = codes "{unknown}"
+alias_text raw (Some k) xs =
+    codes "<" ++ implements_text raw (codes " as ") (slice_get raw.traits k.trait_.0) xs ++ codes ">::" ++ k.name
+
+unfoldable pub goal_text : RawFacts → Goal → List ℕ
+goal_text raw (goal.Trait r) =
+    implements_text raw (codes ": ") (slice_get raw.traits (out-TraitRef r).id.0) (out-TraitRef r).args
+goal_text raw (goal.Projection k xs t) = alias_text raw (slice_get raw.aliases k.0) xs ++ codes " == " ++ ty_text raw t
+
 -- ---- lines
 
 abbrev pub line : List ℕ → List ℕ
@@ -252,23 +277,32 @@ abbrev pub diagnostic_line : RawFacts → Option InferenceDiagnostic → List �
 diagnostic_line raw None = []
 diagnostic_line raw (Some x) = line (diagnostic_text raw x)
 
--- the complaints at an expression or a pattern: its mismatch, then the other one
-abbrev pub complaints : RawFacts → List ℕ → List (Option InferenceDiagnostic) → ℕ → Option TypeMismatch
+-- what could not be shown: its name, its node, and the goal
+unfoldable pub gap_text : RawFacts → Gap → List ℕ
+gap_text raw (gap.Unproved n g) = codes "Unproved " ++ node_text n ++ codes " goal=" ++ goal_text raw g
+
+-- whatever its number at the node
+abbrev pub gap_line : RawFacts → ℕ → Gap → List ℕ
+gap_line raw i x = line (gap_text raw x)
+
+-- the complaints at an expression or a pattern: its mismatch, the other one, then its gaps
+abbrev pub complaints : RawFacts → List ℕ → List (Option InferenceDiagnostic) → List (List Gap) → ℕ → Option TypeMismatch
     → List ℕ
-complaints raw letter diagnostics i m = mismatch_line raw letter i m
-    ++ diagnostic_line raw (recorded diagnostics i)
+complaints raw letter diagnostics gaps i m = mismatch_line raw letter i m
+    ++ diagnostic_line raw (recorded diagnostics i) ++ lines_from (gap_line raw) 0 (gaps_at gaps i)
 
 -- ---- the whole
 
 abbrev pub complaint_count : InferenceResult → ℕ
 complaint_count r =
     count_by is_some r.expr_mismatches + count_by is_some r.expr_diagnostics + count_by is_some r.pat_mismatches + count_by is_some r.pat_diagnostics
+    + sum_by length r.expr_gaps
 
 abbrev pub report : DefWithBodyId → RawFacts → InferenceResult → List ℕ
 report d raw r =
     def_line d ++ lines_from (expr_line raw r.expr_variants) 0 r.type_of_expr
     ++ lines_from (pat_line raw r.binding_modes r.pat_variants) 0 r.type_of_pat
     ++ lines_from (binding_line raw) 0 r.type_of_binding
-    ++ lines_from (complaints raw (codes "e") r.expr_diagnostics) 0 r.expr_mismatches
-    ++ lines_from (complaints raw (codes "p") r.pat_diagnostics) 0 r.pat_mismatches
+    ++ lines_from (complaints raw (codes "e") r.expr_diagnostics r.expr_gaps) 0 r.expr_mismatches
+    ++ lines_from (complaints raw (codes "p") r.pat_diagnostics []) 0 r.pat_mismatches
     ++ line (codes "complaints " ++ decimal (complaint_count r))

@@ -35,8 +35,8 @@ diagnostic_under a (diagnostic.MismatchedArgCount n expected found) = diagnostic
 diagnostic_under a (diagnostic.MismatchedTupleStructPatArgCount n expected found) = diagnostic.MismatchedTupleStructPatArgCount n expected found
 diagnostic_under a (diagnostic.ExpectedFunction n found) = diagnostic.ExpectedFunction n (folded a found)
 
--- The table with each of its types under the assignment, those of complaints too. Modes and variants stay, and so does what
--- failed look-ups saw, since that is kept as it was when they failed.
+-- The table with each of its types under the assignment, those of complaints too. Modes and variants stay, and so do proofs and
+-- gaps, and what failed look-ups saw, since that is kept as it was when they failed.
 abbrev pub table_under : Assignment → InferenceResult → InferenceResult
 table_under a r = record r {
   type_of_expr = each_under (folded a) r.type_of_expr;

@@ -1,5 +1,5 @@
 -- What a table says of a node.
-use Rattle.std.specs.Prelude.{ℕ, ◌≡◌, ◌⊎◌, List, [], ◌∷◌, slice_get, Option, Some, None}
+use Rattle.std.specs.Prelude.{ℕ, ◌≡◌, ◌⊎◌, List, [], ◌∷◌, slice_get, Option, Some, None, unwrap_or}
 use Rattle.std.specs.Option.{option_and_then}
 use Rattle.hir_types.specs.declared.ids.ExprId.{ExprId}
 use Rattle.hir_types.specs.declared.ids.PatId.{PatId}
@@ -8,6 +8,7 @@ use Rattle.hir_types.specs.declared.ids.VariantId.{VariantId}
 use Rattle.hir_types.specs.declared.ids.ExprOrPatId.{ExprOrPatId}
 use Rattle.hir_types.specs.declared.ids.ExprOrPatId.TheVariants as node
 use Rattle.hir_types.specs.declared.ty.Ty.{Ty}
+use Rattle.infer_result.specs.declared.gaps.Gap.{Gap}
 use Rattle.infer_result.specs.declared.result.InferenceResult.{InferenceResult}
 use Rattle.infer_result.specs.declared.result.TypeMismatch.{TypeMismatch}
 use Rattle.infer_result.specs.declared.result.Seen.{Seen}
@@ -17,6 +18,10 @@ use Rattle.infer_result.specs.declared.modes.BindingMode.{BindingMode}
 -- what is recorded at n, where something is
 abbrev pub recorded : {A : Type 0} → List (Option A) → ℕ → Option A
 recorded xs n = option_and_then (λ x. x) (slice_get xs n)
+
+-- what stands in the list at n, where there is one
+abbrev pub gaps_at : List (List Gap) → ℕ → List Gap
+gaps_at xs n = unwrap_or (slice_get xs n) []
 
 abbrev pub node_type : InferenceResult → ExprOrPatId → Option Ty
 node_type r (node.ExprId e) = recorded r.type_of_expr e.0

@@ -2,12 +2,15 @@
 #![tactic(auto)]
 
 mod diagnostics;
+mod gaps;
 mod modes;
 mod result;
 mod stable;
 mod unknown;
 
 pub use diagnostics::InferenceDiagnostic;
+pub use gaps::Gap;
+pub use goal_facts::{Proof, ProofSource};
 pub use hir_types::Mutability;
 pub use modes::BindingMode;
 pub use result::{General, InferenceResult, Seen, TypeMismatch};

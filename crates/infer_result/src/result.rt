@@ -1,9 +1,11 @@
 //! The types, modes and complaints of a body.
 ghost use Rattle.std.specs.Prelude.{◌≡◌, option_copied};
-ghost use Rattle.infer_result.specs.Table.{recorded, node_type, node_variant};
+ghost use Rattle.infer_result.specs.Table.{recorded, node_type, node_variant, gaps_at};
 
 use crate::diagnostics::InferenceDiagnostic;
+use crate::gaps::Gap;
 use crate::modes::BindingMode;
+use goal_facts::Proof;
 use hir_facts::{BindingId, ExprId, ExprOrPatId, List, PatId, Ty, TypeRefId, VariantId};
 
 /// Two types that should be the same, at an expression or a pattern: `infer.rs`, `TypeMismatch`.
@@ -70,9 +72,9 @@ impl Drop for General {
     }
 }
 
-/// What inference found out about a body: `infer.rs`, `InferenceResult`. Each list but `seen` has an
-/// entry for each node or binding of the body, or for each written type of the facts, in the order of
-/// their ids. A reader that takes an id answers `None` where there is no such id.
+/// What inference found out about a body: `infer.rs`, `InferenceResult`. Each list but `seen`, `proofs` and
+/// `expr_gaps` has an entry for each node or binding of the body, or for each written type of the facts,
+/// in the order of their ids. A reader that takes an id answers `None` where there is no such id.
 #[derive(Debug, PartialEq, Eq)]
 pub struct InferenceResult {
     /// The type of each expression.
@@ -100,6 +102,11 @@ pub struct InferenceResult {
     pub pat_variants: List<Option<VariantId>>,
     /// The look-ups that failed, in the order in which they did.
     pub seen: List<Seen>,
+    /// The proofs of goals, by their numbers: each names those of what its source asks for, which stand
+    /// before it.
+    pub proofs: List<Proof>,
+    /// What could not be shown at each expression; no entry where nothing was looked at.
+    pub expr_gaps: List<List<Gap>>,
     /// The types before open holes fell back, of a plain body alone.
     pub general: Option<General>,
 }
@@ -119,6 +126,8 @@ impl Drop for InferenceResult {
             expr_variants: _,
             pat_variants: _,
             seen: _,
+            proofs: _,
+            expr_gaps: _,
             general: _,
         } = self;
     }
@@ -213,6 +222,23 @@ impl InferenceResult {
         ensures { result.now ≡ self.now.seen }
     {
         self.seen.as_slice()
+    }
+
+    /// The proofs of goals, by their numbers.
+    pub fn proofs(&self) -> &[Proof]
+        ensures { result.now ≡ self.now.proofs }
+    {
+        self.proofs.as_slice()
+    }
+
+    /// What could not be shown at an expression.
+    pub fn gaps_for_expr(&self, e: ExprId) -> &[Gap]
+        ensures { result.now ≡ gaps_at self.now.expr_gaps e.0 }
+    {
+        match self.expr_gaps.get(e.0 as usize) {
+            Some(gaps) => gaps.as_slice(),
+            None => &[],
+        }
     }
 
     /// The types before open holes fell back to `i32` or `{unknown}`; `None` where the body is not plain.

@@ -32,10 +32,10 @@ use Rattle.infer_result.proofs.Derived.{typed_by_schedule}
 use Rattle.infer_result.proofs.Samples.Small.{e, w, u8, one_u8, function_of, each_below, only, each_entry, each_found, closed_u8, u8_is_no_bool, u8_differs_bool, none_placed}
 use Rattle.infer_result.proofs.Samples.Calling.{function, calling, schedule, is_schedule, item, closed_item, top_arg, obeyed, unseen, counted}
 
-abbrev types : List RawType
+abbrev pub types : List RawType
 types = type.Param 0 ∷ []
 
-abbrev id : RawFn
+abbrev pub id : RawFn
 id = function_of (parameter.Type ∷ []) (w 0 ∷ []) (w 0)
 
 abbrev given : Given
@@ -46,7 +46,7 @@ unfolding filled_within
 written = refl
 
 -- the type of the input and of the output at this type
-at_type : (s : Ty) → at_args (s ∷ []) (written_type types (w 0)) ≡ s
+pub at_type : (s : Ty) → at_args (s ∷ []) (written_type types (w 0)) ≡ s
 at_type s = ap (at_args (s ∷ [])) written ∙ (replaced_param (with_params (type_args (s ∷ []))) 0 ∙ ap arg_as_type (top_arg s))
 
 -- the types that the callee stands at, and the type of the call
@@ -64,6 +64,8 @@ table_of ts s mismatches diagnostics = record {
   expr_variants = None ∷ None ∷ None ∷ None ∷ [];
   pat_variants = [];
   seen = [];
+  proofs = [];
+  expr_gaps = [];
   general = None;
 }
 

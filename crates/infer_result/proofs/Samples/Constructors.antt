@@ -180,6 +180,8 @@ table_of callee call name whole x bound mismatches expr_variants pat_variants = 
   expr_variants = expr_variants;
   pat_variants = pat_variants;
   seen = [];
+  proofs = [];
+  expr_gaps = [];
   general = None;
 }
 

@@ -63,6 +63,8 @@ table_of types mismatches = record {
   expr_variants = None ∷ None ∷ None ∷ [];
   pat_variants = None ∷ [];
   seen = [];
+  proofs = [];
+  expr_gaps = [];
   general = None;
 }
 

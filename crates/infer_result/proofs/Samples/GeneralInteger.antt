@@ -129,6 +129,8 @@ table_at s = record {
   expr_variants = None ∷ None ∷ None ∷ None ∷ [];
   pat_variants = None ∷ [];
   seen = [];
+  proofs = [];
+  expr_gaps = [];
   general = None;
 }
 

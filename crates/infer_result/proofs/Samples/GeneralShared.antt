@@ -83,6 +83,8 @@ table_at s u = record {
   expr_variants = None ∷ None ∷ None ∷ None ∷ None ∷ None ∷ None ∷ None ∷ None ∷ [];
   pat_variants = None ∷ None ∷ [];
   seen = [];
+  proofs = [];
+  expr_gaps = [];
   general = None;
 }
 

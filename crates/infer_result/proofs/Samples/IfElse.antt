@@ -87,6 +87,8 @@ table_of exprs mismatches = record {
   expr_variants = None ∷ None ∷ None ∷ None ∷ None ∷ [];
   pat_variants = None ∷ [];
   seen = [];
+  proofs = [];
+  expr_gaps = [];
   general = None;
 }
 

@@ -79,6 +79,8 @@ table_of s mismatches = record {
   expr_variants = None ∷ None ∷ None ∷ None ∷ [];
   pat_variants = None ∷ None ∷ [];
   seen = [];
+  proofs = [];
+  expr_gaps = [];
   general = None;
 }
 

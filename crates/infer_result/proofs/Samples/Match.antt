@@ -109,6 +109,8 @@ table_of seven name last a wild bound mismatches pat_mismatches = record {
   expr_variants = None ∷ None ∷ None ∷ None ∷ None ∷ None ∷ [];
   pat_variants = None ∷ None ∷ None ∷ None ∷ None ∷ [];
   seen = [];
+  proofs = [];
+  expr_gaps = [];
   general = None;
 }
 

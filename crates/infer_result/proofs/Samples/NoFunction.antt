@@ -102,6 +102,8 @@ table_of said seen = record {
   expr_variants = None ∷ None ∷ None ∷ None ∷ [];
   pat_variants = [];
   seen = seen;
+  proofs = [];
+  expr_gaps = [];
   general = None;
 }
 

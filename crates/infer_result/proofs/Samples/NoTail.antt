@@ -61,6 +61,8 @@ table_of types mismatches = record {
   expr_variants = None ∷ None ∷ [];
   pat_variants = None ∷ [];
   seen = [];
+  proofs = [];
+  expr_gaps = [];
   general = None;
 }
 

@@ -57,6 +57,8 @@ table = record {
   expr_variants = None ∷ [];
   pat_variants = None ∷ None ∷ [];
   seen = [];
+  proofs = [];
+  expr_gaps = [];
   general = None;
 }
 

@@ -81,6 +81,8 @@ table_of first second = record {
   expr_variants = None ∷ None ∷ None ∷ None ∷ [];
   pat_variants = None ∷ [];
   seen = [];
+  proofs = [];
+  expr_gaps = [];
   general = None;
 }
 

@@ -81,6 +81,8 @@ table_of mismatches = record {
   expr_variants = None ∷ None ∷ None ∷ [];
   pat_variants = None ∷ None ∷ [];
   seen = [];
+  proofs = [];
+  expr_gaps = [];
   general = None;
 }
 

@@ -75,6 +75,8 @@ table_of s mismatches = record {
   expr_variants = None ∷ None ∷ None ∷ None ∷ [];
   pat_variants = [];
   seen = [];
+  proofs = [];
+  expr_gaps = [];
   general = None;
 }
 

@@ -61,6 +61,8 @@ table_of at_argument at_call = record {
   expr_variants = None ∷ None ∷ None ∷ None ∷ [];
   pat_variants = [];
   seen = [];
+  proofs = [];
+  expr_gaps = [];
   general = None;
 }
 

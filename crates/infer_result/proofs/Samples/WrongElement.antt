@@ -62,6 +62,8 @@ table_of mismatches = record {
   expr_variants = None ∷ None ∷ None ∷ None ∷ [];
   pat_variants = [];
   seen = [];
+  proofs = [];
+  expr_gaps = [];
   general = None;
 }
 

@@ -114,6 +114,8 @@ table_of x at_o at_pattern at_x = record {
   expr_variants = None ∷ None ∷ [];
   pat_variants = None ∷ Some (v 0) ∷ None ∷ [];
   seen = [];
+  proofs = [];
+  expr_gaps = [];
   general = None;
 }
 

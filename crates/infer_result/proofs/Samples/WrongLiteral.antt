@@ -94,6 +94,8 @@ table_of literal_ guard_ pattern_ = record {
   expr_variants = None ∷ None ∷ None ∷ None ∷ None ∷ None ∷ None ∷ [];
   pat_variants = None ∷ None ∷ None ∷ [];
   seen = [];
+  proofs = [];
+  expr_gaps = [];
   general = None;
 }
 

@@ -95,6 +95,8 @@ table_of whole second pat_mismatches = record {
   expr_variants = None ∷ None ∷ [];
   pat_variants = None ∷ None ∷ None ∷ None ∷ [];
   seen = [];
+  proofs = [];
+  expr_gaps = [];
   general = None;
 }
 

@@ -58,6 +58,8 @@ table_of types mismatches = record {
   expr_variants = None ∷ None ∷ [];
   pat_variants = [];
   seen = [];
+  proofs = [];
+  expr_gaps = [];
   general = None;
 }
 

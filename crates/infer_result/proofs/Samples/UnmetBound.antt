@@ -1,0 +1,107 @@
+-- `fn f() -> bool { id(true) }` where `fn id<T: Tr>(x: T) -> T`: the path needs that `bool` implements the trait, and nothing else does.
+use Rattle.std.proofs.Common.{◌≡◌, inl, inr, List, [], ◌∷◌, map, refl, sym, ap, subst, ◌∙◌, Some, None, slice_get}
+use Rattle.std.specs.Prelude.{true}
+use Rattle.hir_types.specs.declared.ids.CallableDefId.TheVariants as callable
+use Rattle.hir_types.specs.declared.ids.DefWithBodyId.{DefWithBodyId}
+use Rattle.hir_types.specs.declared.ids.ExprOrPatId.TheVariants as node
+use Rattle.hir_types.specs.declared.head.Head.TheVariants as head
+use Rattle.hir_types.specs.declared.goal.Goal.{Goal}
+use Rattle.hir_types.specs.declared.ty.GenericArg.TheVariants as arg
+use Rattle.hir_types.specs.declared.ty.Ty.{Ty, Ty-F, out-Ty, out-roll-Ty}
+use Rattle.hir_types.specs.declared.ty.Ty.TheVariants as ty
+use Rattle.hir_types.specs.Terms.{leaf, pair, type_part, arg_term}
+use Rattle.hir_types.specs.TermLaws.{term_bool, arg_term_type}
+use Rattle.hir_raw.specs.declared.raw.RawArgs.TheVariants as args
+use Rattle.hir_raw.specs.declared.raw.RawExpr.TheVariants as expr
+use Rattle.hir_raw.specs.declared.raw.RawGoal.{RawGoal}
+use Rattle.hir_raw.specs.declared.raw.RawGoal.TheVariants as goal
+use Rattle.hir_raw.specs.declared.raw.RawLiteral.{RawLiteral}
+use Rattle.hir_raw.specs.declared.raw.RawLiteral.TheVariants as literal
+use Rattle.hir_raw.specs.declared.raw.RawPath.TheVariants as path
+use Rattle.hir_raw.specs.Signatures.{type_args}
+use Rattle.goal_answers.specs.Goals.{Asked}
+use Rattle.goal_facts.specs.Arguments.{goal_at}
+use Rattle.goal_facts.specs.Goals.{asked_goal}
+use Rattle.infer_result.specs.declared.gaps.Gap.{Gap}
+use Rattle.infer_result.specs.declared.gaps.Gap.TheVariants as gap
+use Rattle.infer_result.specs.declared.result.InferenceResult.{InferenceResult}
+use Rattle.infer_result.specs.Places.{Given}
+use Rattle.infer_result.specs.Needs.{item_args, needed_goals, IsNeeded, HoldsUnknown, GoalsHold}
+use Rattle.infer_result.proofs.Samples.Small.{e, w}
+use Rattle.infer_result.proofs.Samples.Calling.{function, calling, item}
+use Rattle.infer_result.proofs.Samples.Call.{types, id, at_type}
+
+abbrev bound : RawGoal
+bound = goal.Trait (record { trait_ = record { 0 = 0 }; args = args.Types (w 0 ∷ []) })
+
+abbrev yes : RawLiteral
+yes = literal.Bool true
+
+abbrev given : Given
+given = calling types (record id { preds = bound ∷ [] }) yes ty.Bool
+
+-- without a proof
+abbrev table_of : List (List Gap) → InferenceResult
+table_of gaps = record {
+  type_of_expr = Some (item (ty.Bool ∷ [])) ∷ Some ty.Bool ∷ Some ty.Bool ∷ Some ty.Bool ∷ [];
+  type_of_pat = [];
+  type_of_binding = [];
+  type_of_placeholder = [];
+  binding_modes = [];
+  expr_mismatches = None ∷ None ∷ None ∷ None ∷ [];
+  expr_diagnostics = None ∷ None ∷ None ∷ None ∷ [];
+  pat_mismatches = [];
+  pat_diagnostics = [];
+  expr_variants = None ∷ None ∷ None ∷ None ∷ [];
+  pat_variants = [];
+  seen = [];
+  proofs = [];
+  expr_gaps = gaps;
+  general = None;
+}
+
+-- that `bool` implements the trait
+abbrev needed : Asked
+needed = goal_at given.scope.facts (type_args (ty.Bool ∷ [])) bound
+
+args_of : (ts : List Ty) → item_args (out-Ty (item ts)) ≡ type_args ts
+args_of ts =
+    ap item_args (ap out-Ty (sym (ty.rolls-FnDef (callable.FunctionId function) (type_args ts))) ∙ out-roll-Ty (Ty-F.FnDef (callable.FunctionId function) (type_args ts)))
+
+is_needed : (gaps : List (List Gap)) → IsNeeded given (table_of gaps) (e 0) needed
+is_needed gaps = record {
+  expr = expr.Path (path.Function function);
+  is = refl;
+  ty = item (ty.Bool ∷ []);
+  has = refl;
+  «at» = 0;
+  among = ap (λ xs. slice_get (map (goal_at given.scope.facts xs) (bound ∷ [])) 0) (args_of (ty.Bool ∷ []));
+}
+
+known : HoldsUnknown needed.parts → ⊥
+known h =
+    let parts = ap (λ u. pair (arg_term (arg.Ty u)) (leaf head.End)) (at_type ty.Bool) ∙ ap (λ u. pair u (leaf head.End)) (arg_term_type ty.Bool ∙ ap type_part term_bool) in
+    elim (subst HoldsUnknown parts h) [
+      | inl first ↦ elim first [ inl k ↦ k | inr k ↦ elim k [ inl m ↦ m | inr m ↦ m ] ]
+      | inr end ↦ end
+    ]
+
+-- ---- refused
+
+-- neither a proof nor a complaint
+pub nothing_said : (d : DefWithBodyId) → GoalsHold d given (table_of []) → ⊥
+nothing_said d h =
+    elim (h.needs (e 0) needed (is_needed [])) [
+      | inl proved ↦ (let listed = proved.listed in cc)
+      | inr other ↦ elim other [ inl said ↦ (let listed = said.1.at in cc) | inr unknown ↦ known unknown ]
+    ]
+
+-- a complaint at the argument, which needs nothing, of any goal
+pub nothing_needed : (d : DefWithBodyId) (q : Goal) → GoalsHold d given (table_of ([] ∷ (gap.Unproved (node.ExprId (e 1)) q ∷ []) ∷ [])) → ⊥
+nothing_needed d q h =
+    let said = gap.Unproved (node.ExprId (e 1)) q in
+    let needs = (h.gaps (e 1) said (record { gaps = said ∷ []; «at» = refl; number = 0; listed = refl })).1.needed in
+    let is = needs.is in
+    let literal_is : needs.expr ≡ expr.Lit yes = cc in
+    let among = subst (λ x. slice_get (needed_goals given.scope.facts x needs.ty) needs.at ≡ Some (asked_goal q)) literal_is needs.among in
+    cc

@@ -1,0 +1,134 @@
+-- Goals that nodes need: each path to an item the predicates of the item, at the arguments that are recorded. Each is proved, or it is
+-- said that it is not (The Rust Reference, "Trait and lifetime bounds": bounds are checked where an item is used).
+use Rattle.std.specs.Prelude.{◌≡◌, ◌⊎◌, ℕ, List, [], map, slice_get, Option, Some, None}
+use Rattle.hir_types.specs.declared.ids.ExprId.{ExprId}
+use Rattle.hir_types.specs.declared.ids.DefWithBodyId.{DefWithBodyId}
+use Rattle.hir_types.specs.declared.ids.DefWithBodyId.TheVariants as def
+use Rattle.hir_types.specs.declared.ids.GenericDefId.{GenericDefId}
+use Rattle.hir_types.specs.declared.ids.GenericDefId.TheVariants as generic
+use Rattle.hir_types.specs.declared.ids.ExprOrPatId.TheVariants as node
+use Rattle.hir_types.specs.declared.head.Head.TheVariants as head
+use Rattle.hir_types.specs.declared.goal.Goal.{Goal}
+use Rattle.hir_types.specs.declared.ty.AliasBound.{AliasBound}
+use Rattle.hir_types.specs.declared.ty.GenericArg.{GenericArg}
+use Rattle.hir_types.specs.declared.ty.TraitRef.{TraitRef}
+use Rattle.hir_types.specs.declared.ty.Ty.{Ty, Ty-F, out-Ty}
+use Rattle.hir_types.specs.Terms.{Term, hole, leaf, pair}
+use Rattle.hir_raw.specs.declared.raw.RawExpr.{RawExpr}
+use Rattle.hir_raw.specs.declared.raw.RawExpr.TheVariants as expr
+use Rattle.hir_raw.specs.declared.raw.RawGoal.{RawGoal}
+use Rattle.hir_raw.specs.declared.raw.RawPath.{RawPath}
+use Rattle.hir_raw.specs.declared.raw.RawPath.TheVariants as path
+use Rattle.hir_raw.specs.declared.raw.RawVariant.{RawVariant}
+use Rattle.hir_raw.specs.declared.raw.RawFacts.{RawFacts}
+use Rattle.goal_answers.specs.Reading.{Fill, IsFilling}
+use Rattle.goal_answers.specs.Goals.{Asked, System}
+use Rattle.goal_answers.specs.Answers.{answers}
+use Rattle.goal_facts.specs.declared.proof.Proof.{Proof}
+use Rattle.goal_facts.specs.Arguments.{goal_at}
+use Rattle.goal_facts.specs.Environment.{env_preds}
+use Rattle.goal_facts.specs.Goals.{asked_goal}
+use Rattle.goal_facts.specs.Systems.{IsSystemOf}
+use Rattle.goal_facts.specs.Proofs.{AreProofs}
+use Rattle.infer_result.specs.declared.gaps.Gap.{Gap}
+use Rattle.infer_result.specs.declared.gaps.Gap.TheVariants as gap
+use Rattle.infer_result.specs.declared.result.InferenceResult.{InferenceResult}
+use Rattle.infer_result.specs.Places.{Given}
+use Rattle.infer_result.specs.Table.{HasTy}
+
+-- ---- what nodes need
+
+-- the predicates of a constructor are those of its adt
+abbrev pub variant_preds : RawFacts → Option RawVariant → List RawGoal
+variant_preds raw None = []
+variant_preds raw (Some v) = env_preds raw (generic.AdtId v.adt)
+
+-- the predicates of the item that a path names
+abbrev pub path_preds : RawFacts → RawPath → List RawGoal
+path_preds raw (path.Local v) = []
+path_preds raw (path.Function f) = env_preds raw (generic.FunctionId f)
+path_preds raw (path.Ctor v) = variant_preds raw (slice_get raw.variants v.0)
+path_preds raw path.Other = []
+
+abbrev pub expr_preds : RawFacts → RawExpr → List RawGoal
+expr_preds raw (expr.Path p) = path_preds raw p
+expr_preds raw _ = []
+
+-- the arguments of an item, of which this is the type, or the type of its values
+abbrev pub item_args : Ty-F GenericArg Ty AliasBound TraitRef → List GenericArg
+item_args (Ty-F.FnDef id xs) = xs
+item_args (Ty-F.Adt id xs) = xs
+item_args _ = []
+
+-- what an expression of this type needs
+abbrev pub needed_goals : RawFacts → RawExpr → Ty → List Asked
+needed_goals raw x t = map (goal_at raw (item_args (out-Ty t))) (expr_preds raw x)
+
+-- the expression needs the goal
+pub record IsNeeded (g : Given) (r : InferenceResult) (e : ExprId) (a : Asked) : Type 0 where
+  pub expr : RawExpr
+  pub is : slice_get g.body.exprs e.0 ≡ Some expr
+  pub ty : Ty
+  pub has : HasTy r e ty
+  pub at : ℕ
+  pub among : slice_get (needed_goals g.scope.facts expr ty) at ≡ Some a
+
+-- ---- what becomes of them
+
+-- `{unknown}` stands in the term
+abbrev pub HoldsUnknown : Term → Type 0
+HoldsUnknown (hole k) = ⊥
+HoldsUnknown (leaf head.Error) = Unit {0}
+HoldsUnknown (leaf head.UnknownConst) = Unit {0}
+HoldsUnknown (leaf _) = ⊥
+HoldsUnknown (pair a b) = HoldsUnknown a ⊎ HoldsUnknown b
+
+-- a proof is listed whose goal it is
+pub record IsProved (r : InferenceResult) (a : Asked) : Type 0 where
+  pub number : ℕ
+  pub proof : Proof
+  pub listed : slice_get r.proofs number ≡ Some proof
+  pub goal : asked_goal proof.goal ≡ a
+
+-- the gap is listed at the expression
+pub record HasGap (r : InferenceResult) (e : ExprId) (x : Gap) : Type 0 where
+  pub gaps : List Gap
+  pub at : slice_get r.expr_gaps e.0 ≡ Some gaps
+  pub number : ℕ
+  pub listed : slice_get gaps number ≡ Some x
+
+-- it is said at the expression that this has no proof
+abbrev pub IsUnproved : InferenceResult → ExprId → Asked → Type 0
+IsUnproved r e a = (q : Goal) × HasGap r e (gap.Unproved (node.ExprId e) q) × (asked_goal q ≡ a)
+
+-- it names its node, which needs the goal; `{unknown}` doesn't stand in it, and its answer isn't Yes
+pub record IsTrueUnproved (g : Given) (f : System) (r : InferenceResult) (e : ExprId) (q : Goal) : Type 0 where
+  pub needed : IsNeeded g r e (asked_goal q)
+  pub known : HoldsUnknown (asked_goal q).parts → ⊥
+  pub fails : (answers f g.scope.facts.limits.goal_depth).Yes (asked_goal q) → ⊥
+
+abbrev pub IsTrueGap : Given → System → InferenceResult → ExprId → Gap → Type 0
+IsTrueGap g f r e (gap.Unproved n q) = (n ≡ node.ExprId e) × IsTrueUnproved g f r e q
+
+-- ---- the goals of a table
+
+-- the adt of a variant
+abbrev pub adt_item : Option RawVariant → GenericDefId
+adt_item None = generic.AdtId (record { 0 = 0 })
+adt_item (Some x) = generic.AdtId x.adt
+
+-- the item in whose scope the body is: what it states holds there
+abbrev pub scope_item : RawFacts → DefWithBodyId → GenericDefId
+scope_item raw (def.FunctionId f) = generic.FunctionId f
+scope_item raw (def.ConstId c) = generic.ConstId c
+scope_item raw (def.StaticId s) = generic.StaticId s
+scope_item raw (def.VariantId v) = adt_item (slice_get raw.variants v.0)
+
+-- the proofs that are listed are proofs; each goal that a node needs is proved, or it is said that it isn't, or `{unknown}` stands in it;
+-- and what is said is so
+pub record GoalsHold (d : DefWithBodyId) (g : Given) (r : InferenceResult) : Type 0 where
+  pub system : System
+  pub of_item : IsSystemOf g.scope.facts (scope_item g.scope.facts d) system
+  pub proofs : (s : Fill) → IsFilling s → AreProofs g.scope.facts system (answers system g.scope.facts.limits.goal_depth).Alias s r.proofs
+  pub needs : (e : ExprId) (a : Asked) → IsNeeded g r e a → IsProved r a ⊎ (IsUnproved r e a ⊎ HoldsUnknown a.parts)
+  pub gaps : (e : ExprId) (x : Gap) → HasGap r e x → IsTrueGap g system r e x
