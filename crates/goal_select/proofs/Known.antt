@@ -57,7 +57,7 @@ trait_folded_is a r =
     ap trait_goal (trait_replaced_is (with_holes a) r)
     ∙ ap (λ (t : Term). let g : Asked = record { kind = implements (out-TraitRef r).id; parts = t } in g) (args_folded a (out-TraitRef r).args)
 
-goal_folded : (a : Assignment) (g : Goal) → asked_goal (goal_replaced (with_holes a) g) ≡ asked_at (terms_of a) (asked_goal g)
+pub goal_folded : (a : Assignment) (g : Goal) → asked_goal (goal_replaced (with_holes a) g) ≡ asked_at (terms_of a) (asked_goal g)
 goal_folded a (goal.Trait r) = trait_folded_is a r
 goal_folded a (goal.Projection k xs t) = λ i. record { kind = projects k; parts = pair (args_folded a xs i) (term_folded a t i) }
 

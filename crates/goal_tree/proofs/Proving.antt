@@ -14,10 +14,10 @@ use Rattle.goal_tree.proofs.Standings.{same_or_not, set_same, set_other, front_g
 
 -- ---- nothing, or some and then others
 
-front_none : {X : Type 0} (xs : List X) → IsFront xs xs
+pub front_none : {X : Type 0} (xs : List X) → IsFront xs xs
 front_none xs = ([], sym (append-nil xs))
 
-front_then : {X : Type 0} (xs ys zs : List X) → IsFront xs ys → IsFront ys zs → IsFront xs zs
+pub front_then : {X : Type 0} (xs ys zs : List X) → IsFront xs ys → IsFront ys zs → IsFront xs zs
 front_then xs ys zs a b = (a.0 ++ b.0, b.1 ∙ ap (λ l. l ++ b.0) a.1 ∙ append_assoc xs a.0 b.0)
 
 pub later_then : (t u v : GoalTree) → IsLater t u → IsLater u v → IsLater t v

@@ -1,6 +1,6 @@
 //! Goals that were asked, with their sources and proofs.
 ghost use Rattle.std.specs.Prelude.{◌≡◌, ◌↔◌, ◌<◌, ◌≤◌, ◌+◌, ◌∷◌, [], Some, length, map, slice_get, slice_set, IsTrue, IfOk, OnOk};
-ghost use Rattle.goal_tree.specs.Trees.{IsTree, IsTreeBut, IsOpenAt, IsWaitingAt, registered, asked_by, IsAsked, AreProvedAs, IsProvedNext, IsMoreProved, IsProvedUpTo, IsSelectedBy, pending_of};
+ghost use Rattle.goal_tree.specs.Trees.{IsTree, IsTreeBut, IsOpenAt, IsProvedAt, IsWaitingAt, registered, asked_by, IsAsked, AreProvedAs, IsProvedNext, IsMoreProved, IsProvedUpTo, IsSelectedBy, pending_of};
 
 use crate::obligation::{Obligation, Standing};
 use goal_facts::{Proof, ProofSource};
@@ -53,6 +53,16 @@ impl GoalTree {
         match self.standings.get(at) {
             Some(Standing::Open) => true,
             Some(Standing::Selected { .. }) | Some(Standing::Proved { .. }) | None => false,
+        }
+    }
+
+    /// Whether the one with this number has a proof.
+    pub fn is_proved(&self, at: usize) -> bool
+        ensures { IsTrue result ↔ IsProvedAt self.now.standings.items at }
+    {
+        match self.standings.get(at) {
+            Some(Standing::Proved { .. }) => true,
+            Some(Standing::Open) | Some(Standing::Selected { .. }) | None => false,
         }
     }
 

@@ -1,0 +1,5 @@
+pub mod Closing
+pub mod ClosedProofs
+pub mod Judging
+pub mod Finishing
+pub mod Telling
