@@ -66,7 +66,8 @@ fn goal_of(
     }
 }
 
-fn goals_of(
+/// Written goals, at these arguments for the parameters in scope.
+pub fn goals_at(
     alloc: Global,
     facts: &Facts,
     args: &List<GenericArg>,
@@ -115,7 +116,7 @@ fn goals_for(
 {
     let args = holes_from(alloc, first, item.params.len())?;
     let head = trait_of(alloc, facts, &args, item, trait_ref)?;
-    let preds = goals_of(alloc, facts, &args, item.preds.as_slice())?;
+    let preds = goals_at(alloc, facts, &args, item.preds.as_slice())?;
     Ok(RuleGoals {
         source,
         args,

@@ -1,1 +1,3 @@
+pub mod Obligations
+pub mod Finish
 pub mod Told

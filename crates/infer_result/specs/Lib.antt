@@ -16,6 +16,7 @@ pub mod Truth
 pub mod TypesFit
 pub mod Shape
 pub mod Made
+pub mod Needed
 pub mod Typed
 pub mod Derivation
 pub mod General
