@@ -1,10 +1,11 @@
 -- One step of selection: what a goal is made equal to, and what its source asks for.
-use Rattle.std.specs.Prelude.{◌≡◌, ◌<◌, ◌≤◌, ◌++◌, ℕ, suc, List, [], ◌∷◌, map, slice_get, Option, Some, None}
+use Rattle.std.specs.Prelude.{◌≡◌, ◌<◌, ◌≤◌, ◌++◌, ℕ, suc, List, [], ◌∷◌, map, slice_get, Option, Some, None, IsTrue, ◌⊎◌}
 use Rattle.std.specs.List.{range_with_len}
 use Rattle.hir_types.specs.declared.ids.TraitId.{TraitId}
 use Rattle.hir_types.specs.declared.ids.TypeAliasId.{TypeAliasId}
 use Rattle.hir_types.specs.declared.goal.Goal.{Goal}
 use Rattle.hir_types.specs.declared.goal.Goal.TheVariants as goal
+use Rattle.hir_types.specs.declared.head.Head.{Head}
 use Rattle.hir_types.specs.declared.head.Hole.{Hole}
 use Rattle.hir_types.specs.declared.head.HoleKind.TheVariants as kind
 use Rattle.hir_types.specs.declared.ty.AliasBound.{AliasBound}
@@ -17,14 +18,15 @@ use Rattle.hir_types.specs.Goals.{goal_replaced}
 use Rattle.hir_types.specs.Subst.{with_holes}
 use Rattle.hir_types.specs.Terms.{Term, hole_number}
 use Rattle.hir_raw.specs.declared.raw.RawFacts.{RawFacts}
+use Rattle.infer_table.specs.Preserved.{Shape, rest, IsMadeOf, BindsOnly, NoAlias}
 use Rattle.infer_table.specs.Resolution.{resolution}
-use Rattle.infer_table.specs.Solutions.{AreOf}
+use Rattle.infer_table.specs.Solutions.{AreOf, log_of}
 use Rattle.infer_table.specs.Table.{State, bindings, hole_count, Meets, Grew}
 use Rattle.goal_answers.specs.Reading.{Fill, IsRead, IsFilling, Aliases, ReadsAs}
-use Rattle.goal_answers.specs.Goals.{Asked, System, Each}
+use Rattle.goal_answers.specs.Goals.{Asked, Rule, System, Each, key}
 use Rattle.goal_answers.specs.Answers.{answers}
 use Rattle.goal_answers.specs.Proofs.{Says, HasProof}
-use Rattle.goal_answers.specs.Selecting.{Choice, by_clause, by_rule, by_parts, by_size, Selects}
+use Rattle.goal_answers.specs.Selecting.{Choice, by_clause, by_rule, by_parts, by_size, IsTraitKind, IsDeep, Selects}
 use Rattle.goal_facts.specs.declared.proof.ProofSource.{ProofSource}
 use Rattle.goal_facts.specs.declared.proof.ProofSource.TheVariants as source
 use Rattle.goal_facts.specs.Goals.{trait_goal, asked_goal}
@@ -73,6 +75,26 @@ goals_of_first id _ = []
 abbrev pub self_part_goals : TraitRef → List Goal
 self_part_goals r = goals_of_first (out-TraitRef r).id (slice_get (out-TraitRef r).args 0)
 
+-- ---- heads
+
+-- these heads alone stand in what the goal is about: in its arguments, of a projection in those of the alias
+abbrev pub HasHeadsOf : Shape → Asked → Type 0
+HasHeadsOf P g = IsMadeOf P rest (key g.kind g.parts)
+
+abbrev pub RuleHasHeadsOf : Shape → Rule → Type 0
+RuleHasHeadsOf P r = HasHeadsOf P r.head × Each (HasHeadsOf P) r.preds
+
+-- and in each source of goals about traits
+pub record SystemHasHeadsOf (P : Shape) (f : System) : Type 0 where
+  pub clauses : (i : ℕ) (r : Rule) → slice_get f.clauses i ≡ Some r → IsTraitKind r.head.kind → RuleHasHeadsOf P r
+  pub rules : (i : ℕ) (r : Rule) → slice_get f.rules i ≡ Some r → IsTraitKind r.head.kind → RuleHasHeadsOf P r
+
+-- no head comes into the table, nor into what is asked for, but those of the table, the goal and the sources
+abbrev pub BringsNoHead : System → State → State → Goal → List Goal → Type 0
+BringsNoHead f before after g qs =
+    (P : Shape) → NoAlias P → (h : Head) → IsTrue (P h 0) → SystemHasHeadsOf P f → BindsOnly P (log_of (bindings before)) → HasHeadsOf P (asked_goal g) →
+    BindsOnly P (log_of (bindings after)) × Each (λ q. HasHeadsOf P (asked_goal q)) qs
+
 -- ---- a step
 
 -- at a filling of the goal's holes: it has the source, which asks for these goals
@@ -114,6 +136,8 @@ pub record IsSelected (raw : RawFacts) (f : System) (n : ℕ) (before after : St
   pub right : (s : Fill) → IsFilling s → Meets s after → IsRightSource raw f s g made.source made.preds.items
   pub general : IsSole by → LosesNothing f n before after g made.preds.items
   pub holes : Each (GoalIsOf after) made.preds.items
+  pub heads : BringsNoHead f before after g made.preds.items
+  pub depth : IsDeep n ⊎ (made.preds.items ≡ [])
 
 -- it was, or nothing selects it
 abbrev pub IsSelectedIf : RawFacts → System → ℕ → State → State → Goal → Option Selected → Type 0

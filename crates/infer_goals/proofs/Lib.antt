@@ -1,0 +1,7 @@
+pub mod Kept
+pub mod Later
+pub mod Lists
+pub mod Scanning
+pub mod Settling
+pub mod Steps
+pub mod Trying

@@ -2,8 +2,12 @@
 #![tactic(auto)]
 
 mod inspect;
+mod obligations;
 mod table;
+#[cfg(test)]
+mod tests;
 
 pub use goal_facts::Answer;
 pub use inspect::{ObligationInspector, ToldList};
+pub use obligations::Obligations;
 pub use table::GoalTable;

@@ -1,16 +1,22 @@
 //! The goals that inference of a body meets.
-ghost use Rattle.std.specs.Prelude.{◌≡◌, ◌↔◌, ◌++◌, ◌∷◌, [], true, IsTrue, IfOk};
+ghost use Rattle.std.specs.Prelude.{◌≡◌, ◌↔◌, ◌++◌, ◌∷◌, [], true, IsTrue, IfOk, OnOk};
 ghost use Rattle.hir_types.specs.Terms.{term};
 ghost use Rattle.infer_table.specs.Table.{new_state, resolved_type};
 ghost use Rattle.goal_search.specs.Sources.{system};
 ghost use Rattle.goal_search.specs.Sized.{IsSizedAt};
+ghost use Rattle.goal_answers.specs.Answers.{answers};
 ghost use Rattle.goal_facts.specs.Goals.{asked_goal, IsAnswer};
+ghost use Rattle.goal_facts.specs.Proofs.{AreProofsUnder};
 ghost use Rattle.goal_facts.specs.Systems.{IsSystemOf};
+ghost use Rattle.goal_select.specs.Steps.{GoalIsOf};
+ghost use Rattle.goal_tree.specs.Trees.{registered, IsAsked, pending_of};
 ghost use Rattle.infer_goals.specs.Told.{resolved_goal, IsToldOf};
+ghost use Rattle.infer_goals.specs.Obligations.{AreKept, HasAllOpen, NoneLeft, Went, BoundMore};
 
 use crate::inspect::ObligationInspector;
-use goal_facts::{Answer, ItemSources};
-use hir_facts::{Facts, GenericDefId, Goal, Ty};
+use crate::obligations::Obligations;
+use goal_facts::{Answer, ItemSources, Proof};
+use hir_facts::{ExprOrPatId, Facts, GenericDefId, Goal, Ty};
 use infer_table::InferenceTable;
 use std::alloc::{AllocError, Global};
 
@@ -23,6 +29,7 @@ pub struct GoalTable<'a, I> {
     /// Whether goals are still selected under a bound: true until holes fall back.
     pub bounded: bool,
     sources: ItemSources<'a>,
+    obligations: Obligations,
     inspect: Option<&'a mut I>,
     told: Vec<(Goal, Answer)>,
 }
@@ -39,6 +46,11 @@ impl<'a, I: ObligationInspector> GoalTable<'a, I> {
         ensures env { IfOk result (λ made. made.sources.item ≡ env) }
         ensures table { IfOk result (λ made. made.table ≡ new_state) }
         ensures bounded { IfOk result (λ made. made.bounded ≡ true) }
+        ensures kept { IfOk result (λ made. AreKept facts.now (system made.sources.sources) made.table made.obligations) }
+        ensures all { IfOk result (λ made. HasAllOpen made.obligations) }
+        ensures obligations { IfOk result (λ made. made.obligations.tree.obligations.items ≡ []) }
+        ensures proofs { IfOk result (λ made. made.obligations.tree.proofs.items ≡ []) }
+        ensures selected { IfOk result (λ made. made.obligations.selected ≡ 0) }
         ensures told { IfOk result (λ made. made.told.items ≡ []) }
         ensures inspect { IfOk result (λ made. made.inspect ≡ inspect.entry) }
     {
@@ -47,6 +59,7 @@ impl<'a, I: ObligationInspector> GoalTable<'a, I> {
             table: InferenceTable::new(alloc)?,
             bounded: true,
             sources: ItemSources::new(alloc, facts, env)?,
+            obligations: Obligations::new(alloc),
             inspect,
             told: Vec::new(alloc),
         })
@@ -75,6 +88,7 @@ impl<'a, I: ObligationInspector> GoalTable<'a, I> {
         ensures table { self.new.table ≡ self.old.table }
         ensures bounded { self.new.bounded ≡ self.old.bounded }
         ensures sources { self.new.sources ≡ self.old.sources }
+        ensures obligations { self.new.obligations ≡ self.old.obligations }
     {
         let resolved = self.table.resolve(goal)?;
         let answer = self.sources.evaluate(self.alloc, &resolved)?;
@@ -104,5 +118,73 @@ impl<'a, I: ObligationInspector> GoalTable<'a, I> {
             told.push((entry.0.dup(self.alloc)?, entry.1))?;
         }
         Ok(told)
+    }
+
+    /// Adds a goal that a node needs. It may be followed as far as the facts let goals be.
+    pub fn register_obligation(&mut self, goal: Goal, node: ExprOrPatId) -> Result<(), AllocError>
+        requires goal { GoalIsOf self.old.table goal }
+        requires kept { AreKept self.old.sources.facts (system self.old.sources.sources) self.old.table self.old.obligations }
+        requires all { HasAllOpen self.old.obligations }
+        ensures asked { OnOk result (IsAsked self.old.obligations.tree self.new.obligations.tree (registered goal node self.old.sources.facts.limits.goal_depth ∷ [])) }
+        ensures kept { OnOk result (AreKept self.new.sources.facts (system self.new.sources.sources) self.new.table self.new.obligations) }
+        ensures all { OnOk result (HasAllOpen self.new.obligations) }
+        ensures selected { OnOk result (self.new.obligations.selected ≡ self.old.obligations.selected) }
+        ensures table { self.new.table ≡ self.old.table }
+        ensures bounded { self.new.bounded ≡ self.old.bounded }
+        ensures sources { self.new.sources ≡ self.old.sources }
+        ensures told { self.new.told.items ≡ self.old.told.items }
+        ensures inspect { self.new.inspect ≡ self.old.inspect }
+    {
+        let depth = self.sources.facts().raw().limits.goal_depth;
+        self.obligations.register(goal, node, depth)?;
+        Ok(())
+    }
+
+    /// Selects what can be selected of the registered goals, and of what their sources ask for, until
+    /// nothing selects any more; under a bound at most as many as the facts let be. Whether a hole was
+    /// bound by that.
+    pub fn select_obligations_where_possible(&mut self) -> Result<bool, AllocError>
+        requires kept { AreKept self.old.sources.facts (system self.old.sources.sources) self.old.table self.old.obligations }
+        requires all { HasAllOpen self.old.obligations }
+        ensures given { IfOk result (λ _. IsSystemOf self.old.sources.facts self.old.sources.item (system self.old.sources.sources)) }
+        ensures kept { OnOk result (AreKept self.new.sources.facts (system self.new.sources.sources) self.new.table self.new.obligations) }
+        ensures all { OnOk result (HasAllOpen self.new.obligations) }
+        ensures went { OnOk result (Went self.old.sources.facts (system self.old.sources.sources) self.old.bounded self.old.table self.old.obligations self.new.table self.new.obligations) }
+        ensures none_left { OnOk result (NoneLeft self.new.sources.facts (system self.new.sources.sources) self.old.bounded self.new.table self.new.obligations) }
+        ensures answer { IfOk result (λ bound. IsTrue bound ↔ BoundMore self.old.table self.new.table) }
+        ensures bounded { self.new.bounded ≡ self.old.bounded }
+        ensures sources { self.new.sources ≡ self.old.sources }
+        ensures told { self.new.told.items ≡ self.old.told.items }
+        ensures inspect { self.new.inspect ≡ self.old.inspect }
+    {
+        self.sources.lawful();
+        let before = self.table.bound_count();
+        self.obligations
+            .select_where_possible(&self.sources, &mut self.table, self.bounded)?;
+        Ok(self.table.bound_count() > before)
+    }
+
+    /// The registered goals without proof, each with its node, in the order in which they were registered.
+    pub fn pending(&self) -> Result<Vec<(Goal, ExprOrPatId)>, AllocError>
+        requires { AreKept self.now.sources.facts (system self.now.sources.sources) self.now.table self.now.obligations }
+        ensures { IfOk result (λ made. made.items ≡ pending_of self.now.obligations.tree.obligations.items self.now.obligations.tree.standings.items) }
+    {
+        self.obligations.tree.pending()
+    }
+
+    /// The proofs that were made. A proof has a greater number than those of what its source asks for.
+    pub fn proofs(&self) -> Result<Vec<Proof>, AllocError>
+        requires { AreKept self.now.sources.facts (system self.now.sources.sources) self.now.table self.now.obligations }
+        ensures proofs { IfOk result (λ made. made.items ≡ self.now.obligations.tree.proofs.items) }
+        ensures right { IfOk result (λ made. AreProofsUnder self.now.sources.facts (system self.now.sources.sources) (answers (system self.now.sources.sources) self.now.sources.facts.limits.goal_depth).Alias self.now.table made.items) }
+    {
+        self.obligations.tree.proofs()
+    }
+
+    /// How many goals were selected while selection was bounded.
+    pub fn selected(&self) -> u64
+        ensures { result ≡ self.now.obligations.selected }
+    {
+        self.obligations.selected
     }
 }

@@ -1,0 +1,152 @@
+-- Goals that were registered: what selects them, step after step, and which are left.
+use Rattle.std.specs.Prelude.{◌≡◌, ◌⊎◌, ◌≤◌, ◌<◌, ◌+◌, ◌-◌, ◌++◌, ℕ, if◌then◌else◌, Bool, true, false, IsTrue, List, [], ◌∷◌, length, slice_get, Some}
+use Rattle.std.specs.List.{range_with_len}
+use Rattle.hir_raw.specs.declared.raw.RawFacts.{RawFacts}
+use Rattle.infer_table.specs.Table.{State, Meets, bindings}
+use Rattle.goal_answers.specs.Reading.{Fill, IsFilling}
+use Rattle.goal_answers.specs.Goals.{System}
+use Rattle.goal_answers.specs.Answers.{answers}
+use Rattle.goal_answers.specs.Selecting.{Choice, Selects}
+use Rattle.goal_facts.specs.Goals.{asked_goal}
+use Rattle.goal_select.specs.declared.select.Selected.{Selected}
+use Rattle.goal_select.specs.Steps.{known_goal, GoalIsOf, IsSelected}
+use Rattle.goal_tree.specs.declared.obligation.Obligation.{Obligation}
+use Rattle.goal_tree.specs.declared.tree.GoalTree.{GoalTree}
+use Rattle.goal_tree.specs.Trees.{IsTree, IsOpenAt, IsSelectedBy}
+use Rattle.goal_tree.specs.Right.{IsRight}
+use Rattle.infer_goals.specs.declared.obligations.Obligations.{Obligations}
+
+-- ---- steps of selection
+
+-- an obligation that is open is selected by a source, which the table then says
+pub record IsStep (raw : RawFacts) (f : System) (s : State) (t : GoalTree) (s' : State) (t' : GoalTree) : Type 0 where
+  pub at : ℕ
+  pub obligation : Obligation
+  pub made : Selected
+  pub listed : slice_get t.obligations.items at ≡ Some obligation
+  pub is_open : IsOpenAt t.standings.items at
+  pub selected : IsSelected raw f obligation.depth s s' obligation.goal made
+  pub by : IsSelectedBy t t' at made.source made.preds.items
+
+-- one step after another, each to its table and tree, the last to these
+abbrev pub AreSteps : RawFacts → System → List (State × GoalTree) → State → GoalTree → State → GoalTree → Type 0
+AreSteps raw f [] s t s' t' = (s' ≡ s) × (t' ≡ t)
+AreSteps raw f (u ∷ us) s t s' t' = IsStep raw f s t u.0 u.1 × AreSteps raw f us u.0 u.1 s' t'
+
+-- under a bound each counts
+abbrev pub counted : Bool → ℕ → ℕ → ℕ
+counted true n m = n + m
+counted false n m = m
+
+-- obligations and table went on by selection alone
+pub record Went (raw : RawFacts) (f : System) (bounded : Bool) (s : State) (o : Obligations) (s' : State) (o' : Obligations) : Type 0 where
+  pub states : List (State × GoalTree)
+  pub steps : AreSteps raw f states s o.tree s' o'.tree
+  pub selected : o'.selected ≡ counted bounded (length states) o.selected
+
+-- a hole was bound
+abbrev pub BoundMore : State → State → Type 0
+BoundMore s s' = length (bindings s) < length (bindings s')
+
+-- ---- what holds at any time
+
+-- each hole is one of the table, no goal is followed further than the facts let it, and each source is right at each filling without
+-- aliases that agrees with the table
+pub record AreKept (raw : RawFacts) (f : System) (s : State) (o : Obligations) : Type 0 where
+  pub tree : IsTree o.tree
+  pub goals : (i : ℕ) (x : Obligation) → slice_get o.tree.obligations.items i ≡ Some x → GoalIsOf s x.goal
+  pub depths : (i : ℕ) (x : Obligation) → slice_get o.tree.obligations.items i ≡ Some x → x.depth ≤ raw.limits.goal_depth
+  pub right : (x : Fill) → IsFilling x → Meets x s → IsRight raw f (answers f raw.limits.goal_depth).Alias x o.tree
+  pub selected : o.selected ≤ raw.limits.goal_steps
+
+-- ---- lists of obligations
+
+abbrev pub IsAmong : List ℕ → ℕ → Type 0
+IsAmong xs i = (k : ℕ) × (slice_get xs k ≡ Some i)
+
+-- of each that is listed the depth is at most this
+abbrev pub AreWithin : GoalTree → ℕ → List ℕ → Type 0
+AreWithin t d xs = (k i : ℕ) → slice_get xs k ≡ Some i → (x : Obligation) × (slice_get t.obligations.items i ≡ Some x) × (x.depth ≤ d)
+
+abbrev pub AreBelow : GoalTree → ℕ → List ℕ → Type 0
+AreBelow t d xs = (k i : ℕ) → slice_get xs k ≡ Some i → (x : Obligation) × (slice_get t.obligations.items i ≡ Some x) × (x.depth < d)
+
+abbrev pub AreAt : GoalTree → ℕ → List ℕ → Type 0
+AreAt t d xs = (k i : ℕ) → slice_get xs k ≡ Some i → (x : Obligation) × (slice_get t.obligations.items i ≡ Some x) × (x.depth ≡ d)
+
+-- each that is open is to be looked at, and no others than there are
+pub record HasAllOpen (o : Obligations) : Type 0 where
+  pub all : (i : ℕ) → IsOpenAt o.tree.standings.items i → IsAmong o.todo.items i
+  pub within : (k i : ℕ) → slice_get o.todo.items k ≡ Some i → i < length o.tree.obligations.items
+
+-- what was listed or is new, and is open, is listed after
+abbrev pub KeepsOpen : GoalTree → List ℕ → GoalTree → List ℕ → Type 0
+KeepsOpen t xs t' ys = (i : ℕ) → IsOpenAt t'.standings.items i → (IsAmong xs i ⊎ (length t.obligations.items ≤ i)) → IsAmong ys i
+
+-- each is in one of the two
+abbrev pub AreAmongEither : List ℕ → List ℕ → List ℕ → Type 0
+AreAmongEither xs ys zs = (i : ℕ) → IsAmong xs i → IsAmong ys i ⊎ IsAmong zs i
+
+-- the same of two lists
+abbrev pub ScansOpen : GoalTree → List ℕ → List ℕ → GoalTree → List ℕ → List ℕ → Type 0
+ScansOpen t here below t' here' below' =
+    (i : ℕ) → IsOpenAt t'.standings.items i → (IsAmong here i → IsAmong here' i) × ((IsAmong below i ⊎ (length t.obligations.items ≤ i)) → IsAmong below' i)
+
+-- ---- what is left
+
+-- nothing selects it with what is known of its holes
+abbrev pub IsSettled : System → State → GoalTree → ℕ → Type 0
+IsSettled f s t i = (x : Obligation) → slice_get t.obligations.items i ≡ Some x → (by : Choice) → Selects f x.depth (asked_goal (known_goal s x.goal)) by → ⊥
+
+-- as many were selected as may be
+abbrev pub AreUsedUp : RawFacts → Bool → Obligations → Type 0
+AreUsedUp raw bounded o = IsTrue bounded × (o.selected ≡ raw.limits.goal_steps)
+
+-- nothing selects any of these
+abbrev pub AreSettled : RawFacts → System → Bool → State → Obligations → List ℕ → Type 0
+AreSettled raw f bounded s o xs = AreUsedUp raw bounded o ⊎ ((i : ℕ) → IsAmong xs i → IsSettled f s o.tree i)
+
+-- nothing selects any that is open
+abbrev pub NoneLeft : RawFacts → System → Bool → State → Obligations → Type 0
+NoneLeft raw f bounded s o = AreUsedUp raw bounded o ⊎ ((i : ℕ) → IsOpenAt o.tree.standings.items i → IsSettled f s o.tree i)
+
+-- nothing was done
+pub record Stays (s : State) (o : Obligations) (s' : State) (o' : Obligations) : Type 0 where
+  pub table : s' ≡ s
+  pub tree : o'.tree ≡ o.tree
+  pub selected : o'.selected ≡ o.selected
+
+-- what came behind is followed less far than the obligation
+abbrev pub AreLower : GoalTree → ℕ → GoalTree → Type 0
+AreLower t i t' =
+    (x : Obligation) → slice_get t.obligations.items i ≡ Some x → (j : ℕ) (y : Obligation) → length t.obligations.items ≤ j → slice_get t'.obligations.items j ≡ Some y → y.depth < x.depth
+
+-- the numbers of what came behind
+abbrev pub new_numbers : GoalTree → GoalTree → List ℕ
+new_numbers t t' = range_with_len (length t.obligations.items) (length t'.obligations.items - length t.obligations.items)
+
+-- as many are left: nothing was done
+abbrev pub StaysSettled : RawFacts → System → Bool → State → Obligations → List ℕ → List ℕ → State → Obligations → List ℕ → List ℕ → Type 0
+StaysSettled raw f bounded s o here below s' o' here' below' =
+    length here' ≡ length here → Stays s o s' o' × (here' ≡ here) × (below' ≡ below) × AreSettled raw f bounded s' o' here'
+
+-- the obligation was selected, or nothing was done since nothing selects it or as many were selected as may be
+abbrev pub IsTried : RawFacts → System → Bool → State → Obligations → ℕ → State → Obligations → Bool → Type 0
+IsTried raw f bounded s o i s' o' true = (IsOpenAt o'.tree.standings.items i → ⊥)
+IsTried raw f bounded s o i s' o' false = Stays s o s' o' × (AreUsedUp raw bounded o ⊎ IsSettled f s o.tree i)
+
+-- one was looked at: it is left where it is open still
+pub record IsVisited (raw : RawFacts) (f : System) (bounded : Bool) (s : State) (o : Obligations) (at : ℕ) (below left : List ℕ) (s' : State) (o' : Obligations) (below' left' : List ℕ) : Type 0 where
+  pub done : Bool
+  pub went : Went raw f bounded s o s' o'
+  pub tried : IsTried raw f bounded s o at s' o' done
+  pub leaves : left' ≡ (if done then left else left ++ at ∷ [])
+  pub adds : below' ≡ below ++ new_numbers o.tree o'.tree
+  pub lower : AreLower o.tree at o'.tree
+
+-- these were looked at, one after another; where they are of one depth, and the others below it, so it is after
+pub record AreScanned (raw : RawFacts) (f : System) (bounded : Bool) (s : State) (o : Obligations) (here below : List ℕ) (s' : State) (o' : Obligations) (here' below' : List ℕ) : Type 0 where
+  pub went : Went raw f bounded s o s' o'
+  pub fewer : length here' ≤ length here
+  pub at : (d : ℕ) → AreAt o.tree d here → AreBelow o.tree d below → AreAt o'.tree d here' × AreBelow o'.tree d below' × ScansOpen o.tree here below o'.tree here' below'
+  pub settled : StaysSettled raw f bounded s o here below s' o' here' below'

@@ -1,0 +1,265 @@
+//! The goals that inference of a body registers, and their selection: `infer/unify.rs`,
+//! `select_obligations_where_possible`.
+ghost use Rattle.std.specs.Prelude.{◌≡◌, ◌↔◌, ◌++◌, ◌-◌, ◌≤◌, ◌<◌, ◌^◌, ◌∷◌, [], length, IfOk, OnOk, IsTrue};
+ghost use Rattle.std.specs.List.{range_with_len};
+ghost use Rattle.goal_search.specs.Sources.{system};
+ghost use Rattle.goal_tree.specs.Trees.{IsTree, IsOpenAt, registered, IsAsked};
+ghost use Rattle.infer_goals.specs.Obligations.{AreKept, AreWithin, AreBelow, AreAt, HasAllOpen, AreUsedUp, AreSettled, NoneLeft, Went, counted, KeepsOpen, AreAmongEither, AreScanned, AreLower, new_numbers, IsTried, IsVisited};
+
+use goal_facts::ItemSources;
+use goal_select::{Selected, select_goal};
+use goal_tree::GoalTree;
+use hir_facts::{ExprOrPatId, Goal};
+use infer_table::InferenceTable;
+use std::alloc::{AllocError, Global};
+
+/// The goals that were registered, with those that their sources ask for.
+#[derive(Debug, Drop)]
+pub struct Obligations {
+    alloc: Global,
+    pub(crate) tree: GoalTree,
+    /// The numbers of those that have no source yet.
+    todo: Vec<usize>,
+    /// How many were selected while selection was bounded.
+    pub(crate) selected: u64,
+}
+
+impl Obligations {
+    /// None yet.
+    pub fn new(alloc: Global) -> Obligations
+        ensures tree { IsTree result.tree }
+        ensures obligations { result.tree.obligations.items ≡ [] }
+        ensures proofs { result.tree.proofs.items ≡ [] }
+        ensures selected { result.selected ≡ 0 }
+        ensures all { HasAllOpen result }
+    {
+        Obligations {
+            alloc,
+            tree: GoalTree::new(alloc),
+            todo: Vec::new(alloc),
+            selected: 0,
+        }
+    }
+
+    /// Adds a goal that a node needs, which may be followed for so many steps.
+    pub fn register(&mut self, goal: Goal, node: ExprOrPatId, depth: u32) -> Result<(), AllocError>
+        requires tree { IsTree self.old.tree }
+        requires all { HasAllOpen self.old }
+        ensures asked { OnOk result (IsAsked self.old.tree self.new.tree (registered goal node depth ∷ [])) }
+        ensures tree { OnOk result (IsTree self.new.tree) }
+        ensures selected { OnOk result (self.new.selected ≡ self.old.selected) }
+        ensures all { OnOk result (HasAllOpen self.new) }
+    {
+        let number = self.tree.len();
+        self.tree.register(goal, node, depth)?;
+        self.todo.push(number)?;
+        Ok(())
+    }
+
+    /// Whether as many were selected as may be.
+    fn are_used_up(&self, sources: &ItemSources<'_>, bounded: bool) -> bool
+        ensures used { IsTrue result ↔ AreUsedUp sources.now.facts bounded self.now }
+        ensures limit { sources.now.facts.limits.goal_steps < 2 ^ 32 }
+    {
+        let most = sources.facts().raw().limits.goal_steps as u64;
+        bounded && self.selected == most
+    }
+
+    /// Counts one that was selected, while selection is bounded.
+    fn count(&mut self, bounded: bool)
+        requires { self.old.selected < 2 ^ 32 }
+        ensures tree { self.new.tree ≡ self.old.tree }
+        ensures selected { self.new.selected ≡ counted bounded 1 self.old.selected }
+    {
+        if bounded {
+            self.selected += 1;
+        }
+    }
+
+    /// Adds the numbers of all obligations from this one on.
+    fn push_new(&self, first: usize, below: &mut Vec<usize>) -> Result<(), AllocError>
+        requires { first ≤ length self.now.tree.obligations.items }
+        ensures { OnOk result (below.new.items ≡ below.old.items ++ range_with_len first (length self.now.tree.obligations.items - first)) }
+    {
+        for number in first..self.tree.len() {
+            below.push(number)?;
+        }
+        Ok(())
+    }
+
+    /// Selects the obligation of this number, which is open, where something selects it, and adds the
+    /// numbers of those that its source asks for.
+    fn try_select(
+        &mut self,
+        sources: &ItemSources<'_>,
+        table: &mut InferenceTable,
+        bounded: bool,
+        at: usize,
+        below: &mut Vec<usize>,
+    ) -> Result<bool, AllocError>
+        requires kept { AreKept sources.now.facts (system sources.now.sources) table.old self.old }
+        requires is_open { IsOpenAt self.old.tree.standings.items at }
+        ensures kept { OnOk result (AreKept sources.now.facts (system sources.now.sources) table.new self.new) }
+        ensures went { OnOk result (Went sources.now.facts (system sources.now.sources) bounded table.old self.old table.new self.new) }
+        ensures tried { IfOk result (λ done. IsTried sources.now.facts (system sources.now.sources) bounded table.old self.old at table.new self.new done) }
+        ensures below { OnOk result (below.new.items ≡ below.old.items ++ new_numbers self.old.tree self.new.tree) }
+        ensures lower { OnOk result (AreLower self.old.tree at self.new.tree) }
+    {
+        if self.are_used_up(sources, bounded) {
+            return Ok(false);
+        }
+        let obligation = self.tree.obligation(at);
+        let (goal, depth) = (&obligation.goal, obligation.depth);
+        let Some(Selected { source, preds }) = select_goal(self.alloc, sources, table, goal, depth)?
+        else {
+            return Ok(false);
+        };
+        let first = self.tree.len();
+        self.tree.select(at, source, preds)?;
+        self.push_new(first, below)?;
+        self.count(bounded);
+        Ok(true)
+    }
+
+    /// Selects the obligation of this number where it is open and something selects it, and adds it to those
+    /// that are left where it is open still.
+    fn visit(
+        &mut self,
+        sources: &ItemSources<'_>,
+        table: &mut InferenceTable,
+        bounded: bool,
+        at: usize,
+        below: &mut Vec<usize>,
+        left: &mut Vec<usize>,
+    ) -> Result<(), AllocError>
+        requires { AreKept sources.now.facts (system sources.now.sources) table.old self.old }
+        ensures kept { OnOk result (AreKept sources.now.facts (system sources.now.sources) table.new self.new) }
+        ensures visited { OnOk result (IsVisited sources.now.facts (system sources.now.sources) bounded table.old self.old at below.old.items left.old.items table.new self.new below.new.items left.new.items) }
+    {
+        if !self.tree.is_open(at) {
+            return Ok(());
+        }
+        if self.try_select(sources, table, bounded, at, below)? {
+            return Ok(());
+        }
+        left.push(at)?;
+        Ok(())
+    }
+
+    /// Looks once at each of these. Gives those that are open still, and adds what the sources of the others
+    /// ask for to those below.
+    fn scan(
+        &mut self,
+        sources: &ItemSources<'_>,
+        table: &mut InferenceTable,
+        bounded: bool,
+        here: Vec<usize>,
+        below: &mut Vec<usize>,
+    ) -> Result<Vec<usize>, AllocError>
+        requires { AreKept sources.now.facts (system sources.now.sources) table.old self.old }
+        ensures kept { OnOk result (AreKept sources.now.facts (system sources.now.sources) table.new self.new) }
+        ensures scanned { IfOk result (λ left. AreScanned sources.now.facts (system sources.now.sources) bounded table.old self.old here.items below.old.items table.new self.new left.items below.new.items) }
+    {
+        let mut left = Vec::new(self.alloc);
+        for at in here {
+            self.visit(sources, table, bounded, at, below, &mut left)?;
+        }
+        Ok(left)
+    }
+
+    /// Those of these that are of this depth, and the others.
+    fn split(&self, numbers: Vec<usize>, depth: u32) -> Result<(Vec<usize>, Vec<usize>), AllocError>
+        requires { AreWithin self.now.tree depth numbers.items }
+        ensures here { IfOk result (λ made. AreAt self.now.tree depth made.0.items) }
+        ensures below { IfOk result (λ made. AreBelow self.now.tree depth made.1.items) }
+        ensures all { IfOk result (λ made. AreAmongEither numbers.items made.0.items made.1.items) }
+    {
+        let mut here = Vec::new(self.alloc);
+        let mut below = Vec::new(self.alloc);
+        for at in numbers {
+            if self.tree.obligation(at).depth == depth {
+                here.push(at)?;
+            } else {
+                below.push(at)?;
+            }
+        }
+        Ok((here, below))
+    }
+
+    /// Settles these, each of which may be followed for fewer steps than this. Gives those that are open
+    /// still.
+    #[cycle(settle)]
+    fn settle_below(
+        &mut self,
+        sources: &ItemSources<'_>,
+        table: &mut InferenceTable,
+        bounded: bool,
+        below: Vec<usize>,
+        depth: u32,
+    ) -> Result<Vec<usize>, AllocError>
+        requires kept { AreKept sources.now.facts (system sources.now.sources) table.old self.old }
+        requires below { AreBelow self.old.tree depth below.items }
+        ensures kept { OnOk result (AreKept sources.now.facts (system sources.now.sources) table.new self.new) }
+        ensures went { OnOk result (Went sources.now.facts (system sources.now.sources) bounded table.old self.old table.new self.new) }
+        ensures below { IfOk result (λ left. AreBelow self.new.tree depth left.items) }
+        ensures all { IfOk result (λ left. KeepsOpen self.old.tree below.items self.new.tree left.items) }
+        ensures settled { IfOk result (λ left. AreSettled sources.now.facts (system sources.now.sources) bounded table.new self.new left.items) }
+    {
+        match depth.checked_sub(1) {
+            Some(depth) => self.settle(sources, table, bounded, below, depth),
+            None => Ok(below),
+        }
+    }
+
+    /// Selects these, each of which may be followed for at most so many steps, and what their sources ask
+    /// for, until nothing selects any more. Gives those that are open still.
+    #[cycle(settle)]
+    fn settle(
+        &mut self,
+        sources: &ItemSources<'_>,
+        table: &mut InferenceTable,
+        bounded: bool,
+        numbers: Vec<usize>,
+        depth: u32,
+    ) -> Result<Vec<usize>, AllocError>
+        requires kept { AreKept sources.now.facts (system sources.now.sources) table.old self.old }
+        requires within { AreWithin self.old.tree depth numbers.items }
+        ensures kept { OnOk result (AreKept sources.now.facts (system sources.now.sources) table.new self.new) }
+        ensures went { OnOk result (Went sources.now.facts (system sources.now.sources) bounded table.old self.old table.new self.new) }
+        ensures within { IfOk result (λ left. AreWithin self.new.tree depth left.items) }
+        ensures all { IfOk result (λ left. KeepsOpen self.old.tree numbers.items self.new.tree left.items) }
+        ensures settled { IfOk result (λ left. AreSettled sources.now.facts (system sources.now.sources) bounded table.new self.new left.items) }
+    {
+        let (mut here, mut below) = self.split(numbers, depth)?;
+        loop {
+            below = self.settle_below(sources, table, bounded, below, depth)?;
+            let count = here.len();
+            here = self.scan(sources, table, bounded, here, &mut below)?;
+            if here.len() == count {
+                break;
+            }
+        }
+        here.append(&mut below)?;
+        Ok(here)
+    }
+
+    /// Selects what can be selected, and what that asks for, until nothing selects any more.
+    pub fn select_where_possible(
+        &mut self,
+        sources: &ItemSources<'_>,
+        table: &mut InferenceTable,
+        bounded: bool,
+    ) -> Result<(), AllocError>
+        requires kept { AreKept sources.now.facts (system sources.now.sources) table.old self.old }
+        requires all { HasAllOpen self.old }
+        ensures kept { OnOk result (AreKept sources.now.facts (system sources.now.sources) table.new self.new) }
+        ensures all { OnOk result (HasAllOpen self.new) }
+        ensures went { OnOk result (Went sources.now.facts (system sources.now.sources) bounded table.old self.old table.new self.new) }
+        ensures none_left { OnOk result (NoneLeft sources.now.facts (system sources.now.sources) bounded table.new self.new) }
+    {
+        let depth = sources.facts().raw().limits.goal_depth;
+        let numbers = std::mem::replace(&mut self.todo, Vec::new(self.alloc));
+        self.todo = self.settle(sources, table, bounded, numbers, depth)?;
+        Ok(())
+    }
+}
