@@ -1,5 +1,5 @@
--- Bodies that name no item with predicates, so that naming it owes no goal.
-use Rattle.std.specs.Prelude.{Bool, true, ◌&&◌, slice_get, Option, Some, None, IsTrue}
+-- Bodies that name no item with predicates, so that naming it owes no goal; expressions may where no trait has an associated type.
+use Rattle.std.specs.Prelude.{Bool, true, ◌&&◌, ◌||◌, slice_get, Option, Some, None, IsTrue}
 use Rattle.std.specs.List.{list_all}
 use Rattle.hir_raw.specs.declared.raw.RawFn.{RawFn}
 use Rattle.hir_raw.specs.declared.raw.RawAdt.{RawAdt}
@@ -43,11 +43,16 @@ pat_owes_nothing raw (pat.TupleStruct v ps) = ctor_asks_nothing raw (slice_get r
 pat_owes_nothing raw (pat.Path p) = path_owes_nothing raw p
 pat_owes_nothing raw _ = true
 
-abbrev pub body_owes_nothing : RawFacts → RawBody → Bool
-body_owes_nothing raw b = list_all (expr_owes_nothing raw) b.exprs && list_all (pat_owes_nothing raw) b.pats
+-- its expressions owe no goals, or goals that are carried: there are no associated types that these could be about
+abbrev pub exprs_owe_carried : RawFacts → RawBody → Bool
+exprs_owe_carried raw b = list_all (expr_owes_nothing raw) b.exprs || is_empty raw.aliases
 
--- its nodes and bindings are of carried kinds, no item that it names has predicates, and no type in it is a projection
+-- and its patterns owe none
+abbrev pub body_owes_carried : RawFacts → RawBody → Bool
+body_owes_carried raw b = exprs_owe_carried raw b && list_all (pat_owes_nothing raw) b.pats
+
+-- its nodes and bindings are of carried kinds, the goals that it owes are carried, and no type in it is a projection
 pub record BodyIsCarried (raw : RawFacts) (b : RawBody) : Type 0 where
   pub kinds : IsTrue (is_carried_body b)
-  pub owes : IsTrue (body_owes_nothing raw b)
+  pub owes : IsTrue (body_owes_carried raw b)
   pub types : BodyNamesNone raw b

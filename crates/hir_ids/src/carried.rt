@@ -7,7 +7,7 @@ ghost use Rattle.hir_ids.specs.Owed.{BodyIsCarried};
 ghost use Rattle.hir_ids.specs.Projections.{TypeIsCarried, VariantIsCarried, FnIsCarried};
 
 use crate::carried_goals::carries_goals;
-use crate::owed::body_owes_nothing;
+use crate::owed::body_owes_carried;
 use crate::projections::{
     body_names_none, fields_name_none, held_types, is_no_projection, name_no_projection,
 };
@@ -301,7 +301,8 @@ impl Test for FnsCarried {
 }
 
 /// The nodes and bindings of a body are of carried kinds, it has no `self`, names no item with
-/// predicates, and no `let` is written with a projection.
+/// predicates, unless in an expression where there are no associated types, and no `let` is written with a
+/// projection.
 pub struct BodiesCarried;
 
 impl Test for BodiesCarried {
@@ -320,6 +321,6 @@ impl Test for BodiesCarried {
         _at: usize,
         item: &RawBody,
     ) -> Result<bool, AllocError> {
-        Ok(carries_body(item) && body_owes_nothing(raw, item) && body_names_none(raw, item))
+        Ok(carries_body(item) && body_owes_carried(raw, item) && body_names_none(raw, item))
     }
 }
