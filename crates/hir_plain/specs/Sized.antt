@@ -1,6 +1,6 @@
 -- Predicates that say that a type parameter has a size.
-use Rattle.std.specs.Prelude.{ℕ, ◌==◌, nat_lt, Bool, false, List, [], ◌∷◌, slice_get, Option, Some, None, if◌then◌else◌}
-use Rattle.std.specs.List.{list_any}
+use Rattle.std.specs.Prelude.{ℕ, ◌==◌, ◌&&◌, nat_lt, Bool, true, false, List, [], ◌∷◌, slice_get, Option, Some, None, if◌then◌else◌}
+use Rattle.std.specs.List.{list_all, list_any}
 use Rattle.hir_types.specs.declared.ids.TraitId.{TraitId}
 use Rattle.hir_types.specs.declared.ids.TypeRefId.{TypeRefId}
 use Rattle.hir_raw.specs.declared.raw.RawType.{RawType}
@@ -18,9 +18,16 @@ is_sized_lang t (lang.Copy u) = false
 is_sized_lang t (lang.Clone u) = false
 is_sized_lang t lang.Other = false
 
--- the trait is that of types whose size is known
+-- no item but the trait has this name
+abbrev pub is_one_sized_lang : TraitId → RawLang → Bool
+is_one_sized_lang t (lang.Sized u) = u.0 == t.0
+is_one_sized_lang t (lang.Copy u) = true
+is_one_sized_lang t (lang.Clone u) = true
+is_one_sized_lang t lang.Other = true
+
+-- the trait is that of types whose size is known: there is no other
 abbrev pub is_sized_trait : RawFacts → TraitId → Bool
-is_sized_trait raw t = list_any (is_sized_lang t) raw.lang
+is_sized_trait raw t = list_any (is_sized_lang t) raw.lang && list_all (is_one_sized_lang t) raw.lang
 
 -- the number of the parameter that a written type is
 abbrev pub param_number : Option RawType → Option ℕ
