@@ -78,7 +78,7 @@ range_agrees : {X : Type 0} (f g : ℕ → X) (from n : ℕ) → ((k : ℕ) → 
 range_agrees f g from zero h = refl
 range_agrees f g from (suc n) h = ap₂ (λ x xs. x ∷ xs) (h from (omega arith)) (range_agrees f g (from + 1) n (λ k less. h k (omega (arith, less))))
 
-holes_under : (a : Assignment) (n : ℕ) → args_replaced (with_holes a) (holes n) ≡ map (λ k. arg.Ty (a.var k)) (range_with_len 0 n)
+pub holes_under : (a : Assignment) (n : ℕ) → args_replaced (with_holes a) (holes n) ≡ map (λ k. arg.Ty (a.var k)) (range_with_len 0 n)
 holes_under a n =
     map_twice (arg_replaced (with_holes a)) (λ k. arg.Ty (ty.Var k)) (range_with_len 0 n)
     ∙ (λ i. map (λ k. (arg_replaced_type (with_holes a) (ty.Var k) ∙ ap arg.Ty (replaced_var (with_holes a) k)) i) (range_with_len 0 n))

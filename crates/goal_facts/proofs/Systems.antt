@@ -119,7 +119,7 @@ pub depth_is_small : (raw : RawFacts) → IsLawful raw → raw.limits.goal_depth
 depth_is_small raw law = (law.all.1.1.1.1.1.1.1.1.1.1.1.1.1.1.1.1.1.1.1.1.1.1.1.1.1.1.1.1.1.1.1.1.1.1.1.1.1.1.1.1.0 0 raw.limits.goal_depth refl).1
 
 -- a goal whose holes stay is itself
-asked_itself : (g : Asked) → asked_at hole g ≡ g
+pub asked_itself : (g : Asked) → asked_at hole g ≡ g
 asked_itself g = ap (λ t. record g { parts = t }) (apply_hole g.parts)
 
 pub answer_is : (f : System) (n m : ℕ) (g h : Asked) (r : Result Answer AllocError) → m ≡ suc n → g ≡ h

@@ -144,7 +144,7 @@ applied_tells f g (pair a b) e k o = elim (or_cases (occurs k a) (occurs k b) o)
   | inr i ↦ applied_tells f g b (pair_right e) k i
 ]
 
-abbrev IsTypeTerm : Term → Type 0
+abbrev pub IsTypeTerm : Term → Type 0
 IsTypeTerm u = (t : Ty) × (u ≡ term t)
 
 nth_type : (n : ℕ) (ts : List Ty) (u : Term) → IsNth n (chain (parts_of_types ts)) u → IsTypeTerm u
@@ -153,7 +153,7 @@ nth_type zero (t ∷ ts) u h = (t, h)
 nth_type (suc n) [] u h = absurd h
 nth_type (suc n) (t ∷ ts) u h = nth_type n ts u h
 
-type_read_back : (u : Term) → IsTypeTerm u → u ≡ term (type_of_term u)
+pub type_read_back : (u : Term) → IsTypeTerm u → u ≡ term (type_of_term u)
 type_read_back u (t, e) = e ∙ sym (term_erased t) ∙ ap term (sym (term_read t)) ∙ ap (λ v. term (type_of_term v)) (sym e)
 
 module _ (raw : RawFacts) (n : ℕ) (g : RawGoal) (p : Fill) (are : (k : Hole) → occurs k (parts raw n g) ≡ true → IsTypeTerm (p k)) where

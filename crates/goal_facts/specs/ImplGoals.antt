@@ -17,7 +17,7 @@ use Rattle.hir_raw.specs.Scope.{generic_params}
 use Rattle.goal_answers.specs.Reading.{Fill}
 use Rattle.goal_answers.specs.Goals.{Asked, Rule, implements, asked_at, Each}
 use Rattle.goal_facts.specs.declared.impl_goals.RuleGoals.{RuleGoals}
-use Rattle.goal_facts.specs.Arguments.{args_at}
+use Rattle.goal_facts.specs.Arguments.{args_at, goal_at}
 use Rattle.goal_facts.specs.Environment.{Follows}
 use Rattle.goal_facts.specs.Bounds.{IsListed}
 use Rattle.goal_facts.specs.Impls.{impl_rules}
@@ -68,6 +68,19 @@ pub record AreGoalsOf (raw : RawFacts) (first : ℕ) (r : Rule) (made : RuleGoal
   pub preds : map asked_goal made.preds.items ≡ map (asked_at (fresh first)) r.preds
   pub head_holes : HasHolesBelow (generic_params raw (generic.ImplId made.source)) r.head.parts
   pub pred_holes : Each (λ q. HasHolesBelow (generic_params raw (generic.ImplId made.source)) q.parts) r.preds
+
+-- that an impl implements its trait, at these arguments for its parameters
+pub record AreGoalsAt (raw : RawFacts) (id : ImplId) (xs : List GenericArg) (p : RawImpl) (r : RawTraitRef) (made : RuleGoals) : Type 0 where
+  pub source : made.source ≡ id
+  pub args : made.args ≡ xs
+  pub head : asked_goal made.head ≡ head_at raw xs p r
+  pub preds : map asked_goal made.preds.items ≡ map (goal_at raw xs) p.preds
+
+-- or that it implements none
+abbrev pub AreGoalsIf : RawFacts → ImplId → List GenericArg → RawImpl → Option RawTraitRef → Option RuleGoals → Type 0
+AreGoalsIf raw id xs p (Some r) (Some made) = AreGoalsAt raw id xs p r made
+AreGoalsIf raw id xs p None None = Unit {0}
+AreGoalsIf raw id xs p _ _ = ⊥
 
 -- ---- places
 

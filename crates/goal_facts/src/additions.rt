@@ -7,7 +7,8 @@ ghost use Rattle.goal_facts.specs.Additions.{Has, Adds};
 use goal_search::{Asked, is_same_kind};
 use std::alloc::AllocError;
 
-fn is_same(left: &Asked, right: &Asked) -> bool
+/// Whether the two ask for the same.
+pub fn is_same(left: &Asked, right: &Asked) -> bool
     ensures { IsTrue result ↔ (asked_of left.now ≡ asked_of right.now) }
 {
     is_same_kind(left.kind, right.kind) && left.parts.is_same(&right.parts)

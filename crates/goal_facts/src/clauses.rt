@@ -1,14 +1,16 @@
 //! The clauses of an item, as goals of inference.
-ghost use Rattle.std.specs.Prelude.{◌≡◌, ◌<◌, List, length, slice_get, Some, IfOk, map};
+ghost use Rattle.std.specs.Prelude.{◌≡◌, ◌↔◌, ◌<◌, List, length, slice_get, Some, IsTrue, IfOk, map};
 ghost use Rattle.hir_types.specs.declared.ty.Ty.{Ty};
 ghost use Rattle.hir_types.specs.declared.ty.GenericArg.{GenericArg};
 ghost use Rattle.hir_types.specs.declared.goal.Goal.{Goal};
 ghost use Rattle.hir_types.specs.Terms.{pair, chain, term, arg_term};
-ghost use Rattle.goal_answers.specs.Goals.{implements, projects, Rule};
+ghost use Rattle.goal_answers.specs.Goals.{implements, projects, Rule, SomeOf};
 ghost use Rattle.goal_terms.specs.Terms.{term_of};
-ghost use Rattle.goal_search.specs.Sources.{asked_of, system};
+ghost use Rattle.goal_search.specs.Sources.{asked_of, rules_of, system};
 ghost use Rattle.goal_facts.specs.Goals.{asked_goal};
 
+use crate::additions::is_same;
+use crate::asked::asked;
 use crate::item_sources::ItemSources;
 use goal_search::{Asked, Kind};
 use goal_terms::{Term, term_args, term_type};
@@ -52,7 +54,27 @@ fn goal_of(alloc: Global, asked: &Asked) -> Result<Goal, AllocError>
     }
 }
 
+/// Whether the goal is the head of one of the rules.
+fn is_head_of(rules: &[goal_search::Rule], goal: &Asked) -> bool
+    ensures { IsTrue result ↔ SomeOf (λ r. r.head ≡ asked_of goal.now) (rules_of rules.now) }
+{
+    for rule in rules {
+        if is_same(&rule.head, goal) {
+            return true;
+        }
+    }
+    false
+}
+
 impl<'a> ItemSources<'a> {
+    /// Whether a clause is the goal, but for lifetimes.
+    pub fn is_clause(&self, alloc: Global, goal: &Goal) -> Result<bool, AllocError>
+        ensures { IfOk result (λ found. IsTrue found ↔ SomeOf (λ r. r.head ≡ asked_goal goal.now) (system self.now.sources).clauses) }
+    {
+        let goal = asked(alloc, goal)?;
+        Ok(is_head_of(self.sources.clauses.as_slice(), &goal))
+    }
+
     /// The clause at this place, as a goal of inference. It holds without more.
     pub fn clause(&self, alloc: Global, place: usize) -> Result<Goal, AllocError>
         requires { place < length (system self.now.sources).clauses }

@@ -1,15 +1,16 @@
 //! What an impl says as goals over types, with fresh holes for its parameters.
 ghost use Rattle.std.specs.Prelude.{◌≡◌, ◌++◌, ◌∷◌, ◌<◌, length, slice_get, Some, map, IfOk};
 ghost use Rattle.hir_raw.specs.declared.raw.RawFacts.{RawFacts};
+ghost use Rattle.hir_raw.specs.declared.raw.RawImpl.{RawImpl};
 ghost use Rattle.goal_answers.specs.Goals.{Rule};
 ghost use Rattle.goal_answers.specs.Selecting.{IsTraitKind, IsConcrete};
 ghost use Rattle.goal_search.specs.Sources.{system};
 ghost use Rattle.goal_facts.specs.Arguments.{goal_at};
 ghost use Rattle.goal_facts.specs.Goals.{trait_goal, asked_goal};
-ghost use Rattle.goal_facts.specs.Impls.{trait_rule, impl_rules};
-ghost use Rattle.goal_facts.specs.ImplGoals.{holes_from, ImplHasRule, ComesFrom, head_at, AreGoalsOf, IsPlaceBehind, IsPlaceOf};
+ghost use Rattle.goal_facts.specs.Impls.{impl_holes, trait_rule, impl_rules};
+ghost use Rattle.goal_facts.specs.ImplGoals.{holes_from, ImplHasRule, ComesFrom, head_at, AreGoalsOf, AreGoalsAt, AreGoalsIf, IsPlaceBehind, IsPlaceOf};
 
-use crate::arguments::{goal_types, instance, push_instances};
+use crate::arguments::{goal_types, holes, instance, push_instances};
 use crate::item_sources::ItemSources;
 use hir_facts::{
     Facts, GenericArg, Goal, ImplId, List, RawGoal, RawImpl, RawTraitRef, TraitRef, Ty,
@@ -66,7 +67,8 @@ fn goal_of(
     }
 }
 
-fn goals_of(
+/// Written goals, at these arguments for the parameters of their item.
+pub fn goals_of(
     alloc: Global,
     facts: &Facts,
     args: &List<GenericArg>,
@@ -100,7 +102,28 @@ fn trait_of(
     })
 }
 
-/// That an impl implements this trait, which is its own.
+/// That an impl implements this trait, which is its own, at these arguments for its parameters.
+fn impl_goals_at(
+    alloc: Global,
+    facts: &Facts,
+    source: ImplId,
+    item: &RawImpl,
+    trait_ref: &RawTraitRef,
+    args: List<GenericArg>,
+) -> Result<RuleGoals, AllocError>
+    ensures { IfOk result (λ made. AreGoalsAt facts.now source args item.now trait_ref.now made) }
+{
+    let head = trait_of(alloc, facts, &args, item, trait_ref)?;
+    let preds = goals_of(alloc, facts, &args, item.preds.as_slice())?;
+    Ok(RuleGoals {
+        source,
+        args,
+        head: Goal::Trait(head),
+        preds,
+    })
+}
+
+/// The same at fresh holes, the first of this number.
 fn goals_for(
     alloc: Global,
     facts: &Facts,
@@ -114,14 +137,7 @@ fn goals_for(
     ensures { IfOk result (λ made. AreGoalsOf facts.now first (trait_rule facts.now item.now trait_ref.now) made) }
 {
     let args = holes_from(alloc, first, item.params.len())?;
-    let head = trait_of(alloc, facts, &args, item, trait_ref)?;
-    let preds = goals_of(alloc, facts, &args, item.preds.as_slice())?;
-    Ok(RuleGoals {
-        source,
-        args,
-        head: Goal::Trait(head),
-        preds,
-    })
+    impl_goals_at(alloc, facts, source, item, trait_ref, args)
 }
 
 /// That an impl implements its trait.
@@ -204,5 +220,35 @@ impl<'a> ItemSources<'a> {
             unreachable!()
         };
         goals_of_impl(alloc, self.facts(), source, first)
+    }
+
+    /// A hole for each parameter of an impl.
+    pub fn impl_holes(&self, alloc: Global, id: ImplId) -> Result<List<GenericArg>, AllocError>
+        requires { id.0 < length self.now.facts.impls }
+        ensures { IfOk result (λ made. (p : RawImpl) → slice_get self.now.facts.impls id.0 ≡ Some p → made ≡ impl_holes p) }
+    {
+        let item = self.facts().impl_(id);
+        holes(alloc, item.params.len())
+    }
+
+    /// That an impl implements its trait, over types, at these arguments for its parameters; `None` where
+    /// it implements none.
+    pub fn impl_goals(
+        &self,
+        alloc: Global,
+        id: ImplId,
+        args: List<GenericArg>,
+    ) -> Result<Option<RuleGoals>, AllocError>
+        requires { id.0 < length self.now.facts.impls }
+        ensures { IfOk result (λ found. (p : RawImpl) → slice_get self.now.facts.impls id.0 ≡ Some p → AreGoalsIf self.now.facts id args p p.trait_ found) }
+    {
+        let item = self.facts().impl_(id);
+        match &item.trait_ {
+            Some(trait_ref) => {
+                let made = impl_goals_at(alloc, self.facts(), id, item, trait_ref, args)?;
+                Ok(Some(made))
+            }
+            None => Ok(None),
+        }
     }
 }

@@ -1,6 +1,7 @@
 //! What the goals of an item are answered by, and the answers.
 ghost use Rattle.std.specs.Prelude.{◌≡◌, ◌↔◌, IsTrue, IfOk, option_map};
 ghost use Rattle.hir_types.specs.Terms.{term};
+ghost use Rattle.goal_answers.specs.Goals.{implements, is_among};
 ghost use Rattle.goal_answers.specs.Selecting.{IsChoice};
 ghost use Rattle.goal_search.specs.Sources.{system};
 ghost use Rattle.goal_search.specs.Sized.{IsSizedAt};
@@ -10,9 +11,9 @@ ghost use Rattle.goal_facts.specs.Systems.{IsSystemOf};
 
 use crate::asked::asked;
 use crate::sources::sources_of;
-use goal_search::{Answer, Choice, Holes, Search, Sources};
+use goal_search::{Answer, Choice, Holes, Kind, Search, Sources, is_among};
 use goal_terms::type_term;
-use hir_facts::{Facts, GenericDefId, Goal, Ty};
+use hir_facts::{Facts, GenericDefId, Goal, TraitId, Ty};
 use std::alloc::{AllocError, Global};
 use std::marker::Model;
 
@@ -79,6 +80,20 @@ impl<'a> ItemSources<'a> {
         ensures { result ≡ self.now.item }
     {
         self.item
+    }
+
+    /// Whether this is the trait of types with a size.
+    pub fn is_of_sizes(&self, id: TraitId) -> bool
+        ensures { result ≡ is_among (system self.now.sources).sized (implements id) }
+    {
+        is_among(self.sources.sized.as_slice(), Kind::Implements(id))
+    }
+
+    /// Whether the trait holds of some types where it holds of their parts.
+    pub fn is_of_parts(&self, id: TraitId) -> bool
+        ensures { result ≡ is_among (system self.now.sources).copied (implements id) }
+    {
+        is_among(self.sources.copied.as_slice(), Kind::Implements(id))
     }
 
     /// The answer to a goal, whose holes stay, at the depth to which the facts let goals be followed.

@@ -15,6 +15,6 @@ mod proof;
 mod sources;
 
 pub use goal_search::{Answer, Choice};
-pub use impl_goals::RuleGoals;
+pub use impl_goals::{RuleGoals, goals_of};
 pub use item_sources::ItemSources;
 pub use proof::{Proof, ProofSource};

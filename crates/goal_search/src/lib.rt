@@ -18,7 +18,7 @@ mod told;
 pub use answer::Answer;
 pub use choose::Choice;
 pub use holes::Holes;
-pub use parts::{is_same_kind, key_of, self_type};
+pub use parts::{is_among, is_same_kind, key_of, self_type};
 pub use rows::field_at;
 pub use search::Search;
 pub use sources::{Asked, Kind, Rule, Sources};

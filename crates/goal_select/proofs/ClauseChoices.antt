@@ -33,7 +33,7 @@ use Rattle.goal_select.proofs.Choices.{same_kind, more_aliases, goal_reads, righ
 use Rattle.goal_select.proofs.ClauseSteps.{no_holes_stay, clause_can}
 
 -- a term without holes stays
-no_holes_apply : (f : Fill) (t : Term) → HasNoHoles t → apply f t ≡ t
+pub no_holes_apply : (f : Fill) (t : Term) → HasNoHoles t → apply f t ≡ t
 no_holes_apply f t none = apply_agree f hole t (λ k o. absurd (none k o)) ∙ apply_hole t
 
 -- ---- the clause that is chosen

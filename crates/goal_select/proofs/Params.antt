@@ -24,14 +24,14 @@ use Rattle.goal_select.specs.Steps.{with_type_holes}
 
 -- ---- lists of numbers
 
-counted_at : {X : Type 0} (f : ℕ → X) (a n j : ℕ) → j < n → slice_get (map f (range_with_len a n)) j ≡ Some (f (a + j))
+pub counted_at : {X : Type 0} (f : ℕ → X) (a n j : ℕ) → j < n → slice_get (map f (range_with_len a n)) j ≡ Some (f (a + j))
 counted_at f a zero j less = absurd (omega (arith, less))
 counted_at f a (suc n) zero less = let e : a ≡ a + 0 = omega arith in ap (λ k. Some (f k)) e
 counted_at f a (suc n) (suc j) less =
     let e : (a + 1) + j ≡ a + suc j = omega arith in
     counted_at f (a + 1) n j (omega (arith, less)) ∙ ap (λ k. Some (f k)) e
 
-counted_length : {X : Type 0} (f : ℕ → X) (a n : ℕ) → length (map f (range_with_len a n)) ≡ n
+pub counted_length : {X : Type 0} (f : ℕ → X) (a n : ℕ) → length (map f (range_with_len a n)) ≡ n
 counted_length f a zero = refl
 counted_length f a (suc n) = ap suc (counted_length f (a + 1) n)
 

@@ -51,7 +51,7 @@ size_only f n g selects = by_kind (is_among f.sized g.kind) refl selects.source
 -- ---- parts
 
 -- each of a type's parts is proved to be copied where the type is
-parts_proved : (f : System) (Proved : Asked → Type 0) (c : Kind) (w : Term) (ts : List Term) → CopiesParts f c w ts → CopyYes f Proved c w → Each (λ t. Proved (record { kind = c; parts = only t })) ts
+pub parts_proved : (f : System) (Proved : Asked → Type 0) (c : Kind) (w : Term) (ts : List Term) → CopiesParts f c w ts → CopyYes f Proved c w → Each (λ t. Proved (record { kind = c; parts = only t })) ts
 parts_proved f Proved c w ts h y =
     let by_types : EachType (λ t. Proved (record { kind = c; parts = only t })) (types_of h.parts) = subst (λ (x : Copied). CopyYesBy Proved c x) h.copied y.1 in
     subst (EachType (λ t. Proved (record { kind = c; parts = only t }))) h.types by_types

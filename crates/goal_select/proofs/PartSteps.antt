@@ -75,7 +75,7 @@ first_parts s (arg.Ty t) b p e =
     subst (λ u. HasParts s u (part_types (out-Ty t))) (sym is) (type_parts s t p (ap copied (sym is) ∙ e))
 first_parts s (arg.Const c) b p e = absurd (no_const c p (ap (λ a. copied (self_type (pair a b))) (sym (arg_term_const c)) ∙ e))
 
-args_parts : (s : Fill) (xs : List GenericArg) (p : Term) → copied (self_type (chain (map arg_term xs))) ≡ with_parts p → HasParts s (self_type (chain (map arg_term xs))) (first_types (slice_get xs 0))
+pub args_parts : (s : Fill) (xs : List GenericArg) (p : Term) → copied (self_type (chain (map arg_term xs))) ≡ with_parts p → HasParts s (self_type (chain (map arg_term xs))) (first_types (slice_get xs 0))
 args_parts s [] p e = cc
 args_parts s (x ∷ xs) p e = first_parts s x (chain (map arg_term xs)) p e
 

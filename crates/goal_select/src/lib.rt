@@ -5,4 +5,5 @@ mod meeting;
 mod parts;
 mod select;
 
+pub use parts::part_goals;
 pub use select::{Selected, select_goal};

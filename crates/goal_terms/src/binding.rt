@@ -39,7 +39,7 @@ pub(crate) fn bind(bindings: &mut Vec<Binding>, hole: Hole, term: Term) -> Resul
 
 /// Whether the hole stands in the term.
 #[tactic(auto, using(crate::specs::Terms::term_is))]
-pub(crate) fn stands_in(hole: Hole, term: &Term) -> bool
+pub fn stands_in(hole: Hole, term: &Term) -> bool
     ensures { result ≡ occurs hole (term_of term.now) }
 {
     match term {

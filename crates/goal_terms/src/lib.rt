@@ -14,7 +14,7 @@ mod term;
 mod tests;
 mod types;
 
-pub use binding::{Binding, filled, find};
+pub use binding::{Binding, filled, find, stands_in};
 pub use common::find_common;
 pub use conversions::{args_term, type_term};
 pub use equate::{MOST_DEPTH, make_equal};

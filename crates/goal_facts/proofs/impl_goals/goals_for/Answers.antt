@@ -1,15 +1,22 @@
-use Rattle.std.proofs.Common.{◌∙◌, ap, map}
-use Rattle.hir_types.specs.declared.goal.Goal.TheVariants as goal_of
+use Rattle.std.proofs.Common.{◌≡◌, Some, slice_get, sym, ◌∙◌, ap, subst, map}
+use Rattle.std.proofs.lemmas.Result.{IfOk-weaker}
+use Rattle.hir_types.specs.declared.ids.ImplId.{ImplId}
 use Rattle.goal_facts.specs.Arguments.{goal_at}
-use Rattle.goal_facts.specs.ImplGoals.{holes_from}
+use Rattle.goal_facts.specs.Impls.{trait_rule}
+use Rattle.goal_facts.specs.ImplGoals.{holes_from, head_at, AreGoalsOf, AreGoalsAt}
 use Rattle.goal_facts.proofs.FreshGoals.{are_goals}
 use Rattle.goal_facts.proofs.impl_goals.goals_for.Goals as goal
 
 pub returns : goal.returns
 returns c =
     let raw = c.args.facts.now in
-    are_goals raw c.args.first c.args.item.now c.args.trait_ref.now (record { source = c.args.source; args = c.in_ok-args.args; head = goal_of.Trait c.in_ok-head.head; preds = c.in_ok-preds.preds })
-    c.requires.item c.requires.trait_ref
-    (c.in_ok-args.ensures ∙ ap (holes_from c.args.first) c.len.ensures)
-    c.in_ok-head.ensures
-    (c.in_ok-preds.ensures ∙ ap (map (goal_at raw c.in_ok-args.args)) c.as_slice.ensures)
+    let p = c.args.item.now in
+    let r = c.args.trait_ref.now in
+    IfOk-weaker c.impl_goals_at.result (AreGoalsAt raw c.args.source c.in_ok-args.args p r) (AreGoalsOf raw c.args.first (trait_rule raw p r))
+    (λ made h. are_goals raw c.args.first p r made
+    (subst (λ (id : ImplId). slice_get raw.impls id.0 ≡ Some p) (sym h.source) c.requires.item)
+    c.requires.trait_ref
+    (h.args ∙ c.in_ok-args.ensures ∙ ap (holes_from c.args.first) c.len.ensures)
+    (h.head ∙ ap (λ xs. head_at raw xs p r) (sym h.args))
+    (h.preds ∙ ap (λ xs. map (goal_at raw xs) p.preds) (sym h.args)))
+    c.impl_goals_at.ensures

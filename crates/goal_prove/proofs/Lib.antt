@@ -1,0 +1,10 @@
+pub mod Plain
+pub mod Written
+pub mod Given
+pub mod NoAlias
+pub mod Impls
+pub mod PartGoals
+pub mod Adding
+pub mod Proving
+pub mod Found
+pub mod RuleAt
