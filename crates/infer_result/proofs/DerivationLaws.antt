@@ -1,5 +1,5 @@
--- Typed tables without complaint, of types that are known, are derivations.
-use Rattle.std.specs.Prelude.{◌⊎◌, List, [], ◌∷◌, slice_get, Option, Some, None}
+-- Typed tables without complaint, of types that are known, whose goals hold, are derivations.
+use Rattle.std.specs.Prelude.{◌⊎◌, ◌<◌, length, List, [], ◌∷◌, slice_get, Option, Some, None}
 use Rattle.std.proofs.Common.{inl, inr}
 use Rattle.hir_types.specs.declared.ids.ExprId.{ExprId}
 use Rattle.hir_types.specs.declared.ids.DefWithBodyId.{DefWithBodyId}
@@ -17,9 +17,11 @@ use Rattle.infer_result.specs.Kinds.Block.{StmtHasMismatch, StmtsHaveMismatch}
 use Rattle.infer_result.specs.Kinds.Match.{GuardsHaveMismatch, arm_exprs}
 use Rattle.infer_result.specs.Excused.{ExcusedAs}
 use Rattle.infer_result.specs.Places.{Given}
+use Rattle.infer_result.specs.Rules.{ObeysExpression}
 use Rattle.infer_result.specs.Kinds.If.{branches_of}
-use Rattle.infer_result.specs.Typed.{IsTyped, IsTableOf}
+use Rattle.infer_result.specs.Typed.{IsTyped, IsTableOf, given}
 use Rattle.infer_result.specs.Derivation.{HasNoComplaint, IsDerivation}
+use Rattle.infer_result.specs.Needs.{NeedsHold}
 
 module _ (g : Given) (t : InferenceResult) (h : IsTyped g t) (known : AllTypes IsKnown t) (clean : HasNoComplaint t) where
   no_mismatch : (e : ExprId) → HasMismatch t e → ⊥
@@ -70,16 +72,22 @@ module _ (g : Given) (t : InferenceResult) (h : IsTyped g t) (known : AllTypes I
   obeys never (inl a) = absurd (never a)
   obeys never (inr b) = b
 
-pub derivation_of : (raw : RawFacts) (d : DefWithBodyId) (t : InferenceResult) → IsTableOf raw d t → AllTypes IsKnown t → HasNoComplaint t → IsDerivation raw d t
-derivation_of raw d t h known clean = record {
-  body = h.body;
-  is_body = h.is_body;
-  shape = h.typed.shape;
-  total = h.typed.total;
-  known = known;
-  fit = h.fit;
-  clean = clean;
-  exprs = λ e within. obeys _ t h.typed known clean (not_excused _ t h.typed known clean e (slice_get h.body.exprs e.0)) (h.typed.exprs e within);
-  pats = h.typed.pats;
-  root = obeys _ t h.typed known clean (no_mismatch _ t h.typed known clean h.body.root) h.typed.body_rule;
-}
+-- what nodes need may rest on it that they obey their rules
+pub derivation_of : (raw : RawFacts) (d : DefWithBodyId) (t : InferenceResult) (h : IsTableOf raw d t) → AllTypes IsKnown t → HasNoComplaint t
+    → (((e : ExprId) → e.0 < length h.body.exprs → ObeysExpression (given raw d h.body) t e) → NeedsHold d (given raw d h.body) t) → IsDerivation raw d t
+derivation_of raw d t h known clean goals =
+    let exprs : (e : ExprId) → e.0 < length h.body.exprs → ObeysExpression (given raw d h.body) t e =
+    λ e within. obeys _ t h.typed known clean (not_excused _ t h.typed known clean e (slice_get h.body.exprs e.0)) (h.typed.exprs e within) in
+    record {
+      body = h.body;
+      is_body = h.is_body;
+      shape = h.typed.shape;
+      total = h.typed.total;
+      known = known;
+      fit = h.fit;
+      clean = clean;
+      exprs = exprs;
+      pats = h.typed.pats;
+      root = obeys _ t h.typed known clean (no_mismatch _ t h.typed known clean h.body.root) h.typed.body_rule;
+      goals = goals exprs;
+    }

@@ -1,6 +1,7 @@
 pub mod Consequences
 pub mod DerivationLaws
 pub mod Derived
+pub mod NoNeeds
 pub mod Parts
 pub mod Samples
 pub mod Unchanged

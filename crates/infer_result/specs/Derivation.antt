@@ -24,6 +24,8 @@ use Rattle.infer_result.specs.Unknown.{IsKnown}
 use Rattle.infer_result.specs.Rules.{ObeysExpression, BodyObeys, ObeysPattern}
 use Rattle.infer_result.specs.Shape.{IsShaped}
 use Rattle.infer_result.specs.Typed.{given}
+use Rattle.infer_result.specs.declared.gaps.Gap.{Gap}
+use Rattle.infer_result.specs.Needs.{HasGap, NeedsHold}
 
 -- no complaint stands in the table
 pub record HasNoComplaint (r : InferenceResult) : Type 0 where
@@ -31,10 +33,11 @@ pub record HasNoComplaint (r : InferenceResult) : Type 0 where
   pub diagnostics : (n : ℕ) (d : InferenceDiagnostic) → At r.expr_diagnostics n d → ⊥
   pub pat_mismatches : (n : ℕ) (m : TypeMismatch) → At r.pat_mismatches n m → ⊥
   pub pat_diagnostics : (n : ℕ) (d : InferenceDiagnostic) → At r.pat_diagnostics n d → ⊥
+  pub gaps : (e : ExprId) (x : Gap) → HasGap r e x → ⊥
 
 -- The table is one of the definition's body, with a type for each node and binding. No hole and no
 -- `{unknown}` stands in it, but for what failed look-ups saw and for types before fallback, and no complaint;
--- its types name what the facts have; and each node, and the body, obeys its rule whole.
+-- its types name what the facts have; each node, and the body, obeys its rule whole; and what nodes need holds.
 pub record IsDerivation (raw : RawFacts) (d : DefWithBodyId) (r : InferenceResult) : Type 0 where
   pub body : RawBody
   pub is_body : body_of raw d ≡ Some body
@@ -46,6 +49,7 @@ pub record IsDerivation (raw : RawFacts) (d : DefWithBodyId) (r : InferenceResul
   pub exprs : (e : ExprId) → e.0 < length body.exprs → ObeysExpression (given raw d body) r e
   pub pats : (p : PatId) → p.0 < length body.pats → ObeysPattern (given raw d body) r p
   pub root : BodyObeys (given raw d body) r
+  pub goals : NeedsHold d (given raw d body) r
 
 -- ---- plain ones
 

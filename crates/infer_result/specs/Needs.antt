@@ -112,6 +112,10 @@ IsTrueGap g f r e (gap.Unproved n q) = (n ≡ node.ExprId e) × IsTrueUnproved g
 
 -- ---- the goals of a table
 
+-- the table with these proofs, and these in the place of what could not be shown
+abbrev pub with_goals : List Proof → List (List Gap) → InferenceResult → InferenceResult
+with_goals ps gs r = record r { proofs = ps; expr_gaps = gs }
+
 -- the adt of a variant
 abbrev pub adt_item : Option RawVariant → GenericDefId
 adt_item None = generic.AdtId (record { 0 = 0 })
@@ -132,3 +136,7 @@ pub record GoalsHold (d : DefWithBodyId) (g : Given) (r : InferenceResult) : Typ
   pub proofs : (s : Fill) → IsFilling s → AreProofs g.scope.facts system (answers system g.scope.facts.limits.goal_depth).Alias s r.proofs
   pub needs : (e : ExprId) (a : Asked) → IsNeeded g r e a → IsProved r a ⊎ (IsUnproved r e a ⊎ HoldsUnknown a.parts)
   pub gaps : (e : ExprId) (x : Gap) → HasGap r e x → IsTrueGap g system r e x
+
+-- the answer to each goal that a node needs is Yes
+abbrev pub NeedsHold : DefWithBodyId → Given → InferenceResult → Type 0
+NeedsHold d g r = (f : System) → IsSystemOf g.scope.facts (scope_item g.scope.facts d) f → (e : ExprId) (a : Asked) → IsNeeded g r e a → (answers f g.scope.facts.limits.goal_depth).Yes a

@@ -21,6 +21,7 @@ use Rattle.hir_raw.specs.declared.raw.RawPath.TheVariants as path
 use Rattle.hir_raw.specs.declared.raw.RawStmt.TheVariants as stmt
 use Rattle.hir_raw.specs.declared.raw.RawExpr.TheVariants as expr
 use Rattle.hir_raw.specs.declared.raw.RawPat.TheVariants as pat
+use Rattle.hir_raw.specs.declared.raw.RawAdt.{RawAdt}
 use Rattle.hir_raw.specs.declared.raw.RawFn.{RawFn}
 use Rattle.hir_raw.specs.declared.raw.RawBody.{RawBody}
 use Rattle.hir_raw.specs.declared.raw.RawFacts.{RawFacts}
@@ -51,6 +52,7 @@ use Rattle.infer_result.specs.Table.{HasTy, PatTy, BindingTy}
 use Rattle.infer_result.specs.Typed.{given}
 use Rattle.infer_result.specs.Unknown.{IsKnown}
 use Rattle.infer_result.specs.UnknownLayers.{has_unknown_tuple}
+use Rattle.infer_result.proofs.NoNeeds.{no_gaps, needs_hold}
 use Rattle.infer_result.proofs.Samples.Small.{e, p, b, w, plain, body_of, function_of, facts_with, each_below, each_node, apart_by, comes, only, each_entry, each_found, each_placed, closed_unit, none_placed}
 use Rattle.infer_result.proofs.Samples.Calling.{function, item}
 use Rattle.infer_result.proofs.Samples.Holes.{each_in, known_integer, fits_integer, bool_is_no_integer, item_under, closed_at, known_at, fits_at}
@@ -242,12 +244,14 @@ integer_derives i = let s : Ty = integer_type i in record {
     diagnostics = each_entry (λ d. ⊥) (table_at s).expr_diagnostics tt;
     pat_mismatches = each_entry (λ m. ⊥) (table_at s).pat_mismatches tt;
     pat_diagnostics = each_entry (λ d. ⊥) (table_at s).pat_diagnostics tt;
+    gaps = no_gaps (table_at s) refl;
   };
   exprs = λ x h.
       each_below (λ k. ObeysExpression Here (table_at s) (e k)) 4 x.0
       ((((tt, (s ∷ [], refl, refl)), (s, refl, (i, refl))), call_obeys s), record { statements = ((s, refl, (s, refl, inl refl)), tt); type = unit; has = refl; ends = refl }) h;
   pats = λ x h. each_below (λ k. ObeysPattern Here (table_at s) (p k)) 1 x.0 (tt, pattern_obeys s) h;
   root = (unit, refl, ap erased (sym written_unit));
+  goals = needs_hold facts (each_in (λ (x : RawFn). x.preds ≡ []) facts.fns (refl, (refl, tt))) (each_in (λ (x : RawAdt). x.preds ≡ []) facts.adts tt) f body (table_at s);
 }
 
 pub i32_derives : IsDerivation facts f (table_at i32)

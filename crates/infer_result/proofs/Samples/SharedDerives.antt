@@ -5,6 +5,8 @@ use Rattle.hir_types.specs.declared.ids.CallableDefId.TheVariants as callable
 use Rattle.hir_types.specs.declared.ids.ExprOrPatId.TheVariants as node
 use Rattle.hir_types.specs.declared.ty.Ty.{Ty}
 use Rattle.hir_types.specs.declared.ty.Ty.TheVariants as ty
+use Rattle.hir_raw.specs.declared.raw.RawAdt.{RawAdt}
+use Rattle.hir_raw.specs.declared.raw.RawFn.{RawFn}
 use Rattle.hir_raw.specs.declared.schedule.Schedule.{Schedule}
 use Rattle.hir_types.specs.Erasure.{erased, IsClosed}
 use Rattle.hir_types.specs.Instances.{param_at}
@@ -26,9 +28,10 @@ use Rattle.infer_result.specs.Table.{HasTy, PatTy, BindingTy}
 use Rattle.infer_result.specs.Typed.{given}
 use Rattle.infer_result.specs.Unknown.{IsKnown}
 use Rattle.infer_result.specs.UnknownLayers.{has_unknown_bool, has_unknown_tuple}
+use Rattle.infer_result.proofs.NoNeeds.{no_gaps, needs_hold}
 use Rattle.infer_result.proofs.Samples.Small.{e, p, b, w, each_below, each_node, apart_by, comes, only, each_entry, each_found, each_placed, closed_bool, closed_unit, none_placed}
 use Rattle.infer_result.proofs.Samples.Calling.{function, item}
-use Rattle.infer_result.proofs.Samples.Holes.{closed_at, known_at, fits_at}
+use Rattle.infer_result.proofs.Samples.Holes.{each_in, closed_at, known_at, fits_at}
 use Rattle.infer_result.proofs.Samples.GeneralKnown.{general_is_known}
 use Rattle.infer_result.proofs.Samples.PlainKinds.{plain_is_general, plain_is_closed, general_fits}
 use Rattle.infer_result.proofs.Samples.GeneralShared.{types, mk, body, facts, f, scope, general, table_at, general_for, has_types, unknown_is_fallback}
@@ -148,6 +151,7 @@ module _ (s : Ty) where
       diagnostics = each_entry (λ d. ⊥) table.expr_diagnostics tt;
       pat_mismatches = each_entry (λ m. ⊥) table.pat_mismatches tt;
       pat_diagnostics = each_entry (λ d. ⊥) table.pat_diagnostics tt;
+      gaps = no_gaps table refl;
     };
     exprs = λ x h. each_below (λ k. ObeysExpression Here table (e k)) 9 x.0 (
       (
@@ -158,6 +162,7 @@ module _ (s : Ty) where
     ) h;
     pats = λ x h. each_below (λ k. ObeysPattern Here table (p k)) 2 x.0 ((tt, input_obeys), local_obeys) h;
     root = (unit, refl, ap erased (sym written_unit));
+    goals = needs_hold facts (each_in (λ (x : RawFn). x.preds ≡ []) facts.fns (refl, (refl, tt))) (each_in (λ (x : RawAdt). x.preds ≡ []) facts.adts tt) f body table;
   }
 
 pub bool_derives : IsDerivation facts f (table_at ty.Bool ty.Bool)
