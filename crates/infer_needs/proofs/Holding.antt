@@ -1,0 +1,120 @@
+-- A table whose expressions' goals were judged: what it says holds.
+use Rattle.std.specs.Prelude.{◌≡◌, ◌⊎◌, ◌<◌, ℕ, zero, suc, List, [], ◌∷◌, length, slice_get, Option, Some, None}
+use Rattle.std.specs.Option.{option_and_then}
+use Rattle.std.proofs.Common.{inl, inr, refl, sym, ap, ◌∙◌, subst, arith}
+use Rattle.std.proofs.lemmas.Option.{same_Some, slice_get_within}
+use Rattle.hir_types.specs.declared.ids.BodyId.{BodyId}
+use Rattle.hir_types.specs.declared.ids.ExprId.{ExprId}
+use Rattle.hir_types.specs.declared.ids.DefWithBodyId.{DefWithBodyId}
+use Rattle.hir_types.specs.declared.ty.Ty.{Ty}
+use Rattle.hir_raw.specs.declared.raw.RawBody.{RawBody}
+use Rattle.hir_raw.specs.declared.raw.RawExpr.{RawExpr}
+use Rattle.hir_raw.specs.declared.raw.RawFacts.{RawFacts}
+use Rattle.hir_laws.specs.Bodies.{body_of, body_id_of}
+use Rattle.goal_answers.specs.Goals.{Asked, System}
+use Rattle.goal_facts.specs.declared.proof.Proof.{Proof}
+use Rattle.goal_facts.specs.Goals.{asked_goal}
+use Rattle.goal_facts.specs.Systems.{IsSystemOf}
+use Rattle.infer_result.specs.declared.gaps.Gap.{Gap}
+use Rattle.infer_result.specs.declared.result.InferenceResult.{InferenceResult}
+use Rattle.infer_result.specs.Needs.{IsNeeded, HoldsUnknown, IsProved, HasGap, IsUnproved, IsTrueGap, needed_goals, with_goals, scope_item, GoalsHold}
+use Rattle.infer_result.specs.Places.{Given}
+use Rattle.infer_result.specs.Table.{recorded}
+use Rattle.infer_result.specs.Typed.{given}
+use Rattle.infer_needs.specs.Told.{needs_of, needs_at}
+use Rattle.infer_needs.specs.Judged.{IsDone, IsOfFailing, AreAllJudged}
+
+-- ---- the body of a definition
+
+body_at : (raw : RawFacts) (d : DefWithBodyId) (i : BodyId) (b : RawBody) → body_id_of raw d ≡ Some i → body_of raw d ≡ Some b → slice_get raw.bodies i.0 ≡ Some b
+body_at raw d i b e is = sym (ap (λ (o : Option BodyId). option_and_then (λ i. slice_get raw.bodies i.0) o) e) ∙ is
+
+pub same_body : (raw : RawFacts) (d : DefWithBodyId) (i : BodyId) (x b : RawBody) → body_id_of raw d ≡ Some i → slice_get raw.bodies i.0 ≡ Some x → body_of raw d ≡ Some b → x ≡ b
+same_body raw d i x b e at is = same_Some x b (sym at ∙ body_at raw d i b e is)
+
+-- ---- what stands at a place
+
+-- an expression that is listed, and its type
+record Stands (x : Option RawExpr) (t : Option Ty) : Type 0 where
+  expr : RawExpr
+  is : x ≡ Some expr
+  ty : Ty
+  has : t ≡ Some ty
+
+needs_there : (raw : RawFacts) (x : Option RawExpr) (t : Option Ty) (k : ℕ) (a : Asked) → slice_get (needs_of raw x t) k ≡ Some a → (s : Stands x t) × (slice_get (needed_goals raw s.expr s.ty) k ≡ Some a)
+needs_there raw None t k a at = cc
+needs_there raw (Some x) None k a at = cc
+needs_there raw (Some x) (Some t) k a at = (record { expr = x; is = refl; ty = t; has = refl }, at)
+
+recorded_at : (o : Option (Option Ty)) (t : Ty) → option_and_then (λ x. x) o ≡ Some t → o ≡ Some (Some t)
+recorded_at None t e = cc
+recorded_at (Some None) t e = cc
+recorded_at (Some (Some u)) t e = ap (λ x. Some x) e
+
+get_there : {X : Type 0} (xs : List X) (k : ℕ) → k < length xs → (x : X) × (slice_get xs k ≡ Some x)
+get_there [] k h = absurd (omega (arith, h))
+get_there (x ∷ xs) zero h = (x, refl)
+get_there (x ∷ xs) (suc k) h = get_there xs k (omega (arith, h))
+
+-- ---- the table
+
+module _ (raw : RawFacts) (d : DefWithBodyId) (b : RawBody) (f : System) (r : InferenceResult) (ps : List Proof) (gss : List (List Gap))
+    (of_item : IsSystemOf raw (scope_item raw d) f) (all : AreAllJudged raw f b r (length b.exprs) ps gss) where
+  abbrev g : Given
+  g = given raw d b
+
+  abbrev z : InferenceResult
+  z = with_goals ps gss r
+
+  needed_at : (e : ExprId) (a : Asked) → (n : IsNeeded g z e a) → slice_get (needs_at raw b r e.0) n.at ≡ Some a
+  needed_at e a n =
+      let x : slice_get b.exprs e.0 ≡ Some n.expr = n.is in
+      let t : recorded r.type_of_expr e.0 ≡ Some n.ty = ap (λ (o : Option (Option Ty)). option_and_then (λ x. x) o) n.has in
+      subst (λ (o : Option RawExpr). slice_get (needs_of raw o (recorded r.type_of_expr e.0)) n.at ≡ Some a) (sym x)
+      (subst (λ (o : Option Ty). slice_get (needs_of raw (Some n.expr) o) n.at ≡ Some a) (sym t) n.among)
+
+  is_needed : (e : ExprId) (k : ℕ) (a : Asked) → slice_get (needs_at raw b r e.0) k ≡ Some a → IsNeeded g z e a
+  is_needed e k a at =
+      let s = needs_there raw (slice_get b.exprs e.0) (recorded r.type_of_expr e.0) k a at in
+      record {
+        expr = s.0.expr;
+        is = s.0.is;
+        ty = s.0.ty;
+        has = recorded_at (slice_get r.type_of_expr e.0) s.0.ty s.0.has;
+        at = k;
+        among = s.1;
+      }
+
+  done_is : (e : ExprId) (a : Asked) (gs : List Gap) → slice_get gss e.0 ≡ Some gs → IsDone e ps gs a → IsProved z a ⊎ (IsUnproved z e a ⊎ HoldsUnknown a.parts)
+  done_is e a gs at (inl h) = inl (record { number = h.0; proof = h.1; listed = h.2; goal = h.3 })
+  done_is e a gs at (inr (inl h)) = inr (inl (h.1, record { gaps = gs; at = at; number = h.0; listed = h.2 }, h.3))
+  done_is e a gs at (inr (inr h)) = inr (inr h)
+
+  need_holds : (e : ExprId) (a : Asked) → IsNeeded g z e a → IsProved z a ⊎ (IsUnproved z e a ⊎ HoldsUnknown a.parts)
+  need_holds e a n =
+      let within = slice_get_within b.exprs e.0 n.expr n.is in
+      let long = all.long in
+      let there = get_there gss e.0 (omega (arith, within, long)) in
+      done_is e a there.0 there.1 ((all.each e.0 there.0 there.1).each n.at a (needed_at e a n))
+
+  failing_is : (e : ExprId) (x : Gap) → IsOfFailing f raw.limits.goal_depth e (needs_at raw b r e.0) x → IsTrueGap g f z e x
+  failing_is e x h = subst (IsTrueGap g f z e) (sym h.is) (
+    refl,
+    record {
+      needed = is_needed e h.at (asked_goal h.goal) h.among;
+      known = h.known;
+      fails = h.fails;
+    },
+  )
+
+  gap_holds : (e : ExprId) (x : Gap) → HasGap z e x → IsTrueGap g f z e x
+  gap_holds e x h = failing_is e x ((all.each e.0 h.gaps h.at).gaps h.number x h.listed)
+
+  pub goals_hold : GoalsHold d g z
+  goals_hold = record {
+    system = f;
+    of_item = of_item;
+    proofs = λ s filling. all.adds.right (λ s filling n x at. cc) s filling;
+    needs = need_holds;
+    gaps = gap_holds;
+  }

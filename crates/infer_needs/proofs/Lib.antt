@@ -1,0 +1,5 @@
+pub mod Closed
+pub mod Provable
+pub mod Telling
+pub mod Judging
+pub mod Holding

@@ -1,0 +1,64 @@
+-- Goals that nodes need, in their order, and what an inspector is told of them.
+use Rattle.std.specs.Prelude.{◌≡◌, ◌++◌, ℕ, zero, suc, List, [], ◌∷◌, length, slice_get, Option, Some, None}
+use denote.Ref.{MutBor}
+use Rattle.hir_types.specs.declared.ids.DefWithBodyId.{DefWithBodyId}
+use Rattle.hir_types.specs.declared.goal.Goal.{Goal}
+use Rattle.hir_types.specs.declared.ty.Ty.{Ty}
+use Rattle.hir_raw.specs.declared.raw.RawExpr.{RawExpr}
+use Rattle.hir_raw.specs.declared.raw.RawBody.{RawBody}
+use Rattle.hir_raw.specs.declared.raw.RawFacts.{RawFacts}
+use Rattle.goal_answers.specs.Goals.{Asked, System}
+use Rattle.goal_search.specs.declared.answer.Answer.{Answer}
+use Rattle.goal_facts.specs.Goals.{asked_goal, IsAnswer}
+use Rattle.goal_facts.specs.Systems.{IsSystemOf}
+use Rattle.infer_result.specs.declared.result.InferenceResult.{InferenceResult}
+use Rattle.infer_result.specs.Needs.{needed_goals, scope_item}
+use Rattle.infer_result.specs.Places.{Given}
+use Rattle.infer_result.specs.Table.{recorded}
+
+-- ---- what expressions need
+
+-- where there is an expression, and its type is recorded
+abbrev pub needs_of : RawFacts → Option RawExpr → Option Ty → List Asked
+needs_of raw (Some x) (Some t) = needed_goals raw x t
+needs_of raw (Some x) None = []
+needs_of raw None o = []
+
+-- what the expression of this number needs
+abbrev pub needs_at : RawFacts → RawBody → InferenceResult → ℕ → List Asked
+needs_at raw b r n = needs_of raw (slice_get b.exprs n) (recorded r.type_of_expr n)
+
+-- what the first `n` need, in their order
+abbrev pub first_needs : RawFacts → RawBody → InferenceResult → ℕ → List Asked
+first_needs raw b r zero = []
+first_needs raw b r (suc n) = first_needs raw b r n ++ needs_at raw b r n
+
+abbrev pub all_needs : RawFacts → RawBody → InferenceResult → List Asked
+all_needs raw b r = first_needs raw b r (length b.exprs)
+
+-- ---- what is told
+
+-- these goals, each with its answer at the depth
+abbrev pub AreAnswered : System → ℕ → List Asked → List (Goal × Answer) → Type 0
+AreAnswered f n [] [] = Unit {0}
+AreAnswered f n (a ∷ xs) (t ∷ ts) = (asked_goal t.0 ≡ a) × IsAnswer f n a t.1 × AreAnswered f n xs ts
+AreAnswered f n [] (t ∷ ts) = ⊥
+AreAnswered f n (a ∷ xs) [] = ⊥
+
+-- the inspector, where there is one, is the one that was lent, and was told of these as well
+abbrev pub WasTold : {I : Type 0} → (I → List (Goal × Answer)) → List (Goal × Answer) → Option (MutBor I) → Option (MutBor I) → Type 0
+WasTold list ts None after = after ≡ None
+WasTold list ts (Some i) None = ⊥
+WasTold list ts (Some i) (Some j) = (j.ghost_name ≡ i.ghost_name) × (list j.now ≡ list i.now ++ ts)
+
+-- it was told of these goals, of each once, with its answer
+pub record AreTold {I : Type 0} (list : I → List (Goal × Answer)) (f : System) (n : ℕ) (xs : List Asked) (before after : Option (MutBor I)) : Type 0 where
+  pub told : List (Goal × Answer)
+  pub answers : AreAnswered f n xs told
+  pub was : WasTold list told before after
+
+-- it was told of all that nodes of the body need, and of nothing else
+pub record IsToldAll {I : Type 0} (list : I → List (Goal × Answer)) (d : DefWithBodyId) (g : Given) (r : InferenceResult) (before after : Option (MutBor I)) : Type 0 where
+  pub system : System
+  pub of_item : IsSystemOf g.scope.facts (scope_item g.scope.facts d) system
+  pub told : AreTold list system g.scope.facts.limits.goal_depth (all_needs g.scope.facts g.body r) before after
