@@ -6,6 +6,7 @@ use Rattle.hir_types.specs.declared.ty.Ty.{Ty}
 use Rattle.hir_types.specs.Replacements.{folded_twice}
 use Rattle.hir_types.specs.Subst.{Assignment, composed, folded}
 use Rattle.hir_types.specs.declared.ids.BodyId.{BodyId}
+use Rattle.hir_types.specs.declared.ids.ExprId.{ExprId}
 use Rattle.hir_types.specs.declared.ids.TypeRefId.{TypeRefId}
 use Rattle.hir_types.specs.declared.ids.DefWithBodyId.{DefWithBodyId}
 use Rattle.hir_types.specs.Terms.{terms_of}
@@ -13,6 +14,8 @@ use Rattle.hir_types.proofs.Equal.{ty_decides}
 use Rattle.hir_raw.specs.declared.raw.RawBody.{RawBody}
 use Rattle.hir_raw.specs.declared.raw.RawFacts.{RawFacts}
 use Rattle.hir_raw.specs.declared.schedule.Schedule.{Schedule}
+use Rattle.hir_facts.specs.CarriedTypes.{IsCarriedType}
+use Rattle.hir_laws.specs.Lawful.{IsLawful}
 use Rattle.hir_laws.specs.Bodies.{body_id_of, inputs_of, return_type, IsWalkable}
 use Rattle.hir_raw.specs.Fit.{ty_fits}
 use Rattle.hir_raw.specs.Scope.{Scope, scope_of, params_of}
@@ -21,12 +24,15 @@ use Rattle.infer_table.specs.Table.{bindings, State, resolved_type, Meets}
 use Rattle.infer_table.specs.Resolution.{resolution}
 use Rattle.infer_table.specs.Completion.{completion}
 use Rattle.infer_table.specs.Solutions.{Respects, Triangular, log_of}
+use Rattle.goal_facts.specs.declared.proof.Proof.{Proof}
+use Rattle.infer_result.specs.declared.gaps.Gap.{Gap}
 use Rattle.infer_result.specs.declared.result.General.{General}
 use Rattle.infer_result.specs.declared.result.InferenceResult.{InferenceResult}
 use Rattle.infer_result.specs.Closed.{AllTypes, AllSeen}
 use Rattle.infer_result.specs.Made.{IsMade}
 use Rattle.infer_result.specs.Places.{Given}
-use Rattle.infer_result.specs.Table.{At}
+use Rattle.infer_result.specs.Needs.{with_goals}
+use Rattle.infer_result.specs.Table.{At, HasTy}
 use Rattle.infer_result.specs.General.{types_under, IsGeneralType, AreGeneralTypes, GivesPlain, closed_by, IsGeneralOf, HasGeneral}
 use Rattle.infer_result.specs.declared.result.TypeMismatch.{TypeMismatch}
 use Rattle.infer_result.specs.declared.result.Seen.{Seen}
@@ -39,10 +45,11 @@ use Rattle.infer_ctx.specs.Said.{said}
 use Rattle.infer_ctx.specs.Walks.{Extends}
 use Rattle.infer_ctx.specs.Closings.{closed_types, closed_mismatch, closed_mismatches, same_types, unless_same, asked_or_noted, entry_of, Closes, AskedIsDecided, closed_table}
 use Rattle.infer_ctx.specs.declared.context.InferenceContext.{InferenceContext}
-use Rattle.infer_ctx.specs.Fine.{HasFineHeads, IsFine}
+use Rattle.infer_ctx.specs.Fine.{HasFineHeads, IsFine, IsCarriedIn}
 use Rattle.infer_ctx.specs.Steps.{BodyDone}
 use Rattle.infer_ctx.proofs.Keeps.{at_kept, pat_at_kept, obeys_kept, pat_kept, misfit_kept, demand_kept, diagnostic_kept, pat_truth_kept, true_seen_kept}
 use Rattle.infer_ctx.proofs.Lists.{found}
+use Rattle.infer_ctx.proofs.OverTypes.{fine_closed}
 use Rattle.infer_ctx.proofs.UnderClosings.{At-unclosed, closed_at, asked_unlike, length-closed_mismatches, At-closed, length-closed}
 use Rattle.infer_coerce.proofs.Unified.{completion_closes}
 use Rattle.infer_end.specs.KeptTypes.{AreResolved, HoldsResolved, KeepsGeneral, IsFull, HasAllTypes}
@@ -50,11 +57,12 @@ use Rattle.infer_end.proofs.Definitions.{found_body, table_of}
 use Rattle.infer_end.proofs.Fits.{completed_table_fits, fine_fits, seen_fits}
 use Rattle.infer_end.proofs.GeneralTypes.{fine_general, fine_known, chosen, chosen_heads, chosen_closes, known_heads}
 use Rattle.infer_end.proofs.PlainBodies.{plain_body, no_placeholder, calls_item}
+use Rattle.infer_end.proofs.PlainGoals.{plain_needs}
 
--- ---- a table with other types before fallback
-module _ (r : InferenceResult) (o : Option General) where
+-- ---- a table with other types before fallback, other proofs and other gaps
+module _ (r : InferenceResult) (o : Option General) (ps : List Proof) (gs : List (List Gap)) where
   abbrev other : InferenceResult
-  other = record r { general = o }
+  other = record r { general = o; proofs = ps; expr_gaps = gs }
 
   other_extends : Extends r other
   other_extends = record {
@@ -215,16 +223,17 @@ none_under : {A B : Type 0} (f f' : A → B) (xs : List (Option A)) → HasNone 
 none_under f f' xs h n y at = (let q = At-unclosed f' xs n y at in h n (f q.0) (At-closed f xs n q.0 q.1))
 
 -- ---- the table of a definition
-module _ (raw : RawFacts) (d : DefWithBodyId) (i : BodyId) (b : RawBody) (s : Schedule) (inputs : List TypeRefId) (output : Ty) (id : body_id_of raw d ≡ Some i) (at : slice_get raw.bodies i.0 ≡ Some b) (law : IsWalkable b s) (taken : inputs ≡ inputs_of raw d) (out : output ≡ return_type raw d) (c : InferenceContext) (done : BodyDone (record { scope = scope_of raw d; body = b; inputs = inputs; output = output }) c) where
+module _ (raw : RawFacts) (d : DefWithBodyId) (i : BodyId) (b : RawBody) (s : Schedule) (inputs : List TypeRefId) (output : Ty) (id : body_id_of raw d ≡ Some i) (at : slice_get raw.bodies i.0 ≡ Some b) (law : IsWalkable b s) (taken : inputs ≡ inputs_of raw d) (out : output ≡ return_type raw d) (c : InferenceContext) (done : BodyDone (record { scope = scope_of raw d; body = b; inputs = inputs; output = output }) c)
+    (lawful : IsLawful raw) (ps : List Proof) (gs : List (List Gap)) where
   abbrev g : Given
   g = record { scope = scope_of raw d; body = b; inputs = inputs; output = output }
 
   abbrev sc : Scope
   sc = scope_of raw d
 
-  -- with these types before fallback
+  -- with these types before fallback, these proofs and these gaps
   abbrev result_with : Option General → InferenceResult
-  result_with o = record c.result { general = o }
+  result_with o = record c.result { general = o; proofs = ps; expr_gaps = gs }
 
   seen_still_fit : (a : Assignment) (o : Option General) → AllSeen (λ t. ty_fits sc t ≡ true) (closed_table a c.asked (result_with o))
   seen_still_fit a o = (let h = seen_fits sc c done.sound in record { types = h.types; others = h.others })
@@ -236,7 +245,7 @@ module _ (raw : RawFacts) (d : DefWithBodyId) (i : BodyId) (b : RawBody) (s : Sc
     completed_table : (o : Option General) → IsTableOf raw d (closed_table (completion c.table) c.asked (result_with o))
     completed_table o =
         let r : InferenceResult = closed_table (completion c.table) c.asked c.result in
-        table_of raw d i b s inputs output (closed_table (completion c.table) c.asked (result_with o)) id at law taken out (made_other r o g (done.made (completion c.table) completes)) (all_types_other r o _ (completed_table_fits sc c done.sound)) (seen_still_fit (completion c.table) o)
+        table_of raw d i b s inputs output (closed_table (completion c.table) c.asked (result_with o)) id at law taken out (made_other r o ps gs g (done.made (completion c.table) completes)) (all_types_other r o ps gs _ (completed_table_fits sc c done.sound)) (seen_still_fit (completion c.table) o)
 
     -- ---- of a plain body
 
@@ -284,6 +293,7 @@ module _ (raw : RawFacts) (d : DefWithBodyId) (i : BodyId) (b : RawBody) (s : Sc
           diagnostics = λ n y there. no_diagnostic n y (ap (λ l. slice_get l n) (sym (said_nothing q)) ∙ there);
           pat_mismatches = none_under (closed_mismatch (completion c.table)) (closed_mismatch q) c.result.pat_mismatches clean.pat_mismatches;
           pat_diagnostics = clean.pat_diagnostics;
+          gaps = λ e y h. clean.gaps e y (record { gaps = h.gaps; at = h.at; number = h.number; listed = h.listed });
         }
 
         heads_of : (xs : List (Option Ty)) → ((n : ℕ) (t : Ty) → At xs n t → IsFine sc c.table t) → (n : ℕ) (t : Ty) → At (closed_types q xs) n t → HasFineHeads sc t
@@ -302,12 +312,23 @@ module _ (raw : RawFacts) (d : DefWithBodyId) (i : BodyId) (b : RawBody) (s : Sc
           found = λ n k t there. absurd (other_clean.diagnostics n _ there);
         }
 
+        other_carried : (e : ExprId) (t : Ty) → HasTy other_table e t → IsCarriedIn sc t
+        other_carried e t there =
+            let k = At-unclosed (folded q) c.result.type_of_expr e.0 t there in
+            record {
+              carried = subst (λ u. IsCarriedType u) k.2 (fine_closed sc q k.0 at_q.closing (done.sound.fine.exprs e.0 k.0 k.1).heads);
+              heads = other_heads.exprs e.0 t there;
+            }
+
+        other_is_table : IsTableOf raw d other_table
+        other_is_table =
+            let r : InferenceResult = closed_table q c.asked c.result in
+            table_of raw d i b s inputs output other_table id at law taken out (made_other r (Some x) ps gs g (done.made q at_q)) (all_types_so _ _ other_table (fine_fits sc) other_heads) (seen_still_fit q (Some x))
+
         other_derives : IsDerivation raw d other_table
         other_derives =
-            let r : InferenceResult = closed_table q c.asked c.result in
-            derivation_of raw d other_table
-            (table_of raw d i b s inputs output other_table id at law taken out (made_other r (Some x) g (done.made q at_q)) (all_types_so _ _ other_table (fine_fits sc) other_heads) (seen_still_fit q (Some x)))
-            (all_types_so _ _ other_table (fine_known sc) other_heads) other_clean
+            let h = other_is_table in
+            derivation_of raw d other_table h (all_types_so _ _ other_table (fine_known sc) other_heads) other_clean (λ obeys. plain_needs raw lawful h.body other_table d plain h.is_body obeys other_carried)
 
         -- it is the table with these types in the place of its own
         is_closed_by : other_table ≡ closed_by a x table
@@ -334,8 +355,8 @@ module _ (raw : RawFacts) (d : DefWithBodyId) (i : BodyId) (b : RawBody) (s : Sc
               expr_variants = r.expr_variants;
               pat_variants = r.pat_variants;
               seen = r.seen;
-              proofs = r.proofs;
-              expr_gaps = r.expr_gaps;
+              proofs = ps;
+              expr_gaps = gs;
               general = Some x;
             }
 
@@ -375,7 +396,7 @@ module _ (raw : RawFacts) (d : DefWithBodyId) (i : BodyId) (b : RawBody) (s : Sc
   abbrev Ends : InferenceContext → Type 0
   Ends z =
       Meets (terms_of (completion z.table)) z.table → Respects (terms_of (completion z.table)) → Triangular (log_of (bindings z.table))
-      → IsTableOf raw d (closed_table (completion z.table) z.asked z.result) × HasGeneral raw d (closed_table (completion z.table) z.asked z.result)
+      → IsTableOf raw d (with_goals ps gs (closed_table (completion z.table) z.asked z.result)) × HasGeneral raw d (with_goals ps gs (closed_table (completion z.table) z.asked z.result))
 
   pub ends : (last : InferenceContext) → KeepsGeneral raw d c last → Ends last
   ends last (inl (plain, (x, resolved, is))) = subst Ends (sym is) (λ meets respects acyclic. (

@@ -3,3 +3,5 @@ pub mod Fits
 pub mod GeneralTables
 pub mod GeneralTypes
 pub mod PlainBodies
+pub mod PlainGoals
+pub mod SizedTypes

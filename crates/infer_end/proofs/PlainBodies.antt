@@ -31,7 +31,7 @@ use Rattle.hir_raw.specs.declared.raw.RawExpr.TheVariants as expr
 use Rattle.infer_result.specs.Places.{Given, IsPlaceholder}
 use Rattle.infer_result.specs.Kinds.Call.{IsPathToItem}
 
-some_of : {A : Type 0} (P : A → Type 0) (o : Option A) → IsSomeAnd o P → (x : A) × (o ≡ Some x) × P x
+pub some_of : {A : Type 0} (P : A → Type 0) (o : Option A) → IsSomeAnd o P → (x : A) × (o ≡ Some x) × P x
 some_of P None h = absurd h
 some_of P (Some x) h = (x, refl, h)
 

@@ -2,13 +2,15 @@
 use Rattle.std.specs.Prelude.{◌≡◌, ◌==◌, ◌||◌, ◌&&◌, ◌<◌, ◌≤◌, ◌+◌, ◌↔◌, ℕ, List, length, take, Bool, Option, Some, Err, is_some, nat_lt, nat_le, if◌then◌else◌}
 use Rattle.std.specs.Io.KnownBytes.{Appends, Consumes, IsAtEnd, Keeps}
 use Rattle.hir_types.specs.declared.ids.DefWithBodyId.{DefWithBodyId}
+use Rattle.hir_raw.specs.declared.raw.RawBody.{RawBody}
 use Rattle.hir_raw.specs.declared.raw.RawFacts.{RawFacts}
 use Rattle.hir_laws.specs.declared.laws.Law.{Law}
 use Rattle.hir_laws.specs.declared.laws.FactsList.{FactsList}
-use Rattle.hir_laws.specs.Bodies.{HasBody}
+use Rattle.hir_laws.specs.Bodies.{HasBody, body_of}
 use Rattle.infer_result.specs.declared.result.InferenceResult.{InferenceResult}
-use Rattle.infer_result.specs.Typed.{IsTableOf}
+use Rattle.infer_result.specs.Typed.{IsTableOf, given}
 use Rattle.infer_result.specs.General.{HasGeneral}
+use Rattle.infer_result.specs.Needs.{GoalsHold}
 use Rattle.infer_result.specs.Report.{report, complaint_count}
 use Rattle.infer_text.specs.declared.fault.ReadError.TheVariants as error
 use Rattle.infer_run.specs.declared.running.Ran.{Ran}
@@ -73,13 +75,18 @@ pub record HasFacts (words : List (List ℕ)) (e : Ends) (ran : Ran) : Type 0 wh
   pub is_read : IsRead text raw
   pub facts_is : ran.facts ≡ Some raw
 
+-- what nodes of the definition's body need is proved, or it is said that it has no proof
+abbrev pub HasGoals : RawFacts → DefWithBodyId → InferenceResult → Type 0
+HasGoals raw def table = (b : RawBody) → body_of raw def ≡ Some b → GoalsHold def (given raw def b) table
+
 -- the definition has a body, and this is its table, which has the types before open holes fell back exactly
--- where the body is plain
+-- where the body is plain, and what becomes of the goals of its nodes
 pub record IsInferred (def : DefWithBodyId) (raw : RawFacts) (ran : Ran) : Type 0 where
   pub has_body : HasBody raw def
   pub table : InferenceResult
   pub typed : IsTableOf raw def table
   pub general : HasGeneral raw def table
+  pub goals : HasGoals raw def table
   pub table_is : ran.table ≡ Some table
 
 -- the definition, its facts and its table
