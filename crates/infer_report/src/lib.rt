@@ -5,4 +5,5 @@ mod goals;
 mod report;
 mod types;
 
+pub use goals::push_goal;
 pub use report::{count_complaints, write_report};

@@ -41,7 +41,8 @@ fn goal_of(alloc: Global, facts: &Facts, pred: &RawGoal) -> Result<Goal, AllocEr
     }
 }
 
-fn word_of(answer: Answer) -> &'static str {
+/// The word for an answer, with a space after it.
+pub fn word_of(answer: Answer) -> &'static str {
     match answer {
         Answer::Yes => "yes ",
         Answer::No => "no ",

@@ -5,6 +5,7 @@
 mod before_fallback;
 mod goals;
 mod plain_bodies;
+mod proofs;
 mod rows;
 mod runs;
 mod texts;

@@ -14,9 +14,12 @@
 //!     > LINE | LINE    lines of the report
 //!     ? LINE | LINE    lines of the types before fallback
 //!     plain yes|no     whether the body is plain, and so has such types
+//!     ^ LINE | LINE    the proofs, by their numbers: GOAL by impl N|clause|size or parts, and `from` those of what it asks for
+//!     told ANSWER ..   what an inspector is told, in its order; with one and without the table is the same
 //!     in KIND N: ..    in the scope of this item, the answers to the predicates of function 0, `yes`, `no` or `undecided`, and
 //!                      whether its inputs have a size, `sized` or `unsized`
 use crate::before_fallback::text_of;
+use crate::proofs::{proofs_of, told_of};
 use crate::runs::{PLAIN, Way, compare, compare_end, ran};
 use crate::{Checks, goals};
 use hir_facts::is_plain;
@@ -37,6 +40,8 @@ struct Row {
     before_fallback: String,
     plain: String,
     answers: String,
+    proofs: String,
+    told: String,
     mistake: String,
 }
 
@@ -80,6 +85,8 @@ impl Row {
             before_fallback: String::new(alloc),
             plain: String::new(alloc),
             answers: String::new(alloc),
+            proofs: String::new(alloc),
+            told: String::new(alloc),
             mistake: String::new(alloc),
         })
     }
@@ -106,6 +113,8 @@ impl Row {
             ">" => push_lines(&mut self.report, rest)?,
             "?" => push_lines(&mut self.before_fallback, rest)?,
             "in" => push_lines(&mut self.answers, rest)?,
+            "^" => push_lines(&mut self.proofs, rest)?,
+            "told" => self.told = String::from_str(alloc, rest)?,
             "plain" => self.plain = String::from_str(alloc, rest)?,
             _ if word.starts_with('$') => {
                 let mark = format!(in alloc; "\"{word}\"")?;
@@ -163,6 +172,14 @@ fn wrong_with(alloc: Global, row: &Row) -> Result<String, AllocError> {
     }
     if !row.plain.is_empty() {
         compare(&mut wrong, row.plain.as_str(), plain_of(&end.0))?;
+    }
+    if !row.proofs.is_empty() {
+        let proofs = proofs_of(alloc, &end.0)?;
+        compare(&mut wrong, row.proofs.as_str(), proofs.as_str())?;
+    }
+    if !row.told.is_empty() {
+        let told = told_of(alloc, &end.0)?;
+        compare(&mut wrong, row.told.as_str(), told.as_str().trim_end())?;
     }
     if row.ends.is_empty() && !row.report.is_empty() {
         wrong.push_str("a report without an end\n")?;

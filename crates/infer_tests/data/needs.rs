@@ -1,0 +1,11 @@
+
+pub trait Tr {}
+pub trait Up {}
+pub trait Sub: Up {}
+pub struct W<T>(pub T);
+pub struct Kept<T: Tr>(pub T);
+
+pub fn need<T: Tr>(x: T) {}
+pub fn need_up<T: Up>(x: T) {}
+pub fn need_both<A: Tr, B: Up>(a: A, b: B) {}
+pub fn made<T: Tr>() -> T { made() }
