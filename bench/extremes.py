@@ -13,7 +13,7 @@ MOST = (1 << 24) - 64
 
 
 def with_facts(**changes):
-    value = json.loads(lets.facts("copies", 1))
+    value = json.loads(lets.facts(lets.copies, 1))
     value.update(changes)
     return value
 
@@ -35,7 +35,7 @@ def filled(make):
 
 
 def body_with(**changes):
-    value = json.loads(lets.facts("copies", 1))
+    value = json.loads(lets.facts(lets.copies, 1))
     value["bodies"][0].update(changes)
     return value
 
@@ -60,7 +60,7 @@ def main():
         ("brackets alone", b"[" * MOST),
         ("modules", filled(lambda n: text_of(with_facts(modules=[None] * n)))),
         ("types", filled(lambda n: text_of(with_facts(types=["u8"] * n)))),
-        ("statements", lets.facts("copies", 165000)),
+        ("statements", lets.facts(lets.copies, 165000)),
         ("an element list", filled(lambda n: text_of(body_with(exprs=[["tuple", [0] * n]], pats=[], bindings=[], root=0)))),
         ("a name", filled(lambda n: text_of(body_with(bindings=[["a" * n, "plain"]])))),
         ("depth 256", deep(256)),

@@ -36,7 +36,7 @@ class Function:
     def __init__(self):
         self.exprs, self.pats, self.bindings, self.statements, self.source = [], [], [], [], []
         self.types, self.called, self.named_source = [["tuple", []], "u8"], [], ""
-        self.adts, self.variants = [], []
+        self.adts, self.variants, self.traits, self.impls = [], [], [], []
 
     def expr(self, fact):
         self.exprs.append(fact)
@@ -195,8 +195,8 @@ def variant_fact(name, kind, fields):
     return {"adt": 0, "name": name, "ctor": kind, "fields": fields, "body": None}
 
 
-def fn_fact(name, params, inputs, output, body):
-    return {"name": name, "at": ["module", 0], "params": params, "preds": [], "has_self": False, "inputs": inputs,
+def fn_fact(name, params, inputs, output, body, preds=()):
+    return {"name": name, "at": ["module", 0], "params": params, "preds": preds, "has_self": False, "inputs": inputs,
             "output": output, "safe": True, "vis": "pub", "body": body}
 
 
@@ -206,7 +206,7 @@ SHAPES = {"copies": copies, "integers": integers, "branches": branches, "calls":
 
 def made(shape, count):
     function = Function()
-    SHAPES[shape](function, count)
+    shape(function, count)
     return function
 
 
@@ -222,8 +222,8 @@ def facts(shape, count):
     value = {
         "profile": 1, "edition": 2021, "never_fallback": False, "new_range": False,
         "limits": [8, 1000, 8, 10], "types": made_of.types, "modules": [None], "adts": made_of.adts,
-        "variants": made_of.variants, "fns": functions, "consts": [], "statics": [], "traits": [],
-        "aliases": [], "impls": [], "opaques": [], "lang": {}, "bodies": [body],
+        "variants": made_of.variants, "fns": functions, "consts": [], "statics": [], "traits": made_of.traits,
+        "aliases": [], "impls": made_of.impls, "opaques": [], "lang": {}, "bodies": [body],
     }
     return json.dumps(value, separators=(",", ":")).encode()
 
@@ -272,13 +272,8 @@ def rustc_seconds(shape, count):
         return float(found.group(1)) if found else None
 
 
-def main():
-    if "--help" in sys.argv[1:]:
-        print(__doc__.strip())
-        return
-    words = sys.argv[1:]
-    shape = words.pop(0) if words and words[0] in SHAPES else "copies"
-    first = int(words[0]) if words else 40000
+def measure_at(shape, first):
+    """Prints the figures of a function of this many statements, of twice and of four times as many."""
     if not os.path.exists(PROGRAM):
         sys.exit("build the program first (see this script's head)")
     before = None
@@ -293,6 +288,15 @@ def main():
               % (count, len(text), seconds, "" if before is None else " (%.2f times)" % (seconds / before),
                  seconds - reading, peak, status, last, "-" if theirs is None else "%.3f" % theirs))
         before = seconds
+
+
+def main():
+    if "--help" in sys.argv[1:]:
+        print(__doc__.strip())
+        return
+    words = sys.argv[1:]
+    shape = words.pop(0) if words and words[0] in SHAPES else "copies"
+    measure_at(SHAPES[shape], int(words[0]) if words else 40000)
 
 
 if __name__ == "__main__":

@@ -25,7 +25,8 @@ class Item:
     args: tuple
 
 
-Signature = collections.namedtuple("Signature", "generics inputs output")
+# What an item takes and gives. A bound is a type and the trait that it has to implement.
+Signature = collections.namedtuple("Signature", "generics inputs output bounds", defaults=[()])
 
 # `own` is the signature of the body's function, `names` are the names of its inputs.
 Body = collections.namedtuple("Body", "own names statements tail")
@@ -43,6 +44,14 @@ def maybe(ty):
     return Adt("Maybe", (ty,))
 
 
+def kept(ty):
+    return Adt("Kept", (ty,))
+
+
+def slot(ty):
+    return Adt("Slot", (ty,))
+
+
 E = Adt("E", ())
 PAIR = Adt("Pair", ())
 UNIT = Adt("Unit", ())
@@ -55,10 +64,39 @@ ADTS = {
     "Maybe": ("enum", 1, {"Nothing": [], "Just": ["T"]}),
     "Pair": ("struct", 0, {"Pair": ["u8", "bool"]}),
     "Unit": ("struct", 0, {"Unit": []}),
+    "Kept": ("struct", 1, {"Kept": ["T"]}),
+    "Slot": ("enum", 1, {"Free": [], "Taken": ["T"]}),
 }
 
+# The adts with bounds. No pattern may name their variants yet.
+ADT_BOUNDS = {"Kept": [("T", "Tr")], "Slot": [(("T", "bool"), "Tr"), ("T", "Up")]}
+
+# The traits, each with its supertraits.
+TRAITS = {"Tr": [], "Up": [], "Sub": ["Up"]}
+
+# The impls: number of type parameters, bounds, and the trait and the type. No other integer type than `i32` is the only
+# one that implements a trait: for such a one rustc would take each integer.
+IMPLS = [
+    (0, [], "Tr", "u8"),
+    (0, [], "Tr", "i32"),
+    (0, [], "Tr", "bool"),
+    (1, [("T", "Tr")], "Tr", s_of("T")),
+    (2, [("T", "Tr"), ("U", "Up")], "Tr", ("T", "U")),
+    (1, [("T", "Up")], "Tr", maybe("T")),
+    (0, [], "Tr", maybe("char")),
+    (0, [], "Up", "i32"),
+    (0, [], "Up", "bool"),
+    (0, [], "Up", ()),
+    (0, [], "Up", E),
+    (1, [(s_of("T"), "Tr")], "Up", s_of("T")),
+    (2, [("T", "Sub"), (maybe("U"), "Tr")], "Up", p_of("T", "U")),
+    (0, [], "Sub", "i32"),
+    (0, [], "Sub", E),
+    (1, [("T", "Sub"), ("T", "Tr")], "Sub", s_of("T")),
+]
+
 # The variants in the order of their numbers, and what their constructors take and give.
-VARIANTS = {variant: Signature(count, fields, Adt(name, tuple(PARAMS[:count])))
+VARIANTS = {variant: Signature(count, fields, Adt(name, tuple(PARAMS[:count])), ADT_BOUNDS.get(name, ()))
             for name, (_, count, variants) in ADTS.items() for variant, fields in variants.items()}
 
 # What bodies may call besides their own functions. None of these has a body among the facts.
@@ -79,6 +117,11 @@ FUNCTIONS = {
     "either": Signature(1, [("T", "T"), "bool"], "T"),
     "count": Signature(1, [s_of(("T", "u8")), "i64"], ("i64", "T")),
     "force": Signature(1, [maybe("T")], "T"),
+    "need": Signature(1, ["T"], (), [("T", "Tr")]),
+    "keep": Signature(1, ["T"], "T", [("T", "Up")]),
+    "both": Signature(2, ["T", "U"], "bool", [("T", "Tr"), ("U", "Sub")]),
+    "lift": Signature(1, ["T"], s_of("T"), [(s_of("T"), "Tr")]),
+    "made": Signature(1, [], "T", [("T", "Tr")]),
 }
 
 # All of these that can be called.
@@ -443,4 +486,88 @@ WITH_CALLEES = [Body(Signature(generics, inputs, output), ["x"][:len(inputs)], s
     (2, ["T"], s_of("U"), [let("h", item("wrap"))], call_of(local("h"), local("x"))),
 ]]
 
-BY_HAND = WITHOUT_CALLS + WITH_CALLS + WITH_CONSTRUCTORS + WITH_PLACEHOLDERS + WITH_CALLEES
+# Of such functions too, with bounds.
+WITH_BOUNDS = [Body(Signature(generics, inputs, output, bounds), ["x"][:len(inputs)], statements, tail)
+               for generics, bounds, inputs, output, statements, tail in [
+    (0, [], [], (), [], call("need", int_(1, "u8"))),
+    (0, [], [], (), [], call("need", int_(1))),
+    (0, [], [], (), [], call("need", int_(1, "i64"))),
+    (0, [], [], (), [], call("need", ("char", "a"))),
+    (0, [], [], (), [], call("need", ("tuple", [int_(1), TRUE]))),
+    (0, [], [], (), [], call("need", ("tuple", [TRUE, ("char", "a")]))),
+    (0, [], [], (), [], call("need", call("wrap", call("wrap", int_(1))))),
+    (0, [], [], (), [], call("need", call("wrap", call("wrap", ("char", "a"))))),
+    (0, [], [], (), [], call("need", call("Just", ("char", "a")))),
+    (0, [], [], (), [], call("need", call("Just", call("red")))),
+    (0, [], [], (), [], call("need", call("Just", int_(1, "u8")))),
+    (0, [], [], (), [], call("need", NOTHING)),
+    (0, [], [], (), [], call("need", item("take"))),
+    (0, [], [], (), [], call("need", call("nothing"))),
+    (0, [], [], (), [], call("need", call("need", TRUE))),
+    (0, [], [], (), [], call("need")),
+    (0, [], [], (), [], call("need", ("char", "a"), TRUE)),
+    (0, [], [], (), [], call("need", call_of(TRUE))),
+    (0, [], [], "u8", [], call("need", ("char", "a"))),
+    (0, [], [], "u8", [], call("keep", int_(1))),
+    (0, [], [], "i32", [], call("keep", int_(1))),
+    (0, [], [], "u8", [let("y", int_(1)), run(call("need", local("y")))], local("y")),
+    (0, [], [], "i64", [let("y", int_(1)), run(call("need", local("y")))], local("y")),
+    (0, [], [], "u8", [let("y", int_(1)), run(call("keep", local("y")))], local("y")),
+    (0, [], [], (), [let("y", call("made"))], None),
+    (0, [], [], (), [let("y", call("made"), "bool")], None),
+    (0, [], [], (), [let("y", call("made"), "char")], None),
+    (0, [], [], (), [run(call("need", call("made")))], None),
+    (0, [], [], (), [run(call("need", ("tuple", [("char", "a"), call("make")])))], None),
+    (0, [], [], "bool", [], call("both", TRUE, call("red"))),
+    (0, [], [], "bool", [], call("both", call("red"), TRUE)),
+    (0, [], [], "bool", [], call("both", int_(1), int_(1))),
+    (0, [], [], s_of("bool"), [], call("lift", TRUE)),
+    (0, [], [], s_of("char"), [], call("lift", ("char", "a"))),
+    (0, [], [], E, [], call("keep", call("keep", item("A")))),
+    (0, [], [], (), [run(call("keep", call("P", call("red"), call("P", int_(1), TRUE))))], None),
+    (0, [], [], (), [run(call("keep", call("P", call("red"), TRUE)))], None),
+    (0, [], [], (), [run(call("keep", call("P", call("wrap", int_(1)), TRUE)))], None),
+    (0, [], [], (), [let("h", item("need")), run(call_of(local("h"), int_(1)))], None),
+    (0, [], [], (), [let("h", item("need")), run(call_of(local("h"), ("char", "a")))], None),
+    (0, [], [], (), [let("h", item("need"))], None),
+    (0, [], [], (), [run(call_of(if_(item("need"), item("need")), ("char", "a")))], None),
+    (0, [], [], (), [run(call_of(if_(item("need"), item("take")), ("char", "a")))], None),
+    (0, [], [], (), [run(call_of(call("id", item("need")), ("char", "a")))], None),
+    (0, [], [], (), [run(call_of(block(item("need")), TRUE)), run(call_of(block(item("need")), call("nothing")))], None),
+    (0, [], [], (), [run(call("need", if_(("char", "a"), ("char", "b"))))], None),
+    (0, [], [], kept("bool"), [], call("Kept", TRUE)),
+    (0, [], [], (), [let("y", call("Kept", ("char", "a")))], None),
+    (0, [], [], (), [let("y", call("Kept", ("char", "a"))), let("z", call("id", local("y")))], None),
+    (0, [], [], (), [let("y", item("Kept")), run(call_of(local("y"), ("char", "a")))], None),
+    (0, [], [], (), [let("y", call("make"), kept("char"))], None),
+    (0, [], [], (), [let("y", call("make"), kept("_")), let("z", local("y"), kept("u8"))], None),
+    (0, [], [], slot("bool"), [], item("Free")),
+    (0, [], [], slot("bool"), [], call("Taken", TRUE)),
+    (0, [], [], (), [let("y", item("Free"))], None),
+    (0, [], [], (), [let("y", item("Free"), slot("char"))], None),
+    (0, [], [], (), [let("y", call("Taken", ("char", "a")))], None),
+    (0, [], [], (), [let("y", call("Taken", call("red")))], None),
+    (0, [], [], (), [let("y", if_(call("Taken", TRUE), item("Free")))], None),
+    (1, [("T", "Tr")], ["T"], (), [], call("need", local("x"))),
+    (1, [("T", "Up")], ["T"], (), [], call("need", local("x"))),
+    (1, [("T", "Sub")], ["T"], "T", [], call("keep", local("x"))),
+    (1, [("T", "Tr")], ["T"], (), [], call("need", call("wrap", local("x")))),
+    (1, [("T", "Tr")], ["T"], (), [], call("need", ("tuple", [local("x"), TRUE]))),
+    (1, [("T", "Tr")], ["T"], (), [], call("need", ("tuple", [TRUE, local("x")]))),
+    (1, [(s_of("T"), "Tr")], ["T"], s_of("T"), [], call("lift", local("x"))),
+    (1, [(s_of("T"), "Tr")], ["T"], (), [], call("need", local("x"))),
+    (1, [(s_of("T"), "Tr")], ["T"], s_of("T"), [], call("keep", call("wrap", local("x")))),
+    (1, [("T", "Tr")], ["T"], kept("T"), [], call("Kept", local("x"))),
+    (1, [("T", "Tr")], ["T"], (), [let("y", call("Taken", local("x")))], None),
+    (1, [("T", "Tr"), ("T", "Sub")], ["T"], "bool", [], call("both", local("x"), call("make"))),
+    (1, [("T", "Tr")], ["T"], "T", [run(call(OWN, TRUE)), run(call(OWN, ("char", "a")))], call(OWN, local("x"))),
+    (1, [("T", "Tr")], ["T"], "T",
+     [let("h", item(OWN)), run(call_of(local("h"), ("tuple", [local("x"), item("A")])))], call("make")),
+    (2, [("T", "Tr"), ("U", "Sub")], [("T", "U")], "bool",
+     [let(("tuple", ["a", "b"]), local("x"))], call("both", local("a"), local("b"))),
+    (2, [("T", "Tr"), ("U", "Sub")], [("T", "U")], "bool",
+     [let(("tuple", ["a", "b"]), local("x"))], call("both", local("b"), local("a"))),
+    (2, [("T", "Tr"), ("U", "Sub")], [("T", "U")], (), [], call("need", local("x"))),
+]]
+
+BY_HAND = WITHOUT_CALLS + WITH_CALLS + WITH_CONSTRUCTORS + WITH_PLACEHOLDERS + WITH_CALLEES + WITH_BOUNDS

@@ -1,7 +1,7 @@
 """How the body of a function in rustc's tree becomes facts."""
 import re
 
-from crate_items import RESOLUTIONS, Writer
+from crate_items import RESOLUTIONS, Writer, asks, named_by
 from hir_tree import def_id, identifier, name_of, span_of
 
 EXPRESSIONS = {
@@ -102,16 +102,15 @@ class BodyWriter(Writer):
             self.leave_out("associated item", span)
             return None
         path = path[1]
-        res = path["res"]
         if any(of["args"] is not None for of in path["segments"]):
             self.leave_out("type arguments of a path", span)
-        named = name_of(res[0]) if name_of(res) == "Def" else name_of(res)
+        named, item = named_by(path)
         if named == "Local":
-            return ["local", self.locals[res[0]], None]
+            return ["local", self.locals[path["res"][0]], None]
         if named == "Fn":
-            return self.item_path(def_id(res[1]), "fn", "function", self.items.functions, self.lists.function, span)
+            return self.item_path(item, "fn", "function", self.items.functions, self.lists.function, span)
         if named == "Ctor":
-            return self.item_path(def_id(res[1]), "ctor", "constructor", self.items.constructors, self.lists.variant, span)
+            return self.item_path(item, "ctor", "constructor", self.items.constructors, self.lists.variant, span)
         self.leave_out(RESOLUTIONS.get(named, "path to a " + named), span)
 
     def item_path(self, item, word, what, items, number, span):
@@ -226,8 +225,17 @@ class BodyWriter(Writer):
             self.leave_out("`..` in a pattern", span)
         return [self.pattern(part) for part in parts]
 
+    def pattern_path(self, path, span):
+        """A path in a pattern."""
+        fact = self.path(path, span)
+        if fact is not None and fact[0] == "ctor":
+            adt, _ = self.items.constructors[named_by(path[1])[1]]
+            if any(asks(of) for of in self.items.adts[adt].generics["predicates"]):
+                self.leave_out("pattern of a type with bounds", span)
+        return fact
+
     def pattern_TupleStruct(self, kind, span):
-        path = self.path(kind[0], span)
+        path = self.pattern_path(kind[0], span)
         variant = path and (["variant", *path[1:]] if path[0] == "ctor" else None)
         return ["ctor", variant, self.parts(kind[1], kind[2], span), None]
 
@@ -237,7 +245,7 @@ class BodyWriter(Writer):
         if name_of(kind) == "Lit":
             return ["lit", self.add_expr(self.literal(kind["lit"]["node"], kind["negated"], span), span)]
         if name_of(kind) == "Path":
-            return ["path", self.path(kind[0], span)]
+            return ["path", self.pattern_path(kind[0], span)]
         self.leave_out("pattern of the kind " + name_of(kind), span)
 
 

@@ -17,12 +17,20 @@ Function = collections.namedtuple("Function", "id name within generics signature
 # A name for another type.
 Alias = collections.namedtuple("Alias", "id generics ty")
 
+# A trait. `bounds` are those on `Self` that follow its name, `members` the kinds of its associated items.
+Trait = collections.namedtuple("Trait", "id name is_auto generics bounds members span")
+
+# An impl. `header` is what the tree has of the trait, or None where there is none, `ty` the type that it is for.
+Impl = collections.namedtuple("Impl", "id generics header ty members span")
+
 # Items that say nothing of types by themselves.
 SILENT = {"ExternCrate", "Use", "Mod", "Macro", "TyAlias"}
 
 OTHER_ITEMS = {
     "Static": "static", "Const": "const", "ForeignMod": "foreign items", "GlobalAsm": "global assembly", "Union": "union",
-    "Trait": "trait", "TraitAlias": "trait alias", "Impl": "impl"}
+    "TraitAlias": "trait alias"}
+
+MEMBERS = {"Fn": "a function", "Const": "a const", "Type": "an associated type"}
 
 TYPES = {
     "Slice": "slice type", "Array": "array type", "Ptr": "raw pointer type", "Ref": "reference type",
@@ -33,7 +41,13 @@ RESOLUTIONS = {
     "Err": "unresolved name", "SelfTyAlias": "type `Self`", "SelfTyParam": "type `Self`", "SelfCtor": "constructor `Self`",
     "Union": "union", "AssocTy": "associated type", "ForeignTy": "foreign type", "Const": "path to a const",
     "Static": "path to a static", "AssocFn": "associated function", "AssocConst": "associated const",
-    "ConstParam": "const parameter", "Trait": "trait as a type", "Fn": "function", "Ctor": "constructor"}
+    "ConstParam": "const parameter", "Trait": "trait as a type", "TraitAlias": "trait alias", "Fn": "function",
+    "Ctor": "constructor"}
+
+# Bounds that don't ask for the trait that they name.
+POLARITIES = {"Maybe": "`?Sized`", "Negative": "negative bound"}
+
+IN_SIGNATURE = "`_` in a signature"
 
 
 class Items:
@@ -42,6 +56,8 @@ class Items:
     def __init__(self, sources):
         self.sources = sources
         self.modules, self.adts, self.functions, self.aliases, self.constructors = {}, {}, {}, {}, {}
+        self.traits, self.impls = {}, {}
+        self.impls_of = collections.defaultdict(list)  # the impls of each trait
         self.paths = {}  # the modules by their crates and paths
         self.others = []  # an Omission for each item of a kind that has no facts
 
@@ -52,11 +68,15 @@ class Items:
             if node.name == "Crate" or node.name == "Item" and name_of(node[0]["kind"]) == "Mod":
                 self.modules[item] = self.module_of(item)
                 self.paths[item[:2]] = item
+        members = {item: name_of(owner["node"]["node"][0]["kind"]) for item, owner in owners
+                   if owner["node"]["node"].name in ("ImplItem", "TraitItem")}
         for item, owner in owners:
             node = owner["node"]["node"]
-            if node.name == "Item":
+            if node.name == "Item" and name_of(node[0]["kind"]) in ("Trait", "Impl"):
+                self.read_abstract(item, node[0]["kind"], span_of(node[0]["span"]), members)
+            elif node.name == "Item":
                 self.read_item(item, node[0], owner["bodies"])
-            elif node.name in ("ImplItem", "TraitItem"):
+            elif item in members:
                 self.read_associated(item, node, owner["bodies"])
 
     def module_of(self, item):
@@ -88,6 +108,18 @@ class Items:
         elif name not in SILENT and item.crate == OWN:
             self.others.append(Omission(OTHER_ITEMS.get(name, name), span, None))
 
+    def read_abstract(self, item, kind, span, members):
+        """A trait or an impl. `members` are the kinds of associated items by their DefIds."""
+        if kind.name == "Trait":
+            of_trait = [members[def_id(of["owner_id"])] for of in kind[6]]
+            self.traits[item] = Trait(item, identifier(kind[3]), kind[1] == "Yes", kind[4], kind[5], of_trait, span)
+        else:
+            kind = kind[0]
+            header, of_impl = kind["of_trait"], [members[def_id(of["owner_id"])] for of in kind["items"]]
+            self.impls[item] = Impl(item, kind["generics"], header, kind["self_ty"], of_impl, span)
+            if header is not None:
+                self.impls_of[named_by(header["trait_ref"]["path"])[1]].append(item)
+
     def add_adt(self, adt):
         self.adts[adt.id] = adt
         for at, (_, data, _) in enumerate(adt.variants):
@@ -114,19 +146,20 @@ def body_of(bodies, body):
     return bodies[re.search(r"(\d+)\)$", body["hir_id"]).group(1)]
 
 
-def parameters_of(generics):
-    """The parameters that are types, by their DefIds, with their numbers."""
+def parameters_of(generics, first=0):
+    """The parameters that are types, by their DefIds, with their numbers, which count from `first`."""
     types = [def_id(of["def_id"]) for of in generics["params"] if name_of(of["kind"]) != "Lifetime"]
-    return {item: number for number, item in enumerate(types)}
+    return {item: number for number, item in enumerate(types, first)}
 
 
 class Lists:
     """The numbered lists of the facts: what is named gets the next number where it has none."""
 
     def __init__(self, items, refused=()):
-        self.items, self.refused = items, refused  # `refused` are adts and functions that can't be written
+        self.items, self.refused = items, refused  # `refused` are items that can't be written
         self.types, self.known_types = [], {}
         self.modules, self.adts, self.variants, self.functions = {}, {}, {}, {}
+        self.traits, self.impls = {}, {}
 
     def module(self, module):
         if module not in self.modules:
@@ -151,6 +184,12 @@ class Lists:
     def function(self, item):
         return self.functions.setdefault(item, len(self.functions))
 
+    def trait(self, item):
+        return self.traits.setdefault(item, len(self.traits))
+
+    def impl(self, item):
+        return self.impls.setdefault(item, len(self.impls))
+
     def type(self, entry, has_hole=False):
         """The number of a written type. Where a `_` stands in it, an entry of its own is made."""
         if has_hole:
@@ -168,6 +207,7 @@ class Writer:
     def __init__(self, lists, parameters, function=None):
         self.lists, self.items, self.function = lists, lists.items, function
         self.parameters = parameters  # the numbers of type parameters; within an alias the types that stand for them
+        self.own_type = None  # the number of the type that `Self` stands for, or None where that is not carried
         self.omissions, self.place, self.aliases = [], None, []
 
     def leave_out(self, kind, span):
@@ -187,7 +227,7 @@ class Writer:
         else:
             self.leave_out("%s `%s::%s`, of another crate" % (what, item.crate, path), span)
 
-    def type(self, ty, hole="`_` in a signature"):
+    def type(self, ty, hole=IN_SIGNATURE):
         """A written type: its number, and whether a `_` stands in it. `hole` says what one is left out as, or is None."""
         kind, span = ty["kind"], span_of(ty["span"])
         name = name_of(kind)
@@ -210,22 +250,22 @@ class Writer:
 
     def path_type(self, path, hole, span):
         """A type that a path names."""
-        res = path["res"]
-        name = name_of(res)
-        if name == "PrimTy":
-            return self.primitive(res[0], span)
-        named = name_of(res[0]) if name == "Def" else name
+        named, item = named_by(path)
+        if named == "PrimTy":
+            return self.primitive(path["res"][0], span)
         if any(of["args"] is not None for of in path["segments"][:-1]):
             self.leave_out("type arguments within a path", span)
         if named in ("Struct", "Enum"):
-            return self.adt_type(def_id(res[1]), path["segments"][-1]["args"], hole, span)
-        if named == "TyAlias" and def_id(res[1]) in self.items.aliases:
-            return self.alias_type(self.items.aliases[def_id(res[1])], path["segments"][-1]["args"], hole, span)
-        if named == "TyParam" and def_id(res[1]) in self.parameters:
-            number = self.parameters[def_id(res[1])]
+            return self.adt_type(item, path["segments"][-1]["args"], hole, span)
+        if named == "TyAlias" and item in self.items.aliases:
+            return self.alias_type(self.items.aliases[item], path["segments"][-1]["args"], hole, span)
+        if named == "TyParam" and item in self.parameters:
+            number = self.parameters[item]
             return (number if self.aliases else self.lists.type(["param", number])), False
+        if named in ("SelfTyParam", "SelfTyAlias") and self.own_type is not None:
+            return self.own_type, False
         if named == "TyAlias":
-            self.leave_out_item(def_id(res[1]), "type", span)
+            self.leave_out_item(item, "type", span)
         else:
             self.leave_out(RESOLUTIONS.get(named, "path to a " + named), span)
         return 0, False
@@ -279,7 +319,7 @@ class Writer:
         return number, False
 
     def generics(self, generics):
-        """The facts of an item's own parameters."""
+        """The facts of an item's own parameters, and of its predicates."""
         params = []
         for of in generics["params"]:
             kind, span = of["kind"], span_of(of["span"])
@@ -291,23 +331,55 @@ class Writer:
                     self.leave_out("`impl` type", span)
             elif kind.name != "Lifetime":
                 self.leave_out("const parameter", span)
-        for of in generics["predicates"]:
-            self.predicate(of)
-        return params
+        return params, [goal for of in generics["predicates"] for goal in self.predicate(of)]
 
     def predicate(self, predicate):
-        """Notes a predicate, unless it speaks of lifetimes alone or says what holds anyway."""
-        kind = predicate["kind"]
-        if kind.name == "RegionPredicate":
-            return
-        if kind.name != "BoundPredicate":
-            self.leave_out("predicate", span_of(predicate["span"]))
-            return
-        for bound in kind[0]["bounds"]:
-            if bound.name == "Outlives" or bound.name == "Trait" and is_sized(bound[0]):
-                continue
-            span = span_of(bound[0]["span"]) if bound.name == "Trait" else span_of(predicate["span"])
-            self.leave_out("bound of a type parameter", span)
+        """The goals of a predicate."""
+        kind, span = predicate["kind"], span_of(predicate["span"])
+        if kind.name not in ("BoundPredicate", "RegionPredicate"):
+            self.leave_out("predicate", span)
+        if not asks(predicate):
+            return []
+        if kind[0]["bound_generic_params"]:
+            self.leave_out("higher-ranked bound", span)
+        return self.goals(self.type(kind[0]["bounded_ty"])[0], kind[0]["bounds"])
+
+    def goals(self, ty, bounds):
+        """What bounds ask of a type."""
+        return [self.goal(ty, bound[0]) for bound in bounds if not is_silent(bound)]
+
+    def goal(self, ty, bound):
+        """What a bound that is a trait asks of a type."""
+        span, modifiers = span_of(bound["span"]), bound["modifiers"]
+        if bound["bound_generic_params"]:
+            self.leave_out("higher-ranked bound", span)
+        if modifiers["constness"] != "Never":
+            self.leave_out("`const` bound", span)
+        if modifiers["polarity"] != "Positive":
+            self.leave_out(POLARITIES[name_of(modifiers["polarity"])], span)
+            return None
+        trait, arguments = self.trait(bound["trait_ref"], "trait")
+        return ["trait", trait, [["t", ty], *arguments]]
+
+    def trait(self, trait_ref, what):
+        """A trait that is named: its number, and the arguments that are written. `what` says as what it is left out."""
+        path = trait_ref["path"]
+        span, (kind, item) = span_of(path["span"]), named_by(path)
+        if kind != "Trait":
+            self.leave_out(RESOLUTIONS.get(kind, "path to a " + kind), span)
+            return 0, []
+        if item not in self.items.traits or item in self.lists.refused:
+            self.leave_out_item(item, what, span)
+            return 0, []
+        parts = self.arguments(path["segments"][-1]["args"], IN_SIGNATURE, span)
+        if len(parts) != len(parameters_of(self.items.traits[item].generics)):
+            self.leave_out("another number of type arguments than parameters", span)
+        return self.lists.trait(item), [["t", number] for number, _ in parts]
+
+    def members(self, what, of):
+        """Notes the kinds of associated items that a trait or an impl has."""
+        for member in sorted(set(of.members)):
+            self.leave_out("%s with %s" % (what, MEMBERS.get(member, member)), of.span)
 
 
 def is_within(span, place):
@@ -317,8 +389,21 @@ def is_within(span, place):
         and (span.end_line, span.end_column) <= (place.end_line, place.end_column))
 
 
-def is_sized(bound):
-    """Whether a bound says `Sized`, as is said of each parameter without it."""
-    res = bound["trait_ref"]["path"]["res"]
-    return (bound["modifiers"]["polarity"] == "Positive" and name_of(res) == "Def"
-            and def_id(res[1])[:2] == ("core", "marker::Sized"))
+def named_by(path):
+    """The kind of what a path names, and its DefId, or None where it has none."""
+    res = path["res"]
+    return (name_of(res[0]), def_id(res[1])) if name_of(res) == "Def" else (name_of(res), None)
+
+
+def asks(predicate):
+    """Whether a predicate asks for a trait."""
+    kind = predicate["kind"]
+    return kind.name == "BoundPredicate" and not all(is_silent(bound) for bound in kind[0]["bounds"])
+
+
+def is_silent(bound):
+    """Whether a bound is of lifetimes alone, or says `Sized`, as is said of each parameter without it."""
+    if bound.name != "Trait":
+        return True
+    _, item = named_by(bound[0]["trait_ref"]["path"])
+    return bound[0]["modifiers"]["polarity"] == "Positive" and item is not None and item[:2] == ("core", "marker::Sized")

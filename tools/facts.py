@@ -23,6 +23,7 @@ EDITIONS = [2015, 2018, 2021, 2024]
 CORE = os.path.join(os.path.dirname(os.path.abspath(__file__)), "core.rs")
 LIMITS = [8, 1000, 8, 10]
 REPR = r"\brepr\s*\([^)]*\b([iu](?:8|16|32|64|128|size))\b"
+LANG = r'\blang\s*=\s*"(sized|copy|clone)"'
 
 # A function with a body in the source: its path in the crate, its Function, its number among the facts' functions or
 # None, the BodyWriter of its facts' body or None, and what of it is left out.
@@ -42,12 +43,13 @@ class CrateFacts:
         self.items.read(tree_of(path, edition, OWN))
         self.items.read(tree_of(CORE, 2021, "core"))
         self.bodies, self.body_numbers = [], {}
-        self.refused = {}  # the adts and functions that can't be written, each with what of it is left out
-        self.refuse_adts()
+        self.refused = {}  # the items that can't be written, each with what of it is left out
+        self.refuse_types_and_traits()
         self.refuse_functions()
         self.lists = Lists(self.items, self.refused)
         for items, number in ((self.items.modules, self.lists.module), (self.items.adts, self.lists.adt),
-                              (self.items.functions, self.lists.function)):
+                              (self.items.functions, self.lists.function), (self.items.traits, self.lists.trait),
+                              (self.items.impls, self.lists.impl)):
             for item in items:
                 if item.crate == OWN and item not in self.refused:
                     number(item)
@@ -56,17 +58,24 @@ class CrateFacts:
         self.omissions = self.all_omissions()
         self.text = json.dumps(self.facts(edition), separators=(",", ":"))
 
-    def refuse_adts(self):
-        """Finds the adts that can't be written, until none of the others names one that can't."""
+    def refuse_types_and_traits(self):
+        """Finds the adts, traits and impls that can't be written, until none of the others names one that can't."""
         found = True
         while found:
             found = False
-            for item, adt in self.items.adts.items():
-                writer = Writer(Lists(self.items, self.refused), parameters_of(adt.generics))
-                self.adt(adt, writer)
-                if writer.omissions and item not in self.refused:
-                    found = True
-                    self.refused[item] = writer.omissions
+            for items, write in ((self.items.adts, self.adt), (self.items.traits, self.trait), (self.items.impls, self.impl)):
+                for item, of in items.items():
+                    writer = self.item_writer(of, Lists(self.items, self.refused))
+                    write(of, writer)
+                    if writer.omissions and item not in self.refused:
+                        found = True
+                        self.refused[item] = writer.omissions
+
+    def item_writer(self, of, lists):
+        """A writer of an adt, a trait or an impl."""
+        writer = Writer(lists, parameters_of(of.generics, 1 if of.id in self.items.traits else 0))
+        writer.place = of.span
+        return writer
 
     def refuse_functions(self):
         """Finds the functions whose signatures can't be written."""
@@ -98,7 +107,7 @@ class CrateFacts:
         """All that is left out of the file's crate, by its place."""
         omissions = set(self.items.others)
         for item, of in self.refused.items():
-            if item.crate == OWN and (item in self.items.adts or self.items.functions[item].body is None):
+            if item.crate == OWN and (item not in self.items.functions or self.items.functions[item].body is None):
                 omissions.update(of)
         for of in self.shown:
             omissions.update(of.omissions)
@@ -108,18 +117,20 @@ class CrateFacts:
         features = set(re.findall(r"\w+", " ".join(self.sources.attributes_of_file(self.path))))
         functions = [self.function(self.items.functions[item], self.writer(self.items.functions[item], self.lists))
                      for item in self.lists.functions]
+        traits = [self.trait(of, self.item_writer(of, self.lists)) for of in map(self.items.traits.get, self.lists.traits)]
+        impls = [self.impl(of, self.item_writer(of, self.lists)) for of in map(self.items.impls.get, self.lists.impls)]
         adts, variants = [], []
         while len(adts) < len(self.lists.adts):  # an adt of the core library gets its number as it is named
             adt = self.items.adts[list(self.lists.adts)[len(adts)]]
-            fact, of_adt = self.adt(adt, Writer(self.lists, parameters_of(adt.generics)))
+            fact, of_adt = self.adt(adt, self.item_writer(adt, self.lists))
             adts.append(fact)
             variants += of_adt
         return {
             "profile": 1, "edition": edition, "never_fallback": "never_type_fallback" in features,
             "new_range": "new_range" in features, "limits": LIMITS, "types": self.lists.types,
             "modules": [self.parent(module) for module in self.lists.modules], "adts": adts, "variants": variants,
-            "fns": functions, "consts": [], "statics": [], "traits": [], "aliases": [], "impls": [], "opaques": [],
-            "lang": {}, "bodies": self.bodies}
+            "fns": functions, "consts": [], "statics": [], "traits": traits, "aliases": [], "impls": impls, "opaques": [],
+            "lang": self.lang(), "bodies": self.bodies}
 
     def parent(self, module):
         parent = self.items.modules[module]
@@ -127,8 +138,7 @@ class CrateFacts:
 
     def adt(self, adt, writer):
         """The facts of an adt, and of its variants."""
-        writer.place = adt.span
-        params = writer.generics(adt.generics)
+        params, preds = writer.generics(adt.generics)
         for span in adt.discriminants:
             writer.leave_out("discriminant of a variant", span)
         vis = self.visibility(adt.vis, adt.module, writer.lists)
@@ -143,10 +153,48 @@ class CrateFacts:
                 for field in data[0]]
             variants.append({"adt": writer.lists.adt(adt.id), "name": name, "ctor": data.name.lower(), "fields": fields,
                              "body": None})
-        fact = {"name": adt.name, "kind": adt.kind, "params": params, "preds": [],
+        fact = {"name": adt.name, "kind": adt.kind, "params": params, "preds": preds,
                 "variants": [writer.lists.variants[adt.id, at] for at in range(len(variants))],
                 "repr": self.repr(adt), "unsize": None}
         return fact, variants
+
+    def trait(self, trait, writer):
+        """The facts of a trait without associated items."""
+        writer.own_type = writer.lists.type(["param", 0])
+        writer.members("trait", trait)
+        if trait.is_auto:
+            writer.leave_out("`auto` trait", trait.span)
+        if any(impl in self.refused for impl in self.items.impls_of[trait.id]):
+            writer.leave_out("trait of which an impl is left out", trait.span)
+        supertraits = writer.goals(writer.own_type, trait.bounds)
+        params, preds = writer.generics(trait.generics)
+        return {"name": trait.name, "params": params, "preds": supertraits + preds, "fns": [], "consts": [], "types": [],
+                "auto": False}
+
+    def impl(self, impl, writer):
+        """The facts of an impl of a trait without associated items."""
+        if impl.header is None:
+            writer.leave_out("impl without a trait", impl.span)
+            return None
+        if impl.header["defaultness"] != "Final":
+            writer.leave_out("`default` impl", impl.span)
+        if "negative" in impl.header["polarity"]:
+            writer.leave_out("negative impl", impl.span)
+        writer.own_type = writer.type(impl.ty)[0]
+        trait, arguments = writer.trait(impl.header["trait_ref"], "impl of trait")
+        if not writer.omissions:
+            writer.members("impl", impl)
+        params, preds = writer.generics(impl.generics)
+        return {"trait": [trait, arguments], "params": params, "preds": preds, "self": writer.own_type, "fns": [],
+                "consts": [], "types": []}
+
+    def lang(self):
+        """The traits that the language knows."""
+        found = {}
+        for item, number in self.lists.traits.items():
+            for attribute in self.sources.attributes_before(self.items.traits[item].span):
+                found.update((name, number) for name in re.findall(LANG, attribute))
+        return found
 
     def function(self, function, writer):
         """The facts of a function without `self`."""
@@ -158,12 +206,12 @@ class CrateFacts:
             writer.leave_out("async function", function.span)
         if declared["c_variadic"]:
             writer.leave_out("function of any number of arguments", function.span)
-        params = writer.generics(function.generics)
+        params, preds = writer.generics(function.generics)
         inputs = [writer.type(ty)[0] for ty in declared["inputs"]]
         output = declared["output"]
         output = writer.type(output[0])[0] if output.name == "Return" else writer.lists.type(["tuple", []])
         return {"name": function.name, "at": ["module", writer.lists.module(function.module)], "params": params,
-                "preds": [], "has_self": False, "inputs": inputs, "output": output,
+                "preds": preds, "has_self": False, "inputs": inputs, "output": output,
                 "safe": name_of(header["safety"]) != "Normal" or header["safety"][0] != "Unsafe",
                 "vis": self.visibility(function.vis, function.module, writer.lists),
                 "body": self.body_numbers.get(function.id)}

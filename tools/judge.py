@@ -3,7 +3,7 @@
 
 The functions are those in the files and folders that are named: of each file `facts.py` writes the facts. Where none is
 named they are some by hand (`bodies.py`) and COUNT made at random from SEED. Each of those is written as Rust source and as
-facts, with the functions and adts that it may name; it may have type parameters, and call itself. What stands side by side
+facts, with the items that it may name; it may have type parameters with bounds, and call itself. What stands side by side
 is said in `verdicts.py`. Of the bodies made at random, one in which a value is used after it moved (E0382) has rustc's
 types from a source in which all can be copied; in files it has none, nor has any other with an error. With --from-source
 the bodies made at random and by hand are judged as files, so that `facts.py` is tried on them.
@@ -19,12 +19,12 @@ import subprocess
 import sys
 import tempfile
 
-from bodies import ADTS, BY_HAND, CALLED, E, FUNCTIONS, OWN, PAIR, PARAMS, PLAIN, UNIT, VARIANTS
+from bodies import ADT_BOUNDS, ADTS, BY_HAND, CALLED, E, FUNCTIONS, IMPLS, OWN, PAIR, PARAMS, PLAIN, TRAITS, UNIT, VARIANTS
 from bodies import Adt, Body, Item, Signature, call, call_of, int_, item, local, run
 from facts import NoFacts, add_file_options
-from judge_files import judge_files
+from judge_files import bounded_in, judge_files
 from program import NoReport, Program, add_program_options
-from rustc import NoRustc, errors_in, in_our_words, rustc, thir_types
+from rustc import NoRustc, errors_in, in_our_words, rustc, thir_types, with_parameters
 from verdicts import MOVES, NO_ANSWER, Judged, Nodes, summary, verdict
 
 WORDS = ["u8", "i32", "i64", "bool", "char"]
@@ -52,6 +52,29 @@ def is_instance(written, ty, args):
     return written == ty
 
 
+def implements(ty, trait, given):
+    """Whether a type implements a trait, by these bounds that are given, or by an impl."""
+    if any(of == ty and trait in [own, *TRAITS[own]] for of, own in given):
+        return True
+    for _, bounds, of, written in IMPLS:
+        args = {}
+        if of == trait and is_instance(written, ty, args) and are_met(bounds, args, given):
+            return True
+    return False
+
+
+def are_met(bounds, args, given):
+    """Whether bounds are met at these types for "T" and "U"; of what has none nothing is asked."""
+    return all(implements(instance(ty, args), trait, given) for ty, trait in bounds if params_in(ty) <= set(args))
+
+
+def params_in(ty):
+    """The parameters in a written type."""
+    if isinstance(ty, (Adt, tuple)):
+        return set().union(*(params_in(part) for part in (ty.args if isinstance(ty, Adt) else ty)))
+    return {ty} & set(PARAMS)
+
+
 class Maker:
     """Makes one body at random, whose function has some type parameters."""
 
@@ -60,7 +83,8 @@ class Maker:
         self.generics = rng.choice([0, 0, 1, 2])
         self.slip = rng.choice([0, 0, 0.01, 0.05])  # how often it goes wrong on purpose
         inputs = [self.type(2) for _ in range(rng.randrange(3))]
-        self.own = Signature(self.generics, inputs, self.type(2))
+        bounds = [(param, trait) for param in PARAMS[:self.generics] for trait in TRAITS if rng.random() < 0.3]
+        self.own = Signature(self.generics, inputs, self.type(2), bounds)
 
     def body(self):
         names = {"a%d" % k: ty for k, ty in enumerate(self.own.inputs)}
@@ -76,12 +100,24 @@ class Maker:
             return self.item_type(depth)
         if depth and self.rng.random() < 0.06:
             return tuple(self.unwritten(0) for _ in range(2))
+        if depth and self.rng.random() < 0.06:
+            name = self.rng.choice(sorted(ADT_BOUNDS))
+            return Adt(name, self.arguments(ADTS[name][1], ADT_BOUNDS[name], {}, lambda: self.type(depth - 1)))
         return self.type(depth)
 
     def item_type(self, depth):
         """The type of an item that can be called."""
         name = self.rng.choice(PLAIN if self.rng.random() < 0.5 else sorted(CALLED) + [OWN])
-        return Item(name, tuple(self.type(max(depth - 1, 0)) for _ in range(self.signature(name).generics)))
+        of = self.signature(name)
+        return Item(name, self.arguments(of.generics, of.bounds, {}, lambda: self.type(max(depth - 1, 0))))
+
+    def arguments(self, count, bounds, found, make):
+        """Types for this many parameters, of which some are found, and the others made, mostly so that bounds are met."""
+        for _ in range(10):
+            args = {param: found[param] if param in found else make() for param in PARAMS[:count]}
+            if self.slips() or are_met(bounds, args, self.own.bounds):
+                break
+        return tuple(args.values())
 
     def signature(self, name):
         """What an item that can be called takes and gives."""
@@ -100,7 +136,7 @@ class Maker:
         if depth == 0 or rng.random() < 0.7:
             return rng.choice(WORDS + PARAMS[:self.generics] * 2 + [E, PAIR, UNIT])
         if rng.random() < 0.35:
-            name = rng.choice(sorted(ADTS))
+            name = rng.choice(sorted(set(ADTS) - set(ADT_BOUNDS)))
             return Adt(name, tuple(self.type(depth - 1) for _ in range(ADTS[name][1])))
         return tuple(self.type(depth - 1) for _ in range(rng.randrange(4)))
 
@@ -159,13 +195,13 @@ class Maker:
         fitting = []
         for name, signature in sorted(CALLED.items()) + [(OWN, self.own)]:
             found = {}
-            if name == "make" and self.rng.random() < 0.7:
+            if name in ("make", "made") and self.rng.random() < 0.7:
                 continue  # its type has to come from elsewhere
-            if self.slips() or is_instance(signature.output, wanted, found):
+            fits = is_instance(signature.output, wanted, found) and are_met(signature.bounds, found, self.own.bounds)
+            if self.slips() or fits:
                 fitting.append((name, signature, found))
         name, signature, found = self.rng.choice(fitting)  # `id` and `make` fit always
-        return Item(name, tuple(found[param] if param in found else self.unwritten(1)
-                                for param in PARAMS[:signature.generics]))
+        return Item(name, self.arguments(signature.generics, signature.bounds, found, lambda: self.unwritten(1)))
 
     def match(self, names, wanted, depth):
         """A `match`, whose last arm takes whatever is left."""
@@ -188,7 +224,7 @@ class Maker:
             ty = self.type(1)
         if isinstance(ty, tuple) and not isinstance(ty, Adt) and rng.random() < 0.7:
             return ("tuple", [self.pattern(part, first, bound, refutable) for part in ty])
-        if isinstance(ty, Adt) and rng.random() < 0.6:
+        if isinstance(ty, Adt) and ty.name not in ADT_BOUNDS and rng.random() < 0.6:
             variants = list(ADTS[ty.name][2].items())
             if refutable or len(variants) == 1:
                 return self.constructor(*rng.choice(variants), ty, first, bound, refutable)
@@ -279,24 +315,42 @@ def generics_text(count):
     return "<%s>" % ", ".join(name + ": Sized" for name in PARAMS[:count]) if count else ""
 
 
+def bounds_text(bounds):
+    """Bounds as a `where`, which speaks of types that `copied` leaves as they are."""
+    return " where " + ", ".join("%s: %s" % (type_text(ty), trait) for ty, trait in bounds) if bounds else ""
+
+
+def item_lines():
+    """All that bodies may name as source."""
+    return [*adt_lines(), *trait_lines(), *function_lines()]
+
+
 def adt_lines():
     """The adts as source."""
     for name, (kind, count, variants) in ADTS.items():
-        generics = "<%s>" % ", ".join(PARAMS[:count]) if count else ""
+        generics, bounds = "<%s>" % ", ".join(PARAMS[:count]) if count else "", bounds_text(ADT_BOUNDS.get(name, ()))
         texts = [variant + ("(%s)" % ", ".join(type_text(ty) for ty in fields) if fields else "")
                  for variant, fields in variants.items()]
         if kind == "struct":
-            yield "pub struct %s;" % texts[0].replace(name, name + generics, 1)
+            yield "pub struct %s%s;" % (texts[0].replace(name, name + generics, 1), bounds)
         else:
-            yield "pub enum %s%s { %s }" % (name, generics, ", ".join(texts))
+            yield "pub enum %s%s%s { %s }" % (name, generics, bounds, ", ".join(texts))
+
+
+def trait_lines():
+    """TRAITS and IMPLS as source."""
+    for name, supertraits in TRAITS.items():
+        yield "pub trait %s%s {}" % (name, ": " + " + ".join(supertraits) if supertraits else "")
+    for count, bounds, trait, ty in IMPLS:
+        yield "impl<%s> %s for %s%s {}" % (", ".join(PARAMS[:count]), trait, type_text(ty), bounds_text(bounds))
 
 
 def function_lines():
     """FUNCTIONS as source."""
     for name, signature in FUNCTIONS.items():
         inputs = ", ".join("x%d: %s" % (k, type_text(ty)) for k, ty in enumerate(signature.inputs))
-        yield "pub fn %s%s(%s) -> %s { loop {} }" % (name, generics_text(signature.generics), inputs,
-                                                      type_text(signature.output))
+        yield "pub fn %s%s(%s) -> %s%s { loop {} }" % (name, generics_text(signature.generics), inputs,
+                                                        type_text(signature.output), bounds_text(signature.bounds))
 
 
 def copied(line):
@@ -329,7 +383,7 @@ class Writer:
 
     def signature(self, name, signature, body):
         """The facts of a function."""
-        return {"name": name, "at": ["module", 0], "params": ["t"] * signature.generics, "preds": [],
+        return {"name": name, "at": ["module", 0], "params": ["t"] * signature.generics, "preds": self.goals(signature.bounds),
                 "has_self": False, "inputs": [self.type_id(ty) for ty in signature.inputs],
                 "output": self.type_id(signature.output), "safe": True, "vis": "pub", "body": body}
 
@@ -337,7 +391,7 @@ class Writer:
         """The facts of the adts and of their variants."""
         adts, all_variants = [], []
         for name, (kind, count, variants) in ADTS.items():
-            adts.append({"name": name, "kind": kind, "params": ["t"] * count, "preds": [],
+            adts.append({"name": name, "kind": kind, "params": ["t"] * count, "preds": self.goals(ADT_BOUNDS.get(name, ())),
                          "variants": [len(all_variants) + k for k in range(len(variants))],
                          "repr": None, "unsize": None})
             for variant, fields in variants.items():
@@ -345,6 +399,20 @@ class Writer:
                                      "fields": [{"name": str(k), "type": self.type_id(ty), "vis": 0}
                                                 for k, ty in enumerate(fields)], "body": None})
         return adts, all_variants
+
+    def traits(self):
+        """The facts of the traits."""
+        return [{"name": name, "params": [], "preds": self.goals([("T", supertrait) for supertrait in supertraits]), "fns": [],
+                 "consts": [], "types": [], "auto": False} for name, supertraits in TRAITS.items()]
+
+    def impls(self):
+        """The facts of the impls."""
+        return [{"trait": [list(TRAITS).index(trait), []], "params": ["t"] * count, "preds": self.goals(bounds),
+                 "self": self.type_id(ty), "fns": [], "consts": [], "types": []} for count, bounds, trait, ty in IMPLS]
+
+    def goals(self, bounds):
+        """The facts of bounds."""
+        return [["trait", list(TRAITS).index(trait), [["t", self.type_id(ty)]]] for ty, trait in bounds]
 
     def param(self, name, ty):
         binding = len(self.bindings)
@@ -519,17 +587,18 @@ def write_body(number, body):
     writer = Writer(name)
     writer.text = "pub fn %s%s(" % (name, generics_text(body.own.generics))
     scope = {name: writer.param(name, ty) for name, ty in zip(body.names, body.own.inputs)}
-    writer.text += ") -> %s " % type_text(body.own.output)
+    writer.text += ") -> %s%s " % (type_text(body.own.output), bounds_text(body.own.bounds))
     root = writer.expr(("block", body.statements, body.tail), scope)
     functions = [writer.signature(name, body.own, 0)]
     functions += [writer.signature(name, signature, None) for name, signature in FUNCTIONS.items()]
     adts, variants = writer.adts()
+    traits, impls = writer.traits(), writer.impls()
     facts = {"module": 0, "traits": [], "self": None, "params": list(range(len(body.names))), "root": root,
              "exprs": writer.exprs, "pats": writer.pats, "bindings": writer.bindings, "labels": 0}
     text = json.dumps({
         "profile": 1, "edition": 2021, "never_fallback": False, "new_range": False, "limits": [8, 1000, 8, 10],
         "types": writer.types, "modules": [None], "adts": adts, "variants": variants, "fns": functions, "consts": [],
-        "statics": [], "traits": [], "aliases": [], "impls": [], "opaques": [], "lang": {}, "bodies": [facts]})
+        "statics": [], "traits": traits, "aliases": [], "impls": impls, "opaques": [], "lang": {}, "bodies": [facts]})
     return writer.text, text, writer
 
 
@@ -538,7 +607,7 @@ def rustc_of(lines, *options, timeout=None, change=str):
     with tempfile.TemporaryDirectory() as folder:
         with open(os.path.join(folder, "judged.rs"), "w") as out:
             out.write("#![allow(warnings)]\n")
-            out.writelines(change(line) + "\n" for line in [*lines, *adt_lines(), *function_lines()])
+            out.writelines(change(line) + "\n" for line in [*lines, *item_lines()])
         return rustc("judged.rs", *options, folder=folder, timeout=timeout)
 
 
@@ -593,7 +662,8 @@ def types_of(lines):
     if done.returncode:
         raise NoRustc("rustc gives no types: %s" % done.stderr)
     for span, ty in thir_types(done.stdout):
-        types[span.line - 2][span.column, span.end_column].add(in_our_words(ty, word_of))
+        ty = with_parameters(in_our_words(ty, word_of), PARAMS)
+        types[span.line - 2][span.column, span.end_column].add(ty)
     return types
 
 
@@ -623,7 +693,7 @@ def judge_sources(count, seed, edition, program):
     with tempfile.TemporaryDirectory() as folder:
         for at in range(0, len(lines), 20):
             with open(os.path.join(folder, "bodies%06d.rs" % at), "w") as out:
-                out.writelines(line + "\n" for line in [*lines[at:at + 20], *adt_lines(), *function_lines()])
+                out.writelines(line + "\n" for line in [*lines[at:at + 20], *item_lines()])
         return judge_files([folder], edition, program, False)
 
 
@@ -635,8 +705,8 @@ def judge_bodies(count, seed, program):
                        for number, line in enumerate(lines)])
     reports = program.reports([(text, 0) for text in texts])
     verdicts = []
-    for number, (line, report, writer) in enumerate(zip(lines, reports, writers)):
-        nodes = Nodes(writer.exprs, writer.pats, writer.places)
+    for number, (line, text, report, writer) in enumerate(zip(lines, texts, reports, writers)):
+        nodes = Nodes(writer.exprs, writer.pats, writer.places, bounded_in(json.loads(text)))
         verdicts.append(verdict(Judged(errors.get(number, set()), theirs[number], report, nodes)))
         for one in verdicts[-1].told:
             print("%s\n    %s" % (line, one))

@@ -1,12 +1,14 @@
 """Judges the functions of Rust files: rustc's verdicts and types beside ours."""
 import collections
 import glob
+import json
 import os
 import tempfile
 
+from crate_items import parameters_of
 from facts import facts_of, omission_text
 from hir_tree import span_of
-from rustc import NoRustc, errors_in, in_our_words, rustc, thir_types
+from rustc import NoRustc, errors_in, in_our_words, rustc, thir_types, with_parameters
 from verdicts import Judged, Nodes, verdict
 
 
@@ -20,11 +22,11 @@ def judge_files(paths, edition, program, tells_omissions=True):
     reports = iter(program.reports([(crate.text, of.number) for crate, of in functions]))
     verdicts = []
     for crate in crates:
-        errors = errors_of(crate, edition)
+        errors, bounded = errors_of(crate, edition), bounded_in(json.loads(crate.text))
         theirs = types_of(crate, edition, errors)
         for function in (of for of in crate.shown if of.writer is not None):
             types = None if around_with_errors(crate, errors, function) else theirs
-            found = verdict(judged(function, next(reports), errors[function.function.id], types))
+            found = verdict(judged(function, next(reports), errors[function.function.id], types, bounded))
             verdicts.append(found)
             for one in found.told:
                 print("%s:%d: %s\n    %s" % (crate.path, function.function.span.line, function.name, one))
@@ -44,14 +46,22 @@ def around_with_errors(crate, errors, function):
     return [of for of in crate.shown if errors[of.function.id] and holds(of.function.span, function.function.span[1:])]
 
 
-def judged(function, report, errors, theirs):
+def bounded_in(facts):
+    """The functions and constructors with bounds, as paths name them."""
+    functions = {("fn", at) for at, function in enumerate(facts["fns"]) if function["preds"]}
+    return functions | {("ctor", at) for at, variant in enumerate(facts["variants"]) if facts["adts"][variant["adt"]]["preds"]}
+
+
+def judged(function, report, errors, theirs, bounded):
     """A function for its verdict, with rustc's types of it from those of its file, if there are any."""
     writer, around = function.writer, function.function.span
     places = {node: span and span[1:] for node, span in writer.spans.items() if node[0] != "b"}
     own = set(places.values())
     if theirs is not None:
-        theirs = {place: types for place, types in theirs.items() if place in own or holds(around, place)}
-    return Judged(errors, theirs, report, Nodes(writer.exprs, writer.pats, places))
+        parameters = [item.path.rpartition("::")[2] for item in parameters_of(function.function.generics)]
+        theirs = {place: {with_parameters(ty, parameters) for ty in types}
+                  for place, types in theirs.items() if place in own or holds(around, place)}
+    return Judged(errors, theirs, report, Nodes(writer.exprs, writer.pats, places, bounded))
 
 
 def holds(span, place):

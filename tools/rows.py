@@ -24,6 +24,9 @@ from rustc import TRIED, NoRustc, rustc, version
 DATA = os.path.join(program.TOP, "crates", "infer_tests", "data")
 MARK = r'"\$(\w+)"'
 
+# The lists of facts whose entries are compared, in words.
+ITEMS = {"adts": "adt", "fns": "function", "traits": "trait", "impls": "impl"}
+
 
 class Unread(Exception):
     """A file of rows or a row cannot be read."""
@@ -96,18 +99,31 @@ class Shape:
 
     def adt(self, adt):
         variants = [self.facts["variants"][at] for at in adt["variants"]]
-        return [adt["name"], adt["kind"], adt["params"], adt["repr"], [
+        return [adt["name"], adt["kind"], adt["params"], self.goals(adt["preds"]), adt["repr"], [
             [of["name"], of["ctor"], [[field["name"], self.ty(field["type"]), field["vis"] == "pub"] for field in of["fields"]]]
             for of in variants]]
 
     def function(self, fn):
-        return [fn["name"], fn["params"], [self.ty(ty) for ty in fn["inputs"]], self.ty(fn["output"]), fn["safe"],
-                fn["vis"] == "pub"]
+        return [fn["name"], fn["params"], self.goals(fn["preds"]), [self.ty(ty) for ty in fn["inputs"]], self.ty(fn["output"]),
+                fn["safe"], fn["vis"] == "pub"]
 
-    def items(self):
-        """The adts and functions by their names."""
-        adts = {adt["name"]: self.adt(adt) for adt in self.facts["adts"]}
-        return adts, {fn["name"]: self.function(fn) for fn in self.facts["fns"]}
+    def trait(self, trait):
+        return [trait["name"], trait["params"], self.goals(trait["preds"]), trait["auto"]]
+
+    def impl(self, impl):
+        trait, arguments = impl["trait"]
+        return [self.facts["traits"][trait]["name"], [self.ty(ty) for _, ty in arguments], impl["params"],
+                self.goals(impl["preds"]), self.ty(impl["self"])]
+
+    def goals(self, goals):
+        return [[word, self.facts["traits"][trait]["name"], [self.ty(ty) for _, ty in arguments]]
+                for word, trait, arguments in goals]
+
+    def items(self, kind, numbers):
+        """The items of these numbers in a list: by their names, impls by their places."""
+        write = getattr(self, ITEMS[kind])
+        entries = [self.facts[kind][number] for number in numbers]
+        return {entry.get("name", at): write(entry) for at, entry in enumerate(entries)}
 
     def path(self, path):
         kind, at, written = path
@@ -152,18 +168,18 @@ class Shape:
         pat, ty, initializer, otherwise = parts
         return ["let", None if ty is None else self.ty(ty), self.optional(initializer), self.pat(pat), otherwise]
 
-    def of(self, fn):
-        """A function with its body."""
+    def body_of(self, fn):
         self.body, self.numbers = self.facts["bodies"][fn["body"]], {}
         params = [self.pat(at) for at in self.body["params"]]
-        return [self.function(fn), params, self.expr(self.body["root"])]
+        return [params, self.expr(self.body["root"])]
 
 
 class Fill:
     """The lines of facts for a row, by the numbers of its base."""
 
-    def __init__(self, row, facts):
-        self.row, self.shape, self.facts, self.text = row, Shape(facts), facts, base_text(row.base)
+    def __init__(self, row, made):
+        self.row, self.made, self.text = row, made, base_text(row.base)
+        self.facts, self.shape = made.facts, Shape(made.facts)
         self.base = json.loads(re.sub(r'"\$signature"', '"inputs":[],"output":0', self.text))
         self.types = [Shape(self.base).ty(at) for at, ty in enumerate(self.base["types"]) if ty != "$types"]
         self.named, self.added = len(self.types), []
@@ -179,7 +195,7 @@ class Fill:
         if ty[0] == "tuple":
             ty = ["tuple", [self.ty(part) for part in ty[1]]]
         elif ty[0] == "adt":
-            ty = ["adt", self.number("adts", ty[1]), [[word, self.ty(part)] for word, part in ty[2]]]
+            ty = ["adt", self.number("adts", ty[1]), self.arguments(ty[2])]
         self.types.append(shape)
         self.added.append(ty)
         return len(self.types) - 1
@@ -201,17 +217,32 @@ class Fill:
             return node[:2] + [[of if of[0] != "let" or of[2] is None else of[:2] + [self.ty(of[2])] + of[3:] for of in node[2]], node[3]]
         return node
 
-    def lines(self, fn):
+    def goal(self, goal):
+        word, trait, arguments = goal
+        return [word, self.number("traits", trait), self.arguments(arguments)]
+
+    def arguments(self, arguments):
+        return [[word, self.ty(ty)] for word, ty in arguments]
+
+    def impl(self, impl):
+        trait, arguments = impl["trait"]
+        return dict(impl, trait=[self.number("traits", trait), self.arguments(arguments)],
+                    preds=[self.goal(of) for of in impl["preds"]], self=self.ty(impl["self"]))
+
+    def lines(self):
+        fn = self.facts["fns"][self.made.number(self.row)]
         body = self.facts["bodies"][fn["body"]]
         keys = ["root", "exprs", "pats", "bindings"]
         if '"root":"$body"' not in self.text:
             keys.insert(0, "params")
         made = dict(body, exprs=[self.node(of) for of in body["exprs"]], pats=[self.node(of) for of in body["pats"]])
-        signature = {"params": fn["params"], "inputs": [self.ty(ty) for ty in fn["inputs"]], "output": self.ty(fn["output"])}
-        if '"params":[],"preds":[],"has_self":false,"$signature"' in self.text:
-            del signature["params"]
+        signature = {"params": fn["params"], "preds": [self.goal(of) for of in fn["preds"]],
+                     "inputs": [self.ty(ty) for ty in fn["inputs"]], "output": self.ty(fn["output"])}
+        written = self.text.partition('"$signature"')[0].rpartition('{"name":')[2]
+        impls = [self.impl(self.facts["impls"][number]) for number in self.made.seen_from(self.row)["impls"]]
         fills = {"body": members({key: made[key] for key in keys}).partition(":")[2], "output": str(signature["output"]),
-                 "signature": members(signature), "types": compact(self.added)[1:-1]}
+                 "signature": members({key: of for key, of in signature.items() if '"%s"' % key not in written}),
+                 "impls": compact(impls), "types": compact(self.added)[1:-1]}
         return ["$%s %s" % (mark, fills[mark]) for mark in re.findall(MARK, self.text)]
 
 
@@ -223,39 +254,58 @@ def members(value):
     return compact(value)[1:-1]
 
 
-def crate_of(base, rows):
-    """The facts of a base's source with those of its rows, each row in a module of its own, and the number of each row's function."""
-    prelude = os.path.join(DATA, base + ".rs")
-    lines = ["#![allow(warnings)]"]
-    if os.path.exists(prelude):
-        with open(prelude, encoding="utf-8") as text:
-            lines.append(text.read())
-    for row in rows:
-        lines += ["pub mod %s {" % row.module(), "pub use super::*;", row.source, "}"]
-    with tempfile.TemporaryDirectory() as folder:
-        path = os.path.join(folder, base + ".rs")
-        with open(path, "w", encoding="utf-8") as out:
-            out.write("\n".join(lines) + "\n")
-        crate = facts_of(path, 2021)
-        omissions = [omission_text(of, path) for of in crate.omissions]
-    return json.loads(crate.text), {of.name: of.number for of in crate.shown if of.writer is not None}, omissions
+class Made:
+    """The facts that are made of a base's source with those of its rows, each row in a module of its own."""
+
+    def __init__(self, base, rows):
+        prelude = os.path.join(DATA, base + ".rs")
+        lines = ["#![allow(warnings)]"]
+        if os.path.exists(prelude):
+            with open(prelude, encoding="utf-8") as text:
+                lines.append(text.read())
+        for row in rows:
+            lines += ["pub mod %s {" % row.module(), "pub use super::*;", row.source, "}"]
+        with tempfile.TemporaryDirectory() as folder:
+            path = os.path.join(folder, base + ".rs")
+            with open(path, "w", encoding="utf-8") as out:
+                out.write("\n".join(lines) + "\n")
+            crate = facts_of(path, 2021)
+            self.omissions = [omission_text(of, path) for of in crate.omissions]
+        self.facts = json.loads(crate.text)
+        self.numbers = {of.name: of.number for of in crate.shown if of.writer is not None}
+        self.lists = {"adts": crate.lists.adts, "fns": crate.lists.functions, "traits": crate.lists.traits,
+                      "impls": crate.lists.impls}
+
+    def number(self, row):
+        """The number of a row's function, or None where its body is left out."""
+        return self.numbers.get(row.module() + "::f")
+
+    def seen_from(self, row):
+        """The numbers of the items that are no other row's, list by list."""
+        return {kind: [number for item, number in items.items()
+                       if not item.path.startswith("row_") or item.path.startswith(row.module() + "::")]
+                for kind, items in self.lists.items()}
 
 
-def differences(row, facts, made, number):
+def differences(facts, made, row):
     """What of a row's facts is not that of its source."""
+    number = made.number(row)
     if number is None:
         yield "facts.py writes no body of it"
         return
-    ours, theirs = Shape(facts), Shape(made)
+    ours, theirs = Shape(facts), Shape(made.facts)
     try:
-        if ours.of(facts["fns"][0]) != theirs.of(made["fns"][number]):
-            yield "the facts are of another function"
+        if ours.body_of(facts["fns"][0]) != theirs.body_of(made.facts["fns"][number]):
+            yield "the facts have another body"
+        for kind, seen in made.seen_from(row).items():
+            mine, others = ours.items(kind, range(len(facts[kind]))), theirs.items(kind, seen)
+            if kind == "impls" and len(mine) != len(others):
+                yield "the facts have %d impls, and its source has %d" % (len(mine), len(others))
+            for name in mine:
+                if mine[name] != others.get(name):
+                    yield "the facts have another %s `%s`" % (ITEMS[kind], name)
     except (IndexError, KeyError, RecursionError, TypeError, ValueError) as shape:
         yield "the facts have another shape: %s: %s" % (type(shape).__name__, shape)
-    for kind, mine, others in zip(("adt", "function"), ours.items(), theirs.items()):
-        for name in mine:
-            if name != "f" and mine[name] != others.get(name):
-                yield "the facts have another %s `%s`" % (kind, name)
 
 
 def write_fills(path, fills):
@@ -293,20 +343,19 @@ def main():
     wrong, fills = 0, {}
     for base in sorted({row.base for row in rows}):
         of_base = [row for row in rows if row.base == base]
-        made, numbers, omissions = crate_of(base, of_base)
+        made = Made(base, of_base)
         for row in of_base:
-            number = numbers.get(row.module() + "::f")
             if row.has_facts:
-                found = list(differences(row, row.facts(), made, number))
-            elif given.fill and number is not None:
-                found, fills[row] = [], Fill(row, made).lines(made["fns"][number])
+                found = list(differences(row.facts(), made, row))
+            elif given.fill and made.number(row) is not None:
+                found, fills[row] = [], Fill(row, made).lines()
             else:
                 found = ["it has no facts"]
             wrong += bool(found)
             for what in found:
                 print("%s: %s" % (row, what))
-        if any(number is None for number in numbers.values()):
-            print("\n".join(omissions))
+        if any(made.number(row) is None for row in of_base):
+            print("\n".join(made.omissions))
     for path in {row.path for row in fills}:
         write_fills(path, {row: fills[row] for row in fills if row.path == path})
     if not rows:

@@ -8,6 +8,9 @@ from hir_tree import OWN, def_id, span_of
 
 TRIED = "1.95"
 
+# How an error says which call asks for a bound, where its main place is an argument.
+BY_CALL = "required by a bound introduced by this call"
+
 
 class NoRustc(Exception):
     """There is no rustc, or it gives no answer that is of use."""
@@ -29,13 +32,16 @@ def version():
 
 
 def errors_in(done):
-    """The errors that rustc tells as JSON: for each of its main places its code, or "?", and the place as it says it."""
+    """The errors that rustc tells as JSON: for each of its main places its code, or "?", and the place as it says it.
+
+    Where a call asks for a bound, the place is that of what is called.
+    """
     for text in done.stderr.splitlines():
         said = json.loads(text)
         if said.get("level") == "error":
-            for span in said["spans"]:
-                if span["is_primary"]:
-                    yield said["code"]["code"] if said["code"] else "?", span
+            callees = [span for span in said["spans"] if span["label"] == BY_CALL]
+            for span in callees or [span for span in said["spans"] if span["is_primary"]]:
+                yield said["code"]["code"] if said["code"] else "?", span
 
 
 def thir_types(text):
@@ -52,9 +58,15 @@ def thir_types(text):
             ty = None
 
 
+def with_parameters(ty, parameters):
+    """A type of rustc's with the words of a report for parameters, whose names are these in order; rustc counts lifetimes too."""
+    words = {name + "/": "param%d" % number for number, name in enumerate(parameters)}
+    return re.sub(r"(\w+/)#\d+", lambda found: words.get(found.group(1), found.group()), ty)
+
+
 def in_our_words(ty, item):
-    """A type of rustc's as a report writes it; `item` gives the word for the function or constructor of a DefId."""
-    ty = re.sub(r"\w+/#(\d+)", r"param\1", ty)
+    """A type of rustc's as a report writes it, but for parameters; `item` gives the word for the item of a DefId."""
+    ty = re.sub(r"'{\w+}(, )?", "", ty)
     ty = re.sub(r"DefId\([^()]*\)", lambda found: item(def_id(found.group())), ty)
     before = None
     while before != ty:  # the innermost items first

@@ -2,7 +2,7 @@
 import re
 
 WORD_BEHIND = re.compile(r"(?:\s|;|//.*|/\*.*?\*/)*([\w:]+!?)?")
-ATTRIBUTE_OR_COMMENT = re.compile(r"\s*(?:(#!?\[.*?)|//.*)?")
+ATTRIBUTE_OR_COMMENT = re.compile(r"\s*(#!?\[.*\])?\s*(?://.*)?")
 
 
 class Sources:

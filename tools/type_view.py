@@ -19,7 +19,8 @@ SAID = {
     "TypeMismatch": "expected `{expected}`, found `{actual}`",
     "MismatchedArgCount": "arguments: expected {expected}, found {found}",
     "ExpectedFunction": "expected a function, found `{found}`",
-    "MismatchedTupleStructPatArgCount": "parts: expected {expected}, found {found}"}
+    "MismatchedTupleStructPatArgCount": "parts: expected {expected}, found {found}",
+    "Unproved": "no proof of `{goal}`"}
 
 
 class Words:
@@ -29,15 +30,15 @@ class Words:
         items, lists = crate.items, crate.lists
         self.functions = [items.functions[item].name for item in lists.functions]
         self.variants = [items.adts[adt].variants[at][0] for adt, at in lists.variants]
-        self.adts = {items.adts[adt].name for adt in lists.adts}
+        self.names = {items.adts[adt].name for adt in lists.adts} | {items.traits[trait].name for trait in lists.traits}
 
     def type(self, ty, shown):
-        """A type of the report on a function: with the names of functions, constructors and parameters."""
+        """A type or goal of the report on a function: with the names of functions, constructors and parameters."""
         parameters = [item.path.rpartition("::")[2] for item in parameters_of(shown.function.generics)]
 
         def named(found):
             word, what, number = found.group(), found.group(1), int(found.group(2))
-            if word in self.adts:
+            if word in self.names:
                 return word
             if what == "param":
                 return parameters[number]

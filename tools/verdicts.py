@@ -4,10 +4,12 @@ rustc's verdict (a type error or none) stands against whether there is a complai
 pattern's parts (E0023) against whether that is complained of. The calls that rustc finds to have a wrong number of
 arguments (E0061) or to call no function (E0618) stand against those of which we complain so. Where rustc finds no type
 error, its types stand against those of the report, for expressions and patterns. The variants that nodes resolve to stand
-against those that they name.
+against those that they name. The paths of which rustc says that a bound is not met (E0277, or E0275 where impls ask for each
+other without end) stand against those of which we say so (see `may_differ`).
 Counted apart, and no difference: bodies in which rustc wants a type written out (E0282, E0283, E0284), where the
-report has `{unknown}`; calls of what is no function, where the report has `{unknown}` in the type of what is called, so
-that nothing is said; what we alone complain of where rustc has an error and no type for what is called (see
+report has `{unknown}`; bodies to which an impl says a type in rustc, which is `i32` or has `{unknown}` in ours; bounds that
+rustc asks of written types alone; calls of what is no function, where the report has `{unknown}` in the type of what is
+called, so that nothing is said; what we alone complain of where rustc has an error and no type for what is called (see
 `is_excused`); reads of locals that were never set (E0381) and other errors that are no matter of types (`OTHERS`), where
 rustc's types can't be had; bodies where rustc reads two function items as pointers (see `reads_pointers`), which are not
 carried; and bodies at which rustc does not end.
@@ -20,10 +22,14 @@ import re
 PARTS = "MismatchedTupleStructPatArgCount"
 CALLS = {"MismatchedArgCount": "E0061", "ExpectedFunction": "E0618"}
 
-# rustc's type errors. E0275 is what it says of some types without end. From the arguments of a call with a wrong number
+# What is said where a bound is not met.
+UNPROVED = "Unproved"
+UNMET = {"E0277", "E0275"}
+
+# rustc's type errors. E0275 is what it says of some types without end, too. From the arguments of a call with a wrong number
 # of them, and from the parts of a pattern with one, the two take different types, so whether E0308 stands beside is not
 # compared.
-MISMATCHES = {"E0308", "E0317", "E0275", "E0023", *CALLS.values()}
+MISMATCHES = {"E0308", "E0317", "E0023", *UNMET, *CALLS.values()}
 WANTS = {"E0282", "E0283", "E0284"}
 MOVES = {"E0382"}
 NEVER_SET = {"E0381"}
@@ -31,8 +37,9 @@ OTHERS = {"E0004", "E0005", "E0015", "E0133", "E0493"}  # patterns leave values 
 NO_ANSWER = "no answer"
 
 # What a body is counted as.
-KINDS = ["accepted by both", "refused by both", "a type is wanted", "a local is never set", "no matter of types",
-         "{unknown} is called", "rustc doesn't know what is called", "items are pointers", "rustc doesn't end"]
+KINDS = ["accepted by both", "refused by both", "a type is wanted", "an impl says a type", "a written type asks",
+         "a local is never set", "no matter of types", "{unknown} is called", "rustc doesn't know what is called",
+         "items are pointers", "rustc doesn't end"]
 
 # A body: rustc's errors, each by its code and its place, and its types by places, where it has no error but of moves; our
 # report; and of the body's nodes (see `Nodes`) which stand where and what they are.
@@ -47,11 +54,13 @@ class Nodes:
     """The nodes of a body's facts, by the names that reports give them.
 
     `places` has where they stand, as rustc says it, `named` which of them name a variant, `callees` what each call calls, and
-    `constructing` by what they call the calls of paths to constructors.
+    `constructing` by what they call the calls of paths to constructors. `asks` says whether one is a path to an item with
+    bounds, which are given as kinds and numbers.
     """
 
-    def __init__(self, exprs, pats, places):
+    def __init__(self, exprs, pats, places, bounded=()):
         self.exprs, self.places = exprs, places
+        self.asks = any(fact[0] == "path" and tuple(fact[1][:2]) in bounded for fact in exprs)
         self.named, self.callees, self.constructing = {}, {}, {}
         for at, fact in enumerate(exprs):
             if fact[0] == "path" and fact[1][0] == "ctor":
@@ -103,12 +112,64 @@ def is_excused(unsaid, oversaid, codes, ours, nodes):
     We say nothing of a call of what is no function where `{unknown}` is in its type. rustc says no more of a call of a
     hole, for which it wants a type unless there was an error before, and of what comes of that or of another error: of
     a call of what is no function, of a pattern that does not fit, of alternatives that have no type in common. What
-    says by itself what it is can be neither.
+    says by itself what it is can be neither. And it says nothing behind a type without end.
     """
     if oversaid and not codes & (MISMATCHES | WANTS):
         return False
     return all(kind == "ExpectedFunction" and "{unknown}" in ours.get(callee, "") for kind, callee in unsaid) and all(
-        not nodes.tells(callee) for _, callee in oversaid)
+        not nodes.tells(callee) or "E0275" in codes for _, callee in oversaid)
+
+
+def paths_of_unmet(errors, codes, nodes):
+    """The paths of which rustc says with one of these codes that a bound is not met; None is a written type.
+
+    It says so at the path, at what a call calls, or at the call.
+    """
+    at = {place: node for node, place in nodes.places.items() if node[0] == "e"}
+    said = {at.get(place) for code, place in errors if code in codes}
+    return {nodes.callees.get(node, node) for node in said}
+
+
+def fell_back(ty):
+    """Whether a part of a type may be one that fell back, so that an impl may say it in rustc."""
+    return re.search(r"\bi32\b|{unknown}", ty) is not None
+
+
+def is_said(ours, theirs):
+    """Whether a type of rustc's is ours but for parts that fell back."""
+    parts = re.escape(ours).replace(re.escape("{unknown}"), ".+")
+    return re.fullmatch(re.sub(r"\bi32\b", r"[iu]\\w+", parts), theirs) is not None
+
+
+def said_of_bounds(errors, report, nodes):
+    """What rustc alone says of bounds, by paths, what we alone say, by paths and goals, and whether both speak of a path."""
+    ours = {(node, fields["goal"]) for name, node, fields in report.complaints if name == UNPROVED}
+    theirs, unended = (paths_of_unmet(errors, {code}, nodes) for code in ("E0277", "E0275"))
+    oversaid = {(node, goal) for node, goal in ours if node not in theirs | unended}
+    return theirs - {node for node, _ in ours}, oversaid, oversaid != ours
+
+
+def may_differ(bounds, errors, report):
+    """Whether what just one of the two says of bounds may stand.
+
+    rustc says nothing where an impl says a type that fell back here, and may say nothing after another error. It says more of
+    written types, whose bounds it asks too, and of types that fell back here. And where a bound is not met it says so of all
+    that has the type which is at fault, as what is given a function has that needs one.
+    """
+    unsaid, oversaid, has_shared = bounds
+    others = MISMATCHES - UNMET | {"E0282"}
+    if not all(fell_back(goal) for _, goal in oversaid) and not any(code in others for code, _ in errors):
+        return False
+    if not unsaid or None in unsaid or has_shared:
+        return True
+    types = [report.types[node] for node in unsaid]
+    return any(fell_back(ty) if oversaid else "{unknown}" in ty for ty in types)
+
+
+def differing(theirs, report, nodes):
+    """The nodes whose types differ, each with rustc's."""
+    found = {node: types_in(theirs, nodes, node) for node in nodes.places}
+    return {node: types for node, types in found.items() if types != {report.types[node]}}
 
 
 def verdict(judged):
@@ -122,12 +183,11 @@ def verdict(judged):
     if report.variants != nodes.named:
         told.append("variants: named %s; we %s" % (nodes.named, report.variants))
     compared = 0
-    if kind == "accepted by both" and fits and theirs is not None:
-        for node in nodes.places:
-            compared += 1
-            found = types_in(theirs, nodes, node)
-            if found != {ours[node]}:
-                told.append("%s: rustc %s; we %s" % (node, " and ".join(sorted(found)) or "nothing", ours[node]))
+    if codes <= MOVES and kind in ("accepted by both", "an impl says a type") and fits and theirs is not None:
+        compared = len(nodes.places)
+        for node, types in differing(theirs, report, nodes).items():
+            if kind == "accepted by both" or not types or not all(is_said(ours[node], ty) for ty in types):
+                told.append("%s: rustc %s; we %s" % (node, " and ".join(sorted(types)) or "nothing", ours[node]))
     return Verdict(kind, bool(codes & MOVES), told, compared)
 
 
@@ -135,7 +195,10 @@ def kind_of(judged, codes, complaints, said):
     """How a body is counted, and whether the two say what fits together."""
     errors, theirs, report, nodes = judged
     unsaid, oversaid = said_of_calls(errors, said, nodes)
-    parts_alike = (PARTS in complaints) == ("E0023" in codes)
+    bounds = said_of_bounds(errors, report, nodes)
+    bounds_alike = may_differ(bounds, errors, report)
+    alike = (PARTS in complaints) == ("E0023" in codes) and bounds_alike
+    is_silent = complaints <= {UNPROVED} and bounds_alike
     calls_a_hole = any(report.types[callee] == "{unknown}" for callee in nodes.callees.values())
     if codes == {NO_ANSWER}:
         return "rustc doesn't end", True
@@ -143,19 +206,45 @@ def kind_of(judged, codes, complaints, said):
         return "items are pointers", True
     if unsaid or oversaid:
         kind = "{unknown} is called" if unsaid else "rustc doesn't know what is called"
-        return kind, parts_alike and (complaints or codes & MISMATCHES == {"E0618"}) and is_excused(
+        return kind, alike and (complaints or codes & MISMATCHES == {"E0618"}) and is_excused(
             unsaid, oversaid, codes, report.types, nodes)
+    if codes & MISMATCHES == {"E0277"} and not complaints:
+        return "a written type asks" if None in bounds[0] else "an impl says a type", bounds_alike
     if codes & MISMATCHES:
-        return "refused by both", complaints and parts_alike
+        return "refused by both", complaints and alike and are_others_alike(codes, complaints, bounds)
     if codes & WANTS and complaints and calls_a_hole:
-        return "rustc doesn't know what is called", parts_alike
+        return "rustc doesn't know what is called", alike
     if codes & WANTS:
-        return "a type is wanted", not complaints and any("{unknown}" in ty for ty in report.types.values())
+        return "a type is wanted", is_silent and any("{unknown}" in ty for ty in report.types.values())
     if codes - MOVES == NEVER_SET:
-        return "a local is never set", not complaints
+        return "a local is never set", is_silent
     if codes - MOVES and codes - MOVES <= NEVER_SET | OTHERS:
-        return "no matter of types", not complaints
+        return "no matter of types", is_silent
+    if nodes.asks and is_silent and impl_says(theirs, report, nodes, {node for _, node in said}):
+        return "an impl says a type", codes <= MOVES
     return "accepted by both", codes <= MOVES and not complaints
+
+
+def are_others_alike(codes, complaints, bounds):
+    """Whether both have errors that are not of bounds, or neither has.
+
+    rustc may have one alone where an impl says a type for which we have another.
+    """
+    theirs, ours = codes & MISMATCHES - UNMET, complaints - {UNPROVED}
+    if theirs and not ours:
+        return bool(bounds[1])
+    return not ours or bool(theirs) or "E0275" in codes
+
+
+def impl_says(theirs, report, nodes, unproved):
+    """Whether rustc, which accepts a body, has other types there than we, also at these paths.
+
+    Where it has no types, it does so at these paths alone.
+    """
+    if theirs is None:
+        return bool(unproved)
+    others = differing(theirs, report, nodes)
+    return bool(others) and unproved <= set(others)
 
 
 def summary(verdicts):

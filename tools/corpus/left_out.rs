@@ -15,6 +15,50 @@ impl Named {
     }
 }
 
+/// A trait with a function; nothing can ask for it yet.
+pub trait Turn {
+    fn turned(self) -> Self;
+}
+
+impl Turn for Size {
+    fn turned(self) -> Self {
+        turn(self)
+    }
+}
+
+/// Of this one an impl is left out, and so is what asks for it.
+pub trait Mark {}
+
+impl Mark for u32 {}
+impl Mark for &u32 {}
+
+pub fn mark<T: Mark>(value: T) -> T {
+    value
+}
+
+pub fn marked() -> u32 {
+    mark(LIMIT)
+}
+
+pub trait Flag {}
+
+impl Flag for u32 {}
+
+pub struct Flagged<T: Flag>(T);
+
+pub fn unflagged(flagged: Flagged<u32>) -> u32 {
+    let Flagged(value) = flagged;
+    value
+}
+
+pub fn flagged(value: u32) -> Flagged<u32> {
+    Flagged(value)
+}
+
+pub fn copied<T: Clone>(value: T) -> T {
+    value
+}
+
 pub fn size(named: Named) -> Size {
     Size(named.width, named.height)
 }
