@@ -1,1 +1,2 @@
 pub mod KeptTypes
+pub mod SelectedBody

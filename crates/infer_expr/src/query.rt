@@ -9,15 +9,16 @@ ghost use Rattle.infer_result.specs.Needs.{GoalsHold};
 use crate::body::infer_body;
 use hir_facts::{DefWithBodyId, Facts, return_ty};
 use infer_ctx::{GivenBody, InferenceContext};
-use infer_end::keep_general;
+use infer_end::{keep_general, select_where_possible};
 use infer_goals::ObligationInspector;
 use infer_needs::prove_needs;
 use infer_result::InferenceResult;
 use std::alloc::{AllocError, Global};
 
 /// The table of a definition's body: `infer.rs`, `infer_query_with_inspect`. Its one error is want
-/// of memory. What nodes need is proved, or it is said that it has no proof, once all types are known, and the
-/// inspector is told of each of these goals with its answer. Of a plain body the table keeps its types with holes
+/// of memory. What nodes need is selected before open holes fall back, and binds holes of bodies that are not
+/// plain. It is proved, or it is said that it has no proof, once all types are known, and the inspector is told of
+/// each of these goals with its answer. Of a plain body the table keeps its types with holes
 /// too, before these fall back to anything: `InferenceResult::general`.
 pub fn infer_query_with_inspect<I: ObligationInspector>(
     alloc: Global,
@@ -47,6 +48,7 @@ pub fn infer_query_with_inspect<I: ObligationInspector>(
     let mut context = InferenceContext::new(alloc, body)?;
     infer_body(alloc, &mut context, &given)?;
     keep_general(alloc, &mut context, facts, def)?;
+    select_where_possible(alloc, &mut context, facts, def)?;
     let mut table = context.resolve_all(alloc)?;
     prove_needs(alloc, facts, def, &mut inspect, &mut table)?;
     Ok(table)

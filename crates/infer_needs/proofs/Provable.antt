@@ -156,6 +156,15 @@ module _ (raw : RawFacts) (law : IsLawful raw) where
         | inr empty ↦ inr empty
       ]
 
+  -- what a path owes is nothing, or no trait has an associated type
+  owed_none : (x : RawExpr) (t : Ty) → (expr_owes_nothing raw x ≡ true) ⊎ (is_empty raw.aliases ≡ true) → (needed_goals raw x t ≡ []) ⊎ (raw.aliases ≡ [])
+  owed_none x t (inr e) = inr (empty_is raw.aliases e)
+  owed_none (expr.Path p) t (inl e) = inl (ap (map (goal_at raw (item_args (out-Ty t)))) (path_none raw p e))
+  owed_none _ t (inl e) = inl refl
+
+  pub expr_owed : (b : RawBody) (i : ℕ) → slice_get raw.bodies i ≡ Some b → (k : ℕ) (x : RawExpr) → slice_get b.exprs k ≡ Some x → (t : Ty) → (needed_goals raw x t ≡ []) ⊎ (raw.aliases ≡ [])
+  expr_owed b i at k x found t = owed_none x t (owed b i at k x found)
+
 -- ---- what the expressions of a body need
 
 body_at : (raw : RawFacts) (o : Option BodyId) (b : RawBody) → option_and_then (λ i. slice_get raw.bodies i.0) o ≡ Some b → (i : ℕ) × (slice_get raw.bodies i ≡ Some b)

@@ -25,7 +25,7 @@ use infer_result::{Gap, InferenceResult};
 use std::alloc::{AllocError, Global};
 
 /// The item in whose scope a body is.
-fn scope_item(facts: &Facts, def: DefWithBodyId) -> GenericDefId
+pub(crate) fn scope_item(facts: &Facts, def: DefWithBodyId) -> GenericDefId
     ensures { result ≡ scope_item facts.now def }
 {
     match def {
@@ -117,7 +117,7 @@ fn prove_expr<I: ObligationInspector>(
 }
 
 /// The expression of this number.
-fn expr_id(at: usize) -> Result<ExprId, AllocError>
+pub(crate) fn expr_id(at: usize) -> Result<ExprId, AllocError>
     ensures { IfOk result (λ id. id.0 ≡ at) }
 {
     // No list of so many expressions is in memory.

@@ -1,11 +1,16 @@
-use Rattle.std.proofs.Common.{sym, subst}
+use Rattle.std.proofs.Common.{◌≡◌, List, sym, subst}
+use Rattle.hir_raw.specs.declared.raw.RawBody.{RawBody}
+use Rattle.goal_facts.specs.declared.proof.Proof.{Proof}
+use Rattle.infer_result.specs.declared.gaps.Gap.{Gap}
 use Rattle.hir_facts.specs.CarriedTypes.{return_carried}
 use Rattle.hir_facts.proofs.InRange.{body_in_range}
 use Rattle.infer_result.specs.General.{HasGeneral}
-use Rattle.infer_result.specs.Typed.{IsTableOf}
+use Rattle.infer_result.specs.Typed.{IsTableOf, given}
+use Rattle.infer_ctx.specs.Steps.{BodyDone}
+use Rattle.infer_needs.proofs.Holding.{same_body}
 use Rattle.infer_ctx.proofs.Written.{output_heads}
-use Rattle.infer_end.proofs.Definitions.{written_exist, inputs_for_params}
-use Rattle.infer_end.proofs.GeneralTables.{has_all_types, ends}
+use Rattle.infer_end.proofs.Definitions.{found_body, written_exist, inputs_for_params}
+use Rattle.infer_end.proofs.GeneralTables.{has_all_types, kept_done, given_done, EndsAs, ends_selected}
 use Rattle.infer_expr.proofs.query.infer_query_with_inspect.Goals as goal
 
 pub body-body-requires : goal.body-body-requires
@@ -30,20 +35,42 @@ infer_body-requires-clause-heads g c = rw c.in_ok-return_ty.ensures (output_head
 pub keep_general-requires : goal.keep_general-requires
 keep_general-requires g c = has_all_types _ _ c.infer_body.new.context (c.schedule.ensures.walkable _ c.body-body.ensures) c.in_ok-infer_body.ensures
 
+pub select_where_possible-requires-clause-done : goal.select_where_possible-requires-clause-done
+select_where_possible-requires-clause-done g c b is =
+    let raw = c.args.facts.now in
+    let d = c.args.def in
+    let mid = c.keep_general.new.context in
+    let own = kept_done _ raw d c.infer_body.new.context mid c.in_ok-infer_body.ensures c.in_ok-keep_general.ensures in
+    let done = given_done raw d c.body-body.result.now _ _ c.inputs.ensures c.in_ok-return_ty.ensures mid own in
+    let same : c.body-body.result.now ≡ b = same_body raw d c.in-Some.id c.body-body.result.now b (sym c.in-Some.ensures) c.body-body.ensures is in
+    subst (λ (x : RawBody). BodyDone (given raw d x) mid) same done
+
+-- what the end comes to, with these proofs and gaps
+-- DRAFT: how a lemma takes the context `c` of three goals is to be seen; else write its body out in each
+ended : (c : goal.returns-clause-table.Context) (ps : List Proof) (gs : List (List Gap)) → EndsAs c.args.facts.now c.args.def ps gs c.select_where_possible.new.context
+ended c ps gs =
+    let raw = c.args.facts.now in
+    let d = c.args.def in
+    let b = c.body-body.result.now in
+    let is = found_body raw d c.in-Some.id b (sym c.in-Some.ensures) c.body-body.ensures in
+    let selected = c.in_ok-select_where_possible.ensures in
+    ends_selected raw d c.in-Some.id b _ _ _ (sym c.in-Some.ensures) c.body-body.ensures (c.schedule.ensures.walkable _ c.body-body.ensures) c.inputs.ensures c.in_ok-return_ty.ensures c.infer_body.new.context c.in_ok-infer_body.ensures c.lawful.ensures ps gs
+    c.keep_general.new.context c.select_where_possible.new.context c.in_ok-keep_general.ensures c.select_where_possible.ensures.only c.select_where_possible.ensures.plain (selected.done b is)
+
 pub prove_needs-requires : goal.prove_needs-requires
 prove_needs-requires g c =
     let made = c.in_ok-table.ensures in
-    let r = c.keep_general.new.context.result in
-    rw made.closed (ends _ _ c.in-Some.id _ _ _ _ (sym c.in-Some.ensures) c.body-body.ensures (c.schedule.ensures.walkable _ c.body-body.ensures) c.inputs.ensures c.in_ok-return_ty.ensures c.infer_body.new.context c.in_ok-infer_body.ensures c.lawful.ensures r.proofs r.expr_gaps c.keep_general.new.context c.in_ok-keep_general.ensures made.meets made.respects made.acyclic).0
+    let r = c.select_where_possible.new.context.result in
+    rw made.closed (ended c r.proofs r.expr_gaps made.meets made.respects made.acyclic).0
 
 pub returns-clause-table : goal.returns-clause-table
 returns-clause-table g c =
     let made = c.in_ok-table.ensures in
     let t = c.prove_needs.new.table in
-    subst (IsTableOf c.args.facts.now c.args.def) (sym c.in_ok-prove_needs.ensures.table) (rw made.closed (ends _ _ c.in-Some.id _ _ _ _ (sym c.in-Some.ensures) c.body-body.ensures (c.schedule.ensures.walkable _ c.body-body.ensures) c.inputs.ensures c.in_ok-return_ty.ensures c.infer_body.new.context c.in_ok-infer_body.ensures c.lawful.ensures t.proofs t.expr_gaps c.keep_general.new.context c.in_ok-keep_general.ensures made.meets made.respects made.acyclic).0)
+    subst (IsTableOf c.args.facts.now c.args.def) (sym c.in_ok-prove_needs.ensures.table) (rw made.closed (ended c t.proofs t.expr_gaps made.meets made.respects made.acyclic).0)
 
 pub returns-clause-general : goal.returns-clause-general
 returns-clause-general g c =
     let made = c.in_ok-table.ensures in
     let t = c.prove_needs.new.table in
-    subst (HasGeneral c.args.facts.now c.args.def) (sym c.in_ok-prove_needs.ensures.table) (rw made.closed (ends _ _ c.in-Some.id _ _ _ _ (sym c.in-Some.ensures) c.body-body.ensures (c.schedule.ensures.walkable _ c.body-body.ensures) c.inputs.ensures c.in_ok-return_ty.ensures c.infer_body.new.context c.in_ok-infer_body.ensures c.lawful.ensures t.proofs t.expr_gaps c.keep_general.new.context c.in_ok-keep_general.ensures made.meets made.respects made.acyclic).1)
+    subst (HasGeneral c.args.facts.now c.args.def) (sym c.in_ok-prove_needs.ensures.table) (rw made.closed (ended c t.proofs t.expr_gaps made.meets made.respects made.acyclic).1)

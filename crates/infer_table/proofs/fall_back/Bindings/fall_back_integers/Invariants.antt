@@ -1,0 +1,10 @@
+use Rattle.std.proofs.Common.{◌≡◌}
+use Rattle.infer_table.specs.FallBack.{OnlyFalls, NoneOpenBelow}
+use Rattle.infer_table.proofs.fall_back.Bindings.fall_back_integers.Given as goal
+
+-- the holes so far are bound
+abbrev pub invariant-loop-number : goal.invariant-loop-number
+invariant-loop-number l = record {
+  falls : OnlyFalls l.initial.self l.self;
+  none_open : NoneOpenBelow l.number l.self;
+}
