@@ -17,3 +17,4 @@ pub mod OpenedBoth
 pub mod UnifiedTables
 pub mod HolesMade
 pub mod WaitingCounts
+pub mod FallingBack

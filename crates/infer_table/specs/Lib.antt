@@ -16,6 +16,7 @@ pub mod Least
 pub mod Table
 pub mod Undo
 pub mod Completion
+pub mod FallBack
 pub mod Settling
 pub mod MadeTest
 pub mod Preserved
