@@ -1,7 +1,7 @@
 """How the body of a function in rustc's tree becomes facts."""
 import re
 
-from crate_items import RESOLUTIONS, Writer, asks, named_by
+from crate_items import RESOLUTIONS, Writer, named_by
 from hir_tree import def_id, identifier, name_of, span_of
 
 EXPRESSIONS = {
@@ -225,17 +225,8 @@ class BodyWriter(Writer):
             self.leave_out("`..` in a pattern", span)
         return [self.pattern(part) for part in parts]
 
-    def pattern_path(self, path, span):
-        """A path in a pattern."""
-        fact = self.path(path, span)
-        if fact is not None and fact[0] == "ctor":
-            adt, _ = self.items.constructors[named_by(path[1])[1]]
-            if any(asks(of) for of in self.items.adts[adt].generics["predicates"]):
-                self.leave_out("pattern of a type with bounds", span)
-        return fact
-
     def pattern_TupleStruct(self, kind, span):
-        path = self.pattern_path(kind[0], span)
+        path = self.path(kind[0], span)
         variant = path and (["variant", *path[1:]] if path[0] == "ctor" else None)
         return ["ctor", variant, self.parts(kind[1], kind[2], span), None]
 
@@ -245,7 +236,7 @@ class BodyWriter(Writer):
         if name_of(kind) == "Lit":
             return ["lit", self.add_expr(self.literal(kind["lit"]["node"], kind["negated"], span), span)]
         if name_of(kind) == "Path":
-            return ["path", self.pattern_path(kind[0], span)]
+            return ["path", self.path(kind[0], span)]
         self.leave_out("pattern of the kind " + name_of(kind), span)
 
 

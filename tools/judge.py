@@ -224,7 +224,7 @@ class Maker:
             ty = self.type(1)
         if isinstance(ty, tuple) and not isinstance(ty, Adt) and rng.random() < 0.7:
             return ("tuple", [self.pattern(part, first, bound, refutable) for part in ty])
-        if isinstance(ty, Adt) and ty.name not in ADT_BOUNDS and rng.random() < 0.6:
+        if isinstance(ty, Adt) and rng.random() < 0.6:
             variants = list(ADTS[ty.name][2].items())
             if refutable or len(variants) == 1:
                 return self.constructor(*rng.choice(variants), ty, first, bound, refutable)

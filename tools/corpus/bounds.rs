@@ -193,6 +193,19 @@ pub fn held() -> (Slot<bool>, Table<u8, u32>) {
     (f(false), g(1, 2))
 }
 
+/// Patterns need nothing.
+pub fn taken<T: Store>(slot: Slot<T>, default: T) -> T {
+    match slot {
+        Slot::Free => default,
+        Slot::Taken(value) => value,
+    }
+}
+
+pub fn key_of(of: Table<u8, u32>) -> Slot<u8> {
+    let Table(key, _) = of;
+    store(key)
+}
+
 pub fn even_numbers() -> bool {
     let four = Next(Next(Next(Next(Zero))));
     even(four)
@@ -310,6 +323,19 @@ pub mod wrong {
 
     pub fn one_too_many() -> bool {
         show('s', 1)
+    }
+
+    pub fn taken(slot: Slot<u8>) -> bool {
+        match slot {
+            Slot::Free => true,
+            Slot::Taken(value) => value,
+        }
+    }
+
+    pub fn key_of<K: Key, V: Store>(of: Table<K, V>) -> K {
+        let Table(_, value) = of;
+        super::store(value);
+        show(value)
     }
 
     pub fn even_numbers() -> bool {

@@ -1,5 +1,5 @@
--- Bodies that name no item with predicates, so that naming it owes no goal; expressions may where no trait has an associated type.
-use Rattle.std.specs.Prelude.{Bool, true, ◌&&◌, ◌||◌, slice_get, Option, Some, None, IsTrue}
+-- Bodies whose expressions name no item with predicates, so that naming it owes no goal; they may where no trait has an associated type.
+use Rattle.std.specs.Prelude.{Bool, true, ◌||◌, slice_get, Option, Some, None, IsTrue}
 use Rattle.std.specs.List.{list_all}
 use Rattle.hir_raw.specs.declared.raw.RawFn.{RawFn}
 use Rattle.hir_raw.specs.declared.raw.RawAdt.{RawAdt}
@@ -8,8 +8,6 @@ use Rattle.hir_raw.specs.declared.raw.RawPath.{RawPath}
 use Rattle.hir_raw.specs.declared.raw.RawPath.TheVariants as path
 use Rattle.hir_raw.specs.declared.raw.RawExpr.{RawExpr}
 use Rattle.hir_raw.specs.declared.raw.RawExpr.TheVariants as expr
-use Rattle.hir_raw.specs.declared.raw.RawPat.{RawPat}
-use Rattle.hir_raw.specs.declared.raw.RawPat.TheVariants as pat
 use Rattle.hir_raw.specs.declared.raw.RawBody.{RawBody}
 use Rattle.hir_raw.specs.declared.raw.RawFacts.{RawFacts}
 use Rattle.hir_ids.specs.Carried.{is_empty, is_carried_body}
@@ -38,18 +36,9 @@ abbrev pub expr_owes_nothing : RawFacts → RawExpr → Bool
 expr_owes_nothing raw (expr.Path p) = path_owes_nothing raw p
 expr_owes_nothing raw _ = true
 
-abbrev pub pat_owes_nothing : RawFacts → RawPat → Bool
-pat_owes_nothing raw (pat.TupleStruct v ps) = ctor_asks_nothing raw (slice_get raw.variants v.0)
-pat_owes_nothing raw (pat.Path p) = path_owes_nothing raw p
-pat_owes_nothing raw _ = true
-
--- its expressions owe no goals, or goals that are carried: there are no associated types that these could be about
-abbrev pub exprs_owe_carried : RawFacts → RawBody → Bool
-exprs_owe_carried raw b = list_all (expr_owes_nothing raw) b.exprs || is_empty raw.aliases
-
--- and its patterns owe none
+-- its expressions owe no goals, or goals that are carried: there are no associated types that these could be about; patterns owe none
 abbrev pub body_owes_carried : RawFacts → RawBody → Bool
-body_owes_carried raw b = exprs_owe_carried raw b && list_all (pat_owes_nothing raw) b.pats
+body_owes_carried raw b = list_all (expr_owes_nothing raw) b.exprs || is_empty raw.aliases
 
 -- its nodes and bindings are of carried kinds, the goals that it owes are carried, and no type in it is a projection
 pub record BodyIsCarried (raw : RawFacts) (b : RawBody) : Type 0 where

@@ -1,10 +1,10 @@
-//! Bodies that name no item with predicates, and those that may, since there are no associated types.
+//! Bodies whose expressions name no item with predicates, and those that may, since there are no associated types.
 ghost use Rattle.std.specs.Prelude.{◌≡◌, slice_get};
 ghost use Rattle.std.specs.List.{list_all};
-ghost use Rattle.hir_ids.specs.Owed.{fn_asks_nothing, adt_asks_nothing, ctor_asks_nothing, path_owes_nothing, expr_owes_nothing, pat_owes_nothing, exprs_owe_carried, body_owes_carried};
+ghost use Rattle.hir_ids.specs.Owed.{fn_asks_nothing, adt_asks_nothing, ctor_asks_nothing, path_owes_nothing, expr_owes_nothing, body_owes_carried};
 ghost use Rattle.hir_ids.specs.Carried.{is_empty};
 
-use hir_raw::{RawBody, RawExpr, RawFacts, RawPat, RawPath};
+use hir_raw::{RawBody, RawExpr, RawFacts, RawPath};
 use hir_types::{AdtId, FunctionId, VariantId};
 
 fn fn_asks_nothing(raw: &RawFacts, function: FunctionId) -> bool
@@ -53,40 +53,17 @@ fn expr_owes_nothing(raw: &RawFacts, expr: &RawExpr) -> bool
     }
 }
 
-fn pat_owes_nothing(raw: &RawFacts, pat: &RawPat) -> bool
-    ensures { result ≡ pat_owes_nothing raw.now pat.now }
-{
-    match pat {
-        RawPat::TupleStruct { variant, .. } => ctor_asks_nothing(raw, *variant),
-        RawPat::Path(path) => path_owes_nothing(raw, path),
-        _ => true,
-    }
-}
-
 fn exprs_owe_nothing(raw: &RawFacts, exprs: &[RawExpr]) -> bool
     ensures { result ≡ list_all (expr_owes_nothing raw.now) exprs.now }
 {
     exprs.iter().all(|expr| expr_owes_nothing(raw, expr))
 }
 
-fn pats_owe_nothing(raw: &RawFacts, pats: &[RawPat]) -> bool
-    ensures { result ≡ list_all (pat_owes_nothing raw.now) pats.now }
-{
-    pats.iter().all(|pat| pat_owes_nothing(raw, pat))
-}
-
 /// Whether the goals that a body's expressions owe are carried: none is owed, or there are no associated
-/// types that these could be about.
-fn exprs_owe_carried(raw: &RawFacts, body: &RawBody) -> bool
-    ensures { result ≡ exprs_owe_carried raw.now body.now }
-{
-    exprs_owe_nothing(raw, body.exprs.as_slice()) || raw.aliases.is_empty()
-}
-
-/// Whether the goals are carried that naming the items owes which a body names: those of expressions are where
-/// there are no associated types, and those of patterns are not.
+/// types that these could be about. Patterns owe none: what a constructor's predicates ask is asked where its
+/// values are made.
 pub fn body_owes_carried(raw: &RawFacts, body: &RawBody) -> bool
     ensures { result ≡ body_owes_carried raw.now body.now }
 {
-    exprs_owe_carried(raw, body) && pats_owe_nothing(raw, body.pats.as_slice())
+    exprs_owe_nothing(raw, body.exprs.as_slice()) || raw.aliases.is_empty()
 }

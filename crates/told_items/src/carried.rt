@@ -122,47 +122,19 @@ fn owes(facts: &Value, path: Option<&Value>) -> Option<bool> {
     }
 }
 
-/// The path that an expression or a pattern is, or that it has in front.
-fn path_in(node: &Value) -> Option<&Value> {
-    match word(Some(node)) {
-        "path" | "ctor" => node.get(1usize),
-        _ => None,
+/// The first of a body's expressions that names an item with predicates: these might be about associated
+/// types, where there are some.
+fn of_owing(facts: &Value, place: Place, body: &Value) -> Option<(Place, Uncarried<'static>)> {
+    const FORM: &str = "paths to items with predicates, where there are associated types,";
+    if list(facts, "aliases").is_empty() {
+        return None;
     }
-}
-
-/// The first of a body's expressions, or of its patterns, that names an item with predicates.
-fn of_owing(
-    facts: &Value,
-    place: Place,
-    body: &Value,
-    key: &'static str,
-    form: &'static str,
-) -> Option<(Place, Uncarried<'static>)> {
-    for (at, node) in list(body, key).iter().enumerate() {
-        if owes(facts, path_in(node)) == Some(true) {
-            return Some((place.item(key, at), Uncarried::Form(form)));
+    for (at, node) in list(body, "exprs").iter().enumerate() {
+        if word(Some(node)) == "path" && owes(facts, node.get(1usize)) == Some(true) {
+            return Some((place.item("exprs", at), Uncarried::Form(FORM)));
         }
     }
     None
-}
-
-/// The first expression whose predicates might be about associated types, since there are some.
-fn of_owing_exprs(
-    facts: &Value,
-    place: Place,
-    body: &Value,
-) -> Option<(Place, Uncarried<'static>)> {
-    const FORM: &str = "paths to items with predicates, where there are associated types,";
-    if list(facts, "aliases").is_empty() {
-        None
-    } else {
-        of_owing(facts, place, body, "exprs", FORM)
-    }
-}
-
-fn of_owing_pats(facts: &Value, place: Place, body: &Value) -> Option<(Place, Uncarried<'static>)> {
-    const FORM: &str = "patterns that name items with predicates";
-    of_owing(facts, place, body, "pats", FORM)
 }
 
 fn of_adt(place: Place, adt: &Value) -> Option<(Place, Uncarried<'_>)> {
@@ -334,9 +306,7 @@ fn of_body<'a>(facts: &Value, place: Place, body: &'a Value) -> Option<(Place, U
     if number(body.get("self")).is_some() {
         Some((place.key("self"), Uncarried::Form("bodies with `self`")))
     } else {
-        of_owing_exprs(facts, place, body)
-            .or(of_owing_pats(facts, place, body))
-            .or(of_lets(facts, place, body))
+        of_owing(facts, place, body).or(of_lets(facts, place, body))
     }
 }
 
