@@ -38,7 +38,7 @@ pub enum Standing {
 
 impl Obligation {
     /// Whether a node asks it, and it has no proof, where it came so far.
-    fn is_pending(&self, standing: &Standing) -> bool
+    pub fn is_pending(&self, standing: &Standing) -> bool
         ensures { result ≡ is_pending self.now standing.now }
     {
         match standing {

@@ -46,6 +46,14 @@ impl GoalTree {
         &self.obligations.as_slice()[at]
     }
 
+    /// How far the one with this number came.
+    pub fn standing(&self, at: usize) -> &Standing
+        requires { at < length self.now.standings.items }
+        ensures { slice_get self.now.standings.items at ≡ Some result.now }
+    {
+        &self.standings.as_slice()[at]
+    }
+
     /// Whether the one with this number has no source yet.
     pub fn is_open(&self, at: usize) -> bool
         ensures { IsTrue result ↔ IsOpenAt self.now.standings.items at }

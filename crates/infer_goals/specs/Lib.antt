@@ -1,3 +1,4 @@
 pub mod Kept
 pub mod Obligations
+pub mod SelfTy
 pub mod Told

@@ -16,7 +16,7 @@ use std::alloc::{AllocError, Global};
 /// The goals that were registered, with those that their sources ask for.
 #[derive(Debug, Drop)]
 pub struct Obligations {
-    alloc: Global,
+    pub(crate) alloc: Global,
     pub(crate) tree: GoalTree,
     /// The numbers of those that have no source yet.
     todo: Vec<usize>,

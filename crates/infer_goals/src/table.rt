@@ -12,6 +12,7 @@ ghost use Rattle.goal_select.specs.Steps.{GoalIsOf};
 ghost use Rattle.goal_tree.specs.Trees.{registered, IsAsked, pending_of};
 ghost use Rattle.infer_goals.specs.Told.{resolved_goal, IsToldOf};
 ghost use Rattle.infer_goals.specs.Obligations.{AreKept, HasAllOpen, NoneLeft, Went, BoundMore};
+ghost use Rattle.infer_goals.specs.SelfTy.{AreForSelfTy};
 
 use crate::inspect::ObligationInspector;
 use crate::obligations::Obligations;
@@ -32,6 +33,7 @@ pub struct GoalTable<'a, I> {
     obligations: Obligations,
     inspect: Option<&'a mut I>,
     told: Vec<(Goal, Answer)>,
+    uses: Vec<(Ty, Ty, ExprOrPatId)>,
 }
 
 impl<'a, I: ObligationInspector> GoalTable<'a, I> {
@@ -52,6 +54,7 @@ impl<'a, I: ObligationInspector> GoalTable<'a, I> {
         ensures proofs { IfOk result (λ made. made.obligations.tree.proofs.items ≡ []) }
         ensures selected { IfOk result (λ made. made.obligations.selected ≡ 0) }
         ensures told { IfOk result (λ made. made.told.items ≡ []) }
+        ensures uses { IfOk result (λ made. made.uses.items ≡ []) }
         ensures inspect { IfOk result (λ made. made.inspect ≡ inspect.entry) }
     {
         Ok(GoalTable {
@@ -62,6 +65,7 @@ impl<'a, I: ObligationInspector> GoalTable<'a, I> {
             obligations: Obligations::new(alloc),
             inspect,
             told: Vec::new(alloc),
+            uses: Vec::new(alloc),
         })
     }
 
@@ -89,6 +93,7 @@ impl<'a, I: ObligationInspector> GoalTable<'a, I> {
         ensures bounded { self.new.bounded ≡ self.old.bounded }
         ensures sources { self.new.sources ≡ self.old.sources }
         ensures obligations { self.new.obligations ≡ self.old.obligations }
+        ensures uses { self.new.uses.items ≡ self.old.uses.items }
     {
         let resolved = self.table.resolve(goal)?;
         let answer = self.sources.evaluate(self.alloc, &resolved)?;
@@ -120,6 +125,35 @@ impl<'a, I: ObligationInspector> GoalTable<'a, I> {
         Ok(told)
     }
 
+    /// Notes that an opaque type was equated with another type at a node.
+    pub fn note_use(&mut self, opaque: &Ty, other: &Ty, node: ExprOrPatId) -> Result<(), AllocError>
+        ensures uses { OnOk result (self.new.uses.items ≡ self.old.uses.items ++ (opaque.now, other.now, node) ∷ []) }
+        ensures table { self.new.table ≡ self.old.table }
+        ensures bounded { self.new.bounded ≡ self.old.bounded }
+        ensures sources { self.new.sources ≡ self.old.sources }
+        ensures obligations { self.new.obligations ≡ self.old.obligations }
+        ensures told { self.new.told.items ≡ self.old.told.items }
+        ensures inspect { self.new.inspect ≡ self.old.inspect }
+    {
+        let opaque = opaque.dup(self.alloc)?;
+        let other = other.dup(self.alloc)?;
+        self.uses.push((opaque, other, node))?;
+        Ok(())
+    }
+
+    /// The opaque types equated so far, each with the other type and the node: copies, in order.
+    pub fn uses(&self) -> Result<Vec<(Ty, Ty, ExprOrPatId)>, AllocError>
+        ensures { IfOk result (λ uses. uses.items ≡ self.now.uses.items) }
+    {
+        let mut uses = Vec::new(self.alloc);
+        for entry in self.uses.as_slice() {
+            let opaque = entry.0.dup(self.alloc)?;
+            let other = entry.1.dup(self.alloc)?;
+            uses.push((opaque, other, entry.2))?;
+        }
+        Ok(uses)
+    }
+
     /// Adds a goal that a node needs. It may be followed as far as the facts let goals be.
     pub fn register_obligation(&mut self, goal: Goal, node: ExprOrPatId) -> Result<(), AllocError>
         requires goal { GoalIsOf self.old.table goal }
@@ -133,6 +167,7 @@ impl<'a, I: ObligationInspector> GoalTable<'a, I> {
         ensures bounded { self.new.bounded ≡ self.old.bounded }
         ensures sources { self.new.sources ≡ self.old.sources }
         ensures told { self.new.told.items ≡ self.old.told.items }
+        ensures uses { self.new.uses.items ≡ self.old.uses.items }
         ensures inspect { self.new.inspect ≡ self.old.inspect }
     {
         let depth = self.sources.facts().raw().limits.goal_depth;
@@ -155,6 +190,7 @@ impl<'a, I: ObligationInspector> GoalTable<'a, I> {
         ensures bounded { self.new.bounded ≡ self.old.bounded }
         ensures sources { self.new.sources ≡ self.old.sources }
         ensures told { self.new.told.items ≡ self.old.told.items }
+        ensures uses { self.new.uses.items ≡ self.old.uses.items }
         ensures inspect { self.new.inspect ≡ self.old.inspect }
     {
         self.sources.lawful();
@@ -162,6 +198,31 @@ impl<'a, I: ObligationInspector> GoalTable<'a, I> {
         self.obligations
             .select_where_possible(&self.sources, &mut self.table, self.bounded)?;
         Ok(self.table.bound_count() > before)
+    }
+
+    /// The goals by which more may be known of the hole that the type stands for, once what can be selected
+    /// is selected: each registered goal without proof, then what its source asks for, and so on, five levels
+    /// in all and in this order, where the self type is the hole and the answer isn't Yes; with what is known
+    /// of their holes. What is below a goal that is answered Yes doesn't count. Nothing is told of what this
+    /// evaluates.
+    pub fn obligations_for_self_ty(&mut self, var: &Ty) -> Result<Vec<Goal>, AllocError>
+        requires kept { AreKept self.old.sources.facts (system self.old.sources.sources) self.old.table self.old.obligations }
+        requires all { HasAllOpen self.old.obligations }
+        ensures given { IfOk result (λ _. IsSystemOf self.old.sources.facts self.old.sources.item (system self.old.sources.sources)) }
+        ensures kept { OnOk result (AreKept self.new.sources.facts (system self.new.sources.sources) self.new.table self.new.obligations) }
+        ensures all { OnOk result (HasAllOpen self.new.obligations) }
+        ensures went { OnOk result (Went self.old.sources.facts (system self.old.sources.sources) self.old.bounded self.old.table self.old.obligations self.new.table self.new.obligations) }
+        ensures none_left { OnOk result (NoneLeft self.new.sources.facts (system self.new.sources.sources) self.old.bounded self.new.table self.new.obligations) }
+        ensures goals { IfOk result (λ goals. AreForSelfTy (system self.new.sources.sources) self.new.sources.facts.limits.goal_depth self.new.table var.now self.new.obligations.tree goals.items) }
+        ensures bounded { self.new.bounded ≡ self.old.bounded }
+        ensures sources { self.new.sources ≡ self.old.sources }
+        ensures told { self.new.told.items ≡ self.old.told.items }
+        ensures uses { self.new.uses.items ≡ self.old.uses.items }
+        ensures inspect { self.new.inspect ≡ self.old.inspect }
+    {
+        self.select_obligations_where_possible()?;
+        let hole = self.table.resolve(var)?;
+        self.obligations.about(&self.sources, &self.table, &hole)
     }
 
     /// The registered goals without proof, each with its node, in the order in which they were registered.
