@@ -10,7 +10,7 @@ ghost use Rattle.goal_search.specs.Sources.{asked_of, rules_of, system};
 ghost use Rattle.goal_facts.specs.Goals.{asked_goal};
 
 use crate::additions::is_same;
-use crate::asked::asked;
+use crate::goals::asked;
 use crate::item_sources::ItemSources;
 use goal_search::{Asked, Kind};
 use goal_terms::{Term, term_args, term_type};

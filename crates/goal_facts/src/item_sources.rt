@@ -9,7 +9,7 @@ ghost use Rattle.goal_search.specs.Choosing.{choice_of};
 ghost use Rattle.goal_facts.specs.Goals.{asked_goal, IsAnswer};
 ghost use Rattle.goal_facts.specs.Systems.{IsSystemOf};
 
-use crate::asked::asked;
+use crate::goals::asked;
 use crate::sources::sources_of;
 use goal_search::{Answer, Choice, Holes, Kind, Search, Sources, is_among};
 use goal_terms::type_term;

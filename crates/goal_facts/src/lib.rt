@@ -3,18 +3,20 @@
 
 mod additions;
 mod arguments;
-mod asked;
 mod bounds;
 mod clauses;
 mod closure;
 mod environment;
+mod goals;
 mod impl_goals;
 mod impls;
 mod item_sources;
 mod proof;
 mod sources;
 
+pub use additions::is_same;
 pub use goal_search::{Answer, Choice};
+pub use goals::asked;
 pub use impl_goals::{RuleGoals, goals_of};
 pub use item_sources::ItemSources;
 pub use proof::{Proof, ProofSource};

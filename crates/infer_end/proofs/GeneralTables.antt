@@ -39,7 +39,7 @@ use Rattle.infer_result.specs.declared.result.Seen.{Seen}
 use Rattle.infer_result.specs.Derivation.{HasNoComplaint, IsDerivation}
 use Rattle.infer_result.proofs.DerivationLaws.{derivation_of}
 use Rattle.hir_types.specs.Fallback.{fallback}
-use Rattle.infer_result.specs.Typed.{IsTableOf}
+use Rattle.infer_result.specs.Typed.{IsTableOf, given}
 use Rattle.infer_result.proofs.Derived.{typed_by_schedule}
 use Rattle.infer_ctx.specs.Said.{said}
 use Rattle.infer_ctx.specs.Walks.{Extends}
@@ -50,8 +50,11 @@ use Rattle.infer_ctx.specs.Steps.{BodyDone}
 use Rattle.infer_ctx.proofs.Keeps.{at_kept, pat_at_kept, obeys_kept, pat_kept, misfit_kept, demand_kept, diagnostic_kept, pat_truth_kept, true_seen_kept}
 use Rattle.infer_ctx.proofs.Lists.{found}
 use Rattle.infer_ctx.proofs.OverTypes.{fine_closed}
-use Rattle.infer_ctx.proofs.UnderClosings.{At-unclosed, closed_at, asked_unlike, length-closed_mismatches, At-closed, length-closed}
+use Rattle.infer_ctx.specs.Context.{with_general}
+use Rattle.infer_ctx.proofs.UnderClosings.{sound_with, At-unclosed, closed_at, asked_unlike, length-closed_mismatches, At-closed, length-closed}
 use Rattle.infer_coerce.proofs.Unified.{completion_closes}
+use Rattle.infer_end.specs.SelectedBody.{OnlyTable, StaysOfPlain}
+use Rattle.infer_end.specs.Ends.{EndsAs}
 use Rattle.infer_end.specs.KeptTypes.{AreResolved, HoldsResolved, KeepsGeneral, IsFull, HasAllTypes}
 use Rattle.infer_end.proofs.Definitions.{found_body, table_of}
 use Rattle.infer_end.proofs.Fits.{completed_table_fits, fine_fits, seen_fits}
@@ -118,7 +121,7 @@ module _ (r : InferenceResult) (o : Option General) (ps : List Proof) (gs : List
     };
   }
 
-all_types_so : (P Q : Ty → Type 0) (r : InferenceResult) → ((t : Ty) → P t → Q t) → AllTypes P r → AllTypes Q r
+pub all_types_so : (P Q : Ty → Type 0) (r : InferenceResult) → ((t : Ty) → P t → Q t) → AllTypes P r → AllTypes Q r
 all_types_so P Q r f h = record {
   exprs = λ n t at. f t (h.exprs n t at);
   pats = λ n t at. f t (h.pats n t at);
@@ -407,6 +410,54 @@ module _ (raw : RawFacts) (d : DefWithBodyId) (i : BodyId) (b : RawBody) (s : Sc
     completed_table meets respects None,
     record { plain = λ p. absurd (not_plain p); other = λ never. refl },
   ))
+
+-- ---- with what is selected
+
+-- with other types before fallback the body is done as before
+pub general_done : (g : Given) (c : InferenceContext) (o : Option General) → BodyDone g c → BodyDone g (with_general c o)
+general_done g c o done = record {
+  sound = sound_with c (record c.result { general = o }) c.clock done.sound (all_types_other c.result o c.result.proofs c.result.expr_gaps _ done.sound.fine)
+      (record { types = done.sound.seen.types; others = done.sound.seen.others });
+  decided = done.decided;
+  made = λ a closes. (let r : InferenceResult = closed_table a c.asked c.result in
+      made_other r o r.proofs r.expr_gaps g (done.made a (record { closing = closes.closing; meets = closes.meets })));
+}
+
+-- so it is once these types are kept, or none are
+pub kept_done : (g : Given) (raw : RawFacts) (d : DefWithBodyId) (c last : InferenceContext) → BodyDone g c → KeepsGeneral raw d c last → BodyDone g last
+kept_done g raw d c last done (inl (plain, (x, resolved, is))) = subst (BodyDone g) (sym is) (general_done g c (Some x) done)
+kept_done g raw d c last done (inr (not_plain, is)) = subst (BodyDone g) (sym is) (general_done g c None done)
+
+module _ (raw : RawFacts) (d : DefWithBodyId) (b : RawBody) (inputs : List TypeRefId) (output : Ty) (taken : inputs ≡ inputs_of raw d) (out : output ≡ return_type raw d) (c : InferenceContext) where
+  -- with the inputs and the output of the definition
+  pub given_done : BodyDone (record { scope = scope_of raw d; body = b; inputs = inputs; output = output }) c → BodyDone (given raw d b) c
+  given_done done =
+      subst (λ ws. BodyDone (record { scope = scope_of raw d; body = b; inputs = ws; output = return_type raw d }) c) taken
+      (subst (λ t. BodyDone (record { scope = scope_of raw d; body = b; inputs = inputs; output = t }) c) out done)
+
+  own_done : BodyDone (given raw d b) c → BodyDone (record { scope = scope_of raw d; body = b; inputs = inputs; output = output }) c
+  own_done done =
+      subst (λ t. BodyDone (record { scope = scope_of raw d; body = b; inputs = inputs; output = t }) c) (sym out)
+      (subst (λ ws. BodyDone (record { scope = scope_of raw d; body = b; inputs = ws; output = return_type raw d }) c) (sym taken) done)
+
+module _ (raw : RawFacts) (d : DefWithBodyId) (i : BodyId) (b : RawBody) (s : Schedule) (inputs : List TypeRefId) (output : Ty) (id : body_id_of raw d ≡ Some i) (at : slice_get raw.bodies i.0 ≡ Some b) (law : IsWalkable b s) (taken : inputs ≡ inputs_of raw d) (out : output ≡ return_type raw d) (c : InferenceContext) (done : BodyDone (record { scope = scope_of raw d; body = b; inputs = inputs; output = output }) c)
+    (lawful : IsLawful raw) (ps : List Proof) (gs : List (List Gap)) where
+  -- of a body that is not plain the context after selection counts, in which no such types are
+  not_plain_ends : (z : InferenceContext) → BodyDone (given raw d b) z → z.result.general ≡ None → (IsPlainBodyOf raw d → ⊥) → EndsAs raw d ps gs z
+  not_plain_ends z after none not_plain meets respects acyclic =
+      let a : Assignment = completion z.table in
+      let same : record z.result { general = None } ≡ z.result = ap (λ (o : Option General). record z.result { general = o }) (sym none) in
+      let F : InferenceResult → Type 0 = λ r. IsTableOf raw d (with_goals ps gs (closed_table a z.asked r)) in (
+        subst F same (completed_table raw d i b s inputs output id at law taken out z (own_done raw d b inputs output taken out z after) lawful ps gs meets respects None),
+        record { plain = λ p. absurd (not_plain p); other = λ never. none },
+      )
+
+  pub ends_selected : (mid z : InferenceContext) → KeepsGeneral raw d c mid → OnlyTable mid z → StaysOfPlain mid z → BodyDone (given raw d b) z → EndsAs raw d ps gs z
+  ends_selected mid z (inl (plain, (x, resolved, is))) only stays after =
+      let kept : mid.result.general ≡ Some x = ap (λ (m : InferenceContext). m.result.general) is in
+      subst (EndsAs raw d ps gs) (sym (stays x kept)) (ends raw d i b s inputs output id at law taken out c done lawful ps gs mid (inl (plain, (x, resolved, is))))
+  ends_selected mid z (inr (not_plain, is)) only stays after =
+      not_plain_ends z after (ap (λ (r : InferenceResult). r.general) only.result ∙ ap (λ (m : InferenceContext). m.result.general) is) not_plain
 
 -- ---- each node has a type
 full_under : (a : Assignment) (xs : List (Option Ty)) (count : ℕ) → length (closed_types a xs) ≡ count → ((n : ℕ) → n < count → (t : Ty) × At (closed_types a xs) n t) → IsFull xs

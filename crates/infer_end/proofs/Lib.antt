@@ -5,3 +5,6 @@ pub mod GeneralTypes
 pub mod PlainBodies
 pub mod PlainGoals
 pub mod SizedTypes
+pub mod SelectedBody
+pub mod FineSources
+pub mod FineNeeds

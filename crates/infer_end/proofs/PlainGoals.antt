@@ -234,10 +234,10 @@ record IsSizedNeed (raw : RawFacts) (params : ℕ) (t : Ty) (p : RawGoal) : Type
   closed : AreClosedIn (record { facts = raw; params = params }) types
   pred : is_sized_pred raw (length types) p ≡ true
 
-out_adt : (a : AdtId) (xs : List GenericArg) → out-Ty (ty.Adt a xs) ≡ Ty-F.Adt a xs
+pub out_adt : (a : AdtId) (xs : List GenericArg) → out-Ty (ty.Adt a xs) ≡ Ty-F.Adt a xs
 out_adt a xs = ap out-Ty (sym (ty.rolls-Adt a xs)) ∙ out-roll-Ty (Ty-F.Adt a xs)
 
-out_fn_def : (i : CallableDefId) (xs : List GenericArg) → out-Ty (ty.FnDef i xs) ≡ Ty-F.FnDef i xs
+pub out_fn_def : (i : CallableDefId) (xs : List GenericArg) → out-Ty (ty.FnDef i xs) ≡ Ty-F.FnDef i xs
 out_fn_def i xs = ap out-Ty (sym (ty.rolls-FnDef i xs)) ∙ out-roll-Ty (Ty-F.FnDef i xs)
 
 module _ (raw : RawFacts) (d : DefWithBodyId) (b : RawBody) (is_plain : IsPlainBody raw (params_of raw d) b) (r : InferenceResult) (closed : (e : ExprId) (t : Ty) → HasTy r e t → IsClosedIn (scope_of raw d) t) where

@@ -1,1 +1,3 @@
 pub mod KeptTypes
+pub mod SelectedBody
+pub mod Ends

@@ -5,30 +5,27 @@ ghost use Rattle.hir_laws.specs.Bodies.{HasBody, body_of};
 ghost use Rattle.infer_result.specs.Typed.{IsTableOf, given};
 ghost use Rattle.infer_result.specs.General.{HasGeneral};
 ghost use Rattle.infer_result.specs.Needs.{GoalsHold};
+ghost use Rattle.infer_needs.specs.Told.{AreAllAnswered, HearsAll, IsToldAll, at_exit};
+ghost use Rattle.infer_end.specs.Ends.{EndsWell};
 
 use crate::body::infer_body;
-use hir_facts::{DefWithBodyId, Facts, return_ty};
+use hir_facts::{DefWithBodyId, Facts, Goal, return_ty};
 use infer_ctx::{GivenBody, InferenceContext};
-use infer_end::keep_general;
-use infer_goals::ObligationInspector;
-use infer_needs::prove_needs;
+use infer_end::{keep_general, select_where_possible};
+use infer_goals::{Answer, ObligationInspector};
+use infer_needs::{prove_needs, tell_all};
 use infer_result::InferenceResult;
 use std::alloc::{AllocError, Global};
 
-/// The table of a definition's body: `infer.rs`, `infer_query_with_inspect`. Its one error is want
-/// of memory. What nodes need is proved, or it is said that it has no proof, once all types are known, and the
-/// inspector is told of each of these goals with its answer. Of a plain body the table keeps its types with holes
-/// too, before these fall back to anything: `InferenceResult::general`.
-pub fn infer_query_with_inspect<I: ObligationInspector>(
+/// What is found out about a definition's body once it is walked and its goals are selected: what is left open
+/// falls back.
+fn infer_holes(
     alloc: Global,
     facts: &Facts,
     def: DefWithBodyId,
-    mut inspect: Option<&mut I>,
-) -> Result<InferenceResult, AllocError>
+) -> Result<InferenceContext, AllocError>
     requires { HasBody facts.now def }
-    ensures table { IfOk result (λ table. IsTableOf facts.now def table) }
-    ensures general { IfOk result (λ table. HasGeneral facts.now def table) }
-    ensures goals { IfOk result (λ table. (b : RawBody) → body_of facts.now def ≡ Some b → GoalsHold def (given facts.now def b) table) }
+    ensures { IfOk result (λ context. EndsWell facts.now def context) }
 {
     let Some(id) = facts.body_id(def) else {
         unreachable!()
@@ -47,7 +44,80 @@ pub fn infer_query_with_inspect<I: ObligationInspector>(
     let mut context = InferenceContext::new(alloc, body)?;
     infer_body(alloc, &mut context, &given)?;
     keep_general(alloc, &mut context, facts, def)?;
+    select_where_possible(alloc, &mut context, facts, def)?;
+    Ok(context)
+}
+
+/// The table of a definition's body, and the goals that its nodes need, each with its answer.
+fn infer_with_goals(
+    alloc: Global,
+    facts: &Facts,
+    def: DefWithBodyId,
+) -> Result<(InferenceResult, Vec<(Goal, Answer)>), AllocError>
+    requires { HasBody facts.now def }
+    ensures table { IfOk result (λ made. IsTableOf facts.now def made.0) }
+    ensures general { IfOk result (λ made. HasGeneral facts.now def made.0) }
+    ensures goals { IfOk result (λ made. (b : RawBody) → body_of facts.now def ≡ Some b → GoalsHold def (given facts.now def b) made.0) }
+    ensures told { IfOk result (λ made. (b : RawBody) → body_of facts.now def ≡ Some b → AreAllAnswered def (given facts.now def b) made.0 made.1.items) }
+{
+    let context = infer_holes(alloc, facts, def)?;
     let mut table = context.resolve_all(alloc)?;
-    prove_needs(alloc, facts, def, &mut inspect, &mut table)?;
+    let told = prove_needs(alloc, facts, def, &mut table)?;
+    Ok((table, told))
+}
+
+/// The same table, without these goals.
+fn infer_untold(
+    alloc: Global,
+    facts: &Facts,
+    def: DefWithBodyId,
+) -> Result<InferenceResult, AllocError>
+    requires { HasBody facts.now def }
+    ensures table { IfOk result (λ table. IsTableOf facts.now def table) }
+    ensures general { IfOk result (λ table. HasGeneral facts.now def table) }
+    ensures goals { IfOk result (λ table. (b : RawBody) → body_of facts.now def ≡ Some b → GoalsHold def (given facts.now def b) table) }
+{
+    let (table, _) = infer_with_goals(alloc, facts, def)?;
     Ok(table)
+}
+
+/// The same table; the inspector is told of these goals.
+fn infer_told<I: ObligationInspector>(
+    alloc: Global,
+    facts: &Facts,
+    def: DefWithBodyId,
+    inspect: &mut I,
+) -> Result<InferenceResult, AllocError>
+    requires { HasBody facts.now def }
+    ensures table { IfOk result (λ table. IsTableOf facts.now def table) }
+    ensures general { IfOk result (λ table. HasGeneral facts.now def table) }
+    ensures goals { IfOk result (λ table. (b : RawBody) → body_of facts.now def ≡ Some b → GoalsHold def (given facts.now def b) table) }
+    ensures told { IfOk result (λ table. (b : RawBody) → body_of facts.now def ≡ Some b → HearsAll def (given facts.now def b) table (I.list inspect.old) (I.list inspect.new)) }
+{
+    let (table, told) = infer_with_goals(alloc, facts, def)?;
+    tell_all(inspect, told.as_slice())?;
+    Ok(table)
+}
+
+/// The table of a definition's body: `infer.rs`, `infer_query_with_inspect`. Its one error is want
+/// of memory. What nodes need is selected before open holes fall back, and binds holes of bodies that are not
+/// plain. It is proved, or it is said that it has no proof, once all types are known, and the inspector is told of
+/// each of these goals with its answer. Of a plain body the table keeps its types with holes
+/// too, before these fall back to anything: `InferenceResult::general`.
+pub fn infer_query_with_inspect<I: ObligationInspector>(
+    alloc: Global,
+    facts: &Facts,
+    def: DefWithBodyId,
+    inspect: Option<&mut I>,
+) -> Result<InferenceResult, AllocError>
+    requires { HasBody facts.now def }
+    ensures table { IfOk result (λ table. IsTableOf facts.now def table) }
+    ensures general { IfOk result (λ table. HasGeneral facts.now def table) }
+    ensures goals { IfOk result (λ table. (b : RawBody) → body_of facts.now def ≡ Some b → GoalsHold def (given facts.now def b) table) }
+    ensures told { IfOk result (λ table. (b : RawBody) → body_of facts.now def ≡ Some b → IsToldAll I.list def (given facts.now def b) table inspect.entry (at_exit inspect.exit)) }
+{
+    match inspect {
+        Some(inspect) => infer_told(alloc, facts, def, inspect),
+        None => infer_untold(alloc, facts, def),
+    }
 }

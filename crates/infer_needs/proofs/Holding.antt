@@ -17,7 +17,7 @@ use Rattle.goal_facts.specs.Goals.{asked_goal}
 use Rattle.goal_facts.specs.Systems.{IsSystemOf}
 use Rattle.infer_result.specs.declared.gaps.Gap.{Gap}
 use Rattle.infer_result.specs.declared.result.InferenceResult.{InferenceResult}
-use Rattle.infer_result.specs.Needs.{IsNeeded, HoldsUnknown, IsProved, HasGap, IsUnproved, IsTrueGap, needed_goals, with_goals, scope_item, GoalsHold}
+use Rattle.infer_result.specs.Needs.{IsNeeded, HoldsUnknown, IsProved, gap_asks, HasGap, IsUnproved, IsTrueGap, needed_goals, with_goals, scope_item, GoalsHold}
 use Rattle.infer_result.specs.Places.{Given}
 use Rattle.infer_result.specs.Table.{recorded}
 use Rattle.infer_result.specs.Typed.{given}
@@ -110,6 +110,11 @@ module _ (raw : RawFacts) (d : DefWithBodyId) (b : RawBody) (f : System) (r : In
   gap_holds : (e : ExprId) (x : Gap) → HasGap z e x → IsTrueGap g f z e x
   gap_holds e x h = failing_is e x ((all.each e.0 h.gaps h.at).gaps h.number x h.listed)
 
+  gap_once : (e : ExprId) (x y : Gap) (j : HasGap z e x) (k : HasGap z e y) → gap_asks x ≡ gap_asks y → j.number ≡ k.number
+  gap_once e x y j k same =
+      let alike : k.gaps ≡ j.gaps = same_Some k.gaps j.gaps (sym k.at ∙ j.at) in
+      (all.each e.0 j.gaps j.at).once j.number k.number x y j.listed (subst (λ gs. slice_get gs k.number ≡ Some y) alike k.listed) same
+
   pub goals_hold : GoalsHold d g z
   goals_hold = record {
     system = f;
@@ -117,4 +122,5 @@ module _ (raw : RawFacts) (d : DefWithBodyId) (b : RawBody) (f : System) (r : In
     proofs = λ s filling. all.adds.right (λ s filling n x at. cc) s filling;
     needs = need_holds;
     gaps = gap_holds;
+    once = gap_once;
   }

@@ -20,10 +20,10 @@ use Rattle.goal_facts.specs.Goals.{asked_goal, IsAnswer}
 use Rattle.goal_prove.specs.Closed.{AddsProofs}
 use Rattle.infer_result.specs.declared.gaps.Gap.{Gap}
 use Rattle.infer_result.specs.declared.result.InferenceResult.{InferenceResult}
-use Rattle.infer_result.specs.Needs.{HoldsUnknown}
+use Rattle.infer_result.specs.Needs.{HoldsUnknown, gap_asks}
 use Rattle.infer_result.specs.Table.{recorded}
 use Rattle.infer_needs.specs.Told.{needs_of, needs_at}
-use Rattle.infer_needs.specs.Judged.{IsProvable, AreProvable, unproved, IsDone, IsSaidIfKnown, IsJudged, IsOfFailing, AreDone, AreJudged, AreAllJudged}
+use Rattle.infer_needs.specs.Judged.{IsProvable, AreProvable, unproved, IsSaid, IsAmong, IsDone, IsSaidIfKnown, IsJudged, IsOfFailing, AreDone, AreJudged, AreAllJudged}
 
 -- ---- proofs that are added
 
@@ -47,9 +47,20 @@ done_later e ps qs gs hs a p g (inr (inr h)) = inr (inr h)
 
 -- ---- one goal
 
--- no more is said, or of this goal, which fails
+-- no more is said, or of this goal, which fails, and of which nothing was said
 abbrev Says : System → ℕ → ExprId → Goal → List Gap → List Gap → Type 0
-Says f n e q gs hs = (hs ≡ gs) ⊎ ((hs ≡ gs ++ unproved e q ∷ []) × (HoldsUnknown (asked_goal q).parts → ⊥) × ((answers f n).Yes (asked_goal q) → ⊥))
+Says f n e q gs hs =
+    (hs ≡ gs)
+    ⊎ ((hs ≡ gs ++ unproved e q ∷ []) × (HoldsUnknown (asked_goal q).parts → ⊥) × ((answers f n).Yes (asked_goal q) → ⊥) × (IsAmong gs (asked_goal q) → ⊥))
+
+-- what is said at the expression
+abbrev AreAt : ExprId → List Gap → Type 0
+AreAt e gs = (k : ℕ) (x : Gap) → slice_get gs k ≡ Some x → (q : Goal) × (x ≡ unproved e q)
+
+among_said : (e : ExprId) (gs : List Gap) (a : Asked) → AreAt e gs → IsAmong gs a → IsSaid e gs a
+among_said e gs a here h =
+    let x = here h.0 h.1 h.2 in
+    (h.0, x.0, h.2 ∙ ap Some x.1, ap gap_asks (sym x.1) ∙ h.3)
 
 module _ (raw : RawFacts) (f : System) (e : ExprId) (q : Goal) (ps qs : List Proof) (gs hs : List Gap) where
   judged_adds : IsJudged raw f e q ps qs gs hs → AddsProofs raw f ps qs
@@ -58,19 +69,22 @@ module _ (raw : RawFacts) (f : System) (e : ExprId) (q : Goal) (ps qs : List Pro
 
   said_says : ((answers f raw.limits.goal_depth).Yes (asked_goal q) → ⊥) → IsSaidIfKnown e q gs hs → Says f raw.limits.goal_depth e q gs hs
   said_says fails (inl h) = inl h.0
-  said_says fails (inr h) = inr (h.0, h.1, fails)
+  said_says fails (inr h) = inr (h.0, h.1, fails, h.2)
 
   judged_says : IsJudged raw f e q ps qs gs hs → Says f raw.limits.goal_depth e q gs hs
   judged_says (inl h) = inl h.gaps
   judged_says (inr h) = said_says h.fails h.said
 
-  said_done : IsSaidIfKnown e q gs hs → IsDone e qs hs (asked_goal q)
-  said_done (inl h) = inr (inr h.1)
-  said_done (inr h) = inr (inl (length gs, q, subst (λ zs. slice_get zs (length gs) ≡ Some (unproved e q)) (sym h.0) (get_last gs (unproved e q)), refl))
+  said_done : AreAt e gs → IsSaidIfKnown e q gs hs → IsDone e qs hs (asked_goal q)
+  said_done here (inl h) = elim h.1 [
+    | inl unknown ↦ inr (inr unknown)
+    | inr among ↦ inr (inl (subst (λ zs. IsSaid e zs (asked_goal q)) (sym h.0) (among_said e gs (asked_goal q) here among)))
+  ]
+  said_done here (inr h) = inr (inl (length gs, q, subst (λ zs. slice_get zs (length gs) ≡ Some (unproved e q)) (sym h.0) (get_last gs (unproved e q)), refl))
 
-  judged_done : IsJudged raw f e q ps qs gs hs → IsDone e qs hs (asked_goal q)
-  judged_done (inl h) = inl h.has
-  judged_done (inr h) = said_done h.said
+  judged_done : AreAt e gs → IsJudged raw f e q ps qs gs hs → IsDone e qs hs (asked_goal q)
+  judged_done here (inl h) = inl h.has
+  judged_done here (inr h) = said_done here h.said
 
 says_front : (f : System) (n : ℕ) (e : ExprId) (q : Goal) (gs hs : List Gap) → Says f n e q gs hs → IsFront gs hs
 says_front f n e q gs hs (inl h) = subst (IsFront gs) (sym h) (front_itself gs)
@@ -87,7 +101,7 @@ not_yes f n a x (inr e) is holds = (subst (IsAnswer f n a) e is).0 holds
 -- ---- the goals of an expression
 
 pub judged_none : (raw : RawFacts) (f : System) (e : ExprId) (ps : List Proof) → AreJudged raw f e [] ps ps []
-judged_none raw f e ps = record { adds = adds_none raw f ps; done = record { each = λ k a at. cc; gaps = λ k x at. cc } }
+judged_none raw f e ps = record { adds = adds_none raw f ps; done = record { each = λ k a at. cc; gaps = λ k x at. cc; once = λ j k x y at there e. cc } }
 
 module _ (raw : RawFacts) (f : System) (e : ExprId) (xs : List Asked) (q : Goal) (ps qs rs : List Proof) (gs hs : List Gap)
     (before : AreJudged raw f e xs ps qs gs) (now : IsJudged raw f e q qs rs gs hs) where
@@ -103,10 +117,13 @@ module _ (raw : RawFacts) (f : System) (e : ExprId) (xs : List Asked) (q : Goal)
   adds : AddsProofs raw f qs rs
   adds = judged_adds raw f e q qs rs gs hs now
 
+  here : AreAt e gs
+  here k x at = (let h = before.done.gaps k x at in (h.goal, h.is))
+
   each : (k : ℕ) (a : Asked) → slice_get bs k ≡ Some a → IsDone e rs hs a
   each k a at = elim (get_more xs (asked_goal q) k a at) [
     | inl h ↦ done_later e qs rs gs hs a adds.behind (says_front f n e q gs hs says) (before.done.each k a h)
-    | inr h ↦ subst (IsDone e rs hs) h.1 (judged_done raw f e q qs rs gs hs now)
+    | inr h ↦ subst (IsDone e rs hs) h.1 (judged_done raw f e q qs rs gs hs here now)
   ]
 
   more : (x : Gap) → IsOfFailing f n e xs x → IsOfFailing f n e bs x
@@ -129,10 +146,26 @@ module _ (raw : RawFacts) (f : System) (e : ExprId) (xs : List Asked) (q : Goal)
     | inr l ↦ gap_now x l.1 h.1 h.2
   ]
 
+  -- of what was said nothing is said again
+  once_by : Says f n e q gs hs → (j k : ℕ) (x y : Gap) → slice_get hs j ≡ Some x → slice_get hs k ≡ Some y → gap_asks x ≡ gap_asks y → j ≡ k
+  once_by (inl h) j k x y at there same =
+      before.done.once j k x y (subst (λ zs. slice_get zs j ≡ Some x) h at) (subst (λ zs. slice_get zs k ≡ Some y) h there) same
+  once_by (inr h) j k x y at there same =
+      elim (get_more gs (unproved e q) j x (subst (λ zs. slice_get zs j ≡ Some x) h.0 at)) [
+        | inl l ↦ elim (get_more gs (unproved e q) k y (subst (λ zs. slice_get zs k ≡ Some y) h.0 there)) [
+          | inl m ↦ before.done.once j k x y l m same
+          | inr m ↦ absurd (h.3 (j, x, l, same ∙ ap gap_asks (sym m.1)))
+        ]
+        | inr l ↦ elim (get_more gs (unproved e q) k y (subst (λ zs. slice_get zs k ≡ Some y) h.0 there)) [
+          | inl m ↦ absurd (h.3 (k, y, m, sym same ∙ ap gap_asks (sym l.1)))
+          | inr m ↦ l.0 ∙ sym m.0
+        ]
+      ]
+
   pub judged_more : AreJudged raw f e bs ps rs hs
   judged_more = record {
     adds = adds_then raw f ps qs rs before.adds adds;
-    done = record { each = each; gaps = gap_by says };
+    done = record { each = each; gaps = gap_by says; once = once_by says };
   }
 
 -- ---- at a place
@@ -164,6 +197,7 @@ done_still : (f : System) (n : ℕ) (e : ExprId) (xs : List Asked) (ps qs : List
 done_still f n e xs ps qs gs p h = record {
   each = λ k a at. done_later e ps qs gs gs a p (front_itself gs) (h.each k a at);
   gaps = h.gaps;
+  once = h.once;
 }
 
 pub all_none : (raw : RawFacts) (f : System) (b : RawBody) (r : InferenceResult) → AreAllJudged raw f b r 0 [] []

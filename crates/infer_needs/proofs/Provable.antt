@@ -29,7 +29,7 @@ use Rattle.hir_raw.specs.Goals.{arg_types}
 use Rattle.hir_raw.specs.Scope.{scope_of}
 use Rattle.hir_ids.specs.Carried.{is_empty}
 use Rattle.hir_ids.specs.GoalIds.{GoalExists, GoalsExist}
-use Rattle.hir_ids.specs.Owed.{fn_asks_nothing, adt_asks_nothing, ctor_asks_nothing, path_owes_nothing, expr_owes_nothing, pat_owes_nothing, exprs_owe_carried}
+use Rattle.hir_ids.specs.Owed.{fn_asks_nothing, adt_asks_nothing, ctor_asks_nothing, path_owes_nothing, expr_owes_nothing}
 use Rattle.hir_laws.specs.Bodies.{body_id_of}
 use Rattle.hir_laws.specs.Lawful.{IsLawful}
 use Rattle.hir_laws.specs.LawfulFacts.{type_ids_exist, adt_ids, fn_ids, carried_bodies}
@@ -150,11 +150,19 @@ module _ (raw : RawFacts) (law : IsLawful raw) where
 
   owed : (b : RawBody) (i : ℕ) → slice_get raw.bodies i ≡ Some b → (k : ℕ) (x : RawExpr) → slice_get b.exprs k ≡ Some x → (expr_owes_nothing raw x ≡ true) ⊎ (is_empty raw.aliases ≡ true)
   owed b i at k x found =
-      let all : exprs_owe_carried raw b ≡ true = (both (exprs_owe_carried raw b) (list_all (pat_owes_nothing raw) b.pats) (carried_bodies raw law i b at).owes).0 in
-      elim (or_cases (list_all (expr_owes_nothing raw) b.exprs) (is_empty raw.aliases) all) [
+      elim (or_cases (list_all (expr_owes_nothing raw) b.exprs) (is_empty raw.aliases) (carried_bodies raw law i b at).owes) [
         | inl none ↦ inl (all_at (expr_owes_nothing raw) b.exprs none k x found)
         | inr empty ↦ inr empty
       ]
+
+  -- what a path owes is nothing, or no trait has an associated type
+  owed_none : (x : RawExpr) (t : Ty) → (expr_owes_nothing raw x ≡ true) ⊎ (is_empty raw.aliases ≡ true) → (needed_goals raw x t ≡ []) ⊎ (raw.aliases ≡ [])
+  owed_none x t (inr e) = inr (empty_is raw.aliases e)
+  owed_none (expr.Path p) t (inl e) = inl (ap (map (goal_at raw (item_args (out-Ty t)))) (path_none raw p e))
+  owed_none _ t (inl e) = inl refl
+
+  pub expr_owed : (b : RawBody) (i : ℕ) → slice_get raw.bodies i ≡ Some b → (k : ℕ) (x : RawExpr) → slice_get b.exprs k ≡ Some x → (t : Ty) → (needed_goals raw x t ≡ []) ⊎ (raw.aliases ≡ [])
+  expr_owed b i at k x found t = owed_none x t (owed b i at k x found)
 
 -- ---- what the expressions of a body need
 

@@ -14,7 +14,7 @@ use Rattle.goal_prove.specs.Closed.{IsClosedTerm, AddsProofs}
 use Rattle.infer_result.specs.declared.gaps.Gap.{Gap}
 use Rattle.infer_result.specs.declared.gaps.Gap.TheVariants as gap
 use Rattle.infer_result.specs.declared.result.InferenceResult.{InferenceResult}
-use Rattle.infer_result.specs.Needs.{HoldsUnknown}
+use Rattle.infer_result.specs.Needs.{HoldsUnknown, gap_asks}
 use Rattle.infer_result.specs.Table.{recorded}
 use Rattle.infer_needs.specs.Told.{needs_of, needs_at}
 
@@ -45,14 +45,18 @@ unproved e q = gap.Unproved (node.ExprId e) q
 abbrev pub IsSaid : ExprId → List Gap → Asked → Type 0
 IsSaid e gs a = (k : ℕ) × (q : Goal) × (slice_get gs k ≡ Some (unproved e q)) × (asked_goal q ≡ a)
 
+-- so it is at some node
+abbrev pub IsAmong : List Gap → Asked → Type 0
+IsAmong gs a = (k : ℕ) × (x : Gap) × (slice_get gs k ≡ Some x) × (gap_asks x ≡ a)
+
 abbrev pub IsDone : ExprId → List Proof → List Gap → Asked → Type 0
 IsDone e ps gs a = HasProofOf ps a ⊎ (IsSaid e gs a ⊎ HoldsUnknown a.parts)
 
--- it is said now, unless `{unknown}` stands in it
+-- it is said now, unless it was, or `{unknown}` stands in it
 abbrev pub IsSaidIfKnown : ExprId → Goal → List Gap → List Gap → Type 0
 IsSaidIfKnown e q gs hs =
-    ((hs ≡ gs) × HoldsUnknown (asked_goal q).parts)
-    ⊎ ((hs ≡ gs ++ unproved e q ∷ []) × (HoldsUnknown (asked_goal q).parts → ⊥))
+    ((hs ≡ gs) × (HoldsUnknown (asked_goal q).parts ⊎ IsAmong gs (asked_goal q)))
+    ⊎ ((hs ≡ gs ++ unproved e q ∷ []) × (HoldsUnknown (asked_goal q).parts → ⊥) × (IsAmong gs (asked_goal q) → ⊥))
 
 -- its answer at the depth isn't Yes, and it is said unless `{unknown}` stands in it
 pub record IsRefused (f : System) (n : ℕ) (e : ExprId) (q : Goal) (ps qs : List Proof) (gs hs : List Gap) : Type 0 where
@@ -80,10 +84,11 @@ pub record IsOfFailing (f : System) (n : ℕ) (e : ExprId) (xs : List Asked) (x 
   pub known : HoldsUnknown (asked_goal goal).parts → ⊥
   pub fails : (answers f n).Yes (asked_goal goal) → ⊥
 
--- each goal is proved, or said to have no proof, or `{unknown}` stands in it; and what is said is so
+-- each goal is proved, or said to have no proof, or `{unknown}` stands in it; and what is said is so, and said once
 pub record AreDone (f : System) (n : ℕ) (e : ExprId) (xs : List Asked) (ps : List Proof) (gs : List Gap) : Type 0 where
   pub each : (k : ℕ) (a : Asked) → slice_get xs k ≡ Some a → IsDone e ps gs a
   pub gaps : (k : ℕ) (x : Gap) → slice_get gs k ≡ Some x → IsOfFailing f n e xs x
+  pub once : (j k : ℕ) (x y : Gap) → slice_get gs j ≡ Some x → slice_get gs k ≡ Some y → gap_asks x ≡ gap_asks y → j ≡ k
 
 -- so it is once these proofs are added
 pub record AreJudged (raw : RawFacts) (f : System) (e : ExprId) (xs : List Asked) (ps qs : List Proof) (gs : List Gap) : Type 0 where

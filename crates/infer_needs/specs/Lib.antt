@@ -1,2 +1,4 @@
 pub mod Judged
 pub mod Told
+pub mod Selection
+pub mod Registering

@@ -1,5 +1,6 @@
 -- Goals that nodes need, in their order, and what an inspector is told of them.
 use Rattle.std.specs.Prelude.{◌≡◌, ◌++◌, ℕ, zero, suc, List, [], ◌∷◌, length, slice_get, Option, Some, None}
+use Rattle.std.proofs.Common.{◌⊎◌, inl, inr}
 use denote.Ref.{MutBor}
 use Rattle.hir_types.specs.declared.ids.DefWithBodyId.{DefWithBodyId}
 use Rattle.hir_types.specs.declared.goal.Goal.{Goal}
@@ -45,20 +46,32 @@ AreAnswered f n (a ∷ xs) (t ∷ ts) = (asked_goal t.0 ≡ a) × IsAnswer f n a
 AreAnswered f n [] (t ∷ ts) = ⊥
 AreAnswered f n (a ∷ xs) [] = ⊥
 
--- the inspector, where there is one, is the one that was lent, and was told of these as well
-abbrev pub WasTold : {I : Type 0} → (I → List (Goal × Answer)) → List (Goal × Answer) → Option (MutBor I) → Option (MutBor I) → Type 0
-WasTold list ts None after = after ≡ None
-WasTold list ts (Some i) None = ⊥
-WasTold list ts (Some i) (Some j) = (j.ghost_name ≡ i.ghost_name) × (list j.now ≡ list i.now ++ ts)
-
--- it was told of these goals, of each once, with its answer
-pub record AreTold {I : Type 0} (list : I → List (Goal × Answer)) (f : System) (n : ℕ) (xs : List Asked) (before after : Option (MutBor I)) : Type 0 where
+-- they are listed behind the others
+pub record ListsAnswers (f : System) (n : ℕ) (xs : List Asked) (before after : List (Goal × Answer)) : Type 0 where
   pub told : List (Goal × Answer)
   pub answers : AreAnswered f n xs told
-  pub was : WasTold list told before after
+  pub behind : after ≡ before ++ told
 
--- it was told of all that nodes of the body need, and of nothing else
-pub record IsToldAll {I : Type 0} (list : I → List (Goal × Answer)) (d : DefWithBodyId) (g : Given) (r : InferenceResult) (before after : Option (MutBor I)) : Type 0 where
+-- these are all that nodes of the body need, each with its answer
+pub record AreAllAnswered (d : DefWithBodyId) (g : Given) (r : InferenceResult) (ts : List (Goal × Answer)) : Type 0 where
   pub system : System
   pub of_item : IsSystemOf g.scope.facts (scope_item g.scope.facts d) system
-  pub told : AreTold list system g.scope.facts.limits.goal_depth (all_needs g.scope.facts g.body r) before after
+  pub answers : AreAnswered system g.scope.facts.limits.goal_depth (all_needs g.scope.facts g.body r) ts
+
+-- whose list this is was told of all that nodes of the body need, of each once, with its answer, and of nothing else
+pub record HearsAll (d : DefWithBodyId) (g : Given) (r : InferenceResult) (before after : List (Goal × Answer)) : Type 0 where
+  pub told : List (Goal × Answer)
+  pub answers : AreAllAnswered d g r told
+  pub behind : after ≡ before ++ told
+
+-- one that is lent for a call alone, where the call ends
+abbrev pub at_exit : {I : Type 0} → Unit {0} ⊎ ((MutBor I × Unit {0}) ⊎ ⊥) → Option (MutBor I)
+at_exit (inl u) = None
+at_exit (inr (inl p)) = Some p.0
+at_exit (inr (inr x)) = absurd x
+
+-- the inspector, where there is one, is the one that was lent, and was told so
+abbrev pub IsToldAll : {I : Type 0} → (I → List (Goal × Answer)) → DefWithBodyId → Given → InferenceResult → Option (MutBor I) → Option (MutBor I) → Type 0
+IsToldAll list d g r None after = after ≡ None
+IsToldAll list d g r (Some i) None = ⊥
+IsToldAll list d g r (Some i) (Some j) = (j.ghost_name ≡ i.ghost_name) × HearsAll d g r (list i.now) (list j.now)

@@ -1,8 +1,13 @@
-//! What the nodes of a typed body need: predicates of items that paths name, proved or complained of.
+//! What the nodes of a typed body need: predicates of items that paths name, selected before open holes fall
+//! back, and proved or complained of in the end.
 #![tactic(auto)]
 
 mod needed;
 mod prove;
+mod select;
+mod tell;
 mod unknown;
 
 pub use prove::prove_needs;
+pub use select::select_needs;
+pub use tell::tell_all;

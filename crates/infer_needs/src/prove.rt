@@ -1,31 +1,29 @@
 //! What nodes need is proved, or complained of: the end of `infer.rs`'s `infer_body`, where obligations that are
 //! left are looked at once more.
-ghost use Rattle.std.specs.Prelude.{◌≡◌, [], ◌∷◌, length, Some, IfOk, OnOk};
+ghost use Rattle.std.specs.Prelude.{◌≡◌, ◌↔◌, ◌++◌, [], ◌∷◌, length, Some, IfOk, OnOk, IsTrue};
 ghost use Rattle.hir_raw.specs.declared.raw.RawBody.{RawBody};
 ghost use Rattle.hir_laws.specs.Bodies.{body_of};
 ghost use Rattle.goal_search.specs.Sources.{system};
 ghost use Rattle.goal_facts.specs.Goals.{asked_goal, IsAnswer};
-ghost use Rattle.infer_goals.specs.Told.{IsToldOf};
 ghost use Rattle.infer_result.specs.Needs.{needed_goals, with_goals, scope_item, GoalsHold};
 ghost use Rattle.infer_result.specs.Table.{recorded};
 ghost use Rattle.infer_result.specs.Typed.{IsTableOf, given};
-ghost use Rattle.infer_needs.specs.Judged.{IsProvable, AreProvable, CanAllBeProved, IsSaidIfKnown, IsJudged, AreJudged, AreAllJudged};
-ghost use Rattle.infer_needs.specs.Told.{AreTold, needs_of, all_needs, IsToldAll};
+ghost use Rattle.infer_needs.specs.Judged.{IsProvable, AreProvable, CanAllBeProved, IsAmong, IsSaidIfKnown, IsJudged, AreJudged, AreAllJudged};
+ghost use Rattle.infer_needs.specs.Told.{ListsAnswers, needs_of, all_needs, AreAllAnswered};
 
 use crate::needed::needed_goals;
 use crate::unknown::holds_unknown;
-use goal_facts::{Answer, ItemSources, Proof};
+use goal_facts::{Answer, ItemSources, Proof, asked, is_same};
 use goal_prove::prove_goal;
 use hir_facts::{
     AdtId, DefWithBodyId, ExprId, ExprOrPatId, Facts, GenericDefId, Goal, List, RawBody, RawExpr,
     Ty,
 };
-use infer_goals::ObligationInspector;
 use infer_result::{Gap, InferenceResult};
 use std::alloc::{AllocError, Global};
 
 /// The item in whose scope a body is.
-fn scope_item(facts: &Facts, def: DefWithBodyId) -> GenericDefId
+pub(crate) fn scope_item(facts: &Facts, def: DefWithBodyId) -> GenericDefId
     ensures { result ≡ scope_item facts.now def }
 {
     match def {
@@ -39,50 +37,66 @@ fn scope_item(facts: &Facts, def: DefWithBodyId) -> GenericDefId
     }
 }
 
-/// Evaluates a goal and tells of its answer.
-fn evaluate<I: ObligationInspector>(
+/// Evaluates a goal and takes note of its answer.
+fn evaluate(
     alloc: Global,
     sources: &ItemSources<'_>,
     goal: &Goal,
-    inspect: &mut Option<&mut I>,
+    told: &mut Vec<(Goal, Answer)>,
 ) -> Result<Answer, AllocError>
     ensures answer { IfOk result (λ answer. IsAnswer (system sources.now.sources) sources.now.facts.limits.goal_depth (asked_goal goal.now) answer) }
-    ensures told { IfOk result (λ answer. IsToldOf I.list goal.now answer inspect.old inspect.new) }
+    ensures told { IfOk result (λ answer. told.new.items ≡ told.old.items ++ (goal.now, answer) ∷ []) }
 {
     let answer = sources.evaluate(alloc, goal)?;
-    if let Some(inspect) = inspect {
-        inspect.told(goal, answer)?;
-    }
+    let copy = goal.dup(alloc)?;
+    told.push((copy, answer))?;
     Ok(answer)
 }
 
-/// Says of a goal whose answer isn't Yes that it has no proof, unless `{unknown}` stands in it.
+/// Whether one of these says of the goal that it has no proof.
+fn is_said(alloc: Global, gaps: &[Gap], goal: &Goal) -> Result<bool, AllocError>
+    ensures { IfOk result (λ is. IsTrue is ↔ IsAmong gaps.now (asked_goal goal.now)) }
+{
+    let wanted = asked(alloc, goal)?;
+    for gap in gaps {
+        let Gap::Unproved { node: _, goal } = gap;
+        let said = asked(alloc, goal)?;
+        if is_same(&said, &wanted) {
+            return Ok(true);
+        }
+    }
+    Ok(false)
+}
+
+/// Says of a goal whose answer isn't Yes that it has no proof, once, unless `{unknown}` stands in it.
 fn complain(alloc: Global, goal: Goal, expr: ExprId, gaps: &mut List<Gap>) -> Result<(), AllocError>
     ensures { OnOk result (IsSaidIfKnown expr goal gaps.old gaps.new) }
 {
-    if !holds_unknown(alloc, &goal)? {
+    let is_unknown = holds_unknown(alloc, &goal)?;
+    let is_said = is_said(alloc, gaps.as_slice(), &goal)?;
+    if !is_unknown && !is_said {
         let node = ExprOrPatId::ExprId(expr);
         gaps.push(Gap::Unproved { node, goal })?;
     }
     Ok(())
 }
 
-/// Evaluates a goal without holes that an expression needs, tells of its answer, and adds its proof, or says
+/// Evaluates a goal without holes that an expression needs, takes note of its answer, and adds its proof, or says
 /// that it has none, unless `{unknown}` stands in it.
-fn prove_need<I: ObligationInspector>(
+fn prove_need(
     alloc: Global,
     sources: &ItemSources<'_>,
     goal: Goal,
     expr: ExprId,
-    inspect: &mut Option<&mut I>,
+    told: &mut Vec<(Goal, Answer)>,
     proofs: &mut Vec<Proof>,
     gaps: &mut List<Gap>,
 ) -> Result<(), AllocError>
     requires { IsProvable sources.now.facts (asked_goal goal) }
     ensures judged { OnOk result (IsJudged sources.now.facts (system sources.now.sources) expr goal proofs.old.items proofs.new.items gaps.old gaps.new) }
-    ensures told { OnOk result (AreTold I.list (system sources.now.sources) sources.now.facts.limits.goal_depth (asked_goal goal ∷ []) inspect.old inspect.new) }
+    ensures told { OnOk result (ListsAnswers (system sources.now.sources) sources.now.facts.limits.goal_depth (asked_goal goal ∷ []) told.old.items told.new.items) }
 {
-    match evaluate(alloc, sources, &goal, inspect)? {
+    match evaluate(alloc, sources, &goal, told)? {
         Answer::Yes => {
             let depth = sources.facts().raw().limits.goal_depth;
             prove_goal(alloc, sources, &goal, depth, proofs)?;
@@ -96,28 +110,28 @@ fn prove_need<I: ObligationInspector>(
 }
 
 /// Does so with each goal that an expression of this type needs; gives what could not be shown.
-fn prove_expr<I: ObligationInspector>(
+fn prove_expr(
     alloc: Global,
     sources: &ItemSources<'_>,
     expr: &RawExpr,
     id: ExprId,
     ty: &Ty,
-    inspect: &mut Option<&mut I>,
+    told: &mut Vec<(Goal, Answer)>,
     proofs: &mut Vec<Proof>,
 ) -> Result<List<Gap>, AllocError>
     requires { AreProvable sources.now.facts (needed_goals sources.now.facts expr.now ty.now) }
     ensures judged { IfOk result (λ gaps. AreJudged sources.now.facts (system sources.now.sources) id (needed_goals sources.now.facts expr.now ty.now) proofs.old.items proofs.new.items gaps) }
-    ensures told { OnOk result (AreTold I.list (system sources.now.sources) sources.now.facts.limits.goal_depth (needed_goals sources.now.facts expr.now ty.now) inspect.old inspect.new) }
+    ensures told { OnOk result (ListsAnswers (system sources.now.sources) sources.now.facts.limits.goal_depth (needed_goals sources.now.facts expr.now ty.now) told.old.items told.new.items) }
 {
     let mut gaps = List::new(alloc);
     for goal in needed_goals(alloc, sources.facts(), expr, ty)? {
-        prove_need(alloc, sources, goal, id, inspect, proofs, &mut gaps)?;
+        prove_need(alloc, sources, goal, id, told, proofs, &mut gaps)?;
     }
     Ok(gaps)
 }
 
 /// The expression of this number.
-fn expr_id(at: usize) -> Result<ExprId, AllocError>
+pub(crate) fn expr_id(at: usize) -> Result<ExprId, AllocError>
     ensures { IfOk result (λ id. id.0 ≡ at) }
 {
     // No list of so many expressions is in memory.
@@ -126,23 +140,23 @@ fn expr_id(at: usize) -> Result<ExprId, AllocError>
 }
 
 /// The same of the expression of this number, at the type that the table records.
-fn prove_at<I: ObligationInspector>(
+fn prove_at(
     alloc: Global,
     sources: &ItemSources<'_>,
     expr: &RawExpr,
     at: usize,
     table: &InferenceResult,
-    inspect: &mut Option<&mut I>,
+    told: &mut Vec<(Goal, Answer)>,
     proofs: &mut Vec<Proof>,
 ) -> Result<List<Gap>, AllocError>
     requires { AreProvable sources.now.facts (needs_of sources.now.facts (Some expr.now) (recorded table.now.type_of_expr at)) }
     ensures judged { IfOk result (λ gaps. AreJudged sources.now.facts (system sources.now.sources) (record { 0 = at }) (needs_of sources.now.facts (Some expr.now) (recorded table.now.type_of_expr at)) proofs.old.items proofs.new.items gaps) }
-    ensures told { OnOk result (AreTold I.list (system sources.now.sources) sources.now.facts.limits.goal_depth (needs_of sources.now.facts (Some expr.now) (recorded table.now.type_of_expr at)) inspect.old inspect.new) }
+    ensures told { OnOk result (ListsAnswers (system sources.now.sources) sources.now.facts.limits.goal_depth (needs_of sources.now.facts (Some expr.now) (recorded table.now.type_of_expr at)) told.old.items told.new.items) }
 {
     let id = expr_id(at)?;
     match table.type_of_expr_or_pat(ExprOrPatId::ExprId(id)) {
         Some(ty) => {
-            let gaps = prove_expr(alloc, sources, expr, id, ty, inspect, proofs)?;
+            let gaps = prove_expr(alloc, sources, expr, id, ty, told, proofs)?;
             Ok(gaps)
         }
         None => Ok(List::new(alloc)),
@@ -150,21 +164,21 @@ fn prove_at<I: ObligationInspector>(
 }
 
 /// The same of each expression of a body, in their order; gives the proofs, and each expression's gaps.
-fn prove_exprs<I: ObligationInspector>(
+fn prove_exprs(
     alloc: Global,
     sources: &ItemSources<'_>,
     body: &RawBody,
     table: &InferenceResult,
-    inspect: &mut Option<&mut I>,
+    told: &mut Vec<(Goal, Answer)>,
 ) -> Result<(Vec<Proof>, List<List<Gap>>), AllocError>
     requires { CanAllBeProved sources.now.facts body.now table.now }
     ensures judged { IfOk result (λ made. AreAllJudged sources.now.facts (system sources.now.sources) body.now table.now (length body.now.exprs) made.0.items made.1) }
-    ensures told { OnOk result (AreTold I.list (system sources.now.sources) sources.now.facts.limits.goal_depth (all_needs sources.now.facts body.now table.now) inspect.old inspect.new) }
+    ensures told { OnOk result (ListsAnswers (system sources.now.sources) sources.now.facts.limits.goal_depth (all_needs sources.now.facts body.now table.now) told.old.items told.new.items) }
 {
     let mut proofs = Vec::new(alloc);
     let mut gaps = List::new(alloc);
     for (at, expr) in body.exprs.as_slice().iter().enumerate() {
-        let found = prove_at(alloc, sources, expr, at, table, inspect, &mut proofs)?;
+        let found = prove_at(alloc, sources, expr, at, table, told, &mut proofs)?;
         gaps.push(found)?;
     }
     Ok((proofs, gaps))
@@ -172,19 +186,18 @@ fn prove_exprs<I: ObligationInspector>(
 
 /// Proves each goal that a node of a typed body needs, at the types that are recorded, or says of it that it
 /// has no proof. Only a goal in which `{unknown}` stands may be left without either. Each goal is evaluated
-/// once, in the order of the expressions and of the predicates of each item, and told with its answer.
-/// Nothing else of the table changes. The one error is want of memory.
-pub fn prove_needs<I: ObligationInspector>(
+/// once, in the order of the expressions and of the predicates of each item: these are given back, each with its
+/// answer. Nothing else of the table changes. The one error is want of memory.
+pub fn prove_needs(
     alloc: Global,
     facts: &Facts,
     def: DefWithBodyId,
-    inspect: &mut Option<&mut I>,
     table: &mut InferenceResult,
-) -> Result<(), AllocError>
+) -> Result<Vec<(Goal, Answer)>, AllocError>
     requires { IsTableOf facts.now def table.old }
     ensures table { OnOk result (table.new ≡ with_goals table.new.proofs table.new.expr_gaps table.old) }
     ensures goals { OnOk result ((b : RawBody) → body_of facts.now def ≡ Some b → GoalsHold def (given facts.now def b) table.new) }
-    ensures told { OnOk result ((b : RawBody) → body_of facts.now def ≡ Some b → IsToldAll I.list def (given facts.now def b) table.old inspect.old inspect.new) }
+    ensures told { IfOk result (λ told. (b : RawBody) → body_of facts.now def ≡ Some b → AreAllAnswered def (given facts.now def b) table.new told.items) }
 {
     let Some(id) = facts.body_id(def) else {
         unreachable!()
@@ -193,8 +206,9 @@ pub fn prove_needs<I: ObligationInspector>(
     let body = facts.body(id);
     let sources = ItemSources::new(alloc, facts, scope_item(facts, def))?;
     sources.lawful();
-    let (proofs, gaps) = prove_exprs(alloc, &sources, body, table, inspect)?;
+    let mut told = Vec::new(alloc);
+    let (proofs, gaps) = prove_exprs(alloc, &sources, body, table, &mut told)?;
     table.proofs = List::from_vec(proofs);
     table.expr_gaps = gaps;
-    Ok(())
+    Ok(told)
 }

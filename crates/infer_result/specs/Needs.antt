@@ -97,6 +97,10 @@ pub record HasGap (r : InferenceResult) (e : ExprId) (x : Gap) : Type 0 where
   pub number : ℕ
   pub listed : slice_get gaps number ≡ Some x
 
+-- what could not be shown
+abbrev pub gap_asks : Gap → Asked
+gap_asks (gap.Unproved n q) = asked_goal q
+
 -- it is said at the expression that this has no proof
 abbrev pub IsUnproved : InferenceResult → ExprId → Asked → Type 0
 IsUnproved r e a = (q : Goal) × HasGap r e (gap.Unproved (node.ExprId e) q) × (asked_goal q ≡ a)
@@ -129,13 +133,14 @@ scope_item raw (def.StaticId s) = generic.StaticId s
 scope_item raw (def.VariantId v) = adt_item (slice_get raw.variants v.0)
 
 -- the proofs that are listed are proofs; each goal that a node needs is proved, or it is said that it isn't, or `{unknown}` stands in it;
--- and what is said is so
+-- and what is said is so, and said once at each node
 pub record GoalsHold (d : DefWithBodyId) (g : Given) (r : InferenceResult) : Type 0 where
   pub system : System
   pub of_item : IsSystemOf g.scope.facts (scope_item g.scope.facts d) system
   pub proofs : (s : Fill) → IsFilling s → AreProofs g.scope.facts system (answers system g.scope.facts.limits.goal_depth).Alias s r.proofs
   pub needs : (e : ExprId) (a : Asked) → IsNeeded g r e a → IsProved r a ⊎ (IsUnproved r e a ⊎ HoldsUnknown a.parts)
   pub gaps : (e : ExprId) (x : Gap) → HasGap r e x → IsTrueGap g system r e x
+  pub once : (e : ExprId) (x y : Gap) (j : HasGap r e x) (k : HasGap r e y) → gap_asks x ≡ gap_asks y → j.number ≡ k.number
 
 -- the answer to each goal that a node needs is Yes
 abbrev pub NeedsHold : DefWithBodyId → Given → InferenceResult → Type 0

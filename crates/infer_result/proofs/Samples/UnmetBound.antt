@@ -105,3 +105,10 @@ nothing_needed d q h =
     let literal_is : needs.expr ≡ expr.Lit yes = cc in
     let among = subst (λ x. slice_get (needed_goals given.scope.facts x needs.ty) needs.at ≡ Some (asked_goal q)) literal_is needs.among in
     cc
+
+-- one complaint twice
+pub said_twice : (d : DefWithBodyId) (q : Goal) → (let said = gap.Unproved (node.ExprId (e 0)) q in GoalsHold d given (table_of ((said ∷ said ∷ []) ∷ []))) → ⊥
+said_twice d q h =
+    let said = gap.Unproved (node.ExprId (e 0)) q in
+    let numbers = h.once (e 0) said said (record { gaps = said ∷ said ∷ []; «at» = refl; number = 0; listed = refl }) (record { gaps = said ∷ said ∷ []; «at» = refl; number = 1; listed = refl }) refl in
+    cc

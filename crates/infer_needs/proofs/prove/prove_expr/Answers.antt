@@ -6,24 +6,24 @@ use Rattle.goal_search.specs.Sources.{system}
 use Rattle.goal_facts.specs.Goals.{asked_goal}
 use Rattle.infer_result.specs.Needs.{needed_goals}
 use Rattle.infer_needs.specs.Judged.{AreJudged}
-use Rattle.infer_needs.specs.Told.{AreTold}
+use Rattle.infer_needs.specs.Told.{ListsAnswers}
 use Rattle.infer_needs.proofs.Telling.{tells_none, tells_both}
 use Rattle.infer_needs.proofs.Judging.{judged_none, judged_more, next_provable, all_asked, asked_more}
 use Rattle.infer_needs.proofs.prove.prove_expr.Goals as goal
 
 pub loop-goal-init : goal.loop-goal-init
-loop-goal-init g c =
+loop-goal-init c =
     let raw = c.args.sources.now.facts in
     let f = system c.args.sources.now.sources in
     record {
       items = refl;
       long = cc;
       judged = rw c.new-gaps.ensures (judged_none raw f c.args.id c.args.proofs.now.items);
-      told = tells_none g.I.ObligationInspector.list f raw.limits.goal_depth c.args.inspect.now;
+      told = tells_none f raw.limits.goal_depth c.args.told.now.items;
     }
 
 pub prove_need-requires : goal.prove_need-requires
-prove_need-requires g c =
+prove_need-requires c =
     let at = c.loop-goal in
     let raw = c.args.sources.now.facts in
     let x = c.in-Some.goal in
@@ -33,13 +33,12 @@ prove_need-requires g c =
     next_provable raw (needed_goals raw c.args.expr.now c.args.ty.now) at.yielded (into_iter_items at.goal-iterator) (into_iter_items c.next.new.self) gs x c.requires is whole c.in-Some.ensures.steps.0
 
 pub loop-goal-preserved : goal.loop-goal-preserved
-loop-goal-preserved g c =
+loop-goal-preserved c =
     let at = c.loop-goal in
     let x = c.in-Some.goal in
     let raw = c.args.sources.now.facts in
     let n = raw.limits.goal_depth in
     let f = system c.args.sources.now.sources in
-    let list = g.I.ObligationInspector.list in
     let new = c.prove_need.new in
     let done = c.in_ok-prove_need.ensures in
     let more = asked_more at.yielded x in
@@ -49,12 +48,12 @@ loop-goal-preserved g c =
       long = (let was = at.invariant.long in let gone = c.in-Some.ensures.steps.1 in let short = ap length steps in omega arith);
       judged = subst (λ xs. AreJudged raw f c.args.id xs c.args.proofs.now.items new.proofs.items new.gaps) more
           (judged_more raw f c.args.id (map asked_goal at.yielded) x c.args.proofs.now.items at.proofs.items new.proofs.items at.gaps new.gaps at.invariant.judged done.judged);
-      told = subst (λ xs. AreTold list f n xs c.args.inspect.now new.inspect) more
-          (tells_both list f n (map asked_goal at.yielded) (asked_goal x ∷ []) c.args.inspect.now at.inspect new.inspect at.invariant.told done.told);
+      told = subst (λ xs. ListsAnswers f n xs c.args.told.now.items new.told.items) more
+          (tells_both f n (map asked_goal at.yielded) (asked_goal x ∷ []) c.args.told.now.items at.told.items new.told.items at.invariant.told done.told);
     }
 
 pub returns-clause-judged : goal.returns-clause-judged
-returns-clause-judged g c =
+returns-clause-judged c =
     let at = c.loop-goal in
     let raw = c.args.sources.now.facts in
     let gs = c.in_ok-goal-items.goal-items.items in
@@ -66,7 +65,7 @@ returns-clause-judged g c =
     subst (λ ys. AreJudged raw (system c.args.sources.now.sources) c.args.id ys c.args.proofs.now.items at.proofs.items at.gaps) all at.invariant.judged
 
 pub returns-clause-told : goal.returns-clause-told
-returns-clause-told g c =
+returns-clause-told c =
     let at = c.loop-goal in
     let raw = c.args.sources.now.facts in
     let gs = c.in_ok-goal-items.goal-items.items in
@@ -75,4 +74,4 @@ returns-clause-told g c =
     let whole = at.invariant.items ∙ c.into_iter-goal-iterator.ensures.into_iter_gives.0 in
     let empty : into_iter_items at.goal-iterator ≡ [] = nil_from_length _ (sym at.invariant.long ∙ c.in-None.ensures.steps.0) in
     let all = all_asked xs at.yielded (into_iter_items at.goal-iterator) gs is whole empty in
-    subst (λ ys. AreTold g.I.ObligationInspector.list (system c.args.sources.now.sources) raw.limits.goal_depth ys c.args.inspect.now at.inspect) all at.invariant.told
+    subst (λ ys. ListsAnswers (system c.args.sources.now.sources) raw.limits.goal_depth ys c.args.told.now.items at.told.items) all at.invariant.told

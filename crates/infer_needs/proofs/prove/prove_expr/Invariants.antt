@@ -3,13 +3,13 @@ use Rattle.std.specs.Vec.Iter.{into_iter_items, into_iter_len}
 use Rattle.goal_search.specs.Sources.{system}
 use Rattle.goal_facts.specs.Goals.{asked_goal}
 use Rattle.infer_needs.specs.Judged.{AreJudged}
-use Rattle.infer_needs.specs.Told.{AreTold}
+use Rattle.infer_needs.specs.Told.{ListsAnswers}
 use Rattle.infer_needs.proofs.prove.prove_expr.Given as goal
 
 abbrev pub invariant-loop-goal : goal.invariant-loop-goal
-invariant-loop-goal g l = record {
+invariant-loop-goal l = record {
   items : l.yielded ++ into_iter_items l.goal-iterator ≡ into_iter_items l.initial.goal-iterator;
   long : into_iter_len l.goal-iterator ≡ length (into_iter_items l.goal-iterator);
   judged : AreJudged l.sources.facts (system l.sources.sources) l.id (map asked_goal l.yielded) l.fn.proofs.items l.proofs.items l.gaps;
-  told : AreTold g.I.ObligationInspector.list (system l.sources.sources) l.sources.facts.limits.goal_depth (map asked_goal l.yielded) l.fn.inspect l.inspect;
+  told : ListsAnswers (system l.sources.sources) l.sources.facts.limits.goal_depth (map asked_goal l.yielded) l.fn.told.items l.told.items;
 }

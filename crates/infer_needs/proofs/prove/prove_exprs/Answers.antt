@@ -3,33 +3,32 @@ use Rattle.std.specs.Prelude.{Some, slice_get}
 use Rattle.std.proofs.lemmas.Option.{slice_get_read}
 use Rattle.goal_search.specs.Sources.{system}
 use Rattle.infer_needs.specs.Judged.{AreAllJudged}
-use Rattle.infer_needs.specs.Told.{AreTold, first_needs, needs_at}
+use Rattle.infer_needs.specs.Told.{ListsAnswers, first_needs, needs_at}
 use Rattle.infer_needs.proofs.Telling.{tells_none, tells_both, tells_here, first_more}
 use Rattle.infer_needs.proofs.Judging.{all_none, all_more, judged_here}
 use Rattle.infer_needs.proofs.prove.prove_exprs.Goals as goal
 
 pub loop-at-init : goal.loop-at-init
-loop-at-init g c =
+loop-at-init c =
     let raw = c.args.sources.now.facts in
     let f = system c.args.sources.now.sources in
     record {
       judged = rw (c.new-gaps.ensures, c.new-proofs.ensures.items) (all_none raw f c.args.body.now c.args.table.now);
-      told = tells_none g.I.ObligationInspector.list f raw.limits.goal_depth c.args.inspect.now;
+      told = tells_none f raw.limits.goal_depth c.args.told.now.items;
     }
 
 pub prove_at-requires : goal.prove_at-requires
-prove_at-requires g c =
+prove_at-requires c =
     let at = c.loop-at in
     let found : slice_get c.args.body.now.exprs at.at ≡ Some c.expr-item.result = ap (λ xs. slice_get xs at.at) (sym c.as_slice-expr-items.ensures) ∙ slice_get_read _ _ at.at _ refl c.loop-at-test.true c.expr-item.is in
     c.requires at.at c.expr-item.result found
 
 pub loop-at-preserved : goal.loop-at-preserved
-loop-at-preserved g c =
+loop-at-preserved c =
     let at = c.loop-at in
     let raw = c.args.sources.now.facts in
     let n = raw.limits.goal_depth in
     let f = system c.args.sources.now.sources in
-    let list = g.I.ObligationInspector.list in
     let b = c.args.body.now in
     let r = c.args.table.now in
     let x = c.expr-item.result in
@@ -39,6 +38,6 @@ loop-at-preserved g c =
     record {
       judged = subst (λ gss. AreAllJudged raw f b r (at.at + 1) new.proofs.items gss) (sym c.in_ok-push.ensures.ok)
           (all_more raw f b r at.at at.proofs.items new.proofs.items at.gaps c.in_ok-found.found at.invariant.judged (judged_here raw f b r at.at x at.proofs.items new.proofs.items c.in_ok-found.found found done.judged));
-      told = subst (λ xs. AreTold list f n xs c.args.inspect.now new.inspect) (first_more raw b r at.at)
-          (tells_both list f n (first_needs raw b r at.at) (needs_at raw b r at.at) c.args.inspect.now at.inspect new.inspect at.invariant.told (tells_here list f n raw b r at.at x at.inspect new.inspect found done.told));
+      told = subst (λ xs. ListsAnswers f n xs c.args.told.now.items new.told.items) (first_more raw b r at.at)
+          (tells_both f n (first_needs raw b r at.at) (needs_at raw b r at.at) c.args.told.now.items at.told.items new.told.items at.invariant.told (tells_here f n raw b r at.at x at.told.items new.told.items found done.told));
     }

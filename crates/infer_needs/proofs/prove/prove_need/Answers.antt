@@ -5,18 +5,18 @@ use Rattle.infer_needs.proofs.Judging.{refused, not_yes}
 use Rattle.infer_needs.proofs.prove.prove_need.Goals as goal
 
 pub returns-in_ok-prove_goal-in-Yes-clause-told : goal.returns-in_ok-prove_goal-in-Yes-clause-told
-returns-in_ok-prove_goal-in-Yes-clause-told g c =
+returns-in_ok-prove_goal-in-Yes-clause-told c =
     let answer = c.in_ok-evaluate.field-0 in
     let told = c.in_ok-evaluate.ensures in
-    tells_one g.I.ObligationInspector.list (system c.args.sources.now.sources) c.args.sources.now.facts.limits.goal_depth c.args.goal answer c.args.inspect.now c.evaluate.new.inspect told.answer told.told
+    tells_one (system c.args.sources.now.sources) c.args.sources.now.facts.limits.goal_depth c.args.goal answer c.args.told.now.items c.evaluate.new.told.items told.answer told.told
 
 pub returns-in_ok-complain-in-No : goal.returns-in_ok-complain-in-No
-returns-in_ok-complain-in-No g c =
+returns-in_ok-complain-in-No c =
     let raw = c.args.sources.now.facts in
     let f = system c.args.sources.now.sources in
     let answer = c.in_ok-evaluate.field-0 in
     let told = c.in_ok-evaluate.ensures in
     record {
       judged = refused raw f c.args.expr c.args.goal c.args.proofs.now.items c.args.gaps.now c.complain.new.gaps (not_yes f raw.limits.goal_depth (asked_goal c.args.goal) answer c.in-No.is told.answer) c.in_ok-complain-in-No.ensures;
-      told = tells_one g.I.ObligationInspector.list f raw.limits.goal_depth c.args.goal answer c.args.inspect.now c.evaluate.new.inspect told.answer told.told;
+      told = tells_one f raw.limits.goal_depth c.args.goal answer c.args.told.now.items c.evaluate.new.told.items told.answer told.told;
     }

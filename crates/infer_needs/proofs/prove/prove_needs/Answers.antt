@@ -1,18 +1,22 @@
-use Rattle.std.proofs.Common.{◌≡◌, length, sym, ap, ◌∙◌, subst}
+use Rattle.std.proofs.Common.{◌≡◌, ◌++◌, List, length, sym, ap, ◌∙◌, subst}
 use Rattle.std.specs.Prelude.{Some, slice_get}
+use Rattle.hir_types.specs.declared.goal.Goal.{Goal}
+use Rattle.hir_raw.specs.declared.raw.RawFacts.{RawFacts}
+use Rattle.goal_search.specs.declared.answer.Answer.{Answer}
 use Rattle.goal_search.specs.Sources.{system}
 use Rattle.goal_facts.specs.Systems.{IsSystemOf}
 use Rattle.infer_result.specs.Needs.{with_goals, scope_item, GoalsHold}
 use Rattle.infer_result.specs.Table.{recorded}
 use Rattle.infer_result.specs.Typed.{given}
 use Rattle.infer_needs.specs.Judged.{AreProvable, AreAllJudged}
-use Rattle.infer_needs.specs.Told.{needs_of}
+use Rattle.infer_needs.specs.Told.{needs_of, all_needs, AreAnswered}
+use Rattle.infer_needs.proofs.Telling.{needs_stay}
 use Rattle.infer_needs.proofs.Provable.{needs_provable}
 use Rattle.infer_needs.proofs.Holding.{same_body, goals_hold}
 use Rattle.infer_needs.proofs.prove.prove_needs.Goals as goal
 
 pub prove_exprs-requires : goal.prove_exprs-requires
-prove_exprs-requires g c n x at =
+prove_exprs-requires c n x at =
     let raw = c.args.facts.now in
     let same : c.body-body.result.now ≡ c.requires.body = same_body raw c.args.def c.in-Some.id c.body-body.result.now c.requires.body (sym c.body_id.ensures ∙ c.in-Some.is) c.body-body.ensures c.requires.is_body in
     let found : slice_get c.requires.body.exprs n ≡ Some x = sym (ap (λ b. slice_get b.exprs n) same) ∙ at in
@@ -20,7 +24,7 @@ prove_exprs-requires g c n x at =
     (needs_provable raw c.lawful.ensures c.args.def c.args.table.now c.requires n x found)
 
 pub returns-clause-goals : goal.returns-clause-goals
-returns-clause-goals g c b is =
+returns-clause-goals c b is =
     let raw = c.args.facts.now in
     let d = c.args.def in
     let r = c.args.table.now in
@@ -36,3 +40,24 @@ returns-clause-goals g c b is =
     let all : AreAllJudged raw f b r (length b.exprs) ps gss =
     subst (λ x. AreAllJudged raw f x r (length x.exprs) ps gss) same (subst (λ z. AreAllJudged z f body r (length body.exprs) ps gss) facts c.in_ok-proofs.ensures.judged) in
     subst (λ qs. GoalsHold d (given raw d b) (with_goals qs gss r)) (sym c.from_vec.ensures) (goals_hold raw d b f r ps gss of_item all)
+
+pub returns-clause-told : goal.returns-clause-told
+returns-clause-told c b is =
+    let raw = c.args.facts.now in
+    let d = c.args.def in
+    let r = c.args.table.now in
+    let made = c.in_ok-sources.sources in
+    let f = system made.sources in
+    let facts : made.facts ≡ raw = c.in_ok-sources.ensures.facts in
+    let item : made.item ≡ scope_item raw d = c.in_ok-sources.ensures.item ∙ c.scope_item.ensures in
+    let body = c.body-body.result.now in
+    let same : body ≡ b = same_body raw d c.in-Some.id body b (sym c.body_id.ensures ∙ c.in-Some.is) c.body-body.ensures is in
+    let listed = c.in_ok-proofs.ensures.told in
+    let all : c.prove_exprs.new.told.items ≡ listed.told = listed.behind ∙ ap (λ (ts : List (Goal × Answer)). ts ++ listed.told) c.new-told.ensures.items in
+    record {
+      system = f;
+      of_item = subst (λ i. IsSystemOf raw i f) item (subst (λ z. IsSystemOf z made.item f) facts c.lawful-2.ensures);
+      answers = subst (λ xs. AreAnswered f raw.limits.goal_depth xs c.prove_exprs.new.told.items) (sym (needs_stay raw b r c.from_vec.result c.in_ok-proofs.gaps (length b.exprs)))
+          (subst (AreAnswered f raw.limits.goal_depth (all_needs raw b r)) (sym all)
+          (subst (λ x. AreAnswered f raw.limits.goal_depth (all_needs raw x r) listed.told) same (subst (λ (z : RawFacts). AreAnswered f z.limits.goal_depth (all_needs z body r) listed.told) facts listed.answers)));
+    }

@@ -1,0 +1,476 @@
+-- Where no trait has an associated type, the sources of goals of a function have types in scope alone.
+use Rattle.std.specs.Prelude.{◌≡◌, ◌<◌, ◌≤◌, ◌+◌, ◌++◌, ℕ, zero, suc, true, List, [], ◌∷◌, length, map, flat_map, slice_get, Option, Some, None, option_map, IsTrue, IfSome, not, refl}
+use Rattle.std.specs.List.{range_with_len}
+use Rattle.std.proofs.Common.{inl, inr, sym, ap, ◌∙◌, subst, arith}
+use Rattle.std.proofs.lemmas.Bool.{ltb-true, lt-ltb, or_left, or_right}
+use Rattle.std.proofs.lemmas.List.{length-map}
+use Rattle.hir_types.specs.declared.ids.DefWithBodyId.{DefWithBodyId}
+use Rattle.hir_types.specs.declared.ids.DefWithBodyId.TheVariants as def
+use Rattle.hir_types.specs.declared.ids.FunctionId.{FunctionId}
+use Rattle.hir_types.specs.declared.ids.GenericDefId.{GenericDefId}
+use Rattle.hir_types.specs.declared.ids.GenericDefId.TheVariants as generic
+use Rattle.hir_types.specs.declared.ids.TraitId.{TraitId}
+use Rattle.hir_types.specs.declared.ids.TypeRefId.{TypeRefId}
+use Rattle.hir_types.specs.declared.head.Head.TheVariants as head
+use Rattle.hir_types.specs.declared.head.Hole.{Hole}
+use Rattle.hir_types.specs.declared.ty.IntegerTy.TheVariants as integer
+use Rattle.hir_types.specs.declared.ty.GenericArg.{GenericArg}
+use Rattle.hir_types.specs.declared.ty.GenericArg.TheVariants as arg
+use Rattle.hir_types.specs.declared.ty.Ty.{Ty}
+use Rattle.hir_types.specs.declared.ty.Ty.TheVariants as ty
+use Rattle.hir_types.specs.Assigned.{with_params}
+use Rattle.hir_types.specs.Folds.{map_twice}
+use Rattle.hir_types.specs.Instances.{param_at, types_args_replaced}
+use Rattle.hir_types.specs.Replacements.{replaced_bool, replaced_char, replaced_int, replaced_uint, replaced_var, replaced_int_var, replaced_tuple, replaced_adt, replaced_fn_def}
+use Rattle.hir_types.specs.Terms.{Term, hole, leaf, pair, chain, apply, occurs, hole_number, type_part}
+use Rattle.hir_types.specs.TermLaws.{term_var, term_int_var}
+use Rattle.hir_raw.specs.declared.raw.RawAdt.{RawAdt}
+use Rattle.hir_raw.specs.declared.raw.RawAssocType.{RawAssocType}
+use Rattle.hir_raw.specs.declared.raw.RawFn.{RawFn}
+use Rattle.hir_raw.specs.declared.raw.RawGoal.{RawGoal}
+use Rattle.hir_raw.specs.declared.raw.RawGoal.TheVariants as goal
+use Rattle.hir_raw.specs.declared.raw.RawImpl.{RawImpl}
+use Rattle.hir_raw.specs.declared.raw.RawTrait.{RawTrait}
+use Rattle.hir_raw.specs.declared.raw.RawTraitRef.{RawTraitRef}
+use Rattle.hir_raw.specs.declared.raw.RawType.{RawType}
+use Rattle.hir_raw.specs.declared.raw.RawType.TheVariants as type
+use Rattle.hir_raw.specs.declared.raw.RawBody.{RawBody}
+use Rattle.hir_raw.specs.declared.raw.RawFacts.{RawFacts}
+use Rattle.hir_raw.specs.Goals.{arg_types}
+use Rattle.hir_raw.specs.Scope.{Scope, adt_params, has_params, scope_of, count_or_none}
+use Rattle.hir_raw.specs.Signatures.{type_args, at_args}
+use Rattle.hir_raw.specs.WrittenTypes.{written_type}
+use Rattle.hir_ids.specs.Entries.{AllHold}
+use Rattle.hir_ids.specs.GoalIds.{TraitRefExists, GoalExists, GoalsExist, TraitIdsExist}
+use Rattle.hir_ids.specs.Projections.{is_projection, IsNoProjection}
+use Rattle.hir_counts.specs.Counts.{TypeFits, GoalFits, AdtFits, TraitFits, ImplFits, ImplTraitFits}
+use Rattle.hir_counts.specs.Standing.{HasNoHole, params_in, wrongs_in}
+use Rattle.hir_counts.specs.Uses.{goal_uses, goals_uses, impl_uses, trait_ref_uses, fn_uses, variant_uses, abstract_uses, item_uses}
+use Rattle.hir_laws.specs.Bodies.{body_of}
+use Rattle.hir_laws.specs.Lawful.{IsLawful}
+use Rattle.hir_laws.specs.LawfulFacts.{type_ids_exist, adt_ids, fn_ids, fns_fit, holes_fit}
+use Rattle.hir_laws.specs.NoHoles.{In, in_first, in_last, in_flat, type_there}
+use Rattle.hir_laws.specs.WrittenFits.{FitsUnder}
+use Rattle.infer_table.specs.Preserved.{Shape, TermRole, whole, part, rest, IsMadeOf, width_apply}
+use Rattle.infer_table.specs.TermLemmas.{hole_eq_same}
+use Rattle.goal_answers.specs.Goals.{Kind, implements, projects, Asked, Rule, System, Each, key}
+use Rattle.goal_answers.specs.Reading.{Fill}
+use Rattle.goal_answers.specs.Rows.{IsNth}
+use Rattle.goal_answers.specs.Selecting.{IsTraitKind}
+use Rattle.goal_facts.specs.Arguments.{holes, own_params, type_at, args_at, goal_at}
+use Rattle.goal_facts.specs.Environment.{preds_or_none, trait_preds, trait_holes, IsStated, IsSuper, Follows}
+use Rattle.goal_facts.specs.Impls.{impl_holes, assoc_rule, rules_for, impl_rules}
+use Rattle.goal_facts.specs.Systems.{fact, IsSystemOf}
+use Rattle.goal_facts.proofs.Systems.{each_append, each_get}
+use Rattle.goal_prove.proofs.NoAlias.{impls_exist, no_listed}
+use Rattle.goal_prove.proofs.Written.{args_are}
+use Rattle.goal_select.specs.Steps.{HasHeadsOf, RuleHasHeadsOf, SystemHasHeadsOf}
+use Rattle.infer_result.specs.Needs.{scope_item}
+use Rattle.infer_ctx.specs.Fine.{is_fine_head, item_params, HasFineHeads, Every}
+use Rattle.infer_ctx.proofs.FineTypes.{every_at, heads_bool, heads_char, heads_integer, heads_param, heads_tuple, heads_adt, heads_fn_def}
+use Rattle.infer_ctx.proofs.Lists.{found}
+use Rattle.infer_ctx.proofs.OverTypes.{over_fine}
+use Rattle.infer_ctx.proofs.Written.{written_heads}
+
+-- ---- lists
+
+each_mapped : {X Y : Type 0} (P : Y → Type 0) (f : X → Y) (xs : List X) → ((i : ℕ) (x : X) → slice_get xs i ≡ Some x → P (f x)) → Each P (map f xs)
+each_mapped P f [] h = tt
+each_mapped P f (x ∷ xs) h = (h 0 x refl, each_mapped P f xs (λ i y at. h (suc i) y at))
+
+each_flat : {X Y : Type 0} (P : Y → Type 0) (f : X → List Y) (xs : List X) → ((i : ℕ) (x : X) → slice_get xs i ≡ Some x → Each P (f x)) → Each P (flat_map f xs)
+each_flat P f [] h = tt
+each_flat P f (x ∷ xs) h = each_append P (f x) (flat_map f xs) (h 0 x refl) (each_flat P f xs (λ i y at. h (suc i) y at))
+
+in_mapped : {X Y : Type 0} (f : X → Y) (xs : List X) (k : ℕ) (x : X) → slice_get xs k ≡ Some x → In (map f xs) (f x)
+in_mapped f [] k x at = absurd (cc)
+in_mapped f (z ∷ xs) zero x at = (let same : z ≡ x = cc in (zero, λ i. Some (f (same i))))
+in_mapped f (z ∷ xs) (suc k) x at = let q = in_mapped f xs k x at in (suc q.0, q.1)
+
+-- ---- types of fine heads at types of fine heads
+
+heads_var : (sc : Scope) (n : ℕ) → HasFineHeads sc (ty.Var n)
+heads_var sc n = subst (IsMadeOf (is_fine_head sc) whole) (sym (term_var n)) tt
+
+heads_int_var : (sc : Scope) (n : ℕ) → HasFineHeads sc (ty.IntVar n)
+heads_int_var sc n = subst (IsMadeOf (is_fine_head sc) whole) (sym (term_int_var n)) tt
+
+module _ (sc : Scope) (ts : List Ty) (all : Every (HasFineHeads sc) ts) where
+  abbrev Own : Scope
+  Own = record { facts = sc.facts; params = length ts }
+
+  abbrev HeadsAt : Ty → Type 0
+  HeadsAt t = HasFineHeads sc (at_args ts t)
+
+  heads_by : (t u : Ty) → at_args ts t ≡ u → HasFineHeads sc u → HeadsAt t
+  heads_by t u e h = subst (HasFineHeads sc) (sym e) h
+
+  all_heads_at : (us : List Ty) → Every HeadsAt us → Every (HasFineHeads sc) (map (at_args ts) us)
+  all_heads_at [] h = tt
+  all_heads_at (u ∷ us) h = (h.0, all_heads_at us h.1)
+
+  takes : (o : Option ℕ) (us : List Ty) → has_params o (length us) ≡ true → has_params o (length (map (at_args ts) us)) ≡ true
+  takes o us h = ap (has_params o) (length-map us (at_args ts)) ∙ h
+
+  pub heads_at_args : (t : Ty) → HasFineHeads Own t → HasFineHeads sc (at_args ts t)
+  heads_at_args = over_fine Own HeadsAt (record {
+    bool = heads_by ty.Bool ty.Bool (replaced_bool (with_params (type_args ts))) (heads_bool sc);
+    char = heads_by ty.Char ty.Char (replaced_char (with_params (type_args ts))) (heads_char sc);
+    int = λ i. heads_by (ty.Int i) (ty.Int i) (replaced_int (with_params (type_args ts)) i) (heads_integer sc (integer.Int i));
+    uint = λ i. heads_by (ty.Uint i) (ty.Uint i) (replaced_uint (with_params (type_args ts)) i) (heads_integer sc (integer.Uint i));
+    var = λ n. heads_by (ty.Var n) (ty.Var n) (replaced_var (with_params (type_args ts)) n) (heads_var sc n);
+    int_var = λ n. heads_by (ty.IntVar n) (ty.IntVar n) (replaced_int_var (with_params (type_args ts)) n) (heads_int_var sc n);
+    tuple = λ us h. heads_by (ty.Tuple us) (ty.Tuple (map (at_args ts) us)) (replaced_tuple (with_params (type_args ts)) us) (heads_tuple sc (map (at_args ts) us) (all_heads_at us h));
+    adt = λ id us k h.
+        let vs = map (at_args ts) us in
+        heads_by (ty.Adt id (type_args us)) (ty.Adt id (type_args vs)) (replaced_adt (with_params (type_args ts)) id (type_args us) ∙ ap (ty.Adt id) (types_args_replaced (with_params (type_args ts)) us))
+        (heads_adt sc id vs (takes (adt_params sc.facts id) us k) (all_heads_at us h));
+    fn_def = λ id us k h.
+        let vs = map (at_args ts) us in
+        heads_by (ty.FnDef id (type_args us)) (ty.FnDef id (type_args vs)) (replaced_fn_def (with_params (type_args ts)) id (type_args us) ∙ ap (ty.FnDef id) (types_args_replaced (with_params (type_args ts)) us))
+        (heads_fn_def sc id vs (takes (item_params sc.facts id) us k) (all_heads_at us h));
+    param = λ n k.
+        let q = found ts n (ltb-true n (length ts) k) in
+        heads_by (ty.Param n) q.0 (param_at ts n q.0 q.1) (every_at (HasFineHeads sc) ts n q.0 all q.1);
+  })
+
+-- ---- arguments: a hole for each parameter, or each by itself
+
+pub every_mapped : (P : Ty → Type 0) (f : ℕ → Ty) (n from : ℕ) → ((k : ℕ) → from ≤ k → k < from + n → P (f k)) → Every P (map f (range_with_len from n))
+every_mapped P f zero from h = tt
+every_mapped P f (suc n) from h = (h from (omega arith) (omega arith), every_mapped P f n (from + 1) (λ k lo hi. h k (omega (arith, lo)) (omega (arith, hi))))
+
+range_long : (n from : ℕ) → length (range_with_len from n) ≡ n
+range_long zero from = refl
+range_long (suc n) from = ap suc (range_long n (from + 1))
+
+abbrev pub hole_types : ℕ → List Ty
+hole_types n = map (λ k. ty.Var k) (range_with_len 0 n)
+
+abbrev pub param_types : ℕ → List Ty
+param_types n = map (λ k. ty.Param k) (range_with_len 0 n)
+
+holes_are : (n : ℕ) → type_args (hole_types n) ≡ holes n
+holes_are n = map_twice arg.Ty (λ k. ty.Var k) (range_with_len 0 n)
+
+own_are : (n : ℕ) → type_args (param_types n) ≡ own_params n
+own_are n = map_twice arg.Ty (λ k. ty.Param k) (range_with_len 0 n)
+
+holes_long : (n : ℕ) → length (hole_types n) ≡ n
+holes_long n = length-map (range_with_len 0 n) (λ k. ty.Var k) ∙ range_long n 0
+
+own_long : (n : ℕ) → length (param_types n) ≡ n
+own_long n = length-map (range_with_len 0 n) (λ k. ty.Param k) ∙ range_long n 0
+
+module _ (sc : Scope) where
+  hole_heads : (n : ℕ) → Every (HasFineHeads sc) (hole_types n)
+  hole_heads n = every_mapped (HasFineHeads sc) (λ k. ty.Var k) n 0 (λ k lo hi. heads_var sc k)
+
+  own_heads : Every (HasFineHeads sc) (param_types sc.params)
+  own_heads = every_mapped (HasFineHeads sc) (λ k. ty.Param k) sc.params 0 (λ k lo hi. (let h : k < sc.params = omega (arith, hi) in heads_param sc k (lt-ltb k sc.params h)))
+
+-- ---- written goals
+
+module _ (raw : RawFacts) (law : IsLawful raw) (none : raw.aliases ≡ []) where
+  no_alias : (k : ℕ) → k < length raw.aliases → ⊥
+  no_alias k h = let e = ap length none in omega (arith, e, h)
+
+  -- no written type names an associated type
+  no_projection : (i : ℕ) → IsNoProjection raw i
+  no_projection i = by (slice_get raw.types i) refl
+    where
+      by : (o : Option RawType) → slice_get raw.types i ≡ o → IsTrue (not (is_projection o))
+      by (Some (type.Projection a ts)) at = absurd (no_alias a.0 (type_ids_exist raw law i (type.Projection a ts) at).named)
+      by _ at = refl
+
+  -- what a goal or an impl is written with
+  pub record IsFit (n : ℕ) (w : TypeRefId) : Type 0 where
+    pub fits : FitsUnder raw n w.0
+    pub no_hole : HasNoHole raw.types w
+
+  used_fits : (n : ℕ) (w : TypeRefId) → w.0 < length raw.types → TypeFits (params_in raw) (wrongs_in raw) n w → In (item_uses raw) (Some w.0) → IsFit n w
+  used_fits n w within fit used = record {
+    fits = record { within = within; direct = no_projection w.0; params = fit.0; args = fit.1 };
+    no_hole =
+        (let there = type_there raw.types w.0 within in
+        elim (holes_fit raw law w.0 there.0 there.1) as (λ _. HasNoHole raw.types w) [
+          | inl h ↦ h
+          | inr once ↦ absurd (once.items used.0 used.1)
+        ]);
+  }
+
+  abbrev pub AreFit : ℕ → List TypeRefId → Type 0
+  AreFit n ws = (k : ℕ) (w : TypeRefId) → slice_get ws k ≡ Some w → IsFit n w
+
+  -- each type of the goal is
+  abbrev pub GoalIsFit : ℕ → RawGoal → Type 0
+  GoalIsFit n (goal.Trait r) = AreFit n (arg_types r.args)
+  GoalIsFit n (goal.Projection k xs w) = ⊥
+
+  used_goal_fits : (n : ℕ) (g : RawGoal) → GoalExists raw g → GoalFits (params_in raw) (wrongs_in raw) raw n g → ((y : Option ℕ) → In (goal_uses g) y → In (item_uses raw) y) → GoalIsFit n g
+  used_goal_fits n (goal.Trait r) e fit used = λ k w at. used_fits n w (e.args k w at) (fit.each k w at) (used (Some w.0) (in_mapped (λ (t : TypeRefId). Some t.0) (arg_types r.args) k w at))
+  used_goal_fits n (goal.Projection k xs w) e fit used = no_alias k.0 e.0
+
+  module _ (sc : Scope) (same : sc.facts ≡ raw) (ts : List Ty) (all : Every (HasFineHeads sc) ts) where
+    abbrev P : Shape
+    P = is_fine_head sc
+
+    type_heads : (w : TypeRefId) → IsFit (length ts) w → IsMadeOf P whole (type_at raw (type_args ts) w)
+    type_heads w h =
+        let own : HasFineHeads (record { facts = raw; params = length ts }) (written_type raw.types w) = written_heads raw law (length ts) w h.fits h.no_hole in
+        heads_at_args sc ts all (written_type raw.types w) (subst (λ (r : RawFacts). HasFineHeads (record { facts = r; params = length ts }) (written_type raw.types w)) (sym same) own)
+
+    chain_heads : (ws : List TypeRefId) → AreFit (length ts) ws → IsMadeOf P rest (chain (map (λ w. type_part (type_at raw (type_args ts) w)) ws))
+    chain_heads [] h = tt
+    chain_heads (w ∷ ws) h = ((tt, type_heads w (h 0 w refl)), chain_heads ws (λ k u at. h (suc k) u at))
+
+    args_heads : (ws : List TypeRefId) → AreFit (length ts) ws → IsMadeOf P rest (args_at raw (type_args ts) ws)
+    args_heads ws h = subst (IsMadeOf P rest) (sym (args_are raw (type_args ts) ws)) (chain_heads ws h)
+
+    pub goal_has_heads : (g : RawGoal) → GoalIsFit (length ts) g → HasHeadsOf P (goal_at raw (type_args ts) g)
+    goal_has_heads (goal.Trait r) h = args_heads (arg_types r.args) h
+    goal_has_heads (goal.Projection k xs w) h = absurd h
+
+  -- ---- the predicates of items
+
+  in_abstract : (y : Option ℕ) → In (abstract_uses raw) y → In (item_uses raw) y
+  in_abstract y h = in_last (flat_map variant_uses raw.variants) (flat_map fn_uses raw.fns ++ abstract_uses raw) y (in_last (flat_map fn_uses raw.fns) (abstract_uses raw) y h)
+
+  in_goals : (gs : List RawGoal) (k : ℕ) (g : RawGoal) → slice_get gs k ≡ Some g → (y : Option ℕ) → In (goal_uses g) y → In (goals_uses gs) y
+  in_goals gs k g at y h = in_flat goal_uses gs k g y at h
+
+  abbrev adts_use : List (Option ℕ)
+  adts_use = flat_map (λ (a : RawAdt). goals_uses a.preds) raw.adts
+
+  abbrev fns_use : List (Option ℕ)
+  fns_use = flat_map (λ (f : RawFn). goals_uses f.preds) raw.fns
+
+  abbrev traits_use : List (Option ℕ)
+  traits_use = flat_map (λ (t : RawTrait). goals_uses t.preds) raw.traits
+
+  abbrev bounds_use : List (Option ℕ)
+  bounds_use = flat_map (λ a. goals_uses a.bounds) raw.aliases
+
+  abbrev impl_preds_use : List (Option ℕ)
+  impl_preds_use = flat_map (λ (p : RawImpl). goals_uses p.preds) raw.impls
+
+  abbrev impls_use : List (Option ℕ)
+  impls_use = flat_map impl_uses raw.impls
+
+  in_adts : (y : Option ℕ) → In adts_use y → In (item_uses raw) y
+  in_adts y h = in_abstract y (in_first adts_use (fns_use ++ (traits_use ++ (bounds_use ++ (impl_preds_use ++ impls_use)))) y h)
+
+  behind_adts : (y : Option ℕ) → In (fns_use ++ (traits_use ++ (bounds_use ++ (impl_preds_use ++ impls_use)))) y → In (item_uses raw) y
+  behind_adts y h = in_abstract y (in_last adts_use _ y h)
+
+  in_fns : (y : Option ℕ) → In fns_use y → In (item_uses raw) y
+  in_fns y h = behind_adts y (in_first fns_use (traits_use ++ (bounds_use ++ (impl_preds_use ++ impls_use))) y h)
+
+  in_traits : (y : Option ℕ) → In traits_use y → In (item_uses raw) y
+  in_traits y h = behind_adts y (in_last fns_use _ y (in_first traits_use (bounds_use ++ (impl_preds_use ++ impls_use)) y h))
+
+  behind_bounds : (y : Option ℕ) → In (impl_preds_use ++ impls_use) y → In (item_uses raw) y
+  behind_bounds y h = behind_adts y (in_last fns_use _ y (in_last traits_use _ y (in_last bounds_use _ y h)))
+
+  in_impl_preds : (y : Option ℕ) → In impl_preds_use y → In (item_uses raw) y
+  in_impl_preds y h = behind_bounds y (in_first impl_preds_use impls_use y h)
+
+  in_impls : (y : Option ℕ) → In impls_use y → In (item_uses raw) y
+  in_impls y h = behind_bounds y (in_last impl_preds_use impls_use y h)
+
+  adts_fit : AllHold (λ i a. AdtFits raw a) raw.adts
+  adts_fit = law.all.1.1.1.1.1.1.1.1.1.1.1.1.1.1.1.1.1.1.1.1.1.1.0
+
+  traits_fit : AllHold (λ i t. TraitFits raw t) raw.traits
+  traits_fit = law.all.1.1.1.1.1.1.1.1.1.1.1.1.1.1.1.1.1.1.1.1.1.1.1.1.1.0
+
+  impls_fit : AllHold (λ i p. ImplFits raw p) raw.impls
+  impls_fit = law.all.1.1.1.1.1.1.1.1.1.1.1.1.1.1.1.1.1.1.1.1.1.1.1.1.1.1.1.0
+
+  traits_exist : AllHold (TraitIdsExist raw) raw.traits
+  traits_exist = law.all.1.1.1.1.1.1.1.1.1.1.1.1.1.1.1.1.1.0
+
+  adts_exist : (a : ℕ) (x : RawAdt) → slice_get raw.adts a ≡ Some x → GoalsExist raw x.preds
+  adts_exist a x at = (adt_ids raw law a x at).preds
+
+  pub fn_preds_fit : (f : ℕ) (x : RawFn) → slice_get raw.fns f ≡ Some x → (k : ℕ) (g : RawGoal) → slice_get x.preds k ≡ Some g → GoalIsFit (length x.params) g
+  fn_preds_fit f x here k g at =
+      used_goal_fits (length x.params) g ((fn_ids raw law f x here).preds k g at) ((fns_fit raw law f x here).preds k g at)
+      (λ y u. in_fns y (in_flat (λ (z : RawFn). goals_uses z.preds) raw.fns f x y here (in_goals x.preds k g at y u)))
+
+  pub adt_preds_fit : (a : ℕ) (x : RawAdt) → slice_get raw.adts a ≡ Some x → (k : ℕ) (g : RawGoal) → slice_get x.preds k ≡ Some g → GoalIsFit (length x.params) g
+  adt_preds_fit a x here k g at =
+      used_goal_fits (length x.params) g (adts_exist a x here k g at) ((adts_fit a x here).preds k g at)
+      (λ y u. in_adts y (in_flat (λ (z : RawAdt). goals_uses z.preds) raw.adts a x y here (in_goals x.preds k g at y u)))
+
+  trait_preds_fit : (t : ℕ) (x : RawTrait) → slice_get raw.traits t ≡ Some x → (k : ℕ) (g : RawGoal) → slice_get x.preds k ≡ Some g → GoalIsFit (length x.params + 1) g
+  trait_preds_fit t x here k g at =
+      used_goal_fits (length x.params + 1) g ((traits_exist t x here).preds k g at) (traits_fit t x here k g at)
+      (λ y u. in_traits y (in_flat (λ (z : RawTrait). goals_uses z.preds) raw.traits t x y here (in_goals x.preds k g at y u)))
+
+  impl_preds_fit : (i : ℕ) (p : RawImpl) → slice_get raw.impls i ≡ Some p → (k : ℕ) (g : RawGoal) → slice_get p.preds k ≡ Some g → GoalIsFit (length p.params) g
+  impl_preds_fit i p here k g at =
+      used_goal_fits (length p.params) g ((impls_exist raw law none i p here).preds k g at) ((impls_fit i p here).preds k g at)
+      (λ y u. in_impl_preds y (in_flat (λ (z : RawImpl). goals_uses z.preds) raw.impls i p y here (in_goals p.preds k g at y u)))
+
+  abbrev own_uses : RawImpl → List (Option ℕ)
+  own_uses p = Some p.self_.0 ∷ map (λ (g : RawAssocType). Some g.ty.0) p.types
+
+  -- the self type of an impl, and the arguments of its trait
+  impl_args_fit : (i : ℕ) (p : RawImpl) (r : RawTraitRef) → slice_get raw.impls i ≡ Some p → p.trait_ ≡ Some r → AreFit (length p.params) (p.self_ ∷ arg_types r.args)
+  impl_args_fit i p r here is zero w at =
+      let same : p.self_ ≡ w = cc in
+      subst (IsFit (length p.params)) same
+      (used_fits (length p.params) p.self_ (impls_exist raw law none i p here).self_ (impls_fit i p here).self_
+      (in_impls (Some p.self_.0) (in_flat impl_uses raw.impls i p (Some p.self_.0) here (in_last (trait_ref_uses p.trait_) (own_uses p) (Some p.self_.0) (zero, refl)))))
+  impl_args_fit i p r here is (suc k) w at =
+      let fit : ImplTraitFits (params_in raw) (wrongs_in raw) raw (length p.params) r = subst (λ o. IfSome o (ImplTraitFits (params_in raw) (wrongs_in raw) raw (length p.params))) is (impls_fit i p here).trait_ in
+      let exist : TraitRefExists raw r = subst (λ o. IfSome o (TraitRefExists raw)) is (impls_exist raw law none i p here).trait_ in
+      let used : In (trait_ref_uses p.trait_) (Some w.0) = subst (λ o. In (trait_ref_uses o) (Some w.0)) (sym is) (in_mapped (λ (t : TypeRefId). Some t.0) (arg_types r.args) k w at) in
+      used_fits (length p.params) w (exist.args k w at) (fit.each k w at)
+      (in_impls (Some w.0) (in_flat impl_uses raw.impls i p (Some w.0) here (in_first (trait_ref_uses p.trait_) (own_uses p) (Some w.0) used)))
+
+  -- ---- what follows along supertraits
+
+  module _ (sc : Scope) (same : sc.facts ≡ raw) where
+    abbrev Q : Shape
+    Q = is_fine_head sc
+
+    nth_heads : (n : ℕ) (ts u : Term) → IsNth n ts u → IsMadeOf Q rest ts → IsMadeOf Q whole u
+    nth_heads zero (pair (pair m t) b) u l h = subst (IsMadeOf Q whole) (sym l) h.0.1
+    nth_heads (suc n) (pair a b) u l h = nth_heads n b u l h.1
+    nth_heads zero (pair (hole k) b) u l h = absurd l
+    nth_heads zero (pair (leaf x) b) u l h = absurd l
+    nth_heads zero (hole k) u l h = absurd l
+    nth_heads zero (leaf x) u l h = absurd l
+    nth_heads (suc n) (hole k) u l h = absurd l
+    nth_heads (suc n) (leaf x) u l h = absurd l
+
+    -- where types of fine heads stand for the holes that stand in it
+    filled_heads : (p : Fill) (r : TermRole) (t : Term) → ((k : Hole) → occurs k t ≡ true → IsMadeOf Q whole (p k)) → IsMadeOf Q r t → IsMadeOf Q r (apply p t)
+    filled_heads p whole (hole k) f h = f k (hole_eq_same k)
+    filled_heads p whole (pair (leaf g) b) f h = (ap (Q g) (width_apply Q p b h.1) ∙ h.0, filled_heads p rest b (λ k o. f k (or_right (occurs k (leaf g)) (occurs k b) o)) h.1)
+    filled_heads p whole (pair _ b) f h = absurd h.0
+    filled_heads p whole (leaf g) f h = absurd h
+    filled_heads p part (pair (leaf head.TypePart) b) f h = (tt, filled_heads p whole b (λ k o. f k (or_right (occurs k (leaf head.TypePart)) (occurs k b) o)) h.1)
+    filled_heads p part (pair _ b) f h = absurd h.0
+    filled_heads p part _ f h = absurd h
+    filled_heads p rest (leaf g) f h = h
+    filled_heads p rest (hole k) f h = absurd h
+    filled_heads p rest (pair a b) f h = (
+      filled_heads p part a (λ k o. f k (or_left (occurs k a) (occurs k b) o)) h.0,
+      filled_heads p rest b (λ k o. f k (or_right (occurs k a) (occurs k b) o)) h.1,
+    )
+
+    -- about a trait, and with these heads
+    record IsFineGoal (d : Asked) : Type 0 where
+      trait_ : IsTraitKind d.kind
+      heads : IsMadeOf Q rest d.parts
+
+    fine_goal : (n : ℕ) (ts : List Ty) (xs : List GenericArg) → length ts ≡ n → type_args ts ≡ xs → Every (HasFineHeads sc) ts → (g : RawGoal) → GoalIsFit n g → IsFineGoal (goal_at raw xs g)
+    fine_goal n ts xs count are all (goal.Trait r) h =
+        subst (λ ys. IsFineGoal (goal_at raw ys (goal.Trait r))) are (record {
+          trait_ = tt;
+          heads = args_heads sc same ts all (arg_types r.args) (subst (λ m. AreFit m (arg_types r.args)) (sym count) h);
+        })
+    fine_goal n ts xs count are all (goal.Projection k ws w) h = absurd h
+
+    at_holes : (n : ℕ) (g : RawGoal) → GoalIsFit n g → IsFineGoal (goal_at raw (holes n) g)
+    at_holes n g h = fine_goal n (hole_types n) (holes n) (holes_long n) (holes_are n) (hole_heads sc n) g h
+
+    trait_at_holes : (t : TraitId) (k : ℕ) (g : RawGoal) → slice_get (trait_preds raw t) k ≡ Some g → IsFineGoal (goal_at raw (trait_holes raw t) g)
+    trait_at_holes t k g at = by (slice_get raw.traits t.0) refl at
+      where
+        by : (o : Option RawTrait) → slice_get raw.traits t.0 ≡ o → slice_get (preds_or_none (option_map (λ (x : RawTrait). x.preds) o)) k ≡ Some g → IsFineGoal (goal_at raw (trait_holes raw t) g)
+        by None here at = cc
+        by (Some x) here at =
+            (let count : length x.params + 1 ≡ count_or_none (option_map (λ (y : RawTrait). length y.params + 1) (slice_get raw.traits t.0)) = ap (λ (o : Option RawTrait). count_or_none (option_map (λ y. length y.params + 1) o)) (sym here) in
+            subst (λ n. IsFineGoal (goal_at raw (holes n) g)) count (at_holes (length x.params + 1) g (trait_preds_fit t.0 x here k g at)))
+
+    super_fine : (c d : Asked) → IsFineGoal c → IsSuper raw c d → IsFineGoal d
+    super_fine c d h s =
+        let g = s.says.1 in
+        let says = s.says.3 in
+        let own = trait_at_holes s.trait_ s.says.0 g s.says.2 in
+        subst IsFineGoal (sym says.3) (record {
+          trait_ = own.trait_;
+          heads = filled_heads says.1 rest (goal_at raw (trait_holes raw s.trait_) g).parts (λ k o. nth_heads (hole_number k) c.parts (says.1 k) (says.2 k o) h.heads) own.heads;
+        })
+
+    follows_fine : (S : Asked → Type 0) → ((d : Asked) → S d → IsFineGoal d) → (n : ℕ) (d : Asked) → Follows raw S n d → IsFineGoal d
+    follows_fine S stated zero d f = stated d f
+    follows_fine S stated (suc n) d (inl f) = follows_fine S stated n d f
+    follows_fine S stated (suc n) d (inr (c, f, s)) = super_fine c d (follows_fine S stated n c f) s
+
+    -- ---- rules
+
+    -- it has, where it is about a trait
+    abbrev IsFineRule : Rule → Type 0
+    IsFineRule r = IsTraitKind r.head.kind → RuleHasHeadsOf Q r
+
+    key_heads : (k : Kind) (u : Term) → IsTraitKind k → IsMadeOf Q rest u → IsMadeOf Q rest (key k u)
+    key_heads (implements t) u is made = made
+    key_heads (projects a) u is made = absurd is
+
+    goal_key : (d : Asked) → IsFineGoal d → HasHeadsOf Q d
+    goal_key d h = key_heads d.kind d.parts h.trait_ h.heads
+
+    fact_fine : (d : Asked) → IsFineGoal d → IsFineRule (fact d)
+    fact_fine d h is = (goal_key d h, tt)
+
+    impl_fine : (i : ℕ) (p : RawImpl) → slice_get raw.impls i ≡ Some p → (o : Option RawTraitRef) → p.trait_ ≡ o → Each IsFineRule (rules_for raw p o)
+    impl_fine i p here None is = tt
+    impl_fine i p here (Some r) is = (
+      λ kind. (
+        subst (λ xs. IsMadeOf Q rest (args_at raw xs (p.self_ ∷ arg_types r.args))) (holes_are (length p.params))
+            (args_heads sc same (hole_types (length p.params)) (hole_heads sc (length p.params)) (p.self_ ∷ arg_types r.args)
+            (subst (λ n. AreFit n (p.self_ ∷ arg_types r.args)) (sym (holes_long (length p.params))) (impl_args_fit i p r here is))),
+        each_mapped (HasHeadsOf Q) (goal_at raw (impl_holes p)) p.preds (λ k g at. goal_key (goal_at raw (impl_holes p) g) (at_holes (length p.params) g (impl_preds_fit i p here k g at))),
+      ),
+      each_mapped IsFineRule (assoc_rule raw p r) p.types (λ k x at kind. absurd kind),
+    )
+
+    rules_fine : (f : System) (item : GenericDefId) → IsSystemOf raw item f → Each IsFineRule f.rules
+    rules_fine f item are =
+        let rules = are.rules in
+        subst (Each IsFineRule) (sym rules.are)
+        (each_append IsFineRule (flat_map (impl_rules raw) raw.impls) (map fact rules.listed)
+        (each_flat IsFineRule (impl_rules raw) raw.impls (λ i p at. impl_fine i p at p.trait_ refl))
+        (each_mapped IsFineRule fact rules.listed (λ i d at. absurd (no_listed raw law none raw.limits.goal_depth d (rules.closed.only i d at)))))
+
+  -- ---- the sources of a function
+
+  module _ (f : FunctionId) where
+    abbrev here : Scope
+    here = scope_of raw (def.FunctionId f)
+
+    stated_fine : (d : Asked) → IsStated raw (generic.FunctionId f) d → IsFineGoal here refl d
+    stated_fine d (inl (t, at, e)) = absurd (cc)
+    stated_fine d (inr (k, g, at, e)) = by (slice_get raw.fns f.0) refl at
+      where
+        by : (o : Option RawFn) → slice_get raw.fns f.0 ≡ o → slice_get (preds_or_none (option_map (λ (x : RawFn). x.preds) o)) k ≡ Some g → IsFineGoal here refl d
+        by None is at = cc
+        by (Some x) is at =
+            (let count : length x.params ≡ here.params = ap (λ (o : Option RawFn). count_or_none (option_map (λ y. length y.params) o)) (sym is) in
+            let n = here.params in
+            subst (IsFineGoal here refl) (sym e)
+            (fine_goal here refl n (param_types n) (own_params n) (own_long n) (own_are n) (own_heads here) g (subst (λ m. GoalIsFit m g) count (fn_preds_fit f.0 x is k g at))))
+
+    fn_sources_fine : (s : System) → IsSystemOf raw (generic.FunctionId f) s → SystemHasHeadsOf (is_fine_head here) s
+    fn_sources_fine s are =
+        let c = are.clauses in
+        let n = raw.limits.goal_depth in
+        let clauses : Each (IsFineRule here refl) s.clauses =
+        subst (Each (IsFineRule here refl)) (sym c.are)
+        (each_mapped (IsFineRule here refl) fact c.stated (λ i d at. fact_fine here refl d (follows_fine here refl (IsStated raw (generic.FunctionId f)) stated_fine n d (c.closed.only i d at)))) in
+        record {
+          clauses = λ i r at kind. each_get (IsFineRule here refl) s.clauses i r clauses at kind;
+          rules = λ i r at kind. each_get (IsFineRule here refl) s.rules i r (rules_fine here refl s (generic.FunctionId f) are) at kind;
+        }
+
+  -- of a definition with a body
+  pub sources_fine : (d : DefWithBodyId) (b : RawBody) → body_of raw d ≡ Some b → (s : System) → IsSystemOf raw (scope_item raw d) s → SystemHasHeadsOf (is_fine_head (scope_of raw d)) s
+  sources_fine (def.FunctionId f) b is s are = fn_sources_fine f s are
+  sources_fine (def.ConstId c) b is s are = absurd (cc)
+  sources_fine (def.StaticId c) b is s are = absurd (cc)
+  sources_fine (def.VariantId v) b is s are = absurd (cc)

@@ -1,0 +1,56 @@
+//! What nodes need, selected before open holes fall back: `infer.rs`, `infer_body`, where
+//! `select_obligations_where_possible` is called.
+ghost use Rattle.std.specs.Prelude.{◌≡◌, None, Some, OnOk};
+ghost use Rattle.hir_raw.specs.declared.raw.RawBody.{RawBody};
+ghost use Rattle.hir_laws.specs.Bodies.{HasBody, body_of};
+ghost use Rattle.infer_result.specs.Typed.{given};
+ghost use Rattle.infer_ctx.specs.Steps.{BodyDone};
+ghost use Rattle.infer_needs.specs.Selection.{IsSelection};
+ghost use Rattle.infer_end.specs.SelectedBody.{StaysOfPlain, OnlyTable};
+
+use hir_facts::{DefWithBodyId, Facts};
+use infer_ctx::InferenceContext;
+use infer_needs::select_needs;
+use std::alloc::{AllocError, Global};
+
+/// Selects what nodes of the body need, at the types known so far, and binds holes as that says.
+fn select(
+    alloc: Global,
+    context: &mut InferenceContext,
+    facts: &Facts,
+    def: DefWithBodyId,
+) -> Result<(), AllocError>
+    requires body { HasBody facts.now def }
+    requires done { (b : RawBody) → body_of facts.now def ≡ Some b → BodyDone (given facts.now def b) context.old }
+    ensures done { OnOk result ((b : RawBody) → body_of facts.now def ≡ Some b → BodyDone (given facts.now def b) context.new) }
+    ensures selection { OnOk result ((b : RawBody) → body_of facts.now def ≡ Some b → IsSelection facts.now def b context.old.result context.old.table context.new.table) }
+    ensures only { OnlyTable context.old context.new }
+{
+    facts.lawful();
+    context.table.lawful();
+    select_needs(alloc, facts, def, &context.result, &mut context.table)?;
+    context.table.lawful();
+    Ok(())
+}
+
+/// Does so where the body is not plain, so that no types before fallback are kept. What a plain body needs are
+/// sizes, which bind nothing.
+pub fn select_where_possible(
+    alloc: Global,
+    context: &mut InferenceContext,
+    facts: &Facts,
+    def: DefWithBodyId,
+) -> Result<(), AllocError>
+    requires body { HasBody facts.now def }
+    requires done { (b : RawBody) → body_of facts.now def ≡ Some b → BodyDone (given facts.now def b) context.old }
+    ensures done { OnOk result ((b : RawBody) → body_of facts.now def ≡ Some b → BodyDone (given facts.now def b) context.new) }
+    ensures selection { OnOk result (context.old.result.general ≡ None → (b : RawBody) → body_of facts.now def ≡ Some b → IsSelection facts.now def b context.old.result context.old.table context.new.table) }
+    ensures plain { StaysOfPlain context.old context.new }
+    ensures only { OnlyTable context.old context.new }
+{
+    if context.result.general.is_some() {
+        Ok(())
+    } else {
+        select(alloc, context, facts, def)
+    }
+}

@@ -1,0 +1,53 @@
+use Rattle.std.proofs.Common.{◌≡◌, sym, subst}
+use Rattle.hir_raw.specs.declared.raw.RawBody.{RawBody}
+use Rattle.hir_facts.specs.CarriedTypes.{return_carried}
+use Rattle.hir_facts.proofs.InRange.{body_in_range}
+use Rattle.infer_result.specs.Typed.{given}
+use Rattle.infer_ctx.specs.Steps.{BodyDone}
+use Rattle.infer_needs.proofs.Holding.{same_body}
+use Rattle.infer_ctx.proofs.Written.{output_heads}
+use Rattle.infer_end.proofs.Definitions.{found_body, written_exist, inputs_for_params}
+use Rattle.infer_end.proofs.GeneralTables.{has_all_types, kept_done, given_done, ends_selected}
+use Rattle.infer_expr.proofs.query.infer_holes.Goals as goal
+
+pub body-body-requires : goal.body-body-requires
+body-body-requires c = body_in_range _ _ _ c.lawful.ensures (sym c.in-Some.ensures)
+
+pub schedule-requires : goal.schedule-requires
+schedule-requires c = body_in_range _ _ _ c.lawful.ensures (sym c.in-Some.ensures)
+
+pub infer_body-requires-clause-written : goal.infer_body-requires-clause-written
+infer_body-requires-clause-written c = written_exist c.args.facts.now c.args.def c.in-Some.id _ _ c.in_ok-return_ty.return_ty c.lawful.ensures (sym c.in-Some.ensures) c.body-body.ensures c.inputs.ensures
+
+pub infer_body-requires-clause-count : goal.infer_body-requires-clause-count
+infer_body-requires-clause-count c =
+    inputs_for_params c.args.facts.now c.args.def c.in-Some.id _ _ c.in_ok-return_ty.return_ty c.lawful.ensures (sym c.in-Some.ensures) c.body-body.ensures c.inputs.ensures
+
+pub infer_body-requires-clause-carried : goal.infer_body-requires-clause-carried
+infer_body-requires-clause-carried c = rw c.in_ok-return_ty.ensures (return_carried c.args.facts.now c.lawful.ensures c.args.def)
+
+pub infer_body-requires-clause-heads : goal.infer_body-requires-clause-heads
+infer_body-requires-clause-heads c = rw c.in_ok-return_ty.ensures (output_heads c.args.facts.now c.lawful.ensures c.args.def c.in-Some.id (sym c.in-Some.ensures))
+
+pub keep_general-requires : goal.keep_general-requires
+keep_general-requires c = has_all_types _ _ c.infer_body.new.context (c.schedule.ensures.walkable _ c.body-body.ensures) c.in_ok-infer_body.ensures
+
+pub select_where_possible-requires-clause-done : goal.select_where_possible-requires-clause-done
+select_where_possible-requires-clause-done c b is =
+    let raw = c.args.facts.now in
+    let d = c.args.def in
+    let mid = c.keep_general.new.context in
+    let own = kept_done _ raw d c.infer_body.new.context mid c.in_ok-infer_body.ensures c.in_ok-keep_general.ensures in
+    let done = given_done raw d c.body-body.result.now _ _ c.inputs.ensures c.in_ok-return_ty.ensures mid own in
+    let same : c.body-body.result.now ≡ b = same_body raw d c.in-Some.id c.body-body.result.now b (sym c.in-Some.ensures) c.body-body.ensures is in
+    subst (λ (x : RawBody). BodyDone (given raw d x) mid) same done
+
+pub returns : goal.returns
+returns c = λ ps gs. (
+    let raw = c.args.facts.now in
+    let d = c.args.def in
+    let b = c.body-body.result.now in
+    let is = found_body raw d c.in-Some.id b (sym c.in-Some.ensures) c.body-body.ensures in
+    let selected = c.in_ok-select_where_possible.ensures in
+    ends_selected raw d c.in-Some.id b _ _ _ (sym c.in-Some.ensures) c.body-body.ensures (c.schedule.ensures.walkable _ c.body-body.ensures) c.inputs.ensures c.in_ok-return_ty.ensures c.infer_body.new.context c.in_ok-infer_body.ensures c.lawful.ensures ps gs
+    c.keep_general.new.context c.select_where_possible.new.context c.in_ok-keep_general.ensures c.select_where_possible.ensures.only c.select_where_possible.ensures.plain (selected.done b is))
