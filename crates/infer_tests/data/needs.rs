@@ -12,3 +12,4 @@ pub fn need_both<A: Tr, B: Up>(a: A, b: B) {}
 pub fn made<T: Tr>() -> T { made() }
 pub fn of<T: Of<U>, U>(x: T) -> U { loop {} }
 pub fn with<T: Of<U>, U>(x: T, y: U) {}
+pub fn need_each<A: Tr, B: Tr>(a: A, b: B) {}
