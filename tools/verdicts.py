@@ -197,7 +197,9 @@ def kind_of(judged, codes, complaints, said):
     unsaid, oversaid = said_of_calls(errors, said, nodes)
     bounds = said_of_bounds(errors, report, nodes)
     bounds_alike = may_differ(bounds, errors, report)
-    alike = (PARTS in complaints) == ("E0023" in codes) and bounds_alike
+    # E0275, too deep a search, ends rustc at once: it says nothing of what comes later.
+    parts_alike = (PARTS in complaints) == ("E0023" in codes) or PARTS in complaints and "E0275" in codes
+    alike = parts_alike and bounds_alike
     is_silent = complaints <= {UNPROVED} and bounds_alike
     calls_a_hole = any(report.types[callee] == "{unknown}" for callee in nodes.callees.values())
     if codes == {NO_ANSWER}:
