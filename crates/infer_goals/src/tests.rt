@@ -3,7 +3,7 @@ ghost use Rattle.std.specs.Prelude.{◌≡◌, ◌∷◌, [], IfOk};
 ghost use Rattle.infer_table.specs.Table.{State, HolesAreOf};
 ghost use Rattle.goal_select.specs.Steps.{GoalIsOf};
 
-use crate::{GoalTable, ToldList};
+use crate::GoalTable;
 use hir_facts::{
     Edition, ExprId, ExprOrPatId, Facts, GenericArg, GenericDefId, Goal, ImplId, List, RawArgs,
     RawFacts, RawImpl, RawLimits, RawParam, RawTrait, RawTraitRef, RawType, Text, TraitId,
@@ -99,7 +99,7 @@ fn selects_by_the_impl(rt: HostRuntime) -> Result<(), Fail> {
         panic!(rt; "the facts are lawful");
     };
     let env = GenericDefId::ImplId(ImplId(0));
-    let mut table: GoalTable<'_, ToldList> = GoalTable::new(alloc, &facts, env, None)?;
+    let mut table = GoalTable::new(alloc, &facts, env)?;
     let source = table.table.next_ty_var()?;
     let goal = from(alloc, Ty::Char, source.dup(alloc)?)?;
     table.register_obligation(goal, NODE)?;

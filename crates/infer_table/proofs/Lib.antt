@@ -7,6 +7,7 @@ pub mod UndoLaws
 pub mod UnifyLaws
 pub mod WaitingLaws
 pub mod Kept
+pub mod SameLaws
 pub mod Weights
 pub mod Unifying
 pub mod Openings

@@ -1,5 +1,6 @@
 pub mod Solutions
 pub mod Opened
+pub mod Same
 pub mod Bindings
 pub mod Waiting
 pub mod TermLemmas
