@@ -11,8 +11,6 @@ mod rows;
 mod rules;
 mod search;
 mod sources;
-#[cfg(test)]
-mod tests;
 mod told;
 
 pub use answer::Answer;

@@ -160,7 +160,7 @@ module _ (g : Given) (s : Schedule) (n : ExprId) (ys : List RawStmt) (o : Option
           state = walking w.state.told;
           within = w.within;
           ahead = (at_tail.each q.0 q.1).ahead;
-          expected = fine_expectation_grown g.scope mid.table c.table x at_tail.follows.grew w.expected;
+          expected = fine_expectation_grown g.scope mid.goals.table c.goals.table x at_tail.follows.grew w.expected;
         }
 
 -- ---- the end
@@ -204,7 +204,7 @@ no_tail_under g s n label ys x t mid c new is walks clock expected made (inr (u,
 module _ (g : Given) (s : Schedule) (n : ExprId) (ys : List RawStmt) (x : Option Ty) (mid c : InferenceContext)
     (w : Within g s n x mid) (made : AreMade g ys c) (t : Ty) (new : InferenceContext) where
   expected_at : (a : Assignment) → Closes a new → IsCarriedExpectation (expected_under a x)
-  expected_at a q = expected_carried g.scope a mid.table x q.closing w.expected
+  expected_at a q = expected_carried g.scope a mid.goals.table x q.closing w.expected
 
   without_tail : IsBlockOf g.body n ys None → InBlock g s n [] mid c → NoTailDone g n x t c new → KindDone g s n x t mid new
   without_tail is walk d = record {
@@ -266,13 +266,13 @@ coerced_unit true n x t u old new e q typed = inl (q.1, elim typed [ inl y ↦ y
 
 -- it was coerced to the expected type u, and the block has that or is `()`
 pub no_tail_coerced : (could : Bool) (g : Given) (n : ExprId) (x : Option Ty) (t u v : Ty) (old new : InferenceContext)
-    → x ≡ Some u → v ≡ unit → IsFine g.scope old.table u → IsCoerced could g n v u old new
+    → x ≡ Some u → v ≡ unit → IsFine g.scope old.goals.table u → IsCoerced could g n v u old new
     → (t ≡ v) ⊎ ((t ≡ u) × MismatchAt new.result n u v × IsFree new.asked n.0) → NoTailDone g n x t old new
 no_tail_coerced could g n x t u v old new e i h d typed = record {
   follows = d.follows;
   fine = elim typed [
-    | inl y ↦ subst (λ w. IsFine g.scope new.table w) (sym (y ∙ i)) (fine_unit g.scope new.table)
-    | inr y ↦ subst (λ w. IsFine g.scope new.table w) (sym y.0) (fine_grown g.scope old.table new.table u d.follows.grew h)
+    | inl y ↦ subst (λ w. IsFine g.scope new.goals.table w) (sym (y ∙ i)) (fine_unit g.scope new.goals.table)
+    | inr y ↦ subst (λ w. IsFine g.scope new.goals.table w) (sym y.0) (fine_grown g.scope old.goals.table new.goals.table u d.follows.grew h)
   ];
   each = λ a q.
       let same : folded a v ≡ unit = ap (folded a) i ∙ carried_closed a unit carried_unit in

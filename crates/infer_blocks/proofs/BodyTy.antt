@@ -26,6 +26,7 @@ use Rattle.hir_raw.specs.declared.raw.RawType.TheVariants as type
 use Rattle.infer_table.proofs.HoleLaws.{grew_twice, grew_by_hole}
 use Rattle.infer_table.proofs.UndoLaws.{grew_itself}
 use Rattle.infer_table.specs.Table.{hole_count, with_new_hole}
+use Rattle.infer_goals.specs.Stays.{stays_itself, stays_twice, stays_with}
 use Rattle.infer_result.specs.declared.result.InferenceResult.{InferenceResult}
 use Rattle.infer_result.specs.Places.{Given, OnlyPlaceholdersHaveTypes, AreRecorded, declared, hole_type, IsPlaceholder}
 use Rattle.infer_result.specs.Table.{PlaceholderTy, recorded, At, WasSeen}
@@ -77,14 +78,15 @@ module _ (g : Given) where
   pub adds_nothing : (c : InferenceContext) → IsSound g.scope c → AddsPlaceholders g c c
   adds_nothing c s =
       let only : (k : ℕ) (t : Ty) → PlaceholderTy c.result k t → PlaceholderTy c.result k t ⊎ IsPlaceholder g k = λ k t h. inl h in
-      assumption (s, grew_itself c.table, only)
+      assumption (s, grew_itself c.goals.table, stays_itself c.goals, only)
 
   pub adds_twice : (x y z : InferenceContext) → AddsPlaceholders g x y → AddsPlaceholders g y z → AddsPlaceholders g x z
   adds_twice x y z p q = record {
     result = q.result ∙ ap (λ (r : InferenceResult). record r { type_of_placeholder = z.result.type_of_placeholder }) p.result;
     asked = q.asked ∙ p.asked;
     clock = q.clock ∙ p.clock;
-    grew = grew_twice x.table y.table z.table p.grew q.grew;
+    grew = grew_twice x.goals.table y.goals.table z.goals.table p.grew q.grew;
+    stays = stays_twice x.goals y.goals z.goals p.stays q.stays;
     sound = q.sound;
     kept = λ k t h. q.kept k t (p.kept k t h);
     only = λ k t h. elim (q.only k t h) [ inl i ↦ p.only k t i | inr i ↦ inr i ];
@@ -184,17 +186,18 @@ pub placeholder_known : (g : Given) (w : TypeRefId) (t : Ty) (c : InferenceConte
 placeholder_known g w t c s h = record { adds = adds_nothing g c s; recorded = recorded_at _ _ h }
 
 pub placeholder_made : (g : Given) (w : TypeRefId) (c : InferenceContext) → BeforePartTy g w c → IsPlaceholder g w.0 → recorded c.result.type_of_placeholder w.0 ≡ None
-    → PlaceholderTyDone g w (ty.Var (hole_count c.table)) c (with_placeholder_ty (holed c kind.Ty) w.0 (ty.Var (hole_count c.table)))
+    → PlaceholderTyDone g w (ty.Var (hole_count c.goals.table)) c (with_placeholder_ty (holed c kind.Ty) w.0 (ty.Var (hole_count c.goals.table)))
 placeholder_made g w c b is none =
-    let t : Ty = ty.Var (hole_count c.table) in
+    let t : Ty = ty.Var (hole_count c.goals.table) in
     let xs : List (Option Ty) = c.result.type_of_placeholder in
     record {
       adds = record {
         result = refl;
         asked = refl;
         clock = refl;
-        grew = grew_by_hole c.table (with_new_hole c.table kind.Ty) kind.Ty refl;
-        sound = sound_placeholder (holed c kind.Ty) (holed_sound c kind.Ty b.sound) w.0 t (fine_hole g.scope c.table);
+        grew = grew_by_hole c.goals.table (with_new_hole c.goals.table kind.Ty) kind.Ty refl;
+        stays = stays_with c.goals (with_new_hole c.goals.table kind.Ty);
+        sound = sound_placeholder (holed c kind.Ty) (holed_sound c kind.Ty b.sound) w.0 t (fine_hole g.scope c.goals.table);
         kept = λ k s h. At-put xs w.0 k t s none h;
         only = λ k s h. elim (put-cases xs w.0 k t s h) [ inl i ↦ inl i | inr i ↦ inr (subst (λ n. IsPlaceholder g n) (sym i.0) is) ];
       };
@@ -288,15 +291,16 @@ module _ (g : Given) (s : Schedule) (law : IsLawful g.scope.facts) (w : TypeRefI
   follows = record {
     clock = omega (arith, d.adds.clock);
     grew = d.adds.grew;
+    stays = d.adds.stays;
     of_body = subst (λ r. IsOfBody g.body r) (sym d.adds.result) (of_body_with g.body old.result new.result.type_of_placeholder h.state.of_body);
     sound = d.adds.sound;
     told = λ told. subst (λ r. TellsRecorded g r) (sym d.adds.result) told;
   }
 
-  fine : IsFine g.scope new.table t
-  fine = subst (λ u. IsFine g.scope new.table u) (sym d.is)
-      (filled_fine g.scope.facts law g.scope.params new.table (hole_type new.result) w (h.ready.written.lets h.block h.at_stmt h.pattern w h.init h.other h.is_let) (λ k stands.
-      (let q = d.recorded k stands in subst (λ u. IsFine g.scope new.table u) (sym (hole_at new.result k q.0 q.1)) (d.adds.sound.fine.placeholders k q.0 q.1))))
+  fine : IsFine g.scope new.goals.table t
+  fine = subst (λ u. IsFine g.scope new.goals.table u) (sym d.is)
+      (filled_fine g.scope.facts law g.scope.params new.goals.table (hole_type new.result) w (h.ready.written.lets h.block h.at_stmt h.pattern w h.init h.other h.is_let) (λ k stands.
+      (let q = d.recorded k stands in subst (λ u. IsFine g.scope new.goals.table u) (sym (hole_at new.result k q.0 q.1)) (d.adds.sound.fine.placeholders k q.0 q.1))))
 
   module _ (a : Assignment) (k : Closes a new) where
     earlier : Closes a old

@@ -102,7 +102,7 @@ module _ (g : Given) (s : Schedule) (n : ExprId) (p : PatId) (w : TypeRefId) (e 
 module _ (g : Given) (s : Schedule) (n : ExprId) (p : PatId) (w : Option TypeRefId) (init : Option ExprId) (x : Option Ty)
     (c : InferenceContext) where
   let_pat : IsReady g s → IsWalking g s c → LieAhead g.body s (inner (node.ExprId n)) c.clock (pat_part (let_pattern w init) p ∷ [])
-      → IsFineExpectation g.scope c.table x → ((u : Ty) → (x ≡ Some u) ⊎ (x ≡ None) → TellsLet g w init u)
+      → IsFineExpectation g.scope c.goals.table x → ((u : Ty) → (x ≡ Some u) ⊎ (x ≡ None) → TellsLet g w init u)
       → ((a : Assignment) → Closes a c → (u : Ty) → expected_under a x ≡ Some u
       → Gives g (found_under a c).result (inner (node.ExprId n)) (let_pattern w init) u)
       → BeforePat g s p x c

@@ -81,7 +81,7 @@ StmtDone g s x old new = Does g (λ a. StmtWalked g s x) old new
 -- the initializer of a `let` with this written type has the type t, or is at what the written one stands for
 pub record InitDone (g : Given) (s : Schedule) (w : Option TypeRefId) (e : ExprId) (t : Ty) (old new : InferenceContext) : Type 0 where
   pub follows : Follows g old new
-  pub fine : IsFine g.scope new.table t
+  pub fine : IsFine g.scope new.goals.table t
   pub tells : TellsLet g w (Some e) t
   pub each : (a : Assignment) → Closes a new → InitWalked g s w e (folded a t) (found_under a old) (found_under a new)
 
@@ -93,12 +93,12 @@ pub record BeforeTail (g : Given) (s : Schedule) (n : ExprId) (last : Option Exp
   pub state : IsWalking g s c
   pub within : n.0 < length g.body.exprs
   pub ahead : LieAhead g.body s (inner (node.ExprId n)) c.clock (maybe_part tail last)
-  pub expected : IsFineExpectation g.scope c.table x
+  pub expected : IsFineExpectation g.scope c.goals.table x
 
 -- `()` is what is expected of a block without tail, or that is recorded as a mismatch at the block
 pub record NoTailDone (g : Given) (n : ExprId) (x : Option Ty) (t : Ty) (old new : InferenceContext) : Type 0 where
   pub follows : Follows g old new
-  pub fine : IsFine g.scope new.table t
+  pub fine : IsFine g.scope new.goals.table t
   pub each : (a : Assignment) → Closes a new → NoTailWalked n (expected_under a x) (folded a t) (found_under a old) (found_under a new)
 
 abbrev pub TailDone : Given → Schedule → ExprId → Option ExprId → Option Ty → Ty → InferenceContext → InferenceContext → Type 0

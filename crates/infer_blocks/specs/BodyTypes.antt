@@ -10,6 +10,7 @@ use Rattle.hir_raw.specs.Order.{stmt_at}
 use Rattle.hir_raw.specs.WrittenTypes.{filled_type, StandsIn}
 use Rattle.hir_raw.specs.declared.raw.RawStmt.TheVariants as stmt
 use Rattle.infer_table.specs.Table.{Grew}
+use Rattle.infer_goals.specs.Stays.{StaysButHoles}
 use Rattle.infer_result.specs.Places.{Given, declared, AreRecorded, IsPlaceholder}
 use Rattle.infer_result.specs.Table.{PlaceholderTy}
 use Rattle.infer_ctx.specs.Found.{Found}
@@ -42,7 +43,7 @@ pub record BeforeBodyTy (g : Given) (s : Schedule) (w : TypeRefId) (c : Inferenc
 pub record BodyTyDone (g : Given) (s : Schedule) (w : TypeRefId) (t : Ty) (old new : InferenceContext) : Type 0 where
   pub follows : Follows g old new
   pub clock : new.clock ≡ old.clock
-  pub fine : IsFine g.scope new.table t
+  pub fine : IsFine g.scope new.goals.table t
   pub filled : (h : ℕ → Ty) × (t ≡ filled_type h g.scope.facts.types w)
   pub each : (a : Assignment) → Closes a new → BodyTyWalked g s w (folded a t) (found_under a old) (found_under a new)
 
@@ -51,7 +52,8 @@ pub record AddsPlaceholders (g : Given) (old new : InferenceContext) : Type 0 wh
   pub result : new.result ≡ record old.result { type_of_placeholder = new.result.type_of_placeholder }
   pub asked : new.asked ≡ old.asked
   pub clock : new.clock ≡ old.clock
-  pub grew : Grew old.table new.table
+  pub grew : Grew old.goals.table new.goals.table
+  pub stays : StaysButHoles old.goals new.goals
   pub sound : IsSound g.scope new
   pub kept : (k : ℕ) (t : Ty) → PlaceholderTy old.result k t → PlaceholderTy new.result k t
   pub only : (k : ℕ) (t : Ty) → PlaceholderTy new.result k t → PlaceholderTy old.result k t ⊎ IsPlaceholder g k

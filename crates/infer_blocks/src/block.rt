@@ -74,7 +74,7 @@ fn infer_no_tail(
     requires within { block.0 < length given.now.body.now.exprs }
     requires of_body { IsOfBody given.now.body.now context.old.result }
     requires sound { IsSound (scope_in given.now) context.old }
-    requires expected { IsFineExpectation (scope_in given.now) context.old.table (expected_type expected) }
+    requires expected { IsFineExpectation (scope_in given.now) context.old.goals.table (expected_type expected) }
     ensures { IfOk result (λ ty. NoTailDone (given_of given.now) block
         (expected_type expected.entry) ty context.old context.new) }
 {
@@ -99,7 +99,7 @@ fn coerce_unit(
     requires within { block.0 < length given.now.body.now.exprs }
     requires of_body { IsOfBody given.now.body.now context.old.result }
     requires sound { IsSound (scope_in given.now) context.old }
-    requires target { IsFine (scope_in given.now) context.old.table target.now }
+    requires target { IsFine (scope_in given.now) context.old.goals.table target.now }
     ensures { IfOk result (λ ty. NoTailDone (given_of given.now) block
         (Some target.now) ty context.old context.new) }
 {

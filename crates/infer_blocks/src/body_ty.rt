@@ -125,7 +125,7 @@ fn placeholder_ty(
             Ok(ty)
         }
         None => {
-            let ty = context.table.next_ty_var()?;
+            let ty = context.goals.table.next_ty_var()?;
             let recorded = ty.dup(alloc)?;
             context.write_type_placeholder_ty(type_ref, recorded)?;
             Ok(ty)

@@ -71,8 +71,8 @@ module _ (g : Given) (s : Schedule) (n : ExprId) (arms : List RawArm) (x : Optio
             let clock : last.clock ≡ after g.body s f.clock gs = (p.each some.0 some.1).clock i in
             record {
               follows = follows_twice g mid f last h.walk.follows p.follows;
-              expected = fine_expectation_grown g.scope f.table last.table x p.follows.grew h.walk.expected;
-              fine = fine_common_grown g.scope f.table last.table m p.follows.grew h.walk.fine;
+              expected = fine_expectation_grown g.scope f.goals.table last.goals.table x p.follows.grew h.walk.expected;
+              fine = fine_common_grown g.scope f.goals.table last.goals.table m p.follows.grew h.walk.fine;
               ahead = subst (λ j. LieAhead g.body s (inner (node.ExprId n)) j ps) (sym clock) (ahead_right _ _ _ _ gs ps arm_ahead);
               ends = ap (λ j. after g.body s j ps) clock
                   ∙ (sym (after_append g.body s f.clock gs ps) ∙ (ap (λ l. after g.body s f.clock l) (sym (arm_step arms i y is k)) ∙ h.walk.ends));
@@ -136,7 +136,7 @@ module _ (g : Given) (s : Schedule) (n : ExprId) where
       → Before g s e (Some ty.Bool) f
   comes_to_guard_expr e o f is b =
       let a = guard_at e o f is b in
-      record { ready = b.ready; state = b.state; within = a.fit.0; here = a.fit.1; expected = fine_bool g.scope f.table }
+      record { ready = b.ready; state = b.state; within = a.fit.0; here = a.fit.1; expected = fine_bool g.scope f.goals.table }
 
   pub guard_typed : (e : ExprId) (o : Option ExprId) (t : Ty) (f new : InferenceContext) → o ≡ Some e → BeforeGuard g s n o f
       → CoerceDone g s e (Some ty.Bool) t f new → GuardDone g s o f new

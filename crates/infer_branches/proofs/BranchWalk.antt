@@ -49,7 +49,7 @@ module _ (g : Given) (s : Schedule) (n c first : ExprId) (other : Option ExprId)
 
   pub comes_to_condition : (x : Option Ty) (f : InferenceContext) → Within g s n x f → Before g s c (Some ty.Bool) f
   comes_to_condition x f w =
-      comes_to _ _ _ _ condition c (branch_parts first other) f f (if_begins x f w) (Some ty.Bool) w.ready w.state.told (fine_bool g.scope f.table)
+      comes_to _ _ _ _ condition c (branch_parts first other) f f (if_begins x f w) (Some ty.Bool) w.ready w.state.told (fine_bool g.scope f.goals.table)
 
   module _ (x y : Option Ty) (mid : InferenceContext) (w : Within g s n x mid) where
     pub past_condition : IsLess x y → (t : Ty) (none : CoerceMany) (f : InferenceContext) → none ≡ common_of y
@@ -62,7 +62,7 @@ module _ (g : Given) (s : Schedule) (n c first : ExprId) (other : Option ExprId)
         let some = d.follows.sound.some in
         let there = h.each some.0 some.1 in
         begins_alternatives g s n y none (λ r. IsAtOrMismatch r c ty.Bool) (branch_parts first other) (expr_end g.body s n) mid f empty
-        (fine_expectation_grown g.scope mid.table f.table y d.follows.grew (less_fine g.scope mid.table x y less w.expected))
+        (fine_expectation_grown g.scope mid.goals.table f.goals.table y d.follows.grew (less_fine g.scope mid.goals.table x y less w.expected))
         h.follows there.ahead there.ends (λ a q. (h.each a q).walks) (λ a q. (is_bool a q).made)
 
     pub comes_to_branch : (none : CoerceMany) (f : InferenceContext) → InIf g s n c y [] none (branch_parts first other) mid f → Before g s first y f

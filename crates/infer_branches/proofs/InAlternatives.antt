@@ -12,6 +12,7 @@ use Rattle.hir_facts.specs.CarriedTypes.{IsCarriedType}
 use Rattle.hir_raw.specs.Order.{Role, Part, inner, expr_part, after}
 use Rattle.infer_table.specs.Table.{State, Grew}
 use Rattle.infer_table.proofs.HoleLaws.{grew_twice}
+use Rattle.infer_goals.specs.Stays.{stays_twice}
 use Rattle.infer_result.specs.declared.result.InferenceResult.{InferenceResult}
 use Rattle.infer_result.specs.Places.{Given}
 use Rattle.infer_result.specs.Demands.{AsksOf}
@@ -104,7 +105,8 @@ pub completed_follows : (g : Given) (x : Option Ty) (m : CoerceMany) (t : Ty) (f
     → Completes g.scope x m t old new → Follows g first new
 completed_follows g x m t first old new f d = record {
   clock = omega (arith, f.clock, d.clock);
-  grew = grew_twice first.table old.table new.table f.grew d.grew;
+  grew = grew_twice first.goals.table old.goals.table new.goals.table f.grew d.grew;
+  stays = stays_twice first.goals old.goals new.goals f.stays d.stays;
   of_body = subst (λ r. IsOfBody g.body r) (sym d.result) f.of_body;
   sound = d.sound;
   told = λ k. told_same g old new d.result (f.told k);
@@ -139,8 +141,8 @@ bool_walked g s n role e t old new at asks d a q =
 -- The parts ps lie ahead, up to the number `stop`.
 pub record AtAlternatives (g : Given) (s : Schedule) (n : ExprId) (y : Option Ty) (es : List ExprId) (m : CoerceMany) (K : InferenceResult → Type 0) (ps : List Part) (stop : ℕ) (mid c : InferenceContext) : Type 0 where
   pub follows : Follows g mid c
-  pub expected : IsFineExpectation g.scope c.table y
-  pub fine : IsFineCommon g.scope c.table m
+  pub expected : IsFineExpectation g.scope c.goals.table y
+  pub fine : IsFineCommon g.scope c.goals.table m
   pub ahead : LieAhead g.body s (inner (node.ExprId n)) c.clock ps
   pub ends : after g.body s c.clock ps ≡ stop
   pub each : (a : Assignment) → Closes a c → Alternatives g s n es (expected_under a y) (common_under a m) K (found_under a mid) (found_under a c)
@@ -148,13 +150,13 @@ pub record AtAlternatives (g : Given) (s : Schedule) (n : ExprId) (y : Option Ty
 module _ (g : Given) (s : Schedule) (n : ExprId) (y : Option Ty) where
   -- none is typed yet
   pub begins_alternatives : (m : CoerceMany) (K : InferenceResult → Type 0) (ps : List Part) (stop : ℕ) (mid c : InferenceContext)
-      → m ≡ common_of y → IsFineExpectation g.scope c.table y → Follows g mid c → LieAhead g.body s (inner (node.ExprId n)) c.clock ps
+      → m ≡ common_of y → IsFineExpectation g.scope c.goals.table y → Follows g mid c → LieAhead g.body s (inner (node.ExprId n)) c.clock ps
       → after g.body s c.clock ps ≡ stop → ((a : Assignment) → Closes a c → Walks g s Nothing (found_under a mid) (found_under a c))
       → ((a : Assignment) → Closes a c → K (found_under a c).result) → AtAlternatives g s n y [] m K ps stop mid c
   begins_alternatives m K ps stop mid c is expected follows ahead ends walks beside = record {
     follows = follows;
     expected = expected;
-    fine = subst (λ k. IsFineCommon g.scope c.table k) (sym is) (common_of_fine g.scope c.table y expected);
+    fine = subst (λ k. IsFineCommon g.scope c.goals.table k) (sym is) (common_of_fine g.scope c.goals.table y expected);
     ahead = ahead;
     ends = ends;
     each = λ a q. record {
@@ -181,11 +183,11 @@ module _ (g : Given) (s : Schedule) (n : ExprId) (y : Option Ty) where
           → (made : CoerceMany) (next : InferenceContext) → AlternativeDone g s e y m made c next
           → AtAlternatives g s n y (es ++ e ∷ []) made K ps stop mid next
       past_alternative is first kept made next d =
-          let expected = fine_expectation_grown g.scope c.table next.table y d.follows.grew h.expected in
+          let expected = fine_expectation_grown g.scope c.goals.table next.goals.table y d.follows.grew h.expected in
           let at = ahead_stands g.body s (inner (node.ExprId n)) c.clock (expr_part role e) ps h.ahead in
           let before : (a : Assignment) → Closes a next → Closes a c = λ a q. closes_before g a c next d.follows q in
           let q = (λ (a : Assignment) (k : Closes a next).
-          let carried = expected_carried g.scope a next.table y k.closing expected in
+          let carried = expected_carried g.scope a next.goals.table y k.closing expected in
           let v = d.each a k in
           taken g s n role e (expected_under a y) at is carried es v.type (found_under a c) v.mid (found_under a next) first v.own
           (common_under a m) (common_under a made) (h.each a (before a k)).merged v.merged) in

@@ -40,7 +40,7 @@ module _ (g : Given) (s : Schedule) (n d : ExprId) (arms : List RawArm) where
   -- the patterns of the first i arms have the type t of the scrutinee d, and what follows lies ahead
   pub record PatternWalk (i : ℕ) (t : Ty) (mid f : InferenceContext) : Type 0 where
     pub walk : WalksParts g s (inner (node.ExprId n)) (λ a. Nothing) (after_patterns arms i d (drop i arms)) mid f
-    pub fine : IsFine g.scope f.table t
+    pub fine : IsFine g.scope f.goals.table t
     pub scrutinee_is : (a : Assignment) → Closes a f → HasTy (found_under a f).result d (folded a t)
     pub made : (a : Assignment) → Closes a f → ArmPatterns (at_or_mismatch g (found_under a f).result) (take i arms) (folded a t)
 
@@ -99,7 +99,7 @@ module _ (g : Given) (s : Schedule) (n d : ExprId) (arms : List RawArm) where
           record {
             walk = goes_past _ _ _ _ (λ a. Nothing) (λ a. Nothing) (pat_part (arm_pattern d i) y.pat) other_patterns mid f next here_pattern p.follows
                 (λ a q. ((p.each a q).walks, (p.each a q).clock)) (λ a b m o. o) (λ a q b m o. absurd o);
-            fine = fine_grown g.scope f.table next.table t p.follows.grew h.fine;
+            fine = fine_grown g.scope f.goals.table next.goals.table t p.follows.grew h.fine;
             scrutinee_is = λ a q. (p.each a q).walks.extends.exprs d (folded a t) (h.scrutinee_is a (before a q));
             made = λ a q.
                 rw (take_more arms i y k) (
@@ -124,7 +124,7 @@ module _ (g : Given) (s : Schedule) (n d : ExprId) (arms : List RawArm) where
             within = w.within;
             ahead = (at_arms.each q.0 q.1).ahead;
             some = arms_some g.body n d arms w.ready.law.carried is;
-            expected = fine_expectation_grown g.scope mid.table f.table y h.walk.follows.grew (less_fine g.scope mid.table x y less w.expected);
+            expected = fine_expectation_grown g.scope mid.goals.table f.goals.table y h.walk.follows.grew (less_fine g.scope mid.goals.table x y less w.expected);
           }
 
       pub ends_match : (u : Ty) (new : InferenceContext) → ArmsDone g s n arms y u f new → KindDone g s n x u mid new

@@ -82,12 +82,12 @@ pub record BeforeArms (g : Given) (s : Schedule) (n : ExprId) (arms : List RawAr
   pub within : n.0 < length g.body.exprs
   pub ahead : LieAhead g.body s (inner (node.ExprId n)) c.clock (arms_parts 0 arms)
   pub some : (arms ≡ [] → ⊥)
-  pub expected : IsFineExpectation g.scope c.table x
+  pub expected : IsFineExpectation g.scope c.goals.table x
 
 -- the arms have the type t in common, or a mismatch
 pub record ArmsDone (g : Given) (s : Schedule) (n : ExprId) (arms : List RawArm) (x : Option Ty) (t : Ty) (old new : InferenceContext) : Type 0 where
   pub follows : Follows g old new
-  pub fine : IsFine g.scope new.table t
+  pub fine : IsFine g.scope new.goals.table t
   pub each : (a : Assignment) → Closes a new → ArmsWalked g s n arms (expected_under a x) (folded a t) (found_under a old) (found_under a new)
 
 -- the guard of an arm lies ahead, where it has one
@@ -104,7 +104,7 @@ GuardDone g s o old new = Does g (λ a. GuardWalked g s o) old new
 -- the alternative e, of which x is expected, is typed and taken into the common type
 pub record AlternativeDone (g : Given) (s : Schedule) (e : ExprId) (x : Option Ty) (before after : CoerceMany) (old new : InferenceContext) : Type 0 where
   pub follows : Follows g old new
-  pub fine : IsFineCommon g.scope new.table after
+  pub fine : IsFineCommon g.scope new.goals.table after
   pub each : (a : Assignment) → Closes a new → AlternativeWalked g s e (expected_under a x) (common_under a before) (common_under a after) (found_under a old) (found_under a new)
 
 -- the other branch of the `if` n lies ahead, where it has one, and m is the type of the first
@@ -113,11 +113,11 @@ pub record BeforeElse (g : Given) (s : Schedule) (n : ExprId) (other : Option Ex
   pub state : IsWalking g s c
   pub within : n.0 < length g.body.exprs
   pub ahead : LieAhead g.body s (inner (node.ExprId n)) c.clock (maybe_part else_branch other)
-  pub expected : IsFineExpectation g.scope c.table x
-  pub common : IsFineCommon g.scope c.table m
+  pub expected : IsFineExpectation g.scope c.goals.table x
+  pub common : IsFineCommon g.scope c.goals.table m
 
 -- it is taken into the common type, or `()` where there is none
 pub record ElseDone (g : Given) (s : Schedule) (n : ExprId) (other : Option ExprId) (x : Option Ty) (before after : CoerceMany) (old new : InferenceContext) : Type 0 where
   pub follows : Follows g old new
-  pub fine : IsFineCommon g.scope new.table after
+  pub fine : IsFineCommon g.scope new.goals.table after
   pub each : (a : Assignment) → Closes a new → ElseWalked g s n other (expected_under a x) (common_under a before) (common_under a after) (found_under a old) (found_under a new)

@@ -31,7 +31,7 @@ pub fn infer_if<F: Fn(&mut InferenceContext, ExprId, Expectation) -> Result<Ty, 
     ensures { IfOk result (λ ty. KindDone (given_of given.now) (schedule_of given.now)
         tgt_expr (expected_type expected.entry) ty context.old context.new) }
 {
-    let wanted = expected.adjust_for_branches(&context.table);
+    let wanted = expected.adjust_for_branches(&context.goals.table);
     let bool_ty = Ty::Bool;
     infer_expr_coerce(
         infer,
@@ -107,7 +107,7 @@ fn infer_alternative<F: Fn(&mut InferenceContext, ExprId, Expectation) -> Result
     requires infers { InfersFrom (given_of given.now) (schedule_of given.now) context.old.clock (F.pre infer.now) (F.post infer.now) }
     requires before { Before (given_of given.now) (schedule_of given.now)
         expr (expected_type expected) context.old }
-    requires common { IsFineCommon (scope_in given.now) context.old.table common.old }
+    requires common { IsFineCommon (scope_in given.now) context.old.goals.table common.old }
     ensures { IfOk result (λ _. AlternativeDone (given_of given.now) (schedule_of given.now)
         expr (expected_type expected.entry) common.old common.new context.old context.new) }
 {
@@ -141,8 +141,8 @@ pub fn infer_match<F: Fn(&mut InferenceContext, ExprId, Expectation) -> Result<T
         infer_top_pat(alloc, context, given, arms[i].pat, Some(ty))?;
     }
     let wanted = expected
-        .adjust_for_branches(&context.table)
-        .unless_unit(&context.table);
+        .adjust_for_branches(&context.goals.table)
+        .unless_unit(&context.goals.table);
     let ty = infer_arms(infer, alloc, context, given, tgt_expr, arms, wanted)?;
     Ok(ty)
 }

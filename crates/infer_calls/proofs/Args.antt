@@ -52,7 +52,7 @@ module _ (g : Given) (s : Schedule) (n : ExprId) (args : List ExprId) (ss : List
       pub comes_to_arg : Before g s e (Some u) c
       comes_to_arg =
           comes_to_part _ _ _ _ _ _ _ _ _ h.walk e is k (Some u) h.before.before.ready h.before.before.state.told
-          (fine_grown g.scope mid.table c.table u h.walk.follows.grew (input_fine g s n args ss mid h.before i u input))
+          (fine_grown g.scope mid.goals.table c.goals.table u h.walk.follows.grew (input_fine g s n args ss mid h.before i u input))
 
       input_under : (a : Assignment) → slice_get (map (folded a) ss) i ≡ Some (folded a u)
       input_under a = slice_get-map (folded a) ss i ∙ ap (option_map (folded a)) input

@@ -106,14 +106,14 @@ module _ (g : Given) (s : Schedule) (n : ExprId) (args : List ExprId) (t : Ty) (
   abbrev gives : Ty
   gives = at_args h.types h.item.signature.output
 
-  types_fine : AllFine g.scope mid.table h.types
-  types_fine = every_from (IsFine g.scope mid.table) h.types h.fine
+  types_fine : AllFine g.scope mid.goals.table h.types
+  types_fine = every_from (IsFine g.scope mid.goals.table) h.types h.fine
 
-  gives_fine : (new : InferenceContext) → Grew mid.table new.table → IsFine g.scope new.table gives
-  gives_fine new grew = fine_grown g.scope mid.table new.table gives grew (fine_instance g.scope mid.table h.item.signature.params h.types h.count types_fine h.item.signature.output h.item.output)
+  gives_fine : (new : InferenceContext) → Grew mid.goals.table new.goals.table → IsFine g.scope new.goals.table gives
+  gives_fine new grew = fine_grown g.scope mid.goals.table new.goals.table gives grew (fine_instance g.scope mid.goals.table h.item.signature.params h.types h.count types_fine h.item.signature.output h.item.output)
 
-  pub output_fine : (u : Ty) → u ≡ gives → IsFine g.scope mid.table u
-  output_fine u is = subst (λ v. IsFine g.scope mid.table v) (sym is) (gives_fine mid (grew_itself mid.table))
+  pub output_fine : (u : Ty) → u ≡ gives → IsFine g.scope mid.goals.table u
+  output_fine u is = subst (λ v. IsFine g.scope mid.goals.table v) (sym is) (gives_fine mid (grew_itself mid.goals.table))
 
   pub ends_call : (ss : List Ty) (u : Ty) (new : InferenceContext) → ss ≡ inputs_at h.item.signature h.types → u ≡ gives → ArgsDone g s n args ss mid new → KindDone g s n None u mid new
   ends_call ss u new inputs output d =
@@ -148,7 +148,7 @@ module _ (g : Given) (s : Schedule) (n : ExprId) (args : List ExprId) (c d : Inf
     types = h.types;
     is = h.is;
     count = h.count;
-    fine = λ i u at. fine_grown g.scope c.table d.table u o.follows.grew (h.fine i u at);
+    fine = λ i u at. fine_grown g.scope c.goals.table d.goals.table u o.follows.grew (h.fine i u at);
     tells = h.tells;
     each = λ a q. subst (λ f. ComesToArgs g s n h.called args h.id h.item.signature (map (folded a) h.types) f) (found_same a)
         (h.each a (closes_before g a c d o.follows q));
@@ -180,13 +180,13 @@ module _ (g : Given) (s : Schedule) (n : ExprId) (args : List ExprId) (ss : List
   taken_count : (a : Assignment) → length (taken_at a) ≡ length ss
   taken_count a = sym (ap (λ us. length us) (taken_under a)) ∙ length-map ss (folded a)
 
-  pub inputs_fine : AllFine g.scope mid.table ss
+  pub inputs_fine : AllFine g.scope mid.goals.table ss
   inputs_fine =
-      subst (λ us. AllFine g.scope mid.table us) (sym h.inputs)
-      (fine_instances g.scope mid.table h.before.item.signature.params h.before.types h.before.count (every_from (IsFine g.scope mid.table) h.before.types h.before.fine) h.before.item.signature.inputs h.before.item.inputs)
+      subst (λ us. AllFine g.scope mid.goals.table us) (sym h.inputs)
+      (fine_instances g.scope mid.goals.table h.before.item.signature.params h.before.types h.before.count (every_from (IsFine g.scope mid.goals.table) h.before.types h.before.fine) h.before.item.signature.inputs h.before.item.inputs)
 
-  pub input_fine : (i : ℕ) (u : Ty) → slice_get ss i ≡ Some u → IsFine g.scope mid.table u
-  input_fine i u is = every_at (IsFine g.scope mid.table) ss i u inputs_fine is
+  pub input_fine : (i : ℕ) (u : Ty) → slice_get ss i ≡ Some u → IsFine g.scope mid.goals.table u
+  input_fine i u is = every_at (IsFine g.scope mid.goals.table) ss i u inputs_fine is
 
   -- the call asks of each argument that it be at its input
   pub asks_inputs : (a : Assignment) → Closes a mid → AsksInputs g args (map (folded a) ss) (found_under a mid).result
@@ -208,6 +208,7 @@ module _ (g : Given) (s : Schedule) (n : ExprId) (args : List ExprId) (ss : List
     told_follows = record {
       clock = omega arith;
       grew = (follows_itself g mid h.before.state.of_body h.before.state.sound).grew;
+      stays = (follows_itself g mid h.before.state.of_body h.before.state.sound).stays;
       of_body = of_body_diagnostic g.body mid h.before.state.of_body n (diagnostic.MismatchedArgCount n (length ss) (length args));
       sound = sound_diagnostic mid h.before.state.sound n (diagnostic.MismatchedArgCount n (length ss) (length args)) (λ m t e. absurd (cc));
       told = λ k. k;

@@ -167,19 +167,19 @@ path_or_not g e = by_expr (slice_get g.body.exprs e.0) refl
     by_expr o at = inr (λ q. (let clash : o ≡ Some (expr.Path q.0) = sym at ∙ q.1 in cc))
 
 -- ---- the type of what is called, resolved
-module _ (g : Given) (s : Schedule) (called : ExprId) (t u : Ty) (old mid : InferenceContext) (d : OwnDone g s called None t old mid) (is : u ≡ resolved_type mid.table t) (made : AllOf mid.table.substitution.kinds (bindings mid.table)) where
-  pub known_fine : IsFine g.scope mid.table u
-  known_fine = subst (λ v. IsFine g.scope mid.table v) (sym is) (resolved_fine g.scope mid.table t made d.follows.sound.bound d.fine)
+module _ (g : Given) (s : Schedule) (called : ExprId) (t u : Ty) (old mid : InferenceContext) (d : OwnDone g s called None t old mid) (is : u ≡ resolved_type mid.goals.table t) (made : AllOf mid.goals.table.substitution.kinds (bindings mid.goals.table)) where
+  pub known_fine : IsFine g.scope mid.goals.table u
+  known_fine = subst (λ v. IsFine g.scope mid.goals.table v) (sym is) (resolved_fine g.scope mid.goals.table t made d.follows.sound.bound d.fine)
 
   -- it is the type of what is called, under each assignment
   pub known_same : (a : Assignment) → Closes a mid → folded a u ≡ folded a t
   known_same a q =
-      let fine : HasFineHeads g.scope (resolved_type mid.table t) = subst (λ v. HasFineHeads g.scope v) is known_fine.heads in
-      ap (folded a) is ∙ same_closed g.scope a (resolved_type mid.table t) t q.closing fine d.fine.heads (apply_resolved_term (terms_of a) mid.table t q.meets)
+      let fine : HasFineHeads g.scope (resolved_type mid.goals.table t) = subst (λ v. HasFineHeads g.scope v) is known_fine.heads in
+      ap (folded a) is ∙ same_closed g.scope a (resolved_type mid.goals.table t) t q.closing fine d.fine.heads (apply_resolved_term (terms_of a) mid.goals.table t q.meets)
 
   -- what it says
   pub known_head : (h : Outermost) → HeadOf g called h → HasHead u h
-  known_head h k = subst (λ v. HasHead v h) (sym is) (head_kept (resolution (bindings mid.table)) t h (d.tells.head h k))
+  known_head h k = subst (λ v. HasHead v h) (sym is) (head_kept (resolution (bindings mid.goals.table)) t h (d.tells.head h k))
 
   -- ---- an item
 
@@ -204,7 +204,7 @@ module _ (g : Given) (s : Schedule) (called : ExprId) (t u : Ty) (old mid : Infe
 
     pub callee_known : CalleeDone g s called u old mid
     callee_known =
-        let typed : AllFine g.scope mid.table item.types = fine_fn_args g.scope mid.table item.id item.types (subst (λ v. IsFine g.scope mid.table v) item.is known_fine) in
+        let typed : AllFine g.scope mid.goals.table item.types = fine_fn_args g.scope mid.goals.table item.id item.types (subst (λ v. IsFine g.scope mid.goals.table v) item.is known_fine) in
         record {
           id = item.id;
           item = its_item;
@@ -212,7 +212,7 @@ module _ (g : Given) (s : Schedule) (called : ExprId) (t u : Ty) (old mid : Infe
           is = item.is;
           count = item.count ∙ ap (λ (σ : Signature). σ.params) same_signature;
           follows = d.follows;
-          fine = λ i v at. every_at (IsFine g.scope mid.table) item.types i v typed at;
+          fine = λ i v at. every_at (IsFine g.scope mid.goals.table) item.types i v typed at;
           tells = item_call_tells;
           each = λ a q.
               let own = d.each a q in
@@ -237,7 +237,7 @@ module _ (g : Given) (s : Schedule) (called : ExprId) (t u : Ty) (old mid : Infe
   -- what it tells, as far as it is known
   pub known_tells : IsReady g s → Tells g called u
   known_tells ready = record {
-    type = λ v up. is ∙ type_kept g (λ i w found a. carried_closed a _ (ready.written.inputs i w found).carried) outputs (resolution (bindings mid.table)) called t v d.tells up;
+    type = λ v up. is ∙ type_kept g (λ i w found a. carried_closed a _ (ready.written.inputs i w found).carried) outputs (resolution (bindings mid.goals.table)) called t v d.tells up;
     head = known_head;
   }
     where

@@ -52,9 +52,9 @@ module _ (g : Given) (s : Schedule) (n : ExprId) (args : List ExprId) (ss : List
   module _ (i : ℕ) (c : InferenceContext) (h : AtLoose g s n args ss i mid c) where
     module _ (e : ExprId) (is : e ≡ get_or args i e) (k : i < length args) where
       -- what is expected of it: to be at its one of the types, where there is one
-      fine_at : (x : Option Ty) → slice_get ss i ≡ x → IsFineExpectation g.scope c.table x
+      fine_at : (x : Option Ty) → slice_get ss i ≡ x → IsFineExpectation g.scope c.goals.table x
       fine_at None at = tt
-      fine_at (Some u) at = fine_grown g.scope mid.table c.table u h.walk.follows.grew (h.before.fine i u at)
+      fine_at (Some u) at = fine_grown g.scope mid.goals.table c.goals.table u h.walk.follows.grew (h.before.fine i u at)
 
       pub comes_to_loose : (x : Option Ty) → x ≡ slice_get ss i → Before g s e x c
       comes_to_loose x own = comes_to_part _ _ _ _ _ _ _ _ _ h.walk e is k x h.before.ready h.before.state.told (fine_at x (sym own))
@@ -110,8 +110,8 @@ module _ (g : Given) (s : Schedule) (n : ExprId) (args : List ExprId) (ss : List
           }
 
     -- the type that may be made equal to the next one's is still fine
-    pub still_fine : (u : Ty) (next : InferenceContext) → Follows g c next → slice_get ss i ≡ Some u → IsFine g.scope next.table u
-    still_fine u next f is = fine_grown g.scope mid.table next.table u (follows_twice g mid c next h.walk.follows f).grew (h.before.fine i u is)
+    pub still_fine : (u : Ty) (next : InferenceContext) → Follows g c next → slice_get ss i ≡ Some u → IsFine g.scope next.goals.table u
+    still_fine u next f is = fine_grown g.scope mid.goals.table next.goals.table u (follows_twice g mid c next h.walk.follows f).grew (h.before.fine i u is)
 
     pub ends_loose : length args ≤ i → LooseDone g s n args ss mid c
     ends_loose over = record {

@@ -12,6 +12,7 @@ use Rattle.hir_raw.specs.declared.schedule.Schedule.{Schedule}
 use Rattle.infer_table.proofs.HoleLaws.{grew_by_hole}
 use Rattle.infer_table.specs.Table.{Grew, bindings, resolved_type, hole_count}
 use Rattle.infer_table.specs.Bindings.{AllOf}
+use Rattle.infer_goals.specs.Stays.{stays_with}
 use Rattle.infer_result.specs.Places.{Given}
 use Rattle.infer_result.specs.Table.{HasTy}
 use Rattle.infer_result.specs.declared.result.InferenceResult.{InferenceResult}
@@ -38,7 +39,7 @@ use Rattle.infer_calls.proofs.CallWalk.{call_parts}
 use Rattle.infer_calls.proofs.Callees.{known_fine, known_same, known_tells, no_path, not_callable}
 
 -- ---- what is called is typed, and is no item
-module _ (g : Given) (s : Schedule) (n called : ExprId) (args : List ExprId) (c : InferenceContext) (h : Within g s n None c) (is : IsCallOf g.body n called args) (t u : Ty) (mid : InferenceContext) (d : OwnDone g s called None t c mid) (known : u ≡ resolved_type mid.table t) (made : AllOf mid.table.substitution.kinds (bindings mid.table)) (none : (id : CallableDefId) (xs : List GenericArg) → u ≡ ty.FnDef id xs → ⊥) where
+module _ (g : Given) (s : Schedule) (n called : ExprId) (args : List ExprId) (c : InferenceContext) (h : Within g s n None c) (is : IsCallOf g.body n called args) (t u : Ty) (mid : InferenceContext) (d : OwnDone g s called None t c mid) (known : u ≡ resolved_type mid.goals.table t) (made : AllOf mid.goals.table.substitution.kinds (bindings mid.goals.table)) (none : (id : CallableDefId) (xs : List GenericArg) → u ≡ ty.FnDef id xs → ⊥) where
   pub comes_to_uncallable : BeforeUncallable g s n args u mid
   comes_to_uncallable =
       let parts = call_parts g s n called args c h is in
@@ -72,6 +73,7 @@ module _ (g : Given) (s : Schedule) (n : ExprId) (args : List ExprId) (u : Ty) (
   saw_follows = record {
     clock = omega arith;
     grew = (follows_itself g c h.state.of_body h.state.sound).grew;
+    stays = (follows_itself g c h.state.of_body h.state.sound).stays;
     of_body = of_body_seen g.body c h.state.of_body seen_entry;
     sound = sound_seen c h.state.sound seen_entry h.fine refl;
     told = λ k. k;
@@ -112,16 +114,17 @@ module _ (g : Given) (s : Schedule) (n : ExprId) (args : List ExprId) (u : Ty) (
   }
 
   -- the call has any type
-  pub ends_uncallable : (new : InferenceContext) → LooseDone g s n args [] saw new → KindDone g s n None (ty.Var (hole_count new.table)) c (holed new kind.Ty)
+  pub ends_uncallable : (new : InferenceContext) → LooseDone g s n args [] saw new → KindDone g s n None (ty.Var (hole_count new.goals.table)) c (holed new kind.Ty)
   ends_uncallable new d =
-      let v : Ty = ty.Var (hole_count new.table) in
+      let v : Ty = ty.Var (hole_count new.goals.table) in
       let last : InferenceContext = holed new kind.Ty in
-      let grew : Grew new.table last.table = grew_by_hole new.table last.table kind.Ty refl in
-      let fine : IsFine g.scope last.table v = fine_hole g.scope new.table in
+      let grew : Grew new.goals.table last.goals.table = grew_by_hole new.goals.table last.goals.table kind.Ty refl in
+      let fine : IsFine g.scope last.goals.table v = fine_hole g.scope new.goals.table in
       record {
         follows = follows_twice g c saw last saw_follows (follows_twice g saw new last d.follows (record {
           clock = omega arith;
           grew = grew;
+          stays = stays_with new.goals last.goals.table;
           of_body = d.follows.of_body;
           sound = holed_sound new kind.Ty d.follows.sound;
           told = λ k. k;

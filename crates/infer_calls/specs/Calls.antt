@@ -100,7 +100,7 @@ pub record CalleeDone (g : Given) (s : Schedule) (called : ExprId) (t : Ty) (old
   pub is : t ≡ ty.FnDef id (type_args types)
   pub count : length types ≡ item.signature.params
   pub follows : Follows g old new
-  pub fine : (i : ℕ) (u : Ty) → slice_get types i ≡ Some u → IsFine g.scope new.table u
+  pub fine : (i : ℕ) (u : Ty) → slice_get types i ≡ Some u → IsFine g.scope new.goals.table u
   pub tells : (n : ExprId) (args : List ExprId) → IsCallOf g.body n called args → Tells g n (at_args types item.signature.output)
   pub each : (a : Assignment) → Closes a new → CalleeWalked g s called id (map (folded a) types) (found_under a old) (found_under a new)
 
@@ -108,8 +108,8 @@ pub record CalleeDone (g : Given) (s : Schedule) (called : ExprId) (t : Ty) (old
 pub record CalleeTyped (g : Given) (s : Schedule) (called : ExprId) (t : Ty) (old new : InferenceContext) : Type 0 where
   pub type : Ty
   pub typed : OwnDone g s called None type old new
-  pub known : t ≡ resolved_type new.table type
-  pub made : AllOf new.table.substitution.kinds (bindings new.table)
+  pub known : t ≡ resolved_type new.goals.table type
+  pub made : AllOf new.goals.table.substitution.kinds (bindings new.goals.table)
 
 -- The node n is a call. What it calls was typed since the walk came to the call, and has the type t as far as it is known.
 pub record BeforeCall (g : Given) (s : Schedule) (n : ExprId) (args : List ExprId) (t : Ty) (c : InferenceContext) : Type 0 where
@@ -129,7 +129,7 @@ pub record BeforeArgs (g : Given) (s : Schedule) (n : ExprId) (args : List ExprI
   pub types : List Ty
   pub is : t ≡ ty.FnDef id (type_args types)
   pub count : length types ≡ item.signature.params
-  pub fine : (i : ℕ) (u : Ty) → slice_get types i ≡ Some u → IsFine g.scope c.table u
+  pub fine : (i : ℕ) (u : Ty) → slice_get types i ≡ Some u → IsFine g.scope c.goals.table u
   pub tells : Tells g n (at_args types item.signature.output)
   pub each : (a : Assignment) → Closes a c → ComesToArgs g s n called args id item.signature (map (folded a) types) (found_under a c)
 
@@ -149,7 +149,7 @@ pub record BeforeUncallable (g : Given) (s : Schedule) (n : ExprId) (args : List
   pub state : IsWalking g s c
   pub called : ExprId
   pub is_call : IsCallOf g.body n called args
-  pub fine : IsFine g.scope c.table t
+  pub fine : IsFine g.scope c.goals.table t
   pub tells : Tells g called t
   pub no_item : (id : CallableDefId) (xs : List GenericArg) → t ≡ ty.FnDef id xs → ⊥
   pub no_path : (IsPathToItem g called → ⊥)
@@ -160,7 +160,7 @@ pub record BeforeLoose (g : Given) (s : Schedule) (n : ExprId) (args : List Expr
   pub ready : IsReady g s
   pub state : IsWalking g s c
   pub called : ExprId
-  pub fine : (i : ℕ) (u : Ty) → slice_get ss i ≡ Some u → IsFine g.scope c.table u
+  pub fine : (i : ℕ) (u : Ty) → slice_get ss i ≡ Some u → IsFine g.scope c.goals.table u
   pub asks : (a : Assignment) → Closes a c → AsksInputs g args (map (folded a) ss) (found_under a c).result
   pub each : (a : Assignment) → Closes a c → ComesToLoose g s n called args (found_under a c)
 

@@ -56,8 +56,8 @@ fn infer_callee<F: Fn(&mut InferenceContext, ExprId, Expectation) -> Result<Ty, 
 {
     let callee_ty = infer(context, callee, Expectation::None)?;
     // Each hole that a binding names was made.
-    context.table.lawful();
-    context.table.resolve(&callee_ty)
+    context.goals.table.lawful();
+    context.goals.table.resolve(&callee_ty)
 }
 
 /// The type of a call of what has this type: the rest of `infer/expr.rs`'s `infer_call`, with its
@@ -75,7 +75,7 @@ fn check_call<F: Fn(&mut InferenceContext, ExprId, Expectation) -> Result<Ty, Al
     requires infers { InfersFrom (given_of given.now) (schedule_of given.now) context.old.clock (F.pre infer.now) (F.post infer.now) }
     requires before { BeforeCall (given_of given.now) (schedule_of given.now)
         call_expr args.now callee_ty.now context.old }
-    requires expected { IsFineExpectation (scope_in given.now) context.old.table (expected_type expected) }
+    requires expected { IsFineExpectation (scope_in given.now) context.old.goals.table (expected_type expected) }
     ensures { IfOk result (λ ty. KindDone (given_of given.now) (schedule_of given.now)
         call_expr None ty context.old context.new) }
 {
@@ -123,7 +123,7 @@ fn infer_uncallable<F: Fn(&mut InferenceContext, ExprId, Expectation) -> Result<
         other: None,
     })?;
     infer_arguments(infer, alloc, context, given, call_expr, args, &[])?;
-    let ty = context.table.next_ty_var()?;
+    let ty = context.goals.table.next_ty_var()?;
     Ok(ty)
 }
 
@@ -146,8 +146,8 @@ fn check_call_arguments<
     requires infers { InfersFrom (given_of given.now) (schedule_of given.now) context.old.clock (F.pre infer.now) (F.post infer.now) }
     requires before { BeforeInputs (given_of given.now) (schedule_of given.now)
         call_expr args.now inputs.now context.old }
-    requires output { IsFine (scope_in given.now) context.old.table output.now }
-    requires expected { IsFineExpectation (scope_in given.now) context.old.table (expected_type expected) }
+    requires output { IsFine (scope_in given.now) context.old.goals.table output.now }
+    requires expected { IsFineExpectation (scope_in given.now) context.old.goals.table (expected_type expected) }
     ensures { IfOk result (λ _. ArgsDone (given_of given.now) (schedule_of given.now)
         call_expr args.now inputs.now context.old context.new) }
 {
@@ -257,8 +257,8 @@ fn unify_with(
 ) -> Result<(), AllocError>
     requires of_body { IsOfBody given.now.body.now context.old.result }
     requires sound { IsSound (scope_in given.now) context.old }
-    requires ty { IsFine (scope_in given.now) context.old.table ty.now }
-    requires other { IsFine (scope_in given.now) context.old.table other.now }
+    requires ty { IsFine (scope_in given.now) context.old.goals.table ty.now }
+    requires other { IsFine (scope_in given.now) context.old.goals.table other.now }
     ensures { IfOk result (λ _. UnifiesOne (given_of given.now) ty.now other.now context.old context.new) }
 {
     unify(context, given, ty, other)?;

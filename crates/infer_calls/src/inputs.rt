@@ -25,9 +25,9 @@ pub fn expect_inputs(
 ) -> Result<(), AllocError>
     requires of_body { IsOfBody given.now.body.now context.old.result }
     requires sound { IsSound (scope_in given.now) context.old }
-    requires inputs { AllFine (scope_in given.now) context.old.table inputs.now }
-    requires output { IsFine (scope_in given.now) context.old.table output.now }
-    requires expected { IsFineExpectation (scope_in given.now) context.old.table (expected_type expected) }
+    requires inputs { AllFine (scope_in given.now) context.old.goals.table inputs.now }
+    requires output { IsFine (scope_in given.now) context.old.goals.table output.now }
+    requires expected { IsFineExpectation (scope_in given.now) context.old.goals.table (expected_type expected) }
     ensures { IfOk result (λ _. ExpectsInputs (given_of given.now) (expected_type expected.entry)
         inputs.now output.now context.old context.new) }
 {
@@ -53,15 +53,15 @@ fn expected_inputs_for_output(
 ) -> Result<Option<List<Ty>>, AllocError>
     requires of_body { IsOfBody given.now.body.now context.old.result }
     requires sound { IsSound (scope_in given.now) context.old }
-    requires inputs { AllFine (scope_in given.now) context.old.table inputs.now }
-    requires output { IsFine (scope_in given.now) context.old.table output.now }
-    requires expected { IsFineExpectation (scope_in given.now) context.old.table (expected_type expected) }
+    requires inputs { AllFine (scope_in given.now) context.old.goals.table inputs.now }
+    requires output { IsFine (scope_in given.now) context.old.goals.table output.now }
+    requires expected { IsFineExpectation (scope_in given.now) context.old.goals.table (expected_type expected) }
     ensures { IfOk result (λ wanted. FindsInputs (given_of given.now) (expected_type expected.entry)
         inputs.now output.now wanted context.old context.new) }
 {
     match expected.only_has_type() {
         Some(expected_output) => {
-            let tried = context.table.fudge(|table| inputs_once(
+            let tried = context.goals.table.fudge(|table| inputs_once(
                 alloc,
                 table,
                 inputs,

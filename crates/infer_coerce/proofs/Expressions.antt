@@ -28,8 +28,8 @@ coerced_done could g s e x t u v old mid new f i h d k =
     record {
       follows = all;
       fine =
-          subst (λ w. IsFine g.scope new.table w) (sym i)
-          (fine_grown g.scope old.table new.table u all.grew (subst (λ y. IsFineExpectation g.scope old.table y) (sym f) h.expected));
+          subst (λ w. IsFine g.scope new.goals.table w) (sym i)
+          (fine_grown g.scope old.goals.table new.goals.table u all.grew (subst (λ y. IsFineExpectation g.scope old.goals.table y) (sym f) h.expected));
       is_expected = λ w k. (let same : Some u ≡ Some w = f ∙ k in i ∙ only_some same);
       tells = λ none. absurd (let clash : Some u ≡ None = f ∙ none in cc);
       each = λ a q.
@@ -50,5 +50,5 @@ module _ (g : Given) (s : Schedule) (e : ExprId) (x : Option Ty) (t u : Ty) (old
   pub refused_own : (y : NotCoercible) (v : Ty) → answer ≡ Err y → v ≡ y.target → CoerceDone g s e x v old (with_mismatch new e (mismatch y.target y.source))
   refused_own y v is at =
       let refused : IsCoercion (Err y) g e t u mid new = subst (λ a. IsCoercion a g e t u mid new) is k in
-      let fine : IsFine g.scope mid.table u = fine_grown g.scope old.table mid.table u d.follows.grew (subst (λ z. IsFineExpectation g.scope old.table z) (sym f) h.expected) in
+      let fine : IsFine g.scope mid.goals.table u = fine_grown g.scope old.goals.table mid.goals.table u d.follows.grew (subst (λ z. IsFineExpectation g.scope old.goals.table z) (sym f) h.expected) in
       coerced_done false g s e x t u v old mid (with_mismatch new e (mismatch y.target y.source)) f (at ∙ refused.answers.1) h d (refused_coerced g e t u mid new d.fine fine y refused)

@@ -15,7 +15,7 @@ use Rattle.infer_coerce.proofs.Unified.{binds_nothing, binds_twice}
 -- so many of the pairs were taken
 pub record KnownSoFar (g : Given) (n : ℕ) (old c : InferenceContext) : Type 0 where
   pub binds : OnlyBinds g old c
-  pub left : length (waiting c.table.pairs) + n ≤ length old.table.pairs.made
+  pub left : length (waiting c.goals.table.pairs) + n ≤ length old.goals.table.pairs.made
 
 one_less : (xs ys zs ws : List WaitingPair) (p : WaitingPair) → ws ≡ xs ++ p ∷ ys → zs ≡ xs ++ ys → length ws ≡ length zs + 1
 one_less xs ys zs ws p was is =
@@ -29,13 +29,13 @@ none_left s (p ∷ ps) h = absurd (omega arith)
 
 module _ (g : Given) (old : InferenceContext) where
   pub begins_known : IsOfBody g.body old.result → IsSound g.scope old → KnownSoFar g 0 old old
-  begins_known h s = record { binds = binds_nothing g old h s; left = omega (arith, waiting_count old.table.pairs) }
+  begins_known h s = record { binds = binds_nothing g old h s; left = omega (arith, waiting_count old.goals.table.pairs) }
 
   module _ (n : ℕ) (c : InferenceContext) (h : KnownSoFar g n old c) where
     pub goes_past_known : (next : InferenceContext) → UnifiesFirst g c next → KnownSoFar g (n + 1) old next
     goes_past_known next u =
-        let is : waiting next.table.pairs ≡ u.takes.ahead ++ u.takes.rest = ap (λ (w : Waiting). waiting w) u.others ∙ u.takes.is in
-        let one = one_less u.takes.ahead u.takes.rest (waiting next.table.pairs) (waiting c.table.pairs) u.pair u.takes.was is in
+        let is : waiting next.goals.table.pairs ≡ u.takes.ahead ++ u.takes.rest = ap (λ (w : Waiting). waiting w) u.others ∙ u.takes.is in
+        let one = one_less u.takes.ahead u.takes.rest (waiting next.goals.table.pairs) (waiting c.goals.table.pairs) u.pair u.takes.was is in
         record { binds = binds_twice g old c next h.binds u.binds; left = omega (arith, one, h.left) }
 
     -- there is none any more
@@ -43,8 +43,8 @@ module _ (g : Given) (old : InferenceContext) where
     no_known next u = subst (λ k. UnifiesKnown g old k) (sym u.1) (record { binds = h.binds; none = u.0 })
 
     -- all were taken
-    pub ends_known : length old.table.pairs.made ≤ n → UnifiesKnown g old c
+    pub ends_known : length old.goals.table.pairs.made ≤ n → UnifiesKnown g old c
     ends_known over = record {
       binds = h.binds;
-      none = none_left c.table (waiting c.table.pairs) (omega (arith, h.left, over));
+      none = none_left c.goals.table (waiting c.goals.table.pairs) (omega (arith, h.left, over));
     }

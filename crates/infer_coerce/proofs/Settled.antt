@@ -33,12 +33,12 @@ pub begins_unify : (g : Given) (ts us : List Ty) (c : InferenceContext) → IsOf
 begins_unify g ts us c h s = record { binds = binds_nothing g c h s; settled = λ i t u lt at there. absurd (omega arith) }
 
 -- what was fine is still fine
-pub still : (g : Given) (ts : List Ty) (old c : InferenceContext) → OnlyBinds g old c → AllFine g.scope old.table ts → AllFine g.scope c.table ts
-still g ts old c o fine = all_fine_grown g.scope old.table c.table ts o.follows.grew fine
+pub still : (g : Given) (ts : List Ty) (old c : InferenceContext) → OnlyBinds g old c → AllFine g.scope old.goals.table ts → AllFine g.scope c.goals.table ts
+still g ts old c o fine = all_fine_grown g.scope old.goals.table c.goals.table ts o.follows.grew fine
 
-pub still_fine : (g : Given) (ts : List Ty) (old c : InferenceContext) (i : ℕ) (t : Ty) → OnlyBinds g old c → AllFine g.scope old.table ts → slice_get ts i ≡ Some t
-    → IsFine g.scope c.table t
-still_fine g ts old c i t o fine at = every_at (IsFine g.scope c.table) ts i t (still g ts old c o fine) at
+pub still_fine : (g : Given) (ts : List Ty) (old c : InferenceContext) (i : ℕ) (t : Ty) → OnlyBinds g old c → AllFine g.scope old.goals.table ts → slice_get ts i ≡ Some t
+    → IsFine g.scope c.goals.table t
+still_fine g ts old c i t o fine at = every_at (IsFine g.scope c.goals.table) ts i t (still g ts old c o fine) at
 
 pub earlier_or_here : (i n : ℕ) → i < n + 1 → (i < n) ⊎ (i ≡ n)
 earlier_or_here i n lt = grind arith

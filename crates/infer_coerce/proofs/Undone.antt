@@ -6,34 +6,35 @@ use Rattle.infer_table.specs.Solutions.{Solves, log_of}
 use Rattle.infer_table.specs.Table.{State, Grew, IsBack, IsFront, bindings}
 use Rattle.infer_table.specs.Waiting.{Waiting, waiting}
 use Rattle.infer_table.proofs.UndoLaws.{front_itself}
+use Rattle.infer_goals.specs.Stays.{stays_with}
 use Rattle.infer_result.specs.Closed.{IsOfBody}
 use Rattle.infer_result.specs.Places.{Given}
+use Rattle.infer_ctx.specs.Context.{with_table}
 use Rattle.infer_ctx.specs.declared.context.InferenceContext.{InferenceContext}
 use Rattle.infer_ctx.specs.Closings.{IsSound}
 use Rattle.infer_ctx.specs.Fine.{AreFinePairs, is_fine_head}
 use Rattle.infer_ctx.specs.Steps.{OnlyBinds}
 use Rattle.infer_ctx.proofs.UnderClosings.{kept_later}
 use Rattle.infer_ctx.proofs.FineTypes.{fine_asked_grown, fine_pairs_grown, seen_fine_grown, table_fine_grown}
-use Rattle.infer_coerce.proofs.Unified.{with_table}
 
-module _ (g : Given) (c : InferenceContext) (after : State) (b : IsBack c.table after) where
-  back_grew : Grew c.table after
+module _ (g : Given) (c : InferenceContext) (after : State) (b : IsBack c.goals.table after) where
+  back_grew : Grew c.goals.table after
   back_grew = record {
     kinds = b.kinds;
-    log = subst (λ bs. IsFront (bindings c.table) bs) (sym b.log) (front_itself (bindings c.table));
-    made = subst (λ (w : Waiting). IsFront c.table.pairs.made w.made) (sym b.pairs) (front_itself c.table.pairs.made);
-    taken = subst (λ (w : Waiting). IsFront c.table.pairs.taken w.taken) (sym b.pairs) (front_itself c.table.pairs.taken);
-    diverging = subst (λ ns. IsFront c.table.diverging ns) (sym b.diverging) (front_itself c.table.diverging);
+    log = subst (λ bs. IsFront (bindings c.goals.table) bs) (sym b.log) (front_itself (bindings c.goals.table));
+    made = subst (λ (w : Waiting). IsFront c.goals.table.pairs.made w.made) (sym b.pairs) (front_itself c.goals.table.pairs.made);
+    taken = subst (λ (w : Waiting). IsFront c.goals.table.pairs.taken w.taken) (sym b.pairs) (front_itself c.goals.table.pairs.taken);
+    diverging = subst (λ ns. IsFront c.goals.table.diverging ns) (sym b.diverging) (front_itself c.goals.table.diverging);
   }
 
   back_sound : IsSound g.scope c → IsSound g.scope (with_table c after)
   back_sound s = record {
-    fine = table_fine_grown g.scope c.table after c.result back_grew s.fine;
-    seen = seen_fine_grown g.scope c.table after c.result back_grew s.seen;
-    asked = fine_asked_grown g.scope c.table after c.asked back_grew s.asked;
-    kept = kept_later c.table after c.asked back_grew b.pairs s.kept;
-    pairs = fine_pairs_grown g.scope c.table after (waiting after.pairs) back_grew
-        (subst (λ w. AreFinePairs g.scope c.table (waiting w)) (sym b.pairs) s.pairs);
+    fine = table_fine_grown g.scope c.goals.table after c.result back_grew s.fine;
+    seen = seen_fine_grown g.scope c.goals.table after c.result back_grew s.seen;
+    asked = fine_asked_grown g.scope c.goals.table after c.asked back_grew s.asked;
+    kept = kept_later c.goals.table after c.asked back_grew b.pairs s.kept;
+    pairs = fine_pairs_grown g.scope c.goals.table after (waiting after.pairs) back_grew
+        (subst (λ w. AreFinePairs g.scope c.goals.table (waiting w)) (sym b.pairs) s.pairs);
     bound = subst (λ bs. BindsOnly (is_fine_head g.scope) (log_of bs)) (sym b.log) s.bound;
     some = (
       s.some.0,
@@ -46,7 +47,7 @@ module _ (g : Given) (c : InferenceContext) (after : State) (b : IsBack c.table 
 
   pub binds_back : IsOfBody g.body c.result → IsSound g.scope c → OnlyBinds g c (with_table c after)
   binds_back h s = record {
-    follows = record { clock = omega arith; grew = back_grew; of_body = h; sound = back_sound s; told = λ k. k };
+    follows = record { clock = omega arith; grew = back_grew; stays = stays_with c.goals after; of_body = h; sound = back_sound s; told = λ k. k };
     result = refl;
     asked = refl;
     clock = refl;

@@ -32,6 +32,7 @@ use Rattle.infer_table.proofs.HoleLaws.{grew_twice}
 use Rattle.infer_table.proofs.TableLaws.{hole_where_open, is_var_at}
 use Rattle.infer_table.proofs.UndoLaws.{front_itself}
 use Rattle.infer_table.proofs.BindingLaws.{get_last}
+use Rattle.infer_goals.specs.Stays.{stays_with}
 use Rattle.infer_result.specs.Closed.{IsOfBody}
 use Rattle.infer_result.specs.Places.{Given}
 use Rattle.infer_result.specs.Table.{mismatch, At}
@@ -40,7 +41,7 @@ use Rattle.infer_ctx.specs.Closings.{IsClosing, Closes, IsSound, IsDecided, IsAw
 use Rattle.infer_ctx.specs.Fine.{is_fine_head, HasFineHeads, IsFine, AreFinePairs}
 use Rattle.infer_ctx.specs.declared.context.InferenceContext.{InferenceContext}
 use Rattle.infer_ctx.specs.Steps.{OnlyBinds}
-use Rattle.infer_ctx.specs.Context.{with_mismatch, waiting_at}
+use Rattle.infer_ctx.specs.Context.{with_mismatch, waiting_at, with_table}
 use Rattle.infer_ctx.specs.Found.{noted}
 use Rattle.infer_ctx.specs.Found as found
 use Rattle.infer_ctx.proofs.OverTypes.{CarriedCases, over_carried, fine_closed, same_closed, apart_closed, closing_respects}
@@ -88,35 +89,32 @@ module _ (sc : Scope) (state : State) (h : BindsOnly (is_fine_head sc) (log_of (
   pub completion_closing : Respects (terms_of (completion state)) → IsClosing (completion state)
   completion_closing r = composed_closing fallback (record { var = λ n. carried_error; int_var = λ n. (Int int.I32, refl) }) r
 
-pub completion_closes : (sc : Scope) (c : InferenceContext) → IsSound sc c → Meets (terms_of (completion c.table)) c.table → Respects (terms_of (completion c.table)) → Closes (completion c.table) c
-completion_closes sc c s m r = record { closing = completion_closing sc c.table s.bound r; meets = m }
+pub completion_closes : (sc : Scope) (c : InferenceContext) → IsSound sc c → Meets (terms_of (completion c.goals.table)) c.goals.table → Respects (terms_of (completion c.goals.table)) → Closes (completion c.goals.table) c
+completion_closes sc c s m r = record { closing = completion_closing sc c.goals.table s.bound r; meets = m }
 
 -- ---- two types unified, or refused
-abbrev pub with_table : InferenceContext → State → InferenceContext
-with_table c state = record c { table = state }
-
-module _ (sc : Scope) (c : InferenceContext) (t u : Ty) (s : IsSound sc c) (ft : IsFine sc c.table t) (fu : IsFine sc c.table u) where
+module _ (sc : Scope) (c : InferenceContext) (t u : Ty) (s : IsSound sc c) (ft : IsFine sc c.goals.table t) (fu : IsFine sc c.goals.table u) where
   -- what is known of the context goes on to hold
-  unified_sound : (after : State) → AreUnified c.table after t u → Meets (terms_of (completion after)) after → Respects (terms_of (completion after)) → IsSound sc (with_table c after)
+  unified_sound : (after : State) → AreUnified c.goals.table after t u → Meets (terms_of (completion after)) after → Respects (terms_of (completion after)) → IsSound sc (with_table c after)
   unified_sound after k m r =
-      let bound = binds_only_unified (is_fine_head sc) (fine_no_alias sc) head.Bool refl c.table after t u k (terms_of (completion after)) m s.bound ft.heads fu.heads in
+      let bound = binds_only_unified (is_fine_head sc) (fine_no_alias sc) head.Bool refl c.goals.table after t u k (terms_of (completion after)) m s.bound ft.heads fu.heads in
       record {
-        fine = table_fine_grown sc c.table after c.result k.grown s.fine;
-        seen = seen_fine_grown sc c.table after c.result k.grown s.seen;
-        asked = fine_asked_grown sc c.table after c.asked k.grown s.asked;
-        kept = kept_later c.table after c.asked k.grown k.pairs s.kept;
-        pairs = fine_pairs_grown sc c.table after (waiting after.pairs) k.grown (subst (λ w. AreFinePairs sc c.table (waiting w)) (sym k.pairs) s.pairs);
+        fine = table_fine_grown sc c.goals.table after c.result k.grown s.fine;
+        seen = seen_fine_grown sc c.goals.table after c.result k.grown s.seen;
+        asked = fine_asked_grown sc c.goals.table after c.asked k.grown s.asked;
+        kept = kept_later c.goals.table after c.asked k.grown k.pairs s.kept;
+        pairs = fine_pairs_grown sc c.goals.table after (waiting after.pairs) k.grown (subst (λ w. AreFinePairs sc c.goals.table (waiting w)) (sym k.pairs) s.pairs);
         bound = bound;
         some = (completion after, record { closing = completion_closing sc after bound r; meets = m });
       }
 
   -- the two are the same under each assignment from then on
-  unified_closed : (after : State) → AreUnified c.table after t u → (a : Assignment) → Closes a (with_table c after) → folded a t ≡ folded a u
-  unified_closed after k a q = same_closed sc a t u q.closing ft.heads fu.heads (unified_makes_same (is_fine_head sc) c.table after t u (fine_no_alias sc) s.bound ft.heads fu.heads k (terms_of a) q.meets)
+  unified_closed : (after : State) → AreUnified c.goals.table after t u → (a : Assignment) → Closes a (with_table c after) → folded a t ≡ folded a u
+  unified_closed after k a q = same_closed sc a t u q.closing ft.heads fu.heads (unified_makes_same (is_fine_head sc) c.goals.table after t u (fine_no_alias sc) s.bound ft.heads fu.heads k (terms_of a) q.meets)
 
   -- they are the same under none
-  refused_closed : (after : State) → AreRefused c.table after t u → (a : Assignment) → Closes a c → folded a t ≡ folded a u → ⊥
-  refused_closed after k a q same = refused_apart (is_fine_head sc) c.table t u (fine_no_alias sc) s.bound ft.heads fu.heads k.impossible (terms_of a) (closing_respects a q.closing) q.meets (apart_closed a t u same)
+  refused_closed : (after : State) → AreRefused c.goals.table after t u → (a : Assignment) → Closes a c → folded a t ≡ folded a u → ⊥
+  refused_closed after k a q same = refused_apart (is_fine_head sc) c.goals.table t u (fine_no_alias sc) s.bound ft.heads fu.heads k.impossible (terms_of a) (closing_respects a q.closing) q.meets (apart_closed a t u same)
 
 -- nothing is found out
 pub binds_nothing : (g : Given) (c : InferenceContext) → IsOfBody g.body c.result → IsSound g.scope c → OnlyBinds g c c
@@ -130,13 +128,14 @@ binds_twice g x y z h k = record {
   clock = k.clock ∙ h.clock;
 }
 
-module _ (g : Given) (t u : Ty) (c : InferenceContext) (h : IsOfBody g.body c.result) (s : IsSound g.scope c) (ft : IsFine g.scope c.table t) (fu : IsFine g.scope c.table u) where
-  pub unified : (after : State) → AreUnified c.table after t u → Meets (terms_of (completion after)) after → Respects (terms_of (completion after)) → IsUnifiedIf true g t u c (with_table c after)
+module _ (g : Given) (t u : Ty) (c : InferenceContext) (h : IsOfBody g.body c.result) (s : IsSound g.scope c) (ft : IsFine g.scope c.goals.table t) (fu : IsFine g.scope c.goals.table u) where
+  pub unified : (after : State) → AreUnified c.goals.table after t u → Meets (terms_of (completion after)) after → Respects (terms_of (completion after)) → IsUnifiedIf true g t u c (with_table c after)
   unified after k m r = record {
     binds = record {
       follows = record {
         clock = omega arith;
         grew = k.grown;
+        stays = stays_with c.goals after;
         of_body = h;
         sound = unified_sound g.scope c t u s ft fu after k m r;
         told = λ told. told;
@@ -148,14 +147,14 @@ module _ (g : Given) (t u : Ty) (c : InferenceContext) (h : IsOfBody g.body c.re
     each = unified_closed g.scope c t u s ft fu after k;
   }
 
-  pub refused : (after : State) → AreRefused c.table after t u → IsUnifiedIf false g t u c (with_table c after)
+  pub refused : (after : State) → AreRefused c.goals.table after t u → IsUnifiedIf false g t u c (with_table c after)
   refused after k =
       subst (λ state. IsUnifiedIf false g t u c (with_table c state)) (sym k.unchanged) (record {
         binds = binds_nothing g c h s;
         each = refused_closed g.scope c t u s ft fu after k;
       })
 
-  pub unified_if : (after : State) (yes : Bool) → AreUnifiedIf yes c.table after t u → Meets (terms_of (completion after)) after → Respects (terms_of (completion after)) → IsUnifiedIf yes g t u c (with_table c after)
+  pub unified_if : (after : State) (yes : Bool) → AreUnifiedIf yes c.goals.table after t u → Meets (terms_of (completion after)) after → Respects (terms_of (completion after)) → IsUnifiedIf yes g t u c (with_table c after)
   unified_if after true k m r = unified after k m r
   unified_if after false k m r = refused after k
 
@@ -167,7 +166,7 @@ unified_later g t u x y z h k = record {
 }
 
 -- where they are unified or refused, they are the same from here on, or differ
-pub settled_by : (yes : Bool) (g : Given) (t u : Ty) (x y z : InferenceContext) → z.table ≡ y.table → IsUnifiedIf yes g t u x y → SameOrDiffer z t u
+pub settled_by : (yes : Bool) (g : Given) (t u : Ty) (x y z : InferenceContext) → z.goals.table ≡ y.goals.table → IsUnifiedIf yes g t u x y → SameOrDiffer z t u
 settled_by true g t u x y z same h = inl (λ a q. h.each a (closes_same a z y same q))
 settled_by false g t u x y z same h = inr (λ a q. h.each a (closes_same a z y same q))
 
@@ -208,7 +207,7 @@ split_at (x ∷ xs) ys p q zero e = inr (0, e)
 split_at (x ∷ xs) ys p q (suc i) e = elim (split_at xs ys p q i e) [ inl k ↦ inl k | inr k ↦ inr (suc k.0, k.1) ]
 
 -- what was asked by a pair that was unified, or was refused, is decided
-pub pair_decided : (yes : Bool) (g : Given) (p : WaitingPair) (old new : InferenceContext) → IsUnifiedIf yes g p.source p.target old new → IsDecided new.table (mismatch p.target p.source)
+pub pair_decided : (yes : Bool) (g : Given) (p : WaitingPair) (old new : InferenceContext) → IsUnifiedIf yes g p.source p.target old new → IsDecided new.goals.table (mismatch p.target p.source)
 pair_decided true g p old new u = inl (λ a k l. sym (u.each a (record { closing = k; meets = l })))
 pair_decided false g p old new u = inr (λ a k l same. u.each a (record { closing = k; meets = l }) (sym same))
 
@@ -218,53 +217,53 @@ same_pairs false old new t u k = ap (λ (state : State). state.pairs) k.unchange
 
 -- a pair is taken off those that wait, and unified or refused
 module _ (g : Given) (c : InferenceContext) (h : IsOfBody g.body c.result) (s : IsSound g.scope c) where
-  module _ (mid after : State) (p : WaitingPair) (k : TakesFirstKnown c.table mid p) where
-    all_pairs : AreFinePairs g.scope c.table (k.ahead ++ p ∷ k.rest)
-    all_pairs = subst (λ ps. AreFinePairs g.scope c.table ps) k.was s.pairs
+  module _ (mid after : State) (p : WaitingPair) (k : TakesFirstKnown c.goals.table mid p) where
+    all_pairs : AreFinePairs g.scope c.goals.table (k.ahead ++ p ∷ k.rest)
+    all_pairs = subst (λ ps. AreFinePairs g.scope c.goals.table ps) k.was s.pairs
 
-    this_pair : AreFinePairs g.scope c.table (p ∷ k.rest)
-    this_pair = fine_pairs_right g.scope c.table k.ahead (p ∷ k.rest) all_pairs
+    this_pair : AreFinePairs g.scope c.goals.table (p ∷ k.rest)
+    this_pair = fine_pairs_right g.scope c.goals.table k.ahead (p ∷ k.rest) all_pairs
 
-    left_pairs : AreFinePairs g.scope c.table (waiting mid.pairs)
-    left_pairs = subst (λ ps. AreFinePairs g.scope c.table ps) (sym k.is) (
-        fine_pairs_append g.scope c.table k.ahead k.rest (fine_pairs_left g.scope c.table k.ahead (p ∷ k.rest) all_pairs) this_pair.1
+    left_pairs : AreFinePairs g.scope c.goals.table (waiting mid.pairs)
+    left_pairs = subst (λ ps. AreFinePairs g.scope c.goals.table ps) (sym k.is) (
+        fine_pairs_append g.scope c.goals.table k.ahead k.rest (fine_pairs_left g.scope c.goals.table k.ahead (p ∷ k.rest) all_pairs) this_pair.1
         )
 
-    same_log : bindings c.table ≡ bindings mid
+    same_log : bindings c.goals.table ≡ bindings mid
     same_log = ap (λ (x : Substitution). x.log) (sym k.substitution)
 
     -- the context as if nothing had been asked: what the pair asked for is open while it is in hand
     abbrev unasked : State → InferenceContext
-    unasked state = record c { table = state; asked = [] }
+    unasked state = record (with_table c state) { asked = [] }
 
     unasked_sound : IsSound g.scope (unasked mid)
     unasked_sound = record {
-      fine = table_fine_grown g.scope c.table mid c.result k.grown s.fine;
-      seen = seen_fine_grown g.scope c.table mid c.result k.grown s.seen;
+      fine = table_fine_grown g.scope c.goals.table mid c.result k.grown s.fine;
+      seen = seen_fine_grown g.scope c.goals.table mid c.result k.grown s.seen;
       asked = λ n m i. absurd (cc);
       kept = λ n m i. absurd (cc);
-      pairs = fine_pairs_grown g.scope c.table mid (waiting mid.pairs) k.grown left_pairs;
+      pairs = fine_pairs_grown g.scope c.goals.table mid (waiting mid.pairs) k.grown left_pairs;
       bound = subst (λ bs. BindsOnly (is_fine_head g.scope) (log_of bs)) same_log s.bound;
       some = (s.some.0, record { closing = s.some.1.closing; meets = subst (λ bs. Solves (terms_of s.some.0) (log_of bs)) same_log s.some.1.meets });
     }
 
     source_fine : IsFine g.scope mid p.source
-    source_fine = fine_grown g.scope c.table mid p.source k.grown this_pair.0.0
+    source_fine = fine_grown g.scope c.goals.table mid p.source k.grown this_pair.0.0
 
     target_fine : IsFine g.scope mid p.target
-    target_fine = fine_grown g.scope c.table mid p.target k.grown this_pair.0.1
+    target_fine = fine_grown g.scope c.goals.table mid p.target k.grown this_pair.0.1
 
     module _ (yes : Bool) (u : AreUnifiedIf yes mid after p.source p.target) (meets : Meets (terms_of (completion after)) after) (respects : Respects (terms_of (completion after))) where
       tried : IsUnifiedIf yes g p.source p.target (unasked mid) (unasked after)
       tried = unified_if g p.source p.target (unasked mid) h unasked_sound source_fine target_fine after yes u meets respects
 
-      grew_on : Grew c.table after
-      grew_on = grew_twice c.table mid after k.grown tried.binds.follows.grew
+      grew_on : Grew c.goals.table after
+      grew_on = grew_twice c.goals.table mid after k.grown tried.binds.follows.grew
 
       sound_now : IsSound g.scope (unasked after)
       sound_now = tried.binds.follows.sound
 
-      still_kept : (m : TypeMismatch) → IsAwaited c.table m → IsAwaited after m ⊎ IsDecided after m
+      still_kept : (m : TypeMismatch) → IsAwaited c.goals.table m → IsAwaited after m ⊎ IsDecided after m
       still_kept m w = elim (split_at k.ahead k.rest p w.pair w.position (ap (λ ps. slice_get ps w.position) (sym k.was) ∙ w.waits)) [
         | inl is ↦ inr (subst (λ x. IsDecided after x) (ap (λ (x : WaitingPair). mismatch x.target x.source) is ∙ w.is) (pair_decided yes g p (unasked mid) (unasked after) tried))
         | inr q ↦ inl (record {
@@ -280,12 +279,13 @@ module _ (g : Given) (c : InferenceContext) (h : IsOfBody g.body c.result) (s : 
         follows = record {
           clock = omega arith;
           grew = grew_on;
+          stays = stays_with c.goals after;
           of_body = h;
           sound = record {
             fine = sound_now.fine;
             seen = sound_now.seen;
-            asked = fine_asked_grown g.scope c.table after c.asked grew_on s.asked;
-            kept = λ n m i. elim (s.kept n m i) [ inl w ↦ still_kept m w | inr d ↦ inr (decided_later c.table after m grew_on d) ];
+            asked = fine_asked_grown g.scope c.goals.table after c.asked grew_on s.asked;
+            kept = λ n m i. elim (s.kept n m i) [ inl w ↦ still_kept m w | inr d ↦ inr (decided_later c.goals.table after m grew_on d) ];
             pairs = sound_now.pairs;
             bound = sound_now.bound;
             some = (sound_now.some.0, closes_same sound_now.some.0 (unasked after) (with_table c after) refl sound_now.some.1);
@@ -308,12 +308,12 @@ module _ (g : Given) (c : InferenceContext) (h : IsOfBody g.body c.result) (s : 
       }
 
 -- there was none
-pub none_taken : (g : Given) (c : InferenceContext) (after : State) → TakesKnown c.table after None → UnifiesNext false g c (with_table c after)
+pub none_taken : (g : Given) (c : InferenceContext) (after : State) → TakesKnown c.goals.table after None → UnifiesNext false g c (with_table c after)
 none_taken g c after k = (k.none, ap (λ state. with_table c state) k.unchanged)
 
 -- each of these pairs was unified or refused
 abbrev pub EachSoFar : Given → List WaitingPair → InferenceContext → InferenceContext → ℕ → Type 0
-EachSoFar g pairs old c n = OnlyBinds g old c × ((i : ℕ) (p : WaitingPair) → i < n → slice_get pairs i ≡ Some p → IsDecided c.table (mismatch p.target p.source))
+EachSoFar g pairs old c n = OnlyBinds g old c × ((i : ℕ) (p : WaitingPair) → i < n → slice_get pairs i ≡ Some p → IsDecided c.goals.table (mismatch p.target p.source))
 
 pub one_more : (g : Given) (pairs : List WaitingPair) (old c new : InferenceContext) (n : ℕ) (p : WaitingPair) (yes : Bool) → EachSoFar g pairs old c n → slice_get pairs n ≡ Some p → IsUnifiedIf yes g p.source p.target c new → EachSoFar g pairs old new (n + 1)
 one_more g pairs old c new n p fits h at u = (
@@ -321,21 +321,21 @@ one_more g pairs old c new n p fits h at u = (
   λ i q lo there. elim (eq-or-lt_of_le {n = i} {m = n} (omega arith)) [
     | inl is ↦
         let same : p ≡ q = (let both : Some p ≡ Some q = sym at ∙ (ap (λ k. slice_get pairs k) (sym is) ∙ there) in cc) in
-        subst (λ (x : WaitingPair). IsDecided new.table (mismatch x.target x.source)) same (pair_decided fits g p c new u)
-    | inr lo ↦ decided_later c.table new.table (mismatch q.target q.source) u.binds.follows.grew (h.1 i q lo there)
+        subst (λ (x : WaitingPair). IsDecided new.goals.table (mismatch x.target x.source)) same (pair_decided fits g p c new u)
+    | inr lo ↦ decided_later c.goals.table new.goals.table (mismatch q.target q.source) u.binds.follows.grew (h.1 i q lo there)
   ],
 )
 
 -- in the end all that is asked is decided, where each pair that waited was tried
-pub all_decided : (g : Given) (old new : InferenceContext) (pairs : List WaitingPair) → AskedIsKept old.table old.asked → pairs ≡ waiting old.table.pairs → OnlyBinds g old new → ((i : ℕ) (p : WaitingPair) → slice_get pairs i ≡ Some p → IsDecided new.table (mismatch p.target p.source)) → AskedIsDecided new.table new.asked
+pub all_decided : (g : Given) (old new : InferenceContext) (pairs : List WaitingPair) → AskedIsKept old.goals.table old.asked → pairs ≡ waiting old.goals.table.pairs → OnlyBinds g old new → ((i : ℕ) (p : WaitingPair) → slice_get pairs i ≡ Some p → IsDecided new.goals.table (mismatch p.target p.source)) → AskedIsDecided new.goals.table new.asked
 all_decided g old new pairs kept are b each n m i = elim (kept n m (subst (λ (xs : List (Option TypeMismatch)). At xs n m) b.asked i)) [
-  | inl w ↦ subst (λ x. IsDecided new.table x) w.is (each w.position w.pair (ap (λ ps. slice_get ps w.position) are ∙ w.waits))
-  | inr d ↦ decided_later old.table new.table m b.follows.grew d
+  | inl w ↦ subst (λ x. IsDecided new.goals.table x) w.is (each w.position w.pair (ap (λ ps. slice_get ps w.position) are ∙ w.waits))
+  | inr d ↦ decided_later old.goals.table new.goals.table m b.follows.grew d
 ]
 
 -- a pair that waited is fine, also once more is found out
-pub pair_still_fine : (g : Given) (old c : InferenceContext) (ps : List WaitingPair) (i : ℕ) (p : WaitingPair) → AreFinePairs g.scope old.table ps → OnlyBinds g old c → slice_get ps i ≡ Some p → IsFine g.scope c.table p.source × IsFine g.scope c.table p.target
-pair_still_fine g old c ps i p h b at = fine_pair_at g.scope c.table ps i p (fine_pairs_grown g.scope old.table c.table ps b.follows.grew h) at
+pub pair_still_fine : (g : Given) (old c : InferenceContext) (ps : List WaitingPair) (i : ℕ) (p : WaitingPair) → AreFinePairs g.scope old.goals.table ps → OnlyBinds g old c → slice_get ps i ≡ Some p → IsFine g.scope c.goals.table p.source × IsFine g.scope c.goals.table p.target
+pair_still_fine g old c ps i p h b at = fine_pair_at g.scope c.goals.table ps i p (fine_pairs_grown g.scope old.goals.table c.goals.table ps b.follows.grew h) at
 
 -- ---- coercions
 
@@ -349,7 +349,7 @@ module _ (g : Given) (e : ExprId) (t u : Ty) (c new : InferenceContext) where
   }
 
   -- where it can't be made, the mismatch is noted
-  module _ (ft : IsFine g.scope c.table t) (fu : IsFine g.scope c.table u) where
+  module _ (ft : IsFine g.scope c.goals.table t) (fu : IsFine g.scope c.goals.table u) where
     pub refused_coerced : (x : NotCoercible) → IsCoercion (Err x) g e t u c new → IsCoerced false g e t u c (with_mismatch new e (mismatch x.target x.source))
     refused_coerced x k =
         let f = k.follows in
@@ -357,7 +357,7 @@ module _ (g : Given) (e : ExprId) (t u : Ty) (c new : InferenceContext) where
         let here : IsCoerced false g e t u c last = record {
           follows = assumption (
             of_body_mismatch g.body new f.of_body e (mismatch u t),
-            sound_mismatch new f.sound e (mismatch u t) (fine_grown g.scope c.table new.table u f.grew fu) (fine_grown g.scope c.table new.table t f.grew ft),
+            sound_mismatch new f.sound e (mismatch u t) (fine_grown g.scope c.goals.table new.goals.table u f.grew fu) (fine_grown g.scope c.goals.table new.goals.table t f.grew ft),
             f,
           );
           clock = k.clock;
@@ -381,45 +381,45 @@ get_left (z ∷ xs) y (suc i) x e = get_left xs y i x e
 pub unknown_at : (state : State) (t r : Ty) (n : ℕ) → resolved_type state r ≡ resolved_type state t → IsOpenOrKnown (bindings state) r → r ≡ ty.Var n → is_type_hole (resolved_term state t) ≡ true
 unknown_at state t r n same open_or_known is = ap (λ (u : Ty). is_type_hole (term u)) (sym same) ∙ (hole_where_open (bindings state) r open_or_known ∙ is_var_at r n is)
 
-module _ (g : Given) (e : ExprId) (t u : Ty) (c : InferenceContext) (h : IsOfBody g.body c.result) (s : IsSound g.scope c) (ft : IsFine g.scope c.table t) (fu : IsFine g.scope c.table u) (may : MayWait c e t u) (is_last : waiting (with_waiting c.table t u (node.ExprId e)).pairs ≡ waiting c.table.pairs ++ (record { source = t; target = u; node = node.ExprId e }) ∷ []) where
+module _ (g : Given) (e : ExprId) (t u : Ty) (c : InferenceContext) (h : IsOfBody g.body c.result) (s : IsSound g.scope c) (ft : IsFine g.scope c.goals.table t) (fu : IsFine g.scope c.goals.table u) (may : MayWait c e t u) (is_last : waiting (with_waiting c.goals.table t u (node.ExprId e)).pairs ≡ waiting c.goals.table.pairs ++ (record { source = t; target = u; node = node.ExprId e }) ∷ []) where
   abbrev waiting_pair : WaitingPair
   waiting_pair = record { source = t; target = u; node = node.ExprId e }
 
   abbrev after_wait : State
-  after_wait = with_waiting c.table t u (node.ExprId e)
+  after_wait = with_waiting c.goals.table t u (node.ExprId e)
 
   abbrev last : InferenceContext
   last = waiting_at c e t u
 
-  wait_grew : Grew c.table after_wait
+  wait_grew : Grew c.goals.table after_wait
   wait_grew = record {
-    kinds = front_itself c.table.substitution.kinds;
-    log = front_itself (bindings c.table);
+    kinds = front_itself c.goals.table.substitution.kinds;
+    log = front_itself (bindings c.goals.table);
     made = (waiting_pair ∷ [], refl);
-    taken = front_itself c.table.pairs.taken;
-    diverging = front_itself c.table.diverging;
+    taken = front_itself c.goals.table.pairs.taken;
+    diverging = front_itself c.goals.table.diverging;
   }
 
   wait_sound : IsSound g.scope last
   wait_sound = record {
-    fine = table_fine_grown g.scope c.table after_wait c.result wait_grew s.fine;
-    seen = seen_fine_grown g.scope c.table after_wait c.result wait_grew s.seen;
+    fine = table_fine_grown g.scope c.goals.table after_wait c.result wait_grew s.fine;
+    seen = seen_fine_grown g.scope c.goals.table after_wait c.result wait_grew s.seen;
     asked = λ n m i.
         let P : TypeMismatch → Type 0 = λ x. IsFine g.scope after_wait x.expected × IsFine g.scope after_wait x.actual in
         elim (noted-cases c.asked e.0 n (mismatch u t) m i) [
-          | inl q ↦ fine_asked_grown g.scope c.table after_wait c.asked wait_grew s.asked n m q
-          | inr q ↦ subst P q.1 (fine_grown g.scope c.table after_wait u wait_grew fu, fine_grown g.scope c.table after_wait t wait_grew ft)
+          | inl q ↦ fine_asked_grown g.scope c.goals.table after_wait c.asked wait_grew s.asked n m q
+          | inr q ↦ subst P q.1 (fine_grown g.scope c.goals.table after_wait u wait_grew fu, fine_grown g.scope c.goals.table after_wait t wait_grew ft)
         ];
     kept = λ n m i.
         elim (noted-cases c.asked e.0 n (mismatch u t) m i) [
           | inl q ↦
               elim (s.kept n m q) [
-                | inl w ↦ inl (record { position = w.position; pair = w.pair; waits = ap (λ ps. slice_get ps w.position) is_last ∙ get_left (waiting c.table.pairs) waiting_pair w.position w.pair w.waits; is = w.is })
-                | inr d ↦ inr (decided_later c.table after_wait m wait_grew d)
+                | inl w ↦ inl (record { position = w.position; pair = w.pair; waits = ap (λ ps. slice_get ps w.position) is_last ∙ get_left (waiting c.goals.table.pairs) waiting_pair w.position w.pair w.waits; is = w.is })
+                | inr d ↦ inr (decided_later c.goals.table after_wait m wait_grew d)
               ]
-          | inr q ↦ inl (record { position = length (waiting c.table.pairs); pair = waiting_pair; waits = ap (λ ps. slice_get ps (length (waiting c.table.pairs))) is_last ∙ get_last (waiting c.table.pairs) waiting_pair; is = q.1 })
+          | inr q ↦ inl (record { position = length (waiting c.goals.table.pairs); pair = waiting_pair; waits = ap (λ ps. slice_get ps (length (waiting c.goals.table.pairs))) is_last ∙ get_last (waiting c.goals.table.pairs) waiting_pair; is = q.1 })
         ];
-    pairs = fine_pairs_grown g.scope c.table after_wait (waiting after_wait.pairs) wait_grew (fine_pair_more g.scope c.table c.table.pairs waiting_pair s.pairs (ft, fu));
+    pairs = fine_pairs_grown g.scope c.goals.table after_wait (waiting after_wait.pairs) wait_grew (fine_pair_more g.scope c.goals.table c.goals.table.pairs waiting_pair s.pairs (ft, fu));
     bound = s.bound;
     some = (s.some.0, record { closing = s.some.1.closing; meets = s.some.1.meets });
   }
@@ -446,7 +446,7 @@ module _ (g : Given) (e : ExprId) (t u : Ty) (c : InferenceContext) (h : IsOfBod
 
   pub waits_coercion : (r : Coerced) → r.ty ≡ u → IsCoercion (Ok r) g e t u c last
   waits_coercion r is = record {
-    follows = record { clock = omega arith; grew = wait_grew; of_body = h; sound = wait_sound; told = λ told. told };
+    follows = record { clock = omega arith; grew = wait_grew; stays = stays_with c.goals after_wait; of_body = h; sound = wait_sound; told = λ told. told };
     clock = refl;
     answers = is;
     comes = inr (record { may = may; waits = refl });

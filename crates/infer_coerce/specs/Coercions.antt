@@ -30,7 +30,7 @@ IsCoercedOrNot e actual target old new = (fits : Bool) × IsCoercedIf fits e act
 -- of neither type anything is known, and nothing stands at the expression
 pub record MayWait (c : InferenceContext) (e : ExprId) (actual target : Ty) : Type 0 where
   pub unasked : IsUnasked c e
-  pub unknown : IsUnknownPair c.table (record { source = actual; target = target; node = node.ExprId e })
+  pub unknown : IsUnknownPair c.goals.table (record { source = actual; target = target; node = node.ExprId e })
 
 -- the expression waits till one of the two types is known
 pub record Waits (e : ExprId) (actual target : Ty) (old new : InferenceContext) : Type 0 where

@@ -5,6 +5,7 @@ use Rattle.hir_types.specs.declared.ids.ExprId.{ExprId}
 use Rattle.hir_types.specs.declared.ty.Ty.{Ty}
 use Rattle.hir_raw.specs.Scope.{Scope}
 use Rattle.infer_table.specs.Table.{State, Grew}
+use Rattle.infer_goals.specs.Stays.{StaysButHoles}
 use Rattle.infer_result.specs.Places.{Given}
 use Rattle.infer_ctx.specs.Found.{Found}
 use Rattle.infer_ctx.specs.Fine.{IsFine}
@@ -53,7 +54,7 @@ common_after false u = common.Unknown
 pub record Merges (g : Given) (e : ExprId) (t : Ty) (before after : CoerceMany) (old new : InferenceContext) : Type 0 where
   pub follows : Follows g old new
   pub clock : new.clock ≡ old.clock
-  pub fine : IsFineCommon g.scope new.table after
+  pub fine : IsFineCommon g.scope new.goals.table after
   pub coerced_to : (u : Ty) → before ≡ common.Is u → (could : Bool) × IsCoerced could g e t u old new × (after ≡ common_after could u)
   pub each : (a : Assignment) → Closes a new → MergesInto e (folded a t) (common_under a before) (common_under a after) (found_under a old) (found_under a new)
 
@@ -63,7 +64,8 @@ pub record Completes (sc : Scope) (x : Option Ty) (m : CoerceMany) (t : Ty) (old
   pub result : new.result ≡ old.result
   pub asked : new.asked ≡ old.asked
   pub clock : new.clock ≡ old.clock
-  pub grew : Grew old.table new.table
+  pub grew : Grew old.goals.table new.goals.table
+  pub stays : StaysButHoles old.goals new.goals
   pub sound : IsSound sc new
-  pub fine : IsFine sc new.table t
+  pub fine : IsFine sc new.goals.table t
   pub is : CompletesAs x m t

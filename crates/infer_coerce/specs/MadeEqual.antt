@@ -40,15 +40,15 @@ pub record UnifiesAll (g : Given) (ts us : List Ty) (old new : InferenceContext)
 
 -- of no pair that waits a side is known
 abbrev pub NoneIsKnown : InferenceContext → Type 0
-NoneIsKnown c = AllUnknown c.table (waiting c.table.pairs)
+NoneIsKnown c = AllUnknown c.goals.table (waiting c.goals.table.pairs)
 
 -- the first pair that waited with a side known waits no longer, and its two types were made equal, or differ; the other
 -- pairs wait on, and nothing is recorded
 pub record UnifiesFirst (g : Given) (old new : InferenceContext) : Type 0 where
   pub pair : WaitingPair
   pub taken : State
-  pub takes : TakesFirstKnown old.table taken pair
-  pub others : new.table.pairs ≡ taken.pairs
+  pub takes : TakesFirstKnown old.goals.table taken pair
+  pub others : new.goals.table.pairs ≡ taken.pairs
   pub binds : OnlyBinds g old new
   pub settled : SameOrDiffer new pair.source pair.target
 
@@ -65,9 +65,9 @@ pub record UnifiesKnown (g : Given) (old new : InferenceContext) : Type 0 where
 -- each of these pairs was unified or refused, and nothing is recorded
 pub record UnifiesEach (g : Given) (pairs : List WaitingPair) (old new : InferenceContext) : Type 0 where
   pub binds : OnlyBinds g old new
-  pub decided : (i : ℕ) (p : WaitingPair) → slice_get pairs i ≡ Some p → IsDecided new.table (mismatch p.target p.source)
+  pub decided : (i : ℕ) (p : WaitingPair) → slice_get pairs i ≡ Some p → IsDecided new.goals.table (mismatch p.target p.source)
 
 -- nothing that is asked of an expression is left open, and nothing is recorded
 pub record Settles (g : Given) (old new : InferenceContext) : Type 0 where
   pub binds : OnlyBinds g old new
-  pub decided : AskedIsDecided new.table new.asked
+  pub decided : AskedIsDecided new.goals.table new.asked

@@ -47,8 +47,8 @@ impl CoerceMany {
         requires within { expr.0 < length given.now.body.now.exprs }
         requires of_body { IsOfBody given.now.body.now context.old.result }
         requires sound { IsSound (scope_in given.now) context.old }
-        requires ty { IsFine (scope_in given.now) context.old.table ty }
-        requires common { IsFineCommon (scope_in given.now) context.old.table self.old }
+        requires ty { IsFine (scope_in given.now) context.old.goals.table ty }
+        requires common { IsFineCommon (scope_in given.now) context.old.goals.table self.old }
         ensures { IfOk result (λ _. Merges (given_of given.now) expr ty self.old self.new context.old context.new) }
     {
         match self {
@@ -78,7 +78,7 @@ impl CoerceMany {
         requires within { expr.0 < length given.now.body.now.exprs }
         requires of_body { IsOfBody given.now.body.now context.old.result }
         requires sound { IsSound (scope_in given.now) context.old }
-        requires common { IsFineCommon (scope_in given.now) context.old.table self.old }
+        requires common { IsFineCommon (scope_in given.now) context.old.goals.table self.old }
         ensures { IfOk result (λ _. Merges (given_of given.now) expr unit self.old self.new context.old context.new) }
     {
         let unit = Ty::Tuple(List::new(alloc));
@@ -95,8 +95,8 @@ impl CoerceMany {
         expected: Expectation,
     ) -> Result<Ty, AllocError>
         requires sound { IsSound (scope_in given.now) context.old }
-        requires common { IsFineCommon (scope_in given.now) context.old.table self }
-        requires expected { IsFineExpectation (scope_in given.now) context.old.table (expected_type expected) }
+        requires common { IsFineCommon (scope_in given.now) context.old.goals.table self }
+        requires expected { IsFineExpectation (scope_in given.now) context.old.goals.table (expected_type expected) }
         ensures { IfOk result (λ ty. Completes (scope_in given.now) (expected_type expected.entry) self ty context.old context.new) }
     {
         match self {
@@ -104,7 +104,7 @@ impl CoerceMany {
             CoerceMany::Nothing | CoerceMany::Unknown => match expected.only_has_type() {
                 Some(ty) => ty.dup(alloc),
                 None => {
-                    let ty = context.table.next_ty_var()?;
+                    let ty = context.goals.table.next_ty_var()?;
                     Ok(ty)
                 }
             },

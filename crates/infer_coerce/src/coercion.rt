@@ -67,8 +67,8 @@ pub fn coerce(
     requires within { expr.0 < length given.now.body.now.exprs }
     requires of_body { IsOfBody given.now.body.now context.old.result }
     requires sound { IsSound (scope_in given.now) context.old }
-    requires source { IsFine (scope_in given.now) context.old.table source.now }
-    requires target { IsFine (scope_in given.now) context.old.table target.now }
+    requires source { IsFine (scope_in given.now) context.old.goals.table source.now }
+    requires target { IsFine (scope_in given.now) context.old.goals.table target.now }
     ensures { IfOk result (λ answer. IsCoercion answer (given_of given.now) expr source.now target.now context.old context.new) }
 {
     if source.is_same(target) {
@@ -97,8 +97,8 @@ pub fn demand_coerce(
     requires within { expr.0 < length given.now.body.now.exprs }
     requires of_body { IsOfBody given.now.body.now context.old.result }
     requires sound { IsSound (scope_in given.now) context.old }
-    requires actual { IsFine (scope_in given.now) context.old.table actual.now }
-    requires target { IsFine (scope_in given.now) context.old.table target.now }
+    requires actual { IsFine (scope_in given.now) context.old.goals.table actual.now }
+    requires target { IsFine (scope_in given.now) context.old.goals.table target.now }
     ensures { IfOk result (λ yes. IsCoerced yes (given_of given.now) expr actual.now target.now context.old context.new) }
 {
     match coerce(alloc, context, given, expr, actual, target)? {
@@ -124,11 +124,11 @@ fn may_wait(context: &InferenceContext, expr: ExprId, actual: &Ty, target: &Ty) 
 
 /// Whether two types are different holes of which nothing is known.
 fn are_unknown(context: &InferenceContext, source: &Ty, target: &Ty) -> bool
-    ensures { IsTrue result → (n : _) → IsUnknownPair context.now.table (record { source = source.now; target = target.now; node = n }) }
+    ensures { IsTrue result → (n : _) → IsUnknownPair context.now.goals.table (record { source = source.now; target = target.now; node = n }) }
 {
     match (
-        context.table.shallow_resolve(source),
-        context.table.shallow_resolve(target),
+        context.goals.table.shallow_resolve(source),
+        context.goals.table.shallow_resolve(target),
     ) {
         (Ty::Var(source), Ty::Var(target)) => source != target,
         _ => false,
@@ -155,13 +155,14 @@ fn wait(
     actual: &Ty,
     target: &Ty,
 ) -> Result<(), AllocError>
-    requires actual { IsFine (scope_in given.now) context.old.table actual.now }
-    requires target { IsFine (scope_in given.now) context.old.table target.now }
+    requires actual { IsFine (scope_in given.now) context.old.goals.table actual.now }
+    requires target { IsFine (scope_in given.now) context.old.goals.table target.now }
     ensures waits { IfOk result (λ _. context.new ≡ waiting_at context.old expr actual.now target.now) }
-    ensures last { IfOk result (λ _. waiting context.new.table.pairs ≡ waiting context.old.table.pairs ++ (record { source = actual.now; target = target.now; node = node.ExprId expr }) ∷ []) }
+    ensures last { IfOk result (λ _. waiting context.new.goals.table.pairs ≡ waiting context.old.goals.table.pairs ++ (record { source = actual.now; target = target.now; node = node.ExprId expr }) ∷ []) }
 {
     let asked = mismatch_of(alloc, actual, target)?;
     context
+        .goals
         .table
         .wait(actual, target, ExprOrPatId::ExprId(expr))?;
     context.note_asked(expr, asked);

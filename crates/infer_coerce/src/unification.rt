@@ -22,8 +22,8 @@ pub fn unify(
 ) -> Result<bool, AllocError>
     requires of_body { IsOfBody given.now.body.now context.old.result }
     requires sound { IsSound (scope_in given.now) context.old }
-    requires left { IsFine (scope_in given.now) context.old.table left.now }
-    requires right { IsFine (scope_in given.now) context.old.table right.now }
+    requires left { IsFine (scope_in given.now) context.old.goals.table left.now }
+    requires right { IsFine (scope_in given.now) context.old.goals.table right.now }
     ensures unified { IfOk result (λ yes. IsUnifiedIf yes (given_of given.now) left.now right.now context.old context.new) }
     ensures known { IfOk result (λ yes. yes ≡ true → NoneIsKnown context.new) }
 {
@@ -44,8 +44,8 @@ pub fn unify_all(
 ) -> Result<(), AllocError>
     requires of_body { IsOfBody given.now.body.now context.old.result }
     requires sound { IsSound (scope_in given.now) context.old }
-    requires tys { AllFine (scope_in given.now) context.old.table tys.now }
-    requires others { AllFine (scope_in given.now) context.old.table others.now }
+    requires tys { AllFine (scope_in given.now) context.old.goals.table tys.now }
+    requires others { AllFine (scope_in given.now) context.old.goals.table others.now }
     requires count { length tys.now ≡ length others.now }
     ensures { IfOk result (λ _. UnifiesAll (given_of given.now) tys.now others.now context.old context.new) }
 {
@@ -64,13 +64,13 @@ fn unify_alone(
 ) -> Result<bool, AllocError>
     requires of_body { IsOfBody given.now.body.now context.old.result }
     requires sound { IsSound (scope_in given.now) context.old }
-    requires left { IsFine (scope_in given.now) context.old.table left.now }
-    requires right { IsFine (scope_in given.now) context.old.table right.now }
+    requires left { IsFine (scope_in given.now) context.old.goals.table left.now }
+    requires right { IsFine (scope_in given.now) context.old.goals.table right.now }
     ensures { IfOk result (λ yes. IsUnifiedIf yes (given_of given.now) left.now right.now context.old context.new) }
 {
-    if context.table.unify(left, right)? {
+    if context.goals.table.unify(left, right)? {
         // That some assignment agrees with what is found out now is known of each table.
-        context.table.lawful();
+        context.goals.table.lawful();
         Ok(true)
     } else {
         Ok(false)
@@ -85,11 +85,11 @@ fn unify_next(context: &mut InferenceContext, given: &GivenBody) -> Result<bool,
     requires sound { IsSound (scope_in given.now) context.old }
     ensures { IfOk result (λ yes. UnifiesNext yes (given_of given.now) context.old context.new) }
 {
-    match context.table.take_known()? {
+    match context.goals.table.take_known()? {
         Some(pair) => {
-            context.table.unify(&pair.source, &pair.target)?;
+            context.goals.table.unify(&pair.source, &pair.target)?;
             // That some assignment agrees with what is found out now is known of each table.
-            context.table.lawful();
+            context.goals.table.lawful();
             Ok(true)
         }
         None => Ok(false),
@@ -104,7 +104,7 @@ fn unify_known(context: &mut InferenceContext, given: &GivenBody) -> Result<(), 
     ensures { IfOk result (λ _. UnifiesKnown (given_of given.now) context.old context.new) }
 {
     // Each time one pair less waits, and no more wait than ever were made to.
-    for _ in 0..context.table.pair_count() {
+    for _ in 0..context.goals.table.pair_count() {
         if !unify_next(context, given)? {
             return Ok(());
         }
@@ -119,7 +119,7 @@ pub fn unify_unknown(context: &mut InferenceContext, given: &GivenBody) -> Resul
     requires sound { IsSound (scope_in given.now) context.old }
     ensures { IfOk result (λ _. Settles (given_of given.now) context.old context.new) }
 {
-    let pairs = context.table.pairs()?;
+    let pairs = context.goals.table.pairs()?;
     unify_each(context, given, pairs.as_slice())?;
     Ok(())
 }
@@ -132,7 +132,7 @@ fn unify_each(
 ) -> Result<(), AllocError>
     requires of_body { IsOfBody given.now.body.now context.old.result }
     requires sound { IsSound (scope_in given.now) context.old }
-    requires fine { AreFinePairs (scope_in given.now) context.old.table pairs.now }
+    requires fine { AreFinePairs (scope_in given.now) context.old.goals.table pairs.now }
     ensures { IfOk result (λ _. UnifiesEach (given_of given.now) pairs.now context.old context.new) }
 {
     for pair in pairs {

@@ -8,6 +8,7 @@ use Rattle.hir_raw.specs.Scope.{Scope}
 use Rattle.infer_table.proofs.UndoLaws.{grew_itself}
 use Rattle.infer_table.proofs.HoleLaws.{grew_twice}
 use Rattle.infer_table.specs.Table.{State}
+use Rattle.infer_goals.specs.Stays.{stays_itself, stays_twice}
 use Rattle.infer_result.specs.Closed.{IsOfBody}
 use Rattle.infer_result.specs.Places.{Given}
 use Rattle.infer_ctx.specs.declared.context.InferenceContext.{InferenceContext}
@@ -23,12 +24,13 @@ use Rattle.infer_ctx.proofs.OverTypes.{fine_closed}
 
 -- ---- one after another
 pub follows_itself : (g : Given) (c : InferenceContext) → IsOfBody g.body c.result → IsSound g.scope c → Follows g c c
-follows_itself g c h s = record { clock = omega arith; grew = grew_itself c.table; of_body = h; sound = s; told = λ k. k }
+follows_itself g c h s = record { clock = omega arith; grew = grew_itself c.goals.table; stays = stays_itself c.goals; of_body = h; sound = s; told = λ k. k }
 
 pub follows_twice : (g : Given) (x y z : InferenceContext) → Follows g x y → Follows g y z → Follows g x z
 follows_twice g x y z f h = record {
   clock = omega (arith, f.clock, h.clock);
-  grew = grew_twice x.table y.table z.table f.grew h.grew;
+  grew = grew_twice x.goals.table y.goals.table z.goals.table f.grew h.grew;
+  stays = stays_twice x.goals y.goals z.goals f.stays h.stays;
   of_body = h.of_body;
   sound = h.sound;
   told = λ k. h.told (f.told k);
@@ -57,7 +59,7 @@ module _ (g : Given) (s : Schedule) (a : Assignment) (c : InferenceContext) (k :
     state = h.state.each a k;
     within = h.within;
     here = h.here;
-    expected = expected_carried g.scope a c.table x k.closing h.expected;
+    expected = expected_carried g.scope a c.goals.table x k.closing h.expected;
   }
 
   pub within_under : (e : ExprId) (x : Option Ty) → Within g s e x c → IsInside g s e (expected_under a x) (found_under a c)
@@ -66,5 +68,5 @@ module _ (g : Given) (s : Schedule) (a : Assignment) (c : InferenceContext) (k :
     state = h.state.each a k;
     within = h.within;
     clock = h.clock;
-    expected = expected_carried g.scope a c.table x k.closing h.expected;
+    expected = expected_carried g.scope a c.goals.table x k.closing h.expected;
   }

@@ -37,6 +37,7 @@ own_done g s e x t old mid h k = record {
   follows = record {
     clock = omega (arith, k.follows.clock);
     grew = k.follows.grew;
+    stays = k.follows.stays;
     of_body = of_body_expr_ty g.body mid k.follows.of_body e t;
     sound = sound_expr_ty mid k.follows.sound e t k.fine;
     told = k.follows.told;

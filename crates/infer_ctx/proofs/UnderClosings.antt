@@ -267,7 +267,7 @@ same_found a c d h j k = λ i. record { result = closed_table a (j i) (h i); clo
 -- ---- assignments that close a context
 
 -- the table is all that counts
-pub closes_same : (a : Assignment) (c d : InferenceContext) → c.table ≡ d.table → Closes a c → Closes a d
+pub closes_same : (a : Assignment) (c d : InferenceContext) → c.goals.table ≡ d.goals.table → Closes a c → Closes a d
 closes_same a c d e h = record {
   closing = h.closing;
   meets = (let P : State → Type 0 = Meets (terms_of a) in subst P e h.meets);
@@ -279,10 +279,10 @@ meets_earlier s old new g h =
     solves_left s (log_of (bindings old)) (log_of g.log.0) (subst P (ap log_of g.log.1 ∙ map-append entry (bindings old) g.log.0) h)
 
 -- what is found out later leaves fewer assignments
-pub closes_earlier : (a : Assignment) (old new : InferenceContext) → Grew old.table new.table → Closes a new → Closes a old
+pub closes_earlier : (a : Assignment) (old new : InferenceContext) → Grew old.goals.table new.goals.table → Closes a new → Closes a old
 closes_earlier a old new g h = record {
   closing = h.closing;
-  meets = meets_earlier (terms_of a) old.table new.table g h.meets;
+  meets = meets_earlier (terms_of a) old.goals.table new.goals.table g h.meets;
 }
 
 -- ---- what is asked
@@ -321,7 +321,7 @@ push_cases (z ∷ xs) x zero y h = inl h
 push_cases (z ∷ xs) x (suc i) y h = push_cases xs x i y h
 
 -- another table of fine types, and another clock
-pub sound_with : {sc : Scope} (c : InferenceContext) (r : InferenceResult) (n : ℕ) → IsSound sc c → AllTypes (IsFine sc c.table) r → AllSeen (IsFine sc c.table) r → IsSound sc (record c { result = r; clock = n })
+pub sound_with : {sc : Scope} (c : InferenceContext) (r : InferenceResult) (n : ℕ) → IsSound sc c → AllTypes (IsFine sc c.goals.table) r → AllSeen (IsFine sc c.goals.table) r → IsSound sc (record c { result = r; clock = n })
 sound_with {sc} c r n s h k =
     let some : (a : Assignment) × Closes a (record c { result = r; clock = n }) = (s.some.0, closes_same s.some.0 c (record c { result = r; clock = n }) refl s.some.1) in
     assumption (h, k, some, s)
@@ -330,20 +330,20 @@ module _ {sc : Scope} (c : InferenceContext) (s : IsSound sc c) where
   pub sound_entered : IsSound sc (context.entered c)
   sound_entered = sound_with c c.result (context.entered c).clock s s.fine s.seen
 
-  pub sound_expr_ty : (e : ExprId) (t : Ty) → IsFine sc c.table t → IsSound sc (context.with_expr_ty c e t)
+  pub sound_expr_ty : (e : ExprId) (t : Ty) → IsFine sc c.goals.table t → IsSound sc (context.with_expr_ty c e t)
   sound_expr_ty e t h = sound_with c (context.with_expr_ty c e t).result c.clock s (assumption (
-    set_keeps (IsFine sc c.table) c.result.type_of_expr e.0 t s.fine.exprs h,
+    set_keeps (IsFine sc c.goals.table) c.result.type_of_expr e.0 t s.fine.exprs h,
     s.fine,
   )) (assumption s.seen)
 
-  pub sound_mismatch : (e : ExprId) (m : TypeMismatch) → IsFine sc c.table m.expected → IsFine sc c.table m.actual → IsSound sc (context.with_mismatch c e m)
+  pub sound_mismatch : (e : ExprId) (m : TypeMismatch) → IsFine sc c.goals.table m.expected → IsFine sc c.goals.table m.actual → IsSound sc (context.with_mismatch c e m)
   sound_mismatch e m h k = sound_with c (context.with_mismatch c e m).result c.clock s (assumption (
-    noted_keeps (λ x. IsFine sc c.table x.expected) c.result.expr_mismatches e.0 m s.fine.expected h,
-    noted_keeps (λ x. IsFine sc c.table x.actual) c.result.expr_mismatches e.0 m s.fine.actual k,
+    noted_keeps (λ x. IsFine sc c.goals.table x.expected) c.result.expr_mismatches e.0 m s.fine.expected h,
+    noted_keeps (λ x. IsFine sc c.goals.table x.actual) c.result.expr_mismatches e.0 m s.fine.actual k,
     s.fine,
   )) (assumption s.seen)
 
-  pub sound_diagnostic : (e : ExprId) (d : InferenceDiagnostic) → ((n : ExprId) (t : Ty) → d ≡ diagnostic.ExpectedFunction n t → IsFine sc c.table t) → IsSound sc (context.with_diagnostic c e d)
+  pub sound_diagnostic : (e : ExprId) (d : InferenceDiagnostic) → ((n : ExprId) (t : Ty) → d ≡ diagnostic.ExpectedFunction n t → IsFine sc c.goals.table t) → IsSound sc (context.with_diagnostic c e d)
   sound_diagnostic e d fine = sound_with c (context.with_diagnostic c e d).result c.clock s (record {
     exprs = s.fine.exprs;
     pats = s.fine.pats;
@@ -359,35 +359,35 @@ module _ {sc : Scope} (c : InferenceContext) (s : IsSound sc c) where
   pub sound_pat_diagnostic : (p : PatId) (d : InferenceDiagnostic) → IsSound sc (context.with_pat_diagnostic c p d)
   sound_pat_diagnostic p d = sound_with c (context.with_pat_diagnostic c p d).result c.clock s (assumption s.fine) (assumption s.seen)
 
-  pub sound_pat_mismatch : (p : PatId) (m : TypeMismatch) → IsFine sc c.table m.expected → IsFine sc c.table m.actual → IsSound sc (context.with_pat_mismatch c p m)
+  pub sound_pat_mismatch : (p : PatId) (m : TypeMismatch) → IsFine sc c.goals.table m.expected → IsFine sc c.goals.table m.actual → IsSound sc (context.with_pat_mismatch c p m)
   sound_pat_mismatch p m h k = sound_with c (context.with_pat_mismatch c p m).result c.clock s (assumption (
-    noted_keeps (λ x. IsFine sc c.table x.expected) c.result.pat_mismatches p.0 m s.fine.pat_expected h,
-    noted_keeps (λ x. IsFine sc c.table x.actual) c.result.pat_mismatches p.0 m s.fine.pat_actual k,
+    noted_keeps (λ x. IsFine sc c.goals.table x.expected) c.result.pat_mismatches p.0 m s.fine.pat_expected h,
+    noted_keeps (λ x. IsFine sc c.goals.table x.actual) c.result.pat_mismatches p.0 m s.fine.pat_actual k,
     s.fine,
   )) (assumption s.seen)
 
-  pub sound_pat_ty : (p : PatId) (t : Ty) → IsFine sc c.table t → IsSound sc (context.with_pat_ty c p t)
+  pub sound_pat_ty : (p : PatId) (t : Ty) → IsFine sc c.goals.table t → IsSound sc (context.with_pat_ty c p t)
   sound_pat_ty p t h = sound_with c (context.with_pat_ty c p t).result c.clock s (assumption (
-    set_keeps (IsFine sc c.table) c.result.type_of_pat p.0 t s.fine.pats h,
+    set_keeps (IsFine sc c.goals.table) c.result.type_of_pat p.0 t s.fine.pats h,
     s.fine,
   )) (assumption s.seen)
 
   pub sound_mode : (p : PatId) (m : BindingMode) → IsSound sc (context.with_mode c p m)
   sound_mode p m = sound_with c (context.with_mode c p m).result c.clock s (assumption s.fine) (assumption s.seen)
 
-  pub sound_binding_ty : (v : BindingId) (t : Ty) → IsFine sc c.table t → IsSound sc (context.with_binding_ty c v t)
+  pub sound_binding_ty : (v : BindingId) (t : Ty) → IsFine sc c.goals.table t → IsSound sc (context.with_binding_ty c v t)
   sound_binding_ty v t h = sound_with c (context.with_binding_ty c v t).result c.clock s (assumption (
-    set_keeps (IsFine sc c.table) c.result.type_of_binding v.0 t s.fine.bindings h,
+    set_keeps (IsFine sc c.goals.table) c.result.type_of_binding v.0 t s.fine.bindings h,
     s.fine,
   )) (assumption s.seen)
 
-  pub sound_placeholder : (k : ℕ) (t : Ty) → IsFine sc c.table t → IsSound sc (context.with_placeholder_ty c k t)
+  pub sound_placeholder : (k : ℕ) (t : Ty) → IsFine sc c.goals.table t → IsSound sc (context.with_placeholder_ty c k t)
   sound_placeholder k t h = sound_with c (context.with_placeholder_ty c k t).result c.clock s (assumption (
-    put_keeps (IsFine sc c.table) c.result.type_of_placeholder k t s.fine.placeholders h,
+    put_keeps (IsFine sc c.goals.table) c.result.type_of_placeholder k t s.fine.placeholders h,
     s.fine,
   )) (assumption s.seen)
 
-  pub sound_seen : (x : Seen) → IsFine sc c.table x.ty → x.other ≡ None → IsSound sc (context.with_seen c x)
+  pub sound_seen : (x : Seen) → IsFine sc c.goals.table x.ty → x.other ≡ None → IsSound sc (context.with_seen c x)
   sound_seen x h alone = sound_with c (context.with_seen c x).result c.clock s (record {
     exprs = s.fine.exprs;
     pats = s.fine.pats;
@@ -399,11 +399,11 @@ module _ {sc : Scope} (c : InferenceContext) (s : IsSound sc c) where
     pat_actual = s.fine.pat_actual;
     found = s.fine.found;
   }) (record {
-    types = λ i y at. elim (push_cases c.result.seen x i y at) [ inl q ↦ s.seen.types i y q | inr q ↦ subst (λ (z : Seen). IsFine sc c.table z.ty) q h ];
+    types = λ i y at. elim (push_cases c.result.seen x i y at) [ inl q ↦ s.seen.types i y q | inr q ↦ subst (λ (z : Seen). IsFine sc c.goals.table z.ty) q h ];
     others = λ i y t at is. elim (push_cases c.result.seen x i y at) [ inl q ↦ s.seen.others i y t q is | inr q ↦ absurd (let none : y.other ≡ None = subst (λ (z : Seen). z.other ≡ None) q alone in cc) ];
   })
 
-pub sound_bound_by : {sc : Scope} (c : InferenceContext) (p : PatId) (v : BindingId) (t : Ty) → IsSound sc c → IsFine sc c.table t → IsSound sc (context.bound_by c p v t)
+pub sound_bound_by : {sc : Scope} (c : InferenceContext) (p : PatId) (v : BindingId) (t : Ty) → IsSound sc c → IsFine sc c.goals.table t → IsSound sc (context.bound_by c p v t)
 sound_bound_by {sc} c p v t s h =
     let d = context.with_mode c p mode.Move in
     let e = context.with_pat_ty d p t in

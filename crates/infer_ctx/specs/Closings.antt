@@ -30,7 +30,7 @@ pub record IsClosing (a : Assignment) : Type 0 where
 -- they do, and agree with all that is found out about the holes of the context
 pub record Closes (a : Assignment) (c : InferenceContext) : Type 0 where
   pub closing : IsClosing a
-  pub meets : Meets (terms_of a) c.table
+  pub meets : Meets (terms_of a) c.goals.table
 
 -- ---- what is recorded, under an assignment
 abbrev pub closed_types : Assignment → List (Option Ty) → List (Option Ty)
@@ -122,10 +122,10 @@ AskedIsDecided state asked = (n : ℕ) (m : TypeMismatch) → At asked n m → I
 
 -- the types in hand are fine, nothing that is asked is lost, and some assignment closes the context
 pub record IsSound (sc : Scope) (c : InferenceContext) : Type 0 where
-  pub fine : AllTypes (IsFine sc c.table) c.result
-  pub seen : AllSeen (IsFine sc c.table) c.result
-  pub asked : IsFineAsked sc c.table c.asked
-  pub kept : AskedIsKept c.table c.asked
-  pub pairs : AreFinePairs sc c.table (waiting c.table.pairs)
-  pub bound : BindsOnly (is_fine_head sc) (log_of (bindings c.table))
+  pub fine : AllTypes (IsFine sc c.goals.table) c.result
+  pub seen : AllSeen (IsFine sc c.goals.table) c.result
+  pub asked : IsFineAsked sc c.goals.table c.asked
+  pub kept : AskedIsKept c.goals.table c.asked
+  pub pairs : AreFinePairs sc c.goals.table (waiting c.goals.table.pairs)
+  pub bound : BindsOnly (is_fine_head sc) (log_of (bindings c.goals.table))
   pub some : (a : Assignment) × Closes a c

@@ -13,7 +13,8 @@ use Rattle.hir_raw.specs.declared.schedule.Schedule.{Schedule}
 use Rattle.hir_facts.specs.CarriedTypes.{IsCarriedType}
 use Rattle.hir_raw.specs.declared.raw.RawType.{RawType}
 use Rattle.hir_raw.specs.declared.raw.RawBody.{RawBody}
-use Rattle.infer_table.specs.Table.{State, new_state, with_waiting, resolved_type}
+use Rattle.infer_table.specs.Table.{State, with_waiting, resolved_type}
+use Rattle.infer_goals.specs.declared.table.GoalTable.{GoalTable}
 use Rattle.infer_result.specs.Places.{Given}
 use Rattle.infer_result.specs.declared.result.TypeMismatch.{TypeMismatch}
 use Rattle.infer_result.specs.Table.{mismatch}
@@ -98,13 +99,13 @@ IsLess x y = (y ≡ x) ⊎ (y ≡ None)
 
 -- ---- what is found out
 
--- nothing yet: the walk has come to the body alone
-abbrev pub empty_context : RawBody → InferenceContext
-empty_context b = record {
+-- nothing yet, with these goals: the walk has come to the body alone
+abbrev pub empty_context : RawBody → GoalTable → InferenceContext
+empty_context b goals = record {
   result = writes.nothing b;
   asked = replicate (length b.exprs) None;
   clock = 1;
-  table = new_state;
+  goals = goals;
 }
 
 -- ---- what a write does
@@ -117,13 +118,17 @@ with_expr_ty c e t = record c { result = writes.expr_ty c.result e t }
 abbrev pub with_mismatch : InferenceContext → ExprId → TypeMismatch → InferenceContext
 with_mismatch c e m = record c { result = writes.expr_mismatch c.result e m }
 
+-- with another table of holes: nothing else of the goals changes
+abbrev pub with_table : InferenceContext → State → InferenceContext
+with_table c state = record c { goals = record c.goals { table = state } }
+
 -- with what is asked of an expression while nothing is known of it
 abbrev pub with_asked : InferenceContext → ExprId → TypeMismatch → InferenceContext
 with_asked c e m = record c { asked = noted c.asked e.0 m }
 
 -- the expression of the first type waits to be put at the second
 abbrev pub waiting_at : InferenceContext → ExprId → Ty → Ty → InferenceContext
-waiting_at c e t u = with_asked (record c { table = with_waiting c.table t u (node.ExprId e) }) e (mismatch u t)
+waiting_at c e t u = with_asked (with_table c (with_waiting c.goals.table t u (node.ExprId e))) e (mismatch u t)
 
 -- the types before open holes fall back are kept
 abbrev pub with_general : InferenceContext → Option General → InferenceContext

@@ -6,6 +6,7 @@ use Rattle.hir_types.specs.declared.ty.Ty.{Ty}
 use Rattle.hir_raw.specs.declared.schedule.Schedule.{Schedule}
 use Rattle.hir_raw.specs.Scope.{Scope}
 use Rattle.infer_table.specs.Table.{Grew}
+use Rattle.infer_goals.specs.Stays.{StaysButHoles}
 use Rattle.infer_result.specs.Closed.{IsOfBody}
 use Rattle.infer_result.specs.Places.{Given}
 use Rattle.infer_result.specs.Made.{IsMade}
@@ -31,7 +32,8 @@ pub record IsWalking (g : Given) (s : Schedule) (c : InferenceContext) : Type 0 
 -- more was found out, and nothing undone
 pub record Follows (g : Given) (old new : InferenceContext) : Type 0 where
   pub clock : old.clock ≤ new.clock
-  pub grew : Grew old.table new.table
+  pub grew : Grew old.goals.table new.goals.table
+  pub stays : StaysButHoles old.goals new.goals
   pub of_body : IsOfBody g.body new.result
   pub sound : IsSound g.scope new
   pub told : TellsRecorded g old.result → TellsRecorded g new.result
@@ -49,19 +51,19 @@ pub record Before (g : Given) (s : Schedule) (e : ExprId) (x : Option Ty) (c : I
   pub state : IsWalking g s c
   pub within : e.0 < length g.body.exprs
   pub here : expr_start g.body s e ≡ c.clock
-  pub expected : IsFineExpectation g.scope c.table x
+  pub expected : IsFineExpectation g.scope c.goals.table x
 
 -- the expression has the type t; where something else is expected, nothing is said of that yet
 pub record OwnDone (g : Given) (s : Schedule) (e : ExprId) (x : Option Ty) (t : Ty) (old new : InferenceContext) : Type 0 where
   pub follows : Follows g old new
-  pub fine : IsFine g.scope new.table t
+  pub fine : IsFine g.scope new.goals.table t
   pub tells : Tells g e t
   pub each : (a : Assignment) → Closes a new → OwnWalked g s e (expected_under a x) (folded a t) (found_under a old) (found_under a new)
 
 -- the expression is at the type t, which is the expected one where one is
 pub record CoerceDone (g : Given) (s : Schedule) (e : ExprId) (x : Option Ty) (t : Ty) (old new : InferenceContext) : Type 0 where
   pub follows : Follows g old new
-  pub fine : IsFine g.scope new.table t
+  pub fine : IsFine g.scope new.goals.table t
   pub is_expected : (u : Ty) → x ≡ Some u → t ≡ u
   pub tells : x ≡ None → Tells g e t
   pub each : (a : Assignment) → Closes a new → CoerceWalked g s e (expected_under a x) (folded a t) (found_under a old) (found_under a new)
@@ -74,12 +76,12 @@ pub record Within (g : Given) (s : Schedule) (e : ExprId) (x : Option Ty) (c : I
   pub state : IsWalking g s c
   pub within : e.0 < length g.body.exprs
   pub clock : c.clock ≡ expr_start g.body s e + 1
-  pub expected : IsFineExpectation g.scope c.table x
+  pub expected : IsFineExpectation g.scope c.goals.table x
 
 -- everything is done at the expression, but that its type t is to be recorded
 pub record KindDone (g : Given) (s : Schedule) (e : ExprId) (x : Option Ty) (t : Ty) (old new : InferenceContext) : Type 0 where
   pub follows : Follows g old new
-  pub fine : IsFine g.scope new.table t
+  pub fine : IsFine g.scope new.goals.table t
   pub tells : Tells g e t
   pub each : (a : Assignment) → Closes a new → KindWalked g s e (expected_under a x) (folded a t) (found_under a old) (found_under a new)
 
@@ -88,10 +90,11 @@ pub record ArePartTypes (sc : Scope) (count : ℕ) (ts : List Ty) (old new : Inf
   pub result : new.result ≡ old.result
   pub asked : new.asked ≡ old.asked
   pub clock : new.clock ≡ old.clock
-  pub grew : Grew old.table new.table
+  pub grew : Grew old.goals.table new.goals.table
+  pub stays : StaysButHoles old.goals new.goals
   pub sound : IsSound sc new
   pub count_is : length ts ≡ count
-  pub fine : (i : ℕ) (t : Ty) → slice_get ts i ≡ Some t → IsFine sc new.table t
+  pub fine : (i : ℕ) (t : Ty) → slice_get ts i ≡ Some t → IsFine sc new.goals.table t
 
 -- ---- two types made equal
 
@@ -119,5 +122,5 @@ pub record IsNoted (c : InferenceContext) (e : ExprId) (expected actual : Ty) : 
 -- each node is made, under each assignment that closes what is found out, and nothing that was asked is left open
 pub record BodyDone (g : Given) (new : InferenceContext) : Type 0 where
   pub sound : IsSound g.scope new
-  pub decided : AskedIsDecided new.table new.asked
+  pub decided : AskedIsDecided new.goals.table new.asked
   pub made : (a : Assignment) → Closes a new → IsMade g (closed_table a new.asked new.result)

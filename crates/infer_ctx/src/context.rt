@@ -1,19 +1,22 @@
 //! What inference of a body has found out so far.
 ghost use Rattle.std.specs.Prelude.{◌≡◌, ◌<◌, ◌+◌, ◌^◌, ◌↔◌, IfOk, OnOk, IsTrue, None, length, map, replicate};
+ghost use Rattle.infer_table.specs.Table.{new_state};
+ghost use Rattle.infer_goals.specs.Stays.{IsUnused};
 ghost use Rattle.infer_ctx.specs.Found.{noted, put, path_variant, expr_variant, pat_variant};
 ghost use Rattle.infer_ctx.specs.Steps.{IsNoted, IsUnasked};
 ghost use Rattle.infer_ctx.specs.Context.{empty_context, with_placeholder_ty, with_seen, entered, with_expr_ty, with_mismatch, with_asked, with_diagnostic, with_pat_mismatch, with_pat_diagnostic, with_pat_ty, with_mode, with_binding_ty};
 
 use hir_facts::{
-    BindingId, ExprId, List, PatId, RawBody, RawExpr, RawPat, RawPath, Ty, TypeRefId, VariantId,
+    BindingId, ExprId, Facts, GenericDefId, List, PatId, RawBody, RawExpr, RawPat, RawPath, Ty,
+    TypeRefId, VariantId,
 };
+use infer_goals::GoalTable;
 use infer_result::{BindingMode, InferenceDiagnostic, InferenceResult, Seen, TypeMismatch};
-use infer_table::InferenceTable;
 use std::alloc::{AllocError, Global};
 
 /// What inference of a body has found out so far: `infer.rs`, `InferenceContext`.
 #[derive(Drop)]
-pub struct InferenceContext {
+pub struct InferenceContext<'a> {
     /// The table as far as it is filled.
     pub result: InferenceResult,
     /// What is asked of each expression that waits or waited: that its type be another one, while
@@ -21,8 +24,9 @@ pub struct InferenceContext {
     pub asked: List<Option<TypeMismatch>>,
     /// How many nodes of the body the walk has come to, the body itself counted.
     pub clock: usize,
-    /// The holes in the types that are recorded, and what is found out about them.
-    pub table: InferenceTable,
+    /// The holes in the types that are recorded, what is found out about them, and the goals about
+    /// them.
+    pub goals: GoalTable<'a>,
 }
 
 /// As many empty entries.
@@ -112,11 +116,20 @@ fn put<T: Drop>(entries: &mut List<Option<T>>, at: u32, entry: T) -> Result<(), 
     Ok(())
 }
 
-impl InferenceContext {
-    /// Nothing is found out yet: `infer.rs`, `InferenceContext::new`.
-    pub fn new(alloc: Global, body: &RawBody) -> Result<InferenceContext, AllocError>
-        ensures { IfOk result (λ context. context ≡ empty_context body.now) }
+impl<'a> InferenceContext<'a> {
+    /// Nothing is found out yet about a body in the scope of an item of the facts: `infer.rs`,
+    /// `InferenceContext::new`.
+    pub fn new(
+        alloc: Global,
+        facts: &'a Facts,
+        env: GenericDefId,
+        body: &RawBody,
+    ) -> Result<InferenceContext<'a>, AllocError>
+        ensures empty { IfOk result (λ context. context ≡ empty_context body.now context.goals) }
+        ensures table { IfOk result (λ context. context.goals.table ≡ new_state) }
+        ensures goals { IfOk result (λ context. IsUnused facts.now env context.goals) }
     {
+        let goals = GoalTable::new(alloc, facts, env)?;
         let result = InferenceResult {
             type_of_expr: no_entries(alloc, body.exprs.len())?,
             type_of_pat: no_entries(alloc, body.pats.len())?,
@@ -138,7 +151,7 @@ impl InferenceContext {
             result,
             asked: no_entries(alloc, body.exprs.len())?,
             clock: 1,
-            table: InferenceTable::new(alloc)?,
+            goals,
         })
     }
 

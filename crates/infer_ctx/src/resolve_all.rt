@@ -157,19 +157,19 @@ fn report_failures(
     Ok(())
 }
 
-impl InferenceContext {
+impl InferenceContext<'_> {
     /// The table, once the body is typed: each type with what its holes are bound to, holes of
     /// integer types that are still open with `i32`, and all others with `{unknown}`, and what is
     /// said then of the look-ups that failed. This is `infer.rs`'s `resolve_all`.
     pub fn resolve_all(self, alloc: Global) -> Result<InferenceResult, AllocError>
-        ensures closed { IfOk result (λ made. made ≡ closed_table (completion self.table) self.asked self.result) }
-        ensures meets { Meets (terms_of (completion self.table)) self.table }
-        ensures respects { Respects (terms_of (completion self.table)) }
-        ensures acyclic { Triangular (log_of (bindings self.table)) }
+        ensures closed { IfOk result (λ made. made ≡ closed_table (completion self.entry.goals.table) self.entry.asked self.entry.result) }
+        ensures meets { Meets (terms_of (completion self.entry.goals.table)) self.entry.goals.table }
+        ensures respects { Respects (terms_of (completion self.entry.goals.table)) }
+        ensures acyclic { Triangular (log_of (bindings self.entry.goals.table)) }
     {
-        self.table.lawful();
+        self.goals.table.lawful();
         let mut result = self.result;
-        let table = &self.table;
+        let table = &self.goals.table;
         result.type_of_expr = resolve_tys(alloc, table, &result.type_of_expr)?;
         result.type_of_pat = resolve_tys(alloc, table, &result.type_of_pat)?;
         result.type_of_binding = resolve_tys(alloc, table, &result.type_of_binding)?;

@@ -154,7 +154,7 @@ module _ (sc : Scope) where
 -- ---- a body that is done
 
 module _ (raw : RawFacts) (law : IsLawful raw) (none : raw.aliases ≡ []) (d : DefWithBodyId) (b : RawBody) (c : InferenceContext) (done : BodyDone (given raw d b) c)
-    (meets : Meets (terms_of (completion c.table)) c.table) (respects : Respects (terms_of (completion c.table))) where
+    (meets : Meets (terms_of (completion c.goals.table)) c.goals.table) (respects : Respects (terms_of (completion c.goals.table))) where
   abbrev sc : Scope
   sc = scope_of raw d
 
@@ -163,10 +163,10 @@ module _ (raw : RawFacts) (law : IsLawful raw) (none : raw.aliases ≡ []) (d : 
 
   -- the table that it falls back to
   abbrev last : InferenceResult
-  last = closed_table (completion c.table) c.asked c.result
+  last = closed_table (completion c.goals.table) c.asked c.result
 
   abbrev known : Ty → Ty
-  known t = resolved_type c.table t
+  known t = resolved_type c.goals.table t
 
   -- what each predicate at these arguments says
   at_args_of : (u : Ty) (h : HasFineArgs sc u) (gs : List RawGoal) → ((k : ℕ) (p : RawGoal) → slice_get gs k ≡ Some p → GoalIsFit raw law none (length h.types) p) → Each (HasHeadsOf (is_fine_head sc)) (map (goal_at raw (args_of u)) gs)
@@ -188,7 +188,7 @@ module _ (raw : RawFacts) (law : IsLawful raw) (none : raw.aliases ≡ []) (d : 
 
     -- its type in the last table is what is known of it, with what open holes fall back to
     in_last_table : HasTy last e (folded fallback u)
-    in_last_table = subst (λ v. HasTy last e v) (sym (folded_twice fallback (resolution (bindings c.table)) t)) (At-closed (folded (completion c.table)) c.result.type_of_expr e.0 t at)
+    in_last_table = subst (λ v. HasTy last e v) (sym (folded_twice fallback (resolution (bindings c.goals.table)) t)) (At-closed (folded (completion c.goals.table)) c.result.type_of_expr e.0 t at)
 
     -- an item with so many arguments there has as many here
     count_at : (v : Ty) (ts : List Ty) → HasTy last e v → args_of v ≡ type_args ts → length own.types ≡ length ts
@@ -245,21 +245,21 @@ module _ (raw : RawFacts) (law : IsLawful raw) (none : raw.aliases ≡ []) (d : 
   -- ---- the expressions, in their order
 
   module _ (unnamed : (e : ExprId) (v : VariantId) (y : RawVariant) → slice_get b.exprs e.0 ≡ Some (expr.Path (path.Ctor v)) → slice_get raw.variants v.0 ≡ Some y → (y.ctor ≡ ctor.Unit) ⊎ (y.ctor ≡ ctor.Tuple)) where
-    place_heads : (n : ℕ) (x : Option RawExpr) (o : Option Ty) → slice_get b.exprs n ≡ x → recorded c.result.type_of_expr n ≡ o → Each (HasHeadsOf (is_fine_head sc)) (needs_at raw b (with_known_types c.table c.result) n)
-    place_heads n None o at is = subst (λ y. Each (HasHeadsOf (is_fine_head sc)) (needs_of raw y (recorded (with_known_types c.table c.result).type_of_expr n))) (sym at) tt
-    place_heads n (Some x) None at is = subst (Each (HasHeadsOf (is_fine_head sc))) (sym (needs_known raw b c.table c.result n x None at is)) tt
+    place_heads : (n : ℕ) (x : Option RawExpr) (o : Option Ty) → slice_get b.exprs n ≡ x → recorded c.result.type_of_expr n ≡ o → Each (HasHeadsOf (is_fine_head sc)) (needs_at raw b (with_known_types c.goals.table c.result) n)
+    place_heads n None o at is = subst (λ y. Each (HasHeadsOf (is_fine_head sc)) (needs_of raw y (recorded (with_known_types c.goals.table c.result).type_of_expr n))) (sym at) tt
+    place_heads n (Some x) None at is = subst (Each (HasHeadsOf (is_fine_head sc))) (sym (needs_known raw b c.goals.table c.result n x None at is)) tt
     place_heads n (Some x) (Some t) at is =
         let e : ExprId = record { 0 = n } in
-        let made = done.made (completion c.table) (completion_closes sc c done.sound meets respects) in
+        let made = done.made (completion c.goals.table) (completion_closes sc c done.sound meets respects) in
         let rule = subst (λ o. Rule (at_or_mismatch g last) g last e o) at (made.clauses e (slice_get_within b.exprs n x at)) in
-        subst (Each (HasHeadsOf (is_fine_head sc))) (sym (needs_known raw b c.table c.result n x (Some t) at is))
+        subst (Each (HasHeadsOf (is_fine_head sc))) (sym (needs_known raw b c.goals.table c.result n x (Some t) at is))
         (expr_heads e t (recorded_is c.result.type_of_expr n t is) x rule (λ v y same. unnamed e v y (at ∙ ap (λ z. Some z) same)))
 
-    first_heads : (n : ℕ) → Each (HasHeadsOf (is_fine_head sc)) (first_needs raw b (with_known_types c.table c.result) n)
+    first_heads : (n : ℕ) → Each (HasHeadsOf (is_fine_head sc)) (first_needs raw b (with_known_types c.goals.table c.result) n)
     first_heads zero = tt
-    first_heads (suc n) = each_append (HasHeadsOf (is_fine_head sc)) (first_needs raw b (with_known_types c.table c.result) n) (needs_at raw b (with_known_types c.table c.result) n) (first_heads n) (place_heads n (slice_get b.exprs n) (recorded c.result.type_of_expr n) refl refl)
+    first_heads (suc n) = each_append (HasHeadsOf (is_fine_head sc)) (first_needs raw b (with_known_types c.goals.table c.result) n) (needs_at raw b (with_known_types c.goals.table c.result) n) (first_heads n) (place_heads n (slice_get b.exprs n) (recorded c.result.type_of_expr n) refl refl)
 
-    pub needs_heads : Each (HasHeadsOf (is_fine_head sc)) (all_needs raw b (with_known_types c.table c.result))
+    pub needs_heads : Each (HasHeadsOf (is_fine_head sc)) (all_needs raw b (with_known_types c.goals.table c.result))
     needs_heads = first_heads (length b.exprs)
 
 -- ---- where some trait has an associated type nothing is needed
@@ -284,14 +284,14 @@ module _ (raw : RawFacts) (law : IsLawful raw) (b : RawBody) (r : InferenceResul
 
 -- either nothing is needed, or what is needed and the sources have types in scope alone
 pub record AreInScope (raw : RawFacts) (d : DefWithBodyId) (b : RawBody) (c : InferenceContext) : Type 0 where
-  pub sources : SourcesHaveHeadsOf raw d (all_needs raw b (with_known_types c.table c.result)) (is_fine_head (scope_of raw d))
-  pub needs : Each (HasHeadsOf (is_fine_head (scope_of raw d))) (all_needs raw b (with_known_types c.table c.result))
+  pub sources : SourcesHaveHeadsOf raw d (all_needs raw b (with_known_types c.goals.table c.result)) (is_fine_head (scope_of raw d))
+  pub needs : Each (HasHeadsOf (is_fine_head (scope_of raw d))) (all_needs raw b (with_known_types c.goals.table c.result))
 
 pub are_in_scope : (raw : RawFacts) (law : IsLawful raw) (d : DefWithBodyId) (b : RawBody) (i : BodyId) → slice_get raw.bodies i.0 ≡ Some b → body_of raw d ≡ Some b → (c : InferenceContext) → BodyDone (given raw d b) c
-    → Meets (terms_of (completion c.table)) c.table → Respects (terms_of (completion c.table))
+    → Meets (terms_of (completion c.goals.table)) c.goals.table → Respects (terms_of (completion c.goals.table))
     → ((e : ExprId) (v : VariantId) (y : RawVariant) → slice_get b.exprs e.0 ≡ Some (expr.Path (path.Ctor v)) → slice_get raw.variants v.0 ≡ Some y → (y.ctor ≡ ctor.Unit) ⊎ (y.ctor ≡ ctor.Tuple))
     → AreInScope raw d b c
-are_in_scope raw law d b i at is c done meets respects unnamed = elim (needs_none raw law b (with_known_types c.table c.result) i.0 at (length b.exprs)) [
+are_in_scope raw law d b i at is c done meets respects unnamed = elim (needs_none raw law b (with_known_types c.goals.table c.result) i.0 at (length b.exprs)) [
   | inl empty ↦ record { sources = inl empty; needs = subst (Each (HasHeadsOf (is_fine_head (scope_of raw d)))) (sym empty) tt }
   | inr none ↦ record { sources = inr (sources_fine raw law none d b is); needs = needs_heads raw law none d b c done meets respects unnamed }
 ]

@@ -91,36 +91,36 @@ module _ (sc : Scope) (c : InferenceContext) (s : IsSound sc c) where
   fallen_back : (t : Ty) → HasFineHeads sc t → ty_fits sc (folded fallback t) ≡ true
   fallen_back t h = heads_fit sc fallback (λ n. ty_fits_error sc) (λ n. ty_fits_int sc int.I32) t h
 
-  completed_fits : (t : Ty) → IsFine sc c.table t → ty_fits sc (folded (completion c.table) t) ≡ true
+  completed_fits : (t : Ty) → IsFine sc c.goals.table t → ty_fits sc (folded (completion c.goals.table) t) ≡ true
   completed_fits t h =
-      let known = resolution (bindings c.table) in
-      heads_fit sc (completion c.table) (λ n. fallen_back (known.var n) (bound_heads sc c.table s.bound (hole_of.Ty n))) (λ n. fallen_back (known.int_var n) (bound_heads sc c.table s.bound (hole_of.Int n))) t h.heads
+      let known = resolution (bindings c.goals.table) in
+      heads_fit sc (completion c.goals.table) (λ n. fallen_back (known.var n) (bound_heads sc c.goals.table s.bound (hole_of.Ty n))) (λ n. fallen_back (known.int_var n) (bound_heads sc c.goals.table s.bound (hole_of.Int n))) t h.heads
 
-  fits_of : (t u : Ty) → folded (completion c.table) t ≡ u → IsFine sc c.table t → ty_fits sc u ≡ true
+  fits_of : (t u : Ty) → folded (completion c.goals.table) t ≡ u → IsFine sc c.goals.table t → ty_fits sc u ≡ true
   fits_of t u e h = ap (ty_fits sc) (sym e) ∙ completed_fits t h
 
   -- each type of the completed table fits
-  pub completed_table_fits : AllTypes (λ t. ty_fits sc t ≡ true) (closed_table (completion c.table) c.asked c.result)
+  pub completed_table_fits : AllTypes (λ t. ty_fits sc t ≡ true) (closed_table (completion c.goals.table) c.asked c.result)
   completed_table_fits =
-      let f : Ty → Ty = folded (completion c.table) in
-      let m : TypeMismatch → TypeMismatch = closed_mismatch (completion c.table) in
+      let f : Ty → Ty = folded (completion c.goals.table) in
+      let m : TypeMismatch → TypeMismatch = closed_mismatch (completion c.goals.table) in
       record {
         exprs = λ n t i. (let q = At-unclosed f c.result.type_of_expr n t i in fits_of q.0 t q.2 (s.fine.exprs n q.0 q.1));
         pats = λ n t i. (let q = At-unclosed f c.result.type_of_pat n t i in fits_of q.0 t q.2 (s.fine.pats n q.0 q.1));
         bindings = λ n t i. (let q = At-unclosed f c.result.type_of_binding n t i in fits_of q.0 t q.2 (s.fine.bindings n q.0 q.1));
         placeholders = λ n t i. (let q = At-unclosed f c.result.type_of_placeholder n t i in fits_of q.0 t q.2 (s.fine.placeholders n q.0 q.1));
-        found = λ n k t i. elim (said-cases (completion c.table) c.result.seen c.result.expr_diagnostics n (diagnostic.ExpectedFunction k t) i) [
+        found = λ n k t i. elim (said-cases (completion c.goals.table) c.result.seen c.result.expr_diagnostics n (diagnostic.ExpectedFunction k t) i) [
           | inl q ↦ fine_fits sc t (s.fine.found n k t q).heads
           | inr q ↦ fits_of q.1.ty t (let same : diagnostic.ExpectedFunction k t ≡ diagnostic.ExpectedFunction q.3.call (f q.1.ty) = q.3.is in cc) (s.seen.types q.0 q.1 q.2)
         ];
-        expected = λ n x i. (let q = At-stems (completion c.table) c.asked c.result.expr_mismatches n x i in fits_of q.0.expected x.expected (ap (λ (y : TypeMismatch). y.expected) q.2) (elim q.1 [ inl z ↦ (s.asked n q.0 z).0 | inr z ↦ s.fine.expected n q.0 z ]));
-        actual = λ n x i. (let q = At-stems (completion c.table) c.asked c.result.expr_mismatches n x i in fits_of q.0.actual x.actual (ap (λ (y : TypeMismatch). y.actual) q.2) (elim q.1 [ inl z ↦ (s.asked n q.0 z).1 | inr z ↦ s.fine.actual n q.0 z ]));
+        expected = λ n x i. (let q = At-stems (completion c.goals.table) c.asked c.result.expr_mismatches n x i in fits_of q.0.expected x.expected (ap (λ (y : TypeMismatch). y.expected) q.2) (elim q.1 [ inl z ↦ (s.asked n q.0 z).0 | inr z ↦ s.fine.expected n q.0 z ]));
+        actual = λ n x i. (let q = At-stems (completion c.goals.table) c.asked c.result.expr_mismatches n x i in fits_of q.0.actual x.actual (ap (λ (y : TypeMismatch). y.actual) q.2) (elim q.1 [ inl z ↦ (s.asked n q.0 z).1 | inr z ↦ s.fine.actual n q.0 z ]));
         pat_expected = λ n x i. (let q = At-unclosed m c.result.pat_mismatches n x i in fits_of q.0.expected x.expected (ap (λ (y : TypeMismatch). y.expected) q.2) (s.fine.pat_expected n q.0 q.1));
         pat_actual = λ n x i. (let q = At-unclosed m c.result.pat_mismatches n x i in fits_of q.0.actual x.actual (ap (λ (y : TypeMismatch). y.actual) q.2) (s.fine.pat_actual n q.0 q.1));
       }
 
   -- so does each that a failed look-up saw
-  pub seen_fits : AllSeen (λ t. ty_fits sc t ≡ true) (closed_table (completion c.table) c.asked c.result)
+  pub seen_fits : AllSeen (λ t. ty_fits sc t ≡ true) (closed_table (completion c.goals.table) c.asked c.result)
   seen_fits = record {
     types = λ i x at. fine_fits sc x.ty (s.seen.types i x at).heads;
     others = λ i x t at is. fine_fits sc t (s.seen.others i x t at is).heads;

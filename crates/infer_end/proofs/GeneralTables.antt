@@ -209,7 +209,7 @@ module _ (a : Assignment) where
       (closed_mismatch a m, closed_at a qs xs n x.0 x.1 ∙ (ap (λ o. Some (asked_or_noted a (entry_of o) x.0)) at ∙ ap (λ o. Some o) (asked_unlike a m x.0 apart)))
 
 -- where no mismatch stands under one assignment, none stands under another, once all that is asked is decided
-none_stands : (a z : Assignment) (c : InferenceContext) → Closes a c → Closes z c → AskedIsDecided c.table c.asked → HasNone (closed_mismatches z c.asked c.result.expr_mismatches) → HasNone (closed_mismatches a c.asked c.result.expr_mismatches)
+none_stands : (a z : Assignment) (c : InferenceContext) → Closes a c → Closes z c → AskedIsDecided c.goals.table c.asked → HasNone (closed_mismatches z c.asked c.result.expr_mismatches) → HasNone (closed_mismatches a c.asked c.result.expr_mismatches)
 none_stands a z c at_a at_z decided free n y at = elim (stands_for a c.asked c.result.expr_mismatches n y at) [
   | inl m ↦ (let k = noted_stands z c.asked c.result.expr_mismatches n m.0 m.1 in free n k.0 k.1)
   | inr m ↦ elim (decided n m.0 m.1) [
@@ -241,20 +241,20 @@ module _ (raw : RawFacts) (d : DefWithBodyId) (i : BodyId) (b : RawBody) (s : Sc
   seen_still_fit : (a : Assignment) (o : Option General) → AllSeen (λ t. ty_fits sc t ≡ true) (closed_table a c.asked (result_with o))
   seen_still_fit a o = (let h = seen_fits sc c done.sound in record { types = h.types; others = h.others })
 
-  module _ (meets : Meets (terms_of (completion c.table)) c.table) (respects : Respects (terms_of (completion c.table))) where
-    completes : Closes (completion c.table) c
+  module _ (meets : Meets (terms_of (completion c.goals.table)) c.goals.table) (respects : Respects (terms_of (completion c.goals.table))) where
+    completes : Closes (completion c.goals.table) c
     completes = completion_closes sc c done.sound meets respects
 
-    completed_table : (o : Option General) → IsTableOf raw d (closed_table (completion c.table) c.asked (result_with o))
+    completed_table : (o : Option General) → IsTableOf raw d (closed_table (completion c.goals.table) c.asked (result_with o))
     completed_table o =
-        let r : InferenceResult = closed_table (completion c.table) c.asked c.result in
-        table_of raw d i b s inputs output (closed_table (completion c.table) c.asked (result_with o)) id at law taken out (made_other r o ps gs g (done.made (completion c.table) completes)) (all_types_other r o ps gs _ (completed_table_fits sc c done.sound)) (seen_still_fit (completion c.table) o)
+        let r : InferenceResult = closed_table (completion c.goals.table) c.asked c.result in
+        table_of raw d i b s inputs output (closed_table (completion c.goals.table) c.asked (result_with o)) id at law taken out (made_other r o ps gs g (done.made (completion c.goals.table) completes)) (all_types_other r o ps gs _ (completed_table_fits sc c done.sound)) (seen_still_fit (completion c.goals.table) o)
 
     -- ---- of a plain body
 
-    module _ (acyclic : Triangular (log_of (bindings c.table))) (plain : IsPlainBodyOf raw d) (x : General) (resolved : HoldsResolved c.table c.result x) where
+    module _ (acyclic : Triangular (log_of (bindings c.goals.table))) (plain : IsPlainBodyOf raw d) (x : General) (resolved : HoldsResolved c.goals.table c.result x) where
       abbrev table : InferenceResult
-      table = closed_table (completion c.table) c.asked (result_with (Some x))
+      table = closed_table (completion c.goals.table) c.asked (result_with (Some x))
 
       is_plain : IsPlainBody raw (params_of raw d) b
       is_plain = plain_body raw d b plain (found_body raw d i b id at)
@@ -266,13 +266,13 @@ module _ (raw : RawFacts) (d : DefWithBodyId) (i : BodyId) (b : RawBody) (s : Sc
           by_entries : (xs : List Seen) → c.result.seen ≡ xs → xs ≡ []
           by_entries [] is = refl
           by_entries (y ∷ xs) is =
-              (let h = (done.made (completion c.table) completes).complaints.seen 0 y (ap (λ l. slice_get l 0) is) in
+              (let h = (done.made (completion c.goals.table) completes).complaints.seen 0 y (ap (λ l. slice_get l 0) is) in
               absurd (h.no_item (calls_item raw (params_of raw d) b is_plain g refl refl h.call h.called h.args h.is_call)))
 
       no_placeholders : (a : Assignment) → HasNone (closed_types a c.result.type_of_placeholder)
       no_placeholders a n t there =
           (let q = At-unclosed (folded a) c.result.type_of_placeholder n t there in
-          no_placeholder raw (params_of raw d) b is_plain g n refl refl ((done.made (completion c.table) completes).shape.placeholders n _ (At-closed (folded (completion c.table)) c.result.type_of_placeholder n q.0 q.1)))
+          no_placeholder raw (params_of raw d) b is_plain g n refl refl ((done.made (completion c.goals.table) completes).shape.placeholders n _ (At-closed (folded (completion c.goals.table)) c.result.type_of_placeholder n q.0 q.1)))
 
       said_nothing : (a : Assignment) → said a c.result.seen c.result.expr_diagnostics ≡ c.result.expr_diagnostics
       said_nothing a = ap (λ l. said a l c.result.expr_diagnostics) nothing_seen
@@ -288,18 +288,18 @@ module _ (raw : RawFacts) (d : DefWithBodyId) (i : BodyId) (b : RawBody) (s : Sc
         other_table = closed_table q c.asked (result_with (Some x))
 
         no_diagnostic : HasNone c.result.expr_diagnostics
-        no_diagnostic n y there = clean.diagnostics n y (ap (λ l. slice_get l n) (said_nothing (completion c.table)) ∙ there)
+        no_diagnostic n y there = clean.diagnostics n y (ap (λ l. slice_get l n) (said_nothing (completion c.goals.table)) ∙ there)
 
         other_clean : HasNoComplaint other_table
         other_clean = record {
-          mismatches = none_stands q (completion c.table) c at_q completes done.decided clean.mismatches;
+          mismatches = none_stands q (completion c.goals.table) c at_q completes done.decided clean.mismatches;
           diagnostics = λ n y there. no_diagnostic n y (ap (λ l. slice_get l n) (sym (said_nothing q)) ∙ there);
-          pat_mismatches = none_under (closed_mismatch (completion c.table)) (closed_mismatch q) c.result.pat_mismatches clean.pat_mismatches;
+          pat_mismatches = none_under (closed_mismatch (completion c.goals.table)) (closed_mismatch q) c.result.pat_mismatches clean.pat_mismatches;
           pat_diagnostics = clean.pat_diagnostics;
           gaps = λ e y h. clean.gaps e y (record { gaps = h.gaps; at = h.at; number = h.number; listed = h.listed });
         }
 
-        heads_of : (xs : List (Option Ty)) → ((n : ℕ) (t : Ty) → At xs n t → IsFine sc c.table t) → (n : ℕ) (t : Ty) → At (closed_types q xs) n t → HasFineHeads sc t
+        heads_of : (xs : List (Option Ty)) → ((n : ℕ) (t : Ty) → At xs n t → IsFine sc c.goals.table t) → (n : ℕ) (t : Ty) → At (closed_types q xs) n t → HasFineHeads sc t
         heads_of xs fine n t there = (let k = At-unclosed (folded q) xs n t there in subst (λ u. HasFineHeads sc u) k.2 (chosen_heads sc a gives c done.sound k.0 (fine n k.0 k.1).heads))
 
         other_heads : AllTypes (HasFineHeads sc) other_table
@@ -337,10 +337,10 @@ module _ (raw : RawFacts) (d : DefWithBodyId) (i : BodyId) (b : RawBody) (s : Sc
         is_closed_by : other_table ≡ closed_by a x table
         is_closed_by =
             let r : InferenceResult = c.result in
-            let z : Assignment = completion c.table in
-            let exprs = types_closed a c.table r.type_of_expr x.exprs resolved.exprs in
-            let pats = types_closed a c.table r.type_of_pat x.pats resolved.pats in
-            let bound = types_closed a c.table r.type_of_binding x.bindings resolved.bindings in
+            let z : Assignment = completion c.goals.table in
+            let exprs = types_closed a c.goals.table r.type_of_expr x.exprs resolved.exprs in
+            let pats = types_closed a c.goals.table r.type_of_pat x.pats resolved.pats in
+            let bound = types_closed a c.goals.table r.type_of_binding x.bindings resolved.bindings in
             let holes = both_none (closed_types q r.type_of_placeholder) (closed_types z r.type_of_placeholder) (length-closed (folded q) r.type_of_placeholder ∙ sym (length-closed (folded z) r.type_of_placeholder)) (no_placeholders q) (no_placeholders z) in
             let noted = both_none (closed_mismatches q c.asked r.expr_mismatches) (closed_mismatches z c.asked r.expr_mismatches) (length-closed_mismatches q c.asked r.expr_mismatches ∙ sym (length-closed_mismatches z c.asked r.expr_mismatches)) other_clean.mismatches clean.mismatches in
             let told = said_nothing q ∙ sym (said_nothing z) in
@@ -366,15 +366,15 @@ module _ (raw : RawFacts) (d : DefWithBodyId) (i : BodyId) (b : RawBody) (s : Sc
         closing_derives : IsDerivation raw d (closed_by a x table)
         closing_derives = subst (λ t. IsDerivation raw d t) is_closed_by other_derives
 
-      general_of : (ts : List (Option Ty)) (us : List Ty) → AreResolved c.table ts us → ((n : ℕ) (t : Ty) → At ts n t → IsFine sc c.table t) → AreGeneralTypes sc us
+      general_of : (ts : List (Option Ty)) (us : List Ty) → AreResolved c.goals.table ts us → ((n : ℕ) (t : Ty) → At ts n t → IsFine sc c.goals.table t) → AreGeneralTypes sc us
       general_of ts us e fine n u there =
-          (let k = from_recorded c.table ts us n u e there in
-          subst (λ t. IsGeneralType sc t) k.2 (fine_general sc (resolved_type c.table k.0) (known_heads sc c done.sound k.0 (fine n k.0 k.1).heads)))
+          (let k = from_recorded c.goals.table ts us n u e there in
+          subst (λ t. IsGeneralType sc t) k.2 (fine_general sc (resolved_type c.goals.table k.0) (known_heads sc c done.sound k.0 (fine n k.0 k.1).heads)))
 
       pub general_types : IsGeneralOf raw d table x
       general_types =
-          let of_body = (done.made (completion c.table) completes).shape.of_body in
-          let count : (ts : List (Option Ty)) (us : List Ty) (n : ℕ) → AreResolved c.table ts us → length (closed_types (completion c.table) ts) ≡ n → length us ≡ n = λ ts us n e k. resolved_count c.table ts us e ∙ (sym (length-closed (folded (completion c.table)) ts) ∙ k) in
+          let of_body = (done.made (completion c.goals.table) completes).shape.of_body in
+          let count : (ts : List (Option Ty)) (us : List Ty) (n : ℕ) → AreResolved c.goals.table ts us → length (closed_types (completion c.goals.table) ts) ≡ n → length us ≡ n = λ ts us n e k. resolved_count c.goals.table ts us e ∙ (sym (length-closed (folded (completion c.goals.table)) ts) ∙ k) in
           record {
             body = b;
             is_body = found_body raw d i b id at;
@@ -387,9 +387,9 @@ module _ (raw : RawFacts) (d : DefWithBodyId) (i : BodyId) (b : RawBody) (s : Sc
               bindings = general_of c.result.type_of_binding x.bindings resolved.bindings done.sound.fine.bindings;
             };
             falls_back = record {
-              exprs = types_closed fallback c.table c.result.type_of_expr x.exprs resolved.exprs;
-              pats = types_closed fallback c.table c.result.type_of_pat x.pats resolved.pats;
-              bindings = types_closed fallback c.table c.result.type_of_binding x.bindings resolved.bindings;
+              exprs = types_closed fallback c.goals.table c.result.type_of_expr x.exprs resolved.exprs;
+              pats = types_closed fallback c.goals.table c.result.type_of_pat x.pats resolved.pats;
+              bindings = types_closed fallback c.goals.table c.result.type_of_binding x.bindings resolved.bindings;
             };
             closings = λ clean a gives. closing_derives clean a gives;
           }
@@ -398,8 +398,8 @@ module _ (raw : RawFacts) (d : DefWithBodyId) (i : BodyId) (b : RawBody) (s : Sc
 
   abbrev Ends : InferenceContext → Type 0
   Ends z =
-      Meets (terms_of (completion z.table)) z.table → Respects (terms_of (completion z.table)) → Triangular (log_of (bindings z.table))
-      → IsTableOf raw d (with_goals ps gs (closed_table (completion z.table) z.asked z.result)) × HasGeneral raw d (with_goals ps gs (closed_table (completion z.table) z.asked z.result))
+      Meets (terms_of (completion z.goals.table)) z.goals.table → Respects (terms_of (completion z.goals.table)) → Triangular (log_of (bindings z.goals.table))
+      → IsTableOf raw d (with_goals ps gs (closed_table (completion z.goals.table) z.asked z.result)) × HasGeneral raw d (with_goals ps gs (closed_table (completion z.goals.table) z.asked z.result))
 
   pub ends : (last : InferenceContext) → KeepsGeneral raw d c last → Ends last
   ends last (inl (plain, (x, resolved, is))) = subst Ends (sym is) (λ meets respects acyclic. (
@@ -428,6 +428,11 @@ pub kept_done : (g : Given) (raw : RawFacts) (d : DefWithBodyId) (c last : Infer
 kept_done g raw d c last done (inl (plain, (x, resolved, is))) = subst (BodyDone g) (sym is) (general_done g c (Some x) done)
 kept_done g raw d c last done (inr (not_plain, is)) = subst (BodyDone g) (sym is) (general_done g c None done)
 
+-- its goals are as they were
+pub keeps_goals : (raw : RawFacts) (d : DefWithBodyId) (c last : InferenceContext) → KeepsGeneral raw d c last → last.goals ≡ c.goals
+keeps_goals raw d c last (inl (plain, (x, resolved, is))) = ap (λ (z : InferenceContext). z.goals) is
+keeps_goals raw d c last (inr (not_plain, is)) = ap (λ (z : InferenceContext). z.goals) is
+
 module _ (raw : RawFacts) (d : DefWithBodyId) (b : RawBody) (inputs : List TypeRefId) (output : Ty) (taken : inputs ≡ inputs_of raw d) (out : output ≡ return_type raw d) (c : InferenceContext) where
   -- with the inputs and the output of the definition
   pub given_done : BodyDone (record { scope = scope_of raw d; body = b; inputs = inputs; output = output }) c → BodyDone (given raw d b) c
@@ -445,7 +450,7 @@ module _ (raw : RawFacts) (d : DefWithBodyId) (i : BodyId) (b : RawBody) (s : Sc
   -- of a body that is not plain the context after selection counts, in which no such types are
   not_plain_ends : (z : InferenceContext) → BodyDone (given raw d b) z → z.result.general ≡ None → (IsPlainBodyOf raw d → ⊥) → EndsAs raw d ps gs z
   not_plain_ends z after none not_plain meets respects acyclic =
-      let a : Assignment = completion z.table in
+      let a : Assignment = completion z.goals.table in
       let same : record z.result { general = None } ≡ z.result = ap (λ (o : Option General). record z.result { general = o }) (sym none) in
       let F : InferenceResult → Type 0 = λ r. IsTableOf raw d (with_goals ps gs (closed_table a z.asked r)) in (
         subst F same (completed_table raw d i b s inputs output id at law taken out z (own_done raw d b inputs output taken out z after) lawful ps gs meets respects None),

@@ -131,25 +131,25 @@ module _ (sc : Scope) where
     module _ (c : InferenceContext) (s : IsSound sc c) where
       -- what is known of each hole, with these types put in
       abbrev pub chosen : Assignment
-      chosen = composed a (resolution (bindings c.table))
+      chosen = composed a (resolution (bindings c.goals.table))
 
       chosen_var : (n : ℕ) → HasFineHeads sc (chosen.var n)
-      chosen_var n = heads_under a plain_var plain_int_var ((resolution (bindings c.table)).var n) (bound_heads sc c.table s.bound (hole_of.Ty n))
+      chosen_var n = heads_under a plain_var plain_int_var ((resolution (bindings c.goals.table)).var n) (bound_heads sc c.goals.table s.bound (hole_of.Ty n))
 
       chosen_int_var : (n : ℕ) → HasFineHeads sc (chosen.int_var n)
-      chosen_int_var n = heads_under a plain_var plain_int_var ((resolution (bindings c.table)).int_var n) (bound_heads sc c.table s.bound (hole_of.Int n))
+      chosen_int_var n = heads_under a plain_var plain_int_var ((resolution (bindings c.goals.table)).int_var n) (bound_heads sc c.goals.table s.bound (hole_of.Int n))
 
       pub chosen_heads : (t : Ty) → HasFineHeads sc t → HasFineHeads sc (folded chosen t)
       chosen_heads = heads_under chosen chosen_var chosen_int_var
 
-      pub chosen_closes : Triangular (log_of (bindings c.table)) → Closes chosen c
+      pub chosen_closes : Triangular (log_of (bindings c.goals.table)) → Closes chosen c
       chosen_closes acyclic = record {
-        closing = composed_closing sc c.table s.bound a plain_closing (resolved_respects a c.table acyclic (closing_respects a plain_closing));
-        meets = closing_meets a c.table acyclic;
+        closing = composed_closing sc c.goals.table s.bound a plain_closing (resolved_respects a c.goals.table acyclic (closing_respects a plain_closing));
+        meets = closing_meets a c.goals.table acyclic;
       }
 
   -- ---- what is known of the holes put in
 
   module _ (c : InferenceContext) (s : IsSound sc c) where
-    pub known_heads : (t : Ty) → HasFineHeads sc t → HasFineHeads sc (folded (resolution (bindings c.table)) t)
-    known_heads = heads_under (resolution (bindings c.table)) (λ n. bound_heads sc c.table s.bound (hole_of.Ty n)) (λ n. bound_heads sc c.table s.bound (hole_of.Int n))
+    pub known_heads : (t : Ty) → HasFineHeads sc t → HasFineHeads sc (folded (resolution (bindings c.goals.table)) t)
+    known_heads = heads_under (resolution (bindings c.goals.table)) (λ n. bound_heads sc c.goals.table s.bound (hole_of.Ty n)) (λ n. bound_heads sc c.goals.table s.bound (hole_of.Int n))

@@ -17,12 +17,12 @@ use Rattle.infer_ctx.specs.Closings.{closed_table}
 
 -- the table that it comes to, with these proofs and what could not be shown
 abbrev pub ended : List Proof → List (List Gap) → InferenceContext → InferenceResult
-ended ps gs z = with_goals ps gs (closed_table (completion z.table) z.asked z.result)
+ended ps gs z = with_goals ps gs (closed_table (completion z.goals.table) z.asked z.result)
 
 -- it is a table of the definition, with the types before fallback where the body is plain
 abbrev pub EndsAs : RawFacts → DefWithBodyId → List Proof → List (List Gap) → InferenceContext → Type 0
 EndsAs raw d ps gs z =
-    Meets (terms_of (completion z.table)) z.table → Respects (terms_of (completion z.table)) → Triangular (log_of (bindings z.table))
+    Meets (terms_of (completion z.goals.table)) z.goals.table → Respects (terms_of (completion z.goals.table)) → Triangular (log_of (bindings z.goals.table))
     → IsTableOf raw d (ended ps gs z) × HasGeneral raw d (ended ps gs z)
 
 -- whatever proofs there are

@@ -32,5 +32,5 @@ pub record HoldsResolved (state : State) (r : InferenceResult) (x : General) : T
 -- these types are kept exactly where the body is plain, and nothing else is done
 abbrev pub KeepsGeneral : RawFacts → DefWithBodyId → InferenceContext → InferenceContext → Type 0
 KeepsGeneral raw d old new =
-    (IsPlainBodyOf raw d × ((x : General) × HoldsResolved old.table old.result x × (new ≡ with_general old (Some x))))
+    (IsPlainBodyOf raw d × ((x : General) × HoldsResolved old.goals.table old.result x × (new ≡ with_general old (Some x))))
     ⊎ ((IsPlainBodyOf raw d → ⊥) × (new ≡ with_general old None))

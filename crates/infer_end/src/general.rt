@@ -28,9 +28,9 @@ fn resolve_each(
 /// The types of the body before open holes fall back. Each node has one by now.
 fn general(alloc: Global, context: &InferenceContext) -> Result<General, AllocError>
     requires { HasAllTypes context.now.result }
-    ensures { IfOk result (λ made. HoldsResolved context.now.table context.now.result made) }
+    ensures { IfOk result (λ made. HoldsResolved context.now.goals.table context.now.result made) }
 {
-    let (table, result) = (&context.table, &context.result);
+    let (table, result) = (&context.goals.table, &context.result);
     Ok(General {
         exprs: resolve_each(alloc, table, &result.type_of_expr)?,
         pats: resolve_each(alloc, table, &result.type_of_pat)?,

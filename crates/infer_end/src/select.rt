@@ -3,6 +3,8 @@
 ghost use Rattle.std.specs.Prelude.{◌≡◌, None, Some, OnOk};
 ghost use Rattle.hir_raw.specs.declared.raw.RawBody.{RawBody};
 ghost use Rattle.hir_laws.specs.Bodies.{HasBody, body_of};
+ghost use Rattle.infer_goals.specs.Stays.{IsUnused};
+ghost use Rattle.infer_result.specs.Needs.{scope_item};
 ghost use Rattle.infer_result.specs.Typed.{given};
 ghost use Rattle.infer_ctx.specs.Steps.{BodyDone};
 ghost use Rattle.infer_needs.specs.Selection.{IsSelection};
@@ -21,15 +23,16 @@ fn select(
     def: DefWithBodyId,
 ) -> Result<(), AllocError>
     requires body { HasBody facts.now def }
+    requires unused { IsUnused facts.now (scope_item facts.now def) context.old.goals }
     requires done { (b : RawBody) → body_of facts.now def ≡ Some b → BodyDone (given facts.now def b) context.old }
     ensures done { OnOk result ((b : RawBody) → body_of facts.now def ≡ Some b → BodyDone (given facts.now def b) context.new) }
-    ensures selection { OnOk result ((b : RawBody) → body_of facts.now def ≡ Some b → IsSelection facts.now def b context.old.result context.old.table context.new.table) }
+    ensures selection { OnOk result ((b : RawBody) → body_of facts.now def ≡ Some b → IsSelection facts.now def b context.old.result context.old.goals.table context.new.goals.table) }
     ensures only { OnlyTable context.old context.new }
 {
     facts.lawful();
-    context.table.lawful();
-    select_needs(alloc, facts, def, &context.result, &mut context.table)?;
-    context.table.lawful();
+    context.goals.table.lawful();
+    select_needs(alloc, facts, def, &context.result, &mut context.goals)?;
+    context.goals.table.lawful();
     Ok(())
 }
 
@@ -42,9 +45,10 @@ pub fn select_where_possible(
     def: DefWithBodyId,
 ) -> Result<(), AllocError>
     requires body { HasBody facts.now def }
+    requires unused { IsUnused facts.now (scope_item facts.now def) context.old.goals }
     requires done { (b : RawBody) → body_of facts.now def ≡ Some b → BodyDone (given facts.now def b) context.old }
     ensures done { OnOk result ((b : RawBody) → body_of facts.now def ≡ Some b → BodyDone (given facts.now def b) context.new) }
-    ensures selection { OnOk result (context.old.result.general ≡ None → (b : RawBody) → body_of facts.now def ≡ Some b → IsSelection facts.now def b context.old.result context.old.table context.new.table) }
+    ensures selection { OnOk result (context.old.result.general ≡ None → (b : RawBody) → body_of facts.now def ≡ Some b → IsSelection facts.now def b context.old.result context.old.goals.table context.new.goals.table) }
     ensures plain { StaysOfPlain context.old context.new }
     ensures only { OnlyTable context.old context.new }
 {

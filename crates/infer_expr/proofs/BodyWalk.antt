@@ -15,6 +15,8 @@ use Rattle.hir_types.specs.Fallback.{fallback}
 use Rattle.infer_result.specs.Places.{Given}
 use Rattle.infer_result.specs.Made.{IsMade}
 use Rattle.infer_result.specs.declared.diagnostics.InferenceDiagnostic.TheVariants as diagnostic
+use Rattle.infer_table.specs.Table.{State, new_state}
+use Rattle.infer_goals.specs.declared.table.GoalTable.{GoalTable}
 use Rattle.infer_ctx.specs.Closings.{closed_mismatches, closed_mismatch, found_under, IsSound, Closes}
 use Rattle.infer_ctx.specs.Context.{empty_context}
 use Rattle.infer_ctx.specs.Found.{expr_variant, pat_variant, nothing_found, Found}
@@ -22,9 +24,9 @@ use Rattle.infer_ctx.specs.declared.context.InferenceContext.{InferenceContext}
 use Rattle.infer_ctx.specs.Under.{WrittenExist, CoerceWalked}
 use Rattle.infer_ctx.specs.Walks.{expr_end}
 use Rattle.infer_ctx.specs.Fine.{HasFineHeads}
-use Rattle.infer_ctx.specs.Steps.{Before, CoerceDone, BodyDone, OnlyBinds}
+use Rattle.infer_ctx.specs.Steps.{Before, CoerceDone, BodyDone, Follows, OnlyBinds}
 use Rattle.infer_ctx.proofs.UnderClosings.{of_body_unclosed, same_found}
-use Rattle.infer_ctx.proofs.AtEach.{walking_after, closes_before}
+use Rattle.infer_ctx.proofs.AtEach.{walking_after, closes_before, follows_twice}
 use Rattle.infer_ctx.proofs.OverTypes.{carried_fine, carried_closed}
 use Rattle.infer_coerce.specs.MadeEqual.{Settles}
 use Rattle.infer_expr.specs.Params.{BeforeParams, ComesToParams, ParamsDone, ParamsWalked}
@@ -38,8 +40,8 @@ none_asked : (a : Assignment) (n : ℕ) → closed_mismatches a (replicate n Non
 none_asked a zero = refl
 none_asked a (suc n) = ap (λ xs. None ∷ xs) (none_asked a n)
 
-pub nothing_under : (a : Assignment) (b : RawBody) → found_under a (empty_context b) ≡ nothing_found a b
-nothing_under a b = λ i. record {
+pub nothing_under : (a : Assignment) (b : RawBody) (goals : GoalTable) → found_under a (empty_context b goals) ≡ nothing_found a b
+nothing_under a b goals = λ i. record {
   result = record {
     type_of_expr = none_under (folded a) (length b.exprs) i;
     type_of_pat = none_under (folded a) (length b.pats) i;
@@ -61,8 +63,9 @@ nothing_under a b = λ i. record {
   holes = a;
 }
 
-nothing_sound : (sc : Scope) (b : RawBody) → IsSound sc (empty_context b)
-nothing_sound sc b = record {
+-- with a table of holes that is new
+new_sound : (sc : Scope) (b : RawBody) (goals : GoalTable) → IsSound sc (empty_context b (record goals { table = new_state }))
+new_sound sc b goals = record {
   fine = record {
     exprs = λ n t i. absurd (At-replicate (length b.exprs) n t i);
     pats = λ n t i. absurd (At-replicate (length b.pats) n t i);
@@ -88,24 +91,25 @@ nothing_sound sc b = record {
   );
 }
 
+nothing_sound : (sc : Scope) (b : RawBody) (goals : GoalTable) → goals.table ≡ new_state → IsSound sc (empty_context b goals)
+nothing_sound sc b goals new = subst (λ (state : State). IsSound sc (empty_context b (record goals { table = state }))) (sym new) (new_sound sc b goals)
+
 module _ (g : Given) (s : Schedule) (law : IsWalkable g.body s) (written : WrittenExist g) (count : length g.inputs ≡ length g.body.params) where
-  abbrev blank : InferenceContext
-  blank = empty_context g.body
+  params_under : (a : Assignment) (goals : GoalTable) (last : ℕ) → last ≡ expr_end g.body s g.body.root → last < 2 ^ 64 → ComesToParams g s (found_under a (empty_context g.body goals))
+  params_under a goals last is room = params_before g s a last (found_under a (empty_context g.body goals)) law written count is room (nothing_under a g.body goals)
 
-  params_under : (a : Assignment) (last : ℕ) → last ≡ expr_end g.body s g.body.root → last < 2 ^ 64 → ComesToParams g s (found_under a blank)
-  params_under a last is room = params_before g s a last (found_under a blank) law written count is room (nothing_under a g.body)
-
-  pub comes_to_params : (last : ℕ) (c : InferenceContext) → last ≡ expr_end g.body s g.body.root → last < 2 ^ 64 → c ≡ blank → BeforeParams g s c
-  comes_to_params last c is room empty =
-      let here = params_under fallback last is room in
+  pub comes_to_params : (last : ℕ) (c : InferenceContext) → last ≡ expr_end g.body s g.body.root → last < 2 ^ 64 → c.goals.table ≡ new_state → c ≡ empty_context g.body c.goals → BeforeParams g s c
+  comes_to_params last c is room new empty =
+      let blank : InferenceContext = empty_context g.body c.goals in
+      let here = params_under fallback c.goals last is room in
       subst (λ d. BeforeParams g s d) (sym empty) (record {
         ready = here.ready;
         count = count;
         state = record {
           of_body = of_body_unclosed fallback g.body blank.asked blank.result here.state.of_body;
-          sound = nothing_sound g.scope g.body;
+          sound = nothing_sound g.scope g.body c.goals new;
           told = λ v t i. absurd (At-replicate (length g.body.bindings) v.0 t i);
-          each = λ a k. (params_under a last is room).state;
+          each = λ a k. (params_under a c.goals last is room).state;
         };
         ahead = here.ahead;
       })
@@ -119,15 +123,15 @@ comes_to_root g s old c b d carried heads =
       state = walking_after g s old c b.state.told d.follows (λ a k. (d.each a k).walks.state);
       within = here.within;
       here = here.here;
-      expected = carried_fine c.table g.scope g.output carried heads;
+      expected = carried_fine c.goals.table g.scope g.output carried heads;
     }
 
-module _ (g : Given) (s : Schedule) (law : IsWalkable g.body s) (carried : IsCarriedType g.output) (t : Ty) (mid new last : InferenceContext) (p : ParamsDone g s (empty_context g.body) mid) (d : CoerceDone g s g.body.root (Some g.output) t mid new) (e : Settles g new last) where
+module _ (g : Given) (s : Schedule) (law : IsWalkable g.body s) (carried : IsCarriedType g.output) (t : Ty) (goals : GoalTable) (mid new last : InferenceContext) (p : ParamsDone g s (empty_context g.body goals) mid) (d : CoerceDone g s g.body.root (Some g.output) t mid new) (e : Settles g new last) where
   abbrev b : OnlyBinds g new last
   b = e.binds
 
   typed : (a : Assignment) → Closes a new → ParamsWalked g s (nothing_found a g.body) (found_under a mid)
-  typed a q = subst (λ c. ParamsWalked g s c (found_under a mid)) (nothing_under a g.body) (p.each a (closes_before g a mid new d.follows q))
+  typed a q = subst (λ c. ParamsWalked g s c (found_under a mid)) (nothing_under a g.body goals) (p.each a (closes_before g a mid new d.follows q))
 
   done : (a : Assignment) → Closes a new → CoerceWalked g s g.body.root (Some g.output) (folded a t) (found_under a mid) (found_under a new)
   done a q = subst (λ u. CoerceWalked g s g.body.root (Some u) (folded a t) (found_under a mid) (found_under a new)) (carried_closed a g.output carried) (d.each a q)
@@ -142,3 +146,7 @@ module _ (g : Given) (s : Schedule) (law : IsWalkable g.body s) (carried : IsCar
         subst (λ (f : Found). IsMade g f.result) (sym (same_found a new last b.result b.asked b.clock))
         (body_made g s a law (folded a t) (found_under a mid) (found_under a new) (typed a k) (done a k));
   }
+
+-- more was found out by all of it
+pub body_follows : (g : Given) (s : Schedule) (t : Ty) (old mid new last : InferenceContext) → ParamsDone g s old mid → CoerceDone g s g.body.root (Some g.output) t mid new → Settles g new last → Follows g old last
+body_follows g s t old mid new last p d e = follows_twice g old mid last p.follows (follows_twice g mid new last d.follows e.binds.follows)

@@ -58,7 +58,7 @@ module _ (g : Given) (s : Schedule) (i : ℕ) (mid c : InferenceContext) (h : Pa
             state = walking b.state.told;
             within = here.within;
             here = here.here;
-            fine = written_fine g.scope c.table w param_written;
+            fine = written_fine g.scope c.goals.table w param_written;
             tells = λ t e. param_at_tells g s b.ready.law i p (slice_get_read g.body.params _ i p refl k is) t (w, input_at, elim e [ inl same ↦ (let q : written_type g.scope.facts.types w ≡ t = cc in sym q) | inr none ↦ absurd (cc) ]);
             incoming = λ a l t e. (param_under a l).incoming t (ap (λ u. Some u) (sym (written_closed a)) ∙ e);
           }

@@ -13,7 +13,7 @@ use hir_facts::{DefWithBodyId, Facts, Goal, return_ty};
 use infer_ctx::{GivenBody, InferenceContext};
 use infer_end::{keep_general, select_where_possible};
 use infer_goals::{Answer, ObligationInspector};
-use infer_needs::{prove_needs, tell_all};
+use infer_needs::{prove_needs, scope_item, tell_all};
 use infer_result::InferenceResult;
 use std::alloc::{AllocError, Global};
 
@@ -23,7 +23,7 @@ fn infer_holes(
     alloc: Global,
     facts: &Facts,
     def: DefWithBodyId,
-) -> Result<InferenceContext, AllocError>
+) -> Result<InferenceContext<'_>, AllocError>
     requires { HasBody facts.now def }
     ensures { IfOk result (λ context. EndsWell facts.now def context) }
 {
@@ -41,7 +41,7 @@ fn infer_holes(
         inputs: facts.inputs(def),
         return_ty: &return_ty,
     };
-    let mut context = InferenceContext::new(alloc, body)?;
+    let mut context = InferenceContext::new(alloc, facts, scope_item(facts, def), body)?;
     infer_body(alloc, &mut context, &given)?;
     keep_general(alloc, &mut context, facts, def)?;
     select_where_possible(alloc, &mut context, facts, def)?;

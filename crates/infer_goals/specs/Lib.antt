@@ -1,4 +1,5 @@
 pub mod Kept
 pub mod Obligations
 pub mod SelfTy
+pub mod Stays
 pub mod Told

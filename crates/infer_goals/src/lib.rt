@@ -5,8 +5,6 @@ mod inspect;
 mod obligations;
 mod self_ty;
 mod table;
-#[cfg(test)]
-mod tests;
 
 pub use goal_facts::Answer;
 pub use inspect::{ObligationInspector, ToldList};

@@ -10,11 +10,10 @@ ghost use Rattle.goal_facts.specs.Proofs.{AreProofsUnder};
 ghost use Rattle.goal_facts.specs.Systems.{IsSystemOf};
 ghost use Rattle.goal_select.specs.Steps.{GoalIsOf};
 ghost use Rattle.goal_tree.specs.Trees.{registered, IsAsked, pending_of};
-ghost use Rattle.infer_goals.specs.Told.{resolved_goal, IsToldOf};
+ghost use Rattle.infer_goals.specs.Told.{resolved_goal};
 ghost use Rattle.infer_goals.specs.Obligations.{AreKept, HasAllOpen, NoneLeft, Went, BoundMore};
 ghost use Rattle.infer_goals.specs.SelfTy.{AreForSelfTy};
 
-use crate::inspect::ObligationInspector;
 use crate::obligations::Obligations;
 use goal_facts::{Answer, ItemSources, Proof};
 use hir_facts::{ExprOrPatId, Facts, GenericDefId, Goal, Ty};
@@ -23,7 +22,7 @@ use std::alloc::{AllocError, Global};
 
 /// The goals that inference of a body meets, with the table of its holes.
 #[derive(Drop)]
-pub struct GoalTable<'a, I> {
+pub struct GoalTable<'a> {
     alloc: Global,
     /// The holes that were made, and what is known of them.
     pub table: InferenceTable,
@@ -31,19 +30,20 @@ pub struct GoalTable<'a, I> {
     pub bounded: bool,
     sources: ItemSources<'a>,
     obligations: Obligations,
-    inspect: Option<&'a mut I>,
+    /// Each goal that was evaluated, with its answer.
     told: Vec<(Goal, Answer)>,
     uses: Vec<(Ty, Ty, ExprOrPatId)>,
+    /// The opaque types of which a hidden type is known, with it.
+    projections: Vec<(Ty, Ty)>,
 }
 
-impl<'a, I: ObligationInspector> GoalTable<'a, I> {
+impl<'a> GoalTable<'a> {
     /// A table without holes, of which nothing was told, for the goals of an item of the facts.
     pub fn new(
         alloc: Global,
         facts: &'a Facts,
         env: GenericDefId,
-        inspect: Option<&'a mut I>,
-    ) -> Result<GoalTable<'a, I>, AllocError>
+    ) -> Result<GoalTable<'a>, AllocError>
         ensures facts { IfOk result (λ made. made.sources.facts ≡ facts.now) }
         ensures env { IfOk result (λ made. made.sources.item ≡ env) }
         ensures table { IfOk result (λ made. made.table ≡ new_state) }
@@ -55,7 +55,7 @@ impl<'a, I: ObligationInspector> GoalTable<'a, I> {
         ensures selected { IfOk result (λ made. made.obligations.selected ≡ 0) }
         ensures told { IfOk result (λ made. made.told.items ≡ []) }
         ensures uses { IfOk result (λ made. made.uses.items ≡ []) }
-        ensures inspect { IfOk result (λ made. made.inspect ≡ inspect.entry) }
+        ensures projections { IfOk result (λ made. made.projections.items ≡ []) }
     {
         Ok(GoalTable {
             alloc,
@@ -63,9 +63,9 @@ impl<'a, I: ObligationInspector> GoalTable<'a, I> {
             bounded: true,
             sources: ItemSources::new(alloc, facts, env)?,
             obligations: Obligations::new(alloc),
-            inspect,
             told: Vec::new(alloc),
             uses: Vec::new(alloc),
+            projections: Vec::new(alloc),
         })
     }
 
@@ -88,18 +88,15 @@ impl<'a, I: ObligationInspector> GoalTable<'a, I> {
         ensures given { IfOk result (λ _. IsSystemOf self.old.sources.facts self.old.sources.item (system self.old.sources.sources)) }
         ensures answer { IfOk result (λ answer. IsAnswer (system self.old.sources.sources) self.old.sources.facts.limits.goal_depth (asked_goal (resolved_goal self.old.table goal.now)) answer) }
         ensures told { IfOk result (λ answer. self.new.told.items ≡ self.old.told.items ++ (resolved_goal self.old.table goal.now, answer) ∷ []) }
-        ensures inspector { IfOk result (λ answer. IsToldOf I.list (resolved_goal self.old.table goal.now) answer self.old.inspect self.new.inspect) }
         ensures table { self.new.table ≡ self.old.table }
         ensures bounded { self.new.bounded ≡ self.old.bounded }
         ensures sources { self.new.sources ≡ self.old.sources }
         ensures obligations { self.new.obligations ≡ self.old.obligations }
         ensures uses { self.new.uses.items ≡ self.old.uses.items }
+        ensures projections { self.new.projections.items ≡ self.old.projections.items }
     {
         let resolved = self.table.resolve(goal)?;
         let answer = self.sources.evaluate(self.alloc, &resolved)?;
-        if let Some(inspect) = &mut self.inspect {
-            inspect.told(&resolved, answer)?;
-        }
         self.told.push((resolved, answer))?;
         Ok(answer)
     }
@@ -133,7 +130,7 @@ impl<'a, I: ObligationInspector> GoalTable<'a, I> {
         ensures sources { self.new.sources ≡ self.old.sources }
         ensures obligations { self.new.obligations ≡ self.old.obligations }
         ensures told { self.new.told.items ≡ self.old.told.items }
-        ensures inspect { self.new.inspect ≡ self.old.inspect }
+        ensures projections { self.new.projections.items ≡ self.old.projections.items }
     {
         let opaque = opaque.dup(self.alloc)?;
         let other = other.dup(self.alloc)?;
@@ -154,6 +151,35 @@ impl<'a, I: ObligationInspector> GoalTable<'a, I> {
         Ok(uses)
     }
 
+    /// Enters the hidden type of an opaque type behind the entries of opaque types.
+    pub fn enter_hidden(&mut self, opaque: &Ty, hidden: &Ty) -> Result<(), AllocError>
+        ensures projections { OnOk result (self.new.projections.items ≡ self.old.projections.items ++ (opaque.now, hidden.now) ∷ []) }
+        ensures table { self.new.table ≡ self.old.table }
+        ensures bounded { self.new.bounded ≡ self.old.bounded }
+        ensures sources { self.new.sources ≡ self.old.sources }
+        ensures obligations { self.new.obligations ≡ self.old.obligations }
+        ensures told { self.new.told.items ≡ self.old.told.items }
+        ensures uses { self.new.uses.items ≡ self.old.uses.items }
+    {
+        let opaque = opaque.dup(self.alloc)?;
+        let hidden = hidden.dup(self.alloc)?;
+        self.projections.push((opaque, hidden))?;
+        Ok(())
+    }
+
+    /// The entries of opaque types, each with its hidden type: copies, in order.
+    pub fn projections(&self) -> Result<Vec<(Ty, Ty)>, AllocError>
+        ensures { IfOk result (λ projections. projections.items ≡ self.now.projections.items) }
+    {
+        let mut projections = Vec::new(self.alloc);
+        for entry in self.projections.as_slice() {
+            let opaque = entry.0.dup(self.alloc)?;
+            let hidden = entry.1.dup(self.alloc)?;
+            projections.push((opaque, hidden))?;
+        }
+        Ok(projections)
+    }
+
     /// Adds a goal that a node needs. It may be followed as far as the facts let goals be.
     pub fn register_obligation(&mut self, goal: Goal, node: ExprOrPatId) -> Result<(), AllocError>
         requires goal { GoalIsOf self.old.table goal }
@@ -168,7 +194,7 @@ impl<'a, I: ObligationInspector> GoalTable<'a, I> {
         ensures sources { self.new.sources ≡ self.old.sources }
         ensures told { self.new.told.items ≡ self.old.told.items }
         ensures uses { self.new.uses.items ≡ self.old.uses.items }
-        ensures inspect { self.new.inspect ≡ self.old.inspect }
+        ensures projections { self.new.projections.items ≡ self.old.projections.items }
     {
         let depth = self.sources.facts().raw().limits.goal_depth;
         self.obligations.register(goal, node, depth)?;
@@ -191,7 +217,7 @@ impl<'a, I: ObligationInspector> GoalTable<'a, I> {
         ensures sources { self.new.sources ≡ self.old.sources }
         ensures told { self.new.told.items ≡ self.old.told.items }
         ensures uses { self.new.uses.items ≡ self.old.uses.items }
-        ensures inspect { self.new.inspect ≡ self.old.inspect }
+        ensures projections { self.new.projections.items ≡ self.old.projections.items }
     {
         self.sources.lawful();
         let before = self.table.bound_count();
@@ -218,7 +244,7 @@ impl<'a, I: ObligationInspector> GoalTable<'a, I> {
         ensures sources { self.new.sources ≡ self.old.sources }
         ensures told { self.new.told.items ≡ self.old.told.items }
         ensures uses { self.new.uses.items ≡ self.old.uses.items }
-        ensures inspect { self.new.inspect ≡ self.old.inspect }
+        ensures projections { self.new.projections.items ≡ self.old.projections.items }
     {
         self.select_obligations_where_possible()?;
         let hole = self.table.resolve(var)?;

@@ -12,13 +12,12 @@ use Rattle.hir_raw.specs.declared.raw.RawBody.{RawBody}
 use Rattle.hir_raw.specs.declared.raw.RawExpr.{RawExpr}
 use Rattle.hir_raw.specs.declared.raw.RawFacts.{RawFacts}
 use Rattle.infer_table.specs.Table.{State, resolved_type}
-use Rattle.goal_answers.specs.Goals.{Asked, System, Each}
+use Rattle.goal_answers.specs.Goals.{Asked, Each}
 use Rattle.goal_facts.specs.Goals.{asked_goal}
 use Rattle.goal_tree.specs.declared.obligation.Obligation.{Obligation}
 use Rattle.goal_tree.specs.declared.obligation.Standing.TheVariants as standing
 use Rattle.goal_tree.specs.Trees.{IsTree, IsAsked, registered, opens}
 use Rattle.infer_goals.specs.declared.obligations.Obligations.{Obligations}
-use Rattle.infer_goals.specs.Obligations.{AreKept}
 use Rattle.infer_goals.proofs.Lists.{append_get}
 use Rattle.infer_result.specs.declared.result.InferenceResult.{InferenceResult}
 use Rattle.infer_result.specs.Table.{recorded}
@@ -144,14 +143,4 @@ is_empty o tree none proofs zero_selected = record {
   standings = nil_from_length _ (tree.as_many ∙ ap length none);
   proofs = proofs;
   selected = zero_selected;
-}
-
--- all is kept with any table
-pub empty_kept : (raw : RawFacts) (f : System) (s : State) (o : Obligations) → IsTree o.tree → IsEmpty o → AreKept raw f s o
-empty_kept raw f s o tree none = record {
-  tree = tree;
-  goals = λ i x at. absurd (nothing_at o.tree.obligations.items i x none.obligations at);
-  depths = λ i x at. absurd (nothing_at o.tree.obligations.items i x none.obligations at);
-  right = λ z filling m i a b src x h at. absurd (nothing_at o.tree.obligations.items i x none.obligations at);
-  selected = (let e = none.selected in omega arith);
 }

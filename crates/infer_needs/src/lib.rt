@@ -8,6 +8,6 @@ mod select;
 mod tell;
 mod unknown;
 
-pub use prove::prove_needs;
+pub use prove::{prove_needs, scope_item};
 pub use select::select_needs;
 pub use tell::tell_all;

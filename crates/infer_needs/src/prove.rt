@@ -23,7 +23,7 @@ use infer_result::{Gap, InferenceResult};
 use std::alloc::{AllocError, Global};
 
 /// The item in whose scope a body is.
-pub(crate) fn scope_item(facts: &Facts, def: DefWithBodyId) -> GenericDefId
+pub fn scope_item(facts: &Facts, def: DefWithBodyId) -> GenericDefId
     ensures { result ≡ scope_item facts.now def }
 {
     match def {

@@ -11,6 +11,7 @@ ghost use Rattle.goal_facts.specs.Goals.{asked_goal};
 ghost use Rattle.goal_search.specs.Sources.{system};
 ghost use Rattle.goal_select.specs.Steps.{GoalIsOf};
 ghost use Rattle.infer_goals.specs.Obligations.{AreKept, HasAllOpen};
+ghost use Rattle.infer_goals.specs.Stays.{IsUnused};
 ghost use Rattle.infer_result.specs.Closed.{AllTypes};
 ghost use Rattle.infer_result.specs.Needs.{scope_item};
 ghost use Rattle.infer_needs.specs.Selection.{with_known_types, asked_for, all_asked, AreSelected, IsSelection, BringsNoOther};
@@ -18,16 +19,15 @@ ghost use Rattle.infer_needs.specs.Told.{needs_at};
 ghost use Rattle.infer_needs.specs.Registering.{Registers, IsEmpty};
 
 use crate::needed::needed_goals;
-use crate::prove::{expr_id, scope_item};
+use crate::prove::expr_id;
 use hir_facts::{DefWithBodyId, ExprId, ExprOrPatId, Facts, Goal, RawBody, RawExpr};
-use infer_goals::{GoalTable, ToldList};
+use infer_goals::GoalTable;
 use infer_result::InferenceResult;
-use infer_table::InferenceTable;
 use std::alloc::{AllocError, Global};
 
 /// Registers these goals, which an expression needs.
 fn register_each(
-    goals: &mut GoalTable<'_, ToldList>,
+    goals: &mut GoalTable<'_>,
     needed: Vec<Goal>,
     expr: ExprId,
 ) -> Result<(), AllocError>
@@ -54,7 +54,7 @@ fn register_at(
     expr: &RawExpr,
     at: usize,
     typed: &InferenceResult,
-    goals: &mut GoalTable<'_, ToldList>,
+    goals: &mut GoalTable<'_>,
 ) -> Result<(), AllocError>
     requires types { AllTypes (HolesAreOf goals.old.table) typed.now }
     requires kept { AreKept goals.old.sources.facts (system goals.old.sources.sources) goals.old.table goals.old.obligations }
@@ -83,7 +83,7 @@ fn register_needs(
     facts: &Facts,
     body: &RawBody,
     typed: &InferenceResult,
-    goals: &mut GoalTable<'_, ToldList>,
+    goals: &mut GoalTable<'_>,
 ) -> Result<(), AllocError>
     requires types { AllTypes (HolesAreOf goals.old.table) typed.now }
     requires kept { AreKept goals.old.sources.facts (system goals.old.sources.sources) goals.old.table goals.old.obligations }
@@ -103,7 +103,7 @@ fn register_needs(
 
 /// Selects what can be selected under the bound of the facts; then open holes for integer types fall back,
 /// and it goes on without a bound.
-fn select_registered(goals: &mut GoalTable<'_, ToldList>) -> Result<(), AllocError>
+fn select_registered(goals: &mut GoalTable<'_>) -> Result<(), AllocError>
     requires kept { AreKept goals.old.sources.facts (system goals.old.sources.sources) goals.old.table goals.old.obligations }
     requires all { HasAllOpen goals.old.obligations }
     requires bounded { goals.old.bounded ≡ true }
@@ -123,7 +123,7 @@ fn select_all(
     facts: &Facts,
     body: &RawBody,
     typed: &InferenceResult,
-    goals: &mut GoalTable<'_, ToldList>,
+    goals: &mut GoalTable<'_>,
 ) -> Result<(), AllocError>
     requires types { AllTypes (HolesAreOf goals.old.table) typed.now }
     requires facts { goals.old.sources.facts ≡ facts.now }
@@ -147,24 +147,22 @@ pub fn select_needs(
     facts: &Facts,
     def: DefWithBodyId,
     typed: &InferenceResult,
-    table: &mut InferenceTable,
+    goals: &mut GoalTable<'_>,
 ) -> Result<(), AllocError>
     requires body { HasBody facts.now def }
-    requires types { AllTypes (HolesAreOf table.old) typed.now }
-    ensures grew { OnOk result (Grew table.old table.new) }
-    ensures pairs { OnOk result (table.new.pairs ≡ table.old.pairs) }
-    ensures diverging { OnOk result (table.new.diverging ≡ table.old.diverging) }
-    ensures selection { OnOk result ((b : RawBody) → body_of facts.now def ≡ Some b → IsSelection facts.now def b typed.now table.old table.new) }
-    ensures heads { OnOk result ((b : RawBody) → body_of facts.now def ≡ Some b → BringsNoOther facts.now def b typed.now table.old table.new) }
+    requires unused { IsUnused facts.now (scope_item facts.now def) goals.old }
+    requires types { AllTypes (HolesAreOf goals.old.table) typed.now }
+    ensures grew { OnOk result (Grew goals.old.table goals.new.table) }
+    ensures pairs { OnOk result (goals.new.table.pairs ≡ goals.old.table.pairs) }
+    ensures diverging { OnOk result (goals.new.table.diverging ≡ goals.old.table.diverging) }
+    ensures selection { OnOk result ((b : RawBody) → body_of facts.now def ≡ Some b → IsSelection facts.now def b typed.now goals.old.table goals.new.table) }
+    ensures heads { OnOk result ((b : RawBody) → body_of facts.now def ≡ Some b → BringsNoOther facts.now def b typed.now goals.old.table goals.new.table) }
 {
     let Some(id) = facts.body_id(def) else {
         unreachable!()
     };
     facts.lawful();
     let body = facts.body(id);
-    let mut goals = GoalTable::<ToldList>::new(alloc, facts, scope_item(facts, def), None)?;
-    std::mem::swap(table, &mut goals.table);
-    let done = select_all(alloc, facts, body, typed, &mut goals);
-    std::mem::swap(table, &mut goals.table);
-    done
+    select_all(alloc, facts, body, typed, goals)?;
+    Ok(())
 }

@@ -64,7 +64,7 @@ types_more s [] k = refl
 types_more s (None ∷ ks) k = ap (λ us. ty.Var (hole_count s) ∷ us) (types_more (with_new_hole s kind.Ty) ks k)
 types_more s (Some t ∷ ks) k = ap (λ us. t ∷ us) (types_more s ks k)
 
-one_type : {sc : Scope} (s : State) (k : Option Ty) (t : Ty) (c new : InferenceContext) → c.table ≡ s → IsGivenOrNew sc k t c new → t ∷ [] ≡ given_types s (k ∷ [])
+one_type : {sc : Scope} (s : State) (k : Option Ty) (t : Ty) (c new : InferenceContext) → c.goals.table ≡ s → IsGivenOrNew sc k t c new → t ∷ [] ≡ given_types s (k ∷ [])
 one_type s None t c new is d = ap (λ u. u ∷ []) (d.new_hole refl ∙ ap (λ z. ty.Var (hole_count z)) is)
 one_type s (Some u) t c new is d = ap (λ v. v ∷ []) (d.given u refl)
 
@@ -79,10 +79,10 @@ no_tuple_part x c s = record {
 }
 
 pub tuple_part_more : {sc : Scope} (x : Option Ty) (n : ℕ) (ts : List Ty) (k : Option Ty) (t : Ty) (old c new : InferenceContext) → AreTupleParts sc x n ts old c
-    → IsComponentOf c.table x n k → IsGivenOrNew sc k t c new → AreTupleParts sc x (n + 1) (ts ++ t ∷ []) old new
+    → IsComponentOf c.goals.table x n k → IsGivenOrNew sc k t c new → AreTupleParts sc x (n + 1) (ts ++ t ∷ []) old new
 tuple_part_more {sc} x n ts k t old c new h is d =
-    let same : bindings c.table ≡ bindings old.table = ap (λ s. bindings s) h.table ∙ bindings_all_given old.table h.known in
-    let here : IsComponentOf old.table x n k = component_alike c.table old.table x n k same is in
+    let same : bindings c.goals.table ≡ bindings old.goals.table = ap (λ s. bindings s) h.table ∙ bindings_all_given old.goals.table h.known in
+    let here : IsComponentOf old.goals.table x n k = component_alike c.goals.table old.goals.table x n k same is in
     record {
       made = one_part_more n ts k t old c new h.made d;
       known = h.known ++ k ∷ [];
@@ -90,9 +90,9 @@ tuple_part_more {sc} x n ts k t old c new h is d =
       each = λ i j at.
           elim (push_cases h.known k i j at) [
             | inl q ↦ h.each i j q
-            | inr q ↦ subst (λ m. IsComponentOf old.table x m j) (sym (q.0 ∙ h.count_is)) (subst (λ m. IsComponentOf old.table x n m) q.1 here)
+            | inr q ↦ subst (λ m. IsComponentOf old.goals.table x m j) (sym (q.0 ∙ h.count_is)) (subst (λ m. IsComponentOf old.goals.table x n m) q.1 here)
           ];
       types = ap (λ us. us ++ t ∷ []) h.types
-          ∙ (ap (λ us. given_types old.table h.known ++ us) (one_type (after_all_given old.table h.known) k t c new h.table d) ∙ sym (types_more old.table h.known k));
-      table = d.table ∙ (ap (λ s. after_given s k) h.table ∙ sym (table_more old.table h.known k));
+          ∙ (ap (λ us. given_types old.goals.table h.known ++ us) (one_type (after_all_given old.goals.table h.known) k t c new h.table d) ∙ sym (types_more old.goals.table h.known k));
+      table = d.table ∙ (ap (λ s. after_given s k) h.table ∙ sym (table_more old.goals.table h.known k));
     }

@@ -30,6 +30,7 @@ use Rattle.hir_ids.proofs.CarriedBodies.{ctor_pattern}
 use Rattle.infer_table.proofs.UndoLaws.{grew_itself}
 use Rattle.infer_table.proofs.HoleLaws.{grew_twice}
 use Rattle.infer_table.specs.Table.{Grew}
+use Rattle.infer_goals.specs.Stays.{stays_itself, stays_twice}
 use Rattle.infer_result.specs.Closed.{IsOfBody}
 use Rattle.infer_result.specs.Truth.Mismatch.{SaysItsType}
 use Rattle.infer_ctx.specs.declared.context.InferenceContext.{InferenceContext}
@@ -63,7 +64,8 @@ counted_follows g p n m old new h s (inr k) =
     let d = diagnostic.MismatchedTupleStructPatArgCount (node.PatId p) n m in
     subst (λ c. Follows g old c) (sym k.1) (record {
       clock = omega arith;
-      grew = grew_itself old.table;
+      grew = grew_itself old.goals.table;
+      stays = stays_itself old.goals;
       of_body = of_body_pat_diagnostic g.body old h p d;
       sound = sound_pat_diagnostic old s p d;
       told = λ k. k;
@@ -85,8 +87,8 @@ module _ (g : Given) (v : VariantId) (item : IsVariant g.scope.facts v) (y : Raw
   own_adt_is = ap (λ (z : RawVariant). ty.Adt z.adt (type_args fresh.types)) (sym same) ∙ ap (ty.Adt y.adt) (sym fresh.are)
 
   -- the type of the adt is fine
-  pub own_adt_fine : IsFine g.scope holed.table (ty.Adt y.adt xs)
-  own_adt_fine = subst (λ t. IsFine g.scope holed.table t) own_adt_is (ctor_adt_fine g v item fresh.types old holed fresh.made)
+  pub own_adt_fine : IsFine g.scope holed.goals.table (ty.Adt y.adt xs)
+  own_adt_fine = subst (λ t. IsFine g.scope holed.goals.table t) own_adt_is (ctor_adt_fine g v item fresh.types old holed fresh.made)
 
   fields_of : (ss : List Ty) → ((z : RawVariant) → slice_get g.scope.facts.variants v.0 ≡ Some z → ss ≡ map (field_at g.scope.facts.types xs) z.fields) → ss ≡ map (at_args fresh.types) (field_types g.scope.facts.types item.variant)
   fields_of ss h =
@@ -141,19 +143,20 @@ module _ (g : Given) (s : Schedule) (p : PatId) (v : VariantId) (ps : List PatId
   pub ctor_pat_follows : Follows g old mid
   ctor_pat_follows = record {
     clock = omega (arith, begun_clock);
-    grew = grew_twice old.table b.asked.holed.table mid.table b.asked.holes.grew after_holes.grew;
+    grew = grew_twice old.goals.table b.asked.holed.goals.table mid.goals.table b.asked.holes.grew after_holes.grew;
+    stays = stays_twice old.goals b.asked.holed.goals mid.goals b.asked.holes.stays after_holes.stays;
     of_body = b.asked.demanded.follows.of_body;
     sound = b.asked.demanded.follows.sound;
     told = λ told. after_holes.told (told_same g (context.entered old) b.asked.holed b.asked.holes.result told);
   }
 
-  fields_fine : AllFine g.scope b.asked.holed.table ss
+  fields_fine : AllFine g.scope b.asked.holed.goals.table ss
   fields_fine =
-      subst (λ us. AllFine g.scope b.asked.holed.table us) (sym b.asked.fields)
-      (fine_instances g.scope b.asked.holed.table b.asked.item.params b.asked.types b.asked.holes.count_is (every_from (IsFine g.scope b.asked.holed.table) b.asked.types b.asked.holes.fine) (field_types g.scope.facts.types variant) b.asked.item.fields)
+      subst (λ us. AllFine g.scope b.asked.holed.goals.table us) (sym b.asked.fields)
+      (fine_instances g.scope b.asked.holed.goals.table b.asked.item.params b.asked.types b.asked.holes.count_is (every_from (IsFine g.scope b.asked.holed.goals.table) b.asked.types b.asked.holes.fine) (field_types g.scope.facts.types variant) b.asked.item.fields)
 
-  field_fine : (i : ℕ) (t : Ty) → slice_get ss i ≡ Some t → IsFine g.scope b.asked.holed.table t
-  field_fine i t is = every_at (IsFine g.scope b.asked.holed.table) ss i t fields_fine is
+  field_fine : (i : ℕ) (t : Ty) → slice_get ss i ≡ Some t → IsFine g.scope b.asked.holed.goals.table t
+  field_fine i t is = every_at (IsFine g.scope b.asked.holed.goals.table) ss i t fields_fine is
 
   module _ (a : Assignment) (k : Closes a mid) where
     at_old : Closes a old
@@ -192,7 +195,7 @@ pub record CtorParts (g : Given) (s : Schedule) (p : PatId) (ps : List PatId) (s
   pub made : (a : Assignment) → Closes a c → (k : ℕ) (q : PatId) (t : Ty) → k < i → slice_get ps k ≡ Some q → slice_get (map (folded a) ss) k ≡ Some t → PatIsAtOrMismatch g (found_under a c).result q t
 
 -- what is fine wherever it is there
-fine_if : (g : Given) (c : InferenceContext) (o : Option Ty) → ((t : Ty) → o ≡ Some t → IsFine g.scope c.table t) → IsFineExpectation g.scope c.table o
+fine_if : (g : Given) (c : InferenceContext) (o : Option Ty) → ((t : Ty) → o ≡ Some t → IsFine g.scope c.goals.table t) → IsFineExpectation g.scope c.goals.table o
 fine_if g c None h = tt
 fine_if g c (Some t) h = h t refl
 
@@ -221,10 +224,10 @@ module _ (g : Given) (s : Schedule) (p : PatId) (v : VariantId) (ps : List PatId
 
       pub comes_to_ctor_part : (y : Option Ty) → y ≡ slice_get ss i → BeforePat g s q y c
       comes_to_ctor_part y e =
-          let grew : Grew b.asked.holed.table c.table = grew_twice b.asked.holed.table mid.table c.table (after_holes g s p v ps ss x old mid b).grew h.walk.follows.grew in
+          let grew : Grew b.asked.holed.goals.table c.goals.table = grew_twice b.asked.holed.goals.table mid.goals.table c.goals.table (after_holes g s p v ps ss x old mid b).grew h.walk.follows.grew in
           subst (λ o. BeforePat g s q o c) (sym e) (
           comes_to_pat g s p ps i mid c h.walk q is k (slice_get ss i) b.before.ready ((ctor_pat_follows g s p v ps ss x old mid b).told b.before.state.told)
-          (fine_if g c (slice_get ss i) (λ t j. fine_grown g.scope b.asked.holed.table c.table t grew (field_fine g s p v ps ss x old mid b i t j)))
+          (fine_if g c (slice_get ss i) (λ t j. fine_grown g.scope b.asked.holed.goals.table c.goals.table t grew (field_fine g s p v ps ss x old mid b i t j)))
           (λ a l t j. inr (record {
             named = v;
             parts = ps;
@@ -300,7 +303,8 @@ pub path_pat_walked : (g : Given) (s : Schedule) (p : PatId) (q : RawPath) (t : 
 path_pat_walked g s p q t x old mid new h is typed d = record {
   follows = record {
     clock = omega (arith, d.clock, typed.clock);
-    grew = grew_twice old.table mid.table new.table typed.grew d.follows.grew;
+    grew = grew_twice old.goals.table mid.goals.table new.goals.table typed.grew d.follows.grew;
+    stays = stays_twice old.goals mid.goals new.goals typed.stays d.follows.stays;
     of_body = d.follows.of_body;
     sound = d.follows.sound;
     told = λ told. d.follows.told (told_same g (context.entered old) mid typed.result told);

@@ -23,6 +23,7 @@ use Rattle.infer_table.specs.Resolution.{IsOpenOrKnown}
 use Rattle.infer_table.specs.Table.{State, bindings, resolved_type, with_new_hole, hole_count}
 use Rattle.infer_table.proofs.UndoLaws.{grew_itself}
 use Rattle.infer_table.proofs.HoleLaws.{grew_by_hole}
+use Rattle.infer_goals.specs.Stays.{stays_itself, stays_with}
 use Rattle.infer_result.specs.Closed.{IsOfBody}
 use Rattle.infer_result.specs.Places.{Given}
 use Rattle.infer_ctx.specs.declared.context.InferenceContext.{InferenceContext}
@@ -45,6 +46,7 @@ literal_kind g s e x l t c new h is d = record {
   follows = record {
     clock = omega (arith, d.clock);
     grew = d.grew;
+    stays = d.stays;
     of_body = subst (λ r. IsOfBody g.body r) (sym d.result) h.state.of_body;
     sound = d.sound;
     told = told_same g c new d.result;
@@ -82,34 +84,36 @@ expected_is_integer : (state : State) (x : Option Ty) (t : Ty) → expected_inte
 expected_is_integer state None t h = absurd (cc)
 expected_is_integer state (Some e) t h = step_integer (out-Ty (resolved_type state e)) t h
 
-known_integer : {sc : Scope} (c : InferenceContext) (i : IntegerTy) (x : Option Ty) → IsSound sc c → integer_type i ≡ unsuffixed_type c.table x → IntDone sc x (integer_type i) c c
+known_integer : {sc : Scope} (c : InferenceContext) (i : IntegerTy) (x : Option Ty) → IsSound sc c → integer_type i ≡ unsuffixed_type c.goals.table x → IntDone sc x (integer_type i) c c
 known_integer c i x s h = record {
   is = h;
   result = refl;
   asked = refl;
   clock = refl;
-  grew = grew_itself c.table;
+  grew = grew_itself c.goals.table;
+  stays = stays_itself c.goals;
   sound = s;
-  fine = fine_integer _ c.table i;
+  fine = fine_integer _ c.goals.table i;
   each = λ a k. (i, carried_closed a (integer_type i) (carried_integer i));
 }
 
-pub known_int : {sc : Scope} (c : InferenceContext) (t : Ty) (x : Option Ty) → IsSound sc c → expected_integer c.table x ≡ Some t → IntDone sc x t c c
+pub known_int : {sc : Scope} (c : InferenceContext) (t : Ty) (x : Option Ty) → IsSound sc c → expected_integer c.goals.table x ≡ Some t → IntDone sc x t c c
 known_int {sc} c t x s h =
-    let q = expected_is_integer c.table x t h in
-    let is : t ≡ unsuffixed_type c.table x = sym (ap (λ o. unwrap_or o (ty.IntVar (hole_count c.table))) h) in
+    let q = expected_is_integer c.goals.table x t h in
+    let is : t ≡ unsuffixed_type c.goals.table x = sym (ap (λ o. unwrap_or o (ty.IntVar (hole_count c.goals.table))) h) in
     subst (λ u. IntDone sc x u c c) (sym q.1) (known_integer c q.0 x s (sym q.1 ∙ is))
 
-pub int_hole : {sc : Scope} (c : InferenceContext) (x : Option Ty) → IsSound sc c → expected_integer c.table x ≡ None → IntDone sc x (ty.IntVar (hole_count c.table)) c (holed c kind.Int)
+pub int_hole : {sc : Scope} (c : InferenceContext) (x : Option Ty) → IsSound sc c → expected_integer c.goals.table x ≡ None → IntDone sc x (ty.IntVar (hole_count c.goals.table)) c (holed c kind.Int)
 int_hole c x s none = record {
-  is = sym (ap (λ o. unwrap_or o (ty.IntVar (hole_count c.table))) none);
+  is = sym (ap (λ o. unwrap_or o (ty.IntVar (hole_count c.goals.table))) none);
   result = refl;
   asked = refl;
   clock = refl;
-  grew = grew_by_hole c.table (with_new_hole c.table kind.Int) kind.Int refl;
+  grew = grew_by_hole c.goals.table (with_new_hole c.goals.table kind.Int) kind.Int refl;
+  stays = stays_with c.goals (with_new_hole c.goals.table kind.Int);
   sound = holed_sound c kind.Int s;
-  fine = fine_int_hole _ c.table;
+  fine = fine_int_hole _ c.goals.table;
   each = λ a k.
-      let q = k.int_var (hole_count c.table) in
-      (q.0, replaced_int_var (with_holes a) (hole_count c.table) ∙ q.1);
+      let q = k.int_var (hole_count c.goals.table) in
+      (q.0, replaced_int_var (with_holes a) (hole_count c.goals.table) ∙ q.1);
 }

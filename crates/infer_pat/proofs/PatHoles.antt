@@ -16,6 +16,7 @@ use Rattle.infer_table.specs.Table.{with_new_hole, hole_count, State, HolesAreOf
 use Rattle.infer_table.specs.Preserved.{whole, IsMadeOf, made_of_resolved, made_of_within}
 use Rattle.infer_table.specs.Resolution.{resolution, resolution_term}
 use Rattle.infer_table.specs.Solutions.{log_of, resolved}
+use Rattle.infer_goals.specs.Stays.{stays_itself, stays_twice, stays_with}
 use Rattle.infer_result.specs.Closed.{IsOfBody}
 use Rattle.infer_result.specs.Table.{mismatch}
 use Rattle.infer_result.specs.Places.{Given}
@@ -35,14 +36,15 @@ use Rattle.infer_pat.specs.Patterns.{IsGivenOrNew, PatDemanded, IsDemanded}
 
 -- ---- new holes
 
-pub new_one : {sc : Scope} (c : InferenceContext) → IsSound sc c → IsGivenOrNew sc None (ty.Var (hole_count c.table)) c (holed c kind.Ty)
+pub new_one : {sc : Scope} (c : InferenceContext) → IsSound sc c → IsGivenOrNew sc None (ty.Var (hole_count c.goals.table)) c (holed c kind.Ty)
 new_one c s = record {
   result = refl;
   asked = refl;
   clock = refl;
-  grew = grew_by_hole c.table (with_new_hole c.table kind.Ty) kind.Ty refl;
+  grew = grew_by_hole c.goals.table (with_new_hole c.goals.table kind.Ty) kind.Ty refl;
+  stays = stays_with c.goals (with_new_hole c.goals.table kind.Ty);
   sound = holed_sound c kind.Ty s;
-  fine = fine_hole _ c.table;
+  fine = fine_hole _ c.goals.table;
   given = λ u e. absurd (cc);
   new_hole = λ e. refl;
   table = refl;
@@ -59,7 +61,8 @@ no_part_yet c s = record {
   result = refl;
   asked = refl;
   clock = refl;
-  grew = grew_itself c.table;
+  grew = grew_itself c.goals.table;
+  stays = stays_itself c.goals;
   sound = s;
   count_is = refl;
   fine = λ i t e. absurd (cc);
@@ -70,29 +73,30 @@ one_part_more {sc} n ts x t old c new h d = record {
   result = d.result ∙ h.result;
   asked = d.asked ∙ h.asked;
   clock = d.clock ∙ h.clock;
-  grew = grew_twice old.table c.table new.table h.grew d.grew;
+  grew = grew_twice old.goals.table c.goals.table new.goals.table h.grew d.grew;
+  stays = stays_twice old.goals c.goals new.goals h.stays d.stays;
   sound = d.sound;
   count_is = simp length-append (omega (arith, h.count_is));
   fine = λ i u e.
       elim (push_cases ts t i u e) [
-        | inl q ↦ fine_grown _ c.table new.table u d.grew (h.fine i u q)
-        | inr q ↦ subst (λ v. IsFine sc new.table v) q.1 d.fine
+        | inl q ↦ fine_grown _ c.goals.table new.goals.table u d.grew (h.fine i u q)
+        | inr q ↦ subst (λ v. IsFine sc new.goals.table v) q.1 d.fine
       ];
 }
 
 -- ---- what is known of a type
 
 -- what a type resolves to is fine where the type is
-pub resolved_fine : {sc : Scope} (c : InferenceContext) (t u : Ty) → IsSound sc c → IsFine sc c.table t → HolesAreOf c.table u → resolved_type c.table u ≡ resolved_type c.table t → IsFine sc c.table u
+pub resolved_fine : {sc : Scope} (c : InferenceContext) (t u : Ty) → IsSound sc c → IsFine sc c.goals.table t → HolesAreOf c.goals.table u → resolved_type c.goals.table u ≡ resolved_type c.goals.table t → IsFine sc c.goals.table u
 resolved_fine {sc} c t u s h holes same =
-    let bs = bindings c.table in
+    let bs = bindings c.goals.table in
     let P : Term → Type 0 = IsMadeOf (is_fine_head sc) whole in
     let put_in : P (resolved (log_of bs) (term t)) = made_of_resolved (is_fine_head sc) (log_of bs) (term t) s.bound h.heads in
     let known : P (term (folded (resolution bs) t)) = subst P (sym (resolution_term bs t)) put_in in
     let alike : P (term (folded (resolution bs) u)) = subst P (ap term (sym same)) known in
     record {
       holes = holes;
-      heads = made_of_within (is_fine_head sc) (terms_of (resolution bs)) whole (term u) (fine_no_alias sc).no_mark (bound_heads sc c.table s.bound) (subst P (term_folded (resolution bs) u) alike);
+      heads = made_of_within (is_fine_head sc) (terms_of (resolution bs)) whole (term u) (fine_no_alias sc).no_mark (bound_heads sc c.goals.table s.bound) (subst P (term_folded (resolution bs) u) alike);
     }
 
 -- ---- tuples of fine types
@@ -105,9 +109,9 @@ carried_each sc a state ts k h =
     sym (carried_tuple (map (folded a) ts)) ∙ tuple
 
 -- ---- what comes in
-module _ (g : Given) (p : PatId) (t : Ty) (c : InferenceContext) (h : IsOfBody g.body c.result) (s : IsSound g.scope c) (fo : IsFine g.scope c.table t) where
+module _ (g : Given) (p : PatId) (t : Ty) (c : InferenceContext) (h : IsOfBody g.body c.result) (s : IsSound g.scope c) (fo : IsFine g.scope c.goals.table t) where
   -- the record of the type, after what is asked
-  recorded : (x : Option Ty) (mid : InferenceContext) → Follows g c mid → mid.clock ≡ c.clock → IsFine g.scope mid.table t → ((a : Assignment) → Closes a mid → IsDemanded p (folded a t) (expected_under a x) (found_under a c) (found_under a mid)) → PatDemanded g p t x c (with_pat_ty mid p t)
+  recorded : (x : Option Ty) (mid : InferenceContext) → Follows g c mid → mid.clock ≡ c.clock → IsFine g.scope mid.goals.table t → ((a : Assignment) → Closes a mid → IsDemanded p (folded a t) (expected_under a x) (found_under a c) (found_under a mid)) → PatDemanded g p t x c (with_pat_ty mid p t)
   recorded x mid f clock k asked = record {
     follows = assumption (of_body_pat_ty g.body mid f.of_body p t, sound_pat_ty mid f.sound p t k, f);
     clock = clock;
@@ -120,14 +124,14 @@ module _ (g : Given) (p : PatId) (t : Ty) (c : InferenceContext) (h : IsOfBody g
 
   pub demanded_nothing : PatDemanded g p t None c (with_pat_ty c p t)
   demanded_nothing =
-      recorded None c (record { clock = omega arith; grew = grew_itself c.table; of_body = h; sound = s; told = λ k. k }) refl fo (λ a q. refl)
+      recorded None c (record { clock = omega arith; grew = grew_itself c.goals.table; stays = stays_itself c.goals; of_body = h; sound = s; told = λ k. k }) refl fo (λ a q. refl)
 
-  module _ (u : Ty) (fu : IsFine g.scope c.table u) where
+  module _ (u : Ty) (fu : IsFine g.scope c.goals.table u) where
     module _ (new : InferenceContext) where
       pub demanded_unified : IsUnifiedIf true g u t c new → PatDemanded g p t (Some u) c (with_pat_ty new p t)
       demanded_unified k =
           let f = k.binds.follows in
-          recorded (Some u) new f k.binds.clock (fine_grown g.scope c.table new.table t f.grew fo) (λ a q. inl (
+          recorded (Some u) new f k.binds.clock (fine_grown g.scope c.goals.table new.goals.table t f.grew fo) (λ a q. inl (
             k.each a q,
             same_found a c new k.binds.result k.binds.asked k.binds.clock,
           ))
@@ -136,8 +140,8 @@ module _ (g : Given) (p : PatId) (t : Ty) (c : InferenceContext) (h : IsOfBody g
       demanded_refused k =
           let f = k.binds.follows in
           let last : InferenceContext = with_pat_mismatch new p (mismatch u t) in
-          let gu : IsFine g.scope new.table u = fine_grown g.scope c.table new.table u f.grew fu in
-          let gt : IsFine g.scope new.table t = fine_grown g.scope c.table new.table t f.grew fo in
+          let gu : IsFine g.scope new.goals.table u = fine_grown g.scope c.goals.table new.goals.table u f.grew fu in
+          let gt : IsFine g.scope new.goals.table t = fine_grown g.scope c.goals.table new.goals.table t f.grew fo in
           recorded (Some u) last (assumption (
             of_body_pat_mismatch g.body new f.of_body p (mismatch u t),
             sound_pat_mismatch new f.sound p (mismatch u t) gu gt,

@@ -42,7 +42,7 @@ use Rattle.infer_pat.specs.Patterns.{BeforePat, ComesToPat}
 
 module _ (g : Given) (s : Schedule) (a : Assignment) (c : InferenceContext) (k : Closes a c) where
   pub before_pat_under : (p : PatId) (x : Option Ty) → BeforePat g s p x c → ComesToPat g s p (expected_under a x) (found_under a c)
-  before_pat_under p x h = assumption (h.state.each a k, expected_carried g.scope a c.table x k.closing h.fine, h.incoming a k, h)
+  before_pat_under p x h = assumption (h.state.each a k, expected_carried g.scope a c.goals.table x k.closing h.fine, h.incoming a k, h)
 
 pub pat_before : (g : Given) (s : Schedule) (n : Node) (role : Role) (p : PatId) (ps : List Part) (x : Option Ty) (c : Found) → IsReady g s → IsWalked g s c → LieAhead g.body s n c.clock (pat_part role p ∷ ps) → IsCarriedExpectation x → ((t : Ty) → x ≡ Some t → Gives g c.result n role t) → ComesToPat g s p x c
 pat_before g s n role p ps x c ready state ahead carried gives = record {

@@ -11,6 +11,7 @@ use Rattle.hir_facts.specs.CarriedTypes.{IsCarriedType}
 use Rattle.hir_raw.specs.Order.{Binds, binding_of}
 use Rattle.hir_raw.specs.declared.raw.RawPat.TheVariants as pat
 use Rattle.infer_table.proofs.HoleLaws.{grew_twice}
+use Rattle.infer_goals.specs.Stays.{stays_twice}
 use Rattle.infer_result.specs.Closed.{IsOfBody}
 use Rattle.infer_result.specs.Places.{Given}
 use Rattle.infer_ctx.specs.Closings.{expected_under, Closes, found_under}
@@ -68,6 +69,7 @@ module _ (g : Given) (s : Schedule) (p : PatId) (x : Option Ty) (t : Ty) (old mi
         follows = record {
           clock = omega (arith, d.clock);
           grew = d.grew;
+          stays = d.stays;
           of_body = of_body_pat_ty g.body mid of_body p t;
           sound = sound_pat_ty mid d.sound p t d.fine;
           told = told_same g (context.entered old) mid d.result;
@@ -103,6 +105,7 @@ module _ (g : Given) (s : Schedule) (p : PatId) (x : Option Ty) (t : Ty) (old mi
         follows = record {
           clock = omega (arith, d.clock);
           grew = d.grew;
+          stays = d.stays;
           of_body = of_body_bound_by g.body mid p v t of_body;
           sound = sound_bound_by mid p v t d.sound d.fine;
           told = λ told. bound_told v sub is (told_same g (context.entered old) mid d.result told);
@@ -159,9 +162,10 @@ module _ (g : Given) (s : Schedule) (p : PatId) (e : ExprId) (x : Option Ty) (ol
         record {
           follows = record {
             clock = omega (arith, d.follows.clock, k.1);
-            grew = grew_twice old.table mid.table last.table d.follows.grew k.0.grew;
+            grew = grew_twice old.goals.table mid.goals.table last.goals.table d.follows.grew k.0.grew;
+            stays = stays_twice old.goals mid.goals last.goals d.follows.stays k.0.stays;
             of_body = of_body_pat_ty g.body last k.0.of_body p t;
-            sound = sound_pat_ty last k.0.sound p t (fine_grown g.scope mid.table last.table t k.0.grew d.fine);
+            sound = sound_pat_ty last k.0.sound p t (fine_grown g.scope mid.goals.table last.goals.table t k.0.grew d.fine);
             told = λ told. k.0.told (d.follows.told told);
           };
           each = λ a q.

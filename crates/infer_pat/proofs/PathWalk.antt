@@ -25,6 +25,7 @@ use Rattle.hir_raw.specs.declared.raw.RawExpr.TheVariants as expr
 use Rattle.hir_raw.specs.declared.raw.RawCtor.TheVariants as ctor
 use Rattle.infer_table.proofs.UndoLaws.{grew_itself}
 use Rattle.infer_table.specs.Table.{hole_count}
+use Rattle.infer_goals.specs.Stays.{stays_itself}
 use Rattle.infer_result.specs.declared.result.InferenceResult.{InferenceResult}
 use Rattle.infer_result.specs.Table.{HasTy, ExprVariant, BindingTy}
 use Rattle.infer_result.specs.Places.{Given}
@@ -82,6 +83,7 @@ path_kind g s e x p t c new h is d = record {
   follows = record {
     clock = omega (arith, d.clock);
     grew = d.grew;
+    stays = d.stays;
     of_body = subst (λ r. IsOfBody g.body r) (sym d.result) h.state.of_body;
     sound = d.sound;
     told = told_same g c new d.result;
@@ -118,7 +120,8 @@ local_path g v t c h s told k = record {
   result = refl;
   asked = refl;
   clock = refl;
-  grew = grew_itself c.table;
+  grew = grew_itself c.goals.table;
+  stays = stays_itself c.goals;
   sound = s;
   fine = s.fine.bindings v.0 t k;
   tells = λ e is. local_tells g e v t is (told v t k);
@@ -140,8 +143,8 @@ counted_under : (a : Assignment) (o : Option ℕ) (n : ℕ) (ts : List Ty) → o
 counted_under a o n ts at count = at ∙ ap (λ m. Some m) (sym count ∙ sym (length-map ts (folded a)))
 
 -- the type of an item at as many types as it has parameters is fine
-pub item_fine : (g : Given) (id : CallableDefId) (item : IsItem g.scope.facts id) (ts : List Ty) (c new : InferenceContext) → ArePartTypes g.scope item.signature.params ts c new → IsFine g.scope new.table (ty.FnDef id (type_args ts))
-item_fine g id item ts c new d = fine_fn_def g.scope new.table id ts (takes (item_params g.scope.facts id) item.signature.params ts (ap (option_map (λ σ. σ.params)) item.found) d.count_is) (every_from (IsFine g.scope new.table) ts d.fine)
+pub item_fine : (g : Given) (id : CallableDefId) (item : IsItem g.scope.facts id) (ts : List Ty) (c new : InferenceContext) → ArePartTypes g.scope item.signature.params ts c new → IsFine g.scope new.goals.table (ty.FnDef id (type_args ts))
+item_fine g id item ts c new d = fine_fn_def g.scope new.goals.table id ts (takes (item_params g.scope.facts id) item.signature.params ts (ap (option_map (λ σ. σ.params)) item.found) d.count_is) (every_from (IsFine g.scope new.goals.table) ts d.fine)
 
 -- a function at as many types as it has parameters
 pub function_path : (g : Given) (f : FunctionId) (item : IsItem g.scope.facts (callable.FunctionId f)) (ts : List Ty) (c new : InferenceContext) → ArePartTypes g.scope item.signature.params ts c new → PathDone g (path.Function f) (ty.FnDef (callable.FunctionId f) (type_args ts)) c new
@@ -150,6 +153,7 @@ function_path g f item ts c new d = record {
   asked = d.asked;
   clock = d.clock;
   grew = d.grew;
+  stays = d.stays;
   sound = d.sound;
   fine = item_fine g (callable.FunctionId f) item ts c new d;
   tells = λ e is. function_tells g e f (type_args ts) (ty.FnDef (callable.FunctionId f) (type_args ts)) is refl;
@@ -162,20 +166,21 @@ module _ (g : Given) (v : VariantId) (x : IsVariant g.scope.facts v) (ts : List 
   pub variant_under : (a : Assignment) → IsVariantAt g v x.variant (map (folded a) ts)
   variant_under a = record { found = x.found; count = counted_under a (adt_params g.scope.facts x.variant.adt) x.params ts x.count d.count_is }
 
-  every_fine : AllFine g.scope new.table ts
-  every_fine = every_from (IsFine g.scope new.table) ts d.fine
+  every_fine : AllFine g.scope new.goals.table ts
+  every_fine = every_from (IsFine g.scope new.goals.table) ts d.fine
 
   -- the type of its adt is fine
-  pub ctor_adt_fine : IsFine g.scope new.table (ty.Adt x.variant.adt (type_args ts))
-  ctor_adt_fine = fine_adt g.scope new.table x.variant.adt ts (takes (adt_params g.scope.facts x.variant.adt) x.params ts x.count d.count_is) every_fine
+  pub ctor_adt_fine : IsFine g.scope new.goals.table (ty.Adt x.variant.adt (type_args ts))
+  ctor_adt_fine = fine_adt g.scope new.goals.table x.variant.adt ts (takes (adt_params g.scope.facts x.variant.adt) x.params ts x.count d.count_is) every_fine
 
   -- a path to it has the type t, which says under each assignment what the constructor is
-  ctor_path_at : (t : Ty) → IsFine g.scope new.table t → t ≡ ctor_type x.variant v ts → ((a : Assignment) → folded a t ≡ ctor_type x.variant v (map (folded a) ts)) → PathDone g (path.Ctor v) t c new
+  ctor_path_at : (t : Ty) → IsFine g.scope new.goals.table t → t ≡ ctor_type x.variant v ts → ((a : Assignment) → folded a t ≡ ctor_type x.variant v (map (folded a) ts)) → PathDone g (path.Ctor v) t c new
   ctor_path_at t fine made is = record {
     result = d.result;
     asked = d.asked;
     clock = d.clock;
     grew = d.grew;
+    stays = d.stays;
     sound = d.sound;
     fine = fine;
     tells = λ e at. ctor_tells g e v x.variant ts t at x.found (x.count ∙ ap (λ n. Some n) (sym d.count_is)) made;
@@ -192,7 +197,7 @@ module _ (g : Given) (v : VariantId) (x : IsVariant g.scope.facts v) (ts : List 
       let made : (σ : Signature) × (signature_of g.scope.facts (callable.VariantId v) ≡ Some σ) × (σ.params ≡ x.params) = tuple_signature g.scope.facts v x.variant x.params x.found x.count u in
       let at : item_params g.scope.facts (callable.VariantId v) ≡ Some x.params = ap (option_map (λ σ. σ.params)) made.1 ∙ ap (λ n. Some n) made.2 in
       ctor_path_at (ty.FnDef (callable.VariantId v) (type_args ts))
-      (fine_fn_def g.scope new.table (callable.VariantId v) ts (takes (item_params g.scope.facts (callable.VariantId v)) x.params ts at d.count_is) every_fine)
+      (fine_fn_def g.scope new.goals.table (callable.VariantId v) ts (takes (item_params g.scope.facts (callable.VariantId v)) x.params ts at d.count_is) every_fine)
       (sym (ctor_type_of_tuple x.variant v ts u))
       (λ a. fn_def_closed a (callable.VariantId v) ts ∙ sym (ctor_type_of_tuple x.variant v (map (folded a) ts) u))
 
@@ -200,9 +205,9 @@ module _ (g : Given) (v : VariantId) (x : IsVariant g.scope.facts v) (ts : List 
 pub fresh_start : {sc : Scope} (c : InferenceContext) → IsSound sc c → AreFreshArgs sc 0 [] c c
 fresh_start c s = record { types = []; are = refl; made = no_part_yet c s }
 
-pub fresh_more : {sc : Scope} (n : ℕ) (xs : List GenericArg) (old c : InferenceContext) → AreFreshArgs sc n xs old c → AreFreshArgs sc (n + 1) (xs ++ arg.Ty (ty.Var (hole_count c.table)) ∷ []) old (holed c kind.Ty)
+pub fresh_more : {sc : Scope} (n : ℕ) (xs : List GenericArg) (old c : InferenceContext) → AreFreshArgs sc n xs old c → AreFreshArgs sc (n + 1) (xs ++ arg.Ty (ty.Var (hole_count c.goals.table)) ∷ []) old (holed c kind.Ty)
 fresh_more n xs old c h =
-    let v : Ty = ty.Var (hole_count c.table) in
+    let v : Ty = ty.Var (hole_count c.goals.table) in
     record {
       types = h.types ++ v ∷ [];
       are = ap (λ ys. ys ++ arg.Ty v ∷ []) h.are ∙ sym (map-append arg.Ty h.types (v ∷ []));

@@ -19,6 +19,7 @@ use Rattle.infer_pat.proofs.PatSteps.{enters_more, enters_done, before_pat_under
 use Rattle.infer_pat.proofs.Pats.{pat_rule_of}
 use Rattle.hir_types.specs.Subst.{Assignment, folded}
 use Rattle.infer_table.proofs.HoleLaws.{grew_twice}
+use Rattle.infer_goals.specs.Stays.{stays_twice}
 use Rattle.infer_result.specs.Truth.Mismatch.{SaysItsType}
 use Rattle.infer_ctx.specs.declared.context.InferenceContext.{InferenceContext}
 use Rattle.infer_ctx.specs.Closings.{Closes, found_under, expected_under}
@@ -52,8 +53,8 @@ tuple_pat_begun g s p ps ts made own x old first holed mid h is at same parts tu
 }
 
 module _ (g : Given) (s : Schedule) (p : PatId) (ps : List PatId) (ts : List Ty) (x : Option Ty) (old mid : InferenceContext) (b : TuplePatBegun g s p ps ts x old mid) where
-  holed_fine : AllFine g.scope b.holed.table ts
-  holed_fine = every_from (IsFine g.scope b.holed.table) ts b.parts.made.fine
+  holed_fine : AllFine g.scope b.holed.goals.table ts
+  holed_fine = every_from (IsFine g.scope b.holed.goals.table) ts b.parts.made.fine
 
   module _ (a : Assignment) (k : Closes a mid) where
     at_holes : Closes a b.holed
@@ -66,7 +67,7 @@ module _ (g : Given) (s : Schedule) (p : PatId) (ps : List PatId) (ts : List Ty)
     begun_before = before_pat_under g s a old at_old p x b.before
 
     begun_carried : AreCarriedTypes (map (folded a) ts)
-    begun_carried = carried_each g.scope a b.holed.table ts k.closing holed_fine
+    begun_carried = carried_each g.scope a b.holed.goals.table ts k.closing holed_fine
 
     begun_demands : Demands g s p (ty.Tuple (map (folded a) ts)) (expected_under a x) (found_under a old) (found.entered (found_under a old)) (found_under a mid)
     begun_demands =
@@ -79,8 +80,8 @@ module _ (g : Given) (s : Schedule) (p : PatId) (ps : List PatId) (ts : List Ty)
   begun_told : TellsRecorded g mid.result
   begun_told = b.demanded.follows.told (told_same g (context.entered old) b.holed b.parts.made.result b.before.state.told)
 
-  begun_fine : AllFine g.scope mid.table ts
-  begun_fine = all_fine_grown g.scope b.holed.table mid.table ts b.demanded.follows.grew holed_fine
+  begun_fine : AllFine g.scope mid.goals.table ts
+  begun_fine = all_fine_grown g.scope b.holed.goals.table mid.goals.table ts b.demanded.follows.grew holed_fine
 
 -- ---- the parts
 
@@ -121,7 +122,7 @@ module _ (g : Given) (s : Schedule) (p : PatId) (ps : List PatId) (ts : List Ty)
       pub comes_to_part : BeforePat g s q (Some t) c
       comes_to_part =
           comes_to_pat g s p ps i mid c h.walk q is k (Some t) b.before.ready (begun_told g s p ps ts x old mid b)
-          (every_at (IsFine g.scope c.table) ts i t (all_fine_grown g.scope mid.table c.table ts h.walk.follows.grew (begun_fine g s p ps ts x old mid b)) type_at)
+          (every_at (IsFine g.scope c.goals.table) ts i t (all_fine_grown g.scope mid.goals.table c.goals.table ts h.walk.follows.grew (begun_fine g s p ps ts x old mid b)) type_at)
           (λ a l u e. (let same : folded a t ≡ u = cc in inl (record { types = map (folded a) ts; has = has_tuple a l; component = type_under a ∙ ap (λ y. Some y) same })))
 
       pub goes_past_part : (next : InferenceContext) → PatDone g s q (Some t) c next → TupleParts g s p ps ts (i + 1) mid next
@@ -159,7 +160,8 @@ module _ (g : Given) (s : Schedule) (p : PatId) (ps : List PatId) (ts : List Ty)
     ends_tuple_pat over = record {
       follows = record {
         clock = omega (arith, begun_clock, h.walk.follows.clock);
-        grew = grew_twice old.table b.holed.table c.table b.parts.made.grew (follows_twice g b.holed mid c b.demanded.follows h.walk.follows).grew;
+        grew = grew_twice old.goals.table b.holed.goals.table c.goals.table b.parts.made.grew (follows_twice g b.holed mid c b.demanded.follows h.walk.follows).grew;
+        stays = stays_twice old.goals b.holed.goals c.goals b.parts.made.stays (follows_twice g b.holed mid c b.demanded.follows h.walk.follows).stays;
         of_body = h.walk.follows.of_body;
         sound = h.walk.follows.sound;
         told = λ told. h.walk.follows.told (b.demanded.follows.told (told_same g (context.entered old) b.holed b.parts.made.result told));

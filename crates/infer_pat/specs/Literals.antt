@@ -16,6 +16,7 @@ use Rattle.hir_raw.specs.declared.raw.RawExpr.TheVariants as expr
 use Rattle.hir_raw.specs.declared.raw.RawLiteral.{RawLiteral}
 use Rattle.hir_raw.specs.declared.raw.RawLiteral.TheVariants as literal
 use Rattle.infer_table.specs.Table.{State, resolved_type, Grew, hole_count}
+use Rattle.infer_goals.specs.Stays.{StaysButHoles}
 use Rattle.infer_result.specs.Kinds.Literal.{IsLiteralType, IsOwnType}
 use Rattle.infer_ctx.specs.declared.context.InferenceContext.{InferenceContext}
 use Rattle.infer_ctx.specs.Fine.{IsFine}
@@ -45,13 +46,14 @@ unsuffixed_type s x = unwrap_or (expected_integer s x) (ty.IntVar (hole_count s)
 
 -- the type is the integer type that is expected, or a new hole for one
 pub record IntDone (sc : Scope) (x : Option Ty) (t : Ty) (old new : InferenceContext) : Type 0 where
-  pub is : t ≡ unsuffixed_type old.table x
+  pub is : t ≡ unsuffixed_type old.goals.table x
   pub result : new.result ≡ old.result
   pub asked : new.asked ≡ old.asked
   pub clock : new.clock ≡ old.clock
-  pub grew : Grew old.table new.table
+  pub grew : Grew old.goals.table new.goals.table
+  pub stays : StaysButHoles old.goals new.goals
   pub sound : IsSound sc new
-  pub fine : IsFine sc new.table t
+  pub fine : IsFine sc new.goals.table t
   pub each : (a : Assignment) → IsClosing a → (i : IntegerTy) × (folded a t ≡ integer_type i)
 
 -- the type of a literal of which x is expected
@@ -69,12 +71,13 @@ literal_type_at s x _ = ty.Error
 
 -- the type is the literal's
 pub record LiteralDone (sc : Scope) (x : Option Ty) (l : RawLiteral) (t : Ty) (old new : InferenceContext) : Type 0 where
-  pub is : t ≡ literal_type old.table x l
+  pub is : t ≡ literal_type old.goals.table x l
   pub result : new.result ≡ old.result
   pub asked : new.asked ≡ old.asked
   pub clock : new.clock ≡ old.clock
-  pub grew : Grew old.table new.table
+  pub grew : Grew old.goals.table new.goals.table
+  pub stays : StaysButHoles old.goals new.goals
   pub sound : IsSound sc new
-  pub fine : IsFine sc new.table t
+  pub fine : IsFine sc new.goals.table t
   pub own : (s : Ty) → IsOwnType l s → t ≡ s
   pub each : (a : Assignment) → IsClosing a → IsLiteralType l (folded a t)

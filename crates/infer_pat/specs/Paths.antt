@@ -12,6 +12,7 @@ use Rattle.hir_raw.specs.Signatures.{type_args}
 use Rattle.hir_raw.specs.declared.raw.RawPath.TheVariants as path
 use Rattle.hir_raw.specs.declared.raw.RawExpr.TheVariants as expr
 use Rattle.infer_table.specs.Table.{Grew}
+use Rattle.infer_goals.specs.Stays.{StaysButHoles}
 use Rattle.infer_result.specs.declared.result.InferenceResult.{InferenceResult}
 use Rattle.infer_result.specs.Table.{BindingTy}
 use Rattle.infer_result.specs.Places.{Given}
@@ -44,9 +45,10 @@ pub record PathDone (g : Given) (p : RawPath) (t : Ty) (old new : InferenceConte
   pub result : new.result ≡ old.result
   pub asked : new.asked ≡ old.asked
   pub clock : new.clock ≡ old.clock
-  pub grew : Grew old.table new.table
+  pub grew : Grew old.goals.table new.goals.table
+  pub stays : StaysButHoles old.goals new.goals
   pub sound : IsSound g.scope new
-  pub fine : IsFine g.scope new.table t
+  pub fine : IsFine g.scope new.goals.table t
   pub tells : (e : ExprId) → slice_get g.body.exprs e.0 ≡ Some (expr.Path p) → Tells g e t
   pub each : (a : Assignment) → Closes a new → IsPathType g (closed_table a old.asked old.result) p (folded a t)
 

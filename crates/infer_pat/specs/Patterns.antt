@@ -16,6 +16,7 @@ use Rattle.hir_raw.specs.Signatures.{type_args, at_args, field_types}
 use Rattle.hir_raw.specs.declared.raw.RawPat.TheVariants as pat
 use Rattle.infer_table.specs.Resolution.{IsOpenOrKnown}
 use Rattle.infer_table.specs.Table.{State, Grew, bindings, hole_count, resolved_type, with_new_hole}
+use Rattle.infer_goals.specs.Stays.{StaysButHoles}
 use Rattle.infer_result.specs.Places.{Given, PatIsAtOrMismatch}
 use Rattle.infer_result.specs.Incoming.{Incoming}
 use Rattle.infer_result.specs.declared.result.InferenceResult.{InferenceResult}
@@ -88,7 +89,7 @@ pub record BeforePat (g : Given) (s : Schedule) (p : PatId) (x : Option Ty) (c :
   pub state : IsWalking g s c
   pub within : p.0 < length g.body.pats
   pub here : pat_start g.body s p ≡ c.clock
-  pub fine : IsFineExpectation g.scope c.table x
+  pub fine : IsFineExpectation g.scope c.goals.table x
   pub tells : (t : Ty) → (x ≡ Some t) ⊎ (x ≡ None) → TellsBound g p t
   pub incoming : (a : Assignment) → Closes a c → (t : Ty) → expected_under a x ≡ Some t → Incoming g (closed_table a c.asked c.result) p t
 
@@ -105,12 +106,13 @@ pub record IsGivenOrNew (sc : Scope) (x : Option Ty) (t : Ty) (old new : Inferen
   pub result : new.result ≡ old.result
   pub asked : new.asked ≡ old.asked
   pub clock : new.clock ≡ old.clock
-  pub grew : Grew old.table new.table
+  pub grew : Grew old.goals.table new.goals.table
+  pub stays : StaysButHoles old.goals new.goals
   pub sound : IsSound sc new
-  pub fine : IsFine sc new.table t
+  pub fine : IsFine sc new.goals.table t
   pub given : (u : Ty) → x ≡ Some u → t ≡ u
-  pub new_hole : x ≡ None → t ≡ ty.Var (hole_count old.table)
-  pub table : new.table ≡ after_given old.table x
+  pub new_hole : x ≡ None → t ≡ ty.Var (hole_count old.goals.table)
+  pub table : new.goals.table ≡ after_given old.goals.table x
 
 -- ---- tuple patterns
 
@@ -141,9 +143,9 @@ pub record AreTupleParts (sc : Scope) (x : Option Ty) (count : ℕ) (ts : List T
   pub made : ArePartTypes sc count ts old new
   pub known : List (Option Ty)
   pub count_is : length known ≡ count
-  pub each : (i : ℕ) (k : Option Ty) → slice_get known i ≡ Some k → IsComponentOf old.table x i k
-  pub types : ts ≡ given_types old.table known
-  pub table : new.table ≡ after_all_given old.table known
+  pub each : (i : ℕ) (k : Option Ty) → slice_get known i ≡ Some k → IsComponentOf old.goals.table x i k
+  pub types : ts ≡ given_types old.goals.table known
+  pub table : new.goals.table ≡ after_all_given old.goals.table known
 
 -- the pattern p is of the tuple of these types, which its parts get
 pub record HandsParts (g : Given) (p : PatId) (x : Option Ty) (count : ℕ) (old new : InferenceContext) : Type 0 where

@@ -23,7 +23,7 @@ pub fn infer_literal(
     requires is { IsLiteral (slice_get given.now.body.now.exprs tgt_expr.0) }
     ensures kind { IfOk result (λ ty. KindDone (given_of given.now) (schedule_of given.now)
         tgt_expr (expected_type expected.entry) ty context.old context.new) }
-    ensures typed { IfOk result (λ ty. ty ≡ literal_type_at context.old.table
+    ensures typed { IfOk result (λ ty. ty ≡ literal_type_at context.old.goals.table
         (expected_type expected.entry) (slice_get given.now.body.now.exprs tgt_expr.0)) }
 {
     match &given.body.exprs.as_slice()[tgt_expr.0 as usize] {
@@ -74,7 +74,7 @@ fn infer_unsuffixed(
     match expected_integer(context, expected) {
         Some(ty) => Ok(ty),
         None => {
-            let ty = context.table.next_int_var()?;
+            let ty = context.goals.table.next_int_var()?;
             Ok(ty)
         }
     }
@@ -82,10 +82,10 @@ fn infer_unsuffixed(
 
 /// The integer type that is expected, where one is.
 fn expected_integer(context: &InferenceContext, expected: Expectation) -> Option<Ty>
-    ensures { result ≡ expected_integer context.now.table (expected_type expected.entry) }
+    ensures { result ≡ expected_integer context.now.goals.table (expected_type expected.entry) }
 {
     let expected_ty = expected.only_has_type()?;
-    integer_for(context.table.shallow_resolve(expected_ty))
+    integer_for(context.goals.table.shallow_resolve(expected_ty))
 }
 
 /// The type of an integer without a suffix of which this type is expected, where that says one: an

@@ -91,13 +91,13 @@ fn given_or_new(
     expected: Option<Ty>,
 ) -> Result<Ty, AllocError>
     requires sound { IsSound (scope_in given.now) context.old }
-    requires fine { IsFineExpectation (scope_in given.now) context.old.table expected }
+    requires fine { IsFineExpectation (scope_in given.now) context.old.goals.table expected }
     ensures { IfOk result (λ ty. IsGivenOrNew (scope_in given.now) expected ty context.old context.new) }
 {
     match expected {
         Some(ty) => Ok(ty),
         None => {
-            let ty = context.table.next_ty_var()?;
+            let ty = context.goals.table.next_ty_var()?;
             Ok(ty)
         }
     }
@@ -262,7 +262,7 @@ fn part_tys(
     expected: &Option<Ty>,
 ) -> Result<List<Ty>, AllocError>
     requires sound { IsSound (scope_in given.now) context.old }
-    requires fine { IsFineExpectation (scope_in given.now) context.old.table expected.now }
+    requires fine { IsFineExpectation (scope_in given.now) context.old.goals.table expected.now }
     ensures { IfOk result (λ tys. AreTupleParts (scope_in given.now) expected.now count tys context.old context.new) }
 {
     let mut tys = List::new(alloc);
@@ -284,14 +284,14 @@ fn component(
     at: usize,
 ) -> Result<Option<Ty>, AllocError>
     requires sound { IsSound (scope_in given.now) context.now }
-    requires fine { IsFineExpectation (scope_in given.now) context.now.table expected.now }
-    ensures fine { IfOk result (λ known. IsFineExpectation (scope_in given.now) context.now.table known) }
-    ensures is { IfOk result (λ known. IsComponentOf context.now.table expected.now at known) }
+    requires fine { IsFineExpectation (scope_in given.now) context.now.goals.table expected.now }
+    ensures fine { IfOk result (λ known. IsFineExpectation (scope_in given.now) context.now.goals.table known) }
+    ensures is { IfOk result (λ known. IsComponentOf context.now.goals.table expected.now at known) }
 {
     let Some(ty) = expected else {
         return Ok(None);
     };
-    match context.table.shallow_resolve(ty) {
+    match context.goals.table.shallow_resolve(ty) {
         Ty::Tuple(tys) => match tys.get(at) {
             Some(part) => {
                 let part = part.dup(alloc)?;
@@ -318,7 +318,7 @@ fn demand_ctor(
     requires of_body { IsOfBody given.now.body.now context.old.result }
     requires sound { IsSound (scope_in given.now) context.old }
     requires named { IsVariant given.now.facts.now variant }
-    requires fine { IsFineExpectation (scope_in given.now) context.old.table expected }
+    requires fine { IsFineExpectation (scope_in given.now) context.old.goals.table expected }
     ensures { IfOk result (λ tys. CtorDemanded (given_of given.now) pat variant parts tys expected
         context.old context.new) }
 {
@@ -367,8 +367,8 @@ fn demand_pat_ty(
     requires within { pat.0 < length given.now.body.now.pats }
     requires of_body { IsOfBody given.now.body.now context.old.result }
     requires sound { IsSound (scope_in given.now) context.old }
-    requires ty { IsFine (scope_in given.now) context.old.table ty }
-    requires fine { IsFineExpectation (scope_in given.now) context.old.table expected }
+    requires ty { IsFine (scope_in given.now) context.old.goals.table ty }
+    requires fine { IsFineExpectation (scope_in given.now) context.old.goals.table expected }
     ensures { IfOk result (λ _. PatDemanded (given_of given.now) pat ty expected context.old context.new) }
 {
     match expected {

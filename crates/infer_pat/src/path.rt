@@ -83,7 +83,7 @@ pub fn fresh_args_for_item(
 {
     let mut args = List::new(alloc);
     for _ in 0..count {
-        let ty = context.table.next_ty_var()?;
+        let ty = context.goals.table.next_ty_var()?;
         args.push(GenericArg::Ty(ty))?;
     }
     Ok(args)

@@ -4,6 +4,7 @@ use hir_facts::{
     RawGoal, TraitId, TraitRef, TypeAliasId, lower_ty,
 };
 use infer_goals::{Answer, GoalTable, ToldList};
+use infer_needs::tell_all;
 use infer_text::read_facts;
 use std::alloc::{AllocError, Global};
 
@@ -56,7 +57,7 @@ fn push_answers(
     alloc: Global,
     facts: &Facts,
     function: &RawFn,
-    table: &mut GoalTable<'_, ToldList>,
+    table: &mut GoalTable<'_>,
 ) -> Result<(), AllocError> {
     for pred in function.preds.as_slice() {
         let goal = goal_of(alloc, facts, pred)?;
@@ -73,7 +74,7 @@ fn push_answers(
     Ok(())
 }
 
-/// Whether the inspector was told what the table has told, each goal once.
+/// Whether the inspector was told what the table tells, each goal once.
 fn is_told_once(told: &[(Goal, Answer)], list: &ToldList, asked: usize) -> bool {
     let entries = list.entries.as_slice();
     told.len() == asked && entries == told
@@ -93,10 +94,10 @@ pub fn answers(alloc: Global, text: &str, words: &str) -> Result<String, AllocEr
         return String::from_str(alloc, "there is no function");
     };
     let mut list = ToldList::new(alloc);
-    let mut table = GoalTable::new(alloc, &facts, item, Some(&mut list))?;
+    let mut table = GoalTable::new(alloc, &facts, item)?;
     push_answers(&mut out, alloc, &facts, function, &mut table)?;
     let told = table.told()?;
-    drop(table);
+    tell_all(&mut list, told.as_slice())?;
     if !is_told_once(&told, &list, function.preds.len()) {
         return String::from_str(alloc, "something else was told");
     }

@@ -15,10 +15,11 @@ use Rattle.infer_table.specs.Bindings.{AllOf}
 use Rattle.infer_table.specs.Preserved.{BindsOnly}
 use Rattle.infer_table.specs.Solutions.{log_of}
 use Rattle.infer_table.specs.Table.{Grew, State, bindings, hole_count, resolved_type, with_new_hole}
+use Rattle.infer_goals.specs.Stays.{stays_with}
 use Rattle.infer_result.specs.Places.{Given}
 use Rattle.infer_ctx.specs.declared.context.InferenceContext.{InferenceContext}
 use Rattle.infer_ctx.specs.Closings.{Closes, IsSound, found_under, expected_under}
-use Rattle.infer_ctx.specs.Context.{known_hole, known_or, known_step}
+use Rattle.infer_ctx.specs.Context.{known_hole, known_or, known_step, with_table}
 use Rattle.infer_ctx.specs.Fine.{IsFine, IsFineExpectation, is_fine_head}
 use Rattle.infer_ctx.specs.Found.{Found}
 use Rattle.infer_ctx.specs.Steps.{CoerceDone, Before}
@@ -32,7 +33,6 @@ use Rattle.infer_coerce.specs.Coercions.{IsCoerced}
 use Rattle.infer_coerce.proofs.Coercions.{placed_at, placed_owed, coerced_walks, coerced_placed, coerced_clock}
 use Rattle.infer_coerce.proofs.Holes.{holed_sound}
 use Rattle.infer_coerce.proofs.Resolved.{resolved_fine}
-use Rattle.infer_coerce.proofs.Unified.{with_table}
 
 -- ---- what is expected of the tuple
 
@@ -73,21 +73,21 @@ places_element g s e x t old new d = record {
 
 -- one of which nothing is known waits for a new hole
 module _ (g : Given) (s : Schedule) (e : ExprId) (x : Option Ty) (t : Ty) (old mid : InferenceContext) (d : CoerceDone g s e x t old mid)
-    (state : State) (made : state ≡ with_new_hole mid.table kind.Ty) where
-  state_grew : Grew mid.table state
-  state_grew = grew_by_hole mid.table state kind.Ty made
+    (state : State) (made : state ≡ with_new_hole mid.goals.table kind.Ty) where
+  state_grew : Grew mid.goals.table state
+  state_grew = grew_by_hole mid.goals.table state kind.Ty made
 
   pub waits_sound : IsSound g.scope (with_table mid state)
   waits_sound = subst (λ k. IsSound g.scope (with_table mid k)) (sym made) (holed_sound mid kind.Ty d.follows.sound)
 
   pub own_fine : IsFine g.scope state t
-  own_fine = fine_grown g.scope mid.table state t state_grew d.fine
+  own_fine = fine_grown g.scope mid.goals.table state t state_grew d.fine
 
-  module _ (u : Ty) (hole : u ≡ ty.Var (hole_count mid.table)) where
+  module _ (u : Ty) (hole : u ≡ ty.Var (hole_count mid.goals.table)) where
     pub component_fine : IsFine g.scope state u
     component_fine =
         subst (λ k. IsFine g.scope k u) (sym made)
-        (subst (λ v. IsFine g.scope (with_new_hole mid.table kind.Ty) v) (sym hole) (fine_hole g.scope mid.table))
+        (subst (λ v. IsFine g.scope (with_new_hole mid.goals.table kind.Ty) v) (sym hole) (fine_hole g.scope mid.goals.table))
 
     -- and is coerced to it
     pub element_waits : x ≡ None → (could : Bool) (new : InferenceContext) → Before g s e x old →
@@ -96,11 +96,12 @@ module _ (g : Given) (s : Schedule) (e : ExprId) (x : Option Ty) (t : Ty) (old m
       follows = follows_twice g old (with_table mid state) new (follows_twice g old mid (with_table mid state) d.follows (record {
         clock = omega arith;
         grew = state_grew;
+        stays = stays_with mid.goals state;
         of_body = d.follows.of_body;
         sound = waits_sound;
         told = λ k. k;
       })) k.follows;
-      fine = fine_grown g.scope state new.table u k.follows.grew component_fine;
+      fine = fine_grown g.scope state new.goals.table u k.follows.grew component_fine;
       is_expected = λ v e. (let same : u ≡ v = cc in same);
       tells = λ none. absurd (cc);
       each = λ a q.

@@ -86,12 +86,12 @@ module _ (es : List ExprId) (ts : List Ty) (t : Ty) (a : Assignment) where
 -- the first i elements of the tuple n have the types ts, and the others lie ahead
 pub record AtElement (g : Given) (s : Schedule) (n : ExprId) (es : List ExprId) (i : ℕ) (ts : List Ty) (mid c : InferenceContext) : Type 0 where
   pub walk : AtPart g s (inner (node.ExprId n)) (OwedEach es ts) element es i mid c
-  pub fine : AllFine g.scope c.table ts
+  pub fine : AllFine g.scope c.goals.table ts
   pub count : length ts ≡ i
   pub within : i ≤ length es
   pub made : (a : Assignment) → Closes a c → AllAt (IsAtOrMismatch (found_under a c).result) (take i es) (map (folded a) ts)
 
-module _ (g : Given) (s : Schedule) (n : ExprId) (es : List ExprId) (x : Option Ty) (mid : InferenceContext) (b : Within g s n None mid) (fine : IsFineExpectation g.scope mid.table x) where
+module _ (g : Given) (s : Schedule) (n : ExprId) (es : List ExprId) (x : Option Ty) (mid : InferenceContext) (b : Within g s n None mid) (fine : IsFineExpectation g.scope mid.goals.table x) where
   pub begins_tuple : IsTupleOf g.body n es → AtElement g s n es 0 [] mid mid
   begins_tuple is = record {
     walk = begins_parts g s n (expr.Tuple es) None mid (OwedEach es []) b is;
@@ -106,7 +106,7 @@ module _ (g : Given) (s : Schedule) (n : ExprId) (es : List ExprId) (x : Option 
       pub comes_to_element : Before g s e (element_type x i) c
       comes_to_element =
           comes_to_part _ _ _ _ _ _ _ _ _ h.walk e is k (element_type x i) b.ready b.state.told
-          (fine_element g.scope c.table x i (fine_expectation_grown g.scope mid.table c.table x h.walk.follows.grew fine))
+          (fine_element g.scope c.goals.table x i (fine_expectation_grown g.scope mid.goals.table c.goals.table x h.walk.follows.grew fine))
 
       pub goes_past_element : (t : Ty) (next : InferenceContext) → CoerceDone g s e (Some t) t c next →
           AtElement g s n es (i + 1) (ts ++ t ∷ []) mid next
@@ -116,7 +116,7 @@ module _ (g : Given) (s : Schedule) (n : ExprId) (es : List ExprId) (x : Option 
             walk = past_coerced_part _ _ _ _ _ _ _ _ _ h.walk e is k (OwedEach es (ts ++ t ∷ [])) (Some t) t next d
                 (λ a y m o. owed_still es ts t a y m o)
                 (λ a q y m o. inr (owed_last es ts t a e y m (subst (λ j. slice_get es j ≡ Some e) (sym h.count) here) o));
-            fine = fine_push g.scope next.table ts t (all_fine_grown g.scope c.table next.table ts d.follows.grew h.fine) d.fine;
+            fine = fine_push g.scope next.goals.table ts t (all_fine_grown g.scope c.goals.table next.goals.table ts d.follows.grew h.fine) d.fine;
             count = length-append ts (t ∷ []) ∙ ap (λ m. m + 1) h.count;
             within = omega (arith, k);
             made = λ a q.
@@ -132,7 +132,7 @@ module _ (g : Given) (s : Schedule) (n : ExprId) (es : List ExprId) (x : Option 
     pub ends_tuple : IsTupleOf g.body n es → length es ≤ i → KindDone g s n None (ty.Tuple ts) mid c
     ends_tuple is over = record {
       follows = h.walk.follows;
-      fine = fine_tuple g.scope c.table ts h.fine;
+      fine = fine_tuple g.scope c.goals.table ts h.fine;
       tells = tuple_tells g n es ts (ty.Tuple ts) is (omega (arith, h.count, h.within, over)) refl;
       each = λ a q.
           let us : List Ty = map (folded a) ts in
@@ -144,7 +144,7 @@ module _ (g : Given) (s : Schedule) (n : ExprId) (es : List ExprId) (x : Option 
                 (λ e m o. inr (inl (element_demand g n es us b.within is e m o))) (h.walk.each a q).walks;
             clock = all_past _ _ _ _ _ _ _ _ _ h.walk over a q;
             carried = subst (λ t. IsCarriedType t) under_it
-                (fine_closed g.scope a (ty.Tuple ts) q.closing (fine_tuple g.scope c.table ts h.fine).heads);
+                (fine_closed g.scope a (ty.Tuple ts) q.closing (fine_tuple g.scope c.goals.table ts h.fine).heads);
             rule = λ r k has. rule_of g r n (expr.Tuple es) is (us, has, all_kept g now.result r k es us made);
           });
     }

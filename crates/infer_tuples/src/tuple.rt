@@ -30,7 +30,7 @@ pub fn infer_tuple<F: Fn(&mut InferenceContext, ExprId, Expectation) -> Result<T
         tgt_expr (expected_type expected.entry) ty context.old context.new) }
 {
     // Each hole that a binding names was made.
-    context.table.lawful();
+    context.goals.table.lawful();
     let known = known_ty(context, expected)?;
     infer_elements(
         infer,
@@ -46,12 +46,12 @@ pub fn infer_tuple<F: Fn(&mut InferenceContext, ExprId, Expectation) -> Result<T
 /// What is known of the type that is expected of a tuple, where that is a hole. Any other type is
 /// looked at as it is. This is what `infer.rs`'s `Expectation::only_has_type` does.
 fn known_ty(context: &InferenceContext, expected: Expectation) -> Result<Option<Ty>, AllocError>
-    ensures { IfOk result (λ known. known ≡ known_hole context.now.table (expected_type expected.entry)) }
+    ensures { IfOk result (λ known. known ≡ known_hole context.now.goals.table (expected_type expected.entry)) }
 {
     match expected {
         Expectation::HasType(ty) => match ty {
             Ty::Var(_) => {
-                let known = context.table.resolve(ty)?;
+                let known = context.goals.table.resolve(ty)?;
                 Ok(Some(known))
             }
             _ => Ok(None),
@@ -72,7 +72,7 @@ fn infer_elements<F: Fn(&mut InferenceContext, ExprId, Expectation) -> Result<Ty
 ) -> Result<Ty, AllocError>
     requires infers { InfersFrom (given_of given.now) (schedule_of given.now) context.old.clock (F.pre infer.now) (F.post infer.now) }
     requires before { Within (given_of given.now) (schedule_of given.now) tgt_expr None context.old }
-    requires expected { IsFineExpectation (scope_in given.now) context.old.table (expected_type expected) }
+    requires expected { IsFineExpectation (scope_in given.now) context.old.goals.table (expected_type expected) }
     requires is { IsTupleOf given.now.body.now tgt_expr exprs.now }
     ensures { IfOk result (λ ty. KindDone (given_of given.now) (schedule_of given.now)
         tgt_expr None ty context.old context.new) }
@@ -105,9 +105,9 @@ fn infer_element<F: Fn(&mut InferenceContext, ExprId, Expectation) -> Result<Ty,
     let ty = infer_expr_coerce(infer, alloc, context, given, expr, expected)?;
     match expected {
         Expectation::HasType(_) => Ok(ty),
-        Expectation::None => match context.table.shallow_resolve(&ty) {
+        Expectation::None => match context.goals.table.shallow_resolve(&ty) {
             Ty::Var(_) => {
-                let component = context.table.next_ty_var()?;
+                let component = context.goals.table.next_ty_var()?;
                 demand_coerce(alloc, context, given, expr, &ty, &component)?;
                 Ok(component)
             }

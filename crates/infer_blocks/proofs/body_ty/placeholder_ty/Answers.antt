@@ -14,7 +14,7 @@ returns-in_ok-write_type_placeholder_ty-in-None c =
     let g = given_of c.args.given.now in
     let w = c.args.type_ref in
     let old = c.args.context.now in
-    let t = ty.Var (hole_count old.table) in
+    let t = ty.Var (hole_count old.goals.table) in
     let made = placeholder_made g w old c.requires.before c.requires.is (sym c.type_of_type_placeholder.ensures ∙ ap option_copied c.in-None.is) in
     rw c.in_ok-write_type_placeholder_ty-in-None.ensures (
     rw c.in_ok-recorded-in-None.ensures (

@@ -31,8 +31,8 @@ infer_arms-requires-clause-infers g c = later _ _ _ _ _ _ c.loop-i.invariant.wal
 
 pub infer_arms-requires-clause-before : goal.infer_arms-requires-clause-before
 infer_arms-requires-clause-before g c =
-    comes_to_arms _ _ _ _ _ _ _ _ _ c.loop-i.invariant c.loop-i-test.false _ _ c.requires.is (arms_wanted c.loop-i.context.table _ _ _ c.adjust_for_branches.ensures c.unless_unit-wanted.ensures) c.requires.before
+    comes_to_arms _ _ _ _ _ _ _ _ _ c.loop-i.invariant c.loop-i-test.false _ _ c.requires.is (arms_wanted c.loop-i.context.goals.table _ _ _ c.adjust_for_branches.ensures c.unless_unit-wanted.ensures) c.requires.before
 
 pub returns : goal.returns
 returns g c =
-    ends_match _ _ _ _ _ _ _ _ _ c.loop-i.invariant c.loop-i-test.false _ _ c.requires.is (arms_wanted c.loop-i.context.table _ _ _ c.adjust_for_branches.ensures c.unless_unit-wanted.ensures) _ _ c.in_ok-ty-2.ensures
+    ends_match _ _ _ _ _ _ _ _ _ c.loop-i.invariant c.loop-i-test.false _ _ c.requires.is (arms_wanted c.loop-i.context.goals.table _ _ _ c.adjust_for_branches.ensures c.unless_unit-wanted.ensures) _ _ c.in_ok-ty-2.ensures

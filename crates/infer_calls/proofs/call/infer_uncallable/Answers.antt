@@ -2,11 +2,10 @@ use Rattle.std.proofs.Common.{arith, ◌≡◌, ◌∙◌, ap, sym, subst, None,
 use Rattle.hir_types.specs.declared.ids.ExprOrPatId.TheVariants as node
 use Rattle.hir_types.specs.declared.ty.Ty.TheVariants as ty
 use Rattle.infer_table.specs.Table.{hole_count}
-use Rattle.infer_ctx.specs.Context.{given_of, schedule_of, with_seen}
+use Rattle.infer_ctx.specs.Context.{given_of, schedule_of, with_seen, with_table}
 use Rattle.infer_ctx.specs.Steps.{KindDone}
 use Rattle.infer_calls.specs.Calls.{BeforeLoose, LooseDone}
 use Rattle.infer_calls.proofs.Uncallable.{seen_entry, comes_to_seen, ends_uncallable}
-use Rattle.infer_coerce.proofs.Unified.{with_table}
 use Rattle.infer_coerce.proofs.Later.{later}
 use Rattle.infer_calls.proofs.call.infer_uncallable.Goals as goal
 
@@ -30,5 +29,5 @@ returns o c =
     let typed = c.infer_arguments.new.context in
     let loose = subst (λ k. LooseDone g s c.args.call_expr c.args.args.now [] k typed) noted c.in_ok-infer_arguments.ensures in
     subst (λ v. KindDone g s c.args.call_expr None v c.args.context.now (with_table typed c.next_ty_var.new.self)) (sym c.in_ok-ty.ensures.hole)
-    (subst (λ k. KindDone g s c.args.call_expr None (ty.Var (hole_count typed.table)) c.args.context.now (with_table typed k)) (sym c.in_ok-ty.ensures.made)
+    (subst (λ k. KindDone g s c.args.call_expr None (ty.Var (hole_count typed.goals.table)) c.args.context.now (with_table typed k)) (sym c.in_ok-ty.ensures.made)
     (ends_uncallable g s _ _ _ _ c.requires.before typed loose))

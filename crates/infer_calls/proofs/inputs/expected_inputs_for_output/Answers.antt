@@ -18,7 +18,7 @@ returns-in-Ok c =
     let e = c.in-Some.expected_output.now in
     let f = c.fudge.ensures in
     let is : expected_type c.args.expected ≡ Some e = sym c.only_has_type.ensures ∙ ap option_copied c.in-Some.is in
-    let tried : IfOk f.given (λ answer. IsTried c.args.inputs.now c.args.output.now e old.table f.during answer) = search rules in
+    let tried : IfOk f.given (λ answer. IsTried c.args.inputs.now c.args.output.now e old.goals.table f.during answer) = search rules in
     found_tried g old c.requires.of_body c.requires.sound c.args.inputs.now c.args.output.now e c.requires.inputs c.requires.output _ is c.requires.expected f.during c.fudge.new.self f.given (Ok c.in-Ok.wanted) tried
     (subst (λ r. IsResolvedOr {T = List Ty} {E = NoUnifier} {O = AllocError} (λ s ts. map (replaced s) ts) f.during f.given r) (c.in_ok-tried-in-Some.was ∙ ap (λ r. Ok r) c.in-Ok.is) f.resolved) f.undone
 
@@ -29,6 +29,6 @@ returns-in-Err c =
     let e = c.in-Some.expected_output.now in
     let f = c.fudge.ensures in
     let is : expected_type c.args.expected ≡ Some e = sym c.only_has_type.ensures ∙ ap option_copied c.in-Some.is in
-    let tried : IfOk f.given (λ answer. IsTried c.args.inputs.now c.args.output.now e old.table f.during answer) = search rules in
+    let tried : IfOk f.given (λ answer. IsTried c.args.inputs.now c.args.output.now e old.goals.table f.during answer) = search rules in
     found_tried g old c.requires.of_body c.requires.sound c.args.inputs.now c.args.output.now e c.requires.inputs c.requires.output _ is c.requires.expected f.during c.fudge.new.self f.given (Err c.in-Err.field-0) tried
     (subst (λ r. IsResolvedOr {T = List Ty} {E = NoUnifier} {O = AllocError} (λ s ts. map (replaced s) ts) f.during f.given r) (c.in_ok-tried-in-Some.was ∙ ap (λ r. Ok r) c.in-Err.is) f.resolved) f.undone

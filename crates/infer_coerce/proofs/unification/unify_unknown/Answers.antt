@@ -5,7 +5,7 @@ use Rattle.infer_coerce.proofs.Unified.{all_decided}
 use Rattle.infer_coerce.proofs.unification.unify_unknown.Goals as goal
 
 pub unify_each-requires-clause-fine : goal.unify_each-requires-clause-fine
-unify_each-requires-clause-fine c = subst (λ ps. AreFinePairs (scope_in c.args.given.now) c.args.context.now.table ps) (sym (c.as_slice.ensures.value ∙ c.in_ok-pairs.ensures)) c.requires.sound.pairs
+unify_each-requires-clause-fine c = subst (λ ps. AreFinePairs (scope_in c.args.given.now) c.args.context.now.goals.table ps) (sym (c.as_slice.ensures.value ∙ c.in_ok-pairs.ensures)) c.requires.sound.pairs
 
 pub returns : goal.returns
 returns c =

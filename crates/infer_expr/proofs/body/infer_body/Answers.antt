@@ -2,22 +2,28 @@ use Rattle.std.proofs.Common.{subst}
 use Rattle.infer_ctx.specs.Context.{given_of, schedule_of}
 use Rattle.infer_expr.specs.Params.{ParamsDone}
 use Rattle.infer_expr.proofs.Whole.{root_within}
-use Rattle.infer_expr.proofs.BodyWalk.{comes_to_params, comes_to_root, body_walked}
+use Rattle.infer_expr.proofs.BodyWalk.{comes_to_params, comes_to_root, body_walked, body_follows}
 use Rattle.infer_expr.proofs.body.infer_body.Goals as goal
 
 pub end_of-last-requires-clause-node : goal.end_of-last-requires-clause-node
 end_of-last-requires-clause-node c = root_within _ _ c.requires.law
 
 pub infer_params-requires : goal.infer_params-requires
-infer_params-requires c = comes_to_params _ _ c.requires.law c.requires.written c.requires.count _ _ c.end_of-last.ensures c.end_of-last.type_inv c.requires.empty
+infer_params-requires c = comes_to_params _ _ c.requires.law c.requires.written c.requires.count _ _ c.end_of-last.ensures c.end_of-last.type_inv c.requires.table c.requires.empty
 
 pub infer_expr_coerce-requires : goal.infer_expr_coerce-requires
 infer_expr_coerce-requires c =
-    comes_to_root _ _ _ _ (comes_to_params _ _ c.requires.law c.requires.written c.requires.count _ _ c.end_of-last.ensures c.end_of-last.type_inv c.requires.empty)
+    comes_to_root _ _ _ _ (comes_to_params _ _ c.requires.law c.requires.written c.requires.count _ _ c.end_of-last.ensures c.end_of-last.type_inv c.requires.table c.requires.empty)
     c.in_ok-infer_params.ensures c.requires.carried c.requires.heads
 
-pub returns : goal.returns
-returns c =
-    body_walked _ _ c.requires.law c.requires.carried _ _ _ _
+pub returns-clause-done : goal.returns-clause-done
+returns-clause-done c =
+    body_walked _ _ c.requires.law c.requires.carried _ c.args.context.now.goals _ _ _
     (subst (λ k. ParamsDone (given_of c.args.given.now) (schedule_of c.args.given.now) k c.infer_params.new.context) c.requires.empty c.in_ok-infer_params.ensures)
     c.in_ok-infer_expr_coerce.ensures c.in_ok-unify_unknown.ensures
+
+pub returns-clause-grew : goal.returns-clause-grew
+returns-clause-grew c = (body_follows _ _ _ _ _ _ _ c.in_ok-infer_params.ensures c.in_ok-infer_expr_coerce.ensures c.in_ok-unify_unknown.ensures).grew
+
+pub returns-clause-stays : goal.returns-clause-stays
+returns-clause-stays c = (body_follows _ _ _ _ _ _ _ c.in_ok-infer_params.ensures c.in_ok-infer_expr_coerce.ensures c.in_ok-unify_unknown.ensures).stays

@@ -1,13 +1,17 @@
 use Rattle.std.proofs.Common.{◌≡◌, sym, subst}
+use Rattle.hir_types.specs.declared.ids.GenericDefId.{GenericDefId}
 use Rattle.hir_raw.specs.declared.raw.RawBody.{RawBody}
 use Rattle.hir_facts.specs.CarriedTypes.{return_carried}
 use Rattle.hir_facts.proofs.InRange.{body_in_range}
+use Rattle.infer_goals.specs.declared.table.GoalTable.{GoalTable}
+use Rattle.infer_goals.specs.Stays.{IsUnused, unused_still}
+use Rattle.infer_result.specs.Needs.{scope_item}
 use Rattle.infer_result.specs.Typed.{given}
 use Rattle.infer_ctx.specs.Steps.{BodyDone}
 use Rattle.infer_needs.proofs.Holding.{same_body}
 use Rattle.infer_ctx.proofs.Written.{output_heads}
 use Rattle.infer_end.proofs.Definitions.{found_body, written_exist, inputs_for_params}
-use Rattle.infer_end.proofs.GeneralTables.{has_all_types, kept_done, given_done, ends_selected}
+use Rattle.infer_end.proofs.GeneralTables.{has_all_types, kept_done, keeps_goals, given_done, ends_selected}
 use Rattle.infer_expr.proofs.query.infer_holes.Goals as goal
 
 pub body-body-requires : goal.body-body-requires
@@ -30,14 +34,26 @@ pub infer_body-requires-clause-heads : goal.infer_body-requires-clause-heads
 infer_body-requires-clause-heads c = rw c.in_ok-return_ty.ensures (output_heads c.args.facts.now c.lawful.ensures c.args.def c.in-Some.id (sym c.in-Some.ensures))
 
 pub keep_general-requires : goal.keep_general-requires
-keep_general-requires c = has_all_types _ _ c.infer_body.new.context (c.schedule.ensures.walkable _ c.body-body.ensures) c.in_ok-infer_body.ensures
+keep_general-requires c = has_all_types _ _ c.infer_body.new.context (c.schedule.ensures.walkable _ c.body-body.ensures) c.in_ok-infer_body.ensures.done
+
+-- no goal was registered while the body was walked
+pub select_where_possible-requires-clause-unused : goal.select_where_possible-requires-clause-unused
+select_where_possible-requires-clause-unused c =
+    let raw = c.args.facts.now in
+    let item = scope_item raw c.args.def in
+    let start = c.in_ok-context.context.goals in
+    let walked = c.infer_body.new.context in
+    let mid = c.keep_general.new.context in
+    let first : IsUnused raw item start = subst (λ (i : GenericDefId). IsUnused raw i start) c.scope_item.ensures c.in_ok-context.ensures.goals in
+    let after : IsUnused raw item walked.goals = unused_still raw item start walked.goals first c.in_ok-infer_body.ensures.stays c.in_ok-infer_body.ensures.grew in
+    subst (λ (t : GoalTable). IsUnused raw item t) (sym (keeps_goals raw c.args.def walked mid c.in_ok-keep_general.ensures)) after
 
 pub select_where_possible-requires-clause-done : goal.select_where_possible-requires-clause-done
 select_where_possible-requires-clause-done c b is =
     let raw = c.args.facts.now in
     let d = c.args.def in
     let mid = c.keep_general.new.context in
-    let own = kept_done _ raw d c.infer_body.new.context mid c.in_ok-infer_body.ensures c.in_ok-keep_general.ensures in
+    let own = kept_done _ raw d c.infer_body.new.context mid c.in_ok-infer_body.ensures.done c.in_ok-keep_general.ensures in
     let done = given_done raw d c.body-body.result.now _ _ c.inputs.ensures c.in_ok-return_ty.ensures mid own in
     let same : c.body-body.result.now ≡ b = same_body raw d c.in-Some.id c.body-body.result.now b (sym c.in-Some.ensures) c.body-body.ensures is in
     subst (λ (x : RawBody). BodyDone (given raw d x) mid) same done
@@ -49,5 +65,5 @@ returns c = λ ps gs. (
     let b = c.body-body.result.now in
     let is = found_body raw d c.in-Some.id b (sym c.in-Some.ensures) c.body-body.ensures in
     let selected = c.in_ok-select_where_possible.ensures in
-    ends_selected raw d c.in-Some.id b _ _ _ (sym c.in-Some.ensures) c.body-body.ensures (c.schedule.ensures.walkable _ c.body-body.ensures) c.inputs.ensures c.in_ok-return_ty.ensures c.infer_body.new.context c.in_ok-infer_body.ensures c.lawful.ensures ps gs
+    ends_selected raw d c.in-Some.id b _ _ _ (sym c.in-Some.ensures) c.body-body.ensures (c.schedule.ensures.walkable _ c.body-body.ensures) c.inputs.ensures c.in_ok-return_ty.ensures c.infer_body.new.context c.in_ok-infer_body.ensures.done c.lawful.ensures ps gs
     c.keep_general.new.context c.select_where_possible.new.context c.in_ok-keep_general.ensures c.select_where_possible.ensures.only c.select_where_possible.ensures.plain (selected.done b is))

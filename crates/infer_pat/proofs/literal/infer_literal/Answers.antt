@@ -23,4 +23,4 @@ pub returns-clause-typed : goal.returns-clause-typed
 returns-clause-typed c =
     let is : slice_get c.args.given.now.body.now.exprs c.args.tgt_expr.0 ≡ Some (expr.Lit c.in-Lit.literal)
     = slice_get_read c.args.given.now.body.now.exprs _ c.args.tgt_expr.0 _ refl c.requires.before.within (rw c.as_slice.ensures at c.index-as_slice-tgt_expr.is) ∙ ap (λ x. Some x) c.in-Lit.is in
-    c.in_ok-ty-in-Lit.ensures.is ∙ sym (ap (λ o. literal_type_at c.args.context.now.table (expected_type c.args.expected) o) is)
+    c.in_ok-ty-in-Lit.ensures.is ∙ sym (ap (λ o. literal_type_at c.args.context.now.goals.table (expected_type c.args.expected) o) is)

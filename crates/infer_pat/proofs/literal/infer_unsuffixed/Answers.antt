@@ -2,8 +2,7 @@ use Rattle.std.proofs.Common.{sym, subst, Option, ◌∙◌}
 use Rattle.hir_types.specs.declared.ty.Ty.{Ty}
 use Rattle.hir_types.specs.declared.ty.Ty.TheVariants as ty
 use Rattle.infer_table.specs.Table.{hole_count}
-use Rattle.infer_ctx.specs.Context.{scope_in, expected_type}
-use Rattle.infer_coerce.proofs.Unified.{with_table}
+use Rattle.infer_ctx.specs.Context.{scope_in, expected_type, with_table}
 use Rattle.infer_pat.specs.Literals.{IntDone}
 use Rattle.infer_pat.proofs.Literals.{known_int, int_hole}
 use Rattle.infer_pat.proofs.literal.infer_unsuffixed.Goals as goal
@@ -12,7 +11,7 @@ pub returns-in_ok-ty-in-None : goal.returns-in_ok-ty-in-None
 returns-in_ok-ty-in-None c =
     let x : Option Ty = expected_type c.args.expected in
     subst (λ t. IntDone (scope_in c.args.given.now) x t c.args.context.now (with_table c.args.context.now c.next_int_var.new.self)) (sym c.in_ok-ty-in-None.ensures.hole)
-    (subst (λ s. IntDone (scope_in c.args.given.now) x (ty.IntVar (hole_count c.args.context.now.table)) c.args.context.now (with_table c.args.context.now s)) (sym c.in_ok-ty-in-None.ensures.made)
+    (subst (λ s. IntDone (scope_in c.args.given.now) x (ty.IntVar (hole_count c.args.context.now.goals.table)) c.args.context.now (with_table c.args.context.now s)) (sym c.in_ok-ty-in-None.ensures.made)
     (int_hole c.args.context.now x c.requires (sym c.expected_integer.ensures ∙ c.in-None.is)))
 
 pub returns-in-Some : goal.returns-in-Some

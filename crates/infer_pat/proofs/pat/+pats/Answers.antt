@@ -71,17 +71,17 @@ pub infer_tuple_pat-part_tys-requires-clause-sound : goal.infer_tuple_pat-part_t
 infer_tuple_pat-part_tys-requires-clause-sound t c = subst (λ k. IsSound (scope_in c.args.given.now) k) (sym c.enter.ensures) (sound_entered _ c.requires.before.state.sound)
 
 pub infer_tuple_pat-part_tys-requires-clause-fine : goal.infer_tuple_pat-part_tys-requires-clause-fine
-infer_tuple_pat-part_tys-requires-clause-fine t c = subst (λ k. IsFineExpectation (scope_in c.args.given.now) k.table c.args.expected) (sym c.enter.ensures) c.requires.before.fine
+infer_tuple_pat-part_tys-requires-clause-fine t c = subst (λ k. IsFineExpectation (scope_in c.args.given.now) k.goals.table c.args.expected) (sym c.enter.ensures) c.requires.before.fine
 
 pub infer_tuple_pat-demand_pat_ty-requires-clause-ty : goal.infer_tuple_pat-demand_pat_ty-requires-clause-ty
 infer_tuple_pat-demand_pat_ty-requires-clause-ty t c =
-    subst (λ t. IsFine (scope_in c.args.given.now) c.part_tys.new.context.table t) (sym c.in_ok-tuple.ensures)
-    (fine_tuple (scope_in c.args.given.now) c.part_tys.new.context.table c.as_slice-tys.result.now (every_from (IsFine (scope_in c.args.given.now) c.part_tys.new.context.table) c.as_slice-tys.result.now (λ i u e. c.in_ok-parts.ensures.made.fine i u (subst (λ us. slice_get us i ≡ Some u) c.as_slice-tys.ensures e))))
+    subst (λ t. IsFine (scope_in c.args.given.now) c.part_tys.new.context.goals.table t) (sym c.in_ok-tuple.ensures)
+    (fine_tuple (scope_in c.args.given.now) c.part_tys.new.context.goals.table c.as_slice-tys.result.now (every_from (IsFine (scope_in c.args.given.now) c.part_tys.new.context.goals.table) c.as_slice-tys.result.now (λ i u e. c.in_ok-parts.ensures.made.fine i u (subst (λ us. slice_get us i ≡ Some u) c.as_slice-tys.ensures e))))
 
 pub infer_tuple_pat-demand_pat_ty-requires-clause-fine : goal.infer_tuple_pat-demand_pat_ty-requires-clause-fine
 infer_tuple_pat-demand_pat_ty-requires-clause-fine t c =
-    fine_expectation_grown (scope_in c.args.given.now) c.enter.new.self.table c.part_tys.new.context.table c.args.expected c.in_ok-parts.ensures.made.grew
-    (subst (λ k. IsFineExpectation (scope_in c.args.given.now) k.table c.args.expected) (sym c.enter.ensures) c.requires.before.fine)
+    fine_expectation_grown (scope_in c.args.given.now) c.enter.new.self.goals.table c.part_tys.new.context.goals.table c.args.expected c.in_ok-parts.ensures.made.grew
+    (subst (λ k. IsFineExpectation (scope_in c.args.given.now) k.goals.table c.args.expected) (sym c.enter.ensures) c.requires.before.fine)
 
 pub infer_tuple_pat-loop-i-init : goal.infer_tuple_pat-loop-i-init
 infer_tuple_pat-loop-i-init t c =
@@ -121,7 +121,7 @@ pub infer_tuple_struct_pat-demand_ctor-requires-clause-named : goal.infer_tuple_
 infer_tuple_struct_pat-demand_ctor-requires-clause-named t c = c.requires.before.ready.written.patterns c.args.pat c.args.variant (inr (c.args.args.now, c.requires.is))
 
 pub infer_tuple_struct_pat-demand_ctor-requires-clause-fine : goal.infer_tuple_struct_pat-demand_ctor-requires-clause-fine
-infer_tuple_struct_pat-demand_ctor-requires-clause-fine t c = subst (λ k. IsFineExpectation (scope_in c.args.given.now) k.table c.args.expected) (sym c.enter.ensures) c.requires.before.fine
+infer_tuple_struct_pat-demand_ctor-requires-clause-fine t c = subst (λ k. IsFineExpectation (scope_in c.args.given.now) k.goals.table c.args.expected) (sym c.enter.ensures) c.requires.before.fine
 
 pub infer_tuple_struct_pat-loop-i-init : goal.infer_tuple_struct_pat-loop-i-init
 infer_tuple_struct_pat-loop-i-init t c =

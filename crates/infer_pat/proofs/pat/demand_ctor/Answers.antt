@@ -28,7 +28,7 @@ demand_pat_ty-requires-clause-ty c =
     let fresh = subst (λ n. AreFreshArgs g.scope n c.in_ok-args.args old new) size c.in_ok-args.ensures in
     let h : IsOfBody g.body new.result = subst (λ r. IsOfBody c.args.given.now.body.now r) (sym c.in_ok-args.ensures.made.result) c.requires.of_body in
     let grew = (counted_follows g c.args.pat _ _ new c.count_parts.new.context h c.in_ok-args.ensures.made.sound c.count_parts.ensures).grew in
-    fine_grown g.scope new.table c.count_parts.new.context.table (ty.Adt c.variant-item.result.now.adt c.in_ok-args.args) grew
+    fine_grown g.scope new.goals.table c.count_parts.new.context.goals.table (ty.Adt c.variant-item.result.now.adt c.in_ok-args.args) grew
     (own_adt_fine g c.args.variant x c.variant-item.result.now same c.in_ok-args.args old new fresh)
 
 pub demand_pat_ty-requires-clause-fine : goal.demand_pat_ty-requires-clause-fine
@@ -37,8 +37,8 @@ demand_pat_ty-requires-clause-fine c =
     let new = c.fresh_args_for_item.new.context in
     let h : IsOfBody g.body new.result = subst (λ r. IsOfBody c.args.given.now.body.now r) (sym c.in_ok-args.ensures.made.result) c.requires.of_body in
     let grew = (counted_follows g c.args.pat _ _ new c.count_parts.new.context h c.in_ok-args.ensures.made.sound c.count_parts.ensures).grew in
-    fine_expectation_grown g.scope new.table c.count_parts.new.context.table c.args.expected grew
-    (fine_expectation_grown g.scope c.args.context.now.table new.table c.args.expected c.in_ok-args.ensures.made.grew c.requires.fine)
+    fine_expectation_grown g.scope new.goals.table c.count_parts.new.context.goals.table c.args.expected grew
+    (fine_expectation_grown g.scope c.args.context.now.goals.table new.goals.table c.args.expected c.in_ok-args.ensures.made.grew c.requires.fine)
 
 pub returns : goal.returns
 returns c =

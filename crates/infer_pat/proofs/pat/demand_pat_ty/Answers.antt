@@ -8,14 +8,14 @@ use Rattle.infer_pat.proofs.PatHoles.{demanded_nothing, demanded_unified, demand
 use Rattle.infer_pat.proofs.pat.demand_pat_ty.Goals as goal
 
 pub unify-requires-clause-left : goal.unify-requires-clause-left
-unify-requires-clause-left c = subst (λ x. IsFineExpectation (scope_in c.args.given.now) c.args.context.now.table x) c.in-Some.is c.requires.fine
+unify-requires-clause-left c = subst (λ x. IsFineExpectation (scope_in c.args.given.now) c.args.context.now.goals.table x) c.in-Some.is c.requires.fine
 
 pub returns-then-branch : goal.returns-then-branch
 returns-then-branch c =
     let g = given_of c.args.given.now in
     let old = c.args.context.now in
     let after = c.unify.new.context in
-    let fine : IsFine (scope_in c.args.given.now) old.table c.in-Some.expected = subst (λ x. IsFineExpectation (scope_in c.args.given.now) c.args.context.now.table x) c.in-Some.is c.requires.fine in
+    let fine : IsFine (scope_in c.args.given.now) old.goals.table c.in-Some.expected = subst (λ x. IsFineExpectation (scope_in c.args.given.now) c.args.context.now.goals.table x) c.in-Some.is c.requires.fine in
     let unified : IsUnifiedIf true g c.in-Some.expected c.args.ty old after
     = subst (λ yes. IsUnifiedIf yes (given_of c.args.given.now) c.in-Some.expected c.args.ty c.args.context.now c.unify.new.context) c.if-branch.true c.in_ok-unify-in-Some.ensures.unified in
     subst (λ k. PatDemanded (given_of c.args.given.now) c.args.pat c.args.ty c.args.expected c.args.context.now k) (sym c.write_pat_ty.ensures)
@@ -27,7 +27,7 @@ returns-else-branch c =
     let g = given_of c.args.given.now in
     let old = c.args.context.now in
     let after = c.unify.new.context in
-    let fine : IsFine (scope_in c.args.given.now) old.table c.in-Some.expected = subst (λ x. IsFineExpectation (scope_in c.args.given.now) c.args.context.now.table x) c.in-Some.is c.requires.fine in
+    let fine : IsFine (scope_in c.args.given.now) old.goals.table c.in-Some.expected = subst (λ x. IsFineExpectation (scope_in c.args.given.now) c.args.context.now.goals.table x) c.in-Some.is c.requires.fine in
     let refused : IsUnifiedIf false g c.in-Some.expected c.args.ty old after
     = subst (λ yes. IsUnifiedIf yes (given_of c.args.given.now) c.in-Some.expected c.args.ty c.args.context.now c.unify.new.context) c.if-branch.false c.in_ok-unify-in-Some.ensures.unified in
     subst (λ k. PatDemanded (given_of c.args.given.now) c.args.pat c.args.ty c.args.expected c.args.context.now k)

@@ -16,8 +16,8 @@ infer_expr_path-requires-clause-names c = path_pat_named _ _ _ _ _ _ c.enter.new
 
 pub demand_pat_ty-requires-clause-fine : goal.demand_pat_ty-requires-clause-fine
 demand_pat_ty-requires-clause-fine c =
-    fine_expectation_grown (scope_in c.args.given.now) c.enter.new.self.table c.infer_expr_path.new.context.table c.args.expected c.in_ok-ty.ensures.grew
-    (subst (λ k. IsFineExpectation (scope_in c.args.given.now) k.table c.args.expected) (sym c.enter.ensures) c.requires.before.fine)
+    fine_expectation_grown (scope_in c.args.given.now) c.enter.new.self.goals.table c.infer_expr_path.new.context.goals.table c.args.expected c.in_ok-ty.ensures.grew
+    (subst (λ k. IsFineExpectation (scope_in c.args.given.now) k.goals.table c.args.expected) (sym c.enter.ensures) c.requires.before.fine)
 
 pub returns : goal.returns
 returns c =

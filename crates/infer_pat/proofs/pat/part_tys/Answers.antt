@@ -15,4 +15,4 @@ loop-i-preserved c =
     c.in_ok-ty.ensures)
 
 pub component-requires-clause-fine : goal.component-requires-clause-fine
-component-requires-clause-fine c = fine_expectation_grown (scope_in c.args.given.now) c.args.context.now.table c.loop-i.context.table c.args.expected.now c.loop-i.invariant.made.grew c.requires.fine
+component-requires-clause-fine c = fine_expectation_grown (scope_in c.args.given.now) c.args.context.now.goals.table c.loop-i.context.goals.table c.args.expected.now c.loop-i.invariant.made.grew c.requires.fine

@@ -12,7 +12,7 @@ infer_elements-requires-clause-before t c = within_for_any _ _ _ _ _ c.requires.
 pub infer_elements-requires-clause-expected : goal.infer_elements-requires-clause-expected
 infer_elements-requires-clause-expected t c =
     let sc = scope_in c.args.given.now in
-    subst (λ x. IsFineExpectation sc c.args.context.now.table x) (sym c.known_as.ensures)
+    subst (λ x. IsFineExpectation sc c.args.context.now.goals.table x) (sym c.known_as.ensures)
     (known_fine sc _ _ _ c.lawful.ensures.made c.requires.before.state.sound.bound c.in_ok-known.ensures c.requires.before.expected)
 
 pub returns : goal.returns

@@ -7,7 +7,7 @@ use Rattle.goal_tree.proofs.Right.{proofs_of_tree}
 use Rattle.infer_goals.proofs.table.GoalTable.proofs.Goals as goal
 
 pub returns-clause-right : goal.returns-clause-right
-returns-clause-right g c =
+returns-clause-right c =
     let raw = c.args.self.now.sources.facts in
     let f = system c.args.self.now.sources.sources in
     let P = (answers f raw.limits.goal_depth).Alias in

@@ -5,7 +5,7 @@ use Rattle.infer_goals.proofs.Kept.{kept_asked}
 use Rattle.infer_goals.proofs.table.GoalTable.register_obligation.Goals as goal
 
 pub returns-clause-kept : goal.returns-clause-kept
-returns-clause-kept g c =
+returns-clause-kept c =
     let raw = c.args.self.now.sources.facts in
     let same : c.raw.result.now ≡ raw = c.raw.ensures.value ∙ c.facts.ensures in
     let depth : c.raw.result.now.limits.goal_depth ≡ raw.limits.goal_depth = ap (λ r. r.limits.goal_depth) same in
