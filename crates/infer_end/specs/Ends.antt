@@ -1,7 +1,8 @@
 -- What was found out about a body before its open holes fall back, by what it comes to then.
-use Rattle.std.specs.Prelude.{List}
+use Rattle.std.specs.Prelude.{◌≡◌, List, None}
 use Rattle.hir_types.specs.Terms.{terms_of}
 use Rattle.hir_types.specs.declared.ids.DefWithBodyId.{DefWithBodyId}
+use Rattle.hir_raw.specs.declared.raw.RawBody.{RawBody}
 use Rattle.hir_raw.specs.declared.raw.RawFacts.{RawFacts}
 use Rattle.goal_facts.specs.declared.proof.Proof.{Proof}
 use Rattle.infer_table.specs.Completion.{completion}
@@ -11,9 +12,12 @@ use Rattle.infer_result.specs.declared.gaps.Gap.{Gap}
 use Rattle.infer_result.specs.declared.result.InferenceResult.{InferenceResult}
 use Rattle.infer_result.specs.General.{HasGeneral}
 use Rattle.infer_result.specs.Needs.{with_goals}
-use Rattle.infer_result.specs.Typed.{IsTableOf}
+use Rattle.infer_result.specs.Typed.{IsTableOf, given}
+use Rattle.infer_needs.specs.Selection.{IsSelection}
 use Rattle.infer_ctx.specs.declared.context.InferenceContext.{InferenceContext}
 use Rattle.infer_ctx.specs.Closings.{closed_table}
+use Rattle.infer_ctx.specs.Steps.{BodyDone}
+use Rattle.infer_end.specs.SelectedBody.{StaysOfPlain, OnlyTable}
 
 -- the table that it comes to, with these proofs and what could not be shown
 abbrev pub ended : List Proof → List (List Gap) → InferenceContext → InferenceResult
@@ -28,3 +32,19 @@ EndsAs raw d ps gs z =
 -- whatever proofs there are
 abbrev pub EndsWell : RawFacts → DefWithBodyId → InferenceContext → Type 0
 EndsWell raw d z = (ps : List Proof) (gs : List (List Gap)) → EndsAs raw d ps gs z
+
+-- ---- where a table comes from
+
+-- the body is walked; then what its nodes need is selected until nothing selects any more, but where types before fallback are kept
+pub record IsSelectedBody (raw : RawFacts) (d : DefWithBodyId) (b : RawBody) (z : InferenceContext) : Type 0 where
+  pub walked : InferenceContext
+  pub done : BodyDone (given raw d b) walked
+  pub only : OnlyTable walked z
+  pub plain : StaysOfPlain walked z
+  pub selection : walked.result.general ≡ None → IsSelection raw d b walked.result walked.goals.table z.goals.table
+
+-- the table is what such a body comes to
+pub record ComesOfSelection (raw : RawFacts) (d : DefWithBodyId) (b : RawBody) (r : InferenceResult) : Type 0 where
+  pub found : InferenceContext
+  pub selected : IsSelectedBody raw d b found
+  pub is : r ≡ ended r.proofs r.expr_gaps found

@@ -6,7 +6,7 @@ ghost use Rattle.infer_result.specs.Typed.{IsTableOf, given};
 ghost use Rattle.infer_result.specs.General.{HasGeneral};
 ghost use Rattle.infer_result.specs.Needs.{GoalsHold};
 ghost use Rattle.infer_needs.specs.Told.{AreAllAnswered, HearsAll, IsToldAll, at_exit};
-ghost use Rattle.infer_end.specs.Ends.{EndsWell};
+ghost use Rattle.infer_end.specs.Ends.{EndsWell, IsSelectedBody, ComesOfSelection};
 
 use crate::body::infer_body;
 use hir_facts::{DefWithBodyId, Facts, Goal, return_ty};
@@ -25,7 +25,8 @@ fn infer_holes(
     def: DefWithBodyId,
 ) -> Result<InferenceContext<'_>, AllocError>
     requires { HasBody facts.now def }
-    ensures { IfOk result (λ context. EndsWell facts.now def context) }
+    ensures ends { IfOk result (λ context. EndsWell facts.now def context) }
+    ensures selected { IfOk result (λ context. (b : RawBody) → body_of facts.now def ≡ Some b → IsSelectedBody facts.now def b context) }
 {
     let Some(id) = facts.body_id(def) else {
         unreachable!()
@@ -58,6 +59,7 @@ fn infer_with_goals(
     ensures table { IfOk result (λ made. IsTableOf facts.now def made.0) }
     ensures general { IfOk result (λ made. HasGeneral facts.now def made.0) }
     ensures goals { IfOk result (λ made. (b : RawBody) → body_of facts.now def ≡ Some b → GoalsHold def (given facts.now def b) made.0) }
+    ensures selected { IfOk result (λ made. (b : RawBody) → body_of facts.now def ≡ Some b → ComesOfSelection facts.now def b made.0) }
     ensures told { IfOk result (λ made. (b : RawBody) → body_of facts.now def ≡ Some b → AreAllAnswered def (given facts.now def b) made.0 made.1.items) }
 {
     let context = infer_holes(alloc, facts, def)?;
@@ -76,6 +78,7 @@ fn infer_untold(
     ensures table { IfOk result (λ table. IsTableOf facts.now def table) }
     ensures general { IfOk result (λ table. HasGeneral facts.now def table) }
     ensures goals { IfOk result (λ table. (b : RawBody) → body_of facts.now def ≡ Some b → GoalsHold def (given facts.now def b) table) }
+    ensures selected { IfOk result (λ table. (b : RawBody) → body_of facts.now def ≡ Some b → ComesOfSelection facts.now def b table) }
 {
     let (table, _) = infer_with_goals(alloc, facts, def)?;
     Ok(table)
@@ -92,6 +95,7 @@ fn infer_told<I: ObligationInspector>(
     ensures table { IfOk result (λ table. IsTableOf facts.now def table) }
     ensures general { IfOk result (λ table. HasGeneral facts.now def table) }
     ensures goals { IfOk result (λ table. (b : RawBody) → body_of facts.now def ≡ Some b → GoalsHold def (given facts.now def b) table) }
+    ensures selected { IfOk result (λ table. (b : RawBody) → body_of facts.now def ≡ Some b → ComesOfSelection facts.now def b table) }
     ensures told { IfOk result (λ table. (b : RawBody) → body_of facts.now def ≡ Some b → HearsAll def (given facts.now def b) table (I.list inspect.old) (I.list inspect.new)) }
 {
     let (table, told) = infer_with_goals(alloc, facts, def)?;
@@ -114,6 +118,7 @@ pub fn infer_query_with_inspect<I: ObligationInspector>(
     ensures table { IfOk result (λ table. IsTableOf facts.now def table) }
     ensures general { IfOk result (λ table. HasGeneral facts.now def table) }
     ensures goals { IfOk result (λ table. (b : RawBody) → body_of facts.now def ≡ Some b → GoalsHold def (given facts.now def b) table) }
+    ensures selected { IfOk result (λ table. (b : RawBody) → body_of facts.now def ≡ Some b → ComesOfSelection facts.now def b table) }
     ensures told { IfOk result (λ table. (b : RawBody) → body_of facts.now def ≡ Some b → IsToldAll I.list def (given facts.now def b) table inspect.entry (at_exit inspect.exit)) }
 {
     match inspect {

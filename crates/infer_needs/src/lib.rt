@@ -8,6 +8,7 @@ mod select;
 mod tell;
 mod unknown;
 
+pub use needed::needed_goals;
 pub use prove::{prove_needs, scope_item};
-pub use select::select_needs;
+pub use select::{register_each, select_needs};
 pub use tell::tell_all;

@@ -26,7 +26,7 @@ use infer_result::InferenceResult;
 use std::alloc::{AllocError, Global};
 
 /// Registers these goals, which an expression needs.
-fn register_each(
+pub fn register_each(
     goals: &mut GoalTable<'_>,
     needed: Vec<Goal>,
     expr: ExprId,

@@ -7,3 +7,4 @@ mod types;
 
 pub use goals::push_goal;
 pub use report::{count_complaints, write_report};
+pub use types::push_ty;

@@ -11,6 +11,7 @@ use Rattle.infer_result.specs.declared.result.InferenceResult.{InferenceResult}
 use Rattle.infer_result.specs.Typed.{IsTableOf, given}
 use Rattle.infer_result.specs.General.{HasGeneral}
 use Rattle.infer_result.specs.Needs.{GoalsHold}
+use Rattle.infer_end.specs.Ends.{ComesOfSelection}
 use Rattle.infer_result.specs.Report.{report, complaint_count}
 use Rattle.infer_text.specs.declared.fault.ReadError.TheVariants as error
 use Rattle.infer_run.specs.declared.running.Ran.{Ran}
@@ -79,6 +80,10 @@ pub record HasFacts (words : List (List ℕ)) (e : Ends) (ran : Ran) : Type 0 wh
 abbrev pub HasGoals : RawFacts → DefWithBodyId → InferenceResult → Type 0
 HasGoals raw def table = (b : RawBody) → body_of raw def ≡ Some b → GoalsHold def (given raw def b) table
 
+-- what they need was selected before its open holes fell back
+abbrev pub IsSelectedTable : RawFacts → DefWithBodyId → InferenceResult → Type 0
+IsSelectedTable raw def table = (b : RawBody) → body_of raw def ≡ Some b → ComesOfSelection raw def b table
+
 -- the definition has a body, and this is its table, which has the types before open holes fell back exactly
 -- where the body is plain, and what becomes of the goals of its nodes
 pub record IsInferred (def : DefWithBodyId) (raw : RawFacts) (ran : Ran) : Type 0 where
@@ -87,6 +92,7 @@ pub record IsInferred (def : DefWithBodyId) (raw : RawFacts) (ran : Ran) : Type 
   pub typed : IsTableOf raw def table
   pub general : HasGeneral raw def table
   pub goals : HasGoals raw def table
+  pub selected : IsSelectedTable raw def table
   pub table_is : ran.table ≡ Some table
 
 -- the definition, its facts and its table

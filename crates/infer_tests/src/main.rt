@@ -8,6 +8,7 @@ mod plain_bodies;
 mod proofs;
 mod rows;
 mod runs;
+mod selection;
 mod texts;
 
 use std::env::Env;

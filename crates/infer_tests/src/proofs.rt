@@ -8,7 +8,8 @@ use infer_report::push_goal;
 use infer_run::Ran;
 use std::alloc::{AllocError, Global};
 
-fn push_source(out: &mut String, source: &ProofSource) -> Result<(), AllocError> {
+/// Writes by what a proof is.
+pub fn push_source(out: &mut String, source: &ProofSource) -> Result<(), AllocError> {
     match source {
         ProofSource::Clause(_) => out.push_str(" by clause"),
         ProofSource::Impl(ImplId(number), _) => write!(out, " by impl {number}"),

@@ -18,6 +18,9 @@
 //!     told ANSWER ..   what an inspector is told, in its order; with one and without the table is the same
 //!     in KIND N: ..    in the scope of this item, the answers to the predicates of function 0, `yes`, `no` or `undecided`, and
 //!                      whether its inputs have a size, `sized` or `unsized`
+//!     open KIND N: ..  the same, with new holes in the place of the parameters of function 0
+//!     select KIND N: .. the predicates at two such holes: how many are pending, whether selection binds a hole, how many are pending
+//!                      then, how many goals were selected, what the holes are, and by what the proofs are
 use crate::before_fallback::text_of;
 use crate::proofs::{proofs_of, told_of};
 use crate::runs::{PLAIN, Way, compare, compare_end, ran};
@@ -112,7 +115,10 @@ impl Row {
             "ends" => self.ends = String::from_str(alloc, rest)?,
             ">" => push_lines(&mut self.report, rest)?,
             "?" => push_lines(&mut self.before_fallback, rest)?,
-            "in" => push_lines(&mut self.answers, rest)?,
+            "in" | "open" | "select" => {
+                let line = format!(in alloc; "{word} {rest}\n")?;
+                self.answers.push_str(line.as_str())?;
+            }
             "^" => push_lines(&mut self.proofs, rest)?,
             "told" => self.told = String::from_str(alloc, rest)?,
             "plain" => self.plain = String::from_str(alloc, rest)?,

@@ -58,8 +58,8 @@ select_where_possible-requires-clause-done c b is =
     let same : c.body-body.result.now ≡ b = same_body raw d c.in-Some.id c.body-body.result.now b (sym c.in-Some.ensures) c.body-body.ensures is in
     subst (λ (x : RawBody). BodyDone (given raw d x) mid) same done
 
-pub returns : goal.returns
-returns c = λ ps gs. (
+pub returns-clause-ends : goal.returns-clause-ends
+returns-clause-ends c = λ ps gs. (
     let raw = c.args.facts.now in
     let d = c.args.def in
     let b = c.body-body.result.now in
@@ -67,3 +67,19 @@ returns c = λ ps gs. (
     let selected = c.in_ok-select_where_possible.ensures in
     ends_selected raw d c.in-Some.id b _ _ _ (sym c.in-Some.ensures) c.body-body.ensures (c.schedule.ensures.walkable _ c.body-body.ensures) c.inputs.ensures c.in_ok-return_ty.ensures c.infer_body.new.context c.in_ok-infer_body.ensures.done c.lawful.ensures ps gs
     c.keep_general.new.context c.select_where_possible.new.context c.in_ok-keep_general.ensures c.select_where_possible.ensures.only c.select_where_possible.ensures.plain (selected.done b is))
+
+pub returns-clause-selected : goal.returns-clause-selected
+returns-clause-selected c b is =
+    let raw = c.args.facts.now in
+    let d = c.args.def in
+    let mid = c.keep_general.new.context in
+    let own = kept_done _ raw d c.infer_body.new.context mid c.in_ok-infer_body.ensures.done c.in_ok-keep_general.ensures in
+    let done = given_done raw d c.body-body.result.now _ _ c.inputs.ensures c.in_ok-return_ty.ensures mid own in
+    let same : c.body-body.result.now ≡ b = same_body raw d c.in-Some.id c.body-body.result.now b (sym c.in-Some.ensures) c.body-body.ensures is in
+    record {
+      walked = mid;
+      done = subst (λ (x : RawBody). BodyDone (given raw d x) mid) same done;
+      only = c.select_where_possible.ensures.only;
+      plain = c.select_where_possible.ensures.plain;
+      selection = λ none. c.in_ok-select_where_possible.ensures.selection none b is;
+    }
