@@ -33,10 +33,11 @@ use Rattle.hir_raw.specs.declared.raw.RawPath.{RawPath}
 use Rattle.hir_raw.specs.declared.raw.RawPath.TheVariants as path
 use Rattle.hir_raw.specs.declared.raw.RawVariant.{RawVariant}
 use Rattle.hir_raw.specs.declared.raw.RawFacts.{RawFacts}
-use Rattle.hir_raw.specs.Scope.{Scope, scope_of}
+use Rattle.hir_raw.specs.Scope.{Scope, fn_arity, scope_of}
 use Rattle.hir_raw.specs.Signatures.{type_args, ctor_type_by}
 use Rattle.hir_laws.specs.Bodies.{body_of}
 use Rattle.hir_laws.specs.Lawful.{IsLawful}
+use Rattle.hir_laws.specs.NoAliases.{own_arity}
 use Rattle.infer_table.specs.Completion.{completion}
 use Rattle.infer_table.specs.Preserved.{whole, IsMadeOf}
 use Rattle.infer_table.specs.Resolution.{resolution}
@@ -48,7 +49,8 @@ use Rattle.goal_facts.specs.Environment.{preds_or_none}
 use Rattle.goal_facts.proofs.Systems.{each_append}
 use Rattle.goal_select.specs.Steps.{HasHeadsOf}
 use Rattle.infer_result.specs.Kinds.Path.{PathRule}
-use Rattle.infer_result.specs.Needs.{variant_preds, path_preds, item_args, needed_goals}
+use Rattle.infer_result.specs.AliasNeeds.{no_alias_goals}
+use Rattle.infer_result.specs.Needs.{variant_preds, path_preds, expr_preds, item_args, needed_goals, needs_preds}
 use Rattle.infer_result.specs.Places.{Given}
 use Rattle.infer_result.specs.Placing.{at_or_mismatch}
 use Rattle.infer_result.specs.Rules.{Rule}
@@ -199,8 +201,8 @@ module _ (raw : RawFacts) (law : IsLawful raw) (none : raw.aliases ≡ []) (d : 
     fn_heads f rule (Some x) is =
         let ts : List Ty = rule.0 in
         let long : length own.types ≡ length ts = count_at (ty.FnDef (callable.FunctionId f) (type_args ts)) ts rule.1 (ap item_args (out_fn_def (callable.FunctionId f) (type_args ts))) in
-        let both : Some (length x.params) ≡ Some (length ts) = ap (option_map (λ (y : RawFn). length y.params)) (sym is) ∙ rule.2 in
-        let count : length x.params ≡ length own.types = (let same : length x.params ≡ length ts = cc in same ∙ sym long) in
+        let both : Some (fn_arity raw.types x) ≡ Some (length ts) = ap (option_map (fn_arity raw.types)) (sym is) ∙ rule.2 in
+        let count : length x.params ≡ length own.types = (let same : fn_arity raw.types x ≡ length ts = cc in sym (own_arity raw law f.0 x is) ∙ (same ∙ sym long)) in
         at_args_of u own x.preds (λ k p here. subst (λ n. GoalIsFit raw law none n p) count (fn_preds_fit raw law none f.0 x is k p here))
 
     -- the arguments of a path to a constructor; none has fields with names
@@ -237,10 +239,14 @@ module _ (raw : RawFacts) (law : IsLawful raw) (none : raw.aliases ≡ []) (d : 
     path_heads (path.Function f) rule unnamed = fn_heads f rule (slice_get raw.fns f.0) refl
     path_heads (path.Ctor v) rule unnamed = ctor_heads v rule (λ x is. unnamed v x refl is) (slice_get raw.variants v.0) refl
 
+    preds_heads : (x : RawExpr) → Rule (at_or_mismatch g last) g last e (Some x) → ((v : VariantId) (y : RawVariant) → x ≡ expr.Path (path.Ctor v) → slice_get raw.variants v.0 ≡ Some y → (y.ctor ≡ ctor.Unit) ⊎ (y.ctor ≡ ctor.Tuple))
+        → Each (HasHeadsOf (is_fine_head sc)) (map (goal_at raw (args_of u)) (expr_preds raw x))
+    preds_heads (expr.Path q) rule unnamed = path_heads q rule (λ v y is. unnamed v y (ap expr.Path is))
+    preds_heads _ rule unnamed = tt
+
     expr_heads : (x : RawExpr) → Rule (at_or_mismatch g last) g last e (Some x) → ((v : VariantId) (y : RawVariant) → x ≡ expr.Path (path.Ctor v) → slice_get raw.variants v.0 ≡ Some y → (y.ctor ≡ ctor.Unit) ⊎ (y.ctor ≡ ctor.Tuple))
         → Each (HasHeadsOf (is_fine_head sc)) (needed_goals raw x u)
-    expr_heads (expr.Path q) rule unnamed = path_heads q rule (λ v y is. unnamed v y (ap expr.Path is))
-    expr_heads _ rule unnamed = tt
+    expr_heads x rule unnamed = subst (Each (HasHeadsOf (is_fine_head sc))) (sym (needs_preds raw x u (no_alias_goals raw law (args_of u) x))) (preds_heads x rule unnamed)
 
   -- ---- the expressions, in their order
 

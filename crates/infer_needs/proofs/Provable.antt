@@ -2,7 +2,7 @@
 use Rattle.std.specs.Prelude.{◌≡◌, ◌⊎◌, ◌<◌, ℕ, zero, suc, Bool, true, List, [], ◌∷◌, length, map, slice_get, Option, Some, None, option_map, refl}
 use Rattle.std.specs.List.{list_all}
 use Rattle.std.specs.Option.{option_and_then}
-use Rattle.std.proofs.Common.{inl, inr, sym, ap, subst, arith, true≢false}
+use Rattle.std.proofs.Common.{inl, inr, sym, ap, subst, ◌∙◌, arith, true≢false}
 use Rattle.std.proofs.lemmas.Bool.{or_cases}
 use Rattle.hir_types.specs.declared.ids.DefWithBodyId.{DefWithBodyId}
 use Rattle.hir_types.specs.declared.ids.BodyId.{BodyId}
@@ -38,7 +38,8 @@ use Rattle.goal_facts.specs.Environment.{preds_or_none}
 use Rattle.goal_prove.specs.Closed.{IsClosedTerm}
 use Rattle.goal_prove.proofs.Written.{parts_by, layer, by_layers, args_are}
 use Rattle.infer_result.specs.declared.result.InferenceResult.{InferenceResult}
-use Rattle.infer_result.specs.Needs.{variant_preds, path_preds, item_args, needed_goals}
+use Rattle.infer_result.specs.AliasNeeds.{no_alias_goals}
+use Rattle.infer_result.specs.Needs.{variant_preds, path_preds, expr_preds, item_args, needed_goals, needs_preds}
 use Rattle.infer_result.specs.Table.{recorded}
 use Rattle.infer_result.specs.Typed.{IsTableOf}
 use Rattle.infer_needs.specs.Judged.{IsProvable, AreProvable}
@@ -138,15 +139,22 @@ module _ (raw : RawFacts) (law : IsLawful raw) where
   by_no_preds : (xs : List GenericArg) (gs : List RawGoal) → gs ≡ [] → AreProvable raw (map (goal_at raw xs) gs)
   by_no_preds xs gs e = subst (λ hs. AreProvable raw (map (goal_at raw xs) hs)) (sym e) tt
 
-  path_provable : (p : RawPath) (t : Ty) → (raw.aliases ≡ [] → IsClosedTerm (term t)) → (path_owes_nothing raw p ≡ true) ⊎ (is_empty raw.aliases ≡ true) → AreProvable raw (needed_goals raw (expr.Path p) t)
+  -- nothing is needed beside predicates
+  own_needs : (x : RawExpr) (t : Ty) → needed_goals raw x t ≡ map (goal_at raw (item_args (out-Ty t))) (expr_preds raw x)
+  own_needs x t = needs_preds raw x t (no_alias_goals raw law (item_args (out-Ty t)) x)
+
+  path_provable : (p : RawPath) (t : Ty) → (raw.aliases ≡ [] → IsClosedTerm (term t)) → (path_owes_nothing raw p ≡ true) ⊎ (is_empty raw.aliases ≡ true) → AreProvable raw (map (goal_at raw (item_args (out-Ty t))) (path_preds raw p))
   path_provable p t closed (inl owes) = by_no_preds (item_args (out-Ty t)) (path_preds raw p) (path_none raw p owes)
   path_provable p t closed (inr empty) =
       let none = empty_is raw.aliases empty in
       goals_provable raw law none (item_args (out-Ty t)) (item_closed t (closed none)) (path_preds raw p) (path_exist raw law p)
 
+  preds_provable : (x : RawExpr) (t : Ty) → (raw.aliases ≡ [] → IsClosedTerm (term t)) → (expr_owes_nothing raw x ≡ true) ⊎ (is_empty raw.aliases ≡ true) → AreProvable raw (map (goal_at raw (item_args (out-Ty t))) (expr_preds raw x))
+  preds_provable (expr.Path p) t closed owes = path_provable p t closed owes
+  preds_provable _ t closed owes = tt
+
   expr_provable : (x : RawExpr) (t : Ty) → (raw.aliases ≡ [] → IsClosedTerm (term t)) → (expr_owes_nothing raw x ≡ true) ⊎ (is_empty raw.aliases ≡ true) → AreProvable raw (needed_goals raw x t)
-  expr_provable (expr.Path p) t closed owes = path_provable p t closed owes
-  expr_provable _ t closed owes = tt
+  expr_provable x t closed owes = subst (AreProvable raw) (sym (own_needs x t)) (preds_provable x t closed owes)
 
   owed : (b : RawBody) (i : ℕ) → slice_get raw.bodies i ≡ Some b → (k : ℕ) (x : RawExpr) → slice_get b.exprs k ≡ Some x → (expr_owes_nothing raw x ≡ true) ⊎ (is_empty raw.aliases ≡ true)
   owed b i at k x found =
@@ -158,7 +166,7 @@ module _ (raw : RawFacts) (law : IsLawful raw) where
   -- what a path owes is nothing, or no trait has an associated type
   owed_none : (x : RawExpr) (t : Ty) → (expr_owes_nothing raw x ≡ true) ⊎ (is_empty raw.aliases ≡ true) → (needed_goals raw x t ≡ []) ⊎ (raw.aliases ≡ [])
   owed_none x t (inr e) = inr (empty_is raw.aliases e)
-  owed_none (expr.Path p) t (inl e) = inl (ap (map (goal_at raw (item_args (out-Ty t)))) (path_none raw p e))
+  owed_none (expr.Path p) t (inl e) = inl (own_needs (expr.Path p) t ∙ ap (map (goal_at raw (item_args (out-Ty t)))) (path_none raw p e))
   owed_none _ t (inl e) = inl refl
 
   pub expr_owed : (b : RawBody) (i : ℕ) → slice_get raw.bodies i ≡ Some b → (k : ℕ) (x : RawExpr) → slice_get b.exprs k ≡ Some x → (t : Ty) → (needed_goals raw x t ≡ []) ⊎ (raw.aliases ≡ [])
