@@ -16,6 +16,7 @@ mod sources;
 
 pub use additions::is_same;
 pub use arguments::push_instances;
+pub use clauses::goal_of;
 pub use goal_search::{Answer, Choice};
 pub use goals::asked;
 pub use impl_goals::{RuleGoals, goals_of};

@@ -35,28 +35,28 @@ use Rattle.goal_prove.proofs.Written.{parts_by, layer, by_layers, args_are}
 -- ---- what a term with such a head is
 
 -- the parts of a tuple or of an adt are arguments
-abbrev AreArgs : Term → Type 0
+abbrev pub AreArgs : Term → Type 0
 AreArgs c = (xs : List GenericArg) × (c ≡ chain (map arg_term xs))
 
 tuple_step : (x : Ty-F GenericArg Ty AliasBound TraitRef) (c : Term) → ty_step (in_ty terms x) ≡ pair (leaf head.Tuple) c → AreArgs c
 tuple_step (Ty-F.Tuple ts) c e = (map arg.Ty ts, sym (pair_right e) ∙ ap chain (map_twice type_part term ts ∙ sym (args_terms ts)))
 tuple_step _ c e = cc
 
-tuple_args : (u : Ty) (c : Term) → pair (leaf head.Tuple) c ≡ term u → AreArgs c
+pub tuple_args : (u : Ty) (c : Term) → pair (leaf head.Tuple) c ≡ term u → AreArgs c
 tuple_args u c e = tuple_step (out-Ty u) c (sym (type_is u) ∙ sym e)
 
 adt_step : (a : AdtId) (x : Ty-F GenericArg Ty AliasBound TraitRef) (c : Term) → ty_step (in_ty terms x) ≡ pair (leaf (head.Adt a)) c → AreArgs c
 adt_step a (Ty-F.Adt id xs) c e = (xs, sym (pair_right e))
 adt_step a _ c e = cc
 
-adt_args : (a : AdtId) (u : Ty) (c : Term) → pair (leaf (head.Adt a)) c ≡ term u → AreArgs c
+pub adt_args : (a : AdtId) (u : Ty) (c : Term) → pair (leaf (head.Adt a)) c ≡ term u → AreArgs c
 adt_args a u c e = adt_step a (out-Ty u) c (sym (type_is u) ∙ sym e)
 
 projection_step : (a : TypeAliasId) (x : Ty-F GenericArg Ty AliasBound TraitRef) (c : Term) → ty_step (in_ty terms x) ≡ pair (leaf (head.Projection a)) c → AreArgs c
 projection_step a (Ty-F.Projection id xs) c e = (xs, sym (pair_right e))
 projection_step a _ c e = cc
 
-projection_args : (a : TypeAliasId) (u : Ty) (c : Term) → pair (leaf (head.Projection a)) c ≡ term u → AreArgs c
+pub projection_args : (a : TypeAliasId) (u : Ty) (c : Term) → pair (leaf (head.Projection a)) c ≡ term u → AreArgs c
 projection_args a u c e = projection_step a (out-Ty u) c (sym (type_is u) ∙ sym e)
 
 leaf_step : (h : Head) (x : Ty-F GenericArg Ty AliasBound TraitRef) → ty_step (in_ty terms x) ≡ leaf h → ⊥
@@ -67,7 +67,7 @@ leaf_step h _ e = cc
 pub no_leaf : (h : Head) (u : Ty) → leaf h ≡ term u → ⊥
 no_leaf h u e = leaf_step h (out-Ty u) (sym (type_is u) ∙ sym e)
 
-arg_type : (v : Term) (x : GenericArg) → type_part v ≡ arg_term x → IsTypeTerm v
+pub arg_type : (v : Term) (x : GenericArg) → type_part v ≡ arg_term x → IsTypeTerm v
 arg_type v (arg.Ty t) e = (t, pair_right (e ∙ arg_term_type t))
 arg_type v (arg.Const c) e = let clash = e ∙ arg_term_const c in cc
 
@@ -100,7 +100,7 @@ param_given : (p : Fill) (n : ℕ) (o : Option GenericArg) → ((x : GenericArg)
 param_given p n None h = subst (IsGiven p) (sym term_error) (none_in p head.Error)
 param_given p n (Some x) h = let q = h x refl in subst (λ y. IsGiven p (term (type_of (Some y)))) q.1 (hole_given p q.0)
 
-hole_at : (n m : ℕ) (x : GenericArg) → slice_get (holes n) m ≡ Some x → (j : ℕ) × (arg.Ty (ty.Var j) ≡ x)
+pub hole_at : (n m : ℕ) (x : GenericArg) → slice_get (holes n) m ≡ Some x → (j : ℕ) × (arg.Ty (ty.Var j) ≡ x)
 hole_at n m x e = let q = get_in_map (λ k. arg.Ty (ty.Var k)) (range_with_len 0 n) m x e in (q.0, q.2)
 
 module _ (raw : RawFacts) (n : ℕ) (p : Fill) where

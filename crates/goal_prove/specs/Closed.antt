@@ -1,5 +1,5 @@
--- Proofs of goals without holes, where no trait has an associated type.
-use Rattle.std.specs.Prelude.{◌≡◌, ℕ, List, [], ◌∷◌, slice_get, Option, Some, None}
+-- Proofs of goals without holes; and terms without aliases.
+use Rattle.std.specs.Prelude.{◌≡◌, ℕ, List, slice_get, Option, Some, None}
 use Rattle.hir_types.specs.declared.goal.Goal.{Goal}
 use Rattle.hir_types.specs.declared.head.Head.{Head}
 use Rattle.hir_types.specs.declared.head.Head.TheVariants as head
@@ -7,7 +7,7 @@ use Rattle.hir_types.specs.Terms.{Term, hole, leaf, pair}
 use Rattle.hir_raw.specs.declared.raw.RawFacts.{RawFacts}
 use Rattle.infer_table.specs.Table.{IsFront}
 use Rattle.goal_answers.specs.Reading.{Fill, IsFilling}
-use Rattle.goal_answers.specs.Goals.{System, Each}
+use Rattle.goal_answers.specs.Goals.{System}
 use Rattle.goal_answers.specs.Answers.{answers}
 use Rattle.goal_facts.specs.declared.proof.Proof.{Proof}
 use Rattle.goal_facts.specs.Goals.{asked_goal}
@@ -32,9 +32,6 @@ IsClosedTerm (hole k) = ⊥
 IsClosedTerm (leaf h) = IsPlainHead h
 IsClosedTerm (pair a b) = IsClosedTerm a × IsClosedTerm b
 
-abbrev pub IsClosedGoal : Goal → Type 0
-IsClosedGoal g = IsClosedTerm (asked_goal g).parts
-
 -- ---- proofs
 
 -- at each filling, though none of them says anything of it
@@ -55,18 +52,7 @@ KeepsIfNone ps qs None = qs ≡ ps
 abbrev pub IsProofAt : List Proof → Goal → ℕ → Type 0
 IsProofAt ps g k = (x : Proof) × (slice_get ps k ≡ Some x) × (x.goal ≡ g)
 
--- each goal's
-abbrev pub AreProofsAt : List Proof → List Goal → List ℕ → Type 0
-AreProofsAt ps [] [] = Unit {0}
-AreProofsAt ps (g ∷ gs) (k ∷ ks) = IsProofAt ps g k × AreProofsAt ps gs ks
-AreProofsAt ps _ _ = ⊥
-
 -- it is proved, or its answer at the depth isn't Yes
 abbrev pub IsProvedIf : System → ℕ → List Proof → Goal → Option ℕ → Type 0
 IsProvedIf f n ps g (Some k) = IsProofAt ps g k
 IsProvedIf f n ps g None = (answers f n).Yes (asked_goal g) → ⊥
-
--- each is proved, or the answer to one isn't Yes
-abbrev pub AreProvedIf : System → ℕ → List Proof → List Goal → Option (List ℕ) → Type 0
-AreProvedIf f n ps gs (Some ks) = AreProofsAt ps gs ks
-AreProvedIf f n ps gs None = Each (λ g. (answers f n).Yes (asked_goal g)) gs → ⊥

@@ -35,7 +35,7 @@ use Rattle.hir_laws.specs.Lawful.{IsLawful}
 use Rattle.hir_laws.specs.LawfulFacts.{type_ids_exist, adt_ids, fn_ids, carried_bodies}
 use Rattle.goal_facts.specs.Arguments.{type_at, args_at, goal_at}
 use Rattle.goal_facts.specs.Environment.{preds_or_none}
-use Rattle.goal_prove.specs.Closed.{IsClosedTerm}
+use Rattle.goal_prove.specs.Staying.{IsWritten}
 use Rattle.goal_prove.proofs.Written.{parts_by, layer, by_layers, args_are}
 use Rattle.infer_result.specs.declared.result.InferenceResult.{InferenceResult}
 use Rattle.infer_result.specs.AliasNeeds.{no_alias_goals}
@@ -48,7 +48,7 @@ use Rattle.infer_needs.proofs.Closed.{both, AreClosed, type_closed, item_closed}
 
 -- ---- goals at arguments
 
-parts_closed : (f : ℕ → Term) → ((j : ℕ) → IsClosedTerm (f j)) → (ts : List TypeRefId) → IsClosedTerm (chain (parts_by f ts))
+parts_closed : (f : ℕ → Term) → ((j : ℕ) → IsWritten (f j)) → (ts : List TypeRefId) → IsWritten (chain (parts_by f ts))
 parts_closed f h [] = tt
 parts_closed f h (t ∷ ts) = ((tt, h t.0), parts_closed f h ts)
 
@@ -56,7 +56,7 @@ module _ (raw : RawFacts) (law : IsLawful raw) (none : raw.aliases ≡ []) where
   no_alias : (k : ℕ) → k < length raw.aliases → ⊥
   no_alias k h = let e = ap length none in omega (arith, e, h)
 
-  layer_closed : (xs : List GenericArg) → AreClosed xs → (i : ℕ) (o : Option RawType) → slice_get raw.types i ≡ o → (f : ℕ → Term) → ((j : ℕ) → IsClosedTerm (f j)) → IsClosedTerm (layer (λ m. term ((with_params xs).param m)) f o)
+  layer_closed : (xs : List GenericArg) → AreClosed xs → (i : ℕ) (o : Option RawType) → slice_get raw.types i ≡ o → (f : ℕ → Term) → ((j : ℕ) → IsWritten (f j)) → IsWritten (layer (λ m. term ((with_params xs).param m)) f o)
   layer_closed xs args i None at f h = (tt, tt)
   layer_closed xs args i (Some type.Bool) at f h = (tt, tt)
   layer_closed xs args i (Some type.Char) at f h = (tt, tt)
@@ -69,15 +69,15 @@ module _ (raw : RawFacts) (law : IsLawful raw) (none : raw.aliases ≡ []) where
   layer_closed xs args i (Some type.Hole) at f h = (tt, tt)
   layer_closed xs args i (Some type.Other) at f h = (tt, tt)
 
-  chain_closed : (xs : List GenericArg) → AreClosed xs → (ws : List TypeRefId) → IsClosedTerm (chain (map (λ w. type_part (type_at raw xs w)) ws))
+  chain_closed : (xs : List GenericArg) → AreClosed xs → (ws : List TypeRefId) → IsWritten (chain (map (λ w. type_part (type_at raw xs w)) ws))
   chain_closed xs args [] = tt
-  chain_closed xs args (w ∷ ws) = ((tt, by_layers raw xs IsClosedTerm (tt, tt) (layer_closed xs args) w), chain_closed xs args ws)
+  chain_closed xs args (w ∷ ws) = ((tt, by_layers raw xs IsWritten (tt, tt) (layer_closed xs args) w), chain_closed xs args ws)
 
-  args_closed : (xs : List GenericArg) → AreClosed xs → (ws : List TypeRefId) → IsClosedTerm (args_at raw xs ws)
-  args_closed xs args ws = subst IsClosedTerm (sym (args_are raw xs ws)) (chain_closed xs args ws)
+  args_closed : (xs : List GenericArg) → AreClosed xs → (ws : List TypeRefId) → IsWritten (args_at raw xs ws)
+  args_closed xs args ws = subst IsWritten (sym (args_are raw xs ws)) (chain_closed xs args ws)
 
   goal_provable : (xs : List GenericArg) → AreClosed xs → (g : RawGoal) → GoalExists raw g → IsProvable raw (goal_at raw xs g)
-  goal_provable xs args (goal.Trait r) e = record { aliases = none; closed = args_closed xs args (arg_types r.args) }
+  goal_provable xs args (goal.Trait r) e = record { aliases = none; written = args_closed xs args (arg_types r.args) }
   goal_provable xs args (goal.Projection k ws w) e = absurd (no_alias k.0 e.0)
 
   goals_provable : (xs : List GenericArg) → AreClosed xs → (gs : List RawGoal) → GoalsExist raw gs → AreProvable raw (map (goal_at raw xs) gs)
@@ -143,17 +143,17 @@ module _ (raw : RawFacts) (law : IsLawful raw) where
   own_needs : (x : RawExpr) (t : Ty) → needed_goals raw x t ≡ map (goal_at raw (item_args (out-Ty t))) (expr_preds raw x)
   own_needs x t = needs_preds raw x t (no_alias_goals raw law (item_args (out-Ty t)) x)
 
-  path_provable : (p : RawPath) (t : Ty) → (raw.aliases ≡ [] → IsClosedTerm (term t)) → (path_owes_nothing raw p ≡ true) ⊎ (is_empty raw.aliases ≡ true) → AreProvable raw (map (goal_at raw (item_args (out-Ty t))) (path_preds raw p))
+  path_provable : (p : RawPath) (t : Ty) → (raw.aliases ≡ [] → IsWritten (term t)) → (path_owes_nothing raw p ≡ true) ⊎ (is_empty raw.aliases ≡ true) → AreProvable raw (map (goal_at raw (item_args (out-Ty t))) (path_preds raw p))
   path_provable p t closed (inl owes) = by_no_preds (item_args (out-Ty t)) (path_preds raw p) (path_none raw p owes)
   path_provable p t closed (inr empty) =
       let none = empty_is raw.aliases empty in
       goals_provable raw law none (item_args (out-Ty t)) (item_closed t (closed none)) (path_preds raw p) (path_exist raw law p)
 
-  preds_provable : (x : RawExpr) (t : Ty) → (raw.aliases ≡ [] → IsClosedTerm (term t)) → (expr_owes_nothing raw x ≡ true) ⊎ (is_empty raw.aliases ≡ true) → AreProvable raw (map (goal_at raw (item_args (out-Ty t))) (expr_preds raw x))
+  preds_provable : (x : RawExpr) (t : Ty) → (raw.aliases ≡ [] → IsWritten (term t)) → (expr_owes_nothing raw x ≡ true) ⊎ (is_empty raw.aliases ≡ true) → AreProvable raw (map (goal_at raw (item_args (out-Ty t))) (expr_preds raw x))
   preds_provable (expr.Path p) t closed owes = path_provable p t closed owes
   preds_provable _ t closed owes = tt
 
-  expr_provable : (x : RawExpr) (t : Ty) → (raw.aliases ≡ [] → IsClosedTerm (term t)) → (expr_owes_nothing raw x ≡ true) ⊎ (is_empty raw.aliases ≡ true) → AreProvable raw (needed_goals raw x t)
+  expr_provable : (x : RawExpr) (t : Ty) → (raw.aliases ≡ [] → IsWritten (term t)) → (expr_owes_nothing raw x ≡ true) ⊎ (is_empty raw.aliases ≡ true) → AreProvable raw (needed_goals raw x t)
   expr_provable x t closed owes = subst (AreProvable raw) (sym (own_needs x t)) (preds_provable x t closed owes)
 
   owed : (b : RawBody) (i : ℕ) → slice_get raw.bodies i ≡ Some b → (k : ℕ) (x : RawExpr) → slice_get b.exprs k ≡ Some x → (expr_owes_nothing raw x ≡ true) ⊎ (is_empty raw.aliases ≡ true)
@@ -179,7 +179,7 @@ body_at raw None b e = cc
 body_at raw (Some i) b e = (i.0, e)
 
 module _ (raw : RawFacts) (law : IsLawful raw) (d : DefWithBodyId) (r : InferenceResult) (is : IsTableOf raw d r) where
-  type_is_closed : (k : ℕ) (t : Ty) → slice_get r.type_of_expr k ≡ Some (Some t) → raw.aliases ≡ [] → IsClosedTerm (term t)
+  type_is_closed : (k : ℕ) (t : Ty) → slice_get r.type_of_expr k ≡ Some (Some t) → raw.aliases ≡ [] → IsWritten (term t)
   type_is_closed k t at none = type_closed (scope_of raw d) none t (is.typed.shape.closed.exprs k t at) (is.fit.exprs k t at)
 
   recorded_at : (o : Option (Option Ty)) (t : Ty) → option_and_then (λ x. x) o ≡ Some t → o ≡ Some (Some t)

@@ -10,7 +10,8 @@ use Rattle.goal_answers.specs.Goals.{Asked, System, Each}
 use Rattle.goal_answers.specs.Answers.{answers}
 use Rattle.goal_facts.specs.declared.proof.Proof.{Proof}
 use Rattle.goal_facts.specs.Goals.{asked_goal}
-use Rattle.goal_prove.specs.Closed.{IsClosedTerm, AddsProofs}
+use Rattle.goal_prove.specs.Closed.{AddsProofs}
+use Rattle.goal_prove.specs.Staying.{IsWritten}
 use Rattle.infer_result.specs.declared.gaps.Gap.{Gap}
 use Rattle.infer_result.specs.declared.gaps.Gap.TheVariants as gap
 use Rattle.infer_result.specs.declared.result.InferenceResult.{InferenceResult}
@@ -23,7 +24,7 @@ use Rattle.infer_needs.specs.Told.{needs_of, needs_at}
 -- it is without holes, and no trait has an associated type
 pub record IsProvable (raw : RawFacts) (a : Asked) : Type 0 where
   pub aliases : raw.aliases ≡ []
-  pub closed : IsClosedTerm a.parts
+  pub written : IsWritten a.parts
 
 abbrev pub AreProvable : RawFacts → List Asked → Type 0
 AreProvable raw xs = Each (IsProvable raw) xs
