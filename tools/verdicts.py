@@ -208,7 +208,7 @@ def kind_of(judged, codes, complaints, said):
         return "items are pointers", True
     if unsaid or oversaid:
         kind = "{unknown} is called" if unsaid else "rustc doesn't know what is called"
-        return kind, alike and (complaints or codes & MISMATCHES == {"E0618"}) and is_excused(
+        return kind, alike and (complaints or codes & MISMATCHES - {"E0277"} == {"E0618"}) and is_excused(
             unsaid, oversaid, codes, report.types, nodes)
     if codes & MISMATCHES == {"E0277"} and not complaints:
         return "a written type asks" if None in bounds[0] else "an impl says a type", bounds_alike
