@@ -6,3 +6,4 @@ pub mod ListedBounds
 pub mod RulePlaces
 pub mod Systems
 pub mod Typed
+pub mod Written

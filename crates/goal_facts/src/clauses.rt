@@ -45,7 +45,7 @@ fn projection_goal(alloc: Global, alias: TypeAliasId, parts: &Term) -> Result<Go
 }
 
 /// The goal of inference that asks this, without lifetimes.
-fn goal_of(alloc: Global, asked: &Asked) -> Result<Goal, AllocError>
+pub fn goal_of(alloc: Global, asked: &Asked) -> Result<Goal, AllocError>
     ensures { IfOk result (λ made. (g : Goal) → asked_goal g ≡ asked_of asked.now → asked_goal made ≡ asked_of asked.now) }
 {
     match asked.kind {

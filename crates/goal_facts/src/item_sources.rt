@@ -4,6 +4,7 @@ ghost use Rattle.hir_types.specs.Terms.{term};
 ghost use Rattle.goal_answers.specs.Goals.{implements, is_among};
 ghost use Rattle.goal_answers.specs.Selecting.{IsChoice};
 ghost use Rattle.goal_search.specs.Sources.{system};
+ghost use Rattle.goal_search.specs.Searching.{SystemHasHeads};
 ghost use Rattle.goal_search.specs.Sized.{IsSizedAt};
 ghost use Rattle.goal_search.specs.Choosing.{choice_of};
 ghost use Rattle.goal_facts.specs.Goals.{asked_goal, IsAnswer};
@@ -80,6 +81,21 @@ impl<'a> ItemSources<'a> {
         ensures { result ≡ self.now.item }
     {
         self.item
+    }
+
+    /// What goals are answered by.
+    pub fn listed(&self) -> &Sources
+        ensures is { result.now ≡ self.now.sources }
+        ensures heads { SystemHasHeads (system self.now.sources) }
+    {
+        &self.sources
+    }
+
+    /// A search for answers that has found nothing.
+    pub fn search(&self, alloc: Global) -> Search<'_>
+        ensures { result ≡ self.now.sources }
+    {
+        Search::new(alloc, &self.sources)
     }
 
     /// Whether this is the trait of types with a size.

@@ -1,2 +1,5 @@
-pub mod Closed
-pub mod Steps
+pub mod Staying
+pub mod Marks
+pub mod Parts
+pub mod Entries
+pub mod Asking

@@ -1,8 +1,10 @@
 //! Proofs of goals without holes, as `Yes` answers have them.
 #![tactic(auto)]
 
-mod parts;
+mod fits;
+mod listed;
+mod lower;
 mod prove;
-mod rules;
+mod types;
 
 pub use prove::prove_goal;

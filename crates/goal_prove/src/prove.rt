@@ -1,24 +1,361 @@
-//! The proof of a goal without holes: by the first source of which each predicate has a proof.
-ghost use Rattle.std.specs.Prelude.{◌≡◌, ◌<◌, ◌≤◌, ◌+◌, [], true, false, length, IfOk, OnOk};
-ghost use Rattle.hir_types.specs.declared.goal.Goal.TheVariants as goal_of;
-ghost use Rattle.goal_answers.specs.Goals.{implements, is_among, Each};
+//! The proof of a goal whose answer is Yes, by what the answer was found by.
+ghost use Rattle.std.specs.Prelude.{◌≡◌, ◌+◌, ◌≤◌, slice_get, Some, IfOk, OnOk};
+ghost use Rattle.goal_answers.specs.Goals.{Each, Rule};
 ghost use Rattle.goal_answers.specs.Answers.{answers};
-ghost use Rattle.goal_search.specs.Sources.{system};
-ghost use Rattle.goal_facts.specs.Goals.{trait_goal};
-ghost use Rattle.goal_prove.specs.Closed.{IsClosedTerm, IsClosedGoal, AddsProofs, KeepsIfNone, IsProvedIf};
-ghost use Rattle.goal_prove.specs.Steps.{FindsOr, FindsAll, IsPushed, IsNotYes, AreNotYes, IsNotByParts, IsStated, IsSourceOf, NoRuleOf, IsNotByRules};
+ghost use Rattle.goal_answers.specs.Steps.{known_below};
+ghost use Rattle.goal_terms.specs.Terms.{term_of, HasHeads};
+ghost use Rattle.goal_search.specs.Holes.{holes_fill};
+ghost use Rattle.goal_search.specs.Sources.{kind_of, asked_of, asked_list, system};
+ghost use Rattle.goal_facts.specs.Goals.{asked_goal};
+ghost use Rattle.goal_facts.specs.ImplGoals.{ComesFrom};
+ghost use Rattle.goal_prove.specs.Entries.{AddsProofs, KeepsIfNone, IsProvedIf};
+ghost use Rattle.goal_prove.specs.Staying.{IsWritten};
+ghost use Rattle.goal_prove.specs.Asking.{deep_alias, ReadsTo, IsAsked, IsFit, FitsNot, PredIsAsked, IsProved, IsProvedAs, IsSourced, IsPredProved, ArePredsProved};
 
-use crate::parts::goals_of_parts;
-use crate::rules::rule_at;
-use goal_facts::{Answer, ItemSources, Proof, ProofSource};
+use crate::fits::{Found, find_fit};
+use crate::listed::{proof_since, push_proof};
+use crate::lower::{copied_goals, is_itself, search_of, sources_of};
+use crate::types::{fill_args, goal_read};
+use goal_facts::{Answer, ItemSources, Proof, ProofSource, asked};
+use goal_search::{Asked, Holes, Kind, Search, is_among};
+use goal_terms::Term;
 use hir_facts::{Goal, ImplId, List};
-use hir_types::TraitRef;
 use std::alloc::{AllocError, Global};
 
-/// Adds a proof of a goal without holes, behind those of what its source asks for, where its answer
-/// at this depth is Yes; gives its number. Where it finds none it adds none. No trait may have an associated
-/// type.
+/// How many levels a term may have.
+const MOST_LEVELS: u32 = 8192;
+
+/// Adds a proof of a goal that reads as the target, behind those of what its source asks for; gives its
+/// number. No goal is proved again whose proof is listed from `since` on.
 #[cycle(prove)]
+fn prove(
+    alloc: Global,
+    sources: &ItemSources<'_>,
+    search: &mut Search<'_>,
+    goal: &Goal,
+    kind: Kind,
+    target: &Term,
+    depth: u32,
+    since: usize,
+    proofs: &mut Vec<Proof>,
+) -> Result<usize, AllocError>
+    requires same { search.old ≡ sources.now.sources }
+    requires depth { depth ≤ sources.now.facts.limits.goal_depth }
+    requires goal { ReadsTo sources.now.facts (system sources.now.sources) goal.now (kind_of kind) (term_of target.now) }
+    requires asked { IsAsked sources.now.facts (system sources.now.sources) depth (kind_of kind) (term_of target.now) }
+    ensures same { search.new ≡ search.old }
+    ensures proved { IfOk result (λ number. IsProvedAs sources.now.facts (system sources.now.sources) proofs.old.items proofs.new.items goal.now number) }
+{
+    if let Some(number) = proof_since(alloc, goal, since, proofs.as_slice())? {
+        return Ok(number);
+    }
+    let number = prove_anew(
+        alloc, sources, search, goal, kind, target, depth, since, proofs,
+    )?;
+    Ok(number)
+}
+
+/// The same of a goal that has no proof yet.
+#[cycle(prove)]
+fn prove_anew(
+    alloc: Global,
+    sources: &ItemSources<'_>,
+    search: &mut Search<'_>,
+    goal: &Goal,
+    kind: Kind,
+    target: &Term,
+    depth: u32,
+    since: usize,
+    proofs: &mut Vec<Proof>,
+) -> Result<usize, AllocError>
+    requires same { search.old ≡ sources.now.sources }
+    requires depth { depth ≤ sources.now.facts.limits.goal_depth }
+    requires goal { ReadsTo sources.now.facts (system sources.now.sources) goal.now (kind_of kind) (term_of target.now) }
+    requires asked { IsAsked sources.now.facts (system sources.now.sources) depth (kind_of kind) (term_of target.now) }
+    ensures same { search.new ≡ search.old }
+    ensures proved { IfOk result (λ number. IsProved sources.now.facts (system sources.now.sources) proofs.old.items proofs.new.items goal.now number) }
+{
+    sources.facts().lawful();
+    let listed = sources_of(sources)?;
+    let deepest = sources.facts().raw().limits.goal_depth;
+    match find_fit(search, listed.clauses.as_slice(), kind, target, deepest)? {
+        Some(found) => prove_by_clause(alloc, sources, goal, kind, target, depth, found, proofs),
+        None => prove_freely(
+            alloc, sources, search, goal, kind, target, depth, since, proofs,
+        ),
+    }
+}
+
+/// Proves a goal by a clause.
+fn prove_by_clause(
+    alloc: Global,
+    sources: &ItemSources<'_>,
+    goal: &Goal,
+    kind: Kind,
+    target: &Term,
+    depth: u32,
+    found: Found,
+    proofs: &mut Vec<Proof>,
+) -> Result<usize, AllocError>
+    requires depth { depth ≤ sources.now.facts.limits.goal_depth }
+    requires goal { ReadsTo sources.now.facts (system sources.now.sources) goal.now (kind_of kind) (term_of target.now) }
+    requires asked { IsAsked sources.now.facts (system sources.now.sources) depth (kind_of kind) (term_of target.now) }
+    requires fit { IsFit (deep_alias sources.now.facts (system sources.now.sources)) (known_below (system sources.now.sources) sources.now.facts.limits.goal_depth) (system sources.now.sources).clauses (kind_of kind) (term_of target.now) found }
+    ensures { IfOk result (λ number. IsProved sources.now.facts (system sources.now.sources) proofs.old.items proofs.new.items goal.now number) }
+{
+    sources.lawful();
+    let clause = sources.clause(alloc, found.place)?;
+    let source = ProofSource::Clause(clause);
+    push_proof(alloc, goal, source, List::new(alloc), proofs)
+}
+
+/// Proves a goal that no clause is.
+#[cycle(prove)]
+fn prove_freely(
+    alloc: Global,
+    sources: &ItemSources<'_>,
+    search: &mut Search<'_>,
+    goal: &Goal,
+    kind: Kind,
+    target: &Term,
+    depth: u32,
+    since: usize,
+    proofs: &mut Vec<Proof>,
+) -> Result<usize, AllocError>
+    requires same { search.old ≡ sources.now.sources }
+    requires depth { depth ≤ sources.now.facts.limits.goal_depth }
+    requires goal { ReadsTo sources.now.facts (system sources.now.sources) goal.now (kind_of kind) (term_of target.now) }
+    requires asked { IsAsked sources.now.facts (system sources.now.sources) depth (kind_of kind) (term_of target.now) }
+    requires unfit { Each (FitsNot (deep_alias sources.now.facts (system sources.now.sources)) (known_below (system sources.now.sources) sources.now.facts.limits.goal_depth) (kind_of kind) (term_of target.now)) (system sources.now.sources).clauses }
+    ensures same { search.new ≡ search.old }
+    ensures proved { IfOk result (λ number. IsProved sources.now.facts (system sources.now.sources) proofs.old.items proofs.new.items goal.now number) }
+{
+    sources.lawful();
+    sources.facts().lawful();
+    let listed = sources_of(sources)?;
+    if is_among(listed.sized.as_slice(), kind) {
+        return push_proof(alloc, goal, ProofSource::BuiltIn, List::new(alloc), proofs);
+    }
+    match is_itself(alloc, kind, target)? {
+        Answer::Yes => push_proof(alloc, goal, ProofSource::BuiltIn, List::new(alloc), proofs),
+        Answer::No | Answer::Undecided => prove_by_rules(
+            alloc, sources, search, goal, kind, target, depth, since, proofs,
+        ),
+    }
+}
+
+/// Proves a goal that has a source, and that no clause is, by a rule, or else by the parts of its self type.
+#[cycle(prove)]
+fn prove_by_rules(
+    alloc: Global,
+    sources: &ItemSources<'_>,
+    search: &mut Search<'_>,
+    goal: &Goal,
+    kind: Kind,
+    target: &Term,
+    depth: u32,
+    since: usize,
+    proofs: &mut Vec<Proof>,
+) -> Result<usize, AllocError>
+    requires same { search.old ≡ sources.now.sources }
+    requires depth { depth ≤ sources.now.facts.limits.goal_depth }
+    requires goal { ReadsTo sources.now.facts (system sources.now.sources) goal.now (kind_of kind) (term_of target.now) }
+    requires asked { IsAsked sources.now.facts (system sources.now.sources) depth (kind_of kind) (term_of target.now) }
+    requires unfit { Each (FitsNot (deep_alias sources.now.facts (system sources.now.sources)) (known_below (system sources.now.sources) sources.now.facts.limits.goal_depth) (kind_of kind) (term_of target.now)) (system sources.now.sources).clauses }
+    requires sourced { IsSourced sources.now.facts (system sources.now.sources) depth (kind_of kind) (term_of target.now) }
+    ensures same { search.new ≡ search.old }
+    ensures proved { IfOk result (λ number. IsProved sources.now.facts (system sources.now.sources) proofs.old.items proofs.new.items goal.now number) }
+{
+    sources.facts().lawful();
+    let listed = sources_of(sources)?;
+    match find_fit(search, listed.rules.as_slice(), kind, target, depth)? {
+        Some(found) => prove_by_rule(
+            alloc, sources, search, goal, kind, target, found, depth, since, proofs,
+        ),
+        None => prove_by_parts(
+            alloc, sources, search, goal, kind, target, depth, since, proofs,
+        ),
+    }
+}
+
+/// Proves a goal by a rule.
+#[cycle(prove)]
+fn prove_by_rule(
+    alloc: Global,
+    sources: &ItemSources<'_>,
+    search: &mut Search<'_>,
+    goal: &Goal,
+    kind: Kind,
+    target: &Term,
+    found: Found,
+    depth: u32,
+    since: usize,
+    proofs: &mut Vec<Proof>,
+) -> Result<usize, AllocError>
+    requires same { search.old ≡ sources.now.sources }
+    requires depth { depth ≤ sources.now.facts.limits.goal_depth }
+    requires goal { ReadsTo sources.now.facts (system sources.now.sources) goal.now (kind_of kind) (term_of target.now) }
+    requires asked { IsAsked sources.now.facts (system sources.now.sources) depth (kind_of kind) (term_of target.now) }
+    requires sourced { IsSourced sources.now.facts (system sources.now.sources) depth (kind_of kind) (term_of target.now) }
+    requires fit { IsFit (answers (system sources.now.sources) depth).Alias (known_below (system sources.now.sources) depth) (system sources.now.sources).rules (kind_of kind) (term_of target.now) found }
+    ensures same { search.new ≡ search.old }
+    ensures proved { IfOk result (λ number. IsProved sources.now.facts (system sources.now.sources) proofs.old.items proofs.new.items goal.now number) }
+{
+    sources.lawful();
+    match sources.rule_impl(found.place)? {
+        Some(id) => prove_by_impl(
+            alloc, sources, search, goal, kind, target, found, id, depth, since, proofs,
+        ),
+        None => push_proof(alloc, goal, ProofSource::BuiltIn, List::new(alloc), proofs),
+    }
+}
+
+/// Proves a goal by a rule of an impl.
+#[cycle(prove)]
+fn prove_by_impl(
+    alloc: Global,
+    sources: &ItemSources<'_>,
+    search: &mut Search<'_>,
+    goal: &Goal,
+    kind: Kind,
+    target: &Term,
+    found: Found,
+    id: ImplId,
+    depth: u32,
+    since: usize,
+    proofs: &mut Vec<Proof>,
+) -> Result<usize, AllocError>
+    requires same { search.old ≡ sources.now.sources }
+    requires depth { depth ≤ sources.now.facts.limits.goal_depth }
+    requires goal { ReadsTo sources.now.facts (system sources.now.sources) goal.now (kind_of kind) (term_of target.now) }
+    requires asked { IsAsked sources.now.facts (system sources.now.sources) depth (kind_of kind) (term_of target.now) }
+    requires sourced { IsSourced sources.now.facts (system sources.now.sources) depth (kind_of kind) (term_of target.now) }
+    requires fit { IsFit (answers (system sources.now.sources) depth).Alias (known_below (system sources.now.sources) depth) (system sources.now.sources).rules (kind_of kind) (term_of target.now) found }
+    requires of { (r : Rule) → slice_get (system sources.now.sources).rules found.place ≡ Some r → ComesFrom sources.now.facts r (Some id) }
+    ensures same { search.new ≡ search.old }
+    ensures proved { IfOk result (λ number. IsProved sources.now.facts (system sources.now.sources) proofs.old.items proofs.new.items goal.now number) }
+{
+    sources.lawful();
+    sources.facts().lawful();
+    let listed = sources_of(sources)?;
+    let item = sources.facts().impl_(id);
+    let args = fill_args(alloc, found.fills.as_slice(), item.params.len())?;
+    let rule = &listed.rules.as_slice()[found.place];
+    let holes = Holes::Filled(found.fills.as_slice());
+    let preds = rule.preds.as_slice();
+    let children = prove_all(alloc, sources, search, preds, holes, depth, since, proofs)?;
+    push_proof(alloc, goal, ProofSource::Impl(id, args), children, proofs)
+}
+
+/// Proves a goal that neither a clause nor a rule is by the parts of its self type.
+#[cycle(prove)]
+fn prove_by_parts(
+    alloc: Global,
+    sources: &ItemSources<'_>,
+    search: &mut Search<'_>,
+    goal: &Goal,
+    kind: Kind,
+    target: &Term,
+    depth: u32,
+    since: usize,
+    proofs: &mut Vec<Proof>,
+) -> Result<usize, AllocError>
+    requires same { search.old ≡ sources.now.sources }
+    requires depth { depth ≤ sources.now.facts.limits.goal_depth }
+    requires goal { ReadsTo sources.now.facts (system sources.now.sources) goal.now (kind_of kind) (term_of target.now) }
+    requires asked { IsAsked sources.now.facts (system sources.now.sources) depth (kind_of kind) (term_of target.now) }
+    requires sourced { IsSourced sources.now.facts (system sources.now.sources) depth (kind_of kind) (term_of target.now) }
+    requires unfit { Each (FitsNot (answers (system sources.now.sources) depth).Alias (known_below (system sources.now.sources) depth) (kind_of kind) (term_of target.now)) (system sources.now.sources).rules }
+    ensures same { search.new ≡ search.old }
+    ensures proved { IfOk result (λ number. IsProved sources.now.facts (system sources.now.sources) proofs.old.items proofs.new.items goal.now number) }
+{
+    sources.lawful();
+    let listed = sources_of(sources)?;
+    let Some(goals) = copied_goals(alloc, listed, kind, target)? else {
+        unreachable!()
+    };
+    let children = prove_all(
+        alloc,
+        sources,
+        search,
+        goals.as_slice(),
+        Holes::Stay,
+        depth,
+        since,
+        proofs,
+    )?;
+    push_proof(alloc, goal, ProofSource::BuiltIn, children, proofs)
+}
+
+/// Proves each predicate, with what stands for its holes, below the depth.
+#[cycle(prove)]
+fn prove_all(
+    alloc: Global,
+    sources: &ItemSources<'_>,
+    search: &mut Search<'_>,
+    preds: &[Asked],
+    holes: Holes<'_>,
+    depth: u32,
+    since: usize,
+    proofs: &mut Vec<Proof>,
+) -> Result<List<usize>, AllocError>
+    requires same { search.old ≡ sources.now.sources }
+    requires depth { depth ≤ sources.now.facts.limits.goal_depth }
+    requires preds { Each (PredIsAsked sources.now.facts (system sources.now.sources) depth (holes_fill holes)) (asked_list preds.now) }
+    ensures same { search.new ≡ search.old }
+    ensures proved { IfOk result (λ numbers. ArePredsProved sources.now.facts (system sources.now.sources) (holes_fill holes.entry) proofs.old.items proofs.new.items (asked_list preds.now) numbers) }
+{
+    let mut children = List::new(alloc);
+    for pred in preds {
+        let number = prove_pred(alloc, sources, search, pred, holes, depth, since, proofs)?;
+        children.push(number)?;
+    }
+    Ok(children)
+}
+
+/// Proves a predicate, with what stands for its holes, below the depth.
+#[cycle(prove)]
+fn prove_pred(
+    alloc: Global,
+    sources: &ItemSources<'_>,
+    search: &mut Search<'_>,
+    pred: &Asked,
+    holes: Holes<'_>,
+    depth: u32,
+    since: usize,
+    proofs: &mut Vec<Proof>,
+) -> Result<usize, AllocError>
+    requires same { search.old ≡ sources.now.sources }
+    requires depth { depth ≤ sources.now.facts.limits.goal_depth }
+    requires pred { PredIsAsked sources.now.facts (system sources.now.sources) depth (holes_fill holes) (asked_of pred.now) }
+    ensures same { search.new ≡ search.old }
+    ensures proved { IfOk result (λ number. IsPredProved sources.now.facts (system sources.now.sources) (holes_fill holes.entry) proofs.old.items proofs.new.items (asked_of pred.now) number) }
+{
+    sources.lawful();
+    let _listed = sources_of(sources)?;
+    let Some(below) = depth.checked_sub(1) else {
+        unreachable!()
+    };
+    let Some(target) = search.read(&pred.parts, holes, below, MOST_LEVELS)? else {
+        unreachable!()
+    };
+    let goal = goal_read(alloc, pred.kind, &target)?;
+    let number = prove(
+        alloc, sources, search, &goal, pred.kind, &target, below, since, proofs,
+    )?;
+    Ok(number)
+}
+
+/// One step more than to the depth.
+fn one_more(depth: u32) -> Result<u32, AllocError>
+    ensures { IfOk result (λ steps. steps ≡ depth + 1) }
+{
+    // No goal is followed so deep.
+    depth.checked_add(1).ok_or(AllocError)
+}
+
+/// Adds a proof of a goal without holes, behind those of what its source asks for, where its answer at
+/// this depth is Yes; gives its number. Else it adds none.
 pub fn prove_goal(
     alloc: Global,
     sources: &ItemSources<'_>,
@@ -26,304 +363,50 @@ pub fn prove_goal(
     depth: u32,
     proofs: &mut Vec<Proof>,
 ) -> Result<Option<usize>, AllocError>
-    requires aliases { sources.now.facts.aliases ≡ [] }
-    requires closed { IsClosedGoal goal.now }
+    requires written { IsWritten (asked_goal goal.now).parts }
     requires depth { depth ≤ sources.now.facts.limits.goal_depth }
     ensures adds { OnOk result (AddsProofs sources.now.facts (system sources.now.sources) proofs.old.items proofs.new.items) }
     ensures proved { IfOk result (λ found. IsProvedIf (system sources.now.sources) depth proofs.new.items goal.now found) }
     ensures keeps { IfOk result (λ found. KeepsIfNone proofs.old.items proofs.new.items found) }
 {
-    match goal {
-        Goal::Trait(trait_ref) => prove_trait(alloc, sources, trait_ref, depth, proofs),
-        Goal::Projection { .. } => {
-            sources.lawful();
-            sources.facts().lawful();
-            Ok(None)
+    let asked = asked(alloc, goal)?;
+    let mut search = search_of(alloc, sources)?;
+    let steps = one_more(depth)?;
+    match search.evaluate(&asked, Holes::Stay, steps)? {
+        Answer::Yes => {
+            let number = prove_yes(alloc, sources, &mut search, goal, &asked, depth, proofs)?;
+            Ok(Some(number))
         }
+        Answer::No | Answer::Undecided => Ok(None),
     }
 }
 
-/// The same of a goal about a trait.
-#[cycle(prove)]
-fn prove_trait(
+/// Adds a proof of a goal whose answer at the depth is Yes; gives its number.
+fn prove_yes(
     alloc: Global,
     sources: &ItemSources<'_>,
-    goal: &TraitRef,
+    search: &mut Search<'_>,
+    goal: &Goal,
+    asked: &Asked,
     depth: u32,
     proofs: &mut Vec<Proof>,
-) -> Result<Option<usize>, AllocError>
-    requires aliases { sources.now.facts.aliases ≡ [] }
-    requires closed { IsClosedTerm (trait_goal goal.now).parts }
+) -> Result<usize, AllocError>
+    requires same { search.old ≡ sources.now.sources }
     requires depth { depth ≤ sources.now.facts.limits.goal_depth }
-    ensures { IfOk result (λ found. FindsOr sources.now.facts (system sources.now.sources) (IsNotYes (system sources.now.sources) depth (trait_goal goal.now)) proofs.old.items proofs.new.items (goal_of.Trait goal.now) found) }
+    requires written { IsWritten (asked_goal goal.now).parts }
+    requires asked { asked_of asked.now ≡ asked_goal goal.now }
+    requires heads { HasHeads (term_of asked.now.parts) }
+    requires yes { (answers (system sources.now.sources) depth).Yes (asked_goal goal.now) }
+    ensures { IfOk result (λ number. IsProved sources.now.facts (system sources.now.sources) proofs.old.items proofs.new.items goal.now number) }
 {
     sources.lawful();
-    if sources.is_of_sizes(goal.id) {
-        return prove_size(alloc, sources, goal, proofs);
-    }
-    let asked = Goal::Trait(goal.dup(alloc)?);
-    let stated = sources.is_clause(alloc, &asked)?;
-    if stated {
-        let source = ProofSource::Clause(asked);
-        return push_proof(alloc, goal, source, List::new(alloc), proofs);
-    }
-    match depth.checked_sub(1) {
-        Some(below) => prove_by_rules(alloc, sources, goal, below, proofs),
-        None => Ok(None),
-    }
-}
-
-/// Proves that a type has a size, by a clause where one says so.
-fn prove_size(
-    alloc: Global,
-    sources: &ItemSources<'_>,
-    goal: &TraitRef,
-    proofs: &mut Vec<Proof>,
-) -> Result<Option<usize>, AllocError>
-    requires aliases { sources.now.facts.aliases ≡ [] }
-    requires closed { IsClosedTerm (trait_goal goal.now).parts }
-    requires sized { is_among (system sources.now.sources).sized (implements goal.now.id) ≡ true }
-    ensures { IfOk result (λ found. FindsOr sources.now.facts (system sources.now.sources) (IsNotYes (system sources.now.sources) sources.now.facts.limits.goal_depth (trait_goal goal.now)) proofs.old.items proofs.new.items (goal_of.Trait goal.now) found) }
-{
-    sources.facts().lawful();
-    let size = Goal::Trait(goal.dup(alloc)?);
-    let answer = sources.evaluate(alloc, &size)?;
-    match answer {
-        Answer::Yes => prove_known_size(alloc, sources, goal, size, proofs),
-        Answer::No => Ok(None),
-        Answer::Undecided => Ok(None),
-    }
-}
-
-/// The same where it is known to have one.
-fn prove_known_size(
-    alloc: Global,
-    sources: &ItemSources<'_>,
-    goal: &TraitRef,
-    size: Goal,
-    proofs: &mut Vec<Proof>,
-) -> Result<Option<usize>, AllocError>
-    requires aliases { sources.now.facts.aliases ≡ [] }
-    requires closed { IsClosedTerm (trait_goal goal.now).parts }
-    requires sized { is_among (system sources.now.sources).sized (implements goal.now.id) ≡ true }
-    requires size { size ≡ goal_of.Trait goal.now }
-    requires known { (answers (system sources.now.sources) sources.now.facts.limits.goal_depth).Yes (trait_goal goal.now) }
-    ensures { IfOk result (λ found. FindsOr sources.now.facts (system sources.now.sources) (IsNotYes (system sources.now.sources) sources.now.facts.limits.goal_depth (trait_goal goal.now)) proofs.old.items proofs.new.items (goal_of.Trait goal.now) found) }
-{
-    sources.lawful();
-    sources.facts().lawful();
-    let stated = sources.is_clause(alloc, &size)?;
-    if stated {
-        let source = ProofSource::Clause(size);
-        push_proof(alloc, goal, source, List::new(alloc), proofs)
-    } else {
-        push_proof(alloc, goal, ProofSource::BuiltIn, List::new(alloc), proofs)
-    }
-}
-
-/// Adds a proof; gives its number.
-fn push_proof(
-    alloc: Global,
-    goal: &TraitRef,
-    source: ProofSource,
-    children: List<usize>,
-    proofs: &mut Vec<Proof>,
-) -> Result<Option<usize>, AllocError>
-    ensures { IfOk result (λ found. IsPushed proofs.old.items proofs.new.items (record { goal = goal_of.Trait goal.now; source = source; children = children }) found) }
-{
-    let number = proofs.len();
-    let goal = Goal::Trait(goal.dup(alloc)?);
-    proofs.push(Proof {
-        goal,
-        source,
-        children,
-    })?;
-    Ok(Some(number))
-}
-
-/// Proves a goal that no clause is, by an impl, or else since its parts are copied; what these ask for
-/// at this depth.
-#[cycle(prove)]
-fn prove_by_rules(
-    alloc: Global,
-    sources: &ItemSources<'_>,
-    goal: &TraitRef,
-    depth: u32,
-    proofs: &mut Vec<Proof>,
-) -> Result<Option<usize>, AllocError>
-    requires aliases { sources.now.facts.aliases ≡ [] }
-    requires closed { IsClosedTerm (trait_goal goal.now).parts }
-    requires depth { depth < sources.now.facts.limits.goal_depth }
-    requires unstated { IsStated (system sources.now.sources) (trait_goal goal.now) → ⊥ }
-    requires no_size { is_among (system sources.now.sources).sized (implements goal.now.id) ≡ false }
-    ensures { IfOk result (λ found. FindsOr sources.now.facts (system sources.now.sources) (IsNotYes (system sources.now.sources) (depth + 1) (trait_goal goal.now)) proofs.old.items proofs.new.items (goal_of.Trait goal.now) found) }
-{
-    sources.lawful();
-    sources.facts().lawful();
-    match prove_by_impls(alloc, sources, goal, depth, proofs)? {
-        Some(found) => Ok(Some(found)),
-        None => prove_by_parts(alloc, sources, goal, depth, proofs),
-    }
-}
-
-/// Proves a goal that no clause is by the parts of its self type.
-#[cycle(prove)]
-fn prove_by_parts(
-    alloc: Global,
-    sources: &ItemSources<'_>,
-    goal: &TraitRef,
-    depth: u32,
-    proofs: &mut Vec<Proof>,
-) -> Result<Option<usize>, AllocError>
-    requires aliases { sources.now.facts.aliases ≡ [] }
-    requires closed { IsClosedTerm (trait_goal goal.now).parts }
-    requires depth { depth < sources.now.facts.limits.goal_depth }
-    requires unstated { IsStated (system sources.now.sources) (trait_goal goal.now) → ⊥ }
-    requires no_size { is_among (system sources.now.sources).sized (implements goal.now.id) ≡ false }
-    ensures { IfOk result (λ found. FindsOr sources.now.facts (system sources.now.sources) (IsNotByParts (system sources.now.sources) depth (trait_goal goal.now)) proofs.old.items proofs.new.items (goal_of.Trait goal.now) found) }
-{
-    sources.lawful();
-    sources.facts().lawful();
-    match goals_of_parts(alloc, sources, goal)? {
-        Some(parts) => {
-            let source = ProofSource::BuiltIn;
-            prove_from(
-                alloc,
-                sources,
-                goal,
-                source,
-                parts.as_slice(),
-                depth,
-                proofs,
-            )
-        }
-        None => Ok(None),
-    }
-}
-
-/// The impl of this number.
-fn impl_number(number: usize) -> Result<ImplId, AllocError>
-    ensures { IfOk result (λ id. id.0 ≡ number) }
-{
-    // No list of so many impls is in memory.
-    let number = u32::try_from(number).map_err(|_| AllocError)?;
-    Ok(ImplId(number))
-}
-
-/// Proves a goal that no clause is by the first impl of which each predicate has a proof.
-#[cycle(prove)]
-fn prove_by_impls(
-    alloc: Global,
-    sources: &ItemSources<'_>,
-    goal: &TraitRef,
-    depth: u32,
-    proofs: &mut Vec<Proof>,
-) -> Result<Option<usize>, AllocError>
-    requires aliases { sources.now.facts.aliases ≡ [] }
-    requires closed { IsClosedTerm (trait_goal goal.now).parts }
-    requires depth { depth < sources.now.facts.limits.goal_depth }
-    requires unstated { IsStated (system sources.now.sources) (trait_goal goal.now) → ⊥ }
-    requires no_size { is_among (system sources.now.sources).sized (implements goal.now.id) ≡ false }
-    ensures { IfOk result (λ found. FindsOr sources.now.facts (system sources.now.sources) (IsNotByRules (system sources.now.sources) depth (trait_goal goal.now)) proofs.old.items proofs.new.items (goal_of.Trait goal.now) found) }
-{
-    sources.lawful();
-    sources.facts().lawful();
-    let count = sources.facts().raw().impls.len();
-    for number in 0..count {
-        let id = impl_number(number)?;
-        match prove_by_impl(alloc, sources, goal, id, depth, proofs)? {
-            Some(found) => return Ok(Some(found)),
-            None => {}
-        }
-    }
-    Ok(None)
-}
-
-/// Proves a goal that no clause is by an impl.
-#[cycle(prove)]
-fn prove_by_impl(
-    alloc: Global,
-    sources: &ItemSources<'_>,
-    goal: &TraitRef,
-    id: ImplId,
-    depth: u32,
-    proofs: &mut Vec<Proof>,
-) -> Result<Option<usize>, AllocError>
-    requires aliases { sources.now.facts.aliases ≡ [] }
-    requires closed { IsClosedTerm (trait_goal goal.now).parts }
-    requires id { id.0 < length sources.now.facts.impls }
-    requires depth { depth < sources.now.facts.limits.goal_depth }
-    requires unstated { IsStated (system sources.now.sources) (trait_goal goal.now) → ⊥ }
-    requires no_size { is_among (system sources.now.sources).sized (implements goal.now.id) ≡ false }
-    ensures { IfOk result (λ found. FindsOr sources.now.facts (system sources.now.sources) (NoRuleOf sources.now.facts (system sources.now.sources) depth (trait_goal goal.now) id) proofs.old.items proofs.new.items (goal_of.Trait goal.now) found) }
-{
-    sources.lawful();
-    sources.facts().lawful();
-    match rule_at(alloc, sources, goal, id)? {
-        Some(rule) => {
-            let source = ProofSource::Impl(rule.source, rule.args);
-            prove_from(
-                alloc,
-                sources,
-                goal,
-                source,
-                rule.preds.as_slice(),
-                depth,
-                proofs,
-            )
-        }
-        None => Ok(None),
-    }
-}
-
-/// Proves a goal by a source that asks for these.
-#[cycle(prove)]
-fn prove_from(
-    alloc: Global,
-    sources: &ItemSources<'_>,
-    goal: &TraitRef,
-    source: ProofSource,
-    preds: &[Goal],
-    depth: u32,
-    proofs: &mut Vec<Proof>,
-) -> Result<Option<usize>, AllocError>
-    requires aliases { sources.now.facts.aliases ≡ [] }
-    requires closed { Each IsClosedGoal preds.now }
-    requires depth { depth ≤ sources.now.facts.limits.goal_depth }
-    requires source { IsSourceOf sources.now.facts (system sources.now.sources) (goal_of.Trait goal.now) source preds.now }
-    requires no_size { is_among (system sources.now.sources).sized (implements goal.now.id) ≡ false }
-    ensures { IfOk result (λ found. FindsOr sources.now.facts (system sources.now.sources) (AreNotYes (system sources.now.sources) depth preds.now) proofs.old.items proofs.new.items (goal_of.Trait goal.now) found) }
-{
-    match prove_all(alloc, sources, preds, depth, proofs)? {
-        Some(children) => push_proof(alloc, goal, source, children, proofs),
-        None => Ok(None),
-    }
-}
-
-/// Proves each goal, or adds no proof.
-#[cycle(prove)]
-fn prove_all(
-    alloc: Global,
-    sources: &ItemSources<'_>,
-    goals: &[Goal],
-    depth: u32,
-    proofs: &mut Vec<Proof>,
-) -> Result<Option<List<usize>>, AllocError>
-    requires aliases { sources.now.facts.aliases ≡ [] }
-    requires closed { Each IsClosedGoal goals.now }
-    requires depth { depth ≤ sources.now.facts.limits.goal_depth }
-    ensures { IfOk result (λ found. FindsAll sources.now.facts (system sources.now.sources) depth proofs.old.items proofs.new.items goals.now found) }
-{
-    let before = proofs.as_slice().len();
-    let mut children = List::new(alloc);
-    for goal in goals {
-        match prove_goal(alloc, sources, goal, depth, proofs)? {
-            Some(number) => children.push(number)?,
-            None => {
-                proofs.truncate(before);
-                return Ok(None);
-            }
-        }
-    }
-    Ok(Some(children))
+    let _listed = sources_of(sources)?;
+    let Some(target) = search.read(&asked.parts, Holes::Stay, depth, MOST_LEVELS)? else {
+        unreachable!()
+    };
+    let since = proofs.len();
+    let number = prove_anew(
+        alloc, sources, search, goal, asked.kind, &target, depth, since, proofs,
+    )?;
+    Ok(number)
 }

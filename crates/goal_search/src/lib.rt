@@ -15,8 +15,10 @@ mod told;
 
 pub use answer::Answer;
 pub use choose::Choice;
+pub use first::is_itself;
 pub use holes::Holes;
 pub use parts::{is_among, is_same_kind, key_of, self_type};
-pub use rows::field_at;
+pub use rows::{Copies, copied_goals, field_at};
+pub use rules::Side;
 pub use search::Search;
 pub use sources::{Asked, Kind, Rule, Sources};

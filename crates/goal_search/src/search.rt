@@ -166,7 +166,7 @@ impl<'a> Search<'a> {
 
     /// What stands for the holes of a rule where its side reads as the target and its predicates are Yes.
     #[cycle(evaluate)]
-    pub(crate) fn fits(
+    pub fn fits(
         &mut self,
         rule: &Rule,
         side: Side,

@@ -2,7 +2,7 @@
 ghost use Rattle.std.specs.Prelude.{◌≡◌, ◌↔◌, IsTrue, IfOk};
 ghost use Rattle.hir_types.specs.Terms.{leaf, pair, hole_eq};
 ghost use Rattle.goal_answers.specs.Reading.{role, IsRead};
-ghost use Rattle.goal_terms.specs.Terms.{term_of, role_of, IsHead, HasHeads};
+ghost use Rattle.goal_terms.specs.Terms.{term_of, role_of, HasHeads};
 
 use hir_types::{Boxed, Head, Hole, TypeAliasId};
 use std::alloc::{AllocError, Global};
@@ -120,35 +120,6 @@ impl Term {
         match self {
             Term::Leaf(head) => head_role(*head),
             Term::Hole(_) | Term::Pair(_, _) => Role::Plain,
-        }
-    }
-
-    /// Whether the term may be the first part of a pair: it is neither a hole nor an alias.
-    #[tactic(auto, using(crate::specs::Terms::term_is))]
-    pub fn is_head(&self) -> bool
-        ensures { IsTrue result ↔ IsHead (term_of self.now) }
-    {
-        match self {
-            Term::Hole(_) => false,
-            Term::Leaf(_) => true,
-            Term::Pair(first, _) => match first.get().role() {
-                Role::Plain => true,
-                Role::Alias(_) => false,
-            },
-        }
-    }
-
-    /// Whether the first part of each pair is neither a hole nor an alias, as in all types and
-    /// lists of their arguments.
-    #[tactic(auto, using(crate::specs::Terms::term_is))]
-    pub fn has_heads(&self) -> bool
-        ensures { IsTrue result ↔ HasHeads (term_of self.now) }
-    {
-        match self {
-            Term::Hole(_) | Term::Leaf(_) => true,
-            Term::Pair(left, right) => {
-                left.get().is_head() && left.get().has_heads() && right.get().has_heads()
-            }
         }
     }
 

@@ -25,6 +25,7 @@ use Rattle.hir_types.specs.Replacements.{replaced_bool, replaced_char, replaced_
 use Rattle.hir_types.specs.Terms.{Term, hole, leaf, pair, chain, apply, occurs, hole_number, type_part}
 use Rattle.hir_types.specs.TermLaws.{term_var, term_int_var}
 use Rattle.hir_raw.specs.declared.raw.RawAdt.{RawAdt}
+use Rattle.hir_raw.specs.declared.raw.RawAlias.{RawAlias}
 use Rattle.hir_raw.specs.declared.raw.RawAssocType.{RawAssocType}
 use Rattle.hir_raw.specs.declared.raw.RawFn.{RawFn}
 use Rattle.hir_raw.specs.declared.raw.RawGoal.{RawGoal}
@@ -41,7 +42,7 @@ use Rattle.hir_raw.specs.Scope.{Scope, adt_params, has_params, scope_of, count_o
 use Rattle.hir_raw.specs.Signatures.{type_args, at_args}
 use Rattle.hir_raw.specs.WrittenTypes.{written_type}
 use Rattle.hir_ids.specs.Entries.{AllHold}
-use Rattle.hir_ids.specs.GoalIds.{TraitRefExists, GoalExists, GoalsExist, TraitIdsExist}
+use Rattle.hir_ids.specs.GoalIds.{TraitRefExists, GoalExists, GoalsExist, TraitIdsExist, ImplIdsExist}
 use Rattle.hir_ids.specs.Projections.{is_projection, IsNoProjection}
 use Rattle.hir_counts.specs.Counts.{TypeFits, GoalFits, AdtFits, TraitFits, ImplFits, ImplTraitFits}
 use Rattle.hir_counts.specs.Standing.{HasNoHole, params_in, wrongs_in}
@@ -59,11 +60,11 @@ use Rattle.goal_answers.specs.Rows.{IsNth}
 use Rattle.goal_answers.specs.Selecting.{IsTraitKind}
 use Rattle.goal_facts.specs.Arguments.{holes, own_params, type_at, args_at, goal_at}
 use Rattle.goal_facts.specs.Environment.{preds_or_none, trait_preds, trait_holes, IsStated, IsSuper, Follows}
+use Rattle.goal_facts.specs.Bounds.{IsListed}
 use Rattle.goal_facts.specs.Impls.{impl_holes, assoc_rule, rules_for, impl_rules}
 use Rattle.goal_facts.specs.Systems.{fact, IsSystemOf}
 use Rattle.goal_facts.proofs.Systems.{each_append, each_get}
-use Rattle.goal_prove.proofs.NoAlias.{impls_exist, no_listed}
-use Rattle.goal_prove.proofs.Written.{args_are}
+use Rattle.goal_facts.proofs.Written.{args_are}
 use Rattle.goal_select.specs.Steps.{HasHeadsOf, RuleHasHeadsOf, SystemHasHeadsOf}
 use Rattle.infer_result.specs.Needs.{scope_item}
 use Rattle.infer_ctx.specs.Fine.{is_fine_head, item_params, HasFineHeads, Every}
@@ -290,6 +291,9 @@ module _ (raw : RawFacts) (law : IsLawful raw) (none : raw.aliases ≡ []) where
   traits_exist : AllHold (TraitIdsExist raw) raw.traits
   traits_exist = law.all.1.1.1.1.1.1.1.1.1.1.1.1.1.1.1.1.1.0
 
+  impls_exist : AllHold (λ i p. ImplIdsExist raw p) raw.impls
+  impls_exist = law.all.1.1.1.1.1.1.1.1.1.1.1.1.1.1.1.1.1.1.1.0
+
   adts_exist : (a : ℕ) (x : RawAdt) → slice_get raw.adts a ≡ Some x → GoalsExist raw x.preds
   adts_exist a x at = (adt_ids raw law a x at).preds
 
@@ -310,7 +314,7 @@ module _ (raw : RawFacts) (law : IsLawful raw) (none : raw.aliases ≡ []) where
 
   impl_preds_fit : (i : ℕ) (p : RawImpl) → slice_get raw.impls i ≡ Some p → (k : ℕ) (g : RawGoal) → slice_get p.preds k ≡ Some g → GoalIsFit (length p.params) g
   impl_preds_fit i p here k g at =
-      used_goal_fits (length p.params) g ((impls_exist raw law none i p here).preds k g at) ((impls_fit i p here).preds k g at)
+      used_goal_fits (length p.params) g ((impls_exist i p here).preds k g at) ((impls_fit i p here).preds k g at)
       (λ y u. in_impl_preds y (in_flat (λ (z : RawImpl). goals_uses z.preds) raw.impls i p y here (in_goals p.preds k g at y u)))
 
   abbrev own_uses : RawImpl → List (Option ℕ)
@@ -321,11 +325,11 @@ module _ (raw : RawFacts) (law : IsLawful raw) (none : raw.aliases ≡ []) where
   impl_args_fit i p r here is zero w at =
       let same : p.self_ ≡ w = cc in
       subst (IsFit (length p.params)) same
-      (used_fits (length p.params) p.self_ (impls_exist raw law none i p here).self_ (impls_fit i p here).self_
+      (used_fits (length p.params) p.self_ (impls_exist i p here).self_ (impls_fit i p here).self_
       (in_impls (Some p.self_.0) (in_flat impl_uses raw.impls i p (Some p.self_.0) here (in_last (trait_ref_uses p.trait_) (own_uses p) (Some p.self_.0) (zero, refl)))))
   impl_args_fit i p r here is (suc k) w at =
       let fit : ImplTraitFits (params_in raw) (wrongs_in raw) raw (length p.params) r = subst (λ o. IfSome o (ImplTraitFits (params_in raw) (wrongs_in raw) raw (length p.params))) is (impls_fit i p here).trait_ in
-      let exist : TraitRefExists raw r = subst (λ o. IfSome o (TraitRefExists raw)) is (impls_exist raw law none i p here).trait_ in
+      let exist : TraitRefExists raw r = subst (λ o. IfSome o (TraitRefExists raw)) is (impls_exist i p here).trait_ in
       let used : In (trait_ref_uses p.trait_) (Some w.0) = subst (λ o. In (trait_ref_uses o) (Some w.0)) (sym is) (in_mapped (λ (t : TypeRefId). Some t.0) (arg_types r.args) k w at) in
       used_fits (length p.params) w (exist.args k w at) (fit.each k w at)
       (in_impls (Some w.0) (in_flat impl_uses raw.impls i p (Some w.0) here (in_first (trait_ref_uses p.trait_) (own_uses p) (Some w.0) used)))
@@ -430,13 +434,19 @@ module _ (raw : RawFacts) (law : IsLawful raw) (none : raw.aliases ≡ []) where
       each_mapped IsFineRule (assoc_rule raw p r) p.types (λ k x at kind. absurd kind),
     )
 
+    -- no bound is listed
+    no_listed : (n : ℕ) (d : Asked) → Follows raw (IsListed raw) n d → ⊥
+    no_listed zero d (i, a, at, l) = let empty : slice_get {X = RawAlias} [] i ≡ Some a = subst (λ xs. slice_get xs i ≡ Some a) none at in cc
+    no_listed (suc n) d (inl f) = no_listed n d f
+    no_listed (suc n) d (inr (c, f, s)) = no_listed n c f
+
     rules_fine : (f : System) (item : GenericDefId) → IsSystemOf raw item f → Each IsFineRule f.rules
     rules_fine f item are =
         let rules = are.rules in
         subst (Each IsFineRule) (sym rules.are)
         (each_append IsFineRule (flat_map (impl_rules raw) raw.impls) (map fact rules.listed)
         (each_flat IsFineRule (impl_rules raw) raw.impls (λ i p at. impl_fine i p at p.trait_ refl))
-        (each_mapped IsFineRule fact rules.listed (λ i d at. absurd (no_listed raw law none raw.limits.goal_depth d (rules.closed.only i d at)))))
+        (each_mapped IsFineRule fact rules.listed (λ i d at. absurd (no_listed raw.limits.goal_depth d (rules.closed.only i d at)))))
 
   -- ---- the sources of a function
 

@@ -1,8 +1,7 @@
--- Types that fit facts without associated types have no alias in their terms.
+-- Types without holes that fit have terms without holes.
 use Rattle.std.specs.Prelude.{◌≡◌, ℕ, zero, suc, Bool, true, false, ◌&&◌, ◌||◌, List, [], ◌∷◌, ◌++◌, map, slice_get, Some, None, refl}
 use Rattle.std.specs.List.{list_all, list_any}
 use Rattle.std.proofs.Common.{sym, ap, ◌∙◌, subst, true≢false}
-use Rattle.hir_types.specs.declared.ids.TypeAliasId.{TypeAliasId}
 use Rattle.hir_types.specs.declared.ty.AliasBound.{AliasBound}
 use Rattle.hir_types.specs.declared.ty.Const.{Const}
 use Rattle.hir_types.specs.declared.ty.Const.TheVariants as const
@@ -14,10 +13,9 @@ use Rattle.hir_types.specs.Erasure.{IsClosed, hole_const, hole_arg, hole_step, h
 use Rattle.hir_types.specs.Folds.{Steps, folds, folds_follow, in_arg, in_ty}
 use Rattle.hir_types.specs.Terms.{Term, chain, const_term, type_part, arg_step, ty_step, term, arg_term}
 use Rattle.hir_types.specs.TermLaws.{terms, term_at, arg_term_at, term_error}
-use Rattle.hir_raw.specs.declared.raw.RawAlias.{RawAlias}
-use Rattle.hir_raw.specs.Scope.{Scope, alias_params_by, has_params}
+use Rattle.hir_raw.specs.Scope.{Scope}
 use Rattle.hir_raw.specs.Fit.{fits_arg, fits_bound, fits_trait, fits_step, ty_fits}
-use Rattle.goal_prove.specs.Closed.{IsClosedTerm}
+use Rattle.goal_prove.specs.Staying.{IsWritten}
 use Rattle.infer_result.specs.Needs.{item_args}
 
 -- ---- tests
@@ -32,14 +30,14 @@ neither true b h = absurd (true≢false h)
 
 -- ---- terms
 
-const_closed : (c : Const) → hole_const c ≡ false → IsClosedTerm (const_term c)
+const_closed : (c : Const) → hole_const c ≡ false → IsWritten (const_term c)
 const_closed (const.Value n) h = (tt, tt)
 const_closed (const.Param n) h = (tt, tt)
 const_closed const.Unknown h = (tt, tt)
 const_closed (const.Var n) h = absurd (true≢false h)
 const_closed const.Hole h = absurd (true≢false h)
 
-chain_last : (us : List Term) (u : Term) → IsClosedTerm (chain us) → IsClosedTerm u → IsClosedTerm (chain (us ++ u ∷ []))
+chain_last : (us : List Term) (u : Term) → IsWritten (chain us) → IsWritten u → IsWritten (chain (us ++ u ∷ []))
 chain_last [] u h k = (k, tt)
 chain_last (x ∷ us) u h k = (h.0, chain_last us u h.1 k)
 
@@ -51,12 +49,12 @@ hole_steps = record { arg = hole_arg; ty = hole_step; bound = hole_bound; trait 
 abbrev fit_steps : Scope → Steps Bool Bool Bool Bool
 fit_steps sc = record { arg = fits_arg; ty = fits_step sc; bound = fits_bound; trait = fits_trait }
 
-module _ (sc : Scope) (none : sc.facts.aliases ≡ []) where
+module _ (sc : Scope) where
   abbrev ArgIsClosed : GenericArg → Type 0
-  ArgIsClosed x = (folds hole_steps).arg x ≡ false → (folds (fit_steps sc)).arg x ≡ true → IsClosedTerm (arg_term x)
+  ArgIsClosed x = (folds hole_steps).arg x ≡ false → (folds (fit_steps sc)).arg x ≡ true → IsWritten (arg_term x)
 
   abbrev TyIsClosed : Ty → Type 0
-  TyIsClosed t = (folds hole_steps).ty t ≡ false → (folds (fit_steps sc)).ty t ≡ true → IsClosedTerm (term t)
+  TyIsClosed t = (folds hole_steps).ty t ≡ false → (folds (fit_steps sc)).ty t ≡ true → IsWritten (term t)
 
   abbrev ClosedArg : Type 0
   ClosedArg = (x : GenericArg) × ArgIsClosed x
@@ -77,7 +75,7 @@ module _ (sc : Scope) (none : sc.facts.aliases ≡ []) where
   arg_layer_of = map-GenericArg ClosedArg ClosedTy AnyBound AnyTrait GenericArg Ty AliasBound TraitRef (λ e. e.0) (λ e. e.0) (λ e. e.0) (λ e. e.0)
 
   types_closed : (ts : List ClosedTy) → list_any (λ b. b) (map (folds hole_steps).ty (map (λ e. e.0) ts)) ≡ false → list_all (λ b. b) (map (folds (fit_steps sc)).ty (map (λ e. e.0) ts)) ≡ true
-      → IsClosedTerm (chain (map type_part (map term (map (λ e. e.0) ts))))
+      → IsWritten (chain (map type_part (map term (map (λ e. e.0) ts))))
   types_closed [] h k = tt
   types_closed (t ∷ ts) h k =
       let a = neither _ _ h in
@@ -85,18 +83,15 @@ module _ (sc : Scope) (none : sc.facts.aliases ≡ []) where
       ((tt, t.1 a.0 b.0), types_closed ts a.1 b.1)
 
   args_closed : (xs : List ClosedArg) → list_any (λ b. b) (map (folds hole_steps).arg (map (λ e. e.0) xs)) ≡ false → list_all (λ b. b) (map (folds (fit_steps sc)).arg (map (λ e. e.0) xs)) ≡ true
-      → IsClosedTerm (chain (map arg_term (map (λ e. e.0) xs)))
+      → IsWritten (chain (map arg_term (map (λ e. e.0) xs)))
   args_closed [] h k = tt
   args_closed (x ∷ xs) h k =
       let a = neither _ _ h in
       let b = both _ _ k in
       (x.1 a.0 b.0, args_closed xs a.1 b.1)
 
-  no_alias : (k : TypeAliasId) (n : ℕ) (b : Bool) → (has_params (alias_params_by sc.facts (slice_get sc.facts.aliases k.0)) n && b) ≡ true → ⊥
-  no_alias k n b h = true≢false (sym h ∙ ap (λ (xs : List RawAlias). has_params (alias_params_by sc.facts (slice_get xs k.0)) n && b) none)
-
   layer_closed : (y : Ty-F ClosedArg ClosedTy AnyBound AnyTrait) → hole_step (in_ty (folds hole_steps) (layer_of y)) ≡ false → fits_step sc (in_ty (folds (fit_steps sc)) (layer_of y)) ≡ true
-      → IsClosedTerm (ty_step (in_ty terms (layer_of y)))
+      → IsWritten (ty_step (in_ty terms (layer_of y)))
   layer_closed Ty-F.Bool h k = (tt, tt)
   layer_closed Ty-F.Char h k = (tt, tt)
   layer_closed (Ty-F.Int i) h k = (tt, tt)
@@ -127,7 +122,7 @@ module _ (sc : Scope) (none : sc.facts.aliases ≡ []) where
   layer_closed (Ty-F.Dynamic None (b ∷ bs) is) h k = absurd (true≢false (sym k))
   layer_closed (Ty-F.Dynamic (Some r) bs is) h k = absurd (true≢false (sym k))
   layer_closed (Ty-F.Param n) h k = (tt, tt)
-  layer_closed (Ty-F.Projection i xs) h k = absurd (no_alias i _ _ k)
+  layer_closed (Ty-F.Projection i xs) h k = (tt, args_closed xs h (both _ _ k).1)
   layer_closed (Ty-F.Opaque i xs) h k = absurd (true≢false (sym k))
   layer_closed Ty-F.Error h k = (tt, tt)
   layer_closed (Ty-F.Var n) h k = absurd (true≢false h)
@@ -135,56 +130,56 @@ module _ (sc : Scope) (none : sc.facts.aliases ≡ []) where
   layer_closed Ty-F.Hole h k = absurd (true≢false h)
 
   arg_layer_closed : (y : GenericArg-F ClosedArg ClosedTy AnyBound AnyTrait) → hole_arg (in_arg (folds hole_steps) (arg_layer_of y)) ≡ false → fits_arg (in_arg (folds (fit_steps sc)) (arg_layer_of y)) ≡ true
-      → IsClosedTerm (arg_step (in_arg terms (arg_layer_of y)))
+      → IsWritten (arg_step (in_arg terms (arg_layer_of y)))
   arg_layer_closed (GenericArg-F.Ty t) h k = (tt, t.1 h k)
   arg_layer_closed (GenericArg-F.Const c) h k = absurd (true≢false (sym k))
 
   step_closed : (x : Ty-F GenericArg Ty AliasBound TraitRef) (y : Ty-F ClosedArg ClosedTy AnyBound AnyTrait) → layer_of y ≡ x → TyIsClosed (roll-Ty x)
   step_closed x y is h k =
-      let at = subst (λ z. hole_step (in_ty (folds hole_steps) z) ≡ false → fits_step sc (in_ty (folds (fit_steps sc)) z) ≡ true → IsClosedTerm (ty_step (in_ty terms z))) is (layer_closed y) in
-      subst IsClosedTerm (sym (term_at x)) (at (sym ((folds_follow hole_steps).ty x) ∙ h) (sym ((folds_follow (fit_steps sc)).ty x) ∙ k))
+      let at = subst (λ z. hole_step (in_ty (folds hole_steps) z) ≡ false → fits_step sc (in_ty (folds (fit_steps sc)) z) ≡ true → IsWritten (ty_step (in_ty terms z))) is (layer_closed y) in
+      subst IsWritten (sym (term_at x)) (at (sym ((folds_follow hole_steps).ty x) ∙ h) (sym ((folds_follow (fit_steps sc)).ty x) ∙ k))
 
   arg_step_closed : (x : GenericArg-F GenericArg Ty AliasBound TraitRef) (y : GenericArg-F ClosedArg ClosedTy AnyBound AnyTrait) → arg_layer_of y ≡ x → ArgIsClosed (roll-GenericArg x)
   arg_step_closed x y is h k =
-      let at = subst (λ z. hole_arg (in_arg (folds hole_steps) z) ≡ false → fits_arg (in_arg (folds (fit_steps sc)) z) ≡ true → IsClosedTerm (arg_step (in_arg terms z))) is (arg_layer_closed y) in
-      subst IsClosedTerm (sym (arg_term_at x)) (at (sym ((folds_follow hole_steps).arg x) ∙ h) (sym ((folds_follow (fit_steps sc)).arg x) ∙ k))
+      let at = subst (λ z. hole_arg (in_arg (folds hole_steps) z) ≡ false → fits_arg (in_arg (folds (fit_steps sc)) z) ≡ true → IsWritten (arg_step (in_arg terms z))) is (arg_layer_closed y) in
+      subst IsWritten (sym (arg_term_at x)) (at (sym ((folds_follow hole_steps).arg x) ∙ h) (sym ((folds_follow (fit_steps sc)).arg x) ∙ k))
 
   -- a type without holes that fits
-  pub type_closed : (t : Ty) → IsClosed t → ty_fits sc t ≡ true → IsClosedTerm (term t)
+  pub type_closed : (t : Ty) → IsClosed t → ty_fits sc t ≡ true → IsWritten (term t)
   type_closed = ind-Ty ArgIsClosed TyIsClosed (λ _. Unit {0}) (λ _. Unit {0}) arg_step_closed step_closed (λ x y is. tt) (λ x y is. tt)
 
 -- ---- arguments
 
 -- what stands for each parameter
 abbrev pub AreClosed : List GenericArg → Type 0
-AreClosed xs = (m : ℕ) → IsClosedTerm (term (type_of (slice_get xs m)))
+AreClosed xs = (m : ℕ) → IsWritten (term (type_of (slice_get xs m)))
 
-error_closed : IsClosedTerm (term (type_of None))
-error_closed = subst IsClosedTerm (sym term_error) (tt, tt)
+error_closed : IsWritten (term (type_of None))
+error_closed = subst IsWritten (sym term_error) (tt, tt)
 
-arg_layer : (y : GenericArg-F GenericArg Ty AliasBound TraitRef) → IsClosedTerm (arg_step (in_arg terms y)) → IsClosedTerm (term (arg_as_type y))
+arg_layer : (y : GenericArg-F GenericArg Ty AliasBound TraitRef) → IsWritten (arg_step (in_arg terms y)) → IsWritten (term (arg_as_type y))
 arg_layer (GenericArg-F.Ty t) h = h.1
 arg_layer (GenericArg-F.Const c) h = error_closed
 
-arg_closed : (x : GenericArg) → IsClosedTerm (arg_term x) → IsClosedTerm (term (type_of (Some x)))
+arg_closed : (x : GenericArg) → IsWritten (arg_term x) → IsWritten (term (type_of (Some x)))
 arg_closed x h =
     let y = out-GenericArg x in
     let is : arg_term x ≡ arg_step (in_arg terms y) = ap arg_term (sym (roll-out-GenericArg x)) ∙ arg_term_at y in
-    arg_layer y (subst IsClosedTerm is h)
+    arg_layer y (subst IsWritten is h)
 
-list_closed : (xs : List GenericArg) → IsClosedTerm (chain (map arg_term xs)) → AreClosed xs
+list_closed : (xs : List GenericArg) → IsWritten (chain (map arg_term xs)) → AreClosed xs
 list_closed [] h m = error_closed
 list_closed (x ∷ xs) h zero = arg_closed x h.0
 list_closed (x ∷ xs) h (suc m) = list_closed xs h.1 m
 
-item_layer : (y : Ty-F GenericArg Ty AliasBound TraitRef) → IsClosedTerm (ty_step (in_ty terms y)) → AreClosed (item_args y)
+item_layer : (y : Ty-F GenericArg Ty AliasBound TraitRef) → IsWritten (ty_step (in_ty terms y)) → AreClosed (item_args y)
 item_layer (Ty-F.Adt i xs) h = list_closed xs h.1
 item_layer (Ty-F.FnDef i xs) h = list_closed xs h.1
 item_layer _ h = λ m. error_closed
 
--- those of the item of which a type without holes and aliases is
-pub item_closed : (t : Ty) → IsClosedTerm (term t) → AreClosed (item_args (out-Ty t))
+-- those of the item of which a type without holes is
+pub item_closed : (t : Ty) → IsWritten (term t) → AreClosed (item_args (out-Ty t))
 item_closed t h =
     let y = out-Ty t in
     let is : term t ≡ ty_step (in_ty terms y) = ap term (sym (roll-out-Ty t)) ∙ term_at y in
-    item_layer y (subst IsClosedTerm is h)
+    item_layer y (subst IsWritten is h)

@@ -17,7 +17,7 @@ use Rattle.goal_facts.specs.declared.proof.Proof.{Proof}
 use Rattle.goal_search.specs.declared.answer.Answer.{Answer}
 use Rattle.goal_search.specs.declared.answer.Answer.TheVariants as answer
 use Rattle.goal_facts.specs.Goals.{asked_goal, IsAnswer}
-use Rattle.goal_prove.specs.Closed.{AddsProofs}
+use Rattle.goal_prove.specs.Entries.{AddsProofs}
 use Rattle.infer_result.specs.declared.gaps.Gap.{Gap}
 use Rattle.infer_result.specs.declared.result.InferenceResult.{InferenceResult}
 use Rattle.infer_result.specs.Needs.{HoldsUnknown, gap_asks}
@@ -176,13 +176,13 @@ judged_here raw f b r n x ps qs gs at h = subst (λ (o : Option RawExpr). AreJud
 
 -- ---- goals of an iterator
 
-each_next : (raw : RawFacts) (ys : List Goal) (x : Goal) (more : List Goal) → AreProvable raw (map asked_goal (ys ++ x ∷ more)) → IsProvable raw (asked_goal x)
-each_next raw [] x more h = h.0
-each_next raw (y ∷ ys) x more h = each_next raw ys x more h.1
+each_next : (ys : List Goal) (x : Goal) (more : List Goal) → AreProvable (map asked_goal (ys ++ x ∷ more)) → IsProvable (asked_goal x)
+each_next [] x more h = h.0
+each_next (y ∷ ys) x more h = each_next ys x more h.1
 
 -- the next one can be proved, as all can
-pub next_provable : (raw : RawFacts) (xs : List Asked) (ys rest more gs : List Goal) (x : Goal) → AreProvable raw xs → map asked_goal gs ≡ xs → ys ++ rest ≡ gs → rest ≡ x ∷ more → IsProvable raw (asked_goal x)
-next_provable raw xs ys rest more gs x h is whole next = each_next raw ys x more (subst (AreProvable raw) (sym is ∙ ap (λ zs. map asked_goal zs) (sym whole ∙ ap (λ zs. ys ++ zs) next)) h)
+pub next_provable : (xs : List Asked) (ys rest more gs : List Goal) (x : Goal) → AreProvable xs → map asked_goal gs ≡ xs → ys ++ rest ≡ gs → rest ≡ x ∷ more → IsProvable (asked_goal x)
+next_provable xs ys rest more gs x h is whole next = each_next ys x more (subst AreProvable (sym is ∙ ap (λ zs. map asked_goal zs) (sym whole ∙ ap (λ zs. ys ++ zs) next)) h)
 
 -- where none is left these were all
 pub all_asked : (xs : List Asked) (ys rest gs : List Goal) → map asked_goal gs ≡ xs → ys ++ rest ≡ gs → rest ≡ [] → map asked_goal ys ≡ xs

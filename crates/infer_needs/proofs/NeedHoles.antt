@@ -31,7 +31,7 @@ use Rattle.infer_table.proofs.BindingLaws.{resolved_made}
 use Rattle.goal_answers.specs.Goals.{Asked, Each}
 use Rattle.goal_facts.specs.Arguments.{type_at, args_at, goal_at}
 use Rattle.goal_facts.specs.Goals.{asked_goal}
-use Rattle.goal_prove.proofs.Written.{parts_by, layer, by_layers, args_are}
+use Rattle.goal_facts.proofs.Written.{parts_by, layer, by_layers, args_are}
 use Rattle.goal_select.specs.Steps.{GoalIsOf}
 use Rattle.infer_result.specs.Needs.{expr_preds, item_args, needed_goals}
 

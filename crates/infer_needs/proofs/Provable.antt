@@ -1,11 +1,10 @@
--- Goals that paths need are without holes, and about traits where there are no associated types.
-use Rattle.std.specs.Prelude.{◌≡◌, ◌⊎◌, ◌<◌, ℕ, zero, suc, Bool, true, List, [], ◌∷◌, length, map, slice_get, Option, Some, None, option_map, refl}
+-- Goals that paths need are without holes; and what owes goals where there are associated types.
+use Rattle.std.specs.Prelude.{◌≡◌, ◌⊎◌, ℕ, zero, suc, Bool, true, List, [], ◌∷◌, map, slice_get, Option, Some, None, option_map, refl}
 use Rattle.std.specs.List.{list_all}
 use Rattle.std.specs.Option.{option_and_then}
-use Rattle.std.proofs.Common.{inl, inr, sym, ap, subst, arith, true≢false}
+use Rattle.std.proofs.Common.{inl, inr, sym, ap, subst, true≢false}
 use Rattle.std.proofs.lemmas.Bool.{or_cases}
 use Rattle.hir_types.specs.declared.ids.DefWithBodyId.{DefWithBodyId}
-use Rattle.hir_types.specs.declared.ids.BodyId.{BodyId}
 use Rattle.hir_types.specs.declared.ids.TypeRefId.{TypeRefId}
 use Rattle.hir_types.specs.declared.ty.IntegerTy.TheVariants.{Int, Uint}
 use Rattle.hir_types.specs.declared.ty.GenericArg.{GenericArg}
@@ -28,15 +27,13 @@ use Rattle.hir_raw.specs.declared.raw.RawFacts.{RawFacts}
 use Rattle.hir_raw.specs.Goals.{arg_types}
 use Rattle.hir_raw.specs.Scope.{scope_of}
 use Rattle.hir_ids.specs.Carried.{is_empty}
-use Rattle.hir_ids.specs.GoalIds.{GoalExists, GoalsExist}
 use Rattle.hir_ids.specs.Owed.{fn_asks_nothing, adt_asks_nothing, ctor_asks_nothing, path_owes_nothing, expr_owes_nothing}
-use Rattle.hir_laws.specs.Bodies.{body_id_of}
 use Rattle.hir_laws.specs.Lawful.{IsLawful}
-use Rattle.hir_laws.specs.LawfulFacts.{type_ids_exist, adt_ids, fn_ids, carried_bodies}
+use Rattle.hir_laws.specs.LawfulFacts.{carried_bodies}
 use Rattle.goal_facts.specs.Arguments.{type_at, args_at, goal_at}
 use Rattle.goal_facts.specs.Environment.{preds_or_none}
-use Rattle.goal_prove.specs.Closed.{IsClosedTerm}
-use Rattle.goal_prove.proofs.Written.{parts_by, layer, by_layers, args_are}
+use Rattle.goal_prove.specs.Staying.{IsWritten}
+use Rattle.goal_facts.proofs.Written.{parts_by, layer, by_layers, args_are}
 use Rattle.infer_result.specs.declared.result.InferenceResult.{InferenceResult}
 use Rattle.infer_result.specs.Needs.{variant_preds, path_preds, item_args, needed_goals}
 use Rattle.infer_result.specs.Table.{recorded}
@@ -47,61 +44,64 @@ use Rattle.infer_needs.proofs.Closed.{both, AreClosed, type_closed, item_closed}
 
 -- ---- goals at arguments
 
-parts_closed : (f : ℕ → Term) → ((j : ℕ) → IsClosedTerm (f j)) → (ts : List TypeRefId) → IsClosedTerm (chain (parts_by f ts))
+parts_closed : (f : ℕ → Term) → ((j : ℕ) → IsWritten (f j)) → (ts : List TypeRefId) → IsWritten (chain (parts_by f ts))
 parts_closed f h [] = tt
 parts_closed f h (t ∷ ts) = ((tt, h t.0), parts_closed f h ts)
 
-module _ (raw : RawFacts) (law : IsLawful raw) (none : raw.aliases ≡ []) where
-  no_alias : (k : ℕ) → k < length raw.aliases → ⊥
-  no_alias k h = let e = ap length none in omega (arith, e, h)
+module _ (raw : RawFacts) (xs : List GenericArg) (args : AreClosed xs) where
+  layer_closed : (i : ℕ) (o : Option RawType) → slice_get raw.types i ≡ o → (f : ℕ → Term) → ((j : ℕ) → IsWritten (f j)) → IsWritten (layer (λ m. term ((with_params xs).param m)) f o)
+  layer_closed i None at f h = (tt, tt)
+  layer_closed i (Some type.Bool) at f h = (tt, tt)
+  layer_closed i (Some type.Char) at f h = (tt, tt)
+  layer_closed i (Some (type.Integer (Int m))) at f h = (tt, tt)
+  layer_closed i (Some (type.Integer (Uint m))) at f h = (tt, tt)
+  layer_closed i (Some (type.Tuple ts)) at f h = (tt, parts_closed f h ts)
+  layer_closed i (Some (type.Adt a ts)) at f h = (tt, parts_closed f h ts)
+  layer_closed i (Some (type.Projection a ts)) at f h = (tt, parts_closed f h ts)
+  layer_closed i (Some (type.Param m)) at f h = args m
+  layer_closed i (Some type.Hole) at f h = (tt, tt)
+  layer_closed i (Some type.Other) at f h = (tt, tt)
 
-  layer_closed : (xs : List GenericArg) → AreClosed xs → (i : ℕ) (o : Option RawType) → slice_get raw.types i ≡ o → (f : ℕ → Term) → ((j : ℕ) → IsClosedTerm (f j)) → IsClosedTerm (layer (λ m. term ((with_params xs).param m)) f o)
-  layer_closed xs args i None at f h = (tt, tt)
-  layer_closed xs args i (Some type.Bool) at f h = (tt, tt)
-  layer_closed xs args i (Some type.Char) at f h = (tt, tt)
-  layer_closed xs args i (Some (type.Integer (Int m))) at f h = (tt, tt)
-  layer_closed xs args i (Some (type.Integer (Uint m))) at f h = (tt, tt)
-  layer_closed xs args i (Some (type.Tuple ts)) at f h = (tt, parts_closed f h ts)
-  layer_closed xs args i (Some (type.Adt a ts)) at f h = (tt, parts_closed f h ts)
-  layer_closed xs args i (Some (type.Projection a ts)) at f h = absurd (no_alias a.0 (type_ids_exist raw law i (type.Projection a ts) at).named)
-  layer_closed xs args i (Some (type.Param m)) at f h = args m
-  layer_closed xs args i (Some type.Hole) at f h = (tt, tt)
-  layer_closed xs args i (Some type.Other) at f h = (tt, tt)
+  type_at_closed : (w : TypeRefId) → IsWritten (type_at raw xs w)
+  type_at_closed w = by_layers raw xs IsWritten (tt, tt) layer_closed w
 
-  chain_closed : (xs : List GenericArg) → AreClosed xs → (ws : List TypeRefId) → IsClosedTerm (chain (map (λ w. type_part (type_at raw xs w)) ws))
-  chain_closed xs args [] = tt
-  chain_closed xs args (w ∷ ws) = ((tt, by_layers raw xs IsClosedTerm (tt, tt) (layer_closed xs args) w), chain_closed xs args ws)
+  chain_closed : (ws : List TypeRefId) → IsWritten (chain (map (λ w. type_part (type_at raw xs w)) ws))
+  chain_closed [] = tt
+  chain_closed (w ∷ ws) = ((tt, type_at_closed w), chain_closed ws)
 
-  args_closed : (xs : List GenericArg) → AreClosed xs → (ws : List TypeRefId) → IsClosedTerm (args_at raw xs ws)
-  args_closed xs args ws = subst IsClosedTerm (sym (args_are raw xs ws)) (chain_closed xs args ws)
+  args_closed : (ws : List TypeRefId) → IsWritten (args_at raw xs ws)
+  args_closed ws = subst IsWritten (sym (args_are raw xs ws)) (chain_closed ws)
 
-  goal_provable : (xs : List GenericArg) → AreClosed xs → (g : RawGoal) → GoalExists raw g → IsProvable raw (goal_at raw xs g)
-  goal_provable xs args (goal.Trait r) e = record { aliases = none; closed = args_closed xs args (arg_types r.args) }
-  goal_provable xs args (goal.Projection k ws w) e = absurd (no_alias k.0 e.0)
+  goal_provable : (g : RawGoal) → IsProvable (goal_at raw xs g)
+  goal_provable (goal.Trait r) = args_closed (arg_types r.args)
+  goal_provable (goal.Projection k ws w) = (args_closed (arg_types ws), type_at_closed w)
 
-  goals_provable : (xs : List GenericArg) → AreClosed xs → (gs : List RawGoal) → GoalsExist raw gs → AreProvable raw (map (goal_at raw xs) gs)
-  goals_provable xs args [] e = tt
-  goals_provable xs args (g ∷ gs) e = (goal_provable xs args g (e 0 g refl), goals_provable xs args gs (λ k h at. e (suc k) h at))
+  goals_provable : (gs : List RawGoal) → AreProvable (map (goal_at raw xs) gs)
+  goals_provable [] = tt
+  goals_provable (g ∷ gs) = (goal_provable g, goals_provable gs)
 
--- ---- predicates of items
+expr_provable : (raw : RawFacts) (x : RawExpr) (t : Ty) → IsWritten (term t) → AreProvable (needed_goals raw x t)
+expr_provable raw (expr.Path p) t closed = goals_provable raw (item_args (out-Ty t)) (item_closed t closed) (path_preds raw p)
+expr_provable raw _ t closed = tt
 
-entry_preds : {X : Type 0} (raw : RawFacts) (preds : X → List RawGoal) (o : Option X) → ((x : X) → o ≡ Some x → GoalsExist raw (preds x)) → GoalsExist raw (preds_or_none (option_map preds o))
-entry_preds raw preds None h i g at = cc
-entry_preds raw preds (Some x) h i g at = h x refl i g at
+-- ---- what the expressions of a body need
 
-module _ (raw : RawFacts) (law : IsLawful raw) where
-  adt_exist : (a : ℕ) → GoalsExist raw (preds_or_none (option_map (λ (x : RawAdt). x.preds) (slice_get raw.adts a)))
-  adt_exist a = entry_preds raw (λ x. x.preds) (slice_get raw.adts a) (λ x e. (adt_ids raw law a x e).preds)
+recorded_at : (o : Option (Option Ty)) (t : Ty) → option_and_then (λ x. x) o ≡ Some t → o ≡ Some (Some t)
+recorded_at None t e = cc
+recorded_at (Some None) t e = cc
+recorded_at (Some (Some u)) t e = ap (λ x. Some x) e
 
-  variant_exist : (o : Option RawVariant) → GoalsExist raw (variant_preds raw o)
-  variant_exist None i g at = cc
-  variant_exist (Some v) i g at = adt_exist v.adt.0 i g at
+module _ (raw : RawFacts) (d : DefWithBodyId) (r : InferenceResult) (is : IsTableOf raw d r) where
+  type_is_closed : (k : ℕ) (t : Ty) → slice_get r.type_of_expr k ≡ Some (Some t) → IsWritten (term t)
+  type_is_closed k t at = type_closed (scope_of raw d) t (is.typed.shape.closed.exprs k t at) (is.fit.exprs k t at)
 
-  path_exist : (p : RawPath) → GoalsExist raw (path_preds raw p)
-  path_exist (path.Local v) i g at = cc
-  path_exist (path.Function f) i g at = entry_preds raw (λ (x : RawFn). x.preds) (slice_get raw.fns f.0) (λ x e. (fn_ids raw law f.0 x e).preds) i g at
-  path_exist (path.Ctor v) i g at = variant_exist (slice_get raw.variants v.0) i g at
-  path_exist path.Other i g at = cc
+  of_type : (k : ℕ) (x : RawExpr) (o : Option Ty) → recorded r.type_of_expr k ≡ o → AreProvable (needs_of raw (Some x) o)
+  of_type k x None at = tt
+  of_type k x (Some t) at = expr_provable raw x t (type_is_closed k t (recorded_at (slice_get r.type_of_expr k) t at))
+
+  -- each goal can be proved
+  pub needs_provable : (k : ℕ) (x : RawExpr) → AreProvable (needs_of raw (Some x) (recorded r.type_of_expr k))
+  needs_provable k x = of_type k x (recorded r.type_of_expr k) refl
 
 -- ---- what is owed
 
@@ -132,22 +132,7 @@ all_at p [] h i x at = cc
 all_at p (y ∷ xs) h zero x at = (let e : y ≡ x = cc in subst (λ z. p z ≡ true) e (both (p y) (list_all p xs) h).0)
 all_at p (y ∷ xs) h (suc i) x at = all_at p xs (both (p y) (list_all p xs) h).1 i x at
 
--- ---- what an expression needs
-
 module _ (raw : RawFacts) (law : IsLawful raw) where
-  by_no_preds : (xs : List GenericArg) (gs : List RawGoal) → gs ≡ [] → AreProvable raw (map (goal_at raw xs) gs)
-  by_no_preds xs gs e = subst (λ hs. AreProvable raw (map (goal_at raw xs) hs)) (sym e) tt
-
-  path_provable : (p : RawPath) (t : Ty) → (raw.aliases ≡ [] → IsClosedTerm (term t)) → (path_owes_nothing raw p ≡ true) ⊎ (is_empty raw.aliases ≡ true) → AreProvable raw (needed_goals raw (expr.Path p) t)
-  path_provable p t closed (inl owes) = by_no_preds (item_args (out-Ty t)) (path_preds raw p) (path_none raw p owes)
-  path_provable p t closed (inr empty) =
-      let none = empty_is raw.aliases empty in
-      goals_provable raw law none (item_args (out-Ty t)) (item_closed t (closed none)) (path_preds raw p) (path_exist raw law p)
-
-  expr_provable : (x : RawExpr) (t : Ty) → (raw.aliases ≡ [] → IsClosedTerm (term t)) → (expr_owes_nothing raw x ≡ true) ⊎ (is_empty raw.aliases ≡ true) → AreProvable raw (needed_goals raw x t)
-  expr_provable (expr.Path p) t closed owes = path_provable p t closed owes
-  expr_provable _ t closed owes = tt
-
   owed : (b : RawBody) (i : ℕ) → slice_get raw.bodies i ≡ Some b → (k : ℕ) (x : RawExpr) → slice_get b.exprs k ≡ Some x → (expr_owes_nothing raw x ≡ true) ⊎ (is_empty raw.aliases ≡ true)
   owed b i at k x found =
       elim (or_cases (list_all (expr_owes_nothing raw) b.exprs) (is_empty raw.aliases) (carried_bodies raw law i b at).owes) [
@@ -163,28 +148,3 @@ module _ (raw : RawFacts) (law : IsLawful raw) where
 
   pub expr_owed : (b : RawBody) (i : ℕ) → slice_get raw.bodies i ≡ Some b → (k : ℕ) (x : RawExpr) → slice_get b.exprs k ≡ Some x → (t : Ty) → (needed_goals raw x t ≡ []) ⊎ (raw.aliases ≡ [])
   expr_owed b i at k x found t = owed_none x t (owed b i at k x found)
-
--- ---- what the expressions of a body need
-
-body_at : (raw : RawFacts) (o : Option BodyId) (b : RawBody) → option_and_then (λ i. slice_get raw.bodies i.0) o ≡ Some b → (i : ℕ) × (slice_get raw.bodies i ≡ Some b)
-body_at raw None b e = cc
-body_at raw (Some i) b e = (i.0, e)
-
-module _ (raw : RawFacts) (law : IsLawful raw) (d : DefWithBodyId) (r : InferenceResult) (is : IsTableOf raw d r) where
-  type_is_closed : (k : ℕ) (t : Ty) → slice_get r.type_of_expr k ≡ Some (Some t) → raw.aliases ≡ [] → IsClosedTerm (term t)
-  type_is_closed k t at none = type_closed (scope_of raw d) none t (is.typed.shape.closed.exprs k t at) (is.fit.exprs k t at)
-
-  recorded_at : (o : Option (Option Ty)) (t : Ty) → option_and_then (λ x. x) o ≡ Some t → o ≡ Some (Some t)
-  recorded_at None t e = cc
-  recorded_at (Some None) t e = cc
-  recorded_at (Some (Some u)) t e = ap (λ x. Some x) e
-
-  of_type : (k : ℕ) (x : RawExpr) → slice_get is.body.exprs k ≡ Some x → (o : Option Ty) → recorded r.type_of_expr k ≡ o → AreProvable raw (needs_of raw (Some x) o)
-  of_type k x found None at = tt
-  of_type k x found (Some t) at =
-      let b = body_at raw (body_id_of raw d) is.body is.is_body in
-      expr_provable raw law x t (type_is_closed k t (recorded_at (slice_get r.type_of_expr k) t at)) (owed raw law is.body b.0 b.1 k x found)
-
-  -- each goal can be proved
-  pub needs_provable : (k : ℕ) (x : RawExpr) → slice_get is.body.exprs k ≡ Some x → AreProvable raw (needs_of raw (Some x) (recorded r.type_of_expr k))
-  needs_provable k x found = of_type k x found (recorded r.type_of_expr k) refl

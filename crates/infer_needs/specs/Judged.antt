@@ -10,7 +10,8 @@ use Rattle.goal_answers.specs.Goals.{Asked, System, Each}
 use Rattle.goal_answers.specs.Answers.{answers}
 use Rattle.goal_facts.specs.declared.proof.Proof.{Proof}
 use Rattle.goal_facts.specs.Goals.{asked_goal}
-use Rattle.goal_prove.specs.Closed.{IsClosedTerm, AddsProofs}
+use Rattle.goal_prove.specs.Entries.{AddsProofs}
+use Rattle.goal_prove.specs.Staying.{IsWritten}
 use Rattle.infer_result.specs.declared.gaps.Gap.{Gap}
 use Rattle.infer_result.specs.declared.gaps.Gap.TheVariants as gap
 use Rattle.infer_result.specs.declared.result.InferenceResult.{InferenceResult}
@@ -20,17 +21,16 @@ use Rattle.infer_needs.specs.Told.{needs_of, needs_at}
 
 -- ---- goals that can be proved
 
--- it is without holes, and no trait has an associated type
-pub record IsProvable (raw : RawFacts) (a : Asked) : Type 0 where
-  pub aliases : raw.aliases ≡ []
-  pub closed : IsClosedTerm a.parts
+-- it is without holes
+abbrev pub IsProvable : Asked → Type 0
+IsProvable a = IsWritten a.parts
 
-abbrev pub AreProvable : RawFacts → List Asked → Type 0
-AreProvable raw xs = Each (IsProvable raw) xs
+abbrev pub AreProvable : List Asked → Type 0
+AreProvable xs = Each IsProvable xs
 
 -- so can all that the expressions of the body need
 abbrev pub CanAllBeProved : RawFacts → RawBody → InferenceResult → Type 0
-CanAllBeProved raw b r = (n : ℕ) (x : RawExpr) → slice_get b.exprs n ≡ Some x → AreProvable raw (needs_of raw (Some x) (recorded r.type_of_expr n))
+CanAllBeProved raw b r = (n : ℕ) (x : RawExpr) → slice_get b.exprs n ≡ Some x → AreProvable (needs_of raw (Some x) (recorded r.type_of_expr n))
 
 -- ---- one goal
 

@@ -92,7 +92,7 @@ fn prove_need(
     proofs: &mut Vec<Proof>,
     gaps: &mut List<Gap>,
 ) -> Result<(), AllocError>
-    requires { IsProvable sources.now.facts (asked_goal goal) }
+    requires { IsProvable (asked_goal goal) }
     ensures judged { OnOk result (IsJudged sources.now.facts (system sources.now.sources) expr goal proofs.old.items proofs.new.items gaps.old gaps.new) }
     ensures told { OnOk result (ListsAnswers (system sources.now.sources) sources.now.facts.limits.goal_depth (asked_goal goal ∷ []) told.old.items told.new.items) }
 {
@@ -119,7 +119,7 @@ fn prove_expr(
     told: &mut Vec<(Goal, Answer)>,
     proofs: &mut Vec<Proof>,
 ) -> Result<List<Gap>, AllocError>
-    requires { AreProvable sources.now.facts (needed_goals sources.now.facts expr.now ty.now) }
+    requires { AreProvable (needed_goals sources.now.facts expr.now ty.now) }
     ensures judged { IfOk result (λ gaps. AreJudged sources.now.facts (system sources.now.sources) id (needed_goals sources.now.facts expr.now ty.now) proofs.old.items proofs.new.items gaps) }
     ensures told { OnOk result (ListsAnswers (system sources.now.sources) sources.now.facts.limits.goal_depth (needed_goals sources.now.facts expr.now ty.now) told.old.items told.new.items) }
 {
@@ -149,7 +149,7 @@ fn prove_at(
     told: &mut Vec<(Goal, Answer)>,
     proofs: &mut Vec<Proof>,
 ) -> Result<List<Gap>, AllocError>
-    requires { AreProvable sources.now.facts (needs_of sources.now.facts (Some expr.now) (recorded table.now.type_of_expr at)) }
+    requires { AreProvable (needs_of sources.now.facts (Some expr.now) (recorded table.now.type_of_expr at)) }
     ensures judged { IfOk result (λ gaps. AreJudged sources.now.facts (system sources.now.sources) (record { 0 = at }) (needs_of sources.now.facts (Some expr.now) (recorded table.now.type_of_expr at)) proofs.old.items proofs.new.items gaps) }
     ensures told { OnOk result (ListsAnswers (system sources.now.sources) sources.now.facts.limits.goal_depth (needs_of sources.now.facts (Some expr.now) (recorded table.now.type_of_expr at)) told.old.items told.new.items) }
 {

@@ -30,7 +30,7 @@ prove_need-requires c =
     let gs = c.in_ok-goal-items.goal-items.items in
     let is : map asked_goal gs ≡ needed_goals raw c.args.expr.now c.args.ty.now = subst (λ r. map asked_goal gs ≡ needed_goals r c.args.expr.now c.args.ty.now) c.facts.ensures c.in_ok-goal-items.ensures in
     let whole = at.invariant.items ∙ c.into_iter-goal-iterator.ensures.into_iter_gives.0 in
-    next_provable raw (needed_goals raw c.args.expr.now c.args.ty.now) at.yielded (into_iter_items at.goal-iterator) (into_iter_items c.next.new.self) gs x c.requires is whole c.in-Some.ensures.steps.0
+    next_provable (needed_goals raw c.args.expr.now c.args.ty.now) at.yielded (into_iter_items at.goal-iterator) (into_iter_items c.next.new.self) gs x c.requires is whole c.in-Some.ensures.steps.0
 
 pub loop-goal-preserved : goal.loop-goal-preserved
 loop-goal-preserved c =

@@ -1,5 +1,5 @@
 use Rattle.std.proofs.Common.{◌≡◌, ◌++◌, List, length, sym, ap, ◌∙◌, subst}
-use Rattle.std.specs.Prelude.{Some, slice_get}
+use Rattle.std.specs.Prelude.{Some}
 use Rattle.hir_types.specs.declared.goal.Goal.{Goal}
 use Rattle.hir_raw.specs.declared.raw.RawFacts.{RawFacts}
 use Rattle.goal_search.specs.declared.answer.Answer.{Answer}
@@ -17,11 +17,8 @@ use Rattle.infer_needs.proofs.prove.prove_needs.Goals as goal
 
 pub prove_exprs-requires : goal.prove_exprs-requires
 prove_exprs-requires c n x at =
-    let raw = c.args.facts.now in
-    let same : c.body-body.result.now ≡ c.requires.body = same_body raw c.args.def c.in-Some.id c.body-body.result.now c.requires.body (sym c.body_id.ensures ∙ c.in-Some.is) c.body-body.ensures c.requires.is_body in
-    let found : slice_get c.requires.body.exprs n ≡ Some x = sym (ap (λ b. slice_get b.exprs n) same) ∙ at in
-    subst (λ z. AreProvable z (needs_of z (Some x) (recorded c.args.table.now.type_of_expr n))) (sym c.in_ok-sources.ensures.facts)
-    (needs_provable raw c.lawful.ensures c.args.def c.args.table.now c.requires n x found)
+    subst (λ z. AreProvable (needs_of z (Some x) (recorded c.args.table.now.type_of_expr n))) (sym c.in_ok-sources.ensures.facts)
+    (needs_provable c.args.facts.now c.args.def c.args.table.now c.requires n x)
 
 pub returns-clause-goals : goal.returns-clause-goals
 returns-clause-goals c b is =

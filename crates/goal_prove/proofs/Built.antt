@@ -1,0 +1,284 @@
+-- Proofs by each source, of a goal that reads so.
+use Rattle.std.specs.Prelude.{◌≡◌, ◌≤◌, ◌++◌, ℕ, true, List, [], ◌∷◌, length, map, slice_get, Some, None, refl, Result, IfOk}
+use Rattle.std.proofs.Common.{inl, inr, sym, ap, ap₂, ◌∙◌, subst, arith}
+use Rattle.std.proofs.lemmas.Result.{IfOk-weaker}
+use Rattle.std.specs.declared.alloc.AllocError.{AllocError}
+use Rattle.hir_types.specs.declared.ids.ImplId.{ImplId}
+use Rattle.hir_types.specs.declared.ids.TypeAliasId.{TypeAliasId}
+use Rattle.hir_types.specs.declared.ids.GenericDefId.{GenericDefId}
+use Rattle.hir_types.specs.declared.goal.Goal.{Goal}
+use Rattle.hir_types.specs.declared.head.Hole.{Hole}
+use Rattle.hir_types.specs.declared.ty.GenericArg.{GenericArg}
+use Rattle.hir_types.specs.Terms.{Term, hole, apply, occurs}
+use Rattle.hir_raw.specs.declared.raw.RawImpl.{RawImpl}
+use Rattle.hir_raw.specs.declared.raw.RawFacts.{RawFacts}
+use Rattle.infer_table.specs.TermLemmas.{apply_agree}
+use Rattle.goal_answers.specs.Reading.{Fill, IsFilling, Aliases, Reads, ReadsAs, stands}
+use Rattle.goal_answers.specs.Goals.{Kind, Asked, Rule, System, asked_at, key, only, is_among, Each, IsToldBy}
+use Rattle.goal_answers.specs.Answers.{IsItself, answers}
+use Rattle.goal_answers.specs.Selecting.{CopiesParts}
+use Rattle.goal_answers.specs.Steps.{known_below, Tells}
+use Rattle.goal_answers.proofs.Readings.{apply_hole, reads_may, reads_agree, reads_within}
+use Rattle.goal_answers.proofs.One.{answers_sound, head_tells}
+use Rattle.goal_terms.specs.Bindings.{log_of, fill_of}
+use Rattle.goal_terms.specs.Terms.{HasHeads}
+use Rattle.goal_search.specs.Searching.{IsDone, RuleHasHeads}
+use Rattle.goal_search.proofs.Heads.{may_done}
+use Rattle.goal_search.proofs.Only.{each_of_get}
+use Rattle.goal_facts.specs.declared.proof.Proof.{Proof}
+use Rattle.goal_facts.specs.declared.proof.ProofSource.{ProofSource}
+use Rattle.goal_facts.specs.declared.proof.ProofSource.TheVariants as source
+use Rattle.goal_facts.specs.Goals.{asked_goal}
+use Rattle.goal_facts.specs.ImplGoals.{ComesFrom, ImplHasRule}
+use Rattle.goal_facts.specs.Proofs.{filled_goal, args_fill, IsUnshadowed, IsClause, IsImplAt, IsListedBound, IsBuiltIn, IsSource, IsProofOf, AreProofsOf, Holds}
+use Rattle.goal_facts.specs.Systems.{IsSystemOf}
+use Rattle.goal_facts.proofs.Adding.{get_within}
+use Rattle.goal_facts.proofs.Systems.{each_get}
+use Rattle.goal_select.proofs.Choices.{within}
+use Rattle.goal_select.proofs.Clauses.{clause_closed}
+use Rattle.goal_prove.specs.declared.fits.Found.{Found}
+use Rattle.goal_prove.specs.Staying.{unbound, IsGood, IsGoodGoal}
+use Rattle.goal_prove.specs.Asking.{deep_alias, deep_stays, ReadsTo, IsAsked, IsFree, IsFit, IsProved, IsProofFor, AreProofsFor, ArePredsProved, PredIsAsked, fill_args}
+use Rattle.goal_prove.specs.Entries.{AddsProofs, IsProofAt, IsPushed}
+use Rattle.goal_prove.proofs.Adding.{adds_none, adds_then, adds_one, found_last}
+use Rattle.goal_prove.proofs.Unbound.{reads_unbound}
+use Rattle.goal_prove.proofs.Aliases.{aliases_good}
+use Rattle.goal_prove.proofs.Fitting.{yes_here, may_here, unshadowed_here}
+use Rattle.goal_prove.proofs.Impled.{IsFilled, rule_filled, preds_good, fill_is}
+
+-- ---- what was pushed
+
+module _ (raw : RawFacts) (f : System) (g : Goal) where
+  at_end : (ps qs zs : List Proof) (k : ℕ) (x : Proof) → x.goal ≡ g → AddsProofs raw f ps qs → ((s : Fill) → IsFilling s → Holds raw f (deep_alias raw f) s qs (length qs) x) → IsPushed qs zs x k → IsProved raw f ps zs g k
+  at_end ps qs zs k x same adds holds pushed =
+      let adds_all = adds_then raw f ps qs (qs ++ x ∷ []) adds (adds_one raw f qs x holds) in let is = subst (λ y. IsProofAt (qs ++ x ∷ []) y (length qs)) same (found_last raw f qs x) in
+      let here : IsProved raw f ps (qs ++ x ∷ []) g (length qs) = record { adds = adds_all; found = is } in
+      subst (λ ys. IsProved raw f ps ys g k) (sym pushed.pushed) (subst (λ j. IsProved raw f ps (qs ++ x ∷ []) g j) (sym pushed.number) here)
+
+-- ---- children
+
+module _ (raw : RawFacts) (f : System) (p z : Fill) (s : Fill) (filling : IsFilling s) where
+  abbrev Turns : Asked → Type 0
+  Turns q = (t : Term) → Reads (deep_alias raw f) p q.parts t → ReadsAs (deep_alias raw f) (apply z q.parts) t
+
+  child : (ps : List Proof) (q : Asked) (k : ℕ) → Turns q → IsProofFor raw f p ps q k → IsProofOf (deep_alias raw f) s ps (length ps) (asked_at z q) k
+  child ps q k turns h = record {
+    proof = h.proof;
+    before = get_within ps k h.proof h.at;
+    at = h.at;
+    same = (h.same.kind, h.target, h.same.reads s filling, turns h.target h.reads);
+  }
+
+  pub children_of : (ps : List Proof) (qs : List Asked) (ks : List ℕ) → Each Turns qs → AreProofsFor raw f p ps qs ks → AreProofsOf (deep_alias raw f) s ps (length ps) (map (asked_at z) qs) ks
+  children_of ps [] [] t h = tt
+  children_of ps [] (k ∷ ks) t h = absurd h
+  children_of ps (q ∷ qs) [] t h = absurd h
+  children_of ps (q ∷ qs) (k ∷ ks) t h = (child ps q k t.0 h.0, children_of ps qs ks t.1 h.1)
+
+module _ (raw : RawFacts) (item : GenericDefId) (f : System) (of : IsSystemOf raw item f) (n : ℕ) (le : n ≤ raw.limits.goal_depth) (c : Kind) (w : Term) (asked : IsAsked raw f n c w) (g : Goal) (to : ReadsTo raw f g c w) where
+  abbrev deep : ℕ
+  deep = raw.limits.goal_depth
+
+  abbrev P : Aliases
+  P = deep_alias raw f
+
+  abbrev A : Aliases
+  A = (answers f n).Alias
+
+  abbrev S : TypeAliasId → Term → Type 0
+  S = deep_stays raw f
+
+  abbrev Own : Fill → Asked
+  Own s = filled_goal s g
+
+  reads : (s : Fill) → IsFilling s → ReadsAs P (Own s).parts w
+  reads s filling = to.reads s filling
+
+  holds_by : (src : ProofSource) (qs : List Asked) (ks : List ℕ) (ps : List Proof) (s : Fill) (filling : IsFilling s) → IsSource raw f P s (Own s) src qs → AreProofsOf P s ps (length ps) qs ks → Holds raw f P s ps (length ps) (record { goal = g; source = src; children = ks })
+  holds_by src qs ks ps s filling by children = record {
+    asks = qs;
+    source = by;
+    sized = may_here raw item f of n le c w asked g to s filling;
+    children = children;
+  }
+
+  -- by a source that asks for nothing
+  alone : (src : ProofSource) → ((s : Fill) → IsFilling s → IsSource raw f P s (Own s) src []) → (ks : List ℕ) → [] ≡ ks → (ps zs : List Proof) (r : Result ℕ AllocError)
+      → IfOk r (λ k. IsPushed ps zs (record { goal = g; source = src; children = ks }) k) → IfOk r (λ k. IsProved raw f ps zs g k)
+  alone src by ks none ps zs r pushed =
+      IfOk-weaker r (λ k. IsPushed ps zs (record { goal = g; source = src; children = ks }) k) (λ k. IsProved raw f ps zs g k)
+      (λ k h. at_end raw f g ps ps zs k (record { goal = g; source = src; children = ks }) refl (adds_none raw f ps) (λ s filling. holds_by src [] ks ps s filling (by s filling) (subst (λ xs. AreProofsOf P s ps (length ps) [] xs) none tt)) h)
+      pushed
+
+  -- ---- clauses
+
+  clause_is : (x : Found) → IsFit P (known_below f deep) f.clauses c w x → (cl : Goal) → ((r : Rule) → slice_get f.clauses x.place ≡ Some r → asked_goal cl ≡ r.head) → (s : Fill) → IsFilling s → IsClause f P (Own s) cl []
+  clause_is x fit cl is s filling =
+      let closed = clause_closed raw item f.clauses of.clauses x.place fit.rule fit.at in
+      record {
+        at = x.place;
+        clause = fit.rule;
+        listed = fit.at;
+        is = is fit.rule fit.at;
+        same = (fit.kind ∙ sym to.kind, w, reads_agree P (fill_of (log_of x.fills.items)) hole fit.rule.head.parts w (λ k o. absurd (closed.head k o)) fit.holds.part, reads s filling);
+        asks = sym closed.preds;
+      }
+
+  pub by_clause : (x : Found) → IsFit P (known_below f deep) f.clauses c w x → (cl : Goal) → ((r : Rule) → slice_get f.clauses x.place ≡ Some r → asked_goal cl ≡ r.head) → (ks : List ℕ) → [] ≡ ks → (ps zs : List Proof) (r : Result ℕ AllocError)
+      → IfOk r (λ k. IsPushed ps zs (record { goal = g; source = source.Clause cl; children = ks }) k) → IfOk r (λ k. IsProved raw f ps zs g k)
+  by_clause x fit cl is ks none ps zs r pushed = alone (source.Clause cl) (clause_is x fit cl is) ks none ps zs r pushed
+
+  -- ---- what is built in
+
+  module _ (free : IsFree raw f c w) where
+    unshadowed : (s : Fill) → IsFilling s → IsUnshadowed f P (Own s)
+    unshadowed s filling = unshadowed_here raw item f of n le c w asked g to s filling free
+
+    built : ((s : Fill) → IsFilling s → IsBuiltIn raw f P (Own s) []) → (ks : List ℕ) → [] ≡ ks → (ps zs : List Proof) (r : Result ℕ AllocError)
+        → IfOk r (λ k. IsPushed ps zs (record { goal = g; source = source.BuiltIn; children = ks }) k) → IfOk r (λ k. IsProved raw f ps zs g k)
+    built h ks none ps zs r pushed = alone source.BuiltIn (λ s filling. (unshadowed s filling, h s filling)) ks none ps zs r pushed
+
+    pub by_size : is_among f.sized c ≡ true → (ks : List ℕ) → [] ≡ ks → (ps zs : List Proof) (r : Result ℕ AllocError)
+        → IfOk r (λ k. IsPushed ps zs (record { goal = g; source = source.BuiltIn; children = ks }) k) → IfOk r (λ k. IsProved raw f ps zs g k)
+    by_size e = built (λ s filling. inr (inl (refl, subst (λ d. is_among f.sized d ≡ true) (sym to.kind) e, yes_here raw item f of n le c w asked g to s filling)))
+
+    pub by_itself : IsItself c w → (ks : List ℕ) → [] ≡ ks → (ps zs : List Proof) (r : Result ℕ AllocError)
+        → IfOk r (λ k. IsPushed ps zs (record { goal = g; source = source.BuiltIn; children = ks }) k) → IfOk r (λ k. IsProved raw f ps zs g k)
+    by_itself i = built (λ s filling. inl (refl, w, reads s filling, subst (λ d. IsItself d w) (sym to.kind) i))
+
+    listed_is : (x : Found) → IsFit A (known_below f n) f.rules c w x → ((r : Rule) → slice_get f.rules x.place ≡ Some r → ComesFrom raw r None) → (s : Fill) → IsFilling s → IsListedBound raw P (Own s)
+    listed_is x fit from s filling =
+        let b = from fit.rule fit.at in
+        let p = fill_of (log_of x.fills.items) in
+        let head = reads_within A P (within f n deep le).alias p fit.rule.head.parts w fit.holds.part in (
+          b.0,
+          w,
+          b.2,
+          ap (λ (y : Rule). y.head.kind) (sym b.1) ∙ (fit.kind ∙ sym to.kind),
+          reads s filling,
+          (p, subst (λ (y : Rule). Reads P p y.head.parts w) b.1 head),
+        )
+
+    pub by_listed : (x : Found) → IsFit A (known_below f n) f.rules c w x → ((r : Rule) → slice_get f.rules x.place ≡ Some r → ComesFrom raw r None) → (ks : List ℕ) → [] ≡ ks → (ps zs : List Proof) (r : Result ℕ AllocError)
+        → IfOk r (λ k. IsPushed ps zs (record { goal = g; source = source.BuiltIn; children = ks }) k) → IfOk r (λ k. IsProved raw f ps zs g k)
+    by_listed x fit from = built (λ s filling. inr (inr (inl (refl, listed_is x fit from s filling))))
+
+    -- ---- by what was proved before
+
+    over : (src : ProofSource) (p z : Fill) (qs : List Asked) → ((s : Fill) → IsFilling s → IsSource raw f P s (Own s) src (map (asked_at z) qs)) → Each (λ q. (t : Term) → Reads P p q.parts t → ReadsAs P (apply z q.parts) t) qs
+        → (ks : List ℕ) (ps ys zs : List Proof) → ArePredsProved raw f p ps ys qs ks → (r : Result ℕ AllocError)
+        → IfOk r (λ k. IsPushed ys zs (record { goal = g; source = src; children = ks }) k) → IfOk r (λ k. IsProved raw f ps zs g k)
+    over src p z qs by turns ks ps ys zs proved r pushed =
+        IfOk-weaker r (λ k. IsPushed ys zs (record { goal = g; source = src; children = ks }) k) (λ k. IsProved raw f ps zs g k)
+        (λ k h. at_end raw f g ps ys zs k (record { goal = g; source = src; children = ks }) refl proved.adds (λ s filling. holds_by src (map (asked_at z) qs) ks ys s filling (by s filling) (children_of raw f p z s filling ys qs ks turns proved.found)) h)
+        pushed
+
+    -- ---- parts
+
+    parts_as : (ts : List Term) → map (asked_at hole) (map (λ t. record { kind = c; parts = only t }) ts) ≡ map (λ t. record { kind = c; parts = only t }) ts
+    parts_as [] = refl
+    parts_as (t ∷ ts) = ap₂ (λ x xs. x ∷ xs) (λ i. record { kind = c; parts = apply_hole (only t) i }) (parts_as ts)
+
+    parts_turn : (qs : List Asked) → Each (λ q. (t : Term) → Reads P hole q.parts t → ReadsAs P (apply hole q.parts) t) qs
+    parts_turn [] = tt
+    parts_turn (q ∷ qs) = (λ t r. subst (λ x. ReadsAs P x t) (sym (apply_hole q.parts)) r, parts_turn qs)
+
+    pub by_parts : (ts : List Term) → CopiesParts f c w ts → (qs : List Asked) → qs ≡ map (λ t. record { kind = c; parts = only t }) ts
+        → (ks : List ℕ) (ps ys zs : List Proof) → ArePredsProved raw f hole ps ys qs ks → (r : Result ℕ AllocError)
+        → IfOk r (λ k. IsPushed ys zs (record { goal = g; source = source.BuiltIn; children = ks }) k) → IfOk r (λ k. IsProved raw f ps zs g k)
+    by_parts ts copies qs are ks ps ys zs proved r pushed =
+        over source.BuiltIn hole hole qs
+        (λ s filling. (
+          unshadowed s filling,
+          inr (inr (inr (
+            w,
+            ts,
+            reads s filling,
+            subst (λ d. CopiesParts f d w ts) (sym to.kind) copies,
+            ap (map (asked_at hole)) are ∙ (parts_as ts ∙ ap (λ d. map (λ t. record { kind = d; parts = only t }) ts) (sym to.kind)),
+          ))),
+        )) (parts_turn qs) ks ps ys zs proved r pushed
+
+    -- ---- impls
+
+    module _ (x : Found) (fit : IsFit A (known_below f n) f.rules c w x) (heads : RuleHasHeads fit.rule) (id : ImplId) (has : ImplHasRule raw id fit.rule) where
+      abbrev fill : Fill
+      fill = fill_of (log_of x.fills.items)
+
+      abbrev as_types : Fill
+      as_types k = unbound (fill k)
+
+      abbrev impl : RawImpl
+      impl = has.0
+
+      good_goal : IsGoodGoal S fit.rule.head.kind w
+      good_goal = subst (λ d. IsGoodGoal S d w) (sym fit.kind) asked.good
+
+      filled : (k : Hole) → stands k (key fit.rule.head.kind fit.rule.head.parts) ≡ true → IsFilled S A (answers_sound f n).one (aliases_good raw item f of n le) raw impl fill k
+      filled k s = rule_filled S A (answers_sound f n).one (aliases_good raw item f of n le) raw impl fill has.2.0 fit.rule has.2.1 w fit.holds.part good_goal k s
+
+      tells : Tells fit.rule fit.rule.head.parts fit.rule.preds
+      tells = head_tells fit.rule fit.holds.told
+
+      is_done : (k : Hole) → stands k fit.rule.head.parts ≡ true → IsDone (fill k)
+      is_done k s = may_done fill fit.rule.head.parts w (reads_may A fill fit.rule.head.parts w fit.holds.part) asked.done k s
+
+      -- a part of which each hole is told reads at the types as it does at what stands for its holes
+      turned : (t u : Term) → HasHeads t → IsToldBy (key fit.rule.head.kind fit.rule.head.parts) t → IsToldBy fit.rule.head.parts t → Reads P fill t u → ReadsAs P (apply as_types t) u
+      turned t u h by_key by_head r = reads_unbound S P (λ k y e. e.reads) fill t u h (λ k o. (is_done k (by_head k o)).read) (λ k o. (filled k (by_key k o)).good.valid) r
+
+      preds_turn : (qs : List Asked) → Each (λ q. HasHeads q.parts) qs → Each (λ q. IsToldBy (key fit.rule.head.kind fit.rule.head.parts) q.parts) qs → Each (λ q. IsToldBy fit.rule.head.parts q.parts) qs
+          → Each (λ q. (t : Term) → Reads P fill q.parts t → ReadsAs P (apply as_types q.parts) t) qs
+      preds_turn [] h k t = tt
+      preds_turn (q ∷ qs) h k t = (λ u r. turned q.parts u h.0 k.0 t.0 r, preds_turn qs h.1 k.1 t.1)
+
+      module _ (count : ℕ) (counted : count ≡ length impl.params) (s : Fill) where
+        abbrev xs : List GenericArg
+        xs = fill_args (log_of x.fills.items) count
+
+        same_fill : (k : Hole) → stands k (key fit.rule.head.kind fit.rule.head.parts) ≡ true → args_fill s xs k ≡ as_types k
+        same_fill k st =
+            let q = filled k st in
+            subst (λ (m : ℕ). args_fill s (fill_args (log_of x.fills.items) m) k ≡ as_types k) (sym counted) (fill_is S (log_of x.fills.items) (length impl.params) s k q.number q.below q.is q.good)
+
+        same_at : (t : Term) → IsToldBy (key fit.rule.head.kind fit.rule.head.parts) t → apply as_types t ≡ apply (args_fill s xs) t
+        same_at t told = apply_agree as_types (args_fill s xs) t (λ k o. sym (same_fill k (told k o)))
+
+        same_preds : (qs : List Asked) → Each (λ q. IsToldBy (key fit.rule.head.kind fit.rule.head.parts) q.parts) qs → map (asked_at as_types) qs ≡ map (asked_at (args_fill s xs)) qs
+        same_preds [] t = refl
+        same_preds (q ∷ qs) t = ap₂ (λ y ys. y ∷ ys) (λ i. record { kind = q.kind; parts = same_at q.parts t.0 i }) (same_preds qs t.1)
+
+        impl_at : IsFilling s → IsImplAt raw P s (Own s) id xs (map (asked_at as_types) fit.rule.preds)
+        impl_at filling =
+            let t = fit.rule.head.parts in
+            let head = turned t w heads.head fit.holds.told.head tells.itself (reads_within A P (within f n deep le).alias fill t w fit.holds.part) in
+            record {
+              item = impl;
+              listed = has.1;
+              at = has.2.0;
+              rule = fit.rule;
+              of = has.2.1;
+              same = (fit.kind ∙ sym to.kind, w, subst (λ y. ReadsAs P y w) (same_at t fit.holds.told.head) head, reads s filling);
+              asks = same_preds fit.rule.preds fit.holds.told.preds;
+            }
+
+      pub by_impl : (count : ℕ) → count ≡ length impl.params → (args : List GenericArg) → args ≡ fill_args (log_of x.fills.items) count → (ks : List ℕ) (ps ys zs : List Proof) → ArePredsProved raw f fill ps ys fit.rule.preds ks → (r : Result ℕ AllocError)
+          → IfOk r (λ k. IsPushed ys zs (record { goal = g; source = source.Impl id args; children = ks }) k) → IfOk r (λ k. IsProved raw f ps zs g k)
+      by_impl count counted args are ks ps ys zs proved r pushed =
+          over (source.Impl id args) fill as_types fit.rule.preds
+          (λ s filling. subst (λ ms. IsSource raw f P s (Own s) (source.Impl id ms) (map (asked_at as_types) fit.rule.preds)) (sym are) (unshadowed s filling, impl_at count counted s filling))
+          (preds_turn fit.rule.preds heads.preds fit.holds.told.preds tells.preds) ks ps ys zs proved r pushed
+
+      -- what it asks for may be proved below
+      pub preds_asked : Each (PredIsAsked raw f n fill) fit.rule.preds
+      preds_asked = each_of_get (PredIsAsked raw f n fill) fit.rule.preds (λ i q at.
+          let by_key = each_get (λ (d : Asked). IsToldBy (key fit.rule.head.kind fit.rule.head.parts) d.parts) fit.rule.preds i q fit.holds.told.preds at in
+          let by_head = each_get (λ (d : Asked). IsToldBy fit.rule.head.parts d.parts) fit.rule.preds i q tells.preds at in
+          record {
+            done = record { heads = each_get (λ (d : Asked). HasHeads d.parts) fit.rule.preds i q heads.preds at; fills = λ k o. is_done k (by_head k o) };
+            yes = each_get (λ (d : Asked). (known_below f n).Yes (asked_at fill d)) fit.rule.preds i q fit.holds.preds at;
+            good = λ m u e r.
+                let below : m ≤ deep = omega (arith, e, le) in
+                each_get (λ (d : Asked). ((k : Hole) → occurs k d.parts ≡ true → IsGood S (fill k)) → (u : Term) → Reads (answers f m).Alias fill d.parts u → IsGoodGoal S d.kind u) fit.rule.preds i q
+                (preds_good S (answers f m).Alias (answers_sound f m).one (aliases_good raw item f of m below) raw impl fill has.2.0 fit.rule has.2.1) at (λ k o. (filled k (by_key k o)).good) u r;
+          })

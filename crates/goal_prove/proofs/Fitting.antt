@@ -1,0 +1,150 @@
+-- What the sources of a goal that is read tell of a goal that reads so.
+use Rattle.std.specs.Prelude.{◌≡◌, ◌⊎◌, ◌≤◌, ℕ, zero, suc, Bool, true, false, [], refl}
+use Rattle.std.proofs.Common.{inl, inr, sym, subst, arith}
+use Rattle.hir_types.specs.declared.ids.TypeAliasId.{TypeAliasId}
+use Rattle.hir_types.specs.declared.ids.GenericDefId.{GenericDefId}
+use Rattle.hir_types.specs.declared.goal.Goal.{Goal}
+use Rattle.hir_types.specs.Terms.{Term}
+use Rattle.hir_raw.specs.declared.raw.RawFacts.{RawFacts}
+use Rattle.goal_answers.specs.Reading.{Fill, IsFilling, staying, Aliases, Reads, ReadsAs}
+use Rattle.goal_answers.specs.Goals.{Kind, implements, projects, Asked, Rule, System, asked_at, key, only, self_type, IsKnown, is_among, OneIf, Each, SomeOf, Verdicts}
+use Rattle.goal_answers.specs.Answers.{Proves, Shadows, ShadowsNot, IsItself, HasSource, YesAt, nothing, answers}
+use Rattle.goal_answers.specs.Rows.{SizedYes, CopyYes}
+use Rattle.goal_answers.specs.Selecting.{IsDeep}
+use Rattle.goal_answers.specs.Steps.{known_below}
+use Rattle.goal_answers.proofs.Lists.{each_map, each_with, some_each}
+use Rattle.goal_answers.proofs.Readings.{reads_within}
+use Rattle.goal_answers.proofs.Deeper.{IsWithin, yes_at_more}
+use Rattle.goal_answers.proofs.Levels.{level}
+use Rattle.goal_answers.proofs.One.{key_tells, not_refuted, answers_sound, answers_are_one}
+use Rattle.goal_facts.specs.Proofs.{filled_goal, IsUnshadowed, MayHaveSource}
+use Rattle.goal_facts.specs.Systems.{IsSystemOf}
+use Rattle.goal_select.proofs.Choices.{within}
+use Rattle.goal_select.proofs.Clauses.{IsClosedFact}
+use Rattle.goal_prove.specs.Staying.{Stays, IsValid}
+use Rattle.goal_prove.specs.Asking.{deep_alias, deep_stays, ReadsTo, IsAsked, IsFree, FitsNot, IsSourced}
+use Rattle.goal_prove.proofs.Unbound.{second_valid}
+use Rattle.goal_prove.proofs.Aliases.{clauses_closed}
+
+not_known : (f : System) (m : ℕ) → IsWithin (known_below f zero) (answers f m)
+not_known f m = record { yes = λ g h. absurd h; no = λ g h. absurd h; alias = (within f zero m (omega arith)).alias }
+
+-- what is known below a depth is known below a greater one
+pub below_within : (f : System) (n m : ℕ) → n ≤ m → IsWithin (known_below f n) (known_below f m)
+below_within f zero zero le = record { yes = λ g h. h; no = λ g h. h; alias = λ k w u h. h }
+below_within f zero (suc m) le = not_known f m
+below_within f (suc n) zero le = absurd (omega (arith, le))
+below_within f (suc n) (suc m) le = within f n m (omega (arith, le))
+
+module _ (raw : RawFacts) (item : GenericDefId) (f : System) (of : IsSystemOf raw item f) (n : ℕ) (le : n ≤ raw.limits.goal_depth) (c : Kind) (w : Term) (asked : IsAsked raw f n c w) where
+  abbrev deep : ℕ
+  deep = raw.limits.goal_depth
+
+  abbrev P : Aliases
+  P = deep_alias raw f
+
+  abbrev A : Aliases
+  A = (answers f n).Alias
+
+  abbrev v : Verdicts
+  v = known_below f n
+
+  more : (p : Fill) (t u : Term) → Reads A p t u → Reads P p t u
+  more p t u r = reads_within A P (within f n deep le).alias p t u r
+
+  -- ---- no clause is about it
+
+  module _ (unfit : Each (FitsNot P (known_below f deep) c w) f.clauses) where
+    no_clause : (r : Rule) → IsClosedFact r → FitsNot P (known_below f deep) c w r → Proves A v.Yes c w r → ⊥
+    no_clause r closed h p = h p.kind p.at (record { told = p.told; part = more p.at r.head.parts w p.head; preds = subst (Each (λ q. (known_below f deep).Yes (asked_at p.at q))) (sym closed.preds) tt })
+
+    both : Each (λ r. IsClosedFact r × FitsNot P (known_below f deep) c w r) f.clauses
+    both = each_with {P = FitsNot P (known_below f deep) c w} {Q = λ r. IsClosedFact r × FitsNot P (known_below f deep) c w r} {T = IsClosedFact} (λ r x y. (x, y)) f.clauses (clauses_closed raw item f of) unfit
+
+    by_clauses : SomeOf (Proves A v.Yes c w) f.clauses → ⊥
+    by_clauses h = some_each (λ r p b. no_clause r b.0 b.1 p) f.clauses h both
+
+    shadowed_not : (r : Rule) → ShadowsNot A v c w r → Shadows P c w r → ⊥
+    shadowed_not r (inl m) h = m h.kind
+    shadowed_not r (inr m) h =
+        let l = level f n n in
+        not_refuted v l.stays (λ g. ⊥) (λ g y x. y) A l.alias_stays P (answers_sound f deep).one more r (key c r.head.parts) (key c w) [] h.at (key_tells c r h.kind) h.head tt m
+
+    source_free : HasSource f A v c w → IsFree raw f c w
+    source_free (inl h) = absurd (by_clauses h)
+    source_free (inr h) = each_map shadowed_not f.clauses h.0
+
+    -- ---- by kinds
+
+    of_trait : (t : _) → c ≡ implements t → (r : Rule) → IsClosedFact r × FitsNot P (known_below f deep) c w r → Shadows P c w r → ⊥
+    of_trait t e r (closed, h) s =
+        let head : Reads P s.at r.head.parts w = subst (λ x. Reads P s.at (key x r.head.parts) (key x w)) e s.head in
+        h s.kind s.at (record { told = s.told; part = head; preds = subst (Each (λ q. (known_below f deep).Yes (asked_at s.at q))) (sym closed.preds) tt })
+
+    itself_free : (k : TypeAliasId) → c ≡ projects k → IsItself (projects k) w → IsFree raw f c w
+    itself_free k e (x, is) =
+        let valid = subst (IsValid (deep_stays raw f)) is asked.good.valid in
+        let stays : Stays f P k x = (second_valid (deep_stays raw f) x (staying k x) valid).0 in
+        subst (λ d. IsFree raw f d w) (sym e) (subst (IsFree raw f (projects k)) (sym is) stays.unclaimed)
+
+    free_by : (d : Kind) → c ≡ d → YesAt f A v d w → IsFree raw f c w
+    free_by (implements t) e y = each_map (of_trait t e) f.clauses both
+    free_by (projects k) e (known, inl i) = itself_free k e i
+    free_by (projects k) e (known, inr h) = source_free (subst (λ d. HasSource f A v d w) (sym e) h)
+
+    pub free : IsFree raw f c w
+    free = free_by c refl asked.yes
+
+    -- ---- what is left to prove it
+
+    by_size : (b : Bool) → b ≡ false → OneIf b (SizedYes f A (λ t. IsKnown (only t) × HasSource f A v c (only t)) f.tail (self_type w)) (HasSource f A v c w) → HasSource f A v c w
+    by_size true e h = cc
+    by_size false e h = h
+
+    source_is : HasSource f A v c w → SomeOf (Proves A v.Yes c w) f.rules ⊎ CopyYes f v.Yes c w
+    source_is (inl h) = absurd (by_clauses h)
+    source_is (inr h) = h.1
+
+    source_by : is_among f.sized c ≡ false → (IsItself c w → ⊥) → YesAt f A v c w → SomeOf (Proves A v.Yes c w) f.rules ⊎ CopyYes f v.Yes c w
+    source_by unsized other (known, inl i) = absurd (other i)
+    source_by unsized other (known, inr h) = source_is (by_size (is_among f.sized c) unsized h)
+
+    pub sourced : is_among f.sized c ≡ false → (IsItself c w → ⊥) → IsSourced raw f n c w
+    sourced unsized other = record { free = free; unsized = unsized; source = source_by unsized other asked.yes }
+
+  -- ---- a goal that reads so
+
+  module _ (g : Goal) (reads_to : ReadsTo raw f g c w) where
+    -- its answer is Yes as far as goals may be followed
+    deep_yes : (m : ℕ) → n ≤ m → (g : Asked) → g.kind ≡ c → ReadsAs (answers f m).Alias g.parts w → (answers f m).Yes g
+    deep_yes zero le g e reads =
+        let here : n ≡ zero = omega (arith, le) in
+        let all = subst (λ (i : ℕ). YesAt f (answers f i).Alias (known_below f i) c w) here asked.yes in
+        (w, reads, subst (λ d. is_among f.sized d ≡ true) (sym e) (shallow n here asked.deep), subst (λ d. YesAt f (answers f zero).Alias (nothing f) d w) (sym e) all)
+      where
+        shallow : (i : ℕ) → i ≡ zero → IsDeep i ⊎ (is_among f.sized c ≡ true) → is_among f.sized c ≡ true
+        shallow zero z (inl h) = absurd h
+        shallow zero z (inr h) = h
+        shallow (suc i) z h = absurd (omega (arith, z))
+    deep_yes (suc m) le g e reads = (
+      w,
+      reads,
+      subst (λ d. YesAt f (answers f (suc m)).Alias (known_below f (suc m)) d w) (sym e)
+          (yes_at_more (known_below f n) (known_below f (suc m)) (below_within f n (suc m) le) (answers f n).Alias (answers f (suc m)).Alias (within f n (suc m) le).alias f c w asked.yes),
+    )
+
+    module _ (s : Fill) (filling : IsFilling s) where
+      abbrev here : Asked
+      here = filled_goal s g
+
+      reads : ReadsAs P here.parts w
+      reads = reads_to.reads s filling
+
+      pub yes_here : (answers f deep).Yes here
+      yes_here = deep_yes deep le here reads_to.kind reads
+
+      pub may_here : MayHaveSource raw f here
+      may_here sized denied = (answers_are_one f deep deep).0 here yes_here denied
+
+      pub unshadowed_here : IsFree raw f c w → IsUnshadowed f P here
+      unshadowed_here h = (w, reads, subst (λ d. IsFree raw f d w) (sym reads_to.kind) h)

@@ -1,0 +1,81 @@
+-- A goal without holes whose answer is Yes, as it is read.
+use Rattle.std.specs.Prelude.{◌≡◌, ◌⊎◌, ◌+◌, ◌≤◌, ℕ, suc, refl}
+use Rattle.std.proofs.Common.{inl, inr, sym, ap₂, ◌∙◌, subst, arith}
+use Rattle.hir_types.specs.declared.ids.GenericDefId.{GenericDefId}
+use Rattle.hir_types.specs.declared.goal.Goal.{Goal}
+use Rattle.hir_types.specs.Terms.{Term, hole, leaf, pair, apply}
+use Rattle.hir_raw.specs.declared.raw.RawFacts.{RawFacts}
+use Rattle.goal_answers.specs.Reading.{Fill, ReadsAs}
+use Rattle.goal_answers.specs.Goals.{Asked, System, asked_at}
+use Rattle.goal_answers.specs.Answers.{YesAt, answers}
+use Rattle.goal_answers.specs.Steps.{known_below}
+use Rattle.goal_answers.proofs.Readings.{reads_one, reads_within}
+use Rattle.goal_answers.proofs.One.{answers_sound, answers_are_one}
+use Rattle.goal_terms.specs.Terms.{HasHeads}
+use Rattle.goal_search.specs.declared.answer.Answer.{Answer}
+use Rattle.goal_search.specs.declared.answer.Answer.TheVariants as answer
+use Rattle.goal_search.specs.declared.sources.Sources.{Sources}
+use Rattle.goal_search.specs.declared.sources.Asked.{Asked as SearchAsked}
+use Rattle.goal_search.specs.Sources.{asked_of, system}
+use Rattle.goal_search.specs.Searching.{SystemHasHeads, Decides}
+use Rattle.goal_search.proofs.Heads.{reading_done}
+use Rattle.goal_facts.specs.Goals.{asked_goal}
+use Rattle.goal_facts.specs.Systems.{IsSystemOf}
+use Rattle.goal_facts.proofs.Systems.{asked_itself}
+use Rattle.goal_select.proofs.Choices.{within}
+use Rattle.goal_prove.specs.Staying.{IsWritten}
+use Rattle.goal_prove.specs.Asking.{deep_alias, deep_stays, ReadsTo, IsAsked}
+use Rattle.goal_prove.proofs.Aliases.{aliases_good}
+use Rattle.goal_prove.proofs.Below.{yes_as}
+use Rattle.goal_prove.proofs.Typing.{goal_reads}
+
+written_stays : (s : Fill) (t : Term) → IsWritten t → apply s t ≡ t
+written_stays s (hole k) w = absurd w
+written_stays s (leaf h) w = refl
+written_stays s (pair a b) w = ap₂ pair (written_stays s a w.0) (written_stays s b w.1)
+
+module _ (raw : RawFacts) (item : GenericDefId) (f : System) (of : IsSystemOf raw item f) (heads : SystemHasHeads f) (n : ℕ) (le : n ≤ raw.limits.goal_depth) (g : Goal) (written : IsWritten (asked_goal g).parts) (yes : (answers f n).Yes (asked_goal g)) where
+  -- it reads as something
+  pub reads_some : ((u : Term) → ReadsAs (answers f n).Alias (asked_goal g).parts u → ⊥) → ⊥
+  reads_some none = let y = yes_as f n (asked_goal g) yes in none y.target y.reads
+
+  module _ (w : Term) (reads : ReadsAs (answers f n).Alias (asked_goal g).parts w) where
+    pub whole_reads : ReadsTo raw f g (asked_goal g).kind w
+    whole_reads = record {
+      kind = refl;
+      reads = λ s filling. subst (λ t. ReadsAs (deep_alias raw f) t w) (sym (written_stays s (asked_goal g).parts written)) (reads_within (answers f n).Alias (deep_alias raw f) (within f n raw.limits.goal_depth le).alias hole (asked_goal g).parts w reads);
+    }
+
+    pub whole_asked : HasHeads (asked_goal g).parts → IsAsked raw f n (asked_goal g).kind w
+    whole_asked h =
+        let y = yes_as f n (asked_goal g) yes in
+        let same : y.target ≡ w = reads_one (answers f n).Alias (answers_sound f n).one hole (asked_goal g).parts y.target w y.reads reads in
+        record {
+          done = reading_done f heads n hole (asked_goal g).parts w h (λ k o. record { read = tt; heads = tt }) reads;
+          good = goal_reads (deep_stays raw f) (answers f n).Alias (aliases_good raw item f of n le) g written w reads;
+          yes = subst (YesAt f (answers f n).Alias (known_below f n) (asked_goal g).kind) same y.yes;
+          deep = y.deep;
+        }
+
+-- ---- the answer
+
+-- after one step more
+pub answer_at : (f : System) (n m : ℕ) (g : Asked) (a : Answer) → m ≡ n + 1 → Decides ((known_below f m).Yes (asked_at hole g)) ((known_below f m).No (asked_at hole g)) a → Decides ((answers f n).Yes g) ((answers f n).No g) a
+answer_at f n m g a e d =
+    let step : m ≡ suc n = omega (arith, e) in
+    let at = subst (λ (i : ℕ). Decides ((known_below f i).Yes (asked_at hole g)) ((known_below f i).No (asked_at hole g)) a) step d in
+    subst (λ x. Decides ((answers f n).Yes x) ((answers f n).No x) a) (asked_itself g) at
+
+-- what isn't Yes has no proof
+pub not_proved : (f : System) (n : ℕ) (g : Asked) (a : Answer) → Decides ((answers f n).Yes g) ((answers f n).No g) a → (a ≡ answer.Yes → ⊥) → (answers f n).Yes g → ⊥
+not_proved f n g answer.Yes d other y = other refl
+not_proved f n g answer.No d other y = (answers_are_one f n n).0 g y d
+not_proved f n g answer.Undecided d other y = d.0 y
+
+-- the same of what was evaluated
+pub answered : (s : Sources) (n m : ℕ) (x : SearchAsked) (g : Asked) (a : Answer) → asked_of x ≡ g → m ≡ n + 1 → Decides ((known_below (system s) m).Yes (asked_at hole (asked_of x))) ((known_below (system s) m).No (asked_at hole (asked_of x))) a → Decides ((answers (system s) n).Yes g) ((answers (system s) n).No g) a
+answered s n m x g a is e d = subst (λ y. Decides ((answers (system s) n).Yes y) ((answers (system s) n).No y) a) is (answer_at (system s) n m (asked_of x) a e d)
+
+pub is_other : (a : Answer) → (a ≡ answer.No) ⊎ (a ≡ answer.Undecided) → a ≡ answer.Yes → ⊥
+is_other a (inl e) y = let clash : answer.No ≡ answer.Yes = sym e ∙ y in cc
+is_other a (inr e) y = let clash : answer.Undecided ≡ answer.Yes = sym e ∙ y in cc

@@ -1,0 +1,17 @@
+use Rattle.std.proofs.Common.{◌≡◌, take}
+use Rattle.goal_answers.specs.Goals.{Each}
+use Rattle.goal_answers.specs.Answers.{answers}
+use Rattle.goal_answers.specs.Steps.{known_below}
+use Rattle.goal_terms.specs.Terms.{term_of}
+use Rattle.goal_search.specs.Sources.{kind_of, rule_of, system}
+use Rattle.goal_prove.specs.Asking.{FitsNot}
+use Rattle.goal_prove.proofs.fits.find_fit.Given as goal
+
+-- none of those before fits
+abbrev pub invariant-loop-place : goal.invariant-loop-place
+invariant-loop-place l =
+    let f = system l.fn.search in
+    record {
+      same : l.search ≡ l.fn.search;
+      so_far : Each (λ r. FitsNot (answers f l.depth).Alias (known_below f l.depth) (kind_of l.kind) (term_of l.target) (rule_of r)) (take l.place l.rules);
+    }

@@ -1,0 +1,52 @@
+-- Proofs that are listed, and added behind others.
+use Rattle.std.specs.Prelude.{◌≡◌, ◌++◌, ℕ, List, [], ◌∷◌, length, slice_get, Option, Some, None}
+use Rattle.hir_types.specs.declared.goal.Goal.{Goal}
+use Rattle.hir_raw.specs.declared.raw.RawFacts.{RawFacts}
+use Rattle.infer_table.specs.Table.{IsFront}
+use Rattle.goal_answers.specs.Reading.{Fill, IsFilling}
+use Rattle.goal_answers.specs.Goals.{System}
+use Rattle.goal_answers.specs.Answers.{answers}
+use Rattle.goal_facts.specs.declared.proof.Proof.{Proof}
+use Rattle.goal_facts.specs.Goals.{asked_goal}
+use Rattle.goal_facts.specs.Proofs.{AreProofs}
+
+-- ---- one proof
+
+-- the goal's proof has this number
+abbrev pub IsProofAt : List Proof → Goal → ℕ → Type 0
+IsProofAt ps g k = (x : Proof) × (slice_get ps k ≡ Some x) × (x.goal ≡ g)
+
+-- the same but for lifetimes
+abbrev pub IsProofAs : List Proof → Goal → ℕ → Type 0
+IsProofAs ps g k = (x : Proof) × (slice_get ps k ≡ Some x) × (asked_goal x.goal ≡ asked_goal g)
+
+-- it has where there is one
+abbrev pub IsProofIf : List Proof → Goal → Option ℕ → Type 0
+IsProofIf ps g (Some k) = IsProofAs ps g k
+IsProofIf ps g None = Unit {0}
+
+-- the proof was put at the end, and this is its number
+pub record IsPushed (ps qs : List Proof) (x : Proof) (found : ℕ) : Type 0 where
+  pub pushed : qs ≡ ps ++ x ∷ []
+  pub number : found ≡ length ps
+
+-- ---- what was added
+
+-- at each filling, though none of them says anything of it
+abbrev pub AreRightProofs : RawFacts → System → List Proof → Type 0
+AreRightProofs raw f ps = (s : Fill) → IsFilling s → AreProofs raw f (answers f raw.limits.goal_depth).Alias s ps
+
+-- these come behind, and if the first are proofs all are
+pub record AddsProofs (raw : RawFacts) (f : System) (ps qs : List Proof) : Type 0 where
+  pub behind : IsFront ps qs
+  pub right : AreRightProofs raw f ps → AreRightProofs raw f qs
+
+-- where none was found they are as before
+abbrev pub KeepsIfNone : {X : Type 0} → List Proof → List Proof → Option X → Type 0
+KeepsIfNone ps qs (Some x) = Unit {0}
+KeepsIfNone ps qs None = qs ≡ ps
+
+-- it is proved, or its answer at the depth isn't Yes
+abbrev pub IsProvedIf : System → ℕ → List Proof → Goal → Option ℕ → Type 0
+IsProvedIf f n ps g (Some k) = IsProofAt ps g k
+IsProvedIf f n ps g None = (answers f n).Yes (asked_goal g) → ⊥
