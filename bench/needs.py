@@ -2,10 +2,11 @@
 """Time and peak memory of `table fn 0` over a function of N calls that need a bound, at N, 2N and 4N.
 
 The calls are in turn `need(1u8);`, `need(true);` and `need((1u8, true));`, of `fn need<T: Tr>(x: T)`, where `Tr` is implemented
-for `u8`, for `bool`, and for each pair of types that implement it; and `of(1u8);`, of `fn of<T: Of<U>, U>(x: T) -> U`, where the
-one impl of `Of` says what `U` is.
+for `u8`, for `bool`, for `i32`, and for each pair of types that implement it; `of(1u8);`, of `fn of<T: Of<U>, U>(x: T) -> U`, where the
+one impl of `Of` says what `U` is; and `need(1);`, of which the goal is open till the literal falls back to `i32` in the end.
 What is printed is as of `bench/lets.py`, rustc's time of its pass `type_check_crate` with it where rustc is found.
-Usage: bench/needs.py [N]      (30000 where not given; 4N must fit into 2^24 bytes)
+Usage: bench/needs.py [N] [open]      (30000 where not given; 4N must fit into 2^24 bytes; with `open` there are calls `need(1);` alone, for which
+rustc takes minutes from some 40000 on)
 Build the program first: cd crates/infer_tool && rt run -- table fn 0 < ../../examples/first_run.json
 """
 import sys
@@ -15,28 +16,38 @@ from lets import fn_fact, measure_at
 SOURCE = """pub trait Tr {}
 impl Tr for u8 {}
 impl Tr for bool {}
+impl Tr for i32 {}
 impl<A: Tr, B: Tr> Tr for (A, B) {}
 fn need<T: Tr>(x: T) {}
 pub trait Of<U> {}
 impl Of<bool> for u8 {}
 fn of<T: Of<U>, U>(x: T) -> U { loop {} }
 """
-CALLS = ["need(1u8);\n", "need(true);\n", "need((1u8, true));\n", "of(1u8);\n"]
+CALLS = ["need(1u8);\n", "need(true);\n", "need((1u8, true));\n", "of(1u8);\n", "need(1);\n"]
 
 
 def needs(function, count):
-    """`need(1u8); need(true); need((1u8, true)); of(1u8); ..`"""
-    function.types += ["bool", ["param", 0], ["param", 1], ["tuple", [3, 4]]]
+    """`need(1u8); need(true); need((1u8, true)); of(1u8); need(1); ..`"""
+    add_calls(function, [k % len(CALLS) for k in range(count)])
+
+
+def open_needs(function, count):
+    """`need(1); need(1); ..`"""
+    add_calls(function, [CALLS.index("need(1);\n")] * count)
+
+
+def add_calls(function, kinds):
+    """Calls of these kinds, each a place of `CALLS`."""
+    function.types += ["bool", ["param", 0], ["param", 1], ["tuple", [3, 4]], "i32"]
     function.traits = [trait_fact("Tr", []), trait_fact("Of", ["t"])]
-    function.impls = [impl_fact(0, 1), impl_fact(0, 2), impl_fact(2, 5), impl_of()]
+    function.impls = [impl_fact(0, 1), impl_fact(0, 2), impl_fact(0, 6), impl_fact(2, 5), impl_of()]
     of = ["trait", 1, [["t", 3], ["t", 4]]]
     function.called = [fn_fact("need", ["t"], [3], 0, None, [goal(3)]), fn_fact("of", ["t", "t"], [3], 4, None, [of])]
     function.named_source = SOURCE
-    for k in range(count):
-        kind = k % len(CALLS)
+    for kind in kinds:
         callee, parts = function.expr(["path", ["fn", 2 if kind == 3 else 1, None]]), []
         if kind != 1:
-            parts.append(function.expr(["lit", ["int", "1", "u8"]]))
+            parts.append(function.expr(["lit", ["int", "1", None if kind == 4 else "u8"]]))
         if kind in (1, 2):
             parts.append(function.expr(["lit", ["bool", True]]))
         argument = parts[0] if len(parts) == 1 else function.expr(["tuple", parts])
@@ -69,7 +80,8 @@ def main():
     if "--help" in sys.argv[1:]:
         print(__doc__.strip())
         return
-    measure_at(needs, int(sys.argv[1]) if len(sys.argv) > 1 else 30000)
+    numbers = [int(word) for word in sys.argv[1:] if word != "open"]
+    measure_at(open_needs if "open" in sys.argv[1:] else needs, numbers[0] if numbers else 30000)
 
 
 if __name__ == "__main__":

@@ -34,7 +34,7 @@ use Rattle.infer_ctx.specs.Context.{IsCarriedExpectation}
 use Rattle.infer_ctx.specs.Fine.{IsFine}
 use Rattle.infer_ctx.specs.Found.{Found, with_mismatch}
 use Rattle.infer_ctx.specs.Steps.{Follows, Within, IsWalking, CoerceDone, KindDone}
-use Rattle.infer_ctx.specs.Tells.{TellsRecorded}
+use Rattle.infer_ctx.specs.Asked.{IsTold}
 use Rattle.infer_ctx.specs.Under.{LieAhead, KindWalked}
 use Rattle.infer_ctx.specs.Walks.{Walks, Debt, Nothing, Owed, PaidBy, IsFree, expr_end}
 use Rattle.infer_ctx.proofs.AtEach.{follows_twice, closes_before, walking_after, expected_carried}
@@ -107,7 +107,7 @@ carried_stmt b n ys o i y h is e =
 
 module _ (g : Given) (s : Schedule) (n : ExprId) (ys : List RawStmt) (o : Option ExprId) (i : ℕ) (mid c : InferenceContext)
     (h : BlockWalk g s n ys o i mid c) where
-  walking : TellsRecorded g mid.result → IsWalking g s c
+  walking : IsTold g mid → IsWalking g s c
   walking told = walking_after g s mid c told h.walk.follows (λ a l. (h.walk.each a l).walks.state)
 
   module _ (y : RawStmt) (is : y ≡ get_or ys i y) (k : i < length ys) where

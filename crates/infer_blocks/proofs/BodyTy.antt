@@ -1,6 +1,6 @@
 -- The types that `let`s are written with, part by part.
-use Rattle.std.proofs.Common.{ℕ, ◌+◌, List, map, ◌≤◌, ◌≡◌, Some, slice_get, suc, ◌<◌, max, refl, arith, [], ◌∷◌, inl, inr, sym, ap, ◌∙◌, subst, length, zero, Option, None, take, ◌++◌, ◌⊎◌}
-use Rattle.std.proofs.lemmas.List.{length-set, map-append}
+use Rattle.std.proofs.Common.{ℕ, ◌+◌, List, map, ◌≤◌, ◌≡◌, Some, slice_get, suc, ◌<◌, max, refl, arith, [], ◌∷◌, inl, inr, sym, ap, ◌∙◌, subst, length, Option, None, take, ◌++◌, ◌⊎◌}
+use Rattle.std.proofs.lemmas.List.{map-append}
 use Rattle.hir_types.specs.declared.ids.TypeRefId.{TypeRefId}
 use Rattle.hir_types.specs.Types.{most}
 use Rattle.hir_types.specs.declared.ty.Ty.{Ty}
@@ -37,15 +37,16 @@ use Rattle.infer_result.specs.Truth.Diagnostics.{IsTrueDiagnostic}
 use Rattle.infer_result.specs.Closed.{IsOfBody}
 use Rattle.infer_ctx.specs.declared.context.InferenceContext.{InferenceContext}
 use Rattle.infer_ctx.specs.Closings.{IsSound, Closes, closed_table, closed_types, found_under}
-use Rattle.infer_ctx.specs.Walks.{IsFree, IsWalked, Extends, Walks, Nothing, IsCarriedTable, IsSeenAs}
+use Rattle.infer_ctx.specs.Walks.{IsWalked, Extends, Walks, Nothing, IsCarriedTable, IsSeenAs}
 use Rattle.infer_ctx.specs.Context.{with_placeholder_ty}
 use Rattle.infer_ctx.specs.Found.{Found, RecordsVariants}
 use Rattle.infer_ctx.specs.Fine.{IsFine}
 use Rattle.infer_ctx.specs.Steps.{Follows}
 use Rattle.infer_ctx.specs.Tells.{TellsRecorded}
+use Rattle.infer_ctx.proofs.Asked.{told_with}
 use Rattle.infer_ctx.proofs.Category.{walks_refl}
 use Rattle.infer_ctx.proofs.Keeps.{extends_refl, hole_at, diagnostic_kept, seen_as_kept}
-use Rattle.infer_ctx.proofs.UnderClosings.{sound_placeholder, push_cases, At-closed, At-unclosed, length-closed, closes_earlier}
+use Rattle.infer_ctx.proofs.UnderClosings.{sound_placeholder, push_cases, At-closed, At-unclosed, closes_earlier}
 use Rattle.infer_ctx.proofs.FineTypes.{fine_hole}
 use Rattle.infer_ctx.proofs.Lists.{At-put, put-cases, put-here, take_next}
 use Rattle.infer_ctx.proofs.OverTypes.{fine_closed}
@@ -291,10 +292,10 @@ module _ (g : Given) (s : Schedule) (law : IsLawful g.scope.facts) (w : TypeRefI
   follows = record {
     clock = omega (arith, d.adds.clock);
     grew = d.adds.grew;
-    stays = d.adds.stays;
+    sources = d.adds.stays.sources;
     of_body = subst (λ r. IsOfBody g.body r) (sym d.adds.result) (of_body_with g.body old.result new.result.type_of_placeholder h.state.of_body);
     sound = d.adds.sound;
-    told = λ told. subst (λ r. TellsRecorded g r) (sym d.adds.result) told;
+    told = told_with g old new (ap (λ (r : InferenceResult). r.type_of_expr) d.adds.result) d.adds.stays d.adds.grew (λ told. subst (λ r. TellsRecorded g r) (sym d.adds.result) told);
   }
 
   fine : IsFine g.scope new.goals.table t

@@ -12,7 +12,6 @@ use Rattle.hir_facts.specs.CarriedTypes.{IsCarriedType}
 use Rattle.hir_raw.specs.Order.{Role, Part, inner, expr_part, after}
 use Rattle.infer_table.specs.Table.{State, Grew}
 use Rattle.infer_table.proofs.HoleLaws.{grew_twice}
-use Rattle.infer_goals.specs.Stays.{stays_twice}
 use Rattle.infer_result.specs.declared.result.InferenceResult.{InferenceResult}
 use Rattle.infer_result.specs.Places.{Given}
 use Rattle.infer_result.specs.Demands.{AsksOf}
@@ -22,12 +21,13 @@ use Rattle.infer_ctx.specs.Fine.{IsFineExpectation}
 use Rattle.infer_ctx.specs.Closings.{expected_under, found_under, Closes}
 use Rattle.infer_ctx.specs.declared.context.InferenceContext.{InferenceContext}
 use Rattle.infer_ctx.specs.Steps.{OwnDone, Follows, CoerceDone, Before}
-use Rattle.infer_ctx.specs.Tells.{TellsRecorded}
 use Rattle.infer_ctx.specs.Under.{CoerceWalked, LieAhead, IsReady}
 use Rattle.infer_ctx.specs.Walks.{Walks, Nothing, OwedByAlternatives, Extends, expr_end}
 use Rattle.infer_ctx.proofs.Expected.{alternatives_less, arms_less}
 use Rattle.infer_ctx.proofs.FineTypes.{fine_grown, fine_expectation_grown}
-use Rattle.infer_ctx.proofs.AtEach.{follows_twice, closes_before, told_same, walking_after, expected_carried}
+use Rattle.infer_ctx.specs.Asked.{IsTold}
+use Rattle.infer_ctx.proofs.Asked.{told_same}
+use Rattle.infer_ctx.proofs.AtEach.{follows_twice, closes_before, walking_after, expected_carried}
 use Rattle.infer_ctx.proofs.Category.{walks_trans, walks_paid}
 use Rattle.infer_ctx.proofs.UnderClosings.{same_found, closes_earlier}
 use Rattle.infer_ctx.proofs.OverTypes.{fine_closed}
@@ -106,10 +106,10 @@ pub completed_follows : (g : Given) (x : Option Ty) (m : CoerceMany) (t : Ty) (f
 completed_follows g x m t first old new f d = record {
   clock = omega (arith, f.clock, d.clock);
   grew = grew_twice first.goals.table old.goals.table new.goals.table f.grew d.grew;
-  stays = stays_twice first.goals old.goals new.goals f.stays d.stays;
+  sources = d.stays.sources ∙ f.sources;
   of_body = subst (λ r. IsOfBody g.body r) (sym d.result) f.of_body;
   sound = d.sound;
-  told = λ k. told_same g old new d.result (f.told k);
+  told = λ k. told_same g old new d.result d.stays d.grew (f.told k);
 }
 
 -- ---- a part that is to be a truth value
@@ -170,7 +170,7 @@ module _ (g : Given) (s : Schedule) (n : ExprId) (y : Option Ty) where
 
   module _ (es : List ExprId) (m : CoerceMany) (K : InferenceResult → Type 0) (ps : List Part) (stop : ℕ) (mid c : InferenceContext) where
     module _ (role : Role) (e : ExprId) (h : AtAlternatives g s n y es m K (expr_part role e ∷ ps) stop mid c) where
-      pub comes_to_alternative : IsReady g s → TellsRecorded g mid.result → Before g s e y c
+      pub comes_to_alternative : IsReady g s → IsTold g mid → Before g s e y c
       comes_to_alternative ready told = record {
         ready = ready;
         state = walking_after g s mid c told h.follows (λ a l. (h.each a l).walks.state);

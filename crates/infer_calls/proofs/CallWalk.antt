@@ -1,5 +1,5 @@
 -- A call: what it calls, and what that takes and gives.
-use Rattle.std.proofs.Common.{List, map, None, Option, ◌≡◌, ◌∷◌, inl, inr, sym, ap, subst, ◌∙◌, ℕ, suc, [], refl, arith, length, Some, slice_get, Result, Ok, Err}
+use Rattle.std.proofs.Common.{List, map, None, ◌≡◌, ◌∷◌, sym, ap, subst, ◌∙◌, ℕ, [], refl, arith, length, Some, slice_get, Result, Ok, Err}
 use Rattle.std.specs.Prelude.{IfOk}
 use Rattle.std.proofs.lemmas.List.{length-map}
 use Rattle.hir_types.specs.declared.ids.ExprId.{ExprId}
@@ -11,13 +11,12 @@ use Rattle.hir_raw.specs.declared.schedule.Schedule.{Schedule}
 use Rattle.hir_facts.specs.CarriedTypes.{IsCarriedType}
 use Rattle.hir_raw.specs.Order.{inner, argument, callee, expr_part, exprs_from}
 use Rattle.hir_raw.specs.Signatures.{at_args}
-use Rattle.hir_raw.specs.Scope.{Scope}
-use Rattle.infer_table.specs.Table.{Grew, State}
+use Rattle.infer_table.specs.Table.{Grew}
 use Rattle.infer_table.proofs.UndoLaws.{grew_itself}
 use Rattle.infer_result.specs.Places.{Given}
 use Rattle.infer_result.specs.declared.diagnostics.InferenceDiagnostic.TheVariants as diagnostic
 use Rattle.infer_ctx.specs.declared.context.InferenceContext.{InferenceContext}
-use Rattle.infer_ctx.specs.Closings.{Closes, expected_under, found_under}
+use Rattle.infer_ctx.specs.Closings.{Closes, found_under}
 use Rattle.infer_ctx.specs.Steps.{Before, Within, KindDone, Follows, OnlyBinds, OwnDone}
 use Rattle.infer_ctx.specs.Callables.{IsSigOf, IsSigOfItem}
 use Rattle.infer_ctx.specs.declared.given.CallableSig.{CallableSig}
@@ -26,6 +25,7 @@ use Rattle.infer_ctx.specs.Under.{KindWalked, own_scope}
 use Rattle.infer_ctx.specs.Walks.{Extends, IsWalked, Nothing, Owed, PaidBy}
 use Rattle.infer_ctx.specs.Context as context
 use Rattle.infer_ctx.specs.Found as found
+use Rattle.infer_ctx.proofs.Asked.{told_beside}
 use Rattle.infer_ctx.proofs.AtEach.{closes_before, walking_after, follows_itself, follows_twice}
 use Rattle.infer_ctx.proofs.Category.{walks_paid, walks_trans}
 use Rattle.infer_ctx.proofs.FineTypes.{fine_grown, every_at, every_from}
@@ -164,6 +164,19 @@ module _ (g : Given) (s : Schedule) (n : ExprId) (args : List ExprId) (c d : Inf
     each = λ a q. subst (λ f. ArgsWalked g s n args (map (folded a) ss) f (found_under a new)) (sym (found_same a)) (k.each a q);
   }
 
+  pub args_then : (ss : List Ty) (mid : InferenceContext) → ArgsDone g s n args ss mid c → ArgsDone g s n args ss mid d
+  args_then ss mid k = record {
+    follows = follows_twice g mid c d k.follows o.follows;
+    each = λ a q. subst (λ f. ArgsWalked g s n args (map (folded a) ss) (found_under a mid) f) (found_same a) (k.each a (closes_before g a c d o.follows q));
+  }
+
+  pub loose_then : (mid : InferenceContext) → LooseDone g s n args [] mid c → LooseDone g s n args [] mid d
+  loose_then mid k = record {
+    follows = follows_twice g mid c d k.follows o.follows;
+    each = λ a q. subst (λ f. LooseWalked g s n (found_under a mid) f) (found_same a) (k.each a (closes_before g a c d o.follows q));
+    met = λ i e u at none. absurd (cc);
+  }
+
   pub answered_since : {A E : Type 0} (ss : List Ty) (new : InferenceContext) (r : Result A E) → IfOk r (λ x. ArgsDone g s n args ss d new) → IfOk r (λ x. ArgsDone g s n args ss c new)
   answered_since ss new (Ok x) h = args_since ss new h
   answered_since ss new (Err e) h = tt
@@ -208,10 +221,10 @@ module _ (g : Given) (s : Schedule) (n : ExprId) (args : List ExprId) (ss : List
     told_follows = record {
       clock = omega arith;
       grew = (follows_itself g mid h.before.state.of_body h.before.state.sound).grew;
-      stays = (follows_itself g mid h.before.state.of_body h.before.state.sound).stays;
+      sources = refl;
       of_body = of_body_diagnostic g.body mid h.before.state.of_body n (diagnostic.MismatchedArgCount n (length ss) (length args));
       sound = sound_diagnostic mid h.before.state.sound n (diagnostic.MismatchedArgCount n (length ss) (length args)) (λ m t e. absurd (cc));
-      told = λ k. k;
+      told = told_beside g mid told refl refl refl;
     }
 
     -- what is said of the number, under an assignment

@@ -27,6 +27,7 @@ use Rattle.infer_ctx.specs.Walks.{Extends, Nothing}
 use Rattle.infer_ctx.proofs.InParts.{goes_past_own}
 use Rattle.infer_ctx.specs.Context as context
 use Rattle.infer_ctx.specs.Found as found
+use Rattle.infer_ctx.proofs.Asked.{told_same, told_beside}
 use Rattle.infer_ctx.proofs.AtEach.{follows_twice, closes_before, walking_after, follows_itself}
 use Rattle.infer_ctx.proofs.UnderClosings.{same_found, closes_earlier, seen_under, of_body_seen, sound_seen}
 use Rattle.infer_ctx.proofs.FineTypes.{fine_hole}
@@ -73,10 +74,10 @@ module _ (g : Given) (s : Schedule) (n : ExprId) (args : List ExprId) (u : Ty) (
   saw_follows = record {
     clock = omega arith;
     grew = (follows_itself g c h.state.of_body h.state.sound).grew;
-    stays = (follows_itself g c h.state.of_body h.state.sound).stays;
+    sources = refl;
     of_body = of_body_seen g.body c h.state.of_body seen_entry;
     sound = sound_seen c h.state.sound seen_entry h.fine refl;
-    told = λ k. k;
+    told = told_beside g c saw refl refl refl;
   }
 
   -- and is so under each assignment
@@ -124,10 +125,10 @@ module _ (g : Given) (s : Schedule) (n : ExprId) (args : List ExprId) (u : Ty) (
         follows = follows_twice g c saw last saw_follows (follows_twice g saw new last d.follows (record {
           clock = omega arith;
           grew = grew;
-          stays = stays_with new.goals last.goals.table;
+          sources = refl;
           of_body = d.follows.of_body;
           sound = holed_sound new kind.Ty d.follows.sound;
-          told = λ k. k;
+          told = told_same g new last refl (stays_with new.goals last.goals.table) grew;
         }));
         fine = fine;
         tells = other_call_tells g n h.called args h.is_call h.no_path v;

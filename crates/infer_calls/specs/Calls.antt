@@ -29,6 +29,7 @@ use Rattle.infer_ctx.specs.Tells.{Tells}
 use Rattle.infer_ctx.specs.Closings.{Closes, found_under}
 use Rattle.infer_ctx.specs.Steps.{Follows, OwnDone, Within, IsWalking, Does}
 use Rattle.infer_coerce.specs.MadeEqual.{SameOrDiffer}
+use Rattle.infer_obligations.specs.Selection.{SelectsInWalk}
 
 abbrev pub IsCallOf : RawBody → ExprId → ExprId → List ExprId → Type 0
 IsCallOf b e called args = slice_get b.exprs e.0 ≡ Some (expr.Call called args)
@@ -142,6 +143,11 @@ pub record BeforeInputs (g : Given) (s : Schedule) (n : ExprId) (args : List Exp
 -- the arguments are at what the call takes, or there are not as many, which is said
 abbrev pub ArgsDone : Given → Schedule → ExprId → List ExprId → List Ty → InferenceContext → InferenceContext → Type 0
 ArgsDone g s n args ss old new = Does g (λ a. ArgsWalked g s n args (map (folded a) ss)) old new
+
+-- goals were selected, and nothing was done after that
+pub record EndsInSelection (g : Given) (c : InferenceContext) : Type 0 where
+  pub before : InferenceContext
+  pub selects : SelectsInWalk g before c
 
 -- The node n is a call of what has this type, as far as it is known: that is no function's. It has come to its arguments.
 pub record BeforeUncallable (g : Given) (s : Schedule) (n : ExprId) (args : List ExprId) (t : Ty) (c : InferenceContext) : Type 0 where

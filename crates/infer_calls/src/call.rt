@@ -4,7 +4,7 @@ ghost use Rattle.infer_result.specs.Closed.{IsOfBody};
 ghost use Rattle.infer_ctx.specs.Closings.{IsSound};
 ghost use Rattle.infer_ctx.specs.Context.{given_of, scope_in, schedule_of, expected_type};
 ghost use Rattle.infer_ctx.specs.Fine.{IsFine, IsFineExpectation};
-ghost use Rattle.infer_calls.specs.Calls.{IsCallOf, CalleeTyped, BeforeCall, BeforeInputs, ArgsDone, BeforeUncallable, BeforeLoose, LooseDone, AreMet};
+ghost use Rattle.infer_calls.specs.Calls.{IsCallOf, CalleeTyped, BeforeCall, BeforeInputs, ArgsDone, BeforeUncallable, BeforeLoose, LooseDone, AreMet, EndsInSelection};
 ghost use Rattle.infer_ctx.specs.Steps.{Before, Within, KindDone};
 ghost use Rattle.infer_coerce.specs.Recursion.{InfersFrom};
 ghost use Rattle.infer_coerce.specs.MadeEqual.{UnifiesOne};
@@ -13,6 +13,7 @@ use crate::inputs::expect_inputs;
 use hir_facts::{ExprId, ExprOrPatId, Ty};
 use infer_coerce::{infer_expr_coerce, unify};
 use infer_ctx::{CallableSig, Expectation, GivenBody, InferenceContext};
+use infer_obligations::select_obligations_where_possible;
 use infer_result::{InferenceDiagnostic, Seen};
 use std::alloc::{AllocError, Global};
 
@@ -123,16 +124,45 @@ fn infer_uncallable<F: Fn(&mut InferenceContext, ExprId, Expectation) -> Result<
         other: None,
     })?;
     infer_arguments(infer, alloc, context, given, call_expr, args, &[])?;
+    select_obligations_where_possible(context, given)?;
     let ty = context.goals.table.next_ty_var()?;
     Ok(ty)
 }
 
 /// Types the arguments of a call, which are to be at these types, of which what is expected of the
-/// call may tell more. Where there are not as many, that is said, and no argument has a mismatch with
-/// its own. This is `infer/expr.rs`'s `check_call_arguments`.
+/// call may tell more. Then goals are selected, which may have become known. This is `infer/expr.rs`'s `check_call_arguments`.
 fn check_call_arguments<
     F: Fn(&mut InferenceContext, ExprId, Expectation) -> Result<Ty, AllocError>,
 >(
+    infer: &F,
+    alloc: Global,
+    context: &mut InferenceContext,
+    given: &GivenBody,
+    call_expr: ExprId,
+    args: &[ExprId],
+    inputs: &[Ty],
+    output: &Ty,
+    expected: Expectation,
+) -> Result<(), AllocError>
+    requires infers { InfersFrom (given_of given.now) (schedule_of given.now) context.old.clock (F.pre infer.now) (F.post infer.now) }
+    requires before { BeforeInputs (given_of given.now) (schedule_of given.now)
+        call_expr args.now inputs.now context.old }
+    requires output { IsFine (scope_in given.now) context.old.goals.table output.now }
+    requires expected { IsFineExpectation (scope_in given.now) context.old.goals.table (expected_type expected) }
+    ensures done { IfOk result (λ _. ArgsDone (given_of given.now) (schedule_of given.now)
+        call_expr args.now inputs.now context.old context.new) }
+    ensures selected { IfOk result (λ _. EndsInSelection (given_of given.now) context.new) }
+{
+    check_each_argument(
+        infer, alloc, context, given, call_expr, args, inputs, output, expected,
+    )?;
+    select_obligations_where_possible(context, given)?;
+    Ok(())
+}
+
+/// Types the arguments of a call, with what is expected of the call. Where there are not as many as it takes, that is
+/// said, and no argument has a mismatch with its own.
+fn check_each_argument<F: Fn(&mut InferenceContext, ExprId, Expectation) -> Result<Ty, AllocError>>(
     infer: &F,
     alloc: Global,
     context: &mut InferenceContext,

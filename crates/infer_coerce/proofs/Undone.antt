@@ -14,6 +14,7 @@ use Rattle.infer_ctx.specs.declared.context.InferenceContext.{InferenceContext}
 use Rattle.infer_ctx.specs.Closings.{IsSound}
 use Rattle.infer_ctx.specs.Fine.{AreFinePairs, is_fine_head}
 use Rattle.infer_ctx.specs.Steps.{OnlyBinds}
+use Rattle.infer_ctx.proofs.Asked.{told_same}
 use Rattle.infer_ctx.proofs.UnderClosings.{kept_later}
 use Rattle.infer_ctx.proofs.FineTypes.{fine_asked_grown, fine_pairs_grown, seen_fine_grown, table_fine_grown}
 
@@ -47,7 +48,7 @@ module _ (g : Given) (c : InferenceContext) (after : State) (b : IsBack c.goals.
 
   pub binds_back : IsOfBody g.body c.result → IsSound g.scope c → OnlyBinds g c (with_table c after)
   binds_back h s = record {
-    follows = record { clock = omega arith; grew = back_grew; stays = stays_with c.goals after; of_body = h; sound = back_sound s; told = λ k. k };
+    follows = record { clock = omega arith; grew = back_grew; sources = refl; of_body = h; sound = back_sound s; told = told_same g c (with_table c after) refl (stays_with c.goals after) back_grew };
     result = refl;
     asked = refl;
     clock = refl;

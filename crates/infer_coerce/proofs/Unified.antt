@@ -47,6 +47,8 @@ use Rattle.infer_ctx.specs.Found as found
 use Rattle.infer_ctx.proofs.OverTypes.{CarriedCases, over_carried, fine_closed, same_closed, apart_closed, closing_respects}
 use Rattle.infer_ctx.proofs.UnderClosings.{kept_later, closes_same, decided_later, mismatch_under, of_body_mismatch, sound_mismatch, asked-same, asked-apart}
 use Rattle.infer_ctx.proofs.FineTypes.{table_fine_grown, seen_fine_grown, fine_pairs_grown, fine_asked_grown, fine_no_alias, fine_grown}
+use Rattle.infer_ctx.specs.Asked.{IsTold}
+use Rattle.infer_ctx.proofs.Asked.{told_same, told_beside}
 use Rattle.infer_ctx.proofs.AtEach.{follows_itself, follows_twice, closes_before}
 use Rattle.infer_ctx.proofs.Lists.{noted-cases}
 use Rattle.infer_coerce.specs.MadeEqual.{SameOrDiffer, IsUnifiedIf, UnifiesFirst, UnifiesNext}
@@ -135,10 +137,10 @@ module _ (g : Given) (t u : Ty) (c : InferenceContext) (h : IsOfBody g.body c.re
       follows = record {
         clock = omega arith;
         grew = k.grown;
-        stays = stays_with c.goals after;
+        sources = refl;
         of_body = h;
         sound = unified_sound g.scope c t u s ft fu after k m r;
-        told = λ told. told;
+        told = told_same g c (with_table c after) refl (stays_with c.goals after) k.grown;
       };
       result = refl;
       asked = refl;
@@ -279,7 +281,7 @@ module _ (g : Given) (c : InferenceContext) (h : IsOfBody g.body c.result) (s : 
         follows = record {
           clock = omega arith;
           grew = grew_on;
-          stays = stays_with c.goals after;
+          sources = refl;
           of_body = h;
           sound = record {
             fine = sound_now.fine;
@@ -290,7 +292,7 @@ module _ (g : Given) (c : InferenceContext) (h : IsOfBody g.body c.result) (s : 
             bound = sound_now.bound;
             some = (sound_now.some.0, closes_same sound_now.some.0 (unasked after) (with_table c after) refl sound_now.some.1);
           };
-          told = λ told. told;
+          told = told_same g c (with_table c after) refl (stays_with c.goals after) grew_on;
         };
         result = refl;
         asked = refl;
@@ -354,10 +356,12 @@ module _ (g : Given) (e : ExprId) (t u : Ty) (c new : InferenceContext) where
     refused_coerced x k =
         let f = k.follows in
         let last : InferenceContext = with_mismatch new e (mismatch u t) in
+        let told : IsTold g c → IsTold g last = λ was. told_beside g new last refl refl refl (f.told was) in
         let here : IsCoerced false g e t u c last = record {
           follows = assumption (
             of_body_mismatch g.body new f.of_body e (mismatch u t),
             sound_mismatch new f.sound e (mismatch u t) (fine_grown g.scope c.goals.table new.goals.table u f.grew fu) (fine_grown g.scope c.goals.table new.goals.table t f.grew ft),
+            told,
             f,
           );
           clock = k.clock;
@@ -446,7 +450,7 @@ module _ (g : Given) (e : ExprId) (t u : Ty) (c : InferenceContext) (h : IsOfBod
 
   pub waits_coercion : (r : Coerced) → r.ty ≡ u → IsCoercion (Ok r) g e t u c last
   waits_coercion r is = record {
-    follows = record { clock = omega arith; grew = wait_grew; stays = stays_with c.goals after_wait; of_body = h; sound = wait_sound; told = λ told. told };
+    follows = record { clock = omega arith; grew = wait_grew; sources = refl; of_body = h; sound = wait_sound; told = told_same g c last refl (stays_with c.goals after_wait) wait_grew };
     clock = refl;
     answers = is;
     comes = inr (record { may = may; waits = refl });

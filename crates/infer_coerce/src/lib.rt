@@ -12,4 +12,4 @@ pub use coerce_many::CoerceMany;
 pub use coercion::{Coerced, NotCoercible, coerce, demand_coerce};
 pub use copied::copies;
 pub use expr::infer_expr_coerce;
-pub use unification::{unify, unify_all, unify_unknown};
+pub use unification::{unify, unify_all, unify_known, unify_unknown};

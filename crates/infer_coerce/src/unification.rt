@@ -98,7 +98,7 @@ fn unify_next(context: &mut InferenceContext, given: &GivenBody) -> Result<bool,
 
 /// Unifies pairs that wait and of which a side is known, till there is none, also among those that
 /// become known on the way.
-fn unify_known(context: &mut InferenceContext, given: &GivenBody) -> Result<(), AllocError>
+pub fn unify_known(context: &mut InferenceContext, given: &GivenBody) -> Result<(), AllocError>
     requires of_body { IsOfBody given.now.body.now context.old.result }
     requires sound { IsSound (scope_in given.now) context.old }
     ensures { IfOk result (λ _. UnifiesKnown (given_of given.now) context.old context.new) }

@@ -1,5 +1,5 @@
 -- From what holds of the context to what holds under each assignment that closes it, and back.
-use Rattle.std.proofs.Common.{arith, ◌≡◌, sym, subst, Option, Some, None}
+use Rattle.std.proofs.Common.{arith, ◌≡◌, ◌∙◌, refl, Option, Some, None}
 use Rattle.hir_types.specs.Subst.{Assignment}
 use Rattle.hir_types.specs.declared.ty.Ty.{Ty}
 use Rattle.hir_types.specs.declared.ids.ExprId.{ExprId}
@@ -8,13 +8,12 @@ use Rattle.hir_raw.specs.Scope.{Scope}
 use Rattle.infer_table.proofs.UndoLaws.{grew_itself}
 use Rattle.infer_table.proofs.HoleLaws.{grew_twice}
 use Rattle.infer_table.specs.Table.{State}
-use Rattle.infer_goals.specs.Stays.{stays_itself, stays_twice}
 use Rattle.infer_result.specs.Closed.{IsOfBody}
 use Rattle.infer_result.specs.Places.{Given}
 use Rattle.infer_ctx.specs.declared.context.InferenceContext.{InferenceContext}
 use Rattle.infer_ctx.specs.Closings.{IsSound, Closes, found_under, IsClosing, expected_under}
 use Rattle.infer_ctx.specs.Steps.{Follows, IsWalking, Before, Within}
-use Rattle.infer_ctx.specs.Tells.{TellsRecorded}
+use Rattle.infer_ctx.specs.Asked.{IsTold}
 use Rattle.infer_ctx.specs.Walks.{IsWalked}
 use Rattle.infer_ctx.specs.Context.{IsCarriedExpectation}
 use Rattle.infer_ctx.specs.Fine.{IsFineExpectation}
@@ -24,26 +23,22 @@ use Rattle.infer_ctx.proofs.OverTypes.{fine_closed}
 
 -- ---- one after another
 pub follows_itself : (g : Given) (c : InferenceContext) → IsOfBody g.body c.result → IsSound g.scope c → Follows g c c
-follows_itself g c h s = record { clock = omega arith; grew = grew_itself c.goals.table; stays = stays_itself c.goals; of_body = h; sound = s; told = λ k. k }
+follows_itself g c h s = record { clock = omega arith; grew = grew_itself c.goals.table; sources = refl; of_body = h; sound = s; told = λ k. k }
 
 pub follows_twice : (g : Given) (x y z : InferenceContext) → Follows g x y → Follows g y z → Follows g x z
 follows_twice g x y z f h = record {
   clock = omega (arith, f.clock, h.clock);
   grew = grew_twice x.goals.table y.goals.table z.goals.table f.grew h.grew;
-  stays = stays_twice x.goals y.goals z.goals f.stays h.stays;
+  sources = h.sources ∙ f.sources;
   of_body = h.of_body;
   sound = h.sound;
   told = λ k. h.told (f.told k);
 }
 
--- where nothing is recorded, bindings tell what they did
-pub told_same : (g : Given) (c d : InferenceContext) → d.result ≡ c.result → TellsRecorded g c.result → TellsRecorded g d.result
-told_same g c d same told = subst (λ r. TellsRecorded g r) (sym same) told
-
 pub closes_before : (g : Given) (a : Assignment) (x y : InferenceContext) → Follows g x y → Closes a y → Closes a x
 closes_before g a x y f k = closes_earlier a x y f.grew k
 
-pub walking_after : (g : Given) (s : Schedule) (old new : InferenceContext) → TellsRecorded g old.result → Follows g old new → ((a : Assignment) → Closes a new → IsWalked g s (found_under a new)) → IsWalking g s new
+pub walking_after : (g : Given) (s : Schedule) (old new : InferenceContext) → IsTold g old → Follows g old new → ((a : Assignment) → Closes a new → IsWalked g s (found_under a new)) → IsWalking g s new
 walking_after g s old new told f h = record { of_body = f.of_body; sound = f.sound; told = f.told told; each = h }
 
 -- ---- what is expected

@@ -16,7 +16,7 @@ use Rattle.infer_ctx.specs.Closings.{Closes, found_under, expected_under}
 use Rattle.infer_ctx.specs.Fine.{IsFineExpectation}
 use Rattle.infer_ctx.specs.Found.{Found}
 use Rattle.infer_ctx.specs.Steps.{Follows, Before, Within, OwnDone, CoerceDone, OnlyBinds}
-use Rattle.infer_ctx.specs.Tells.{TellsRecorded}
+use Rattle.infer_ctx.specs.Asked.{IsTold}
 use Rattle.infer_ctx.specs.Under.{IsReady, LieAhead}
 use Rattle.infer_ctx.specs.Walks.{Walks, Debt, Owed}
 use Rattle.infer_ctx.proofs.AtEach.{follows_itself, follows_twice, closes_before, walking_after}
@@ -88,7 +88,7 @@ OwedOf e x a = Owed e (expected_under a x)
 
 module _ (g : Given) (s : Schedule) (n : Node) (P : Assignment → Debt) (role : Role) (e : ExprId) (ps : List Part) (mid c : InferenceContext) (w : WalksParts g s n P (expr_part role e ∷ ps) mid c) where
   -- the next part
-  pub comes_to : (x : Option Ty) → IsReady g s → TellsRecorded g mid.result → IsFineExpectation g.scope c.goals.table x → Before g s e x c
+  pub comes_to : (x : Option Ty) → IsReady g s → IsTold g mid → IsFineExpectation g.scope c.goals.table x → Before g s e x c
   comes_to x ready told fine =
       let q = w.follows.sound.some in
       let here = w.each q.0 q.1 in
@@ -137,7 +137,7 @@ module _ (g : Given) (s : Schedule) (n : Node) (P : Assignment → Debt) (role :
     pub here_part : WalksParts g s n P (expr_part (role i) e ∷ exprs_from role (i + 1) (drop (i + 1) es)) mid c
     here_part = subst (λ ps. WalksParts g s n P ps mid c) (part_at role es i e is k) w
 
-    pub comes_to_part : (x : Option Ty) → IsReady g s → TellsRecorded g mid.result → IsFineExpectation g.scope c.goals.table x → Before g s e x c
+    pub comes_to_part : (x : Option Ty) → IsReady g s → IsTold g mid → IsFineExpectation g.scope c.goals.table x → Before g s e x c
     comes_to_part = comes_to g s n P (role i) e (exprs_from role (i + 1) (drop (i + 1) es)) mid c here_part
 
     pub past_own_part : (R : Assignment → Debt) (x : Option Ty) (t : Ty) (next : InferenceContext) → OwnDone g s e x t c next → OwesOn P R → PaysPart g (OwedOf e x) R next → AtPart g s n R role es (i + 1) mid next

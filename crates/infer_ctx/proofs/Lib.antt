@@ -1,3 +1,4 @@
+pub mod Asked
 pub mod AtEach
 pub mod Carried
 pub mod Category

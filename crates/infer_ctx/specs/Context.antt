@@ -108,6 +108,10 @@ empty_context b goals = record {
   goals = goals;
 }
 
+-- with another table of goals
+abbrev pub with_goal_table : InferenceContext → GoalTable → InferenceContext
+with_goal_table c goals = record c { goals = goals }
+
 -- ---- what a write does
 abbrev pub entered : InferenceContext → InferenceContext
 entered c = record c { clock = c.clock + 1 }

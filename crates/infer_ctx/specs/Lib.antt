@@ -6,6 +6,7 @@ pub mod Walks
 pub mod Fine
 pub mod Tells
 pub mod Closings
+pub mod Asked
 pub mod Under
 pub mod Steps
 pub mod Callables

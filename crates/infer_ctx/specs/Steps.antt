@@ -14,29 +14,30 @@ use Rattle.infer_result.specs.Table.{MismatchAt}
 use Rattle.infer_ctx.specs.declared.context.InferenceContext.{InferenceContext}
 use Rattle.infer_ctx.specs.Found.{Found}
 use Rattle.infer_ctx.specs.Walks.{IsWalked, expr_start, IsFree}
-use Rattle.infer_ctx.specs.Tells.{TellsRecorded, Tells}
+use Rattle.infer_ctx.specs.Tells.{Tells}
+use Rattle.infer_ctx.specs.Asked.{IsTold}
 use Rattle.infer_ctx.specs.Closings.{Closes, found_under, IsSound, expected_under, AskedIsDecided, closed_table}
 use Rattle.infer_ctx.specs.Fine.{IsFineExpectation, IsFine}
 use Rattle.infer_ctx.specs.Under.{IsReady, OwnWalked, CoerceWalked, KindWalked}
 
 -- ---- the state of the walk
 
--- what is found out is sound, the types of bindings tell what their patterns say, and under each assignment that closes it all is as
--- the walk says
+-- what is found out is sound, the types of bindings tell what their patterns say, goals are asked, and under each assignment that closes
+-- it all is as the walk says
 pub record IsWalking (g : Given) (s : Schedule) (c : InferenceContext) : Type 0 where
   pub of_body : IsOfBody g.body c.result
   pub sound : IsSound g.scope c
-  pub told : TellsRecorded g c.result
+  pub told : IsTold g c
   pub each : (a : Assignment) → Closes a c → IsWalked g s (found_under a c)
 
 -- more was found out, and nothing undone
 pub record Follows (g : Given) (old new : InferenceContext) : Type 0 where
   pub clock : old.clock ≤ new.clock
   pub grew : Grew old.goals.table new.goals.table
-  pub stays : StaysButHoles old.goals new.goals
+  pub sources : new.goals.sources ≡ old.goals.sources
   pub of_body : IsOfBody g.body new.result
   pub sound : IsSound g.scope new
-  pub told : TellsRecorded g old.result → TellsRecorded g new.result
+  pub told : IsTold g old → IsTold g new
 
 -- more was found out, and under each assignment that closes it P holds of what was found before and after
 pub record Does (g : Given) (P : Assignment → Found → Found → Type 0) (old new : InferenceContext) : Type 0 where

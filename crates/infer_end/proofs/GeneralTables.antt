@@ -46,14 +46,16 @@ use Rattle.infer_ctx.specs.Walks.{Extends}
 use Rattle.infer_ctx.specs.Closings.{closed_types, closed_mismatch, closed_mismatches, same_types, unless_same, asked_or_noted, entry_of, Closes, AskedIsDecided, closed_table}
 use Rattle.infer_ctx.specs.declared.context.InferenceContext.{InferenceContext}
 use Rattle.infer_ctx.specs.Fine.{HasFineHeads, IsFine, IsCarriedIn}
+use Rattle.infer_ctx.specs.Asked.{IsTold}
 use Rattle.infer_ctx.specs.Steps.{BodyDone}
+use Rattle.infer_ctx.proofs.Asked.{told_beside}
 use Rattle.infer_ctx.proofs.Keeps.{at_kept, pat_at_kept, obeys_kept, pat_kept, misfit_kept, demand_kept, diagnostic_kept, pat_truth_kept, true_seen_kept}
 use Rattle.infer_ctx.proofs.Lists.{found}
 use Rattle.infer_ctx.proofs.OverTypes.{fine_closed}
 use Rattle.infer_ctx.specs.Context.{with_general}
 use Rattle.infer_ctx.proofs.UnderClosings.{sound_with, At-unclosed, closed_at, asked_unlike, length-closed_mismatches, At-closed, length-closed}
 use Rattle.infer_coerce.proofs.Unified.{completion_closes}
-use Rattle.infer_end.specs.SelectedBody.{OnlyTable, StaysOfPlain}
+use Rattle.infer_end.specs.SelectedBody.{OnlyGoals, StaysOfPlain}
 use Rattle.infer_end.specs.Ends.{EndsAs}
 use Rattle.infer_end.specs.KeptTypes.{AreResolved, HoldsResolved, KeepsGeneral, IsFull, HasAllTypes}
 use Rattle.infer_end.proofs.Definitions.{found_body, table_of}
@@ -428,6 +430,10 @@ pub kept_done : (g : Given) (raw : RawFacts) (d : DefWithBodyId) (c last : Infer
 kept_done g raw d c last done (inl (plain, (x, resolved, is))) = subst (BodyDone g) (sym is) (general_done g c (Some x) done)
 kept_done g raw d c last done (inr (not_plain, is)) = subst (BodyDone g) (sym is) (general_done g c None done)
 
+pub kept_told : (g : Given) (raw : RawFacts) (d : DefWithBodyId) (c last : InferenceContext) → IsTold g c → KeepsGeneral raw d c last → IsTold g last
+kept_told g raw d c last told (inl (plain, (x, resolved, is))) = subst (IsTold g) (sym is) (told_beside g c (with_general c (Some x)) refl refl refl told)
+kept_told g raw d c last told (inr (not_plain, is)) = subst (IsTold g) (sym is) (told_beside g c (with_general c None) refl refl refl told)
+
 -- its goals are as they were
 pub keeps_goals : (raw : RawFacts) (d : DefWithBodyId) (c last : InferenceContext) → KeepsGeneral raw d c last → last.goals ≡ c.goals
 keeps_goals raw d c last (inl (plain, (x, resolved, is))) = ap (λ (z : InferenceContext). z.goals) is
@@ -439,6 +445,11 @@ module _ (raw : RawFacts) (d : DefWithBodyId) (b : RawBody) (inputs : List TypeR
   given_done done =
       subst (λ ws. BodyDone (record { scope = scope_of raw d; body = b; inputs = ws; output = return_type raw d }) c) taken
       (subst (λ t. BodyDone (record { scope = scope_of raw d; body = b; inputs = inputs; output = t }) c) out done)
+
+  pub given_told : IsTold (record { scope = scope_of raw d; body = b; inputs = inputs; output = output }) c → IsTold (given raw d b) c
+  given_told told =
+      subst (λ ws. IsTold (record { scope = scope_of raw d; body = b; inputs = ws; output = return_type raw d }) c) taken
+      (subst (λ t. IsTold (record { scope = scope_of raw d; body = b; inputs = inputs; output = t }) c) out told)
 
   own_done : BodyDone (given raw d b) c → BodyDone (record { scope = scope_of raw d; body = b; inputs = inputs; output = output }) c
   own_done done =
@@ -457,7 +468,7 @@ module _ (raw : RawFacts) (d : DefWithBodyId) (i : BodyId) (b : RawBody) (s : Sc
         record { plain = λ p. absurd (not_plain p); other = λ never. none },
       )
 
-  pub ends_selected : (mid z : InferenceContext) → KeepsGeneral raw d c mid → OnlyTable mid z → StaysOfPlain mid z → BodyDone (given raw d b) z → EndsAs raw d ps gs z
+  pub ends_selected : (mid z : InferenceContext) → KeepsGeneral raw d c mid → OnlyGoals mid z → StaysOfPlain mid z → BodyDone (given raw d b) z → EndsAs raw d ps gs z
   ends_selected mid z (inl (plain, (x, resolved, is))) only stays after =
       let kept : mid.result.general ≡ Some x = ap (λ (m : InferenceContext). m.result.general) is in
       subst (EndsAs raw d ps gs) (sym (stays x kept)) (ends raw d i b s inputs output id at law taken out c done lawful ps gs mid (inl (plain, (x, resolved, is))))

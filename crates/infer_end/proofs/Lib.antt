@@ -1,3 +1,4 @@
+pub mod Owed
 pub mod Definitions
 pub mod Fits
 pub mod GeneralTables
@@ -6,5 +7,3 @@ pub mod PlainBodies
 pub mod PlainGoals
 pub mod SizedTypes
 pub mod SelectedBody
-pub mod FineSources
-pub mod FineNeeds

@@ -1,65 +1,73 @@
 -- What is found out about a body holds where more is known of its holes.
 use Rattle.std.specs.Prelude.{IsSome}
-use Rattle.std.proofs.Common.{◌≡◌, ◌⊎◌, ◌∙◌, refl, subst, sym, true≢false, Option, Some, None, slice_get}
+use Rattle.std.proofs.Common.{◌≡◌, refl, subst, sym, true≢false, true, Option, Some, None, slice_get}
+use Rattle.hir_types.specs.Terms.{terms_of}
 use Rattle.hir_types.specs.declared.ids.BodyId.{BodyId}
 use Rattle.hir_types.specs.declared.ids.DefWithBodyId.{DefWithBodyId}
-use Rattle.hir_types.specs.declared.ids.VariantId.{VariantId}
+use Rattle.hir_types.specs.declared.ids.GenericDefId.{GenericDefId}
 use Rattle.hir_raw.specs.declared.raw.RawBody.{RawBody}
-use Rattle.hir_raw.specs.declared.raw.RawCtor.TheVariants as ctor
-use Rattle.hir_raw.specs.declared.raw.RawVariant.{RawVariant}
 use Rattle.hir_raw.specs.declared.raw.RawFacts.{RawFacts}
-use Rattle.hir_raw.specs.Scope.{scope_of}
 use Rattle.hir_laws.specs.Bodies.{body_of, body_id_of, HasBody}
 use Rattle.hir_laws.specs.Lawful.{IsLawful}
 use Rattle.hir_facts.proofs.InRange.{body_in_range}
-use Rattle.hir_types.specs.Terms.{terms_of}
 use Rattle.infer_table.specs.Completion.{completion}
 use Rattle.infer_table.specs.Preserved.{BindsOnly}
 use Rattle.infer_table.specs.Solutions.{Respects, log_of}
-use Rattle.infer_table.specs.Table.{Grew, HolesAreOf, Meets, bindings}
-use Rattle.infer_table.specs.Waiting.{waiting}
+use Rattle.infer_table.specs.Table.{Meets, bindings}
+use Rattle.goal_facts.specs.Systems.{IsSystemOf}
+use Rattle.goal_search.specs.Sources.{system}
 use Rattle.infer_goals.specs.declared.table.GoalTable.{GoalTable}
-use Rattle.infer_result.specs.Closed.{AllTypes}
+use Rattle.infer_goals.specs.Obligations.{AreKept}
+use Rattle.infer_result.specs.Needs.{scope_item}
 use Rattle.infer_result.specs.Places.{Given}
 use Rattle.infer_result.specs.Typed.{given}
 use Rattle.infer_ctx.specs.declared.context.InferenceContext.{InferenceContext}
-use Rattle.infer_ctx.specs.Closings.{IsSound}
-use Rattle.infer_ctx.specs.Fine.{is_fine_head, IsFine, AreFinePairs}
+use Rattle.infer_ctx.specs.Asked.{IsTold}
+use Rattle.infer_ctx.specs.Context.{with_goal_table}
+use Rattle.infer_ctx.specs.Fine.{is_fine_head}
 use Rattle.infer_ctx.specs.Steps.{BodyDone}
-use Rattle.infer_ctx.proofs.FineTypes.{fine_no_alias, table_fine_grown, seen_fine_grown, fine_pairs_grown, fine_asked_grown}
-use Rattle.infer_ctx.proofs.UnderClosings.{kept_later, decided_later, closes_earlier}
-use Rattle.infer_ctx.proofs.Items.{named_variant}
+use Rattle.infer_ctx.proofs.FineTypes.{fine_no_alias}
 use Rattle.infer_ctx.proofs.Lists.{found}
-use Rattle.infer_coerce.proofs.Unified.{completion_closing}
-use Rattle.infer_needs.specs.Selection.{BringsNoOther}
+use Rattle.infer_ctx.proofs.UnderClosings.{decided_later, closes_earlier}
+use Rattle.infer_obligations.specs.Selection.{AreSelected, IsSelection}
+use Rattle.infer_obligations.proofs.Selecting.{StaysApart, selected_apart, selected_heads}
+use Rattle.infer_obligations.proofs.Walking.{owed_heads, sound_later}
 use Rattle.infer_end.proofs.Definitions.{found_body}
-use Rattle.infer_end.proofs.FineNeeds.{are_in_scope}
-use Rattle.infer_end.proofs.GeneralTables.{all_types_so}
 
--- with another table of goals
-abbrev pub with_goal_table : InferenceContext → GoalTable → InferenceContext
-with_goal_table c goals = record c { goals = goals }
+module _ (g : Given) (c : InferenceContext) (done : BodyDone g c) (told : IsTold g c) (goals : GoalTable) (of_item : IsSystemOf c.goals.sources.facts c.goals.sources.item (system c.goals.sources.sources))
+    (selected : AreSelected c.goals.sources.facts (system c.goals.sources.sources) c.goals.table c.goals.obligations goals.table goals.obligations)
+    (meets : Meets (terms_of (completion goals.table)) goals.table) (respects : Respects (terms_of (completion goals.table))) where
+  apart : StaysApart c.goals.table goals.table
+  apart = selected_apart c.goals.sources.facts (system c.goals.sources.sources) c.goals.table c.goals.obligations goals.table goals.obligations selected
 
-module _ (g : Given) (c : InferenceContext) (done : BodyDone g c) (goals : GoalTable) (grew : Grew c.goals.table goals.table) (pairs : goals.table.pairs ≡ c.goals.table.pairs)
-    (bound : BindsOnly (is_fine_head g.scope) (log_of (bindings goals.table))) (meets : Meets (terms_of (completion goals.table)) goals.table) (respects : Respects (terms_of (completion goals.table))) where
-  selected_sound : IsSound g.scope (with_goal_table c goals)
-  selected_sound = record {
-    fine = table_fine_grown g.scope c.goals.table goals.table c.result grew done.sound.fine;
-    seen = seen_fine_grown g.scope c.goals.table goals.table c.result grew done.sound.seen;
-    asked = fine_asked_grown g.scope c.goals.table goals.table c.asked grew done.sound.asked;
-    kept = kept_later c.goals.table goals.table c.asked grew pairs done.sound.kept;
-    pairs = fine_pairs_grown g.scope c.goals.table goals.table (waiting goals.table.pairs) grew (subst (λ w. AreFinePairs g.scope c.goals.table (waiting w)) (sym pairs) done.sound.pairs);
-    bound = bound;
-    some = (completion goals.table, record { closing = completion_closing g.scope goals.table bound respects; meets = meets });
-  }
+  bound : BindsOnly (is_fine_head g.scope) (log_of (bindings goals.table))
+  bound =
+      selected_heads c.goals.sources.facts (system c.goals.sources.sources) (is_fine_head g.scope) (fine_no_alias g.scope) refl c.goals.table c.goals.obligations goals.table goals.obligations selected
+      (owed_heads g c told.goals of_item) (record { binds = done.sound.bound; goals = told.goals.heads })
 
   -- what closes it now closed it before, and the table under that is as it was
   pub selected_done : BodyDone g (with_goal_table c goals)
   selected_done = record {
-    sound = selected_sound;
-    decided = λ n m at. decided_later c.goals.table goals.table m grew (done.decided n m at);
-    made = λ a closes. done.made a (closes_earlier a c (with_goal_table c goals) grew closes);
+    sound = sound_later g c done.sound goals apart.grew apart.pairs bound meets respects;
+    decided = λ n m at. decided_later c.goals.table goals.table m apart.grew (done.decided n m at);
+    made = λ a closes. done.made a (closes_earlier a c (with_goal_table c goals) apart.grew closes);
   }
+
+-- by what the goals of the item are answered by
+module _ (raw : RawFacts) (d : DefWithBodyId) (b : RawBody) (c : InferenceContext) (told : IsTold (given raw d b) c) (item : c.goals.sources.item ≡ scope_item raw d) (goals : GoalTable)
+    (of_item : IsSystemOf c.goals.sources.facts c.goals.sources.item (system c.goals.sources.sources))
+    (selected : AreSelected c.goals.sources.facts (system c.goals.sources.sources) c.goals.table c.goals.obligations goals.table goals.obligations) where
+  pub is_selection : IsSelection raw d b c (with_goal_table c goals)
+  is_selection =
+      let f = system c.goals.sources.sources in
+      let facts : c.goals.sources.facts ≡ raw = told.goals.sources.facts in
+      record {
+        system = f;
+        of_item = subst (λ (i : GenericDefId). IsSystemOf raw i f) item (subst (λ (z : RawFacts). IsSystemOf z c.goals.sources.item f) facts of_item);
+        asked = told.goals.asked;
+        kept = subst (λ (z : RawFacts). AreKept z f c.goals.table c.goals.obligations) facts told.goals.kept;
+        selected = subst (λ (z : RawFacts). AreSelected z f c.goals.table c.goals.obligations goals.table goals.obligations) facts selected;
+      }
 
 -- ---- the body of a definition
 
@@ -70,24 +78,6 @@ body_there raw law d h = by (body_id_of raw d) refl h
     by None is h = absurd (true≢false (sym h))
     by (Some i) is h = (let x = found raw.bodies i.0 (body_in_range raw d i law is) in (x.0, i, x.1, found_body raw d i x.0 is x.1))
 
--- constructors that are carried have no fields with names
-pub no_named_fields : (raw : RawFacts) → IsLawful raw → (v : VariantId) (y : RawVariant) → slice_get raw.variants v.0 ≡ Some y → (y.ctor ≡ ctor.Unit) ⊎ (y.ctor ≡ ctor.Tuple)
-no_named_fields raw law v y is =
-    let w = named_variant raw law v y is in
-    let same : w.variant ≡ y = (let both : Some w.variant ≡ Some y = sym w.found ∙ is in cc) in
-    subst (λ (x : RawVariant). (x.ctor ≡ ctor.Unit) ⊎ (x.ctor ≡ ctor.Tuple)) same w.unnamed
-
--- ---- what was selected
-
-module _ (raw : RawFacts) (law : IsLawful raw) (d : DefWithBodyId) (b : RawBody) (i : BodyId) (at : slice_get raw.bodies i.0 ≡ Some b) (is : body_of raw d ≡ Some b) (c : InferenceContext) (done : BodyDone (given raw d b) c) where
-  pub holes_are_made : AllTypes (HolesAreOf c.goals.table) c.result
-  holes_are_made = all_types_so (IsFine (scope_of raw d) c.goals.table) (HolesAreOf c.goals.table) c.result (λ t h. h.holes) done.sound.fine
-
-  -- the body is done with the table after as well
-  pub needs_selected : (goals : GoalTable) → Grew c.goals.table goals.table → goals.table.pairs ≡ c.goals.table.pairs → BringsNoOther raw d b c.result c.goals.table goals.table
-      → Meets (terms_of (completion c.goals.table)) c.goals.table → Respects (terms_of (completion c.goals.table)) → Meets (terms_of (completion goals.table)) goals.table → Respects (terms_of (completion goals.table)) → BodyDone (given raw d b) (with_goal_table c goals)
-  needs_selected goals grew pairs brings meets respects meets_after respects_after =
-      let sc = scope_of raw d in
-      let in_scope = are_in_scope raw law d b i at is c done meets respects (λ e v y there found. no_named_fields raw law v y found) in
-      let bound = brings (is_fine_head sc) (fine_no_alias sc) refl in_scope.sources in_scope.needs done.sound.bound in
-      selected_done (given raw d b) c done goals grew pairs bound meets_after respects_after
+-- what is told of the body of a definition, of which there is one
+pub told_there : (raw : RawFacts) (law : IsLawful raw) (d : DefWithBodyId) (h : HasBody raw d) (c : InferenceContext) → ((b : RawBody) → body_of raw d ≡ Some b → IsTold (given raw d b) c) → (b : RawBody) × IsTold (given raw d b) c
+told_there raw law d h c told = (let x = body_there raw law d h in (x.0, told x.0 x.3))

@@ -3,8 +3,8 @@ use Rattle.std.specs.Prelude.{◌≡◌, Some}
 use Rattle.infer_result.specs.declared.result.General.{General}
 use Rattle.infer_ctx.specs.declared.context.InferenceContext.{InferenceContext}
 
--- the table of holes alone may change
-pub record OnlyTable (old new : InferenceContext) : Type 0 where
+-- the table of goals alone may change, with its holes
+pub record OnlyGoals (old new : InferenceContext) : Type 0 where
   pub result : new.result ≡ old.result
   pub asked : new.asked ≡ old.asked
   pub clock : new.clock ≡ old.clock

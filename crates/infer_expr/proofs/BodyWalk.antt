@@ -1,12 +1,11 @@
 -- The walk of a whole body.
 use Rattle.std.specs.Prelude.{replicate, option_map}
-use Rattle.std.proofs.Common.{ℕ, zero, suc, ◌≡◌, ◌∷◌, refl, ap, map, None, List, [], length, ◌<◌, ◌^◌, sym, subst, Some}
+use Rattle.std.proofs.Common.{ℕ, zero, suc, ◌≡◌, ◌∷◌, refl, ap, map, None, [], length, ◌<◌, ◌^◌, sym, subst, Some}
 use Rattle.hir_types.specs.Subst.{Assignment, folded}
 use Rattle.hir_types.specs.declared.ty.IntegerTy.TheVariants.{Int}
 use Rattle.hir_types.specs.declared.ty.Ty.{Ty}
 use Rattle.hir_types.specs.declared.ty.IntTy.TheVariants as int
 use Rattle.hir_raw.specs.declared.raw.RawBody.{RawBody}
-use Rattle.hir_raw.specs.declared.raw.RawType.{RawType}
 use Rattle.hir_facts.specs.CarriedTypes.{carried_error, IsCarriedType}
 use Rattle.hir_raw.specs.Scope.{Scope}
 use Rattle.hir_laws.specs.Bodies.{IsWalkable}
@@ -17,6 +16,7 @@ use Rattle.infer_result.specs.Made.{IsMade}
 use Rattle.infer_result.specs.declared.diagnostics.InferenceDiagnostic.TheVariants as diagnostic
 use Rattle.infer_table.specs.Table.{State, new_state}
 use Rattle.infer_goals.specs.declared.table.GoalTable.{GoalTable}
+use Rattle.infer_ctx.specs.Asked.{AreGoalsOf}
 use Rattle.infer_ctx.specs.Closings.{closed_mismatches, closed_mismatch, found_under, IsSound, Closes}
 use Rattle.infer_ctx.specs.Context.{empty_context}
 use Rattle.infer_ctx.specs.Found.{expr_variant, pat_variant, nothing_found, Found}
@@ -98,8 +98,8 @@ module _ (g : Given) (s : Schedule) (law : IsWalkable g.body s) (written : Writt
   params_under : (a : Assignment) (goals : GoalTable) (last : ℕ) → last ≡ expr_end g.body s g.body.root → last < 2 ^ 64 → ComesToParams g s (found_under a (empty_context g.body goals))
   params_under a goals last is room = params_before g s a last (found_under a (empty_context g.body goals)) law written count is room (nothing_under a g.body goals)
 
-  pub comes_to_params : (last : ℕ) (c : InferenceContext) → last ≡ expr_end g.body s g.body.root → last < 2 ^ 64 → c.goals.table ≡ new_state → c ≡ empty_context g.body c.goals → BeforeParams g s c
-  comes_to_params last c is room new empty =
+  pub comes_to_params : (last : ℕ) (c : InferenceContext) → last ≡ expr_end g.body s g.body.root → last < 2 ^ 64 → c.goals.table ≡ new_state → c ≡ empty_context g.body c.goals → AreGoalsOf g c → BeforeParams g s c
+  comes_to_params last c is room new empty goals =
       let blank : InferenceContext = empty_context g.body c.goals in
       let here = params_under fallback c.goals last is room in
       subst (λ d. BeforeParams g s d) (sym empty) (record {
@@ -108,7 +108,10 @@ module _ (g : Given) (s : Schedule) (law : IsWalkable g.body s) (written : Writt
         state = record {
           of_body = of_body_unclosed fallback g.body blank.asked blank.result here.state.of_body;
           sound = nothing_sound g.scope g.body c.goals new;
-          told = λ v t i. absurd (At-replicate (length g.body.bindings) v.0 t i);
+          told = record {
+            bindings = λ v t i. absurd (At-replicate (length g.body.bindings) v.0 t i);
+            goals = subst (λ (d : InferenceContext). AreGoalsOf g d) empty goals;
+          };
           each = λ a k. (params_under a c.goals last is room).state;
         };
         ahead = here.ahead;

@@ -2,3 +2,5 @@ pub mod BodyWalk
 pub mod Params
 pub mod ParamsWalk
 pub mod Whole
+pub mod Start
+pub mod Inner

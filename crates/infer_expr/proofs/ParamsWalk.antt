@@ -11,7 +11,7 @@ use Rattle.infer_ctx.specs.declared.context.InferenceContext.{InferenceContext}
 use Rattle.infer_ctx.specs.Closings.{Closes, found_under}
 use Rattle.infer_ctx.specs.Steps.{Follows, IsWalking}
 use Rattle.infer_ctx.specs.Fine.{IsWritten}
-use Rattle.infer_ctx.specs.Tells.{TellsRecorded}
+use Rattle.infer_ctx.specs.Asked.{IsTold}
 use Rattle.infer_ctx.proofs.AtEach.{follows_itself, follows_twice, closes_before, walking_after}
 use Rattle.infer_ctx.proofs.OverTypes.{carried_closed}
 use Rattle.infer_ctx.proofs.Written.{written_fine}
@@ -32,7 +32,7 @@ begins_params g s c h = record {
 }
 
 module _ (g : Given) (s : Schedule) (i : ℕ) (mid c : InferenceContext) (h : ParamsWalk g s i mid c) where
-  walking : TellsRecorded g mid.result → IsWalking g s c
+  walking : IsTold g mid → IsWalking g s c
   walking told = walking_after g s mid c told h.follows (λ a l. (h.each a l).walks.state)
 
   module _ (b : BeforeParams g s mid) (k : i < length g.body.params) (w : TypeRefId) (at : w ≡ get_or g.inputs i w) where

@@ -3,7 +3,7 @@ ghost use Rattle.std.specs.Prelude.{◌≡◌, ◌<◌, IfOk, OnOk, length};
 ghost use Rattle.hir_laws.specs.Bodies.{IsWalkable};
 ghost use Rattle.hir_facts.specs.CarriedTypes.{IsCarriedType};
 ghost use Rattle.infer_table.specs.Table.{new_state, Grew};
-ghost use Rattle.infer_goals.specs.Stays.{StaysButHoles};
+ghost use Rattle.infer_ctx.specs.Asked.{AreGoalsOf, IsTold};
 ghost use Rattle.infer_ctx.specs.Fine.{HasFineHeads};
 ghost use Rattle.infer_ctx.specs.Under.{WrittenExist};
 ghost use Rattle.infer_expr.specs.Params.{BeforeParams, ParamsDone};
@@ -17,7 +17,8 @@ use infer_ctx::{Expectation, GivenBody, InferenceContext};
 use infer_pat::infer_top_pat;
 use std::alloc::{AllocError, Global};
 
-/// Types the body against its return type: `infer.rs`, `infer_body`. No goal is registered.
+/// Types the body against its return type: `infer.rs`, `infer_body`. Each node's goals are registered, and selected after the
+/// arguments of calls.
 pub fn infer_body(
     alloc: Global,
     context: &mut InferenceContext,
@@ -30,9 +31,11 @@ pub fn infer_body(
     requires heads { HasFineHeads (scope_in given.now) given.now.return_ty.now }
     requires empty { context.old ≡ empty_context given.now.body.now context.old.goals }
     requires table { context.old.goals.table ≡ new_state }
+    requires goals { AreGoalsOf (given_of given.now) context.old }
     ensures done { IfOk result (λ _. BodyDone (given_of given.now) context.new) }
     ensures grew { OnOk result (Grew context.old.goals.table context.new.goals.table) }
-    ensures stays { OnOk result (StaysButHoles context.old.goals context.new.goals) }
+    ensures told { OnOk result (IsTold (given_of given.now) context.new) }
+    ensures sources { OnOk result (context.new.goals.sources ≡ context.old.goals.sources) }
 {
     let root = given.body.root;
     let last = given.schedule.end_of(given.body, ExprOrPatId::ExprId(root));

@@ -6,9 +6,10 @@ ghost use Rattle.infer_ctx.specs.Steps.{Before, OwnDone, CoerceDone};
 use crate::kind::infer_expr_of_kind;
 use hir_facts::{ExprId, Ty};
 use infer_ctx::{Expectation, GivenBody, InferenceContext};
+use infer_obligations::register_needs;
 use std::alloc::{AllocError, Global};
 
-/// Types an expression: `infer/expr.rs`, `infer_expr_inner`.
+/// Types an expression, and registers what it needs at its type: `infer/expr.rs`, `infer_expr_inner`.
 #[cycle(infer)]
 fn infer_expr_inner(
     alloc: Global,
@@ -22,6 +23,7 @@ fn infer_expr_inner(
     ensures { IfOk result (λ ty. OwnDone (given_of given.now) (schedule_of given.now)
         tgt_expr (expected_type expected.entry) ty context.old context.new) }
 {
+    given.facts.lawful();
     context.enter();
     let infer = |context: &mut InferenceContext, expr: ExprId, expected: Expectation| -> Result<
         Ty,
@@ -35,6 +37,7 @@ fn infer_expr_inner(
     let ty = infer_expr_of_kind(&infer, alloc, context, given, tgt_expr, expected)?;
     let recorded = ty.dup(alloc)?;
     context.write_expr_ty(tgt_expr, recorded);
+    register_needs(alloc, &mut context.goals, given, tgt_expr, &ty)?;
     Ok(ty)
 }
 

@@ -45,7 +45,7 @@ fn infer_holes(
     let mut context = InferenceContext::new(alloc, facts, scope_item(facts, def), body)?;
     infer_body(alloc, &mut context, &given)?;
     keep_general(alloc, &mut context, facts, def)?;
-    select_where_possible(alloc, &mut context, facts, def)?;
+    select_where_possible(&mut context, facts, def)?;
     Ok(context)
 }
 

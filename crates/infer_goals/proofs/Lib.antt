@@ -1,8 +1,12 @@
 pub mod Kept
+pub mod Known
 pub mod Later
 pub mod Lists
+pub mod Rounds
 pub mod Scanning
 pub mod SelfTy
 pub mod Settling
+pub mod Sleeping
 pub mod Steps
 pub mod Trying
+pub mod Waking

@@ -1,17 +1,16 @@
 -- Obligations of one depth and those below it, which are settled in turn until nothing selects any.
 use Rattle.std.proofs.Common.{◌≡◌, ◌⊎◌, inl, inr, ℕ, suc, ◌<◌, ◌≤◌, Bool, List, ◌++◌, length, sym, subst, arith}
-use Rattle.std.specs.Prelude.{Some, slice_get}
 use Rattle.hir_raw.specs.declared.raw.RawFacts.{RawFacts}
 use Rattle.infer_table.specs.Table.{State}
 use Rattle.goal_answers.specs.Goals.{System}
 use Rattle.goal_tree.specs.declared.tree.GoalTree.{GoalTree}
 use Rattle.goal_tree.specs.Trees.{IsOpenAt, IsTree, IsLater}
 use Rattle.infer_goals.specs.declared.obligations.Obligations.{Obligations}
-use Rattle.infer_goals.specs.Obligations.{Went, AreKept, IsAmong, AreWithin, AreBelow, AreAt, HasAllOpen, KeepsOpen, AreAmongEither, ScansOpen, AreSettled, NoneLeft, AreScanned}
+use Rattle.infer_goals.specs.Obligations.{Went, AreKept, IsAmong, AreWithin, AreBelow, AreAt, AreThere, KeepsOpen, AreAmongEither, ScansOpen, AreSettled, AreScanned}
 use Rattle.infer_goals.proofs.Lists.{get_within, all_map, all_append, among_left, among_right}
 use Rattle.infer_goals.proofs.Later.{later_long, open_within, open_before}
 use Rattle.infer_goals.proofs.Steps.{went_none, went_then, went_later, stays_itself}
-use Rattle.infer_goals.proofs.Scanning.{Is, is_within, at_later, are_settled_still, are_settled_both, below_or_not}
+use Rattle.infer_goals.proofs.Scanning.{Is, at_later, are_settled_still, are_settled_both, below_or_not}
 
 -- ---- bounds of depths
 
@@ -119,24 +118,9 @@ module _ (raw : RawFacts) (f : System) (bounded : Bool) (d : ℕ) where
       | inr q ↦ among_right here below i q
     ]
 
--- ---- all that is open
+-- ---- all that is to be looked at
 
-pub all_within : (raw : RawFacts) (f : System) (s : State) (o : Obligations) → AreKept raw f s o → HasAllOpen o → AreWithin o.tree raw.limits.goal_depth o.todo.items
-all_within raw f s o kept all k i e =
-    let there = get_within o.tree.obligations.items i (all.within k i e) in
+pub all_within : (raw : RawFacts) (f : System) (s : State) (o : Obligations) (xs : List ℕ) → AreKept raw f s o → AreThere o.tree xs → AreWithin o.tree raw.limits.goal_depth xs
+all_within raw f s o xs kept within k i e =
+    let there = get_within o.tree.obligations.items i (within k i e) in
     (there.0, there.1, kept.depths i there.0 there.1)
-
-module _ (raw : RawFacts) (f : System) (bounded : Bool) (s : State) (o : Obligations) (s' : State) (o' : Obligations) (d : ℕ) (left : List ℕ) (tree : IsTree o.tree) (all : HasAllOpen o)
-    (went : Went raw f bounded s o s' o') (within : AreWithin o'.tree d left) (keeps : KeepsOpen o.tree o.todo.items o'.tree left) where
-  pub open_left : (i : ℕ) → IsOpenAt o'.tree.standings.items i → IsAmong left i
-  open_left i now = keeps i now (elim (below_or_not i (length o.tree.obligations.items)) [
-    | inl there ↦ inl (all.all i (open_before o.tree o'.tree tree (went_later raw f bounded s o s' o' went) i there now))
-    | inr from ↦ inr from
-  ])
-
-  pub left_within : (k i : ℕ) → slice_get left k ≡ Some i → i < length o'.tree.obligations.items
-  left_within k i e = is_within (λ n. n ≤ d) o'.tree i (within k i e)
-
-  pub none_left : AreSettled raw f bounded s' o' left → NoneLeft raw f bounded s' o'
-  none_left (inl used) = inl used
-  none_left (inr each) = inr (λ i now. each i (open_left i now))

@@ -1,6 +1,6 @@
 -- What is kept of obligations while their table grows.
-use Rattle.std.specs.Prelude.{List}
-use Rattle.std.proofs.Common.{sym, subst}
+use Rattle.std.specs.Prelude.{List, ◌++◌}
+use Rattle.std.proofs.Common.{sym, ap, ◌∙◌, subst, append_assoc}
 use Rattle.std.proofs.lemmas.List.{map-append}
 use Rattle.hir_types.specs.declared.goal.Goal.{Goal}
 use Rattle.hir_types.specs.declared.head.HoleKind.{HoleKind}
@@ -8,13 +8,13 @@ use Rattle.hir_raw.specs.declared.raw.RawFacts.{RawFacts}
 use Rattle.infer_table.specs.declared.binding.Binding.{Binding}
 use Rattle.infer_table.specs.LogLemmas.{solves_left, are_of_more}
 use Rattle.infer_table.specs.Solutions.{Log, log_of, Solves, AreOf}
-use Rattle.infer_table.specs.Table.{State, bindings, Meets, Grew}
+use Rattle.infer_table.specs.Table.{State, bindings, Meets, IsFront, Grew}
 use Rattle.goal_answers.specs.Reading.{Fill}
 use Rattle.goal_answers.specs.Goals.{System}
 use Rattle.goal_facts.specs.Goals.{asked_goal}
 use Rattle.goal_select.specs.Steps.{GoalIsOf}
 use Rattle.infer_goals.specs.declared.obligations.Obligations.{Obligations}
-use Rattle.infer_goals.specs.Obligations.{AreKept}
+use Rattle.infer_goals.specs.Obligations.{AreKept, HasAllOpen}
 
 pub meets_earlier : (before after : State) → Grew before after → (s : Fill) → Meets s after → Meets s before
 meets_earlier before after grew s m =
@@ -37,3 +37,19 @@ kept_grows raw f s s' o kept grew = record {
   right = λ z filling m. kept.right z filling (meets_earlier s s' grew z m);
   selected = kept.selected;
 }
+
+front_then : {X : Type 0} (xs ys zs : List X) → IsFront xs ys → IsFront ys zs → IsFront xs zs
+front_then xs ys zs f g = (f.0 ++ g.0, g.1 ∙ ap (λ us. us ++ g.0) f.1 ∙ append_assoc xs f.0 g.0)
+
+grew_then : (s t u : State) → Grew s t → Grew t u → Grew s u
+grew_then s t u f g = record {
+  kinds = front_then s.substitution.kinds t.substitution.kinds u.substitution.kinds f.kinds g.kinds;
+  log = front_then s.substitution.log t.substitution.log u.substitution.log f.log g.log;
+  made = front_then s.pairs.made t.pairs.made u.pairs.made f.made g.made;
+  taken = front_then s.pairs.taken t.pairs.taken u.pairs.taken f.taken g.taken;
+  diverging = front_then s.diverging t.diverging u.diverging f.diverging g.diverging;
+}
+
+-- what is to be looked at, and what sleeps till more is known, is so then too
+pub all_grows : (f : System) (s s' : State) (o : Obligations) → HasAllOpen f s o → Grew s s' → HasAllOpen f s' o
+all_grows f s s' o all grew = record { earlier = all.earlier; grew = grew_then all.earlier s s' all.grew grew; since = all.since }

@@ -2,7 +2,7 @@
 use Rattle.std.specs.Prelude.{◌≡◌, ◌⊎◌, ◌≤◌, ◌<◌, ◌+◌, ◌-◌, ◌++◌, ℕ, if◌then◌else◌, Bool, true, false, IsTrue, List, [], ◌∷◌, length, slice_get, Some}
 use Rattle.std.specs.List.{range_with_len}
 use Rattle.hir_raw.specs.declared.raw.RawFacts.{RawFacts}
-use Rattle.infer_table.specs.Table.{State, Meets, bindings}
+use Rattle.infer_table.specs.Table.{State, Meets, Grew, bindings}
 use Rattle.goal_answers.specs.Reading.{Fill, IsFilling}
 use Rattle.goal_answers.specs.Goals.{System}
 use Rattle.goal_answers.specs.Answers.{answers}
@@ -15,6 +15,9 @@ use Rattle.goal_tree.specs.declared.tree.GoalTree.{GoalTree}
 use Rattle.goal_tree.specs.Trees.{IsTree, IsOpenAt, IsSelectedBy}
 use Rattle.goal_tree.specs.Right.{IsRight}
 use Rattle.infer_goals.specs.declared.obligations.Obligations.{Obligations}
+use Rattle.infer_goals.specs.declared.sleepers.Sleepers.{Sleepers}
+use Rattle.infer_goals.specs.Sleepers.{Sleeps, KeepsListed, ListsHoles}
+pub use Rattle.infer_goals.specs.Sleepers.{IsAmong}
 
 -- ---- steps of selection
 
@@ -61,9 +64,6 @@ pub record AreKept (raw : RawFacts) (f : System) (s : State) (o : Obligations) :
 
 -- ---- lists of obligations
 
-abbrev pub IsAmong : List ℕ → ℕ → Type 0
-IsAmong xs i = (k : ℕ) × (slice_get xs k ≡ Some i)
-
 -- of each that is listed the depth is at most this
 abbrev pub AreWithin : GoalTree → ℕ → List ℕ → Type 0
 AreWithin t d xs = (k i : ℕ) → slice_get xs k ≡ Some i → (x : Obligation) × (slice_get t.obligations.items i ≡ Some x) × (x.depth ≤ d)
@@ -73,11 +73,6 @@ AreBelow t d xs = (k i : ℕ) → slice_get xs k ≡ Some i → (x : Obligation)
 
 abbrev pub AreAt : GoalTree → ℕ → List ℕ → Type 0
 AreAt t d xs = (k i : ℕ) → slice_get xs k ≡ Some i → (x : Obligation) × (slice_get t.obligations.items i ≡ Some x) × (x.depth ≡ d)
-
--- each that is open is to be looked at, and no others than there are
-pub record HasAllOpen (o : Obligations) : Type 0 where
-  pub all : (i : ℕ) → IsOpenAt o.tree.standings.items i → IsAmong o.todo.items i
-  pub within : (k i : ℕ) → slice_get o.todo.items k ≡ Some i → i < length o.tree.obligations.items
 
 -- what was listed or is new, and is open, is listed after
 abbrev pub KeepsOpen : GoalTree → List ℕ → GoalTree → List ℕ → Type 0
@@ -150,3 +145,64 @@ pub record AreScanned (raw : RawFacts) (f : System) (bounded : Bool) (s : State)
   pub fewer : length here' ≤ length here
   pub at : (d : ℕ) → AreAt o.tree d here → AreBelow o.tree d below → AreAt o'.tree d here' × AreBelow o'.tree d below' × ScansOpen o.tree here below o'.tree here' below'
   pub settled : StaysSettled raw f bounded s o here below s' o' here' below'
+
+-- ---- what sleeps
+
+-- it is in the list of each hole that stands in it with what is known of its holes
+abbrev pub IsListedByHoles : State → GoalTree → List (List ℕ) → ℕ → Type 0
+IsListedByHoles s t lists i = (x : Obligation) → slice_get t.obligations.items i ≡ Some x → ListsHoles lists (asked_goal (known_goal s x.goal)).parts i
+
+-- nothing selects it, and each of its holes would wake it
+pub record IsAsleep (f : System) (s : State) (t : GoalTree) (z : Sleepers) (i : ℕ) : Type 0 where
+  pub sleeps : Sleeps z.asleep.items i
+  pub settled : IsSettled f s t i
+  pub listed : IsListedByHoles s t z.by_hole.items i
+
+-- each that is open is to be looked at, or sleeps, with what is known in this state; no others are to be looked at than there are
+pub record HasAllOf (f : System) (s : State) (t : GoalTree) (z : Sleepers) (todo : List ℕ) : Type 0 where
+  pub seen : z.seen ≡ length (bindings s)
+  pub all : (i : ℕ) → IsOpenAt t.standings.items i → IsAmong todo i ⊎ IsAsleep f s t z i
+  pub within : (k i : ℕ) → slice_get todo k ≡ Some i → i < length t.obligations.items
+  pub few : length z.asleep.items ≤ length t.obligations.items
+
+abbrev pub HasAllSince : System → State → Obligations → Type 0
+HasAllSince f s o = HasAllOf f s o.tree o.asleep o.todo.items
+
+-- so it was in this state or an earlier one, from which the table grew
+pub record HasAllOpen (f : System) (s : State) (o : Obligations) : Type 0 where
+  pub earlier : State
+  pub grew : Grew earlier s
+  pub since : HasAllSince f earlier o
+
+-- so it is whatever is known of holes
+abbrev pub HasAllAnyhow : Obligations → Type 0
+HasAllAnyhow o = (f : System) (s : State) → HasAllOpen f s o
+
+-- whatever is known of holes, it is so afterwards where it was before
+abbrev pub KeepsAllOpen : Obligations → Obligations → Type 0
+KeepsAllOpen o o' = (f : System) (s : State) → HasAllOpen f s o → HasAllOpen f s o'
+
+-- those of which something became known are to be looked at
+abbrev pub WakesAll : State → Obligations → Obligations → Type 0
+WakesAll s o o' = (f : System) → HasAllOpen f s o → HasAllSince f s o'
+
+-- these sleep too
+pub record FallAsleep (s : State) (t : GoalTree) (xs : List ℕ) (z z' : Sleepers) : Type 0 where
+  pub seen : z'.seen ≡ z.seen
+  pub lists : KeepsListed z.by_hole.items z'.by_hole.items
+  pub kept : (i : ℕ) → Sleeps z.asleep.items i → Sleeps z'.asleep.items i
+  pub each : (i : ℕ) → IsAmong xs i → Sleeps z'.asleep.items i × IsListedByHoles s t z'.by_hole.items i
+  pub few : length z.asleep.items ≤ length t.obligations.items → length z'.asleep.items ≤ length t.obligations.items
+
+-- all that nothing selects sleep
+abbrev pub SleepsAll : System → State → Obligations → Obligations → Type 0
+SleepsAll f s o o' = HasAllSince f s o → ((i : ℕ) → IsAmong o.todo.items i → IsSettled f s o.tree i) → HasAllSince f s o'
+
+-- no others than there are
+abbrev pub AreThere : GoalTree → List ℕ → Type 0
+AreThere t xs = (k i : ℕ) → slice_get xs k ≡ Some i → i < length t.obligations.items
+
+-- something was selected, and those of which more is known are to be looked at; or nothing was, and nothing can be
+abbrev pub EndsRound : RawFacts → System → Obligations → State → Obligations → Bool → Type 0
+EndsRound raw f o s' o' true = (o.selected < o'.selected) × HasAllSince f s' o'
+EndsRound raw f o s' o' false = HasAllOpen f s' o' × NoneLeft raw f true s' o'

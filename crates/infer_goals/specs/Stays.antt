@@ -8,7 +8,7 @@ use Rattle.goal_search.specs.Sources.{system}
 use Rattle.goal_facts.specs.Goals.{ItemSources}
 use Rattle.infer_goals.specs.declared.obligations.Obligations.{Obligations}
 use Rattle.infer_goals.specs.declared.table.GoalTable.{GoalTable}
-use Rattle.infer_goals.specs.Kept.{kept_grows}
+use Rattle.infer_goals.specs.Kept.{kept_grows, all_grows}
 use Rattle.infer_goals.specs.Obligations.{AreKept, HasAllOpen}
 
 -- the table of holes alone may change
@@ -26,7 +26,7 @@ pub record IsUnused (raw : RawFacts) (item : GenericDefId) (t : GoalTable) : Typ
   pub scope : t.sources.item ≡ item
   pub bounded : t.bounded ≡ true
   pub kept : AreKept t.sources.facts (system t.sources.sources) t.table t.obligations
-  pub all : HasAllOpen t.obligations
+  pub all : HasAllOpen (system t.sources.sources) t.table t.obligations
   pub obligations : t.obligations.tree.obligations.items ≡ []
   pub proofs : t.obligations.tree.proofs.items ≡ []
   pub selected : t.obligations.selected ≡ 0
@@ -58,13 +58,20 @@ kept_still t t' kept stays grew =
     let same : AreKept t'.sources.facts (system t'.sources.sources) t'.table t.obligations = subst (λ (z : ItemSources). AreKept z.facts (system z.sources) t'.table t.obligations) (sym stays.sources) later in
     subst (λ (o : Obligations). AreKept t'.sources.facts (system t'.sources.sources) t'.table o) (sym stays.obligations) same
 
+-- so it is of what is to be looked at
+pub all_still : (t t' : GoalTable) → HasAllOpen (system t.sources.sources) t.table t.obligations → StaysButHoles t t' → Grew t.table t'.table → HasAllOpen (system t'.sources.sources) t'.table t'.obligations
+all_still t t' all stays grew =
+    let later : HasAllOpen (system t.sources.sources) t'.table t.obligations = all_grows (system t.sources.sources) t.table t'.table t.obligations all grew in
+    let same : HasAllOpen (system t'.sources.sources) t'.table t.obligations = subst (λ (z : ItemSources). HasAllOpen (system z.sources) t'.table t.obligations) (sym stays.sources) later in
+    subst (λ (o : Obligations). HasAllOpen (system t'.sources.sources) t'.table o) (sym stays.obligations) same
+
 pub unused_still : (raw : RawFacts) (item : GenericDefId) (t t' : GoalTable) → IsUnused raw item t → StaysButHoles t t' → Grew t.table t'.table → IsUnused raw item t'
 unused_still raw item t t' h stays grew = record {
   facts = ap (λ (z : ItemSources). z.facts) stays.sources ∙ h.facts;
   scope = ap (λ (z : ItemSources). z.item) stays.sources ∙ h.scope;
   bounded = stays.bounded ∙ h.bounded;
   kept = kept_still t t' h.kept stays grew;
-  all = subst (λ (o : Obligations). HasAllOpen o) (sym stays.obligations) h.all;
+  all = all_still t t' h.all stays grew;
   obligations = ap (λ (o : Obligations). o.tree.obligations.items) stays.obligations ∙ h.obligations;
   proofs = ap (λ (o : Obligations). o.tree.proofs.items) stays.obligations ∙ h.proofs;
   selected = ap (λ (o : Obligations). o.selected) stays.obligations ∙ h.selected;

@@ -4,6 +4,7 @@
 mod inspect;
 mod obligations;
 mod self_ty;
+mod sleepers;
 mod table;
 
 pub use goal_facts::Answer;

@@ -1,25 +1,46 @@
 //! The goals that inference of a body registers, and their selection: `infer/unify.rs`,
-//! `select_obligations_where_possible`.
-ghost use Rattle.std.specs.Prelude.{◌≡◌, ◌↔◌, ◌++◌, ◌-◌, ◌≤◌, ◌<◌, ◌^◌, ◌∷◌, [], length, IfOk, OnOk, IsTrue};
+//! `select_obligations_where_possible`. What nothing selects sleeps until more is known of its holes.
+ghost use Rattle.std.specs.Prelude.{◌≡◌, ◌↔◌, ◌++◌, ◌-◌, ◌≤◌, ◌<◌, ◌^◌, ◌∷◌, [], true, false, length, IfOk, OnOk, IsTrue};
 ghost use Rattle.std.specs.List.{range_with_len};
+ghost use Rattle.goal_answers.specs.Goals.{System};
 ghost use Rattle.goal_search.specs.Sources.{system};
 ghost use Rattle.goal_tree.specs.Trees.{IsTree, IsOpenAt, registered, IsAsked};
-ghost use Rattle.infer_goals.specs.Obligations.{AreKept, AreWithin, AreBelow, AreAt, HasAllOpen, AreUsedUp, AreSettled, NoneLeft, Went, counted, KeepsOpen, AreAmongEither, AreScanned, AreLower, new_numbers, IsTried, IsVisited};
+ghost use Rattle.infer_goals.specs.Obligations.{AreKept, AreWithin, AreBelow, AreAt, HasAllOpen, HasAllAnyhow, HasAllSince, KeepsAllOpen, WakesAll, SleepsAll, FallAsleep, AreThere, EndsRound, AreUsedUp, AreSettled, NoneLeft, Went, counted, KeepsOpen, AreAmongEither, AreScanned, AreLower, new_numbers, IsTried, IsVisited};
 
-use goal_facts::ItemSources;
+use crate::sleepers::Sleepers;
+use goal_facts::{ItemSources, asked};
 use goal_select::{Selected, select_goal};
 use goal_tree::GoalTree;
 use hir_facts::{ExprOrPatId, Goal};
 use infer_table::InferenceTable;
 use std::alloc::{AllocError, Global};
 
+/// Lets an obligation sleep on each hole of its goal, with what is known of them.
+fn sleep_one(
+    alloc: Global,
+    table: &InferenceTable,
+    tree: &GoalTree,
+    at: usize,
+    asleep: &mut Sleepers,
+) -> Result<(), AllocError>
+    requires { at < length tree.now.obligations.items }
+    ensures { OnOk result (FallAsleep table.now tree.now (at ∷ []) asleep.old asleep.new) }
+{
+    let goal = table.resolve(&tree.obligation(at).goal)?;
+    let known = asked(alloc, &goal)?;
+    asleep.sleep(at, &known.parts)?;
+    Ok(())
+}
+
 /// The goals that were registered, with those that their sources ask for.
 #[derive(Debug, Drop)]
 pub struct Obligations {
     pub(crate) alloc: Global,
     pub(crate) tree: GoalTree,
-    /// The numbers of those that have no source yet.
+    /// The numbers of those that are to be looked at.
     todo: Vec<usize>,
+    /// Those that nothing selects until more is known of their holes.
+    asleep: Sleepers,
     /// How many were selected while selection was bounded.
     pub(crate) selected: u64,
 }
@@ -31,12 +52,13 @@ impl Obligations {
         ensures obligations { result.tree.obligations.items ≡ [] }
         ensures proofs { result.tree.proofs.items ≡ [] }
         ensures selected { result.selected ≡ 0 }
-        ensures all { HasAllOpen result }
+        ensures all { HasAllAnyhow result }
     {
         Obligations {
             alloc,
             tree: GoalTree::new(alloc),
             todo: Vec::new(alloc),
+            asleep: Sleepers::new(alloc),
             selected: 0,
         }
     }
@@ -44,11 +66,10 @@ impl Obligations {
     /// Adds a goal that a node needs, which may be followed for so many steps.
     pub fn register(&mut self, goal: Goal, node: ExprOrPatId, depth: u32) -> Result<(), AllocError>
         requires tree { IsTree self.old.tree }
-        requires all { HasAllOpen self.old }
         ensures asked { OnOk result (IsAsked self.old.tree self.new.tree (registered goal node depth ∷ [])) }
         ensures tree { OnOk result (IsTree self.new.tree) }
         ensures selected { OnOk result (self.new.selected ≡ self.old.selected) }
-        ensures all { OnOk result (HasAllOpen self.new) }
+        ensures all { OnOk result (KeepsAllOpen self.old self.new) }
     {
         let number = self.tree.len();
         self.tree.register(goal, node, depth)?;
@@ -243,6 +264,127 @@ impl Obligations {
         Ok(here)
     }
 
+    /// Wakes those of which more is known since they fell asleep.
+    fn wake(&mut self, table: &InferenceTable) -> Result<(), AllocError>
+        ensures tree { self.new.tree ≡ self.old.tree }
+        ensures selected { self.new.selected ≡ self.old.selected }
+        ensures all { OnOk result (WakesAll table.now self.old self.new) }
+    {
+        self.asleep.wake(table, &mut self.todo)?;
+        Ok(())
+    }
+
+    /// Lets those sleep that were to be looked at.
+    fn sleep_all(&mut self, table: &InferenceTable) -> Result<(), AllocError>
+        requires { AreThere self.old.tree self.old.todo.items }
+        ensures tree { self.new.tree ≡ self.old.tree }
+        ensures selected { self.new.selected ≡ self.old.selected }
+        ensures todo { OnOk result (self.new.todo.items ≡ []) }
+        ensures all { OnOk result ((f : System) → SleepsAll f table.now self.old self.new) }
+    {
+        let numbers = std::mem::replace(&mut self.todo, Vec::new(self.alloc));
+        for at in numbers {
+            sleep_one(self.alloc, table, &self.tree, at, &mut self.asleep)?;
+        }
+        Ok(())
+    }
+
+    /// Selects these, and what their sources ask for, until nothing selects any more: those that are open
+    /// still are to be looked at again.
+    fn settle_these(
+        &mut self,
+        sources: &ItemSources<'_>,
+        table: &mut InferenceTable,
+        bounded: bool,
+        numbers: Vec<usize>,
+    ) -> Result<(), AllocError>
+        requires kept { AreKept sources.now.facts (system sources.now.sources) table.old self.old }
+        requires within { AreWithin self.old.tree sources.now.facts.limits.goal_depth numbers.items }
+        ensures kept { OnOk result (AreKept sources.now.facts (system sources.now.sources) table.new self.new) }
+        ensures went { OnOk result (Went sources.now.facts (system sources.now.sources) bounded table.old self.old table.new self.new) }
+        ensures there { OnOk result (AreThere self.new.tree self.new.todo.items) }
+        ensures all { OnOk result (KeepsOpen self.old.tree numbers.items self.new.tree self.new.todo.items) }
+        ensures settled { OnOk result (AreSettled sources.now.facts (system sources.now.sources) bounded table.new self.new self.new.todo.items) }
+        ensures asleep { OnOk result (self.new.asleep ≡ self.old.asleep) }
+    {
+        let depth = sources.facts().raw().limits.goal_depth;
+        let asleep = std::mem::replace(&mut self.asleep, Sleepers::new(self.alloc));
+        self.todo = self.settle(sources, table, bounded, numbers, depth)?;
+        self.asleep = asleep;
+        Ok(())
+    }
+
+    /// Selects what can be selected, whatever was found of it before: without a bound, which is at the end.
+    fn select_all(
+        &mut self,
+        sources: &ItemSources<'_>,
+        table: &mut InferenceTable,
+    ) -> Result<(), AllocError>
+        requires kept { AreKept sources.now.facts (system sources.now.sources) table.old self.old }
+        requires all { HasAllOpen (system sources.now.sources) table.old self.old }
+        ensures kept { OnOk result (AreKept sources.now.facts (system sources.now.sources) table.new self.new) }
+        ensures all { OnOk result (HasAllOpen (system sources.now.sources) table.new self.new) }
+        ensures went { OnOk result (Went sources.now.facts (system sources.now.sources) false table.old self.old table.new self.new) }
+        ensures none_left { OnOk result (NoneLeft sources.now.facts (system sources.now.sources) false table.new self.new) }
+    {
+        let mut numbers = Vec::new(self.alloc);
+        self.push_new(0, &mut numbers)?;
+        self.settle_these(sources, table, false, numbers)?;
+        Ok(())
+    }
+
+    /// Selects those that are to be looked at, and wakes those of which that told more; where nothing was
+    /// selected, they sleep. Whether something was.
+    fn select_round(
+        &mut self,
+        sources: &ItemSources<'_>,
+        table: &mut InferenceTable,
+    ) -> Result<bool, AllocError>
+        requires kept { AreKept sources.now.facts (system sources.now.sources) table.old self.old }
+        requires since { HasAllSince (system sources.now.sources) table.old self.old }
+        ensures kept { OnOk result (AreKept sources.now.facts (system sources.now.sources) table.new self.new) }
+        ensures went { OnOk result (Went sources.now.facts (system sources.now.sources) true table.old self.old table.new self.new) }
+        ensures ends { IfOk result (λ more. EndsRound sources.now.facts (system sources.now.sources) self.old table.new self.new more) }
+    {
+        let before = self.selected;
+        let numbers = std::mem::replace(&mut self.todo, Vec::new(self.alloc));
+        self.settle_these(sources, table, true, numbers)?;
+        if self.selected != before {
+            self.wake(table)?;
+            return Ok(true);
+        }
+        if self.are_used_up(sources, true) {
+            return Ok(false);
+        }
+        self.sleep_all(table)?;
+        Ok(false)
+    }
+
+    /// Selects what can be selected under a bound: only those are looked at that are new, or of which more
+    /// is known since nothing selected them.
+    fn select_awake(
+        &mut self,
+        sources: &ItemSources<'_>,
+        table: &mut InferenceTable,
+    ) -> Result<(), AllocError>
+        requires kept { AreKept sources.now.facts (system sources.now.sources) table.old self.old }
+        requires all { HasAllOpen (system sources.now.sources) table.old self.old }
+        ensures kept { OnOk result (AreKept sources.now.facts (system sources.now.sources) table.new self.new) }
+        ensures all { OnOk result (HasAllOpen (system sources.now.sources) table.new self.new) }
+        ensures went { OnOk result (Went sources.now.facts (system sources.now.sources) true table.old self.old table.new self.new) }
+        ensures none_left { OnOk result (NoneLeft sources.now.facts (system sources.now.sources) true table.new self.new) }
+    {
+        if self.are_used_up(sources, true) {
+            return Ok(());
+        }
+        self.wake(table)?;
+        'round: loop {
+            if !self.select_round(sources, table)? {
+                return Ok(());
+            }
+        }
+    }
+
     /// Selects what can be selected, and what that asks for, until nothing selects any more.
     pub fn select_where_possible(
         &mut self,
@@ -251,15 +393,17 @@ impl Obligations {
         bounded: bool,
     ) -> Result<(), AllocError>
         requires kept { AreKept sources.now.facts (system sources.now.sources) table.old self.old }
-        requires all { HasAllOpen self.old }
+        requires all { HasAllOpen (system sources.now.sources) table.old self.old }
         ensures kept { OnOk result (AreKept sources.now.facts (system sources.now.sources) table.new self.new) }
-        ensures all { OnOk result (HasAllOpen self.new) }
+        ensures all { OnOk result (HasAllOpen (system sources.now.sources) table.new self.new) }
         ensures went { OnOk result (Went sources.now.facts (system sources.now.sources) bounded table.old self.old table.new self.new) }
         ensures none_left { OnOk result (NoneLeft sources.now.facts (system sources.now.sources) bounded table.new self.new) }
     {
-        let depth = sources.facts().raw().limits.goal_depth;
-        let numbers = std::mem::replace(&mut self.todo, Vec::new(self.alloc));
-        self.todo = self.settle(sources, table, bounded, numbers, depth)?;
+        if bounded {
+            self.select_awake(sources, table)?;
+            return Ok(());
+        }
+        self.select_all(sources, table)?;
         Ok(())
     }
 }

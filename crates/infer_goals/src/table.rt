@@ -49,7 +49,7 @@ impl<'a> GoalTable<'a> {
         ensures table { IfOk result (λ made. made.table ≡ new_state) }
         ensures bounded { IfOk result (λ made. made.bounded ≡ true) }
         ensures kept { IfOk result (λ made. AreKept facts.now (system made.sources.sources) made.table made.obligations) }
-        ensures all { IfOk result (λ made. HasAllOpen made.obligations) }
+        ensures all { IfOk result (λ made. HasAllOpen (system made.sources.sources) made.table made.obligations) }
         ensures obligations { IfOk result (λ made. made.obligations.tree.obligations.items ≡ []) }
         ensures proofs { IfOk result (λ made. made.obligations.tree.proofs.items ≡ []) }
         ensures selected { IfOk result (λ made. made.obligations.selected ≡ 0) }
@@ -184,10 +184,10 @@ impl<'a> GoalTable<'a> {
     pub fn register_obligation(&mut self, goal: Goal, node: ExprOrPatId) -> Result<(), AllocError>
         requires goal { GoalIsOf self.old.table goal }
         requires kept { AreKept self.old.sources.facts (system self.old.sources.sources) self.old.table self.old.obligations }
-        requires all { HasAllOpen self.old.obligations }
+        requires all { HasAllOpen (system self.old.sources.sources) self.old.table self.old.obligations }
         ensures asked { OnOk result (IsAsked self.old.obligations.tree self.new.obligations.tree (registered goal node self.old.sources.facts.limits.goal_depth ∷ [])) }
         ensures kept { OnOk result (AreKept self.new.sources.facts (system self.new.sources.sources) self.new.table self.new.obligations) }
-        ensures all { OnOk result (HasAllOpen self.new.obligations) }
+        ensures all { OnOk result (HasAllOpen (system self.new.sources.sources) self.new.table self.new.obligations) }
         ensures selected { OnOk result (self.new.obligations.selected ≡ self.old.obligations.selected) }
         ensures table { self.new.table ≡ self.old.table }
         ensures bounded { self.new.bounded ≡ self.old.bounded }
@@ -206,10 +206,10 @@ impl<'a> GoalTable<'a> {
     /// bound by that.
     pub fn select_obligations_where_possible(&mut self) -> Result<bool, AllocError>
         requires kept { AreKept self.old.sources.facts (system self.old.sources.sources) self.old.table self.old.obligations }
-        requires all { HasAllOpen self.old.obligations }
+        requires all { HasAllOpen (system self.old.sources.sources) self.old.table self.old.obligations }
         ensures given { IfOk result (λ _. IsSystemOf self.old.sources.facts self.old.sources.item (system self.old.sources.sources)) }
         ensures kept { OnOk result (AreKept self.new.sources.facts (system self.new.sources.sources) self.new.table self.new.obligations) }
-        ensures all { OnOk result (HasAllOpen self.new.obligations) }
+        ensures all { OnOk result (HasAllOpen (system self.new.sources.sources) self.new.table self.new.obligations) }
         ensures went { OnOk result (Went self.old.sources.facts (system self.old.sources.sources) self.old.bounded self.old.table self.old.obligations self.new.table self.new.obligations) }
         ensures none_left { OnOk result (NoneLeft self.new.sources.facts (system self.new.sources.sources) self.old.bounded self.new.table self.new.obligations) }
         ensures answer { IfOk result (λ bound. IsTrue bound ↔ BoundMore self.old.table self.new.table) }
@@ -233,10 +233,10 @@ impl<'a> GoalTable<'a> {
     /// evaluates.
     pub fn obligations_for_self_ty(&mut self, var: &Ty) -> Result<Vec<Goal>, AllocError>
         requires kept { AreKept self.old.sources.facts (system self.old.sources.sources) self.old.table self.old.obligations }
-        requires all { HasAllOpen self.old.obligations }
+        requires all { HasAllOpen (system self.old.sources.sources) self.old.table self.old.obligations }
         ensures given { IfOk result (λ _. IsSystemOf self.old.sources.facts self.old.sources.item (system self.old.sources.sources)) }
         ensures kept { OnOk result (AreKept self.new.sources.facts (system self.new.sources.sources) self.new.table self.new.obligations) }
-        ensures all { OnOk result (HasAllOpen self.new.obligations) }
+        ensures all { OnOk result (HasAllOpen (system self.new.sources.sources) self.new.table self.new.obligations) }
         ensures went { OnOk result (Went self.old.sources.facts (system self.old.sources.sources) self.old.bounded self.old.table self.old.obligations self.new.table self.new.obligations) }
         ensures none_left { OnOk result (NoneLeft self.new.sources.facts (system self.new.sources.sources) self.old.bounded self.new.table self.new.obligations) }
         ensures goals { IfOk result (λ goals. AreForSelfTy (system self.new.sources.sources) self.new.sources.facts.limits.goal_depth self.new.table var.now self.new.obligations.tree goals.items) }

@@ -17,11 +17,10 @@ use Rattle.goal_facts.specs.Goals.{asked_goal}
 use Rattle.goal_facts.specs.Systems.{IsSystemOf}
 use Rattle.infer_result.specs.declared.gaps.Gap.{Gap}
 use Rattle.infer_result.specs.declared.result.InferenceResult.{InferenceResult}
-use Rattle.infer_result.specs.Needs.{IsNeeded, HoldsUnknown, IsProved, gap_asks, HasGap, IsUnproved, IsTrueGap, needed_goals, with_goals, scope_item, GoalsHold}
+use Rattle.infer_result.specs.Needs.{IsNeeded, HoldsUnknown, IsProved, gap_asks, HasGap, IsUnproved, IsTrueGap, needed_goals, with_goals, scope_item, GoalsHold, needs_of, needs_at}
 use Rattle.infer_result.specs.Places.{Given}
 use Rattle.infer_result.specs.Table.{recorded}
 use Rattle.infer_result.specs.Typed.{given}
-use Rattle.infer_needs.specs.Told.{needs_of, needs_at}
 use Rattle.infer_needs.specs.Judged.{IsDone, IsOfFailing, AreAllJudged}
 
 -- ---- the body of a definition

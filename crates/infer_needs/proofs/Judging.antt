@@ -20,9 +20,8 @@ use Rattle.goal_facts.specs.Goals.{asked_goal, IsAnswer}
 use Rattle.goal_prove.specs.Entries.{AddsProofs}
 use Rattle.infer_result.specs.declared.gaps.Gap.{Gap}
 use Rattle.infer_result.specs.declared.result.InferenceResult.{InferenceResult}
-use Rattle.infer_result.specs.Needs.{HoldsUnknown, gap_asks}
+use Rattle.infer_result.specs.Needs.{HoldsUnknown, gap_asks, needs_of, needs_at}
 use Rattle.infer_result.specs.Table.{recorded}
-use Rattle.infer_needs.specs.Told.{needs_of, needs_at}
 use Rattle.infer_needs.specs.Judged.{IsProvable, AreProvable, unproved, IsSaid, IsAmong, IsDone, IsSaidIfKnown, IsJudged, IsOfFailing, AreDone, AreJudged, AreAllJudged}
 
 -- ---- proofs that are added

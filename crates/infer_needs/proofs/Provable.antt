@@ -1,9 +1,7 @@
--- Goals that paths need are without holes; and what owes goals where there are associated types.
-use Rattle.std.specs.Prelude.{◌≡◌, ◌⊎◌, ℕ, zero, suc, Bool, true, List, [], ◌∷◌, map, slice_get, Option, Some, None, option_map, refl}
-use Rattle.std.specs.List.{list_all}
+-- Goals that paths need are without holes.
+use Rattle.std.specs.Prelude.{◌≡◌, ℕ, List, [], ◌∷◌, map, slice_get, Option, Some, None, refl}
 use Rattle.std.specs.Option.{option_and_then}
-use Rattle.std.proofs.Common.{inl, inr, sym, ap, subst, true≢false}
-use Rattle.std.proofs.lemmas.Bool.{or_cases}
+use Rattle.std.proofs.Common.{sym, ap, subst}
 use Rattle.hir_types.specs.declared.ids.DefWithBodyId.{DefWithBodyId}
 use Rattle.hir_types.specs.declared.ids.TypeRefId.{TypeRefId}
 use Rattle.hir_types.specs.declared.ty.IntegerTy.TheVariants.{Int, Uint}
@@ -11,36 +9,24 @@ use Rattle.hir_types.specs.declared.ty.GenericArg.{GenericArg}
 use Rattle.hir_types.specs.declared.ty.Ty.{Ty, out-Ty}
 use Rattle.hir_types.specs.Assigned.{with_params}
 use Rattle.hir_types.specs.Terms.{Term, chain, type_part, term}
-use Rattle.hir_raw.specs.declared.raw.RawAdt.{RawAdt}
-use Rattle.hir_raw.specs.declared.raw.RawBody.{RawBody}
 use Rattle.hir_raw.specs.declared.raw.RawExpr.{RawExpr}
 use Rattle.hir_raw.specs.declared.raw.RawExpr.TheVariants as expr
-use Rattle.hir_raw.specs.declared.raw.RawFn.{RawFn}
 use Rattle.hir_raw.specs.declared.raw.RawGoal.{RawGoal}
 use Rattle.hir_raw.specs.declared.raw.RawGoal.TheVariants as goal
-use Rattle.hir_raw.specs.declared.raw.RawPath.{RawPath}
-use Rattle.hir_raw.specs.declared.raw.RawPath.TheVariants as path
 use Rattle.hir_raw.specs.declared.raw.RawType.{RawType}
 use Rattle.hir_raw.specs.declared.raw.RawType.TheVariants as type
-use Rattle.hir_raw.specs.declared.raw.RawVariant.{RawVariant}
 use Rattle.hir_raw.specs.declared.raw.RawFacts.{RawFacts}
 use Rattle.hir_raw.specs.Goals.{arg_types}
 use Rattle.hir_raw.specs.Scope.{scope_of}
-use Rattle.hir_ids.specs.Carried.{is_empty}
-use Rattle.hir_ids.specs.Owed.{fn_asks_nothing, adt_asks_nothing, ctor_asks_nothing, path_owes_nothing, expr_owes_nothing}
-use Rattle.hir_laws.specs.Lawful.{IsLawful}
-use Rattle.hir_laws.specs.LawfulFacts.{carried_bodies}
 use Rattle.goal_facts.specs.Arguments.{type_at, args_at, goal_at}
-use Rattle.goal_facts.specs.Environment.{preds_or_none}
 use Rattle.goal_prove.specs.Staying.{IsWritten}
 use Rattle.goal_facts.proofs.Written.{parts_by, layer, by_layers, args_are}
 use Rattle.infer_result.specs.declared.result.InferenceResult.{InferenceResult}
-use Rattle.infer_result.specs.Needs.{variant_preds, path_preds, item_args, needed_goals}
+use Rattle.infer_result.specs.Needs.{path_preds, item_args, needed_goals, needs_of}
 use Rattle.infer_result.specs.Table.{recorded}
 use Rattle.infer_result.specs.Typed.{IsTableOf}
 use Rattle.infer_needs.specs.Judged.{IsProvable, AreProvable}
-use Rattle.infer_needs.specs.Told.{needs_of}
-use Rattle.infer_needs.proofs.Closed.{both, AreClosed, type_closed, item_closed}
+use Rattle.infer_needs.proofs.Closed.{AreClosed, type_closed, item_closed}
 
 -- ---- goals at arguments
 
@@ -102,49 +88,3 @@ module _ (raw : RawFacts) (d : DefWithBodyId) (r : InferenceResult) (is : IsTabl
   -- each goal can be proved
   pub needs_provable : (k : ℕ) (x : RawExpr) → AreProvable (needs_of raw (Some x) (recorded r.type_of_expr k))
   needs_provable k x = of_type k x (recorded r.type_of_expr k) refl
-
--- ---- what is owed
-
-empty_is : {X : Type 0} (xs : List X) → is_empty xs ≡ true → xs ≡ []
-empty_is [] h = refl
-empty_is (x ∷ xs) h = absurd (true≢false (sym h))
-
-fn_none : (o : Option RawFn) → fn_asks_nothing o ≡ true → preds_or_none (option_map (λ (x : RawFn). x.preds) o) ≡ []
-fn_none None h = refl
-fn_none (Some f) h = empty_is f.preds h
-
-adt_none : (o : Option RawAdt) → adt_asks_nothing o ≡ true → preds_or_none (option_map (λ (x : RawAdt). x.preds) o) ≡ []
-adt_none None h = refl
-adt_none (Some a) h = empty_is a.preds h
-
-ctor_none : (raw : RawFacts) (o : Option RawVariant) → ctor_asks_nothing raw o ≡ true → variant_preds raw o ≡ []
-ctor_none raw None h = refl
-ctor_none raw (Some v) h = adt_none (slice_get raw.adts v.adt.0) h
-
-path_none : (raw : RawFacts) (p : RawPath) → path_owes_nothing raw p ≡ true → path_preds raw p ≡ []
-path_none raw (path.Local v) h = refl
-path_none raw (path.Function f) h = fn_none (slice_get raw.fns f.0) h
-path_none raw (path.Ctor v) h = ctor_none raw (slice_get raw.variants v.0) h
-path_none raw path.Other h = refl
-
-all_at : {X : Type 0} (p : X → Bool) (xs : List X) → list_all p xs ≡ true → (i : ℕ) (x : X) → slice_get xs i ≡ Some x → p x ≡ true
-all_at p [] h i x at = cc
-all_at p (y ∷ xs) h zero x at = (let e : y ≡ x = cc in subst (λ z. p z ≡ true) e (both (p y) (list_all p xs) h).0)
-all_at p (y ∷ xs) h (suc i) x at = all_at p xs (both (p y) (list_all p xs) h).1 i x at
-
-module _ (raw : RawFacts) (law : IsLawful raw) where
-  owed : (b : RawBody) (i : ℕ) → slice_get raw.bodies i ≡ Some b → (k : ℕ) (x : RawExpr) → slice_get b.exprs k ≡ Some x → (expr_owes_nothing raw x ≡ true) ⊎ (is_empty raw.aliases ≡ true)
-  owed b i at k x found =
-      elim (or_cases (list_all (expr_owes_nothing raw) b.exprs) (is_empty raw.aliases) (carried_bodies raw law i b at).owes) [
-        | inl none ↦ inl (all_at (expr_owes_nothing raw) b.exprs none k x found)
-        | inr empty ↦ inr empty
-      ]
-
-  -- what a path owes is nothing, or no trait has an associated type
-  owed_none : (x : RawExpr) (t : Ty) → (expr_owes_nothing raw x ≡ true) ⊎ (is_empty raw.aliases ≡ true) → (needed_goals raw x t ≡ []) ⊎ (raw.aliases ≡ [])
-  owed_none x t (inr e) = inr (empty_is raw.aliases e)
-  owed_none (expr.Path p) t (inl e) = inl (ap (map (goal_at raw (item_args (out-Ty t)))) (path_none raw p e))
-  owed_none _ t (inl e) = inl refl
-
-  pub expr_owed : (b : RawBody) (i : ℕ) → slice_get raw.bodies i ≡ Some b → (k : ℕ) (x : RawExpr) → slice_get b.exprs k ≡ Some x → (t : Ty) → (needed_goals raw x t ≡ []) ⊎ (raw.aliases ≡ [])
-  expr_owed b i at k x found t = owed_none x t (owed b i at k x found)

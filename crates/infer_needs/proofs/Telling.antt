@@ -11,9 +11,9 @@ use Rattle.goal_facts.specs.Goals.{asked_goal, IsAnswer}
 use Rattle.goal_facts.specs.declared.proof.Proof.{Proof}
 use Rattle.infer_result.specs.declared.gaps.Gap.{Gap}
 use Rattle.infer_result.specs.declared.result.InferenceResult.{InferenceResult}
-use Rattle.infer_result.specs.Needs.{with_goals}
+use Rattle.infer_result.specs.Needs.{with_goals, needs_of, needs_at}
 use Rattle.infer_result.specs.Table.{recorded}
-use Rattle.infer_needs.specs.Told.{needs_of, needs_at, first_needs, AreAnswered, ListsAnswers}
+use Rattle.infer_needs.specs.Told.{first_needs, AreAnswered, ListsAnswers}
 
 answered_both : (f : System) (n : ℕ) (xs bs : List Asked) (ts us : List (Goal × Answer)) → AreAnswered f n xs ts → AreAnswered f n bs us → AreAnswered f n (xs ++ bs) (ts ++ us)
 answered_both f n [] bs [] us h k = k

@@ -15,9 +15,8 @@ use Rattle.goal_prove.specs.Staying.{IsWritten}
 use Rattle.infer_result.specs.declared.gaps.Gap.{Gap}
 use Rattle.infer_result.specs.declared.gaps.Gap.TheVariants as gap
 use Rattle.infer_result.specs.declared.result.InferenceResult.{InferenceResult}
-use Rattle.infer_result.specs.Needs.{HoldsUnknown, gap_asks}
+use Rattle.infer_result.specs.Needs.{HoldsUnknown, gap_asks, needs_of, needs_at}
 use Rattle.infer_result.specs.Table.{recorded}
-use Rattle.infer_needs.specs.Told.{needs_of, needs_at}
 
 -- ---- goals that can be proved
 

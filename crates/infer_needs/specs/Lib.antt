@@ -1,4 +1,2 @@
 pub mod Judged
 pub mod Told
-pub mod Selection
-pub mod Registering

@@ -1,11 +1,9 @@
 -- Goals that nodes need, in their order, and what an inspector is told of them.
-use Rattle.std.specs.Prelude.{◌≡◌, ◌++◌, ℕ, zero, suc, List, [], ◌∷◌, length, slice_get, Option, Some, None}
+use Rattle.std.specs.Prelude.{◌≡◌, ◌++◌, ℕ, zero, suc, List, [], ◌∷◌, length, Option, Some, None}
 use Rattle.std.proofs.Common.{◌⊎◌, inl, inr}
 use denote.Ref.{MutBor}
 use Rattle.hir_types.specs.declared.ids.DefWithBodyId.{DefWithBodyId}
 use Rattle.hir_types.specs.declared.goal.Goal.{Goal}
-use Rattle.hir_types.specs.declared.ty.Ty.{Ty}
-use Rattle.hir_raw.specs.declared.raw.RawExpr.{RawExpr}
 use Rattle.hir_raw.specs.declared.raw.RawBody.{RawBody}
 use Rattle.hir_raw.specs.declared.raw.RawFacts.{RawFacts}
 use Rattle.goal_answers.specs.Goals.{Asked, System}
@@ -13,21 +11,10 @@ use Rattle.goal_search.specs.declared.answer.Answer.{Answer}
 use Rattle.goal_facts.specs.Goals.{asked_goal, IsAnswer}
 use Rattle.goal_facts.specs.Systems.{IsSystemOf}
 use Rattle.infer_result.specs.declared.result.InferenceResult.{InferenceResult}
-use Rattle.infer_result.specs.Needs.{needed_goals, scope_item}
+use Rattle.infer_result.specs.Needs.{needs_at, scope_item}
 use Rattle.infer_result.specs.Places.{Given}
-use Rattle.infer_result.specs.Table.{recorded}
 
 -- ---- what expressions need
-
--- where there is an expression, and its type is recorded
-abbrev pub needs_of : RawFacts → Option RawExpr → Option Ty → List Asked
-needs_of raw (Some x) (Some t) = needed_goals raw x t
-needs_of raw (Some x) None = []
-needs_of raw None o = []
-
--- what the expression of this number needs
-abbrev pub needs_at : RawFacts → RawBody → InferenceResult → ℕ → List Asked
-needs_at raw b r n = needs_of raw (slice_get b.exprs n) (recorded r.type_of_expr n)
 
 -- what the first `n` need, in their order
 abbrev pub first_needs : RawFacts → RawBody → InferenceResult → ℕ → List Asked

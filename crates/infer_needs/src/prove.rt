@@ -5,13 +5,12 @@ ghost use Rattle.hir_raw.specs.declared.raw.RawBody.{RawBody};
 ghost use Rattle.hir_laws.specs.Bodies.{body_of};
 ghost use Rattle.goal_search.specs.Sources.{system};
 ghost use Rattle.goal_facts.specs.Goals.{asked_goal, IsAnswer};
-ghost use Rattle.infer_result.specs.Needs.{needed_goals, with_goals, scope_item, GoalsHold};
+ghost use Rattle.infer_result.specs.Needs.{needed_goals, with_goals, scope_item, GoalsHold, needs_of};
 ghost use Rattle.infer_result.specs.Table.{recorded};
 ghost use Rattle.infer_result.specs.Typed.{IsTableOf, given};
 ghost use Rattle.infer_needs.specs.Judged.{IsProvable, AreProvable, CanAllBeProved, IsAmong, IsSaidIfKnown, IsJudged, AreJudged, AreAllJudged};
-ghost use Rattle.infer_needs.specs.Told.{ListsAnswers, needs_of, all_needs, AreAllAnswered};
+ghost use Rattle.infer_needs.specs.Told.{ListsAnswers, all_needs, AreAllAnswered};
 
-use crate::needed::needed_goals;
 use crate::unknown::holds_unknown;
 use goal_facts::{Answer, ItemSources, Proof, asked, is_same};
 use goal_prove::prove_goal;
@@ -19,7 +18,7 @@ use hir_facts::{
     AdtId, DefWithBodyId, ExprId, ExprOrPatId, Facts, GenericDefId, Goal, List, RawBody, RawExpr,
     Ty,
 };
-use infer_result::{Gap, InferenceResult};
+use infer_result::{Gap, InferenceResult, needed_goals};
 use std::alloc::{AllocError, Global};
 
 /// The item in whose scope a body is.

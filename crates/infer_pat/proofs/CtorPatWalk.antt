@@ -30,7 +30,6 @@ use Rattle.hir_ids.proofs.CarriedBodies.{ctor_pattern}
 use Rattle.infer_table.proofs.UndoLaws.{grew_itself}
 use Rattle.infer_table.proofs.HoleLaws.{grew_twice}
 use Rattle.infer_table.specs.Table.{Grew}
-use Rattle.infer_goals.specs.Stays.{stays_itself, stays_twice}
 use Rattle.infer_result.specs.Closed.{IsOfBody}
 use Rattle.infer_result.specs.Truth.Mismatch.{SaysItsType}
 use Rattle.infer_ctx.specs.declared.context.InferenceContext.{InferenceContext}
@@ -38,7 +37,9 @@ use Rattle.infer_ctx.specs.Closings.{IsSound, found_under, Closes, expected_unde
 use Rattle.infer_ctx.specs.Steps.{Follows}
 use Rattle.infer_ctx.specs.Callables.{field_at}
 use Rattle.infer_ctx.specs.Fine.{IsFine, IsFineExpectation, AllFine}
-use Rattle.infer_ctx.proofs.AtEach.{follows_itself, follows_twice, closes_before, told_same}
+use Rattle.infer_ctx.proofs.Asked.{told_same, told_beside}
+use Rattle.infer_ctx.proofs.Expressions.{told_entered}
+use Rattle.infer_ctx.proofs.AtEach.{follows_itself, follows_twice, closes_before}
 use Rattle.infer_ctx.proofs.UnderClosings.{of_body_pat_diagnostic, sound_pat_diagnostic, same_found, closes_earlier}
 use Rattle.infer_ctx.proofs.FineTypes.{every_at, every_from, fine_grown}
 use Rattle.infer_ctx.proofs.Instances.{fine_instances, instances_under}
@@ -65,10 +66,10 @@ counted_follows g p n m old new h s (inr k) =
     subst (λ c. Follows g old c) (sym k.1) (record {
       clock = omega arith;
       grew = grew_itself old.goals.table;
-      stays = stays_itself old.goals;
+      sources = refl;
       of_body = of_body_pat_diagnostic g.body old h p d;
       sound = sound_pat_diagnostic old s p d;
-      told = λ k. k;
+      told = told_beside g old (context.with_pat_diagnostic old p d) refl refl refl;
     })
 
 counted_clock : (p : PatId) (n m : ℕ) (old new : InferenceContext) → PartsCounted p n m old new → new.clock ≡ old.clock
@@ -144,10 +145,10 @@ module _ (g : Given) (s : Schedule) (p : PatId) (v : VariantId) (ps : List PatId
   ctor_pat_follows = record {
     clock = omega (arith, begun_clock);
     grew = grew_twice old.goals.table b.asked.holed.goals.table mid.goals.table b.asked.holes.grew after_holes.grew;
-    stays = stays_twice old.goals b.asked.holed.goals mid.goals b.asked.holes.stays after_holes.stays;
+    sources = after_holes.sources ∙ b.asked.holes.stays.sources;
     of_body = b.asked.demanded.follows.of_body;
     sound = b.asked.demanded.follows.sound;
-    told = λ told. after_holes.told (told_same g (context.entered old) b.asked.holed b.asked.holes.result told);
+    told = λ told. after_holes.told (told_same g (context.entered old) b.asked.holed b.asked.holes.result b.asked.holes.stays b.asked.holes.grew (told_entered g old told));
   }
 
   fields_fine : AllFine g.scope b.asked.holed.goals.table ss
@@ -304,10 +305,10 @@ path_pat_walked g s p q t x old mid new h is typed d = record {
   follows = record {
     clock = omega (arith, d.clock, typed.clock);
     grew = grew_twice old.goals.table mid.goals.table new.goals.table typed.grew d.follows.grew;
-    stays = stays_twice old.goals mid.goals new.goals typed.stays d.follows.stays;
+    sources = d.follows.sources ∙ typed.stays.sources;
     of_body = d.follows.of_body;
     sound = d.follows.sound;
-    told = λ told. d.follows.told (told_same g (context.entered old) mid typed.result told);
+    told = λ told. d.follows.told (told_same g (context.entered old) mid typed.result typed.stays typed.grew (told_entered g old told));
   };
   each = λ a k.
       let m : Closes a mid = closes_before g a mid new d.follows k in

@@ -10,3 +10,4 @@ pub mod Pats
 pub mod TuplePats
 pub mod PatParts
 pub mod Components
+pub mod PatLiterals

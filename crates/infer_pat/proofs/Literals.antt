@@ -34,7 +34,8 @@ use Rattle.infer_ctx.proofs.Expected.{IsOfLayer, read_alike}
 use Rattle.infer_ctx.proofs.Leaves.{literal_done}
 use Rattle.infer_ctx.proofs.UnderClosings.{same_found, closes_earlier}
 use Rattle.infer_ctx.proofs.Tellings.{literal_tells}
-use Rattle.infer_ctx.proofs.AtEach.{told_same, within_under}
+use Rattle.infer_ctx.proofs.Asked.{told_same}
+use Rattle.infer_ctx.proofs.AtEach.{within_under}
 use Rattle.infer_ctx.proofs.OverTypes.{carried_closed}
 use Rattle.infer_ctx.proofs.FineTypes.{fine_integer, fine_int_hole}
 use Rattle.infer_coerce.proofs.Holes.{holed, holed_sound}
@@ -46,10 +47,10 @@ literal_kind g s e x l t c new h is d = record {
   follows = record {
     clock = omega (arith, d.clock);
     grew = d.grew;
-    stays = d.stays;
+    sources = d.stays.sources;
     of_body = subst (λ r. IsOfBody g.body r) (sym d.result) h.state.of_body;
     sound = d.sound;
-    told = told_same g c new d.result;
+    told = told_same g c new d.result d.stays d.grew;
   };
   fine = d.fine;
   tells = literal_tells g e l t is d.own;

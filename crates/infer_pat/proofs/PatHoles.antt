@@ -12,7 +12,7 @@ use Rattle.hir_raw.specs.Scope.{Scope}
 use Rattle.hir_facts.specs.CarriedTypes.{IsCarriedType, AreCarriedTypes, carried_tuple}
 use Rattle.infer_table.proofs.UndoLaws.{grew_itself}
 use Rattle.infer_table.proofs.HoleLaws.{grew_by_hole, grew_twice}
-use Rattle.infer_table.specs.Table.{with_new_hole, hole_count, State, HolesAreOf, bindings, resolved_type, Grew}
+use Rattle.infer_table.specs.Table.{with_new_hole, hole_count, State, HolesAreOf, bindings, resolved_type}
 use Rattle.infer_table.specs.Preserved.{whole, IsMadeOf, made_of_resolved, made_of_within}
 use Rattle.infer_table.specs.Resolution.{resolution, resolution_term}
 use Rattle.infer_table.specs.Solutions.{log_of, resolved}
@@ -21,11 +21,14 @@ use Rattle.infer_result.specs.Closed.{IsOfBody}
 use Rattle.infer_result.specs.Table.{mismatch}
 use Rattle.infer_result.specs.Places.{Given}
 use Rattle.infer_ctx.specs.declared.context.InferenceContext.{InferenceContext}
+use Rattle.infer_ctx.specs.Asked.{IsTold}
 use Rattle.infer_ctx.specs.Closings.{IsSound, IsClosing, Closes, closed_mismatch, found_under, expected_under}
 use Rattle.infer_ctx.specs.Fine.{IsFine, is_fine_head, AllFine}
 use Rattle.infer_ctx.specs.Steps.{ArePartTypes, Follows}
 use Rattle.infer_ctx.specs.Context.{with_pat_ty, with_pat_mismatch}
 use Rattle.infer_ctx.specs.Found as found
+use Rattle.infer_ctx.proofs.Asked.{told_beside}
+use Rattle.infer_ctx.proofs.AtEach.{follows_itself}
 use Rattle.infer_ctx.proofs.FineTypes.{fine_hole, fine_grown, fine_no_alias, fine_tuple}
 use Rattle.infer_ctx.proofs.OverTypes.{fine_closed}
 use Rattle.infer_ctx.proofs.UnderClosings.{same_found, closes_same, pat_ty_under, pat_mismatch_under, of_body_pat_ty, of_body_pat_mismatch, sound_pat_ty, sound_pat_mismatch}
@@ -113,7 +116,8 @@ module _ (g : Given) (p : PatId) (t : Ty) (c : InferenceContext) (h : IsOfBody g
   -- the record of the type, after what is asked
   recorded : (x : Option Ty) (mid : InferenceContext) → Follows g c mid → mid.clock ≡ c.clock → IsFine g.scope mid.goals.table t → ((a : Assignment) → Closes a mid → IsDemanded p (folded a t) (expected_under a x) (found_under a c) (found_under a mid)) → PatDemanded g p t x c (with_pat_ty mid p t)
   recorded x mid f clock k asked = record {
-    follows = assumption (of_body_pat_ty g.body mid f.of_body p t, sound_pat_ty mid f.sound p t k, f);
+    follows = (let told : IsTold g c → IsTold g (with_pat_ty mid p t) = λ was. told_beside g mid (with_pat_ty mid p t) refl refl refl (f.told was) in
+        assumption (of_body_pat_ty g.body mid f.of_body p t, sound_pat_ty mid f.sound p t k, told, f));
     clock = clock;
     each = λ a q. record {
       mid = found_under a mid;
@@ -124,7 +128,7 @@ module _ (g : Given) (p : PatId) (t : Ty) (c : InferenceContext) (h : IsOfBody g
 
   pub demanded_nothing : PatDemanded g p t None c (with_pat_ty c p t)
   demanded_nothing =
-      recorded None c (record { clock = omega arith; grew = grew_itself c.goals.table; stays = stays_itself c.goals; of_body = h; sound = s; told = λ k. k }) refl fo (λ a q. refl)
+      recorded None c (follows_itself g c h s) refl fo (λ a q. refl)
 
   module _ (u : Ty) (fu : IsFine g.scope c.goals.table u) where
     module _ (new : InferenceContext) where
@@ -142,9 +146,11 @@ module _ (g : Given) (p : PatId) (t : Ty) (c : InferenceContext) (h : IsOfBody g
           let last : InferenceContext = with_pat_mismatch new p (mismatch u t) in
           let gu : IsFine g.scope new.goals.table u = fine_grown g.scope c.goals.table new.goals.table u f.grew fu in
           let gt : IsFine g.scope new.goals.table t = fine_grown g.scope c.goals.table new.goals.table t f.grew fo in
+          let told : IsTold g c → IsTold g last = λ was. told_beside g new last refl refl refl (f.told was) in
           recorded (Some u) last (assumption (
             of_body_pat_mismatch g.body new f.of_body p (mismatch u t),
             sound_pat_mismatch new f.sound p (mismatch u t) gu gt,
+            told,
             f,
           )) k.binds.clock gt (λ a q. inr (
             k.each a (closes_same a last new refl q),

@@ -14,7 +14,7 @@ use Rattle.infer_result.specs.Incoming.{Gives}
 use Rattle.infer_ctx.specs.declared.context.InferenceContext.{InferenceContext}
 use Rattle.infer_ctx.specs.Closings.{Closes, IsSound, expected_under, found_under}
 use Rattle.infer_ctx.specs.Fine.{IsFineExpectation}
-use Rattle.infer_ctx.specs.Tells.{TellsRecorded}
+use Rattle.infer_ctx.specs.Asked.{IsTold}
 use Rattle.infer_ctx.specs.Under.{IsReady}
 use Rattle.infer_ctx.specs.Walks.{IsWalked, Nothing, pat_start, pat_end}
 use Rattle.infer_ctx.proofs.AtEach.{follows_itself, walking_after}
@@ -51,7 +51,7 @@ module _ (g : Given) (s : Schedule) (p : PatId) (ps : List PatId) (i : ℕ) (mid
     here_pat = subst (λ qs. WalksParts g s (inner (node.PatId p)) (λ a. Nothing) qs mid c) (next_pat ps i q is k) w
 
     -- the next part, into which the pattern gives x
-    pub comes_to_pat : (x : Option Ty) → IsReady g s → TellsRecorded g mid.result → IsFineExpectation g.scope c.goals.table x →
+    pub comes_to_pat : (x : Option Ty) → IsReady g s → IsTold g mid → IsFineExpectation g.scope c.goals.table x →
         ((a : Assignment) → Closes a c → (t : Ty) → expected_under a x ≡ Some t → Gives g (found_under a c).result (inner (node.PatId p)) (subpattern i) t) → BeforePat g s q x c
     comes_to_pat x ready told fine gives =
         let rest = subpatterns (i + 1) (drop (i + 1) ps) in

@@ -11,7 +11,8 @@ use Rattle.hir_facts.specs.CarriedTypes.{IsCarriedType}
 use Rattle.hir_raw.specs.Order.{Binds, binding_of}
 use Rattle.hir_raw.specs.declared.raw.RawPat.TheVariants as pat
 use Rattle.infer_table.proofs.HoleLaws.{grew_twice}
-use Rattle.infer_goals.specs.Stays.{stays_twice}
+use Rattle.infer_table.proofs.UndoLaws.{grew_itself}
+use Rattle.infer_goals.specs.Stays.{stays_itself}
 use Rattle.infer_result.specs.Closed.{IsOfBody}
 use Rattle.infer_result.specs.Places.{Given}
 use Rattle.infer_ctx.specs.Closings.{expected_under, Closes, found_under}
@@ -21,7 +22,10 @@ use Rattle.infer_ctx.specs.Tells.{TellsBound, TellsRecorded, TellsBinding}
 use Rattle.infer_ctx.specs.Steps.{Follows, Before, OwnDone}
 use Rattle.infer_ctx.specs.Context as context
 use Rattle.infer_ctx.specs.Found as found
-use Rattle.infer_ctx.proofs.AtEach.{told_same, follows_itself, closes_before}
+use Rattle.infer_ctx.specs.Asked.{IsTold}
+use Rattle.infer_ctx.proofs.Asked.{told_same, told_with, told_beside}
+use Rattle.infer_ctx.proofs.Expressions.{told_entered}
+use Rattle.infer_ctx.proofs.AtEach.{follows_itself, closes_before}
 use Rattle.infer_ctx.proofs.UnderClosings.{same_found, closes_same, closes_earlier, pat_ty_under, bound_by_under, of_body_pat_ty, of_body_bound_by, sound_pat_ty, sound_bound_by, sound_entered}
 use Rattle.infer_ctx.proofs.OverTypes.{fine_closed}
 use Rattle.infer_ctx.proofs.Lists.{At-set_cases}
@@ -56,6 +60,10 @@ module _ (g : Given) (s : Schedule) (p : PatId) (x : Option Ty) (t : Ty) (old mi
     carried : IsCarriedType (folded a t)
     carried = fine_closed g.scope a t q.closing d.fine.heads
 
+  -- what is told stays so while its type comes to be known
+  typed_told : IsTold g old → IsTold g mid
+  typed_told told = told_same g (context.entered old) mid d.result d.stays d.grew (told_entered g old told)
+
   -- there is a place for the type of what it binds
   pub bind_within : (v : BindingId) (sub : Option PatId) → slice_get g.body.pats p.0 ≡ Some (pat.Bind v sub) → v.0 < length mid.result.type_of_binding
   bind_within v sub is =
@@ -69,10 +77,10 @@ module _ (g : Given) (s : Schedule) (p : PatId) (x : Option Ty) (t : Ty) (old mi
         follows = record {
           clock = omega (arith, d.clock);
           grew = d.grew;
-          stays = d.stays;
+          sources = d.stays.sources;
           of_body = of_body_pat_ty g.body mid of_body p t;
           sound = sound_pat_ty mid d.sound p t d.fine;
-          told = told_same g (context.entered old) mid d.result;
+          told = λ told. told_beside g mid new refl refl refl (typed_told told);
         };
         each = λ a k.
             let q : Closes a mid = closes_same a new mid refl k in
@@ -105,10 +113,10 @@ module _ (g : Given) (s : Schedule) (p : PatId) (x : Option Ty) (t : Ty) (old mi
         follows = record {
           clock = omega (arith, d.clock);
           grew = d.grew;
-          stays = d.stays;
+          sources = d.stays.sources;
           of_body = of_body_bound_by g.body mid p v t of_body;
           sound = sound_bound_by mid p v t d.sound d.fine;
-          told = λ told. bound_told v sub is (told_same g (context.entered old) mid d.result told);
+          told = λ told. told_with g mid new refl (stays_itself mid.goals) (grew_itself mid.goals.table) (bound_told v sub is) (typed_told told);
         };
         each = λ a k.
             let q : Closes a mid = closes_same a new mid refl k in
@@ -135,7 +143,7 @@ module _ (g : Given) (s : Schedule) (p : PatId) (e : ExprId) (x : Option Ty) (ol
         state = record {
           of_body = h.state.of_body;
           sound = sound_entered old h.state.sound;
-          told = h.state.told;
+          told = told_entered g old h.state.told;
           each = λ a k.
               let o : Closes a old = closes_same a (context.entered old) old refl k in
               (lit_before g s p e (expected_under a x) (found_under a old) (before_pat_under g s a old o p x h) is).state;
@@ -163,10 +171,10 @@ module _ (g : Given) (s : Schedule) (p : PatId) (e : ExprId) (x : Option Ty) (ol
           follows = record {
             clock = omega (arith, d.follows.clock, k.1);
             grew = grew_twice old.goals.table mid.goals.table last.goals.table d.follows.grew k.0.grew;
-            stays = stays_twice old.goals mid.goals last.goals d.follows.stays k.0.stays;
+            sources = k.0.sources ∙ d.follows.sources;
             of_body = of_body_pat_ty g.body last k.0.of_body p t;
             sound = sound_pat_ty last k.0.sound p t (fine_grown g.scope mid.goals.table last.goals.table t k.0.grew d.fine);
-            told = λ told. k.0.told (d.follows.told told);
+            told = λ told. told_beside g last new refl refl refl (k.0.told (d.follows.told (told_entered g old told)));
           };
           each = λ a q.
               let l : Closes a last = closes_same a new last refl q in

@@ -47,7 +47,8 @@ use Rattle.infer_ctx.proofs.Leaves.{rule_of, leaf_done}
 use Rattle.infer_ctx.proofs.Carried.{carried_expr}
 use Rattle.infer_ctx.proofs.UnderClosings.{same_found, closes_earlier, At-unclosed, At-closed}
 use Rattle.infer_ctx.proofs.OverTypes.{fine_closed, fn_def_closed, adt_closed}
-use Rattle.infer_ctx.proofs.AtEach.{told_same, within_under}
+use Rattle.infer_ctx.proofs.Asked.{told_same}
+use Rattle.infer_ctx.proofs.AtEach.{within_under}
 use Rattle.infer_ctx.proofs.Tellings.{local_tells, function_tells, ctor_tells}
 use Rattle.infer_ctx.proofs.FineTypes.{every_from, fine_fn_def, fine_adt}
 use Rattle.infer_ctx.proofs.Items.{tuple_signature}
@@ -83,10 +84,10 @@ path_kind g s e x p t c new h is d = record {
   follows = record {
     clock = omega (arith, d.clock);
     grew = d.grew;
-    stays = d.stays;
+    sources = d.stays.sources;
     of_body = subst (λ r. IsOfBody g.body r) (sym d.result) h.state.of_body;
     sound = d.sound;
-    told = told_same g c new d.result;
+    told = told_same g c new d.result d.stays d.grew;
   };
   fine = d.fine;
   tells = d.tells e is;

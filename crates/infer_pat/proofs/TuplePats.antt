@@ -19,12 +19,13 @@ use Rattle.infer_pat.proofs.PatSteps.{enters_more, enters_done, before_pat_under
 use Rattle.infer_pat.proofs.Pats.{pat_rule_of}
 use Rattle.hir_types.specs.Subst.{Assignment, folded}
 use Rattle.infer_table.proofs.HoleLaws.{grew_twice}
-use Rattle.infer_goals.specs.Stays.{stays_twice}
 use Rattle.infer_result.specs.Truth.Mismatch.{SaysItsType}
 use Rattle.infer_ctx.specs.declared.context.InferenceContext.{InferenceContext}
 use Rattle.infer_ctx.specs.Closings.{Closes, found_under, expected_under}
-use Rattle.infer_ctx.specs.Tells.{TellsRecorded}
-use Rattle.infer_ctx.proofs.AtEach.{closes_before, told_same, follows_twice}
+use Rattle.infer_ctx.specs.Asked.{IsTold}
+use Rattle.infer_ctx.proofs.Asked.{told_same}
+use Rattle.infer_ctx.proofs.Expressions.{told_entered}
+use Rattle.infer_ctx.proofs.AtEach.{closes_before, follows_twice}
 use Rattle.infer_ctx.proofs.UnderClosings.{same_found, closes_earlier}
 use Rattle.infer_ctx.specs.Fine.{IsFine, AllFine}
 use Rattle.infer_ctx.proofs.FineTypes.{all_fine_grown, every_at, every_from}
@@ -77,8 +78,12 @@ module _ (g : Given) (s : Schedule) (p : PatId) (ps : List PatId) (ts : List Ty)
         (entered_opening g s p (expected_under a x) (found_under a old) begun_before) (subst (λ o. SaysItsType o) (sym b.is) tt) (carried_tuple_of (map (folded a) ts) begun_carried) (found_under a mid)
         (subst (λ f. PatIsDemanded p (ty.Tuple (map (folded a) ts)) (expected_under a x) f (found_under a mid)) e asked)
 
-  begun_told : TellsRecorded g mid.result
-  begun_told = b.demanded.follows.told (told_same g (context.entered old) b.holed b.parts.made.result b.before.state.told)
+  -- what is told stays so
+  holed_told : IsTold g old → IsTold g b.holed
+  holed_told told = told_same g (context.entered old) b.holed b.parts.made.result b.parts.made.stays b.parts.made.grew (told_entered g old told)
+
+  begun_told : IsTold g mid
+  begun_told = b.demanded.follows.told (holed_told b.before.state.told)
 
   begun_fine : AllFine g.scope mid.goals.table ts
   begun_fine = all_fine_grown g.scope b.holed.goals.table mid.goals.table ts b.demanded.follows.grew holed_fine
@@ -161,10 +166,10 @@ module _ (g : Given) (s : Schedule) (p : PatId) (ps : List PatId) (ts : List Ty)
       follows = record {
         clock = omega (arith, begun_clock, h.walk.follows.clock);
         grew = grew_twice old.goals.table b.holed.goals.table c.goals.table b.parts.made.grew (follows_twice g b.holed mid c b.demanded.follows h.walk.follows).grew;
-        stays = stays_twice old.goals b.holed.goals c.goals b.parts.made.stays (follows_twice g b.holed mid c b.demanded.follows h.walk.follows).stays;
+        sources = (follows_twice g b.holed mid c b.demanded.follows h.walk.follows).sources ∙ b.parts.made.stays.sources;
         of_body = h.walk.follows.of_body;
         sound = h.walk.follows.sound;
-        told = λ told. h.walk.follows.told (b.demanded.follows.told (told_same g (context.entered old) b.holed b.parts.made.result told));
+        told = λ told. h.walk.follows.told (b.demanded.follows.told (holed_told g s p ps ts x old mid b told));
       };
       each = λ a l.
           let us : List Ty = map (folded a) ts in

@@ -14,6 +14,7 @@ use Rattle.hir_types.specs.declared.ty.GenericArg.{GenericArg}
 use Rattle.hir_types.specs.declared.ty.TraitRef.{TraitRef}
 use Rattle.hir_types.specs.declared.ty.Ty.{Ty, Ty-F, out-Ty}
 use Rattle.hir_types.specs.Terms.{Term, hole, leaf, pair}
+use Rattle.hir_raw.specs.declared.raw.RawBody.{RawBody}
 use Rattle.hir_raw.specs.declared.raw.RawExpr.{RawExpr}
 use Rattle.hir_raw.specs.declared.raw.RawExpr.TheVariants as expr
 use Rattle.hir_raw.specs.declared.raw.RawGoal.{RawGoal}
@@ -34,7 +35,7 @@ use Rattle.infer_result.specs.declared.gaps.Gap.{Gap}
 use Rattle.infer_result.specs.declared.gaps.Gap.TheVariants as gap
 use Rattle.infer_result.specs.declared.result.InferenceResult.{InferenceResult}
 use Rattle.infer_result.specs.Places.{Given}
-use Rattle.infer_result.specs.Table.{HasTy}
+use Rattle.infer_result.specs.Table.{HasTy, recorded}
 
 -- ---- what nodes need
 
@@ -63,6 +64,16 @@ item_args _ = []
 -- what an expression of this type needs
 abbrev pub needed_goals : RawFacts → RawExpr → Ty → List Asked
 needed_goals raw x t = map (goal_at raw (item_args (out-Ty t))) (expr_preds raw x)
+
+-- where there is an expression, and its type is recorded
+abbrev pub needs_of : RawFacts → Option RawExpr → Option Ty → List Asked
+needs_of raw (Some x) (Some t) = needed_goals raw x t
+needs_of raw (Some x) None = []
+needs_of raw None o = []
+
+-- what the expression of this number needs
+abbrev pub needs_at : RawFacts → RawBody → InferenceResult → ℕ → List Asked
+needs_at raw b r n = needs_of raw (slice_get b.exprs n) (recorded r.type_of_expr n)
 
 -- the expression needs the goal
 pub record IsNeeded (g : Given) (r : InferenceResult) (e : ExprId) (a : Asked) : Type 0 where

@@ -4,6 +4,7 @@
 mod diagnostics;
 mod gaps;
 mod modes;
+mod needed;
 mod result;
 mod stable;
 mod unknown;
@@ -13,6 +14,7 @@ pub use gaps::Gap;
 pub use goal_facts::{Proof, ProofSource};
 pub use hir_types::Mutability;
 pub use modes::BindingMode;
+pub use needed::needed_goals;
 pub use result::{General, InferenceResult, Seen, TypeMismatch};
 pub use stable::rules_are_stable;
 pub use unknown::references_error;

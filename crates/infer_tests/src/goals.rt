@@ -5,7 +5,8 @@ use hir_facts::{
     List, RawExpr, RawPath, TraitId, Ty, TypeAliasId, instantiate, lower_ty,
 };
 use infer_goals::{Answer, GoalTable, ToldList};
-use infer_needs::{needed_goals, tell_all};
+use infer_needs::tell_all;
+use infer_result::needed_goals;
 use infer_text::read_facts;
 use std::alloc::{AllocError, Global};
 

@@ -8,8 +8,9 @@ use crate::proofs::push_source;
 use goal_facts::Proof;
 use hir_facts::{ExprId, Facts, FunctionId, GenericArg, GenericDefId, List, RawExpr, RawPath, Ty};
 use infer_goals::GoalTable;
-use infer_needs::{needed_goals, register_each};
+use infer_obligations::register_each;
 use infer_report::push_ty;
+use infer_result::needed_goals;
 use std::alloc::{AllocError, Global};
 
 /// The type of function 0 at two arguments.
@@ -28,9 +29,9 @@ fn register(
     ty: &Ty,
 ) -> Result<(), AllocError>
     requires kept { AreKept goals.old.sources.facts (system goals.old.sources.sources) goals.old.table goals.old.obligations }
-    requires all { HasAllOpen goals.old.obligations }
+    requires all { HasAllOpen (system goals.old.sources.sources) goals.old.table goals.old.obligations }
     ensures kept { OnOk result (AreKept goals.new.sources.facts (system goals.new.sources.sources) goals.new.table goals.new.obligations) }
-    ensures all { OnOk result (HasAllOpen goals.new.obligations) }
+    ensures all { OnOk result (HasAllOpen (system goals.new.sources.sources) goals.new.table goals.new.obligations) }
 {
     if !goals.table.has_made(ty)? {
         return Err(AllocError);

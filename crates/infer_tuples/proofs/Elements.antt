@@ -24,6 +24,7 @@ use Rattle.infer_ctx.specs.Fine.{IsFine, IsFineExpectation, is_fine_head}
 use Rattle.infer_ctx.specs.Found.{Found}
 use Rattle.infer_ctx.specs.Steps.{CoerceDone, Before}
 use Rattle.infer_ctx.specs.Walks.{Debt, Owed, Walks}
+use Rattle.infer_ctx.proofs.Asked.{told_same}
 use Rattle.infer_ctx.proofs.AtEach.{follows_twice, closes_before}
 use Rattle.infer_ctx.proofs.Category.{walks_paid}
 use Rattle.infer_ctx.proofs.UnderClosings.{closes_earlier}
@@ -96,10 +97,10 @@ module _ (g : Given) (s : Schedule) (e : ExprId) (x : Option Ty) (t : Ty) (old m
       follows = follows_twice g old (with_table mid state) new (follows_twice g old mid (with_table mid state) d.follows (record {
         clock = omega arith;
         grew = state_grew;
-        stays = stays_with mid.goals state;
+        sources = refl;
         of_body = d.follows.of_body;
         sound = waits_sound;
-        told = λ k. k;
+        told = told_same g mid (with_table mid state) refl (stays_with mid.goals state) state_grew;
       })) k.follows;
       fine = fine_grown g.scope state new.goals.table u k.follows.grew component_fine;
       is_expected = λ v e. (let same : u ≡ v = cc in same);

@@ -32,7 +32,7 @@ returns-in_ok-check_call_arguments-in-Some o c =
     let called = callee_known g s _ _ _ _ _ b.callee.typed b.callee.known b.callee.made b.within.ready sig.0 in
     let before = comes_to_args g s _ _ _ _ b.within b.is_call _ _ called in
     let own = own_sig g s _ _ _ _ before c.in-Some.field-0 sig.1 in
-    ends_call g s _ _ _ _ before _ _ _ (c.as_slice.ensures ∙ own.inputs) own.output c.in_ok-check_call_arguments-in-Some.ensures
+    ends_call g s _ _ _ _ before _ _ _ (c.as_slice.ensures ∙ own.inputs) own.output c.in_ok-check_call_arguments-in-Some.ensures.done
 
 pub infer_uncallable-requires-clause-before : goal.infer_uncallable-requires-clause-before
 infer_uncallable-requires-clause-before o c =

@@ -1,22 +1,19 @@
 use Rattle.infer_ctx.specs.Context.{given_of, schedule_of}
-use Rattle.infer_calls.proofs.CallWalk.{answered_since, inputs_bound, inputs_fine}
+use Rattle.infer_calls.proofs.CallWalk.{args_then}
 use Rattle.infer_calls.proofs.call.check_call_arguments.Goals as goal
 
-pub expect_inputs-requires-clause-inputs : goal.expect_inputs-requires-clause-inputs
-expect_inputs-requires-clause-inputs g c = inputs_fine _ _ _ _ _ _ c.requires.before
+pub select_obligations_where_possible-requires-clause-of_body : goal.select_obligations_where_possible-requires-clause-of_body
+select_obligations_where_possible-requires-clause-of_body g c = c.in_ok-check_each_argument.ensures.follows.of_body
 
-pub check_arguments-requires-clause-before : goal.check_arguments-requires-clause-before
-check_arguments-requires-clause-before g c = inputs_bound _ _ _ _ _ _ c.in_ok-expect_inputs.ensures.binds _ c.requires.before
+pub select_obligations_where_possible-requires-clause-sound : goal.select_obligations_where_possible-requires-clause-sound
+select_obligations_where_possible-requires-clause-sound g c = c.in_ok-check_each_argument.ensures.follows.sound
 
-pub check_miscounted_arguments-requires-clause-before : goal.check_miscounted_arguments-requires-clause-before
-check_miscounted_arguments-requires-clause-before g c = inputs_bound _ _ _ _ _ _ c.in_ok-expect_inputs.ensures.binds _ c.requires.before
+pub select_obligations_where_possible-requires-clause-told : goal.select_obligations_where_possible-requires-clause-told
+select_obligations_where_possible-requires-clause-told g c = c.in_ok-check_each_argument.ensures.follows.told c.requires.before.before.state.told
 
-pub returns-then-args-inputs : goal.returns-then-args-inputs
-returns-then-args-inputs g c =
-    answered_since (given_of c.args.given.now) (schedule_of c.args.given.now) c.args.call_expr c.args.args.now c.args.context.now c.expect_inputs.new.context
-    c.in_ok-expect_inputs.ensures.binds c.args.inputs.now c.check_arguments.new.context c.check_arguments.result c.check_arguments.ensures
+pub returns-clause-done : goal.returns-clause-done
+returns-clause-done g c =
+    args_then (given_of c.args.given.now) (schedule_of c.args.given.now) c.args.call_expr c.args.args.now _ _ c.in_ok-select_obligations_where_possible.ensures.binds c.args.inputs.now c.args.context.now c.in_ok-check_each_argument.ensures
 
-pub returns-else-args-inputs : goal.returns-else-args-inputs
-returns-else-args-inputs g c =
-    answered_since (given_of c.args.given.now) (schedule_of c.args.given.now) c.args.call_expr c.args.args.now c.args.context.now c.expect_inputs.new.context
-    c.in_ok-expect_inputs.ensures.binds c.args.inputs.now c.check_miscounted_arguments.new.context c.check_miscounted_arguments.result c.check_miscounted_arguments.ensures.done
+pub returns-clause-selected : goal.returns-clause-selected
+returns-clause-selected g c = record { before = c.check_each_argument.new.context; selects = c.in_ok-select_obligations_where_possible.ensures }

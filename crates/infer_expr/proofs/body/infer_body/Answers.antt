@@ -9,11 +9,11 @@ pub end_of-last-requires-clause-node : goal.end_of-last-requires-clause-node
 end_of-last-requires-clause-node c = root_within _ _ c.requires.law
 
 pub infer_params-requires : goal.infer_params-requires
-infer_params-requires c = comes_to_params _ _ c.requires.law c.requires.written c.requires.count _ _ c.end_of-last.ensures c.end_of-last.type_inv c.requires.table c.requires.empty
+infer_params-requires c = comes_to_params _ _ c.requires.law c.requires.written c.requires.count _ _ c.end_of-last.ensures c.end_of-last.type_inv c.requires.table c.requires.empty c.requires.goals
 
 pub infer_expr_coerce-requires : goal.infer_expr_coerce-requires
 infer_expr_coerce-requires c =
-    comes_to_root _ _ _ _ (comes_to_params _ _ c.requires.law c.requires.written c.requires.count _ _ c.end_of-last.ensures c.end_of-last.type_inv c.requires.table c.requires.empty)
+    comes_to_root _ _ _ _ (comes_to_params _ _ c.requires.law c.requires.written c.requires.count _ _ c.end_of-last.ensures c.end_of-last.type_inv c.requires.table c.requires.empty c.requires.goals)
     c.in_ok-infer_params.ensures c.requires.carried c.requires.heads
 
 pub returns-clause-done : goal.returns-clause-done
@@ -25,5 +25,10 @@ returns-clause-done c =
 pub returns-clause-grew : goal.returns-clause-grew
 returns-clause-grew c = (body_follows _ _ _ _ _ _ _ c.in_ok-infer_params.ensures c.in_ok-infer_expr_coerce.ensures c.in_ok-unify_unknown.ensures).grew
 
-pub returns-clause-stays : goal.returns-clause-stays
-returns-clause-stays c = (body_follows _ _ _ _ _ _ _ c.in_ok-infer_params.ensures c.in_ok-infer_expr_coerce.ensures c.in_ok-unify_unknown.ensures).stays
+pub returns-clause-told : goal.returns-clause-told
+returns-clause-told c =
+    (body_follows _ _ _ _ _ _ _ c.in_ok-infer_params.ensures c.in_ok-infer_expr_coerce.ensures c.in_ok-unify_unknown.ensures).told
+    (comes_to_params _ _ c.requires.law c.requires.written c.requires.count _ _ c.end_of-last.ensures c.end_of-last.type_inv c.requires.table c.requires.empty c.requires.goals).state.told
+
+pub returns-clause-sources : goal.returns-clause-sources
+returns-clause-sources c = (body_follows _ _ _ _ _ _ _ c.in_ok-infer_params.ensures c.in_ok-infer_expr_coerce.ensures c.in_ok-unify_unknown.ensures).sources

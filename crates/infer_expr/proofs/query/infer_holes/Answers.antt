@@ -1,17 +1,17 @@
-use Rattle.std.proofs.Common.{◌≡◌, sym, subst}
-use Rattle.hir_types.specs.declared.ids.GenericDefId.{GenericDefId}
+use Rattle.std.proofs.Common.{◌≡◌, ◌∙◌, ap, sym, subst}
 use Rattle.hir_raw.specs.declared.raw.RawBody.{RawBody}
 use Rattle.hir_facts.specs.CarriedTypes.{return_carried}
 use Rattle.hir_facts.proofs.InRange.{body_in_range}
+use Rattle.goal_facts.specs.Goals.{ItemSources}
 use Rattle.infer_goals.specs.declared.table.GoalTable.{GoalTable}
-use Rattle.infer_goals.specs.Stays.{IsUnused, unused_still}
-use Rattle.infer_result.specs.Needs.{scope_item}
 use Rattle.infer_result.specs.Typed.{given}
+use Rattle.infer_ctx.specs.Asked.{IsTold}
 use Rattle.infer_ctx.specs.Steps.{BodyDone}
 use Rattle.infer_needs.proofs.Holding.{same_body}
 use Rattle.infer_ctx.proofs.Written.{output_heads}
 use Rattle.infer_end.proofs.Definitions.{found_body, written_exist, inputs_for_params}
-use Rattle.infer_end.proofs.GeneralTables.{has_all_types, kept_done, keeps_goals, given_done, ends_selected}
+use Rattle.infer_end.proofs.GeneralTables.{has_all_types, kept_done, keeps_goals, given_done, kept_told, given_told, ends_selected}
+use Rattle.infer_expr.proofs.Start.{sources_in, goals_at_start}
 use Rattle.infer_expr.proofs.query.infer_holes.Goals as goal
 
 pub body-body-requires : goal.body-body-requires
@@ -36,17 +36,33 @@ infer_body-requires-clause-heads c = rw c.in_ok-return_ty.ensures (output_heads 
 pub keep_general-requires : goal.keep_general-requires
 keep_general-requires c = has_all_types _ _ c.infer_body.new.context (c.schedule.ensures.walkable _ c.body-body.ensures) c.in_ok-infer_body.ensures.done
 
--- no goal was registered while the body was walked
-pub select_where_possible-requires-clause-unused : goal.select_where_possible-requires-clause-unused
-select_where_possible-requires-clause-unused c =
+pub infer_body-requires-clause-goals : goal.infer_body-requires-clause-goals
+infer_body-requires-clause-goals c =
     let raw = c.args.facts.now in
-    let item = scope_item raw c.args.def in
-    let start = c.in_ok-context.context.goals in
+    let d = c.args.def in
+    let b = c.body-body.result.now in
+    let context = c.in_ok-context.context in
+    let unused = c.in_ok-context.ensures.goals in
+    let is = found_body raw d c.in-Some.id b (sym c.in-Some.ensures) c.body-body.ensures in
+    goals_at_start _ context c.in_ok-context.ensures.empty raw _ unused (sources_in raw c.lawful.ensures d b is context.goals.sources unused.facts (unused.scope ∙ c.scope_item.ensures))
+
+pub select_where_possible-requires-clause-item : goal.select_where_possible-requires-clause-item
+select_where_possible-requires-clause-item c =
     let walked = c.infer_body.new.context in
     let mid = c.keep_general.new.context in
-    let first : IsUnused raw item start = subst (λ (i : GenericDefId). IsUnused raw i start) c.scope_item.ensures c.in_ok-context.ensures.goals in
-    let after : IsUnused raw item walked.goals = unused_still raw item start walked.goals first c.in_ok-infer_body.ensures.stays c.in_ok-infer_body.ensures.grew in
-    subst (λ (t : GoalTable). IsUnused raw item t) (sym (keeps_goals raw c.args.def walked mid c.in_ok-keep_general.ensures)) after
+    let kept : mid.goals ≡ walked.goals = keeps_goals c.args.facts.now c.args.def walked mid c.in_ok-keep_general.ensures in
+    ap (λ (t : GoalTable). t.sources.item) kept ∙ (ap (λ (z : ItemSources). z.item) c.in_ok-infer_body.ensures.sources ∙ (c.in_ok-context.ensures.goals.scope ∙ c.scope_item.ensures))
+
+-- what was told while the body was walked is told still, with its types before fallback
+pub select_where_possible-requires-clause-told : goal.select_where_possible-requires-clause-told
+select_where_possible-requires-clause-told c b is =
+    let raw = c.args.facts.now in
+    let d = c.args.def in
+    let mid = c.keep_general.new.context in
+    let own = kept_told _ raw d c.infer_body.new.context mid c.in_ok-infer_body.ensures.told c.in_ok-keep_general.ensures in
+    let told = given_told raw d c.body-body.result.now _ _ c.inputs.ensures c.in_ok-return_ty.ensures mid own in
+    let same : c.body-body.result.now ≡ b = same_body raw d c.in-Some.id c.body-body.result.now b (sym c.in-Some.ensures) c.body-body.ensures is in
+    subst (λ (x : RawBody). IsTold (given raw d x) mid) same told
 
 pub select_where_possible-requires-clause-done : goal.select_where_possible-requires-clause-done
 select_where_possible-requires-clause-done c b is =

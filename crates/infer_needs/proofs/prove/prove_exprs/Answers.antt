@@ -3,7 +3,8 @@ use Rattle.std.specs.Prelude.{Some, slice_get}
 use Rattle.std.proofs.lemmas.Option.{slice_get_read}
 use Rattle.goal_search.specs.Sources.{system}
 use Rattle.infer_needs.specs.Judged.{AreAllJudged}
-use Rattle.infer_needs.specs.Told.{ListsAnswers, first_needs, needs_at}
+use Rattle.infer_result.specs.Needs.{needs_at}
+use Rattle.infer_needs.specs.Told.{ListsAnswers, first_needs}
 use Rattle.infer_needs.proofs.Telling.{tells_none, tells_both, tells_here, first_more}
 use Rattle.infer_needs.proofs.Judging.{all_none, all_more, judged_here}
 use Rattle.infer_needs.proofs.prove.prove_exprs.Goals as goal

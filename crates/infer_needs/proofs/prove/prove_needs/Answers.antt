@@ -5,11 +5,11 @@ use Rattle.hir_raw.specs.declared.raw.RawFacts.{RawFacts}
 use Rattle.goal_search.specs.declared.answer.Answer.{Answer}
 use Rattle.goal_search.specs.Sources.{system}
 use Rattle.goal_facts.specs.Systems.{IsSystemOf}
-use Rattle.infer_result.specs.Needs.{with_goals, scope_item, GoalsHold}
+use Rattle.infer_result.specs.Needs.{with_goals, scope_item, GoalsHold, needs_of}
 use Rattle.infer_result.specs.Table.{recorded}
 use Rattle.infer_result.specs.Typed.{given}
 use Rattle.infer_needs.specs.Judged.{AreProvable, AreAllJudged}
-use Rattle.infer_needs.specs.Told.{needs_of, all_needs, AreAnswered}
+use Rattle.infer_needs.specs.Told.{all_needs, AreAnswered}
 use Rattle.infer_needs.proofs.Telling.{needs_stay}
 use Rattle.infer_needs.proofs.Provable.{needs_provable}
 use Rattle.infer_needs.proofs.Holding.{same_body, goals_hold}

@@ -1,7 +1,8 @@
-use Rattle.std.proofs.Common.{◌∙◌, sym, ap, subst}
+use Rattle.std.proofs.Common.{◌∙◌, refl, sym, ap, subst}
 use Rattle.infer_ctx.specs.Context.{given_of, schedule_of, expected_type, with_expr_ty}
 use Rattle.infer_ctx.specs.Steps.{Within, OwnDone, KindDone}
 use Rattle.infer_ctx.proofs.Expressions.{comes_within, own_done}
+use Rattle.infer_pat.proofs.PatLiterals.{told_literal}
 use Rattle.infer_pat.proofs.pat.infer_pat_literal.Goals as goal
 
 pub infer_literal-requires-clause-before : goal.infer_literal-requires-clause-before
@@ -12,7 +13,8 @@ pub returns : goal.returns
 returns c =
     let g = given_of c.args.given.now in
     let s = schedule_of c.args.given.now in
-    let kind = subst (λ k. KindDone g s c.args.expr (expected_type c.args.expected) c.in_ok-ty.ty k c.infer_literal.new.context) c.enter.ensures c.in_ok-ty.ensures.kind in
+    let mid = c.infer_literal.new.context in
+    let kind = subst (λ k. KindDone g s c.args.expr (expected_type c.args.expected) c.in_ok-ty.ty k mid) c.enter.ensures c.in_ok-ty.ensures.kind in
     subst (λ k. OwnDone g s c.args.expr (expected_type c.args.expected) c.in_ok-ty.ty c.args.context.now k)
-    (sym (c.write_expr_ty.ensures ∙ ap (λ y. with_expr_ty c.infer_literal.new.context c.args.expr y) c.in_ok-recorded.ensures))
-    (own_done _ _ _ _ _ _ _ c.requires.before kind)
+    (sym (c.write_expr_ty.ensures ∙ ap (λ y. with_expr_ty mid c.args.expr y) c.in_ok-recorded.ensures))
+    (own_done _ _ _ _ _ _ mid mid.goals c.requires.before kind refl refl (told_literal g c.args.expr c.in_ok-ty.ty mid c.requires.is))

@@ -1,0 +1,227 @@
+-- What the path at an expression needs, at a type in scope, has types in scope alone.
+use Rattle.std.specs.Prelude.{◌≡◌, ◌⊎◌, ℕ, suc, List, [], ◌∷◌, length, map, slice_get, Option, Some, None, option_map, refl}
+use Rattle.std.proofs.Common.{inl, inr, sym, ap, ◌∙◌, subst}
+use Rattle.std.proofs.lemmas.List.{length-map}
+use Rattle.hir_types.specs.declared.ids.CallableDefId.{CallableDefId}
+use Rattle.hir_types.specs.declared.ids.CallableDefId.TheVariants as callable
+use Rattle.hir_types.specs.declared.ids.ExprId.{ExprId}
+use Rattle.hir_types.specs.declared.ids.FunctionId.{FunctionId}
+use Rattle.hir_types.specs.declared.ids.VariantId.{VariantId}
+use Rattle.hir_types.specs.declared.ids.AdtId.{AdtId}
+use Rattle.hir_types.specs.declared.head.Head.TheVariants as head
+use Rattle.hir_types.specs.declared.ty.IntegerTy.TheVariants as integer
+use Rattle.hir_types.specs.declared.ty.GenericArg.{GenericArg}
+use Rattle.hir_types.specs.declared.ty.GenericArg.TheVariants as arg
+use Rattle.hir_types.specs.declared.ty.Ty.{Ty, Ty-F, out-Ty, out-roll-Ty}
+use Rattle.hir_types.specs.declared.ty.Ty.TheVariants as ty
+use Rattle.hir_types.specs.Replacements.{replaced_bool, replaced_char, replaced_int, replaced_uint, replaced_tuple, replaced_param}
+use Rattle.hir_types.specs.Subst.{Assignment, folded, with_holes}
+use Rattle.hir_types.specs.TermLaws.{term_var, term_int_var}
+use Rattle.hir_raw.specs.declared.raw.RawAdt.{RawAdt}
+use Rattle.hir_raw.specs.declared.raw.RawCtor.{RawCtor}
+use Rattle.hir_raw.specs.declared.raw.RawCtor.TheVariants as ctor
+use Rattle.hir_raw.specs.declared.raw.RawExpr.{RawExpr}
+use Rattle.hir_raw.specs.declared.raw.RawExpr.TheVariants as expr
+use Rattle.hir_raw.specs.declared.raw.RawFn.{RawFn}
+use Rattle.hir_raw.specs.declared.raw.RawGoal.{RawGoal}
+use Rattle.hir_raw.specs.declared.raw.RawPath.{RawPath}
+use Rattle.hir_raw.specs.declared.raw.RawPath.TheVariants as path
+use Rattle.hir_raw.specs.declared.raw.RawVariant.{RawVariant}
+use Rattle.hir_raw.specs.declared.raw.RawFacts.{RawFacts}
+use Rattle.hir_raw.specs.Scope.{Scope}
+use Rattle.hir_raw.specs.Signatures.{type_args, ctor_type_by}
+use Rattle.hir_laws.specs.Lawful.{IsLawful}
+use Rattle.infer_table.specs.Preserved.{whole, IsMadeOf}
+use Rattle.goal_answers.specs.Goals.{Asked, Each}
+use Rattle.goal_facts.specs.Arguments.{goal_at}
+use Rattle.goal_facts.specs.Environment.{preds_or_none}
+use Rattle.goal_select.specs.Steps.{HasHeadsOf}
+use Rattle.infer_result.specs.Heads.{Outermost, other, HasHead, outermost_step, of_function, of_ctor}
+use Rattle.infer_result.specs.Kinds.Path.{PathRule}
+use Rattle.infer_result.specs.Needs.{variant_preds, path_preds, item_args, needed_goals}
+use Rattle.infer_result.specs.Places.{Given}
+use Rattle.infer_result.specs.Placing.{at_or_mismatch}
+use Rattle.infer_result.specs.Rules.{Rule}
+use Rattle.infer_result.specs.Table.{HasTy}
+use Rattle.infer_result.specs.declared.result.InferenceResult.{InferenceResult}
+use Rattle.infer_ctx.specs.Fine.{is_fine_head, HasFineHeads, Every}
+use Rattle.infer_ctx.specs.Tells.{Tells}
+use Rattle.infer_ctx.specs.Under.{IsVariant}
+use Rattle.infer_ctx.proofs.FineTypes.{heads_bool, heads_char, heads_integer, heads_param, heads_tuple, heads_adt, heads_fn_def}
+use Rattle.infer_ctx.proofs.OverTypes.{over_fine, adt_closed, fn_def_closed}
+use Rattle.infer_obligations.proofs.FineSources.{GoalIsFit, goal_has_heads, fn_preds_fit, adt_preds_fit}
+
+-- ---- what a type is, outermost
+
+-- the arguments of the item of which this is the type
+abbrev args_of : Ty → List GenericArg
+args_of t = item_args (out-Ty t)
+
+no_args_bool : args_of ty.Bool ≡ []
+no_args_bool = ap item_args (ap out-Ty (sym ty.rolls-Bool) ∙ out-roll-Ty Ty-F.Bool)
+
+no_args_char : args_of ty.Char ≡ []
+no_args_char = ap item_args (ap out-Ty (sym ty.rolls-Char) ∙ out-roll-Ty Ty-F.Char)
+
+no_args_int : (i : _) → args_of (ty.Int i) ≡ []
+no_args_int i = ap item_args (ap out-Ty (sym (ty.rolls-Int i)) ∙ out-roll-Ty (Ty-F.Int i))
+
+no_args_uint : (i : _) → args_of (ty.Uint i) ≡ []
+no_args_uint i = ap item_args (ap out-Ty (sym (ty.rolls-Uint i)) ∙ out-roll-Ty (Ty-F.Uint i))
+
+no_args_var : (n : ℕ) → args_of (ty.Var n) ≡ []
+no_args_var n = ap item_args (ap out-Ty (sym (ty.rolls-Var n)) ∙ out-roll-Ty (Ty-F.Var n))
+
+no_args_int_var : (n : ℕ) → args_of (ty.IntVar n) ≡ []
+no_args_int_var n = ap item_args (ap out-Ty (sym (ty.rolls-IntVar n)) ∙ out-roll-Ty (Ty-F.IntVar n))
+
+no_args_tuple : (ts : List Ty) → args_of (ty.Tuple ts) ≡ []
+no_args_tuple ts = ap item_args (ap out-Ty (sym (ty.rolls-Tuple ts)) ∙ out-roll-Ty (Ty-F.Tuple ts))
+
+no_args_param : (n : ℕ) → args_of (ty.Param n) ≡ []
+no_args_param n = ap item_args (ap out-Ty (sym (ty.rolls-Param n)) ∙ out-roll-Ty (Ty-F.Param n))
+
+adt_args : (i : AdtId) (xs : List GenericArg) → args_of (ty.Adt i xs) ≡ xs
+adt_args i xs = ap item_args (ap out-Ty (sym (ty.rolls-Adt i xs)) ∙ out-roll-Ty (Ty-F.Adt i xs))
+
+fn_def_args : (i : CallableDefId) (xs : List GenericArg) → args_of (ty.FnDef i xs) ≡ xs
+fn_def_args i xs = ap item_args (ap out-Ty (sym (ty.rolls-FnDef i xs)) ∙ out-roll-Ty (Ty-F.FnDef i xs))
+
+adt_outermost : (i : AdtId) (xs : List GenericArg) → HasHead (ty.Adt i xs) (other (head.Adt i))
+adt_outermost i xs = ap outermost_step (ap out-Ty (sym (ty.rolls-Adt i xs)) ∙ out-roll-Ty (Ty-F.Adt i xs))
+
+fn_def_outermost : (i : CallableDefId) (xs : List GenericArg) → HasHead (ty.FnDef i xs) (other (head.FnDef i))
+fn_def_outermost i xs = ap outermost_step (ap out-Ty (sym (ty.rolls-FnDef i xs)) ∙ out-roll-Ty (Ty-F.FnDef i xs))
+
+-- ---- the arguments of a type in scope
+
+module _ (sc : Scope) (a : Assignment) where
+  -- they are types in scope; where the type has a head, as many as types for its holes leave
+  record HasFineArgs (t : Ty) : Type 0 where
+    heads : HasFineHeads sc t
+    types : List Ty
+    args : args_of t ≡ type_args types
+    all : Every (HasFineHeads sc) types
+    many : (h : Outermost) → HasHead t h → length (args_of (folded a t)) ≡ length types
+
+  without_args : (t u : Ty) → HasFineHeads sc t → args_of t ≡ [] → folded a t ≡ u → args_of u ≡ [] → HasFineArgs t
+  without_args t u heads own falls none = record { heads = heads; types = []; args = own; all = tt; many = λ h has. ap (λ v. length (args_of v)) falls ∙ ap length none }
+
+  -- one without a head
+  unknown_args : (t : Ty) → HasFineHeads sc t → args_of t ≡ [] → outermost_step (out-Ty t) ≡ None → HasFineArgs t
+  unknown_args t heads own none = record { heads = heads; types = []; args = own; all = tt; many = λ h has. (let clash : None ≡ Some h = sym none ∙ has in absurd (cc)) }
+
+  every_heads : (ts : List Ty) → Every HasFineArgs ts → Every (HasFineHeads sc) ts
+  every_heads [] h = tt
+  every_heads (t ∷ ts) h = (h.0.heads, every_heads ts h.1)
+
+  as_many : (ts : List Ty) → length (type_args (map (folded a) ts)) ≡ length ts
+  as_many ts = length-map (map (folded a) ts) arg.Ty ∙ length-map ts (folded a)
+
+  fine_args : (t : Ty) → HasFineHeads sc t → HasFineArgs t
+  fine_args = over_fine sc HasFineArgs (record {
+    bool = without_args ty.Bool ty.Bool (heads_bool sc) no_args_bool (replaced_bool (with_holes a)) no_args_bool;
+    char = without_args ty.Char ty.Char (heads_char sc) no_args_char (replaced_char (with_holes a)) no_args_char;
+    int = λ i. without_args (ty.Int i) (ty.Int i) (heads_integer sc (integer.Int i)) (no_args_int i) (replaced_int (with_holes a) i) (no_args_int i);
+    uint = λ i. without_args (ty.Uint i) (ty.Uint i) (heads_integer sc (integer.Uint i)) (no_args_uint i) (replaced_uint (with_holes a) i) (no_args_uint i);
+    var = λ n. unknown_args (ty.Var n) (subst (IsMadeOf (is_fine_head sc) whole) (sym (term_var n)) tt) (no_args_var n) (ap outermost_step (ap out-Ty (sym (ty.rolls-Var n)) ∙ out-roll-Ty (Ty-F.Var n)));
+    int_var = λ n. unknown_args (ty.IntVar n) (subst (IsMadeOf (is_fine_head sc) whole) (sym (term_int_var n)) tt) (no_args_int_var n) (ap outermost_step (ap out-Ty (sym (ty.rolls-IntVar n)) ∙ out-roll-Ty (Ty-F.IntVar n)));
+    tuple = λ ts h. without_args (ty.Tuple ts) (ty.Tuple (map (folded a) ts)) (heads_tuple sc ts (every_heads ts h)) (no_args_tuple ts) (replaced_tuple (with_holes a) ts) (no_args_tuple (map (folded a) ts));
+    adt = λ id ts k h. record {
+      heads = heads_adt sc id ts k (every_heads ts h);
+      types = ts;
+      args = adt_args id (type_args ts);
+      all = every_heads ts h;
+      many = λ o has. ap (λ v. length (args_of v)) (adt_closed a id ts) ∙ (ap length (adt_args id (type_args (map (folded a) ts))) ∙ as_many ts);
+    };
+    fn_def = λ id ts k h. record {
+      heads = heads_fn_def sc id ts k (every_heads ts h);
+      types = ts;
+      args = fn_def_args id (type_args ts);
+      all = every_heads ts h;
+      many = λ o has. ap (λ v. length (args_of v)) (fn_def_closed a id ts) ∙ (ap length (fn_def_args id (type_args (map (folded a) ts))) ∙ as_many ts);
+    };
+    param = λ n k. without_args (ty.Param n) (ty.Param n) (heads_param sc n k) (no_args_param n) (replaced_param (with_holes a) n) (no_args_param n);
+  })
+
+-- ---- an expression that has a type
+
+module _ (g : Given) (law : IsLawful g.scope.facts) (none : g.scope.facts.aliases ≡ []) (e : ExprId) (t : Ty) (heads : HasFineHeads g.scope t) (tells : Tells g e t)
+    (a : Assignment) (r : InferenceResult) (has : HasTy r e (folded a t)) where
+  abbrev raw : RawFacts
+  raw = g.scope.facts
+
+  abbrev IsInScope : Asked → Type 0
+  IsInScope = HasHeadsOf (is_fine_head g.scope)
+
+  own : HasFineArgs g.scope a t
+  own = fine_args g.scope a t heads
+
+  -- what each predicate at these arguments says
+  at_own_args : (gs : List RawGoal) → ((k : ℕ) (p : RawGoal) → slice_get gs k ≡ Some p → GoalIsFit raw law none (length own.types) p) → Each IsInScope (map (goal_at raw (args_of t)) gs)
+  at_own_args [] fit = tt
+  at_own_args (p ∷ gs) fit = (
+    subst (λ xs. IsInScope (goal_at raw xs p)) (sym own.args) (goal_has_heads raw law none g.scope refl own.types own.all p (fit 0 p refl)),
+    at_own_args gs (λ k q at. fit (suc k) q at),
+  )
+
+  one_ty : (t u : Ty) → HasTy r e t → HasTy r e u → t ≡ u
+  one_ty t u h k = (let both : Some (Some t) ≡ Some (Some u) = sym h ∙ k in cc)
+
+  -- an item with so many arguments in the table has as many here
+  count_at : (h : Outermost) → HasHead t h → (v : Ty) (ts : List Ty) → HasTy r e v → args_of v ≡ type_args ts → length own.types ≡ length ts
+  count_at h head v ts at is = sym (own.many h head) ∙ (ap (λ w. length (args_of w)) (one_ty (folded a t) v has at) ∙ (ap length is ∙ length-map ts arg.Ty))
+
+  module _ (f : FunctionId) (is : slice_get g.body.exprs e.0 ≡ Some (expr.Path (path.Function f))) (rule : PathRule g r e (path.Function f)) where
+    fn_needs : (o : Option RawFn) → slice_get raw.fns f.0 ≡ o → Each IsInScope (map (goal_at raw (args_of t)) (preds_or_none (option_map (λ (x : RawFn). x.preds) o)))
+    fn_needs None there = tt
+    fn_needs (Some x) there =
+        let ts : List Ty = rule.0 in
+        let h : Outermost = other (head.FnDef (callable.FunctionId f)) in
+        let long : length own.types ≡ length ts = count_at h (tells.head h (of_function e f is)) (ty.FnDef (callable.FunctionId f) (type_args ts)) ts rule.1 (fn_def_args (callable.FunctionId f) (type_args ts)) in
+        let both : Some (length x.params) ≡ Some (length ts) = ap (option_map (λ (y : RawFn). length y.params)) (sym there) ∙ rule.2 in
+        let count : length x.params ≡ length own.types = (let same : length x.params ≡ length ts = cc in same ∙ sym long) in
+        at_own_args x.preds (λ k p here. subst (λ n. GoalIsFit raw law none n p) count (fn_preds_fit raw law none f.0 x there k p here))
+
+  adt_needs : (i : ℕ) (ts : List Ty) → length own.types ≡ length ts → option_map (λ (y : RawAdt). length y.params) (slice_get raw.adts i) ≡ Some (length ts) → (o : Option RawAdt) → slice_get raw.adts i ≡ o
+      → Each IsInScope (map (goal_at raw (args_of t)) (preds_or_none (option_map (λ (x : RawAdt). x.preds) o)))
+  adt_needs i ts long count None is = tt
+  adt_needs i ts long count (Some x) is =
+      let both : Some (length x.params) ≡ Some (length ts) = ap (option_map (λ (y : RawAdt). length y.params)) (sym is) ∙ count in
+      let same : length x.params ≡ length own.types = (let q : length x.params ≡ length ts = cc in q ∙ sym long) in
+      at_own_args x.preds (λ k p here. subst (λ n. GoalIsFit raw law none n p) same (adt_preds_fit raw law none i x is k p here))
+
+  module _ (v : VariantId) (is : slice_get g.body.exprs e.0 ≡ Some (expr.Path (path.Ctor v))) (rule : PathRule g r e (path.Ctor v)) (known : IsVariant raw v) where
+    -- the arguments and the head of a path to a constructor; none has fields with names
+    ctor_args : (k : RawCtor) (i : AdtId) (ts : List Ty) → ((k ≡ ctor.Unit) ⊎ (k ≡ ctor.Tuple)) → (args_of (ctor_type_by k i v ts) ≡ type_args ts) × ((h : Outermost) × HasHead (ctor_type_by k i v ts) h)
+    ctor_args ctor.Unit i ts h = (adt_args i (type_args ts), (other (head.Adt i), adt_outermost i (type_args ts)))
+    ctor_args ctor.Tuple i ts h = (fn_def_args (callable.VariantId v) (type_args ts), (other (head.FnDef (callable.VariantId v)), fn_def_outermost (callable.VariantId v) (type_args ts)))
+    ctor_args ctor.Record i ts (inl q) = absurd (cc)
+    ctor_args ctor.Record i ts (inr q) = absurd (cc)
+
+    ctor_needs : (o : Option RawVariant) → slice_get raw.variants v.0 ≡ o → Each IsInScope (map (goal_at raw (args_of t)) (variant_preds raw o))
+    ctor_needs None there = tt
+    ctor_needs (Some x) there =
+        let c = rule.2 in
+        let ts : List Ty = c.types in
+        let named : c.variant ≡ x = (let both : Some c.variant ≡ Some x = sym c.is_variant.found ∙ there in cc) in
+        let own_variant : known.variant ≡ x = (let both : Some known.variant ≡ Some x = sym known.found ∙ there in cc) in
+        let unnamed : (x.ctor ≡ ctor.Unit) ⊎ (x.ctor ≡ ctor.Tuple) = subst (λ (y : RawVariant). (y.ctor ≡ ctor.Unit) ⊎ (y.ctor ≡ ctor.Tuple)) own_variant known.unnamed in
+        let same : rule.0 ≡ ctor_type_by x.ctor x.adt v ts = c.is ∙ ap (λ (y : RawVariant). ctor_type_by y.ctor y.adt v ts) named in
+        let told = ctor_args x.ctor x.adt ts unnamed in
+        let h : Outermost = told.1.0 in
+        let head : HasHead t h = tells.head h (of_ctor e v x ts h is there told.1.1) in
+        let long : length own.types ≡ length ts = count_at h head rule.0 ts rule.1 (ap args_of same ∙ told.0) in
+        let count = subst (λ (y : RawVariant). option_map (λ (z : RawAdt). length z.params) (slice_get raw.adts y.adt.0) ≡ Some (length ts)) named c.is_variant.count in
+        adt_needs x.adt.0 ts long count (slice_get raw.adts x.adt.0) refl
+
+  path_needs : (q : RawPath) → slice_get g.body.exprs e.0 ≡ Some (expr.Path q) → PathRule g r e q → ((v : VariantId) → q ≡ path.Ctor v → IsVariant raw v) → Each IsInScope (map (goal_at raw (args_of t)) (path_preds raw q))
+  path_needs (path.Local v) is rule variant = tt
+  path_needs path.Other is rule variant = tt
+  path_needs (path.Function f) is rule variant = fn_needs f is rule (slice_get raw.fns f.0) refl
+  path_needs (path.Ctor v) is rule variant = ctor_needs v is rule (variant v refl) (slice_get raw.variants v.0) refl
+
+  -- what it needs has types in scope alone
+  pub needs_in_scope : (x : RawExpr) → slice_get g.body.exprs e.0 ≡ Some x → Rule (at_or_mismatch g r) g r e (Some x) → ((v : VariantId) → x ≡ expr.Path (path.Ctor v) → IsVariant raw v) → Each IsInScope (needed_goals raw x t)
+  needs_in_scope (expr.Path q) is rule variant = path_needs q is rule (λ v same. variant v (ap expr.Path same))
+  needs_in_scope _ is rule variant = tt

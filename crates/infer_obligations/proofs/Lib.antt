@@ -1,0 +1,6 @@
+pub mod FineSources
+pub mod FineNeeds
+pub mod NeedHoles
+pub mod Registering
+pub mod Selecting
+pub mod Walking

@@ -1,0 +1,128 @@
+-- What paths need at a type has no holes but those of the type.
+use Rattle.std.specs.Prelude.{◌≡◌, ℕ, zero, suc, List, [], ◌∷◌, map, slice_get, Option, Some, None}
+use Rattle.std.proofs.Common.{sym, ap, ◌∙◌, subst}
+use Rattle.hir_types.specs.declared.head.HoleKind.{HoleKind}
+use Rattle.hir_types.specs.declared.ids.TypeRefId.{TypeRefId}
+use Rattle.hir_types.specs.declared.goal.Goal.{Goal}
+use Rattle.hir_types.specs.declared.ty.IntegerTy.TheVariants.{Int, Uint}
+use Rattle.hir_types.specs.declared.ty.AliasBound.{AliasBound}
+use Rattle.hir_types.specs.declared.ty.GenericArg.{GenericArg, GenericArg-F, out-GenericArg, roll-out-GenericArg}
+use Rattle.hir_types.specs.declared.ty.TraitRef.{TraitRef}
+use Rattle.hir_types.specs.declared.ty.Ty.{Ty, Ty-F, out-Ty, roll-out-Ty}
+use Rattle.hir_types.specs.Assigned.{arg_as_type, type_of, with_params}
+use Rattle.hir_types.specs.Folds.{in_arg, in_ty}
+use Rattle.hir_types.specs.Terms.{Term, leaf, pair, node, chain, type_part, arg_step, ty_step, term, arg_term}
+use Rattle.hir_types.specs.declared.head.Head.{Head}
+use Rattle.hir_types.specs.declared.head.Head.TheVariants as head
+use Rattle.hir_types.specs.TermLaws.{terms, term_at, arg_term_at, term_error}
+use Rattle.hir_raw.specs.declared.raw.RawExpr.{RawExpr}
+use Rattle.hir_raw.specs.declared.raw.RawGoal.{RawGoal}
+use Rattle.hir_raw.specs.declared.raw.RawGoal.TheVariants as goal
+use Rattle.hir_raw.specs.declared.raw.RawType.{RawType}
+use Rattle.hir_raw.specs.declared.raw.RawType.TheVariants as type
+use Rattle.hir_raw.specs.declared.raw.RawFacts.{RawFacts}
+use Rattle.hir_raw.specs.Goals.{arg_types}
+use Rattle.infer_table.specs.LogLemmas.{are_of_leaf, are_of_pair, are_of_parts}
+use Rattle.infer_table.specs.Solutions.{AreOf}
+use Rattle.infer_table.specs.Table.{State, HolesAreOf}
+use Rattle.goal_answers.specs.Goals.{Asked, Each}
+use Rattle.goal_facts.specs.Arguments.{type_at, args_at, goal_at}
+use Rattle.goal_facts.specs.Goals.{asked_goal}
+use Rattle.goal_facts.proofs.Written.{parts_by, layer, by_layers, args_are}
+use Rattle.goal_select.specs.Steps.{GoalIsOf}
+use Rattle.infer_result.specs.Needs.{expr_preds, item_args, needed_goals}
+
+module _ (kinds : List HoleKind) where
+  abbrev Made : Term → Type 0
+  Made = AreOf kinds
+
+  -- ---- arguments
+
+  -- what stands for each parameter
+  abbrev pub AreMade : List GenericArg → Type 0
+  AreMade xs = (m : ℕ) → Made (term (type_of (slice_get xs m)))
+
+  over : (h : Head) (t : Term) → Made t → Made (pair (leaf h) t)
+  over h t made = are_of_pair kinds (leaf h) t (are_of_leaf kinds h) made
+
+  bare : (h : Head) → Made (node h [])
+  bare h = over h (leaf head.End) (are_of_leaf kinds head.End)
+
+  error_made : Made (term (type_of None))
+  error_made = subst Made (sym term_error) (bare head.Error)
+
+  arg_layer : (y : GenericArg-F GenericArg Ty AliasBound TraitRef) → Made (arg_step (in_arg terms y)) → Made (term (arg_as_type y))
+  arg_layer (GenericArg-F.Ty t) h = (are_of_parts kinds (leaf head.TypePart) (term t) h).1
+  arg_layer (GenericArg-F.Const c) h = error_made
+
+  arg_made : (x : GenericArg) → Made (arg_term x) → Made (term (type_of (Some x)))
+  arg_made x h =
+      let y = out-GenericArg x in
+      let is : arg_term x ≡ arg_step (in_arg terms y) = ap arg_term (sym (roll-out-GenericArg x)) ∙ arg_term_at y in
+      arg_layer y (subst Made is h)
+
+  list_made : (xs : List GenericArg) → Made (chain (map arg_term xs)) → AreMade xs
+  list_made [] h m = error_made
+  list_made (x ∷ xs) h zero = arg_made x (are_of_parts kinds (arg_term x) (chain (map arg_term xs)) h).0
+  list_made (x ∷ xs) h (suc m) = list_made xs (are_of_parts kinds (arg_term x) (chain (map arg_term xs)) h).1 m
+
+  item_layer : (y : Ty-F GenericArg Ty AliasBound TraitRef) → Made (ty_step (in_ty terms y)) → AreMade (item_args y)
+  item_layer (Ty-F.Adt i xs) h = list_made xs (are_of_parts kinds (leaf (head.Adt i)) (chain (map arg_term xs)) h).1
+  item_layer (Ty-F.FnDef i xs) h = list_made xs (are_of_parts kinds (leaf (head.FnDef i)) (chain (map arg_term xs)) h).1
+  item_layer _ h = λ m. error_made
+
+  -- those of the item of which this is the type
+  item_made : (t : Ty) → Made (term t) → AreMade (item_args (out-Ty t))
+  item_made t h =
+      let y = out-Ty t in
+      let is : term t ≡ ty_step (in_ty terms y) = ap term (sym (roll-out-Ty t)) ∙ term_at y in
+      item_layer y (subst Made is h)
+
+  -- ---- goals at arguments
+
+  parts_made : (f : ℕ → Term) → ((j : ℕ) → Made (f j)) → (ts : List TypeRefId) → Made (chain (parts_by f ts))
+  parts_made f h [] = are_of_leaf kinds head.End
+  parts_made f h (t ∷ ts) = are_of_pair kinds (type_part (f t.0)) (chain (parts_by f ts)) (over head.TypePart (f t.0) (h t.0)) (parts_made f h ts)
+
+  module _ (raw : RawFacts) (xs : List GenericArg) (args : AreMade xs) where
+    layer_made : (i : ℕ) (o : Option RawType) → slice_get raw.types i ≡ o → (f : ℕ → Term) → ((j : ℕ) → Made (f j)) → Made (layer (λ m. term ((with_params xs).param m)) f o)
+    layer_made i None at f h = bare head.Error
+    layer_made i (Some type.Bool) at f h = bare head.Bool
+    layer_made i (Some type.Char) at f h = bare head.Char
+    layer_made i (Some (type.Integer (Int m))) at f h = bare (head.Int m)
+    layer_made i (Some (type.Integer (Uint m))) at f h = bare (head.Uint m)
+    layer_made i (Some (type.Tuple ts)) at f h = over head.Tuple (chain (parts_by f ts)) (parts_made f h ts)
+    layer_made i (Some (type.Adt a ts)) at f h = over (head.Adt a) (chain (parts_by f ts)) (parts_made f h ts)
+    layer_made i (Some (type.Projection a ts)) at f h = over (head.Projection a) (chain (parts_by f ts)) (parts_made f h ts)
+    layer_made i (Some (type.Param m)) at f h = args m
+    layer_made i (Some type.Hole) at f h = bare head.Hole
+    layer_made i (Some type.Other) at f h = bare head.Error
+
+    type_made : (w : TypeRefId) → Made (type_at raw xs w)
+    type_made w = by_layers raw xs Made (bare head.Error) layer_made w
+
+    chain_made : (ws : List TypeRefId) → Made (chain (map (λ w. type_part (type_at raw xs w)) ws))
+    chain_made [] = are_of_leaf kinds head.End
+    chain_made (w ∷ ws) = are_of_pair kinds (type_part (type_at raw xs w)) (chain (map (λ w. type_part (type_at raw xs w)) ws)) (over head.TypePart (type_at raw xs w) (type_made w)) (chain_made ws)
+
+    args_made : (ws : List TypeRefId) → Made (args_at raw xs ws)
+    args_made ws = subst Made (sym (args_are raw xs ws)) (chain_made ws)
+
+    goal_made : (g : RawGoal) → Made (goal_at raw xs g).parts
+    goal_made (goal.Trait r) = args_made (arg_types r.args)
+    goal_made (goal.Projection k ws w) = are_of_pair kinds (args_at raw xs (arg_types ws)) (type_at raw xs w) (args_made (arg_types ws)) (type_made w)
+
+    goals_made : (gs : List RawGoal) → Each (λ (a : Asked). Made a.parts) (map (goal_at raw xs) gs)
+    goals_made [] = tt
+    goals_made (g ∷ gs) = (goal_made g, goals_made gs)
+
+-- ---- what an expression needs
+
+asked_made : (s : State) (gs : List Goal) → Each (λ (a : Asked). AreOf s.substitution.kinds a.parts) (map asked_goal gs) → Each (GoalIsOf s) gs
+asked_made s [] h = tt
+asked_made s (g ∷ gs) h = (h.0, asked_made s gs h.1)
+
+pub needed_made : (raw : RawFacts) (s : State) (x : RawExpr) (t : Ty) (gs : List Goal) → HolesAreOf s t → map asked_goal gs ≡ needed_goals raw x t → Each (GoalIsOf s) gs
+needed_made raw s x t gs h is =
+    let P : List Asked → Type 0 = Each (λ (a : Asked). AreOf s.substitution.kinds a.parts) in
+    asked_made s gs (subst P (sym is) (goals_made s.substitution.kinds raw (item_args (out-Ty t)) (item_made s.substitution.kinds t h) (expr_preds raw x)))

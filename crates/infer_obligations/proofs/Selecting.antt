@@ -1,0 +1,148 @@
+-- What selection does: along its steps no head comes into the table, nor into goals, but theirs and those of the sources, and what nodes
+-- ask stays as it is.
+use Rattle.std.specs.Prelude.{◌≡◌, ◌⊎◌, ◌-◌, ◌++◌, ℕ, zero, suc, Bool, true, false, List, [], ◌∷◌, flat_map, map, slice_get, Some, IsTrue, refl}
+use Rattle.std.proofs.Common.{inl, inr, sym, ap, ◌∙◌, subst, append-nil}
+use Rattle.std.proofs.lemmas.Grind.{flat_map-append}
+use Rattle.std.proofs.lemmas.Option.{same_Some}
+use Rattle.hir_types.specs.declared.ids.ExprOrPatId.{ExprOrPatId}
+use Rattle.hir_types.specs.declared.goal.Goal.{Goal}
+use Rattle.hir_types.specs.declared.head.Head.TheVariants as head
+use Rattle.hir_types.specs.declared.ty.IntTy.TheVariants as int
+use Rattle.hir_raw.specs.declared.raw.RawFacts.{RawFacts}
+use Rattle.infer_table.specs.Preserved.{Shape, NoAlias, BindsOnly}
+use Rattle.infer_table.specs.Solutions.{log_of}
+use Rattle.infer_table.specs.Table.{State, bindings, Grew}
+use Rattle.infer_table.proofs.FallingBack.{binds_only_fallen}
+use Rattle.infer_table.proofs.HoleLaws.{grew_twice}
+use Rattle.goal_answers.specs.Goals.{System, Each}
+use Rattle.goal_facts.specs.Goals.{asked_goal}
+use Rattle.goal_select.specs.Steps.{HasHeadsOf, SystemHasHeadsOf}
+use Rattle.goal_tree.specs.declared.obligation.Obligation.{Obligation}
+use Rattle.goal_tree.specs.declared.tree.GoalTree.{GoalTree}
+use Rattle.goal_tree.specs.Trees.{asked_by}
+use Rattle.goal_tree.proofs.Standings.{mapped_get}
+use Rattle.infer_goals.specs.declared.obligations.Obligations.{Obligations}
+use Rattle.infer_goals.specs.Obligations.{IsStep, AreSteps, Went}
+use Rattle.infer_goals.proofs.Lists.{append_get}
+use Rattle.infer_goals.proofs.Steps.{went_grew}
+use Rattle.infer_ctx.specs.Asked.{asked_by_node, asked_at, TreeHasHeadsOf}
+use Rattle.infer_obligations.specs.Selection.{AreSelected}
+
+-- ---- what stays of a table
+
+pub record StaysApart (s s' : State) : Type 0 where
+  pub grew : Grew s s'
+  pub pairs : s'.pairs ≡ s.pairs
+  pub diverging : s'.diverging ≡ s.diverging
+
+module _ (raw : RawFacts) (f : System) where
+  steps_pairs : (us : List (State × GoalTree)) (s : State) (t : GoalTree) (s' : State) (t' : GoalTree) → AreSteps raw f us s t s' t' → s'.pairs ≡ s.pairs
+  steps_pairs [] s t s' t' a = ap (λ (z : State). z.pairs) a.0
+  steps_pairs (u ∷ us) s t s' t' a = steps_pairs us u.0 u.1 s' t' a.1 ∙ a.0.selected.pairs
+
+  steps_diverging : (us : List (State × GoalTree)) (s : State) (t : GoalTree) (s' : State) (t' : GoalTree) → AreSteps raw f us s t s' t' → s'.diverging ≡ s.diverging
+  steps_diverging [] s t s' t' a = ap (λ (z : State). z.diverging) a.0
+  steps_diverging (u ∷ us) s t s' t' a = steps_diverging us u.0 u.1 s' t' a.1 ∙ a.0.selected.diverging
+
+  pub went_apart : (bounded : Bool) (s : State) (o : Obligations) (s' : State) (o' : Obligations) → Went raw f bounded s o s' o' → StaysApart s s'
+  went_apart bounded s o s' o' w = record {
+    grew = went_grew raw f bounded s o s' o' w;
+    pairs = steps_pairs w.states s o.tree s' o'.tree w.steps;
+    diverging = steps_diverging w.states s o.tree s' o'.tree w.steps;
+  }
+
+  pub selected_apart : (s : State) (o : Obligations) (s' : State) (o' : Obligations) → AreSelected raw f s o s' o' → StaysApart s s'
+  selected_apart s o s' o' h =
+      let first = went_apart true s o h.bounded_table h.bounded h.went in
+      let last = went_apart false h.fallen_table h.bounded s' o' h.went_on in
+      record {
+        grew = grew_twice s h.fallen_table s' (grew_twice s h.bounded_table h.fallen_table first.grew h.fell.grew) last.grew;
+        pairs = last.pairs ∙ (h.fell.pairs ∙ first.pairs);
+        diverging = last.diverging ∙ (h.fell.diverging ∙ first.diverging);
+      }
+
+  -- ---- what nodes ask
+
+  -- what a source asks for no node asks
+  source_asks : (n : ℕ) (k : ExprOrPatId) (d p : ℕ) (gs : List Goal) → flat_map (asked_by_node n) (map (asked_by k d p) gs) ≡ []
+  source_asks n k d p [] = refl
+  source_asks n k d p (g ∷ gs) = source_asks n k d p gs
+
+  step_asked : (n : ℕ) (s : State) (t : GoalTree) (s' : State) (t' : GoalTree) → IsStep raw f s t s' t' → asked_at t' n ≡ asked_at t n
+  step_asked n s t s' t' step =
+      let x = step.obligation in
+      let more : List Obligation = map (asked_by x.node (x.depth - 1) step.at) step.made.preds.items in
+      ap (flat_map (asked_by_node n)) (step.by.asked x step.listed)
+      ∙ (flat_map-append (asked_by_node n) t.obligations.items more
+      ∙ (ap (λ ys. asked_at t n ++ ys) (source_asks n x.node (x.depth - 1) step.at step.made.preds.items) ∙ append-nil (asked_at t n)))
+
+  steps_asked : (n : ℕ) (us : List (State × GoalTree)) (s : State) (t : GoalTree) (s' : State) (t' : GoalTree) → AreSteps raw f us s t s' t' → asked_at t' n ≡ asked_at t n
+  steps_asked n [] s t s' t' a = ap (λ (z : GoalTree). asked_at z n) a.1
+  steps_asked n (u ∷ us) s t s' t' a = steps_asked n us u.0 u.1 s' t' a.1 ∙ step_asked n s t u.0 u.1 a.0
+
+  pub went_asked : (n : ℕ) (bounded : Bool) (s : State) (o : Obligations) (s' : State) (o' : Obligations) → Went raw f bounded s o s' o' → asked_at o'.tree n ≡ asked_at o.tree n
+  went_asked n bounded s o s' o' w = steps_asked n w.states s o.tree s' o'.tree w.steps
+
+  -- ---- where nothing is registered
+
+  nothing_at : (xs : List Obligation) (i : ℕ) (x : Obligation) → xs ≡ [] → slice_get xs i ≡ Some x → ⊥
+  nothing_at [] i x none at = cc
+  nothing_at (y ∷ xs) i x none at = cc
+
+  -- there is no step
+  no_steps : (us : List (State × GoalTree)) (s : State) (t : GoalTree) (s' : State) (t' : GoalTree) → t.obligations.items ≡ [] → AreSteps raw f us s t s' t' → (s' ≡ s) × (t' ≡ t)
+  no_steps [] s t s' t' empty a = a
+  no_steps (u ∷ us) s t s' t' empty a = absurd (nothing_at t.obligations.items a.0.at a.0.obligation empty a.0.listed)
+
+  pub none_went : (bounded : Bool) (s : State) (o : Obligations) (s' : State) (o' : Obligations) → o.tree.obligations.items ≡ [] → Went raw f bounded s o s' o' → o'.tree.obligations.items ≡ []
+  none_went bounded s o s' o' empty w = ap (λ (t : GoalTree). t.obligations.items) (no_steps w.states s o.tree s' o'.tree empty w.steps).1 ∙ empty
+
+-- ---- heads
+
+each_get : {X : Type 0} (P : X → Type 0) (xs : List X) (j : ℕ) (x : X) → Each P xs → slice_get xs j ≡ Some x → P x
+each_get P [] j x h e = cc
+each_get P (y ∷ xs) zero x h e = subst P (same_Some y x e) h.0
+each_get P (y ∷ xs) (suc j) x h e = each_get P xs j x h.1 e
+
+-- the table binds holes to these heads alone, and so do goals
+pub record HaveHeads (P : Shape) (s : State) (t : GoalTree) : Type 0 where
+  pub binds : BindsOnly P (log_of (bindings s))
+  pub goals : TreeHasHeadsOf P t
+
+module _ (raw : RawFacts) (f : System) (P : Shape) (none : NoAlias P) (is : IsTrue (P (head.Int int.I32) 0)) where
+  step_has : SystemHasHeadsOf P f → (s : State) (t : GoalTree) (s' : State) (t' : GoalTree) → IsStep raw f s t s' t' → HaveHeads P s t → HaveHeads P s' t'
+  step_has sources s t s' t' step h =
+      let x = step.obligation in
+      let gs = step.made.preds.items in
+      let both = step.selected.heads P none (head.Int int.I32) is sources h.binds (h.goals step.at x step.listed) in
+      let asked = step.by.asked x step.listed in
+      record {
+        binds = both.0;
+        goals = λ i y at. elim (append_get t.obligations.items (map (asked_by x.node (x.depth - 1) step.at) gs) i y (subst (λ zs. slice_get zs i ≡ Some y) asked at)) [
+          | inl q ↦ h.goals i y q
+          | inr q ↦ (let m = mapped_get (asked_by x.node (x.depth - 1) step.at) gs q.0 y q.1 in
+              subst (λ (z : Obligation). HasHeadsOf P (asked_goal z.goal)) m.2 (each_get (λ (g : Goal). HasHeadsOf P (asked_goal g)) gs q.0 m.0 both.1 m.1))
+        ];
+      }
+
+  steps_have : SystemHasHeadsOf P f → (us : List (State × GoalTree)) (s : State) (t : GoalTree) (s' : State) (t' : GoalTree) → AreSteps raw f us s t s' t' → HaveHeads P s t → HaveHeads P s' t'
+  steps_have sources [] s t s' t' a h = subst (λ (z : State). HaveHeads P z t') (sym a.0) (subst (λ (z : GoalTree). HaveHeads P s z) (sym a.1) h)
+  steps_have sources (u ∷ us) s t s' t' a h = steps_have sources us u.0 u.1 s' t' a.1 (step_has sources s t u.0 u.1 a.0 h)
+
+  -- nothing is registered, or sources have these heads alone
+  pub went_heads : (bounded : Bool) (s : State) (o : Obligations) (s' : State) (o' : Obligations) → Went raw f bounded s o s' o' → (o.tree.obligations.items ≡ []) ⊎ SystemHasHeadsOf P f → HaveHeads P s o.tree → HaveHeads P s' o'.tree
+  went_heads bounded s o s' o' w (inl empty) h =
+      let same = no_steps raw f w.states s o.tree s' o'.tree empty w.steps in
+      subst (λ (z : State). HaveHeads P z o'.tree) (sym same.0) (subst (λ (z : GoalTree). HaveHeads P s z) (sym same.1) h)
+  went_heads bounded s o s' o' w (inr sources) h = steps_have sources w.states s o.tree s' o'.tree w.steps h
+
+  still_owed : (bounded : Bool) (s : State) (o : Obligations) (s' : State) (o' : Obligations) → Went raw f bounded s o s' o' → (o.tree.obligations.items ≡ []) ⊎ SystemHasHeadsOf P f → (o'.tree.obligations.items ≡ []) ⊎ SystemHasHeadsOf P f
+  still_owed bounded s o s' o' w (inl empty) = inl (none_went raw f bounded s o s' o' empty w)
+  still_owed bounded s o s' o' w (inr sources) = inr sources
+
+  pub selected_heads : (s : State) (o : Obligations) (s' : State) (o' : Obligations) → AreSelected raw f s o s' o' → (o.tree.obligations.items ≡ []) ⊎ SystemHasHeadsOf P f → HaveHeads P s o.tree → BindsOnly P (log_of (bindings s'))
+  selected_heads s o s' o' h owed have =
+      let first = went_heads true s o h.bounded_table h.bounded h.went owed have in
+      let fallen = binds_only_fallen P is h.bounded_table h.fallen_table h.fell first.binds in
+      let then_owed = still_owed true s o h.bounded_table h.bounded h.went owed in
+      (went_heads false h.fallen_table h.bounded s' o' h.went_on then_owed (record { binds = fallen; goals = first.goals })).binds

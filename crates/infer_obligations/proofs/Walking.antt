@@ -1,0 +1,104 @@
+-- What is found out about a body holds where goals are selected: more is known of its holes then.
+use Rattle.std.proofs.Common.{◌≡◌, ◌⊎◌, ◌∙◌, inl, inr, refl, sym, subst, arith, Bool, []}
+use Rattle.hir_types.specs.Terms.{terms_of}
+use Rattle.infer_table.specs.Completion.{completion}
+use Rattle.infer_table.specs.Preserved.{BindsOnly}
+use Rattle.infer_table.specs.Solutions.{Respects, log_of}
+use Rattle.infer_table.specs.Table.{Grew, Meets, bindings}
+use Rattle.infer_table.specs.Waiting.{waiting}
+use Rattle.goal_facts.specs.Goals.{ItemSources}
+use Rattle.goal_facts.specs.Systems.{IsSystemOf}
+use Rattle.goal_search.specs.Sources.{system}
+use Rattle.goal_select.specs.Steps.{SystemHasHeadsOf}
+use Rattle.infer_goals.specs.declared.table.GoalTable.{GoalTable}
+use Rattle.infer_goals.specs.Obligations.{AreKept, HasAllOpen, Went, NoneLeft}
+use Rattle.infer_result.specs.Closed.{IsOfBody}
+use Rattle.infer_result.specs.Places.{Given}
+use Rattle.infer_ctx.specs.Asked.{AreSourcesIn, AreGoalsOf, IsTold}
+use Rattle.infer_ctx.specs.Closings.{IsSound}
+use Rattle.infer_ctx.specs.Context.{with_goal_table}
+use Rattle.infer_ctx.specs.Fine.{is_fine_head, AreFinePairs}
+use Rattle.infer_ctx.specs.declared.context.InferenceContext.{InferenceContext}
+use Rattle.infer_ctx.proofs.FineTypes.{fine_no_alias, table_fine_grown, seen_fine_grown, fine_pairs_grown, fine_asked_grown}
+use Rattle.infer_ctx.proofs.UnderClosings.{kept_later}
+use Rattle.infer_coerce.specs.MadeEqual.{UnifiesKnown}
+use Rattle.infer_coerce.proofs.Unified.{completion_closing, binds_twice}
+use Rattle.infer_obligations.specs.Selection.{SelectsAlone, SelectsInWalk}
+use Rattle.infer_obligations.proofs.Selecting.{StaysApart, HaveHeads, went_apart, went_asked, went_heads, none_went}
+
+-- ---- with a table of goals that knows more
+
+module _ (g : Given) (c : InferenceContext) (s : IsSound g.scope c) (goals : GoalTable) (grew : Grew c.goals.table goals.table) (pairs : goals.table.pairs ≡ c.goals.table.pairs)
+    (bound : BindsOnly (is_fine_head g.scope) (log_of (bindings goals.table))) (meets : Meets (terms_of (completion goals.table)) goals.table) (respects : Respects (terms_of (completion goals.table))) where
+  pub sound_later : IsSound g.scope (with_goal_table c goals)
+  sound_later = record {
+    fine = table_fine_grown g.scope c.goals.table goals.table c.result grew s.fine;
+    seen = seen_fine_grown g.scope c.goals.table goals.table c.result grew s.seen;
+    asked = fine_asked_grown g.scope c.goals.table goals.table c.asked grew s.asked;
+    kept = kept_later c.goals.table goals.table c.asked grew pairs s.kept;
+    pairs = fine_pairs_grown g.scope c.goals.table goals.table (waiting goals.table.pairs) grew (subst (λ w. AreFinePairs g.scope c.goals.table (waiting w)) (sym pairs) s.pairs);
+    bound = bound;
+    some = (completion goals.table, record { closing = completion_closing g.scope goals.table bound respects; meets = meets });
+  }
+
+-- nothing is registered, or sources have types in scope alone
+pub owed_heads : (g : Given) (c : InferenceContext) → AreGoalsOf g c → IsSystemOf c.goals.sources.facts c.goals.sources.item (system c.goals.sources.sources) → (c.goals.obligations.tree.obligations.items ≡ []) ⊎ SystemHasHeadsOf (is_fine_head g.scope) (system c.goals.sources.sources)
+owed_heads g c h given = elim h.owed [ inl empty ↦ inl empty | inr none ↦ inr (h.sources.heads none given) ]
+
+-- ---- selected while the body is walked
+
+module _ (g : Given) (c : InferenceContext) (body : IsOfBody g.body c.result) (s : IsSound g.scope c) (told : IsTold g c) (goals : GoalTable)
+    (sources : goals.sources ≡ c.goals.sources) (bounded : goals.bounded ≡ c.goals.bounded)
+    (kept : AreKept goals.sources.facts (system goals.sources.sources) goals.table goals.obligations) (all : HasAllOpen (system goals.sources.sources) goals.table goals.obligations)
+    (went : Went c.goals.sources.facts (system c.goals.sources.sources) c.goals.bounded c.goals.table c.goals.obligations goals.table goals.obligations)
+    (given : IsSystemOf c.goals.sources.facts c.goals.sources.item (system c.goals.sources.sources))
+    (none_left : NoneLeft goals.sources.facts (system goals.sources.sources) c.goals.bounded goals.table goals.obligations)
+    (meets : Meets (terms_of (completion goals.table)) goals.table) (respects : Respects (terms_of (completion goals.table))) where
+  abbrev last : InferenceContext
+  last = with_goal_table c goals
+
+  apart : StaysApart c.goals.table goals.table
+  apart = went_apart c.goals.sources.facts (system c.goals.sources.sources) c.goals.bounded c.goals.table c.goals.obligations goals.table goals.obligations went
+
+  heads : HaveHeads (is_fine_head g.scope) goals.table goals.obligations.tree
+  heads =
+      went_heads c.goals.sources.facts (system c.goals.sources.sources) (is_fine_head g.scope) (fine_no_alias g.scope) refl c.goals.bounded c.goals.table c.goals.obligations goals.table goals.obligations went
+      (owed_heads g c told.goals given) (record { binds = s.bound; goals = told.goals.heads })
+
+  goals_selected : AreGoalsOf g last
+  goals_selected = record {
+    sources = subst (λ (z : ItemSources). AreSourcesIn g.scope z) (sym sources) told.goals.sources;
+    bounded = bounded ∙ told.goals.bounded;
+    kept = kept;
+    all = all;
+    heads = heads.goals;
+    owed = elim told.goals.owed [
+      | inl empty ↦ inl (none_went c.goals.sources.facts (system c.goals.sources.sources) c.goals.bounded c.goals.table c.goals.obligations goals.table goals.obligations empty went)
+      | inr none ↦ inr none
+    ];
+    asked = λ n. went_asked c.goals.sources.facts (system c.goals.sources.sources) n c.goals.bounded c.goals.table c.goals.obligations goals.table goals.obligations went ∙ told.goals.asked n;
+  }
+
+  pub selects_alone : SelectsAlone g c last
+  selects_alone = record {
+    binds = record {
+      follows = record {
+        clock = omega arith;
+        grew = apart.grew;
+        sources = sources;
+        of_body = body;
+        sound = sound_later g c s goals apart.grew apart.pairs heads.binds meets respects;
+        told = λ was. record { bindings = λ v t at. was.bindings v t at; goals = goals_selected };
+      };
+      result = refl;
+      asked = refl;
+      clock = refl;
+    };
+    went = subst (λ (z : Bool). Went c.goals.sources.facts (system c.goals.sources.sources) z c.goals.table c.goals.obligations goals.table goals.obligations) told.goals.bounded went;
+    none_left = subst (λ (z : Bool). NoneLeft c.goals.sources.facts (system c.goals.sources.sources) z goals.table goals.obligations) told.goals.bounded
+        (subst (λ (z : ItemSources). NoneLeft z.facts (system z.sources) c.goals.bounded goals.table goals.obligations) sources none_left);
+  }
+
+-- and then pairs that have become known are unified
+pub selects_in_walk : (g : Given) (old mid new : InferenceContext) → SelectsAlone g old mid → UnifiesKnown g mid new → SelectsInWalk g old new
+selects_in_walk g old mid new h k = record { mid = mid; selects = h; unifies = k; binds = binds_twice g old mid new h.binds k.binds }

@@ -1,0 +1,9 @@
+//! Goals while a body is walked: what nodes need is registered where they have their types, and selected after
+//! the arguments of each call, and at the end.
+#![tactic(auto)]
+
+mod register;
+mod select;
+
+pub use register::{register_each, register_needs};
+pub use select::{select_obligations_where_possible, select_registered};
