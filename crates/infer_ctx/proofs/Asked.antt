@@ -1,5 +1,5 @@
 -- What is asked stays so while holes are made and bound, and other things than types of expressions are recorded.
-use Rattle.std.proofs.Common.{◌≡◌, ◌⊎◌, ◌∙◌, sym, ap, subst, List, [], Option, slice_get}
+use Rattle.std.proofs.Common.{◌≡◌, ◌∙◌, sym, ap, subst, List, Option, slice_get}
 use Rattle.hir_types.specs.declared.ty.Ty.{Ty}
 use Rattle.infer_table.proofs.UndoLaws.{grew_itself}
 use Rattle.infer_table.specs.Table.{Grew}
@@ -29,7 +29,6 @@ module _ (g : Given) (c d : InferenceContext) (exprs : d.result.type_of_expr ≡
     kept = kept_still c.goals d.goals h.kept stays grew;
     all = all_still c.goals d.goals h.all stays grew;
     heads = subst (λ (o : Obligations). TreeHasHeadsOf (is_fine_head g.scope) o.tree) (sym stays.obligations) h.heads;
-    owed = subst (λ (o : Obligations). (o.tree.obligations.items ≡ []) ⊎ (g.scope.facts.aliases ≡ [])) (sym stays.obligations) h.owed;
     asked = asked_still h.asked;
   }
 
