@@ -35,8 +35,8 @@ class BodyWriter(Writer):
     least part of the source itself around them (`places`), which are the same where no macro wrote them.
     """
 
-    def __init__(self, lists, parameters, function):
-        super().__init__(lists, parameters, function)
+    def __init__(self, lists, generics, function):
+        super().__init__(lists, generics, 0, function)
         self.exprs, self.pats, self.bindings, self.spans, self.places = [], [], [], {}, {}
         self.locals = {}  # the binding of each local, by the HirId of its pattern
 
@@ -180,7 +180,7 @@ class BodyWriter(Writer):
         if let["els"] is not None:
             self.leave_out("`let` with `else`", span_of(let["span"]))
         init = None if let["init"] is None else self.expr(let["init"])
-        ty = None if let["ty"] is None else self.type(let["ty"], None)[0]
+        ty = None if let["ty"] is None else self.read_type(let["ty"], None)[0]
         return ["let", self.pattern(let["pat"]), ty, init, None]
 
     def pattern(self, pat):

@@ -14,7 +14,7 @@ import re
 import sys
 
 from body_facts import BodyWriter
-from crate_items import Items, Lists, Writer, parameters_of
+from crate_items import IMPLIED, Bound, Items, Lists, Writer, trait_of
 from hir_tree import OWN, OtherShape, identifier, name_of, owners_in, span_of
 from rustc import TRIED, NoRustc, rustc, version
 from sources import Sources
@@ -73,7 +73,7 @@ class CrateFacts:
 
     def item_writer(self, of, lists):
         """A writer of an adt, a trait or an impl."""
-        writer = Writer(lists, parameters_of(of.generics, 1 if of.id in self.items.traits else 0))
+        writer = Writer(lists, of.generics, 1 if of.id in self.items.traits else 0)
         writer.place = of.span
         return writer
 
@@ -86,7 +86,7 @@ class CrateFacts:
                 self.refused[item] = writer.omissions
 
     def writer(self, function, lists):
-        writer = BodyWriter(lists, parameters_of(function.generics), function.id.path)
+        writer = BodyWriter(lists, function.generics, function.id.path)
         writer.place = function.span
         return writer
 
@@ -118,6 +118,7 @@ class CrateFacts:
         functions = [self.function(self.items.functions[item], self.writer(self.items.functions[item], self.lists))
                      for item in self.lists.functions]
         traits = [self.trait(of, self.item_writer(of, self.lists)) for of in map(self.items.traits.get, self.lists.traits)]
+        aliases = [alias for _, of_trait in traits for alias in of_trait]
         impls = [self.impl(of, self.item_writer(of, self.lists)) for of in map(self.items.impls.get, self.lists.impls)]
         adts, variants = [], []
         while len(adts) < len(self.lists.adts):  # an adt of the core library gets its number as it is named
@@ -129,8 +130,8 @@ class CrateFacts:
             "profile": 1, "edition": edition, "never_fallback": "never_type_fallback" in features,
             "new_range": "new_range" in features, "limits": LIMITS, "types": self.lists.types,
             "modules": [self.parent(module) for module in self.lists.modules], "adts": adts, "variants": variants,
-            "fns": functions, "consts": [], "statics": [], "traits": traits, "aliases": [], "impls": impls, "opaques": [],
-            "lang": self.lang(), "bodies": self.bodies}
+            "fns": functions, "consts": [], "statics": [], "traits": [fact for fact, _ in traits], "aliases": aliases,
+            "impls": impls, "opaques": [], "lang": self.lang(), "bodies": self.bodies}
 
     def parent(self, module):
         parent = self.items.modules[module]
@@ -148,7 +149,7 @@ class CrateFacts:
                 writer.leave_out("named fields", span)
                 continue
             fields = [] if data.name == "Unit" else [
-                {"name": identifier(field["ident"]), "type": writer.type(field["ty"])[0],
+                {"name": identifier(field["ident"]), "type": writer.read_type(field["ty"])[0],
                  "vis": vis if adt.kind == "enum" else self.visibility(span_of(field["vis_span"]), adt.module, writer.lists)}
                 for field in data[0]]
             variants.append({"adt": writer.lists.adt(adt.id), "name": name, "ctor": data.name.lower(), "fields": fields,
@@ -159,20 +160,30 @@ class CrateFacts:
         return fact, variants
 
     def trait(self, trait, writer):
-        """The facts of a trait without associated items."""
-        writer.own_type = writer.lists.type(["param", 0])
+        """The facts of a trait without functions and consts, and of its associated types."""
+        number, own = writer.lists.trait(trait.id), writer.lists.type(["param", 0])
+        types = (own, *map(writer.parameter, writer.scope.parameters))
+        writer.scope.own_type, writer.scope.own_bound = own, Bound(trait.id, types)
+        projections = {writer.lists.projection(of.id, types): of for of in trait.types.values()}
+        writer.implying = (own, *projections)
         writer.members("trait", trait)
         if trait.is_auto:
             writer.leave_out("`auto` trait", trait.span)
         if any(impl in self.refused for impl in self.items.impls_of[trait.id]):
             writer.leave_out("trait of which an impl is left out", trait.span)
-        supertraits = writer.goals(writer.own_type, trait.bounds)
-        params, preds = writer.generics(trait.generics)
-        return {"name": trait.name, "params": params, "preds": supertraits + preds, "fns": [], "consts": [], "types": [],
-                "auto": False}
+        supertraits = writer.goals(own, trait.bounds)
+        params, stated = writer.generics(trait.generics)
+        preds, bounds = [], {ty: writer.associated_type(ty, of) for ty, of in projections.items()}
+        for goal in supertraits + stated:  # one on an associated type is the same as a bound that stands at it
+            bounds.get(goal[2][0][1], preds).append(goal)
+        if not writer.omissions and any(writer.lists.hangs_on(goal[2][0][1], projections) for goal in preds):
+            writer.leave_out(IMPLIED, trait.span)
+        aliases = [{"name": of.name, "trait": number, "bounds": bounds[ty]} for ty, of in projections.items()]
+        return {"name": trait.name, "params": params, "preds": preds, "fns": [], "consts": [],
+                "types": [writer.lists.associated_types[of.id] for of in projections.values()], "auto": False}, aliases
 
     def impl(self, impl, writer):
-        """The facts of an impl of a trait without associated items."""
+        """The facts of an impl of a trait without functions and consts."""
         if impl.header is None:
             writer.leave_out("impl without a trait", impl.span)
             return None
@@ -180,13 +191,15 @@ class CrateFacts:
             writer.leave_out("`default` impl", impl.span)
         if "negative" in impl.header["polarity"]:
             writer.leave_out("negative impl", impl.span)
-        writer.own_type = writer.type(impl.ty)[0]
+        writer.scope.own_type = own = writer.type(impl.ty)[0]
         trait, arguments = writer.trait(impl.header["trait_ref"], "impl of trait")
         if not writer.omissions:
             writer.members("impl", impl)
+            writer.scope.own_bound = Bound(trait_of(impl.header), (own, *(number for _, number in arguments)))
         params, preds = writer.generics(impl.generics)
-        return {"trait": [trait, arguments], "params": params, "preds": preds, "self": writer.own_type, "fns": [],
-                "consts": [], "types": []}
+        types = [] if writer.omissions else [writer.given_type(of) for of in impl.types]
+        return {"trait": [trait, arguments], "params": params, "preds": preds, "self": own, "fns": [], "consts": [],
+                "types": types}
 
     def lang(self):
         """The traits that the language knows."""
@@ -207,9 +220,9 @@ class CrateFacts:
         if declared["c_variadic"]:
             writer.leave_out("function of any number of arguments", function.span)
         params, preds = writer.generics(function.generics)
-        inputs = [writer.type(ty)[0] for ty in declared["inputs"]]
+        inputs = [writer.read_type(ty)[0] for ty in declared["inputs"]]
         output = declared["output"]
-        output = writer.type(output[0])[0] if output.name == "Return" else writer.lists.type(["tuple", []])
+        output = writer.read_type(output[0])[0] if output.name == "Return" else writer.lists.type(["tuple", []])
         return {"name": function.name, "at": ["module", writer.lists.module(function.module)], "params": params,
                 "preds": preds, "has_self": False, "inputs": inputs, "output": output,
                 "safe": name_of(header["safety"]) != "Normal" or header["safety"][0] != "Unsafe",

@@ -127,4 +127,4 @@ def def_id(text):
 
 def identifier(text):
     """The name in an identifier, which is printed as `name#0` or `r#name#0`."""
-    return text.removeprefix("r#").rpartition("#")[0]
+    return text.rpartition("#")[0].removeprefix("r#")

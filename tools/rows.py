@@ -25,7 +25,10 @@ DATA = os.path.join(program.TOP, "crates", "infer_tests", "data")
 MARK = r'"\$(\w+)"'
 
 # The lists of facts whose entries are compared, in words.
-ITEMS = {"adts": "adt", "fns": "function", "traits": "trait", "impls": "impl"}
+ITEMS = {"adts": "adt", "fns": "function", "traits": "trait", "aliases": "alias", "impls": "impl"}
+
+# The lists in which types and goals name an entry.
+NAMED = {"adt": "adts", "proj": "aliases", "trait": "traits"}
 
 
 class Unread(Exception):
@@ -95,7 +98,15 @@ class Shape:
             return ty
         if ty[0] == "tuple":
             return ["tuple", [self.ty(part) for part in ty[1]]]
-        return ["adt", self.facts["adts"][ty[1]]["name"], [[word, self.ty(part)] for word, part in ty[2]]]
+        return [ty[0], self.name(NAMED[ty[0]], ty[1]), self.arguments(ty[2])]
+
+    def name(self, kind, at):
+        """The name of an entry of a list; of an associated type it stands behind that of its trait."""
+        entry = self.facts[kind][at]
+        return "%s::%s" % (self.name("traits", entry["trait"]), entry["name"]) if kind == "aliases" else entry["name"]
+
+    def arguments(self, arguments):
+        return [[word, self.ty(ty)] for word, ty in arguments]
 
     def adt(self, adt):
         variants = [self.facts["variants"][at] for at in adt["variants"]]
@@ -108,28 +119,32 @@ class Shape:
                 fn["safe"], fn["vis"] == "pub"]
 
     def trait(self, trait):
-        return [trait["name"], trait["params"], self.goals(trait["preds"]), trait["auto"]]
+        return [trait["name"], trait["params"], self.goals(trait["preds"]),
+                [self.name("aliases", at) for at in trait["types"]], trait["auto"]]
+
+    def alias(self, alias):
+        return self.goals(alias["bounds"])
 
     def impl(self, impl):
         trait, arguments = impl["trait"]
-        return [self.facts["traits"][trait]["name"], [self.ty(ty) for _, ty in arguments], impl["params"],
-                self.goals(impl["preds"]), self.ty(impl["self"])]
+        return [self.name("traits", trait), self.arguments(arguments), impl["params"], self.goals(impl["preds"]),
+                self.ty(impl["self"]), [[self.name("aliases", at), self.ty(ty)] for at, ty in impl["types"]]]
 
     def goals(self, goals):
-        return [[word, self.facts["traits"][trait]["name"], [self.ty(ty) for _, ty in arguments]]
-                for word, trait, arguments in goals]
+        return [[word, self.name(NAMED[word], at), self.arguments(arguments), [self.ty(ty) for ty in types]]
+                for word, at, arguments, *types in goals]
 
     def items(self, kind, numbers):
         """The items of these numbers in a list: by their names, impls by their places."""
         write = getattr(self, ITEMS[kind])
-        entries = [self.facts[kind][number] for number in numbers]
-        return {entry.get("name", at): write(entry) for at, entry in enumerate(entries)}
+        return {at if kind == "impls" else self.name(kind, number): write(self.facts[kind][number])
+                for at, number in enumerate(numbers)}
 
     def path(self, path):
         kind, at, written = path
         if kind == "local":
             return ["local", self.binding(at), written]
-        return [kind, self.facts["fns" if kind == "fn" else "variants"][at]["name"], written]
+        return [kind, self.name("fns" if kind == "fn" else "variants", at), written]
 
     def binding(self, at):
         return [self.numbers.setdefault(at, len(self.numbers)), self.body["bindings"][at]]
@@ -194,15 +209,15 @@ class Fill:
             raise Unread("%s: %s.json has no type %s" % (self.row, self.row.base, json.dumps(shape)))
         if ty[0] == "tuple":
             ty = ["tuple", [self.ty(part) for part in ty[1]]]
-        elif ty[0] == "adt":
-            ty = ["adt", self.number("adts", ty[1]), self.arguments(ty[2])]
+        elif ty[0] in NAMED:
+            ty = [ty[0], self.number(NAMED[ty[0]], ty[1]), self.arguments(ty[2])]
         self.types.append(shape)
         self.added.append(ty)
         return len(self.types) - 1
 
     def number(self, items, at):
-        name = self.facts[items][at]["name"]
-        return [of["name"] for of in self.base[items]].index(name)
+        base = Shape(self.base)
+        return [base.name(items, of) for of in range(len(self.base[items]))].index(self.shape.name(items, at))
 
     def path(self, path):
         items = {"fn": "fns", "ctor": "variants", "variant": "variants"}.get(path[0])
@@ -218,8 +233,8 @@ class Fill:
         return node
 
     def goal(self, goal):
-        word, trait, arguments = goal
-        return [word, self.number("traits", trait), self.arguments(arguments)]
+        word, at, arguments, *types = goal
+        return [word, self.number(NAMED[word], at), self.arguments(arguments), *map(self.ty, types)]
 
     def arguments(self, arguments):
         return [[word, self.ty(ty)] for word, ty in arguments]
@@ -227,7 +242,8 @@ class Fill:
     def impl(self, impl):
         trait, arguments = impl["trait"]
         return dict(impl, trait=[self.number("traits", trait), self.arguments(arguments)],
-                    preds=[self.goal(of) for of in impl["preds"]], self=self.ty(impl["self"]))
+                    preds=[self.goal(of) for of in impl["preds"]], self=self.ty(impl["self"]),
+                    types=[[self.number("aliases", at), self.ty(ty)] for at, ty in impl["types"]])
 
     def lines(self):
         fn = self.facts["fns"][self.made.number(self.row)]
@@ -274,7 +290,7 @@ class Made:
         self.facts = json.loads(crate.text)
         self.numbers = {of.name: of.number for of in crate.shown if of.writer is not None}
         self.lists = {"adts": crate.lists.adts, "fns": crate.lists.functions, "traits": crate.lists.traits,
-                      "impls": crate.lists.impls}
+                      "aliases": crate.lists.associated_types, "impls": crate.lists.impls}
 
     def number(self, row):
         """The number of a row's function, or None where its body is left out."""

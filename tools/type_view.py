@@ -31,6 +31,7 @@ class Words:
         self.functions = [items.functions[item].name for item in lists.functions]
         self.variants = [items.adts[adt].variants[at][0] for adt, at in lists.variants]
         self.names = {items.adts[adt].name for adt in lists.adts} | {items.traits[trait].name for trait in lists.traits}
+        self.names |= {items.associated_types[item].name for item in lists.associated_types}
 
     def type(self, ty, shown):
         """A type or goal of the report on a function: with the names of functions, constructors and parameters."""

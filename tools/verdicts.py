@@ -4,8 +4,8 @@ rustc's verdict (a type error or none) stands against whether there is a complai
 pattern's parts (E0023) against whether that is complained of. The calls that rustc finds to have a wrong number of
 arguments (E0061) or to call no function (E0618) stand against those of which we complain so. Where rustc finds no type
 error, its types stand against those of the report, for expressions and patterns. The variants that nodes resolve to stand
-against those that they name. The paths of which rustc says that a bound is not met (E0277, or E0275 where impls ask for each
-other without end) stand against those of which we say so (see `may_differ`).
+against those that they name. The paths of which rustc says that a bound is not met (E0277, E0271 of an associated type, or
+E0275 where impls ask for each other without end) stand against those of which we say so (see `may_differ`).
 Counted apart, and no difference: bodies in which rustc wants a type written out (E0282, E0283, E0284), where the
 report has `{unknown}`; bodies to which an impl says a type in rustc, which is `i32` or has `{unknown}` in ours; bounds that
 rustc asks of written types alone; calls of what is no function, where the report has `{unknown}` in the type of what is
@@ -24,7 +24,8 @@ CALLS = {"MismatchedArgCount": "E0061", "ExpectedFunction": "E0618"}
 
 # What is said where a bound is not met.
 UNPROVED = "Unproved"
-UNMET = {"E0277", "E0275"}
+BOUNDS = {"E0277", "E0271"}
+UNMET = {*BOUNDS, "E0275"}
 
 # rustc's type errors. E0275 is what it says of some types without end, too. From the arguments of a call with a wrong number
 # of them, and from the parts of a pattern with one, the two take different types, so whether E0308 stands beside is not
@@ -144,7 +145,7 @@ def is_said(ours, theirs):
 def said_of_bounds(errors, report, nodes):
     """What rustc alone says of bounds, by paths, what we alone say, by paths and goals, and whether both speak of a path."""
     ours = {(node, fields["goal"]) for name, node, fields in report.complaints if name == UNPROVED}
-    theirs, unended = (paths_of_unmet(errors, {code}, nodes) for code in ("E0277", "E0275"))
+    theirs, unended = (paths_of_unmet(errors, codes, nodes) for codes in (BOUNDS, {"E0275"}))
     oversaid = {(node, goal) for node, goal in ours if node not in theirs | unended}
     return theirs - {node for node, _ in ours}, oversaid, oversaid != ours
 
@@ -208,9 +209,9 @@ def kind_of(judged, codes, complaints, said):
         return "items are pointers", True
     if unsaid or oversaid:
         kind = "{unknown} is called" if unsaid else "rustc doesn't know what is called"
-        return kind, alike and (complaints or codes & MISMATCHES - {"E0277"} == {"E0618"}) and is_excused(
+        return kind, alike and (complaints or codes & MISMATCHES - BOUNDS == {"E0618"}) and is_excused(
             unsaid, oversaid, codes, report.types, nodes)
-    if codes & MISMATCHES == {"E0277"} and not complaints:
+    if codes & MISMATCHES and codes & MISMATCHES <= BOUNDS and not complaints:
         return "a written type asks" if None in bounds[0] else "an impl says a type", bounds_alike
     if codes & MISMATCHES:
         return "refused by both", complaints and alike and are_others_alike(codes, complaints, bounds)

@@ -1,0 +1,148 @@
+//! Bounds on associated types: functions that have what the items which they name ask for, and some that don't.
+
+/// What can be sent, with what comes back.
+pub trait Send {
+    type Reply;
+}
+
+/// What can be shown.
+pub trait Show {}
+
+/// What can be sent twice.
+pub trait Resend: Send {}
+
+/// What can be read at a key.
+pub trait Read<K> {
+    type Value: Show;
+}
+
+/// What can be counted, by what.
+pub trait Count {
+    type By: Send<Reply = bool>;
+}
+
+pub struct Ping;
+
+pub struct Ask<T>(pub T);
+
+pub struct Map<K, V>(pub K, pub V);
+
+impl Send for Ping {
+    type Reply = bool;
+}
+
+impl<T> Send for Ask<T> {
+    type Reply = T;
+}
+
+impl Resend for Ping {}
+
+impl Show for bool {}
+
+impl Show for u8 {}
+
+impl<K, V: Show> Read<K> for Map<K, V> {
+    type Value = V;
+}
+
+impl Count for u8 {
+    type By = Ping;
+}
+
+pub fn send<T: Send>(_message: T) {}
+
+pub fn send_flag<T: Send<Reply = bool>>(_message: T) {}
+
+pub fn send_shown<T: Send>(_message: T)
+where
+    T::Reply: Show,
+{
+}
+
+pub fn resend<T: Resend<Reply = bool>>(_message: T) {}
+
+pub fn read<K, T: Read<K>>(_from: T, _at: K) {}
+
+pub fn read_byte<K, T: Read<K, Value = u8>>(_from: T, _at: K) {}
+
+pub fn count<T: Count>(_what: T)
+where
+    <T::By as Send>::Reply: Show,
+{
+}
+
+pub fn sends() {
+    send(Ping);
+    send_flag(Ping);
+    send_flag(Ask(true));
+    send_shown(Ask(1u8));
+    resend(Ping);
+}
+
+pub fn sends_another() {
+    send_flag(Ask(1u8));
+}
+
+pub fn sends_what_is_not_shown() {
+    send_shown(Ask('a'));
+}
+
+pub fn sends_what_is_nothing() {
+    send_shown(true);
+}
+
+pub fn reads() {
+    read(Map(1u8, 2u8), 1u8);
+    read_byte(Map(true, 2u8), true);
+}
+
+pub fn reads_other_values() {
+    read_byte(Map(true, true), true);
+}
+
+pub fn reads_what_is_not_shown() {
+    read(Map(true, Ping), true);
+}
+
+pub fn counts() {
+    count(1u8);
+}
+
+pub fn passes_on<T: Send<Reply = bool>>(message: T) {
+    send_flag(message);
+}
+
+pub fn shows<T: Send<Reply = bool>>(message: T) {
+    send_shown(message);
+}
+
+pub fn shows_by_bound<T: Send>(message: T)
+where
+    T::Reply: Show,
+{
+    send_shown(message);
+}
+
+pub fn sends_again<T: Resend<Reply = bool>>(message: T) {
+    send_flag(message);
+}
+
+pub fn reads_any<T: Read<u8>>(from: T) {
+    read(from, 1);
+}
+
+pub fn counts_any<T: Count>(what: T) {
+    count(what);
+}
+
+pub fn flags_nothing_known<T: Send>(message: T) {
+    send_flag(message);
+}
+
+pub fn shows_nothing_known<T: Send>(message: T) {
+    send_shown(message);
+}
+
+pub fn reads_at_another_key<T: Read<u8>>(from: T) {
+    read(from, 'k');
+}
