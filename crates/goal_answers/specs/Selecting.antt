@@ -71,9 +71,13 @@ IsOnlySource f A v c w by_size = ⊥
 
 -- ---- what has a size
 
--- the clause is the goal
+-- its head, which is concrete, is the goal: one with an alias in it reads as the goal, but can't be made equal to it
+abbrev pub StatesGoal : Aliases → Verdicts → Kind → Term → Rule → Type 0
+StatesGoal A v c w r = Proves A v.Yes c w r × IsConcrete r.head.parts
+
+-- the clause does
 abbrev pub IsByClause : Aliases → Verdicts → Kind → Term → List Rule → ℕ → Type 0
-IsByClause A v c w rs i = (r : Rule) × (slice_get rs i ≡ Some r) × Proves A v.Yes c w r
+IsByClause A v c w rs i = (r : Rule) × (slice_get rs i ≡ Some r) × StatesGoal A v c w r
 
 -- that a type has a size binds nothing: a clause is the goal, or none is about it, and the walk along last fields says so
 abbrev pub SizeIsBy : System → Aliases → Verdicts → Kind → Term → Choice → Type 0

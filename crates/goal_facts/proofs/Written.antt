@@ -70,6 +70,12 @@ layer_is s f (Some (type.Param n)) = ap term (replaced_param s n)
 layer_is s f (Some type.Hole) = ap term (replaced_hole s) ∙ term_hole
 layer_is s f (Some type.Other) = ap term (replaced_error s) ∙ term_error
 
+-- a written type at arguments is what it is written as, over its parts
+pub type_layer : (raw : RawFacts) (xs : List GenericArg) (w : TypeRefId)
+    → type_at raw xs w ≡ layer (λ n. term ((with_params xs).param n)) (λ j. term (replaced (with_params xs) (filled_within (λ k. ty.Hole) w.0 raw.types j))) (slice_get raw.types w.0)
+unfolding filled_within
+type_layer raw xs w = layer_is (with_params xs) (filled_within (λ k. ty.Hole) w.0 raw.types) (slice_get raw.types w.0)
+
 -- what holds of a layer where it holds of its parts holds of each written type
 module _ (raw : RawFacts) (xs : List GenericArg) (P : Term → Type 0) (unread : P (node head.Error []))
     (step : (i : ℕ) (o : Option RawType) → slice_get raw.types i ≡ o → (f : ℕ → Term) → ((j : ℕ) → P (f j)) → P (layer (λ n. term ((with_params xs).param n)) f o)) where

@@ -1,5 +1,5 @@
 -- Lists of proofs: what a source asks for, and that each proof of a list holds.
-use Rattle.std.specs.Prelude.{◌≡◌, ◌⊎◌, ◌<◌, ℕ, true, List, [], ◌∷◌, map, slice_get, Option, Some, None}
+use Rattle.std.specs.Prelude.{◌≡◌, ◌⊎◌, ◌<◌, ℕ, true, List, [], ◌∷◌, map, slice_get, Option, Some}
 use Rattle.hir_types.specs.declared.ids.ImplId.{ImplId}
 use Rattle.hir_types.specs.declared.goal.Goal.{Goal}
 use Rattle.hir_types.specs.declared.head.Hole.{Hole}
@@ -10,7 +10,7 @@ use Rattle.hir_raw.specs.declared.raw.RawImpl.{RawImpl}
 use Rattle.hir_raw.specs.declared.raw.RawFacts.{RawFacts}
 use Rattle.infer_table.specs.Table.{State, Meets}
 use Rattle.goal_answers.specs.Reading.{Fill, IsFilling, Aliases, Reads, ReadsAs}
-use Rattle.goal_answers.specs.Goals.{Kind, Asked, Rule, System, asked_at, only, is_among, Each}
+use Rattle.goal_answers.specs.Goals.{Asked, Rule, System, asked_at, only, is_among, Each}
 use Rattle.goal_answers.specs.Answers.{IsItself, Shadows, answers}
 use Rattle.goal_answers.specs.Selecting.{CopiesParts}
 use Rattle.goal_facts.specs.declared.proof.Proof.{Proof}

@@ -7,14 +7,13 @@ use Rattle.hir_types.specs.Terms.{Term, hole, leaf, pair}
 use Rattle.goal_answers.specs.Reading.{Aliases, Reads, role, IsReadLeaf, IsRead}
 use Rattle.goal_answers.specs.Goals.{Kind, implements, projects, Asked, Rule, System, asked_at, key, self_type, is_among, OneIf, Each, SomeOf, Verdicts}
 use Rattle.goal_answers.specs.Rows.{Copied, with_parts, by_impls, unclear, copied, CopyYes, CopyNo}
-use Rattle.goal_answers.specs.Answers.{NeverSame, Proves, RuleIsRefuted, Shadows, ShadowsNot, answers}
+use Rattle.goal_answers.specs.Answers.{NeverSame, RuleIsRefuted, Shadows, ShadowsNot, answers}
 use Rattle.goal_answers.specs.Steps.{known_below}
-use Rattle.goal_answers.specs.Selecting.{Choice as Source, by_clause, by_rule, by_parts, by_size, IsConcreteHead, IsConcrete, IsTraitKind, IsSelectable, IsOnlyOf, HasConcreteHead, CopiesParts, IsOnlySource, SizeIsBy, IsDeep, Selects, IsChoice}
-use Rattle.goal_answers.proofs.Lists.{each_map, some_map, some_each}
+use Rattle.goal_answers.specs.Selecting.{Choice as Source, by_clause, by_rule, by_parts, by_size, IsConcreteHead, IsConcrete, IsTraitKind, IsSelectable, IsOnlyOf, HasConcreteHead, CopiesParts, IsOnlySource, StatesGoal, SizeIsBy, IsDeep, Selects, IsChoice}
+use Rattle.goal_answers.proofs.Lists.{each_map, some_each}
 use Rattle.goal_answers.proofs.Readings.{apply_hole}
 use Rattle.goal_answers.proofs.One.{shadows_or_not, copy_or}
 use Rattle.goal_answers.proofs.Levels.{level}
-use Rattle.goal_answers.proofs.Upto.{none_of}
 use Rattle.goal_terms.specs.Terms.{HasHeads}
 use Rattle.goal_search.specs.declared.answer.Answer.{Answer}
 use Rattle.goal_search.specs.declared.answer.Answer.TheVariants as answer
@@ -30,7 +29,7 @@ use Rattle.goal_search.specs.Parts.{CopiedAre, CopiesIf, CopiesAre}
 use Rattle.goal_search.specs.Searching.{IsDone, Decides, Holds, HoldsNot}
 use Rattle.goal_search.specs.Choosing.{choice_of, IsLeft, IsRow, IsBy, IsConcreteIf}
 use Rattle.goal_search.proofs.Deciding.{holds_shadows, shadows_holds, key_refuted, refuted_key, PartsAnswer, copies_decide}
-use Rattle.goal_search.proofs.Only.{some_get, each_none, only_same, only_each}
+use Rattle.goal_search.proofs.Only.{some_get, only_same, only_each}
 
 -- ---- concrete goals
 
@@ -111,8 +110,8 @@ module _ (f : System) (n : ℕ) (c : Kind) (w : Term) (trait_ : IsTraitKind c) w
   abbrev IsSize : Source → Type 0
   IsSize = SizeIsBy f A v c w
 
-  pub size_shadowed : (SomeOf (Proves A v.Yes c w) f.clauses → ⊥) → (a : Answer) → Decides Shadowing NotShadowing a → (a ≡ answer.No → ⊥) → IsBy IsSize None
-  size_shadowed none a d some (by_clause i) h = none (some_get (Proves A v.Yes c w) f.clauses i h.0 h.1 h.2)
+  pub size_shadowed : (SomeOf (StatesGoal A v c w) f.clauses → ⊥) → (a : Answer) → Decides Shadowing NotShadowing a → (a ≡ answer.No → ⊥) → IsBy IsSize None
+  size_shadowed none a d some (by_clause i) h = none (some_get (StatesGoal A v c w) f.clauses i h.0 h.1 h.2)
   size_shadowed none a d some (by_rule i) h = h
   size_shadowed none a d some by_parts h = h
   size_shadowed none answer.Yes d some by_size h = shadowing_not d h

@@ -3,7 +3,7 @@ ghost use Rattle.std.specs.Prelude.{◌≡◌, ◌↔◌, ◌+◌, ◌<◌, IfOk
 ghost use Rattle.goal_answers.specs.Goals.{Each};
 ghost use Rattle.goal_answers.specs.Answers.{Proves, RuleIsRefuted, answers};
 ghost use Rattle.goal_answers.specs.Steps.{known_below};
-ghost use Rattle.goal_answers.specs.Selecting.{IsTraitKind, IsSelectable, HasConcreteHead, IsOnlySource, SizeIsBy, IsChoice};
+ghost use Rattle.goal_answers.specs.Selecting.{IsTraitKind, IsSelectable, HasConcreteHead, IsOnlySource, StatesGoal, SizeIsBy, IsChoice};
 ghost use Rattle.goal_terms.specs.Terms.{term_of, HasHeads};
 ghost use Rattle.goal_search.specs.Sources.{kind_of, asked_of, rule_of, rules_of, system};
 ghost use Rattle.goal_search.specs.Searching.{IsDone, RuleHasHeads};
@@ -118,7 +118,26 @@ impl<'a> Search<'a> {
         }
     }
 
-    /// The number of the first clause that proves the goal.
+    /// The same, and the head is concrete.
+    fn states_goal(
+        &mut self,
+        rule: &Rule,
+        kind: Kind,
+        target: &Term,
+        depth: u32,
+    ) -> Result<bool, AllocError>
+        requires rule { RuleHasHeads (rule_of rule.now) }
+        requires target { IsDone (term_of target.now) }
+        ensures same { self.new ≡ self.old }
+        ensures answer { IfOk result (λ yes. IsTrue yes ↔ StatesGoal (answers (system self.old) depth).Alias (known_below (system self.old) depth) (kind_of kind) (term_of target.now) (rule_of rule.now)) }
+    {
+        if !is_concrete(&rule.head.parts) {
+            return Ok(false);
+        }
+        Ok(self.proves(rule, kind, target, depth)?)
+    }
+
+    /// The number of the first clause that states the goal.
     fn proving_clause(
         &mut self,
         kind: Kind,
@@ -127,11 +146,11 @@ impl<'a> Search<'a> {
     ) -> Result<Option<usize>, AllocError>
         requires target { IsDone (term_of target.now) }
         ensures same { self.new ≡ self.old }
-        ensures answer { IfOk result (λ found. IsSomeAt (Proves (answers (system self.old) depth).Alias (known_below (system self.old) depth).Yes (kind_of kind) (term_of target.now)) (system self.old).clauses found) }
+        ensures answer { IfOk result (λ found. IsSomeAt (StatesGoal (answers (system self.old) depth).Alias (known_below (system self.old) depth) (kind_of kind) (term_of target.now)) (system self.old).clauses found) }
     {
         let sources = self.sources();
         for (number, clause) in sources.clauses.iter().enumerate() {
-            if self.proves(clause, kind, target, depth)? {
+            if self.states_goal(clause, kind, target, depth)? {
                 return Ok(Some(number));
             }
         }

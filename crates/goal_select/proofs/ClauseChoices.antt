@@ -24,7 +24,7 @@ use Rattle.goal_facts.specs.Systems.{ClausesAre}
 use Rattle.goal_facts.specs.Proofs.{filled_goal, IsSource}
 use Rattle.goal_facts.proofs.Following.{entry_at}
 use Rattle.goal_select.specs.declared.select.Selected.{Selected}
-use Rattle.goal_select.specs.Steps.{known_goal, goal_type, GoalIsOf, HasHeadsOf, IsSelected}
+use Rattle.goal_select.specs.Steps.{known_goal, goal_type, GoalIsOf, HasHeadsOf, HasHeadsIfConcrete, IsSelected}
 use Rattle.goal_select.proofs.Known.{log, known_stays}
 use Rattle.goal_select.proofs.Uniting.{united}
 use Rattle.goal_select.proofs.Heads.{known_heads, heads_united}
@@ -38,11 +38,12 @@ no_holes_apply f t none = apply_agree f hole t (λ k o. absurd (none k o)) ∙ a
 
 -- ---- the clause that is chosen
 
--- it is of the goal's kind, and either reads as the goal, or is concrete and may read as it
+-- it is of the goal's kind, and concrete, and either reads as the goal or may read as it
 pub record IsClauseFor (f : System) (n : ℕ) (g : Asked) (i : ℕ) : Type 0 where
   pub rule : Rule
   pub listed : slice_get f.clauses i ≡ Some rule
   pub kind : rule.head.kind ≡ g.kind
+  pub concrete : IsConcrete rule.head.parts
   pub why : Proves (answers f n).Alias (known_below f n).Yes g.kind g.parts rule ⊎ (IsConcrete rule.head.parts × (RuleIsRefuted (answers f n).Alias (known_below f n) g.kind g.parts rule → ⊥))
 
 pub clause_for : (f : System) (n : ℕ) (g : Asked) (i : ℕ) → Selects f n g (by_clause i) → IsClauseFor f n g i
@@ -52,7 +53,7 @@ clause_for f n g i selects = by_kind (is_among f.sized g.kind) selects.source
     A = (answers f n).Alias
 
     by_kind : (b : Bool) → OneIf b ((answers f n).Yes g × SizeIsBy f (answers f n).Alias (known_below f n) g.kind g.parts (by_clause i)) (IsDeep n × IsOnlySource f (answers f n).Alias (known_below f n) g.kind g.parts (by_clause i)) → IsClauseFor f n g i
-    by_kind true h = let r = h.1 in record { rule = r.0; listed = r.1; kind = r.2.kind; why = inl r.2 }
+    by_kind true h = let r = h.1 in record { rule = r.0; listed = r.1; kind = r.2.0.kind; concrete = r.2.1; why = inl r.2.0 }
     by_kind false h =
         let only = h.1.0 in
         let r = entry_at f.clauses i only.within in
@@ -60,6 +61,7 @@ clause_for f n g i selects = by_kind (is_among f.sized g.kind) selects.source
           rule = r.0;
           listed = r.1;
           kind = same_kind g.kind r.0.head.kind selects.selectable.trait_ (λ other. only.remains r.0 r.1 (inl other));
+          concrete = h.1.1 r.0 r.1;
           why = inr (h.1.1 r.0 r.1, λ out. only.remains r.0 r.1 out);
         }
 
@@ -141,9 +143,9 @@ module _ (raw : RawFacts) (item : GenericDefId) (f : System) (are : ClausesAre r
         general = λ sole. absurd sole;
         holes = subst (Each (GoalIsOf after)) (sym none) tt;
         heads = λ P alias x ok sources binds heads. (
-          heads_united P alias x ok before after k h met binds (known_heads P before g k known binds heads)
-              (subst (HasHeadsOf P) (sym is) (sources.clauses i found.rule found.listed (subst IsTraitKind (sym found.kind) selects.selectable.trait_)).0),
-          subst (Each (λ q. HasHeadsOf P (asked_goal q))) (sym none) tt,
+          heads_united P alias x ok before after k h met binds (known_heads P before g k known selects.selectable.concrete binds heads)
+              (subst (HasHeadsOf P) (sym is) (sources.clauses i found.rule found.listed (subst IsTraitKind (sym found.kind) selects.selectable.trait_) found.concrete).0),
+          subst (Each (λ q. HasHeadsIfConcrete P (asked_goal q))) (sym none) tt,
         );
         depth = inr none;
       }

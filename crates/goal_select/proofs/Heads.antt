@@ -12,8 +12,9 @@ use Rattle.infer_table.specs.Preserved.{Shape, TermRole, whole, part, rest, widt
 use Rattle.infer_table.specs.Solutions.{Log, Solves, resolved}
 use Rattle.infer_table.specs.Table.{State, resolved_term, AreUnified}
 use Rattle.goal_answers.specs.Reading.{Fill}
+use Rattle.goal_answers.specs.Selecting.{IsConcrete, IsTraitKind}
 use Rattle.goal_facts.specs.Goals.{trait_goal, asked_goal}
-use Rattle.goal_select.specs.Steps.{known_goal, goal_type, HasHeadsOf}
+use Rattle.goal_select.specs.Steps.{known_goal, goal_type, HasHeadsOf, HasHeadsIfConcrete}
 use Rattle.goal_select.proofs.Known.{log, goal_type_resolved, known_kind, known_parts}
 use Rattle.goal_select.proofs.Uniting.{united_by, unites_by}
 
@@ -24,9 +25,22 @@ pub args_resolved : (P : Shape) (l : Log) (t : Term) → BindsOnly P l → IsMad
 args_resolved P l t binds made =
     subst (IsMadeOf P rest) (solution_apply l t) (made_of_apply P (solution l) rest t (λ k. made_of_resolved P l (hole k) binds tt) made)
 
--- so are those of the known goal
-pub known_heads : (P : Shape) (s : State) (g : Goal) (k : TraitRef) → known_goal s g ≡ goal.Trait k → BindsOnly P (log s) → HasHeadsOf P (asked_goal g) → HasHeadsOf P (trait_goal k)
-known_heads P s g k known binds made =
+-- what is concrete with types in the place of its holes is concrete
+pub concrete_within : (f : Fill) (t : Term) → IsConcrete (apply f t) → IsConcrete t
+concrete_within f (hole k) h = tt
+concrete_within f (leaf x) h = h
+concrete_within f (pair a b) h = (concrete_within f a h.0, concrete_within f b h.1)
+
+-- the goal was concrete before what is known of its holes was put in
+known_concrete : (s : State) (g : Goal) (k : TraitRef) → known_goal s g ≡ goal.Trait k → IsConcrete (trait_goal k).parts → IsConcrete (asked_goal g).parts
+known_concrete s g k known h =
+    let t = (asked_goal g).parts in
+    concrete_within (solution (log s)) t (subst IsConcrete (known_parts s g k known ∙ sym (solution_apply (log s) t)) h)
+
+-- those of a concrete goal that is known
+pub known_heads : (P : Shape) (s : State) (g : Goal) (k : TraitRef) → known_goal s g ≡ goal.Trait k → IsConcrete (trait_goal k).parts → BindsOnly P (log s) → HasHeadsIfConcrete P (asked_goal g) → HasHeadsOf P (trait_goal k)
+known_heads P s g k known concrete binds if_concrete =
+    let made = if_concrete (subst IsTraitKind (known_kind s g k known) tt) (known_concrete s g k known concrete) in
     let args = subst (λ c. HasHeadsOf P (record { kind = c; parts = (asked_goal g).parts })) (sym (known_kind s g k known)) made in
     subst (IsMadeOf P rest) (sym (known_parts s g k known)) (args_resolved P (log s) (asked_goal g).parts binds args)
 

@@ -21,7 +21,7 @@ use Rattle.goal_facts.specs.declared.proof.ProofSource.TheVariants as source
 use Rattle.goal_facts.specs.Goals.{trait_goal, asked_goal}
 use Rattle.goal_facts.specs.Proofs.{filled_goal, IsSource}
 use Rattle.goal_select.specs.declared.select.Selected.{Selected}
-use Rattle.goal_select.specs.Steps.{known_goal, GoalIsOf, self_part_goals, HasHeadsOf, LosesNothing, IsSelected}
+use Rattle.goal_select.specs.Steps.{known_goal, GoalIsOf, self_part_goals, HasHeadsIfConcrete, LosesNothing, IsSelected}
 use Rattle.goal_select.proofs.Known.{known_of, known_filled}
 use Rattle.goal_select.proofs.Heads.{known_heads}
 use Rattle.goal_select.proofs.SourceHeads.{part_heads}
@@ -100,7 +100,7 @@ module _ (raw : RawFacts) (f : System) (n : ℕ) (below : n ≤ raw.limits.goal_
           ));
       general = λ is. loses_nothing;
       holes = subst (Each (GoalIsOf before)) (sym preds) (part_goals_of before.substitution.kinds k (known_of before g k known made_holes of));
-      heads = λ P none x is sources binds heads. (binds, subst (Each (λ q. HasHeadsOf P (asked_goal q))) (sym preds) (part_heads P k (known_heads P before g k known binds heads)));
+      heads = λ P none x is sources binds heads. (binds, subst (Each (λ q. HasHeadsIfConcrete P (asked_goal q))) (sym preds) (part_heads P k (known_heads P before g k known selects.selectable.concrete binds heads)));
       depth = inl (chosen_deep f n (trait_goal k) by_parts selects (λ sized. sized));
     }
 
@@ -120,6 +120,6 @@ module _ (raw : RawFacts) (f : System) (n : ℕ) (below : n ≤ raw.limits.goal_
             ));
         general = λ is table are s filling meets height proof. (s, filling, λ j less. refl, meets, subst (Each (λ q. HasProof f (Says table) height (filled_goal s q))) (sym none) tt);
         holes = subst (Each (GoalIsOf before)) (sym none) tt;
-        heads = λ P alias x is sources binds heads. (binds, subst (Each (λ q. HasHeadsOf P (asked_goal q))) (sym none) tt);
+        heads = λ P alias x is sources binds heads. (binds, subst (Each (λ q. HasHeadsIfConcrete P (asked_goal q))) (sym none) tt);
         depth = inr none;
       }

@@ -20,10 +20,10 @@ use Rattle.goal_facts.specs.Goals.{trait_goal, asked_goal}
 use Rattle.goal_facts.specs.ImplGoals.{fresh, AreGoalsOf}
 use Rattle.goal_facts.specs.Proofs.{filled_goal, args_fill, IsSource}
 use Rattle.goal_select.specs.declared.select.Selected.{Selected}
-use Rattle.goal_select.specs.Steps.{known_goal, goal_type, GoalIsOf, with_type_holes, HasHeadsOf, BringsNoHead, LosesNothing, IsSelected}
+use Rattle.goal_select.specs.Steps.{known_goal, goal_type, GoalIsOf, with_type_holes, HasHeadsOf, HasHeadsIfConcrete, BringsNoHead, LosesNothing, IsSelected}
 use Rattle.goal_select.proofs.Known.{log, known_of, known_stays}
 use Rattle.goal_select.proofs.Heads.{known_heads, heads_united}
-use Rattle.goal_select.proofs.SourceHeads.{fresh_heads}
+use Rattle.goal_select.proofs.SourceHeads.{fresh_heads, fresh_if_concrete}
 use Rattle.goal_select.proofs.PartChoices.{each_mapped, each_from_map}
 use Rattle.goal_select.proofs.Choices.{chosen_deep, goal_reads, unshadowed, right_source}
 use Rattle.goal_select.proofs.Params.{type_holes_grew}
@@ -75,10 +75,10 @@ module _ (raw : RawFacts) (f : System) (n : ℕ) (k : TraitRef) (i : ℕ) (selec
     heads : BringsNoHead f before after g goals.preds.items
     heads Q none x ok sources binds made =
         let first = hole_count before in
-        let has = sources.rules i r at (subst IsTraitKind (sym rule.kind) selects.selectable.trait_) in
-        let preds = each_mapped (HasHeadsOf Q) (asked_at (fresh first)) r.preds (each_map (fresh_heads Q first) r.preds has.1) in (
-          heads_united Q none x ok mid after k h met binds (known_heads Q before g k known binds made) (subst (HasHeadsOf Q) (sym is) (fresh_heads Q first r.head has.0)),
-          each_from_map (HasHeadsOf Q) asked_goal goals.preds.items (subst (Each (HasHeadsOf Q)) (sym are.preds) preds),
+        let has = sources.rules i r at (subst IsTraitKind (sym rule.kind) selects.selectable.trait_) rule.concrete in
+        let preds = each_mapped (HasHeadsIfConcrete Q) (asked_at (fresh first)) r.preds (each_map (fresh_if_concrete Q first) r.preds has.1) in (
+          heads_united Q none x ok mid after k h met binds (known_heads Q before g k known selects.selectable.concrete binds made) (subst (HasHeadsOf Q) (sym is) (fresh_heads Q first r.head has.0)),
+          each_from_map (HasHeadsIfConcrete Q) asked_goal goals.preds.items (subst (Each (HasHeadsIfConcrete Q)) (sym are.preds) preds),
         )
 
     pub rule_selected : (made : Selected) → made.source ≡ source.Impl goals.source goals.args → made.preds.items ≡ goals.preds.items → LosesNothing f n before after g goals.preds.items → IsSelected raw f n before after g made

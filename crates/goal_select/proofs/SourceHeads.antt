@@ -15,7 +15,8 @@ use Rattle.infer_table.specs.Preserved.{Shape, whole, part, rest, IsMadeOf, made
 use Rattle.goal_answers.specs.Goals.{Kind, implements, projects, Asked, asked_at, args_of, key, Each}
 use Rattle.goal_facts.specs.Goals.{trait_goal, asked_goal}
 use Rattle.goal_facts.specs.ImplGoals.{fresh}
-use Rattle.goal_select.specs.Steps.{only_goal, part_types, self_part_goals, HasHeadsOf}
+use Rattle.goal_select.specs.Steps.{only_goal, part_types, self_part_goals, HasHeadsOf, HasHeadsIfConcrete}
+use Rattle.goal_select.proofs.Heads.{concrete_within}
 use Rattle.goal_select.proofs.PartSteps.{first_types, type_is, goals_are}
 
 module _ (P : Shape) where
@@ -38,15 +39,15 @@ module _ (P : Shape) where
   first_made (arg.Ty t ∷ xs) made = step_types (out-Ty t) (subst (IsMadeOf P whole) (type_is t) (subst (IsMadeOf P part) (arg_term_type t) made.0).1)
   first_made (arg.Const c ∷ xs) made = tt
 
-  goals_made : (id : TraitId) (ts : List Ty) → AreTypesOf ts → Each (λ q. HasHeadsOf P (asked_goal q)) (map (only_goal id) ts)
+  goals_made : (id : TraitId) (ts : List Ty) → AreTypesOf ts → Each (λ q. HasHeadsIfConcrete P (asked_goal q)) (map (only_goal id) ts)
   goals_made id [] made = tt
-  goals_made id (t ∷ ts) made = ((subst (IsMadeOf P part) (sym (arg_term_type t)) (tt, made.0), tt), goals_made id ts made.1)
+  goals_made id (t ∷ ts) made = (λ is concrete. (subst (IsMadeOf P part) (sym (arg_term_type t)) (tt, made.0), tt), goals_made id ts made.1)
 
-  pub part_heads : (k : TraitRef) → HasHeadsOf P (trait_goal k) → Each (λ q. HasHeadsOf P (asked_goal q)) (self_part_goals k)
+  pub part_heads : (k : TraitRef) → HasHeadsOf P (trait_goal k) → Each (λ q. HasHeadsIfConcrete P (asked_goal q)) (self_part_goals k)
   part_heads k made =
       let id = (out-TraitRef k).id in
       let first = slice_get (out-TraitRef k).args 0 in
-      subst (Each (λ q. HasHeadsOf P (asked_goal q))) (sym (goals_are id first)) (goals_made id (first_types first) (first_made (out-TraitRef k).args made))
+      subst (Each (λ q. HasHeadsIfConcrete P (asked_goal q))) (sym (goals_are id first)) (goals_made id (first_types first) (first_made (out-TraitRef k).args made))
 
   -- ---- at fresh holes
 
@@ -68,3 +69,6 @@ module _ (P : Shape) where
 
   pub fresh_heads : (first : ℕ) (q : Asked) → HasHeadsOf P q → HasHeadsOf P (asked_at (fresh first) q)
   fresh_heads first q made = key_made first q.kind q.parts made
+
+  pub fresh_if_concrete : (first : ℕ) (q : Asked) → HasHeadsIfConcrete P q → HasHeadsIfConcrete P (asked_at (fresh first) q)
+  fresh_if_concrete first q made = λ is concrete. fresh_heads first q (made is (concrete_within (fresh first) q.parts concrete))

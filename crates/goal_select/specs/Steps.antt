@@ -26,7 +26,7 @@ use Rattle.goal_answers.specs.Reading.{Fill, IsRead, IsFilling, ReadsAs}
 use Rattle.goal_answers.specs.Goals.{Asked, Rule, System, Each, key}
 use Rattle.goal_answers.specs.Answers.{answers}
 use Rattle.goal_answers.specs.Proofs.{Says, HasProof}
-use Rattle.goal_answers.specs.Selecting.{Choice, by_clause, by_rule, by_parts, by_size, IsTraitKind, IsDeep, Selects}
+use Rattle.goal_answers.specs.Selecting.{Choice, by_clause, by_rule, by_parts, by_size, IsConcrete, IsTraitKind, IsDeep, Selects}
 use Rattle.goal_facts.specs.declared.proof.ProofSource.{ProofSource}
 use Rattle.goal_facts.specs.declared.proof.ProofSource.TheVariants as source
 use Rattle.goal_facts.specs.Goals.{trait_goal, asked_goal}
@@ -81,19 +81,24 @@ self_part_goals r = goals_of_first (out-TraitRef r).id (slice_get (out-TraitRef 
 abbrev pub HasHeadsOf : Shape → Asked → Type 0
 HasHeadsOf P g = IsMadeOf P rest (key g.kind g.parts)
 
-abbrev pub RuleHasHeadsOf : Shape → Rule → Type 0
-RuleHasHeadsOf P r = HasHeadsOf P r.head × Each (HasHeadsOf P) r.preds
+-- so it is where it is about a trait, and concrete; of others none is selected
+abbrev pub HasHeadsIfConcrete : Shape → Asked → Type 0
+HasHeadsIfConcrete P g = IsTraitKind g.kind → IsConcrete g.parts → HasHeadsOf P g
 
--- and in each source of goals about traits
+-- a rule whose head is so has these heads, and so has what it asks for, if it is so too
+abbrev pub RuleHasHeadsOf : Shape → Rule → Type 0
+RuleHasHeadsOf P r = IsTraitKind r.head.kind → IsConcrete r.head.parts → HasHeadsOf P r.head × Each (HasHeadsIfConcrete P) r.preds
+
+-- each source has
 pub record SystemHasHeadsOf (P : Shape) (f : System) : Type 0 where
-  pub clauses : (i : ℕ) (r : Rule) → slice_get f.clauses i ≡ Some r → IsTraitKind r.head.kind → RuleHasHeadsOf P r
-  pub rules : (i : ℕ) (r : Rule) → slice_get f.rules i ≡ Some r → IsTraitKind r.head.kind → RuleHasHeadsOf P r
+  pub clauses : (i : ℕ) (r : Rule) → slice_get f.clauses i ≡ Some r → RuleHasHeadsOf P r
+  pub rules : (i : ℕ) (r : Rule) → slice_get f.rules i ≡ Some r → RuleHasHeadsOf P r
 
 -- no head comes into the table, nor into what is asked for, but those of the table, the goal and the sources
 abbrev pub BringsNoHead : System → State → State → Goal → List Goal → Type 0
 BringsNoHead f before after g qs =
-    (P : Shape) → NoAlias P → (h : Head) → IsTrue (P h 0) → SystemHasHeadsOf P f → BindsOnly P (log_of (bindings before)) → HasHeadsOf P (asked_goal g) →
-    BindsOnly P (log_of (bindings after)) × Each (λ q. HasHeadsOf P (asked_goal q)) qs
+    (P : Shape) → NoAlias P → (h : Head) → IsTrue (P h 0) → SystemHasHeadsOf P f → BindsOnly P (log_of (bindings before)) → HasHeadsIfConcrete P (asked_goal g) →
+    BindsOnly P (log_of (bindings after)) × Each (λ q. HasHeadsIfConcrete P (asked_goal q)) qs
 
 -- ---- a step
 

@@ -5,5 +5,4 @@ pub mod Namers
 pub mod InBody
 pub mod Lowered
 pub mod Projections
-pub mod Owed
 pub mod GoalIds

@@ -13,7 +13,7 @@ use Rattle.hir_raw.specs.declared.raw.RawBody.{RawBody}
 use Rattle.hir_raw.specs.declared.raw.RawFacts.{RawFacts}
 use Rattle.hir_raw.specs.Order.{stmts_of}
 use Rattle.hir_raw.specs.WrittenTypes.{type_parts}
-use Rattle.hir_ids.specs.Carried.{is_carried_written_type, is_carried_variant, is_carried_fn}
+use Rattle.hir_ids.specs.Carried.{is_carried_written_type, is_carried_variant, is_carried_fn, is_carried_body}
 
 abbrev pub is_projection : Option RawType → Bool
 is_projection (Some (type.Projection a ts)) = true
@@ -55,3 +55,8 @@ pub record ExprNamesNone (raw : RawFacts) (x : RawExpr) : Type 0 where
 
 abbrev pub BodyNamesNone : RawFacts → RawBody → Type 0
 BodyNamesNone raw b = (e : ℕ) (x : RawExpr) → slice_get b.exprs e ≡ Some x → ExprNamesNone raw x
+
+-- its nodes and bindings are of carried kinds, and no type in it is a projection
+pub record BodyIsCarried (raw : RawFacts) (b : RawBody) : Type 0 where
+  pub kinds : IsTrue (is_carried_body b)
+  pub types : BodyNamesNone raw b

@@ -3,11 +3,9 @@ ghost use Rattle.std.specs.Prelude.{◌≡◌, IsTrue, MatchOption};
 ghost use Rattle.std.specs.List.{list_all};
 ghost use Rattle.hir_ids.specs.Entries.{AllHold, BreaksAt};
 ghost use Rattle.hir_ids.specs.Carried.{is_carried_written_type, is_type_param, is_carried_kind, is_carried_adt, is_carried_ctor, is_carried_variant, is_carried_fn, is_carried_literal, is_carried_path, is_ctor_path, is_carried_stmt, is_carried_expr, is_carried_pat, is_carried_binding, is_carried_body};
-ghost use Rattle.hir_ids.specs.Owed.{BodyIsCarried};
-ghost use Rattle.hir_ids.specs.Projections.{TypeIsCarried, VariantIsCarried, FnIsCarried};
+ghost use Rattle.hir_ids.specs.Projections.{TypeIsCarried, VariantIsCarried, FnIsCarried, BodyIsCarried};
 
 use crate::carried_goals::carries_goals;
-use crate::owed::body_owes_carried;
 use crate::projections::{
     body_names_none, fields_name_none, held_types, is_no_projection, name_no_projection,
 };
@@ -300,9 +298,8 @@ impl Test for FnsCarried {
     }
 }
 
-/// The nodes and bindings of a body are of carried kinds, it has no `self`, names no item with
-/// predicates, unless in an expression where there are no associated types, and no `let` is written with a
-/// projection.
+/// The nodes and bindings of a body are of carried kinds, it has no `self`, and no `let` is written with
+/// a projection.
 pub struct BodiesCarried;
 
 impl Test for BodiesCarried {
@@ -321,6 +318,6 @@ impl Test for BodiesCarried {
         _at: usize,
         item: &RawBody,
     ) -> Result<bool, AllocError> {
-        Ok(carries_body(item) && body_owes_carried(raw, item) && body_names_none(raw, item))
+        Ok(carries_body(item) && body_names_none(raw, item))
     }
 }

@@ -9,7 +9,6 @@ mod carried_goals;
 mod goal_ids;
 mod ids;
 mod namers;
-mod owed;
 mod projections;
 mod test;
 

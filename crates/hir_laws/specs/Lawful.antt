@@ -7,8 +7,7 @@ use Rattle.hir_laws.specs.declared.laws.FactsList.{FactsList}
 use Rattle.hir_laws.specs.declared.laws.FactsList.TheVariants as list
 use Rattle.hir_ids.specs.Entries.{AllHold, BreaksAt}
 use Rattle.hir_ids.specs.Carried.{is_carried_adt, is_carried_trait, is_carried_alias, is_carried_impl, is_carried_lang}
-use Rattle.hir_ids.specs.Owed.{BodyIsCarried}
-use Rattle.hir_ids.specs.Projections.{TypeIsCarried, VariantIsCarried, FnIsCarried}
+use Rattle.hir_ids.specs.Projections.{TypeIsCarried, VariantIsCarried, FnIsCarried, BodyIsCarried}
 use Rattle.hir_ids.specs.GoalIds.{TraitIdsExist, AliasIdsExist, ImplIdsExist, LangExists}
 use Rattle.hir_ids.specs.Ids.{TypeIdsExist, ParentBefore, AdtIdsExist, VariantIdsExist, FnIdsExist, BodyIdsExist}
 use Rattle.hir_counts.specs.Counts.{AdtFits, VariantFits, FnFits, TraitFits, AliasFits, ImplFits}

@@ -3,8 +3,7 @@ use Rattle.std.specs.Prelude.{IsTrue}
 use Rattle.hir_raw.specs.declared.raw.RawFacts.{RawFacts}
 use Rattle.hir_ids.specs.Entries.{AllHold}
 use Rattle.hir_ids.specs.Carried.{is_carried_written_type, is_carried_variant, is_carried_body}
-use Rattle.hir_ids.specs.Owed.{BodyIsCarried}
-use Rattle.hir_ids.specs.Projections.{TypeIsCarried, VariantIsCarried, FnIsCarried}
+use Rattle.hir_ids.specs.Projections.{TypeIsCarried, VariantIsCarried, FnIsCarried, BodyIsCarried}
 use Rattle.hir_ids.specs.Ids.{ChildrenBefore, TypeIdsExist, AdtIdsExist, VariantIdsExist, FnIdsExist, BodyIdsExist}
 use Rattle.hir_counts.specs.Counts.{CountsFit, VariantFits, FnFits}
 use Rattle.hir_laws.specs.Trees.{IsWellFormed}

@@ -8,7 +8,7 @@ use Rattle.hir_types.specs.declared.ty.AliasBound.{AliasBound}
 use Rattle.hir_types.specs.declared.ty.TraitRef.{TraitRef}
 use Rattle.hir_types.specs.declared.ids.ExprId.{ExprId}
 use Rattle.hir_types.specs.Subst.{Assignment, folded}
-use Rattle.hir_types.specs.Terms.{term, terms_of}
+use Rattle.hir_types.specs.Terms.{terms_of}
 use Rattle.hir_types.specs.declared.head.Head.TheVariants as head
 use Rattle.hir_types.specs.declared.ty.Ty.TheVariants as ty
 use Rattle.hir_types.specs.declared.ids.CallableDefId.TheVariants as callable
@@ -19,17 +19,17 @@ use Rattle.hir_raw.specs.declared.raw.RawExpr.{RawExpr}
 use Rattle.hir_raw.specs.declared.schedule.Schedule.{Schedule}
 use Rattle.hir_raw.specs.declared.raw.RawPath.TheVariants as path
 use Rattle.hir_raw.specs.declared.raw.RawExpr.TheVariants as expr
-use Rattle.infer_table.specs.Table.{bindings, resolved_type, resolved_term}
+use Rattle.infer_table.specs.Table.{bindings, resolved_type}
 use Rattle.infer_table.specs.Bindings.{AllOf}
-use Rattle.infer_table.specs.Preserved.{made_of_resolved_term, apply_resolved_term}
-use Rattle.infer_table.specs.Resolution.{resolution, resolution_term}
+use Rattle.infer_table.specs.Preserved.{apply_resolved_term}
+use Rattle.infer_table.specs.Resolution.{resolution}
 use Rattle.infer_result.specs.Heads.{other, outermost_step, HeadOf, of_function, of_ctor, Outermost, HasHead}
 use Rattle.infer_result.specs.Kinds.Call.{callable_step, is_callable, IsPathToItem, CallsNonGeneric}
 use Rattle.infer_result.specs.Places.{Given}
 use Rattle.infer_result.specs.Table.{HasTy}
 use Rattle.infer_result.proofs.Derived.{ctor_type_of_tuple}
 use Rattle.infer_coerce.proofs.Resolved.{resolved_fine}
-use Rattle.infer_ctx.specs.Fine.{item_params, HasFineHeads, is_fine_head, IsFine, IsCarriedIn, AllFine}
+use Rattle.infer_ctx.specs.Fine.{item_params, HasFineHeads, IsFine, IsCarriedIn, AllFine}
 use Rattle.infer_ctx.specs.Callables.{ItemsAreCallable, IsCallableItem}
 use Rattle.infer_ctx.specs.declared.context.InferenceContext.{InferenceContext}
 use Rattle.infer_ctx.specs.Closings.{Closes, found_under}

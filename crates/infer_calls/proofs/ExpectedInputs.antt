@@ -1,5 +1,5 @@
 -- What is expected of the arguments of a call: tried, undone, and made equal with what the call takes.
-use Rattle.std.proofs.Common.{ℕ, ◌≡◌, sym, ap, subst, ◌∙◌, List, [], map, slice_get, Option, Some, None, Result, Ok, Err}
+use Rattle.std.proofs.Common.{ℕ, ◌≡◌, sym, ap, subst, ◌∙◌, List, map, slice_get, Option, Some, None, Result, Ok, Err}
 use Rattle.hir_types.specs.declared.ty.Ty.{Ty}
 use Rattle.hir_types.specs.Terms.{term}
 use Rattle.std.specs.Prelude.{IfOk}

@@ -1,5 +1,5 @@
 //! The types of calls.
-ghost use Rattle.std.specs.Prelude.{◌≡◌, IfOk, length};
+ghost use Rattle.std.specs.Prelude.{◌≡◌, [], IfOk, length};
 ghost use Rattle.infer_result.specs.Closed.{IsOfBody};
 ghost use Rattle.infer_ctx.specs.Closings.{IsSound};
 ghost use Rattle.infer_ctx.specs.Context.{given_of, scope_in, schedule_of, expected_type};
@@ -123,10 +123,32 @@ fn infer_uncallable<F: Fn(&mut InferenceContext, ExprId, Expectation) -> Result<
         ty: seen_ty,
         other: None,
     })?;
-    infer_arguments(infer, alloc, context, given, call_expr, args, &[])?;
-    select_obligations_where_possible(context, given)?;
+    infer_uncallable_arguments(infer, alloc, context, given, call_expr, args)?;
     let ty = context.goals.table.next_ty_var()?;
     Ok(ty)
+}
+
+/// Types the arguments of a call of which nothing is expected. Then goals are selected, which may have become known.
+fn infer_uncallable_arguments<
+    F: Fn(&mut InferenceContext, ExprId, Expectation) -> Result<Ty, AllocError>,
+>(
+    infer: &F,
+    alloc: Global,
+    context: &mut InferenceContext,
+    given: &GivenBody,
+    call_expr: ExprId,
+    args: &[ExprId],
+) -> Result<(), AllocError>
+    requires infers { InfersFrom (given_of given.now) (schedule_of given.now) context.old.clock (F.pre infer.now) (F.post infer.now) }
+    requires before { BeforeLoose (given_of given.now) (schedule_of given.now)
+        call_expr args.now [] context.old }
+    ensures done { IfOk result (λ _. LooseDone (given_of given.now) (schedule_of given.now)
+        call_expr args.now [] context.old context.new) }
+    ensures selected { IfOk result (λ _. EndsInSelection (given_of given.now) context.new) }
+{
+    infer_arguments(infer, alloc, context, given, call_expr, args, &[])?;
+    select_obligations_where_possible(context, given)?;
+    Ok(())
 }
 
 /// Types the arguments of a call, which are to be at these types, of which what is expected of the

@@ -1,11 +1,12 @@
 -- What is asked stays so while holes are made and bound, and other things than types of expressions are recorded.
-use Rattle.std.proofs.Common.{◌≡◌, ◌⊎◌, ◌∙◌, sym, ap, subst, List, [], Option, slice_get}
+use Rattle.std.proofs.Common.{◌≡◌, ◌∙◌, sym, ap, subst, List, Option, slice_get}
 use Rattle.hir_types.specs.declared.ty.Ty.{Ty}
 use Rattle.infer_table.proofs.UndoLaws.{grew_itself}
 use Rattle.infer_table.specs.Table.{Grew}
 use Rattle.goal_facts.specs.Goals.{ItemSources}
 use Rattle.infer_goals.specs.declared.obligations.Obligations.{Obligations}
 use Rattle.infer_goals.specs.declared.table.GoalTable.{GoalTable}
+use Rattle.infer_goals.specs.Obligations.{AreCounted}
 use Rattle.infer_goals.specs.Stays.{StaysButHoles, kept_still, all_still, stays_itself}
 use Rattle.infer_result.specs.declared.result.InferenceResult.{InferenceResult}
 use Rattle.infer_result.specs.Needs.{needs_of}
@@ -29,7 +30,7 @@ module _ (g : Given) (c d : InferenceContext) (exprs : d.result.type_of_expr ≡
     kept = kept_still c.goals d.goals h.kept stays grew;
     all = all_still c.goals d.goals h.all stays grew;
     heads = subst (λ (o : Obligations). TreeHasHeadsOf (is_fine_head g.scope) o.tree) (sym stays.obligations) h.heads;
-    owed = subst (λ (o : Obligations). (o.tree.obligations.items ≡ []) ⊎ (g.scope.facts.aliases ≡ [])) (sym stays.obligations) h.owed;
+    counted = subst (λ (o : Obligations). AreCounted o) (sym stays.obligations) h.counted;
     asked = asked_still h.asked;
   }
 

@@ -1,5 +1,5 @@
 -- From what holds of the context to what holds under each assignment that closes it, and back.
-use Rattle.std.proofs.Common.{arith, ◌≡◌, ◌∙◌, refl, Option, Some, None}
+use Rattle.std.proofs.Common.{arith, ◌∙◌, refl, Option, Some, None}
 use Rattle.hir_types.specs.Subst.{Assignment}
 use Rattle.hir_types.specs.declared.ty.Ty.{Ty}
 use Rattle.hir_types.specs.declared.ids.ExprId.{ExprId}

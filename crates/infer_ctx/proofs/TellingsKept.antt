@@ -24,8 +24,6 @@ use Rattle.hir_counts.specs.Standing.{HasNoHole}
 use Rattle.hir_raw.specs.WrittenTypes.{written_type}
 use Rattle.hir_raw.specs.declared.raw.RawLiteral.{RawLiteral}
 use Rattle.hir_raw.specs.Signatures.{Signature}
-use Rattle.hir_raw.specs.declared.raw.RawFacts.{RawFacts}
-use Rattle.hir_laws.specs.Lawful.{IsLawful}
 use Rattle.hir_raw.specs.declared.raw.RawLiteral.TheVariants as literal
 use Rattle.infer_result.specs.Heads.{Outermost, tuple, outermost_step, HasHead}
 use Rattle.infer_result.specs.Kinds.Literal.{IsOwnType}

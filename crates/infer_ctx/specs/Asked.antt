@@ -1,5 +1,5 @@
 -- What the walk keeps of the goals that nodes need: each is asked where its node has its type, once, and no other.
-use Rattle.std.specs.Prelude.{◌≡◌, ◌==◌, ◌⊎◌, ℕ, true, List, [], ◌∷◌, flat_map, slice_get, Option, Some, None, if◌then◌else◌}
+use Rattle.std.specs.Prelude.{◌≡◌, ◌==◌, ℕ, true, List, [], ◌∷◌, flat_map, slice_get, Option, Some, None, if◌then◌else◌}
 use Rattle.hir_types.specs.declared.ids.ExprOrPatId.{ExprOrPatId}
 use Rattle.hir_types.specs.declared.ids.ExprOrPatId.TheVariants as node
 use Rattle.hir_raw.specs.declared.raw.RawBody.{RawBody}
@@ -10,10 +10,10 @@ use Rattle.goal_answers.specs.Goals.{Asked}
 use Rattle.goal_search.specs.Sources.{system}
 use Rattle.goal_facts.specs.Goals.{asked_goal, ItemSources}
 use Rattle.goal_facts.specs.Systems.{IsSystemOf}
-use Rattle.goal_select.specs.Steps.{HasHeadsOf, SystemHasHeadsOf}
+use Rattle.goal_select.specs.Steps.{HasHeadsIfConcrete, SystemHasHeadsOf}
 use Rattle.goal_tree.specs.declared.obligation.Obligation.{Obligation}
 use Rattle.goal_tree.specs.declared.tree.GoalTree.{GoalTree}
-use Rattle.infer_goals.specs.Obligations.{AreKept, HasAllOpen}
+use Rattle.infer_goals.specs.Obligations.{AreKept, HasAllOpen, AreCounted}
 use Rattle.infer_result.specs.Needs.{needs_at}
 use Rattle.infer_result.specs.Places.{Given}
 use Rattle.infer_ctx.specs.declared.context.InferenceContext.{InferenceContext}
@@ -41,26 +41,26 @@ AllAreAsked raw b c = (n : ℕ) → asked_at c.goals.obligations.tree n ≡ need
 
 -- ---- types of goals
 
--- in the goals of all obligations these heads stand alone
+-- in the goals of all obligations that may be selected these heads stand alone
 abbrev pub TreeHasHeadsOf : Shape → GoalTree → Type 0
-TreeHasHeadsOf P t = (i : ℕ) (x : Obligation) → slice_get t.obligations.items i ≡ Some x → HasHeadsOf P (asked_goal x.goal)
+TreeHasHeadsOf P t = (i : ℕ) (x : Obligation) → slice_get t.obligations.items i ≡ Some x → HasHeadsIfConcrete P (asked_goal x.goal)
 
--- they are of these facts, and where no trait has an associated type what goals are answered by has types in scope alone
+-- they are of these facts, and what goals are selected by has types in scope alone
 pub record AreSourcesIn (sc : Scope) (x : ItemSources) : Type 0 where
   pub facts : x.facts ≡ sc.facts
-  pub heads : sc.facts.aliases ≡ [] → IsSystemOf x.facts x.item (system x.sources) → SystemHasHeadsOf (is_fine_head sc) (system x.sources)
+  pub heads : IsSystemOf x.facts x.item (system x.sources) → SystemHasHeadsOf (is_fine_head sc) (system x.sources)
 
 -- ---- at any time of the walk
 
--- Goals are kept, all that is open is looked at again, goals have types in scope alone, none was registered where some trait has an
--- associated type, and all that nodes need is asked.
+-- Goals are kept, all that is open is looked at again, goals that may be selected have types in scope alone, and all that nodes need
+-- is asked.
 pub record AreGoalsOf (g : Given) (c : InferenceContext) : Type 0 where
   pub sources : AreSourcesIn g.scope c.goals.sources
   pub bounded : c.goals.bounded ≡ true
   pub kept : AreKept c.goals.sources.facts (system c.goals.sources.sources) c.goals.table c.goals.obligations
   pub all : HasAllOpen (system c.goals.sources.sources) c.goals.table c.goals.obligations
   pub heads : TreeHasHeadsOf (is_fine_head g.scope) c.goals.obligations.tree
-  pub owed : (c.goals.obligations.tree.obligations.items ≡ []) ⊎ (g.scope.facts.aliases ≡ [])
+  pub counted : AreCounted c.goals.obligations
   pub asked : AllAreAsked g.scope.facts g.body c
 
 -- types of bindings tell what their patterns say, and goals are asked

@@ -1,5 +1,5 @@
 -- What the walk reads, what it expects, and what a write does.
-use Rattle.std.specs.Prelude.{Option, Some, None, ℕ, slice_get, ◌≡◌, ◌⊎◌, List, [], length, replicate, ◌+◌, ◌++◌, ◌∷◌}
+use Rattle.std.specs.Prelude.{Option, Some, None, ℕ, slice_get, ◌≡◌, ◌⊎◌, [], length, replicate, ◌+◌, ◌++◌, ◌∷◌}
 use Rattle.hir_types.specs.declared.ty.Ty.{Ty, Ty-F, out-Ty}
 use Rattle.hir_types.specs.declared.ty.AliasBound.{AliasBound}
 use Rattle.hir_types.specs.declared.ty.GenericArg.{GenericArg}
@@ -11,7 +11,6 @@ use Rattle.hir_types.specs.declared.ids.ExprOrPatId.TheVariants as node
 use Rattle.hir_raw.specs.Scope.{scope_of, Scope}
 use Rattle.hir_raw.specs.declared.schedule.Schedule.{Schedule}
 use Rattle.hir_facts.specs.CarriedTypes.{IsCarriedType}
-use Rattle.hir_raw.specs.declared.raw.RawType.{RawType}
 use Rattle.hir_raw.specs.declared.raw.RawBody.{RawBody}
 use Rattle.infer_table.specs.Table.{State, with_waiting, resolved_type}
 use Rattle.infer_goals.specs.declared.table.GoalTable.{GoalTable}

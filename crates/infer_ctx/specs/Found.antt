@@ -1,12 +1,11 @@
 -- What inference has found out of a body, holes closed.
-use Rattle.std.specs.Prelude.{ℕ, ◌≡◌, map, List, [], ◌+◌, ◌++◌, ◌∷◌}
+use Rattle.std.specs.Prelude.{ℕ, ◌≡◌, map, [], ◌+◌, ◌++◌, ◌∷◌}
 use Rattle.hir_types.specs.Subst.{Assignment}
 use Rattle.hir_types.specs.declared.ids.ExprId.{ExprId}
 use Rattle.hir_types.specs.declared.ty.Ty.{Ty}
 use Rattle.hir_types.specs.declared.ids.PatId.{PatId}
 use Rattle.hir_types.specs.declared.ids.BindingId.{BindingId}
 use Rattle.hir_raw.specs.declared.raw.RawBody.{RawBody}
-use Rattle.hir_raw.specs.declared.raw.RawType.{RawType}
 use Rattle.infer_result.specs.declared.result.InferenceResult.{InferenceResult}
 use Rattle.infer_result.specs.declared.result.TypeMismatch.{TypeMismatch}
 use Rattle.infer_result.specs.declared.diagnostics.InferenceDiagnostic.{InferenceDiagnostic}

@@ -1,5 +1,5 @@
 -- What each function of the walk is given, and what it does, under one assignment of types to holes.
-use Rattle.std.specs.Prelude.{ℕ, ◌≡◌, slice_get, Some, ◌⊎◌, Option, ◌<◌, ◌^◌, List, [], length, None, ◌+◌}
+use Rattle.std.specs.Prelude.{ℕ, ◌≡◌, slice_get, Some, ◌⊎◌, Option, ◌<◌, ◌^◌, List, length, None, ◌+◌}
 use Rattle.hir_types.specs.declared.ids.CallableDefId.{CallableDefId}
 use Rattle.hir_types.specs.declared.ty.Ty.{Ty}
 use Rattle.hir_types.specs.declared.ids.VariantId.{VariantId}
@@ -19,14 +19,12 @@ use Rattle.hir_laws.specs.Bodies.{IsWalkable}
 use Rattle.hir_raw.specs.declared.raw.RawBody.{RawBody}
 use Rattle.hir_facts.specs.CarriedTypes.{IsCarriedType}
 use Rattle.hir_raw.specs.declared.raw.RawCtor.TheVariants as ctor
-use Rattle.hir_raw.specs.declared.raw.RawExpr.{RawExpr}
 use Rattle.hir_raw.specs.declared.raw.RawExpr.TheVariants as expr
 use Rattle.hir_raw.specs.declared.raw.RawPath.TheVariants as path
 use Rattle.hir_raw.specs.declared.raw.RawStmt.TheVariants as stmt
 use Rattle.infer_result.specs.Closed.{NamesVariant, IsVariantPat}
 use Rattle.infer_result.specs.Places.{Given, IsAtOrMismatch}
 use Rattle.infer_result.specs.Table.{HasTy}
-use Rattle.infer_result.specs.Needs.{expr_preds}
 use Rattle.infer_result.specs.declared.result.InferenceResult.{InferenceResult}
 use Rattle.infer_result.specs.Rules.{ObeysOrMismatch}
 use Rattle.infer_ctx.specs.Fine.{IsCarriedIn, IsWritten}
@@ -56,7 +54,7 @@ pub record IsVariant (facts : RawFacts) (v : VariantId) : Type 0 where
   pub unnamed : (variant.ctor ≡ ctor.Unit) ⊎ (variant.ctor ≡ ctor.Tuple)
 
 -- each type that a `let` of the body or a parameter is written with is one of the facts', each function and constructor that is
--- named exists, and so does each item that has a signature; an expression needs nothing, or no trait has an associated type
+-- named exists, and so does each item that has a signature
 pub record WrittenExist (g : Given) : Type 0 where
   pub lets : (e : ExprId) (i : ℕ) (p : PatId) (w : TypeRefId) (init other : Option ExprId) → stmt_at g.body e i ≡ Some (stmt.Let p (Some w) init other) → FitsUnder g.scope.facts g.scope.params w.0
   pub inputs : (i : ℕ) (w : TypeRefId) → slice_get g.inputs i ≡ Some w → IsWritten g.scope w
@@ -64,7 +62,6 @@ pub record WrittenExist (g : Given) : Type 0 where
   pub constructors : (e : ExprId) (v : VariantId) → NamesVariant g.body e v → IsVariant g.scope.facts v
   pub patterns : (p : PatId) (v : VariantId) → IsVariantPat g.body p v → IsVariant g.scope.facts v
   pub items : (id : CallableDefId) (σ : Signature) → signature_of g.scope.facts id ≡ Some σ → IsItem g.scope.facts id
-  pub owed : (e : ExprId) (x : RawExpr) → slice_get g.body.exprs e.0 ≡ Some x → (expr_preds g.scope.facts x ≡ []) ⊎ (g.scope.facts.aliases ≡ [])
 
 -- the laws of the body, and room for the clock
 pub record IsReady (g : Given) (s : Schedule) : Type 0 where

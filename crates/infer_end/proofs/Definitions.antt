@@ -32,7 +32,6 @@ use Rattle.infer_ctx.specs.Under.{WrittenExist}
 use Rattle.infer_ctx.proofs.Lists.{found}
 use Rattle.infer_ctx.proofs.Items.{named_function, named_variant, item_with}
 use Rattle.infer_ctx.proofs.Written.{is_written}
-use Rattle.infer_end.proofs.Owed.{expr_owed}
 
 pub found_body : (raw : RawFacts) (d : DefWithBodyId) (i : BodyId) (b : RawBody) → body_id_of raw d ≡ Some i → slice_get raw.bodies i.0 ≡ Some b → body_of raw d ≡ Some b
 found_body raw d i b id at = ap (λ o. option_and_then (λ k. slice_get raw.bodies k.0) o) id ∙ at
@@ -54,7 +53,6 @@ module _ (raw : RawFacts) (d : DefWithBodyId) (i : BodyId) (b : RawBody) (inputs
     constructors = λ e v is. (let x = variant_there raw v ((body_ids raw law i.0 b at).constructors e v is) in named_variant raw law v x.0 x.1);
     patterns = λ p v is. (let x = variant_there raw v (pattern_variant raw i.0 b (body_ids raw law i.0 b at) p v is) in named_variant raw law v x.0 x.1);
     items = item_with raw law;
-    owed = λ e x is. expr_owed raw law b i.0 at e.0 x is;
   }
 
   pub inputs_for_params : length inputs ≡ length b.params

@@ -1,4 +1,3 @@
-pub mod Owed
 pub mod Definitions
 pub mod Fits
 pub mod GeneralTables

@@ -31,7 +31,7 @@ use Rattle.infer_ctx.proofs.Lists.{found}
 use Rattle.infer_ctx.proofs.UnderClosings.{decided_later, closes_earlier}
 use Rattle.infer_obligations.specs.Selection.{AreSelected, IsSelection}
 use Rattle.infer_obligations.proofs.Selecting.{StaysApart, selected_apart, selected_heads}
-use Rattle.infer_obligations.proofs.Walking.{owed_heads, sound_later}
+use Rattle.infer_obligations.proofs.Walking.{sound_later}
 use Rattle.infer_end.proofs.Definitions.{found_body}
 
 module _ (g : Given) (c : InferenceContext) (done : BodyDone g c) (told : IsTold g c) (goals : GoalTable) (of_item : IsSystemOf c.goals.sources.facts c.goals.sources.item (system c.goals.sources.sources))
@@ -42,8 +42,8 @@ module _ (g : Given) (c : InferenceContext) (done : BodyDone g c) (told : IsTold
 
   bound : BindsOnly (is_fine_head g.scope) (log_of (bindings goals.table))
   bound =
-      selected_heads c.goals.sources.facts (system c.goals.sources.sources) (is_fine_head g.scope) (fine_no_alias g.scope) refl c.goals.table c.goals.obligations goals.table goals.obligations selected
-      (owed_heads g c told.goals of_item) (record { binds = done.sound.bound; goals = told.goals.heads })
+      selected_heads c.goals.sources.facts (system c.goals.sources.sources) (is_fine_head g.scope) (fine_no_alias g.scope) refl (told.goals.sources.heads of_item) c.goals.table c.goals.obligations goals.table goals.obligations selected
+      (record { binds = done.sound.bound; goals = told.goals.heads })
 
   -- what closes it now closed it before, and the table under that is as it was
   pub selected_done : BodyDone g (with_goal_table c goals)
@@ -66,6 +66,7 @@ module _ (raw : RawFacts) (d : DefWithBodyId) (b : RawBody) (c : InferenceContex
         of_item = subst (λ (i : GenericDefId). IsSystemOf raw i f) item (subst (λ (z : RawFacts). IsSystemOf z c.goals.sources.item f) facts of_item);
         asked = told.goals.asked;
         kept = subst (λ (z : RawFacts). AreKept z f c.goals.table c.goals.obligations) facts told.goals.kept;
+        counted = told.goals.counted;
         selected = subst (λ (z : RawFacts). AreSelected z f c.goals.table c.goals.obligations goals.table goals.obligations) facts selected;
       }
 

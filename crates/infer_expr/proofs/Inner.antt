@@ -9,7 +9,7 @@ use Rattle.hir_raw.specs.declared.schedule.Schedule.{Schedule}
 use Rattle.hir_laws.specs.Lawful.{IsLawful}
 use Rattle.goal_answers.specs.Goals.{Each}
 use Rattle.goal_search.specs.Sources.{system}
-use Rattle.goal_select.specs.Steps.{HasHeadsOf}
+use Rattle.goal_select.specs.Steps.{HasHeadsIfConcrete}
 use Rattle.infer_goals.specs.declared.table.GoalTable.{GoalTable}
 use Rattle.infer_goals.specs.Obligations.{AreKept, HasAllOpen}
 use Rattle.infer_result.specs.Needs.{needed_goals}
@@ -62,12 +62,12 @@ module _ (g : Given) (s : Schedule) (law : IsLawful g.scope.facts) (e : ExprId) 
       free_open (folded a) mid.result.type_of_expr e.0 ((k.each a closes).walks.kept e h.within (omega (arith, h.here)) ∙ before)
 
   module _ (y : RawExpr) (is : slice_get g.body.exprs e.0 ≡ Some y) where
-    needs_fine : g.scope.facts.aliases ≡ [] → Each (HasHeadsOf (is_fine_head g.scope)) (needed_goals g.scope.facts y t)
-    needs_fine none =
+    needs_fine : Each (HasHeadsIfConcrete (is_fine_head g.scope)) (needed_goals g.scope.facts y t)
+    needs_fine =
         let r = (found.with_expr_ty (found_under a mid) e (folded a t)).result in
         let obeys = walked.walks.made e h.within (omega (arith, h.here)) (omega (arith, h.here, k.follows.clock)) in
         let rule : Rule (at_or_mismatch g r) g r e (Some y) = subst (λ o. Rule (at_or_mismatch g r) g r e o) is obeys in
-        needs_in_scope g law none e t k.fine.heads k.tells a r walked.type_is y is rule (λ v named. h.ready.written.constructors e v (is ∙ ap (λ z. Some z) named))
+        needs_in_scope g law e t k.fine.heads k.tells a r walked.type_is y is rule (λ v named. h.ready.written.constructors e v (is ∙ ap (λ z. Some z) named))
 
     pub own_registered : (goals : GoalTable) → goals.table ≡ mid.goals.table → goals.sources ≡ mid.goals.sources → goals.bounded ≡ mid.goals.bounded
         → AreKept goals.sources.facts (system goals.sources.sources) goals.table goals.obligations → HasAllOpen (system goals.sources.sources) goals.table goals.obligations
@@ -75,7 +75,7 @@ module _ (g : Given) (s : Schedule) (law : IsLawful g.scope.facts) (e : ExprId) 
         → OwnDone g s e x t old (context.with_goal_table (context.with_expr_ty mid e t) goals)
     own_registered goals table sources bounded kept all registers =
         own_done g s e x t old mid goals h k table sources
-        (told_registered g e y t mid goals is free (h.ready.written.owed e y is) needs_fine registers sources bounded kept all)
+        (told_registered g e y t mid goals is free needs_fine registers sources bounded kept all)
 
   -- the expression is there
   pub own_expr : (y : RawExpr) × (slice_get g.body.exprs e.0 ≡ Some y)

@@ -1,6 +1,6 @@
 -- Goals before a body is walked: there are none.
 use Rattle.std.specs.Prelude.{replicate}
-use Rattle.std.proofs.Common.{◌≡◌, ◌∙◌, ℕ, zero, suc, List, [], ◌∷◌, inl, refl, sym, ap, subst, length, slice_get, Option, Some, None, flat_map}
+use Rattle.std.proofs.Common.{◌≡◌, ◌∙◌, ℕ, zero, suc, List, [], ◌∷◌, refl, sym, ap, subst, length, slice_get, Option, Some, None, flat_map}
 use Rattle.hir_types.specs.declared.ids.DefWithBodyId.{DefWithBodyId}
 use Rattle.hir_types.specs.declared.ids.GenericDefId.{GenericDefId}
 use Rattle.hir_types.specs.declared.ty.Ty.{Ty}
@@ -15,6 +15,7 @@ use Rattle.goal_facts.specs.Systems.{IsSystemOf}
 use Rattle.goal_search.specs.Sources.{system}
 use Rattle.goal_tree.specs.declared.obligation.Obligation.{Obligation}
 use Rattle.infer_goals.specs.Stays.{IsUnused}
+use Rattle.infer_goals.proofs.Counting.{none_counted}
 use Rattle.infer_result.specs.Needs.{needs_of, needs_at, scope_item}
 use Rattle.infer_result.specs.Places.{Given}
 use Rattle.infer_result.specs.Table.{recorded}
@@ -27,7 +28,7 @@ use Rattle.infer_obligations.proofs.FineSources.{sources_fine}
 pub sources_in : (raw : RawFacts) (law : IsLawful raw) (d : DefWithBodyId) (b : RawBody) → body_of raw d ≡ Some b → (x : ItemSources) → x.facts ≡ raw → x.item ≡ scope_item raw d → AreSourcesIn (scope_of raw d) x
 sources_in raw law d b is x facts item = record {
   facts = facts;
-  heads = λ none are. sources_fine raw law none d b is (system x.sources)
+  heads = λ are. sources_fine raw law d b is (system x.sources)
       (subst (λ (i : GenericDefId). IsSystemOf raw i (system x.sources)) item (subst (λ (z : RawFacts). IsSystemOf z x.item (system x.sources)) facts are));
 }
 
@@ -59,6 +60,6 @@ module _ (g : Given) (c : InferenceContext) (empty : c ≡ empty_context g.body 
     kept = unused.kept;
     all = unused.all;
     heads = λ i x at. absurd (nothing_there c.goals.obligations.tree.obligations.items i x unused.obligations at);
-    owed = inl unused.obligations;
+    counted = unused.selected ∙ sym (none_counted c.goals.obligations.tree unused.kept.tree unused.obligations);
     asked = λ n. ap (λ (os : List Obligation). flat_map (asked_by_node n) os) unused.obligations ∙ sym (needs_nothing n);
   }

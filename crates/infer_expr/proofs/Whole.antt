@@ -1,6 +1,6 @@
 -- The walk of a whole body.
 use Rattle.std.specs.Prelude.{replicate}
-use Rattle.std.proofs.Common.{ℕ, zero, suc, ◌<◌, refl, arith, Option, None, ◌≡◌, ◌⊎◌, inl, inr, sym, ◌∙◌, ◌+◌, List, [], ◌∷◌, length, subst, ◌^◌, Some}
+use Rattle.std.proofs.Common.{ℕ, zero, suc, ◌<◌, refl, arith, Option, None, ◌≡◌, ◌⊎◌, inl, inr, sym, ◌∙◌, ◌+◌, [], ◌∷◌, length, subst, ◌^◌, Some}
 use Rattle.std.proofs.lemmas.List.{length-replicate, length-map}
 use Rattle.hir_types.specs.declared.ids.ExprOrPatId.{ExprOrPatId}
 use Rattle.hir_types.specs.declared.ids.ExprId.{ExprId}
@@ -10,7 +10,6 @@ use Rattle.hir_types.specs.declared.ids.ExprOrPatId.TheVariants as node
 use Rattle.hir_raw.specs.declared.raw.RawBody.{RawBody}
 use Rattle.hir_raw.specs.declared.schedule.Schedule.{Schedule}
 use Rattle.hir_raw.specs.Order.{inner, the_body, start, IsInBody, IsSchedule, root, expr_part, param_parts, body_parts, end}
-use Rattle.hir_raw.specs.declared.raw.RawType.{RawType}
 use Rattle.hir_laws.specs.Bodies.{IsWalkable}
 use Rattle.hir_facts.specs.CarriedTypes.{IsCarriedType}
 use Rattle.infer_result.specs.Table.{At}

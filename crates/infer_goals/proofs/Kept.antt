@@ -1,5 +1,5 @@
 -- What is kept where one obligation is selected.
-use Rattle.std.proofs.Common.{◌≡◌, inl, inr, ℕ, zero, suc, ◌+◌, ◌-◌, ◌≤◌, List, [], ◌∷◌, ◌++◌, length, map, take, drop, refl, sym, ap, ◌∙◌, subst, arith, length-drop}
+use Rattle.std.proofs.Common.{◌≡◌, inl, inr, ℕ, ◌+◌, ◌-◌, ◌≤◌, List, [], ◌∷◌, ◌++◌, length, map, take, drop, refl, sym, ap, ◌∙◌, subst, arith, length-drop}
 use Rattle.std.specs.Prelude.{Some, slice_get}
 use Rattle.std.proofs.lemmas.Option.{same_Some}
 use Rattle.std.proofs.lemmas.List.{length-map, drop_at, take_all, drop-append-le, take-append-le}
@@ -12,6 +12,7 @@ use Rattle.goal_answers.specs.Goals.{Asked, System, Each}
 use Rattle.goal_answers.specs.Answers.{answers}
 use Rattle.goal_facts.specs.declared.proof.ProofSource.{ProofSource}
 use Rattle.goal_facts.specs.Proofs.{filled_goal, IsSource}
+use Rattle.goal_facts.proofs.Systems.{each_get}
 use Rattle.goal_select.specs.Steps.{GoalIsOf}
 use Rattle.goal_tree.specs.declared.obligation.Obligation.{Obligation}
 use Rattle.goal_tree.specs.declared.tree.GoalTree.{GoalTree}
@@ -47,11 +48,6 @@ goals_of_last z os n d p gs =
     let dropped : drop (length os) (os ++ new) ≡ new = drop_at os new (length os) refl in
     let taken : take (length gs) new ≡ new = take_all (length gs) new (omega arith) in
     sym (ap (λ xs. map (λ (o : Obligation). filled_goal z o.goal) xs) (ap (take (length gs)) dropped ∙ taken) ∙ goals_asked z n d p gs)
-
-each_get : (P : Goal → Type 0) (gs : List Goal) (j : ℕ) (g : Goal) → Each P gs → slice_get gs j ≡ Some g → P g
-each_get P [] j g h e = cc
-each_get P (x ∷ gs) zero g h e = subst P (same_Some x g e) h.0
-each_get P (x ∷ gs) (suc j) g h e = each_get P gs j g h.1 e
 
 -- what has its source rightly has it so where obligations come behind
 pub rightly_later : (raw : RawFacts) (f : System) (P : Aliases) (z : Fill) (t : GoalTree) (os : List Obligation) → IsFront t.obligations.items os → IsTree t → IsRight raw f P z t

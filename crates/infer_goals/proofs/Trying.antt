@@ -74,7 +74,7 @@ module _ (raw : RawFacts) (f : System) (bounded : Bool) (s : State) (o : Obligat
   x = h.obligation
 
   step : IsStep raw f s o.tree s' u
-  step = record { at = at; obligation = x; made = h.made; listed = h.listed; is_open = h.is_open; selected = h.found; by = h.by }
+  step = record { at = at; obligation = x; made = h.made; listed = h.listed; is_open = h.is_open; selected = h.found; by = h.by; as_many = h.is_tree.as_many }
 
   step_to : IsStep raw f s o.tree s' o'.tree
   step_to = subst (λ (t : GoalTree). IsStep raw f s o.tree s' t) (sym h.tree) step

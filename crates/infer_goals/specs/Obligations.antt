@@ -1,5 +1,5 @@
 -- Goals that were registered: what selects them, step after step, and which are left.
-use Rattle.std.specs.Prelude.{◌≡◌, ◌⊎◌, ◌≤◌, ◌<◌, ◌+◌, ◌-◌, ◌++◌, ℕ, if◌then◌else◌, Bool, true, false, IsTrue, List, [], ◌∷◌, length, slice_get, Some}
+use Rattle.std.specs.Prelude.{◌≡◌, ◌⊎◌, ◌≤◌, ◌<◌, ◌+◌, ◌-◌, ◌++◌, ℕ, suc, if◌then◌else◌, Bool, true, false, IsTrue, List, [], ◌∷◌, length, slice_get, Some}
 use Rattle.std.specs.List.{range_with_len}
 use Rattle.hir_raw.specs.declared.raw.RawFacts.{RawFacts}
 use Rattle.infer_table.specs.Table.{State, Meets, Grew, bindings}
@@ -11,6 +11,8 @@ use Rattle.goal_facts.specs.Goals.{asked_goal}
 use Rattle.goal_select.specs.declared.select.Selected.{Selected}
 use Rattle.goal_select.specs.Steps.{known_goal, GoalIsOf, IsSelected}
 use Rattle.goal_tree.specs.declared.obligation.Obligation.{Obligation}
+use Rattle.goal_tree.specs.declared.obligation.Standing.{Standing}
+use Rattle.goal_tree.specs.declared.obligation.Standing.TheVariants as standing
 use Rattle.goal_tree.specs.declared.tree.GoalTree.{GoalTree}
 use Rattle.goal_tree.specs.Trees.{IsTree, IsOpenAt, IsSelectedBy}
 use Rattle.goal_tree.specs.Right.{IsRight}
@@ -30,6 +32,7 @@ pub record IsStep (raw : RawFacts) (f : System) (s : State) (t : GoalTree) (s' :
   pub is_open : IsOpenAt t.standings.items at
   pub selected : IsSelected raw f obligation.depth s s' obligation.goal made
   pub by : IsSelectedBy t t' at made.source made.preds.items
+  pub as_many : length t'.standings.items ≡ length t'.obligations.items
 
 -- one step after another, each to its table and tree, the last to these
 abbrev pub AreSteps : RawFacts → System → List (State × GoalTree) → State → GoalTree → State → GoalTree → Type 0
@@ -50,6 +53,21 @@ pub record Went (raw : RawFacts) (f : System) (bounded : Bool) (s : State) (o : 
 -- a hole was bound
 abbrev pub BoundMore : State → State → Type 0
 BoundMore s s' = length (bindings s) < length (bindings s')
+
+-- ---- how many were selected
+
+abbrev pub has_source : Standing → Bool
+has_source standing.Open = false
+has_source _ = true
+
+-- how many have a source
+abbrev pub sourced : List Standing → ℕ
+sourced [] = 0
+sourced (s ∷ ss) = if has_source s then suc (sourced ss) else sourced ss
+
+-- those that were selected are counted, and no others
+abbrev pub AreCounted : Obligations → Type 0
+AreCounted o = o.selected ≡ sourced o.tree.standings.items
 
 -- ---- what holds at any time
 

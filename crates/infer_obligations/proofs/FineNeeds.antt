@@ -1,4 +1,4 @@
--- What the path at an expression needs, at a type in scope, has types in scope alone.
+-- What the path at an expression needs, at a type in scope, has types in scope alone where it is concrete.
 use Rattle.std.specs.Prelude.{◌≡◌, ◌⊎◌, ℕ, suc, List, [], ◌∷◌, length, map, slice_get, Option, Some, None, option_map, refl}
 use Rattle.std.proofs.Common.{inl, inr, sym, ap, ◌∙◌, subst}
 use Rattle.std.proofs.lemmas.List.{length-map}
@@ -35,7 +35,7 @@ use Rattle.infer_table.specs.Preserved.{whole, IsMadeOf}
 use Rattle.goal_answers.specs.Goals.{Asked, Each}
 use Rattle.goal_facts.specs.Arguments.{goal_at}
 use Rattle.goal_facts.specs.Environment.{preds_or_none}
-use Rattle.goal_select.specs.Steps.{HasHeadsOf}
+use Rattle.goal_select.specs.Steps.{HasHeadsIfConcrete}
 use Rattle.infer_result.specs.Heads.{Outermost, other, HasHead, outermost_step, of_function, of_ctor}
 use Rattle.infer_result.specs.Kinds.Path.{PathRule}
 use Rattle.infer_result.specs.Needs.{variant_preds, path_preds, item_args, needed_goals}
@@ -146,22 +146,22 @@ module _ (sc : Scope) (a : Assignment) where
 
 -- ---- an expression that has a type
 
-module _ (g : Given) (law : IsLawful g.scope.facts) (none : g.scope.facts.aliases ≡ []) (e : ExprId) (t : Ty) (heads : HasFineHeads g.scope t) (tells : Tells g e t)
+module _ (g : Given) (law : IsLawful g.scope.facts) (e : ExprId) (t : Ty) (heads : HasFineHeads g.scope t) (tells : Tells g e t)
     (a : Assignment) (r : InferenceResult) (has : HasTy r e (folded a t)) where
   abbrev raw : RawFacts
   raw = g.scope.facts
 
   abbrev IsInScope : Asked → Type 0
-  IsInScope = HasHeadsOf (is_fine_head g.scope)
+  IsInScope = HasHeadsIfConcrete (is_fine_head g.scope)
 
   own : HasFineArgs g.scope a t
   own = fine_args g.scope a t heads
 
   -- what each predicate at these arguments says
-  at_own_args : (gs : List RawGoal) → ((k : ℕ) (p : RawGoal) → slice_get gs k ≡ Some p → GoalIsFit raw law none (length own.types) p) → Each IsInScope (map (goal_at raw (args_of t)) gs)
+  at_own_args : (gs : List RawGoal) → ((k : ℕ) (p : RawGoal) → slice_get gs k ≡ Some p → GoalIsFit raw law (length own.types) p) → Each IsInScope (map (goal_at raw (args_of t)) gs)
   at_own_args [] fit = tt
   at_own_args (p ∷ gs) fit = (
-    subst (λ xs. IsInScope (goal_at raw xs p)) (sym own.args) (goal_has_heads raw law none g.scope refl own.types own.all p (fit 0 p refl)),
+    subst (λ xs. IsInScope (goal_at raw xs p)) (sym own.args) (goal_has_heads raw law g.scope refl own.types own.all p (fit 0 p refl)),
     at_own_args gs (λ k q at. fit (suc k) q at),
   )
 
@@ -181,7 +181,7 @@ module _ (g : Given) (law : IsLawful g.scope.facts) (none : g.scope.facts.aliase
         let long : length own.types ≡ length ts = count_at h (tells.head h (of_function e f is)) (ty.FnDef (callable.FunctionId f) (type_args ts)) ts rule.1 (fn_def_args (callable.FunctionId f) (type_args ts)) in
         let both : Some (length x.params) ≡ Some (length ts) = ap (option_map (λ (y : RawFn). length y.params)) (sym there) ∙ rule.2 in
         let count : length x.params ≡ length own.types = (let same : length x.params ≡ length ts = cc in same ∙ sym long) in
-        at_own_args x.preds (λ k p here. subst (λ n. GoalIsFit raw law none n p) count (fn_preds_fit raw law none f.0 x there k p here))
+        at_own_args x.preds (λ k p here. subst (λ n. GoalIsFit raw law n p) count (fn_preds_fit raw law f.0 x there k p here))
 
   adt_needs : (i : ℕ) (ts : List Ty) → length own.types ≡ length ts → option_map (λ (y : RawAdt). length y.params) (slice_get raw.adts i) ≡ Some (length ts) → (o : Option RawAdt) → slice_get raw.adts i ≡ o
       → Each IsInScope (map (goal_at raw (args_of t)) (preds_or_none (option_map (λ (x : RawAdt). x.preds) o)))
@@ -189,7 +189,7 @@ module _ (g : Given) (law : IsLawful g.scope.facts) (none : g.scope.facts.aliase
   adt_needs i ts long count (Some x) is =
       let both : Some (length x.params) ≡ Some (length ts) = ap (option_map (λ (y : RawAdt). length y.params)) (sym is) ∙ count in
       let same : length x.params ≡ length own.types = (let q : length x.params ≡ length ts = cc in q ∙ sym long) in
-      at_own_args x.preds (λ k p here. subst (λ n. GoalIsFit raw law none n p) same (adt_preds_fit raw law none i x is k p here))
+      at_own_args x.preds (λ k p here. subst (λ n. GoalIsFit raw law n p) same (adt_preds_fit raw law i x is k p here))
 
   module _ (v : VariantId) (is : slice_get g.body.exprs e.0 ≡ Some (expr.Path (path.Ctor v))) (rule : PathRule g r e (path.Ctor v)) (known : IsVariant raw v) where
     -- the arguments and the head of a path to a constructor; none has fields with names

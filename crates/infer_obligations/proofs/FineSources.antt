@@ -1,8 +1,8 @@
--- Where no trait has an associated type, the sources of goals of a function have types in scope alone.
+-- The sources of goals of a function that are concrete have types in scope alone: no associated type is in them.
 use Rattle.std.specs.Prelude.{◌≡◌, ◌<◌, ◌≤◌, ◌+◌, ◌++◌, ℕ, zero, suc, true, List, [], ◌∷◌, length, map, flat_map, slice_get, Option, Some, None, option_map, IsTrue, IfSome, not, refl}
 use Rattle.std.specs.List.{range_with_len}
-use Rattle.std.proofs.Common.{inl, inr, sym, ap, ◌∙◌, subst, arith}
-use Rattle.std.proofs.lemmas.Bool.{ltb-true, lt-ltb, or_left, or_right}
+use Rattle.std.proofs.Common.{inl, inr, sym, ap, ◌∙◌, subst, arith, true≢false}
+use Rattle.std.proofs.lemmas.Bool.{ltb-true, lt-ltb, or_cases, or_left, or_right}
 use Rattle.std.proofs.lemmas.List.{length-map}
 use Rattle.hir_types.specs.declared.ids.DefWithBodyId.{DefWithBodyId}
 use Rattle.hir_types.specs.declared.ids.DefWithBodyId.TheVariants as def
@@ -22,10 +22,10 @@ use Rattle.hir_types.specs.Assigned.{with_params}
 use Rattle.hir_types.specs.Folds.{map_twice}
 use Rattle.hir_types.specs.Instances.{param_at, types_args_replaced}
 use Rattle.hir_types.specs.Replacements.{replaced_bool, replaced_char, replaced_int, replaced_uint, replaced_var, replaced_int_var, replaced_tuple, replaced_adt, replaced_fn_def}
-use Rattle.hir_types.specs.Terms.{Term, hole, leaf, pair, chain, apply, occurs, hole_number, type_part}
+use Rattle.hir_types.specs.Subst.{replaced}
+use Rattle.hir_types.specs.Terms.{Term, hole, leaf, pair, chain, apply, occurs, hole_number, type_part, term}
 use Rattle.hir_types.specs.TermLaws.{term_var, term_int_var}
 use Rattle.hir_raw.specs.declared.raw.RawAdt.{RawAdt}
-use Rattle.hir_raw.specs.declared.raw.RawAlias.{RawAlias}
 use Rattle.hir_raw.specs.declared.raw.RawAssocType.{RawAssocType}
 use Rattle.hir_raw.specs.declared.raw.RawFn.{RawFn}
 use Rattle.hir_raw.specs.declared.raw.RawGoal.{RawGoal}
@@ -40,7 +40,7 @@ use Rattle.hir_raw.specs.declared.raw.RawFacts.{RawFacts}
 use Rattle.hir_raw.specs.Goals.{arg_types}
 use Rattle.hir_raw.specs.Scope.{Scope, adt_params, has_params, scope_of, count_or_none}
 use Rattle.hir_raw.specs.Signatures.{type_args, at_args}
-use Rattle.hir_raw.specs.WrittenTypes.{written_type}
+use Rattle.hir_raw.specs.WrittenTypes.{filled_within, written_type}
 use Rattle.hir_ids.specs.Entries.{AllHold}
 use Rattle.hir_ids.specs.GoalIds.{TraitRefExists, GoalExists, GoalsExist, TraitIdsExist, ImplIdsExist}
 use Rattle.hir_ids.specs.Projections.{is_projection, IsNoProjection}
@@ -49,23 +49,24 @@ use Rattle.hir_counts.specs.Standing.{HasNoHole, params_in, wrongs_in}
 use Rattle.hir_counts.specs.Uses.{goal_uses, goals_uses, impl_uses, trait_ref_uses, fn_uses, variant_uses, abstract_uses, item_uses}
 use Rattle.hir_laws.specs.Bodies.{body_of}
 use Rattle.hir_laws.specs.Lawful.{IsLawful}
-use Rattle.hir_laws.specs.LawfulFacts.{type_ids_exist, adt_ids, fn_ids, fns_fit, holes_fit}
+use Rattle.hir_laws.specs.LawfulFacts.{adt_ids, fn_ids, fns_fit, holes_fit}
 use Rattle.hir_laws.specs.NoHoles.{In, in_first, in_last, in_flat, type_there}
 use Rattle.hir_laws.specs.WrittenFits.{FitsUnder}
 use Rattle.infer_table.specs.Preserved.{Shape, TermRole, whole, part, rest, IsMadeOf, width_apply}
-use Rattle.infer_table.specs.TermLemmas.{hole_eq_same}
+use Rattle.infer_table.specs.TermLemmas.{hole_eq_same, hole_eq_true}
 use Rattle.goal_answers.specs.Goals.{Kind, implements, projects, Asked, Rule, System, Each, key}
 use Rattle.goal_answers.specs.Reading.{Fill}
 use Rattle.goal_answers.specs.Rows.{IsNth}
-use Rattle.goal_answers.specs.Selecting.{IsTraitKind}
+use Rattle.goal_answers.specs.Selecting.{IsConcrete, IsTraitKind}
 use Rattle.goal_facts.specs.Arguments.{holes, own_params, type_at, args_at, goal_at}
 use Rattle.goal_facts.specs.Environment.{preds_or_none, trait_preds, trait_holes, IsStated, IsSuper, Follows}
-use Rattle.goal_facts.specs.Bounds.{IsListed}
-use Rattle.goal_facts.specs.Impls.{impl_holes, assoc_rule, rules_for, impl_rules}
+use Rattle.goal_facts.specs.Impls.{impl_holes, impl_args, assoc_rule, rules_for, impl_rules}
 use Rattle.goal_facts.specs.Systems.{fact, IsSystemOf}
 use Rattle.goal_facts.proofs.Systems.{each_append, each_get}
-use Rattle.goal_facts.proofs.Written.{args_are}
-use Rattle.goal_select.specs.Steps.{HasHeadsOf, RuleHasHeadsOf, SystemHasHeadsOf}
+use Rattle.goal_facts.proofs.ListedBounds.{listed_not_concrete}
+use Rattle.goal_facts.proofs.Written.{layer, type_layer, args_are}
+use Rattle.goal_select.specs.Steps.{HasHeadsIfConcrete, RuleHasHeadsOf, SystemHasHeadsOf}
+use Rattle.goal_select.proofs.Heads.{concrete_within}
 use Rattle.infer_result.specs.Needs.{scope_item}
 use Rattle.infer_ctx.specs.Fine.{is_fine_head, item_params, HasFineHeads, Every}
 use Rattle.infer_ctx.proofs.FineTypes.{every_at, heads_bool, heads_char, heads_integer, heads_param, heads_tuple, heads_adt, heads_fn_def}
@@ -172,26 +173,26 @@ module _ (sc : Scope) where
 
 -- ---- written goals
 
-module _ (raw : RawFacts) (law : IsLawful raw) (none : raw.aliases ≡ []) where
-  no_alias : (k : ℕ) → k < length raw.aliases → ⊥
-  no_alias k h = let e = ap length none in omega (arith, e, h)
-
-  -- no written type names an associated type
-  no_projection : (i : ℕ) → IsNoProjection raw i
-  no_projection i = by (slice_get raw.types i) refl
+module _ (raw : RawFacts) (law : IsLawful raw) where
+  -- a type that is concrete at arguments is written as no associated type
+  concrete_direct : (xs : List GenericArg) (w : TypeRefId) → IsConcrete (type_at raw xs w) → IsNoProjection raw w.0
+  concrete_direct xs w h = by (slice_get raw.types w.0) (subst IsConcrete (type_layer raw xs w) h)
     where
-      by : (o : Option RawType) → slice_get raw.types i ≡ o → IsTrue (not (is_projection o))
-      by (Some (type.Projection a ts)) at = absurd (no_alias a.0 (type_ids_exist raw law i (type.Projection a ts) at).named)
-      by _ at = refl
+      by : (o : Option RawType) → IsConcrete (layer (λ n. term ((with_params xs).param n)) (λ j. term (replaced (with_params xs) (filled_within (λ k. ty.Hole) w.0 raw.types j))) o) → IsTrue (not (is_projection o))
+      by (Some (type.Projection a ts)) c = absurd c.0
+      by _ c = refl
 
-  -- what a goal or an impl is written with
+  -- what a goal or an impl is written with, but for an associated type
   pub record IsFit (n : ℕ) (w : TypeRefId) : Type 0 where
     pub fits : FitsUnder raw n w.0
     pub no_hole : HasNoHole raw.types w
 
-  used_fits : (n : ℕ) (w : TypeRefId) → w.0 < length raw.types → TypeFits (params_in raw) (wrongs_in raw) n w → In (item_uses raw) (Some w.0) → IsFit n w
-  used_fits n w within fit used = record {
-    fits = record { within = within; direct = no_projection w.0; params = fit.0; args = fit.1 };
+  abbrev pub IsFitIfDirect : ℕ → TypeRefId → Type 0
+  IsFitIfDirect n w = IsNoProjection raw w.0 → IsFit n w
+
+  used_fits : (n : ℕ) (w : TypeRefId) → w.0 < length raw.types → TypeFits (params_in raw) (wrongs_in raw) n w → In (item_uses raw) (Some w.0) → IsFitIfDirect n w
+  used_fits n w within fit used direct = record {
+    fits = record { within = within; direct = direct; params = fit.0; args = fit.1 };
     no_hole =
         (let there = type_there raw.types w.0 within in
         elim (holes_fit raw law w.0 there.0 there.1) as (λ _. HasNoHole raw.types w) [
@@ -201,36 +202,61 @@ module _ (raw : RawFacts) (law : IsLawful raw) (none : raw.aliases ≡ []) where
   }
 
   abbrev pub AreFit : ℕ → List TypeRefId → Type 0
-  AreFit n ws = (k : ℕ) (w : TypeRefId) → slice_get ws k ≡ Some w → IsFit n w
+  AreFit n ws = (k : ℕ) (w : TypeRefId) → slice_get ws k ≡ Some w → IsFitIfDirect n w
 
-  -- each type of the goal is
+  -- each type of the goal is, if it is about a trait
   abbrev pub GoalIsFit : ℕ → RawGoal → Type 0
   GoalIsFit n (goal.Trait r) = AreFit n (arg_types r.args)
-  GoalIsFit n (goal.Projection k xs w) = ⊥
+  GoalIsFit n (goal.Projection k xs w) = Unit {0}
 
   used_goal_fits : (n : ℕ) (g : RawGoal) → GoalExists raw g → GoalFits (params_in raw) (wrongs_in raw) raw n g → ((y : Option ℕ) → In (goal_uses g) y → In (item_uses raw) y) → GoalIsFit n g
   used_goal_fits n (goal.Trait r) e fit used = λ k w at. used_fits n w (e.args k w at) (fit.each k w at) (used (Some w.0) (in_mapped (λ (t : TypeRefId). Some t.0) (arg_types r.args) k w at))
-  used_goal_fits n (goal.Projection k xs w) e fit used = no_alias k.0 e.0
+  used_goal_fits n (goal.Projection k xs w) e fit used = tt
+
+  -- ---- arguments
+
+  module _ (Q : Shape) where
+    -- a type whose heads are these, if it is concrete
+    abbrev pub IsFineArg : Term → Type 0
+    IsFineArg (pair (leaf head.TypePart) t) = IsConcrete t → IsMadeOf Q whole t
+    IsFineArg _ = ⊥
+
+    abbrev pub AreFineArgs : Term → Type 0
+    AreFineArgs (pair a b) = IsFineArg a × AreFineArgs b
+    AreFineArgs (leaf g) = IsMadeOf Q rest (leaf g)
+    AreFineArgs (hole k) = ⊥
+
+    arg_made : (a : Term) → IsFineArg a → IsConcrete a → IsMadeOf Q part a
+    arg_made (pair (leaf head.TypePart) t) h c = (tt, h c.1)
+    arg_made (pair _ t) h c = absurd h
+    arg_made (leaf g) h c = absurd h
+    arg_made (hole k) h c = absurd h
+
+    args_made : (t : Term) → AreFineArgs t → IsConcrete t → IsMadeOf Q rest t
+    args_made (pair a b) h c = (arg_made a h.0 c.0, args_made b h.1 c.1)
+    args_made (leaf g) h c = h
+    args_made (hole k) h c = absurd h
 
   module _ (sc : Scope) (same : sc.facts ≡ raw) (ts : List Ty) (all : Every (HasFineHeads sc) ts) where
     abbrev P : Shape
     P = is_fine_head sc
 
-    type_heads : (w : TypeRefId) → IsFit (length ts) w → IsMadeOf P whole (type_at raw (type_args ts) w)
-    type_heads w h =
+    type_heads : (w : TypeRefId) → IsFitIfDirect (length ts) w → IsConcrete (type_at raw (type_args ts) w) → IsMadeOf P whole (type_at raw (type_args ts) w)
+    type_heads w if_direct concrete =
+        let h = if_direct (concrete_direct (type_args ts) w concrete) in
         let own : HasFineHeads (record { facts = raw; params = length ts }) (written_type raw.types w) = written_heads raw law (length ts) w h.fits h.no_hole in
         heads_at_args sc ts all (written_type raw.types w) (subst (λ (r : RawFacts). HasFineHeads (record { facts = r; params = length ts }) (written_type raw.types w)) (sym same) own)
 
-    chain_heads : (ws : List TypeRefId) → AreFit (length ts) ws → IsMadeOf P rest (chain (map (λ w. type_part (type_at raw (type_args ts) w)) ws))
-    chain_heads [] h = tt
-    chain_heads (w ∷ ws) h = ((tt, type_heads w (h 0 w refl)), chain_heads ws (λ k u at. h (suc k) u at))
+    chain_fine : (ws : List TypeRefId) → AreFit (length ts) ws → AreFineArgs P (chain (map (λ w. type_part (type_at raw (type_args ts) w)) ws))
+    chain_fine [] h = tt
+    chain_fine (w ∷ ws) h = (λ c. type_heads w (h 0 w refl) c, chain_fine ws (λ k u at. h (suc k) u at))
 
-    args_heads : (ws : List TypeRefId) → AreFit (length ts) ws → IsMadeOf P rest (args_at raw (type_args ts) ws)
-    args_heads ws h = subst (IsMadeOf P rest) (sym (args_are raw (type_args ts) ws)) (chain_heads ws h)
+    args_fine : (ws : List TypeRefId) → AreFit (length ts) ws → AreFineArgs P (args_at raw (type_args ts) ws)
+    args_fine ws h = subst (AreFineArgs P) (sym (args_are raw (type_args ts) ws)) (chain_fine ws h)
 
-    pub goal_has_heads : (g : RawGoal) → GoalIsFit (length ts) g → HasHeadsOf P (goal_at raw (type_args ts) g)
-    goal_has_heads (goal.Trait r) h = args_heads (arg_types r.args) h
-    goal_has_heads (goal.Projection k xs w) h = absurd h
+    pub goal_has_heads : (g : RawGoal) → GoalIsFit (length ts) g → HasHeadsIfConcrete P (goal_at raw (type_args ts) g)
+    goal_has_heads (goal.Trait r) h = λ is c. args_made P (args_at raw (type_args ts) (arg_types r.args)) (args_fine (arg_types r.args) h) c
+    goal_has_heads (goal.Projection k xs w) h = λ is c. absurd is
 
   -- ---- the predicates of items
 
@@ -324,7 +350,7 @@ module _ (raw : RawFacts) (law : IsLawful raw) (none : raw.aliases ≡ []) where
   impl_args_fit : (i : ℕ) (p : RawImpl) (r : RawTraitRef) → slice_get raw.impls i ≡ Some p → p.trait_ ≡ Some r → AreFit (length p.params) (p.self_ ∷ arg_types r.args)
   impl_args_fit i p r here is zero w at =
       let same : p.self_ ≡ w = cc in
-      subst (IsFit (length p.params)) same
+      subst (IsFitIfDirect (length p.params)) same
       (used_fits (length p.params) p.self_ (impls_exist i p here).self_ (impls_fit i p here).self_
       (in_impls (Some p.self_.0) (in_flat impl_uses raw.impls i p (Some p.self_.0) here (in_last (trait_ref_uses p.trait_) (own_uses p) (Some p.self_.0) (zero, refl)))))
   impl_args_fit i p r here is (suc k) w at =
@@ -340,15 +366,16 @@ module _ (raw : RawFacts) (law : IsLawful raw) (none : raw.aliases ≡ []) where
     abbrev Q : Shape
     Q = is_fine_head sc
 
-    nth_heads : (n : ℕ) (ts u : Term) → IsNth n ts u → IsMadeOf Q rest ts → IsMadeOf Q whole u
-    nth_heads zero (pair (pair m t) b) u l h = subst (IsMadeOf Q whole) (sym l) h.0.1
-    nth_heads (suc n) (pair a b) u l h = nth_heads n b u l h.1
-    nth_heads zero (pair (hole k) b) u l h = absurd l
-    nth_heads zero (pair (leaf x) b) u l h = absurd l
-    nth_heads zero (hole k) u l h = absurd l
-    nth_heads zero (leaf x) u l h = absurd l
-    nth_heads (suc n) (hole k) u l h = absurd l
-    nth_heads (suc n) (leaf x) u l h = absurd l
+    nth_heads : (n : ℕ) (ts u : Term) → IsNth n ts u → AreFineArgs Q ts → IsConcrete u → IsMadeOf Q whole u
+    nth_heads zero (pair (pair (leaf head.TypePart) t) b) u l h c = subst (IsMadeOf Q whole) (sym l) (h.0 (subst IsConcrete l c))
+    nth_heads zero (pair (pair _ t) b) u l h c = absurd h.0
+    nth_heads (suc n) (pair a b) u l h c = nth_heads n b u l h.1 c
+    nth_heads zero (pair (hole k) b) u l h c = absurd l
+    nth_heads zero (pair (leaf x) b) u l h c = absurd l
+    nth_heads zero (hole k) u l h c = absurd l
+    nth_heads zero (leaf x) u l h c = absurd l
+    nth_heads (suc n) (hole k) u l h c = absurd l
+    nth_heads (suc n) (leaf x) u l h c = absurd l
 
     -- where types of fine heads stand for the holes that stand in it
     filled_heads : (p : Fill) (r : TermRole) (t : Term) → ((k : Hole) → occurs k t ≡ true → IsMadeOf Q whole (p k)) → IsMadeOf Q r t → IsMadeOf Q r (apply p t)
@@ -366,18 +393,42 @@ module _ (raw : RawFacts) (law : IsLawful raw) (none : raw.aliases ≡ []) where
       filled_heads p rest b (λ k o. f k (or_right (occurs k a) (occurs k b) o)) h.1,
     )
 
-    -- about a trait, and with these heads
-    record IsFineGoal (d : Asked) : Type 0 where
-      trait_ : IsTraitKind d.kind
-      heads : IsMadeOf Q rest d.parts
+    -- what stands for a hole of a concrete term is concrete
+    filled_concrete : (p : Fill) (k : Hole) (t : Term) → occurs k t ≡ true → IsConcrete (apply p t) → IsConcrete (p k)
+    filled_concrete p k (hole j) o c = subst (λ i. IsConcrete (p i)) (sym (hole_eq_true k j o)) c
+    filled_concrete p k (leaf x) o c = absurd (true≢false (sym o))
+    filled_concrete p k (pair a b) o c = elim (or_cases (occurs k a) (occurs k b) o) [
+      | inl here ↦ filled_concrete p k a here c.0
+      | inr there ↦ filled_concrete p k b there c.1
+    ]
+
+    -- where types of fine heads, if they are concrete, stand for its holes
+    abbrev FillsFine : Fill → Term → Type 0
+    FillsFine p t = (k : Hole) → occurs k t ≡ true → IsConcrete (p k) → IsMadeOf Q whole (p k)
+
+    filled_arg : (p : Fill) (a : Term) → FillsFine p a → IsFineArg Q a → IsFineArg Q (apply p a)
+    filled_arg p (pair (leaf head.TypePart) b) f h = λ c.
+        filled_heads p whole b (λ k o. f k (or_right (occurs k (leaf head.TypePart)) (occurs k b) o) (filled_concrete p k b o c)) (h (concrete_within p b c))
+    filled_arg p (pair _ b) f h = absurd h
+    filled_arg p (leaf g) f h = absurd h
+    filled_arg p (hole k) f h = absurd h
+
+    filled_args : (p : Fill) (t : Term) → FillsFine p t → AreFineArgs Q t → AreFineArgs Q (apply p t)
+    filled_args p (pair a b) f h = (
+      filled_arg p a (λ k o. f k (or_left (occurs k a) (occurs k b) o)) h.0,
+      filled_args p b (λ k o. f k (or_right (occurs k a) (occurs k b) o)) h.1,
+    )
+    filled_args p (leaf g) f h = h
+    filled_args p (hole k) f h = absurd h
+
+    -- if it is about a trait, its arguments have these heads, each that is concrete
+    abbrev IsFineGoal : Asked → Type 0
+    IsFineGoal d = IsTraitKind d.kind → AreFineArgs Q d.parts
 
     fine_goal : (n : ℕ) (ts : List Ty) (xs : List GenericArg) → length ts ≡ n → type_args ts ≡ xs → Every (HasFineHeads sc) ts → (g : RawGoal) → GoalIsFit n g → IsFineGoal (goal_at raw xs g)
     fine_goal n ts xs count are all (goal.Trait r) h =
-        subst (λ ys. IsFineGoal (goal_at raw ys (goal.Trait r))) are (record {
-          trait_ = tt;
-          heads = args_heads sc same ts all (arg_types r.args) (subst (λ m. AreFit m (arg_types r.args)) (sym count) h);
-        })
-    fine_goal n ts xs count are all (goal.Projection k ws w) h = absurd h
+        subst (λ ys. IsFineGoal (goal_at raw ys (goal.Trait r))) are (λ is. args_fine sc same ts all (arg_types r.args) (subst (λ m. AreFit m (arg_types r.args)) (sym count) h))
+    fine_goal n ts xs count are all (goal.Projection k ws w) h = λ is. absurd is
 
     at_holes : (n : ℕ) (g : RawGoal) → GoalIsFit n g → IsFineGoal (goal_at raw (holes n) g)
     at_holes n g h = fine_goal n (hole_types n) (holes n) (holes_long n) (holes_are n) (hole_heads sc n) g h
@@ -396,10 +447,9 @@ module _ (raw : RawFacts) (law : IsLawful raw) (none : raw.aliases ≡ []) where
         let g = s.says.1 in
         let says = s.says.3 in
         let own = trait_at_holes s.trait_ s.says.0 g s.says.2 in
-        subst IsFineGoal (sym says.3) (record {
-          trait_ = own.trait_;
-          heads = filled_heads says.1 rest (goal_at raw (trait_holes raw s.trait_) g).parts (λ k o. nth_heads (hole_number k) c.parts (says.1 k) (says.2 k o) h.heads) own.heads;
-        })
+        let args : AreFineArgs Q c.parts = h (subst IsTraitKind (sym s.kind) tt) in
+        subst IsFineGoal (sym says.3) (λ is.
+        filled_args says.1 (goal_at raw (trait_holes raw s.trait_) g).parts (λ k o concrete. nth_heads (hole_number k) c.parts (says.1 k) (says.2 k o) args concrete) (own is))
 
     follows_fine : (S : Asked → Type 0) → ((d : Asked) → S d → IsFineGoal d) → (n : ℕ) (d : Asked) → Follows raw S n d → IsFineGoal d
     follows_fine S stated zero d f = stated d f
@@ -408,37 +458,30 @@ module _ (raw : RawFacts) (law : IsLawful raw) (none : raw.aliases ≡ []) where
 
     -- ---- rules
 
-    -- it has, where it is about a trait
     abbrev IsFineRule : Rule → Type 0
-    IsFineRule r = IsTraitKind r.head.kind → RuleHasHeadsOf Q r
+    IsFineRule r = RuleHasHeadsOf Q r
 
     key_heads : (k : Kind) (u : Term) → IsTraitKind k → IsMadeOf Q rest u → IsMadeOf Q rest (key k u)
     key_heads (implements t) u is made = made
     key_heads (projects a) u is made = absurd is
 
-    goal_key : (d : Asked) → IsFineGoal d → HasHeadsOf Q d
-    goal_key d h = key_heads d.kind d.parts h.trait_ h.heads
+    goal_key : (d : Asked) → IsFineGoal d → HasHeadsIfConcrete Q d
+    goal_key d h = λ is c. key_heads d.kind d.parts is (args_made Q d.parts (h is) c)
 
     fact_fine : (d : Asked) → IsFineGoal d → IsFineRule (fact d)
-    fact_fine d h is = (goal_key d h, tt)
+    fact_fine d h = λ is c. (goal_key d h is c, tt)
 
     impl_fine : (i : ℕ) (p : RawImpl) → slice_get raw.impls i ≡ Some p → (o : Option RawTraitRef) → p.trait_ ≡ o → Each IsFineRule (rules_for raw p o)
     impl_fine i p here None is = tt
     impl_fine i p here (Some r) is = (
-      λ kind. (
-        subst (λ xs. IsMadeOf Q rest (args_at raw xs (p.self_ ∷ arg_types r.args))) (holes_are (length p.params))
-            (args_heads sc same (hole_types (length p.params)) (hole_heads sc (length p.params)) (p.self_ ∷ arg_types r.args)
-            (subst (λ n. AreFit n (p.self_ ∷ arg_types r.args)) (sym (holes_long (length p.params))) (impl_args_fit i p r here is))),
-        each_mapped (HasHeadsOf Q) (goal_at raw (impl_holes p)) p.preds (λ k g at. goal_key (goal_at raw (impl_holes p) g) (at_holes (length p.params) g (impl_preds_fit i p here k g at))),
+      λ kind concrete. (
+        args_made Q (impl_args raw p r) (subst (λ xs. AreFineArgs Q (args_at raw xs (p.self_ ∷ arg_types r.args))) (holes_are (length p.params))
+            (args_fine sc same (hole_types (length p.params)) (hole_heads sc (length p.params)) (p.self_ ∷ arg_types r.args)
+            (subst (λ n. AreFit n (p.self_ ∷ arg_types r.args)) (sym (holes_long (length p.params))) (impl_args_fit i p r here is)))) concrete,
+        each_mapped (HasHeadsIfConcrete Q) (goal_at raw (impl_holes p)) p.preds (λ k g at. goal_key (goal_at raw (impl_holes p) g) (at_holes (length p.params) g (impl_preds_fit i p here k g at))),
       ),
-      each_mapped IsFineRule (assoc_rule raw p r) p.types (λ k x at kind. absurd kind),
+      each_mapped IsFineRule (assoc_rule raw p r) p.types (λ k x at kind concrete. absurd kind),
     )
-
-    -- no bound is listed
-    no_listed : (n : ℕ) (d : Asked) → Follows raw (IsListed raw) n d → ⊥
-    no_listed zero d (i, a, at, l) = let empty : slice_get {X = RawAlias} [] i ≡ Some a = subst (λ xs. slice_get xs i ≡ Some a) none at in cc
-    no_listed (suc n) d (inl f) = no_listed n d f
-    no_listed (suc n) d (inr (c, f, s)) = no_listed n c f
 
     rules_fine : (f : System) (item : GenericDefId) → IsSystemOf raw item f → Each IsFineRule f.rules
     rules_fine f item are =
@@ -446,7 +489,7 @@ module _ (raw : RawFacts) (law : IsLawful raw) (none : raw.aliases ≡ []) where
         subst (Each IsFineRule) (sym rules.are)
         (each_append IsFineRule (flat_map (impl_rules raw) raw.impls) (map fact rules.listed)
         (each_flat IsFineRule (impl_rules raw) raw.impls (λ i p at. impl_fine i p at p.trait_ refl))
-        (each_mapped IsFineRule fact rules.listed (λ i d at. absurd (no_listed raw.limits.goal_depth d (rules.closed.only i d at)))))
+        (each_mapped IsFineRule fact rules.listed (λ i d at is c. absurd (listed_not_concrete raw raw.limits.goal_depth d (rules.closed.only i d at) is c))))
 
   -- ---- the sources of a function
 
@@ -474,8 +517,8 @@ module _ (raw : RawFacts) (law : IsLawful raw) (none : raw.aliases ≡ []) where
         subst (Each (IsFineRule here refl)) (sym c.are)
         (each_mapped (IsFineRule here refl) fact c.stated (λ i d at. fact_fine here refl d (follows_fine here refl (IsStated raw (generic.FunctionId f)) stated_fine n d (c.closed.only i d at)))) in
         record {
-          clauses = λ i r at kind. each_get (IsFineRule here refl) s.clauses i r clauses at kind;
-          rules = λ i r at kind. each_get (IsFineRule here refl) s.rules i r (rules_fine here refl s (generic.FunctionId f) are) at kind;
+          clauses = λ i r at. each_get (IsFineRule here refl) s.clauses i r clauses at;
+          rules = λ i r at. each_get (IsFineRule here refl) s.rules i r (rules_fine here refl s (generic.FunctionId f) are) at;
         }
 
   -- of a definition with a body

@@ -1,5 +1,5 @@
 -- Goals that are registered one after another.
-use Rattle.std.specs.Prelude.{◌≡◌, ◌+◌, ◌++◌, ◌==◌, ◌⊎◌, ℕ, zero, suc, Bool, true, false, List, [], ◌∷◌, flat_map, map, slice_get, Option, Some, None, if◌then◌else◌, refl}
+use Rattle.std.specs.Prelude.{◌≡◌, ◌+◌, ◌++◌, ◌==◌, ℕ, zero, suc, Bool, true, false, List, [], ◌∷◌, flat_map, map, slice_get, Option, Some, None, if◌then◌else◌, refl}
 use Rattle.std.specs.Option.{option_and_then}
 use Rattle.std.proofs.Common.{inl, inr, sym, ap, ◌∙◌, subst, append_assoc, append-nil, eq-eqb, eqb-true, true≢false}
 use Rattle.std.proofs.lemmas.Grind.{flat_map-append}
@@ -16,15 +16,16 @@ use Rattle.infer_table.specs.Preserved.{Shape}
 use Rattle.goal_answers.specs.Goals.{Asked, Each}
 use Rattle.goal_facts.specs.Goals.{asked_goal, ItemSources}
 use Rattle.goal_search.specs.Sources.{system}
-use Rattle.goal_select.specs.Steps.{HasHeadsOf}
+use Rattle.goal_select.specs.Steps.{HasHeadsIfConcrete}
 use Rattle.goal_tree.specs.declared.obligation.Obligation.{Obligation}
 use Rattle.goal_tree.specs.declared.obligation.Standing.TheVariants as standing
 use Rattle.goal_tree.specs.Trees.{IsAsked, registered, opens}
 use Rattle.infer_goals.specs.declared.obligations.Obligations.{Obligations}
 use Rattle.infer_goals.specs.declared.table.GoalTable.{GoalTable}
-use Rattle.infer_goals.specs.Obligations.{AreKept, HasAllOpen}
+use Rattle.infer_goals.specs.Obligations.{AreKept, HasAllOpen, sourced, AreCounted}
+use Rattle.infer_goals.proofs.Counting.{asked_counted}
 use Rattle.infer_goals.proofs.Lists.{append_get}
-use Rattle.infer_result.specs.Needs.{expr_preds, needed_goals, needs_of, needs_at}
+use Rattle.infer_result.specs.Needs.{needed_goals, needs_of, needs_at}
 use Rattle.infer_result.specs.Places.{Given}
 use Rattle.infer_result.specs.Table.{recorded}
 use Rattle.infer_ctx.specs.Asked.{asked_where, asked_by_node, asked_at, AllAreAsked, AreSourcesIn, AreGoalsOf, IsTold}
@@ -144,27 +145,21 @@ module _ (limit : ℕ) (e : ℕ) where
 
 -- ---- the expression's own type is recorded, and what it needs registered
 
-no_goals : (os : List Obligation) (xs : List Asked) (e : ℕ) → xs ≡ [] → map node_asks os ≡ asked_for e xs → os ≡ []
-no_goals [] xs e none is = refl
-no_goals (o ∷ os) [] e none is = absurd (cc)
-no_goals (o ∷ os) (a ∷ xs) e none is = absurd (cc)
-
-heads_of_asked : (P : Shape) (e : ℕ) (os : List Obligation) (xs : List Asked) → map node_asks os ≡ asked_for e xs → Each (HasHeadsOf P) xs → (i : ℕ) (x : Obligation) → slice_get os i ≡ Some x → HasHeadsOf P (asked_goal x.goal)
+heads_of_asked : (P : Shape) (e : ℕ) (os : List Obligation) (xs : List Asked) → map node_asks os ≡ asked_for e xs → Each (HasHeadsIfConcrete P) xs → (i : ℕ) (x : Obligation) → slice_get os i ≡ Some x → HasHeadsIfConcrete P (asked_goal x.goal)
 heads_of_asked P e [] xs is each i x at = absurd (cc)
 heads_of_asked P e (o ∷ os) [] is each i x at = absurd (cc)
 heads_of_asked P e (o ∷ os) (a ∷ xs) is each zero x at =
     let pair : node_asks o ≡ (node.ExprId (record { 0 = e }), a) = cc in
     let first : asked_goal o.goal ≡ a = ap (λ (z : ExprOrPatId × Asked). z.1) pair in
     let same : o ≡ x = cc in
-    subst (λ (z : Obligation). HasHeadsOf P (asked_goal z.goal)) same (subst (HasHeadsOf P) (sym first) each.0)
+    subst (λ (z : Obligation). HasHeadsIfConcrete P (asked_goal z.goal)) same (subst (HasHeadsIfConcrete P) (sym first) each.0)
 heads_of_asked P e (o ∷ os) (a ∷ xs) is each (suc i) x at =
     let others : map node_asks os ≡ asked_for e xs = cc in
     heads_of_asked P e os xs others each.1 i x at
 
 -- what an expression needs
 module _ (g : Given) (e : ExprId) (x : RawExpr) (t : Ty) (c : InferenceContext) (goals : GoalTable)
-    (is : slice_get g.body.exprs e.0 ≡ Some x) (free : IsFree c.result.type_of_expr e.0) (owed : (expr_preds g.scope.facts x ≡ []) ⊎ (g.scope.facts.aliases ≡ []))
-    (fine : g.scope.facts.aliases ≡ [] → Each (HasHeadsOf (is_fine_head g.scope)) (needed_goals g.scope.facts x t))
+    (is : slice_get g.body.exprs e.0 ≡ Some x) (free : IsFree c.result.type_of_expr e.0) (fine : Each (HasHeadsIfConcrete (is_fine_head g.scope)) (needed_goals g.scope.facts x t))
     (registers : Registers c.goals.sources.facts (asked_for e.0 (needed_goals g.scope.facts x t)) c.goals.obligations goals.obligations)
     (sources : goals.sources ≡ c.goals.sources) (bounded : goals.bounded ≡ c.goals.bounded)
     (kept : AreKept goals.sources.facts (system goals.sources.sources) goals.table goals.obligations) (all : HasAllOpen (system goals.sources.sources) goals.table goals.obligations) where
@@ -173,10 +168,6 @@ module _ (g : Given) (e : ExprId) (x : RawExpr) (t : Ty) (c : InferenceContext) 
 
   abbrev last : InferenceContext
   last = with_goal_table (with_expr_ty c e t) goals
-
-  -- nothing was added, or no trait has an associated type
-  none_added : expr_preds raw x ≡ [] → registers.added ≡ []
-  none_added none = no_goals registers.added (needed_goals raw x t) e.0 (ap (map _) none) registers.asks
 
   asked_of : (n : ℕ) → asked_at goals.obligations.tree n ≡ asked_at c.goals.obligations.tree n ++ flat_map (asked_by_node n) registers.added
   asked_of n = ap (flat_map (asked_by_node n)) registers.asked.obligations ∙ flat_map-append (asked_by_node n) c.goals.obligations.tree.obligations.items registers.added
@@ -210,11 +201,14 @@ module _ (g : Given) (e : ExprId) (x : RawExpr) (t : Ty) (c : InferenceContext) 
           ∙ (ap (λ ys. asked_at c.goals.obligations.tree n ++ ys) (added_elsewhere c.goals.sources.facts.limits.goal_depth e.0 n apart registers.added (needed_goals raw x t) registers.asks registers.each)
           ∙ (append-nil (asked_at c.goals.obligations.tree n) ∙ (before n ∙ sym (needs_elsewhere n apart)))))
 
-  heads_of_added : (i : ℕ) (y : Obligation) → slice_get registers.added i ≡ Some y → HasHeadsOf (is_fine_head g.scope) (asked_goal y.goal)
-  heads_of_added i y at = elim owed [
-    | inl none ↦ (let empty : slice_get {X = Obligation} [] i ≡ Some y = subst (λ os. slice_get os i ≡ Some y) (none_added none) at in absurd (cc))
-    | inr none ↦ heads_of_asked (is_fine_head g.scope) e.0 registers.added (needed_goals raw x t) registers.asks (fine none) i y at
-  ]
+  heads_of_added : (i : ℕ) (y : Obligation) → slice_get registers.added i ≡ Some y → HasHeadsIfConcrete (is_fine_head g.scope) (asked_goal y.goal)
+  heads_of_added i y at = heads_of_asked (is_fine_head g.scope) e.0 registers.added (needed_goals raw x t) registers.asks fine i y at
+
+  -- what comes has no source yet
+  counted_still : AreCounted c.goals.obligations → AreCounted goals.obligations
+  counted_still before =
+      registers.selected
+      ∙ (before ∙ (sym (asked_counted c.goals.obligations.tree.standings.items registers.added) ∙ ap sourced (sym registers.asked.standings)))
 
   goals_registered : AreGoalsOf g c → AreGoalsOf g last
   goals_registered h = record {
@@ -226,13 +220,7 @@ module _ (g : Given) (e : ExprId) (x : RawExpr) (t : Ty) (c : InferenceContext) 
       | inl q ↦ h.heads i y q
       | inr q ↦ heads_of_added q.0 y q.1
     ];
-    owed = elim owed [
-      | inr none ↦ inr none
-      | inl none ↦ elim h.owed [
-        | inr no_alias ↦ inr no_alias
-        | inl empty ↦ inl (registers.asked.obligations ∙ (ap (λ os. os ++ registers.added) empty ∙ none_added none))
-      ]
-    ];
+    counted = counted_still h.counted;
     asked = all_asked h.asked;
   }
 

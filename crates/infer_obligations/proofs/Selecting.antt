@@ -1,9 +1,8 @@
 -- What selection does: along its steps no head comes into the table, nor into goals, but theirs and those of the sources, and what nodes
 -- ask stays as it is.
-use Rattle.std.specs.Prelude.{◌≡◌, ◌⊎◌, ◌-◌, ◌++◌, ℕ, zero, suc, Bool, true, false, List, [], ◌∷◌, flat_map, map, slice_get, Some, IsTrue, refl}
+use Rattle.std.specs.Prelude.{◌≡◌, ◌-◌, ◌++◌, ℕ, Bool, true, false, List, [], ◌∷◌, flat_map, map, slice_get, Some, IsTrue, refl}
 use Rattle.std.proofs.Common.{inl, inr, sym, ap, ◌∙◌, subst, append-nil}
 use Rattle.std.proofs.lemmas.Grind.{flat_map-append}
-use Rattle.std.proofs.lemmas.Option.{same_Some}
 use Rattle.hir_types.specs.declared.ids.ExprOrPatId.{ExprOrPatId}
 use Rattle.hir_types.specs.declared.goal.Goal.{Goal}
 use Rattle.hir_types.specs.declared.head.Head.TheVariants as head
@@ -14,9 +13,10 @@ use Rattle.infer_table.specs.Solutions.{log_of}
 use Rattle.infer_table.specs.Table.{State, bindings, Grew}
 use Rattle.infer_table.proofs.FallingBack.{binds_only_fallen}
 use Rattle.infer_table.proofs.HoleLaws.{grew_twice}
-use Rattle.goal_answers.specs.Goals.{System, Each}
+use Rattle.goal_answers.specs.Goals.{System}
 use Rattle.goal_facts.specs.Goals.{asked_goal}
-use Rattle.goal_select.specs.Steps.{HasHeadsOf, SystemHasHeadsOf}
+use Rattle.goal_facts.proofs.Systems.{each_get}
+use Rattle.goal_select.specs.Steps.{HasHeadsIfConcrete, SystemHasHeadsOf}
 use Rattle.goal_tree.specs.declared.obligation.Obligation.{Obligation}
 use Rattle.goal_tree.specs.declared.tree.GoalTree.{GoalTree}
 use Rattle.goal_tree.specs.Trees.{asked_by}
@@ -83,28 +83,9 @@ module _ (raw : RawFacts) (f : System) where
   pub went_asked : (n : ℕ) (bounded : Bool) (s : State) (o : Obligations) (s' : State) (o' : Obligations) → Went raw f bounded s o s' o' → asked_at o'.tree n ≡ asked_at o.tree n
   went_asked n bounded s o s' o' w = steps_asked n w.states s o.tree s' o'.tree w.steps
 
-  -- ---- where nothing is registered
-
-  nothing_at : (xs : List Obligation) (i : ℕ) (x : Obligation) → xs ≡ [] → slice_get xs i ≡ Some x → ⊥
-  nothing_at [] i x none at = cc
-  nothing_at (y ∷ xs) i x none at = cc
-
-  -- there is no step
-  no_steps : (us : List (State × GoalTree)) (s : State) (t : GoalTree) (s' : State) (t' : GoalTree) → t.obligations.items ≡ [] → AreSteps raw f us s t s' t' → (s' ≡ s) × (t' ≡ t)
-  no_steps [] s t s' t' empty a = a
-  no_steps (u ∷ us) s t s' t' empty a = absurd (nothing_at t.obligations.items a.0.at a.0.obligation empty a.0.listed)
-
-  pub none_went : (bounded : Bool) (s : State) (o : Obligations) (s' : State) (o' : Obligations) → o.tree.obligations.items ≡ [] → Went raw f bounded s o s' o' → o'.tree.obligations.items ≡ []
-  none_went bounded s o s' o' empty w = ap (λ (t : GoalTree). t.obligations.items) (no_steps w.states s o.tree s' o'.tree empty w.steps).1 ∙ empty
-
 -- ---- heads
 
-each_get : {X : Type 0} (P : X → Type 0) (xs : List X) (j : ℕ) (x : X) → Each P xs → slice_get xs j ≡ Some x → P x
-each_get P [] j x h e = cc
-each_get P (y ∷ xs) zero x h e = subst P (same_Some y x e) h.0
-each_get P (y ∷ xs) (suc j) x h e = each_get P xs j x h.1 e
-
--- the table binds holes to these heads alone, and so do goals
+-- the table binds holes to these heads alone, and concrete goals have no others
 pub record HaveHeads (P : Shape) (s : State) (t : GoalTree) : Type 0 where
   pub binds : BindsOnly P (log_of (bindings s))
   pub goals : TreeHasHeadsOf P t
@@ -121,7 +102,7 @@ module _ (raw : RawFacts) (f : System) (P : Shape) (none : NoAlias P) (is : IsTr
         goals = λ i y at. elim (append_get t.obligations.items (map (asked_by x.node (x.depth - 1) step.at) gs) i y (subst (λ zs. slice_get zs i ≡ Some y) asked at)) [
           | inl q ↦ h.goals i y q
           | inr q ↦ (let m = mapped_get (asked_by x.node (x.depth - 1) step.at) gs q.0 y q.1 in
-              subst (λ (z : Obligation). HasHeadsOf P (asked_goal z.goal)) m.2 (each_get (λ (g : Goal). HasHeadsOf P (asked_goal g)) gs q.0 m.0 both.1 m.1))
+              subst (λ (z : Obligation). HasHeadsIfConcrete P (asked_goal z.goal)) m.2 (each_get (λ (g : Goal). HasHeadsIfConcrete P (asked_goal g)) gs q.0 m.0 both.1 m.1))
         ];
       }
 
@@ -129,20 +110,11 @@ module _ (raw : RawFacts) (f : System) (P : Shape) (none : NoAlias P) (is : IsTr
   steps_have sources [] s t s' t' a h = subst (λ (z : State). HaveHeads P z t') (sym a.0) (subst (λ (z : GoalTree). HaveHeads P s z) (sym a.1) h)
   steps_have sources (u ∷ us) s t s' t' a h = steps_have sources us u.0 u.1 s' t' a.1 (step_has sources s t u.0 u.1 a.0 h)
 
-  -- nothing is registered, or sources have these heads alone
-  pub went_heads : (bounded : Bool) (s : State) (o : Obligations) (s' : State) (o' : Obligations) → Went raw f bounded s o s' o' → (o.tree.obligations.items ≡ []) ⊎ SystemHasHeadsOf P f → HaveHeads P s o.tree → HaveHeads P s' o'.tree
-  went_heads bounded s o s' o' w (inl empty) h =
-      let same = no_steps raw f w.states s o.tree s' o'.tree empty w.steps in
-      subst (λ (z : State). HaveHeads P z o'.tree) (sym same.0) (subst (λ (z : GoalTree). HaveHeads P s z) (sym same.1) h)
-  went_heads bounded s o s' o' w (inr sources) h = steps_have sources w.states s o.tree s' o'.tree w.steps h
+  pub went_heads : SystemHasHeadsOf P f → (bounded : Bool) (s : State) (o : Obligations) (s' : State) (o' : Obligations) → Went raw f bounded s o s' o' → HaveHeads P s o.tree → HaveHeads P s' o'.tree
+  went_heads sources bounded s o s' o' w h = steps_have sources w.states s o.tree s' o'.tree w.steps h
 
-  still_owed : (bounded : Bool) (s : State) (o : Obligations) (s' : State) (o' : Obligations) → Went raw f bounded s o s' o' → (o.tree.obligations.items ≡ []) ⊎ SystemHasHeadsOf P f → (o'.tree.obligations.items ≡ []) ⊎ SystemHasHeadsOf P f
-  still_owed bounded s o s' o' w (inl empty) = inl (none_went raw f bounded s o s' o' empty w)
-  still_owed bounded s o s' o' w (inr sources) = inr sources
-
-  pub selected_heads : (s : State) (o : Obligations) (s' : State) (o' : Obligations) → AreSelected raw f s o s' o' → (o.tree.obligations.items ≡ []) ⊎ SystemHasHeadsOf P f → HaveHeads P s o.tree → BindsOnly P (log_of (bindings s'))
-  selected_heads s o s' o' h owed have =
-      let first = went_heads true s o h.bounded_table h.bounded h.went owed have in
+  pub selected_heads : SystemHasHeadsOf P f → (s : State) (o : Obligations) (s' : State) (o' : Obligations) → AreSelected raw f s o s' o' → HaveHeads P s o.tree → BindsOnly P (log_of (bindings s'))
+  selected_heads sources s o s' o' h have =
+      let first = went_heads sources true s o h.bounded_table h.bounded h.went have in
       let fallen = binds_only_fallen P is h.bounded_table h.fallen_table h.fell first.binds in
-      let then_owed = still_owed true s o h.bounded_table h.bounded h.went owed in
-      (went_heads false h.fallen_table h.bounded s' o' h.went_on then_owed (record { binds = fallen; goals = first.goals })).binds
+      (went_heads sources false h.fallen_table h.bounded s' o' h.went_on (record { binds = fallen; goals = first.goals })).binds

@@ -1,5 +1,5 @@
 -- What is found out about a body holds where goals are selected: more is known of its holes then.
-use Rattle.std.proofs.Common.{◌≡◌, ◌⊎◌, ◌∙◌, inl, inr, refl, sym, subst, arith, Bool, []}
+use Rattle.std.proofs.Common.{◌≡◌, ◌∙◌, refl, sym, subst, arith, Bool}
 use Rattle.hir_types.specs.Terms.{terms_of}
 use Rattle.infer_table.specs.Completion.{completion}
 use Rattle.infer_table.specs.Preserved.{BindsOnly}
@@ -9,9 +9,9 @@ use Rattle.infer_table.specs.Waiting.{waiting}
 use Rattle.goal_facts.specs.Goals.{ItemSources}
 use Rattle.goal_facts.specs.Systems.{IsSystemOf}
 use Rattle.goal_search.specs.Sources.{system}
-use Rattle.goal_select.specs.Steps.{SystemHasHeadsOf}
 use Rattle.infer_goals.specs.declared.table.GoalTable.{GoalTable}
-use Rattle.infer_goals.specs.Obligations.{AreKept, HasAllOpen, Went, NoneLeft}
+use Rattle.infer_goals.specs.Obligations.{AreKept, HasAllOpen, Went, NoneLeft, AreCounted}
+use Rattle.infer_goals.proofs.Counting.{went_counted}
 use Rattle.infer_result.specs.Closed.{IsOfBody}
 use Rattle.infer_result.specs.Places.{Given}
 use Rattle.infer_ctx.specs.Asked.{AreSourcesIn, AreGoalsOf, IsTold}
@@ -24,7 +24,7 @@ use Rattle.infer_ctx.proofs.UnderClosings.{kept_later}
 use Rattle.infer_coerce.specs.MadeEqual.{UnifiesKnown}
 use Rattle.infer_coerce.proofs.Unified.{completion_closing, binds_twice}
 use Rattle.infer_obligations.specs.Selection.{SelectsAlone, SelectsInWalk}
-use Rattle.infer_obligations.proofs.Selecting.{StaysApart, HaveHeads, went_apart, went_asked, went_heads, none_went}
+use Rattle.infer_obligations.proofs.Selecting.{StaysApart, HaveHeads, went_apart, went_asked, went_heads}
 
 -- ---- with a table of goals that knows more
 
@@ -40,10 +40,6 @@ module _ (g : Given) (c : InferenceContext) (s : IsSound g.scope c) (goals : Goa
     bound = bound;
     some = (completion goals.table, record { closing = completion_closing g.scope goals.table bound respects; meets = meets });
   }
-
--- nothing is registered, or sources have types in scope alone
-pub owed_heads : (g : Given) (c : InferenceContext) → AreGoalsOf g c → IsSystemOf c.goals.sources.facts c.goals.sources.item (system c.goals.sources.sources) → (c.goals.obligations.tree.obligations.items ≡ []) ⊎ SystemHasHeadsOf (is_fine_head g.scope) (system c.goals.sources.sources)
-owed_heads g c h given = elim h.owed [ inl empty ↦ inl empty | inr none ↦ inr (h.sources.heads none given) ]
 
 -- ---- selected while the body is walked
 
@@ -62,8 +58,13 @@ module _ (g : Given) (c : InferenceContext) (body : IsOfBody g.body c.result) (s
 
   heads : HaveHeads (is_fine_head g.scope) goals.table goals.obligations.tree
   heads =
-      went_heads c.goals.sources.facts (system c.goals.sources.sources) (is_fine_head g.scope) (fine_no_alias g.scope) refl c.goals.bounded c.goals.table c.goals.obligations goals.table goals.obligations went
-      (owed_heads g c told.goals given) (record { binds = s.bound; goals = told.goals.heads })
+      went_heads c.goals.sources.facts (system c.goals.sources.sources) (is_fine_head g.scope) (fine_no_alias g.scope) refl (told.goals.sources.heads given) c.goals.bounded c.goals.table c.goals.obligations goals.table goals.obligations went
+      (record { binds = s.bound; goals = told.goals.heads })
+
+  counted : AreCounted goals.obligations
+  counted =
+      went_counted c.goals.sources.facts (system c.goals.sources.sources) c.goals.table c.goals.obligations goals.table goals.obligations
+      (subst (λ (z : Bool). Went c.goals.sources.facts (system c.goals.sources.sources) z c.goals.table c.goals.obligations goals.table goals.obligations) told.goals.bounded went) told.goals.kept.tree told.goals.counted
 
   goals_selected : AreGoalsOf g last
   goals_selected = record {
@@ -72,10 +73,7 @@ module _ (g : Given) (c : InferenceContext) (body : IsOfBody g.body c.result) (s
     kept = kept;
     all = all;
     heads = heads.goals;
-    owed = elim told.goals.owed [
-      | inl empty ↦ inl (none_went c.goals.sources.facts (system c.goals.sources.sources) c.goals.bounded c.goals.table c.goals.obligations goals.table goals.obligations empty went)
-      | inr none ↦ inr none
-    ];
+    counted = counted;
     asked = λ n. went_asked c.goals.sources.facts (system c.goals.sources.sources) n c.goals.bounded c.goals.table c.goals.obligations goals.table goals.obligations went ∙ told.goals.asked n;
   }
 

@@ -9,7 +9,7 @@ use Rattle.goal_answers.specs.Goals.{System}
 use Rattle.goal_facts.specs.Systems.{IsSystemOf}
 use Rattle.goal_search.specs.Sources.{system}
 use Rattle.infer_goals.specs.declared.obligations.Obligations.{Obligations}
-use Rattle.infer_goals.specs.Obligations.{AreKept, Went, NoneLeft}
+use Rattle.infer_goals.specs.Obligations.{AreKept, Went, NoneLeft, AreCounted}
 use Rattle.infer_result.specs.Needs.{scope_item}
 use Rattle.infer_result.specs.Places.{Given}
 use Rattle.infer_ctx.specs.declared.context.InferenceContext.{InferenceContext}
@@ -46,11 +46,12 @@ pub record AreSelected (raw : RawFacts) (f : System) (before : State) (first : O
   pub went_on : Went raw f false fallen_table bounded after last
   pub none_left_at_last : NoneLeft raw f false after last
 
--- Exactly what the expressions need was registered for them, each source that a goal has by now is right, and then it was selected,
--- by what the goals of the item are answered by.
+-- Exactly what the expressions need was registered for them, each source that a goal has by now is right, those that have one are
+-- counted as selected, and then it was selected, by what the goals of the item are answered by.
 pub record IsSelection (raw : RawFacts) (d : DefWithBodyId) (b : RawBody) (old new : InferenceContext) : Type 0 where
   pub system : System
   pub of_item : IsSystemOf raw (scope_item raw d) system
   pub asked : AllAreAsked raw b old
   pub kept : AreKept raw system old.goals.table old.goals.obligations
+  pub counted : AreCounted old.goals.obligations
   pub selected : AreSelected raw system old.goals.table old.goals.obligations new.goals.table new.goals.obligations

@@ -44,7 +44,7 @@ module _ (g : Given) (e : ExprId) (t : Ty) (c : InferenceContext) (is : IsLitera
       kept = h.goals.kept;
       all = h.goals.all;
       heads = h.goals.heads;
-      owed = h.goals.owed;
+      counted = h.goals.counted;
       asked = all_asked h.goals.asked;
     };
   }

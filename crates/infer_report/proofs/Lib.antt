@@ -1,2 +1,3 @@
+pub mod LaterArgs
 pub mod Lines
 pub mod TypeTexts

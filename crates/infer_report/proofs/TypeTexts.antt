@@ -21,7 +21,7 @@ use Rattle.hir_types.specs.declared.ty.AliasBound.{AliasBound}
 use Rattle.hir_types.specs.declared.ty.Ty.{Ty, Ty-F, fold-roll-Ty}
 use Rattle.hir_types.specs.declared.ty.Ty.TheVariants as ty
 use Rattle.hir_raw.specs.declared.raw.RawFacts.{RawFacts}
-use Rattle.infer_result.specs.Report.{int_text, uint_text, float_text, const_text, ref_text, ptr_text, label_text, safety_text, callable_text, tuple_text, joined, args_text, adt_text, text_arg, text_step, text_bound, text_trait, arg_text, ty_text}
+use Rattle.infer_result.specs.Report.{int_text, uint_text, float_text, const_text, ref_text, ptr_text, label_text, safety_text, callable_text, tuple_text, joined, args_text, adt_text, projection_text, text_arg, text_step, text_bound, text_trait, arg_text, ty_text}
 
 pub bool_text_is : (raw : RawFacts) → ty_text raw ty.Bool ≡ codes "bool"
 bool_text_is raw = ap (ty_text raw) (sym ty.rolls-Bool) ∙ fold-roll-Ty (List ℕ) (List ℕ) (List ℕ) (List ℕ) text_arg (text_step raw) text_bound text_trait Ty-F.Bool
@@ -77,7 +77,7 @@ dynamic_text_is raw o bs ts = ap (ty_text raw) (sym (ty.rolls-Dynamic o bs ts)) 
 pub param_text_is : (raw : RawFacts) (n : ℕ) → ty_text raw (ty.Param n) ≡ codes "param" ++ decimal n
 param_text_is raw n = ap (ty_text raw) (sym (ty.rolls-Param n)) ∙ fold-roll-Ty (List ℕ) (List ℕ) (List ℕ) (List ℕ) text_arg (text_step raw) text_bound text_trait (Ty-F.Param n)
 
-pub projection_text_is : (raw : RawFacts) (i : TypeAliasId) (xs : List GenericArg) → ty_text raw (ty.Projection i xs) ≡ codes "{unknown}"
+pub projection_text_is : (raw : RawFacts) (i : TypeAliasId) (xs : List GenericArg) → ty_text raw (ty.Projection i xs) ≡ projection_text raw i (map (arg_text raw) xs)
 projection_text_is raw i xs = ap (ty_text raw) (sym (ty.rolls-Projection i xs)) ∙ fold-roll-Ty (List ℕ) (List ℕ) (List ℕ) (List ℕ) text_arg (text_step raw) text_bound text_trait (Ty-F.Projection i xs)
 
 pub opaque_text_is : (raw : RawFacts) (i : OpaqueId) (xs : List GenericArg) → ty_text raw (ty.Opaque i xs) ≡ codes "{unknown}"

@@ -1,12 +1,13 @@
 //! Types as text.
 ghost use Rattle.std.specs.Prelude.{◌≡◌, ◌++◌, List, map, OnOk, codes, string_bytes};
+ghost use Rattle.std.specs.Option.{option_copied};
 ghost use Rattle.std.specs.Fmt.{decimal};
-ghost use Rattle.infer_result.specs.Report.{int_text, uint_text, float_text, const_text, ref_text, ptr_text, label_text, safety_text, callable_text, separator, joined, tuple_text, args_text, adt_text, arg_text, ty_text, type_text};
+ghost use Rattle.infer_result.specs.Report.{int_text, uint_text, float_text, const_text, ref_text, ptr_text, label_text, safety_text, callable_text, separator, joined, tuple_text, args_text, later_args_text, later_arg_text, adt_text, implements_text, projection_text, arg_text, ty_text, type_text};
 
-use hir_facts::RawFacts;
+use hir_facts::{RawFacts, RawTrait};
 use hir_types::{
     AdtId, CallableDefId, ClosureId, Const, FloatTy, GenericArg, IntTy, List, Mutability, Region,
-    Safety, Ty, UintTy,
+    Safety, Ty, TypeAliasId, UintTy,
 };
 use std::alloc::AllocError;
 
@@ -205,6 +206,47 @@ pub fn push_args(out: &mut String, facts: &RawFacts, args: &[GenericArg]) -> Res
     out.push_str(">")
 }
 
+/// Writes a generic argument that is not the first, with what stands before it.
+#[cycle(shown)]
+fn push_later_arg(
+    out: &mut String,
+    facts: &RawFacts,
+    at: usize,
+    arg: &GenericArg,
+) -> Result<(), AllocError>
+    ensures { OnOk result (string_bytes out.new ≡ string_bytes out.old ++ later_arg_text at (arg_text facts.now arg.now)) }
+{
+    match at {
+        0 => Ok(()),
+        1 => {
+            out.push_str("<")?;
+            push_arg(out, facts, arg)
+        }
+        _ => {
+            out.push_str(", ")?;
+            push_arg(out, facts, arg)
+        }
+    }
+}
+
+/// Writes the generic arguments but the first, where there are any.
+#[cycle(shown)]
+fn push_later_args(
+    out: &mut String,
+    facts: &RawFacts,
+    args: &[GenericArg],
+) -> Result<(), AllocError>
+    ensures { OnOk result (string_bytes out.new ≡ string_bytes out.old ++ later_args_text (map (arg_text facts.now) args.now)) }
+{
+    for (at, arg) in args.iter().enumerate() {
+        push_later_arg(out, facts, at, arg)?;
+    }
+    if args.len() > 1 {
+        out.push_str(">")?;
+    }
+    Ok(())
+}
+
 #[cycle(shown)]
 fn push_adt(
     out: &mut String,
@@ -223,6 +265,50 @@ fn push_adt(
     }
 }
 
+/// Writes the self type, what stands between, and the trait at its other arguments.
+#[cycle(shown)]
+pub fn push_implements(
+    out: &mut String,
+    facts: &RawFacts,
+    between: &str,
+    item: Option<&RawTrait>,
+    args: &[GenericArg],
+) -> Result<(), AllocError>
+    ensures { OnOk result (string_bytes out.new ≡ string_bytes out.old ++ implements_text between.now (option_copied item.entry) (map (arg_text facts.now) args.now)) }
+{
+    match (item, args.first()) {
+        (Some(item), Some(own)) => {
+            push_arg(out, facts, own)?;
+            out.push_str(between)?;
+            out.push_str(item.name.as_str())?;
+            push_later_args(out, facts, args)
+        }
+        _ => out.push_str("{unknown}"),
+    }
+}
+
+/// Writes an associated type at the arguments of its trait.
+#[cycle(shown)]
+pub fn push_projection(
+    out: &mut String,
+    facts: &RawFacts,
+    id: TypeAliasId,
+    args: &[GenericArg],
+) -> Result<(), AllocError>
+    ensures { OnOk result (string_bytes out.new ≡ string_bytes out.old ++ projection_text facts.now id (map (arg_text facts.now) args.now)) }
+{
+    match facts.aliases.get(id.0 as usize) {
+        None => out.push_str("{unknown}"),
+        Some(alias) => {
+            out.push_str("<")?;
+            let item = facts.traits.get(alias.trait_.0 as usize);
+            push_implements(out, facts, " as ", item, args)?;
+            out.push_str(">::")?;
+            out.push_str(alias.name.as_str())
+        }
+    }
+}
+
 /// Writes what stands between a function's name and its output.
 #[cycle(shown)]
 fn push_inputs(out: &mut String, facts: &RawFacts, types: &List<Ty>) -> Result<(), AllocError>
@@ -233,9 +319,9 @@ fn push_inputs(out: &mut String, facts: &RawFacts, types: &List<Ty>) -> Result<(
     out.push_str(") -> ")
 }
 
-/// Writes a type: adts by their names in the facts, functions and constructors by their numbers. What
-/// is written with names of traits, aliases and opaque types, which the facts do not carry yet, is
-/// `{unknown}`: no type that fits the facts is one.
+/// Writes a type: adts and associated types by their names in the facts, functions and constructors by their
+/// numbers. `dyn` traits and opaque types, which the facts do not carry yet, are `{unknown}`: no type
+/// that fits the facts is one.
 #[cycle(shown)]
 #[tactic(auto, using(crate::proofs::TypeTexts::ty_text_is))]
 pub fn push_ty(out: &mut String, facts: &RawFacts, ty: &Ty) -> Result<(), AllocError>
@@ -290,8 +376,9 @@ pub fn push_ty(out: &mut String, facts: &RawFacts, ty: &Ty) -> Result<(), AllocE
             push_ty(out, facts, output.get())
         }
         Ty::Param(number) => write!(out, "param{number}"),
+        Ty::Projection(id, args) => push_projection(out, facts, *id, args.as_slice()),
         Ty::Dynamic { .. } => out.push_str("{unknown}"),
-        Ty::Projection(..) | Ty::Opaque(..) | Ty::Error => out.push_str("{unknown}"),
+        Ty::Opaque(..) | Ty::Error => out.push_str("{unknown}"),
         Ty::Var(hole) | Ty::IntVar(hole) => write!(out, "?{hole}"),
         Ty::Hole => out.push_str("_"),
     }

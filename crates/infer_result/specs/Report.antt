@@ -5,6 +5,7 @@ use Rattle.std.specs.Fmt.{decimal}
 use Rattle.hir_types.specs.declared.ids.AdtId.{AdtId}
 use Rattle.hir_types.specs.declared.ids.CallableDefId.{CallableDefId}
 use Rattle.hir_types.specs.declared.ids.CallableDefId.TheVariants as callable
+use Rattle.hir_types.specs.declared.ids.TypeAliasId.{TypeAliasId}
 use Rattle.hir_types.specs.declared.ids.VariantId.{VariantId}
 use Rattle.hir_types.specs.declared.ids.ExprOrPatId.{ExprOrPatId}
 use Rattle.hir_types.specs.declared.ids.ExprOrPatId.TheVariants as node
@@ -30,7 +31,6 @@ use Rattle.hir_types.specs.declared.ty.Const.{Const}
 use Rattle.hir_types.specs.declared.ty.Const.TheVariants as const
 use Rattle.hir_types.specs.declared.ty.AliasBound.{AliasBound-F}
 use Rattle.hir_types.specs.declared.ty.GenericArg.{GenericArg, GenericArg-F, fold-GenericArg}
-use Rattle.hir_types.specs.declared.ty.GenericArg.TheVariants as arg
 use Rattle.hir_types.specs.declared.ty.TraitRef.{TraitRef-F, out-TraitRef}
 use Rattle.hir_types.specs.declared.ty.Ty.{Ty, Ty-F, fold-Ty}
 use Rattle.infer_result.specs.declared.modes.BindingMode.{BindingMode}
@@ -118,6 +118,16 @@ abbrev pub args_text : List (List ℕ) → List ℕ
 args_text [] = []
 args_text (x ∷ xs) = codes "<" ++ joined (x ∷ xs) ++ codes ">"
 
+-- those but the first; each with what stands before it
+abbrev pub later_args_text : List (List ℕ) → List ℕ
+later_args_text [] = []
+later_args_text (x ∷ xs) = args_text xs
+
+abbrev pub later_arg_text : ℕ → List ℕ → List ℕ
+later_arg_text zero x = []
+later_arg_text (suc zero) x = codes "<" ++ x
+later_arg_text (suc (suc n)) x = codes ", " ++ x
+
 -- an adt is named as in the source
 abbrev pub named_text : Option RawAdt → List (List ℕ) → List ℕ
 named_text None xs = codes "{unknown}"
@@ -132,6 +142,20 @@ abbrev pub callable_text : CallableDefId → List ℕ
 callable_text (callable.FunctionId f) = codes "fn" ++ decimal f.0
 callable_text (callable.VariantId v) = codes "variant" ++ decimal v.0
 
+-- the self type and a trait at its other arguments, with this between them
+abbrev pub implements_text : List ℕ → Option RawTrait → List (List ℕ) → List ℕ
+implements_text between (Some x) (t ∷ xs) = t ++ between ++ x.name ++ args_text xs
+implements_text between _ _ = codes "{unknown}"
+
+-- an associated type at the arguments of its trait
+abbrev pub alias_text : RawFacts → Option RawAlias → List (List ℕ) → List ℕ
+alias_text raw None xs = codes "{unknown}"
+alias_text raw (Some k) xs = codes "<" ++ implements_text (codes " as ") (slice_get raw.traits k.trait_.0) xs ++ codes ">::" ++ k.name
+
+-- where it is in range
+abbrev pub projection_text : RawFacts → TypeAliasId → List (List ℕ) → List ℕ
+projection_text raw i xs = alias_text raw (slice_get raw.aliases i.0) xs
+
 abbrev pub text_arg : GenericArg-F (List ℕ) (List ℕ) (List ℕ) (List ℕ) → List ℕ
 text_arg (GenericArg-F.Ty t) = t
 text_arg (GenericArg-F.Const c) = const_text c
@@ -142,8 +166,8 @@ text_bound b = b.ty
 abbrev pub text_trait : TraitRef-F (List ℕ) (List ℕ) (List ℕ) (List ℕ) → List ℕ
 text_trait t = joined t.args
 
--- One level, with the text of each type inside. What is written with names of traits, aliases and opaque
--- types, which the facts do not carry yet, is `{unknown}`: no type that fits the facts is one.
+-- One level, with the text of each type inside. `dyn` traits and opaque types, which the facts do not carry yet, are `{unknown}`: no
+-- type that fits the facts is one.
 abbrev pub text_step : RawFacts → Ty-F (List ℕ) (List ℕ) (List ℕ) (List ℕ) → List ℕ
 text_step raw Ty-F.Bool = codes "bool"
 text_step raw Ty-F.Char = codes "char"
@@ -163,7 +187,7 @@ text_step raw (Ty-F.FnPtr s ts t) = safety_text s ++ signature_text ts t
 text_step raw (Ty-F.Closure i ts t) = codes "closure e" ++ decimal i.0.0 ++ signature_text ts t
 text_step raw (Ty-F.Dynamic o bs ts) = codes "{unknown}"
 text_step raw (Ty-F.Param n) = codes "param" ++ decimal n
-text_step raw (Ty-F.Projection i xs) = codes "{unknown}"
+text_step raw (Ty-F.Projection i xs) = projection_text raw i xs
 text_step raw (Ty-F.Opaque i xs) = codes "{unknown}"
 text_step raw Ty-F.Error = codes "{unknown}"
 text_step raw (Ty-F.Var n) = codes "?" ++ decimal n
@@ -184,21 +208,10 @@ type_text raw (Some t) = ty_text raw t
 
 -- ---- goals
 
--- the self type and a trait at its other arguments, with this between them
-abbrev pub implements_text : RawFacts → List ℕ → Option RawTrait → List GenericArg → List ℕ
-implements_text raw between (Some x) (arg.Ty t ∷ xs) = ty_text raw t ++ between ++ x.name ++ args_text (map (arg_text raw) xs)
-implements_text raw between _ _ = codes "{unknown}"
-
--- the associated type at the arguments of its trait
-abbrev pub alias_text : RawFacts → Option RawAlias → List GenericArg → List ℕ
-alias_text raw None xs = codes "{unknown}"
-alias_text raw (Some k) xs =
-    codes "<" ++ implements_text raw (codes " as ") (slice_get raw.traits k.trait_.0) xs ++ codes ">::" ++ k.name
-
 unfoldable pub goal_text : RawFacts → Goal → List ℕ
 goal_text raw (goal.Trait r) =
-    implements_text raw (codes ": ") (slice_get raw.traits (out-TraitRef r).id.0) (out-TraitRef r).args
-goal_text raw (goal.Projection k xs t) = alias_text raw (slice_get raw.aliases k.0) xs ++ codes " == " ++ ty_text raw t
+    implements_text (codes ": ") (slice_get raw.traits (out-TraitRef r).id.0) (map (arg_text raw) (out-TraitRef r).args)
+goal_text raw (goal.Projection k xs t) = projection_text raw k (map (arg_text raw) xs) ++ codes " == " ++ ty_text raw t
 
 -- ---- lines
 

@@ -32,22 +32,6 @@ use std::alloc::{AllocError, Global};
 use std::rt::Files;
 use std::{fs, io};
 
-/// Facts, and what is asked of them: nothing where a text is empty.
-#[derive(Drop)]
-struct Row {
-    facts: String,
-    words: String,
-    old: String,
-    ends: String,
-    report: String,
-    before_fallback: String,
-    plain: String,
-    answers: String,
-    proofs: String,
-    told: String,
-    mistake: String,
-}
-
 /// Puts a text in the place of another, and tells whether this was there.
 pub fn put(alloc: Global, text: &mut String, old: &str, new: &str) -> Result<bool, AllocError> {
     let Some((front, back)) = text.as_str().split_once(old) else {
@@ -77,69 +61,79 @@ fn push_lines(out: &mut String, lines: &str) -> Result<(), AllocError> {
     Ok(())
 }
 
-impl Row {
-    fn new(alloc: Global, facts: &str) -> Result<Row, AllocError> {
-        Ok(Row {
-            facts: String::from_str(alloc, facts)?,
-            words: String::from_str(alloc, "table fn 0")?,
-            old: String::new(alloc),
-            ends: String::new(alloc),
-            report: String::new(alloc),
-            before_fallback: String::new(alloc),
-            plain: String::new(alloc),
-            answers: String::new(alloc),
-            proofs: String::new(alloc),
-            told: String::new(alloc),
-            mistake: String::new(alloc),
-        })
-    }
+/// The word at the beginning of a line, and what follows it.
+fn parted(line: &str) -> (&str, &str) {
+    line.split_once(' ').unwrap_or((line, ""))
+}
 
-    fn put(&mut self, alloc: Global, old: &str, new: &str) -> Result<(), AllocError> {
-        if !put(alloc, &mut self.facts, old, new)? {
-            self.mistake = format!(in alloc; "there is no {old} in the facts\n")?;
+/// What follows a word in the last line of a block that begins with it.
+fn said<'a>(block: &'a str, word: &str) -> Option<&'a str> {
+    let mut found = None;
+    for line in block.lines() {
+        let (first, rest) = parted(line);
+        if first == word {
+            found = Some(rest);
         }
-        Ok(())
     }
+    found
+}
 
-    /// Takes what a line says.
-    fn read(&mut self, alloc: Global, word: &str, rest: &str) -> Result<(), AllocError> {
-        match word {
-            "#" | "|" | "of" => {}
-            "facts" => self.facts = String::from_str(alloc, rest)?,
-            "words" => self.words = String::from_str(alloc, rest)?,
-            "old" => self.old = String::from_str(alloc, rest)?,
-            "new" => {
-                let old = String::from_str(alloc, self.old.as_str())?;
-                self.put(alloc, old.as_str(), rest)?;
-            }
-            "ends" => self.ends = String::from_str(alloc, rest)?,
-            ">" => push_lines(&mut self.report, rest)?,
-            "?" => push_lines(&mut self.before_fallback, rest)?,
-            "in" | "open" | "select" => {
-                let line = format!(in alloc; "{word} {rest}\n")?;
-                self.answers.push_str(line.as_str())?;
-            }
-            "^" => push_lines(&mut self.proofs, rest)?,
-            "told" => self.told = String::from_str(alloc, rest)?,
-            "plain" => self.plain = String::from_str(alloc, rest)?,
-            _ if word.starts_with('$') => {
-                let mark = format!(in alloc; "\"{word}\"")?;
-                self.put(alloc, mark.as_str(), rest)?;
-            }
-            _ => self.mistake = format!(in alloc; "no line begins with {word}\n")?,
+/// The lines that follow a word, in all lines of a block that begin with it.
+fn all_said(alloc: Global, block: &str, word: &str) -> Result<String, AllocError> {
+    let mut out = String::new(alloc);
+    for line in block.lines() {
+        let (first, rest) = parted(line);
+        if first == word {
+            push_lines(&mut out, rest)?;
         }
-        Ok(())
+    }
+    Ok(out)
+}
+
+/// Whether a line of a block may begin so.
+fn is_word(word: &str) -> bool {
+    match word {
+        "#" | "|" | "of" | "facts" | "words" | "old" | "new" | "ends" | ">" | "?" => true,
+        "in" | "open" | "select" | "^" | "told" | "plain" => true,
+        _ => word.starts_with('$'),
     }
 }
 
-/// The row in a block, over these facts.
-fn row_of(alloc: Global, facts: &str, block: &str) -> Result<Row, AllocError> {
-    let mut row = Row::new(alloc, facts)?;
-    for line in block.lines() {
-        let (word, rest) = line.split_once(' ').unwrap_or((line, ""));
-        row.read(alloc, word, rest)?;
+/// Puts into facts what a line of a block says, and tells whether that is there. `old` is what the last line with this word named.
+fn put_line(
+    alloc: Global,
+    facts: &mut String,
+    (word, rest): (&str, &str),
+    old: &str,
+) -> Result<bool, AllocError> {
+    match word {
+        "new" => put(alloc, facts, old, rest),
+        _ if word.starts_with('$') => {
+            let mark = format!(in alloc; "\"{word}\"")?;
+            put(alloc, facts, mark.as_str(), rest)
+        }
+        _ => Ok(is_word(word)),
     }
-    Ok(row)
+}
+
+/// The facts with what a block puts into them, or the first line that can't be.
+fn facts_with<'a>(
+    alloc: Global,
+    facts: &'a str,
+    block: &'a str,
+) -> Result<(String, Option<&'a str>), AllocError> {
+    let mut made = String::from_str(alloc, facts)?;
+    let mut old = "";
+    for line in block.lines() {
+        let (word, rest) = parted(line);
+        if word == "old" {
+            old = rest;
+        }
+        if !put_line(alloc, &mut made, (word, rest), old)? {
+            return Ok((made, Some(line)));
+        }
+    }
+    Ok((made, None))
 }
 
 /// Whether the body of the first function is plain, and has types before fallback.
@@ -155,47 +149,96 @@ pub fn plain_of(ran: &Ran) -> &'static str {
     }
 }
 
-/// What is wrong with a row: nothing, or what differs.
-fn wrong_with(alloc: Global, row: &Row) -> Result<String, AllocError> {
+/// Compares what is said of the table of a run, where a block asks for it.
+fn compare_table(
+    wrong: &mut String,
+    alloc: Global,
+    block: &str,
+    ran: &Ran,
+) -> Result<(), AllocError> {
+    let wanted = all_said(alloc, block, "?")?;
+    if !wanted.is_empty() {
+        compare(wrong, wanted.as_str(), text_of(alloc, ran)?.as_str())?;
+    }
+    if let Some(wanted) = said(block, "plain") {
+        compare(wrong, wanted, plain_of(ran))?;
+    }
+    Ok(())
+}
+
+/// Compares the proofs of a run, and what an inspector is told, where a block asks for them.
+fn compare_goals(
+    wrong: &mut String,
+    alloc: Global,
+    block: &str,
+    ran: &Ran,
+) -> Result<(), AllocError> {
+    let wanted = all_said(alloc, block, "^")?;
+    if !wanted.is_empty() {
+        compare(wrong, wanted.as_str(), proofs_of(alloc, ran)?.as_str())?;
+    }
+    if let Some(wanted) = said(block, "told") {
+        compare(wrong, wanted, told_of(alloc, ran)?.as_str().trim_end())?;
+    }
+    Ok(())
+}
+
+/// Compares the answers for which a block asks, and tells whether it asks for any.
+fn compare_answers(
+    wrong: &mut String,
+    alloc: Global,
+    facts: &str,
+    block: &str,
+) -> Result<bool, AllocError> {
+    let mut asks = false;
+    for line in block.lines() {
+        if let ("in" | "open" | "select", _) = parted(line) {
+            let (item, expected) = line.split_once(": ").unwrap_or((line, ""));
+            compare(
+                wrong,
+                expected,
+                goals::answers(alloc, facts, item)?.as_str().trim_end(),
+            )?;
+            asks = true;
+        }
+    }
+    Ok(asks)
+}
+
+/// Compares how a run of these facts ends, and what it writes, where a block says so.
+fn compare_run(
+    wrong: &mut String,
+    alloc: Global,
+    facts: &str,
+    block: &str,
+) -> Result<(), AllocError> {
     let way = Way {
-        words: row.words.as_str(),
+        words: said(block, "words").unwrap_or(PLAIN.words),
         ..PLAIN
     };
-    let end = ran(alloc, &way, row.facts.as_bytes())?;
-    let mut wrong = String::from_str(alloc, row.mistake.as_str())?;
-    if !row.ends.is_empty() {
-        compare_end(
-            &mut wrong,
-            alloc,
-            &end,
-            row.ends.as_str(),
-            row.report.as_str(),
-        )?;
+    let end = ran(alloc, &way, facts.as_bytes())?;
+    if let Some(ends) = said(block, "ends") {
+        let report = all_said(alloc, block, ">")?;
+        compare_end(wrong, alloc, &end, ends, report.as_str())?;
     }
-    if !row.before_fallback.is_empty() {
-        let types = text_of(alloc, &end.0)?;
-        compare(&mut wrong, row.before_fallback.as_str(), types.as_str())?;
+    compare_table(wrong, alloc, block, &end.0)?;
+    compare_goals(wrong, alloc, block, &end.0)
+}
+
+/// What is wrong with the row in a block, over these facts: nothing, or what differs.
+fn wrong_with(alloc: Global, facts: &str, block: &str) -> Result<String, AllocError> {
+    let facts = said(block, "facts").unwrap_or(facts);
+    let (facts, mistake) = facts_with(alloc, facts, block)?;
+    let mut wrong = String::new(alloc);
+    if let Some(line) = mistake {
+        write!(wrong, "this is no line, or not in the facts: {line}\n")?;
     }
-    if !row.plain.is_empty() {
-        compare(&mut wrong, row.plain.as_str(), plain_of(&end.0))?;
-    }
-    if !row.proofs.is_empty() {
-        let proofs = proofs_of(alloc, &end.0)?;
-        compare(&mut wrong, row.proofs.as_str(), proofs.as_str())?;
-    }
-    if !row.told.is_empty() {
-        let told = told_of(alloc, &end.0)?;
-        compare(&mut wrong, row.told.as_str(), told.as_str().trim_end())?;
-    }
-    if row.ends.is_empty() && !row.report.is_empty() {
+    compare_run(&mut wrong, alloc, facts.as_str(), block)?;
+    let asks = compare_answers(&mut wrong, alloc, facts.as_str(), block)?;
+    if said(block, "ends").is_none() && said(block, ">").is_some() {
         wrong.push_str("a report without an end\n")?;
     }
-    for line in row.answers.as_str().lines() {
-        let (item, expected) = line.split_once(": ").unwrap_or((line, ""));
-        let answers = goals::answers(alloc, row.facts.as_str(), item)?;
-        compare(&mut wrong, expected, answers.as_str().trim_end())?;
-    }
-    if row.ends.is_empty() && row.plain.is_empty() && row.answers.is_empty() {
+    if !asks && said(block, "ends").is_none() && said(block, "plain").is_none() {
         wrong.push_str("nothing is asked\n")?;
     }
     Ok(wrong)
@@ -209,8 +252,7 @@ fn check_row(
     block: &str,
     checks: &mut Checks,
 ) -> io::Result<()> {
-    let row = row_of(rt.alloc(), facts, block)?;
-    let wrong = wrong_with(rt.alloc(), &row)?;
+    let wrong = wrong_with(rt.alloc(), facts, block)?;
     let name = format!(in rt.alloc(); "{path}:{at}")?;
     checks.note(rt, name.as_str(), wrong.as_str())
 }
@@ -222,18 +264,13 @@ fn named_facts(
     block: &str,
     checks: &mut Checks,
 ) -> io::Result<String> {
-    let name = block
-        .lines()
-        .next()
-        .and_then(|line| line.strip_prefix("of "));
-    let facts = facts_beside(rt, path, name.unwrap_or(""))?;
-    let row = row_of(rt.alloc(), facts.as_str(), block)?;
-    if !row.mistake.is_empty() {
-        let mistake = row.mistake.as_str();
+    let facts = facts_beside(rt, path, said(block, "of").unwrap_or(""))?;
+    let (facts, mistake) = facts_with(rt.alloc(), facts.as_str(), block)?;
+    if let Some(line) = mistake {
         checks.wrong = checks.wrong.saturating_add(1);
-        eprintln!(rt; "{path}:{at}: {mistake}")?;
+        eprintln!(rt; "{path}:{at}: this is no line, or not in the facts: {line}")?;
     }
-    Ok(row.facts)
+    Ok(facts)
 }
 
 /// Goes through the blocks of a file.

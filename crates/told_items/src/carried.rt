@@ -104,39 +104,6 @@ fn of_impl(place: Place, entry: &Value) -> Option<(Place, Uncarried<'static>)> {
     }
 }
 
-/// Whether what stands at a number in a list has predicates.
-fn asks(facts: &Value, key: &str, id: Option<&Value>) -> Option<bool> {
-    let entry = list(facts, key).get(number(id)?)?;
-    Some(!list(entry, "preds").is_empty())
-}
-
-/// Whether a path names an item with predicates.
-fn owes(facts: &Value, path: Option<&Value>) -> Option<bool> {
-    match word(path) {
-        "fn" => asks(facts, "fns", path?.get(1usize)),
-        "ctor" | "variant" => {
-            let variant = list(facts, "variants").get(number(path?.get(1usize))?)?;
-            asks(facts, "adts", variant.get("adt"))
-        }
-        _ => None,
-    }
-}
-
-/// The first of a body's expressions that names an item with predicates: these might be about associated
-/// types, where there are some.
-fn of_owing(facts: &Value, place: Place, body: &Value) -> Option<(Place, Uncarried<'static>)> {
-    const FORM: &str = "paths to items with predicates, where there are associated types,";
-    if list(facts, "aliases").is_empty() {
-        return None;
-    }
-    for (at, node) in list(body, "exprs").iter().enumerate() {
-        if word(Some(node)) == "path" && owes(facts, node.get(1usize)) == Some(true) {
-            return Some((place.item("exprs", at), Uncarried::Form(FORM)));
-        }
-    }
-    None
-}
-
 fn of_adt(place: Place, adt: &Value) -> Option<(Place, Uncarried<'_>)> {
     if word(adt.get("kind")) == "union" {
         Some((place.key("kind"), Uncarried::Form("unions")))
@@ -306,7 +273,7 @@ fn of_body<'a>(facts: &Value, place: Place, body: &'a Value) -> Option<(Place, U
     if number(body.get("self")).is_some() {
         Some((place.key("self"), Uncarried::Form("bodies with `self`")))
     } else {
-        of_owing(facts, place, body).or(of_lets(facts, place, body))
+        of_lets(facts, place, body)
     }
 }
 

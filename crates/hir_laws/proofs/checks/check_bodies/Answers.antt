@@ -1,4 +1,4 @@
-use Rattle.hir_ids.specs.Owed.{BodyIsCarried}
+use Rattle.hir_ids.specs.Projections.{BodyIsCarried}
 use Rattle.hir_laws.proofs.Allowed.{allowed}
 use Rattle.hir_laws.proofs.checks.check_bodies.Goals as goal
 

@@ -8,7 +8,7 @@ use Rattle.hir_types.specs.declared.ty.Ty.{Ty}
 use Rattle.infer_table.specs.declared.unify.NoUnifier.{NoUnifier}
 use Rattle.infer_table.specs.Undo.{IsResolvedOr}
 use Rattle.infer_calls.specs.Inputs.{IsTried}
-use Rattle.infer_calls.proofs.ExpectedInputs.{FindsTried, found_tried}
+use Rattle.infer_calls.proofs.ExpectedInputs.{found_tried}
 use Rattle.infer_calls.proofs.inputs.expected_inputs_for_output.Goals as goal
 
 pub returns-in-Ok : goal.returns-in-Ok
