@@ -15,6 +15,7 @@ mod proof;
 mod sources;
 
 pub use additions::is_same;
+pub use arguments::push_instances;
 pub use clauses::goal_of;
 pub use goal_search::{Answer, Choice};
 pub use goals::asked;

@@ -11,6 +11,7 @@ pub mod Lawful
 pub mod Refused
 pub mod Bodies
 pub mod LawfulFacts
+pub mod NoAliases
 pub mod NoHoles
 pub mod WrittenFits
 pub mod Lang

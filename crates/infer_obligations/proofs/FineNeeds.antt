@@ -28,9 +28,10 @@ use Rattle.hir_raw.specs.declared.raw.RawPath.{RawPath}
 use Rattle.hir_raw.specs.declared.raw.RawPath.TheVariants as path
 use Rattle.hir_raw.specs.declared.raw.RawVariant.{RawVariant}
 use Rattle.hir_raw.specs.declared.raw.RawFacts.{RawFacts}
-use Rattle.hir_raw.specs.Scope.{Scope}
+use Rattle.hir_raw.specs.Scope.{Scope, fn_arity}
 use Rattle.hir_raw.specs.Signatures.{type_args, ctor_type_by}
 use Rattle.hir_laws.specs.Lawful.{IsLawful}
+use Rattle.hir_laws.specs.NoAliases.{own_arity}
 use Rattle.infer_table.specs.Preserved.{whole, IsMadeOf}
 use Rattle.goal_answers.specs.Goals.{Asked, Each}
 use Rattle.goal_facts.specs.Arguments.{goal_at}
@@ -38,7 +39,8 @@ use Rattle.goal_facts.specs.Environment.{preds_or_none}
 use Rattle.goal_select.specs.Steps.{HasHeadsIfConcrete}
 use Rattle.infer_result.specs.Heads.{Outermost, other, HasHead, outermost_step, of_function, of_ctor}
 use Rattle.infer_result.specs.Kinds.Path.{PathRule}
-use Rattle.infer_result.specs.Needs.{variant_preds, path_preds, item_args, needed_goals}
+use Rattle.infer_result.specs.AliasNeeds.{no_alias_goals}
+use Rattle.infer_result.specs.Needs.{variant_preds, path_preds, expr_preds, item_args, needed_goals, needs_preds}
 use Rattle.infer_result.specs.Places.{Given}
 use Rattle.infer_result.specs.Placing.{at_or_mismatch}
 use Rattle.infer_result.specs.Rules.{Rule}
@@ -179,8 +181,8 @@ module _ (g : Given) (law : IsLawful g.scope.facts) (e : ExprId) (t : Ty) (heads
         let ts : List Ty = rule.0 in
         let h : Outermost = other (head.FnDef (callable.FunctionId f)) in
         let long : length own.types ≡ length ts = count_at h (tells.head h (of_function e f is)) (ty.FnDef (callable.FunctionId f) (type_args ts)) ts rule.1 (fn_def_args (callable.FunctionId f) (type_args ts)) in
-        let both : Some (length x.params) ≡ Some (length ts) = ap (option_map (λ (y : RawFn). length y.params)) (sym there) ∙ rule.2 in
-        let count : length x.params ≡ length own.types = (let same : length x.params ≡ length ts = cc in same ∙ sym long) in
+        let both : Some (fn_arity raw.types x) ≡ Some (length ts) = ap (option_map (fn_arity raw.types)) (sym there) ∙ rule.2 in
+        let count : length x.params ≡ length own.types = (let same : fn_arity raw.types x ≡ length ts = cc in sym (own_arity raw law f.0 x there) ∙ (same ∙ sym long)) in
         at_own_args x.preds (λ k p here. subst (λ n. GoalIsFit raw law n p) count (fn_preds_fit raw law f.0 x there k p here))
 
   adt_needs : (i : ℕ) (ts : List Ty) → length own.types ≡ length ts → option_map (λ (y : RawAdt). length y.params) (slice_get raw.adts i) ≡ Some (length ts) → (o : Option RawAdt) → slice_get raw.adts i ≡ o
@@ -221,7 +223,11 @@ module _ (g : Given) (law : IsLawful g.scope.facts) (e : ExprId) (t : Ty) (heads
   path_needs (path.Function f) is rule variant = fn_needs f is rule (slice_get raw.fns f.0) refl
   path_needs (path.Ctor v) is rule variant = ctor_needs v is rule (variant v refl) (slice_get raw.variants v.0) refl
 
+  preds_in_scope : (x : RawExpr) → slice_get g.body.exprs e.0 ≡ Some x → Rule (at_or_mismatch g r) g r e (Some x) → ((v : VariantId) → x ≡ expr.Path (path.Ctor v) → IsVariant raw v)
+      → Each IsInScope (map (goal_at raw (args_of t)) (expr_preds raw x))
+  preds_in_scope (expr.Path q) is rule variant = path_needs q is rule (λ v same. variant v (ap expr.Path same))
+  preds_in_scope _ is rule variant = tt
+
   -- what it needs has types in scope alone
   pub needs_in_scope : (x : RawExpr) → slice_get g.body.exprs e.0 ≡ Some x → Rule (at_or_mismatch g r) g r e (Some x) → ((v : VariantId) → x ≡ expr.Path (path.Ctor v) → IsVariant raw v) → Each IsInScope (needed_goals raw x t)
-  needs_in_scope (expr.Path q) is rule variant = path_needs q is rule (λ v same. variant v (ap expr.Path same))
-  needs_in_scope _ is rule variant = tt
+  needs_in_scope x is rule variant = subst (Each IsInScope) (sym (needs_preds raw x t (no_alias_goals raw law (args_of t) x))) (preds_in_scope x is rule variant)

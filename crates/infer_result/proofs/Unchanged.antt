@@ -22,6 +22,7 @@ use Rattle.hir_laws.specs.Bodies.{output_by, return_type, inputs_of}
 use Rattle.hir_facts.specs.Filled.{filled_written, filled_folded}
 use Rattle.hir_laws.specs.Lawful.{IsLawful}
 use Rattle.hir_counts.specs.Standing.{HasNoHole}
+use Rattle.hir_laws.specs.NoAliases.{own_signature}
 use Rattle.hir_laws.specs.NoHoles.{input_has_no_hole, output_has_no_hole, field_has_no_hole, definition_input_has_no_hole}
 use Rattle.hir_raw.specs.Scope.{adt_params}
 use Rattle.hir_raw.specs.Signatures.{Signature, fn_signature, signature_of, signature_by, ctor_signature, field_types, own_adt, params_from, type_args, at_args}
@@ -81,7 +82,8 @@ module _ (raw : RawFacts) (law : IsLawful raw) where
   by_fn : (f : ℕ) (o : Option RawFn) (σ : Signature) → slice_get raw.fns f ≡ o → option_map (fn_signature raw.types) o ≡ Some σ → IsUnchangedSignature σ
   by_fn f None σ found is = absurd (cc)
   by_fn f (Some x) σ found is =
-      let own : fn_signature raw.types x ≡ σ = cc in
+      let same : fn_signature raw.types x ≡ σ = cc in
+      let own = sym (own_signature raw law f x found) ∙ same in
       subst IsUnchangedSignature own (record {
         inputs = all_written raw.types x.inputs (λ k w e. input_has_no_hole raw law f x found k w e);
         output = written_unchanged raw.types x.output (output_has_no_hole raw law f x found);
