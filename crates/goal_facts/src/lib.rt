@@ -12,6 +12,7 @@ mod impl_goals;
 mod impls;
 mod item_sources;
 mod proof;
+mod reading;
 mod sources;
 
 pub use additions::is_same;

@@ -2,6 +2,8 @@
 //! the arguments of each call, and at the end.
 #![tactic(auto)]
 
+mod made;
+mod read;
 mod register;
 mod select;
 
