@@ -36,7 +36,7 @@ class Function:
     def __init__(self):
         self.exprs, self.pats, self.bindings, self.statements, self.source = [], [], [], [], []
         self.types, self.called, self.named_source = [["tuple", []], "u8"], [], ""
-        self.adts, self.variants, self.traits, self.impls = [], [], [], []
+        self.adts, self.variants, self.traits, self.aliases, self.impls = [], [], [], [], []
 
     def expr(self, fact):
         self.exprs.append(fact)
@@ -223,7 +223,7 @@ def facts(shape, count):
         "profile": 1, "edition": 2021, "never_fallback": False, "new_range": False,
         "limits": [8, 1000, 8, 10], "types": made_of.types, "modules": [None], "adts": made_of.adts,
         "variants": made_of.variants, "fns": functions, "consts": [], "statics": [], "traits": made_of.traits,
-        "aliases": [], "impls": made_of.impls, "opaques": [], "lang": {}, "bodies": [body],
+        "aliases": made_of.aliases, "impls": made_of.impls, "opaques": [], "lang": {}, "bodies": [body],
     }
     return json.dumps(value, separators=(",", ":")).encode()
 

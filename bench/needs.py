@@ -5,8 +5,9 @@ The calls are in turn `need(1u8);`, `need(true);` and `need((1u8, true));`, of `
 for `u8`, for `bool`, for `i32`, and for each pair of types that implement it; `of(1u8);`, of `fn of<T: Of<U>, U>(x: T) -> U`, where the
 one impl of `Of` says what `U` is; and `need(1);`, of which the goal is open till the literal falls back to `i32` in the end.
 What is printed is as of `bench/lets.py`, rustc's time of its pass `type_check_crate` with it where rustc is found.
-Usage: bench/needs.py [N] [open]      (30000 where not given; 4N must fit into 2^24 bytes; with `open` there are calls `need(1);` alone, for which
-rustc takes minutes from some 40000 on)
+Usage: bench/needs.py [N] [open|read]      (30000 where not given; 4N must fit into 2^24 bytes; with `open` there are calls `need(1);` alone, for which
+rustc takes minutes from some 40000 on; with `read` calls of `fn get<T: Has>(x: T) -> T::Out`, in turn `get(1u8);`, `get(get(1u8));` and `get(1);`, where
+`u8: Has<Out = bool>`, `bool: Has<Out = char>` and `i32: Has<Out = u8>`)
 Build the program first: cd crates/infer_tool && rt run -- table fn 0 < ../../examples/first_run.json
 """
 import sys
@@ -34,6 +35,32 @@ def needs(function, count):
 def open_needs(function, count):
     """`need(1); need(1); ..`"""
     add_calls(function, [CALLS.index("need(1);\n")] * count)
+
+
+READ_SOURCE = """pub trait Has { type Out; }
+impl Has for u8 { type Out = bool; }
+impl Has for bool { type Out = char; }
+impl Has for i32 { type Out = u8; }
+fn get<T: Has>(x: T) -> T::Out { loop {} }
+"""
+READS = ["get(1u8);\n", "get(get(1u8));\n", "get(1);\n"]
+
+
+def read_needs(function, count):
+    """`get(1u8); get(get(1u8)); get(1); ..`"""
+    function.types += ["bool", ["param", 0], ["proj", 0, [["t", 3]]], "char", "i32"]
+    function.traits = [dict(trait_fact("Has", []), types=[0])]
+    function.aliases = [{"name": "Out", "trait": 0, "bounds": []}]
+    function.impls = [dict(impl_fact(0, ty), types=[[0, given]]) for ty, given in ((1, 2), (2, 5), (6, 1))]
+    function.called = [fn_fact("get", ["t"], [3], 4, None, [goal(3)])]
+    function.named_source = READ_SOURCE
+    for k in range(count):
+        callees = [function.expr(["path", ["fn", 1, None]]) for _ in range(2 if k % 3 == 1 else 1)]
+        read = function.expr(["lit", ["int", "1", None if k % 3 == 2 else "u8"]])
+        for callee in reversed(callees):
+            read = function.expr(["call", callee, [read]])
+        function.statements.append(["expr", read, True])
+        function.source.append(READS[k % 3])
 
 
 def add_calls(function, kinds):
@@ -80,8 +107,10 @@ def main():
     if "--help" in sys.argv[1:]:
         print(__doc__.strip())
         return
-    numbers = [int(word) for word in sys.argv[1:] if word != "open"]
-    measure_at(open_needs if "open" in sys.argv[1:] else needs, numbers[0] if numbers else 30000)
+    shapes = {"open": open_needs, "read": read_needs}
+    numbers = [int(word) for word in sys.argv[1:] if word not in shapes]
+    shape = next((shapes[word] for word in sys.argv[1:] if word in shapes), needs)
+    measure_at(shape, numbers[0] if numbers else 30000)
 
 
 if __name__ == "__main__":

@@ -23,6 +23,7 @@ EDITIONS = [2015, 2018, 2021, 2024]
 CORE = os.path.join(os.path.dirname(os.path.abspath(__file__)), "core.rs")
 LIMITS = [8, 1000, 8, 10]
 REPR = r"\brepr\s*\([^)]*\b([iu](?:8|16|32|64|128|size))\b"
+UNREAD = "body of a function whose signature has an associated type"
 LANG = r'\blang\s*=\s*"(sized|copy|clone)"'
 
 # A function with a body in the source: its path in the crate, its Function, its number among the facts' functions or
@@ -44,6 +45,7 @@ class CrateFacts:
         self.items.read(tree_of(CORE, 2021, "core"))
         self.bodies, self.body_numbers = [], {}
         self.refused = {}  # the items that can't be written, each with what of it is left out
+        self.unread = set()  # the functions that are written without their bodies, by what stands in their signatures
         self.refuse_types_and_traits()
         self.refuse_functions()
         self.lists = Lists(self.items, self.refused)
@@ -78,12 +80,14 @@ class CrateFacts:
         return writer
 
     def refuse_functions(self):
-        """Finds the functions whose signatures can't be written."""
+        """Finds the functions whose signatures can't be written, and those that take or give associated types."""
         for item, function in self.items.functions.items():
             writer = self.writer(function, Lists(self.items, self.refused))
-            self.function(function, writer)
+            fact = self.function(function, writer)
             if writer.omissions:
                 self.refused[item] = writer.omissions
+            elif any(map(writer.lists.is_projection, (*fact["inputs"], fact["output"]))):
+                self.unread.add(item)
 
     def writer(self, function, lists):
         writer = BodyWriter(lists, function.generics, function.id.path)
@@ -94,6 +98,8 @@ class CrateFacts:
         """Writes a function's body, if nothing of the function is left out."""
         trial = self.writer(function, Lists(self.items, self.refused))
         trial.omissions += self.refused.get(function.id, [])
+        if function.id in self.unread:
+            trial.leave_out(UNREAD, span_of(function.body["value"]["span"]))
         if function.within == "module":
             trial.body(function.body, 0)
         if trial.omissions:
@@ -210,7 +216,7 @@ class CrateFacts:
         return found
 
     def function(self, function, writer):
-        """The facts of a function without `self`."""
+        """The facts of a function without `self`. What it takes or gives may be an associated type, but have none as a part."""
         header, declared = function.signature["header"], function.signature["decl"]
         if function.within != "module":
             writer.leave_out("function of %s" % ("an impl" if function.within == "impl" else "a trait"), function.span)
@@ -220,9 +226,9 @@ class CrateFacts:
         if declared["c_variadic"]:
             writer.leave_out("function of any number of arguments", function.span)
         params, preds = writer.generics(function.generics)
-        inputs = [writer.read_type(ty)[0] for ty in declared["inputs"]]
+        inputs = [writer.type(ty)[0] for ty in declared["inputs"]]
         output = declared["output"]
-        output = writer.read_type(output[0])[0] if output.name == "Return" else writer.lists.type(["tuple", []])
+        output = writer.type(output[0])[0] if output.name == "Return" else writer.lists.type(["tuple", []])
         return {"name": function.name, "at": ["module", writer.lists.module(function.module)], "params": params,
                 "preds": preds, "has_self": False, "inputs": inputs, "output": output,
                 "safe": name_of(header["safety"]) != "Normal" or header["safety"][0] != "Unsafe",

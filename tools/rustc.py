@@ -67,10 +67,26 @@ def with_parameters(ty, parameters):
 def in_our_words(ty, item):
     """A type of rustc's as a report writes it, but for parameters; `item` gives the word for the item of a DefId."""
     ty = re.sub(r"'{\w+}(, )?", "", ty)
+    ty = re.sub(r"def_id: DefId\([^()]*\)", lambda found: def_id(found.group()[len("def_id: "):]).path, ty)
     ty = re.sub(r"DefId\([^()]*\)", lambda found: item(def_id(found.group())), ty)
     before = None
-    while before != ty:  # the innermost items first
+    while before != ty:  # the innermost items and associated types first
         before = ty
-        ty = re.sub(r"FnDef\((\w+), \[([^\[\]]*)\]\)",
-                    lambda found: found.group(1) + ("<%s>" % found.group(2) if found.group(2) else ""), ty)
+        ty = re.sub(r"FnDef\((\w+), \[([^\[\]]*)\]\)", lambda found: found.group(1) + in_angles(found.group(2)), ty)
+        ty = re.sub(r"Alias\(Projection, AliasTy { args: \[([^\[\]]*)\], ([\w:]+)::(\w+), \.\. }\)", projection, ty)
     return re.sub(r"(?:\w+::)+(\w+)", r"\1", ty)
+
+
+def in_angles(arguments):
+    return "<%s>" % arguments if arguments else ""
+
+
+def projection(found):
+    """An associated type, of whose arguments the first is the self type, and the others those of the trait."""
+    arguments, trait, name = found.groups()
+    depth = 0
+    for at, sign in enumerate(arguments + ","):
+        depth += (sign in "(<") - (sign in ")>")
+        if sign == "," and depth == 0:
+            return "<%s as %s%s>::%s" % (arguments[:at], trait, in_angles(arguments[at + 2:]), name)
+    return found.group()

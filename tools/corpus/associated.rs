@@ -1,4 +1,5 @@
-//! Bounds on associated types: functions that have what the items which they name ask for, and some that don't.
+//! Associated types in bounds, and in what functions take and give: functions that have what the items which they name ask
+//! for, and some that don't.
 
 /// What can be sent, with what comes back.
 pub trait Send {
@@ -145,4 +146,101 @@ pub fn shows_nothing_known<T: Send>(message: T) {
 
 pub fn reads_at_another_key<T: Read<u8>>(from: T) {
     read(from, 'k');
+}
+
+/// Sends a message and waits for what comes back.
+pub fn ask<T: Send>(_message: T) -> T::Reply {
+    loop {}
+}
+
+/// Sends a message where what comes back is known.
+pub fn answer<T: Send>(_message: T, reply: T::Reply) -> T::Reply {
+    reply
+}
+
+pub fn value<K, T: Read<K>>(_from: T, _at: K) -> <T as Read<K>>::Value {
+    loop {}
+}
+
+pub fn counter<T: Count>(_what: T) -> T::By {
+    loop {}
+}
+
+pub fn show<T: Show>(_what: T) {}
+
+pub fn asks() -> bool {
+    let byte: u8 = ask(Ask(1u8));
+    answer(Ask(byte), 2);
+    let flag = ask(Ping);
+    answer(Ping, flag)
+}
+
+pub fn asks_for_another() -> u8 {
+    ask(Ping)
+}
+
+pub fn answers_with_another() {
+    answer(Ask(1u8), true);
+}
+
+pub fn asks_what_is_nothing() {
+    ask('a');
+}
+
+pub fn asks_twice() -> bool {
+    ask(ask(Ask(Ping)))
+}
+
+pub fn asks_what_is_bound() -> bool {
+    let asked = ask;
+    asked(Ping)
+}
+
+pub fn asks_what_counts() -> bool {
+    ask(counter(1u8))
+}
+
+pub fn reads_values() -> (u8, bool) {
+    (value(Map('k', 1u8), 'k'), value(Map(1u8, true), 2))
+}
+
+pub fn shows_replies() {
+    show(ask(Ask(1u8)));
+    show(value(Map('k', true), 'k'));
+}
+
+pub fn shows_a_reply_that_is_not_shown() {
+    show(ask(Ask('a')));
+}
+
+pub fn asks_known<T: Send<Reply = bool>>(message: T) -> bool {
+    ask(message)
+}
+
+pub fn asks_any<T: Send>(message: T, other: T) {
+    let reply = ask(message);
+    answer(other, reply);
+}
+
+pub fn asks_any_for_a_flag<T: Send>(message: T) -> bool {
+    ask(message)
+}
+
+pub fn shows_any_reply<T: Send>(message: T)
+where
+    T::Reply: Show,
+{
+    show(ask(message));
+}
+
+pub fn shows_a_reply_of_which_nothing_is_known<T: Send>(message: T) {
+    show(ask(message));
+}
+
+pub fn shows_any_value<T: Read<u8>>(from: T) {
+    show(value(from, 1));
+}
+
+pub fn answers_another<T: Send, U: Send>(message: T, other: U) {
+    answer(other, ask(message));
 }

@@ -7,3 +7,4 @@ pub mod RulePlaces
 pub mod Systems
 pub mod Typed
 pub mod Written
+pub mod TypesRead

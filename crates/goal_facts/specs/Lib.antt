@@ -8,3 +8,4 @@ pub mod Systems
 pub mod Goals
 pub mod Proofs
 pub mod ImplGoals
+pub mod Reading

@@ -12,9 +12,11 @@ mod impl_goals;
 mod impls;
 mod item_sources;
 mod proof;
+mod reading;
 mod sources;
 
 pub use additions::is_same;
+pub use arguments::push_instances;
 pub use clauses::goal_of;
 pub use goal_search::{Answer, Choice};
 pub use goals::asked;

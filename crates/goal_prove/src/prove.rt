@@ -17,13 +17,10 @@ use crate::listed::{proof_since, push_proof};
 use crate::lower::{copied_goals, is_itself, search_of, sources_of};
 use crate::types::{fill_args, goal_read};
 use goal_facts::{Answer, ItemSources, Proof, ProofSource, asked};
-use goal_search::{Asked, Holes, Kind, Search, is_among};
+use goal_search::{Asked, Holes, Kind, MOST_LEVELS, Search, is_among};
 use goal_terms::Term;
 use hir_facts::{Goal, ImplId, List};
 use std::alloc::{AllocError, Global};
-
-/// How many levels a term may have.
-const MOST_LEVELS: u32 = 8192;
 
 /// Adds a proof of a goal that reads as the target, behind those of what its source asks for; gives its
 /// number. No goal is proved again whose proof is listed from `since` on.

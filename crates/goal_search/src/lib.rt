@@ -20,5 +20,5 @@ pub use holes::Holes;
 pub use parts::{is_among, is_same_kind, key_of, self_type};
 pub use rows::{Copies, copied_goals, field_at};
 pub use rules::Side;
-pub use search::Search;
+pub use search::{MOST_LEVELS, Search};
 pub use sources::{Asked, Kind, Rule, Sources};

@@ -24,8 +24,8 @@ use hir_types::{Boxed, Head, TypeAliasId};
 use std::alloc::{AllocError, Global};
 use std::marker::Model;
 
-/// How many levels a term may have.
-const MOST_LEVELS: u32 = 8192;
+/// How many levels a term that is read may have.
+pub const MOST_LEVELS: u32 = 8192;
 
 /// Takes one of the levels that a term may have, or says that memory is wanting.
 fn one_level(levels: u32) -> Result<u32, AllocError>

@@ -10,8 +10,6 @@ mod matching;
 mod opening;
 mod same;
 mod term;
-#[cfg(test)]
-mod tests;
 mod types;
 
 pub use binding::{Binding, filled, find, stands_in};

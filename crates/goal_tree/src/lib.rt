@@ -2,8 +2,6 @@
 #![tactic(auto)]
 
 mod obligation;
-#[cfg(test)]
-mod tests;
 mod tree;
 
 pub use obligation::{Obligation, Standing};

@@ -1,8 +1,10 @@
 -- Types of the carried kinds: they have no holes and no labels.
 use Rattle.std.specs.Prelude.{◌≡◌, ◌<◌, ℕ, zero, suc, Bool, true, false, ◌&&◌, ◌||◌, List, [], ◌∷◌, map, length, slice_get, Option, Some, None, refl}
 use Rattle.std.specs.List.{list_all, list_any}
+use Rattle.std.specs.Option.{option_and_then}
 use Rattle.std.proofs.Common.{arith, sym, ◌∙◌, ap, subst}
 use mathlib.Core.Bool.{true≢false}
+use Rattle.hir_types.specs.declared.ids.BodyId.{BodyId}
 use Rattle.hir_types.specs.declared.ids.DefWithBodyId.{DefWithBodyId}
 use Rattle.hir_types.specs.declared.ids.DefWithBodyId.TheVariants as def
 use Rattle.hir_types.specs.declared.ids.TypeRefId.{TypeRefId}
@@ -28,8 +30,8 @@ use Rattle.hir_raw.specs.WrittenTypes.{type_parts, filled_by, filled_within, wri
 use Rattle.hir_facts.specs.Filled.{filled_written}
 use Rattle.hir_laws.specs.LawfulFacts.{type_ids}
 use Rattle.hir_laws.specs.NoHoles.{type_there, output_has_no_hole}
-use Rattle.hir_laws.specs.WrittenFits.{FitsUnder, OwnFits, own_fits, parts_fit, output_fits}
-use Rattle.hir_laws.specs.Bodies.{output_by, return_type}
+use Rattle.hir_laws.specs.WrittenFits.{FitsUnder, OwnFits, own_fits, parts_fit, own_output_fits}
+use Rattle.hir_laws.specs.Bodies.{body_id_of, output_by, return_type}
 
 abbrev pub carried_arg : GenericArg-F Bool Bool Bool Bool → Bool
 carried_arg (GenericArg-F.Ty b) = b
@@ -267,12 +269,13 @@ module _ (raw : RawFacts) (law : IsLawful raw) (count : ℕ) where
   written_carried t fits none =
       subst IsCarriedType (filled_written (λ k. ty.Error) raw.types t none) (within_carried (λ k. ty.Error) (λ k. carried_error) (suc t.0) t.0 (omega arith) fits)
 
-output_carried : (raw : RawFacts) → IsLawful raw → (f : ℕ) (o : Option RawFn) → slice_get raw.fns f ≡ o → IsCarriedType (output_by raw o)
-output_carried raw law f None found = carried_error
-output_carried raw law f (Some x) found = written_carried raw law (length x.params) x.output (output_fits raw law f x found) (output_has_no_hole raw law f x found)
+output_carried : (raw : RawFacts) → IsLawful raw → (f : ℕ) (o : Option RawFn) (b : BodyId) → slice_get raw.fns f ≡ o → option_and_then (λ x. x.body) o ≡ Some b → IsCarriedType (output_by raw o)
+output_carried raw law f None b found own = carried_error
+output_carried raw law f (Some x) b found own = written_carried raw law (length x.params) x.output (own_output_fits raw law f x found b own) (output_has_no_hole raw law f x found)
 
-pub return_carried : (raw : RawFacts) → IsLawful raw → (d : DefWithBodyId) → IsCarriedType (return_type raw d)
-return_carried raw law (def.FunctionId f) = output_carried raw law f.0 (slice_get raw.fns f.0) refl
-return_carried raw law (def.ConstId c) = carried_error
-return_carried raw law (def.StaticId s) = carried_error
-return_carried raw law (def.VariantId v) = carried_error
+-- of a definition with a body
+pub return_carried : (raw : RawFacts) → IsLawful raw → (d : DefWithBodyId) (b : BodyId) → body_id_of raw d ≡ Some b → IsCarriedType (return_type raw d)
+return_carried raw law (def.FunctionId f) b own = output_carried raw law f.0 (slice_get raw.fns f.0) b refl own
+return_carried raw law (def.ConstId c) b own = carried_error
+return_carried raw law (def.StaticId s) b own = carried_error
+return_carried raw law (def.VariantId v) b own = carried_error

@@ -11,7 +11,7 @@ pub use hir_raw::{
     BindingAnnotation, Edition, Other, RawAdt, RawAdtKind, RawAlias, RawArgs, RawArm, RawAssocType,
     RawAt, RawBinding, RawBody, RawCtor, RawExpr, RawFacts, RawField, RawFn, RawGoal, RawImpl,
     RawLang, RawLimits, RawLiteral, RawParam, RawPat, RawPath, RawStmt, RawTrait, RawTraitRef,
-    RawType, RawVariant, RawVis, Schedule,
+    RawType, RawVariant, RawVis, Schedule, fn_aliases, fn_arity,
 };
 pub use hir_types::{
     AdtId, AliasBound, BindingId, BodyId, Boxed, CallableDefId, Canonical, ClosureId, Const,
@@ -20,5 +20,5 @@ pub use hir_types::{
     OpaqueId, PatId, Region, Safety, StaticId, Subst, Text, TraitId, TraitRef, Ty, TypeAliasId,
     TypeRefId, UintTy, VariantId, instantiate,
 };
-pub use lower::{lower_ty, return_ty};
+pub use lower::{lower_opened, lower_ty, return_ty};
 pub use plain_body::is_plain;

@@ -1,5 +1,7 @@
 //! What written types stand for.
-ghost use Rattle.std.specs.Prelude.{◌≡◌, ◌<◌, IfOk, length};
+ghost use Rattle.std.specs.Prelude.{◌≡◌, ◌<◌, ◌+◌, IfOk, length};
+ghost use Rattle.hir_types.specs.declared.ty.Ty.TheVariants as ty;
+ghost use Rattle.hir_raw.specs.Hidden.{place_in, opened};
 ghost use Rattle.hir_raw.specs.WrittenTypes.{lowered, written_type};
 ghost use Rattle.hir_laws.specs.Bodies.{HasBody, return_type};
 ghost use Rattle.hir_ids.specs.Entries.{AllHold};
@@ -10,10 +12,38 @@ use hir_raw::RawType;
 use hir_types::{DefWithBodyId, GenericArg, List, Ty, TypeRefId};
 use std::alloc::{AllocError, Global};
 
-fn lower(types: &[RawType], t: usize, alloc: Global) -> Result<Ty, AllocError>
+/// Where a number comes first in a list.
+fn place_in(number: usize, numbers: &[usize]) -> Option<usize>
+    ensures { result ≡ place_in number numbers.now }
+{
+    for place in 0..numbers.len() {
+        if number == numbers[place] {
+            return Some(place);
+        }
+    }
+    None
+}
+
+/// The parameter at a place after these.
+fn param_after(params: usize, place: usize) -> Result<Ty, AllocError>
+    ensures { IfOk result (λ t. t ≡ ty.Param (params + place)) }
+{
+    // No lists of so many are in memory.
+    let number = params.checked_add(place).ok_or(AllocError)?;
+    let number = u32::try_from(number).map_err(|_| AllocError)?;
+    Ok(Ty::Param(number))
+}
+
+fn lower(
+    types: &[RawType],
+    params: usize,
+    aliases: &[usize],
+    t: usize,
+    alloc: Global,
+) -> Result<Ty, AllocError>
     requires before { AllHold ChildrenBefore types.now }
     requires within { t < length types.now }
-    ensures { IfOk result (λ ty. ty ≡ lowered types.now t) }
+    ensures { IfOk result (λ ty. ty ≡ lowered (opened params aliases.now types.now) t) }
 {
     match &types[t] {
         RawType::Bool => Ok(Ty::Bool),
@@ -22,7 +52,7 @@ fn lower(types: &[RawType], t: usize, alloc: Global) -> Result<Ty, AllocError>
         RawType::Tuple(parts) => {
             let mut tys = List::new(alloc);
             for part in parts.as_slice() {
-                let ty = lower(types, part.0 as usize, alloc)?;
+                let ty = lower(types, params, aliases, part.0 as usize, alloc)?;
                 tys.push(ty)?;
             }
             Ok(Ty::Tuple(tys))
@@ -30,19 +60,22 @@ fn lower(types: &[RawType], t: usize, alloc: Global) -> Result<Ty, AllocError>
         RawType::Adt { adt, args } => {
             let mut lowered = List::new(alloc);
             for arg in args.as_slice() {
-                let ty = lower(types, arg.0 as usize, alloc)?;
+                let ty = lower(types, params, aliases, arg.0 as usize, alloc)?;
                 lowered.push(GenericArg::Ty(ty))?;
             }
             Ok(Ty::Adt(*adt, lowered))
         }
-        RawType::Projection { alias, args } => {
-            let mut lowered = List::new(alloc);
-            for arg in args.as_slice() {
-                let ty = lower(types, arg.0 as usize, alloc)?;
-                lowered.push(GenericArg::Ty(ty))?;
+        RawType::Projection { alias, args } => match place_in(t, aliases) {
+            Some(place) => param_after(params, place),
+            None => {
+                let mut lowered = List::new(alloc);
+                for arg in args.as_slice() {
+                    let ty = lower(types, params, aliases, arg.0 as usize, alloc)?;
+                    lowered.push(GenericArg::Ty(ty))?;
+                }
+                Ok(Ty::Projection(*alias, lowered))
             }
-            Ok(Ty::Projection(*alias, lowered))
-        }
+        },
         RawType::Param(number) => Ok(Ty::Param(*number)),
         RawType::Hole => Ok(Ty::Hole),
         RawType::Other => Ok(Ty::Error),
@@ -50,14 +83,28 @@ fn lower(types: &[RawType], t: usize, alloc: Global) -> Result<Ty, AllocError>
 }
 
 /// The type that a written type stands for, or `{unknown}` where it is not in range.
-#[tactic(auto, using(hir_ids::specs::Lowered::lowered_past))]
+#[tactic(auto, using(hir_raw::specs::Opened::none_opened))]
 pub fn lower_ty(alloc: Global, facts: &Facts, ty: TypeRefId) -> Result<Ty, AllocError>
     ensures { IfOk result (λ t. t ≡ written_type facts.now.types ty) }
+{
+    lower_opened(alloc, facts, 0, &[], ty)
+}
+
+/// The same where each associated type with one of these numbers is a parameter, after so many others.
+#[tactic(auto, using(hir_ids::specs::Lowered::opened_past))]
+pub fn lower_opened(
+    alloc: Global,
+    facts: &Facts,
+    params: usize,
+    aliases: &[usize],
+    ty: TypeRefId,
+) -> Result<Ty, AllocError>
+    ensures { IfOk result (λ t. t ≡ written_type (opened params aliases.now facts.now.types) ty) }
 {
     facts.lawful();
     let types = facts.types();
     if (ty.0 as usize) < types.len() {
-        lower(types, ty.0 as usize, alloc)
+        lower(types, params, aliases, ty.0 as usize, alloc)
     } else {
         Ok(Ty::Error)
     }

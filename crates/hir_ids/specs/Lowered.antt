@@ -1,6 +1,6 @@
 -- What a written type stands for, part by part.
-use Rattle.std.specs.Prelude.{◌≡◌, ◌<◌, ◌≤◌, ℕ, length, zero, suc, List, [], ◌∷◌, map, slice_get, Option, Some, None, refl}
-use Rattle.std.proofs.Common.{◌∙◌, ap, arith}
+use Rattle.std.specs.Prelude.{◌≡◌, ◌<◌, ◌≤◌, ℕ, length, zero, suc, List, [], ◌∷◌, map, slice_get, Option, Some, None, option_map, refl}
+use Rattle.std.proofs.Common.{◌∙◌, ap, sym, subst, arith}
 use Rattle.std.proofs.lemmas.Option.{slice_get_past}
 use Rattle.hir_types.specs.declared.ids.TypeRefId.{TypeRefId}
 use Rattle.hir_raw.specs.declared.raw.RawType.{RawType}
@@ -9,6 +9,8 @@ use Rattle.hir_types.specs.declared.ty.Ty.{Ty}
 use Rattle.hir_types.specs.declared.ty.Ty.TheVariants as ty
 use Rattle.hir_types.specs.declared.ty.GenericArg.TheVariants as arg
 use Rattle.hir_raw.specs.WrittenTypes.{type_parts, filled_by, filled_within, filled, lowered_by, lowered}
+use Rattle.hir_raw.specs.Hidden.{opened_type, opened}
+use Rattle.hir_raw.specs.Opened.{opened_at, opened_length, opened_parts}
 use Rattle.hir_ids.specs.Entries.{AllHold}
 use Rattle.hir_ids.specs.Ids.{ChildrenBefore}
 
@@ -66,3 +68,15 @@ lowered_parts types all i x found = filled_parts (λ k. ty.Hole) types all i x f
 
 pub lowered_past : (types : List RawType) (i : ℕ) → length types ≤ i → lowered types i ≡ ty.Error
 lowered_past types i le = filled_past (λ k. ty.Hole) types i le
+
+-- ---- where associated types are read as parameters
+
+pub opened_before : (n : ℕ) (ks : List ℕ) (types : List RawType) → AllHold ChildrenBefore types → AllHold ChildrenBefore (opened n ks types)
+opened_before n ks types all i x found k w at = by_type (slice_get types i) refl (sym (opened_at n ks types i) ∙ found)
+  where
+    by_type : (o : Option RawType) → slice_get types i ≡ o → option_map (opened_type n ks i) o ≡ Some x → w.0 < i
+    by_type None is made = absurd (cc)
+    by_type (Some y) is made = (let same : opened_type n ks i y ≡ x = cc in all i y is k w (opened_parts n ks i y k w (ap (λ z. slice_get (type_parts z) k) same ∙ at)))
+
+pub opened_past : (n : ℕ) (ks : List ℕ) (types : List RawType) (i : ℕ) → length types ≤ i → lowered (opened n ks types) i ≡ ty.Error
+opened_past n ks types i le = lowered_past (opened n ks types) i (subst (λ m. m ≤ i) (sym (opened_length n ks types)) le)

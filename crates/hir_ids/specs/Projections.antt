@@ -1,5 +1,7 @@
--- Where a projection may be named: by goals, impls and other projections alone. Types that bodies read hold none yet.
+-- Where a projection may be named: by goals, impls and other projections, and as what a function without a body takes or gives. Other types that
+-- bodies read hold none yet.
 use Rattle.std.specs.Prelude.{ℕ, ◌≡◌, Bool, true, false, List, [], slice_get, Option, Some, None, IsTrue, not, if◌then◌else◌}
+use Rattle.hir_types.specs.declared.ids.BodyId.{BodyId}
 use Rattle.hir_types.specs.declared.ids.TypeRefId.{TypeRefId}
 use Rattle.hir_raw.specs.declared.raw.RawType.{RawType}
 use Rattle.hir_raw.specs.declared.raw.RawType.TheVariants as type
@@ -38,10 +40,19 @@ pub record VariantIsCarried (raw : RawFacts) (v : RawVariant) : Type 0 where
   pub kind : IsTrue (is_carried_variant v)
   pub fields : (k : ℕ) (f : RawField) → slice_get v.fields k ≡ Some f → IsNoProjection raw f.type_.0
 
-pub record FnIsCarried (raw : RawFacts) (f : RawFn) : Type 0 where
-  pub kind : IsTrue (is_carried_fn f)
+-- no input is one, nor is the output
+pub record SignatureNamesNone (raw : RawFacts) (f : RawFn) : Type 0 where
   pub inputs : NameNoProjection raw f.inputs
   pub output : IsNoProjection raw f.output.0
+
+-- where it has a body
+abbrev pub BodySignatureNamesNone : RawFacts → RawFn → Option BodyId → Type 0
+BodySignatureNamesNone raw f None = Unit {0}
+BodySignatureNamesNone raw f (Some b) = SignatureNamesNone raw f
+
+pub record FnIsCarried (raw : RawFacts) (f : RawFn) : Type 0 where
+  pub kind : IsTrue (is_carried_fn f)
+  pub signature : BodySignatureNamesNone raw f f.body
 
 -- ---- in bodies
 

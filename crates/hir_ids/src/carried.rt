@@ -7,7 +7,7 @@ ghost use Rattle.hir_ids.specs.Projections.{TypeIsCarried, VariantIsCarried, FnI
 
 use crate::carried_goals::carries_goals;
 use crate::projections::{
-    body_names_none, fields_name_none, held_types, is_no_projection, name_no_projection,
+    body_names_none, body_signature_names_none, fields_name_none, held_types, name_no_projection,
 };
 use crate::test::Test;
 use hir_raw::{
@@ -271,7 +271,7 @@ impl Test for VariantsCarried {
     }
 }
 
-/// A function is of a carried kind, and no input or output is a projection.
+/// A function is of a carried kind, and where it has a body no input or output is a projection.
 pub struct FnsCarried;
 
 impl Test for FnsCarried {
@@ -290,11 +290,7 @@ impl Test for FnsCarried {
         _at: usize,
         item: &RawFn,
     ) -> Result<bool, AllocError> {
-        Ok(
-            carries_fn(item)
-                && name_no_projection(raw, item.inputs.as_slice())
-                && is_no_projection(raw, item.output),
-        )
+        Ok(carries_fn(item) && body_signature_names_none(raw, item))
     }
 }
 

@@ -1,11 +1,11 @@
-//! Where a projection may be named: by goals, impls and other projections alone.
+//! Where a projection may be named: by goals, impls and other projections, and as what a function without a body takes or gives.
 ghost use Rattle.std.specs.Prelude.{◌≡◌, ◌↔◌, ℕ, IsTrue, Some, slice_get};
 ghost use Rattle.hir_raw.specs.declared.raw.RawField.{RawField};
 ghost use Rattle.hir_raw.specs.declared.raw.RawStmt.{RawStmt};
 ghost use Rattle.hir_raw.specs.Order.{stmts_of};
-ghost use Rattle.hir_ids.specs.Projections.{is_projection, IsNoProjection, NameNoProjection, held_types, StmtNamesNone, ExprNamesNone, BodyNamesNone};
+ghost use Rattle.hir_ids.specs.Projections.{is_projection, IsNoProjection, NameNoProjection, held_types, SignatureNamesNone, BodySignatureNamesNone, StmtNamesNone, ExprNamesNone, BodyNamesNone};
 
-use hir_raw::{RawBody, RawExpr, RawFacts, RawField, RawStmt, RawType};
+use hir_raw::{RawBody, RawExpr, RawFacts, RawField, RawFn, RawStmt, RawType};
 use hir_types::TypeRefId;
 
 fn is_projection(raw: &RawFacts, ty: TypeRefId) -> bool
@@ -45,6 +45,22 @@ pub fn fields_name_none(raw: &RawFacts, fields: &[RawField]) -> bool
     fields
         .iter()
         .all(|field| is_no_projection(raw, field.type_))
+}
+
+fn signature_names_none(raw: &RawFacts, function: &RawFn) -> bool
+    ensures { IsTrue result ↔ SignatureNamesNone raw.now function.now }
+{
+    name_no_projection(raw, function.inputs.as_slice()) && is_no_projection(raw, function.output)
+}
+
+/// Where a function has a body, no input is a projection, nor is the output.
+pub fn body_signature_names_none(raw: &RawFacts, function: &RawFn) -> bool
+    ensures { IsTrue result ↔ BodySignatureNamesNone raw.now function.now function.now.body }
+{
+    match function.body {
+        Some(_) => signature_names_none(raw, function),
+        None => true,
+    }
 }
 
 fn stmt_names_none(raw: &RawFacts, stmt: &RawStmt) -> bool

@@ -1,5 +1,5 @@
 -- Each written type that bodies read fits under the parameters of its definition: arguments are as many as the parameters of
--- what they stand at, parameters are in range, and no projection stands in it.
+-- what they stand at, parameters are in range, and no projection stands in it, but as what a function without a body takes or gives.
 use Rattle.std.specs.Prelude.{◌≡◌, ◌<◌, ◌≤◌, ◌==◌, ℕ, Bool, true, false, List, [], length, slice_get, Option, Some, None, IsTrue, not, option_map, refl, if◌then◌else◌}
 use Rattle.std.specs.Option.{option_and_then}
 use Rattle.std.proofs.Common.{arith, ap, ◌∙◌, subst}
@@ -23,20 +23,36 @@ use Rattle.hir_raw.specs.declared.raw.RawFacts.{RawFacts}
 use Rattle.hir_raw.specs.WrittenTypes.{type_parts}
 use Rattle.hir_raw.specs.Order.{stmts_of, stmt_at}
 use Rattle.hir_raw.specs.Scope.{adt_params, has_params, params_of, count_or_none}
-use Rattle.hir_laws.specs.Bodies.{body_of, inputs_by, inputs_of}
+use Rattle.hir_laws.specs.Bodies.{body_of, body_id_of, inputs_by, inputs_of}
 use Rattle.hir_counts.specs.Standing.{param_bound, wrong_count, wrong_args, params_in, wrongs_in}
 use Rattle.hir_counts.specs.Counts.{TypeFits, ExprFits, BodyFits, MaybeBodyFits, body_at, param_count}
 use Rattle.hir_laws.specs.Lawful.{IsLawful}
-use Rattle.hir_ids.specs.Projections.{is_projection, IsNoProjection, NameNoProjection, held_types, ExprNamesNone}
+use Rattle.hir_ids.specs.Projections.{is_projection, IsNoProjection, NameNoProjection, held_types, SignatureNamesNone, BodySignatureNamesNone, ExprNamesNone}
 use Rattle.hir_laws.specs.LawfulFacts.{carried_types, carried_variants, carried_fns, carried_bodies, type_ids, variant_ids, variants_fit, fn_ids, fns_fit, body_ids}
 use Rattle.hir_counts.specs.Most.{own_most, part_most}
 
--- type t of the facts fits under this many parameters, and is no projection
+-- type t of the facts fits under this many parameters
+pub record FitsThere (raw : RawFacts) (count t : ℕ) : Type 0 where
+  pub within : t < length raw.types
+  pub params : params_in raw t ≤ count
+  pub args : wrongs_in raw t ≡ 0
+
+-- and is no projection
 pub record FitsUnder (raw : RawFacts) (count t : ℕ) : Type 0 where
   pub within : t < length raw.types
   pub direct : IsNoProjection raw t
   pub params : params_in raw t ≤ count
   pub args : wrongs_in raw t ≡ 0
+
+pub fits_direct : (raw : RawFacts) (count t : ℕ) → FitsThere raw count t → IsNoProjection raw t → FitsUnder raw count t
+fits_direct raw count t fits direct = record { within = fits.within; direct = direct; params = fits.params; args = fits.args }
+
+pub fits_there : (raw : RawFacts) (count t : ℕ) → FitsUnder raw count t → FitsThere raw count t
+fits_there raw count t fits = record { within = fits.within; params = fits.params; args = fits.args }
+
+-- so it does under more
+pub fits_more : (raw : RawFacts) (n m t : ℕ) → n ≤ m → FitsUnder raw n t → FitsUnder raw m t
+fits_more raw n m t le fits = (let params : params_in raw t ≤ n = fits.params in record { within = fits.within; direct = fits.direct; params = omega (arith, params, le); args = fits.args })
 
 -- ---- a type and its parts
 
@@ -108,11 +124,21 @@ parts_fit raw law count i x found h k t here =
 fits_under : (raw : RawFacts) (count : ℕ) (t : TypeRefId) → t.0 < length raw.types → IsNoProjection raw t.0 → TypeFits (params_in raw) (wrongs_in raw) count t → FitsUnder raw count t.0
 fits_under raw count t lt direct h = record { within = lt; direct = direct; params = h.0; args = h.1 }
 
-pub inputs_fit : (raw : RawFacts) → IsLawful raw → (f : ℕ) (x : RawFn) → slice_get raw.fns f ≡ Some x → (k : ℕ) (t : TypeRefId) → slice_get x.inputs k ≡ Some t → FitsUnder raw (length x.params) t.0
-inputs_fit raw law f x found k t here = fits_under raw (length x.params) t ((fn_ids raw law f x found).inputs k t here) ((carried_fns raw law f x found).inputs k t here) ((fns_fit raw law f x found).inputs k t here)
+pub inputs_fit : (raw : RawFacts) → IsLawful raw → (f : ℕ) (x : RawFn) → slice_get raw.fns f ≡ Some x → (k : ℕ) (t : TypeRefId) → slice_get x.inputs k ≡ Some t → FitsThere raw (length x.params) t.0
+inputs_fit raw law f x found k t here = (let fit = (fns_fit raw law f x found).inputs k t here in record { within = (fn_ids raw law f x found).inputs k t here; params = fit.0; args = fit.1 })
 
-pub output_fits : (raw : RawFacts) → IsLawful raw → (f : ℕ) (x : RawFn) → slice_get raw.fns f ≡ Some x → FitsUnder raw (length x.params) x.output.0
-output_fits raw law f x found = fits_under raw (length x.params) x.output (fn_ids raw law f x found).output (carried_fns raw law f x found).output (fns_fit raw law f x found).output
+pub output_fits : (raw : RawFacts) → IsLawful raw → (f : ℕ) (x : RawFn) → slice_get raw.fns f ≡ Some x → FitsThere raw (length x.params) x.output.0
+output_fits raw law f x found = (let fit = (fns_fit raw law f x found).output in record { within = (fn_ids raw law f x found).output; params = fit.0; args = fit.1 })
+
+-- where it has a body, none is a projection
+pub own_signature_direct : (raw : RawFacts) → IsLawful raw → (f : ℕ) (x : RawFn) → slice_get raw.fns f ≡ Some x → (b : BodyId) → x.body ≡ Some b → SignatureNamesNone raw x
+own_signature_direct raw law f x found b own = subst (BodySignatureNamesNone raw x) own (carried_fns raw law f x found).signature
+
+pub own_inputs_fit : (raw : RawFacts) → IsLawful raw → (f : ℕ) (x : RawFn) → slice_get raw.fns f ≡ Some x → (b : BodyId) → x.body ≡ Some b → (k : ℕ) (t : TypeRefId) → slice_get x.inputs k ≡ Some t → FitsUnder raw (length x.params) t.0
+own_inputs_fit raw law f x found b own k t here = fits_direct raw (length x.params) t.0 (inputs_fit raw law f x found k t here) ((own_signature_direct raw law f x found b own).inputs k t here)
+
+pub own_output_fits : (raw : RawFacts) → IsLawful raw → (f : ℕ) (x : RawFn) → slice_get raw.fns f ≡ Some x → (b : BodyId) → x.body ≡ Some b → FitsUnder raw (length x.params) x.output.0
+own_output_fits raw law f x found b own = fits_direct raw (length x.params) x.output.0 (output_fits raw law f x found) (own_signature_direct raw law f x found b own).output
 
 -- ---- the fields of a variant
 
@@ -125,22 +151,23 @@ fields_fit raw law v x a found adt k f here =
 
 -- ---- the types of a definition
 
-input_at : (raw : RawFacts) → IsLawful raw → (f : ℕ) (o : Option RawFn) → slice_get raw.fns f ≡ o → (k : ℕ) (t : TypeRefId) → slice_get (inputs_by o) k ≡ Some t
+input_at : (raw : RawFacts) → IsLawful raw → (f : ℕ) (o : Option RawFn) (b : BodyId) → slice_get raw.fns f ≡ o → option_and_then (λ x. x.body) o ≡ Some b → (k : ℕ) (t : TypeRefId) → slice_get (inputs_by o) k ≡ Some t
     → FitsUnder raw (count_or_none (option_map (λ x. length x.params) o)) t.0
-input_at raw law f None found k t here = absurd (cc)
-input_at raw law f (Some x) found k t here = inputs_fit raw law f x found k t here
+input_at raw law f None b found own k t here = absurd (cc)
+input_at raw law f (Some x) b found own k t here = own_inputs_fit raw law f x found b own k t here
 
 no_input : (raw : RawFacts) (k : ℕ) (t : TypeRefId) → slice_get [] k ≡ Some t → FitsUnder raw 0 t.0
 no_input raw k t here = absurd (cc)
 
-pub definition_inputs_fit : (raw : RawFacts) → IsLawful raw → (d : DefWithBodyId) (k : ℕ) (t : TypeRefId) → slice_get (inputs_of raw d) k ≡ Some t → FitsUnder raw (params_of raw d) t.0
-definition_inputs_fit raw law (def.FunctionId f) k t here = input_at raw law f.0 (slice_get raw.fns f.0) refl k t here
-definition_inputs_fit raw law (def.ConstId c) k t here = no_input raw k t here
-definition_inputs_fit raw law (def.StaticId s) k t here = no_input raw k t here
-definition_inputs_fit raw law (def.VariantId v) k t here = no_input raw k t here
+-- which has a body
+pub definition_inputs_fit : (raw : RawFacts) → IsLawful raw → (d : DefWithBodyId) (b : BodyId) → body_id_of raw d ≡ Some b → (k : ℕ) (t : TypeRefId) → slice_get (inputs_of raw d) k ≡ Some t → FitsUnder raw (params_of raw d) t.0
+definition_inputs_fit raw law (def.FunctionId f) b own k t here = input_at raw law f.0 (slice_get raw.fns f.0) b refl own k t here
+definition_inputs_fit raw law (def.ConstId c) b own k t here = no_input raw k t here
+definition_inputs_fit raw law (def.StaticId s) b own k t here = no_input raw k t here
+definition_inputs_fit raw law (def.VariantId v) b own k t here = no_input raw k t here
 
-pub return_fits : (raw : RawFacts) → IsLawful raw → (f : FunctionId) (x : RawFn) → slice_get raw.fns f.0 ≡ Some x → FitsUnder raw (params_of raw (def.FunctionId f)) x.output.0
-return_fits raw law f x found = rw found (output_fits raw law f.0 x found)
+pub return_fits : (raw : RawFacts) → IsLawful raw → (f : FunctionId) (x : RawFn) → slice_get raw.fns f.0 ≡ Some x → (b : BodyId) → x.body ≡ Some b → FitsUnder raw (params_of raw (def.FunctionId f)) x.output.0
+return_fits raw law f x found b own = rw found (own_output_fits raw law f.0 x found b own)
 
 -- ---- the types that are written in its body
 

@@ -1,18 +1,38 @@
 -- The marks of the functions with a plain signature, one function after another.
 use Rattle.std.proofs.Common.{◌≡◌, inl, inr, ℕ, zero, suc, ◌+◌, ◌<◌, Bool, true, false, List, [], ◌∷◌, ◌++◌, length, get_or, Some, refl, sym, ◌∙◌, ap, subst, arith}
-use Rattle.std.specs.Prelude.{◌↔◌, slice_get, Option, None, IsTrue, IsSomeAnd}
+use Rattle.std.specs.Prelude.{◌↔◌, slice_get, Option, None, IsTrue, IsSomeAnd, not}
 use Rattle.hir_plain.proofs.Spreading.{marked_inside}
 use Rattle.std.proofs.lemmas.List.{get_or_push, get_or_append_left, length_push}
 use Rattle.std.proofs.Math.Nat.{eq-or-lt_of_le}
 use Rattle.hir_types.specs.declared.ids.FunctionId.{FunctionId}
 use Rattle.hir_raw.specs.declared.raw.RawFn.{RawFn}
+use Rattle.hir_raw.specs.declared.raw.RawType.{RawType}
+use Rattle.hir_raw.specs.declared.raw.RawType.TheVariants as type
 use Rattle.hir_raw.specs.declared.raw.RawFacts.{RawFacts}
+use Rattle.hir_ids.specs.Projections.{is_projection, IsNoProjection, SignatureNamesNone}
 use Rattle.hir_plain.specs.declared.plain.PlainMarks.{PlainMarks}
 use Rattle.hir_laws.specs.Lawful.{IsLawful}
 use Rattle.hir_laws.specs.WrittenFits.{inputs_fit, output_fits}
 use Rattle.hir_plain.specs.Spread.{IsMarked}
-use Rattle.hir_plain.specs.Plain.{IsPlainSignature}
+use Rattle.hir_plain.specs.Plain.{IsPlainKind, IsPlainType, plain, IsPlainAdt, IsPlainSignature}
 use Rattle.hir_plain.specs.PlainMarks.{ArePlainNodes, HasMarkedSignature, ArePlainMarks}
+
+-- ---- a plain signature names no projection
+
+kind_direct : (raw : RawFacts) (P : ℕ → Type 0) (n : ℕ) (x : RawType) → IsPlainKind raw P n x → IsTrue (not (is_projection (Some x)))
+kind_direct raw P n (type.Projection a ts) h = absurd h
+kind_direct raw P n _ h = refl
+
+type_direct : (raw : RawFacts) (P : ℕ → Type 0) (n t : ℕ) → IsPlainType raw P n t → IsNoProjection raw t
+type_direct raw P n t (plain _ x found own parts) = subst (λ (o : Option RawType). IsTrue (not (is_projection o))) (sym found) (kind_direct raw P n x own)
+
+pub plain_direct : (raw : RawFacts) (x : RawFn) → IsPlainSignature raw x → SignatureNamesNone raw x
+plain_direct raw x h = record {
+  inputs = λ k w at. type_direct raw (IsPlainAdt raw) (length x.params) w.0 (h.inputs k w at);
+  output = type_direct raw (IsPlainAdt raw) (length x.params) x.output.0 h.output;
+}
+
+-- ---- marks
 
 -- where the types of a signature are marked, they are plain
 pub signature_plain : (raw : RawFacts) (nodes : List Bool) (f : ℕ) (x : RawFn) → IsLawful raw → ArePlainNodes raw nodes → slice_get raw.fns f ≡ Some x → HasMarkedSignature raw nodes x → IsPlainSignature raw x

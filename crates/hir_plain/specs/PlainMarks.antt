@@ -9,7 +9,7 @@ use Rattle.hir_raw.specs.declared.raw.RawFn.{RawFn}
 use Rattle.hir_raw.specs.declared.raw.RawFacts.{RawFacts}
 use Rattle.hir_plain.specs.declared.plain.PlainMarks.{PlainMarks}
 use Rattle.hir_raw.specs.WrittenTypes.{type_parts}
-use Rattle.hir_laws.specs.WrittenFits.{FitsUnder}
+use Rattle.hir_laws.specs.WrittenFits.{FitsThere}
 use Rattle.hir_plain.specs.Plain.{has_plain_params, has_plain_header, IsPlainOver, IsPlainAdt, IsPlainSignature}
 use Rattle.hir_plain.specs.Spread.{IsMarked}
 
@@ -62,7 +62,7 @@ fine_nodes raw = map is_fine_type raw.types ++ map (has_plain_params raw) raw.ad
 
 -- marked are the written types that are plain where they fit, and the plain adts
 pub record ArePlainNodes (raw : RawFacts) (nodes : List Bool) : Type 0 where
-  pub types : (n : ℕ) (w : TypeRefId) → FitsUnder raw n w.0 → IsMarked nodes w.0 → IsPlainOver raw n w
+  pub types : (n : ℕ) (w : TypeRefId) → FitsThere raw n w.0 → IsMarked nodes w.0 → IsPlainOver raw n w
   pub plain_types : (n : ℕ) (w : TypeRefId) → IsPlainOver raw n w → IsMarked nodes w.0
   pub adts : (a : ℕ) → IsMarked nodes (length raw.types + a) → IsPlainAdt raw a
   pub plain_adts : (a : ℕ) → IsPlainAdt raw a → IsMarked nodes (length raw.types + a)

@@ -1,3 +1,4 @@
+pub mod Aliases
 pub mod Ways
 pub mod Walking
 pub mod Advances

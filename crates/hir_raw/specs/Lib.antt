@@ -1,4 +1,6 @@
 pub mod WrittenTypes
+pub mod Hidden
+pub mod Opened
 pub mod Order
 pub mod Scope
 pub mod Fit

@@ -1,5 +1,5 @@
 -- What the types of a definition may name: the items of the facts, and the definition's own parameters.
-use Rattle.std.specs.Prelude.{ℕ, ◌+◌, Bool, false, ◌==◌, length, slice_get, Option, Some, None, option_map}
+use Rattle.std.specs.Prelude.{ℕ, ◌+◌, Bool, false, ◌==◌, List, length, slice_get, Option, Some, None, option_map}
 use Rattle.std.specs.Option.{option_and_then}
 use Rattle.hir_types.specs.declared.ids.AdtId.{AdtId}
 use Rattle.hir_types.specs.declared.ids.CallableDefId.{CallableDefId}
@@ -13,6 +13,9 @@ use Rattle.hir_raw.specs.declared.raw.RawAlias.{RawAlias}
 use Rattle.hir_raw.specs.declared.raw.RawPath.{RawPath}
 use Rattle.hir_raw.specs.declared.raw.RawPath.TheVariants as path
 use Rattle.hir_raw.specs.declared.raw.RawFacts.{RawFacts}
+use Rattle.hir_raw.specs.declared.raw.RawFn.{RawFn}
+use Rattle.hir_raw.specs.declared.raw.RawType.{RawType}
+use Rattle.hir_raw.specs.Hidden.{fn_aliases}
 
 pub record Scope : Type 0 where
   pub facts : RawFacts
@@ -34,9 +37,13 @@ fn_params raw f = option_map (λ x. length x.params) (slice_get raw.fns f)
 abbrev pub adt_params : RawFacts → AdtId → Option ℕ
 adt_params raw a = option_map (λ x. length x.params) (slice_get raw.adts a.0)
 
+-- those of a function when it is called: its own, and one for each associated type that it takes or gives
+abbrev pub fn_arity : List RawType → RawFn → ℕ
+fn_arity types f = length f.params + length (fn_aliases types f)
+
 -- the parameters of a constructor are those of its adt
 abbrev pub callable_params : RawFacts → CallableDefId → Option ℕ
-callable_params raw (callable.FunctionId f) = fn_params raw f.0
+callable_params raw (callable.FunctionId f) = option_map (fn_arity raw.types) (slice_get raw.fns f.0)
 callable_params raw (callable.VariantId v) =
     option_and_then (λ x. adt_params raw x.adt) (slice_get raw.variants v.0)
 

@@ -21,20 +21,25 @@ use Rattle.hir_raw.specs.declared.raw.RawVariant.{RawVariant}
 use Rattle.hir_raw.specs.declared.raw.RawFn.{RawFn}
 use Rattle.hir_raw.specs.declared.raw.RawFacts.{RawFacts}
 use Rattle.hir_raw.specs.WrittenTypes.{written_type}
-use Rattle.hir_raw.specs.Scope.{adt_params}
+use Rattle.hir_raw.specs.Hidden.{fn_aliases, opened}
+use Rattle.hir_raw.specs.Scope.{adt_params, fn_arity}
 
--- how many parameters an item has, and in these what it takes and gives
+-- how many parameters an item has, those for associated types in what it takes and gives among them, and in these what it takes and gives
 pub record Signature : Type 0 where
   pub params : ℕ
   pub inputs : List Ty
   pub output : Ty
 
+-- the written types of a function, where each associated type that it takes or gives is a parameter after its own
+abbrev pub fn_types : List RawType → RawFn → List RawType
+fn_types types f = opened (length f.params) (fn_aliases types f) types
+
 abbrev pub fn_signature : List RawType → RawFn → Signature
 fn_signature types f =
     record {
-      params = length f.params;
-      inputs = map (written_type types) f.inputs;
-      output = written_type types f.output;
+      params = fn_arity types f;
+      inputs = map (written_type (fn_types types f)) f.inputs;
+      output = written_type (fn_types types f) f.output;
     }
 
 -- types as arguments

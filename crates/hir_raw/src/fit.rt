@@ -4,7 +4,7 @@ ghost use Rattle.std.specs.List.{list_all};
 ghost use Rattle.hir_raw.specs.Fit.{const_fits, names_none, ty_fits, arg_fits};
 
 use crate::raw::RawFacts;
-use crate::scope::{adt_params, alias_params, callable_params, has_params};
+use crate::scope::{adt_params, alias_params, callable_has_params, has_params};
 use hir_types::{AliasBound, Const, GenericArg, List, TraitId, TraitRef, Ty};
 
 fn const_fits(value: Const) -> bool
@@ -42,7 +42,7 @@ pub fn ty_fits(raw: &RawFacts, params: usize, ty: &Ty) -> bool
             has_params(adt_params(raw, *id), args.len()) && args_fit(raw, params, args)
         }
         Ty::FnDef(id, args) => {
-            has_params(callable_params(raw, *id), args.len()) && args_fit(raw, params, args)
+            callable_has_params(raw, *id, args.len()) && args_fit(raw, params, args)
         }
         Ty::Projection(id, args) => {
             has_params(alias_params(raw, *id), args.len()) && args_fit(raw, params, args)

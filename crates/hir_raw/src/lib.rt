@@ -4,12 +4,14 @@
 
 mod fit;
 mod graph;
+mod hidden;
 mod parts;
 mod raw;
 mod schedule;
 mod scope;
 
 pub use fit::ty_fits;
+pub use hidden::{fn_aliases, fn_arity};
 pub use raw::{
     BindingAnnotation, Edition, HasGoals, Other, RawAdt, RawAdtKind, RawAlias, RawArgs, RawArm,
     RawAssocType, RawAt, RawBinding, RawBody, RawCtor, RawExpr, RawFacts, RawField, RawFn, RawGoal,

@@ -4,6 +4,7 @@ ghost use Rattle.std.specs.Prelude.{◌≡◌, List};
 ghost use Rattle.hir_raw.specs.declared.raw.RawGoal.{RawGoal};
 ghost use Rattle.hir_raw.specs.Goals.{arg_types};
 ghost use Rattle.hir_raw.specs.WrittenTypes.{type_parts};
+ghost use Rattle.hir_raw.specs.Hidden.{is_alias};
 
 use hir_types::{
     AdtId, BindingId, BodyId, ConstId, ExprId, FunctionId, IntegerTy, LabelId, List, ModuleId,
@@ -61,6 +62,18 @@ pub enum RawType {
 }
 
 impl RawType {
+    /// Whether a written type is an associated type.
+    pub fn is_alias(&self) -> bool
+        ensures { result ≡ is_alias self.now }
+    {
+        match self {
+            RawType::Projection { alias: _, args: _ } => true,
+            RawType::Bool | RawType::Char | RawType::Integer(_) | RawType::Tuple(_) => false,
+            RawType::Adt { adt: _, args: _ } => false,
+            RawType::Param(_) | RawType::Hole | RawType::Other => false,
+        }
+    }
+
     /// The types that a written type is made of, in their order.
     pub fn parts(&self) -> &[TypeRefId]
         ensures { result.now ≡ type_parts self.now }

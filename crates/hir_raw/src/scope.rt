@@ -3,6 +3,7 @@ ghost use Rattle.std.specs.Prelude.{◌≡◌, slice_get};
 ghost use Rattle.hir_raw.specs.Scope.{fn_params, adt_params, callable_params, has_params, params_in_trait, alias_params_by, params_of_item, generic_params};
 ghost use Rattle.hir_types.specs.declared.ids.GenericDefId.TheVariants as generic;
 
+use crate::hidden::less_fn_aliases;
 use crate::raw::RawFacts;
 use hir_types::{AdtId, CallableDefId, FunctionId, GenericDefId, ImplId, TraitId, TypeAliasId};
 
@@ -25,19 +26,6 @@ pub fn adt_params(raw: &RawFacts, adt: AdtId) -> Option<usize>
     }
 }
 
-/// How many parameters a function or constructor has, or `None` where it is not in range.
-pub fn callable_params(raw: &RawFacts, callable: CallableDefId) -> Option<usize>
-    ensures { result ≡ callable_params raw.now callable }
-{
-    match callable {
-        CallableDefId::FunctionId(function) => fn_params(raw, function),
-        CallableDefId::VariantId(variant) => match raw.variants.get(variant.0 as usize) {
-            Some(variant) => adt_params(raw, variant.adt),
-            None => None,
-        },
-    }
-}
-
 /// Whether an item exists and has this many parameters.
 pub fn has_params(params: Option<usize>, count: usize) -> bool
     ensures { result ≡ has_params params count }
@@ -45,6 +33,25 @@ pub fn has_params(params: Option<usize>, count: usize) -> bool
     match params {
         Some(params) => params == count,
         None => false,
+    }
+}
+
+/// Whether a function or constructor exists and has this many parameters when it is called.
+pub fn callable_has_params(raw: &RawFacts, callable: CallableDefId, count: usize) -> bool
+    ensures { result ≡ has_params (callable_params raw.now callable) count }
+{
+    match callable {
+        CallableDefId::FunctionId(function) => match raw.fns.get(function.0 as usize) {
+            Some(function) => {
+                let left = less_fn_aliases(raw.types.as_slice(), function, count);
+                has_params(left, function.params.len())
+            }
+            None => false,
+        },
+        CallableDefId::VariantId(variant) => match raw.variants.get(variant.0 as usize) {
+            Some(variant) => has_params(adt_params(raw, variant.adt), count),
+            None => false,
+        },
     }
 }
 

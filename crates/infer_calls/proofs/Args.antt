@@ -14,17 +14,18 @@ use Rattle.infer_result.specs.declared.result.InferenceResult.{InferenceResult}
 use Rattle.infer_result.specs.Kinds.Tuple.{AllAt}
 use Rattle.infer_ctx.specs.declared.context.InferenceContext.{InferenceContext}
 use Rattle.infer_ctx.specs.Closings.{Closes, found_under}
-use Rattle.infer_ctx.specs.Steps.{Before, CoerceDone}
+use Rattle.infer_ctx.specs.Found.{Found}
+use Rattle.infer_ctx.specs.Steps.{Before, CoerceDone, OnlyBinds}
 use Rattle.infer_ctx.specs.Walks.{Extends, Nothing}
 use Rattle.infer_ctx.proofs.AtEach.{follows_itself, closes_before}
 use Rattle.infer_ctx.proofs.Category.{walks_refl}
 use Rattle.infer_ctx.proofs.FineTypes.{fine_grown}
-use Rattle.infer_ctx.proofs.InParts.{AtPart, comes_to_part, past_coerced_part, all_past}
+use Rattle.infer_ctx.proofs.InParts.{AtPart, binds_on, comes_to_part, past_coerced_part, all_past}
 use Rattle.infer_ctx.proofs.Keeps.{all_kept, extends_trans}
 use Rattle.infer_ctx.proofs.Lists.{take_next}
 use Rattle.infer_ctx.proofs.Parts.{all_push}
 use Rattle.infer_calls.specs.Calls.{BeforeInputs, ArgsDone}
-use Rattle.infer_calls.proofs.CallWalk.{input_fine, asks_inputs}
+use Rattle.infer_calls.proofs.CallWalk.{found_same, input_fine, asks_inputs}
 
 -- the first i of them are at the first inputs
 pub record AtArgs (g : Given) (s : Schedule) (n : ExprId) (args : List ExprId) (ss : List Ty) (i : ℕ) (mid c : InferenceContext) : Type 0 where
@@ -45,6 +46,14 @@ module _ (g : Given) (s : Schedule) (n : ExprId) (args : List ExprId) (ss : List
       };
     };
     made = λ a q. tt;
+  }
+
+  -- where only bindings were added
+  pub args_on : (i : ℕ) (c next : InferenceContext) → AtArgs g s n args ss i mid c → OnlyBinds g c next → AtArgs g s n args ss i mid next
+  args_on i c next h o = record {
+    before = h.before;
+    walk = binds_on g s (inner (node.ExprId n)) (λ a. Nothing) _ mid c next h.walk o;
+    made = λ a q. subst (λ (f : Found). AllAt (IsAtOrMismatch f.result) (take i args) (take i (map (folded a) ss))) (found_same g s n args c next o a) (h.made a (closes_before g a c next o.follows q));
   }
 
   module _ (i : ℕ) (c : InferenceContext) (h : AtArgs g s n args ss i mid c) where

@@ -135,7 +135,7 @@ module _ (g : Given) (s : Schedule) (n : ExprId) (args : List ExprId) (t : Ty) (
 
 -- ---- where only bindings were added
 module _ (g : Given) (s : Schedule) (n : ExprId) (args : List ExprId) (c d : InferenceContext) (o : OnlyBinds g c d) where
-  found_same : (a : Assignment) → found_under a c ≡ found_under a d
+  pub found_same : (a : Assignment) → found_under a c ≡ found_under a d
   found_same a = sym (same_found a c d o.result o.asked o.clock)
 
   args_bound : (t : Ty) → BeforeArgs g s n args t c → BeforeArgs g s n args t d

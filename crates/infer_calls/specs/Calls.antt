@@ -1,5 +1,6 @@
 -- What the walk over a call is given, and what it does.
 use Rattle.std.specs.Prelude.{◌≡◌, List, slice_get, Some, map, ◌<◌, length, ◌⊎◌, ℕ, None}
+use Rattle.hir_types.specs.declared.goal.Goal.{Goal}
 use Rattle.hir_types.specs.declared.ids.ExprId.{ExprId}
 use Rattle.hir_types.specs.declared.ids.CallableDefId.{CallableDefId}
 use Rattle.hir_types.specs.declared.ty.Ty.{Ty}
@@ -14,8 +15,10 @@ use Rattle.hir_raw.specs.Order.{inner, after, exprs_from, argument}
 use Rattle.hir_raw.specs.declared.raw.RawExpr.TheVariants as expr
 use Rattle.infer_table.specs.Table.{resolved_type, bindings}
 use Rattle.infer_table.specs.Bindings.{AllOf}
+use Rattle.goal_facts.specs.Goals.{asked_goal}
 use Rattle.infer_result.specs.Table.{HasTy, WasSeen}
 use Rattle.infer_result.specs.Demands.{Demand}
+use Rattle.infer_result.specs.Needs.{callee_needs}
 use Rattle.infer_result.specs.Places.{Given}
 use Rattle.infer_result.specs.declared.result.InferenceResult.{InferenceResult}
 use Rattle.infer_result.specs.Kinds.Call.{ArgsRule, IsPathToItem}
@@ -29,6 +32,7 @@ use Rattle.infer_ctx.specs.Tells.{Tells}
 use Rattle.infer_ctx.specs.Closings.{Closes, found_under}
 use Rattle.infer_ctx.specs.Steps.{Follows, OwnDone, Within, IsWalking, Does}
 use Rattle.infer_coerce.specs.MadeEqual.{SameOrDiffer}
+use Rattle.infer_obligations.specs.Reading.{SelectsAndReads}
 use Rattle.infer_obligations.specs.Selection.{SelectsInWalk}
 
 abbrev pub IsCallOf : RawBody → ExprId → ExprId → List ExprId → Type 0
@@ -148,6 +152,13 @@ ArgsDone g s n args ss old new = Does g (λ a. ArgsWalked g s n args (map (folde
 pub record EndsInSelection (g : Given) (c : InferenceContext) : Type 0 where
   pub before : InferenceContext
   pub selects : SelectsInWalk g before c
+
+-- goals were selected, what the callee of this type needs was read, and goals were selected once more
+pub record EndsInReading (g : Given) (t : Ty) (c : InferenceContext) : Type 0 where
+  pub needed : List Goal
+  pub are : map asked_goal needed ≡ callee_needs g.scope.facts t
+  pub before : InferenceContext
+  pub reads : SelectsAndReads g needed before c
 
 -- The node n is a call of what has this type, as far as it is known: that is no function's. It has come to its arguments.
 pub record BeforeUncallable (g : Given) (s : Schedule) (n : ExprId) (args : List ExprId) (t : Ty) (c : InferenceContext) : Type 0 where

@@ -4,17 +4,17 @@ ghost use Rattle.infer_result.specs.Closed.{IsOfBody};
 ghost use Rattle.infer_ctx.specs.Closings.{IsSound};
 ghost use Rattle.infer_ctx.specs.Context.{given_of, scope_in, schedule_of, expected_type};
 ghost use Rattle.infer_ctx.specs.Fine.{IsFine, IsFineExpectation};
-ghost use Rattle.infer_calls.specs.Calls.{IsCallOf, CalleeTyped, BeforeCall, BeforeInputs, ArgsDone, BeforeUncallable, BeforeLoose, LooseDone, AreMet, EndsInSelection};
+ghost use Rattle.infer_calls.specs.Calls.{IsCallOf, CalleeTyped, BeforeCall, BeforeInputs, ArgsDone, BeforeUncallable, BeforeLoose, LooseDone, AreMet, EndsInSelection, EndsInReading};
 ghost use Rattle.infer_ctx.specs.Steps.{Before, Within, KindDone};
 ghost use Rattle.infer_coerce.specs.Recursion.{InfersFrom};
 ghost use Rattle.infer_coerce.specs.MadeEqual.{UnifiesOne};
 
 use crate::inputs::expect_inputs;
-use hir_facts::{ExprId, ExprOrPatId, Ty};
+use hir_facts::{ExprId, ExprOrPatId, Goal, Ty};
 use infer_coerce::{infer_expr_coerce, unify};
 use infer_ctx::{CallableSig, Expectation, GivenBody, InferenceContext};
-use infer_obligations::select_obligations_where_possible;
-use infer_result::{InferenceDiagnostic, Seen};
+use infer_obligations::{read_for, select_and_read, select_obligations_where_possible};
+use infer_result::{InferenceDiagnostic, Seen, callee_needs};
 use std::alloc::{AllocError, Global};
 
 /// The type of a call: `infer/expr.rs`, `infer_call`.
@@ -89,6 +89,7 @@ fn check_call<F: Fn(&mut InferenceContext, ExprId, Expectation) -> Result<Ty, Al
                 given,
                 call_expr,
                 args,
+                callee_ty,
                 inputs.as_slice(),
                 &output,
                 expected,
@@ -152,7 +153,8 @@ fn infer_uncallable_arguments<
 }
 
 /// Types the arguments of a call, which are to be at these types, of which what is expected of the
-/// call may tell more. Then goals are selected, which may have become known. This is `infer/expr.rs`'s `check_call_arguments`.
+/// call may tell more. Then goals are selected, which may have become known, and what the associated types are is read that the needs
+/// of the callee are about. This is `infer/expr.rs`'s `check_call_arguments`.
 fn check_call_arguments<
     F: Fn(&mut InferenceContext, ExprId, Expectation) -> Result<Ty, AllocError>,
 >(
@@ -162,6 +164,7 @@ fn check_call_arguments<
     given: &GivenBody,
     call_expr: ExprId,
     args: &[ExprId],
+    callee_ty: &Ty,
     inputs: &[Ty],
     output: &Ty,
     expected: Expectation,
@@ -174,11 +177,14 @@ fn check_call_arguments<
     ensures done { IfOk result (λ _. ArgsDone (given_of given.now) (schedule_of given.now)
         call_expr args.now inputs.now context.old context.new) }
     ensures selected { IfOk result (λ _. EndsInSelection (given_of given.now) context.new) }
+    ensures read { IfOk result (λ _. EndsInReading (given_of given.now) callee_ty.now context.new) }
 {
+    let needed = callee_needs(alloc, given.facts, callee_ty)?;
+    let goals = needed.as_slice();
     check_each_argument(
-        infer, alloc, context, given, call_expr, args, inputs, output, expected,
+        infer, alloc, context, given, call_expr, args, goals, inputs, output, expected,
     )?;
-    select_obligations_where_possible(context, given)?;
+    select_and_read(alloc, context, given, goals)?;
     Ok(())
 }
 
@@ -191,6 +197,7 @@ fn check_each_argument<F: Fn(&mut InferenceContext, ExprId, Expectation) -> Resu
     given: &GivenBody,
     call_expr: ExprId,
     args: &[ExprId],
+    needed: &[Goal],
     inputs: &[Ty],
     output: &Ty,
     expected: Expectation,
@@ -205,13 +212,16 @@ fn check_each_argument<F: Fn(&mut InferenceContext, ExprId, Expectation) -> Resu
 {
     expect_inputs(alloc, context, given, expected, inputs, output)?;
     if args.len() == inputs.len() {
-        check_arguments(infer, alloc, context, given, call_expr, args, inputs)
+        check_arguments(
+            infer, alloc, context, given, call_expr, args, needed, inputs,
+        )
     } else {
         check_miscounted_arguments(infer, alloc, context, given, call_expr, args, inputs)
     }
 }
 
-/// Types the arguments of a call, each against its input.
+/// Types the arguments of a call, each against its input. Where nothing is known of that yet, what associated types are is read first
+/// that the needs of the callee are about.
 fn check_arguments<F: Fn(&mut InferenceContext, ExprId, Expectation) -> Result<Ty, AllocError>>(
     infer: &F,
     alloc: Global,
@@ -219,6 +229,7 @@ fn check_arguments<F: Fn(&mut InferenceContext, ExprId, Expectation) -> Result<T
     given: &GivenBody,
     call_expr: ExprId,
     args: &[ExprId],
+    needed: &[Goal],
     inputs: &[Ty],
 ) -> Result<(), AllocError>
     requires infers { InfersFrom (given_of given.now) (schedule_of given.now) context.old.clock (F.pre infer.now) (F.post infer.now) }
@@ -229,14 +240,10 @@ fn check_arguments<F: Fn(&mut InferenceContext, ExprId, Expectation) -> Result<T
         call_expr args.now inputs.now context.old context.new) }
 {
     for (i, arg) in args.iter().enumerate() {
-        infer_expr_coerce(
-            infer,
-            alloc,
-            context,
-            given,
-            *arg,
-            Expectation::HasType(&inputs[i]),
-        )?;
+        let input = &inputs[i];
+        read_for(alloc, context, given, needed, input)?;
+        let expected = Expectation::HasType(input);
+        infer_expr_coerce(infer, alloc, context, given, *arg, expected)?;
     }
     Ok(())
 }

@@ -13,9 +13,12 @@ use Rattle.hir_types.specs.declared.ty.Ty.TheVariants as ty
 use Rattle.hir_raw.specs.declared.raw.RawCtor.{RawCtor}
 use Rattle.hir_raw.specs.declared.raw.RawFacts.{RawFacts}
 use Rattle.hir_raw.specs.declared.raw.RawVariant.{RawVariant}
-use Rattle.hir_raw.specs.Scope.{adt_params, callable_params, Scope, has_params}
-use Rattle.hir_raw.specs.Signatures.{Signature, signature_of, ctor_signature, signature_by, field_types, own_adt, fn_signature, params_from, type_args}
+use Rattle.hir_raw.specs.Scope.{adt_params, fn_arity, callable_params, Scope, has_params}
+use Rattle.hir_raw.specs.Signatures.{Signature, signature_of, ctor_signature, signature_by, field_types, own_adt, fn_signature, fn_types, params_from, type_args}
 use Rattle.hir_raw.specs.declared.raw.RawFn.{RawFn}
+use Rattle.hir_raw.specs.declared.raw.RawType.{RawType}
+use Rattle.hir_raw.specs.Hidden.{fn_aliases}
+use Rattle.hir_counts.specs.Standing.{HasNoHole}
 use Rattle.hir_facts.specs.CarriedTypes.{is_carried_arg, AreCarriedArgs, carried_param, carried_type_arg, carried_adt}
 use Rattle.hir_raw.specs.WrittenTypes.{written_type}
 use Rattle.hir_raw.specs.declared.raw.RawAdt.{RawAdt}
@@ -23,7 +26,8 @@ use Rattle.hir_raw.specs.declared.raw.RawField.{RawField}
 use Rattle.hir_laws.proofs.Items.{variant_adt, variant_ctor}
 use Rattle.hir_ids.specs.Ids.{IsModuleFn}
 use Rattle.hir_laws.specs.Lawful.{IsLawful}
-use Rattle.hir_laws.specs.WrittenFits.{inputs_fit, output_fits, fields_fit}
+use Rattle.hir_laws.specs.WrittenFits.{fits_more, fields_fit}
+use Rattle.hir_laws.proofs.OpenedTypes.{IsOpened, as_written, as_param, input_opened, output_opened}
 use Rattle.hir_laws.specs.NoHoles.{input_has_no_hole, output_has_no_hole, field_has_no_hole}
 use Rattle.hir_raw.specs.declared.raw.RawCtor.TheVariants as ctor
 use Rattle.infer_ctx.specs.Fine.{HasFineHeads, IsCarriedIn, IsWritten, Every}
@@ -61,7 +65,7 @@ variant_with raw v σ found = by_variant (slice_get raw.variants v.0) refl found
 pub signature_count : (raw : RawFacts) (id : CallableDefId) (σ : Signature) → signature_of raw id ≡ Some σ → callable_params raw id ≡ Some σ.params
 signature_count raw (callable.FunctionId f) σ found = by_fn (slice_get raw.fns f.0) found
   where
-    by_fn : (o : Option RawFn) → option_map (fn_signature raw.types) o ≡ Some σ → option_map (λ y. length y.params) o ≡ Some σ.params
+    by_fn : (o : Option RawFn) → option_map (fn_signature raw.types) o ≡ Some σ → option_map (fn_arity raw.types) o ≡ Some σ.params
     by_fn None made = absurd (cc)
     by_fn (Some x) made = (let same : fn_signature raw.types x ≡ σ = cc in ap (λ (τ : Signature). Some τ.params) same)
 signature_count raw (callable.VariantId v) σ found = by_variant (slice_get raw.variants v.0) found
@@ -108,21 +112,46 @@ own_adt_known raw a n count =
 known : (raw : RawFacts) (n : ℕ) (w : TypeRefId) → IsWritten (own_scope raw n) w → IsCarriedIn (own_scope raw n) (written_type raw.types w)
 known raw n w h = record { carried = h.carried; heads = h.heads }
 
-all_known : (raw : RawFacts) (n : ℕ) (ws : List TypeRefId) → ((k : ℕ) (w : TypeRefId) → slice_get ws k ≡ Some w → IsWritten (own_scope raw n) w) → (k : ℕ) (t : Ty) → slice_get (map (written_type raw.types) ws) k ≡ Some t → IsCarriedIn (own_scope raw n) t
-all_known raw n [] h k t is = absurd (cc)
-all_known raw n (w ∷ ws) h zero t is = (let same : written_type raw.types w ≡ t = cc in subst (λ u. IsCarriedIn (own_scope raw n) u) same (known raw n w (h 0 w refl)))
-all_known raw n (w ∷ ws) h (suc k) t is = all_known raw n ws (λ j v e. h (suc j) v e) k t is
+all_known : (raw : RawFacts) (n : ℕ) (types : List RawType) (ws : List TypeRefId) → ((k : ℕ) (w : TypeRefId) → slice_get ws k ≡ Some w → IsCarriedIn (own_scope raw n) (written_type types w)) → (k : ℕ) (t : Ty) → slice_get (map (written_type types) ws) k ≡ Some t → IsCarriedIn (own_scope raw n) t
+all_known raw n types [] h k t is = absurd (cc)
+all_known raw n types (w ∷ ws) h zero t is = (let same : written_type types w ≡ t = cc in subst (λ u. IsCarriedIn (own_scope raw n) u) same (h 0 w refl))
+all_known raw n types (w ∷ ws) h (suc k) t is = all_known raw n types ws (λ j v e. h (suc j) v e) k t is
+
+more : (n m : ℕ) → n ≤ n + m
+more n m = omega arith
 
 module _ (raw : RawFacts) (law : IsLawful raw) where
+  -- what a function takes and gives is in the scope of its own parameters, which are all that it has
+  abbrev SignatureKnown : Signature → Type 0
+  SignatureKnown σ = ((k : ℕ) (t : Ty) → slice_get σ.inputs k ≡ Some t → IsCarriedIn (own_scope raw σ.params) t) × IsCarriedIn (own_scope raw σ.params) σ.output
+
+  -- a parameter that stands for a projection, or what is written there
+  opened_known : (x : RawFn) (w : TypeRefId) → HasNoHole raw.types w → IsOpened raw x w → IsCarriedIn (own_scope raw (fn_arity raw.types x)) (written_type (fn_types raw.types x) w)
+  opened_known x w none (as_written fits is) =
+      let n : ℕ = fn_arity raw.types x in
+      let wider = fits_more raw (length x.params) n w.0 (more (length x.params) (length (fn_aliases raw.types x))) fits in
+      subst (IsCarriedIn (own_scope raw n)) (sym is) (known raw n w (is_written raw law n w wider none))
+  opened_known x w none (as_param p below is) =
+      let n : ℕ = fn_arity raw.types x in
+      let k : ℕ = length x.params + p in
+      let within : k < n = omega (arith, below) in
+      subst (IsCarriedIn (own_scope raw n)) (sym is) (record { carried = carried_param k; heads = heads_param (own_scope raw n) k (lt-ltb k n within) })
+
+  signature_known : (f : FunctionId) (x : RawFn) → slice_get raw.fns f.0 ≡ Some x → SignatureKnown (fn_signature raw.types x)
+  signature_known f x found = (
+    all_known raw (fn_arity raw.types x) (fn_types raw.types x) x.inputs (λ k w is. opened_known x w (input_has_no_hole raw law f.0 x found k w is) (input_opened raw law f.0 x found k w is)),
+    opened_known x x.output (output_has_no_hole raw law f.0 x found) (output_opened raw law f.0 x found),
+  )
+
   -- a function that a path names
   pub function_item : (f : FunctionId) (x : RawFn) → slice_get raw.fns f.0 ≡ Some x → IsItem raw (callable.FunctionId f)
-  function_item f x found = record {
+  function_item f x found = (let types = signature_known f x found in record {
     signature = fn_signature raw.types x;
     found = ap (option_map (fn_signature raw.types)) found;
-    count = ap (option_map (λ y. length y.params)) found;
-    inputs = all_known raw (length x.params) x.inputs (λ k w is. is_written raw law (length x.params) w (inputs_fit raw law f.0 x found k w is) (input_has_no_hole raw law f.0 x found k w is));
-    output = known raw (length x.params) x.output (is_written raw law (length x.params) x.output (output_fits raw law f.0 x found) (output_has_no_hole raw law f.0 x found));
-  }
+    count = ap (option_map (fn_arity raw.types)) found;
+    inputs = types.0;
+    output = types.1;
+  })
 
   pub named_function : (f : FunctionId) → IsModuleFn raw f → IsItem raw (callable.FunctionId f)
   named_function f (x, found, stands) = function_item f x found

@@ -14,7 +14,7 @@ use Rattle.hir_raw.specs.declared.raw.RawField.{RawField}
 use Rattle.hir_raw.specs.declared.raw.RawFn.{RawFn}
 use Rattle.hir_raw.specs.declared.raw.RawVariant.{RawVariant}
 use Rattle.hir_raw.specs.Scope.{adt_params}
-use Rattle.hir_raw.specs.Signatures.{Signature, fn_signature, signature_of, signature_by, ctor_signature, field_types, own_adt, own_adt_at, type_args, at_args}
+use Rattle.hir_raw.specs.Signatures.{Signature, fn_types, fn_signature, signature_of, signature_by, ctor_signature, field_types, own_adt, own_adt_at, type_args, at_args}
 use Rattle.hir_raw.specs.WrittenTypes.{written_type}
 use Rattle.hir_raw.specs.declared.raw.RawCtor.TheVariants as ctor
 use Rattle.infer_ctx.specs.declared.given.CallableSig.{CallableSig}
@@ -27,7 +27,7 @@ module _ (raw : RawFacts) (sig : CallableSig) where
       let own : fn_signature raw.types x ≡ σ = cc in
       let k = h x refl in
       subst (λ s. IsSigOf s ts sig) own (record {
-        inputs = k.inputs ∙ sym (map_twice (at_args ts) (written_type raw.types) x.inputs);
+        inputs = k.inputs ∙ sym (map_twice (at_args ts) (written_type (fn_types raw.types x)) x.inputs);
         output = k.output;
       })
 

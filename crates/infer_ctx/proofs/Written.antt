@@ -91,7 +91,7 @@ written_fine sc state w h = carried_fine state sc (written_type sc.facts.types w
 -- ---- what a definition gives
 fn_heads : (raw : RawFacts) → IsLawful raw → (f : FunctionId) (o : Option RawFn) (i : BodyId) → slice_get raw.fns f.0 ≡ o → option_and_then (λ x. x.body) o ≡ Some i → HasFineHeads (scope_of raw (def.FunctionId f)) (output_by raw o)
 fn_heads raw law f None i e h = absurd (cc)
-fn_heads raw law f (Some x) i e h = written_heads raw law (params_of raw (def.FunctionId f)) x.output (return_fits raw law f x e) (output_has_no_hole raw law f.0 x e)
+fn_heads raw law f (Some x) i e h = written_heads raw law (params_of raw (def.FunctionId f)) x.output (return_fits raw law f x e i h) (output_has_no_hole raw law f.0 x e)
 
 pub output_heads : (raw : RawFacts) → IsLawful raw → (d : DefWithBodyId) (i : BodyId) → body_id_of raw d ≡ Some i → HasFineHeads (scope_of raw d) (return_type raw d)
 output_heads raw law (def.FunctionId f) i h = fn_heads raw law f (slice_get raw.fns f.0) i refl h

@@ -13,7 +13,7 @@ use Rattle.hir_raw.specs.declared.raw.RawField.{RawField}
 use Rattle.hir_raw.specs.declared.raw.RawFn.{RawFn}
 use Rattle.hir_raw.specs.declared.raw.RawVariant.{RawVariant}
 use Rattle.hir_raw.specs.declared.raw.RawFacts.{RawFacts}
-use Rattle.hir_raw.specs.Signatures.{Signature, signature_of, type_args, at_args}
+use Rattle.hir_raw.specs.Signatures.{Signature, fn_types, signature_of, type_args, at_args}
 use Rattle.infer_ctx.specs.declared.given.CallableSig.{CallableSig}
 
 -- what the written type stands for, with these arguments in the place of parameters
@@ -25,8 +25,8 @@ field_at types xs f = written_at types xs f.type_
 
 -- it is what the function takes and gives at these arguments
 pub record IsFnSig (types : List RawType) (x : RawFn) (xs : List GenericArg) (sig : CallableSig) : Type 0 where
-  pub inputs : sig.inputs ≡ map (written_at types xs) x.inputs
-  pub output : sig.output ≡ written_at types xs x.output
+  pub inputs : sig.inputs ≡ map (written_at (fn_types types x) xs) x.inputs
+  pub output : sig.output ≡ written_at (fn_types types x) xs x.output
 
 -- it is what the constructor takes and gives
 pub record IsCtorSig (types : List RawType) (x : RawVariant) (xs : List GenericArg) (sig : CallableSig) : Type 0 where

@@ -1,13 +1,16 @@
 //! What inference of a body reads.
 ghost use Rattle.std.specs.Prelude.{◌≡◌, ◌<◌, IfOk, List, Some, length, map, slice_get};
 ghost use Rattle.hir_raw.specs.WrittenTypes.{written_type};
+ghost use Rattle.hir_raw.specs.Hidden.{fn_aliases};
+ghost use Rattle.hir_raw.specs.Signatures.{fn_types};
 ghost use Rattle.hir_raw.specs.declared.raw.RawFn.{RawFn};
 ghost use Rattle.hir_raw.specs.declared.raw.RawVariant.{RawVariant};
 ghost use Rattle.hir_types.specs.declared.ty.Ty.TheVariants as ty;
 ghost use Rattle.infer_ctx.specs.Callables.{written_at, field_at, IsFnSig, IsCtorSig, IsCallableItem, IsSigOfItem, ItemsAreCallable, IsSigIfItem};
 
 use hir_facts::{
-    DefWithBodyId, Facts, FunctionId, List, RawBody, Schedule, Ty, TypeRefId, VariantId, lower_ty,
+    DefWithBodyId, Facts, FunctionId, List, RawBody, RawFn, Schedule, Ty, TypeRefId, VariantId,
+    fn_aliases, lower_opened, lower_ty,
 };
 use hir_types::{CallableDefId, GenericArg, instantiate};
 use std::alloc::{AllocError, Global};
@@ -150,25 +153,44 @@ impl GivenBody<'_> {
             → IsFnSig self.now.facts.now.types x args.now sig) }
     {
         let function = self.facts.fn_(function);
-        let inputs = self.tys_at(alloc, function.inputs.as_slice(), args)?;
-        let output = self.ty_at(alloc, function.output, args)?;
+        let aliases = fn_aliases(alloc, self.facts.types(), function)?;
+        let inputs = self.inputs_at(alloc, function, &aliases, args)?;
+        let output = self.opened_at(alloc, function, &aliases, function.output, args)?;
         Ok(CallableSig { inputs, output })
     }
 
-    /// What written types stand for, with these arguments in the place of parameters.
-    fn tys_at(
+    /// What a function takes, of whose signature these are the associated types.
+    fn inputs_at(
         &self,
         alloc: Global,
-        type_refs: &[TypeRefId],
+        function: &RawFn,
+        aliases: &[usize],
         args: &List<GenericArg>,
     ) -> Result<List<Ty>, AllocError>
-        ensures { IfOk result (λ tys. tys ≡ map (written_at self.now.facts.now.types args.now) type_refs.now) }
+        requires { aliases.now ≡ fn_aliases self.now.facts.now.types function.now }
+        ensures { IfOk result (λ tys. tys ≡ map (written_at (fn_types self.now.facts.now.types function.now) args.now) function.now.inputs) }
     {
         let mut tys = List::new(alloc);
-        for type_ref in type_refs {
-            tys.push(self.ty_at(alloc, *type_ref, args)?)?;
+        for type_ref in function.inputs.as_slice() {
+            tys.push(self.opened_at(alloc, function, aliases, *type_ref, args)?)?;
         }
         Ok(tys)
+    }
+
+    /// What a written type of its signature stands for: an associated type for the argument of its own.
+    fn opened_at(
+        &self,
+        alloc: Global,
+        function: &RawFn,
+        aliases: &[usize],
+        type_ref: TypeRefId,
+        args: &List<GenericArg>,
+    ) -> Result<Ty, AllocError>
+        requires { aliases.now ≡ fn_aliases self.now.facts.now.types function.now }
+        ensures { IfOk result (λ ty. ty ≡ written_at (fn_types self.now.facts.now.types function.now) args.now type_ref) }
+    {
+        let ty = lower_opened(alloc, self.facts, function.params.len(), aliases, type_ref)?;
+        instantiate(alloc, &ty, args)
     }
 
     /// What a written type stands for, with these arguments in the place of parameters.

@@ -47,6 +47,7 @@ use Rattle.infer_ctx.specs.Closings.{closed_types, closed_mismatch, closed_misma
 use Rattle.infer_ctx.specs.declared.context.InferenceContext.{InferenceContext}
 use Rattle.infer_ctx.specs.Fine.{HasFineHeads, IsFine, IsCarriedIn}
 use Rattle.infer_ctx.specs.Asked.{IsTold}
+use Rattle.infer_obligations.specs.Reading.{EndsSettled}
 use Rattle.infer_ctx.specs.Steps.{BodyDone}
 use Rattle.infer_ctx.proofs.Asked.{told_beside}
 use Rattle.infer_ctx.proofs.Keeps.{at_kept, pat_at_kept, obeys_kept, pat_kept, misfit_kept, demand_kept, diagnostic_kept, pat_truth_kept, true_seen_kept}
@@ -55,7 +56,7 @@ use Rattle.infer_ctx.proofs.OverTypes.{fine_closed}
 use Rattle.infer_ctx.specs.Context.{with_general}
 use Rattle.infer_ctx.proofs.UnderClosings.{sound_with, At-unclosed, closed_at, asked_unlike, length-closed_mismatches, At-closed, length-closed}
 use Rattle.infer_coerce.proofs.Unified.{completion_closes}
-use Rattle.infer_end.specs.SelectedBody.{OnlyGoals, StaysOfPlain}
+use Rattle.infer_end.specs.SelectedBody.{OnlyGoals, StaysOfPlain, ReadsLast}
 use Rattle.infer_end.specs.Ends.{EndsAs}
 use Rattle.infer_end.specs.KeptTypes.{AreResolved, HoldsResolved, KeepsGeneral, IsFull, HasAllTypes}
 use Rattle.infer_end.proofs.Definitions.{found_body, table_of}
@@ -439,24 +440,38 @@ pub keeps_goals : (raw : RawFacts) (d : DefWithBodyId) (c last : InferenceContex
 keeps_goals raw d c last (inl (plain, (x, resolved, is))) = ap (λ (z : InferenceContext). z.goals) is
 keeps_goals raw d c last (inr (not_plain, is)) = ap (λ (z : InferenceContext). z.goals) is
 
+-- the body with these inputs and this output
+abbrev pub given_at : RawFacts → DefWithBodyId → RawBody → List TypeRefId → Ty → Given
+given_at raw d b inputs output = record { scope = scope_of raw d; body = b; inputs = inputs; output = output }
+
 module _ (raw : RawFacts) (d : DefWithBodyId) (b : RawBody) (inputs : List TypeRefId) (output : Ty) (taken : inputs ≡ inputs_of raw d) (out : output ≡ return_type raw d) (c : InferenceContext) where
   -- with the inputs and the output of the definition
-  pub given_done : BodyDone (record { scope = scope_of raw d; body = b; inputs = inputs; output = output }) c → BodyDone (given raw d b) c
+  pub given_done : BodyDone (given_at raw d b inputs output) c → BodyDone (given raw d b) c
   given_done done =
-      subst (λ ws. BodyDone (record { scope = scope_of raw d; body = b; inputs = ws; output = return_type raw d }) c) taken
-      (subst (λ t. BodyDone (record { scope = scope_of raw d; body = b; inputs = inputs; output = t }) c) out done)
+      subst (λ ws. BodyDone (given_at raw d b ws (return_type raw d)) c) taken
+      (subst (λ t. BodyDone (given_at raw d b inputs t) c) out done)
 
-  pub given_told : IsTold (record { scope = scope_of raw d; body = b; inputs = inputs; output = output }) c → IsTold (given raw d b) c
+  pub given_told : IsTold (given_at raw d b inputs output) c → IsTold (given raw d b) c
   given_told told =
-      subst (λ ws. IsTold (record { scope = scope_of raw d; body = b; inputs = ws; output = return_type raw d }) c) taken
-      (subst (λ t. IsTold (record { scope = scope_of raw d; body = b; inputs = inputs; output = t }) c) out told)
+      subst (λ ws. IsTold (given_at raw d b ws (return_type raw d)) c) taken
+      (subst (λ t. IsTold (given_at raw d b inputs t) c) out told)
 
-  own_done : BodyDone (given raw d b) c → BodyDone (record { scope = scope_of raw d; body = b; inputs = inputs; output = output }) c
+  pub given_settled : EndsSettled (given_at raw d b inputs output) c → EndsSettled (given raw d b) c
+  given_settled settled =
+      subst (λ ws. EndsSettled (given_at raw d b ws (return_type raw d)) c) taken
+      (subst (λ t. EndsSettled (given_at raw d b inputs t) c) out settled)
+
+  pub given_last : (z : InferenceContext) → ReadsLast (given_at raw d b inputs output) c z → ReadsLast (given raw d b) c z
+  given_last z last =
+      subst (λ ws. ReadsLast (given_at raw d b ws (return_type raw d)) c z) taken
+      (subst (λ t. ReadsLast (given_at raw d b inputs t) c z) out last)
+
+  pub own_done : BodyDone (given raw d b) c → BodyDone (given_at raw d b inputs output) c
   own_done done =
-      subst (λ t. BodyDone (record { scope = scope_of raw d; body = b; inputs = inputs; output = t }) c) (sym out)
-      (subst (λ ws. BodyDone (record { scope = scope_of raw d; body = b; inputs = ws; output = return_type raw d }) c) (sym taken) done)
+      subst (λ t. BodyDone (given_at raw d b inputs t) c) (sym out)
+      (subst (λ ws. BodyDone (given_at raw d b ws (return_type raw d)) c) (sym taken) done)
 
-module _ (raw : RawFacts) (d : DefWithBodyId) (i : BodyId) (b : RawBody) (s : Schedule) (inputs : List TypeRefId) (output : Ty) (id : body_id_of raw d ≡ Some i) (at : slice_get raw.bodies i.0 ≡ Some b) (law : IsWalkable b s) (taken : inputs ≡ inputs_of raw d) (out : output ≡ return_type raw d) (c : InferenceContext) (done : BodyDone (record { scope = scope_of raw d; body = b; inputs = inputs; output = output }) c)
+module _ (raw : RawFacts) (d : DefWithBodyId) (i : BodyId) (b : RawBody) (s : Schedule) (inputs : List TypeRefId) (output : Ty) (id : body_id_of raw d ≡ Some i) (at : slice_get raw.bodies i.0 ≡ Some b) (law : IsWalkable b s) (taken : inputs ≡ inputs_of raw d) (out : output ≡ return_type raw d) (c : InferenceContext) (done : BodyDone (given_at raw d b inputs output) c)
     (lawful : IsLawful raw) (ps : List Proof) (gs : List (List Gap)) where
   -- of a body that is not plain the context after selection counts, in which no such types are
   not_plain_ends : (z : InferenceContext) → BodyDone (given raw d b) z → z.result.general ≡ None → (IsPlainBodyOf raw d → ⊥) → EndsAs raw d ps gs z

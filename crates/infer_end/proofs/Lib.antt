@@ -6,3 +6,4 @@ pub mod PlainBodies
 pub mod PlainGoals
 pub mod SizedTypes
 pub mod SelectedBody
+pub mod ReadLast

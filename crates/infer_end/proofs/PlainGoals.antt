@@ -46,14 +46,17 @@ use Rattle.hir_raw.specs.declared.raw.RawType.TheVariants as type
 use Rattle.hir_raw.specs.declared.raw.RawVariant.{RawVariant}
 use Rattle.hir_raw.specs.declared.raw.RawFacts.{RawFacts}
 use Rattle.hir_raw.specs.Goals.{arg_types}
-use Rattle.hir_raw.specs.Scope.{count_or_none, scope_of, params_of}
+use Rattle.hir_raw.specs.Scope.{count_or_none, fn_arity, scope_of, params_of}
 use Rattle.hir_raw.specs.Signatures.{type_args, ctor_type_by}
 use Rattle.hir_raw.specs.WrittenTypes.{filled_by, filled_within, written_type}
 use Rattle.hir_ids.specs.Carried.{is_in_module}
+use Rattle.hir_ids.specs.Projections.{SignatureNamesNone}
 use Rattle.hir_ids.proofs.CarriedBodies.{list_all_at}
 use Rattle.hir_laws.specs.Bodies.{body_of}
 use Rattle.hir_laws.specs.Lawful.{IsLawful}
-use Rattle.hir_plain.specs.Plain.{IsPlainBody, IsPlainBodyOf, IsPlainExpr, is_unit_or_tuple, HasSizedParams, HasPlainBody, is_plain_adt_kind}
+use Rattle.hir_laws.proofs.NoAliases.{no_aliases, own_arity}
+use Rattle.hir_plain.specs.Plain.{IsPlainPath, IsPlainBody, IsPlainBodyOf, IsPlainExpr, is_unit_or_tuple, HasSizedParams, HasPlainBody, is_plain_adt_kind}
+use Rattle.hir_plain.proofs.PlainFns.{plain_direct}
 use Rattle.hir_plain.specs.Sized.{is_sized_lang, is_one_sized_lang, is_sized_trait, param_number, only_param, sized_param, is_number, is_below, is_sized_of, is_sized_pred}
 use Rattle.goal_answers.specs.Goals.{Asked, Rule as Source, System, implements, only, is_trait, is_among, OneIf, SomeOf, IsKnown, Verdicts}
 use Rattle.goal_answers.specs.Reading.{Aliases, ReadsAs}
@@ -66,7 +69,8 @@ use Rattle.goal_facts.specs.Systems.{fact, sized_by, IsSystemOf}
 use Rattle.goal_facts.proofs.Adding.{get_in_map}
 use Rattle.infer_result.specs.declared.result.InferenceResult.{InferenceResult}
 use Rattle.infer_result.specs.Kinds.Path.{PathRule}
-use Rattle.infer_result.specs.Needs.{variant_preds, path_preds, expr_preds, item_args, NeedsHold}
+use Rattle.infer_result.specs.AliasNeeds.{alias_goals_from, fn_alias_goals, path_alias_goals, alias_goals}
+use Rattle.infer_result.specs.Needs.{variant_preds, path_preds, expr_preds, item_args, needs_preds, NeedsHold}
 use Rattle.infer_result.specs.Places.{Given}
 use Rattle.infer_result.specs.Placing.{at_types}
 use Rattle.infer_result.specs.Rules.{Rule, ObeysExpression}
@@ -225,6 +229,21 @@ module _ (raw : RawFacts) (law : IsLawful raw) (params : ℕ) (item : GenericDef
     sized_yes zero = (only (term u), reads (alias_first f), among, size_yes (alias_first f) (nothing f))
     sized_yes (suc n) = (only (term u), reads (alias_next f (answers f n)), size_yes (alias_next f (answers f n)) (answers f n))
 
+-- ---- what plain functions take and give is no projection, so no goal is needed for one
+
+module _ (raw : RawFacts) (law : IsLawful raw) (xs : List GenericArg) where
+  path_plain : (q : RawPath) → IsPlainPath raw q → path_alias_goals raw xs q ≡ []
+  path_plain (path.Function f) h =
+      let x = some_of _ (slice_get raw.fns f.0) h in
+      ap (fn_alias_goals raw xs) x.1 ∙ ap (alias_goals_from raw xs (length x.0.params)) (no_aliases raw law x.0 (plain_direct raw x.0 x.2))
+  path_plain (path.Local v) h = refl
+  path_plain (path.Ctor v) h = refl
+  path_plain path.Other h = refl
+
+  none_plain : (n : ℕ) (x : RawExpr) → IsPlainExpr raw n x → alias_goals raw xs x ≡ []
+  none_plain n (expr.Path q) h = path_plain q h
+  none_plain n _ h = refl
+
 -- ---- what paths need
 
 -- the item's arguments are of carried kinds without holes, and the predicate says that a parameter has a size
@@ -240,7 +259,7 @@ out_adt a xs = ap out-Ty (sym (ty.rolls-Adt a xs)) ∙ out-roll-Ty (Ty-F.Adt a x
 pub out_fn_def : (i : CallableDefId) (xs : List GenericArg) → out-Ty (ty.FnDef i xs) ≡ Ty-F.FnDef i xs
 out_fn_def i xs = ap out-Ty (sym (ty.rolls-FnDef i xs)) ∙ out-roll-Ty (Ty-F.FnDef i xs)
 
-module _ (raw : RawFacts) (d : DefWithBodyId) (b : RawBody) (is_plain : IsPlainBody raw (params_of raw d) b) (r : InferenceResult) (closed : (e : ExprId) (t : Ty) → HasTy r e t → IsClosedIn (scope_of raw d) t) where
+module _ (raw : RawFacts) (law : IsLawful raw) (d : DefWithBodyId) (b : RawBody) (is_plain : IsPlainBody raw (params_of raw d) b) (r : InferenceResult) (closed : (e : ExprId) (t : Ty) → HasTy r e t → IsClosedIn (scope_of raw d) t) where
   abbrev g : Given
   g = given raw d b
 
@@ -248,14 +267,14 @@ module _ (raw : RawFacts) (d : DefWithBodyId) (b : RawBody) (is_plain : IsPlainB
   one_ty : (e : ExprId) (t u : Ty) → HasTy r e t → HasTy r e u → t ≡ u
   one_ty e t u h k = (let both : Some (Some t) ≡ Some (Some u) = sym h ∙ k in cc)
 
-  fn_need : (e : ExprId) (t : Ty) (f : FunctionId) (x : RawFn) → HasTy r e t → slice_get raw.fns f.0 ≡ Some x → list_all (is_sized_pred raw (length x.params)) x.preds ≡ true
+  fn_need : (e : ExprId) (t : Ty) (f : FunctionId) (x : RawFn) → HasTy r e t → slice_get raw.fns f.0 ≡ Some x → SignatureNamesNone raw x → list_all (is_sized_pred raw (length x.params)) x.preds ≡ true
       → PathRule g r e (path.Function f) → (i : ℕ) (p : RawGoal) → slice_get x.preds i ≡ Some p → IsSizedNeed raw (params_of raw d) t p
-  fn_need e t f x has at all rule i p found =
+  fn_need e t f x has at names all rule i p found =
       let ts : List Ty = rule.0 in
       let item : Ty = ty.FnDef (callable.FunctionId f) (type_args ts) in
       let same : item ≡ t = one_ty e item t rule.1 has in
-      let both : Some (length x.params) ≡ Some (length ts) = ap (option_map (λ (y : RawFn). length y.params)) (sym at) ∙ rule.2 in
-      let count : length x.params ≡ length ts = cc in
+      let both : Some (fn_arity raw.types x) ≡ Some (length ts) = ap (option_map (fn_arity raw.types)) (sym at) ∙ rule.2 in
+      let count : length x.params ≡ length ts = (let same : fn_arity raw.types x ≡ length ts = cc in sym (own_arity raw law x names) ∙ same) in
       record {
         types = ts;
         args = ap (λ u. item_args (out-Ty u)) (sym same) ∙ ap item_args (out_fn_def (callable.FunctionId f) (type_args ts));
@@ -294,7 +313,7 @@ module _ (raw : RawFacts) (d : DefWithBodyId) (b : RawBody) (is_plain : IsPlainB
       let x = some_of _ (slice_get raw.fns f.0) plain in
       let preds = list_all (is_sized_pred raw (length x.0.params)) x.0.preds in
       let header = second_so (list_all _ x.0.params) _ (second_so (is_in_module x.0.«at») _ x.2.header) in
-      fn_need e t f x.0 has x.1 (first_so preds _ header) rule i p (subst (λ (o : Option RawFn). slice_get (preds_or_none (option_map (λ y. y.preds) o)) i ≡ Some p) x.1 found)
+      fn_need e t f x.0 has x.1 (plain_direct raw x.0 x.2) (first_so preds _ header) rule i p (subst (λ (o : Option RawFn). slice_get (preds_or_none (option_map (λ y. y.preds) o)) i ≡ Some p) x.1 found)
   path_need e t (path.Ctor v) has plain rule i p found =
       let x = some_of _ (slice_get raw.variants v.0) plain in
       let y = x.2.1.is_plain.each x.0.adt.0 x.2.1.has in
@@ -334,9 +353,9 @@ module _ (raw : RawFacts) (law : IsLawful raw) (b : RawBody) (r : InferenceResul
       → ((e : ExprId) (t : Ty) → HasTy r e t → IsClosedIn (scope_of raw (def.FunctionId f)) t) → NeedsHold (def.FunctionId f) (given raw (def.FunctionId f) b) r
   needs_of_fn f own plain obeys closed s are e a n =
       let d : DefWithBodyId = def.FunctionId f in
-      let q = get_in_map (goal_at raw (item_args (out-Ty n.ty))) (expr_preds raw n.expr) n.at a n.among in
+      let q = get_in_map (goal_at raw (item_args (out-Ty n.ty))) (expr_preds raw n.expr) n.at a (subst (λ gs. slice_get gs n.at ≡ Some a) (needs_preds raw n.expr n.ty (none_plain raw law (item_args (out-Ty n.ty)) (params_of raw d) n.expr (plain.exprs e.0 n.expr n.is))) n.among) in
       let rule = subst (λ o. Rule (at_types (given raw d b) r) (given raw d b) r e o) n.is (obeys e (slice_get_within b.exprs e.0 n.expr n.is)) in
-      let need = expr_need raw d b plain r closed e n.ty n.expr n.has (plain.exprs e.0 n.expr n.is) rule n.at q.0 q.1 in
+      let need = expr_need raw law d b plain r closed e n.ty n.expr n.has (plain.exprs e.0 n.expr n.is) rule n.at q.0 q.1 in
       let below = below_is raw (length need.types) (sized_param raw q.0) need.pred in
       let u = found need.types below.0 below.1 in
       let says = says_sized raw below.0 q.0 below.2 in

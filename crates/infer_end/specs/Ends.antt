@@ -13,11 +13,12 @@ use Rattle.infer_result.specs.declared.result.InferenceResult.{InferenceResult}
 use Rattle.infer_result.specs.General.{HasGeneral}
 use Rattle.infer_result.specs.Needs.{with_goals}
 use Rattle.infer_result.specs.Typed.{IsTableOf, given}
+use Rattle.infer_obligations.specs.Reading.{EndsSettled}
 use Rattle.infer_obligations.specs.Selection.{IsSelection}
 use Rattle.infer_ctx.specs.declared.context.InferenceContext.{InferenceContext}
 use Rattle.infer_ctx.specs.Closings.{closed_table}
 use Rattle.infer_ctx.specs.Steps.{BodyDone}
-use Rattle.infer_end.specs.SelectedBody.{StaysOfPlain, OnlyGoals}
+use Rattle.infer_end.specs.SelectedBody.{StaysOfPlain, OnlyGoals, ReadsLast}
 
 -- the table that it comes to, with these proofs and what could not be shown
 abbrev pub ended : List Proof → List (List Gap) → InferenceContext → InferenceResult
@@ -35,14 +36,20 @@ EndsWell raw d z = (ps : List Proof) (gs : List (List Gap)) → EndsAs raw d ps 
 
 -- ---- where a table comes from
 
--- the body is walked, with what its nodes need registered; then that is selected until nothing selects any more, but where types before
--- fallback are kept
+-- the body is walked, with what its nodes need registered, and what associated types are read as far as is known then; then what is
+-- registered is selected until nothing selects any more, but where types before fallback are kept, and what associated types are is read
+-- once more
 pub record IsSelectedBody (raw : RawFacts) (d : DefWithBodyId) (b : RawBody) (z : InferenceContext) : Type 0 where
+  pub settled : InferenceContext
+  pub read : EndsSettled (given raw d b) settled
   pub walked : InferenceContext
+  pub goals : walked.goals ≡ settled.goals
   pub done : BodyDone (given raw d b) walked
-  pub only : OnlyGoals walked z
-  pub plain : StaysOfPlain walked z
-  pub selection : walked.result.general ≡ None → IsSelection raw d b walked z
+  pub selected : InferenceContext
+  pub only : OnlyGoals walked selected
+  pub plain : StaysOfPlain walked selected
+  pub selection : walked.result.general ≡ None → IsSelection raw d b walked selected
+  pub last : ReadsLast (given raw d b) selected z
 
 -- the table is what such a body comes to
 pub record ComesOfSelection (raw : RawFacts) (d : DefWithBodyId) (b : RawBody) (r : InferenceResult) : Type 0 where

@@ -6,14 +6,16 @@ ghost use Rattle.hir_laws.specs.Bodies.{HasBody, body_of};
 ghost use Rattle.infer_result.specs.Needs.{scope_item};
 ghost use Rattle.infer_result.specs.Typed.{given};
 ghost use Rattle.infer_ctx.specs.Asked.{IsTold};
+ghost use Rattle.infer_result.specs.Closed.{IsOfBody};
+ghost use Rattle.infer_ctx.specs.Context.{given_of};
 ghost use Rattle.infer_ctx.specs.Steps.{BodyDone};
 ghost use Rattle.infer_obligations.specs.Selection.{IsSelection};
-ghost use Rattle.infer_end.specs.SelectedBody.{StaysOfPlain, OnlyGoals};
+ghost use Rattle.infer_end.specs.SelectedBody.{StaysOfPlain, OnlyGoals, ReadsLast};
 
 use hir_facts::{DefWithBodyId, Facts};
-use infer_ctx::InferenceContext;
-use infer_obligations::select_registered;
-use std::alloc::AllocError;
+use infer_ctx::{GivenBody, InferenceContext};
+use infer_obligations::{read_all, select_registered};
+use std::alloc::{AllocError, Global};
 
 /// Selects what nodes of the body need, at the types known so far, and binds holes as that says.
 fn select(
@@ -56,4 +58,23 @@ pub fn select_where_possible(
     } else {
         select(context, facts, def)
     }
+}
+
+/// Reads the associated types that the needs of paths are about, with what is known once open integer holes have fallen back, where
+/// the body is not plain. A plain body needs none.
+pub fn read_where_possible(
+    alloc: Global,
+    context: &mut InferenceContext,
+    given: &GivenBody,
+) -> Result<(), AllocError>
+    requires of_body { IsOfBody given.now.body.now context.old.result }
+    requires done { BodyDone (given_of given.now) context.old }
+    ensures { OnOk result (ReadsLast (given_of given.now) context.old context.new) }
+{
+    let kept = context.result.general.is_some();
+    if kept {
+        return Ok(());
+    }
+    read_all(alloc, context, given)?;
+    Ok(())
 }

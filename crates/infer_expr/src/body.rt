@@ -6,19 +6,20 @@ ghost use Rattle.infer_table.specs.Table.{new_state, Grew};
 ghost use Rattle.infer_ctx.specs.Asked.{AreGoalsOf, IsTold};
 ghost use Rattle.infer_ctx.specs.Fine.{HasFineHeads};
 ghost use Rattle.infer_ctx.specs.Under.{WrittenExist};
+ghost use Rattle.infer_obligations.specs.Reading.{EndsSettled};
 ghost use Rattle.infer_expr.specs.Params.{BeforeParams, ParamsDone};
 ghost use Rattle.infer_ctx.specs.Steps.{BodyDone};
 ghost use Rattle.infer_ctx.specs.Context.{given_of, scope_in, schedule_of, empty_context};
 
 use crate::expr::infer_expr_coerce;
 use hir_facts::ExprOrPatId;
-use infer_coerce::unify_unknown;
 use infer_ctx::{Expectation, GivenBody, InferenceContext};
+use infer_obligations::settle_needs;
 use infer_pat::infer_top_pat;
 use std::alloc::{AllocError, Global};
 
 /// Types the body against its return type: `infer.rs`, `infer_body`. Each node's goals are registered, and selected after the
-/// arguments of calls.
+/// arguments of calls; what associated types are is read there, and of all paths once the body is walked.
 pub fn infer_body(
     alloc: Global,
     context: &mut InferenceContext,
@@ -35,6 +36,7 @@ pub fn infer_body(
     ensures done { IfOk result (λ _. BodyDone (given_of given.now) context.new) }
     ensures grew { OnOk result (Grew context.old.goals.table context.new.goals.table) }
     ensures told { OnOk result (IsTold (given_of given.now) context.new) }
+    ensures read { IfOk result (λ _. EndsSettled (given_of given.now) context.new) }
     ensures sources { OnOk result (context.new.goals.sources ≡ context.old.goals.sources) }
 {
     let root = given.body.root;
@@ -44,7 +46,7 @@ pub fn infer_body(
     infer_expr_coerce(alloc, context, given, root, expected)?;
     let is_done = context.clock == last;
     prove!(is_done);
-    unify_unknown(context, given)?;
+    settle_needs(alloc, context, given)?;
     Ok(())
 }
 

@@ -7,6 +7,7 @@ ghost use Rattle.goal_search.specs.Sized.{IsSizedAt};
 ghost use Rattle.goal_answers.specs.Answers.{answers};
 ghost use Rattle.goal_facts.specs.Goals.{asked_goal, IsAnswer};
 ghost use Rattle.goal_facts.specs.Proofs.{AreProofsUnder};
+ghost use Rattle.goal_facts.specs.Reading.{IsTypeRead};
 ghost use Rattle.goal_facts.specs.Systems.{IsSystemOf};
 ghost use Rattle.goal_select.specs.Steps.{GoalIsOf};
 ghost use Rattle.goal_tree.specs.Trees.{registered, IsAsked, pending_of};
@@ -109,6 +110,16 @@ impl<'a> GoalTable<'a> {
     {
         let ty = self.table.resolve(ty)?;
         self.sources.is_sized(self.alloc, &ty)
+    }
+
+    /// What a type with associated types reads as, with what is known of its holes, at the depth to which the facts let
+    /// goals be followed: nothing where one of them is open, or stays as it is. `infer/unify.rs`, `normalize_alias_ty`.
+    pub fn normalize_alias_ty(&self, ty: &Ty) -> Result<Option<Ty>, AllocError>
+        ensures given { IfOk result (λ _. IsSystemOf self.now.sources.facts self.now.sources.item (system self.now.sources.sources)) }
+        ensures read { IfOk result (λ found. IsTypeRead (system self.now.sources.sources) self.now.sources.facts.limits.goal_depth (resolved_type self.now.table ty.now) found) }
+    {
+        let ty = self.table.resolve(ty)?;
+        self.sources.read_ty(self.alloc, &ty)
     }
 
     /// What was told, in its order: copies.

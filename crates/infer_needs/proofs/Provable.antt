@@ -1,5 +1,5 @@
 -- Goals that paths need are without holes.
-use Rattle.std.specs.Prelude.{◌≡◌, ℕ, List, [], ◌∷◌, map, slice_get, Option, Some, None, refl}
+use Rattle.std.specs.Prelude.{◌≡◌, ℕ, suc, List, [], ◌∷◌, length, map, slice_get, Option, Some, None, refl}
 use Rattle.std.specs.Option.{option_and_then}
 use Rattle.std.proofs.Common.{sym, ap, subst}
 use Rattle.hir_types.specs.declared.ids.DefWithBodyId.{DefWithBodyId}
@@ -11,18 +11,25 @@ use Rattle.hir_types.specs.Assigned.{with_params}
 use Rattle.hir_types.specs.Terms.{Term, chain, type_part, term}
 use Rattle.hir_raw.specs.declared.raw.RawExpr.{RawExpr}
 use Rattle.hir_raw.specs.declared.raw.RawExpr.TheVariants as expr
+use Rattle.hir_raw.specs.declared.raw.RawFn.{RawFn}
 use Rattle.hir_raw.specs.declared.raw.RawGoal.{RawGoal}
 use Rattle.hir_raw.specs.declared.raw.RawGoal.TheVariants as goal
+use Rattle.hir_raw.specs.declared.raw.RawPath.{RawPath}
+use Rattle.hir_raw.specs.declared.raw.RawPath.TheVariants as path
 use Rattle.hir_raw.specs.declared.raw.RawType.{RawType}
 use Rattle.hir_raw.specs.declared.raw.RawType.TheVariants as type
 use Rattle.hir_raw.specs.declared.raw.RawFacts.{RawFacts}
 use Rattle.hir_raw.specs.Goals.{arg_types}
+use Rattle.hir_raw.specs.Hidden.{fn_aliases}
 use Rattle.hir_raw.specs.Scope.{scope_of}
+use Rattle.goal_answers.specs.Goals.{Asked}
 use Rattle.goal_facts.specs.Arguments.{type_at, args_at, goal_at}
+use Rattle.goal_facts.proofs.Systems.{each_append}
 use Rattle.goal_prove.specs.Staying.{IsWritten}
 use Rattle.goal_facts.proofs.Written.{parts_by, layer, by_layers, args_are}
 use Rattle.infer_result.specs.declared.result.InferenceResult.{InferenceResult}
-use Rattle.infer_result.specs.Needs.{path_preds, item_args, needed_goals, needs_of}
+use Rattle.infer_result.specs.AliasNeeds.{alias_goals_by, alias_goals_from, fn_alias_goals, path_alias_goals, alias_goals}
+use Rattle.infer_result.specs.Needs.{expr_preds, item_args, needed_goals, needs_of}
 use Rattle.infer_result.specs.Table.{recorded}
 use Rattle.infer_result.specs.Typed.{IsTableOf}
 use Rattle.infer_needs.specs.Judged.{IsProvable, AreProvable}
@@ -66,9 +73,36 @@ module _ (raw : RawFacts) (xs : List GenericArg) (args : AreClosed xs) where
   goals_provable [] = tt
   goals_provable (g ∷ gs) = (goal_provable g, goals_provable gs)
 
+  -- that associated types of a signature are these arguments
+
+  alias_provable : (n : ℕ) (o : Option RawType) → AreProvable (alias_goals_by raw xs n o)
+  alias_provable n (Some (type.Projection a ws)) = ((args_closed ws, args n), tt)
+  alias_provable n _ = tt
+
+  aliases_provable : (n : ℕ) (ks : List ℕ) → AreProvable (alias_goals_from raw xs n ks)
+  aliases_provable n [] = tt
+  aliases_provable n (k ∷ ks) =
+      each_append IsProvable (alias_goals_by raw xs n (slice_get raw.types k)) (alias_goals_from raw xs (suc n) ks) (alias_provable n (slice_get raw.types k)) (aliases_provable (suc n) ks)
+
+  fn_provable : (o : Option RawFn) → AreProvable (fn_alias_goals raw xs o)
+  fn_provable None = tt
+  fn_provable (Some f) = aliases_provable (length f.params) (fn_aliases raw.types f)
+
+  path_provable : (p : RawPath) → AreProvable (path_alias_goals raw xs p)
+  path_provable (path.Function f) = fn_provable (slice_get raw.fns f.0)
+  path_provable (path.Local v) = tt
+  path_provable (path.Ctor v) = tt
+  path_provable path.Other = tt
+
+  alias_needs_provable : (x : RawExpr) → AreProvable (alias_goals raw xs x)
+  alias_needs_provable (expr.Path p) = path_provable p
+  alias_needs_provable _ = tt
+
 expr_provable : (raw : RawFacts) (x : RawExpr) (t : Ty) → IsWritten (term t) → AreProvable (needed_goals raw x t)
-expr_provable raw (expr.Path p) t closed = goals_provable raw (item_args (out-Ty t)) (item_closed t closed) (path_preds raw p)
-expr_provable raw _ t closed = tt
+expr_provable raw x t closed =
+    let xs = item_args (out-Ty t) in
+    let args = item_closed t closed in
+    each_append IsProvable (map (goal_at raw xs) (expr_preds raw x)) (alias_goals raw xs x) (goals_provable raw xs args (expr_preds raw x)) (alias_needs_provable raw xs args x)
 
 -- ---- what the expressions of a body need
 

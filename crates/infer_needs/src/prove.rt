@@ -18,7 +18,7 @@ use hir_facts::{
     AdtId, DefWithBodyId, ExprId, ExprOrPatId, Facts, GenericDefId, Goal, List, RawBody, RawExpr,
     Ty,
 };
-use infer_result::{Gap, InferenceResult, needed_goals};
+use infer_result::{Gap, InferenceResult, expr_id, needed_goals};
 use std::alloc::{AllocError, Global};
 
 /// The item in whose scope a body is.
@@ -127,15 +127,6 @@ fn prove_expr(
         prove_need(alloc, sources, goal, id, told, proofs, &mut gaps)?;
     }
     Ok(gaps)
-}
-
-/// The expression of this number.
-pub(crate) fn expr_id(at: usize) -> Result<ExprId, AllocError>
-    ensures { IfOk result (λ id. id.0 ≡ at) }
-{
-    // No list of so many expressions is in memory.
-    let number = u32::try_from(at).map_err(|_| AllocError)?;
-    Ok(ExprId(number))
 }
 
 /// The same of the expression of this number, at the type that the table records.

@@ -1,6 +1,6 @@
 -- What the path at an expression needs, at a type in scope, has types in scope alone where it is concrete.
-use Rattle.std.specs.Prelude.{◌≡◌, ◌⊎◌, ℕ, suc, List, [], ◌∷◌, length, map, slice_get, Option, Some, None, option_map, refl}
-use Rattle.std.proofs.Common.{inl, inr, sym, ap, ◌∙◌, subst}
+use Rattle.std.specs.Prelude.{◌≡◌, ◌≤◌, ◌+◌, ◌⊎◌, ℕ, suc, List, [], ◌∷◌, length, map, slice_get, Option, Some, None, option_map, refl}
+use Rattle.std.proofs.Common.{arith, inl, inr, sym, ap, ◌∙◌, subst}
 use Rattle.std.proofs.lemmas.List.{length-map}
 use Rattle.hir_types.specs.declared.ids.CallableDefId.{CallableDefId}
 use Rattle.hir_types.specs.declared.ids.CallableDefId.TheVariants as callable
@@ -26,19 +26,24 @@ use Rattle.hir_raw.specs.declared.raw.RawFn.{RawFn}
 use Rattle.hir_raw.specs.declared.raw.RawGoal.{RawGoal}
 use Rattle.hir_raw.specs.declared.raw.RawPath.{RawPath}
 use Rattle.hir_raw.specs.declared.raw.RawPath.TheVariants as path
+use Rattle.hir_raw.specs.declared.raw.RawType.{RawType}
+use Rattle.hir_raw.specs.declared.raw.RawType.TheVariants as type
 use Rattle.hir_raw.specs.declared.raw.RawVariant.{RawVariant}
 use Rattle.hir_raw.specs.declared.raw.RawFacts.{RawFacts}
-use Rattle.hir_raw.specs.Scope.{Scope}
+use Rattle.hir_raw.specs.Hidden.{fn_aliases}
+use Rattle.hir_raw.specs.Scope.{Scope, fn_arity}
 use Rattle.hir_raw.specs.Signatures.{type_args, ctor_type_by}
 use Rattle.hir_laws.specs.Lawful.{IsLawful}
-use Rattle.infer_table.specs.Preserved.{whole, IsMadeOf}
+use Rattle.infer_table.specs.Preserved.{Shape, whole, IsMadeOf}
 use Rattle.goal_answers.specs.Goals.{Asked, Each}
 use Rattle.goal_facts.specs.Arguments.{goal_at}
 use Rattle.goal_facts.specs.Environment.{preds_or_none}
+use Rattle.goal_facts.proofs.Systems.{each_append}
 use Rattle.goal_select.specs.Steps.{HasHeadsIfConcrete}
 use Rattle.infer_result.specs.Heads.{Outermost, other, HasHead, outermost_step, of_function, of_ctor}
 use Rattle.infer_result.specs.Kinds.Path.{PathRule}
-use Rattle.infer_result.specs.Needs.{variant_preds, path_preds, item_args, needed_goals}
+use Rattle.infer_result.specs.AliasNeeds.{alias_goals_by, alias_goals_from, fn_alias_goals, path_alias_goals, alias_goals}
+use Rattle.infer_result.specs.Needs.{variant_preds, path_preds, expr_preds, item_args, needed_goals}
 use Rattle.infer_result.specs.Places.{Given}
 use Rattle.infer_result.specs.Placing.{at_or_mismatch}
 use Rattle.infer_result.specs.Rules.{Rule}
@@ -49,7 +54,7 @@ use Rattle.infer_ctx.specs.Tells.{Tells}
 use Rattle.infer_ctx.specs.Under.{IsVariant}
 use Rattle.infer_ctx.proofs.FineTypes.{heads_bool, heads_char, heads_integer, heads_param, heads_tuple, heads_adt, heads_fn_def}
 use Rattle.infer_ctx.proofs.OverTypes.{over_fine, adt_closed, fn_def_closed}
-use Rattle.infer_obligations.proofs.FineSources.{GoalIsFit, goal_has_heads, fn_preds_fit, adt_preds_fit}
+use Rattle.infer_obligations.proofs.FineSources.{GoalIsFit, fit_more, goal_has_heads, fn_preds_fit, adt_preds_fit}
 
 -- ---- what a type is, outermost
 
@@ -144,6 +149,33 @@ module _ (sc : Scope) (a : Assignment) where
     param = λ n k. without_args (ty.Param n) (ty.Param n) (heads_param sc n k) (no_args_param n) (replaced_param (with_holes a) n) (no_args_param n);
   })
 
+-- ---- goals about associated types
+
+module _ (P : Shape) (raw : RawFacts) (xs : List GenericArg) where
+  alias_in_scope : (n : ℕ) (o : Option RawType) → Each (HasHeadsIfConcrete P) (alias_goals_by raw xs n o)
+  alias_in_scope n (Some (type.Projection a ws)) = (λ kind. absurd kind, tt)
+  alias_in_scope n _ = tt
+
+  from_in_scope : (n : ℕ) (ks : List ℕ) → Each (HasHeadsIfConcrete P) (alias_goals_from raw xs n ks)
+  from_in_scope n [] = tt
+  from_in_scope n (k ∷ ks) = each_append (HasHeadsIfConcrete P) (alias_goals_by raw xs n (slice_get raw.types k)) (alias_goals_from raw xs (suc n) ks) (alias_in_scope n (slice_get raw.types k)) (from_in_scope (suc n) ks)
+
+  fn_in_scope : (o : Option RawFn) → Each (HasHeadsIfConcrete P) (fn_alias_goals raw xs o)
+  fn_in_scope None = tt
+  fn_in_scope (Some f) = from_in_scope (length f.params) (fn_aliases raw.types f)
+
+  path_in_scope : (p : RawPath) → Each (HasHeadsIfConcrete P) (path_alias_goals raw xs p)
+  path_in_scope (path.Function f) = fn_in_scope (slice_get raw.fns f.0)
+  path_in_scope _ = tt
+
+  -- nothing is asked of them
+  aliases_in_scope : (x : RawExpr) → Each (HasHeadsIfConcrete P) (alias_goals raw xs x)
+  aliases_in_scope (expr.Path p) = path_in_scope p
+  aliases_in_scope _ = tt
+
+enough_args : (n m k : ℕ) → n + m ≡ k → n ≤ k
+enough_args n m k is = omega (arith, is)
+
 -- ---- an expression that has a type
 
 module _ (g : Given) (law : IsLawful g.scope.facts) (e : ExprId) (t : Ty) (heads : HasFineHeads g.scope t) (tells : Tells g e t)
@@ -179,9 +211,10 @@ module _ (g : Given) (law : IsLawful g.scope.facts) (e : ExprId) (t : Ty) (heads
         let ts : List Ty = rule.0 in
         let h : Outermost = other (head.FnDef (callable.FunctionId f)) in
         let long : length own.types ≡ length ts = count_at h (tells.head h (of_function e f is)) (ty.FnDef (callable.FunctionId f) (type_args ts)) ts rule.1 (fn_def_args (callable.FunctionId f) (type_args ts)) in
-        let both : Some (length x.params) ≡ Some (length ts) = ap (option_map (λ (y : RawFn). length y.params)) (sym there) ∙ rule.2 in
-        let count : length x.params ≡ length own.types = (let same : length x.params ≡ length ts = cc in same ∙ sym long) in
-        at_own_args x.preds (λ k p here. subst (λ n. GoalIsFit raw law n p) count (fn_preds_fit raw law f.0 x there k p here))
+        let both : Some (fn_arity raw.types x) ≡ Some (length ts) = ap (option_map (fn_arity raw.types)) (sym there) ∙ rule.2 in
+        let same : fn_arity raw.types x ≡ length own.types = (let same : fn_arity raw.types x ≡ length ts = cc in same ∙ sym long) in
+        let enough : length x.params ≤ length own.types = enough_args (length x.params) (length (fn_aliases raw.types x)) (length own.types) same in
+        at_own_args x.preds (λ k p here. fit_more raw law (length x.params) (length own.types) p enough (fn_preds_fit raw law f.0 x there k p here))
 
   adt_needs : (i : ℕ) (ts : List Ty) → length own.types ≡ length ts → option_map (λ (y : RawAdt). length y.params) (slice_get raw.adts i) ≡ Some (length ts) → (o : Option RawAdt) → slice_get raw.adts i ≡ o
       → Each IsInScope (map (goal_at raw (args_of t)) (preds_or_none (option_map (λ (x : RawAdt). x.preds) o)))
@@ -221,7 +254,11 @@ module _ (g : Given) (law : IsLawful g.scope.facts) (e : ExprId) (t : Ty) (heads
   path_needs (path.Function f) is rule variant = fn_needs f is rule (slice_get raw.fns f.0) refl
   path_needs (path.Ctor v) is rule variant = ctor_needs v is rule (variant v refl) (slice_get raw.variants v.0) refl
 
+  preds_in_scope : (x : RawExpr) → slice_get g.body.exprs e.0 ≡ Some x → Rule (at_or_mismatch g r) g r e (Some x) → ((v : VariantId) → x ≡ expr.Path (path.Ctor v) → IsVariant raw v)
+      → Each IsInScope (map (goal_at raw (args_of t)) (expr_preds raw x))
+  preds_in_scope (expr.Path q) is rule variant = path_needs q is rule (λ v same. variant v (ap expr.Path same))
+  preds_in_scope _ is rule variant = tt
+
   -- what it needs has types in scope alone
   pub needs_in_scope : (x : RawExpr) → slice_get g.body.exprs e.0 ≡ Some x → Rule (at_or_mismatch g r) g r e (Some x) → ((v : VariantId) → x ≡ expr.Path (path.Ctor v) → IsVariant raw v) → Each IsInScope (needed_goals raw x t)
-  needs_in_scope (expr.Path q) is rule variant = path_needs q is rule (λ v same. variant v (ap expr.Path same))
-  needs_in_scope _ is rule variant = tt
+  needs_in_scope x is rule variant = each_append IsInScope (map (goal_at raw (args_of t)) (expr_preds raw x)) (alias_goals raw (args_of t) x) (preds_in_scope x is rule variant) (aliases_in_scope (is_fine_head g.scope) raw (args_of t) x)

@@ -51,7 +51,7 @@ use Rattle.hir_laws.specs.Bodies.{body_of}
 use Rattle.hir_laws.specs.Lawful.{IsLawful}
 use Rattle.hir_laws.specs.LawfulFacts.{adt_ids, fn_ids, fns_fit, holes_fit}
 use Rattle.hir_laws.specs.NoHoles.{In, in_first, in_last, in_flat, type_there}
-use Rattle.hir_laws.specs.WrittenFits.{FitsUnder}
+use Rattle.hir_laws.specs.WrittenFits.{FitsUnder, fits_more}
 use Rattle.infer_table.specs.Preserved.{Shape, TermRole, whole, part, rest, IsMadeOf, width_apply}
 use Rattle.infer_table.specs.TermLemmas.{hole_eq_same, hole_eq_true}
 use Rattle.goal_answers.specs.Goals.{Kind, implements, projects, Asked, Rule, System, Each, key}
@@ -208,6 +208,11 @@ module _ (raw : RawFacts) (law : IsLawful raw) where
   abbrev pub GoalIsFit : ℕ → RawGoal → Type 0
   GoalIsFit n (goal.Trait r) = AreFit n (arg_types r.args)
   GoalIsFit n (goal.Projection k xs w) = Unit {0}
+
+  -- so it is under more parameters
+  pub fit_more : (n m : ℕ) (g : RawGoal) → n ≤ m → GoalIsFit n g → GoalIsFit m g
+  fit_more n m (goal.Trait r) le fit = λ k w at direct. (let own = fit k w at direct in record { fits = fits_more raw n m w.0 le own.fits; no_hole = own.no_hole })
+  fit_more n m (goal.Projection k xs w) le fit = tt
 
   used_goal_fits : (n : ℕ) (g : RawGoal) → GoalExists raw g → GoalFits (params_in raw) (wrongs_in raw) raw n g → ((y : Option ℕ) → In (goal_uses g) y → In (item_uses raw) y) → GoalIsFit n g
   used_goal_fits n (goal.Trait r) e fit used = λ k w at. used_fits n w (e.args k w at) (fit.each k w at) (used (Some w.0) (in_mapped (λ (t : TypeRefId). Some t.0) (arg_types r.args) k w at))

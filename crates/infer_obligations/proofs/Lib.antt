@@ -4,3 +4,5 @@ pub mod NeedHoles
 pub mod Registering
 pub mod Selecting
 pub mod Walking
+pub mod InHand
+pub mod ReadNeeds

@@ -1,5 +1,5 @@
 -- What paths need at a type has no holes but those of the type.
-use Rattle.std.specs.Prelude.{◌≡◌, ℕ, zero, suc, List, [], ◌∷◌, map, slice_get, Option, Some, None}
+use Rattle.std.specs.Prelude.{◌≡◌, ℕ, zero, suc, List, [], ◌∷◌, map, length, slice_get, Option, Some, None}
 use Rattle.std.proofs.Common.{sym, ap, ◌∙◌, subst}
 use Rattle.hir_types.specs.declared.head.HoleKind.{HoleKind}
 use Rattle.hir_types.specs.declared.ids.TypeRefId.{TypeRefId}
@@ -21,6 +21,11 @@ use Rattle.hir_raw.specs.declared.raw.RawGoal.TheVariants as goal
 use Rattle.hir_raw.specs.declared.raw.RawType.{RawType}
 use Rattle.hir_raw.specs.declared.raw.RawType.TheVariants as type
 use Rattle.hir_raw.specs.declared.raw.RawFacts.{RawFacts}
+use Rattle.hir_raw.specs.declared.raw.RawExpr.TheVariants as expr
+use Rattle.hir_raw.specs.declared.raw.RawFn.{RawFn}
+use Rattle.hir_raw.specs.declared.raw.RawPath.{RawPath}
+use Rattle.hir_raw.specs.declared.raw.RawPath.TheVariants as path
+use Rattle.hir_raw.specs.Hidden.{fn_aliases}
 use Rattle.hir_raw.specs.Goals.{arg_types}
 use Rattle.infer_table.specs.LogLemmas.{are_of_leaf, are_of_pair, are_of_parts}
 use Rattle.infer_table.specs.Solutions.{AreOf}
@@ -28,8 +33,10 @@ use Rattle.infer_table.specs.Table.{State, HolesAreOf}
 use Rattle.goal_answers.specs.Goals.{Asked, Each}
 use Rattle.goal_facts.specs.Arguments.{type_at, args_at, goal_at}
 use Rattle.goal_facts.specs.Goals.{asked_goal}
+use Rattle.goal_facts.proofs.Systems.{each_append}
 use Rattle.goal_facts.proofs.Written.{parts_by, layer, by_layers, args_are}
 use Rattle.goal_select.specs.Steps.{GoalIsOf}
+use Rattle.infer_result.specs.AliasNeeds.{alias_goals_by, alias_goals_from, fn_alias_goals, path_alias_goals, alias_goals}
 use Rattle.infer_result.specs.Needs.{expr_preds, item_args, needed_goals}
 
 module _ (kinds : List HoleKind) where
@@ -116,6 +123,30 @@ module _ (kinds : List HoleKind) where
     goals_made [] = tt
     goals_made (g ∷ gs) = (goal_made g, goals_made gs)
 
+    -- ---- of associated types
+
+    alias_made : (n : ℕ) (o : Option RawType) → Each (λ (a : Asked). Made a.parts) (alias_goals_by raw xs n o)
+    alias_made n (Some (type.Projection a ws)) = (are_of_pair kinds (args_at raw xs ws) (term ((with_params xs).param n)) (args_made ws) (args n), tt)
+    alias_made n _ = tt
+
+    aliases_made : (n : ℕ) (ks : List ℕ) → Each (λ (a : Asked). Made a.parts) (alias_goals_from raw xs n ks)
+    aliases_made n [] = tt
+    aliases_made n (k ∷ ks) = each_append (λ (a : Asked). Made a.parts) (alias_goals_by raw xs n (slice_get raw.types k)) (alias_goals_from raw xs (suc n) ks) (alias_made n (slice_get raw.types k)) (aliases_made (suc n) ks)
+
+    fn_made : (o : Option RawFn) → Each (λ (a : Asked). Made a.parts) (fn_alias_goals raw xs o)
+    fn_made None = tt
+    fn_made (Some f) = aliases_made (length f.params) (fn_aliases raw.types f)
+
+    path_made : (p : RawPath) → Each (λ (a : Asked). Made a.parts) (path_alias_goals raw xs p)
+    path_made (path.Function f) = fn_made (slice_get raw.fns f.0)
+    path_made (path.Local v) = tt
+    path_made (path.Ctor v) = tt
+    path_made path.Other = tt
+
+    expr_made : (x : RawExpr) → Each (λ (a : Asked). Made a.parts) (alias_goals raw xs x)
+    expr_made (expr.Path p) = path_made p
+    expr_made _ = tt
+
 -- ---- what an expression needs
 
 asked_made : (s : State) (gs : List Goal) → Each (λ (a : Asked). AreOf s.substitution.kinds a.parts) (map asked_goal gs) → Each (GoalIsOf s) gs
@@ -125,4 +156,7 @@ asked_made s (g ∷ gs) h = (h.0, asked_made s gs h.1)
 pub needed_made : (raw : RawFacts) (s : State) (x : RawExpr) (t : Ty) (gs : List Goal) → HolesAreOf s t → map asked_goal gs ≡ needed_goals raw x t → Each (GoalIsOf s) gs
 needed_made raw s x t gs h is =
     let P : List Asked → Type 0 = Each (λ (a : Asked). AreOf s.substitution.kinds a.parts) in
-    asked_made s gs (subst P (sym is) (goals_made s.substitution.kinds raw (item_args (out-Ty t)) (item_made s.substitution.kinds t h) (expr_preds raw x)))
+    let kinds = s.substitution.kinds in
+    let xs = item_args (out-Ty t) in
+    let args = item_made kinds t h in
+    asked_made s gs (subst P (sym is) (each_append (λ (a : Asked). AreOf kinds a.parts) (map (goal_at raw xs) (expr_preds raw x)) (alias_goals raw xs x) (goals_made kinds raw xs args (expr_preds raw x)) (expr_made kinds raw xs args x)))

@@ -2,8 +2,11 @@
 //! the arguments of each call, and at the end.
 #![tactic(auto)]
 
+mod made;
+mod read;
 mod register;
 mod select;
 
+pub use read::{read_all, read_for, select_and_read, settle_needs};
 pub use register::{register_each, register_needs};
 pub use select::{select_obligations_where_possible, select_registered};

@@ -18,7 +18,7 @@ use Rattle.hir_raw.specs.declared.raw.RawPath.{RawPath}
 use Rattle.hir_raw.specs.declared.schedule.Schedule.{Schedule}
 use Rattle.hir_facts.specs.CarriedTypes.{IsCarriedType}
 use Rattle.hir_raw.specs.declared.raw.RawFn.{RawFn}
-use Rattle.hir_raw.specs.Scope.{has_params, fn_params, adt_params, Scope}
+use Rattle.hir_raw.specs.Scope.{has_params, callable_params, fn_arity, adt_params, Scope}
 use Rattle.hir_raw.specs.Signatures.{type_args, Signature, signature_of, ctor_type}
 use Rattle.hir_raw.specs.declared.raw.RawPath.TheVariants as path
 use Rattle.hir_raw.specs.declared.raw.RawExpr.TheVariants as expr
@@ -133,8 +133,8 @@ pub same_some : {A : Type 0} {x y : A} → Some x ≡ Some y → x ≡ y
 same_some h = cc
 
 -- how many parameters a function has
-pub fn_size : (g : Given) (f : FunctionId) (item : IsItem g.scope.facts (callable.FunctionId f)) (x : RawFn) → slice_get g.scope.facts.fns f.0 ≡ Some x → length x.params ≡ item.signature.params
-fn_size g f item x at = same_some (sym (ap (option_map (λ y. length y.params)) at) ∙ item.count)
+pub fn_size : (g : Given) (f : FunctionId) (item : IsItem g.scope.facts (callable.FunctionId f)) (x : RawFn) → slice_get g.scope.facts.fns f.0 ≡ Some x → fn_arity g.scope.facts.types x ≡ item.signature.params
+fn_size g f item x at = same_some (sym (ap (option_map (fn_arity g.scope.facts.types)) at) ∙ item.count)
 
 -- so many types are as many as there are parameters
 takes : (o : Option ℕ) (n : ℕ) (ts : List Ty) → o ≡ Some n → length ts ≡ n → has_params o (length ts) ≡ true
@@ -158,7 +158,7 @@ function_path g f item ts c new d = record {
   sound = d.sound;
   fine = item_fine g (callable.FunctionId f) item ts c new d;
   tells = λ e is. function_tells g e f (type_args ts) (ty.FnDef (callable.FunctionId f) (type_args ts)) is refl;
-  each = λ a q. (map (folded a) ts, fn_def_closed a (callable.FunctionId f) ts, counted_under a (fn_params g.scope.facts f.0) item.signature.params ts item.count d.count_is);
+  each = λ a q. (map (folded a) ts, fn_def_closed a (callable.FunctionId f) ts, counted_under a (callable_params g.scope.facts (callable.FunctionId f)) item.signature.params ts item.count d.count_is);
 }
 
 -- ---- constructors

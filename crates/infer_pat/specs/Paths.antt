@@ -7,7 +7,7 @@ use Rattle.hir_types.specs.declared.ty.GenericArg.{GenericArg}
 use Rattle.hir_types.specs.declared.ids.CallableDefId.TheVariants as callable
 use Rattle.hir_types.specs.declared.ty.Ty.TheVariants as ty
 use Rattle.hir_raw.specs.declared.raw.RawPath.{RawPath}
-use Rattle.hir_raw.specs.Scope.{fn_params, Scope}
+use Rattle.hir_raw.specs.Scope.{callable_params, Scope}
 use Rattle.hir_raw.specs.Signatures.{type_args}
 use Rattle.hir_raw.specs.declared.raw.RawPath.TheVariants as path
 use Rattle.hir_raw.specs.declared.raw.RawExpr.TheVariants as expr
@@ -27,7 +27,7 @@ use Rattle.infer_ctx.specs.Steps.{ArePartTypes}
 -- the path names a local of this type, or a function or a constructor at as many types as it has parameters
 abbrev pub IsPathType : Given → InferenceResult → RawPath → Ty → Type 0
 IsPathType g r (path.Local v) t = BindingTy r v t
-IsPathType g r (path.Function f) t = (ts : List Ty) × (t ≡ ty.FnDef (callable.FunctionId f) (type_args ts)) × (fn_params g.scope.facts f.0 ≡ Some (length ts))
+IsPathType g r (path.Function f) t = (ts : List Ty) × (t ≡ ty.FnDef (callable.FunctionId f) (type_args ts)) × (callable_params g.scope.facts (callable.FunctionId f) ≡ Some (length ts))
 IsPathType g r (path.Ctor v) t = IsCtorPath g v t
 IsPathType g r path.Other t = ⊥
 

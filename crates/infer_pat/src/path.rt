@@ -8,7 +8,7 @@ ghost use Rattle.infer_ctx.specs.Tells.{TellsRecorded};
 ghost use Rattle.infer_pat.specs.Paths.{NamesTyped, PathDone, AreFreshArgs};
 ghost use Rattle.infer_ctx.specs.Under.{IsVariant};
 
-use hir_facts::{List, RawCtor, RawPath, Ty, VariantId};
+use hir_facts::{List, RawCtor, RawPath, Ty, VariantId, fn_arity};
 use hir_types::{CallableDefId, GenericArg};
 use infer_ctx::{GivenBody, InferenceContext};
 use std::alloc::{AllocError, Global};
@@ -36,7 +36,8 @@ pub fn infer_expr_path(
             None => unreachable!(),
         },
         RawPath::Function(function) => {
-            let params = given.facts.fn_(function).params.len();
+            let item = given.facts.fn_(function);
+            let params = fn_arity(alloc, given.facts.types(), item)?;
             let args = fresh_args_for_item(alloc, context, given, params)?;
             Ok(Ty::FnDef(CallableDefId::FunctionId(function), args))
         }

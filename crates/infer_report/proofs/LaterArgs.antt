@@ -2,7 +2,8 @@
 use Rattle.std.proofs.Common.{◌≡◌, ◌∙◌, ◌++◌, ◌+◌, ◌<◌, List, [], ◌∷◌, map, length, ℕ, suc, ap, append_assoc, append-nil, arith, codes}
 use Rattle.hir_types.specs.declared.ty.GenericArg.{GenericArg}
 use Rattle.hir_raw.specs.declared.raw.RawFacts.{RawFacts}
-use Rattle.infer_result.specs.Report.{arg_text, joined, later_arg_text, later_args_text, lines_from}
+use Rattle.infer_result.specs.Report.{arg_text, joined, lines_from}
+use Rattle.infer_report.specs.LaterArgs.{later_arg_text, later_args_text}
 
 module _ (raw : RawFacts) where
   abbrev pub later_of : ℕ → GenericArg → List ℕ

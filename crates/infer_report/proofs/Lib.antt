@@ -1,3 +1,4 @@
 pub mod LaterArgs
+pub mod OwnArgs
 pub mod Lines
 pub mod TypeTexts

@@ -21,7 +21,7 @@ use Rattle.hir_types.specs.declared.ty.AliasBound.{AliasBound}
 use Rattle.hir_types.specs.declared.ty.Ty.{Ty, Ty-F, fold-roll-Ty}
 use Rattle.hir_types.specs.declared.ty.Ty.TheVariants as ty
 use Rattle.hir_raw.specs.declared.raw.RawFacts.{RawFacts}
-use Rattle.infer_result.specs.Report.{int_text, uint_text, float_text, const_text, ref_text, ptr_text, label_text, safety_text, callable_text, tuple_text, joined, args_text, adt_text, projection_text, text_arg, text_step, text_bound, text_trait, arg_text, ty_text}
+use Rattle.infer_result.specs.Report.{int_text, uint_text, float_text, const_text, ref_text, ptr_text, label_text, safety_text, callable_text, tuple_text, joined, args_text, own_args, adt_text, projection_text, text_arg, text_step, text_bound, text_trait, arg_text, ty_text}
 
 pub bool_text_is : (raw : RawFacts) → ty_text raw ty.Bool ≡ codes "bool"
 bool_text_is raw = ap (ty_text raw) (sym ty.rolls-Bool) ∙ fold-roll-Ty (List ℕ) (List ℕ) (List ℕ) (List ℕ) text_arg (text_step raw) text_bound text_trait Ty-F.Bool
@@ -62,7 +62,7 @@ rawptr_text_is raw m t = ap (ty_text raw) (sym (ty.rolls-RawPtr m t)) ∙ fold-r
 pub adt_text_is : (raw : RawFacts) (i : AdtId) (xs : List GenericArg) → ty_text raw (ty.Adt i xs) ≡ adt_text raw i (map (arg_text raw) xs)
 adt_text_is raw i xs = ap (ty_text raw) (sym (ty.rolls-Adt i xs)) ∙ fold-roll-Ty (List ℕ) (List ℕ) (List ℕ) (List ℕ) text_arg (text_step raw) text_bound text_trait (Ty-F.Adt i xs)
 
-pub fndef_text_is : (raw : RawFacts) (i : CallableDefId) (xs : List GenericArg) → ty_text raw (ty.FnDef i xs) ≡ callable_text i ++ args_text (map (arg_text raw) xs)
+pub fndef_text_is : (raw : RawFacts) (i : CallableDefId) (xs : List GenericArg) → ty_text raw (ty.FnDef i xs) ≡ callable_text i ++ args_text (own_args raw i (map (arg_text raw) xs))
 fndef_text_is raw i xs = ap (ty_text raw) (sym (ty.rolls-FnDef i xs)) ∙ fold-roll-Ty (List ℕ) (List ℕ) (List ℕ) (List ℕ) text_arg (text_step raw) text_bound text_trait (Ty-F.FnDef i xs)
 
 pub fnptr_text_is : (raw : RawFacts) (s : Safety) (ts : List Ty) (t : Ty) → ty_text raw (ty.FnPtr s ts t) ≡ safety_text s ++ (codes "(" ++ joined (map (ty_text raw) ts) ++ codes ") -> " ++ ty_text raw t)

@@ -1,8 +1,9 @@
 //! Types as text.
-ghost use Rattle.std.specs.Prelude.{◌≡◌, ◌++◌, List, map, OnOk, codes, string_bytes};
+ghost use Rattle.std.specs.Prelude.{◌≡◌, ◌≤◌, ◌++◌, List, length, map, take, OnOk, codes, string_bytes};
 ghost use Rattle.std.specs.Option.{option_copied};
 ghost use Rattle.std.specs.Fmt.{decimal};
-ghost use Rattle.infer_result.specs.Report.{int_text, uint_text, float_text, const_text, ref_text, ptr_text, label_text, safety_text, callable_text, separator, joined, tuple_text, args_text, later_args_text, later_arg_text, adt_text, implements_text, projection_text, arg_text, ty_text, type_text};
+ghost use Rattle.infer_report.specs.LaterArgs.{later_args_text, later_arg_text};
+ghost use Rattle.infer_result.specs.Report.{int_text, uint_text, float_text, const_text, ref_text, ptr_text, label_text, safety_text, callable_text, separator, joined, tuple_text, args_text, own_count, own_args, adt_text, implements_text, projection_text, arg_text, ty_text, type_text};
 
 use hir_facts::{RawFacts, RawTrait};
 use hir_types::{
@@ -206,6 +207,58 @@ pub fn push_args(out: &mut String, facts: &RawFacts, args: &[GenericArg]) -> Res
     out.push_str(">")
 }
 
+/// How many of so many arguments are those of a function's own parameters: those for associated types in its signature
+/// come behind them.
+fn own_count(facts: &RawFacts, id: CallableDefId, count: usize) -> usize
+    ensures { result ≡ own_count facts.now id count }
+{
+    match id {
+        CallableDefId::FunctionId(function) => match facts.fns.get(function.0 as usize) {
+            Some(function) => function.params.len().min(count),
+            None => count,
+        },
+        CallableDefId::VariantId(_) => count,
+    }
+}
+
+/// Writes so many of these generic arguments.
+#[cycle(shown)]
+fn push_first_args(
+    out: &mut String,
+    facts: &RawFacts,
+    args: &[GenericArg],
+    count: usize,
+) -> Result<(), AllocError>
+    requires { count ≤ length args.now }
+    ensures { OnOk result (string_bytes out.new ≡ string_bytes out.old ++ joined (map (arg_text facts.now) (take count args.now))) }
+{
+    for at in 0..count {
+        push_separator(out, at)?;
+        push_arg(out, facts, &args[at])?;
+    }
+    Ok(())
+}
+
+/// Writes the generic arguments of a function or constructor that are its own, where there are any.
+#[cycle(shown)]
+fn push_own_args(
+    out: &mut String,
+    facts: &RawFacts,
+    id: CallableDefId,
+    args: &[GenericArg],
+) -> Result<(), AllocError>
+    ensures { OnOk result (string_bytes out.new ≡ string_bytes out.old ++ args_text (own_args facts.now id (map (arg_text facts.now) args.now))) }
+{
+    let count = own_count(facts, id, args.len());
+    if count == 0 {
+        return Ok(());
+    }
+    out.push_str("<")?;
+    push_first_args(out, facts, args, count)?;
+    out.push_str(">")?;
+    Ok(())
+}
+
 /// Writes a generic argument that is not the first, with what stands before it.
 #[cycle(shown)]
 fn push_later_arg(
@@ -359,7 +412,7 @@ pub fn push_ty(out: &mut String, facts: &RawFacts, ty: &Ty) -> Result<(), AllocE
         Ty::Adt(id, args) => push_adt(out, facts, *id, args),
         Ty::FnDef(id, args) => {
             push_callable(out, *id)?;
-            push_args(out, facts, args.as_slice())
+            push_own_args(out, facts, *id, args.as_slice())
         }
         Ty::FnPtr {
             safety,

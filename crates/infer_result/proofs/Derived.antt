@@ -37,7 +37,7 @@ use Rattle.hir_raw.specs.declared.raw.RawVariant.{RawVariant}
 use Rattle.hir_types.specs.Types.{unit}
 use Rattle.hir_raw.specs.WrittenTypes.{written_type}
 use Rattle.hir_facts.specs.Filled.{filled_written}
-use Rattle.hir_raw.specs.Scope.{names_item, adt_params}
+use Rattle.hir_raw.specs.Scope.{names_item, fn_arity, adt_params}
 use Rattle.hir_raw.specs.Signatures.{Signature, fn_signature, ctor_signature, ctor_type, signature_of, type_args, at_args}
 use Rattle.hir_types.specs.Erasure.{erased}
 use Rattle.hir_raw.specs.declared.schedule.Schedule.{Schedule}
@@ -119,11 +119,11 @@ no_items : (us : List Ty) → length us ≡ 0 → us ≡ []
 no_items [] h = refl
 no_items (u ∷ us) h = absurd (cc)
 
-fn_count : (types : List RawType) (o : Option RawFn) (us : List Ty) (σ : Signature) → option_map (λ f. length f.params) o ≡ Some (length us) → option_map (fn_signature types) o ≡ Some σ → length us ≡ σ.params
+fn_count : (types : List RawType) (o : Option RawFn) (us : List Ty) (σ : Signature) → option_map (fn_arity types) o ≡ Some (length us) → option_map (fn_signature types) o ≡ Some σ → length us ≡ σ.params
 fn_count types None us σ h k = absurd (cc)
 fn_count types (Some f) us σ h k =
     let l : fn_signature types f ≡ σ = cc in
-    let m : length f.params ≡ σ.params = ap (λ (v : Signature). v.params) l in
+    let m : fn_arity types f ≡ σ.params = ap (λ (v : Signature). v.params) l in
     cc
 
 pub ctor_type_of_tuple : (x : RawVariant) (v : VariantId) (ts : List Ty) → x.ctor ≡ ctor.Tuple → ctor_type x v ts ≡ ty.FnDef (callable.VariantId v) (type_args ts)

@@ -1,3 +1,4 @@
+pub mod AliasGoals
 pub mod Consequences
 pub mod DerivationLaws
 pub mod Derived

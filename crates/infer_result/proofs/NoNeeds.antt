@@ -1,4 +1,4 @@
--- Where no function and no adt has predicates, no node needs a goal.
+-- Where no function and no adt has predicates, and no signature an associated type, no node needs a goal.
 use Rattle.std.proofs.Common.{◌≡◌, ℕ, List, [], map, slice_get, Option, Some, None, option_map, refl, subst}
 use Rattle.hir_types.specs.declared.ids.ExprId.{ExprId}
 use Rattle.hir_types.specs.declared.ids.DefWithBodyId.{DefWithBodyId}
@@ -13,12 +13,14 @@ use Rattle.hir_raw.specs.declared.raw.RawFn.{RawFn}
 use Rattle.hir_raw.specs.declared.raw.RawAdt.{RawAdt}
 use Rattle.hir_raw.specs.declared.raw.RawBody.{RawBody}
 use Rattle.hir_raw.specs.declared.raw.RawFacts.{RawFacts}
+use Rattle.hir_raw.specs.Hidden.{fn_aliases}
 use Rattle.goal_answers.specs.Goals.{Asked}
 use Rattle.goal_facts.specs.Arguments.{goal_at}
 use Rattle.goal_facts.specs.Environment.{preds_or_none}
 use Rattle.infer_result.specs.declared.gaps.Gap.{Gap}
 use Rattle.infer_result.specs.declared.result.InferenceResult.{InferenceResult}
-use Rattle.infer_result.specs.Needs.{variant_preds, path_preds, expr_preds, item_args, IsNeeded, HasGap, NeedsHold}
+use Rattle.infer_result.specs.AliasNeeds.{none_for_aliases}
+use Rattle.infer_result.specs.Needs.{variant_preds, path_preds, expr_preds, item_args, needs_preds, IsNeeded, HasGap, NeedsHold}
 use Rattle.infer_result.specs.Typed.{given}
 
 none_at : {X : Type 0} (n : ℕ) (x : X) → slice_get [] n ≡ Some x → ⊥
@@ -36,7 +38,7 @@ entry_none : {X : Type 0} (preds : X → List RawGoal) (o : Option X) → ((x : 
 entry_none preds None h = refl
 entry_none preds (Some x) h = h x refl
 
-module _ (raw : RawFacts) (fns : HaveNone (λ (f : RawFn). f.preds) raw.fns) (adts : HaveNone (λ (a : RawAdt). a.preds) raw.adts) where
+module _ (raw : RawFacts) (fns : HaveNone (λ (f : RawFn). f.preds) raw.fns) (adts : HaveNone (λ (a : RawAdt). a.preds) raw.adts) (aliases : (n : ℕ) (f : RawFn) → slice_get raw.fns n ≡ Some f → fn_aliases raw.types f ≡ []) where
   variant_none : (o : Option RawVariant) → variant_preds raw o ≡ []
   variant_none None = refl
   variant_none (Some v) = entry_none (λ (a : RawAdt). a.preds) (slice_get raw.adts v.adt.0) (adts v.adt.0)
@@ -54,7 +56,9 @@ module _ (raw : RawFacts) (fns : HaveNone (λ (f : RawFn). f.preds) raw.fns) (ad
   pub none_needed : (d : DefWithBodyId) (b : RawBody) (r : InferenceResult) (e : ExprId) (a : Asked) → IsNeeded (given raw d b) r e a → ⊥
   none_needed d b r e a n =
       let P : List RawGoal → Type 0 = λ ps. slice_get (map (goal_at raw (item_args (out-Ty n.ty))) ps) n.at ≡ Some a in
-      none_at n.at a (subst P (expr_none n.expr) n.among)
+      let xs = item_args (out-Ty n.ty) in
+      let among = subst (λ gs. slice_get gs n.at ≡ Some a) (needs_preds raw n.expr n.ty (none_for_aliases raw aliases xs n.expr)) n.among in
+      none_at n.at a (subst P (expr_none n.expr) among)
 
   pub needs_hold : (d : DefWithBodyId) (b : RawBody) (r : InferenceResult) → NeedsHold d (given raw d b) r
   needs_hold d b r f are e a n = absurd (none_needed d b r e a n)

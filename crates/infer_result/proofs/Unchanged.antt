@@ -1,5 +1,5 @@
 -- What facts write has no holes that inference made, so no assignment changes it.
-use Rattle.std.proofs.Common.{ℕ, zero, suc, ◌≡◌, refl, sym, ap, subst, ◌∙◌, List, [], ◌∷◌, map, Option, Some, None, slice_get, option_map, option_and_then}
+use Rattle.std.proofs.Common.{ℕ, zero, suc, ◌≡◌, refl, sym, ap, subst, ◌∙◌, List, [], ◌∷◌, map, length, ◌+◌, Option, Some, None, slice_get, option_map, option_and_then}
 use Rattle.hir_types.specs.declared.ids.AdtId.{AdtId}
 use Rattle.hir_types.specs.declared.ids.CallableDefId.{CallableDefId}
 use Rattle.hir_types.specs.declared.ids.CallableDefId.TheVariants as callable
@@ -22,9 +22,10 @@ use Rattle.hir_laws.specs.Bodies.{output_by, return_type, inputs_of}
 use Rattle.hir_facts.specs.Filled.{filled_written, filled_folded}
 use Rattle.hir_laws.specs.Lawful.{IsLawful}
 use Rattle.hir_counts.specs.Standing.{HasNoHole}
+use Rattle.hir_laws.proofs.OpenedTypes.{IsOpened, as_written, as_param, input_opened, output_opened}
 use Rattle.hir_laws.specs.NoHoles.{input_has_no_hole, output_has_no_hole, field_has_no_hole, definition_input_has_no_hole}
 use Rattle.hir_raw.specs.Scope.{adt_params}
-use Rattle.hir_raw.specs.Signatures.{Signature, fn_signature, signature_of, signature_by, ctor_signature, field_types, own_adt, params_from, type_args, at_args}
+use Rattle.hir_raw.specs.Signatures.{Signature, fn_signature, fn_types, signature_of, signature_by, ctor_signature, field_types, own_adt, params_from, type_args, at_args}
 use Rattle.hir_raw.specs.WrittenTypes.{written_type}
 
 -- no assignment changes the type
@@ -50,9 +51,14 @@ pub written_unchanged : (types : List RawType) (w : TypeRefId) → HasNoHole typ
 written_unchanged types w none a =
     ap (folded a) (sym (filled_written fill types w none)) ∙ (filled_folded a fill types w ∙ filled_written (λ k. folded a (fill k)) types w none)
 
-all_written : (types : List RawType) (ws : List TypeRefId) → ((k : ℕ) (w : TypeRefId) → slice_get ws k ≡ Some w → HasNoHole types w) → AllUnchanged (map (written_type types) ws)
-all_written types [] none = tt
-all_written types (w ∷ ws) none = (written_unchanged types w (none 0 w refl), all_written types ws (λ k v e. none (suc k) v e))
+-- a parameter that stands for a projection, or what is written there
+opened_unchanged : (raw : RawFacts) (x : RawFn) (w : TypeRefId) → HasNoHole raw.types w → IsOpened raw x w → IsUnchanged (written_type (fn_types raw.types x) w)
+opened_unchanged raw x w none (as_written fits is) = subst IsUnchanged (sym is) (written_unchanged raw.types w none)
+opened_unchanged raw x w none (as_param p below is) = subst IsUnchanged (sym is) (λ a. replaced_param (with_holes a) (length x.params + p))
+
+all_opened : (types : List RawType) (ws : List TypeRefId) → ((k : ℕ) (w : TypeRefId) → slice_get ws k ≡ Some w → IsUnchanged (written_type types w)) → AllUnchanged (map (written_type types) ws)
+all_opened types [] each = tt
+all_opened types (w ∷ ws) each = (each 0 w refl, all_opened types ws (λ k v e. each (suc k) v e))
 
 all_fields : (types : List RawType) (fs : List RawField) → ((k : ℕ) (f : RawField) → slice_get fs k ≡ Some f → HasNoHole types f.type_) → AllUnchanged (map (λ (f : RawField). written_type types f.type_) fs)
 all_fields types [] none = tt
@@ -81,10 +87,10 @@ module _ (raw : RawFacts) (law : IsLawful raw) where
   by_fn : (f : ℕ) (o : Option RawFn) (σ : Signature) → slice_get raw.fns f ≡ o → option_map (fn_signature raw.types) o ≡ Some σ → IsUnchangedSignature σ
   by_fn f None σ found is = absurd (cc)
   by_fn f (Some x) σ found is =
-      let own : fn_signature raw.types x ≡ σ = cc in
-      subst IsUnchangedSignature own (record {
-        inputs = all_written raw.types x.inputs (λ k w e. input_has_no_hole raw law f x found k w e);
-        output = written_unchanged raw.types x.output (output_has_no_hole raw law f x found);
+      let same : fn_signature raw.types x ≡ σ = cc in
+      subst IsUnchangedSignature same (record {
+        inputs = all_opened (fn_types raw.types x) x.inputs (λ k w e. opened_unchanged raw x w (input_has_no_hole raw law f x found k w e) (input_opened raw law f x found k w e));
+        output = opened_unchanged raw x x.output (output_has_no_hole raw law f x found) (output_opened raw law f x found);
       })
 
   by_ctor : (v : ℕ) (x : RawVariant) → slice_get raw.variants v ≡ Some x → (k : RawCtor) (n : ℕ) (σ : Signature) → signature_by k raw.types n x ≡ Some σ → IsUnchangedSignature σ

@@ -16,6 +16,7 @@ pub mod Truth
 pub mod TypesFit
 pub mod Shape
 pub mod Made
+pub mod AliasNeeds
 pub mod Needs
 pub mod Typed
 pub mod Derivation

@@ -1,6 +1,9 @@
--- Goals that nodes need: each path to an item the predicates of the item, at the arguments that are recorded. Each is proved, or it is
--- said that it is not (The Rust Reference, "Trait and lifetime bounds": bounds are checked where an item is used).
-use Rattle.std.specs.Prelude.{◌≡◌, ◌⊎◌, ℕ, List, [], map, slice_get, Option, Some, None}
+-- Goals that nodes need: each path to an item the predicates of the item, and what the associated types in its signature are, at the arguments that
+-- are recorded. Each is proved, or it is said that it is not (The Rust Reference, "Trait and lifetime bounds": bounds are checked where an item is used).
+use Rattle.std.specs.Prelude.{◌≡◌, ◌⊎◌, ℕ, List, [], ◌++◌, map, slice_get, Option, Some, None}
+use Rattle.std.proofs.Common.{ap, ◌∙◌, append-nil}
+use Rattle.hir_types.specs.declared.ids.CallableDefId.{CallableDefId}
+use Rattle.hir_types.specs.declared.ids.CallableDefId.TheVariants as callable
 use Rattle.hir_types.specs.declared.ids.ExprId.{ExprId}
 use Rattle.hir_types.specs.declared.ids.DefWithBodyId.{DefWithBodyId}
 use Rattle.hir_types.specs.declared.ids.DefWithBodyId.TheVariants as def
@@ -31,6 +34,7 @@ use Rattle.goal_facts.specs.Environment.{env_preds}
 use Rattle.goal_facts.specs.Goals.{asked_goal}
 use Rattle.goal_facts.specs.Systems.{IsSystemOf}
 use Rattle.goal_facts.specs.Proofs.{AreProofs}
+use Rattle.infer_result.specs.AliasNeeds.{alias_goals}
 use Rattle.infer_result.specs.declared.gaps.Gap.{Gap}
 use Rattle.infer_result.specs.declared.gaps.Gap.TheVariants as gap
 use Rattle.infer_result.specs.declared.result.InferenceResult.{InferenceResult}
@@ -61,9 +65,26 @@ item_args (Ty-F.FnDef id xs) = xs
 item_args (Ty-F.Adt id xs) = xs
 item_args _ = []
 
--- what an expression of this type needs
+-- what an expression of this type needs: the predicates, then what the associated types in its signature are
 abbrev pub needed_goals : RawFacts → RawExpr → Ty → List Asked
-needed_goals raw x t = map (goal_at raw (item_args (out-Ty t))) (expr_preds raw x)
+needed_goals raw x t = map (goal_at raw (item_args (out-Ty t))) (expr_preds raw x) ++ alias_goals raw (item_args (out-Ty t)) x
+
+-- where none is for an associated type, these are the predicates
+pub needs_preds : (raw : RawFacts) (x : RawExpr) (t : Ty) → alias_goals raw (item_args (out-Ty t)) x ≡ [] → needed_goals raw x t ≡ map (goal_at raw (item_args (out-Ty t))) (expr_preds raw x)
+needs_preds raw x t none = let preds = map (goal_at raw (item_args (out-Ty t))) (expr_preds raw x) in ap (λ gs. preds ++ gs) none ∙ append-nil preds
+
+-- the path to an item
+abbrev pub item_path : CallableDefId → RawPath
+item_path (callable.FunctionId f) = path.Function f
+item_path (callable.VariantId v) = path.Ctor v
+
+-- what a path to the function or constructor needs of which this is the type
+abbrev pub callee_needs_by : RawFacts → Ty → Ty-F GenericArg Ty AliasBound TraitRef → List Asked
+callee_needs_by raw t (Ty-F.FnDef id xs) = needed_goals raw (expr.Path (item_path id)) t
+callee_needs_by raw t _ = []
+
+abbrev pub callee_needs : RawFacts → Ty → List Asked
+callee_needs raw t = callee_needs_by raw t (out-Ty t)
 
 -- where there is an expression, and its type is recorded
 abbrev pub needs_of : RawFacts → Option RawExpr → Option Ty → List Asked

@@ -1,6 +1,6 @@
 -- What is reported of a table: a line for the definition, for each expression, pattern and binding,
 -- and for each complaint, and the number of complaints last.
-use Rattle.std.specs.Prelude.{ℕ, zero, suc, ◌+◌, List, [], ◌∷◌, ◌++◌, Option, Some, None, codes, count_by, sum_by, is_some, length, map, slice_get}
+use Rattle.std.specs.Prelude.{ℕ, zero, suc, ◌+◌, List, [], ◌∷◌, ◌++◌, Option, Some, None, codes, count_by, sum_by, is_some, length, map, min, slice_get, take}
 use Rattle.std.specs.Fmt.{decimal}
 use Rattle.hir_types.specs.declared.ids.AdtId.{AdtId}
 use Rattle.hir_types.specs.declared.ids.CallableDefId.{CallableDefId}
@@ -15,6 +15,7 @@ use Rattle.hir_types.specs.declared.goal.Goal.{Goal}
 use Rattle.hir_types.specs.declared.goal.Goal.TheVariants as goal
 use Rattle.hir_raw.specs.declared.raw.RawAdt.{RawAdt}
 use Rattle.hir_raw.specs.declared.raw.RawAlias.{RawAlias}
+use Rattle.hir_raw.specs.declared.raw.RawFn.{RawFn}
 use Rattle.hir_raw.specs.declared.raw.RawTrait.{RawTrait}
 use Rattle.hir_raw.specs.declared.raw.RawFacts.{RawFacts}
 use Rattle.hir_types.specs.declared.ty.IntTy.{IntTy}
@@ -118,16 +119,6 @@ abbrev pub args_text : List (List ℕ) → List ℕ
 args_text [] = []
 args_text (x ∷ xs) = codes "<" ++ joined (x ∷ xs) ++ codes ">"
 
--- those but the first; each with what stands before it
-abbrev pub later_args_text : List (List ℕ) → List ℕ
-later_args_text [] = []
-later_args_text (x ∷ xs) = args_text xs
-
-abbrev pub later_arg_text : ℕ → List ℕ → List ℕ
-later_arg_text zero x = []
-later_arg_text (suc zero) x = codes "<" ++ x
-later_arg_text (suc (suc n)) x = codes ", " ++ x
-
 -- an adt is named as in the source
 abbrev pub named_text : Option RawAdt → List (List ℕ) → List ℕ
 named_text None xs = codes "{unknown}"
@@ -141,6 +132,19 @@ adt_text raw i xs = named_text (slice_get raw.adts i.0) xs
 abbrev pub callable_text : CallableDefId → List ℕ
 callable_text (callable.FunctionId f) = codes "fn" ++ decimal f.0
 callable_text (callable.VariantId v) = codes "variant" ++ decimal v.0
+
+-- how many of n arguments are those of a function's own parameters: those for associated types in its signature come behind them
+abbrev pub fn_own_count : Option RawFn → ℕ → ℕ
+fn_own_count None n = n
+fn_own_count (Some f) n = min (length f.params) n
+
+abbrev pub own_count : RawFacts → CallableDefId → ℕ → ℕ
+own_count raw (callable.FunctionId f) n = fn_own_count (slice_get raw.fns f.0) n
+own_count raw (callable.VariantId v) n = n
+
+-- these are written
+abbrev pub own_args : RawFacts → CallableDefId → List (List ℕ) → List (List ℕ)
+own_args raw i xs = take (own_count raw i (length xs)) xs
 
 -- the self type and a trait at its other arguments, with this between them
 abbrev pub implements_text : List ℕ → Option RawTrait → List (List ℕ) → List ℕ
@@ -182,7 +186,7 @@ text_step raw (Ty-F.Slice t) = codes "[" ++ t ++ codes "]"
 text_step raw (Ty-F.Ref m r t) = codes "&" ++ label_text r.0 ++ ref_text m ++ t
 text_step raw (Ty-F.RawPtr m t) = codes "*" ++ ptr_text m ++ t
 text_step raw (Ty-F.Adt i xs) = adt_text raw i xs
-text_step raw (Ty-F.FnDef i xs) = callable_text i ++ args_text xs
+text_step raw (Ty-F.FnDef i xs) = callable_text i ++ args_text (own_args raw i xs)
 text_step raw (Ty-F.FnPtr s ts t) = safety_text s ++ signature_text ts t
 text_step raw (Ty-F.Closure i ts t) = codes "closure e" ++ decimal i.0.0 ++ signature_text ts t
 text_step raw (Ty-F.Dynamic o bs ts) = codes "{unknown}"

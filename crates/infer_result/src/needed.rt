@@ -1,13 +1,18 @@
-//! The predicates of items that paths name: `infer/path.rs`, `add_required_obligations_for_value_path`.
-ghost use Rattle.std.specs.Prelude.{◌≡◌, IfOk, map};
+//! What paths to items need: `infer/path.rs`, `add_required_obligations_for_value_path`.
+ghost use Rattle.std.specs.Prelude.{◌≡◌, ◌+◌, ◌++◌, Some, map, slice_get, IfOk, OnOk};
 ghost use Rattle.hir_types.specs.declared.ids.GenericDefId.TheVariants as generic;
 ghost use Rattle.hir_raw.specs.declared.raw.RawPath.TheVariants as path;
+ghost use Rattle.goal_facts.specs.Arguments.{goal_at};
 ghost use Rattle.goal_facts.specs.Environment.{env_preds};
 ghost use Rattle.goal_facts.specs.Goals.{asked_goal};
-ghost use Rattle.infer_result.specs.Needs.{path_preds, expr_preds, needed_goals};
+ghost use Rattle.infer_result.specs.AliasNeeds.{alias_goal, alias_goals_by, alias_goals_from, fn_alias_goals, alias_goals};
+ghost use Rattle.infer_result.specs.Needs.{path_preds, expr_preds, needed_goals, item_path, callee_needs};
 
-use goal_facts::goals_of;
-use hir_facts::{AdtId, Facts, FunctionId, Goal, List, RawExpr, RawGoal, RawPath, Ty, VariantId};
+use goal_facts::{goals_of, push_instances};
+use hir_facts::{
+    AdtId, CallableDefId, ExprId, Facts, FunctionId, GenericArg, Goal, List, RawExpr, RawFn,
+    RawGoal, RawPath, RawType, Ty, TypeAliasId, TypeRefId, VariantId, fn_aliases, instantiate,
+};
 use std::alloc::{AllocError, Global};
 
 fn fn_preds(facts: &Facts, function: FunctionId) -> &[RawGoal]
@@ -49,7 +54,148 @@ fn expr_preds<'a>(facts: &'a Facts, expr: &RawExpr) -> &'a [RawGoal]
     }
 }
 
-/// These predicates at the arguments of the item, of which this is the type, or the type of its values.
+/// That the associated type at these arguments is the one at a place among the arguments of its function.
+fn alias_goal(
+    alloc: Global,
+    facts: &Facts,
+    args: &List<GenericArg>,
+    place: usize,
+    alias: TypeAliasId,
+    tys: &[TypeRefId],
+) -> Result<Goal, AllocError>
+    ensures { IfOk result (λ made. asked_goal made ≡ alias_goal facts.now args.now place alias tys.now) }
+{
+    let mut own = List::new(alloc);
+    push_instances(alloc, facts, args, tys, &mut own)?;
+    // No list of so many is in memory.
+    let number = u32::try_from(place).map_err(|_| AllocError)?;
+    let ty = instantiate(alloc, &Ty::Param(number), args)?;
+    Ok(Goal::Projection {
+        alias,
+        args: own,
+        ty,
+    })
+}
+
+/// What a written type is at these arguments, where it is an associated type.
+fn push_alias_goal(
+    alloc: Global,
+    facts: &Facts,
+    args: &List<GenericArg>,
+    place: usize,
+    ty: &RawType,
+    made: &mut Vec<Goal>,
+) -> Result<(), AllocError>
+    ensures { OnOk result (map asked_goal made.new.items ≡ map asked_goal made.old.items ++ alias_goals_by facts.now args.now place (Some ty.now)) }
+{
+    match ty {
+        RawType::Projection { alias, args: tys } => {
+            let goal = alias_goal(alloc, facts, args, place, *alias, tys.as_slice())?;
+            made.push(goal)?;
+            Ok(())
+        }
+        _ => Ok(()),
+    }
+}
+
+fn push_alias_goal_at(
+    alloc: Global,
+    facts: &Facts,
+    args: &List<GenericArg>,
+    place: usize,
+    ty: usize,
+    made: &mut Vec<Goal>,
+) -> Result<(), AllocError>
+    ensures { OnOk result (map asked_goal made.new.items ≡ map asked_goal made.old.items ++ alias_goals_by facts.now args.now place (slice_get facts.now.types ty)) }
+{
+    match facts.raw().types.get(ty) {
+        Some(ty) => push_alias_goal(alloc, facts, args, place, ty, made),
+        None => Ok(()),
+    }
+}
+
+fn place_after(params: usize, place: usize) -> Result<usize, AllocError>
+    ensures { IfOk result (λ n. n ≡ params + place) }
+{
+    // No lists of so many are in memory.
+    let number = params.checked_add(place).ok_or(AllocError)?;
+    Ok(number)
+}
+
+fn push_aliases(
+    alloc: Global,
+    facts: &Facts,
+    args: &List<GenericArg>,
+    params: usize,
+    aliases: &[usize],
+    made: &mut Vec<Goal>,
+) -> Result<(), AllocError>
+    ensures { OnOk result (map asked_goal made.new.items ≡ map asked_goal made.old.items ++ alias_goals_from facts.now args.now params aliases.now) }
+{
+    for place in 0..aliases.len() {
+        let number = place_after(params, place)?;
+        push_alias_goal_at(alloc, facts, args, number, aliases[place], made)?;
+    }
+    Ok(())
+}
+
+/// What the associated types in the signature of a function are, at these arguments of it:
+/// `infer/unify.rs`, `normalize_associated_types_in`.
+fn push_alias_goals(
+    alloc: Global,
+    facts: &Facts,
+    args: &List<GenericArg>,
+    function: &RawFn,
+    made: &mut Vec<Goal>,
+) -> Result<(), AllocError>
+    ensures { OnOk result (map asked_goal made.new.items ≡ map asked_goal made.old.items ++ fn_alias_goals facts.now args.now (Some function.now)) }
+{
+    let aliases = fn_aliases(alloc, facts.types(), function)?;
+    push_aliases(
+        alloc,
+        facts,
+        args,
+        function.params.len(),
+        aliases.as_slice(),
+        made,
+    )
+}
+
+fn push_path_goals(
+    alloc: Global,
+    facts: &Facts,
+    args: &List<GenericArg>,
+    expr: &RawExpr,
+    made: &mut Vec<Goal>,
+) -> Result<(), AllocError>
+    ensures { OnOk result (map asked_goal made.new.items ≡ map asked_goal made.old.items ++ alias_goals facts.now args.now expr.now) }
+{
+    match expr {
+        RawExpr::Path(RawPath::Function(function)) => {
+            match facts.raw().fns.get(function.0 as usize) {
+                Some(function) => push_alias_goals(alloc, facts, args, function, made),
+                None => Ok(()),
+            }
+        }
+        _ => Ok(()),
+    }
+}
+
+fn goals_at(
+    alloc: Global,
+    facts: &Facts,
+    args: &List<GenericArg>,
+    expr: &RawExpr,
+) -> Result<Vec<Goal>, AllocError>
+    ensures { IfOk result (λ made. map asked_goal made.items ≡ map (goal_at facts.now args.now) (expr_preds facts.now expr.now) ++ alias_goals facts.now args.now expr.now) }
+{
+    let mut made = goals_of(alloc, facts, args, expr_preds(facts, expr))?;
+    push_path_goals(alloc, facts, args, expr, &mut made)?;
+    Ok(made)
+}
+
+/// The predicates of the item that an expression is a path to, and what the associated types in its signature
+/// are, at the arguments of the item, of which this is the type, or the type of its values.
 pub fn needed_goals(
     alloc: Global,
     facts: &Facts,
@@ -58,9 +204,36 @@ pub fn needed_goals(
 ) -> Result<Vec<Goal>, AllocError>
     ensures { IfOk result (λ made. map asked_goal made.items ≡ needed_goals facts.now expr.now ty.now) }
 {
-    let preds = expr_preds(facts, expr);
     match ty {
-        Ty::FnDef(_, args) | Ty::Adt(_, args) => goals_of(alloc, facts, args, preds),
-        _ => goals_of(alloc, facts, &List::new(alloc), preds),
+        Ty::FnDef(_, args) | Ty::Adt(_, args) => goals_at(alloc, facts, args, expr),
+        _ => goals_at(alloc, facts, &List::new(alloc), expr),
     }
+}
+
+fn item_path(item: CallableDefId) -> RawPath
+    ensures { result ≡ item_path item }
+{
+    match item {
+        CallableDefId::FunctionId(function) => RawPath::Function(function),
+        CallableDefId::VariantId(variant) => RawPath::Ctor(variant),
+    }
+}
+
+/// What a path to the function or constructor needs of which this is the type; nothing where it is that of neither.
+pub fn callee_needs(alloc: Global, facts: &Facts, ty: &Ty) -> Result<Vec<Goal>, AllocError>
+    ensures { IfOk result (λ made. map asked_goal made.items ≡ callee_needs facts.now ty.now) }
+{
+    match ty {
+        Ty::FnDef(item, _) => needed_goals(alloc, facts, &RawExpr::Path(item_path(*item)), ty),
+        _ => Ok(Vec::new(alloc)),
+    }
+}
+
+/// The expression of this number.
+pub fn expr_id(at: usize) -> Result<ExprId, AllocError>
+    ensures { IfOk result (λ id. id.0 ≡ at) }
+{
+    // No list of so many expressions is in memory.
+    let number = u32::try_from(at).map_err(|_| AllocError)?;
+    Ok(ExprId(number))
 }

@@ -37,7 +37,7 @@ fn has_const(arguments: Option<&Value>) -> bool {
 }
 
 const PROJECTIONS: Uncarried<'static> = Uncarried::Form(
-    "projections but in goals, impls and other projections",
+    "projections but in goals, impls, other projections and functions without a body",
 );
 
 fn is_projection(facts: &Value, ty: Option<&Value>) -> bool {
@@ -144,12 +144,15 @@ fn of_variant<'a>(
     }
 }
 
-/// The first input that is a projection, or the output where it is one.
+/// Where it has a body, the first input of a function that is a projection, or the output where it is one.
 fn of_signature(
     facts: &Value,
     place: Place,
     function: &Value,
 ) -> Option<(Place, Uncarried<'static>)> {
+    if !is_there(function.get("body")) {
+        return None;
+    }
     for (at, input) in list(function, "inputs").iter().enumerate() {
         if is_projection(facts, Some(input)) {
             return Some((place.item("inputs", at), PROJECTIONS));

@@ -19,7 +19,7 @@ use Rattle.hir_types.specs.Erasure.{IsClosed}
 use Rattle.hir_facts.specs.CarriedTypes.{AreCarriedArgs, carried_fn_def, carried_bare}
 use Rattle.hir_raw.specs.Order.{argument, the_body, inner, IsSchedule, start, end, after, Fits, parts}
 use Rattle.hir_raw.specs.WrittenTypes.{written_type}
-use Rattle.hir_raw.specs.Signatures.{Signature, fn_signature, signature_of, type_args, at_args}
+use Rattle.hir_raw.specs.Signatures.{Signature, fn_types, fn_signature, signature_of, type_args, at_args}
 use Rattle.infer_result.specs.declared.result.InferenceResult.{InferenceResult}
 use Rattle.infer_result.specs.Table.{HasTy, WasSeen}
 use Rattle.infer_result.specs.Places.{Given}
@@ -104,13 +104,13 @@ module _ (types : List RawType) (f : RawFn) (l : RawLiteral) (o : Ty) (t : Infer
       (same_args us ts same.1, cc)
 
   abbrev inputs : List Ty
-  inputs = map (at_args ts) (map (written_type types) f.inputs)
+  inputs = map (at_args ts) (map (written_type (fn_types types f)) f.inputs)
 
   abbrev Arguments : List Ty → Type 0
   Arguments ss = ArgsRule (at_or_mismatch Here t) (e 2) (e 1 ∷ []) ss
 
   -- the rule of the call, with the inputs and the output of the function
-  pub obeyed : ObeysOrMismatch Here t (e 2) → (WasSeen t (e 2) → ⊥) → Arguments inputs × HasTy t (e 2) (at_args ts (written_type types f.output))
+  pub obeyed : ObeysOrMismatch Here t (e 2) → (WasSeen t (e 2) → ⊥) → Arguments inputs × HasTy t (e 2) (at_args ts (written_type (fn_types types f) f.output))
   obeyed (inr (m, k)) unseen = absurd (unseen m)
   obeyed (inl r) unseen =
       let σ = r.signature in

@@ -52,6 +52,7 @@ use Rattle.infer_result.specs.Table.{HasTy, PatTy, BindingTy}
 use Rattle.infer_result.specs.Typed.{given}
 use Rattle.infer_result.specs.Unknown.{IsKnown}
 use Rattle.infer_result.specs.UnknownLayers.{has_unknown_tuple}
+use Rattle.hir_raw.specs.Hidden.{fn_aliases}
 use Rattle.infer_result.proofs.NoNeeds.{no_gaps, needs_hold}
 use Rattle.infer_result.proofs.Samples.Small.{e, p, b, w, plain, body_of, function_of, facts_with, each_below, each_node, apart_by, comes, only, each_entry, each_found, each_placed, closed_unit, none_placed}
 use Rattle.infer_result.proofs.Samples.Calling.{function, item}
@@ -251,7 +252,7 @@ integer_derives i = let s : Ty = integer_type i in record {
       ((((tt, (s ∷ [], refl, refl)), (s, refl, (i, refl))), call_obeys s), record { statements = ((s, refl, (s, refl, inl refl)), tt); type = unit; has = refl; ends = refl }) h;
   pats = λ x h. each_below (λ k. ObeysPattern Here (table_at s) (p k)) 1 x.0 (tt, pattern_obeys s) h;
   root = (unit, refl, ap erased (sym written_unit));
-  goals = needs_hold facts (each_in (λ (x : RawFn). x.preds ≡ []) facts.fns (refl, (refl, tt))) (each_in (λ (x : RawAdt). x.preds ≡ []) facts.adts tt) f body (table_at s);
+  goals = needs_hold facts (each_in (λ (x : RawFn). x.preds ≡ []) facts.fns (refl, (refl, tt))) (each_in (λ (x : RawAdt). x.preds ≡ []) facts.adts tt) (each_in (λ (x : RawFn). fn_aliases facts.types x ≡ []) facts.fns (refl, (refl, tt))) f body (table_at s);
 }
 
 pub i32_derives : IsDerivation facts f (table_at i32)

@@ -28,6 +28,7 @@ use Rattle.infer_result.specs.Table.{HasTy, PatTy, BindingTy}
 use Rattle.infer_result.specs.Typed.{given}
 use Rattle.infer_result.specs.Unknown.{IsKnown}
 use Rattle.infer_result.specs.UnknownLayers.{has_unknown_bool, has_unknown_tuple}
+use Rattle.hir_raw.specs.Hidden.{fn_aliases}
 use Rattle.infer_result.proofs.NoNeeds.{no_gaps, needs_hold}
 use Rattle.infer_result.proofs.Samples.Small.{e, p, b, w, each_below, each_node, apart_by, comes, only, each_entry, each_found, each_placed, closed_bool, closed_unit, none_placed}
 use Rattle.infer_result.proofs.Samples.Calling.{function, item}
@@ -162,7 +163,7 @@ module _ (s : Ty) where
     ) h;
     pats = λ x h. each_below (λ k. ObeysPattern Here table (p k)) 2 x.0 ((tt, input_obeys), local_obeys) h;
     root = (unit, refl, ap erased (sym written_unit));
-    goals = needs_hold facts (each_in (λ (x : RawFn). x.preds ≡ []) facts.fns (refl, (refl, tt))) (each_in (λ (x : RawAdt). x.preds ≡ []) facts.adts tt) f body table;
+    goals = needs_hold facts (each_in (λ (x : RawFn). x.preds ≡ []) facts.fns (refl, (refl, tt))) (each_in (λ (x : RawAdt). x.preds ≡ []) facts.adts tt) (each_in (λ (x : RawFn). fn_aliases facts.types x ≡ []) facts.fns (refl, (refl, tt))) f body table;
   }
 
 pub bool_derives : IsDerivation facts f (table_at ty.Bool ty.Bool)

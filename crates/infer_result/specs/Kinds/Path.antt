@@ -14,7 +14,7 @@ use Rattle.hir_types.specs.declared.ids.CallableDefId.TheVariants as callable
 use Rattle.hir_raw.specs.declared.raw.RawBody.{RawBody}
 use Rattle.hir_raw.specs.declared.raw.RawVariant.{RawVariant}
 use Rattle.hir_raw.specs.Signatures.{type_args}
-use Rattle.hir_raw.specs.Scope.{adt_params, fn_params}
+use Rattle.hir_raw.specs.Scope.{adt_params, callable_params}
 use Rattle.hir_raw.specs.Order.{let_pattern, Node}
 use Rattle.hir_raw.specs.declared.raw.RawPath.{RawPath}
 use Rattle.hir_raw.specs.declared.raw.RawExpr.TheVariants as expr
@@ -28,13 +28,13 @@ use Rattle.infer_result.specs.Kinds.Constructor.{IsCtorPath}
 
 -- ---- its rule
 
--- a function stands at as many types as it has parameters, a constructor at as many as its adt has; which
--- variant it is of is recorded
+-- a function stands at as many types as it has parameters, those for associated types in its signature among
+-- them, a constructor at as many as its adt has; which variant it is of is recorded
 abbrev pub PathRule : Given → InferenceResult → ExprId → RawPath → Type 0
 PathRule g r e (path.Local v) = (t : Ty) × HasTy r e t × BindingTy r v t
 PathRule g r e (path.Function f) =
     (ts : List Ty) × HasTy r e (ty.FnDef (callable.FunctionId f) (type_args ts))
-    × (fn_params g.scope.facts f.0 ≡ Some (length ts))
+    × (callable_params g.scope.facts (callable.FunctionId f) ≡ Some (length ts))
 PathRule g r e (path.Ctor v) = (t : Ty) × HasTy r e t × IsCtorPath g v t × ExprVariant r e v
 PathRule g r e path.Other = ⊥
 

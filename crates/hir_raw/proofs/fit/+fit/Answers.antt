@@ -18,23 +18,23 @@ ty_fits-returns-else-has_params t c =
     let sc : Scope = record { facts = c.args.raw.now; params = c.args.params } in
     rw (c.in-Adt.is, ty_fits_adt sc _ _) (search (rules, c.adt_params.ensures, c.has_params.ensures))
 
+pub ty_fits-returns-then-callable_has_params : goal.ty_fits-returns-then-callable_has_params
+ty_fits-returns-then-callable_has_params t c =
+    let sc : Scope = record { facts = c.args.raw.now; params = c.args.params } in
+    rw (c.in-FnDef.is, ty_fits_fndef sc _ _) (search (rules, c.callable_has_params.ensures))
+
+pub ty_fits-returns-else-callable_has_params : goal.ty_fits-returns-else-callable_has_params
+ty_fits-returns-else-callable_has_params t c =
+    let sc : Scope = record { facts = c.args.raw.now; params = c.args.params } in
+    rw (c.in-FnDef.is, ty_fits_fndef sc _ _) (search (rules, c.callable_has_params.ensures))
+
 pub ty_fits-returns-then-has_params-2 : goal.ty_fits-returns-then-has_params-2
 ty_fits-returns-then-has_params-2 t c =
     let sc : Scope = record { facts = c.args.raw.now; params = c.args.params } in
-    rw (c.in-FnDef.is, ty_fits_fndef sc _ _) (search (rules, c.callable_params.ensures, c.has_params-in-FnDef.ensures))
+    rw (c.in-Projection.is, ty_fits_projection sc _ _) (search (rules, c.alias_params.ensures, c.has_params-in-Projection.ensures, c.args_fit-then-has_params-2.ensures))
 
 pub ty_fits-returns-else-has_params-2 : goal.ty_fits-returns-else-has_params-2
 ty_fits-returns-else-has_params-2 t c =
-    let sc : Scope = record { facts = c.args.raw.now; params = c.args.params } in
-    rw (c.in-FnDef.is, ty_fits_fndef sc _ _) (search (rules, c.callable_params.ensures, c.has_params-in-FnDef.ensures))
-
-pub ty_fits-returns-then-has_params-3 : goal.ty_fits-returns-then-has_params-3
-ty_fits-returns-then-has_params-3 t c =
-    let sc : Scope = record { facts = c.args.raw.now; params = c.args.params } in
-    rw (c.in-Projection.is, ty_fits_projection sc _ _) (search (rules, c.alias_params.ensures, c.has_params-in-Projection.ensures, c.args_fit-then-has_params-3.ensures))
-
-pub ty_fits-returns-else-has_params-3 : goal.ty_fits-returns-else-has_params-3
-ty_fits-returns-else-has_params-3 t c =
     let sc : Scope = record { facts = c.args.raw.now; params = c.args.params } in
     rw (c.in-Projection.is, ty_fits_projection sc _ _) (search (rules, c.alias_params.ensures, c.has_params-in-Projection.ensures))
 

@@ -8,9 +8,12 @@ use Rattle.infer_result.specs.Typed.{given}
 use Rattle.infer_ctx.specs.Asked.{IsTold}
 use Rattle.infer_ctx.specs.Steps.{BodyDone}
 use Rattle.infer_needs.proofs.Holding.{same_body}
+use Rattle.infer_obligations.specs.Reading.{EndsSettled}
 use Rattle.infer_ctx.proofs.Written.{output_heads}
 use Rattle.infer_end.proofs.Definitions.{found_body, written_exist, inputs_for_params}
-use Rattle.infer_end.proofs.GeneralTables.{has_all_types, kept_done, keeps_goals, given_done, kept_told, given_told, ends_selected}
+use Rattle.infer_end.specs.SelectedBody.{ReadsLast}
+use Rattle.infer_end.proofs.GeneralTables.{given_at, has_all_types, kept_done, keeps_goals, given_done, own_done, kept_told, given_told, given_settled, given_last, ends_selected}
+use Rattle.infer_end.proofs.ReadLast.{goals_twice, stays_twice, kept_of_body, goals_of_body}
 use Rattle.infer_expr.proofs.Start.{sources_in, goals_at_start}
 use Rattle.infer_expr.proofs.query.infer_holes.Goals as goal
 
@@ -28,7 +31,7 @@ infer_body-requires-clause-count c =
     inputs_for_params c.args.facts.now c.args.def c.in-Some.id _ _ c.in_ok-return_ty.return_ty c.lawful.ensures (sym c.in-Some.ensures) c.body-body.ensures c.inputs.ensures
 
 pub infer_body-requires-clause-carried : goal.infer_body-requires-clause-carried
-infer_body-requires-clause-carried c = rw c.in_ok-return_ty.ensures (return_carried c.args.facts.now c.lawful.ensures c.args.def)
+infer_body-requires-clause-carried c = rw c.in_ok-return_ty.ensures (return_carried c.args.facts.now c.lawful.ensures c.args.def c.in-Some.id (sym c.in-Some.ensures))
 
 pub infer_body-requires-clause-heads : goal.infer_body-requires-clause-heads
 infer_body-requires-clause-heads c = rw c.in_ok-return_ty.ensures (output_heads c.args.facts.now c.lawful.ensures c.args.def c.in-Some.id (sym c.in-Some.ensures))
@@ -74,15 +77,32 @@ select_where_possible-requires-clause-done c b is =
     let same : c.body-body.result.now ≡ b = same_body raw d c.in-Some.id c.body-body.result.now b (sym c.in-Some.ensures) c.body-body.ensures is in
     subst (λ (x : RawBody). BodyDone (given raw d x) mid) same done
 
+pub read_where_possible-requires-clause-of_body : goal.read_where_possible-requires-clause-of_body
+read_where_possible-requires-clause-of_body c =
+    let g = given_at c.args.facts.now c.args.def c.body-body.result.now c.inputs.result.now c.in_ok-return_ty.return_ty in
+    goals_of_body g c.keep_general.new.context c.select_where_possible.new.context c.select_where_possible.ensures.only
+    (kept_of_body g c.args.facts.now c.args.def c.infer_body.new.context c.keep_general.new.context c.in_ok-infer_body.ensures.read.settles.settles.binds.follows.of_body c.in_ok-keep_general.ensures)
+
+pub read_where_possible-requires-clause-done : goal.read_where_possible-requires-clause-done
+read_where_possible-requires-clause-done c =
+    let raw = c.args.facts.now in
+    let b = c.body-body.result.now in
+    own_done raw c.args.def b _ _ c.inputs.ensures c.in_ok-return_ty.ensures c.select_where_possible.new.context (c.in_ok-select_where_possible.ensures.done b (found_body raw c.args.def c.in-Some.id b (sym c.in-Some.ensures) c.body-body.ensures))
+
 pub returns-clause-ends : goal.returns-clause-ends
 returns-clause-ends c = λ ps gs. (
     let raw = c.args.facts.now in
     let d = c.args.def in
     let b = c.body-body.result.now in
     let is = found_body raw d c.in-Some.id b (sym c.in-Some.ensures) c.body-body.ensures in
-    let selected = c.in_ok-select_where_possible.ensures in
+    let mid = c.keep_general.new.context in
+    let selected = c.select_where_possible.new.context in
+    let last = c.read_where_possible.new.context in
+    let only = c.select_where_possible.ensures.only in
+    let read = c.in_ok-read_where_possible.ensures in
     ends_selected raw d c.in-Some.id b _ _ _ (sym c.in-Some.ensures) c.body-body.ensures (c.schedule.ensures.walkable _ c.body-body.ensures) c.inputs.ensures c.in_ok-return_ty.ensures c.infer_body.new.context c.in_ok-infer_body.ensures.done c.lawful.ensures ps gs
-    c.keep_general.new.context c.select_where_possible.new.context c.in_ok-keep_general.ensures c.select_where_possible.ensures.only c.select_where_possible.ensures.plain (selected.done b is))
+    mid last c.in_ok-keep_general.ensures (goals_twice mid selected last only read.only) (stays_twice mid selected last only c.select_where_possible.ensures.plain read.plain)
+    (given_done raw d b _ _ c.inputs.ensures c.in_ok-return_ty.ensures last read.done))
 
 pub returns-clause-selected : goal.returns-clause-selected
 returns-clause-selected c b is =
@@ -92,10 +112,17 @@ returns-clause-selected c b is =
     let own = kept_done _ raw d c.infer_body.new.context mid c.in_ok-infer_body.ensures.done c.in_ok-keep_general.ensures in
     let done = given_done raw d c.body-body.result.now _ _ c.inputs.ensures c.in_ok-return_ty.ensures mid own in
     let same : c.body-body.result.now ≡ b = same_body raw d c.in-Some.id c.body-body.result.now b (sym c.in-Some.ensures) c.body-body.ensures is in
+    let read = given_settled raw d c.body-body.result.now _ _ c.inputs.ensures c.in_ok-return_ty.ensures c.infer_body.new.context c.in_ok-infer_body.ensures.read in
     record {
+      settled = c.infer_body.new.context;
+      read = subst (λ (x : RawBody). EndsSettled (given raw d x) c.infer_body.new.context) same read;
       walked = mid;
+      goals = keeps_goals raw d c.infer_body.new.context mid c.in_ok-keep_general.ensures;
       done = subst (λ (x : RawBody). BodyDone (given raw d x) mid) same done;
+      selected = c.select_where_possible.new.context;
       only = c.select_where_possible.ensures.only;
       plain = c.select_where_possible.ensures.plain;
       selection = λ none. c.in_ok-select_where_possible.ensures.selection none b is;
+      last = subst (λ (x : RawBody). ReadsLast (given raw d x) c.select_where_possible.new.context c.read_where_possible.new.context) same
+          (given_last raw d c.body-body.result.now _ _ c.inputs.ensures c.in_ok-return_ty.ensures c.select_where_possible.new.context c.read_where_possible.new.context c.in_ok-read_where_possible.ensures);
     }

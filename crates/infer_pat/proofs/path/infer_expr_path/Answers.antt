@@ -2,6 +2,7 @@ use Rattle.std.specs.Option.{option_copied}
 use Rattle.std.proofs.Common.{◌∙◌, ap, sym, subst}
 use Rattle.hir_types.specs.declared.ids.CallableDefId.TheVariants as callable
 use Rattle.hir_types.specs.declared.ty.Ty.TheVariants as ty
+use Rattle.hir_raw.specs.Scope.{fn_arity}
 use Rattle.hir_raw.specs.declared.raw.RawPath.TheVariants as path
 use Rattle.infer_ctx.specs.Context.{given_of}
 use Rattle.infer_pat.specs.Paths.{PathDone, AreFreshArgs, NamesTyped}
@@ -24,6 +25,7 @@ returns-in_ok-args-in-Function c =
     let old = c.args.context.now in
     let new = c.fresh_args_for_item.new.context in
     let item = subst (λ p. NamesTyped g old.result p) c.in-Function.is c.requires.names in
-    let fresh = subst (λ n. AreFreshArgs g.scope n c.in_ok-args-in-Function.args old new) (c.len-params.ensures ∙ fn_size g f item _ c.fn_.ensures) c.in_ok-args-in-Function.ensures in
+    let size = c.in_ok-params-in-Function.ensures ∙ (ap (λ types. fn_arity types c.fn_-item.result.now) c.types.ensures ∙ fn_size g f item _ c.fn_-item.ensures) in
+    let fresh = subst (λ n. AreFreshArgs g.scope n c.in_ok-args-in-Function.args old new) size c.in_ok-args-in-Function.ensures in
     subst (λ p. PathDone g p (ty.FnDef (callable.FunctionId f) c.in_ok-args-in-Function.args) old new) (sym c.in-Function.is)
     (subst (λ xs. PathDone g (path.Function f) (ty.FnDef (callable.FunctionId f) xs) old new) (sym fresh.are) (function_path g f item fresh.types old new fresh.made))

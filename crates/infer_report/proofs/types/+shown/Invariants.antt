@@ -9,6 +9,9 @@ invariant-push_joined-loop-at l = string_bytes l.out ≡ string_bytes l.fn.out +
 abbrev pub invariant-push_joined_args-loop-at : goal.invariant-push_joined_args-loop-at
 invariant-push_joined_args-loop-at l = string_bytes l.out ≡ string_bytes l.fn.out ++ joined (map (arg_text l.facts) (take l.at l.args))
 
+abbrev pub invariant-push_first_args-loop-at : goal.invariant-push_first_args-loop-at
+invariant-push_first_args-loop-at l = string_bytes l.out ≡ string_bytes l.fn.out ++ joined (map (arg_text l.facts) (take l.at l.args))
+
 abbrev pub invariant-push_later_args-loop-at : goal.invariant-push_later_args-loop-at
 invariant-push_later_args-loop-at l =
     string_bytes l.out ++ lines_from (later_of l.facts) l.at (drop l.at l.args) ≡ string_bytes l.fn.out ++ lines_from (later_of l.facts) 0 l.args

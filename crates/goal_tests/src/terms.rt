@@ -2,7 +2,7 @@
 ghost use Rattle.std.specs.Prelude.{IfOk};
 ghost use Rattle.goal_terms.specs.Terms.{term_of, HasHeads};
 
-use crate::{
+use goal_terms::{
     Binding, Term, args_term, can_be_itself, can_be_same, filled, find, find_common, find_match,
     is_concrete, push_holes, staying_term, term_args, term_type, type_term,
 };

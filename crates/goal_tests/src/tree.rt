@@ -2,8 +2,8 @@
 ghost use Rattle.std.specs.Prelude.{OnOk};
 ghost use Rattle.goal_tree.specs.Trees.{IsTree};
 
-use crate::GoalTree;
 use goal_facts::ProofSource;
+use goal_tree::GoalTree;
 use hir_facts::{ExprId, ExprOrPatId, GenericArg, Goal, List, TraitId, TraitRef, Ty};
 use std::alloc::{AllocError, Global};
 use std::test::Fail;

@@ -1,0 +1,16 @@
+-- What types read as.
+use Rattle.std.specs.Prelude.{ℕ, Option, Some, None}
+use Rattle.hir_types.specs.declared.ty.Ty.{Ty}
+use Rattle.hir_types.specs.Terms.{term}
+use Rattle.goal_answers.specs.Reading.{ReadsAs}
+use Rattle.goal_answers.specs.Goals.{System}
+use Rattle.goal_answers.specs.Answers.{answers}
+
+-- the type reads as the type at the depth; its holes stay
+abbrev pub TypeReads : System → ℕ → Ty → Ty → Type 0
+TypeReads f n t u = ReadsAs (answers f n).Alias (term t) (term u)
+
+-- it reads so, or as no type
+abbrev pub IsTypeRead : System → ℕ → Ty → Option Ty → Type 0
+IsTypeRead f n t (Some u) = TypeReads f n t u
+IsTypeRead f n t None = (u : Ty) → TypeReads f n t u → ⊥

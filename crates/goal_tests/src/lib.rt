@@ -1,0 +1,7 @@
+//! Tests of terms and of the goals that were asked, with answers that were worked out by hand.
+#![tactic(auto)]
+
+#[cfg(test)]
+mod terms;
+#[cfg(test)]
+mod tree;

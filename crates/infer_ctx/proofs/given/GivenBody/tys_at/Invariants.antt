@@ -1,6 +1,0 @@
-use Rattle.std.proofs.Common.{◌≡◌, map, take}
-use Rattle.infer_ctx.specs.Callables.{written_at}
-use Rattle.infer_ctx.proofs.given.GivenBody.tys_at.Given as goal
-
-abbrev pub invariant-loop-type_ref : goal.invariant-loop-type_ref
-invariant-loop-type_ref l = l.tys ≡ map (written_at l.self.facts.now.types l.args) (take l.type_ref-index l.type_refs)

@@ -1,0 +1,68 @@
+-- Whether a type is one that can be written, over holes that were made.
+use Rattle.std.specs.Prelude.{◌≡◌, ◌↔◌, Bool, true, false, Result, Ok, Err, IsTrue, IfOk, refl}
+use Rattle.std.proofs.Common.{ℕ, true≢false, sym, ap, ◌∙◌}
+use Rattle.hir_types.specs.declared.ty.Ty.{Ty}
+use Rattle.hir_types.specs.declared.head.Head.{Head}
+use Rattle.hir_types.specs.declared.head.Head.TheVariants as head
+use Rattle.hir_types.specs.Terms.{Term, hole, leaf, pair, term}
+use Rattle.hir_types.specs.declared.ids.DefWithBodyId.{DefWithBodyId}
+use Rattle.hir_raw.specs.declared.raw.RawFacts.{RawFacts}
+use Rattle.hir_raw.specs.Scope.{Scope, params_of, scope_of}
+use Rattle.infer_table.specs.MadeTest.{HasMadeIf}
+use Rattle.infer_table.specs.Preserved.{Shape, TermRole, whole, part, rest, width, IsHead, IsMadeOf}
+use Rattle.infer_table.specs.Table.{State}
+use Rattle.infer_ctx.specs.Fine.{is_fine_head, IsFine}
+use Rattle.infer_obligations.specs.Reading.{is_read_head, IsInHand}
+
+-- the scope of a body, from its parts
+abbrev pub scope_at : RawFacts → ℕ → Scope
+scope_at raw n = record { facts = raw; params = n }
+
+pub scope_is : (d : DefWithBodyId) (facts raw : RawFacts) (n : ℕ) → raw ≡ facts → n ≡ params_of raw d → scope_at raw n ≡ scope_of facts d
+scope_is d facts raw n same count = ap (scope_at raw) count ∙ ap (λ x. scope_of x d) same
+
+module _ (sc : Scope) (state : State) (t : Ty) where
+  -- its heads can't be
+  pub not_in_hand : (IsMadeOf (is_read_head sc) whole (term t) → ⊥) → IsTrue false ↔ IsInHand sc state t
+  not_in_hand none = (λ e. absurd (true≢false (sym e)), λ h. absurd (none h.heads))
+
+  by_holes : IsMadeOf (is_read_head sc) whole (term t) → (made : Bool) → HasMadeIf made state t → IsTrue made ↔ IsInHand sc state t
+  by_holes heads true holes = (λ e. record { heads = heads; holes = holes }, λ h. refl)
+  by_holes heads false none = (λ e. absurd (true≢false (sym e)), λ h. absurd (none h.holes))
+
+  -- they can
+  pub in_hand_if : {E : Type 0} → IsMadeOf (is_read_head sc) whole (term t) → (r : Result Bool E) → IfOk r (λ made. HasMadeIf made state t) → IfOk r (λ made. IsTrue made ↔ IsInHand sc state t)
+  in_hand_if heads (Ok made) h = by_holes heads made h
+  in_hand_if heads (Err e) h = tt
+
+-- ---- such types are fine
+
+read_head_fine : (sc : Scope) (h : Head) (n : ℕ) → IsTrue (is_read_head sc h n) → IsTrue (is_fine_head sc h n)
+read_head_fine sc head.Bool n e = e
+read_head_fine sc head.Char n e = e
+read_head_fine sc (head.Int i) n e = e
+read_head_fine sc (head.Uint i) n e = e
+read_head_fine sc head.Tuple n e = e
+read_head_fine sc (head.Adt i) n e = e
+read_head_fine sc (head.Param i) n e = e
+read_head_fine sc _ n e = absurd (true≢false (sym e))
+
+module _ (P Q : Shape) (wider : (h : Head) (n : ℕ) → IsTrue (P h n) → IsTrue (Q h n)) where
+  wider_head : (t : Term) (n : ℕ) → IsHead P t n → IsHead Q t n
+  wider_head (leaf h) n e = wider h n e
+  wider_head (hole k) n e = e
+  wider_head (pair a b) n e = e
+
+  made_wider : (r : TermRole) (t : Term) → IsMadeOf P r t → IsMadeOf Q r t
+  made_wider whole (hole k) h = h
+  made_wider whole (leaf x) h = h
+  made_wider whole (pair a b) h = (wider_head a (width b) h.0, made_wider rest b h.1)
+  made_wider part (hole k) h = h
+  made_wider part (leaf x) h = h
+  made_wider part (pair a b) h = (h.0, made_wider whole b h.1)
+  made_wider rest (hole k) h = h
+  made_wider rest (leaf x) h = h
+  made_wider rest (pair a b) h = (made_wider part a h.0, made_wider rest b h.1)
+
+pub in_hand_fine : (sc : Scope) (state : State) (t : Ty) → IsInHand sc state t → IsFine sc state t
+in_hand_fine sc state t h = record { holes = h.holes; heads = made_wider (is_read_head sc) (is_fine_head sc) (read_head_fine sc) whole (term t) h.heads }

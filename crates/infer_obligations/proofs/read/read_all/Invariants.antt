@@ -1,0 +1,6 @@
+use Rattle.infer_ctx.specs.Context.{given_of}
+use Rattle.infer_obligations.proofs.ReadNeeds.{TimesRead}
+use Rattle.infer_obligations.proofs.read.read_all.Given as goal
+
+abbrev pub invariant-loop-pass : goal.invariant-loop-pass
+invariant-loop-pass l = TimesRead (given_of l.given) l._pass l.initial.context l.context

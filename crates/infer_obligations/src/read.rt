@@ -1,0 +1,243 @@
+//! Associated types that goals are about, read as far as their arguments are known.
+ghost use Rattle.std.specs.Prelude.{◌≡◌, ◌↔◌, ◌<◌, length, IfOk, OnOk, IsTrue};
+ghost use Rattle.hir_raw.specs.Scope.{params_of};
+ghost use Rattle.infer_ctx.specs.Context.{given_of, scope_in};
+ghost use Rattle.infer_ctx.specs.Closings.{IsSound};
+ghost use Rattle.infer_result.specs.Closed.{IsOfBody};
+ghost use Rattle.infer_ctx.specs.Asked.{IsTold};
+ghost use Rattle.infer_obligations.specs.Reading.{IsInHand, UnifiesInHand, ReadsAlias, ReadsGoal, ReadsEach, ReadsFor, SelectsAndReads, ReadsPath, ReadsPaths, ReadsOn, SettlesNeeds};
+
+use crate::made::is_read_type;
+use crate::select::select_obligations_where_possible;
+use goal_terms::type_term;
+use hir_facts::{DefWithBodyId, ExprId, ExprOrPatId, GenericDefId, Goal, RawFacts, Ty};
+use hir_raw::generic_params;
+use infer_coerce::{unify, unify_unknown};
+use infer_ctx::{GivenBody, InferenceContext};
+use infer_result::{expr_id, needed_goals};
+use std::alloc::{AllocError, Global};
+
+/// How many parameters are in scope in the body of a definition.
+fn params_in_body(facts: &RawFacts, owner: DefWithBodyId) -> usize
+    ensures { result ≡ params_of facts.now owner }
+{
+    match owner {
+        DefWithBodyId::FunctionId(function) => {
+            generic_params(facts, GenericDefId::FunctionId(function))
+        }
+        _ => 0,
+    }
+}
+
+/// Whether a type can be written in the scope of the body, over holes that the table made.
+fn is_in_hand(
+    alloc: Global,
+    context: &InferenceContext,
+    given: &GivenBody,
+    ty: &Ty,
+) -> Result<bool, AllocError>
+    ensures { IfOk result (λ yes. IsTrue yes ↔ IsInHand (scope_in given.now) context.now.goals.table ty.now) }
+{
+    let term = type_term(alloc, ty)?;
+    let facts = given.facts.raw();
+    let params = params_in_body(facts, given.owner);
+    if !is_read_type(facts, params, &term) {
+        return Ok(false);
+    }
+    context.goals.table.has_made(ty)
+}
+
+/// Makes two types equal, where both can be written in the scope of the body; else they differ, or nothing is done.
+fn unify_in_hand(
+    alloc: Global,
+    context: &mut InferenceContext,
+    given: &GivenBody,
+    ty: &Ty,
+    read: &Ty,
+) -> Result<(), AllocError>
+    requires of_body { IsOfBody given.now.body.now context.old.result }
+    requires sound { IsSound (scope_in given.now) context.old }
+    ensures { OnOk result (UnifiesInHand (given_of given.now) ty.now read.now context.old context.new) }
+{
+    if !is_in_hand(alloc, context, given, ty)? || !is_in_hand(alloc, context, given, read)? {
+        return Ok(());
+    }
+    unify(context, given, ty, read)?;
+    Ok(())
+}
+
+/// Reads what an associated type is, as far as its arguments are known, and makes a type equal with that.
+fn read_alias(
+    alloc: Global,
+    context: &mut InferenceContext,
+    given: &GivenBody,
+    alias_ty: &Ty,
+    ty: &Ty,
+) -> Result<(), AllocError>
+    requires of_body { IsOfBody given.now.body.now context.old.result }
+    requires sound { IsSound (scope_in given.now) context.old }
+    ensures { OnOk result (ReadsAlias (given_of given.now) alias_ty.now ty.now context.old context.new) }
+{
+    let known = context.goals.table.resolve(ty)?;
+    match context.goals.normalize_alias_ty(alias_ty)? {
+        Some(read) => unify_in_hand(alloc, context, given, &known, &read),
+        None => Ok(()),
+    }
+}
+
+/// Does so for the associated type that a goal is about, if it is about one, and the type of the goal.
+fn read_goal(
+    alloc: Global,
+    context: &mut InferenceContext,
+    given: &GivenBody,
+    goal: &Goal,
+) -> Result<(), AllocError>
+    requires of_body { IsOfBody given.now.body.now context.old.result }
+    requires sound { IsSound (scope_in given.now) context.old }
+    ensures { OnOk result (ReadsGoal (given_of given.now) goal.now context.old context.new) }
+{
+    match goal.dup(alloc)? {
+        Goal::Projection { alias, args, ty } => {
+            read_alias(alloc, context, given, &Ty::Projection(alias, args), &ty)
+        }
+        Goal::Trait(_) => Ok(()),
+    }
+}
+
+/// Does so for each of these goals, in their order.
+fn read_each(
+    alloc: Global,
+    context: &mut InferenceContext,
+    given: &GivenBody,
+    goals: &[Goal],
+) -> Result<(), AllocError>
+    requires of_body { IsOfBody given.now.body.now context.old.result }
+    requires sound { IsSound (scope_in given.now) context.old }
+    ensures { OnOk result (ReadsEach (given_of given.now) goals.now context.old context.new) }
+{
+    for goal in goals {
+        read_goal(alloc, context, given, goal)?;
+    }
+    Ok(())
+}
+
+/// Does so where nothing is known yet of a type that is expected: `infer/expr.rs`, `check_call_arguments`, where an argument's input is
+/// normalized.
+pub fn read_for(
+    alloc: Global,
+    context: &mut InferenceContext,
+    given: &GivenBody,
+    goals: &[Goal],
+    expected: &Ty,
+) -> Result<(), AllocError>
+    requires of_body { IsOfBody given.now.body.now context.old.result }
+    requires sound { IsSound (scope_in given.now) context.old }
+    ensures { OnOk result (ReadsFor (given_of given.now) goals.now expected.now context.old context.new) }
+{
+    let known = context.goals.table.resolve(expected)?;
+    match &known {
+        Ty::Var(_) => read_each(alloc, context, given, goals),
+        _ => Ok(()),
+    }
+}
+
+/// Selects what can be selected, reads the associated types that these goals are about, as far as their arguments are known then, and
+/// selects what can be selected with what that says: `infer/unify.rs`, `select_obligations_where_possible`.
+pub fn select_and_read(
+    alloc: Global,
+    context: &mut InferenceContext,
+    given: &GivenBody,
+    goals: &[Goal],
+) -> Result<(), AllocError>
+    requires of_body { IsOfBody given.now.body.now context.old.result }
+    requires sound { IsSound (scope_in given.now) context.old }
+    requires told { IsTold (given_of given.now) context.old }
+    ensures { OnOk result (SelectsAndReads (given_of given.now) goals.now context.old context.new) }
+{
+    select_obligations_where_possible(context, given)?;
+    read_each(alloc, context, given, goals)?;
+    select_obligations_where_possible(context, given)?;
+    Ok(())
+}
+
+/// Reads the associated types that the needs of an expression are about, at the type that is recorded for it.
+fn read_path(
+    alloc: Global,
+    context: &mut InferenceContext,
+    given: &GivenBody,
+    expr: ExprId,
+) -> Result<(), AllocError>
+    requires of_body { IsOfBody given.now.body.now context.old.result }
+    requires sound { IsSound (scope_in given.now) context.old }
+    requires within { expr.0 < length given.now.body.now.exprs }
+    ensures { OnOk result (ReadsPath (given_of given.now) expr.0 context.old context.new) }
+{
+    let needed = match context
+        .result
+        .type_of_expr_or_pat(ExprOrPatId::ExprId(expr))
+    {
+        Some(ty) => {
+            let path = &given.body.exprs.as_slice()[expr.0 as usize];
+            needed_goals(alloc, given.facts, path, ty)?
+        }
+        None => Vec::new(alloc),
+    };
+    read_each(alloc, context, given, needed.as_slice())
+}
+
+/// Does so for each expression of the body, in their order.
+fn read_paths(
+    alloc: Global,
+    context: &mut InferenceContext,
+    given: &GivenBody,
+) -> Result<(), AllocError>
+    requires of_body { IsOfBody given.now.body.now context.old.result }
+    requires sound { IsSound (scope_in given.now) context.old }
+    ensures { OnOk result (ReadsPaths (given_of given.now) (length given.now.body.now.exprs) context.old context.new) }
+{
+    for at in 0..given.body.exprs.len() {
+        let expr = expr_id(at)?;
+        read_path(alloc, context, given, expr)?;
+    }
+    Ok(())
+}
+
+/// Does so until that binds no hole any more, at most as often as the facts let goals be followed: what one path gives may be what the
+/// associated type of another is of.
+pub fn read_all(
+    alloc: Global,
+    context: &mut InferenceContext,
+    given: &GivenBody,
+) -> Result<(), AllocError>
+    requires of_body { IsOfBody given.now.body.now context.old.result }
+    requires sound { IsSound (scope_in given.now) context.old }
+    ensures { OnOk result (ReadsOn (given_of given.now) context.old context.new) }
+{
+    let limit = given.facts.raw().limits.goal_depth;
+    for _pass in 0..limit {
+        let bound = context.goals.table.bound_count();
+        read_paths(alloc, context, given)?;
+        if context.goals.table.bound_count() == bound {
+            return Ok(());
+        }
+    }
+    Ok(())
+}
+
+/// Once the body is walked: reads the associated types that the needs of its paths are about, selects what can be selected with what that
+/// says, and unifies the pairs that still wait.
+pub fn settle_needs(
+    alloc: Global,
+    context: &mut InferenceContext,
+    given: &GivenBody,
+) -> Result<(), AllocError>
+    requires of_body { IsOfBody given.now.body.now context.old.result }
+    requires sound { IsSound (scope_in given.now) context.old }
+    requires told { IsTold (given_of given.now) context.old }
+    ensures { IfOk result (λ _. SettlesNeeds (given_of given.now) context.old context.new) }
+{
+    read_all(alloc, context, given)?;
+    select_obligations_where_possible(context, given)?;
+    unify_unknown(context, given)?;
+    Ok(())
+}
