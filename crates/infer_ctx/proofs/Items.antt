@@ -17,22 +17,20 @@ use Rattle.hir_raw.specs.Scope.{adt_params, fn_arity, callable_params, Scope, ha
 use Rattle.hir_raw.specs.Signatures.{Signature, signature_of, ctor_signature, signature_by, field_types, own_adt, fn_signature, fn_types, params_from, type_args}
 use Rattle.hir_raw.specs.declared.raw.RawFn.{RawFn}
 use Rattle.hir_raw.specs.declared.raw.RawType.{RawType}
-use Rattle.hir_raw.specs.Hidden.{fn_aliases}
-use Rattle.hir_counts.specs.Standing.{HasNoHole}
-use Rattle.hir_facts.specs.CarriedTypes.{is_carried_arg, AreCarriedArgs, carried_param, carried_type_arg, carried_adt}
+use Rattle.hir_facts.specs.CarriedTypes.{is_carried_type, is_carried_arg, AreCarriedArgs, carried_bool, carried_char, carried_integer, carried_tuple, carried_param, carried_type_arg, carried_adt}
 use Rattle.hir_raw.specs.WrittenTypes.{written_type}
 use Rattle.hir_raw.specs.declared.raw.RawAdt.{RawAdt}
 use Rattle.hir_raw.specs.declared.raw.RawField.{RawField}
 use Rattle.hir_laws.proofs.Items.{variant_adt, variant_ctor}
 use Rattle.hir_ids.specs.Ids.{IsModuleFn}
 use Rattle.hir_laws.specs.Lawful.{IsLawful}
-use Rattle.hir_laws.specs.WrittenFits.{fits_more, fields_fit}
-use Rattle.hir_laws.proofs.OpenedTypes.{IsOpened, as_written, as_param, input_opened, output_opened}
-use Rattle.hir_laws.specs.NoHoles.{input_has_no_hole, output_has_no_hole, field_has_no_hole}
+use Rattle.hir_laws.specs.WrittenFits.{fields_fit}
+use Rattle.hir_laws.proofs.OpenedTypes.{Each, IsOver, over_input, over_output}
+use Rattle.hir_laws.specs.NoHoles.{field_has_no_hole}
 use Rattle.hir_raw.specs.declared.raw.RawCtor.TheVariants as ctor
 use Rattle.infer_ctx.specs.Fine.{HasFineHeads, IsCarriedIn, IsWritten, Every}
 use Rattle.infer_ctx.specs.Under.{own_scope, IsItem, IsVariant}
-use Rattle.infer_ctx.proofs.FineTypes.{heads_param, heads_adt}
+use Rattle.infer_ctx.proofs.FineTypes.{heads_bool, heads_char, heads_integer, heads_tuple, heads_param, heads_adt}
 use Rattle.infer_ctx.proofs.Written.{is_written}
 
 -- a constructor has a signature where it takes fields
@@ -117,31 +115,46 @@ all_known raw n types [] h k t is = absurd (cc)
 all_known raw n types (w ∷ ws) h zero t is = (let same : written_type types w ≡ t = cc in subst (λ u. IsCarriedIn (own_scope raw n) u) same (h 0 w refl))
 all_known raw n types (w ∷ ws) h (suc k) t is = all_known raw n types ws (λ j v e. h (suc j) v e) k t is
 
-more : (n m : ℕ) → n ≤ n + m
-more n m = omega arith
+-- ---- over the kinds of written types
+
+module _ (raw : RawFacts) (n : ℕ) where
+  abbrev sc : Scope
+  sc = own_scope raw n
+
+  every_carried : (ts : List Ty) → Each (IsCarriedIn sc) ts → list_all is_carried_type ts ≡ true
+  every_carried [] each = refl
+  every_carried (t ∷ ts) each = ap (λ b. b && list_all is_carried_type ts) each.0.carried ∙ every_carried ts each.1
+
+  args_carried : (ts : List Ty) → Each (IsCarriedIn sc) ts → AreCarriedArgs (type_args ts)
+  args_carried [] each = refl
+  args_carried (t ∷ ts) each = ap (λ b. b && list_all is_carried_arg (type_args ts)) (carried_type_arg t ∙ each.0.carried) ∙ args_carried ts each.1
+
+  every_head : (ts : List Ty) → Each (IsCarriedIn sc) ts → Every (HasFineHeads sc) ts
+  every_head [] each = tt
+  every_head (t ∷ ts) each = (each.0.heads, every_head ts each.1)
+
+  over_known : IsOver raw n (IsCarriedIn sc)
+  over_known = record {
+    bool = record { carried = carried_bool; heads = heads_bool sc };
+    char = record { carried = carried_char; heads = heads_char sc };
+    integer = λ i. record { carried = carried_integer i; heads = heads_integer sc i };
+    tuple = λ ts each. record { carried = carried_tuple ts ∙ every_carried ts each; heads = heads_tuple sc ts (every_head ts each) };
+    adt = λ a ts count each. record { carried = carried_adt a (type_args ts) ∙ args_carried ts each; heads = heads_adt sc a ts count (every_head ts each) };
+    param = λ k within. record { carried = carried_param k; heads = heads_param sc k (lt-ltb k n within) };
+  }
 
 module _ (raw : RawFacts) (law : IsLawful raw) where
   -- what a function takes and gives is in the scope of its own parameters, which are all that it has
   abbrev SignatureKnown : Signature → Type 0
   SignatureKnown σ = ((k : ℕ) (t : Ty) → slice_get σ.inputs k ≡ Some t → IsCarriedIn (own_scope raw σ.params) t) × IsCarriedIn (own_scope raw σ.params) σ.output
 
-  -- a parameter that stands for a projection, or what is written there
-  opened_known : (x : RawFn) (w : TypeRefId) → HasNoHole raw.types w → IsOpened raw x w → IsCarriedIn (own_scope raw (fn_arity raw.types x)) (written_type (fn_types raw.types x) w)
-  opened_known x w none (as_written fits is) =
-      let n : ℕ = fn_arity raw.types x in
-      let wider = fits_more raw (length x.params) n w.0 (more (length x.params) (length (fn_aliases raw.types x))) fits in
-      subst (IsCarriedIn (own_scope raw n)) (sym is) (known raw n w (is_written raw law n w wider none))
-  opened_known x w none (as_param p below is) =
-      let n : ℕ = fn_arity raw.types x in
-      let k : ℕ = length x.params + p in
-      let within : k < n = omega (arith, below) in
-      subst (IsCarriedIn (own_scope raw n)) (sym is) (record { carried = carried_param k; heads = heads_param (own_scope raw n) k (lt-ltb k n within) })
-
   signature_known : (f : FunctionId) (x : RawFn) → slice_get raw.fns f.0 ≡ Some x → SignatureKnown (fn_signature raw.types x)
-  signature_known f x found = (
-    all_known raw (fn_arity raw.types x) (fn_types raw.types x) x.inputs (λ k w is. opened_known x w (input_has_no_hole raw law f.0 x found k w is) (input_opened raw law f.0 x found k w is)),
-    opened_known x x.output (output_has_no_hole raw law f.0 x found) (output_opened raw law f.0 x found),
-  )
+  signature_known f x found =
+      let n : ℕ = fn_arity raw.types x in
+      let P : Ty → Type 0 = IsCarriedIn (own_scope raw n) in (
+        all_known raw n (fn_types raw.types x) x.inputs (λ k w is. over_input raw law f.0 x found P (over_known raw n) k w is),
+        over_output raw law f.0 x found P (over_known raw n),
+      )
 
   -- a function that a path names
   pub function_item : (f : FunctionId) (x : RawFn) → slice_get raw.fns f.0 ≡ Some x → IsItem raw (callable.FunctionId f)
