@@ -11,3 +11,5 @@ pub fn same<T>(x: T, y: T) {}
 pub fn make<T>() -> T { loop {} }
 pub fn need<T: Bo>(x: T) {}
 pub fn conv<T: Tr<Out = U>, U>(x: T) -> U { loop {} }
+pub fn all<T: Tr>(x: T) -> Wrap<T::Out> { loop {} }
+pub fn pairs<T: Tr>(x: (T::Out, T), y: T::Out) {}
