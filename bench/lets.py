@@ -37,6 +37,7 @@ class Function:
         self.exprs, self.pats, self.bindings, self.statements, self.source = [], [], [], [], []
         self.types, self.called, self.named_source = [["tuple", []], "u8"], [], ""
         self.adts, self.variants, self.traits, self.aliases, self.impls = [], [], [], [], []
+        self.head, self.params, self.preds, self.inputs, self.param_pats = "f()", [], [], [], []
 
     def expr(self, fact):
         self.exprs.append(fact)
@@ -215,10 +216,10 @@ def facts(shape, count):
     made_of = made(shape, count)
     root = made_of.expr(["block", None, made_of.statements, None])
     body = {
-        "module": 0, "traits": [], "self": None, "params": [], "root": root, "exprs": made_of.exprs,
+        "module": 0, "traits": [], "self": None, "params": made_of.param_pats, "root": root, "exprs": made_of.exprs,
         "pats": made_of.pats, "bindings": made_of.bindings, "labels": 0,
     }
-    functions = [fn_fact("f", [], [], 0, 0)] + made_of.called
+    functions = [fn_fact("f", made_of.params, made_of.inputs, 0, 0, made_of.preds)] + made_of.called
     value = {
         "profile": 1, "edition": 2021, "never_fallback": False, "new_range": False,
         "limits": [8, 1000, 8, 10], "types": made_of.types, "modules": [None], "adts": made_of.adts,
@@ -262,8 +263,8 @@ def rustc_seconds(shape, count):
         source = os.path.join(folder, "lets.rs")
         with open(source, "w") as out:
             function = made(shape, count)
-            out.write("#![allow(unused)]\n%spub fn f() {\n%s}\n"
-                      % (function.named_source, "".join(function.source)))
+            out.write("#![allow(unused)]\n%spub fn %s {\n%s}\n"
+                      % (function.named_source, function.head, "".join(function.source)))
         done = subprocess.run(
             [rustc, "--crate-type=lib", "--emit=metadata", "-Ztime-passes", "-o",
              os.path.join(folder, "lets.rmeta"), source],

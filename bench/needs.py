@@ -5,9 +5,10 @@ The calls are in turn `need(1u8);`, `need(true);` and `need((1u8, true));`, of `
 for `u8`, for `bool`, for `i32`, and for each pair of types that implement it; `of(1u8);`, of `fn of<T: Of<U>, U>(x: T) -> U`, where the
 one impl of `Of` says what `U` is; and `need(1);`, of which the goal is open till the literal falls back to `i32` in the end.
 What is printed is as of `bench/lets.py`, rustc's time of its pass `type_check_crate` with it where rustc is found.
-Usage: bench/needs.py [N] [open|read]      (30000 where not given; 4N must fit into 2^24 bytes; with `open` there are calls `need(1);` alone, for which
+Usage: bench/needs.py [N] [open|read|stay] (30000 where not given; 4N must fit into 2^24 bytes; with `open` there are calls `need(1);` alone, for which
 rustc takes minutes from some 40000 on; with `read` calls of `fn get<T: Has>(x: T) -> T::Out`, in turn `get(1u8);`, `get(get(1u8));` and `get(1);`, where
-`u8: Has<Out = bool>`, `bool: Has<Out = char>` and `i32: Has<Out = u8>`)
+`u8: Has<Out = bool>`, `bool: Has<Out = char>` and `i32: Has<Out = u8>`; with `stay` in turn `get(x);` and `same(get(x), get(x));`, where all that is known of
+the type of `x` is that it has an `Out`)
 Build the program first: cd crates/infer_tool && rt run -- table fn 0 < ../../examples/first_run.json
 """
 import sys
@@ -63,6 +64,30 @@ def read_needs(function, count):
         function.source.append(READS[k % 3])
 
 
+STAY_SOURCE = """pub trait Has { type Out; }
+fn get<T: Has>(x: T) -> T::Out { loop {} }
+fn same<T>(x: T, y: T) {}
+"""
+STAYS = ["get(x);\n", "same(get(x), get(x));\n"]
+
+
+def staying_needs(function, count):
+    """`get(x); same(get(x), get(x)); ..`"""
+    function.types += [["param", 0], ["proj", 0, [["t", 2]]]]
+    function.traits = [dict(trait_fact("Has", []), types=[0])]
+    function.aliases = [{"name": "Out", "trait": 0, "bounds": []}]
+    function.called = [fn_fact("get", ["t"], [2], 3, None, [goal(2)]), fn_fact("same", ["t"], [2, 2], 0, None)]
+    function.named_source = STAY_SOURCE
+    function.head, function.params, function.preds, function.inputs = "f<T: Has + Copy>(x: T)", ["t"], [goal(2)], [2]
+    function.param_pats = [function.bind("x")]
+    for k in range(count):
+        callee = function.expr(["path", ["fn", 2, None]]) if k % 2 == 1 else None
+        got = [function.expr(["call", function.expr(["path", ["fn", 1, None]]), [function.local(0)]]) for _ in range(1 + k % 2)]
+        call = got[0] if callee is None else function.expr(["call", callee, got])
+        function.statements.append(["expr", call, True])
+        function.source.append(STAYS[k % 2])
+
+
 def add_calls(function, kinds):
     """Calls of these kinds, each a place of `CALLS`."""
     function.types += ["bool", ["param", 0], ["param", 1], ["tuple", [3, 4]], "i32"]
@@ -107,7 +132,7 @@ def main():
     if "--help" in sys.argv[1:]:
         print(__doc__.strip())
         return
-    shapes = {"open": open_needs, "read": read_needs}
+    shapes = {"open": open_needs, "read": read_needs, "stay": staying_needs}
     numbers = [int(word) for word in sys.argv[1:] if word not in shapes]
     shape = next((shapes[word] for word in sys.argv[1:] if word in shapes), needs)
     measure_at(shape, numbers[0] if numbers else 30000)

@@ -202,12 +202,20 @@ def parameters_of(generics, first=0):
     return {item: number for number, item in enumerate(types, first)}
 
 
+def parts_of(entry):
+    """The numbers of the types that an entry of the written types is made of."""
+    if entry[0] == "tuple":
+        return entry[1]
+    return [number for _, number in entry[2]] if entry[0] in ("adt", "proj") else []
+
+
 class Lists:
     """The numbered lists of the facts: what is named gets the next number where it has none."""
 
     def __init__(self, items, refused=()):
         self.items, self.refused = items, refused  # `refused` are items that can't be written
         self.types, self.known_types = [], {}
+        self.holding = set()  # the types in which an associated type stands
         self.modules, self.adts, self.variants, self.functions = {}, {}, {}, {}
         self.traits, self.associated_types, self.impls = {}, {}, {}
 
@@ -253,6 +261,10 @@ class Lists:
         """Whether the type of this number, if there is one, is an associated type."""
         return ty < len(self.types) and self.types[ty][0] == "proj"
 
+    def holds_projection(self, ty):
+        """Whether an associated type stands in the type of this number: it is one, or one stands in a part of it."""
+        return ty in self.holding
+
     def hangs_on(self, ty, types):
         """Whether a type is an associated type of one of these, or of an associated type that is."""
         while self.is_projection(ty):
@@ -267,12 +279,17 @@ class Lists:
     def type(self, entry, has_hole=False):
         """The number of a written type. Where a `_` stands in it, an entry of its own is made."""
         if has_hole:
-            self.types.append(entry)
-            return len(self.types) - 1
+            return self.add_type(entry)
         if repr(entry) not in self.known_types:
-            self.known_types[repr(entry)] = len(self.types)
-            self.types.append(entry)
+            self.known_types[repr(entry)] = self.add_type(entry)
         return self.known_types[repr(entry)]
+
+    def add_type(self, entry):
+        """The number of an entry that is added; its parts come before it."""
+        if entry[0] == "proj" or any(part in self.holding for part in parts_of(entry)):
+            self.holding.add(len(self.types))
+        self.types.append(entry)
+        return len(self.types) - 1
 
 
 class Scope:
@@ -326,7 +343,7 @@ class Writer:
         kind, span = ty["kind"], span_of(ty["span"])
         name = name_of(kind)
         if name == "Tup":
-            parts = [self.read_type(part, hole) for part in kind[0]]
+            parts = [self.type(part, hole) for part in kind[0]]
             has_hole = any(holds for _, holds in parts)
             return self.lists.type(["tuple", [number for number, _ in parts]], has_hole), has_hole
         if name == "Infer":
@@ -340,14 +357,11 @@ class Writer:
         return 0, False
 
     def read_type(self, ty, hole=IN_SIGNATURE):
-        """The same of a type that bodies read, or a part of another: an associated type is left out there."""
+        """The same of a type that bodies read: an associated type is left out there, wherever it stands in the type."""
         number, has_hole = self.type(ty, hole)
-        self.leave_out_projection(number, span_of(ty["span"]))
+        if self.lists.holds_projection(number):
+            self.leave_out("associated type", span_of(ty["span"]))
         return number, has_hole
-
-    def leave_out_projection(self, number, span):
-        if self.lists.is_projection(number):
-            self.leave_out("associated type", span)
 
     def hole(self, hole, span):
         """A `_`."""
@@ -395,8 +409,6 @@ class Writer:
             self.arguments(written, hole, span)
             return 0, False
         parts = self.arguments(written, hole, span)
-        for number, _ in parts:
-            self.leave_out_projection(number, span)
         if len(parts) != len(parameters_of(self.items.adts[item].generics)):
             self.leave_out("another number of type arguments than parameters", span)
         has_hole = any(holds for _, holds in parts)

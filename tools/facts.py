@@ -80,13 +80,13 @@ class CrateFacts:
         return writer
 
     def refuse_functions(self):
-        """Finds the functions whose signatures can't be written, and those that take or give associated types."""
+        """Finds the functions whose signatures can't be written, and those that take or give types with associated types."""
         for item, function in self.items.functions.items():
             writer = self.writer(function, Lists(self.items, self.refused))
             fact = self.function(function, writer)
             if writer.omissions:
                 self.refused[item] = writer.omissions
-            elif any(map(writer.lists.is_projection, (*fact["inputs"], fact["output"]))):
+            elif any(map(writer.lists.holds_projection, (*fact["inputs"], fact["output"]))):
                 self.unread.add(item)
 
     def writer(self, function, lists):
@@ -216,7 +216,7 @@ class CrateFacts:
         return found
 
     def function(self, function, writer):
-        """The facts of a function without `self`. What it takes or gives may be an associated type, but have none as a part."""
+        """The facts of a function without `self`. Associated types may stand anywhere in what it takes and gives."""
         header, declared = function.signature["header"], function.signature["decl"]
         if function.within != "module":
             writer.leave_out("function of %s" % ("an impl" if function.within == "impl" else "a trait"), function.span)

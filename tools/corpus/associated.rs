@@ -22,6 +22,11 @@ pub trait Count {
     type By: Send<Reply = bool>;
 }
 
+/// What is made of links, each with one behind it.
+pub trait Chain {
+    type Next: Chain;
+}
+
 pub struct Ping;
 
 pub struct Ask<T>(pub T);
@@ -243,4 +248,71 @@ pub fn shows_any_value<T: Read<u8>>(from: T) {
 
 pub fn answers_another<T: Send, U: Send>(message: T, other: U) {
     answer(other, ask(message));
+}
+
+pub fn both_replies<T: Send>(message: T) -> (T::Reply, T::Reply) {
+    loop {}
+}
+
+pub fn shift<T: Chain>(link: T) -> T::Next {
+    loop {}
+}
+
+pub fn pair<T>(one: T, other: T) -> (T, T) {
+    (one, other)
+}
+
+pub fn keeps_replies<T: Send>(message: T, other: T) {
+    let reply = ask(message);
+    let replies = pair(reply, ask(other));
+    let (_, second) = replies;
+    let _: (_, u8) = (second, 1);
+}
+
+pub fn mixes_replies<T: Send, U: Send>(message: T, other: U) {
+    pair(ask(message), ask(other));
+}
+
+pub fn takes_a_reply_for_a_byte<T: Send>(message: T) {
+    let reply = ask(message);
+    let _: u8 = reply;
+}
+
+pub fn takes_a_literal_for_a_reply<T: Send>(message: T) {
+    pair(ask(message), 1);
+}
+
+pub fn takes_both<T: Send>(message: T, other: T) {
+    let (one, _) = both_replies(message);
+    answer(other, one);
+}
+
+pub fn sends_both<T: Send>(message: Ask<T>) {
+    let (one, other) = both_replies(message);
+    pair(ask(one), ask(other));
+}
+
+pub fn shifts<T: Chain>(link: T) {
+    let third = shift(shift(shift(link)));
+    shift(third);
+}
+
+pub fn shifts_two<T: Chain, U: Chain>(link: T, other: U) {
+    pair(shift(link), shift(other));
+}
+
+pub fn shifts_to_itself<T: Chain<Next = T>>(link: T) -> T {
+    shift(shift(link))
+}
+
+pub fn chooses_a_reply<T: Send>(message: T, other: T, first: bool) {
+    let reply = if first { ask(message) } else { ask(other) };
+    let _ = pair(reply, if first { 1u8 } else { 2 });
+}
+
+pub fn shows_what_follows<T: Chain>(link: T)
+where
+    T::Next: Show,
+{
+    show(shift(link));
 }

@@ -221,7 +221,7 @@ head_tail_filled f s head.Dynamic ts c = refl
 head_tail_filled f s (head.Adt id) ts c = field_tail_filled s (f.last_field id) ts
 head_tail_filled f s head.Tuple ts c = tuple_tail_filled s ts c
 head_tail_filled f s (head.Param n) ts c = refl
-head_tail_filled f s (head.Bound k) ts c = refl
+head_tail_filled f s (head.AssociatedType k) ts c = refl
 head_tail_filled f s (head.Opaque o) ts c = refl
 head_tail_filled f s _ ts c = refl
 

@@ -25,7 +25,7 @@ alias_at k w = pair (leaf (head.Projection k)) w
 
 -- an alias at these arguments that was read and stays
 abbrev pub staying : TypeAliasId → Term → Term
-staying k w = pair (leaf (head.Bound k)) w
+staying k w = pair (leaf (head.AssociatedType k)) w
 
 abbrev pub IsReadLeaf : Role → Type 0
 IsReadLeaf plain = Unit {0}

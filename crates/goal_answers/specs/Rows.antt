@@ -117,7 +117,7 @@ head_tail f head.Dynamic ts = has_none
 head_tail f (head.Adt id) ts = field_tail (f.last_field id) ts
 head_tail f head.Tuple ts = tuple_tail ts
 head_tail f (head.Param n) ts = asked
-head_tail f (head.Bound k) ts = asked
+head_tail f (head.AssociatedType k) ts = asked
 head_tail f (head.Opaque o) ts = asked
 head_tail f _ ts = has_size
 

@@ -21,6 +21,7 @@ pub data Choice : Type 0 where
 abbrev pub IsConcreteHead : Head → Type 0
 IsConcreteHead (head.Projection k) = ⊥
 IsConcreteHead (head.Opaque o) = ⊥
+IsConcreteHead (head.AssociatedType k) = ⊥
 IsConcreteHead (head.Bound k) = ⊥
 IsConcreteHead head.Error = ⊥
 IsConcreteHead head.UnknownConst = ⊥

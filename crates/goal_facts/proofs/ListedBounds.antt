@@ -21,7 +21,7 @@ use Rattle.goal_facts.specs.Environment.{SaysAt, trait_holes, IsSuper, Follows}
 use Rattle.goal_facts.specs.Bounds.{BoundSays, IsListed}
 
 abbrev IsStaying : Term → Type 0
-IsStaying (pair (leaf (head.Bound k)) w) = Unit {0}
+IsStaying (pair (leaf (head.AssociatedType k)) w) = Unit {0}
 IsStaying _ = ⊥
 
 -- the self type is an alias that was read and stays
@@ -96,7 +96,7 @@ follows_stays raw (suc n) d (inr (c, h, super)) = super_stays raw c d super (fol
 -- ---- it is not concrete
 
 staying_not_concrete : (t : Term) → IsStaying t → IsConcrete t → ⊥
-staying_not_concrete (pair (leaf (head.Bound k)) w) s c = c.0
+staying_not_concrete (pair (leaf (head.AssociatedType k)) w) s c = c.0
 staying_not_concrete (pair (leaf _) w) s c = s
 staying_not_concrete (pair (pair a b) w) s c = s
 staying_not_concrete (pair (hole k) w) s c = s

@@ -51,7 +51,8 @@ replaced_projection s i xs = ap (replaced s) (sym (ty.rolls-Projection i xs)) �
 replaced_hole : (s : Replacement) → replaced s ty.Hole ≡ ty.Hole
 replaced_hole s = ap (replaced s) (sym ty.rolls-Hole) ∙ at_ty s Ty-F.Hole ∙ ty.rolls-Hole
 
-layer_is : (s : Replacement) (f : ℕ → Ty) (o : Option RawType) → term (replaced s (filled_by ty.Hole f o)) ≡ layer (λ n. term (s.param n)) (λ j. term (replaced s (f j))) o
+-- one level
+pub layer_is : (s : Replacement) (f : ℕ → Ty) (o : Option RawType) → term (replaced s (filled_by ty.Hole f o)) ≡ layer (λ n. term (s.param n)) (λ j. term (replaced s (f j))) o
 layer_is s f None = ap term (replaced_error s) ∙ term_error
 layer_is s f (Some type.Bool) = ap term (replaced_bool s) ∙ term_bool
 layer_is s f (Some type.Char) = ap term (replaced_char s) ∙ term_char

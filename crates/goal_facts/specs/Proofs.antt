@@ -68,19 +68,22 @@ pub record IsImplAt (raw : RawFacts) (P : Aliases) (s : Fill) (g : Asked) (id : 
 abbrev pub IsListedBound : RawFacts → Aliases → Asked → Type 0
 IsListedBound raw P g = (d : Asked) × (w : Term) × Follows raw (IsListed raw) raw.limits.goal_depth d × (d.kind ≡ g.kind) × ReadsAs P g.parts w × ((p : Fill) × Reads P p d.parts w)
 
--- both sides of a projection are the same; a type has a size; a listed bound says so; or it is copied since its parts are
+-- both sides of a projection are the same
+abbrev pub SaysItself : Aliases → Asked → Type 0
+SaysItself P g = (w : Term) × ReadsAs P g.parts w × IsItself g.kind w
+
+-- a type has a size; a listed bound says so; or it is copied since its parts are
 abbrev pub IsBuiltIn : RawFacts → System → Aliases → Asked → List Asked → Type 0
 IsBuiltIn raw f P g qs =
-    ((qs ≡ []) × (w : Term) × ReadsAs P g.parts w × IsItself g.kind w)
-    ⊎ (((qs ≡ []) × (is_among f.sized g.kind ≡ true) × (answers f raw.limits.goal_depth).Yes g)
+    ((qs ≡ []) × (is_among f.sized g.kind ≡ true) × (answers f raw.limits.goal_depth).Yes g)
     ⊎ (((qs ≡ []) × IsListedBound raw P g)
-    ⊎ ((w : Term) × (ts : List Term) × ReadsAs P g.parts w × CopiesParts f g.kind w ts × (qs ≡ map (λ t. record { kind = g.kind; parts = only t }) ts))))
+    ⊎ ((w : Term) × (ts : List Term) × ReadsAs P g.parts w × CopiesParts f g.kind w ts × (qs ≡ map (λ t. record { kind = g.kind; parts = only t }) ts)))
 
--- clauses come before the others
+-- clauses come before the others, but that both sides are the same, as in `YesAt`
 abbrev pub IsSource : RawFacts → System → Aliases → Fill → Asked → ProofSource → List Asked → Type 0
 IsSource raw f P s g (source.Clause c) qs = IsClause f P g c qs
 IsSource raw f P s g (source.Impl id xs) qs = IsUnshadowed f P g × IsImplAt raw P s g id xs qs
-IsSource raw f P s g source.BuiltIn qs = IsUnshadowed f P g × IsBuiltIn raw f P g qs
+IsSource raw f P s g source.BuiltIn qs = ((qs ≡ []) × SaysItself P g) ⊎ (IsUnshadowed f P g × IsBuiltIn raw f P g qs)
 
 -- what has no size has no source
 abbrev pub MayHaveSource : RawFacts → System → Asked → Type 0

@@ -1,5 +1,5 @@
 -- What types read as.
-use Rattle.std.specs.Prelude.{ℕ, Option, Some, None}
+use Rattle.std.specs.Prelude.{◌≡◌, ◌⊎◌, ℕ, Option, Some, None}
 use Rattle.hir_types.specs.declared.ty.Ty.{Ty}
 use Rattle.hir_types.specs.Terms.{term}
 use Rattle.goal_answers.specs.Reading.{ReadsAs}
@@ -14,3 +14,7 @@ TypeReads f n t u = ReadsAs (answers f n).Alias (term t) (term u)
 abbrev pub IsTypeRead : System → ℕ → Ty → Option Ty → Type 0
 IsTypeRead f n t (Some u) = TypeReads f n t u
 IsTypeRead f n t None = (u : Ty) → TypeReads f n t u → ⊥
+
+-- what it reads as, or the type itself where it reads as none
+abbrev pub IsReadOrItself : System → ℕ → Ty → Ty → Type 0
+IsReadOrItself f n t u = TypeReads f n t u ⊎ (IsTypeRead f n t None × (u ≡ t))

@@ -12,7 +12,7 @@ use std::alloc::{AllocError, Global};
 
 impl ItemSources<'_> {
     /// What a type, whose holes stay, reads as at the depth to which the facts let goals be followed, each associated type in it
-    /// as what it is. Nothing where one is open, or stays as it is.
+    /// as what it is; one that stays is a type of its own. Nothing where one is open.
     pub fn read_ty(&self, alloc: Global, ty: &Ty) -> Result<Option<Ty>, AllocError>
         ensures given { IfOk result (λ _. IsSystemOf self.now.facts self.now.item (system self.now.sources)) }
         ensures read { IfOk result (λ found. IsTypeRead (system self.now.sources) self.now.facts.limits.goal_depth ty.now found) }

@@ -1,7 +1,6 @@
 -- A predicate that is Yes below the depth, as a goal that is read.
 use Rattle.std.specs.Prelude.{◌≡◌, ◌⊎◌, ◌≤◌, ℕ, zero, suc, true, List}
 use Rattle.std.proofs.Common.{inl, inr, sym, ap, ◌∙◌, subst, arith}
-use Rattle.hir_types.specs.declared.ids.TypeAliasId.{TypeAliasId}
 use Rattle.hir_types.specs.declared.goal.Goal.{Goal}
 use Rattle.hir_types.specs.declared.goal.Goal.TheVariants as goal
 use Rattle.hir_types.specs.Terms.{Term, apply}
@@ -11,34 +10,33 @@ use Rattle.goal_answers.specs.Goals.{Kind, implements, projects, Asked, System, 
 use Rattle.goal_answers.specs.Answers.{YesAt, answers}
 use Rattle.goal_answers.specs.Selecting.{IsDeep}
 use Rattle.goal_answers.specs.Steps.{known_below}
-use Rattle.goal_answers.proofs.Readings.{reads_one, reads_within}
+use Rattle.goal_answers.proofs.Readings.{read_reads, reads_one, reads_within}
 use Rattle.goal_answers.proofs.One.{answers_sound}
 use Rattle.goal_search.specs.Searching.{IsDone, SystemHasHeads}
 use Rattle.goal_search.proofs.Heads.{reading_done, reads_before}
 use Rattle.goal_facts.specs.declared.proof.Proof.{Proof}
 use Rattle.goal_facts.specs.Goals.{asked_goal}
 use Rattle.goal_select.proofs.Choices.{within}
-use Rattle.goal_prove.specs.Staying.{unbound, IsGoodGoal}
-use Rattle.goal_prove.specs.Asking.{deep_alias, deep_stays, ReadsTo, IsAsked, PredIsAsked, IsProvedAs, IsPredProved}
-use Rattle.goal_prove.proofs.Unbound.{unbound_reads, unbound_stays}
+use Rattle.goal_prove.specs.Written.{IsGoodGoal}
+use Rattle.goal_prove.specs.Asking.{deep_alias, ReadsTo, IsAsked, PredIsAsked, IsProvedAs, IsPredProved}
+use Rattle.goal_prove.proofs.Holes.{whole_stays}
 
 -- the goal of inference with these parts
-goal_with : (c : Kind) (S : TypeAliasId → Term → Type 0) (w : Term) → IsGoodGoal S c w → (g : Goal) × (asked_goal g ≡ record { kind = c; parts = unbound w })
-goal_with (implements t) S w h = (goal.Trait (record { id = t; args = h.goal.0 }), λ i. record { kind = implements t; parts = sym h.goal.1 i })
-goal_with (projects k) S w h = (goal.Projection k h.goal.0 h.goal.1, λ i. record { kind = projects k; parts = sym h.goal.2 i })
+goal_with : (c : Kind) (w : Term) → IsGoodGoal c w → (g : Goal) × (asked_goal g ≡ record { kind = c; parts = w })
+goal_with (implements t) w h = (goal.Trait (record { id = t; args = h.goal.0 }), λ i. record { kind = implements t; parts = sym h.goal.1 i })
+goal_with (projects k) w h = (goal.Projection k h.goal.0 h.goal.1, λ i. record { kind = projects k; parts = sym h.goal.2 i })
 
-module _ (raw : RawFacts) (f : System) (c : Kind) (w : Term) (good : IsGoodGoal (deep_stays raw f) c w) (done : IsDone w) where
-  -- such a goal reads so
-  pub made_reads : (made : Goal) → ((g : Goal) → asked_goal g ≡ record { kind = c; parts = unbound w } → asked_goal made ≡ record { kind = c; parts = unbound w }) → ReadsTo raw f made c w
+module _ (raw : RawFacts) (f : System) (c : Kind) (w : Term) (good : IsGoodGoal c w) (done : IsDone w) where
+  -- such a goal reads as itself
+  pub made_reads : (made : Goal) → ((g : Goal) → asked_goal g ≡ record { kind = c; parts = w } → asked_goal made ≡ record { kind = c; parts = w }) → ReadsTo raw f made c w
   made_reads made is =
-      let q = goal_with c (deep_stays raw f) w good in
+      let q = goal_with c w good in
       let e = is q.0 q.1 in
       record {
         kind = ap (λ (x : Asked). x.kind) e;
         reads = λ s filling.
-            let stay = unbound_stays (deep_stays raw f) s w good.valid in
             subst (λ (x : Asked). ReadsAs (deep_alias raw f) (apply s x.parts) w) (sym e)
-            (subst (λ y. ReadsAs (deep_alias raw f) y w) (sym stay) (unbound_reads (deep_stays raw f) (deep_alias raw f) (λ k y h. h.reads) w done.read good.valid));
+            (subst (λ y. ReadsAs (deep_alias raw f) y w) (sym (whole_stays s w good.whole)) (read_reads (deep_alias raw f) w done.read));
       }
 
 -- what Yes tells at a depth
@@ -74,7 +72,7 @@ module _ (raw : RawFacts) (f : System) (heads : SystemHasHeads f) (n : ℕ) (le 
       pub is_done : IsDone u
       is_done = reading_done f heads m p q.parts u asked.done.heads asked.done.fills reads
 
-      pub is_good : IsGoodGoal (deep_stays raw f) q.kind u
+      pub is_good : IsGoodGoal q.kind u
       is_good = asked.good m u e reads
 
       pub is_asked : IsAsked raw f m q.kind u

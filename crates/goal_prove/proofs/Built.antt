@@ -1,10 +1,9 @@
 -- Proofs by each source, of a goal that reads so.
 use Rattle.std.specs.Prelude.{◌≡◌, ◌≤◌, ◌++◌, ℕ, true, List, [], ◌∷◌, length, map, slice_get, Some, None, refl, Result, IfOk}
-use Rattle.std.proofs.Common.{inl, inr, sym, ap, ap₂, ◌∙◌, subst, arith}
+use Rattle.std.proofs.Common.{inl, inr, sym, ap, ap₂, ◌∙◌, subst}
 use Rattle.std.proofs.lemmas.Result.{IfOk-weaker}
 use Rattle.std.specs.declared.alloc.AllocError.{AllocError}
 use Rattle.hir_types.specs.declared.ids.ImplId.{ImplId}
-use Rattle.hir_types.specs.declared.ids.TypeAliasId.{TypeAliasId}
 use Rattle.hir_types.specs.declared.ids.GenericDefId.{GenericDefId}
 use Rattle.hir_types.specs.declared.goal.Goal.{Goal}
 use Rattle.hir_types.specs.declared.head.Hole.{Hole}
@@ -23,7 +22,7 @@ use Rattle.goal_answers.proofs.One.{answers_sound, head_tells}
 use Rattle.goal_terms.specs.Bindings.{log_of, fill_of}
 use Rattle.goal_terms.specs.Terms.{HasHeads}
 use Rattle.goal_search.specs.Searching.{IsDone, RuleHasHeads}
-use Rattle.goal_search.proofs.Heads.{may_done}
+use Rattle.goal_search.proofs.Heads.{may_done, reads_at}
 use Rattle.goal_search.proofs.Only.{each_of_get}
 use Rattle.goal_facts.specs.declared.proof.Proof.{Proof}
 use Rattle.goal_facts.specs.declared.proof.ProofSource.{ProofSource}
@@ -37,11 +36,10 @@ use Rattle.goal_facts.proofs.Systems.{each_get}
 use Rattle.goal_select.proofs.Choices.{within}
 use Rattle.goal_select.proofs.Clauses.{clause_closed}
 use Rattle.goal_prove.specs.declared.fits.Found.{Found}
-use Rattle.goal_prove.specs.Staying.{unbound, IsGood, IsGoodGoal}
-use Rattle.goal_prove.specs.Asking.{deep_alias, deep_stays, ReadsTo, IsAsked, IsFree, IsFit, IsProved, IsProofFor, AreProofsFor, ArePredsProved, PredIsAsked, fill_args}
+use Rattle.goal_prove.specs.Written.{IsGood, IsGoodGoal}
+use Rattle.goal_prove.specs.Asking.{deep_alias, ReadsTo, IsAsked, IsFree, IsFit, IsProved, IsProofFor, AreProofsFor, ArePredsProved, PredIsAsked, fill_args}
 use Rattle.goal_prove.specs.Entries.{AddsProofs, IsProofAt, IsPushed}
 use Rattle.goal_prove.proofs.Adding.{adds_none, adds_then, adds_one, found_last}
-use Rattle.goal_prove.proofs.Unbound.{reads_unbound}
 use Rattle.goal_prove.proofs.Aliases.{aliases_good}
 use Rattle.goal_prove.proofs.Fitting.{yes_here, may_here, unshadowed_here}
 use Rattle.goal_prove.proofs.Impled.{IsFilled, rule_filled, preds_good, fill_is}
@@ -85,9 +83,6 @@ module _ (raw : RawFacts) (item : GenericDefId) (f : System) (of : IsSystemOf ra
   abbrev A : Aliases
   A = (answers f n).Alias
 
-  abbrev S : TypeAliasId → Term → Type 0
-  S = deep_stays raw f
-
   abbrev Own : Fill → Asked
   Own s = filled_goal s g
 
@@ -130,21 +125,21 @@ module _ (raw : RawFacts) (item : GenericDefId) (f : System) (of : IsSystemOf ra
 
   -- ---- what is built in
 
+  pub by_itself : IsItself c w → (ks : List ℕ) → [] ≡ ks → (ps zs : List Proof) (r : Result ℕ AllocError)
+      → IfOk r (λ k. IsPushed ps zs (record { goal = g; source = source.BuiltIn; children = ks }) k) → IfOk r (λ k. IsProved raw f ps zs g k)
+  by_itself i ks none ps zs r pushed = alone source.BuiltIn (λ s filling. inl (refl, (w, reads s filling, subst (λ d. IsItself d w) (sym to.kind) i))) ks none ps zs r pushed
+
   module _ (free : IsFree raw f c w) where
     unshadowed : (s : Fill) → IsFilling s → IsUnshadowed f P (Own s)
     unshadowed s filling = unshadowed_here raw item f of n le c w asked g to s filling free
 
     built : ((s : Fill) → IsFilling s → IsBuiltIn raw f P (Own s) []) → (ks : List ℕ) → [] ≡ ks → (ps zs : List Proof) (r : Result ℕ AllocError)
         → IfOk r (λ k. IsPushed ps zs (record { goal = g; source = source.BuiltIn; children = ks }) k) → IfOk r (λ k. IsProved raw f ps zs g k)
-    built h ks none ps zs r pushed = alone source.BuiltIn (λ s filling. (unshadowed s filling, h s filling)) ks none ps zs r pushed
+    built h ks none ps zs r pushed = alone source.BuiltIn (λ s filling. inr (unshadowed s filling, h s filling)) ks none ps zs r pushed
 
     pub by_size : is_among f.sized c ≡ true → (ks : List ℕ) → [] ≡ ks → (ps zs : List Proof) (r : Result ℕ AllocError)
         → IfOk r (λ k. IsPushed ps zs (record { goal = g; source = source.BuiltIn; children = ks }) k) → IfOk r (λ k. IsProved raw f ps zs g k)
-    by_size e = built (λ s filling. inr (inl (refl, subst (λ d. is_among f.sized d ≡ true) (sym to.kind) e, yes_here raw item f of n le c w asked g to s filling)))
-
-    pub by_itself : IsItself c w → (ks : List ℕ) → [] ≡ ks → (ps zs : List Proof) (r : Result ℕ AllocError)
-        → IfOk r (λ k. IsPushed ps zs (record { goal = g; source = source.BuiltIn; children = ks }) k) → IfOk r (λ k. IsProved raw f ps zs g k)
-    by_itself i = built (λ s filling. inl (refl, w, reads s filling, subst (λ d. IsItself d w) (sym to.kind) i))
+    by_size e = built (λ s filling. inl (refl, subst (λ d. is_among f.sized d ≡ true) (sym to.kind) e, yes_here raw item f of n le c w asked g to s filling))
 
     listed_is : (x : Found) → IsFit A (known_below f n) f.rules c w x → ((r : Rule) → slice_get f.rules x.place ≡ Some r → ComesFrom raw r None) → (s : Fill) → IsFilling s → IsListedBound raw P (Own s)
     listed_is x fit from s filling =
@@ -161,7 +156,7 @@ module _ (raw : RawFacts) (item : GenericDefId) (f : System) (of : IsSystemOf ra
 
     pub by_listed : (x : Found) → IsFit A (known_below f n) f.rules c w x → ((r : Rule) → slice_get f.rules x.place ≡ Some r → ComesFrom raw r None) → (ks : List ℕ) → [] ≡ ks → (ps zs : List Proof) (r : Result ℕ AllocError)
         → IfOk r (λ k. IsPushed ps zs (record { goal = g; source = source.BuiltIn; children = ks }) k) → IfOk r (λ k. IsProved raw f ps zs g k)
-    by_listed x fit from = built (λ s filling. inr (inr (inl (refl, listed_is x fit from s filling))))
+    by_listed x fit from = built (λ s filling. inr (inl (refl, listed_is x fit from s filling)))
 
     -- ---- by what was proved before
 
@@ -188,15 +183,15 @@ module _ (raw : RawFacts) (item : GenericDefId) (f : System) (of : IsSystemOf ra
         → IfOk r (λ k. IsPushed ys zs (record { goal = g; source = source.BuiltIn; children = ks }) k) → IfOk r (λ k. IsProved raw f ps zs g k)
     by_parts ts copies qs are ks ps ys zs proved r pushed =
         over source.BuiltIn hole hole qs
-        (λ s filling. (
+        (λ s filling. inr (
           unshadowed s filling,
-          inr (inr (inr (
+          inr (inr (
             w,
             ts,
             reads s filling,
             subst (λ d. CopiesParts f d w ts) (sym to.kind) copies,
             ap (map (asked_at hole)) are ∙ (parts_as ts ∙ ap (λ d. map (λ t. record { kind = d; parts = only t }) ts) (sym to.kind)),
-          ))),
+          )),
         )) (parts_turn qs) ks ps ys zs proved r pushed
 
     -- ---- impls
@@ -205,17 +200,14 @@ module _ (raw : RawFacts) (item : GenericDefId) (f : System) (of : IsSystemOf ra
       abbrev fill : Fill
       fill = fill_of (log_of x.fills.items)
 
-      abbrev as_types : Fill
-      as_types k = unbound (fill k)
-
       abbrev impl : RawImpl
       impl = has.0
 
-      good_goal : IsGoodGoal S fit.rule.head.kind w
-      good_goal = subst (λ d. IsGoodGoal S d w) (sym fit.kind) asked.good
+      good_goal : IsGoodGoal fit.rule.head.kind w
+      good_goal = subst (λ d. IsGoodGoal d w) (sym fit.kind) asked.good
 
-      filled : (k : Hole) → stands k (key fit.rule.head.kind fit.rule.head.parts) ≡ true → IsFilled S A (answers_sound f n).one (aliases_good raw item f of n le) raw impl fill k
-      filled k s = rule_filled S A (answers_sound f n).one (aliases_good raw item f of n le) raw impl fill has.2.0 fit.rule has.2.1 w fit.holds.part good_goal k s
+      filled : (k : Hole) → stands k (key fit.rule.head.kind fit.rule.head.parts) ≡ true → IsFilled A (answers_sound f n).one (aliases_good raw item f of n) raw impl fill k
+      filled k s = rule_filled A (answers_sound f n).one (aliases_good raw item f of n) raw impl fill has.2.0 fit.rule has.2.1 w fit.holds.part good_goal k s
 
       tells : Tells fit.rule fit.rule.head.parts fit.rule.preds
       tells = head_tells fit.rule fit.holds.told
@@ -223,35 +215,34 @@ module _ (raw : RawFacts) (item : GenericDefId) (f : System) (of : IsSystemOf ra
       is_done : (k : Hole) → stands k fit.rule.head.parts ≡ true → IsDone (fill k)
       is_done k s = may_done fill fit.rule.head.parts w (reads_may A fill fit.rule.head.parts w fit.holds.part) asked.done k s
 
-      -- a part of which each hole is told reads at the types as it does at what stands for its holes
-      turned : (t u : Term) → HasHeads t → IsToldBy (key fit.rule.head.kind fit.rule.head.parts) t → IsToldBy fit.rule.head.parts t → Reads P fill t u → ReadsAs P (apply as_types t) u
-      turned t u h by_key by_head r = reads_unbound S P (λ k y e. e.reads) fill t u h (λ k o. (is_done k (by_head k o)).read) (λ k o. (filled k (by_key k o)).good.valid) r
+      -- a part of which each hole is told reads, where they are filled, as it does at what stands for them
+      turned : (t u : Term) → IsToldBy fit.rule.head.parts t → Reads P fill t u → ReadsAs P (apply fill t) u
+      turned t u told r = reads_at P fill t u (λ k o. (is_done k (told k o)).read) r
 
-      preds_turn : (qs : List Asked) → Each (λ q. HasHeads q.parts) qs → Each (λ q. IsToldBy (key fit.rule.head.kind fit.rule.head.parts) q.parts) qs → Each (λ q. IsToldBy fit.rule.head.parts q.parts) qs
-          → Each (λ q. (t : Term) → Reads P fill q.parts t → ReadsAs P (apply as_types q.parts) t) qs
-      preds_turn [] h k t = tt
-      preds_turn (q ∷ qs) h k t = (λ u r. turned q.parts u h.0 k.0 t.0 r, preds_turn qs h.1 k.1 t.1)
+      preds_turn : (qs : List Asked) → Each (λ q. IsToldBy fit.rule.head.parts q.parts) qs → Each (λ q. (t : Term) → Reads P fill q.parts t → ReadsAs P (apply fill q.parts) t) qs
+      preds_turn [] t = tt
+      preds_turn (q ∷ qs) t = (λ u r. turned q.parts u t.0 r, preds_turn qs t.1)
 
       module _ (count : ℕ) (counted : count ≡ length impl.params) (s : Fill) where
         abbrev xs : List GenericArg
         xs = fill_args (log_of x.fills.items) count
 
-        same_fill : (k : Hole) → stands k (key fit.rule.head.kind fit.rule.head.parts) ≡ true → args_fill s xs k ≡ as_types k
+        same_fill : (k : Hole) → stands k (key fit.rule.head.kind fit.rule.head.parts) ≡ true → args_fill s xs k ≡ fill k
         same_fill k st =
             let q = filled k st in
-            subst (λ (m : ℕ). args_fill s (fill_args (log_of x.fills.items) m) k ≡ as_types k) (sym counted) (fill_is S (log_of x.fills.items) (length impl.params) s k q.number q.below q.is q.good)
+            subst (λ (m : ℕ). args_fill s (fill_args (log_of x.fills.items) m) k ≡ fill k) (sym counted) (fill_is (log_of x.fills.items) (length impl.params) s k q.number q.below q.is q.good)
 
-        same_at : (t : Term) → IsToldBy (key fit.rule.head.kind fit.rule.head.parts) t → apply as_types t ≡ apply (args_fill s xs) t
-        same_at t told = apply_agree as_types (args_fill s xs) t (λ k o. sym (same_fill k (told k o)))
+        same_at : (t : Term) → IsToldBy (key fit.rule.head.kind fit.rule.head.parts) t → apply fill t ≡ apply (args_fill s xs) t
+        same_at t told = apply_agree fill (args_fill s xs) t (λ k o. sym (same_fill k (told k o)))
 
-        same_preds : (qs : List Asked) → Each (λ q. IsToldBy (key fit.rule.head.kind fit.rule.head.parts) q.parts) qs → map (asked_at as_types) qs ≡ map (asked_at (args_fill s xs)) qs
+        same_preds : (qs : List Asked) → Each (λ q. IsToldBy (key fit.rule.head.kind fit.rule.head.parts) q.parts) qs → map (asked_at fill) qs ≡ map (asked_at (args_fill s xs)) qs
         same_preds [] t = refl
         same_preds (q ∷ qs) t = ap₂ (λ y ys. y ∷ ys) (λ i. record { kind = q.kind; parts = same_at q.parts t.0 i }) (same_preds qs t.1)
 
-        impl_at : IsFilling s → IsImplAt raw P s (Own s) id xs (map (asked_at as_types) fit.rule.preds)
+        impl_at : IsFilling s → IsImplAt raw P s (Own s) id xs (map (asked_at fill) fit.rule.preds)
         impl_at filling =
             let t = fit.rule.head.parts in
-            let head = turned t w heads.head fit.holds.told.head tells.itself (reads_within A P (within f n deep le).alias fill t w fit.holds.part) in
+            let head = turned t w tells.itself (reads_within A P (within f n deep le).alias fill t w fit.holds.part) in
             record {
               item = impl;
               listed = has.1;
@@ -265,9 +256,9 @@ module _ (raw : RawFacts) (item : GenericDefId) (f : System) (of : IsSystemOf ra
       pub by_impl : (count : ℕ) → count ≡ length impl.params → (args : List GenericArg) → args ≡ fill_args (log_of x.fills.items) count → (ks : List ℕ) (ps ys zs : List Proof) → ArePredsProved raw f fill ps ys fit.rule.preds ks → (r : Result ℕ AllocError)
           → IfOk r (λ k. IsPushed ys zs (record { goal = g; source = source.Impl id args; children = ks }) k) → IfOk r (λ k. IsProved raw f ps zs g k)
       by_impl count counted args are ks ps ys zs proved r pushed =
-          over (source.Impl id args) fill as_types fit.rule.preds
-          (λ s filling. subst (λ ms. IsSource raw f P s (Own s) (source.Impl id ms) (map (asked_at as_types) fit.rule.preds)) (sym are) (unshadowed s filling, impl_at count counted s filling))
-          (preds_turn fit.rule.preds heads.preds fit.holds.told.preds tells.preds) ks ps ys zs proved r pushed
+          over (source.Impl id args) fill fill fit.rule.preds
+          (λ s filling. subst (λ ms. IsSource raw f P s (Own s) (source.Impl id ms) (map (asked_at fill) fit.rule.preds)) (sym are) (unshadowed s filling, impl_at count counted s filling))
+          (preds_turn fit.rule.preds tells.preds) ks ps ys zs proved r pushed
 
       -- what it asks for may be proved below
       pub preds_asked : Each (PredIsAsked raw f n fill) fit.rule.preds
@@ -278,7 +269,6 @@ module _ (raw : RawFacts) (item : GenericDefId) (f : System) (of : IsSystemOf ra
             done = record { heads = each_get (λ (d : Asked). HasHeads d.parts) fit.rule.preds i q heads.preds at; fills = λ k o. is_done k (by_head k o) };
             yes = each_get (λ (d : Asked). (known_below f n).Yes (asked_at fill d)) fit.rule.preds i q fit.holds.preds at;
             good = λ m u e r.
-                let below : m ≤ deep = omega (arith, e, le) in
-                each_get (λ (d : Asked). ((k : Hole) → occurs k d.parts ≡ true → IsGood S (fill k)) → (u : Term) → Reads (answers f m).Alias fill d.parts u → IsGoodGoal S d.kind u) fit.rule.preds i q
-                (preds_good S (answers f m).Alias (answers_sound f m).one (aliases_good raw item f of m below) raw impl fill has.2.0 fit.rule has.2.1) at (λ k o. (filled k (by_key k o)).good) u r;
+                each_get (λ (d : Asked). ((k : Hole) → occurs k d.parts ≡ true → IsGood (fill k)) → (u : Term) → Reads (answers f m).Alias fill d.parts u → IsGoodGoal d.kind u) fit.rule.preds i q
+                (preds_good (answers f m).Alias (answers_sound f m).one (aliases_good raw item f of m) raw impl fill has.2.0 fit.rule has.2.1) at (λ k o. (filled k (by_key k o)).good) u r;
           })

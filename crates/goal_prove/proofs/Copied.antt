@@ -2,7 +2,6 @@
 use Rattle.std.specs.Prelude.{◌≡◌, ◌⊎◌, ℕ, true, List, [], ◌∷◌, map, Option, Some, None, refl}
 use Rattle.std.proofs.Common.{inl, inr, sym, ap, ◌∙◌, subst}
 use Rattle.std.proofs.lemmas.Option.{same_Some}
-use Rattle.hir_types.specs.declared.ids.TypeAliasId.{TypeAliasId}
 use Rattle.hir_types.specs.declared.head.Head.{Head}
 use Rattle.hir_types.specs.declared.head.Head.TheVariants as head
 use Rattle.hir_types.specs.declared.ty.AliasBound.{AliasBound}
@@ -14,7 +13,7 @@ use Rattle.hir_types.specs.declared.ty.GenericArg.TheVariants as arg
 use Rattle.hir_types.specs.declared.ty.TraitRef.{TraitRef}
 use Rattle.hir_types.specs.declared.ty.Ty.{Ty, Ty-F, out-Ty}
 use Rattle.hir_types.specs.Folds.{in_ty}
-use Rattle.hir_types.specs.Terms.{Term, hole, leaf, pair, chain, const_term, type_part, term, arg_term, ty_step}
+use Rattle.hir_types.specs.Terms.{Term, hole, leaf, pair, const_term, type_part, term, arg_term, ty_step}
 use Rattle.hir_types.specs.TermLaws.{terms, arg_term_type, arg_term_const}
 use Rattle.infer_table.specs.TermLemmas.{pair_left, pair_right}
 use Rattle.hir_raw.specs.declared.raw.RawFacts.{RawFacts}
@@ -32,10 +31,9 @@ use Rattle.goal_search.specs.Searching.{IsDone}
 use Rattle.goal_search.proofs.Heads.{reads_itself}
 use Rattle.goal_select.proofs.PartChoices.{parts_proved}
 use Rattle.goal_select.proofs.PartSteps.{type_is}
-use Rattle.goal_prove.specs.Staying.{Mark, unmarked, stays, mark, unbound, IsValid, IsOfType, AreOfArgs, IsGood, AreGood, IsGoodGoal}
-use Rattle.goal_prove.specs.Asking.{deep_stays, IsAsked, FitsNot, PredIsAsked, IsSourced}
+use Rattle.goal_prove.specs.Written.{IsWhole, IsOfType, AreOfArgs, IsGood, AreGood, IsGoodGoal}
+use Rattle.goal_prove.specs.Asking.{IsAsked, FitsNot, PredIsAsked, IsSourced}
 use Rattle.goal_prove.specs.Parts.{CopiesAre}
-use Rattle.goal_prove.proofs.Unbound.{unbound_by, second_valid, first_valid}
 use Rattle.goal_prove.proofs.TypeTerms.{AreArgs, tuple_args}
 use Rattle.goal_prove.proofs.Sources.{split_args}
 
@@ -46,106 +44,76 @@ array_step _ c e = cc
 array_args : (u : Ty) (c : Term) → pair (leaf head.Array) c ≡ term u → AreArgs c
 array_args u c e = array_step (out-Ty u) c (sym (type_is u) ∙ sym e)
 
-module _ (S : TypeAliasId → Term → Type 0) where
-  -- ---- the types among arguments
+-- ---- the types among arguments
 
-  rest_args : (a b : Term) → mark a ≡ unmarked → AreOfArgs (pair a b) → AreOfArgs b
-  rest_args a b m ([], e) = let f : unbound_by (mark a) a b ≡ leaf head.End = e in let g : pair (unbound a) (unbound b) ≡ leaf head.End = subst (λ x. unbound_by x a b ≡ leaf head.End) m f in cc
-  rest_args a b m (x ∷ xs, e) = (xs, pair_right (subst (λ y. unbound_by y a b ≡ pair (arg_term x) (chain (map arg_term xs))) m e))
+rest_args : (a b : Term) → AreOfArgs (pair a b) → AreOfArgs b
+rest_args a b ([], e) = cc
+rest_args a b (x ∷ xs, e) = (xs, pair_right e)
 
-  part_good : (a b : Term) (o : Option (List Term)) → AreOfArgs (pair a b) → IsValid S (pair a b) → (AreOfArgs b → (us : List Term) → o ≡ Some us → Each (IsGood S) us) → (ts : List Term) → with_part a o ≡ Some ts → Each (IsGood S) ts
-  part_good (pair (leaf head.TypePart) t) b (Some us) args valid h ts e =
-      let s = split_args t b args in
-      subst (Each (IsGood S)) (same_Some (t ∷ us) ts e) (record { type = s.0; valid = valid.0.1 }, h s.1 us refl)
-  part_good (pair (leaf head.ConstPart) t) b (Some us) args valid h ts e = subst (Each (IsGood S)) (same_Some us ts e) (h (rest_args (pair (leaf head.ConstPart) t) b refl args) us refl)
-  part_good _ b o args valid h ts e = cc
+part_good : (a b : Term) (o : Option (List Term)) → AreOfArgs (pair a b) → IsWhole (pair a b) → (AreOfArgs b → (us : List Term) → o ≡ Some us → Each IsGood us) → (ts : List Term) → with_part a o ≡ Some ts → Each IsGood ts
+part_good (pair (leaf head.TypePart) t) b (Some us) args whole h ts e =
+    let s = split_args t b args in
+    subst (Each IsGood) (same_Some (t ∷ us) ts e) (record { type = s.0; whole = whole.0.1 }, h s.1 us refl)
+part_good (pair (leaf head.ConstPart) t) b (Some us) args whole h ts e = subst (Each IsGood) (same_Some us ts e) (h (rest_args (pair (leaf head.ConstPart) t) b args) us refl)
+part_good _ b o args whole h ts e = cc
 
-  types_good : (parts : Term) → AreOfArgs parts → IsValid S parts → (ts : List Term) → types_of parts ≡ Some ts → Each (IsGood S) ts
-  types_good (hole k) args valid ts e = cc
-  types_good (leaf h) args valid ts e = subst (Each (IsGood S)) (same_Some [] ts e) tt
-  types_good (pair a b) args valid ts e = part_good a b (types_of b) args valid (λ more us same. types_good b more (second_valid S a b valid) us same) ts e
+types_good : (parts : Term) → AreOfArgs parts → IsWhole parts → (ts : List Term) → types_of parts ≡ Some ts → Each IsGood ts
+types_good (hole k) args whole ts e = cc
+types_good (leaf h) args whole ts e = subst (Each IsGood) (same_Some [] ts e) tt
+types_good (pair a b) args whole ts e = part_good a b (types_of b) args whole (λ more us same. types_good b more whole.1 us same) ts e
 
-  -- ---- the parts of a type
+-- ---- the parts of a type
 
-  end_good : (parts : Term) → leaf head.End ≡ parts → AreGood S parts
-  end_good parts e = subst (AreGood S) e (record { args = ([], refl); valid = tt })
+end_good : (parts : Term) → leaf head.End ≡ parts → AreGood parts
+end_good parts e = subst AreGood e (record { args = ([], refl); whole = tt })
 
-  head_good : (h : Head) (ps parts : Term) → IsOfType (pair (leaf h) ps) → IsValid S (pair (leaf h) ps) → copied_head h ps ≡ with_parts parts → AreGood S parts
-  head_good head.Never ps parts t v e = end_good parts (let same : leaf head.End ≡ parts = cc in same)
-  head_good (head.FnDef id) ps parts t v e = end_good parts (let same : leaf head.End ≡ parts = cc in same)
-  head_good (head.FnPtr s) ps parts t v e = end_good parts (let same : leaf head.End ≡ parts = cc in same)
-  head_good (head.RawPtr m) ps parts t v e = end_good parts (let same : leaf head.End ≡ parts = cc in same)
-  head_good (head.Ref mutability.Not) ps parts t v e = end_good parts (let same : leaf head.End ≡ parts = cc in same)
-  head_good head.Tuple ps parts t v e = let same : ps ≡ parts = cc in subst (AreGood S) same (record { args = tuple_args t.0 (unbound ps) t.1; valid = v.1 })
-  head_good head.Array ps parts t v e = let same : ps ≡ parts = cc in subst (AreGood S) same (record { args = array_args t.0 (unbound ps) t.1; valid = v.1 })
-  head_good _ ps parts t v e = cc
+head_good : (h : Head) (ps parts : Term) → IsOfType (pair (leaf h) ps) → IsWhole (pair (leaf h) ps) → copied_head h ps ≡ with_parts parts → AreGood parts
+head_good head.Never ps parts t v e = end_good parts (let same : leaf head.End ≡ parts = cc in same)
+head_good (head.FnDef id) ps parts t v e = end_good parts (let same : leaf head.End ≡ parts = cc in same)
+head_good (head.FnPtr s) ps parts t v e = end_good parts (let same : leaf head.End ≡ parts = cc in same)
+head_good (head.RawPtr m) ps parts t v e = end_good parts (let same : leaf head.End ≡ parts = cc in same)
+head_good (head.Ref mutability.Not) ps parts t v e = end_good parts (let same : leaf head.End ≡ parts = cc in same)
+head_good head.Tuple ps parts t v e = let same : ps ≡ parts = cc in subst AreGood same (record { args = tuple_args t.0 ps t.1; whole = v.1 })
+head_good head.Array ps parts t v e = let same : ps ≡ parts = cc in subst AreGood same (record { args = array_args t.0 ps t.1; whole = v.1 })
+head_good _ ps parts t v e = cc
 
-  copied_good : (u parts : Term) → IsOfType u → IsValid S u → copied u ≡ with_parts parts → AreGood S parts
-  copied_good (pair (leaf h) ps) parts t v e = head_good h ps parts t v e
-  copied_good (pair (hole k) ps) parts t v e = cc
-  copied_good (pair (pair a b) ps) parts t v e = cc
-  copied_good (leaf h) parts t v e = cc
-  copied_good (hole k) parts t v e = cc
+copied_good : (u parts : Term) → IsOfType u → IsWhole u → copied u ≡ with_parts parts → AreGood parts
+copied_good (pair (leaf h) ps) parts t v e = head_good h ps parts t v e
+copied_good (pair (hole k) ps) parts t v e = cc
+copied_good (pair (pair a b) ps) parts t v e = cc
+copied_good (leaf h) parts t v e = cc
+copied_good (hole k) parts t v e = cc
 
-  -- ---- the self type
+-- ---- the self type
 
-  const_not : (c : Const) (h : Head) (ps : Term) → pair (leaf h) ps ≡ const_term c → (parts : Term) → copied_head h ps ≡ with_parts parts → ⊥
-  const_not (const.Value n) h ps e parts k = let same : h ≡ head.Value n = cc in let kk : copied_head (head.Value n) ps ≡ with_parts parts = subst (λ x. copied_head x ps ≡ with_parts parts) same k in cc
-  const_not (const.Param n) h ps e parts k = let same : h ≡ head.ConstParam n = cc in let kk : copied_head (head.ConstParam n) ps ≡ with_parts parts = subst (λ x. copied_head x ps ≡ with_parts parts) same k in cc
-  const_not const.Unknown h ps e parts k = let same : h ≡ head.UnknownConst = cc in let kk : copied_head head.UnknownConst ps ≡ with_parts parts = subst (λ x. copied_head x ps ≡ with_parts parts) same k in cc
-  const_not (const.Var n) h ps e parts k = cc
-  const_not const.Hole h ps e parts k = let same : h ≡ head.ConstHole = cc in let kk : copied_head head.ConstHole ps ≡ with_parts parts = subst (λ x. copied_head x ps ≡ with_parts parts) same k in cc
+const_not : (c : Const) (h : Head) (ps : Term) → pair (leaf h) ps ≡ const_term c → (parts : Term) → copied_head h ps ≡ with_parts parts → ⊥
+const_not (const.Value n) h ps e parts k = let same : h ≡ head.Value n = cc in let kk : copied_head (head.Value n) ps ≡ with_parts parts = subst (λ x. copied_head x ps ≡ with_parts parts) same k in cc
+const_not (const.Param n) h ps e parts k = let same : h ≡ head.ConstParam n = cc in let kk : copied_head (head.ConstParam n) ps ≡ with_parts parts = subst (λ x. copied_head x ps ≡ with_parts parts) same k in cc
+const_not const.Unknown h ps e parts k = let same : h ≡ head.UnknownConst = cc in let kk : copied_head head.UnknownConst ps ≡ with_parts parts = subst (λ x. copied_head x ps ≡ with_parts parts) same k in cc
+const_not (const.Var n) h ps e parts k = cc
+const_not const.Hole h ps e parts k = let same : h ≡ head.ConstHole = cc in let kk : copied_head head.ConstHole ps ≡ with_parts parts = subst (λ x. copied_head x ps ≡ with_parts parts) same k in cc
 
-  read_head : (h : Head) (ps parts : Term) → copied_head h ps ≡ with_parts parts → mark (leaf h) ≡ unmarked
-  read_head (head.Bound k) ps parts e = cc
-  read_head _ ps parts e = refl
+no_const : (c : Const) (u parts : Term) → u ≡ const_term c → copied u ≡ with_parts parts → ⊥
+no_const c (pair (leaf h) ps) parts e k = const_not c h ps e parts k
+no_const c (pair (hole j) ps) parts e k = cc
+no_const c (pair (pair a b) ps) parts e k = cc
+no_const c (leaf h) parts e k = cc
+no_const c (hole j) parts e k = cc
 
-  no_const : (c : Const) (u parts : Term) → unbound u ≡ const_term c → copied u ≡ with_parts parts → ⊥
-  no_const c (pair (leaf h) ps) parts e k =
-      let m = read_head h ps parts k in
-      const_not c h (unbound ps) (subst (λ x. unbound_by x (leaf h) ps ≡ const_term c) m e) (again h ps parts k) (again_is h ps parts k)
-    where
-      again : (h : Head) (ps parts : Term) → copied_head h ps ≡ with_parts parts → Term
-      again head.Tuple ps parts k = unbound ps
-      again head.Array ps parts k = unbound ps
-      again _ ps parts k = leaf head.End
+arg_is : (m u : Term) (x : GenericArg) (parts : Term) → pair m u ≡ arg_term x → copied u ≡ with_parts parts → IsOfType u
+arg_is m u (arg.Ty t) parts e k = (t, pair_right (e ∙ arg_term_type t))
+arg_is m u (arg.Const c) parts e k = absurd (no_const c u parts (pair_right (e ∙ arg_term_const c)) k)
 
-      again_is : (h : Head) (ps parts : Term) → (k : copied_head h ps ≡ with_parts parts) → copied_head h (unbound ps) ≡ with_parts (again h ps parts k)
-      again_is head.Never ps parts k = refl
-      again_is (head.FnDef id) ps parts k = refl
-      again_is (head.FnPtr s) ps parts k = refl
-      again_is (head.RawPtr m) ps parts k = refl
-      again_is (head.Ref mutability.Not) ps parts k = refl
-      again_is head.Tuple ps parts k = refl
-      again_is head.Array ps parts k = refl
-      again_is _ ps parts k = cc
-  no_const c (pair (hole j) ps) parts e k = cc
-  no_const c (pair (pair a b) ps) parts e k = cc
-  no_const c (leaf h) parts e k = cc
-  no_const c (hole j) parts e k = cc
-
-  arg_is : (m u : Term) (x : GenericArg) (parts : Term) → unbound (pair m u) ≡ arg_term x → copied u ≡ with_parts parts → IsOfType u
-  arg_is m u (arg.Ty t) parts e k = by_mark (mark m) (e ∙ arg_term_type t)
-    where
-      by_mark : (y : Mark) → unbound_by y m u ≡ type_part (term t) → IsOfType u
-      by_mark unmarked f = (t, pair_right f)
-      by_mark (stays j) f = cc
-  arg_is m u (arg.Const c) parts e k = by_mark (mark m) (e ∙ arg_term_const c)
-    where
-      by_mark : (y : Mark) → unbound_by y m u ≡ pair (leaf head.ConstPart) (const_term c) → IsOfType u
-      by_mark unmarked f = absurd (no_const c u parts (pair_right f) k)
-      by_mark (stays j) f = cc
-
-  pub self_good : (w parts : Term) → AreGood S w → copied (self_type w) ≡ with_parts parts → AreGood S parts
-  self_good (pair (pair m u) b) parts g k = by_args g.args
-    where
-      by_args : AreOfArgs (pair (pair m u) b) → AreGood S parts
-      by_args ([], e) = cc
-      by_args (x ∷ xs, e) = copied_good u parts (arg_is m u x parts (pair_left e) k) (second_valid S m u (first_valid S (pair m u) b g.valid)) k
-  self_good (pair (leaf h) b) parts g k = cc
-  self_good (pair (hole j) b) parts g k = cc
-  self_good (leaf h) parts g k = cc
-  self_good (hole j) parts g k = cc
+pub self_good : (w parts : Term) → AreGood w → copied (self_type w) ≡ with_parts parts → AreGood parts
+self_good (pair (pair m u) b) parts g k = by_args g.args
+  where
+    by_args : AreOfArgs (pair (pair m u) b) → AreGood parts
+    by_args ([], e) = cc
+    by_args (x ∷ xs, e) = copied_good u parts (arg_is m u x parts (pair_left e) k) g.whole.0.1 k
+self_good (pair (leaf h) b) parts g k = cc
+self_good (pair (hole j) b) parts g k = cc
+self_good (leaf h) parts g k = cc
+self_good (hole j) parts g k = cc
 
 -- ---- what is read of them
 
@@ -200,18 +168,15 @@ copy_parts f Y c w y = by_copied (copied (self_type w)) refl y.1
     by_copied by_impls e h = absurd h
     by_copied unclear e h = absurd h
 
-only_good : (S : TypeAliasId → Term → Type 0) (f : System) (c : Kind) (t : Term) → is_among f.copied c ≡ true → IsGood S t → IsGoodGoal S c (only t)
-only_good S f (implements id) t e g = record { goal = (arg.Ty g.type.0 ∷ [], λ i. pair ((ap type_part g.type.1 ∙ sym (arg_term_type g.type.0)) i) (leaf head.End)); valid = ((tt, g.valid), tt) }
-only_good S f (projects k) t e g = cc
+only_good : (f : System) (c : Kind) (t : Term) → is_among f.copied c ≡ true → IsGood t → IsGoodGoal c (only t)
+only_good f (implements id) t e g = record { goal = (arg.Ty g.type.0 ∷ [], λ i. pair ((ap type_part g.type.1 ∙ sym (arg_term_type g.type.0)) i) (leaf head.End)); whole = ((tt, g.whole), tt) }
+only_good f (projects k) t e g = cc
 
-trait_good : (S : TypeAliasId → Term → Type 0) (f : System) (c : Kind) (w : Term) → is_among f.copied c ≡ true → IsGoodGoal S c w → AreGood S w
-trait_good S f (implements id) w e g = record { args = g.goal; valid = g.valid }
-trait_good S f (projects k) w e g = cc
+trait_good : (f : System) (c : Kind) (w : Term) → is_among f.copied c ≡ true → IsGoodGoal c w → AreGood w
+trait_good f (implements id) w e g = record { args = g.goal; whole = g.whole }
+trait_good f (projects k) w e g = cc
 
 module _ (raw : RawFacts) (f : System) (n : ℕ) (c : Kind) (w : Term) (asked : IsAsked raw f n c w) (sourced : IsSourced raw f n c w) (unfit : Each (FitsNot (answers f n).Alias (known_below f n) c w) f.rules) where
-  abbrev S : TypeAliasId → Term → Type 0
-  S = deep_stays raw f
-
   by_no_rule : SomeOf (Proves (answers f n).Alias (known_below f n).Yes c w) f.rules → ⊥
   by_no_rule h = some_each (λ r p x. x p.kind p.at (record { told = p.told; part = p.head; preds = p.preds })) f.rules h unfit
 
@@ -224,21 +189,21 @@ module _ (raw : RawFacts) (f : System) (n : ℕ) (c : Kind) (w : Term) (asked : 
   has_parts none = let q = copy_parts f (known_below f n).Yes c w (copy_yes sourced.source) in none q.0 q.1
 
   module _ (among : is_among f.copied c ≡ true) where
-    goals_asked : (ts : List Term) → Each IsDone ts → Each (IsGood S) ts → Each (λ t. (known_below f n).Yes (record { kind = c; parts = only t })) ts → Each (PredIsAsked raw f n hole) (map (λ t. record { kind = c; parts = only t }) ts)
+    goals_asked : (ts : List Term) → Each IsDone ts → Each IsGood ts → Each (λ t. (known_below f n).Yes (record { kind = c; parts = only t })) ts → Each (PredIsAsked raw f n hole) (map (λ t. record { kind = c; parts = only t }) ts)
     goals_asked [] d g y = tt
     goals_asked (t ∷ ts) d g y = (
       record {
         done = record { heads = (refl, (tt, tt, d.0.heads), tt); fills = λ k o. record { read = tt; heads = tt } };
         yes = subst (known_below f n).Yes (sym (λ i. record { kind = c; parts = apply_hole (only t) i })) y.0;
-        good = λ m u e r. subst (IsGoodGoal S c) (sym (reads_itself (answers f m).Alias (only t) u ((tt, d.0.read), tt) r)) (only_good S f c t among g.0);
+        good = λ m u e r. subst (IsGoodGoal c) (sym (reads_itself (answers f m).Alias (only t) u ((tt, d.0.read), tt) r)) (only_good f c t among g.0);
       },
       goals_asked ts d.1 g.1 y.1,
     )
 
   pub parts_asked : (gs : List Asked) → CopiesAre f c w (Some gs) → Each (PredIsAsked raw f n hole) gs
   parts_asked gs (ts, copies, are) =
-      let good = self_good S w copies.parts (trait_good S f c w copies.among asked.good) copies.copied in
+      let good = self_good w copies.parts (trait_good f c w copies.among asked.good) copies.copied in
       let done = copied_done (self_type w) copies.parts (self_done w asked.done) copies.copied in
       subst (Each (PredIsAsked raw f n hole)) (sym are)
-      (goals_asked copies.among ts (types_done copies.parts done ts copies.types) (types_good S copies.parts good.args good.valid ts copies.types)
+      (goals_asked copies.among ts (types_done copies.parts done ts copies.types) (types_good copies.parts good.args good.whole ts copies.types)
       (parts_proved f (known_below f n).Yes c w ts copies (copy_yes sourced.source)))

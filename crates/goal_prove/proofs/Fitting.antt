@@ -1,12 +1,12 @@
 -- What the sources of a goal that is read tell of a goal that reads so.
-use Rattle.std.specs.Prelude.{◌≡◌, ◌⊎◌, ◌≤◌, ℕ, zero, suc, Bool, true, false, [], refl}
+use Rattle.std.specs.Prelude.{◌≡◌, ◌⊎◌, ◌≤◌, ℕ, zero, suc, Bool, true, false, List, [], refl}
 use Rattle.std.proofs.Common.{inl, inr, sym, subst, arith}
-use Rattle.hir_types.specs.declared.ids.TypeAliasId.{TypeAliasId}
+use Rattle.hir_types.specs.declared.ids.TraitId.{TraitId}
 use Rattle.hir_types.specs.declared.ids.GenericDefId.{GenericDefId}
 use Rattle.hir_types.specs.declared.goal.Goal.{Goal}
 use Rattle.hir_types.specs.Terms.{Term}
 use Rattle.hir_raw.specs.declared.raw.RawFacts.{RawFacts}
-use Rattle.goal_answers.specs.Reading.{Fill, IsFilling, staying, Aliases, Reads, ReadsAs}
+use Rattle.goal_answers.specs.Reading.{Fill, IsFilling, Aliases, Reads, ReadsAs}
 use Rattle.goal_answers.specs.Goals.{Kind, implements, projects, Asked, Rule, System, asked_at, key, only, self_type, IsKnown, is_among, OneIf, Each, SomeOf, Verdicts}
 use Rattle.goal_answers.specs.Answers.{Proves, Shadows, ShadowsNot, IsItself, HasSource, YesAt, nothing, answers}
 use Rattle.goal_answers.specs.Rows.{SizedYes, CopyYes}
@@ -21,9 +21,7 @@ use Rattle.goal_facts.specs.Proofs.{filled_goal, IsUnshadowed, MayHaveSource}
 use Rattle.goal_facts.specs.Systems.{IsSystemOf}
 use Rattle.goal_select.proofs.Choices.{within}
 use Rattle.goal_select.proofs.Clauses.{IsClosedFact}
-use Rattle.goal_prove.specs.Staying.{Stays, IsValid}
-use Rattle.goal_prove.specs.Asking.{deep_alias, deep_stays, ReadsTo, IsAsked, IsFree, FitsNot, IsSourced}
-use Rattle.goal_prove.proofs.Unbound.{second_valid}
+use Rattle.goal_prove.specs.Asking.{deep_alias, ReadsTo, IsAsked, IsFree, FitsNot, IsSourced}
 use Rattle.goal_prove.proofs.Aliases.{clauses_closed}
 
 not_known : (f : System) (m : ℕ) → IsWithin (known_below f zero) (answers f m)
@@ -35,6 +33,11 @@ below_within f zero zero le = record { yes = λ g h. h; no = λ g h. h; alias = 
 below_within f zero (suc m) le = not_known f m
 below_within f (suc n) zero le = absurd (omega (arith, le))
 below_within f (suc n) (suc m) le = within f n m (omega (arith, le))
+
+-- a goal about such a trait is no projection
+pub trait_not_itself : (ts : List TraitId) (c : Kind) (w : Term) → is_among ts c ≡ true → IsItself c w → ⊥
+trait_not_itself ts (implements t) w e i = i
+trait_not_itself ts (projects k) w e i = cc
 
 module _ (raw : RawFacts) (item : GenericDefId) (f : System) (of : IsSystemOf raw item f) (n : ℕ) (le : n ≤ raw.limits.goal_depth) (c : Kind) (w : Term) (asked : IsAsked raw f n c w) where
   abbrev deep : ℕ
@@ -81,19 +84,14 @@ module _ (raw : RawFacts) (item : GenericDefId) (f : System) (of : IsSystemOf ra
         let head : Reads P s.at r.head.parts w = subst (λ x. Reads P s.at (key x r.head.parts) (key x w)) e s.head in
         h s.kind s.at (record { told = s.told; part = head; preds = subst (Each (λ q. (known_below f deep).Yes (asked_at s.at q))) (sym closed.preds) tt })
 
-    itself_free : (k : TypeAliasId) → c ≡ projects k → IsItself (projects k) w → IsFree raw f c w
-    itself_free k e (x, is) =
-        let valid = subst (IsValid (deep_stays raw f)) is asked.good.valid in
-        let stays : Stays f P k x = (second_valid (deep_stays raw f) x (staying k x) valid).0 in
-        subst (λ d. IsFree raw f d w) (sym e) (subst (IsFree raw f (projects k)) (sym is) stays.unclaimed)
+    -- but one whose two sides are the same, of which a clause may say something else
+    free_by : (d : Kind) → c ≡ d → (IsItself d w → ⊥) → YesAt f A v d w → IsFree raw f c w
+    free_by (implements t) e other y = each_map (of_trait t e) f.clauses both
+    free_by (projects k) e other (known, inl i) = absurd (other i)
+    free_by (projects k) e other (known, inr h) = source_free (subst (λ d. HasSource f A v d w) (sym e) h)
 
-    free_by : (d : Kind) → c ≡ d → YesAt f A v d w → IsFree raw f c w
-    free_by (implements t) e y = each_map (of_trait t e) f.clauses both
-    free_by (projects k) e (known, inl i) = itself_free k e i
-    free_by (projects k) e (known, inr h) = source_free (subst (λ d. HasSource f A v d w) (sym e) h)
-
-    pub free : IsFree raw f c w
-    free = free_by c refl asked.yes
+    pub free : (IsItself c w → ⊥) → IsFree raw f c w
+    free other = free_by c refl other asked.yes
 
     -- ---- what is left to prove it
 
@@ -110,7 +108,7 @@ module _ (raw : RawFacts) (item : GenericDefId) (f : System) (of : IsSystemOf ra
     source_by unsized other (known, inr h) = source_is (by_size (is_among f.sized c) unsized h)
 
     pub sourced : is_among f.sized c ≡ false → (IsItself c w → ⊥) → IsSourced raw f n c w
-    sourced unsized other = record { free = free; unsized = unsized; source = source_by unsized other asked.yes }
+    sourced unsized other = record { free = free other; unsized = unsized; source = source_by unsized other asked.yes }
 
   -- ---- a goal that reads so
 

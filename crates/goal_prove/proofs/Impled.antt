@@ -8,9 +8,8 @@ use Rattle.hir_types.specs.declared.ids.TypeRefId.{TypeRefId}
 use Rattle.hir_types.specs.declared.head.Head.TheVariants as head
 use Rattle.hir_types.specs.declared.head.Hole.{Hole}
 use Rattle.hir_types.specs.declared.head.Hole.TheVariants as hole_of
-use Rattle.hir_types.specs.declared.ty.GenericArg.{GenericArg}
 use Rattle.hir_types.specs.declared.ty.GenericArg.TheVariants as arg
-use Rattle.hir_types.specs.Terms.{Term, hole, leaf, pair, apply, occurs, term, chain, arg_term}
+use Rattle.hir_types.specs.Terms.{Term, hole, leaf, pair, apply, occurs, term}
 use Rattle.hir_raw.specs.declared.raw.RawTraitRef.{RawTraitRef}
 use Rattle.hir_raw.specs.declared.raw.RawAssocType.{RawAssocType}
 use Rattle.hir_raw.specs.declared.raw.RawGoal.{RawGoal}
@@ -31,9 +30,9 @@ use Rattle.goal_facts.proofs.Adding.{get_in_map}
 use Rattle.goal_facts.proofs.FreshGoals.{args_holes}
 use Rattle.goal_facts.proofs.Typed.{type_read_back}
 use Rattle.goal_select.proofs.Params.{counted_at}
-use Rattle.goal_prove.specs.Staying.{Mark, unmarked, stays, mark, unbound, IsOfType, IsGood, AreGood, IsGoodGoal, AliasIsGood}
+use Rattle.goal_prove.specs.Written.{IsOfType, IsGood, AreGood, IsGoodGoal, AliasIsGood}
 use Rattle.goal_prove.specs.Asking.{type_or_unknown, fill_args}
-use Rattle.goal_prove.proofs.Unbound.{unbound_by, ValidBy, unbound_stays}
+use Rattle.goal_prove.proofs.Holes.{whole_stays}
 use Rattle.goal_prove.proofs.TypeTerms.{no_leaf, args_role}
 use Rattle.goal_prove.proofs.Sources.{told_good}
 use Rattle.goal_prove.proofs.Aliases.{pred_good}
@@ -54,17 +53,8 @@ stands_occurs k (pair a b) s = by_role (role a) (stands_occurs k a) (stands_occu
 
 -- ---- the arguments of a projection
 
-not_chain : (k : TypeAliasId) (xs : List GenericArg) → leaf (head.Projection k) ≡ chain (map arg_term xs) → ⊥
-not_chain k [] e = cc
-not_chain k (x ∷ xs) e = cc
-
-module _ (S : TypeAliasId → Term → Type 0) where
-  pub args_of_projection : (k : TypeAliasId) (w u : Term) → IsGoodGoal S (projects k) (pair w u) → AreGood S w
-  args_of_projection k w u h = by_mark (mark w) h.goal.2 h.valid
-    where
-      by_mark : (m : Mark) → unbound_by m w u ≡ pair (chain (map arg_term h.goal.0)) (term h.goal.1) → ValidBy m S w u → AreGood S w
-      by_mark unmarked e v = record { args = (h.goal.0, pair_left e); valid = v.0 }
-      by_mark (stays j) e v = absurd (not_chain j h.goal.0 (pair_left e))
+pub args_of_projection : (k : TypeAliasId) (w u : Term) → IsGoodGoal (projects k) (pair w u) → AreGood w
+args_of_projection k w u h = record { args = (h.goal.0, pair_left h.goal.2); whole = h.whole.0 }
 
 -- ---- rules of impls
 
@@ -73,34 +63,34 @@ rule_cases raw p None i r at = cc
 rule_cases raw p (Some t) zero r at = (t, inl (same_Some (trait_rule raw p t) r at))
 rule_cases raw p (Some t) (suc i) r at = let q = get_in_map (assoc_rule raw p t) p.types i r at in (t, inr (q.0, q.2))
 
-module _ (S : TypeAliasId → Term → Type 0) (A : Aliases) (one : IsOne A) (alias_good : AliasIsGood S A) (raw : RawFacts) (p : RawImpl) (at : Fill) where
+module _ (A : Aliases) (one : IsOne A) (alias_good : AliasIsGood A) (raw : RawFacts) (p : RawImpl) (at : Fill) where
   abbrev n : ℕ
   n = length p.params
 
   -- a hole that the key tells stands for a type, and is that of a parameter
   pub record IsFilled (k : Hole) : Type 0 where
-    pub good : IsGood S (at k)
+    pub good : IsGood (at k)
     pub number : ℕ
     pub below : number < n
     pub is : k ≡ hole_of.Ty number
 
-  args_filled : (ws : List TypeRefId) (w : Term) → Reads A at (args_at raw (holes n) ws) w → AreGood S w → (k : Hole) → stands k (args_at raw (holes n) ws) ≡ true → IsFilled k
+  args_filled : (ws : List TypeRefId) (w : Term) → Reads A at (args_at raw (holes n) ws) w → AreGood w → (k : Hole) → stands k (args_at raw (holes n) ws) ≡ true → IsFilled k
   args_filled ws w reads good k s =
       let q = args_holes raw n ws k (stands_occurs k (args_at raw (holes n) ws) s) in
-      record { good = told_good S A one alias_good raw n ws at w reads good k s; number = q.0; below = q.1; is = q.2 }
+      record { good = told_good A one alias_good raw n ws at w reads good k s; number = q.0; below = q.1; is = q.2 }
 
   abbrev Filled : Rule → Term → Type 0
-  Filled r w = Reads A at r.head.parts w → IsGoodGoal S r.head.kind w → (k : Hole) → stands k (key r.head.kind r.head.parts) ≡ true → IsFilled k
+  Filled r w = Reads A at r.head.parts w → IsGoodGoal r.head.kind w → (k : Hole) → stands k (key r.head.kind r.head.parts) ≡ true → IsFilled k
 
   trait_filled : (t : RawTraitRef) (w : Term) → Filled (trait_rule raw p t) w
-  trait_filled t w reads good k s = args_filled (p.self_ ∷ arg_types t.args) w reads (record { args = good.goal; valid = good.valid }) k s
+  trait_filled t w reads good k s = args_filled (p.self_ ∷ arg_types t.args) w reads (record { args = good.goal; whole = good.whole }) k s
 
   assoc_filled : (t : RawTraitRef) (x : RawAssocType) (w : Term) → Filled (assoc_rule raw p t x) w
   assoc_filled t x w reads good k s =
       let ws = p.self_ ∷ arg_types t.args in
       let Q : Role → Type 0 = λ z. ReadsBy z A at (args_at raw (holes n) ws) (type_at raw (holes n) x.ty) w in
       let r = subst Q (args_role raw n ws) reads in
-      args_filled ws r.0 r.3 (args_of_projection S x.alias r.0 r.1 (subst (IsGoodGoal S (projects x.alias)) r.2 good)) k s
+      args_filled ws r.0 r.3 (args_of_projection x.alias r.0 r.1 (subst (IsGoodGoal (projects x.alias)) r.2 good)) k s
 
   filled_by : (t : RawTraitRef) (r : Rule) (w : Term) → (trait_rule raw p t ≡ r) ⊎ ((x : RawAssocType) × (assoc_rule raw p t x ≡ r)) → Filled r w
   filled_by t r w (inl e) = subst (λ x. Filled x w) e (trait_filled t w)
@@ -111,11 +101,11 @@ module _ (S : TypeAliasId → Term → Type 0) (A : Aliases) (one : IsOne A) (al
 
   -- its predicates, of which each hole is told
   abbrev PredsGood : List Asked → Type 0
-  PredsGood qs = Each (λ (q : Asked). ((k : Hole) → occurs k q.parts ≡ true → IsGood S (at k)) → (u : Term) → Reads A at q.parts u → IsGoodGoal S q.kind u) qs
+  PredsGood qs = Each (λ (q : Asked). ((k : Hole) → occurs k q.parts ≡ true → IsGood (at k)) → (u : Term) → Reads A at q.parts u → IsGoodGoal q.kind u) qs
 
   written_good : (gs : List RawGoal) → PredsGood (map (goal_at raw (holes n)) gs)
   written_good [] = tt
-  written_good (g ∷ gs) = (λ h u r. pred_good S A alias_good raw n at g h u r, written_good gs)
+  written_good (g ∷ gs) = (λ h u r. pred_good A alias_good raw n at g h u r, written_good gs)
 
   preds_by : (t : RawTraitRef) (r : Rule) → (trait_rule raw p t ≡ r) ⊎ ((x : RawAssocType) × (assoc_rule raw p t x ≡ r)) → PredsGood r.preds
   preds_by t r (inl e) = subst (λ (x : Rule). PredsGood x.preds) e (written_good p.preds)
@@ -126,16 +116,16 @@ module _ (S : TypeAliasId → Term → Type 0) (A : Aliases) (one : IsOne A) (al
 
 -- ---- the arguments, as types
 
-type_back : (o : Option Term) → IsOfType (given o) → term (type_or_unknown o) ≡ unbound (given o)
-type_back (Some t) is = sym (type_read_back (unbound t) is)
+type_back : (o : Option Term) → IsOfType (given o) → term (type_or_unknown o) ≡ given o
+type_back (Some t) is = sym (type_read_back t is)
 type_back None is = absurd (no_leaf head.End is.0 is.1)
 
-module _ (S : TypeAliasId → Term → Type 0) (l : Log) (n : ℕ) (s : Fill) where
+module _ (l : Log) (n : ℕ) (s : Fill) where
   -- for a parameter's hole stands its type
-  pub fill_is : (k : Hole) (j : ℕ) → j < n → k ≡ hole_of.Ty j → IsGood S (fill_of l k) → args_fill s (fill_args l n) k ≡ unbound (fill_of l k)
+  pub fill_is : (k : Hole) (j : ℕ) → j < n → k ≡ hole_of.Ty j → IsGood (fill_of l k) → args_fill s (fill_args l n) k ≡ fill_of l k
   fill_is k j less e good =
       let e0 : 0 + j ≡ j = omega arith in
-      let P : Hole → Type 0 = λ x. IsGood S (fill_of l x) → args_fill s (fill_args l n) x ≡ unbound (fill_of l x) in
+      let P : Hole → Type 0 = λ x. IsGood (fill_of l x) → args_fill s (fill_args l n) x ≡ fill_of l x in
       subst P (sym e) (λ h.
       ap (λ o. arg_at s o (hole_of.Ty j)) (counted_at (λ m. arg.Ty (type_or_unknown (found l (hole_of.Ty m)))) 0 n j less ∙ ap (λ m. Some (arg.Ty (type_or_unknown (found l (hole_of.Ty m))))) e0)
-      ∙ (ap (apply s) (type_back (found l (hole_of.Ty j)) h.type) ∙ unbound_stays S s (fill_of l (hole_of.Ty j)) h.valid)) good
+      ∙ (ap (apply s) (type_back (found l (hole_of.Ty j)) h.type) ∙ whole_stays s (fill_of l (hole_of.Ty j)) h.whole)) good

@@ -1,6 +1,6 @@
 pub mod TypeTerms
 pub mod Adding
-pub mod Unbound
+pub mod Holes
 pub mod Shapes
 pub mod Told
 pub mod Sources

@@ -21,7 +21,7 @@ use Rattle.hir_raw.specs.declared.raw.RawFacts.{RawFacts}
 use Rattle.goal_answers.specs.Reading.{Fill, plain, role, MayRead, stands}
 use Rattle.goal_answers.proofs.Readings.{stands_by}
 use Rattle.goal_facts.specs.Arguments.{holes, type_at, args_at}
-use Rattle.goal_prove.specs.Staying.{unbound, IsOfType, AreOfArgs}
+use Rattle.goal_prove.specs.Written.{IsOfType, AreOfArgs}
 use Rattle.goal_prove.proofs.TypeTerms.{tuple_args, adt_args, arg_type, top_type, hole_at}
 use Rattle.goal_facts.proofs.Written.{parts_by, layer, by_layers, args_are}
 
@@ -46,20 +46,20 @@ module _ (raw : RawFacts) (n : ℕ) (p : Fill) where
       by_args : (v z : Term) → AreOfArgs (pair (type_part v) z) → MayRead p (f x) v → (AreOfArgs z → stands k (chain (map (λ x. type_part (f x)) xs)) ≡ true → IsOfType (p k))
           → (stands k (type_part (f x)) ≡ true) ⊎ (stands k (chain (map (λ x. type_part (f x)) xs)) ≡ true) → IsOfType (p k)
       by_args v z ([], e) m more o = cc
-      by_args v z (a ∷ rest, e) m more (inl o) = h x v m (arg_type (unbound v) a (pair_left e)) k o
+      by_args v z (a ∷ rest, e) m more (inl o) = h x v m (arg_type v a (pair_left e)) k o
       by_args v z (a ∷ rest, e) m more (inr o) = more (rest, pair_right e) o
 
   tuple_tells : (f : ℕ → Term) → ((j : ℕ) → Tells (f j)) → (ts : List TypeRefId) → Tells (node head.Tuple (parts_by f ts))
   tuple_tells f h ts u r is k s =
       let same : u ≡ pair (leaf head.Tuple) r.1 = r.2 ∙ ap (λ z. pair z r.1) r.3 in
       let here = subst IsOfType same is in
-      chain_tells (λ (t : TypeRefId). f t.0) (λ t. h t.0) ts r.1 r.4 (tuple_args here.0 (unbound r.1) here.1) k s
+      chain_tells (λ (t : TypeRefId). f t.0) (λ t. h t.0) ts r.1 r.4 (tuple_args here.0 r.1 here.1) k s
 
   adt_tells : (a : _) (f : ℕ → Term) → ((j : ℕ) → Tells (f j)) → (ts : List TypeRefId) → Tells (node (head.Adt a) (parts_by f ts))
   adt_tells a f h ts u r is k s =
       let same : u ≡ pair (leaf (head.Adt a)) r.1 = r.2 ∙ ap (λ z. pair z r.1) r.3 in
       let here = subst IsOfType same is in
-      chain_tells (λ (t : TypeRefId). f t.0) (λ t. h t.0) ts r.1 r.4 (adt_args a here.0 (unbound r.1) here.1) k s
+      chain_tells (λ (t : TypeRefId). f t.0) (λ t. h t.0) ts r.1 r.4 (adt_args a here.0 r.1 here.1) k s
 
   param_tells : (o : Option GenericArg) → ((x : GenericArg) → o ≡ Some x → (j : ℕ) × (arg.Ty (ty.Var j) ≡ x)) → Tells (term (type_of o))
   param_tells None h = subst Tells (sym term_error) (none_stands head.Error refl)

@@ -44,12 +44,12 @@ adt_step a _ c e = cc
 pub adt_args : (a : AdtId) (u : Ty) (c : Term) → pair (leaf (head.Adt a)) c ≡ term u → AreArgs c
 adt_args a u c e = adt_step a (out-Ty u) c (sym (type_is u) ∙ sym e)
 
-projection_step : (a : TypeAliasId) (x : Ty-F GenericArg Ty AliasBound TraitRef) (c : Term) → ty_step (in_ty terms x) ≡ pair (leaf (head.Projection a)) c → AreArgs c
-projection_step a (Ty-F.Projection id xs) c e = (xs, sym (pair_right e))
-projection_step a _ c e = cc
+associated_step : (a : TypeAliasId) (x : Ty-F GenericArg Ty AliasBound TraitRef) (c : Term) → ty_step (in_ty terms x) ≡ pair (leaf (head.AssociatedType a)) c → AreArgs c
+associated_step a (Ty-F.AssociatedType id xs) c e = (xs, sym (pair_right e))
+associated_step a _ c e = cc
 
-pub projection_args : (a : TypeAliasId) (u : Ty) (c : Term) → pair (leaf (head.Projection a)) c ≡ term u → AreArgs c
-projection_args a u c e = projection_step a (out-Ty u) c (sym (type_is u) ∙ sym e)
+pub associated_args : (a : TypeAliasId) (u : Ty) (c : Term) → pair (leaf (head.AssociatedType a)) c ≡ term u → AreArgs c
+associated_args a u c e = associated_step a (out-Ty u) c (sym (type_is u) ∙ sym e)
 
 leaf_step : (h : Head) (x : Ty-F GenericArg Ty AliasBound TraitRef) → ty_step (in_ty terms x) ≡ leaf h → ⊥
 leaf_step h (Ty-F.Var n) e = cc

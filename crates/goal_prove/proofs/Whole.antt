@@ -1,11 +1,11 @@
 -- A goal without holes whose answer is Yes, as it is read.
 use Rattle.std.specs.Prelude.{◌≡◌, ◌⊎◌, ◌+◌, ◌≤◌, ℕ, suc, refl}
-use Rattle.std.proofs.Common.{inl, inr, sym, ap₂, ◌∙◌, subst, arith}
+use Rattle.std.proofs.Common.{inl, inr, sym, ◌∙◌, subst, arith}
 use Rattle.hir_types.specs.declared.ids.GenericDefId.{GenericDefId}
 use Rattle.hir_types.specs.declared.goal.Goal.{Goal}
-use Rattle.hir_types.specs.Terms.{Term, hole, leaf, pair, apply}
+use Rattle.hir_types.specs.Terms.{Term, hole}
 use Rattle.hir_raw.specs.declared.raw.RawFacts.{RawFacts}
-use Rattle.goal_answers.specs.Reading.{Fill, ReadsAs}
+use Rattle.goal_answers.specs.Reading.{ReadsAs}
 use Rattle.goal_answers.specs.Goals.{Asked, System, asked_at}
 use Rattle.goal_answers.specs.Answers.{YesAt, answers}
 use Rattle.goal_answers.specs.Steps.{known_below}
@@ -23,16 +23,12 @@ use Rattle.goal_facts.specs.Goals.{asked_goal}
 use Rattle.goal_facts.specs.Systems.{IsSystemOf}
 use Rattle.goal_facts.proofs.Systems.{asked_itself}
 use Rattle.goal_select.proofs.Choices.{within}
-use Rattle.goal_prove.specs.Staying.{IsWritten}
-use Rattle.goal_prove.specs.Asking.{deep_alias, deep_stays, ReadsTo, IsAsked}
+use Rattle.goal_prove.specs.Written.{IsWritten}
+use Rattle.goal_prove.specs.Asking.{deep_alias, ReadsTo, IsAsked}
+use Rattle.goal_prove.proofs.Holes.{whole_stays, written_whole}
 use Rattle.goal_prove.proofs.Aliases.{aliases_good}
 use Rattle.goal_prove.proofs.Below.{yes_as}
 use Rattle.goal_prove.proofs.Typing.{goal_reads}
-
-written_stays : (s : Fill) (t : Term) → IsWritten t → apply s t ≡ t
-written_stays s (hole k) w = absurd w
-written_stays s (leaf h) w = refl
-written_stays s (pair a b) w = ap₂ pair (written_stays s a w.0) (written_stays s b w.1)
 
 module _ (raw : RawFacts) (item : GenericDefId) (f : System) (of : IsSystemOf raw item f) (heads : SystemHasHeads f) (n : ℕ) (le : n ≤ raw.limits.goal_depth) (g : Goal) (written : IsWritten (asked_goal g).parts) (yes : (answers f n).Yes (asked_goal g)) where
   -- it reads as something
@@ -43,7 +39,7 @@ module _ (raw : RawFacts) (item : GenericDefId) (f : System) (of : IsSystemOf ra
     pub whole_reads : ReadsTo raw f g (asked_goal g).kind w
     whole_reads = record {
       kind = refl;
-      reads = λ s filling. subst (λ t. ReadsAs (deep_alias raw f) t w) (sym (written_stays s (asked_goal g).parts written)) (reads_within (answers f n).Alias (deep_alias raw f) (within f n raw.limits.goal_depth le).alias hole (asked_goal g).parts w reads);
+      reads = λ s filling. subst (λ t. ReadsAs (deep_alias raw f) t w) (sym (whole_stays s (asked_goal g).parts (written_whole (asked_goal g).parts written))) (reads_within (answers f n).Alias (deep_alias raw f) (within f n raw.limits.goal_depth le).alias hole (asked_goal g).parts w reads);
     }
 
     pub whole_asked : HasHeads (asked_goal g).parts → IsAsked raw f n (asked_goal g).kind w
@@ -52,7 +48,7 @@ module _ (raw : RawFacts) (item : GenericDefId) (f : System) (of : IsSystemOf ra
         let same : y.target ≡ w = reads_one (answers f n).Alias (answers_sound f n).one hole (asked_goal g).parts y.target w y.reads reads in
         record {
           done = reading_done f heads n hole (asked_goal g).parts w h (λ k o. record { read = tt; heads = tt }) reads;
-          good = goal_reads (deep_stays raw f) (answers f n).Alias (aliases_good raw item f of n le) g written w reads;
+          good = goal_reads (answers f n).Alias (aliases_good raw item f of n) g written w reads;
           yes = subst (YesAt f (answers f n).Alias (known_below f n) (asked_goal g).kind) same y.yes;
           deep = y.deep;
         }

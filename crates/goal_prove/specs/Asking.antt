@@ -1,7 +1,6 @@
 -- What a step to a proof is asked, of goals that are read, and what it finds.
 use Rattle.std.specs.Prelude.{◌≡◌, ◌⊎◌, ℕ, suc, true, false, List, [], ◌∷◌, map, slice_get, Option, Some, None}
 use Rattle.std.specs.List.{range_with_len}
-use Rattle.hir_types.specs.declared.ids.TypeAliasId.{TypeAliasId}
 use Rattle.hir_types.specs.declared.goal.Goal.{Goal}
 use Rattle.hir_types.specs.declared.head.Hole.TheVariants as hole_of
 use Rattle.hir_types.specs.declared.ty.GenericArg.{GenericArg}
@@ -25,14 +24,11 @@ use Rattle.goal_facts.specs.Goals.{asked_goal}
 use Rattle.goal_facts.specs.Proofs.{filled_goal}
 use Rattle.goal_prove.specs.declared.fits.Found.{Found}
 use Rattle.goal_prove.specs.Entries.{AddsProofs, IsProofAt, IsProofAs}
-use Rattle.goal_prove.specs.Staying.{Stays, unbound, IsGoodGoal}
+use Rattle.goal_prove.specs.Written.{IsGoodGoal}
 
 -- at the depth to which the facts let goals be followed
 abbrev pub deep_alias : RawFacts → System → Aliases
 deep_alias raw f = (answers f raw.limits.goal_depth).Alias
-
-abbrev pub deep_stays : RawFacts → System → TypeAliasId → Term → Type 0
-deep_stays raw f = Stays f (deep_alias raw f)
 
 -- ---- goals that are read
 
@@ -44,7 +40,7 @@ pub record ReadsTo (raw : RawFacts) (f : System) (g : Goal) (c : Kind) (w : Term
 -- the answer at the depth is Yes, and what is read is right
 pub record IsAsked (raw : RawFacts) (f : System) (n : ℕ) (c : Kind) (w : Term) : Type 0 where
   pub done : IsDone w
-  pub good : IsGoodGoal (deep_stays raw f) c w
+  pub good : IsGoodGoal c w
   pub yes : YesAt f (answers f n).Alias (known_below f n) c w
   pub deep : IsDeep n ⊎ (is_among f.sized c ≡ true)
 
@@ -68,9 +64,9 @@ abbrev pub FitIs : Aliases → Verdicts → List Rule → Kind → Term → Opti
 FitIs A v rs c w (Some x) = IsFit A v rs c w x
 FitIs A v rs c w None = Each (FitsNot A v c w) rs
 
--- what stands for a parameter's hole as a type, with the aliases that stay written as aliases
+-- what stands for a parameter's hole as a type
 abbrev pub type_or_unknown : Option Term → Ty
-type_or_unknown (Some t) = type_of_term (unbound t)
+type_or_unknown (Some t) = type_of_term t
 type_or_unknown None = ty.Error
 
 abbrev pub fill_args : Log → ℕ → List GenericArg
@@ -108,7 +104,7 @@ pub record ArePredsProved (raw : RawFacts) (f : System) (p : Fill) (ps zs : List
 pub record PredIsAsked (raw : RawFacts) (f : System) (n : ℕ) (p : Fill) (q : Asked) : Type 0 where
   pub done : PredIsDone p q
   pub yes : (known_below f n).Yes (record { kind = q.kind; parts = apply p q.parts })
-  pub good : (m : ℕ) (u : Term) → n ≡ suc m → Reads (answers f m).Alias p q.parts u → IsGoodGoal (deep_stays raw f) q.kind u
+  pub good : (m : ℕ) (u : Term) → n ≡ suc m → Reads (answers f m).Alias p q.parts u → IsGoodGoal q.kind u
 
 pub record IsPredProved (raw : RawFacts) (f : System) (p : Fill) (ps zs : List Proof) (q : Asked) (number : ℕ) : Type 0 where
   pub adds : AddsProofs raw f ps zs

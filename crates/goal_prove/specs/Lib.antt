@@ -1,5 +1,4 @@
-pub mod Staying
-pub mod Marks
+pub mod Written
 pub mod Parts
 pub mod Entries
 pub mod Asking

@@ -9,13 +9,13 @@ ghost use Rattle.goal_search.specs.Sources.{kind_of, asked_of, asked_list, syste
 ghost use Rattle.goal_facts.specs.Goals.{asked_goal};
 ghost use Rattle.goal_facts.specs.ImplGoals.{ComesFrom};
 ghost use Rattle.goal_prove.specs.Entries.{AddsProofs, KeepsIfNone, IsProvedIf};
-ghost use Rattle.goal_prove.specs.Staying.{IsWritten};
+ghost use Rattle.goal_prove.specs.Written.{IsWritten};
 ghost use Rattle.goal_prove.specs.Asking.{deep_alias, ReadsTo, IsAsked, IsFit, FitsNot, PredIsAsked, IsProved, IsProvedAs, IsSourced, IsPredProved, ArePredsProved};
 
 use crate::fits::{Found, find_fit};
 use crate::listed::{proof_since, push_proof};
-use crate::lower::{copied_goals, is_itself, search_of, sources_of};
-use crate::types::{fill_args, goal_read};
+use crate::lower::{copied_goals, goal_of, is_itself, search_of, sources_of};
+use crate::types::fill_args;
 use goal_facts::{Answer, ItemSources, Proof, ProofSource, asked};
 use goal_search::{Asked, Holes, Kind, MOST_LEVELS, Search, is_among};
 use goal_terms::Term;
@@ -333,12 +333,15 @@ fn prove_pred(
     let Some(below) = depth.checked_sub(1) else {
         unreachable!()
     };
-    let Some(target) = search.read(&pred.parts, holes, below, MOST_LEVELS)? else {
+    let Some(parts) = search.read(&pred.parts, holes, below, MOST_LEVELS)? else {
         unreachable!()
     };
-    let goal = goal_read(alloc, pred.kind, &target)?;
+    let kind = pred.kind;
+    let asked = Asked { kind, parts };
+    let goal = goal_of(alloc, &asked)?;
+    let target = &asked.parts;
     let number = prove(
-        alloc, sources, search, &goal, pred.kind, &target, below, since, proofs,
+        alloc, sources, search, &goal, kind, target, below, since, proofs,
     )?;
     Ok(number)
 }

@@ -94,7 +94,7 @@ fn head_tail<'a>(sources: &'a Sources, head: Head, parts: &'a Term) -> Tail<'a>
         Head::Str | Head::Slice | Head::Dynamic => Tail::HasNone,
         Head::Adt(adt) => adt_tail(sources, adt, parts),
         Head::Tuple => tuple_tail(parts),
-        Head::Param(_) | Head::Bound(_) | Head::Opaque(_) => Tail::Asked,
+        Head::Param(_) | Head::AssociatedType(_) | Head::Opaque(_) => Tail::Asked,
         _ => Tail::HasSize,
     }
 }

@@ -94,10 +94,10 @@ module _ (raw : RawFacts) (f : System) (n : ℕ) (below : n ≤ raw.limits.goal_
       pairs = refl;
       diverging = refl;
       right = right_source raw f n below before before g k known by_parts selects (grew_itself before) made
-          (λ t filling m. subst (λ y. IsSource raw f (answers f raw.limits.goal_depth).Alias t (asked_at t (trait_goal k)) y (map (filled_goal t) made.preds.items)) (sym by) (
+          (λ t filling m. subst (λ y. IsSource raw f (answers f raw.limits.goal_depth).Alias t (asked_at t (trait_goal k)) y (map (filled_goal t) made.preds.items)) (sym by) (inr (
             unshadowed raw f n below (trait_goal k) by_parts selects t filling sole.1.0,
-            inr (inr (inr (apply t (trait_goal k).parts, types_at t k, goal_reads raw f n below (trait_goal k) by_parts selects t filling, copies t, asks t))),
-          ));
+            inr (inr (apply t (trait_goal k).parts, types_at t k, goal_reads raw f n below (trait_goal k) by_parts selects t filling, copies t, asks t)),
+          )));
       general = λ is. loses_nothing;
       holes = subst (Each (GoalIsOf before)) (sym preds) (part_goals_of before.substitution.kinds k (known_of before g k known made_holes of));
       heads = λ P none x is sources binds heads. (binds, subst (Each (λ q. HasHeadsIfConcrete P (asked_goal q))) (sym preds) (part_heads P k (known_heads P before g k known selects.selectable.concrete binds heads)));
@@ -114,10 +114,10 @@ module _ (raw : RawFacts) (f : System) (n : ℕ) (below : n ≤ raw.limits.goal_
         pairs = refl;
         diverging = refl;
         right = right_source raw f n below before before g k known by_size selects (grew_itself before) made
-            (λ t filling m. subst (λ y. IsSource raw f (answers f raw.limits.goal_depth).Alias t (asked_at t (trait_goal k)) y (map (filled_goal t) made.preds.items)) (sym by) (
+            (λ t filling m. subst (λ y. IsSource raw f (answers f raw.limits.goal_depth).Alias t (asked_at t (trait_goal k)) y (map (filled_goal t) made.preds.items)) (sym by) (inr (
               unshadowed raw f n below (trait_goal k) by_size selects t filling only_size.1,
-              inr (inl (ap (map (filled_goal t)) none, only_size.0, has_size raw f n below (trait_goal k) by_size selects t filling only_size.0)),
-            ));
+              inl (ap (map (filled_goal t)) none, only_size.0, has_size raw f n below (trait_goal k) by_size selects t filling only_size.0),
+            )));
         general = λ is table are s filling meets height proof. (s, filling, λ j less. refl, meets, subst (Each (λ q. HasProof f (Says table) height (filled_goal s q))) (sym none) tt);
         holes = subst (Each (GoalIsOf before)) (sym none) tt;
         heads = λ P alias x is sources binds heads. (binds, subst (Each (λ q. HasHeadsIfConcrete P (asked_goal q))) (sym none) tt);

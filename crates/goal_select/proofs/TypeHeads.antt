@@ -129,6 +129,7 @@ layer_heads (Ty-F.Dynamic (Some r) bs ids) =
     node_heads head.Dynamic (trait_parts r.0 ++ bounds ++ auto_parts ids)
     (both_parts (trait_parts r.0 ++ bounds) (auto_parts ids) (both_parts (trait_parts r.0) bounds r.1 (bounds_are_parts bs)) (autos_are_parts ids))
 layer_heads (Ty-F.Projection id xs) = node_heads (head.Projection id) (map arg_term (map (λ e. e.0) xs)) (args_are_parts xs)
+layer_heads (Ty-F.AssociatedType id xs) = node_heads (head.AssociatedType id) (map arg_term (map (λ e. e.0) xs)) (args_are_parts xs)
 layer_heads (Ty-F.Opaque id xs) = node_heads (head.Opaque id) (map arg_term (map (λ e. e.0) xs)) (args_are_parts xs)
 layer_heads (Ty-F.Var n) = tt
 layer_heads (Ty-F.IntVar n) = tt

@@ -51,7 +51,7 @@ pub fn staying_term(alloc: Global, alias: TypeAliasId, args: &Term) -> Result<Te
     ensures { IfOk result (λ made. term_of made ≡ staying alias (term_of args.now)) }
 {
     let args = args.dup(alloc)?;
-    Term::join(alloc, Term::Leaf(Head::Bound(alias)), args)
+    Term::join(alloc, Term::Leaf(Head::AssociatedType(alias)), args)
 }
 
 /// Whether the two terms have a common instance, where each has holes of its own.

@@ -370,6 +370,19 @@ fn projection_type(
 }
 
 #[cycle(read)]
+fn associated_type(
+    alloc: Global,
+    alias: TypeAliasId,
+    parts: &[TermPart<'_>],
+    levels: u32,
+) -> Result<Ty, AllocError>
+    ensures { IfOk result (λ made. made ≡ ty.AssociatedType alias (leading_args (parts_read parts.now))) }
+{
+    let args = leading_args(alloc, parts, levels)?;
+    Ok(Ty::AssociatedType(alias, args))
+}
+
+#[cycle(read)]
 fn opaque_type(
     alloc: Global,
     id: OpaqueId,
@@ -465,6 +478,7 @@ fn type_at(alloc: Global, head: Head, parts: &[TermPart<'_>], levels: u32) -> Re
         Head::Dynamic => dynamic_type(alloc, parts, levels),
         Head::Param(number) => Ok(Ty::Param(number)),
         Head::Projection(alias) => projection_type(alloc, alias, parts, levels),
+        Head::AssociatedType(alias) => associated_type(alloc, alias, parts, levels),
         Head::Opaque(id) => opaque_type(alloc, id, parts, levels),
         Head::Hole => Ok(Ty::Hole),
         _ => Ok(Ty::Error),
@@ -534,7 +548,8 @@ fn is_concrete_head(head: Head) -> bool
     ensures { IsTrue result ↔ IsConcreteHead head }
 {
     match head {
-        Head::Projection(_) | Head::Opaque(_) | Head::Bound(_) => false,
+        Head::Projection(_) | Head::AssociatedType(_) | Head::Opaque(_) => false,
+        Head::Bound(_) => false,
         Head::Error | Head::UnknownConst => false,
         _ => true,
     }

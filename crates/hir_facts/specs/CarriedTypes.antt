@@ -32,6 +32,7 @@ use Rattle.hir_laws.specs.LawfulFacts.{type_ids}
 use Rattle.hir_laws.specs.NoHoles.{type_there, output_has_no_hole}
 use Rattle.hir_laws.specs.WrittenFits.{FitsUnder, OwnFits, own_fits, parts_fit, own_output_fits}
 use Rattle.hir_laws.specs.Bodies.{body_id_of, output_by, return_type}
+use Rattle.hir_types.specs.declared.ids.TypeAliasId.{TypeAliasId}
 
 abbrev pub carried_arg : GenericArg-F Bool Bool Bool Bool → Bool
 carried_arg (GenericArg-F.Ty b) = b
@@ -52,6 +53,7 @@ carried_step (Ty-F.Tuple bs) = list_all (λ b. b) bs
 carried_step (Ty-F.Adt i bs) = list_all (λ b. b) bs
 carried_step (Ty-F.FnDef i bs) = list_all (λ b. b) bs
 carried_step (Ty-F.Param n) = true
+carried_step (Ty-F.AssociatedType i bs) = list_all (λ b. b) bs
 carried_step Ty-F.Error = true
 carried_step _ = false
 
@@ -87,6 +89,9 @@ carried_adt i xs = ap is_carried_type (sym (ty.rolls-Adt i xs)) ∙ (fold-roll-T
 
 pub carried_fn_def : (i : CallableDefId) (xs : List GenericArg) → is_carried_type (ty.FnDef i xs) ≡ list_all is_carried_arg xs
 carried_fn_def i xs = ap is_carried_type (sym (ty.rolls-FnDef i xs)) ∙ (fold-roll-Ty Bool Bool Bool Bool carried_arg carried_step carried_bound carried_trait (Ty-F.FnDef i xs) ∙ list_all_map is_carried_arg xs)
+
+pub carried_associated : (i : TypeAliasId) (xs : List GenericArg) → is_carried_type (ty.AssociatedType i xs) ≡ list_all is_carried_arg xs
+carried_associated i xs = ap is_carried_type (sym (ty.rolls-AssociatedType i xs)) ∙ (fold-roll-Ty Bool Bool Bool Bool carried_arg carried_step carried_bound carried_trait (Ty-F.AssociatedType i xs) ∙ list_all_map is_carried_arg xs)
 
 pub carried_param : (n : ℕ) → IsCarriedType (ty.Param n)
 carried_param n = ap is_carried_type (sym (ty.rolls-Param n)) ∙ fold-roll-Ty Bool Bool Bool Bool carried_arg carried_step carried_bound carried_trait (Ty-F.Param n)
@@ -197,6 +202,13 @@ layer_bare (Ty-F.FnDef i xs) h =
     record {
       closed = fold-roll-Ty Bool Bool Bool Bool hole_arg hole_step hole_bound hole_trait (Ty-F.FnDef i us) ∙ all.0;
       unlabelled = fold-roll-Ty GenericArg Ty AliasBound TraitRef roll-GenericArg erased_step roll-AliasBound roll-TraitRef (Ty-F.FnDef i us) ∙ ap (λ vs. roll-Ty (Ty-F.FnDef i vs)) all.1;
+    }
+layer_bare (Ty-F.AssociatedType i xs) h =
+    let us : List GenericArg = map (λ e. e.0) xs in
+    let all = args_bare xs (sym (fold-roll-Ty Bool Bool Bool Bool carried_arg carried_step carried_bound carried_trait (Ty-F.AssociatedType i us)) ∙ h) in
+    record {
+      closed = fold-roll-Ty Bool Bool Bool Bool hole_arg hole_step hole_bound hole_trait (Ty-F.AssociatedType i us) ∙ all.0;
+      unlabelled = fold-roll-Ty GenericArg Ty AliasBound TraitRef roll-GenericArg erased_step roll-AliasBound roll-TraitRef (Ty-F.AssociatedType i us) ∙ ap (λ vs. roll-Ty (Ty-F.AssociatedType i vs)) all.1;
     }
 layer_bare (Ty-F.FnPtr s ts t) h = absurd (true≢false (sym h ∙ fold-roll-Ty Bool Bool Bool Bool carried_arg carried_step carried_bound carried_trait (layer_of (Ty-F.FnPtr s ts t))))
 layer_bare (Ty-F.Closure i ts t) h = absurd (true≢false (sym h ∙ fold-roll-Ty Bool Bool Bool Bool carried_arg carried_step carried_bound carried_trait (layer_of (Ty-F.Closure i ts t))))

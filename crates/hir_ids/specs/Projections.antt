@@ -1,10 +1,9 @@
--- Where a projection may be named: by goals, impls and other projections, and as what a function without a body takes or gives. Other types that
+-- Where projections may stand: in goals, impls and other projections, and in what a function without a body takes or gives. Other types that
 -- bodies read hold none yet.
-use Rattle.std.specs.Prelude.{ℕ, ◌≡◌, Bool, true, false, List, [], slice_get, Option, Some, None, IsTrue, not, if◌then◌else◌}
+use Rattle.std.specs.Prelude.{ℕ, ◌≡◌, ◌<◌, ◌↔◌, Bool, false, List, length, get_or, slice_get, Option, Some, None, IsTrue}
 use Rattle.hir_types.specs.declared.ids.BodyId.{BodyId}
 use Rattle.hir_types.specs.declared.ids.TypeRefId.{TypeRefId}
 use Rattle.hir_raw.specs.declared.raw.RawType.{RawType}
-use Rattle.hir_raw.specs.declared.raw.RawType.TheVariants as type
 use Rattle.hir_raw.specs.declared.raw.RawField.{RawField}
 use Rattle.hir_raw.specs.declared.raw.RawVariant.{RawVariant}
 use Rattle.hir_raw.specs.declared.raw.RawFn.{RawFn}
@@ -14,27 +13,26 @@ use Rattle.hir_raw.specs.declared.raw.RawExpr.{RawExpr}
 use Rattle.hir_raw.specs.declared.raw.RawBody.{RawBody}
 use Rattle.hir_raw.specs.declared.raw.RawFacts.{RawFacts}
 use Rattle.hir_raw.specs.Order.{stmts_of}
+use Rattle.hir_raw.specs.Hidden.{is_alias}
 use Rattle.hir_raw.specs.WrittenTypes.{type_parts}
-use Rattle.hir_ids.specs.Carried.{is_carried_written_type, is_carried_variant, is_carried_fn, is_carried_body}
+use Rattle.hir_ids.specs.Carried.{is_carried_variant, is_carried_fn, is_carried_body}
 
-abbrev pub is_projection : Option RawType → Bool
-is_projection (Some (type.Projection a ts)) = true
-is_projection _ = false
+-- a projection stands in type t: it is one, or a type before it that it is made of holds one
+pub data HoldsProjection (types : List RawType) : ℕ → Type 0 where
+  is_one : (t : ℕ) (x : RawType) → slice_get types t ≡ Some x → IsTrue (is_alias x) → HoldsProjection types t
+  in_part : (t : ℕ) (x : RawType) (k : ℕ) (u : TypeRefId) → slice_get types t ≡ Some x → slice_get (type_parts x) k ≡ Some u → u.0 < t → HoldsProjection types u.0 → HoldsProjection types t
 
--- type i is none
+-- none stands in type i
 abbrev pub IsNoProjection : RawFacts → ℕ → Type 0
-IsNoProjection raw i = IsTrue (not (is_projection (slice_get raw.types i)))
+IsNoProjection raw i = HoldsProjection raw.types i → ⊥
+
+-- of the first n types those are marked that hold one
+pub record AreMarked (types : List RawType) (n : ℕ) (marks : List Bool) : Type 0 where
+  pub size : length marks ≡ n
+  pub each : (t : ℕ) → t < n → IsTrue (get_or marks t false) ↔ HoldsProjection types t
 
 abbrev pub NameNoProjection : RawFacts → List TypeRefId → Type 0
 NameNoProjection raw ts = (k : ℕ) (t : TypeRefId) → slice_get ts k ≡ Some t → IsNoProjection raw t.0
-
--- what a type holds; a projection may have projections as its arguments
-abbrev pub held_types : RawType → List TypeRefId
-held_types x = if is_projection (Some x) then [] else type_parts x
-
-pub record TypeIsCarried (raw : RawFacts) (x : RawType) : Type 0 where
-  pub kind : IsTrue (is_carried_written_type x)
-  pub parts : NameNoProjection raw (held_types x)
 
 pub record VariantIsCarried (raw : RawFacts) (v : RawVariant) : Type 0 where
   pub kind : IsTrue (is_carried_variant v)

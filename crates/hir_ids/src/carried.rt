@@ -1,13 +1,13 @@
 //! Each entry and part is of a kind that is carried.
-ghost use Rattle.std.specs.Prelude.{◌≡◌, IsTrue, MatchOption};
+ghost use Rattle.std.specs.Prelude.{◌≡◌, length, IsTrue, MatchOption};
 ghost use Rattle.std.specs.List.{list_all};
 ghost use Rattle.hir_ids.specs.Entries.{AllHold, BreaksAt};
 ghost use Rattle.hir_ids.specs.Carried.{is_carried_written_type, is_type_param, is_carried_kind, is_carried_adt, is_carried_ctor, is_carried_variant, is_carried_fn, is_carried_literal, is_carried_path, is_ctor_path, is_carried_stmt, is_carried_expr, is_carried_pat, is_carried_binding, is_carried_body};
-ghost use Rattle.hir_ids.specs.Projections.{TypeIsCarried, VariantIsCarried, FnIsCarried, BodyIsCarried};
+ghost use Rattle.hir_ids.specs.Projections.{AreMarked, VariantIsCarried, FnIsCarried, BodyIsCarried};
 
 use crate::carried_goals::carries_goals;
 use crate::projections::{
-    body_names_none, body_signature_names_none, fields_name_none, held_types, name_no_projection,
+    ProjectionMarks, body_names_none, body_signature_names_none, fields_name_none,
 };
 use crate::test::Test;
 use hir_raw::{
@@ -202,7 +202,7 @@ fn carries_body(body: &RawBody) -> bool
         && body.self_.is_none()
 }
 
-/// A written type is of a carried kind, and holds no projection.
+/// A written type is of a carried kind.
 pub struct TypesCarried;
 
 impl Test for TypesCarried {
@@ -210,18 +210,18 @@ impl Test for TypesCarried {
 
     ghost listed = { λ raw. raw.types };
 
-    ghost holds = { λ raw i t. TypeIsCarried raw t };
+    ghost holds = { λ raw i t. IsTrue (is_carried_written_type t) };
 
     ghost given = { λ raw s. Unit {0} };
 
     fn test(
         &self,
         _alloc: Global,
-        raw: &RawFacts,
+        _raw: &RawFacts,
         _at: usize,
         item: &RawType,
     ) -> Result<bool, AllocError> {
-        Ok(carries_type(item) && name_no_projection(raw, held_types(item)))
+        Ok(carries_type(item))
     }
 }
 
@@ -249,16 +249,19 @@ impl Test for AdtsCarried {
 }
 
 /// A variant is of a carried kind, and no field is a projection.
-pub struct VariantsCarried;
+#[derive(Drop)]
+pub struct VariantsCarried<'a> {
+    pub found: &'a ProjectionMarks,
+}
 
-impl Test for VariantsCarried {
+impl<'a> Test for VariantsCarried<'a> {
     type Item = RawVariant;
 
     ghost listed = { λ raw. raw.variants };
 
     ghost holds = { λ raw i v. VariantIsCarried raw v };
 
-    ghost given = { λ raw s. Unit {0} };
+    ghost given = { λ raw s. AreMarked raw.types (length raw.types) s.found.now.marks.items };
 
     fn test(
         &self,
@@ -267,21 +270,24 @@ impl Test for VariantsCarried {
         _at: usize,
         item: &RawVariant,
     ) -> Result<bool, AllocError> {
-        Ok(carries_variant(item) && fields_name_none(raw, item.fields.as_slice()))
+        Ok(carries_variant(item) && fields_name_none(raw, self.found, item.fields.as_slice()))
     }
 }
 
 /// A function is of a carried kind, and where it has a body no input or output is a projection.
-pub struct FnsCarried;
+#[derive(Drop)]
+pub struct FnsCarried<'a> {
+    pub found: &'a ProjectionMarks,
+}
 
-impl Test for FnsCarried {
+impl<'a> Test for FnsCarried<'a> {
     type Item = RawFn;
 
     ghost listed = { λ raw. raw.fns };
 
     ghost holds = { λ raw i f. FnIsCarried raw f };
 
-    ghost given = { λ raw s. Unit {0} };
+    ghost given = { λ raw s. AreMarked raw.types (length raw.types) s.found.now.marks.items };
 
     fn test(
         &self,
@@ -290,22 +296,25 @@ impl Test for FnsCarried {
         _at: usize,
         item: &RawFn,
     ) -> Result<bool, AllocError> {
-        Ok(carries_fn(item) && body_signature_names_none(raw, item))
+        Ok(carries_fn(item) && body_signature_names_none(raw, self.found, item))
     }
 }
 
 /// The nodes and bindings of a body are of carried kinds, it has no `self`, and no `let` is written with
 /// a projection.
-pub struct BodiesCarried;
+#[derive(Drop)]
+pub struct BodiesCarried<'a> {
+    pub found: &'a ProjectionMarks,
+}
 
-impl Test for BodiesCarried {
+impl<'a> Test for BodiesCarried<'a> {
     type Item = RawBody;
 
     ghost listed = { λ raw. raw.bodies };
 
     ghost holds = { λ raw i b. BodyIsCarried raw b };
 
-    ghost given = { λ raw s. Unit {0} };
+    ghost given = { λ raw s. AreMarked raw.types (length raw.types) s.found.now.marks.items };
 
     fn test(
         &self,
@@ -314,6 +323,6 @@ impl Test for BodiesCarried {
         _at: usize,
         item: &RawBody,
     ) -> Result<bool, AllocError> {
-        Ok(carries_body(item) && body_names_none(raw, item))
+        Ok(carries_body(item) && body_names_none(raw, self.found, item))
     }
 }

@@ -1,16 +1,17 @@
--- Where no input of a function is a projection, nor the output, none of its parameters stands for one.
-use Rattle.std.specs.Prelude.{◌≡◌, ℕ, zero, suc, ◌+◌, List, [], ◌∷◌, ◌++◌, length, slice_get, Option, Some, None, IsTrue, not, flat_map, refl}
-use Rattle.std.proofs.Common.{arith, ap, subst, ◌∙◌}
+-- Where no projection stands in what a function takes and gives, none of its parameters stands for one.
+use Rattle.std.specs.Prelude.{◌≡◌, ℕ, zero, suc, ◌+◌, List, [], ◌∷◌, ◌++◌, length, slice_get, Option, Some, None, if◌then◌else◌, flat_map, refl}
+use Rattle.std.proofs.Common.{arith, ap, ◌∙◌}
 use Rattle.hir_types.specs.declared.ids.TypeRefId.{TypeRefId}
 use Rattle.hir_raw.specs.declared.raw.RawFacts.{RawFacts}
 use Rattle.hir_raw.specs.declared.raw.RawFn.{RawFn}
 use Rattle.hir_raw.specs.declared.raw.RawType.{RawType}
-use Rattle.hir_raw.specs.declared.raw.RawType.TheVariants as type
 use Rattle.hir_raw.specs.Hidden.{aliases_by, aliases_within, aliases_at, aliases_in, fn_aliases}
 use Rattle.hir_raw.specs.Scope.{fn_arity}
-use Rattle.hir_ids.specs.Projections.{is_projection, IsNoProjection, NameNoProjection, SignatureNamesNone}
+use Rattle.hir_raw.specs.WrittenTypes.{type_parts}
+use Rattle.hir_ids.specs.Projections.{in_part, IsNoProjection, SignatureNamesNone}
 use Rattle.hir_laws.specs.Lawful.{IsLawful}
-use Rattle.hir_laws.specs.LawfulFacts.{carried_types}
+use Rattle.hir_laws.specs.LawfulFacts.{type_ids}
+use Rattle.hir_laws.specs.WrittenFits.{direct_here}
 
 none_of : (f : ℕ → List ℕ) (ws : List TypeRefId) → ((k : ℕ) (w : TypeRefId) → slice_get ws k ≡ Some w → f w.0 ≡ []) → flat_map (λ w. f w.0) ws ≡ []
 none_of f [] none = refl
@@ -20,20 +21,12 @@ no_more : (n : ℕ) → n + 0 ≡ n
 no_more n = omega arith
 
 module _ (raw : RawFacts) (law : IsLawful raw) where
-  in_parts : (f : ℕ → List ℕ) → ((j : ℕ) → IsNoProjection raw j → f j ≡ []) → (ws : List TypeRefId) → NameNoProjection raw ws → flat_map (λ w. f w.0) ws ≡ []
-  in_parts f none ws parts = none_of f ws (λ k w at. none w.0 (parts k w at))
+  in_parts : (f : ℕ → List ℕ) → ((j : ℕ) → IsNoProjection raw j → f j ≡ []) → (i : ℕ) (x : RawType) → slice_get raw.types i ≡ Some x → IsNoProjection raw i → flat_map (λ w. f w.0) (type_parts x) ≡ []
+  in_parts f none i x found free = none_of f (type_parts x) (λ k w at. none w.0 (λ held. free (in_part i x k w found at (type_ids raw law i x found k w at) held)))
 
   by_type : (f : ℕ → List ℕ) → ((j : ℕ) → IsNoProjection raw j → f j ≡ []) → (i : ℕ) → IsNoProjection raw i → (o : Option RawType) → slice_get raw.types i ≡ o → aliases_by i f o ≡ []
   by_type f none i free None is = refl
-  by_type f none i free (Some type.Bool) is = refl
-  by_type f none i free (Some type.Char) is = refl
-  by_type f none i free (Some (type.Integer j)) is = refl
-  by_type f none i free (Some (type.Tuple ts)) is = in_parts f none ts (carried_types raw law i (type.Tuple ts) is).parts
-  by_type f none i free (Some (type.Adt a ts)) is = in_parts f none ts (carried_types raw law i (type.Adt a ts) is).parts
-  by_type f none i free (Some (type.Projection a ts)) is = (let never : IsTrue (not (is_projection (Some (type.Projection a ts)))) = subst (λ o. IsTrue (not (is_projection o))) is free in absurd (cc))
-  by_type f none i free (Some (type.Param m)) is = refl
-  by_type f none i free (Some type.Hole) is = refl
-  by_type f none i free (Some type.Other) is = refl
+  by_type f none i free (Some x) is = ap (λ b. if b then i ∷ [] else flat_map (λ w. f w.0) (type_parts x)) (direct_here raw i x is free) ∙ in_parts f none i x is free
 
   none_within : (n i : ℕ) → IsNoProjection raw i → aliases_within n raw.types i ≡ []
   none_within zero i free = refl

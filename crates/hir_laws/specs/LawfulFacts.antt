@@ -3,7 +3,7 @@ use Rattle.std.specs.Prelude.{IsTrue}
 use Rattle.hir_raw.specs.declared.raw.RawFacts.{RawFacts}
 use Rattle.hir_ids.specs.Entries.{AllHold}
 use Rattle.hir_ids.specs.Carried.{is_carried_written_type, is_carried_variant, is_carried_body}
-use Rattle.hir_ids.specs.Projections.{TypeIsCarried, VariantIsCarried, FnIsCarried, BodyIsCarried}
+use Rattle.hir_ids.specs.Projections.{VariantIsCarried, FnIsCarried, BodyIsCarried}
 use Rattle.hir_ids.specs.Ids.{ChildrenBefore, TypeIdsExist, AdtIdsExist, VariantIdsExist, FnIdsExist, BodyIdsExist}
 use Rattle.hir_counts.specs.Counts.{CountsFit, VariantFits, FnFits}
 use Rattle.hir_laws.specs.Trees.{IsWellFormed}
@@ -13,11 +13,8 @@ use Rattle.hir_laws.specs.Literals.{LiteralsFit}
 use Rattle.hir_counts.specs.Uses.{HoleFits}
 use Rattle.hir_laws.specs.Lawful.{IsLawful}
 
-pub carried_types : (raw : RawFacts) → IsLawful raw → AllHold (λ i t. TypeIsCarried raw t) raw.types
-carried_types raw law = law.all.0
-
 pub types_carried : (raw : RawFacts) → IsLawful raw → AllHold (λ i t. IsTrue (is_carried_written_type t)) raw.types
-types_carried raw law i t found = (carried_types raw law i t found).kind
+types_carried raw law = law.all.0
 
 pub carried_variants : (raw : RawFacts) → IsLawful raw → AllHold (λ i v. VariantIsCarried raw v) raw.variants
 carried_variants raw law = law.all.1.1.0

@@ -1,6 +1,6 @@
 -- Each written type that bodies read fits under the parameters of its definition: arguments are as many as the parameters of
--- what they stand at, parameters are in range, and no projection stands in it, but as what a function without a body takes or gives.
-use Rattle.std.specs.Prelude.{◌≡◌, ◌<◌, ◌≤◌, ◌==◌, ℕ, Bool, true, false, List, [], length, slice_get, Option, Some, None, IsTrue, not, option_map, refl, if◌then◌else◌}
+-- what they stand at, parameters are in range, and no projection stands in it, but in what a function without a body takes or gives.
+use Rattle.std.specs.Prelude.{◌≡◌, ◌<◌, ◌≤◌, ◌==◌, ℕ, Bool, true, false, List, [], length, slice_get, Option, Some, None, option_map, refl, if◌then◌else◌}
 use Rattle.std.specs.Option.{option_and_then}
 use Rattle.std.proofs.Common.{arith, ap, ◌∙◌, subst}
 use Rattle.hir_types.specs.declared.ids.BodyId.{BodyId}
@@ -20,6 +20,7 @@ use Rattle.hir_raw.specs.declared.raw.RawStmt.TheVariants as stmt
 use Rattle.hir_raw.specs.declared.raw.RawExpr.{RawExpr}
 use Rattle.hir_raw.specs.declared.raw.RawBody.{RawBody}
 use Rattle.hir_raw.specs.declared.raw.RawFacts.{RawFacts}
+use Rattle.hir_raw.specs.Hidden.{is_alias}
 use Rattle.hir_raw.specs.WrittenTypes.{type_parts}
 use Rattle.hir_raw.specs.Order.{stmts_of, stmt_at}
 use Rattle.hir_raw.specs.Scope.{adt_params, has_params, params_of, count_or_none}
@@ -27,8 +28,8 @@ use Rattle.hir_laws.specs.Bodies.{body_of, body_id_of, inputs_by, inputs_of}
 use Rattle.hir_counts.specs.Standing.{param_bound, wrong_count, wrong_args, params_in, wrongs_in}
 use Rattle.hir_counts.specs.Counts.{TypeFits, ExprFits, BodyFits, MaybeBodyFits, body_at, param_count}
 use Rattle.hir_laws.specs.Lawful.{IsLawful}
-use Rattle.hir_ids.specs.Projections.{is_projection, IsNoProjection, NameNoProjection, held_types, SignatureNamesNone, BodySignatureNamesNone, ExprNamesNone}
-use Rattle.hir_laws.specs.LawfulFacts.{carried_types, carried_variants, carried_fns, carried_bodies, type_ids, variant_ids, variants_fit, fn_ids, fns_fit, body_ids}
+use Rattle.hir_ids.specs.Projections.{is_one, in_part, IsNoProjection, SignatureNamesNone, BodySignatureNamesNone, ExprNamesNone}
+use Rattle.hir_laws.specs.LawfulFacts.{carried_variants, carried_fns, carried_bodies, type_ids, variant_ids, variants_fit, fn_ids, fns_fit, body_ids}
 use Rattle.hir_counts.specs.Most.{own_most, part_most}
 
 -- type t of the facts fits under this many parameters
@@ -37,7 +38,7 @@ pub record FitsThere (raw : RawFacts) (count t : ℕ) : Type 0 where
   pub params : params_in raw t ≤ count
   pub args : wrongs_in raw t ≡ 0
 
--- and is no projection
+-- and no projection stands in it
 pub record FitsUnder (raw : RawFacts) (count t : ℕ) : Type 0 where
   pub within : t < length raw.types
   pub direct : IsNoProjection raw t
@@ -76,7 +77,7 @@ counts_agree : (o : Option RawAdt) (ts : List TypeRefId) → wrong_count o ts �
 counts_agree None ts h = absurd (omega arith)
 counts_agree (Some x) ts h = none_wrong (length x.params == length ts) (wrong_count (Some x) ts) refl h
 
-own_by : (raw : RawFacts) (count : ℕ) (x : RawType) → param_bound x ≤ count → wrong_args raw x ≤ 0 → IsTrue (not (is_projection (Some x))) → OwnFits raw count x
+own_by : (raw : RawFacts) (count : ℕ) (x : RawType) → param_bound x ≤ count → wrong_args raw x ≤ 0 → is_alias x ≡ false → OwnFits raw count x
 own_by raw count (type.Adt a ts) params args direct = counts_agree (slice_get raw.adts a.0) ts (omega arith)
 own_by raw count (type.Projection a ts) params args direct = absurd (cc)
 own_by raw count (type.Param n) params args direct = omega arith
@@ -93,31 +94,35 @@ below a b c p q = omega arith
 at_zero : (a b : ℕ) → a ≤ b → b ≡ 0 → a ≡ 0
 at_zero a b p q = omega arith
 
--- a type in the list that is no projection
-direct_here : (raw : RawFacts) (i : ℕ) (x : RawType) → slice_get raw.types i ≡ Some x → IsNoProjection raw i → IsTrue (not (is_projection (Some x)))
-direct_here raw i x found h = subst (λ (o : Option RawType). IsTrue (not (is_projection o))) found h
+-- a type in which no projection stands is none
+pub direct_here : (raw : RawFacts) (i : ℕ) (x : RawType) → slice_get raw.types i ≡ Some x → IsNoProjection raw i → is_alias x ≡ false
+direct_here raw i x found none = by (is_alias x) refl
+  where
+    by : (b : Bool) → is_alias x ≡ b → b ≡ false
+    by true is = absurd (none (is_one i x found is))
+    by false is = refl
 
-holds_parts : (b : Bool) (ts : List TypeRefId) → IsTrue (not b) → (if b then [] else ts) ≡ ts
-holds_parts true ts h = absurd (cc)
-holds_parts false ts h = refl
-
-pub own_fits : (raw : RawFacts) → IsLawful raw → (count i : ℕ) (x : RawType) → slice_get raw.types i ≡ Some x → FitsUnder raw count i → OwnFits raw count x
-own_fits raw law count i x found h =
-    let wrong : wrong_args raw x ≡ 0 = at_zero (wrong_args raw x) (wrongs_in raw i) (own_most (wrong_args raw) raw.types (type_ids raw law) i x found) h.args in
-    own_by raw count x (below (param_bound x) (params_in raw i) count (own_most param_bound raw.types (type_ids raw law) i x found) h.params) (omega arith) (direct_here raw i x found h.direct)
-
-pub parts_fit : (raw : RawFacts) → IsLawful raw → (count i : ℕ) (x : RawType) → slice_get raw.types i ≡ Some x → FitsUnder raw count i → (k : ℕ) (t : TypeRefId) → slice_get (type_parts x) k ≡ Some t → FitsUnder raw count t.0
-parts_fit raw law count i x found h k t here =
+pub parts_there : (raw : RawFacts) → IsLawful raw → (count i : ℕ) (x : RawType) → slice_get raw.types i ≡ Some x → FitsThere raw count i → (k : ℕ) (t : TypeRefId) → slice_get (type_parts x) k ≡ Some t → FitsThere raw count t.0
+parts_there raw law count i x found h k t here =
     let before : t.0 < i = type_ids raw law i x found k t here in
     let inside : i < length raw.types = h.within in
-    let held : held_types x ≡ type_parts x = holds_parts (is_projection (Some x)) (type_parts x) (direct_here raw i x found h.direct) in
-    let direct : NameNoProjection raw (type_parts x) = subst (NameNoProjection raw) held (carried_types raw law i x found).parts in
     record {
       within = omega arith;
-      direct = direct k t here;
       params = below (params_in raw t.0) (params_in raw i) count (part_most param_bound raw.types (type_ids raw law) i x found k t here) h.params;
       args = at_zero (wrongs_in raw t.0) (wrongs_in raw i) (part_most (wrong_args raw) raw.types (type_ids raw law) i x found k t here) h.args;
     }
+
+pub parts_fit : (raw : RawFacts) → IsLawful raw → (count i : ℕ) (x : RawType) → slice_get raw.types i ≡ Some x → FitsUnder raw count i → (k : ℕ) (t : TypeRefId) → slice_get (type_parts x) k ≡ Some t → FitsUnder raw count t.0
+parts_fit raw law count i x found h k t here =
+    fits_direct raw count t.0 (parts_there raw law count i x found (fits_there raw count i h) k t here) (λ held. h.direct (in_part i x k t found here (type_ids raw law i x found k t here) held))
+
+pub own_there : (raw : RawFacts) → IsLawful raw → (count i : ℕ) (x : RawType) → slice_get raw.types i ≡ Some x → FitsThere raw count i → is_alias x ≡ false → OwnFits raw count x
+own_there raw law count i x found h plain =
+    let wrong : wrong_args raw x ≡ 0 = at_zero (wrong_args raw x) (wrongs_in raw i) (own_most (wrong_args raw) raw.types (type_ids raw law) i x found) h.args in
+    own_by raw count x (below (param_bound x) (params_in raw i) count (own_most param_bound raw.types (type_ids raw law) i x found) h.params) (omega arith) plain
+
+pub own_fits : (raw : RawFacts) → IsLawful raw → (count i : ℕ) (x : RawType) → slice_get raw.types i ≡ Some x → FitsUnder raw count i → OwnFits raw count x
+own_fits raw law count i x found h = own_there raw law count i x found (fits_there raw count i h) (direct_here raw i x found h.direct)
 
 -- ---- the types of a function
 

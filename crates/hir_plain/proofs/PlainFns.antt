@@ -1,6 +1,6 @@
 -- The marks of the functions with a plain signature, one function after another.
-use Rattle.std.proofs.Common.{◌≡◌, inl, inr, ℕ, zero, suc, ◌+◌, ◌<◌, Bool, true, false, List, [], ◌∷◌, ◌++◌, length, get_or, Some, refl, sym, ◌∙◌, ap, subst, arith}
-use Rattle.std.specs.Prelude.{◌↔◌, slice_get, Option, None, IsTrue, IsSomeAnd, not}
+use Rattle.std.proofs.Common.{◌≡◌, inl, inr, ℕ, zero, suc, ◌+◌, ◌<◌, Bool, true, false, List, [], ◌∷◌, ◌++◌, length, get_or, Some, refl, sym, ◌∙◌, ap, subst, arith, true≢false}
+use Rattle.std.specs.Prelude.{◌↔◌, slice_get, Option, None, IsTrue, IsSomeAnd}
 use Rattle.hir_plain.proofs.Spreading.{marked_inside}
 use Rattle.std.proofs.lemmas.List.{get_or_push, get_or_append_left, length_push}
 use Rattle.std.proofs.Math.Nat.{eq-or-lt_of_le}
@@ -9,7 +9,9 @@ use Rattle.hir_raw.specs.declared.raw.RawFn.{RawFn}
 use Rattle.hir_raw.specs.declared.raw.RawType.{RawType}
 use Rattle.hir_raw.specs.declared.raw.RawType.TheVariants as type
 use Rattle.hir_raw.specs.declared.raw.RawFacts.{RawFacts}
-use Rattle.hir_ids.specs.Projections.{is_projection, IsNoProjection, SignatureNamesNone}
+use Rattle.hir_raw.specs.Hidden.{is_alias}
+use Rattle.hir_raw.specs.WrittenTypes.{type_parts}
+use Rattle.hir_ids.specs.Projections.{is_one, in_part, IsNoProjection, SignatureNamesNone}
 use Rattle.hir_plain.specs.declared.plain.PlainMarks.{PlainMarks}
 use Rattle.hir_laws.specs.Lawful.{IsLawful}
 use Rattle.hir_laws.specs.WrittenFits.{inputs_fit, output_fits}
@@ -19,12 +21,17 @@ use Rattle.hir_plain.specs.PlainMarks.{ArePlainNodes, HasMarkedSignature, ArePla
 
 -- ---- a plain signature names no projection
 
-kind_direct : (raw : RawFacts) (P : ℕ → Type 0) (n : ℕ) (x : RawType) → IsPlainKind raw P n x → IsTrue (not (is_projection (Some x)))
+kind_direct : (raw : RawFacts) (P : ℕ → Type 0) (n : ℕ) (x : RawType) → IsPlainKind raw P n x → is_alias x ≡ false
 kind_direct raw P n (type.Projection a ts) h = absurd h
 kind_direct raw P n _ h = refl
 
 type_direct : (raw : RawFacts) (P : ℕ → Type 0) (n t : ℕ) → IsPlainType raw P n t → IsNoProjection raw t
-type_direct raw P n t (plain _ x found own parts) = subst (λ (o : Option RawType). IsTrue (not (is_projection o))) (sym found) (kind_direct raw P n x own)
+type_direct raw P n t (plain _ x found own parts) (is_one _ y at alias) =
+    let same : y ≡ x = (let both : Some y ≡ Some x = sym at ∙ found in cc) in
+    true≢false (sym alias ∙ (ap is_alias same ∙ kind_direct raw P n x own))
+type_direct raw P n t (plain _ x found own parts) (in_part _ y k u at here before held) =
+    let same : y ≡ x = (let both : Some y ≡ Some x = sym at ∙ found in cc) in
+    type_direct raw P n u.0 (parts k u (ap (λ (z : RawType). slice_get (type_parts z) k) (sym same) ∙ here)) held
 
 pub plain_direct : (raw : RawFacts) (x : RawFn) → IsPlainSignature raw x → SignatureNamesNone raw x
 plain_direct raw x h = record {

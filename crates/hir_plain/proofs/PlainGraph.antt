@@ -1,6 +1,6 @@
 -- The nodes of the graph of written types and adts, and what the marks of its good nodes say.
-use Rattle.std.proofs.Common.{◌≡◌, inl, inr, ℕ, zero, suc, ◌+◌, ◌-◌, ◌^◌, ◌<◌, Bool, true, false, List, [], ◌∷◌, ◌++◌, map, length, get_or, Option, Some, None, refl, sym, ◌∙◌, ap, subst, arith, length-append}
-use Rattle.std.specs.Prelude.{slice_get, IsTrue, not, flat_map}
+use Rattle.std.proofs.Common.{◌≡◌, inl, inr, ℕ, zero, suc, ◌+◌, ◌-◌, ◌^◌, ◌<◌, Bool, true, false, List, [], ◌∷◌, ◌++◌, map, length, get_or, Option, Some, None, refl, sym, ◌∙◌, ap, subst, arith, length-append, true≢false}
+use Rattle.std.specs.Prelude.{slice_get, IsTrue, flat_map}
 use Rattle.std.proofs.lemmas.Bool.{cases_lt}
 use Rattle.std.proofs.lemmas.List.{get_or_append_left, get_or-append-add, length-map}
 use Rattle.std.proofs.lemmas.Option.{slice_get_within}
@@ -12,12 +12,13 @@ use Rattle.hir_raw.specs.declared.raw.RawAdt.{RawAdt}
 use Rattle.hir_raw.specs.declared.raw.RawField.{RawField}
 use Rattle.hir_raw.specs.declared.raw.RawVariant.{RawVariant}
 use Rattle.hir_raw.specs.declared.raw.RawFacts.{RawFacts}
+use Rattle.hir_raw.specs.Hidden.{is_alias}
 use Rattle.hir_raw.specs.WrittenTypes.{type_parts}
 use Rattle.hir_raw.specs.Graph.{KidsFit, Edge, kids_of}
 use Rattle.hir_laws.specs.NoHoles.{In, in_first, in_last}
 use Rattle.hir_ids.specs.Ids.{ItemExists, IsVariantOf}
-use Rattle.hir_ids.specs.Projections.{is_projection, IsNoProjection}
-use Rattle.hir_laws.specs.WrittenFits.{FitsThere, FitsUnder, OwnFits, fits_direct, own_fits, parts_fit, fields_fit}
+use Rattle.hir_ids.specs.Projections.{is_one, in_part, IsNoProjection}
+use Rattle.hir_laws.specs.WrittenFits.{FitsUnder, OwnFits, fits_direct, own_fits, parts_fit, fields_fit}
 use Rattle.hir_laws.specs.Lawful.{IsLawful}
 use Rattle.hir_laws.specs.LawfulFacts.{type_ids, type_ids_exist, adt_ids, types_small}
 use Rattle.hir_plain.specs.Spread.{IsMarked, IsUnmarked, ComesToBad, is_bad, by_child, AreGood}
@@ -309,23 +310,14 @@ module _ (raw : RawFacts) (law : IsLawful raw) where
     kind_marked n type.Hole fine fits marked = absurd (cc)
     kind_marked n type.Other fine fits marked = absurd (cc)
 
-    -- a marked type is no projection
-    fine_direct : (x : RawType) → is_fine_type x ≡ true → IsTrue (not (is_projection (Some x)))
-    fine_direct type.Bool fine = refl
-    fine_direct type.Char fine = refl
-    fine_direct (type.Integer i) fine = refl
-    fine_direct (type.Tuple ts) fine = refl
-    fine_direct (type.Adt a ts) fine = refl
+    -- no projection stands in a marked type
+    fine_direct : (x : RawType) → is_fine_type x ≡ true → is_alias x ≡ false
     fine_direct (type.Projection a ts) fine = absurd (cc)
-    fine_direct (type.Param i) fine = refl
-    fine_direct type.Hole fine = refl
-    fine_direct type.Other fine = refl
+    fine_direct _ fine = refl
 
-    marked_direct : (n t : ℕ) → FitsThere raw n t → IsMarked marks t → IsNoProjection raw t
-    marked_direct n t fits marked =
-        let x = there raw.types t fits.within in
-        let fine : is_fine_type x.0 ≡ true = sym (fine_type t x.0 x.1) ∙ good.own t marked in
-        subst (λ (o : Option RawType). IsTrue (not (is_projection o))) (sym x.1) (fine_direct x.0 fine)
+    marked_direct : (t : ℕ) → IsMarked marks t → IsNoProjection raw t
+    marked_direct t marked (is_one _ x at alias) = (let fine : is_fine_type x ≡ true = sym (fine_type t x at) ∙ good.own t marked in true≢false (sym alias ∙ fine_direct x fine))
+    marked_direct t marked (in_part _ x k u at here before held) = (let e = part_edge t x at k u here in marked_direct u.0 (good.children t e.0 u.0 e.1 marked) held)
 
     -- a marked type is plain where the marked adts are, if it fits
     type_marked : (most n t : ℕ) → t < most → FitsUnder raw n t → IsMarked marks t → IsPlainType raw IsMarkedAdt n t
@@ -374,7 +366,7 @@ module _ (raw : RawFacts) (law : IsLawful raw) where
 
     pub plain_nodes : ArePlainNodes raw marks
     plain_nodes = record {
-      types = λ n t fits marked. type_more raw IsMarkedAdt (IsPlainAdt raw) n (in_plain_set raw marked_adts marked_set) t.0 (type_marked (suc t.0) n t.0 (omega arith) (fits_direct raw n t.0 fits (marked_direct n t.0 fits marked)) marked);
+      types = λ n t fits marked. type_more raw IsMarkedAdt (IsPlainAdt raw) n (in_plain_set raw marked_adts marked_set) t.0 (type_marked (suc t.0) n t.0 (omega arith) (fits_direct raw n t.0 fits (marked_direct t.0 marked)) marked);
       plain_types = λ n t h.
           (let lt : t.0 < count = type_inside (IsPlainAdt raw) n t.0 h in
           let whole : length (plain_graph raw) ≡ count + length raw.adts = graph_size in

@@ -10,13 +10,7 @@ use Rattle.hir_raw.specs.declared.raw.RawGoal.TheVariants as goal
 use Rattle.hir_raw.specs.declared.raw.RawLang.{RawLang}
 use Rattle.hir_raw.specs.declared.raw.RawLang.TheVariants as lang
 use Rattle.hir_raw.specs.declared.raw.RawFacts.{RawFacts}
-use Rattle.hir_raw.specs.Goals.{arg_types}
-
-abbrev pub is_sized_lang : TraitId → RawLang → Bool
-is_sized_lang t (lang.Sized u) = u.0 == t.0
-is_sized_lang t (lang.Copy u) = false
-is_sized_lang t (lang.Clone u) = false
-is_sized_lang t lang.Other = false
+use Rattle.hir_raw.specs.Goals.{arg_types, is_sized_lang}
 
 -- no item but the trait has this name
 abbrev pub is_one_sized_lang : TraitId → RawLang → Bool

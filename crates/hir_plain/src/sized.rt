@@ -1,19 +1,11 @@
 //! Predicates that say that a type parameter has a size: the Rust Reference, "Trait and lifetime bounds".
 ghost use Rattle.std.specs.Prelude.{◌≡◌, slice_get};
 ghost use Rattle.std.specs.List.{list_all, list_any};
-ghost use Rattle.hir_plain.specs.Sized.{is_sized_lang, is_one_sized_lang, is_sized_trait, param_number, only_param, sized_param, is_number, is_below, is_sized_of, is_sized_pred};
+ghost use Rattle.hir_raw.specs.Goals.{is_sized_lang};
+ghost use Rattle.hir_plain.specs.Sized.{is_one_sized_lang, is_sized_trait, param_number, only_param, sized_param, is_number, is_below, is_sized_of, is_sized_pred};
 
-use hir_raw::{RawFacts, RawGoal, RawLang, RawType};
+use hir_raw::{RawFacts, RawGoal, RawLang, RawType, some_sized};
 use hir_types::{TraitId, TypeRefId};
-
-fn is_sized_lang(id: TraitId, item: RawLang) -> bool
-    ensures { result ≡ is_sized_lang id item }
-{
-    match item {
-        RawLang::Sized(sized) => sized.0 == id.0,
-        RawLang::Copy(_) | RawLang::Clone(_) | RawLang::Other => false,
-    }
-}
 
 /// Whether the item is none of this name, or the trait.
 fn is_one_sized_lang(id: TraitId, item: RawLang) -> bool
@@ -23,15 +15,6 @@ fn is_one_sized_lang(id: TraitId, item: RawLang) -> bool
         RawLang::Sized(sized) => sized.0 == id.0,
         RawLang::Copy(_) | RawLang::Clone(_) | RawLang::Other => true,
     }
-}
-
-fn some_sized(raw: &RawFacts, id: TraitId) -> bool
-    ensures { result ≡ list_any (is_sized_lang id) raw.now.lang }
-{
-    raw.lang
-        .as_slice()
-        .iter()
-        .any(|item| is_sized_lang(id, *item))
 }
 
 fn no_other_sized(raw: &RawFacts, id: TraitId) -> bool

@@ -1,6 +1,6 @@
 -- Types that name what there is.
 use Rattle.std.specs.List.{list_all}
-use Rattle.std.specs.Prelude.{Bool, true, false, ◌&&◌, nat_lt, List, [], ◌∷◌, length, slice_get, Option, Some, None}
+use Rattle.std.specs.Prelude.{ℕ, Bool, true, false, ◌&&◌, nat_lt, List, [], ◌∷◌, length, slice_get, Option, Some, None}
 use Rattle.hir_types.specs.declared.ids.GenericDefId.{GenericDefId}
 use Rattle.hir_types.specs.declared.ids.TraitId.{TraitId}
 use Rattle.hir_types.specs.declared.ty.Ty.{Ty, Ty-F, fold-Ty}
@@ -39,40 +39,42 @@ names_none None [] (t ∷ ts) = false
 names_none None (b ∷ bs) ts = false
 names_none (Some t) bs ts = false
 
-abbrev pub fits_step : Scope → Ty-F Bool Bool Bool Bool → Bool
-fits_step sc Ty-F.Bool = true
-fits_step sc Ty-F.Char = true
-fits_step sc (Ty-F.Int i) = true
-fits_step sc (Ty-F.Uint i) = true
-fits_step sc (Ty-F.Float f) = true
-fits_step sc Ty-F.Str = true
-fits_step sc Ty-F.Never = true
-fits_step sc (Ty-F.Tuple bs) = list_all (λ b. b) bs
-fits_step sc (Ty-F.Array b c) = b && const_fits c
-fits_step sc (Ty-F.Slice b) = b
-fits_step sc (Ty-F.Ref m r b) = b
-fits_step sc (Ty-F.RawPtr m b) = b
-fits_step sc (Ty-F.Adt i bs) = has_params (adt_params sc.facts i) (length bs) && list_all (λ b. b) bs
-fits_step sc (Ty-F.FnDef i bs) = has_params (callable_params sc.facts i) (length bs) && list_all (λ b. b) bs
-fits_step sc (Ty-F.FnPtr s bs b) = list_all (λ b. b) bs && b
-fits_step sc (Ty-F.Closure i bs b) = list_all (λ b. b) bs && b
-fits_step sc (Ty-F.Dynamic o bs ts) = names_none o bs ts
-fits_step sc (Ty-F.Param n) = nat_lt n sc.params
-fits_step sc (Ty-F.Projection i bs) = has_params (alias_params_by sc.facts (slice_get sc.facts.aliases i.0)) (length bs) && list_all (λ b. b) bs
-fits_step sc (Ty-F.Opaque i bs) = false
-fits_step sc Ty-F.Error = true
-fits_step sc (Ty-F.Var n) = true
-fits_step sc (Ty-F.IntVar n) = true
-fits_step sc Ty-F.Hole = true
+-- under so many parameters
+abbrev pub fits_step : RawFacts → ℕ → Ty-F Bool Bool Bool Bool → Bool
+fits_step raw n Ty-F.Bool = true
+fits_step raw n Ty-F.Char = true
+fits_step raw n (Ty-F.Int i) = true
+fits_step raw n (Ty-F.Uint i) = true
+fits_step raw n (Ty-F.Float f) = true
+fits_step raw n Ty-F.Str = true
+fits_step raw n Ty-F.Never = true
+fits_step raw n (Ty-F.Tuple bs) = list_all (λ b. b) bs
+fits_step raw n (Ty-F.Array b c) = b && const_fits c
+fits_step raw n (Ty-F.Slice b) = b
+fits_step raw n (Ty-F.Ref m r b) = b
+fits_step raw n (Ty-F.RawPtr m b) = b
+fits_step raw n (Ty-F.Adt i bs) = has_params (adt_params raw i) (length bs) && list_all (λ b. b) bs
+fits_step raw n (Ty-F.FnDef i bs) = has_params (callable_params raw i) (length bs) && list_all (λ b. b) bs
+fits_step raw n (Ty-F.FnPtr s bs b) = list_all (λ b. b) bs && b
+fits_step raw n (Ty-F.Closure i bs b) = list_all (λ b. b) bs && b
+fits_step raw n (Ty-F.Dynamic o bs ts) = names_none o bs ts
+fits_step raw n (Ty-F.Param i) = nat_lt i n
+fits_step raw n (Ty-F.Projection i bs) = has_params (alias_params_by raw (slice_get raw.aliases i.0)) (length bs) && list_all (λ b. b) bs
+fits_step raw n (Ty-F.AssociatedType i bs) = has_params (alias_params_by raw (slice_get raw.aliases i.0)) (length bs) && list_all (λ b. b) bs
+fits_step raw n (Ty-F.Opaque i bs) = false
+fits_step raw n Ty-F.Error = true
+fits_step raw n (Ty-F.Var i) = true
+fits_step raw n (Ty-F.IntVar i) = true
+fits_step raw n Ty-F.Hole = true
 
 -- Each id other than a closure's and each parameter in the type is in range, and argument lists are as the
 -- parameters. Holes are not the facts' concern.
 abbrev pub ty_fits : Scope → Ty → Bool
-ty_fits sc = fold-Ty Bool Bool Bool Bool fits_arg (fits_step sc) fits_bound fits_trait
+ty_fits sc = fold-Ty Bool Bool Bool Bool fits_arg (fits_step sc.facts sc.params) fits_bound fits_trait
 
 -- an argument is a type that fits
 abbrev pub arg_fits : Scope → GenericArg → Bool
-arg_fits sc = fold-GenericArg Bool Bool Bool Bool fits_arg (fits_step sc) fits_bound fits_trait
+arg_fits sc = fold-GenericArg Bool Bool Bool Bool fits_arg (fits_step sc.facts sc.params) fits_bound fits_trait
 
 -- under the parameters of this item
 abbrev pub fits : RawFacts → GenericDefId → Ty → Bool

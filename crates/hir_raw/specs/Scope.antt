@@ -1,12 +1,14 @@
 -- What the types of a definition may name: the items of the facts, and the definition's own parameters.
-use Rattle.std.specs.Prelude.{ℕ, ◌+◌, Bool, false, ◌==◌, List, length, slice_get, Option, Some, None, option_map}
+use Rattle.std.specs.Prelude.{ℕ, ◌+◌, Bool, false, not, ◌==◌, List, length, slice_get, Option, Some, None, option_map}
 use Rattle.std.specs.Option.{option_and_then}
+use Rattle.std.specs.List.{list_any}
 use Rattle.hir_types.specs.declared.ids.AdtId.{AdtId}
 use Rattle.hir_types.specs.declared.ids.CallableDefId.{CallableDefId}
 use Rattle.hir_types.specs.declared.ids.CallableDefId.TheVariants as callable
 use Rattle.hir_types.specs.declared.ids.DefWithBodyId.{DefWithBodyId}
 use Rattle.hir_types.specs.declared.ids.DefWithBodyId.TheVariants as def
 use Rattle.hir_types.specs.declared.ids.TraitId.{TraitId}
+use Rattle.hir_types.specs.declared.ids.TypeAliasId.{TypeAliasId}
 use Rattle.hir_types.specs.declared.ids.GenericDefId.{GenericDefId}
 use Rattle.hir_types.specs.declared.ids.GenericDefId.TheVariants as generic
 use Rattle.hir_raw.specs.declared.raw.RawAlias.{RawAlias}
@@ -14,13 +16,18 @@ use Rattle.hir_raw.specs.declared.raw.RawPath.{RawPath}
 use Rattle.hir_raw.specs.declared.raw.RawPath.TheVariants as path
 use Rattle.hir_raw.specs.declared.raw.RawFacts.{RawFacts}
 use Rattle.hir_raw.specs.declared.raw.RawFn.{RawFn}
+use Rattle.hir_raw.specs.declared.raw.RawGoal.{RawGoal}
+use Rattle.hir_raw.specs.declared.raw.RawGoal.TheVariants as goal
 use Rattle.hir_raw.specs.declared.raw.RawType.{RawType}
+use Rattle.hir_raw.specs.Goals.{is_sized_lang}
 use Rattle.hir_raw.specs.Hidden.{fn_aliases}
 
 pub record Scope : Type 0 where
   pub facts : RawFacts
   -- how many parameters the definition has
   pub params : ℕ
+  -- whether associated types that stay may be types in it
+  pub associated : Bool
 
 -- the function or constructor that a path names, where it names one
 abbrev pub names_item : RawPath → Option CallableDefId
@@ -61,6 +68,9 @@ abbrev pub alias_params_by : RawFacts → Option RawAlias → Option ℕ
 alias_params_by raw None = None
 alias_params_by raw (Some a) = params_in_trait raw a.trait_
 
+abbrev pub alias_params : RawFacts → TypeAliasId → Option ℕ
+alias_params raw a = alias_params_by raw (slice_get raw.aliases a.0)
+
 -- those of an item, where it exists and items of its kind are carried
 abbrev pub params_of_item : RawFacts → GenericDefId → Option ℕ
 params_of_item raw (generic.AdtId a) = adt_params raw a
@@ -77,17 +87,39 @@ count_or_none (Some n) = n
 
 -- ---- how many are in scope
 
+-- of written types: none of these is an associated type that stays
+abbrev pub types_scope : RawFacts → ℕ → Scope
+types_scope raw n = record { facts = raw; params = n; associated = false }
+
 -- in the types of an item
 abbrev pub generic_params : RawFacts → GenericDefId → ℕ
 generic_params raw item = count_or_none (params_of_item raw item)
 
 abbrev pub item_scope : RawFacts → GenericDefId → Scope
-item_scope raw item = record { facts = raw; params = generic_params raw item }
+item_scope raw item = types_scope raw (generic_params raw item)
 
 -- in the body of a definition
 abbrev pub params_of : RawFacts → DefWithBodyId → ℕ
 params_of raw (def.FunctionId f) = count_or_none (fn_params raw f.0)
 params_of raw _ = 0
 
+-- the goal is that a type has a size
+abbrev pub is_size_goal : RawFacts → RawGoal → Bool
+is_size_goal raw (goal.Trait r) = list_any (is_sized_lang r.trait_) raw.lang
+is_size_goal raw (goal.Projection a xs t) = false
+
+-- the function states more than that types have a size
+abbrev pub states_more : RawFacts → RawFn → Bool
+states_more raw f = list_any (λ g. not (is_size_goal raw g)) f.preds
+
+abbrev pub states_more_by : RawFacts → Option RawFn → Bool
+states_more_by raw None = false
+states_more_by raw (Some f) = states_more raw f
+
+-- Whether associated types that stay may be types in the body of a definition: what it states is what they come of. So no plain body has any.
+abbrev pub has_associated : RawFacts → DefWithBodyId → Bool
+has_associated raw (def.FunctionId f) = states_more_by raw (slice_get raw.fns f.0)
+has_associated raw _ = false
+
 abbrev pub scope_of : RawFacts → DefWithBodyId → Scope
-scope_of raw d = record { facts = raw; params = params_of raw d }
+scope_of raw d = record { facts = raw; params = params_of raw d; associated = has_associated raw d }

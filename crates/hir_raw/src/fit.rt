@@ -1,6 +1,7 @@
 //! Types that name what the facts have.
 ghost use Rattle.std.specs.Prelude.{◌≡◌};
 ghost use Rattle.std.specs.List.{list_all};
+ghost use Rattle.hir_raw.specs.Scope.{types_scope};
 ghost use Rattle.hir_raw.specs.Fit.{const_fits, names_none, ty_fits, arg_fits};
 
 use crate::raw::RawFacts;
@@ -32,7 +33,7 @@ fn names_none(
 #[cycle(fit)]
 #[tactic(auto, using(crate::specs::Fitting::ty_fits_is))]
 pub fn ty_fits(raw: &RawFacts, params: usize, ty: &Ty) -> bool
-    ensures { result ≡ ty_fits (record { facts = raw.now; params = params }) ty.now }
+    ensures { result ≡ ty_fits (types_scope raw.now params) ty.now }
 {
     match ty {
         Ty::Tuple(tys) => all_fit(raw, params, tys),
@@ -44,7 +45,7 @@ pub fn ty_fits(raw: &RawFacts, params: usize, ty: &Ty) -> bool
         Ty::FnDef(id, args) => {
             callable_has_params(raw, *id, args.len()) && args_fit(raw, params, args)
         }
-        Ty::Projection(id, args) => {
+        Ty::Projection(id, args) | Ty::AssociatedType(id, args) => {
             has_params(alias_params(raw, *id), args.len()) && args_fit(raw, params, args)
         }
         Ty::FnPtr { inputs, output, .. } | Ty::Closure { inputs, output, .. } => {
@@ -65,7 +66,7 @@ pub fn ty_fits(raw: &RawFacts, params: usize, ty: &Ty) -> bool
 #[cycle(fit)]
 #[tactic(auto, using(crate::specs::Fitting::ty_fits_is))]
 fn arg_fits(raw: &RawFacts, params: usize, arg: &GenericArg) -> bool
-    ensures { result ≡ arg_fits (record { facts = raw.now; params = params }) arg.now }
+    ensures { result ≡ arg_fits (types_scope raw.now params) arg.now }
 {
     match arg {
         GenericArg::Ty(ty) => ty_fits(raw, params, ty),
@@ -75,7 +76,7 @@ fn arg_fits(raw: &RawFacts, params: usize, arg: &GenericArg) -> bool
 
 #[cycle(fit)]
 fn all_fit(raw: &RawFacts, params: usize, tys: &List<Ty>) -> bool
-    ensures { result ≡ list_all (ty_fits (record { facts = raw.now; params = params })) tys.now }
+    ensures { result ≡ list_all (ty_fits (types_scope raw.now params)) tys.now }
 {
     for ty in tys.as_slice() {
         if !ty_fits(raw, params, ty) {
@@ -87,7 +88,7 @@ fn all_fit(raw: &RawFacts, params: usize, tys: &List<Ty>) -> bool
 
 #[cycle(fit)]
 fn args_fit(raw: &RawFacts, params: usize, args: &List<GenericArg>) -> bool
-    ensures { result ≡ list_all (arg_fits (record { facts = raw.now; params = params })) args.now }
+    ensures { result ≡ list_all (arg_fits (types_scope raw.now params)) args.now }
 {
     for arg in args.as_slice() {
         if !arg_fits(raw, params, arg) {

@@ -19,4 +19,4 @@ pub use raw::{
     RawTraitRef, RawType, RawVariant, RawVis,
 };
 pub use schedule::{Schedule, is_low, schedule_of};
-pub use scope::{alias_params, generic_params, has_params};
+pub use scope::{alias_params, generic_params, has_associated, has_params, some_sized};

@@ -1,11 +1,15 @@
 //! How many parameters items have.
 ghost use Rattle.std.specs.Prelude.{◌≡◌, slice_get};
-ghost use Rattle.hir_raw.specs.Scope.{fn_params, adt_params, callable_params, has_params, params_in_trait, alias_params_by, params_of_item, generic_params};
+ghost use Rattle.std.specs.List.{list_any};
+ghost use Rattle.hir_raw.specs.Goals.{is_sized_lang};
+ghost use Rattle.hir_raw.specs.Scope.{fn_params, adt_params, callable_params, has_params, params_in_trait, alias_params_by, params_of_item, generic_params, is_size_goal, states_more, states_more_by, has_associated};
 ghost use Rattle.hir_types.specs.declared.ids.GenericDefId.TheVariants as generic;
 
 use crate::hidden::less_fn_aliases;
-use crate::raw::RawFacts;
-use hir_types::{AdtId, CallableDefId, FunctionId, GenericDefId, ImplId, TraitId, TypeAliasId};
+use crate::raw::{RawFacts, RawFn, RawGoal, RawLang};
+use hir_types::{
+    AdtId, CallableDefId, DefWithBodyId, FunctionId, GenericDefId, ImplId, TraitId, TypeAliasId,
+};
 
 fn fn_params(raw: &RawFacts, function: FunctionId) -> Option<usize>
     ensures { result ≡ fn_params raw.now function.0 }
@@ -100,5 +104,57 @@ pub fn generic_params(raw: &RawFacts, item: GenericDefId) -> usize
     match params {
         Some(params) => params,
         None => 0,
+    }
+}
+
+fn is_sized_lang(id: TraitId, item: RawLang) -> bool
+    ensures { result ≡ is_sized_lang id item }
+{
+    match item {
+        RawLang::Sized(sized) => sized.0 == id.0,
+        RawLang::Copy(_) | RawLang::Clone(_) | RawLang::Other => false,
+    }
+}
+
+/// Whether some item says that the trait is that of types whose size is known.
+pub fn some_sized(raw: &RawFacts, id: TraitId) -> bool
+    ensures { result ≡ list_any (is_sized_lang id) raw.now.lang }
+{
+    raw.lang
+        .as_slice()
+        .iter()
+        .any(|item| is_sized_lang(id, *item))
+}
+
+fn is_size_goal(raw: &RawFacts, goal: &RawGoal) -> bool
+    ensures { result ≡ is_size_goal raw.now goal.now }
+{
+    match goal {
+        RawGoal::Trait(trait_ref) => some_sized(raw, trait_ref.trait_),
+        RawGoal::Projection { .. } => false,
+    }
+}
+
+fn states_more(raw: &RawFacts, function: &RawFn) -> bool
+    ensures { result ≡ states_more raw.now function.now }
+{
+    function
+        .preds
+        .as_slice()
+        .iter()
+        .any(|goal| !is_size_goal(raw, goal))
+}
+
+/// Whether associated types that stay may be types in the body of a definition: its function states more
+/// than that types have a size.
+pub fn has_associated(raw: &RawFacts, owner: DefWithBodyId) -> bool
+    ensures { result ≡ has_associated raw.now owner }
+{
+    match owner {
+        DefWithBodyId::FunctionId(function) => match raw.fns.get(function.0 as usize) {
+            Some(function) => states_more(raw, function),
+            None => false,
+        },
+        _ => false,
     }
 }

@@ -190,7 +190,7 @@ abbrev V : the_members → Type 0
 V = carrier.Values the_members the_sigs the_carrier
 
 abbrev ty_each : Each Bool ty.the_parts
-ty_each = (λ a b. true, (λ a b. true, (λ a b. int_eq a.0 b.0, (λ a b. uint_eq a.0 b.0, (λ a b. float_eq a.0 b.0, (λ a b. true, (λ a b. true, (λ a b. pointwise ty_eq a.0 b.0, (λ a b. ty_eq a.0 b.0 && const_eq a.1.0 b.1.0, (λ a b. ty_eq a.0 b.0, (λ a b. mutability_eq a.0 b.0 && (region_eq a.1.0 b.1.0 && ty_eq a.1.1.0 b.1.1.0), (λ a b. mutability_eq a.0 b.0 && ty_eq a.1.0 b.1.0, (λ a b. adt_id_eq a.0 b.0 && pointwise arg_eq a.1.0 b.1.0, (λ a b. callable_id_eq a.0 b.0 && pointwise arg_eq a.1.0 b.1.0, (λ a b. safety_eq a.0 b.0 && (pointwise ty_eq a.1.0 b.1.0 && ty_eq a.1.1.0 b.1.1.0), (λ a b. closure_id_eq a.0 b.0 && (pointwise ty_eq a.1.0 b.1.0 && ty_eq a.1.1.0 b.1.1.0), (λ a b. option_eq trait_eq a.0 b.0 && (pointwise bound_eq a.1.0 b.1.0 && pointwise trait_id_eq a.1.1.0 b.1.1.0), (λ a b. nat_eq a.0 b.0, (λ a b. alias_id_eq a.0 b.0 && pointwise arg_eq a.1.0 b.1.0, (λ a b. opaque_id_eq a.0 b.0 && pointwise arg_eq a.1.0 b.1.0, (λ a b. true, (λ a b. nat_eq a.0 b.0, (λ a b. nat_eq a.0 b.0, (λ a b. true, tt))))))))))))))))))))))))
+ty_each = (λ a b. true, (λ a b. true, (λ a b. int_eq a.0 b.0, (λ a b. uint_eq a.0 b.0, (λ a b. float_eq a.0 b.0, (λ a b. true, (λ a b. true, (λ a b. pointwise ty_eq a.0 b.0, (λ a b. ty_eq a.0 b.0 && const_eq a.1.0 b.1.0, (λ a b. ty_eq a.0 b.0, (λ a b. mutability_eq a.0 b.0 && (region_eq a.1.0 b.1.0 && ty_eq a.1.1.0 b.1.1.0), (λ a b. mutability_eq a.0 b.0 && ty_eq a.1.0 b.1.0, (λ a b. adt_id_eq a.0 b.0 && pointwise arg_eq a.1.0 b.1.0, (λ a b. callable_id_eq a.0 b.0 && pointwise arg_eq a.1.0 b.1.0, (λ a b. safety_eq a.0 b.0 && (pointwise ty_eq a.1.0 b.1.0 && ty_eq a.1.1.0 b.1.1.0), (λ a b. closure_id_eq a.0 b.0 && (pointwise ty_eq a.1.0 b.1.0 && ty_eq a.1.1.0 b.1.1.0), (λ a b. option_eq trait_eq a.0 b.0 && (pointwise bound_eq a.1.0 b.1.0 && pointwise trait_id_eq a.1.1.0 b.1.1.0), (λ a b. nat_eq a.0 b.0, (λ a b. alias_id_eq a.0 b.0 && pointwise arg_eq a.1.0 b.1.0, (λ a b. alias_id_eq a.0 b.0 && pointwise arg_eq a.1.0 b.1.0, (λ a b. opaque_id_eq a.0 b.0 && pointwise arg_eq a.1.0 b.1.0, (λ a b. true, (λ a b. nat_eq a.0 b.0, (λ a b. nat_eq a.0 b.0, (λ a b. true, tt)))))))))))))))))))))))))
 
 abbrev arg_each : Each Bool arg.the_parts
 arg_each = (λ a b. ty_eq a.0 b.0, (λ a b. const_eq a.0 b.0, tt))
@@ -260,6 +260,7 @@ ty_parts (Ty-F.Dynamic None bs ts) = with_traits None bs ts
 ty_parts (Ty-F.Dynamic (Some t) bs ts) = with_traits (Some t) bs ts
 ty_parts (Ty-F.Param n) = one_tells nat_eq n (nat_tells n)
 ty_parts (Ty-F.Projection i xs) = with_args alias_id_eq i xs (alias_id_tells i)
+ty_parts (Ty-F.AssociatedType i xs) = with_args alias_id_eq i xs (alias_id_tells i)
 ty_parts (Ty-F.Opaque i xs) = with_args opaque_id_eq i xs (opaque_id_tells i)
 ty_parts Ty-F.Error = λ y h. refl
 ty_parts (Ty-F.Var n) = one_tells nat_eq n (nat_tells n)

@@ -209,6 +209,7 @@ module _ (f g : Assignment) where
       let parts : On (chain front) = on_first front (auto_parts ids) (on_right (leaf head.Dynamic) (chain (front ++ auto_parts ids)) h) in
       λ i. roll-Ty (Ty-F.Dynamic (Some (r.1 (on_first (trait_parts r.0) bounds parts) i)) (bounds_agree bs (on_rest (trait_parts r.0) bounds parts) i) ids)
   ty_layer_agrees (Ty-F.Projection id xs) h = λ i. roll-Ty (Ty-F.Projection id (args_agree xs (on_right (leaf (head.Projection id)) (chain (map arg_term (map (λ e. e.0) xs))) h) i))
+  ty_layer_agrees (Ty-F.AssociatedType id xs) h = λ i. roll-Ty (Ty-F.AssociatedType id (args_agree xs (on_right (leaf (head.AssociatedType id)) (chain (map arg_term (map (λ e. e.0) xs))) h) i))
   ty_layer_agrees (Ty-F.Opaque id xs) h = λ i. roll-Ty (Ty-F.Opaque id (args_agree xs (on_right (leaf (head.Opaque id)) (chain (map arg_term (map (λ e. e.0) xs))) h) i))
   ty_layer_agrees _ h = refl
 

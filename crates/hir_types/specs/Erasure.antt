@@ -77,6 +77,7 @@ hole_step (Ty-F.Closure i bs b) = list_any (λ b. b) bs || b
 hole_step (Ty-F.Dynamic o bs ts) = so_or_none o || list_any (λ b. b) bs
 hole_step (Ty-F.Param n) = false
 hole_step (Ty-F.Projection i bs) = list_any (λ b. b) bs
+hole_step (Ty-F.AssociatedType i bs) = list_any (λ b. b) bs
 hole_step (Ty-F.Opaque i bs) = list_any (λ b. b) bs
 hole_step Ty-F.Error = false
 hole_step (Ty-F.Var n) = true

@@ -119,6 +119,7 @@ module _ (A T B R : Type 0) (s : Steps A T B R) (m n : Maps A T B R) (by_m : GoB
   ty_layer_same (Ty-F.Dynamic None bs ids) = λ i. Ty-F.Dynamic None (map_agreed m.bound n.bound bs i) ids
   ty_layer_same (Ty-F.Dynamic (Some r) bs ids) = λ i. Ty-F.Dynamic (Some (r.1 i)) (map_agreed m.bound n.bound bs i) ids
   ty_layer_same (Ty-F.Projection id xs) = λ i. Ty-F.Projection id (map_agreed m.arg n.arg xs i)
+  ty_layer_same (Ty-F.AssociatedType id xs) = λ i. Ty-F.AssociatedType id (map_agreed m.arg n.arg xs i)
   ty_layer_same (Ty-F.Opaque id xs) = λ i. Ty-F.Opaque id (map_agreed m.arg n.arg xs i)
   ty_layer_same _ = refl
 
@@ -198,6 +199,7 @@ in_ty_twice m n (Ty-F.Closure id ts t) = λ i. Ty-F.Closure id (map_twice m.ty n
 in_ty_twice m n (Ty-F.Dynamic None bs ids) = λ i. Ty-F.Dynamic None (map_twice m.bound n.bound bs i) ids
 in_ty_twice m n (Ty-F.Dynamic (Some r) bs ids) = λ i. Ty-F.Dynamic (Some (m.trait (n.trait r))) (map_twice m.bound n.bound bs i) ids
 in_ty_twice m n (Ty-F.Projection id xs) = λ i. Ty-F.Projection id (map_twice m.arg n.arg xs i)
+in_ty_twice m n (Ty-F.AssociatedType id xs) = λ i. Ty-F.AssociatedType id (map_twice m.arg n.arg xs i)
 in_ty_twice m n (Ty-F.Opaque id xs) = λ i. Ty-F.Opaque id (map_twice m.arg n.arg xs i)
 in_ty_twice m n _ = refl
 
@@ -221,6 +223,7 @@ in_ty_itself (Ty-F.Closure id ts t) = λ i. Ty-F.Closure id (map_itself ts i) t
 in_ty_itself (Ty-F.Dynamic None bs ids) = λ i. Ty-F.Dynamic None (map_itself bs i) ids
 in_ty_itself (Ty-F.Dynamic (Some r) bs ids) = λ i. Ty-F.Dynamic (Some r) (map_itself bs i) ids
 in_ty_itself (Ty-F.Projection id xs) = λ i. Ty-F.Projection id (map_itself xs i)
+in_ty_itself (Ty-F.AssociatedType id xs) = λ i. Ty-F.AssociatedType id (map_itself xs i)
 in_ty_itself (Ty-F.Opaque id xs) = λ i. Ty-F.Opaque id (map_itself xs i)
 in_ty_itself _ = refl
 

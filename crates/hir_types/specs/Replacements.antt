@@ -14,6 +14,7 @@ use Rattle.hir_types.specs.declared.ty.TraitRef.{TraitRef, roll-TraitRef}
 use Rattle.hir_types.specs.declared.ty.AliasBound.{AliasBound, roll-AliasBound}
 use Rattle.hir_types.specs.Folds.{map_twice, map_itself, Steps, Maps, folds, folds_follow, GoBySteps, SameMaps, unique, maps_after, itself, in_arg, in_ty, in_ty_twice, in_ty_itself, in_bound_itself, in_trait_itself}
 use Rattle.hir_types.specs.Subst.{Replacement, const_replaced, ty_layer, arg_layer, replaced, arg_replaced, bound_replaced, trait_replaced, args_replaced, Assignment, with_holes, each_itself, folded, const_folded, arg_folded, trait_folded, composed}
+use Rattle.hir_types.specs.declared.ids.TypeAliasId.{TypeAliasId}
 
 abbrev pub layers : Replacement → Steps GenericArg Ty AliasBound TraitRef
 layers s = record { arg = arg_layer s; ty = ty_layer s; bound = roll-AliasBound; trait = roll-TraitRef }
@@ -49,6 +50,9 @@ replaced_array s t c = ap (replaced s) (sym (ty.rolls-Array t c)) ∙ at_ty s (T
 
 pub replaced_adt : (s : Replacement) (id : AdtId) (xs : List GenericArg) → replaced s (ty.Adt id xs) ≡ ty.Adt id (args_replaced s xs)
 replaced_adt s id xs = ap (replaced s) (sym (ty.rolls-Adt id xs)) ∙ at_ty s (Ty-F.Adt id xs) ∙ ty.rolls-Adt id (args_replaced s xs)
+
+pub replaced_associated_type : (s : Replacement) (id : TypeAliasId) (xs : List GenericArg) → replaced s (ty.AssociatedType id xs) ≡ ty.AssociatedType id (args_replaced s xs)
+replaced_associated_type s id xs = ap (replaced s) (sym (ty.rolls-AssociatedType id xs)) ∙ at_ty s (Ty-F.AssociatedType id xs) ∙ ty.rolls-AssociatedType id (args_replaced s xs)
 
 pub replaced_fn_def : (s : Replacement) (id : CallableDefId) (xs : List GenericArg) → replaced s (ty.FnDef id xs) ≡ ty.FnDef id (args_replaced s xs)
 replaced_fn_def s id xs = ap (replaced s) (sym (ty.rolls-FnDef id xs)) ∙ at_ty s (Ty-F.FnDef id xs) ∙ ty.rolls-FnDef id (args_replaced s xs)

@@ -112,6 +112,9 @@ term_param n = ap term (sym (ty.rolls-Param n)) ∙ term_at (Ty-F.Param n)
 pub term_projection : (id : TypeAliasId) (xs : List GenericArg) → term (ty.Projection id xs) ≡ node (head.Projection id) (map arg_term xs)
 term_projection id xs = ap term (sym (ty.rolls-Projection id xs)) ∙ term_at (Ty-F.Projection id xs)
 
+pub term_associated_type : (id : TypeAliasId) (xs : List GenericArg) → term (ty.AssociatedType id xs) ≡ node (head.AssociatedType id) (map arg_term xs)
+term_associated_type id xs = ap term (sym (ty.rolls-AssociatedType id xs)) ∙ term_at (Ty-F.AssociatedType id xs)
+
 pub term_opaque : (id : OpaqueId) (xs : List GenericArg) → term (ty.Opaque id xs) ≡ node (head.Opaque id) (map arg_term xs)
 term_opaque id xs = ap term (sym (ty.rolls-Opaque id xs)) ∙ term_at (Ty-F.Opaque id xs)
 
@@ -140,6 +143,9 @@ args_terms (t ∷ ts) = λ i. arg_term_type t i ∷ args_terms ts i
 pub term_adt_types : (id : AdtId) (ts : List Ty) → term (ty.Adt id (map arg.Ty ts)) ≡ node (head.Adt id) (parts_of_types ts)
 term_adt_types id ts = term_adt id (map arg.Ty ts) ∙ ap (node (head.Adt id)) (args_terms ts)
 
+pub term_associated_types : (id : TypeAliasId) (ts : List Ty) → term (ty.AssociatedType id (map arg.Ty ts)) ≡ node (head.AssociatedType id) (parts_of_types ts)
+term_associated_types id ts = term_associated_type id (map arg.Ty ts) ∙ ap (node (head.AssociatedType id)) (args_terms ts)
+
 pub term_fn_def_types : (id : CallableDefId) (ts : List Ty) → term (ty.FnDef id (map arg.Ty ts)) ≡ node (head.FnDef id) (parts_of_types ts)
 term_fn_def_types id ts = term_fn_def id (map arg.Ty ts) ∙ ap (node (head.FnDef id)) (args_terms ts)
 
@@ -149,7 +155,7 @@ trait_parts_is r = (folds_follow term_steps).trait (record { id = r.id; args = r
 pub bound_parts_is : (b : AliasBound) → bound_parts b ≡ leaf (head.Bound b.alias) ∷ type_part (term b.ty) ∷ []
 bound_parts_is b = (folds_follow term_steps).bound (record { alias = b.alias; ty = b.ty })
 
-pub ruleset term_is = (term_bool, term_char, term_int, term_uint, term_float, term_str, term_never, term_tuple, term_array, term_slice, term_ref, term_raw_ptr, term_adt, term_fn_def, term_fn_ptr, term_closure, term_dynamic, term_param, term_projection, term_opaque, term_error, term_var, term_int_var, term_hole, arg_term_type, arg_term_const, trait_parts_is, bound_parts_is)
+pub ruleset term_is = (term_bool, term_char, term_int, term_uint, term_float, term_str, term_never, term_tuple, term_array, term_slice, term_ref, term_raw_ptr, term_adt, term_fn_def, term_fn_ptr, term_closure, term_dynamic, term_param, term_projection, term_associated_type, term_opaque, term_error, term_var, term_int_var, term_hole, arg_term_type, arg_term_const, trait_parts_is, bound_parts_is)
 
 -- ---- a replacement acts on the term
 
@@ -263,6 +269,7 @@ term_ty_layer s (Ty-F.Closure id ts t) = apply_node (terms_of s) (head.Closure i
 term_ty_layer s (Ty-F.Dynamic None bs ids) = dynamic_under (terms_of s) (leaf head.NoPrincipal ∷ []) bs ids
 term_ty_layer s (Ty-F.Dynamic (Some r) bs ids) = dynamic_under (terms_of s) (trait_parts r) bs ids
 term_ty_layer s (Ty-F.Projection id xs) = args_under (terms_of s) (head.Projection id) xs
+term_ty_layer s (Ty-F.AssociatedType id xs) = args_under (terms_of s) (head.AssociatedType id) xs
 term_ty_layer s (Ty-F.Opaque id xs) = args_under (terms_of s) (head.Opaque id) xs
 term_ty_layer s _ = refl
 

@@ -87,6 +87,7 @@ ty_step (Ty-F.Closure id ts t) = node (head.Closure id) (map type_part ts ++ typ
 ty_step (Ty-F.Dynamic p bs ids) = node head.Dynamic (principal_parts p ++ flat_map (λ b. b) bs ++ auto_parts ids)
 ty_step (Ty-F.Param n) = node (head.Param n) []
 ty_step (Ty-F.Projection id xs) = node (head.Projection id) xs
+ty_step (Ty-F.AssociatedType id xs) = node (head.AssociatedType id) xs
 ty_step (Ty-F.Opaque id xs) = node (head.Opaque id) xs
 ty_step Ty-F.Error = node head.Error []
 ty_step (Ty-F.Var n) = hole (hole_of.Ty n)

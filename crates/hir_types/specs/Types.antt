@@ -57,6 +57,7 @@ measured_step of_list of_two (Ty-F.Closure i ns n) = of_two (of_list ns) n + 1
 measured_step of_list of_two (Ty-F.Dynamic o ns ts) = of_two (number_or_none o) (of_list ns) + 1
 measured_step of_list of_two (Ty-F.Param n) = 1
 measured_step of_list of_two (Ty-F.Projection i ns) = of_list ns + 1
+measured_step of_list of_two (Ty-F.AssociatedType i ns) = of_list ns + 1
 measured_step of_list of_two (Ty-F.Opaque i ns) = of_list ns + 1
 measured_step of_list of_two Ty-F.Error = 1
 measured_step of_list of_two (Ty-F.Var n) = 1

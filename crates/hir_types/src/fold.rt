@@ -123,6 +123,10 @@ pub fn fold_ty<F: TypeFolder>(
             *id,
             fold_args(alloc, args, folder, below, room)?,
         )),
+        Ty::AssociatedType(id, args) => Ok(Ty::AssociatedType(
+            *id,
+            fold_args(alloc, args, folder, below, room)?,
+        )),
         Ty::Opaque(id, args) => Ok(Ty::Opaque(*id, fold_args(alloc, args, folder, below, room)?)),
         Ty::FnPtr {
             safety,

@@ -26,6 +26,8 @@ pub enum Head {
     Dynamic,
     Param(u32),
     Projection(TypeAliasId),
+    /// An associated type that was read and stays.
+    AssociatedType(TypeAliasId),
     Opaque(OpaqueId),
     Error,
     /// A written `_` as a type.

@@ -201,6 +201,7 @@ impl Ty {
             Ty::Adt(id, args) => over_args(alloc, Head::Adt(*id), args),
             Ty::FnDef(id, args) => over_args(alloc, Head::FnDef(*id), args),
             Ty::Projection(alias, args) => over_args(alloc, Head::Projection(*alias), args),
+            Ty::AssociatedType(id, args) => over_args(alloc, Head::AssociatedType(*id), args),
             Ty::Opaque(id, args) => over_args(alloc, Head::Opaque(*id), args),
             Ty::Tuple(tys) => over_types(alloc, tys),
             Ty::Array(ty, length) => over_array(alloc, ty.get(), *length),

@@ -125,7 +125,11 @@ pub enum Ty {
     },
     /// A type parameter, by its number.
     Param(u32),
+    /// An associated type that is still to be read, at the arguments of its trait, the self type first.
     Projection(TypeAliasId, List<GenericArg>),
+    /// An associated type that was read and stays, as a type of its own: equal to another only where its
+    /// arguments are. `<T as Tr>::Out` is one where all that is known of `T` is `T: Tr`.
+    AssociatedType(TypeAliasId, List<GenericArg>),
     Opaque(OpaqueId, List<GenericArg>),
     Error,
     Var(usize),
@@ -166,7 +170,8 @@ impl Drop for Ty {
                 {}
             Ty::Tuple(_) | Ty::Array(_, _) | Ty::Slice(_) | Ty::Ref(_, _, _) | Ty::RawPtr(_, _) =>
                 {}
-            Ty::Adt(_, _) | Ty::FnDef(_, _) | Ty::Projection(_, _) | Ty::Opaque(_, _) => {}
+            Ty::Adt(_, _) | Ty::FnDef(_, _) => {}
+            Ty::Projection(_, _) | Ty::AssociatedType(_, _) | Ty::Opaque(_, _) => {}
             Ty::FnPtr {
                 safety: _,
                 inputs: _,

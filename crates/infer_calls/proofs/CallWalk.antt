@@ -21,7 +21,7 @@ use Rattle.infer_ctx.specs.Steps.{Before, Within, KindDone, Follows, OnlyBinds, 
 use Rattle.infer_ctx.specs.Callables.{IsSigOf, IsSigOfItem}
 use Rattle.infer_ctx.specs.declared.given.CallableSig.{CallableSig}
 use Rattle.infer_ctx.specs.Fine.{IsFine, AllFine}
-use Rattle.infer_ctx.specs.Under.{KindWalked, own_scope}
+use Rattle.infer_ctx.specs.Under.{KindWalked}
 use Rattle.infer_ctx.specs.Walks.{Extends, IsWalked, Nothing, Owed, PaidBy}
 use Rattle.infer_ctx.specs.Context as context
 use Rattle.infer_ctx.specs.Found as found
@@ -36,6 +36,7 @@ use Rattle.infer_ctx.proofs.UnderClosings.{diagnostic_under, of_body_diagnostic,
 use Rattle.infer_ctx.proofs.Keeps.{extends_trans}
 use Rattle.infer_calls.specs.Calls.{CalleeDone, BeforeArgs, ComesToArgs, IsCallOf, BeforeInputs, ArgsDone, ArgsWalked, inputs_at, BeforeLoose, LooseDone, ComesToLoose, LooseWalked, AsksInputs}
 use Rattle.infer_calls.proofs.Calls.{call_done, told_loose, others_done, input_demand, complained_extends}
+use Rattle.hir_raw.specs.Scope.{types_scope}
 
 -- ---- what is called
 module _ (g : Given) (s : Schedule) (n called : ExprId) (args : List ExprId) (c : InferenceContext) (h : Within g s n None c)
@@ -124,8 +125,8 @@ module _ (g : Given) (s : Schedule) (n : ExprId) (args : List ExprId) (t : Ty) (
         each = λ a q.
             let m : Closes a mid = closes_before g a mid new d.follows q in
             let ts : List Ty = map (folded a) h.types in
-            let same : folded a gives ≡ at_args ts h.item.signature.output = known_instance a (own_scope g.scope.facts h.item.signature.params) h.item.signature.output h.types h.item.output in
-            let taken : map (folded a) ss ≡ inputs_at h.item.signature ts = ap (map (folded a)) inputs ∙ instances_under a (own_scope g.scope.facts h.item.signature.params) h.types h.item.signature.inputs h.item.inputs in
+            let same : folded a gives ≡ at_args ts h.item.signature.output = known_instance a (types_scope g.scope.facts h.item.signature.params) h.item.signature.output h.types h.item.output in
+            let taken : map (folded a) ss ≡ inputs_at h.item.signature ts = ap (map (folded a)) inputs ∙ instances_under a (types_scope g.scope.facts h.item.signature.params) h.types h.item.signature.inputs h.item.inputs in
             let carried = fine_closed g.scope a gives q.closing (gives_fine new d.follows.grew).heads in
             subst (λ v. KindWalked g s n None v (found_under a mid) (found_under a new)) (sym same)
             (call_done g s n h.called args h.id h.item.signature ts (found_under a mid) (h.each a m) (found_under a new)
@@ -188,7 +189,7 @@ module _ (g : Given) (s : Schedule) (n : ExprId) (args : List ExprId) (ss : List
   taken_at a = inputs_at h.before.item.signature (map (folded a) h.before.types)
 
   pub taken_under : (a : Assignment) → map (folded a) ss ≡ taken_at a
-  taken_under a = ap (map (folded a)) h.inputs ∙ instances_under a (own_scope g.scope.facts h.before.item.signature.params) h.before.types h.before.item.signature.inputs h.before.item.inputs
+  taken_under a = ap (map (folded a)) h.inputs ∙ instances_under a (types_scope g.scope.facts h.before.item.signature.params) h.before.types h.before.item.signature.inputs h.before.item.inputs
 
   taken_count : (a : Assignment) → length (taken_at a) ≡ length ss
   taken_count a = sym (ap (λ us. length us) (taken_under a)) ∙ length-map ss (folded a)

@@ -12,7 +12,7 @@ use Rattle.hir_types.specs.Terms.{terms_of}
 use Rattle.hir_types.specs.declared.head.Head.TheVariants as head
 use Rattle.hir_types.specs.declared.ty.Ty.TheVariants as ty
 use Rattle.hir_types.specs.declared.ids.CallableDefId.TheVariants as callable
-use Rattle.hir_raw.specs.Scope.{Scope, has_params, names_item}
+use Rattle.hir_raw.specs.Scope.{Scope, has_params, names_item, types_scope}
 use Rattle.hir_raw.specs.Signatures.{type_args, Signature, signature_of, at_args}
 use Rattle.hir_raw.specs.declared.raw.RawPath.{RawPath}
 use Rattle.hir_raw.specs.declared.raw.RawExpr.{RawExpr}
@@ -35,7 +35,7 @@ use Rattle.infer_ctx.specs.declared.context.InferenceContext.{InferenceContext}
 use Rattle.infer_ctx.specs.Closings.{Closes, found_under}
 use Rattle.infer_ctx.specs.Steps.{OwnDone}
 use Rattle.infer_ctx.specs.Tells.{Tells}
-use Rattle.infer_ctx.specs.Under.{IsReady, IsItem, own_scope}
+use Rattle.infer_ctx.specs.Under.{IsReady, IsItem}
 use Rattle.infer_ctx.specs.Walks.{Nothing, Owed}
 use Rattle.infer_ctx.proofs.Category.{walks_paid}
 use Rattle.infer_ctx.proofs.OverTypes.{over_fine, carried_closed, fn_def_closed, same_closed}
@@ -73,6 +73,7 @@ step_callable (Ty-F.Adt i xs) id h = absurd (cc)
 step_callable (Ty-F.Dynamic o bs ts) id h = absurd (cc)
 step_callable (Ty-F.Param n) id h = absurd (cc)
 step_callable (Ty-F.Projection i xs) id h = absurd (cc)
+step_callable (Ty-F.AssociatedType i xs) id h = absurd (cc)
 step_callable (Ty-F.Opaque i xs) id h = absurd (cc)
 step_callable Ty-F.Error id h = absurd (cc)
 step_callable (Ty-F.Var n) id h = absurd (cc)
@@ -99,6 +100,7 @@ item_or_not sc = over_fine sc (λ t. (is_callable t ≡ false) ⊎ IsItemType sc
   adt = λ id ts k h. inl (ap callable_step (ap out-Ty (sym (ty.rolls-Adt id (type_args ts))) ∙ out-roll-Ty (Ty-F.Adt id (type_args ts))));
   fn_def = λ id ts k h. inr (record { id = id; types = ts; is = refl; takes = k });
   param = λ n k. inl (ap callable_step (ap out-Ty (sym (ty.rolls-Param n)) ∙ out-roll-Ty (Ty-F.Param n)));
+  associated = λ id ts k h. inl (ap callable_step (ap out-Ty (sym (ty.rolls-AssociatedType id (type_args ts))) ∙ out-roll-Ty (Ty-F.AssociatedType id (type_args ts))));
 })
 
 -- so many types are as many as there are parameters
@@ -245,4 +247,4 @@ module _ (g : Given) (s : Schedule) (called : ExprId) (t u : Ty) (old mid : Infe
       outputs e σ c a =
           let item : IsItem g.scope.facts c.item = ready.written.items c.item σ c.signature in
           let same : item.signature ≡ σ = (let q : Some item.signature ≡ Some σ = sym item.found ∙ c.signature in cc) in
-          carried_closed a σ.output (subst (λ (τ : Signature). IsCarriedIn (own_scope g.scope.facts τ.params) τ.output) same item.output).carried
+          carried_closed a σ.output (subst (λ (τ : Signature). IsCarriedIn (types_scope g.scope.facts τ.params) τ.output) same item.output).carried

@@ -4,7 +4,7 @@ use Rattle.std.proofs.Math.Nat.{eq-or-lt_of_le}
 use Rattle.hir_types.specs.declared.ty.IntegerTy.{IntegerTy}
 use Rattle.hir_types.specs.declared.ty.IntegerTy.TheVariants.{Int, Uint}
 use Rattle.hir_types.specs.Terms.{term, IsInt, hole, terms_of}
-use Rattle.hir_types.specs.TermLaws.{term_bool, term_char, term_error, term_param, term_tuple, term_adt_types, term_fn_def_types}
+use Rattle.hir_types.specs.TermLaws.{term_bool, term_char, term_error, term_param, term_tuple, term_adt_types, term_fn_def_types, term_associated_types}
 use Rattle.hir_types.specs.Types.{integer_type}
 use Rattle.hir_types.specs.declared.head.Hole.{Hole}
 use Rattle.hir_types.specs.declared.ty.Ty.{Ty}
@@ -68,6 +68,7 @@ integer_of = record {
   adt = λ id ts all h. absurd (subst IsInt (term_adt_types id ts) h);
   fn_def = λ id ts all h. absurd (subst IsInt (term_fn_def_types id ts) h);
   param = λ n h. absurd (subst IsInt (term_param n) h);
+  associated = λ id ts all h. absurd (subst IsInt (term_associated_types id ts) h);
 }
 
 module _ (sc : Scope) (state : State) (h : BindsOnly (is_fine_head sc) (log_of (bindings state))) where

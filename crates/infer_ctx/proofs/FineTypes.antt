@@ -1,10 +1,10 @@
 -- Types that the walk may have in hand: kind by kind, their parts, and as the table grows.
-use Rattle.std.specs.Prelude.{nat_lt}
+use Rattle.std.specs.Prelude.{nat_lt, ◌&&◌}
 use Rattle.std.proofs.Common.{List, [], ◌∷◌, ℕ, zero, suc, ◌≡◌, subst, Some, slice_get, sym, true≢false, length, refl, ap, ◌∙◌, true, ◌++◌, Option, None}
 use Rattle.hir_types.specs.declared.ty.Ty.{Ty, Ty-F, out-Ty, roll-Ty, roll-out-Ty}
 use Rattle.hir_types.specs.declared.head.Head.{Head}
 use Rattle.hir_types.specs.Terms.{Term, node, term, chain, leaf, type_part}
-use Rattle.hir_types.specs.TermLaws.{parts_of_types, term_bool, term_char, term_int, term_uint, term_tuple, term_param, term_var, term_int_var, term_adt_types, term_fn_def_types}
+use Rattle.hir_types.specs.TermLaws.{parts_of_types, term_bool, term_char, term_int, term_uint, term_tuple, term_param, term_var, term_int_var, term_adt_types, term_fn_def_types, term_associated_types}
 use Rattle.hir_types.specs.declared.ids.AdtId.{AdtId}
 use Rattle.hir_types.specs.declared.ids.CallableDefId.{CallableDefId}
 use Rattle.hir_types.specs.declared.ty.AliasBound.{AliasBound}
@@ -17,7 +17,7 @@ use Rattle.hir_types.specs.declared.head.Hole.TheVariants as hole_of
 use Rattle.hir_types.specs.declared.head.HoleKind.TheVariants as kind
 use Rattle.hir_types.specs.declared.ty.IntegerTy.TheVariants as integer
 use Rattle.hir_types.specs.declared.ty.Ty.TheVariants as ty
-use Rattle.hir_raw.specs.Scope.{Scope, adt_params, has_params}
+use Rattle.hir_raw.specs.Scope.{Scope, adt_params, has_params, alias_params}
 use Rattle.hir_raw.specs.Signatures.{type_args}
 use Rattle.infer_table.specs.Table.{State, HolesAreOf, Grew, hole_count, with_new_hole}
 use Rattle.infer_table.specs.Solutions.{AreOf}
@@ -31,6 +31,7 @@ use Rattle.infer_result.specs.Closed.{AllTypes, AllSeen}
 use Rattle.infer_ctx.specs.Fine.{IsFine, Every, AllFine, item_params, is_fine_head, HasFineHeads, IsFineExpectation, AreFinePairs, IsFineAsked}
 use Rattle.infer_ctx.specs.Context.{component, element_type}
 use Rattle.infer_ctx.proofs.MadeHoles.{AllHolesAreOf, holes_are_of_grown, node_holes_are_of}
+use Rattle.hir_types.specs.declared.ids.TypeAliasId.{TypeAliasId}
 
 pub every_at : (P : Ty → Type 0) (ts : List Ty) (i : ℕ) (t : Ty) → Every P ts → slice_get ts i ≡ Some t → P t
 every_at P [] i t h e = absurd (cc)
@@ -91,6 +92,9 @@ module _ (sc : Scope) where
 
   pub heads_fn_def : (id : CallableDefId) (ts : List Ty) → has_params (item_params sc.facts id) (length ts) ≡ true → Every (HasFineHeads sc) ts → HasFineHeads sc (ty.FnDef id (type_args ts))
   heads_fn_def id ts e h = heads_by (ty.FnDef id (type_args ts)) (node (head.FnDef id) (parts_of_types ts)) (term_fn_def_types id ts) (ap (has_params (item_params sc.facts id)) (parts_width ts) ∙ e, parts_heads ts h)
+
+  pub heads_associated : (id : TypeAliasId) (ts : List Ty) → (sc.associated && has_params (alias_params sc.facts id) (length ts)) ≡ true → Every (HasFineHeads sc) ts → HasFineHeads sc (ty.AssociatedType id (type_args ts))
+  heads_associated id ts e h = heads_by (ty.AssociatedType id (type_args ts)) (node (head.AssociatedType id) (parts_of_types ts)) (term_associated_types id ts) (ap (λ n. sc.associated && has_params (alias_params sc.facts id) n) (parts_width ts) ∙ e, parts_heads ts h)
 
   -- ---- fine types, kind by kind
 

@@ -14,10 +14,9 @@ use Rattle.hir_types.specs.declared.ty.IntegerTy.TheVariants as integer
 use Rattle.hir_facts.specs.CarriedTypes.{carried_arg, carried_step, carried_bound, carried_trait, is_carried_type, IsCarriedType, is_carried_arg, carried_type_arg, AreCarriedTypes, carried_tuple, carried_adt, carried_fn_def}
 use Rattle.hir_raw.specs.Signatures.{type_args, at_args}
 use Rattle.hir_raw.specs.declared.raw.RawFacts.{RawFacts}
-use Rattle.hir_raw.specs.Scope.{Scope, has_params, adt_params}
+use Rattle.hir_raw.specs.Scope.{Scope, has_params, adt_params, types_scope}
 use Rattle.infer_table.specs.Table.{State}
 use Rattle.infer_ctx.specs.Fine.{item_params, HasFineHeads, IsFine, IsCarriedIn, Every, AllFine}
-use Rattle.infer_ctx.specs.Under.{own_scope}
 use Rattle.infer_ctx.proofs.FineTypes.{every_at, fine_bool, fine_char, fine_integer, fine_tuple, fine_adt, fine_fn_def}
 use Rattle.infer_ctx.proofs.OverTypes.{over_fine, carried_closed}
 use Rattle.infer_ctx.proofs.Lists.{found}
@@ -36,7 +35,7 @@ args_as_types (t ∷ ts) = λ i. carried_type_arg t i && args_as_types ts i
 -- ---- types of the signature's own scope, at fine types in the place of parameters
 module _ (sc : Scope) (state : State) (facts : RawFacts) (same : facts ≡ sc.facts) (ts : List Ty) (fine : AllFine sc state ts) where
   abbrev Own : Scope
-  Own = record { facts = facts; params = length ts }
+  Own = types_scope facts (length ts)
 
   -- fine at the types, if it has no holes
   abbrev FineAt : Ty → Type 0
@@ -73,6 +72,7 @@ module _ (sc : Scope) (state : State) (facts : RawFacts) (same : facts ≡ sc.fa
         fine_by (ty.FnDef id (type_args us)) (ty.FnDef id (type_args vs)) (replaced_fn_def (with_params (type_args ts)) id (type_args us) ∙ ap (ty.FnDef id) (types_args_replaced (with_params (type_args ts)) us)) (
         fine_fn_def sc state id vs (takes (item_params facts id) (item_params sc.facts id) us (ap (λ r. item_params r id) same) k) (all_fine_at us h (sym (args_as_types us) ∙ (sym (carried_fn_def id (type_args us)) ∙ c)))
         );
+    associated = λ id us k h c. absurd (true≢false (sym k));
     param = λ n k c.
         let q = found ts n (ltb-true n (length ts) k) in
         fine_by (ty.Param n) q.0 (param_at ts n q.0 q.1) (every_at (IsFine sc state) ts n q.0 fine q.1);
@@ -85,12 +85,12 @@ pub known_instance : (a : Assignment) (sc : Scope) (t : Ty) (ts : List Ty) → I
 known_instance a sc t ts h = instance_at_types a ts t (λ b. carried_closed b t h.carried)
 
 module _ (sc : Scope) (state : State) (n : ℕ) (ts : List Ty) (count : length ts ≡ n) (fine : AllFine sc state ts) where
-  pub fine_instance : (t : Ty) → IsCarriedIn (own_scope sc.facts n) t → IsFine sc state (at_args ts t)
+  pub fine_instance : (t : Ty) → IsCarriedIn (types_scope sc.facts n) t → IsFine sc state (at_args ts t)
   fine_instance t h =
-      let own : HasFineHeads (record { facts = sc.facts; params = length ts }) t = subst (λ m. HasFineHeads (record { facts = sc.facts; params = m }) t) (sym count) h.heads in
+      let own : HasFineHeads (types_scope sc.facts (length ts)) t = subst (λ m. HasFineHeads (types_scope sc.facts m) t) (sym count) h.heads in
       fine_at_args sc state sc.facts refl ts fine t own h.carried
 
-  pub fine_instances : (us : List Ty) → ((k : ℕ) (t : Ty) → slice_get us k ≡ Some t → IsCarriedIn (own_scope sc.facts n) t) → AllFine sc state (map (at_args ts) us)
+  pub fine_instances : (us : List Ty) → ((k : ℕ) (t : Ty) → slice_get us k ≡ Some t → IsCarriedIn (types_scope sc.facts n) t) → AllFine sc state (map (at_args ts) us)
   fine_instances [] h = tt
   fine_instances (u ∷ us) h = (fine_instance u (h 0 u refl), fine_instances us (λ k v e. h (suc k) v e))
 

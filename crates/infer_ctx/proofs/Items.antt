@@ -1,6 +1,6 @@
 -- The functions and constructors of lawful facts.
 use Rattle.std.specs.List.{list_all}
-use Rattle.std.proofs.Common.{ℕ, ◌≡◌, refl, sym, ap, ◌∙◌, Some, slice_get, option_and_then, None, Option, length, option_map, zero, suc, ◌&&◌, ◌+◌, ◌<◌, ◌≤◌, arith, true, List, subst, [], ◌∷◌, map}
+use Rattle.std.proofs.Common.{ℕ, ◌≡◌, refl, sym, ap, ◌∙◌, Some, slice_get, option_and_then, None, Option, length, option_map, zero, suc, ◌&&◌, ◌+◌, ◌<◌, ◌≤◌, arith, true, List, subst, [], ◌∷◌, map, false}
 use Rattle.std.proofs.lemmas.Bool.{lt-ltb, eq-eqb}
 use Rattle.hir_types.specs.declared.ids.VariantId.{VariantId}
 use Rattle.hir_types.specs.declared.ids.FunctionId.{FunctionId}
@@ -13,26 +13,24 @@ use Rattle.hir_types.specs.declared.ty.Ty.TheVariants as ty
 use Rattle.hir_raw.specs.declared.raw.RawCtor.{RawCtor}
 use Rattle.hir_raw.specs.declared.raw.RawFacts.{RawFacts}
 use Rattle.hir_raw.specs.declared.raw.RawVariant.{RawVariant}
-use Rattle.hir_raw.specs.Scope.{adt_params, fn_arity, callable_params, Scope, has_params}
+use Rattle.hir_raw.specs.Scope.{adt_params, fn_arity, callable_params, Scope, has_params, types_scope}
 use Rattle.hir_raw.specs.Signatures.{Signature, signature_of, ctor_signature, signature_by, field_types, own_adt, fn_signature, fn_types, params_from, type_args}
 use Rattle.hir_raw.specs.declared.raw.RawFn.{RawFn}
 use Rattle.hir_raw.specs.declared.raw.RawType.{RawType}
-use Rattle.hir_raw.specs.Hidden.{fn_aliases}
-use Rattle.hir_counts.specs.Standing.{HasNoHole}
-use Rattle.hir_facts.specs.CarriedTypes.{is_carried_arg, AreCarriedArgs, carried_param, carried_type_arg, carried_adt}
+use Rattle.hir_facts.specs.CarriedTypes.{is_carried_type, is_carried_arg, AreCarriedArgs, carried_bool, carried_char, carried_integer, carried_tuple, carried_param, carried_type_arg, carried_adt}
 use Rattle.hir_raw.specs.WrittenTypes.{written_type}
 use Rattle.hir_raw.specs.declared.raw.RawAdt.{RawAdt}
 use Rattle.hir_raw.specs.declared.raw.RawField.{RawField}
 use Rattle.hir_laws.proofs.Items.{variant_adt, variant_ctor}
 use Rattle.hir_ids.specs.Ids.{IsModuleFn}
 use Rattle.hir_laws.specs.Lawful.{IsLawful}
-use Rattle.hir_laws.specs.WrittenFits.{fits_more, fields_fit}
-use Rattle.hir_laws.proofs.OpenedTypes.{IsOpened, as_written, as_param, input_opened, output_opened}
-use Rattle.hir_laws.specs.NoHoles.{input_has_no_hole, output_has_no_hole, field_has_no_hole}
+use Rattle.hir_laws.specs.WrittenFits.{fields_fit}
+use Rattle.hir_laws.proofs.OpenedTypes.{Each, IsOver, over_input, over_output}
+use Rattle.hir_laws.specs.NoHoles.{field_has_no_hole}
 use Rattle.hir_raw.specs.declared.raw.RawCtor.TheVariants as ctor
 use Rattle.infer_ctx.specs.Fine.{HasFineHeads, IsCarriedIn, IsWritten, Every}
-use Rattle.infer_ctx.specs.Under.{own_scope, IsItem, IsVariant}
-use Rattle.infer_ctx.proofs.FineTypes.{heads_param, heads_adt}
+use Rattle.infer_ctx.specs.Under.{IsItem, IsVariant}
+use Rattle.infer_ctx.proofs.FineTypes.{heads_bool, heads_char, heads_integer, heads_tuple, heads_param, heads_adt}
 use Rattle.infer_ctx.proofs.Written.{is_written}
 
 -- a constructor has a signature where it takes fields
@@ -99,49 +97,64 @@ params_heads sc i (suc n) h =
     let rest : suc i + n ≤ sc.params = omega (arith, h) in
     (heads_param sc i (lt-ltb i sc.params here), params_heads sc (suc i) n rest)
 
-own_adt_known : (raw : RawFacts) (a : AdtId) (n : ℕ) → adt_params raw a ≡ Some n → IsCarriedIn (own_scope raw n) (own_adt a n)
+own_adt_known : (raw : RawFacts) (a : AdtId) (n : ℕ) → adt_params raw a ≡ Some n → IsCarriedIn (types_scope raw n) (own_adt a n)
 own_adt_known raw a n count =
     let us : List Ty = params_from 0 n in
     let takes : has_params (adt_params raw a) (length us) ≡ true = ap (λ o. has_params o (length us)) count ∙ eq-eqb n (length us) (sym (params_length 0 n)) in
     record {
       carried = carried_adt a (type_args us) ∙ params_carried 0 n;
-      heads = heads_adt (own_scope raw n) a us takes (params_heads (own_scope raw n) 0 n (omega arith));
+      heads = heads_adt (types_scope raw n) a us takes (params_heads (types_scope raw n) 0 n (omega arith));
     }
 
 -- ---- what signatures are written with
-known : (raw : RawFacts) (n : ℕ) (w : TypeRefId) → IsWritten (own_scope raw n) w → IsCarriedIn (own_scope raw n) (written_type raw.types w)
+known : (raw : RawFacts) (n : ℕ) (w : TypeRefId) → IsWritten (types_scope raw n) w → IsCarriedIn (types_scope raw n) (written_type raw.types w)
 known raw n w h = record { carried = h.carried; heads = h.heads }
 
-all_known : (raw : RawFacts) (n : ℕ) (types : List RawType) (ws : List TypeRefId) → ((k : ℕ) (w : TypeRefId) → slice_get ws k ≡ Some w → IsCarriedIn (own_scope raw n) (written_type types w)) → (k : ℕ) (t : Ty) → slice_get (map (written_type types) ws) k ≡ Some t → IsCarriedIn (own_scope raw n) t
+all_known : (raw : RawFacts) (n : ℕ) (types : List RawType) (ws : List TypeRefId) → ((k : ℕ) (w : TypeRefId) → slice_get ws k ≡ Some w → IsCarriedIn (types_scope raw n) (written_type types w)) → (k : ℕ) (t : Ty) → slice_get (map (written_type types) ws) k ≡ Some t → IsCarriedIn (types_scope raw n) t
 all_known raw n types [] h k t is = absurd (cc)
-all_known raw n types (w ∷ ws) h zero t is = (let same : written_type types w ≡ t = cc in subst (λ u. IsCarriedIn (own_scope raw n) u) same (h 0 w refl))
+all_known raw n types (w ∷ ws) h zero t is = (let same : written_type types w ≡ t = cc in subst (λ u. IsCarriedIn (types_scope raw n) u) same (h 0 w refl))
 all_known raw n types (w ∷ ws) h (suc k) t is = all_known raw n types ws (λ j v e. h (suc j) v e) k t is
 
-more : (n m : ℕ) → n ≤ n + m
-more n m = omega arith
+-- ---- over the kinds of written types
+
+module _ (raw : RawFacts) (n : ℕ) where
+  abbrev sc : Scope
+  sc = types_scope raw n
+
+  every_carried : (ts : List Ty) → Each (IsCarriedIn sc) ts → list_all is_carried_type ts ≡ true
+  every_carried [] each = refl
+  every_carried (t ∷ ts) each = ap (λ b. b && list_all is_carried_type ts) each.0.carried ∙ every_carried ts each.1
+
+  args_carried : (ts : List Ty) → Each (IsCarriedIn sc) ts → AreCarriedArgs (type_args ts)
+  args_carried [] each = refl
+  args_carried (t ∷ ts) each = ap (λ b. b && list_all is_carried_arg (type_args ts)) (carried_type_arg t ∙ each.0.carried) ∙ args_carried ts each.1
+
+  every_head : (ts : List Ty) → Each (IsCarriedIn sc) ts → Every (HasFineHeads sc) ts
+  every_head [] each = tt
+  every_head (t ∷ ts) each = (each.0.heads, every_head ts each.1)
+
+  over_known : IsOver raw n (IsCarriedIn sc)
+  over_known = record {
+    bool = record { carried = carried_bool; heads = heads_bool sc };
+    char = record { carried = carried_char; heads = heads_char sc };
+    integer = λ i. record { carried = carried_integer i; heads = heads_integer sc i };
+    tuple = λ ts each. record { carried = carried_tuple ts ∙ every_carried ts each; heads = heads_tuple sc ts (every_head ts each) };
+    adt = λ a ts count each. record { carried = carried_adt a (type_args ts) ∙ args_carried ts each; heads = heads_adt sc a ts count (every_head ts each) };
+    param = λ k within. record { carried = carried_param k; heads = heads_param sc k (lt-ltb k n within) };
+  }
 
 module _ (raw : RawFacts) (law : IsLawful raw) where
   -- what a function takes and gives is in the scope of its own parameters, which are all that it has
   abbrev SignatureKnown : Signature → Type 0
-  SignatureKnown σ = ((k : ℕ) (t : Ty) → slice_get σ.inputs k ≡ Some t → IsCarriedIn (own_scope raw σ.params) t) × IsCarriedIn (own_scope raw σ.params) σ.output
-
-  -- a parameter that stands for a projection, or what is written there
-  opened_known : (x : RawFn) (w : TypeRefId) → HasNoHole raw.types w → IsOpened raw x w → IsCarriedIn (own_scope raw (fn_arity raw.types x)) (written_type (fn_types raw.types x) w)
-  opened_known x w none (as_written fits is) =
-      let n : ℕ = fn_arity raw.types x in
-      let wider = fits_more raw (length x.params) n w.0 (more (length x.params) (length (fn_aliases raw.types x))) fits in
-      subst (IsCarriedIn (own_scope raw n)) (sym is) (known raw n w (is_written raw law n w wider none))
-  opened_known x w none (as_param p below is) =
-      let n : ℕ = fn_arity raw.types x in
-      let k : ℕ = length x.params + p in
-      let within : k < n = omega (arith, below) in
-      subst (IsCarriedIn (own_scope raw n)) (sym is) (record { carried = carried_param k; heads = heads_param (own_scope raw n) k (lt-ltb k n within) })
+  SignatureKnown σ = ((k : ℕ) (t : Ty) → slice_get σ.inputs k ≡ Some t → IsCarriedIn (types_scope raw σ.params) t) × IsCarriedIn (types_scope raw σ.params) σ.output
 
   signature_known : (f : FunctionId) (x : RawFn) → slice_get raw.fns f.0 ≡ Some x → SignatureKnown (fn_signature raw.types x)
-  signature_known f x found = (
-    all_known raw (fn_arity raw.types x) (fn_types raw.types x) x.inputs (λ k w is. opened_known x w (input_has_no_hole raw law f.0 x found k w is) (input_opened raw law f.0 x found k w is)),
-    opened_known x x.output (output_has_no_hole raw law f.0 x found) (output_opened raw law f.0 x found),
-  )
+  signature_known f x found =
+      let n : ℕ = fn_arity raw.types x in
+      let P : Ty → Type 0 = IsCarriedIn (types_scope raw n) in (
+        all_known raw n (fn_types raw.types x) x.inputs (λ k w is. over_input raw law f.0 x found P (over_known raw n) k w is),
+        over_output raw law f.0 x found P (over_known raw n),
+      )
 
   -- a function that a path names
   pub function_item : (f : FunctionId) (x : RawFn) → slice_get raw.fns f.0 ≡ Some x → IsItem raw (callable.FunctionId f)
@@ -156,12 +169,12 @@ module _ (raw : RawFacts) (law : IsLawful raw) where
   pub named_function : (f : FunctionId) → IsModuleFn raw f → IsItem raw (callable.FunctionId f)
   named_function f (x, found, stands) = function_item f x found
 
-  fields_known : (v : VariantId) (x : RawVariant) (a : RawAdt) → slice_get raw.variants v.0 ≡ Some x → slice_get raw.adts x.adt.0 ≡ Some a → (k : ℕ) (t : Ty) → slice_get (field_types raw.types x) k ≡ Some t → IsCarriedIn (own_scope raw (length a.params)) t
-  fields_known v x a found adt k t is = among x.fields (λ j f e. is_written raw law (length a.params) f.type_ (fields_fit raw law v.0 x a found adt j f e) (field_has_no_hole raw law v.0 x found j f e)) k is
+  fields_known : (v : VariantId) (x : RawVariant) (a : RawAdt) → slice_get raw.variants v.0 ≡ Some x → slice_get raw.adts x.adt.0 ≡ Some a → (k : ℕ) (t : Ty) → slice_get (field_types raw.types x) k ≡ Some t → IsCarriedIn (types_scope raw (length a.params)) t
+  fields_known v x a found adt k t is = among x.fields (λ j f e. is_written raw law (length a.params) false f.type_ (fields_fit raw law v.0 x a found adt j f e) (field_has_no_hole raw law v.0 x found j f e)) k is
     where
-      among : (fs : List RawField) → ((j : ℕ) (f : RawField) → slice_get fs j ≡ Some f → IsWritten (own_scope raw (length a.params)) f.type_) → (i : ℕ) → slice_get (map (λ f. written_type raw.types f.type_) fs) i ≡ Some t → IsCarriedIn (own_scope raw (length a.params)) t
+      among : (fs : List RawField) → ((j : ℕ) (f : RawField) → slice_get fs j ≡ Some f → IsWritten (types_scope raw (length a.params)) f.type_) → (i : ℕ) → slice_get (map (λ f. written_type raw.types f.type_) fs) i ≡ Some t → IsCarriedIn (types_scope raw (length a.params)) t
       among [] h i e = absurd (cc)
-      among (f ∷ fs) h zero e = (let same : written_type raw.types f.type_ ≡ t = cc in subst (λ u. IsCarriedIn (own_scope raw (length a.params)) u) same (known raw (length a.params) f.type_ (h 0 f refl)))
+      among (f ∷ fs) h zero e = (let same : written_type raw.types f.type_ ≡ t = cc in subst (λ u. IsCarriedIn (types_scope raw (length a.params)) u) same (known raw (length a.params) f.type_ (h 0 f refl)))
       among (f ∷ fs) h (suc i) e = among fs (λ j y q. h (suc j) y q) i e
 
   -- a variant whose constructor is named

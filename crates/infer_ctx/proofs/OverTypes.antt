@@ -13,8 +13,8 @@ use Rattle.hir_types.specs.declared.ty.IntTy.{IntTy}
 use Rattle.hir_types.specs.declared.ty.UintTy.{UintTy}
 use Rattle.hir_types.specs.Folds.{in_ty}
 use Rattle.hir_types.specs.Terms.{Term, chain, type_part, term, arg_term, ty_step, apply, terms_of, IsInt}
-use Rattle.hir_types.specs.TermLaws.{terms, term_at, arg_term_at, term_adt_types, term_fn_def_types, term_folded, term_int, term_uint, term_bool, term_char, term_tuple, term_param, term_error}
-use Rattle.hir_types.specs.Replacements.{replaced_bool, replaced_char, replaced_int, replaced_uint, replaced_tuple, replaced_adt, replaced_fn_def, replaced_param, replaced_var, replaced_int_var, replaced_error}
+use Rattle.hir_types.specs.TermLaws.{terms, term_at, arg_term_at, term_adt_types, term_fn_def_types, term_folded, term_int, term_uint, term_bool, term_char, term_tuple, term_param, term_error, term_associated_types}
+use Rattle.hir_types.specs.Replacements.{replaced_bool, replaced_char, replaced_int, replaced_uint, replaced_tuple, replaced_adt, replaced_fn_def, replaced_param, replaced_var, replaced_int_var, replaced_error, replaced_associated_type}
 use Rattle.hir_types.specs.Instances.{types_args_folded}
 use Rattle.hir_types.specs.Subst.{Assignment, with_holes, folded}
 use Rattle.hir_types.specs.Faithful.{term_tells}
@@ -26,8 +26,8 @@ use Rattle.hir_types.specs.declared.ty.IntegerTy.TheVariants as integer
 use Rattle.hir_types.specs.declared.head.Hole.TheVariants as hole_of
 use Rattle.hir_types.specs.declared.head.Head.TheVariants as head
 use Rattle.hir_raw.specs.Signatures.{type_args}
-use Rattle.hir_raw.specs.Scope.{Scope, adt_params, has_params}
-use Rattle.hir_facts.specs.CarriedTypes.{carried_arg, carried_step, carried_bound, carried_trait, is_carried_type, is_carried_arg, IsCarriedType, AreCarriedTypes, AreCarriedArgs, carried_tuple, carried_adt, carried_fn_def, carried_type_arg, carried_param, carried_bool, carried_char, carried_integer, same_carried}
+use Rattle.hir_raw.specs.Scope.{Scope, adt_params, has_params, alias_params}
+use Rattle.hir_facts.specs.CarriedTypes.{carried_arg, carried_step, carried_bound, carried_trait, is_carried_type, is_carried_arg, IsCarriedType, AreCarriedTypes, AreCarriedArgs, carried_tuple, carried_adt, carried_fn_def, carried_type_arg, carried_param, carried_bool, carried_char, carried_integer, same_carried, carried_associated}
 use Rattle.infer_table.specs.Preserved.{whole, part, rest, IsMadeOf}
 use Rattle.infer_table.specs.Solutions.{Respects}
 use Rattle.infer_table.specs.Table.{State, HolesAreOf}
@@ -35,6 +35,7 @@ use Rattle.infer_ctx.specs.Fine.{item_params, is_fine_head, HasFineHeads, IsFine
 use Rattle.infer_ctx.specs.Closings.{IsClosing}
 use Rattle.infer_ctx.proofs.FineTypes.{parts_width, all_holes, no_holes}
 use Rattle.infer_ctx.proofs.MadeHoles.{node_holes_are_of}
+use Rattle.hir_types.specs.declared.ids.TypeAliasId.{TypeAliasId}
 
 abbrev AnyBound : Type 0
 AnyBound = AliasBound × Unit {0}
@@ -72,6 +73,7 @@ pub record Cases (sc : Scope) (P : Ty → Type 0) : Type 0 where
   pub adt : (id : AdtId) (ts : List Ty) → has_params (adt_params sc.facts id) (length ts) ≡ true → Every P ts → P (ty.Adt id (type_args ts))
   pub fn_def : (id : CallableDefId) (ts : List Ty) → has_params (item_params sc.facts id) (length ts) ≡ true → Every P ts → P (ty.FnDef id (type_args ts))
   pub param : (n : ℕ) → nat_lt n sc.params ≡ true → P (ty.Param n)
+  pub associated : (k : TypeAliasId) (ts : List Ty) → (sc.associated && has_params (alias_params sc.facts k) (length ts)) ≡ true → Every P ts → P (ty.AssociatedType k (type_args ts))
 
 module _ (sc : Scope) (P : Ty → Type 0) (cases : Cases sc P) where
   abbrev HoldsIfFine : Type 0
@@ -112,6 +114,12 @@ module _ (sc : Scope) (P : Ty → Type 0) (cases : Cases sc P) where
       let arity = ap (has_params (item_params sc.facts id)) (sym (parts_width are.types)) ∙ made.0 in
       subst (λ ys. P (ty.FnDef id ys)) (sym are.are) (cases.fn_def id are.types arity are.each)
 
+  associated_told : (id : TypeAliasId) (xs : List GenericArg) → HasFineHeads sc (ty.AssociatedType id xs) → AreTypesWith P xs → P (ty.AssociatedType id xs)
+  associated_told id xs h are =
+      let made = subst Made (term_associated_types id are.types) (subst (λ ys. HasFineHeads sc (ty.AssociatedType id ys)) are.are h) in
+      let arity = ap (λ n. sc.associated && has_params (alias_params sc.facts id) n) (sym (parts_width are.types)) ∙ made.0 in
+      subst (λ ys. P (ty.AssociatedType id ys)) (sym are.are) (cases.associated id are.types arity are.each)
+
   layer_told : (y : Ty-F ArgHoldsIfFine HoldsIfFine AnyBound AnyTrait) → HasFineHeads sc (roll-Ty (layer_of y)) → P (roll-Ty (layer_of y))
   layer_told Ty-F.Bool h = subst P (sym ty.rolls-Bool) cases.bool
   layer_told Ty-F.Char h = subst P (sym ty.rolls-Char) cases.char
@@ -129,6 +137,9 @@ module _ (sc : Scope) (P : Ty → Type 0) (cases : Cases sc P) where
       let us : List GenericArg = map (λ e. e.0) xs in
       subst P (sym (ty.rolls-FnDef id us)) (fn_def_told id us (subst (HasFineHeads sc) (ty.rolls-FnDef id us) h) (args_hold xs (heads_at (Ty-F.FnDef id us) h).1))
   layer_told (Ty-F.Param n) h = subst P (sym (ty.rolls-Param n)) (cases.param n (heads_at (Ty-F.Param n) h).0)
+  layer_told (Ty-F.AssociatedType id xs) h =
+      let us : List GenericArg = map (λ e. e.0) xs in
+      subst P (sym (ty.rolls-AssociatedType id us)) (associated_told id us (subst (HasFineHeads sc) (ty.rolls-AssociatedType id us) h) (args_hold xs (heads_at (Ty-F.AssociatedType id us) h).1))
   layer_told y h = absurd (true≢false (sym (heads_at (layer_of y) h).0))
 
   layer_told_arg : (y : GenericArg-F ArgHoldsIfFine HoldsIfFine AnyBound AnyTrait) → IsMadeOf (is_fine_head sc) part (arg_term (roll-GenericArg (arg_layer_of y))) → IsTypeWith P (roll-GenericArg (arg_layer_of y))
@@ -161,6 +172,7 @@ pub record CarriedCases (P : Ty → Type 0) : Type 0 where
   pub adt : (id : AdtId) (ts : List Ty) → Every P ts → P (ty.Adt id (type_args ts))
   pub fn_def : (id : CallableDefId) (ts : List Ty) → Every P ts → P (ty.FnDef id (type_args ts))
   pub param : (n : ℕ) → P (ty.Param n)
+  pub associated : (id : TypeAliasId) (ts : List Ty) → Every P ts → P (ty.AssociatedType id (type_args ts))
 
 module _ (P : Ty → Type 0) (cases : CarriedCases P) where
   abbrev ToldCarried : Type 0
@@ -205,6 +217,10 @@ module _ (P : Ty → Type 0) (cases : CarriedCases P) where
       let are = args_carried xs (sym (carried_fn_def id us) ∙ (ap is_carried_type (sym (ty.rolls-FnDef id us)) ∙ h)) in
       subst P (sym (ty.rolls-FnDef id us)) (subst (λ ys. P (ty.FnDef id ys)) (sym are.are) (cases.fn_def id are.types are.each))
   layer_carried (Ty-F.Param n) h = subst P (sym (ty.rolls-Param n)) (cases.param n)
+  layer_carried (Ty-F.AssociatedType id xs) h =
+      let us : List GenericArg = map (λ e. e.0) xs in
+      let are = args_carried xs (sym (carried_associated id us) ∙ (ap is_carried_type (sym (ty.rolls-AssociatedType id us)) ∙ h)) in
+      subst P (sym (ty.rolls-AssociatedType id us)) (subst (λ ys. P (ty.AssociatedType id ys)) (sym are.are) (cases.associated id are.types are.each))
   layer_carried y h = absurd (true≢false (sym h ∙ fold-roll-Ty Bool Bool Bool Bool carried_arg carried_step carried_bound carried_trait (carried_of y)))
 
   layer_carried_arg : (y : GenericArg-F ArgCarried ToldCarried AnyBound AnyTrait) → is_carried_arg (roll-GenericArg (carried_of_arg y)) ≡ true → IsTypeWith P (roll-GenericArg (carried_of_arg y))
@@ -246,6 +262,9 @@ module _ (a : Assignment) where
   pub fn_def_closed : (id : CallableDefId) (ts : List Ty) → folded a (ty.FnDef id (type_args ts)) ≡ ty.FnDef id (type_args (map (folded a) ts))
   fn_def_closed id ts = replaced_fn_def (with_holes a) id (type_args ts) ∙ ap (ty.FnDef id) (types_args_folded a ts)
 
+  pub associated_closed : (id : TypeAliasId) (ts : List Ty) → folded a (ty.AssociatedType id (type_args ts)) ≡ ty.AssociatedType id (type_args (map (folded a) ts))
+  associated_closed id ts = replaced_associated_type (with_holes a) id (type_args ts) ∙ ap (ty.AssociatedType id) (types_args_folded a ts)
+
   pub heads_carried : (sc : Scope) → ((n : ℕ) → IsCarriedType (a.var n)) → ((n : ℕ) → IsCarriedType (a.int_var n)) → (t : Ty) → HasFineHeads sc t → IsCarriedType (folded a t)
   heads_carried sc var int_var = over_fine sc IsCarriedUnder (record {
     bool = carried_by ty.Bool ty.Bool (replaced_bool (with_holes a)) carried_bool;
@@ -258,6 +277,7 @@ module _ (a : Assignment) where
     adt = λ id ts k h. carried_by (ty.Adt id (type_args ts)) (ty.Adt id (type_args (map (folded a) ts))) (adt_closed id ts) (carried_adt id (type_args (map (folded a) ts)) ∙ carried_args (map (folded a) ts) (all_carried ts h));
     fn_def = λ id ts k h. carried_by (ty.FnDef id (type_args ts)) (ty.FnDef id (type_args (map (folded a) ts))) (fn_def_closed id ts) (carried_fn_def id (type_args (map (folded a) ts)) ∙ carried_args (map (folded a) ts) (all_carried ts h));
     param = λ n k. carried_by (ty.Param n) (ty.Param n) (replaced_param (with_holes a) n) (carried_param n);
+    associated = λ id ts k h. carried_by (ty.AssociatedType id (type_args ts)) (ty.AssociatedType id (type_args (map (folded a) ts))) (associated_closed id ts) (carried_associated id (type_args (map (folded a) ts)) ∙ carried_args (map (folded a) ts) (all_carried ts h));
   })
 
 pub fine_closed : (sc : Scope) (a : Assignment) (t : Ty) → IsClosing a → HasFineHeads sc t → IsCarriedType (folded a t)
@@ -294,6 +314,7 @@ module _ (state : State) where
     adt = λ id ts h. node_holes_are_of state (ty.Adt id (type_args ts)) (head.Adt id) ts (term_adt_types id ts) (all_holes state ts h);
     fn_def = λ id ts h. node_holes_are_of state (ty.FnDef id (type_args ts)) (head.FnDef id) ts (term_fn_def_types id ts) (all_holes state ts h);
     param = λ n. no_holes state (ty.Param n) (head.Param n) (term_param n);
+    associated = λ id ts h. node_holes_are_of state (ty.AssociatedType id (type_args ts)) (head.AssociatedType id) ts (term_associated_types id ts) (all_holes state ts h);
   })
 
   pub carried_fine : (sc : Scope) (t : Ty) → IsCarriedType t → HasFineHeads sc t → IsFine sc state t
@@ -316,4 +337,5 @@ module _ (a : Assignment) where
     adt = λ id ts h. adt_closed a id ts ∙ ap (λ us. ty.Adt id (type_args us)) (all_closed ts h);
     fn_def = λ id ts h. fn_def_closed a id ts ∙ ap (λ us. ty.FnDef id (type_args us)) (all_closed ts h);
     param = λ n. replaced_param (with_holes a) n;
+    associated = λ id ts h. associated_closed a id ts ∙ ap (λ us. ty.AssociatedType id (type_args us)) (all_closed ts h);
   })

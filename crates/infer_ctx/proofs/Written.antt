@@ -1,5 +1,5 @@
 -- Written types of lawful facts are of carried kinds, and in scope where they stand.
-use Rattle.std.proofs.Common.{ℕ, zero, suc, ◌<◌, ◌≡◌, arith, IsTrue, refl, sym, ap, subst, ◌∙◌, true≢false, List, [], ◌∷◌, map, Option, Some, slice_get, option_and_then, None}
+use Rattle.std.proofs.Common.{ℕ, zero, suc, ◌<◌, ◌≡◌, arith, IsTrue, refl, sym, ap, subst, ◌∙◌, true≢false, List, [], ◌∷◌, map, Option, Some, slice_get, option_and_then, None, Bool}
 use Rattle.std.proofs.lemmas.Bool.{lt-ltb}
 use Rattle.std.proofs.lemmas.List.{length-map}
 use Rattle.hir_types.specs.declared.ids.TypeRefId.{TypeRefId}
@@ -17,7 +17,7 @@ use Rattle.hir_raw.specs.declared.raw.RawType.{RawType}
 use Rattle.hir_facts.specs.CarriedTypes.{written_carried, carried_param}
 use Rattle.hir_laws.specs.LawfulFacts.{type_ids, types_carried}
 use Rattle.hir_laws.specs.Lawful.{IsLawful}
-use Rattle.hir_raw.specs.Scope.{Scope, adt_params, has_params, params_of, scope_of}
+use Rattle.hir_raw.specs.Scope.{Scope, adt_params, has_params, params_of, scope_of, has_associated}
 use Rattle.hir_raw.specs.WrittenTypes.{type_parts, written_type, filled_by, filled_within, filled_type, StandsIn, is_itself, in_part}
 use Rattle.hir_facts.specs.Filled.{filled_written}
 use Rattle.hir_counts.specs.Standing.{HasNoHole}
@@ -33,9 +33,10 @@ use Rattle.infer_ctx.proofs.Lists.{found}
 use Rattle.infer_ctx.proofs.FineTypes.{heads_param, fine_bool, fine_char, fine_integer, fine_tuple, fine_adt}
 use Rattle.infer_ctx.proofs.OverTypes.{carried_fine}
 
-module _ (raw : RawFacts) (law : IsLawful raw) (count : ℕ) where
+-- in such a scope, whether associated types that stay may be types in it or not
+module _ (raw : RawFacts) (law : IsLawful raw) (count : ℕ) (associated : Bool) where
   abbrev Here : Scope
-  Here = record { facts = raw; params = count }
+  Here = record { facts = raw; params = count; associated = associated }
 
   module _ (state : State) (h : ℕ → Ty) where
     abbrev Good : Ty → Type 0
@@ -91,7 +92,7 @@ written_fine sc state w h = carried_fine state sc (written_type sc.facts.types w
 -- ---- what a definition gives
 fn_heads : (raw : RawFacts) → IsLawful raw → (f : FunctionId) (o : Option RawFn) (i : BodyId) → slice_get raw.fns f.0 ≡ o → option_and_then (λ x. x.body) o ≡ Some i → HasFineHeads (scope_of raw (def.FunctionId f)) (output_by raw o)
 fn_heads raw law f None i e h = absurd (cc)
-fn_heads raw law f (Some x) i e h = written_heads raw law (params_of raw (def.FunctionId f)) x.output (return_fits raw law f x e i h) (output_has_no_hole raw law f.0 x e)
+fn_heads raw law f (Some x) i e h = written_heads raw law (params_of raw (def.FunctionId f)) (has_associated raw (def.FunctionId f)) x.output (return_fits raw law f x e i h) (output_has_no_hole raw law f.0 x e)
 
 pub output_heads : (raw : RawFacts) → IsLawful raw → (d : DefWithBodyId) (i : BodyId) → body_id_of raw d ≡ Some i → HasFineHeads (scope_of raw d) (return_type raw d)
 output_heads raw law (def.FunctionId f) i h = fn_heads raw law f (slice_get raw.fns f.0) i refl h

@@ -7,7 +7,7 @@ use Rattle.hir_types.specs.declared.ids.TypeRefId.{TypeRefId}
 use Rattle.hir_types.specs.declared.head.Head.TheVariants as head
 use Rattle.hir_raw.specs.declared.raw.RawFacts.{RawFacts}
 use Rattle.hir_raw.specs.Signatures.{signature_of}
-use Rattle.hir_raw.specs.Scope.{Scope, adt_params, has_params}
+use Rattle.hir_raw.specs.Scope.{Scope, adt_params, alias_params, has_params}
 use Rattle.hir_facts.specs.CarriedTypes.{IsCarriedType}
 use Rattle.hir_raw.specs.WrittenTypes.{written_type}
 use Rattle.infer_table.specs.Preserved.{Shape, whole, IsMadeOf}
@@ -20,8 +20,9 @@ use Rattle.infer_result.specs.Table.{At}
 abbrev pub item_params : RawFacts → CallableDefId → Option ℕ
 item_params facts id = option_map (λ σ. σ.params) (signature_of facts id)
 
--- The heads of the types that the walk makes, and over how many parts: neither `{unknown}` nor an alias is among them,
--- adts and items that can be called have as many arguments as parameters, and parameters are in scope.
+-- The heads of the types that the walk makes, and over how many parts: neither `{unknown}` nor an alias is among them, but for associated
+-- types that stay, where there may be any; adts, associated types and items that can be called have as many arguments as parameters, and
+-- parameters are in scope.
 abbrev pub is_fine_head : Scope → Shape
 is_fine_head sc head.Bool n = n == 0
 is_fine_head sc head.Char n = n == 0
@@ -31,6 +32,7 @@ is_fine_head sc head.Tuple n = true
 is_fine_head sc (head.Adt id) n = has_params (adt_params sc.facts id) n
 is_fine_head sc (head.FnDef id) n = has_params (item_params sc.facts id) n
 is_fine_head sc (head.Param i) n = n == 0 && nat_lt i sc.params
+is_fine_head sc (head.AssociatedType k) n = sc.associated && has_params (alias_params sc.facts k) n
 is_fine_head sc _ n = false
 
 abbrev pub HasFineHeads : Scope → Ty → Type 0

@@ -9,7 +9,7 @@ use Rattle.hir_types.specs.declared.ids.PatId.{PatId}
 use Rattle.hir_types.specs.declared.ids.TypeRefId.{TypeRefId}
 use Rattle.hir_types.specs.declared.ids.CallableDefId.TheVariants as callable
 use Rattle.hir_raw.specs.declared.raw.RawFacts.{RawFacts}
-use Rattle.hir_raw.specs.Scope.{Scope, callable_params, adt_params}
+use Rattle.hir_raw.specs.Scope.{Scope, callable_params, adt_params, types_scope}
 use Rattle.hir_raw.specs.Signatures.{Signature, signature_of, field_types}
 use Rattle.hir_raw.specs.declared.raw.RawVariant.{RawVariant}
 use Rattle.hir_laws.specs.WrittenFits.{FitsUnder}
@@ -32,17 +32,13 @@ use Rattle.infer_ctx.specs.Found.{Found}
 use Rattle.infer_ctx.specs.Context.{IsCarriedExpectation}
 use Rattle.infer_ctx.specs.Walks.{IsWalked, expr_start, Walks, Owed, expr_end, Extends, PaidBy}
 
--- the scope of an item with so many parameters
-abbrev pub own_scope : RawFacts → ℕ → Scope
-own_scope facts n = record { facts = facts; params = n }
-
 -- the function or constructor exists, and what its signature is written with is in its own scope
 pub record IsItem (facts : RawFacts) (id : CallableDefId) : Type 0 where
   pub signature : Signature
   pub found : signature_of facts id ≡ Some signature
   pub count : callable_params facts id ≡ Some signature.params
-  pub inputs : (k : ℕ) (t : Ty) → slice_get signature.inputs k ≡ Some t → IsCarriedIn (own_scope facts signature.params) t
-  pub output : IsCarriedIn (own_scope facts signature.params) signature.output
+  pub inputs : (k : ℕ) (t : Ty) → slice_get signature.inputs k ≡ Some t → IsCarriedIn (types_scope facts signature.params) t
+  pub output : IsCarriedIn (types_scope facts signature.params) signature.output
 
 -- the variant exists, its fields have no names, and what they are written with is in its adt's scope
 pub record IsVariant (facts : RawFacts) (v : VariantId) : Type 0 where
@@ -50,7 +46,7 @@ pub record IsVariant (facts : RawFacts) (v : VariantId) : Type 0 where
   pub found : slice_get facts.variants v.0 ≡ Some variant
   pub params : ℕ
   pub count : adt_params facts variant.adt ≡ Some params
-  pub fields : (k : ℕ) (t : Ty) → slice_get (field_types facts.types variant) k ≡ Some t → IsCarriedIn (own_scope facts params) t
+  pub fields : (k : ℕ) (t : Ty) → slice_get (field_types facts.types variant) k ≡ Some t → IsCarriedIn (types_scope facts params) t
   pub unnamed : (variant.ctor ≡ ctor.Unit) ⊎ (variant.ctor ≡ ctor.Tuple)
 
 -- each type that a `let` of the body or a parameter is written with is one of the facts', each function and constructor that is

@@ -12,7 +12,7 @@ use Rattle.hir_raw.specs.declared.raw.RawFacts.{RawFacts}
 use Rattle.hir_laws.specs.Bodies.{body_id_of, body_of, inputs_of, return_type, IsWalkable}
 use Rattle.hir_raw.specs.declared.raw.RawVariant.{RawVariant}
 use Rattle.hir_ids.specs.Ids.{BodyIdsExist}
-use Rattle.hir_raw.specs.Scope.{params_of, scope_of}
+use Rattle.hir_raw.specs.Scope.{params_of, scope_of, has_associated}
 use Rattle.hir_laws.specs.NoHoles.{definition_input_has_no_hole}
 use Rattle.hir_laws.specs.WrittenFits.{lets_fit, definition_inputs_fit}
 use Rattle.hir_laws.specs.LawfulFacts.{body_ids}
@@ -48,7 +48,7 @@ module _ (raw : RawFacts) (d : DefWithBodyId) (i : BodyId) (b : RawBody) (inputs
   pub written_exist : WrittenExist (record { scope = scope_of raw d; body = b; inputs = inputs; output = output })
   written_exist = record {
     lets = λ e k p w init other is. lets_fit raw law d b (found_body raw d i b id at) e k p w init other is;
-    inputs = λ k w is. is_written raw law (params_of raw d) w (definition_inputs_fit raw law d i id k w (ap (λ ws. slice_get ws k) (sym taken) ∙ is)) (definition_input_has_no_hole raw law d k w (ap (λ ws. slice_get ws k) (sym taken) ∙ is));
+    inputs = λ k w is. is_written raw law (params_of raw d) (has_associated raw d) w (definition_inputs_fit raw law d i id k w (ap (λ ws. slice_get ws k) (sym taken) ∙ is)) (definition_input_has_no_hole raw law d k w (ap (λ ws. slice_get ws k) (sym taken) ∙ is));
     functions = λ e f is. named_function raw law f ((body_ids raw law i.0 b at).functions e f is);
     constructors = λ e v is. (let x = variant_there raw v ((body_ids raw law i.0 b at).constructors e v is) in named_variant raw law v x.0 x.1);
     patterns = λ p v is. (let x = variant_there raw v (pattern_variant raw i.0 b (body_ids raw law i.0 b at) p v is) in named_variant raw law v x.0 x.1);

@@ -9,11 +9,11 @@ use Rattle.hir_types.specs.Subst.{Assignment, with_holes, folded, each_itself}
 use Rattle.hir_types.specs.declared.ty.Ty.TheVariants as ty
 use Rattle.hir_types.specs.declared.head.Hole.TheVariants as hole_of
 use Rattle.hir_types.specs.declared.ty.IntTy.TheVariants as int
-use Rattle.hir_raw.specs.Scope.{has_params, callable_params, Scope, adt_params}
+use Rattle.hir_raw.specs.Scope.{has_params, callable_params, Scope, adt_params, alias_params}
 use Rattle.hir_raw.specs.declared.raw.RawFacts.{RawFacts}
 use Rattle.hir_raw.specs.Signatures.{Signature, signature_of, type_args}
 use Rattle.hir_raw.specs.Fit.{ty_fits, arg_fits}
-use Rattle.hir_raw.specs.Fitting.{ty_fits_bool, ty_fits_char, ty_fits_int, ty_fits_uint, ty_fits_tuple, ty_fits_adt, ty_fits_fndef, ty_fits_param, arg_fits_ty, ty_fits_var, ty_fits_intvar, ty_fits_error}
+use Rattle.hir_raw.specs.Fitting.{ty_fits_bool, ty_fits_char, ty_fits_int, ty_fits_uint, ty_fits_tuple, ty_fits_adt, ty_fits_fndef, ty_fits_param, arg_fits_ty, ty_fits_var, ty_fits_intvar, ty_fits_error, ty_fits_associated}
 use Rattle.hir_types.specs.Fallback.{fallback}
 use Rattle.infer_table.specs.Completion.{completion}
 use Rattle.infer_table.specs.Resolution.{resolution}
@@ -25,10 +25,11 @@ use Rattle.infer_ctx.specs.Fine.{item_params, HasFineHeads, IsFine, Every}
 use Rattle.infer_ctx.specs.declared.context.InferenceContext.{InferenceContext}
 use Rattle.infer_ctx.specs.Closings.{closed_mismatch, closed_table, IsSound}
 use Rattle.infer_ctx.proofs.Items.{signature_count}
-use Rattle.infer_ctx.proofs.OverTypes.{over_fine, adt_closed, fn_def_closed}
+use Rattle.infer_ctx.proofs.OverTypes.{over_fine, adt_closed, fn_def_closed, associated_closed}
 use Rattle.infer_ctx.proofs.UnderClosings.{At-unclosed, At-stems}
 use Rattle.infer_ctx.proofs.Said.{said-cases}
 use Rattle.infer_coerce.proofs.Unified.{bound_heads}
+use Rattle.std.specs.Cmp.{second_so}
 
 both_true : (a b : Bool) → a ≡ true → b ≡ true → (a && b) ≡ true
 both_true a b h k = ap (λ (x : Bool). x && b) h ∙ k
@@ -80,6 +81,11 @@ module _ (sc : Scope) (a : Assignment) where
         let us = map (folded a) ts in
         fits_by (ty.FnDef id (type_args ts)) (ty.FnDef id (type_args us)) (fn_def_closed a id ts) (ty_fits_fndef sc id (type_args us)
         ∙ both_true (has_params (callable_params sc.facts id) (length (type_args us))) (list_all (arg_fits sc) (type_args us)) (ap (has_params (callable_params sc.facts id)) (arg_count ts) ∙ item_counted sc.facts id (length ts) k) (args_fit us (all_fit ts h)));
+    associated = λ id ts k h.
+        let us = map (folded a) ts in
+        let count = second_so sc.associated (has_params (alias_params sc.facts id) (length ts)) k in
+        fits_by (ty.AssociatedType id (type_args ts)) (ty.AssociatedType id (type_args us)) (associated_closed a id ts) (ty_fits_associated sc id (type_args us)
+        ∙ both_true (has_params (alias_params sc.facts id) (length (type_args us))) (list_all (arg_fits sc) (type_args us)) (ap (has_params (alias_params sc.facts id)) (arg_count ts) ∙ count) (args_fit us (all_fit ts h)));
     param = λ n k. fits_by (ty.Param n) (ty.Param n) (replaced_param (with_holes a) n) (ty_fits_param sc n ∙ k);
   })
 

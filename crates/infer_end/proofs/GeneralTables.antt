@@ -62,7 +62,7 @@ use Rattle.infer_end.specs.KeptTypes.{AreResolved, HoldsResolved, KeepsGeneral, 
 use Rattle.infer_end.proofs.Definitions.{found_body, table_of}
 use Rattle.infer_end.proofs.Fits.{completed_table_fits, fine_fits, seen_fits}
 use Rattle.infer_end.proofs.GeneralTypes.{fine_general, fine_known, chosen, chosen_heads, chosen_closes, known_heads}
-use Rattle.infer_end.proofs.PlainBodies.{plain_body, no_placeholder, calls_item}
+use Rattle.infer_end.proofs.PlainBodies.{plain_body, no_placeholder, calls_item, none_plain}
 use Rattle.infer_end.proofs.PlainGoals.{plain_needs}
 
 -- ---- a table with other types before fallback, other proofs and other gaps
@@ -372,7 +372,7 @@ module _ (raw : RawFacts) (d : DefWithBodyId) (i : BodyId) (b : RawBody) (s : Sc
       general_of : (ts : List (Option Ty)) (us : List Ty) → AreResolved c.goals.table ts us → ((n : ℕ) (t : Ty) → At ts n t → IsFine sc c.goals.table t) → AreGeneralTypes sc us
       general_of ts us e fine n u there =
           (let k = from_recorded c.goals.table ts us n u e there in
-          subst (λ t. IsGeneralType sc t) k.2 (fine_general sc (resolved_type c.goals.table k.0) (known_heads sc c done.sound k.0 (fine n k.0 k.1).heads)))
+          subst (λ t. IsGeneralType sc t) k.2 (fine_general sc (none_plain raw d plain) (resolved_type c.goals.table k.0) (known_heads sc c done.sound k.0 (fine n k.0 k.1).heads)))
 
       pub general_types : IsGeneralOf raw d table x
       general_types =

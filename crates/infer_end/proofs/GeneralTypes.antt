@@ -1,6 +1,6 @@
 -- Types in hand as types with holes, and what plain types for their holes make of them.
 use Rattle.std.specs.List.{list_all, list_any}
-use Rattle.std.proofs.Common.{ℕ, suc, ◌≡◌, refl, List, [], ◌∷◌, Some, slice_get, ap, ◌∙◌, Bool, true, ◌&&◌, sym, subst, false, ◌||◌, map, length}
+use Rattle.std.proofs.Common.{ℕ, suc, ◌≡◌, refl, List, [], ◌∷◌, Some, slice_get, ap, ◌∙◌, Bool, true, ◌&&◌, sym, subst, false, ◌||◌, map, length, true≢false}
 use Rattle.std.proofs.lemmas.Bool.{ltb-true, lt-ltb}
 use Rattle.std.proofs.lemmas.List.{length-map}
 use Rattle.hir_types.specs.declared.ty.Ty.{Ty}
@@ -10,7 +10,7 @@ use Rattle.hir_types.specs.declared.ty.IntegerTy.TheVariants as integer
 use Rattle.hir_types.specs.declared.ty.Ty.TheVariants as ty
 use Rattle.hir_types.specs.declared.head.Hole.TheVariants as hole_of
 use Rattle.hir_facts.specs.CarriedTypes.{is_carried_type, IsCarriedType, carried_bool, carried_char, carried_integer, carried_tuple, carried_adt, carried_param}
-use Rattle.hir_raw.specs.Scope.{Scope, has_params, adt_params}
+use Rattle.hir_raw.specs.Scope.{Scope, has_params, adt_params, alias_params}
 use Rattle.hir_raw.specs.Signatures.{type_args}
 use Rattle.hir_plain.specs.PlainTypes.{IsPlainIn, plain_bool, plain_char, plain_integer, plain_tuple, plain_adt, plain_param}
 use Rattle.infer_table.proofs.CompletionLaws.{closing_meets, closing_respects as resolved_respects}
@@ -19,14 +19,15 @@ use Rattle.infer_table.specs.Solutions.{Triangular, log_of}
 use Rattle.infer_table.specs.Table.{bindings}
 use Rattle.infer_result.specs.General.{IsGeneralType, AreGeneralTypes, general_hole, general_integer_hole, general_bool, general_char, general_integer, general_tuple, general_adt, general_item, general_param, GivesPlain}
 use Rattle.infer_result.specs.Unknown.{IsKnown, has_unknown, arg_has_unknown}
-use Rattle.infer_result.specs.UnknownLayers.{has_unknown_bool, has_unknown_char, has_unknown_int, has_unknown_uint, has_unknown_var, has_unknown_int_var, has_unknown_tuple, has_unknown_adt, has_unknown_fn_def, has_unknown_param, arg_has_unknown_type}
+use Rattle.infer_result.specs.UnknownLayers.{has_unknown_bool, has_unknown_char, has_unknown_int, has_unknown_uint, has_unknown_var, has_unknown_int_var, has_unknown_tuple, has_unknown_adt, has_unknown_fn_def, has_unknown_param, arg_has_unknown_type, has_unknown_associated}
 use Rattle.infer_ctx.specs.declared.context.InferenceContext.{InferenceContext}
 use Rattle.infer_ctx.specs.Closings.{IsClosing, Closes, IsSound}
 use Rattle.infer_ctx.specs.Fine.{item_params, HasFineHeads, Every}
-use Rattle.infer_ctx.proofs.FineTypes.{every_at, every_from, heads_bool, heads_char, heads_integer, heads_param, heads_tuple, heads_adt, heads_fn_def}
-use Rattle.infer_ctx.proofs.OverTypes.{over_fine, adt_closed, fn_def_closed, carried_args, closing_respects}
+use Rattle.infer_ctx.proofs.FineTypes.{every_at, every_from, heads_bool, heads_char, heads_integer, heads_param, heads_tuple, heads_adt, heads_fn_def, heads_associated}
+use Rattle.infer_ctx.proofs.OverTypes.{over_fine, adt_closed, fn_def_closed, carried_args, closing_respects, associated_closed}
 use Rattle.infer_coerce.proofs.Unified.{bound_heads, composed_closing}
 use Rattle.infer_end.proofs.Fits.{item_counted}
+use Rattle.std.specs.Cmp.{first_so}
 
 all_so : (f : Ty → Bool) (ts : List Ty) → ((k : ℕ) (u : Ty) → slice_get ts k ≡ Some u → f u ≡ true) → list_all f ts ≡ true
 all_so f [] h = refl
@@ -38,8 +39,9 @@ module _ (sc : Scope) where
   each_general : (ts : List Ty) → Every (IsGeneralType sc) ts → AreGeneralTypes sc ts
   each_general ts h k u at = every_at (IsGeneralType sc) ts k u h at
 
-  pub fine_general : (t : Ty) → HasFineHeads sc t → IsGeneralType sc t
-  fine_general = over_fine sc (IsGeneralType sc) (record {
+  -- where no associated type that stays may be one
+  pub fine_general : sc.associated ≡ false → (t : Ty) → HasFineHeads sc t → IsGeneralType sc t
+  fine_general none = over_fine sc (IsGeneralType sc) (record {
     bool = general_bool;
     char = general_char;
     int = λ i. general_integer (integer.Int i);
@@ -50,6 +52,7 @@ module _ (sc : Scope) where
     adt = λ id ts k h. general_adt id ts k (each_general ts h);
     fn_def = λ id ts k h. general_item id ts (item_counted sc.facts id (length ts) k) (each_general ts h);
     param = λ n k. general_param n (ltb-true n sc.params k);
+    associated = λ id ts k h. absurd (true≢false (sym (first_so sc.associated (has_params (alias_params sc.facts id) (length ts)) k) ∙ none));
   })
 
   none_unknown : (ts : List Ty) → Every IsKnown ts → list_any has_unknown ts ≡ false
@@ -72,6 +75,7 @@ module _ (sc : Scope) where
     adt = λ id ts k h. has_unknown_adt id (type_args ts) ∙ (as_types ts ∙ none_unknown ts h);
     fn_def = λ id ts k h. has_unknown_fn_def id (type_args ts) ∙ (as_types ts ∙ none_unknown ts h);
     param = λ n k. has_unknown_param n;
+    associated = λ id ts k h. has_unknown_associated id (type_args ts) ∙ (as_types ts ∙ none_unknown ts h);
   })
 
   -- ---- under an assignment of types in hand
@@ -96,6 +100,7 @@ module _ (sc : Scope) where
       adt = λ id ts k h. by_heads (ty.Adt id (type_args ts)) (ty.Adt id (type_args (map (folded a) ts))) (adt_closed a id ts) (heads_adt sc id (map (folded a) ts) (ap (has_params (adt_params sc.facts id)) (length-map ts (folded a)) ∙ k) (every_under ts h));
       fn_def = λ id ts k h. by_heads (ty.FnDef id (type_args ts)) (ty.FnDef id (type_args (map (folded a) ts))) (fn_def_closed a id ts) (heads_fn_def sc id (map (folded a) ts) (ap (has_params (item_params sc.facts id)) (length-map ts (folded a)) ∙ k) (every_under ts h));
       param = λ n k. by_heads (ty.Param n) (ty.Param n) (replaced_param (with_holes a) n) (heads_param sc n k);
+      associated = λ id ts k h. by_heads (ty.AssociatedType id (type_args ts)) (ty.AssociatedType id (type_args (map (folded a) ts))) (associated_closed a id ts) (heads_associated sc id (map (folded a) ts) (ap (λ n. sc.associated && has_params (alias_params sc.facts id) n) (length-map ts (folded a)) ∙ k) (every_under ts h));
     })
 
   -- ---- plain types

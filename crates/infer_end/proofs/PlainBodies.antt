@@ -1,7 +1,7 @@
 -- What a plain body has not: a `_` in the type of a `let`, and a call of what is no function.
 use Rattle.std.specs.Prelude.{IsSomeAnd, option_map}
 use Rattle.std.specs.Option.{option_and_then}
-use Rattle.std.proofs.Common.{◌≡◌, refl, Option, Some, None, subst, ℕ, sym, ap, ◌∙◌, slice_get, true, List, length}
+use Rattle.std.proofs.Common.{◌≡◌, refl, Option, Some, None, subst, ℕ, sym, ap, ◌∙◌, slice_get, true, List, length, Bool, false, not, ◌||◌, true≢false, [], ◌∷◌, if◌then◌else◌}
 use Rattle.std.proofs.lemmas.Option.{slice_get_within}
 use Rattle.hir_types.specs.declared.ids.FunctionId.{FunctionId}
 use Rattle.hir_types.specs.declared.ids.VariantId.{VariantId}
@@ -13,7 +13,7 @@ use Rattle.hir_types.specs.declared.ids.ExprOrPatId.TheVariants as node
 use Rattle.hir_raw.specs.declared.raw.RawBody.{RawBody}
 use Rattle.hir_raw.specs.declared.raw.RawFacts.{RawFacts}
 use Rattle.hir_laws.specs.Bodies.{body_of}
-use Rattle.hir_raw.specs.Scope.{params_of, adt_params}
+use Rattle.hir_raw.specs.Scope.{params_of, adt_params, has_associated, is_size_goal, states_more_by}
 use Rattle.hir_plain.specs.Plain.{IsPlainBody, IsPlainBodyOf, IsPlainKind, IsPlainType, plain, IsPlainAdt, is_tuple_ctor, is_tuple_variant, is_item, IsPlainExpr, IsPlainStmt}
 use Rattle.hir_raw.specs.declared.raw.RawType.{RawType}
 use Rattle.hir_raw.specs.WrittenTypes.{StandsIn, is_itself, in_part, type_parts}
@@ -30,6 +30,14 @@ use Rattle.hir_raw.specs.declared.raw.RawPath.TheVariants as path
 use Rattle.hir_raw.specs.declared.raw.RawExpr.TheVariants as expr
 use Rattle.infer_result.specs.Places.{Given, IsPlaceholder}
 use Rattle.infer_result.specs.Kinds.Call.{IsPathToItem}
+use Rattle.std.specs.Cmp.{first_so, second_so}
+use Rattle.std.specs.List.{list_all, list_any}
+use Rattle.hir_types.specs.declared.ids.TraitId.{TraitId}
+use Rattle.hir_raw.specs.declared.raw.RawGoal.{RawGoal}
+use Rattle.hir_raw.specs.declared.raw.RawGoal.TheVariants as goal
+use Rattle.hir_raw.specs.Goals.{arg_types, is_sized_lang}
+use Rattle.hir_plain.specs.Sized.{is_one_sized_lang, is_sized_trait, only_param, is_below, is_sized_pred}
+use Rattle.hir_ids.specs.Carried.{is_in_module}
 
 pub some_of : {A : Type 0} (P : A → Type 0) (o : Option A) → IsSomeAnd o P → (x : A) × (o ≡ Some x) × P x
 some_of P None h = absurd h
@@ -41,6 +49,34 @@ plain_body raw (def.FunctionId f) b h is = subst (λ o. IsSomeAnd o (λ x. IsPla
 plain_body raw (def.ConstId c) b h is = absurd h
 plain_body raw (def.StaticId s) b h is = absurd h
 plain_body raw (def.VariantId v) b h is = absurd h
+
+-- ---- no associated type that stays
+
+size_by : (raw : RawFacts) (t : TraitId) (n : ℕ) (o : Option ℕ) (b : Bool) → is_sized_trait raw t ≡ b → is_below n (if b then o else None) ≡ true → list_any (is_sized_lang t) raw.lang ≡ true
+size_by raw t n o true sized h = first_so (list_any (is_sized_lang t) raw.lang) (list_all (is_one_sized_lang t) raw.lang) sized
+size_by raw t n o false sized h = absurd (true≢false (sym h))
+
+-- a predicate that says of a parameter that it has a size says that a type has one
+says_size : (raw : RawFacts) (n : ℕ) (g : RawGoal) → is_sized_pred raw n g ≡ true → is_size_goal raw g ≡ true
+says_size raw n (goal.Trait r) h = size_by raw r.trait_ n (only_param raw (arg_types r.args)) (is_sized_trait raw r.trait_) refl h
+says_size raw n (goal.Projection a xs t) h = absurd (true≢false (sym h))
+
+no_more : (raw : RawFacts) (n : ℕ) (gs : List RawGoal) → list_all (is_sized_pred raw n) gs ≡ true → list_any (λ g. not (is_size_goal raw g)) gs ≡ false
+no_more raw n [] h = refl
+no_more raw n (g ∷ gs) h =
+    let all = list_all (is_sized_pred raw n) gs in
+    ap (λ b. not b || list_any (λ g. not (is_size_goal raw g)) gs) (says_size raw n g (first_so (is_sized_pred raw n g) all h)) ∙ no_more raw n gs (second_so (is_sized_pred raw n g) all h)
+
+-- may be a type in a plain body
+pub none_plain : (raw : RawFacts) (d : DefWithBodyId) → IsPlainBodyOf raw d → has_associated raw d ≡ false
+none_plain raw (def.FunctionId f) h =
+    let x = some_of _ (slice_get raw.fns f.0) h.header in
+    let preds = list_all (is_sized_pred raw (length x.0.params)) x.0.preds in
+    let header = second_so (list_all _ x.0.params) _ (second_so (is_in_module x.0.«at») _ x.2.header) in
+    ap (states_more_by raw) x.1 ∙ no_more raw (length x.0.params) x.0.preds (first_so preds _ header)
+none_plain raw (def.ConstId c) h = absurd h
+none_plain raw (def.StaticId s) h = absurd h
+none_plain raw (def.VariantId v) h = absurd h
 
 -- ---- written types
 

@@ -45,8 +45,8 @@ use Rattle.hir_raw.specs.declared.raw.RawType.{RawType}
 use Rattle.hir_raw.specs.declared.raw.RawType.TheVariants as type
 use Rattle.hir_raw.specs.declared.raw.RawVariant.{RawVariant}
 use Rattle.hir_raw.specs.declared.raw.RawFacts.{RawFacts}
-use Rattle.hir_raw.specs.Goals.{arg_types}
-use Rattle.hir_raw.specs.Scope.{count_or_none, fn_arity, scope_of, params_of}
+use Rattle.hir_raw.specs.Goals.{arg_types, is_sized_lang}
+use Rattle.hir_raw.specs.Scope.{count_or_none, fn_arity, scope_of, params_of, types_scope}
 use Rattle.hir_raw.specs.Signatures.{type_args, ctor_type_by}
 use Rattle.hir_raw.specs.WrittenTypes.{filled_by, filled_within, written_type}
 use Rattle.hir_ids.specs.Carried.{is_in_module}
@@ -57,7 +57,7 @@ use Rattle.hir_laws.specs.Lawful.{IsLawful}
 use Rattle.hir_laws.proofs.NoAliases.{no_aliases, own_arity}
 use Rattle.hir_plain.specs.Plain.{IsPlainPath, IsPlainBody, IsPlainBodyOf, IsPlainExpr, is_unit_or_tuple, HasSizedParams, HasPlainBody, is_plain_adt_kind}
 use Rattle.hir_plain.proofs.PlainFns.{plain_direct}
-use Rattle.hir_plain.specs.Sized.{is_sized_lang, is_one_sized_lang, is_sized_trait, param_number, only_param, sized_param, is_number, is_below, is_sized_of, is_sized_pred}
+use Rattle.hir_plain.specs.Sized.{is_one_sized_lang, is_sized_trait, param_number, only_param, sized_param, is_number, is_below, is_sized_of, is_sized_pred}
 use Rattle.goal_answers.specs.Goals.{Asked, Rule as Source, System, implements, only, is_trait, is_among, OneIf, SomeOf, IsKnown, Verdicts}
 use Rattle.goal_answers.specs.Reading.{Aliases, ReadsAs}
 use Rattle.goal_answers.specs.Rows.{SizedYes}
@@ -76,12 +76,12 @@ use Rattle.infer_result.specs.Placing.{at_types}
 use Rattle.infer_result.specs.Rules.{Rule, ObeysExpression}
 use Rattle.infer_result.specs.Table.{HasTy}
 use Rattle.infer_result.specs.Typed.{given}
-use Rattle.infer_ctx.specs.Fine.{IsCarriedIn}
+use Rattle.infer_ctx.specs.Fine.{IsCarriedIn, HasFineHeads}
 use Rattle.infer_ctx.proofs.FineTypes.{every_at, fine_fn_args}
 use Rattle.infer_ctx.proofs.Lists.{found}
 use Rattle.infer_ctx.proofs.OverTypes.{carried_fine}
 use Rattle.infer_table.specs.Table.{new_state}
-use Rattle.infer_end.proofs.PlainBodies.{some_of, plain_body}
+use Rattle.infer_end.proofs.PlainBodies.{some_of, plain_body, none_plain}
 use Rattle.infer_end.proofs.SizedTypes.{IsClosedIn, AreClosedIn, fine_is_read, fine_is_known, adt_args_closed, has_size}
 
 -- ---- lists
@@ -214,16 +214,16 @@ module _ (raw : RawFacts) (law : IsLawful raw) (params : ℕ) (item : GenericDef
   among : is_among f.sized (implements t) ≡ true
   among = ap (list_any (is_trait t)) are.sized ∙ sized_among raw t raw.lang (first_so (list_any (is_sized_lang t) raw.lang) (list_all (is_one_sized_lang t) raw.lang) sized)
 
-  module _ (u : Ty) (closed : IsClosedIn (record { facts = raw; params = params }) u) where
+  module _ (u : Ty) (closed : IsClosedIn (types_scope raw params) u) where
     size_yes : (A : Aliases) (v : Verdicts) → YesAt f A v (implements t) (only (term u))
     size_yes A v =
-        let known = fine_is_known (record { facts = raw; params = params }) (leaf head.TypePart) u closed in
+        let known = fine_is_known (types_scope raw params) (leaf head.TypePart) u closed in
         let Y : Term → Type 0 = λ x. IsKnown (only x) × HasSource f A v (implements t) (only x) in
         let walk : SizedYes f A Y f.tail (term u) = has_size raw law params f are.last_field A Y (λ n within. (tt, own_source A v n within)) f.tail u closed in
         (known, inr (subst (λ b. OneIf b (SizedYes f A Y f.tail (term u)) (HasSource f A v (implements t) (only (term u)))) (sym among) walk))
 
     reads : (A : Aliases) → ReadsAs A (only (term u)) (only (term u))
-    reads A = read_reads A (only (term u)) ((tt, fine_is_read (record { facts = raw; params = params }) u closed), tt)
+    reads A = read_reads A (only (term u)) ((tt, fine_is_read (types_scope raw params) u closed), tt)
 
     sized_yes : (n : ℕ) → (answers f n).Yes (record { kind = implements t; parts = only (term u) })
     sized_yes zero = (only (term u), reads (alias_first f), among, size_yes (alias_first f) (nothing f))
@@ -240,9 +240,9 @@ module _ (raw : RawFacts) (law : IsLawful raw) (xs : List GenericArg) where
   path_plain (path.Ctor v) h = refl
   path_plain path.Other h = refl
 
-  none_plain : (n : ℕ) (x : RawExpr) → IsPlainExpr raw n x → alias_goals raw xs x ≡ []
-  none_plain n (expr.Path q) h = path_plain q h
-  none_plain n _ h = refl
+  no_goals : (n : ℕ) (x : RawExpr) → IsPlainExpr raw n x → alias_goals raw xs x ≡ []
+  no_goals n (expr.Path q) h = path_plain q h
+  no_goals n _ h = refl
 
 -- ---- what paths need
 
@@ -250,7 +250,7 @@ module _ (raw : RawFacts) (law : IsLawful raw) (xs : List GenericArg) where
 record IsSizedNeed (raw : RawFacts) (params : ℕ) (t : Ty) (p : RawGoal) : Type 0 where
   types : List Ty
   args : item_args (out-Ty t) ≡ type_args types
-  closed : AreClosedIn (record { facts = raw; params = params }) types
+  closed : AreClosedIn (types_scope raw params) types
   pred : is_sized_pred raw (length types) p ≡ true
 
 pub out_adt : (a : AdtId) (xs : List GenericArg) → out-Ty (ty.Adt a xs) ≡ Ty-F.Adt a xs
@@ -259,7 +259,7 @@ out_adt a xs = ap out-Ty (sym (ty.rolls-Adt a xs)) ∙ out-roll-Ty (Ty-F.Adt a x
 pub out_fn_def : (i : CallableDefId) (xs : List GenericArg) → out-Ty (ty.FnDef i xs) ≡ Ty-F.FnDef i xs
 out_fn_def i xs = ap out-Ty (sym (ty.rolls-FnDef i xs)) ∙ out-roll-Ty (Ty-F.FnDef i xs)
 
-module _ (raw : RawFacts) (law : IsLawful raw) (d : DefWithBodyId) (b : RawBody) (is_plain : IsPlainBody raw (params_of raw d) b) (r : InferenceResult) (closed : (e : ExprId) (t : Ty) → HasTy r e t → IsClosedIn (scope_of raw d) t) where
+module _ (raw : RawFacts) (law : IsLawful raw) (d : DefWithBodyId) (b : RawBody) (is_plain : IsPlainBody raw (params_of raw d) b) (r : InferenceResult) (closed : (e : ExprId) (t : Ty) → HasTy r e t → IsClosedIn (types_scope raw (params_of raw d)) t) where
   abbrev g : Given
   g = given raw d b
 
@@ -278,13 +278,13 @@ module _ (raw : RawFacts) (law : IsLawful raw) (d : DefWithBodyId) (b : RawBody)
       record {
         types = ts;
         args = ap (λ u. item_args (out-Ty u)) (sym same) ∙ ap item_args (out_fn_def (callable.FunctionId f) (type_args ts));
-        closed = fine_fn_args (scope_of raw d) new_state (callable.FunctionId f) ts (closed e item rule.1);
+        closed = fine_fn_args (types_scope raw (params_of raw d)) new_state (callable.FunctionId f) ts (closed e item rule.1);
         pred = subst (λ n. is_sized_pred raw n p ≡ true) count (list_all_at (is_sized_pred raw (length x.params)) x.preds i p all found);
       }
 
-  ctor_args : (e : ExprId) (v : VariantId) (a : AdtId) (ts : List Ty) (k : RawCtor) → is_unit_or_tuple k ≡ true → HasTy r e (ctor_type_by k a v ts) → (item_args (out-Ty (ctor_type_by k a v ts)) ≡ type_args ts) × AreClosedIn (scope_of raw d) ts
-  ctor_args e v a ts ctor.Unit test has = (ap item_args (out_adt a (type_args ts)), adt_args_closed (scope_of raw d) a ts (closed e _ has))
-  ctor_args e v a ts ctor.Tuple test has = (ap item_args (out_fn_def (callable.VariantId v) (type_args ts)), fine_fn_args (scope_of raw d) new_state (callable.VariantId v) ts (closed e _ has))
+  ctor_args : (e : ExprId) (v : VariantId) (a : AdtId) (ts : List Ty) (k : RawCtor) → is_unit_or_tuple k ≡ true → HasTy r e (ctor_type_by k a v ts) → (item_args (out-Ty (ctor_type_by k a v ts)) ≡ type_args ts) × AreClosedIn (types_scope raw (params_of raw d)) ts
+  ctor_args e v a ts ctor.Unit test has = (ap item_args (out_adt a (type_args ts)), adt_args_closed (types_scope raw (params_of raw d)) a ts (closed e _ has))
+  ctor_args e v a ts ctor.Tuple test has = (ap item_args (out_fn_def (callable.VariantId v) (type_args ts)), fine_fn_args (types_scope raw (params_of raw d)) new_state (callable.VariantId v) ts (closed e _ has))
   ctor_args e v a ts ctor.Record test has = absurd (cc)
 
   ctor_need : (e : ExprId) (t : Ty) (v : VariantId) (x : RawVariant) (a : RawAdt) → HasTy r e t → slice_get raw.variants v.0 ≡ Some x → slice_get raw.adts x.adt.0 ≡ Some a → is_unit_or_tuple x.ctor ≡ true
@@ -350,23 +350,26 @@ module _ (raw : RawFacts) (f : FunctionId) (x : RawFn) (at : slice_get raw.fns f
 
 module _ (raw : RawFacts) (law : IsLawful raw) (b : RawBody) (r : InferenceResult) where
   needs_of_fn : (f : FunctionId) → HasPlainBody raw f → IsPlainBody raw (params_of raw (def.FunctionId f)) b → ((e : ExprId) → e.0 < length b.exprs → ObeysExpression (given raw (def.FunctionId f) b) r e)
-      → ((e : ExprId) (t : Ty) → HasTy r e t → IsClosedIn (scope_of raw (def.FunctionId f)) t) → NeedsHold (def.FunctionId f) (given raw (def.FunctionId f) b) r
+      → ((e : ExprId) (t : Ty) → HasTy r e t → IsClosedIn (types_scope raw (params_of raw (def.FunctionId f))) t) → NeedsHold (def.FunctionId f) (given raw (def.FunctionId f) b) r
   needs_of_fn f own plain obeys closed s are e a n =
       let d : DefWithBodyId = def.FunctionId f in
-      let q = get_in_map (goal_at raw (item_args (out-Ty n.ty))) (expr_preds raw n.expr) n.at a (subst (λ gs. slice_get gs n.at ≡ Some a) (needs_preds raw n.expr n.ty (none_plain raw law (item_args (out-Ty n.ty)) (params_of raw d) n.expr (plain.exprs e.0 n.expr n.is))) n.among) in
+      let q = get_in_map (goal_at raw (item_args (out-Ty n.ty))) (expr_preds raw n.expr) n.at a (subst (λ gs. slice_get gs n.at ≡ Some a) (needs_preds raw n.expr n.ty (no_goals raw law (item_args (out-Ty n.ty)) (params_of raw d) n.expr (plain.exprs e.0 n.expr n.is))) n.among) in
       let rule = subst (λ o. Rule (at_types (given raw d b) r) (given raw d b) r e o) n.is (obeys e (slice_get_within b.exprs e.0 n.expr n.is)) in
       let need = expr_need raw law d b plain r closed e n.ty n.expr n.has (plain.exprs e.0 n.expr n.is) rule n.at q.0 q.1 in
       let below = below_is raw (length need.types) (sized_param raw q.0) need.pred in
       let u = found need.types below.0 below.1 in
       let says = says_sized raw below.0 q.0 below.2 in
       let x = some_of _ (slice_get raw.fns f.0) own.sized in
-      let yes = sized_yes raw law (params_of raw d) (generic.FunctionId f) s are says.trait_ says.sized (own_stated raw f x.0 x.1 x.2 says.trait_ says.sized) u.0 (every_at (IsClosedIn (scope_of raw d)) need.types below.0 u.0 need.closed u.1) raw.limits.goal_depth in
+      let yes = sized_yes raw law (params_of raw d) (generic.FunctionId f) s are says.trait_ says.sized (own_stated raw f x.0 x.1 x.2 says.trait_ says.sized) u.0 (every_at (IsClosedIn (types_scope raw (params_of raw d))) need.types below.0 u.0 need.closed u.1) raw.limits.goal_depth in
       subst (answers s raw.limits.goal_depth).Yes (sym (says.goal need.types u.0 u.1) ∙ (ap (λ xs. goal_at raw xs q.0) (sym need.args) ∙ q.2)) yes
 
   pub plain_needs : (d : DefWithBodyId) → IsPlainBodyOf raw d → body_of raw d ≡ Some b → ((e : ExprId) → e.0 < length b.exprs → ObeysExpression (given raw d b) r e)
       → ((e : ExprId) (t : Ty) → HasTy r e t → IsCarriedIn (scope_of raw d) t) → NeedsHold d (given raw d b) r
   plain_needs (def.FunctionId f) plain is obeys carried =
-      needs_of_fn f plain (plain_body raw (def.FunctionId f) b plain is) obeys (λ e t has. let k = carried e t has in carried_fine new_state (scope_of raw (def.FunctionId f)) t k.carried k.heads)
+      needs_of_fn f plain (plain_body raw (def.FunctionId f) b plain is) obeys (λ e t has.
+      (let k = carried e t has in
+      let heads = subst (λ x. HasFineHeads (record { facts = raw; params = params_of raw (def.FunctionId f); associated = x }) t) (none_plain raw (def.FunctionId f) plain) k.heads in
+      carried_fine new_state (types_scope raw (params_of raw (def.FunctionId f))) t k.carried heads))
   plain_needs (def.ConstId c) plain is obeys carried = absurd plain
   plain_needs (def.StaticId s) plain is obeys carried = absurd plain
   plain_needs (def.VariantId v) plain is obeys carried = absurd plain

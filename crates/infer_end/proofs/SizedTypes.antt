@@ -1,7 +1,7 @@
 -- Types of carried kinds without holes have a size, where the parameters in scope have one.
 use Rattle.std.specs.List.{range_with_len}
 use Rattle.std.specs.Option.{option_and_then}
-use Rattle.std.proofs.Common.{ℕ, zero, suc, ◌+◌, ◌-◌, ◌<◌, ◌≡◌, arith, true, refl, sym, ap, ◌∙◌, subst, true≢false, List, [], ◌∷◌, map, length, Option, Some, None, option_map, slice_get}
+use Rattle.std.proofs.Common.{ℕ, zero, suc, ◌+◌, ◌-◌, ◌<◌, ◌≡◌, arith, true, refl, sym, ap, ◌∙◌, subst, true≢false, List, [], ◌∷◌, map, length, Option, Some, None, option_map, slice_get, false}
 use Rattle.std.proofs.lemmas.Bool.{ltb-true, eqb-true, or_left}
 use Rattle.hir_types.specs.declared.ids.AdtId.{AdtId}
 use Rattle.hir_types.specs.declared.ids.VariantId.{VariantId}
@@ -24,7 +24,7 @@ use Rattle.hir_raw.specs.declared.raw.RawAdtKind.TheVariants as kind
 use Rattle.hir_raw.specs.declared.raw.RawField.{RawField}
 use Rattle.hir_raw.specs.declared.raw.RawVariant.{RawVariant}
 use Rattle.hir_raw.specs.declared.raw.RawFacts.{RawFacts}
-use Rattle.hir_raw.specs.Scope.{Scope, adt_params, has_params}
+use Rattle.hir_raw.specs.Scope.{Scope, adt_params, has_params, types_scope}
 use Rattle.hir_raw.specs.Signatures.{type_args, at_args}
 use Rattle.hir_raw.specs.WrittenTypes.{written_type}
 use Rattle.hir_laws.specs.Lawful.{IsLawful}
@@ -46,7 +46,6 @@ use Rattle.goal_facts.specs.ImplGoals.{HasHolesBelow}
 use Rattle.goal_facts.specs.Systems.{last_of, variant_of, last_field_of}
 use Rattle.goal_facts.proofs.FreshGoals.{type_under, args_holes}
 use Rattle.infer_ctx.specs.Fine.{IsFine, AllFine, IsWritten, is_fine_head}
-use Rattle.infer_ctx.specs.Under.{own_scope}
 use Rattle.infer_ctx.proofs.FineTypes.{every_at, fine_elements}
 use Rattle.infer_ctx.proofs.Instances.{fine_instance}
 use Rattle.infer_ctx.proofs.OverTypes.{over_fine}
@@ -163,7 +162,7 @@ module _ (raw : RawFacts) (ts : List Ty) (w : TypeRefId) where
 -- the type of a field, with holes for the parameters of its adt
 record IsField (raw : RawFacts) (a : RawAdt) (w : Term) : Type 0 where
   type : TypeRefId
-  written : IsWritten (own_scope raw (length a.params)) type
+  written : IsWritten (types_scope raw (length a.params)) type
   is : type_at raw (holes (length a.params)) type ≡ w
 
 module _ (raw : RawFacts) (law : IsLawful raw) (i : ℕ) (a : RawAdt) (found : slice_get raw.adts i ≡ Some a) (w : Term) where
@@ -180,7 +179,7 @@ module _ (raw : RawFacts) (law : IsLawful raw) (i : ℕ) (a : RawAdt) (found : s
       let place = length x.fields - 1 in
       record {
         type = y.type_;
-        written = is_written raw law (length a.params) y.type_ (fields_fit raw law v.0 x a here adt place y last) (field_has_no_hole raw law v.0 x here place y last);
+        written = is_written raw law (length a.params) false y.type_ (fields_fit raw law v.0 x a here adt place y last) (field_has_no_hole raw law v.0 x here place y last);
         is = cc;
       }
 
@@ -210,7 +209,7 @@ last_type P t (u ∷ ts) h = last_type P u ts (λ k v at. h (suc k) v at)
 module _ (raw : RawFacts) (law : IsLawful raw) (params : ℕ) (f : System) (fields : (a : AdtId) → f.last_field a ≡ option_and_then (last_field_of raw) (slice_get raw.adts a.0)) (A : Aliases) (Yes : Term → Type 0)
     (own : (n : ℕ) → n < params → Yes (node (head.Param n) [])) where
   abbrev sc : Scope
-  sc = own_scope raw params
+  sc = types_scope raw params
 
   module _ (n : ℕ) (below : (t : Ty) → IsClosedIn sc t → SizedYes f A Yes n (term t)) where
     abbrev Sized : Term → Type 0
@@ -270,6 +269,7 @@ module _ (raw : RawFacts) (law : IsLawful raw) (params : ℕ) (f : System) (fiel
       tuple = λ ts h. tuple_sized ts;
       adt = λ id ts count h. adt_sized id ts count;
       fn_def = λ id ts count h. by_term (ty.FnDef id (type_args ts)) (node (head.FnDef id) (parts_of_types ts)) (term_fn_def_types id ts) tt;
+      associated = λ id ts none h. absurd (true≢false (sym none));
       param = λ k within. by_term (ty.Param k) (node (head.Param k) []) (term_param k) (own k (ltb-true k params within));
     }) t closed.heads closed
 

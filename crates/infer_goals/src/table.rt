@@ -7,7 +7,7 @@ ghost use Rattle.goal_search.specs.Sized.{IsSizedAt};
 ghost use Rattle.goal_answers.specs.Answers.{answers};
 ghost use Rattle.goal_facts.specs.Goals.{asked_goal, IsAnswer};
 ghost use Rattle.goal_facts.specs.Proofs.{AreProofsUnder};
-ghost use Rattle.goal_facts.specs.Reading.{IsTypeRead};
+ghost use Rattle.goal_facts.specs.Reading.{IsReadOrItself, IsTypeRead};
 ghost use Rattle.goal_facts.specs.Systems.{IsSystemOf};
 ghost use Rattle.goal_select.specs.Steps.{GoalIsOf};
 ghost use Rattle.goal_tree.specs.Trees.{registered, IsAsked, pending_of};
@@ -113,13 +113,25 @@ impl<'a> GoalTable<'a> {
     }
 
     /// What a type with associated types reads as, with what is known of its holes, at the depth to which the facts let
-    /// goals be followed: nothing where one of them is open, or stays as it is. `infer/unify.rs`, `normalize_alias_ty`.
+    /// goals be followed; one that stays is a type of its own. Nothing where one of them is open. `infer/unify.rs`, `normalize_alias_ty`.
     pub fn normalize_alias_ty(&self, ty: &Ty) -> Result<Option<Ty>, AllocError>
         ensures given { IfOk result (λ _. IsSystemOf self.now.sources.facts self.now.sources.item (system self.now.sources.sources)) }
         ensures read { IfOk result (λ found. IsTypeRead (system self.now.sources.sources) self.now.sources.facts.limits.goal_depth (resolved_type self.now.table ty.now) found) }
     {
         let ty = self.table.resolve(ty)?;
         self.sources.read_ty(self.alloc, &ty)
+    }
+
+    /// A type with what is known of its holes and what its associated types read as; where one of these is open, the type as it is.
+    /// `infer/unify.rs`, `try_structurally_resolve_type`.
+    pub fn try_structurally_resolve_type(&self, ty: &Ty) -> Result<Ty, AllocError>
+        ensures given { IfOk result (λ _. IsSystemOf self.now.sources.facts self.now.sources.item (system self.now.sources.sources)) }
+        ensures read { IfOk result (λ found. IsReadOrItself (system self.now.sources.sources) self.now.sources.facts.limits.goal_depth (resolved_type self.now.table ty.now) found) }
+    {
+        match self.normalize_alias_ty(ty)? {
+            Some(read) => Ok(read),
+            None => self.table.resolve(ty),
+        }
     }
 
     /// What was told, in its order: copies.

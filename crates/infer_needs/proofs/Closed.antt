@@ -15,7 +15,7 @@ use Rattle.hir_types.specs.Terms.{Term, chain, const_term, type_part, arg_step, 
 use Rattle.hir_types.specs.TermLaws.{terms, term_at, arg_term_at, term_error}
 use Rattle.hir_raw.specs.Scope.{Scope}
 use Rattle.hir_raw.specs.Fit.{fits_arg, fits_bound, fits_trait, fits_step, ty_fits}
-use Rattle.goal_prove.specs.Staying.{IsWritten}
+use Rattle.goal_prove.specs.Written.{IsWritten}
 use Rattle.infer_result.specs.Needs.{item_args}
 
 -- ---- tests
@@ -47,7 +47,7 @@ abbrev hole_steps : Steps Bool Bool Bool Bool
 hole_steps = record { arg = hole_arg; ty = hole_step; bound = hole_bound; trait = hole_trait }
 
 abbrev fit_steps : Scope → Steps Bool Bool Bool Bool
-fit_steps sc = record { arg = fits_arg; ty = fits_step sc; bound = fits_bound; trait = fits_trait }
+fit_steps sc = record { arg = fits_arg; ty = fits_step sc.facts sc.params; bound = fits_bound; trait = fits_trait }
 
 module _ (sc : Scope) where
   abbrev ArgIsClosed : GenericArg → Type 0
@@ -90,7 +90,7 @@ module _ (sc : Scope) where
       let b = both _ _ k in
       (x.1 a.0 b.0, args_closed xs a.1 b.1)
 
-  layer_closed : (y : Ty-F ClosedArg ClosedTy AnyBound AnyTrait) → hole_step (in_ty (folds hole_steps) (layer_of y)) ≡ false → fits_step sc (in_ty (folds (fit_steps sc)) (layer_of y)) ≡ true
+  layer_closed : (y : Ty-F ClosedArg ClosedTy AnyBound AnyTrait) → hole_step (in_ty (folds hole_steps) (layer_of y)) ≡ false → fits_step sc.facts sc.params (in_ty (folds (fit_steps sc)) (layer_of y)) ≡ true
       → IsWritten (ty_step (in_ty terms (layer_of y)))
   layer_closed Ty-F.Bool h k = (tt, tt)
   layer_closed Ty-F.Char h k = (tt, tt)
@@ -123,6 +123,7 @@ module _ (sc : Scope) where
   layer_closed (Ty-F.Dynamic (Some r) bs is) h k = absurd (true≢false (sym k))
   layer_closed (Ty-F.Param n) h k = (tt, tt)
   layer_closed (Ty-F.Projection i xs) h k = (tt, args_closed xs h (both _ _ k).1)
+  layer_closed (Ty-F.AssociatedType i xs) h k = (tt, args_closed xs h (both _ _ k).1)
   layer_closed (Ty-F.Opaque i xs) h k = absurd (true≢false (sym k))
   layer_closed Ty-F.Error h k = (tt, tt)
   layer_closed (Ty-F.Var n) h k = absurd (true≢false h)
@@ -136,7 +137,7 @@ module _ (sc : Scope) where
 
   step_closed : (x : Ty-F GenericArg Ty AliasBound TraitRef) (y : Ty-F ClosedArg ClosedTy AnyBound AnyTrait) → layer_of y ≡ x → TyIsClosed (roll-Ty x)
   step_closed x y is h k =
-      let at = subst (λ z. hole_step (in_ty (folds hole_steps) z) ≡ false → fits_step sc (in_ty (folds (fit_steps sc)) z) ≡ true → IsWritten (ty_step (in_ty terms z))) is (layer_closed y) in
+      let at = subst (λ z. hole_step (in_ty (folds hole_steps) z) ≡ false → fits_step sc.facts sc.params (in_ty (folds (fit_steps sc)) z) ≡ true → IsWritten (ty_step (in_ty terms z))) is (layer_closed y) in
       subst IsWritten (sym (term_at x)) (at (sym ((folds_follow hole_steps).ty x) ∙ h) (sym ((folds_follow (fit_steps sc)).ty x) ∙ k))
 
   arg_step_closed : (x : GenericArg-F GenericArg Ty AliasBound TraitRef) (y : GenericArg-F ClosedArg ClosedTy AnyBound AnyTrait) → arg_layer_of y ≡ x → ArgIsClosed (roll-GenericArg x)

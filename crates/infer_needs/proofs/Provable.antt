@@ -25,7 +25,7 @@ use Rattle.hir_raw.specs.Scope.{scope_of}
 use Rattle.goal_answers.specs.Goals.{Asked}
 use Rattle.goal_facts.specs.Arguments.{type_at, args_at, goal_at}
 use Rattle.goal_facts.proofs.Systems.{each_append}
-use Rattle.goal_prove.specs.Staying.{IsWritten}
+use Rattle.goal_prove.specs.Written.{IsWritten}
 use Rattle.goal_facts.proofs.Written.{parts_by, layer, by_layers, args_are}
 use Rattle.infer_result.specs.declared.result.InferenceResult.{InferenceResult}
 use Rattle.infer_result.specs.AliasNeeds.{alias_goals_by, alias_goals_from, fn_alias_goals, path_alias_goals, alias_goals}

@@ -52,9 +52,10 @@ use Rattle.infer_result.specs.declared.result.InferenceResult.{InferenceResult}
 use Rattle.infer_ctx.specs.Fine.{is_fine_head, HasFineHeads, Every}
 use Rattle.infer_ctx.specs.Tells.{Tells}
 use Rattle.infer_ctx.specs.Under.{IsVariant}
-use Rattle.infer_ctx.proofs.FineTypes.{heads_bool, heads_char, heads_integer, heads_param, heads_tuple, heads_adt, heads_fn_def}
+use Rattle.infer_ctx.proofs.FineTypes.{heads_bool, heads_char, heads_integer, heads_param, heads_tuple, heads_adt, heads_fn_def, heads_associated}
 use Rattle.infer_ctx.proofs.OverTypes.{over_fine, adt_closed, fn_def_closed}
 use Rattle.infer_obligations.proofs.FineSources.{GoalIsFit, fit_more, goal_has_heads, fn_preds_fit, adt_preds_fit}
+use Rattle.hir_types.specs.declared.ids.TypeAliasId.{TypeAliasId}
 
 -- ---- what a type is, outermost
 
@@ -85,6 +86,9 @@ no_args_tuple ts = ap item_args (ap out-Ty (sym (ty.rolls-Tuple ts)) ∙ out-rol
 
 no_args_param : (n : ℕ) → args_of (ty.Param n) ≡ []
 no_args_param n = ap item_args (ap out-Ty (sym (ty.rolls-Param n)) ∙ out-roll-Ty (Ty-F.Param n))
+
+no_args_associated : (i : TypeAliasId) (xs : List GenericArg) → args_of (ty.AssociatedType i xs) ≡ []
+no_args_associated i xs = ap item_args (ap out-Ty (sym (ty.rolls-AssociatedType i xs)) ∙ out-roll-Ty (Ty-F.AssociatedType i xs))
 
 adt_args : (i : AdtId) (xs : List GenericArg) → args_of (ty.Adt i xs) ≡ xs
 adt_args i xs = ap item_args (ap out-Ty (sym (ty.rolls-Adt i xs)) ∙ out-roll-Ty (Ty-F.Adt i xs))
@@ -146,6 +150,7 @@ module _ (sc : Scope) (a : Assignment) where
       all = every_heads ts h;
       many = λ o has. ap (λ v. length (args_of v)) (fn_def_closed a id ts) ∙ (ap length (fn_def_args id (type_args (map (folded a) ts))) ∙ as_many ts);
     };
+    associated = λ id ts k h. unknown_args (ty.AssociatedType id (type_args ts)) (heads_associated sc id ts k (every_heads ts h)) (no_args_associated id (type_args ts)) (ap outermost_step (ap out-Ty (sym (ty.rolls-AssociatedType id (type_args ts))) ∙ out-roll-Ty (Ty-F.AssociatedType id (type_args ts))));
     param = λ n k. without_args (ty.Param n) (ty.Param n) (heads_param sc n k) (no_args_param n) (replaced_param (with_holes a) n) (no_args_param n);
   })
 

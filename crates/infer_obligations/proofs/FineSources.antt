@@ -1,5 +1,5 @@
 -- The sources of goals of a function that are concrete have types in scope alone: no associated type is in them.
-use Rattle.std.specs.Prelude.{◌≡◌, ◌<◌, ◌≤◌, ◌+◌, ◌++◌, ℕ, zero, suc, true, List, [], ◌∷◌, length, map, flat_map, slice_get, Option, Some, None, option_map, IsTrue, IfSome, not, refl}
+use Rattle.std.specs.Prelude.{◌≡◌, ◌<◌, ◌≤◌, ◌+◌, ◌++◌, ℕ, zero, suc, true, List, [], ◌∷◌, length, map, flat_map, slice_get, Option, Some, None, option_map, Bool, false, IfSome, refl}
 use Rattle.std.specs.List.{range_with_len}
 use Rattle.std.proofs.Common.{inl, inr, sym, ap, ◌∙◌, subst, arith, true≢false}
 use Rattle.std.proofs.lemmas.Bool.{ltb-true, lt-ltb, or_cases, or_left, or_right}
@@ -38,12 +38,13 @@ use Rattle.hir_raw.specs.declared.raw.RawType.TheVariants as type
 use Rattle.hir_raw.specs.declared.raw.RawBody.{RawBody}
 use Rattle.hir_raw.specs.declared.raw.RawFacts.{RawFacts}
 use Rattle.hir_raw.specs.Goals.{arg_types}
-use Rattle.hir_raw.specs.Scope.{Scope, adt_params, has_params, scope_of, count_or_none}
+use Rattle.hir_raw.specs.Scope.{Scope, adt_params, has_params, scope_of, count_or_none, types_scope}
 use Rattle.hir_raw.specs.Signatures.{type_args, at_args}
-use Rattle.hir_raw.specs.WrittenTypes.{filled_within, written_type}
+use Rattle.hir_raw.specs.Hidden.{is_alias}
+use Rattle.hir_raw.specs.WrittenTypes.{type_parts, filled_within, written_type}
 use Rattle.hir_ids.specs.Entries.{AllHold}
 use Rattle.hir_ids.specs.GoalIds.{TraitRefExists, GoalExists, GoalsExist, TraitIdsExist, ImplIdsExist}
-use Rattle.hir_ids.specs.Projections.{is_projection, IsNoProjection}
+use Rattle.hir_ids.specs.Projections.{HoldsProjection, is_one, in_part, IsNoProjection}
 use Rattle.hir_counts.specs.Counts.{TypeFits, GoalFits, AdtFits, TraitFits, ImplFits, ImplTraitFits}
 use Rattle.hir_counts.specs.Standing.{HasNoHole, params_in, wrongs_in}
 use Rattle.hir_counts.specs.Uses.{goal_uses, goals_uses, impl_uses, trait_ref_uses, fn_uses, variant_uses, abstract_uses, item_uses}
@@ -64,7 +65,7 @@ use Rattle.goal_facts.specs.Impls.{impl_holes, impl_args, assoc_rule, rules_for,
 use Rattle.goal_facts.specs.Systems.{fact, IsSystemOf}
 use Rattle.goal_facts.proofs.Systems.{each_append, each_get}
 use Rattle.goal_facts.proofs.ListedBounds.{listed_not_concrete}
-use Rattle.goal_facts.proofs.Written.{layer, type_layer, args_are}
+use Rattle.goal_facts.proofs.Written.{parts_by, layer, layer_is, args_are}
 use Rattle.goal_select.specs.Steps.{HasHeadsIfConcrete, RuleHasHeadsOf, SystemHasHeadsOf}
 use Rattle.goal_select.proofs.Heads.{concrete_within}
 use Rattle.infer_result.specs.Needs.{scope_item}
@@ -99,7 +100,7 @@ heads_int_var sc n = subst (IsMadeOf (is_fine_head sc) whole) (sym (term_int_var
 
 module _ (sc : Scope) (ts : List Ty) (all : Every (HasFineHeads sc) ts) where
   abbrev Own : Scope
-  Own = record { facts = sc.facts; params = length ts }
+  Own = types_scope sc.facts (length ts)
 
   abbrev HeadsAt : Ty → Type 0
   HeadsAt t = HasFineHeads sc (at_args ts t)
@@ -131,6 +132,7 @@ module _ (sc : Scope) (ts : List Ty) (all : Every (HasFineHeads sc) ts) where
         let vs = map (at_args ts) us in
         heads_by (ty.FnDef id (type_args us)) (ty.FnDef id (type_args vs)) (replaced_fn_def (with_params (type_args ts)) id (type_args us) ∙ ap (ty.FnDef id) (types_args_replaced (with_params (type_args ts)) us))
         (heads_fn_def sc id vs (takes (item_params sc.facts id) us k) (all_heads_at us h));
+    associated = λ id us k h. absurd (true≢false (sym k));
     param = λ n k.
         let q = found ts n (ltb-true n (length ts) k) in
         heads_by (ty.Param n) q.0 (param_at ts n q.0 q.1) (every_at (HasFineHeads sc) ts n q.0 all q.1);
@@ -171,16 +173,61 @@ module _ (sc : Scope) where
   own_heads : Every (HasFineHeads sc) (param_types sc.params)
   own_heads = every_mapped (HasFineHeads sc) (λ k. ty.Param k) sc.params 0 (λ k lo hi. (let h : k < sc.params = omega (arith, hi) in heads_param sc k (lt-ltb k sc.params h)))
 
+-- ---- concrete layers
+
+alias_not : (params f : ℕ → Term) (x : RawType) → is_alias x ≡ true → IsConcrete (layer params f (Some x)) → ⊥
+alias_not params f (type.Projection a ts) alias c = c.0
+alias_not params f type.Bool alias c = true≢false (sym alias)
+alias_not params f type.Char alias c = true≢false (sym alias)
+alias_not params f (type.Integer i) alias c = true≢false (sym alias)
+alias_not params f (type.Tuple ts) alias c = true≢false (sym alias)
+alias_not params f (type.Adt a ts) alias c = true≢false (sym alias)
+alias_not params f (type.Param n) alias c = true≢false (sym alias)
+alias_not params f type.Hole alias c = true≢false (sym alias)
+alias_not params f type.Other alias c = true≢false (sym alias)
+
+in_chain : (f : ℕ → Term) (ts : List TypeRefId) (k : ℕ) (u : TypeRefId) → IsConcrete (chain (parts_by f ts)) → slice_get ts k ≡ Some u → IsConcrete (f u.0)
+in_chain f [] k u c at = absurd (cc)
+in_chain f (t ∷ ts) zero u c at = (let same : t ≡ u = cc in subst (λ (w : TypeRefId). IsConcrete (f w.0)) same c.0.1)
+in_chain f (t ∷ ts) (suc k) u c at = in_chain f ts k u c.1 at
+
+part_concrete : (params f : ℕ → Term) (x : RawType) (k : ℕ) (u : TypeRefId) → is_alias x ≡ false → IsConcrete (layer params f (Some x)) → slice_get (type_parts x) k ≡ Some u → IsConcrete (f u.0)
+part_concrete params f (type.Tuple ts) k u plain c at = in_chain f ts k u c.1 at
+part_concrete params f (type.Adt a ts) k u plain c at = in_chain f ts k u c.1 at
+part_concrete params f (type.Projection a ts) k u plain c at = absurd (true≢false plain)
+part_concrete params f _ k u plain c at = absurd (cc)
+
 -- ---- written goals
 
 module _ (raw : RawFacts) (law : IsLawful raw) where
-  -- a type that is concrete at arguments is written as no associated type
+  -- no associated type stands in what a type that is concrete at arguments is written as
+  module _ (xs : List GenericArg) where
+    abbrev params : ℕ → Term
+    params n = term ((with_params xs).param n)
+
+    abbrev below : ℕ → ℕ → Term
+    below n j = term (replaced (with_params xs) (filled_within (λ k. ty.Hole) n raw.types j))
+
+    none_held : (n i : ℕ) → i < n → IsConcrete (below n i) → IsNoProjection raw i
+    unfolding filled_within
+    none_held zero i lt c held = absurd (omega (arith, lt))
+    none_held (suc n) i lt c held =
+        by_held held (subst IsConcrete (layer_is (with_params xs) (filled_within (λ k. ty.Hole) n raw.types) (slice_get raw.types i)) c) (λ j less d. none_held n j (omega (arith, less, lt)) d)
+      where
+        by_held : HoldsProjection raw.types i → IsConcrete (layer params (below n) (slice_get raw.types i)) → ((j : ℕ) → j < i → IsConcrete (below n j) → IsNoProjection raw j) → ⊥
+        by_held (is_one _ x at alias) c later = alias_not params (below n) x alias (subst (λ o. IsConcrete (layer params (below n) o)) at c)
+        by_held (in_part _ x k u at here before deeper) c later =
+            by_kind (is_alias x) refl
+          where
+            own : IsConcrete (layer params (below n) (Some x))
+            own = subst (λ o. IsConcrete (layer params (below n) o)) at c
+
+            by_kind : (b : Bool) → is_alias x ≡ b → ⊥
+            by_kind true alias = alias_not params (below n) x alias own
+            by_kind false plain = later u.0 before (part_concrete params (below n) x k u plain own here) deeper
+
   concrete_direct : (xs : List GenericArg) (w : TypeRefId) → IsConcrete (type_at raw xs w) → IsNoProjection raw w.0
-  concrete_direct xs w h = by (slice_get raw.types w.0) (subst IsConcrete (type_layer raw xs w) h)
-    where
-      by : (o : Option RawType) → IsConcrete (layer (λ n. term ((with_params xs).param n)) (λ j. term (replaced (with_params xs) (filled_within (λ k. ty.Hole) w.0 raw.types j))) o) → IsTrue (not (is_projection o))
-      by (Some (type.Projection a ts)) c = absurd c.0
-      by _ c = refl
+  concrete_direct xs w c = none_held xs (suc w.0) w.0 (omega arith) c
 
   -- what a goal or an impl is written with, but for an associated type
   pub record IsFit (n : ℕ) (w : TypeRefId) : Type 0 where
@@ -249,8 +296,8 @@ module _ (raw : RawFacts) (law : IsLawful raw) where
     type_heads : (w : TypeRefId) → IsFitIfDirect (length ts) w → IsConcrete (type_at raw (type_args ts) w) → IsMadeOf P whole (type_at raw (type_args ts) w)
     type_heads w if_direct concrete =
         let h = if_direct (concrete_direct (type_args ts) w concrete) in
-        let own : HasFineHeads (record { facts = raw; params = length ts }) (written_type raw.types w) = written_heads raw law (length ts) w h.fits h.no_hole in
-        heads_at_args sc ts all (written_type raw.types w) (subst (λ (r : RawFacts). HasFineHeads (record { facts = r; params = length ts }) (written_type raw.types w)) (sym same) own)
+        let own : HasFineHeads (types_scope raw (length ts)) (written_type raw.types w) = written_heads raw law (length ts) false w h.fits h.no_hole in
+        heads_at_args sc ts all (written_type raw.types w) (subst (λ (r : RawFacts). HasFineHeads (types_scope r (length ts)) (written_type raw.types w)) (sym same) own)
 
     chain_fine : (ws : List TypeRefId) → AreFit (length ts) ws → AreFineArgs P (chain (map (λ w. type_part (type_at raw (type_args ts) w)) ws))
     chain_fine [] h = tt

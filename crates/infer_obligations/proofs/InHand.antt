@@ -7,19 +7,15 @@ use Rattle.hir_types.specs.declared.head.Head.TheVariants as head
 use Rattle.hir_types.specs.Terms.{Term, hole, leaf, pair, term}
 use Rattle.hir_types.specs.declared.ids.DefWithBodyId.{DefWithBodyId}
 use Rattle.hir_raw.specs.declared.raw.RawFacts.{RawFacts}
-use Rattle.hir_raw.specs.Scope.{Scope, params_of, scope_of}
+use Rattle.hir_raw.specs.Scope.{Scope, params_of, scope_of, has_associated}
 use Rattle.infer_table.specs.MadeTest.{HasMadeIf}
 use Rattle.infer_table.specs.Preserved.{Shape, TermRole, whole, part, rest, width, IsHead, IsMadeOf}
 use Rattle.infer_table.specs.Table.{State}
 use Rattle.infer_ctx.specs.Fine.{is_fine_head, IsFine}
-use Rattle.infer_obligations.specs.Reading.{is_read_head, IsInHand}
+use Rattle.infer_obligations.specs.Reading.{is_read_head, IsInHand, body_scope}
 
--- the scope of a body, from its parts
-abbrev pub scope_at : RawFacts → ℕ → Scope
-scope_at raw n = record { facts = raw; params = n }
-
-pub scope_is : (d : DefWithBodyId) (facts raw : RawFacts) (n : ℕ) → raw ≡ facts → n ≡ params_of raw d → scope_at raw n ≡ scope_of facts d
-scope_is d facts raw n same count = ap (scope_at raw) count ∙ ap (λ x. scope_of x d) same
+pub scope_is : (d : DefWithBodyId) (facts raw : RawFacts) (n : ℕ) (b : Bool) → raw ≡ facts → n ≡ params_of raw d → b ≡ has_associated raw d → body_scope raw n b ≡ scope_of facts d
+scope_is d facts raw n b same count may = ap (λ m. body_scope raw m b) count ∙ (ap (body_scope raw (params_of raw d)) may ∙ ap (λ x. scope_of x d) same)
 
 module _ (sc : Scope) (state : State) (t : Ty) where
   -- its heads can't be
@@ -45,6 +41,7 @@ read_head_fine sc (head.Uint i) n e = e
 read_head_fine sc head.Tuple n e = e
 read_head_fine sc (head.Adt i) n e = e
 read_head_fine sc (head.Param i) n e = e
+read_head_fine sc (head.AssociatedType k) n e = e
 read_head_fine sc _ n e = absurd (true≢false (sym e))
 
 module _ (P Q : Shape) (wider : (h : Head) (n : ℕ) → IsTrue (P h n) → IsTrue (Q h n)) where

@@ -1,11 +1,11 @@
 -- What an associated type that a goal is about reads as, made equal with the goal's type.
-use Rattle.std.specs.Prelude.{◌≡◌, ◌⊎◌, ℕ, zero, suc, List, length, map, slice_get, Option, Some, true, false, ◌==◌, ◌&&◌, nat_lt}
+use Rattle.std.specs.Prelude.{◌≡◌, ◌⊎◌, ℕ, zero, suc, List, length, map, slice_get, Option, Some, true, false, ◌==◌, ◌&&◌, nat_lt, Bool}
 use Rattle.hir_types.specs.declared.goal.Goal.{Goal}
 use Rattle.hir_types.specs.declared.goal.Goal.TheVariants as goal
 use Rattle.hir_types.specs.declared.ids.TypeAliasId.{TypeAliasId}
 use Rattle.hir_types.specs.declared.ty.GenericArg.{GenericArg}
 use Rattle.hir_types.specs.declared.head.Head.TheVariants as head
-use Rattle.hir_raw.specs.Scope.{Scope, adt_params, has_params}
+use Rattle.hir_raw.specs.Scope.{Scope, adt_params, has_params, alias_params}
 use Rattle.hir_types.specs.declared.ty.Ty.{Ty}
 use Rattle.hir_types.specs.declared.ty.Ty.TheVariants as ty
 use Rattle.hir_types.specs.Terms.{term}
@@ -21,8 +21,13 @@ use Rattle.infer_ctx.specs.declared.context.InferenceContext.{InferenceContext}
 use Rattle.infer_ctx.specs.Steps.{OnlyBinds}
 use Rattle.infer_coerce.specs.MadeEqual.{SameOrDiffer, Settles}
 use Rattle.infer_obligations.specs.Selection.{SelectsInWalk}
+use Rattle.hir_raw.specs.declared.raw.RawFacts.{RawFacts}
 
--- The heads of types that can be written in this scope, and over how many parts.
+-- the scope of a body, from its parts
+abbrev pub body_scope : RawFacts → ℕ → Bool → Scope
+body_scope raw n b = record { facts = raw; params = n; associated = b }
+
+-- The heads of types that can be written in this scope, or are associated types that stay, and over how many parts.
 abbrev pub is_read_head : Scope → Shape
 is_read_head sc head.Bool n = n == 0
 is_read_head sc head.Char n = n == 0
@@ -31,6 +36,7 @@ is_read_head sc (head.Uint i) n = n == 0
 is_read_head sc head.Tuple n = true
 is_read_head sc (head.Adt id) n = has_params (adt_params sc.facts id) n
 is_read_head sc (head.Param i) n = n == 0 && nat_lt i sc.params
+is_read_head sc (head.AssociatedType k) n = sc.associated && has_params (alias_params sc.facts k) n
 is_read_head sc _ n = false
 
 -- such a type, over holes that the table made

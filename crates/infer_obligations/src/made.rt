@@ -1,13 +1,15 @@
-//! Whether a term is that of a type in scope, of which no part is an associated type, an item that can be called or `{unknown}`.
+//! Whether a term is that of a type in scope, of which no part is an associated type that is still to be read, an item that can be called or
+//! `{unknown}`.
 ghost use Rattle.std.specs.Prelude.{◌≡◌, ◌↔◌, IsTrue};
-ghost use Rattle.hir_raw.specs.Scope.{Scope};
+ghost use Rattle.hir_raw.specs.Scope.{alias_params, has_params};
 ghost use Rattle.infer_table.specs.Preserved.{whole, part, rest, width, IsTypeMark, IsHead, IsEnd, IsMadeOf};
 ghost use Rattle.goal_terms.specs.Terms.{term_of};
-ghost use Rattle.infer_obligations.specs.Reading.{is_read_head};
+ghost use Rattle.infer_obligations.specs.Reading.{body_scope, is_read_head};
 
 use goal_terms::Term;
 use hir_facts::RawFacts;
-use hir_types::Head;
+use hir_raw::alias_params;
+use hir_types::{Head, TypeAliasId};
 
 /// Whether these are so many parts.
 #[tactic(auto, using(goal_terms::specs::Terms::term_is))]
@@ -20,9 +22,19 @@ fn has_parts(parts: &Term, count: usize) -> bool
     }
 }
 
-/// Whether a head may stand over these parts, where so many parameters are in scope.
-fn is_read_head(facts: &RawFacts, params: usize, head: Head, parts: &Term) -> bool
-    ensures { IsTrue result ↔ IsTrue (is_read_head (record { facts = facts.now; params = params }) head (width (term_of parts.now))) }
+/// Whether these are as many parts as the associated type has parameters.
+fn are_alias_parts(facts: &RawFacts, id: TypeAliasId, parts: &Term) -> bool
+    ensures { IsTrue result ↔ IsTrue (has_params (alias_params facts.now id) (width (term_of parts.now))) }
+{
+    match alias_params(facts, id) {
+        Some(params) => has_parts(parts, params),
+        None => false,
+    }
+}
+
+/// Whether a head may stand over these parts, where so many parameters are in scope, and associated types that stay may be types or not.
+fn is_read_head(facts: &RawFacts, params: usize, associated: bool, head: Head, parts: &Term) -> bool
+    ensures { IsTrue result ↔ IsTrue (is_read_head (body_scope facts.now params associated) head (width (term_of parts.now))) }
 {
     match head {
         Head::Bool | Head::Char | Head::Int(_) | Head::Uint(_) => has_parts(parts, 0),
@@ -32,6 +44,7 @@ fn is_read_head(facts: &RawFacts, params: usize, head: Head, parts: &Term) -> bo
             None => false,
         },
         Head::Param(number) => has_parts(parts, 0) && (number as usize) < params,
+        Head::AssociatedType(id) => associated && are_alias_parts(facts, id, parts),
         _ => false,
     }
 }
@@ -47,11 +60,11 @@ fn is_type_mark(term: &Term) -> bool
 }
 
 #[tactic(auto, using(goal_terms::specs::Terms::term_is))]
-fn is_over(facts: &RawFacts, params: usize, first: &Term, parts: &Term) -> bool
-    ensures { IsTrue result ↔ IsHead (is_read_head (record { facts = facts.now; params = params })) (term_of first.now) (width (term_of parts.now)) }
+fn is_over(facts: &RawFacts, params: usize, associated: bool, first: &Term, parts: &Term) -> bool
+    ensures { IsTrue result ↔ IsHead (is_read_head (body_scope facts.now params associated)) (term_of first.now) (width (term_of parts.now)) }
 {
     match first {
-        Term::Leaf(head) => is_read_head(facts, params, *head, parts),
+        Term::Leaf(head) => is_read_head(facts, params, associated, *head, parts),
         Term::Hole(_) | Term::Pair(_, _) => false,
     }
 }
@@ -59,40 +72,42 @@ fn is_over(facts: &RawFacts, params: usize, first: &Term, parts: &Term) -> bool
 /// Whether the term is that of such a type.
 #[cycle(made)]
 #[tactic(auto, using(goal_terms::specs::Terms::term_is))]
-pub fn is_read_type(facts: &RawFacts, params: usize, term: &Term) -> bool
-    ensures { IsTrue result ↔ IsMadeOf (is_read_head (record { facts = facts.now; params = params })) whole (term_of term.now) }
+pub fn is_read_type(facts: &RawFacts, params: usize, associated: bool, term: &Term) -> bool
+    ensures { IsTrue result ↔ IsMadeOf (is_read_head (body_scope facts.now params associated)) whole (term_of term.now) }
 {
     match term {
         Term::Hole(_) => true,
         Term::Leaf(_) => false,
         Term::Pair(first, parts) => {
-            is_over(facts, params, first.get(), parts.get())
-                && are_read_parts(facts, params, parts.get())
+            is_over(facts, params, associated, first.get(), parts.get())
+                && are_read_parts(facts, params, associated, parts.get())
         }
     }
 }
 
 #[cycle(made)]
 #[tactic(auto, using(goal_terms::specs::Terms::term_is))]
-fn is_read_part(facts: &RawFacts, params: usize, term: &Term) -> bool
-    ensures { IsTrue result ↔ IsMadeOf (is_read_head (record { facts = facts.now; params = params })) part (term_of term.now) }
+fn is_read_part(facts: &RawFacts, params: usize, associated: bool, term: &Term) -> bool
+    ensures { IsTrue result ↔ IsMadeOf (is_read_head (body_scope facts.now params associated)) part (term_of term.now) }
 {
     match term {
         Term::Hole(_) | Term::Leaf(_) => false,
-        Term::Pair(first, ty) => is_type_mark(first.get()) && is_read_type(facts, params, ty.get()),
+        Term::Pair(first, ty) => is_type_mark(first.get())
+            && is_read_type(facts, params, associated, ty.get()),
     }
 }
 
 #[cycle(made)]
 #[tactic(auto, using(goal_terms::specs::Terms::term_is))]
-fn are_read_parts(facts: &RawFacts, params: usize, term: &Term) -> bool
-    ensures { IsTrue result ↔ IsMadeOf (is_read_head (record { facts = facts.now; params = params })) rest (term_of term.now) }
+fn are_read_parts(facts: &RawFacts, params: usize, associated: bool, term: &Term) -> bool
+    ensures { IsTrue result ↔ IsMadeOf (is_read_head (body_scope facts.now params associated)) rest (term_of term.now) }
 {
     match term {
         Term::Hole(_) => false,
         Term::Leaf(head) => is_end(*head),
         Term::Pair(first, others) => {
-            is_read_part(facts, params, first.get()) && are_read_parts(facts, params, others.get())
+            is_read_part(facts, params, associated, first.get())
+                && are_read_parts(facts, params, associated, others.get())
         }
     }
 }

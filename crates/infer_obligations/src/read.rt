@@ -11,7 +11,7 @@ use crate::made::is_read_type;
 use crate::select::select_obligations_where_possible;
 use goal_terms::type_term;
 use hir_facts::{DefWithBodyId, ExprId, ExprOrPatId, GenericDefId, Goal, RawFacts, Ty};
-use hir_raw::generic_params;
+use hir_raw::{generic_params, has_associated};
 use infer_coerce::{unify, unify_unknown};
 use infer_ctx::{GivenBody, InferenceContext};
 use infer_result::{expr_id, needed_goals};
@@ -29,7 +29,8 @@ fn params_in_body(facts: &RawFacts, owner: DefWithBodyId) -> usize
     }
 }
 
-/// Whether a type can be written in the scope of the body, over holes that the table made.
+/// Whether a type can be written in the scope of the body, or holds associated types that stay where these may be types, over holes that
+/// the table made.
 fn is_in_hand(
     alloc: Global,
     context: &InferenceContext,
@@ -41,7 +42,8 @@ fn is_in_hand(
     let term = type_term(alloc, ty)?;
     let facts = given.facts.raw();
     let params = params_in_body(facts, given.owner);
-    if !is_read_type(facts, params, &term) {
+    let associated = has_associated(facts, given.owner);
+    if !is_read_type(facts, params, associated, &term) {
         return Ok(false);
     }
     context.goals.table.has_made(ty)
@@ -85,7 +87,7 @@ fn read_alias(
     }
 }
 
-/// Does so for the associated type that a goal is about, if it is about one, and the type of the goal.
+/// Reads the associated type that a goal is about, if it is about one, and makes the type of the goal equal with what it is.
 fn read_goal(
     alloc: Global,
     context: &mut InferenceContext,
@@ -104,7 +106,7 @@ fn read_goal(
     }
 }
 
-/// Does so for each of these goals, in their order.
+/// Reads the associated type that each of these goals is about, in their order.
 fn read_each(
     alloc: Global,
     context: &mut InferenceContext,
@@ -121,8 +123,8 @@ fn read_each(
     Ok(())
 }
 
-/// Does so where nothing is known yet of a type that is expected: `infer/expr.rs`, `check_call_arguments`, where an argument's input is
-/// normalized.
+/// Reads the associated types that these goals are about, where nothing is known yet of a type that is expected: `infer/expr.rs`,
+/// `check_call_arguments`, where an argument's input is normalized.
 pub fn read_for(
     alloc: Global,
     context: &mut InferenceContext,
@@ -185,7 +187,7 @@ fn read_path(
     read_each(alloc, context, given, needed.as_slice())
 }
 
-/// Does so for each expression of the body, in their order.
+/// Reads the associated types that the needs of each expression of the body are about, in the order of expressions.
 fn read_paths(
     alloc: Global,
     context: &mut InferenceContext,
@@ -202,8 +204,8 @@ fn read_paths(
     Ok(())
 }
 
-/// Does so until that binds no hole any more, at most as often as the facts let goals be followed: what one path gives may be what the
-/// associated type of another is of.
+/// Reads them of all expressions until that binds no hole any more, at most as often as the facts let goals be followed: what one path
+/// gives may be what the associated type of another is of.
 pub fn read_all(
     alloc: Global,
     context: &mut InferenceContext,

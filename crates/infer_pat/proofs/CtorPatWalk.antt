@@ -11,7 +11,7 @@ use Rattle.infer_result.specs.Table.{PatTy}
 use Rattle.infer_result.specs.Places.{Given, PatIsAtOrMismatch}
 use Rattle.infer_result.specs.Kinds.Constructor.{IsVariantAt, adt_at, fields_at, IsCtorPath}
 use Rattle.infer_result.specs.Pats.Constructor.{PatsAtFields}
-use Rattle.infer_ctx.specs.Under.{IsVariant, own_scope}
+use Rattle.infer_ctx.specs.Under.{IsVariant}
 use Rattle.infer_ctx.proofs.Keeps.{pat_at_kept}
 use Rattle.infer_ctx.proofs.Lists.{lt_or_ge}
 use Rattle.infer_ctx.proofs.Variants.{pat_named}
@@ -55,6 +55,7 @@ use Rattle.infer_result.specs.declared.diagnostics.InferenceDiagnostic.TheVarian
 use Rattle.hir_types.specs.declared.ty.Ty.TheVariants as ty
 use Rattle.infer_ctx.specs.Context as context
 use Rattle.infer_ctx.specs.Found as found
+use Rattle.hir_raw.specs.Scope.{types_scope}
 
 -- ---- the number of parts
 
@@ -170,7 +171,7 @@ module _ (g : Given) (s : Schedule) (p : PatId) (v : VariantId) (ps : List PatId
     begun_variant = variant_under g v b.asked.item b.asked.types (context.entered old) b.asked.holed b.asked.holes a
 
     begun_fields : map (folded a) ss ≡ fields_at g variant (types_at a)
-    begun_fields = ap (map (folded a)) b.asked.fields ∙ instances_under a (own_scope g.scope.facts b.asked.item.params) b.asked.types (field_types g.scope.facts.types variant) b.asked.item.fields
+    begun_fields = ap (map (folded a)) b.asked.fields ∙ instances_under a (types_scope g.scope.facts b.asked.item.params) b.asked.types (field_types g.scope.facts.types variant) b.asked.item.fields
 
     begun_counted : Counted g s p v ps variant (expected_under a x) (found_under a old) begun_before b.is b.asked.item.found (found_under a b.asked.told)
     begun_counted =

@@ -80,6 +80,9 @@ param_text_is raw n = ap (ty_text raw) (sym (ty.rolls-Param n)) ∙ fold-roll-Ty
 pub projection_text_is : (raw : RawFacts) (i : TypeAliasId) (xs : List GenericArg) → ty_text raw (ty.Projection i xs) ≡ projection_text raw i (map (arg_text raw) xs)
 projection_text_is raw i xs = ap (ty_text raw) (sym (ty.rolls-Projection i xs)) ∙ fold-roll-Ty (List ℕ) (List ℕ) (List ℕ) (List ℕ) text_arg (text_step raw) text_bound text_trait (Ty-F.Projection i xs)
 
+pub associated_text_is : (raw : RawFacts) (i : TypeAliasId) (xs : List GenericArg) → ty_text raw (ty.AssociatedType i xs) ≡ projection_text raw i (map (arg_text raw) xs)
+associated_text_is raw i xs = ap (ty_text raw) (sym (ty.rolls-AssociatedType i xs)) ∙ fold-roll-Ty (List ℕ) (List ℕ) (List ℕ) (List ℕ) text_arg (text_step raw) text_bound text_trait (Ty-F.AssociatedType i xs)
+
 pub opaque_text_is : (raw : RawFacts) (i : OpaqueId) (xs : List GenericArg) → ty_text raw (ty.Opaque i xs) ≡ codes "{unknown}"
 opaque_text_is raw i xs = ap (ty_text raw) (sym (ty.rolls-Opaque i xs)) ∙ fold-roll-Ty (List ℕ) (List ℕ) (List ℕ) (List ℕ) text_arg (text_step raw) text_bound text_trait (Ty-F.Opaque i xs)
 
@@ -105,6 +108,6 @@ arg_const_text_is raw c = ap (arg_text raw) (sym (arg.rolls-Const c)) ∙ fold-r
 
 -- ---- all kinds
 
-pub ruleset ty_text_is = (bool_text_is, char_text_is, int_text_is, uint_text_is, float_text_is, str_text_is, never_text_is, tuple_text_is, array_text_is, slice_text_is, ref_text_is, rawptr_text_is, adt_text_is, fndef_text_is, fnptr_text_is, closure_text_is, dynamic_text_is, param_text_is, projection_text_is, opaque_text_is, error_text_is, var_text_is, intvar_text_is, hole_text_is)
+pub ruleset ty_text_is = (bool_text_is, char_text_is, int_text_is, uint_text_is, float_text_is, str_text_is, never_text_is, tuple_text_is, array_text_is, slice_text_is, ref_text_is, rawptr_text_is, adt_text_is, fndef_text_is, fnptr_text_is, closure_text_is, dynamic_text_is, param_text_is, projection_text_is, associated_text_is, opaque_text_is, error_text_is, var_text_is, intvar_text_is, hole_text_is)
 
 pub ruleset arg_text_is = (arg_ty_text_is, arg_const_text_is)

@@ -429,7 +429,9 @@ pub fn push_ty(out: &mut String, facts: &RawFacts, ty: &Ty) -> Result<(), AllocE
             push_ty(out, facts, output.get())
         }
         Ty::Param(number) => write!(out, "param{number}"),
-        Ty::Projection(id, args) => push_projection(out, facts, *id, args.as_slice()),
+        Ty::Projection(id, args) | Ty::AssociatedType(id, args) => {
+            push_projection(out, facts, *id, args.as_slice())
+        }
         Ty::Dynamic { .. } => out.push_str("{unknown}"),
         Ty::Opaque(..) | Ty::Error => out.push_str("{unknown}"),
         Ty::Var(hole) | Ty::IntVar(hole) => write!(out, "?{hole}"),

@@ -1,15 +1,18 @@
 -- What facts write has no holes that inference made, so no assignment changes it.
-use Rattle.std.proofs.Common.{ℕ, zero, suc, ◌≡◌, refl, sym, ap, subst, ◌∙◌, List, [], ◌∷◌, map, length, ◌+◌, Option, Some, None, slice_get, option_map, option_and_then}
+use Rattle.std.proofs.Common.{ℕ, zero, suc, ◌≡◌, refl, sym, ap, subst, ◌∙◌, List, [], ◌∷◌, map, Option, Some, None, slice_get, option_map, option_and_then}
 use Rattle.hir_types.specs.declared.ids.AdtId.{AdtId}
 use Rattle.hir_types.specs.declared.ids.CallableDefId.{CallableDefId}
 use Rattle.hir_types.specs.declared.ids.CallableDefId.TheVariants as callable
 use Rattle.hir_types.specs.declared.ids.DefWithBodyId.{DefWithBodyId}
 use Rattle.hir_types.specs.declared.ids.DefWithBodyId.TheVariants as def
 use Rattle.hir_types.specs.declared.ids.TypeRefId.{TypeRefId}
+use Rattle.hir_types.specs.declared.ty.IntegerTy.{IntegerTy}
+use Rattle.hir_types.specs.declared.ty.IntegerTy.TheVariants.{Int, Uint}
 use Rattle.hir_types.specs.declared.ty.Ty.{Ty}
 use Rattle.hir_types.specs.declared.ty.Ty.TheVariants as ty
 use Rattle.hir_types.specs.Subst.{Assignment, with_holes, folded}
-use Rattle.hir_types.specs.Replacements.{replaced_adt, replaced_error, replaced_param}
+use Rattle.hir_types.specs.Replacements.{replaced_bool, replaced_char, replaced_int, replaced_uint, replaced_tuple, replaced_adt, replaced_error, replaced_param}
+use Rattle.hir_types.specs.Types.{integer_type}
 use Rattle.hir_types.specs.Instances.{types_args_folded, instance_at_types}
 use Rattle.hir_raw.specs.declared.raw.RawCtor.{RawCtor}
 use Rattle.hir_raw.specs.declared.raw.RawCtor.TheVariants as ctor
@@ -22,9 +25,9 @@ use Rattle.hir_laws.specs.Bodies.{output_by, return_type, inputs_of}
 use Rattle.hir_facts.specs.Filled.{filled_written, filled_folded}
 use Rattle.hir_laws.specs.Lawful.{IsLawful}
 use Rattle.hir_counts.specs.Standing.{HasNoHole}
-use Rattle.hir_laws.proofs.OpenedTypes.{IsOpened, as_written, as_param, input_opened, output_opened}
-use Rattle.hir_laws.specs.NoHoles.{input_has_no_hole, output_has_no_hole, field_has_no_hole, definition_input_has_no_hole}
-use Rattle.hir_raw.specs.Scope.{adt_params}
+use Rattle.hir_laws.proofs.OpenedTypes.{Each, IsOver, over_input, over_output}
+use Rattle.hir_laws.specs.NoHoles.{output_has_no_hole, field_has_no_hole, definition_input_has_no_hole}
+use Rattle.hir_raw.specs.Scope.{adt_params, fn_arity}
 use Rattle.hir_raw.specs.Signatures.{Signature, fn_signature, fn_types, signature_of, signature_by, ctor_signature, field_types, own_adt, params_from, type_args, at_args}
 use Rattle.hir_raw.specs.WrittenTypes.{written_type}
 
@@ -51,11 +54,6 @@ pub written_unchanged : (types : List RawType) (w : TypeRefId) → HasNoHole typ
 written_unchanged types w none a =
     ap (folded a) (sym (filled_written fill types w none)) ∙ (filled_folded a fill types w ∙ filled_written (λ k. folded a (fill k)) types w none)
 
--- a parameter that stands for a projection, or what is written there
-opened_unchanged : (raw : RawFacts) (x : RawFn) (w : TypeRefId) → HasNoHole raw.types w → IsOpened raw x w → IsUnchanged (written_type (fn_types raw.types x) w)
-opened_unchanged raw x w none (as_written fits is) = subst IsUnchanged (sym is) (written_unchanged raw.types w none)
-opened_unchanged raw x w none (as_param p below is) = subst IsUnchanged (sym is) (λ a. replaced_param (with_holes a) (length x.params + p))
-
 all_opened : (types : List RawType) (ws : List TypeRefId) → ((k : ℕ) (w : TypeRefId) → slice_get ws k ≡ Some w → IsUnchanged (written_type types w)) → AllUnchanged (map (written_type types) ws)
 all_opened types [] each = tt
 all_opened types (w ∷ ws) each = (each 0 w refl, all_opened types ws (λ k v e. each (suc k) v e))
@@ -73,6 +71,26 @@ own_adt_unchanged : (id : AdtId) (n : ℕ) → IsUnchanged (own_adt id n)
 own_adt_unchanged id n a =
     replaced_adt (with_holes a) id (type_args (params_from 0 n)) ∙ ap (ty.Adt id) (types_args_folded a (params_from 0 n) ∙ ap type_args (params_unchanged a 0 n))
 
+-- ---- over the kinds of written types
+
+same_types : (a : Assignment) (ts : List Ty) → Each IsUnchanged ts → map (folded a) ts ≡ ts
+same_types a [] each = refl
+same_types a (t ∷ ts) each = λ i. each.0 a i ∷ same_types a ts each.1 i
+
+integer_unchanged : (i : IntegerTy) → IsUnchanged (integer_type i)
+integer_unchanged (Int i) a = replaced_int (with_holes a) i
+integer_unchanged (Uint i) a = replaced_uint (with_holes a) i
+
+over_unchanged : (raw : RawFacts) (n : ℕ) → IsOver raw n IsUnchanged
+over_unchanged raw n = record {
+  bool = λ a. replaced_bool (with_holes a);
+  char = λ a. replaced_char (with_holes a);
+  integer = integer_unchanged;
+  tuple = λ ts each a. replaced_tuple (with_holes a) ts ∙ ap ty.Tuple (same_types a ts each);
+  adt = λ id ts count each a. replaced_adt (with_holes a) id (type_args ts) ∙ ap (ty.Adt id) (types_args_folded a ts ∙ ap type_args (same_types a ts each));
+  param = λ k within a. replaced_param (with_holes a) k;
+}
+
 -- ---- what lawful facts write
 
 -- of a function or a constructor: what it takes and gives
@@ -89,8 +107,8 @@ module _ (raw : RawFacts) (law : IsLawful raw) where
   by_fn f (Some x) σ found is =
       let same : fn_signature raw.types x ≡ σ = cc in
       subst IsUnchangedSignature same (record {
-        inputs = all_opened (fn_types raw.types x) x.inputs (λ k w e. opened_unchanged raw x w (input_has_no_hole raw law f x found k w e) (input_opened raw law f x found k w e));
-        output = opened_unchanged raw x x.output (output_has_no_hole raw law f x found) (output_opened raw law f x found);
+        inputs = all_opened (fn_types raw.types x) x.inputs (λ k w e. over_input raw law f x found IsUnchanged (over_unchanged raw (fn_arity raw.types x)) k w e);
+        output = over_output raw law f x found IsUnchanged (over_unchanged raw (fn_arity raw.types x));
       })
 
   by_ctor : (v : ℕ) (x : RawVariant) → slice_get raw.variants v ≡ Some x → (k : RawCtor) (n : ℕ) (σ : Signature) → signature_by k raw.types n x ≡ Some σ → IsUnchangedSignature σ

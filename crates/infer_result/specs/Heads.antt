@@ -56,6 +56,7 @@ outermost_step (Ty-F.Closure i ts t) = Some (other (head.Closure i))
 outermost_step (Ty-F.Dynamic o bs ts) = Some (other head.Dynamic)
 outermost_step (Ty-F.Param n) = None
 outermost_step (Ty-F.Projection i xs) = None
+outermost_step (Ty-F.AssociatedType i xs) = None
 outermost_step (Ty-F.Opaque i xs) = None
 outermost_step Ty-F.Error = None
 outermost_step (Ty-F.Var n) = None

@@ -192,6 +192,7 @@ text_step raw (Ty-F.Closure i ts t) = codes "closure e" ++ decimal i.0.0 ++ sign
 text_step raw (Ty-F.Dynamic o bs ts) = codes "{unknown}"
 text_step raw (Ty-F.Param n) = codes "param" ++ decimal n
 text_step raw (Ty-F.Projection i xs) = projection_text raw i xs
+text_step raw (Ty-F.AssociatedType i xs) = projection_text raw i xs
 text_step raw (Ty-F.Opaque i xs) = codes "{unknown}"
 text_step raw Ty-F.Error = codes "{unknown}"
 text_step raw (Ty-F.Var n) = codes "?" ++ decimal n

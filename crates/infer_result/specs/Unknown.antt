@@ -47,6 +47,7 @@ unknown_step (Ty-F.Closure i bs b) = list_any (λ b. b) bs || b
 unknown_step (Ty-F.Dynamic o bs ts) = so_or_none o || list_any (λ b. b) bs
 unknown_step (Ty-F.Param n) = false
 unknown_step (Ty-F.Projection i bs) = list_any (λ b. b) bs
+unknown_step (Ty-F.AssociatedType i bs) = list_any (λ b. b) bs
 unknown_step (Ty-F.Opaque i bs) = list_any (λ b. b) bs
 unknown_step Ty-F.Error = true
 unknown_step (Ty-F.Var n) = false

@@ -74,6 +74,9 @@ has_unknown_fn_def i xs = ap has_unknown (sym (ty.rolls-FnDef i xs)) ∙ (fold-r
 pub has_unknown_projection : (i : TypeAliasId) (xs : List GenericArg) → has_unknown (ty.Projection i xs) ≡ list_any arg_has_unknown xs
 has_unknown_projection i xs = ap has_unknown (sym (ty.rolls-Projection i xs)) ∙ (fold-roll-Ty Bool Bool Bool Bool unknown_arg unknown_step unknown_bound unknown_trait (Ty-F.Projection i xs) ∙ any_map arg_has_unknown xs)
 
+pub has_unknown_associated : (i : TypeAliasId) (xs : List GenericArg) → has_unknown (ty.AssociatedType i xs) ≡ list_any arg_has_unknown xs
+has_unknown_associated i xs = ap has_unknown (sym (ty.rolls-AssociatedType i xs)) ∙ (fold-roll-Ty Bool Bool Bool Bool unknown_arg unknown_step unknown_bound unknown_trait (Ty-F.AssociatedType i xs) ∙ any_map arg_has_unknown xs)
+
 pub has_unknown_opaque : (i : OpaqueId) (xs : List GenericArg) → has_unknown (ty.Opaque i xs) ≡ list_any arg_has_unknown xs
 has_unknown_opaque i xs = ap has_unknown (sym (ty.rolls-Opaque i xs)) ∙ (fold-roll-Ty Bool Bool Bool Bool unknown_arg unknown_step unknown_bound unknown_trait (Ty-F.Opaque i xs) ∙ any_map arg_has_unknown xs)
 
@@ -116,4 +119,4 @@ trait_has_unknown_is r = fold-roll-TraitRef Bool Bool Bool Bool unknown_arg unkn
 pub bound_has_unknown_is : (b : AliasBound) → bound_has_unknown b ≡ has_unknown b.ty
 bound_has_unknown_is b = fold-roll-AliasBound Bool Bool Bool Bool unknown_arg unknown_step unknown_bound unknown_trait (record { alias = b.alias; ty = b.ty })
 
-pub ruleset has_unknown_is = (has_unknown_bool, has_unknown_char, has_unknown_int, has_unknown_uint, has_unknown_float, has_unknown_str, has_unknown_never, has_unknown_tuple, has_unknown_array, has_unknown_slice, has_unknown_ref, has_unknown_raw_ptr, has_unknown_adt, has_unknown_fn_def, has_unknown_projection, has_unknown_opaque, has_unknown_fn_ptr, has_unknown_closure, has_unknown_param, has_unknown_error, has_unknown_var, has_unknown_int_var, has_unknown_hole, has_unknown_dynamic, arg_has_unknown_type, arg_has_unknown_const, trait_has_unknown_is, bound_has_unknown_is)
+pub ruleset has_unknown_is = (has_unknown_bool, has_unknown_char, has_unknown_int, has_unknown_uint, has_unknown_float, has_unknown_str, has_unknown_never, has_unknown_tuple, has_unknown_array, has_unknown_slice, has_unknown_ref, has_unknown_raw_ptr, has_unknown_adt, has_unknown_fn_def, has_unknown_projection, has_unknown_associated, has_unknown_opaque, has_unknown_fn_ptr, has_unknown_closure, has_unknown_param, has_unknown_error, has_unknown_var, has_unknown_int_var, has_unknown_hole, has_unknown_dynamic, arg_has_unknown_type, arg_has_unknown_const, trait_has_unknown_is, bound_has_unknown_is)

@@ -30,6 +30,7 @@ pub fn references_error(ty: &Ty) -> bool
         Ty::Slice(ty) | Ty::Ref(_, _, ty) | Ty::RawPtr(_, ty) => references_error(ty.get()),
         Ty::Adt(_, args) | Ty::FnDef(_, args) => any_arg_unknown(args),
         Ty::Projection(_, args) | Ty::Opaque(_, args) => any_arg_unknown(args),
+        Ty::AssociatedType(_, args) => any_arg_unknown(args),
         Ty::FnPtr { inputs, output, .. } | Ty::Closure { inputs, output, .. } => {
             any_unknown(inputs) || references_error(output.get())
         }

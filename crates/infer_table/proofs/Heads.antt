@@ -108,7 +108,7 @@ abbrev pub head_eq : Head → Head → Bool
 head_eq = head_impl.ghosts.eq
 
 abbrev head_each : Each Bool the_head.the_parts
-head_each = (λ a b. true, (λ a b. true, (λ a b. int_eq a.0 b.0, (λ a b. uint_eq a.0 b.0, (λ a b. float_eq a.0 b.0, (λ a b. true, (λ a b. true, (λ a b. true, (λ a b. true, (λ a b. true, (λ a b. mutability_eq a.0 b.0, (λ a b. mutability_eq a.0 b.0, (λ a b. adt_id_eq a.0 b.0, (λ a b. callable_id_eq a.0 b.0, (λ a b. safety_eq a.0 b.0, (λ a b. closure_id_eq a.0 b.0, (λ a b. true, (λ a b. nat_eq a.0 b.0, (λ a b. alias_id_eq a.0 b.0, (λ a b. opaque_id_eq a.0 b.0, (λ a b. true, (λ a b. true, (λ a b. nat_eq a.0 b.0, (λ a b. nat_eq a.0 b.0, (λ a b. true, (λ a b. true, (λ a b. true, (λ a b. true, (λ a b. trait_id_eq a.0 b.0, (λ a b. true, (λ a b. alias_id_eq a.0 b.0, (λ a b. trait_id_eq a.0 b.0, (λ a b. true, tt)))))))))))))))))))))))))))))))))
+head_each = (λ a b. true, (λ a b. true, (λ a b. int_eq a.0 b.0, (λ a b. uint_eq a.0 b.0, (λ a b. float_eq a.0 b.0, (λ a b. true, (λ a b. true, (λ a b. true, (λ a b. true, (λ a b. true, (λ a b. mutability_eq a.0 b.0, (λ a b. mutability_eq a.0 b.0, (λ a b. adt_id_eq a.0 b.0, (λ a b. callable_id_eq a.0 b.0, (λ a b. safety_eq a.0 b.0, (λ a b. closure_id_eq a.0 b.0, (λ a b. true, (λ a b. nat_eq a.0 b.0, (λ a b. alias_id_eq a.0 b.0, (λ a b. alias_id_eq a.0 b.0, (λ a b. opaque_id_eq a.0 b.0, (λ a b. true, (λ a b. true, (λ a b. nat_eq a.0 b.0, (λ a b. nat_eq a.0 b.0, (λ a b. true, (λ a b. true, (λ a b. true, (λ a b. true, (λ a b. trait_id_eq a.0 b.0, (λ a b. true, (λ a b. alias_id_eq a.0 b.0, (λ a b. trait_id_eq a.0 b.0, (λ a b. true, tt))))))))))))))))))))))))))))))))))
 
 head_parts : (a : Head) → AreExactAt the_head.the_parts head_each (the_head.as_values a)
 head_parts head.Bool = λ y h. refl
@@ -130,6 +130,7 @@ head_parts (head.Closure x) = one_tells closure_id_eq x (closure_id_tells x)
 head_parts head.Dynamic = λ y h. refl
 head_parts (head.Param x) = one_tells nat_eq x (nat_tells x)
 head_parts (head.Projection x) = one_tells alias_id_eq x (alias_id_tells x)
+head_parts (head.AssociatedType x) = one_tells alias_id_eq x (alias_id_tells x)
 head_parts (head.Opaque x) = one_tells opaque_id_eq x (opaque_id_tells x)
 head_parts head.Error = λ y h. refl
 head_parts head.Hole = λ y h. refl

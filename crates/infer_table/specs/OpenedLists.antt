@@ -22,7 +22,7 @@ use Rattle.hir_types.specs.declared.ty.GenericArg.TheVariants as arg
 use Rattle.hir_types.specs.declared.ty.TraitRef.{TraitRef}
 use Rattle.hir_types.specs.declared.ty.AliasBound.{AliasBound}
 use Rattle.hir_types.specs.Terms.{Term, leaf, pair, chain, node, const_term, type_part, const_part, principal_parts, auto_parts, term, arg_term, trait_parts, bound_parts}
-use Rattle.hir_types.specs.TermLaws.{parts_of_types, term_tuple, term_array, term_adt, term_fn_def, term_fn_ptr, term_closure, term_dynamic, arg_term_const, bound_parts_is}
+use Rattle.hir_types.specs.TermLaws.{parts_of_types, term_tuple, term_array, term_adt, term_fn_def, term_associated_type, term_fn_ptr, term_closure, term_dynamic, arg_term_const, bound_parts_is}
 use Rattle.infer_table.specs.Opened.{Place, plain, alias, unknown_type, unknown_const, place, opened, origins}
 use Rattle.infer_table.specs.OpenedLaws.{opened_at, origins_at}
 use Rattle.infer_table.specs.OpenedKinds.{new_kinds}
@@ -165,6 +165,9 @@ opens_adt {old = old} {new = new} {os = os} {ps = ps} id xs ys x = opens_by (ter
 
 pub opens_fn_def : {old new : List HoleKind} {os ps : List (ℕ × Term)} (id : CallableDefId) (xs ys : List GenericArg) → OpensParts old new os ps (map arg_term xs) (map arg_term ys) → Opens old new os ps (term (ty.FnDef id xs)) (term (ty.FnDef id ys))
 opens_fn_def {old = old} {new = new} {os = os} {ps = ps} id xs ys x = opens_by (term_fn_def id xs) (term_fn_def id ys) (opens_node old new os ps (head.FnDef id) (map arg_term xs) (map arg_term ys) (λ c. refl) x)
+
+pub opens_associated_type : {old new : List HoleKind} {os ps : List (ℕ × Term)} (id : TypeAliasId) (xs ys : List GenericArg) → OpensParts old new os ps (map arg_term xs) (map arg_term ys) → Opens old new os ps (term (ty.AssociatedType id xs)) (term (ty.AssociatedType id ys))
+opens_associated_type {old = old} {new = new} {os = os} {ps = ps} id xs ys x = opens_by (term_associated_type id xs) (term_associated_type id ys) (opens_node old new os ps (head.AssociatedType id) (map arg_term xs) (map arg_term ys) (λ c. refl) x)
 
 signature : {old mid new : List HoleKind} {os ms ps : List (ℕ × Term)} (ts us : List Ty) (t u : Ty) → OpensParts old mid os ms (parts_of_types ts) (parts_of_types us) → Opens mid new ms ps (term t) (term u) → OpensParts old new os ps (parts_of_types ts ++ type_part (term t) ∷ []) (parts_of_types us ++ type_part (term u) ∷ [])
 signature {old = old} {mid = mid} {new = new} {os = os} {ms = ms} {ps = ps} ts us t u x y =

@@ -125,6 +125,10 @@ impl Bindings {
                 Ok(Ty::RawPtr(*mutability, ty))
             }
             Ty::Adt(id, args) => Ok(Ty::Adt(*id, self.open_args(alloc, args, found, below)?)),
+            Ty::AssociatedType(id, args) => Ok(Ty::AssociatedType(
+                *id,
+                self.open_args(alloc, args, found, below)?,
+            )),
             Ty::FnDef(id, args) => Ok(Ty::FnDef(*id, self.open_args(alloc, args, found, below)?)),
             Ty::FnPtr {
                 safety,

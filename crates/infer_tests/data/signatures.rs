@@ -1,6 +1,7 @@
 pub trait Tr { type Out; }
 pub trait Bo {}
 pub trait At<U> { type Item; }
+pub trait Node { type Child: Node; }
 pub struct Wrap<T>(pub T);
 
 pub fn get<T: Tr>(x: T) -> T::Out { loop {} }
@@ -11,3 +12,6 @@ pub fn same<T>(x: T, y: T) {}
 pub fn make<T>() -> T { loop {} }
 pub fn need<T: Bo>(x: T) {}
 pub fn conv<T: Tr<Out = U>, U>(x: T) -> U { loop {} }
+pub fn all<T: Tr>(x: T) -> Wrap<T::Out> { loop {} }
+pub fn pairs<T: Tr>(x: (T::Out, T), y: T::Out) {}
+pub fn child<T: Node>(x: T) -> T::Child { loop {} }

@@ -2,8 +2,9 @@
 
 use hir_facts::FactsList;
 use serde_json::Value;
+use std::alloc::{AllocError, Global};
 use std::fmt;
-use told_places::look::{is_there, items, list, number, word};
+use told_places::look::{is_there, items, list, number, type_id, type_parts, word};
 use told_places::place::Place;
 
 /// What is not carried yet.
@@ -40,11 +41,29 @@ const PROJECTIONS: Uncarried<'static> = Uncarried::Form(
     "projections but in goals, impls, other projections and functions without a body",
 );
 
-fn is_projection(facts: &Value, ty: Option<&Value>) -> bool {
+/// Whether a projection stands in a type: it is one, or a type before it that it is made of holds one.
+fn has_projection(marks: &[bool], ty: Option<&Value>) -> bool {
     match number(ty) {
-        Some(ty) => word(list(facts, "types").get(ty)) == "proj",
+        Some(ty) => marks.get(ty).copied().unwrap_or(false),
         None => false,
     }
+}
+
+fn holds(marks: &[bool], ty: &Value) -> bool {
+    word(Some(ty)) == "proj"
+        || type_parts(ty)
+            .iter()
+            .any(|part| has_projection(marks, type_id(part)))
+}
+
+/// Of each written type whether a projection stands in it: a type's parts come before it.
+fn marks_of(alloc: Global, facts: &Value) -> Result<Vec<bool>, AllocError> {
+    let mut marks = Vec::new(alloc);
+    for ty in list(facts, "types") {
+        let mark = holds(&marks, ty);
+        marks.push(mark)?;
+    }
+    Ok(marks)
 }
 
 fn of_type(ty: &Value) -> Uncarried<'_> {
@@ -52,7 +71,6 @@ fn of_type(ty: &Value) -> Uncarried<'_> {
         "adt" | "proj" if has_const(ty.get(2usize)) => {
             Uncarried::Form("const arguments of types")
         }
-        "adt" | "tuple" => PROJECTIONS,
         word => Uncarried::Kind(word, "types"),
     }
 }
@@ -117,10 +135,10 @@ fn of_adt(place: Place, adt: &Value) -> Option<(Place, Uncarried<'_>)> {
     }
 }
 
-/// The first field whose type is a projection.
-fn of_fields(facts: &Value, place: Place, variant: &Value) -> Option<(Place, Uncarried<'static>)> {
+/// The first field in whose type a projection stands.
+fn of_fields(marks: &[bool], place: Place, variant: &Value) -> Option<(Place, Uncarried<'static>)> {
     for (at, field) in list(variant, "fields").iter().enumerate() {
-        if is_projection(facts, field.get("type")) {
+        if has_projection(marks, field.get("type")) {
             return Some((place.item("fields", at), PROJECTIONS));
         }
     }
@@ -128,7 +146,7 @@ fn of_fields(facts: &Value, place: Place, variant: &Value) -> Option<(Place, Unc
 }
 
 fn of_variant<'a>(
-    facts: &Value,
+    marks: &[bool],
     place: Place,
     variant: &'a Value,
 ) -> Option<(Place, Uncarried<'a>)> {
@@ -140,13 +158,13 @@ fn of_variant<'a>(
     } else if is_there(variant.get("body")) {
         Some((place.key("body"), Uncarried::Form("bodies of variants")))
     } else {
-        of_fields(facts, place, variant)
+        of_fields(marks, place, variant)
     }
 }
 
-/// Where it has a body, the first input of a function that is a projection, or the output where it is one.
+/// Where it has a body, the first input of a function in which a projection stands, or the output where one does.
 fn of_signature(
-    facts: &Value,
+    marks: &[bool],
     place: Place,
     function: &Value,
 ) -> Option<(Place, Uncarried<'static>)> {
@@ -154,18 +172,18 @@ fn of_signature(
         return None;
     }
     for (at, input) in list(function, "inputs").iter().enumerate() {
-        if is_projection(facts, Some(input)) {
+        if has_projection(marks, Some(input)) {
             return Some((place.item("inputs", at), PROJECTIONS));
         }
     }
-    if is_projection(facts, function.get("output")) {
+    if has_projection(marks, function.get("output")) {
         Some((place.key("output"), PROJECTIONS))
     } else {
         None
     }
 }
 
-fn of_fn<'a>(facts: &Value, place: Place, function: &'a Value) -> Option<(Place, Uncarried<'a>)> {
+fn of_fn<'a>(marks: &[bool], place: Place, function: &'a Value) -> Option<(Place, Uncarried<'a>)> {
     match word(function.get("at")) {
         "module" => {}
         word => return Some((place.key("at"), Uncarried::Kind(word, "functions"))),
@@ -177,7 +195,7 @@ fn of_fn<'a>(facts: &Value, place: Place, function: &'a Value) -> Option<(Place,
                 Uncarried::Form("functions with `self`"),
             ))
         }
-        _ => of_params(place, function).or(of_signature(facts, place, function)),
+        _ => of_params(place, function).or(of_signature(marks, place, function)),
     }
 }
 
@@ -239,17 +257,17 @@ fn of_binding(binding: &Value) -> Option<Uncarried<'_>> {
     }
 }
 
-fn is_let_of_projection(facts: &Value, stmt: &Value) -> bool {
-    word(Some(stmt)) == "let" && is_projection(facts, stmt.get(2usize))
+fn is_let_of_projection(marks: &[bool], stmt: &Value) -> bool {
+    word(Some(stmt)) == "let" && has_projection(marks, stmt.get(2usize))
 }
 
 /// The first expression with a `let` that is written with a projection.
-fn of_lets(facts: &Value, place: Place, body: &Value) -> Option<(Place, Uncarried<'static>)> {
+fn of_lets(marks: &[bool], place: Place, body: &Value) -> Option<(Place, Uncarried<'static>)> {
     for (at, expr) in list(body, "exprs").iter().enumerate() {
         if word(Some(expr)) == "block"
             && items(expr.get(2usize))
                 .iter()
-                .any(|stmt| is_let_of_projection(facts, stmt))
+                .any(|stmt| is_let_of_projection(marks, stmt))
         {
             return Some((place.item("exprs", at), PROJECTIONS));
         }
@@ -257,7 +275,7 @@ fn of_lets(facts: &Value, place: Place, body: &Value) -> Option<(Place, Uncarrie
     None
 }
 
-fn of_body<'a>(facts: &Value, place: Place, body: &'a Value) -> Option<(Place, Uncarried<'a>)> {
+fn of_body<'a>(marks: &[bool], place: Place, body: &'a Value) -> Option<(Place, Uncarried<'a>)> {
     for (at, expr) in list(body, "exprs").iter().enumerate() {
         if let Some(found) = of_expr(expr) {
             return Some((place.item("exprs", at), found));
@@ -276,7 +294,7 @@ fn of_body<'a>(facts: &Value, place: Place, body: &'a Value) -> Option<(Place, U
     if number(body.get("self")).is_some() {
         Some((place.key("self"), Uncarried::Form("bodies with `self`")))
     } else {
-        of_lets(facts, place, body)
+        of_lets(marks, place, body)
     }
 }
 
@@ -293,8 +311,12 @@ fn unread(list: FactsList) -> Option<&'static str> {
     }
 }
 
-/// What the entry has that is not carried yet.
-pub fn find(facts: &Value, list: FactsList, index: usize) -> Option<(Place, Uncarried<'_>)> {
+fn of_entry<'a>(
+    marks: &[bool],
+    facts: &'a Value,
+    list: FactsList,
+    index: usize,
+) -> Option<(Place, Uncarried<'a>)> {
     let place = Place::new(list, index);
     if let Some(form) = unread(list) {
         return Some((place, Uncarried::Form(form)));
@@ -303,12 +325,23 @@ pub fn find(facts: &Value, list: FactsList, index: usize) -> Option<(Place, Unca
     match list {
         FactsList::Types => Some((place, of_type(entry))),
         FactsList::Adts => of_adt(place, entry),
-        FactsList::Variants => of_variant(facts, place, entry),
-        FactsList::Fns => of_fn(facts, place, entry),
+        FactsList::Variants => of_variant(marks, place, entry),
+        FactsList::Fns => of_fn(marks, place, entry),
         FactsList::Traits => of_members(place, entry),
         FactsList::Aliases => of_goals(place, entry, "bounds"),
         FactsList::Impls => of_impl(place, entry),
-        FactsList::Bodies => of_body(facts, place, entry),
+        FactsList::Bodies => of_body(marks, place, entry),
         _ => None,
     }
+}
+
+/// What the entry has that is not carried yet.
+pub fn find(
+    alloc: Global,
+    facts: &Value,
+    list: FactsList,
+    index: usize,
+) -> Result<Option<(Place, Uncarried<'_>)>, AllocError> {
+    let marks = marks_of(alloc, facts)?;
+    Ok(of_entry(&marks, facts, list, index))
 }

@@ -33,7 +33,7 @@ use Rattle.hir_types.specs.Erasure.{Same, erased, IsClosed}
 use Rattle.hir_types.specs.Instances.{param_at}
 use Rattle.hir_types.proofs.Layers.{has_hole_adt, has_hole_fn_def}
 use Rattle.hir_raw.specs.WrittenTypes.{filled_within, written_type}
-use Rattle.hir_raw.specs.Scope.{Scope}
+use Rattle.hir_raw.specs.Scope.{Scope, types_scope}
 use Rattle.hir_raw.specs.Signatures.{Signature, type_args, at_args, own_adt, field_types, own_adt_at, signature_of}
 use Rattle.hir_raw.specs.Order.{subpattern, the_body, inner, IsSchedule, start, end, after, Fits, parts}
 use Rattle.infer_result.specs.declared.result.InferenceResult.{InferenceResult}
@@ -90,7 +90,7 @@ variant_of k ts = record {
 
 -- the scope of a definition without generic parameters where there are these types, this adt and these variants
 abbrev pub scope_of_adt : List RawType → RawAdt → List RawVariant → Scope
-scope_of_adt types a variants = record { facts = record (facts_with types []) { adts = a ∷ []; variants = variants }; params = 0 }
+scope_of_adt types a variants = types_scope (record (facts_with types []) { adts = a ∷ []; variants = variants }) 0
 
 -- ---- the body
 

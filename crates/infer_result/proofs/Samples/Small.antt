@@ -35,7 +35,7 @@ use Rattle.hir_types.proofs.Layers.{has_hole_tuple, has_hole_bool, has_hole_erro
 use Rattle.hir_facts.specs.CarriedTypes.{carried_bool, carried_integer, carried_tuple, same_carried}
 use Rattle.hir_raw.specs.WrittenTypes.{written_type}
 use Rattle.hir_facts.specs.Filled.{is_hole}
-use Rattle.hir_raw.specs.Scope.{Scope}
+use Rattle.hir_raw.specs.Scope.{Scope, types_scope}
 use Rattle.hir_raw.specs.Order.{Role, Part, expr_part, Node, the_body, inner, IsNode, IsSchedule, start, parts, part_at}
 use Rattle.hir_raw.proofs.Ways.{one_place}
 use Rattle.infer_result.specs.declared.result.InferenceResult.{InferenceResult}
@@ -128,7 +128,7 @@ facts_with types fns = record {
 }
 
 abbrev pub scope_among : List RawType → List RawFn → Scope
-scope_among types fns = record { facts = facts_with types fns; params = 0 }
+scope_among types fns = types_scope (facts_with types fns) 0
 
 -- the scope of a definition without generic parameters where there are no functions
 abbrev pub scope_with : List RawType → Scope

@@ -139,6 +139,7 @@ callable_step (Ty-F.Closure i ts t) = true
 callable_step (Ty-F.Dynamic o bs ts) = false
 callable_step (Ty-F.Param n) = false
 callable_step (Ty-F.Projection i xs) = false
+callable_step (Ty-F.AssociatedType i xs) = false
 callable_step (Ty-F.Opaque i xs) = false
 callable_step Ty-F.Error = false
 callable_step (Ty-F.Var n) = false

@@ -19,7 +19,7 @@ use Rattle.goal_prove.specs.Parts.{CopiesAre}
 use Rattle.goal_prove.specs.Asking.{PredIsAsked, ArePredsProved, fill_args}
 use Rattle.goal_prove.proofs.Built.{by_size, by_itself, by_listed, by_parts, by_impl, preds_asked}
 use Rattle.goal_prove.proofs.Copied.{has_parts, parts_asked}
-use Rattle.goal_prove.proofs.Fitting.{free, sourced}
+use Rattle.goal_prove.proofs.Fitting.{trait_not_itself, free, sourced}
 use Rattle.goal_prove.proofs.Answering.{same_rule, next_proved, not_itself}
 use Rattle.goal_prove.proofs.Below.{has_reading, below, is_done, is_good, is_asked, is_proved, made_reads}
 use Rattle.goal_prove.proofs.prove.+prove.Goals as goal
@@ -176,7 +176,7 @@ prove_freely-returns-then-is_among-clause-proved t c =
     let of = c.lawful.ensures in
     let listed = c.as_slice.ensures.value ∙ ap (λ (s : Sources). s.sized.items) c.in_ok-listed.ensures.is in
     let sized = subst (λ ts. is_among ts k ≡ true) listed (sym c.is_among.ensures ∙ c.if-is_among.true) in
-    by_size raw item f of n c.requires.depth k w c.requires.asked c.args.goal.now c.requires.goal (free raw item f of n c.requires.depth k w c.requires.asked c.requires.unfit)
+    by_size raw item f of n c.requires.depth k w c.requires.asked c.args.goal.now c.requires.goal (free raw item f of n c.requires.depth k w c.requires.asked c.requires.unfit (trait_not_itself f.sized k w sized))
     sized _ (sym c.new.ensures) c.args.proofs.now.items c.push_proof.new.proofs.items c.push_proof.result c.push_proof.ensures
 
 pub prove_freely-prove_by_rules-requires : goal.prove_freely-prove_by_rules-requires
@@ -209,7 +209,7 @@ prove_freely-returns-in-Yes-clause-proved t c =
     let w = term_of c.args.target.now in
     let n = c.args.depth in
     let of = c.lawful.ensures in
-    by_itself raw item f of n c.requires.depth k w c.requires.asked c.args.goal.now c.requires.goal (free raw item f of n c.requires.depth k w c.requires.asked c.requires.unfit)
+    by_itself raw item f of n c.requires.depth k w c.requires.asked c.args.goal.now c.requires.goal
     (rw c.in-Yes.is at c.in_ok-is_itself.ensures) _ (sym c.new-in-Yes.ensures) c.args.proofs.now.items c.push_proof-in-Yes.new.proofs.items c.push_proof-in-Yes.result c.push_proof-in-Yes.ensures
 
 -- ---- prove_pred
@@ -223,7 +223,7 @@ prove_pred-unreachable-requires-in_default-2 t c =
     let n = c.args.depth in
     let m = c.in-Some.below in
     let e : n ≡ suc m = omega arith in
-    let none = rw c.in_default-2.is at c.in_ok-target.ensures.answer in
+    let none = rw c.in_default-2.is at c.in_ok-parts.ensures.answer in
     has_reading raw f c.in_ok-_listed.ensures.heads n c.requires.depth p q c.requires.pred m e (subst (λ (s : Sources). ReadingIs (answers (system s) m).Alias p q.parts None) c.requires.same none)
 
 pub prove_pred-prove-requires : goal.prove_pred-prove-requires
@@ -236,14 +236,14 @@ prove_pred-prove-requires t c =
     let m = c.in-Some.below in
     let e : n ≡ suc m = omega arith in
     let heads = c.in_ok-_listed.ensures.heads in
-    let u = term_of c.in-Some-2.target in
-    let some = rw c.in-Some-2.is at c.in_ok-target.ensures.answer in
+    let u = term_of c.in-Some-2.parts in
+    let some = rw c.in-Some-2.is at c.in_ok-parts.ensures.answer in
     let reads = subst (λ (s : Sources). Reads (answers (system s) m).Alias p q.parts u) c.requires.same some in
     let good = is_good raw f heads n c.requires.depth p q c.requires.pred m e u reads in
     let done = is_done raw f heads n c.requires.depth p q c.requires.pred m e u reads in (
       omega (arith, c.decreases),
       (
-        c.in_ok-target.ensures.same ∙ c.requires.same,
+        c.in_ok-parts.ensures.same ∙ c.requires.same,
         (
           below raw f heads n c.requires.depth p q c.requires.pred m e,
           (made_reads raw f q.kind u good done c.in_ok-goal.goal c.in_ok-goal.ensures, is_asked raw f heads n c.requires.depth p q c.requires.pred m e u reads),
@@ -261,8 +261,8 @@ prove_pred-returns-clause-proved t c =
     let m = c.in-Some.below in
     let e : n ≡ suc m = omega arith in
     let heads = c.in_ok-_listed.ensures.heads in
-    let u = term_of c.in-Some-2.target in
-    let some = rw c.in-Some-2.is at c.in_ok-target.ensures.answer in
+    let u = term_of c.in-Some-2.parts in
+    let some = rw c.in-Some-2.is at c.in_ok-parts.ensures.answer in
     let reads = subst (λ (s : Sources). Reads (answers (system s) m).Alias p q.parts u) c.requires.same some in
     let good = is_good raw f heads n c.requires.depth p q c.requires.pred m e u reads in
     let done = is_done raw f heads n c.requires.depth p q c.requires.pred m e u reads in

@@ -34,6 +34,9 @@ decreases-fn_def_type l = 8 * l.levels + 5
 abbrev pub decreases-projection_type : goal.decreases-projection_type
 decreases-projection_type l = 8 * l.levels + 5
 
+abbrev pub decreases-associated_type : goal.decreases-associated_type
+decreases-associated_type l = 8 * l.levels + 5
+
 abbrev pub decreases-opaque_type : goal.decreases-opaque_type
 decreases-opaque_type l = 8 * l.levels + 5
 

@@ -1,12 +1,12 @@
 use Rattle.std.specs.Prelude.{IsTrue}
-use Rattle.hir_ids.specs.Carried.{is_carried_adt}
-use Rattle.hir_ids.specs.Projections.{TypeIsCarried, VariantIsCarried, FnIsCarried}
+use Rattle.hir_ids.specs.Carried.{is_carried_written_type, is_carried_adt}
+use Rattle.hir_ids.specs.Projections.{VariantIsCarried, FnIsCarried}
 use Rattle.hir_laws.proofs.Allowed.{allowed}
 use Rattle.hir_laws.proofs.checks.check_items.Goals as goal
 
 pub returns-clause-ok : goal.returns-clause-ok
 returns-clause-ok c = (
-  allowed (λ i t. TypeIsCarried c.args.raw.now t) c.args.raw.now.types _ _ _ _ _ c.in_ok-types.ensures c.allow.ensures c.in_ok-allow.was,
+  allowed (λ i t. IsTrue (is_carried_written_type t)) c.args.raw.now.types _ _ _ _ _ c.in_ok-types.ensures c.allow.ensures c.in_ok-allow.was,
   (
     allowed (λ i a. IsTrue (is_carried_adt a)) c.args.raw.now.adts _ _ _ _ _ c.in_ok-adts.ensures c.allow-2.ensures c.in_ok-allow-2.was,
     (

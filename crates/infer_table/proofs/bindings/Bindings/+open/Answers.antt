@@ -2,7 +2,7 @@ use Rattle.hir_types.specs.declared.ty.AliasBound.{AliasBound}
 use Rattle.hir_types.specs.declared.ty.Ty.TheVariants as ty
 use Rattle.hir_types.specs.declared.ty.GenericArg.TheVariants as arg
 use Rattle.std.proofs.Common.{refl}
-use Rattle.infer_table.specs.OpenedLists.{opens_tuple, opens_array, opens_adt, opens_fn_def, opens_fn_ptr, opens_closure, opens_arg_const}
+use Rattle.infer_table.specs.OpenedLists.{opens_tuple, opens_array, opens_adt, opens_fn_def, opens_associated_type, opens_fn_ptr, opens_closure, opens_arg_const}
 use Rattle.infer_table.specs.Opening.{origins_of, makes_both}
 use Rattle.infer_table.proofs.Openings.{types_step, args_step, bounds_step, opens_same, arg_same, dynamic_copied}
 use Rattle.infer_table.proofs.bindings.Bindings.+open.Goals as goal
@@ -32,6 +32,11 @@ pub open_type-returns-in_ok-open_args-in-FnDef-clause-opens : goal.open_type-ret
 open_type-returns-in_ok-open_args-in-FnDef-clause-opens t c =
     opens_same c.args.ty.now (ty.FnDef c.in-FnDef.id c.in-FnDef.args) c.in-FnDef.is
     (opens_fn_def c.in-FnDef.id c.in-FnDef.args c.in_ok-open_args-in-FnDef.field-0 c.in_ok-open_args-in-FnDef.ensures.opens)
+
+pub open_type-returns-in_ok-open_args-in-AssociatedType-clause-opens : goal.open_type-returns-in_ok-open_args-in-AssociatedType-clause-opens
+open_type-returns-in_ok-open_args-in-AssociatedType-clause-opens t c =
+    opens_same c.args.ty.now (ty.AssociatedType c.in-AssociatedType.id c.in-AssociatedType.args) c.in-AssociatedType.is
+    (opens_associated_type c.in-AssociatedType.id c.in-AssociatedType.args c.in_ok-open_args-in-AssociatedType.field-0 c.in_ok-open_args-in-AssociatedType.ensures.opens)
 
 pub open_type-returns-in_ok-output-in-FnPtr-clause-opens : goal.open_type-returns-in_ok-output-in-FnPtr-clause-opens
 open_type-returns-in_ok-output-in-FnPtr-clause-opens t c =
