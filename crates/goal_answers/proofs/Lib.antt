@@ -9,3 +9,4 @@ pub mod Levels
 pub mod Fits
 pub mod Upto
 pub mod Sole
+pub mod Below

@@ -6,3 +6,4 @@ pub mod Laws
 pub mod Proofs
 pub mod Steps
 pub mod Selecting
+pub mod Below

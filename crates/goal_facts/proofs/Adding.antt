@@ -5,7 +5,7 @@ use Rattle.std.proofs.lemmas.Option.{same_Some}
 use Rattle.goal_answers.specs.Goals.{Asked}
 use Rattle.goal_terms.specs.Terms.{HasHeads}
 use Rattle.goal_facts.specs.Additions.{Has, AreDistinct, Adds, SomeSays, SomeSaysBefore}
-use Rattle.infer_table.proofs.BindingLaws.{get_left, get_last, get_more}
+use Rattle.goal_answers.proofs.Below.{get_left, get_last, get_more}
 
 -- ---- places
 

@@ -9,7 +9,7 @@ use Rattle.hir_types.specs.declared.ids.TypeRefId.{TypeRefId}
 use Rattle.hir_types.specs.declared.head.Hole.{Hole}
 use Rattle.hir_types.specs.declared.ty.GenericArg.{GenericArg, GenericArg-F, fold_out-GenericArg}
 use Rattle.hir_types.specs.Terms.{Term, hole, leaf, pair, apply, occurs, hole_number, chain, type_part, arg_term, arg_step, ty_step, bound_step, trait_step}
-use Rattle.infer_table.specs.TermLemmas.{apply_agree, hole_eq_same}
+use Rattle.goal_answers.specs.Below.{apply_agree, hole_eq_same}
 use Rattle.hir_raw.specs.declared.raw.RawFacts.{RawFacts}
 use Rattle.hir_raw.specs.declared.raw.RawGoal.{RawGoal}
 use Rattle.goal_answers.specs.Reading.{Fill, plain, role, staying}

@@ -28,7 +28,7 @@ use Rattle.hir_raw.specs.Goals.{arg_types}
 use Rattle.hir_raw.specs.Scope.{count_or_none, generic_params}
 use Rattle.hir_raw.specs.WrittenTypes.{filled_type, written_type}
 use Rattle.hir_facts.specs.Filled.{filled_folded}
-use Rattle.infer_table.specs.TermLemmas.{hole_eq_true, pair_left, pair_right}
+use Rattle.goal_answers.specs.Below.{hole_eq_true, pair_left, pair_right}
 use Rattle.goal_answers.specs.Reading.{Fill}
 use Rattle.goal_answers.specs.Goals.{Each, asked_at}
 use Rattle.goal_facts.specs.Arguments.{holes, instance, type_at, args_at, goal_at}

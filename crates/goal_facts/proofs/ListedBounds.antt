@@ -11,7 +11,7 @@ use Rattle.hir_types.specs.Terms.{Term, hole, leaf, pair, apply, occurs}
 use Rattle.hir_raw.specs.declared.raw.RawGoal.{RawGoal}
 use Rattle.hir_raw.specs.declared.raw.RawGoal.TheVariants as goal
 use Rattle.hir_raw.specs.declared.raw.RawFacts.{RawFacts}
-use Rattle.infer_table.specs.TermLemmas.{hole_eq_same}
+use Rattle.goal_answers.specs.Below.{hole_eq_same}
 use Rattle.goal_answers.specs.Reading.{Fill}
 use Rattle.goal_answers.specs.Goals.{Kind, implements, projects, Asked, key, self_type}
 use Rattle.goal_answers.specs.Rows.{IsNth, AreArgs}

@@ -28,7 +28,7 @@ use Rattle.hir_types.specs.Subst.{Assignment, with_holes, folded, replaced}
 use Rattle.hir_types.specs.Terms.{Term, hole, leaf, pair, apply, occurs, hole_number, chain, term, type_part, arg_term, terms_of}
 use Rattle.hir_types.specs.TermLaws.{parts_of_types, arg_term_type, args_terms, term_folded}
 use Rattle.hir_types.specs.Faithful.{type_of_term, term_read, term_erased, const_term_tells}
-use Rattle.infer_table.specs.TermLemmas.{apply_agree, hole_eq_true, pair_left, pair_right}
+use Rattle.goal_answers.specs.Below.{apply_agree, hole_eq_true, pair_left, pair_right}
 use Rattle.hir_raw.specs.declared.raw.RawFacts.{RawFacts}
 use Rattle.hir_raw.specs.declared.raw.RawGoal.{RawGoal}
 use Rattle.hir_raw.specs.declared.raw.RawGoal.TheVariants as raw_goal

@@ -9,3 +9,4 @@ pub mod Goals
 pub mod Proofs
 pub mod ImplGoals
 pub mod Reading
+pub mod Below

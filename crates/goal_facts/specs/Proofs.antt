@@ -8,7 +8,7 @@ use Rattle.hir_types.specs.declared.ty.GenericArg.TheVariants as arg
 use Rattle.hir_types.specs.Terms.{Term, hole, apply, term, hole_number}
 use Rattle.hir_raw.specs.declared.raw.RawImpl.{RawImpl}
 use Rattle.hir_raw.specs.declared.raw.RawFacts.{RawFacts}
-use Rattle.infer_table.specs.Table.{State, Meets}
+use Rattle.goal_answers.specs.Below.{State, Meets}
 use Rattle.goal_answers.specs.Reading.{Fill, IsFilling, Aliases, Reads, ReadsAs}
 use Rattle.goal_answers.specs.Goals.{Asked, Rule, System, asked_at, only, is_among, Each}
 use Rattle.goal_answers.specs.Answers.{IsItself, Shadows, answers}

@@ -20,6 +20,9 @@ pub use arguments::push_instances;
 pub use clauses::goal_of;
 pub use goal_search::{Answer, Choice};
 pub use goals::asked;
+pub use hir_facts::{
+    AdtId, ExprOrPatId, Facts, GenericArg, GenericDefId, Goal, List, TraitId, TraitRef, Ty,
+};
 pub use impl_goals::{RuleGoals, goals_of};
 pub use item_sources::ItemSources;
 pub use proof::{Proof, ProofSource};

@@ -4,7 +4,7 @@ use Rattle.std.proofs.lemmas.Bool.{or_cases, or_left, or_right}
 use Rattle.hir_types.specs.declared.ids.TypeAliasId.{TypeAliasId}
 use Rattle.hir_types.specs.declared.head.Hole.{Hole}
 use Rattle.hir_types.specs.Terms.{Term, hole, leaf, pair, apply, occurs}
-use Rattle.infer_table.specs.TermLemmas.{hole_eq_true, hole_eq_same}
+use Rattle.goal_answers.specs.Below.{hole_eq_true, hole_eq_same}
 use Rattle.goal_answers.specs.Reading.{Fill, Role, plain, alias, role, staying, IsRead, stands, Aliases, Reads, ReadsAs, MayRead}
 use Rattle.goal_answers.specs.Goals.{Kind, implements, projects, Rule, System, args_of, type_of, key, Each, SomeOf, OneOf, Verdicts}
 use Rattle.goal_answers.specs.Answers.{Gives, GivesNone, alias_next, answers}

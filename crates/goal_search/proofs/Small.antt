@@ -6,7 +6,7 @@ use Rattle.hir_types.specs.declared.ids.TypeAliasId.{TypeAliasId}
 use Rattle.hir_types.specs.declared.head.Head.{Head}
 use Rattle.hir_types.specs.declared.head.Hole.{Hole}
 use Rattle.hir_types.specs.Terms.{Term, hole, leaf, pair, apply, occurs, hole_number}
-use Rattle.infer_table.specs.TermLemmas.{apply_agree, hole_eq_true, hole_eq_same, pair_left, pair_right}
+use Rattle.goal_answers.specs.Below.{apply_agree, hole_eq_true, hole_eq_same, pair_left, pair_right}
 use Rattle.goal_answers.specs.Reading.{Fill, staying}
 use Rattle.goal_answers.specs.Goals.{Kind as AskedKind, projects, Asked as AskedGoal, Rule as SourceRule, args_of}
 use Rattle.goal_answers.specs.Rows.{types_of, IsNth, AreArgs}

@@ -5,7 +5,7 @@ use Rattle.hir_types.specs.declared.ids.AdtId.{AdtId}
 use Rattle.hir_types.specs.declared.head.Head.{Head}
 use Rattle.hir_types.specs.declared.head.Head.TheVariants as head
 use Rattle.hir_types.specs.Terms.{Term, hole, leaf, pair, apply, occurs, hole_number}
-use Rattle.infer_table.specs.TermLemmas.{apply_agree, hole_eq_same}
+use Rattle.goal_answers.specs.Below.{apply_agree, hole_eq_same}
 use Rattle.goal_answers.specs.Reading.{Fill, plain, role, Aliases, ReadsAs}
 use Rattle.goal_answers.specs.Goals.{System, only, IsKnown}
 use Rattle.goal_answers.specs.Rows.{IsLastPart, IsLast, IsNth, AreArgs, Tail, field, last, asked, field_tail, tuple_tail, head_tail, tail_of, SizedYes, SizedNo}

@@ -3,7 +3,7 @@ ghost use Rattle.std.specs.Prelude.{◌≡◌, IfOk};
 ghost use Rattle.infer_table.specs.Table.{HolesAreOf, AreUnifiedIf};
 ghost use Rattle.goal_select.specs.Steps.{goal_type};
 
-use hir_facts::{AdtId, GenericArg, Goal, List, Ty};
+use goal_facts::{AdtId, GenericArg, Goal, List, Ty};
 use hir_types::{Folded, TraitRef, Unchanged};
 use infer_table::InferenceTable;
 use std::alloc::{AllocError, Global};

@@ -3,7 +3,7 @@ ghost use Rattle.std.specs.Prelude.{◌≡◌, ◌++◌, ◌∷◌, map, IfOk, O
 ghost use Rattle.goal_facts.specs.Goals.{asked_goal};
 ghost use Rattle.goal_select.specs.Steps.{only_goal, part_goals};
 
-use hir_facts::{GenericArg, Goal, List, TraitId, Ty};
+use goal_facts::{GenericArg, Goal, List, TraitId, Ty};
 use hir_types::TraitRef;
 use std::alloc::{AllocError, Global};
 

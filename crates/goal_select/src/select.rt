@@ -9,8 +9,7 @@ ghost use Rattle.goal_select.specs.Steps.{GoalIsOf, with_type_holes, IsKnownIn, 
 
 use crate::meeting::meet;
 use crate::parts::part_goals;
-use goal_facts::{Choice, ItemSources, ProofSource};
-use hir_facts::{GenericArg, Goal, Ty};
+use goal_facts::{Choice, GenericArg, Goal, ItemSources, ProofSource, Ty};
 use hir_types::TraitRef;
 use infer_table::InferenceTable;
 use std::alloc::{AllocError, Global};

@@ -3,10 +3,8 @@ use Rattle.std.proofs.Common.{◌≡◌, inr, ℕ, zero, suc, ◌+◌, ◌<◌, 
 use Rattle.std.specs.Prelude.{Some, slice_get}
 use Rattle.std.proofs.lemmas.Option.{same_Some}
 use Rattle.std.proofs.lemmas.List.{length-map}
-use Rattle.hir_raw.specs.declared.raw.RawFacts.{RawFacts}
+use Rattle.goal_facts.specs.Below.{RawFacts, Fill, Aliases, Asked, System}
 use Rattle.infer_table.proofs.BindingLaws.{get_from_take}
-use Rattle.goal_answers.specs.Reading.{Fill, Aliases}
-use Rattle.goal_answers.specs.Goals.{Asked, System}
 use Rattle.goal_facts.specs.declared.proof.Proof.{Proof}
 use Rattle.goal_facts.specs.Proofs.{filled_goal, IsSame, IsSource, MayHaveSource, IsProofOf, AreProofsOf, Holds, AreProofs}
 use Rattle.goal_tree.specs.declared.obligation.Obligation.{Obligation}

@@ -1,9 +1,7 @@
 -- Obligations that have their sources rightly.
 use Rattle.std.specs.Prelude.{◌≡◌, ℕ, List, map, take, drop, slice_get, Some}
 use Rattle.hir_types.specs.Terms.{Term}
-use Rattle.hir_raw.specs.declared.raw.RawFacts.{RawFacts}
-use Rattle.goal_answers.specs.Reading.{Fill, Aliases, ReadsAs}
-use Rattle.goal_answers.specs.Goals.{Asked, System}
+use Rattle.goal_facts.specs.Below.{RawFacts, Fill, Aliases, ReadsAs, Asked, System}
 use Rattle.goal_facts.specs.declared.proof.ProofSource.{ProofSource}
 use Rattle.goal_facts.specs.Proofs.{filled_goal, IsSource, MayHaveSource}
 use Rattle.goal_tree.specs.declared.obligation.Obligation.{Obligation}

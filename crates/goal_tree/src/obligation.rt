@@ -2,8 +2,7 @@
 ghost use Rattle.std.specs.Prelude.{◌≡◌, ◌∷◌, ◌++◌, [], OnOk};
 ghost use Rattle.goal_tree.specs.Trees.{is_pending, pending_of};
 
-use goal_facts::ProofSource;
-use hir_facts::{ExprOrPatId, Goal};
+use goal_facts::{ExprOrPatId, Goal, ProofSource};
 use std::alloc::{AllocError, Global};
 
 /// A goal that a node asks, or that the source of another asks.

@@ -3,8 +3,7 @@ ghost use Rattle.std.specs.Prelude.{◌≡◌, ◌↔◌, ◌<◌, ◌≤◌, �
 ghost use Rattle.goal_tree.specs.Trees.{IsTree, IsTreeBut, IsOpenAt, IsWaitingAt, registered, asked_by, IsAsked, AreProvedAs, IsProvedNext, IsMoreProved, IsProvedUpTo, IsSelectedBy, pending_of};
 
 use crate::obligation::{Obligation, Standing};
-use goal_facts::{Proof, ProofSource};
-use hir_facts::{ExprOrPatId, Goal, List};
+use goal_facts::{ExprOrPatId, Goal, List, Proof, ProofSource};
 use std::alloc::{AllocError, Global};
 
 /// The goals that were asked, in their order. Behind one that has a source stand those that this asks for.

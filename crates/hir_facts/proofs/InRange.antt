@@ -8,9 +8,7 @@ use Rattle.hir_types.specs.declared.ids.DefWithBodyId.{DefWithBodyId}
 use Rattle.hir_types.specs.declared.ids.DefWithBodyId.TheVariants as def
 use Rattle.hir_raw.specs.declared.raw.RawFn.{RawFn}
 use Rattle.hir_raw.specs.declared.raw.RawFacts.{RawFacts}
-use Rattle.hir_laws.specs.Bodies.{body_id_of}
-use Rattle.hir_laws.specs.Lawful.{IsLawful}
-use Rattle.hir_laws.specs.LawfulFacts.{fn_ids}
+use Rattle.hir_plain.specs.Below.{body_id_of, IsLawful, fn_ids}
 
 body_of_fn : (raw : RawFacts) (law : IsLawful raw) (f : FunctionId) (o : Option RawFn) (i : BodyId) → slice_get raw.fns f.0 ≡ o → option_and_then (λ x. x.body) o ≡ Some i → i.0 < length raw.bodies
 body_of_fn raw law f None i was e = cc

@@ -24,14 +24,9 @@ use Rattle.hir_raw.specs.declared.raw.RawType.{RawType}
 use Rattle.hir_raw.specs.declared.raw.RawType.TheVariants as type
 use Rattle.hir_raw.specs.declared.raw.RawFn.{RawFn}
 use Rattle.hir_raw.specs.declared.raw.RawFacts.{RawFacts}
-use Rattle.hir_laws.specs.Lawful.{IsLawful}
-use Rattle.hir_counts.specs.Standing.{HasNoHole}
+use Rattle.hir_plain.specs.Below.{IsLawful, HasNoHole, type_ids, type_there, output_has_no_hole, FitsUnder, OwnFits, own_fits, parts_fit, own_output_fits, body_id_of, output_by, return_type}
 use Rattle.hir_raw.specs.WrittenTypes.{type_parts, filled_by, filled_within, written_type}
 use Rattle.hir_facts.specs.Filled.{filled_written}
-use Rattle.hir_laws.specs.LawfulFacts.{type_ids}
-use Rattle.hir_laws.specs.NoHoles.{type_there, output_has_no_hole}
-use Rattle.hir_laws.specs.WrittenFits.{FitsUnder, OwnFits, own_fits, parts_fit, own_output_fits}
-use Rattle.hir_laws.specs.Bodies.{body_id_of, output_by, return_type}
 use Rattle.hir_types.specs.declared.ids.TypeAliasId.{TypeAliasId}
 
 abbrev pub carried_arg : GenericArg-F Bool Bool Bool Bool → Bool

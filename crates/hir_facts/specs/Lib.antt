@@ -2,3 +2,4 @@ pub mod CarriedTypes
 pub mod Filled
 pub mod PlainBodies
 pub mod Readers
+pub mod Below

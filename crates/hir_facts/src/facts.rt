@@ -2,16 +2,12 @@
 ghost use Rattle.std.specs.Prelude.{◌≡◌, ◌↔◌, ◌<◌, ℕ, IfOk, IfErr, IsTrue, Some, slice_get, length};
 ghost use Rattle.hir_raw.specs.declared.raw.RawBody.{RawBody};
 ghost use Rattle.hir_raw.specs.Order.{AreDepths};
-ghost use Rattle.hir_laws.specs.Bodies.{IsWalkable, HasBody, body_id_of, inputs_of};
+ghost use Rattle.hir_plain.specs.Below.{IsWalkable, HasBody, body_id_of, inputs_of, FitsUnder, IsLawful, tests, Refuses};
 ghost use Rattle.hir_raw.specs.Fit.{fits};
-ghost use Rattle.hir_laws.specs.WrittenFits.{FitsUnder};
 ghost use Rattle.hir_plain.specs.Plain.{IsPlainAdt, IsPlainOver, IsPlainFn};
-ghost use Rattle.hir_laws.specs.Lawful.{IsLawful, tests};
-ghost use Rattle.hir_laws.specs.Refused.{Refuses};
 ghost use Rattle.hir_facts.specs.Readers.{edition_year, limits_in_order};
 
-use hir_laws::{FactsError, check};
-use hir_plain::{PlainMarks, mark_at};
+use hir_plain::{FactsError, PlainMarks, check, mark_at};
 use hir_raw::{
     Edition, RawAdt, RawAlias, RawBody, RawFacts, RawFn, RawImpl, RawTrait, RawType, RawVariant,
     Schedule, generic_params, ty_fits,
@@ -38,8 +34,7 @@ impl Model for Facts {
 
     ghost view = { λ a. a.raw };
 
-    ghost use Rattle.hir_laws.specs.Lawful.{IsLawful};
-    ghost use Rattle.hir_laws.specs.Scheduled.{AreSchedules};
+    ghost use Rattle.hir_plain.specs.Below.{IsLawful, AreSchedules};
     ghost use Rattle.hir_plain.specs.PlainMarks.{ArePlainMarks};
 
     ghost invariant = { λ a. IsLawful a.raw × AreSchedules a.raw.bodies a.schedules × ArePlainMarks a.raw a.plain };

@@ -6,7 +6,7 @@ mod lower;
 mod plain_body;
 
 pub use facts::Facts;
-pub use hir_laws::{FactsError, FactsList, Law};
+pub use hir_plain::{FactsError, FactsList, Law};
 pub use hir_raw::{
     BindingAnnotation, Edition, Other, RawAdt, RawAdtKind, RawAlias, RawArgs, RawArm, RawAssocType,
     RawAt, RawBinding, RawBody, RawCtor, RawExpr, RawFacts, RawField, RawFn, RawGoal, RawImpl,

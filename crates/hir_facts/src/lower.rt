@@ -3,7 +3,7 @@ ghost use Rattle.std.specs.Prelude.{◌≡◌, ◌<◌, ◌+◌, IfOk, length};
 ghost use Rattle.hir_types.specs.declared.ty.Ty.TheVariants as ty;
 ghost use Rattle.hir_raw.specs.Hidden.{place_in, opened};
 ghost use Rattle.hir_raw.specs.WrittenTypes.{lowered, written_type};
-ghost use Rattle.hir_laws.specs.Bodies.{HasBody, return_type};
+ghost use Rattle.hir_plain.specs.Below.{HasBody, return_type};
 ghost use Rattle.hir_ids.specs.Entries.{AllHold};
 ghost use Rattle.hir_ids.specs.Ids.{ChildrenBefore};
 

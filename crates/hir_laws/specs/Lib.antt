@@ -14,3 +14,4 @@ pub mod LawfulFacts
 pub mod NoHoles
 pub mod WrittenFits
 pub mod Lang
+pub mod Below

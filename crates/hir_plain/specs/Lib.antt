@@ -3,3 +3,4 @@ pub mod PlainTypes
 pub mod Spread
 pub mod PlainMarks
 pub mod Sized
+pub mod Below

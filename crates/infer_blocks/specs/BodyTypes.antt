@@ -10,7 +10,7 @@ use Rattle.hir_raw.specs.Order.{stmt_at}
 use Rattle.hir_raw.specs.WrittenTypes.{filled_type, StandsIn}
 use Rattle.hir_raw.specs.declared.raw.RawStmt.TheVariants as stmt
 use Rattle.infer_table.specs.Table.{Grew}
-use Rattle.infer_goals.specs.Stays.{StaysButHoles}
+use Rattle.infer_ctx.specs.Below.{StaysButHoles}
 use Rattle.infer_result.specs.Places.{Given, declared, AreRecorded, IsPlaceholder}
 use Rattle.infer_result.specs.Table.{PlaceholderTy}
 use Rattle.infer_ctx.specs.Found.{Found}

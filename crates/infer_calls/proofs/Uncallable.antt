@@ -12,7 +12,7 @@ use Rattle.hir_raw.specs.declared.schedule.Schedule.{Schedule}
 use Rattle.infer_table.proofs.HoleLaws.{grew_by_hole}
 use Rattle.infer_table.specs.Table.{Grew, bindings, resolved_type, hole_count}
 use Rattle.infer_table.specs.Bindings.{AllOf}
-use Rattle.infer_goals.specs.Stays.{stays_with}
+use Rattle.infer_ctx.specs.Below.{stays_with}
 use Rattle.infer_result.specs.Places.{Given}
 use Rattle.infer_result.specs.Table.{HasTy}
 use Rattle.infer_result.specs.declared.result.InferenceResult.{InferenceResult}

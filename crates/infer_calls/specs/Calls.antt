@@ -15,7 +15,7 @@ use Rattle.hir_raw.specs.Order.{inner, after, exprs_from, argument}
 use Rattle.hir_raw.specs.declared.raw.RawExpr.TheVariants as expr
 use Rattle.infer_table.specs.Table.{resolved_type, bindings}
 use Rattle.infer_table.specs.Bindings.{AllOf}
-use Rattle.goal_facts.specs.Goals.{asked_goal}
+use Rattle.infer_result.specs.Below.{asked_goal}
 use Rattle.infer_result.specs.Table.{HasTy, WasSeen}
 use Rattle.infer_result.specs.Demands.{Demand}
 use Rattle.infer_result.specs.Needs.{callee_needs}

@@ -7,7 +7,7 @@ use Rattle.hir_types.specs.declared.ty.Ty.TheVariants as ty
 use Rattle.hir_raw.specs.Scope.{Scope}
 use Rattle.infer_table.specs.Table.{with_new_hole, hole_count}
 use Rattle.infer_table.proofs.HoleLaws.{grew_by_hole}
-use Rattle.infer_goals.specs.Stays.{stays_with}
+use Rattle.infer_ctx.specs.Below.{stays_with}
 use Rattle.infer_result.specs.Places.{Given}
 use Rattle.infer_ctx.specs.declared.context.InferenceContext.{InferenceContext}
 use Rattle.infer_ctx.specs.Closings.{IsSound}

@@ -6,7 +6,7 @@ use Rattle.infer_table.specs.Solutions.{Solves, log_of}
 use Rattle.infer_table.specs.Table.{State, Grew, IsBack, IsFront, bindings}
 use Rattle.infer_table.specs.Waiting.{Waiting, waiting}
 use Rattle.infer_table.proofs.UndoLaws.{front_itself}
-use Rattle.infer_goals.specs.Stays.{stays_with}
+use Rattle.infer_ctx.specs.Below.{stays_with}
 use Rattle.infer_result.specs.Closed.{IsOfBody}
 use Rattle.infer_result.specs.Places.{Given}
 use Rattle.infer_ctx.specs.Context.{with_table}

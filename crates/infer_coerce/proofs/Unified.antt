@@ -32,7 +32,7 @@ use Rattle.infer_table.proofs.HoleLaws.{grew_twice}
 use Rattle.infer_table.proofs.TableLaws.{hole_where_open, is_var_at}
 use Rattle.infer_table.proofs.UndoLaws.{front_itself}
 use Rattle.infer_table.proofs.BindingLaws.{get_last}
-use Rattle.infer_goals.specs.Stays.{stays_with}
+use Rattle.infer_ctx.specs.Below.{stays_with}
 use Rattle.infer_result.specs.Closed.{IsOfBody}
 use Rattle.infer_result.specs.Places.{Given}
 use Rattle.infer_result.specs.Table.{mismatch, At}

@@ -5,7 +5,7 @@ use Rattle.hir_types.specs.declared.ids.ExprId.{ExprId}
 use Rattle.hir_types.specs.declared.ty.Ty.{Ty}
 use Rattle.hir_raw.specs.Scope.{Scope}
 use Rattle.infer_table.specs.Table.{State, Grew}
-use Rattle.infer_goals.specs.Stays.{StaysButHoles}
+use Rattle.infer_ctx.specs.Below.{StaysButHoles}
 use Rattle.infer_result.specs.Places.{Given}
 use Rattle.infer_ctx.specs.Found.{Found}
 use Rattle.infer_ctx.specs.Fine.{IsFine}

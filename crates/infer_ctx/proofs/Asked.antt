@@ -3,7 +3,7 @@ use Rattle.std.proofs.Common.{◌≡◌, ◌∙◌, sym, ap, subst, List, Option
 use Rattle.hir_types.specs.declared.ty.Ty.{Ty}
 use Rattle.infer_table.proofs.UndoLaws.{grew_itself}
 use Rattle.infer_table.specs.Table.{Grew}
-use Rattle.goal_facts.specs.Goals.{ItemSources}
+use Rattle.infer_goals.specs.Below.{ItemSources}
 use Rattle.infer_goals.specs.declared.obligations.Obligations.{Obligations}
 use Rattle.infer_goals.specs.declared.table.GoalTable.{GoalTable}
 use Rattle.infer_goals.specs.Obligations.{AreCounted}

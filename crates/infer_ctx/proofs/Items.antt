@@ -22,7 +22,7 @@ use Rattle.hir_raw.specs.WrittenTypes.{written_type}
 use Rattle.hir_raw.specs.declared.raw.RawAdt.{RawAdt}
 use Rattle.hir_raw.specs.declared.raw.RawField.{RawField}
 use Rattle.hir_laws.proofs.Items.{variant_adt, variant_ctor}
-use Rattle.hir_ids.specs.Ids.{IsModuleFn}
+use Rattle.hir_laws.specs.Below.{IsModuleFn}
 use Rattle.hir_laws.specs.Lawful.{IsLawful}
 use Rattle.hir_laws.specs.WrittenFits.{fields_fit}
 use Rattle.hir_laws.proofs.OpenedTypes.{Each, IsOver, over_input, over_output}

@@ -20,7 +20,7 @@ use Rattle.hir_types.specs.declared.ids.CallableDefId.TheVariants as callable
 use Rattle.hir_types.specs.declared.ids.ExprOrPatId.TheVariants as node
 use Rattle.hir_raw.specs.declared.raw.RawCtor.{RawCtor}
 use Rattle.hir_raw.specs.Signatures.{type_args, ctor_type_by, Signature, at_args, ctor_type, signature_of}
-use Rattle.hir_counts.specs.Standing.{HasNoHole}
+use Rattle.hir_laws.specs.Below.{HasNoHole}
 use Rattle.hir_raw.specs.WrittenTypes.{written_type}
 use Rattle.hir_raw.specs.declared.raw.RawPath.{RawPath}
 use Rattle.hir_raw.specs.declared.raw.RawVariant.{RawVariant}

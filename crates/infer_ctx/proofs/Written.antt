@@ -20,13 +20,12 @@ use Rattle.hir_laws.specs.Lawful.{IsLawful}
 use Rattle.hir_raw.specs.Scope.{Scope, adt_params, has_params, params_of, scope_of, has_associated}
 use Rattle.hir_raw.specs.WrittenTypes.{type_parts, written_type, filled_by, filled_within, filled_type, StandsIn, is_itself, in_part}
 use Rattle.hir_facts.specs.Filled.{filled_written}
-use Rattle.hir_counts.specs.Standing.{HasNoHole}
+use Rattle.hir_laws.specs.Below.{HasNoHole, is_carried_written_type}
 use Rattle.hir_laws.specs.WrittenFits.{FitsUnder, OwnFits, own_fits, parts_fit, return_fits}
 use Rattle.hir_raw.specs.declared.raw.RawFn.{RawFn}
 use Rattle.hir_laws.specs.Bodies.{output_by, body_id_of, return_type}
 use Rattle.hir_laws.specs.NoHoles.{output_has_no_hole}
 use Rattle.hir_raw.specs.declared.raw.RawType.TheVariants as type
-use Rattle.hir_ids.specs.Carried as laws
 use Rattle.infer_table.specs.Table.{State, new_state}
 use Rattle.infer_ctx.specs.Fine.{HasFineHeads, IsFine, IsWritten, AllFine}
 use Rattle.infer_ctx.proofs.Lists.{found}
@@ -50,7 +49,7 @@ module _ (raw : RawFacts) (law : IsLawful raw) (count : ℕ) (associated : Bool)
     filled_parts f [] each = tt
     filled_parts f (t ∷ ts) each = (each 0 t refl, filled_parts f ts (λ k u e. each (suc k) u e))
 
-    filled_by_fine : (i : ℕ) (f : ℕ → Ty) (x : RawType) → slice_get raw.types i ≡ Some x → AreGood i → OwnFits raw count x → IsTrue (laws.is_carried_written_type x) → ((k : ℕ) (t : TypeRefId) → slice_get (type_parts x) k ≡ Some t → Good (f t.0)) → Good (filled_by (h i) f (Some x))
+    filled_by_fine : (i : ℕ) (f : ℕ → Ty) (x : RawType) → slice_get raw.types i ≡ Some x → AreGood i → OwnFits raw count x → IsTrue (is_carried_written_type x) → ((k : ℕ) (t : TypeRefId) → slice_get (type_parts x) k ≡ Some t → Good (f t.0)) → Good (filled_by (h i) f (Some x))
     filled_by_fine i f type.Bool at good o c each = fine_bool Here state
     filled_by_fine i f type.Char at good o c each = fine_char Here state
     filled_by_fine i f (type.Integer n) at good o c each = fine_integer Here state n

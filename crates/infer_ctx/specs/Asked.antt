@@ -6,13 +6,7 @@ use Rattle.hir_raw.specs.declared.raw.RawBody.{RawBody}
 use Rattle.hir_raw.specs.declared.raw.RawFacts.{RawFacts}
 use Rattle.hir_raw.specs.Scope.{Scope}
 use Rattle.infer_table.specs.Preserved.{Shape}
-use Rattle.goal_answers.specs.Goals.{Asked}
-use Rattle.goal_search.specs.Sources.{system}
-use Rattle.goal_facts.specs.Goals.{asked_goal, ItemSources}
-use Rattle.goal_facts.specs.Systems.{IsSystemOf}
-use Rattle.goal_select.specs.Steps.{HasHeadsIfConcrete, SystemHasHeadsOf}
-use Rattle.goal_tree.specs.declared.obligation.Obligation.{Obligation}
-use Rattle.goal_tree.specs.declared.tree.GoalTree.{GoalTree}
+use Rattle.infer_goals.specs.Below.{Asked, system, asked_goal, ItemSources, IsSystemOf, HasHeadsIfConcrete, SystemHasHeadsOf, Obligation, GoalTree}
 use Rattle.infer_goals.specs.Obligations.{AreKept, HasAllOpen, AreCounted}
 use Rattle.infer_result.specs.Needs.{needs_at}
 use Rattle.infer_result.specs.Places.{Given}

@@ -10,3 +10,4 @@ pub mod Asked
 pub mod Under
 pub mod Steps
 pub mod Callables
+pub mod Below

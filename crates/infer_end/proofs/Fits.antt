@@ -28,7 +28,7 @@ use Rattle.infer_ctx.proofs.Items.{signature_count}
 use Rattle.infer_ctx.proofs.OverTypes.{over_fine, adt_closed, fn_def_closed, associated_closed}
 use Rattle.infer_ctx.proofs.UnderClosings.{At-unclosed, At-stems}
 use Rattle.infer_ctx.proofs.Said.{said-cases}
-use Rattle.infer_coerce.proofs.Unified.{bound_heads}
+use Rattle.infer_obligations.proofs.Below.{bound_heads}
 use Rattle.std.specs.Cmp.{second_so}
 
 both_true : (a b : Bool) → a ≡ true → b ≡ true → (a && b) ≡ true

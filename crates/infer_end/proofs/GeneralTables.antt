@@ -55,7 +55,7 @@ use Rattle.infer_ctx.proofs.Lists.{found}
 use Rattle.infer_ctx.proofs.OverTypes.{fine_closed}
 use Rattle.infer_ctx.specs.Context.{with_general}
 use Rattle.infer_ctx.proofs.UnderClosings.{sound_with, At-unclosed, closed_at, asked_unlike, length-closed_mismatches, At-closed, length-closed}
-use Rattle.infer_coerce.proofs.Unified.{completion_closes}
+use Rattle.infer_obligations.proofs.Below.{completion_closes}
 use Rattle.infer_end.specs.SelectedBody.{OnlyGoals, StaysOfPlain, ReadsLast}
 use Rattle.infer_end.specs.Ends.{EndsAs}
 use Rattle.infer_end.specs.KeptTypes.{AreResolved, HoldsResolved, KeepsGeneral, IsFull, HasAllTypes}

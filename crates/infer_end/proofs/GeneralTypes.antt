@@ -25,7 +25,7 @@ use Rattle.infer_ctx.specs.Closings.{IsClosing, Closes, IsSound}
 use Rattle.infer_ctx.specs.Fine.{item_params, HasFineHeads, Every}
 use Rattle.infer_ctx.proofs.FineTypes.{every_at, every_from, heads_bool, heads_char, heads_integer, heads_param, heads_tuple, heads_adt, heads_fn_def, heads_associated}
 use Rattle.infer_ctx.proofs.OverTypes.{over_fine, adt_closed, fn_def_closed, carried_args, closing_respects, associated_closed}
-use Rattle.infer_coerce.proofs.Unified.{bound_heads, composed_closing}
+use Rattle.infer_obligations.proofs.Below.{bound_heads, composed_closing}
 use Rattle.infer_end.proofs.Fits.{item_counted}
 use Rattle.std.specs.Cmp.{first_so}
 

@@ -16,8 +16,7 @@ use Rattle.infer_table.specs.Solutions.{Respects, log_of}
 use Rattle.infer_table.specs.Table.{Meets, bindings}
 use Rattle.goal_facts.specs.Systems.{IsSystemOf}
 use Rattle.goal_search.specs.Sources.{system}
-use Rattle.infer_goals.specs.declared.table.GoalTable.{GoalTable}
-use Rattle.infer_goals.specs.Obligations.{AreKept}
+use Rattle.infer_ctx.specs.Below.{GoalTable, AreKept}
 use Rattle.infer_result.specs.Needs.{scope_item}
 use Rattle.infer_result.specs.Places.{Given}
 use Rattle.infer_result.specs.Typed.{given}

@@ -10,10 +10,8 @@ use Rattle.hir_raw.specs.declared.raw.RawExpr.{RawExpr}
 use Rattle.hir_raw.specs.declared.raw.RawFacts.{RawFacts}
 use Rattle.hir_laws.specs.Bodies.{body_of}
 use Rattle.hir_laws.specs.Lawful.{IsLawful}
-use Rattle.goal_facts.specs.Goals.{ItemSources}
-use Rattle.goal_facts.specs.Systems.{IsSystemOf}
+use Rattle.infer_goals.specs.Below.{ItemSources, IsSystemOf, Obligation}
 use Rattle.goal_search.specs.Sources.{system}
-use Rattle.goal_tree.specs.declared.obligation.Obligation.{Obligation}
 use Rattle.infer_goals.specs.Stays.{IsUnused}
 use Rattle.infer_goals.proofs.Counting.{none_counted}
 use Rattle.infer_result.specs.Needs.{needs_of, needs_at, scope_item}

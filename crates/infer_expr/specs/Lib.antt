@@ -1,1 +1,2 @@
 pub mod Params
+pub mod Below

@@ -4,3 +4,4 @@ pub mod SelfTy
 pub mod Sleepers
 pub mod Stays
 pub mod Told
+pub mod Below

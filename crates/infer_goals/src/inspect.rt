@@ -3,8 +3,7 @@ ghost use Rattle.std.specs.Prelude.{◌≡◌, ◌++◌, ◌∷◌, [], List, On
 ghost use Rattle.hir_types.specs.declared.goal.Goal.{Goal};
 ghost use Rattle.goal_search.specs.declared.answer.Answer.{Answer};
 
-use goal_facts::Answer;
-use hir_facts::Goal;
+use goal_facts::{Answer, Goal};
 use std::alloc::{AllocError, Global};
 
 /// Is told of each goal that inference evaluates, with its answer, as `infer.rs`'s

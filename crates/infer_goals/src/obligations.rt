@@ -8,10 +8,9 @@ ghost use Rattle.goal_tree.specs.Trees.{IsTree, IsOpenAt, registered, IsAsked};
 ghost use Rattle.infer_goals.specs.Obligations.{AreKept, AreWithin, AreBelow, AreAt, HasAllOpen, HasAllAnyhow, HasAllSince, KeepsAllOpen, WakesAll, SleepsAll, FallAsleep, AreThere, EndsRound, AreUsedUp, AreSettled, NoneLeft, Went, counted, KeepsOpen, AreAmongEither, AreScanned, AreLower, new_numbers, IsTried, IsVisited};
 
 use crate::sleepers::Sleepers;
-use goal_facts::{ItemSources, asked};
+use goal_facts::{ExprOrPatId, Goal, ItemSources, asked};
 use goal_select::{Selected, select_goal};
 use goal_tree::GoalTree;
-use hir_facts::{ExprOrPatId, Goal};
 use infer_table::InferenceTable;
 use std::alloc::{AllocError, Global};
 

@@ -5,9 +5,8 @@ ghost use Rattle.goal_tree.specs.Trees.{IsTree};
 ghost use Rattle.infer_goals.specs.SelfTy.{IsHole, IsAbout, IsListedIfAbout, children, HasChildren, Adds, AreListed, IsListedPending, AreOfAll};
 
 use crate::obligations::Obligations;
-use goal_facts::{Answer, ItemSources};
+use goal_facts::{Answer, GenericArg, Goal, ItemSources, TraitRef, Ty};
 use goal_tree::Standing;
-use hir_facts::{GenericArg, Goal, TraitRef, Ty};
 use infer_table::InferenceTable;
 use std::alloc::AllocError;
 

@@ -16,8 +16,7 @@ ghost use Rattle.infer_goals.specs.Obligations.{AreKept, HasAllOpen, NoneLeft, W
 ghost use Rattle.infer_goals.specs.SelfTy.{AreForSelfTy};
 
 use crate::obligations::Obligations;
-use goal_facts::{Answer, ItemSources, Proof};
-use hir_facts::{ExprOrPatId, Facts, GenericDefId, Goal, Ty};
+use goal_facts::{Answer, ExprOrPatId, Facts, GenericDefId, Goal, ItemSources, Proof, Ty};
 use infer_table::InferenceTable;
 use std::alloc::{AllocError, Global};
 

@@ -6,3 +6,4 @@ pub mod Selecting
 pub mod Walking
 pub mod InHand
 pub mod ReadNeeds
+pub mod Below

@@ -23,7 +23,7 @@ use Rattle.infer_table.specs.Resolution.{IsOpenOrKnown}
 use Rattle.infer_table.specs.Table.{State, bindings, resolved_type, with_new_hole, hole_count}
 use Rattle.infer_table.proofs.UndoLaws.{grew_itself}
 use Rattle.infer_table.proofs.HoleLaws.{grew_by_hole}
-use Rattle.infer_goals.specs.Stays.{stays_itself, stays_with}
+use Rattle.infer_ctx.specs.Below.{stays_itself, stays_with}
 use Rattle.infer_result.specs.Closed.{IsOfBody}
 use Rattle.infer_result.specs.Places.{Given}
 use Rattle.infer_ctx.specs.declared.context.InferenceContext.{InferenceContext}

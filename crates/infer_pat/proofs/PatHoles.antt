@@ -16,7 +16,7 @@ use Rattle.infer_table.specs.Table.{with_new_hole, hole_count, State, HolesAreOf
 use Rattle.infer_table.specs.Preserved.{whole, IsMadeOf, made_of_resolved, made_of_within}
 use Rattle.infer_table.specs.Resolution.{resolution, resolution_term}
 use Rattle.infer_table.specs.Solutions.{log_of, resolved}
-use Rattle.infer_goals.specs.Stays.{stays_itself, stays_twice, stays_with}
+use Rattle.infer_ctx.specs.Below.{stays_itself, stays_twice, stays_with}
 use Rattle.infer_result.specs.Closed.{IsOfBody}
 use Rattle.infer_result.specs.Table.{mismatch}
 use Rattle.infer_result.specs.Places.{Given}

@@ -12,7 +12,7 @@ use Rattle.hir_raw.specs.Order.{Binds, binding_of}
 use Rattle.hir_raw.specs.declared.raw.RawPat.TheVariants as pat
 use Rattle.infer_table.proofs.HoleLaws.{grew_twice}
 use Rattle.infer_table.proofs.UndoLaws.{grew_itself}
-use Rattle.infer_goals.specs.Stays.{stays_itself}
+use Rattle.infer_ctx.specs.Below.{stays_itself}
 use Rattle.infer_result.specs.Closed.{IsOfBody}
 use Rattle.infer_result.specs.Places.{Given}
 use Rattle.infer_ctx.specs.Closings.{expected_under, Closes, found_under}

@@ -25,7 +25,7 @@ use Rattle.hir_raw.specs.declared.raw.RawExpr.TheVariants as expr
 use Rattle.hir_raw.specs.declared.raw.RawCtor.TheVariants as ctor
 use Rattle.infer_table.proofs.UndoLaws.{grew_itself}
 use Rattle.infer_table.specs.Table.{hole_count}
-use Rattle.infer_goals.specs.Stays.{stays_itself}
+use Rattle.infer_ctx.specs.Below.{stays_itself}
 use Rattle.infer_result.specs.declared.result.InferenceResult.{InferenceResult}
 use Rattle.infer_result.specs.Table.{HasTy, ExprVariant, BindingTy}
 use Rattle.infer_result.specs.Places.{Given}

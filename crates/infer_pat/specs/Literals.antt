@@ -16,7 +16,7 @@ use Rattle.hir_raw.specs.declared.raw.RawExpr.TheVariants as expr
 use Rattle.hir_raw.specs.declared.raw.RawLiteral.{RawLiteral}
 use Rattle.hir_raw.specs.declared.raw.RawLiteral.TheVariants as literal
 use Rattle.infer_table.specs.Table.{State, resolved_type, Grew, hole_count}
-use Rattle.infer_goals.specs.Stays.{StaysButHoles}
+use Rattle.infer_ctx.specs.Below.{StaysButHoles}
 use Rattle.infer_result.specs.Kinds.Literal.{IsLiteralType, IsOwnType}
 use Rattle.infer_ctx.specs.declared.context.InferenceContext.{InferenceContext}
 use Rattle.infer_ctx.specs.Fine.{IsFine}

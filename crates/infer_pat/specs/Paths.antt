@@ -12,7 +12,7 @@ use Rattle.hir_raw.specs.Signatures.{type_args}
 use Rattle.hir_raw.specs.declared.raw.RawPath.TheVariants as path
 use Rattle.hir_raw.specs.declared.raw.RawExpr.TheVariants as expr
 use Rattle.infer_table.specs.Table.{Grew}
-use Rattle.infer_goals.specs.Stays.{StaysButHoles}
+use Rattle.infer_ctx.specs.Below.{StaysButHoles}
 use Rattle.infer_result.specs.declared.result.InferenceResult.{InferenceResult}
 use Rattle.infer_result.specs.Table.{BindingTy}
 use Rattle.infer_result.specs.Places.{Given}

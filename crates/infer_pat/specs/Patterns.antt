@@ -16,7 +16,7 @@ use Rattle.hir_raw.specs.Signatures.{type_args, at_args, field_types}
 use Rattle.hir_raw.specs.declared.raw.RawPat.TheVariants as pat
 use Rattle.infer_table.specs.Resolution.{IsOpenOrKnown}
 use Rattle.infer_table.specs.Table.{State, Grew, bindings, hole_count, resolved_type, with_new_hole}
-use Rattle.infer_goals.specs.Stays.{StaysButHoles}
+use Rattle.infer_ctx.specs.Below.{StaysButHoles}
 use Rattle.infer_result.specs.Places.{Given, PatIsAtOrMismatch}
 use Rattle.infer_result.specs.Incoming.{Incoming}
 use Rattle.infer_result.specs.declared.result.InferenceResult.{InferenceResult}

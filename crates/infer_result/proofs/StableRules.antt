@@ -4,7 +4,7 @@ use Rattle.hir_types.specs.declared.ids.PatId.{PatId}
 use Rattle.hir_types.specs.declared.ids.TypeRefId.{TypeRefId}
 use Rattle.hir_types.specs.Subst.{Assignment}
 use Rattle.hir_raw.specs.declared.raw.RawFacts.{RawFacts}
-use Rattle.hir_laws.specs.Lawful.{IsLawful}
+use Rattle.hir_facts.specs.Below.{IsLawful}
 use Rattle.hir_raw.specs.WrittenTypes.{written_type}
 use Rattle.infer_result.specs.declared.result.InferenceResult.{InferenceResult}
 use Rattle.infer_result.specs.Places.{Given, IsAt, IsAtOrMismatch}

@@ -21,12 +21,9 @@ use Rattle.hir_raw.specs.declared.raw.RawFn.{RawFn}
 use Rattle.hir_raw.specs.declared.raw.RawType.{RawType}
 use Rattle.hir_raw.specs.declared.raw.RawVariant.{RawVariant}
 use Rattle.hir_raw.specs.declared.raw.RawFacts.{RawFacts}
-use Rattle.hir_laws.specs.Bodies.{output_by, return_type, inputs_of}
+use Rattle.hir_facts.specs.Below.{output_by, return_type, inputs_of, IsLawful, HasNoHole, output_has_no_hole, field_has_no_hole, definition_input_has_no_hole}
 use Rattle.hir_facts.specs.Filled.{filled_written, filled_folded}
-use Rattle.hir_laws.specs.Lawful.{IsLawful}
-use Rattle.hir_counts.specs.Standing.{HasNoHole}
-use Rattle.hir_laws.proofs.OpenedTypes.{Each, IsOver, over_input, over_output}
-use Rattle.hir_laws.specs.NoHoles.{output_has_no_hole, field_has_no_hole, definition_input_has_no_hole}
+use Rattle.hir_facts.proofs.Below.{Each, IsOver, over_input, over_output}
 use Rattle.hir_raw.specs.Scope.{adt_params, fn_arity}
 use Rattle.hir_raw.specs.Signatures.{Signature, fn_signature, fn_types, signature_of, signature_by, ctor_signature, field_types, own_adt, params_from, type_args, at_args}
 use Rattle.hir_raw.specs.WrittenTypes.{written_type}

@@ -10,10 +10,9 @@ use Rattle.hir_types.specs.declared.ty.Ty.TheVariants as ty
 use Rattle.hir_raw.specs.declared.raw.RawExpr.TheVariants as expr
 use Rattle.hir_raw.specs.declared.raw.RawBody.{RawBody}
 use Rattle.hir_raw.specs.declared.raw.RawFacts.{RawFacts}
-use Rattle.hir_laws.specs.Bodies.{body_of}
+use Rattle.hir_facts.specs.Below.{body_of, IsPlainIn, ArePlainIn}
 use Rattle.hir_raw.specs.Scope.{Scope, scope_of}
 use Rattle.hir_raw.specs.Signatures.{type_args}
-use Rattle.hir_plain.specs.PlainTypes.{IsPlainIn, ArePlainIn}
 use Rattle.infer_result.specs.declared.result.InferenceResult.{InferenceResult}
 use Rattle.infer_result.specs.declared.result.TypeMismatch.{TypeMismatch}
 use Rattle.infer_result.specs.declared.diagnostics.InferenceDiagnostic.{InferenceDiagnostic}

@@ -11,11 +11,9 @@ use Rattle.hir_types.specs.Types.{integer_type}
 use Rattle.hir_types.specs.Subst.{Assignment, folded}
 use Rattle.hir_raw.specs.declared.raw.RawBody.{RawBody}
 use Rattle.hir_raw.specs.declared.raw.RawFacts.{RawFacts}
-use Rattle.hir_laws.specs.Bodies.{body_of}
+use Rattle.hir_facts.specs.Below.{body_of, IsPlainBodyOf, IsPlainIn}
 use Rattle.hir_raw.specs.Scope.{Scope, scope_of, adt_params, callable_params, has_params}
 use Rattle.hir_raw.specs.Signatures.{type_args}
-use Rattle.hir_plain.specs.Plain.{IsPlainBodyOf}
-use Rattle.hir_plain.specs.PlainTypes.{IsPlainIn}
 use Rattle.infer_result.specs.declared.result.General.{General}
 use Rattle.infer_result.specs.declared.result.InferenceResult.{InferenceResult}
 use Rattle.hir_types.specs.Fallback.{fallback}

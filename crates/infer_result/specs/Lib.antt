@@ -23,3 +23,4 @@ pub mod Derivation
 pub mod General
 pub mod Report
 pub mod Stable
+pub mod Below

@@ -6,7 +6,7 @@ use Rattle.hir_types.specs.declared.ids.DefWithBodyId.{DefWithBodyId}
 use Rattle.hir_types.specs.declared.ty.Ty.{Ty}
 use Rattle.hir_raw.specs.declared.raw.RawBody.{RawBody}
 use Rattle.hir_raw.specs.declared.raw.RawFacts.{RawFacts}
-use Rattle.hir_laws.specs.Bodies.{body_of, return_type, inputs_of}
+use Rattle.hir_facts.specs.Below.{body_of, return_type, inputs_of}
 use Rattle.hir_raw.specs.Scope.{scope_of}
 use Rattle.infer_result.specs.declared.result.InferenceResult.{InferenceResult}
 use Rattle.infer_result.specs.declared.result.TypeMismatch.{TypeMismatch}

@@ -11,7 +11,7 @@ use Rattle.infer_result.specs.declared.result.InferenceResult.{InferenceResult}
 use Rattle.infer_result.specs.Typed.{IsTableOf, given}
 use Rattle.infer_result.specs.General.{HasGeneral}
 use Rattle.infer_result.specs.Needs.{GoalsHold}
-use Rattle.infer_end.specs.Ends.{ComesOfSelection}
+use Rattle.infer_expr.specs.Below.{ComesOfSelection}
 use Rattle.infer_result.specs.Report.{report, complaint_count}
 use Rattle.infer_text.specs.declared.fault.ReadError.TheVariants as error
 use Rattle.infer_run.specs.declared.running.Ran.{Ran}

@@ -15,7 +15,7 @@ use Rattle.infer_table.specs.Bindings.{AllOf}
 use Rattle.infer_table.specs.Preserved.{BindsOnly}
 use Rattle.infer_table.specs.Solutions.{log_of}
 use Rattle.infer_table.specs.Table.{Grew, State, bindings, hole_count, resolved_type, with_new_hole}
-use Rattle.infer_goals.specs.Stays.{stays_with}
+use Rattle.infer_ctx.specs.Below.{stays_with}
 use Rattle.infer_result.specs.Places.{Given}
 use Rattle.infer_ctx.specs.declared.context.InferenceContext.{InferenceContext}
 use Rattle.infer_ctx.specs.Closings.{Closes, IsSound, found_under, expected_under}

@@ -2,7 +2,7 @@ use Rattle.std.proofs.Common.{◌≡◌, ◌∙◌, ap, sym, subst}
 use Rattle.hir_raw.specs.declared.raw.RawBody.{RawBody}
 use Rattle.hir_facts.specs.CarriedTypes.{return_carried}
 use Rattle.hir_facts.proofs.InRange.{body_in_range}
-use Rattle.goal_facts.specs.Goals.{ItemSources}
+use Rattle.infer_goals.specs.Below.{ItemSources}
 use Rattle.infer_goals.specs.declared.table.GoalTable.{GoalTable}
 use Rattle.infer_result.specs.Typed.{given}
 use Rattle.infer_ctx.specs.Asked.{IsTold}

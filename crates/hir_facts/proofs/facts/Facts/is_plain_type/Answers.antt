@@ -1,7 +1,7 @@
 use Rattle.std.proofs.Common.{◌≡◌, ◌∙◌, ap, sym, subst, get_or, List, Bool, true, false}
 use Rattle.std.specs.Prelude.{◌↔◌, IsTrue}
 use Rattle.hir_raw.specs.declared.raw.RawFacts.{RawFacts}
-use Rattle.hir_laws.specs.WrittenFits.{FitsUnder, fits_there}
+use Rattle.hir_plain.specs.Below.{FitsUnder, fits_there}
 use Rattle.hir_plain.specs.Plain.{IsPlainOver}
 use Rattle.hir_facts.proofs.facts.Facts.is_plain_type.Goals as goal
 

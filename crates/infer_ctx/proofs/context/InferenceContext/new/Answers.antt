@@ -1,6 +1,6 @@
 use Rattle.std.proofs.Common.{sym, subst}
 use Rattle.hir_raw.specs.declared.raw.RawFacts.{RawFacts}
-use Rattle.goal_search.specs.Sources.{system}
+use Rattle.infer_goals.specs.Below.{system}
 use Rattle.infer_goals.specs.Obligations.{AreKept}
 use Rattle.infer_ctx.proofs.context.InferenceContext.new.Goals as goal
 
