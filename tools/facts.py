@@ -23,7 +23,6 @@ EDITIONS = [2015, 2018, 2021, 2024]
 CORE = os.path.join(os.path.dirname(os.path.abspath(__file__)), "core.rs")
 LIMITS = [8, 1000, 8, 10]
 REPR = r"\brepr\s*\([^)]*\b([iu](?:8|16|32|64|128|size))\b"
-UNREAD = "body of a function whose signature has an associated type"
 LANG = r'\blang\s*=\s*"(sized|copy|clone)"'
 
 # A function with a body in the source: its path in the crate, its Function, its number among the facts' functions or
@@ -45,7 +44,6 @@ class CrateFacts:
         self.items.read(tree_of(CORE, 2021, "core"))
         self.bodies, self.body_numbers = [], {}
         self.refused = {}  # the items that can't be written, each with what of it is left out
-        self.unread = set()  # the functions that are written without their bodies, by what stands in their signatures
         self.refuse_types_and_traits()
         self.refuse_functions()
         self.lists = Lists(self.items, self.refused)
@@ -80,14 +78,12 @@ class CrateFacts:
         return writer
 
     def refuse_functions(self):
-        """Finds the functions whose signatures can't be written, and those that take or give types with associated types."""
+        """Finds the functions whose signatures can't be written."""
         for item, function in self.items.functions.items():
             writer = self.writer(function, Lists(self.items, self.refused))
-            fact = self.function(function, writer)
+            self.function(function, writer)
             if writer.omissions:
                 self.refused[item] = writer.omissions
-            elif any(map(writer.lists.holds_projection, (*fact["inputs"], fact["output"]))):
-                self.unread.add(item)
 
     def writer(self, function, lists):
         writer = BodyWriter(lists, function.generics, function.id.path)
@@ -98,8 +94,6 @@ class CrateFacts:
         """Writes a function's body, if nothing of the function is left out."""
         trial = self.writer(function, Lists(self.items, self.refused))
         trial.omissions += self.refused.get(function.id, [])
-        if function.id in self.unread:
-            trial.leave_out(UNREAD, span_of(function.body["value"]["span"]))
         if function.within == "module":
             trial.body(function.body, 0)
         if trial.omissions:

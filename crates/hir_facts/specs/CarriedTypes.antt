@@ -1,12 +1,8 @@
 -- Types of the carried kinds: they have no holes and no labels.
-use Rattle.std.specs.Prelude.{◌≡◌, ◌<◌, ℕ, zero, suc, Bool, true, false, ◌&&◌, ◌||◌, List, [], ◌∷◌, map, length, slice_get, Option, Some, None, refl}
+use Rattle.std.specs.Prelude.{◌≡◌, ◌<◌, ℕ, zero, suc, Bool, true, false, ◌&&◌, ◌||◌, List, [], ◌∷◌, map, slice_get, Option, Some, refl}
 use Rattle.std.specs.List.{list_all, list_any}
-use Rattle.std.specs.Option.{option_and_then}
 use Rattle.std.proofs.Common.{arith, sym, ◌∙◌, ap, subst}
 use mathlib.Core.Bool.{true≢false}
-use Rattle.hir_types.specs.declared.ids.BodyId.{BodyId}
-use Rattle.hir_types.specs.declared.ids.DefWithBodyId.{DefWithBodyId}
-use Rattle.hir_types.specs.declared.ids.DefWithBodyId.TheVariants as def
 use Rattle.hir_types.specs.declared.ids.TypeRefId.{TypeRefId}
 use Rattle.hir_types.specs.declared.ty.AliasBound.{AliasBound, AliasBound-F, roll-AliasBound}
 use Rattle.hir_types.specs.declared.ids.AdtId.{AdtId}
@@ -22,9 +18,8 @@ use Rattle.hir_types.specs.Types.{integer_type}
 use Rattle.hir_types.specs.Erasure.{erased, arg_erased, erased_step, Same, has_hole, hole_arg, hole_step, hole_bound, hole_trait, IsClosed}
 use Rattle.hir_raw.specs.declared.raw.RawType.{RawType}
 use Rattle.hir_raw.specs.declared.raw.RawType.TheVariants as type
-use Rattle.hir_raw.specs.declared.raw.RawFn.{RawFn}
 use Rattle.hir_raw.specs.declared.raw.RawFacts.{RawFacts}
-use Rattle.hir_plain.specs.Below.{IsLawful, HasNoHole, type_ids, type_there, output_has_no_hole, FitsUnder, OwnFits, own_fits, parts_fit, own_output_fits, body_id_of, output_by, return_type}
+use Rattle.hir_plain.specs.Below.{IsLawful, HasNoHole, type_ids, type_there, FitsUnder, OwnFits, own_fits, parts_fit}
 use Rattle.hir_raw.specs.WrittenTypes.{type_parts, filled_by, filled_within, written_type}
 use Rattle.hir_facts.specs.Filled.{filled_written}
 use Rattle.hir_types.specs.declared.ids.TypeAliasId.{TypeAliasId}
@@ -275,14 +270,3 @@ module _ (raw : RawFacts) (law : IsLawful raw) (count : ℕ) where
   pub written_carried : (t : TypeRefId) → FitsUnder raw count t.0 → HasNoHole raw.types t → IsCarriedType (written_type raw.types t)
   written_carried t fits none =
       subst IsCarriedType (filled_written (λ k. ty.Error) raw.types t none) (within_carried (λ k. ty.Error) (λ k. carried_error) (suc t.0) t.0 (omega arith) fits)
-
-output_carried : (raw : RawFacts) → IsLawful raw → (f : ℕ) (o : Option RawFn) (b : BodyId) → slice_get raw.fns f ≡ o → option_and_then (λ x. x.body) o ≡ Some b → IsCarriedType (output_by raw o)
-output_carried raw law f None b found own = carried_error
-output_carried raw law f (Some x) b found own = written_carried raw law (length x.params) x.output (own_output_fits raw law f x found b own) (output_has_no_hole raw law f x found)
-
--- of a definition with a body
-pub return_carried : (raw : RawFacts) → IsLawful raw → (d : DefWithBodyId) (b : BodyId) → body_id_of raw d ≡ Some b → IsCarriedType (return_type raw d)
-return_carried raw law (def.FunctionId f) b own = output_carried raw law f.0 (slice_get raw.fns f.0) b refl own
-return_carried raw law (def.ConstId c) b own = carried_error
-return_carried raw law (def.StaticId s) b own = carried_error
-return_carried raw law (def.VariantId v) b own = carried_error

@@ -1,7 +1,6 @@
--- Where projections may stand: in goals, impls and other projections, and in what a function without a body takes or gives. Other types that
--- bodies read hold none yet.
-use Rattle.std.specs.Prelude.{ℕ, ◌≡◌, ◌<◌, ◌↔◌, Bool, false, List, length, get_or, slice_get, Option, Some, None, IsTrue}
-use Rattle.hir_types.specs.declared.ids.BodyId.{BodyId}
+-- Where projections may stand: in goals, impls and other projections, and in what a function takes or gives. Other types that bodies read hold
+-- none yet.
+use Rattle.std.specs.Prelude.{ℕ, ◌≡◌, ◌<◌, ◌↔◌, Bool, false, List, length, get_or, slice_get, Some, None, IsTrue}
 use Rattle.hir_types.specs.declared.ids.TypeRefId.{TypeRefId}
 use Rattle.hir_raw.specs.declared.raw.RawType.{RawType}
 use Rattle.hir_raw.specs.declared.raw.RawField.{RawField}
@@ -15,7 +14,7 @@ use Rattle.hir_raw.specs.declared.raw.RawFacts.{RawFacts}
 use Rattle.hir_raw.specs.Order.{stmts_of}
 use Rattle.hir_raw.specs.Hidden.{is_alias}
 use Rattle.hir_raw.specs.WrittenTypes.{type_parts}
-use Rattle.hir_ids.specs.Carried.{is_carried_variant, is_carried_fn, is_carried_body}
+use Rattle.hir_ids.specs.Carried.{is_carried_variant, is_carried_body}
 
 -- a projection stands in type t: it is one, or a type before it that it is made of holds one
 pub data HoldsProjection (types : List RawType) : ℕ → Type 0 where
@@ -38,19 +37,10 @@ pub record VariantIsCarried (raw : RawFacts) (v : RawVariant) : Type 0 where
   pub kind : IsTrue (is_carried_variant v)
   pub fields : (k : ℕ) (f : RawField) → slice_get v.fields k ≡ Some f → IsNoProjection raw f.type_.0
 
--- no input is one, nor is the output
+-- none stands in an input, or in the output
 pub record SignatureNamesNone (raw : RawFacts) (f : RawFn) : Type 0 where
   pub inputs : NameNoProjection raw f.inputs
   pub output : IsNoProjection raw f.output.0
-
--- where it has a body
-abbrev pub BodySignatureNamesNone : RawFacts → RawFn → Option BodyId → Type 0
-BodySignatureNamesNone raw f None = Unit {0}
-BodySignatureNamesNone raw f (Some b) = SignatureNamesNone raw f
-
-pub record FnIsCarried (raw : RawFacts) (f : RawFn) : Type 0 where
-  pub kind : IsTrue (is_carried_fn f)
-  pub signature : BodySignatureNamesNone raw f f.body
 
 -- ---- in bodies
 

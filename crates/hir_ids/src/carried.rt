@@ -3,12 +3,10 @@ ghost use Rattle.std.specs.Prelude.{◌≡◌, length, IsTrue, MatchOption};
 ghost use Rattle.std.specs.List.{list_all};
 ghost use Rattle.hir_ids.specs.Entries.{AllHold, BreaksAt};
 ghost use Rattle.hir_ids.specs.Carried.{is_carried_written_type, is_type_param, is_carried_kind, is_carried_adt, is_carried_ctor, is_carried_variant, is_carried_fn, is_carried_literal, is_carried_path, is_ctor_path, is_carried_stmt, is_carried_expr, is_carried_pat, is_carried_binding, is_carried_body};
-ghost use Rattle.hir_ids.specs.Projections.{AreMarked, VariantIsCarried, FnIsCarried, BodyIsCarried};
+ghost use Rattle.hir_ids.specs.Projections.{AreMarked, VariantIsCarried, BodyIsCarried};
 
 use crate::carried_goals::carries_goals;
-use crate::projections::{
-    ProjectionMarks, body_names_none, body_signature_names_none, fields_name_none,
-};
+use crate::projections::{ProjectionMarks, body_names_none, fields_name_none};
 use crate::test::Test;
 use hir_raw::{
     BindingAnnotation, RawAdt, RawAdtKind, RawAt, RawBinding, RawBody, RawCtor, RawExpr, RawFacts,
@@ -248,7 +246,7 @@ impl Test for AdtsCarried {
     }
 }
 
-/// A variant is of a carried kind, and no field is a projection.
+/// A variant is of a carried kind, and no projection stands in a field.
 #[derive(Drop)]
 pub struct VariantsCarried<'a> {
     pub found: &'a ProjectionMarks,
@@ -274,34 +272,31 @@ impl<'a> Test for VariantsCarried<'a> {
     }
 }
 
-/// A function is of a carried kind, and where it has a body no input or output is a projection.
-#[derive(Drop)]
-pub struct FnsCarried<'a> {
-    pub found: &'a ProjectionMarks,
-}
+/// A function is of a carried kind.
+pub struct FnsCarried;
 
-impl<'a> Test for FnsCarried<'a> {
+impl Test for FnsCarried {
     type Item = RawFn;
 
     ghost listed = { λ raw. raw.fns };
 
-    ghost holds = { λ raw i f. FnIsCarried raw f };
+    ghost holds = { λ raw i f. IsTrue (is_carried_fn f) };
 
-    ghost given = { λ raw s. AreMarked raw.types (length raw.types) s.found.now.marks.items };
+    ghost given = { λ raw s. Unit {0} };
 
     fn test(
         &self,
         _alloc: Global,
-        raw: &RawFacts,
+        _raw: &RawFacts,
         _at: usize,
         item: &RawFn,
     ) -> Result<bool, AllocError> {
-        Ok(carries_fn(item) && body_signature_names_none(raw, self.found, item))
+        Ok(carries_fn(item))
     }
 }
 
-/// The nodes and bindings of a body are of carried kinds, it has no `self`, and no `let` is written with
-/// a projection.
+/// The nodes and bindings of a body are of carried kinds, it has no `self`, and in no type of a `let`
+/// a projection stands.
 #[derive(Drop)]
 pub struct BodiesCarried<'a> {
     pub found: &'a ProjectionMarks,

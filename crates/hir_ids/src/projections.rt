@@ -1,4 +1,4 @@
-//! Where projections may stand: in goals, impls and other projections, and in what a function without a body takes or gives.
+//! Where projections may stand: in goals, impls and other projections, and in what a function takes or gives.
 ghost use Rattle.std.specs.Prelude.{◌≡◌, ◌↔◌, ◌||◌, ℕ, false, get_or, length, IfOk, IsTrue, Some, slice_get};
 ghost use Rattle.std.specs.List.{list_any};
 ghost use Rattle.hir_raw.specs.Hidden.{is_alias};
@@ -6,9 +6,9 @@ ghost use Rattle.hir_raw.specs.WrittenTypes.{type_parts};
 ghost use Rattle.hir_raw.specs.declared.raw.RawField.{RawField};
 ghost use Rattle.hir_raw.specs.declared.raw.RawStmt.{RawStmt};
 ghost use Rattle.hir_raw.specs.Order.{stmts_of};
-ghost use Rattle.hir_ids.specs.Projections.{AreMarked, IsNoProjection, NameNoProjection, SignatureNamesNone, BodySignatureNamesNone, StmtNamesNone, ExprNamesNone, BodyNamesNone};
+ghost use Rattle.hir_ids.specs.Projections.{AreMarked, IsNoProjection, StmtNamesNone, ExprNamesNone, BodyNamesNone};
 
-use hir_raw::{RawBody, RawExpr, RawFacts, RawField, RawFn, RawStmt, RawType};
+use hir_raw::{RawBody, RawExpr, RawFacts, RawField, RawStmt, RawType};
 use hir_types::TypeRefId;
 use std::alloc::{AllocError, Global};
 
@@ -67,13 +67,6 @@ fn is_no_projection(raw: &RawFacts, found: &ProjectionMarks, ty: TypeRefId) -> b
     !is_marked(&found.marks, ty.0 as usize)
 }
 
-fn name_no_projection(raw: &RawFacts, found: &ProjectionMarks, types: &[TypeRefId]) -> bool
-    requires { AreMarked raw.now.types (length raw.now.types) found.now.marks.items }
-    ensures { IsTrue result ↔ NameNoProjection raw.now types.now }
-{
-    types.iter().all(|ty| is_no_projection(raw, found, *ty))
-}
-
 pub fn fields_name_none(raw: &RawFacts, found: &ProjectionMarks, fields: &[RawField]) -> bool
     requires { AreMarked raw.now.types (length raw.now.types) found.now.marks.items }
     ensures { IsTrue result ↔ ((k : ℕ) (f : RawField) → slice_get fields.now k ≡ Some f → IsNoProjection raw.now f.type_.0) }
@@ -81,25 +74,6 @@ pub fn fields_name_none(raw: &RawFacts, found: &ProjectionMarks, fields: &[RawFi
     fields
         .iter()
         .all(|field| is_no_projection(raw, found, field.type_))
-}
-
-fn signature_names_none(raw: &RawFacts, found: &ProjectionMarks, function: &RawFn) -> bool
-    requires { AreMarked raw.now.types (length raw.now.types) found.now.marks.items }
-    ensures { IsTrue result ↔ SignatureNamesNone raw.now function.now }
-{
-    name_no_projection(raw, found, function.inputs.as_slice())
-        && is_no_projection(raw, found, function.output)
-}
-
-/// Where a function has a body, no input is a projection, nor is the output.
-pub fn body_signature_names_none(raw: &RawFacts, found: &ProjectionMarks, function: &RawFn) -> bool
-    requires { AreMarked raw.now.types (length raw.now.types) found.now.marks.items }
-    ensures { IsTrue result ↔ BodySignatureNamesNone raw.now function.now function.now.body }
-{
-    match function.body {
-        Some(_) => signature_names_none(raw, found, function),
-        None => true,
-    }
 }
 
 fn stmt_names_none(raw: &RawFacts, found: &ProjectionMarks, stmt: &RawStmt) -> bool

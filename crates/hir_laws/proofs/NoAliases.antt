@@ -1,16 +1,16 @@
 -- Where no projection stands in what a function takes and gives, none of its parameters stands for one.
-use Rattle.std.specs.Prelude.{◌≡◌, ℕ, zero, suc, ◌+◌, List, [], ◌∷◌, ◌++◌, length, slice_get, Option, Some, None, if◌then◌else◌, flat_map, refl}
-use Rattle.std.proofs.Common.{arith, ap, ◌∙◌}
+use Rattle.std.specs.Prelude.{◌≡◌, ◌<◌, ℕ, zero, suc, ◌+◌, Bool, true, false, List, [], ◌∷◌, ◌++◌, length, slice_get, Option, Some, None, if◌then◌else◌, flat_map, refl}
+use Rattle.std.proofs.Common.{arith, ap, sym, true≢false, ◌∙◌}
 use Rattle.hir_types.specs.declared.ids.TypeRefId.{TypeRefId}
 use Rattle.hir_raw.specs.declared.raw.RawFacts.{RawFacts}
 use Rattle.hir_raw.specs.declared.raw.RawFn.{RawFn}
 use Rattle.hir_raw.specs.declared.raw.RawType.{RawType}
-use Rattle.hir_raw.specs.Hidden.{aliases_by, aliases_within, aliases_at, aliases_in, fn_aliases}
+use Rattle.hir_raw.specs.Hidden.{is_alias, aliases_by, aliases_within, aliases_at, aliases_in, fn_aliases}
 use Rattle.hir_raw.specs.Scope.{fn_arity}
 use Rattle.hir_raw.specs.WrittenTypes.{type_parts}
-use Rattle.hir_ids.specs.Projections.{in_part, IsNoProjection, SignatureNamesNone}
+use Rattle.hir_ids.specs.Projections.{HoldsProjection, is_one, in_part, IsNoProjection, SignatureNamesNone}
 use Rattle.hir_laws.specs.Lawful.{IsLawful}
-use Rattle.hir_laws.specs.LawfulFacts.{type_ids}
+use Rattle.hir_laws.specs.LawfulFacts.{type_ids, fn_ids}
 use Rattle.hir_laws.specs.WrittenFits.{direct_here}
 
 none_of : (f : ℕ → List ℕ) (ws : List TypeRefId) → ((k : ℕ) (w : TypeRefId) → slice_get ws k ≡ Some w → f w.0 ≡ []) → flat_map (λ w. f w.0) ws ≡ []
@@ -40,3 +40,39 @@ module _ (raw : RawFacts) (law : IsLawful raw) where
 
   pub own_arity : (x : RawFn) → SignatureNamesNone raw x → fn_arity raw.types x ≡ length x.params
   own_arity x names = ap (λ ks. length x.params + length ks) (no_aliases x names) ∙ no_more (length x.params)
+
+-- ---- where none is among them, none stands there
+
+both_none : (xs ys : List ℕ) → xs ++ ys ≡ [] → (xs ≡ []) × (ys ≡ [])
+both_none [] ys h = (refl, h)
+both_none (x ∷ xs) ys h = absurd (cc)
+
+none_in : (f : ℕ → List ℕ) (ws : List TypeRefId) → flat_map (λ w. f w.0) ws ≡ [] → (k : ℕ) (w : TypeRefId) → slice_get ws k ≡ Some w → f w.0 ≡ []
+none_in f [] none k w at = absurd (cc)
+none_in f (v ∷ ws) none zero w at = (let same : v ≡ w = cc in ap (λ (u : TypeRefId). f u.0) (sym same) ∙ (both_none (f v.0) (flat_map (λ u. f u.0) ws) none).0)
+none_in f (v ∷ ws) none (suc k) w at = none_in f ws (both_none (f v.0) (flat_map (λ u. f u.0) ws) none).1 k w at
+
+module _ (types : List RawType) where
+  free_parts : (b : Bool) (i : ℕ) (ks : List ℕ) → (if b then i ∷ [] else ks) ≡ [] → ks ≡ []
+  free_parts true i ks h = absurd (cc)
+  free_parts false i ks h = h
+
+  free_type : (b : Bool) (i : ℕ) (ks : List ℕ) → (if b then i ∷ [] else ks) ≡ [] → b ≡ true → ⊥
+  free_type true i ks h is = cc
+  free_type false i ks h is = true≢false (sym is)
+
+  held_is_found : (i : ℕ) → HoldsProjection types i → (n : ℕ) → i < n → aliases_within n types i ≡ [] → ⊥
+  held_is_found i held zero lt none = absurd (omega (arith, lt))
+  held_is_found i (is_one _ x at alias) (suc n) lt none =
+      free_type (is_alias x) i (flat_map (λ w. aliases_within n types w.0) (type_parts x)) (ap (aliases_by i (aliases_within n types)) (sym at) ∙ none) alias
+  held_is_found i (in_part _ x k u at here before deeper) (suc n) lt none =
+      held_is_found u.0 deeper n (omega (arith, before, lt))
+      (none_in (aliases_within n types) (type_parts x) (free_parts (is_alias x) i (flat_map (λ w. aliases_within n types w.0) (type_parts x)) (ap (aliases_by i (aliases_within n types)) (sym at) ∙ none)) k u here)
+
+pub names_none : (raw : RawFacts) → IsLawful raw → (f : ℕ) (x : RawFn) → slice_get raw.fns f ≡ Some x → fn_aliases raw.types x ≡ [] → SignatureNamesNone raw x
+names_none raw law f x found none =
+    let both = both_none (aliases_in raw.types x.inputs) (aliases_at raw.types x.output.0) none in
+    record {
+      inputs = λ k w at held. held_is_found raw.types w.0 held (length raw.types) ((fn_ids raw law f x found).inputs k w at) (none_in (aliases_within (length raw.types) raw.types) x.inputs both.0 k w at);
+      output = λ held. held_is_found raw.types x.output.0 held (length raw.types) (fn_ids raw law f x found).output both.1;
+    }

@@ -1,12 +1,11 @@
 -- Each written type that bodies read fits under the parameters of its definition: arguments are as many as the parameters of
--- what they stand at, parameters are in range, and no projection stands in it, but in what a function without a body takes or gives.
-use Rattle.std.specs.Prelude.{◌≡◌, ◌<◌, ◌≤◌, ◌==◌, ℕ, Bool, true, false, List, [], length, slice_get, Option, Some, None, option_map, refl, if◌then◌else◌}
+-- what they stand at, parameters are in range, and no projection stands in it, but in what a function takes or gives.
+use Rattle.std.specs.Prelude.{◌≡◌, ◌<◌, ◌≤◌, ◌==◌, ℕ, Bool, true, false, List, length, slice_get, Option, Some, None, option_map, refl, if◌then◌else◌}
 use Rattle.std.specs.Option.{option_and_then}
 use Rattle.std.proofs.Common.{arith, ap, ◌∙◌, subst}
 use Rattle.hir_types.specs.declared.ids.BodyId.{BodyId}
 use Rattle.hir_types.specs.declared.ids.ExprId.{ExprId}
 use Rattle.hir_types.specs.declared.ids.PatId.{PatId}
-use Rattle.hir_types.specs.declared.ids.FunctionId.{FunctionId}
 use Rattle.hir_types.specs.declared.ids.TypeRefId.{TypeRefId}
 use Rattle.hir_types.specs.declared.ids.DefWithBodyId.{DefWithBodyId}
 use Rattle.hir_types.specs.declared.ids.DefWithBodyId.TheVariants as def
@@ -24,12 +23,12 @@ use Rattle.hir_raw.specs.Hidden.{is_alias}
 use Rattle.hir_raw.specs.WrittenTypes.{type_parts}
 use Rattle.hir_raw.specs.Order.{stmts_of, stmt_at}
 use Rattle.hir_raw.specs.Scope.{adt_params, has_params, params_of, count_or_none}
-use Rattle.hir_laws.specs.Bodies.{body_of, body_id_of, inputs_by, inputs_of}
+use Rattle.hir_laws.specs.Bodies.{body_of}
 use Rattle.hir_counts.specs.Standing.{param_bound, wrong_count, wrong_args, params_in, wrongs_in}
 use Rattle.hir_counts.specs.Counts.{TypeFits, ExprFits, BodyFits, MaybeBodyFits, body_at, param_count}
 use Rattle.hir_laws.specs.Lawful.{IsLawful}
-use Rattle.hir_ids.specs.Projections.{is_one, in_part, IsNoProjection, SignatureNamesNone, BodySignatureNamesNone, ExprNamesNone}
-use Rattle.hir_laws.specs.LawfulFacts.{carried_variants, carried_fns, carried_bodies, type_ids, variant_ids, variants_fit, fn_ids, fns_fit, body_ids}
+use Rattle.hir_ids.specs.Projections.{is_one, in_part, IsNoProjection, SignatureNamesNone, ExprNamesNone}
+use Rattle.hir_laws.specs.LawfulFacts.{carried_variants, carried_bodies, type_ids, variant_ids, variants_fit, fn_ids, fns_fit, body_ids}
 use Rattle.hir_counts.specs.Most.{own_most, part_most}
 
 -- type t of the facts fits under this many parameters
@@ -135,15 +134,12 @@ inputs_fit raw law f x found k t here = (let fit = (fns_fit raw law f x found).i
 pub output_fits : (raw : RawFacts) → IsLawful raw → (f : ℕ) (x : RawFn) → slice_get raw.fns f ≡ Some x → FitsThere raw (length x.params) x.output.0
 output_fits raw law f x found = (let fit = (fns_fit raw law f x found).output in record { within = (fn_ids raw law f x found).output; params = fit.0; args = fit.1 })
 
--- where it has a body, none is a projection
-pub own_signature_direct : (raw : RawFacts) → IsLawful raw → (f : ℕ) (x : RawFn) → slice_get raw.fns f ≡ Some x → (b : BodyId) → x.body ≡ Some b → SignatureNamesNone raw x
-own_signature_direct raw law f x found b own = subst (BodySignatureNamesNone raw x) own (carried_fns raw law f x found).signature
+-- where no projection stands in them
+pub direct_inputs_fit : (raw : RawFacts) → IsLawful raw → (f : ℕ) (x : RawFn) → slice_get raw.fns f ≡ Some x → SignatureNamesNone raw x → (k : ℕ) (t : TypeRefId) → slice_get x.inputs k ≡ Some t → FitsUnder raw (length x.params) t.0
+direct_inputs_fit raw law f x found none k t here = fits_direct raw (length x.params) t.0 (inputs_fit raw law f x found k t here) (none.inputs k t here)
 
-pub own_inputs_fit : (raw : RawFacts) → IsLawful raw → (f : ℕ) (x : RawFn) → slice_get raw.fns f ≡ Some x → (b : BodyId) → x.body ≡ Some b → (k : ℕ) (t : TypeRefId) → slice_get x.inputs k ≡ Some t → FitsUnder raw (length x.params) t.0
-own_inputs_fit raw law f x found b own k t here = fits_direct raw (length x.params) t.0 (inputs_fit raw law f x found k t here) ((own_signature_direct raw law f x found b own).inputs k t here)
-
-pub own_output_fits : (raw : RawFacts) → IsLawful raw → (f : ℕ) (x : RawFn) → slice_get raw.fns f ≡ Some x → (b : BodyId) → x.body ≡ Some b → FitsUnder raw (length x.params) x.output.0
-own_output_fits raw law f x found b own = fits_direct raw (length x.params) x.output.0 (output_fits raw law f x found) (own_signature_direct raw law f x found b own).output
+pub direct_output_fits : (raw : RawFacts) → IsLawful raw → (f : ℕ) (x : RawFn) → slice_get raw.fns f ≡ Some x → SignatureNamesNone raw x → FitsUnder raw (length x.params) x.output.0
+direct_output_fits raw law f x found none = fits_direct raw (length x.params) x.output.0 (output_fits raw law f x found) none.output
 
 -- ---- the fields of a variant
 
@@ -153,26 +149,6 @@ fields_fit raw law v x a found adt k f here =
     let fit : TypeFits (params_in raw) (wrongs_in raw) (length a.params) f.type_ =
     subst (λ (o : Option RawAdt). TypeFits (params_in raw) (wrongs_in raw) (param_count o) f.type_) adt ((variants_fit raw law v x found).fields k f here) in
     fits_under raw (length a.params) f.type_ ((variant_ids raw law v x found).here.fields k f here).written ((carried_variants raw law v x found).fields k f here) fit
-
--- ---- the types of a definition
-
-input_at : (raw : RawFacts) → IsLawful raw → (f : ℕ) (o : Option RawFn) (b : BodyId) → slice_get raw.fns f ≡ o → option_and_then (λ x. x.body) o ≡ Some b → (k : ℕ) (t : TypeRefId) → slice_get (inputs_by o) k ≡ Some t
-    → FitsUnder raw (count_or_none (option_map (λ x. length x.params) o)) t.0
-input_at raw law f None b found own k t here = absurd (cc)
-input_at raw law f (Some x) b found own k t here = own_inputs_fit raw law f x found b own k t here
-
-no_input : (raw : RawFacts) (k : ℕ) (t : TypeRefId) → slice_get [] k ≡ Some t → FitsUnder raw 0 t.0
-no_input raw k t here = absurd (cc)
-
--- which has a body
-pub definition_inputs_fit : (raw : RawFacts) → IsLawful raw → (d : DefWithBodyId) (b : BodyId) → body_id_of raw d ≡ Some b → (k : ℕ) (t : TypeRefId) → slice_get (inputs_of raw d) k ≡ Some t → FitsUnder raw (params_of raw d) t.0
-definition_inputs_fit raw law (def.FunctionId f) b own k t here = input_at raw law f.0 (slice_get raw.fns f.0) b refl own k t here
-definition_inputs_fit raw law (def.ConstId c) b own k t here = no_input raw k t here
-definition_inputs_fit raw law (def.StaticId s) b own k t here = no_input raw k t here
-definition_inputs_fit raw law (def.VariantId v) b own k t here = no_input raw k t here
-
-pub return_fits : (raw : RawFacts) → IsLawful raw → (f : FunctionId) (x : RawFn) → slice_get raw.fns f.0 ≡ Some x → (b : BodyId) → x.body ≡ Some b → FitsUnder raw (params_of raw (def.FunctionId f)) x.output.0
-return_fits raw law f x found b own = rw found (own_output_fits raw law f.0 x found b own)
 
 -- ---- the types that are written in its body
 

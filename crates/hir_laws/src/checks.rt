@@ -51,8 +51,7 @@ fn check_items(alloc: Global, raw: &RawFacts) -> Result<(), FactsError>
     let test = VariantsCarried { found: &found };
     let variants = first_broken(alloc, &test, raw, raw.variants.as_slice())?;
     allow(Law::Carried, FactsList::Variants, variants)?;
-    let test = FnsCarried { found: &found };
-    let fns = first_broken(alloc, &test, raw, raw.fns.as_slice())?;
+    let fns = first_broken(alloc, &FnsCarried, raw, raw.fns.as_slice())?;
     allow(Law::Carried, FactsList::Fns, fns)?;
     Ok(())
 }

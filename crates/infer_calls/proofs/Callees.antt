@@ -239,7 +239,7 @@ module _ (g : Given) (s : Schedule) (called : ExprId) (t u : Ty) (old mid : Infe
   -- what it tells, as far as it is known
   pub known_tells : IsReady g s → Tells g called u
   known_tells ready = record {
-    type = λ v up. is ∙ type_kept g (λ i w found a. carried_closed a _ (ready.written.inputs i w found).carried) outputs (resolution (bindings mid.goals.table)) called t v d.tells up;
+    type = λ v up. is ∙ type_kept g (λ i u found a. carried_closed a u (ready.written.inputs i u found).carried) outputs (resolution (bindings mid.goals.table)) called t v d.tells up;
     head = known_head;
   }
     where

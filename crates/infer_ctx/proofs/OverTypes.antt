@@ -2,7 +2,7 @@
 use Rattle.std.specs.Prelude.{nat_lt}
 use Rattle.std.specs.List.{list_all}
 use Rattle.std.specs.Cmp.{first_so, second_so}
-use Rattle.std.proofs.Common.{◌≡◌, List, refl, [], ◌∷◌, ℕ, length, Bool, true, sym, ap, subst, ◌∙◌, true≢false, map, ◌&&◌}
+use Rattle.std.proofs.Common.{◌≡◌, List, Option, Some, None, refl, [], ◌∷◌, ℕ, length, Bool, true, sym, ap, subst, ◌∙◌, true≢false, map, ◌&&◌}
 use Rattle.hir_types.specs.declared.ty.AliasBound.{AliasBound}
 use Rattle.hir_types.specs.declared.ty.TraitRef.{TraitRef}
 use Rattle.hir_types.specs.declared.ty.GenericArg.{GenericArg, GenericArg-F, map-GenericArg, roll-GenericArg, fold-roll-GenericArg}
@@ -31,8 +31,9 @@ use Rattle.hir_facts.specs.CarriedTypes.{carried_arg, carried_step, carried_boun
 use Rattle.infer_table.specs.Preserved.{whole, part, rest, IsMadeOf}
 use Rattle.infer_table.specs.Solutions.{Respects}
 use Rattle.infer_table.specs.Table.{State, HolesAreOf}
-use Rattle.infer_ctx.specs.Fine.{item_params, is_fine_head, HasFineHeads, IsFine, Every}
-use Rattle.infer_ctx.specs.Closings.{IsClosing}
+use Rattle.infer_ctx.specs.Fine.{IsFineExpectation, item_params, is_fine_head, HasFineHeads, IsFine, Every}
+use Rattle.infer_ctx.specs.Closings.{IsClosing, expected_under}
+use Rattle.infer_ctx.specs.Context.{IsCarriedExpectation}
 use Rattle.infer_ctx.proofs.FineTypes.{parts_width, all_holes, no_holes}
 use Rattle.infer_ctx.proofs.MadeHoles.{node_holes_are_of}
 use Rattle.hir_types.specs.declared.ids.TypeAliasId.{TypeAliasId}
@@ -339,3 +340,13 @@ module _ (a : Assignment) where
     param = λ n. replaced_param (with_holes a) n;
     associated = λ id ts h. associated_closed a id ts ∙ ap (λ us. ty.AssociatedType id (type_args us)) (all_closed ts h);
   })
+
+-- so does what is expected, if anything
+pub expected_closed : (a : Assignment) (x : Option Ty) → IsCarriedExpectation x → expected_under a x ≡ x
+expected_closed a None h = refl
+expected_closed a (Some t) h = ap (λ (u : Ty). Some u) (carried_closed a t h)
+
+-- and it is fine whatever the table
+pub fine_later : (sc : Scope) (old new : State) (x : Option Ty) → IsCarriedExpectation x → IsFineExpectation sc old x → IsFineExpectation sc new x
+fine_later sc old new None h k = tt
+fine_later sc old new (Some t) h k = carried_fine new sc t h k.heads

@@ -238,10 +238,14 @@ module _ (g : Given) where
 
 -- ---- bindings
 
+-- the type is that of the parameter, if that is known
+abbrev pub IsInputIfKnown : Given → ℕ → Ty → Type 0
+IsInputIfKnown g i t = (u : Ty) → IsInput g i u → t ≡ u
+
 -- the same for a pattern in this role; nothing where what it binds has no type by itself
 abbrev RoleTells : Given → Role → Ty → Type 0
 RoleTells g (let_pattern w init) t = TellsLet g w init t
-RoleTells g (parameter i) t = IsInput g i t
+RoleTells g (parameter i) t = IsInputIfKnown g i t
 RoleTells g _ t = Unit {0}
 
 plus_zero : (n : ℕ) → n ≡ n + 0
@@ -296,22 +300,18 @@ module _ (g : Given) (s : Schedule) (law : IsWalkable g.body s) where
       let_is : (w : Option TypeRefId) (init : Option ExprId) → NamesLet g.body e w init → RoleTells g (let_pattern w init) t
       let_is w init l = role_is l.binding l.pattern l.parent l.at_part (let_pattern w init) l.names l.binds l.stands
 
-      parameter_is : (i : ℕ) → NamesParameter g.body e i → IsInput g i t
+      parameter_is : (i : ℕ) → NamesParameter g.body e i → IsInputIfKnown g i t
       parameter_is i l = role_is l.binding l.pattern the_body i (parameter i) l.names l.binds (param_stands g.body i l.pattern l.stands)
-
-      one_input : (i : ℕ) (u : Ty) → IsInput g i t → IsInput g i u → t ≡ u
-      one_input i u (w, found, here) (x, again, there) =
-          (let same : w ≡ x = cc in here ∙ (ap (λ w. written_type g.scope.facts.types w) same ∙ sym there))
 
       local_type : (u : Ty) → LocalUp g e u → t ≡ u
       local_type u (by_written w init l none there) = (let (h, here) = let_is (Some w) init l in here ∙ (filled_written h g.scope.facts.types w none ∙ sym there))
       local_type u (by_initializer i l up) = (let_is None (Some i) l).type u up
-      local_type u (by_parameter i l input) = one_input i u (parameter_is i l) input
+      local_type u (by_parameter i l input) = parameter_is i l u input
 
       local_head : (h : Outermost) → LocalHead g e h → HasHead t h
       local_head h (head_by_written w init l has) = (let (f, here) = let_is (Some w) init l in subst (λ x. HasHead x h) (sym here) (filled_head f g.scope.facts.types w h has))
       local_head h (head_by_initializer i l has) = (let_is None (Some i) l).head h has
-      local_head h (head_by_parameter i u l input has) = subst (λ x. HasHead x h) (sym (one_input i u (parameter_is i l) input)) has
+      local_head h (head_by_parameter i u l input has) = subst (λ x. HasHead x h) (sym (parameter_is i l u input)) has
 
       path_tells : Tells g e t
       path_tells = tells_by g e (Some (expr.Path (path.Local v))) is t local_type local_head
@@ -322,10 +322,10 @@ module _ (g : Given) (s : Schedule) (law : IsWalkable g.body s) where
   pub let_tells : (n : Node) (k : ℕ) (p : PatId) (w : Option TypeRefId) (init : Option ExprId) → StandsAt g.body (node.PatId p) n k (let_pattern w init) → (t : Ty) → TellsLet g w init t → TellsBound g p t
   let_tells n k p w init stands t tells = role_tells n k p (let_pattern w init) stands t tells
 
-  pub param_tells : (n : Node) (k i : ℕ) (p : PatId) → StandsAt g.body (node.PatId p) n k (parameter i) → (t : Ty) → IsInput g i t → TellsBound g p t
+  pub param_tells : (n : Node) (k i : ℕ) (p : PatId) → StandsAt g.body (node.PatId p) n k (parameter i) → (t : Ty) → IsInputIfKnown g i t → TellsBound g p t
   param_tells n k i p stands t input = role_tells n k p (parameter i) stands t input
 
-  pub param_at_tells : (i : ℕ) (p : PatId) → slice_get g.body.params i ≡ Some p → (t : Ty) → IsInput g i t → TellsBound g p t
+  pub param_at_tells : (i : ℕ) (p : PatId) → slice_get g.body.params i ≡ Some p → (t : Ty) → IsInputIfKnown g i t → TellsBound g p t
   param_at_tells i p found t input = param_tells the_body i i p (param_stands g.body i p found) t input
 
   -- what an arm's pattern, or a part of a pattern, binds has no type by itself

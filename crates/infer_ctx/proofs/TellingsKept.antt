@@ -78,13 +78,13 @@ literal_closed a literal.Other s own = absurd own
 
 -- ---- types that expressions have by themselves
 
--- where no `_` stands in the types of the parameters, and no hole in the output of what is called
-module _ (g : Given) (inputs : (i : ℕ) (w : TypeRefId) → slice_get g.inputs i ≡ Some w → (a : Assignment) → folded a (written_type g.scope.facts.types w) ≡ written_type g.scope.facts.types w) (outputs : (e : ExprId) (σ : Signature) → CallsNonGeneric g e σ → (a : Assignment) → folded a σ.output ≡ σ.output) (a : Assignment) where
+-- where no hole stands in the types of the parameters, nor in the output of what is called
+module _ (g : Given) (inputs : (i : ℕ) (t : Ty) → slice_get g.inputs i ≡ Some (Some t) → (a : Assignment) → folded a t ≡ t) (outputs : (e : ExprId) (σ : Signature) → CallsNonGeneric g e σ → (a : Assignment) → folded a σ.output ≡ σ.output) (a : Assignment) where
   pub up_closed : (e : ExprId) (s : Ty) → Up g e s → folded a s ≡ s
   up_closed m r (of_literal e l s is own) = literal_closed a l s own
   up_closed m r (of_written e w init n none) = written_closed g.scope.facts.types w none a
   up_closed m r (of_initializer e i s n u) = up_closed i s u
-  up_closed m r (of_parameter e i s n (w, found, is)) = closed_by a s (written_type g.scope.facts.types w) is (inputs i w found a)
+  up_closed m r (of_parameter e i s n found) = inputs i s found a
   up_closed m r (of_call e σ c) = instance_at_types a [] σ.output (outputs e σ c)
   up_closed m r (of_unit e x n) = adt_closed a x.adt
 

@@ -1,30 +1,23 @@
 -- Written types of lawful facts are of carried kinds, and in scope where they stand.
-use Rattle.std.proofs.Common.{ℕ, zero, suc, ◌<◌, ◌≡◌, arith, IsTrue, refl, sym, ap, subst, ◌∙◌, true≢false, List, [], ◌∷◌, map, Option, Some, slice_get, option_and_then, None, Bool}
+use Rattle.std.proofs.Common.{ℕ, zero, suc, ◌<◌, ◌≡◌, arith, IsTrue, refl, sym, ap, subst, ◌∙◌, true≢false, List, [], ◌∷◌, map, Option, Some, slice_get, Bool}
 use Rattle.std.proofs.lemmas.Bool.{lt-ltb}
 use Rattle.std.proofs.lemmas.List.{length-map}
 use Rattle.hir_types.specs.declared.ids.TypeRefId.{TypeRefId}
 use Rattle.hir_types.specs.declared.ty.GenericArg.{GenericArg}
 use Rattle.hir_types.specs.declared.ty.Ty.{Ty}
 use Rattle.hir_types.specs.Folds.{map_twice}
-use Rattle.hir_types.specs.declared.ids.BodyId.{BodyId}
-use Rattle.hir_types.specs.declared.ids.FunctionId.{FunctionId}
-use Rattle.hir_types.specs.declared.ids.DefWithBodyId.{DefWithBodyId}
 use Rattle.hir_types.specs.declared.ty.GenericArg.TheVariants as arg
 use Rattle.hir_types.specs.declared.ty.Ty.TheVariants as ty
-use Rattle.hir_types.specs.declared.ids.DefWithBodyId.TheVariants as def
 use Rattle.hir_raw.specs.declared.raw.RawFacts.{RawFacts}
 use Rattle.hir_raw.specs.declared.raw.RawType.{RawType}
 use Rattle.hir_facts.specs.CarriedTypes.{written_carried, carried_param}
 use Rattle.hir_laws.specs.LawfulFacts.{type_ids, types_carried}
 use Rattle.hir_laws.specs.Lawful.{IsLawful}
-use Rattle.hir_raw.specs.Scope.{Scope, adt_params, has_params, params_of, scope_of, has_associated}
+use Rattle.hir_raw.specs.Scope.{Scope, adt_params, has_params}
 use Rattle.hir_raw.specs.WrittenTypes.{type_parts, written_type, filled_by, filled_within, filled_type, StandsIn, is_itself, in_part}
 use Rattle.hir_facts.specs.Filled.{filled_written}
 use Rattle.hir_laws.specs.Below.{HasNoHole, is_carried_written_type}
-use Rattle.hir_laws.specs.WrittenFits.{FitsUnder, OwnFits, own_fits, parts_fit, return_fits}
-use Rattle.hir_raw.specs.declared.raw.RawFn.{RawFn}
-use Rattle.hir_laws.specs.Bodies.{output_by, body_id_of, return_type}
-use Rattle.hir_laws.specs.NoHoles.{output_has_no_hole}
+use Rattle.hir_laws.specs.WrittenFits.{FitsUnder, OwnFits, own_fits, parts_fit}
 use Rattle.hir_raw.specs.declared.raw.RawType.TheVariants as type
 use Rattle.infer_table.specs.Table.{State, new_state}
 use Rattle.infer_ctx.specs.Fine.{HasFineHeads, IsFine, IsWritten, AllFine}
@@ -87,14 +80,3 @@ module _ (raw : RawFacts) (law : IsLawful raw) (count : ℕ) (associated : Bool)
 
 pub written_fine : (sc : Scope) (state : State) (w : TypeRefId) → IsWritten sc w → IsFine sc state (written_type sc.facts.types w)
 written_fine sc state w h = carried_fine state sc (written_type sc.facts.types w) h.carried h.heads
-
--- ---- what a definition gives
-fn_heads : (raw : RawFacts) → IsLawful raw → (f : FunctionId) (o : Option RawFn) (i : BodyId) → slice_get raw.fns f.0 ≡ o → option_and_then (λ x. x.body) o ≡ Some i → HasFineHeads (scope_of raw (def.FunctionId f)) (output_by raw o)
-fn_heads raw law f None i e h = absurd (cc)
-fn_heads raw law f (Some x) i e h = written_heads raw law (params_of raw (def.FunctionId f)) (has_associated raw (def.FunctionId f)) x.output (return_fits raw law f x e i h) (output_has_no_hole raw law f.0 x e)
-
-pub output_heads : (raw : RawFacts) → IsLawful raw → (d : DefWithBodyId) (i : BodyId) → body_id_of raw d ≡ Some i → HasFineHeads (scope_of raw d) (return_type raw d)
-output_heads raw law (def.FunctionId f) i h = fn_heads raw law f (slice_get raw.fns f.0) i refl h
-output_heads raw law (def.ConstId c) i h = absurd (cc)
-output_heads raw law (def.StaticId s) i h = absurd (cc)
-output_heads raw law (def.VariantId v) i h = absurd (cc)

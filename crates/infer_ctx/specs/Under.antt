@@ -9,7 +9,7 @@ use Rattle.hir_types.specs.declared.ids.PatId.{PatId}
 use Rattle.hir_types.specs.declared.ids.TypeRefId.{TypeRefId}
 use Rattle.hir_types.specs.declared.ids.CallableDefId.TheVariants as callable
 use Rattle.hir_raw.specs.declared.raw.RawFacts.{RawFacts}
-use Rattle.hir_raw.specs.Scope.{Scope, callable_params, adt_params, types_scope}
+use Rattle.hir_raw.specs.Scope.{callable_params, adt_params, types_scope}
 use Rattle.hir_raw.specs.Signatures.{Signature, signature_of, field_types}
 use Rattle.hir_raw.specs.declared.raw.RawVariant.{RawVariant}
 use Rattle.hir_laws.specs.WrittenFits.{FitsUnder}
@@ -27,7 +27,7 @@ use Rattle.infer_result.specs.Places.{Given, IsAtOrMismatch}
 use Rattle.infer_result.specs.Table.{HasTy}
 use Rattle.infer_result.specs.declared.result.InferenceResult.{InferenceResult}
 use Rattle.infer_result.specs.Rules.{ObeysOrMismatch}
-use Rattle.infer_ctx.specs.Fine.{IsCarriedIn, IsWritten}
+use Rattle.infer_ctx.specs.Fine.{IsCarriedIn}
 use Rattle.infer_ctx.specs.Found.{Found}
 use Rattle.infer_ctx.specs.Context.{IsCarriedExpectation}
 use Rattle.infer_ctx.specs.Walks.{IsWalked, expr_start, Walks, Owed, expr_end, Extends, PaidBy}
@@ -49,11 +49,11 @@ pub record IsVariant (facts : RawFacts) (v : VariantId) : Type 0 where
   pub fields : (k : ℕ) (t : Ty) → slice_get (field_types facts.types variant) k ≡ Some t → IsCarriedIn (types_scope facts params) t
   pub unnamed : (variant.ctor ≡ ctor.Unit) ⊎ (variant.ctor ≡ ctor.Tuple)
 
--- each type that a `let` of the body or a parameter is written with is one of the facts', each function and constructor that is
--- named exists, and so does each item that has a signature
+-- each type that a `let` of the body is written with is one of the facts', that of a parameter is in scope, each function and constructor that
+-- is named exists, and so does each item that has a signature
 pub record WrittenExist (g : Given) : Type 0 where
   pub lets : (e : ExprId) (i : ℕ) (p : PatId) (w : TypeRefId) (init other : Option ExprId) → stmt_at g.body e i ≡ Some (stmt.Let p (Some w) init other) → FitsUnder g.scope.facts g.scope.params w.0
-  pub inputs : (i : ℕ) (w : TypeRefId) → slice_get g.inputs i ≡ Some w → IsWritten g.scope w
+  pub inputs : (i : ℕ) (t : Ty) → slice_get g.inputs i ≡ Some (Some t) → IsCarriedIn g.scope t
   pub functions : (e : ExprId) (f : FunctionId) → slice_get g.body.exprs e.0 ≡ Some (expr.Path (path.Function f)) → IsItem g.scope.facts (callable.FunctionId f)
   pub constructors : (e : ExprId) (v : VariantId) → NamesVariant g.body e v → IsVariant g.scope.facts v
   pub patterns : (p : PatId) (v : VariantId) → IsVariantPat g.body p v → IsVariant g.scope.facts v

@@ -6,8 +6,10 @@ ghost use Rattle.hir_raw.specs.Signatures.{fn_types};
 ghost use Rattle.hir_raw.specs.declared.raw.RawFn.{RawFn};
 ghost use Rattle.hir_raw.specs.declared.raw.RawVariant.{RawVariant};
 ghost use Rattle.hir_types.specs.declared.ty.Ty.TheVariants as ty;
+ghost use Rattle.infer_ctx.specs.Context.{expected_type};
 ghost use Rattle.infer_ctx.specs.Callables.{written_at, field_at, IsFnSig, IsCtorSig, IsCallableItem, IsSigOfItem, ItemsAreCallable, IsSigIfItem};
 
+use crate::expectation::Expectation;
 use hir_facts::{
     DefWithBodyId, Facts, FunctionId, List, RawBody, RawFn, Schedule, Ty, TypeRefId, VariantId,
     fn_aliases, lower_opened, lower_ty,
@@ -27,10 +29,10 @@ pub struct GivenBody<'a> {
     pub body: &'a RawBody,
     /// The order in which the walk comes to the nodes of the body.
     pub schedule: &'a Schedule,
-    /// The written types of the parameters.
-    pub inputs: &'a [TypeRefId],
-    /// The type that the body is typed against.
-    pub return_ty: &'a Ty,
+    /// The types of the parameters, each where the body knows of one.
+    pub inputs: &'a [Option<Ty>],
+    /// The type that the body is typed against, if it knows of one.
+    pub return_ty: &'a Option<Ty>,
 }
 
 /// What a callable item takes and gives.
@@ -63,7 +65,35 @@ fn dup_args(alloc: Global, args: &List<GenericArg>) -> Result<List<GenericArg>, 
     Ok(copies)
 }
 
+/// An equal copy.
+fn dup_known(alloc: Global, ty: &Option<Ty>) -> Result<Option<Ty>, AllocError>
+    ensures { IfOk result (λ copy. copy ≡ ty.now) }
+{
+    match ty {
+        Some(ty) => Ok(Some(ty.dup(alloc)?)),
+        None => Ok(None),
+    }
+}
+
 impl GivenBody<'_> {
+    /// The type of a parameter, if the body knows of one.
+    pub fn input_ty(&self, alloc: Global, at: usize) -> Result<Option<Ty>, AllocError>
+        requires { at < length self.now.inputs.now }
+        ensures { IfOk result (λ ty. slice_get self.now.inputs.now at ≡ Some ty) }
+    {
+        dup_known(alloc, &self.inputs[at])
+    }
+
+    /// What is expected of the root: `infer.rs`, where `infer_body` takes `return_ty`.
+    pub fn return_expectation(&self) -> Expectation<'_>
+        ensures { expected_type result ≡ self.now.return_ty.now }
+    {
+        match self.return_ty {
+            Some(ty) => Expectation::HasType(ty),
+            None => Expectation::None,
+        }
+    }
+
     /// The type that a written type stands for in which no `_` stands: `hir-ty`'s `lower_ty`.
     pub fn lower_ty(&self, alloc: Global, type_ref: TypeRefId) -> Result<Ty, AllocError>
         requires { type_ref.0 < length self.now.facts.now.types }

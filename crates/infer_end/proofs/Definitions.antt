@@ -1,20 +1,18 @@
--- The body of a definition of lawful facts, and its return type.
+-- The body of a definition of lawful facts, and the types of what the definition takes and gives.
 use Rattle.std.specs.Option.{option_and_then}
-use Rattle.std.proofs.Common.{◌≡◌, ap, ◌∙◌, Some, slice_get, ◌<◌, length, ℕ, inl, inr, sym, List, subst}
+use Rattle.std.proofs.Common.{◌≡◌, ap, ◌∙◌, refl, Option, Some, None, slice_get, ◌<◌, length, ℕ, inl, inr, List}
 use Rattle.hir_types.specs.declared.ids.BodyId.{BodyId}
 use Rattle.hir_types.specs.declared.ids.DefWithBodyId.{DefWithBodyId}
 use Rattle.hir_types.specs.declared.ids.VariantId.{VariantId}
 use Rattle.hir_types.specs.declared.ids.PatId.{PatId}
-use Rattle.hir_types.specs.declared.ids.TypeRefId.{TypeRefId}
 use Rattle.hir_types.specs.declared.ty.Ty.{Ty}
 use Rattle.hir_raw.specs.declared.raw.RawBody.{RawBody}
 use Rattle.hir_raw.specs.declared.raw.RawFacts.{RawFacts}
-use Rattle.hir_laws.specs.Bodies.{body_id_of, body_of, inputs_of, return_type, IsWalkable}
+use Rattle.hir_laws.specs.Bodies.{body_id_of, body_of, IsWalkable}
 use Rattle.hir_raw.specs.declared.raw.RawVariant.{RawVariant}
 use Rattle.hir_ids.specs.Ids.{BodyIdsExist}
-use Rattle.hir_raw.specs.Scope.{params_of, scope_of, has_associated}
-use Rattle.hir_laws.specs.NoHoles.{definition_input_has_no_hole}
-use Rattle.hir_laws.specs.WrittenFits.{lets_fit, definition_inputs_fit}
+use Rattle.hir_raw.specs.Scope.{scope_of}
+use Rattle.hir_laws.specs.WrittenFits.{lets_fit}
 use Rattle.hir_laws.specs.LawfulFacts.{body_ids}
 use Rattle.hir_laws.proofs.Walkable.{inputs_count}
 use Rattle.hir_laws.specs.Lawful.{IsLawful}
@@ -23,15 +21,19 @@ use Rattle.hir_raw.specs.declared.raw.RawPath.TheVariants as path
 use Rattle.hir_raw.specs.declared.raw.RawPat.TheVariants as pat
 use Rattle.infer_result.specs.Closed.{IsVariantPat}
 use Rattle.infer_result.specs.declared.result.InferenceResult.{InferenceResult}
-use Rattle.infer_result.specs.Places.{Given}
+use Rattle.infer_result.specs.OwnTypes.{AreOwnTypes}
 use Rattle.infer_result.specs.Made.{IsMade}
 use Rattle.infer_result.proofs.Derived.{typed_by_schedule}
 use Rattle.infer_result.specs.TypesFit.{TypesFit, SeenFit}
-use Rattle.infer_result.specs.Typed.{IsTableOf}
+use Rattle.infer_result.specs.Typed.{IsTableOf, given_by}
 use Rattle.infer_ctx.specs.Under.{WrittenExist}
 use Rattle.infer_ctx.proofs.Lists.{found}
 use Rattle.infer_ctx.proofs.Items.{named_function, named_variant, item_with}
-use Rattle.infer_ctx.proofs.Written.{is_written}
+use Rattle.infer_table.specs.Table.{State, new_state}
+use Rattle.infer_ctx.specs.Context.{IsCarriedExpectation}
+use Rattle.infer_ctx.specs.Fine.{IsFineExpectation}
+use Rattle.infer_ctx.proofs.OverTypes.{carried_fine}
+use Rattle.infer_end.proofs.OwnIn.{own_input_in, own_output_in, own_count}
 
 pub found_body : (raw : RawFacts) (d : DefWithBodyId) (i : BodyId) (b : RawBody) → body_id_of raw d ≡ Some i → slice_get raw.bodies i.0 ≡ Some b → body_of raw d ≡ Some b
 found_body raw d i b id at = ap (λ o. option_and_then (λ k. slice_get raw.bodies k.0) o) id ∙ at
@@ -44,11 +46,11 @@ pattern_variant : (raw : RawFacts) (i : ℕ) (b : RawBody) → BodyIdsExist raw 
 pattern_variant raw i b ids p v (inl is) = ids.pat_names p.0 (pat.Path (path.Ctor v)) is
 pattern_variant raw i b ids p v (inr is) = ids.pat_names p.0 (pat.TupleStruct v is.0) is.1
 
-module _ (raw : RawFacts) (d : DefWithBodyId) (i : BodyId) (b : RawBody) (inputs : List TypeRefId) (output : Ty) (law : IsLawful raw) (id : body_id_of raw d ≡ Some i) (at : slice_get raw.bodies i.0 ≡ Some b) (taken : inputs ≡ inputs_of raw d) where
-  pub written_exist : WrittenExist (record { scope = scope_of raw d; body = b; inputs = inputs; output = output })
+module _ (raw : RawFacts) (d : DefWithBodyId) (i : BodyId) (b : RawBody) (inputs : List (Option Ty)) (output : Option Ty) (law : IsLawful raw) (id : body_id_of raw d ≡ Some i) (at : slice_get raw.bodies i.0 ≡ Some b) (own : AreOwnTypes raw d inputs output) where
+  pub written_exist : WrittenExist (given_by raw d b inputs output)
   written_exist = record {
     lets = λ e k p w init other is. lets_fit raw law d b (found_body raw d i b id at) e k p w init other is;
-    inputs = λ k w is. is_written raw law (params_of raw d) (has_associated raw d) w (definition_inputs_fit raw law d i id k w (ap (λ ws. slice_get ws k) (sym taken) ∙ is)) (definition_input_has_no_hole raw law d k w (ap (λ ws. slice_get ws k) (sym taken) ∙ is));
+    inputs = own_input_in raw law d i id inputs output own;
     functions = λ e f is. named_function raw law f ((body_ids raw law i.0 b at).functions e f is);
     constructors = λ e v is. (let x = variant_there raw v ((body_ids raw law i.0 b at).constructors e v is) in named_variant raw law v x.0 x.1);
     patterns = λ p v is. (let x = variant_there raw v (pattern_variant raw i.0 b (body_ids raw law i.0 b at) p v is) in named_variant raw law v x.0 x.1);
@@ -56,18 +58,27 @@ module _ (raw : RawFacts) (d : DefWithBodyId) (i : BodyId) (b : RawBody) (inputs
   }
 
   pub inputs_for_params : length inputs ≡ length b.params
-  inputs_for_params = ap (λ ws. length ws) taken ∙ inputs_count raw law d i b id at
+  inputs_for_params = own_count raw law d i id inputs output own ∙ inputs_count raw law d i b id at
 
-pub table_of : (raw : RawFacts) (d : DefWithBodyId) (i : BodyId) (b : RawBody) (s : Schedule) (inputs : List TypeRefId) (output : Ty) (r : InferenceResult) → body_id_of raw d ≡ Some i → slice_get raw.bodies i.0 ≡ Some b → IsWalkable b s → inputs ≡ inputs_of raw d → output ≡ return_type raw d → IsMade (record { scope = scope_of raw d; body = b; inputs = inputs; output = output }) r → TypesFit raw d r → SeenFit raw d r → IsTableOf raw d r
-table_of raw d i b s inputs output r id at law taken out made fit seen_fit = record {
+  -- what is expected of the root, if anything
+  output_by : (o : Option Ty) → output ≡ o → (state : State) → IsCarriedExpectation o × IsFineExpectation (scope_of raw d) state o
+  output_by None is state = (tt, tt)
+  output_by (Some t) is state = (let known = own_output_in raw law d i id inputs output own t is in (known.carried, carried_fine state (scope_of raw d) t known.carried known.heads))
+
+  pub output_carried : IsCarriedExpectation output
+  output_carried = (output_by output refl new_state).0
+
+  pub output_fine : (state : State) → IsFineExpectation (scope_of raw d) state output
+  output_fine state = (output_by output refl state).1
+
+pub table_of : (raw : RawFacts) (d : DefWithBodyId) (i : BodyId) (b : RawBody) (s : Schedule) (inputs : List (Option Ty)) (output : Option Ty) (r : InferenceResult) → body_id_of raw d ≡ Some i → slice_get raw.bodies i.0 ≡ Some b → IsWalkable b s → AreOwnTypes raw d inputs output → IsMade (given_by raw d b inputs output) r → TypesFit raw d r → SeenFit raw d r → IsTableOf raw d r
+table_of raw d i b s inputs output r id at law own made fit seen_fit = record {
   body = b;
   is_body = found_body raw d i b id at;
-  typed =
-      (let g : Given = record { scope = scope_of raw d; body = b; inputs = inputs_of raw d; output = return_type raw d } in
-      let m : IsMade g r =
-      subst (λ ws. IsMade (record { scope = scope_of raw d; body = b; inputs = ws; output = return_type raw d }) r) taken
-      (subst (λ t. IsMade (record { scope = scope_of raw d; body = b; inputs = inputs; output = t }) r) out made) in
-      typed_by_schedule g r s law.schedule m);
+  inputs = inputs;
+  output = output;
+  own = own;
+  typed = typed_by_schedule (given_by raw d b inputs output) r s law.schedule made;
   fit = fit;
   seen_fit = seen_fit;
 }

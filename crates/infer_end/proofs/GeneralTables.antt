@@ -7,7 +7,6 @@ use Rattle.hir_types.specs.Replacements.{folded_twice}
 use Rattle.hir_types.specs.Subst.{Assignment, composed, folded}
 use Rattle.hir_types.specs.declared.ids.BodyId.{BodyId}
 use Rattle.hir_types.specs.declared.ids.ExprId.{ExprId}
-use Rattle.hir_types.specs.declared.ids.TypeRefId.{TypeRefId}
 use Rattle.hir_types.specs.declared.ids.DefWithBodyId.{DefWithBodyId}
 use Rattle.hir_types.specs.Terms.{terms_of}
 use Rattle.hir_types.proofs.Equal.{ty_decides}
@@ -16,7 +15,7 @@ use Rattle.hir_raw.specs.declared.raw.RawFacts.{RawFacts}
 use Rattle.hir_raw.specs.declared.schedule.Schedule.{Schedule}
 use Rattle.hir_facts.specs.CarriedTypes.{IsCarriedType}
 use Rattle.hir_laws.specs.Lawful.{IsLawful}
-use Rattle.hir_laws.specs.Bodies.{body_id_of, inputs_of, return_type, IsWalkable}
+use Rattle.hir_laws.specs.Bodies.{body_id_of, IsWalkable}
 use Rattle.hir_raw.specs.Fit.{ty_fits}
 use Rattle.hir_raw.specs.Scope.{Scope, scope_of, params_of}
 use Rattle.hir_plain.specs.Plain.{IsPlainBody, IsPlainBodyOf}
@@ -30,7 +29,8 @@ use Rattle.infer_result.specs.declared.result.General.{General}
 use Rattle.infer_result.specs.declared.result.InferenceResult.{InferenceResult}
 use Rattle.infer_result.specs.Closed.{AllTypes, AllSeen}
 use Rattle.infer_result.specs.Made.{IsMade}
-use Rattle.infer_result.specs.Places.{Given}
+use Rattle.infer_result.specs.OwnTypes.{AreOwnTypes}
+use Rattle.infer_result.specs.Places.{Given, IsAtMaybeOrMismatch}
 use Rattle.infer_result.specs.Needs.{with_goals}
 use Rattle.infer_result.specs.Table.{At, HasTy}
 use Rattle.infer_result.specs.General.{types_under, IsGeneralType, AreGeneralTypes, GivesPlain, closed_by, IsGeneralOf, HasGeneral}
@@ -39,7 +39,7 @@ use Rattle.infer_result.specs.declared.result.Seen.{Seen}
 use Rattle.infer_result.specs.Derivation.{HasNoComplaint, IsDerivation}
 use Rattle.infer_result.proofs.DerivationLaws.{derivation_of}
 use Rattle.hir_types.specs.Fallback.{fallback}
-use Rattle.infer_result.specs.Typed.{IsTableOf, given}
+use Rattle.infer_result.specs.Typed.{IsTableOf, given_by}
 use Rattle.infer_result.proofs.Derived.{typed_by_schedule}
 use Rattle.infer_ctx.specs.Said.{said}
 use Rattle.infer_ctx.specs.Walks.{Extends}
@@ -47,7 +47,6 @@ use Rattle.infer_ctx.specs.Closings.{closed_types, closed_mismatch, closed_misma
 use Rattle.infer_ctx.specs.declared.context.InferenceContext.{InferenceContext}
 use Rattle.infer_ctx.specs.Fine.{HasFineHeads, IsFine, IsCarriedIn}
 use Rattle.infer_ctx.specs.Asked.{IsTold}
-use Rattle.infer_obligations.specs.Reading.{EndsSettled}
 use Rattle.infer_ctx.specs.Steps.{BodyDone}
 use Rattle.infer_ctx.proofs.Asked.{told_beside}
 use Rattle.infer_ctx.proofs.Keeps.{at_kept, pat_at_kept, obeys_kept, pat_kept, misfit_kept, demand_kept, diagnostic_kept, pat_truth_kept, true_seen_kept}
@@ -56,10 +55,11 @@ use Rattle.infer_ctx.proofs.OverTypes.{fine_closed}
 use Rattle.infer_ctx.specs.Context.{with_general}
 use Rattle.infer_ctx.proofs.UnderClosings.{sound_with, At-unclosed, closed_at, asked_unlike, length-closed_mismatches, At-closed, length-closed}
 use Rattle.infer_obligations.proofs.Below.{completion_closes}
-use Rattle.infer_end.specs.SelectedBody.{OnlyGoals, StaysOfPlain, ReadsLast}
+use Rattle.infer_end.specs.SelectedBody.{OnlyGoals, StaysOfPlain}
 use Rattle.infer_end.specs.Ends.{EndsAs}
 use Rattle.infer_end.specs.KeptTypes.{AreResolved, HoldsResolved, KeepsGeneral, IsFull, HasAllTypes}
 use Rattle.infer_end.proofs.Definitions.{found_body, table_of}
+use Rattle.infer_end.proofs.OwnIn.{plain_names_none}
 use Rattle.infer_end.proofs.Fits.{completed_table_fits, fine_fits, seen_fits}
 use Rattle.infer_end.proofs.GeneralTypes.{fine_general, fine_known, chosen, chosen_heads, chosen_closes, known_heads}
 use Rattle.infer_end.proofs.PlainBodies.{plain_body, no_placeholder, calls_item, none_plain}
@@ -99,6 +99,10 @@ module _ (r : InferenceResult) (o : Option General) (ps : List Proof) (gs : List
     found = h.found;
   }
 
+  clause_kept : (g : Given) (x : Option Ty) → IsAtMaybeOrMismatch r g.body.root x → IsAtMaybeOrMismatch other g.body.root x
+  clause_kept g None h = h
+  clause_kept g (Some t) h = at_kept g r other other_extends g.body.root t h
+
   made_other : (g : Given) → IsMade g r → IsMade g other
   made_other g m = record {
     shape = record {
@@ -112,7 +116,7 @@ module _ (r : InferenceResult) (o : Option General) (ps : List Proof) (gs : List
     kinds = λ p i. pat_kept g r other other_extends p (slice_get g.body.pats p.0) (m.kinds p i);
     params = λ i p s at is. pat_at_kept g r other other_extends p s (m.params i p s at is);
     bindings = m.bindings;
-    body_clause = at_kept g r other other_extends g.body.root g.output m.body_clause;
+    body_clause = clause_kept g g.output m.body_clause;
     misfits = λ e x at. misfit_kept g r other other_extends e x (m.misfits e x at);
     demands = λ e x at. demand_kept g r other other_extends e x.expected (m.demands e x at);
     complaints = record {
@@ -229,10 +233,10 @@ none_under : {A B : Type 0} (f f' : A → B) (xs : List (Option A)) → HasNone 
 none_under f f' xs h n y at = (let q = At-unclosed f' xs n y at in h n (f q.0) (At-closed f xs n q.0 q.1))
 
 -- ---- the table of a definition
-module _ (raw : RawFacts) (d : DefWithBodyId) (i : BodyId) (b : RawBody) (s : Schedule) (inputs : List TypeRefId) (output : Ty) (id : body_id_of raw d ≡ Some i) (at : slice_get raw.bodies i.0 ≡ Some b) (law : IsWalkable b s) (taken : inputs ≡ inputs_of raw d) (out : output ≡ return_type raw d) (c : InferenceContext) (done : BodyDone (record { scope = scope_of raw d; body = b; inputs = inputs; output = output }) c)
+module _ (raw : RawFacts) (d : DefWithBodyId) (i : BodyId) (b : RawBody) (s : Schedule) (inputs : List (Option Ty)) (output : Option Ty) (id : body_id_of raw d ≡ Some i) (at : slice_get raw.bodies i.0 ≡ Some b) (law : IsWalkable b s) (own : AreOwnTypes raw d inputs output) (c : InferenceContext) (done : BodyDone (given_by raw d b inputs output) c)
     (lawful : IsLawful raw) (ps : List Proof) (gs : List (List Gap)) where
   abbrev g : Given
-  g = record { scope = scope_of raw d; body = b; inputs = inputs; output = output }
+  g = given_by raw d b inputs output
 
   abbrev sc : Scope
   sc = scope_of raw d
@@ -251,7 +255,7 @@ module _ (raw : RawFacts) (d : DefWithBodyId) (i : BodyId) (b : RawBody) (s : Sc
     completed_table : (o : Option General) → IsTableOf raw d (closed_table (completion c.goals.table) c.asked (result_with o))
     completed_table o =
         let r : InferenceResult = closed_table (completion c.goals.table) c.asked c.result in
-        table_of raw d i b s inputs output (closed_table (completion c.goals.table) c.asked (result_with o)) id at law taken out (made_other r o ps gs g (done.made (completion c.goals.table) completes)) (all_types_other r o ps gs _ (completed_table_fits sc c done.sound)) (seen_still_fit (completion c.goals.table) o)
+        table_of raw d i b s inputs output (closed_table (completion c.goals.table) c.asked (result_with o)) id at law own (made_other r o ps gs g (done.made (completion c.goals.table) completes)) (all_types_other r o ps gs _ (completed_table_fits sc c done.sound)) (seen_still_fit (completion c.goals.table) o)
 
     -- ---- of a plain body
 
@@ -329,12 +333,12 @@ module _ (raw : RawFacts) (d : DefWithBodyId) (i : BodyId) (b : RawBody) (s : Sc
         other_is_table : IsTableOf raw d other_table
         other_is_table =
             let r : InferenceResult = closed_table q c.asked c.result in
-            table_of raw d i b s inputs output other_table id at law taken out (made_other r (Some x) ps gs g (done.made q at_q)) (all_types_so _ _ other_table (fine_fits sc) other_heads) (seen_still_fit q (Some x))
+            table_of raw d i b s inputs output other_table id at law own (made_other r (Some x) ps gs g (done.made q at_q)) (all_types_so _ _ other_table (fine_fits sc) other_heads) (seen_still_fit q (Some x))
 
         other_derives : IsDerivation raw d other_table
         other_derives =
             let h = other_is_table in
-            derivation_of raw d other_table h (all_types_so _ _ other_table (fine_known sc) other_heads) other_clean (λ obeys. plain_needs raw lawful h.body other_table d plain h.is_body obeys other_carried)
+            derivation_of raw d other_table h (plain_names_none raw lawful d plain) (all_types_so _ _ other_table (fine_known sc) other_heads) other_clean (λ obeys. plain_needs raw lawful h.body other_table d plain h.is_body obeys other_carried)
 
         -- it is the table with these types in the place of its own
         is_closed_by : other_table ≡ closed_by a x table
@@ -440,53 +444,22 @@ pub keeps_goals : (raw : RawFacts) (d : DefWithBodyId) (c last : InferenceContex
 keeps_goals raw d c last (inl (plain, (x, resolved, is))) = ap (λ (z : InferenceContext). z.goals) is
 keeps_goals raw d c last (inr (not_plain, is)) = ap (λ (z : InferenceContext). z.goals) is
 
--- the body with these inputs and this output
-abbrev pub given_at : RawFacts → DefWithBodyId → RawBody → List TypeRefId → Ty → Given
-given_at raw d b inputs output = record { scope = scope_of raw d; body = b; inputs = inputs; output = output }
-
-module _ (raw : RawFacts) (d : DefWithBodyId) (b : RawBody) (inputs : List TypeRefId) (output : Ty) (taken : inputs ≡ inputs_of raw d) (out : output ≡ return_type raw d) (c : InferenceContext) where
-  -- with the inputs and the output of the definition
-  pub given_done : BodyDone (given_at raw d b inputs output) c → BodyDone (given raw d b) c
-  given_done done =
-      subst (λ ws. BodyDone (given_at raw d b ws (return_type raw d)) c) taken
-      (subst (λ t. BodyDone (given_at raw d b inputs t) c) out done)
-
-  pub given_told : IsTold (given_at raw d b inputs output) c → IsTold (given raw d b) c
-  given_told told =
-      subst (λ ws. IsTold (given_at raw d b ws (return_type raw d)) c) taken
-      (subst (λ t. IsTold (given_at raw d b inputs t) c) out told)
-
-  pub given_settled : EndsSettled (given_at raw d b inputs output) c → EndsSettled (given raw d b) c
-  given_settled settled =
-      subst (λ ws. EndsSettled (given_at raw d b ws (return_type raw d)) c) taken
-      (subst (λ t. EndsSettled (given_at raw d b inputs t) c) out settled)
-
-  pub given_last : (z : InferenceContext) → ReadsLast (given_at raw d b inputs output) c z → ReadsLast (given raw d b) c z
-  given_last z last =
-      subst (λ ws. ReadsLast (given_at raw d b ws (return_type raw d)) c z) taken
-      (subst (λ t. ReadsLast (given_at raw d b inputs t) c z) out last)
-
-  pub own_done : BodyDone (given raw d b) c → BodyDone (given_at raw d b inputs output) c
-  own_done done =
-      subst (λ t. BodyDone (given_at raw d b inputs t) c) (sym out)
-      (subst (λ ws. BodyDone (given_at raw d b ws (return_type raw d)) c) (sym taken) done)
-
-module _ (raw : RawFacts) (d : DefWithBodyId) (i : BodyId) (b : RawBody) (s : Schedule) (inputs : List TypeRefId) (output : Ty) (id : body_id_of raw d ≡ Some i) (at : slice_get raw.bodies i.0 ≡ Some b) (law : IsWalkable b s) (taken : inputs ≡ inputs_of raw d) (out : output ≡ return_type raw d) (c : InferenceContext) (done : BodyDone (given_at raw d b inputs output) c)
+module _ (raw : RawFacts) (d : DefWithBodyId) (i : BodyId) (b : RawBody) (s : Schedule) (inputs : List (Option Ty)) (output : Option Ty) (id : body_id_of raw d ≡ Some i) (at : slice_get raw.bodies i.0 ≡ Some b) (law : IsWalkable b s) (own : AreOwnTypes raw d inputs output) (c : InferenceContext) (done : BodyDone (given_by raw d b inputs output) c)
     (lawful : IsLawful raw) (ps : List Proof) (gs : List (List Gap)) where
   -- of a body that is not plain the context after selection counts, in which no such types are
-  not_plain_ends : (z : InferenceContext) → BodyDone (given raw d b) z → z.result.general ≡ None → (IsPlainBodyOf raw d → ⊥) → EndsAs raw d ps gs z
+  not_plain_ends : (z : InferenceContext) → BodyDone (given_by raw d b inputs output) z → z.result.general ≡ None → (IsPlainBodyOf raw d → ⊥) → EndsAs raw d ps gs z
   not_plain_ends z after none not_plain meets respects acyclic =
       let a : Assignment = completion z.goals.table in
       let same : record z.result { general = None } ≡ z.result = ap (λ (o : Option General). record z.result { general = o }) (sym none) in
       let F : InferenceResult → Type 0 = λ r. IsTableOf raw d (with_goals ps gs (closed_table a z.asked r)) in (
-        subst F same (completed_table raw d i b s inputs output id at law taken out z (own_done raw d b inputs output taken out z after) lawful ps gs meets respects None),
+        subst F same (completed_table raw d i b s inputs output id at law own z after lawful ps gs meets respects None),
         record { plain = λ p. absurd (not_plain p); other = λ never. none },
       )
 
-  pub ends_selected : (mid z : InferenceContext) → KeepsGeneral raw d c mid → OnlyGoals mid z → StaysOfPlain mid z → BodyDone (given raw d b) z → EndsAs raw d ps gs z
+  pub ends_selected : (mid z : InferenceContext) → KeepsGeneral raw d c mid → OnlyGoals mid z → StaysOfPlain mid z → BodyDone (given_by raw d b inputs output) z → EndsAs raw d ps gs z
   ends_selected mid z (inl (plain, (x, resolved, is))) only stays after =
       let kept : mid.result.general ≡ Some x = ap (λ (m : InferenceContext). m.result.general) is in
-      subst (EndsAs raw d ps gs) (sym (stays x kept)) (ends raw d i b s inputs output id at law taken out c done lawful ps gs mid (inl (plain, (x, resolved, is))))
+      subst (EndsAs raw d ps gs) (sym (stays x kept)) (ends raw d i b s inputs output id at law own c done lawful ps gs mid (inl (plain, (x, resolved, is))))
   ends_selected mid z (inr (not_plain, is)) only stays after =
       not_plain_ends z after (ap (λ (r : InferenceResult). r.general) only.result ∙ ap (λ (m : InferenceContext). m.result.general) is) not_plain
 

@@ -1,3 +1,4 @@
+pub mod OwnIn
 pub mod Definitions
 pub mod Fits
 pub mod GeneralTables

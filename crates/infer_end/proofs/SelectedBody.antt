@@ -1,15 +1,10 @@
 -- What is found out about a body holds where more is known of its holes.
-use Rattle.std.specs.Prelude.{IsSome}
-use Rattle.std.proofs.Common.{◌≡◌, refl, subst, sym, true≢false, true, Option, Some, None, slice_get}
+use Rattle.std.proofs.Common.{◌≡◌, List, refl, subst, Option}
 use Rattle.hir_types.specs.Terms.{terms_of}
-use Rattle.hir_types.specs.declared.ids.BodyId.{BodyId}
 use Rattle.hir_types.specs.declared.ids.DefWithBodyId.{DefWithBodyId}
 use Rattle.hir_types.specs.declared.ids.GenericDefId.{GenericDefId}
 use Rattle.hir_raw.specs.declared.raw.RawBody.{RawBody}
 use Rattle.hir_raw.specs.declared.raw.RawFacts.{RawFacts}
-use Rattle.hir_laws.specs.Bodies.{body_of, body_id_of, HasBody}
-use Rattle.hir_laws.specs.Lawful.{IsLawful}
-use Rattle.hir_facts.proofs.InRange.{body_in_range}
 use Rattle.infer_table.specs.Completion.{completion}
 use Rattle.infer_table.specs.Preserved.{BindsOnly}
 use Rattle.infer_table.specs.Solutions.{Respects, log_of}
@@ -19,7 +14,8 @@ use Rattle.goal_search.specs.Sources.{system}
 use Rattle.infer_ctx.specs.Below.{GoalTable, AreKept}
 use Rattle.infer_result.specs.Needs.{scope_item}
 use Rattle.infer_result.specs.Places.{Given}
-use Rattle.infer_result.specs.Typed.{given}
+use Rattle.hir_types.specs.declared.ty.Ty.{Ty}
+use Rattle.infer_result.specs.Typed.{given_by}
 use Rattle.infer_ctx.specs.declared.context.InferenceContext.{InferenceContext}
 use Rattle.infer_ctx.specs.Asked.{IsTold}
 use Rattle.infer_ctx.specs.Context.{with_goal_table}
@@ -31,7 +27,6 @@ use Rattle.infer_ctx.proofs.UnderClosings.{decided_later, closes_earlier}
 use Rattle.infer_obligations.specs.Selection.{AreSelected, IsSelection}
 use Rattle.infer_obligations.proofs.Selecting.{StaysApart, selected_apart, selected_heads}
 use Rattle.infer_obligations.proofs.Walking.{sound_later}
-use Rattle.infer_end.proofs.Definitions.{found_body}
 
 module _ (g : Given) (c : InferenceContext) (done : BodyDone g c) (told : IsTold g c) (goals : GoalTable) (of_item : IsSystemOf c.goals.sources.facts c.goals.sources.item (system c.goals.sources.sources))
     (selected : AreSelected c.goals.sources.facts (system c.goals.sources.sources) c.goals.table c.goals.obligations goals.table goals.obligations)
@@ -53,7 +48,7 @@ module _ (g : Given) (c : InferenceContext) (done : BodyDone g c) (told : IsTold
   }
 
 -- by what the goals of the item are answered by
-module _ (raw : RawFacts) (d : DefWithBodyId) (b : RawBody) (c : InferenceContext) (told : IsTold (given raw d b) c) (item : c.goals.sources.item ≡ scope_item raw d) (goals : GoalTable)
+module _ (raw : RawFacts) (d : DefWithBodyId) (b : RawBody) (inputs : List (Option Ty)) (output : Option Ty) (c : InferenceContext) (told : IsTold (given_by raw d b inputs output) c) (item : c.goals.sources.item ≡ scope_item raw d) (goals : GoalTable)
     (of_item : IsSystemOf c.goals.sources.facts c.goals.sources.item (system c.goals.sources.sources))
     (selected : AreSelected c.goals.sources.facts (system c.goals.sources.sources) c.goals.table c.goals.obligations goals.table goals.obligations) where
   pub is_selection : IsSelection raw d b c (with_goal_table c goals)
@@ -68,16 +63,3 @@ module _ (raw : RawFacts) (d : DefWithBodyId) (b : RawBody) (c : InferenceContex
         counted = told.goals.counted;
         selected = subst (λ (z : RawFacts). AreSelected z f c.goals.table c.goals.obligations goals.table goals.obligations) facts selected;
       }
-
--- ---- the body of a definition
-
-pub body_there : (raw : RawFacts) → IsLawful raw → (d : DefWithBodyId) → HasBody raw d → (b : RawBody) × (i : BodyId) × (slice_get raw.bodies i.0 ≡ Some b) × (body_of raw d ≡ Some b)
-body_there raw law d h = by (body_id_of raw d) refl h
-  where
-    by : (o : Option BodyId) → body_id_of raw d ≡ o → IsSome o → (b : RawBody) × (i : BodyId) × (slice_get raw.bodies i.0 ≡ Some b) × (body_of raw d ≡ Some b)
-    by None is h = absurd (true≢false (sym h))
-    by (Some i) is h = (let x = found raw.bodies i.0 (body_in_range raw d i law is) in (x.0, i, x.1, found_body raw d i x.0 is x.1))
-
--- what is told of the body of a definition, of which there is one
-pub told_there : (raw : RawFacts) (law : IsLawful raw) (d : DefWithBodyId) (h : HasBody raw d) (c : InferenceContext) → ((b : RawBody) → body_of raw d ≡ Some b → IsTold (given raw d b) c) → (b : RawBody) × IsTold (given raw d b) c
-told_there raw law d h c told = (let x = body_there raw law d h in (x.0, told x.0 x.3))

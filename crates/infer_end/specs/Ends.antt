@@ -1,7 +1,8 @@
 -- What was found out about a body before its open holes fall back, by what it comes to then.
-use Rattle.std.specs.Prelude.{◌≡◌, List, None}
+use Rattle.std.specs.Prelude.{◌≡◌, List, Option, None}
 use Rattle.hir_types.specs.Terms.{terms_of}
 use Rattle.hir_types.specs.declared.ids.DefWithBodyId.{DefWithBodyId}
+use Rattle.hir_types.specs.declared.ty.Ty.{Ty}
 use Rattle.hir_raw.specs.declared.raw.RawBody.{RawBody}
 use Rattle.hir_raw.specs.declared.raw.RawFacts.{RawFacts}
 use Rattle.goal_facts.specs.declared.proof.Proof.{Proof}
@@ -12,7 +13,8 @@ use Rattle.infer_result.specs.declared.gaps.Gap.{Gap}
 use Rattle.infer_result.specs.declared.result.InferenceResult.{InferenceResult}
 use Rattle.infer_result.specs.General.{HasGeneral}
 use Rattle.infer_result.specs.Needs.{with_goals}
-use Rattle.infer_result.specs.Typed.{IsTableOf, given}
+use Rattle.infer_result.specs.OwnTypes.{AreOwnTypes}
+use Rattle.infer_result.specs.Typed.{IsTableOf, given_by}
 use Rattle.infer_obligations.specs.Reading.{EndsSettled}
 use Rattle.infer_obligations.specs.Selection.{IsSelection}
 use Rattle.infer_ctx.specs.declared.context.InferenceContext.{InferenceContext}
@@ -40,16 +42,19 @@ EndsWell raw d z = (ps : List Proof) (gs : List (List Gap)) → EndsAs raw d ps 
 -- registered is selected until nothing selects any more, but where types before fallback are kept, and what associated types are is read
 -- once more
 pub record IsSelectedBody (raw : RawFacts) (d : DefWithBodyId) (b : RawBody) (z : InferenceContext) : Type 0 where
+  pub inputs : List (Option Ty)
+  pub output : Option Ty
+  pub own : AreOwnTypes raw d inputs output
   pub settled : InferenceContext
-  pub read : EndsSettled (given raw d b) settled
+  pub read : EndsSettled (given_by raw d b inputs output) settled
   pub walked : InferenceContext
   pub goals : walked.goals ≡ settled.goals
-  pub done : BodyDone (given raw d b) walked
+  pub done : BodyDone (given_by raw d b inputs output) walked
   pub selected : InferenceContext
   pub only : OnlyGoals walked selected
   pub plain : StaysOfPlain walked selected
   pub selection : walked.result.general ≡ None → IsSelection raw d b walked selected
-  pub last : ReadsLast (given raw d b) selected z
+  pub last : ReadsLast (given_by raw d b inputs output) selected z
 
 -- the table is what such a body comes to
 pub record ComesOfSelection (raw : RawFacts) (d : DefWithBodyId) (b : RawBody) (r : InferenceResult) : Type 0 where

@@ -1,10 +1,7 @@
 //! What nodes need, selected before open holes fall back: `infer.rs`, `infer_body`, where
 //! `select_obligations_where_possible` is called.
-ghost use Rattle.std.specs.Prelude.{◌≡◌, None, Some, OnOk};
-ghost use Rattle.hir_raw.specs.declared.raw.RawBody.{RawBody};
-ghost use Rattle.hir_laws.specs.Bodies.{HasBody, body_of};
+ghost use Rattle.std.specs.Prelude.{◌≡◌, None, OnOk};
 ghost use Rattle.infer_result.specs.Needs.{scope_item};
-ghost use Rattle.infer_result.specs.Typed.{given};
 ghost use Rattle.infer_ctx.specs.Asked.{IsTold};
 ghost use Rattle.infer_result.specs.Closed.{IsOfBody};
 ghost use Rattle.infer_ctx.specs.Context.{given_of};
@@ -12,26 +9,19 @@ ghost use Rattle.infer_ctx.specs.Steps.{BodyDone};
 ghost use Rattle.infer_obligations.specs.Selection.{IsSelection};
 ghost use Rattle.infer_end.specs.SelectedBody.{StaysOfPlain, OnlyGoals, ReadsLast};
 
-use hir_facts::{DefWithBodyId, Facts};
 use infer_ctx::{GivenBody, InferenceContext};
 use infer_obligations::{read_all, select_registered};
 use std::alloc::{AllocError, Global};
 
 /// Selects what nodes of the body need, at the types known so far, and binds holes as that says.
-fn select(
-    context: &mut InferenceContext,
-    facts: &Facts,
-    def: DefWithBodyId,
-) -> Result<(), AllocError>
-    requires body { HasBody facts.now def }
-    requires item { context.old.goals.sources.item ≡ scope_item facts.now def }
-    requires done { (b : RawBody) → body_of facts.now def ≡ Some b → BodyDone (given facts.now def b) context.old }
-    requires told { (b : RawBody) → body_of facts.now def ≡ Some b → IsTold (given facts.now def b) context.old }
-    ensures done { OnOk result ((b : RawBody) → body_of facts.now def ≡ Some b → BodyDone (given facts.now def b) context.new) }
-    ensures selection { OnOk result ((b : RawBody) → body_of facts.now def ≡ Some b → IsSelection facts.now def b context.old context.new) }
+fn select(context: &mut InferenceContext, given: &GivenBody) -> Result<(), AllocError>
+    requires item { context.old.goals.sources.item ≡ scope_item given.now.facts.now given.now.owner }
+    requires done { BodyDone (given_of given.now) context.old }
+    requires told { IsTold (given_of given.now) context.old }
+    ensures done { OnOk result (BodyDone (given_of given.now) context.new) }
+    ensures selection { OnOk result (IsSelection given.now.facts.now given.now.owner given.now.body.now context.old context.new) }
     ensures only { OnlyGoals context.old context.new }
 {
-    facts.lawful();
     select_registered(&mut context.goals)?;
     context.goals.table.lawful();
     Ok(())
@@ -41,22 +31,20 @@ fn select(
 /// sizes, which bind nothing.
 pub fn select_where_possible(
     context: &mut InferenceContext,
-    facts: &Facts,
-    def: DefWithBodyId,
+    given: &GivenBody,
 ) -> Result<(), AllocError>
-    requires body { HasBody facts.now def }
-    requires item { context.old.goals.sources.item ≡ scope_item facts.now def }
-    requires done { (b : RawBody) → body_of facts.now def ≡ Some b → BodyDone (given facts.now def b) context.old }
-    requires told { (b : RawBody) → body_of facts.now def ≡ Some b → IsTold (given facts.now def b) context.old }
-    ensures done { OnOk result ((b : RawBody) → body_of facts.now def ≡ Some b → BodyDone (given facts.now def b) context.new) }
-    ensures selection { OnOk result (context.old.result.general ≡ None → (b : RawBody) → body_of facts.now def ≡ Some b → IsSelection facts.now def b context.old context.new) }
+    requires item { context.old.goals.sources.item ≡ scope_item given.now.facts.now given.now.owner }
+    requires done { BodyDone (given_of given.now) context.old }
+    requires told { IsTold (given_of given.now) context.old }
+    ensures done { OnOk result (BodyDone (given_of given.now) context.new) }
+    ensures selection { OnOk result (context.old.result.general ≡ None → IsSelection given.now.facts.now given.now.owner given.now.body.now context.old context.new) }
     ensures plain { StaysOfPlain context.old context.new }
     ensures only { OnlyGoals context.old context.new }
 {
     if context.result.general.is_some() {
         Ok(())
     } else {
-        select(context, facts, def)
+        select(context, given)
     }
 }
 

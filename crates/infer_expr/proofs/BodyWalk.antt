@@ -1,12 +1,12 @@
 -- The walk of a whole body.
 use Rattle.std.specs.Prelude.{replicate, option_map}
-use Rattle.std.proofs.Common.{ℕ, zero, suc, ◌≡◌, ◌∷◌, refl, ap, map, None, [], length, ◌<◌, ◌^◌, sym, subst, Some}
+use Rattle.std.proofs.Common.{ℕ, zero, suc, ◌≡◌, ◌∷◌, refl, ap, map, None, [], length, ◌<◌, ◌^◌, sym, subst}
 use Rattle.hir_types.specs.Subst.{Assignment, folded}
 use Rattle.hir_types.specs.declared.ty.IntegerTy.TheVariants.{Int}
 use Rattle.hir_types.specs.declared.ty.Ty.{Ty}
 use Rattle.hir_types.specs.declared.ty.IntTy.TheVariants as int
 use Rattle.hir_raw.specs.declared.raw.RawBody.{RawBody}
-use Rattle.hir_facts.specs.CarriedTypes.{carried_error, IsCarriedType}
+use Rattle.hir_facts.specs.CarriedTypes.{carried_error}
 use Rattle.hir_raw.specs.Scope.{Scope}
 use Rattle.hir_laws.specs.Bodies.{IsWalkable}
 use Rattle.hir_raw.specs.declared.schedule.Schedule.{Schedule}
@@ -18,16 +18,16 @@ use Rattle.infer_table.specs.Table.{State, new_state}
 use Rattle.infer_goals.specs.declared.table.GoalTable.{GoalTable}
 use Rattle.infer_ctx.specs.Asked.{AreGoalsOf}
 use Rattle.infer_ctx.specs.Closings.{closed_mismatches, closed_mismatch, found_under, IsSound, Closes}
-use Rattle.infer_ctx.specs.Context.{empty_context}
+use Rattle.infer_ctx.specs.Context.{empty_context, IsCarriedExpectation}
 use Rattle.infer_ctx.specs.Found.{expr_variant, pat_variant, nothing_found, Found}
 use Rattle.infer_ctx.specs.declared.context.InferenceContext.{InferenceContext}
 use Rattle.infer_ctx.specs.Under.{WrittenExist, CoerceWalked}
 use Rattle.infer_ctx.specs.Walks.{expr_end}
-use Rattle.infer_ctx.specs.Fine.{HasFineHeads}
+use Rattle.infer_ctx.specs.Fine.{IsFineExpectation}
 use Rattle.infer_ctx.specs.Steps.{Before, CoerceDone, BodyDone, Follows, OnlyBinds}
 use Rattle.infer_ctx.proofs.UnderClosings.{of_body_unclosed, same_found}
 use Rattle.infer_ctx.proofs.AtEach.{walking_after, closes_before, follows_twice}
-use Rattle.infer_ctx.proofs.OverTypes.{carried_fine, carried_closed}
+use Rattle.infer_ctx.proofs.OverTypes.{expected_closed}
 use Rattle.infer_coerce.specs.MadeEqual.{Settles}
 use Rattle.infer_expr.specs.Params.{BeforeParams, ComesToParams, ParamsDone, ParamsWalked}
 use Rattle.infer_expr.proofs.Whole.{At-replicate, params_before, root_before, body_made}
@@ -117,8 +117,8 @@ module _ (g : Given) (s : Schedule) (law : IsWalkable g.body s) (written : Writt
         ahead = here.ahead;
       })
 
-pub comes_to_root : (g : Given) (s : Schedule) (old c : InferenceContext) → BeforeParams g s old → ParamsDone g s old c → IsCarriedType g.output → HasFineHeads g.scope g.output → Before g s g.body.root (Some g.output) c
-comes_to_root g s old c b d carried heads =
+pub comes_to_root : (g : Given) (s : Schedule) (old c : InferenceContext) → BeforeParams g s old → ParamsDone g s old c → IsCarriedExpectation g.output → IsFineExpectation g.scope c.goals.table g.output → Before g s g.body.root g.output c
+comes_to_root g s old c b d carried fine =
     let q = d.follows.sound.some in
     let here = root_before g s (found_under q.0 old) (found_under q.0 c) b.ready carried (d.each q.0 q.1) in
     record {
@@ -126,18 +126,18 @@ comes_to_root g s old c b d carried heads =
       state = walking_after g s old c b.state.told d.follows (λ a k. (d.each a k).walks.state);
       within = here.within;
       here = here.here;
-      expected = carried_fine c.goals.table g.scope g.output carried heads;
+      expected = fine;
     }
 
-module _ (g : Given) (s : Schedule) (law : IsWalkable g.body s) (carried : IsCarriedType g.output) (t : Ty) (goals : GoalTable) (mid new last : InferenceContext) (p : ParamsDone g s (empty_context g.body goals) mid) (d : CoerceDone g s g.body.root (Some g.output) t mid new) (e : Settles g new last) where
+module _ (g : Given) (s : Schedule) (law : IsWalkable g.body s) (carried : IsCarriedExpectation g.output) (t : Ty) (goals : GoalTable) (mid new last : InferenceContext) (p : ParamsDone g s (empty_context g.body goals) mid) (d : CoerceDone g s g.body.root g.output t mid new) (e : Settles g new last) where
   abbrev b : OnlyBinds g new last
   b = e.binds
 
   typed : (a : Assignment) → Closes a new → ParamsWalked g s (nothing_found a g.body) (found_under a mid)
   typed a q = subst (λ c. ParamsWalked g s c (found_under a mid)) (nothing_under a g.body goals) (p.each a (closes_before g a mid new d.follows q))
 
-  done : (a : Assignment) → Closes a new → CoerceWalked g s g.body.root (Some g.output) (folded a t) (found_under a mid) (found_under a new)
-  done a q = subst (λ u. CoerceWalked g s g.body.root (Some u) (folded a t) (found_under a mid) (found_under a new)) (carried_closed a g.output carried) (d.each a q)
+  done : (a : Assignment) → Closes a new → CoerceWalked g s g.body.root g.output (folded a t) (found_under a mid) (found_under a new)
+  done a q = subst (λ x. CoerceWalked g s g.body.root x (folded a t) (found_under a mid) (found_under a new)) (expected_closed a g.output carried) (d.each a q)
 
   -- what waits is unified in the end
   pub body_walked : BodyDone g last
@@ -151,5 +151,5 @@ module _ (g : Given) (s : Schedule) (law : IsWalkable g.body s) (carried : IsCar
   }
 
 -- more was found out by all of it
-pub body_follows : (g : Given) (s : Schedule) (t : Ty) (old mid new last : InferenceContext) → ParamsDone g s old mid → CoerceDone g s g.body.root (Some g.output) t mid new → Settles g new last → Follows g old last
+pub body_follows : (g : Given) (s : Schedule) (t : Ty) (old mid new last : InferenceContext) → ParamsDone g s old mid → CoerceDone g s g.body.root g.output t mid new → Settles g new last → Follows g old last
 body_follows g s t old mid new last p d e = follows_twice g old mid last p.follows (follows_twice g mid new last d.follows e.binds.follows)

@@ -1,15 +1,14 @@
 -- The loop over the parameters.
-use Rattle.std.proofs.Common.{ℕ, ◌+◌, ◌<◌, ◌≡◌, [], ◌∷◌, ◌++◌, drop, Some, slice_get, arith, sym, ap, ◌∙◌, suc, ◌≤◌, inl, inr, List, length, get_or, refl, subst}
+use Rattle.std.proofs.Common.{ℕ, ◌+◌, ◌<◌, ◌≡◌, [], ◌∷◌, ◌++◌, drop, Option, Some, slice_get, arith, sym, ap, ◌∙◌, suc, ◌≤◌, inl, inr, List, length, get_or, refl, subst}
 use Rattle.std.proofs.Math.ListN.{drop_of_length-le}
 use Rattle.std.proofs.lemmas.Option.{slice_get_read, slice_get_within}
 use Rattle.hir_types.specs.declared.ids.PatId.{PatId}
 use Rattle.hir_types.specs.declared.ty.Ty.{Ty}
 use Rattle.hir_raw.specs.declared.schedule.Schedule.{Schedule}
 use Rattle.hir_raw.specs.Order.{the_body, root, expr_part, param_parts, Part, parameter, pat_part}
-use Rattle.hir_raw.specs.WrittenTypes.{written_type}
-use Rattle.hir_facts.specs.CarriedTypes.{IsCarriedType}
 use Rattle.infer_result.specs.Places.{Given, PatIsAtOrMismatch}
 use Rattle.infer_result.specs.Incoming.{IsInput}
+use Rattle.infer_ctx.specs.Context.{IsCarriedExpectation}
 use Rattle.infer_ctx.specs.Found.{Found}
 use Rattle.infer_ctx.specs.Walks.{Walks, Nothing}
 use Rattle.infer_ctx.specs.Under.{LieAhead, IsReady}
@@ -17,7 +16,7 @@ use Rattle.infer_ctx.proofs.Category.{walks_refl, walks_trans}
 use Rattle.infer_ctx.proofs.Lists.{lt_or_ge, drop-step}
 use Rattle.infer_ctx.proofs.Parts.{ahead_rest}
 use Rattle.infer_ctx.proofs.Keeps.{pat_at_kept}
-use Rattle.infer_pat.specs.Patterns.{ComesToPat, PatWalked}
+use Rattle.infer_pat.specs.Patterns.{ComesToPat, IsPatPlaced, PatWalked}
 use Rattle.infer_pat.proofs.PatSteps.{pat_before}
 use Rattle.infer_expr.specs.Params.{ComesToParams, ParamsWalked}
 
@@ -34,11 +33,6 @@ params_start g s c h = record {
   typed = λ k p t less at is. absurd (omega (arith, less));
 }
 
--- a parameter has one written type
-one_input : (g : Given) (i : ℕ) (t u : Ty) → IsInput g i t → IsInput g i u → t ≡ u
-one_input g i t u (v, at, is) (w, here, same) =
-    (let e : v ≡ w = cc in is ∙ (ap (λ y. written_type g.scope.facts.types y) e ∙ sym same))
-
 module _ (g : Given) (s : Schedule) (i : ℕ) (mid c : Found) (h : ParamsLoop g s i mid c) where
   abbrev rest : List Part
   rest = param_parts (i + 1) (drop (i + 1) g.body.params) ++ expr_part root g.body.root ∷ []
@@ -50,17 +44,17 @@ module _ (g : Given) (s : Schedule) (i : ℕ) (mid c : Found) (h : ParamsLoop g 
       ap (λ l. param_parts i l ++ expr_part root g.body.root ∷ []) d
       ∙ ap (λ j. pat_part (parameter i) p ∷ (param_parts j (drop (i + 1) g.body.params) ++ expr_part root g.body.root ∷ [])) z
 
-  module _ (ready : IsReady g s) (p : PatId) (is : p ≡ get_or g.body.params i p) (k : i < length g.body.params) (t : Ty) where
+  module _ (ready : IsReady g s) (p : PatId) (is : p ≡ get_or g.body.params i p) (k : i < length g.body.params) (x : Option Ty) (input : slice_get g.inputs i ≡ Some x) where
     ahead_at : LieAhead g.body s the_body c.clock (pat_part (parameter i) p ∷ rest)
     ahead_at = subst (λ ps. LieAhead g.body s the_body c.clock ps) (step p is k) h.ahead
 
-    pub param_before : IsInput g i t → IsCarriedType t → ComesToPat g s p (Some t) c
-    param_before input carried =
-        pat_before g s the_body (parameter i) p rest (Some t) c ready h.walks.state ahead_at carried
-        (λ u j. (let same : t ≡ u = cc in subst (λ v. IsInput g i v) same input))
+    pub param_before : IsCarriedExpectation x → ComesToPat g s p x c
+    param_before carried =
+        pat_before g s the_body (parameter i) p rest x c ready h.walks.state ahead_at carried
+        (λ u j. input ∙ ap (λ (o : Option Ty). Some o) j)
 
-    pub param_next : (next : Found) → IsInput g i t → PatWalked g s p (Some t) c next → ParamsLoop g s (i + 1) mid next
-    param_next next input d = record {
+    pub param_next : (next : Found) → PatWalked g s p x c next → ParamsLoop g s (i + 1) mid next
+    param_next next d = record {
       walks = walks_trans g s Nothing mid c next h.walks d.walks;
       ahead = subst (λ n. LieAhead g.body s the_body n rest) (sym d.clock) (ahead_rest g.body s the_body c.clock (pat_part (parameter i) p) rest ahead_at);
       typed = λ j q u less at own.
@@ -71,8 +65,9 @@ module _ (g : Given) (s : Schedule) (i : ℕ) (mid c : Found) (h : ParamsLoop g 
                 let here : slice_get g.body.params i ≡ Some p = slice_get_read g.body.params _ i p refl k is in
                 let there : slice_get g.body.params i ≡ Some q = ap (λ n. slice_get g.body.params n) (sym same) ∙ at in
                 let one : p ≡ q = cc in
-                let types : t ≡ u = one_input g i t u input (subst (λ n. IsInput g n u) same own) in
-                subst (λ v. PatIsAtOrMismatch g next.result q v) types (subst (λ r. PatIsAtOrMismatch g next.result r t) one d.placed))
+                let there : slice_get g.inputs i ≡ Some (Some u) = subst (λ n. IsInput g n u) same own in
+                let known : x ≡ Some u = cc in
+                subst (λ r. PatIsAtOrMismatch g next.result r u) one (subst (λ y. IsPatPlaced g next.result p y) known d.placed))
           ];
     }
 

@@ -11,9 +11,8 @@ use Rattle.hir_raw.specs.declared.raw.RawBody.{RawBody}
 use Rattle.hir_raw.specs.declared.schedule.Schedule.{Schedule}
 use Rattle.hir_raw.specs.Order.{inner, the_body, start, IsInBody, IsSchedule, root, expr_part, param_parts, body_parts, end}
 use Rattle.hir_laws.specs.Bodies.{IsWalkable}
-use Rattle.hir_facts.specs.CarriedTypes.{IsCarriedType}
 use Rattle.infer_result.specs.Table.{At}
-use Rattle.infer_result.specs.Places.{Given}
+use Rattle.infer_result.specs.Places.{Given, IsAtMaybeOrMismatch}
 use Rattle.infer_result.specs.Demands.{Demand}
 use Rattle.infer_result.specs.declared.result.InferenceResult.{InferenceResult}
 use Rattle.infer_result.specs.declared.result.TypeMismatch.{TypeMismatch}
@@ -21,7 +20,8 @@ use Rattle.infer_result.specs.Made.{IsMade, IsMisfit}
 use Rattle.infer_result.specs.declared.diagnostics.InferenceDiagnostic.TheVariants as diagnostic
 use Rattle.infer_ctx.specs.Walks.{IsFree, IsCarriedTable, expr_end, IsWalked, Walks, Nothing, Owed}
 use Rattle.infer_ctx.specs.Found.{nothing_found, expr_variant, pat_variant, Found}
-use Rattle.infer_ctx.specs.Under.{LieAhead, IsReady, WrittenExist, ComesTo, CoerceWalked}
+use Rattle.infer_ctx.specs.Context.{IsCarriedExpectation}
+use Rattle.infer_ctx.specs.Under.{LieAhead, IsReady, WrittenExist, ComesTo, IsPlaced, CoerceWalked}
 use Rattle.infer_ctx.proofs.Parts.{after_append, ahead_start, ahead_right, binds_within, expr_before, ahead_stands}
 use Rattle.infer_ctx.proofs.Types.{table_closed}
 use Rattle.infer_ctx.proofs.Category.{walks_trans, walks_paid}
@@ -115,26 +115,38 @@ params_before g s a last c law written count is room empty =
     let ready : IsReady g s = record { law = law; written = written; room = omega (arith, is, root_last g.body s law) } in
     subst (λ k. ComesToParams g s k) (sym empty) (record { ready = ready; count = count; state = empty_walked g s a law; ahead = body_ahead g.body s law })
 
-pub root_before : (g : Given) (s : Schedule) (old c : Found) → IsReady g s → IsCarriedType g.output → ParamsWalked g s old c → ComesTo g s g.body.root (Some g.output) c
-root_before g s old c ready carried d = expr_before g s the_body root g.body.root [] (Some g.output) c ready d.walks.state d.ahead carried
+pub root_before : (g : Given) (s : Schedule) (old c : Found) → IsReady g s → IsCarriedExpectation g.output → ParamsWalked g s old c → ComesTo g s g.body.root g.output c
+root_before g s old c ready carried d = expr_before g s the_body root g.body.root [] g.output c ready d.walks.state d.ahead carried
 
 -- what the body asks of its root
-root_demand : (g : Given) (s : Schedule) (c : Found) → LieAhead g.body s the_body c.clock (expr_part root g.body.root ∷ []) → (r : InferenceResult) → Demand g r g.body.root g.output
-root_demand g s c ahead r =
+root_demand : (g : Given) (s : Schedule) (c : Found) → LieAhead g.body s the_body c.clock (expr_part root g.body.root ∷ []) → (r : InferenceResult) (t : Ty) → g.output ≡ Some t → Demand g r g.body.root t
+root_demand g s c ahead r t is =
     let q = ahead_stands g.body s the_body c.clock (expr_part root g.body.root) [] ahead in
-    inl (record { parent = the_body; at_part = q.0; role = root; stands = q.1; asks = (refl, refl) })
+    inl (record { parent = the_body; at_part = q.0; role = root; stands = q.1; asks = (refl, is) })
 
-module _ (g : Given) (s : Schedule) (a : Assignment) (law : IsWalkable g.body s) (t : Ty) (mid new : Found) (p : ParamsWalked g s (nothing_found a g.body) mid) (d : CoerceWalked g s g.body.root (Some g.output) t mid new) where
+module _ (g : Given) (s : Schedule) (a : Assignment) (law : IsWalkable g.body s) (t : Ty) (mid new : Found) (p : ParamsWalked g s (nothing_found a g.body) mid) (d : CoerceWalked g s g.body.root g.output t mid new) where
   abbrev first : Found
   first = nothing_found a g.body
 
   at_end : new.clock ≡ end g.body s the_body
   at_end = d.clock ∙ root_last g.body s law
 
-  walked : Walks g s (Owed g.body.root (Some g.output)) first new
+  walked : Walks g s (Owed g.body.root g.output) first new
   walked =
-      walks_trans g s (Owed g.body.root (Some g.output)) first mid new
-      (walks_paid g s Nothing (Owed g.body.root (Some g.output)) first mid (λ e m o. absurd o) p.walks) d.walks
+      walks_trans g s (Owed g.body.root g.output) first mid new
+      (walks_paid g s Nothing (Owed g.body.root g.output) first mid (λ e m o. absurd o) p.walks) d.walks
+
+  -- what is owed is what the body asks of its root
+  owed_demand : (e : ExprId) (m : TypeMismatch) (x : Option Ty) → g.output ≡ x → Owed g.body.root x e m → Demand g new.result e m.expected
+  owed_demand e m None is o = absurd o
+  owed_demand e m (Some u) is o =
+      subst (λ n. Demand g new.result n m.expected) (sym o.0) (
+      subst (λ v. Demand g new.result g.body.root v) (sym o.1) (root_demand g s mid p.ahead new.result u is)
+      )
+
+  root_placed : (x : Option Ty) → IsPlaced new.result g.body.root x t → IsAtMaybeOrMismatch new.result g.body.root x
+  root_placed None has = (t, has)
+  root_placed (Some u) placed = placed.1
 
   misfit : (e : ExprId) (m : TypeMismatch) → At new.result.expr_mismatches e.0 m → IsMisfit g new.result e m × Demand g new.result e m.expected
   misfit e m i =
@@ -144,10 +156,7 @@ module _ (g : Given) (s : Schedule) (a : Assignment) (law : IsWalkable g.body s)
           q.0,
           elim q.1 [
             | inl k ↦ k
-            | inr o ↦
-                subst (λ n. Demand g new.result n m.expected) (sym o.0) (
-                subst (λ u. Demand g new.result g.body.root u) (sym o.1) (root_demand g s mid p.ahead new.result)
-                )
+            | inr o ↦ owed_demand e m g.output refl o
           ],
         )
       ]
@@ -171,7 +180,7 @@ module _ (g : Given) (s : Schedule) (a : Assignment) (law : IsWalkable g.body s)
         walked.state.bound q.binder v q.binds (
         omega (arith, at_end, law.schedule.reached (inner (node.PatId q.binder)) (binds_within g.body q.binder v q.binds))
         ));
-    body_clause = d.placed.1;
+    body_clause = root_placed g.output d.placed;
     misfits = λ e m i. (misfit e m i).0;
     demands = λ e m i. (misfit e m i).1;
     complaints = record {

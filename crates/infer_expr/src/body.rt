@@ -1,19 +1,18 @@
 //! The types of a body.
 ghost use Rattle.std.specs.Prelude.{◌≡◌, ◌<◌, IfOk, OnOk, length};
 ghost use Rattle.hir_laws.specs.Bodies.{IsWalkable};
-ghost use Rattle.hir_facts.specs.CarriedTypes.{IsCarriedType};
 ghost use Rattle.infer_table.specs.Table.{new_state, Grew};
 ghost use Rattle.infer_ctx.specs.Asked.{AreGoalsOf, IsTold};
-ghost use Rattle.infer_ctx.specs.Fine.{HasFineHeads};
+ghost use Rattle.infer_ctx.specs.Fine.{IsFineExpectation};
 ghost use Rattle.infer_ctx.specs.Under.{WrittenExist};
 ghost use Rattle.infer_obligations.specs.Reading.{EndsSettled};
 ghost use Rattle.infer_expr.specs.Params.{BeforeParams, ParamsDone};
 ghost use Rattle.infer_ctx.specs.Steps.{BodyDone};
-ghost use Rattle.infer_ctx.specs.Context.{given_of, scope_in, schedule_of, empty_context};
+ghost use Rattle.infer_ctx.specs.Context.{given_of, scope_in, schedule_of, empty_context, IsCarriedExpectation};
 
 use crate::expr::infer_expr_coerce;
 use hir_facts::ExprOrPatId;
-use infer_ctx::{Expectation, GivenBody, InferenceContext};
+use infer_ctx::{GivenBody, InferenceContext};
 use infer_obligations::settle_needs;
 use infer_pat::infer_top_pat;
 use std::alloc::{AllocError, Global};
@@ -28,8 +27,8 @@ pub fn infer_body(
     requires law { IsWalkable given.now.body.now given.now.schedule.now }
     requires written { WrittenExist (given_of given.now) }
     requires count { length given.now.inputs.now ≡ length given.now.body.now.params }
-    requires carried { IsCarriedType given.now.return_ty.now }
-    requires heads { HasFineHeads (scope_in given.now) given.now.return_ty.now }
+    requires carried { IsCarriedExpectation given.now.return_ty.now }
+    requires fine { IsFineExpectation (scope_in given.now) new_state given.now.return_ty.now }
     requires empty { context.old ≡ empty_context given.now.body.now context.old.goals }
     requires table { context.old.goals.table ≡ new_state }
     requires goals { AreGoalsOf (given_of given.now) context.old }
@@ -42,7 +41,7 @@ pub fn infer_body(
     let root = given.body.root;
     let last = given.schedule.end_of(given.body, ExprOrPatId::ExprId(root));
     infer_params(alloc, context, given)?;
-    let expected = Expectation::HasType(given.return_ty);
+    let expected = given.return_expectation();
     infer_expr_coerce(alloc, context, given, root, expected)?;
     let is_done = context.clock == last;
     prove!(is_done);
@@ -50,7 +49,7 @@ pub fn infer_body(
     Ok(())
 }
 
-/// Types the patterns of the parameters, each by its written type: `infer.rs`, `collect_fn`.
+/// Types the patterns of the parameters, each by its type where that is known: `infer.rs`, `collect_fn`.
 fn infer_params(
     alloc: Global,
     context: &mut InferenceContext,
@@ -62,8 +61,8 @@ fn infer_params(
 {
     let params = given.body.params.as_slice();
     for i in 0..params.len() {
-        let ty = given.lower_ty(alloc, given.inputs[i])?;
-        infer_top_pat(alloc, context, given, params[i], Some(ty))?;
+        let ty = given.input_ty(alloc, i)?;
+        infer_top_pat(alloc, context, given, params[i], ty)?;
     }
     Ok(())
 }

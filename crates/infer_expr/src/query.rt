@@ -9,11 +9,12 @@ ghost use Rattle.infer_needs.specs.Told.{AreAllAnswered, HearsAll, IsToldAll, at
 ghost use Rattle.infer_end.specs.Ends.{EndsWell, IsSelectedBody, ComesOfSelection};
 
 use crate::body::infer_body;
-use hir_facts::{DefWithBodyId, Facts, Goal, return_ty};
+use hir_facts::{DefWithBodyId, Facts, Goal};
 use infer_ctx::{GivenBody, InferenceContext};
 use infer_end::{keep_general, read_where_possible, select_where_possible};
 use infer_goals::{Answer, ObligationInspector};
 use infer_needs::{prove_needs, scope_item, tell_all};
+use infer_obligations::own_types;
 use infer_result::InferenceResult;
 use std::alloc::{AllocError, Global};
 
@@ -32,20 +33,20 @@ fn infer_holes(
         unreachable!()
     };
     facts.lawful();
-    let return_ty = return_ty(alloc, facts, def)?;
     let body = facts.body(id);
+    let mut context = InferenceContext::new(alloc, facts, scope_item(facts, def), body)?;
+    let own = own_types(alloc, &context.goals, facts, def)?;
     let given = GivenBody {
         facts,
         owner: def,
         body,
         schedule: facts.schedule(id),
-        inputs: facts.inputs(def),
-        return_ty: &return_ty,
+        inputs: &own.inputs,
+        return_ty: &own.output,
     };
-    let mut context = InferenceContext::new(alloc, facts, scope_item(facts, def), body)?;
     infer_body(alloc, &mut context, &given)?;
     keep_general(alloc, &mut context, facts, def)?;
-    select_where_possible(&mut context, facts, def)?;
+    select_where_possible(&mut context, &given)?;
     read_where_possible(alloc, &mut context, &given)?;
     Ok(context)
 }

@@ -12,7 +12,8 @@ use Rattle.infer_table.specs.MadeTest.{HasMadeIf}
 use Rattle.infer_table.specs.Preserved.{Shape, TermRole, whole, part, rest, width, IsHead, IsMadeOf}
 use Rattle.infer_table.specs.Table.{State}
 use Rattle.infer_ctx.specs.Fine.{is_fine_head, IsFine}
-use Rattle.infer_obligations.specs.Reading.{is_read_head, IsInHand, body_scope}
+use Rattle.infer_result.specs.OwnTypes.{is_read_head, IsInHand}
+use Rattle.infer_obligations.specs.Reading.{body_scope}
 
 pub scope_is : (d : DefWithBodyId) (facts raw : RawFacts) (n : ℕ) (b : Bool) → raw ≡ facts → n ≡ params_of raw d → b ≡ has_associated raw d → body_scope raw n b ≡ scope_of facts d
 scope_is d facts raw n b same count may = ap (λ m. body_scope raw m b) count ∙ (ap (body_scope raw (params_of raw d)) may ∙ ap (λ x. scope_of x d) same)

@@ -5,5 +5,6 @@ pub mod Registering
 pub mod Selecting
 pub mod Walking
 pub mod InHand
+pub mod Known
 pub mod ReadNeeds
 pub mod Below

@@ -1,21 +1,19 @@
 -- What an associated type that a goal is about reads as, made equal with the goal's type.
-use Rattle.std.specs.Prelude.{◌≡◌, ◌⊎◌, ℕ, zero, suc, List, length, map, slice_get, Option, Some, true, false, ◌==◌, ◌&&◌, nat_lt, Bool}
+use Rattle.std.specs.Prelude.{◌≡◌, ◌⊎◌, ℕ, zero, suc, List, length, map, slice_get, Option, Some, Bool}
 use Rattle.hir_types.specs.declared.goal.Goal.{Goal}
 use Rattle.hir_types.specs.declared.goal.Goal.TheVariants as goal
 use Rattle.hir_types.specs.declared.ids.TypeAliasId.{TypeAliasId}
 use Rattle.hir_types.specs.declared.ty.GenericArg.{GenericArg}
-use Rattle.hir_types.specs.declared.head.Head.TheVariants as head
-use Rattle.hir_raw.specs.Scope.{Scope, adt_params, has_params, alias_params}
+use Rattle.hir_raw.specs.Scope.{Scope}
 use Rattle.hir_types.specs.declared.ty.Ty.{Ty}
 use Rattle.hir_types.specs.declared.ty.Ty.TheVariants as ty
-use Rattle.hir_types.specs.Terms.{term}
-use Rattle.infer_table.specs.Preserved.{Shape, whole, IsMadeOf}
-use Rattle.infer_table.specs.Table.{State, HolesAreOf, bindings, resolved_type}
+use Rattle.infer_table.specs.Table.{bindings, resolved_type}
 use Rattle.goal_facts.specs.Goals.{asked_goal}
 use Rattle.goal_facts.specs.Reading.{IsTypeRead}
 use Rattle.goal_facts.specs.Systems.{IsSystemOf}
 use Rattle.goal_search.specs.Sources.{system}
 use Rattle.infer_result.specs.Needs.{needs_at}
+use Rattle.infer_result.specs.OwnTypes.{IsInHand}
 use Rattle.infer_result.specs.Places.{Given}
 use Rattle.infer_ctx.specs.declared.context.InferenceContext.{InferenceContext}
 use Rattle.infer_ctx.specs.Steps.{OnlyBinds}
@@ -26,23 +24,6 @@ use Rattle.hir_raw.specs.declared.raw.RawFacts.{RawFacts}
 -- the scope of a body, from its parts
 abbrev pub body_scope : RawFacts → ℕ → Bool → Scope
 body_scope raw n b = record { facts = raw; params = n; associated = b }
-
--- The heads of types that can be written in this scope, or are associated types that stay, and over how many parts.
-abbrev pub is_read_head : Scope → Shape
-is_read_head sc head.Bool n = n == 0
-is_read_head sc head.Char n = n == 0
-is_read_head sc (head.Int i) n = n == 0
-is_read_head sc (head.Uint i) n = n == 0
-is_read_head sc head.Tuple n = true
-is_read_head sc (head.Adt id) n = has_params (adt_params sc.facts id) n
-is_read_head sc (head.Param i) n = n == 0 && nat_lt i sc.params
-is_read_head sc (head.AssociatedType k) n = sc.associated && has_params (alias_params sc.facts k) n
-is_read_head sc _ n = false
-
--- such a type, over holes that the table made
-pub record IsInHand (sc : Scope) (state : State) (t : Ty) : Type 0 where
-  pub heads : IsMadeOf (is_read_head sc) whole (term t)
-  pub holes : HolesAreOf state t
 
 -- the two were made equal, or differ, where both are such types; and nothing is recorded
 pub record UnifiesInHand (g : Given) (t u : Ty) (old new : InferenceContext) : Type 0 where

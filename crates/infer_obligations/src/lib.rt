@@ -2,11 +2,14 @@
 //! the arguments of each call, and at the end.
 #![tactic(auto)]
 
+mod hand;
 mod made;
+mod own;
 mod read;
 mod register;
 mod select;
 
+pub use own::{OwnTypes, own_types};
 pub use read::{read_all, read_for, select_and_read, settle_needs};
 pub use register::{register_each, register_needs};
 pub use select::{select_obligations_where_possible, select_registered};

@@ -1,53 +1,18 @@
 //! Associated types that goals are about, read as far as their arguments are known.
-ghost use Rattle.std.specs.Prelude.{◌≡◌, ◌↔◌, ◌<◌, length, IfOk, OnOk, IsTrue};
-ghost use Rattle.hir_raw.specs.Scope.{params_of};
+ghost use Rattle.std.specs.Prelude.{◌≡◌, ◌<◌, length, IfOk, OnOk};
 ghost use Rattle.infer_ctx.specs.Context.{given_of, scope_in};
 ghost use Rattle.infer_ctx.specs.Closings.{IsSound};
 ghost use Rattle.infer_result.specs.Closed.{IsOfBody};
 ghost use Rattle.infer_ctx.specs.Asked.{IsTold};
-ghost use Rattle.infer_obligations.specs.Reading.{IsInHand, UnifiesInHand, ReadsAlias, ReadsGoal, ReadsEach, ReadsFor, SelectsAndReads, ReadsPath, ReadsPaths, ReadsOn, SettlesNeeds};
+ghost use Rattle.infer_obligations.specs.Reading.{UnifiesInHand, ReadsAlias, ReadsGoal, ReadsEach, ReadsFor, SelectsAndReads, ReadsPath, ReadsPaths, ReadsOn, SettlesNeeds};
 
-use crate::made::is_read_type;
+use crate::hand::is_in_hand;
 use crate::select::select_obligations_where_possible;
-use goal_terms::type_term;
-use hir_facts::{DefWithBodyId, ExprId, ExprOrPatId, GenericDefId, Goal, RawFacts, Ty};
-use hir_raw::{generic_params, has_associated};
+use hir_facts::{ExprId, ExprOrPatId, Goal, Ty};
 use infer_coerce::{unify, unify_unknown};
 use infer_ctx::{GivenBody, InferenceContext};
 use infer_result::{expr_id, needed_goals};
 use std::alloc::{AllocError, Global};
-
-/// How many parameters are in scope in the body of a definition.
-fn params_in_body(facts: &RawFacts, owner: DefWithBodyId) -> usize
-    ensures { result ≡ params_of facts.now owner }
-{
-    match owner {
-        DefWithBodyId::FunctionId(function) => {
-            generic_params(facts, GenericDefId::FunctionId(function))
-        }
-        _ => 0,
-    }
-}
-
-/// Whether a type can be written in the scope of the body, or holds associated types that stay where these may be types, over holes that
-/// the table made.
-fn is_in_hand(
-    alloc: Global,
-    context: &InferenceContext,
-    given: &GivenBody,
-    ty: &Ty,
-) -> Result<bool, AllocError>
-    ensures { IfOk result (λ yes. IsTrue yes ↔ IsInHand (scope_in given.now) context.now.goals.table ty.now) }
-{
-    let term = type_term(alloc, ty)?;
-    let facts = given.facts.raw();
-    let params = params_in_body(facts, given.owner);
-    let associated = has_associated(facts, given.owner);
-    if !is_read_type(facts, params, associated, &term) {
-        return Ok(false);
-    }
-    context.goals.table.has_made(ty)
-}
 
 /// Makes two types equal, where both can be written in the scope of the body; else they differ, or nothing is done.
 fn unify_in_hand(
@@ -61,7 +26,10 @@ fn unify_in_hand(
     requires sound { IsSound (scope_in given.now) context.old }
     ensures { OnOk result (UnifiesInHand (given_of given.now) ty.now read.now context.old context.new) }
 {
-    if !is_in_hand(alloc, context, given, ty)? || !is_in_hand(alloc, context, given, read)? {
+    let (table, facts, owner) = (&context.goals.table, given.facts, given.owner);
+    if !is_in_hand(alloc, table, facts, owner, ty)?
+        || !is_in_hand(alloc, table, facts, owner, read)?
+    {
         return Ok(());
     }
     unify(context, given, ty, read)?;

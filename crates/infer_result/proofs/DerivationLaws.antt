@@ -1,6 +1,6 @@
 -- Typed tables without complaint, of types that are known, whose goals hold, are derivations.
-use Rattle.std.specs.Prelude.{◌⊎◌, ◌<◌, length, List, [], ◌∷◌, slice_get, Option, Some, None}
-use Rattle.std.proofs.Common.{inl, inr}
+use Rattle.std.specs.Prelude.{◌≡◌, ◌⊎◌, ◌<◌, length, List, [], ◌∷◌, slice_get, Option, Some, None}
+use Rattle.std.proofs.Common.{inl, inr, subst}
 use Rattle.hir_types.specs.declared.ids.ExprId.{ExprId}
 use Rattle.hir_types.specs.declared.ids.DefWithBodyId.{DefWithBodyId}
 use Rattle.hir_raw.specs.declared.raw.RawStmt.{RawStmt}
@@ -19,7 +19,9 @@ use Rattle.infer_result.specs.Excused.{ExcusedAs}
 use Rattle.infer_result.specs.Places.{Given}
 use Rattle.infer_result.specs.Rules.{ObeysExpression}
 use Rattle.infer_result.specs.Kinds.If.{branches_of}
-use Rattle.infer_result.specs.Typed.{IsTyped, IsTableOf, given}
+use Rattle.hir_facts.specs.Below.{return_type}
+use Rattle.infer_result.specs.OwnTypes.{aliases_of}
+use Rattle.infer_result.specs.Typed.{IsTyped, IsTableOf, given, given_by}
 use Rattle.infer_result.specs.Derivation.{HasNoComplaint, IsDerivation}
 use Rattle.infer_result.specs.Needs.{NeedsHold}
 
@@ -72,22 +74,30 @@ module _ (g : Given) (t : InferenceResult) (h : IsTyped g t) (known : AllTypes I
   obeys never (inl a) = absurd (never a)
   obeys never (inr b) = b
 
+-- where no associated type is written, the body has the types of its definition as they are written
+typed_as_written : (raw : RawFacts) (d : DefWithBodyId) (t : InferenceResult) (h : IsTableOf raw d t) → aliases_of raw d ≡ [] → IsTyped (given raw d h.body) t
+typed_as_written raw d t h none =
+    let own = h.own.as_written none in
+    subst (λ inputs. IsTyped (given_by raw d h.body inputs (Some (return_type raw d))) t) own.0
+    (subst (λ output. IsTyped (given_by raw d h.body h.inputs output) t) own.1 h.typed)
+
 -- what nodes need may rest on it that they obey their rules
-pub derivation_of : (raw : RawFacts) (d : DefWithBodyId) (t : InferenceResult) (h : IsTableOf raw d t) → AllTypes IsKnown t → HasNoComplaint t
+pub derivation_of : (raw : RawFacts) (d : DefWithBodyId) (t : InferenceResult) (h : IsTableOf raw d t) → aliases_of raw d ≡ [] → AllTypes IsKnown t → HasNoComplaint t
     → (((e : ExprId) → e.0 < length h.body.exprs → ObeysExpression (given raw d h.body) t e) → NeedsHold d (given raw d h.body) t) → IsDerivation raw d t
-derivation_of raw d t h known clean goals =
+derivation_of raw d t h none known clean goals =
+    let typed : IsTyped (given raw d h.body) t = typed_as_written raw d t h none in
     let exprs : (e : ExprId) → e.0 < length h.body.exprs → ObeysExpression (given raw d h.body) t e =
-    λ e within. obeys _ t h.typed known clean (not_excused _ t h.typed known clean e (slice_get h.body.exprs e.0)) (h.typed.exprs e within) in
+    λ e within. obeys _ t typed known clean (not_excused _ t typed known clean e (slice_get h.body.exprs e.0)) (typed.exprs e within) in
     record {
       body = h.body;
       is_body = h.is_body;
-      shape = h.typed.shape;
-      total = h.typed.total;
+      shape = typed.shape;
+      total = typed.total;
       known = known;
       fit = h.fit;
       clean = clean;
       exprs = exprs;
-      pats = h.typed.pats;
-      root = obeys _ t h.typed known clean (no_mismatch _ t h.typed known clean h.body.root) h.typed.body_rule;
+      pats = typed.pats;
+      root = obeys _ t typed known clean (no_mismatch _ t typed known clean h.body.root) typed.body_rule;
       goals = goals exprs;
     }

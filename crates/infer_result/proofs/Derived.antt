@@ -48,7 +48,7 @@ use Rattle.infer_result.specs.declared.result.TypeMismatch.{TypeMismatch}
 use Rattle.infer_result.specs.declared.diagnostics.InferenceDiagnostic.TheVariants as diagnostic
 use Rattle.infer_result.specs.Table.{At, HasTy, PatTy, HasMismatch, AnyMismatch, AnyDiagnostic, mismatch, MaybeMismatch}
 use Rattle.infer_result.specs.Closed.{IsTotal}
-use Rattle.infer_result.specs.Places.{Given, hole_type, declared, AreRecorded, IsAt, IsAtOrMismatch, MisfitsAs, PatIsAtOrMismatch}
+use Rattle.infer_result.specs.Places.{Given, hole_type, declared, AreRecorded, IsAt, IsAtOrMismatch, IsAtMaybe, IsAtMaybeOrMismatch, MisfitsAs, PatIsAtOrMismatch}
 use Rattle.infer_result.specs.Kinds.Constructor.{IsVariantAt, adt_at, fields_at}
 use Rattle.infer_result.specs.Kinds.Call.{IsCallee, IsInputAt, ArgsRule, ItemCallRule, CallsNonGeneric, IsWrittenInput, IsPathToItem}
 use Rattle.infer_result.specs.Demands.{IsAsked, Asks, AsksOf}
@@ -502,7 +502,11 @@ module _ (g : Given) (t : InferenceResult) (h : IsMade g t) where
   upward m r (of_parameter e i s n is) = local e n.binding n.pattern s n.names n.binds (bind_is_at n.pattern n.binding s n.binds (h.params i n.pattern s n.stands is))
 
   body_rule : BodyIsExcused g t ⊎ BodyObeys g t
-  body_rule = elim (at_or_excused t g.body.root g.output h.body_clause) [ inl a ↦ inr a | inr m ↦ inl m ]
+  body_rule = root_rule g.output h.body_clause
+    where
+      root_rule : (o : Option Ty) → IsAtMaybeOrMismatch t g.body.root o → HasMismatch t g.body.root ⊎ IsAtMaybe t g.body.root o
+      root_rule None a = inr a
+      root_rule (Some u) a = elim (at_or_excused t g.body.root u a) [ inl b ↦ inr b | inr m ↦ inl m ]
 
   total : IsTotal g.body t
   total = record {
@@ -513,7 +517,7 @@ module _ (g : Given) (t : InferenceResult) (h : IsMade g t) where
 
   -- ---- what is stated at a place is what is demanded there
 
-  asked_at_root : (n : Node) (role : Role) (s : Ty) → role ≡ root → Asks g t n role s → s ≡ g.output
+  asked_at_root : (n : Node) (role : Role) (s : Ty) → role ≡ root → Asks g t n role s → g.output ≡ Some s
   asked_at_root the_body role s is asks = asks.1
   asked_at_root (inner (node.ExprId n)) role s is asks = absurd (subst (λ r. AsksOf g t n r s) is asks)
   asked_at_root (inner (node.PatId p)) role s is asks = (let clash : root ≡ Role.pattern_literal = sym is ∙ asks.0 in cc)
@@ -550,13 +554,16 @@ module _ (g : Given) (t : InferenceResult) (h : IsMade g t) where
         let one : record { node = node.ExprId e; role = dm.role } ≡ record { node = node.ExprId e; role = st.role } = one_part (part_at g.body dm.parent dm.at_part) _ _ dm.stands.part here in
         let roles : dm.role ≡ st.role = ap (λ (p : Part). p.role) one in
         elim st.states [
-          | inl r ↦ r.1 ∙ sym (asked_at_root dm.parent dm.role d (roles ∙ r.0) dm.asks)
+          | inl r ↦ same_output g.output s d r.1 (asked_at_root dm.parent dm.role d (roles ∙ r.0) dm.asks)
           | inr (inl w) ↦ w.3 ∙ (sym (filled_written (hole_type t) g.scope.facts.types w.0 w.2) ∙ sym (asked_at_let dm.parent dm.role w.0 d (roles ∙ w.1) dm.asks))
           | inr (inr a) ↦ asked_of_argument dm.parent dm.role a.0 s d (roles ∙ a.1) (subst (λ n. IsWrittenInput g n a.0 s) same.0 a.2) dm.asks
         ]
       where
         one_part : (o : Option Part) (p q : Part) → o ≡ Some p → o ≡ Some q → p ≡ q
         one_part o p q x y = cc
+
+        same_output : (o : Option Ty) (u v : Ty) → o ≡ Some u → o ≡ Some v → u ≡ v
+        same_output o u v x y = cc
 
     no_up_of_block : (e : ExprId) (u : Ty) → IsBlockWithoutTail g.body e → Up g e u → ⊥
     no_up_of_block m r is (of_literal e l s at own) = (let k = is.is_block in cc)

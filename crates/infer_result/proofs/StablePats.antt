@@ -1,7 +1,6 @@
 -- The rules of patterns hold of a table under an assignment where they hold of the table.
 use Rattle.std.proofs.Common.{ℕ, ◌≡◌, inl, inr, refl, sym, ap, subst, ◌∙◌, List, [], ◌∷◌, map, Option, Some, None, slice_get}
 use Rattle.hir_types.specs.declared.ids.PatId.{PatId}
-use Rattle.hir_types.specs.declared.ids.TypeRefId.{TypeRefId}
 use Rattle.hir_types.specs.declared.ids.VariantId.{VariantId}
 use Rattle.hir_types.specs.declared.ids.ExprOrPatId.TheVariants as node
 use Rattle.hir_types.specs.declared.ty.Ty.{Ty}
@@ -14,7 +13,6 @@ use Rattle.hir_raw.specs.declared.raw.RawVariant.{RawVariant}
 use Rattle.hir_facts.specs.Below.{IsLawful}
 use Rattle.hir_raw.specs.Order.{Role, parameter, let_pattern, arm_pattern, subpattern, Node, the_body, inner}
 use Rattle.hir_raw.specs.Signatures.{field_types, type_args}
-use Rattle.hir_raw.specs.WrittenTypes.{written_type}
 use Rattle.infer_result.specs.declared.result.InferenceResult.{InferenceResult}
 use Rattle.infer_result.specs.Table.{PatTy}
 use Rattle.infer_result.specs.Places.{Given, StandsAt, declared, PatIsAtOrMismatch}
@@ -25,8 +23,8 @@ use Rattle.infer_result.specs.Incoming.{GivesPart, Gives}
 use Rattle.infer_result.proofs.Derived.{one_at, tuple_parts, adt_parts, adt_no_tuple, same_type_args}
 use Rattle.infer_result.proofs.Parts.{PartStands, comes_from}
 use Rattle.infer_result.specs.Rules.{PatRule, ObeysPattern}
-use Rattle.infer_result.specs.Stable.{diagnostic_under, table_under, WholeObeys}
-use Rattle.infer_result.proofs.Unchanged.{IsUnchanged, instances_under, fields_unchanged}
+use Rattle.infer_result.specs.Stable.{diagnostic_under, table_under, WholeObeys, IsClosedType}
+use Rattle.infer_result.proofs.Unchanged.{instances_under, fields_unchanged}
 use Rattle.infer_result.proofs.Under.{At-under, At-before, entry_before, tuple_under, adt_under, variant_under, type_under, pat_type_under, recorded_before, declared_under}
 use Rattle.infer_result.proofs.StableExprs.{pat_at_under, ctor_path_under}
 
@@ -122,7 +120,7 @@ module _ (g : Given) (law : IsLawful g.scope.facts) (a : Assignment) (t : Infere
         )
 
   -- where the types of parameters have no holes
-  module _ (inputs : (i : ℕ) (w : TypeRefId) → slice_get g.inputs i ≡ Some w → IsUnchanged (written_type g.scope.facts.types w)) (p : PatId) (whole : WholeObeys g t p) where
+  module _ (inputs : (i : ℕ) (u : Ty) → slice_get g.inputs i ≡ Some (Some u) → IsClosedType u) (p : PatId) (whole : WholeObeys g t p) where
     abbrev Before : Node → Role → Ty → Type 0
     Before n role s = (u : Ty) × Gives g t n role u × (folded a u ≡ s)
 
@@ -137,7 +135,7 @@ module _ (g : Given) (law : IsLawful g.scope.facts) (a : Assignment) (t : Infere
     part_before (inner (node.PatId q)) k i stands s (inr h) = let x = field_before q i (whole q k (subpattern i) stands) s h in (x.0, inr x.1, x.2)
 
     type_before : (n : Node) (role : Role) → (k : ℕ) → StandsAt g.body (node.PatId p) n k role → (s : Ty) → Gives g (table_under a t) n role s → Before n role s
-    type_before n (parameter i) k stands s (w, found, is) = (written_type g.scope.facts.types w, (w, found, refl), inputs i w found a ∙ sym is)
+    type_before n (parameter i) k stands s found = (s, found, inputs i s found a)
     type_before n (let_pattern (Some w) init) k stands s (r, is) =
         let before = recorded_before a t g w r in
         (declared g t w, (before, refl), declared_under a t g w before ∙ sym is)

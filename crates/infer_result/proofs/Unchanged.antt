@@ -3,15 +3,13 @@ use Rattle.std.proofs.Common.{ℕ, zero, suc, ◌≡◌, refl, sym, ap, subst, �
 use Rattle.hir_types.specs.declared.ids.AdtId.{AdtId}
 use Rattle.hir_types.specs.declared.ids.CallableDefId.{CallableDefId}
 use Rattle.hir_types.specs.declared.ids.CallableDefId.TheVariants as callable
-use Rattle.hir_types.specs.declared.ids.DefWithBodyId.{DefWithBodyId}
-use Rattle.hir_types.specs.declared.ids.DefWithBodyId.TheVariants as def
 use Rattle.hir_types.specs.declared.ids.TypeRefId.{TypeRefId}
 use Rattle.hir_types.specs.declared.ty.IntegerTy.{IntegerTy}
 use Rattle.hir_types.specs.declared.ty.IntegerTy.TheVariants.{Int, Uint}
 use Rattle.hir_types.specs.declared.ty.Ty.{Ty}
 use Rattle.hir_types.specs.declared.ty.Ty.TheVariants as ty
 use Rattle.hir_types.specs.Subst.{Assignment, with_holes, folded}
-use Rattle.hir_types.specs.Replacements.{replaced_bool, replaced_char, replaced_int, replaced_uint, replaced_tuple, replaced_adt, replaced_error, replaced_param}
+use Rattle.hir_types.specs.Replacements.{replaced_bool, replaced_char, replaced_int, replaced_uint, replaced_tuple, replaced_adt, replaced_param}
 use Rattle.hir_types.specs.Types.{integer_type}
 use Rattle.hir_types.specs.Instances.{types_args_folded, instance_at_types}
 use Rattle.hir_raw.specs.declared.raw.RawCtor.{RawCtor}
@@ -21,7 +19,7 @@ use Rattle.hir_raw.specs.declared.raw.RawFn.{RawFn}
 use Rattle.hir_raw.specs.declared.raw.RawType.{RawType}
 use Rattle.hir_raw.specs.declared.raw.RawVariant.{RawVariant}
 use Rattle.hir_raw.specs.declared.raw.RawFacts.{RawFacts}
-use Rattle.hir_facts.specs.Below.{output_by, return_type, inputs_of, IsLawful, HasNoHole, output_has_no_hole, field_has_no_hole, definition_input_has_no_hole}
+use Rattle.hir_facts.specs.Below.{IsLawful, HasNoHole, field_has_no_hole}
 use Rattle.hir_facts.specs.Filled.{filled_written, filled_folded}
 use Rattle.hir_facts.proofs.Below.{Each, IsOver, over_input, over_output}
 use Rattle.hir_raw.specs.Scope.{adt_params, fn_arity}
@@ -126,17 +124,3 @@ module _ (raw : RawFacts) (law : IsLawful raw) where
   pub signature_unchanged : (item : CallableDefId) (σ : Signature) → signature_of raw item ≡ Some σ → IsUnchangedSignature σ
   signature_unchanged (callable.FunctionId f) σ is = by_fn f.0 (slice_get raw.fns f.0) σ refl is
   signature_unchanged (callable.VariantId v) σ is = by_variant v.0 (slice_get raw.variants v.0) σ refl is
-
-  by_output : (f : ℕ) (o : Option RawFn) → slice_get raw.fns f ≡ o → IsUnchanged (output_by raw o)
-  by_output f None found a = replaced_error (with_holes a)
-  by_output f (Some x) found a = written_unchanged raw.types x.output (output_has_no_hole raw law f x found) a
-
-  -- of a definition: what its body is typed against
-  pub output_unchanged : (d : DefWithBodyId) → IsUnchanged (return_type raw d)
-  output_unchanged (def.FunctionId f) a = by_output f.0 (slice_get raw.fns f.0) refl a
-  output_unchanged (def.ConstId c) a = replaced_error (with_holes a)
-  output_unchanged (def.StaticId s) a = replaced_error (with_holes a)
-  output_unchanged (def.VariantId v) a = replaced_error (with_holes a)
-
-  pub input_unchanged : (d : DefWithBodyId) (i : ℕ) (w : TypeRefId) → slice_get (inputs_of raw d) i ≡ Some w → IsUnchanged (written_type raw.types w)
-  input_unchanged d i w here = written_unchanged raw.types w (definition_input_has_no_hole raw law d i w here)

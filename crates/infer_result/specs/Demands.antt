@@ -31,7 +31,7 @@ AsksOf g r n _ t = ⊥
 -- The type that a node asks of its part in this role: the body asks that its root have the output, a
 -- pattern that its literal have the type that comes into it.
 abbrev pub Asks : Given → InferenceResult → Node → Role → Ty → Type 0
-Asks g r the_body role t = (role ≡ root) × (t ≡ g.output)
+Asks g r the_body role t = (role ≡ root) × (g.output ≡ Some t)
 Asks g r (inner (node.ExprId n)) role t = AsksOf g r n role t
 Asks g r (inner (node.PatId p)) role t = (role ≡ pattern_literal) × Incoming g r p t
 

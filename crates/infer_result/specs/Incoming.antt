@@ -1,10 +1,8 @@
 -- What comes into a pattern.
 use Rattle.std.specs.Prelude.{ℕ, ◌≡◌, ◌⊎◌, slice_get, Some, None}
 use Rattle.hir_types.specs.declared.ids.PatId.{PatId}
-use Rattle.hir_types.specs.declared.ids.TypeRefId.{TypeRefId}
 use Rattle.hir_types.specs.declared.ty.Ty.{Ty}
 use Rattle.hir_types.specs.declared.ids.ExprOrPatId.TheVariants as node
-use Rattle.hir_raw.specs.WrittenTypes.{written_type}
 use Rattle.hir_raw.specs.Order.{Role, parameter, let_pattern, arm_pattern, subpattern, Node, inner}
 use Rattle.infer_result.specs.declared.result.InferenceResult.{InferenceResult}
 use Rattle.infer_result.specs.Table.{HasTy}
@@ -12,9 +10,9 @@ use Rattle.infer_result.specs.Places.{Given, StandsAt, IsDeclared}
 use Rattle.infer_result.specs.Pats.Tuple.{GivesComponent}
 use Rattle.infer_result.specs.Pats.Constructor.{GivesField}
 
--- the written type of the parameter at this position
+-- the type of the parameter at this position
 abbrev pub IsInput : Given → ℕ → Ty → Type 0
-IsInput g i t = (w : TypeRefId) × (slice_get g.inputs i ≡ Some w) × (t ≡ written_type g.scope.facts.types w)
+IsInput g i t = slice_get g.inputs i ≡ Some (Some t)
 
 -- the type that a pattern gives to its part at this position: a component, or the type of a field. A part
 -- beyond the fields is given none.

@@ -23,4 +23,5 @@ pub mod Derivation
 pub mod General
 pub mod Report
 pub mod Stable
+pub mod OwnTypes
 pub mod Below

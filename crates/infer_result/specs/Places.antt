@@ -1,5 +1,5 @@
 -- What a body is given, and where its expressions and patterns stand.
-use Rattle.std.specs.Prelude.{ℕ, ◌≡◌, ◌⊎◌, List, length, slice_get, unwrap_or, Option, Some}
+use Rattle.std.specs.Prelude.{ℕ, ◌≡◌, ◌⊎◌, List, slice_get, unwrap_or, Option, Some, None}
 use Rattle.hir_types.specs.declared.ids.ExprId.{ExprId}
 use Rattle.hir_types.specs.declared.ids.PatId.{PatId}
 use Rattle.hir_types.specs.declared.ids.TypeRefId.{TypeRefId}
@@ -17,13 +17,13 @@ use Rattle.hir_raw.specs.declared.raw.RawPat.TheVariants as pat
 use Rattle.infer_result.specs.declared.result.InferenceResult.{InferenceResult}
 use Rattle.infer_result.specs.Table.{recorded, HasTy, PatTy, PlaceholderTy, HasMismatch, HasPatMismatch}
 
--- a body among its facts: what its types may name, the written types of its parameters, and the type that it
--- is typed against
+-- a body among its facts: what its types may name, the types of its parameters, and the type that it is typed against, each where the body
+-- knows of one
 pub record Given : Type 0 where
   pub scope : Scope
   pub body : RawBody
-  pub inputs : List TypeRefId
-  pub output : Ty
+  pub inputs : List (Option Ty)
+  pub output : Option Ty
 
 -- x is part k of the node n, in this role
 pub record StandsAt (b : RawBody) (x : ExprOrPatId) (n : Node) (k : ℕ) (role : Role) : Type 0 where
@@ -72,6 +72,15 @@ IsAt r e t = (a : Ty) × HasTy r e a × Same a t
 -- it is, or a mismatch is listed at it
 abbrev pub IsAtOrMismatch : InferenceResult → ExprId → Ty → Type 0
 IsAtOrMismatch r e t = (a : Ty) × HasTy r e a × (Same a t ⊎ HasMismatch r e)
+
+-- the expression is at the type, if there is one, or has any type
+abbrev pub IsAtMaybe : InferenceResult → ExprId → Option Ty → Type 0
+IsAtMaybe r e None = (a : Ty) × HasTy r e a
+IsAtMaybe r e (Some t) = IsAt r e t
+
+abbrev pub IsAtMaybeOrMismatch : InferenceResult → ExprId → Option Ty → Type 0
+IsAtMaybeOrMismatch r e None = (a : Ty) × HasTy r e a
+IsAtMaybeOrMismatch r e (Some t) = IsAtOrMismatch r e t
 
 -- A mismatch stands at the pattern, or at the literal that it is. What binds a name or nothing has none.
 abbrev pub MisfitsAs : InferenceResult → PatId → Option RawPat → Type 0

@@ -11,7 +11,7 @@ use Rattle.hir_raw.specs.declared.raw.RawPat.TheVariants as pat
 use Rattle.infer_result.specs.declared.result.InferenceResult.{InferenceResult}
 use Rattle.infer_result.specs.declared.modes.BindingMode.TheVariants as mode
 use Rattle.infer_result.specs.Table.{HasTy, PatTy, BindingTy, HasMode}
-use Rattle.infer_result.specs.Places.{Given, IsAt, IsAtOrMismatch, PatIsAtOrMismatch}
+use Rattle.infer_result.specs.Places.{Given, IsAtMaybe, IsAtMaybeOrMismatch, PatIsAtOrMismatch}
 use Rattle.infer_result.specs.Placing.{Placing, at_or_mismatch, at_types}
 use Rattle.infer_result.specs.Kinds.Literal.{IsLiteralType}
 use Rattle.infer_result.specs.Kinds.Path.{PathRule}
@@ -43,12 +43,12 @@ ObeysOrMismatch g r n = Rule (at_or_mismatch g r) g r n (slice_get g.body.exprs 
 abbrev pub ObeysExpression : Given → InferenceResult → ExprId → Type 0
 ObeysExpression g r n = Rule (at_types g r) g r n (slice_get g.body.exprs n.0)
 
--- the body's own rule: its root is at the output
+-- the body's own rule: its root is at the output, if that is known
 abbrev pub BodyObeysOrMismatch : Given → InferenceResult → Type 0
-BodyObeysOrMismatch g r = IsAtOrMismatch r g.body.root g.output
+BodyObeysOrMismatch g r = IsAtMaybeOrMismatch r g.body.root g.output
 
 abbrev pub BodyObeys : Given → InferenceResult → Type 0
-BodyObeys g r = IsAt r g.body.root g.output
+BodyObeys g r = IsAtMaybe r g.body.root g.output
 
 -- ---- patterns
 

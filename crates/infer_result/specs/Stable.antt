@@ -5,6 +5,7 @@ use Rattle.hir_types.specs.declared.ids.ExprId.{ExprId}
 use Rattle.hir_types.specs.declared.ids.PatId.{PatId}
 use Rattle.hir_types.specs.declared.ids.DefWithBodyId.{DefWithBodyId}
 use Rattle.hir_types.specs.declared.ids.ExprOrPatId.TheVariants as node
+use Rattle.hir_types.specs.declared.ty.Ty.{Ty}
 use Rattle.hir_types.specs.Subst.{Assignment, folded, composed}
 use Rattle.hir_raw.specs.declared.raw.RawBody.{RawBody}
 use Rattle.hir_raw.specs.declared.raw.RawFacts.{RawFacts}
@@ -17,7 +18,7 @@ use Rattle.infer_result.specs.declared.diagnostics.InferenceDiagnostic.TheVarian
 use Rattle.infer_result.specs.Table.{mismatch}
 use Rattle.infer_result.specs.Places.{Given, StandsAt}
 use Rattle.infer_result.specs.Rules.{ObeysOrMismatch, ObeysExpression, BodyObeysOrMismatch, BodyObeys, PatRule, ObeysPattern}
-use Rattle.infer_result.specs.Typed.{given}
+use Rattle.infer_result.specs.Typed.{given_by}
 
 -- ---- a table under an assignment
 
@@ -74,6 +75,15 @@ pub record RulesAreStable (g : Given) : Type 0 where
   pub root : IsStable (λ t. BodyObeys g t)
   pub root_clause : IsStable (λ t. BodyObeysOrMismatch g t)
 
--- the rules of each body of the facts are
+-- no assignment changes the type
+abbrev pub IsClosedType : Ty → Type 0
+IsClosedType t = (a : Assignment) → folded a t ≡ t
+
+-- nor what the body knows of what its definition takes and gives
+pub record HasClosedTypes (g : Given) : Type 0 where
+  pub inputs : (i : ℕ) (t : Ty) → slice_get g.inputs i ≡ Some (Some t) → IsClosedType t
+  pub output : (t : Ty) → g.output ≡ Some t → IsClosedType t
+
+-- the rules of each body of the facts are, whatever closed types the body knows of what its definition takes and gives
 abbrev pub NodeRulesAreStable : RawFacts → Type 0
-NodeRulesAreStable raw = (d : DefWithBodyId) (b : RawBody) → body_of raw d ≡ Some b → RulesAreStable (given raw d b)
+NodeRulesAreStable raw = (d : DefWithBodyId) (b : RawBody) → body_of raw d ≡ Some b → (inputs : List (Option Ty)) (output : Option Ty) → HasClosedTypes (given_by raw d b inputs output) → RulesAreStable (given_by raw d b inputs output)

@@ -1,12 +1,12 @@
 -- What a finished table is, node by node: no order, no state.
-use Rattle.std.specs.Prelude.{◌≡◌, ◌<◌, ◌⊎◌, length, Some}
+use Rattle.std.specs.Prelude.{◌≡◌, ◌<◌, ◌⊎◌, List, length, Option, Some}
 use Rattle.hir_types.specs.declared.ids.ExprId.{ExprId}
 use Rattle.hir_types.specs.declared.ids.PatId.{PatId}
 use Rattle.hir_types.specs.declared.ids.DefWithBodyId.{DefWithBodyId}
 use Rattle.hir_types.specs.declared.ty.Ty.{Ty}
 use Rattle.hir_raw.specs.declared.raw.RawBody.{RawBody}
 use Rattle.hir_raw.specs.declared.raw.RawFacts.{RawFacts}
-use Rattle.hir_facts.specs.Below.{body_of, return_type, inputs_of}
+use Rattle.hir_facts.specs.Below.{body_of, return_type}
 use Rattle.hir_raw.specs.Scope.{scope_of}
 use Rattle.infer_result.specs.declared.result.InferenceResult.{InferenceResult}
 use Rattle.infer_result.specs.declared.result.TypeMismatch.{TypeMismatch}
@@ -14,6 +14,7 @@ use Rattle.infer_result.specs.Table.{At, HasTy}
 use Rattle.infer_result.specs.Closed.{IsTotal}
 use Rattle.infer_result.specs.TypesFit.{TypesFit, SeenFit}
 use Rattle.infer_result.specs.Shape.{IsShaped, IsTruthful}
+use Rattle.infer_result.specs.OwnTypes.{AreOwnTypes, written_inputs}
 use Rattle.infer_result.specs.Places.{Given}
 use Rattle.infer_result.specs.Rules.{ObeysOrMismatch, ObeysExpression, BodyObeysOrMismatch, BodyObeys, ObeysPattern}
 use Rattle.infer_result.specs.Excused.{IsExcused, BodyIsExcused}
@@ -34,15 +35,21 @@ pub record IsTyped (g : Given) (r : InferenceResult) : Type 0 where
   pub truths : (e : ExprId) (x : TypeMismatch) → At r.expr_mismatches e.0 x → IsTrueMismatch g r e x
   pub complaints : IsTruthful g r
 
--- the body of a definition among its facts
+-- the body of a definition among its facts, with these types of what the definition takes and gives
+abbrev pub given_by : RawFacts → DefWithBodyId → RawBody → List (Option Ty) → Option Ty → Given
+given_by raw d b inputs output = record { scope = scope_of raw d; body = b; inputs = inputs; output = output }
+
+-- with the types as they are written
 abbrev pub given : RawFacts → DefWithBodyId → RawBody → Given
-given raw d b =
-    record { scope = scope_of raw d; body = b; inputs = inputs_of raw d; output = return_type raw d }
+given raw d b = given_by raw d b (written_inputs raw d) (Some (return_type raw d))
 
 -- the table is one of the definition's body, typed, and its types name what the facts have
 pub record IsTableOf (raw : RawFacts) (d : DefWithBodyId) (r : InferenceResult) : Type 0 where
   pub body : RawBody
   pub is_body : body_of raw d ≡ Some body
-  pub typed : IsTyped (given raw d body) r
+  pub inputs : List (Option Ty)
+  pub output : Option Ty
+  pub own : AreOwnTypes raw d inputs output
+  pub typed : IsTyped (given_by raw d body inputs output) r
   pub fit : TypesFit raw d r
   pub seen_fit : SeenFit raw d r

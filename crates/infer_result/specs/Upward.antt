@@ -35,7 +35,7 @@ pub data Up (g : Given) : ExprId → Ty → Type 0 where
 -- the type that is written at the place of a part of the node in this role, without a `_`
 abbrev pub States : Given → Node → Role → Ty → Type 0
 States g n role t =
-    ((role ≡ root) × (t ≡ g.output))
+    ((role ≡ root) × (g.output ≡ Some t))
     ⊎ (((w : TypeRefId) × (role ≡ initializer (Some w)) × HasNoHole g.scope.facts.types w
     × (t ≡ written_type g.scope.facts.types w)) ⊎ ((i : ℕ) × (role ≡ argument i) × IsWrittenInput g n i t))
 

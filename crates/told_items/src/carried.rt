@@ -38,7 +38,7 @@ fn has_const(arguments: Option<&Value>) -> bool {
 }
 
 const PROJECTIONS: Uncarried<'static> = Uncarried::Form(
-    "projections but in goals, impls, other projections and functions without a body",
+    "projections but in goals, impls, other projections and what functions take and give",
 );
 
 /// Whether a projection stands in a type: it is one, or a type before it that it is made of holds one.
@@ -162,28 +162,7 @@ fn of_variant<'a>(
     }
 }
 
-/// Where it has a body, the first input of a function in which a projection stands, or the output where one does.
-fn of_signature(
-    marks: &[bool],
-    place: Place,
-    function: &Value,
-) -> Option<(Place, Uncarried<'static>)> {
-    if !is_there(function.get("body")) {
-        return None;
-    }
-    for (at, input) in list(function, "inputs").iter().enumerate() {
-        if has_projection(marks, Some(input)) {
-            return Some((place.item("inputs", at), PROJECTIONS));
-        }
-    }
-    if has_projection(marks, function.get("output")) {
-        Some((place.key("output"), PROJECTIONS))
-    } else {
-        None
-    }
-}
-
-fn of_fn<'a>(marks: &[bool], place: Place, function: &'a Value) -> Option<(Place, Uncarried<'a>)> {
+fn of_fn<'a>(place: Place, function: &'a Value) -> Option<(Place, Uncarried<'a>)> {
     match word(function.get("at")) {
         "module" => {}
         word => return Some((place.key("at"), Uncarried::Kind(word, "functions"))),
@@ -195,7 +174,7 @@ fn of_fn<'a>(marks: &[bool], place: Place, function: &'a Value) -> Option<(Place
                 Uncarried::Form("functions with `self`"),
             ))
         }
-        _ => of_params(place, function).or(of_signature(marks, place, function)),
+        _ => of_params(place, function),
     }
 }
 
@@ -326,7 +305,7 @@ fn of_entry<'a>(
         FactsList::Types => Some((place, of_type(entry))),
         FactsList::Adts => of_adt(place, entry),
         FactsList::Variants => of_variant(marks, place, entry),
-        FactsList::Fns => of_fn(marks, place, entry),
+        FactsList::Fns => of_fn(place, entry),
         FactsList::Traits => of_members(place, entry),
         FactsList::Aliases => of_goals(place, entry, "bounds"),
         FactsList::Impls => of_impl(place, entry),

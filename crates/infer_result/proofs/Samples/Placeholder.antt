@@ -47,7 +47,7 @@ body =
     (pat.Bind (b 0) None ∷ []) (plain ∷ [])
 
 abbrev given : Given
-given = record { scope = scope_with types; body = body; inputs = []; output = unit }
+given = record { scope = scope_with types; body = body; inputs = []; output = Some unit }
 
 abbrev schedule : Schedule
 schedule = record { starts = 3 ∷ 4 ∷ 2 ∷ 1 ∷ 5 ∷ 0 ∷ []; ends = 4 ∷ 5 ∷ 5 ∷ 6 ∷ 6 ∷ 6 ∷ []; depths = 3 ∷ 3 ∷ 2 ∷ 1 ∷ 2 ∷ 0 ∷ [] }

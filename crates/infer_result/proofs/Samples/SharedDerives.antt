@@ -112,9 +112,9 @@ module _ (s : Ty) where
   input_obeys : ObeysPattern Here table (p 0)
   input_obeys = record {
     incoming = λ u into.
-        let (v, named, is) = comes Here schedule is_schedule table (p 0) the_body 0 (a_parameter 0) u (record { node_is = tt; part = refl }) into in
-        let same : w 1 ≡ v = cc in
-        (ty.Bool, refl, inl (sym (is ∙ (ap (written_type types) (sym same) ∙ written_bool))));
+        let both : Some (Some (written_type types (w 1))) ≡ Some (Some u) = comes Here schedule is_schedule table (p 0) the_body 0 (a_parameter 0) u (record { node_is = tt; part = refl }) into in
+        let is : written_type types (w 1) ≡ u = cc in
+        (ty.Bool, refl, inl (sym written_bool ∙ is));
     kind = (ty.Bool, refl, refl, refl);
   }
 

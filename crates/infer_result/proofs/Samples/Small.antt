@@ -192,13 +192,13 @@ pub comes : (g : Given) (s : Schedule) → IsSchedule g.body s → (t : Inferenc
 comes g s law t x n k role u here d = at_place g s law (node.PatId x) n d.parent k d.at_part role d.role (λ q r. Gives g t q r u) here d.stands d.gives
 
 -- the one parameter is at its written type
-pub one_param : (g : Given) (t : InferenceResult) (q : PatId) (v : TypeRefId) → g.body.params ≡ q ∷ [] → g.inputs ≡ v ∷ [] → PatTy t q (written_type g.scope.facts.types v) → (i : ℕ) (x : PatId) (s : Ty) → slice_get g.body.params i ≡ Some x → IsInput g i s → PatIsAtOrMismatch g t x s
+pub one_param : (g : Given) (t : InferenceResult) (q : PatId) (v : TypeRefId) → g.body.params ≡ q ∷ [] → g.inputs ≡ Some (written_type g.scope.facts.types v) ∷ [] → PatTy t q (written_type g.scope.facts.types v) → (i : ℕ) (x : PatId) (s : Ty) → slice_get g.body.params i ≡ Some x → IsInput g i s → PatIsAtOrMismatch g t x s
 one_param g t q v ps vs has zero x s found is =
     let found_here : slice_get (q ∷ []) 0 ≡ Some x = subst (λ xs. slice_get xs 0 ≡ Some x) ps found in
-    let input_here : slice_get (v ∷ []) 0 ≡ Some is.0 = subst (λ xs. slice_get xs 0 ≡ Some is.0) vs is.1 in
+    let input_here : slice_get (Some (written_type g.scope.facts.types v) ∷ []) 0 ≡ Some (Some s) = subst (λ xs. slice_get xs 0 ≡ Some (Some s)) vs is in
     let one : q ≡ x = cc in
-    let written : v ≡ is.0 = cc in
-    subst (λ z. PatIsAtOrMismatch g t z s) one (written_type g.scope.facts.types v, has, inl (ap (written_type g.scope.facts.types) written ∙ sym is.2))
+    let written : written_type g.scope.facts.types v ≡ s = cc in
+    subst (λ z. PatIsAtOrMismatch g t z s) one (written_type g.scope.facts.types v, has, inl written)
 one_param g t q v ps vs has (suc i) x s found is = (let found_here : slice_get (q ∷ []) (suc i) ≡ Some x = subst (λ xs. slice_get xs (suc i) ≡ Some x) ps found in absurd (cc))
 
 -- ---- alternatives

@@ -41,7 +41,7 @@ body =
     (pat.Bind (b 0) None ∷ pat.Bind (b 1) None ∷ []) (plain ∷ plain ∷ [])
 
 abbrev given : Given
-given = record { scope = scope_with types; body = body; inputs = []; output = unit }
+given = record { scope = scope_with types; body = body; inputs = []; output = Some unit }
 
 first_declared : (t : InferenceResult) → declared given t (w 0) ≡ ty.Bool
 unfolding filled_within

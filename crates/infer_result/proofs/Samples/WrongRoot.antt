@@ -27,7 +27,7 @@ abbrev body : RawBody
 body = body_of (expr.Lit (literal.Bool true) ∷ expr.Block None [] (Some (e 0)) ∷ []) 1 [] []
 
 abbrev given : Given
-given = record { scope = scope_with []; body = body; inputs = []; output = u8 }
+given = record { scope = scope_with []; body = body; inputs = []; output = Some u8 }
 
 abbrev schedule : Schedule
 schedule = record { starts = 2 ∷ 1 ∷ 0 ∷ []; ends = 3 ∷ 3 ∷ 3 ∷ []; depths = 2 ∷ 1 ∷ 0 ∷ [] }
@@ -131,7 +131,9 @@ pub one_more : IsTyped given (table_of (Some ty.Bool ∷ Some u8 ∷ []) (Some (
 one_more h =
     (let m = h.truths (e 1) (mismatch ty.Bool u8) refl in
     let a = asked given schedule is_schedule _ (e 1) the_body 0 root ty.Bool (record { node_is = tt; part = refl }) (λ r. (let is = r.is_if in cc)) m.demand in
-    u8_is_no_bool (sym a.1))
+    let both : Some u8 ≡ Some ty.Bool = a.1 in
+    let same : u8 ≡ ty.Bool = cc in
+    u8_is_no_bool same)
 
 -- nothing but `{unknown}`
 pub all_unknown : IsTyped given (table_of (Some ty.Error ∷ Some ty.Error ∷ []) (None ∷ None ∷ [])) → ⊥

@@ -3,6 +3,7 @@ use Rattle.infer_ctx.specs.Context.{given_of, schedule_of}
 use Rattle.infer_expr.specs.Params.{ParamsDone}
 use Rattle.infer_expr.proofs.Whole.{root_within}
 use Rattle.infer_expr.proofs.BodyWalk.{comes_to_params, comes_to_root, body_walked, body_follows}
+use Rattle.infer_ctx.proofs.OverTypes.{fine_later}
 use Rattle.infer_expr.proofs.body.infer_body.Goals as goal
 
 pub end_of-last-requires-clause-node : goal.end_of-last-requires-clause-node
@@ -14,7 +15,7 @@ infer_params-requires c = comes_to_params _ _ c.requires.law c.requires.written 
 pub infer_expr_coerce-requires : goal.infer_expr_coerce-requires
 infer_expr_coerce-requires c =
     comes_to_root _ _ _ _ (comes_to_params _ _ c.requires.law c.requires.written c.requires.count _ _ c.end_of-last.ensures c.end_of-last.type_inv c.requires.table c.requires.empty c.requires.goals)
-    c.in_ok-infer_params.ensures c.requires.carried c.requires.heads
+    c.in_ok-infer_params.ensures c.requires.carried (fine_later _ _ _ _ c.requires.carried c.requires.fine)
 
 pub settle_needs-requires-clause-of_body : goal.settle_needs-requires-clause-of_body
 settle_needs-requires-clause-of_body c = c.in_ok-infer_expr_coerce.ensures.follows.of_body

@@ -1,18 +1,14 @@
 use Rattle.std.proofs.Common.{◌≡◌, ◌∙◌, ap, sym, subst}
 use Rattle.hir_raw.specs.declared.raw.RawBody.{RawBody}
-use Rattle.hir_facts.specs.CarriedTypes.{return_carried}
 use Rattle.hir_facts.proofs.InRange.{body_in_range}
 use Rattle.infer_goals.specs.Below.{ItemSources}
 use Rattle.infer_goals.specs.declared.table.GoalTable.{GoalTable}
-use Rattle.infer_result.specs.Typed.{given}
-use Rattle.infer_ctx.specs.Asked.{IsTold}
-use Rattle.infer_ctx.specs.Steps.{BodyDone}
+use Rattle.infer_table.specs.Table.{new_state}
+use Rattle.infer_result.specs.Typed.{given_by}
 use Rattle.infer_needs.proofs.Holding.{same_body}
-use Rattle.infer_obligations.specs.Reading.{EndsSettled}
-use Rattle.infer_ctx.proofs.Written.{output_heads}
-use Rattle.infer_end.proofs.Definitions.{found_body, written_exist, inputs_for_params}
-use Rattle.infer_end.specs.SelectedBody.{ReadsLast}
-use Rattle.infer_end.proofs.GeneralTables.{given_at, has_all_types, kept_done, keeps_goals, given_done, own_done, kept_told, given_told, given_settled, given_last, ends_selected}
+use Rattle.infer_end.proofs.Definitions.{found_body, written_exist, inputs_for_params, output_carried, output_fine}
+use Rattle.infer_end.specs.Ends.{IsSelectedBody}
+use Rattle.infer_end.proofs.GeneralTables.{has_all_types, kept_done, keeps_goals, kept_told, ends_selected}
 use Rattle.infer_end.proofs.ReadLast.{goals_twice, stays_twice, kept_of_body, goals_of_body}
 use Rattle.infer_expr.proofs.Start.{sources_in, goals_at_start}
 use Rattle.infer_expr.proofs.query.infer_holes.Goals as goal
@@ -24,17 +20,19 @@ pub schedule-requires : goal.schedule-requires
 schedule-requires c = body_in_range _ _ _ c.lawful.ensures (sym c.in-Some.ensures)
 
 pub infer_body-requires-clause-written : goal.infer_body-requires-clause-written
-infer_body-requires-clause-written c = written_exist c.args.facts.now c.args.def c.in-Some.id _ _ c.in_ok-return_ty.return_ty c.lawful.ensures (sym c.in-Some.ensures) c.body-body.ensures c.inputs.ensures
+infer_body-requires-clause-written c = written_exist c.args.facts.now c.args.def c.in-Some.id _ _ _ c.lawful.ensures (sym c.in-Some.ensures) c.body-body.ensures c.in_ok-own.ensures
 
 pub infer_body-requires-clause-count : goal.infer_body-requires-clause-count
-infer_body-requires-clause-count c =
-    inputs_for_params c.args.facts.now c.args.def c.in-Some.id _ _ c.in_ok-return_ty.return_ty c.lawful.ensures (sym c.in-Some.ensures) c.body-body.ensures c.inputs.ensures
+infer_body-requires-clause-count c = inputs_for_params c.args.facts.now c.args.def c.in-Some.id _ _ _ c.lawful.ensures (sym c.in-Some.ensures) c.body-body.ensures c.in_ok-own.ensures
 
 pub infer_body-requires-clause-carried : goal.infer_body-requires-clause-carried
-infer_body-requires-clause-carried c = rw c.in_ok-return_ty.ensures (return_carried c.args.facts.now c.lawful.ensures c.args.def c.in-Some.id (sym c.in-Some.ensures))
+infer_body-requires-clause-carried c = output_carried c.args.facts.now c.args.def c.in-Some.id _ _ _ c.lawful.ensures (sym c.in-Some.ensures) c.body-body.ensures c.in_ok-own.ensures
 
-pub infer_body-requires-clause-heads : goal.infer_body-requires-clause-heads
-infer_body-requires-clause-heads c = rw c.in_ok-return_ty.ensures (output_heads c.args.facts.now c.lawful.ensures c.args.def c.in-Some.id (sym c.in-Some.ensures))
+pub infer_body-requires-clause-fine : goal.infer_body-requires-clause-fine
+infer_body-requires-clause-fine c = output_fine c.args.facts.now c.args.def c.in-Some.id _ _ _ c.lawful.ensures (sym c.in-Some.ensures) c.body-body.ensures c.in_ok-own.ensures new_state
+
+pub own_types-requires-clause-item : goal.own_types-requires-clause-item
+own_types-requires-clause-item c = c.in_ok-context.ensures.goals.scope ∙ c.scope_item.ensures
 
 pub keep_general-requires : goal.keep_general-requires
 keep_general-requires c = has_all_types _ _ c.infer_body.new.context (c.schedule.ensures.walkable _ c.body-body.ensures) c.in_ok-infer_body.ensures.done
@@ -58,71 +56,49 @@ select_where_possible-requires-clause-item c =
 
 -- what was told while the body was walked is told still, with its types before fallback
 pub select_where_possible-requires-clause-told : goal.select_where_possible-requires-clause-told
-select_where_possible-requires-clause-told c b is =
-    let raw = c.args.facts.now in
-    let d = c.args.def in
-    let mid = c.keep_general.new.context in
-    let own = kept_told _ raw d c.infer_body.new.context mid c.in_ok-infer_body.ensures.told c.in_ok-keep_general.ensures in
-    let told = given_told raw d c.body-body.result.now _ _ c.inputs.ensures c.in_ok-return_ty.ensures mid own in
-    let same : c.body-body.result.now ≡ b = same_body raw d c.in-Some.id c.body-body.result.now b (sym c.in-Some.ensures) c.body-body.ensures is in
-    subst (λ (x : RawBody). IsTold (given raw d x) mid) same told
+select_where_possible-requires-clause-told c = kept_told _ c.args.facts.now c.args.def c.infer_body.new.context c.keep_general.new.context c.in_ok-infer_body.ensures.told c.in_ok-keep_general.ensures
 
 pub select_where_possible-requires-clause-done : goal.select_where_possible-requires-clause-done
-select_where_possible-requires-clause-done c b is =
-    let raw = c.args.facts.now in
-    let d = c.args.def in
-    let mid = c.keep_general.new.context in
-    let own = kept_done _ raw d c.infer_body.new.context mid c.in_ok-infer_body.ensures.done c.in_ok-keep_general.ensures in
-    let done = given_done raw d c.body-body.result.now _ _ c.inputs.ensures c.in_ok-return_ty.ensures mid own in
-    let same : c.body-body.result.now ≡ b = same_body raw d c.in-Some.id c.body-body.result.now b (sym c.in-Some.ensures) c.body-body.ensures is in
-    subst (λ (x : RawBody). BodyDone (given raw d x) mid) same done
+select_where_possible-requires-clause-done c = kept_done _ c.args.facts.now c.args.def c.infer_body.new.context c.keep_general.new.context c.in_ok-infer_body.ensures.done c.in_ok-keep_general.ensures
 
 pub read_where_possible-requires-clause-of_body : goal.read_where_possible-requires-clause-of_body
 read_where_possible-requires-clause-of_body c =
-    let g = given_at c.args.facts.now c.args.def c.body-body.result.now c.inputs.result.now c.in_ok-return_ty.return_ty in
+    let g = given_by c.args.facts.now c.args.def c.body-body.result.now c.in_ok-own.own.inputs.items c.in_ok-own.own.output in
     goals_of_body g c.keep_general.new.context c.select_where_possible.new.context c.select_where_possible.ensures.only
     (kept_of_body g c.args.facts.now c.args.def c.infer_body.new.context c.keep_general.new.context c.in_ok-infer_body.ensures.read.settles.settles.binds.follows.of_body c.in_ok-keep_general.ensures)
-
-pub read_where_possible-requires-clause-done : goal.read_where_possible-requires-clause-done
-read_where_possible-requires-clause-done c =
-    let raw = c.args.facts.now in
-    let b = c.body-body.result.now in
-    own_done raw c.args.def b _ _ c.inputs.ensures c.in_ok-return_ty.ensures c.select_where_possible.new.context (c.in_ok-select_where_possible.ensures.done b (found_body raw c.args.def c.in-Some.id b (sym c.in-Some.ensures) c.body-body.ensures))
 
 pub returns-clause-ends : goal.returns-clause-ends
 returns-clause-ends c = λ ps gs. (
     let raw = c.args.facts.now in
     let d = c.args.def in
     let b = c.body-body.result.now in
-    let is = found_body raw d c.in-Some.id b (sym c.in-Some.ensures) c.body-body.ensures in
     let mid = c.keep_general.new.context in
     let selected = c.select_where_possible.new.context in
     let last = c.read_where_possible.new.context in
     let only = c.select_where_possible.ensures.only in
     let read = c.in_ok-read_where_possible.ensures in
-    ends_selected raw d c.in-Some.id b _ _ _ (sym c.in-Some.ensures) c.body-body.ensures (c.schedule.ensures.walkable _ c.body-body.ensures) c.inputs.ensures c.in_ok-return_ty.ensures c.infer_body.new.context c.in_ok-infer_body.ensures.done c.lawful.ensures ps gs
+    ends_selected raw d c.in-Some.id b _ _ _ (sym c.in-Some.ensures) c.body-body.ensures (c.schedule.ensures.walkable _ c.body-body.ensures) c.in_ok-own.ensures c.infer_body.new.context c.in_ok-infer_body.ensures.done c.lawful.ensures ps gs
     mid last c.in_ok-keep_general.ensures (goals_twice mid selected last only read.only) (stays_twice mid selected last only c.select_where_possible.ensures.plain read.plain)
-    (given_done raw d b _ _ c.inputs.ensures c.in_ok-return_ty.ensures last read.done))
+    read.done)
 
 pub returns-clause-selected : goal.returns-clause-selected
 returns-clause-selected c b is =
     let raw = c.args.facts.now in
     let d = c.args.def in
     let mid = c.keep_general.new.context in
-    let own = kept_done _ raw d c.infer_body.new.context mid c.in_ok-infer_body.ensures.done c.in_ok-keep_general.ensures in
-    let done = given_done raw d c.body-body.result.now _ _ c.inputs.ensures c.in_ok-return_ty.ensures mid own in
     let same : c.body-body.result.now ≡ b = same_body raw d c.in-Some.id c.body-body.result.now b (sym c.in-Some.ensures) c.body-body.ensures is in
-    let read = given_settled raw d c.body-body.result.now _ _ c.inputs.ensures c.in_ok-return_ty.ensures c.infer_body.new.context c.in_ok-infer_body.ensures.read in
-    record {
+    subst (λ (x : RawBody). IsSelectedBody raw d x c.read_where_possible.new.context) same (record {
+      inputs = c.in_ok-own.own.inputs.items;
+      output = c.in_ok-own.own.output;
+      own = c.in_ok-own.ensures;
       settled = c.infer_body.new.context;
-      read = subst (λ (x : RawBody). EndsSettled (given raw d x) c.infer_body.new.context) same read;
+      read = c.in_ok-infer_body.ensures.read;
       walked = mid;
       goals = keeps_goals raw d c.infer_body.new.context mid c.in_ok-keep_general.ensures;
-      done = subst (λ (x : RawBody). BodyDone (given raw d x) mid) same done;
+      done = kept_done _ raw d c.infer_body.new.context mid c.in_ok-infer_body.ensures.done c.in_ok-keep_general.ensures;
       selected = c.select_where_possible.new.context;
       only = c.select_where_possible.ensures.only;
       plain = c.select_where_possible.ensures.plain;
-      selection = λ none. c.in_ok-select_where_possible.ensures.selection none b is;
-      last = subst (λ (x : RawBody). ReadsLast (given raw d x) c.select_where_possible.new.context c.read_where_possible.new.context) same
-          (given_last raw d c.body-body.result.now _ _ c.inputs.ensures c.in_ok-return_ty.ensures c.select_where_possible.new.context c.read_where_possible.new.context c.in_ok-read_where_possible.ensures);
-    }
+      selection = λ none. c.in_ok-select_where_possible.ensures.selection none;
+      last = c.in_ok-read_where_possible.ensures;
+    })

@@ -1,0 +1,9 @@
+use Rattle.std.proofs.Common.{take}
+use Rattle.hir_raw.specs.Scope.{scope_of}
+use Rattle.goal_search.specs.Sources.{system}
+use Rattle.infer_result.specs.OwnTypes.{EachIsKnownAs}
+use Rattle.infer_obligations.proofs.own.known_tys.Given as goal
+
+abbrev pub invariant-loop-type_ref : goal.invariant-loop-type_ref
+invariant-loop-type_ref l =
+    EachIsKnownAs (scope_of l.facts l.def) (system l.goals.sources.sources) l.goals.sources.facts.limits.goal_depth l.facts.types (take l.type_ref-index l.type_ref-items) l.known

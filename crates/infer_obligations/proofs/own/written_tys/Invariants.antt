@@ -1,0 +1,6 @@
+use Rattle.std.proofs.Common.{◌≡◌, Some, map, take}
+use Rattle.hir_raw.specs.WrittenTypes.{written_type}
+use Rattle.infer_obligations.proofs.own.written_tys.Given as goal
+
+abbrev pub invariant-loop-type_ref : goal.invariant-loop-type_ref
+invariant-loop-type_ref l = l.tys ≡ map (λ w. Some (written_type l.facts.types w)) (take l.type_ref-index l.type_ref-items)
