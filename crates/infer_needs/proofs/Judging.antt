@@ -144,8 +144,8 @@ module _ (e : ExprId) (gs : List Gap) (k : TypeAliasId) (xs : List GenericArg) (
       (length gs, k, xs, t, u, subst (λ zs. slice_get zs (length gs) ≡ Some (clash e (ty.Projection k xs) t u)) (sym h.0) (get_last gs (clash e (ty.Projection k xs) t u)), refl)
 
 module _ (raw : RawFacts) (f : System) (e : ExprId) (q : Goal) (ps qs : List Proof) (js ks : List (Ty × Ty)) (gs hs : List Gap) where
-  abbrev n : ℕ
-  n = raw.limits.goal_depth
+  abbrev deep : ℕ
+  deep = raw.limits.goal_depth
 
   judged_adds : IsJudged raw f e q ps qs js ks gs hs → AddsProofs raw f ps qs
   judged_adds (inl h) = h.adds
@@ -188,16 +188,16 @@ module _ (raw : RawFacts) (f : System) (e : ExprId) (q : Goal) (ps qs : List Pro
 
   -- ---- what is said
 
-  once_says : (x : Gap) → IsTrueNow f n e q qs ks x → IsSaidOnce x gs hs → Says f n e q qs ks gs hs
+  once_says : (x : Gap) → IsTrueNow f deep e q qs ks x → IsSaidOnce x gs hs → Says f deep e q qs ks gs hs
   once_says x is (inl h) = inl h.0
   once_says x is (inr h) = inr (x, h.0, is, h.1)
 
-  said_says : ((answers f n).Yes (asked_goal q) → ⊥) → IsSaidIfKnown e q gs hs → Says f n e q qs ks gs hs
+  said_says : ((answers f deep).Yes (asked_goal q) → ⊥) → IsSaidIfKnown e q gs hs → Says f deep e q qs ks gs hs
   said_says fails (inl h) = inl h.1
   said_says fails (inr h) = once_says (unproved e q) (inl (refl, h.0, fails)) h.1
 
   clash_now : HasProofOf qs (asked_goal q) → (s : SaysAlias q) (t : Ty) → ks ≡ js → FindsIn js (ty.Projection s.alias s.args) (Some t) → (Same t s.type → ⊥)
-      → IsTrueNow f n e q qs ks (clash e (ty.Projection s.alias s.args) t s.type)
+      → IsTrueNow f deep e q qs ks (clash e (ty.Projection s.alias s.args) t s.type)
   clash_now has s t is finds differ = inr (record {
     alias = s.alias;
     args = s.args;
@@ -210,7 +210,7 @@ module _ (raw : RawFacts) (f : System) (e : ExprId) (q : Goal) (ps qs : List Pro
     differ = differ;
   })
 
-  noted_says : HasProofOf qs (asked_goal q) → IsNoted e q js ks gs hs → Says f n e q qs ks gs hs
+  noted_says : HasProofOf qs (asked_goal q) → IsNoted e q js ks gs hs → Says f deep e q qs ks gs hs
   noted_says has (inl h) = inl h.1
   noted_says has (inr (s, inl h)) = inl h.1
   noted_says has (inr (s, inr h)) = elim h.3 [
@@ -218,7 +218,7 @@ module _ (raw : RawFacts) (f : System) (e : ExprId) (q : Goal) (ps qs : List Pro
     | inr k ↦ once_says (clash e (ty.Projection s.alias s.args) h.1 s.type) (clash_now has s h.1 h.0 h.2 k.0) k.1
   ]
 
-  judged_says : IsJudged raw f e q ps qs js ks gs hs → Says f n e q qs ks gs hs
+  judged_says : IsJudged raw f e q ps qs js ks gs hs → Says f deep e q qs ks gs hs
   judged_says (inl h) = noted_says h.has h.noted
   judged_says (inr h) = said_says h.fails h.said
 

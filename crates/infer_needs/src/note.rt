@@ -60,12 +60,14 @@ pub fn note(
     ensures { OnOk result (IsNoted expr goal found.old found.new gaps.old gaps.new) }
 {
     let is_unknown = holds_unknown(alloc, &goal)?;
-    let Goal::Projection { alias, args, ty } = goal else {
-        return Ok(());
-    };
-    let is_read = type_term(alloc, &ty)?.is_read();
-    if is_unknown || !is_read {
-        return Ok(());
+    match goal {
+        Goal::Trait(_trait_ref) => Ok(()),
+        Goal::Projection { alias, args, ty } => {
+            let is_read = type_term(alloc, &ty)?.is_read();
+            if is_unknown || !is_read {
+                return Ok(());
+            }
+            list(alloc, Ty::Projection(alias, args), ty, expr, found, gaps)
+        }
     }
-    list(alloc, Ty::Projection(alias, args), ty, expr, found, gaps)
 }

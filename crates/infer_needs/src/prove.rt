@@ -86,7 +86,8 @@ fn prove_need(
         Answer::Yes => {
             let depth = sources.facts().raw().limits.goal_depth;
             prove_goal(alloc, sources, &goal, depth, proofs)?;
-            note(alloc, goal, expr, found, gaps)
+            note(alloc, goal, expr, found, gaps)?;
+            Ok(())
         }
         Answer::No | Answer::Undecided => {
             complain(alloc, goal, expr, gaps)?;
