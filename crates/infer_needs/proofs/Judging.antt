@@ -10,7 +10,7 @@ use Rattle.hir_types.specs.declared.ty.GenericArg.{GenericArg}
 use Rattle.hir_types.specs.declared.ty.Ty.{Ty}
 use Rattle.hir_types.specs.declared.ty.Ty.TheVariants as ty
 use Rattle.hir_types.specs.Erasure.{Same}
-use Rattle.hir_types.specs.Terms.{Term, pair, chain, term, arg_term}
+use Rattle.hir_types.specs.Terms.{Term, pair, chain, arg_term}
 use Rattle.hir_raw.specs.declared.raw.RawBody.{RawBody}
 use Rattle.hir_raw.specs.declared.raw.RawExpr.{RawExpr}
 use Rattle.hir_raw.specs.declared.raw.RawFacts.{RawFacts}
@@ -31,7 +31,7 @@ use Rattle.infer_result.specs.Projections.{IsListedAs, HasEntry, IsAboutAlias}
 use Rattle.infer_result.specs.Needs.{HoldsUnknown, Saying, clashes, gap_says, needs_of, needs_at}
 use Rattle.infer_result.specs.Table.{recorded}
 use Rattle.infer_needs.specs.Listed.{FindsIn}
-use Rattle.infer_needs.specs.Judged.{IsProvable, AreProvable, unproved, clash, IsAmong, IsSaidOnce, IsSaidIfKnown, IsListedNow, SaysAlias, IsNoted, HasProofOf, IsSaid, IsSaidClash, IsProvedAndListed, IsDone, IsRefused, IsShown, IsJudged, IsEntry, AreEntries, AddsEntries, IsOfFailing, IsOfClash, AreDone, AreJudged, AreAllJudged}
+use Rattle.infer_needs.specs.Judged.{IsProvable, AreProvable, unproved, clash, IsAmong, IsSaidOnce, IsSaidIfKnown, SaysAlias, IsNoted, HasProofOf, IsSaid, IsSaidClash, IsDone, IsJudged, IsEntry, AreEntries, AddsEntries, IsOfFailing, IsOfClash, AreDone, AreJudged, AreAllJudged}
 
 -- ---- proofs that are added
 

@@ -1,7 +1,6 @@
 use Rattle.std.proofs.Common.{◌≡◌, inr, sym, subst, ◌∙◌, true, true≢false}
 use Rattle.std.proofs.lemmas.Result.{on_ok_weaker}
 use Rattle.goal_answers.specs.Reading.{IsRead}
-use Rattle.hir_types.specs.Terms.{term}
 use Rattle.infer_needs.specs.Judged.{SaysAlias}
 use Rattle.infer_needs.proofs.note.note.Goals as goal
 
