@@ -77,15 +77,16 @@ fn register(alloc: Global, goals: &mut GoalTable<'_>, ty: Ty) -> Result<(), Allo
     goals.register_obligation(implements(alloc, ty)?, NODE)
 }
 
-/// Binds hole 0 to `u8`.
+/// Binds hole 0 to `u8`; that it wasn't made is an error.
 fn bind(table: &mut InferenceTable) -> Result<(), AllocError>
     ensures { Grew table.old table.new }
 {
     let hole = Ty::Var(0);
     let ty = Ty::Uint(UintTy::U8);
-    if table.has_made(&hole)? && table.has_made(&ty)? {
-        let _unifies = table.unify(&hole, &ty)?;
+    if !table.has_made(&hole)? || !table.has_made(&ty)? {
+        return Err(AllocError);
     }
+    let _unifies = table.unify(&hole, &ty)?;
     Ok(())
 }
 
