@@ -97,10 +97,14 @@ pub record AreOwnTypes (raw : RawFacts) (d : DefWithBodyId) (inputs : List (Opti
 abbrev pub AliasesAreKnown : RawFacts → Scope → System → RawBody → List (Option Ty) → Type 0
 AliasesAreKnown raw sc f b known = (i k : ℕ) → slice_get (let_aliases raw.types b) i ≡ Some k → IsKnownAs sc f raw.limits.goal_depth (lowered raw.types k) (recorded known k)
 
--- this is what the body knows of them by the sources of its goals; what is known can stand in the body, and nothing is known where none is written
-pub record AreLetTypes (raw : RawFacts) (d : DefWithBodyId) (b : RawBody) (known : List (Option Ty)) : Type 0 where
+-- this is what the body of the definition knows of them, by the sources of its goals
+pub record AreKnownLets (raw : RawFacts) (d : DefWithBodyId) (b : RawBody) (known : List (Option Ty)) : Type 0 where
   pub sources : System
   pub of_item : IsSystemOf raw (scope_item raw d) sources
   pub each : AliasesAreKnown raw (scope_of raw d) sources b known
-  pub stand : (k : ℕ) (t : Ty) → recorded known k ≡ Some t → CanStand (scope_of raw d) t
+
+-- so it is where one is written, and else nothing is known; what is known can stand in the body
+pub record AreLetTypes (raw : RawFacts) (d : DefWithBodyId) (b : RawBody) (known : List (Option Ty)) : Type 0 where
   pub none : let_aliases raw.types b ≡ [] → known ≡ []
+  pub read : (let_aliases raw.types b ≡ [] → ⊥) → AreKnownLets raw d b known
+  pub stand : (k : ℕ) (t : Ty) → recorded known k ≡ Some t → CanStand (scope_of raw d) t
