@@ -46,9 +46,9 @@ pattern_variant : (raw : RawFacts) (i : ℕ) (b : RawBody) → BodyIdsExist raw 
 pattern_variant raw i b ids p v (inl is) = ids.pat_names p.0 (pat.Path (path.Ctor v)) is
 pattern_variant raw i b ids p v (inr is) = ids.pat_names p.0 (pat.TupleStruct v is.0) is.1
 
-module _ (raw : RawFacts) (d : DefWithBodyId) (i : BodyId) (b : RawBody) (inputs : List (Option Ty)) (output : Option Ty) (aliases : List (Option Ty)) (law : IsLawful raw) (id : body_id_of raw d ≡ Some i) (at : slice_get raw.bodies i.0 ≡ Some b) (own : AreOwnTypes raw d inputs output) (lets : AreLetTypes raw d b aliases) where
-  pub written_exist : WrittenExist (given_by raw d b inputs output aliases)
-  written_exist = record {
+module _ (raw : RawFacts) (d : DefWithBodyId) (i : BodyId) (b : RawBody) (inputs : List (Option Ty)) (output : Option Ty) (law : IsLawful raw) (id : body_id_of raw d ≡ Some i) (at : slice_get raw.bodies i.0 ≡ Some b) (own : AreOwnTypes raw d inputs output) where
+  pub written_exist : (aliases : List (Option Ty)) → AreLetTypes raw d b aliases → WrittenExist (given_by raw d b inputs output aliases)
+  written_exist aliases lets = record {
     lets = λ e k p w init other is. lets_fit raw law d b (found_body raw d i b id at) e k p w init other is;
     aliases = alias_in raw d b aliases lets;
     inputs = own_input_in raw law d i id inputs output own;

@@ -21,16 +21,18 @@ pub schedule-requires : goal.schedule-requires
 schedule-requires c = body_in_range _ _ _ c.lawful.ensures (sym c.in-Some.ensures)
 
 pub infer_body-requires-clause-written : goal.infer_body-requires-clause-written
-infer_body-requires-clause-written c = written_exist c.args.facts.now c.args.def c.in-Some.id _ _ _ _ c.lawful.ensures (sym c.in-Some.ensures) c.body-body.ensures c.in_ok-own.ensures (subst (AreLetTypes c.args.facts.now c.args.def c.body-body.result.now) (sym c.as_slice.ensures) c.in_ok-aliases.ensures)
+infer_body-requires-clause-written c =
+    written_exist c.args.facts.now c.args.def c.in-Some.id _ _ _ c.lawful.ensures (sym c.in-Some.ensures) c.body-body.ensures c.in_ok-own.ensures _
+    (subst (AreLetTypes c.args.facts.now c.args.def c.body-body.result.now) (sym c.as_slice.ensures) c.in_ok-aliases.ensures)
 
 pub infer_body-requires-clause-count : goal.infer_body-requires-clause-count
-infer_body-requires-clause-count c = inputs_for_params c.args.facts.now c.args.def c.in-Some.id _ _ _ _ c.lawful.ensures (sym c.in-Some.ensures) c.body-body.ensures c.in_ok-own.ensures (subst (AreLetTypes c.args.facts.now c.args.def c.body-body.result.now) (sym c.as_slice.ensures) c.in_ok-aliases.ensures)
+infer_body-requires-clause-count c = inputs_for_params c.args.facts.now c.args.def c.in-Some.id _ _ _ c.lawful.ensures (sym c.in-Some.ensures) c.body-body.ensures c.in_ok-own.ensures
 
 pub infer_body-requires-clause-carried : goal.infer_body-requires-clause-carried
-infer_body-requires-clause-carried c = output_carried c.args.facts.now c.args.def c.in-Some.id _ _ _ _ c.lawful.ensures (sym c.in-Some.ensures) c.body-body.ensures c.in_ok-own.ensures (subst (AreLetTypes c.args.facts.now c.args.def c.body-body.result.now) (sym c.as_slice.ensures) c.in_ok-aliases.ensures)
+infer_body-requires-clause-carried c = output_carried c.args.facts.now c.args.def c.in-Some.id _ _ _ c.lawful.ensures (sym c.in-Some.ensures) c.body-body.ensures c.in_ok-own.ensures
 
 pub infer_body-requires-clause-fine : goal.infer_body-requires-clause-fine
-infer_body-requires-clause-fine c = output_fine c.args.facts.now c.args.def c.in-Some.id _ _ _ _ c.lawful.ensures (sym c.in-Some.ensures) c.body-body.ensures c.in_ok-own.ensures (subst (AreLetTypes c.args.facts.now c.args.def c.body-body.result.now) (sym c.as_slice.ensures) c.in_ok-aliases.ensures) new_state
+infer_body-requires-clause-fine c = output_fine c.args.facts.now c.args.def c.in-Some.id _ _ _ c.lawful.ensures (sym c.in-Some.ensures) c.body-body.ensures c.in_ok-own.ensures new_state
 
 pub own_types-requires-clause-item : goal.own_types-requires-clause-item
 own_types-requires-clause-item c = c.in_ok-context.ensures.goals.scope ∙ c.scope_item.ensures
