@@ -17,15 +17,12 @@ pub fn stmts_of(expr: &RawExpr) -> &[RawStmt]
     }
 }
 
-fn push_stmt(
-    types: &[RawType],
-    stmt: &RawStmt,
-    found: &mut Vec<usize>,
-) -> Result<(), AllocError>
+fn push_stmt(types: &[RawType], stmt: &RawStmt, found: &mut Vec<usize>) -> Result<(), AllocError>
     ensures { OnOk result (found.new.items ≡ found.old.items ++ stmt_aliases types.now stmt.now) }
 {
     if let RawStmt::Let {
-        type_ref: Some(ty), ..
+        type_ref: Some(ty),
+        ..
     } = stmt
     {
         push_aliases(types, types.len(), ty.0 as usize, found)?;
@@ -33,11 +30,7 @@ fn push_stmt(
     Ok(())
 }
 
-fn push_expr(
-    types: &[RawType],
-    expr: &RawExpr,
-    found: &mut Vec<usize>,
-) -> Result<(), AllocError>
+fn push_expr(types: &[RawType], expr: &RawExpr, found: &mut Vec<usize>) -> Result<(), AllocError>
     ensures { OnOk result (found.new.items ≡ found.old.items ++ expr_aliases types.now expr.now) }
 {
     for stmt in stmts_of(expr) {
