@@ -1,10 +1,11 @@
 -- The types that `let`s are written with, part by part.
-use Rattle.std.proofs.Common.{true, false, ℕ, ◌+◌, List, map, ◌≤◌, ◌≡◌, Some, slice_get, suc, ◌<◌, max, refl, arith, [], ◌∷◌, inl, inr, sym, ap, ◌∙◌, subst, length, Option, None, take, ◌++◌, ◌⊎◌}
+use Rattle.std.proofs.Common.{false, ℕ, ◌+◌, List, map, ◌≤◌, ◌≡◌, Some, slice_get, suc, ◌<◌, max, refl, arith, [], ◌∷◌, inl, inr, sym, ap, ◌∙◌, subst, length, Option, None, take, ◌++◌, ◌⊎◌}
 use Rattle.std.proofs.lemmas.List.{map-append}
 use Rattle.hir_types.specs.declared.ids.TypeRefId.{TypeRefId}
 use Rattle.hir_types.specs.Types.{most}
 use Rattle.hir_types.specs.declared.ty.Ty.{Ty}
 use Rattle.hir_types.specs.declared.ids.AdtId.{AdtId}
+use Rattle.hir_types.specs.declared.ids.TypeAliasId.{TypeAliasId}
 use Rattle.hir_types.specs.declared.ty.GenericArg.{GenericArg}
 use Rattle.hir_types.specs.Subst.{Assignment, folded}
 use Rattle.hir_types.specs.declared.ty.GenericArg.TheVariants as arg
@@ -114,12 +115,14 @@ module _ (g : Given) where
 pub let_before : (g : Given) → IsLawful g.scope.facts → AllHold ChildrenBefore (let_types g)
 let_before g law = masked_before g.scope.facts.types (type_ids g.scope.facts law)
 
--- it is itself, or an associated type and so a `_`
+-- it is itself, or an associated type or a `_`, and so a `_`
 pub read_itself : (g : Given) (w : TypeRefId) (x : RawType) → slice_get g.scope.facts.types w.0 ≡ Some x → is_alias x ≡ false → slice_get (let_types g) w.0 ≡ Some x
 read_itself g w x found is = other_is_itself g.scope.facts.types w.0 x found is
 
-pub read_hole : (g : Given) (w : TypeRefId) (x : RawType) → slice_get g.scope.facts.types w.0 ≡ Some x → is_alias x ≡ true → slice_get (let_types g) w.0 ≡ Some type.Hole
-read_hole g w x found is = alias_is_hole g.scope.facts.types w.0 x found is
+pub read_hole : (g : Given) (w : TypeRefId) (x : RawType) → slice_get g.scope.facts.types w.0 ≡ Some x → ((a : TypeAliasId) × (ts : List TypeRefId) × (x ≡ type.Projection a ts)) ⊎ (x ≡ type.Hole)
+    → slice_get (let_types g) w.0 ≡ Some type.Hole
+read_hole g w x found (inl (a, ts, is)) = alias_is_hole g.scope.facts.types w.0 x found (ap is_alias is)
+read_hole g w x found (inr is) = other_is_itself g.scope.facts.types w.0 x found (ap is_alias is) ∙ ap (λ (y : RawType). Some y) is
 
 module _ (g : Given) (all : AllHold ChildrenBefore (let_types g)) (w : TypeRefId) (x : RawType) (here : slice_get (let_types g) w.0 ≡ Some x) where
   parts_recorded : (r : InferenceResult) → (x ≡ type.Hole → ⊥) → ((i : ℕ) (v : TypeRefId) → slice_get (type_parts x) i ≡ Some v → AreRecorded g r v) → AreRecorded g r w

@@ -51,15 +51,10 @@ lower_part-lower_args-requires t c =
     let below = parts_below g all c.args.type_ref _ here in
     rw c.as_slice-in-Adt.ensures (omega (arith, c.decreases, below), comes_to_parts g all c.args.type_ref _ here _ c.requires)
 
-pub lower_part-placeholder_ty-requires-clause-is-in-Projection : goal.lower_part-placeholder_ty-requires-clause-is-in-Projection
-lower_part-placeholder_ty-requires-clause-is-in-Projection t c =
+pub lower_part-placeholder_ty-requires-clause-is : goal.lower_part-placeholder_ty-requires-clause-is
+lower_part-placeholder_ty-requires-clause-is t c =
     let g = given_of c.args.given.now in
-    c.requires.placeholders c.args.type_ref.0 (is_itself (read_hole g c.args.type_ref _ (c.written.ensures ∙ ap (λ (x : RawType). Some x) c.in-Projection.is) refl))
-
-pub lower_part-placeholder_ty-requires-clause-is-in-Hole : goal.lower_part-placeholder_ty-requires-clause-is-in-Hole
-lower_part-placeholder_ty-requires-clause-is-in-Hole t c =
-    let g = given_of c.args.given.now in
-    c.requires.placeholders c.args.type_ref.0 (is_itself (read_itself g c.args.type_ref type.Hole (c.written.ensures ∙ ap (λ (x : RawType). Some x) c.in-Hole.is) refl))
+    c.requires.placeholders c.args.type_ref.0 (is_itself (read_hole g c.args.type_ref _ c.written.ensures c.in-Projection.is))
 
 pub lower_part-returns-in-Bool : goal.lower_part-returns-in-Bool
 lower_part-returns-in-Bool t c =
@@ -99,9 +94,4 @@ lower_part-returns-in_ok-args-in-Adt t c =
 pub lower_part-returns-in_ok-ty-in-Projection : goal.lower_part-returns-in_ok-ty-in-Projection
 lower_part-returns-in_ok-ty-in-Projection t c =
     let g = given_of c.args.given.now in
-    hole_done g (let_before g c.lawful.ensures) _ (read_hole g c.args.type_ref _ (c.written.ensures ∙ ap (λ (x : RawType). Some x) c.in-Projection.is) refl) _ _ _ c.in_ok-ty-in-Projection.ensures
-
-pub lower_part-returns-in_ok-ty-in-Hole : goal.lower_part-returns-in_ok-ty-in-Hole
-lower_part-returns-in_ok-ty-in-Hole t c =
-    let g = given_of c.args.given.now in
-    hole_done g (let_before g c.lawful.ensures) _ (read_itself g c.args.type_ref type.Hole (c.written.ensures ∙ ap (λ (x : RawType). Some x) c.in-Hole.is) refl) _ _ _ c.in_ok-ty-in-Hole.ensures
+    hole_done g (let_before g c.lawful.ensures) _ (read_hole g c.args.type_ref _ c.written.ensures c.in-Projection.is) _ _ _ c.in_ok-ty-in-Projection.ensures
