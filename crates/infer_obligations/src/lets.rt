@@ -31,10 +31,13 @@ fn note_alias(
     // No lists of so many are in memory.
     let number = u32::try_from(alias).map_err(|_| AllocError)?;
     let ty = lower_ty(alloc, facts, TypeRefId(number))?;
-    if let Some(read) = known_ty(alloc, goals, facts, def, &ty)? {
-        put(known, number, read)?;
+    match known_ty(alloc, goals, facts, def, &ty)? {
+        Some(read) => {
+            put(known, number, read)?;
+            Ok(())
+        }
+        None => Ok(()),
     }
-    Ok(())
 }
 
 /// What the body of a definition knows of each associated type that its `let`s are written with, by the number of that type: `infer.rs`,
