@@ -20,7 +20,8 @@ SAID = {
     "MismatchedArgCount": "arguments: expected {expected}, found {found}",
     "ExpectedFunction": "expected a function, found `{found}`",
     "MismatchedTupleStructPatArgCount": "parts: expected {expected}, found {found}",
-    "Unproved": "no proof of `{goal}`"}
+    "Unproved": "no proof of `{goal}`",
+    "Clash": "`{alias}` is `{first}` elsewhere, `{second}` here"}
 
 
 class Words:

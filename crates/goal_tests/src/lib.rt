@@ -5,3 +5,5 @@
 mod terms;
 #[cfg(test)]
 mod tree;
+#[cfg(test)]
+mod undo;

@@ -1,5 +1,6 @@
 //! Goals, with what comes of them worked out by hand.
-ghost use Rattle.std.specs.Prelude.{OnOk};
+ghost use Rattle.std.specs.Prelude.{◌≡◌, IfOk, OnOk};
+ghost use Rattle.goal_select.specs.Steps.{only_goal};
 ghost use Rattle.goal_tree.specs.Trees.{IsTree};
 
 use goal_facts::ProofSource;
@@ -8,9 +9,12 @@ use hir_facts::{ExprId, ExprOrPatId, GenericArg, Goal, List, TraitId, TraitRef, 
 use std::alloc::{AllocError, Global};
 use std::test::Fail;
 
-const NODE: ExprOrPatId = ExprOrPatId::ExprId(ExprId(7));
+pub const NODE: ExprOrPatId = ExprOrPatId::ExprId(ExprId(7));
 
-fn implements(alloc: Global, ty: Ty) -> Result<Goal, AllocError> {
+/// That a type implements trait 0.
+pub fn implements(alloc: Global, ty: Ty) -> Result<Goal, AllocError>
+    ensures { IfOk result (λ made. made ≡ only_goal (record { 0 = 0 }) ty) }
+{
     let mut args = List::new(alloc);
     args.push(GenericArg::Ty(ty))?;
     Ok(Goal::Trait(TraitRef {

@@ -1,4 +1,5 @@
 pub mod Asking
+pub mod Copying
 pub mod Growing
 pub mod Pending
 pub mod Proving

@@ -140,6 +140,12 @@ pub record IsSelectedBy (t u : GoalTree) (at : ℕ) (src : ProofSource) (gs : Li
   pub still_open : (i : ℕ) → (i ≡ at → ⊥) → IsOpenAt t.standings.items i → IsOpenAt u.standings.items i
   pub new_open : (i : ℕ) → length t.obligations.items ≤ i → i < length u.obligations.items → IsOpenAt u.standings.items i
 
+-- the same goals, which came as far, and the same proofs
+pub record IsCopied (t u : GoalTree) : Type 0 where
+  pub obligations : u.obligations.items ≡ t.obligations.items
+  pub standings : u.standings.items ≡ t.standings.items
+  pub proofs : u.proofs.items ≡ t.proofs.items
+
 -- ---- what is told of it
 
 -- registered, and without proof

@@ -1,5 +1,5 @@
 //! Goals that were asked.
-ghost use Rattle.std.specs.Prelude.{◌≡◌, ◌∷◌, ◌++◌, [], OnOk};
+ghost use Rattle.std.specs.Prelude.{◌≡◌, ◌∷◌, ◌++◌, [], IfOk, OnOk};
 ghost use Rattle.goal_tree.specs.Trees.{is_pending, pending_of};
 
 use goal_facts::{ExprOrPatId, Goal, ProofSource};
@@ -35,7 +35,48 @@ pub enum Standing {
     },
 }
 
+impl Standing {
+    /// An equal copy.
+    pub(crate) fn dup(&self, alloc: Global) -> Result<Standing, AllocError>
+        ensures { IfOk result (λ copy. copy ≡ self.now) }
+    {
+        match self {
+            Standing::Open => Ok(Standing::Open),
+            Standing::Selected {
+                source,
+                first,
+                count,
+            } => Ok(Standing::Selected {
+                source: source.dup(alloc)?,
+                first: *first,
+                count: *count,
+            }),
+            Standing::Proved {
+                proof,
+                first,
+                count,
+            } => Ok(Standing::Proved {
+                proof: *proof,
+                first: *first,
+                count: *count,
+            }),
+        }
+    }
+}
+
 impl Obligation {
+    /// An equal copy.
+    pub(crate) fn dup(&self, alloc: Global) -> Result<Obligation, AllocError>
+        ensures { IfOk result (λ copy. copy ≡ self.now) }
+    {
+        Ok(Obligation {
+            goal: self.goal.dup(alloc)?,
+            node: self.node,
+            depth: self.depth,
+            parent: self.parent,
+        })
+    }
+
     /// Whether a node asks it, and it has no proof, where it came so far.
     pub fn is_pending(&self, standing: &Standing) -> bool
         ensures { result ≡ is_pending self.now standing.now }

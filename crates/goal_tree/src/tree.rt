@@ -1,6 +1,6 @@
 //! Goals that were asked, with their sources and proofs.
 ghost use Rattle.std.specs.Prelude.{◌≡◌, ◌↔◌, ◌<◌, ◌≤◌, ◌+◌, ◌∷◌, [], Some, length, map, slice_get, slice_set, IsTrue, IfOk, OnOk};
-ghost use Rattle.goal_tree.specs.Trees.{IsTree, IsTreeBut, IsOpenAt, IsWaitingAt, registered, asked_by, IsAsked, AreProvedAs, IsProvedNext, IsMoreProved, IsProvedUpTo, IsSelectedBy, pending_of};
+ghost use Rattle.goal_tree.specs.Trees.{IsTree, IsTreeBut, IsOpenAt, IsWaitingAt, registered, asked_by, IsAsked, AreProvedAs, IsProvedNext, IsMoreProved, IsProvedUpTo, IsSelectedBy, IsCopied, pending_of};
 
 use crate::obligation::{Obligation, Standing};
 use goal_facts::{ExprOrPatId, Goal, List, Proof, ProofSource};
@@ -245,5 +245,39 @@ impl GoalTree {
             copies.push(proof.dup(self.alloc)?)?;
         }
         Ok(copies)
+    }
+
+    /// The goals that were asked: copies, in their order.
+    fn obligations(&self) -> Result<Vec<Obligation>, AllocError>
+        ensures { IfOk result (λ made. made.items ≡ self.now.obligations.items) }
+    {
+        let mut copies = Vec::new(self.alloc);
+        for obligation in self.obligations.as_slice() {
+            copies.push(obligation.dup(self.alloc)?)?;
+        }
+        Ok(copies)
+    }
+
+    /// How far they came: copies, in their order.
+    fn standings(&self) -> Result<Vec<Standing>, AllocError>
+        ensures { IfOk result (λ made. made.items ≡ self.now.standings.items) }
+    {
+        let mut copies = Vec::new(self.alloc);
+        for standing in self.standings.as_slice() {
+            copies.push(standing.dup(self.alloc)?)?;
+        }
+        Ok(copies)
+    }
+
+    /// A copy of all.
+    pub fn dup(&self) -> Result<GoalTree, AllocError>
+        ensures { IfOk result (λ copy. IsCopied self.now copy) }
+    {
+        Ok(GoalTree {
+            alloc: self.alloc,
+            obligations: self.obligations()?,
+            standings: self.standings()?,
+            proofs: self.proofs()?,
+        })
     }
 }

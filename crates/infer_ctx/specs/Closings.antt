@@ -85,6 +85,7 @@ closed_table a asked r = record {
   pat_variants = r.pat_variants;
   seen = r.seen;
   proofs = r.proofs;
+  projections = r.projections;
   expr_gaps = r.expr_gaps;
   general = r.general;
 }

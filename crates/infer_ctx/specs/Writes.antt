@@ -63,6 +63,7 @@ nothing b = record {
   pat_variants = map pat_variant b.pats;
   seen = [];
   proofs = [];
+  projections = [];
   expr_gaps = [];
   general = None;
 }

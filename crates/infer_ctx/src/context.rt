@@ -144,6 +144,7 @@ impl<'a> InferenceContext<'a> {
             pat_variants: pat_variants(alloc, body)?,
             seen: List::new(alloc),
             proofs: List::new(alloc),
+            projections: List::new(alloc),
             expr_gaps: List::new(alloc),
             general: None,
         };

@@ -66,9 +66,9 @@ use Rattle.infer_end.proofs.PlainBodies.{plain_body, no_placeholder, calls_item,
 use Rattle.infer_end.proofs.PlainGoals.{plain_needs}
 
 -- ---- a table with other types before fallback, other proofs and other gaps
-module _ (r : InferenceResult) (o : Option General) (ps : List Proof) (gs : List (List Gap)) where
+module _ (r : InferenceResult) (o : Option General) (ps : List Proof) (js : List (Ty × Ty)) (gs : List (List Gap)) where
   abbrev other : InferenceResult
-  other = record r { general = o; proofs = ps; expr_gaps = gs }
+  other = record r { general = o; proofs = ps; projections = js; expr_gaps = gs }
 
   other_extends : Extends r other
   other_extends = record {
@@ -234,7 +234,7 @@ none_under f f' xs h n y at = (let q = At-unclosed f' xs n y at in h n (f q.0) (
 
 -- ---- the table of a definition
 module _ (raw : RawFacts) (d : DefWithBodyId) (i : BodyId) (b : RawBody) (s : Schedule) (inputs : List (Option Ty)) (output : Option Ty) (aliases : List (Option Ty)) (id : body_id_of raw d ≡ Some i) (at : slice_get raw.bodies i.0 ≡ Some b) (law : IsWalkable b s) (own : AreOwnTypes raw d inputs output) (lets : AreLetTypes raw d b aliases) (c : InferenceContext) (done : BodyDone (given_by raw d b inputs output aliases) c)
-    (lawful : IsLawful raw) (ps : List Proof) (gs : List (List Gap)) where
+    (lawful : IsLawful raw) (ps : List Proof) (js : List (Ty × Ty)) (gs : List (List Gap)) where
   abbrev g : Given
   g = given_by raw d b inputs output aliases
 
@@ -243,7 +243,7 @@ module _ (raw : RawFacts) (d : DefWithBodyId) (i : BodyId) (b : RawBody) (s : Sc
 
   -- with these types before fallback, these proofs and these gaps
   abbrev result_with : Option General → InferenceResult
-  result_with o = record c.result { general = o; proofs = ps; expr_gaps = gs }
+  result_with o = record c.result { general = o; proofs = ps; projections = js; expr_gaps = gs }
 
   seen_still_fit : (a : Assignment) (o : Option General) → AllSeen (λ t. ty_fits sc t ≡ true) (closed_table a c.asked (result_with o))
   seen_still_fit a o = (let h = seen_fits sc c done.sound in record { types = h.types; others = h.others })
@@ -255,7 +255,7 @@ module _ (raw : RawFacts) (d : DefWithBodyId) (i : BodyId) (b : RawBody) (s : Sc
     completed_table : (o : Option General) → IsTableOf raw d (closed_table (completion c.goals.table) c.asked (result_with o))
     completed_table o =
         let r : InferenceResult = closed_table (completion c.goals.table) c.asked c.result in
-        table_of raw d i b s inputs output aliases (closed_table (completion c.goals.table) c.asked (result_with o)) id at law own lets (made_other r o ps gs g (done.made (completion c.goals.table) completes)) (all_types_other r o ps gs _ (completed_table_fits sc c done.sound)) (seen_still_fit (completion c.goals.table) o)
+        table_of raw d i b s inputs output aliases (closed_table (completion c.goals.table) c.asked (result_with o)) id at law own lets (made_other r o ps js gs g (done.made (completion c.goals.table) completes)) (all_types_other r o ps js gs _ (completed_table_fits sc c done.sound)) (seen_still_fit (completion c.goals.table) o)
 
     -- ---- of a plain body
 
@@ -333,7 +333,7 @@ module _ (raw : RawFacts) (d : DefWithBodyId) (i : BodyId) (b : RawBody) (s : Sc
         other_is_table : IsTableOf raw d other_table
         other_is_table =
             let r : InferenceResult = closed_table q c.asked c.result in
-            table_of raw d i b s inputs output aliases other_table id at law own lets (made_other r (Some x) ps gs g (done.made q at_q)) (all_types_so _ _ other_table (fine_fits sc) other_heads) (seen_still_fit q (Some x))
+            table_of raw d i b s inputs output aliases other_table id at law own lets (made_other r (Some x) ps js gs g (done.made q at_q)) (all_types_so _ _ other_table (fine_fits sc) other_heads) (seen_still_fit q (Some x))
 
         other_derives : IsDerivation raw d other_table
         other_derives =
@@ -366,6 +366,7 @@ module _ (raw : RawFacts) (d : DefWithBodyId) (i : BodyId) (b : RawBody) (s : Sc
               pat_variants = r.pat_variants;
               seen = r.seen;
               proofs = ps;
+              projections = js;
               expr_gaps = gs;
               general = Some x;
             }
@@ -406,7 +407,7 @@ module _ (raw : RawFacts) (d : DefWithBodyId) (i : BodyId) (b : RawBody) (s : Sc
   abbrev Ends : InferenceContext → Type 0
   Ends z =
       Meets (terms_of (completion z.goals.table)) z.goals.table → Respects (terms_of (completion z.goals.table)) → Triangular (log_of (bindings z.goals.table))
-      → IsTableOf raw d (with_goals ps gs (closed_table (completion z.goals.table) z.asked z.result)) × HasGeneral raw d (with_goals ps gs (closed_table (completion z.goals.table) z.asked z.result))
+      → IsTableOf raw d (with_goals ps js gs (closed_table (completion z.goals.table) z.asked z.result)) × HasGeneral raw d (with_goals ps js gs (closed_table (completion z.goals.table) z.asked z.result))
 
   pub ends : (last : InferenceContext) → KeepsGeneral raw d c last → Ends last
   ends last (inl (plain, (x, resolved, is))) = subst Ends (sym is) (λ meets respects acyclic. (
@@ -423,11 +424,11 @@ module _ (raw : RawFacts) (d : DefWithBodyId) (i : BodyId) (b : RawBody) (s : Sc
 -- with other types before fallback the body is done as before
 pub general_done : (g : Given) (c : InferenceContext) (o : Option General) → BodyDone g c → BodyDone g (with_general c o)
 general_done g c o done = record {
-  sound = sound_with c (record c.result { general = o }) c.clock done.sound (all_types_other c.result o c.result.proofs c.result.expr_gaps _ done.sound.fine)
+  sound = sound_with c (record c.result { general = o }) c.clock done.sound (all_types_other c.result o c.result.proofs c.result.projections c.result.expr_gaps _ done.sound.fine)
       (record { types = done.sound.seen.types; others = done.sound.seen.others });
   decided = done.decided;
   made = λ a closes. (let r : InferenceResult = closed_table a c.asked c.result in
-      made_other r o r.proofs r.expr_gaps g (done.made a (record { closing = closes.closing; meets = closes.meets })));
+      made_other r o r.proofs r.projections r.expr_gaps g (done.made a (record { closing = closes.closing; meets = closes.meets })));
 }
 
 -- so it is once these types are kept, or none are
@@ -445,21 +446,21 @@ keeps_goals raw d c last (inl (plain, (x, resolved, is))) = ap (λ (z : Inferenc
 keeps_goals raw d c last (inr (not_plain, is)) = ap (λ (z : InferenceContext). z.goals) is
 
 module _ (raw : RawFacts) (d : DefWithBodyId) (i : BodyId) (b : RawBody) (s : Schedule) (inputs : List (Option Ty)) (output : Option Ty) (aliases : List (Option Ty)) (id : body_id_of raw d ≡ Some i) (at : slice_get raw.bodies i.0 ≡ Some b) (law : IsWalkable b s) (own : AreOwnTypes raw d inputs output) (lets : AreLetTypes raw d b aliases) (c : InferenceContext) (done : BodyDone (given_by raw d b inputs output aliases) c)
-    (lawful : IsLawful raw) (ps : List Proof) (gs : List (List Gap)) where
+    (lawful : IsLawful raw) (ps : List Proof) (js : List (Ty × Ty)) (gs : List (List Gap)) where
   -- of a body that is not plain the context after selection counts, in which no such types are
-  not_plain_ends : (z : InferenceContext) → BodyDone (given_by raw d b inputs output aliases) z → z.result.general ≡ None → (IsPlainBodyOf raw d → ⊥) → EndsAs raw d ps gs z
+  not_plain_ends : (z : InferenceContext) → BodyDone (given_by raw d b inputs output aliases) z → z.result.general ≡ None → (IsPlainBodyOf raw d → ⊥) → EndsAs raw d ps js gs z
   not_plain_ends z after none not_plain meets respects acyclic =
       let a : Assignment = completion z.goals.table in
       let same : record z.result { general = None } ≡ z.result = ap (λ (o : Option General). record z.result { general = o }) (sym none) in
-      let F : InferenceResult → Type 0 = λ r. IsTableOf raw d (with_goals ps gs (closed_table a z.asked r)) in (
-        subst F same (completed_table raw d i b s inputs output aliases id at law own lets z after lawful ps gs meets respects None),
+      let F : InferenceResult → Type 0 = λ r. IsTableOf raw d (with_goals ps js gs (closed_table a z.asked r)) in (
+        subst F same (completed_table raw d i b s inputs output aliases id at law own lets z after lawful ps js gs meets respects None),
         record { plain = λ p. absurd (not_plain p); other = λ never. none },
       )
 
-  pub ends_selected : (mid z : InferenceContext) → KeepsGeneral raw d c mid → OnlyGoals mid z → StaysOfPlain mid z → BodyDone (given_by raw d b inputs output aliases) z → EndsAs raw d ps gs z
+  pub ends_selected : (mid z : InferenceContext) → KeepsGeneral raw d c mid → OnlyGoals mid z → StaysOfPlain mid z → BodyDone (given_by raw d b inputs output aliases) z → EndsAs raw d ps js gs z
   ends_selected mid z (inl (plain, (x, resolved, is))) only stays after =
       let kept : mid.result.general ≡ Some x = ap (λ (m : InferenceContext). m.result.general) is in
-      subst (EndsAs raw d ps gs) (sym (stays x kept)) (ends raw d i b s inputs output aliases id at law own lets c done lawful ps gs mid (inl (plain, (x, resolved, is))))
+      subst (EndsAs raw d ps js gs) (sym (stays x kept)) (ends raw d i b s inputs output aliases id at law own lets c done lawful ps js gs mid (inl (plain, (x, resolved, is))))
   ends_selected mid z (inr (not_plain, is)) only stays after =
       not_plain_ends z after (ap (λ (r : InferenceResult). r.general) only.result ∙ ap (λ (m : InferenceContext). m.result.general) is) not_plain
 

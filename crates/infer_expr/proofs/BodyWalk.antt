@@ -56,6 +56,7 @@ nothing_under a b goals = λ i. record {
     pat_variants = map pat_variant b.pats;
     seen = [];
     proofs = [];
+    projections = [];
     expr_gaps = [];
     general = None;
   };

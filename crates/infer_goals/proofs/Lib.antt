@@ -1,3 +1,4 @@
+pub mod Copying
 pub mod Counting
 pub mod Kept
 pub mod Known
@@ -10,4 +11,5 @@ pub mod Settling
 pub mod Sleeping
 pub mod Steps
 pub mod Trying
+pub mod Undoing
 pub mod Waking

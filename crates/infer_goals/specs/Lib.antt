@@ -1,7 +1,9 @@
+pub mod Copying
 pub mod Kept
 pub mod Obligations
 pub mod SelfTy
 pub mod Sleepers
 pub mod Stays
 pub mod Told
+pub mod Undo
 pub mod Below

@@ -6,6 +6,7 @@ mod obligations;
 mod self_ty;
 mod sleepers;
 mod table;
+mod undo;
 
 pub use goal_facts::Answer;
 pub use inspect::{ObligationInspector, ToldList};

@@ -6,6 +6,7 @@ ghost use Rattle.goal_answers.specs.Goals.{System};
 ghost use Rattle.goal_search.specs.Sources.{system};
 ghost use Rattle.goal_tree.specs.Trees.{IsTree, IsOpenAt, registered, IsAsked};
 ghost use Rattle.infer_goals.specs.Obligations.{AreKept, AreWithin, AreBelow, AreAt, HasAllOpen, HasAllAnyhow, HasAllSince, KeepsAllOpen, WakesAll, SleepsAll, FallAsleep, AreThere, EndsRound, AreUsedUp, AreSettled, NoneLeft, Went, counted, KeepsOpen, AreAmongEither, AreScanned, AreLower, new_numbers, IsTried, IsVisited};
+ghost use Rattle.infer_goals.specs.Copying.{IsCopied};
 
 use crate::sleepers::Sleepers;
 use goal_facts::{ExprOrPatId, Goal, ItemSources, asked};
@@ -404,5 +405,18 @@ impl Obligations {
         }
         self.select_all(sources, table)?;
         Ok(())
+    }
+
+    /// A copy of all.
+    pub fn dup(&self) -> Result<Obligations, AllocError>
+        ensures { IfOk result (λ copy. IsCopied self.now copy) }
+    {
+        Ok(Obligations {
+            alloc: self.alloc,
+            tree: self.tree.dup()?,
+            todo: Vec::from_slice(self.alloc, self.todo.as_slice())?,
+            asleep: self.asleep.dup()?,
+            selected: self.selected,
+        })
     }
 }

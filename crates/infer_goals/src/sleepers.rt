@@ -1,12 +1,13 @@
 //! Goals that nothing selects until more is known of their holes: the stalled obligations of the
 //! fulfillment context that `infer/unify.rs` asks in `select_obligations_where_possible`. One that sleeps is
 //! asked again only when a hole in it is bound.
-ghost use Rattle.std.specs.Prelude.{◌≡◌, ◌<◌, ◌++◌, ◌∷◌, [], length, get_or, slice_set, OnOk};
+ghost use Rattle.std.specs.Prelude.{◌≡◌, ◌<◌, ◌++◌, ◌∷◌, [], length, get_or, slice_set, IfOk, OnOk};
 ghost use Rattle.hir_types.specs.Terms.{hole_number};
 ghost use Rattle.goal_terms.specs.Terms.{term_of};
 ghost use Rattle.infer_table.specs.Table.{bindings};
 ghost use Rattle.infer_goals.specs.Obligations.{IsAmong};
 ghost use Rattle.infer_goals.specs.Sleepers.{HasRoom, IsListed, KeepsListed, ListsHoles, FallsAsleep, AreWoken, IsStirredAt, IsStirred};
+ghost use Rattle.infer_goals.specs.Copying.{AreCopied};
 
 use goal_terms::Term;
 use hir_types::{Hole, List};
@@ -196,5 +197,28 @@ impl Sleepers {
         }
         self.seen = count;
         Ok(())
+    }
+
+    /// For each hole those that fell asleep with it: copies.
+    fn lists(&self) -> Result<Vec<List<usize>>, AllocError>
+        ensures { IfOk result (λ made. made.items ≡ self.now.by_hole.items) }
+    {
+        let mut copies = Vec::new(self.alloc);
+        for list in self.by_hole.as_slice() {
+            copies.push(list.copied(self.alloc)?)?;
+        }
+        Ok(copies)
+    }
+
+    /// A copy of all.
+    pub fn dup(&self) -> Result<Sleepers, AllocError>
+        ensures { IfOk result (λ copy. AreCopied self.now copy) }
+    {
+        Ok(Sleepers {
+            alloc: self.alloc,
+            by_hole: self.lists()?,
+            asleep: Vec::from_slice(self.alloc, self.asleep.as_slice())?,
+            seen: self.seen,
+        })
     }
 }

@@ -29,12 +29,12 @@ pub struct GoalTable<'a> {
     /// Whether goals are still selected under a bound: true until holes fall back.
     pub bounded: bool,
     sources: ItemSources<'a>,
-    obligations: Obligations,
+    pub(crate) obligations: Obligations,
     /// Each goal that was evaluated, with its answer.
     told: Vec<(Goal, Answer)>,
-    uses: Vec<(Ty, Ty, ExprOrPatId)>,
+    pub(crate) uses: Vec<(Ty, Ty, ExprOrPatId)>,
     /// The opaque types of which a hidden type is known, with it.
-    projections: Vec<(Ty, Ty)>,
+    pub(crate) projections: Vec<(Ty, Ty)>,
 }
 
 impl<'a> GoalTable<'a> {

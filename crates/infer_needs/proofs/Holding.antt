@@ -6,6 +6,7 @@ use Rattle.std.proofs.lemmas.Option.{same_Some, slice_get_within}
 use Rattle.hir_types.specs.declared.ids.BodyId.{BodyId}
 use Rattle.hir_types.specs.declared.ids.ExprId.{ExprId}
 use Rattle.hir_types.specs.declared.ids.DefWithBodyId.{DefWithBodyId}
+use Rattle.hir_types.specs.declared.goal.Goal.TheVariants as goal
 use Rattle.hir_types.specs.declared.ty.Ty.{Ty}
 use Rattle.hir_raw.specs.declared.raw.RawBody.{RawBody}
 use Rattle.hir_raw.specs.declared.raw.RawExpr.{RawExpr}
@@ -17,11 +18,13 @@ use Rattle.goal_facts.specs.Goals.{asked_goal}
 use Rattle.goal_facts.specs.Systems.{IsSystemOf}
 use Rattle.infer_result.specs.declared.gaps.Gap.{Gap}
 use Rattle.infer_result.specs.declared.result.InferenceResult.{InferenceResult}
-use Rattle.infer_result.specs.Needs.{IsNeeded, HoldsUnknown, IsProved, gap_asks, HasGap, IsUnproved, IsTrueGap, needed_goals, with_goals, scope_item, GoalsHold, needs_of, needs_at}
+use Rattle.infer_result.specs.Projections.{HasEntry, IsAboutAlias, IsFound, AreFound}
+use Rattle.infer_result.specs.Needs.{IsNeeded, HoldsUnknown, IsProved, gap_says, HasGap, IsUnproved, IsClash, IsTrueGap, needed_goals, with_goals, scope_item, GoalsHold, needs_of, needs_at}
 use Rattle.infer_result.specs.Places.{Given}
 use Rattle.infer_result.specs.Table.{recorded}
 use Rattle.infer_result.specs.Typed.{given}
-use Rattle.infer_needs.specs.Judged.{IsDone, IsOfFailing, AreAllJudged}
+use Rattle.infer_needs.specs.Listed.{AreDistinct}
+use Rattle.infer_needs.specs.Judged.{HasProofOf, IsDone, IsEntry, IsOfFailing, IsOfClash, AreAllJudged}
 
 -- ---- the body of a definition
 
@@ -57,13 +60,13 @@ get_there (x ∷ xs) (suc k) h = get_there xs k (omega (arith, h))
 
 -- ---- the table
 
-module _ (raw : RawFacts) (d : DefWithBodyId) (b : RawBody) (f : System) (r : InferenceResult) (ps : List Proof) (gss : List (List Gap))
-    (of_item : IsSystemOf raw (scope_item raw d) f) (all : AreAllJudged raw f b r (length b.exprs) ps gss) where
+module _ (raw : RawFacts) (d : DefWithBodyId) (b : RawBody) (f : System) (r : InferenceResult) (ps : List Proof) (js : List (Ty × Ty)) (gss : List (List Gap))
+    (of_item : IsSystemOf raw (scope_item raw d) f) (all : AreAllJudged raw f b r (length b.exprs) ps js gss) (distinct : AreDistinct js) where
   abbrev g : Given
   g = given raw d b
 
   abbrev z : InferenceResult
-  z = with_goals ps gss r
+  z = with_goals ps js gss r
 
   needed_at : (e : ExprId) (a : Asked) → (n : IsNeeded g z e a) → slice_get (needs_at raw b r e.0) n.at ≡ Some a
   needed_at e a n =
@@ -84,20 +87,57 @@ module _ (raw : RawFacts) (d : DefWithBodyId) (b : RawBody) (f : System) (r : In
         among = s.1;
       }
 
-  done_is : (e : ExprId) (a : Asked) (gs : List Gap) → slice_get gss e.0 ≡ Some gs → IsDone e ps gs a → IsProved z a ⊎ (IsUnproved z e a ⊎ HoldsUnknown a.parts)
-  done_is e a gs at (inl h) = inl (record { number = h.0; proof = h.1; listed = h.2; goal = h.3 })
+  is_proved : (a : Asked) → HasProofOf ps a → IsProved z a
+  is_proved a h = record { number = h.0; proof = h.1; listed = h.2; goal = h.3 }
+
+  done_is : (e : ExprId) (a : Asked) (gs : List Gap) → slice_get gss e.0 ≡ Some gs → IsDone e ps js gs a → IsProved z a ⊎ (IsUnproved z e a ⊎ HoldsUnknown a.parts)
+  done_is e a gs at (inl h) = inl (is_proved a h.0)
   done_is e a gs at (inr (inl h)) = inr (inl (h.1, record { gaps = gs; at = at; number = h.0; listed = h.2 }, h.3))
   done_is e a gs at (inr (inr h)) = inr (inr h)
 
-  need_holds : (e : ExprId) (a : Asked) → IsNeeded g z e a → IsProved z a ⊎ (IsUnproved z e a ⊎ HoldsUnknown a.parts)
-  need_holds e a n =
+  -- where it asks for an associated type
+  listed_is : (e : ExprId) (a : Asked) (gs : List Gap) → slice_get gss e.0 ≡ Some gs → IsAboutAlias a → IsDone e ps js gs a → HasEntry js a ⊎ (IsClash z e a ⊎ IsUnproved z e a)
+  listed_is e a gs at about (inl h) = elim (h.1 about) [
+    | inl k ↦ inl k
+    | inr k ↦ inr (inl (k.1, k.2, k.3, k.4, record { gaps = gs; at = at; number = k.0; listed = k.5 }, k.6))
+  ]
+  listed_is e a gs at about (inr (inl h)) = inr (inr (h.1, record { gaps = gs; at = at; number = h.0; listed = h.2 }, h.3))
+  listed_is e a gs at about (inr (inr h)) = absurd (about.known h)
+
+  -- what became of it, among the gaps of its expression
+  record Became (e : ExprId) (a : Asked) : Type 0 where
+    gaps : List Gap
+    at : slice_get gss e.0 ≡ Some gaps
+    done : IsDone e ps js gaps a
+
+  became : (e : ExprId) (a : Asked) → IsNeeded g z e a → Became e a
+  became e a n =
       let within = slice_get_within b.exprs e.0 n.expr n.is in
       let long = all.long in
       let there = get_there gss e.0 (omega (arith, within, long)) in
-      done_is e a there.0 there.1 ((all.each e.0 there.0 there.1).each n.at a (needed_at e a n))
+      record { gaps = there.0; at = there.1; done = (all.each e.0 there.0 there.1).each n.at a (needed_at e a n) }
 
-  failing_is : (e : ExprId) (x : Gap) → IsOfFailing f raw.limits.goal_depth e (needs_at raw b r e.0) x → IsTrueGap g f z e x
-  failing_is e x h = subst (IsTrueGap g f z e) (sym h.is) (
+  need_holds : (e : ExprId) (a : Asked) → IsNeeded g z e a → IsProved z a ⊎ (IsUnproved z e a ⊎ HoldsUnknown a.parts)
+  need_holds e a n = (let h = became e a n in done_is e a h.gaps h.at h.done)
+
+  entry_holds : (e : ExprId) (a : Asked) → IsNeeded g z e a → IsAboutAlias a → HasEntry js a ⊎ (IsClash z e a ⊎ IsUnproved z e a)
+  entry_holds e a n about = (let h = became e a n in listed_is e a h.gaps h.at about h.done)
+
+  entry_is : (x : Ty × Ty) → IsEntry ps x → IsFound z x
+  entry_is x h = record {
+    alias = h.alias;
+    args = h.args;
+    is = h.is;
+    proved = is_proved (asked_goal (goal.Projection h.alias h.args x.1)) h.proved;
+    read = h.read;
+    known = h.known;
+  }
+
+  are_found : AreFound z
+  are_found = record { each = λ n x at. entry_is x (all.entries n x at); once = distinct }
+
+  gap_is : (e : ExprId) (x : Gap) → IsOfFailing f raw.limits.goal_depth e (needs_at raw b r e.0) x ⊎ IsOfClash e (needs_at raw b r e.0) ps js x → IsTrueGap g f z e x
+  gap_is e x (inl h) = subst (IsTrueGap g f z e) (sym h.is) (
     refl,
     record {
       needed = is_needed e h.at (asked_goal h.goal) h.among;
@@ -105,11 +145,25 @@ module _ (raw : RawFacts) (d : DefWithBodyId) (b : RawBody) (f : System) (r : In
       fails = h.fails;
     },
   )
+  gap_is e x (inr h) =
+      let asks : Asked = asked_goal (goal.Projection h.alias h.args h.second) in
+      subst (IsTrueGap g f z e) (sym h.is) (
+        refl,
+        record {
+          alias = h.alias;
+          args = h.args;
+          is = refl;
+          listed = h.listed;
+          needed = is_needed e h.at asks h.among;
+          proved = is_proved asks h.proved;
+          differ = h.differ;
+        },
+      )
 
   gap_holds : (e : ExprId) (x : Gap) → HasGap z e x → IsTrueGap g f z e x
-  gap_holds e x h = failing_is e x ((all.each e.0 h.gaps h.at).gaps h.number x h.listed)
+  gap_holds e x h = gap_is e x ((all.each e.0 h.gaps h.at).gaps h.number x h.listed)
 
-  gap_once : (e : ExprId) (x y : Gap) (j : HasGap z e x) (k : HasGap z e y) → gap_asks x ≡ gap_asks y → j.number ≡ k.number
+  gap_once : (e : ExprId) (x y : Gap) (j : HasGap z e x) (k : HasGap z e y) → gap_says x ≡ gap_says y → j.number ≡ k.number
   gap_once e x y j k same =
       let alike : k.gaps ≡ j.gaps = same_Some k.gaps j.gaps (sym k.at ∙ j.at) in
       (all.each e.0 j.gaps j.at).once j.number k.number x y j.listed (subst (λ gs. slice_get gs k.number ≡ Some y) alike k.listed) same
@@ -122,4 +176,6 @@ module _ (raw : RawFacts) (d : DefWithBodyId) (b : RawBody) (f : System) (r : In
     needs = need_holds;
     gaps = gap_holds;
     once = gap_once;
+    found = are_found;
+    entries = entry_holds;
   }

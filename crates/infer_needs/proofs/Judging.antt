@@ -3,14 +3,21 @@ use Rattle.std.specs.Prelude.{◌≡◌, ◌⊎◌, ◌+◌, ◌++◌, ℕ, List
 use Rattle.std.proofs.Common.{inl, inr, refl, sym, ap, ◌∙◌, subst, arith, append_assoc, append-nil, length-append}
 use Rattle.std.proofs.lemmas.List.{map-append}
 use Rattle.hir_types.specs.declared.ids.ExprId.{ExprId}
+use Rattle.hir_types.specs.declared.ids.TypeAliasId.{TypeAliasId}
 use Rattle.hir_types.specs.declared.goal.Goal.{Goal}
+use Rattle.hir_types.specs.declared.goal.Goal.TheVariants as goal
+use Rattle.hir_types.specs.declared.ty.GenericArg.{GenericArg}
+use Rattle.hir_types.specs.declared.ty.Ty.{Ty}
+use Rattle.hir_types.specs.declared.ty.Ty.TheVariants as ty
+use Rattle.hir_types.specs.Erasure.{Same}
+use Rattle.hir_types.specs.Terms.{Term, pair, chain, arg_term}
 use Rattle.hir_raw.specs.declared.raw.RawBody.{RawBody}
 use Rattle.hir_raw.specs.declared.raw.RawExpr.{RawExpr}
 use Rattle.hir_raw.specs.declared.raw.RawFacts.{RawFacts}
 use Rattle.infer_table.specs.Table.{IsFront}
 use Rattle.infer_table.proofs.BindingLaws.{get_left, get_last, get_more}
 use Rattle.infer_table.proofs.UndoLaws.{front_itself}
-use Rattle.goal_answers.specs.Goals.{Asked, System}
+use Rattle.goal_answers.specs.Goals.{Asked, System, projects}
 use Rattle.goal_answers.specs.Answers.{answers}
 use Rattle.goal_answers.proofs.One.{answers_are_one}
 use Rattle.goal_facts.specs.declared.proof.Proof.{Proof}
@@ -20,9 +27,11 @@ use Rattle.goal_facts.specs.Goals.{asked_goal, IsAnswer}
 use Rattle.goal_prove.specs.Entries.{AddsProofs}
 use Rattle.infer_result.specs.declared.gaps.Gap.{Gap}
 use Rattle.infer_result.specs.declared.result.InferenceResult.{InferenceResult}
-use Rattle.infer_result.specs.Needs.{HoldsUnknown, gap_asks, needs_of, needs_at}
+use Rattle.infer_result.specs.Projections.{IsListedAs, HasEntry, IsAboutAlias}
+use Rattle.infer_result.specs.Needs.{HoldsUnknown, Saying, clashes, gap_says, needs_of, needs_at}
 use Rattle.infer_result.specs.Table.{recorded}
-use Rattle.infer_needs.specs.Judged.{IsProvable, AreProvable, unproved, IsSaid, IsAmong, IsDone, IsSaidIfKnown, IsJudged, IsOfFailing, AreDone, AreJudged, AreAllJudged}
+use Rattle.infer_needs.specs.Listed.{FindsIn}
+use Rattle.infer_needs.specs.Judged.{IsProvable, AreProvable, unproved, clash, IsAmong, IsSaidOnce, IsSaidIfKnown, SaysAlias, IsNoted, HasProofOf, IsSaid, IsSaidClash, IsDone, IsJudged, IsEntry, AreEntries, AddsEntries, IsOfFailing, IsOfClash, AreDone, AreJudged, AreAllJudged}
 
 -- ---- proofs that are added
 
@@ -38,60 +47,215 @@ adds_then raw f ps qs rs a b = record {
 front_get : {X : Type 0} (xs ys : List X) → IsFront xs ys → (i : ℕ) (x : X) → slice_get xs i ≡ Some x → slice_get ys i ≡ Some x
 front_get xs ys f i x e = subst (λ zs. slice_get zs i ≡ Some x) (sym f.1) (get_left xs f.0 i x e)
 
--- what became of a goal stays so
-done_later : (e : ExprId) (ps qs : List Proof) (gs hs : List Gap) (a : Asked) → IsFront ps qs → IsFront gs hs → IsDone e ps gs a → IsDone e qs hs a
-done_later e ps qs gs hs a p g (inl h) = inl (h.0, h.1, front_get ps qs p h.0 h.1 h.2, h.3)
-done_later e ps qs gs hs a p g (inr (inl h)) = inr (inl (h.0, h.1, front_get gs hs g h.0 (unproved e h.1) h.2, h.3))
-done_later e ps qs gs hs a p g (inr (inr h)) = inr (inr h)
+-- ---- what stays so
+
+has_later : (ps qs : List Proof) (a : Asked) → IsFront ps qs → HasProofOf ps a → HasProofOf qs a
+has_later ps qs a p h = (h.0, h.1, front_get ps qs p h.0 h.1 h.2, h.3)
+
+listed_later : (js ks : List (Ty × Ty)) (k : TypeAliasId) (xs : List GenericArg) (t : Ty) → IsFront js ks → IsListedAs js k xs t → IsListedAs ks k xs t
+listed_later js ks k xs t p h = (h.0, front_get js ks p h.0 (ty.Projection k xs, t) h.1)
+
+entry_later : (js ks : List (Ty × Ty)) (a : Asked) → IsFront js ks → HasEntry js a → HasEntry ks a
+entry_later js ks a p h = (h.0, h.1, h.2, listed_later js ks h.0 h.1 h.2 p h.3, h.4)
+
+clash_later : (e : ExprId) (gs hs : List Gap) (a : Asked) → IsFront gs hs → IsSaidClash e gs a → IsSaidClash e hs a
+clash_later e gs hs a p h = (h.0, h.1, h.2, h.3, h.4, front_get gs hs p h.0 (clash e (ty.Projection h.1 h.2) h.3 h.4) h.5, h.6)
+
+entries_later : (ps qs : List Proof) (js : List (Ty × Ty)) → IsFront ps qs → AreEntries ps js → AreEntries qs js
+entries_later ps qs js p h n x at =
+    let k = h n x at in
+    record { alias = k.alias; args = k.args; is = k.is; proved = has_later ps qs (asked_goal (goal.Projection k.alias k.args x.1)) p k.proved; read = k.read; known = k.known }
+
+-- what became of a goal
+done_later : (e : ExprId) (ps qs : List Proof) (js ks : List (Ty × Ty)) (gs hs : List Gap) (a : Asked) → IsFront ps qs → IsFront js ks → IsFront gs hs → IsDone e ps js gs a → IsDone e qs ks hs a
+done_later e ps qs js ks gs hs a p l g (inl h) =
+    inl (has_later ps qs a p h.0, λ about. elim (h.1 about) [ inl k ↦ inl (entry_later js ks a l k) | inr k ↦ inr (clash_later e gs hs a g k) ])
+done_later e ps qs js ks gs hs a p l g (inr (inl h)) = inr (inl (h.0, h.1, front_get gs hs g h.0 (unproved e h.1) h.2, h.3))
+done_later e ps qs js ks gs hs a p l g (inr (inr h)) = inr (inr h)
+
+-- ---- entries that are added
+
+lists_none : (ps qs : List Proof) (js : List (Ty × Ty)) → IsFront ps qs → AddsEntries ps qs js js
+lists_none ps qs js p = record { behind = front_itself js; right = entries_later ps qs js p }
+
+lists_then : (ps qs rs : List Proof) (js ks ls : List (Ty × Ty)) → AddsEntries ps qs js ks → AddsEntries qs rs ks ls → AddsEntries ps rs js ls
+lists_then ps qs rs js ks ls a b = record {
+  behind = (a.behind.0 ++ b.behind.0, b.behind.1 ∙ ap (λ l. l ++ b.behind.0) a.behind.1 ∙ append_assoc js a.behind.0 b.behind.0);
+  right = λ h. b.right (a.right h);
+}
 
 -- ---- one goal
 
--- no more is said, or of this goal, which fails, and of which nothing was said
-abbrev Says : System → ℕ → ExprId → Goal → List Gap → List Gap → Type 0
-Says f n e q gs hs =
-    (hs ≡ gs)
-    ⊎ ((hs ≡ gs ++ unproved e q ∷ []) × (HoldsUnknown (asked_goal q).parts → ⊥) × ((answers f n).Yes (asked_goal q) → ⊥) × (IsAmong gs (asked_goal q) → ⊥))
+-- of this goal, which fails
+abbrev FailsNow : System → ℕ → ExprId → Goal → Gap → Type 0
+FailsNow f n e q x = (x ≡ unproved e q) × (HoldsUnknown (asked_goal q).parts → ⊥) × ((answers f n).Yes (asked_goal q) → ⊥)
+
+-- of this goal, which has a proof, and asks an associated type to be another type than is listed
+record ClashesNow (e : ExprId) (q : Goal) (qs : List Proof) (ks : List (Ty × Ty)) (x : Gap) : Type 0 where
+  alias : TypeAliasId
+  args : List GenericArg
+  first : Ty
+  second : Ty
+  is : x ≡ clash e (ty.Projection alias args) first second
+  listed : IsListedAs ks alias args first
+  asks : asked_goal (goal.Projection alias args second) ≡ asked_goal q
+  proved : HasProofOf qs (asked_goal (goal.Projection alias args second))
+  differ : Same first second → ⊥
+
+abbrev IsTrueNow : System → ℕ → ExprId → Goal → List Proof → List (Ty × Ty) → Gap → Type 0
+IsTrueNow f n e q qs ks x = FailsNow f n e q x ⊎ ClashesNow e q qs ks x
+
+-- no more is said, or what is so, and of which nothing was said
+abbrev Says : System → ℕ → ExprId → Goal → List Proof → List (Ty × Ty) → List Gap → List Gap → Type 0
+Says f n e q qs ks gs hs = (hs ≡ gs) ⊎ ((x : Gap) × (hs ≡ gs ++ x ∷ []) × IsTrueNow f n e q qs ks x × (IsAmong gs (gap_says x) → ⊥))
 
 -- what is said at the expression
+abbrev IsAt : ExprId → Gap → Type 0
+IsAt e x = ((q : Goal) × (x ≡ unproved e q)) ⊎ ((a : Ty) × (t : Ty) × (u : Ty) × (x ≡ clash e a t u))
+
 abbrev AreAt : ExprId → List Gap → Type 0
-AreAt e gs = (k : ℕ) (x : Gap) → slice_get gs k ≡ Some x → (q : Goal) × (x ≡ unproved e q)
+AreAt e gs = (k : ℕ) (x : Gap) → slice_get gs k ≡ Some x → IsAt e x
 
-among_said : (e : ExprId) (gs : List Gap) (a : Asked) → AreAt e gs → IsAmong gs a → IsSaid e gs a
-among_said e gs a here h =
-    let x = here h.0 h.1 h.2 in
-    (h.0, x.0, h.2 ∙ ap Some x.1, ap gap_asks (sym x.1) ∙ h.3)
+said_by : (e : ExprId) (gs : List Gap) (q : Goal) (k : ℕ) (x : Gap) → slice_get gs k ≡ Some x → gap_says x ≡ gap_says (unproved e q) → IsAt e x → IsSaid e gs (asked_goal q)
+said_by e gs q k x at says (inl h) =
+    let same : gap_says (unproved e h.0) ≡ gap_says (unproved e q) = ap gap_says (sym h.1) ∙ says in
+    (k, h.0, at ∙ ap Some h.1, cc)
+said_by e gs q k x at says (inr h) = (let other : gap_says (clash e h.0 h.1 h.2) ≡ gap_says (unproved e q) = ap gap_says (sym h.3) ∙ says in cc)
 
-module _ (raw : RawFacts) (f : System) (e : ExprId) (q : Goal) (ps qs : List Proof) (gs hs : List Gap) where
-  judged_adds : IsJudged raw f e q ps qs gs hs → AddsProofs raw f ps qs
+among_said : (e : ExprId) (gs : List Gap) (q : Goal) → AreAt e gs → IsAmong gs (gap_says (unproved e q)) → IsSaid e gs (asked_goal q)
+among_said e gs q here h = said_by e gs q h.0 h.1 h.2 h.3 (here h.0 h.1 h.2)
+
+-- the same of an associated type
+module _ (e : ExprId) (gs : List Gap) (k : TypeAliasId) (xs : List GenericArg) (t u : Ty) where
+  abbrev said : Saying
+  said = gap_says (clash e (ty.Projection k xs) t u)
+
+  clash_by : (n : ℕ) (x : Gap) → slice_get gs n ≡ Some x → gap_says x ≡ said → IsAt e x → IsSaidClash e gs (asked_goal (goal.Projection k xs u))
+  clash_by n x at says (inl h) = (let other : gap_says (unproved e h.0) ≡ said = ap gap_says (sym h.1) ∙ says in cc)
+  clash_by n x at says (inr h) =
+      let same : clashes h.0 h.2 ≡ clashes (ty.Projection k xs) u = ap gap_says (sym h.3) ∙ says in
+      let left : h.0 ≡ ty.Projection k xs = cc in
+      let right : h.2 ≡ u = cc in
+      (n, k, xs, h.1, h.2, at ∙ ap Some (h.3 ∙ ap (λ z. clash e z h.1 h.2) left), ap (λ z. asked_goal (goal.Projection k xs z)) right)
+
+  clash_said : (hs : List Gap) → AreAt e gs → IsSaidOnce (clash e (ty.Projection k xs) t u) gs hs → IsSaidClash e hs (asked_goal (goal.Projection k xs u))
+  clash_said hs here (inl h) = (let m = h.1 in subst (λ zs. IsSaidClash e zs (asked_goal (goal.Projection k xs u))) (sym h.0) (clash_by m.0 m.1 m.2 m.3 (here m.0 m.1 m.2)))
+  clash_said hs here (inr h) =
+      (length gs, k, xs, t, u, subst (λ zs. slice_get zs (length gs) ≡ Some (clash e (ty.Projection k xs) t u)) (sym h.0) (get_last gs (clash e (ty.Projection k xs) t u)), refl)
+
+module _ (raw : RawFacts) (f : System) (e : ExprId) (q : Goal) (ps qs : List Proof) (js ks : List (Ty × Ty)) (gs hs : List Gap) where
+  abbrev deep : ℕ
+  deep = raw.limits.goal_depth
+
+  judged_adds : IsJudged raw f e q ps qs js ks gs hs → AddsProofs raw f ps qs
   judged_adds (inl h) = h.adds
   judged_adds (inr h) = subst (AddsProofs raw f ps) (sym h.proofs) (adds_none raw f ps)
 
-  said_says : ((answers f raw.limits.goal_depth).Yes (asked_goal q) → ⊥) → IsSaidIfKnown e q gs hs → Says f raw.limits.goal_depth e q gs hs
-  said_says fails (inl h) = inl h.0
-  said_says fails (inr h) = inr (h.0, h.1, fails, h.2)
+  -- ---- what is listed
 
-  judged_says : IsJudged raw f e q ps qs gs hs → Says f raw.limits.goal_depth e q gs hs
-  judged_says (inl h) = inl h.gaps
+  new_entry : HasProofOf qs (asked_goal q) → (s : SaysAlias q) → IsEntry qs (ty.Projection s.alias s.args, s.type)
+  new_entry has s = record {
+    alias = s.alias;
+    args = s.args;
+    is = refl;
+    proved = subst (λ g. HasProofOf qs (asked_goal g)) s.is has;
+    read = s.read;
+    known = subst (λ g. HoldsUnknown (asked_goal g).parts → ⊥) s.is s.known;
+  }
+
+  one_entry : AddsProofs raw f ps qs → HasProofOf qs (asked_goal q) → (s : SaysAlias q) → ks ≡ js ++ (ty.Projection s.alias s.args, s.type) ∷ [] → AddsEntries ps qs js ks
+  one_entry adds has s is =
+      let y : Ty × Ty = (ty.Projection s.alias s.args, s.type) in
+      record {
+        behind = (y ∷ [], is);
+        right = λ h k x at. elim (get_more js y k x (subst (λ zs. slice_get zs k ≡ Some x) is at)) [
+          | inl l ↦ entries_later ps qs js adds.behind h k x l
+          | inr l ↦ subst (IsEntry qs) l.1 (new_entry has s)
+        ];
+      }
+
+  same_entries : AddsProofs raw f ps qs → ks ≡ js → AddsEntries ps qs js ks
+  same_entries adds is = subst (AddsEntries ps qs js) (sym is) (lists_none ps qs js adds.behind)
+
+  noted_lists : AddsProofs raw f ps qs → HasProofOf qs (asked_goal q) → IsNoted e q js ks gs hs → AddsEntries ps qs js ks
+  noted_lists adds has (inl h) = same_entries adds h.0
+  noted_lists adds has (inr (s, inl h)) = one_entry adds has s h.0
+  noted_lists adds has (inr (s, inr h)) = same_entries adds h.0
+
+  judged_lists : IsJudged raw f e q ps qs js ks gs hs → AddsEntries ps qs js ks
+  judged_lists (inl h) = noted_lists h.adds h.has h.noted
+  judged_lists (inr h) = same_entries (subst (AddsProofs raw f ps) (sym h.proofs) (adds_none raw f ps)) h.listed
+
+  -- ---- what is said
+
+  once_says : (x : Gap) → IsTrueNow f deep e q qs ks x → IsSaidOnce x gs hs → Says f deep e q qs ks gs hs
+  once_says x is (inl h) = inl h.0
+  once_says x is (inr h) = inr (x, h.0, is, h.1)
+
+  said_says : ((answers f deep).Yes (asked_goal q) → ⊥) → IsSaidIfKnown e q gs hs → Says f deep e q qs ks gs hs
+  said_says fails (inl h) = inl h.1
+  said_says fails (inr h) = once_says (unproved e q) (inl (refl, h.0, fails)) h.1
+
+  clash_now : HasProofOf qs (asked_goal q) → (s : SaysAlias q) (t : Ty) → ks ≡ js → FindsIn js (ty.Projection s.alias s.args) (Some t) → (Same t s.type → ⊥)
+      → IsTrueNow f deep e q qs ks (clash e (ty.Projection s.alias s.args) t s.type)
+  clash_now has s t is finds differ = inr (record {
+    alias = s.alias;
+    args = s.args;
+    first = t;
+    second = s.type;
+    is = refl;
+    listed = subst (λ zs. IsListedAs zs s.alias s.args t) (sym is) finds;
+    asks = ap asked_goal (sym s.is);
+    proved = subst (λ g. HasProofOf qs (asked_goal g)) s.is has;
+    differ = differ;
+  })
+
+  noted_says : HasProofOf qs (asked_goal q) → IsNoted e q js ks gs hs → Says f deep e q qs ks gs hs
+  noted_says has (inl h) = inl h.1
+  noted_says has (inr (s, inl h)) = inl h.1
+  noted_says has (inr (s, inr h)) = elim h.3 [
+    | inl k ↦ inl k.1
+    | inr k ↦ once_says (clash e (ty.Projection s.alias s.args) h.1 s.type) (clash_now has s h.1 h.0 h.2 k.0) k.1
+  ]
+
+  judged_says : IsJudged raw f e q ps qs js ks gs hs → Says f deep e q qs ks gs hs
+  judged_says (inl h) = noted_says h.has h.noted
   judged_says (inr h) = said_says h.fails h.said
 
-  said_done : AreAt e gs → IsSaidIfKnown e q gs hs → IsDone e qs hs (asked_goal q)
-  said_done here (inl h) = elim h.1 [
-    | inl unknown ↦ inr (inr unknown)
-    | inr among ↦ inr (inl (subst (λ zs. IsSaid e zs (asked_goal q)) (sym h.0) (among_said e gs (asked_goal q) here among)))
-  ]
-  said_done here (inr h) = inr (inl (length gs, q, subst (λ zs. slice_get zs (length gs) ≡ Some (unproved e q)) (sym h.0) (get_last gs (unproved e q)), refl))
+  -- ---- what becomes of it
 
-  judged_done : AreAt e gs → IsJudged raw f e q ps qs gs hs → IsDone e qs hs (asked_goal q)
-  judged_done here (inl h) = inl h.has
+  abbrev alias_goal : (s : SaysAlias q) → Term → Asked
+  alias_goal s w = record { kind = projects s.alias; parts = pair (chain (map arg_term s.args)) w }
+
+  noted_done : AreAt e gs → IsNoted e q js ks gs hs → IsAboutAlias (asked_goal q) → HasEntry ks (asked_goal q) ⊎ IsSaidClash e hs (asked_goal q)
+  noted_done here (inl h) about = absurd (h.2 about)
+  noted_done here (inr (s, inl h)) about =
+      let y : Ty × Ty = (ty.Projection s.alias s.args, s.type) in
+      inl (s.alias, s.args, s.type, (length js, subst (λ zs. slice_get zs (length js) ≡ Some y) (sym h.0) (get_last js y)), ap asked_goal (sym s.is))
+  noted_done here (inr (s, inr h)) about = elim h.3 [
+    | inl k ↦ inl (s.alias, s.args, h.1, subst (λ zs. IsListedAs zs s.alias s.args h.1) (sym h.0) h.2, ap (alias_goal s) k.0 ∙ ap asked_goal (sym s.is))
+    | inr k ↦ inr (subst (λ g. IsSaidClash e hs (asked_goal g)) (sym s.is) (clash_said e gs s.alias s.args h.1 s.type hs here k.1))
+  ]
+
+  said_done : AreAt e gs → IsSaidIfKnown e q gs hs → IsDone e qs ks hs (asked_goal q)
+  said_done here (inl h) = inr (inr h.0)
+  said_done here (inr h) = elim h.1 [
+    | inl k ↦ inr (inl (subst (λ zs. IsSaid e zs (asked_goal q)) (sym k.0) (among_said e gs q here k.1)))
+    | inr k ↦ inr (inl (length gs, q, subst (λ zs. slice_get zs (length gs) ≡ Some (unproved e q)) (sym k.0) (get_last gs (unproved e q)), refl))
+  ]
+
+  judged_done : AreAt e gs → IsJudged raw f e q ps qs js ks gs hs → IsDone e qs ks hs (asked_goal q)
+  judged_done here (inl h) = inl (h.has, noted_done here h.noted)
   judged_done here (inr h) = said_done here h.said
 
-says_front : (f : System) (n : ℕ) (e : ExprId) (q : Goal) (gs hs : List Gap) → Says f n e q gs hs → IsFront gs hs
-says_front f n e q gs hs (inl h) = subst (IsFront gs) (sym h) (front_itself gs)
-says_front f n e q gs hs (inr h) = (unproved e q ∷ [], h.0)
+says_front : (f : System) (n : ℕ) (e : ExprId) (q : Goal) (qs : List Proof) (ks : List (Ty × Ty)) (gs hs : List Gap) → Says f n e q qs ks gs hs → IsFront gs hs
+says_front f n e q qs ks gs hs (inl h) = subst (IsFront gs) (sym h) (front_itself gs)
+says_front f n e q qs ks gs hs (inr h) = (h.0 ∷ [], h.1)
 
 -- where its answer isn't Yes
-pub refused : (raw : RawFacts) (f : System) (e : ExprId) (q : Goal) (ps : List Proof) (gs hs : List Gap) → ((answers f raw.limits.goal_depth).Yes (asked_goal q) → ⊥) → IsSaidIfKnown e q gs hs → IsJudged raw f e q ps ps gs hs
-refused raw f e q ps gs hs fails said = inr (record { proofs = refl; fails = fails; said = said })
+pub refused : (raw : RawFacts) (f : System) (e : ExprId) (q : Goal) (ps : List Proof) (js : List (Ty × Ty)) (gs hs : List Gap) → ((answers f raw.limits.goal_depth).Yes (asked_goal q) → ⊥) → IsSaidIfKnown e q gs hs
+    → IsJudged raw f e q ps ps js js gs hs
+refused raw f e q ps js gs hs fails said = inr (record { proofs = refl; listed = refl; fails = fails; said = said })
 
 pub not_yes : (f : System) (n : ℕ) (a : Asked) (x : Answer) → (x ≡ answer.No) ⊎ (x ≡ answer.Undecided) → IsAnswer f n a x → (answers f n).Yes a → ⊥
 not_yes f n a x (inl e) is holds = (answers_are_one f n n).0 a holds (subst (IsAnswer f n a) e is)
@@ -99,79 +263,114 @@ not_yes f n a x (inr e) is holds = (subst (IsAnswer f n a) e is).0 holds
 
 -- ---- the goals of an expression
 
-pub judged_none : (raw : RawFacts) (f : System) (e : ExprId) (ps : List Proof) → AreJudged raw f e [] ps ps []
-judged_none raw f e ps = record { adds = adds_none raw f ps; done = record { each = λ k a at. cc; gaps = λ k x at. cc; once = λ j k x y at there e. cc } }
+pub judged_none : (raw : RawFacts) (f : System) (e : ExprId) (ps : List Proof) (js : List (Ty × Ty)) → AreJudged raw f e [] ps ps js js []
+judged_none raw f e ps js = record {
+  adds = adds_none raw f ps;
+  lists = lists_none ps ps js (front_itself ps);
+  done = record { each = λ k a at. cc; gaps = λ k x at. cc; once = λ j k x y at there e. cc };
+}
 
-module _ (raw : RawFacts) (f : System) (e : ExprId) (xs : List Asked) (q : Goal) (ps qs rs : List Proof) (gs hs : List Gap)
-    (before : AreJudged raw f e xs ps qs gs) (now : IsJudged raw f e q qs rs gs hs) where
+module _ (raw : RawFacts) (f : System) (e : ExprId) (xs : List Asked) (q : Goal) (ps qs rs : List Proof) (js ks ls : List (Ty × Ty)) (gs hs : List Gap)
+    (before : AreJudged raw f e xs ps qs js ks gs) (now : IsJudged raw f e q qs rs ks ls gs hs) where
   abbrev n : ℕ
   n = raw.limits.goal_depth
 
   abbrev bs : List Asked
   bs = xs ++ asked_goal q ∷ []
 
-  says : Says f n e q gs hs
-  says = judged_says raw f e q qs rs gs hs now
+  says : Says f n e q rs ls gs hs
+  says = judged_says raw f e q qs rs ks ls gs hs now
 
   adds : AddsProofs raw f qs rs
-  adds = judged_adds raw f e q qs rs gs hs now
+  adds = judged_adds raw f e q qs rs ks ls gs hs now
+
+  lists : AddsEntries qs rs ks ls
+  lists = judged_lists raw f e q qs rs ks ls gs hs now
 
   here : AreAt e gs
-  here k x at = (let h = before.done.gaps k x at in (h.goal, h.is))
-
-  each : (k : ℕ) (a : Asked) → slice_get bs k ≡ Some a → IsDone e rs hs a
-  each k a at = elim (get_more xs (asked_goal q) k a at) [
-    | inl h ↦ done_later e qs rs gs hs a adds.behind (says_front f n e q gs hs says) (before.done.each k a h)
-    | inr h ↦ subst (IsDone e rs hs) h.1 (judged_done raw f e q qs rs gs hs here now)
+  here k x at = elim (before.done.gaps k x at) [
+    | inl h ↦ inl (h.goal, h.is)
+    | inr h ↦ inr (ty.Projection h.alias h.args, h.first, h.second, h.is)
   ]
 
-  more : (x : Gap) → IsOfFailing f n e xs x → IsOfFailing f n e bs x
-  more x h = record {
+  each : (k : ℕ) (a : Asked) → slice_get bs k ≡ Some a → IsDone e rs ls hs a
+  each k a at = elim (get_more xs (asked_goal q) k a at) [
+    | inl h ↦ done_later e qs rs ks ls gs hs a adds.behind lists.behind (says_front f n e q rs ls gs hs says) (before.done.each k a h)
+    | inr h ↦ subst (IsDone e rs ls hs) h.1 (judged_done raw f e q qs rs ks ls gs hs here now)
+  ]
+
+  more : (x : Gap) → IsOfFailing f n e xs x ⊎ IsOfClash e xs qs ks x → IsOfFailing f n e bs x ⊎ IsOfClash e bs rs ls x
+  more x (inl h) = inl (record {
     goal = h.goal;
     is = h.is;
     at = h.at;
     among = get_left xs (asked_goal q ∷ []) h.at (asked_goal h.goal) h.among;
     known = h.known;
     fails = h.fails;
-  }
+  })
+  more x (inr h) = inr (record {
+    alias = h.alias;
+    args = h.args;
+    first = h.first;
+    second = h.second;
+    is = h.is;
+    listed = listed_later ks ls h.alias h.args h.first lists.behind h.listed;
+    at = h.at;
+    among = get_left xs (asked_goal q ∷ []) h.at (asked_goal (goal.Projection h.alias h.args h.second)) h.among;
+    proved = has_later qs rs (asked_goal (goal.Projection h.alias h.args h.second)) adds.behind h.proved;
+    differ = h.differ;
+  })
 
-  gap_now : (x : Gap) → unproved e q ≡ x → (HoldsUnknown (asked_goal q).parts → ⊥) → ((answers f n).Yes (asked_goal q) → ⊥) → IsOfFailing f n e bs x
-  gap_now x is known fails = record { goal = q; is = sym is; at = length xs; among = get_last xs (asked_goal q); known = known; fails = fails }
+  gap_now : (y x : Gap) → y ≡ x → IsTrueNow f n e q rs ls y → IsOfFailing f n e bs x ⊎ IsOfClash e bs rs ls x
+  gap_now y x is (inl h) = inl (record { goal = q; is = sym is ∙ h.0; at = length xs; among = get_last xs (asked_goal q); known = h.1; fails = h.2 })
+  gap_now y x is (inr h) = inr (record {
+    alias = h.alias;
+    args = h.args;
+    first = h.first;
+    second = h.second;
+    is = sym is ∙ h.is;
+    listed = h.listed;
+    at = length xs;
+    among = get_last xs (asked_goal q) ∙ ap Some (sym h.asks);
+    proved = h.proved;
+    differ = h.differ;
+  })
 
-  gap_by : Says f n e q gs hs → (k : ℕ) (x : Gap) → slice_get hs k ≡ Some x → IsOfFailing f n e bs x
+  gap_by : Says f n e q rs ls gs hs → (k : ℕ) (x : Gap) → slice_get hs k ≡ Some x → IsOfFailing f n e bs x ⊎ IsOfClash e bs rs ls x
   gap_by (inl h) k x at = more x (before.done.gaps k x (subst (λ zs. slice_get zs k ≡ Some x) h at))
-  gap_by (inr h) k x at = elim (get_more gs (unproved e q) k x (subst (λ zs. slice_get zs k ≡ Some x) h.0 at)) [
+  gap_by (inr h) k x at = elim (get_more gs h.0 k x (subst (λ zs. slice_get zs k ≡ Some x) h.1 at)) [
     | inl l ↦ more x (before.done.gaps k x l)
-    | inr l ↦ gap_now x l.1 h.1 h.2
+    | inr l ↦ gap_now h.0 x l.1 h.2
   ]
 
   -- of what was said nothing is said again
-  once_by : Says f n e q gs hs → (j k : ℕ) (x y : Gap) → slice_get hs j ≡ Some x → slice_get hs k ≡ Some y → gap_asks x ≡ gap_asks y → j ≡ k
+  once_by : Says f n e q rs ls gs hs → (j k : ℕ) (x y : Gap) → slice_get hs j ≡ Some x → slice_get hs k ≡ Some y → gap_says x ≡ gap_says y → j ≡ k
   once_by (inl h) j k x y at there same =
       before.done.once j k x y (subst (λ zs. slice_get zs j ≡ Some x) h at) (subst (λ zs. slice_get zs k ≡ Some y) h there) same
   once_by (inr h) j k x y at there same =
-      elim (get_more gs (unproved e q) j x (subst (λ zs. slice_get zs j ≡ Some x) h.0 at)) [
-        | inl l ↦ elim (get_more gs (unproved e q) k y (subst (λ zs. slice_get zs k ≡ Some y) h.0 there)) [
+      elim (get_more gs h.0 j x (subst (λ zs. slice_get zs j ≡ Some x) h.1 at)) [
+        | inl l ↦ elim (get_more gs h.0 k y (subst (λ zs. slice_get zs k ≡ Some y) h.1 there)) [
           | inl m ↦ before.done.once j k x y l m same
-          | inr m ↦ absurd (h.3 (j, x, l, same ∙ ap gap_asks (sym m.1)))
+          | inr m ↦ absurd (h.3 (j, x, l, same ∙ ap gap_says (sym m.1)))
         ]
-        | inr l ↦ elim (get_more gs (unproved e q) k y (subst (λ zs. slice_get zs k ≡ Some y) h.0 there)) [
-          | inl m ↦ absurd (h.3 (k, y, m, sym same ∙ ap gap_asks (sym l.1)))
+        | inr l ↦ elim (get_more gs h.0 k y (subst (λ zs. slice_get zs k ≡ Some y) h.1 there)) [
+          | inl m ↦ absurd (h.3 (k, y, m, sym same ∙ ap gap_says (sym l.1)))
           | inr m ↦ l.0 ∙ sym m.0
         ]
       ]
 
-  pub judged_more : AreJudged raw f e bs ps rs hs
+  pub judged_more : AreJudged raw f e bs ps rs js ls hs
   judged_more = record {
     adds = adds_then raw f ps qs rs before.adds adds;
+    lists = lists_then ps qs rs js ks ls before.lists lists;
     done = record { each = each; gaps = gap_by says; once = once_by says };
   }
 
 -- ---- at a place
 
-pub judged_here : (raw : RawFacts) (f : System) (b : RawBody) (r : InferenceResult) (n : ℕ) (x : RawExpr) (ps qs : List Proof) (gs : List Gap) → slice_get b.exprs n ≡ Some x
-    → AreJudged raw f (record { 0 = n }) (needs_of raw (Some x) (recorded r.type_of_expr n)) ps qs gs → AreJudged raw f (record { 0 = n }) (needs_at raw b r n) ps qs gs
-judged_here raw f b r n x ps qs gs at h = subst (λ (o : Option RawExpr). AreJudged raw f (record { 0 = n }) (needs_of raw o (recorded r.type_of_expr n)) ps qs gs) (sym at) h
+pub judged_here : (raw : RawFacts) (f : System) (b : RawBody) (r : InferenceResult) (n : ℕ) (x : RawExpr) (ps qs : List Proof) (js ks : List (Ty × Ty)) (gs : List Gap) → slice_get b.exprs n ≡ Some x
+    → AreJudged raw f (record { 0 = n }) (needs_of raw (Some x) (recorded r.type_of_expr n)) ps qs js ks gs → AreJudged raw f (record { 0 = n }) (needs_at raw b r n) ps qs js ks gs
+judged_here raw f b r n x ps qs js ks gs at h = subst (λ (o : Option RawExpr). AreJudged raw f (record { 0 = n }) (needs_of raw o (recorded r.type_of_expr n)) ps qs js ks gs) (sym at) h
 
 -- ---- goals of an iterator
 
@@ -192,30 +391,45 @@ asked_more ys x = sym (map-append asked_goal ys (x ∷ []))
 
 -- ---- the expressions of a body
 
-done_still : (f : System) (n : ℕ) (e : ExprId) (xs : List Asked) (ps qs : List Proof) (gs : List Gap) → IsFront ps qs → AreDone f n e xs ps gs → AreDone f n e xs qs gs
-done_still f n e xs ps qs gs p h = record {
-  each = λ k a at. done_later e ps qs gs gs a p (front_itself gs) (h.each k a at);
-  gaps = h.gaps;
+done_still : (f : System) (n : ℕ) (e : ExprId) (xs : List Asked) (ps qs : List Proof) (js ks : List (Ty × Ty)) (gs : List Gap) → IsFront ps qs → IsFront js ks → AreDone f n e xs ps js gs → AreDone f n e xs qs ks gs
+done_still f n e xs ps qs js ks gs p l h = record {
+  each = λ k a at. done_later e ps qs js ks gs gs a p l (front_itself gs) (h.each k a at);
+  gaps = λ k x at. elim (h.gaps k x at) [
+    | inl g ↦ inl g
+    | inr g ↦ inr (record {
+      alias = g.alias;
+      args = g.args;
+      first = g.first;
+      second = g.second;
+      is = g.is;
+      listed = listed_later js ks g.alias g.args g.first l g.listed;
+      at = g.at;
+      among = g.among;
+      proved = has_later ps qs (asked_goal (goal.Projection g.alias g.args g.second)) p g.proved;
+      differ = g.differ;
+    })
+  ];
   once = h.once;
 }
 
-pub all_none : (raw : RawFacts) (f : System) (b : RawBody) (r : InferenceResult) → AreAllJudged raw f b r 0 [] []
-all_none raw f b r = record { adds = adds_none raw f []; long = refl; each = λ k gs at. cc }
+pub all_none : (raw : RawFacts) (f : System) (b : RawBody) (r : InferenceResult) → AreAllJudged raw f b r 0 [] [] []
+all_none raw f b r = record { adds = adds_none raw f []; entries = λ n x at. cc; long = refl; each = λ k gs at. cc }
 
-module _ (raw : RawFacts) (f : System) (b : RawBody) (r : InferenceResult) (n : ℕ) (ps qs : List Proof) (gss : List (List Gap)) (gs : List Gap)
-    (before : AreAllJudged raw f b r n ps gss) (now : AreJudged raw f (record { 0 = n }) (needs_at raw b r n) ps qs gs) where
+module _ (raw : RawFacts) (f : System) (b : RawBody) (r : InferenceResult) (n : ℕ) (ps qs : List Proof) (js ks : List (Ty × Ty)) (gss : List (List Gap)) (gs : List Gap)
+    (before : AreAllJudged raw f b r n ps js gss) (now : AreJudged raw f (record { 0 = n }) (needs_at raw b r n) ps qs js ks gs) where
   abbrev Done : ℕ → List Gap → Type 0
-  Done k hs = AreDone f raw.limits.goal_depth (record { 0 = k }) (needs_at raw b r k) qs hs
+  Done k hs = AreDone f raw.limits.goal_depth (record { 0 = k }) (needs_at raw b r k) qs ks hs
 
   each_more : (k : ℕ) (hs : List Gap) → slice_get (gss ++ gs ∷ []) k ≡ Some hs → Done k hs
   each_more k hs at = elim (get_more gss gs k hs at) [
-    | inl h ↦ done_still f raw.limits.goal_depth (record { 0 = k }) (needs_at raw b r k) ps qs hs now.adds.behind (before.each k hs h)
+    | inl h ↦ done_still f raw.limits.goal_depth (record { 0 = k }) (needs_at raw b r k) ps qs js ks hs now.adds.behind now.lists.behind (before.each k hs h)
     | inr h ↦ subst (Done k) h.1 (subst (λ j. Done j gs) (sym (h.0 ∙ before.long)) now.done)
   ]
 
-  pub all_more : AreAllJudged raw f b r (n + 1) qs (gss ++ gs ∷ [])
+  pub all_more : AreAllJudged raw f b r (n + 1) qs ks (gss ++ gs ∷ [])
   all_more = record {
     adds = adds_then raw f [] ps qs before.adds now.adds;
+    entries = now.lists.right before.entries;
     long = (let l : length (gss ++ gs ∷ []) ≡ length gss + 1 = length-append gss (gs ∷ []) in let m = before.long in omega (arith, l, m));
     each = each_more;
   }

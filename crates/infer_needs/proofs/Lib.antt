@@ -1,3 +1,4 @@
+pub mod Listing
 pub mod Closed
 pub mod Provable
 pub mod Telling

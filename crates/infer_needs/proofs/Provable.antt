@@ -22,7 +22,6 @@ use Rattle.hir_raw.specs.declared.raw.RawFacts.{RawFacts}
 use Rattle.hir_raw.specs.Goals.{arg_types}
 use Rattle.hir_raw.specs.Hidden.{fn_aliases}
 use Rattle.hir_raw.specs.Scope.{scope_of}
-use Rattle.goal_answers.specs.Goals.{Asked}
 use Rattle.goal_facts.specs.Arguments.{type_at, args_at, goal_at}
 use Rattle.goal_facts.proofs.Systems.{each_append}
 use Rattle.goal_prove.specs.Written.{IsWritten}

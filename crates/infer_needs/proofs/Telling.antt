@@ -2,6 +2,7 @@
 use Rattle.std.specs.Prelude.{◌≡◌, ◌+◌, ◌++◌, ℕ, zero, suc, List, [], ◌∷◌, slice_get, Option, Some, refl}
 use Rattle.std.proofs.Common.{sym, ap, ◌∙◌, subst, arith, append_assoc, append-nil}
 use Rattle.hir_types.specs.declared.goal.Goal.{Goal}
+use Rattle.hir_types.specs.declared.ty.Ty.{Ty}
 use Rattle.hir_raw.specs.declared.raw.RawBody.{RawBody}
 use Rattle.hir_raw.specs.declared.raw.RawExpr.{RawExpr}
 use Rattle.hir_raw.specs.declared.raw.RawFacts.{RawFacts}
@@ -46,7 +47,7 @@ tells_here f n raw b r k x ts us at h = subst (λ (o : Option RawExpr). ListsAns
 pub first_more : (raw : RawFacts) (b : RawBody) (r : InferenceResult) (n : ℕ) → first_needs raw b r n ++ needs_at raw b r n ≡ first_needs raw b r (n + 1)
 first_more raw b r n = let e : suc n ≡ n + 1 = omega arith in ap (first_needs raw b r) e
 
--- proofs and what could not be shown are no matter
-pub needs_stay : (raw : RawFacts) (b : RawBody) (r : InferenceResult) (ps : List Proof) (gs : List (List Gap)) (n : ℕ) → first_needs raw b (with_goals ps gs r) n ≡ first_needs raw b r n
-needs_stay raw b r ps gs zero = refl
-needs_stay raw b r ps gs (suc n) = ap (λ (xs : List Asked). xs ++ needs_at raw b r n) (needs_stay raw b r ps gs n)
+-- proofs, what associated types were found to be and what could not be shown are no matter
+pub needs_stay : (raw : RawFacts) (b : RawBody) (r : InferenceResult) (ps : List Proof) (js : List (Ty × Ty)) (gs : List (List Gap)) (n : ℕ) → first_needs raw b (with_goals ps js gs r) n ≡ first_needs raw b r n
+needs_stay raw b r ps js gs zero = refl
+needs_stay raw b r ps js gs (suc n) = ap (λ (xs : List Asked). xs ++ needs_at raw b r n) (needs_stay raw b r ps js gs n)

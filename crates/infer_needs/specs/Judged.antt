@@ -2,12 +2,21 @@
 use Rattle.std.specs.Prelude.{◌≡◌, ◌⊎◌, ◌++◌, ℕ, List, [], ◌∷◌, length, slice_get, Some}
 use Rattle.hir_types.specs.declared.ids.ExprId.{ExprId}
 use Rattle.hir_types.specs.declared.ids.ExprOrPatId.TheVariants as node
+use Rattle.hir_types.specs.declared.ids.TypeAliasId.{TypeAliasId}
 use Rattle.hir_types.specs.declared.goal.Goal.{Goal}
+use Rattle.hir_types.specs.declared.goal.Goal.TheVariants as goal
+use Rattle.hir_types.specs.declared.ty.GenericArg.{GenericArg}
+use Rattle.hir_types.specs.declared.ty.Ty.{Ty}
+use Rattle.hir_types.specs.declared.ty.Ty.TheVariants as ty
+use Rattle.hir_types.specs.Erasure.{Same}
+use Rattle.hir_types.specs.Terms.{term}
 use Rattle.hir_raw.specs.declared.raw.RawBody.{RawBody}
 use Rattle.hir_raw.specs.declared.raw.RawExpr.{RawExpr}
 use Rattle.hir_raw.specs.declared.raw.RawFacts.{RawFacts}
+use Rattle.infer_table.specs.Table.{IsFront}
 use Rattle.goal_answers.specs.Goals.{Asked, System, Each}
 use Rattle.goal_answers.specs.Answers.{answers}
+use Rattle.goal_answers.specs.Reading.{IsRead}
 use Rattle.goal_facts.specs.declared.proof.Proof.{Proof}
 use Rattle.goal_facts.specs.Goals.{asked_goal}
 use Rattle.goal_prove.specs.Entries.{AddsProofs}
@@ -15,8 +24,10 @@ use Rattle.goal_prove.specs.Written.{IsWritten}
 use Rattle.infer_result.specs.declared.gaps.Gap.{Gap}
 use Rattle.infer_result.specs.declared.gaps.Gap.TheVariants as gap
 use Rattle.infer_result.specs.declared.result.InferenceResult.{InferenceResult}
-use Rattle.infer_result.specs.Needs.{HoldsUnknown, gap_asks, needs_of, needs_at}
+use Rattle.infer_result.specs.Projections.{IsListedAs, HasEntry, IsAboutAlias}
+use Rattle.infer_result.specs.Needs.{HoldsUnknown, Saying, gap_says, needs_of, needs_at}
 use Rattle.infer_result.specs.Table.{recorded}
+use Rattle.infer_needs.specs.Listed.{FindsIn}
 
 -- ---- goals that can be proved
 
@@ -31,46 +42,105 @@ AreProvable xs = Each IsProvable xs
 abbrev pub CanAllBeProved : RawFacts → RawBody → InferenceResult → Type 0
 CanAllBeProved raw b r = (n : ℕ) (x : RawExpr) → slice_get b.exprs n ≡ Some x → AreProvable (needs_of raw (Some x) (recorded r.type_of_expr n))
 
+-- ---- what is said
+
+abbrev pub unproved : ExprId → Goal → Gap
+unproved e q = gap.Unproved (node.ExprId e) q
+
+abbrev pub clash : ExprId → Ty → Ty → Ty → Gap
+clash e a t u = gap.Clash (node.ExprId e) a t u
+
+-- one of these says so, at whatever node
+abbrev pub IsAmong : List Gap → Saying → Type 0
+IsAmong gs s = (k : ℕ) × (x : Gap) × (slice_get gs k ≡ Some x) × (gap_says x ≡ s)
+
+-- it is said now, unless it was
+abbrev pub IsSaidOnce : Gap → List Gap → List Gap → Type 0
+IsSaidOnce x gs hs = ((hs ≡ gs) × IsAmong gs (gap_says x)) ⊎ ((hs ≡ gs ++ x ∷ []) × (IsAmong gs (gap_says x) → ⊥))
+
+-- it is said that a goal has no proof, unless `{unknown}` stands in it
+abbrev pub IsSaidIfKnown : ExprId → Goal → List Gap → List Gap → Type 0
+IsSaidIfKnown e q gs hs =
+    (HoldsUnknown (asked_goal q).parts × (hs ≡ gs)) ⊎ ((HoldsUnknown (asked_goal q).parts → ⊥) × IsSaidOnce (unproved e q) gs hs)
+
+-- ---- what associated types were found to be
+
+-- the associated type is listed as the type now; or it was before, or as another type, and this is said
+abbrev pub IsListedNow : ExprId → Ty → Ty → List (Ty × Ty) → List (Ty × Ty) → List Gap → List Gap → Type 0
+IsListedNow e a u js ks gs hs =
+    ((ks ≡ js ++ (a, u) ∷ []) × (hs ≡ gs))
+    ⊎ ((ks ≡ js) × (t : Ty) × FindsIn js a (Some t) × (((term t ≡ term u) × (hs ≡ gs)) ⊎ ((Same t u → ⊥) × IsSaidOnce (clash e a t u) gs hs)))
+
+-- the goal says of an associated type what can be listed
+pub record SaysAlias (q : Goal) : Type 0 where
+  pub alias : TypeAliasId
+  pub args : List GenericArg
+  pub type : Ty
+  pub is : q ≡ goal.Projection alias args type
+  pub read : IsRead (term type)
+  pub known : HoldsUnknown (asked_goal q).parts → ⊥
+
+-- what it says is listed, where it can be
+abbrev pub IsNoted : ExprId → Goal → List (Ty × Ty) → List (Ty × Ty) → List Gap → List Gap → Type 0
+IsNoted e q js ks gs hs =
+    ((ks ≡ js) × (hs ≡ gs) × (IsAboutAlias (asked_goal q) → ⊥))
+    ⊎ ((s : SaysAlias q) × IsListedNow e (ty.Projection s.alias s.args) s.type js ks gs hs)
+
 -- ---- one goal
 
 -- a proof is among these whose goal it is
 abbrev pub HasProofOf : List Proof → Asked → Type 0
 HasProofOf ps a = (k : ℕ) × (x : Proof) × (slice_get ps k ≡ Some x) × (asked_goal x.goal ≡ a)
 
-abbrev pub unproved : ExprId → Goal → Gap
-unproved e q = gap.Unproved (node.ExprId e) q
-
 -- among these it is said that it has none
 abbrev pub IsSaid : ExprId → List Gap → Asked → Type 0
 IsSaid e gs a = (k : ℕ) × (q : Goal) × (slice_get gs k ≡ Some (unproved e q)) × (asked_goal q ≡ a)
 
--- so it is at some node
-abbrev pub IsAmong : List Gap → Asked → Type 0
-IsAmong gs a = (k : ℕ) × (x : Gap) × (slice_get gs k ≡ Some x) × (gap_asks x ≡ a)
+-- among these it is said that what it asks an associated type to be is another type than the one that is listed
+abbrev pub IsSaidClash : ExprId → List Gap → Asked → Type 0
+IsSaidClash e gs a = (n : ℕ) × (k : TypeAliasId) × (xs : List GenericArg) × (t : Ty) × (u : Ty) × (slice_get gs n ≡ Some (clash e (ty.Projection k xs) t u)) × (asked_goal (goal.Projection k xs u) ≡ a)
 
-abbrev pub IsDone : ExprId → List Proof → List Gap → Asked → Type 0
-IsDone e ps gs a = HasProofOf ps a ⊎ (IsSaid e gs a ⊎ HoldsUnknown a.parts)
+-- it has a proof; and what it asks an associated type to be is listed, or another type, and this is said
+abbrev pub IsProvedAndListed : ExprId → List Proof → List (Ty × Ty) → List Gap → Asked → Type 0
+IsProvedAndListed e ps js gs a = HasProofOf ps a × (IsAboutAlias a → HasEntry js a ⊎ IsSaidClash e gs a)
 
--- it is said now, unless it was, or `{unknown}` stands in it
-abbrev pub IsSaidIfKnown : ExprId → Goal → List Gap → List Gap → Type 0
-IsSaidIfKnown e q gs hs =
-    ((hs ≡ gs) × (HoldsUnknown (asked_goal q).parts ⊎ IsAmong gs (asked_goal q)))
-    ⊎ ((hs ≡ gs ++ unproved e q ∷ []) × (HoldsUnknown (asked_goal q).parts → ⊥) × (IsAmong gs (asked_goal q) → ⊥))
+abbrev pub IsDone : ExprId → List Proof → List (Ty × Ty) → List Gap → Asked → Type 0
+IsDone e ps js gs a = IsProvedAndListed e ps js gs a ⊎ (IsSaid e gs a ⊎ HoldsUnknown a.parts)
 
 -- its answer at the depth isn't Yes, and it is said unless `{unknown}` stands in it
-pub record IsRefused (f : System) (n : ℕ) (e : ExprId) (q : Goal) (ps qs : List Proof) (gs hs : List Gap) : Type 0 where
+pub record IsRefused (f : System) (n : ℕ) (e : ExprId) (q : Goal) (ps qs : List Proof) (js ks : List (Ty × Ty)) (gs hs : List Gap) : Type 0 where
   pub proofs : qs ≡ ps
+  pub listed : ks ≡ js
   pub fails : (answers f n).Yes (asked_goal q) → ⊥
   pub said : IsSaidIfKnown e q gs hs
 
 -- it is proved
-pub record IsShown (raw : RawFacts) (f : System) (q : Goal) (ps qs : List Proof) (gs hs : List Gap) : Type 0 where
+pub record IsShown (raw : RawFacts) (f : System) (e : ExprId) (q : Goal) (ps qs : List Proof) (js ks : List (Ty × Ty)) (gs hs : List Gap) : Type 0 where
   pub adds : AddsProofs raw f ps qs
   pub has : HasProofOf qs (asked_goal q)
-  pub gaps : hs ≡ gs
+  pub noted : IsNoted e q js ks gs hs
 
-abbrev pub IsJudged : RawFacts → System → ExprId → Goal → List Proof → List Proof → List Gap → List Gap → Type 0
-IsJudged raw f e q ps qs gs hs = IsShown raw f q ps qs gs hs ⊎ IsRefused f raw.limits.goal_depth e q ps qs gs hs
+abbrev pub IsJudged : RawFacts → System → ExprId → Goal → List Proof → List Proof → List (Ty × Ty) → List (Ty × Ty) → List Gap → List Gap → Type 0
+IsJudged raw f e q ps qs js ks gs hs = IsShown raw f e q ps qs js ks gs hs ⊎ IsRefused f raw.limits.goal_depth e q ps qs js ks gs hs
+
+-- ---- what is listed
+
+-- an associated type, with a type that it has a proof to be, as can be listed
+pub record IsEntry (ps : List Proof) (x : Ty × Ty) : Type 0 where
+  pub alias : TypeAliasId
+  pub args : List GenericArg
+  pub is : x.0 ≡ ty.Projection alias args
+  pub proved : HasProofOf ps (asked_goal (goal.Projection alias args x.1))
+  pub read : IsRead (term x.1)
+  pub known : HoldsUnknown (asked_goal (goal.Projection alias args x.1)).parts → ⊥
+
+abbrev pub AreEntries : List Proof → List (Ty × Ty) → Type 0
+AreEntries ps js = (n : ℕ) (x : Ty × Ty) → slice_get js n ≡ Some x → IsEntry ps x
+
+-- these come behind, and if the first are entries all are
+pub record AddsEntries (ps qs : List Proof) (js ks : List (Ty × Ty)) : Type 0 where
+  pub behind : IsFront js ks
+  pub right : AreEntries ps js → AreEntries qs ks
 
 -- ---- the goals of an expression
 
@@ -83,21 +153,36 @@ pub record IsOfFailing (f : System) (n : ℕ) (e : ExprId) (xs : List Asked) (x 
   pub known : HoldsUnknown (asked_goal goal).parts → ⊥
   pub fails : (answers f n).Yes (asked_goal goal) → ⊥
 
--- each goal is proved, or said to have no proof, or `{unknown}` stands in it; and what is said is so, and said once
-pub record AreDone (f : System) (n : ℕ) (e : ExprId) (xs : List Asked) (ps : List Proof) (gs : List Gap) : Type 0 where
-  pub each : (k : ℕ) (a : Asked) → slice_get xs k ≡ Some a → IsDone e ps gs a
-  pub gaps : (k : ℕ) (x : Gap) → slice_get gs k ≡ Some x → IsOfFailing f n e xs x
-  pub once : (j k : ℕ) (x y : Gap) → slice_get gs j ≡ Some x → slice_get gs k ≡ Some y → gap_asks x ≡ gap_asks y → j ≡ k
+-- it is of one of these goals, which has a proof, and asks an associated type to be another type than the one that is listed
+pub record IsOfClash (e : ExprId) (xs : List Asked) (ps : List Proof) (js : List (Ty × Ty)) (x : Gap) : Type 0 where
+  pub alias : TypeAliasId
+  pub args : List GenericArg
+  pub first : Ty
+  pub second : Ty
+  pub is : x ≡ clash e (ty.Projection alias args) first second
+  pub listed : IsListedAs js alias args first
+  pub at : ℕ
+  pub among : slice_get xs at ≡ Some (asked_goal (goal.Projection alias args second))
+  pub proved : HasProofOf ps (asked_goal (goal.Projection alias args second))
+  pub differ : Same first second → ⊥
 
--- so it is once these proofs are added
-pub record AreJudged (raw : RawFacts) (f : System) (e : ExprId) (xs : List Asked) (ps qs : List Proof) (gs : List Gap) : Type 0 where
+-- each goal is proved, or said to have no proof, or `{unknown}` stands in it; and what is said is so, and said once
+pub record AreDone (f : System) (n : ℕ) (e : ExprId) (xs : List Asked) (ps : List Proof) (js : List (Ty × Ty)) (gs : List Gap) : Type 0 where
+  pub each : (k : ℕ) (a : Asked) → slice_get xs k ≡ Some a → IsDone e ps js gs a
+  pub gaps : (k : ℕ) (x : Gap) → slice_get gs k ≡ Some x → IsOfFailing f n e xs x ⊎ IsOfClash e xs ps js x
+  pub once : (j k : ℕ) (x y : Gap) → slice_get gs j ≡ Some x → slice_get gs k ≡ Some y → gap_says x ≡ gap_says y → j ≡ k
+
+-- so it is once these proofs are added, and these entries
+pub record AreJudged (raw : RawFacts) (f : System) (e : ExprId) (xs : List Asked) (ps qs : List Proof) (js ks : List (Ty × Ty)) (gs : List Gap) : Type 0 where
   pub adds : AddsProofs raw f ps qs
-  pub done : AreDone f raw.limits.goal_depth e xs qs gs
+  pub lists : AddsEntries ps qs js ks
+  pub done : AreDone f raw.limits.goal_depth e xs qs ks gs
 
 -- ---- the expressions of a body
 
 -- so it is of each of the first expressions, of which each has its gaps
-pub record AreAllJudged (raw : RawFacts) (f : System) (b : RawBody) (r : InferenceResult) (n : ℕ) (ps : List Proof) (gss : List (List Gap)) : Type 0 where
+pub record AreAllJudged (raw : RawFacts) (f : System) (b : RawBody) (r : InferenceResult) (n : ℕ) (ps : List Proof) (js : List (Ty × Ty)) (gss : List (List Gap)) : Type 0 where
   pub adds : AddsProofs raw f [] ps
+  pub entries : AreEntries ps js
   pub long : length gss ≡ n
-  pub each : (k : ℕ) (gs : List Gap) → slice_get gss k ≡ Some gs → AreDone f raw.limits.goal_depth (record { 0 = k }) (needs_at raw b r k) ps gs
+  pub each : (k : ℕ) (gs : List Gap) → slice_get gss k ≡ Some gs → AreDone f raw.limits.goal_depth (record { 0 = k }) (needs_at raw b r k) ps js gs

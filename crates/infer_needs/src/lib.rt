@@ -1,7 +1,10 @@
 //! What the nodes of a typed body need, predicates of items that paths name, proved or complained of.
 #![tactic(auto)]
 
+mod found;
+mod note;
 mod prove;
+mod say;
 mod tell;
 mod unknown;
 

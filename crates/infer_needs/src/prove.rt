@@ -1,6 +1,6 @@
 //! What nodes need is proved, or complained of: the end of `infer.rs`'s `infer_body`, where obligations that are
 //! left are looked at once more.
-ghost use Rattle.std.specs.Prelude.{◌≡◌, ◌↔◌, ◌++◌, [], ◌∷◌, length, Some, IfOk, OnOk, IsTrue};
+ghost use Rattle.std.specs.Prelude.{◌≡◌, ◌++◌, [], ◌∷◌, length, Some, IfOk, OnOk};
 ghost use Rattle.hir_raw.specs.declared.raw.RawBody.{RawBody};
 ghost use Rattle.hir_laws.specs.Bodies.{body_of};
 ghost use Rattle.goal_search.specs.Sources.{system};
@@ -8,11 +8,14 @@ ghost use Rattle.goal_facts.specs.Goals.{asked_goal, IsAnswer};
 ghost use Rattle.infer_result.specs.Needs.{needed_goals, with_goals, scope_item, GoalsHold, needs_of};
 ghost use Rattle.infer_result.specs.Table.{recorded};
 ghost use Rattle.infer_result.specs.Typed.{IsTableOf, given};
-ghost use Rattle.infer_needs.specs.Judged.{IsProvable, AreProvable, CanAllBeProved, IsAmong, IsSaidIfKnown, IsJudged, AreJudged, AreAllJudged};
+ghost use Rattle.infer_needs.specs.Judged.{IsProvable, AreProvable, CanAllBeProved, IsSaidIfKnown, IsJudged, AreJudged, AreAllJudged};
 ghost use Rattle.infer_needs.specs.Told.{ListsAnswers, all_needs, AreAllAnswered};
 
+use crate::found::Found;
+use crate::note::note;
+use crate::say::say;
 use crate::unknown::holds_unknown;
-use goal_facts::{Answer, ItemSources, Proof, asked, is_same};
+use goal_facts::{Answer, ItemSources, Proof};
 use goal_prove::prove_goal;
 use hir_facts::{
     AdtId, DefWithBodyId, ExprId, ExprOrPatId, Facts, GenericDefId, Goal, List, RawBody, RawExpr,
@@ -52,36 +55,19 @@ fn evaluate(
     Ok(answer)
 }
 
-/// Whether one of these says of the goal that it has no proof.
-fn is_said(alloc: Global, gaps: &[Gap], goal: &Goal) -> Result<bool, AllocError>
-    ensures { IfOk result (λ is. IsTrue is ↔ IsAmong gaps.now (asked_goal goal.now)) }
-{
-    let wanted = asked(alloc, goal)?;
-    for gap in gaps {
-        let Gap::Unproved { node: _, goal } = gap;
-        let said = asked(alloc, goal)?;
-        if is_same(&said, &wanted) {
-            return Ok(true);
-        }
-    }
-    Ok(false)
-}
-
 /// Says of a goal whose answer isn't Yes that it has no proof, once, unless `{unknown}` stands in it.
 fn complain(alloc: Global, goal: Goal, expr: ExprId, gaps: &mut List<Gap>) -> Result<(), AllocError>
     ensures { OnOk result (IsSaidIfKnown expr goal gaps.old gaps.new) }
 {
-    let is_unknown = holds_unknown(alloc, &goal)?;
-    let is_said = is_said(alloc, gaps.as_slice(), &goal)?;
-    if !is_unknown && !is_said {
-        let node = ExprOrPatId::ExprId(expr);
-        gaps.push(Gap::Unproved { node, goal })?;
+    if holds_unknown(alloc, &goal)? {
+        return Ok(());
     }
-    Ok(())
+    let node = ExprOrPatId::ExprId(expr);
+    say(alloc, Gap::Unproved { node, goal }, gaps)
 }
 
-/// Evaluates a goal without holes that an expression needs, takes note of its answer, and adds its proof, or says
-/// that it has none, unless `{unknown}` stands in it.
+/// Evaluates a goal without holes that an expression needs, takes note of its answer, and adds its proof and what
+/// it says of an associated type, or says that it has none, unless `{unknown}` stands in it.
 fn prove_need(
     alloc: Global,
     sources: &ItemSources<'_>,
@@ -89,16 +75,18 @@ fn prove_need(
     expr: ExprId,
     told: &mut Vec<(Goal, Answer)>,
     proofs: &mut Vec<Proof>,
+    found: &mut Found,
     gaps: &mut List<Gap>,
 ) -> Result<(), AllocError>
     requires { IsProvable (asked_goal goal) }
-    ensures judged { OnOk result (IsJudged sources.now.facts (system sources.now.sources) expr goal proofs.old.items proofs.new.items gaps.old gaps.new) }
+    ensures judged { OnOk result (IsJudged sources.now.facts (system sources.now.sources) expr goal proofs.old.items proofs.new.items found.old found.new gaps.old gaps.new) }
     ensures told { OnOk result (ListsAnswers (system sources.now.sources) sources.now.facts.limits.goal_depth (asked_goal goal ∷ []) told.old.items told.new.items) }
 {
     match evaluate(alloc, sources, &goal, told)? {
         Answer::Yes => {
             let depth = sources.facts().raw().limits.goal_depth;
             prove_goal(alloc, sources, &goal, depth, proofs)?;
+            note(alloc, goal, expr, found, gaps)?;
             Ok(())
         }
         Answer::No | Answer::Undecided => {
@@ -117,14 +105,15 @@ fn prove_expr(
     ty: &Ty,
     told: &mut Vec<(Goal, Answer)>,
     proofs: &mut Vec<Proof>,
+    found: &mut Found,
 ) -> Result<List<Gap>, AllocError>
     requires { AreProvable (needed_goals sources.now.facts expr.now ty.now) }
-    ensures judged { IfOk result (λ gaps. AreJudged sources.now.facts (system sources.now.sources) id (needed_goals sources.now.facts expr.now ty.now) proofs.old.items proofs.new.items gaps) }
+    ensures judged { IfOk result (λ gaps. AreJudged sources.now.facts (system sources.now.sources) id (needed_goals sources.now.facts expr.now ty.now) proofs.old.items proofs.new.items found.old found.new gaps) }
     ensures told { OnOk result (ListsAnswers (system sources.now.sources) sources.now.facts.limits.goal_depth (needed_goals sources.now.facts expr.now ty.now) told.old.items told.new.items) }
 {
     let mut gaps = List::new(alloc);
     for goal in needed_goals(alloc, sources.facts(), expr, ty)? {
-        prove_need(alloc, sources, goal, id, told, proofs, &mut gaps)?;
+        prove_need(alloc, sources, goal, id, told, proofs, found, &mut gaps)?;
     }
     Ok(gaps)
 }
@@ -138,46 +127,59 @@ fn prove_at(
     table: &InferenceResult,
     told: &mut Vec<(Goal, Answer)>,
     proofs: &mut Vec<Proof>,
+    found: &mut Found,
 ) -> Result<List<Gap>, AllocError>
     requires { AreProvable (needs_of sources.now.facts (Some expr.now) (recorded table.now.type_of_expr at)) }
-    ensures judged { IfOk result (λ gaps. AreJudged sources.now.facts (system sources.now.sources) (record { 0 = at }) (needs_of sources.now.facts (Some expr.now) (recorded table.now.type_of_expr at)) proofs.old.items proofs.new.items gaps) }
+    ensures judged { IfOk result (λ gaps. AreJudged sources.now.facts (system sources.now.sources) (record { 0 = at }) (needs_of sources.now.facts (Some expr.now) (recorded table.now.type_of_expr at)) proofs.old.items proofs.new.items found.old found.new gaps) }
     ensures told { OnOk result (ListsAnswers (system sources.now.sources) sources.now.facts.limits.goal_depth (needs_of sources.now.facts (Some expr.now) (recorded table.now.type_of_expr at)) told.old.items told.new.items) }
 {
     let id = expr_id(at)?;
     match table.type_of_expr_or_pat(ExprOrPatId::ExprId(id)) {
         Some(ty) => {
-            let gaps = prove_expr(alloc, sources, expr, id, ty, told, proofs)?;
+            let gaps = prove_expr(alloc, sources, expr, id, ty, told, proofs, found)?;
             Ok(gaps)
         }
         None => Ok(List::new(alloc)),
     }
 }
 
-/// The same of each expression of a body, in their order; gives the proofs, and each expression's gaps.
+/// The same of each expression of a body, in their order; gives the proofs, what associated types were found to
+/// be, and each expression's gaps.
 fn prove_exprs(
     alloc: Global,
     sources: &ItemSources<'_>,
     body: &RawBody,
     table: &InferenceResult,
     told: &mut Vec<(Goal, Answer)>,
-) -> Result<(Vec<Proof>, List<List<Gap>>), AllocError>
+) -> Result<(Vec<Proof>, Found, List<List<Gap>>), AllocError>
     requires { CanAllBeProved sources.now.facts body.now table.now }
-    ensures judged { IfOk result (λ made. AreAllJudged sources.now.facts (system sources.now.sources) body.now table.now (length body.now.exprs) made.0.items made.1) }
+    ensures judged { IfOk result (λ made. AreAllJudged sources.now.facts (system sources.now.sources) body.now table.now (length body.now.exprs) made.0.items made.1 made.2) }
     ensures told { OnOk result (ListsAnswers (system sources.now.sources) sources.now.facts.limits.goal_depth (all_needs sources.now.facts body.now table.now) told.old.items told.new.items) }
 {
     let mut proofs = Vec::new(alloc);
+    let mut found = Found::new(alloc);
     let mut gaps = List::new(alloc);
     for (at, expr) in body.exprs.as_slice().iter().enumerate() {
-        let found = prove_at(alloc, sources, expr, at, table, told, &mut proofs)?;
-        gaps.push(found)?;
+        let here = prove_at(
+            alloc,
+            sources,
+            expr,
+            at,
+            table,
+            told,
+            &mut proofs,
+            &mut found,
+        )?;
+        gaps.push(here)?;
     }
-    Ok((proofs, gaps))
+    Ok((proofs, found, gaps))
 }
 
 /// Proves each goal that a node of a typed body needs, at the types that are recorded, or says of it that it
 /// has no proof. Only a goal in which `{unknown}` stands may be left without either. Each goal is evaluated
 /// once, in the order of the expressions and of the predicates of each item: these are given back, each with its
-/// answer. Nothing else of the table changes. The one error is want of memory.
+/// answer. What associated types were found to be is listed, each once; where one is another type at a node, this is
+/// said there. Nothing else of the table changes. The one error is want of memory.
 pub fn prove_needs(
     alloc: Global,
     facts: &Facts,
@@ -185,7 +187,7 @@ pub fn prove_needs(
     table: &mut InferenceResult,
 ) -> Result<Vec<(Goal, Answer)>, AllocError>
     requires { IsTableOf facts.now def table.old }
-    ensures table { OnOk result (table.new ≡ with_goals table.new.proofs table.new.expr_gaps table.old) }
+    ensures table { OnOk result (table.new ≡ with_goals table.new.proofs table.new.projections table.new.expr_gaps table.old) }
     ensures goals { OnOk result ((b : RawBody) → body_of facts.now def ≡ Some b → GoalsHold def (given facts.now def b) table.new) }
     ensures told { IfOk result (λ told. (b : RawBody) → body_of facts.now def ≡ Some b → AreAllAnswered def (given facts.now def b) table.new told.items) }
 {
@@ -197,8 +199,9 @@ pub fn prove_needs(
     let sources = ItemSources::new(alloc, facts, scope_item(facts, def))?;
     sources.lawful();
     let mut told = Vec::new(alloc);
-    let (proofs, gaps) = prove_exprs(alloc, &sources, body, table, &mut told)?;
+    let (proofs, found, gaps) = prove_exprs(alloc, &sources, body, table, &mut told)?;
     table.proofs = List::from_vec(proofs);
+    table.projections = List::from_vec(found.into_pairs());
     table.expr_gaps = gaps;
     Ok(told)
 }

@@ -1,5 +1,5 @@
 //! What a body knows of the types of what its definition takes and gives.
-ghost use Rattle.std.specs.Prelude.{◌≡◌, IfOk, [], map, Some};
+ghost use Rattle.std.specs.Prelude.{◌≡◌, ◌↔◌, IfOk, IsTrue, [], map, Some};
 ghost use Rattle.hir_raw.specs.WrittenTypes.{written_type};
 ghost use Rattle.hir_raw.specs.Scope.{scope_of};
 ghost use Rattle.hir_laws.specs.Bodies.{HasBody};

@@ -275,11 +275,26 @@ fn diagnostic_at(
 fn push_gap_text(out: &mut String, facts: &RawFacts, gap: &Gap) -> Result<(), AllocError>
     ensures { OnOk result (string_bytes out.new ≡ string_bytes out.old ++ gap_text facts.now gap.now) }
 {
-    let Gap::Unproved { node, goal } = gap;
-    out.push_str("Unproved ")?;
-    push_node(out, *node)?;
-    out.push_str(" goal=")?;
-    push_goal(out, facts, goal)
+    match gap {
+        Gap::Unproved { node, goal } => {
+            out.push_str("Unproved ")?;
+            push_node(out, *node)?;
+            out.push_str(" goal=")?;
+            push_goal(out, facts, goal)
+        }
+        Gap::Clash {
+            node,
+            alias,
+            first,
+            second,
+        } => {
+            out.push_str("Clash ")?;
+            push_node(out, *node)?;
+            push_field(out, facts, " alias=", alias)?;
+            push_field(out, facts, " first=", first)?;
+            push_field(out, facts, " second=", second)
+        }
+    }
 }
 
 fn push_gap(out: &mut String, facts: &RawFacts, gap: &Gap) -> Result<(), AllocError>

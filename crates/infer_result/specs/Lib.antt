@@ -17,6 +17,8 @@ pub mod TypesFit
 pub mod Shape
 pub mod Made
 pub mod AliasNeeds
+pub mod Proved
+pub mod Projections
 pub mod Needs
 pub mod Typed
 pub mod Derivation

@@ -10,13 +10,15 @@ use Rattle.hir_types.specs.declared.ids.DefWithBodyId.TheVariants as def
 use Rattle.hir_types.specs.declared.ids.GenericDefId.{GenericDefId}
 use Rattle.hir_types.specs.declared.ids.GenericDefId.TheVariants as generic
 use Rattle.hir_types.specs.declared.ids.ExprOrPatId.TheVariants as node
-use Rattle.hir_types.specs.declared.head.Head.TheVariants as head
+use Rattle.hir_types.specs.declared.ids.TypeAliasId.{TypeAliasId}
 use Rattle.hir_types.specs.declared.goal.Goal.{Goal}
+use Rattle.hir_types.specs.declared.goal.Goal.TheVariants as goal
 use Rattle.hir_types.specs.declared.ty.AliasBound.{AliasBound}
 use Rattle.hir_types.specs.declared.ty.GenericArg.{GenericArg}
 use Rattle.hir_types.specs.declared.ty.TraitRef.{TraitRef}
 use Rattle.hir_types.specs.declared.ty.Ty.{Ty, Ty-F, out-Ty}
-use Rattle.hir_types.specs.Terms.{Term, hole, leaf, pair}
+use Rattle.hir_types.specs.declared.ty.Ty.TheVariants as ty
+use Rattle.hir_types.specs.Erasure.{Same}
 use Rattle.hir_raw.specs.declared.raw.RawBody.{RawBody}
 use Rattle.hir_raw.specs.declared.raw.RawExpr.{RawExpr}
 use Rattle.hir_raw.specs.declared.raw.RawExpr.TheVariants as expr
@@ -34,7 +36,9 @@ use Rattle.goal_facts.specs.Environment.{env_preds}
 use Rattle.goal_facts.specs.Goals.{asked_goal}
 use Rattle.goal_facts.specs.Systems.{IsSystemOf}
 use Rattle.goal_facts.specs.Proofs.{AreProofs}
+pub use Rattle.infer_result.specs.Proved.{HoldsUnknown, IsProved}
 use Rattle.infer_result.specs.AliasNeeds.{alias_goals}
+use Rattle.infer_result.specs.Projections.{IsListedAs, AreFound, HasEntry, IsAboutAlias}
 use Rattle.infer_result.specs.declared.gaps.Gap.{Gap}
 use Rattle.infer_result.specs.declared.gaps.Gap.TheVariants as gap
 use Rattle.infer_result.specs.declared.result.InferenceResult.{InferenceResult}
@@ -107,21 +111,6 @@ pub record IsNeeded (g : Given) (r : InferenceResult) (e : ExprId) (a : Asked) :
 
 -- ---- what becomes of them
 
--- `{unknown}` stands in the term
-abbrev pub HoldsUnknown : Term → Type 0
-HoldsUnknown (hole k) = ⊥
-HoldsUnknown (leaf head.Error) = Unit {0}
-HoldsUnknown (leaf head.UnknownConst) = Unit {0}
-HoldsUnknown (leaf _) = ⊥
-HoldsUnknown (pair a b) = HoldsUnknown a ⊎ HoldsUnknown b
-
--- a proof is listed whose goal it is
-pub record IsProved (r : InferenceResult) (a : Asked) : Type 0 where
-  pub number : ℕ
-  pub proof : Proof
-  pub listed : slice_get r.proofs number ≡ Some proof
-  pub goal : asked_goal proof.goal ≡ a
-
 -- the gap is listed at the expression
 pub record HasGap (r : InferenceResult) (e : ExprId) (x : Gap) : Type 0 where
   pub gaps : List Gap
@@ -129,13 +118,24 @@ pub record HasGap (r : InferenceResult) (e : ExprId) (x : Gap) : Type 0 where
   pub number : ℕ
   pub listed : slice_get gaps number ≡ Some x
 
--- what could not be shown
-abbrev pub gap_asks : Gap → Asked
-gap_asks (gap.Unproved n q) = asked_goal q
+-- what a gap says at its node: that a goal has no proof, or that an associated type is this type as well
+pub data Saying : Type 0 where
+  no_proof : Asked → Saying
+  clashes : Ty → Ty → Saying
+
+abbrev pub gap_says : Gap → Saying
+gap_says (gap.Unproved n q) = no_proof (asked_goal q)
+gap_says (gap.Clash n a t u) = clashes a u
 
 -- it is said at the expression that this has no proof
 abbrev pub IsUnproved : InferenceResult → ExprId → Asked → Type 0
 IsUnproved r e a = (q : Goal) × HasGap r e (gap.Unproved (node.ExprId e) q) × (asked_goal q ≡ a)
+
+-- it is said there that what this asks an associated type to be is another type than was found before
+abbrev pub IsClash : InferenceResult → ExprId → Asked → Type 0
+IsClash r e a =
+    (k : TypeAliasId) × (xs : List GenericArg) × (t : Ty) × (u : Ty) × HasGap r e (gap.Clash (node.ExprId e) (ty.Projection k xs) t u)
+    × (asked_goal (goal.Projection k xs u) ≡ a)
 
 -- it names its node, which needs the goal; `{unknown}` doesn't stand in it, and its answer isn't Yes
 pub record IsTrueUnproved (g : Given) (f : System) (r : InferenceResult) (e : ExprId) (q : Goal) : Type 0 where
@@ -143,14 +143,25 @@ pub record IsTrueUnproved (g : Given) (f : System) (r : InferenceResult) (e : Ex
   pub known : HoldsUnknown (asked_goal q).parts → ⊥
   pub fails : (answers f g.scope.facts.limits.goal_depth).Yes (asked_goal q) → ⊥
 
+-- the associated type is listed as the first type; that it is the second, another one, the node needs, and it has a proof
+pub record IsTrueClash (g : Given) (r : InferenceResult) (e : ExprId) (a first second : Ty) : Type 0 where
+  pub alias : TypeAliasId
+  pub args : List GenericArg
+  pub is : a ≡ ty.Projection alias args
+  pub listed : IsListedAs r.projections alias args first
+  pub needed : IsNeeded g r e (asked_goal (goal.Projection alias args second))
+  pub proved : IsProved r (asked_goal (goal.Projection alias args second))
+  pub differ : Same first second → ⊥
+
 abbrev pub IsTrueGap : Given → System → InferenceResult → ExprId → Gap → Type 0
 IsTrueGap g f r e (gap.Unproved n q) = (n ≡ node.ExprId e) × IsTrueUnproved g f r e q
+IsTrueGap g f r e (gap.Clash n a t u) = (n ≡ node.ExprId e) × IsTrueClash g r e a t u
 
 -- ---- the goals of a table
 
--- the table with these proofs, and these in the place of what could not be shown
-abbrev pub with_goals : List Proof → List (List Gap) → InferenceResult → InferenceResult
-with_goals ps gs r = record r { proofs = ps; expr_gaps = gs }
+-- the table with these proofs, what associated types were found to be, and what could not be shown
+abbrev pub with_goals : List Proof → List (Ty × Ty) → List (List Gap) → InferenceResult → InferenceResult
+with_goals ps js gs r = record r { proofs = ps; projections = js; expr_gaps = gs }
 
 -- the adt of a variant
 abbrev pub adt_item : Option RawVariant → GenericDefId
@@ -165,14 +176,17 @@ scope_item raw (def.StaticId s) = generic.StaticId s
 scope_item raw (def.VariantId v) = adt_item (slice_get raw.variants v.0)
 
 -- the proofs that are listed are proofs; each goal that a node needs is proved, or it is said that it isn't, or `{unknown}` stands in it;
--- and what is said is so, and said once at each node
+-- and what is said is so, and said once at each node. What associated types were found to be is listed: what a goal that is needed asks one to be,
+-- or another type, and this is said
 pub record GoalsHold (d : DefWithBodyId) (g : Given) (r : InferenceResult) : Type 0 where
   pub system : System
   pub of_item : IsSystemOf g.scope.facts (scope_item g.scope.facts d) system
   pub proofs : (s : Fill) → IsFilling s → AreProofs g.scope.facts system (answers system g.scope.facts.limits.goal_depth).Alias s r.proofs
   pub needs : (e : ExprId) (a : Asked) → IsNeeded g r e a → IsProved r a ⊎ (IsUnproved r e a ⊎ HoldsUnknown a.parts)
   pub gaps : (e : ExprId) (x : Gap) → HasGap r e x → IsTrueGap g system r e x
-  pub once : (e : ExprId) (x y : Gap) (j : HasGap r e x) (k : HasGap r e y) → gap_asks x ≡ gap_asks y → j.number ≡ k.number
+  pub once : (e : ExprId) (x y : Gap) (j : HasGap r e x) (k : HasGap r e y) → gap_says x ≡ gap_says y → j.number ≡ k.number
+  pub found : AreFound r
+  pub entries : (e : ExprId) (a : Asked) → IsNeeded g r e a → IsAboutAlias a → HasEntry r.projections a ⊎ (IsClash r e a ⊎ IsUnproved r e a)
 
 -- the answer to each goal that a node needs is Yes
 abbrev pub NeedsHold : DefWithBodyId → Given → InferenceResult → Type 0

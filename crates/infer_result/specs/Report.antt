@@ -295,9 +295,11 @@ abbrev pub diagnostic_line : RawFacts → Option InferenceDiagnostic → List �
 diagnostic_line raw None = []
 diagnostic_line raw (Some x) = line (diagnostic_text raw x)
 
--- what could not be shown: its name, its node, and the goal
+-- what could not be shown: its name, its node, and the goal; or the associated type and the two types that it is
 unfoldable pub gap_text : RawFacts → Gap → List ℕ
 gap_text raw (gap.Unproved n g) = codes "Unproved " ++ node_text n ++ codes " goal=" ++ goal_text raw g
+gap_text raw (gap.Clash n a t u) =
+    codes "Clash " ++ node_text n ++ type_field raw (codes " alias=") a ++ type_field raw (codes " first=") t ++ type_field raw (codes " second=") u
 
 -- whatever its number at the node
 abbrev pub gap_line : RawFacts → ℕ → Gap → List ℕ

@@ -72,9 +72,10 @@ impl Drop for General {
     }
 }
 
-/// What inference found out about a body: `infer.rs`, `InferenceResult`. Each list but `seen`, `proofs` and
-/// `expr_gaps` has an entry for each node or binding of the body, or for each written type of the facts,
-/// in the order of their ids. A reader that takes an id answers `None` where there is no such id.
+/// What inference found out about a body: `infer.rs`, `InferenceResult`. Each list but `seen`, `proofs`,
+/// `projections` and `expr_gaps` has an entry for each node or binding of the body, or for each written
+/// type of the facts, in the order of their ids. A reader that takes an id answers `None` where there is no
+/// such id.
 #[derive(Debug, PartialEq, Eq)]
 pub struct InferenceResult {
     /// The type of each expression.
@@ -105,6 +106,9 @@ pub struct InferenceResult {
     /// The proofs of goals, by their numbers: each names those of what its source asks for, which stand
     /// before it.
     pub proofs: List<Proof>,
+    /// What each associated type that the rule of a node uses was found to be, each once, in the order in
+    /// which these were first proved: the associated type, with what it is.
+    pub projections: List<(Ty, Ty)>,
     /// What could not be shown at each expression; no entry where nothing was looked at.
     pub expr_gaps: List<List<Gap>>,
     /// The types before open holes fell back, of a plain body alone.
@@ -127,6 +131,7 @@ impl Drop for InferenceResult {
             pat_variants: _,
             seen: _,
             proofs: _,
+            projections: _,
             expr_gaps: _,
             general: _,
         } = self;
@@ -229,6 +234,14 @@ impl InferenceResult {
         ensures { result.now ≡ self.now.proofs }
     {
         self.proofs.as_slice()
+    }
+
+    /// What each associated type that the rule of a node uses was found to be, each once, in the order in
+    /// which these were first proved: a `Ty::Projection`, with a type in which none is left to be read.
+    pub fn projections(&self) -> &[(Ty, Ty)]
+        ensures { result.now ≡ self.now.projections }
+    {
+        self.projections.as_slice()
     }
 
     /// What could not be shown at an expression.

@@ -4,7 +4,7 @@ use goal_facts::{Proof, ProofSource};
 use hir_facts::{DefWithBodyId, FunctionId, ImplId, RawFacts};
 use infer_expr::infer_query_with_inspect;
 use infer_goals::ToldList;
-use infer_report::push_goal;
+use infer_report::{push_goal, push_ty};
 use infer_run::Ran;
 use std::alloc::{AllocError, Global};
 
@@ -35,6 +35,21 @@ pub fn proofs_of(alloc: Global, ran: &Ran) -> Result<String, AllocError> {
     };
     for proof in table.proofs() {
         push_proof(&mut out, facts.raw(), proof)?;
+    }
+    Ok(out)
+}
+
+/// What associated types were found to be in the table, a line for each.
+pub fn projections_of(alloc: Global, ran: &Ran) -> Result<String, AllocError> {
+    let mut out = String::new(alloc);
+    let (Some(facts), Some(table)) = (&ran.facts, &ran.table) else {
+        return String::from_str(alloc, "there is no table\n");
+    };
+    for (alias, ty) in table.projections() {
+        push_ty(&mut out, facts.raw(), alias)?;
+        out.push_str(" == ")?;
+        push_ty(&mut out, facts.raw(), ty)?;
+        out.push_str("\n")?;
     }
     Ok(out)
 }

@@ -15,6 +15,7 @@
 //!     ? LINE | LINE    lines of the types before fallback
 //!     plain yes|no     whether the body is plain, and so has such types
 //!     ^ LINE | LINE    the proofs, by their numbers: GOAL by impl N|clause|size or parts, and `from` those of what it asks for
+//!     = LINE | LINE    what associated types were found to be: ALIAS == TYPE
 //!     told ANSWER ..   what an inspector is told, in its order; with one and without the table is the same
 //!     in KIND N: ..    in the scope of this item, the answers to the predicates of function 0, `yes`, `no` or `undecided`, and
 //!                      whether its inputs have a size, `sized` or `unsized`
@@ -22,7 +23,7 @@
 //!     select KIND N: .. the predicates at two such holes: how many are pending, whether selection binds a hole, how many are pending
 //!                      then, how many goals were selected, what the holes are, and by what the proofs are
 use crate::before_fallback::text_of;
-use crate::proofs::{proofs_of, told_of};
+use crate::proofs::{projections_of, proofs_of, told_of};
 use crate::runs::{PLAIN, Way, compare, compare_end, ran};
 use crate::{Checks, goals};
 use hir_facts::is_plain;
@@ -94,7 +95,7 @@ fn all_said(alloc: Global, block: &str, word: &str) -> Result<String, AllocError
 fn is_word(word: &str) -> bool {
     match word {
         "#" | "|" | "of" | "facts" | "words" | "old" | "new" | "ends" | ">" | "?" => true,
-        "in" | "open" | "select" | "^" | "told" | "plain" => true,
+        "in" | "open" | "select" | "^" | "=" | "told" | "plain" => true,
         _ => word.starts_with('$'),
     }
 }
@@ -166,7 +167,8 @@ fn compare_table(
     Ok(())
 }
 
-/// Compares the proofs of a run, and what an inspector is told, where a block asks for them.
+/// Compares the proofs of a run, what associated types were found to be, and what an inspector is told, where a
+/// block asks for them.
 fn compare_goals(
     wrong: &mut String,
     alloc: Global,
@@ -176,6 +178,10 @@ fn compare_goals(
     let wanted = all_said(alloc, block, "^")?;
     if !wanted.is_empty() {
         compare(wrong, wanted.as_str(), proofs_of(alloc, ran)?.as_str())?;
+    }
+    let wanted = all_said(alloc, block, "=")?;
+    if !wanted.is_empty() {
+        compare(wrong, wanted.as_str(), projections_of(alloc, ran)?.as_str())?;
     }
     if let Some(wanted) = said(block, "told") {
         compare(wrong, wanted, told_of(alloc, ran)?.as_str().trim_end())?;

@@ -65,6 +65,7 @@ table_of ts s mismatches diagnostics = record {
   pat_variants = [];
   seen = [];
   proofs = [];
+  projections = [];
   expr_gaps = [];
   general = None;
 }

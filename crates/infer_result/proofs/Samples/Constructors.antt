@@ -181,6 +181,7 @@ table_of callee call name whole x bound mismatches expr_variants pat_variants = 
   pat_variants = pat_variants;
   seen = [];
   proofs = [];
+  projections = [];
   expr_gaps = [];
   general = None;
 }

@@ -64,6 +64,7 @@ table_of types mismatches = record {
   pat_variants = None ∷ [];
   seen = [];
   proofs = [];
+  projections = [];
   expr_gaps = [];
   general = None;
 }

@@ -133,6 +133,7 @@ table_at s = record {
   pat_variants = None ∷ [];
   seen = [];
   proofs = [];
+  projections = [];
   expr_gaps = [];
   general = None;
 }

@@ -84,6 +84,7 @@ table_at s u = record {
   pat_variants = None ∷ None ∷ [];
   seen = [];
   proofs = [];
+  projections = [];
   expr_gaps = [];
   general = None;
 }

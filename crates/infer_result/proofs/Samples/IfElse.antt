@@ -88,6 +88,7 @@ table_of exprs mismatches = record {
   pat_variants = None ∷ [];
   seen = [];
   proofs = [];
+  projections = [];
   expr_gaps = [];
   general = None;
 }

@@ -80,6 +80,7 @@ table_of s mismatches = record {
   pat_variants = None ∷ None ∷ [];
   seen = [];
   proofs = [];
+  projections = [];
   expr_gaps = [];
   general = None;
 }

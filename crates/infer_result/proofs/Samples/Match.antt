@@ -110,6 +110,7 @@ table_of seven name last a wild bound mismatches pat_mismatches = record {
   pat_variants = None ∷ None ∷ None ∷ None ∷ None ∷ [];
   seen = [];
   proofs = [];
+  projections = [];
   expr_gaps = [];
   general = None;
 }

@@ -103,6 +103,7 @@ table_of said seen = record {
   pat_variants = [];
   seen = seen;
   proofs = [];
+  projections = [];
   expr_gaps = [];
   general = None;
 }

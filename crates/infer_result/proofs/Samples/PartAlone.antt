@@ -58,6 +58,7 @@ table = record {
   pat_variants = None ∷ None ∷ [];
   seen = [];
   proofs = [];
+  projections = [];
   expr_gaps = [];
   general = None;
 }

@@ -82,6 +82,7 @@ table_of first second = record {
   pat_variants = None ∷ [];
   seen = [];
   proofs = [];
+  projections = [];
   expr_gaps = [];
   general = None;
 }

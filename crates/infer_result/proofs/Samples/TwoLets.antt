@@ -82,6 +82,7 @@ table_of mismatches = record {
   pat_variants = None ∷ None ∷ [];
   seen = [];
   proofs = [];
+  projections = [];
   expr_gaps = [];
   general = None;
 }

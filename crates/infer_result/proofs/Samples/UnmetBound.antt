@@ -56,6 +56,7 @@ table_of gaps = record {
   pat_variants = [];
   seen = [];
   proofs = [];
+  projections = [];
   expr_gaps = gaps;
   general = None;
 }
@@ -112,3 +113,11 @@ said_twice d q h =
     let said = gap.Unproved (node.ExprId (e 0)) q in
     let numbers = h.once (e 0) said said (record { gaps = said ∷ said ∷ []; «at» = refl; number = 0; listed = refl }) (record { gaps = said ∷ said ∷ []; «at» = refl; number = 1; listed = refl }) refl in
     cc
+
+-- what an associated type was found to be, without a proof
+pub no_entry : (d : DefWithBodyId) (x : Ty × Ty) → GoalsHold d given (record (table_of []) { projections = x ∷ [] }) → ⊥
+no_entry d x h = (let listed = (h.found.each 0 x refl).proved.listed in cc)
+
+-- one twice
+pub listed_twice : (d : DefWithBodyId) (x y : Ty × Ty) → x.0 ≡ y.0 → GoalsHold d given (record (table_of []) { projections = x ∷ y ∷ [] }) → ⊥
+listed_twice d x y same h = (let numbers = h.found.once 0 1 x y refl refl same in cc)

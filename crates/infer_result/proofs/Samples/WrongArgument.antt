@@ -76,6 +76,7 @@ table_of s mismatches = record {
   pat_variants = [];
   seen = [];
   proofs = [];
+  projections = [];
   expr_gaps = [];
   general = None;
 }

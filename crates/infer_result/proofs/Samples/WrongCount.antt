@@ -62,6 +62,7 @@ table_of at_argument at_call = record {
   pat_variants = [];
   seen = [];
   proofs = [];
+  projections = [];
   expr_gaps = [];
   general = None;
 }

@@ -63,6 +63,7 @@ table_of mismatches = record {
   pat_variants = [];
   seen = [];
   proofs = [];
+  projections = [];
   expr_gaps = [];
   general = None;
 }

@@ -115,6 +115,7 @@ table_of x at_o at_pattern at_x = record {
   pat_variants = None ∷ Some (v 0) ∷ None ∷ [];
   seen = [];
   proofs = [];
+  projections = [];
   expr_gaps = [];
   general = None;
 }

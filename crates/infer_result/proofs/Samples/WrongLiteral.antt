@@ -95,6 +95,7 @@ table_of literal_ guard_ pattern_ = record {
   pat_variants = None ∷ None ∷ None ∷ [];
   seen = [];
   proofs = [];
+  projections = [];
   expr_gaps = [];
   general = None;
 }

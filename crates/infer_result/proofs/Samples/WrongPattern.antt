@@ -96,6 +96,7 @@ table_of whole second pat_mismatches = record {
   pat_variants = None ∷ None ∷ None ∷ None ∷ [];
   seen = [];
   proofs = [];
+  projections = [];
   expr_gaps = [];
   general = None;
 }

@@ -59,6 +59,7 @@ table_of types mismatches = record {
   pat_variants = [];
   seen = [];
   proofs = [];
+  projections = [];
   expr_gaps = [];
   general = None;
 }

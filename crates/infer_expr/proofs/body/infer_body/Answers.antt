@@ -14,8 +14,10 @@ infer_params-requires c = comes_to_params _ _ c.requires.law c.requires.written 
 
 pub infer_expr_coerce-requires : goal.infer_expr_coerce-requires
 infer_expr_coerce-requires c =
+    rw c.return_expectation-expected.ensures (
     comes_to_root _ _ _ _ (comes_to_params _ _ c.requires.law c.requires.written c.requires.count _ _ c.end_of-last.ensures c.end_of-last.type_inv c.requires.table c.requires.empty c.requires.goals)
     c.in_ok-infer_params.ensures c.requires.carried (fine_later _ _ _ _ c.requires.carried c.requires.fine)
+    )
 
 pub settle_needs-requires-clause-of_body : goal.settle_needs-requires-clause-of_body
 settle_needs-requires-clause-of_body c = c.in_ok-infer_expr_coerce.ensures.follows.of_body
@@ -32,18 +34,18 @@ pub returns-clause-done : goal.returns-clause-done
 returns-clause-done c =
     body_walked _ _ c.requires.law c.requires.carried _ c.args.context.now.goals _ _ _
     (subst (λ k. ParamsDone (given_of c.args.given.now) (schedule_of c.args.given.now) k c.infer_params.new.context) c.requires.empty c.in_ok-infer_params.ensures)
-    c.in_ok-infer_expr_coerce.ensures c.in_ok-settle_needs.ensures.settles
+    (rw c.return_expectation-expected.ensures at c.in_ok-infer_expr_coerce.ensures) c.in_ok-settle_needs.ensures.settles
 
 pub returns-clause-grew : goal.returns-clause-grew
-returns-clause-grew c = (body_follows _ _ _ _ _ _ _ c.in_ok-infer_params.ensures c.in_ok-infer_expr_coerce.ensures c.in_ok-settle_needs.ensures.settles).grew
+returns-clause-grew c = (body_follows _ _ _ _ _ _ _ c.in_ok-infer_params.ensures (rw c.return_expectation-expected.ensures at c.in_ok-infer_expr_coerce.ensures) c.in_ok-settle_needs.ensures.settles).grew
 
 pub returns-clause-told : goal.returns-clause-told
 returns-clause-told c =
-    (body_follows _ _ _ _ _ _ _ c.in_ok-infer_params.ensures c.in_ok-infer_expr_coerce.ensures c.in_ok-settle_needs.ensures.settles).told
+    (body_follows _ _ _ _ _ _ _ c.in_ok-infer_params.ensures (rw c.return_expectation-expected.ensures at c.in_ok-infer_expr_coerce.ensures) c.in_ok-settle_needs.ensures.settles).told
     (comes_to_params _ _ c.requires.law c.requires.written c.requires.count _ _ c.end_of-last.ensures c.end_of-last.type_inv c.requires.table c.requires.empty c.requires.goals).state.told
 
 pub returns-clause-sources : goal.returns-clause-sources
-returns-clause-sources c = (body_follows _ _ _ _ _ _ _ c.in_ok-infer_params.ensures c.in_ok-infer_expr_coerce.ensures c.in_ok-settle_needs.ensures.settles).sources
+returns-clause-sources c = (body_follows _ _ _ _ _ _ _ c.in_ok-infer_params.ensures (rw c.return_expectation-expected.ensures at c.in_ok-infer_expr_coerce.ensures) c.in_ok-settle_needs.ensures.settles).sources
 
 pub returns-clause-read : goal.returns-clause-read
 returns-clause-read c = record { walked = c.infer_expr_coerce.new.context; settles = c.in_ok-settle_needs.ensures }

@@ -4,7 +4,7 @@ use Rattle.hir_facts.proofs.InRange.{body_in_range}
 use Rattle.infer_goals.specs.Below.{ItemSources}
 use Rattle.infer_goals.specs.declared.table.GoalTable.{GoalTable}
 use Rattle.infer_table.specs.Table.{new_state}
-use Rattle.infer_result.specs.OwnTypes.{AreLetTypes}
+use Rattle.infer_result.specs.OwnTypes.{AreOwnTypes, AreLetTypes}
 use Rattle.infer_result.specs.Typed.{given_by}
 use Rattle.infer_needs.proofs.Holding.{same_body}
 use Rattle.infer_end.proofs.Definitions.{found_body, written_exist, inputs_for_params, output_carried, output_fine}
@@ -22,11 +22,14 @@ schedule-requires c = body_in_range _ _ _ c.lawful.ensures (sym c.in-Some.ensure
 
 pub infer_body-requires-clause-written : goal.infer_body-requires-clause-written
 infer_body-requires-clause-written c =
-    written_exist c.args.facts.now c.args.def c.in-Some.id _ _ _ c.lawful.ensures (sym c.in-Some.ensures) c.body-body.ensures c.in_ok-own.ensures _
+    written_exist c.args.facts.now c.args.def c.in-Some.id _ _ _ c.lawful.ensures (sym c.in-Some.ensures) c.body-body.ensures
+    (subst (λ xs. AreOwnTypes c.args.facts.now c.args.def xs c.in_ok-own.own.output) (sym c.deref.ensures.value) c.in_ok-own.ensures) _
     (subst (AreLetTypes c.args.facts.now c.args.def c.body-body.result.now) (sym c.as_slice.ensures) c.in_ok-aliases.ensures)
 
 pub infer_body-requires-clause-count : goal.infer_body-requires-clause-count
-infer_body-requires-clause-count c = inputs_for_params c.args.facts.now c.args.def c.in-Some.id _ _ _ c.lawful.ensures (sym c.in-Some.ensures) c.body-body.ensures c.in_ok-own.ensures
+infer_body-requires-clause-count c =
+    inputs_for_params c.args.facts.now c.args.def c.in-Some.id _ _ _ c.lawful.ensures (sym c.in-Some.ensures) c.body-body.ensures
+    (subst (λ xs. AreOwnTypes c.args.facts.now c.args.def xs c.in_ok-own.own.output) (sym c.deref.ensures.value) c.in_ok-own.ensures)
 
 pub infer_body-requires-clause-carried : goal.infer_body-requires-clause-carried
 infer_body-requires-clause-carried c = output_carried c.args.facts.now c.args.def c.in-Some.id _ _ _ c.lawful.ensures (sym c.in-Some.ensures) c.body-body.ensures c.in_ok-own.ensures
@@ -69,12 +72,12 @@ select_where_possible-requires-clause-done c = kept_done _ c.args.facts.now c.ar
 
 pub read_where_possible-requires-clause-of_body : goal.read_where_possible-requires-clause-of_body
 read_where_possible-requires-clause-of_body c =
-    let g = given_by c.args.facts.now c.args.def c.body-body.result.now c.in_ok-own.own.inputs.items c.in_ok-own.own.output c.as_slice.result.now in
+    let g = given_by c.args.facts.now c.args.def c.body-body.result.now c.deref.result.now c.in_ok-own.own.output c.as_slice.result.now in
     goals_of_body g c.keep_general.new.context c.select_where_possible.new.context c.select_where_possible.ensures.only
     (kept_of_body g c.args.facts.now c.args.def c.infer_body.new.context c.keep_general.new.context c.in_ok-infer_body.ensures.read.settles.settles.binds.follows.of_body c.in_ok-keep_general.ensures)
 
 pub returns-clause-ends : goal.returns-clause-ends
-returns-clause-ends c = λ ps gs. (
+returns-clause-ends c = λ ps js gs. (
     let raw = c.args.facts.now in
     let d = c.args.def in
     let b = c.body-body.result.now in
@@ -83,7 +86,7 @@ returns-clause-ends c = λ ps gs. (
     let last = c.read_where_possible.new.context in
     let only = c.select_where_possible.ensures.only in
     let read = c.in_ok-read_where_possible.ensures in
-    ends_selected raw d c.in-Some.id b _ _ _ _ (sym c.in-Some.ensures) c.body-body.ensures (c.schedule.ensures.walkable _ c.body-body.ensures) c.in_ok-own.ensures (subst (AreLetTypes c.args.facts.now c.args.def c.body-body.result.now) (sym c.as_slice.ensures) c.in_ok-aliases.ensures) c.infer_body.new.context c.in_ok-infer_body.ensures.done c.lawful.ensures ps gs
+    ends_selected raw d c.in-Some.id b _ _ _ _ (sym c.in-Some.ensures) c.body-body.ensures (c.schedule.ensures.walkable _ c.body-body.ensures) (subst (λ xs. AreOwnTypes raw d xs c.in_ok-own.own.output) (sym c.deref.ensures.value) c.in_ok-own.ensures) (subst (AreLetTypes c.args.facts.now c.args.def c.body-body.result.now) (sym c.as_slice.ensures) c.in_ok-aliases.ensures) c.infer_body.new.context c.in_ok-infer_body.ensures.done c.lawful.ensures ps js gs
     mid last c.in_ok-keep_general.ensures (goals_twice mid selected last only read.only) (stays_twice mid selected last only c.select_where_possible.ensures.plain read.plain)
     read.done)
 
@@ -94,9 +97,9 @@ returns-clause-selected c b is =
     let mid = c.keep_general.new.context in
     let same : c.body-body.result.now ≡ b = same_body raw d c.in-Some.id c.body-body.result.now b (sym c.in-Some.ensures) c.body-body.ensures is in
     subst (λ (x : RawBody). IsSelectedBody raw d x c.read_where_possible.new.context) same (record {
-      inputs = c.in_ok-own.own.inputs.items;
+      inputs = c.deref.result.now;
       output = c.in_ok-own.own.output;
-      own = c.in_ok-own.ensures;
+      own = subst (λ xs. AreOwnTypes raw d xs c.in_ok-own.own.output) (sym c.deref.ensures.value) c.in_ok-own.ensures;
       aliases = c.as_slice.result.now;
       lets = subst (AreLetTypes c.args.facts.now c.args.def c.body-body.result.now) (sym c.as_slice.ensures) c.in_ok-aliases.ensures;
       settled = c.infer_body.new.context;

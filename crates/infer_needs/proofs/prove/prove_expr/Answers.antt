@@ -18,7 +18,7 @@ loop-goal-init c =
     record {
       items = refl;
       long = cc;
-      judged = rw c.new-gaps.ensures (judged_none raw f c.args.id c.args.proofs.now.items);
+      judged = rw c.new-gaps.ensures (judged_none raw f c.args.id c.args.proofs.now.items c.args.found.now);
       told = tells_none f raw.limits.goal_depth c.args.told.now.items;
     }
 
@@ -46,8 +46,8 @@ loop-goal-preserved c =
     record {
       items = append_assoc at.yielded (x ∷ []) _ ∙ rw (← steps) at.invariant.items;
       long = (let was = at.invariant.long in let gone = c.in-Some.ensures.steps.1 in let short = ap length steps in omega arith);
-      judged = subst (λ xs. AreJudged raw f c.args.id xs c.args.proofs.now.items new.proofs.items new.gaps) more
-          (judged_more raw f c.args.id (map asked_goal at.yielded) x c.args.proofs.now.items at.proofs.items new.proofs.items at.gaps new.gaps at.invariant.judged done.judged);
+      judged = subst (λ xs. AreJudged raw f c.args.id xs c.args.proofs.now.items new.proofs.items c.args.found.now new.found new.gaps) more
+          (judged_more raw f c.args.id (map asked_goal at.yielded) x c.args.proofs.now.items at.proofs.items new.proofs.items c.args.found.now at.found new.found at.gaps new.gaps at.invariant.judged done.judged);
       told = subst (λ xs. ListsAnswers f n xs c.args.told.now.items new.told.items) more
           (tells_both f n (map asked_goal at.yielded) (asked_goal x ∷ []) c.args.told.now.items at.told.items new.told.items at.invariant.told done.told);
     }
@@ -62,7 +62,7 @@ returns-clause-judged c =
     let whole = at.invariant.items ∙ c.into_iter-goal-iterator.ensures.into_iter_gives.0 in
     let empty : into_iter_items at.goal-iterator ≡ [] = nil_from_length _ (sym at.invariant.long ∙ c.in-None.ensures.steps.0) in
     let all = all_asked xs at.yielded (into_iter_items at.goal-iterator) gs is whole empty in
-    subst (λ ys. AreJudged raw (system c.args.sources.now.sources) c.args.id ys c.args.proofs.now.items at.proofs.items at.gaps) all at.invariant.judged
+    subst (λ ys. AreJudged raw (system c.args.sources.now.sources) c.args.id ys c.args.proofs.now.items at.proofs.items c.args.found.now at.found at.gaps) all at.invariant.judged
 
 pub returns-clause-told : goal.returns-clause-told
 returns-clause-told c =

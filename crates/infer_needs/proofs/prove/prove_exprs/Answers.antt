@@ -14,7 +14,7 @@ loop-at-init c =
     let raw = c.args.sources.now.facts in
     let f = system c.args.sources.now.sources in
     record {
-      judged = rw (c.new-gaps.ensures, c.new-proofs.ensures.items) (all_none raw f c.args.body.now c.args.table.now);
+      judged = rw (c.new-gaps.ensures, c.new-found.ensures, c.new-proofs.ensures.items) (all_none raw f c.args.body.now c.args.table.now);
       told = tells_none f raw.limits.goal_depth c.args.told.now.items;
     }
 
@@ -34,11 +34,11 @@ loop-at-preserved c =
     let r = c.args.table.now in
     let x = c.expr-item.result in
     let new = c.prove_at.new in
-    let done = c.in_ok-found.ensures in
+    let done = c.in_ok-here.ensures in
     let found : slice_get b.exprs at.at ≡ Some x = ap (λ xs. slice_get xs at.at) (sym c.as_slice-expr-items.ensures) ∙ slice_get_read _ _ at.at _ refl c.loop-at-test.true c.expr-item.is in
     record {
-      judged = subst (λ gss. AreAllJudged raw f b r (at.at + 1) new.proofs.items gss) (sym c.in_ok-push.ensures.ok)
-          (all_more raw f b r at.at at.proofs.items new.proofs.items at.gaps c.in_ok-found.found at.invariant.judged (judged_here raw f b r at.at x at.proofs.items new.proofs.items c.in_ok-found.found found done.judged));
+      judged = subst (λ gss. AreAllJudged raw f b r (at.at + 1) new.proofs.items new.found gss) (sym c.in_ok-push.ensures.ok)
+          (all_more raw f b r at.at at.proofs.items new.proofs.items at.found new.found at.gaps c.in_ok-here.here at.invariant.judged (judged_here raw f b r at.at x at.proofs.items new.proofs.items at.found new.found c.in_ok-here.here found done.judged));
       told = subst (λ xs. ListsAnswers f n xs c.args.told.now.items new.told.items) (first_more raw b r at.at)
           (tells_both f n (first_needs raw b r at.at) (needs_at raw b r at.at) c.args.told.now.items at.told.items new.told.items at.invariant.told (tells_here f n raw b r at.at x at.told.items new.told.items found done.told));
     }

@@ -5,6 +5,6 @@ use Rattle.infer_needs.proofs.prove.prove_exprs.Given as goal
 
 abbrev pub invariant-loop-at : goal.invariant-loop-at
 invariant-loop-at l = record {
-  judged : AreAllJudged l.sources.facts (system l.sources.sources) l.body l.table l.at l.proofs.items l.gaps;
+  judged : AreAllJudged l.sources.facts (system l.sources.sources) l.body l.table l.at l.proofs.items l.found l.gaps;
   told : ListsAnswers (system l.sources.sources) l.sources.facts.limits.goal_depth (first_needs l.sources.facts l.body l.table l.at) l.fn.told.items l.told.items;
 }

@@ -31,12 +31,15 @@ returns-clause-goals c b is =
     let item : made.item ≡ scope_item raw d = c.in_ok-sources.ensures.item ∙ c.scope_item.ensures in
     let body = c.body-body.result.now in
     let ps = c.in_ok-proofs.proofs.items in
+    let js = c.into_pairs.result.items in
     let gss = c.in_ok-proofs.gaps in
     let same : body ≡ b = same_body raw d c.in-Some.id body b (sym c.body_id.ensures ∙ c.in-Some.is) c.body-body.ensures is in
     let of_item : IsSystemOf raw (scope_item raw d) f = subst (λ i. IsSystemOf raw i f) item (subst (λ z. IsSystemOf z made.item f) facts c.lawful-2.ensures) in
-    let all : AreAllJudged raw f b r (length b.exprs) ps gss =
-    subst (λ x. AreAllJudged raw f x r (length x.exprs) ps gss) same (subst (λ z. AreAllJudged z f body r (length body.exprs) ps gss) facts c.in_ok-proofs.ensures.judged) in
-    subst (λ qs. GoalsHold d (given raw d b) (with_goals qs gss r)) (sym c.from_vec.ensures) (goals_hold raw d b f r ps gss of_item all)
+    let found = subst (λ ks. AreAllJudged made.facts f body r (length body.exprs) ps ks gss) (sym c.into_pairs.ensures.list) c.in_ok-proofs.ensures.judged in
+    let all : AreAllJudged raw f b r (length b.exprs) ps js gss =
+    subst (λ x. AreAllJudged raw f x r (length x.exprs) ps js gss) same (subst (λ z. AreAllJudged z f body r (length body.exprs) ps js gss) facts found) in
+    subst (λ ks. GoalsHold d (given raw d b) (with_goals c.from_vec.result ks gss r)) (sym c.from_vec-2.ensures)
+    (subst (λ qs. GoalsHold d (given raw d b) (with_goals qs js gss r)) (sym c.from_vec.ensures) (goals_hold raw d b f r ps js gss of_item all c.into_pairs.ensures.once))
 
 pub returns-clause-told : goal.returns-clause-told
 returns-clause-told c b is =
@@ -54,7 +57,7 @@ returns-clause-told c b is =
     record {
       system = f;
       of_item = subst (λ i. IsSystemOf raw i f) item (subst (λ z. IsSystemOf z made.item f) facts c.lawful-2.ensures);
-      answers = subst (λ xs. AreAnswered f raw.limits.goal_depth xs c.prove_exprs.new.told.items) (sym (needs_stay raw b r c.from_vec.result c.in_ok-proofs.gaps (length b.exprs)))
+      answers = subst (λ xs. AreAnswered f raw.limits.goal_depth xs c.prove_exprs.new.told.items) (sym (needs_stay raw b r c.from_vec.result c.from_vec-2.result c.in_ok-proofs.gaps (length b.exprs)))
           (subst (AreAnswered f raw.limits.goal_depth (all_needs raw b r)) (sym all)
           (subst (λ x. AreAnswered f raw.limits.goal_depth (all_needs raw x r) listed.told) same (subst (λ (z : RawFacts). AreAnswered f z.limits.goal_depth (all_needs z body r) listed.told) facts listed.answers)));
     }

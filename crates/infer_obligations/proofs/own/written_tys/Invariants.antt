@@ -3,4 +3,4 @@ use Rattle.hir_raw.specs.WrittenTypes.{written_type}
 use Rattle.infer_obligations.proofs.own.written_tys.Given as goal
 
 abbrev pub invariant-loop-type_ref : goal.invariant-loop-type_ref
-invariant-loop-type_ref l = l.tys ≡ map (λ w. Some (written_type l.facts.types w)) (take l.type_ref-index l.type_ref-items)
+invariant-loop-type_ref l = l.tys.items ≡ map (λ w. Some (written_type l.facts.types w)) (take l.type_ref-index l.written)

@@ -1,0 +1,73 @@
+//! What associated types are by goals that have a proof.
+ghost use Rattle.std.specs.Prelude.{◌↔◌, IsTrue, IfOk, OnOk, ◌≡◌};
+ghost use Rattle.hir_types.specs.Terms.{term};
+ghost use Rattle.infer_needs.specs.Judged.{IsListedNow, IsNoted};
+
+use crate::found::Found;
+use crate::say::say;
+use crate::unknown::holds_unknown;
+use goal_terms::type_term;
+use hir_facts::{ExprId, ExprOrPatId, Goal, List, Ty};
+use infer_result::Gap;
+use std::alloc::{AllocError, Global};
+
+/// Whether the two types are the same but for lifetimes.
+fn is_same_ty(alloc: Global, left: &Ty, right: &Ty) -> Result<bool, AllocError>
+    ensures { IfOk result (λ is. IsTrue is ↔ (term left.now ≡ term right.now)) }
+{
+    let left = type_term(alloc, left)?;
+    let right = type_term(alloc, right)?;
+    Ok(left.is_same(&right))
+}
+
+/// Lists an associated type with what it is, or says that it was found to be another type.
+fn list(
+    alloc: Global,
+    alias: Ty,
+    ty: Ty,
+    expr: ExprId,
+    found: &mut Found,
+    gaps: &mut List<Gap>,
+) -> Result<(), AllocError>
+    ensures { OnOk result (IsListedNow expr alias ty found.old found.new gaps.old gaps.new) }
+{
+    let Some(first) = found.find(&alias) else {
+        return found.add(alloc, alias, ty);
+    };
+    if is_same_ty(alloc, first, &ty)? {
+        return Ok(());
+    }
+    let first = first.dup(alloc)?;
+    let node = ExprOrPatId::ExprId(expr);
+    let clash = Gap::Clash {
+        node,
+        alias,
+        first,
+        second: ty,
+    };
+    say(alloc, clash, gaps)
+}
+
+/// Takes note of what a goal that has a proof says of an associated type, where it says a type in which
+/// none is left to be read, and `{unknown}` doesn't stand in it.
+pub fn note(
+    alloc: Global,
+    goal: Goal,
+    expr: ExprId,
+    found: &mut Found,
+    gaps: &mut List<Gap>,
+) -> Result<(), AllocError>
+    ensures { OnOk result (IsNoted expr goal found.old found.new gaps.old gaps.new) }
+{
+    let is_unknown = holds_unknown(alloc, &goal)?;
+    match goal {
+        Goal::Trait(_trait_ref) => Ok(()),
+        Goal::Projection { alias, args, ty } => {
+            let is_read = type_term(alloc, &ty)?.is_read();
+            if is_unknown || !is_read {
+                return Ok(());
+            }
+            list(alloc, Ty::Projection(alias, args), ty, expr, found, gaps)
+        }
+    }
+}

@@ -1,0 +1,23 @@
+-- Goals that have a proof in a table, and goals of which nothing has to be said.
+use Rattle.std.specs.Prelude.{◌≡◌, ◌⊎◌, ℕ, slice_get, Some}
+use Rattle.hir_types.specs.declared.head.Head.TheVariants as head
+use Rattle.hir_types.specs.Terms.{Term, hole, leaf, pair}
+use Rattle.goal_answers.specs.Goals.{Asked}
+use Rattle.goal_facts.specs.declared.proof.Proof.{Proof}
+use Rattle.goal_facts.specs.Goals.{asked_goal}
+use Rattle.infer_result.specs.declared.result.InferenceResult.{InferenceResult}
+
+-- `{unknown}` stands in the term
+abbrev pub HoldsUnknown : Term → Type 0
+HoldsUnknown (hole k) = ⊥
+HoldsUnknown (leaf head.Error) = Unit {0}
+HoldsUnknown (leaf head.UnknownConst) = Unit {0}
+HoldsUnknown (leaf _) = ⊥
+HoldsUnknown (pair a b) = HoldsUnknown a ⊎ HoldsUnknown b
+
+-- a proof is listed whose goal it is
+pub record IsProved (r : InferenceResult) (a : Asked) : Type 0 where
+  pub number : ℕ
+  pub proof : Proof
+  pub listed : slice_get r.proofs number ≡ Some proof
+  pub goal : asked_goal proof.goal ≡ a
