@@ -72,6 +72,7 @@ table_of found = record {
   pat_variants = None ∷ [];
   seen = [];
   proofs = [];
+  projections = [];
   expr_gaps = [];
   general = None;
 }
