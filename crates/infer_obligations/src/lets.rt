@@ -14,6 +14,15 @@ use infer_ctx::put;
 use infer_goals::GoalTable;
 use std::alloc::{AllocError, Global};
 
+/// The written type of this number.
+fn type_ref(number: usize) -> Result<TypeRefId, AllocError>
+    ensures { IfOk result (λ w. w.0 ≡ number) }
+{
+    // No lists of so many are in memory.
+    let number = u32::try_from(number).map_err(|_| AllocError)?;
+    Ok(TypeRefId(number))
+}
+
 /// Notes what the body knows of the associated type of this number, if it knows anything.
 fn note_alias(
     alloc: Global,
@@ -28,12 +37,11 @@ fn note_alias(
     ensures of_item { IfOk result (λ _. IsSystemOf goals.now.sources.facts goals.now.sources.item (system goals.now.sources.sources)) }
     ensures notes { IfOk result (λ _. NotesAlias (scope_of facts.now def) (system goals.now.sources.sources) goals.now.sources.facts.limits.goal_depth facts.now.types alias known.old known.new) }
 {
-    // No lists of so many are in memory.
-    let number = u32::try_from(alias).map_err(|_| AllocError)?;
-    let ty = lower_ty(alloc, facts, TypeRefId(number))?;
+    let written = type_ref(alias)?;
+    let ty = lower_ty(alloc, facts, written)?;
     match known_ty(alloc, goals, facts, def, &ty)? {
         Some(read) => {
-            put(known, number, read)?;
+            put(known, written.0, read)?;
             Ok(())
         }
         None => Ok(()),
