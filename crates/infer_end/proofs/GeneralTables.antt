@@ -338,7 +338,7 @@ module _ (raw : RawFacts) (d : DefWithBodyId) (i : BodyId) (b : RawBody) (s : Sc
         other_derives : IsDerivation raw d other_table
         other_derives =
             let h = other_is_table in
-            derivation_of raw d other_table h (plain_names_none raw lawful d plain) (no_let_aliases raw (params_of raw d) b is_plain lawful) (all_types_so _ _ other_table (fine_known sc) other_heads) other_clean (λ obeys. plain_needs raw lawful h.body other_table d plain h.is_body obeys other_carried)
+            derivation_of raw d other_table h (plain_names_none raw lawful d plain) (no_let_aliases raw (params_of raw d) h.body (plain_body raw d h.body plain h.is_body) lawful) (all_types_so _ _ other_table (fine_known sc) other_heads) other_clean (λ obeys. plain_needs raw lawful h.body other_table d plain h.is_body obeys other_carried)
 
         -- it is the table with these types in the place of its own
         is_closed_by : other_table ≡ closed_by a x table
