@@ -3,7 +3,6 @@ use Rattle.std.specs.Prelude.{IsTrue}
 use Rattle.hir_raw.specs.declared.raw.RawFacts.{RawFacts}
 use Rattle.hir_ids.specs.Entries.{AllHold}
 use Rattle.hir_ids.specs.Carried.{is_carried_written_type, is_carried_variant, is_carried_fn, is_carried_body}
-use Rattle.hir_ids.specs.Projections.{VariantIsCarried}
 use Rattle.hir_ids.specs.Ids.{ChildrenBefore, TypeIdsExist, AdtIdsExist, VariantIdsExist, FnIdsExist, BodyIdsExist}
 use Rattle.hir_counts.specs.Counts.{CountsFit, VariantFits, FnFits}
 use Rattle.hir_laws.specs.Trees.{IsWellFormed}
@@ -16,11 +15,8 @@ use Rattle.hir_laws.specs.Lawful.{IsLawful}
 pub types_carried : (raw : RawFacts) → IsLawful raw → AllHold (λ i t. IsTrue (is_carried_written_type t)) raw.types
 types_carried raw law = law.all.0
 
-pub carried_variants : (raw : RawFacts) → IsLawful raw → AllHold (λ i v. VariantIsCarried raw v) raw.variants
-carried_variants raw law = law.all.1.1.0
-
 pub variants_carried : (raw : RawFacts) → IsLawful raw → AllHold (λ i v. IsTrue (is_carried_variant v)) raw.variants
-variants_carried raw law i v found = (carried_variants raw law i v found).kind
+variants_carried raw law = law.all.1.1.0
 
 pub fns_carried : (raw : RawFacts) → IsLawful raw → AllHold (λ i f. IsTrue (is_carried_fn f)) raw.fns
 fns_carried raw law = law.all.1.1.1.0
