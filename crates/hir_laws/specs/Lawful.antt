@@ -6,7 +6,7 @@ use Rattle.hir_laws.specs.declared.laws.Law.TheVariants as law
 use Rattle.hir_laws.specs.declared.laws.FactsList.{FactsList}
 use Rattle.hir_laws.specs.declared.laws.FactsList.TheVariants as list
 use Rattle.hir_ids.specs.Entries.{AllHold, BreaksAt}
-use Rattle.hir_ids.specs.Carried.{is_carried_written_type, is_carried_adt, is_carried_trait, is_carried_alias, is_carried_impl, is_carried_lang, is_carried_fn, is_carried_body}
+use Rattle.hir_ids.specs.Carried.{is_carried_written_type, is_carried_adt, is_carried_variant, is_carried_trait, is_carried_alias, is_carried_impl, is_carried_lang, is_carried_fn, is_carried_body}
 use Rattle.hir_ids.specs.GoalIds.{TraitIdsExist, AliasIdsExist, ImplIdsExist, LangExists}
 use Rattle.hir_ids.specs.Ids.{TypeIdsExist, ParentBefore, AdtIdsExist, VariantIdsExist, FnIdsExist, BodyIdsExist}
 use Rattle.hir_counts.specs.Counts.{AdtFits, VariantFits, FnFits, TraitFits, AliasFits, ImplFits}

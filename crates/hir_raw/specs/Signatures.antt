@@ -83,6 +83,10 @@ signature_by ctor.Record types n x = None
 abbrev pub ctor_signature : List RawType → ℕ → RawVariant → Option Signature
 ctor_signature types n x = signature_by x.ctor types n x
 
+-- a constructor at these types, as an item that can be called
+abbrev pub ctor_item : VariantId → List Ty → Ty
+ctor_item v ts = ty.FnDef (callable.VariantId v) (type_args ts)
+
 -- What a path to a constructor is, at these types for its parameters. A variant `V` has no fields, so its parameters are those of its adt.
 abbrev pub ctor_type_by : RawCtor → AdtId → VariantId → List Ty → Ty
 ctor_type_by ctor.Unit a v ts = ty.Adt a (type_args ts)
