@@ -32,7 +32,7 @@ pub record HasNoComplaint (r : InferenceResult) : Type 0 where
   pub diagnostics : (n : ℕ) (d : InferenceDiagnostic) → At r.expr_diagnostics n d → ⊥
   pub pat_mismatches : (n : ℕ) (m : TypeMismatch) → At r.pat_mismatches n m → ⊥
   pub pat_diagnostics : (n : ℕ) (d : InferenceDiagnostic) → At r.pat_diagnostics n d → ⊥
-  pub gaps : (e : ExprId) (x : Gap) → HasGap r e x → ⊥
+  pub gaps : (n : ExprOrPatId) (x : Gap) → HasGap r n x → ⊥
 
 -- The table is one of the definition's body, with a type for each node and binding. No hole and no
 -- `{unknown}` stands in it, but for what failed look-ups saw and for types before fallback, and no complaint;
