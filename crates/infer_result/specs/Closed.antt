@@ -1,5 +1,5 @@
 -- Tables with an entry for each node, and without holes.
-use Rattle.std.specs.Prelude.{ℕ, ◌<◌, ◌≡◌, ◌⊎◌, List, length, slice_get, Option, Some}
+use Rattle.std.specs.Prelude.{ℕ, ◌<◌, ◌≡◌, ◌⊎◌, List, [], length, slice_get, Option, Some}
 use Rattle.hir_types.specs.declared.ids.ExprId.{ExprId}
 use Rattle.hir_types.specs.declared.ids.PatId.{PatId}
 use Rattle.hir_types.specs.declared.ids.BindingId.{BindingId}
@@ -9,6 +9,9 @@ use Rattle.hir_raw.specs.declared.raw.RawExpr.TheVariants as expr
 use Rattle.hir_raw.specs.declared.raw.RawPath.TheVariants as path
 use Rattle.hir_raw.specs.declared.raw.RawPat.TheVariants as pat
 use Rattle.hir_raw.specs.declared.raw.RawBody.{RawBody}
+use Rattle.hir_raw.specs.declared.raw.RawFacts.{RawFacts}
+use Rattle.hir_raw.specs.declared.raw.RawVariant.{RawVariant}
+use Rattle.hir_raw.specs.Hidden.{variant_aliases}
 use Rattle.hir_raw.specs.Signatures.{ctor_item}
 use Rattle.hir_types.specs.Erasure.{IsClosed}
 use Rattle.infer_result.specs.declared.result.InferenceResult.{InferenceResult}
@@ -61,16 +64,19 @@ pub record OnlyNamedVariants (b : RawBody) (r : InferenceResult) : Type 0 where
   pub exprs : (e : ExprId) (v : VariantId) → ExprVariant r e v → NamesVariant b e v
   pub pats : (p : PatId) (v : VariantId) → PatVariant r p v → IsVariantPat b p v
 
--- an item is recorded only for a pattern of a constructor over patterns, and is that constructor
-pub record IsItemOfPat (b : RawBody) (p : PatId) (t : Ty) : Type 0 where
+-- an item is recorded only for a pattern of a constructor over patterns in whose fields associated types stand, and is that constructor
+pub record IsItemOfPat (raw : RawFacts) (b : RawBody) (p : PatId) (t : Ty) : Type 0 where
   pub named : VariantId
   pub parts : List PatId
   pub is_pat : slice_get b.pats p.0 ≡ Some (pat.TupleStruct named parts)
+  pub variant : RawVariant
+  pub found : slice_get raw.variants named.0 ≡ Some variant
+  pub has_aliases : variant_aliases raw.types variant ≡ [] → ⊥
   pub types : List Ty
   pub is : t ≡ ctor_item named types
 
-abbrev pub OnlyCtorPatsHaveItems : RawBody → InferenceResult → Type 0
-OnlyCtorPatsHaveItems b r = (p : PatId) (t : Ty) → PatItem r p t → IsItemOfPat b p t
+abbrev pub OnlyCtorPatsHaveItems : RawFacts → RawBody → InferenceResult → Type 0
+OnlyCtorPatsHaveItems raw b r = (p : PatId) (t : Ty) → PatItem r p t → IsItemOfPat raw b p t
 
 -- each type of the table has a property, but for those that failed look-ups saw
 pub record AllTypes (P : Ty → Type 0) (r : InferenceResult) : Type 0 where

@@ -22,7 +22,7 @@ pub record IsShaped (g : Given) (r : InferenceResult) : Type 0 where
   pub modes : OnlyBindersHaveModes g.body r
   pub placeholders : OnlyPlaceholdersHaveTypes g r
   pub variants : OnlyNamedVariants g.body r
-  pub items : OnlyCtorPatsHaveItems g.body r
+  pub items : OnlyCtorPatsHaveItems g.scope.facts g.body r
 
 -- Each complaint other than a mismatch of an expression is true, and so is each failed look-up that is kept,
 -- of which a complaint tells unless `{unknown}` is in the type.

@@ -84,8 +84,8 @@ pub struct InferenceResult {
     pub type_of_pat: List<Option<Ty>>,
     /// The type of each binding.
     pub type_of_binding: List<Option<Ty>>,
-    /// The constructor that each pattern over patterns is of, as an item at its arguments: those of the adt, and
-    /// one for each associated type in its fields.
+    /// The constructor that each pattern over patterns is of, as an item at its arguments, those of the adt and
+    /// one for each associated type in its fields; `None` where there is no such associated type.
     pub item_of_pat: List<Option<Ty>>,
     /// What each `_` that stands in the type of a `let` stands for, by its number in the list of written
     /// types; `None` at all other types.
@@ -163,7 +163,7 @@ impl InferenceResult {
         self.type_of_binding.get(binding.0 as usize)?.as_ref()
     }
 
-    /// The constructor that a pattern over patterns is of, as an item; `None` at any other pattern.
+    /// The constructor that a pattern over patterns is of, as an item, where associated types stand in its fields.
     pub fn item_of_pat(&self, pat: PatId) -> Option<&Ty>
         ensures { option_copied result ≡ recorded self.now.item_of_pat pat.0 }
     {

@@ -24,13 +24,18 @@ PatsAtFields g r [] ss = Unit {0}
 PatsAtFields g r (p ∷ ps) [] = Unit {0}
 PatsAtFields g r (p ∷ ps) (s ∷ ss) = PatIsAtOrMismatch g r p s × PatsAtFields g r ps ss
 
+-- which item the pattern is of is recorded, where that has types beside the adt's
+abbrev pub IsItemOf : InferenceResult → PatId → VariantId → List Ty → List Ty → Type 0
+IsItemOf r p v ts [] = Unit {0}
+IsItemOf r p v ts (h ∷ hs) = PatItem r p (ctor_item v (ts ++ h ∷ hs))
+
 -- The pattern is of the constructor of the variant x, at the types ts for the parameters of the adt and at the types hs for the associated types in
--- its fields. It has the type of the adt, and which item it is of is recorded.
+-- its fields. It has the type of the adt.
 pub record IsPatOf (g : Given) (r : InferenceResult) (p : PatId) (v : VariantId) (x : RawVariant) (ts hs : List Ty) : Type 0 where
   pub is_variant : IsVariantAt g v x ts
   pub is_ctor : IsCtorAt g v x (ts ++ hs)
   pub has : PatTy r p (adt_at x ts)
-  pub item : PatItem r p (ctor_item v (ts ++ hs))
+  pub item : IsItemOf r p v ts hs
 
 -- The parts of such a pattern are at the types of the fields, of which there are as many, or that there are not is said. Which variant it
 -- is of is recorded. What the associated types are, the pattern needs (`Needs`).
