@@ -59,7 +59,7 @@ fn dup_arg(alloc: Global, arg: &GenericArg) -> Result<GenericArg, AllocError>
 }
 
 /// Equal copies of the first arguments, of so many.
-fn first_args(
+pub fn first_args(
     alloc: Global,
     args: &[GenericArg],
     count: usize,
