@@ -25,7 +25,7 @@ use Rattle.infer_result.specs.declared.gaps.Gap.{Gap}
 use Rattle.infer_result.specs.declared.gaps.Gap.TheVariants as gap
 use Rattle.infer_result.specs.declared.result.InferenceResult.{InferenceResult}
 use Rattle.infer_result.specs.Projections.{IsListedAs, HasEntry, IsAboutAlias}
-use Rattle.infer_result.specs.Needs.{HoldsUnknown, Saying, gap_says, needs_of, needs_at, pat_needs_of, pat_needs_at}
+use Rattle.infer_result.specs.Needs.{HoldsUnknown, Saying, gap_says, needs_of, needs_at, pat_needs_at}
 use Rattle.infer_result.specs.Table.{recorded}
 use Rattle.infer_needs.specs.Listed.{FindsIn}
 
