@@ -8,6 +8,7 @@ use Rattle.hir_counts.specs.Counts.{CountsFit, VariantFits, FnFits}
 use Rattle.hir_laws.specs.Trees.{IsWellFormed}
 use Rattle.hir_laws.specs.Scopes.{ScopesHold}
 use Rattle.hir_counts.specs.Sizes.{TypeIsSmall, BodyIsSmall}
+use Rattle.hir_laws.specs.Fields.{NamesFit}
 use Rattle.hir_laws.specs.Literals.{LiteralsFit}
 use Rattle.hir_counts.specs.Uses.{HoleFits}
 use Rattle.hir_laws.specs.Lawful.{IsLawful}
@@ -56,6 +57,9 @@ types_small raw law = law.all.1.1.1.1.1.1.1.1.1.1.1.1.1.1.1.1.1.1.1.1.1.1.1.1.1.
 
 pub bodies_small : (raw : RawFacts) → IsLawful raw → AllHold BodyIsSmall raw.bodies
 bodies_small raw law = law.all.1.1.1.1.1.1.1.1.1.1.1.1.1.1.1.1.1.1.1.1.1.1.1.1.1.1.1.1.1.1.1.1.1.1.1.1.1.1.1.0
+
+pub names_fit : (raw : RawFacts) → IsLawful raw → AllHold (λ i v. NamesFit v) raw.variants
+names_fit raw law = law.all.1.1.1.1.1.1.1.1.1.1.1.1.1.1.1.1.1.1.1.1.1.1.1.1.1.1.1.1.1.1.1.1.1.1.1.1.1.1.1.1.1.1.0
 
 pub literals_fit : (raw : RawFacts) → IsLawful raw → AllHold (λ i b. LiteralsFit b) raw.bodies
 literals_fit raw law = law.all.1.1.1.1.1.1.1.1.1.1.1.1.1.1.1.1.1.1.1.1.1.1.1.1.1.1.1.1.1.1.1.1.1.1.1.1.1.1.1.1.1.1.1.0
