@@ -23,8 +23,8 @@ use hir_counts::{
 };
 use hir_ids::{
     AdtIds, AdtsCarried, AliasIds, AliasesCarried, BodiesCarried, BodyIds, FnIds, FnsCarried,
-    ImplIds, ImplsCarried, LangCarried, LangIds, ModuleIds, TraitIds,
-    TraitsCarried, TypeIds, TypesCarried, VariantIds, VariantsCarried, first_broken, first_other,
+    ImplIds, ImplsCarried, LangCarried, LangIds, ModuleIds, TraitIds, TraitsCarried, TypeIds,
+    TypesCarried, VariantIds, VariantsCarried, first_broken, first_other,
 };
 use hir_raw::{RawFacts, Schedule};
 use hir_types::List;

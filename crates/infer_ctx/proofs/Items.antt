@@ -170,10 +170,10 @@ module _ (raw : RawFacts) (law : IsLawful raw) where
       let n : ℕ = variant_arity raw.types x (length a.params) in
       among x.fields (λ j f e. over_field raw law v.0 x a found adt (IsCarriedIn (types_scope raw n)) (over_known raw n) j f e) k is
     where
-      abbrev types : List RawType
+      types : List RawType
       types = variant_types raw.types (length a.params) x
 
-      abbrev P : Ty → Type 0
+      P : Ty → Type 0
       P = IsCarriedIn (types_scope raw (variant_arity raw.types x (length a.params)))
 
       among : (fs : List RawField) → ((j : ℕ) (f : RawField) → slice_get fs j ≡ Some f → P (written_type types f.type_)) → (i : ℕ) → slice_get (map (λ f. written_type types f.type_) fs) i ≡ Some t → P t

@@ -330,14 +330,7 @@ fn demand_ctor(
     let fields = given.field_tys(alloc, variant, params, &args)?;
     count_parts(context, pat, item.fields.len(), parts);
     let own = first_args(alloc, args.as_slice(), params)?;
-    demand_pat_ty(
-        alloc,
-        context,
-        given,
-        pat,
-        Ty::Adt(item.adt, own),
-        expected,
-    )?;
+    demand_pat_ty(alloc, context, given, pat, Ty::Adt(item.adt, own), expected)?;
     if arity > params {
         let ctor = Ty::FnDef(CallableDefId::VariantId(variant), args);
         context.write_pat_item(pat, ctor);
