@@ -109,6 +109,13 @@ all_known raw n types [] h k t is = absurd (cc)
 all_known raw n types (w ∷ ws) h zero t is = (let same : written_type types w ≡ t = cc in subst (λ u. IsCarriedIn (types_scope raw n) u) same (h 0 w refl))
 all_known raw n types (w ∷ ws) h (suc k) t is = all_known raw n types ws (λ j v e. h (suc j) v e) k t is
 
+all_fields : (raw : RawFacts) (n : ℕ) (types : List RawType) (fs : List RawField)
+    → ((k : ℕ) (f : RawField) → slice_get fs k ≡ Some f → IsCarriedIn (types_scope raw n) (written_type types f.type_))
+    → (k : ℕ) (t : Ty) → slice_get (map (λ (f : RawField). written_type types f.type_) fs) k ≡ Some t → IsCarriedIn (types_scope raw n) t
+all_fields raw n types [] h k t is = absurd (cc)
+all_fields raw n types (f ∷ fs) h zero t is = (let same : written_type types f.type_ ≡ t = cc in subst (λ u. IsCarriedIn (types_scope raw n) u) same (h 0 f refl))
+all_fields raw n types (f ∷ fs) h (suc k) t is = all_fields raw n types fs (λ j g e. h (suc j) g e) k t is
+
 -- ---- over the kinds of written types
 
 module _ (raw : RawFacts) (n : ℕ) where
@@ -168,18 +175,7 @@ module _ (raw : RawFacts) (law : IsLawful raw) where
       → (k : ℕ) (t : Ty) → slice_get (taken_types raw.types (length a.params) x) k ≡ Some t → IsCarriedIn (types_scope raw (variant_arity raw.types x (length a.params))) t
   fields_known v x a found adt k t is =
       let n : ℕ = variant_arity raw.types x (length a.params) in
-      among x.fields (λ j f e. over_field raw law v.0 x a found adt (IsCarriedIn (types_scope raw n)) (over_known raw n) j f e) k is
-    where
-      types : List RawType
-      types = variant_types raw.types (length a.params) x
-
-      P : Ty → Type 0
-      P = IsCarriedIn (types_scope raw (variant_arity raw.types x (length a.params)))
-
-      among : (fs : List RawField) → ((j : ℕ) (f : RawField) → slice_get fs j ≡ Some f → P (written_type types f.type_)) → (i : ℕ) → slice_get (map (λ f. written_type types f.type_) fs) i ≡ Some t → P t
-      among [] h i e = absurd (cc)
-      among (f ∷ fs) h zero e = (let same : written_type types f.type_ ≡ t = cc in subst P same (h 0 f refl))
-      among (f ∷ fs) h (suc i) e = among fs (λ j y q. h (suc j) y q) i e
+      all_fields raw n (variant_types raw.types (length a.params) x) x.fields (λ j f e. over_field raw law v.0 x a found adt (IsCarriedIn (types_scope raw n)) (over_known raw n) j f e) k t is
 
   -- a variant whose constructor is named
   pub named_variant : (v : VariantId) (x : RawVariant) → slice_get raw.variants v.0 ≡ Some x → IsVariant raw v
