@@ -180,7 +180,7 @@ class BodyWriter(Writer):
         if let["els"] is not None:
             self.leave_out("`let` with `else`", span_of(let["span"]))
         init = None if let["init"] is None else self.expr(let["init"])
-        ty = None if let["ty"] is None else self.read_type(let["ty"], None)[0]
+        ty = None if let["ty"] is None else self.type(let["ty"], None)[0]
         return ["let", self.pattern(let["pat"]), ty, init, None]
 
     def pattern(self, pat):

@@ -357,7 +357,7 @@ class Writer:
         return 0, False
 
     def read_type(self, ty, hole=IN_SIGNATURE):
-        """The same of a type that bodies read: an associated type is left out there, wherever it stands in the type."""
+        """The same of the type of a field: an associated type is left out there, wherever it stands in the type."""
         number, has_hole = self.type(ty, hole)
         if self.lists.holds_projection(number):
             self.leave_out("associated type", span_of(ty["span"]))

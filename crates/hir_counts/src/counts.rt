@@ -10,9 +10,9 @@ ghost use Rattle.hir_counts.specs.Counts.{count_of, CountsFit, AdtFitsBy, TypeFi
 
 use crate::goal_counts::goals_fit;
 use crate::standing::{Sought, mosts_of};
-use hir_ids::{Test, stmts_of};
+use hir_ids::Test;
 use hir_raw::{
-    RawAdt, RawAdtKind, RawBody, RawExpr, RawFacts, RawField, RawFn, RawStmt, RawVariant,
+    RawAdt, RawAdtKind, RawBody, RawExpr, RawFacts, RawField, RawFn, RawStmt, RawVariant, stmts_of,
 };
 use hir_types::{AdtId, BodyId, TypeRefId};
 use std::alloc::{AllocError, Global};

@@ -8,8 +8,10 @@ ghost use Rattle.hir_counts.specs.Uses.{type_uses, stmt_uses, expr_uses, body_us
 use crate::counts::number_at;
 use crate::goal_uses::{push_goals_of, push_impls};
 use crate::standing::{Sought, mosts_of};
-use hir_ids::{Namers, Test, is_nobody, is_one, namers_of, stmts_of};
-use hir_raw::{RawBody, RawExpr, RawFacts, RawField, RawFn, RawStmt, RawType, RawVariant};
+use hir_ids::{Namers, Test, is_nobody, is_one, namers_of};
+use hir_raw::{
+    RawBody, RawExpr, RawFacts, RawField, RawFn, RawStmt, RawType, RawVariant, stmts_of,
+};
 use hir_types::TypeRefId;
 use std::alloc::{AllocError, Global};
 

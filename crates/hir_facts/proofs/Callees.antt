@@ -23,7 +23,7 @@ use Rattle.hir_raw.specs.declared.raw.RawBody.{RawBody}
 use Rattle.hir_raw.specs.declared.raw.RawFacts.{RawFacts}
 use Rattle.hir_raw.specs.Order.{Role, let_else, initializer, tail, element, else_branch, guard, arm, argument, root, Part, expr_part, maybe_part, stmt_parts, stmts_parts, exprs_from, arm_patterns, arm_parts, arms_parts, expr_parts, param_parts, subpatterns, pat_parts, body_parts, Node, the_body, inner, IsNode, part_at, parts_of_expr, parts_of_pat, stmts_of, stmt_at}
 use Rattle.hir_ids.proofs.CarriedBodies.{list_all_at}
-use Rattle.hir_plain.specs.Below.{IsLiteral, LiteralsFit, body_id_of, body_of, FitsUnder, lets_fit, IsLawful, literals_fit}
+use Rattle.hir_plain.specs.Below.{IsLiteral, LiteralsFit, body_id_of, body_of, FitsThere, lets_fit, IsLawful, literals_fit}
 use Rattle.hir_plain.specs.Plain.{is_item, is_item_at, is_callee, stands_right, IsPlainBody}
 use Rattle.hir_facts.specs.PlainBodies.{is_value, is_maybe_value, stmt_has_values, arm_has_values, has_callees, LetFits, LetsFit, LooksPlain}
 use Rattle.hir_raw.specs.Scope.{params_of}
@@ -150,7 +150,7 @@ body_looks_plain raw n b h = record { exprs = h.exprs; pats = h.pats; callees = 
 -- ---- written types
 
 stmt_fits : (raw : RawFacts) (n : ℕ) (b : RawBody)
-    → ((e : ExprId) (i : ℕ) (p : PatId) (t : TypeRefId) (init other : Option ExprId) → stmt_at b e i ≡ Some (stmt.Let p (Some t) init other) → FitsUnder raw n t.0)
+    → ((e : ExprId) (i : ℕ) (p : PatId) (t : TypeRefId) (init other : Option ExprId) → stmt_at b e i ≡ Some (stmt.Let p (Some t) init other) → FitsThere raw n t.0)
     → (e : ExprId) (k : ℕ) (s : RawStmt) → stmt_at b e k ≡ Some s → LetFits raw n s
 stmt_fits raw n b h e k (stmt.Let p None init other) at = tt
 stmt_fits raw n b h e k (stmt.Let p (Some t) init other) at = h e k p t init other at

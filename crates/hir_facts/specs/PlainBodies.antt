@@ -11,7 +11,7 @@ use Rattle.hir_raw.specs.declared.raw.RawExpr.TheVariants as expr
 use Rattle.hir_raw.specs.declared.raw.RawBody.{RawBody}
 use Rattle.hir_raw.specs.declared.raw.RawFacts.{RawFacts}
 use Rattle.hir_raw.specs.Order.{stmts_of}
-use Rattle.hir_plain.specs.Below.{FitsUnder}
+use Rattle.hir_plain.specs.Below.{FitsThere}
 use Rattle.hir_ids.specs.Entries.{AllHold}
 use Rattle.hir_plain.specs.Plain.{is_item_at, IsPlainExpr, IsPlainPat}
 
@@ -47,7 +47,7 @@ has_callees raw b expr.Other = true
 
 abbrev pub WrittenFits : RawFacts → ℕ → Option TypeRefId → Type 0
 WrittenFits raw n None = Unit {0}
-WrittenFits raw n (Some t) = FitsUnder raw n t.0
+WrittenFits raw n (Some t) = FitsThere raw n t.0
 
 -- the written type of a `let` fits under n parameters
 abbrev pub LetFits : RawFacts → ℕ → RawStmt → Type 0

@@ -2,7 +2,7 @@
 ghost use Rattle.std.specs.Prelude.{◌≡◌, ◌↔◌, ◌<◌, ℕ, IfOk, IfErr, IsTrue, Some, slice_get, length};
 ghost use Rattle.hir_raw.specs.declared.raw.RawBody.{RawBody};
 ghost use Rattle.hir_raw.specs.Order.{AreDepths};
-ghost use Rattle.hir_plain.specs.Below.{IsWalkable, HasBody, body_id_of, inputs_of, FitsUnder, IsLawful, tests, Refuses};
+ghost use Rattle.hir_plain.specs.Below.{IsWalkable, HasBody, body_id_of, inputs_of, FitsThere, IsLawful, tests, Refuses};
 ghost use Rattle.hir_raw.specs.Fit.{fits};
 ghost use Rattle.hir_plain.specs.Plain.{IsPlainAdt, IsPlainOver, IsPlainFn};
 ghost use Rattle.hir_facts.specs.Readers.{edition_year, limits_in_order};
@@ -221,7 +221,7 @@ impl Facts {
 
     /// Whether a written type is plain, over parameters under which it fits.
     pub fn is_plain_type(&self, ty: TypeRefId) -> bool
-        ensures { (n : ℕ) → FitsUnder self.now n ty.0 → IsTrue result ↔ IsPlainOver self.now n ty }
+        ensures { (n : ℕ) → FitsThere self.now n ty.0 → IsTrue result ↔ IsPlainOver self.now n ty }
     {
         mark_at(self.plain.nodes.as_slice(), ty.0 as usize)
     }

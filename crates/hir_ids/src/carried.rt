@@ -3,10 +3,10 @@ ghost use Rattle.std.specs.Prelude.{◌≡◌, length, IsTrue, MatchOption};
 ghost use Rattle.std.specs.List.{list_all};
 ghost use Rattle.hir_ids.specs.Entries.{AllHold, BreaksAt};
 ghost use Rattle.hir_ids.specs.Carried.{is_carried_written_type, is_type_param, is_carried_kind, is_carried_adt, is_carried_ctor, is_carried_variant, is_carried_fn, is_carried_literal, is_carried_path, is_ctor_path, is_carried_stmt, is_carried_expr, is_carried_pat, is_carried_binding, is_carried_body};
-ghost use Rattle.hir_ids.specs.Projections.{AreMarked, VariantIsCarried, BodyIsCarried};
+ghost use Rattle.hir_ids.specs.Projections.{AreMarked, VariantIsCarried};
 
 use crate::carried_goals::carries_goals;
-use crate::projections::{ProjectionMarks, body_names_none, fields_name_none};
+use crate::projections::{ProjectionMarks, fields_name_none};
 use crate::test::Test;
 use hir_raw::{
     BindingAnnotation, RawAdt, RawAdtKind, RawAt, RawBinding, RawBody, RawCtor, RawExpr, RawFacts,
@@ -295,29 +295,25 @@ impl Test for FnsCarried {
     }
 }
 
-/// The nodes and bindings of a body are of carried kinds, it has no `self`, and in no type of a `let`
-/// a projection stands.
-#[derive(Drop)]
-pub struct BodiesCarried<'a> {
-    pub found: &'a ProjectionMarks,
-}
+/// The nodes and bindings of a body are of carried kinds, and it has no `self`.
+pub struct BodiesCarried;
 
-impl<'a> Test for BodiesCarried<'a> {
+impl Test for BodiesCarried {
     type Item = RawBody;
 
     ghost listed = { λ raw. raw.bodies };
 
-    ghost holds = { λ raw i b. BodyIsCarried raw b };
+    ghost holds = { λ raw i b. IsTrue (is_carried_body b) };
 
-    ghost given = { λ raw s. AreMarked raw.types (length raw.types) s.found.now.marks.items };
+    ghost given = { λ raw s. Unit {0} };
 
     fn test(
         &self,
         _alloc: Global,
-        raw: &RawFacts,
+        _raw: &RawFacts,
         _at: usize,
         item: &RawBody,
     ) -> Result<bool, AllocError> {
-        Ok(carries_body(item) && body_names_none(raw, self.found, item))
+        Ok(carries_body(item))
     }
 }

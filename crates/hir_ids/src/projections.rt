@@ -1,14 +1,12 @@
-//! Where projections may stand: in goals, impls and other projections, and in what a function takes or gives.
+//! Where projections may not stand: in fields.
 ghost use Rattle.std.specs.Prelude.{◌≡◌, ◌↔◌, ◌||◌, ℕ, false, get_or, length, IfOk, IsTrue, Some, slice_get};
 ghost use Rattle.std.specs.List.{list_any};
 ghost use Rattle.hir_raw.specs.Hidden.{is_alias};
 ghost use Rattle.hir_raw.specs.WrittenTypes.{type_parts};
 ghost use Rattle.hir_raw.specs.declared.raw.RawField.{RawField};
-ghost use Rattle.hir_raw.specs.declared.raw.RawStmt.{RawStmt};
-ghost use Rattle.hir_raw.specs.Order.{stmts_of};
-ghost use Rattle.hir_ids.specs.Projections.{AreMarked, IsNoProjection, StmtNamesNone, ExprNamesNone, BodyNamesNone};
+ghost use Rattle.hir_ids.specs.Projections.{AreMarked, IsNoProjection};
 
-use hir_raw::{RawBody, RawExpr, RawFacts, RawField, RawStmt, RawType};
+use hir_raw::{RawFacts, RawField, RawType};
 use hir_types::TypeRefId;
 use std::alloc::{AllocError, Global};
 
@@ -74,52 +72,4 @@ pub fn fields_name_none(raw: &RawFacts, found: &ProjectionMarks, fields: &[RawFi
     fields
         .iter()
         .all(|field| is_no_projection(raw, found, field.type_))
-}
-
-fn stmt_names_none(raw: &RawFacts, found: &ProjectionMarks, stmt: &RawStmt) -> bool
-    requires { AreMarked raw.now.types (length raw.now.types) found.now.marks.items }
-    ensures { IsTrue result ↔ StmtNamesNone raw.now stmt.now }
-{
-    match stmt {
-        RawStmt::Let { type_ref, .. } => match type_ref {
-            None => true,
-            Some(ty) => is_no_projection(raw, found, *ty),
-        },
-        RawStmt::Expr { .. } => true,
-    }
-}
-
-/// The statements of an expression, where it is a block.
-pub fn stmts_of(expr: &RawExpr) -> &[RawStmt]
-    ensures { result.now ≡ stmts_of (Some expr.now) }
-{
-    match expr {
-        RawExpr::Block { statements, .. } => statements.as_slice(),
-        _ => &[],
-    }
-}
-
-fn stmts_name_none(raw: &RawFacts, found: &ProjectionMarks, stmts: &[RawStmt]) -> bool
-    requires { AreMarked raw.now.types (length raw.now.types) found.now.marks.items }
-    ensures { IsTrue result ↔ ((k : ℕ) (s : RawStmt) → slice_get stmts.now k ≡ Some s → StmtNamesNone raw.now s) }
-{
-    stmts.iter().all(|stmt| stmt_names_none(raw, found, stmt))
-}
-
-fn expr_names_none(raw: &RawFacts, found: &ProjectionMarks, expr: &RawExpr) -> bool
-    requires { AreMarked raw.now.types (length raw.now.types) found.now.marks.items }
-    ensures { IsTrue result ↔ ExprNamesNone raw.now expr.now }
-{
-    stmts_name_none(raw, found, stmts_of(expr))
-}
-
-/// Whether no `let` of a body is written with a projection.
-pub fn body_names_none(raw: &RawFacts, found: &ProjectionMarks, body: &RawBody) -> bool
-    requires { AreMarked raw.now.types (length raw.now.types) found.now.marks.items }
-    ensures { IsTrue result ↔ BodyNamesNone raw.now body.now }
-{
-    body.exprs
-        .as_slice()
-        .iter()
-        .all(|expr| expr_names_none(raw, found, expr))
 }

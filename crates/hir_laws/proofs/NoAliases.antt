@@ -28,7 +28,7 @@ module _ (raw : RawFacts) (law : IsLawful raw) where
   by_type f none i free None is = refl
   by_type f none i free (Some x) is = ap (λ b. if b then i ∷ [] else flat_map (λ w. f w.0) (type_parts x)) (direct_here raw i x is free) ∙ in_parts f none i x is free
 
-  none_within : (n i : ℕ) → IsNoProjection raw i → aliases_within n raw.types i ≡ []
+  pub none_within : (n i : ℕ) → IsNoProjection raw i → aliases_within n raw.types i ≡ []
   none_within zero i free = refl
   none_within (suc n) i free = by_type (aliases_within n raw.types) (λ j h. none_within n j h) i free (slice_get raw.types i) refl
 

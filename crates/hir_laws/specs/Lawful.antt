@@ -6,8 +6,8 @@ use Rattle.hir_laws.specs.declared.laws.Law.TheVariants as law
 use Rattle.hir_laws.specs.declared.laws.FactsList.{FactsList}
 use Rattle.hir_laws.specs.declared.laws.FactsList.TheVariants as list
 use Rattle.hir_ids.specs.Entries.{AllHold, BreaksAt}
-use Rattle.hir_ids.specs.Carried.{is_carried_written_type, is_carried_adt, is_carried_trait, is_carried_alias, is_carried_impl, is_carried_lang, is_carried_fn}
-use Rattle.hir_ids.specs.Projections.{VariantIsCarried, BodyIsCarried}
+use Rattle.hir_ids.specs.Carried.{is_carried_written_type, is_carried_adt, is_carried_trait, is_carried_alias, is_carried_impl, is_carried_lang, is_carried_fn, is_carried_body}
+use Rattle.hir_ids.specs.Projections.{VariantIsCarried}
 use Rattle.hir_ids.specs.GoalIds.{TraitIdsExist, AliasIdsExist, ImplIdsExist, LangExists}
 use Rattle.hir_ids.specs.Ids.{TypeIdsExist, ParentBefore, AdtIdsExist, VariantIdsExist, FnIdsExist, BodyIdsExist}
 use Rattle.hir_counts.specs.Counts.{AdtFits, VariantFits, FnFits, TraitFits, AliasFits, ImplFits}
@@ -45,7 +45,7 @@ carried_at S raw list.Aliases = S _ (λ i a. IsTrue (is_carried_alias a)) raw.al
 carried_at S raw list.Impls = S _ (λ i p. IsTrue (is_carried_impl p)) raw.impls
 carried_at S raw list.Opaques = S _ none_carried raw.opaques
 carried_at S raw list.Lang = S _ (λ i l. IsTrue (is_carried_lang l)) raw.lang
-carried_at S raw list.Bodies = S _ (λ i b. BodyIsCarried raw b) raw.bodies
+carried_at S raw list.Bodies = S _ (λ i b. IsTrue (is_carried_body b)) raw.bodies
 carried_at S raw list.Limits = S _ all_hold (limits_of raw)
 
 abbrev ids_at : Saying → RawFacts → FactsList → Type 0

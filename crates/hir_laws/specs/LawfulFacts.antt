@@ -3,7 +3,7 @@ use Rattle.std.specs.Prelude.{IsTrue}
 use Rattle.hir_raw.specs.declared.raw.RawFacts.{RawFacts}
 use Rattle.hir_ids.specs.Entries.{AllHold}
 use Rattle.hir_ids.specs.Carried.{is_carried_written_type, is_carried_variant, is_carried_fn, is_carried_body}
-use Rattle.hir_ids.specs.Projections.{VariantIsCarried, BodyIsCarried}
+use Rattle.hir_ids.specs.Projections.{VariantIsCarried}
 use Rattle.hir_ids.specs.Ids.{ChildrenBefore, TypeIdsExist, AdtIdsExist, VariantIdsExist, FnIdsExist, BodyIdsExist}
 use Rattle.hir_counts.specs.Counts.{CountsFit, VariantFits, FnFits}
 use Rattle.hir_laws.specs.Trees.{IsWellFormed}
@@ -25,11 +25,8 @@ variants_carried raw law i v found = (carried_variants raw law i v found).kind
 pub fns_carried : (raw : RawFacts) → IsLawful raw → AllHold (λ i f. IsTrue (is_carried_fn f)) raw.fns
 fns_carried raw law = law.all.1.1.1.0
 
-pub carried_bodies : (raw : RawFacts) → IsLawful raw → AllHold (λ i b. BodyIsCarried raw b) raw.bodies
-carried_bodies raw law = law.all.1.1.1.1.1.1.1.1.1.1.1.0
-
 pub bodies_carried : (raw : RawFacts) → IsLawful raw → AllHold (λ i b. IsTrue (is_carried_body b)) raw.bodies
-bodies_carried raw law i b found = (carried_bodies raw law i b found).kinds
+bodies_carried raw law = law.all.1.1.1.1.1.1.1.1.1.1.1.0
 
 pub type_ids_exist : (raw : RawFacts) → IsLawful raw → AllHold (TypeIdsExist raw) raw.types
 type_ids_exist raw law = law.all.1.1.1.1.1.1.1.1.1.1.1.1.0

@@ -13,5 +13,6 @@ pub mod Bodies
 pub mod LawfulFacts
 pub mod NoHoles
 pub mod WrittenFits
+pub mod LetFits
 pub mod Lang
 pub mod Below

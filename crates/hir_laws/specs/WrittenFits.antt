@@ -1,5 +1,5 @@
 -- Each written type that bodies read fits under the parameters of its definition: arguments are as many as the parameters of
--- what they stand at, parameters are in range, and no projection stands in it, but in what a function takes or gives.
+-- what they stand at, parameters are in range, and no projection stands in it, but in what a function takes or gives and in types of `let`s.
 use Rattle.std.specs.Prelude.{◌≡◌, ◌<◌, ◌≤◌, ◌==◌, ℕ, Bool, true, false, List, length, slice_get, Option, Some, None, option_map, refl, if◌then◌else◌}
 use Rattle.std.specs.Option.{option_and_then}
 use Rattle.std.proofs.Common.{arith, ap, ◌∙◌, subst}
@@ -27,8 +27,8 @@ use Rattle.hir_laws.specs.Bodies.{body_of}
 use Rattle.hir_counts.specs.Standing.{param_bound, wrong_count, wrong_args, params_in, wrongs_in}
 use Rattle.hir_counts.specs.Counts.{TypeFits, ExprFits, BodyFits, MaybeBodyFits, body_at, param_count}
 use Rattle.hir_laws.specs.Lawful.{IsLawful}
-use Rattle.hir_ids.specs.Projections.{is_one, in_part, IsNoProjection, SignatureNamesNone, ExprNamesNone}
-use Rattle.hir_laws.specs.LawfulFacts.{carried_variants, carried_bodies, type_ids, variant_ids, variants_fit, fn_ids, fns_fit, body_ids}
+use Rattle.hir_ids.specs.Projections.{is_one, in_part, IsNoProjection, SignatureNamesNone}
+use Rattle.hir_laws.specs.LawfulFacts.{carried_variants, type_ids, variant_ids, variants_fit, fn_ids, fns_fit, body_ids}
 use Rattle.hir_counts.specs.Most.{own_most, part_most}
 
 -- type t of the facts fits under this many parameters
@@ -157,30 +157,24 @@ let_by : (b w : ℕ → ℕ) (count : ℕ) (o : Option RawExpr) → ((x : RawExp
 let_by b w count None h i p t init other found = absurd (cc)
 let_by b w count (Some x) h i p t init other found = (h x refl).each i (stmt.Let p (Some t) init other) found
 
-let_direct : (raw : RawFacts) (o : Option RawExpr) → ((x : RawExpr) → o ≡ Some x → ExprNamesNone raw x)
-    → (i : ℕ) (p : PatId) (t : TypeRefId) (init other : Option ExprId) → slice_get (stmts_of o) i ≡ Some (stmt.Let p (Some t) init other) → IsNoProjection raw t.0
-let_direct raw None h i p t init other found = absurd (cc)
-let_direct raw (Some x) h i p t init other found = (h x refl).each i (stmt.Let p (Some t) init other) found
-
 let_in : (raw : RawFacts) → IsLawful raw → (f : ℕ) (x : RawFn) → slice_get raw.fns f ≡ Some x → (o : Option BodyId) (b : RawBody) → x.body ≡ o → option_and_then (λ i. slice_get raw.bodies i.0) o ≡ Some b
-    → (e : ExprId) (i : ℕ) (p : PatId) (t : TypeRefId) (init other : Option ExprId) → stmt_at b e i ≡ Some (stmt.Let p (Some t) init other) → FitsUnder raw (length x.params) t.0
+    → (e : ExprId) (i : ℕ) (p : PatId) (t : TypeRefId) (init other : Option ExprId) → stmt_at b e i ≡ Some (stmt.Let p (Some t) init other) → FitsThere raw (length x.params) t.0
 let_in raw law f x found None b is here e i p t init other at = absurd (cc)
 let_in raw law f x found (Some n) b is here e i p t init other at =
     let fit : MaybeBodyFits (params_in raw) (wrongs_in raw) (length x.params) (body_at raw x.body) = (fns_fit raw law f x found).body in
     let own : body_at raw x.body ≡ Some b = ap (λ (q : Option BodyId). body_at raw q) is ∙ here in
     let whole : BodyFits (params_in raw) (wrongs_in raw) (length x.params) b = subst (λ (q : Option RawBody). MaybeBodyFits (params_in raw) (wrongs_in raw) (length x.params) q) own fit in
-    fits_under raw (length x.params) t ((body_ids raw law n.0 b here).written e i p t init other at)
-    (let_direct raw (slice_get b.exprs e.0) (λ y is. (carried_bodies raw law n.0 b here).types e.0 y is) i p t init other at)
-    (let_by (params_in raw) (wrongs_in raw) (length x.params) (slice_get b.exprs e.0) (λ y is. whole e.0 y is) i p t init other at)
+    let fits : TypeFits (params_in raw) (wrongs_in raw) (length x.params) t = let_by (params_in raw) (wrongs_in raw) (length x.params) (slice_get b.exprs e.0) (λ y is. whole e.0 y is) i p t init other at in
+    record { within = (body_ids raw law n.0 b here).written e i p t init other at; params = fits.0; args = fits.1 }
 
 let_at : (raw : RawFacts) → IsLawful raw → (f : ℕ) (o : Option RawFn) (b : RawBody) → slice_get raw.fns f ≡ o → option_and_then (λ i. slice_get raw.bodies i.0) (option_and_then (λ x. x.body) o) ≡ Some b
     → (e : ExprId) (i : ℕ) (p : PatId) (t : TypeRefId) (init other : Option ExprId) → stmt_at b e i ≡ Some (stmt.Let p (Some t) init other)
-    → FitsUnder raw (count_or_none (option_map (λ x. length x.params) o)) t.0
+    → FitsThere raw (count_or_none (option_map (λ x. length x.params) o)) t.0
 let_at raw law f None b found here e i p t init other at = absurd (cc)
 let_at raw law f (Some x) b found here e i p t init other at = let_in raw law f x found x.body b refl here e i p t init other at
 
 pub lets_fit : (raw : RawFacts) → IsLawful raw → (d : DefWithBodyId) (b : RawBody) → body_of raw d ≡ Some b
-    → (e : ExprId) (i : ℕ) (p : PatId) (t : TypeRefId) (init other : Option ExprId) → stmt_at b e i ≡ Some (stmt.Let p (Some t) init other) → FitsUnder raw (params_of raw d) t.0
+    → (e : ExprId) (i : ℕ) (p : PatId) (t : TypeRefId) (init other : Option ExprId) → stmt_at b e i ≡ Some (stmt.Let p (Some t) init other) → FitsThere raw (params_of raw d) t.0
 lets_fit raw law (def.FunctionId f) b here e i p t init other at = let_at raw law f.0 (slice_get raw.fns f.0) b refl here e i p t init other at
 lets_fit raw law (def.ConstId c) b here e i p t init other at = absurd (cc)
 lets_fit raw law (def.StaticId s) b here e i p t init other at = absurd (cc)

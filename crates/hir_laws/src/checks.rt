@@ -88,9 +88,7 @@ fn check_bodies(alloc: Global, raw: &RawFacts) -> Result<(), FactsError>
     ensures ok { IfOk result (λ _. PassesAll raw.now body_tests) }
     ensures err { IfErr result (λ e. Refuses raw.now body_tests e) }
 {
-    let found = ProjectionMarks::new(alloc, raw)?;
-    let test = BodiesCarried { found: &found };
-    let bodies = first_broken(alloc, &test, raw, raw.bodies.as_slice())?;
+    let bodies = first_broken(alloc, &BodiesCarried, raw, raw.bodies.as_slice())?;
     allow(Law::Carried, FactsList::Bodies, bodies)?;
     Ok(())
 }

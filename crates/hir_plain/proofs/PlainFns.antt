@@ -21,11 +21,11 @@ use Rattle.hir_plain.specs.PlainMarks.{ArePlainNodes, HasMarkedSignature, ArePla
 
 -- ---- a plain signature names no projection
 
-kind_direct : (raw : RawFacts) (P : ℕ → Type 0) (n : ℕ) (x : RawType) → IsPlainKind raw P n x → is_alias x ≡ false
+pub kind_direct : (raw : RawFacts) (P : ℕ → Type 0) (n : ℕ) (x : RawType) → IsPlainKind raw P n x → is_alias x ≡ false
 kind_direct raw P n (type.Projection a ts) h = absurd h
 kind_direct raw P n _ h = refl
 
-type_direct : (raw : RawFacts) (P : ℕ → Type 0) (n t : ℕ) → IsPlainType raw P n t → IsNoProjection raw t
+pub type_direct : (raw : RawFacts) (P : ℕ → Type 0) (n t : ℕ) → IsPlainType raw P n t → IsNoProjection raw t
 type_direct raw P n t (plain _ x found own parts) (is_one _ y at alias) =
     let same : y ≡ x = (let both : Some y ≡ Some x = sym at ∙ found in cc) in
     true≢false (sym alias ∙ (ap is_alias same ∙ kind_direct raw P n x own))

@@ -8,4 +8,4 @@ pub use Rattle.hir_laws.specs.Literals.{IsLiteral, LiteralsFit}
 pub use Rattle.hir_laws.specs.NoHoles.{output_has_no_hole, field_has_no_hole, definition_input_has_no_hole, In, in_flat, type_there}
 pub use Rattle.hir_laws.specs.Refused.{Refuses}
 pub use Rattle.hir_laws.specs.Scheduled.{AreSchedules}
-pub use Rattle.hir_laws.specs.WrittenFits.{FitsUnder, lets_fit, fits_there, OwnFits, own_fits, parts_fit}
+pub use Rattle.hir_laws.specs.WrittenFits.{FitsThere, FitsUnder, lets_fit, OwnFits, own_fits, parts_fit}

@@ -2,6 +2,8 @@ pub mod WrittenTypes
 pub mod Hidden
 pub mod Opened
 pub mod Order
+pub mod Lets
+pub mod Masked
 pub mod Scope
 pub mod Fit
 pub mod Fitting

@@ -1,5 +1,5 @@
 -- What the types of a definition may name: the items of the facts, and the definition's own parameters.
-use Rattle.std.specs.Prelude.{ℕ, ◌+◌, Bool, false, not, ◌==◌, List, length, slice_get, Option, Some, None, option_map}
+use Rattle.std.specs.Prelude.{ℕ, ◌+◌, Bool, false, not, ◌||◌, ◌==◌, List, length, slice_get, Option, Some, None, option_map}
 use Rattle.std.specs.Option.{option_and_then}
 use Rattle.std.specs.List.{list_any}
 use Rattle.hir_types.specs.declared.ids.AdtId.{AdtId}
@@ -112,13 +112,18 @@ is_size_goal raw (goal.Projection a xs t) = false
 abbrev pub states_more : RawFacts → RawFn → Bool
 states_more raw f = list_any (λ g. not (is_size_goal raw g)) f.preds
 
-abbrev pub states_more_by : RawFacts → Option RawFn → Bool
-states_more_by raw None = false
-states_more_by raw (Some f) = states_more raw f
+-- associated types stand in what the function takes or gives
+abbrev pub names_alias : RawFacts → RawFn → Bool
+names_alias raw f = not (length (fn_aliases raw.types f) == 0)
 
--- Whether associated types that stay may be types in the body of a definition: what it states is what they come of. So no plain body has any.
+abbrev pub has_associated_by : RawFacts → Option RawFn → Bool
+has_associated_by raw None = false
+has_associated_by raw (Some f) = states_more raw f || names_alias raw f
+
+-- Whether associated types that stay may be types in the body of a definition: what it states, takes and gives is what they come of. So no
+-- plain body has any.
 abbrev pub has_associated : RawFacts → DefWithBodyId → Bool
-has_associated raw (def.FunctionId f) = states_more_by raw (slice_get raw.fns f.0)
+has_associated raw (def.FunctionId f) = has_associated_by raw (slice_get raw.fns f.0)
 has_associated raw _ = false
 
 abbrev pub scope_of : RawFacts → DefWithBodyId → Scope

@@ -7,8 +7,9 @@ use crate::raw::{RawFn, RawType};
 use hir_types::TypeRefId;
 use std::alloc::{AllocError, Global};
 
+/// The associated types that stand outermost in a type whose parts are at most so many steps below it, in order.
 #[cycle(push)]
-fn push_aliases(
+pub fn push_aliases(
     types: &[RawType],
     steps: usize,
     ty: usize,

@@ -5,6 +5,7 @@
 mod fit;
 mod graph;
 mod hidden;
+mod lets;
 mod parts;
 mod raw;
 mod schedule;
@@ -12,6 +13,7 @@ mod scope;
 
 pub use fit::ty_fits;
 pub use hidden::{fn_aliases, fn_arity};
+pub use lets::{let_aliases, stmts_of};
 pub use raw::{
     BindingAnnotation, Edition, HasGoals, Other, RawAdt, RawAdtKind, RawAlias, RawArgs, RawArm,
     RawAssocType, RawAt, RawBinding, RawBody, RawCtor, RawExpr, RawFacts, RawField, RawFn, RawGoal,

@@ -2,7 +2,7 @@
 ghost use Rattle.std.specs.Prelude.{◌≡◌, slice_get};
 ghost use Rattle.std.specs.List.{list_any};
 ghost use Rattle.hir_raw.specs.Goals.{is_sized_lang};
-ghost use Rattle.hir_raw.specs.Scope.{fn_params, adt_params, callable_params, has_params, params_in_trait, alias_params_by, params_of_item, generic_params, is_size_goal, states_more, states_more_by, has_associated};
+ghost use Rattle.hir_raw.specs.Scope.{fn_params, adt_params, callable_params, has_params, params_in_trait, alias_params_by, params_of_item, generic_params, is_size_goal, states_more, names_alias, has_associated};
 ghost use Rattle.hir_types.specs.declared.ids.GenericDefId.TheVariants as generic;
 
 use crate::hidden::less_fn_aliases;
@@ -145,14 +145,20 @@ fn states_more(raw: &RawFacts, function: &RawFn) -> bool
         .any(|goal| !is_size_goal(raw, goal))
 }
 
+fn names_alias(raw: &RawFacts, function: &RawFn) -> bool
+    ensures { result ≡ names_alias raw.now function.now }
+{
+    less_fn_aliases(raw.types.as_slice(), function, 0).is_none()
+}
+
 /// Whether associated types that stay may be types in the body of a definition: its function states more
-/// than that types have a size.
+/// than that types have a size, or takes or gives some.
 pub fn has_associated(raw: &RawFacts, owner: DefWithBodyId) -> bool
     ensures { result ≡ has_associated raw.now owner }
 {
     match owner {
         DefWithBodyId::FunctionId(function) => match raw.fns.get(function.0 as usize) {
-            Some(function) => states_more(raw, function),
+            Some(function) => states_more(raw, function) || names_alias(raw, function),
             None => false,
         },
         _ => false,

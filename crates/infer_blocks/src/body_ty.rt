@@ -3,15 +3,15 @@ ghost use Rattle.std.specs.Prelude.{◌≡◌, IfOk, OnOk, map};
 ghost use Rattle.hir_types.specs.declared.ty.GenericArg.TheVariants as arg;
 ghost use Rattle.infer_result.specs.Places.{declared, IsPlaceholder};
 ghost use Rattle.infer_ctx.specs.Context.{given_of, schedule_of};
-ghost use Rattle.infer_blocks.specs.BodyTypes.{BeforeBodyTy, BodyTyDone, BeforePartTy, BeforePartTys, PartTyDone, PartTysDone, PlaceholderTyDone};
+ghost use Rattle.infer_blocks.specs.BodyTypes.{BeforeBodyTy, BodyTyDone, BeforePartTy, BeforePartTys, PartTyDone, PartTysDone, PlaceholderTyDone, IsFirstTy};
 
 use hir_facts::{List, RawType, Ty, TypeRefId};
 use hir_types::GenericArg;
 use infer_ctx::{GivenBody, InferenceContext};
 use std::alloc::{AllocError, Global};
 
-/// The type that the written type of a `let` stands for, at a new hole for each `_` in it:
-/// `infer.rs`, `make_body_ty`.
+/// The type that the written type of a `let` stands for, at a new hole for each `_` in it, and at what is known of each associated type,
+/// or a new hole: `infer.rs`, `make_body_ty`.
 pub fn make_body_ty(
     alloc: Global,
     context: &mut InferenceContext,
@@ -52,12 +52,8 @@ fn lower_part(
             let args = lower_args(alloc, context, given, args.as_slice())?;
             Ok(Ty::Adt(*adt, args))
         }
-        RawType::Projection { alias, args } => {
-            let args = lower_args(alloc, context, given, args.as_slice())?;
-            Ok(Ty::Projection(*alias, args))
-        }
         RawType::Param(number) => Ok(Ty::Param(*number)),
-        RawType::Hole => {
+        RawType::Projection { .. } | RawType::Hole => {
             let ty = placeholder_ty(alloc, context, given, type_ref)?;
             Ok(ty)
         }
@@ -86,7 +82,7 @@ fn lower_parts(
     Ok(tys)
 }
 
-/// What the arguments of a written adt or projection stand for.
+/// What the arguments of a written adt stand for.
 #[cycle(body_ty)]
 fn lower_args(
     alloc: Global,
@@ -107,8 +103,29 @@ fn lower_args(
     Ok(args)
 }
 
-/// What a `_` stands for: the type that is recorded for it, or else a new hole, which is recorded:
-/// `infer.rs`, the end of `make_ty`.
+/// What a `_` stands for, or an associated type that is read as one, when it is come to first: what the body knows of it, or a new hole.
+fn first_ty(
+    alloc: Global,
+    context: &mut InferenceContext,
+    given: &GivenBody,
+    type_ref: TypeRefId,
+) -> Result<Ty, AllocError>
+    ensures { IfOk result (λ ty. IsFirstTy (given_of given.now) type_ref ty context.old context.new) }
+{
+    match given.alias_ty(type_ref) {
+        Some(ty) => {
+            let ty = ty.dup(alloc)?;
+            Ok(ty)
+        }
+        None => {
+            let ty = context.goals.table.next_ty_var()?;
+            Ok(ty)
+        }
+    }
+}
+
+/// What such a one stands for: the type that is recorded for it, or else what it stands for at first, which is recorded: `infer.rs`, the
+/// end of `make_ty`.
 fn placeholder_ty(
     alloc: Global,
     context: &mut InferenceContext,
@@ -125,7 +142,7 @@ fn placeholder_ty(
             Ok(ty)
         }
         None => {
-            let ty = context.goals.table.next_ty_var()?;
+            let ty = first_ty(alloc, context, given, type_ref)?;
             let recorded = ty.dup(alloc)?;
             context.write_type_placeholder_ty(type_ref, recorded)?;
             Ok(ty)

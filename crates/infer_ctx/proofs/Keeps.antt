@@ -21,7 +21,7 @@ use Rattle.hir_raw.specs.declared.raw.RawPath.TheVariants as path
 use Rattle.hir_raw.specs.declared.raw.RawPat.TheVariants as pat
 use Rattle.infer_result.specs.declared.result.InferenceResult.{InferenceResult}
 use Rattle.infer_result.specs.Table.{PlaceholderTy, HasMismatch, AnyMismatch, WasSeen, mismatch, At, HasTy}
-use Rattle.infer_result.specs.Places.{hole_type, Given, declared, AreRecorded, IsAt, IsAtOrMismatch, MisfitsAs, PatIsAtOrMismatch}
+use Rattle.infer_result.specs.Places.{hole_type, Given, let_types, declared, AreRecorded, IsAt, IsAtOrMismatch, MisfitsAs, PatIsAtOrMismatch}
 use Rattle.infer_result.specs.Kinds.Constructor.{fields_at}
 use Rattle.infer_result.specs.Kinds.Call.{IsCallee, IsInputAt, ArgsRule}
 use Rattle.infer_result.specs.Incoming.{GivesPart, Gives, Incoming}
@@ -122,7 +122,7 @@ module _ (g : Given) (a b : InferenceResult) (x : Extends a b) where
 
   -- and so what the type stands for
   pub declared_kept : (w : TypeRefId) → AreRecorded g a w → declared g a w ≡ declared g b w
-  declared_kept w h = filled_agree (hole_type a) (hole_type b) g.scope.facts.types w (λ k stands.
+  declared_kept w h = filled_agree (hole_type a) (hole_type b) (let_types g) w (λ k stands.
       (let q = h k stands in hole_at a k q.0 q.1 ∙ sym (hole_at b k q.0 (x.placeholders k q.0 q.1))))
 
   let_kept : (p : PatId) (w : Option TypeRefId) (i : Option ExprId) → LetRule (at_or_mismatch g a) g a p w i → LetRule (at_or_mismatch g b) g b p w i

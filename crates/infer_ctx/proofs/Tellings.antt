@@ -39,7 +39,7 @@ use Rattle.hir_raw.specs.declared.raw.RawCtor.TheVariants as ctor
 use Rattle.hir_raw.specs.declared.raw.RawPath.TheVariants as path
 use Rattle.hir_raw.specs.declared.raw.RawExpr.TheVariants as expr
 use Rattle.hir_raw.specs.declared.raw.RawPat.TheVariants as pat
-use Rattle.infer_result.specs.Places.{Given, StandsAt}
+use Rattle.infer_result.specs.Places.{Given, let_types, StandsAt}
 use Rattle.infer_result.specs.Incoming.{IsInput}
 use Rattle.infer_result.specs.Heads.{tuple, outermost_step, HasHead, other, Outermost, HeadOf, of_up, of_tuple, of_function, of_ctor, of_output, of_written as head_of_written, of_initializer as head_of_initializer, of_parameter as head_of_parameter, filled_head}
 use Rattle.infer_result.specs.Kinds.Call.{CallsItem, CallsNonGeneric, IsPathToItem}
@@ -78,12 +78,12 @@ no_types (t ∷ ts) none = absurd (cc)
 
 -- of a path to a binding it is by the place of what binds it
 data LocalUp (g : Given) (e : ExprId) (s : Ty) : Type 0 where
-  by_written : (w : TypeRefId) (init : Option ExprId) → NamesLet g.body e (Some w) init → HasNoHole g.scope.facts.types w → s ≡ written_type g.scope.facts.types w → LocalUp g e s
+  by_written : (w : TypeRefId) (init : Option ExprId) → NamesLet g.body e (Some w) init → HasNoHole (let_types g) w → s ≡ written_type (let_types g) w → LocalUp g e s
   by_initializer : (i : ExprId) → NamesLet g.body e None (Some i) → Up g i s → LocalUp g e s
   by_parameter : (i : ℕ) → NamesParameter g.body e i → IsInput g i s → LocalUp g e s
 
 data LocalHead (g : Given) (e : ExprId) (h : Outermost) : Type 0 where
-  head_by_written : (w : TypeRefId) (init : Option ExprId) → NamesLet g.body e (Some w) init → HasHead (written_type g.scope.facts.types w) h → LocalHead g e h
+  head_by_written : (w : TypeRefId) (init : Option ExprId) → NamesLet g.body e (Some w) init → HasHead (written_type (let_types g) w) h → LocalHead g e h
   head_by_initializer : (i : ExprId) → NamesLet g.body e None (Some i) → HeadOf g i h → LocalHead g e h
   head_by_parameter : (i : ℕ) (s : Ty) → NamesParameter g.body e i → IsInput g i s → HasHead s h → LocalHead g e h
 
@@ -118,7 +118,7 @@ module _ (g : Given) where
 
   up_as : (e : ExprId) (s : Ty) → Up g e s → UpAs g e (At e) s
   up_as m r (of_literal e l s is own) = subst (λ o. UpAs g e o s) (sym is) own
-  up_as m r (of_written e w init n none) = subst (λ o. UpAs g e o (written_type g.scope.facts.types w)) (sym n.names) (by_written w init n none refl)
+  up_as m r (of_written e w init n none) = subst (λ o. UpAs g e o (written_type (let_types g) w)) (sym n.names) (by_written w init n none refl)
   up_as m r (of_initializer e i s n u) = subst (λ o. UpAs g e o s) (sym n.names) (by_initializer i n u)
   up_as m r (of_parameter e i s n is) = subst (λ o. UpAs g e o s) (sym n.names) (by_parameter i n is)
   up_as m r (of_call e σ c) = subst (λ o. UpAs g e o (at_args [] σ.output)) (sym c.is_call) (σ, c, refl)
@@ -304,12 +304,12 @@ module _ (g : Given) (s : Schedule) (law : IsWalkable g.body s) where
       parameter_is i l = role_is l.binding l.pattern the_body i (parameter i) l.names l.binds (param_stands g.body i l.pattern l.stands)
 
       local_type : (u : Ty) → LocalUp g e u → t ≡ u
-      local_type u (by_written w init l none there) = (let (h, here) = let_is (Some w) init l in here ∙ (filled_written h g.scope.facts.types w none ∙ sym there))
+      local_type u (by_written w init l none there) = (let (h, here) = let_is (Some w) init l in here ∙ (filled_written h (let_types g) w none ∙ sym there))
       local_type u (by_initializer i l up) = (let_is None (Some i) l).type u up
       local_type u (by_parameter i l input) = parameter_is i l u input
 
       local_head : (h : Outermost) → LocalHead g e h → HasHead t h
-      local_head h (head_by_written w init l has) = (let (f, here) = let_is (Some w) init l in subst (λ x. HasHead x h) (sym here) (filled_head f g.scope.facts.types w h has))
+      local_head h (head_by_written w init l has) = (let (f, here) = let_is (Some w) init l in subst (λ x. HasHead x h) (sym here) (filled_head f (let_types g) w h has))
       local_head h (head_by_initializer i l has) = (let_is None (Some i) l).head h has
       local_head h (head_by_parameter i u l input has) = subst (λ x. HasHead x h) (sym (parameter_is i l u input)) has
 

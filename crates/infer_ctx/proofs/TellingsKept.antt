@@ -27,7 +27,7 @@ use Rattle.hir_raw.specs.Signatures.{Signature}
 use Rattle.hir_raw.specs.declared.raw.RawLiteral.TheVariants as literal
 use Rattle.infer_result.specs.Heads.{Outermost, tuple, outermost_step, HasHead}
 use Rattle.infer_result.specs.Kinds.Literal.{IsOwnType}
-use Rattle.infer_result.specs.Places.{Given}
+use Rattle.infer_result.specs.Places.{Given, let_types}
 use Rattle.infer_result.specs.Kinds.Call.{CallsNonGeneric}
 use Rattle.infer_result.specs.Upward.{Up, of_literal, of_written, of_initializer, of_parameter, of_call, of_unit}
 use Rattle.infer_ctx.specs.Tells.{Tells}
@@ -82,7 +82,7 @@ literal_closed a literal.Other s own = absurd own
 module _ (g : Given) (inputs : (i : ℕ) (t : Ty) → slice_get g.inputs i ≡ Some (Some t) → (a : Assignment) → folded a t ≡ t) (outputs : (e : ExprId) (σ : Signature) → CallsNonGeneric g e σ → (a : Assignment) → folded a σ.output ≡ σ.output) (a : Assignment) where
   pub up_closed : (e : ExprId) (s : Ty) → Up g e s → folded a s ≡ s
   up_closed m r (of_literal e l s is own) = literal_closed a l s own
-  up_closed m r (of_written e w init n none) = written_closed g.scope.facts.types w none a
+  up_closed m r (of_written e w init n none) = written_closed (let_types g) w none a
   up_closed m r (of_initializer e i s n u) = up_closed i s u
   up_closed m r (of_parameter e i s n found) = inputs i s found a
   up_closed m r (of_call e σ c) = instance_at_types a [] σ.output (outputs e σ c)

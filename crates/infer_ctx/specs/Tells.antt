@@ -9,7 +9,7 @@ use Rattle.hir_raw.specs.Order.{Binds}
 use Rattle.hir_raw.specs.WrittenTypes.{filled_type}
 use Rattle.hir_raw.specs.declared.raw.RawExpr.TheVariants as expr
 use Rattle.hir_raw.specs.declared.raw.RawPath.TheVariants as path
-use Rattle.infer_result.specs.Places.{Given}
+use Rattle.infer_result.specs.Places.{Given, let_types}
 use Rattle.infer_result.specs.Upward.{Up}
 use Rattle.infer_result.specs.Heads.{Outermost, HasHead, HeadOf}
 use Rattle.infer_result.specs.declared.result.InferenceResult.{InferenceResult}
@@ -34,6 +34,6 @@ TellsRecorded g r = (v : BindingId) (t : Ty) → BindingTy r v t → TellsBindin
 
 -- what the type of an initializer, or of a `let` without one, says of its pattern
 abbrev pub TellsLet : Given → Option TypeRefId → Option ExprId → Ty → Type 0
-TellsLet g (Some w) init t = (h : ℕ → Ty) × (t ≡ filled_type h g.scope.facts.types w)
+TellsLet g (Some w) init t = (h : ℕ → Ty) × (t ≡ filled_type h (let_types g) w)
 TellsLet g None (Some e) t = Tells g e t
 TellsLet g None None t = Unit {0}

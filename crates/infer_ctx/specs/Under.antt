@@ -12,7 +12,7 @@ use Rattle.hir_raw.specs.declared.raw.RawFacts.{RawFacts}
 use Rattle.hir_raw.specs.Scope.{callable_params, adt_params, types_scope}
 use Rattle.hir_raw.specs.Signatures.{Signature, signature_of, field_types}
 use Rattle.hir_raw.specs.declared.raw.RawVariant.{RawVariant}
-use Rattle.hir_laws.specs.WrittenFits.{FitsUnder}
+use Rattle.hir_laws.specs.WrittenFits.{FitsThere}
 use Rattle.hir_raw.specs.Order.{stmt_at, end, the_body, Node, Part, IsNode, part_at, Fits}
 use Rattle.hir_raw.specs.declared.schedule.Schedule.{Schedule}
 use Rattle.hir_laws.specs.Bodies.{IsWalkable}
@@ -24,7 +24,7 @@ use Rattle.hir_raw.specs.declared.raw.RawPath.TheVariants as path
 use Rattle.hir_raw.specs.declared.raw.RawStmt.TheVariants as stmt
 use Rattle.infer_result.specs.Closed.{NamesVariant, IsVariantPat}
 use Rattle.infer_result.specs.Places.{Given, IsAtOrMismatch}
-use Rattle.infer_result.specs.Table.{HasTy}
+use Rattle.infer_result.specs.Table.{HasTy, recorded}
 use Rattle.infer_result.specs.declared.result.InferenceResult.{InferenceResult}
 use Rattle.infer_result.specs.Rules.{ObeysOrMismatch}
 use Rattle.infer_ctx.specs.Fine.{IsCarriedIn}
@@ -49,10 +49,12 @@ pub record IsVariant (facts : RawFacts) (v : VariantId) : Type 0 where
   pub fields : (k : ℕ) (t : Ty) → slice_get (field_types facts.types variant) k ≡ Some t → IsCarriedIn (types_scope facts params) t
   pub unnamed : (variant.ctor ≡ ctor.Unit) ⊎ (variant.ctor ≡ ctor.Tuple)
 
--- each type that a `let` of the body is written with is one of the facts', that of a parameter is in scope, each function and constructor that
+-- each type that a `let` of the body is written with is one of the facts', what is known of an associated type in it and the type of a parameter
+-- are in scope, each function and constructor that
 -- is named exists, and so does each item that has a signature
 pub record WrittenExist (g : Given) : Type 0 where
-  pub lets : (e : ExprId) (i : ℕ) (p : PatId) (w : TypeRefId) (init other : Option ExprId) → stmt_at g.body e i ≡ Some (stmt.Let p (Some w) init other) → FitsUnder g.scope.facts g.scope.params w.0
+  pub lets : (e : ExprId) (i : ℕ) (p : PatId) (w : TypeRefId) (init other : Option ExprId) → stmt_at g.body e i ≡ Some (stmt.Let p (Some w) init other) → FitsThere g.scope.facts g.scope.params w.0
+  pub aliases : (k : ℕ) (t : Ty) → recorded g.aliases k ≡ Some t → IsCarriedIn g.scope t
   pub inputs : (i : ℕ) (t : Ty) → slice_get g.inputs i ≡ Some (Some t) → IsCarriedIn g.scope t
   pub functions : (e : ExprId) (f : FunctionId) → slice_get g.body.exprs e.0 ≡ Some (expr.Path (path.Function f)) → IsItem g.scope.facts (callable.FunctionId f)
   pub constructors : (e : ExprId) (v : VariantId) → NamesVariant g.body e v → IsVariant g.scope.facts v

@@ -104,7 +104,7 @@ fn note<T: Drop>(entries: &mut List<Option<T>>, at: u32, entry: T)
 }
 
 /// Records something in a list of what stands at each place, which grows as far as this one.
-fn put<T: Drop>(entries: &mut List<Option<T>>, at: u32, entry: T) -> Result<(), AllocError>
+pub fn put<T: Drop>(entries: &mut List<Option<T>>, at: u32, entry: T) -> Result<(), AllocError>
     ensures { OnOk result (entries.new ≡ put entries.old at entry) }
 {
     let at = at as usize;

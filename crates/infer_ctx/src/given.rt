@@ -1,11 +1,12 @@
 //! What inference of a body reads.
-ghost use Rattle.std.specs.Prelude.{◌≡◌, ◌<◌, IfOk, List, Some, length, map, slice_get};
+ghost use Rattle.std.specs.Prelude.{◌≡◌, ◌<◌, IfOk, List, Some, length, map, option_copied, slice_get};
 ghost use Rattle.hir_raw.specs.WrittenTypes.{written_type};
 ghost use Rattle.hir_raw.specs.Hidden.{fn_aliases};
 ghost use Rattle.hir_raw.specs.Signatures.{fn_types};
 ghost use Rattle.hir_raw.specs.declared.raw.RawFn.{RawFn};
 ghost use Rattle.hir_raw.specs.declared.raw.RawVariant.{RawVariant};
 ghost use Rattle.hir_types.specs.declared.ty.Ty.TheVariants as ty;
+ghost use Rattle.infer_result.specs.Table.{recorded};
 ghost use Rattle.infer_ctx.specs.Context.{expected_type};
 ghost use Rattle.infer_ctx.specs.Callables.{written_at, field_at, IsFnSig, IsCtorSig, IsCallableItem, IsSigOfItem, ItemsAreCallable, IsSigIfItem};
 
@@ -33,6 +34,8 @@ pub struct GivenBody<'a> {
     pub inputs: &'a [Option<Ty>],
     /// The type that the body is typed against, if it knows of one.
     pub return_ty: &'a Option<Ty>,
+    /// What each associated type is that its `let`s are written with, by its number, where the body knows of it.
+    pub aliases: &'a [Option<Ty>],
 }
 
 /// What a callable item takes and gives.
@@ -82,6 +85,13 @@ impl GivenBody<'_> {
         ensures { IfOk result (λ ty. slice_get self.now.inputs.now at ≡ Some ty) }
     {
         dup_known(alloc, &self.inputs[at])
+    }
+
+    /// What an associated type is that a `let` is written with, if the body knows of it.
+    pub fn alias_ty(&self, alias: TypeRefId) -> Option<&Ty>
+        ensures { option_copied result ≡ recorded self.now.aliases.now alias.0 }
+    {
+        self.aliases.get(alias.0 as usize)?.as_ref()
     }
 
     /// What is expected of the root: `infer.rs`, where `infer_body` takes `return_ty`.

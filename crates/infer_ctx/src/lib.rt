@@ -6,6 +6,6 @@ mod expectation;
 mod given;
 mod resolve_all;
 
-pub use context::InferenceContext;
+pub use context::{InferenceContext, put};
 pub use expectation::Expectation;
 pub use given::{CallableSig, GivenBody};

@@ -21,7 +21,7 @@ use Rattle.hir_raw.specs.declared.raw.RawPath.TheVariants as path
 use Rattle.hir_raw.specs.declared.raw.RawPat.TheVariants as pat
 use Rattle.infer_result.specs.Closed.{IsVariantPat}
 use Rattle.infer_result.specs.declared.result.InferenceResult.{InferenceResult}
-use Rattle.infer_result.specs.OwnTypes.{AreOwnTypes}
+use Rattle.infer_result.specs.OwnTypes.{AreOwnTypes, AreLetTypes}
 use Rattle.infer_result.specs.Made.{IsMade}
 use Rattle.infer_result.proofs.Derived.{typed_by_schedule}
 use Rattle.infer_result.specs.TypesFit.{TypesFit, SeenFit}
@@ -33,7 +33,7 @@ use Rattle.infer_table.specs.Table.{State, new_state}
 use Rattle.infer_ctx.specs.Context.{IsCarriedExpectation}
 use Rattle.infer_ctx.specs.Fine.{IsFineExpectation}
 use Rattle.infer_ctx.proofs.OverTypes.{carried_fine}
-use Rattle.infer_end.proofs.OwnIn.{own_input_in, own_output_in, own_count}
+use Rattle.infer_end.proofs.OwnIn.{alias_in, own_input_in, own_output_in, own_count}
 
 pub found_body : (raw : RawFacts) (d : DefWithBodyId) (i : BodyId) (b : RawBody) → body_id_of raw d ≡ Some i → slice_get raw.bodies i.0 ≡ Some b → body_of raw d ≡ Some b
 found_body raw d i b id at = ap (λ o. option_and_then (λ k. slice_get raw.bodies k.0) o) id ∙ at
@@ -47,9 +47,10 @@ pattern_variant raw i b ids p v (inl is) = ids.pat_names p.0 (pat.Path (path.Cto
 pattern_variant raw i b ids p v (inr is) = ids.pat_names p.0 (pat.TupleStruct v is.0) is.1
 
 module _ (raw : RawFacts) (d : DefWithBodyId) (i : BodyId) (b : RawBody) (inputs : List (Option Ty)) (output : Option Ty) (law : IsLawful raw) (id : body_id_of raw d ≡ Some i) (at : slice_get raw.bodies i.0 ≡ Some b) (own : AreOwnTypes raw d inputs output) where
-  pub written_exist : WrittenExist (given_by raw d b inputs output)
-  written_exist = record {
+  pub written_exist : (aliases : List (Option Ty)) → AreLetTypes raw d b aliases → WrittenExist (given_by raw d b inputs output aliases)
+  written_exist aliases lets = record {
     lets = λ e k p w init other is. lets_fit raw law d b (found_body raw d i b id at) e k p w init other is;
+    aliases = alias_in raw d b aliases lets;
     inputs = own_input_in raw law d i id inputs output own;
     functions = λ e f is. named_function raw law f ((body_ids raw law i.0 b at).functions e f is);
     constructors = λ e v is. (let x = variant_there raw v ((body_ids raw law i.0 b at).constructors e v is) in named_variant raw law v x.0 x.1);
@@ -71,14 +72,16 @@ module _ (raw : RawFacts) (d : DefWithBodyId) (i : BodyId) (b : RawBody) (inputs
   pub output_fine : (state : State) → IsFineExpectation (scope_of raw d) state output
   output_fine state = (output_by output refl state).1
 
-pub table_of : (raw : RawFacts) (d : DefWithBodyId) (i : BodyId) (b : RawBody) (s : Schedule) (inputs : List (Option Ty)) (output : Option Ty) (r : InferenceResult) → body_id_of raw d ≡ Some i → slice_get raw.bodies i.0 ≡ Some b → IsWalkable b s → AreOwnTypes raw d inputs output → IsMade (given_by raw d b inputs output) r → TypesFit raw d r → SeenFit raw d r → IsTableOf raw d r
-table_of raw d i b s inputs output r id at law own made fit seen_fit = record {
+pub table_of : (raw : RawFacts) (d : DefWithBodyId) (i : BodyId) (b : RawBody) (s : Schedule) (inputs : List (Option Ty)) (output : Option Ty) (aliases : List (Option Ty)) (r : InferenceResult) → body_id_of raw d ≡ Some i → slice_get raw.bodies i.0 ≡ Some b → IsWalkable b s → AreOwnTypes raw d inputs output → AreLetTypes raw d b aliases → IsMade (given_by raw d b inputs output aliases) r → TypesFit raw d r → SeenFit raw d r → IsTableOf raw d r
+table_of raw d i b s inputs output aliases r id at law own lets made fit seen_fit = record {
   body = b;
   is_body = found_body raw d i b id at;
   inputs = inputs;
   output = output;
   own = own;
-  typed = typed_by_schedule (given_by raw d b inputs output) r s law.schedule made;
+  aliases = aliases;
+  lets = lets;
+  typed = typed_by_schedule (given_by raw d b inputs output aliases) r s law.schedule made;
   fit = fit;
   seen_fit = seen_fit;
 }

@@ -29,7 +29,7 @@ use Rattle.infer_result.specs.declared.result.General.{General}
 use Rattle.infer_result.specs.declared.result.InferenceResult.{InferenceResult}
 use Rattle.infer_result.specs.Closed.{AllTypes, AllSeen}
 use Rattle.infer_result.specs.Made.{IsMade}
-use Rattle.infer_result.specs.OwnTypes.{AreOwnTypes}
+use Rattle.infer_result.specs.OwnTypes.{AreOwnTypes, AreLetTypes}
 use Rattle.infer_result.specs.Places.{Given, IsAtMaybeOrMismatch}
 use Rattle.infer_result.specs.Needs.{with_goals}
 use Rattle.infer_result.specs.Table.{At, HasTy}
@@ -62,7 +62,7 @@ use Rattle.infer_end.proofs.Definitions.{found_body, table_of}
 use Rattle.infer_end.proofs.OwnIn.{plain_names_none}
 use Rattle.infer_end.proofs.Fits.{completed_table_fits, fine_fits, seen_fits}
 use Rattle.infer_end.proofs.GeneralTypes.{fine_general, fine_known, chosen, chosen_heads, chosen_closes, known_heads}
-use Rattle.infer_end.proofs.PlainBodies.{plain_body, no_placeholder, calls_item, none_plain}
+use Rattle.infer_end.proofs.PlainBodies.{plain_body, no_placeholder, calls_item, none_plain, no_let_aliases}
 use Rattle.infer_end.proofs.PlainGoals.{plain_needs}
 
 -- ---- a table with other types before fallback, other proofs and other gaps
@@ -233,10 +233,10 @@ none_under : {A B : Type 0} (f f' : A → B) (xs : List (Option A)) → HasNone 
 none_under f f' xs h n y at = (let q = At-unclosed f' xs n y at in h n (f q.0) (At-closed f xs n q.0 q.1))
 
 -- ---- the table of a definition
-module _ (raw : RawFacts) (d : DefWithBodyId) (i : BodyId) (b : RawBody) (s : Schedule) (inputs : List (Option Ty)) (output : Option Ty) (id : body_id_of raw d ≡ Some i) (at : slice_get raw.bodies i.0 ≡ Some b) (law : IsWalkable b s) (own : AreOwnTypes raw d inputs output) (c : InferenceContext) (done : BodyDone (given_by raw d b inputs output) c)
+module _ (raw : RawFacts) (d : DefWithBodyId) (i : BodyId) (b : RawBody) (s : Schedule) (inputs : List (Option Ty)) (output : Option Ty) (aliases : List (Option Ty)) (id : body_id_of raw d ≡ Some i) (at : slice_get raw.bodies i.0 ≡ Some b) (law : IsWalkable b s) (own : AreOwnTypes raw d inputs output) (lets : AreLetTypes raw d b aliases) (c : InferenceContext) (done : BodyDone (given_by raw d b inputs output aliases) c)
     (lawful : IsLawful raw) (ps : List Proof) (js : List (Ty × Ty)) (gs : List (List Gap)) where
   abbrev g : Given
-  g = given_by raw d b inputs output
+  g = given_by raw d b inputs output aliases
 
   abbrev sc : Scope
   sc = scope_of raw d
@@ -255,7 +255,7 @@ module _ (raw : RawFacts) (d : DefWithBodyId) (i : BodyId) (b : RawBody) (s : Sc
     completed_table : (o : Option General) → IsTableOf raw d (closed_table (completion c.goals.table) c.asked (result_with o))
     completed_table o =
         let r : InferenceResult = closed_table (completion c.goals.table) c.asked c.result in
-        table_of raw d i b s inputs output (closed_table (completion c.goals.table) c.asked (result_with o)) id at law own (made_other r o ps js gs g (done.made (completion c.goals.table) completes)) (all_types_other r o ps js gs _ (completed_table_fits sc c done.sound)) (seen_still_fit (completion c.goals.table) o)
+        table_of raw d i b s inputs output aliases (closed_table (completion c.goals.table) c.asked (result_with o)) id at law own lets (made_other r o ps js gs g (done.made (completion c.goals.table) completes)) (all_types_other r o ps js gs _ (completed_table_fits sc c done.sound)) (seen_still_fit (completion c.goals.table) o)
 
     -- ---- of a plain body
 
@@ -279,7 +279,7 @@ module _ (raw : RawFacts) (d : DefWithBodyId) (i : BodyId) (b : RawBody) (s : Sc
       no_placeholders : (a : Assignment) → HasNone (closed_types a c.result.type_of_placeholder)
       no_placeholders a n t there =
           (let q = At-unclosed (folded a) c.result.type_of_placeholder n t there in
-          no_placeholder raw (params_of raw d) b is_plain g n refl refl ((done.made (completion c.goals.table) completes).shape.placeholders n _ (At-closed (folded (completion c.goals.table)) c.result.type_of_placeholder n q.0 q.1)))
+          no_placeholder raw (params_of raw d) b is_plain g n refl refl ((done.made (completion c.goals.table) completes).shape.placeholders n _ (At-closed (folded (completion c.goals.table)) c.result.type_of_placeholder n q.0 q.1)).0)
 
       said_nothing : (a : Assignment) → said a c.result.seen c.result.expr_diagnostics ≡ c.result.expr_diagnostics
       said_nothing a = ap (λ l. said a l c.result.expr_diagnostics) nothing_seen
@@ -333,12 +333,12 @@ module _ (raw : RawFacts) (d : DefWithBodyId) (i : BodyId) (b : RawBody) (s : Sc
         other_is_table : IsTableOf raw d other_table
         other_is_table =
             let r : InferenceResult = closed_table q c.asked c.result in
-            table_of raw d i b s inputs output other_table id at law own (made_other r (Some x) ps js gs g (done.made q at_q)) (all_types_so _ _ other_table (fine_fits sc) other_heads) (seen_still_fit q (Some x))
+            table_of raw d i b s inputs output aliases other_table id at law own lets (made_other r (Some x) ps js gs g (done.made q at_q)) (all_types_so _ _ other_table (fine_fits sc) other_heads) (seen_still_fit q (Some x))
 
         other_derives : IsDerivation raw d other_table
         other_derives =
             let h = other_is_table in
-            derivation_of raw d other_table h (plain_names_none raw lawful d plain) (all_types_so _ _ other_table (fine_known sc) other_heads) other_clean (λ obeys. plain_needs raw lawful h.body other_table d plain h.is_body obeys other_carried)
+            derivation_of raw d other_table h (plain_names_none raw lawful d plain) (no_let_aliases raw (params_of raw d) h.body (plain_body raw d h.body plain h.is_body) lawful) (all_types_so _ _ other_table (fine_known sc) other_heads) other_clean (λ obeys. plain_needs raw lawful h.body other_table d plain h.is_body obeys other_carried)
 
         -- it is the table with these types in the place of its own
         is_closed_by : other_table ≡ closed_by a x table
@@ -377,7 +377,7 @@ module _ (raw : RawFacts) (d : DefWithBodyId) (i : BodyId) (b : RawBody) (s : Sc
       general_of : (ts : List (Option Ty)) (us : List Ty) → AreResolved c.goals.table ts us → ((n : ℕ) (t : Ty) → At ts n t → IsFine sc c.goals.table t) → AreGeneralTypes sc us
       general_of ts us e fine n u there =
           (let k = from_recorded c.goals.table ts us n u e there in
-          subst (λ t. IsGeneralType sc t) k.2 (fine_general sc (none_plain raw d plain) (resolved_type c.goals.table k.0) (known_heads sc c done.sound k.0 (fine n k.0 k.1).heads)))
+          subst (λ t. IsGeneralType sc t) k.2 (fine_general sc (none_plain raw lawful d plain) (resolved_type c.goals.table k.0) (known_heads sc c done.sound k.0 (fine n k.0 k.1).heads)))
 
       pub general_types : IsGeneralOf raw d table x
       general_types =
@@ -445,22 +445,22 @@ pub keeps_goals : (raw : RawFacts) (d : DefWithBodyId) (c last : InferenceContex
 keeps_goals raw d c last (inl (plain, (x, resolved, is))) = ap (λ (z : InferenceContext). z.goals) is
 keeps_goals raw d c last (inr (not_plain, is)) = ap (λ (z : InferenceContext). z.goals) is
 
-module _ (raw : RawFacts) (d : DefWithBodyId) (i : BodyId) (b : RawBody) (s : Schedule) (inputs : List (Option Ty)) (output : Option Ty) (id : body_id_of raw d ≡ Some i) (at : slice_get raw.bodies i.0 ≡ Some b) (law : IsWalkable b s) (own : AreOwnTypes raw d inputs output) (c : InferenceContext) (done : BodyDone (given_by raw d b inputs output) c)
+module _ (raw : RawFacts) (d : DefWithBodyId) (i : BodyId) (b : RawBody) (s : Schedule) (inputs : List (Option Ty)) (output : Option Ty) (aliases : List (Option Ty)) (id : body_id_of raw d ≡ Some i) (at : slice_get raw.bodies i.0 ≡ Some b) (law : IsWalkable b s) (own : AreOwnTypes raw d inputs output) (lets : AreLetTypes raw d b aliases) (c : InferenceContext) (done : BodyDone (given_by raw d b inputs output aliases) c)
     (lawful : IsLawful raw) (ps : List Proof) (js : List (Ty × Ty)) (gs : List (List Gap)) where
   -- of a body that is not plain the context after selection counts, in which no such types are
-  not_plain_ends : (z : InferenceContext) → BodyDone (given_by raw d b inputs output) z → z.result.general ≡ None → (IsPlainBodyOf raw d → ⊥) → EndsAs raw d ps js gs z
+  not_plain_ends : (z : InferenceContext) → BodyDone (given_by raw d b inputs output aliases) z → z.result.general ≡ None → (IsPlainBodyOf raw d → ⊥) → EndsAs raw d ps js gs z
   not_plain_ends z after none not_plain meets respects acyclic =
       let a : Assignment = completion z.goals.table in
       let same : record z.result { general = None } ≡ z.result = ap (λ (o : Option General). record z.result { general = o }) (sym none) in
       let F : InferenceResult → Type 0 = λ r. IsTableOf raw d (with_goals ps js gs (closed_table a z.asked r)) in (
-        subst F same (completed_table raw d i b s inputs output id at law own z after lawful ps js gs meets respects None),
+        subst F same (completed_table raw d i b s inputs output aliases id at law own lets z after lawful ps js gs meets respects None),
         record { plain = λ p. absurd (not_plain p); other = λ never. none },
       )
 
-  pub ends_selected : (mid z : InferenceContext) → KeepsGeneral raw d c mid → OnlyGoals mid z → StaysOfPlain mid z → BodyDone (given_by raw d b inputs output) z → EndsAs raw d ps js gs z
+  pub ends_selected : (mid z : InferenceContext) → KeepsGeneral raw d c mid → OnlyGoals mid z → StaysOfPlain mid z → BodyDone (given_by raw d b inputs output aliases) z → EndsAs raw d ps js gs z
   ends_selected mid z (inl (plain, (x, resolved, is))) only stays after =
       let kept : mid.result.general ≡ Some x = ap (λ (m : InferenceContext). m.result.general) is in
-      subst (EndsAs raw d ps js gs) (sym (stays x kept)) (ends raw d i b s inputs output id at law own c done lawful ps js gs mid (inl (plain, (x, resolved, is))))
+      subst (EndsAs raw d ps js gs) (sym (stays x kept)) (ends raw d i b s inputs output aliases id at law own lets c done lawful ps js gs mid (inl (plain, (x, resolved, is))))
   ends_selected mid z (inr (not_plain, is)) only stays after =
       not_plain_ends z after (ap (λ (r : InferenceResult). r.general) only.result ∙ ap (λ (m : InferenceContext). m.result.general) is) not_plain
 

@@ -15,6 +15,7 @@ use Rattle.hir_types.specs.Agreement.{folded_agree}
 use Rattle.hir_types.specs.Fallback.{fallback}
 use Rattle.hir_types.specs.Replacements.{folded_itself}
 use Rattle.hir_types.specs.Subst.{Assignment, each_itself, folded}
+use Rattle.hir_raw.specs.declared.raw.RawBody.{RawBody}
 use Rattle.hir_raw.specs.declared.raw.RawFacts.{RawFacts}
 use Rattle.hir_raw.specs.declared.raw.RawFn.{RawFn}
 use Rattle.hir_raw.specs.declared.raw.RawType.{RawType}
@@ -31,7 +32,8 @@ use Rattle.hir_plain.proofs.PlainFns.{plain_direct}
 use Rattle.hir_facts.specs.CarriedTypes.{IsCarriedType, carried_error}
 use Rattle.infer_table.specs.Table.{new_state, HolesAreOf}
 use Rattle.goal_answers.specs.Goals.{System}
-use Rattle.infer_result.specs.OwnTypes.{CanStand, IsKnownAs, EachIsKnownAs, AreOwnTypes, fn_aliases_by, aliases_of, written_inputs}
+use Rattle.infer_result.specs.OwnTypes.{CanStand, IsKnownAs, EachIsKnownAs, AreOwnTypes, AreLetTypes, fn_aliases_by, aliases_of, written_inputs}
+use Rattle.infer_result.specs.Table.{recorded}
 use Rattle.infer_ctx.specs.Fine.{IsCarriedIn}
 use Rattle.infer_ctx.proofs.OverTypes.{fine_closed}
 use Rattle.infer_ctx.proofs.Written.{is_written}
@@ -137,6 +139,11 @@ module _ (raw : RawFacts) (law : IsLawful raw) where
 
     pub own_count : length inputs ≡ length (inputs_of raw d)
     own_count = count_by_aliases (aliases_of raw d) refl
+
+-- ---- of the associated types in its `let`s
+
+pub alias_in : (raw : RawFacts) (d : DefWithBodyId) (b : RawBody) (aliases : List (Option Ty)) → AreLetTypes raw d b aliases → (k : ℕ) (t : Ty) → recorded aliases k ≡ Some t → IsCarriedIn (scope_of raw d) t
+alias_in raw d b aliases lets k t is = stands_in_scope (scope_of raw d) t (lets.stand k t is)
 
 -- ---- of a plain body
 

@@ -1,7 +1,7 @@
 -- What a plain body has not: a `_` in the type of a `let`, and a call of what is no function.
 use Rattle.std.specs.Prelude.{IsSomeAnd, option_map}
 use Rattle.std.specs.Option.{option_and_then}
-use Rattle.std.proofs.Common.{◌≡◌, refl, Option, Some, None, subst, ℕ, sym, ap, ◌∙◌, slice_get, true, List, length, Bool, false, not, ◌||◌, true≢false, [], ◌∷◌, if◌then◌else◌}
+use Rattle.std.proofs.Common.{◌≡◌, refl, Option, Some, None, subst, ℕ, suc, sym, ap, ◌++◌, ◌∙◌, slice_get, true, List, length, Bool, false, not, ◌||◌, ◌==◌, true≢false, [], ◌∷◌, if◌then◌else◌}
 use Rattle.std.proofs.lemmas.Option.{slice_get_within}
 use Rattle.hir_types.specs.declared.ids.FunctionId.{FunctionId}
 use Rattle.hir_types.specs.declared.ids.VariantId.{VariantId}
@@ -13,9 +13,15 @@ use Rattle.hir_types.specs.declared.ids.ExprOrPatId.TheVariants as node
 use Rattle.hir_raw.specs.declared.raw.RawBody.{RawBody}
 use Rattle.hir_raw.specs.declared.raw.RawFacts.{RawFacts}
 use Rattle.hir_laws.specs.Bodies.{body_of}
-use Rattle.hir_raw.specs.Scope.{params_of, adt_params, has_associated, is_size_goal, states_more_by}
+use Rattle.hir_laws.specs.Lawful.{IsLawful}
+use Rattle.hir_laws.proofs.NoAliases.{none_within, no_aliases}
+use Rattle.hir_raw.specs.Hidden.{fn_aliases}
+use Rattle.hir_raw.specs.Scope.{params_of, adt_params, has_associated, has_associated_by, names_alias, is_size_goal}
+use Rattle.hir_plain.proofs.PlainFns.{kind_direct, type_direct, plain_direct}
 use Rattle.hir_plain.specs.Plain.{IsPlainBody, IsPlainBodyOf, IsPlainKind, IsPlainType, plain, IsPlainAdt, is_tuple_ctor, is_tuple_variant, is_item, IsPlainExpr, IsPlainStmt}
 use Rattle.hir_raw.specs.declared.raw.RawType.{RawType}
+use Rattle.hir_raw.specs.Lets.{masked, stmt_aliases, expr_aliases, let_aliases}
+use Rattle.hir_raw.specs.Masked.{other_is_itself}
 use Rattle.hir_raw.specs.WrittenTypes.{StandsIn, is_itself, in_part, type_parts}
 use Rattle.hir_raw.specs.declared.raw.RawCtor.{RawCtor}
 use Rattle.hir_raw.specs.declared.raw.RawVariant.{RawVariant}
@@ -31,7 +37,7 @@ use Rattle.hir_raw.specs.declared.raw.RawExpr.TheVariants as expr
 use Rattle.infer_result.specs.Places.{Given, IsPlaceholder}
 use Rattle.infer_result.specs.Kinds.Call.{IsPathToItem}
 use Rattle.std.specs.Cmp.{first_so, second_so}
-use Rattle.std.specs.List.{list_all, list_any}
+use Rattle.std.specs.List.{list_all, list_any, flat_map}
 use Rattle.hir_types.specs.declared.ids.TraitId.{TraitId}
 use Rattle.hir_raw.specs.declared.raw.RawGoal.{RawGoal}
 use Rattle.hir_raw.specs.declared.raw.RawGoal.TheVariants as goal
@@ -67,27 +73,39 @@ no_more raw n (g ∷ gs) h =
     let all = list_all (is_sized_pred raw n) gs in
     ap (λ b. not b || list_any (λ g. not (is_size_goal raw g)) gs) (says_size raw n g (first_so (is_sized_pred raw n g) all h)) ∙ no_more raw n gs (second_so (is_sized_pred raw n g) all h)
 
+-- nothing in its signature is an associated type, either
+names_none : (n : ℕ) → n ≡ 0 → not (n == 0) ≡ false
+names_none n is = ap (λ k. not (k == 0)) is
+
 -- may be a type in a plain body
-pub none_plain : (raw : RawFacts) (d : DefWithBodyId) → IsPlainBodyOf raw d → has_associated raw d ≡ false
-none_plain raw (def.FunctionId f) h =
+pub none_plain : (raw : RawFacts) → IsLawful raw → (d : DefWithBodyId) → IsPlainBodyOf raw d → has_associated raw d ≡ false
+none_plain raw law (def.FunctionId f) h =
     let x = some_of _ (slice_get raw.fns f.0) h.header in
     let preds = list_all (is_sized_pred raw (length x.0.params)) x.0.preds in
     let header = second_so (list_all _ x.0.params) _ (second_so (is_in_module x.0.«at») _ x.2.header) in
-    ap (states_more_by raw) x.1 ∙ no_more raw (length x.0.params) x.0.preds (first_so preds _ header)
-none_plain raw (def.ConstId c) h = absurd h
-none_plain raw (def.StaticId s) h = absurd h
-none_plain raw (def.VariantId v) h = absurd h
+    let states = no_more raw (length x.0.params) x.0.preds (first_so preds _ header) in
+    let names = names_none (length (fn_aliases raw.types x.0)) (ap (λ ks. length ks) (no_aliases raw law x.0 (plain_direct raw x.0 x.2))) in
+    ap (has_associated_by raw) x.1 ∙ ((λ i. states i || names_alias raw x.0) ∙ names)
+none_plain raw law (def.ConstId c) h = absurd h
+none_plain raw law (def.StaticId s) h = absurd h
+none_plain raw law (def.VariantId v) h = absurd h
 
 -- ---- written types
 
--- no `_` stands in a plain type
-no_hole : (raw : RawFacts) (P : ℕ → Type 0) (n k t : ℕ) → IsPlainType raw P n t → StandsIn raw.types k t → ⊥
+-- no `_` and no associated type stands in a plain type
+no_hole : (raw : RawFacts) (P : ℕ → Type 0) (n k t : ℕ) → IsPlainType raw P n t → StandsIn (masked raw.types) k t → ⊥
 no_hole raw P n k t (plain _ x found own parts) (is_itself hole) =
-    (let same : x ≡ type.Hole = (let both : Some x ≡ Some type.Hole = sym found ∙ hole in cc) in
+    (let here : slice_get (masked raw.types) k ≡ Some x = other_is_itself raw.types k x found (kind_direct raw P n x own) in
+    let same : x ≡ type.Hole = (let both : Some x ≡ Some type.Hole = sym here ∙ hole in cc) in
     let h : IsPlainKind raw P n type.Hole = subst (λ (y : RawType). IsPlainKind raw P n y) same own in h)
 no_hole raw P n k t (plain _ x found own parts) (in_part _ y j u at part stands) =
-    (let same : y ≡ x = (let both : Some y ≡ Some x = sym at ∙ found in cc) in
+    (let here : slice_get (masked raw.types) t ≡ Some x = other_is_itself raw.types t x found (kind_direct raw P n x own) in
+    let same : y ≡ x = (let both : Some y ≡ Some x = sym at ∙ here in cc) in
     no_hole raw P n k u.0 (parts j u (ap (λ (z : RawType). slice_get (type_parts z) j) (sym same) ∙ part)) stands)
+
+none_flat : {A : Type 0} (f : A → List ℕ) (xs : List A) → ((k : ℕ) (x : A) → slice_get xs k ≡ Some x → f x ≡ []) → flat_map f xs ≡ []
+none_flat f [] none = refl
+none_flat f (x ∷ xs) none = ap (λ ks. ks ++ flat_map f xs) (none 0 x refl) ∙ none_flat f xs (λ k y at. none (suc k) y at)
 
 module _ (raw : RawFacts) (n : ℕ) (b : RawBody) (h : IsPlainBody raw n b) where
   plain_stmt : (e : ℕ) (o : Option RawExpr) (i : ℕ) (s : RawStmt) → slice_get b.exprs e ≡ o → slice_get (stmts_of o) i ≡ Some s → IsPlainStmt raw n s
@@ -98,7 +116,17 @@ module _ (raw : RawFacts) (n : ℕ) (b : RawBody) (h : IsPlainBody raw n b) wher
   no_placeholder g k facts body p =
       let at : slice_get (stmts_of (slice_get b.exprs p.block.0)) p.at_stmt ≡ Some (stmt.Let p.pattern (Some p.written) p.init p.other) = ap (λ (x : RawBody). slice_get (stmts_of (slice_get x.exprs p.block.0)) p.at_stmt) (sym body) ∙ p.is_let in
       let written : IsPlainStmt raw n (stmt.Let p.pattern (Some p.written) p.init p.other) = plain_stmt p.block.0 (slice_get b.exprs p.block.0) p.at_stmt _ refl at in
-      no_hole raw (IsPlainAdt raw) n k p.written.0 written.1 (subst (λ (x : RawFacts). StandsIn x.types k p.written.0) facts p.stands)
+      no_hole raw (IsPlainAdt raw) n k p.written.0 written.1 (subst (λ (x : RawFacts). StandsIn (masked x.types) k p.written.0) facts p.stands)
+
+  -- none of its `let`s is written with an associated type
+  plain_stmt_aliases : IsLawful raw → (s : RawStmt) → IsPlainStmt raw n s → stmt_aliases raw.types s ≡ []
+  plain_stmt_aliases law (stmt.Let p None init other) own = refl
+  plain_stmt_aliases law (stmt.Let p (Some t) init other) own = none_within raw law (length raw.types) t.0 (type_direct raw (IsPlainAdt raw) n t.0 own.1)
+  plain_stmt_aliases law (stmt.Expr e semicolon) own = refl
+
+  pub no_let_aliases : IsLawful raw → let_aliases raw.types b ≡ []
+  no_let_aliases law = none_flat (expr_aliases raw.types) b.exprs (λ e x found.
+      none_flat (stmt_aliases raw.types) (stmts_of (Some x)) (λ k s at. plain_stmt_aliases law s (plain_stmt e (Some x) k s found at)))
 
   -- ---- callees
 

@@ -48,7 +48,7 @@ module _ (g : Given) (c : InferenceContext) (done : BodyDone g c) (told : IsTold
   }
 
 -- by what the goals of the item are answered by
-module _ (raw : RawFacts) (d : DefWithBodyId) (b : RawBody) (inputs : List (Option Ty)) (output : Option Ty) (c : InferenceContext) (told : IsTold (given_by raw d b inputs output) c) (item : c.goals.sources.item ≡ scope_item raw d) (goals : GoalTable)
+module _ (raw : RawFacts) (d : DefWithBodyId) (b : RawBody) (inputs : List (Option Ty)) (output : Option Ty) (aliases : List (Option Ty)) (c : InferenceContext) (told : IsTold (given_by raw d b inputs output aliases) c) (item : c.goals.sources.item ≡ scope_item raw d) (goals : GoalTable)
     (of_item : IsSystemOf c.goals.sources.facts c.goals.sources.item (system c.goals.sources.sources))
     (selected : AreSelected c.goals.sources.facts (system c.goals.sources.sources) c.goals.table c.goals.obligations goals.table goals.obligations) where
   pub is_selection : IsSelection raw d b c (with_goal_table c goals)

@@ -13,7 +13,7 @@ use Rattle.infer_result.specs.declared.gaps.Gap.{Gap}
 use Rattle.infer_result.specs.declared.result.InferenceResult.{InferenceResult}
 use Rattle.infer_result.specs.General.{HasGeneral}
 use Rattle.infer_result.specs.Needs.{with_goals}
-use Rattle.infer_result.specs.OwnTypes.{AreOwnTypes}
+use Rattle.infer_result.specs.OwnTypes.{AreOwnTypes, AreLetTypes}
 use Rattle.infer_result.specs.Typed.{IsTableOf, given_by}
 use Rattle.infer_obligations.specs.Reading.{EndsSettled}
 use Rattle.infer_obligations.specs.Selection.{IsSelection}
@@ -45,16 +45,18 @@ pub record IsSelectedBody (raw : RawFacts) (d : DefWithBodyId) (b : RawBody) (z 
   pub inputs : List (Option Ty)
   pub output : Option Ty
   pub own : AreOwnTypes raw d inputs output
+  pub aliases : List (Option Ty)
+  pub lets : AreLetTypes raw d b aliases
   pub settled : InferenceContext
-  pub read : EndsSettled (given_by raw d b inputs output) settled
+  pub read : EndsSettled (given_by raw d b inputs output aliases) settled
   pub walked : InferenceContext
   pub goals : walked.goals ≡ settled.goals
-  pub done : BodyDone (given_by raw d b inputs output) walked
+  pub done : BodyDone (given_by raw d b inputs output aliases) walked
   pub selected : InferenceContext
   pub only : OnlyGoals walked selected
   pub plain : StaysOfPlain walked selected
   pub selection : walked.result.general ≡ None → IsSelection raw d b walked selected
-  pub last : ReadsLast (given_by raw d b inputs output) selected z
+  pub last : ReadsLast (given_by raw d b inputs output aliases) selected z
 
 -- the table is what such a body comes to
 pub record ComesOfSelection (raw : RawFacts) (d : DefWithBodyId) (b : RawBody) (r : InferenceResult) : Type 0 where

@@ -14,7 +14,7 @@ use infer_ctx::{GivenBody, InferenceContext};
 use infer_end::{keep_general, read_where_possible, select_where_possible};
 use infer_goals::{Answer, ObligationInspector};
 use infer_needs::{prove_needs, scope_item, tell_all};
-use infer_obligations::own_types;
+use infer_obligations::{let_types, own_types};
 use infer_result::InferenceResult;
 use std::alloc::{AllocError, Global};
 
@@ -36,6 +36,7 @@ fn infer_holes(
     let body = facts.body(id);
     let mut context = InferenceContext::new(alloc, facts, scope_item(facts, def), body)?;
     let own = own_types(alloc, &context.goals, facts, def)?;
+    let aliases = let_types(alloc, &context.goals, facts, def, body)?;
     let given = GivenBody {
         facts,
         owner: def,
@@ -43,6 +44,7 @@ fn infer_holes(
         schedule: facts.schedule(id),
         inputs: &own.inputs,
         return_ty: &own.output,
+        aliases: aliases.as_slice(),
     };
     infer_body(alloc, &mut context, &given)?;
     keep_general(alloc, &mut context, facts, def)?;

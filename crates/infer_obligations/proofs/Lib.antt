@@ -6,5 +6,6 @@ pub mod Selecting
 pub mod Walking
 pub mod InHand
 pub mod Known
+pub mod LetsKnown
 pub mod ReadNeeds
 pub mod Below

@@ -1,3 +1,4 @@
 pub mod Registering
 pub mod Selection
 pub mod Reading
+pub mod LetTypes

@@ -3,12 +3,14 @@
 #![tactic(auto)]
 
 mod hand;
+mod lets;
 mod made;
 mod own;
 mod read;
 mod register;
 mod select;
 
+pub use lets::let_types;
 pub use own::{OwnTypes, own_types};
 pub use read::{read_all, read_for, select_and_read, settle_needs};
 pub use register::{register_each, register_needs};

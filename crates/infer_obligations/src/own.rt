@@ -24,7 +24,7 @@ pub struct OwnTypes {
 }
 
 /// What the body knows of a type that is written with associated types: what it reads as, if that can stand there.
-fn known_ty(
+pub fn known_ty(
     alloc: Global,
     goals: &GoalTable,
     facts: &Facts,

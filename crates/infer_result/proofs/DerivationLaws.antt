@@ -9,6 +9,7 @@ use Rattle.hir_raw.specs.declared.raw.RawArm.{RawArm}
 use Rattle.hir_raw.specs.declared.raw.RawExpr.{RawExpr}
 use Rattle.hir_raw.specs.declared.raw.RawExpr.TheVariants as expr
 use Rattle.hir_raw.specs.declared.raw.RawFacts.{RawFacts}
+use Rattle.hir_raw.specs.Lets.{let_aliases}
 use Rattle.infer_result.specs.declared.result.InferenceResult.{InferenceResult}
 use Rattle.infer_result.specs.Table.{HasMismatch, AnyMismatch, WasSeen, MaybeMismatch}
 use Rattle.infer_result.specs.Closed.{AllTypes}
@@ -75,17 +76,18 @@ module _ (g : Given) (t : InferenceResult) (h : IsTyped g t) (known : AllTypes I
   obeys never (inr b) = b
 
 -- where no associated type is written, the body has the types of its definition as they are written
-typed_as_written : (raw : RawFacts) (d : DefWithBodyId) (t : InferenceResult) (h : IsTableOf raw d t) → aliases_of raw d ≡ [] → IsTyped (given raw d h.body) t
-typed_as_written raw d t h none =
+typed_as_written : (raw : RawFacts) (d : DefWithBodyId) (t : InferenceResult) (h : IsTableOf raw d t) → aliases_of raw d ≡ [] → let_aliases raw.types h.body ≡ [] → IsTyped (given raw d h.body) t
+typed_as_written raw d t h none no_lets =
     let own = h.own.as_written none in
-    subst (λ inputs. IsTyped (given_by raw d h.body inputs (Some (return_type raw d))) t) own.0
-    (subst (λ output. IsTyped (given_by raw d h.body h.inputs output) t) own.1 h.typed)
+    subst (λ inputs. IsTyped (given_by raw d h.body inputs (Some (return_type raw d)) []) t) own.0
+    (subst (λ output. IsTyped (given_by raw d h.body h.inputs output []) t) own.1
+    (subst (λ aliases. IsTyped (given_by raw d h.body h.inputs h.output aliases) t) (h.lets.none no_lets) h.typed))
 
 -- what nodes need may rest on it that they obey their rules
-pub derivation_of : (raw : RawFacts) (d : DefWithBodyId) (t : InferenceResult) (h : IsTableOf raw d t) → aliases_of raw d ≡ [] → AllTypes IsKnown t → HasNoComplaint t
+pub derivation_of : (raw : RawFacts) (d : DefWithBodyId) (t : InferenceResult) (h : IsTableOf raw d t) → aliases_of raw d ≡ [] → let_aliases raw.types h.body ≡ [] → AllTypes IsKnown t → HasNoComplaint t
     → (((e : ExprId) → e.0 < length h.body.exprs → ObeysExpression (given raw d h.body) t e) → NeedsHold d (given raw d h.body) t) → IsDerivation raw d t
-derivation_of raw d t h none known clean goals =
-    let typed : IsTyped (given raw d h.body) t = typed_as_written raw d t h none in
+derivation_of raw d t h none no_lets known clean goals =
+    let typed : IsTyped (given raw d h.body) t = typed_as_written raw d t h none no_lets in
     let exprs : (e : ExprId) → e.0 < length h.body.exprs → ObeysExpression (given raw d h.body) t e =
     λ e within. obeys _ t typed known clean (not_excused _ t typed known clean e (slice_get h.body.exprs e.0)) (typed.exprs e within) in
     record {

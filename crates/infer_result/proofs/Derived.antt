@@ -48,7 +48,7 @@ use Rattle.infer_result.specs.declared.result.TypeMismatch.{TypeMismatch}
 use Rattle.infer_result.specs.declared.diagnostics.InferenceDiagnostic.TheVariants as diagnostic
 use Rattle.infer_result.specs.Table.{At, HasTy, PatTy, HasMismatch, AnyMismatch, AnyDiagnostic, mismatch, MaybeMismatch}
 use Rattle.infer_result.specs.Closed.{IsTotal}
-use Rattle.infer_result.specs.Places.{Given, hole_type, declared, AreRecorded, IsAt, IsAtOrMismatch, IsAtMaybe, IsAtMaybeOrMismatch, MisfitsAs, PatIsAtOrMismatch}
+use Rattle.infer_result.specs.Places.{Given, let_types, hole_type, declared, AreRecorded, IsAt, IsAtOrMismatch, IsAtMaybe, IsAtMaybeOrMismatch, MisfitsAs, PatIsAtOrMismatch}
 use Rattle.infer_result.specs.Kinds.Constructor.{IsVariantAt, adt_at, fields_at}
 use Rattle.infer_result.specs.Kinds.Call.{IsCallee, IsInputAt, ArgsRule, ItemCallRule, CallsNonGeneric, IsWrittenInput, IsPathToItem}
 use Rattle.infer_result.specs.Demands.{IsAsked, Asks, AsksOf}
@@ -481,8 +481,8 @@ module _ (g : Given) (t : InferenceResult) (h : IsMade g t) where
   upward m r (of_literal e l s is own) =
       (let c = clause_at e (expr.Lit l) is in subst (λ u. HasTy t e u) (literal_type l s c.0 own c.2) c.1)
   upward m r (of_written e w init n none) =
-      local_of_let e (Some w) init n (written_type g.scope.facts.types w)
-      (comes_in e (Some w) init n (written_type g.scope.facts.types w) (let_recorded n.pattern n.parent n.at_part w init n.stands.part, sym (filled_written (hole_type t) g.scope.facts.types w none)))
+      local_of_let e (Some w) init n (written_type (let_types g) w)
+      (comes_in e (Some w) init n (written_type (let_types g) w) (let_recorded n.pattern n.parent n.at_part w init n.stands.part, sym (filled_written (hole_type t) (let_types g) w none)))
   upward m r (of_initializer e i s n u) = local_of_let e None (Some i) n s (comes_in e None (Some i) n s (upward i s u))
   upward m r (of_call e σ c) =
       (let r = calls_item e c.called c.args c.is_call (c.path, c.names, record { item = c.item; is_item = c.is_item; signature = σ; is_signature = c.signature }) in
@@ -555,7 +555,7 @@ module _ (g : Given) (t : InferenceResult) (h : IsMade g t) where
         let roles : dm.role ≡ st.role = ap (λ (p : Part). p.role) one in
         elim st.states [
           | inl r ↦ same_output g.output s d r.1 (asked_at_root dm.parent dm.role d (roles ∙ r.0) dm.asks)
-          | inr (inl w) ↦ w.3 ∙ (sym (filled_written (hole_type t) g.scope.facts.types w.0 w.2) ∙ sym (asked_at_let dm.parent dm.role w.0 d (roles ∙ w.1) dm.asks))
+          | inr (inl w) ↦ w.3 ∙ (sym (filled_written (hole_type t) (let_types g) w.0 w.2) ∙ sym (asked_at_let dm.parent dm.role w.0 d (roles ∙ w.1) dm.asks))
           | inr (inr a) ↦ asked_of_argument dm.parent dm.role a.0 s d (roles ∙ a.1) (subst (λ n. IsWrittenInput g n a.0 s) same.0 a.2) dm.asks
         ]
       where

@@ -19,6 +19,7 @@ pub mod WrongFieldCount
 pub mod NoFunction
 pub mod UnmetBound
 pub mod Placeholder
+pub mod LetAlias
 pub mod PartAlone
 pub mod Holes
 pub mod PlainKinds

@@ -47,4 +47,4 @@ module _ (g : Given) (law : IsLawful g.scope.facts) (closed : HasClosedTypes g) 
   }
 
 pub node_rules_are_stable : (raw : RawFacts) → IsLawful raw → NodeRulesAreStable raw
-node_rules_are_stable raw law d b is inputs output closed = rules_stable (given_by raw d b inputs output) law closed
+node_rules_are_stable raw law d b is inputs output aliases closed = rules_stable (given_by raw d b inputs output aliases) law closed

@@ -31,7 +31,7 @@ use Rattle.infer_result.specs.declared.result.TypeMismatch.{TypeMismatch}
 use Rattle.infer_result.specs.declared.diagnostics.InferenceDiagnostic.{InferenceDiagnostic}
 use Rattle.infer_result.specs.declared.diagnostics.InferenceDiagnostic.TheVariants as diagnostic
 use Rattle.infer_result.specs.Table.{At, HasTy, PatTy, PlaceholderTy, HasMismatch, AnyMismatch, HasPatMismatch, WasSeen}
-use Rattle.infer_result.specs.Places.{Given, hole_type, declared, AreRecorded}
+use Rattle.infer_result.specs.Places.{Given, let_types, hole_type, declared, AreRecorded}
 use Rattle.infer_result.specs.Kinds.Constructor.{IsVariantAt}
 use Rattle.infer_result.specs.Stable.{each_under, mismatch_under, diagnostic_under, table_under, IsStable}
 
@@ -176,7 +176,7 @@ module _ (a : Assignment) (t : InferenceResult) where
 
     pub declared_under : AreRecorded g t w → folded a (declared g t w) ≡ declared g (table_under a t) w
     declared_under h =
-        filled_folded a (hole_type t) g.scope.facts.types w
-        ∙ filled_agree (λ k. folded a (hole_type t k)) (hole_type after) g.scope.facts.types w (λ k stands.
+        filled_folded a (hole_type t) (let_types g) w
+        ∙ filled_agree (λ k. folded a (hole_type t k)) (hole_type after) (let_types g) w (λ k stands.
         (let q = h k stands in
         ap (folded a) (hole_at t k q.0 q.1) ∙ sym (hole_at after k (folded a q.0) (At-under (folded a) t.type_of_placeholder k q.0 q.1))))

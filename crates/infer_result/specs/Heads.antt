@@ -24,7 +24,7 @@ use Rattle.hir_raw.specs.declared.raw.RawExpr.TheVariants as expr
 use Rattle.hir_raw.specs.declared.raw.RawVariant.{RawVariant}
 use Rattle.hir_raw.specs.WrittenTypes.{lowered_by, filled_within, written_type, filled_by, filled_type}
 use Rattle.hir_raw.specs.Signatures.{Signature, ctor_type}
-use Rattle.infer_result.specs.Places.{Given}
+use Rattle.infer_result.specs.Places.{Given, let_types}
 use Rattle.infer_result.specs.Incoming.{IsInput}
 use Rattle.infer_result.specs.Kinds.Call.{CallsItem}
 use Rattle.infer_result.specs.Kinds.Path.{NamesLet, NamesParameter}
@@ -82,7 +82,7 @@ pub data HeadOf (g : Given) : ExprId → Outermost → Type 0 where
   of_output : (e : ExprId) (σ : Signature) (h : Outermost) → CallsItem g e σ → HasHead σ.output h
       → HeadOf g e h
   of_written : (e : ExprId) (w : TypeRefId) (init : Option ExprId) (h : Outermost)
-      → NamesLet g.body e (Some w) init → HasHead (written_type g.scope.facts.types w) h → HeadOf g e h
+      → NamesLet g.body e (Some w) init → HasHead (written_type (let_types g) w) h → HeadOf g e h
   of_initializer : (e i : ExprId) (h : Outermost) → NamesLet g.body e None (Some i) → HeadOf g i h
       → HeadOf g e h
   of_parameter : (e : ExprId) (i : ℕ) (t : Ty) (h : Outermost) → NamesParameter g.body e i → IsInput g i t

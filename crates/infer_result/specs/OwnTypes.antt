@@ -1,6 +1,7 @@
--- What a body knows of the types of what its definition takes and gives. Where no associated type is written there, they are the types that are
--- written; else each is what it reads as in the scope of the definition, if that can stand in the body (the Rust Reference, "Associated types";
--- upstream `infer.rs`, `collect_fn`, by `process_user_written_ty`).
+-- What a body knows of the types of what its definition takes and gives, and of the associated types in the types of its `let`s. Where no
+-- associated type is written in what the definition takes and gives, these are the types that are written; else each is what it reads as in the
+-- scope of the definition, if that can stand in the body (the Rust Reference, "Associated types"; upstream `infer.rs`, `collect_fn`, by
+-- `process_user_written_ty`). So is each associated type that stands outermost in the type of a `let` (upstream `infer.rs`, `make_body_ty`).
 use Rattle.std.specs.Prelude.{ℕ, ◌≡◌, ◌==◌, ◌&&◌, true, false, nat_lt, List, [], ◌∷◌, map, slice_get, Option, Some, None}
 use Rattle.hir_types.specs.declared.head.Head.TheVariants as head
 use Rattle.hir_types.specs.declared.ids.DefWithBodyId.{DefWithBodyId}
@@ -8,12 +9,14 @@ use Rattle.hir_types.specs.declared.ids.DefWithBodyId.TheVariants as def
 use Rattle.hir_types.specs.declared.ids.TypeRefId.{TypeRefId}
 use Rattle.hir_types.specs.declared.ty.Ty.{Ty}
 use Rattle.hir_types.specs.Terms.{term}
+use Rattle.hir_raw.specs.declared.raw.RawBody.{RawBody}
 use Rattle.hir_raw.specs.declared.raw.RawFacts.{RawFacts}
 use Rattle.hir_raw.specs.declared.raw.RawFn.{RawFn}
 use Rattle.hir_raw.specs.declared.raw.RawType.{RawType}
 use Rattle.hir_raw.specs.Hidden.{fn_aliases}
+use Rattle.hir_raw.specs.Lets.{let_aliases}
 use Rattle.hir_raw.specs.Scope.{Scope, scope_of, adt_params, alias_params, has_params}
-use Rattle.hir_raw.specs.WrittenTypes.{written_type}
+use Rattle.hir_raw.specs.WrittenTypes.{lowered, written_type}
 use Rattle.hir_facts.specs.Below.{return_type, inputs_of}
 use Rattle.infer_table.specs.Preserved.{Shape, whole, IsMadeOf}
 use Rattle.infer_table.specs.Table.{State, new_state, HolesAreOf}
@@ -21,6 +24,7 @@ use Rattle.goal_answers.specs.Goals.{System}
 use Rattle.goal_facts.specs.Reading.{TypeReads, IsTypeRead}
 use Rattle.goal_facts.specs.Systems.{IsSystemOf}
 use Rattle.infer_result.specs.Needs.{scope_item}
+use Rattle.infer_result.specs.Table.{recorded}
 
 -- The heads of types that can be written in this scope, or are associated types that stay, and over how many parts.
 abbrev pub is_read_head : Scope → Shape
@@ -86,3 +90,21 @@ aliases_of raw (def.VariantId v) = []
 pub record AreOwnTypes (raw : RawFacts) (d : DefWithBodyId) (inputs : List (Option Ty)) (output : Option Ty) : Type 0 where
   pub as_written : aliases_of raw d ≡ [] → (inputs ≡ written_inputs raw d) × (output ≡ Some (return_type raw d))
   pub as_read : (aliases_of raw d ≡ [] → ⊥) → AreKnownAs raw d inputs output
+
+-- ---- in the types of `let`s
+
+-- each associated type that the `let`s are written with is known in this scope by these sources, by its number
+abbrev pub AliasesAreKnown : RawFacts → Scope → System → RawBody → List (Option Ty) → Type 0
+AliasesAreKnown raw sc f b known = (i k : ℕ) → slice_get (let_aliases raw.types b) i ≡ Some k → IsKnownAs sc f raw.limits.goal_depth (lowered raw.types k) (recorded known k)
+
+-- this is what the body of the definition knows of them, by the sources of its goals
+pub record AreKnownLets (raw : RawFacts) (d : DefWithBodyId) (b : RawBody) (known : List (Option Ty)) : Type 0 where
+  pub sources : System
+  pub of_item : IsSystemOf raw (scope_item raw d) sources
+  pub each : AliasesAreKnown raw (scope_of raw d) sources b known
+
+-- so it is where one is written, and else nothing is known; what is known can stand in the body
+pub record AreLetTypes (raw : RawFacts) (d : DefWithBodyId) (b : RawBody) (known : List (Option Ty)) : Type 0 where
+  pub none : let_aliases raw.types b ≡ [] → known ≡ []
+  pub read : (let_aliases raw.types b ≡ [] → ⊥) → AreKnownLets raw d b known
+  pub stand : (k : ℕ) (t : Ty) → recorded known k ≡ Some t → CanStand (scope_of raw d) t

@@ -8,8 +8,10 @@ use Rattle.hir_types.specs.declared.ty.Ty.{Ty}
 use Rattle.hir_types.specs.Erasure.{Same}
 use Rattle.hir_types.specs.declared.ty.Ty.TheVariants as ty
 use Rattle.hir_raw.specs.declared.raw.RawPat.{RawPat}
+use Rattle.hir_raw.specs.declared.raw.RawType.{RawType}
 use Rattle.hir_raw.specs.declared.raw.RawBody.{RawBody}
 use Rattle.hir_raw.specs.WrittenTypes.{filled_type, StandsIn}
+use Rattle.hir_raw.specs.Lets.{masked}
 use Rattle.hir_raw.specs.Scope.{Scope}
 use Rattle.hir_raw.specs.Order.{Role, Node, IsNode, part_at, stmt_at}
 use Rattle.hir_raw.specs.declared.raw.RawStmt.TheVariants as stmt
@@ -17,13 +19,14 @@ use Rattle.hir_raw.specs.declared.raw.RawPat.TheVariants as pat
 use Rattle.infer_result.specs.declared.result.InferenceResult.{InferenceResult}
 use Rattle.infer_result.specs.Table.{recorded, HasTy, PatTy, PlaceholderTy, HasMismatch, HasPatMismatch}
 
--- a body among its facts: what its types may name, the types of its parameters, and the type that it is typed against, each where the body
--- knows of one
+-- a body among its facts: what its types may name, the types of its parameters, the type that it is typed against, and what the associated
+-- types are that its `let`s are written with, by the numbers of these types, each where the body knows of one
 pub record Given : Type 0 where
   pub scope : Scope
   pub body : RawBody
   pub inputs : List (Option Ty)
   pub output : Option Ty
+  pub aliases : List (Option Ty)
 
 -- x is part k of the node n, in this role
 pub record StandsAt (b : RawBody) (x : ExprOrPatId) (n : Node) (k : ℕ) (role : Role) : Type 0 where
@@ -32,23 +35,27 @@ pub record StandsAt (b : RawBody) (x : ExprOrPatId) (n : Node) (k : ℕ) (role :
 
 -- ---- the types of `let`s
 
+-- the written types of the facts as `let`s read them: an associated type as a `_`
+abbrev pub let_types : Given → List RawType
+let_types g = masked g.scope.facts.types
+
 -- what the `_` that is type k of the facts stands for
 abbrev pub hole_type : InferenceResult → ℕ → Ty
 hole_type r k = unwrap_or (recorded r.type_of_placeholder k) ty.Error
 
 -- what the written type of a `let` stands for
 abbrev pub declared : Given → InferenceResult → TypeRefId → Ty
-declared g r w = filled_type (hole_type r) g.scope.facts.types w
+declared g r w = filled_type (hole_type r) (let_types g) w
 
 -- of each `_` that stands in it the type is recorded
 abbrev pub AreRecorded : Given → InferenceResult → TypeRefId → Type 0
-AreRecorded g r w = (k : ℕ) → StandsIn g.scope.facts.types k w.0 → (t : Ty) × PlaceholderTy r k t
+AreRecorded g r w = (k : ℕ) → StandsIn (let_types g) k w.0 → (t : Ty) × PlaceholderTy r k t
 
 -- they are, and t is what the written type stands for
 abbrev pub IsDeclared : Given → InferenceResult → TypeRefId → Ty → Type 0
 IsDeclared g r w t = AreRecorded g r w × (t ≡ declared g r w)
 
--- type k of the facts is a `_` that stands in the type of a `let` of the body
+-- type k of the facts is a `_`, or an associated type that is read as one, and stands in the type of a `let` of the body
 pub record IsPlaceholder (g : Given) (k : ℕ) : Type 0 where
   pub block : ExprId
   pub at_stmt : ℕ
@@ -57,11 +64,15 @@ pub record IsPlaceholder (g : Given) (k : ℕ) : Type 0 where
   pub init : Option ExprId
   pub other : Option ExprId
   pub is_let : stmt_at g.body block at_stmt ≡ Some (stmt.Let pattern (Some written) init other)
-  pub stands : StandsIn g.scope.facts.types k written.0
+  pub stands : StandsIn (let_types g) k written.0
 
--- what a type is recorded for as that of a `_` is one of the body
+-- the type is what the body knows of the associated type that is type k of the facts, if it knows of one
+abbrev pub IsAsKnown : Given → ℕ → Ty → Type 0
+IsAsKnown g k t = (u : Ty) → recorded g.aliases k ≡ Some u → t ≡ u
+
+-- what a type is recorded for as that of a `_` is one of the body, and the type is what the body knows of it
 abbrev pub OnlyPlaceholdersHaveTypes : Given → InferenceResult → Type 0
-OnlyPlaceholdersHaveTypes g r = (k : ℕ) (t : Ty) → PlaceholderTy r k t → IsPlaceholder g k
+OnlyPlaceholdersHaveTypes g r = (k : ℕ) (t : Ty) → PlaceholderTy r k t → IsPlaceholder g k × IsAsKnown g k t
 
 -- ---- where an expression and a pattern are
 

@@ -86,4 +86,4 @@ pub record HasClosedTypes (g : Given) : Type 0 where
 
 -- the rules of each body of the facts are, whatever closed types the body knows of what its definition takes and gives
 abbrev pub NodeRulesAreStable : RawFacts → Type 0
-NodeRulesAreStable raw = (d : DefWithBodyId) (b : RawBody) → body_of raw d ≡ Some b → (inputs : List (Option Ty)) (output : Option Ty) → HasClosedTypes (given_by raw d b inputs output) → RulesAreStable (given_by raw d b inputs output)
+NodeRulesAreStable raw = (d : DefWithBodyId) (b : RawBody) → body_of raw d ≡ Some b → (inputs : List (Option Ty)) (output : Option Ty) (aliases : List (Option Ty)) → HasClosedTypes (given_by raw d b inputs output aliases) → RulesAreStable (given_by raw d b inputs output aliases)

@@ -1,5 +1,5 @@
 -- What a finished table is, node by node: no order, no state.
-use Rattle.std.specs.Prelude.{◌≡◌, ◌<◌, ◌⊎◌, List, length, Option, Some}
+use Rattle.std.specs.Prelude.{◌≡◌, ◌<◌, ◌⊎◌, List, [], length, Option, Some}
 use Rattle.hir_types.specs.declared.ids.ExprId.{ExprId}
 use Rattle.hir_types.specs.declared.ids.PatId.{PatId}
 use Rattle.hir_types.specs.declared.ids.DefWithBodyId.{DefWithBodyId}
@@ -14,7 +14,7 @@ use Rattle.infer_result.specs.Table.{At, HasTy}
 use Rattle.infer_result.specs.Closed.{IsTotal}
 use Rattle.infer_result.specs.TypesFit.{TypesFit, SeenFit}
 use Rattle.infer_result.specs.Shape.{IsShaped, IsTruthful}
-use Rattle.infer_result.specs.OwnTypes.{AreOwnTypes, written_inputs}
+use Rattle.infer_result.specs.OwnTypes.{AreOwnTypes, AreLetTypes, written_inputs}
 use Rattle.infer_result.specs.Places.{Given}
 use Rattle.infer_result.specs.Rules.{ObeysOrMismatch, ObeysExpression, BodyObeysOrMismatch, BodyObeys, ObeysPattern}
 use Rattle.infer_result.specs.Excused.{IsExcused, BodyIsExcused}
@@ -35,13 +35,13 @@ pub record IsTyped (g : Given) (r : InferenceResult) : Type 0 where
   pub truths : (e : ExprId) (x : TypeMismatch) → At r.expr_mismatches e.0 x → IsTrueMismatch g r e x
   pub complaints : IsTruthful g r
 
--- the body of a definition among its facts, with these types of what the definition takes and gives
-abbrev pub given_by : RawFacts → DefWithBodyId → RawBody → List (Option Ty) → Option Ty → Given
-given_by raw d b inputs output = record { scope = scope_of raw d; body = b; inputs = inputs; output = output }
+-- the body of a definition among its facts, with these types of what the definition takes and gives, and of the associated types in its `let`s
+abbrev pub given_by : RawFacts → DefWithBodyId → RawBody → List (Option Ty) → Option Ty → List (Option Ty) → Given
+given_by raw d b inputs output aliases = record { scope = scope_of raw d; body = b; inputs = inputs; output = output; aliases = aliases }
 
 -- with the types as they are written
 abbrev pub given : RawFacts → DefWithBodyId → RawBody → Given
-given raw d b = given_by raw d b (written_inputs raw d) (Some (return_type raw d))
+given raw d b = given_by raw d b (written_inputs raw d) (Some (return_type raw d)) []
 
 -- the table is one of the definition's body, typed, and its types name what the facts have
 pub record IsTableOf (raw : RawFacts) (d : DefWithBodyId) (r : InferenceResult) : Type 0 where
@@ -50,6 +50,8 @@ pub record IsTableOf (raw : RawFacts) (d : DefWithBodyId) (r : InferenceResult) 
   pub inputs : List (Option Ty)
   pub output : Option Ty
   pub own : AreOwnTypes raw d inputs output
-  pub typed : IsTyped (given_by raw d body inputs output) r
+  pub aliases : List (Option Ty)
+  pub lets : AreLetTypes raw d body aliases
+  pub typed : IsTyped (given_by raw d body inputs output aliases) r
   pub fit : TypesFit raw d r
   pub seen_fit : SeenFit raw d r

@@ -37,9 +37,7 @@ fn has_const(arguments: Option<&Value>) -> bool {
     items(arguments).iter().any(|argument| is_const(argument))
 }
 
-const PROJECTIONS: Uncarried<'static> = Uncarried::Form(
-    "projections but in goals, impls, other projections and what functions take and give",
-);
+const PROJECTIONS: Uncarried<'static> = Uncarried::Form("projections in fields");
 
 /// Whether a projection stands in a type: it is one, or a type before it that it is made of holds one.
 fn has_projection(marks: &[bool], ty: Option<&Value>) -> bool {
@@ -236,25 +234,7 @@ fn of_binding(binding: &Value) -> Option<Uncarried<'_>> {
     }
 }
 
-fn is_let_of_projection(marks: &[bool], stmt: &Value) -> bool {
-    word(Some(stmt)) == "let" && has_projection(marks, stmt.get(2usize))
-}
-
-/// The first expression with a `let` that is written with a projection.
-fn of_lets(marks: &[bool], place: Place, body: &Value) -> Option<(Place, Uncarried<'static>)> {
-    for (at, expr) in list(body, "exprs").iter().enumerate() {
-        if word(Some(expr)) == "block"
-            && items(expr.get(2usize))
-                .iter()
-                .any(|stmt| is_let_of_projection(marks, stmt))
-        {
-            return Some((place.item("exprs", at), PROJECTIONS));
-        }
-    }
-    None
-}
-
-fn of_body<'a>(marks: &[bool], place: Place, body: &'a Value) -> Option<(Place, Uncarried<'a>)> {
+fn of_body<'a>(place: Place, body: &'a Value) -> Option<(Place, Uncarried<'a>)> {
     for (at, expr) in list(body, "exprs").iter().enumerate() {
         if let Some(found) = of_expr(expr) {
             return Some((place.item("exprs", at), found));
@@ -273,7 +253,7 @@ fn of_body<'a>(marks: &[bool], place: Place, body: &'a Value) -> Option<(Place, 
     if number(body.get("self")).is_some() {
         Some((place.key("self"), Uncarried::Form("bodies with `self`")))
     } else {
-        of_lets(marks, place, body)
+        None
     }
 }
 
@@ -309,7 +289,7 @@ fn of_entry<'a>(
         FactsList::Traits => of_members(place, entry),
         FactsList::Aliases => of_goals(place, entry, "bounds"),
         FactsList::Impls => of_impl(place, entry),
-        FactsList::Bodies => of_body(marks, place, entry),
+        FactsList::Bodies => of_body(place, entry),
         _ => None,
     }
 }

@@ -41,7 +41,7 @@ body l =
 
 -- such a body where the facts have these types and this function
 abbrev pub calling : List RawType → RawFn → RawLiteral → Ty → Given
-calling types f l output = record { scope = scope_among types (f ∷ []); body = body l; inputs = []; output = Some output }
+calling types f l output = record { scope = scope_among types (f ∷ []); body = body l; inputs = []; output = Some output; aliases = [] }
 
 abbrev pub schedule : Schedule
 schedule = record { starts = 3 ∷ 4 ∷ 2 ∷ 1 ∷ 0 ∷ []; ends = 4 ∷ 5 ∷ 5 ∷ 5 ∷ 5 ∷ []; depths = 3 ∷ 3 ∷ 2 ∷ 1 ∷ 0 ∷ [] }

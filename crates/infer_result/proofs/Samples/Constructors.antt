@@ -112,7 +112,7 @@ abbrev some : RawVariant
 some = variant_of ctor.Tuple (w 0 ∷ [])
 
 abbrev given : Given
-given = record { scope = scope_of_adt types (adt_of kind.Enum (parameter.Type ∷ []) (v 0 ∷ v 1 ∷ [])) (none ∷ some ∷ []); body = body; inputs = []; output = Some u8 }
+given = record { scope = scope_of_adt types (adt_of kind.Enum (parameter.Type ∷ []) (v 0 ∷ v 1 ∷ [])) (none ∷ some ∷ []); body = body; inputs = []; output = Some u8; aliases = [] }
 
 -- `Maybe` and the path to `Some`, at this type
 abbrev maybe : Ty → Ty

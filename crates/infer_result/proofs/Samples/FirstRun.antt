@@ -32,7 +32,7 @@ body =
     (pat.Bind (b 0) None ∷ []) (plain ∷ [])
 
 abbrev given : Given
-given = record { scope = scope_with []; body = body; inputs = []; output = Some u8 }
+given = record { scope = scope_with []; body = body; inputs = []; output = Some u8; aliases = [] }
 
 abbrev schedule : Schedule
 schedule = record { starts = 2 ∷ 4 ∷ 1 ∷ 3 ∷ 0 ∷ []; ends = 3 ∷ 5 ∷ 5 ∷ 4 ∷ 5 ∷ []; depths = 2 ∷ 2 ∷ 1 ∷ 2 ∷ 0 ∷ [] }

@@ -40,7 +40,7 @@ abbrev types : List RawType
 types = type.Bool ∷ []
 
 abbrev given_of : RawExpr → RawExpr → Ty → Given
-given_of c other output = record { scope = scope_with types; body = body_of c other; inputs = Some (written_type types (w 0)) ∷ []; output = Some output }
+given_of c other output = record { scope = scope_with types; body = body_of c other; inputs = Some (written_type types (w 0)) ∷ []; output = Some output; aliases = [] }
 
 abbrev named : RawExpr
 named = expr.Path (path.Local (b 0))

@@ -40,7 +40,7 @@ body =
     (pat.Bind (b 0) None ∷ pat.Bind (b 1) None ∷ []) (plain ∷ plain ∷ [])
 
 abbrev given : Given
-given = record { scope = scope_with types; body = body; inputs = Some (written_type types (w 0)) ∷ []; output = Some unit }
+given = record { scope = scope_with types; body = body; inputs = Some (written_type types (w 0)) ∷ []; output = Some unit; aliases = [] }
 
 written : written_type types (w 0) ≡ ty.Bool
 unfolding filled_within

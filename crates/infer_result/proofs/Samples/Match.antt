@@ -53,7 +53,7 @@ abbrev types : List RawType
 types = type.Integer (integer.Uint uint.U8) ∷ type.Integer (integer.Int int.I32) ∷ type.Tuple (w 0 ∷ w 1 ∷ []) ∷ []
 
 abbrev given_of : RawExpr → Given
-given_of last = record { scope = scope_with types; body = body_of last; inputs = Some (written_type types (w 2)) ∷ []; output = Some u8 }
+given_of last = record { scope = scope_with types; body = body_of last; inputs = Some (written_type types (w 2)) ∷ []; output = Some u8; aliases = [] }
 
 abbrev body : RawBody
 body = body_of (expr.Lit one_u8)

@@ -57,7 +57,7 @@ abbrev body : RawBody
 body = body_of (expr.Lit one_u8 ∷ expr.Lit two_u8 ∷ expr.Call (e 0) (e 1 ∷ []) ∷ expr.Block None (stmt.Expr (e 2) true ∷ []) None ∷ []) 3 [] []
 
 abbrev given : Given
-given = record { scope = scope_with []; body = body; inputs = []; output = Some unit }
+given = record { scope = scope_with []; body = body; inputs = []; output = Some unit; aliases = [] }
 
 abbrev schedule : Schedule
 schedule = record { starts = 3 ∷ 4 ∷ 2 ∷ 1 ∷ 0 ∷ []; ends = 4 ∷ 5 ∷ 5 ∷ 5 ∷ 5 ∷ []; depths = 3 ∷ 3 ∷ 2 ∷ 1 ∷ 0 ∷ [] }

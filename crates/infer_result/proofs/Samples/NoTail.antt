@@ -30,7 +30,7 @@ abbrev body : RawBody
 body = body_of (expr.Lit one_u8 ∷ expr.Block None (stmt.Let (p 0) None (Some (e 0)) None ∷ []) None ∷ []) 1 (pat.Bind (b 0) None ∷ []) (plain ∷ [])
 
 abbrev given : Given
-given = record { scope = scope_with []; body = body; inputs = []; output = Some u8 }
+given = record { scope = scope_with []; body = body; inputs = []; output = Some u8; aliases = [] }
 
 abbrev schedule : Schedule
 schedule = record { starts = 2 ∷ 1 ∷ 3 ∷ 0 ∷ []; ends = 3 ∷ 4 ∷ 4 ∷ 4 ∷ []; depths = 2 ∷ 1 ∷ 2 ∷ 0 ∷ [] }

@@ -25,7 +25,7 @@ abbrev body : RawBody
 body = body_with (p 0 ∷ []) (expr.Tuple [] ∷ []) 0 (pat.Tuple (p 1 ∷ []) ∷ pat.Wild ∷ []) []
 
 abbrev given : Given
-given = record { scope = scope_with []; body = body; inputs = []; output = Some unit }
+given = record { scope = scope_with []; body = body; inputs = []; output = Some unit; aliases = [] }
 
 abbrev schedule : Schedule
 schedule = record { starts = 3 ∷ 1 ∷ 2 ∷ 0 ∷ []; ends = 4 ∷ 3 ∷ 3 ∷ 4 ∷ []; depths = 1 ∷ 1 ∷ 2 ∷ 0 ∷ [] }

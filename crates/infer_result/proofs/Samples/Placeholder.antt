@@ -24,7 +24,7 @@ use Rattle.infer_result.specs.declared.result.InferenceResult.{InferenceResult}
 use Rattle.infer_result.specs.declared.modes.BindingMode.TheVariants as mode
 use Rattle.infer_result.specs.Closed.{IsBinder, NamesVariant, IsVariantPat}
 use Rattle.infer_result.specs.Table.{BindingTy, PlaceholderTy}
-use Rattle.infer_result.specs.Places.{Given, declared, IsPlaceholder, AreRecorded}
+use Rattle.infer_result.specs.Places.{Given, declared, IsPlaceholder, IsAsKnown, AreRecorded}
 use Rattle.infer_result.specs.Demands.{Demand}
 use Rattle.infer_result.specs.Rules.{ObeysOrMismatch, PatRule}
 use Rattle.infer_result.specs.Truth.Mismatch.{IsTruePatMismatch}
@@ -47,7 +47,7 @@ body =
     (pat.Bind (b 0) None ∷ []) (plain ∷ [])
 
 abbrev given : Given
-given = record { scope = scope_with types; body = body; inputs = []; output = Some unit }
+given = record { scope = scope_with types; body = body; inputs = []; output = Some unit; aliases = [] }
 
 abbrev schedule : Schedule
 schedule = record { starts = 3 ∷ 4 ∷ 2 ∷ 1 ∷ 5 ∷ 0 ∷ []; ends = 4 ∷ 5 ∷ 5 ∷ 6 ∷ 6 ∷ 6 ∷ []; depths = 3 ∷ 3 ∷ 2 ∷ 1 ∷ 2 ∷ 0 ∷ [] }
@@ -115,6 +115,10 @@ closed_pair = has_hole_tuple (u8 ∷ ty.Bool ∷ []) ∙ rw (closed_u8, closed_b
 is_placeholder : IsPlaceholder given 0
 is_placeholder = record { block = e 3; at_stmt = 0; pattern = p 0; written = w 2; init = Some (e 2); other = None; is_let = refl; stands = hole_stands }
 
+-- no associated type is written
+nothing_known : (k : ℕ) (s : Ty) → IsAsKnown given k s
+nothing_known k s u is = absurd (cc)
+
 right_made : IsMade given right
 right_made = record {
   shape = record {
@@ -131,7 +135,7 @@ right_made = record {
       found = each_found IsClosed right.expr_diagnostics tt;
     };
     modes = λ x. each_placed (λ k m. IsBinder body (p k)) right.binding_modes ((b 0, None, refl), tt) x.0;
-    placeholders = each_placed (λ k s. IsPlaceholder given k) right.type_of_placeholder (is_placeholder, tt);
+    placeholders = each_placed (λ k s. IsPlaceholder given k × IsAsKnown given k s) right.type_of_placeholder ((is_placeholder, nothing_known 0 u8), tt);
     variants = record {
       exprs = λ x. each_entry (NamesVariant given.body x) right.expr_variants tt x.0;
       pats = λ x. each_entry (IsVariantPat given.body x) right.pat_variants tt x.0;
@@ -187,6 +191,6 @@ forgotten h =
 -- a type recorded at `bool`, which is no `_`
 pub at_bool : (s : Ty) → IsTyped given (table_of (Some u8) (Some s)) → ⊥
 at_bool s h =
-    (let x = h.shape.placeholders 1 s refl in
+    (let x = (h.shape.placeholders 1 s refl).0 in
     let is = is_hole types 1 x.written.0 x.stands in
     cc)

@@ -42,7 +42,7 @@ use Rattle.infer_result.specs.declared.result.InferenceResult.{InferenceResult}
 use Rattle.infer_result.specs.declared.diagnostics.InferenceDiagnostic.{InferenceDiagnostic}
 use Rattle.infer_result.specs.declared.diagnostics.InferenceDiagnostic.TheVariants as diagnostic
 use Rattle.infer_result.specs.Table.{At, HasTy, PatTy, AnyMismatch}
-use Rattle.infer_result.specs.Places.{Given, AreRecorded, OnlyPlaceholdersHaveTypes, StandsAt, PatIsAtOrMismatch}
+use Rattle.infer_result.specs.Places.{Given, let_types, AreRecorded, OnlyPlaceholdersHaveTypes, StandsAt, PatIsAtOrMismatch}
 use Rattle.infer_result.specs.Incoming.{IsInput, Gives, Incoming}
 use Rattle.infer_result.specs.Kinds.Alternative.{IsBefore, IsOfOther}
 use Rattle.infer_result.specs.Demands.{Asks, IsAsked, Demand}
@@ -288,8 +288,8 @@ no_hole_at (x ∷ types) h zero at = (let is : x ≡ type.Hole = cc in subst IsN
 no_hole_at (x ∷ types) h (suc k) at = no_hole_at types h.1 k at
 
 -- so there is nothing to record
-pub none_recorded : (g : Given) (t : InferenceResult) → AreNoHoles g.scope.facts.types → (v : TypeRefId) → AreRecorded g t v
-none_recorded g t none v k stands = absurd (no_hole_at g.scope.facts.types none k (is_hole g.scope.facts.types k v.0 stands))
+pub none_recorded : (g : Given) (t : InferenceResult) → AreNoHoles (let_types g) → (v : TypeRefId) → AreRecorded g t v
+none_recorded g t none v k stands = absurd (no_hole_at (let_types g) none k (is_hole (let_types g) k v.0 stands))
 
 -- ---- types
 

@@ -41,7 +41,7 @@ body =
     (pat.Bind (b 0) None ∷ pat.Bind (b 1) None ∷ []) (plain ∷ plain ∷ [])
 
 abbrev given : Given
-given = record { scope = scope_with types; body = body; inputs = []; output = Some unit }
+given = record { scope = scope_with types; body = body; inputs = []; output = Some unit; aliases = [] }
 
 first_declared : (t : InferenceResult) → declared given t (w 0) ≡ ty.Bool
 unfolding filled_within

@@ -45,7 +45,7 @@ abbrev types : List RawType
 types = type.Bool ∷ []
 
 abbrev given : Given
-given = record { scope = scope_with types; body = body; inputs = Some (written_type types (w 0)) ∷ []; output = Some unit }
+given = record { scope = scope_with types; body = body; inputs = Some (written_type types (w 0)) ∷ []; output = Some unit; aliases = [] }
 
 written : written_type types (w 0) ≡ ty.Bool
 unfolding filled_within

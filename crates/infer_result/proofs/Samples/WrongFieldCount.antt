@@ -61,7 +61,7 @@ abbrev pair : Ty
 pair = ty.Adt adt []
 
 abbrev given : Given
-given = record { scope = scope_of_adt types (adt_of kind.Struct [] (v 0 ∷ [])) (both ∷ []); body = body; inputs = Some (written_type types (w 2)) ∷ []; output = Some unit }
+given = record { scope = scope_of_adt types (adt_of kind.Struct [] (v 0 ∷ [])) (both ∷ []); body = body; inputs = Some (written_type types (w 2)) ∷ []; output = Some unit; aliases = [] }
 
 both_is : IsVariantAt given (v 0) both []
 both_is = record { found = refl; count = refl }

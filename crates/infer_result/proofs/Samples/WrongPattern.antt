@@ -52,7 +52,7 @@ abbrev types : List RawType
 types = type.Integer (integer.Uint uint.U8) ∷ type.Tuple (w 0 ∷ []) ∷ []
 
 abbrev given : Given
-given = record { scope = scope_with types; body = body; inputs = Some (written_type types (w 1)) ∷ []; output = Some unit }
+given = record { scope = scope_with types; body = body; inputs = Some (written_type types (w 1)) ∷ []; output = Some unit; aliases = [] }
 
 written : written_type types (w 1) ≡ single
 unfolding filled_within

@@ -27,7 +27,7 @@ abbrev body : RawBody
 body = body_of (expr.Lit (literal.Bool true) ∷ expr.Block None [] (Some (e 0)) ∷ []) 1 [] []
 
 abbrev given : Given
-given = record { scope = scope_with []; body = body; inputs = []; output = Some u8 }
+given = record { scope = scope_with []; body = body; inputs = []; output = Some u8; aliases = [] }
 
 abbrev schedule : Schedule
 schedule = record { starts = 2 ∷ 1 ∷ 0 ∷ []; ends = 3 ∷ 3 ∷ 3 ∷ []; depths = 2 ∷ 1 ∷ 0 ∷ [] }

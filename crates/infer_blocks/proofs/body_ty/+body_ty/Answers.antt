@@ -3,11 +3,10 @@ use Rattle.std.proofs.lemmas.Option.{slice_get-get_or}
 use Rattle.hir_types.specs.declared.ty.GenericArg.TheVariants as arg
 use Rattle.hir_types.specs.declared.ty.Ty.TheVariants as ty
 use Rattle.hir_raw.specs.declared.raw.RawType.{RawType}
-use Rattle.hir_laws.specs.LawfulFacts.{type_ids}
 use Rattle.hir_raw.specs.WrittenTypes.{is_itself}
 use Rattle.hir_raw.specs.declared.raw.RawType.TheVariants as type
 use Rattle.infer_ctx.specs.Context.{given_of}
-use Rattle.infer_blocks.proofs.BodyTy.{is_below, comes_to_parts, parts_below, leaf_done, tuple_done, adt_done, projection_done, hole_done, comes_to_part, goes_past_part}
+use Rattle.infer_blocks.proofs.BodyTy.{is_below, let_before, read_itself, read_hole, comes_to_parts, parts_below, leaf_done, tuple_done, adt_done, hole_done, comes_to_part, goes_past_part}
 use Rattle.infer_blocks.proofs.body_ty.+body_ty.Goals as goal
 
 -- ---- parts
@@ -39,71 +38,60 @@ lower_args-loop-i-preserved t c =
 pub lower_part-lower_parts-requires : goal.lower_part-lower_parts-requires
 lower_part-lower_parts-requires t c =
     let g = given_of c.args.given.now in
-    let all = type_ids g.scope.facts c.lawful.ensures in
-    let here = c.written.ensures ∙ ap (λ (x : RawType). Some x) c.in-Tuple.is in
+    let all = let_before g c.lawful.ensures in
+    let here = read_itself g c.args.type_ref (type.Tuple c.in-Tuple.parts) (c.written.ensures ∙ ap (λ (x : RawType). Some x) c.in-Tuple.is) refl in
     let below = parts_below g all c.args.type_ref _ here in
     rw c.as_slice.ensures (omega (arith, c.decreases, below), comes_to_parts g all c.args.type_ref _ here _ c.requires)
 
 pub lower_part-lower_args-requires : goal.lower_part-lower_args-requires
 lower_part-lower_args-requires t c =
     let g = given_of c.args.given.now in
-    let all = type_ids g.scope.facts c.lawful.ensures in
-    let here = c.written.ensures ∙ ap (λ (x : RawType). Some x) c.in-Adt.is in
+    let all = let_before g c.lawful.ensures in
+    let here = read_itself g c.args.type_ref (type.Adt c.in-Adt.adt c.in-Adt.args) (c.written.ensures ∙ ap (λ (x : RawType). Some x) c.in-Adt.is) refl in
     let below = parts_below g all c.args.type_ref _ here in
     rw c.as_slice-in-Adt.ensures (omega (arith, c.decreases, below), comes_to_parts g all c.args.type_ref _ here _ c.requires)
 
-pub lower_part-lower_args-requires-in-Projection : goal.lower_part-lower_args-requires-in-Projection
-lower_part-lower_args-requires-in-Projection t c =
-    let g = given_of c.args.given.now in
-    let all = type_ids g.scope.facts c.lawful.ensures in
-    let here = c.written.ensures ∙ ap (λ (x : RawType). Some x) c.in-Projection.is in
-    let below = parts_below g all c.args.type_ref _ here in
-    rw c.as_slice-in-Projection.ensures (omega (arith, c.decreases, below), comes_to_parts g all c.args.type_ref _ here _ c.requires)
-
 pub lower_part-placeholder_ty-requires-clause-is : goal.lower_part-placeholder_ty-requires-clause-is
-lower_part-placeholder_ty-requires-clause-is t c = c.requires.placeholders c.args.type_ref.0 (is_itself (c.written.ensures ∙ ap (λ (x : RawType). Some x) c.in-Hole.is))
+lower_part-placeholder_ty-requires-clause-is t c =
+    let g = given_of c.args.given.now in
+    c.requires.placeholders c.args.type_ref.0 (is_itself (read_hole g c.args.type_ref _ c.written.ensures c.in-Projection.is))
 
 pub lower_part-returns-in-Bool : goal.lower_part-returns-in-Bool
 lower_part-returns-in-Bool t c =
     let g = given_of c.args.given.now in
-    leaf_done g (type_ids g.scope.facts c.lawful.ensures) _ type.Bool (c.written.ensures ∙ ap (λ (x : RawType). Some x) c.in-Bool.is) ty.Bool _ c.requires.sound (λ e. absurd (cc)) refl refl
+    leaf_done g (let_before g c.lawful.ensures) _ type.Bool (read_itself g c.args.type_ref type.Bool (c.written.ensures ∙ ap (λ (x : RawType). Some x) c.in-Bool.is) refl) ty.Bool _ c.requires.sound (λ e. absurd (cc)) refl refl
 
 pub lower_part-returns-in-Char : goal.lower_part-returns-in-Char
 lower_part-returns-in-Char t c =
     let g = given_of c.args.given.now in
-    leaf_done g (type_ids g.scope.facts c.lawful.ensures) _ type.Char (c.written.ensures ∙ ap (λ (x : RawType). Some x) c.in-Char.is) ty.Char _ c.requires.sound (λ e. absurd (cc)) refl refl
+    leaf_done g (let_before g c.lawful.ensures) _ type.Char (read_itself g c.args.type_ref type.Char (c.written.ensures ∙ ap (λ (x : RawType). Some x) c.in-Char.is) refl) ty.Char _ c.requires.sound (λ e. absurd (cc)) refl refl
 
 pub lower_part-returns-in-Integer : goal.lower_part-returns-in-Integer
 lower_part-returns-in-Integer t c =
     let g = given_of c.args.given.now in
-    leaf_done g (type_ids g.scope.facts c.lawful.ensures) _ (type.Integer c.in-Integer.integer) (c.written.ensures ∙ ap (λ (x : RawType). Some x) c.in-Integer.is) c.ty.result _ c.requires.sound (λ e. absurd (cc)) refl c.ty.ensures
+    leaf_done g (let_before g c.lawful.ensures) _ (type.Integer c.in-Integer.integer) (read_itself g c.args.type_ref (type.Integer c.in-Integer.integer) (c.written.ensures ∙ ap (λ (x : RawType). Some x) c.in-Integer.is) refl) c.ty.result _ c.requires.sound (λ e. absurd (cc)) refl c.ty.ensures
 
 pub lower_part-returns-in-Param : goal.lower_part-returns-in-Param
 lower_part-returns-in-Param t c =
     let g = given_of c.args.given.now in
-    leaf_done g (type_ids g.scope.facts c.lawful.ensures) _ (type.Param c.in-Param.number) (c.written.ensures ∙ ap (λ (x : RawType). Some x) c.in-Param.is) (ty.Param c.in-Param.number) _ c.requires.sound (λ e. absurd (cc)) refl refl
+    leaf_done g (let_before g c.lawful.ensures) _ (type.Param c.in-Param.number) (read_itself g c.args.type_ref (type.Param c.in-Param.number) (c.written.ensures ∙ ap (λ (x : RawType). Some x) c.in-Param.is) refl) (ty.Param c.in-Param.number) _ c.requires.sound (λ e. absurd (cc)) refl refl
 
 pub lower_part-returns-in-Other : goal.lower_part-returns-in-Other
 lower_part-returns-in-Other t c =
     let g = given_of c.args.given.now in
-    leaf_done g (type_ids g.scope.facts c.lawful.ensures) _ type.Other (c.written.ensures ∙ ap (λ (x : RawType). Some x) c.in-Other.is) ty.Error _ c.requires.sound (λ e. absurd (cc)) refl refl
+    leaf_done g (let_before g c.lawful.ensures) _ type.Other (read_itself g c.args.type_ref type.Other (c.written.ensures ∙ ap (λ (x : RawType). Some x) c.in-Other.is) refl) ty.Error _ c.requires.sound (λ e. absurd (cc)) refl refl
 
 pub lower_part-returns-in_ok-tys-in-Tuple : goal.lower_part-returns-in_ok-tys-in-Tuple
 lower_part-returns-in_ok-tys-in-Tuple t c =
     let g = given_of c.args.given.now in
-    tuple_done g (type_ids g.scope.facts c.lawful.ensures) _ c.in-Tuple.parts _ c.as_slice.ensures _ _ c.in_ok-tys-in-Tuple.ensures.done _ (c.written.ensures ∙ ap (λ (x : RawType). Some x) c.in-Tuple.is) c.in_ok-tys-in-Tuple.ensures.are
+    tuple_done g (let_before g c.lawful.ensures) _ c.in-Tuple.parts _ c.as_slice.ensures _ _ c.in_ok-tys-in-Tuple.ensures.done _ (read_itself g c.args.type_ref (type.Tuple c.in-Tuple.parts) (c.written.ensures ∙ ap (λ (x : RawType). Some x) c.in-Tuple.is) refl) c.in_ok-tys-in-Tuple.ensures.are
 
 pub lower_part-returns-in_ok-args-in-Adt : goal.lower_part-returns-in_ok-args-in-Adt
 lower_part-returns-in_ok-args-in-Adt t c =
     let g = given_of c.args.given.now in
-    adt_done g (type_ids g.scope.facts c.lawful.ensures) _ c.in-Adt.args _ c.as_slice-in-Adt.ensures _ _ c.in_ok-args-in-Adt.ensures.done c.in-Adt.adt _ (c.written.ensures ∙ ap (λ (x : RawType). Some x) c.in-Adt.is) c.in_ok-args-in-Adt.ensures.are
+    adt_done g (let_before g c.lawful.ensures) _ c.in-Adt.args _ c.as_slice-in-Adt.ensures _ _ c.in_ok-args-in-Adt.ensures.done c.in-Adt.adt _ (read_itself g c.args.type_ref (type.Adt c.in-Adt.adt c.in-Adt.args) (c.written.ensures ∙ ap (λ (x : RawType). Some x) c.in-Adt.is) refl) c.in_ok-args-in-Adt.ensures.are
 
-pub lower_part-returns-in_ok-args-in-Projection : goal.lower_part-returns-in_ok-args-in-Projection
-lower_part-returns-in_ok-args-in-Projection t c =
+pub lower_part-returns-in_ok-ty-in-Projection : goal.lower_part-returns-in_ok-ty-in-Projection
+lower_part-returns-in_ok-ty-in-Projection t c =
     let g = given_of c.args.given.now in
-    projection_done g (type_ids g.scope.facts c.lawful.ensures) _ c.in-Projection.args _ c.as_slice-in-Projection.ensures _ _ c.in_ok-args-in-Projection.ensures.done c.in-Projection.alias _ (c.written.ensures ∙ ap (λ (x : RawType). Some x) c.in-Projection.is) c.in_ok-args-in-Projection.ensures.are
-
-pub lower_part-returns-in_ok-ty-in-Hole : goal.lower_part-returns-in_ok-ty-in-Hole
-lower_part-returns-in_ok-ty-in-Hole t c =
-    let g = given_of c.args.given.now in
-    hole_done g (type_ids g.scope.facts c.lawful.ensures) _ (c.written.ensures ∙ ap (λ (x : RawType). Some x) c.in-Hole.is) _ _ _ c.in_ok-ty-in-Hole.ensures
+    hole_done g (let_before g c.lawful.ensures) _ (read_hole g c.args.type_ref _ c.written.ensures c.in-Projection.is) _ _ _ c.in_ok-ty-in-Projection.ensures

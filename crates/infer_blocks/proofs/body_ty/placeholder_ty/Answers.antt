@@ -1,7 +1,5 @@
 use Rattle.std.specs.Option.{option_copied}
 use Rattle.std.proofs.Common.{◌∙◌, ap, sym}
-use Rattle.hir_types.specs.declared.ty.Ty.TheVariants as ty
-use Rattle.infer_table.specs.Table.{hole_count}
 use Rattle.infer_ctx.specs.Context.{given_of}
 use Rattle.infer_blocks.proofs.BodyTy.{placeholder_known, placeholder_made}
 use Rattle.infer_blocks.proofs.body_ty.placeholder_ty.Goals as goal
@@ -12,11 +10,5 @@ returns-in_ok-ty-in-Some c = rw c.in_ok-ty-in-Some.ensures (placeholder_known (g
 pub returns-in_ok-write_type_placeholder_ty-in-None : goal.returns-in_ok-write_type_placeholder_ty-in-None
 returns-in_ok-write_type_placeholder_ty-in-None c =
     let g = given_of c.args.given.now in
-    let w = c.args.type_ref in
-    let old = c.args.context.now in
-    let t = ty.Var (hole_count old.goals.table) in
-    let made = placeholder_made g w old c.requires.before c.requires.is (sym c.type_of_type_placeholder.ensures ∙ ap option_copied c.in-None.is) in
-    rw c.in_ok-write_type_placeholder_ty-in-None.ensures (
-    rw c.in_ok-recorded-in-None.ensures (
-    rw c.in_ok-ty-in-None.ensures.hole (
-    rw c.in_ok-ty-in-None.ensures.made made)))
+    let made = placeholder_made g c.args.type_ref _ c.args.context.now c.first_ty.new.context c.requires.before c.requires.is (sym c.type_of_type_placeholder.ensures ∙ ap option_copied c.in-None.is) c.in_ok-ty-in-None.ensures in
+    rw c.in_ok-write_type_placeholder_ty-in-None.ensures (rw c.in_ok-recorded-in-None.ensures made)

@@ -19,4 +19,4 @@ returns-clause-done c =
 pub returns-clause-selection : goal.returns-clause-selection
 returns-clause-selection c =
     let ends = c.in_ok-select_registered.ensures in
-    is_selection c.args.given.now.facts.now c.args.given.now.owner c.args.given.now.body.now c.args.given.now.inputs.now c.args.given.now.return_ty.now c.args.context.now c.requires.told c.requires.item c.select_registered.new.goals ends.given ends.selected
+    is_selection c.args.given.now.facts.now c.args.given.now.owner c.args.given.now.body.now c.args.given.now.inputs.now c.args.given.now.return_ty.now c.args.given.now.aliases.now c.args.context.now c.requires.told c.requires.item c.select_registered.new.goals ends.given ends.selected

@@ -4,7 +4,7 @@ use Rattle.hir_facts.proofs.InRange.{body_in_range}
 use Rattle.infer_goals.specs.Below.{ItemSources}
 use Rattle.infer_goals.specs.declared.table.GoalTable.{GoalTable}
 use Rattle.infer_table.specs.Table.{new_state}
-use Rattle.infer_result.specs.OwnTypes.{AreOwnTypes}
+use Rattle.infer_result.specs.OwnTypes.{AreOwnTypes, AreLetTypes}
 use Rattle.infer_result.specs.Typed.{given_by}
 use Rattle.infer_needs.proofs.Holding.{same_body}
 use Rattle.infer_end.proofs.Definitions.{found_body, written_exist, inputs_for_params, output_carried, output_fine}
@@ -23,7 +23,8 @@ schedule-requires c = body_in_range _ _ _ c.lawful.ensures (sym c.in-Some.ensure
 pub infer_body-requires-clause-written : goal.infer_body-requires-clause-written
 infer_body-requires-clause-written c =
     written_exist c.args.facts.now c.args.def c.in-Some.id _ _ _ c.lawful.ensures (sym c.in-Some.ensures) c.body-body.ensures
-    (subst (λ xs. AreOwnTypes c.args.facts.now c.args.def xs c.in_ok-own.own.output) (sym c.deref.ensures.value) c.in_ok-own.ensures)
+    (subst (λ xs. AreOwnTypes c.args.facts.now c.args.def xs c.in_ok-own.own.output) (sym c.deref.ensures.value) c.in_ok-own.ensures) _
+    (subst (AreLetTypes c.args.facts.now c.args.def c.body-body.result.now) (sym c.as_slice.ensures) c.in_ok-aliases.ensures)
 
 pub infer_body-requires-clause-count : goal.infer_body-requires-clause-count
 infer_body-requires-clause-count c =
@@ -38,6 +39,9 @@ infer_body-requires-clause-fine c = output_fine c.args.facts.now c.args.def c.in
 
 pub own_types-requires-clause-item : goal.own_types-requires-clause-item
 own_types-requires-clause-item c = c.in_ok-context.ensures.goals.scope ∙ c.scope_item.ensures
+
+pub let_types-requires-clause-item : goal.let_types-requires-clause-item
+let_types-requires-clause-item c = c.in_ok-context.ensures.goals.scope ∙ c.scope_item.ensures
 
 pub keep_general-requires : goal.keep_general-requires
 keep_general-requires c = has_all_types _ _ c.infer_body.new.context (c.schedule.ensures.walkable _ c.body-body.ensures) c.in_ok-infer_body.ensures.done
@@ -68,7 +72,7 @@ select_where_possible-requires-clause-done c = kept_done _ c.args.facts.now c.ar
 
 pub read_where_possible-requires-clause-of_body : goal.read_where_possible-requires-clause-of_body
 read_where_possible-requires-clause-of_body c =
-    let g = given_by c.args.facts.now c.args.def c.body-body.result.now c.deref.result.now c.in_ok-own.own.output in
+    let g = given_by c.args.facts.now c.args.def c.body-body.result.now c.deref.result.now c.in_ok-own.own.output c.as_slice.result.now in
     goals_of_body g c.keep_general.new.context c.select_where_possible.new.context c.select_where_possible.ensures.only
     (kept_of_body g c.args.facts.now c.args.def c.infer_body.new.context c.keep_general.new.context c.in_ok-infer_body.ensures.read.settles.settles.binds.follows.of_body c.in_ok-keep_general.ensures)
 
@@ -82,7 +86,7 @@ returns-clause-ends c = λ ps js gs. (
     let last = c.read_where_possible.new.context in
     let only = c.select_where_possible.ensures.only in
     let read = c.in_ok-read_where_possible.ensures in
-    ends_selected raw d c.in-Some.id b _ _ _ (sym c.in-Some.ensures) c.body-body.ensures (c.schedule.ensures.walkable _ c.body-body.ensures) (subst (λ xs. AreOwnTypes raw d xs c.in_ok-own.own.output) (sym c.deref.ensures.value) c.in_ok-own.ensures) c.infer_body.new.context c.in_ok-infer_body.ensures.done c.lawful.ensures ps js gs
+    ends_selected raw d c.in-Some.id b _ _ _ _ (sym c.in-Some.ensures) c.body-body.ensures (c.schedule.ensures.walkable _ c.body-body.ensures) (subst (λ xs. AreOwnTypes raw d xs c.in_ok-own.own.output) (sym c.deref.ensures.value) c.in_ok-own.ensures) (subst (AreLetTypes c.args.facts.now c.args.def c.body-body.result.now) (sym c.as_slice.ensures) c.in_ok-aliases.ensures) c.infer_body.new.context c.in_ok-infer_body.ensures.done c.lawful.ensures ps js gs
     mid last c.in_ok-keep_general.ensures (goals_twice mid selected last only read.only) (stays_twice mid selected last only c.select_where_possible.ensures.plain read.plain)
     read.done)
 
@@ -96,6 +100,8 @@ returns-clause-selected c b is =
       inputs = c.deref.result.now;
       output = c.in_ok-own.own.output;
       own = subst (λ xs. AreOwnTypes raw d xs c.in_ok-own.own.output) (sym c.deref.ensures.value) c.in_ok-own.ensures;
+      aliases = c.as_slice.result.now;
+      lets = subst (AreLetTypes c.args.facts.now c.args.def c.body-body.result.now) (sym c.as_slice.ensures) c.in_ok-aliases.ensures;
       settled = c.infer_body.new.context;
       read = c.in_ok-infer_body.ensures.read;
       walked = mid;
