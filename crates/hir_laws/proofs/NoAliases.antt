@@ -5,7 +5,8 @@ use Rattle.hir_types.specs.declared.ids.TypeRefId.{TypeRefId}
 use Rattle.hir_raw.specs.declared.raw.RawFacts.{RawFacts}
 use Rattle.hir_raw.specs.declared.raw.RawFn.{RawFn}
 use Rattle.hir_raw.specs.declared.raw.RawType.{RawType}
-use Rattle.hir_raw.specs.Hidden.{is_alias, aliases_by, aliases_within, aliases_at, aliases_in, fn_aliases}
+use Rattle.hir_raw.specs.declared.raw.RawVariant.{RawVariant}
+use Rattle.hir_raw.specs.Hidden.{is_alias, aliases_by, aliases_within, aliases_at, aliases_in, fn_aliases, field_refs, variant_aliases}
 use Rattle.hir_raw.specs.Scope.{fn_arity}
 use Rattle.hir_raw.specs.WrittenTypes.{type_parts}
 use Rattle.hir_ids.specs.Projections.{HoldsProjection, is_one, in_part, IsNoProjection, SignatureNamesNone}
@@ -37,6 +38,10 @@ module _ (raw : RawFacts) (law : IsLawful raw) where
       let inputs : aliases_in raw.types x.inputs ≡ [] = none_of (aliases_within (length raw.types) raw.types) x.inputs (λ k w at. none_within (length raw.types) w.0 (names.inputs k w at)) in
       let output : aliases_at raw.types x.output.0 ≡ [] = none_within (length raw.types) x.output.0 names.output in
       λ i. inputs i ++ output i
+
+  -- nor of a constructor, where none stands in a field
+  pub no_field_aliases : (x : RawVariant) → ((k : ℕ) (w : TypeRefId) → slice_get (field_refs x.fields) k ≡ Some w → IsNoProjection raw w.0) → variant_aliases raw.types x ≡ []
+  no_field_aliases x none = none_of (aliases_within (length raw.types) raw.types) (field_refs x.fields) (λ k w at. none_within (length raw.types) w.0 (none k w at))
 
   pub own_arity : (x : RawFn) → SignatureNamesNone raw x → fn_arity raw.types x ≡ length x.params
   own_arity x names = ap (λ ks. length x.params + length ks) (no_aliases x names) ∙ no_more (length x.params)

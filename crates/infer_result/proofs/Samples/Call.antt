@@ -54,6 +54,7 @@ abbrev table_of : List Ty → Ty → List (Option TypeMismatch) → List (Option
 table_of ts s mismatches diagnostics = record {
   type_of_expr = Some (item ts) ∷ Some u8 ∷ Some s ∷ Some u8 ∷ [];
   type_of_pat = [];
+  item_of_pat = [];
   type_of_binding = [];
   type_of_placeholder = [];
   binding_modes = [];
@@ -67,6 +68,7 @@ table_of ts s mismatches diagnostics = record {
   proofs = [];
   projections = [];
   expr_gaps = [];
+  pat_gaps = [];
   general = None;
 }
 
@@ -94,7 +96,7 @@ closed_callee = closed_item (u8 ∷ []) (rw (carried_type_arg u8 ∙ carried_int
 right_made : IsMade given right
 right_made = record {
   shape = record {
-    of_body = record { exprs = refl; pats = refl; bindings = refl; modes = refl; mismatches = refl; diagnostics = refl; pat_mismatches = refl; pat_diagnostics = refl; expr_variants = refl; pat_variants = refl };
+    of_body = record { exprs = refl; pats = refl; bindings = refl; items = refl; modes = refl; mismatches = refl; diagnostics = refl; pat_mismatches = refl; pat_diagnostics = refl; expr_variants = refl; pat_variants = refl };
     closed = record {
       exprs = each_entry IsClosed right.type_of_expr (closed_callee, (closed_u8, (closed_u8, (closed_u8, tt))));
       pats = λ n s h. absurd (cc);

@@ -170,6 +170,7 @@ abbrev table_of : Ty → Ty → Ty → Ty → Ty → Ty → List (Option TypeMis
 table_of callee call name whole x bound mismatches expr_variants pat_variants = record {
   type_of_expr = Some callee ∷ Some u8 ∷ Some call ∷ Some name ∷ Some u8 ∷ Some u8 ∷ Some u8 ∷ [];
   type_of_pat = Some whole ∷ Some x ∷ Some whole ∷ [];
+  item_of_pat = None ∷ None ∷ None ∷ [];
   type_of_binding = Some bound ∷ [];
   type_of_placeholder = [];
   binding_modes = None ∷ Some mode.Move ∷ None ∷ [];
@@ -183,6 +184,7 @@ table_of callee call name whole x bound mismatches expr_variants pat_variants = 
   proofs = [];
   projections = [];
   expr_gaps = [];
+  pat_gaps = [];
   general = None;
 }
 
@@ -245,7 +247,7 @@ some_obeys = record {
 right_made : IsMade given right
 right_made = record {
   shape = record {
-    of_body = record { exprs = refl; pats = refl; bindings = refl; modes = refl; mismatches = refl; diagnostics = refl; pat_mismatches = refl; pat_diagnostics = refl; expr_variants = refl; pat_variants = refl };
+    of_body = record { exprs = refl; pats = refl; bindings = refl; items = refl; modes = refl; mismatches = refl; diagnostics = refl; pat_mismatches = refl; pat_diagnostics = refl; expr_variants = refl; pat_variants = refl };
     closed = record {
       exprs = each_entry IsClosed right.type_of_expr (closed_some, (closed_u8, (closed_maybe, (closed_u8, (closed_u8, (closed_u8, (closed_u8, tt)))))));
       pats = each_entry IsClosed right.type_of_pat (closed_maybe, (closed_u8, (closed_maybe, tt)));

@@ -53,6 +53,7 @@ abbrev table_of : List (Option Ty) → List (Option TypeMismatch) → InferenceR
 table_of types mismatches = record {
   type_of_expr = types;
   type_of_pat = Some u8 ∷ [];
+  item_of_pat = None ∷ [];
   type_of_binding = Some u8 ∷ [];
   type_of_placeholder = [];
   binding_modes = Some mode.Move ∷ [];
@@ -66,6 +67,7 @@ table_of types mismatches = record {
   proofs = [];
   projections = [];
   expr_gaps = [];
+  pat_gaps = [];
   general = None;
 }
 
@@ -75,7 +77,7 @@ right = table_of (Some u8 ∷ Some u8 ∷ Some u8 ∷ []) (None ∷ None ∷ Non
 right_made : IsMade given right
 right_made = record {
   shape = record {
-    of_body = record { exprs = refl; pats = refl; bindings = refl; modes = refl; mismatches = refl; diagnostics = refl; pat_mismatches = refl; pat_diagnostics = refl; expr_variants = refl; pat_variants = refl };
+    of_body = record { exprs = refl; pats = refl; bindings = refl; items = refl; modes = refl; mismatches = refl; diagnostics = refl; pat_mismatches = refl; pat_diagnostics = refl; expr_variants = refl; pat_variants = refl };
     closed = record {
       exprs = each_entry IsClosed right.type_of_expr (closed_u8, (closed_u8, (closed_u8, tt)));
       pats = each_entry IsClosed right.type_of_pat (closed_u8, tt);

@@ -122,6 +122,7 @@ abbrev pub table_at : Ty → InferenceResult
 table_at s = record {
   type_of_expr = Some (item (s ∷ [])) ∷ Some s ∷ Some s ∷ Some unit ∷ [];
   type_of_pat = Some s ∷ [];
+  item_of_pat = None ∷ [];
   type_of_binding = Some s ∷ [];
   type_of_placeholder = [];
   binding_modes = Some mode.Move ∷ [];
@@ -135,6 +136,7 @@ table_at s = record {
   proofs = [];
   projections = [];
   expr_gaps = [];
+  pat_gaps = [];
   general = None;
 }
 
@@ -225,7 +227,7 @@ integer_derives i = let s : Ty = integer_type i in record {
   body = body;
   is_body = refl;
   shape = record {
-    of_body = record { exprs = refl; pats = refl; bindings = refl; modes = refl; mismatches = refl; diagnostics = refl; pat_mismatches = refl; pat_diagnostics = refl; expr_variants = refl; pat_variants = refl };
+    of_body = record { exprs = refl; pats = refl; bindings = refl; items = refl; modes = refl; mismatches = refl; diagnostics = refl; pat_mismatches = refl; pat_diagnostics = refl; expr_variants = refl; pat_variants = refl };
     closed = all_types IsClosed s (closed_at s (has_hole_integer i)) (has_hole_integer i) closed_unit;
     modes = λ x. each_placed (λ k m. IsBinder body (p k)) (table_at s).binding_modes ((b 0, None, refl), tt) x.0;
     placeholders = none_placed Here (table_at s) refl;

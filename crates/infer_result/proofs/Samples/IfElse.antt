@@ -77,6 +77,7 @@ abbrev table_of : List (Option Ty) → List (Option TypeMismatch) → InferenceR
 table_of exprs mismatches = record {
   type_of_expr = exprs;
   type_of_pat = Some ty.Bool ∷ [];
+  item_of_pat = None ∷ [];
   type_of_binding = Some ty.Bool ∷ [];
   type_of_placeholder = [];
   binding_modes = Some mode.Move ∷ [];
@@ -90,6 +91,7 @@ table_of exprs mismatches = record {
   proofs = [];
   projections = [];
   expr_gaps = [];
+  pat_gaps = [];
   general = None;
 }
 
@@ -105,7 +107,7 @@ right = table_of right_types silent
 right_made : IsMade given right
 right_made = record {
   shape = record {
-    of_body = record { exprs = refl; pats = refl; bindings = refl; modes = refl; mismatches = refl; diagnostics = refl; pat_mismatches = refl; pat_diagnostics = refl; expr_variants = refl; pat_variants = refl };
+    of_body = record { exprs = refl; pats = refl; bindings = refl; items = refl; modes = refl; mismatches = refl; diagnostics = refl; pat_mismatches = refl; pat_diagnostics = refl; expr_variants = refl; pat_variants = refl };
     closed = record {
       exprs = each_entry IsClosed right.type_of_expr (closed_bool, (closed_u8, (closed_u8, (closed_u8, (closed_u8, tt)))));
       pats = each_entry IsClosed right.type_of_pat (closed_bool, tt);

@@ -69,6 +69,7 @@ abbrev table_of : Ty → List (Option TypeMismatch) → InferenceResult
 table_of s mismatches = record {
   type_of_expr = Some ty.Bool ∷ Some u8 ∷ Some s ∷ Some unit ∷ [];
   type_of_pat = Some ty.Bool ∷ Some s ∷ [];
+  item_of_pat = None ∷ None ∷ [];
   type_of_binding = Some ty.Bool ∷ Some s ∷ [];
   type_of_placeholder = [];
   binding_modes = Some mode.Move ∷ Some mode.Move ∷ [];
@@ -82,6 +83,7 @@ table_of s mismatches = record {
   proofs = [];
   projections = [];
   expr_gaps = [];
+  pat_gaps = [];
   general = None;
 }
 
@@ -91,7 +93,7 @@ right s = table_of s (None ∷ None ∷ Some (mismatch u8 unit) ∷ None ∷ [])
 right_made : (s : Ty) → IsClosed s → IsMade given (right s)
 right_made s closed_s = record {
   shape = record {
-    of_body = record { exprs = refl; pats = refl; bindings = refl; modes = refl; mismatches = refl; diagnostics = refl; pat_mismatches = refl; pat_diagnostics = refl; expr_variants = refl; pat_variants = refl };
+    of_body = record { exprs = refl; pats = refl; bindings = refl; items = refl; modes = refl; mismatches = refl; diagnostics = refl; pat_mismatches = refl; pat_diagnostics = refl; expr_variants = refl; pat_variants = refl };
     closed = record {
       exprs = each_entry IsClosed (right s).type_of_expr (closed_bool, (closed_u8, (closed_s, (closed_unit, tt))));
       pats = each_entry IsClosed (right s).type_of_pat (closed_bool, (closed_s, tt));

@@ -61,6 +61,7 @@ abbrev table_of : Option Ty → InferenceResult
 table_of found = record {
   type_of_expr = Some ty.Bool ∷ Some unit ∷ [];
   type_of_pat = Some ty.Bool ∷ [];
+  item_of_pat = None ∷ [];
   type_of_binding = Some ty.Bool ∷ [];
   type_of_placeholder = None ∷ found ∷ [];
   binding_modes = Some mode.Move ∷ [];
@@ -74,6 +75,7 @@ table_of found = record {
   proofs = [];
   projections = [];
   expr_gaps = [];
+  pat_gaps = [];
   general = None;
 }
 
@@ -107,7 +109,7 @@ as_known u is = (let both : Some ty.Bool ≡ Some u = is in cc)
 right_made : IsMade given right
 right_made = record {
   shape = record {
-    of_body = record { exprs = refl; pats = refl; bindings = refl; modes = refl; mismatches = refl; diagnostics = refl; pat_mismatches = refl; pat_diagnostics = refl; expr_variants = refl; pat_variants = refl };
+    of_body = record { exprs = refl; pats = refl; bindings = refl; items = refl; modes = refl; mismatches = refl; diagnostics = refl; pat_mismatches = refl; pat_diagnostics = refl; expr_variants = refl; pat_variants = refl };
     closed = record {
       exprs = each_entry IsClosed right.type_of_expr (closed_bool, (closed_unit, tt));
       pats = each_entry IsClosed right.type_of_pat (closed_bool, tt);

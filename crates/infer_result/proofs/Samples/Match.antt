@@ -99,6 +99,7 @@ abbrev table_of : Ty → Ty → Ty → Ty → Ty → Ty → List (Option TypeMis
 table_of seven name last a wild bound mismatches pat_mismatches = record {
   type_of_expr = Some pair ∷ Some seven ∷ Some name ∷ Some last ∷ Some u8 ∷ Some u8 ∷ [];
   type_of_pat = Some pair ∷ Some pair ∷ Some a ∷ Some i32 ∷ Some wild ∷ [];
+  item_of_pat = None ∷ None ∷ None ∷ None ∷ None ∷ [];
   type_of_binding = Some pair ∷ Some bound ∷ [];
   type_of_placeholder = [];
   binding_modes = Some mode.Move ∷ None ∷ Some mode.Move ∷ None ∷ None ∷ [];
@@ -112,6 +113,7 @@ table_of seven name last a wild bound mismatches pat_mismatches = record {
   proofs = [];
   projections = [];
   expr_gaps = [];
+  pat_gaps = [];
   general = None;
 }
 
@@ -143,7 +145,7 @@ match_obeys = record {
 right_made : IsMade given right
 right_made = record {
   shape = record {
-    of_body = record { exprs = refl; pats = refl; bindings = refl; modes = refl; mismatches = refl; diagnostics = refl; pat_mismatches = refl; pat_diagnostics = refl; expr_variants = refl; pat_variants = refl };
+    of_body = record { exprs = refl; pats = refl; bindings = refl; items = refl; modes = refl; mismatches = refl; diagnostics = refl; pat_mismatches = refl; pat_diagnostics = refl; expr_variants = refl; pat_variants = refl };
     closed = record {
       exprs = each_entry IsClosed right.type_of_expr (closed_pair, (closed_i32, (closed_u8, (closed_u8, (closed_u8, (closed_u8, tt))))));
       pats = each_entry IsClosed right.type_of_pat (closed_pair, (closed_pair, (closed_u8, (closed_i32, (closed_pair, tt)))));

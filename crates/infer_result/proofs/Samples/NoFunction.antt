@@ -92,6 +92,7 @@ abbrev table_of : Option InferenceDiagnostic → List Seen → InferenceResult
 table_of said seen = record {
   type_of_expr = Some u8 ∷ Some u8 ∷ Some ty.Error ∷ Some unit ∷ [];
   type_of_pat = [];
+  item_of_pat = [];
   type_of_binding = [];
   type_of_placeholder = [];
   binding_modes = [];
@@ -105,6 +106,7 @@ table_of said seen = record {
   proofs = [];
   projections = [];
   expr_gaps = [];
+  pat_gaps = [];
   general = None;
 }
 
@@ -169,7 +171,7 @@ is_said call called args s at is has known =
 right_made : IsMade given right
 right_made = record {
   shape = record {
-    of_body = record { exprs = refl; pats = refl; bindings = refl; modes = refl; mismatches = refl; diagnostics = refl; pat_mismatches = refl; pat_diagnostics = refl; expr_variants = refl; pat_variants = refl };
+    of_body = record { exprs = refl; pats = refl; bindings = refl; items = refl; modes = refl; mismatches = refl; diagnostics = refl; pat_mismatches = refl; pat_diagnostics = refl; expr_variants = refl; pat_variants = refl };
     closed = record {
       exprs = each_entry IsClosed right.type_of_expr (closed_u8, (closed_u8, (closed_error, (closed_unit, tt))));
       pats = λ n s h. absurd (cc);

@@ -71,6 +71,7 @@ abbrev table_of : Option Ty → Option Ty → InferenceResult
 table_of first second = record {
   type_of_expr = Some u8 ∷ Some ty.Bool ∷ Some (pair_of u8) ∷ Some unit ∷ [];
   type_of_pat = Some (pair_of u8) ∷ [];
+  item_of_pat = None ∷ [];
   type_of_binding = Some (pair_of u8) ∷ [];
   type_of_placeholder = first ∷ second ∷ [];
   binding_modes = Some mode.Move ∷ [];
@@ -84,6 +85,7 @@ table_of first second = record {
   proofs = [];
   projections = [];
   expr_gaps = [];
+  pat_gaps = [];
   general = None;
 }
 
@@ -122,7 +124,7 @@ nothing_known k s u is = absurd (cc)
 right_made : IsMade given right
 right_made = record {
   shape = record {
-    of_body = record { exprs = refl; pats = refl; bindings = refl; modes = refl; mismatches = refl; diagnostics = refl; pat_mismatches = refl; pat_diagnostics = refl; expr_variants = refl; pat_variants = refl };
+    of_body = record { exprs = refl; pats = refl; bindings = refl; items = refl; modes = refl; mismatches = refl; diagnostics = refl; pat_mismatches = refl; pat_diagnostics = refl; expr_variants = refl; pat_variants = refl };
     closed = record {
       exprs = each_entry IsClosed right.type_of_expr (closed_u8, (closed_bool, (closed_pair, (closed_unit, tt))));
       pats = each_entry IsClosed right.type_of_pat (closed_pair, tt);

@@ -130,7 +130,7 @@ module _ (s : Ty) where
     body = body;
     is_body = refl;
     shape = record {
-      of_body = record { exprs = refl; pats = refl; bindings = refl; modes = refl; mismatches = refl; diagnostics = refl; pat_mismatches = refl; pat_diagnostics = refl; expr_variants = refl; pat_variants = refl };
+      of_body = record { exprs = refl; pats = refl; bindings = refl; items = refl; modes = refl; mismatches = refl; diagnostics = refl; pat_mismatches = refl; pat_diagnostics = refl; expr_variants = refl; pat_variants = refl };
       closed = let own : IsClosed s = plain_is_closed scope s is_plain in all_types IsClosed closed_bool (closed_at s own) own closed_unit;
       modes = λ x. each_placed (λ k m. IsBinder body (p k)) table.binding_modes ((b 0, None, refl), ((b 1, None, refl), tt)) x.0;
       placeholders = none_placed Here table refl;

@@ -71,6 +71,7 @@ abbrev table_of : List (Option TypeMismatch) → InferenceResult
 table_of mismatches = record {
   type_of_expr = Some u8 ∷ Some ty.Bool ∷ Some unit ∷ [];
   type_of_pat = Some ty.Bool ∷ Some u8 ∷ [];
+  item_of_pat = None ∷ None ∷ [];
   type_of_binding = Some ty.Bool ∷ Some u8 ∷ [];
   type_of_placeholder = [];
   binding_modes = Some mode.Move ∷ Some mode.Move ∷ [];
@@ -84,6 +85,7 @@ table_of mismatches = record {
   proofs = [];
   projections = [];
   expr_gaps = [];
+  pat_gaps = [];
   general = None;
 }
 
@@ -105,7 +107,7 @@ block_obeys =
 right_made : IsMade given right
 right_made = record {
   shape = record {
-    of_body = record { exprs = refl; pats = refl; bindings = refl; modes = refl; mismatches = refl; diagnostics = refl; pat_mismatches = refl; pat_diagnostics = refl; expr_variants = refl; pat_variants = refl };
+    of_body = record { exprs = refl; pats = refl; bindings = refl; items = refl; modes = refl; mismatches = refl; diagnostics = refl; pat_mismatches = refl; pat_diagnostics = refl; expr_variants = refl; pat_variants = refl };
     closed = record {
       exprs = each_entry IsClosed right.type_of_expr (closed_u8, (closed_bool, (closed_unit, tt)));
       pats = each_entry IsClosed right.type_of_pat (closed_bool, (closed_u8, tt));

@@ -45,6 +45,7 @@ abbrev table_of : List (List Gap) → InferenceResult
 table_of gaps = record {
   type_of_expr = Some (item (ty.Bool ∷ [])) ∷ Some ty.Bool ∷ Some ty.Bool ∷ Some ty.Bool ∷ [];
   type_of_pat = [];
+  item_of_pat = [];
   type_of_binding = [];
   type_of_placeholder = [];
   binding_modes = [];
@@ -58,6 +59,7 @@ table_of gaps = record {
   proofs = [];
   projections = [];
   expr_gaps = gaps;
+  pat_gaps = [];
   general = None;
 }
 

@@ -65,6 +65,7 @@ abbrev table_of : Ty → List (Option TypeMismatch) → InferenceResult
 table_of s mismatches = record {
   type_of_expr = Some (item []) ∷ Some s ∷ Some unit ∷ Some unit ∷ [];
   type_of_pat = [];
+  item_of_pat = [];
   type_of_binding = [];
   type_of_placeholder = [];
   binding_modes = [];
@@ -78,6 +79,7 @@ table_of s mismatches = record {
   proofs = [];
   projections = [];
   expr_gaps = [];
+  pat_gaps = [];
   general = None;
 }
 
@@ -116,7 +118,7 @@ demanded = inl (record {
 right_made : IsMade given right
 right_made = record {
   shape = record {
-    of_body = record { exprs = refl; pats = refl; bindings = refl; modes = refl; mismatches = refl; diagnostics = refl; pat_mismatches = refl; pat_diagnostics = refl; expr_variants = refl; pat_variants = refl };
+    of_body = record { exprs = refl; pats = refl; bindings = refl; items = refl; modes = refl; mismatches = refl; diagnostics = refl; pat_mismatches = refl; pat_diagnostics = refl; expr_variants = refl; pat_variants = refl };
     closed = record {
       exprs = each_entry IsClosed right.type_of_expr (closed_item [] refl, (closed_bool, (closed_unit, (closed_unit, tt))));
       pats = λ n s h. absurd (cc);

@@ -52,6 +52,7 @@ abbrev table_of : List (Option TypeMismatch) → InferenceResult
 table_of mismatches = record {
   type_of_expr = Some u8 ∷ Some u8 ∷ Some pair ∷ Some pair ∷ [];
   type_of_pat = [];
+  item_of_pat = [];
   type_of_binding = [];
   type_of_placeholder = [];
   binding_modes = [];
@@ -65,6 +66,7 @@ table_of mismatches = record {
   proofs = [];
   projections = [];
   expr_gaps = [];
+  pat_gaps = [];
   general = None;
 }
 
@@ -77,7 +79,7 @@ closed_pair = has_hole_tuple (u8 ∷ ty.Bool ∷ []) ∙ rw (closed_u8, closed_b
 right_made : IsMade given right
 right_made = record {
   shape = record {
-    of_body = record { exprs = refl; pats = refl; bindings = refl; modes = refl; mismatches = refl; diagnostics = refl; pat_mismatches = refl; pat_diagnostics = refl; expr_variants = refl; pat_variants = refl };
+    of_body = record { exprs = refl; pats = refl; bindings = refl; items = refl; modes = refl; mismatches = refl; diagnostics = refl; pat_mismatches = refl; pat_diagnostics = refl; expr_variants = refl; pat_variants = refl };
     closed = record {
       exprs = each_entry IsClosed right.type_of_expr (closed_u8, (closed_u8, (closed_pair, (closed_pair, tt))));
       pats = λ n s h. absurd (cc);

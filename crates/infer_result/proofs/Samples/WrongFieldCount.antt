@@ -104,6 +104,7 @@ abbrev table_of : Ty → Option InferenceDiagnostic → Option InferenceDiagnost
 table_of x at_o at_pattern at_x = record {
   type_of_expr = Some pair ∷ Some unit ∷ [];
   type_of_pat = Some pair ∷ Some pair ∷ Some x ∷ [];
+  item_of_pat = None ∷ None ∷ None ∷ [];
   type_of_binding = Some pair ∷ Some x ∷ [];
   type_of_placeholder = [];
   binding_modes = Some mode.Move ∷ None ∷ Some mode.Move ∷ [];
@@ -117,6 +118,7 @@ table_of x at_o at_pattern at_x = record {
   proofs = [];
   projections = [];
   expr_gaps = [];
+  pat_gaps = [];
   general = None;
 }
 
@@ -149,7 +151,7 @@ complaint_is_true = (
 right_made : IsMade given right
 right_made = record {
   shape = record {
-    of_body = record { exprs = refl; pats = refl; bindings = refl; modes = refl; mismatches = refl; diagnostics = refl; pat_mismatches = refl; pat_diagnostics = refl; expr_variants = refl; pat_variants = refl };
+    of_body = record { exprs = refl; pats = refl; bindings = refl; items = refl; modes = refl; mismatches = refl; diagnostics = refl; pat_mismatches = refl; pat_diagnostics = refl; expr_variants = refl; pat_variants = refl };
     closed = record {
       exprs = each_entry IsClosed right.type_of_expr (closed_pair, (closed_unit, tt));
       pats = each_entry IsClosed right.type_of_pat (closed_pair, (closed_pair, (closed_u8, tt)));

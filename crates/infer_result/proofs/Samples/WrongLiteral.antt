@@ -84,6 +84,7 @@ abbrev table_of : Option TypeMismatch → Option TypeMismatch → Option TypeMis
 table_of literal_ guard_ pattern_ = record {
   type_of_expr = Some ty.Bool ∷ Some u8 ∷ Some u8 ∷ Some unit ∷ Some unit ∷ Some unit ∷ Some unit ∷ [];
   type_of_pat = Some ty.Bool ∷ Some u8 ∷ Some ty.Bool ∷ [];
+  item_of_pat = None ∷ None ∷ None ∷ [];
   type_of_binding = Some ty.Bool ∷ [];
   type_of_placeholder = [];
   binding_modes = Some mode.Move ∷ None ∷ None ∷ [];
@@ -97,6 +98,7 @@ table_of literal_ guard_ pattern_ = record {
   proofs = [];
   projections = [];
   expr_gaps = [];
+  pat_gaps = [];
   general = None;
 }
 
@@ -127,7 +129,7 @@ comes_in = record { parent = inner (node.ExprId (e 5)); at_part = 1; role = arm_
 right_made : IsMade given right
 right_made = record {
   shape = record {
-    of_body = record { exprs = refl; pats = refl; bindings = refl; modes = refl; mismatches = refl; diagnostics = refl; pat_mismatches = refl; pat_diagnostics = refl; expr_variants = refl; pat_variants = refl };
+    of_body = record { exprs = refl; pats = refl; bindings = refl; items = refl; modes = refl; mismatches = refl; diagnostics = refl; pat_mismatches = refl; pat_diagnostics = refl; expr_variants = refl; pat_variants = refl };
     closed = record {
       exprs = each_entry IsClosed right.type_of_expr (closed_bool, (closed_u8, (closed_u8, (closed_unit, (closed_unit, (closed_unit, (closed_unit, tt)))))));
       pats = each_entry IsClosed right.type_of_pat (closed_bool, (closed_u8, (closed_bool, tt)));

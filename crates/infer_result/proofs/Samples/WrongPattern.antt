@@ -85,6 +85,7 @@ abbrev table_of : Ty → Ty → List (Option TypeMismatch) → InferenceResult
 table_of whole second pat_mismatches = record {
   type_of_expr = Some single ∷ Some unit ∷ [];
   type_of_pat = Some single ∷ Some whole ∷ Some u8 ∷ Some second ∷ [];
+  item_of_pat = None ∷ None ∷ None ∷ None ∷ [];
   type_of_binding = Some single ∷ Some u8 ∷ Some second ∷ [];
   type_of_placeholder = [];
   binding_modes = Some mode.Move ∷ None ∷ Some mode.Move ∷ Some mode.Move ∷ [];
@@ -98,6 +99,7 @@ table_of whole second pat_mismatches = record {
   proofs = [];
   projections = [];
   expr_gaps = [];
+  pat_gaps = [];
   general = None;
 }
 
@@ -131,7 +133,7 @@ block_obeys =
 right_made : IsMade given right
 right_made = record {
   shape = record {
-    of_body = record { exprs = refl; pats = refl; bindings = refl; modes = refl; mismatches = refl; diagnostics = refl; pat_mismatches = refl; pat_diagnostics = refl; expr_variants = refl; pat_variants = refl };
+    of_body = record { exprs = refl; pats = refl; bindings = refl; items = refl; modes = refl; mismatches = refl; diagnostics = refl; pat_mismatches = refl; pat_diagnostics = refl; expr_variants = refl; pat_variants = refl };
     closed = record {
       exprs = each_entry IsClosed right.type_of_expr (closed_single, (closed_unit, tt));
       pats = each_entry IsClosed right.type_of_pat (closed_single, (closed_pair, (closed_u8, (closed_error, tt))));
