@@ -184,10 +184,10 @@ impl GivenBody<'_> {
         ensures { IfOk result (λ tys. (x : RawVariant) → slice_get self.now.facts.now.variants variant.0 ≡ Some x
             → tys ≡ map (field_at (variant_types self.now.facts.now.types params x) args.now) x.fields) }
     {
-        let variant = self.facts.variant(variant);
-        let aliases = variant_aliases(alloc, self.facts.types(), variant)?;
+        let item = self.facts.variant(variant);
+        let aliases = variant_aliases(alloc, self.facts.types(), item)?;
         let mut tys = List::new(alloc);
-        for field in variant.fields.as_slice() {
+        for field in item.fields.as_slice() {
             tys.push(self.opened_at(alloc, params, &aliases, field.type_, args)?)?;
         }
         Ok(tys)

@@ -168,10 +168,10 @@ pub record PatDemanded (g : Given) (p : PatId) (t : Ty) (x : Option Ty) (old new
 abbrev pub PartsCounted : PatId → ℕ → ℕ → InferenceContext → InferenceContext → Type 0
 PartsCounted p expected found old new = ((expected ≡ found) × (new ≡ old)) ⊎ ((expected ≡ found → ⊥) × (new ≡ with_pat_diagnostic old p (diagnostic.MismatchedTupleStructPatArgCount (node.PatId p) expected found)))
 
--- the constructor is recorded as the item of the pattern, where it has types beside the adt's
-abbrev pub ItemRecorded : PatId → VariantId → List Ty → List Ty → InferenceContext → InferenceContext → Type 0
-ItemRecorded p v ts [] old new = new ≡ old
-ItemRecorded p v ts (h ∷ hs) old new = new ≡ with_pat_item old p (ctor_item v (ts ++ h ∷ hs))
+-- The constructor is recorded as the item of the pattern, where it has types beside the adt's, and what these are is read.
+abbrev pub ItemRead : Given → PatId → VariantId → List Ty → List Ty → InferenceContext → InferenceContext → Type 0
+ItemRead g p v ts [] old new = new ≡ old
+ItemRead g p v ts (h ∷ hs) old new = ReadsPat g p.0 (with_pat_item old p (ctor_item v (ts ++ h ∷ hs))) new
 
 -- The adt of the variant at new holes is recorded as the type of the pattern, which has so many parts, and
 -- is asked of what comes in. The constructor is recorded, at these and at a new hole for each associated type in the fields, and what these are
@@ -186,8 +186,6 @@ pub record CtorDemanded (g : Given) (p : PatId) (v : VariantId) (parts : ℕ) (s
   pub holes : ArePartTypes g.scope (variant_arity g.scope.facts.types item.variant item.params) (types ++ hidden) old holed
   pub told : InferenceContext
   pub counted : PartsCounted p (length item.variant.fields) parts holed told
-  pub asked : InferenceContext
-  pub demanded : PatDemanded g p (ty.Adt item.variant.adt (type_args types)) x told asked
-  pub noted : InferenceContext
-  pub recorded : ItemRecorded p v types hidden asked noted
-  pub reads : ReadsPat g p.0 noted new
+  pub typed : InferenceContext
+  pub demanded : PatDemanded g p (ty.Adt item.variant.adt (type_args types)) x told typed
+  pub read : ItemRead g p v types hidden typed new

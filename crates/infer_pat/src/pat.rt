@@ -305,7 +305,8 @@ fn component(
 }
 
 /// Asks that what comes into a pattern of a constructor be its adt, at new holes for the parameters, and
-/// says where there are not as many parts as fields. Gives the types of the fields.
+/// says where there are not as many parts as fields. Where associated types stand in the fields, the constructor is recorded
+/// as the item of the pattern, and what they are is read. Gives the types of the fields.
 fn demand_ctor(
     alloc: Global,
     context: &mut InferenceContext,
@@ -331,11 +332,12 @@ fn demand_ctor(
     count_parts(context, pat, item.fields.len(), parts);
     let own = first_args(alloc, args.as_slice(), params)?;
     demand_pat_ty(alloc, context, given, pat, Ty::Adt(item.adt, own), expected)?;
-    if arity > params {
-        let ctor = Ty::FnDef(CallableDefId::VariantId(variant), args);
-        context.write_pat_item(pat, ctor);
-        read_pat(alloc, context, given, pat)?;
+    if arity <= params {
+        return Ok(fields);
     }
+    let ctor = Ty::FnDef(CallableDefId::VariantId(variant), args);
+    context.write_pat_item(pat, ctor);
+    read_pat(alloc, context, given, pat)?;
     Ok(fields)
 }
 
