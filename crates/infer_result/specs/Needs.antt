@@ -178,7 +178,7 @@ scope_item raw (def.VariantId v) = adt_item (slice_get raw.variants v.0)
 
 -- the proofs that are listed are proofs; each goal that a node needs is proved, or it is said that it isn't, or `{unknown}` stands in it;
 -- and what is said is so, and said once at each node. What associated types were found to be is listed: what a goal that is needed asks one to be,
--- or another type, and this is said. In no type is one left that could be read, unless what it is is listed
+-- or another type, and this is said
 pub record GoalsHold (d : DefWithBodyId) (g : Given) (r : InferenceResult) : Type 0 where
   pub system : System
   pub of_item : IsSystemOf g.scope.facts (scope_item g.scope.facts d) system
@@ -188,6 +188,11 @@ pub record GoalsHold (d : DefWithBodyId) (g : Given) (r : InferenceResult) : Typ
   pub once : (e : ExprId) (x y : Gap) (j : HasGap r e x) (k : HasGap r e y) → gap_says x ≡ gap_says y → j.number ≡ k.number
   pub found : AreFound r
   pub entries : (e : ExprId) (a : Asked) → IsNeeded g r e a → IsAboutAlias a → HasEntry r.projections a ⊎ (IsClash r e a ⊎ IsUnproved r e a)
+
+-- in no type of the table is an associated type left that could be read, by the sources of the item, unless the table says what it is
+pub record HasNoneLeft (d : DefWithBodyId) (g : Given) (r : InferenceResult) : Type 0 where
+  pub system : System
+  pub of_item : IsSystemOf g.scope.facts (scope_item g.scope.facts d) system
   pub left : AllTypes (NoneIsLeft system g.scope.facts.limits.goal_depth r.projections) r
 
 -- the answer to each goal that a node needs is Yes
