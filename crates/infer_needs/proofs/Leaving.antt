@@ -5,6 +5,7 @@ use Rattle.std.proofs.Math.Nat.{eq-or-lt_of_le}
 use Rattle.std.proofs.lemmas.Option.{same_Some, slice_get_within}
 use Rattle.hir_types.specs.declared.goal.Goal.TheVariants as goal
 use Rattle.hir_types.specs.declared.head.Head.TheVariants as head
+use Rattle.hir_types.specs.declared.ids.ExprId.{ExprId}
 use Rattle.hir_types.specs.declared.ids.TypeAliasId.{TypeAliasId}
 use Rattle.hir_types.specs.declared.ty.GenericArg.{GenericArg}
 use Rattle.hir_types.specs.declared.ty.Ty.{Ty}
@@ -21,13 +22,16 @@ use Rattle.goal_answers.specs.Reading.{ReadsAs, staying}
 use Rattle.goal_facts.specs.declared.proof.Proof.{Proof}
 use Rattle.goal_facts.specs.Goals.{asked_goal}
 use Rattle.goal_facts.specs.Reading.{TypeReads, IsTypeRead}
-use Rattle.goal_prove.specs.Entries.{AddsProofs}
+use Rattle.goal_prove.specs.Entries.{AddsProofs, IsProofAt}
 use Rattle.infer_result.specs.declared.result.InferenceResult.{InferenceResult}
+use Rattle.infer_result.specs.declared.result.TypeMismatch.{TypeMismatch}
+use Rattle.infer_result.specs.declared.diagnostics.InferenceDiagnostic.{InferenceDiagnostic}
+use Rattle.infer_result.specs.declared.diagnostics.InferenceDiagnostic.TheVariants as diagnostic
 use Rattle.infer_result.specs.Closed.{AllTypes}
 use Rattle.infer_result.specs.Needs.{HoldsUnknown}
 use Rattle.infer_result.specs.Projections.{IsPartOf, stays_at, StaysOrIsListed, NoneIsLeft}
-use Rattle.infer_needs.specs.Judged.{HasProofOf, AreEntries, AddsEntries}
-use Rattle.infer_needs.specs.Left.{WasRead, WereRead, AddsRead, Lists, NoneStands, EachIn, EachOf}
+use Rattle.infer_needs.specs.Judged.{HasProofOf, IsEntry, AreEntries}
+use Rattle.infer_needs.specs.Left.{WasRead, WereRead, AddsRead, Lists, staying_head, NoneHere, NoneStands, StandsInType, StandsInMismatch, StandsInDiagnostic, EachIn, EachOf}
 use Rattle.infer_needs.specs.Listed.{FindsIn}
 use Rattle.infer_needs.proofs.Adding.{adds_none, adds_then, entry_later, entries_later, lists_none, lists_then}
 use Rattle.infer_needs.proofs.ReadsYes.{reads_one, reads_read}
@@ -96,11 +100,11 @@ module _ (raw : RawFacts) (f : System) where
 
 -- ---- an associated type that was read
 
-asks : TypeAliasId → Term → Term → Asked
+abbrev asks : TypeAliasId → Term → Term → Asked
 asks k c t = record { kind = projects k; parts = pair c t }
 
--- its arguments are these, where the term is that of arguments
-module _ (raw : RawFacts) (f : System) (k : TypeAliasId) (w : Term) (zs : List GenericArg) (is : (xs : List GenericArg) → chain (map arg_term xs) ≡ w → chain (map arg_term zs) ≡ w) where
+-- at these arguments
+module _ (raw : RawFacts) (f : System) (k : TypeAliasId) (w : Term) (zs : List GenericArg) (is : chain (map arg_term zs) ≡ w) where
   abbrev n : ℕ
   n = raw.limits.goal_depth
 
@@ -108,7 +112,7 @@ module _ (raw : RawFacts) (f : System) (k : TypeAliasId) (w : Term) (zs : List G
   Settled js = (xs : List GenericArg) → chain (map arg_term xs) ≡ w → StaysOrIsListed f n js k xs
 
   same_args : (xs : List GenericArg) → chain (map arg_term xs) ≡ w → chain (map arg_term zs) ≡ chain (map arg_term xs)
-  same_args xs e = is xs e ∙ sym e
+  same_args xs e = is ∙ sym e
 
   same_term : (xs : List GenericArg) → chain (map arg_term xs) ≡ w → term (ty.Projection k xs) ≡ term (ty.Projection k zs)
   same_term xs e = term_projection k xs ∙ ap (λ c. pair (leaf (head.Projection k)) c) (sym (same_args xs e)) ∙ sym (term_projection k zs)
@@ -143,7 +147,7 @@ module _ (raw : RawFacts) (f : System) (k : TypeAliasId) (w : Term) (zs : List G
       entries : AreEntries ps js → AreEntries qs more
       entries are i x at = elim (get_more js (ty.Projection k zs, v) i x at) [
         | inl h ↦ entries_later ps qs js adds.behind are i x h
-        | inr h ↦ subst (λ z. _) h.1 (record { alias = k; args = zs; is = refl; proved = proved; read = reads_read f n (ty.Projection k zs) v reads; known = known })
+        | inr h ↦ subst (IsEntry qs) h.1 (record { alias = k; args = zs; is = refl; proved = proved; read = reads_read f n (ty.Projection k zs) v reads; known = known })
       ]
 
       were : WereRead f n js → WereRead f n more
@@ -164,11 +168,57 @@ module _ (raw : RawFacts) (f : System) (k : TypeAliasId) (w : Term) (zs : List G
       let x = were h.0 (ty.Projection k zs, v) h.1 in
       reads_listed v (subst (λ a. ReadsAs (answers f n).Alias (term a) (term v)) (sym x.is) x.reads) js h.0 h.1
 
+-- the proof that was found, at equal arguments and of an equal type
+pub proof_here : (qs : List Proof) (k : TypeAliasId) (ys zs : List GenericArg) (v u : Ty) (j : ℕ) → ys ≡ zs → v ≡ u → IsProofAt qs (goal.Projection k ys v) j → HasProofOf qs (asked_goal (goal.Projection k zs u))
+proof_here qs k ys zs v u j args same h =
+    (j, h.0, h.1, ap asked_goal h.2 ∙ ap (λ (xs : List GenericArg). asked_goal (goal.Projection k xs v)) args ∙ ap (λ (t : Ty). asked_goal (goal.Projection k zs t)) same)
+
+-- where these are no arguments nothing has to be listed
+pub no_args : (raw : RawFacts) (f : System) (k : TypeAliasId) (w : Term) (zs : List GenericArg) → ((xs : List GenericArg) → chain (map arg_term xs) ≡ w → chain (map arg_term zs) ≡ w) → (chain (map arg_term zs) ≡ w → ⊥) → (js : List (Ty × Ty))
+    → (xs : List GenericArg) → chain (map arg_term xs) ≡ w → StaysOrIsListed f raw.limits.goal_depth js k xs
+no_args raw f k w zs is differ js xs e = absurd (differ (is xs e))
+
 -- ---- the parts of a term
 
-module _ (f : System) (n : ℕ) (js : List (Ty × Ty)) where
-  pub none_in_hole : (t : Term) → ((x : Term) → IsPartOf x t → ⊥) → NoneStands f n t js
-  none_in_hole t none k xs at = absurd (none (stays_at k xs) at)
+module _ (raw : RawFacts) (f : System) where
+  abbrev depth : ℕ
+  depth = raw.limits.goal_depth
+
+  here_by : (a b : Term) (js : List (Ty × Ty)) → ((k : TypeAliasId) (xs : List GenericArg) → staying_head a ≡ Some k → chain (map arg_term xs) ≡ b → StaysOrIsListed f depth js k xs) → NoneHere f depth a b js
+  here_by a b js h k xs e =
+      let first : leaf (head.AssociatedType k) ≡ a = cc in
+      let rest : chain (map arg_term xs) ≡ b = cc in
+      h k xs (ap staying_head (sym first)) rest
+
+  -- of the associated type at these arguments
+  pub lists_here : (a b : Term) (k : TypeAliasId) (ps qs : List Proof) (js ks : List (Ty × Ty)) → staying_head a ≡ Some k
+      → Lists raw f (λ os. (xs : List GenericArg) → chain (map arg_term xs) ≡ b → StaysOrIsListed f depth os k xs) ps qs js ks → Lists raw f (NoneHere f depth a b) ps qs js ks
+  lists_here a b k ps qs js ks is h = record {
+    adds = h.adds;
+    none = here_by a b ks (λ j xs e same. (let k_is : k ≡ j = (let both : Some k ≡ Some j = sym is ∙ e in cc) in subst (λ i. StaysOrIsListed f depth ks i xs) k_is (h.none xs same)));
+  }
+
+  pub lists_not_here : (a b : Term) (ps : List Proof) (js : List (Ty × Ty)) → staying_head a ≡ None → Lists raw f (NoneHere f depth a b) ps ps js js
+  lists_not_here a b ps js none = lists_nothing raw f (NoneHere f depth a b) ps js (here_by a b js (λ k xs e same. absurd (cc)))
+
+  pub lists_pair : (a b : Term) (ps qs rs ts : List Proof) (js ks ls ms : List (Ty × Ty)) → Lists raw f (NoneHere f depth a b) ps qs js ks → Lists raw f (NoneStands f depth a) qs rs ks ls → Lists raw f (NoneStands f depth b) rs ts ls ms
+      → Lists raw f (NoneStands f depth (pair a b)) ps ts js ms
+  lists_pair a b ps qs rs ts js ks ls ms here first rest =
+      let l = first.adds.lists.behind in
+      let m = rest.adds.lists.behind in
+      record {
+        adds = read_then raw f ps rs ts js ls ms (read_then raw f ps qs rs js ks ls here.adds first.adds) rest.adds;
+        none = λ k xs at. elim at [
+          | inl e ↦ stays_later f depth ls ms m k xs (stays_later f depth ks ls l k xs (here.none k xs e))
+          | inr o ↦ elim o [
+            | inl x ↦ stays_later f depth ls ms m k xs (first.none k xs x)
+            | inr x ↦ rest.none k xs x
+          ]
+        ];
+      }
+
+  pub lists_no_parts : (t : Term) (ps : List Proof) (js : List (Ty × Ty)) → ((x : Term) → IsPartOf x t → ⊥) → Lists raw f (NoneStands f depth t) ps ps js js
+  lists_no_parts t ps js none = lists_nothing raw f (NoneStands f depth t) ps js (λ k xs at. absurd (none (stays_at k xs) at))
 
 -- ---- a list, one entry after another
 
@@ -196,3 +246,69 @@ module _ (raw : RawFacts) (f : System) {X : Type 0} (T : X → Ty → Type 0) (x
 
   pub first_all : (m : ℕ) (ps qs : List Proof) (js ks : List (Ty × Ty)) → m ≡ length xs → Lists raw f (FirstOf m) ps qs js ks → Lists raw f (λ os. EachOf T (N os) xs) ps qs js ks
   first_all m ps qs js ks end h = record { adds = h.adds; none = λ i x at. (let lt = slice_get_within xs i x at in h.none i x (omega (arith, end, lt)) at) }
+
+-- ---- an entry, and a table
+
+module _ (raw : RawFacts) (f : System) where
+  abbrev Left : List (Ty × Ty) → Ty → Type 0
+  Left js = NoneIsLeft f raw.limits.goal_depth js
+
+  -- where no other type stands in it
+  pub lists_each : {X : Type 0} (T : X → Ty → Type 0) (x : X) (v : Ty) (ps qs : List Proof) (js ks : List (Ty × Ty)) → ((t : Ty) → T x t → v ≡ t) → Lists raw f (λ os. Left os v) ps qs js ks → Lists raw f (λ os. EachIn T (Left os) x) ps qs js ks
+  lists_each T x v ps qs js ks only h = record { adds = h.adds; none = λ t in_x. subst (Left ks) (only t in_x) h.none }
+
+  pub only_called : (o : Option InferenceDiagnostic) (e : ExprId) (v t : Ty) → o ≡ Some (diagnostic.ExpectedFunction e v) → StandsInDiagnostic o t → v ≡ t
+  only_called o e v t is (d, at) = (let both : Some (diagnostic.ExpectedFunction e v) ≡ Some (diagnostic.ExpectedFunction d t) = sym is ∙ at in cc)
+
+  in_mismatch : (o : Option TypeMismatch) (m : TypeMismatch) (js : List (Ty × Ty)) → o ≡ Some m → Left js m.expected → Left js m.actual → EachIn StandsInMismatch (Left js) o
+  in_mismatch o m js is expected actual t (x, at, stands) =
+      let same : m ≡ x = same_Some m x (sym is ∙ at) in
+      elim stands [
+        | inl e ↦ subst (Left js) (ap (λ (y : TypeMismatch). y.expected) same ∙ e) expected
+        | inr e ↦ subst (Left js) (ap (λ (y : TypeMismatch). y.actual) same ∙ e) actual
+      ]
+
+  pub lists_mismatch : (o : Option TypeMismatch) (m : TypeMismatch) (ps qs rs : List Proof) (js ks ls : List (Ty × Ty)) → o ≡ Some m → Lists raw f (λ os. Left os m.expected) ps qs js ks → Lists raw f (λ os. Left os m.actual) qs rs ks ls
+      → Lists raw f (λ os. EachIn StandsInMismatch (Left os) o) ps rs js ls
+  lists_mismatch o m ps qs rs js ks ls is a b =
+      lists_both raw f (λ os. Left os m.expected) (λ os. Left os m.actual) (λ os. EachIn StandsInMismatch (Left os) o) ps qs rs js ks ls
+      (λ l h. none_later f raw.limits.goal_depth ks ls l m.expected h) (in_mismatch o m ls is) a b
+
+  abbrev Of : {X : Type 0} → (X → Ty → Type 0) → List X → List (Ty × Ty) → Type 0
+  Of T xs js = EachOf T (Left js) xs
+
+  later : {X : Type 0} (T : X → Ty → Type 0) (xs : List X) (ps qs : List Proof) (js ks : List (Ty × Ty)) → AddsRead raw f ps qs js ks → Of T xs js → Of T xs ks
+  later T xs ps qs js ks a h = all_later f raw.limits.goal_depth js ks a.lists.behind T xs h
+
+  pub lists_table : (r : InferenceResult) (p0 p1 p2 p3 p4 p5 p6 p7 : List Proof) (j0 j1 j2 j3 j4 j5 j6 j7 : List (Ty × Ty))
+      → Lists raw f (Of StandsInType r.type_of_expr) p0 p1 j0 j1 → Lists raw f (Of StandsInType r.type_of_pat) p1 p2 j1 j2
+      → Lists raw f (Of StandsInType r.type_of_binding) p2 p3 j2 j3 → Lists raw f (Of StandsInType r.type_of_placeholder) p3 p4 j3 j4
+      → Lists raw f (Of StandsInMismatch r.expr_mismatches) p4 p5 j4 j5 → Lists raw f (Of StandsInMismatch r.pat_mismatches) p5 p6 j5 j6
+      → Lists raw f (Of StandsInDiagnostic r.expr_diagnostics) p6 p7 j6 j7 → Lists raw f (λ js. AllTypes (Left js) r) p0 p7 j0 j7
+  lists_table r p0 p1 p2 p3 p4 p5 p6 p7 j0 j1 j2 j3 j4 j5 j6 j7 a b c d e g h =
+      let from6 = h.adds in
+      let from5 = read_then raw f p5 p6 p7 j5 j6 j7 g.adds from6 in
+      let from4 = read_then raw f p4 p5 p7 j4 j5 j7 e.adds from5 in
+      let from3 = read_then raw f p3 p4 p7 j3 j4 j7 d.adds from4 in
+      let from2 = read_then raw f p2 p3 p7 j2 j3 j7 c.adds from3 in
+      let from1 = read_then raw f p1 p2 p7 j1 j2 j7 b.adds from2 in
+      let exprs = later StandsInType r.type_of_expr p1 p7 j1 j7 from1 a.none in
+      let pats = later StandsInType r.type_of_pat p2 p7 j2 j7 from2 b.none in
+      let bindings = later StandsInType r.type_of_binding p3 p7 j3 j7 from3 c.none in
+      let placeholders = later StandsInType r.type_of_placeholder p4 p7 j4 j7 from4 d.none in
+      let mismatches = later StandsInMismatch r.expr_mismatches p5 p7 j5 j7 from5 e.none in
+      let pat_mismatches = later StandsInMismatch r.pat_mismatches p6 p7 j6 j7 from6 g.none in
+      record {
+        adds = read_then raw f p0 p1 p7 j0 j1 j7 a.adds from1;
+        none = record {
+          exprs = λ i t at. exprs i (Some t) at t refl;
+          pats = λ i t at. pats i (Some t) at t refl;
+          bindings = λ i t at. bindings i (Some t) at t refl;
+          placeholders = λ i t at. placeholders i (Some t) at t refl;
+          expected = λ i x at. mismatches i (Some x) at x.expected (x, refl, inl refl);
+          actual = λ i x at. mismatches i (Some x) at x.actual (x, refl, inr refl);
+          pat_expected = λ i x at. pat_mismatches i (Some x) at x.expected (x, refl, inl refl);
+          pat_actual = λ i x at. pat_mismatches i (Some x) at x.actual (x, refl, inr refl);
+          found = λ i n t at. h.none i (Some (diagnostic.ExpectedFunction n t)) at t (n, refl);
+        };
+      }

@@ -4,5 +4,6 @@ pub mod Provable
 pub mod Telling
 pub mod Adding
 pub mod Judging
+pub mod ReadsYes
 pub mod Leaving
 pub mod Holding

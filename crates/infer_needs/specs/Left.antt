@@ -1,11 +1,12 @@
 -- Associated types in the types of a table: each that could be read is listed with what it reads as.
-use Rattle.std.specs.Prelude.{◌≡◌, ◌⊎◌, ℕ, List, slice_get, Option, Some}
+use Rattle.std.specs.Prelude.{◌≡◌, ◌⊎◌, ℕ, List, slice_get, Option, Some, None}
 use Rattle.hir_types.specs.declared.ids.ExprId.{ExprId}
 use Rattle.hir_types.specs.declared.ids.TypeAliasId.{TypeAliasId}
 use Rattle.hir_types.specs.declared.ty.GenericArg.{GenericArg}
 use Rattle.hir_types.specs.declared.ty.Ty.{Ty}
 use Rattle.hir_types.specs.declared.ty.Ty.TheVariants as ty
-use Rattle.hir_types.specs.Terms.{Term, term}
+use Rattle.hir_types.specs.declared.head.Head.TheVariants as head
+use Rattle.hir_types.specs.Terms.{Term, hole, leaf, pair, term}
 use Rattle.hir_raw.specs.declared.raw.RawFacts.{RawFacts}
 use Rattle.goal_answers.specs.Goals.{System}
 use Rattle.goal_answers.specs.Reading.{IsRead}
@@ -48,6 +49,15 @@ pub record Lists (raw : RawFacts) (f : System) (P : List (Ty × Ty) → Type 0) 
 pub record IsFinal (t : Term) : Type 0 where
   pub read : IsRead t
   pub written : IsWritten t
+
+-- the associated type that stays at the arguments that follow, if this is the head of one
+abbrev pub staying_head : Term → Option TypeAliasId
+staying_head (leaf (head.AssociatedType k)) = Some k
+staying_head _ = None
+
+-- of the associated type that the two make, if they do
+abbrev pub NoneHere : System → ℕ → Term → Term → List (Ty × Ty) → Type 0
+NoneHere f n a b js = (k : TypeAliasId) (xs : List GenericArg) → stays_at k xs ≡ pair a b → StaysOrIsListed f n js k xs
 
 -- of each associated type in the term
 abbrev pub NoneStands : System → ℕ → Term → List (Ty × Ty) → Type 0

@@ -6,14 +6,15 @@ ghost use Rattle.goal_search.specs.Sources.{system};
 ghost use Rattle.goal_terms.specs.Terms.{term_of};
 ghost use Rattle.infer_result.specs.Closed.{AllTypes};
 ghost use Rattle.infer_result.specs.Projections.{StaysOrIsListed, NoneIsLeft};
-ghost use Rattle.infer_needs.specs.Left.{WereRead, Lists, IsFinal, IsFinalType, NoneStands, StandsInType, StandsInMismatch, StandsInDiagnostic, EachIn, EachOf};
+ghost use Rattle.infer_needs.specs.Left.{WereRead, Lists, IsFinal, IsFinalType, staying_head, NoneHere, NoneStands, StandsInType, StandsInMismatch, StandsInDiagnostic, EachIn, EachOf};
 
 use crate::found::Found;
 use crate::unknown::holds_unknown;
 use goal_facts::{ItemSources, Proof};
 use goal_prove::prove_goal;
-use goal_terms::{Term, staying_term, term_args, type_term};
-use hir_facts::{Goal, Head, Ty, TypeAliasId};
+use goal_terms::{Term, args_term, staying_term, term_args, type_term};
+use hir_facts::{Goal, Ty, TypeAliasId};
+use hir_types::Head;
 use infer_result::{InferenceDiagnostic, InferenceResult, TypeMismatch};
 use std::alloc::{AllocError, Global};
 
@@ -26,16 +27,26 @@ fn look_at_alias(
     proofs: &mut Vec<Proof>,
     found: &mut Found,
 ) -> Result<(), AllocError>
-    requires final { IsFinal (term_of args.now) }
+    requires whole { IsFinal (term_of args.now) }
     requires read { WereRead (system sources.now.sources) sources.now.facts.limits.goal_depth found.old }
     ensures { OnOk result (Lists sources.now.facts (system sources.now.sources) (λ js. (xs : List GenericArg) → chain (map arg_term xs) ≡ term_of args.now → StaysOrIsListed (system sources.now.sources) sources.now.facts.limits.goal_depth js alias xs) proofs.old.items proofs.new.items found.old found.new) }
 {
-    let ty = Ty::Projection(alias, term_args(alloc, args)?);
+    let made = term_args(alloc, args)?;
+    let chain = args_term(alloc, &made)?;
+    // What is no list of arguments stands in no type.
+    if !chain.is_same(args) {
+        return Ok(());
+    }
+    let ty = Ty::Projection(alias, made);
     let Some(read) = sources.read_ty(alloc, &ty)? else {
         return Ok(());
     };
     let stays = staying_term(alloc, alias, args)?;
-    if type_term(alloc, &read)?.is_same(&stays) || found.find(&ty).is_some() {
+    let term = type_term(alloc, &read)?;
+    if term.is_same(&stays) {
+        return Ok(());
+    }
+    if let Some(_type) = found.find(&ty) {
         return Ok(());
     }
     let goal = Goal::Projection {
@@ -43,7 +54,8 @@ fn look_at_alias(
         args: term_args(alloc, args)?,
         ty: read.dup(alloc)?,
     };
-    if holds_unknown(alloc, &goal)? {
+    let unknown = holds_unknown(alloc, &goal)?;
+    if unknown {
         return Ok(());
     }
     let depth = sources.facts().raw().limits.goal_depth;
@@ -53,7 +65,38 @@ fn look_at_alias(
     found.add(alloc, ty, read)
 }
 
+/// The associated type that stays over the arguments that follow, if this is one.
+#[tactic(auto, using(goal_terms::specs::Terms::term_is))]
+fn staying_alias(first: &Term) -> Option<TypeAliasId>
+    ensures { result ≡ staying_head (term_of first.now) }
+{
+    match first {
+        Term::Leaf(Head::AssociatedType(alias)) => Some(*alias),
+        _ => None,
+    }
+}
+
+/// The same of one that stands over these arguments, if any does.
+fn look_at_head(
+    alloc: Global,
+    sources: &ItemSources<'_>,
+    first: &Term,
+    args: &Term,
+    proofs: &mut Vec<Proof>,
+    found: &mut Found,
+) -> Result<(), AllocError>
+    requires whole { IsFinal (term_of args.now) }
+    requires read { WereRead (system sources.now.sources) sources.now.facts.limits.goal_depth found.old }
+    ensures { OnOk result (Lists sources.now.facts (system sources.now.sources) (NoneHere (system sources.now.sources) sources.now.facts.limits.goal_depth (term_of first.now) (term_of args.now)) proofs.old.items proofs.new.items found.old found.new) }
+{
+    match staying_alias(first) {
+        Some(alias) => look_at_alias(alloc, sources, alias, args, proofs, found),
+        None => Ok(()),
+    }
+}
+
 /// The same of each associated type in a term.
+#[tactic(auto, using(goal_terms::specs::Terms::term_is))]
 fn look_at(
     alloc: Global,
     sources: &ItemSources<'_>,
@@ -61,18 +104,17 @@ fn look_at(
     proofs: &mut Vec<Proof>,
     found: &mut Found,
 ) -> Result<(), AllocError>
-    requires final { IsFinal (term_of term.now) }
+    requires whole { IsFinal (term_of term.now) }
     requires read { WereRead (system sources.now.sources) sources.now.facts.limits.goal_depth found.old }
     ensures { OnOk result (Lists sources.now.facts (system sources.now.sources) (NoneStands (system sources.now.sources) sources.now.facts.limits.goal_depth (term_of term.now)) proofs.old.items proofs.new.items found.old found.new) }
 {
     match term {
         Term::Hole(_) | Term::Leaf(_) => Ok(()),
         Term::Pair(first, rest) => {
-            if let Term::Leaf(Head::AssociatedType(alias)) = first.get() {
-                look_at_alias(alloc, sources, *alias, rest.get(), proofs, found)?;
-            }
+            look_at_head(alloc, sources, first.get(), rest.get(), proofs, found)?;
             look_at(alloc, sources, first.get(), proofs, found)?;
-            look_at(alloc, sources, rest.get(), proofs, found)
+            look_at(alloc, sources, rest.get(), proofs, found)?;
+            Ok(())
         }
     }
 }
@@ -85,7 +127,7 @@ fn look_at_type(
     proofs: &mut Vec<Proof>,
     found: &mut Found,
 ) -> Result<(), AllocError>
-    requires final { IsFinalType ty.now }
+    requires whole { IsFinalType ty.now }
     requires read { WereRead (system sources.now.sources) sources.now.facts.limits.goal_depth found.old }
     ensures { OnOk result (Lists sources.now.facts (system sources.now.sources) (λ js. NoneIsLeft (system sources.now.sources) sources.now.facts.limits.goal_depth js ty.now) proofs.old.items proofs.new.items found.old found.new) }
 {
@@ -101,7 +143,7 @@ fn look_at_entry(
     proofs: &mut Vec<Proof>,
     found: &mut Found,
 ) -> Result<(), AllocError>
-    requires final { EachIn StandsInType IsFinalType entry.now }
+    requires whole { EachIn StandsInType IsFinalType entry.now }
     requires read { WereRead (system sources.now.sources) sources.now.facts.limits.goal_depth found.old }
     ensures { OnOk result (Lists sources.now.facts (system sources.now.sources) (λ js. EachIn StandsInType (NoneIsLeft (system sources.now.sources) sources.now.facts.limits.goal_depth js) entry.now) proofs.old.items proofs.new.items found.old found.new) }
 {
@@ -119,7 +161,7 @@ fn look_at_types(
     proofs: &mut Vec<Proof>,
     found: &mut Found,
 ) -> Result<(), AllocError>
-    requires final { EachOf StandsInType IsFinalType entries.now }
+    requires whole { EachOf StandsInType IsFinalType entries.now }
     requires read { WereRead (system sources.now.sources) sources.now.facts.limits.goal_depth found.old }
     ensures { OnOk result (Lists sources.now.facts (system sources.now.sources) (λ js. EachOf StandsInType (NoneIsLeft (system sources.now.sources) sources.now.facts.limits.goal_depth js) entries.now) proofs.old.items proofs.new.items found.old found.new) }
 {
@@ -137,7 +179,7 @@ fn look_at_mismatch(
     proofs: &mut Vec<Proof>,
     found: &mut Found,
 ) -> Result<(), AllocError>
-    requires final { EachIn StandsInMismatch IsFinalType entry.now }
+    requires whole { EachIn StandsInMismatch IsFinalType entry.now }
     requires read { WereRead (system sources.now.sources) sources.now.facts.limits.goal_depth found.old }
     ensures { OnOk result (Lists sources.now.facts (system sources.now.sources) (λ js. EachIn StandsInMismatch (NoneIsLeft (system sources.now.sources) sources.now.facts.limits.goal_depth js) entry.now) proofs.old.items proofs.new.items found.old found.new) }
 {
@@ -158,7 +200,7 @@ fn look_at_mismatches(
     proofs: &mut Vec<Proof>,
     found: &mut Found,
 ) -> Result<(), AllocError>
-    requires final { EachOf StandsInMismatch IsFinalType entries.now }
+    requires whole { EachOf StandsInMismatch IsFinalType entries.now }
     requires read { WereRead (system sources.now.sources) sources.now.facts.limits.goal_depth found.old }
     ensures { OnOk result (Lists sources.now.facts (system sources.now.sources) (λ js. EachOf StandsInMismatch (NoneIsLeft (system sources.now.sources) sources.now.facts.limits.goal_depth js) entries.now) proofs.old.items proofs.new.items found.old found.new) }
 {
@@ -176,16 +218,19 @@ fn look_at_diagnostic(
     proofs: &mut Vec<Proof>,
     found: &mut Found,
 ) -> Result<(), AllocError>
-    requires final { EachIn StandsInDiagnostic IsFinalType entry.now }
+    requires whole { EachIn StandsInDiagnostic IsFinalType entry.now }
     requires read { WereRead (system sources.now.sources) sources.now.facts.limits.goal_depth found.old }
     ensures { OnOk result (Lists sources.now.facts (system sources.now.sources) (λ js. EachIn StandsInDiagnostic (NoneIsLeft (system sources.now.sources) sources.now.facts.limits.goal_depth js) entry.now) proofs.old.items proofs.new.items found.old found.new) }
 {
     match entry {
-        Some(InferenceDiagnostic::ExpectedFunction {
-            call_expr: _,
-            found: ty,
-        }) => look_at_type(alloc, sources, ty, proofs, found),
-        _ => Ok(()),
+        Some(diagnostic) => match diagnostic {
+            InferenceDiagnostic::ExpectedFunction {
+                call_expr: _,
+                found: ty,
+            } => look_at_type(alloc, sources, ty, proofs, found),
+            _ => Ok(()),
+        },
+        None => Ok(()),
     }
 }
 
@@ -197,7 +242,7 @@ fn look_at_diagnostics(
     proofs: &mut Vec<Proof>,
     found: &mut Found,
 ) -> Result<(), AllocError>
-    requires final { EachOf StandsInDiagnostic IsFinalType entries.now }
+    requires whole { EachOf StandsInDiagnostic IsFinalType entries.now }
     requires read { WereRead (system sources.now.sources) sources.now.facts.limits.goal_depth found.old }
     ensures { OnOk result (Lists sources.now.facts (system sources.now.sources) (λ js. EachOf StandsInDiagnostic (NoneIsLeft (system sources.now.sources) sources.now.facts.limits.goal_depth js) entries.now) proofs.old.items proofs.new.items found.old found.new) }
 {
@@ -215,7 +260,7 @@ pub fn look_at_table(
     proofs: &mut Vec<Proof>,
     found: &mut Found,
 ) -> Result<(), AllocError>
-    requires final { AllTypes IsFinalType table.now }
+    requires whole { AllTypes IsFinalType table.now }
     requires read { WereRead (system sources.now.sources) sources.now.facts.limits.goal_depth found.old }
     ensures { OnOk result (Lists sources.now.facts (system sources.now.sources) (λ js. AllTypes (NoneIsLeft (system sources.now.sources) sources.now.facts.limits.goal_depth js) table.now) proofs.old.items proofs.new.items found.old found.new) }
 {

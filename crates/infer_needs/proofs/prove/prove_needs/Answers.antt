@@ -22,13 +22,13 @@ use Rattle.infer_needs.proofs.Provable.{needs_provable, table_final}
 use Rattle.infer_needs.proofs.Holding.{same_body, goals_hold, has_none_left}
 use Rattle.infer_needs.proofs.prove.prove_needs.Goals as goal
 
-pub prove_exprs-requires-needs : goal.prove_exprs-requires-needs
-prove_exprs-requires-needs c n x at =
+pub prove_exprs-requires-clause-needs : goal.prove_exprs-requires-clause-needs
+prove_exprs-requires-clause-needs c n x at =
     subst (λ z. AreProvable (needs_of z (Some x) (recorded c.args.table.now.type_of_expr n))) (sym c.in_ok-sources.ensures.facts)
     (needs_provable c.args.facts.now c.args.def c.args.table.now c.requires n x)
 
-pub prove_exprs-requires-types : goal.prove_exprs-requires-types
-prove_exprs-requires-types c = table_final c.args.facts.now c.args.def c.args.table.now c.requires
+pub prove_exprs-requires-clause-types : goal.prove_exprs-requires-clause-types
+prove_exprs-requires-clause-types c = table_final c.args.facts.now c.args.def c.args.table.now c.requires
 
 -- the sources and what was judged, as the facts, the item and the body say
 judged_of : (raw : RawFacts) (d : DefWithBodyId) (r : InferenceResult) (made : ItemSources) → made.facts ≡ raw → made.item ≡ scope_item raw d → IsSystemOf made.facts made.item (system made.sources)
