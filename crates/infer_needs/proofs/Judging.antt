@@ -1,6 +1,6 @@
 -- What becomes of goals, one after another.
 use Rattle.std.specs.Prelude.{◌≡◌, ◌⊎◌, ◌+◌, ◌++◌, ℕ, List, [], ◌∷◌, length, map, slice_get, Option, Some}
-use Rattle.std.proofs.Common.{inl, inr, refl, sym, ap, ◌∙◌, subst, arith, append_assoc, append-nil, length-append}
+use Rattle.std.proofs.Common.{inl, inr, refl, sym, ap, ◌∙◌, subst, arith, append-nil, length-append}
 use Rattle.std.proofs.lemmas.List.{map-append}
 use Rattle.hir_types.specs.declared.ids.ExprId.{ExprId}
 use Rattle.hir_types.specs.declared.ids.TypeAliasId.{TypeAliasId}
@@ -33,7 +33,7 @@ use Rattle.infer_result.specs.Table.{recorded}
 use Rattle.infer_result.specs.Closed.{AllTypes}
 use Rattle.infer_needs.specs.Listed.{FindsIn}
 use Rattle.infer_needs.specs.Left.{Lists}
-use Rattle.infer_needs.specs.Judged.{IsProvable, AreProvable, unproved, clash, IsAmong, IsSaidOnce, IsSaidIfKnown, SaysAlias, IsNoted, HasProofOf, IsSaid, IsSaidClash, IsDone, IsJudged, IsEntry, AreEntries, AddsEntries, IsOfFailing, IsOfClash, AreDone, AreJudged, AreAllJudged}
+use Rattle.infer_needs.specs.Judged.{IsProvable, AreProvable, unproved, clash, IsAmong, IsSaidOnce, IsSaidIfKnown, SaysAlias, IsNoted, HasProofOf, IsSaid, IsSaidClash, IsDone, IsJudged, IsEntry, AddsEntries, IsOfFailing, IsOfClash, AreDone, AreJudged, AreAllJudged}
 use Rattle.infer_needs.proofs.Adding.{adds_none, adds_then, front_get, has_later, listed_later, entry_later, entries_later, lists_none, lists_then}
 use Rattle.infer_needs.proofs.Leaving.{table_later}
 

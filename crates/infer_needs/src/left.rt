@@ -266,9 +266,39 @@ pub fn look_at_table(
 {
     look_at_types(alloc, sources, table.type_of_expr.as_slice(), proofs, found)?;
     look_at_types(alloc, sources, table.type_of_pat.as_slice(), proofs, found)?;
-    look_at_types(alloc, sources, table.type_of_binding.as_slice(), proofs, found)?;
-    look_at_types(alloc, sources, table.type_of_placeholder.as_slice(), proofs, found)?;
-    look_at_mismatches(alloc, sources, table.expr_mismatches.as_slice(), proofs, found)?;
-    look_at_mismatches(alloc, sources, table.pat_mismatches.as_slice(), proofs, found)?;
-    look_at_diagnostics(alloc, sources, table.expr_diagnostics.as_slice(), proofs, found)
+    look_at_types(
+        alloc,
+        sources,
+        table.type_of_binding.as_slice(),
+        proofs,
+        found,
+    )?;
+    look_at_types(
+        alloc,
+        sources,
+        table.type_of_placeholder.as_slice(),
+        proofs,
+        found,
+    )?;
+    look_at_mismatches(
+        alloc,
+        sources,
+        table.expr_mismatches.as_slice(),
+        proofs,
+        found,
+    )?;
+    look_at_mismatches(
+        alloc,
+        sources,
+        table.pat_mismatches.as_slice(),
+        proofs,
+        found,
+    )?;
+    look_at_diagnostics(
+        alloc,
+        sources,
+        table.expr_diagnostics.as_slice(),
+        proofs,
+        found,
+    )
 }

@@ -16,7 +16,7 @@ look_at_mismatches-requires-2-clause-read c =
 pub look_at_diagnostics-requires-clause-read : goal.look_at_diagnostics-requires-clause-read
 look_at_diagnostics-requires-clause-read c =
     c.in_ok-look_at_mismatches-2.ensures.adds.read (c.in_ok-look_at_mismatches.ensures.adds.read (
-      c.in_ok-look_at_types-4.ensures.adds.read (c.in_ok-look_at_types-3.ensures.adds.read (c.in_ok-look_at_types-2.ensures.adds.read (c.in_ok-look_at_types.ensures.adds.read c.requires.read)))
+    c.in_ok-look_at_types-4.ensures.adds.read (c.in_ok-look_at_types-3.ensures.adds.read (c.in_ok-look_at_types-2.ensures.adds.read (c.in_ok-look_at_types.ensures.adds.read c.requires.read)))
     ))
 
 pub returns : goal.returns

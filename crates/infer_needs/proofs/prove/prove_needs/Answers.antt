@@ -38,10 +38,10 @@ judged_of raw d r made facts item of_item body b same ps js found gss list judge
     let f = system made.sources in (
       subst (λ i. IsSystemOf raw i f) item (subst (λ z. IsSystemOf z made.item f) facts of_item),
       subst (λ x. AreAllJudged raw f x r (length x.exprs) ps js gss) same (
-        subst (λ z. AreAllJudged z f body r (length body.exprs) ps js gss) facts (
+          subst (λ z. AreAllJudged z f body r (length body.exprs) ps js gss) facts (
           subst (λ ks. AreAllJudged made.facts f body r (length body.exprs) ps ks gss) (sym list) judged
-        )
-      ),
+          )
+          ),
     )
 
 pub returns-clause-goals : goal.returns-clause-goals
