@@ -6,6 +6,8 @@ use Rattle.hir_types.specs.declared.ids.DefWithBodyId.{DefWithBodyId}
 use Rattle.hir_types.specs.declared.ids.VariantId.{VariantId}
 use Rattle.hir_types.specs.declared.ids.PatId.{PatId}
 use Rattle.hir_types.specs.declared.ty.Ty.{Ty}
+use Rattle.hir_types.specs.Terms.{term}
+use Rattle.goal_answers.specs.Reading.{IsRead}
 use Rattle.hir_raw.specs.declared.raw.RawBody.{RawBody}
 use Rattle.hir_raw.specs.declared.raw.RawFacts.{RawFacts}
 use Rattle.hir_laws.specs.Bodies.{body_id_of, body_of, IsWalkable}
@@ -19,7 +21,7 @@ use Rattle.hir_laws.specs.Lawful.{IsLawful}
 use Rattle.hir_raw.specs.declared.schedule.Schedule.{Schedule}
 use Rattle.hir_raw.specs.declared.raw.RawPath.TheVariants as path
 use Rattle.hir_raw.specs.declared.raw.RawPat.TheVariants as pat
-use Rattle.infer_result.specs.Closed.{IsVariantPat}
+use Rattle.infer_result.specs.Closed.{IsVariantPat, AllTypes}
 use Rattle.infer_result.specs.declared.result.InferenceResult.{InferenceResult}
 use Rattle.infer_result.specs.OwnTypes.{AreOwnTypes, AreLetTypes}
 use Rattle.infer_result.specs.Made.{IsMade}
@@ -72,8 +74,8 @@ module _ (raw : RawFacts) (d : DefWithBodyId) (i : BodyId) (b : RawBody) (inputs
   pub output_fine : (state : State) → IsFineExpectation (scope_of raw d) state output
   output_fine state = (output_by output refl state).1
 
-pub table_of : (raw : RawFacts) (d : DefWithBodyId) (i : BodyId) (b : RawBody) (s : Schedule) (inputs : List (Option Ty)) (output : Option Ty) (aliases : List (Option Ty)) (r : InferenceResult) → body_id_of raw d ≡ Some i → slice_get raw.bodies i.0 ≡ Some b → IsWalkable b s → AreOwnTypes raw d inputs output → AreLetTypes raw d b aliases → IsMade (given_by raw d b inputs output aliases) r → TypesFit raw d r → SeenFit raw d r → IsTableOf raw d r
-table_of raw d i b s inputs output aliases r id at law own lets made fit seen_fit = record {
+pub table_of : (raw : RawFacts) (d : DefWithBodyId) (i : BodyId) (b : RawBody) (s : Schedule) (inputs : List (Option Ty)) (output : Option Ty) (aliases : List (Option Ty)) (r : InferenceResult) → body_id_of raw d ≡ Some i → slice_get raw.bodies i.0 ≡ Some b → IsWalkable b s → AreOwnTypes raw d inputs output → AreLetTypes raw d b aliases → IsMade (given_by raw d b inputs output aliases) r → TypesFit raw d r → SeenFit raw d r → AllTypes (λ t. IsRead (term t)) r → IsTableOf raw d r
+table_of raw d i b s inputs output aliases r id at law own lets made fit seen_fit read = record {
   body = b;
   is_body = found_body raw d i b id at;
   inputs = inputs;
@@ -84,4 +86,5 @@ table_of raw d i b s inputs output aliases r id at law own lets made fit seen_fi
   typed = typed_by_schedule (given_by raw d b inputs output aliases) r s law.schedule made;
   fit = fit;
   seen_fit = seen_fit;
+  read = read;
 }

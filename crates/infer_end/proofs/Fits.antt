@@ -1,14 +1,18 @@
 -- What is typed in a scope names in the end what there is.
 use Rattle.std.specs.List.{list_all}
-use Rattle.std.proofs.Common.{◌≡◌, ap, ◌∙◌, Bool, true, ◌&&◌, ℕ, refl, Option, Some, None, option_map, length, List, [], ◌∷◌, map, sym, inl, inr}
+use Rattle.std.proofs.Common.{◌≡◌, ap, ◌∙◌, Bool, true, ◌&&◌, ℕ, refl, Option, Some, None, option_map, length, List, [], ◌∷◌, map, sym, subst, inl, inr}
 use Rattle.std.proofs.lemmas.List.{length-map}
 use Rattle.hir_types.specs.declared.ids.CallableDefId.{CallableDefId}
 use Rattle.hir_types.specs.declared.ty.Ty.{Ty}
-use Rattle.hir_types.specs.Replacements.{replaced_bool, replaced_char, replaced_int, replaced_uint, replaced_tuple, replaced_param, replaced_var, replaced_int_var, folded_itself}
+use Rattle.hir_types.specs.Replacements.{folded_twice, replaced_bool, replaced_char, replaced_int, replaced_uint, replaced_tuple, replaced_param, replaced_var, replaced_int_var, folded_itself}
 use Rattle.hir_types.specs.Subst.{Assignment, with_holes, folded, each_itself}
 use Rattle.hir_types.specs.declared.ty.Ty.TheVariants as ty
 use Rattle.hir_types.specs.declared.head.Hole.TheVariants as hole_of
 use Rattle.hir_types.specs.declared.ty.IntTy.TheVariants as int
+use Rattle.hir_types.specs.declared.head.Hole.{Hole}
+use Rattle.hir_types.specs.Terms.{Term, hole, leaf, pair, apply, term, terms_of}
+use Rattle.hir_types.specs.TermLaws.{term_error, term_int, term_folded}
+use Rattle.goal_answers.specs.Reading.{IsRead}
 use Rattle.hir_raw.specs.Scope.{has_params, callable_params, Scope, adt_params, alias_params}
 use Rattle.hir_raw.specs.declared.raw.RawFacts.{RawFacts}
 use Rattle.hir_raw.specs.Signatures.{Signature, signature_of, type_args}
@@ -17,11 +21,12 @@ use Rattle.hir_raw.specs.Fitting.{ty_fits_bool, ty_fits_char, ty_fits_int, ty_fi
 use Rattle.hir_types.specs.Fallback.{fallback}
 use Rattle.infer_table.specs.Completion.{completion}
 use Rattle.infer_table.specs.Resolution.{resolution}
-use Rattle.infer_table.specs.Table.{bindings}
+use Rattle.infer_table.specs.Preserved.{made_of_resolved_term}
+use Rattle.infer_table.specs.Table.{bindings, resolved_type}
 use Rattle.infer_result.specs.declared.result.TypeMismatch.{TypeMismatch}
 use Rattle.infer_result.specs.Closed.{AllTypes, AllSeen}
 use Rattle.infer_result.specs.declared.diagnostics.InferenceDiagnostic.TheVariants as diagnostic
-use Rattle.infer_ctx.specs.Fine.{item_params, HasFineHeads, IsFine, Every}
+use Rattle.infer_ctx.specs.Fine.{is_fine_head, item_params, HasFineHeads, IsFine, Every}
 use Rattle.infer_ctx.specs.declared.context.InferenceContext.{InferenceContext}
 use Rattle.infer_ctx.specs.Closings.{closed_mismatch, closed_table, IsSound}
 use Rattle.infer_ctx.proofs.Items.{signature_count}
@@ -29,6 +34,7 @@ use Rattle.infer_ctx.proofs.OverTypes.{over_fine, adt_closed, fn_def_closed, ass
 use Rattle.infer_ctx.proofs.UnderClosings.{At-unclosed, At-stems}
 use Rattle.infer_ctx.proofs.Said.{said-cases}
 use Rattle.infer_obligations.proofs.Below.{bound_heads}
+use Rattle.infer_end.proofs.SizedTypes.{heads_are_read}
 use Rattle.std.specs.Cmp.{second_so}
 
 both_true : (a b : Bool) → a ≡ true → b ≡ true → (a && b) ≡ true
@@ -93,6 +99,45 @@ module _ (sc : Scope) (a : Assignment) where
 pub fine_fits : (sc : Scope) (t : Ty) → HasFineHeads sc t → ty_fits sc t ≡ true
 fine_fits sc t h = ap (ty_fits sc) (sym (folded_itself t)) ∙ heads_fit sc each_itself (λ n. ty_fits_var sc n) (λ n. ty_fits_intvar sc n) t h
 
+-- ---- nothing to be read
+
+read_under : (s : Hole → Term) → ((k : Hole) → IsRead (s k)) → (t : Term) → IsRead t → IsRead (apply s t)
+read_under s f (hole k) h = f k
+read_under s f (leaf g) h = h
+read_under s f (pair a b) h = (read_under s f a h.0, read_under s f b h.1)
+
+fallback_read : (k : Hole) → IsRead (terms_of fallback k)
+fallback_read (hole_of.Ty n) = subst IsRead (sym term_error) (tt, tt)
+fallback_read (hole_of.Int n) = subst IsRead (sym (term_int int.I32)) (tt, tt)
+fallback_read (hole_of.Const n) = (tt, tt)
+
+-- ---- of a table
+
+-- what holds of fine types, and of them under an assignment, holds of each type of the table that it closes
+module _ (sc : Scope) (c : InferenceContext) (s : IsSound sc c) (a : Assignment) (P : Ty → Type 0) (as_is : (t : Ty) → HasFineHeads sc t → P t) (under : (t : Ty) → IsFine sc c.goals.table t → P (folded a t)) where
+  of_under : (t u : Ty) → folded a t ≡ u → IsFine sc c.goals.table t → P u
+  of_under t u e h = subst P e (under t h)
+
+  pub each_type : AllTypes P (closed_table a c.asked c.result)
+  each_type =
+      let f : Ty → Ty = folded a in
+      let m : TypeMismatch → TypeMismatch = closed_mismatch a in
+      record {
+        exprs = λ n t i. (let q = At-unclosed f c.result.type_of_expr n t i in of_under q.0 t q.2 (s.fine.exprs n q.0 q.1));
+        pats = λ n t i. (let q = At-unclosed f c.result.type_of_pat n t i in of_under q.0 t q.2 (s.fine.pats n q.0 q.1));
+        bindings = λ n t i. (let q = At-unclosed f c.result.type_of_binding n t i in of_under q.0 t q.2 (s.fine.bindings n q.0 q.1));
+        placeholders = λ n t i. (let q = At-unclosed f c.result.type_of_placeholder n t i in of_under q.0 t q.2 (s.fine.placeholders n q.0 q.1));
+        items = λ n t i. (let q = At-unclosed f c.result.item_of_pat n t i in of_under q.0 t q.2 (s.fine.items n q.0 q.1));
+        found = λ n k t i. elim (said-cases a c.result.seen c.result.expr_diagnostics n (diagnostic.ExpectedFunction k t) i) [
+          | inl q ↦ as_is t (s.fine.found n k t q).heads
+          | inr q ↦ of_under q.1.ty t (let same : diagnostic.ExpectedFunction k t ≡ diagnostic.ExpectedFunction q.3.call (f q.1.ty) = q.3.is in cc) (s.seen.types q.0 q.1 q.2)
+        ];
+        expected = λ n x i. (let q = At-stems a c.asked c.result.expr_mismatches n x i in of_under q.0.expected x.expected (ap (λ (y : TypeMismatch). y.expected) q.2) (elim q.1 [ inl z ↦ (s.asked n q.0 z).0 | inr z ↦ s.fine.expected n q.0 z ]));
+        actual = λ n x i. (let q = At-stems a c.asked c.result.expr_mismatches n x i in of_under q.0.actual x.actual (ap (λ (y : TypeMismatch). y.actual) q.2) (elim q.1 [ inl z ↦ (s.asked n q.0 z).1 | inr z ↦ s.fine.actual n q.0 z ]));
+        pat_expected = λ n x i. (let q = At-unclosed m c.result.pat_mismatches n x i in of_under q.0.expected x.expected (ap (λ (y : TypeMismatch). y.expected) q.2) (s.fine.pat_expected n q.0 q.1));
+        pat_actual = λ n x i. (let q = At-unclosed m c.result.pat_mismatches n x i in of_under q.0.actual x.actual (ap (λ (y : TypeMismatch). y.actual) q.2) (s.fine.pat_actual n q.0 q.1));
+      }
+
 module _ (sc : Scope) (c : InferenceContext) (s : IsSound sc c) where
   fallen_back : (t : Ty) → HasFineHeads sc t → ty_fits sc (folded fallback t) ≡ true
   fallen_back t h = heads_fit sc fallback (λ n. ty_fits_error sc) (λ n. ty_fits_int sc int.I32) t h
@@ -102,29 +147,20 @@ module _ (sc : Scope) (c : InferenceContext) (s : IsSound sc c) where
       let known = resolution (bindings c.goals.table) in
       heads_fit sc (completion c.goals.table) (λ n. fallen_back (known.var n) (bound_heads sc c.goals.table s.bound (hole_of.Ty n))) (λ n. fallen_back (known.int_var n) (bound_heads sc c.goals.table s.bound (hole_of.Int n))) t h.heads
 
-  fits_of : (t u : Ty) → folded (completion c.goals.table) t ≡ u → IsFine sc c.goals.table t → ty_fits sc u ≡ true
-  fits_of t u e h = ap (ty_fits sc) (sym e) ∙ completed_fits t h
-
   -- each type of the completed table fits
   pub completed_table_fits : AllTypes (λ t. ty_fits sc t ≡ true) (closed_table (completion c.goals.table) c.asked c.result)
-  completed_table_fits =
-      let f : Ty → Ty = folded (completion c.goals.table) in
-      let m : TypeMismatch → TypeMismatch = closed_mismatch (completion c.goals.table) in
-      record {
-        exprs = λ n t i. (let q = At-unclosed f c.result.type_of_expr n t i in fits_of q.0 t q.2 (s.fine.exprs n q.0 q.1));
-        pats = λ n t i. (let q = At-unclosed f c.result.type_of_pat n t i in fits_of q.0 t q.2 (s.fine.pats n q.0 q.1));
-        bindings = λ n t i. (let q = At-unclosed f c.result.type_of_binding n t i in fits_of q.0 t q.2 (s.fine.bindings n q.0 q.1));
-        placeholders = λ n t i. (let q = At-unclosed f c.result.type_of_placeholder n t i in fits_of q.0 t q.2 (s.fine.placeholders n q.0 q.1));
-        items = λ n t i. (let q = At-unclosed f c.result.item_of_pat n t i in fits_of q.0 t q.2 (s.fine.items n q.0 q.1));
-        found = λ n k t i. elim (said-cases (completion c.goals.table) c.result.seen c.result.expr_diagnostics n (diagnostic.ExpectedFunction k t) i) [
-          | inl q ↦ fine_fits sc t (s.fine.found n k t q).heads
-          | inr q ↦ fits_of q.1.ty t (let same : diagnostic.ExpectedFunction k t ≡ diagnostic.ExpectedFunction q.3.call (f q.1.ty) = q.3.is in cc) (s.seen.types q.0 q.1 q.2)
-        ];
-        expected = λ n x i. (let q = At-stems (completion c.goals.table) c.asked c.result.expr_mismatches n x i in fits_of q.0.expected x.expected (ap (λ (y : TypeMismatch). y.expected) q.2) (elim q.1 [ inl z ↦ (s.asked n q.0 z).0 | inr z ↦ s.fine.expected n q.0 z ]));
-        actual = λ n x i. (let q = At-stems (completion c.goals.table) c.asked c.result.expr_mismatches n x i in fits_of q.0.actual x.actual (ap (λ (y : TypeMismatch). y.actual) q.2) (elim q.1 [ inl z ↦ (s.asked n q.0 z).1 | inr z ↦ s.fine.actual n q.0 z ]));
-        pat_expected = λ n x i. (let q = At-unclosed m c.result.pat_mismatches n x i in fits_of q.0.expected x.expected (ap (λ (y : TypeMismatch). y.expected) q.2) (s.fine.pat_expected n q.0 q.1));
-        pat_actual = λ n x i. (let q = At-unclosed m c.result.pat_mismatches n x i in fits_of q.0.actual x.actual (ap (λ (y : TypeMismatch). y.actual) q.2) (s.fine.pat_actual n q.0 q.1));
-      }
+  completed_table_fits = each_type sc c s (completion c.goals.table) (λ t. ty_fits sc t ≡ true) (fine_fits sc) completed_fits
+
+  completed_read : (t : Ty) → IsFine sc c.goals.table t → IsRead (term (folded (completion c.goals.table) t))
+  completed_read t h =
+      let known = resolved_type c.goals.table t in
+      let heads : HasFineHeads sc known = made_of_resolved_term (is_fine_head sc) c.goals.table t s.bound h.heads in
+      subst (λ u. IsRead (term u)) (folded_twice fallback (resolution (bindings c.goals.table)) t)
+      (subst IsRead (sym (term_folded fallback known)) (read_under (terms_of fallback) fallback_read (term known) (heads_are_read sc known heads)))
+
+  -- and in none of them an associated type is left to be read
+  pub completed_table_read : AllTypes (λ t. IsRead (term t)) (closed_table (completion c.goals.table) c.asked c.result)
+  completed_table_read = each_type sc c s (completion c.goals.table) (λ t. IsRead (term t)) (heads_are_read sc) completed_read
 
   -- so does each that a failed look-up saw
   pub seen_fits : AllSeen (λ t. ty_fits sc t ≡ true) (closed_table (completion c.goals.table) c.asked c.result)

@@ -62,7 +62,8 @@ use Rattle.infer_end.specs.Ends.{EndsAs}
 use Rattle.infer_end.specs.KeptTypes.{AreResolved, HoldsResolved, KeepsGeneral, IsFull, HasAllTypes}
 use Rattle.infer_end.proofs.Definitions.{found_body, table_of}
 use Rattle.infer_end.proofs.OwnIn.{plain_names_none}
-use Rattle.infer_end.proofs.Fits.{completed_table_fits, fine_fits, seen_fits}
+use Rattle.infer_end.proofs.Fits.{completed_table_fits, completed_table_read, fine_fits, seen_fits}
+use Rattle.infer_end.proofs.SizedTypes.{heads_are_read}
 use Rattle.infer_end.proofs.GeneralTypes.{fine_general, fine_known, chosen, chosen_heads, chosen_closes, known_heads}
 use Rattle.infer_end.proofs.PlainBodies.{plain_body, no_ctor_aliases, no_placeholder, calls_item, none_plain, no_let_aliases}
 use Rattle.infer_end.proofs.PlainGoals.{plain_needs}
@@ -261,7 +262,7 @@ module _ (raw : RawFacts) (d : DefWithBodyId) (i : BodyId) (b : RawBody) (s : Sc
     completed_table : (o : Option General) → IsTableOf raw d (closed_table (completion c.goals.table) c.asked (result_with o))
     completed_table o =
         let r : InferenceResult = closed_table (completion c.goals.table) c.asked c.result in
-        table_of raw d i b s inputs output aliases (closed_table (completion c.goals.table) c.asked (result_with o)) id at law own lets (made_other r o ps js gs hs g (done.made (completion c.goals.table) completes)) (all_types_other r o ps js gs hs _ (completed_table_fits sc c done.sound)) (seen_still_fit (completion c.goals.table) o)
+        table_of raw d i b s inputs output aliases (closed_table (completion c.goals.table) c.asked (result_with o)) id at law own lets (made_other r o ps js gs hs g (done.made (completion c.goals.table) completes)) (all_types_other r o ps js gs hs _ (completed_table_fits sc c done.sound)) (seen_still_fit (completion c.goals.table) o) (all_types_other r o ps js gs hs _ (completed_table_read sc c done.sound))
 
     -- ---- of a plain body
 
@@ -351,7 +352,7 @@ module _ (raw : RawFacts) (d : DefWithBodyId) (i : BodyId) (b : RawBody) (s : Sc
         other_is_table : IsTableOf raw d other_table
         other_is_table =
             let r : InferenceResult = closed_table q c.asked c.result in
-            table_of raw d i b s inputs output aliases other_table id at law own lets (made_other r (Some x) ps js gs hs g (done.made q at_q)) (all_types_so _ _ other_table (fine_fits sc) other_heads) (seen_still_fit q (Some x))
+            table_of raw d i b s inputs output aliases other_table id at law own lets (made_other r (Some x) ps js gs hs g (done.made q at_q)) (all_types_so _ _ other_table (fine_fits sc) other_heads) (seen_still_fit q (Some x)) (all_types_so _ _ other_table (heads_are_read sc) other_heads)
 
         other_derives : IsDerivation raw d other_table
         other_derives =

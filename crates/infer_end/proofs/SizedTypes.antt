@@ -45,7 +45,7 @@ use Rattle.goal_facts.specs.Arguments.{holes, instance, type_at}
 use Rattle.goal_facts.specs.ImplGoals.{HasHolesBelow}
 use Rattle.goal_facts.specs.Systems.{last_of, variant_of, last_field_of}
 use Rattle.goal_facts.proofs.FreshGoals.{type_under, args_holes}
-use Rattle.infer_ctx.specs.Fine.{IsFine, AllFine, IsWritten, is_fine_head}
+use Rattle.infer_ctx.specs.Fine.{IsFine, AllFine, IsWritten, is_fine_head, HasFineHeads}
 use Rattle.infer_ctx.proofs.FineTypes.{every_at, fine_elements}
 use Rattle.infer_ctx.proofs.Instances.{fine_instance}
 use Rattle.infer_ctx.proofs.OverTypes.{over_fine}
@@ -91,8 +91,11 @@ module _ (sc : Scope) where
   made_is_read rest (leaf g) h = end_is_read g h
   made_is_read rest (pair a b) h = (made_is_read part a h.0, made_is_read rest b h.1)
 
+  pub heads_are_read : (t : Ty) → HasFineHeads sc t → IsRead (term t)
+  heads_are_read t h = made_is_read whole (term t) h
+
   pub fine_is_read : (t : Ty) → IsClosedIn sc t → IsRead (term t)
-  fine_is_read t h = made_is_read whole (term t) h.heads
+  fine_is_read t h = heads_are_read t h.heads
 
   known_term : (m t : Term) → AreOf [] t → IsMadeOf (is_fine_head sc) whole t → IsKnownPart (pair m t)
   known_term m (hole k) h g = let none = h k (hole_eq_same k) in absurd (cc)

@@ -19,7 +19,7 @@ use Rattle.goal_facts.specs.Systems.{IsSystemOf}
 use Rattle.infer_result.specs.declared.gaps.Gap.{Gap}
 use Rattle.infer_result.specs.declared.result.InferenceResult.{InferenceResult}
 use Rattle.infer_result.specs.Projections.{HasEntry, IsAboutAlias, IsFound, AreFound}
-use Rattle.infer_result.specs.Needs.{IsNeeded, HoldsUnknown, IsProved, gap_says, HasGap, IsUnproved, IsClash, IsTrueGap, needed_goals, with_goals, scope_item, GoalsHold, needs_of, needs_at}
+use Rattle.infer_result.specs.Needs.{IsNeeded, HoldsUnknown, IsProved, gap_says, HasGap, IsUnproved, IsClash, IsTrueGap, needed_goals, with_goals, scope_item, GoalsHold, HasNoneLeft, needs_of, needs_at}
 use Rattle.infer_result.specs.Places.{Given}
 use Rattle.infer_result.specs.Table.{recorded}
 use Rattle.infer_result.specs.Typed.{given}
@@ -167,6 +167,25 @@ module _ (raw : RawFacts) (d : DefWithBodyId) (b : RawBody) (f : System) (r : In
   gap_once e x y j k same =
       let alike : k.gaps ≡ j.gaps = same_Some k.gaps j.gaps (sym k.at ∙ j.at) in
       (all.each e.0 j.gaps j.at).once j.number k.number x y j.listed (subst (λ gs. slice_get gs k.number ≡ Some y) alike k.listed) same
+
+  -- what is left in types, where what is listed is what was found
+  pub has_none_left : HasNoneLeft d g z
+  has_none_left = record {
+    system = f;
+    of_item = of_item;
+    left = (let h = all.left in record {
+      exprs = h.exprs;
+      pats = h.pats;
+      bindings = h.bindings;
+      placeholders = h.placeholders;
+      items = h.items;
+      expected = h.expected;
+      actual = h.actual;
+      pat_expected = h.pat_expected;
+      pat_actual = h.pat_actual;
+      found = h.found;
+    });
+  }
 
   pub goals_hold : GoalsHold d g z
   goals_hold = record {

@@ -1,6 +1,6 @@
 -- What becomes of goals, one after another.
 use Rattle.std.specs.Prelude.{◌≡◌, ◌⊎◌, ◌+◌, ◌++◌, ℕ, List, [], ◌∷◌, length, map, slice_get, Option, Some}
-use Rattle.std.proofs.Common.{inl, inr, refl, sym, ap, ◌∙◌, subst, arith, append_assoc, append-nil, length-append}
+use Rattle.std.proofs.Common.{inl, inr, refl, sym, ap, ◌∙◌, subst, arith, append-nil, length-append}
 use Rattle.std.proofs.lemmas.List.{map-append}
 use Rattle.hir_types.specs.declared.ids.ExprId.{ExprId}
 use Rattle.hir_types.specs.declared.ids.TypeAliasId.{TypeAliasId}
@@ -27,44 +27,20 @@ use Rattle.goal_facts.specs.Goals.{asked_goal, IsAnswer}
 use Rattle.goal_prove.specs.Entries.{AddsProofs}
 use Rattle.infer_result.specs.declared.gaps.Gap.{Gap}
 use Rattle.infer_result.specs.declared.result.InferenceResult.{InferenceResult}
-use Rattle.infer_result.specs.Projections.{IsListedAs, HasEntry, IsAboutAlias}
+use Rattle.infer_result.specs.Projections.{IsListedAs, HasEntry, IsAboutAlias, NoneIsLeft}
 use Rattle.infer_result.specs.Needs.{HoldsUnknown, Saying, clashes, gap_says, needs_of, needs_at}
 use Rattle.infer_result.specs.Table.{recorded}
+use Rattle.infer_result.specs.Closed.{AllTypes}
 use Rattle.infer_needs.specs.Listed.{FindsIn}
-use Rattle.infer_needs.specs.Judged.{IsProvable, AreProvable, unproved, clash, IsAmong, IsSaidOnce, IsSaidIfKnown, SaysAlias, IsNoted, HasProofOf, IsSaid, IsSaidClash, IsDone, IsJudged, IsEntry, AreEntries, AddsEntries, IsOfFailing, IsOfClash, AreDone, AreJudged, AreAllJudged}
-
--- ---- proofs that are added
-
-adds_none : (raw : RawFacts) (f : System) (ps : List Proof) → AddsProofs raw f ps ps
-adds_none raw f ps = record { behind = front_itself ps; right = λ h. h }
-
-adds_then : (raw : RawFacts) (f : System) (ps qs rs : List Proof) → AddsProofs raw f ps qs → AddsProofs raw f qs rs → AddsProofs raw f ps rs
-adds_then raw f ps qs rs a b = record {
-  behind = (a.behind.0 ++ b.behind.0, b.behind.1 ∙ ap (λ l. l ++ b.behind.0) a.behind.1 ∙ append_assoc ps a.behind.0 b.behind.0);
-  right = λ h. b.right (a.right h);
-}
-
-front_get : {X : Type 0} (xs ys : List X) → IsFront xs ys → (i : ℕ) (x : X) → slice_get xs i ≡ Some x → slice_get ys i ≡ Some x
-front_get xs ys f i x e = subst (λ zs. slice_get zs i ≡ Some x) (sym f.1) (get_left xs f.0 i x e)
+use Rattle.infer_needs.specs.Left.{Lists}
+use Rattle.infer_needs.specs.Judged.{IsProvable, AreProvable, unproved, clash, IsAmong, IsSaidOnce, IsSaidIfKnown, SaysAlias, IsNoted, HasProofOf, IsSaid, IsSaidClash, IsDone, IsJudged, IsEntry, AddsEntries, IsOfFailing, IsOfClash, AreDone, AreJudged, AreAllJudged}
+use Rattle.infer_needs.proofs.Adding.{adds_none, adds_then, front_get, has_later, listed_later, entry_later, entries_later, lists_none, lists_then}
+use Rattle.infer_needs.proofs.Leaving.{table_later}
 
 -- ---- what stays so
 
-has_later : (ps qs : List Proof) (a : Asked) → IsFront ps qs → HasProofOf ps a → HasProofOf qs a
-has_later ps qs a p h = (h.0, h.1, front_get ps qs p h.0 h.1 h.2, h.3)
-
-listed_later : (js ks : List (Ty × Ty)) (k : TypeAliasId) (xs : List GenericArg) (t : Ty) → IsFront js ks → IsListedAs js k xs t → IsListedAs ks k xs t
-listed_later js ks k xs t p h = (h.0, front_get js ks p h.0 (ty.Projection k xs, t) h.1)
-
-entry_later : (js ks : List (Ty × Ty)) (a : Asked) → IsFront js ks → HasEntry js a → HasEntry ks a
-entry_later js ks a p h = (h.0, h.1, h.2, listed_later js ks h.0 h.1 h.2 p h.3, h.4)
-
 clash_later : (e : ExprId) (gs hs : List Gap) (a : Asked) → IsFront gs hs → IsSaidClash e gs a → IsSaidClash e hs a
 clash_later e gs hs a p h = (h.0, h.1, h.2, h.3, h.4, front_get gs hs p h.0 (clash e (ty.Projection h.1 h.2) h.3 h.4) h.5, h.6)
-
-entries_later : (ps qs : List Proof) (js : List (Ty × Ty)) → IsFront ps qs → AreEntries ps js → AreEntries qs js
-entries_later ps qs js p h n x at =
-    let k = h n x at in
-    record { alias = k.alias; args = k.args; is = k.is; proved = has_later ps qs (asked_goal (goal.Projection k.alias k.args x.1)) p k.proved; read = k.read; known = k.known }
 
 -- what became of a goal
 done_later : (e : ExprId) (ps qs : List Proof) (js ks : List (Ty × Ty)) (gs hs : List Gap) (a : Asked) → IsFront ps qs → IsFront js ks → IsFront gs hs → IsDone e ps js gs a → IsDone e qs ks hs a
@@ -72,17 +48,6 @@ done_later e ps qs js ks gs hs a p l g (inl h) =
     inl (has_later ps qs a p h.0, λ about. elim (h.1 about) [ inl k ↦ inl (entry_later js ks a l k) | inr k ↦ inr (clash_later e gs hs a g k) ])
 done_later e ps qs js ks gs hs a p l g (inr (inl h)) = inr (inl (h.0, h.1, front_get gs hs g h.0 (unproved e h.1) h.2, h.3))
 done_later e ps qs js ks gs hs a p l g (inr (inr h)) = inr (inr h)
-
--- ---- entries that are added
-
-lists_none : (ps qs : List Proof) (js : List (Ty × Ty)) → IsFront ps qs → AddsEntries ps qs js js
-lists_none ps qs js p = record { behind = front_itself js; right = entries_later ps qs js p }
-
-lists_then : (ps qs rs : List Proof) (js ks ls : List (Ty × Ty)) → AddsEntries ps qs js ks → AddsEntries qs rs ks ls → AddsEntries ps rs js ls
-lists_then ps qs rs js ks ls a b = record {
-  behind = (a.behind.0 ++ b.behind.0, b.behind.1 ∙ ap (λ l. l ++ b.behind.0) a.behind.1 ∙ append_assoc js a.behind.0 b.behind.0);
-  right = λ h. b.right (a.right h);
-}
 
 -- ---- one goal
 
@@ -412,8 +377,14 @@ done_still f n e xs ps qs js ks gs p l h = record {
   once = h.once;
 }
 
-pub all_none : (raw : RawFacts) (f : System) (b : RawBody) (r : InferenceResult) → AreAllJudged raw f b r 0 [] [] []
-all_none raw f b r = record { adds = adds_none raw f []; entries = λ n x at. cc; long = refl; each = λ k gs at. cc }
+pub all_none : (raw : RawFacts) (f : System) (b : RawBody) (r : InferenceResult) (ps : List Proof) (js : List (Ty × Ty)) → Lists raw f (λ ks. AllTypes (NoneIsLeft f raw.limits.goal_depth ks) r) [] ps [] js → AreAllJudged raw f b r 0 ps js []
+all_none raw f b r ps js h = record {
+  adds = h.adds.adds;
+  entries = h.adds.lists.right (λ n x at. cc);
+  left = h.none;
+  long = refl;
+  each = λ k gs at. cc;
+}
 
 module _ (raw : RawFacts) (f : System) (b : RawBody) (r : InferenceResult) (n : ℕ) (ps qs : List Proof) (js ks : List (Ty × Ty)) (gss : List (List Gap)) (gs : List Gap)
     (before : AreAllJudged raw f b r n ps js gss) (now : AreJudged raw f (record { 0 = n }) (needs_at raw b r n) ps qs js ks gs) where
@@ -430,6 +401,7 @@ module _ (raw : RawFacts) (f : System) (b : RawBody) (r : InferenceResult) (n : 
   all_more = record {
     adds = adds_then raw f [] ps qs before.adds now.adds;
     entries = now.lists.right before.entries;
+    left = table_later f raw.limits.goal_depth js ks now.lists.behind r before.left;
     long = (let l : length (gss ++ gs ∷ []) ≡ length gss + 1 = length-append gss (gs ∷ []) in let m = before.long in omega (arith, l, m));
     each = each_more;
   }

@@ -2,5 +2,8 @@ pub mod Listing
 pub mod Closed
 pub mod Provable
 pub mod Telling
+pub mod Adding
 pub mod Judging
+pub mod ReadsYes
+pub mod Leaving
 pub mod Holding

@@ -1,5 +1,5 @@
--- Goals that paths need are without holes.
-use Rattle.std.specs.Prelude.{◌≡◌, ℕ, suc, List, [], ◌∷◌, length, map, slice_get, Option, Some, None, refl}
+-- Goals that paths need are without holes, and so are the types of a table.
+use Rattle.std.specs.Prelude.{◌≡◌, ℕ, suc, List, [], ◌∷◌, length, map, slice_get, Option, Some, None, refl, true}
 use Rattle.std.specs.Option.{option_and_then}
 use Rattle.std.proofs.Common.{sym, ap, subst}
 use Rattle.hir_types.specs.declared.ids.DefWithBodyId.{DefWithBodyId}
@@ -21,7 +21,12 @@ use Rattle.hir_raw.specs.declared.raw.RawType.TheVariants as type
 use Rattle.hir_raw.specs.declared.raw.RawFacts.{RawFacts}
 use Rattle.hir_raw.specs.Goals.{arg_types}
 use Rattle.hir_raw.specs.Hidden.{fn_aliases}
+use Rattle.hir_types.specs.Erasure.{IsClosed}
+use Rattle.hir_raw.specs.Fit.{ty_fits}
 use Rattle.hir_raw.specs.Scope.{scope_of}
+use Rattle.goal_answers.specs.Reading.{IsRead}
+use Rattle.infer_result.specs.Closed.{AllTypes}
+use Rattle.infer_needs.specs.Left.{IsFinalType}
 use Rattle.goal_facts.specs.Arguments.{type_at, args_at, goal_at}
 use Rattle.goal_facts.proofs.Systems.{each_append}
 use Rattle.goal_prove.specs.Written.{IsWritten}
@@ -121,3 +126,23 @@ module _ (raw : RawFacts) (d : DefWithBodyId) (r : InferenceResult) (is : IsTabl
   -- each goal can be proved
   pub needs_provable : (k : ℕ) (x : RawExpr) → AreProvable (needs_of raw (Some x) (recorded r.type_of_expr k))
   needs_provable k x = of_type k x (recorded r.type_of_expr k) refl
+
+  is_final : (t : Ty) → IsClosed t → ty_fits (scope_of raw d) t ≡ true → IsRead (term t) → IsFinalType t
+  is_final t closed fits read = record { read = read; written = type_closed (scope_of raw d) t closed fits }
+
+  -- in no type is something left to be read, or a hole
+  pub table_final : AllTypes IsFinalType r
+  table_final =
+      let closed = is.typed.shape.closed in
+      record {
+        exprs = λ k t at. is_final t (closed.exprs k t at) (is.fit.exprs k t at) (is.read.exprs k t at);
+        pats = λ k t at. is_final t (closed.pats k t at) (is.fit.pats k t at) (is.read.pats k t at);
+        bindings = λ k t at. is_final t (closed.bindings k t at) (is.fit.bindings k t at) (is.read.bindings k t at);
+        placeholders = λ k t at. is_final t (closed.placeholders k t at) (is.fit.placeholders k t at) (is.read.placeholders k t at);
+        items = λ k t at. is_final t (closed.items k t at) (is.fit.items k t at) (is.read.items k t at);
+        expected = λ k x at. is_final x.expected (closed.expected k x at) (is.fit.expected k x at) (is.read.expected k x at);
+        actual = λ k x at. is_final x.actual (closed.actual k x at) (is.fit.actual k x at) (is.read.actual k x at);
+        pat_expected = λ k x at. is_final x.expected (closed.pat_expected k x at) (is.fit.pat_expected k x at) (is.read.pat_expected k x at);
+        pat_actual = λ k x at. is_final x.actual (closed.pat_actual k x at) (is.fit.pat_actual k x at) (is.read.pat_actual k x at);
+        found = λ k e t at. is_final t (closed.found k e t at) (is.fit.found k e t at) (is.read.found k e t at);
+      }

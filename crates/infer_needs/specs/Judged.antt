@@ -24,7 +24,8 @@ use Rattle.goal_prove.specs.Written.{IsWritten}
 use Rattle.infer_result.specs.declared.gaps.Gap.{Gap}
 use Rattle.infer_result.specs.declared.gaps.Gap.TheVariants as gap
 use Rattle.infer_result.specs.declared.result.InferenceResult.{InferenceResult}
-use Rattle.infer_result.specs.Projections.{IsListedAs, HasEntry, IsAboutAlias}
+use Rattle.infer_result.specs.Closed.{AllTypes}
+use Rattle.infer_result.specs.Projections.{IsListedAs, HasEntry, IsAboutAlias, NoneIsLeft}
 use Rattle.infer_result.specs.Needs.{HoldsUnknown, Saying, gap_says, needs_of, needs_at, pat_needs_at}
 use Rattle.infer_result.specs.Table.{recorded}
 use Rattle.infer_needs.specs.Listed.{FindsIn}
@@ -184,10 +185,11 @@ pub record AreJudged (raw : RawFacts) (f : System) (e : ExprOrPatId) (xs : List 
 
 -- ---- the expressions of a body
 
--- so it is of each of the first expressions, of which each has its gaps
+-- so it is of each of the first expressions, of which each has its gaps; and in no type of the table is one left that could be read
 pub record AreAllJudged (raw : RawFacts) (f : System) (b : RawBody) (r : InferenceResult) (n : ℕ) (ps : List Proof) (js : List (Ty × Ty)) (gss : List (List Gap)) : Type 0 where
   pub adds : AddsProofs raw f [] ps
   pub entries : AreEntries ps js
+  pub left : AllTypes (NoneIsLeft f raw.limits.goal_depth js) r
   pub long : length gss ≡ n
   pub each : (k : ℕ) (gs : List Gap) → slice_get gss k ≡ Some gs → AreDone f raw.limits.goal_depth (node.ExprId (record { 0 = k })) (needs_at raw b r k) ps js gs
 

@@ -1,3 +1,4 @@
 pub mod Listed
 pub mod Judged
+pub mod Left
 pub mod Told

@@ -2,6 +2,7 @@
 #![tactic(auto)]
 
 mod found;
+mod left;
 mod note;
 mod prove;
 mod say;

@@ -6,13 +6,16 @@ ghost use Rattle.hir_raw.specs.declared.raw.RawBody.{RawBody};
 ghost use Rattle.hir_laws.specs.Bodies.{body_of};
 ghost use Rattle.goal_search.specs.Sources.{system};
 ghost use Rattle.goal_facts.specs.Goals.{asked_goal, IsAnswer};
-ghost use Rattle.infer_result.specs.Needs.{with_goals, scope_item, GoalsHold, needs_of, pat_needs_at};
+ghost use Rattle.infer_result.specs.Needs.{with_goals, scope_item, GoalsHold, HasNoneLeft, needs_of, pat_needs_at};
+ghost use Rattle.infer_result.specs.Closed.{AllTypes};
 ghost use Rattle.infer_result.specs.Table.{recorded};
+ghost use Rattle.infer_needs.specs.Left.{IsFinalType};
 ghost use Rattle.infer_result.specs.Typed.{IsTableOf, given};
 ghost use Rattle.infer_needs.specs.Judged.{IsProvable, AreProvable, CanAllBeProved, CanPatsBeProved, IsSaidIfKnown, IsJudged, AreJudged, AreAllJudged, ArePatsJudged};
 ghost use Rattle.infer_needs.specs.Told.{ListsAnswers, first_needs, first_pat_needs, AreAllAnswered};
 
 use crate::found::Found;
+use crate::left::look_at_table;
 use crate::note::note;
 use crate::say::say;
 use crate::unknown::holds_unknown;
@@ -195,8 +198,8 @@ fn prove_pats(
     Ok(gaps)
 }
 
-/// The same of each expression of a body, in their order; gives the proofs, what associated types were found to
-/// be, and each expression's gaps.
+/// The same of each expression of a body, in their order, once what associated types in the types of the table read
+/// as is listed; gives the proofs, what associated types were found to be, and each expression's gaps.
 fn prove_exprs(
     alloc: Global,
     sources: &ItemSources<'_>,
@@ -204,12 +207,14 @@ fn prove_exprs(
     table: &InferenceResult,
     told: &mut Vec<(Goal, Answer)>,
 ) -> Result<(Vec<Proof>, Found, List<List<Gap>>), AllocError>
-    requires { CanAllBeProved sources.now.facts body.now table.now }
+    requires needs { CanAllBeProved sources.now.facts body.now table.now }
+    requires types { AllTypes IsFinalType table.now }
     ensures judged { IfOk result (λ made. AreAllJudged sources.now.facts (system sources.now.sources) body.now table.now (length body.now.exprs) made.0.items made.1 made.2) }
     ensures told { OnOk result (ListsAnswers (system sources.now.sources) sources.now.facts.limits.goal_depth (first_needs sources.now.facts body.now table.now (length body.now.exprs)) told.old.items told.new.items) }
 {
     let mut proofs = Vec::new(alloc);
     let mut found = Found::new(alloc);
+    look_at_table(alloc, sources, table, &mut proofs, &mut found)?;
     let mut gaps = List::new(alloc);
     for (at, expr) in body.exprs.as_slice().iter().enumerate() {
         let here = prove_at(
@@ -231,7 +236,8 @@ fn prove_exprs(
 /// has no proof. Only a goal in which `{unknown}` stands may be left without either. Each goal is evaluated
 /// once, in the order of the expressions and of the predicates of each item, and then of the patterns: these are given back, each with its
 /// answer. What associated types were found to be is listed, each once; where one is another type at a node, this is
-/// said there. Nothing else of the table changes. The one error is want of memory.
+/// said there. In no type of the table is one left that could be read, unless what it is is listed. Nothing else of the
+/// table changes. The one error is want of memory.
 pub fn prove_needs(
     alloc: Global,
     facts: &Facts,
@@ -241,6 +247,7 @@ pub fn prove_needs(
     requires { IsTableOf facts.now def table.old }
     ensures table { OnOk result (table.new ≡ with_goals table.new.proofs table.new.projections table.new.expr_gaps table.new.pat_gaps table.old) }
     ensures goals { OnOk result ((b : RawBody) → body_of facts.now def ≡ Some b → GoalsHold def (given facts.now def b) table.new) }
+    ensures left { OnOk result ((b : RawBody) → body_of facts.now def ≡ Some b → HasNoneLeft def (given facts.now def b) table.new) }
     ensures told { IfOk result (λ told. (b : RawBody) → body_of facts.now def ≡ Some b → AreAllAnswered def (given facts.now def b) table.new told.items) }
 {
     let Some(id) = facts.body_id(def) else {

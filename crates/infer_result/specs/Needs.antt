@@ -38,7 +38,8 @@ use Rattle.goal_facts.specs.Systems.{IsSystemOf}
 use Rattle.goal_facts.specs.Proofs.{AreProofs}
 pub use Rattle.infer_result.specs.Proved.{HoldsUnknown, IsProved}
 use Rattle.infer_result.specs.AliasNeeds.{alias_goals, path_alias_goals}
-use Rattle.infer_result.specs.Projections.{IsListedAs, AreFound, HasEntry, IsAboutAlias}
+use Rattle.infer_result.specs.Closed.{AllTypes}
+use Rattle.infer_result.specs.Projections.{IsListedAs, AreFound, HasEntry, IsAboutAlias, NoneIsLeft}
 use Rattle.infer_result.specs.declared.gaps.Gap.{Gap}
 use Rattle.infer_result.specs.declared.gaps.Gap.TheVariants as gap
 use Rattle.infer_result.specs.declared.result.InferenceResult.{InferenceResult}
@@ -201,6 +202,12 @@ pub record GoalsHold (d : DefWithBodyId) (g : Given) (r : InferenceResult) : Typ
   pub once : (n : ExprOrPatId) (x y : Gap) (j : HasGap r n x) (k : HasGap r n y) → gap_says x ≡ gap_says y → j.number ≡ k.number
   pub found : AreFound r
   pub entries : (n : ExprOrPatId) (a : Asked) → IsNeeded g r n a → IsAboutAlias a → HasEntry r.projections a ⊎ (IsClash r n a ⊎ IsUnproved r n a)
+
+-- in no type of the table is an associated type left that could be read, by the sources of the item, unless the table says what it is
+pub record HasNoneLeft (d : DefWithBodyId) (g : Given) (r : InferenceResult) : Type 0 where
+  pub system : System
+  pub of_item : IsSystemOf g.scope.facts (scope_item g.scope.facts d) system
+  pub left : AllTypes (NoneIsLeft system g.scope.facts.limits.goal_depth r.projections) r
 
 -- the answer to each goal that a node needs is Yes
 abbrev pub NeedsHold : DefWithBodyId → Given → InferenceResult → Type 0

@@ -1,14 +1,16 @@
--- What each associated type that a node's rule uses was found to be, as a table lists it: no order of the nodes, no state.
-use Rattle.std.specs.Prelude.{◌≡◌, ℕ, List, slice_get, Some}
+-- What each associated type that a node's rule uses was found to be, as a table lists it, and what is left of them in its types: no order of
+-- the nodes, no state.
+use Rattle.std.specs.Prelude.{◌≡◌, ◌⊎◌, ℕ, List, map, slice_get, Some}
 use Rattle.hir_types.specs.declared.ids.TypeAliasId.{TypeAliasId}
 use Rattle.hir_types.specs.declared.goal.Goal.TheVariants as goal
 use Rattle.hir_types.specs.declared.ty.GenericArg.{GenericArg}
 use Rattle.hir_types.specs.declared.ty.Ty.{Ty}
 use Rattle.hir_types.specs.declared.ty.Ty.TheVariants as ty
-use Rattle.hir_types.specs.Terms.{term}
-use Rattle.goal_answers.specs.Goals.{Asked, projects, type_of}
-use Rattle.goal_answers.specs.Reading.{IsRead}
+use Rattle.hir_types.specs.Terms.{Term, hole, leaf, pair, chain, term, arg_term}
+use Rattle.goal_answers.specs.Goals.{Asked, System, projects, type_of}
+use Rattle.goal_answers.specs.Reading.{IsRead, staying}
 use Rattle.goal_facts.specs.Goals.{asked_goal}
+use Rattle.goal_facts.specs.Reading.{TypeReads}
 use Rattle.infer_result.specs.declared.result.InferenceResult.{InferenceResult}
 use Rattle.infer_result.specs.Proved.{HoldsUnknown, IsProved}
 
@@ -40,3 +42,25 @@ pub record IsFound (r : InferenceResult) (x : Ty × Ty) : Type 0 where
 pub record AreFound (r : InferenceResult) : Type 0 where
   pub each : (n : ℕ) (x : Ty × Ty) → slice_get r.projections n ≡ Some x → IsFound r x
   pub once : (j k : ℕ) (x y : Ty × Ty) → slice_get r.projections j ≡ Some x → slice_get r.projections k ≡ Some y → x.0 ≡ y.0 → j ≡ k
+
+-- ---- what is left in types
+
+-- the first term stands in the other, or is it
+abbrev pub IsPartOf : Term → Term → Type 0
+IsPartOf x (hole k) = ⊥
+IsPartOf x (leaf h) = ⊥
+IsPartOf x (pair a b) = (x ≡ pair a b) ⊎ (IsPartOf x a ⊎ IsPartOf x b)
+
+-- an associated type that was read and stays, at these arguments
+abbrev pub stays_at : TypeAliasId → List GenericArg → Term
+stays_at k xs = staying k (chain (map arg_term xs))
+
+-- whatever the associated type reads as at the depth: it stays, or it is listed as that, or `{unknown}` stands in one of them
+abbrev pub StaysOrIsListed : System → ℕ → List (Ty × Ty) → TypeAliasId → List GenericArg → Type 0
+StaysOrIsListed f n js k xs =
+    (u : Ty) → TypeReads f n (ty.Projection k xs) u
+    → (term u ≡ stays_at k xs) ⊎ (HasEntry js (asked_goal (goal.Projection k xs u)) ⊎ HoldsUnknown (asked_goal (goal.Projection k xs u)).parts)
+
+-- so does each that stands in the type: none is left that could be read
+abbrev pub NoneIsLeft : System → ℕ → List (Ty × Ty) → Ty → Type 0
+NoneIsLeft f n js t = (k : TypeAliasId) (xs : List GenericArg) → IsPartOf (stays_at k xs) (term t) → StaysOrIsListed f n js k xs

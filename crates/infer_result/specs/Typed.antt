@@ -4,14 +4,16 @@ use Rattle.hir_types.specs.declared.ids.ExprId.{ExprId}
 use Rattle.hir_types.specs.declared.ids.PatId.{PatId}
 use Rattle.hir_types.specs.declared.ids.DefWithBodyId.{DefWithBodyId}
 use Rattle.hir_types.specs.declared.ty.Ty.{Ty}
+use Rattle.hir_types.specs.Terms.{term}
 use Rattle.hir_raw.specs.declared.raw.RawBody.{RawBody}
 use Rattle.hir_raw.specs.declared.raw.RawFacts.{RawFacts}
 use Rattle.hir_facts.specs.Below.{body_of, return_type}
 use Rattle.hir_raw.specs.Scope.{scope_of}
+use Rattle.goal_answers.specs.Reading.{IsRead}
 use Rattle.infer_result.specs.declared.result.InferenceResult.{InferenceResult}
 use Rattle.infer_result.specs.declared.result.TypeMismatch.{TypeMismatch}
 use Rattle.infer_result.specs.Table.{At, HasTy}
-use Rattle.infer_result.specs.Closed.{IsTotal}
+use Rattle.infer_result.specs.Closed.{IsTotal, AllTypes}
 use Rattle.infer_result.specs.TypesFit.{TypesFit, SeenFit}
 use Rattle.infer_result.specs.Shape.{IsShaped, IsTruthful}
 use Rattle.infer_result.specs.OwnTypes.{AreOwnTypes, AreLetTypes, written_inputs}
@@ -43,7 +45,7 @@ given_by raw d b inputs output aliases = record { scope = scope_of raw d; body =
 abbrev pub given : RawFacts → DefWithBodyId → RawBody → Given
 given raw d b = given_by raw d b (written_inputs raw d) (Some (return_type raw d)) []
 
--- the table is one of the definition's body, typed, and its types name what the facts have
+-- the table is one of the definition's body, typed, its types name what the facts have, and in none of them is an associated type left to be read
 pub record IsTableOf (raw : RawFacts) (d : DefWithBodyId) (r : InferenceResult) : Type 0 where
   pub body : RawBody
   pub is_body : body_of raw d ≡ Some body
@@ -55,3 +57,4 @@ pub record IsTableOf (raw : RawFacts) (d : DefWithBodyId) (r : InferenceResult) 
   pub typed : IsTyped (given_by raw d body inputs output aliases) r
   pub fit : TypesFit raw d r
   pub seen_fit : SeenFit raw d r
+  pub read : AllTypes (λ t. IsRead (term t)) r

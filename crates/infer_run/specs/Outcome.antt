@@ -10,7 +10,7 @@ use Rattle.hir_laws.specs.Bodies.{HasBody, body_of}
 use Rattle.infer_result.specs.declared.result.InferenceResult.{InferenceResult}
 use Rattle.infer_result.specs.Typed.{IsTableOf, given}
 use Rattle.infer_result.specs.General.{HasGeneral}
-use Rattle.infer_result.specs.Needs.{GoalsHold}
+use Rattle.infer_result.specs.Needs.{GoalsHold, HasNoneLeft}
 use Rattle.infer_expr.specs.Below.{ComesOfSelection}
 use Rattle.infer_result.specs.Report.{report, complaint_count}
 use Rattle.infer_text.specs.declared.fault.ReadError.TheVariants as error
@@ -80,6 +80,10 @@ pub record HasFacts (words : List (List ℕ)) (e : Ends) (ran : Ran) : Type 0 wh
 abbrev pub HasGoals : RawFacts → DefWithBodyId → InferenceResult → Type 0
 HasGoals raw def table = (b : RawBody) → body_of raw def ≡ Some b → GoalsHold def (given raw def b) table
 
+-- in no type is an associated type left that could be read, unless the table says what it is
+abbrev pub IsReadThrough : RawFacts → DefWithBodyId → InferenceResult → Type 0
+IsReadThrough raw def table = (b : RawBody) → body_of raw def ≡ Some b → HasNoneLeft def (given raw def b) table
+
 -- what they need was selected before its open holes fell back
 abbrev pub IsSelectedTable : RawFacts → DefWithBodyId → InferenceResult → Type 0
 IsSelectedTable raw def table = (b : RawBody) → body_of raw def ≡ Some b → ComesOfSelection raw def b table
@@ -92,6 +96,7 @@ pub record IsInferred (def : DefWithBodyId) (raw : RawFacts) (ran : Ran) : Type 
   pub typed : IsTableOf raw def table
   pub general : HasGeneral raw def table
   pub goals : HasGoals raw def table
+  pub left : IsReadThrough raw def table
   pub selected : IsSelectedTable raw def table
   pub table_is : ran.table ≡ Some table
 

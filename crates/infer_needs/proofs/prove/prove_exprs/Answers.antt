@@ -14,7 +14,8 @@ loop-at-init c =
     let raw = c.args.sources.now.facts in
     let f = system c.args.sources.now.sources in
     record {
-      judged = rw (c.new-gaps.ensures, c.new-found.ensures, c.new-proofs.ensures.items) (all_none raw f c.args.body.now c.args.table.now);
+      judged = subst (λ gss. AreAllJudged raw f c.args.body.now c.args.table.now 0 c.look_at_table.new.proofs.items c.look_at_table.new.found gss) (sym c.new-gaps.ensures)
+          (all_none raw f c.args.body.now c.args.table.now c.look_at_table.new.proofs.items c.look_at_table.new.found (rw (sym c.new-found.ensures, sym c.new-proofs.ensures.items) c.in_ok-look_at_table.ensures));
       told = tells_none f raw.limits.goal_depth c.args.told.now.items;
     }
 
@@ -22,7 +23,7 @@ pub prove_at-requires : goal.prove_at-requires
 prove_at-requires c =
     let at = c.loop-at in
     let found : slice_get c.args.body.now.exprs at.at ≡ Some c.expr-item.result = ap (λ xs. slice_get xs at.at) (sym c.as_slice-expr-items.ensures) ∙ slice_get_read _ _ at.at _ refl c.loop-at-test.true c.expr-item.is in
-    c.requires at.at c.expr-item.result found
+    c.requires.needs at.at c.expr-item.result found
 
 pub loop-at-preserved : goal.loop-at-preserved
 loop-at-preserved c =

@@ -1,0 +1,113 @@
+use Rattle.std.proofs.Common.{◌≡◌, ◌∙◌, sym, ap, subst, true, true≢false, List, map}
+use Rattle.std.proofs.lemmas.Result.{on_ok_weaker}
+use Rattle.hir_types.specs.declared.goal.Goal.TheVariants as the_goal
+use Rattle.hir_types.specs.declared.ty.GenericArg.{GenericArg}
+use Rattle.hir_types.specs.declared.ty.Ty.{Ty}
+use Rattle.hir_types.specs.declared.ty.Ty.TheVariants as ty
+use Rattle.hir_types.specs.Terms.{chain, term, arg_term}
+use Rattle.hir_raw.specs.declared.raw.RawFacts.{RawFacts}
+use Rattle.goal_answers.specs.Answers.{answers}
+use Rattle.goal_answers.specs.Reading.{IsRead, staying}
+use Rattle.goal_search.specs.Sources.{system}
+use Rattle.goal_terms.specs.Terms.{term_of}
+use Rattle.goal_facts.specs.Goals.{asked_goal}
+use Rattle.goal_facts.specs.Reading.{IsTypeRead}
+use Rattle.goal_prove.specs.Entries.{IsProvedIf}
+use Rattle.goal_prove.specs.Written.{IsWritten}
+use Rattle.infer_result.specs.Needs.{HoldsUnknown}
+use Rattle.infer_result.specs.Projections.{StaysOrIsListed}
+use Rattle.infer_needs.specs.Left.{Lists}
+use Rattle.infer_needs.proofs.Leaving.{lists_nothing, reads_staying, reads_unknown, found_settles, lists_reading, proof_here}
+use Rattle.infer_needs.proofs.ReadsYes.{reads_yes, reads_written}
+use Rattle.infer_needs.proofs.left.look_at_alias.Goals as goal
+
+pub returns-then-is_same : goal.returns-then-is_same
+returns-then-is_same c =
+    let raw = c.args.sources.now.facts in
+    let f = system c.args.sources.now.sources in
+    let k = c.args.alias in
+    let zs = c.in_ok-made.made in
+    let same : c.is_same.result ≡ true = cc in
+    let is = sym c.in_ok-chain.ensures.is ∙ c.is_same.ensures.0 same in
+    let reads = subst (IsTypeRead f raw.limits.goal_depth (ty.Projection k zs)) c.in-Some.is c.in_ok-read.ensures.read in
+    let stays = sym c.in_ok-term.ensures.is ∙ (c.is_same-2.ensures.0 c.if-is_same.true ∙ c.in_ok-stays.ensures) in
+    lists_nothing raw f _ c.args.proofs.now.items c.args.found.now (reads_staying raw f k (term_of c.args.args.now) zs is c.in-Some.read reads c.args.found.now stays)
+
+pub returns-in-Some-find : goal.returns-in-Some-find
+returns-in-Some-find c =
+    let raw = c.args.sources.now.facts in
+    let f = system c.args.sources.now.sources in
+    let k = c.args.alias in
+    let zs = c.in_ok-made.made in
+    let same : c.is_same.result ≡ true = cc in
+    let is = sym c.in_ok-chain.ensures.is ∙ c.is_same.ensures.0 same in
+    let finds = rw c.in-Some-find.is at c.find.ensures in
+    lists_nothing raw f _ c.args.proofs.now.items c.args.found.now (found_settles raw f k (term_of c.args.args.now) zs is c.args.found.now c.in-Some-find._type.now c.requires.read finds)
+
+pub returns-then-unknown : goal.returns-then-unknown
+returns-then-unknown c =
+    let raw = c.args.sources.now.facts in
+    let f = system c.args.sources.now.sources in
+    let k = c.args.alias in
+    let zs = c.in_ok-made.made in
+    let u = c.in-Some.read in
+    let same : c.is_same.result ≡ true = cc in
+    let is = sym c.in_ok-chain.ensures.is ∙ c.is_same.ensures.0 same in
+    let reads = subst (IsTypeRead f raw.limits.goal_depth (ty.Projection k zs)) c.in-Some.is c.in_ok-read.ensures.read in
+    let args : c.in_ok-term_args.field-0 ≡ zs = c.in_ok-term_args.ensures.read ∙ sym c.in_ok-made.ensures.read in
+    let holds = subst (λ (xs : List GenericArg). HoldsUnknown (asked_goal (the_goal.Projection k xs u)).parts) args
+    (subst (λ (t : Ty). HoldsUnknown (asked_goal (the_goal.Projection k c.in_ok-term_args.field-0 t)).parts) c.in_ok-dup.ensures (c.in_ok-unknown.ensures.0 c.if-unknown.true)) in
+    lists_nothing raw f _ c.args.proofs.now.items c.args.found.now (reads_unknown raw f k (term_of c.args.args.now) zs is u reads c.args.found.now holds)
+
+pub prove_goal-requires-clause-written : goal.prove_goal-requires-clause-written
+prove_goal-requires-clause-written c =
+    let raw = c.args.sources.now.facts in
+    let f = system c.args.sources.now.sources in
+    let k = c.args.alias in
+    let zs = c.in_ok-made.made in
+    let u = c.in-Some.read in
+    let same : c.is_same.result ≡ true = cc in
+    let is = sym c.in_ok-chain.ensures.is ∙ c.is_same.ensures.0 same in
+    let reads = subst (IsTypeRead f raw.limits.goal_depth (ty.Projection k zs)) c.in-Some.is c.in_ok-read.ensures.read in
+    let args : c.in_ok-term_args.field-0 ≡ zs = c.in_ok-term_args.ensures.read ∙ sym c.in_ok-made.ensures.read in
+    let written = subst IsWritten (sym is) c.requires.whole.written in (
+      subst (λ (xs : List GenericArg). IsWritten (chain (map arg_term xs))) (sym args) written,
+      subst (λ (t : Ty). IsWritten (term t)) (sym c.in_ok-dup.ensures) (reads_written raw _ f c.in_ok-read.ensures.given raw.limits.goal_depth k zs u reads written),
+    )
+
+pub unreachable-requires : goal.unreachable-requires
+unreachable-requires c =
+    let raw = c.args.sources.now.facts in
+    let f = system c.args.sources.now.sources in
+    let k = c.args.alias in
+    let zs = c.in_ok-made.made in
+    let u = c.in-Some.read in
+    let same : c.is_same.result ≡ true = cc in
+    let is = sym c.in_ok-chain.ensures.is ∙ c.is_same.ensures.0 same in
+    let reads = subst (IsTypeRead f raw.limits.goal_depth (ty.Projection k zs)) c.in-Some.is c.in_ok-read.ensures.read in
+    let args : c.in_ok-term_args.field-0 ≡ zs = c.in_ok-term_args.ensures.read ∙ sym c.in_ok-made.ensures.read in
+    let depth : c.raw.result.now.limits.goal_depth ≡ raw.limits.goal_depth = ap (λ (r : RawFacts). r.limits.goal_depth) (c.raw.ensures.value ∙ c.facts.ensures) in
+    let yes = reads_yes raw _ f c.in_ok-read.ensures.given raw.limits.goal_depth k zs u (subst IsRead (sym is) c.requires.whole.read) reads
+    (λ stays. true≢false (sym (c.is_same-2.ensures.1 (c.in_ok-term.ensures.is ∙ (stays ∙ (ap (staying k) is ∙ sym c.in_ok-stays.ensures)))) ∙ c.if-is_same.false)) in
+    let fails = subst (IsProvedIf f c.raw.result.now.limits.goal_depth c.prove_goal.new.proofs.items (the_goal.Projection k c.in_ok-term_args.field-0 c.in_ok-dup.field-0)) c.in_default-2.is c.in_ok-_number.ensures.proved in
+    fails (subst (λ n. (answers f n).Yes (asked_goal (the_goal.Projection k c.in_ok-term_args.field-0 c.in_ok-dup.field-0))) (sym depth)
+    (subst (λ (xs : List GenericArg). (answers f raw.limits.goal_depth).Yes (asked_goal (the_goal.Projection k xs c.in_ok-dup.field-0))) (sym args)
+    (subst (λ (t : Ty). (answers f raw.limits.goal_depth).Yes (asked_goal (the_goal.Projection k zs t))) (sym c.in_ok-dup.ensures) yes)))
+
+pub returns : goal.returns
+returns c =
+    let raw = c.args.sources.now.facts in
+    let f = system c.args.sources.now.sources in
+    let k = c.args.alias in
+    let zs = c.in_ok-made.made in
+    let u = c.in-Some.read in
+    let same : c.is_same.result ≡ true = cc in
+    let is = sym c.in_ok-chain.ensures.is ∙ c.is_same.ensures.0 same in
+    let reads = subst (IsTypeRead f raw.limits.goal_depth (ty.Projection k zs)) c.in-Some.is c.in_ok-read.ensures.read in
+    let args : c.in_ok-term_args.field-0 ≡ zs = c.in_ok-term_args.ensures.read ∙ sym c.in_ok-made.ensures.read in
+    let at = subst (IsProvedIf f c.raw.result.now.limits.goal_depth c.prove_goal.new.proofs.items (the_goal.Projection k c.in_ok-term_args.field-0 c.in_ok-dup.field-0)) c.in-Some-2.is c.in_ok-_number.ensures.proved in
+    let proved = proof_here c.prove_goal.new.proofs.items k c.in_ok-term_args.field-0 zs c.in_ok-dup.field-0 u c.in-Some-2._number args c.in_ok-dup.ensures at in
+    let known = λ (h : HoldsUnknown (asked_goal (the_goal.Projection k zs u)).parts). true≢false (sym (c.in_ok-unknown.ensures.1 (subst (λ (xs : List GenericArg). HoldsUnknown (asked_goal (the_goal.Projection k xs c.in_ok-dup.field-0)).parts) (sym args)
+    (subst (λ (t : Ty). HoldsUnknown (asked_goal (the_goal.Projection k zs t)).parts) (sym c.in_ok-dup.ensures) h))) ∙ c.if-unknown.false) in
+    on_ok_weaker c.add.result (λ added. subst (λ (ks : List (Ty × Ty)). Lists raw f (λ (js : List (Ty × Ty)). (xs : List GenericArg) → chain (map arg_term xs) ≡ term_of c.args.args.now → StaysOrIsListed f raw.limits.goal_depth js k xs) c.args.proofs.now.items c.prove_goal.new.proofs.items c.args.found.now ks) (sym added)
+    (lists_reading raw f k (term_of c.args.args.now) zs is u reads c.args.proofs.now.items c.prove_goal.new.proofs.items c.args.found.now c.in_ok-_number.ensures.adds proved known c.requires.read)) c.add.ensures

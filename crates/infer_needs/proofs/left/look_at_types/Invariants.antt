@@ -1,0 +1,9 @@
+use Rattle.goal_search.specs.Sources.{system}
+use Rattle.infer_needs.specs.Left.{Lists, StandsInType}
+use Rattle.infer_needs.proofs.Leaving.{FirstOf}
+use Rattle.infer_needs.proofs.left.look_at_types.Given as goal
+
+-- of the first of them
+abbrev pub invariant-loop-entry : goal.invariant-loop-entry
+invariant-loop-entry l =
+    Lists l.sources.facts (system l.sources.sources) (FirstOf l.sources.facts (system l.sources.sources) StandsInType l.entries l.entry-index) l.fn.proofs.items l.proofs.items l.fn.found l.found
