@@ -16,7 +16,7 @@ use Rattle.goal_answers.specs.Goals.{System}
 use Rattle.goal_facts.specs.Reading.{TypeReads, IsTypeRead}
 use Rattle.goal_facts.specs.Systems.{IsSystemOf}
 use Rattle.infer_result.specs.Needs.{scope_item}
-use Rattle.infer_result.specs.OwnTypes.{IsInHand, IsKnownAs, EachIsKnownAs, AreKnownAs, AreOwnTypes, aliases_of, written_inputs}
+use Rattle.infer_result.specs.OwnTypes.{IsInHand, IsKnownAs, EachIsKnownAs, AreOwnTypes, aliases_of, written_inputs}
 
 -- ---- one type
 

@@ -1,9 +1,10 @@
 -- What a body knows of the associated types that its `let`s are written with, one after another.
-use Rattle.std.specs.Prelude.{◌≡◌, ◌<◌, ◌≤◌, ◌+◌, ◌⊎◌, ℕ, zero, suc, List, [], ◌∷◌, length, slice_get, Option, Some, None}
+use Rattle.std.specs.Prelude.{◌≡◌, ◌<◌, ◌+◌, ◌⊎◌, ℕ, zero, suc, List, [], ◌∷◌, length, slice_get, Option, Some, None}
 use Rattle.std.specs.Option.{option_and_then}
 use Rattle.std.proofs.Common.{refl, sym, ap, subst, ◌∙◌, inl, inr, arith}
 use Rattle.hir_types.specs.declared.ids.DefWithBodyId.{DefWithBodyId}
 use Rattle.hir_types.specs.declared.ty.Ty.{Ty}
+use Rattle.hir_types.specs.Terms.{term}
 use Rattle.hir_raw.specs.declared.raw.RawBody.{RawBody}
 use Rattle.hir_raw.specs.declared.raw.RawFacts.{RawFacts}
 use Rattle.hir_raw.specs.declared.raw.RawType.{RawType}
@@ -14,7 +15,7 @@ use Rattle.goal_answers.specs.Goals.{System}
 use Rattle.goal_facts.specs.Systems.{IsSystemOf}
 use Rattle.goal_search.proofs.Only.{within}
 use Rattle.infer_result.specs.Needs.{scope_item}
-use Rattle.infer_result.specs.OwnTypes.{CanStand, IsKnownAs, AreLetTypes}
+use Rattle.infer_result.specs.OwnTypes.{CanStand, IsKnownAs, HoldsPlaceholder, IsAliasKnownAs, AreLetTypes}
 use Rattle.infer_result.specs.Table.{recorded}
 use Rattle.infer_ctx.specs.Found.{put}
 use Rattle.infer_ctx.proofs.Lists.{put-here}
@@ -39,7 +40,7 @@ put_recorded xs n a = ap (option_and_then (λ x. x)) (put-here xs n a)
 
 module _ (sc : Scope) (f : System) (n : ℕ) (types : List RawType) where
   abbrev Knows : ℕ → Option Ty → Type 0
-  Knows k o = IsKnownAs sc f n (lowered types k) o
+  Knows k o = IsAliasKnownAs sc f n (lowered types k) o
 
   pub none_noted : AreNoted sc f n types []
   none_noted k t is = absurd (cc)
@@ -60,18 +61,18 @@ module _ (sc : Scope) (f : System) (n : ℕ) (types : List RawType) where
         ];
       }
 
-  pub read_noted : (k : ℕ) (t u : Ty) (old new : List (Option Ty)) → AreNoted sc f n types old → new ≡ put old k u → t ≡ lowered types k → IsKnownAs sc f n t (Some u) → NotesAlias sc f n types k old new
-  read_noted k t u old new before made written known = subst (NotesAlias sc f n types k old) (sym made) (noted_at k u old before (subst (λ v. IsKnownAs sc f n v (Some u)) written known))
+  pub read_noted : (k : ℕ) (t u : Ty) (old new : List (Option Ty)) → AreNoted sc f n types old → new ≡ put old k u → t ≡ lowered types k → (HoldsPlaceholder (term t) → ⊥) → IsKnownAs sc f n t (Some u) → NotesAlias sc f n types k old new
+  read_noted k t u old new before made written none known = subst (NotesAlias sc f n types k old) (sym made) (noted_at k u old before (subst (λ v. IsAliasKnownAs sc f n v (Some u)) written (none, known)))
 
   -- where nothing is known of it, what was noted stays
   noted_by : (k : ℕ) (old : List (Option Ty)) → AreNoted sc f n types old → Knows k None → (o : Option Ty) → recorded old k ≡ o → Knows k o
   noted_by k old before unknown None is = unknown
   noted_by k old before unknown (Some t) is = before k t is
 
-  pub none_read : (k : ℕ) (t : Ty) (old new : List (Option Ty)) → AreNoted sc f n types old → new ≡ old → t ≡ lowered types k → IsKnownAs sc f n t None → NotesAlias sc f n types k old new
+  pub none_read : (k : ℕ) (t : Ty) (old new : List (Option Ty)) → AreNoted sc f n types old → new ≡ old → t ≡ lowered types k → IsAliasKnownAs sc f n t None → NotesAlias sc f n types k old new
   none_read k t old new before same written unknown = subst (NotesAlias sc f n types k old) (sym same) (record {
     noted = before;
-    here = noted_by k old before (subst (λ v. IsKnownAs sc f n v None) written unknown) (recorded old k) refl;
+    here = noted_by k old before (subst (λ v. IsAliasKnownAs sc f n v None) written unknown) (recorded old k) refl;
     kept = λ j was. was;
   })
 
@@ -102,8 +103,8 @@ module _ (sc : Scope) (f : System) (n : ℕ) (types : List RawType) where
 
 -- ---- all of them
 
-stands : (sc : Scope) (f : System) (n : ℕ) (t u : Ty) → IsKnownAs sc f n t (Some u) → CanStand sc u
-stands sc f n t u h = h.1
+stands : (sc : Scope) (f : System) (n : ℕ) (t u : Ty) → IsAliasKnownAs sc f n t (Some u) → CanStand sc u
+stands sc f n t u h = h.1.1
 
 pub all_noted : (raw : RawFacts) (d : DefWithBodyId) (b : RawBody) (f : System) (ks : List ℕ) (i : ℕ) (known : List (Option Ty)) → ks ≡ let_aliases raw.types b → i ≡ length ks
     → AreNotedTo (scope_of raw d) f raw.limits.goal_depth raw.types (IsSystemOf raw (scope_item raw d) f) ks i known → AreLetTypes raw d b known

@@ -5,15 +5,15 @@ use Rattle.hir_raw.specs.declared.raw.RawType.{RawType}
 use Rattle.hir_raw.specs.Scope.{Scope}
 use Rattle.hir_raw.specs.WrittenTypes.{lowered}
 use Rattle.goal_answers.specs.Goals.{System}
-use Rattle.infer_result.specs.OwnTypes.{IsKnownAs}
+use Rattle.infer_result.specs.OwnTypes.{IsAliasKnownAs}
 use Rattle.infer_result.specs.Table.{recorded}
 
 -- each type that is noted is what the body knows of the type of its number
 abbrev pub AreNoted : Scope → System → ℕ → List RawType → List (Option Ty) → Type 0
-AreNoted sc f n types known = (k : ℕ) (t : Ty) → recorded known k ≡ Some t → IsKnownAs sc f n (lowered types k) (Some t)
+AreNoted sc f n types known = (k : ℕ) (t : Ty) → recorded known k ≡ Some t → IsAliasKnownAs sc f n (lowered types k) (Some t)
 
 -- what the body knows of type k is noted, and what was known of others still is
 pub record NotesAlias (sc : Scope) (f : System) (n : ℕ) (types : List RawType) (k : ℕ) (old new : List (Option Ty)) : Type 0 where
   pub noted : AreNoted sc f n types new
-  pub here : IsKnownAs sc f n (lowered types k) (recorded new k)
-  pub kept : (j : ℕ) → IsKnownAs sc f n (lowered types j) (recorded old j) → IsKnownAs sc f n (lowered types j) (recorded new j)
+  pub here : IsAliasKnownAs sc f n (lowered types k) (recorded new k)
+  pub kept : (j : ℕ) → IsAliasKnownAs sc f n (lowered types j) (recorded old j) → IsAliasKnownAs sc f n (lowered types j) (recorded new j)

@@ -1,15 +1,19 @@
 //! What a body knows of the associated types that its `let`s are written with.
-ghost use Rattle.std.specs.Prelude.{◌≡◌, IfOk};
+ghost use Rattle.std.specs.Prelude.{◌≡◌, ◌↔◌, IsTrue, IfOk};
+ghost use Rattle.hir_types.specs.Terms.{leaf};
 ghost use Rattle.hir_raw.specs.Scope.{scope_of};
 ghost use Rattle.infer_table.specs.Table.{new_state};
 ghost use Rattle.goal_facts.specs.Systems.{IsSystemOf};
 ghost use Rattle.goal_search.specs.Sources.{system};
+ghost use Rattle.goal_terms.specs.Terms.{term_of};
 ghost use Rattle.infer_result.specs.Needs.{scope_item};
-ghost use Rattle.infer_result.specs.OwnTypes.{AreLetTypes};
+ghost use Rattle.infer_result.specs.OwnTypes.{AreLetTypes, HoldsPlaceholder};
 ghost use Rattle.infer_obligations.specs.LetTypes.{AreNoted, NotesAlias};
 
 use crate::own::known_ty;
+use goal_terms::{Term, type_term};
 use hir_facts::{DefWithBodyId, Facts, List, RawBody, Ty, TypeRefId, let_aliases, lower_ty};
+use hir_types::Head;
 use infer_ctx::put;
 use infer_goals::GoalTable;
 use std::alloc::{AllocError, Global};
@@ -23,7 +27,29 @@ fn type_ref(number: usize) -> Result<TypeRefId, AllocError>
     Ok(TypeRefId(number))
 }
 
-/// Notes what the body knows of the associated type of this number, if it knows anything.
+fn is_placeholder(head: Head) -> bool
+    ensures { IsTrue result ↔ HoldsPlaceholder (leaf head) }
+{
+    match head {
+        Head::Hole => true,
+        _ => false,
+    }
+}
+
+/// Whether a `_` stands in a term.
+#[tactic(auto, using(goal_terms::specs::Terms::term_is))]
+fn holds_placeholder(term: &Term) -> bool
+    ensures { IsTrue result ↔ HoldsPlaceholder (term_of term.now) }
+{
+    match term {
+        Term::Hole(_) => false,
+        Term::Leaf(head) => is_placeholder(*head),
+        Term::Pair(left, right) => holds_placeholder(left.get()) || holds_placeholder(right.get()),
+    }
+}
+
+/// Notes what the body knows of the associated type of this number, if it knows anything: nothing where a `_` stands
+/// among its arguments.
 fn note_alias(
     alloc: Global,
     goals: &GoalTable,
@@ -39,7 +65,12 @@ fn note_alias(
 {
     let written = type_ref(alias)?;
     let ty = lower_ty(alloc, facts, written)?;
-    match known_ty(alloc, goals, facts, def, &ty)? {
+    let found = known_ty(alloc, goals, facts, def, &ty)?;
+    let term = type_term(alloc, &ty)?;
+    if holds_placeholder(&term) {
+        return Ok(());
+    }
+    match found {
         Some(read) => {
             put(known, written.0, read)?;
             Ok(())

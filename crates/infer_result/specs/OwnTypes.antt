@@ -2,13 +2,13 @@
 -- associated type is written in what the definition takes and gives, these are the types that are written; else each is what it reads as in the
 -- scope of the definition, if that can stand in the body (the Rust Reference, "Associated types"; upstream `infer.rs`, `collect_fn`, by
 -- `process_user_written_ty`). So is each associated type that stands outermost in the type of a `let` (upstream `infer.rs`, `make_body_ty`).
-use Rattle.std.specs.Prelude.{ℕ, ◌≡◌, ◌==◌, ◌&&◌, true, false, nat_lt, List, [], ◌∷◌, map, slice_get, Option, Some, None}
+use Rattle.std.specs.Prelude.{ℕ, ◌≡◌, ◌⊎◌, ◌==◌, ◌&&◌, true, false, nat_lt, List, [], ◌∷◌, map, slice_get, Option, Some, None}
 use Rattle.hir_types.specs.declared.head.Head.TheVariants as head
 use Rattle.hir_types.specs.declared.ids.DefWithBodyId.{DefWithBodyId}
 use Rattle.hir_types.specs.declared.ids.DefWithBodyId.TheVariants as def
 use Rattle.hir_types.specs.declared.ids.TypeRefId.{TypeRefId}
 use Rattle.hir_types.specs.declared.ty.Ty.{Ty}
-use Rattle.hir_types.specs.Terms.{term}
+use Rattle.hir_types.specs.Terms.{Term, hole, leaf, pair, term}
 use Rattle.hir_raw.specs.declared.raw.RawBody.{RawBody}
 use Rattle.hir_raw.specs.declared.raw.RawFacts.{RawFacts}
 use Rattle.hir_raw.specs.declared.raw.RawFn.{RawFn}
@@ -93,9 +93,21 @@ pub record AreOwnTypes (raw : RawFacts) (d : DefWithBodyId) (inputs : List (Opti
 
 -- ---- in the types of `let`s
 
+-- a `_` stands in the term
+abbrev pub HoldsPlaceholder : Term → Type 0
+HoldsPlaceholder (hole k) = ⊥
+HoldsPlaceholder (leaf head.Hole) = Unit {0}
+HoldsPlaceholder (leaf _) = ⊥
+HoldsPlaceholder (pair a b) = HoldsPlaceholder a ⊎ HoldsPlaceholder b
+
+-- what is known of an associated type there: nothing where a `_` stands among its arguments, which may stand for anything
+abbrev pub IsAliasKnownAs : Scope → System → ℕ → Ty → Option Ty → Type 0
+IsAliasKnownAs sc f n t (Some u) = (HoldsPlaceholder (term t) → ⊥) × IsKnownAs sc f n t (Some u)
+IsAliasKnownAs sc f n t None = HoldsPlaceholder (term t) ⊎ IsKnownAs sc f n t None
+
 -- each associated type that the `let`s are written with is known in this scope by these sources, by its number
 abbrev pub AliasesAreKnown : RawFacts → Scope → System → RawBody → List (Option Ty) → Type 0
-AliasesAreKnown raw sc f b known = (i k : ℕ) → slice_get (let_aliases raw.types b) i ≡ Some k → IsKnownAs sc f raw.limits.goal_depth (lowered raw.types k) (recorded known k)
+AliasesAreKnown raw sc f b known = (i k : ℕ) → slice_get (let_aliases raw.types b) i ≡ Some k → IsAliasKnownAs sc f raw.limits.goal_depth (lowered raw.types k) (recorded known k)
 
 -- this is what the body of the definition knows of them, by the sources of its goals
 pub record AreKnownLets (raw : RawFacts) (d : DefWithBodyId) (b : RawBody) (known : List (Option Ty)) : Type 0 where

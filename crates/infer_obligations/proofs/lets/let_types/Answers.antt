@@ -1,4 +1,4 @@
-use Rattle.std.proofs.Common.{◌≡◌, ◌∙◌, ap, sym, arith, length, refl, List}
+use Rattle.std.proofs.Common.{◌≡◌, ◌∙◌, ap, arith, length, List}
 use Rattle.std.proofs.lemmas.Option.{slice_get-get_or}
 use Rattle.hir_raw.specs.declared.raw.RawType.{RawType}
 use Rattle.hir_raw.specs.Lets.{let_aliases}

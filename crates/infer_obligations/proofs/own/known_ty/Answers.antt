@@ -1,4 +1,4 @@
-use Rattle.std.proofs.Common.{◌≡◌, ◌∙◌, sym, subst, true≢false}
+use Rattle.std.proofs.Common.{◌∙◌, sym, subst, true≢false}
 use Rattle.hir_raw.specs.Scope.{scope_of}
 use Rattle.infer_table.specs.Table.{resolved_type}
 use Rattle.goal_facts.specs.Reading.{IsTypeRead}
