@@ -10,7 +10,7 @@ ghost use Rattle.hir_plain.specs.Plain.{is_unit_ctor, is_tuple_ctor, is_unit_or_
 ghost use Rattle.hir_facts.specs.PlainBodies.{is_value, is_maybe_value, stmt_has_values, arm_has_values, has_callees, WrittenFits, LetFits, LetsFit, LooksPlain};
 
 use crate::facts::Facts;
-use hir_plain::has_sized_params;
+use hir_plain::{are_direct_structs, has_sized_params};
 use hir_raw::{
     BindingAnnotation, RawArm, RawBody, RawCtor, RawExpr, RawFacts, RawLiteral, RawPat, RawPath,
     RawStmt,
@@ -371,15 +371,16 @@ fn has_plain_body(facts: &Facts, function: FunctionId) -> bool
     facts.lawful();
     match facts.body_id(DefWithBodyId::FunctionId(function)) {
         None => false,
-        Some(body) => facts.is_plain_fn(function)
+        Some(body) => are_direct_structs(facts.raw())
+            && facts.is_plain_fn(function)
             && is_sized_fn(facts, function)
             && is_plain_body(facts, facts.body(body)),
     }
 }
 
 /// Whether the body of a definition is plain: that of a function of a module with a plain signature
-/// whose type parameters have a size, and each node of it is plain. False where the definition has no
-/// body. It takes no memory.
+/// whose type parameters have a size, and each node of it is plain, where no associated type stands in a struct's field. False where
+/// the definition has no body. It takes no memory.
 pub fn is_plain(facts: &Facts, def: DefWithBodyId) -> bool
     ensures { IsTrue result ↔ IsPlainBodyOf facts.now def }
 {

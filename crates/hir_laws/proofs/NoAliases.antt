@@ -1,8 +1,10 @@
 -- Where no projection stands in what a function takes and gives, none of its parameters stands for one.
-use Rattle.std.specs.Prelude.{◌≡◌, ◌<◌, ℕ, zero, suc, ◌+◌, Bool, true, false, List, [], ◌∷◌, ◌++◌, length, slice_get, Option, Some, None, if◌then◌else◌, flat_map, refl}
+use Rattle.std.specs.Prelude.{◌≡◌, ◌<◌, ℕ, zero, suc, ◌+◌, Bool, true, false, List, [], ◌∷◌, ◌++◌, length, slice_get, Option, Some, None, option_map, if◌then◌else◌, flat_map, refl}
 use Rattle.std.proofs.Common.{arith, ap, sym, true≢false, ◌∙◌}
+use Rattle.std.proofs.lemmas.Option.{slice_get-map}
 use Rattle.hir_types.specs.declared.ids.TypeRefId.{TypeRefId}
 use Rattle.hir_raw.specs.declared.raw.RawFacts.{RawFacts}
+use Rattle.hir_raw.specs.declared.raw.RawField.{RawField}
 use Rattle.hir_raw.specs.declared.raw.RawFn.{RawFn}
 use Rattle.hir_raw.specs.declared.raw.RawType.{RawType}
 use Rattle.hir_raw.specs.declared.raw.RawVariant.{RawVariant}
@@ -11,7 +13,7 @@ use Rattle.hir_raw.specs.Scope.{fn_arity}
 use Rattle.hir_raw.specs.WrittenTypes.{type_parts}
 use Rattle.hir_ids.specs.Projections.{HoldsProjection, is_one, in_part, IsNoProjection, SignatureNamesNone}
 use Rattle.hir_laws.specs.Lawful.{IsLawful}
-use Rattle.hir_laws.specs.LawfulFacts.{type_ids, fn_ids}
+use Rattle.hir_laws.specs.LawfulFacts.{type_ids, variant_ids, fn_ids}
 use Rattle.hir_laws.specs.WrittenFits.{direct_here}
 
 none_of : (f : ℕ → List ℕ) (ws : List TypeRefId) → ((k : ℕ) (w : TypeRefId) → slice_get ws k ≡ Some w → f w.0 ≡ []) → flat_map (λ w. f w.0) ws ≡ []
@@ -81,3 +83,9 @@ names_none raw law f x found none =
       inputs = λ k w at held. held_is_found raw.types w.0 held (length raw.types) ((fn_ids raw law f x found).inputs k w at) (none_in (aliases_within (length raw.types) raw.types) x.inputs both.0 k w at);
       output = λ held. held_is_found raw.types x.output.0 held (length raw.types) (fn_ids raw law f x found).output both.1;
     }
+
+-- nor in a field of a variant
+pub field_direct : (raw : RawFacts) → IsLawful raw → (v : ℕ) (x : RawVariant) → slice_get raw.variants v ≡ Some x → variant_aliases raw.types x ≡ [] → (k : ℕ) (f : RawField) → slice_get x.fields k ≡ Some f → IsNoProjection raw f.type_.0
+field_direct raw law v x found none k f here held =
+    held_is_found raw.types f.type_.0 held (length raw.types) ((variant_ids raw law v x found).here.fields k f here).written
+    (none_in (aliases_within (length raw.types) raw.types) (field_refs x.fields) none k f.type_ (slice_get-map (λ (g : RawField). g.type_) x.fields k ∙ ap (option_map (λ (g : RawField). g.type_)) here))

@@ -39,7 +39,7 @@ use Rattle.hir_raw.specs.Scope.{adt_params, has_params, params_of}
 use Rattle.hir_raw.specs.Order.{Role, callee, Part, Node, IsNode, part_at}
 use Rattle.hir_ids.specs.Carried.{is_empty, is_type_param, is_in_module}
 use Rattle.hir_ids.specs.Entries.{AllHold}
-use Rattle.hir_plain.specs.Sized.{is_sized_of, is_sized_pred}
+use Rattle.hir_plain.specs.Sized.{is_sized_of, is_sized_pred, are_direct_structs}
 
 -- ---- types
 
@@ -266,8 +266,10 @@ pub record IsPlainBody (raw : RawFacts) (n : ℕ) (b : RawBody) : Type 0 where
 abbrev pub HasSizedParams : RawFacts → RawFn → Type 0
 HasSizedParams raw f = (i : ℕ) → i < length f.params → IsTrue (list_any (is_sized_of raw i) f.preds)
 
--- a plain function whose own type parameters have a size, with a plain body
+-- A plain function whose own type parameters have a size, with a plain body, of facts where what a struct's size is seen by is no
+-- associated type.
 pub record HasPlainBody (raw : RawFacts) (f : FunctionId) : Type 0 where
+  pub structs : IsTrue (are_direct_structs raw)
   pub header : IsPlainFn raw f
   pub sized : IsSomeAnd (slice_get raw.fns f.0) (HasSizedParams raw)
   pub body : IsSomeAnd (body_of raw (def.FunctionId f)) (λ b. IsPlainBody raw (params_of raw (def.FunctionId f)) b)

@@ -1,11 +1,14 @@
-//! Predicates that say that a type parameter has a size: the Rust Reference, "Trait and lifetime bounds".
+//! Predicates that say that a type parameter has a size: the Rust Reference, "Trait and lifetime bounds". Structs whose size is seen
+//! without associated types.
 ghost use Rattle.std.specs.Prelude.{◌≡◌, slice_get};
 ghost use Rattle.std.specs.List.{list_all, list_any};
 ghost use Rattle.hir_raw.specs.Goals.{is_sized_lang};
-ghost use Rattle.hir_plain.specs.Sized.{is_one_sized_lang, is_sized_trait, param_number, only_param, sized_param, is_number, is_below, is_sized_of, is_sized_pred};
+ghost use Rattle.hir_plain.specs.Sized.{is_one_sized_lang, is_sized_trait, param_number, only_param, sized_param, is_number, is_below, is_sized_of, is_sized_pred, is_direct_variant, is_direct_struct, are_direct_structs};
 
-use hir_raw::{RawFacts, RawGoal, RawLang, RawType, some_sized};
-use hir_types::{TraitId, TypeRefId};
+use hir_raw::{
+    RawAdt, RawAdtKind, RawFacts, RawGoal, RawLang, RawType, less_variant_aliases, some_sized,
+};
+use hir_types::{TraitId, TypeRefId, VariantId};
 
 /// Whether the item is none of this name, or the trait.
 fn is_one_sized_lang(id: TraitId, item: RawLang) -> bool
@@ -111,4 +114,42 @@ pub fn is_sized_param(raw: &RawFacts, preds: &[RawGoal], param: usize) -> bool
     ensures { result ≡ list_any (is_sized_of raw.now param) preds.now }
 {
     preds.iter().any(|pred| is_sized_of(raw, param, pred))
+}
+
+/// Whether no associated type stands in a field of a variant, where it is there.
+fn is_direct_variant(raw: &RawFacts, variant: VariantId) -> bool
+    ensures { result ≡ is_direct_variant raw.now (slice_get raw.now.variants variant.0) }
+{
+    match raw.variants.get(variant.0 as usize) {
+        Some(variant) => less_variant_aliases(raw.types.as_slice(), variant, 0).is_some(),
+        None => true,
+    }
+}
+
+fn are_direct_variants(raw: &RawFacts, variants: &[VariantId]) -> bool
+    ensures { result ≡ list_all (λ v. is_direct_variant raw.now (slice_get raw.now.variants v.0)) variants.now }
+{
+    variants
+        .iter()
+        .all(|variant| is_direct_variant(raw, *variant))
+}
+
+/// Whether none stands in a field of an adt, if it is a struct.
+fn is_direct_struct(raw: &RawFacts, adt: &RawAdt) -> bool
+    ensures { result ≡ is_direct_struct raw.now adt.now.kind adt.now.variants }
+{
+    match adt.kind {
+        RawAdtKind::Struct => are_direct_variants(raw, adt.variants.as_slice()),
+        RawAdtKind::Enum | RawAdtKind::Union => true,
+    }
+}
+
+/// Whether no associated type stands in a field of a struct.
+pub fn are_direct_structs(raw: &RawFacts) -> bool
+    ensures { result ≡ are_direct_structs raw.now }
+{
+    raw.adts
+        .as_slice()
+        .iter()
+        .all(|adt| is_direct_struct(raw, adt))
 }

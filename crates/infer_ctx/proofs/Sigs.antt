@@ -1,6 +1,6 @@
 -- What functions and constructors take and give, at types in the place of parameters.
 use Rattle.std.proofs.Common.{ℕ, ◌≡◌, ◌≤◌, arith, refl, sym, ap, subst, ◌∙◌, List, length, take, Option, Some, None, slice_get, option_map, option_and_then}
-use Rattle.std.proofs.lemmas.List.{length-take-le, take-map}
+use Rattle.std.proofs.lemmas.List.{length-map, length-take-le, take-map}
 use Rattle.hir_types.specs.declared.ids.AdtId.{AdtId}
 use Rattle.hir_types.specs.declared.ids.FunctionId.{FunctionId}
 use Rattle.hir_types.specs.declared.ids.VariantId.{VariantId}
@@ -11,6 +11,7 @@ use Rattle.hir_types.specs.Instances.{fn_def_tells}
 use Rattle.hir_types.specs.declared.ids.CallableDefId.TheVariants as callable
 use Rattle.hir_types.specs.declared.ty.GenericArg.TheVariants as arg
 use Rattle.hir_types.specs.declared.ty.Ty.TheVariants as ty
+use Rattle.hir_raw.specs.declared.raw.RawAdt.{RawAdt}
 use Rattle.hir_raw.specs.declared.raw.RawCtor.{RawCtor}
 use Rattle.hir_raw.specs.declared.raw.RawFacts.{RawFacts}
 use Rattle.hir_raw.specs.declared.raw.RawField.{RawField}
@@ -23,7 +24,8 @@ use Rattle.hir_raw.specs.WrittenTypes.{written_type}
 use Rattle.hir_raw.specs.declared.raw.RawCtor.TheVariants as ctor
 use Rattle.infer_table.proofs.BindingLaws.{get_from_take}
 use Rattle.infer_ctx.specs.declared.given.CallableSig.{CallableSig}
-use Rattle.infer_ctx.specs.Callables.{IsFnSig, IsCtorSig, IsSigOf, IsSigOfItem}
+use Rattle.infer_ctx.specs.Callables.{IsCallableItem, IsFnSig, IsCtorSig, IsSigOf, IsSigOfItem, ctor_at}
+use Rattle.infer_ctx.proofs.Items.{signature_count}
 
 module _ (raw : RawFacts) (sig : CallableSig) where
   fn_gives : (o : Option RawFn) (ts : List Ty) (σ : Signature) → ((x : RawFn) → o ≡ Some x → IsFnSig raw.types x (type_args ts) sig) → option_map (fn_signature raw.types) o ≡ Some σ → IsSigOf σ ts sig
@@ -79,3 +81,15 @@ module _ (raw : RawFacts) (sig : CallableSig) where
   sig_of_variant v xs t is h id ts σ at found count =
       let same = fn_def_tells (callable.VariantId v) id xs (type_args ts) (sym is ∙ at) in
       variant_gives (slice_get raw.variants v.0) ts σ (λ x e. subst (λ ys. GivesCtor x ys) same.1 (λ n c. h x n e c)) (subst (λ i. signature_of raw i ≡ Some σ) (sym same.0) found) count
+
+-- a constructor that is called has an argument for each parameter of its adt
+pub ctor_enough : (raw : RawFacts) (v : VariantId) (xs : List GenericArg) → IsCallableItem raw (ctor_at v xs) → (x : RawVariant) (a : RawAdt) → slice_get raw.variants v.0 ≡ Some x → slice_get raw.adts x.adt.0 ≡ Some a → length a.params ≤ length xs
+ctor_enough raw v xs h x a at adt =
+    let same = fn_def_tells (callable.VariantId v) h.id xs (type_args h.types) h.is in
+    let found : signature_of raw (callable.VariantId v) ≡ Some h.signature = subst (λ i. signature_of raw i ≡ Some h.signature) (sym same.0) h.found in
+    let counted : Some (variant_arity raw.types x (length a.params)) ≡ Some h.signature.params =
+    ap (λ o. option_map (variant_arity raw.types x) (option_map (λ (y : RawAdt). length y.params) o)) (sym adt)
+    ∙ (ap (option_and_then (λ (z : RawVariant). option_map (variant_arity raw.types z) (adt_params raw z.adt))) (sym at) ∙ signature_count raw (callable.VariantId v) h.signature found) in
+    let many : variant_arity raw.types x (length a.params) ≡ h.signature.params = cc in
+    let size : length xs ≡ length h.types = ap (λ ys. length ys) same.1 ∙ length-map h.types arg.Ty in
+    omega (arith, many, size, h.count)

@@ -61,7 +61,7 @@ use Rattle.hir_laws.specs.Lawful.{IsLawful}
 use Rattle.hir_laws.proofs.NoAliases.{no_aliases, own_arity}
 use Rattle.hir_plain.specs.Plain.{IsPlainPath, IsPlainBody, IsPlainBodyOf, IsPlainExpr, is_unit_or_tuple, HasSizedParams, HasPlainBody, is_plain_adt_kind}
 use Rattle.hir_plain.proofs.PlainFns.{plain_direct}
-use Rattle.hir_plain.specs.Sized.{is_one_sized_lang, is_sized_trait, param_number, only_param, sized_param, is_number, is_below, is_sized_of, is_sized_pred}
+use Rattle.hir_plain.specs.Sized.{are_direct_structs, is_one_sized_lang, is_sized_trait, param_number, only_param, sized_param, is_number, is_below, is_sized_of, is_sized_pred}
 use Rattle.goal_answers.specs.Goals.{Asked, Rule as Source, System, implements, only, is_trait, is_among, OneIf, SomeOf, IsKnown, Verdicts}
 use Rattle.goal_answers.specs.Reading.{Aliases, ReadsAs}
 use Rattle.goal_answers.specs.Rows.{SizedYes}
@@ -205,7 +205,7 @@ param_proves A Yes t n = record {
   preds = tt;
 }
 
-module _ (raw : RawFacts) (law : IsLawful raw) (params : ℕ) (item : GenericDefId) (f : System) (are : IsSystemOf raw item f) (t : TraitId) (sized : is_sized_trait raw t ≡ true) (own : (n : ℕ) → n < params → IsStated raw item (param_goal t n)) where
+module _ (raw : RawFacts) (law : IsLawful raw) (structs : are_direct_structs raw ≡ true) (params : ℕ) (item : GenericDefId) (f : System) (are : IsSystemOf raw item f) (t : TraitId) (sized : is_sized_trait raw t ≡ true) (own : (n : ℕ) → n < params → IsStated raw item (param_goal t n)) where
   follows_at : (n : ℕ) (d : Asked) → IsStated raw item d → Follows raw (IsStated raw item) n d
   follows_at zero d s = s
   follows_at (suc n) d s = inl (follows_at n d s)
@@ -225,7 +225,7 @@ module _ (raw : RawFacts) (law : IsLawful raw) (params : ℕ) (item : GenericDef
     size_yes A v =
         let known = fine_is_known (types_scope raw params) (leaf head.TypePart) u closed in
         let Y : Term → Type 0 = λ x. IsKnown (only x) × HasSource f A v (implements t) (only x) in
-        let walk : SizedYes f A Y f.tail (term u) = has_size raw law params f are.last_field A Y (λ n within. (tt, own_source A v n within)) f.tail u closed in
+        let walk : SizedYes f A Y f.tail (term u) = has_size raw law structs params f are.last_field A Y (λ n within. (tt, own_source A v n within)) f.tail u closed in
         (known, inr (subst (λ b. OneIf b (SizedYes f A Y f.tail (term u)) (HasSource f A v (implements t) (only (term u)))) (sym among) walk))
 
     reads : (A : Aliases) → ReadsAs A (only (term u)) (only (term u))
@@ -398,7 +398,7 @@ module _ (raw : RawFacts) (law : IsLawful raw) (b : RawBody) (r : InferenceResul
       let u = found need.types below.0 below.1 in
       let says = says_sized raw below.0 q.0 below.2 in
       let x = some_of _ (slice_get raw.fns f.0) own.sized in
-      let yes = sized_yes raw law (params_of raw d) (generic.FunctionId f) s are says.trait_ says.sized (own_stated raw f x.0 x.1 x.2 says.trait_ says.sized) u.0 (every_at (IsClosedIn (types_scope raw (params_of raw d))) need.types below.0 u.0 need.closed u.1) raw.limits.goal_depth in
+      let yes = sized_yes raw law own.structs (params_of raw d) (generic.FunctionId f) s are says.trait_ says.sized (own_stated raw f x.0 x.1 x.2 says.trait_ says.sized) u.0 (every_at (IsClosedIn (types_scope raw (params_of raw d))) need.types below.0 u.0 need.closed u.1) raw.limits.goal_depth in
       subst (answers s raw.limits.goal_depth).Yes (sym (says.goal need.types u.0 u.1) ∙ (ap (λ xs. goal_at raw xs q.0) (sym need.args) ∙ q.2)) yes
 
   needs_of_fn : (f : FunctionId) → HasPlainBody raw f → IsPlainBody raw (params_of raw (def.FunctionId f)) b → OnlyCtorPatsHaveItems raw b r → ((e : ExprId) → e.0 < length b.exprs → ObeysExpression (given raw (def.FunctionId f) b) r e)

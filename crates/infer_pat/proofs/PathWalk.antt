@@ -19,6 +19,7 @@ use Rattle.hir_raw.specs.declared.schedule.Schedule.{Schedule}
 use Rattle.hir_facts.specs.CarriedTypes.{IsCarriedType}
 use Rattle.hir_raw.specs.declared.raw.RawAdt.{RawAdt}
 use Rattle.hir_raw.specs.declared.raw.RawFn.{RawFn}
+use Rattle.hir_raw.specs.declared.raw.RawType.{RawType}
 use Rattle.hir_raw.specs.declared.raw.RawVariant.{RawVariant}
 use Rattle.hir_raw.specs.Scope.{has_params, callable_params, fn_arity, variant_arity, adt_params, Scope}
 use Rattle.hir_raw.specs.Signatures.{type_args, Signature, signature_of, ctor_type}
@@ -171,19 +172,23 @@ ctor_params g v x =
     let types = g.scope.facts.types in
     ap (option_and_then (λ (z : RawVariant). option_map (variant_arity types z) (adt_params g.scope.facts z.adt))) x.found ∙ ap (option_map (variant_arity types x.variant)) x.count
 
--- ---- as the facts give it
-module _ (g : Given) (v : VariantId) (x : IsVariant g.scope.facts v) (y : RawVariant) (at : slice_get g.scope.facts.variants v.0 ≡ Some y) where
-  pub given_variant : y ≡ x.variant
-  given_variant = same_some (sym at ∙ x.found)
+-- the variant y and so many parameters of its adt are what is known of the constructor, and there are new holes for its own
+pub record IsHoled (g : Given) (v : VariantId) (x : IsVariant g.scope.facts v) (y : RawVariant) (n arity : ℕ) (xs : List GenericArg) (old new : InferenceContext) : Type 0 where
+  pub same : y ≡ x.variant
+  pub size : n ≡ x.params
+  pub many : arity ≡ variant_arity g.scope.facts.types x.variant x.params
+  pub fresh : AreFreshArgs g.scope (variant_arity g.scope.facts.types x.variant x.params) xs old new
 
-  module _ (adt : RawAdt) (n : ℕ) (there : slice_get g.scope.facts.adts y.adt.0 ≡ Some adt) (is : n ≡ length adt.params) where
-    pub given_params : n ≡ x.params
-    given_params =
-        let count : adt_params g.scope.facts y.adt ≡ Some x.params = ap (λ (z : RawVariant). adt_params g.scope.facts z.adt) given_variant ∙ x.count in
-        is ∙ same_some (sym (ap (option_map (λ (z : RawAdt). length z.params)) there) ∙ count)
-
-    pub given_arity : (m : ℕ) → m ≡ variant_arity g.scope.facts.types y n → m ≡ variant_arity g.scope.facts.types x.variant x.params
-    given_arity m made = made ∙ (ap (λ (z : RawVariant). variant_arity g.scope.facts.types z n) given_variant ∙ ap (variant_arity g.scope.facts.types x.variant) given_params)
+-- as the facts give it
+pub ctor_holed : (g : Given) (v : VariantId) (x : IsVariant g.scope.facts v) (y : RawVariant) (a : RawAdt) (n arity : ℕ) (types : List RawType) (xs : List GenericArg) (old new : InferenceContext)
+    → slice_get g.scope.facts.variants v.0 ≡ Some y → slice_get g.scope.facts.adts y.adt.0 ≡ Some a → n ≡ length a.params → types ≡ g.scope.facts.types → arity ≡ variant_arity types y n
+    → AreFreshArgs g.scope arity xs old new → IsHoled g v x y n arity xs old new
+ctor_holed g v x y a n arity types xs old new at adt is all made fresh =
+    let same : y ≡ x.variant = same_some (sym at ∙ x.found) in
+    let count : adt_params g.scope.facts y.adt ≡ Some x.params = ap (λ (z : RawVariant). adt_params g.scope.facts z.adt) same ∙ x.count in
+    let size : n ≡ x.params = is ∙ same_some (sym (ap (option_map (λ (z : RawAdt). length z.params)) adt) ∙ count) in
+    let many : arity ≡ variant_arity g.scope.facts.types x.variant x.params = made ∙ (λ i. variant_arity (all i) (same i) (size i)) in
+    record { same = same; size = size; many = many; fresh = subst (λ k. AreFreshArgs g.scope k xs old new) many fresh }
 
 -- at as many types as its adt has parameters
 module _ (g : Given) (v : VariantId) (x : IsVariant g.scope.facts v) (ts : List Ty) (count : length ts ≡ x.params) where
