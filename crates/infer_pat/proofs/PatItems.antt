@@ -1,14 +1,11 @@
 -- Which item a pattern is of, recorded beside its type.
-use Rattle.std.proofs.Common.{◌≡◌, refl, Option, Some, None, List, [], ◌∷◌, ◌++◌, ℕ, ◌<◌, ◌≤◌, ◌≢◌, ◌⊎◌, length, arith, inl, inr, sym, ap, subst, ◌∙◌, slice_get}
+use Rattle.std.proofs.Common.{◌≡◌, refl, Option, Some, None, ℕ, ◌<◌, ◌≤◌, ◌≢◌, ◌⊎◌, length, arith, inl, inr, sym, ap, subst, ◌∙◌, slice_get}
 use Rattle.std.proofs.Math.ListN.{length-set}
 use Rattle.hir_types.specs.declared.ids.PatId.{PatId}
-use Rattle.hir_types.specs.declared.ids.VariantId.{VariantId}
 use Rattle.hir_types.specs.declared.ty.Ty.{Ty}
-use Rattle.hir_raw.specs.Signatures.{ctor_item}
 use Rattle.hir_raw.specs.declared.schedule.Schedule.{Schedule}
 use Rattle.hir_facts.specs.CarriedTypes.{IsCarriedType}
 use Rattle.infer_result.specs.Closed.{IsItemOfPat}
-use Rattle.infer_result.specs.Pats.Constructor.{IsItemOf}
 use Rattle.infer_result.specs.Places.{Given}
 use Rattle.infer_result.specs.Table.{At, PatItem}
 use Rattle.infer_ctx.specs.Found.{Found, with_pat_item}

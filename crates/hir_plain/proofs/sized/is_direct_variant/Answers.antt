@@ -1,4 +1,4 @@
-use Rattle.std.proofs.Common.{◌≡◌, ◌∙◌, refl, sym, ap, ℕ, List, [], ◌∷◌, length, is_some}
+use Rattle.std.proofs.Common.{◌≡◌, ◌∙◌, refl, ap, ℕ, List, [], ◌∷◌, length, is_some}
 use Rattle.hir_raw.specs.Hidden.{less, variant_aliases}
 use Rattle.hir_ids.specs.Carried.{is_empty}
 use Rattle.hir_plain.specs.Sized.{is_direct_variant}

@@ -1,4 +1,4 @@
-use Rattle.std.proofs.Common.{◌≡◌, ◌<◌, ◌≤◌, ◌∙◌, arith, sym, subst, length, List, map, slice_get, take, Some}
+use Rattle.std.proofs.Common.{◌≡◌, ◌<◌, ◌≤◌, ◌∙◌, arith, sym, subst, length, map, slice_get, take, Some}
 use Rattle.hir_types.specs.declared.ids.CallableDefId.TheVariants as callable
 use Rattle.hir_types.specs.declared.ty.Ty.TheVariants as ty
 use Rattle.hir_raw.specs.Scope.{variant_arity}
@@ -6,7 +6,6 @@ use Rattle.hir_raw.specs.Signatures.{variant_types}
 use Rattle.hir_raw.specs.declared.raw.RawVariant.{RawVariant}
 use Rattle.infer_result.specs.Closed.{IsOfBody}
 use Rattle.infer_ctx.specs.Callables.{field_at}
-use Rattle.infer_ctx.specs.Closings.{IsSound}
 use Rattle.infer_ctx.specs.Context.{given_of}
 use Rattle.infer_ctx.proofs.AtEach.{follows_twice}
 use Rattle.infer_ctx.proofs.FineTypes.{fine_grown, fine_expectation_grown}

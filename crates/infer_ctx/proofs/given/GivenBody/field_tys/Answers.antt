@@ -1,4 +1,4 @@
-use Rattle.std.proofs.Common.{◌≡◌, ◌∙◌, Some, ap, arith, sym, subst, map, length}
+use Rattle.std.proofs.Common.{◌≡◌, ◌∙◌, Some, sym, subst, map}
 use Rattle.std.proofs.lemmas.List.{take_all}
 use Rattle.hir_raw.specs.declared.raw.RawVariant.{RawVariant}
 use Rattle.hir_raw.specs.Hidden.{opened, variant_aliases}
