@@ -33,7 +33,7 @@ use Rattle.infer_result.specs.Closed.{IsBinder, NamesVariant, IsVariantPat}
 use Rattle.infer_result.specs.Made.{IsMisfit, IsMade}
 use Rattle.infer_result.specs.Typed.{IsTyped}
 use Rattle.infer_result.proofs.Derived.{typed_by_schedule}
-use Rattle.infer_result.proofs.Samples.Small.{scope_with, e, p, b, w, u8, one_u8, plain, body_with, each_below, each_node, apart_by, comes, one_param, only, each_entry, each_found, nowhere, closed_u8, top_uint, top_int, u8_is_no_bool, u8_is_no_tuple, u8_differs_bool, each_placed, none_placed}
+use Rattle.infer_result.proofs.Samples.Small.{scope_with, e, p, b, w, u8, one_u8, plain, body_with, each_below, each_node, apart_by, comes, one_param, only, each_entry, each_found, nowhere, closed_u8, top_uint, top_int, u8_is_no_bool, u8_is_no_tuple, u8_differs_bool, each_placed, none_placed, no_pat_items}
 
 -- the body with another expression in the last arm
 abbrev body_of : RawExpr → RawBody
@@ -151,6 +151,7 @@ right_made = record {
       pats = each_entry IsClosed right.type_of_pat (closed_pair, (closed_pair, (closed_u8, (closed_i32, (closed_pair, tt)))));
       bindings = each_entry IsClosed right.type_of_binding (closed_pair, (closed_u8, tt));
       placeholders = λ k s at. absurd (cc);
+      items = each_entry IsClosed right.item_of_pat tt;
       expected = each_entry (λ x. IsClosed x.expected) right.expr_mismatches tt;
       actual = each_entry (λ x. IsClosed x.actual) right.expr_mismatches tt;
       pat_expected = each_entry (λ x. IsClosed x.expected) right.pat_mismatches tt;
@@ -163,6 +164,7 @@ right_made = record {
       exprs = λ x. each_entry (NamesVariant given.body x) right.expr_variants tt x.0;
       pats = λ x. each_entry (IsVariantPat given.body x) right.pat_variants tt x.0;
     };
+    items = no_pat_items given right tt;
   };
   clauses = λ x h.
       each_below (λ k. ObeysOrMismatch given right (e k)) 6 x.0

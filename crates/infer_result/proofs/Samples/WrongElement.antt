@@ -22,7 +22,7 @@ use Rattle.infer_result.specs.Truth.Diagnostics.{IsTrueDiagnostic, IsTruePatDiag
 use Rattle.infer_result.specs.Made.{IsMisfit, IsMade}
 use Rattle.infer_result.specs.Typed.{IsTyped}
 use Rattle.infer_result.proofs.Derived.{tuple_parts, typed_by_schedule}
-use Rattle.infer_result.proofs.Samples.Small.{scope_with, e, u8, one_u8, body_of, each_below, each_node, apart_by, asked, only, each_entry, each_found, each_placed, closed_u8, closed_bool, u8_is_no_bool, u8_differs_bool, none_placed}
+use Rattle.infer_result.proofs.Samples.Small.{scope_with, e, u8, one_u8, body_of, each_below, each_node, apart_by, asked, only, each_entry, each_found, each_placed, closed_u8, closed_bool, u8_is_no_bool, u8_differs_bool, none_placed, no_pat_items}
 
 abbrev pair : Ty
 pair = ty.Tuple (u8 ∷ ty.Bool ∷ [])
@@ -85,6 +85,7 @@ right_made = record {
       pats = λ n s h. absurd (cc);
       bindings = λ n s h. absurd (cc);
       placeholders = λ k s at. absurd (cc);
+      items = λ n s h. absurd (cc);
       expected = each_entry (λ x. IsClosed x.expected) right.expr_mismatches (closed_bool, tt);
       actual = each_entry (λ x. IsClosed x.actual) right.expr_mismatches (closed_u8, tt);
       pat_expected = each_entry (λ x. IsClosed x.expected) right.pat_mismatches tt;
@@ -97,6 +98,7 @@ right_made = record {
       exprs = λ x. each_entry (NamesVariant given.body x) right.expr_variants tt x.0;
       pats = λ x. each_entry (IsVariantPat given.body x) right.pat_variants tt x.0;
     };
+    items = no_pat_items given right tt;
   };
   clauses = λ x h.
       each_below (λ k. ObeysOrMismatch given right (e k)) 4 x.0
