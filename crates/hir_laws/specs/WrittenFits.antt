@@ -1,5 +1,5 @@
 -- Each written type that bodies read fits under the parameters of its definition: arguments are as many as the parameters of
--- what they stand at, parameters are in range, and no projection stands in it, but in what a function takes or gives and in types of `let`s.
+-- what they stand at, parameters are in range, and no projection stands in it, but in what a function takes or gives, in fields and in types of `let`s.
 use Rattle.std.specs.Prelude.{◌≡◌, ◌<◌, ◌≤◌, ◌==◌, ℕ, Bool, true, false, List, length, slice_get, Option, Some, None, option_map, refl, if◌then◌else◌}
 use Rattle.std.specs.Option.{option_and_then}
 use Rattle.std.proofs.Common.{arith, ap, ◌∙◌, subst}

@@ -1,4 +1,4 @@
-use Rattle.std.proofs.Common.{◌≡◌, ◌++◌, length, take}
+use Rattle.std.proofs.Common.{◌≡◌, ◌++◌, take}
 use Rattle.std.specs.Prelude.{flat_map}
 use Rattle.hir_raw.specs.Hidden.{aliases_at}
 use Rattle.hir_raw.proofs.hidden.push_fields.Given as goal
