@@ -202,20 +202,12 @@ def parameters_of(generics, first=0):
     return {item: number for number, item in enumerate(types, first)}
 
 
-def parts_of(entry):
-    """The numbers of the types that an entry of the written types is made of."""
-    if entry[0] == "tuple":
-        return entry[1]
-    return [number for _, number in entry[2]] if entry[0] in ("adt", "proj") else []
-
-
 class Lists:
     """The numbered lists of the facts: what is named gets the next number where it has none."""
 
     def __init__(self, items, refused=()):
         self.items, self.refused = items, refused  # `refused` are items that can't be written
         self.types, self.known_types = [], {}
-        self.holding = set()  # the types in which an associated type stands
         self.modules, self.adts, self.variants, self.functions = {}, {}, {}, {}
         self.traits, self.associated_types, self.impls = {}, {}, {}
 
@@ -261,10 +253,6 @@ class Lists:
         """Whether the type of this number, if there is one, is an associated type."""
         return ty < len(self.types) and self.types[ty][0] == "proj"
 
-    def holds_projection(self, ty):
-        """Whether an associated type stands in the type of this number: it is one, or one stands in a part of it."""
-        return ty in self.holding
-
     def hangs_on(self, ty, types):
         """Whether a type is an associated type of one of these, or of an associated type that is."""
         while self.is_projection(ty):
@@ -286,8 +274,6 @@ class Lists:
 
     def add_type(self, entry):
         """The number of an entry that is added; its parts come before it."""
-        if entry[0] == "proj" or any(part in self.holding for part in parts_of(entry)):
-            self.holding.add(len(self.types))
         self.types.append(entry)
         return len(self.types) - 1
 
@@ -355,13 +341,6 @@ class Writer:
             return self.relative_type(kind[0][0], kind[0][1], span), False
         self.leave_out("associated type" if name == "Path" else TYPES.get(name, "type of the kind " + name), span)
         return 0, False
-
-    def read_type(self, ty, hole=IN_SIGNATURE):
-        """The same of the type of a field: an associated type is left out there, wherever it stands in the type."""
-        number, has_hole = self.type(ty, hole)
-        if self.lists.holds_projection(number):
-            self.leave_out("associated type", span_of(ty["span"]))
-        return number, has_hole
 
     def hole(self, hole, span):
         """A `_`."""

@@ -149,7 +149,7 @@ class CrateFacts:
                 writer.leave_out("named fields", span)
                 continue
             fields = [] if data.name == "Unit" else [
-                {"name": identifier(field["ident"]), "type": writer.read_type(field["ty"])[0],
+                {"name": identifier(field["ident"]), "type": writer.type(field["ty"])[0],
                  "vis": vis if adt.kind == "enum" else self.visibility(span_of(field["vis_span"]), adt.module, writer.lists)}
                 for field in data[0]]
             variants.append({"adt": writer.lists.adt(adt.id), "name": name, "ctor": data.name.lower(), "fields": fields,

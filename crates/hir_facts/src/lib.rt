@@ -11,7 +11,8 @@ pub use hir_raw::{
     BindingAnnotation, Edition, Other, RawAdt, RawAdtKind, RawAlias, RawArgs, RawArm, RawAssocType,
     RawAt, RawBinding, RawBody, RawCtor, RawExpr, RawFacts, RawField, RawFn, RawGoal, RawImpl,
     RawLang, RawLimits, RawLiteral, RawParam, RawPat, RawPath, RawStmt, RawTrait, RawTraitRef,
-    RawType, RawVariant, RawVis, Schedule, fn_aliases, fn_arity, let_aliases,
+    RawType, RawVariant, RawVis, Schedule, fn_aliases, fn_arity, let_aliases, variant_aliases,
+    variant_arity,
 };
 pub use hir_types::{
     AdtId, AliasBound, BindingId, BodyId, Boxed, CallableDefId, Canonical, ClosureId, Const,

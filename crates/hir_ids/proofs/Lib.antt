@@ -5,4 +5,3 @@ pub mod InBodies
 pub mod Once
 pub mod Uses
 pub mod Owners
-pub mod Held

@@ -1,12 +1,10 @@
 //! Each entry and part is of a kind that is carried.
-ghost use Rattle.std.specs.Prelude.{◌≡◌, length, IsTrue, MatchOption};
+ghost use Rattle.std.specs.Prelude.{◌≡◌, IsTrue, MatchOption};
 ghost use Rattle.std.specs.List.{list_all};
 ghost use Rattle.hir_ids.specs.Entries.{AllHold, BreaksAt};
 ghost use Rattle.hir_ids.specs.Carried.{is_carried_written_type, is_type_param, is_carried_kind, is_carried_adt, is_carried_ctor, is_carried_variant, is_carried_fn, is_carried_literal, is_carried_path, is_ctor_path, is_carried_stmt, is_carried_expr, is_carried_pat, is_carried_binding, is_carried_body};
-ghost use Rattle.hir_ids.specs.Projections.{AreMarked, VariantIsCarried};
 
 use crate::carried_goals::carries_goals;
-use crate::projections::{ProjectionMarks, fields_name_none};
 use crate::test::Test;
 use hir_raw::{
     BindingAnnotation, RawAdt, RawAdtKind, RawAt, RawBinding, RawBody, RawCtor, RawExpr, RawFacts,
@@ -246,29 +244,26 @@ impl Test for AdtsCarried {
     }
 }
 
-/// A variant is of a carried kind, and no projection stands in a field.
-#[derive(Drop)]
-pub struct VariantsCarried<'a> {
-    pub found: &'a ProjectionMarks,
-}
+/// A variant is of a carried kind.
+pub struct VariantsCarried;
 
-impl<'a> Test for VariantsCarried<'a> {
+impl Test for VariantsCarried {
     type Item = RawVariant;
 
     ghost listed = { λ raw. raw.variants };
 
-    ghost holds = { λ raw i v. VariantIsCarried raw v };
+    ghost holds = { λ raw i v. IsTrue (is_carried_variant v) };
 
-    ghost given = { λ raw s. AreMarked raw.types (length raw.types) s.found.now.marks.items };
+    ghost given = { λ raw s. Unit {0} };
 
     fn test(
         &self,
         _alloc: Global,
-        raw: &RawFacts,
+        _raw: &RawFacts,
         _at: usize,
         item: &RawVariant,
     ) -> Result<bool, AllocError> {
-        Ok(carries_variant(item) && fields_name_none(raw, self.found, item.fields.as_slice()))
+        Ok(carries_variant(item))
     }
 }
 

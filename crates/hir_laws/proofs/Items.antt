@@ -1,15 +1,16 @@
 -- What lawful facts say of variants.
 use Rattle.std.specs.Prelude.{◌≡◌, ◌<◌, ◌⊎◌, ℕ, zero, suc, List, [], ◌∷◌, length, slice_get, Some, IsTrue, refl, is_none}
 use Rattle.std.specs.Cmp.{first_so}
-use Rattle.std.proofs.Common.{arith, inl, inr}
+use Rattle.std.proofs.Common.{arith, ap, inl, inr}
 use Rattle.hir_raw.specs.declared.raw.RawCtor.{RawCtor}
 use Rattle.hir_raw.specs.declared.raw.RawCtor.TheVariants as ctor
 use Rattle.hir_raw.specs.declared.raw.RawAdt.{RawAdt}
 use Rattle.hir_raw.specs.declared.raw.RawVariant.{RawVariant}
 use Rattle.hir_raw.specs.declared.raw.RawFacts.{RawFacts}
+use Rattle.hir_raw.specs.Hidden.{aliases_in, field_refs, variant_aliases}
 use Rattle.hir_ids.specs.Carried.{is_carried_ctor}
 use Rattle.hir_laws.specs.Lawful.{IsLawful}
-use Rattle.hir_laws.specs.LawfulFacts.{variants_carried, variant_ids}
+use Rattle.hir_laws.specs.LawfulFacts.{variants_carried, variant_ids, names_fit}
 
 adt_there : (adts : List RawAdt) (i : ℕ) → i < length adts → (a : RawAdt) × (slice_get adts i ≡ Some a)
 adt_there [] i lt = absurd (omega arith)
@@ -28,3 +29,7 @@ no_record ctor.Record h = absurd (cc)
 -- it is no record
 pub variant_ctor : (raw : RawFacts) → IsLawful raw → (v : ℕ) (x : RawVariant) → slice_get raw.variants v ≡ Some x → (x.ctor ≡ ctor.Unit) ⊎ (x.ctor ≡ ctor.Tuple)
 variant_ctor raw law v x found = no_record x.ctor (first_so (is_carried_ctor x.ctor) (is_none x.body) (variants_carried raw law v x found))
+
+-- a variant `V` has no associated type in a field
+pub unit_aliases : (raw : RawFacts) → IsLawful raw → (v : ℕ) (x : RawVariant) → slice_get raw.variants v ≡ Some x → x.ctor ≡ ctor.Unit → variant_aliases raw.types x ≡ []
+unit_aliases raw law v x found unit = ap (λ fs. aliases_in raw.types (field_refs fs)) ((names_fit raw law v x found).unit unit)

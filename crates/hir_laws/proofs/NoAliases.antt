@@ -1,16 +1,19 @@
 -- Where no projection stands in what a function takes and gives, none of its parameters stands for one.
-use Rattle.std.specs.Prelude.{◌≡◌, ◌<◌, ℕ, zero, suc, ◌+◌, Bool, true, false, List, [], ◌∷◌, ◌++◌, length, slice_get, Option, Some, None, if◌then◌else◌, flat_map, refl}
+use Rattle.std.specs.Prelude.{◌≡◌, ◌<◌, ℕ, zero, suc, ◌+◌, Bool, true, false, List, [], ◌∷◌, ◌++◌, length, slice_get, Option, Some, None, option_map, if◌then◌else◌, flat_map, refl}
 use Rattle.std.proofs.Common.{arith, ap, sym, true≢false, ◌∙◌}
+use Rattle.std.proofs.lemmas.Option.{slice_get-map}
 use Rattle.hir_types.specs.declared.ids.TypeRefId.{TypeRefId}
 use Rattle.hir_raw.specs.declared.raw.RawFacts.{RawFacts}
+use Rattle.hir_raw.specs.declared.raw.RawField.{RawField}
 use Rattle.hir_raw.specs.declared.raw.RawFn.{RawFn}
 use Rattle.hir_raw.specs.declared.raw.RawType.{RawType}
-use Rattle.hir_raw.specs.Hidden.{is_alias, aliases_by, aliases_within, aliases_at, aliases_in, fn_aliases}
+use Rattle.hir_raw.specs.declared.raw.RawVariant.{RawVariant}
+use Rattle.hir_raw.specs.Hidden.{is_alias, aliases_by, aliases_within, aliases_at, aliases_in, fn_aliases, field_refs, variant_aliases}
 use Rattle.hir_raw.specs.Scope.{fn_arity}
 use Rattle.hir_raw.specs.WrittenTypes.{type_parts}
 use Rattle.hir_ids.specs.Projections.{HoldsProjection, is_one, in_part, IsNoProjection, SignatureNamesNone}
 use Rattle.hir_laws.specs.Lawful.{IsLawful}
-use Rattle.hir_laws.specs.LawfulFacts.{type_ids, fn_ids}
+use Rattle.hir_laws.specs.LawfulFacts.{type_ids, variant_ids, fn_ids}
 use Rattle.hir_laws.specs.WrittenFits.{direct_here}
 
 none_of : (f : ℕ → List ℕ) (ws : List TypeRefId) → ((k : ℕ) (w : TypeRefId) → slice_get ws k ≡ Some w → f w.0 ≡ []) → flat_map (λ w. f w.0) ws ≡ []
@@ -37,6 +40,10 @@ module _ (raw : RawFacts) (law : IsLawful raw) where
       let inputs : aliases_in raw.types x.inputs ≡ [] = none_of (aliases_within (length raw.types) raw.types) x.inputs (λ k w at. none_within (length raw.types) w.0 (names.inputs k w at)) in
       let output : aliases_at raw.types x.output.0 ≡ [] = none_within (length raw.types) x.output.0 names.output in
       λ i. inputs i ++ output i
+
+  -- nor of a constructor, where none stands in a field
+  pub no_field_aliases : (x : RawVariant) → ((k : ℕ) (w : TypeRefId) → slice_get (field_refs x.fields) k ≡ Some w → IsNoProjection raw w.0) → variant_aliases raw.types x ≡ []
+  no_field_aliases x none = none_of (aliases_within (length raw.types) raw.types) (field_refs x.fields) (λ k w at. none_within (length raw.types) w.0 (none k w at))
 
   pub own_arity : (x : RawFn) → SignatureNamesNone raw x → fn_arity raw.types x ≡ length x.params
   own_arity x names = ap (λ ks. length x.params + length ks) (no_aliases x names) ∙ no_more (length x.params)
@@ -76,3 +83,9 @@ names_none raw law f x found none =
       inputs = λ k w at held. held_is_found raw.types w.0 held (length raw.types) ((fn_ids raw law f x found).inputs k w at) (none_in (aliases_within (length raw.types) raw.types) x.inputs both.0 k w at);
       output = λ held. held_is_found raw.types x.output.0 held (length raw.types) (fn_ids raw law f x found).output both.1;
     }
+
+-- nor in a field of a variant
+pub field_direct : (raw : RawFacts) → IsLawful raw → (v : ℕ) (x : RawVariant) → slice_get raw.variants v ≡ Some x → variant_aliases raw.types x ≡ [] → (k : ℕ) (f : RawField) → slice_get x.fields k ≡ Some f → IsNoProjection raw f.type_.0
+field_direct raw law v x found none k f here held =
+    held_is_found raw.types f.type_.0 held (length raw.types) ((variant_ids raw law v x found).here.fields k f here).written
+    (none_in (aliases_within (length raw.types) raw.types) (field_refs x.fields) none k f.type_ (slice_get-map (λ (g : RawField). g.type_) x.fields k ∙ ap (option_map (λ (g : RawField). g.type_)) here))

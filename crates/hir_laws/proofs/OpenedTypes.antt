@@ -1,4 +1,4 @@
--- What a function takes or gives, with a parameter in the place of each projection: what holds over its kinds holds of it.
+-- What a function or a constructor takes or gives, with a parameter in the place of each projection: what holds over its kinds holds of it.
 use Rattle.std.specs.Prelude.{◌≡◌, ◌<◌, ◌≤◌, ℕ, zero, suc, ◌+◌, ◌==◌, Bool, true, false, List, [], ◌∷◌, map, length, slice_get, Option, Some, option_map, if◌then◌else◌, IsTrue, flat_map, refl}
 use Rattle.std.proofs.Common.{arith, ap, sym, subst, true≢false, ◌∙◌}
 use Rattle.std.proofs.lemmas.List.{length-map}
@@ -11,13 +11,16 @@ use Rattle.hir_types.specs.declared.ty.Ty.TheVariants as ty
 use Rattle.hir_types.specs.Folds.{map_twice}
 use Rattle.hir_types.specs.Types.{integer_type}
 use Rattle.hir_raw.specs.declared.raw.RawFacts.{RawFacts}
+use Rattle.hir_raw.specs.declared.raw.RawAdt.{RawAdt}
+use Rattle.hir_raw.specs.declared.raw.RawField.{RawField}
 use Rattle.hir_raw.specs.declared.raw.RawFn.{RawFn}
 use Rattle.hir_raw.specs.declared.raw.RawType.{RawType}
 use Rattle.hir_raw.specs.declared.raw.RawType.TheVariants as type
-use Rattle.hir_raw.specs.Hidden.{is_alias, aliases_by, aliases_within, aliases_at, aliases_in, fn_aliases, place_in, opened_by, opened_type, opened}
+use Rattle.hir_raw.specs.declared.raw.RawVariant.{RawVariant}
+use Rattle.hir_raw.specs.Hidden.{is_alias, aliases_by, aliases_within, aliases_at, aliases_in, fn_aliases, field_refs, variant_aliases, place_in, opened_by, opened_type, opened}
 use Rattle.hir_raw.specs.Opened.{opened_at, stays_if_no_alias, place_below}
-use Rattle.hir_raw.specs.Scope.{adt_params, has_params, fn_arity}
-use Rattle.hir_raw.specs.Signatures.{type_args, fn_types}
+use Rattle.hir_raw.specs.Scope.{adt_params, has_params, fn_arity, variant_arity}
+use Rattle.hir_raw.specs.Signatures.{type_args, fn_types, variant_types}
 use Rattle.hir_raw.specs.WrittenTypes.{type_parts, filled_by, filled_within, written_type}
 use Rattle.hir_raw.proofs.Aliases.{at_alias}
 use Rattle.hir_ids.specs.Carried as carried
@@ -25,8 +28,8 @@ use Rattle.hir_counts.specs.Standing.{hole_at, most_in, HasNoHole}
 use Rattle.hir_counts.specs.Most.{own_most, part_most}
 use Rattle.hir_laws.specs.Lawful.{IsLawful}
 use Rattle.hir_laws.specs.LawfulFacts.{type_ids, types_carried}
-use Rattle.hir_laws.specs.NoHoles.{In, in_first, in_last, in_flat, type_there, input_has_no_hole, output_has_no_hole}
-use Rattle.hir_laws.specs.WrittenFits.{FitsThere, OwnFits, own_there, parts_there, inputs_fit, output_fits}
+use Rattle.hir_laws.specs.NoHoles.{In, in_first, in_last, in_flat, type_there, input_has_no_hole, output_has_no_hole, field_has_no_hole}
+use Rattle.hir_laws.specs.WrittenFits.{FitsThere, OwnFits, own_there, parts_there, inputs_fit, output_fits, fields_fit}
 
 -- ---- the places
 
@@ -66,17 +69,12 @@ pub record IsOver (raw : RawFacts) (count : ℕ) (P : Ty → Type 0) : Type 0 wh
 at_zero : (a b : ℕ) → a ≤ b → b ≡ 0 → a ≡ 0
 at_zero a b le is = omega (arith, le, is)
 
-module _ (raw : RawFacts) (law : IsLawful raw) (f : ℕ) (x : RawFn) (found : slice_get raw.fns f ≡ Some x) (P : Ty → Type 0) (over : IsOver raw (fn_arity raw.types x) P) where
-  abbrev ks : List ℕ
-  ks = fn_aliases raw.types x
-
-  abbrev own : ℕ
-  own = length x.params
-
+-- ---- over so many parameters, where these projections are parameters after them
+module _ (raw : RawFacts) (law : IsLawful raw) (own : ℕ) (ks : List ℕ) (P : Ty → Type 0) (over : IsOver raw (own + length ks) P) where
   abbrev types : List RawType
   types = opened own ks raw.types
 
-  -- its projections are among those of the function
+  -- its projections are among these
   abbrev AreCovered : ℕ → ℕ → Type 0
   AreCovered a i = (j : ℕ) → In (aliases_within a raw.types i) j → In ks j
 
@@ -84,7 +82,7 @@ module _ (raw : RawFacts) (law : IsLawful raw) (f : ℕ) (x : RawFn) (found : sl
   each_part g [] each = tt
   each_part g (w ∷ ws) each = (each 0 w refl, each_part g ws (λ k v at. each (suc k) v at))
 
-  wider : (n : ℕ) → n < own → n < fn_arity raw.types x
+  wider : (n : ℕ) → n < own → n < own + length ks
   wider n lt = omega (arith, lt)
 
   by_kind : (g : ℕ → Ty) (y : RawType) → IsTrue (carried.is_carried_written_type y) → hole_at y ≡ 0 → is_alias y ≡ false → OwnFits raw own y → ((k : ℕ) (w : TypeRefId) → slice_get (type_parts y) k ≡ Some w → P (g w.0)) → P (filled_by ty.Hole g (Some y))
@@ -143,13 +141,32 @@ module _ (raw : RawFacts) (law : IsLawful raw) (f : ℕ) (x : RawFn) (found : sl
           (by_kind (filled_within (λ k. ty.Hole) m types) y (types_carried raw law i y at) (at_zero (hole_at y) (most_in hole_at raw.types i) (own_most hole_at raw.types (type_ids raw law) i y at) none) is (own_there raw law own i y at fits is)
           (λ k w here. each k w here is))
 
-  over_type : (w : TypeRefId) → FitsThere raw own w.0 → HasNoHole raw.types w → AreCovered (length raw.types) w.0 → P (written_type (fn_types raw.types x) w)
+  pub over_type : (w : TypeRefId) → FitsThere raw own w.0 → HasNoHole raw.types w → AreCovered (length raw.types) w.0 → P (written_type types w)
   over_type w fits none covered = opened_within (suc w.0) (length raw.types) w.0 (omega arith) fits.within fits none covered
 
+-- ---- what a function takes and gives
+module _ (raw : RawFacts) (law : IsLawful raw) (f : ℕ) (x : RawFn) (found : slice_get raw.fns f ≡ Some x) (P : Ty → Type 0) (over : IsOver raw (fn_arity raw.types x) P) where
   pub over_input : (k : ℕ) (w : TypeRefId) → slice_get x.inputs k ≡ Some w → P (written_type (fn_types raw.types x) w)
   over_input k w here =
-      over_type w (inputs_fit raw law f x found k w here) (input_has_no_hole raw law f x found k w here)
+      over_type raw law (length x.params) (fn_aliases raw.types x) P over w (inputs_fit raw law f x found k w here) (input_has_no_hole raw law f x found k w here)
       (λ j there. in_first (aliases_in raw.types x.inputs) (aliases_at raw.types x.output.0) j (in_flat (λ (v : TypeRefId). aliases_at raw.types v.0) x.inputs k w j here there))
 
   pub over_output : P (written_type (fn_types raw.types x) x.output)
-  over_output = over_type x.output (output_fits raw law f x found) (output_has_no_hole raw law f x found) (λ j there. in_last (aliases_in raw.types x.inputs) (aliases_at raw.types x.output.0) j there)
+  over_output =
+      over_type raw law (length x.params) (fn_aliases raw.types x) P over x.output (output_fits raw law f x found) (output_has_no_hole raw law f x found)
+      (λ j there. in_last (aliases_in raw.types x.inputs) (aliases_at raw.types x.output.0) j there)
+
+-- ---- the fields of a variant
+
+ref_at : (fs : List RawField) (k : ℕ) (y : RawField) → slice_get fs k ≡ Some y → slice_get (field_refs fs) k ≡ Some y.type_
+ref_at [] k y here = absurd (cc)
+ref_at (g ∷ fs) zero y here = (let same : g ≡ y = cc in ap (λ (h : RawField). Some h.type_) same)
+ref_at (g ∷ fs) (suc k) y here = ref_at fs k y here
+
+module _
+    (raw : RawFacts) (law : IsLawful raw) (v : ℕ) (x : RawVariant) (a : RawAdt) (found : slice_get raw.variants v ≡ Some x) (adt : slice_get raw.adts x.adt.0 ≡ Some a) (P : Ty → Type 0)
+    (over : IsOver raw (variant_arity raw.types x (length a.params)) P) where
+  pub over_field : (k : ℕ) (y : RawField) → slice_get x.fields k ≡ Some y → P (written_type (variant_types raw.types (length a.params) x) y.type_)
+  over_field k y here =
+      over_type raw law (length a.params) (variant_aliases raw.types x) P over y.type_ (fields_fit raw law v x a found adt k y here) (field_has_no_hole raw law v x found k y here)
+      (λ j there. in_flat (λ (w : TypeRefId). aliases_at raw.types w.0) (field_refs x.fields) k y.type_ j (ref_at x.fields k y here) there)

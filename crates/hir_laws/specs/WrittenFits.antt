@@ -1,5 +1,5 @@
 -- Each written type that bodies read fits under the parameters of its definition: arguments are as many as the parameters of
--- what they stand at, parameters are in range, and no projection stands in it, but in what a function takes or gives and in types of `let`s.
+-- what they stand at, parameters are in range, and no projection stands in it, but in what a function takes or gives, in fields and in types of `let`s.
 use Rattle.std.specs.Prelude.{◌≡◌, ◌<◌, ◌≤◌, ◌==◌, ℕ, Bool, true, false, List, length, slice_get, Option, Some, None, option_map, refl, if◌then◌else◌}
 use Rattle.std.specs.Option.{option_and_then}
 use Rattle.std.proofs.Common.{arith, ap, ◌∙◌, subst}
@@ -28,7 +28,7 @@ use Rattle.hir_counts.specs.Standing.{param_bound, wrong_count, wrong_args, para
 use Rattle.hir_counts.specs.Counts.{TypeFits, ExprFits, BodyFits, MaybeBodyFits, body_at, param_count}
 use Rattle.hir_laws.specs.Lawful.{IsLawful}
 use Rattle.hir_ids.specs.Projections.{is_one, in_part, IsNoProjection, SignatureNamesNone}
-use Rattle.hir_laws.specs.LawfulFacts.{carried_variants, type_ids, variant_ids, variants_fit, fn_ids, fns_fit, body_ids}
+use Rattle.hir_laws.specs.LawfulFacts.{type_ids, variant_ids, variants_fit, fn_ids, fns_fit, body_ids}
 use Rattle.hir_counts.specs.Most.{own_most, part_most}
 
 -- type t of the facts fits under this many parameters
@@ -125,9 +125,6 @@ own_fits raw law count i x found h = own_there raw law count i x found (fits_the
 
 -- ---- the types of a function
 
-fits_under : (raw : RawFacts) (count : ℕ) (t : TypeRefId) → t.0 < length raw.types → IsNoProjection raw t.0 → TypeFits (params_in raw) (wrongs_in raw) count t → FitsUnder raw count t.0
-fits_under raw count t lt direct h = record { within = lt; direct = direct; params = h.0; args = h.1 }
-
 pub inputs_fit : (raw : RawFacts) → IsLawful raw → (f : ℕ) (x : RawFn) → slice_get raw.fns f ≡ Some x → (k : ℕ) (t : TypeRefId) → slice_get x.inputs k ≡ Some t → FitsThere raw (length x.params) t.0
 inputs_fit raw law f x found k t here = (let fit = (fns_fit raw law f x found).inputs k t here in record { within = (fn_ids raw law f x found).inputs k t here; params = fit.0; args = fit.1 })
 
@@ -144,11 +141,11 @@ direct_output_fits raw law f x found none = fits_direct raw (length x.params) x.
 -- ---- the fields of a variant
 
 -- fit under the parameters of its adt
-pub fields_fit : (raw : RawFacts) → IsLawful raw → (v : ℕ) (x : RawVariant) (a : RawAdt) → slice_get raw.variants v ≡ Some x → slice_get raw.adts x.adt.0 ≡ Some a → (k : ℕ) (f : RawField) → slice_get x.fields k ≡ Some f → FitsUnder raw (length a.params) f.type_.0
+pub fields_fit : (raw : RawFacts) → IsLawful raw → (v : ℕ) (x : RawVariant) (a : RawAdt) → slice_get raw.variants v ≡ Some x → slice_get raw.adts x.adt.0 ≡ Some a → (k : ℕ) (f : RawField) → slice_get x.fields k ≡ Some f → FitsThere raw (length a.params) f.type_.0
 fields_fit raw law v x a found adt k f here =
     let fit : TypeFits (params_in raw) (wrongs_in raw) (length a.params) f.type_ =
     subst (λ (o : Option RawAdt). TypeFits (params_in raw) (wrongs_in raw) (param_count o) f.type_) adt ((variants_fit raw law v x found).fields k f here) in
-    fits_under raw (length a.params) f.type_ ((variant_ids raw law v x found).here.fields k f here).written ((carried_variants raw law v x found).fields k f here) fit
+    record { within = ((variant_ids raw law v x found).here.fields k f here).written; params = fit.0; args = fit.1 }
 
 -- ---- the types that are written in its body
 

@@ -18,7 +18,7 @@ use Rattle.hir_raw.specs.Graph.{KidsFit, Edge, kids_of}
 use Rattle.hir_laws.specs.NoHoles.{In, in_first, in_last}
 use Rattle.hir_ids.specs.Ids.{ItemExists, IsVariantOf}
 use Rattle.hir_ids.specs.Projections.{is_one, in_part, IsNoProjection}
-use Rattle.hir_laws.specs.WrittenFits.{FitsUnder, OwnFits, fits_direct, own_fits, parts_fit, fields_fit}
+use Rattle.hir_laws.specs.WrittenFits.{FitsThere, FitsUnder, OwnFits, fits_direct, own_fits, parts_fit, fields_fit}
 use Rattle.hir_laws.specs.Lawful.{IsLawful}
 use Rattle.hir_laws.specs.LawfulFacts.{type_ids, type_ids_exist, adt_ids, types_small}
 use Rattle.hir_plain.specs.Spread.{IsMarked, IsUnmarked, ComesToBad, is_bad, by_child, AreGood}
@@ -112,14 +112,14 @@ module _ (raw : RawFacts) (law : IsLawful raw) where
   count = length raw.types
 
   -- the type of a field fits under the parameters of the adt
-  field_fits : (a : ℕ) (y : RawAdt) → slice_get raw.adts a ≡ Some y → (k : ℕ) (t : TypeRefId) → slice_get (adt_fields raw y) k ≡ Some t → FitsUnder raw (length y.params) t.0
+  field_fits : (a : ℕ) (y : RawAdt) → slice_get raw.adts a ≡ Some y → (k : ℕ) (t : TypeRefId) → slice_get (adt_fields raw y) k ≡ Some t → FitsThere raw (length y.params) t.0
   field_fits a y found k t here =
       let f = field_of raw.variants y.variants k t here in
       let owner : IsVariantOf raw a f.v = (adt_ids raw law a y found).variants f.at f.v f.listed in
       let same : owner.0 ≡ f.variant = (let p : slice_get raw.variants f.v.0 ≡ Some owner.0 = owner.1 in let q : slice_get raw.variants f.v.0 ≡ Some f.variant = f.found in cc) in
       let of : f.variant.adt.0 ≡ a = sym (ap (λ (x : RawVariant). x.adt.0) same) ∙ owner.2 in
       let adt : slice_get raw.adts f.variant.adt.0 ≡ Some y = ap (λ (i : ℕ). slice_get raw.adts i) of ∙ found in
-      subst (λ (u : TypeRefId). FitsUnder raw (length y.params) u.0) f.is (fields_fit raw law f.v.0 f.variant y f.found adt f.k f.field f.here)
+      subst (λ (u : TypeRefId). FitsThere raw (length y.params) u.0) f.is (fields_fit raw law f.v.0 f.variant y f.found adt f.k f.field f.here)
 
   -- ---- nodes
 
@@ -341,7 +341,9 @@ module _ (raw : RawFacts) (law : IsLawful raw) where
           adt = y.0;
           found = y.1;
           params = sym (fine_adt a y.0 y.1) ∙ good.own (count + a) marked;
-          fields = λ k t here. type_marked (suc t.0) (length y.0.params) t.0 (omega arith) (field_fits a y.0 y.1 k t here) (good.children (count + a) k t.0 (field_edge a y.0 y.1 k t here) marked);
+          fields = λ k t here.
+              (let held : IsMarked marks t.0 = good.children (count + a) k t.0 (field_edge a y.0 y.1 k t here) marked in
+              type_marked (suc t.0) (length y.0.params) t.0 (omega arith) (fits_direct raw (length y.0.params) t.0 (field_fits a y.0 y.1 k t here) (marked_direct t.0 held)) held);
         }
 
     marked_set : IsPlainSet raw marked_adts

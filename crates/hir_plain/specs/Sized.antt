@@ -1,8 +1,13 @@
--- Predicates that say that a type parameter has a size.
+-- Predicates that say that a type parameter has a size, and structs whose size is seen without associated types.
 use Rattle.std.specs.Prelude.{ℕ, ◌==◌, ◌&&◌, nat_lt, Bool, true, false, List, [], ◌∷◌, slice_get, Option, Some, None, if◌then◌else◌}
 use Rattle.std.specs.List.{list_all, list_any}
 use Rattle.hir_types.specs.declared.ids.TraitId.{TraitId}
 use Rattle.hir_types.specs.declared.ids.TypeRefId.{TypeRefId}
+use Rattle.hir_types.specs.declared.ids.VariantId.{VariantId}
+use Rattle.hir_raw.specs.declared.raw.RawAdt.{RawAdt}
+use Rattle.hir_raw.specs.declared.raw.RawAdtKind.{RawAdtKind}
+use Rattle.hir_raw.specs.declared.raw.RawAdtKind.TheVariants as kind
+use Rattle.hir_raw.specs.declared.raw.RawVariant.{RawVariant}
 use Rattle.hir_raw.specs.declared.raw.RawType.{RawType}
 use Rattle.hir_raw.specs.declared.raw.RawType.TheVariants as type
 use Rattle.hir_raw.specs.declared.raw.RawGoal.{RawGoal}
@@ -11,6 +16,8 @@ use Rattle.hir_raw.specs.declared.raw.RawLang.{RawLang}
 use Rattle.hir_raw.specs.declared.raw.RawLang.TheVariants as lang
 use Rattle.hir_raw.specs.declared.raw.RawFacts.{RawFacts}
 use Rattle.hir_raw.specs.Goals.{arg_types, is_sized_lang}
+use Rattle.hir_raw.specs.Hidden.{variant_aliases}
+use Rattle.hir_ids.specs.Carried.{is_empty}
 
 -- no item but the trait has this name
 abbrev pub is_one_sized_lang : TraitId → RawLang → Bool
@@ -53,3 +60,20 @@ is_sized_of raw i g = is_number i (sized_param raw g)
 -- it says so of one of the item's type parameters, of which there are this many
 abbrev pub is_sized_pred : RawFacts → ℕ → RawGoal → Bool
 is_sized_pred raw count g = is_below count (sized_param raw g)
+
+-- ---- structs
+
+-- no associated type stands in a field of the variant, where it is there
+abbrev pub is_direct_variant : RawFacts → Option RawVariant → Bool
+is_direct_variant raw None = true
+is_direct_variant raw (Some x) = is_empty (variant_aliases raw.types x)
+
+-- nor in a field of these variants, where they are a struct's
+abbrev pub is_direct_struct : RawFacts → RawAdtKind → List VariantId → Bool
+is_direct_struct raw kind.Struct vs = list_all (λ (v : VariantId). is_direct_variant raw (slice_get raw.variants v.0)) vs
+is_direct_struct raw kind.Enum vs = true
+is_direct_struct raw kind.Union vs = true
+
+-- no associated type stands in a field of a struct
+abbrev pub are_direct_structs : RawFacts → Bool
+are_direct_structs raw = list_all (λ (a : RawAdt). is_direct_struct raw a.kind a.variants) raw.adts

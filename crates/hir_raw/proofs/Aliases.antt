@@ -1,16 +1,18 @@
 -- The associated types that stand in a written type, step by step, and how many they are.
-use Rattle.std.specs.Prelude.{◌≡◌, ◌≢◌, ◌<◌, ◌≤◌, ℕ, zero, suc, ◌+◌, ◌-◌, true, false, if◌then◌else◌, List, [], ◌∷◌, length, get_or, drop, slice_get, Option, Some, None, refl}
+use Rattle.std.specs.Prelude.{◌≡◌, ◌≢◌, ◌<◌, ◌≤◌, ℕ, zero, suc, ◌+◌, ◌-◌, true, false, if◌then◌else◌, List, [], ◌∷◌, length, get_or, take, drop, slice_get, Option, Some, None, refl}
 use Rattle.std.specs.List.{flat_map}
 use Rattle.std.specs.Option.{option_and_then, SomeIff}
 use Rattle.std.proofs.Common.{arith, ap, sym, ◌∙◌, length-append}
-use Rattle.std.proofs.lemmas.List.{drop_more}
+use Rattle.std.proofs.lemmas.List.{drop_more, get_or-map, length-map, take_all}
+use Rattle.std.proofs.lemmas.List.Folds.{flat_map-map}
 use Rattle.std.proofs.lemmas.Option.{slice_get_read, slice_get_past}
 use Rattle.hir_types.specs.declared.ids.TypeRefId.{TypeRefId}
+use Rattle.hir_raw.specs.declared.raw.RawField.{RawField}
 use Rattle.hir_raw.specs.declared.raw.RawFn.{RawFn}
 use Rattle.hir_raw.specs.declared.raw.RawType.{RawType}
 use Rattle.hir_raw.specs.WrittenTypes.{type_parts}
 use Rattle.hir_raw.specs.Scope.{has_params}
-use Rattle.hir_raw.specs.Hidden.{is_alias, aliases_by, aliases_within, parts_aliases, aliases_at, aliases_in, fn_aliases, less}
+use Rattle.hir_raw.specs.Hidden.{is_alias, aliases_by, aliases_within, parts_aliases, aliases_at, aliases_in, fn_aliases, field_refs, less}
 
 -- ---- at a type
 
@@ -101,3 +103,19 @@ pub less_then : (types : List RawType) (f : RawFn) (count : ℕ)
     → less count (length (fn_aliases types f)) ≡ option_and_then (λ m. less m (length (aliases_at types f.output.0))) (less count (length (aliases_in types f.inputs)))
 less_then types f count =
     ap (less count) (length-append (aliases_in types f.inputs) (aliases_at types f.output.0)) ∙ less_sum count (length (aliases_in types f.inputs)) (length (aliases_at types f.output.0))
+
+-- ---- of fields
+
+pub of_fields : (types : List RawType) (fields : List RawField) (i : ℕ) → length fields ≤ i → flat_map (λ (f : RawField). aliases_at types f.type_.0) (take i fields) ≡ aliases_in types (field_refs fields)
+of_fields types fields i over =
+    ap (flat_map (λ (f : RawField). aliases_at types f.type_.0)) (take_all i fields over)
+    ∙ sym (flat_map-map (λ (w : TypeRefId). aliases_at types w.0) (λ (f : RawField). f.type_) fields)
+
+-- those of the first field, then those of the rest
+pub less_field : (types : List RawType) (fields : List RawField) (i : ℕ) (g : RawField) (left : ℕ) → i < length fields → g ≡ get_or fields i g
+    → less left (length (aliases_in types (drop i (field_refs fields)))) ≡ option_and_then (λ m. less m (length (aliases_in types (drop (i + 1) (field_refs fields))))) (less left (length (aliases_at types g.type_.0)))
+less_field types fields i g left lt here =
+    let size : length (field_refs fields) ≡ length fields = length-map fields (λ (f : RawField). f.type_) in
+    let read : get_or (field_refs fields) i g.type_ ≡ g.type_ = get_or-map (λ (f : RawField). f.type_) fields i g g.type_ lt ∙ ap (λ (f : RawField). f.type_) (sym here) in
+    less_next (length types) types (field_refs fields) i g.type_ left (omega (arith, lt, size))
+    ∙ ap (λ (w : TypeRefId). option_and_then (λ m. less m (length (aliases_in types (drop (i + 1) (field_refs fields))))) (less left (length (aliases_at types w.0)))) read

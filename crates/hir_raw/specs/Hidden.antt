@@ -1,13 +1,15 @@
--- Associated types that stand in what a function takes and gives. Each is read as a parameter of its own, after those of the function, of
--- which a goal says what it is: `fn f<T: A>(x: T) -> T::X` is `fn f<T, X>(x: T) -> X` where `T: A<X = X>` (the Rust Reference, "Associated
--- types"; upstream `infer/unify.rs`, `normalize_associated_types_in`).
-use Rattle.std.specs.Prelude.{ℕ, zero, suc, ◌+◌, Bool, true, false, ◌==◌, if◌then◌else◌, List, [], ◌∷◌, ◌++◌, length, slice_get, Option, Some, None, option_map}
+-- Associated types that stand in what a function or a constructor takes and gives. Each is read as a parameter of its own, after those of the
+-- function or the adt, of which a goal says what it is: `fn f<T: A>(x: T) -> T::X` is `fn f<T, X>(x: T) -> X` where `T: A<X = X>` (the Rust
+-- Reference, "Associated types"; upstream `infer/unify.rs`, `normalize_associated_types_in`).
+use Rattle.std.specs.Prelude.{ℕ, zero, suc, ◌+◌, Bool, true, false, ◌==◌, if◌then◌else◌, List, [], ◌∷◌, ◌++◌, map, length, slice_get, Option, Some, None, option_map}
 use Rattle.std.specs.List.{flat_map}
 use Rattle.hir_types.specs.declared.ids.TypeRefId.{TypeRefId}
 use Rattle.hir_raw.specs.WrittenTypes.{type_parts}
+use Rattle.hir_raw.specs.declared.raw.RawField.{RawField}
 use Rattle.hir_raw.specs.declared.raw.RawFn.{RawFn}
 use Rattle.hir_raw.specs.declared.raw.RawType.{RawType}
 use Rattle.hir_raw.specs.declared.raw.RawType.TheVariants as type
+use Rattle.hir_raw.specs.declared.raw.RawVariant.{RawVariant}
 
 -- ---- which they are
 
@@ -46,6 +48,14 @@ aliases_in types ws = parts_aliases (length types) types ws
 -- of what the function takes, and then of what it gives
 abbrev pub fn_aliases : List RawType → RawFn → List ℕ
 fn_aliases types f = aliases_in types f.inputs ++ aliases_at types f.output.0
+
+-- of these fields
+abbrev pub field_refs : List RawField → List TypeRefId
+field_refs fs = map (λ (f : RawField). f.type_) fs
+
+-- of the fields of a variant
+abbrev pub variant_aliases : List RawType → RawVariant → List ℕ
+variant_aliases types x = aliases_in types (field_refs x.fields)
 
 -- what is left of n where k are taken from it, if it is not less
 abbrev pub less : ℕ → ℕ → Option ℕ

@@ -19,8 +19,9 @@ use Rattle.hir_raw.specs.declared.raw.RawFn.{RawFn}
 use Rattle.hir_raw.specs.declared.raw.RawGoal.{RawGoal}
 use Rattle.hir_raw.specs.declared.raw.RawGoal.TheVariants as goal
 use Rattle.hir_raw.specs.declared.raw.RawType.{RawType}
+use Rattle.hir_raw.specs.declared.raw.RawVariant.{RawVariant}
 use Rattle.hir_raw.specs.Goals.{is_sized_lang}
-use Rattle.hir_raw.specs.Hidden.{fn_aliases}
+use Rattle.hir_raw.specs.Hidden.{fn_aliases, variant_aliases}
 
 pub record Scope : Type 0 where
   pub facts : RawFacts
@@ -48,11 +49,14 @@ adt_params raw a = option_map (λ x. length x.params) (slice_get raw.adts a.0)
 abbrev pub fn_arity : List RawType → RawFn → ℕ
 fn_arity types f = length f.params + length (fn_aliases types f)
 
--- the parameters of a constructor are those of its adt
+-- those of a constructor, of an adt with n parameters: these, and one for each associated type in its fields
+abbrev pub variant_arity : List RawType → RawVariant → ℕ → ℕ
+variant_arity types x n = n + length (variant_aliases types x)
+
 abbrev pub callable_params : RawFacts → CallableDefId → Option ℕ
 callable_params raw (callable.FunctionId f) = option_map (fn_arity raw.types) (slice_get raw.fns f.0)
 callable_params raw (callable.VariantId v) =
-    option_and_then (λ x. adt_params raw x.adt) (slice_get raw.variants v.0)
+    option_and_then (λ x. option_map (variant_arity raw.types x) (adt_params raw x.adt)) (slice_get raw.variants v.0)
 
 -- the item exists, and has this many parameters
 abbrev pub has_params : Option ℕ → ℕ → Bool

@@ -21,8 +21,8 @@ use Rattle.hir_raw.specs.declared.raw.RawVariant.{RawVariant}
 use Rattle.hir_raw.specs.declared.raw.RawFn.{RawFn}
 use Rattle.hir_raw.specs.declared.raw.RawFacts.{RawFacts}
 use Rattle.hir_raw.specs.WrittenTypes.{written_type}
-use Rattle.hir_raw.specs.Hidden.{fn_aliases, opened}
-use Rattle.hir_raw.specs.Scope.{adt_params, fn_arity}
+use Rattle.hir_raw.specs.Hidden.{fn_aliases, variant_aliases, opened}
+use Rattle.hir_raw.specs.Scope.{adt_params, fn_arity, variant_arity}
 
 -- how many parameters an item has, those for associated types in what it takes and gives among them, and in these what it takes and gives
 pub record Signature : Type 0 where
@@ -64,18 +64,30 @@ own_adt a n = ty.Adt a (type_args (params_from 0 n))
 abbrev pub field_types : List RawType → RawVariant → List Ty
 field_types types x = map (λ f. written_type types f.type_) x.fields
 
--- the constructor of a variant `V(..)` takes its fields and gives its adt
+-- the written types of a variant of an adt with n parameters, where each associated type in a field is a parameter after these
+abbrev pub variant_types : List RawType → ℕ → RawVariant → List RawType
+variant_types types n x = opened n (variant_aliases types x) types
+
+-- what its constructor takes
+abbrev pub taken_types : List RawType → ℕ → RawVariant → List Ty
+taken_types types n x = field_types (variant_types types n x) x
+
+-- the constructor of a variant `V(..)` takes its fields and gives its adt, at the adt's own parameters
 abbrev pub signature_by : RawCtor → List RawType → ℕ → RawVariant → Option Signature
 signature_by ctor.Unit types n x = None
 signature_by ctor.Tuple types n x =
-    Some (record { params = n; inputs = field_types types x; output = own_adt x.adt n })
+    Some (record { params = variant_arity types x n; inputs = taken_types types n x; output = own_adt x.adt n })
 signature_by ctor.Record types n x = None
 
 -- where the variant's adt has n parameters
 abbrev pub ctor_signature : List RawType → ℕ → RawVariant → Option Signature
 ctor_signature types n x = signature_by x.ctor types n x
 
--- what a path to a constructor is, at these types for the parameters of its adt
+-- a constructor at these types, as an item that can be called
+abbrev pub ctor_item : VariantId → List Ty → Ty
+ctor_item v ts = ty.FnDef (callable.VariantId v) (type_args ts)
+
+-- What a path to a constructor is, at these types for its parameters. A variant `V` has no fields, so its parameters are those of its adt.
 abbrev pub ctor_type_by : RawCtor → AdtId → VariantId → List Ty → Ty
 ctor_type_by ctor.Unit a v ts = ty.Adt a (type_args ts)
 ctor_type_by ctor.Tuple a v ts = ty.FnDef (callable.VariantId v) (type_args ts)
@@ -111,9 +123,12 @@ params_at ts (u ∷ us) i h =
     let rest : map (at_args ts) (params_from (suc i) (length us)) ≡ us = params_at ts us (suc i) (λ k t e. subst (λ n. slice_get ts n ≡ Some t) (plus_suc i k) (h (suc k) t e)) in
     λ j. first j ∷ rest j
 
--- at types for its parameters it is the adt at these types
-pub own_adt_at : (a : AdtId) (ts : List Ty) → at_args ts (own_adt a (length ts)) ≡ ty.Adt a (type_args ts)
-own_adt_at a ts =
+-- at types of which the first are for its parameters it is the adt at these
+pub own_adt_first : (a : AdtId) (ts us : List Ty) → ((k : ℕ) (u : Ty) → slice_get us k ≡ Some u → slice_get ts k ≡ Some u) → at_args ts (own_adt a (length us)) ≡ ty.Adt a (type_args us)
+own_adt_first a ts us first =
     let s : Replacement = with_params (type_args ts) in
-    replaced_adt s a (type_args (params_from 0 (length ts)))
-    ∙ ap (ty.Adt a) (types_args_replaced s (params_from 0 (length ts)) ∙ ap type_args (params_at ts ts 0 (λ k u e. subst (λ n. slice_get ts n ≡ Some u) (from_zero k) e)))
+    replaced_adt s a (type_args (params_from 0 (length us)))
+    ∙ ap (ty.Adt a) (types_args_replaced s (params_from 0 (length us)) ∙ ap type_args (params_at ts us 0 (λ k u e. subst (λ n. slice_get ts n ≡ Some u) (from_zero k) (first k u e))))
+
+pub own_adt_at : (a : AdtId) (ts : List Ty) → at_args ts (own_adt a (length ts)) ≡ ty.Adt a (type_args ts)
+own_adt_at a ts = own_adt_first a ts ts (λ k u e. e)

@@ -1,9 +1,9 @@
-//! Associated types in what functions take and give.
+//! Associated types in what functions and constructors take and give.
 ghost use Rattle.std.specs.Prelude.{◌≡◌, ◌++◌, length, IfOk, OnOk};
-ghost use Rattle.hir_raw.specs.Scope.{fn_arity};
-ghost use Rattle.hir_raw.specs.Hidden.{aliases_within, parts_aliases, fn_aliases, less};
+ghost use Rattle.hir_raw.specs.Scope.{fn_arity, variant_arity};
+ghost use Rattle.hir_raw.specs.Hidden.{aliases_within, parts_aliases, fn_aliases, field_refs, variant_aliases, less};
 
-use crate::raw::{RawFn, RawType};
+use crate::raw::{RawField, RawFn, RawType, RawVariant};
 use hir_types::TypeRefId;
 use std::alloc::{AllocError, Global};
 
@@ -73,6 +73,47 @@ pub fn fn_arity(alloc: Global, types: &[RawType], function: &RawFn) -> Result<us
     Ok(count)
 }
 
+fn push_fields(
+    types: &[RawType],
+    fields: &[RawField],
+    found: &mut Vec<usize>,
+) -> Result<(), AllocError>
+    ensures { OnOk result (found.new.items ≡ found.old.items ++ parts_aliases (length types.now) types.now (field_refs fields.now)) }
+{
+    for field in fields {
+        push_aliases(types, types.len(), field.type_.0 as usize, found)?;
+    }
+    Ok(())
+}
+
+/// The associated types that stand outermost in the fields of a variant, in order.
+pub fn variant_aliases(
+    alloc: Global,
+    types: &[RawType],
+    variant: &RawVariant,
+) -> Result<Vec<usize>, AllocError>
+    ensures { IfOk result (λ ks. ks.items ≡ variant_aliases types.now variant.now) }
+{
+    let mut found = Vec::new(alloc);
+    push_fields(types, variant.fields.as_slice(), &mut found)?;
+    Ok(found)
+}
+
+/// How many parameters the constructor of a variant has, whose adt has so many: these, and one for each of these.
+pub fn variant_arity(
+    alloc: Global,
+    types: &[RawType],
+    variant: &RawVariant,
+    params: usize,
+) -> Result<usize, AllocError>
+    ensures { IfOk result (λ n. n ≡ variant_arity types.now variant.now params) }
+{
+    let aliases = variant_aliases(alloc, types, variant)?;
+    // No lists of so many are in memory.
+    let count = params.checked_add(aliases.len()).ok_or(AllocError)?;
+    Ok(count)
+}
+
 #[cycle(less)]
 fn less_aliases(types: &[RawType], steps: usize, ty: usize, count: usize) -> Option<usize>
     ensures { result ≡ less count (length (aliases_within steps types.now ty)) }
@@ -114,4 +155,18 @@ pub fn less_fn_aliases(types: &[RawType], function: &RawFn, count: usize) -> Opt
         Some(left) => less_aliases(types, types.len(), function.output.0 as usize, left),
         None => None,
     }
+}
+
+/// What is left of a count where one is taken for each of the associated types in the fields of a variant, if it is not less.
+pub fn less_variant_aliases(types: &[RawType], variant: &RawVariant, count: usize) -> Option<usize>
+    ensures { result ≡ less count (length (variant_aliases types.now variant.now)) }
+{
+    let mut left = count;
+    for field in variant.fields.as_slice() {
+        match less_aliases(types, types.len(), field.type_.0 as usize, left) {
+            Some(count) => left = count,
+            None => return None,
+        }
+    }
+    Some(left)
 }

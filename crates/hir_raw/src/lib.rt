@@ -12,7 +12,7 @@ mod schedule;
 mod scope;
 
 pub use fit::ty_fits;
-pub use hidden::{fn_aliases, fn_arity};
+pub use hidden::{fn_aliases, fn_arity, less_variant_aliases, variant_aliases, variant_arity};
 pub use lets::{let_aliases, stmts_of};
 pub use raw::{
     BindingAnnotation, Edition, HasGoals, Other, RawAdt, RawAdtKind, RawAlias, RawArgs, RawArm,

@@ -1,12 +1,12 @@
 //! How many parameters items have.
-ghost use Rattle.std.specs.Prelude.{◌≡◌, slice_get};
+ghost use Rattle.std.specs.Prelude.{◌≡◌, option_map, slice_get};
 ghost use Rattle.std.specs.List.{list_any};
 ghost use Rattle.hir_raw.specs.Goals.{is_sized_lang};
-ghost use Rattle.hir_raw.specs.Scope.{fn_params, adt_params, callable_params, has_params, params_in_trait, alias_params_by, params_of_item, generic_params, is_size_goal, states_more, names_alias, has_associated};
+ghost use Rattle.hir_raw.specs.Scope.{fn_params, adt_params, variant_arity, callable_params, has_params, params_in_trait, alias_params_by, params_of_item, generic_params, is_size_goal, states_more, names_alias, has_associated};
 ghost use Rattle.hir_types.specs.declared.ids.GenericDefId.TheVariants as generic;
 
-use crate::hidden::less_fn_aliases;
-use crate::raw::{RawFacts, RawFn, RawGoal, RawLang};
+use crate::hidden::{less_fn_aliases, less_variant_aliases};
+use crate::raw::{RawFacts, RawFn, RawGoal, RawLang, RawVariant};
 use hir_types::{
     AdtId, CallableDefId, DefWithBodyId, FunctionId, GenericDefId, ImplId, TraitId, TypeAliasId,
 };
@@ -53,9 +53,22 @@ pub fn callable_has_params(raw: &RawFacts, callable: CallableDefId, count: usize
             None => false,
         },
         CallableDefId::VariantId(variant) => match raw.variants.get(variant.0 as usize) {
-            Some(variant) => has_params(adt_params(raw, variant.adt), count),
+            Some(variant) => ctor_has_params(raw, variant, count),
             None => false,
         },
+    }
+}
+
+/// Whether the constructor of a variant whose adt exists has this many parameters.
+fn ctor_has_params(raw: &RawFacts, variant: &RawVariant, count: usize) -> bool
+    ensures { result ≡ has_params (option_map (variant_arity raw.now.types variant.now) (adt_params raw.now variant.now.adt)) count }
+{
+    match raw.adts.get(variant.adt.0 as usize) {
+        Some(adt) => {
+            let left = less_variant_aliases(raw.types.as_slice(), variant, count);
+            has_params(left, adt.params.len())
+        }
+        None => false,
     }
 }
 

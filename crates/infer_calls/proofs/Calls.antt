@@ -92,6 +92,7 @@ module _ (g : Given) (s : Schedule) (n called : ExprId) (args : List ExprId) (id
     mismatches = λ e m h. h;
     pat_mismatches = λ p m h. h;
     placeholders = λ k t h. h;
+    items = λ p t h. h;
     diagnostics = λ e d h. inl (noted-keeps mid.result.expr_diagnostics n.0 e.0 complaint d h);
     seen = λ e h. record { position = h.position; entry = h.entry; found = h.found; is_node = h.is_node };
   }
@@ -148,6 +149,7 @@ module _ (g : Given) (s : Schedule) (n called : ExprId) (args : List ExprId) (id
         pats = b.state.carried.pats;
         bindings = b.state.carried.bindings;
         placeholders = b.state.carried.placeholders;
+        items = b.state.carried.items;
         found = λ m k t i. elim (noted-cases mid.result.expr_diagnostics n.0 m complaint (diagnostic.ExpectedFunction k t) i) [ inl q ↦ b.state.carried.found m k t q | inr q ↦ absurd (let clash = q.1 in cc) ];
         expected = b.state.carried.expected;
         actual = b.state.carried.actual;
@@ -158,6 +160,8 @@ module _ (g : Given) (s : Schedule) (n called : ExprId) (args : List ExprId) (id
       pat_diagnostics = b.state.pat_diagnostics;
       variants = record { exprs = b.state.variants.exprs; pats = b.state.variants.pats };
       placeholders = b.state.placeholders;
+      items = b.state.items;
+      free_items = b.state.free_items;
       seen = λ i y there. seen_as_kept g mid told complained_extends (λ e d k. noted-keeps mid.result.expr_diagnostics n.0 e.0 complaint d k) refl y (b.state.seen i y there);
       free_exprs = b.state.free_exprs;
       free_pats = b.state.free_pats;
@@ -253,6 +257,7 @@ module _ (g : Given) (s : Schedule) (n called : ExprId) (args : List ExprId) (t 
     mismatches = λ e m h. h;
     pat_mismatches = λ p m h. h;
     placeholders = λ k u h. h;
+    items = λ p u h. h;
     diagnostics = λ e d h. elim (said_of-keeps mid.holes mid.result.expr_diagnostics y e.0 d h) [ inl k ↦ inl k | inr k ↦ inr (own_seen e k) ];
     seen = λ e h. record { position = h.position; entry = h.entry; found = slice_get-append_left mid.result.seen (y ∷ []) h.position h.entry h.found; is_node = h.is_node };
   }
@@ -334,6 +339,7 @@ module _ (g : Given) (s : Schedule) (n called : ExprId) (args : List ExprId) (t 
       pats = b.loose.state.carried.pats;
       bindings = b.loose.state.carried.bindings;
       placeholders = b.loose.state.carried.placeholders;
+      items = b.loose.state.carried.items;
       expected = b.loose.state.carried.expected;
       actual = b.loose.state.carried.actual;
       pat_expected = b.loose.state.carried.pat_expected;
@@ -347,6 +353,8 @@ module _ (g : Given) (s : Schedule) (n called : ExprId) (args : List ExprId) (t 
     pat_diagnostics = b.loose.state.pat_diagnostics;
     variants = record { exprs = b.loose.state.variants.exprs; pats = b.loose.state.variants.pats };
     placeholders = b.loose.state.placeholders;
+    items = b.loose.state.items;
+    free_items = b.loose.state.free_items;
     free_exprs = b.loose.state.free_exprs;
     free_pats = b.loose.state.free_pats;
     free_modes = b.loose.state.free_modes;

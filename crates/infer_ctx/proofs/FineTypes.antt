@@ -215,6 +215,7 @@ module _ (sc : Scope) where
     pats = λ n x i. fine_grown s t x g (h.pats n x i);
     bindings = λ n x i. fine_grown s t x g (h.bindings n x i);
     placeholders = λ n x i. fine_grown s t x g (h.placeholders n x i);
+    items = λ n x i. fine_grown s t x g (h.items n x i);
     found = λ n c x i. fine_grown s t x g (h.found n c x i);
     expected = λ n x i. fine_grown s t x.expected g (h.expected n x i);
     actual = λ n x i. fine_grown s t x.actual g (h.actual n x i);

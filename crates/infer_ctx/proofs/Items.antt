@@ -13,30 +13,27 @@ use Rattle.hir_types.specs.declared.ty.Ty.TheVariants as ty
 use Rattle.hir_raw.specs.declared.raw.RawCtor.{RawCtor}
 use Rattle.hir_raw.specs.declared.raw.RawFacts.{RawFacts}
 use Rattle.hir_raw.specs.declared.raw.RawVariant.{RawVariant}
-use Rattle.hir_raw.specs.Scope.{adt_params, fn_arity, callable_params, Scope, has_params, types_scope}
-use Rattle.hir_raw.specs.Signatures.{Signature, signature_of, ctor_signature, signature_by, field_types, own_adt, fn_signature, fn_types, params_from, type_args}
+use Rattle.hir_raw.specs.Scope.{adt_params, fn_arity, variant_arity, callable_params, Scope, has_params, types_scope}
+use Rattle.hir_raw.specs.Signatures.{Signature, signature_of, ctor_signature, signature_by, taken_types, variant_types, own_adt, fn_signature, fn_types, params_from, type_args}
 use Rattle.hir_raw.specs.declared.raw.RawFn.{RawFn}
 use Rattle.hir_raw.specs.declared.raw.RawType.{RawType}
 use Rattle.hir_facts.specs.CarriedTypes.{is_carried_type, is_carried_arg, AreCarriedArgs, carried_bool, carried_char, carried_integer, carried_tuple, carried_param, carried_type_arg, carried_adt}
 use Rattle.hir_raw.specs.WrittenTypes.{written_type}
 use Rattle.hir_raw.specs.declared.raw.RawAdt.{RawAdt}
 use Rattle.hir_raw.specs.declared.raw.RawField.{RawField}
-use Rattle.hir_laws.proofs.Items.{variant_adt, variant_ctor}
+use Rattle.hir_laws.proofs.Items.{variant_adt, variant_ctor, unit_aliases}
 use Rattle.hir_laws.specs.Below.{IsModuleFn}
 use Rattle.hir_laws.specs.Lawful.{IsLawful}
-use Rattle.hir_laws.specs.WrittenFits.{fields_fit}
-use Rattle.hir_laws.proofs.OpenedTypes.{Each, IsOver, over_input, over_output}
-use Rattle.hir_laws.specs.NoHoles.{field_has_no_hole}
+use Rattle.hir_laws.proofs.OpenedTypes.{Each, IsOver, over_input, over_output, over_field}
 use Rattle.hir_raw.specs.declared.raw.RawCtor.TheVariants as ctor
-use Rattle.infer_ctx.specs.Fine.{HasFineHeads, IsCarriedIn, IsWritten, Every}
+use Rattle.infer_ctx.specs.Fine.{HasFineHeads, IsCarriedIn, Every}
 use Rattle.infer_ctx.specs.Under.{IsItem, IsVariant}
 use Rattle.infer_ctx.proofs.FineTypes.{heads_bool, heads_char, heads_integer, heads_tuple, heads_param, heads_adt}
-use Rattle.infer_ctx.proofs.Written.{is_written}
 
 -- a constructor has a signature where it takes fields
-pub tuple_signature : (raw : RawFacts) (v : VariantId) (x : RawVariant) (n : ℕ) → slice_get raw.variants v.0 ≡ Some x → adt_params raw x.adt ≡ Some n → x.ctor ≡ ctor.Tuple → (σ : Signature) × (signature_of raw (callable.VariantId v) ≡ Some σ) × (σ.params ≡ n)
+pub tuple_signature : (raw : RawFacts) (v : VariantId) (x : RawVariant) (n : ℕ) → slice_get raw.variants v.0 ≡ Some x → adt_params raw x.adt ≡ Some n → x.ctor ≡ ctor.Tuple → (σ : Signature) × (signature_of raw (callable.VariantId v) ≡ Some σ) × (σ.params ≡ variant_arity raw.types x n)
 tuple_signature raw v x n found count tuple = (
-  record { params = n; inputs = field_types raw.types x; output = own_adt x.adt n },
+  record { params = variant_arity raw.types x n; inputs = taken_types raw.types n x; output = own_adt x.adt n },
   ap (λ o. option_and_then (λ z. option_and_then (λ j. ctor_signature raw.types j z) (adt_params raw z.adt)) o) found
       ∙ (ap (λ o. option_and_then (λ j. ctor_signature raw.types j x) o) count ∙ ap (λ k. signature_by k raw.types n x) tuple),
   refl,
@@ -68,16 +65,16 @@ signature_count raw (callable.FunctionId f) σ found = by_fn (slice_get raw.fns 
     by_fn (Some x) made = (let same : fn_signature raw.types x ≡ σ = cc in ap (λ (τ : Signature). Some τ.params) same)
 signature_count raw (callable.VariantId v) σ found = by_variant (slice_get raw.variants v.0) found
   where
-    by_ctor : (x : RawVariant) (n : ℕ) (k : RawCtor) → signature_by k raw.types n x ≡ Some σ → Some n ≡ Some σ.params
-    by_ctor x n ctor.Tuple made = (let same : record { params = n; inputs = field_types raw.types x; output = own_adt x.adt n } ≡ σ = cc in ap (λ (τ : Signature). Some τ.params) same)
+    by_ctor : (x : RawVariant) (n : ℕ) (k : RawCtor) → signature_by k raw.types n x ≡ Some σ → Some (variant_arity raw.types x n) ≡ Some σ.params
+    by_ctor x n ctor.Tuple made = (let same : record { params = variant_arity raw.types x n; inputs = taken_types raw.types n x; output = own_adt x.adt n } ≡ σ = cc in ap (λ (τ : Signature). Some τ.params) same)
     by_ctor x n ctor.Unit made = absurd (cc)
     by_ctor x n ctor.Record made = absurd (cc)
 
-    by_params : (x : RawVariant) (o : Option ℕ) → option_and_then (λ n. ctor_signature raw.types n x) o ≡ Some σ → o ≡ Some σ.params
+    by_params : (x : RawVariant) (o : Option ℕ) → option_and_then (λ n. ctor_signature raw.types n x) o ≡ Some σ → option_map (variant_arity raw.types x) o ≡ Some σ.params
     by_params x None made = absurd (cc)
     by_params x (Some n) made = by_ctor x n x.ctor made
 
-    by_variant : (o : Option RawVariant) → option_and_then (λ x. option_and_then (λ n. ctor_signature raw.types n x) (adt_params raw x.adt)) o ≡ Some σ → option_and_then (λ x. adt_params raw x.adt) o ≡ Some σ.params
+    by_variant : (o : Option RawVariant) → option_and_then (λ x. option_and_then (λ n. ctor_signature raw.types n x) (adt_params raw x.adt)) o ≡ Some σ → option_and_then (λ x. option_map (variant_arity raw.types x) (adt_params raw x.adt)) o ≡ Some σ.params
     by_variant None made = absurd (cc)
     by_variant (Some x) made = by_params x (adt_params raw x.adt) made
 
@@ -97,23 +94,27 @@ params_heads sc i (suc n) h =
     let rest : suc i + n ≤ sc.params = omega (arith, h) in
     (heads_param sc i (lt-ltb i sc.params here), params_heads sc (suc i) n rest)
 
-own_adt_known : (raw : RawFacts) (a : AdtId) (n : ℕ) → adt_params raw a ≡ Some n → IsCarriedIn (types_scope raw n) (own_adt a n)
-own_adt_known raw a n count =
+own_adt_known : (raw : RawFacts) (a : AdtId) (n m : ℕ) → n ≤ m → adt_params raw a ≡ Some n → IsCarriedIn (types_scope raw m) (own_adt a n)
+own_adt_known raw a n m le count =
     let us : List Ty = params_from 0 n in
     let takes : has_params (adt_params raw a) (length us) ≡ true = ap (λ o. has_params o (length us)) count ∙ eq-eqb n (length us) (sym (params_length 0 n)) in
     record {
       carried = carried_adt a (type_args us) ∙ params_carried 0 n;
-      heads = heads_adt (types_scope raw n) a us takes (params_heads (types_scope raw n) 0 n (omega arith));
+      heads = heads_adt (types_scope raw m) a us takes (params_heads (types_scope raw m) 0 n (omega (arith, le)));
     }
 
 -- ---- what signatures are written with
-known : (raw : RawFacts) (n : ℕ) (w : TypeRefId) → IsWritten (types_scope raw n) w → IsCarriedIn (types_scope raw n) (written_type raw.types w)
-known raw n w h = record { carried = h.carried; heads = h.heads }
-
 all_known : (raw : RawFacts) (n : ℕ) (types : List RawType) (ws : List TypeRefId) → ((k : ℕ) (w : TypeRefId) → slice_get ws k ≡ Some w → IsCarriedIn (types_scope raw n) (written_type types w)) → (k : ℕ) (t : Ty) → slice_get (map (written_type types) ws) k ≡ Some t → IsCarriedIn (types_scope raw n) t
 all_known raw n types [] h k t is = absurd (cc)
 all_known raw n types (w ∷ ws) h zero t is = (let same : written_type types w ≡ t = cc in subst (λ u. IsCarriedIn (types_scope raw n) u) same (h 0 w refl))
 all_known raw n types (w ∷ ws) h (suc k) t is = all_known raw n types ws (λ j v e. h (suc j) v e) k t is
+
+all_fields : (raw : RawFacts) (n : ℕ) (types : List RawType) (fs : List RawField)
+    → ((k : ℕ) (f : RawField) → slice_get fs k ≡ Some f → IsCarriedIn (types_scope raw n) (written_type types f.type_))
+    → (k : ℕ) (t : Ty) → slice_get (map (λ (f : RawField). written_type types f.type_) fs) k ≡ Some t → IsCarriedIn (types_scope raw n) t
+all_fields raw n types [] h k t is = absurd (cc)
+all_fields raw n types (f ∷ fs) h zero t is = (let same : written_type types f.type_ ≡ t = cc in subst (λ u. IsCarriedIn (types_scope raw n) u) same (h 0 f refl))
+all_fields raw n types (f ∷ fs) h (suc k) t is = all_fields raw n types fs (λ j g e. h (suc j) g e) k t is
 
 -- ---- over the kinds of written types
 
@@ -169,13 +170,12 @@ module _ (raw : RawFacts) (law : IsLawful raw) where
   pub named_function : (f : FunctionId) → IsModuleFn raw f → IsItem raw (callable.FunctionId f)
   named_function f (x, found, stands) = function_item f x found
 
-  fields_known : (v : VariantId) (x : RawVariant) (a : RawAdt) → slice_get raw.variants v.0 ≡ Some x → slice_get raw.adts x.adt.0 ≡ Some a → (k : ℕ) (t : Ty) → slice_get (field_types raw.types x) k ≡ Some t → IsCarriedIn (types_scope raw (length a.params)) t
-  fields_known v x a found adt k t is = among x.fields (λ j f e. is_written raw law (length a.params) false f.type_ (fields_fit raw law v.0 x a found adt j f e) (field_has_no_hole raw law v.0 x found j f e)) k is
-    where
-      among : (fs : List RawField) → ((j : ℕ) (f : RawField) → slice_get fs j ≡ Some f → IsWritten (types_scope raw (length a.params)) f.type_) → (i : ℕ) → slice_get (map (λ f. written_type raw.types f.type_) fs) i ≡ Some t → IsCarriedIn (types_scope raw (length a.params)) t
-      among [] h i e = absurd (cc)
-      among (f ∷ fs) h zero e = (let same : written_type raw.types f.type_ ≡ t = cc in subst (λ u. IsCarriedIn (types_scope raw (length a.params)) u) same (known raw (length a.params) f.type_ (h 0 f refl)))
-      among (f ∷ fs) h (suc i) e = among fs (λ j y q. h (suc j) y q) i e
+  -- so is what a constructor takes
+  fields_known : (v : VariantId) (x : RawVariant) (a : RawAdt) → slice_get raw.variants v.0 ≡ Some x → slice_get raw.adts x.adt.0 ≡ Some a
+      → (k : ℕ) (t : Ty) → slice_get (taken_types raw.types (length a.params) x) k ≡ Some t → IsCarriedIn (types_scope raw (variant_arity raw.types x (length a.params))) t
+  fields_known v x a found adt k t is =
+      let n : ℕ = variant_arity raw.types x (length a.params) in
+      all_fields raw n (variant_types raw.types (length a.params) x) x.fields (λ j f e. over_field raw law v.0 x a found adt (IsCarriedIn (types_scope raw n)) (over_known raw n) j f e) k t is
 
   -- a variant whose constructor is named
   pub named_variant : (v : VariantId) (x : RawVariant) → slice_get raw.variants v.0 ≡ Some x → IsVariant raw v
@@ -188,6 +188,7 @@ module _ (raw : RawFacts) (law : IsLawful raw) where
         count = ap (option_map (λ y. length y.params)) a.1;
         fields = fields_known v x a.0 found a.1;
         unnamed = variant_ctor raw law v.0 x found;
+        unit = λ is. unit_aliases raw law v.0 x found is;
       }
 
   -- and the constructor as an item, where it takes fields
@@ -195,15 +196,16 @@ module _ (raw : RawFacts) (law : IsLawful raw) where
   unfolding named_variant
   tuple_item v x found tuple =
       let y = named_variant v x found in
-      let made : ctor_signature raw.types y.params x ≡ Some (record { params = y.params; inputs = field_types raw.types x; output = own_adt x.adt y.params }) = ap (λ k. signature_by k raw.types y.params x) tuple in
+      let m : ℕ = variant_arity raw.types x y.params in
+      let made : ctor_signature raw.types y.params x ≡ Some (record { params = m; inputs = taken_types raw.types y.params x; output = own_adt x.adt y.params }) = ap (λ k. signature_by k raw.types y.params x) tuple in
       record {
-        signature = record { params = y.params; inputs = field_types raw.types x; output = own_adt x.adt y.params };
+        signature = record { params = m; inputs = taken_types raw.types y.params x; output = own_adt x.adt y.params };
         found =
             ap (λ o. option_and_then (λ z. option_and_then (λ j. ctor_signature raw.types j z) (adt_params raw z.adt)) o) found
             ∙ (ap (λ o. option_and_then (λ j. ctor_signature raw.types j x) o) y.count ∙ made);
-        count = ap (λ o. option_and_then (λ z. adt_params raw z.adt) o) found ∙ y.count;
+        count = ap (λ o. option_and_then (λ z. option_map (variant_arity raw.types z) (adt_params raw z.adt)) o) found ∙ ap (option_map (variant_arity raw.types x)) y.count;
         inputs = y.fields;
-        output = own_adt_known raw x.adt y.params y.count;
+        output = own_adt_known raw x.adt y.params m (omega arith) y.count;
       }
 
   -- each item that has a signature

@@ -1,9 +1,10 @@
 -- What is judged stays so, as more is recorded: one lemma for each judgement.
-use Rattle.std.proofs.Common.{inl, inr, ℕ, ◌≡◌, ap, unwrap_or, option_and_then, ◌∙◌, sym, subst, ◌⊎◌, List, [], ◌∷◌, map, true, false, Option, Some, None, slice_get}
+use Rattle.std.proofs.Common.{inl, inr, ℕ, ◌≡◌, ap, unwrap_or, option_and_then, ◌∙◌, sym, subst, ◌⊎◌, List, [], ◌∷◌, ◌++◌, map, length, true, false, Option, Some, None, slice_get}
 use Rattle.hir_types.specs.declared.ty.Ty.{Ty}
 use Rattle.hir_types.specs.declared.ids.ExprId.{ExprId}
 use Rattle.hir_types.specs.declared.ids.PatId.{PatId}
 use Rattle.hir_types.specs.declared.ids.TypeRefId.{TypeRefId}
+use Rattle.hir_types.specs.declared.ids.VariantId.{VariantId}
 use Rattle.hir_types.specs.Types.{unit}
 use Rattle.hir_types.specs.Subst.{Assignment, folded}
 use Rattle.hir_types.specs.declared.ty.Ty.TheVariants as ty
@@ -12,6 +13,7 @@ use Rattle.hir_raw.specs.declared.raw.RawArm.{RawArm}
 use Rattle.hir_raw.specs.declared.raw.RawStmt.{RawStmt}
 use Rattle.hir_raw.specs.declared.raw.RawExpr.{RawExpr}
 use Rattle.hir_raw.specs.declared.raw.RawPat.{RawPat}
+use Rattle.hir_raw.specs.declared.raw.RawVariant.{RawVariant}
 use Rattle.hir_raw.specs.Signatures.{Signature, at_args}
 use Rattle.hir_facts.specs.Filled.{filled_agree}
 use Rattle.hir_raw.specs.Order.{Role, initializer, let_pattern, tail, element, condition, then_branch, else_branch, scrutinee, arm_pattern, guard, arm, argument, subpattern, Node, the_body, inner}
@@ -37,7 +39,7 @@ use Rattle.infer_result.specs.Kinds.If.{branches_of, ElseRule}
 use Rattle.infer_result.specs.Kinds.Match.{arm_exprs, ArmPatterns, GuardRule, ArmsRule}
 use Rattle.infer_result.specs.Rules.{Rule, ObeysOrMismatch, PatRule}
 use Rattle.infer_result.specs.Pats.Tuple.{AllPatsAt}
-use Rattle.infer_result.specs.Pats.Constructor.{PatsAtFields}
+use Rattle.infer_result.specs.Pats.Constructor.{PatsAtFields, IsItemOf, IsPatOf}
 use Rattle.infer_result.specs.Truth.Mismatch.{IsTruePatMismatch}
 use Rattle.infer_result.specs.Truth.Seen.{IsTrueSeen}
 use Rattle.infer_result.specs.Truth.Diagnostics.{IsTrueDiagnostic}
@@ -59,6 +61,7 @@ extends_refl a = record {
   mismatches = λ e m h. h;
   pat_mismatches = λ p m h. h;
   placeholders = λ k t h. h;
+  items = λ p t h. h;
   diagnostics = λ e d h. inl h;
   seen = λ e h. h;
 }
@@ -72,6 +75,7 @@ extends_trans a b c x y = record {
   mismatches = λ e m h. y.mismatches e m (x.mismatches e m h);
   pat_mismatches = λ p m h. y.pat_mismatches p m (x.pat_mismatches p m h);
   placeholders = λ k t h. y.placeholders k t (x.placeholders k t h);
+  items = λ p t h. y.items p t (x.items p t h);
   diagnostics = λ e d h. elim (x.diagnostics e d h) [ inl k ↦ y.diagnostics e d k | inr k ↦ inr (y.seen e k) ];
   seen = λ e h. y.seen e (x.seen e h);
   pat_diagnostics = λ p d h. y.pat_diagnostics p d (x.pat_diagnostics p d h);
@@ -243,6 +247,14 @@ module _ (g : Given) (a b : InferenceResult) (x : Extends a b) where
   fields_kept (p ∷ ps) [] h = tt
   fields_kept (p ∷ ps) (t ∷ ts) h = (pat_at_kept p t h.0, fields_kept ps ts h.1)
 
+  item_kept : (p : PatId) (v : VariantId) (ts hs : List Ty) → IsItemOf a p v ts hs → IsItemOf b p v ts hs
+  item_kept p v ts [] h = tt
+  item_kept p v ts (u ∷ hs) h = x.items p _ h
+
+  -- what a pattern is of
+  pub pat_of_kept : (p : PatId) (v : VariantId) (y : RawVariant) (ts hs : List Ty) → IsPatOf g a p v y ts hs → IsPatOf g b p v y ts hs
+  pat_of_kept p v y ts hs h = record { is_variant = h.is_variant; is_ctor = h.is_ctor; has = x.pats p _ h.has; item = item_kept p v ts hs h.item }
+
   pub pat_kept : (p : PatId) (o : Option RawPat) → PatRule g a p o → PatRule g b p o
   pat_kept p None h = h
   pat_kept p (Some pat.Wild) (t, h) = (t, x.pats p t h)
@@ -251,9 +263,9 @@ module _ (g : Given) (a b : InferenceResult) (x : Extends a b) where
   pat_kept p (Some (pat.TupleStruct v ps)) h = record {
     variant = h.variant;
     types = h.types;
-    is_variant = h.is_variant;
-    has = x.pats p _ h.has;
-    parts = fields_kept ps (fields_at g h.variant h.types) h.parts;
+    hidden = h.hidden;
+    is = pat_of_kept p v h.variant h.types h.hidden h.is;
+    parts = fields_kept ps (fields_at g h.variant (length h.types) (h.types ++ h.hidden)) h.parts;
     counted = elim h.counted [ inl k ↦ inl k | inr k ↦ inr (x.pat_diagnostics p _ k) ];
     resolved = x.pat_variants p v h.resolved;
   }
@@ -318,8 +330,8 @@ module _ (g : Given) (a b : InferenceResult) (x : Extends a b) where
     is_pat = h.is_pat;
     variant = h.variant;
     types = h.types;
-    is_variant = h.is_variant;
-    has = x.pats p _ h.has;
+    hidden = h.hidden;
+    is = pat_of_kept p h.named h.variant h.types h.hidden h.is;
     field = h.field;
   })
 

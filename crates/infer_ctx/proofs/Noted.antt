@@ -23,6 +23,7 @@ noted_extends c e m = record {
   mismatches = λ n y h. noted-keeps c.result.expr_mismatches e.0 n.0 m y h;
   pat_mismatches = λ p y h. h;
   placeholders = λ k t h. h;
+  items = λ p t h. h;
   diagnostics = λ n d h. inl h;
   seen = λ n h. record { position = h.position; entry = h.entry; found = h.found; is_node = h.is_node };
   pat_diagnostics = λ p d h. h;
@@ -41,6 +42,7 @@ noted_walked g s c e m x y h = record {
     pats = h.carried.pats;
     bindings = h.carried.bindings;
     placeholders = h.carried.placeholders;
+    items = h.carried.items;
     found = h.carried.found;
     expected = λ n k i. elim (noted-cases c.result.expr_mismatches e.0 n m k i) [ inl q ↦ h.carried.expected n k q | inr q ↦ subst (λ z. IsCarriedType z.expected) q.1 x ];
     actual = λ n k i. elim (noted-cases c.result.expr_mismatches e.0 n m k i) [ inl q ↦ h.carried.actual n k q | inr q ↦ subst (λ z. IsCarriedType z.actual) q.1 y ];
@@ -51,6 +53,8 @@ noted_walked g s c e m x y h = record {
   pat_diagnostics = h.pat_diagnostics;
   variants = record { exprs = h.variants.exprs; pats = h.variants.pats };
   placeholders = h.placeholders;
+  items = h.items;
+  free_items = h.free_items;
   seen = λ i y at. seen_as_kept g c (with_mismatch c e m) (noted_extends c e m) (λ n d k. k) refl y (h.seen i y at);
   diagnostics = λ n d i. diagnostic_kept g c.result (with_mismatch c e m).result (noted_extends c e m) n d (h.diagnostics n d i);
   free_exprs = h.free_exprs;

@@ -26,11 +26,13 @@ entered_within g s e x c h = record {
     pat_diagnostics = h.state.pat_diagnostics;
     variants = h.state.variants;
     placeholders = h.state.placeholders;
+    items = h.state.items;
     seen = λ i y at. seen_as_entered g c y (h.state.seen i y at);
     diagnostics = h.state.diagnostics;
     free_exprs = λ n i k. h.state.free_exprs n i (omega arith);
     free_pats = λ p i k. h.state.free_pats p i (omega arith);
     free_modes = λ p i k. h.state.free_modes p i (omega arith);
+    free_items = λ p i k. h.state.free_items p i (omega arith);
     free_bindings = λ p v i k. h.state.free_bindings p v i (omega arith);
     bound = λ p v i k.
         elim (lt_or_ge (pat_start g.body s p) c.clock) [
@@ -67,6 +69,7 @@ module _ (g : Given) (s : Schedule) (e : ExprId) (x : Option Ty) (t : Ty) (old l
     mismatches = λ n m i. i;
     pat_mismatches = λ p m i. i;
     placeholders = λ k u i. i;
+    items = λ p u i. i;
     diagnostics = λ n d i. inl i;
     seen = λ n h. record { position = h.position; entry = h.entry; found = h.found; is_node = h.is_node };
   }
@@ -93,6 +96,7 @@ module _ (g : Given) (s : Schedule) (e : ExprId) (x : Option Ty) (t : Ty) (old l
         pats = c.pats;
         bindings = c.bindings;
         placeholders = c.placeholders;
+        items = c.items;
         found = c.found;
         expected = c.expected;
         actual = c.actual;
@@ -108,12 +112,14 @@ module _ (g : Given) (s : Schedule) (e : ExprId) (x : Option Ty) (t : Ty) (old l
     pat_diagnostics = k.walks.state.pat_diagnostics;
     variants = record { exprs = k.walks.state.variants.exprs; pats = k.walks.state.variants.pats };
     placeholders = k.walks.state.placeholders;
+    items = k.walks.state.items;
     seen = λ i y at. seen_as_kept g last new extends (λ n d q. q) refl y (k.walks.state.seen i y at);
     diagnostics = λ n d i. diagnostic_kept g last.result new.result extends n d (k.walks.state.diagnostics n d i);
     free_exprs = λ n i lo.
         other_type n (omega (arith, k.walks.clock, h.here)) ∙ k.walks.state.free_exprs n i lo;
     free_pats = k.walks.state.free_pats;
     free_modes = k.walks.state.free_modes;
+    free_items = k.walks.state.free_items;
     free_bindings = k.walks.state.free_bindings;
     bound = k.walks.state.bound;
   }

@@ -28,7 +28,7 @@ use Rattle.hir_raw.specs.declared.raw.RawExpr.{RawExpr}
 use Rattle.hir_raw.specs.declared.raw.RawArm.{RawArm}
 use Rattle.hir_raw.specs.declared.raw.RawLiteral.{RawLiteral}
 use Rattle.hir_raw.specs.declared.raw.RawStmt.{RawStmt}
-use Rattle.hir_raw.specs.Scope.{names_item, adt_params}
+use Rattle.hir_raw.specs.Scope.{names_item, callable_params}
 use Rattle.hir_raw.specs.Order.{Role, parameter, let_pattern, Part, pat_part, param_parts, root, expr_part, the_body, arm_pattern, subpattern, Node, part_at, binding_of, Binds}
 use Rattle.hir_raw.specs.declared.raw.RawBody.{RawBody}
 use Rattle.hir_raw.specs.declared.schedule.Schedule.{Schedule}
@@ -173,7 +173,7 @@ module _ (g : Given) where
       same_telling g e (ty.Tuple ts) t (sym same)
       (tells_by e (Some (expr.Tuple es)) is (ty.Tuple ts) (λ s up. absurd up) (λ h has. tuple_head ts ∙ (ap (λ n. Some (tuple n)) count ∙ ap (λ k. Some k) (sym has))))
 
-  pub ctor_tells : (e : ExprId) (v : VariantId) (x : RawVariant) (ts : List Ty) (t : Ty) → At e ≡ Some (expr.Path (path.Ctor v)) → slice_get g.scope.facts.variants v.0 ≡ Some x → adt_params g.scope.facts x.adt ≡ Some (length ts) → t ≡ ctor_type x v ts → Tells g e t
+  pub ctor_tells : (e : ExprId) (v : VariantId) (x : RawVariant) (ts : List Ty) (t : Ty) → At e ≡ Some (expr.Path (path.Ctor v)) → slice_get g.scope.facts.variants v.0 ≡ Some x → callable_params g.scope.facts (callable.VariantId v) ≡ Some (length ts) → t ≡ ctor_type x v ts → Tells g e t
   ctor_tells e v x ts t is found count same =
       same_telling g e (ctor_type x v ts) t (sym same) (tells_by e (Some (expr.Path (path.Ctor v))) is (ctor_type x v ts) (λ s up. of_unit_path s up.0 up.1 up.2) (λ h has. of_any_path h has.0 has.1 has.2 has.3))
     where
@@ -186,7 +186,7 @@ module _ (g : Given) where
           let there = n.is_variant in
           let here : n.variant ≡ v = cc in
           let one : y ≡ x = cc in
-          let none : ts ≡ [] = no_types ts (counted_none count (subst (λ (y : RawVariant). adt_params g.scope.facts y.adt ≡ Some 0) one n.non_generic)) in
+          let none : ts ≡ [] = no_types ts (counted_none count (subst (λ (i : VariantId). callable_params g.scope.facts (callable.VariantId i) ≡ Some 0) here n.non_generic)) in
           ctor_type_of_unit x v ts (subst (λ (y : RawVariant). y.ctor ≡ ctor.Unit) one n.unit) ∙ (ap (λ us. ty.Adt x.adt (type_args us)) none ∙ (ap (λ (y : RawVariant). ty.Adt y.adt []) (sym one) ∙ sym same))
 
       of_any_path : (h : Outermost) (y : RawVariant) (us : List Ty) → slice_get g.scope.facts.variants v.0 ≡ Some y → HasHead (ctor_type y v us) h → HasHead (ctor_type x v ts) h

@@ -20,6 +20,7 @@ every P Q t f h = record {
   pats = λ n s i. f s (h.pats n s i);
   bindings = λ n s i. f s (h.bindings n s i);
   placeholders = λ k s i. f s (h.placeholders k s i);
+  items = λ n s i. f s (h.items n s i);
   expected = λ n x i. f x.expected (h.expected n x i);
   actual = λ n x i. f x.actual (h.actual n x i);
   pat_expected = λ n x i. f x.expected (h.pat_expected n x i);

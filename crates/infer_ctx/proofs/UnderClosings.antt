@@ -191,6 +191,7 @@ of_body_unclosed a b asked r h = assumption (
   sym (length-closed (folded a) r.type_of_expr) ∙ h.exprs,
   sym (length-closed (folded a) r.type_of_pat) ∙ h.pats,
   sym (length-closed (folded a) r.type_of_binding) ∙ h.bindings,
+  sym (length-closed (folded a) r.item_of_pat) ∙ h.items,
   sym (length-closed_mismatches a asked r.expr_mismatches) ∙ h.mismatches,
   sym (length-closed (closed_mismatch a) r.pat_mismatches) ∙ h.pat_mismatches,
   sym (length-said a r.seen r.expr_diagnostics) ∙ h.diagnostics,
@@ -216,6 +217,9 @@ module _ (b : RawBody) (c : InferenceContext) (h : IsOfBody b c.result) where
 
   pub of_body_pat_ty : (p : PatId) (t : Ty) → IsOfBody b (context.with_pat_ty c p t).result
   of_body_pat_ty p t = assumption (length-set c.result.type_of_pat p.0 (Some t) ∙ h.pats, h)
+
+  pub of_body_pat_item : (p : PatId) (t : Ty) → IsOfBody b (context.with_pat_item c p t).result
+  of_body_pat_item p t = assumption (length-set c.result.item_of_pat p.0 (Some t) ∙ h.items, h)
 
   pub of_body_mode : (p : PatId) (m : BindingMode) → IsOfBody b (context.with_mode c p m).result
   of_body_mode p m = assumption (length-set c.result.binding_modes p.0 (Some m) ∙ h.modes, h)
@@ -245,6 +249,9 @@ module _ (a : Assignment) (c : InferenceContext) where
 
   pub pat_ty_under : (p : PatId) (t : Ty) → found_under a (context.with_pat_ty c p t) ≡ found.with_pat_ty (found_under a c) p (folded a t)
   pat_ty_under p t = ap (λ xs. record { result = record (closed_table a c.asked c.result) { type_of_pat = xs }; clock = c.clock; holes = a }) (set-closed (folded a) c.result.type_of_pat p.0 t)
+
+  pub pat_item_under : (p : PatId) (t : Ty) → found_under a (context.with_pat_item c p t) ≡ found.with_pat_item (found_under a c) p (folded a t)
+  pat_item_under p t = ap (λ xs. record { result = record (closed_table a c.asked c.result) { item_of_pat = xs }; clock = c.clock; holes = a }) (set-closed (folded a) c.result.item_of_pat p.0 t)
 
   pub binding_ty_under : (v : BindingId) (t : Ty) → found_under a (context.with_binding_ty c v t) ≡ found.with_binding_ty (found_under a c) v (folded a t)
   binding_ty_under v t = ap (λ xs. record { result = record (closed_table a c.asked c.result) { type_of_binding = xs }; clock = c.clock; holes = a }) (set-closed (folded a) c.result.type_of_binding v.0 t)
@@ -349,6 +356,7 @@ module _ {sc : Scope} (c : InferenceContext) (s : IsSound sc c) where
     pats = s.fine.pats;
     bindings = s.fine.bindings;
     placeholders = s.fine.placeholders;
+    items = s.fine.items;
     expected = s.fine.expected;
     actual = s.fine.actual;
     pat_expected = s.fine.pat_expected;
@@ -369,6 +377,12 @@ module _ {sc : Scope} (c : InferenceContext) (s : IsSound sc c) where
   pub sound_pat_ty : (p : PatId) (t : Ty) → IsFine sc c.goals.table t → IsSound sc (context.with_pat_ty c p t)
   sound_pat_ty p t h = sound_with c (context.with_pat_ty c p t).result c.clock s (assumption (
     set_keeps (IsFine sc c.goals.table) c.result.type_of_pat p.0 t s.fine.pats h,
+    s.fine,
+  )) (assumption s.seen)
+
+  pub sound_pat_item : (p : PatId) (t : Ty) → IsFine sc c.goals.table t → IsSound sc (context.with_pat_item c p t)
+  sound_pat_item p t h = sound_with c (context.with_pat_item c p t).result c.clock s (assumption (
+    set_keeps (IsFine sc c.goals.table) c.result.item_of_pat p.0 t s.fine.items h,
     s.fine,
   )) (assumption s.seen)
 
@@ -393,6 +407,7 @@ module _ {sc : Scope} (c : InferenceContext) (s : IsSound sc c) where
     pats = s.fine.pats;
     bindings = s.fine.bindings;
     placeholders = s.fine.placeholders;
+    items = s.fine.items;
     expected = s.fine.expected;
     actual = s.fine.actual;
     pat_expected = s.fine.pat_expected;

@@ -1,11 +1,13 @@
 -- What a callable item takes and gives.
-use Rattle.std.specs.Prelude.{List, ◌≡◌, map, length, Some, Option, None}
+use Rattle.std.specs.Prelude.{ℕ, List, ◌≡◌, map, length, Some, Option, None, take}
 use Rattle.hir_types.specs.declared.ids.TypeRefId.{TypeRefId}
 use Rattle.hir_types.specs.declared.ty.GenericArg.{GenericArg}
 use Rattle.hir_types.specs.declared.ty.Ty.{Ty}
 use Rattle.hir_types.specs.Assigned.{with_params}
 use Rattle.hir_types.specs.Subst.{replaced}
 use Rattle.hir_types.specs.declared.ids.CallableDefId.{CallableDefId}
+use Rattle.hir_types.specs.declared.ids.CallableDefId.TheVariants as callable
+use Rattle.hir_types.specs.declared.ids.VariantId.{VariantId}
 use Rattle.hir_types.specs.declared.ty.Ty.TheVariants as ty
 use Rattle.hir_raw.specs.declared.raw.RawType.{RawType}
 use Rattle.hir_raw.specs.WrittenTypes.{written_type}
@@ -13,7 +15,7 @@ use Rattle.hir_raw.specs.declared.raw.RawField.{RawField}
 use Rattle.hir_raw.specs.declared.raw.RawFn.{RawFn}
 use Rattle.hir_raw.specs.declared.raw.RawVariant.{RawVariant}
 use Rattle.hir_raw.specs.declared.raw.RawFacts.{RawFacts}
-use Rattle.hir_raw.specs.Signatures.{Signature, fn_types, signature_of, type_args, at_args}
+use Rattle.hir_raw.specs.Signatures.{Signature, fn_types, variant_types, signature_of, type_args, at_args}
 use Rattle.infer_ctx.specs.declared.given.CallableSig.{CallableSig}
 
 -- what the written type stands for, with these arguments in the place of parameters
@@ -28,10 +30,14 @@ pub record IsFnSig (types : List RawType) (x : RawFn) (xs : List GenericArg) (si
   pub inputs : sig.inputs ≡ map (written_at (fn_types types x) xs) x.inputs
   pub output : sig.output ≡ written_at (fn_types types x) xs x.output
 
--- it is what the constructor takes and gives
-pub record IsCtorSig (types : List RawType) (x : RawVariant) (xs : List GenericArg) (sig : CallableSig) : Type 0 where
-  pub inputs : sig.inputs ≡ map (field_at types xs) x.fields
-  pub output : sig.output ≡ ty.Adt x.adt xs
+-- the constructor at these arguments
+abbrev pub ctor_at : VariantId → List GenericArg → Ty
+ctor_at v xs = ty.FnDef (callable.VariantId v) xs
+
+-- it is what the constructor takes and gives, of an adt with n parameters
+pub record IsCtorSig (types : List RawType) (n : ℕ) (x : RawVariant) (xs : List GenericArg) (sig : CallableSig) : Type 0 where
+  pub inputs : sig.inputs ≡ map (field_at (variant_types types n x) xs) x.fields
+  pub output : sig.output ≡ ty.Adt x.adt (take n xs)
 
 -- the type is that of an item that can be called, at as many types as it has parameters
 pub record IsCallableItem (facts : RawFacts) (t : Ty) : Type 0 where

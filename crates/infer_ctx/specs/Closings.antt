@@ -75,6 +75,7 @@ closed_table a asked r = record {
   type_of_expr = closed_types a r.type_of_expr;
   type_of_pat = closed_types a r.type_of_pat;
   type_of_binding = closed_types a r.type_of_binding;
+  item_of_pat = closed_types a r.item_of_pat;
   type_of_placeholder = closed_types a r.type_of_placeholder;
   binding_modes = r.binding_modes;
   expr_mismatches = closed_mismatches a asked r.expr_mismatches;
@@ -87,6 +88,7 @@ closed_table a asked r = record {
   proofs = r.proofs;
   projections = r.projections;
   expr_gaps = r.expr_gaps;
+  pat_gaps = r.pat_gaps;
   general = r.general;
 }
 

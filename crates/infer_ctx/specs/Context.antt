@@ -149,6 +149,9 @@ with_pat_diagnostic c p x = record c { result = writes.pat_diagnostic c.result p
 abbrev pub with_pat_ty : InferenceContext → PatId → Ty → InferenceContext
 with_pat_ty c p t = record c { result = writes.pat_ty c.result p t }
 
+abbrev pub with_pat_item : InferenceContext → PatId → Ty → InferenceContext
+with_pat_item c p t = record c { result = writes.pat_item c.result p t }
+
 abbrev pub with_mode : InferenceContext → PatId → BindingMode → InferenceContext
 with_mode c p m = record c { result = writes.mode c.result p m }
 

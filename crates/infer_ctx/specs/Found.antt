@@ -59,6 +59,9 @@ with_pat_diagnostic c p x = record c { result = writes.pat_diagnostic c.result p
 abbrev pub with_pat_ty : Found → PatId → Ty → Found
 with_pat_ty c p t = record c { result = writes.pat_ty c.result p t }
 
+abbrev pub with_pat_item : Found → PatId → Ty → Found
+with_pat_item c p t = record c { result = writes.pat_item c.result p t }
+
 abbrev pub with_mode : Found → PatId → BindingMode → Found
 with_mode c p m = record c { result = writes.mode c.result p m }
 

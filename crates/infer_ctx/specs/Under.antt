@@ -1,5 +1,5 @@
 -- What each function of the walk is given, and what it does, under one assignment of types to holes.
-use Rattle.std.specs.Prelude.{ℕ, ◌≡◌, slice_get, Some, ◌⊎◌, Option, ◌<◌, ◌^◌, List, length, None, ◌+◌}
+use Rattle.std.specs.Prelude.{ℕ, ◌≡◌, slice_get, Some, ◌⊎◌, Option, ◌<◌, ◌^◌, List, [], length, None, ◌+◌}
 use Rattle.hir_types.specs.declared.ids.CallableDefId.{CallableDefId}
 use Rattle.hir_types.specs.declared.ty.Ty.{Ty}
 use Rattle.hir_types.specs.declared.ids.VariantId.{VariantId}
@@ -9,8 +9,9 @@ use Rattle.hir_types.specs.declared.ids.PatId.{PatId}
 use Rattle.hir_types.specs.declared.ids.TypeRefId.{TypeRefId}
 use Rattle.hir_types.specs.declared.ids.CallableDefId.TheVariants as callable
 use Rattle.hir_raw.specs.declared.raw.RawFacts.{RawFacts}
-use Rattle.hir_raw.specs.Scope.{callable_params, adt_params, types_scope}
-use Rattle.hir_raw.specs.Signatures.{Signature, signature_of, field_types}
+use Rattle.hir_raw.specs.Scope.{callable_params, adt_params, variant_arity, types_scope}
+use Rattle.hir_raw.specs.Hidden.{variant_aliases}
+use Rattle.hir_raw.specs.Signatures.{Signature, signature_of, taken_types}
 use Rattle.hir_raw.specs.declared.raw.RawVariant.{RawVariant}
 use Rattle.hir_laws.specs.WrittenFits.{FitsThere}
 use Rattle.hir_raw.specs.Order.{stmt_at, end, the_body, Node, Part, IsNode, part_at, Fits}
@@ -40,14 +41,15 @@ pub record IsItem (facts : RawFacts) (id : CallableDefId) : Type 0 where
   pub inputs : (k : ℕ) (t : Ty) → slice_get signature.inputs k ≡ Some t → IsCarriedIn (types_scope facts signature.params) t
   pub output : IsCarriedIn (types_scope facts signature.params) signature.output
 
--- the variant exists, its fields have no names, and what they are written with is in its adt's scope
+-- the variant exists, its fields have no names, and what its constructor takes is in the scope of that
 pub record IsVariant (facts : RawFacts) (v : VariantId) : Type 0 where
   pub variant : RawVariant
   pub found : slice_get facts.variants v.0 ≡ Some variant
   pub params : ℕ
   pub count : adt_params facts variant.adt ≡ Some params
-  pub fields : (k : ℕ) (t : Ty) → slice_get (field_types facts.types variant) k ≡ Some t → IsCarriedIn (types_scope facts params) t
+  pub fields : (k : ℕ) (t : Ty) → slice_get (taken_types facts.types params variant) k ≡ Some t → IsCarriedIn (types_scope facts (variant_arity facts.types variant params)) t
   pub unnamed : (variant.ctor ≡ ctor.Unit) ⊎ (variant.ctor ≡ ctor.Tuple)
+  pub unit : variant.ctor ≡ ctor.Unit → variant_aliases facts.types variant ≡ []
 
 -- each type that a `let` of the body is written with is one of the facts', what is known of an associated type in it and the type of a parameter
 -- are in scope, each function and constructor that

@@ -16,8 +16,8 @@ use Rattle.infer_result.specs.declared.result.InferenceResult.{InferenceResult}
 use Rattle.infer_result.specs.declared.result.TypeMismatch.{TypeMismatch}
 use Rattle.infer_result.specs.declared.modes.BindingMode.{BindingMode}
 use Rattle.infer_result.specs.declared.diagnostics.InferenceDiagnostic.{InferenceDiagnostic}
-use Rattle.infer_result.specs.Table.{At, HasTy, PatTy, BindingTy, PlaceholderTy, HasMode, ExprVariant, PatVariant, WasSeen}
-use Rattle.infer_result.specs.Closed.{AllTypes, IsOfBody, OnlyBindersHaveModes}
+use Rattle.infer_result.specs.Table.{At, HasTy, PatTy, PatItem, BindingTy, PlaceholderTy, HasMode, ExprVariant, PatVariant, WasSeen}
+use Rattle.infer_result.specs.Closed.{AllTypes, IsOfBody, OnlyBindersHaveModes, OnlyCtorPatsHaveItems}
 use Rattle.infer_result.specs.declared.result.Seen.{Seen}
 use Rattle.infer_result.specs.Places.{Given, OnlyPlaceholdersHaveTypes}
 use Rattle.infer_result.specs.Demands.{Demand}
@@ -55,6 +55,7 @@ pub record Extends (old new : InferenceResult) : Type 0 where
   pub mismatches : (e : ExprId) (m : TypeMismatch) → At old.expr_mismatches e.0 m → At new.expr_mismatches e.0 m
   pub pat_mismatches : (p : PatId) (m : TypeMismatch) → At old.pat_mismatches p.0 m → At new.pat_mismatches p.0 m
   pub placeholders : (k : ℕ) (t : Ty) → PlaceholderTy old k t → PlaceholderTy new k t
+  pub items : (p : PatId) (t : Ty) → PatItem old p t → PatItem new p t
   pub diagnostics : (e : ExprId) (d : InferenceDiagnostic) → At old.expr_diagnostics e.0 d → At new.expr_diagnostics e.0 d ⊎ WasSeen new e
   pub seen : (e : ExprId) → WasSeen old e → WasSeen new e
   pub pat_diagnostics : (p : PatId) (d : InferenceDiagnostic) → At old.pat_diagnostics p.0 d → At new.pat_diagnostics p.0 d
@@ -86,6 +87,8 @@ pub record IsWalked (g : Given) (s : Schedule) (c : Found) : Type 0 where
   pub diagnostics : (e : ExprId) (d : InferenceDiagnostic) → At c.result.expr_diagnostics e.0 d → IsTrueDiagnostic g c.result e d
   pub pat_diagnostics : (p : PatId) (d : InferenceDiagnostic) → At c.result.pat_diagnostics p.0 d → IsTruePatDiagnostic g p d
   pub variants : RecordsVariants g.body c.result
+  pub items : OnlyCtorPatsHaveItems g.scope.facts g.body c.result
+  pub free_items : (p : PatId) → p.0 < length g.body.pats → c.clock ≤ pat_start g.body s p → IsFree c.result.item_of_pat p.0
   pub placeholders : OnlyPlaceholdersHaveTypes g c.result
   pub seen : (i : ℕ) (x : Seen) → slice_get c.result.seen i ≡ Some x → IsSeenAs g c x
 

@@ -53,6 +53,7 @@ nothing b = record {
   type_of_expr = replicate (length b.exprs) None;
   type_of_pat = replicate (length b.pats) None;
   type_of_binding = replicate (length b.bindings) None;
+  item_of_pat = replicate (length b.pats) None;
   type_of_placeholder = [];
   binding_modes = replicate (length b.pats) None;
   expr_mismatches = replicate (length b.exprs) None;
@@ -65,6 +66,7 @@ nothing b = record {
   proofs = [];
   projections = [];
   expr_gaps = [];
+  pat_gaps = [];
   general = None;
 }
 
@@ -89,6 +91,10 @@ pat_diagnostic r p x = record r { pat_diagnostics = noted r.pat_diagnostics p.0 
 
 abbrev pub pat_ty : InferenceResult → PatId → Ty → InferenceResult
 pat_ty r p t = record r { type_of_pat = slice_set r.type_of_pat p.0 (Some t) }
+
+-- the pattern is of this item
+abbrev pub pat_item : InferenceResult → PatId → Ty → InferenceResult
+pat_item r p t = record r { item_of_pat = slice_set r.item_of_pat p.0 (Some t) }
 
 abbrev pub mode : InferenceResult → PatId → BindingMode → InferenceResult
 mode r p m = record r { binding_modes = slice_set r.binding_modes p.0 (Some m) }

@@ -4,7 +4,7 @@ ghost use Rattle.infer_table.specs.Table.{new_state};
 ghost use Rattle.infer_goals.specs.Stays.{IsUnused};
 ghost use Rattle.infer_ctx.specs.Found.{noted, put, path_variant, expr_variant, pat_variant};
 ghost use Rattle.infer_ctx.specs.Steps.{IsNoted, IsUnasked};
-ghost use Rattle.infer_ctx.specs.Context.{empty_context, with_placeholder_ty, with_seen, entered, with_expr_ty, with_mismatch, with_asked, with_diagnostic, with_pat_mismatch, with_pat_diagnostic, with_pat_ty, with_mode, with_binding_ty};
+ghost use Rattle.infer_ctx.specs.Context.{empty_context, with_placeholder_ty, with_seen, entered, with_expr_ty, with_mismatch, with_asked, with_diagnostic, with_pat_mismatch, with_pat_diagnostic, with_pat_ty, with_pat_item, with_mode, with_binding_ty};
 
 use hir_facts::{
     BindingId, ExprId, Facts, GenericDefId, List, PatId, RawBody, RawExpr, RawPat, RawPath, Ty,
@@ -134,6 +134,7 @@ impl<'a> InferenceContext<'a> {
             type_of_expr: no_entries(alloc, body.exprs.len())?,
             type_of_pat: no_entries(alloc, body.pats.len())?,
             type_of_binding: no_entries(alloc, body.bindings.len())?,
+            item_of_pat: no_entries(alloc, body.pats.len())?,
             type_of_placeholder: List::new(alloc),
             binding_modes: no_entries(alloc, body.pats.len())?,
             expr_mismatches: no_entries(alloc, body.exprs.len())?,
@@ -146,6 +147,7 @@ impl<'a> InferenceContext<'a> {
             proofs: List::new(alloc),
             projections: List::new(alloc),
             expr_gaps: List::new(alloc),
+            pat_gaps: List::new(alloc),
             general: None,
         };
         Ok(InferenceContext {
@@ -239,6 +241,14 @@ impl<'a> InferenceContext<'a> {
         ensures { self.new ≡ with_pat_ty self.old pat ty }
     {
         self.result.type_of_pat.set(pat.0 as usize, Some(ty));
+    }
+
+    /// Records the constructor that a pattern is of, as an item.
+    pub fn write_pat_item(&mut self, pat: PatId, item: Ty)
+        requires { pat.0 < length self.old.result.item_of_pat }
+        ensures { self.new ≡ with_pat_item self.old pat item }
+    {
+        self.result.item_of_pat.set(pat.0 as usize, Some(item));
     }
 
     /// Records how a pattern binds.

@@ -1,19 +1,20 @@
 //! What inference of a body reads.
-ghost use Rattle.std.specs.Prelude.{◌≡◌, ◌<◌, IfOk, List, Some, length, map, option_copied, slice_get};
+ghost use Rattle.std.specs.Prelude.{ℕ, ◌≡◌, ◌<◌, ◌≤◌, IfOk, List, Some, take, length, map, option_copied, slice_get};
 ghost use Rattle.hir_raw.specs.WrittenTypes.{written_type};
-ghost use Rattle.hir_raw.specs.Hidden.{fn_aliases};
-ghost use Rattle.hir_raw.specs.Signatures.{fn_types};
+ghost use Rattle.hir_raw.specs.Hidden.{fn_aliases, opened};
+ghost use Rattle.hir_raw.specs.Scope.{adt_params};
+ghost use Rattle.hir_raw.specs.Signatures.{fn_types, variant_types};
 ghost use Rattle.hir_raw.specs.declared.raw.RawFn.{RawFn};
 ghost use Rattle.hir_raw.specs.declared.raw.RawVariant.{RawVariant};
 ghost use Rattle.hir_types.specs.declared.ty.Ty.TheVariants as ty;
 ghost use Rattle.infer_result.specs.Table.{recorded};
 ghost use Rattle.infer_ctx.specs.Context.{expected_type};
-ghost use Rattle.infer_ctx.specs.Callables.{written_at, field_at, IsFnSig, IsCtorSig, IsCallableItem, IsSigOfItem, ItemsAreCallable, IsSigIfItem};
+ghost use Rattle.infer_ctx.specs.Callables.{written_at, field_at, ctor_at, IsFnSig, IsCtorSig, IsCallableItem, IsSigOfItem, ItemsAreCallable, IsSigIfItem};
 
 use crate::expectation::Expectation;
 use hir_facts::{
     DefWithBodyId, Facts, FunctionId, List, RawBody, RawFn, Schedule, Ty, TypeRefId, VariantId,
-    fn_aliases, lower_opened, lower_ty,
+    fn_aliases, lower_opened, lower_ty, variant_aliases,
 };
 use hir_types::{CallableDefId, GenericArg, instantiate};
 use std::alloc::{AllocError, Global};
@@ -57,13 +58,18 @@ fn dup_arg(alloc: Global, arg: &GenericArg) -> Result<GenericArg, AllocError>
     }
 }
 
-/// Equal copies of arguments.
-fn dup_args(alloc: Global, args: &List<GenericArg>) -> Result<List<GenericArg>, AllocError>
-    ensures { IfOk result (λ copies. copies ≡ args.now) }
+/// Equal copies of the first arguments, of so many.
+pub fn first_args(
+    alloc: Global,
+    args: &[GenericArg],
+    count: usize,
+) -> Result<List<GenericArg>, AllocError>
+    requires { count ≤ length args.now }
+    ensures { IfOk result (λ copies. copies ≡ take count args.now) }
 {
     let mut copies = List::new(alloc);
-    for arg in args.as_slice() {
-        copies.push(dup_arg(alloc, arg)?)?;
+    for at in 0..count {
+        copies.push(dup_arg(alloc, &args[at])?)?;
     }
     Ok(copies)
 }
@@ -147,36 +153,42 @@ impl GivenBody<'_> {
         }
     }
 
-    /// What a constructor takes and gives, with these arguments in the place of its adt's parameters.
+    /// What a constructor takes and gives, with these arguments in the place of its parameters.
     fn ctor_sig(
         &self,
         alloc: Global,
         variant: VariantId,
         args: &List<GenericArg>,
     ) -> Result<CallableSig, AllocError>
-        requires { variant.0 < length self.now.facts.now.variants }
-        ensures { IfOk result (λ sig. (x : RawVariant) → slice_get self.now.facts.now.variants variant.0 ≡ Some x
-            → IsCtorSig self.now.facts.now.types x args.now sig) }
+        requires { IsCallableItem self.now.facts.now (ctor_at variant args.now) }
+        ensures { IfOk result (λ sig. (x : RawVariant) (n : ℕ) → slice_get self.now.facts.now.variants variant.0 ≡ Some x
+            → adt_params self.now.facts.now x.adt ≡ Some n → IsCtorSig self.now.facts.now.types n x args.now sig) }
     {
-        let inputs = self.field_tys(alloc, variant, args)?;
-        let output = Ty::Adt(self.facts.variant(variant).adt, dup_args(alloc, args)?);
+        let adt = self.facts.variant(variant).adt;
+        let params = self.facts.adt(adt).params.len();
+        let inputs = self.field_tys(alloc, variant, params, args)?;
+        let output = Ty::Adt(adt, first_args(alloc, args.as_slice(), params)?);
         Ok(CallableSig { inputs, output })
     }
 
-    /// The types of a variant's fields, with these arguments in the place of its adt's parameters.
+    /// The types of a variant's fields, with these arguments in the place of the parameters of its constructor, of
+    /// which so many are its adt's: `infer/pat.rs`, where the type of a field is normalized.
     pub fn field_tys(
         &self,
         alloc: Global,
         variant: VariantId,
+        params: usize,
         args: &List<GenericArg>,
     ) -> Result<List<Ty>, AllocError>
         requires { variant.0 < length self.now.facts.now.variants }
         ensures { IfOk result (λ tys. (x : RawVariant) → slice_get self.now.facts.now.variants variant.0 ≡ Some x
-            → tys ≡ map (field_at self.now.facts.now.types args.now) x.fields) }
+            → tys ≡ map (field_at (variant_types self.now.facts.now.types params x) args.now) x.fields) }
     {
+        let item = self.facts.variant(variant);
+        let aliases = variant_aliases(alloc, self.facts.types(), item)?;
         let mut tys = List::new(alloc);
-        for field in self.facts.variant(variant).fields.as_slice() {
-            tys.push(self.ty_at(alloc, field.type_, args)?)?;
+        for field in item.fields.as_slice() {
+            tys.push(self.opened_at(alloc, params, &aliases, field.type_, args)?)?;
         }
         Ok(tys)
     }
@@ -195,7 +207,13 @@ impl GivenBody<'_> {
         let function = self.facts.fn_(function);
         let aliases = fn_aliases(alloc, self.facts.types(), function)?;
         let inputs = self.inputs_at(alloc, function, &aliases, args)?;
-        let output = self.opened_at(alloc, function, &aliases, function.output, args)?;
+        let output = self.opened_at(
+            alloc,
+            function.params.len(),
+            &aliases,
+            function.output,
+            args,
+        )?;
         Ok(CallableSig { inputs, output })
     }
 
@@ -212,37 +230,24 @@ impl GivenBody<'_> {
     {
         let mut tys = List::new(alloc);
         for type_ref in function.inputs.as_slice() {
-            tys.push(self.opened_at(alloc, function, aliases, *type_ref, args)?)?;
+            tys.push(self.opened_at(alloc, function.params.len(), aliases, *type_ref, args)?)?;
         }
         Ok(tys)
     }
 
-    /// What a written type of its signature stands for: an associated type for the argument of its own.
+    /// What a written type of a signature stands for that has so many parameters and these associated types: each of
+    /// these for the argument of its own.
     fn opened_at(
         &self,
         alloc: Global,
-        function: &RawFn,
+        params: usize,
         aliases: &[usize],
         type_ref: TypeRefId,
         args: &List<GenericArg>,
     ) -> Result<Ty, AllocError>
-        requires { aliases.now ≡ fn_aliases self.now.facts.now.types function.now }
-        ensures { IfOk result (λ ty. ty ≡ written_at (fn_types self.now.facts.now.types function.now) args.now type_ref) }
+        ensures { IfOk result (λ ty. ty ≡ written_at (opened params aliases.now self.now.facts.now.types) args.now type_ref) }
     {
-        let ty = lower_opened(alloc, self.facts, function.params.len(), aliases, type_ref)?;
-        instantiate(alloc, &ty, args)
-    }
-
-    /// What a written type stands for, with these arguments in the place of parameters.
-    fn ty_at(
-        &self,
-        alloc: Global,
-        type_ref: TypeRefId,
-        args: &List<GenericArg>,
-    ) -> Result<Ty, AllocError>
-        ensures { IfOk result (λ ty. ty ≡ written_at self.now.facts.now.types args.now type_ref) }
-    {
-        let ty = lower_ty(alloc, self.facts, type_ref)?;
+        let ty = lower_opened(alloc, self.facts, params, aliases, type_ref)?;
         instantiate(alloc, &ty, args)
     }
 }

@@ -8,4 +8,4 @@ mod resolve_all;
 
 pub use context::{InferenceContext, put};
 pub use expectation::Expectation;
-pub use given::{CallableSig, GivenBody};
+pub use given::{CallableSig, GivenBody, first_args};

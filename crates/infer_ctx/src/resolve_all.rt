@@ -173,6 +173,7 @@ impl InferenceContext<'_> {
         result.type_of_expr = resolve_tys(alloc, table, &result.type_of_expr)?;
         result.type_of_pat = resolve_tys(alloc, table, &result.type_of_pat)?;
         result.type_of_binding = resolve_tys(alloc, table, &result.type_of_binding)?;
+        result.item_of_pat = resolve_tys(alloc, table, &result.item_of_pat)?;
         result.type_of_placeholder = resolve_tys(alloc, table, &result.type_of_placeholder)?;
         let noted = result.expr_mismatches.as_slice();
         result.expr_mismatches = resolve_expr_mismatches(alloc, table, &self.asked, noted)?;

@@ -127,6 +127,7 @@ module _ (sc : Scope) (c : InferenceContext) (s : IsSound sc c) (a : Assignment)
         pats = λ n t i. (let q = At-unclosed f c.result.type_of_pat n t i in of_under q.0 t q.2 (s.fine.pats n q.0 q.1));
         bindings = λ n t i. (let q = At-unclosed f c.result.type_of_binding n t i in of_under q.0 t q.2 (s.fine.bindings n q.0 q.1));
         placeholders = λ n t i. (let q = At-unclosed f c.result.type_of_placeholder n t i in of_under q.0 t q.2 (s.fine.placeholders n q.0 q.1));
+        items = λ n t i. (let q = At-unclosed f c.result.item_of_pat n t i in of_under q.0 t q.2 (s.fine.items n q.0 q.1));
         found = λ n k t i. elim (said-cases a c.result.seen c.result.expr_diagnostics n (diagnostic.ExpectedFunction k t) i) [
           | inl q ↦ as_is t (s.fine.found n k t q).heads
           | inr q ↦ of_under q.1.ty t (let same : diagnostic.ExpectedFunction k t ≡ diagnostic.ExpectedFunction q.3.call (f q.1.ty) = q.3.is in cc) (s.seen.types q.0 q.1 q.2)

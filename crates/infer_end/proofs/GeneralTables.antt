@@ -8,6 +8,8 @@ use Rattle.hir_types.specs.Subst.{Assignment, composed, folded}
 use Rattle.hir_types.specs.declared.ids.BodyId.{BodyId}
 use Rattle.hir_types.specs.declared.ids.ExprId.{ExprId}
 use Rattle.hir_types.specs.declared.ids.DefWithBodyId.{DefWithBodyId}
+use Rattle.hir_types.specs.declared.ids.ExprOrPatId.{ExprOrPatId}
+use Rattle.hir_types.specs.declared.ids.ExprOrPatId.TheVariants as node
 use Rattle.hir_types.specs.Terms.{terms_of}
 use Rattle.hir_types.proofs.Equal.{ty_decides}
 use Rattle.hir_raw.specs.declared.raw.RawBody.{RawBody}
@@ -31,7 +33,7 @@ use Rattle.infer_result.specs.Closed.{AllTypes, AllSeen}
 use Rattle.infer_result.specs.Made.{IsMade}
 use Rattle.infer_result.specs.OwnTypes.{AreOwnTypes, AreLetTypes}
 use Rattle.infer_result.specs.Places.{Given, IsAtMaybeOrMismatch}
-use Rattle.infer_result.specs.Needs.{with_goals}
+use Rattle.infer_result.specs.Needs.{HasGap, with_goals}
 use Rattle.infer_result.specs.Table.{At, HasTy}
 use Rattle.infer_result.specs.General.{types_under, IsGeneralType, AreGeneralTypes, GivesPlain, closed_by, IsGeneralOf, HasGeneral}
 use Rattle.infer_result.specs.declared.result.TypeMismatch.{TypeMismatch}
@@ -63,13 +65,13 @@ use Rattle.infer_end.proofs.OwnIn.{plain_names_none}
 use Rattle.infer_end.proofs.Fits.{completed_table_fits, completed_table_read, fine_fits, seen_fits}
 use Rattle.infer_end.proofs.SizedTypes.{heads_are_read}
 use Rattle.infer_end.proofs.GeneralTypes.{fine_general, fine_known, chosen, chosen_heads, chosen_closes, known_heads}
-use Rattle.infer_end.proofs.PlainBodies.{plain_body, no_placeholder, calls_item, none_plain, no_let_aliases}
+use Rattle.infer_end.proofs.PlainBodies.{plain_body, no_ctor_aliases, no_placeholder, calls_item, none_plain, no_let_aliases}
 use Rattle.infer_end.proofs.PlainGoals.{plain_needs}
 
 -- ---- a table with other types before fallback, other proofs and other gaps
-module _ (r : InferenceResult) (o : Option General) (ps : List Proof) (js : List (Ty × Ty)) (gs : List (List Gap)) where
+module _ (r : InferenceResult) (o : Option General) (ps : List Proof) (js : List (Ty × Ty)) (gs hs : List (List Gap)) where
   abbrev other : InferenceResult
-  other = record r { general = o; proofs = ps; projections = js; expr_gaps = gs }
+  other = record r { general = o; proofs = ps; projections = js; expr_gaps = gs; pat_gaps = hs }
 
   other_extends : Extends r other
   other_extends = record {
@@ -83,6 +85,7 @@ module _ (r : InferenceResult) (o : Option General) (ps : List Proof) (js : List
     mismatches = λ e m h. h;
     pat_mismatches = λ p m h. h;
     placeholders = λ k t h. h;
+    items = λ p t h. h;
     diagnostics = λ e d h. inl h;
     seen = λ e h. record { position = h.position; entry = h.entry; found = h.found; is_node = h.is_node };
   }
@@ -93,6 +96,7 @@ module _ (r : InferenceResult) (o : Option General) (ps : List Proof) (js : List
     pats = h.pats;
     bindings = h.bindings;
     placeholders = h.placeholders;
+    items = h.items;
     expected = h.expected;
     actual = h.actual;
     pat_expected = h.pat_expected;
@@ -111,6 +115,7 @@ module _ (r : InferenceResult) (o : Option General) (ps : List Proof) (js : List
       closed = all_types_other _ m.shape.closed;
       modes = m.shape.modes;
       placeholders = m.shape.placeholders;
+      items = m.shape.items;
       variants = record { exprs = m.shape.variants.exprs; pats = m.shape.variants.pats };
     };
     clauses = λ e i. obeys_kept g r other other_extends e (m.clauses e i);
@@ -135,6 +140,7 @@ all_types_so P Q r f h = record {
   pats = λ n t at. f t (h.pats n t at);
   bindings = λ n t at. f t (h.bindings n t at);
   placeholders = λ n t at. f t (h.placeholders n t at);
+  items = λ n t at. f t (h.items n t at);
   expected = λ n x at. f x.expected (h.expected n x at);
   actual = λ n x at. f x.actual (h.actual n x at);
   pat_expected = λ n x at. f x.expected (h.pat_expected n x at);
@@ -235,7 +241,7 @@ none_under f f' xs h n y at = (let q = At-unclosed f' xs n y at in h n (f q.0) (
 
 -- ---- the table of a definition
 module _ (raw : RawFacts) (d : DefWithBodyId) (i : BodyId) (b : RawBody) (s : Schedule) (inputs : List (Option Ty)) (output : Option Ty) (aliases : List (Option Ty)) (id : body_id_of raw d ≡ Some i) (at : slice_get raw.bodies i.0 ≡ Some b) (law : IsWalkable b s) (own : AreOwnTypes raw d inputs output) (lets : AreLetTypes raw d b aliases) (c : InferenceContext) (done : BodyDone (given_by raw d b inputs output aliases) c)
-    (lawful : IsLawful raw) (ps : List Proof) (js : List (Ty × Ty)) (gs : List (List Gap)) where
+    (lawful : IsLawful raw) (ps : List Proof) (js : List (Ty × Ty)) (gs hs : List (List Gap)) where
   abbrev g : Given
   g = given_by raw d b inputs output aliases
 
@@ -244,7 +250,7 @@ module _ (raw : RawFacts) (d : DefWithBodyId) (i : BodyId) (b : RawBody) (s : Sc
 
   -- with these types before fallback, these proofs and these gaps
   abbrev result_with : Option General → InferenceResult
-  result_with o = record c.result { general = o; proofs = ps; projections = js; expr_gaps = gs }
+  result_with o = record c.result { general = o; proofs = ps; projections = js; expr_gaps = gs; pat_gaps = hs }
 
   seen_still_fit : (a : Assignment) (o : Option General) → AllSeen (λ t. ty_fits sc t ≡ true) (closed_table a c.asked (result_with o))
   seen_still_fit a o = (let h = seen_fits sc c done.sound in record { types = h.types; others = h.others })
@@ -256,7 +262,7 @@ module _ (raw : RawFacts) (d : DefWithBodyId) (i : BodyId) (b : RawBody) (s : Sc
     completed_table : (o : Option General) → IsTableOf raw d (closed_table (completion c.goals.table) c.asked (result_with o))
     completed_table o =
         let r : InferenceResult = closed_table (completion c.goals.table) c.asked c.result in
-        table_of raw d i b s inputs output aliases (closed_table (completion c.goals.table) c.asked (result_with o)) id at law own lets (made_other r o ps js gs g (done.made (completion c.goals.table) completes)) (all_types_other r o ps js gs _ (completed_table_fits sc c done.sound)) (seen_still_fit (completion c.goals.table) o) (all_types_other r o ps js gs _ (completed_table_read sc c done.sound))
+        table_of raw d i b s inputs output aliases (closed_table (completion c.goals.table) c.asked (result_with o)) id at law own lets (made_other r o ps js gs hs g (done.made (completion c.goals.table) completes)) (all_types_other r o ps js gs hs _ (completed_table_fits sc c done.sound)) (seen_still_fit (completion c.goals.table) o) (all_types_other r o ps js gs hs _ (completed_table_read sc c done.sound))
 
     -- ---- of a plain body
 
@@ -282,6 +288,13 @@ module _ (raw : RawFacts) (d : DefWithBodyId) (i : BodyId) (b : RawBody) (s : Sc
           (let q = At-unclosed (folded a) c.result.type_of_placeholder n t there in
           no_placeholder raw (params_of raw d) b is_plain g n refl refl ((done.made (completion c.goals.table) completes).shape.placeholders n _ (At-closed (folded (completion c.goals.table)) c.result.type_of_placeholder n q.0 q.1)).0)
 
+      -- nor does a pattern have an item
+      no_items : (a : Assignment) → HasNone (closed_types a c.result.item_of_pat)
+      no_items a n t there =
+          (let q = At-unclosed (folded a) c.result.item_of_pat n t there in
+          let h = (done.made (completion c.goals.table) completes).shape.items (record { 0 = n }) _ (At-closed (folded (completion c.goals.table)) c.result.item_of_pat n q.0 q.1) in
+          h.has_aliases (no_ctor_aliases raw (params_of raw d) b is_plain lawful n h.named h.parts h.variant h.is_pat h.found))
+
       said_nothing : (a : Assignment) → said a c.result.seen c.result.expr_diagnostics ≡ c.result.expr_diagnostics
       said_nothing a = ap (λ l. said a l c.result.expr_diagnostics) nothing_seen
 
@@ -304,8 +317,12 @@ module _ (raw : RawFacts) (d : DefWithBodyId) (i : BodyId) (b : RawBody) (s : Sc
           diagnostics = λ n y there. no_diagnostic n y (ap (λ l. slice_get l n) (sym (said_nothing q)) ∙ there);
           pat_mismatches = none_under (closed_mismatch (completion c.goals.table)) (closed_mismatch q) c.result.pat_mismatches clean.pat_mismatches;
           pat_diagnostics = clean.pat_diagnostics;
-          gaps = λ e y h. clean.gaps e y (record { gaps = h.gaps; at = h.at; number = h.number; listed = h.listed });
+          gaps = no_gap;
         }
+          where
+            no_gap : (n : ExprOrPatId) (y : Gap) → HasGap other_table n y → ⊥
+            no_gap (node.ExprId e) y h = clean.gaps (node.ExprId e) y (record { gaps = h.gaps; at = h.at; number = h.number; listed = h.listed })
+            no_gap (node.PatId p) y h = clean.gaps (node.PatId p) y (record { gaps = h.gaps; at = h.at; number = h.number; listed = h.listed })
 
         heads_of : (xs : List (Option Ty)) → ((n : ℕ) (t : Ty) → At xs n t → IsFine sc c.goals.table t) → (n : ℕ) (t : Ty) → At (closed_types q xs) n t → HasFineHeads sc t
         heads_of xs fine n t there = (let k = At-unclosed (folded q) xs n t there in subst (λ u. HasFineHeads sc u) k.2 (chosen_heads sc a gives c done.sound k.0 (fine n k.0 k.1).heads))
@@ -316,6 +333,7 @@ module _ (raw : RawFacts) (d : DefWithBodyId) (i : BodyId) (b : RawBody) (s : Sc
           pats = heads_of c.result.type_of_pat done.sound.fine.pats;
           bindings = heads_of c.result.type_of_binding done.sound.fine.bindings;
           placeholders = heads_of c.result.type_of_placeholder done.sound.fine.placeholders;
+          items = heads_of c.result.item_of_pat done.sound.fine.items;
           expected = λ n y there. absurd (other_clean.mismatches n y there);
           actual = λ n y there. absurd (other_clean.mismatches n y there);
           pat_expected = λ n y there. absurd (other_clean.pat_mismatches n y there);
@@ -334,7 +352,7 @@ module _ (raw : RawFacts) (d : DefWithBodyId) (i : BodyId) (b : RawBody) (s : Sc
         other_is_table : IsTableOf raw d other_table
         other_is_table =
             let r : InferenceResult = closed_table q c.asked c.result in
-            table_of raw d i b s inputs output aliases other_table id at law own lets (made_other r (Some x) ps js gs g (done.made q at_q)) (all_types_so _ _ other_table (fine_fits sc) other_heads) (seen_still_fit q (Some x)) (all_types_so _ _ other_table (heads_are_read sc) other_heads)
+            table_of raw d i b s inputs output aliases other_table id at law own lets (made_other r (Some x) ps js gs hs g (done.made q at_q)) (all_types_so _ _ other_table (fine_fits sc) other_heads) (seen_still_fit q (Some x)) (all_types_so _ _ other_table (heads_are_read sc) other_heads)
 
         other_derives : IsDerivation raw d other_table
         other_derives =
@@ -349,6 +367,7 @@ module _ (raw : RawFacts) (d : DefWithBodyId) (i : BodyId) (b : RawBody) (s : Sc
             let exprs = types_closed a c.goals.table r.type_of_expr x.exprs resolved.exprs in
             let pats = types_closed a c.goals.table r.type_of_pat x.pats resolved.pats in
             let bound = types_closed a c.goals.table r.type_of_binding x.bindings resolved.bindings in
+            let items = both_none (closed_types q r.item_of_pat) (closed_types z r.item_of_pat) (length-closed (folded q) r.item_of_pat ∙ sym (length-closed (folded z) r.item_of_pat)) (no_items q) (no_items z) in
             let holes = both_none (closed_types q r.type_of_placeholder) (closed_types z r.type_of_placeholder) (length-closed (folded q) r.type_of_placeholder ∙ sym (length-closed (folded z) r.type_of_placeholder)) (no_placeholders q) (no_placeholders z) in
             let noted = both_none (closed_mismatches q c.asked r.expr_mismatches) (closed_mismatches z c.asked r.expr_mismatches) (length-closed_mismatches q c.asked r.expr_mismatches ∙ sym (length-closed_mismatches z c.asked r.expr_mismatches)) other_clean.mismatches clean.mismatches in
             let told = said_nothing q ∙ sym (said_nothing z) in
@@ -357,6 +376,7 @@ module _ (raw : RawFacts) (d : DefWithBodyId) (i : BodyId) (b : RawBody) (s : Sc
               type_of_expr = exprs k;
               type_of_pat = pats k;
               type_of_binding = bound k;
+              item_of_pat = items k;
               type_of_placeholder = holes k;
               binding_modes = r.binding_modes;
               expr_mismatches = noted k;
@@ -369,6 +389,7 @@ module _ (raw : RawFacts) (d : DefWithBodyId) (i : BodyId) (b : RawBody) (s : Sc
               proofs = ps;
               projections = js;
               expr_gaps = gs;
+              pat_gaps = hs;
               general = Some x;
             }
 
@@ -408,7 +429,7 @@ module _ (raw : RawFacts) (d : DefWithBodyId) (i : BodyId) (b : RawBody) (s : Sc
   abbrev Ends : InferenceContext → Type 0
   Ends z =
       Meets (terms_of (completion z.goals.table)) z.goals.table → Respects (terms_of (completion z.goals.table)) → Triangular (log_of (bindings z.goals.table))
-      → IsTableOf raw d (with_goals ps js gs (closed_table (completion z.goals.table) z.asked z.result)) × HasGeneral raw d (with_goals ps js gs (closed_table (completion z.goals.table) z.asked z.result))
+      → IsTableOf raw d (with_goals ps js gs hs (closed_table (completion z.goals.table) z.asked z.result)) × HasGeneral raw d (with_goals ps js gs hs (closed_table (completion z.goals.table) z.asked z.result))
 
   pub ends : (last : InferenceContext) → KeepsGeneral raw d c last → Ends last
   ends last (inl (plain, (x, resolved, is))) = subst Ends (sym is) (λ meets respects acyclic. (
@@ -447,21 +468,21 @@ keeps_goals raw d c last (inl (plain, (x, resolved, is))) = ap (λ (z : Inferenc
 keeps_goals raw d c last (inr (not_plain, is)) = ap (λ (z : InferenceContext). z.goals) is
 
 module _ (raw : RawFacts) (d : DefWithBodyId) (i : BodyId) (b : RawBody) (s : Schedule) (inputs : List (Option Ty)) (output : Option Ty) (aliases : List (Option Ty)) (id : body_id_of raw d ≡ Some i) (at : slice_get raw.bodies i.0 ≡ Some b) (law : IsWalkable b s) (own : AreOwnTypes raw d inputs output) (lets : AreLetTypes raw d b aliases) (c : InferenceContext) (done : BodyDone (given_by raw d b inputs output aliases) c)
-    (lawful : IsLawful raw) (ps : List Proof) (js : List (Ty × Ty)) (gs : List (List Gap)) where
+    (lawful : IsLawful raw) (ps : List Proof) (js : List (Ty × Ty)) (gs hs : List (List Gap)) where
   -- of a body that is not plain the context after selection counts, in which no such types are
-  not_plain_ends : (z : InferenceContext) → BodyDone (given_by raw d b inputs output aliases) z → z.result.general ≡ None → (IsPlainBodyOf raw d → ⊥) → EndsAs raw d ps js gs z
+  not_plain_ends : (z : InferenceContext) → BodyDone (given_by raw d b inputs output aliases) z → z.result.general ≡ None → (IsPlainBodyOf raw d → ⊥) → EndsAs raw d ps js gs hs z
   not_plain_ends z after none not_plain meets respects acyclic =
       let a : Assignment = completion z.goals.table in
       let same : record z.result { general = None } ≡ z.result = ap (λ (o : Option General). record z.result { general = o }) (sym none) in
-      let F : InferenceResult → Type 0 = λ r. IsTableOf raw d (with_goals ps js gs (closed_table a z.asked r)) in (
-        subst F same (completed_table raw d i b s inputs output aliases id at law own lets z after lawful ps js gs meets respects None),
+      let F : InferenceResult → Type 0 = λ r. IsTableOf raw d (with_goals ps js gs hs (closed_table a z.asked r)) in (
+        subst F same (completed_table raw d i b s inputs output aliases id at law own lets z after lawful ps js gs hs meets respects None),
         record { plain = λ p. absurd (not_plain p); other = λ never. none },
       )
 
-  pub ends_selected : (mid z : InferenceContext) → KeepsGeneral raw d c mid → OnlyGoals mid z → StaysOfPlain mid z → BodyDone (given_by raw d b inputs output aliases) z → EndsAs raw d ps js gs z
+  pub ends_selected : (mid z : InferenceContext) → KeepsGeneral raw d c mid → OnlyGoals mid z → StaysOfPlain mid z → BodyDone (given_by raw d b inputs output aliases) z → EndsAs raw d ps js gs hs z
   ends_selected mid z (inl (plain, (x, resolved, is))) only stays after =
       let kept : mid.result.general ≡ Some x = ap (λ (m : InferenceContext). m.result.general) is in
-      subst (EndsAs raw d ps js gs) (sym (stays x kept)) (ends raw d i b s inputs output aliases id at law own lets c done lawful ps js gs mid (inl (plain, (x, resolved, is))))
+      subst (EndsAs raw d ps js gs hs) (sym (stays x kept)) (ends raw d i b s inputs output aliases id at law own lets c done lawful ps js gs hs mid (inl (plain, (x, resolved, is))))
   ends_selected mid z (inr (not_plain, is)) only stays after =
       not_plain_ends z after (ap (λ (r : InferenceResult). r.general) only.result ∙ ap (λ (m : InferenceContext). m.result.general) is) not_plain
 

@@ -4,6 +4,7 @@ pub mod Fits
 pub mod GeneralTables
 pub mod GeneralTypes
 pub mod PlainBodies
+pub mod PlainFields
 pub mod PlainGoals
 pub mod SizedTypes
 pub mod SelectedBody

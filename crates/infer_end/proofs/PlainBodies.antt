@@ -15,8 +15,11 @@ use Rattle.hir_raw.specs.declared.raw.RawFacts.{RawFacts}
 use Rattle.hir_laws.specs.Bodies.{body_of}
 use Rattle.hir_laws.specs.Lawful.{IsLawful}
 use Rattle.hir_laws.proofs.NoAliases.{none_within, no_aliases}
-use Rattle.hir_raw.specs.Hidden.{fn_aliases}
-use Rattle.hir_raw.specs.Scope.{params_of, adt_params, has_associated, has_associated_by, names_alias, is_size_goal}
+use Rattle.hir_types.specs.declared.ids.PatId.{PatId}
+use Rattle.hir_raw.specs.declared.raw.RawPat.TheVariants as pat
+use Rattle.hir_raw.specs.Hidden.{fn_aliases, variant_aliases}
+use Rattle.infer_end.proofs.PlainFields.{adt_aliases}
+use Rattle.hir_raw.specs.Scope.{params_of, adt_params, variant_arity, has_associated, has_associated_by, names_alias, is_size_goal}
 use Rattle.hir_plain.proofs.PlainFns.{kind_direct, type_direct, plain_direct}
 use Rattle.hir_plain.specs.Plain.{IsPlainBody, IsPlainBodyOf, IsPlainKind, IsPlainType, plain, IsPlainAdt, is_tuple_ctor, is_tuple_variant, is_item, IsPlainExpr, IsPlainStmt}
 use Rattle.hir_raw.specs.declared.raw.RawType.{RawType}
@@ -28,7 +31,7 @@ use Rattle.hir_raw.specs.declared.raw.RawVariant.{RawVariant}
 use Rattle.hir_raw.specs.declared.raw.RawStmt.{RawStmt}
 use Rattle.hir_raw.specs.declared.raw.RawExpr.{RawExpr}
 use Rattle.hir_raw.specs.Order.{callee, expr_part, inner, parts_of_expr, stmts_of}
-use Rattle.hir_raw.specs.Signatures.{fn_signature, field_types, own_adt, ctor_signature, signature_by}
+use Rattle.hir_raw.specs.Signatures.{fn_signature, taken_types, own_adt, ctor_signature, signature_by}
 use Rattle.hir_raw.specs.declared.raw.RawType.TheVariants as type
 use Rattle.hir_raw.specs.declared.raw.RawCtor.TheVariants as ctor
 use Rattle.hir_raw.specs.declared.raw.RawStmt.TheVariants as stmt
@@ -128,6 +131,13 @@ module _ (raw : RawFacts) (n : ℕ) (b : RawBody) (h : IsPlainBody raw n b) wher
   no_let_aliases law = none_flat (expr_aliases raw.types) b.exprs (λ e x found.
       none_flat (stmt_aliases raw.types) (stmts_of (Some x)) (λ k s at. plain_stmt_aliases law s (plain_stmt e (Some x) k s found at)))
 
+  -- nor does its constructors' patterns have one in a field
+  pub no_ctor_aliases : IsLawful raw → (p : ℕ) (v : VariantId) (ps : List PatId) (x : RawVariant) → slice_get b.pats p ≡ Some (pat.TupleStruct v ps) → slice_get raw.variants v.0 ≡ Some x → variant_aliases raw.types x ≡ []
+  no_ctor_aliases law p v ps x is at =
+      let y = some_of _ (slice_get raw.variants v.0) (h.pats p (pat.TupleStruct v ps) is) in
+      let same : y.0 ≡ x = (let both : Some y.0 ≡ Some x = sym y.1 ∙ at in cc) in
+      adt_aliases raw law v.0 x at (subst (λ (z : RawVariant). IsPlainAdt raw z.adt.0) same y.2.1)
+
   -- ---- callees
 
   tuple_ctor : (c : RawCtor) → is_tuple_ctor c ≡ true → c ≡ ctor.Tuple
@@ -165,7 +175,7 @@ module _ (raw : RawFacts) (n : ℕ) (b : RawBody) (h : IsPlainBody raw n b) wher
           record {
             item = callable.VariantId v;
             is_item = refl;
-            signature = record { params = count; inputs = field_types types x.0; output = own_adt x.0.adt count };
+            signature = record { params = variant_arity types x.0 count; inputs = taken_types types count x.0; output = own_adt x.0.adt count };
             is_signature =
                 ap (option_and_then (λ (y : RawVariant). option_and_then (λ m. ctor_signature types m y) (adt_params g.scope.facts y.adt))) (ap (λ (r : RawFacts). slice_get r.variants v.0) facts ∙ x.1)
                 ∙ (ap (option_and_then (λ m. ctor_signature types m x.0)) params

@@ -1,11 +1,14 @@
 -- What a plain body needs holds: each goal is that a type of carried kinds has a size, and the body's own parameters have one.
 use Rattle.std.specs.List.{list_all, list_any, flat_map, range_with_len}
 use Rattle.std.specs.Cmp.{first_so, second_so}
+use Rattle.std.specs.Option.{option_and_then}
 use Rattle.std.proofs.Common.{ℕ, zero, suc, ◌+◌, ◌<◌, ◌==◌, ◌≡◌, inl, inr, arith, Bool, true, false, refl, sym, ap, ◌∙◌, subst, true≢false, if◌then◌else◌, List, [], ◌∷◌, map, length, Option, Some, None, option_map, slice_get}
 use Rattle.std.proofs.lemmas.Bool.{ltb-true, eqb-true, or_cases, or_left, or_right}
 use Rattle.std.proofs.lemmas.Option.{slice_get_within}
 use Rattle.hir_types.specs.declared.ids.AdtId.{AdtId}
 use Rattle.hir_types.specs.declared.ids.ExprId.{ExprId}
+use Rattle.hir_types.specs.declared.ids.ExprOrPatId.TheVariants as of_node
+use Rattle.hir_types.specs.declared.ids.PatId.{PatId}
 use Rattle.hir_types.specs.declared.ids.FunctionId.{FunctionId}
 use Rattle.hir_types.specs.declared.ids.TraitId.{TraitId}
 use Rattle.hir_types.specs.declared.ids.TypeRefId.{TypeRefId}
@@ -46,7 +49,8 @@ use Rattle.hir_raw.specs.declared.raw.RawType.TheVariants as type
 use Rattle.hir_raw.specs.declared.raw.RawVariant.{RawVariant}
 use Rattle.hir_raw.specs.declared.raw.RawFacts.{RawFacts}
 use Rattle.hir_raw.specs.Goals.{arg_types, is_sized_lang}
-use Rattle.hir_raw.specs.Scope.{count_or_none, fn_arity, scope_of, params_of, types_scope}
+use Rattle.hir_raw.specs.Hidden.{variant_aliases}
+use Rattle.hir_raw.specs.Scope.{adt_params, count_or_none, fn_arity, variant_arity, scope_of, params_of, types_scope}
 use Rattle.hir_raw.specs.Signatures.{type_args, ctor_type_by}
 use Rattle.hir_raw.specs.WrittenTypes.{filled_by, filled_within, written_type}
 use Rattle.hir_ids.specs.Carried.{is_in_module}
@@ -57,7 +61,7 @@ use Rattle.hir_laws.specs.Lawful.{IsLawful}
 use Rattle.hir_laws.proofs.NoAliases.{no_aliases, own_arity}
 use Rattle.hir_plain.specs.Plain.{IsPlainPath, IsPlainBody, IsPlainBodyOf, IsPlainExpr, is_unit_or_tuple, HasSizedParams, HasPlainBody, is_plain_adt_kind}
 use Rattle.hir_plain.proofs.PlainFns.{plain_direct}
-use Rattle.hir_plain.specs.Sized.{is_one_sized_lang, is_sized_trait, param_number, only_param, sized_param, is_number, is_below, is_sized_of, is_sized_pred}
+use Rattle.hir_plain.specs.Sized.{are_direct_structs, is_one_sized_lang, is_sized_trait, param_number, only_param, sized_param, is_number, is_below, is_sized_of, is_sized_pred}
 use Rattle.goal_answers.specs.Goals.{Asked, Rule as Source, System, implements, only, is_trait, is_among, OneIf, SomeOf, IsKnown, Verdicts}
 use Rattle.goal_answers.specs.Reading.{Aliases, ReadsAs}
 use Rattle.goal_answers.specs.Rows.{SizedYes}
@@ -69,19 +73,21 @@ use Rattle.goal_facts.specs.Systems.{fact, sized_by, IsSystemOf}
 use Rattle.goal_facts.proofs.Adding.{get_in_map}
 use Rattle.infer_result.specs.declared.result.InferenceResult.{InferenceResult}
 use Rattle.infer_result.specs.Kinds.Path.{PathRule}
-use Rattle.infer_result.specs.AliasNeeds.{alias_goals_from, fn_alias_goals, path_alias_goals, alias_goals}
-use Rattle.infer_result.specs.Needs.{variant_preds, path_preds, expr_preds, item_args, needs_preds, NeedsHold}
+use Rattle.infer_result.specs.Closed.{OnlyCtorPatsHaveItems}
+use Rattle.infer_result.specs.AliasNeeds.{alias_goals_from, fn_alias_goals, variant_alias_goals, path_alias_goals, alias_goals}
+use Rattle.infer_result.specs.Needs.{variant_preds, path_preds, expr_preds, item_args, needed_goals, needs_of, pat_needs_of, needs_preds, NeedsHold}
 use Rattle.infer_result.specs.Places.{Given}
 use Rattle.infer_result.specs.Placing.{at_types}
 use Rattle.infer_result.specs.Rules.{Rule, ObeysExpression}
-use Rattle.infer_result.specs.Table.{HasTy}
+use Rattle.infer_result.specs.Table.{HasTy, recorded}
 use Rattle.infer_result.specs.Typed.{given}
 use Rattle.infer_ctx.specs.Fine.{IsCarriedIn, HasFineHeads}
 use Rattle.infer_ctx.proofs.FineTypes.{every_at, fine_fn_args}
 use Rattle.infer_ctx.proofs.Lists.{found}
 use Rattle.infer_ctx.proofs.OverTypes.{carried_fine}
 use Rattle.infer_table.specs.Table.{new_state}
-use Rattle.infer_end.proofs.PlainBodies.{some_of, plain_body, none_plain}
+use Rattle.infer_end.proofs.PlainBodies.{some_of, plain_body, none_plain, no_ctor_aliases}
+use Rattle.infer_end.proofs.PlainFields.{adt_aliases}
 use Rattle.infer_end.proofs.SizedTypes.{IsClosedIn, AreClosedIn, fine_is_read, fine_is_known, adt_args_closed, has_size}
 
 -- ---- lists
@@ -199,7 +205,7 @@ param_proves A Yes t n = record {
   preds = tt;
 }
 
-module _ (raw : RawFacts) (law : IsLawful raw) (params : ℕ) (item : GenericDefId) (f : System) (are : IsSystemOf raw item f) (t : TraitId) (sized : is_sized_trait raw t ≡ true) (own : (n : ℕ) → n < params → IsStated raw item (param_goal t n)) where
+module _ (raw : RawFacts) (law : IsLawful raw) (structs : are_direct_structs raw ≡ true) (params : ℕ) (item : GenericDefId) (f : System) (are : IsSystemOf raw item f) (t : TraitId) (sized : is_sized_trait raw t ≡ true) (own : (n : ℕ) → n < params → IsStated raw item (param_goal t n)) where
   follows_at : (n : ℕ) (d : Asked) → IsStated raw item d → Follows raw (IsStated raw item) n d
   follows_at zero d s = s
   follows_at (suc n) d s = inl (follows_at n d s)
@@ -219,7 +225,7 @@ module _ (raw : RawFacts) (law : IsLawful raw) (params : ℕ) (item : GenericDef
     size_yes A v =
         let known = fine_is_known (types_scope raw params) (leaf head.TypePart) u closed in
         let Y : Term → Type 0 = λ x. IsKnown (only x) × HasSource f A v (implements t) (only x) in
-        let walk : SizedYes f A Y f.tail (term u) = has_size raw law params f are.last_field A Y (λ n within. (tt, own_source A v n within)) f.tail u closed in
+        let walk : SizedYes f A Y f.tail (term u) = has_size raw law structs params f are.last_field A Y (λ n within. (tt, own_source A v n within)) f.tail u closed in
         (known, inr (subst (λ b. OneIf b (SizedYes f A Y f.tail (term u)) (HasSource f A v (implements t) (only (term u)))) (sym among) walk))
 
     reads : (A : Aliases) → ReadsAs A (only (term u)) (only (term u))
@@ -229,7 +235,7 @@ module _ (raw : RawFacts) (law : IsLawful raw) (params : ℕ) (item : GenericDef
     sized_yes zero = (only (term u), reads (alias_first f), among, size_yes (alias_first f) (nothing f))
     sized_yes (suc n) = (only (term u), reads (alias_next f (answers f n)), size_yes (alias_next f (answers f n)) (answers f n))
 
--- ---- what plain functions take and give is no projection, so no goal is needed for one
+-- ---- what plain functions and constructors take and give is no projection, so no goal is needed for one
 
 module _ (raw : RawFacts) (law : IsLawful raw) (xs : List GenericArg) where
   path_plain : (q : RawPath) → IsPlainPath raw q → path_alias_goals raw xs q ≡ []
@@ -237,7 +243,9 @@ module _ (raw : RawFacts) (law : IsLawful raw) (xs : List GenericArg) where
       let x = some_of _ (slice_get raw.fns f.0) h in
       ap (fn_alias_goals raw xs) x.1 ∙ ap (alias_goals_from raw xs (length x.0.params)) (no_aliases raw law x.0 (plain_direct raw x.0 x.2))
   path_plain (path.Local v) h = refl
-  path_plain (path.Ctor v) h = refl
+  path_plain (path.Ctor v) h =
+      let x = some_of _ (slice_get raw.variants v.0) h in
+      ap (variant_alias_goals raw xs) x.1 ∙ ap (alias_goals_from raw xs (count_or_none (adt_params raw x.0.adt))) (adt_aliases raw law v.0 x.0 x.1 x.2.1)
   path_plain path.Other h = refl
 
   no_goals : (n : ℕ) (x : RawExpr) → IsPlainExpr raw n x → alias_goals raw xs x ≡ []
@@ -263,6 +271,9 @@ module _ (raw : RawFacts) (law : IsLawful raw) (d : DefWithBodyId) (b : RawBody)
   abbrev g : Given
   g = given raw d b
 
+  own_count : (n k : ℕ) → k ≡ 0 → n + k ≡ n
+  own_count n k none = omega (arith, none)
+
   -- an expression has one type
   one_ty : (e : ExprId) (t u : Ty) → HasTy r e t → HasTy r e u → t ≡ u
   one_ty e t u h k = (let both : Some (Some t) ≡ Some (Some u) = sym h ∙ k in cc)
@@ -287,18 +298,20 @@ module _ (raw : RawFacts) (law : IsLawful raw) (d : DefWithBodyId) (b : RawBody)
   ctor_args e v a ts ctor.Tuple test has = (ap item_args (out_fn_def (callable.VariantId v) (type_args ts)), fine_fn_args (types_scope raw (params_of raw d)) new_state (callable.VariantId v) ts (closed e _ has))
   ctor_args e v a ts ctor.Record test has = absurd (cc)
 
-  ctor_need : (e : ExprId) (t : Ty) (v : VariantId) (x : RawVariant) (a : RawAdt) → HasTy r e t → slice_get raw.variants v.0 ≡ Some x → slice_get raw.adts x.adt.0 ≡ Some a → is_unit_or_tuple x.ctor ≡ true
+  ctor_need : (e : ExprId) (t : Ty) (v : VariantId) (x : RawVariant) (a : RawAdt) → HasTy r e t → slice_get raw.variants v.0 ≡ Some x → slice_get raw.adts x.adt.0 ≡ Some a → variant_aliases raw.types x ≡ [] → is_unit_or_tuple x.ctor ≡ true
       → list_all (is_sized_pred raw (length a.params)) a.preds ≡ true → PathRule g r e (path.Ctor v) → (i : ℕ) (p : RawGoal) → slice_get a.preds i ≡ Some p → IsSizedNeed raw (params_of raw d) t p
-  ctor_need e t v x a has at adt test all rule i p found =
+  ctor_need e t v x a has at adt none test all rule i p found =
       let c = rule.2 in
       let ts : List Ty = c.types in
       let same : t ≡ rule.0 = one_ty e t rule.0 has rule.1 in
-      let named : c.variant ≡ x = (let both : Some c.variant ≡ Some x = sym c.is_variant.found ∙ at in cc) in
+      let named : c.variant ≡ x = (let both : Some c.variant ≡ Some x = sym c.is_ctor.found ∙ at in cc) in
       let is : t ≡ ctor_type_by x.ctor x.adt v ts = same ∙ (c.is ∙ ap (λ (y : RawVariant). ctor_type_by y.ctor y.adt v ts) named) in
       let args = ctor_args e v x.adt ts x.ctor test (subst (HasTy r e) is has) in
-      let both : Some (length a.params) ≡ Some (length ts) =
-      ap (option_map (λ (y : RawAdt). length y.params)) (sym adt) ∙ (ap (λ (y : RawVariant). option_map (λ (z : RawAdt). length z.params) (slice_get raw.adts y.adt.0)) (sym named) ∙ c.is_variant.count) in
-      let count : length a.params ≡ length ts = cc in
+      let both : Some (variant_arity raw.types x (length a.params)) ≡ Some (length ts) =
+      ap (λ o. option_map (variant_arity raw.types x) (option_map (λ (y : RawAdt). length y.params) o)) (sym adt)
+      ∙ (ap (option_and_then (λ (y : RawVariant). option_map (variant_arity raw.types y) (adt_params raw y.adt))) (sym at) ∙ c.is_ctor.count) in
+      let many : variant_arity raw.types x (length a.params) ≡ length ts = cc in
+      let count : length a.params ≡ length ts = sym (own_count (length a.params) (length (variant_aliases raw.types x)) (ap (λ (ks : List ℕ). length ks) none)) ∙ many in
       record {
         types = ts;
         args = ap (λ u. item_args (out-Ty u)) is ∙ args.0;
@@ -319,7 +332,7 @@ module _ (raw : RawFacts) (law : IsLawful raw) (d : DefWithBodyId) (b : RawBody)
       let y = x.2.1.is_plain.each x.0.adt.0 x.2.1.has in
       let here : slice_get (variant_preds raw (Some x.0)) i ≡ Some p = subst (λ o. slice_get (variant_preds raw o) i ≡ Some p) x.1 found in
       let listed = subst (λ (o : Option RawAdt). slice_get (preds_or_none (option_map (λ z. z.preds) o)) i ≡ Some p) y.found here in
-      ctor_need e t v x.0 y.adt has x.1 y.found x.2.0 (second_so (list_all _ y.adt.params) _ (second_so (is_plain_adt_kind y.adt.kind) _ y.params)) rule i p listed
+      ctor_need e t v x.0 y.adt has x.1 y.found (adt_aliases raw law v.0 x.0 x.1 x.2.1) x.2.0 (second_so (list_all _ y.adt.params) _ (second_so (is_plain_adt_kind y.adt.kind) _ y.params)) rule i p listed
 
   expr_need : (e : ExprId) (t : Ty) (x : RawExpr) → HasTy r e t → IsPlainExpr raw (params_of raw d) x → Rule (at_types g r) g r e (Some x) → (i : ℕ) (p : RawGoal) → slice_get (expr_preds raw x) i ≡ Some p → IsSizedNeed raw (params_of raw d) t p
   expr_need e t (expr.Path q) has plain rule i p found = path_need e t q has plain rule i p found
@@ -348,28 +361,58 @@ module _ (raw : RawFacts) (f : FunctionId) (x : RawFn) (at : slice_get raw.fns f
 
 -- ---- a table of carried types that obeys the rules
 
+recorded_is : (o : Option (Option Ty)) (t : Ty) → option_and_then (λ x. x) o ≡ Some t → o ≡ Some (Some t)
+recorded_is None t h = absurd (cc)
+recorded_is (Some None) t h = absurd (cc)
+recorded_is (Some (Some u)) t h = ap (λ x. Some x) h
+
 module _ (raw : RawFacts) (law : IsLawful raw) (b : RawBody) (r : InferenceResult) where
-  needs_of_fn : (f : FunctionId) → HasPlainBody raw f → IsPlainBody raw (params_of raw (def.FunctionId f)) b → ((e : ExprId) → e.0 < length b.exprs → ObeysExpression (given raw (def.FunctionId f) b) r e)
-      → ((e : ExprId) (t : Ty) → HasTy r e t → IsClosedIn (types_scope raw (params_of raw (def.FunctionId f))) t) → NeedsHold (def.FunctionId f) (given raw (def.FunctionId f) b) r
-  needs_of_fn f own plain obeys closed s are e a n =
+  -- what needs a goal is an expression with a type
+  record IsNeededAt (e : ExprId) (k : ℕ) (a : Asked) : Type 0 where
+    expr : RawExpr
+    is : slice_get b.exprs e.0 ≡ Some expr
+    ty : Ty
+    has : HasTy r e ty
+    among : slice_get (needed_goals raw expr ty) k ≡ Some a
+
+  needed_at : (e : ExprId) (k : ℕ) (a : Asked) (o : Option RawExpr) (p : Option Ty) → slice_get b.exprs e.0 ≡ o → recorded r.type_of_expr e.0 ≡ p → slice_get (needs_of raw o p) k ≡ Some a → IsNeededAt e k a
+  needed_at e k a (Some x) (Some t) is has at = record { expr = x; is = is; ty = t; has = recorded_is (slice_get r.type_of_expr e.0) t has; among = at }
+  needed_at e k a (Some x) None is has at = absurd (cc)
+  needed_at e k a None p is has at = absurd (cc)
+
+  -- no pattern of a plain body has an item
+  pat_needs_none : (n : ℕ) → IsPlainBody raw n b → OnlyCtorPatsHaveItems raw b r → (p : PatId) (k : ℕ) (a : Asked) (o : Option Ty) → recorded r.item_of_pat p.0 ≡ o → slice_get (pat_needs_of raw o) k ≡ Some a → ⊥
+  pat_needs_none n plain items p k a None has at = absurd (cc)
+  pat_needs_none n plain items p k a (Some t) has at =
+      let i = items p t (recorded_is (slice_get r.item_of_pat p.0) t has) in
+      i.has_aliases (no_ctor_aliases raw n b plain law p.0 i.named i.parts i.variant i.is_pat i.found)
+
+  needs_of_expr : (f : FunctionId) → HasPlainBody raw f → IsPlainBody raw (params_of raw (def.FunctionId f)) b → ((e : ExprId) → e.0 < length b.exprs → ObeysExpression (given raw (def.FunctionId f) b) r e)
+      → ((e : ExprId) (t : Ty) → HasTy r e t → IsClosedIn (types_scope raw (params_of raw (def.FunctionId f))) t) → (s : System) → IsSystemOf raw (generic.FunctionId f) s → (e : ExprId) (k : ℕ) (a : Asked) → IsNeededAt e k a → (answers s raw.limits.goal_depth).Yes a
+  needs_of_expr f own plain obeys closed s are e k a n =
       let d : DefWithBodyId = def.FunctionId f in
-      let q = get_in_map (goal_at raw (item_args (out-Ty n.ty))) (expr_preds raw n.expr) n.at a (subst (λ gs. slice_get gs n.at ≡ Some a) (needs_preds raw n.expr n.ty (no_goals raw law (item_args (out-Ty n.ty)) (params_of raw d) n.expr (plain.exprs e.0 n.expr n.is))) n.among) in
+      let q = get_in_map (goal_at raw (item_args (out-Ty n.ty))) (expr_preds raw n.expr) k a (subst (λ gs. slice_get gs k ≡ Some a) (needs_preds raw n.expr n.ty (no_goals raw law (item_args (out-Ty n.ty)) (params_of raw d) n.expr (plain.exprs e.0 n.expr n.is))) n.among) in
       let rule = subst (λ o. Rule (at_types (given raw d b) r) (given raw d b) r e o) n.is (obeys e (slice_get_within b.exprs e.0 n.expr n.is)) in
-      let need = expr_need raw law d b plain r closed e n.ty n.expr n.has (plain.exprs e.0 n.expr n.is) rule n.at q.0 q.1 in
+      let need = expr_need raw law d b plain r closed e n.ty n.expr n.has (plain.exprs e.0 n.expr n.is) rule k q.0 q.1 in
       let below = below_is raw (length need.types) (sized_param raw q.0) need.pred in
       let u = found need.types below.0 below.1 in
       let says = says_sized raw below.0 q.0 below.2 in
       let x = some_of _ (slice_get raw.fns f.0) own.sized in
-      let yes = sized_yes raw law (params_of raw d) (generic.FunctionId f) s are says.trait_ says.sized (own_stated raw f x.0 x.1 x.2 says.trait_ says.sized) u.0 (every_at (IsClosedIn (types_scope raw (params_of raw d))) need.types below.0 u.0 need.closed u.1) raw.limits.goal_depth in
+      let yes = sized_yes raw law own.structs (params_of raw d) (generic.FunctionId f) s are says.trait_ says.sized (own_stated raw f x.0 x.1 x.2 says.trait_ says.sized) u.0 (every_at (IsClosedIn (types_scope raw (params_of raw d))) need.types below.0 u.0 need.closed u.1) raw.limits.goal_depth in
       subst (answers s raw.limits.goal_depth).Yes (sym (says.goal need.types u.0 u.1) ∙ (ap (λ xs. goal_at raw xs q.0) (sym need.args) ∙ q.2)) yes
 
-  pub plain_needs : (d : DefWithBodyId) → IsPlainBodyOf raw d → body_of raw d ≡ Some b → ((e : ExprId) → e.0 < length b.exprs → ObeysExpression (given raw d b) r e)
+  needs_of_fn : (f : FunctionId) → HasPlainBody raw f → IsPlainBody raw (params_of raw (def.FunctionId f)) b → OnlyCtorPatsHaveItems raw b r → ((e : ExprId) → e.0 < length b.exprs → ObeysExpression (given raw (def.FunctionId f) b) r e)
+      → ((e : ExprId) (t : Ty) → HasTy r e t → IsClosedIn (types_scope raw (params_of raw (def.FunctionId f))) t) → NeedsHold (def.FunctionId f) (given raw (def.FunctionId f) b) r
+  needs_of_fn f own plain items obeys closed s are (of_node.ExprId e) a n = needs_of_expr f own plain obeys closed s are e n.at a (needed_at e n.at a (slice_get b.exprs e.0) (recorded r.type_of_expr e.0) refl refl n.among)
+  needs_of_fn f own plain items obeys closed s are (of_node.PatId p) a n = absurd (pat_needs_none (params_of raw (def.FunctionId f)) plain items p n.at a (recorded r.item_of_pat p.0) refl n.among)
+
+  pub plain_needs : (d : DefWithBodyId) → IsPlainBodyOf raw d → body_of raw d ≡ Some b → OnlyCtorPatsHaveItems raw b r → ((e : ExprId) → e.0 < length b.exprs → ObeysExpression (given raw d b) r e)
       → ((e : ExprId) (t : Ty) → HasTy r e t → IsCarriedIn (scope_of raw d) t) → NeedsHold d (given raw d b) r
-  plain_needs (def.FunctionId f) plain is obeys carried =
-      needs_of_fn f plain (plain_body raw (def.FunctionId f) b plain is) obeys (λ e t has.
+  plain_needs (def.FunctionId f) plain is items obeys carried =
+      needs_of_fn f plain (plain_body raw (def.FunctionId f) b plain is) items obeys (λ e t has.
       (let k = carried e t has in
       let heads = subst (λ x. HasFineHeads (record { facts = raw; params = params_of raw (def.FunctionId f); associated = x }) t) (none_plain raw law (def.FunctionId f) plain) k.heads in
       carried_fine new_state (types_scope raw (params_of raw (def.FunctionId f))) t k.carried heads))
-  plain_needs (def.ConstId c) plain is obeys carried = absurd plain
-  plain_needs (def.StaticId s) plain is obeys carried = absurd plain
-  plain_needs (def.VariantId v) plain is obeys carried = absurd plain
+  plain_needs (def.ConstId c) plain is items obeys carried = absurd plain
+  plain_needs (def.StaticId s) plain is items obeys carried = absurd plain
+  plain_needs (def.VariantId v) plain is items obeys carried = absurd plain

@@ -62,6 +62,7 @@ general_of_body g c o h = record {
   exprs = h.exprs;
   pats = h.pats;
   bindings = h.bindings;
+  items = h.items;
   modes = h.modes;
   mismatches = h.mismatches;
   diagnostics = h.diagnostics;

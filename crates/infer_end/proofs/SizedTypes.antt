@@ -1,7 +1,7 @@
 -- Types of carried kinds without holes have a size, where the parameters in scope have one.
-use Rattle.std.specs.List.{range_with_len}
+use Rattle.std.specs.List.{list_all, range_with_len}
 use Rattle.std.specs.Option.{option_and_then}
-use Rattle.std.proofs.Common.{ℕ, zero, suc, ◌+◌, ◌-◌, ◌<◌, ◌≡◌, arith, true, refl, sym, ap, ◌∙◌, subst, true≢false, List, [], ◌∷◌, map, length, Option, Some, None, option_map, slice_get, false}
+use Rattle.std.proofs.Common.{ℕ, zero, suc, ◌+◌, ◌-◌, ◌<◌, ◌≡◌, arith, true, refl, sym, ap, ◌∙◌, subst, true≢false, List, [], ◌∷◌, map, length, Option, Some, None, option_map, slice_get, Bool, false}
 use Rattle.std.proofs.lemmas.Bool.{ltb-true, eqb-true, or_left}
 use Rattle.hir_types.specs.declared.ids.AdtId.{AdtId}
 use Rattle.hir_types.specs.declared.ids.VariantId.{VariantId}
@@ -24,13 +24,18 @@ use Rattle.hir_raw.specs.declared.raw.RawAdtKind.TheVariants as kind
 use Rattle.hir_raw.specs.declared.raw.RawField.{RawField}
 use Rattle.hir_raw.specs.declared.raw.RawVariant.{RawVariant}
 use Rattle.hir_raw.specs.declared.raw.RawFacts.{RawFacts}
+use Rattle.hir_raw.specs.Hidden.{variant_aliases}
 use Rattle.hir_raw.specs.Scope.{Scope, adt_params, has_params, types_scope}
 use Rattle.hir_raw.specs.Signatures.{type_args, at_args}
 use Rattle.hir_raw.specs.WrittenTypes.{written_type}
+use Rattle.hir_ids.proofs.CarriedBodies.{list_all_at}
+use Rattle.hir_ids.specs.Carried.{is_empty}
+use Rattle.hir_laws.proofs.NoAliases.{field_direct}
 use Rattle.hir_laws.specs.Lawful.{IsLawful}
 use Rattle.hir_laws.specs.LawfulFacts.{adt_ids}
 use Rattle.hir_laws.specs.NoHoles.{field_has_no_hole}
-use Rattle.hir_laws.specs.WrittenFits.{fields_fit}
+use Rattle.hir_laws.specs.WrittenFits.{fields_fit, fits_direct}
+use Rattle.hir_plain.specs.Sized.{is_direct_variant, is_direct_struct, are_direct_structs}
 use Rattle.infer_table.specs.LogLemmas.{are_of_parts}
 use Rattle.infer_table.specs.TermLemmas.{hole_eq_same}
 use Rattle.infer_table.specs.Preserved.{TermRole, whole, part, rest, IsHead, IsTypeMark, IsMadeOf, width}
@@ -168,13 +173,18 @@ record IsField (raw : RawFacts) (a : RawAdt) (w : Term) : Type 0 where
   written : IsWritten (types_scope raw (length a.params)) type
   is : type_at raw (holes (length a.params)) type ≡ w
 
-module _ (raw : RawFacts) (law : IsLawful raw) (i : ℕ) (a : RawAdt) (found : slice_get raw.adts i ≡ Some a) (w : Term) where
+module _ (raw : RawFacts) (law : IsLawful raw) (i : ℕ) (a : RawAdt) (found : slice_get raw.adts i ≡ Some a) (structs : are_direct_structs raw ≡ true) (w : Term) where
   abbrev field_type : RawField → Term
   field_type x = type_at raw (holes (length a.params)) x.type_
 
-  by_field : (v : VariantId) (x : RawVariant) → slice_get a.variants 0 ≡ Some v → slice_get raw.variants v.0 ≡ Some x → (o : Option RawField) → last_of x.fields ≡ o → option_map field_type o ≡ Some w → IsField raw a w
-  by_field v x at here None last e = absurd (cc)
-  by_field v x at here (Some y) last e =
+  none_in : (ks : List ℕ) → is_empty ks ≡ true → ks ≡ []
+  none_in [] h = refl
+  none_in (k ∷ ks) h = absurd (cc)
+
+  -- no associated type stands in it, where the adt is a struct
+  by_field : (v : VariantId) (x : RawVariant) → slice_get a.variants 0 ≡ Some v → slice_get raw.variants v.0 ≡ Some x → variant_aliases raw.types x ≡ [] → (o : Option RawField) → last_of x.fields ≡ o → option_map field_type o ≡ Some w → IsField raw a w
+  by_field v x at here none None last e = absurd (cc)
+  by_field v x at here none (Some y) last e =
       let own = (adt_ids raw law i a found).variants 0 v at in
       let same : own.0 ≡ x = (let both : Some own.0 ≡ Some x = sym own.1 ∙ here in cc) in
       let number : x.adt.0 ≡ i = ap (λ (z : RawVariant). z.adt.0) (sym same) ∙ own.2 in
@@ -182,25 +192,28 @@ module _ (raw : RawFacts) (law : IsLawful raw) (i : ℕ) (a : RawAdt) (found : s
       let place = length x.fields - 1 in
       record {
         type = y.type_;
-        written = is_written raw law (length a.params) false y.type_ (fields_fit raw law v.0 x a here adt place y last) (field_has_no_hole raw law v.0 x here place y last);
+        written = is_written raw law (length a.params) false y.type_ (fits_direct raw (length a.params) y.type_.0 (fields_fit raw law v.0 x a here adt place y last) (field_direct raw law v.0 x here none place y last)) (field_has_no_hole raw law v.0 x here place y last);
         is = cc;
       }
 
-  by_variant : (v : VariantId) → slice_get a.variants 0 ≡ Some v → (o : Option RawVariant) → slice_get raw.variants v.0 ≡ o → option_map field_type (option_and_then (λ x. last_of x.fields) o) ≡ Some w → IsField raw a w
-  by_variant v at None here e = absurd (cc)
-  by_variant v at (Some x) here e = by_field v x at here (last_of x.fields) refl e
+  abbrev IsDirect : VariantId → Bool
+  IsDirect v = is_direct_variant raw (slice_get raw.variants v.0)
 
-  by_first : (o : Option VariantId) → slice_get a.variants 0 ≡ o → option_map field_type (option_and_then (λ x. last_of x.fields) (option_and_then (λ v. slice_get raw.variants v.0) o)) ≡ Some w → IsField raw a w
-  by_first None at e = absurd (cc)
-  by_first (Some v) at e = by_variant v at (slice_get raw.variants v.0) refl e
+  by_variant : (v : VariantId) → slice_get a.variants 0 ≡ Some v → IsDirect v ≡ true → (o : Option RawVariant) → slice_get raw.variants v.0 ≡ o → option_map field_type (option_and_then (λ x. last_of x.fields) o) ≡ Some w → IsField raw a w
+  by_variant v at direct None here e = absurd (cc)
+  by_variant v at direct (Some x) here e = by_field v x at here (none_in (variant_aliases raw.types x) (ap (is_direct_variant raw) (sym here) ∙ direct)) (last_of x.fields) refl e
 
-  by_kind : (k : RawAdtKind) → option_map field_type (option_and_then (λ x. last_of x.fields) (variant_of raw a k)) ≡ Some w → IsField raw a w
-  by_kind kind.Struct e = by_first (slice_get a.variants 0) refl e
-  by_kind kind.Enum e = absurd (cc)
-  by_kind kind.Union e = absurd (cc)
+  by_first : list_all IsDirect a.variants ≡ true → (o : Option VariantId) → slice_get a.variants 0 ≡ o → option_map field_type (option_and_then (λ x. last_of x.fields) (option_and_then (λ v. slice_get raw.variants v.0) o)) ≡ Some w → IsField raw a w
+  by_first all None at e = absurd (cc)
+  by_first all (Some v) at e = by_variant v at (list_all_at IsDirect a.variants 0 v all at) (slice_get raw.variants v.0) refl e
+
+  by_kind : (k : RawAdtKind) → is_direct_struct raw k a.variants ≡ true → option_map field_type (option_and_then (λ x. last_of x.fields) (variant_of raw a k)) ≡ Some w → IsField raw a w
+  by_kind kind.Struct direct e = by_first direct (slice_get a.variants 0) refl e
+  by_kind kind.Enum direct e = absurd (cc)
+  by_kind kind.Union direct e = absurd (cc)
 
   last_field : last_field_of raw a ≡ Some w → IsField raw a w
-  last_field e = by_kind a.kind e
+  last_field e = by_kind a.kind (list_all_at (λ (x : RawAdt). is_direct_struct raw x.kind x.variants) raw.adts i a structs found) e
 
 -- ---- the walk
 
@@ -209,7 +222,7 @@ last_type : (P : Ty → Type 0) (t : Ty) (ts : List Ty) → ((k : ℕ) (u : Ty) 
 last_type P t [] h = (t, h 0 t refl, refl)
 last_type P t (u ∷ ts) h = last_type P u ts (λ k v at. h (suc k) v at)
 
-module _ (raw : RawFacts) (law : IsLawful raw) (params : ℕ) (f : System) (fields : (a : AdtId) → f.last_field a ≡ option_and_then (last_field_of raw) (slice_get raw.adts a.0)) (A : Aliases) (Yes : Term → Type 0)
+module _ (raw : RawFacts) (law : IsLawful raw) (structs : are_direct_structs raw ≡ true) (params : ℕ) (f : System) (fields : (a : AdtId) → f.last_field a ≡ option_and_then (last_field_of raw) (slice_get raw.adts a.0)) (A : Aliases) (Yes : Term → Type 0)
     (own : (n : ℕ) → n < params → Yes (node (head.Param n) [])) where
   abbrev sc : Scope
   sc = types_scope raw params
@@ -236,7 +249,7 @@ module _ (raw : RawFacts) (law : IsLawful raw) (params : ℕ) (f : System) (fiel
     field_sized : (id : AdtId) (a : RawAdt) (ts : List Ty) (w : Term) → slice_get raw.adts id.0 ≡ Some a → length a.params ≡ length ts → AreClosedIn sc ts → last_field_of raw a ≡ Some w
         → SizedYesBy f A Yes n (node (head.Adt id) (parts_of_types ts)) (field_tail (Some w) (chain (parts_of_types ts)))
     field_sized id a ts w found count closed at =
-        let x = last_field raw law id.0 a found w at in
+        let x = last_field raw law id.0 a found structs w at in
         let t : Ty = at_args ts (written_type raw.types x.type) in
         let is : type_at raw (holes (length ts)) x.type ≡ w = ap (λ m. type_at raw (holes m) x.type) (sym count) ∙ x.is in
         let fine : IsClosedIn sc t = fine_instance sc new_state (length a.params) ts (sym count) closed (written_type raw.types x.type) (record { carried = x.written.carried; heads = x.written.heads }) in

@@ -23,18 +23,18 @@ use Rattle.infer_ctx.specs.Steps.{BodyDone}
 use Rattle.infer_end.specs.SelectedBody.{StaysOfPlain, OnlyGoals, ReadsLast}
 
 -- the table that it comes to, with these proofs and what could not be shown
-abbrev pub ended : List Proof → List (Ty × Ty) → List (List Gap) → InferenceContext → InferenceResult
-ended ps js gs z = with_goals ps js gs (closed_table (completion z.goals.table) z.asked z.result)
+abbrev pub ended : List Proof → List (Ty × Ty) → List (List Gap) → List (List Gap) → InferenceContext → InferenceResult
+ended ps js gs hs z = with_goals ps js gs hs (closed_table (completion z.goals.table) z.asked z.result)
 
 -- it is a table of the definition, with the types before fallback where the body is plain
-abbrev pub EndsAs : RawFacts → DefWithBodyId → List Proof → List (Ty × Ty) → List (List Gap) → InferenceContext → Type 0
-EndsAs raw d ps js gs z =
+abbrev pub EndsAs : RawFacts → DefWithBodyId → List Proof → List (Ty × Ty) → List (List Gap) → List (List Gap) → InferenceContext → Type 0
+EndsAs raw d ps js gs hs z =
     Meets (terms_of (completion z.goals.table)) z.goals.table → Respects (terms_of (completion z.goals.table)) → Triangular (log_of (bindings z.goals.table))
-    → IsTableOf raw d (ended ps js gs z) × HasGeneral raw d (ended ps js gs z)
+    → IsTableOf raw d (ended ps js gs hs z) × HasGeneral raw d (ended ps js gs hs z)
 
 -- whatever proofs there are
 abbrev pub EndsWell : RawFacts → DefWithBodyId → InferenceContext → Type 0
-EndsWell raw d z = (ps : List Proof) (js : List (Ty × Ty)) (gs : List (List Gap)) → EndsAs raw d ps js gs z
+EndsWell raw d z = (ps : List Proof) (js : List (Ty × Ty)) (gs hs : List (List Gap)) → EndsAs raw d ps js gs hs z
 
 -- ---- where a table comes from
 
@@ -62,4 +62,4 @@ pub record IsSelectedBody (raw : RawFacts) (d : DefWithBodyId) (b : RawBody) (z 
 pub record ComesOfSelection (raw : RawFacts) (d : DefWithBodyId) (b : RawBody) (r : InferenceResult) : Type 0 where
   pub found : InferenceContext
   pub selected : IsSelectedBody raw d b found
-  pub is : r ≡ ended r.proofs r.projections r.expr_gaps found
+  pub is : r ≡ ended r.proofs r.projections r.expr_gaps r.pat_gaps found

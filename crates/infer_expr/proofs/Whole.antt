@@ -62,6 +62,7 @@ module _ (b : RawBody) (s : Schedule) (law : IsWalkable b s) where
     pats = λ n t i. absurd (At-replicate (length b.pats) n t i);
     bindings = λ n t i. absurd (At-replicate (length b.bindings) n t i);
     placeholders = λ n t i. absurd (cc);
+    items = λ n t i. absurd (At-replicate (length b.pats) n t i);
     found = λ n k t i. absurd (At-replicate (length b.exprs) n (diagnostic.ExpectedFunction k t) i);
     expected = λ n m i. absurd (At-replicate (length b.exprs) n m i);
     actual = λ n m i. absurd (At-replicate (length b.exprs) n m i);
@@ -88,6 +89,7 @@ empty_walked g s a law = record {
     exprs = length-replicate (length g.body.exprs) None;
     pats = length-replicate (length g.body.pats) None;
     bindings = length-replicate (length g.body.bindings) None;
+    items = length-replicate (length g.body.pats) None;
     modes = length-replicate (length g.body.pats) None;
     mismatches = length-replicate (length g.body.exprs) None;
     pat_mismatches = length-replicate (length g.body.pats) None;
@@ -101,6 +103,8 @@ empty_walked g s a law = record {
   diagnostics = λ e d i. absurd (At-replicate (length g.body.exprs) e.0 d i);
   pat_diagnostics = λ p d i. absurd (At-replicate (length g.body.pats) p.0 d i);
   variants = record { exprs = refl; pats = refl };
+  items = λ p t i. absurd (At-replicate (length g.body.pats) p.0 t i);
+  free_items = λ p i lo. free-replicate (length g.body.pats) p.0 i;
   placeholders = λ k t i. absurd (cc);
   seen = λ i y there. absurd (cc);
   free_exprs = λ e i lo. free-replicate (length g.body.exprs) e.0 i;
@@ -168,6 +172,7 @@ module _ (g : Given) (s : Schedule) (a : Assignment) (law : IsWalkable g.body s)
       closed = table_closed new.result walked.state.carried;
       modes = walked.state.modes;
       placeholders = walked.state.placeholders;
+      items = walked.state.items;
       variants = only_named g.body new.result walked.state.variants;
     };
     clauses = λ e i.

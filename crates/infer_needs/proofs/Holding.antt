@@ -178,6 +178,7 @@ module _ (raw : RawFacts) (d : DefWithBodyId) (b : RawBody) (f : System) (r : In
       pats = h.pats;
       bindings = h.bindings;
       placeholders = h.placeholders;
+      items = h.items;
       expected = h.expected;
       actual = h.actual;
       pat_expected = h.pat_expected;

@@ -66,6 +66,7 @@ module _ (f : System) (n : ℕ) (js ks : List (Ty × Ty)) (l : IsFront js ks) wh
     pats = λ i t at. none_later t (h.pats i t at);
     bindings = λ i t at. none_later t (h.bindings i t at);
     placeholders = λ i t at. none_later t (h.placeholders i t at);
+    items = λ i t at. none_later t (h.items i t at);
     expected = λ i x at. none_later x.expected (h.expected i x at);
     actual = λ i x at. none_later x.actual (h.actual i x at);
     pat_expected = λ i x at. none_later x.expected (h.pat_expected i x at);
@@ -280,31 +281,35 @@ module _ (raw : RawFacts) (f : System) where
   later : {X : Type 0} (T : X → Ty → Type 0) (xs : List X) (ps qs : List Proof) (js ks : List (Ty × Ty)) → AddsRead raw f ps qs js ks → Of T xs js → Of T xs ks
   later T xs ps qs js ks a h = all_later f raw.limits.goal_depth js ks a.lists.behind T xs h
 
-  pub lists_table : (r : InferenceResult) (p0 p1 p2 p3 p4 p5 p6 p7 : List Proof) (j0 j1 j2 j3 j4 j5 j6 j7 : List (Ty × Ty))
+  pub lists_table : (r : InferenceResult) (p0 p1 p2 p3 p4 p5 p6 p7 p8 : List Proof) (j0 j1 j2 j3 j4 j5 j6 j7 j8 : List (Ty × Ty))
       → Lists raw f (Of StandsInType r.type_of_expr) p0 p1 j0 j1 → Lists raw f (Of StandsInType r.type_of_pat) p1 p2 j1 j2
       → Lists raw f (Of StandsInType r.type_of_binding) p2 p3 j2 j3 → Lists raw f (Of StandsInType r.type_of_placeholder) p3 p4 j3 j4
-      → Lists raw f (Of StandsInMismatch r.expr_mismatches) p4 p5 j4 j5 → Lists raw f (Of StandsInMismatch r.pat_mismatches) p5 p6 j5 j6
-      → Lists raw f (Of StandsInDiagnostic r.expr_diagnostics) p6 p7 j6 j7 → Lists raw f (λ js. AllTypes (Left js) r) p0 p7 j0 j7
-  lists_table r p0 p1 p2 p3 p4 p5 p6 p7 j0 j1 j2 j3 j4 j5 j6 j7 a b c d e g h =
-      let from6 = h.adds in
-      let from5 = read_then raw f p5 p6 p7 j5 j6 j7 g.adds from6 in
-      let from4 = read_then raw f p4 p5 p7 j4 j5 j7 e.adds from5 in
-      let from3 = read_then raw f p3 p4 p7 j3 j4 j7 d.adds from4 in
-      let from2 = read_then raw f p2 p3 p7 j2 j3 j7 c.adds from3 in
-      let from1 = read_then raw f p1 p2 p7 j1 j2 j7 b.adds from2 in
-      let exprs = later StandsInType r.type_of_expr p1 p7 j1 j7 from1 a.none in
-      let pats = later StandsInType r.type_of_pat p2 p7 j2 j7 from2 b.none in
-      let bindings = later StandsInType r.type_of_binding p3 p7 j3 j7 from3 c.none in
-      let placeholders = later StandsInType r.type_of_placeholder p4 p7 j4 j7 from4 d.none in
-      let mismatches = later StandsInMismatch r.expr_mismatches p5 p7 j5 j7 from5 e.none in
-      let pat_mismatches = later StandsInMismatch r.pat_mismatches p6 p7 j6 j7 from6 g.none in
+      → Lists raw f (Of StandsInType r.item_of_pat) p4 p5 j4 j5
+      → Lists raw f (Of StandsInMismatch r.expr_mismatches) p5 p6 j5 j6 → Lists raw f (Of StandsInMismatch r.pat_mismatches) p6 p7 j6 j7
+      → Lists raw f (Of StandsInDiagnostic r.expr_diagnostics) p7 p8 j7 j8 → Lists raw f (λ js. AllTypes (Left js) r) p0 p8 j0 j8
+  lists_table r p0 p1 p2 p3 p4 p5 p6 p7 p8 j0 j1 j2 j3 j4 j5 j6 j7 j8 a b c d i e g h =
+      let from7 = h.adds in
+      let from6 = read_then raw f p6 p7 p8 j6 j7 j8 g.adds from7 in
+      let from5 = read_then raw f p5 p6 p8 j5 j6 j8 e.adds from6 in
+      let from4 = read_then raw f p4 p5 p8 j4 j5 j8 i.adds from5 in
+      let from3 = read_then raw f p3 p4 p8 j3 j4 j8 d.adds from4 in
+      let from2 = read_then raw f p2 p3 p8 j2 j3 j8 c.adds from3 in
+      let from1 = read_then raw f p1 p2 p8 j1 j2 j8 b.adds from2 in
+      let exprs = later StandsInType r.type_of_expr p1 p8 j1 j8 from1 a.none in
+      let pats = later StandsInType r.type_of_pat p2 p8 j2 j8 from2 b.none in
+      let bindings = later StandsInType r.type_of_binding p3 p8 j3 j8 from3 c.none in
+      let placeholders = later StandsInType r.type_of_placeholder p4 p8 j4 j8 from4 d.none in
+      let items = later StandsInType r.item_of_pat p5 p8 j5 j8 from5 i.none in
+      let mismatches = later StandsInMismatch r.expr_mismatches p6 p8 j6 j8 from6 e.none in
+      let pat_mismatches = later StandsInMismatch r.pat_mismatches p7 p8 j7 j8 from7 g.none in
       record {
-        adds = read_then raw f p0 p1 p7 j0 j1 j7 a.adds from1;
+        adds = read_then raw f p0 p1 p8 j0 j1 j8 a.adds from1;
         none = record {
           exprs = λ i t at. exprs i (Some t) at t refl;
           pats = λ i t at. pats i (Some t) at t refl;
           bindings = λ i t at. bindings i (Some t) at t refl;
           placeholders = λ i t at. placeholders i (Some t) at t refl;
+          items = λ k t at. items k (Some t) at t refl;
           expected = λ i x at. mismatches i (Some x) at x.expected (x, refl, inl refl);
           actual = λ i x at. mismatches i (Some x) at x.actual (x, refl, inr refl);
           pat_expected = λ i x at. pat_mismatches i (Some x) at x.expected (x, refl, inl refl);

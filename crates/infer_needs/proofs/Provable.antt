@@ -139,6 +139,7 @@ module _ (raw : RawFacts) (d : DefWithBodyId) (r : InferenceResult) (is : IsTabl
         pats = λ k t at. is_final t (closed.pats k t at) (is.fit.pats k t at) (is.read.pats k t at);
         bindings = λ k t at. is_final t (closed.bindings k t at) (is.fit.bindings k t at) (is.read.bindings k t at);
         placeholders = λ k t at. is_final t (closed.placeholders k t at) (is.fit.placeholders k t at) (is.read.placeholders k t at);
+        items = λ k t at. is_final t (closed.items k t at) (is.fit.items k t at) (is.read.items k t at);
         expected = λ k x at. is_final x.expected (closed.expected k x at) (is.fit.expected k x at) (is.read.expected k x at);
         actual = λ k x at. is_final x.actual (closed.actual k x at) (is.fit.actual k x at) (is.read.actual k x at);
         pat_expected = λ k x at. is_final x.expected (closed.pat_expected k x at) (is.fit.pat_expected k x at) (is.read.pat_expected k x at);

@@ -1,6 +1,6 @@
--- What becomes of goals that expressions need.
+-- What becomes of goals that nodes need.
 use Rattle.std.specs.Prelude.{◌≡◌, ◌⊎◌, ◌++◌, ℕ, List, [], ◌∷◌, length, slice_get, Some}
-use Rattle.hir_types.specs.declared.ids.ExprId.{ExprId}
+use Rattle.hir_types.specs.declared.ids.ExprOrPatId.{ExprOrPatId}
 use Rattle.hir_types.specs.declared.ids.ExprOrPatId.TheVariants as node
 use Rattle.hir_types.specs.declared.ids.TypeAliasId.{TypeAliasId}
 use Rattle.hir_types.specs.declared.goal.Goal.{Goal}
@@ -26,7 +26,7 @@ use Rattle.infer_result.specs.declared.gaps.Gap.TheVariants as gap
 use Rattle.infer_result.specs.declared.result.InferenceResult.{InferenceResult}
 use Rattle.infer_result.specs.Closed.{AllTypes}
 use Rattle.infer_result.specs.Projections.{IsListedAs, HasEntry, IsAboutAlias, NoneIsLeft}
-use Rattle.infer_result.specs.Needs.{HoldsUnknown, Saying, gap_says, needs_of, needs_at}
+use Rattle.infer_result.specs.Needs.{HoldsUnknown, Saying, gap_says, needs_of, needs_at, pat_needs_at}
 use Rattle.infer_result.specs.Table.{recorded}
 use Rattle.infer_needs.specs.Listed.{FindsIn}
 
@@ -43,13 +43,17 @@ AreProvable xs = Each IsProvable xs
 abbrev pub CanAllBeProved : RawFacts → RawBody → InferenceResult → Type 0
 CanAllBeProved raw b r = (n : ℕ) (x : RawExpr) → slice_get b.exprs n ≡ Some x → AreProvable (needs_of raw (Some x) (recorded r.type_of_expr n))
 
+-- and all that its patterns need
+abbrev pub CanPatsBeProved : RawFacts → InferenceResult → Type 0
+CanPatsBeProved raw r = (n : ℕ) → AreProvable (pat_needs_at raw r n)
+
 -- ---- what is said
 
-abbrev pub unproved : ExprId → Goal → Gap
-unproved e q = gap.Unproved (node.ExprId e) q
+abbrev pub unproved : ExprOrPatId → Goal → Gap
+unproved e q = gap.Unproved e q
 
-abbrev pub clash : ExprId → Ty → Ty → Ty → Gap
-clash e a t u = gap.Clash (node.ExprId e) a t u
+abbrev pub clash : ExprOrPatId → Ty → Ty → Ty → Gap
+clash e a t u = gap.Clash e a t u
 
 -- one of these says so, at whatever node
 abbrev pub IsAmong : List Gap → Saying → Type 0
@@ -60,14 +64,14 @@ abbrev pub IsSaidOnce : Gap → List Gap → List Gap → Type 0
 IsSaidOnce x gs hs = ((hs ≡ gs) × IsAmong gs (gap_says x)) ⊎ ((hs ≡ gs ++ x ∷ []) × (IsAmong gs (gap_says x) → ⊥))
 
 -- it is said that a goal has no proof, unless `{unknown}` stands in it
-abbrev pub IsSaidIfKnown : ExprId → Goal → List Gap → List Gap → Type 0
+abbrev pub IsSaidIfKnown : ExprOrPatId → Goal → List Gap → List Gap → Type 0
 IsSaidIfKnown e q gs hs =
     (HoldsUnknown (asked_goal q).parts × (hs ≡ gs)) ⊎ ((HoldsUnknown (asked_goal q).parts → ⊥) × IsSaidOnce (unproved e q) gs hs)
 
 -- ---- what associated types were found to be
 
 -- the associated type is listed as the type now; or it was before, or as another type, and this is said
-abbrev pub IsListedNow : ExprId → Ty → Ty → List (Ty × Ty) → List (Ty × Ty) → List Gap → List Gap → Type 0
+abbrev pub IsListedNow : ExprOrPatId → Ty → Ty → List (Ty × Ty) → List (Ty × Ty) → List Gap → List Gap → Type 0
 IsListedNow e a u js ks gs hs =
     ((ks ≡ js ++ (a, u) ∷ []) × (hs ≡ gs))
     ⊎ ((ks ≡ js) × (t : Ty) × FindsIn js a (Some t) × (((term t ≡ term u) × (hs ≡ gs)) ⊎ ((Same t u → ⊥) × IsSaidOnce (clash e a t u) gs hs)))
@@ -82,7 +86,7 @@ pub record SaysAlias (q : Goal) : Type 0 where
   pub known : HoldsUnknown (asked_goal q).parts → ⊥
 
 -- what it says is listed, where it can be
-abbrev pub IsNoted : ExprId → Goal → List (Ty × Ty) → List (Ty × Ty) → List Gap → List Gap → Type 0
+abbrev pub IsNoted : ExprOrPatId → Goal → List (Ty × Ty) → List (Ty × Ty) → List Gap → List Gap → Type 0
 IsNoted e q js ks gs hs =
     ((ks ≡ js) × (hs ≡ gs) × (IsAboutAlias (asked_goal q) → ⊥))
     ⊎ ((s : SaysAlias q) × IsListedNow e (ty.Projection s.alias s.args) s.type js ks gs hs)
@@ -94,34 +98,34 @@ abbrev pub HasProofOf : List Proof → Asked → Type 0
 HasProofOf ps a = (k : ℕ) × (x : Proof) × (slice_get ps k ≡ Some x) × (asked_goal x.goal ≡ a)
 
 -- among these it is said that it has none
-abbrev pub IsSaid : ExprId → List Gap → Asked → Type 0
+abbrev pub IsSaid : ExprOrPatId → List Gap → Asked → Type 0
 IsSaid e gs a = (k : ℕ) × (q : Goal) × (slice_get gs k ≡ Some (unproved e q)) × (asked_goal q ≡ a)
 
 -- among these it is said that what it asks an associated type to be is another type than the one that is listed
-abbrev pub IsSaidClash : ExprId → List Gap → Asked → Type 0
+abbrev pub IsSaidClash : ExprOrPatId → List Gap → Asked → Type 0
 IsSaidClash e gs a = (n : ℕ) × (k : TypeAliasId) × (xs : List GenericArg) × (t : Ty) × (u : Ty) × (slice_get gs n ≡ Some (clash e (ty.Projection k xs) t u)) × (asked_goal (goal.Projection k xs u) ≡ a)
 
 -- it has a proof; and what it asks an associated type to be is listed, or another type, and this is said
-abbrev pub IsProvedAndListed : ExprId → List Proof → List (Ty × Ty) → List Gap → Asked → Type 0
+abbrev pub IsProvedAndListed : ExprOrPatId → List Proof → List (Ty × Ty) → List Gap → Asked → Type 0
 IsProvedAndListed e ps js gs a = HasProofOf ps a × (IsAboutAlias a → HasEntry js a ⊎ IsSaidClash e gs a)
 
-abbrev pub IsDone : ExprId → List Proof → List (Ty × Ty) → List Gap → Asked → Type 0
+abbrev pub IsDone : ExprOrPatId → List Proof → List (Ty × Ty) → List Gap → Asked → Type 0
 IsDone e ps js gs a = IsProvedAndListed e ps js gs a ⊎ (IsSaid e gs a ⊎ HoldsUnknown a.parts)
 
 -- its answer at the depth isn't Yes, and it is said unless `{unknown}` stands in it
-pub record IsRefused (f : System) (n : ℕ) (e : ExprId) (q : Goal) (ps qs : List Proof) (js ks : List (Ty × Ty)) (gs hs : List Gap) : Type 0 where
+pub record IsRefused (f : System) (n : ℕ) (e : ExprOrPatId) (q : Goal) (ps qs : List Proof) (js ks : List (Ty × Ty)) (gs hs : List Gap) : Type 0 where
   pub proofs : qs ≡ ps
   pub listed : ks ≡ js
   pub fails : (answers f n).Yes (asked_goal q) → ⊥
   pub said : IsSaidIfKnown e q gs hs
 
 -- it is proved
-pub record IsShown (raw : RawFacts) (f : System) (e : ExprId) (q : Goal) (ps qs : List Proof) (js ks : List (Ty × Ty)) (gs hs : List Gap) : Type 0 where
+pub record IsShown (raw : RawFacts) (f : System) (e : ExprOrPatId) (q : Goal) (ps qs : List Proof) (js ks : List (Ty × Ty)) (gs hs : List Gap) : Type 0 where
   pub adds : AddsProofs raw f ps qs
   pub has : HasProofOf qs (asked_goal q)
   pub noted : IsNoted e q js ks gs hs
 
-abbrev pub IsJudged : RawFacts → System → ExprId → Goal → List Proof → List Proof → List (Ty × Ty) → List (Ty × Ty) → List Gap → List Gap → Type 0
+abbrev pub IsJudged : RawFacts → System → ExprOrPatId → Goal → List Proof → List Proof → List (Ty × Ty) → List (Ty × Ty) → List Gap → List Gap → Type 0
 IsJudged raw f e q ps qs js ks gs hs = IsShown raw f e q ps qs js ks gs hs ⊎ IsRefused f raw.limits.goal_depth e q ps qs js ks gs hs
 
 -- ---- what is listed
@@ -146,7 +150,7 @@ pub record AddsEntries (ps qs : List Proof) (js ks : List (Ty × Ty)) : Type 0 w
 -- ---- the goals of an expression
 
 -- it is of one of these goals, which is without `{unknown}`, and whose answer isn't Yes
-pub record IsOfFailing (f : System) (n : ℕ) (e : ExprId) (xs : List Asked) (x : Gap) : Type 0 where
+pub record IsOfFailing (f : System) (n : ℕ) (e : ExprOrPatId) (xs : List Asked) (x : Gap) : Type 0 where
   pub goal : Goal
   pub is : x ≡ unproved e goal
   pub at : ℕ
@@ -155,7 +159,7 @@ pub record IsOfFailing (f : System) (n : ℕ) (e : ExprId) (xs : List Asked) (x 
   pub fails : (answers f n).Yes (asked_goal goal) → ⊥
 
 -- it is of one of these goals, which has a proof, and asks an associated type to be another type than the one that is listed
-pub record IsOfClash (e : ExprId) (xs : List Asked) (ps : List Proof) (js : List (Ty × Ty)) (x : Gap) : Type 0 where
+pub record IsOfClash (e : ExprOrPatId) (xs : List Asked) (ps : List Proof) (js : List (Ty × Ty)) (x : Gap) : Type 0 where
   pub alias : TypeAliasId
   pub args : List GenericArg
   pub first : Ty
@@ -168,13 +172,13 @@ pub record IsOfClash (e : ExprId) (xs : List Asked) (ps : List Proof) (js : List
   pub differ : Same first second → ⊥
 
 -- each goal is proved, or said to have no proof, or `{unknown}` stands in it; and what is said is so, and said once
-pub record AreDone (f : System) (n : ℕ) (e : ExprId) (xs : List Asked) (ps : List Proof) (js : List (Ty × Ty)) (gs : List Gap) : Type 0 where
+pub record AreDone (f : System) (n : ℕ) (e : ExprOrPatId) (xs : List Asked) (ps : List Proof) (js : List (Ty × Ty)) (gs : List Gap) : Type 0 where
   pub each : (k : ℕ) (a : Asked) → slice_get xs k ≡ Some a → IsDone e ps js gs a
   pub gaps : (k : ℕ) (x : Gap) → slice_get gs k ≡ Some x → IsOfFailing f n e xs x ⊎ IsOfClash e xs ps js x
   pub once : (j k : ℕ) (x y : Gap) → slice_get gs j ≡ Some x → slice_get gs k ≡ Some y → gap_says x ≡ gap_says y → j ≡ k
 
 -- so it is once these proofs are added, and these entries
-pub record AreJudged (raw : RawFacts) (f : System) (e : ExprId) (xs : List Asked) (ps qs : List Proof) (js ks : List (Ty × Ty)) (gs : List Gap) : Type 0 where
+pub record AreJudged (raw : RawFacts) (f : System) (e : ExprOrPatId) (xs : List Asked) (ps qs : List Proof) (js ks : List (Ty × Ty)) (gs : List Gap) : Type 0 where
   pub adds : AddsProofs raw f ps qs
   pub lists : AddsEntries ps qs js ks
   pub done : AreDone f raw.limits.goal_depth e xs qs ks gs
@@ -187,4 +191,13 @@ pub record AreAllJudged (raw : RawFacts) (f : System) (b : RawBody) (r : Inferen
   pub entries : AreEntries ps js
   pub left : AllTypes (NoneIsLeft f raw.limits.goal_depth js) r
   pub long : length gss ≡ n
-  pub each : (k : ℕ) (gs : List Gap) → slice_get gss k ≡ Some gs → AreDone f raw.limits.goal_depth (record { 0 = k }) (needs_at raw b r k) ps js gs
+  pub each : (k : ℕ) (gs : List Gap) → slice_get gss k ≡ Some gs → AreDone f raw.limits.goal_depth (node.ExprId (record { 0 = k })) (needs_at raw b r k) ps js gs
+
+-- ---- the patterns of a body
+
+-- so it is of each of the first patterns, once more proofs and entries are added
+pub record ArePatsJudged (raw : RawFacts) (f : System) (r : InferenceResult) (n : ℕ) (ps qs : List Proof) (js ks : List (Ty × Ty)) (gss : List (List Gap)) : Type 0 where
+  pub adds : AddsProofs raw f ps qs
+  pub lists : AddsEntries ps qs js ks
+  pub long : length gss ≡ n
+  pub each : (k : ℕ) (gs : List Gap) → slice_get gss k ≡ Some gs → AreDone f raw.limits.goal_depth (node.PatId (record { 0 = k })) (pat_needs_at raw r k) qs ks gs

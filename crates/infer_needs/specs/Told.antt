@@ -11,18 +11,24 @@ use Rattle.goal_search.specs.declared.answer.Answer.{Answer}
 use Rattle.goal_facts.specs.Goals.{asked_goal, IsAnswer}
 use Rattle.goal_facts.specs.Systems.{IsSystemOf}
 use Rattle.infer_result.specs.declared.result.InferenceResult.{InferenceResult}
-use Rattle.infer_result.specs.Needs.{needs_at, scope_item}
+use Rattle.infer_result.specs.Needs.{needs_at, pat_needs_at, scope_item}
 use Rattle.infer_result.specs.Places.{Given}
 
--- ---- what expressions need
+-- ---- what nodes need
 
--- what the first `n` need, in their order
+-- what the first `n` expressions need, in their order
 abbrev pub first_needs : RawFacts → RawBody → InferenceResult → ℕ → List Asked
 first_needs raw b r zero = []
 first_needs raw b r (suc n) = first_needs raw b r n ++ needs_at raw b r n
 
+-- what the first `n` patterns need, in their order
+abbrev pub first_pat_needs : RawFacts → InferenceResult → ℕ → List Asked
+first_pat_needs raw r zero = []
+first_pat_needs raw r (suc n) = first_pat_needs raw r n ++ pat_needs_at raw r n
+
+-- expressions first
 abbrev pub all_needs : RawFacts → RawBody → InferenceResult → List Asked
-all_needs raw b r = first_needs raw b r (length b.exprs)
+all_needs raw b r = first_needs raw b r (length b.exprs) ++ first_pat_needs raw r (length b.pats)
 
 -- ---- what is told
 

@@ -280,6 +280,7 @@ pub fn look_at_table(
         proofs,
         found,
     )?;
+    look_at_types(alloc, sources, table.item_of_pat.as_slice(), proofs, found)?;
     look_at_mismatches(
         alloc,
         sources,

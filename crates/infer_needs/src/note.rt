@@ -7,7 +7,7 @@ use crate::found::Found;
 use crate::say::say;
 use crate::unknown::holds_unknown;
 use goal_terms::type_term;
-use hir_facts::{ExprId, ExprOrPatId, Goal, List, Ty};
+use hir_facts::{ExprOrPatId, Goal, List, Ty};
 use infer_result::Gap;
 use std::alloc::{AllocError, Global};
 
@@ -25,11 +25,11 @@ fn list(
     alloc: Global,
     alias: Ty,
     ty: Ty,
-    expr: ExprId,
+    node: ExprOrPatId,
     found: &mut Found,
     gaps: &mut List<Gap>,
 ) -> Result<(), AllocError>
-    ensures { OnOk result (IsListedNow expr alias ty found.old found.new gaps.old gaps.new) }
+    ensures { OnOk result (IsListedNow node alias ty found.old found.new gaps.old gaps.new) }
 {
     let Some(first) = found.find(&alias) else {
         return found.add(alloc, alias, ty);
@@ -38,7 +38,6 @@ fn list(
         return Ok(());
     }
     let first = first.dup(alloc)?;
-    let node = ExprOrPatId::ExprId(expr);
     let clash = Gap::Clash {
         node,
         alias,
@@ -53,11 +52,11 @@ fn list(
 pub fn note(
     alloc: Global,
     goal: Goal,
-    expr: ExprId,
+    node: ExprOrPatId,
     found: &mut Found,
     gaps: &mut List<Gap>,
 ) -> Result<(), AllocError>
-    ensures { OnOk result (IsNoted expr goal found.old found.new gaps.old gaps.new) }
+    ensures { OnOk result (IsNoted node goal found.old found.new gaps.old gaps.new) }
 {
     let is_unknown = holds_unknown(alloc, &goal)?;
     match goal {
@@ -67,7 +66,7 @@ pub fn note(
             if is_unknown || !is_read {
                 return Ok(());
             }
-            list(alloc, Ty::Projection(alias, args), ty, expr, found, gaps)
+            list(alloc, Ty::Projection(alias, args), ty, node, found, gaps)
         }
     }
 }

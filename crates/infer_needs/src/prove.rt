@@ -1,17 +1,18 @@
 //! What nodes need is proved, or complained of: the end of `infer.rs`'s `infer_body`, where obligations that are
 //! left are looked at once more.
-ghost use Rattle.std.specs.Prelude.{◌≡◌, ◌++◌, [], ◌∷◌, length, Some, IfOk, OnOk};
+ghost use Rattle.std.specs.Prelude.{◌≡◌, ◌++◌, [], ◌∷◌, length, map, Some, IfOk, OnOk};
+ghost use Rattle.hir_types.specs.declared.ids.ExprOrPatId.TheVariants as node;
 ghost use Rattle.hir_raw.specs.declared.raw.RawBody.{RawBody};
 ghost use Rattle.hir_laws.specs.Bodies.{body_of};
 ghost use Rattle.goal_search.specs.Sources.{system};
 ghost use Rattle.goal_facts.specs.Goals.{asked_goal, IsAnswer};
-ghost use Rattle.infer_result.specs.Needs.{needed_goals, with_goals, scope_item, GoalsHold, HasNoneLeft, needs_of};
+ghost use Rattle.infer_result.specs.Needs.{with_goals, scope_item, GoalsHold, HasNoneLeft, needs_of, pat_needs_at};
 ghost use Rattle.infer_result.specs.Closed.{AllTypes};
 ghost use Rattle.infer_result.specs.Table.{recorded};
 ghost use Rattle.infer_needs.specs.Left.{IsFinalType};
 ghost use Rattle.infer_result.specs.Typed.{IsTableOf, given};
-ghost use Rattle.infer_needs.specs.Judged.{IsProvable, AreProvable, CanAllBeProved, IsSaidIfKnown, IsJudged, AreJudged, AreAllJudged};
-ghost use Rattle.infer_needs.specs.Told.{ListsAnswers, all_needs, AreAllAnswered};
+ghost use Rattle.infer_needs.specs.Judged.{IsProvable, AreProvable, CanAllBeProved, CanPatsBeProved, IsSaidIfKnown, IsJudged, AreJudged, AreAllJudged, ArePatsJudged};
+ghost use Rattle.infer_needs.specs.Told.{ListsAnswers, first_needs, first_pat_needs, AreAllAnswered};
 
 use crate::found::Found;
 use crate::left::look_at_table;
@@ -21,10 +22,9 @@ use crate::unknown::holds_unknown;
 use goal_facts::{Answer, ItemSources, Proof};
 use goal_prove::prove_goal;
 use hir_facts::{
-    AdtId, DefWithBodyId, ExprId, ExprOrPatId, Facts, GenericDefId, Goal, List, RawBody, RawExpr,
-    Ty,
+    AdtId, DefWithBodyId, ExprOrPatId, Facts, GenericDefId, Goal, List, RawBody, RawExpr,
 };
-use infer_result::{Gap, InferenceResult, expr_id, needed_goals};
+use infer_result::{Gap, InferenceResult, expr_id, needed_goals, pat_id, pat_needs};
 use std::alloc::{AllocError, Global};
 
 /// The item in whose scope a body is.
@@ -59,69 +59,72 @@ fn evaluate(
 }
 
 /// Says of a goal whose answer isn't Yes that it has no proof, once, unless `{unknown}` stands in it.
-fn complain(alloc: Global, goal: Goal, expr: ExprId, gaps: &mut List<Gap>) -> Result<(), AllocError>
-    ensures { OnOk result (IsSaidIfKnown expr goal gaps.old gaps.new) }
+fn complain(
+    alloc: Global,
+    goal: Goal,
+    node: ExprOrPatId,
+    gaps: &mut List<Gap>,
+) -> Result<(), AllocError>
+    ensures { OnOk result (IsSaidIfKnown node goal gaps.old gaps.new) }
 {
     if holds_unknown(alloc, &goal)? {
         return Ok(());
     }
-    let node = ExprOrPatId::ExprId(expr);
     say(alloc, Gap::Unproved { node, goal }, gaps)
 }
 
-/// Evaluates a goal without holes that an expression needs, takes note of its answer, and adds its proof and what
+/// Evaluates a goal without holes that a node needs, takes note of its answer, and adds its proof and what
 /// it says of an associated type, or says that it has none, unless `{unknown}` stands in it.
 fn prove_need(
     alloc: Global,
     sources: &ItemSources<'_>,
     goal: Goal,
-    expr: ExprId,
+    node: ExprOrPatId,
     told: &mut Vec<(Goal, Answer)>,
     proofs: &mut Vec<Proof>,
     found: &mut Found,
     gaps: &mut List<Gap>,
 ) -> Result<(), AllocError>
     requires { IsProvable (asked_goal goal) }
-    ensures judged { OnOk result (IsJudged sources.now.facts (system sources.now.sources) expr goal proofs.old.items proofs.new.items found.old found.new gaps.old gaps.new) }
+    ensures judged { OnOk result (IsJudged sources.now.facts (system sources.now.sources) node goal proofs.old.items proofs.new.items found.old found.new gaps.old gaps.new) }
     ensures told { OnOk result (ListsAnswers (system sources.now.sources) sources.now.facts.limits.goal_depth (asked_goal goal ∷ []) told.old.items told.new.items) }
 {
     match evaluate(alloc, sources, &goal, told)? {
         Answer::Yes => {
             let depth = sources.facts().raw().limits.goal_depth;
             prove_goal(alloc, sources, &goal, depth, proofs)?;
-            note(alloc, goal, expr, found, gaps)?;
+            note(alloc, goal, node, found, gaps)?;
             Ok(())
         }
         Answer::No | Answer::Undecided => {
-            complain(alloc, goal, expr, gaps)?;
+            complain(alloc, goal, node, gaps)?;
             Ok(())
         }
     }
 }
 
-/// Does so with each goal that an expression of this type needs; gives what could not be shown.
-fn prove_expr(
+/// Does so with each of these goals, which a node needs; gives what could not be shown.
+fn prove_each(
     alloc: Global,
     sources: &ItemSources<'_>,
-    expr: &RawExpr,
-    id: ExprId,
-    ty: &Ty,
+    needed: Vec<Goal>,
+    node: ExprOrPatId,
     told: &mut Vec<(Goal, Answer)>,
     proofs: &mut Vec<Proof>,
     found: &mut Found,
 ) -> Result<List<Gap>, AllocError>
-    requires { AreProvable (needed_goals sources.now.facts expr.now ty.now) }
-    ensures judged { IfOk result (λ gaps. AreJudged sources.now.facts (system sources.now.sources) id (needed_goals sources.now.facts expr.now ty.now) proofs.old.items proofs.new.items found.old found.new gaps) }
-    ensures told { OnOk result (ListsAnswers (system sources.now.sources) sources.now.facts.limits.goal_depth (needed_goals sources.now.facts expr.now ty.now) told.old.items told.new.items) }
+    requires { AreProvable (map asked_goal needed.items) }
+    ensures judged { IfOk result (λ gaps. AreJudged sources.now.facts (system sources.now.sources) node (map asked_goal needed.items) proofs.old.items proofs.new.items found.old found.new gaps) }
+    ensures told { OnOk result (ListsAnswers (system sources.now.sources) sources.now.facts.limits.goal_depth (map asked_goal needed.items) told.old.items told.new.items) }
 {
     let mut gaps = List::new(alloc);
-    for goal in needed_goals(alloc, sources.facts(), expr, ty)? {
-        prove_need(alloc, sources, goal, id, told, proofs, found, &mut gaps)?;
+    for goal in needed {
+        prove_need(alloc, sources, goal, node, told, proofs, found, &mut gaps)?;
     }
     Ok(gaps)
 }
 
-/// The same of the expression of this number, at the type that the table records.
+/// Does so with what the expression of this number needs, at the type that the table records.
 fn prove_at(
     alloc: Global,
     sources: &ItemSources<'_>,
@@ -133,17 +136,66 @@ fn prove_at(
     found: &mut Found,
 ) -> Result<List<Gap>, AllocError>
     requires { AreProvable (needs_of sources.now.facts (Some expr.now) (recorded table.now.type_of_expr at)) }
-    ensures judged { IfOk result (λ gaps. AreJudged sources.now.facts (system sources.now.sources) (record { 0 = at }) (needs_of sources.now.facts (Some expr.now) (recorded table.now.type_of_expr at)) proofs.old.items proofs.new.items found.old found.new gaps) }
+    ensures judged { IfOk result (λ gaps. AreJudged sources.now.facts (system sources.now.sources) (node.ExprId (record { 0 = at })) (needs_of sources.now.facts (Some expr.now) (recorded table.now.type_of_expr at)) proofs.old.items proofs.new.items found.old found.new gaps) }
     ensures told { OnOk result (ListsAnswers (system sources.now.sources) sources.now.facts.limits.goal_depth (needs_of sources.now.facts (Some expr.now) (recorded table.now.type_of_expr at)) told.old.items told.new.items) }
 {
-    let id = expr_id(at)?;
-    match table.type_of_expr_or_pat(ExprOrPatId::ExprId(id)) {
+    let node = ExprOrPatId::ExprId(expr_id(at)?);
+    match table.type_of_expr_or_pat(node) {
         Some(ty) => {
-            let gaps = prove_expr(alloc, sources, expr, id, ty, told, proofs, found)?;
+            let needed = needed_goals(alloc, sources.facts(), expr, ty)?;
+            let gaps = prove_each(alloc, sources, needed, node, told, proofs, found)?;
             Ok(gaps)
         }
         None => Ok(List::new(alloc)),
     }
+}
+
+/// The same of the pattern of this number, at the item that the table records.
+fn prove_pat(
+    alloc: Global,
+    sources: &ItemSources<'_>,
+    at: usize,
+    table: &InferenceResult,
+    told: &mut Vec<(Goal, Answer)>,
+    proofs: &mut Vec<Proof>,
+    found: &mut Found,
+) -> Result<List<Gap>, AllocError>
+    requires { AreProvable (pat_needs_at sources.now.facts table.now at) }
+    ensures judged { IfOk result (λ gaps. AreJudged sources.now.facts (system sources.now.sources) (node.PatId (record { 0 = at })) (pat_needs_at sources.now.facts table.now at) proofs.old.items proofs.new.items found.old found.new gaps) }
+    ensures told { OnOk result (ListsAnswers (system sources.now.sources) sources.now.facts.limits.goal_depth (pat_needs_at sources.now.facts table.now at) told.old.items told.new.items) }
+{
+    let pat = pat_id(at)?;
+    match table.item_of_pat(pat) {
+        Some(item) => {
+            let needed = pat_needs(alloc, sources.facts(), item)?;
+            let node = ExprOrPatId::PatId(pat);
+            let gaps = prove_each(alloc, sources, needed, node, told, proofs, found)?;
+            Ok(gaps)
+        }
+        None => Ok(List::new(alloc)),
+    }
+}
+
+/// The same of each pattern of a body, in their order; gives each pattern's gaps.
+fn prove_pats(
+    alloc: Global,
+    sources: &ItemSources<'_>,
+    body: &RawBody,
+    table: &InferenceResult,
+    told: &mut Vec<(Goal, Answer)>,
+    proofs: &mut Vec<Proof>,
+    found: &mut Found,
+) -> Result<List<List<Gap>>, AllocError>
+    requires { CanPatsBeProved sources.now.facts table.now }
+    ensures judged { IfOk result (λ gaps. ArePatsJudged sources.now.facts (system sources.now.sources) table.now (length body.now.pats) proofs.old.items proofs.new.items found.old found.new gaps) }
+    ensures told { OnOk result (ListsAnswers (system sources.now.sources) sources.now.facts.limits.goal_depth (first_pat_needs sources.now.facts table.now (length body.now.pats)) told.old.items told.new.items) }
+{
+    let mut gaps = List::new(alloc);
+    for at in 0..body.pats.len() {
+        let here = prove_pat(alloc, sources, at, table, told, proofs, found)?;
+        gaps.push(here)?;
+    }
+    Ok(gaps)
 }
 
 /// The same of each expression of a body, in their order, once what associated types in the types of the table read
@@ -158,7 +210,7 @@ fn prove_exprs(
     requires needs { CanAllBeProved sources.now.facts body.now table.now }
     requires types { AllTypes IsFinalType table.now }
     ensures judged { IfOk result (λ made. AreAllJudged sources.now.facts (system sources.now.sources) body.now table.now (length body.now.exprs) made.0.items made.1 made.2) }
-    ensures told { OnOk result (ListsAnswers (system sources.now.sources) sources.now.facts.limits.goal_depth (all_needs sources.now.facts body.now table.now) told.old.items told.new.items) }
+    ensures told { OnOk result (ListsAnswers (system sources.now.sources) sources.now.facts.limits.goal_depth (first_needs sources.now.facts body.now table.now (length body.now.exprs)) told.old.items told.new.items) }
 {
     let mut proofs = Vec::new(alloc);
     let mut found = Found::new(alloc);
@@ -182,7 +234,7 @@ fn prove_exprs(
 
 /// Proves each goal that a node of a typed body needs, at the types that are recorded, or says of it that it
 /// has no proof. Only a goal in which `{unknown}` stands may be left without either. Each goal is evaluated
-/// once, in the order of the expressions and of the predicates of each item: these are given back, each with its
+/// once, in the order of the expressions and of the predicates of each item, and then of the patterns: these are given back, each with its
 /// answer. What associated types were found to be is listed, each once; where one is another type at a node, this is
 /// said there. In no type of the table is one left that could be read, unless what it is is listed. Nothing else of the
 /// table changes. The one error is want of memory.
@@ -193,7 +245,7 @@ pub fn prove_needs(
     table: &mut InferenceResult,
 ) -> Result<Vec<(Goal, Answer)>, AllocError>
     requires { IsTableOf facts.now def table.old }
-    ensures table { OnOk result (table.new ≡ with_goals table.new.proofs table.new.projections table.new.expr_gaps table.old) }
+    ensures table { OnOk result (table.new ≡ with_goals table.new.proofs table.new.projections table.new.expr_gaps table.new.pat_gaps table.old) }
     ensures goals { OnOk result ((b : RawBody) → body_of facts.now def ≡ Some b → GoalsHold def (given facts.now def b) table.new) }
     ensures left { OnOk result ((b : RawBody) → body_of facts.now def ≡ Some b → HasNoneLeft def (given facts.now def b) table.new) }
     ensures told { IfOk result (λ told. (b : RawBody) → body_of facts.now def ≡ Some b → AreAllAnswered def (given facts.now def b) table.new told.items) }
@@ -206,9 +258,19 @@ pub fn prove_needs(
     let sources = ItemSources::new(alloc, facts, scope_item(facts, def))?;
     sources.lawful();
     let mut told = Vec::new(alloc);
-    let (proofs, found, gaps) = prove_exprs(alloc, &sources, body, table, &mut told)?;
+    let (mut proofs, mut found, gaps) = prove_exprs(alloc, &sources, body, table, &mut told)?;
+    let pat_gaps = prove_pats(
+        alloc,
+        &sources,
+        body,
+        table,
+        &mut told,
+        &mut proofs,
+        &mut found,
+    )?;
     table.proofs = List::from_vec(proofs);
     table.projections = List::from_vec(found.into_pairs());
     table.expr_gaps = gaps;
+    table.pat_gaps = pat_gaps;
     Ok(told)
 }

@@ -1,5 +1,6 @@
 -- What the path at an expression needs, at a type in scope, has types in scope alone where it is concrete.
 use Rattle.std.specs.Prelude.{◌≡◌, ◌≤◌, ◌+◌, ◌⊎◌, ℕ, suc, List, [], ◌∷◌, length, map, slice_get, Option, Some, None, option_map, refl}
+use Rattle.std.specs.Option.{option_and_then}
 use Rattle.std.proofs.Common.{arith, inl, inr, sym, ap, ◌∙◌, subst}
 use Rattle.std.proofs.lemmas.List.{length-map}
 use Rattle.hir_types.specs.declared.ids.CallableDefId.{CallableDefId}
@@ -30,8 +31,8 @@ use Rattle.hir_raw.specs.declared.raw.RawType.{RawType}
 use Rattle.hir_raw.specs.declared.raw.RawType.TheVariants as type
 use Rattle.hir_raw.specs.declared.raw.RawVariant.{RawVariant}
 use Rattle.hir_raw.specs.declared.raw.RawFacts.{RawFacts}
-use Rattle.hir_raw.specs.Hidden.{fn_aliases}
-use Rattle.hir_raw.specs.Scope.{Scope, fn_arity}
+use Rattle.hir_raw.specs.Hidden.{fn_aliases, variant_aliases}
+use Rattle.hir_raw.specs.Scope.{Scope, adt_params, count_or_none, fn_arity, variant_arity}
 use Rattle.hir_raw.specs.Signatures.{type_args, ctor_type_by}
 use Rattle.hir_laws.specs.Lawful.{IsLawful}
 use Rattle.infer_table.specs.Preserved.{Shape, whole, IsMadeOf}
@@ -42,7 +43,7 @@ use Rattle.goal_facts.proofs.Systems.{each_append}
 use Rattle.goal_select.specs.Steps.{HasHeadsIfConcrete}
 use Rattle.infer_result.specs.Heads.{Outermost, other, HasHead, outermost_step, of_function, of_ctor}
 use Rattle.infer_result.specs.Kinds.Path.{PathRule}
-use Rattle.infer_result.specs.AliasNeeds.{alias_goals_by, alias_goals_from, fn_alias_goals, path_alias_goals, alias_goals}
+use Rattle.infer_result.specs.AliasNeeds.{alias_goals_by, alias_goals_from, fn_alias_goals, variant_alias_goals, path_alias_goals, alias_goals}
 use Rattle.infer_result.specs.Needs.{variant_preds, path_preds, expr_preds, item_args, needed_goals}
 use Rattle.infer_result.specs.Places.{Given}
 use Rattle.infer_result.specs.Placing.{at_or_mismatch}
@@ -169,8 +170,13 @@ module _ (P : Shape) (raw : RawFacts) (xs : List GenericArg) where
   fn_in_scope None = tt
   fn_in_scope (Some f) = from_in_scope (length f.params) (fn_aliases raw.types f)
 
+  variant_in_scope : (o : Option RawVariant) → Each (HasHeadsIfConcrete P) (variant_alias_goals raw xs o)
+  variant_in_scope None = tt
+  variant_in_scope (Some x) = from_in_scope (count_or_none (adt_params raw x.adt)) (variant_aliases raw.types x)
+
   path_in_scope : (p : RawPath) → Each (HasHeadsIfConcrete P) (path_alias_goals raw xs p)
   path_in_scope (path.Function f) = fn_in_scope (slice_get raw.fns f.0)
+  path_in_scope (path.Ctor v) = variant_in_scope (slice_get raw.variants v.0)
   path_in_scope _ = tt
 
   -- nothing is asked of them
@@ -221,13 +227,17 @@ module _ (g : Given) (law : IsLawful g.scope.facts) (e : ExprId) (t : Ty) (heads
         let enough : length x.params ≤ length own.types = enough_args (length x.params) (length (fn_aliases raw.types x)) (length own.types) same in
         at_own_args x.preds (λ k p here. fit_more raw law (length x.params) (length own.types) p enough (fn_preds_fit raw law f.0 x there k p here))
 
-  adt_needs : (i : ℕ) (ts : List Ty) → length own.types ≡ length ts → option_map (λ (y : RawAdt). length y.params) (slice_get raw.adts i) ≡ Some (length ts) → (o : Option RawAdt) → slice_get raw.adts i ≡ o
+  adt_needs : (i : ℕ) → ((x : RawAdt) → slice_get raw.adts i ≡ Some x → length x.params ≤ length own.types) → (o : Option RawAdt) → slice_get raw.adts i ≡ o
       → Each IsInScope (map (goal_at raw (args_of t)) (preds_or_none (option_map (λ (x : RawAdt). x.preds) o)))
-  adt_needs i ts long count None is = tt
-  adt_needs i ts long count (Some x) is =
-      let both : Some (length x.params) ≡ Some (length ts) = ap (option_map (λ (y : RawAdt). length y.params)) (sym is) ∙ count in
-      let same : length x.params ≡ length own.types = (let q : length x.params ≡ length ts = cc in q ∙ sym long) in
-      at_own_args x.preds (λ k p here. subst (λ n. GoalIsFit raw law n p) same (adt_preds_fit raw law i x is k p here))
+  adt_needs i enough None is = tt
+  adt_needs i enough (Some x) is = at_own_args x.preds (λ k p here. fit_more raw law (length x.params) (length own.types) p (enough x is) (adt_preds_fit raw law i x is k p here))
+
+  -- those of the adt are among those of a constructor
+  own_enough : (x : RawVariant) (n : ℕ) → option_map (variant_arity raw.types x) (adt_params raw x.adt) ≡ Some n → (y : RawAdt) → slice_get raw.adts x.adt.0 ≡ Some y → length y.params ≤ n
+  own_enough x n count y is =
+      let both : Some (variant_arity raw.types x (length y.params)) ≡ Some n = ap (λ o. option_map (variant_arity raw.types x) (option_map (λ (z : RawAdt). length z.params) o)) (sym is) ∙ count in
+      let same : variant_arity raw.types x (length y.params) ≡ n = cc in
+      enough_args (length y.params) (length (variant_aliases raw.types x)) n same
 
   module _ (v : VariantId) (is : slice_get g.body.exprs e.0 ≡ Some (expr.Path (path.Ctor v))) (rule : PathRule g r e (path.Ctor v)) (known : IsVariant raw v) where
     -- the arguments and the head of a path to a constructor; none has fields with names
@@ -242,7 +252,7 @@ module _ (g : Given) (law : IsLawful g.scope.facts) (e : ExprId) (t : Ty) (heads
     ctor_needs (Some x) there =
         let c = rule.2 in
         let ts : List Ty = c.types in
-        let named : c.variant ≡ x = (let both : Some c.variant ≡ Some x = sym c.is_variant.found ∙ there in cc) in
+        let named : c.variant ≡ x = (let both : Some c.variant ≡ Some x = sym c.is_ctor.found ∙ there in cc) in
         let own_variant : known.variant ≡ x = (let both : Some known.variant ≡ Some x = sym known.found ∙ there in cc) in
         let unnamed : (x.ctor ≡ ctor.Unit) ⊎ (x.ctor ≡ ctor.Tuple) = subst (λ (y : RawVariant). (y.ctor ≡ ctor.Unit) ⊎ (y.ctor ≡ ctor.Tuple)) own_variant known.unnamed in
         let same : rule.0 ≡ ctor_type_by x.ctor x.adt v ts = c.is ∙ ap (λ (y : RawVariant). ctor_type_by y.ctor y.adt v ts) named in
@@ -250,8 +260,9 @@ module _ (g : Given) (law : IsLawful g.scope.facts) (e : ExprId) (t : Ty) (heads
         let h : Outermost = told.1.0 in
         let head : HasHead t h = tells.head h (of_ctor e v x ts h is there told.1.1) in
         let long : length own.types ≡ length ts = count_at h head rule.0 ts rule.1 (ap args_of same ∙ told.0) in
-        let count = subst (λ (y : RawVariant). option_map (λ (z : RawAdt). length z.params) (slice_get raw.adts y.adt.0) ≡ Some (length ts)) named c.is_variant.count in
-        adt_needs x.adt.0 ts long count (slice_get raw.adts x.adt.0) refl
+        let count : option_map (variant_arity raw.types x) (adt_params raw x.adt) ≡ Some (length own.types) =
+        ap (option_and_then (λ (y : RawVariant). option_map (variant_arity raw.types y) (adt_params raw y.adt))) (sym there) ∙ (c.is_ctor.count ∙ ap (λ n. Some n) (sym long)) in
+        adt_needs x.adt.0 (own_enough x (length own.types) count) (slice_get raw.adts x.adt.0) refl
 
   path_needs : (q : RawPath) → slice_get g.body.exprs e.0 ≡ Some (expr.Path q) → PathRule g r e q → ((v : VariantId) → q ≡ path.Ctor v → IsVariant raw v) → Each IsInScope (map (goal_at raw (args_of t)) (path_preds raw q))
   path_needs (path.Local v) is rule variant = tt

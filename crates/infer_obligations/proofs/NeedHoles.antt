@@ -25,7 +25,9 @@ use Rattle.hir_raw.specs.declared.raw.RawExpr.TheVariants as expr
 use Rattle.hir_raw.specs.declared.raw.RawFn.{RawFn}
 use Rattle.hir_raw.specs.declared.raw.RawPath.{RawPath}
 use Rattle.hir_raw.specs.declared.raw.RawPath.TheVariants as path
-use Rattle.hir_raw.specs.Hidden.{fn_aliases}
+use Rattle.hir_raw.specs.declared.raw.RawVariant.{RawVariant}
+use Rattle.hir_raw.specs.Hidden.{fn_aliases, variant_aliases}
+use Rattle.hir_raw.specs.Scope.{adt_params, count_or_none}
 use Rattle.hir_raw.specs.Goals.{arg_types}
 use Rattle.infer_table.specs.LogLemmas.{are_of_leaf, are_of_pair, are_of_parts}
 use Rattle.infer_table.specs.Solutions.{AreOf}
@@ -36,7 +38,7 @@ use Rattle.goal_facts.specs.Goals.{asked_goal}
 use Rattle.goal_facts.proofs.Systems.{each_append}
 use Rattle.goal_facts.proofs.Written.{parts_by, layer, by_layers, args_are}
 use Rattle.goal_select.specs.Steps.{GoalIsOf}
-use Rattle.infer_result.specs.AliasNeeds.{alias_goals_by, alias_goals_from, fn_alias_goals, path_alias_goals, alias_goals}
+use Rattle.infer_result.specs.AliasNeeds.{alias_goals_by, alias_goals_from, fn_alias_goals, variant_alias_goals, path_alias_goals, alias_goals}
 use Rattle.infer_result.specs.Needs.{expr_preds, item_args, needed_goals}
 
 module _ (kinds : List HoleKind) where
@@ -137,10 +139,14 @@ module _ (kinds : List HoleKind) where
     fn_made None = tt
     fn_made (Some f) = aliases_made (length f.params) (fn_aliases raw.types f)
 
+    variant_made : (o : Option RawVariant) → Each (λ (a : Asked). Made a.parts) (variant_alias_goals raw xs o)
+    variant_made None = tt
+    variant_made (Some x) = aliases_made (count_or_none (adt_params raw x.adt)) (variant_aliases raw.types x)
+
     path_made : (p : RawPath) → Each (λ (a : Asked). Made a.parts) (path_alias_goals raw xs p)
     path_made (path.Function f) = fn_made (slice_get raw.fns f.0)
     path_made (path.Local v) = tt
-    path_made (path.Ctor v) = tt
+    path_made (path.Ctor v) = variant_made (slice_get raw.variants v.0)
     path_made path.Other = tt
 
     expr_made : (x : RawExpr) → Each (λ (a : Asked). Made a.parts) (alias_goals raw xs x)

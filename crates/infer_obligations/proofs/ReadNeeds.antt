@@ -22,7 +22,7 @@ use Rattle.infer_ctx.specs.Closings.{IsSound}
 use Rattle.infer_ctx.specs.Steps.{OnlyBinds}
 use Rattle.infer_coerce.specs.MadeEqual.{Settles}
 use Rattle.infer_coerce.proofs.Unified.{binds_nothing, binds_twice}
-use Rattle.infer_obligations.specs.Reading.{UnifiesInHand, ReadsAlias, ReadsGoal, ReadsFirst, ReadsEach, ReadsFor, SelectsAndReads, ReadsPath, ReadsPaths, ReadsAll, ReadsTimes, ReadsOn, SettlesNeeds}
+use Rattle.infer_obligations.specs.Reading.{UnifiesInHand, ReadsAlias, ReadsGoal, ReadsFirst, ReadsEach, ReadsFor, SelectsAndReads, ReadsPath, ReadsPaths, ReadsPat, ReadsPats, ReadsAll, ReadsTimes, ReadsOn, SettlesNeeds}
 use Rattle.infer_obligations.specs.Selection.{SelectsInWalk}
 
 -- ---- one associated type
@@ -143,7 +143,32 @@ paths_on g n k old c next so_far more is reads = subst (λ m. FirstPathsRead g m
 pub ends_paths : (g : Given) (n : ℕ) (old c : InferenceContext) → length g.body.exprs ≤ n → FirstPathsRead g n old c → ReadsPaths g (length g.body.exprs) old c
 ends_paths g n old c all so_far = (let end : n ≡ length g.body.exprs = omega (arith, all, so_far.within) in subst (λ m. ReadsPaths g m old c) end so_far.paths)
 
+-- ---- each pattern
+
+-- those of the first n patterns were read
+pub record FirstPatsRead (g : Given) (n : ℕ) (old c : InferenceContext) : Type 0 where
+  pub within : n ≤ length g.body.pats
+  pub pats : ReadsPats g n old c
+
+pub begins_pats : (g : Given) (c : InferenceContext) → IsOfBody g.body c.result → IsSound g.scope c → FirstPatsRead g 0 c c
+begins_pats g c body sound = record { within = omega arith; pats = record { binds = binds_nothing g c body sound; reads = refl } }
+
+pub pats_on : (g : Given) (n k : ℕ) (old c next : InferenceContext) → FirstPatsRead g n old c → n < length g.body.pats → k ≡ n → ReadsPat g k c next → FirstPatsRead g (n + 1) old next
+pats_on g n k old c next so_far more is reads = subst (λ m. FirstPatsRead g m old next) (one_more n) (record {
+  within = omega (arith, more);
+  pats = record {
+    binds = binds_twice g old c next so_far.pats.binds reads.reads.binds;
+    reads = (c, so_far.pats.reads, subst (λ m. ReadsPat g m c next) is reads);
+  };
+})
+
+pub ends_pats : (g : Given) (n : ℕ) (old c : InferenceContext) → length g.body.pats ≤ n → FirstPatsRead g n old c → ReadsPats g (length g.body.pats) old c
+ends_pats g n old c all so_far = (let end : n ≡ length g.body.pats = omega (arith, all, so_far.within) in subst (λ m. ReadsPats g m old c) end so_far.pats)
+
 -- ---- until nothing is bound
+
+all_binds : (g : Given) (old new : InferenceContext) → ReadsAll g old new → OnlyBinds g old new
+all_binds g old new reads = binds_twice g old reads.0 new reads.1.binds reads.2.binds
 
 -- all were read so many times
 pub record TimesRead (g : Given) (n : ℕ) (old c : InferenceContext) : Type 0 where
@@ -157,12 +182,12 @@ begins_times g c body sound = record { within = omega arith; binds = binds_nothi
 pub once_more : (g : Given) (n limit : ℕ) (old c next : InferenceContext) → limit ≡ g.scope.facts.limits.goal_depth → n < limit → TimesRead g n old c → ReadsAll g c next → TimesRead g (n + 1) old next
 once_more g n limit old c next is more so_far reads = subst (λ m. TimesRead g m old next) (one_more n) (record {
   within = omega (arith, is, more);
-  binds = binds_twice g old c next so_far.binds reads.binds;
+  binds = binds_twice g old c next so_far.binds (all_binds g c next reads);
   reads = (c, so_far.reads, reads);
 })
 
 pub bound_none : (g : Given) (n : ℕ) (old c next : InferenceContext) → TimesRead g n old c → ReadsAll g c next → length (bindings next.goals.table) ≡ length (bindings c.goals.table) → ReadsOn g old next
-bound_none g n old c next so_far reads none = record { binds = binds_twice g old c next so_far.binds reads.binds; ends = inl (record { before = c; reads = reads; none = none }) }
+bound_none g n old c next so_far reads none = record { binds = binds_twice g old c next so_far.binds (all_binds g c next reads); ends = inl (record { before = c; reads = reads; none = none }) }
 
 pub often_enough : (g : Given) (n limit : ℕ) (old c : InferenceContext) → limit ≡ g.scope.facts.limits.goal_depth → limit ≤ n → TimesRead g n old c → ReadsOn g old c
 often_enough g n limit old c is all so_far = (let end : n ≡ g.scope.facts.limits.goal_depth = omega (arith, is, all, so_far.within) in record { binds = so_far.binds; ends = inr (subst (λ m. ReadsTimes g m old c) end so_far.reads) })

@@ -12,7 +12,7 @@ use Rattle.goal_facts.specs.Goals.{asked_goal}
 use Rattle.goal_facts.specs.Reading.{IsTypeRead}
 use Rattle.goal_facts.specs.Systems.{IsSystemOf}
 use Rattle.goal_search.specs.Sources.{system}
-use Rattle.infer_result.specs.Needs.{needs_at}
+use Rattle.infer_result.specs.Needs.{needs_at, pat_needs_at}
 use Rattle.infer_result.specs.OwnTypes.{IsInHand}
 use Rattle.infer_result.specs.Places.{Given}
 use Rattle.infer_ctx.specs.declared.context.InferenceContext.{InferenceContext}
@@ -86,9 +86,24 @@ pub record ReadsPaths (g : Given) (n : ℕ) (old new : InferenceContext) : Type 
   pub binds : OnlyBinds g old new
   pub reads : ReadsFirstPaths g n old new
 
--- what all expressions need was read
+-- what the pattern of this number needs was read, at the item that is recorded
+pub record ReadsPat (g : Given) (n : ℕ) (old new : InferenceContext) : Type 0 where
+  pub needed : List Goal
+  pub are : map asked_goal needed ≡ pat_needs_at g.scope.facts old.result n
+  pub reads : ReadsEach g needed old new
+
+-- so was what the first patterns need, one after another
+abbrev pub ReadsFirstPats : Given → ℕ → InferenceContext → InferenceContext → Type 0
+ReadsFirstPats g zero old new = new ≡ old
+ReadsFirstPats g (suc n) old new = (mid : InferenceContext) × ReadsFirstPats g n old mid × ReadsPat g n mid new
+
+pub record ReadsPats (g : Given) (n : ℕ) (old new : InferenceContext) : Type 0 where
+  pub binds : OnlyBinds g old new
+  pub reads : ReadsFirstPats g n old new
+
+-- what all expressions need was read, and then what all patterns need
 abbrev pub ReadsAll : Given → InferenceContext → InferenceContext → Type 0
-ReadsAll g old new = ReadsPaths g (length g.body.exprs) old new
+ReadsAll g old new = (mid : InferenceContext) × ReadsPaths g (length g.body.exprs) old mid × ReadsPats g (length g.body.pats) mid new
 
 -- so many times
 abbrev pub ReadsTimes : Given → ℕ → InferenceContext → InferenceContext → Type 0
@@ -106,7 +121,7 @@ pub record ReadsOn (g : Given) (old new : InferenceContext) : Type 0 where
   pub binds : OnlyBinds g old new
   pub ends : ReadsNoMore g new ⊎ ReadsTimes g g.scope.facts.limits.goal_depth old new
 
--- what all expressions need was read, goals were selected, and nothing that is asked of an expression is left open
+-- what all nodes need was read, goals were selected, and nothing that is asked of an expression is left open
 pub record SettlesNeeds (g : Given) (old new : InferenceContext) : Type 0 where
   pub read : InferenceContext
   pub reads : ReadsOn g old read

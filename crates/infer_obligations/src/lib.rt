@@ -12,6 +12,6 @@ mod select;
 
 pub use lets::let_types;
 pub use own::{OwnTypes, own_types};
-pub use read::{read_all, read_for, select_and_read, settle_needs};
+pub use read::{read_all, read_for, read_pat, select_and_read, settle_needs};
 pub use register::{register_each, register_needs};
 pub use select::{select_obligations_where_possible, select_registered};

@@ -4,14 +4,14 @@ ghost use Rattle.infer_ctx.specs.Context.{given_of, scope_in};
 ghost use Rattle.infer_ctx.specs.Closings.{IsSound};
 ghost use Rattle.infer_result.specs.Closed.{IsOfBody};
 ghost use Rattle.infer_ctx.specs.Asked.{IsTold};
-ghost use Rattle.infer_obligations.specs.Reading.{UnifiesInHand, ReadsAlias, ReadsGoal, ReadsEach, ReadsFor, SelectsAndReads, ReadsPath, ReadsPaths, ReadsOn, SettlesNeeds};
+ghost use Rattle.infer_obligations.specs.Reading.{UnifiesInHand, ReadsAlias, ReadsGoal, ReadsEach, ReadsFor, SelectsAndReads, ReadsPath, ReadsPaths, ReadsPat, ReadsPats, ReadsAll, ReadsOn, SettlesNeeds};
 
 use crate::hand::is_in_hand;
 use crate::select::select_obligations_where_possible;
-use hir_facts::{ExprId, ExprOrPatId, Goal, Ty};
+use hir_facts::{ExprId, ExprOrPatId, Goal, PatId, Ty};
 use infer_coerce::{unify, unify_unknown};
 use infer_ctx::{GivenBody, InferenceContext};
-use infer_result::{expr_id, needed_goals};
+use infer_result::{expr_id, needed_goals, pat_id, pat_needs};
 use std::alloc::{AllocError, Global};
 
 /// Makes two types equal, where both can be written in the scope of the body; else they differ, or nothing is done.
@@ -172,7 +172,57 @@ fn read_paths(
     Ok(())
 }
 
-/// Reads them of all expressions until that binds no hole any more, at most as often as the facts let goals be followed: what one path
+/// Reads the associated types in the fields of the constructor that a pattern is of, at the item that is recorded for it:
+/// `infer/pat.rs`, `infer_tuple_struct_pat_like`, where the type of a field is normalized.
+pub fn read_pat(
+    alloc: Global,
+    context: &mut InferenceContext,
+    given: &GivenBody,
+    pat: PatId,
+) -> Result<(), AllocError>
+    requires of_body { IsOfBody given.now.body.now context.old.result }
+    requires sound { IsSound (scope_in given.now) context.old }
+    ensures { OnOk result (ReadsPat (given_of given.now) pat.0 context.old context.new) }
+{
+    let needed = match context.result.item_of_pat(pat) {
+        Some(item) => pat_needs(alloc, given.facts, item)?,
+        None => Vec::new(alloc),
+    };
+    read_each(alloc, context, given, needed.as_slice())
+}
+
+/// Does so with each pattern of the body, in their order.
+fn read_pats(
+    alloc: Global,
+    context: &mut InferenceContext,
+    given: &GivenBody,
+) -> Result<(), AllocError>
+    requires of_body { IsOfBody given.now.body.now context.old.result }
+    requires sound { IsSound (scope_in given.now) context.old }
+    ensures { OnOk result (ReadsPats (given_of given.now) (length given.now.body.now.pats) context.old context.new) }
+{
+    for at in 0..given.body.pats.len() {
+        let pat = pat_id(at)?;
+        read_pat(alloc, context, given, pat)?;
+    }
+    Ok(())
+}
+
+/// Reads the associated types that the needs of all nodes are about: those of paths, then those of patterns.
+fn read_nodes(
+    alloc: Global,
+    context: &mut InferenceContext,
+    given: &GivenBody,
+) -> Result<(), AllocError>
+    requires of_body { IsOfBody given.now.body.now context.old.result }
+    requires sound { IsSound (scope_in given.now) context.old }
+    ensures { OnOk result (ReadsAll (given_of given.now) context.old context.new) }
+{
+    read_paths(alloc, context, given)?;
+    read_pats(alloc, context, given)
+}
+
+/// Reads them of all nodes until that binds no hole any more, at most as often as the facts let goals be followed: what one path
 /// gives may be what the associated type of another is of.
 pub fn read_all(
     alloc: Global,
@@ -186,7 +236,7 @@ pub fn read_all(
     let limit = given.facts.raw().limits.goal_depth;
     for _pass in 0..limit {
         let bound = context.goals.table.bound_count();
-        read_paths(alloc, context, given)?;
+        read_nodes(alloc, context, given)?;
         if context.goals.table.bound_count() == bound {
             return Ok(());
         }

@@ -47,6 +47,7 @@ module _ (g : Given) (s : Schedule) (p : PatId) (v : VariantId) (ps : List PatId
     mismatches = λ e m i. i;
     pat_mismatches = λ q m i. i;
     placeholders = λ k t i. i;
+    items = λ q t i. i;
     diagnostics = λ e d i. inl i;
     seen = λ e h. record { position = h.position; entry = h.entry; found = h.found; is_node = h.is_node };
     pat_diagnostics = λ q d i. noted-keeps old.result.pat_diagnostics p.0 q.0 complaint d i;
@@ -101,6 +102,8 @@ module _ (g : Given) (s : Schedule) (p : PatId) (v : VariantId) (ps : List PatId
                         subst (λ z. IsTruePatDiagnostic g z d) at (subst (λ z. IsTruePatDiagnostic g p z) k.1 true_complaint))
                   ];
               variants = record { exprs = h.state.variants.exprs; pats = h.state.variants.pats };
+              items = begun.state.items;
+              free_items = begun.state.free_items;
               placeholders = h.state.placeholders;
               seen = λ i y there. seen_as_kept g old told told_extends (λ e d k. k) refl y (h.state.seen i y there);
             };

@@ -5,6 +5,7 @@ pub mod Literals
 pub mod PathWalk
 pub mod PatDemands
 pub mod PatHoles
+pub mod PatItems
 pub mod PatWalk
 pub mod Pats
 pub mod TuplePats

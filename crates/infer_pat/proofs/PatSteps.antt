@@ -17,7 +17,7 @@ use Rattle.hir_raw.specs.declared.raw.RawPat.TheVariants as pat
 use Rattle.infer_result.specs.Places.{Given, OnlyPlaceholdersHaveTypes}
 use Rattle.infer_result.specs.Incoming.{Gives}
 use Rattle.infer_result.specs.Demands.{Demand}
-use Rattle.infer_result.specs.Closed.{IsBinder, IsOfBody, OnlyBindersHaveModes}
+use Rattle.infer_result.specs.Closed.{IsBinder, IsOfBody, OnlyBindersHaveModes, OnlyCtorPatsHaveItems}
 use Rattle.infer_result.specs.Table.{At, BindingTy, PatTy, HasMode, HasPatMismatch}
 use Rattle.infer_result.specs.declared.result.Seen.{Seen}
 use Rattle.infer_result.specs.Truth.Diagnostics.{IsTrueDiagnostic, IsTruePatDiagnostic}
@@ -80,6 +80,8 @@ pub record IsOpen (g : Given) (s : Schedule) (p : PatId) (n : ℕ) (c : Found) :
   pub diagnostics : (e : ExprId) (d : InferenceDiagnostic) → At c.result.expr_diagnostics e.0 d → IsTrueDiagnostic g c.result e d
   pub pat_diagnostics : (q : PatId) (d : InferenceDiagnostic) → At c.result.pat_diagnostics q.0 d → IsTruePatDiagnostic g q d
   pub variants : RecordsVariants g.body c.result
+  pub items : OnlyCtorPatsHaveItems g.scope.facts g.body c.result
+  pub free_items : (q : PatId) → q.0 < length g.body.pats → n ≤ pat_start g.body s q → IsFree c.result.item_of_pat q.0
   pub placeholders : OnlyPlaceholdersHaveTypes g c.result
   pub seen : (i : ℕ) (y : Seen) → slice_get c.result.seen i ≡ Some y → IsSeenAs g c y
 
@@ -91,6 +93,8 @@ open_walked g s p c h = record {
   modes = h.modes;
   pat_diagnostics = h.pat_diagnostics;
   variants = h.variants;
+  items = h.items;
+  free_items = h.free_items;
   placeholders = h.placeholders;
   seen = h.seen;
   free_exprs = h.free_exprs;
@@ -130,12 +134,14 @@ module _ (g : Given) (s : Schedule) (p : PatId) (x : Option Ty) (old : Found) (h
       modes = h.state.modes;
       pat_diagnostics = h.state.pat_diagnostics;
       variants = h.state.variants;
+      items = h.state.items;
       placeholders = h.state.placeholders;
       seen = λ i y at. seen_as_entered g old y (h.state.seen i y at);
       diagnostics = h.state.diagnostics;
       free_exprs = λ e i lo. h.state.free_exprs e i (omega arith);
       free_pats = λ q i lo. h.state.free_pats q i (omega arith);
       free_modes = λ q i lo. h.state.free_modes q i (omega arith);
+      free_items = λ q i lo. h.state.free_items q i (omega arith);
       free_bindings = λ q v i lo. h.state.free_bindings q v i (omega arith);
       bound = λ q v i other lo.
           elim (lt_or_ge (pat_start g.body s q) old.clock) [
@@ -157,6 +163,8 @@ module _ (g : Given) (s : Schedule) (p : PatId) (x : Option Ty) (old : Found) (h
     modes = enters_now.state.modes;
     pat_diagnostics = enters_now.state.pat_diagnostics;
     variants = enters_now.state.variants;
+    items = enters_now.state.items;
+    free_items = enters_now.state.free_items;
     placeholders = enters_now.state.placeholders;
     seen = enters_now.state.seen;
     diagnostics = enters_now.state.diagnostics;
@@ -257,6 +265,7 @@ pub record IsBoundBy (old new : Found) (p : PatId) (t : Ty) (o : Option BindingI
   pub pat_diagnostics : new.result.pat_diagnostics ≡ old.result.pat_diagnostics
   pub expr_variants : new.result.expr_variants ≡ old.result.expr_variants
   pub pat_variants : new.result.pat_variants ≡ old.result.pat_variants
+  pub items : new.result.item_of_pat ≡ old.result.item_of_pat
   pub placeholders : new.result.type_of_placeholder ≡ old.result.type_of_placeholder
   pub seen : new.result.seen ≡ old.result.seen
   pub holes : new.holes ≡ old.holes
@@ -361,6 +370,7 @@ module _ (g : Given) (s : Schedule) (p : PatId) (t : Ty) (old new : Found) (o : 
     mismatches = λ e m i. rw w.mismatches i;
     pat_mismatches = λ q m i. rw w.pat_mismatches (mismatch_kept y q.0 m i);
     placeholders = λ k u i. rw w.placeholders i;
+    items = λ q u i. rw w.items i;
     diagnostics = λ e d i. inl (rw w.diagnostics i);
     seen = λ e i. record { position = i.position; entry = i.entry; found = rw w.seen i.found; is_node = i.is_node };
     pat_diagnostics = λ q d i. rw w.pat_diagnostics i;
@@ -388,6 +398,7 @@ module _ (g : Given) (s : Schedule) (p : PatId) (t : Ty) (old new : Found) (o : 
               | inr q ↦ subst (λ v. IsCarriedType v) q h.carried
             ];
         placeholders = λ n u i. c.placeholders n u (rw w.placeholders at i);
+        items = λ n u i. c.items n u (rw w.items at i);
         found = λ n k u i. c.found n k u (rw w.diagnostics at i);
         expected = λ n m i. c.expected n m (rw w.mismatches at i);
         actual = λ n m i. c.actual n m (rw w.mismatches at i);
@@ -408,6 +419,7 @@ module _ (g : Given) (s : Schedule) (p : PatId) (t : Ty) (old new : Found) (o : 
     exprs = rw w.exprs h.state.of_body.exprs;
     pats = rw (w.pats, length-set) h.state.of_body.pats;
     bindings = ap (λ l. length l) w.bindings ∙ (binding_long o ∙ h.state.of_body.bindings);
+    items = rw w.items h.state.of_body.items;
     modes = ap (λ l. length l) w.modes ∙ (length-own_set old.result.binding_modes p.0 (mode_of o) ∙ h.state.of_body.modes);
     mismatches = rw w.mismatches h.state.of_body.mismatches;
     diagnostics = rw w.diagnostics h.state.of_body.diagnostics;
@@ -447,6 +459,8 @@ module _ (g : Given) (s : Schedule) (p : PatId) (t : Ty) (old new : Found) (o : 
     diagnostics = λ e d i. diagnostic_kept g old.result new.result extends e d (h.state.diagnostics e d (rw w.diagnostics at i));
     pat_diagnostics = λ q d i. h.state.pat_diagnostics q d (rw w.pat_diagnostics at i);
     variants = record { exprs = w.expr_variants ∙ h.state.variants.exprs; pats = w.pat_variants ∙ h.state.variants.pats };
+    items = λ q u i. h.state.items q u (rw w.items at i);
+    free_items = λ q i lo. rw w.items (h.state.free_items q i (omega (arith, w.clock)));
     placeholders = λ k u i. h.state.placeholders k u (rw w.placeholders at i);
     seen = λ i z there. seen_as_kept g old new extends (λ e d k. rw w.diagnostics k) w.holes z (h.state.seen i z (rw w.seen at there));
     free_exprs = λ e i lo. rw w.exprs (h.state.free_exprs e i (omega (arith, w.clock)));

@@ -17,19 +17,22 @@ use Rattle.hir_types.specs.declared.ty.GenericArg.TheVariants as arg
 use Rattle.hir_raw.specs.declared.raw.RawPath.{RawPath}
 use Rattle.hir_raw.specs.declared.schedule.Schedule.{Schedule}
 use Rattle.hir_facts.specs.CarriedTypes.{IsCarriedType}
+use Rattle.hir_raw.specs.declared.raw.RawAdt.{RawAdt}
 use Rattle.hir_raw.specs.declared.raw.RawFn.{RawFn}
-use Rattle.hir_raw.specs.Scope.{has_params, callable_params, fn_arity, adt_params, Scope}
+use Rattle.hir_raw.specs.declared.raw.RawType.{RawType}
+use Rattle.hir_raw.specs.declared.raw.RawVariant.{RawVariant}
+use Rattle.hir_raw.specs.Scope.{has_params, callable_params, fn_arity, variant_arity, adt_params, Scope}
 use Rattle.hir_raw.specs.Signatures.{type_args, Signature, signature_of, ctor_type}
 use Rattle.hir_raw.specs.declared.raw.RawPath.TheVariants as path
 use Rattle.hir_raw.specs.declared.raw.RawExpr.TheVariants as expr
 use Rattle.hir_raw.specs.declared.raw.RawCtor.TheVariants as ctor
 use Rattle.infer_table.proofs.UndoLaws.{grew_itself}
-use Rattle.infer_table.specs.Table.{hole_count}
+use Rattle.infer_table.specs.Table.{State, hole_count}
 use Rattle.infer_ctx.specs.Below.{stays_itself}
 use Rattle.infer_result.specs.declared.result.InferenceResult.{InferenceResult}
 use Rattle.infer_result.specs.Table.{HasTy, ExprVariant, BindingTy}
 use Rattle.infer_result.specs.Places.{Given}
-use Rattle.infer_result.specs.Kinds.Constructor.{IsVariantAt}
+use Rattle.infer_result.specs.Kinds.Constructor.{IsVariantAt, IsCtorAt}
 use Rattle.infer_result.specs.Kinds.Path.{PathRule}
 use Rattle.infer_result.specs.Closed.{IsOfBody}
 use Rattle.infer_result.proofs.Derived.{ctor_type_of_unit, ctor_type_of_tuple}
@@ -162,17 +165,52 @@ function_path g f item ts c new d = record {
 }
 
 -- ---- constructors
-module _ (g : Given) (v : VariantId) (x : IsVariant g.scope.facts v) (ts : List Ty) (c new : InferenceContext) (d : ArePartTypes g.scope x.params ts c new) where
-  -- the variant, at what the types come to
+
+-- how many parameters one has
+pub ctor_params : (g : Given) (v : VariantId) (x : IsVariant g.scope.facts v) → callable_params g.scope.facts (callable.VariantId v) ≡ Some (variant_arity g.scope.facts.types x.variant x.params)
+ctor_params g v x =
+    let types = g.scope.facts.types in
+    ap (option_and_then (λ (z : RawVariant). option_map (variant_arity types z) (adt_params g.scope.facts z.adt))) x.found ∙ ap (option_map (variant_arity types x.variant)) x.count
+
+-- the variant y and so many parameters of its adt are what is known of the constructor, and there are new holes for its own
+pub record IsHoled (g : Given) (v : VariantId) (x : IsVariant g.scope.facts v) (y : RawVariant) (n arity : ℕ) (xs : List GenericArg) (old new : InferenceContext) : Type 0 where
+  pub same : y ≡ x.variant
+  pub size : n ≡ x.params
+  pub many : arity ≡ variant_arity g.scope.facts.types x.variant x.params
+  pub fresh : AreFreshArgs g.scope (variant_arity g.scope.facts.types x.variant x.params) xs old new
+
+-- as the facts give it
+pub ctor_holed : (g : Given) (v : VariantId) (x : IsVariant g.scope.facts v) (y : RawVariant) (a : RawAdt) (n arity : ℕ) (types : List RawType) (xs : List GenericArg) (old new : InferenceContext)
+    → slice_get g.scope.facts.variants v.0 ≡ Some y → slice_get g.scope.facts.adts y.adt.0 ≡ Some a → n ≡ length a.params → types ≡ g.scope.facts.types → arity ≡ variant_arity types y n
+    → AreFreshArgs g.scope arity xs old new → IsHoled g v x y n arity xs old new
+ctor_holed g v x y a n arity types xs old new at adt is all made fresh =
+    let same : y ≡ x.variant = same_some (sym at ∙ x.found) in
+    let count : adt_params g.scope.facts y.adt ≡ Some x.params = ap (λ (z : RawVariant). adt_params g.scope.facts z.adt) same ∙ x.count in
+    let size : n ≡ x.params = is ∙ same_some (sym (ap (option_map (λ (z : RawAdt). length z.params)) adt) ∙ count) in
+    let many : arity ≡ variant_arity g.scope.facts.types x.variant x.params = made ∙ (λ i. variant_arity (all i) (same i) (size i)) in
+    record { same = same; size = size; many = many; fresh = subst (λ k. AreFreshArgs g.scope k xs old new) many fresh }
+
+-- at as many types as its adt has parameters
+module _ (g : Given) (v : VariantId) (x : IsVariant g.scope.facts v) (ts : List Ty) (count : length ts ≡ x.params) where
+  -- it is the variant, at what the types come to
   pub variant_under : (a : Assignment) → IsVariantAt g v x.variant (map (folded a) ts)
-  variant_under a = record { found = x.found; count = counted_under a (adt_params g.scope.facts x.variant.adt) x.params ts x.count d.count_is }
+  variant_under a = record { found = x.found; count = counted_under a (adt_params g.scope.facts x.variant.adt) x.params ts x.count count }
+
+  -- and the adt is fine
+  pub adt_fine : (s : State) → AllFine g.scope s ts → IsFine g.scope s (ty.Adt x.variant.adt (type_args ts))
+  adt_fine s fine = fine_adt g.scope s x.variant.adt ts (takes (adt_params g.scope.facts x.variant.adt) x.params ts x.count count) fine
+
+no_more : (n : ℕ) → n + 0 ≡ n
+no_more n = omega arith
+
+-- at as many types as it has parameters
+module _ (g : Given) (v : VariantId) (x : IsVariant g.scope.facts v) (ts : List Ty) (c new : InferenceContext) (d : ArePartTypes g.scope (variant_arity g.scope.facts.types x.variant x.params) ts c new) where
+  -- the constructor, at what the types come to
+  pub ctor_under : (a : Assignment) → IsCtorAt g v x.variant (map (folded a) ts)
+  ctor_under a = record { found = x.found; count = counted_under a (callable_params g.scope.facts (callable.VariantId v)) (variant_arity g.scope.facts.types x.variant x.params) ts (ctor_params g v x) d.count_is }
 
   every_fine : AllFine g.scope new.goals.table ts
   every_fine = every_from (IsFine g.scope new.goals.table) ts d.fine
-
-  -- the type of its adt is fine
-  pub ctor_adt_fine : IsFine g.scope new.goals.table (ty.Adt x.variant.adt (type_args ts))
-  ctor_adt_fine = fine_adt g.scope new.goals.table x.variant.adt ts (takes (adt_params g.scope.facts x.variant.adt) x.params ts x.count d.count_is) every_fine
 
   -- a path to it has the type t, which says under each assignment what the constructor is
   ctor_path_at : (t : Ty) → IsFine g.scope new.goals.table t → t ≡ ctor_type x.variant v ts → ((a : Assignment) → folded a t ≡ ctor_type x.variant v (map (folded a) ts)) → PathDone g (path.Ctor v) t c new
@@ -184,22 +222,27 @@ module _ (g : Given) (v : VariantId) (x : IsVariant g.scope.facts v) (ts : List 
     stays = d.stays;
     sound = d.sound;
     fine = fine;
-    tells = λ e at. ctor_tells g e v x.variant ts t at x.found (x.count ∙ ap (λ n. Some n) (sym d.count_is)) made;
-    each = λ a q. record { variant = x.variant; types = map (folded a) ts; is_variant = variant_under a; is = is a };
+    tells = λ e at. ctor_tells g e v x.variant ts t at x.found (ctor_params g v x ∙ ap (λ n. Some n) (sym d.count_is)) made;
+    each = λ a q. record { variant = x.variant; types = map (folded a) ts; is_ctor = ctor_under a; is = is a };
   }
 
   -- one without fields is a value of its adt
   pub unit_path : x.variant.ctor ≡ ctor.Unit → PathDone g (path.Ctor v) (ty.Adt x.variant.adt (type_args ts)) c new
-  unit_path u = ctor_path_at (ty.Adt x.variant.adt (type_args ts)) ctor_adt_fine (sym (ctor_type_of_unit x.variant v ts u)) (λ a. adt_closed a x.variant.adt ts ∙ sym (ctor_type_of_unit x.variant v (map (folded a) ts) u))
+  unit_path u =
+      let own : length ts ≡ x.params = d.count_is ∙ (ap (λ (ks : List ℕ). x.params + length ks) (x.unit u) ∙ no_more x.params) in
+      ctor_path_at (ty.Adt x.variant.adt (type_args ts)) (adt_fine g v x ts own new.goals.table every_fine) (sym (ctor_type_of_unit x.variant v ts u)) (λ a. adt_closed a x.variant.adt ts ∙ sym (ctor_type_of_unit x.variant v (map (folded a) ts) u))
 
   -- one with fields is an item that can be called
+  pub ctor_item_fine : x.variant.ctor ≡ ctor.Tuple → IsFine g.scope new.goals.table (ty.FnDef (callable.VariantId v) (type_args ts))
+  ctor_item_fine u =
+      let n : ℕ = variant_arity g.scope.facts.types x.variant x.params in
+      let made : (σ : Signature) × (signature_of g.scope.facts (callable.VariantId v) ≡ Some σ) × (σ.params ≡ n) = tuple_signature g.scope.facts v x.variant x.params x.found x.count u in
+      let at : item_params g.scope.facts (callable.VariantId v) ≡ Some n = ap (option_map (λ σ. σ.params)) made.1 ∙ ap (λ m. Some m) made.2 in
+      fine_fn_def g.scope new.goals.table (callable.VariantId v) ts (takes (item_params g.scope.facts (callable.VariantId v)) n ts at d.count_is) every_fine
+
   pub tuple_path : x.variant.ctor ≡ ctor.Tuple → PathDone g (path.Ctor v) (ty.FnDef (callable.VariantId v) (type_args ts)) c new
   tuple_path u =
-      let made : (σ : Signature) × (signature_of g.scope.facts (callable.VariantId v) ≡ Some σ) × (σ.params ≡ x.params) = tuple_signature g.scope.facts v x.variant x.params x.found x.count u in
-      let at : item_params g.scope.facts (callable.VariantId v) ≡ Some x.params = ap (option_map (λ σ. σ.params)) made.1 ∙ ap (λ n. Some n) made.2 in
-      ctor_path_at (ty.FnDef (callable.VariantId v) (type_args ts))
-      (fine_fn_def g.scope new.goals.table (callable.VariantId v) ts (takes (item_params g.scope.facts (callable.VariantId v)) x.params ts at d.count_is) every_fine)
-      (sym (ctor_type_of_tuple x.variant v ts u))
+      ctor_path_at (ty.FnDef (callable.VariantId v) (type_args ts)) (ctor_item_fine u) (sym (ctor_type_of_tuple x.variant v ts u))
       (λ a. fn_def_closed a (callable.VariantId v) ts ∙ sym (ctor_type_of_tuple x.variant v (map (folded a) ts) u))
 
 -- ---- new holes for parameters

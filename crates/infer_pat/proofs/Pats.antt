@@ -69,14 +69,14 @@ module _ (g : Given) (s : Schedule) (p : PatId) (x : Option Ty) (t : Ty) (old : 
   pub wild_done : slice_get g.body.pats p.0 ≡ Some pat.Wild → PatWalked g s p x old (with_pat_ty (entered old) p t)
   wild_done is =
       let new : Found = with_pat_ty (entered old) p t in
-      let w : IsBoundBy (entered old) new p t None None = record { exprs = refl; pats = refl; bindings = refl; modes = refl; mismatches = refl; diagnostics = refl; pat_mismatches = refl; pat_diagnostics = refl; expr_variants = refl; pat_variants = refl; placeholders = refl; seen = refl; holes = refl; clock = refl } in
+      let w : IsBoundBy (entered old) new p t None None = record { exprs = refl; pats = refl; bindings = refl; modes = refl; mismatches = refl; diagnostics = refl; pat_mismatches = refl; pat_diagnostics = refl; expr_variants = refl; pat_variants = refl; placeholders = refl; items = refl; seen = refl; holes = refl; clock = refl } in
       let binds : option_and_then binding_of (slice_get g.body.pats p.0) ≡ None = ap (λ o. option_and_then binding_of o) is in
       done new None binds w pat.Wild is refl (t, has_type g s p t (entered old) new None None (recordable None binds) w)
 
   pub bind_done : (v : BindingId) (sub : Option PatId) → slice_get g.body.pats p.0 ≡ Some (pat.Bind v sub) → PatWalked g s p x old (bound_by (entered old) p v t)
   bind_done v sub is =
       let new : Found = bound_by (entered old) p v t in
-      let w : IsBoundBy (entered old) new p t (Some v) None = record { exprs = refl; pats = refl; bindings = refl; modes = refl; mismatches = refl; diagnostics = refl; pat_mismatches = refl; pat_diagnostics = refl; expr_variants = refl; pat_variants = refl; placeholders = refl; seen = refl; holes = refl; clock = refl } in
+      let w : IsBoundBy (entered old) new p t (Some v) None = record { exprs = refl; pats = refl; bindings = refl; modes = refl; mismatches = refl; diagnostics = refl; pat_mismatches = refl; pat_diagnostics = refl; expr_variants = refl; pat_variants = refl; placeholders = refl; items = refl; seen = refl; holes = refl; clock = refl } in
       let binds : option_and_then binding_of (slice_get g.body.pats p.0) ≡ Some v = ap (λ o. option_and_then binding_of o) is in
       let r : IsRecordable g s p t (Some v) None (entered old) = recordable (Some v) binds in
       done new (Some v) binds w (pat.Bind v sub) is refl (
@@ -180,7 +180,7 @@ module _ (g : Given) (s : Schedule) (p : PatId) (e : ExprId) (x : Option Ty) (ol
     lit_recorded last f =
         let new : Found = with_pat_ty last p t in
         let r : IsRecordable g s p t None None last = recordable_lit last f in
-        let w : IsBoundBy last new p t None None = record { exprs = refl; pats = refl; bindings = refl; modes = refl; mismatches = refl; diagnostics = refl; pat_mismatches = refl; pat_diagnostics = refl; expr_variants = refl; pat_variants = refl; placeholders = refl; seen = refl; holes = refl; clock = refl } in
+        let w : IsBoundBy last new p t None None = record { exprs = refl; pats = refl; bindings = refl; modes = refl; mismatches = refl; diagnostics = refl; pat_mismatches = refl; pat_diagnostics = refl; expr_variants = refl; pat_variants = refl; placeholders = refl; items = refl; seen = refl; holes = refl; clock = refl } in
         let has : PatTy new.result p t = has_type g s p t last new None None r w in
         record {
           walks =

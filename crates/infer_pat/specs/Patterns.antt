@@ -1,5 +1,5 @@
 -- What the walk over a pattern is given, and what it does.
-use Rattle.std.specs.Prelude.{◌<◌, ◌≡◌, length, Option, Some, None, ◌⊎◌, ℕ, List, [], ◌∷◌, slice_get, map}
+use Rattle.std.specs.Prelude.{◌<◌, ◌≡◌, length, Option, Some, None, ◌⊎◌, ℕ, List, [], ◌∷◌, ◌++◌, slice_get, map}
 use Rattle.hir_types.specs.declared.ids.PatId.{PatId}
 use Rattle.hir_types.specs.declared.ty.Ty.{Ty}
 use Rattle.hir_types.specs.declared.ids.VariantId.{VariantId}
@@ -11,8 +11,8 @@ use Rattle.hir_types.specs.declared.ty.Ty.TheVariants as ty
 use Rattle.hir_raw.specs.declared.schedule.Schedule.{Schedule}
 use Rattle.hir_raw.specs.declared.raw.RawBody.{RawBody}
 use Rattle.hir_raw.specs.declared.raw.RawPath.{RawPath}
-use Rattle.hir_raw.specs.Scope.{Scope}
-use Rattle.hir_raw.specs.Signatures.{type_args, at_args, field_types}
+use Rattle.hir_raw.specs.Scope.{Scope, variant_arity}
+use Rattle.hir_raw.specs.Signatures.{type_args, at_args, ctor_item, taken_types}
 use Rattle.hir_raw.specs.declared.raw.RawPat.TheVariants as pat
 use Rattle.infer_table.specs.Resolution.{IsOpenOrKnown}
 use Rattle.infer_table.specs.Table.{State, Grew, bindings, hole_count, resolved_type, with_new_hole}
@@ -23,7 +23,7 @@ use Rattle.infer_result.specs.declared.result.InferenceResult.{InferenceResult}
 use Rattle.infer_result.specs.Table.{PatTy, mismatch}
 use Rattle.infer_result.specs.declared.diagnostics.InferenceDiagnostic.TheVariants as diagnostic
 use Rattle.infer_ctx.specs.Found.{Found, with_pat_mismatch, with_pat_ty}
-use Rattle.infer_ctx.specs.Context.{IsCarriedExpectation, element_type, entered, with_pat_diagnostic}
+use Rattle.infer_ctx.specs.Context.{IsCarriedExpectation, element_type, entered, with_pat_diagnostic, with_pat_item}
 use Rattle.infer_ctx.specs.Walks.{IsWalked, pat_start, Walks, Nothing, pat_end}
 use Rattle.infer_ctx.specs.Under.{IsReady, IsVariant}
 use Rattle.infer_ctx.specs.declared.context.InferenceContext.{InferenceContext}
@@ -32,6 +32,7 @@ use Rattle.infer_ctx.specs.Tells.{TellsBound}
 use Rattle.infer_ctx.specs.Closings.{Closes, closed_table, expected_under, found_under, IsSound}
 use Rattle.infer_ctx.specs.Steps.{IsWalking, Follows, ArePartTypes, Does}
 use Rattle.infer_ctx.specs.Found as findings
+use Rattle.infer_obligations.specs.Reading.{ReadsPat}
 
 -- ---- patterns
 
@@ -167,14 +168,24 @@ pub record PatDemanded (g : Given) (p : PatId) (t : Ty) (x : Option Ty) (old new
 abbrev pub PartsCounted : PatId → ℕ → ℕ → InferenceContext → InferenceContext → Type 0
 PartsCounted p expected found old new = ((expected ≡ found) × (new ≡ old)) ⊎ ((expected ≡ found → ⊥) × (new ≡ with_pat_diagnostic old p (diagnostic.MismatchedTupleStructPatArgCount (node.PatId p) expected found)))
 
+-- The constructor is recorded as the item of the pattern, where it has types beside the adt's, and what these are is read.
+abbrev pub ItemRead : Given → PatId → VariantId → List Ty → List Ty → InferenceContext → InferenceContext → Type 0
+ItemRead g p v ts [] old new = new ≡ old
+ItemRead g p v ts (h ∷ hs) old new = ReadsPat g p.0 (with_pat_item old p (ctor_item v (ts ++ h ∷ hs))) new
+
 -- The adt of the variant at new holes is recorded as the type of the pattern, which has so many parts, and
--- is asked of what comes in. The types ss are those of the fields.
+-- is asked of what comes in. The constructor is recorded, at these and at a new hole for each associated type in the fields, and what these are
+-- is read. The types ss are those of the fields.
 pub record CtorDemanded (g : Given) (p : PatId) (v : VariantId) (parts : ℕ) (ss : List Ty) (x : Option Ty) (old new : InferenceContext) : Type 0 where
   pub item : IsVariant g.scope.facts v
   pub types : List Ty
-  pub fields : ss ≡ map (at_args types) (field_types g.scope.facts.types item.variant)
+  pub hidden : List Ty
+  pub own : length types ≡ item.params
+  pub fields : ss ≡ map (at_args (types ++ hidden)) (taken_types g.scope.facts.types item.params item.variant)
   pub holed : InferenceContext
-  pub holes : ArePartTypes g.scope item.params types old holed
+  pub holes : ArePartTypes g.scope (variant_arity g.scope.facts.types item.variant item.params) (types ++ hidden) old holed
   pub told : InferenceContext
   pub counted : PartsCounted p (length item.variant.fields) parts holed told
-  pub demanded : PatDemanded g p (ty.Adt item.variant.adt (type_args types)) x told new
+  pub typed : InferenceContext
+  pub demanded : PatDemanded g p (ty.Adt item.variant.adt (type_args types)) x told typed
+  pub read : ItemRead g p v types hidden typed new

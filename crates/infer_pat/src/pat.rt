@@ -13,10 +13,11 @@ ghost use Rattle.hir_laws.specs.Literals.{IsLiteral};
 
 use crate::literal::infer_literal;
 use crate::path::{fresh_args_for_item, infer_expr_path};
-use hir_facts::{BindingId, ExprId, List, PatId, RawPat, RawPath, Ty, VariantId};
-use hir_types::ExprOrPatId;
+use hir_facts::{BindingId, ExprId, List, PatId, RawPat, RawPath, Ty, VariantId, variant_arity};
+use hir_types::{CallableDefId, ExprOrPatId};
 use infer_coerce::{copies, demand_coerce, unify};
-use infer_ctx::{Expectation, GivenBody, InferenceContext};
+use infer_ctx::{Expectation, GivenBody, InferenceContext, first_args};
+use infer_obligations::read_pat;
 use infer_result::{BindingMode, InferenceDiagnostic, TypeMismatch};
 use std::alloc::{AllocError, Global};
 
@@ -304,7 +305,8 @@ fn component(
 }
 
 /// Asks that what comes into a pattern of a constructor be its adt, at new holes for the parameters, and
-/// says where there are not as many parts as fields. Gives the types of the fields.
+/// says where there are not as many parts as fields. Where associated types stand in the fields, the constructor is recorded
+/// as the item of the pattern, and what they are is read. Gives the types of the fields.
 fn demand_ctor(
     alloc: Global,
     context: &mut InferenceContext,
@@ -324,17 +326,18 @@ fn demand_ctor(
 {
     let item = given.facts.variant(variant);
     let params = given.facts.adt(item.adt).params.len();
-    let args = fresh_args_for_item(alloc, context, given, params)?;
-    let fields = given.field_tys(alloc, variant, &args)?;
+    let arity = variant_arity(alloc, given.facts.types(), item, params)?;
+    let args = fresh_args_for_item(alloc, context, given, arity)?;
+    let fields = given.field_tys(alloc, variant, params, &args)?;
     count_parts(context, pat, item.fields.len(), parts);
-    demand_pat_ty(
-        alloc,
-        context,
-        given,
-        pat,
-        Ty::Adt(item.adt, args),
-        expected,
-    )?;
+    let own = first_args(alloc, args.as_slice(), params)?;
+    demand_pat_ty(alloc, context, given, pat, Ty::Adt(item.adt, own), expected)?;
+    if arity <= params {
+        return Ok(fields);
+    }
+    let ctor = Ty::FnDef(CallableDefId::VariantId(variant), args);
+    context.write_pat_item(pat, ctor);
+    read_pat(alloc, context, given, pat)?;
     Ok(fields)
 }
 

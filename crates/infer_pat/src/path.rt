@@ -8,7 +8,7 @@ ghost use Rattle.infer_ctx.specs.Tells.{TellsRecorded};
 ghost use Rattle.infer_pat.specs.Paths.{NamesTyped, PathDone, AreFreshArgs};
 ghost use Rattle.infer_ctx.specs.Under.{IsVariant};
 
-use hir_facts::{List, RawCtor, RawPath, Ty, VariantId, fn_arity};
+use hir_facts::{List, RawCtor, RawPath, Ty, VariantId, fn_arity, variant_arity};
 use hir_types::{CallableDefId, GenericArg};
 use infer_ctx::{GivenBody, InferenceContext};
 use std::alloc::{AllocError, Global};
@@ -49,8 +49,8 @@ pub fn infer_expr_path(
     }
 }
 
-/// The type of a path to a constructor at new holes for the parameters of its adt: without fields
-/// a value of the adt, else an item that can be called: `infer/path.rs`, `infer_path`.
+/// The type of a path to a constructor at new holes for its parameters, those of its adt and one for each associated type in its fields:
+/// without fields a value of the adt, else an item that can be called: `infer/path.rs`, `infer_path`.
 fn infer_ctor_path(
     alloc: Global,
     context: &mut InferenceContext,
@@ -63,7 +63,8 @@ fn infer_ctor_path(
 {
     let item = given.facts.variant(variant);
     let params = given.facts.adt(item.adt).params.len();
-    let args = fresh_args_for_item(alloc, context, given, params)?;
+    let arity = variant_arity(alloc, given.facts.types(), item, params)?;
+    let args = fresh_args_for_item(alloc, context, given, arity)?;
     match item.ctor {
         RawCtor::Unit => Ok(Ty::Adt(item.adt, args)),
         RawCtor::Tuple => Ok(Ty::FnDef(CallableDefId::VariantId(variant), args)),

@@ -381,7 +381,7 @@ pub fn count_complaints(table: &InferenceResult) -> u128
         + count_some(table.expr_diagnostics.as_slice())
         + count_some(table.pat_mismatches.as_slice())
         + count_some(table.pat_diagnostics.as_slice());
-    others as u128 + count_gaps(table.expr_gaps.as_slice())
+    others as u128 + count_gaps(table.expr_gaps.as_slice()) + count_gaps(table.pat_gaps.as_slice())
 }
 
 /// The report on the table of a definition's body: docs/FORMAT.md. Its one error is want of memory.
@@ -423,7 +423,7 @@ pub fn write_report(
         raw,
         "p",
         table.pat_diagnostics.as_slice(),
-        &[],
+        table.pat_gaps.as_slice(),
         table.pat_mismatches.as_slice(),
     )?;
     let count = count_complaints(table);

@@ -2,8 +2,9 @@
 ghost use Rattle.std.specs.Prelude.{◌≡◌, ◌≤◌, ◌++◌, List, length, map, take, OnOk, codes, string_bytes};
 ghost use Rattle.std.specs.Option.{option_copied};
 ghost use Rattle.std.specs.Fmt.{decimal};
+ghost use Rattle.hir_raw.specs.Scope.{adt_params};
 ghost use Rattle.infer_report.specs.LaterArgs.{later_args_text, later_arg_text};
-ghost use Rattle.infer_result.specs.Report.{int_text, uint_text, float_text, const_text, ref_text, ptr_text, label_text, safety_text, callable_text, separator, joined, tuple_text, args_text, own_count, own_args, adt_text, implements_text, projection_text, arg_text, ty_text, type_text};
+ghost use Rattle.infer_result.specs.Report.{int_text, uint_text, float_text, const_text, ref_text, ptr_text, label_text, safety_text, callable_text, separator, joined, tuple_text, args_text, own_count, adt_own_count, own_args, adt_text, implements_text, projection_text, arg_text, ty_text, type_text};
 
 use hir_facts::{RawFacts, RawTrait};
 use hir_types::{
@@ -207,8 +208,8 @@ pub fn push_args(out: &mut String, facts: &RawFacts, args: &[GenericArg]) -> Res
     out.push_str(">")
 }
 
-/// How many of so many arguments are those of a function's own parameters: those for associated types in its signature
-/// come behind them.
+/// How many of so many arguments are those of a function's own parameters, or of those of a constructor's adt: those for
+/// associated types in its signature come behind them.
 fn own_count(facts: &RawFacts, id: CallableDefId, count: usize) -> usize
     ensures { result ≡ own_count facts.now id count }
 {
@@ -217,7 +218,20 @@ fn own_count(facts: &RawFacts, id: CallableDefId, count: usize) -> usize
             Some(function) => function.params.len().min(count),
             None => count,
         },
-        CallableDefId::VariantId(_) => count,
+        CallableDefId::VariantId(variant) => match facts.variants.get(variant.0 as usize) {
+            Some(variant) => adt_own_count(facts, variant.adt, count),
+            None => count,
+        },
+    }
+}
+
+/// How many of so many arguments are those of an adt's parameters.
+fn adt_own_count(facts: &RawFacts, adt: AdtId, count: usize) -> usize
+    ensures { result ≡ adt_own_count (adt_params facts.now adt) count }
+{
+    match facts.adts.get(adt.0 as usize) {
+        Some(adt) => adt.params.len().min(count),
+        None => count,
     }
 }
 

@@ -1,6 +1,6 @@
 -- From what a walk shows of a table to all that is promised of it.
-use Rattle.std.specs.Prelude.{ℕ, zero, suc, ◌<◌, ◌≡◌, ◌⊎◌, true, false, List, [], ◌∷◌, length, map, slice_get, option_map, Option, Some, None, refl}
-use Rattle.std.proofs.Common.{inl, inr, ap, sym, subst, ◌∙◌}
+use Rattle.std.specs.Prelude.{ℕ, zero, suc, ◌<◌, ◌≡◌, ◌⊎◌, true, false, List, [], ◌∷◌, ◌++◌, length, map, slice_get, option_map, Option, Some, None, refl}
+use Rattle.std.proofs.Common.{inl, inr, ap, arith, length-append, sym, subst, ◌∙◌}
 use Rattle.std.specs.Option.{option_and_then}
 use Rattle.std.proofs.lemmas.Option.{slice_get_within}
 use Rattle.hir_types.specs.declared.ids.ExprId.{ExprId}
@@ -29,7 +29,6 @@ use Rattle.hir_raw.specs.declared.raw.RawPat.{RawPat}
 use Rattle.hir_raw.specs.declared.raw.RawPat.TheVariants as pat
 use Rattle.hir_raw.specs.declared.raw.RawBody.{RawBody}
 use Rattle.hir_raw.specs.declared.raw.RawFn.{RawFn}
-use Rattle.hir_raw.specs.declared.raw.RawFacts.{RawFacts}
 use Rattle.hir_raw.specs.declared.raw.RawType.{RawType}
 use Rattle.hir_raw.specs.declared.raw.RawCtor.{RawCtor}
 use Rattle.hir_raw.specs.declared.raw.RawCtor.TheVariants as ctor
@@ -37,8 +36,8 @@ use Rattle.hir_raw.specs.declared.raw.RawVariant.{RawVariant}
 use Rattle.hir_types.specs.Types.{unit}
 use Rattle.hir_raw.specs.WrittenTypes.{written_type}
 use Rattle.hir_facts.specs.Filled.{filled_written}
-use Rattle.hir_raw.specs.Scope.{names_item, fn_arity, adt_params}
-use Rattle.hir_raw.specs.Signatures.{Signature, fn_signature, ctor_signature, ctor_type, signature_of, type_args, at_args}
+use Rattle.hir_raw.specs.Scope.{names_item, fn_arity, variant_arity, adt_params}
+use Rattle.hir_raw.specs.Signatures.{Signature, fn_signature, ctor_signature, signature_by, taken_types, own_adt, ctor_type, signature_of, type_args, at_args}
 use Rattle.hir_types.specs.Erasure.{erased}
 use Rattle.hir_raw.specs.declared.schedule.Schedule.{Schedule}
 use Rattle.hir_raw.proofs.Ways.{one_place}
@@ -49,12 +48,12 @@ use Rattle.infer_result.specs.declared.diagnostics.InferenceDiagnostic.TheVarian
 use Rattle.infer_result.specs.Table.{At, HasTy, PatTy, HasMismatch, AnyMismatch, AnyDiagnostic, mismatch, MaybeMismatch}
 use Rattle.infer_result.specs.Closed.{IsTotal}
 use Rattle.infer_result.specs.Places.{Given, let_types, hole_type, declared, AreRecorded, IsAt, IsAtOrMismatch, IsAtMaybe, IsAtMaybeOrMismatch, MisfitsAs, PatIsAtOrMismatch}
-use Rattle.infer_result.specs.Kinds.Constructor.{IsVariantAt, adt_at, fields_at}
+use Rattle.infer_result.specs.Kinds.Constructor.{IsCtorAt, adt_at, fields_at}
 use Rattle.infer_result.specs.Kinds.Call.{IsCallee, IsInputAt, ArgsRule, ItemCallRule, CallsNonGeneric, IsWrittenInput, IsPathToItem}
 use Rattle.infer_result.specs.Demands.{IsAsked, Asks, AsksOf}
 use Rattle.infer_result.specs.Incoming.{Gives, GivesPart, Incoming}
 use Rattle.infer_result.specs.Pats.Tuple.{GivesComponent, AllPatsAt}
-use Rattle.infer_result.specs.Pats.Constructor.{GivesField, PatsAtFields}
+use Rattle.infer_result.specs.Pats.Constructor.{GivesField, IsItemOf, IsPatOf, PatsAtFields}
 use Rattle.infer_result.specs.Kinds.Literal.{IsLiteralType, IsOwnType}
 use Rattle.infer_result.specs.Kinds.Path.{PathRule, NamesLet}
 use Rattle.infer_result.specs.Placing.{Placing, at_or_mismatch, at_types}
@@ -132,23 +131,55 @@ ctor_type_of_tuple x v ts h = rw h refl
 pub ctor_type_of_unit : (x : RawVariant) (v : VariantId) (ts : List Ty) → x.ctor ≡ ctor.Unit → ctor_type x v ts ≡ ty.Adt x.adt (type_args ts)
 ctor_type_of_unit x v ts h = rw h refl
 
-ctor_signature_at : (raw : RawFacts) (v : VariantId) (x : RawVariant) (n : ℕ) → slice_get raw.variants v.0 ≡ Some x → adt_params raw x.adt ≡ Some n → ctor_signature raw.types n x ≡ signature_of raw (callable.VariantId v)
-ctor_signature_at raw v x n found count =
-    sym (
-    ap (λ o. option_and_then (λ y. option_and_then (λ k. ctor_signature raw.types k y) (adt_params raw y.adt)) o) found
-    ∙ ap (λ o. option_and_then (λ k. ctor_signature raw.types k x) o) count
-    )
-
 -- what has a signature is a tuple constructor, at as many types as that has parameters
-ctor_item : (g : Given) (v : VariantId) (x : RawVariant) (ts : List Ty) (σ : Signature) → IsVariantAt g v x ts → signature_of g.scope.facts (callable.VariantId v) ≡ Some σ → (x.ctor ≡ ctor.Tuple) × (length ts ≡ σ.params)
-ctor_item g v x ts σ h s =
-    let made : ctor_signature g.scope.facts.types (length ts) x ≡ Some σ = ctor_signature_at g.scope.facts v x (length ts) h.found h.count ∙ s in
-    by_ctor x.ctor refl made
-  where
-    by_ctor : (k : RawCtor) → x.ctor ≡ k → ctor_signature g.scope.facts.types (length ts) x ≡ Some σ → (x.ctor ≡ ctor.Tuple) × (length ts ≡ σ.params)
-    by_ctor ctor.Tuple is made = (is, cc)
-    by_ctor ctor.Unit is made = absurd (cc)
-    by_ctor ctor.Record is made = absurd (cc)
+module _ (g : Given) (v : VariantId) (x : RawVariant) (ts : List Ty) (σ : Signature) where
+  abbrev types : List RawType
+  types = g.scope.facts.types
+
+  by_ctor : (n : ℕ) → variant_arity g.scope.facts.types x n ≡ length ts → (k : RawCtor) → x.ctor ≡ k → signature_by k g.scope.facts.types n x ≡ Some σ → (x.ctor ≡ ctor.Tuple) × (length ts ≡ σ.params)
+  by_ctor n count ctor.Tuple is made =
+      let same : record { params = variant_arity types x n; inputs = taken_types types n x; output = own_adt x.adt n } ≡ σ = cc in
+      (is, sym count ∙ ap (λ (τ : Signature). τ.params) same)
+  by_ctor n count ctor.Unit is made = absurd (cc)
+  by_ctor n count ctor.Record is made = absurd (cc)
+
+  by_params : (o : Option ℕ) → option_map (variant_arity g.scope.facts.types x) o ≡ Some (length ts) → option_and_then (λ n. ctor_signature g.scope.facts.types n x) o ≡ Some σ → (x.ctor ≡ ctor.Tuple) × (length ts ≡ σ.params)
+  by_params None count made = absurd (cc)
+  by_params (Some n) count made = by_ctor n (cc) x.ctor refl made
+
+  called_ctor : IsCtorAt g v x ts → signature_of g.scope.facts (callable.VariantId v) ≡ Some σ → (x.ctor ≡ ctor.Tuple) × (length ts ≡ σ.params)
+  called_ctor h s =
+      by_params (adt_params g.scope.facts x.adt)
+      (sym (ap (λ o. option_and_then (λ y. option_map (variant_arity types y) (adt_params g.scope.facts y.adt)) o) h.found) ∙ h.count)
+      (sym (ap (λ o. option_and_then (λ y. option_and_then (λ n. ctor_signature types n y) (adt_params g.scope.facts y.adt)) o) h.found) ∙ s)
+
+-- ---- the item that a pattern is of
+
+module _ (g : Given) (t : InferenceResult) (p : PatId) (v : VariantId) where
+  one_hidden : (ts us hs ks : List Ty) → ts ≡ us → length hs ≡ length ks → IsItemOf t p v ts hs → IsItemOf t p v us ks → ts ++ hs ≡ us ++ ks
+  one_hidden ts us [] [] same count h k = ap (λ ws. ws ++ []) same
+  one_hidden ts us [] (y ∷ ks) same count h k = absurd (cc)
+  one_hidden ts us (x ∷ hs) [] same count h k = absurd (cc)
+  one_hidden ts us (x ∷ hs) (y ∷ ks) same count h k =
+      let xs : List Ty = ts ++ x ∷ hs in
+      let ys : List Ty = us ++ y ∷ ks in
+      same_type_args xs ys (fn_def_parts (callable.VariantId v) (callable.VariantId v) (type_args xs) (type_args ys) (one_at t.item_of_pat p.0 _ _ h k)).1
+
+  -- a pattern is of one constructor, at the same types
+  pub one_item : (x y : RawVariant) (ts us hs ks : List Ty) → IsPatOf g t p v x ts hs → IsPatOf g t p v y us ks → (x ≡ y) × (ts ≡ us) × (ts ++ hs ≡ us ++ ks)
+  one_item x y ts us hs ks h k =
+      let found = h.is_variant.found in
+      let other = k.is_variant.found in
+      let one : x ≡ y = cc in
+      let same : ts ≡ us = same_type_args ts us (adt_parts x.adt y.adt (type_args ts) (type_args us) (one_at t.type_of_pat p.0 (adt_at x ts) (adt_at y us) h.has k.has)).1 in
+      let here = h.is_ctor.count in
+      let there = k.is_ctor.count in
+      let all : length (ts ++ hs) ≡ length (us ++ ks) = cc in
+      let own = ap length same in
+      let left = length-append ts hs in
+      let right = length-append us ks in
+      let count : length hs ≡ length ks = omega (arith, all, own, left, right) in
+      (one, same, one_hidden ts us hs ks same count h.item k.item)
 
 -- ---- each clause holds, or the part is excused
 
@@ -273,7 +304,7 @@ pat_type g t p None h = absurd h
 pat_type g t p (Some pat.Wild) h = h
 pat_type g t p (Some (pat.Bind v sub)) (s, h, k, m) = (s, h)
 pat_type g t p (Some (pat.Tuple ps)) (ss, h, k) = (ty.Tuple ss, h)
-pat_type g t p (Some (pat.TupleStruct v ps)) h = (adt_at h.variant h.types, h.has)
+pat_type g t p (Some (pat.TupleStruct v ps)) h = (adt_at h.variant h.types, h.is.has)
 pat_type g t p (Some (pat.Path (path.Ctor v))) (s, h, k, r) = (s, h)
 pat_type g t p (Some (pat.Path (path.Local v))) h = absurd h
 pat_type g t p (Some (pat.Path (path.Function f))) h = absurd h
@@ -341,7 +372,7 @@ module _ (g : Given) (t : InferenceResult) (h : IsMade g t) where
             among a.parts r.0 i r.2 a.stands (subst (λ us. slice_get us i ≡ Some s) (sym (tuple_parts r.0 c.types k)) c.component))
         | inr named ↦
             (let r = kind_at q (pat.TupleStruct named.0 a.parts) named.1 in
-            absurd (adt_no_tuple r.variant.adt (type_args r.types) c.types (one_at t.type_of_pat q.0 (adt_at r.variant r.types) (ty.Tuple c.types) r.has c.has)))
+            absurd (adt_no_tuple r.variant.adt (type_args r.types) c.types (one_at t.type_of_pat q.0 (adt_at r.variant r.types) (ty.Tuple c.types) r.is.has c.has)))
       ]
     where
       among : (ps : List PatId) (us : List Ty) (i : ℕ) → AllPatsAt g t ps us → slice_get ps i ≡ Some p → slice_get us i ≡ Some s → PatIsAtOrMismatch g t p s
@@ -363,13 +394,10 @@ module _ (g : Given) (t : InferenceResult) (h : IsMade g t) where
             let other = named.1 in
             let parts : a.parts ≡ f.parts = cc in
             let r = kind_at q (pat.TupleStruct f.named f.parts) f.is_pat in
-            let found = f.is_variant.found in
-            let here = r.is_variant.found in
-            let one : r.variant ≡ f.variant = cc in
-            let same = adt_parts r.variant.adt f.variant.adt (type_args r.types) (type_args f.types) (one_at t.type_of_pat q.0 (adt_at r.variant r.types) (adt_at f.variant f.types) r.has f.has) in
-            let types : r.types ≡ f.types = same_type_args r.types f.types same.1 in
-            among f.parts (fields_at g r.variant r.types) i r.parts (subst (λ ps. slice_get ps i ≡ Some p) parts a.stands)
-            (subst (λ x. slice_get (fields_at g x r.types) i ≡ Some s) (sym one) (subst (λ us. slice_get (fields_at g f.variant us) i ≡ Some s) (sym types) f.field)))
+            let (one, own, all) = one_item g t q f.named r.variant f.variant r.types f.types r.hidden f.hidden r.is f.is in
+            let fields : fields_at g r.variant (length r.types) (r.types ++ r.hidden) ≡ fields_at g f.variant (length f.types) (f.types ++ f.hidden) = λ j. fields_at g (one j) (length (own j)) (all j) in
+            among f.parts (fields_at g r.variant (length r.types) (r.types ++ r.hidden)) i r.parts (subst (λ ps. slice_get ps i ≡ Some p) parts a.stands)
+            (ap (λ us. slice_get us i) fields ∙ f.field))
       ]
     where
       among : (ps : List PatId) (us : List Ty) (i : ℕ) → PatsAtFields g t ps us → slice_get ps i ≡ Some p → slice_get us i ≡ Some s → PatIsAtOrMismatch g t p s
@@ -449,7 +477,7 @@ module _ (g : Given) (t : InferenceResult) (h : IsMade g t) where
   bare_item e (path.Ctor v) i σ (s', has, c, r) is s none =
       (let l : callable.VariantId v ≡ i = cc in
       let here : signature_of g.scope.facts (callable.VariantId v) ≡ Some σ = subst (λ j. signature_of g.scope.facts j ≡ Some σ) (sym l) s in
-      let (tuple, k) = ctor_item g v c.variant c.types σ c.is_variant here in
+      let (tuple, k) = called_ctor g v c.variant c.types σ c.is_ctor here in
       let at : s' ≡ ty.FnDef (callable.VariantId v) (type_args c.types) = c.is ∙ ctor_type_of_tuple c.variant v c.types tuple in
       subst (λ j. HasTy t e (ty.FnDef j [])) l (subst (λ xs. HasTy t e (ty.FnDef (callable.VariantId v) (type_args xs))) (no_items c.types (k ∙ none)) (subst (λ u. HasTy t e u) at has)))
 
@@ -490,10 +518,10 @@ module _ (g : Given) (t : InferenceResult) (h : IsMade g t) where
       subst (λ (v : Signature). HasTy t e (at_args [] v.output)) one (subst (λ us. HasTy t e (at_args us r.signature.output)) none r.has))
   upward m r (of_unit e x n) =
       (let (s, has, c, r') = clause_at e (expr.Path (path.Ctor n.variant)) n.names in
-      let here = c.is_variant.found in
+      let here = c.is_ctor.found in
       let there = n.is_variant in
       let one : c.variant ≡ x = cc in
-      let none : c.types ≡ [] = no_items c.types (counted_none c.types (subst (λ (y : RawVariant). adt_params g.scope.facts y.adt ≡ Some (length c.types)) one c.is_variant.count) n.non_generic) in
+      let none : c.types ≡ [] = no_items c.types (counted_none c.types c.is_ctor.count n.non_generic) in
       let at : s ≡ ty.Adt x.adt [] = c.is ∙ (ap (λ y. ctor_type y n.variant c.types) one ∙ (ctor_type_of_unit x n.variant c.types n.unit ∙ ap (λ us. ty.Adt x.adt (type_args us)) none)) in
       subst (λ u. HasTy t e u) at has)
     where

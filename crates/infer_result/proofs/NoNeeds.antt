@@ -1,8 +1,12 @@
--- Where no function and no adt has predicates, and no signature an associated type, no node needs a goal.
-use Rattle.std.proofs.Common.{◌≡◌, ℕ, List, [], map, slice_get, Option, Some, None, option_map, refl, subst}
-use Rattle.hir_types.specs.declared.ids.ExprId.{ExprId}
+-- Where no function and no adt has predicates, and no signature and no field an associated type, no node needs a goal.
+use Rattle.std.proofs.Common.{◌≡◌, ◌∙◌, ℕ, List, [], map, slice_get, Option, Some, None, option_map, ap, refl, subst}
 use Rattle.hir_types.specs.declared.ids.DefWithBodyId.{DefWithBodyId}
-use Rattle.hir_types.specs.declared.ty.Ty.{out-Ty}
+use Rattle.hir_types.specs.declared.ids.ExprOrPatId.{ExprOrPatId}
+use Rattle.hir_types.specs.declared.ids.ExprOrPatId.TheVariants as node
+use Rattle.hir_types.specs.declared.ty.AliasBound.{AliasBound}
+use Rattle.hir_types.specs.declared.ty.GenericArg.{GenericArg}
+use Rattle.hir_types.specs.declared.ty.TraitRef.{TraitRef}
+use Rattle.hir_types.specs.declared.ty.Ty.{Ty, Ty-F, out-Ty}
 use Rattle.hir_raw.specs.declared.raw.RawExpr.{RawExpr}
 use Rattle.hir_raw.specs.declared.raw.RawExpr.TheVariants as expr
 use Rattle.hir_raw.specs.declared.raw.RawGoal.{RawGoal}
@@ -13,22 +17,24 @@ use Rattle.hir_raw.specs.declared.raw.RawFn.{RawFn}
 use Rattle.hir_raw.specs.declared.raw.RawAdt.{RawAdt}
 use Rattle.hir_raw.specs.declared.raw.RawBody.{RawBody}
 use Rattle.hir_raw.specs.declared.raw.RawFacts.{RawFacts}
-use Rattle.hir_raw.specs.Hidden.{fn_aliases}
+use Rattle.hir_raw.specs.Hidden.{fn_aliases, variant_aliases}
 use Rattle.goal_answers.specs.Goals.{Asked}
 use Rattle.goal_facts.specs.Arguments.{goal_at}
 use Rattle.goal_facts.specs.Environment.{preds_or_none}
 use Rattle.infer_result.specs.declared.gaps.Gap.{Gap}
 use Rattle.infer_result.specs.declared.result.InferenceResult.{InferenceResult}
 use Rattle.infer_result.specs.AliasNeeds.{none_for_aliases}
-use Rattle.infer_result.specs.Needs.{variant_preds, path_preds, expr_preds, item_args, needs_preds, IsNeeded, HasGap, NeedsHold}
+use Rattle.infer_result.specs.Needs.{variant_preds, path_preds, expr_preds, item_args, item_path, needs_preds, needs_of, pat_needs_by, pat_needs_of, node_needs, IsNeeded, HasGap, NeedsHold}
+use Rattle.infer_result.specs.Table.{recorded}
 use Rattle.infer_result.specs.Typed.{given}
 
 none_at : {X : Type 0} (n : ℕ) (x : X) → slice_get [] n ≡ Some x → ⊥
 none_at n x h = absurd (cc)
 
--- no gap is listed where there is no list of them
-pub no_gaps : (r : InferenceResult) → r.expr_gaps ≡ [] → (e : ExprId) (x : Gap) → HasGap r e x → ⊥
-no_gaps r none e x h = none_at e.0 h.gaps (subst (λ gs. slice_get gs e.0 ≡ Some h.gaps) none h.at)
+-- no gap is listed where there are no lists of them
+pub no_gaps : (r : InferenceResult) → r.expr_gaps ≡ [] → r.pat_gaps ≡ [] → (n : ExprOrPatId) (x : Gap) → HasGap r n x → ⊥
+no_gaps r none no_pats (node.ExprId e) x h = none_at e.0 h.gaps (subst (λ gs. slice_get gs e.0 ≡ Some h.gaps) none h.at)
+no_gaps r none no_pats (node.PatId p) x h = none_at p.0 h.gaps (subst (λ gs. slice_get gs p.0 ≡ Some h.gaps) no_pats h.at)
 
 -- the predicates of each entry are none
 abbrev pub HaveNone : {X : Type 0} → (X → List RawGoal) → List X → Type 0
@@ -38,7 +44,9 @@ entry_none : {X : Type 0} (preds : X → List RawGoal) (o : Option X) → ((x : 
 entry_none preds None h = refl
 entry_none preds (Some x) h = h x refl
 
-module _ (raw : RawFacts) (fns : HaveNone (λ (f : RawFn). f.preds) raw.fns) (adts : HaveNone (λ (a : RawAdt). a.preds) raw.adts) (aliases : (n : ℕ) (f : RawFn) → slice_get raw.fns n ≡ Some f → fn_aliases raw.types f ≡ []) where
+module _
+    (raw : RawFacts) (fns : HaveNone (λ (f : RawFn). f.preds) raw.fns) (adts : HaveNone (λ (a : RawAdt). a.preds) raw.adts)
+    (aliases : (n : ℕ) (f : RawFn) → slice_get raw.fns n ≡ Some f → fn_aliases raw.types f ≡ []) (fields : (n : ℕ) (x : RawVariant) → slice_get raw.variants n ≡ Some x → variant_aliases raw.types x ≡ []) where
   variant_none : (o : Option RawVariant) → variant_preds raw o ≡ []
   variant_none None = refl
   variant_none (Some v) = entry_none (λ (a : RawAdt). a.preds) (slice_get raw.adts v.adt.0) (adts v.adt.0)
@@ -53,12 +61,25 @@ module _ (raw : RawFacts) (fns : HaveNone (λ (f : RawFn). f.preds) raw.fns) (ad
   expr_none (expr.Path p) = path_none p
   expr_none _ = refl
 
-  pub none_needed : (d : DefWithBodyId) (b : RawBody) (r : InferenceResult) (e : ExprId) (a : Asked) → IsNeeded (given raw d b) r e a → ⊥
-  none_needed d b r e a n =
-      let P : List RawGoal → Type 0 = λ ps. slice_get (map (goal_at raw (item_args (out-Ty n.ty))) ps) n.at ≡ Some a in
-      let xs = item_args (out-Ty n.ty) in
-      let among = subst (λ gs. slice_get gs n.at ≡ Some a) (needs_preds raw n.expr n.ty (none_for_aliases raw aliases xs n.expr)) n.among in
-      none_at n.at a (subst P (expr_none n.expr) among)
+  expr_needs_none : (o : Option RawExpr) (t : Option Ty) → needs_of raw o t ≡ []
+  expr_needs_none None t = refl
+  expr_needs_none (Some x) None = refl
+  expr_needs_none (Some x) (Some t) = (let xs = item_args (out-Ty t) in needs_preds raw x t (none_for_aliases raw aliases fields xs x) ∙ ap (map (goal_at raw xs)) (expr_none x))
+
+  item_needs_none : (t : Ty-F GenericArg Ty AliasBound TraitRef) → pat_needs_by raw t ≡ []
+  item_needs_none (Ty-F.FnDef id xs) = none_for_aliases raw aliases fields xs (expr.Path (item_path id))
+  item_needs_none _ = refl
+
+  pat_needs_none : (o : Option Ty) → pat_needs_of raw o ≡ []
+  pat_needs_none None = refl
+  pat_needs_none (Some t) = item_needs_none (out-Ty t)
+
+  node_needs_none : (b : RawBody) (r : InferenceResult) (n : ExprOrPatId) → node_needs raw b r n ≡ []
+  node_needs_none b r (node.ExprId e) = expr_needs_none (slice_get b.exprs e.0) (recorded r.type_of_expr e.0)
+  node_needs_none b r (node.PatId p) = pat_needs_none (recorded r.item_of_pat p.0)
+
+  pub none_needed : (d : DefWithBodyId) (b : RawBody) (r : InferenceResult) (n : ExprOrPatId) (a : Asked) → IsNeeded (given raw d b) r n a → ⊥
+  none_needed d b r n a is = none_at is.at a (subst (λ gs. slice_get gs is.at ≡ Some a) (node_needs_none b r n) is.among)
 
   pub needs_hold : (d : DefWithBodyId) (b : RawBody) (r : InferenceResult) → NeedsHold d (given raw d b) r
-  needs_hold d b r f are e a n = absurd (none_needed d b r e a n)
+  needs_hold d b r f are n a is = absurd (none_needed d b r n a is)

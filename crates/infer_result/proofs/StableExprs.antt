@@ -42,7 +42,7 @@ use Rattle.infer_result.specs.Kinds.Match.{arm_exprs, ArmPatterns, GuardRule, Ar
 use Rattle.infer_result.specs.Rules.{Rule, ObeysOrMismatch, ObeysExpression}
 use Rattle.infer_result.specs.Stable.{mismatch_under, diagnostic_under, table_under}
 use Rattle.infer_result.proofs.Unchanged.{instances_under, signature_unchanged}
-use Rattle.infer_result.proofs.Under.{At-under, tuple_under, item_under, unit_under, integer_under, ctor_under, same_under, count_under, variant_under, type_under, pat_type_under, has_mismatch_under, any_mismatch_under, has_pat_mismatch_under, seen_under, recorded_under, declared_under}
+use Rattle.infer_result.proofs.Under.{At-under, tuple_under, item_under, unit_under, integer_under, ctor_under, same_under, count_under, ctor_at_under, type_under, pat_type_under, has_mismatch_under, any_mismatch_under, has_pat_mismatch_under, seen_under, recorded_under, declared_under}
 
 -- ---- one part of a node
 
@@ -122,7 +122,7 @@ module _ (a : Assignment) where
   ctor_path_under g v s h = record {
     variant = h.variant;
     types = map (folded a) h.types;
-    is_variant = variant_under a g v h.variant h.types h.is_variant;
+    is_ctor = ctor_at_under a g v h.variant h.types h.is_ctor;
     is = ap (folded a) h.is ∙ ctor_under a h.variant v h.types;
   }
 

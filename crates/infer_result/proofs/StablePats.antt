@@ -1,5 +1,7 @@
 -- The rules of patterns hold of a table under an assignment where they hold of the table.
-use Rattle.std.proofs.Common.{ℕ, ◌≡◌, inl, inr, refl, sym, ap, subst, ◌∙◌, List, [], ◌∷◌, map, Option, Some, None, slice_get}
+use Rattle.std.proofs.Common.{ℕ, ◌≡◌, inl, inr, refl, sym, ap, subst, ◌∙◌, List, [], ◌∷◌, ◌++◌, length, map, Option, Some, None, slice_get}
+use Rattle.std.proofs.lemmas.List.{length-map, map-append}
+use Rattle.hir_types.specs.declared.ids.CallableDefId.TheVariants as callable
 use Rattle.hir_types.specs.declared.ids.PatId.{PatId}
 use Rattle.hir_types.specs.declared.ids.VariantId.{VariantId}
 use Rattle.hir_types.specs.declared.ids.ExprOrPatId.TheVariants as node
@@ -12,20 +14,20 @@ use Rattle.hir_raw.specs.declared.raw.RawPath.TheVariants as path
 use Rattle.hir_raw.specs.declared.raw.RawVariant.{RawVariant}
 use Rattle.hir_facts.specs.Below.{IsLawful}
 use Rattle.hir_raw.specs.Order.{Role, parameter, let_pattern, arm_pattern, subpattern, Node, the_body, inner}
-use Rattle.hir_raw.specs.Signatures.{field_types, type_args}
+use Rattle.hir_raw.specs.Signatures.{taken_types, type_args, ctor_item}
 use Rattle.infer_result.specs.declared.result.InferenceResult.{InferenceResult}
-use Rattle.infer_result.specs.Table.{PatTy}
+use Rattle.infer_result.specs.Table.{PatTy, PatItem}
 use Rattle.infer_result.specs.Places.{Given, StandsAt, declared, PatIsAtOrMismatch}
-use Rattle.infer_result.specs.Kinds.Constructor.{IsVariantAt, adt_at, fields_at}
+use Rattle.infer_result.specs.Kinds.Constructor.{IsVariantAt, IsCtorAt, adt_at, fields_at}
 use Rattle.infer_result.specs.Pats.Tuple.{GivesComponent, AllPatsAt}
-use Rattle.infer_result.specs.Pats.Constructor.{GivesField, PatsAtFields, CtorPatRule}
+use Rattle.infer_result.specs.Pats.Constructor.{GivesField, IsItemOf, IsPatOf, PatsAtFields, CtorPatRule}
 use Rattle.infer_result.specs.Incoming.{GivesPart, Gives}
-use Rattle.infer_result.proofs.Derived.{one_at, tuple_parts, adt_parts, adt_no_tuple, same_type_args}
+use Rattle.infer_result.proofs.Derived.{one_at, one_item, tuple_parts, adt_no_tuple}
 use Rattle.infer_result.proofs.Parts.{PartStands, comes_from}
 use Rattle.infer_result.specs.Rules.{PatRule, ObeysPattern}
 use Rattle.infer_result.specs.Stable.{diagnostic_under, table_under, WholeObeys, IsClosedType}
 use Rattle.infer_result.proofs.Unchanged.{instances_under, fields_unchanged}
-use Rattle.infer_result.proofs.Under.{At-under, At-before, entry_before, tuple_under, adt_under, variant_under, type_under, pat_type_under, recorded_before, declared_under}
+use Rattle.infer_result.proofs.Under.{At-under, At-before, entry_before, tuple_under, adt_under, item_under, variant_under, ctor_at_under, type_under, pat_type_under, recorded_before, declared_under}
 use Rattle.infer_result.proofs.StableExprs.{pat_at_under, ctor_path_under}
 
 module _ (g : Given) (law : IsLawful g.scope.facts) (a : Assignment) (t : InferenceResult) where
@@ -33,8 +35,25 @@ module _ (g : Given) (law : IsLawful g.scope.facts) (a : Assignment) (t : Infere
   after = table_under a t
 
   -- the fields at types are changed as the types are
-  fields_under : (v : VariantId) (x : RawVariant) (ts : List Ty) → IsVariantAt g v x ts → map (folded a) (fields_at g x ts) ≡ fields_at g x (map (folded a) ts)
-  fields_under v x ts h = instances_under a ts (field_types g.scope.facts.types x) (fields_unchanged g.scope.facts law v.0 x h.found)
+  fields_under : (v : VariantId) (x : RawVariant) (ts hs : List Ty) → IsVariantAt g v x ts → map (folded a) (fields_at g x (length ts) (ts ++ hs)) ≡ fields_at g x (length (map (folded a) ts)) (map (folded a) ts ++ map (folded a) hs)
+  fields_under v x ts hs h =
+      instances_under a (ts ++ hs) (taken_types g.scope.facts.types (length ts) x) (fields_unchanged g.scope.facts law v.0 x h.found (length ts) h.count)
+      ∙ (λ j. fields_at g x (sym (length-map ts (folded a)) j) (map-append (folded a) ts hs j))
+
+  -- so is the item that a pattern is of
+  item_of_under : (p : PatId) (v : VariantId) (ts hs : List Ty) → IsItemOf t p v ts hs → IsItemOf (table_under a t) p v (map (folded a) ts) (map (folded a) hs)
+  item_of_under p v ts [] h = tt
+  item_of_under p v ts (x ∷ hs) h =
+      subst (λ u. PatItem (table_under a t) p u) (item_under a (callable.VariantId v) (ts ++ x ∷ hs) ∙ ap (ctor_item v) (map-append (folded a) ts (x ∷ hs)))
+      (At-under (folded a) t.item_of_pat p.0 (ctor_item v (ts ++ x ∷ hs)) h)
+
+  pat_of_under : (p : PatId) (v : VariantId) (x : RawVariant) (ts hs : List Ty) → IsPatOf g t p v x ts hs → IsPatOf g (table_under a t) p v x (map (folded a) ts) (map (folded a) hs)
+  pat_of_under p v x ts hs h = record {
+    is_variant = variant_under a g v x ts h.is_variant;
+    is_ctor = subst (λ us. IsCtorAt g v x us) (map-append (folded a) ts hs) (ctor_at_under a g v x (ts ++ hs) h.is_ctor);
+    has = pat_type_under a t p _ _ h.has (adt_under a x.adt ts);
+    item = item_of_under p v ts hs h.item;
+  }
 
   -- ---- each kind of pattern
 
@@ -57,9 +76,9 @@ module _ (g : Given) (law : IsLawful g.scope.facts) (a : Assignment) (t : Infere
   kind_under p (Some (pat.TupleStruct v ps)) h = record {
     variant = h.variant;
     types = map (folded a) h.types;
-    is_variant = variant_under a g v h.variant h.types h.is_variant;
-    has = pat_type_under a t p _ _ h.has (adt_under a h.variant.adt h.types);
-    parts = subst (λ ss. PatsAtFields g (table_under a t) ps ss) (fields_under v h.variant h.types h.is_variant) (pats_at_under ps (fields_at g h.variant h.types) h.parts);
+    hidden = map (folded a) h.hidden;
+    is = pat_of_under p v h.variant h.types h.hidden h.is;
+    parts = subst (λ ss. PatsAtFields g (table_under a t) ps ss) (fields_under v h.variant h.types h.hidden h.is.is_variant) (pats_at_under ps (fields_at g h.variant (length h.types) (h.types ++ h.hidden)) h.parts);
     counted = elim h.counted [ inl k ↦ inl k | inr k ↦ inr (At-under (diagnostic_under a) t.pat_diagnostics p.0 _ k) ];
     resolved = h.resolved;
   }
@@ -87,7 +106,7 @@ module _ (g : Given) (law : IsLawful g.scope.facts) (a : Assignment) (t : Infere
     no_component : (v : VariantId) (ps : List PatId) → PatRule g t q (Some (pat.TupleStruct v ps)) → (i : ℕ) (s : Ty) → GivesComponent (table_under a t) q i s → ⊥
     no_component v ps h i s c =
         adt_no_tuple h.variant.adt (type_args (map (folded a) h.types)) c.types
-        (sym (adt_under a h.variant.adt h.types) ∙ same_after (adt_at h.variant h.types) (ty.Tuple c.types) h.has c.has)
+        (sym (adt_under a h.variant.adt h.types) ∙ same_after (adt_at h.variant h.types) (ty.Tuple c.types) h.is.has c.has)
 
     component_before : (i : ℕ) (p : PatId) → PartStands g.body q i p → PatRule g t q (slice_get g.body.pats q.0) → (s : Ty) → GivesComponent (table_under a t) q i s → (u : Ty) × GivesComponent t q i u × (folded a u ≡ s)
     component_before i p stands h s c = elim stands.whole [
@@ -98,13 +117,11 @@ module _ (g : Given) (law : IsLawful g.scope.facts) (a : Assignment) (t : Infere
     field_before : (i : ℕ) → PatRule g t q (slice_get g.body.pats q.0) → (s : Ty) → GivesField g (table_under a t) q i s → (u : Ty) × GivesField g t q i u × (folded a u ≡ s)
     field_before i h s f =
         let r : CtorPatRule g t q f.named f.parts = subst (λ o. PatRule g t q o) f.is_pat h in
-        let one : r.variant ≡ f.variant = (let e : Some r.variant ≡ Some f.variant = sym r.is_variant.found ∙ f.is_variant.found in cc) in
-        let parts = adt_parts r.variant.adt f.variant.adt (type_args (map (folded a) r.types)) (type_args f.types)
-        (sym (adt_under a r.variant.adt r.types) ∙ same_after (adt_at r.variant r.types) (adt_at f.variant f.types) r.has f.has) in
-        let same : map (folded a) r.types ≡ f.types = same_type_args (map (folded a) r.types) f.types parts.1 in
-        let fields : map (folded a) (fields_at g r.variant r.types) ≡ fields_at g f.variant f.types =
-        fields_under f.named r.variant r.types r.is_variant ∙ (λ j. fields_at g (one j) (same j)) in
-        let x = entry_before (folded a) (fields_at g r.variant r.types) i s (ap (λ us. slice_get us i) fields ∙ f.field) in (
+        let before : List Ty = fields_at g r.variant (length r.types) (r.types ++ r.hidden) in
+        let (one, own, all) = one_item g (table_under a t) q f.named r.variant f.variant (map (folded a) r.types) f.types (map (folded a) r.hidden) f.hidden (pat_of_under q f.named r.variant r.types r.hidden r.is) f.is in
+        let fields : map (folded a) before ≡ fields_at g f.variant (length f.types) (f.types ++ f.hidden) =
+        fields_under f.named r.variant r.types r.hidden r.is.is_variant ∙ (λ j. fields_at g (one j) (length (own j)) (all j)) in
+        let x = entry_before (folded a) before i s (ap (λ us. slice_get us i) fields ∙ f.field) in (
           x.0,
           record {
             named = f.named;
@@ -112,8 +129,8 @@ module _ (g : Given) (law : IsLawful g.scope.facts) (a : Assignment) (t : Infere
             is_pat = f.is_pat;
             variant = r.variant;
             types = r.types;
-            is_variant = r.is_variant;
-            has = r.has;
+            hidden = r.hidden;
+            is = r.is;
             field = x.1;
           },
           x.2,

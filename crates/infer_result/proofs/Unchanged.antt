@@ -1,5 +1,5 @@
 -- What facts write has no holes that inference made, so no assignment changes it.
-use Rattle.std.proofs.Common.{ℕ, zero, suc, ◌≡◌, refl, sym, ap, subst, ◌∙◌, List, [], ◌∷◌, map, Option, Some, None, slice_get, option_map, option_and_then}
+use Rattle.std.proofs.Common.{ℕ, zero, suc, ◌≡◌, refl, sym, ap, subst, ◌∙◌, List, [], ◌∷◌, map, length, Option, Some, None, slice_get, option_map, option_and_then}
 use Rattle.hir_types.specs.declared.ids.AdtId.{AdtId}
 use Rattle.hir_types.specs.declared.ids.CallableDefId.{CallableDefId}
 use Rattle.hir_types.specs.declared.ids.CallableDefId.TheVariants as callable
@@ -12,6 +12,7 @@ use Rattle.hir_types.specs.Subst.{Assignment, with_holes, folded}
 use Rattle.hir_types.specs.Replacements.{replaced_bool, replaced_char, replaced_int, replaced_uint, replaced_tuple, replaced_adt, replaced_param}
 use Rattle.hir_types.specs.Types.{integer_type}
 use Rattle.hir_types.specs.Instances.{types_args_folded, instance_at_types}
+use Rattle.hir_raw.specs.declared.raw.RawAdt.{RawAdt}
 use Rattle.hir_raw.specs.declared.raw.RawCtor.{RawCtor}
 use Rattle.hir_raw.specs.declared.raw.RawCtor.TheVariants as ctor
 use Rattle.hir_raw.specs.declared.raw.RawField.{RawField}
@@ -19,11 +20,11 @@ use Rattle.hir_raw.specs.declared.raw.RawFn.{RawFn}
 use Rattle.hir_raw.specs.declared.raw.RawType.{RawType}
 use Rattle.hir_raw.specs.declared.raw.RawVariant.{RawVariant}
 use Rattle.hir_raw.specs.declared.raw.RawFacts.{RawFacts}
-use Rattle.hir_facts.specs.Below.{IsLawful, HasNoHole, field_has_no_hole}
+use Rattle.hir_facts.specs.Below.{IsLawful, HasNoHole}
 use Rattle.hir_facts.specs.Filled.{filled_written, filled_folded}
-use Rattle.hir_facts.proofs.Below.{Each, IsOver, over_input, over_output}
-use Rattle.hir_raw.specs.Scope.{adt_params, fn_arity}
-use Rattle.hir_raw.specs.Signatures.{Signature, fn_signature, fn_types, signature_of, signature_by, ctor_signature, field_types, own_adt, params_from, type_args, at_args}
+use Rattle.hir_facts.proofs.Below.{Each, IsOver, over_input, over_output, over_field}
+use Rattle.hir_raw.specs.Scope.{adt_params, fn_arity, variant_arity}
+use Rattle.hir_raw.specs.Signatures.{Signature, fn_signature, fn_types, signature_of, signature_by, ctor_signature, taken_types, variant_types, own_adt, params_from, type_args, at_args}
 use Rattle.hir_raw.specs.WrittenTypes.{written_type}
 
 -- no assignment changes the type
@@ -53,9 +54,9 @@ all_opened : (types : List RawType) (ws : List TypeRefId) → ((k : ℕ) (w : Ty
 all_opened types [] each = tt
 all_opened types (w ∷ ws) each = (each 0 w refl, all_opened types ws (λ k v e. each (suc k) v e))
 
-all_fields : (types : List RawType) (fs : List RawField) → ((k : ℕ) (f : RawField) → slice_get fs k ≡ Some f → HasNoHole types f.type_) → AllUnchanged (map (λ (f : RawField). written_type types f.type_) fs)
-all_fields types [] none = tt
-all_fields types (f ∷ fs) none = (written_unchanged types f.type_ (none 0 f refl), all_fields types fs (λ k x e. none (suc k) x e))
+all_fields : (types : List RawType) (fs : List RawField) → ((k : ℕ) (f : RawField) → slice_get fs k ≡ Some f → IsUnchanged (written_type types f.type_)) → AllUnchanged (map (λ (f : RawField). written_type types f.type_) fs)
+all_fields types [] each = tt
+all_fields types (f ∷ fs) each = (each 0 f refl, all_fields types fs (λ k x e. each (suc k) x e))
 
 -- an adt at its own parameters
 params_unchanged : (a : Assignment) (i n : ℕ) → map (folded a) (params_from i n) ≡ params_from i n
@@ -94,8 +95,17 @@ pub record IsUnchangedSignature (σ : Signature) : Type 0 where
   pub output : IsUnchanged σ.output
 
 module _ (raw : RawFacts) (law : IsLawful raw) where
-  pub fields_unchanged : (v : ℕ) (x : RawVariant) → slice_get raw.variants v ≡ Some x → AllUnchanged (field_types raw.types x)
-  fields_unchanged v x found = all_fields raw.types x.fields (λ k f e. field_has_no_hole raw law v x found k f e)
+  fields_by : (v : ℕ) (x : RawVariant) → slice_get raw.variants v ≡ Some x → (o : Option RawAdt) → slice_get raw.adts x.adt.0 ≡ o → (n : ℕ) → option_map (λ a. length a.params) o ≡ Some n → AllUnchanged (taken_types raw.types n x)
+  fields_by v x found None is n count = absurd (cc)
+  fields_by v x found (Some a) is n count =
+      let same : length a.params ≡ n = cc in
+      let over = over_unchanged raw (variant_arity raw.types x (length a.params)) in
+      subst (λ m. AllUnchanged (taken_types raw.types m x)) same
+      (all_fields (variant_types raw.types (length a.params) x) x.fields (λ k f e. over_field raw law v x a found is IsUnchanged over k f e))
+
+  -- what a constructor takes, of an adt with n parameters
+  pub fields_unchanged : (v : ℕ) (x : RawVariant) → slice_get raw.variants v ≡ Some x → (n : ℕ) → adt_params raw x.adt ≡ Some n → AllUnchanged (taken_types raw.types n x)
+  fields_unchanged v x found n count = fields_by v x found (slice_get raw.adts x.adt.0) refl n count
 
   by_fn : (f : ℕ) (o : Option RawFn) (σ : Signature) → slice_get raw.fns f ≡ o → option_map (fn_signature raw.types) o ≡ Some σ → IsUnchangedSignature σ
   by_fn f None σ found is = absurd (cc)
@@ -106,20 +116,20 @@ module _ (raw : RawFacts) (law : IsLawful raw) where
         output = over_output raw law f x found IsUnchanged (over_unchanged raw (fn_arity raw.types x));
       })
 
-  by_ctor : (v : ℕ) (x : RawVariant) → slice_get raw.variants v ≡ Some x → (k : RawCtor) (n : ℕ) (σ : Signature) → signature_by k raw.types n x ≡ Some σ → IsUnchangedSignature σ
-  by_ctor v x found ctor.Unit n σ is = absurd (cc)
-  by_ctor v x found ctor.Record n σ is = absurd (cc)
-  by_ctor v x found ctor.Tuple n σ is =
-      let own : record { params = n; inputs = field_types raw.types x; output = own_adt x.adt n } ≡ σ = cc in
-      subst IsUnchangedSignature own (record { inputs = fields_unchanged v x found; output = own_adt_unchanged x.adt n })
+  by_ctor : (v : ℕ) (x : RawVariant) → slice_get raw.variants v ≡ Some x → (k : RawCtor) (n : ℕ) → adt_params raw x.adt ≡ Some n → (σ : Signature) → signature_by k raw.types n x ≡ Some σ → IsUnchangedSignature σ
+  by_ctor v x found ctor.Unit n count σ is = absurd (cc)
+  by_ctor v x found ctor.Record n count σ is = absurd (cc)
+  by_ctor v x found ctor.Tuple n count σ is =
+      let own : record { params = variant_arity raw.types x n; inputs = taken_types raw.types n x; output = own_adt x.adt n } ≡ σ = cc in
+      subst IsUnchangedSignature own (record { inputs = fields_unchanged v x found n count; output = own_adt_unchanged x.adt n })
 
-  by_params : (v : ℕ) (x : RawVariant) → slice_get raw.variants v ≡ Some x → (o : Option ℕ) (σ : Signature) → option_and_then (λ n. ctor_signature raw.types n x) o ≡ Some σ → IsUnchangedSignature σ
-  by_params v x found None σ is = absurd (cc)
-  by_params v x found (Some n) σ is = by_ctor v x found x.ctor n σ is
+  by_params : (v : ℕ) (x : RawVariant) → slice_get raw.variants v ≡ Some x → (o : Option ℕ) → adt_params raw x.adt ≡ o → (σ : Signature) → option_and_then (λ n. ctor_signature raw.types n x) o ≡ Some σ → IsUnchangedSignature σ
+  by_params v x found None count σ is = absurd (cc)
+  by_params v x found (Some n) count σ is = by_ctor v x found x.ctor n count σ is
 
   by_variant : (v : ℕ) (o : Option RawVariant) (σ : Signature) → slice_get raw.variants v ≡ o → option_and_then (λ x. option_and_then (λ n. ctor_signature raw.types n x) (adt_params raw x.adt)) o ≡ Some σ → IsUnchangedSignature σ
   by_variant v None σ found is = absurd (cc)
-  by_variant v (Some x) σ found is = by_params v x found (adt_params raw x.adt) σ is
+  by_variant v (Some x) σ found is = by_params v x found (adt_params raw x.adt) refl σ is
 
   pub signature_unchanged : (item : CallableDefId) (σ : Signature) → signature_of raw item ≡ Some σ → IsUnchangedSignature σ
   signature_unchanged (callable.FunctionId f) σ is = by_fn f.0 (slice_get raw.fns f.0) σ refl is

@@ -32,7 +32,7 @@ use Rattle.infer_result.specs.declared.diagnostics.InferenceDiagnostic.{Inferenc
 use Rattle.infer_result.specs.declared.diagnostics.InferenceDiagnostic.TheVariants as diagnostic
 use Rattle.infer_result.specs.Table.{At, HasTy, PatTy, PlaceholderTy, HasMismatch, AnyMismatch, HasPatMismatch, WasSeen}
 use Rattle.infer_result.specs.Places.{Given, let_types, hole_type, declared, AreRecorded}
-use Rattle.infer_result.specs.Kinds.Constructor.{IsVariantAt}
+use Rattle.infer_result.specs.Kinds.Constructor.{IsVariantAt, IsCtorAt}
 use Rattle.infer_result.specs.Stable.{each_under, mismatch_under, diagnostic_under, table_under, IsStable}
 
 -- ---- lists under a function
@@ -100,6 +100,9 @@ module _ (a : Assignment) where
   pub variant_under : (g : Given) (v : VariantId) (x : RawVariant) (ts : List Ty) → IsVariantAt g v x ts → IsVariantAt g v x (map (folded a) ts)
   variant_under g v x ts h = record { found = h.found; count = count_under _ ts h.count }
 
+  pub ctor_at_under : (g : Given) (v : VariantId) (x : RawVariant) (ts : List Ty) → IsCtorAt g v x ts → IsCtorAt g v x (map (folded a) ts)
+  ctor_at_under g v x ts h = record { found = h.found; count = count_under _ ts h.count }
+
 -- ---- tables
 
 -- under one assignment and then another, a table is under the two composed
@@ -116,6 +119,7 @@ table_twice r s t = λ i. record t {
   type_of_expr = types t.type_of_expr i;
   type_of_pat = types t.type_of_pat i;
   type_of_binding = types t.type_of_binding i;
+  item_of_pat = types t.item_of_pat i;
   type_of_placeholder = types t.type_of_placeholder i;
   expr_mismatches = mismatches t.expr_mismatches i;
   expr_diagnostics = diagnostics t.expr_diagnostics i;

@@ -1,5 +1,5 @@
 -- Tables with an entry for each node, and without holes.
-use Rattle.std.specs.Prelude.{ℕ, ◌<◌, ◌≡◌, ◌⊎◌, List, length, slice_get, Option, Some}
+use Rattle.std.specs.Prelude.{ℕ, ◌<◌, ◌≡◌, ◌⊎◌, List, [], length, slice_get, Option, Some}
 use Rattle.hir_types.specs.declared.ids.ExprId.{ExprId}
 use Rattle.hir_types.specs.declared.ids.PatId.{PatId}
 use Rattle.hir_types.specs.declared.ids.BindingId.{BindingId}
@@ -9,19 +9,24 @@ use Rattle.hir_raw.specs.declared.raw.RawExpr.TheVariants as expr
 use Rattle.hir_raw.specs.declared.raw.RawPath.TheVariants as path
 use Rattle.hir_raw.specs.declared.raw.RawPat.TheVariants as pat
 use Rattle.hir_raw.specs.declared.raw.RawBody.{RawBody}
+use Rattle.hir_raw.specs.declared.raw.RawFacts.{RawFacts}
+use Rattle.hir_raw.specs.declared.raw.RawVariant.{RawVariant}
+use Rattle.hir_raw.specs.Hidden.{variant_aliases}
+use Rattle.hir_raw.specs.Signatures.{ctor_item}
 use Rattle.hir_types.specs.Erasure.{IsClosed}
 use Rattle.infer_result.specs.declared.result.InferenceResult.{InferenceResult}
 use Rattle.infer_result.specs.declared.result.TypeMismatch.{TypeMismatch}
 use Rattle.infer_result.specs.declared.result.Seen.{Seen}
 use Rattle.infer_result.specs.declared.diagnostics.InferenceDiagnostic.TheVariants as diagnostic
 use Rattle.infer_result.specs.declared.modes.BindingMode.{BindingMode}
-use Rattle.infer_result.specs.Table.{At, HasTy, PatTy, BindingTy, HasMode, ExprVariant, PatVariant}
+use Rattle.infer_result.specs.Table.{At, HasTy, PatTy, PatItem, BindingTy, HasMode, ExprVariant, PatVariant}
 
 -- the lists have an entry for each node and binding, and no more
 pub record IsOfBody (b : RawBody) (r : InferenceResult) : Type 0 where
   pub exprs : length r.type_of_expr ≡ length b.exprs
   pub pats : length r.type_of_pat ≡ length b.pats
   pub bindings : length r.type_of_binding ≡ length b.bindings
+  pub items : length r.item_of_pat ≡ length b.pats
   pub modes : length r.binding_modes ≡ length b.pats
   pub mismatches : length r.expr_mismatches ≡ length b.exprs
   pub diagnostics : length r.expr_diagnostics ≡ length b.exprs
@@ -59,12 +64,27 @@ pub record OnlyNamedVariants (b : RawBody) (r : InferenceResult) : Type 0 where
   pub exprs : (e : ExprId) (v : VariantId) → ExprVariant r e v → NamesVariant b e v
   pub pats : (p : PatId) (v : VariantId) → PatVariant r p v → IsVariantPat b p v
 
+-- an item is recorded only for a pattern of a constructor over patterns in whose fields associated types stand, and is that constructor
+pub record IsItemOfPat (raw : RawFacts) (b : RawBody) (p : PatId) (t : Ty) : Type 0 where
+  pub named : VariantId
+  pub parts : List PatId
+  pub is_pat : slice_get b.pats p.0 ≡ Some (pat.TupleStruct named parts)
+  pub variant : RawVariant
+  pub found : slice_get raw.variants named.0 ≡ Some variant
+  pub has_aliases : variant_aliases raw.types variant ≡ [] → ⊥
+  pub types : List Ty
+  pub is : t ≡ ctor_item named types
+
+abbrev pub OnlyCtorPatsHaveItems : RawFacts → RawBody → InferenceResult → Type 0
+OnlyCtorPatsHaveItems raw b r = (p : PatId) (t : Ty) → PatItem r p t → IsItemOfPat raw b p t
+
 -- each type of the table has a property, but for those that failed look-ups saw
 pub record AllTypes (P : Ty → Type 0) (r : InferenceResult) : Type 0 where
   pub exprs : (n : ℕ) (t : Ty) → At r.type_of_expr n t → P t
   pub pats : (n : ℕ) (t : Ty) → At r.type_of_pat n t → P t
   pub bindings : (n : ℕ) (t : Ty) → At r.type_of_binding n t → P t
   pub placeholders : (k : ℕ) (t : Ty) → At r.type_of_placeholder k t → P t
+  pub items : (n : ℕ) (t : Ty) → At r.item_of_pat n t → P t
   pub expected : (n : ℕ) (x : TypeMismatch) → At r.expr_mismatches n x → P x.expected
   pub actual : (n : ℕ) (x : TypeMismatch) → At r.expr_mismatches n x → P x.actual
   pub pat_expected : (n : ℕ) (x : TypeMismatch) → At r.pat_mismatches n x → P x.expected

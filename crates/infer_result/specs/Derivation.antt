@@ -5,6 +5,7 @@ use Rattle.hir_types.specs.declared.ids.PatId.{PatId}
 use Rattle.hir_types.specs.declared.ids.BindingId.{BindingId}
 use Rattle.hir_types.specs.declared.ids.CallableDefId.{CallableDefId}
 use Rattle.hir_types.specs.declared.ids.DefWithBodyId.{DefWithBodyId}
+use Rattle.hir_types.specs.declared.ids.ExprOrPatId.{ExprOrPatId}
 use Rattle.hir_types.specs.declared.ty.Ty.{Ty}
 use Rattle.hir_types.specs.declared.ty.Ty.TheVariants as ty
 use Rattle.hir_raw.specs.declared.raw.RawExpr.TheVariants as expr
@@ -32,7 +33,7 @@ pub record HasNoComplaint (r : InferenceResult) : Type 0 where
   pub diagnostics : (n : ℕ) (d : InferenceDiagnostic) → At r.expr_diagnostics n d → ⊥
   pub pat_mismatches : (n : ℕ) (m : TypeMismatch) → At r.pat_mismatches n m → ⊥
   pub pat_diagnostics : (n : ℕ) (d : InferenceDiagnostic) → At r.pat_diagnostics n d → ⊥
-  pub gaps : (e : ExprId) (x : Gap) → HasGap r e x → ⊥
+  pub gaps : (n : ExprOrPatId) (x : Gap) → HasGap r n x → ⊥
 
 -- The table is one of the definition's body, with a type for each node and binding. No hole and no
 -- `{unknown}` stands in it, but for what failed look-ups saw and for types before fallback, and no complaint;

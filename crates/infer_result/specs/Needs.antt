@@ -1,14 +1,14 @@
 -- Goals that nodes need: each path to an item the predicates of the item, and what the associated types in its signature are, at the arguments that
--- are recorded. Each is proved, or it is said that it is not (The Rust Reference, "Trait and lifetime bounds": bounds are checked where an item is used).
+-- are recorded; each pattern of a constructor over patterns what the associated types in the fields are. Each is proved, or it is said that it is not (The Rust Reference, "Trait and lifetime bounds": bounds are checked where an item is used).
 use Rattle.std.specs.Prelude.{◌≡◌, ◌⊎◌, ℕ, List, [], ◌++◌, map, slice_get, Option, Some, None}
 use Rattle.std.proofs.Common.{ap, ◌∙◌, append-nil}
 use Rattle.hir_types.specs.declared.ids.CallableDefId.{CallableDefId}
 use Rattle.hir_types.specs.declared.ids.CallableDefId.TheVariants as callable
-use Rattle.hir_types.specs.declared.ids.ExprId.{ExprId}
 use Rattle.hir_types.specs.declared.ids.DefWithBodyId.{DefWithBodyId}
 use Rattle.hir_types.specs.declared.ids.DefWithBodyId.TheVariants as def
 use Rattle.hir_types.specs.declared.ids.GenericDefId.{GenericDefId}
 use Rattle.hir_types.specs.declared.ids.GenericDefId.TheVariants as generic
+use Rattle.hir_types.specs.declared.ids.ExprOrPatId.{ExprOrPatId}
 use Rattle.hir_types.specs.declared.ids.ExprOrPatId.TheVariants as node
 use Rattle.hir_types.specs.declared.ids.TypeAliasId.{TypeAliasId}
 use Rattle.hir_types.specs.declared.goal.Goal.{Goal}
@@ -37,14 +37,14 @@ use Rattle.goal_facts.specs.Goals.{asked_goal}
 use Rattle.goal_facts.specs.Systems.{IsSystemOf}
 use Rattle.goal_facts.specs.Proofs.{AreProofs}
 pub use Rattle.infer_result.specs.Proved.{HoldsUnknown, IsProved}
-use Rattle.infer_result.specs.AliasNeeds.{alias_goals}
+use Rattle.infer_result.specs.AliasNeeds.{alias_goals, path_alias_goals}
 use Rattle.infer_result.specs.Closed.{AllTypes}
 use Rattle.infer_result.specs.Projections.{IsListedAs, AreFound, HasEntry, IsAboutAlias, NoneIsLeft}
 use Rattle.infer_result.specs.declared.gaps.Gap.{Gap}
 use Rattle.infer_result.specs.declared.gaps.Gap.TheVariants as gap
 use Rattle.infer_result.specs.declared.result.InferenceResult.{InferenceResult}
 use Rattle.infer_result.specs.Places.{Given}
-use Rattle.infer_result.specs.Table.{HasTy, recorded}
+use Rattle.infer_result.specs.Table.{recorded, listed_gaps}
 
 -- ---- what nodes need
 
@@ -101,21 +101,35 @@ needs_of raw None o = []
 abbrev pub needs_at : RawFacts → RawBody → InferenceResult → ℕ → List Asked
 needs_at raw b r n = needs_of raw (slice_get b.exprs n) (recorded r.type_of_expr n)
 
--- the expression needs the goal
-pub record IsNeeded (g : Given) (r : InferenceResult) (e : ExprId) (a : Asked) : Type 0 where
-  pub expr : RawExpr
-  pub is : slice_get g.body.exprs e.0 ≡ Some expr
-  pub ty : Ty
-  pub has : HasTy r e ty
+-- what a pattern of a constructor needs, of which this is the item: what the associated types in the fields are
+abbrev pub pat_needs_by : RawFacts → Ty-F GenericArg Ty AliasBound TraitRef → List Asked
+pat_needs_by raw (Ty-F.FnDef id xs) = path_alias_goals raw xs (item_path id)
+pat_needs_by raw _ = []
+
+-- where an item is recorded
+abbrev pub pat_needs_of : RawFacts → Option Ty → List Asked
+pat_needs_of raw (Some t) = pat_needs_by raw (out-Ty t)
+pat_needs_of raw None = []
+
+-- what the pattern of this number needs
+abbrev pub pat_needs_at : RawFacts → InferenceResult → ℕ → List Asked
+pat_needs_at raw r n = pat_needs_of raw (recorded r.item_of_pat n)
+
+abbrev pub node_needs : RawFacts → RawBody → InferenceResult → ExprOrPatId → List Asked
+node_needs raw b r (node.ExprId e) = needs_at raw b r e.0
+node_needs raw b r (node.PatId p) = pat_needs_at raw r p.0
+
+-- the node needs the goal
+pub record IsNeeded (g : Given) (r : InferenceResult) (n : ExprOrPatId) (a : Asked) : Type 0 where
   pub at : ℕ
-  pub among : slice_get (needed_goals g.scope.facts expr ty) at ≡ Some a
+  pub among : slice_get (node_needs g.scope.facts g.body r n) at ≡ Some a
 
 -- ---- what becomes of them
 
--- the gap is listed at the expression
-pub record HasGap (r : InferenceResult) (e : ExprId) (x : Gap) : Type 0 where
+-- the gap is listed at the node
+pub record HasGap (r : InferenceResult) (n : ExprOrPatId) (x : Gap) : Type 0 where
   pub gaps : List Gap
-  pub at : slice_get r.expr_gaps e.0 ≡ Some gaps
+  pub at : listed_gaps r n ≡ Some gaps
   pub number : ℕ
   pub listed : slice_get gaps number ≡ Some x
 
@@ -128,41 +142,41 @@ abbrev pub gap_says : Gap → Saying
 gap_says (gap.Unproved n q) = no_proof (asked_goal q)
 gap_says (gap.Clash n a t u) = clashes a u
 
--- it is said at the expression that this has no proof
-abbrev pub IsUnproved : InferenceResult → ExprId → Asked → Type 0
-IsUnproved r e a = (q : Goal) × HasGap r e (gap.Unproved (node.ExprId e) q) × (asked_goal q ≡ a)
+-- it is said at the node that this has no proof
+abbrev pub IsUnproved : InferenceResult → ExprOrPatId → Asked → Type 0
+IsUnproved r n a = (q : Goal) × HasGap r n (gap.Unproved n q) × (asked_goal q ≡ a)
 
 -- it is said there that what this asks an associated type to be is another type than was found before
-abbrev pub IsClash : InferenceResult → ExprId → Asked → Type 0
-IsClash r e a =
-    (k : TypeAliasId) × (xs : List GenericArg) × (t : Ty) × (u : Ty) × HasGap r e (gap.Clash (node.ExprId e) (ty.Projection k xs) t u)
+abbrev pub IsClash : InferenceResult → ExprOrPatId → Asked → Type 0
+IsClash r n a =
+    (k : TypeAliasId) × (xs : List GenericArg) × (t : Ty) × (u : Ty) × HasGap r n (gap.Clash n (ty.Projection k xs) t u)
     × (asked_goal (goal.Projection k xs u) ≡ a)
 
 -- it names its node, which needs the goal; `{unknown}` doesn't stand in it, and its answer isn't Yes
-pub record IsTrueUnproved (g : Given) (f : System) (r : InferenceResult) (e : ExprId) (q : Goal) : Type 0 where
-  pub needed : IsNeeded g r e (asked_goal q)
+pub record IsTrueUnproved (g : Given) (f : System) (r : InferenceResult) (n : ExprOrPatId) (q : Goal) : Type 0 where
+  pub needed : IsNeeded g r n (asked_goal q)
   pub known : HoldsUnknown (asked_goal q).parts → ⊥
   pub fails : (answers f g.scope.facts.limits.goal_depth).Yes (asked_goal q) → ⊥
 
 -- the associated type is listed as the first type; that it is the second, another one, the node needs, and it has a proof
-pub record IsTrueClash (g : Given) (r : InferenceResult) (e : ExprId) (a first second : Ty) : Type 0 where
+pub record IsTrueClash (g : Given) (r : InferenceResult) (n : ExprOrPatId) (a first second : Ty) : Type 0 where
   pub alias : TypeAliasId
   pub args : List GenericArg
   pub is : a ≡ ty.Projection alias args
   pub listed : IsListedAs r.projections alias args first
-  pub needed : IsNeeded g r e (asked_goal (goal.Projection alias args second))
+  pub needed : IsNeeded g r n (asked_goal (goal.Projection alias args second))
   pub proved : IsProved r (asked_goal (goal.Projection alias args second))
   pub differ : Same first second → ⊥
 
-abbrev pub IsTrueGap : Given → System → InferenceResult → ExprId → Gap → Type 0
-IsTrueGap g f r e (gap.Unproved n q) = (n ≡ node.ExprId e) × IsTrueUnproved g f r e q
-IsTrueGap g f r e (gap.Clash n a t u) = (n ≡ node.ExprId e) × IsTrueClash g r e a t u
+abbrev pub IsTrueGap : Given → System → InferenceResult → ExprOrPatId → Gap → Type 0
+IsTrueGap g f r n (gap.Unproved m q) = (m ≡ n) × IsTrueUnproved g f r n q
+IsTrueGap g f r n (gap.Clash m a t u) = (m ≡ n) × IsTrueClash g r n a t u
 
 -- ---- the goals of a table
 
--- the table with these proofs, what associated types were found to be, and what could not be shown
-abbrev pub with_goals : List Proof → List (Ty × Ty) → List (List Gap) → InferenceResult → InferenceResult
-with_goals ps js gs r = record r { proofs = ps; projections = js; expr_gaps = gs }
+-- the table with these proofs, what associated types were found to be, and what could not be shown at expressions and at patterns
+abbrev pub with_goals : List Proof → List (Ty × Ty) → List (List Gap) → List (List Gap) → InferenceResult → InferenceResult
+with_goals ps js gs hs r = record r { proofs = ps; projections = js; expr_gaps = gs; pat_gaps = hs }
 
 -- the adt of a variant
 abbrev pub adt_item : Option RawVariant → GenericDefId
@@ -183,11 +197,11 @@ pub record GoalsHold (d : DefWithBodyId) (g : Given) (r : InferenceResult) : Typ
   pub system : System
   pub of_item : IsSystemOf g.scope.facts (scope_item g.scope.facts d) system
   pub proofs : (s : Fill) → IsFilling s → AreProofs g.scope.facts system (answers system g.scope.facts.limits.goal_depth).Alias s r.proofs
-  pub needs : (e : ExprId) (a : Asked) → IsNeeded g r e a → IsProved r a ⊎ (IsUnproved r e a ⊎ HoldsUnknown a.parts)
-  pub gaps : (e : ExprId) (x : Gap) → HasGap r e x → IsTrueGap g system r e x
-  pub once : (e : ExprId) (x y : Gap) (j : HasGap r e x) (k : HasGap r e y) → gap_says x ≡ gap_says y → j.number ≡ k.number
+  pub needs : (n : ExprOrPatId) (a : Asked) → IsNeeded g r n a → IsProved r a ⊎ (IsUnproved r n a ⊎ HoldsUnknown a.parts)
+  pub gaps : (n : ExprOrPatId) (x : Gap) → HasGap r n x → IsTrueGap g system r n x
+  pub once : (n : ExprOrPatId) (x y : Gap) (j : HasGap r n x) (k : HasGap r n y) → gap_says x ≡ gap_says y → j.number ≡ k.number
   pub found : AreFound r
-  pub entries : (e : ExprId) (a : Asked) → IsNeeded g r e a → IsAboutAlias a → HasEntry r.projections a ⊎ (IsClash r e a ⊎ IsUnproved r e a)
+  pub entries : (n : ExprOrPatId) (a : Asked) → IsNeeded g r n a → IsAboutAlias a → HasEntry r.projections a ⊎ (IsClash r n a ⊎ IsUnproved r n a)
 
 -- in no type of the table is an associated type left that could be read, by the sources of the item, unless the table says what it is
 pub record HasNoneLeft (d : DefWithBodyId) (g : Given) (r : InferenceResult) : Type 0 where
@@ -197,4 +211,4 @@ pub record HasNoneLeft (d : DefWithBodyId) (g : Given) (r : InferenceResult) : T
 
 -- the answer to each goal that a node needs is Yes
 abbrev pub NeedsHold : DefWithBodyId → Given → InferenceResult → Type 0
-NeedsHold d g r = (f : System) → IsSystemOf g.scope.facts (scope_item g.scope.facts d) f → (e : ExprId) (a : Asked) → IsNeeded g r e a → (answers f g.scope.facts.limits.goal_depth).Yes a
+NeedsHold d g r = (f : System) → IsSystemOf g.scope.facts (scope_item g.scope.facts d) f → (n : ExprOrPatId) (a : Asked) → IsNeeded g r n a → (answers f g.scope.facts.limits.goal_depth).Yes a

@@ -18,6 +18,8 @@ use Rattle.hir_raw.specs.declared.raw.RawAlias.{RawAlias}
 use Rattle.hir_raw.specs.declared.raw.RawFn.{RawFn}
 use Rattle.hir_raw.specs.declared.raw.RawTrait.{RawTrait}
 use Rattle.hir_raw.specs.declared.raw.RawFacts.{RawFacts}
+use Rattle.hir_raw.specs.declared.raw.RawVariant.{RawVariant}
+use Rattle.hir_raw.specs.Scope.{adt_params}
 use Rattle.hir_types.specs.declared.ty.IntTy.{IntTy}
 use Rattle.hir_types.specs.declared.ty.IntTy.TheVariants as int
 use Rattle.hir_types.specs.declared.ty.UintTy.{UintTy}
@@ -138,9 +140,18 @@ abbrev pub fn_own_count : Option RawFn → ℕ → ℕ
 fn_own_count None n = n
 fn_own_count (Some f) n = min (length f.params) n
 
+-- of a constructor's those of its adt's parameters: those for associated types in its fields come behind them
+abbrev pub adt_own_count : Option ℕ → ℕ → ℕ
+adt_own_count None n = n
+adt_own_count (Some m) n = min m n
+
+abbrev pub variant_own_count : RawFacts → Option RawVariant → ℕ → ℕ
+variant_own_count raw None n = n
+variant_own_count raw (Some x) n = adt_own_count (adt_params raw x.adt) n
+
 abbrev pub own_count : RawFacts → CallableDefId → ℕ → ℕ
 own_count raw (callable.FunctionId f) n = fn_own_count (slice_get raw.fns f.0) n
-own_count raw (callable.VariantId v) n = n
+own_count raw (callable.VariantId v) n = variant_own_count raw (slice_get raw.variants v.0) n
 
 -- these are written
 abbrev pub own_args : RawFacts → CallableDefId → List (List ℕ) → List (List ℕ)
@@ -316,7 +327,7 @@ complaints raw letter diagnostics gaps i m = mismatch_line raw letter i m
 abbrev pub complaint_count : InferenceResult → ℕ
 complaint_count r =
     count_by is_some r.expr_mismatches + count_by is_some r.expr_diagnostics + count_by is_some r.pat_mismatches + count_by is_some r.pat_diagnostics
-    + sum_by length r.expr_gaps
+    + sum_by length r.expr_gaps + sum_by length r.pat_gaps
 
 abbrev pub report : DefWithBodyId → RawFacts → InferenceResult → List ℕ
 report d raw r =
@@ -324,5 +335,5 @@ report d raw r =
     ++ lines_from (pat_line raw r.binding_modes r.pat_variants) 0 r.type_of_pat
     ++ lines_from (binding_line raw) 0 r.type_of_binding
     ++ lines_from (complaints raw (codes "e") r.expr_diagnostics r.expr_gaps) 0 r.expr_mismatches
-    ++ lines_from (complaints raw (codes "p") r.pat_diagnostics []) 0 r.pat_mismatches
+    ++ lines_from (complaints raw (codes "p") r.pat_diagnostics r.pat_gaps) 0 r.pat_mismatches
     ++ line (codes "complaints " ++ decimal (complaint_count r))

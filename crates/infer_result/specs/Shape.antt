@@ -7,14 +7,14 @@ use Rattle.infer_result.specs.declared.result.TypeMismatch.{TypeMismatch}
 use Rattle.infer_result.specs.declared.result.Seen.{Seen}
 use Rattle.infer_result.specs.declared.diagnostics.InferenceDiagnostic.{InferenceDiagnostic}
 use Rattle.infer_result.specs.Table.{At}
-use Rattle.infer_result.specs.Closed.{IsOfBody, IsClosedTable, OnlyBindersHaveModes, OnlyNamedVariants}
+use Rattle.infer_result.specs.Closed.{IsOfBody, IsClosedTable, OnlyBindersHaveModes, OnlyCtorPatsHaveItems, OnlyNamedVariants}
 use Rattle.infer_result.specs.Places.{Given, OnlyPlaceholdersHaveTypes}
 use Rattle.infer_result.specs.Kinds.Call.{IsSaid}
 use Rattle.infer_result.specs.Truth.Mismatch.{IsTruePatMismatch}
 use Rattle.infer_result.specs.Truth.Seen.{IsTrueSeen}
 use Rattle.infer_result.specs.Truth.Diagnostics.{IsTrueDiagnostic, IsTruePatDiagnostic}
 
--- The table has an entry for each node, and no hole; modes, variants and what `_`s stand for are recorded
+-- The table has an entry for each node, and no hole; modes, variants, items of patterns and what `_`s stand for are recorded
 -- where they belong.
 pub record IsShaped (g : Given) (r : InferenceResult) : Type 0 where
   pub of_body : IsOfBody g.body r
@@ -22,6 +22,7 @@ pub record IsShaped (g : Given) (r : InferenceResult) : Type 0 where
   pub modes : OnlyBindersHaveModes g.body r
   pub placeholders : OnlyPlaceholdersHaveTypes g r
   pub variants : OnlyNamedVariants g.body r
+  pub items : OnlyCtorPatsHaveItems g.scope.facts g.body r
 
 -- Each complaint other than a mismatch of an expression is true, and so is each failed look-up that is kept,
 -- of which a complaint tells unless `{unknown}` is in the type.

@@ -44,6 +44,7 @@ table_under a r = record r {
   type_of_pat = each_under (folded a) r.type_of_pat;
   type_of_binding = each_under (folded a) r.type_of_binding;
   type_of_placeholder = each_under (folded a) r.type_of_placeholder;
+  item_of_pat = each_under (folded a) r.item_of_pat;
   expr_mismatches = each_under (mismatch_under a) r.expr_mismatches;
   expr_diagnostics = each_under (diagnostic_under a) r.expr_diagnostics;
   pat_mismatches = each_under (mismatch_under a) r.pat_mismatches;

@@ -23,6 +23,11 @@ recorded xs n = option_and_then (λ x. x) (slice_get xs n)
 abbrev pub gaps_at : List (List Gap) → ℕ → List Gap
 gaps_at xs n = unwrap_or (slice_get xs n) []
 
+-- the gaps that are listed at a node, where they are
+abbrev pub listed_gaps : InferenceResult → ExprOrPatId → Option (List Gap)
+listed_gaps r (node.ExprId e) = slice_get r.expr_gaps e.0
+listed_gaps r (node.PatId p) = slice_get r.pat_gaps p.0
+
 abbrev pub node_type : InferenceResult → ExprOrPatId → Option Ty
 node_type r (node.ExprId e) = recorded r.type_of_expr e.0
 node_type r (node.PatId p) = recorded r.type_of_pat p.0
@@ -41,6 +46,10 @@ HasTy r e t = At r.type_of_expr e.0 t
 
 abbrev pub PatTy : InferenceResult → PatId → Ty → Type 0
 PatTy r p t = At r.type_of_pat p.0 t
+
+-- the pattern is of the constructor of which this is the type, as an item
+abbrev pub PatItem : InferenceResult → PatId → Ty → Type 0
+PatItem r p t = At r.item_of_pat p.0 t
 
 abbrev pub BindingTy : InferenceResult → BindingId → Ty → Type 0
 BindingTy r v t = At r.type_of_binding v.0 t

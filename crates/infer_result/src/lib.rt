@@ -14,7 +14,7 @@ pub use gaps::Gap;
 pub use goal_facts::{Proof, ProofSource};
 pub use hir_types::Mutability;
 pub use modes::BindingMode;
-pub use needed::{callee_needs, expr_id, needed_goals};
+pub use needed::{callee_needs, expr_id, needed_goals, pat_id, pat_needs};
 pub use result::{General, InferenceResult, Seen, TypeMismatch};
 pub use stable::rules_are_stable;
 pub use unknown::references_error;

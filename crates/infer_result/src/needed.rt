@@ -2,16 +2,19 @@
 ghost use Rattle.std.specs.Prelude.{◌≡◌, ◌+◌, ◌++◌, Some, map, slice_get, IfOk, OnOk};
 ghost use Rattle.hir_types.specs.declared.ids.GenericDefId.TheVariants as generic;
 ghost use Rattle.hir_raw.specs.declared.raw.RawPath.TheVariants as path;
+ghost use Rattle.hir_raw.specs.Scope.{adt_params, count_or_none};
 ghost use Rattle.goal_facts.specs.Arguments.{goal_at};
 ghost use Rattle.goal_facts.specs.Environment.{env_preds};
 ghost use Rattle.goal_facts.specs.Goals.{asked_goal};
-ghost use Rattle.infer_result.specs.AliasNeeds.{alias_goal, alias_goals_by, alias_goals_from, fn_alias_goals, alias_goals};
-ghost use Rattle.infer_result.specs.Needs.{path_preds, expr_preds, needed_goals, item_path, callee_needs};
+ghost use Rattle.infer_result.specs.AliasNeeds.{alias_goal, alias_goals_by, alias_goals_from, fn_alias_goals, variant_alias_goals, path_alias_goals, alias_goals};
+ghost use Rattle.infer_result.specs.Needs.{path_preds, expr_preds, needed_goals, item_path, callee_needs, pat_needs_by};
+ghost use Rattle.hir_types.specs.declared.ty.Ty.{out-Ty};
 
 use goal_facts::{goals_of, push_instances};
 use hir_facts::{
-    AdtId, CallableDefId, ExprId, Facts, FunctionId, GenericArg, Goal, List, RawExpr, RawFn,
-    RawGoal, RawPath, RawType, Ty, TypeAliasId, TypeRefId, VariantId, fn_aliases, instantiate,
+    AdtId, CallableDefId, ExprId, Facts, FunctionId, GenericArg, Goal, List, PatId, RawExpr, RawFn,
+    RawGoal, RawPath, RawType, RawVariant, Ty, TypeAliasId, TypeRefId, VariantId, fn_aliases,
+    instantiate, variant_aliases,
 };
 use std::alloc::{AllocError, Global};
 
@@ -161,7 +164,60 @@ fn push_alias_goals(
     )
 }
 
+/// How many parameters an adt has.
+fn adt_params(facts: &Facts, adt: AdtId) -> usize
+    ensures { result ≡ count_or_none (adt_params facts.now adt) }
+{
+    match facts.raw().adts.get(adt.0 as usize) {
+        Some(adt) => adt.params.len(),
+        None => 0,
+    }
+}
+
+/// The same of the associated types in the fields of a variant, at these arguments of its constructor.
+fn push_field_goals(
+    alloc: Global,
+    facts: &Facts,
+    args: &List<GenericArg>,
+    variant: &RawVariant,
+    made: &mut Vec<Goal>,
+) -> Result<(), AllocError>
+    ensures { OnOk result (map asked_goal made.new.items ≡ map asked_goal made.old.items ++ variant_alias_goals facts.now args.now (Some variant.now)) }
+{
+    let aliases = variant_aliases(alloc, facts.types(), variant)?;
+    push_aliases(
+        alloc,
+        facts,
+        args,
+        adt_params(facts, variant.adt),
+        aliases.as_slice(),
+        made,
+    )
+}
+
 fn push_path_goals(
+    alloc: Global,
+    facts: &Facts,
+    args: &List<GenericArg>,
+    path: RawPath,
+    made: &mut Vec<Goal>,
+) -> Result<(), AllocError>
+    ensures { OnOk result (map asked_goal made.new.items ≡ map asked_goal made.old.items ++ path_alias_goals facts.now args.now path) }
+{
+    match path {
+        RawPath::Function(function) => match facts.raw().fns.get(function.0 as usize) {
+            Some(function) => push_alias_goals(alloc, facts, args, function, made),
+            None => Ok(()),
+        },
+        RawPath::Ctor(variant) => match facts.raw().variants.get(variant.0 as usize) {
+            Some(variant) => push_field_goals(alloc, facts, args, variant, made),
+            None => Ok(()),
+        },
+        RawPath::Local(_) | RawPath::Other => Ok(()),
+    }
+}
+
+fn push_expr_goals(
     alloc: Global,
     facts: &Facts,
     args: &List<GenericArg>,
@@ -171,12 +227,7 @@ fn push_path_goals(
     ensures { OnOk result (map asked_goal made.new.items ≡ map asked_goal made.old.items ++ alias_goals facts.now args.now expr.now) }
 {
     match expr {
-        RawExpr::Path(RawPath::Function(function)) => {
-            match facts.raw().fns.get(function.0 as usize) {
-                Some(function) => push_alias_goals(alloc, facts, args, function, made),
-                None => Ok(()),
-            }
-        }
+        RawExpr::Path(path) => push_path_goals(alloc, facts, args, *path, made),
         _ => Ok(()),
     }
 }
@@ -190,7 +241,7 @@ fn goals_at(
     ensures { IfOk result (λ made. map asked_goal made.items ≡ map (goal_at facts.now args.now) (expr_preds facts.now expr.now) ++ alias_goals facts.now args.now expr.now) }
 {
     let mut made = goals_of(alloc, facts, args, expr_preds(facts, expr))?;
-    push_path_goals(alloc, facts, args, expr, &mut made)?;
+    push_expr_goals(alloc, facts, args, expr, &mut made)?;
     Ok(made)
 }
 
@@ -229,6 +280,20 @@ pub fn callee_needs(alloc: Global, facts: &Facts, ty: &Ty) -> Result<Vec<Goal>, 
     }
 }
 
+/// What the associated types in the fields are that a pattern's constructor has, of which this is the type as an item.
+pub fn pat_needs(alloc: Global, facts: &Facts, item: &Ty) -> Result<Vec<Goal>, AllocError>
+    ensures { IfOk result (λ made. map asked_goal made.items ≡ pat_needs_by facts.now (out-Ty item.now)) }
+{
+    let mut made = Vec::new(alloc);
+    match item {
+        Ty::FnDef(id, args) => {
+            push_path_goals(alloc, facts, args, item_path(*id), &mut made)?;
+            Ok(made)
+        }
+        _ => Ok(made),
+    }
+}
+
 /// The expression of this number.
 pub fn expr_id(at: usize) -> Result<ExprId, AllocError>
     ensures { IfOk result (λ id. id.0 ≡ at) }
@@ -236,4 +301,13 @@ pub fn expr_id(at: usize) -> Result<ExprId, AllocError>
     // No list of so many expressions is in memory.
     let number = u32::try_from(at).map_err(|_| AllocError)?;
     Ok(ExprId(number))
+}
+
+/// The pattern of this number.
+pub fn pat_id(at: usize) -> Result<PatId, AllocError>
+    ensures { IfOk result (λ id. id.0 ≡ at) }
+{
+    // No list of so many patterns is in memory.
+    let number = u32::try_from(at).map_err(|_| AllocError)?;
+    Ok(PatId(number))
 }

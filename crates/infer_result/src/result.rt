@@ -73,7 +73,7 @@ impl Drop for General {
 }
 
 /// What inference found out about a body: `infer.rs`, `InferenceResult`. Each list but `seen`, `proofs`,
-/// `projections` and `expr_gaps` has an entry for each node or binding of the body, or for each written
+/// `projections`, `expr_gaps` and `pat_gaps` has an entry for each node or binding of the body, or for each written
 /// type of the facts, in the order of their ids. A reader that takes an id answers `None` where there is no
 /// such id.
 #[derive(Debug, PartialEq, Eq)]
@@ -84,6 +84,9 @@ pub struct InferenceResult {
     pub type_of_pat: List<Option<Ty>>,
     /// The type of each binding.
     pub type_of_binding: List<Option<Ty>>,
+    /// The constructor that each pattern over patterns is of, as an item at its arguments, those of the adt and
+    /// one for each associated type in its fields; `None` where there is no such associated type.
+    pub item_of_pat: List<Option<Ty>>,
     /// What each `_` that stands in the type of a `let` stands for, by its number in the list of written
     /// types; `None` at all other types.
     pub type_of_placeholder: List<Option<Ty>>,
@@ -111,6 +114,8 @@ pub struct InferenceResult {
     pub projections: List<(Ty, Ty)>,
     /// What could not be shown at each expression; no entry where nothing was looked at.
     pub expr_gaps: List<List<Gap>>,
+    /// What could not be shown at each pattern; no entry where nothing was looked at.
+    pub pat_gaps: List<List<Gap>>,
     /// The types before open holes fell back, of a plain body alone.
     pub general: Option<General>,
 }
@@ -121,6 +126,7 @@ impl Drop for InferenceResult {
             type_of_expr: _,
             type_of_pat: _,
             type_of_binding: _,
+            item_of_pat: _,
             type_of_placeholder: _,
             binding_modes: _,
             expr_mismatches: _,
@@ -133,6 +139,7 @@ impl Drop for InferenceResult {
             proofs: _,
             projections: _,
             expr_gaps: _,
+            pat_gaps: _,
             general: _,
         } = self;
     }
@@ -154,6 +161,13 @@ impl InferenceResult {
         ensures { option_copied result ≡ recorded self.now.type_of_binding binding.0 }
     {
         self.type_of_binding.get(binding.0 as usize)?.as_ref()
+    }
+
+    /// The constructor that a pattern over patterns is of, as an item, where associated types stand in its fields.
+    pub fn item_of_pat(&self, pat: PatId) -> Option<&Ty>
+        ensures { option_copied result ≡ recorded self.now.item_of_pat pat.0 }
+    {
+        self.item_of_pat.get(pat.0 as usize)?.as_ref()
     }
 
     /// What a written `_` stands for; `None` at any other type.
@@ -249,6 +263,16 @@ impl InferenceResult {
         ensures { result.now ≡ gaps_at self.now.expr_gaps e.0 }
     {
         match self.expr_gaps.get(e.0 as usize) {
+            Some(gaps) => gaps.as_slice(),
+            None => &[],
+        }
+    }
+
+    /// What could not be shown at a pattern.
+    pub fn gaps_for_pat(&self, p: PatId) -> &[Gap]
+        ensures { result.now ≡ gaps_at self.now.pat_gaps p.0 }
+    {
+        match self.pat_gaps.get(p.0 as usize) {
             Some(gaps) => gaps.as_slice(),
             None => &[],
         }

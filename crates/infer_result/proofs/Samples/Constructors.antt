@@ -41,8 +41,9 @@ use Rattle.infer_result.specs.declared.result.TypeMismatch.{TypeMismatch}
 use Rattle.infer_result.specs.declared.modes.BindingMode.TheVariants as mode
 use Rattle.infer_result.specs.Table.{HasTy, BindingTy, WasSeen, mismatch}
 use Rattle.infer_result.specs.Places.{Given}
-use Rattle.infer_result.specs.Kinds.Constructor.{IsVariantAt}
+use Rattle.infer_result.specs.Kinds.Constructor.{IsVariantAt, IsCtorAt}
 use Rattle.infer_result.specs.Kinds.Call.{IsCallee, ArgsRule}
+use Rattle.infer_result.specs.Pats.Constructor.{IsPatOf}
 use Rattle.infer_result.specs.Demands.{Demand}
 use Rattle.infer_result.specs.Placing.{at_or_mismatch}
 use Rattle.infer_result.specs.Rules.{ObeysOrMismatch, PatRule}
@@ -52,7 +53,7 @@ use Rattle.infer_result.specs.Closed.{IsBinder, NamesVariant, IsVariantPat}
 use Rattle.infer_result.specs.Made.{IsMisfit, IsMade}
 use Rattle.infer_result.specs.Typed.{IsTyped}
 use Rattle.infer_result.proofs.Derived.{one_at, fn_def_parts, same_type_args, typed_by_schedule}
-use Rattle.infer_result.proofs.Samples.Small.{facts_with, e, p, b, w, u8, one_u8, plain, body_of, each_below, each_node, apart_by, only, each_entry, each_found, each_placed, closed_u8, u8_is_no_bool, u8_differs_bool, none_placed}
+use Rattle.infer_result.proofs.Samples.Small.{facts_with, e, p, b, w, u8, one_u8, plain, body_of, each_below, each_node, apart_by, only, each_entry, each_found, each_placed, closed_u8, u8_is_no_bool, u8_differs_bool, none_placed, no_pat_items}
 use Rattle.infer_result.proofs.Samples.Calling.{unseen}
 
 -- ---- adts
@@ -121,11 +122,14 @@ maybe s = ty.Adt adt (type_args (s ∷ []))
 abbrev some_at : Ty → Ty
 some_at s = ty.FnDef (callable.VariantId (v 1)) (type_args (s ∷ []))
 
-none_is : (s : Ty) → IsVariantAt given (v 0) none (s ∷ [])
-none_is s = record { found = refl; count = refl }
-
 some_is : (s : Ty) → IsVariantAt given (v 1) some (s ∷ [])
 some_is s = record { found = refl; count = refl }
+
+none_ctor : (s : Ty) → IsCtorAt given (v 0) none (s ∷ [])
+none_ctor s = record { found = refl; count = refl }
+
+some_ctor : (s : Ty) → IsCtorAt given (v 1) some (s ∷ [])
+some_ctor s = record { found = refl; count = refl }
 
 written : written_type types (w 0) ≡ ty.Param 0
 unfolding filled_within
@@ -170,6 +174,7 @@ abbrev table_of : Ty → Ty → Ty → Ty → Ty → Ty → List (Option TypeMis
 table_of callee call name whole x bound mismatches expr_variants pat_variants = record {
   type_of_expr = Some callee ∷ Some u8 ∷ Some call ∷ Some name ∷ Some u8 ∷ Some u8 ∷ Some u8 ∷ [];
   type_of_pat = Some whole ∷ Some x ∷ Some whole ∷ [];
+  item_of_pat = None ∷ None ∷ None ∷ [];
   type_of_binding = Some bound ∷ [];
   type_of_placeholder = [];
   binding_modes = None ∷ Some mode.Move ∷ None ∷ [];
@@ -183,6 +188,7 @@ table_of callee call name whole x bound mismatches expr_variants pat_variants = 
   proofs = [];
   projections = [];
   expr_gaps = [];
+  pat_gaps = [];
   general = None;
 }
 
@@ -231,12 +237,16 @@ match_obeys = record {
   alternatives = ((tt, inl (u8, refl, refl)), ((tt, inl (u8, refl, refl)), tt));
 }
 
+-- the pattern `Some(x)` is of `Some` at `u8`, in whose field no associated type stands
+some_pat : (name x bound : Ty) (mismatches : List (Option TypeMismatch)) → IsPatOf given (table_of (some_at u8) (maybe u8) name (maybe u8) x bound mismatches named named_pats) (p 0) (v 1) some (u8 ∷ []) []
+some_pat name x bound mismatches = record { is_variant = some_is u8; is_ctor = some_ctor u8; has = refl; item = tt }
+
 some_obeys : PatRule given right (p 0) (slice_get body.pats 0)
 some_obeys = record {
   variant = some;
   types = u8 ∷ [];
-  is_variant = some_is u8;
-  has = refl;
+  hidden = [];
+  is = some_pat u8 u8 u8 silent;
   parts = ((u8, refl, inl (sym (field_at u8))), tt);
   counted = inl refl;
   resolved = refl;
@@ -245,12 +255,13 @@ some_obeys = record {
 right_made : IsMade given right
 right_made = record {
   shape = record {
-    of_body = record { exprs = refl; pats = refl; bindings = refl; modes = refl; mismatches = refl; diagnostics = refl; pat_mismatches = refl; pat_diagnostics = refl; expr_variants = refl; pat_variants = refl };
+    of_body = record { exprs = refl; pats = refl; bindings = refl; items = refl; modes = refl; mismatches = refl; diagnostics = refl; pat_mismatches = refl; pat_diagnostics = refl; expr_variants = refl; pat_variants = refl };
     closed = record {
       exprs = each_entry IsClosed right.type_of_expr (closed_some, (closed_u8, (closed_maybe, (closed_u8, (closed_u8, (closed_u8, (closed_u8, tt)))))));
       pats = each_entry IsClosed right.type_of_pat (closed_maybe, (closed_u8, (closed_maybe, tt)));
       bindings = each_entry IsClosed right.type_of_binding (closed_u8, tt);
       placeholders = λ k s at. absurd (cc);
+      items = each_entry IsClosed right.item_of_pat tt;
       expected = each_entry (λ x. IsClosed x.expected) right.expr_mismatches tt;
       actual = each_entry (λ x. IsClosed x.actual) right.expr_mismatches tt;
       pat_expected = each_entry (λ x. IsClosed x.expected) right.pat_mismatches tt;
@@ -263,15 +274,16 @@ right_made = record {
       exprs = λ x. each_placed (λ k. NamesVariant given.body (e k)) right.expr_variants (refl, tt) x.0;
       pats = λ x. each_placed (λ k. IsVariantPat given.body (p k)) right.pat_variants (inr (p 1 ∷ [], refl), (inl refl, tt)) x.0;
     };
+    items = no_pat_items given right tt;
   };
   clauses = λ x h.
       each_below (λ k. ObeysOrMismatch given right (e k)) 7 x.0 (
-        ((((((tt, (some_at u8, refl, record { variant = some; types = u8 ∷ []; is_variant = some_is u8; is = refl }, refl)), (u8, refl, refl)), call_obeys), (u8, refl, refl)), (u8, refl, refl)), match_obeys),
+        ((((((tt, (some_at u8, refl, record { variant = some; types = u8 ∷ []; is_ctor = some_ctor u8; is = refl }, refl)), (u8, refl, refl)), call_obeys), (u8, refl, refl)), (u8, refl, refl)), match_obeys),
         record { statements = tt; type = u8; has = refl; ends = (u8, refl, inl refl) },
       ) h;
   kinds = λ x h.
       each_below (λ k. PatRule given right (p k) (slice_get body.pats k)) 3 x.0
-      (((tt, some_obeys), (u8, refl, refl, refl)), (maybe u8, refl, record { variant = none; types = u8 ∷ []; is_variant = none_is u8; is = refl }, refl)) h;
+      (((tt, some_obeys), (u8, refl, refl, refl)), (maybe u8, refl, record { variant = none; types = u8 ∷ []; is_ctor = none_ctor u8; is = refl }, refl)) h;
   params = λ i q s found is. absurd (cc);
   bindings = λ x h. each_below (λ k. (s : Ty) × BindingTy right (b k) s) 1 x.0 (tt, (u8, refl)) h;
   body_clause = (u8, refl, inl refl);
@@ -301,7 +313,7 @@ other_field name x bound mismatches differ h =
       at_part = 0;
       role = subpattern 0;
       stands = record { node_is = omega arith; part = refl };
-      gives = inr (record { named = v 1; parts = p 1 ∷ []; is_pat = refl; variant = some; types = u8 ∷ []; is_variant = some_is u8; has = refl; field = ap Some (field_at u8) });
+      gives = inr (record { named = v 1; parts = p 1 ∷ []; is_pat = refl; variant = some; types = u8 ∷ []; hidden = []; is = some_pat name x bound mismatches; field = ap Some (field_at u8) });
     }) in
     elim c.2 [
       | inl same ↦ differ (sym same ∙ (sym (only x c.0 c.1) ∙ (only x o.kind.0 o.kind.1 ∙ sym (only bound o.kind.0 o.kind.2))))

@@ -24,7 +24,7 @@ use Rattle.infer_result.specs.Closed.{IsBinder, NamesVariant, IsVariantPat}
 use Rattle.infer_result.specs.Made.{IsMisfit, IsMade}
 use Rattle.infer_result.specs.Typed.{IsTyped}
 use Rattle.infer_result.proofs.Derived.{typed_by_schedule}
-use Rattle.infer_result.proofs.Samples.Small.{scope_with, e, p, b, u8, u16, one_u8, plain, body_of, each_below, each_node, apart_by, asked, only, each_entry, each_found, closed_u8, u8_is_no_u16, u8_is_no_error, u8_differs_u16, each_placed, none_placed}
+use Rattle.infer_result.proofs.Samples.Small.{scope_with, e, p, b, u8, u16, one_u8, plain, body_of, each_below, each_node, apart_by, asked, only, each_entry, each_found, closed_u8, u8_is_no_u16, u8_is_no_error, u8_differs_u16, each_placed, none_placed, no_pat_items}
 
 abbrev body : RawBody
 body =
@@ -53,6 +53,7 @@ abbrev table_of : List (Option Ty) → List (Option TypeMismatch) → InferenceR
 table_of types mismatches = record {
   type_of_expr = types;
   type_of_pat = Some u8 ∷ [];
+  item_of_pat = None ∷ [];
   type_of_binding = Some u8 ∷ [];
   type_of_placeholder = [];
   binding_modes = Some mode.Move ∷ [];
@@ -66,6 +67,7 @@ table_of types mismatches = record {
   proofs = [];
   projections = [];
   expr_gaps = [];
+  pat_gaps = [];
   general = None;
 }
 
@@ -75,12 +77,13 @@ right = table_of (Some u8 ∷ Some u8 ∷ Some u8 ∷ []) (None ∷ None ∷ Non
 right_made : IsMade given right
 right_made = record {
   shape = record {
-    of_body = record { exprs = refl; pats = refl; bindings = refl; modes = refl; mismatches = refl; diagnostics = refl; pat_mismatches = refl; pat_diagnostics = refl; expr_variants = refl; pat_variants = refl };
+    of_body = record { exprs = refl; pats = refl; bindings = refl; items = refl; modes = refl; mismatches = refl; diagnostics = refl; pat_mismatches = refl; pat_diagnostics = refl; expr_variants = refl; pat_variants = refl };
     closed = record {
       exprs = each_entry IsClosed right.type_of_expr (closed_u8, (closed_u8, (closed_u8, tt)));
       pats = each_entry IsClosed right.type_of_pat (closed_u8, tt);
       bindings = each_entry IsClosed right.type_of_binding (closed_u8, tt);
       placeholders = λ k s at. absurd (cc);
+      items = each_entry IsClosed right.item_of_pat tt;
       expected = each_entry (λ x. IsClosed x.expected) right.expr_mismatches tt;
       actual = each_entry (λ x. IsClosed x.actual) right.expr_mismatches tt;
       pat_expected = each_entry (λ x. IsClosed x.expected) right.pat_mismatches tt;
@@ -93,6 +96,7 @@ right_made = record {
       exprs = λ x. each_entry (NamesVariant given.body x) right.expr_variants tt x.0;
       pats = λ x. each_entry (IsVariantPat given.body x) right.pat_variants tt x.0;
     };
+    items = no_pat_items given right tt;
   };
   clauses = λ x h. each_below (λ k. ObeysOrMismatch given right (e k)) 3 x.0 (((tt, (u8, refl, refl)), (u8, refl, refl)), record { statements = ((u8, refl, (u8, refl, inl refl)), tt); type = u8; has = refl; ends = (u8, refl, inl refl) }) h;
   kinds = λ x h. each_below (λ k. PatRule given right (p k) (slice_get body.pats k)) 1 x.0 (tt, (u8, refl, refl, refl)) h;

@@ -22,6 +22,7 @@ use Rattle.hir_raw.specs.declared.raw.RawStmt.TheVariants as stmt
 use Rattle.hir_raw.specs.declared.raw.RawExpr.TheVariants as expr
 use Rattle.hir_raw.specs.declared.raw.RawPat.TheVariants as pat
 use Rattle.hir_raw.specs.declared.raw.RawAdt.{RawAdt}
+use Rattle.hir_raw.specs.declared.raw.RawVariant.{RawVariant}
 use Rattle.hir_raw.specs.declared.raw.RawFn.{RawFn}
 use Rattle.hir_raw.specs.declared.raw.RawBody.{RawBody}
 use Rattle.hir_raw.specs.declared.raw.RawFacts.{RawFacts}
@@ -52,9 +53,9 @@ use Rattle.infer_result.specs.Table.{HasTy, PatTy, BindingTy}
 use Rattle.infer_result.specs.Typed.{given}
 use Rattle.infer_result.specs.Unknown.{IsKnown}
 use Rattle.infer_result.specs.UnknownLayers.{has_unknown_tuple}
-use Rattle.hir_raw.specs.Hidden.{fn_aliases}
+use Rattle.hir_raw.specs.Hidden.{fn_aliases, variant_aliases}
 use Rattle.infer_result.proofs.NoNeeds.{no_gaps, needs_hold}
-use Rattle.infer_result.proofs.Samples.Small.{e, p, b, w, plain, body_of, function_of, facts_with, each_below, each_node, apart_by, comes, only, each_entry, each_found, each_placed, closed_unit, none_placed}
+use Rattle.infer_result.proofs.Samples.Small.{e, p, b, w, plain, body_of, function_of, facts_with, each_below, each_node, apart_by, comes, only, each_entry, each_found, each_placed, closed_unit, none_placed, no_pat_items}
 use Rattle.infer_result.proofs.Samples.Calling.{function, item}
 use Rattle.infer_result.proofs.Samples.Holes.{each_in, known_integer, fits_integer, bool_is_no_integer, item_under, closed_at, known_at, fits_at}
 
@@ -122,6 +123,7 @@ abbrev pub table_at : Ty → InferenceResult
 table_at s = record {
   type_of_expr = Some (item (s ∷ [])) ∷ Some s ∷ Some s ∷ Some unit ∷ [];
   type_of_pat = Some s ∷ [];
+  item_of_pat = None ∷ [];
   type_of_binding = Some s ∷ [];
   type_of_placeholder = [];
   binding_modes = Some mode.Move ∷ [];
@@ -135,6 +137,7 @@ table_at s = record {
   proofs = [];
   projections = [];
   expr_gaps = [];
+  pat_gaps = [];
   general = None;
 }
 
@@ -197,6 +200,7 @@ all_types P s callee own empty = record {
   pats = each_entry P (table_at s).type_of_pat (own, tt);
   bindings = each_entry P (table_at s).type_of_binding (own, tt);
   placeholders = λ k u found. absurd (cc);
+  items = each_entry P (table_at s).item_of_pat tt;
   expected = each_entry (λ x. P x.expected) (table_at s).expr_mismatches tt;
   actual = each_entry (λ x. P x.actual) (table_at s).expr_mismatches tt;
   pat_expected = each_entry (λ x. P x.expected) (table_at s).pat_mismatches tt;
@@ -225,7 +229,7 @@ integer_derives i = let s : Ty = integer_type i in record {
   body = body;
   is_body = refl;
   shape = record {
-    of_body = record { exprs = refl; pats = refl; bindings = refl; modes = refl; mismatches = refl; diagnostics = refl; pat_mismatches = refl; pat_diagnostics = refl; expr_variants = refl; pat_variants = refl };
+    of_body = record { exprs = refl; pats = refl; bindings = refl; items = refl; modes = refl; mismatches = refl; diagnostics = refl; pat_mismatches = refl; pat_diagnostics = refl; expr_variants = refl; pat_variants = refl };
     closed = all_types IsClosed s (closed_at s (has_hole_integer i)) (has_hole_integer i) closed_unit;
     modes = λ x. each_placed (λ k m. IsBinder body (p k)) (table_at s).binding_modes ((b 0, None, refl), tt) x.0;
     placeholders = none_placed Here (table_at s) refl;
@@ -233,6 +237,7 @@ integer_derives i = let s : Ty = integer_type i in record {
       exprs = λ x. each_entry (NamesVariant body x) (table_at s).expr_variants tt x.0;
       pats = λ x. each_entry (IsVariantPat body x) (table_at s).pat_variants tt x.0;
     };
+    items = no_pat_items Here (table_at s) tt;
   };
   total = record {
     exprs = λ x h. each_below (λ k. (u : Ty) × HasTy (table_at s) (e k) u) 4 x.0 ((((tt, (item (s ∷ []), refl)), (s, refl)), (s, refl)), (unit, refl)) h;
@@ -246,14 +251,14 @@ integer_derives i = let s : Ty = integer_type i in record {
     diagnostics = each_entry (λ d. ⊥) (table_at s).expr_diagnostics tt;
     pat_mismatches = each_entry (λ m. ⊥) (table_at s).pat_mismatches tt;
     pat_diagnostics = each_entry (λ d. ⊥) (table_at s).pat_diagnostics tt;
-    gaps = no_gaps (table_at s) refl;
+    gaps = no_gaps (table_at s) refl refl;
   };
   exprs = λ x h.
       each_below (λ k. ObeysExpression Here (table_at s) (e k)) 4 x.0
       ((((tt, (s ∷ [], refl, refl)), (s, refl, (i, refl))), call_obeys s), record { statements = ((s, refl, (s, refl, inl refl)), tt); type = unit; has = refl; ends = refl }) h;
   pats = λ x h. each_below (λ k. ObeysPattern Here (table_at s) (p k)) 1 x.0 (tt, pattern_obeys s) h;
   root = (unit, refl, ap erased (sym written_unit));
-  goals = needs_hold facts (each_in (λ (x : RawFn). x.preds ≡ []) facts.fns (refl, (refl, tt))) (each_in (λ (x : RawAdt). x.preds ≡ []) facts.adts tt) (each_in (λ (x : RawFn). fn_aliases facts.types x ≡ []) facts.fns (refl, (refl, tt))) f body (table_at s);
+  goals = needs_hold facts (each_in (λ (x : RawFn). x.preds ≡ []) facts.fns (refl, (refl, tt))) (each_in (λ (x : RawAdt). x.preds ≡ []) facts.adts tt) (each_in (λ (x : RawFn). fn_aliases facts.types x ≡ []) facts.fns (refl, (refl, tt))) (each_in (λ (x : RawVariant). variant_aliases facts.types x ≡ []) facts.variants tt) f body (table_at s);
 }
 
 pub i32_derives : IsDerivation facts f (table_at i32)

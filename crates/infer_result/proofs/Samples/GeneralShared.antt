@@ -73,6 +73,7 @@ abbrev pub table_at : Ty → Ty → InferenceResult
 table_at s u = record {
   type_of_expr = Some ty.Bool ∷ Some (item (s ∷ [])) ∷ Some s ∷ Some s ∷ Some (item (u ∷ [])) ∷ Some u ∷ Some u ∷ Some s ∷ Some unit ∷ [];
   type_of_pat = Some ty.Bool ∷ Some s ∷ [];
+  item_of_pat = None ∷ None ∷ [];
   type_of_binding = Some ty.Bool ∷ Some s ∷ [];
   type_of_placeholder = [];
   binding_modes = Some mode.Move ∷ Some mode.Move ∷ [];
@@ -86,6 +87,7 @@ table_at s u = record {
   proofs = [];
   projections = [];
   expr_gaps = [];
+  pat_gaps = [];
   general = None;
 }
 

@@ -28,7 +28,7 @@ use Rattle.infer_result.specs.Closed.{IsBinder, NamesVariant, IsVariantPat}
 use Rattle.infer_result.specs.Made.{IsMisfit, IsMade}
 use Rattle.infer_result.specs.Typed.{IsTyped}
 use Rattle.infer_result.proofs.Derived.{typed_by_schedule}
-use Rattle.infer_result.proofs.Samples.Small.{scope_with, e, p, b, w, u8, u16, one_u8, plain, body_with, each_below, each_node, apart_by, asked, one_param, no_other, only, each_entry, each_found, nowhere, closed_u8, closed_bool, u8_is_no_u16, u8_is_no_bool, u8_differs_bool, each_placed, none_placed}
+use Rattle.infer_result.proofs.Samples.Small.{scope_with, e, p, b, w, u8, u16, one_u8, plain, body_with, each_below, each_node, apart_by, asked, one_param, no_other, only, each_entry, each_found, nowhere, closed_u8, closed_bool, u8_is_no_u16, u8_is_no_bool, u8_differs_bool, each_placed, none_placed, no_pat_items}
 
 -- the body with another condition, or another expression after `else`
 abbrev body_of : RawExpr → RawExpr → RawBody
@@ -77,6 +77,7 @@ abbrev table_of : List (Option Ty) → List (Option TypeMismatch) → InferenceR
 table_of exprs mismatches = record {
   type_of_expr = exprs;
   type_of_pat = Some ty.Bool ∷ [];
+  item_of_pat = None ∷ [];
   type_of_binding = Some ty.Bool ∷ [];
   type_of_placeholder = [];
   binding_modes = Some mode.Move ∷ [];
@@ -90,6 +91,7 @@ table_of exprs mismatches = record {
   proofs = [];
   projections = [];
   expr_gaps = [];
+  pat_gaps = [];
   general = None;
 }
 
@@ -105,12 +107,13 @@ right = table_of right_types silent
 right_made : IsMade given right
 right_made = record {
   shape = record {
-    of_body = record { exprs = refl; pats = refl; bindings = refl; modes = refl; mismatches = refl; diagnostics = refl; pat_mismatches = refl; pat_diagnostics = refl; expr_variants = refl; pat_variants = refl };
+    of_body = record { exprs = refl; pats = refl; bindings = refl; items = refl; modes = refl; mismatches = refl; diagnostics = refl; pat_mismatches = refl; pat_diagnostics = refl; expr_variants = refl; pat_variants = refl };
     closed = record {
       exprs = each_entry IsClosed right.type_of_expr (closed_bool, (closed_u8, (closed_u8, (closed_u8, (closed_u8, tt)))));
       pats = each_entry IsClosed right.type_of_pat (closed_bool, tt);
       bindings = each_entry IsClosed right.type_of_binding (closed_bool, tt);
       placeholders = λ k s at. absurd (cc);
+      items = each_entry IsClosed right.item_of_pat tt;
       expected = each_entry (λ x. IsClosed x.expected) right.expr_mismatches tt;
       actual = each_entry (λ x. IsClosed x.actual) right.expr_mismatches tt;
       pat_expected = each_entry (λ x. IsClosed x.expected) right.pat_mismatches tt;
@@ -123,6 +126,7 @@ right_made = record {
       exprs = λ x. each_entry (NamesVariant given.body x) right.expr_variants tt x.0;
       pats = λ x. each_entry (IsVariantPat given.body x) right.pat_variants tt x.0;
     };
+    items = no_pat_items given right tt;
   };
   clauses = λ x h.
       each_below (λ k. ObeysOrMismatch given right (e k)) 5 x.0 (

@@ -29,7 +29,7 @@ use Rattle.infer_result.specs.Closed.{IsBinder, NamesVariant, IsVariantPat}
 use Rattle.infer_result.specs.Made.{IsMisfit, IsMade}
 use Rattle.infer_result.specs.Typed.{IsTyped}
 use Rattle.infer_result.proofs.Derived.{typed_by_schedule}
-use Rattle.infer_result.proofs.Samples.Small.{scope_with, e, p, b, w, u8, one_u8, plain, body_with, each_below, each_node, apart_by, asks_here, asked, one_param, no_other, only, each_entry, each_found, each_placed, nowhere, closed_u8, closed_bool, closed_unit, closed_error, u8_is_no_bool, u8_is_no_unit, bool_is_no_error, bool_is_no_unit, u8_differs_unit, none_placed}
+use Rattle.infer_result.proofs.Samples.Small.{scope_with, e, p, b, w, u8, one_u8, plain, body_with, each_below, each_node, apart_by, asks_here, asked, one_param, no_other, only, each_entry, each_found, each_placed, nowhere, closed_u8, closed_bool, closed_unit, closed_error, u8_is_no_bool, u8_is_no_unit, bool_is_no_error, bool_is_no_unit, u8_differs_unit, none_placed, no_pat_items}
 
 abbrev types : List RawType
 types = type.Bool ∷ []
@@ -69,6 +69,7 @@ abbrev table_of : Ty → List (Option TypeMismatch) → InferenceResult
 table_of s mismatches = record {
   type_of_expr = Some ty.Bool ∷ Some u8 ∷ Some s ∷ Some unit ∷ [];
   type_of_pat = Some ty.Bool ∷ Some s ∷ [];
+  item_of_pat = None ∷ None ∷ [];
   type_of_binding = Some ty.Bool ∷ Some s ∷ [];
   type_of_placeholder = [];
   binding_modes = Some mode.Move ∷ Some mode.Move ∷ [];
@@ -82,6 +83,7 @@ table_of s mismatches = record {
   proofs = [];
   projections = [];
   expr_gaps = [];
+  pat_gaps = [];
   general = None;
 }
 
@@ -91,12 +93,13 @@ right s = table_of s (None ∷ None ∷ Some (mismatch u8 unit) ∷ None ∷ [])
 right_made : (s : Ty) → IsClosed s → IsMade given (right s)
 right_made s closed_s = record {
   shape = record {
-    of_body = record { exprs = refl; pats = refl; bindings = refl; modes = refl; mismatches = refl; diagnostics = refl; pat_mismatches = refl; pat_diagnostics = refl; expr_variants = refl; pat_variants = refl };
+    of_body = record { exprs = refl; pats = refl; bindings = refl; items = refl; modes = refl; mismatches = refl; diagnostics = refl; pat_mismatches = refl; pat_diagnostics = refl; expr_variants = refl; pat_variants = refl };
     closed = record {
       exprs = each_entry IsClosed (right s).type_of_expr (closed_bool, (closed_u8, (closed_s, (closed_unit, tt))));
       pats = each_entry IsClosed (right s).type_of_pat (closed_bool, (closed_s, tt));
       bindings = each_entry IsClosed (right s).type_of_binding (closed_bool, (closed_s, tt));
       placeholders = λ k s at. absurd (cc);
+      items = each_entry IsClosed (right s).item_of_pat tt;
       expected = each_entry (λ x. IsClosed x.expected) (right s).expr_mismatches (closed_u8, tt);
       actual = each_entry (λ x. IsClosed x.actual) (right s).expr_mismatches (closed_unit, tt);
       pat_expected = each_entry (λ x. IsClosed x.expected) (right s).pat_mismatches tt;
@@ -109,6 +112,7 @@ right_made s closed_s = record {
       exprs = λ x. each_entry (NamesVariant given.body x) (right s).expr_variants tt x.0;
       pats = λ x. each_entry (IsVariantPat given.body x) (right s).pat_variants tt x.0;
     };
+    items = no_pat_items given (right s) tt;
   };
   clauses = λ x h.
       each_below (λ k. ObeysOrMismatch given (right s) (e k)) 4 x.0 (

@@ -1,5 +1,5 @@
 -- `fn f() { let x: <u8 as A>::O = true; }`, where it is known that the associated type is `bool`: that is recorded for it.
-use Rattle.std.proofs.Common.{ℕ, zero, suc, ◌+◌, ◌<◌, ◌≡◌, inl, inr, true, List, [], ◌∷◌, refl, ap, arith, Option, Some, None, slice_get}
+use Rattle.std.proofs.Common.{ℕ, zero, suc, ◌+◌, ◌<◌, ◌≡◌, inl, true, List, [], ◌∷◌, refl, ap, arith, Option, Some, None, slice_get}
 use Rattle.hir_types.specs.declared.ids.ExprOrPatId.TheVariants as node
 use Rattle.hir_types.specs.declared.ty.Ty.{Ty}
 use Rattle.hir_types.specs.declared.ty.Ty.TheVariants as ty
@@ -30,7 +30,7 @@ use Rattle.infer_result.specs.Truth.Diagnostics.{IsTrueDiagnostic, IsTruePatDiag
 use Rattle.infer_result.specs.Made.{IsMisfit, IsMade}
 use Rattle.infer_result.specs.Typed.{IsTyped}
 use Rattle.infer_result.proofs.Derived.{typed_by_schedule}
-use Rattle.infer_result.proofs.Samples.Small.{scope_with, e, p, b, w, u8, plain, body_of, each_below, each_node, apart_by, each_entry, each_found, each_placed, closed_bool, closed_unit, u8_differs_bool}
+use Rattle.infer_result.proofs.Samples.Small.{scope_with, e, p, b, w, u8, plain, body_of, each_below, each_node, apart_by, each_entry, each_found, each_placed, closed_bool, closed_unit, u8_differs_bool, no_pat_items}
 
 abbrev types : List RawType
 types = type.Integer (integer.Uint uint.U8) ∷ type.Projection (record { 0 = 0 }) (w 0 ∷ []) ∷ []
@@ -61,6 +61,7 @@ abbrev table_of : Option Ty → InferenceResult
 table_of found = record {
   type_of_expr = Some ty.Bool ∷ Some unit ∷ [];
   type_of_pat = Some ty.Bool ∷ [];
+  item_of_pat = None ∷ [];
   type_of_binding = Some ty.Bool ∷ [];
   type_of_placeholder = None ∷ found ∷ [];
   binding_modes = Some mode.Move ∷ [];
@@ -74,6 +75,7 @@ table_of found = record {
   proofs = [];
   projections = [];
   expr_gaps = [];
+  pat_gaps = [];
   general = None;
 }
 
@@ -107,12 +109,13 @@ as_known u is = (let both : Some ty.Bool ≡ Some u = is in cc)
 right_made : IsMade given right
 right_made = record {
   shape = record {
-    of_body = record { exprs = refl; pats = refl; bindings = refl; modes = refl; mismatches = refl; diagnostics = refl; pat_mismatches = refl; pat_diagnostics = refl; expr_variants = refl; pat_variants = refl };
+    of_body = record { exprs = refl; pats = refl; bindings = refl; items = refl; modes = refl; mismatches = refl; diagnostics = refl; pat_mismatches = refl; pat_diagnostics = refl; expr_variants = refl; pat_variants = refl };
     closed = record {
       exprs = each_entry IsClosed right.type_of_expr (closed_bool, (closed_unit, tt));
       pats = each_entry IsClosed right.type_of_pat (closed_bool, tt);
       bindings = each_entry IsClosed right.type_of_binding (closed_bool, tt);
       placeholders = each_entry IsClosed right.type_of_placeholder (closed_bool, tt);
+      items = each_entry IsClosed right.item_of_pat tt;
       expected = each_entry (λ x. IsClosed x.expected) right.expr_mismatches tt;
       actual = each_entry (λ x. IsClosed x.actual) right.expr_mismatches tt;
       pat_expected = each_entry (λ x. IsClosed x.expected) right.pat_mismatches tt;
@@ -125,6 +128,7 @@ right_made = record {
       exprs = λ x. each_entry (NamesVariant given.body x) right.expr_variants tt x.0;
       pats = λ x. each_entry (IsVariantPat given.body x) right.pat_variants tt x.0;
     };
+    items = no_pat_items given right tt;
   };
   clauses = λ x h. each_below (λ k. ObeysOrMismatch given right (e k)) 2 x.0 ((tt, (ty.Bool, refl, refl)), block_obeys) h;
   kinds = λ x h. each_below (λ k. PatRule given right (p k) (slice_get body.pats k)) 1 x.0 (tt, (ty.Bool, refl, refl, refl)) h;

@@ -33,7 +33,7 @@ use Rattle.infer_result.specs.Closed.{IsBinder, NamesVariant, IsVariantPat}
 use Rattle.infer_result.specs.Made.{IsMisfit, IsMade}
 use Rattle.infer_result.specs.Typed.{IsTyped}
 use Rattle.infer_result.proofs.Derived.{typed_by_schedule}
-use Rattle.infer_result.proofs.Samples.Small.{scope_with, e, p, b, w, u8, one_u8, plain, body_with, each_below, each_node, apart_by, comes, one_param, only, each_entry, each_found, nowhere, closed_u8, top_uint, top_int, u8_is_no_bool, u8_is_no_tuple, u8_differs_bool, each_placed, none_placed}
+use Rattle.infer_result.proofs.Samples.Small.{scope_with, e, p, b, w, u8, one_u8, plain, body_with, each_below, each_node, apart_by, comes, one_param, only, each_entry, each_found, nowhere, closed_u8, top_uint, top_int, u8_is_no_bool, u8_is_no_tuple, u8_differs_bool, each_placed, none_placed, no_pat_items}
 
 -- the body with another expression in the last arm
 abbrev body_of : RawExpr → RawBody
@@ -99,6 +99,7 @@ abbrev table_of : Ty → Ty → Ty → Ty → Ty → Ty → List (Option TypeMis
 table_of seven name last a wild bound mismatches pat_mismatches = record {
   type_of_expr = Some pair ∷ Some seven ∷ Some name ∷ Some last ∷ Some u8 ∷ Some u8 ∷ [];
   type_of_pat = Some pair ∷ Some pair ∷ Some a ∷ Some i32 ∷ Some wild ∷ [];
+  item_of_pat = None ∷ None ∷ None ∷ None ∷ None ∷ [];
   type_of_binding = Some pair ∷ Some bound ∷ [];
   type_of_placeholder = [];
   binding_modes = Some mode.Move ∷ None ∷ Some mode.Move ∷ None ∷ None ∷ [];
@@ -112,6 +113,7 @@ table_of seven name last a wild bound mismatches pat_mismatches = record {
   proofs = [];
   projections = [];
   expr_gaps = [];
+  pat_gaps = [];
   general = None;
 }
 
@@ -143,12 +145,13 @@ match_obeys = record {
 right_made : IsMade given right
 right_made = record {
   shape = record {
-    of_body = record { exprs = refl; pats = refl; bindings = refl; modes = refl; mismatches = refl; diagnostics = refl; pat_mismatches = refl; pat_diagnostics = refl; expr_variants = refl; pat_variants = refl };
+    of_body = record { exprs = refl; pats = refl; bindings = refl; items = refl; modes = refl; mismatches = refl; diagnostics = refl; pat_mismatches = refl; pat_diagnostics = refl; expr_variants = refl; pat_variants = refl };
     closed = record {
       exprs = each_entry IsClosed right.type_of_expr (closed_pair, (closed_i32, (closed_u8, (closed_u8, (closed_u8, (closed_u8, tt))))));
       pats = each_entry IsClosed right.type_of_pat (closed_pair, (closed_pair, (closed_u8, (closed_i32, (closed_pair, tt)))));
       bindings = each_entry IsClosed right.type_of_binding (closed_pair, (closed_u8, tt));
       placeholders = λ k s at. absurd (cc);
+      items = each_entry IsClosed right.item_of_pat tt;
       expected = each_entry (λ x. IsClosed x.expected) right.expr_mismatches tt;
       actual = each_entry (λ x. IsClosed x.actual) right.expr_mismatches tt;
       pat_expected = each_entry (λ x. IsClosed x.expected) right.pat_mismatches tt;
@@ -161,6 +164,7 @@ right_made = record {
       exprs = λ x. each_entry (NamesVariant given.body x) right.expr_variants tt x.0;
       pats = λ x. each_entry (IsVariantPat given.body x) right.pat_variants tt x.0;
     };
+    items = no_pat_items given right tt;
   };
   clauses = λ x h.
       each_below (λ k. ObeysOrMismatch given right (e k)) 6 x.0

@@ -47,6 +47,7 @@ abbrev table : InferenceResult
 table = record {
   type_of_expr = Some unit ∷ [];
   type_of_pat = Some (ty.Var 0) ∷ Some ty.Bool ∷ [];
+  item_of_pat = None ∷ None ∷ [];
   type_of_binding = [];
   type_of_placeholder = [];
   binding_modes = None ∷ None ∷ [];
@@ -60,6 +61,7 @@ table = record {
   proofs = [];
   projections = [];
   expr_gaps = [];
+  pat_gaps = [];
   general = None;
 }
 

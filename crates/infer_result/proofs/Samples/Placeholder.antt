@@ -32,7 +32,7 @@ use Rattle.infer_result.specs.Truth.Diagnostics.{IsTrueDiagnostic, IsTruePatDiag
 use Rattle.infer_result.specs.Made.{IsMisfit, IsMade}
 use Rattle.infer_result.specs.Typed.{IsTyped}
 use Rattle.infer_result.proofs.Derived.{tuple_parts, typed_by_schedule}
-use Rattle.infer_result.proofs.Samples.Small.{scope_with, e, p, b, w, u8, u16, one_u8, plain, body_of, each_below, each_node, apart_by, only, each_entry, each_found, each_placed, closed_u8, closed_bool, closed_unit, u8_is_no_u16}
+use Rattle.infer_result.proofs.Samples.Small.{scope_with, e, p, b, w, u8, u16, one_u8, plain, body_of, each_below, each_node, apart_by, only, each_entry, each_found, each_placed, closed_u8, closed_bool, closed_unit, u8_is_no_u16, no_pat_items}
 
 -- the pair with this first component
 abbrev pair_of : Ty → Ty
@@ -71,6 +71,7 @@ abbrev table_of : Option Ty → Option Ty → InferenceResult
 table_of first second = record {
   type_of_expr = Some u8 ∷ Some ty.Bool ∷ Some (pair_of u8) ∷ Some unit ∷ [];
   type_of_pat = Some (pair_of u8) ∷ [];
+  item_of_pat = None ∷ [];
   type_of_binding = Some (pair_of u8) ∷ [];
   type_of_placeholder = first ∷ second ∷ [];
   binding_modes = Some mode.Move ∷ [];
@@ -84,6 +85,7 @@ table_of first second = record {
   proofs = [];
   projections = [];
   expr_gaps = [];
+  pat_gaps = [];
   general = None;
 }
 
@@ -122,12 +124,13 @@ nothing_known k s u is = absurd (cc)
 right_made : IsMade given right
 right_made = record {
   shape = record {
-    of_body = record { exprs = refl; pats = refl; bindings = refl; modes = refl; mismatches = refl; diagnostics = refl; pat_mismatches = refl; pat_diagnostics = refl; expr_variants = refl; pat_variants = refl };
+    of_body = record { exprs = refl; pats = refl; bindings = refl; items = refl; modes = refl; mismatches = refl; diagnostics = refl; pat_mismatches = refl; pat_diagnostics = refl; expr_variants = refl; pat_variants = refl };
     closed = record {
       exprs = each_entry IsClosed right.type_of_expr (closed_u8, (closed_bool, (closed_pair, (closed_unit, tt))));
       pats = each_entry IsClosed right.type_of_pat (closed_pair, tt);
       bindings = each_entry IsClosed right.type_of_binding (closed_pair, tt);
       placeholders = each_entry IsClosed right.type_of_placeholder (closed_u8, tt);
+      items = each_entry IsClosed right.item_of_pat tt;
       expected = each_entry (λ x. IsClosed x.expected) right.expr_mismatches tt;
       actual = each_entry (λ x. IsClosed x.actual) right.expr_mismatches tt;
       pat_expected = each_entry (λ x. IsClosed x.expected) right.pat_mismatches tt;
@@ -140,6 +143,7 @@ right_made = record {
       exprs = λ x. each_entry (NamesVariant given.body x) right.expr_variants tt x.0;
       pats = λ x. each_entry (IsVariantPat given.body x) right.pat_variants tt x.0;
     };
+    items = no_pat_items given right tt;
   };
   clauses = λ x h.
       each_below (λ k. ObeysOrMismatch given right (e k)) 4 x.0

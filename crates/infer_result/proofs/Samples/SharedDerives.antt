@@ -6,6 +6,7 @@ use Rattle.hir_types.specs.declared.ids.ExprOrPatId.TheVariants as node
 use Rattle.hir_types.specs.declared.ty.Ty.{Ty}
 use Rattle.hir_types.specs.declared.ty.Ty.TheVariants as ty
 use Rattle.hir_raw.specs.declared.raw.RawAdt.{RawAdt}
+use Rattle.hir_raw.specs.declared.raw.RawVariant.{RawVariant}
 use Rattle.hir_raw.specs.declared.raw.RawFn.{RawFn}
 use Rattle.hir_raw.specs.declared.schedule.Schedule.{Schedule}
 use Rattle.hir_types.specs.Erasure.{erased, IsClosed}
@@ -28,9 +29,9 @@ use Rattle.infer_result.specs.Table.{HasTy, PatTy, BindingTy}
 use Rattle.infer_result.specs.Typed.{given}
 use Rattle.infer_result.specs.Unknown.{IsKnown}
 use Rattle.infer_result.specs.UnknownLayers.{has_unknown_bool, has_unknown_tuple}
-use Rattle.hir_raw.specs.Hidden.{fn_aliases}
+use Rattle.hir_raw.specs.Hidden.{fn_aliases, variant_aliases}
 use Rattle.infer_result.proofs.NoNeeds.{no_gaps, needs_hold}
-use Rattle.infer_result.proofs.Samples.Small.{e, p, b, w, each_below, each_node, apart_by, comes, only, each_entry, each_found, each_placed, closed_bool, closed_unit, none_placed}
+use Rattle.infer_result.proofs.Samples.Small.{e, p, b, w, each_below, each_node, apart_by, comes, only, each_entry, each_found, each_placed, closed_bool, closed_unit, none_placed, no_pat_items}
 use Rattle.infer_result.proofs.Samples.Calling.{function, item}
 use Rattle.infer_result.proofs.Samples.Holes.{each_in, closed_at, known_at, fits_at}
 use Rattle.infer_result.proofs.Samples.GeneralKnown.{general_is_known}
@@ -96,6 +97,7 @@ module _ (s : Ty) where
     pats = each_entry P table.type_of_pat (truth, (own, tt));
     bindings = each_entry P table.type_of_binding (truth, (own, tt));
     placeholders = λ k u found. absurd (cc);
+    items = each_entry P table.item_of_pat tt;
     expected = each_entry (λ x. P x.expected) table.expr_mismatches tt;
     actual = each_entry (λ x. P x.actual) table.expr_mismatches tt;
     pat_expected = each_entry (λ x. P x.expected) table.pat_mismatches tt;
@@ -130,7 +132,7 @@ module _ (s : Ty) where
     body = body;
     is_body = refl;
     shape = record {
-      of_body = record { exprs = refl; pats = refl; bindings = refl; modes = refl; mismatches = refl; diagnostics = refl; pat_mismatches = refl; pat_diagnostics = refl; expr_variants = refl; pat_variants = refl };
+      of_body = record { exprs = refl; pats = refl; bindings = refl; items = refl; modes = refl; mismatches = refl; diagnostics = refl; pat_mismatches = refl; pat_diagnostics = refl; expr_variants = refl; pat_variants = refl };
       closed = let own : IsClosed s = plain_is_closed scope s is_plain in all_types IsClosed closed_bool (closed_at s own) own closed_unit;
       modes = λ x. each_placed (λ k m. IsBinder body (p k)) table.binding_modes ((b 0, None, refl), ((b 1, None, refl), tt)) x.0;
       placeholders = none_placed Here table refl;
@@ -138,6 +140,7 @@ module _ (s : Ty) where
         exprs = λ x. each_entry (NamesVariant body x) table.expr_variants tt x.0;
         pats = λ x. each_entry (IsVariantPat body x) table.pat_variants tt x.0;
       };
+      items = no_pat_items Here table tt;
     };
     total = record {
       exprs = λ x h. each_below (λ k. (u : Ty) × HasTy table (e k) u) 9 x.0
@@ -152,7 +155,7 @@ module _ (s : Ty) where
       diagnostics = each_entry (λ d. ⊥) table.expr_diagnostics tt;
       pat_mismatches = each_entry (λ m. ⊥) table.pat_mismatches tt;
       pat_diagnostics = each_entry (λ d. ⊥) table.pat_diagnostics tt;
-      gaps = no_gaps table refl;
+      gaps = no_gaps table refl refl;
     };
     exprs = λ x h. each_below (λ k. ObeysExpression Here table (e k)) 9 x.0 (
       (
@@ -163,7 +166,7 @@ module _ (s : Ty) where
     ) h;
     pats = λ x h. each_below (λ k. ObeysPattern Here table (p k)) 2 x.0 ((tt, input_obeys), local_obeys) h;
     root = (unit, refl, ap erased (sym written_unit));
-    goals = needs_hold facts (each_in (λ (x : RawFn). x.preds ≡ []) facts.fns (refl, (refl, tt))) (each_in (λ (x : RawAdt). x.preds ≡ []) facts.adts tt) (each_in (λ (x : RawFn). fn_aliases facts.types x ≡ []) facts.fns (refl, (refl, tt))) f body table;
+    goals = needs_hold facts (each_in (λ (x : RawFn). x.preds ≡ []) facts.fns (refl, (refl, tt))) (each_in (λ (x : RawAdt). x.preds ≡ []) facts.adts tt) (each_in (λ (x : RawFn). fn_aliases facts.types x ≡ []) facts.fns (refl, (refl, tt))) (each_in (λ (x : RawVariant). variant_aliases facts.types x ≡ []) facts.variants tt) f body table;
   }
 
 pub bool_derives : IsDerivation facts f (table_at ty.Bool ty.Bool)

@@ -42,6 +42,7 @@ use Rattle.infer_result.specs.declared.result.InferenceResult.{InferenceResult}
 use Rattle.infer_result.specs.declared.diagnostics.InferenceDiagnostic.{InferenceDiagnostic}
 use Rattle.infer_result.specs.declared.diagnostics.InferenceDiagnostic.TheVariants as diagnostic
 use Rattle.infer_result.specs.Table.{At, HasTy, PatTy, AnyMismatch}
+use Rattle.infer_result.specs.Closed.{OnlyCtorPatsHaveItems}
 use Rattle.infer_result.specs.Places.{Given, let_types, AreRecorded, OnlyPlaceholdersHaveTypes, StandsAt, PatIsAtOrMismatch}
 use Rattle.infer_result.specs.Incoming.{IsInput, Gives, Incoming}
 use Rattle.infer_result.specs.Kinds.Alternative.{IsBefore, IsOfOther}
@@ -266,6 +267,10 @@ pub nowhere : (t : InferenceResult) → AllEntries (λ x. ⊥) t.expr_mismatches
 nowhere t h [] m = m
 nowhere t h (x ∷ xs) (inl m) = each_entry (λ y. ⊥) t.expr_mismatches h x.0 m.0 m.1
 nowhere t h (x ∷ xs) (inr m) = nowhere t h xs m
+
+-- no pattern has an item recorded
+pub no_pat_items : (g : Given) (t : InferenceResult) → AllEntries (λ x. ⊥) t.item_of_pat → OnlyCtorPatsHaveItems g.scope.facts g.body t
+no_pat_items g t none x s at = absurd (each_entry (λ y. ⊥) t.item_of_pat none x.0 s at)
 
 -- ---- without `_`
 

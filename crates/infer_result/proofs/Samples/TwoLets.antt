@@ -30,7 +30,7 @@ use Rattle.infer_result.specs.Closed.{IsBinder, NamesVariant, IsVariantPat}
 use Rattle.infer_result.specs.Made.{IsMisfit, IsMade}
 use Rattle.infer_result.specs.Typed.{IsTyped}
 use Rattle.infer_result.proofs.Derived.{typed_by_schedule}
-use Rattle.infer_result.proofs.Samples.Small.{scope_with, e, p, b, w, u8, one_u8, plain, body_of, each_below, each_node, apart_by, only, each_entry, each_found, each_placed, closed_u8, closed_bool, closed_unit, u8_differs_bool, none_placed, none_recorded}
+use Rattle.infer_result.proofs.Samples.Small.{scope_with, e, p, b, w, u8, one_u8, plain, body_of, each_below, each_node, apart_by, only, each_entry, each_found, each_placed, closed_u8, closed_bool, closed_unit, u8_differs_bool, none_placed, none_recorded, no_pat_items}
 
 abbrev types : List RawType
 types = type.Bool ∷ type.Integer (integer.Uint uint.U8) ∷ []
@@ -71,6 +71,7 @@ abbrev table_of : List (Option TypeMismatch) → InferenceResult
 table_of mismatches = record {
   type_of_expr = Some u8 ∷ Some ty.Bool ∷ Some unit ∷ [];
   type_of_pat = Some ty.Bool ∷ Some u8 ∷ [];
+  item_of_pat = None ∷ None ∷ [];
   type_of_binding = Some ty.Bool ∷ Some u8 ∷ [];
   type_of_placeholder = [];
   binding_modes = Some mode.Move ∷ Some mode.Move ∷ [];
@@ -84,6 +85,7 @@ table_of mismatches = record {
   proofs = [];
   projections = [];
   expr_gaps = [];
+  pat_gaps = [];
   general = None;
 }
 
@@ -105,12 +107,13 @@ block_obeys =
 right_made : IsMade given right
 right_made = record {
   shape = record {
-    of_body = record { exprs = refl; pats = refl; bindings = refl; modes = refl; mismatches = refl; diagnostics = refl; pat_mismatches = refl; pat_diagnostics = refl; expr_variants = refl; pat_variants = refl };
+    of_body = record { exprs = refl; pats = refl; bindings = refl; items = refl; modes = refl; mismatches = refl; diagnostics = refl; pat_mismatches = refl; pat_diagnostics = refl; expr_variants = refl; pat_variants = refl };
     closed = record {
       exprs = each_entry IsClosed right.type_of_expr (closed_u8, (closed_bool, (closed_unit, tt)));
       pats = each_entry IsClosed right.type_of_pat (closed_bool, (closed_u8, tt));
       bindings = each_entry IsClosed right.type_of_binding (closed_bool, (closed_u8, tt));
       placeholders = λ k s at. absurd (cc);
+      items = each_entry IsClosed right.item_of_pat tt;
       expected = each_entry (λ x. IsClosed x.expected) right.expr_mismatches (closed_bool, (closed_u8, tt));
       actual = each_entry (λ x. IsClosed x.actual) right.expr_mismatches (closed_u8, (closed_bool, tt));
       pat_expected = each_entry (λ x. IsClosed x.expected) right.pat_mismatches tt;
@@ -123,6 +126,7 @@ right_made = record {
       exprs = λ x. each_entry (NamesVariant given.body x) right.expr_variants tt x.0;
       pats = λ x. each_entry (IsVariantPat given.body x) right.pat_variants tt x.0;
     };
+    items = no_pat_items given right tt;
   };
   clauses = λ x h. each_below (λ k. ObeysOrMismatch given right (e k)) 3 x.0 (((tt, (u8, refl, refl)), (ty.Bool, refl, refl)), block_obeys) h;
   kinds = λ x h. each_below (λ k. PatRule given right (p k) (slice_get body.pats k)) 2 x.0 ((tt, (ty.Bool, refl, refl, refl)), (u8, refl, refl, refl)) h;

@@ -12,12 +12,10 @@ use Rattle.hir_types.specs.declared.ty.Ty.TheVariants as ty
 use Rattle.hir_types.specs.Terms.{leaf, pair, type_part, arg_term}
 use Rattle.hir_types.specs.TermLaws.{term_bool, arg_term_type}
 use Rattle.hir_raw.specs.declared.raw.RawArgs.TheVariants as args
-use Rattle.hir_raw.specs.declared.raw.RawExpr.TheVariants as expr
 use Rattle.hir_raw.specs.declared.raw.RawGoal.{RawGoal}
 use Rattle.hir_raw.specs.declared.raw.RawGoal.TheVariants as goal
 use Rattle.hir_raw.specs.declared.raw.RawLiteral.{RawLiteral}
 use Rattle.hir_raw.specs.declared.raw.RawLiteral.TheVariants as literal
-use Rattle.hir_raw.specs.declared.raw.RawPath.TheVariants as path
 use Rattle.hir_raw.specs.Signatures.{type_args}
 use Rattle.goal_answers.specs.Goals.{Asked}
 use Rattle.goal_facts.specs.Arguments.{goal_at}
@@ -26,7 +24,7 @@ use Rattle.infer_result.specs.declared.gaps.Gap.{Gap}
 use Rattle.infer_result.specs.declared.gaps.Gap.TheVariants as gap
 use Rattle.infer_result.specs.declared.result.InferenceResult.{InferenceResult}
 use Rattle.infer_result.specs.Places.{Given}
-use Rattle.infer_result.specs.Needs.{item_args, needed_goals, IsNeeded, HoldsUnknown, GoalsHold}
+use Rattle.infer_result.specs.Needs.{item_args, IsNeeded, HoldsUnknown, GoalsHold}
 use Rattle.infer_result.proofs.Samples.Small.{e, w}
 use Rattle.infer_result.proofs.Samples.Calling.{function, calling, item}
 use Rattle.infer_result.proofs.Samples.Call.{types, id, at_type}
@@ -45,6 +43,7 @@ abbrev table_of : List (List Gap) → InferenceResult
 table_of gaps = record {
   type_of_expr = Some (item (ty.Bool ∷ [])) ∷ Some ty.Bool ∷ Some ty.Bool ∷ Some ty.Bool ∷ [];
   type_of_pat = [];
+  item_of_pat = [];
   type_of_binding = [];
   type_of_placeholder = [];
   binding_modes = [];
@@ -58,6 +57,7 @@ table_of gaps = record {
   proofs = [];
   projections = [];
   expr_gaps = gaps;
+  pat_gaps = [];
   general = None;
 }
 
@@ -69,12 +69,8 @@ args_of : (ts : List Ty) → item_args (out-Ty (item ts)) ≡ type_args ts
 args_of ts =
     ap item_args (ap out-Ty (sym (ty.rolls-FnDef (callable.FunctionId function) (type_args ts))) ∙ out-roll-Ty (Ty-F.FnDef (callable.FunctionId function) (type_args ts)))
 
-is_needed : (gaps : List (List Gap)) → IsNeeded given (table_of gaps) (e 0) needed
+is_needed : (gaps : List (List Gap)) → IsNeeded given (table_of gaps) (node.ExprId (e 0)) needed
 is_needed gaps = record {
-  expr = expr.Path (path.Function function);
-  is = refl;
-  ty = item (ty.Bool ∷ []);
-  has = refl;
   «at» = 0;
   among = ap (λ xs. slice_get (map (goal_at given.scope.facts xs) (bound ∷ [])) 0) (args_of (ty.Bool ∷ []));
 }
@@ -92,7 +88,7 @@ known h =
 -- neither a proof nor a complaint
 pub nothing_said : (d : DefWithBodyId) → GoalsHold d given (table_of []) → ⊥
 nothing_said d h =
-    elim (h.needs (e 0) needed (is_needed [])) [
+    elim (h.needs (node.ExprId (e 0)) needed (is_needed [])) [
       | inl proved ↦ (let listed = proved.listed in cc)
       | inr other ↦ elim other [ inl said ↦ (let listed = said.1.at in cc) | inr unknown ↦ known unknown ]
     ]
@@ -101,17 +97,15 @@ nothing_said d h =
 pub nothing_needed : (d : DefWithBodyId) (q : Goal) → GoalsHold d given (table_of ([] ∷ (gap.Unproved (node.ExprId (e 1)) q ∷ []) ∷ [])) → ⊥
 nothing_needed d q h =
     let said = gap.Unproved (node.ExprId (e 1)) q in
-    let needs = (h.gaps (e 1) said (record { gaps = said ∷ []; «at» = refl; number = 0; listed = refl })).1.needed in
-    let is = needs.is in
-    let literal_is : needs.expr ≡ expr.Lit yes = cc in
-    let among = subst (λ x. slice_get (needed_goals given.scope.facts x needs.ty) needs.at ≡ Some (asked_goal q)) literal_is needs.among in
+    let needs = (h.gaps (node.ExprId (e 1)) said (record { gaps = said ∷ []; «at» = refl; number = 0; listed = refl })).1.needed in
+    let among : slice_get [] needs.at ≡ Some (asked_goal q) = needs.among in
     cc
 
 -- one complaint twice
 pub said_twice : (d : DefWithBodyId) (q : Goal) → (let said = gap.Unproved (node.ExprId (e 0)) q in GoalsHold d given (table_of ((said ∷ said ∷ []) ∷ []))) → ⊥
 said_twice d q h =
     let said = gap.Unproved (node.ExprId (e 0)) q in
-    let numbers = h.once (e 0) said said (record { gaps = said ∷ said ∷ []; «at» = refl; number = 0; listed = refl }) (record { gaps = said ∷ said ∷ []; «at» = refl; number = 1; listed = refl }) refl in
+    let numbers = h.once (node.ExprId (e 0)) said said (record { gaps = said ∷ said ∷ []; «at» = refl; number = 0; listed = refl }) (record { gaps = said ∷ said ∷ []; «at» = refl; number = 1; listed = refl }) refl in
     cc
 
 -- what an associated type was found to be, without a proof

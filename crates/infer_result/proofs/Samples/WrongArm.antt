@@ -32,7 +32,7 @@ use Rattle.infer_result.specs.Closed.{IsBinder, NamesVariant, IsVariantPat}
 use Rattle.infer_result.specs.Made.{IsMisfit, IsMade}
 use Rattle.infer_result.specs.Typed.{IsTyped}
 use Rattle.infer_result.proofs.Derived.{typed_by_schedule}
-use Rattle.infer_result.proofs.Samples.Small.{scope_with, e, p, b, w, u8, u16, one_u8, plain, body_with, each_below, each_node, apart_by, asked, comes, one_param, no_other, only, each_entry, each_found, each_placed, nowhere, closed_u8, closed_bool, closed_unit, closed_error, top_uint, top_error, u8_is_no_bool, bool_is_no_error, u8_is_no_u16, u8_differs_bool, none_placed}
+use Rattle.infer_result.proofs.Samples.Small.{scope_with, e, p, b, w, u8, u16, one_u8, plain, body_with, each_below, each_node, apart_by, asked, comes, one_param, no_other, only, each_entry, each_found, each_placed, nowhere, closed_u8, closed_bool, closed_unit, closed_error, top_uint, top_error, u8_is_no_bool, bool_is_no_error, u8_is_no_u16, u8_differs_bool, none_placed, no_pat_items}
 
 abbrev body : RawBody
 body =
@@ -85,6 +85,7 @@ abbrev table_of : Ty → List (Option TypeMismatch) → InferenceResult
 table_of s mismatches = record {
   type_of_expr = Some ty.Bool ∷ Some ty.Bool ∷ Some ty.Bool ∷ Some u8 ∷ Some ty.Bool ∷ Some s ∷ Some unit ∷ [];
   type_of_pat = Some ty.Bool ∷ Some ty.Bool ∷ Some ty.Bool ∷ [];
+  item_of_pat = None ∷ None ∷ None ∷ [];
   type_of_binding = Some ty.Bool ∷ [];
   type_of_placeholder = [];
   binding_modes = Some mode.Move ∷ None ∷ None ∷ [];
@@ -98,6 +99,7 @@ table_of s mismatches = record {
   proofs = [];
   projections = [];
   expr_gaps = [];
+  pat_gaps = [];
   general = None;
 }
 
@@ -127,12 +129,13 @@ of_first s = record { other = arm 0; expr = e 3; at_part = 3; stands = refl; is_
 right_made : (s : Ty) → IsClosed s → IsMade given (right s)
 right_made s closed_s = record {
   shape = record {
-    of_body = record { exprs = refl; pats = refl; bindings = refl; modes = refl; mismatches = refl; diagnostics = refl; pat_mismatches = refl; pat_diagnostics = refl; expr_variants = refl; pat_variants = refl };
+    of_body = record { exprs = refl; pats = refl; bindings = refl; items = refl; modes = refl; mismatches = refl; diagnostics = refl; pat_mismatches = refl; pat_diagnostics = refl; expr_variants = refl; pat_variants = refl };
     closed = record {
       exprs = each_entry IsClosed (right s).type_of_expr (closed_bool, (closed_bool, (closed_bool, (closed_u8, (closed_bool, (closed_s, (closed_unit, tt)))))));
       pats = each_entry IsClosed (right s).type_of_pat (closed_bool, (closed_bool, (closed_bool, tt)));
       bindings = each_entry IsClosed (right s).type_of_binding (closed_bool, tt);
       placeholders = λ k s at. absurd (cc);
+      items = each_entry IsClosed (right s).item_of_pat tt;
       expected = each_entry (λ x. IsClosed x.expected) (right s).expr_mismatches (closed_u8, tt);
       actual = each_entry (λ x. IsClosed x.actual) (right s).expr_mismatches (closed_bool, tt);
       pat_expected = each_entry (λ x. IsClosed x.expected) (right s).pat_mismatches tt;
@@ -145,6 +148,7 @@ right_made s closed_s = record {
       exprs = λ x. each_entry (NamesVariant given.body x) (right s).expr_variants tt x.0;
       pats = λ x. each_entry (IsVariantPat given.body x) (right s).pat_variants tt x.0;
     };
+    items = no_pat_items given (right s) tt;
   };
   clauses = λ x h.
       each_below (λ k. ObeysOrMismatch given (right s) (e k)) 7 x.0

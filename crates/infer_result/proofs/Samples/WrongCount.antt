@@ -27,7 +27,7 @@ use Rattle.infer_result.specs.Truth.Diagnostics.{IsTrueDiagnostic, IsTruePatDiag
 use Rattle.infer_result.specs.Made.{IsMisfit, IsMade}
 use Rattle.infer_result.specs.Typed.{IsTyped}
 use Rattle.infer_result.proofs.Derived.{typed_by_schedule}
-use Rattle.infer_result.proofs.Samples.Small.{e, w, u8, one_u8, function_of, each_below, each_entry, each_found, each_placed, closed_u8, closed_unit, none_placed}
+use Rattle.infer_result.proofs.Samples.Small.{e, w, u8, one_u8, function_of, each_below, each_entry, each_found, each_placed, closed_u8, closed_unit, none_placed, no_pat_items}
 use Rattle.infer_result.proofs.Samples.Calling.{function, calling, schedule, is_schedule, item, closed_item, obeyed, unseen, counted, asked_of_argument}
 
 abbrev types : List RawType
@@ -51,6 +51,7 @@ abbrev table_of : Option TypeMismatch → Option InferenceDiagnostic → Inferen
 table_of at_argument at_call = record {
   type_of_expr = Some (item []) ∷ Some u8 ∷ Some unit ∷ Some unit ∷ [];
   type_of_pat = [];
+  item_of_pat = [];
   type_of_binding = [];
   type_of_placeholder = [];
   binding_modes = [];
@@ -64,6 +65,7 @@ table_of at_argument at_call = record {
   proofs = [];
   projections = [];
   expr_gaps = [];
+  pat_gaps = [];
   general = None;
 }
 
@@ -95,12 +97,13 @@ true_count = (
 right_made : IsMade given right
 right_made = record {
   shape = record {
-    of_body = record { exprs = refl; pats = refl; bindings = refl; modes = refl; mismatches = refl; diagnostics = refl; pat_mismatches = refl; pat_diagnostics = refl; expr_variants = refl; pat_variants = refl };
+    of_body = record { exprs = refl; pats = refl; bindings = refl; items = refl; modes = refl; mismatches = refl; diagnostics = refl; pat_mismatches = refl; pat_diagnostics = refl; expr_variants = refl; pat_variants = refl };
     closed = record {
       exprs = each_entry IsClosed right.type_of_expr (closed_item [] refl, (closed_u8, (closed_unit, (closed_unit, tt))));
       pats = λ n s h. absurd (cc);
       bindings = λ n s h. absurd (cc);
       placeholders = λ k s at. absurd (cc);
+      items = λ n s h. absurd (cc);
       expected = each_entry (λ x. IsClosed x.expected) right.expr_mismatches tt;
       actual = each_entry (λ x. IsClosed x.actual) right.expr_mismatches tt;
       pat_expected = each_entry (λ x. IsClosed x.expected) right.pat_mismatches tt;
@@ -113,6 +116,7 @@ right_made = record {
       exprs = λ x. each_entry (NamesVariant given.body x) right.expr_variants tt x.0;
       pats = λ x. each_entry (IsVariantPat given.body x) right.pat_variants tt x.0;
     };
+    items = no_pat_items given right tt;
   };
   clauses = λ x h.
       each_below (λ k. ObeysOrMismatch given right (e k)) 4 x.0

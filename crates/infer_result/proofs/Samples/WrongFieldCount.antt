@@ -33,7 +33,8 @@ use Rattle.infer_result.specs.declared.diagnostics.InferenceDiagnostic.TheVarian
 use Rattle.infer_result.specs.declared.modes.BindingMode.TheVariants as mode
 use Rattle.infer_result.specs.Table.{PatTy, BindingTy}
 use Rattle.infer_result.specs.Places.{Given}
-use Rattle.infer_result.specs.Kinds.Constructor.{IsVariantAt}
+use Rattle.infer_result.specs.Kinds.Constructor.{IsVariantAt, IsCtorAt}
+use Rattle.infer_result.specs.Pats.Constructor.{IsPatOf}
 use Rattle.infer_result.specs.Demands.{Demand}
 use Rattle.infer_result.specs.Rules.{ObeysOrMismatch, PatRule}
 use Rattle.infer_result.specs.Truth.Mismatch.{IsTruePatMismatch}
@@ -42,7 +43,7 @@ use Rattle.infer_result.specs.Closed.{IsBinder, NamesVariant, IsVariantPat}
 use Rattle.infer_result.specs.Made.{IsMisfit, IsMade}
 use Rattle.infer_result.specs.Typed.{IsTyped}
 use Rattle.infer_result.proofs.Derived.{typed_by_schedule}
-use Rattle.infer_result.proofs.Samples.Small.{e, p, b, w, u8, plain, body_with, each_below, each_node, apart_by, one_param, only, each_entry, each_found, each_placed, closed_u8, closed_unit, none_placed}
+use Rattle.infer_result.proofs.Samples.Small.{e, p, b, w, u8, plain, body_with, each_below, each_node, apart_by, one_param, only, each_entry, each_found, each_placed, closed_u8, closed_unit, none_placed, no_pat_items}
 use Rattle.infer_result.proofs.Samples.Constructors.{v, adt, adt_of, variant_of, scope_of_adt}
 
 abbrev body : RawBody
@@ -65,6 +66,9 @@ given = record { scope = scope_of_adt types (adt_of kind.Struct [] (v 0 ∷ []))
 
 both_is : IsVariantAt given (v 0) both []
 both_is = record { found = refl; count = refl }
+
+both_ctor : IsCtorAt given (v 0) both []
+both_ctor = record { found = refl; count = refl }
 
 written : written_type types (w 2) ≡ pair
 unfolding filled_within
@@ -104,6 +108,7 @@ abbrev table_of : Ty → Option InferenceDiagnostic → Option InferenceDiagnost
 table_of x at_o at_pattern at_x = record {
   type_of_expr = Some pair ∷ Some unit ∷ [];
   type_of_pat = Some pair ∷ Some pair ∷ Some x ∷ [];
+  item_of_pat = None ∷ None ∷ None ∷ [];
   type_of_binding = Some pair ∷ Some x ∷ [];
   type_of_placeholder = [];
   binding_modes = Some mode.Move ∷ None ∷ Some mode.Move ∷ [];
@@ -117,6 +122,7 @@ table_of x at_o at_pattern at_x = record {
   proofs = [];
   projections = [];
   expr_gaps = [];
+  pat_gaps = [];
   general = None;
 }
 
@@ -129,12 +135,15 @@ right = table_of u8 None (Some the_complaint) None
 closed_pair : IsClosed pair
 closed_pair = has_hole_adt adt []
 
+both_pat : (x : Ty) (at_o at_pattern at_x : Option InferenceDiagnostic) → IsPatOf given (table_of x at_o at_pattern at_x) (p 1) (v 0) both [] []
+both_pat x at_o at_pattern at_x = record { is_variant = both_is; is_ctor = both_ctor; has = refl; item = tt }
+
 pattern_obeys : PatRule given right (p 1) (slice_get body.pats 1)
 pattern_obeys = record {
   variant = both;
   types = [];
-  is_variant = both_is;
-  has = refl;
+  hidden = [];
+  is = both_pat u8 None (Some the_complaint) None;
   parts = ((u8, refl, inl (sym field_is)), tt);
   counted = inr refl;
   resolved = refl;
@@ -149,12 +158,13 @@ complaint_is_true = (
 right_made : IsMade given right
 right_made = record {
   shape = record {
-    of_body = record { exprs = refl; pats = refl; bindings = refl; modes = refl; mismatches = refl; diagnostics = refl; pat_mismatches = refl; pat_diagnostics = refl; expr_variants = refl; pat_variants = refl };
+    of_body = record { exprs = refl; pats = refl; bindings = refl; items = refl; modes = refl; mismatches = refl; diagnostics = refl; pat_mismatches = refl; pat_diagnostics = refl; expr_variants = refl; pat_variants = refl };
     closed = record {
       exprs = each_entry IsClosed right.type_of_expr (closed_pair, (closed_unit, tt));
       pats = each_entry IsClosed right.type_of_pat (closed_pair, (closed_pair, (closed_u8, tt)));
       bindings = each_entry IsClosed right.type_of_binding (closed_pair, (closed_u8, tt));
       placeholders = λ k s at. absurd (cc);
+      items = each_entry IsClosed right.item_of_pat tt;
       expected = each_entry (λ x. IsClosed x.expected) right.expr_mismatches tt;
       actual = each_entry (λ x. IsClosed x.actual) right.expr_mismatches tt;
       pat_expected = each_entry (λ x. IsClosed x.expected) right.pat_mismatches tt;
@@ -167,6 +177,7 @@ right_made = record {
       exprs = λ x. each_entry (NamesVariant given.body x) right.expr_variants tt x.0;
       pats = λ x. each_placed (λ k. IsVariantPat given.body (p k)) right.pat_variants (inr (p 2 ∷ [], refl), tt) x.0;
     };
+    items = no_pat_items given right tt;
   };
   clauses = λ x h.
       each_below (λ k. ObeysOrMismatch given right (e k)) 2 x.0
@@ -197,7 +208,7 @@ right_typed = typed_by_schedule given right schedule is_schedule right_made
 pub none : IsTyped given (table_of u8 None None None) → ⊥
 none h =
     (let c = (h.pats (p 1) (omega arith)).kind in
-    let found = c.is_variant.found in
+    let found = c.is.is_variant.found in
     let one : both ≡ c.variant = cc in
     elim c.counted [
       | inl same ↦ (let count : length both.fields ≡ 1 = subst (λ (x : RawVariant). length x.fields ≡ 1) (sym one) same in absurd (omega arith))
@@ -247,6 +258,6 @@ other_field x differ h =
       at_part = 0;
       role = subpattern 0;
       stands = record { node_is = omega arith; part = refl };
-      gives = inr (record { named = v 0; parts = p 2 ∷ []; is_pat = refl; variant = both; types = []; is_variant = both_is; has = refl; field = ap Some field_is });
+      gives = inr (record { named = v 0; parts = p 2 ∷ []; is_pat = refl; variant = both; types = []; hidden = []; is = both_pat x None (Some the_complaint) None; field = ap Some field_is });
     }) in
     elim c.2 [ inl same ↦ differ (only x c.0 c.1 ∙ same) | inr m ↦ absurd m ])

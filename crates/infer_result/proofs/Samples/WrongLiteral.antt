@@ -31,7 +31,7 @@ use Rattle.infer_result.specs.Closed.{IsBinder, NamesVariant, IsVariantPat}
 use Rattle.infer_result.specs.Made.{IsMisfit, IsMade}
 use Rattle.infer_result.specs.Typed.{IsTyped}
 use Rattle.infer_result.proofs.Derived.{typed_by_schedule}
-use Rattle.infer_result.proofs.Samples.Small.{scope_with, e, p, b, w, u8, one_u8, plain, body_with, each_below, each_node, apart_by, asked, comes, one_param, only, each_entry, each_found, each_placed, closed_u8, closed_bool, closed_unit, u8_is_no_bool, bool_is_no_unit, u8_differs_bool, none_placed}
+use Rattle.infer_result.proofs.Samples.Small.{scope_with, e, p, b, w, u8, one_u8, plain, body_with, each_below, each_node, apart_by, asked, comes, one_param, only, each_entry, each_found, each_placed, closed_u8, closed_bool, closed_unit, u8_is_no_bool, bool_is_no_unit, u8_differs_bool, none_placed, no_pat_items}
 
 abbrev body : RawBody
 body =
@@ -84,6 +84,7 @@ abbrev table_of : Option TypeMismatch → Option TypeMismatch → Option TypeMis
 table_of literal_ guard_ pattern_ = record {
   type_of_expr = Some ty.Bool ∷ Some u8 ∷ Some u8 ∷ Some unit ∷ Some unit ∷ Some unit ∷ Some unit ∷ [];
   type_of_pat = Some ty.Bool ∷ Some u8 ∷ Some ty.Bool ∷ [];
+  item_of_pat = None ∷ None ∷ None ∷ [];
   type_of_binding = Some ty.Bool ∷ [];
   type_of_placeholder = [];
   binding_modes = Some mode.Move ∷ None ∷ None ∷ [];
@@ -97,6 +98,7 @@ table_of literal_ guard_ pattern_ = record {
   proofs = [];
   projections = [];
   expr_gaps = [];
+  pat_gaps = [];
   general = None;
 }
 
@@ -127,12 +129,13 @@ comes_in = record { parent = inner (node.ExprId (e 5)); at_part = 1; role = arm_
 right_made : IsMade given right
 right_made = record {
   shape = record {
-    of_body = record { exprs = refl; pats = refl; bindings = refl; modes = refl; mismatches = refl; diagnostics = refl; pat_mismatches = refl; pat_diagnostics = refl; expr_variants = refl; pat_variants = refl };
+    of_body = record { exprs = refl; pats = refl; bindings = refl; items = refl; modes = refl; mismatches = refl; diagnostics = refl; pat_mismatches = refl; pat_diagnostics = refl; expr_variants = refl; pat_variants = refl };
     closed = record {
       exprs = each_entry IsClosed right.type_of_expr (closed_bool, (closed_u8, (closed_u8, (closed_unit, (closed_unit, (closed_unit, (closed_unit, tt)))))));
       pats = each_entry IsClosed right.type_of_pat (closed_bool, (closed_u8, (closed_bool, tt)));
       bindings = each_entry IsClosed right.type_of_binding (closed_bool, tt);
       placeholders = λ k s at. absurd (cc);
+      items = each_entry IsClosed right.item_of_pat tt;
       expected = each_entry (λ x. IsClosed x.expected) right.expr_mismatches (closed_bool, (closed_bool, tt));
       actual = each_entry (λ x. IsClosed x.actual) right.expr_mismatches (closed_u8, (closed_u8, tt));
       pat_expected = each_entry (λ x. IsClosed x.expected) right.pat_mismatches tt;
@@ -145,6 +148,7 @@ right_made = record {
       exprs = λ x. each_entry (NamesVariant given.body x) right.expr_variants tt x.0;
       pats = λ x. each_entry (IsVariantPat given.body x) right.pat_variants tt x.0;
     };
+    items = no_pat_items given right tt;
   };
   clauses = λ x h.
       each_below (λ k. ObeysOrMismatch given right (e k)) 7 x.0

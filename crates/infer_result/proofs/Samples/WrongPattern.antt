@@ -34,7 +34,7 @@ use Rattle.infer_result.specs.Closed.{IsBinder, NamesVariant, IsVariantPat}
 use Rattle.infer_result.specs.Made.{IsMisfit, IsMade}
 use Rattle.infer_result.specs.Typed.{IsTyped}
 use Rattle.infer_result.proofs.Derived.{tuple_parts, typed_by_schedule}
-use Rattle.infer_result.proofs.Samples.Small.{scope_with, e, p, b, w, u8, plain, body_with, each_below, each_node, apart_by, comes, one_param, only, each_entry, each_found, each_placed, closed_u8, closed_unit, closed_error, u8_is_no_error, u8_is_no_tuple, none_placed, none_recorded}
+use Rattle.infer_result.proofs.Samples.Small.{scope_with, e, p, b, w, u8, plain, body_with, each_below, each_node, apart_by, comes, one_param, only, each_entry, each_found, each_placed, closed_u8, closed_unit, closed_error, u8_is_no_error, u8_is_no_tuple, none_placed, none_recorded, no_pat_items}
 
 abbrev body : RawBody
 body =
@@ -85,6 +85,7 @@ abbrev table_of : Ty → Ty → List (Option TypeMismatch) → InferenceResult
 table_of whole second pat_mismatches = record {
   type_of_expr = Some single ∷ Some unit ∷ [];
   type_of_pat = Some single ∷ Some whole ∷ Some u8 ∷ Some second ∷ [];
+  item_of_pat = None ∷ None ∷ None ∷ None ∷ [];
   type_of_binding = Some single ∷ Some u8 ∷ Some second ∷ [];
   type_of_placeholder = [];
   binding_modes = Some mode.Move ∷ None ∷ Some mode.Move ∷ Some mode.Move ∷ [];
@@ -98,6 +99,7 @@ table_of whole second pat_mismatches = record {
   proofs = [];
   projections = [];
   expr_gaps = [];
+  pat_gaps = [];
   general = None;
 }
 
@@ -131,12 +133,13 @@ block_obeys =
 right_made : IsMade given right
 right_made = record {
   shape = record {
-    of_body = record { exprs = refl; pats = refl; bindings = refl; modes = refl; mismatches = refl; diagnostics = refl; pat_mismatches = refl; pat_diagnostics = refl; expr_variants = refl; pat_variants = refl };
+    of_body = record { exprs = refl; pats = refl; bindings = refl; items = refl; modes = refl; mismatches = refl; diagnostics = refl; pat_mismatches = refl; pat_diagnostics = refl; expr_variants = refl; pat_variants = refl };
     closed = record {
       exprs = each_entry IsClosed right.type_of_expr (closed_single, (closed_unit, tt));
       pats = each_entry IsClosed right.type_of_pat (closed_single, (closed_pair, (closed_u8, (closed_error, tt))));
       bindings = each_entry IsClosed right.type_of_binding (closed_single, (closed_u8, (closed_error, tt)));
       placeholders = λ k s at. absurd (cc);
+      items = each_entry IsClosed right.item_of_pat tt;
       expected = each_entry (λ x. IsClosed x.expected) right.expr_mismatches tt;
       actual = each_entry (λ x. IsClosed x.actual) right.expr_mismatches tt;
       pat_expected = each_entry (λ x. IsClosed x.expected) right.pat_mismatches (closed_single, tt);
@@ -149,6 +152,7 @@ right_made = record {
       exprs = λ x. each_entry (NamesVariant given.body x) right.expr_variants tt x.0;
       pats = λ x. each_entry (IsVariantPat given.body x) right.pat_variants tt x.0;
     };
+    items = no_pat_items given right tt;
   };
   clauses = λ x h. each_below (λ k. ObeysOrMismatch given right (e k)) 2 x.0 ((tt, (single, refl, refl)), block_obeys) h;
   kinds = λ x h.

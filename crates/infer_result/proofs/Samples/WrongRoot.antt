@@ -21,7 +21,7 @@ use Rattle.infer_result.specs.Truth.Diagnostics.{IsTrueDiagnostic, IsTruePatDiag
 use Rattle.infer_result.specs.Made.{IsMisfit, IsMade}
 use Rattle.infer_result.specs.Typed.{IsTyped}
 use Rattle.infer_result.proofs.Derived.{typed_by_schedule}
-use Rattle.infer_result.proofs.Samples.Small.{scope_with, e, u8, body_of, each_below, each_node, apart_by, asked, only, each_entry, each_found, each_placed, closed_u8, closed_bool, u8_is_no_bool, u8_differs_bool, bool_is_no_error, none_placed}
+use Rattle.infer_result.proofs.Samples.Small.{scope_with, e, u8, body_of, each_below, each_node, apart_by, asked, only, each_entry, each_found, each_placed, closed_u8, closed_bool, u8_is_no_bool, u8_differs_bool, bool_is_no_error, none_placed, no_pat_items}
 
 abbrev body : RawBody
 body = body_of (expr.Lit (literal.Bool true) ∷ expr.Block None [] (Some (e 0)) ∷ []) 1 [] []
@@ -48,6 +48,7 @@ abbrev table_of : List (Option Ty) → List (Option TypeMismatch) → InferenceR
 table_of types mismatches = record {
   type_of_expr = types;
   type_of_pat = [];
+  item_of_pat = [];
   type_of_binding = [];
   type_of_placeholder = [];
   binding_modes = [];
@@ -61,6 +62,7 @@ table_of types mismatches = record {
   proofs = [];
   projections = [];
   expr_gaps = [];
+  pat_gaps = [];
   general = None;
 }
 
@@ -73,12 +75,13 @@ demanded = inl (record { parent = inner (node.ExprId (e 1)); at_part = 0; role =
 right_made : IsMade given right
 right_made = record {
   shape = record {
-    of_body = record { exprs = refl; pats = refl; bindings = refl; modes = refl; mismatches = refl; diagnostics = refl; pat_mismatches = refl; pat_diagnostics = refl; expr_variants = refl; pat_variants = refl };
+    of_body = record { exprs = refl; pats = refl; bindings = refl; items = refl; modes = refl; mismatches = refl; diagnostics = refl; pat_mismatches = refl; pat_diagnostics = refl; expr_variants = refl; pat_variants = refl };
     closed = record {
       exprs = each_entry IsClosed right.type_of_expr (closed_bool, (closed_u8, tt));
       pats = λ n s h. absurd (cc);
       bindings = λ n s h. absurd (cc);
       placeholders = λ k s at. absurd (cc);
+      items = λ n s h. absurd (cc);
       expected = each_entry (λ x. IsClosed x.expected) right.expr_mismatches (closed_u8, tt);
       actual = each_entry (λ x. IsClosed x.actual) right.expr_mismatches (closed_bool, tt);
       pat_expected = each_entry (λ x. IsClosed x.expected) right.pat_mismatches tt;
@@ -91,6 +94,7 @@ right_made = record {
       exprs = λ x. each_entry (NamesVariant given.body x) right.expr_variants tt x.0;
       pats = λ x. each_entry (IsVariantPat given.body x) right.pat_variants tt x.0;
     };
+    items = no_pat_items given right tt;
   };
   clauses = λ x h. each_below (λ k. ObeysOrMismatch given right (e k)) 2 x.0 ((tt, (ty.Bool, refl, refl)), record { statements = tt; type = u8; has = refl; ends = (ty.Bool, refl, inr (mismatch u8 ty.Bool, refl)) }) h;
   kinds = λ x h. absurd (omega arith);

@@ -14,7 +14,7 @@ use Rattle.hir_types.specs.declared.ids.CallableDefId.TheVariants as callable
 use Rattle.hir_raw.specs.declared.raw.RawBody.{RawBody}
 use Rattle.hir_raw.specs.declared.raw.RawVariant.{RawVariant}
 use Rattle.hir_raw.specs.Signatures.{type_args}
-use Rattle.hir_raw.specs.Scope.{adt_params, callable_params}
+use Rattle.hir_raw.specs.Scope.{callable_params}
 use Rattle.hir_raw.specs.Order.{let_pattern, Node}
 use Rattle.hir_raw.specs.declared.raw.RawPath.{RawPath}
 use Rattle.hir_raw.specs.declared.raw.RawExpr.TheVariants as expr
@@ -58,10 +58,10 @@ pub record NamesParameter (b : RawBody) (e : ExprId) (i : ℕ) : Type 0 where
   pub binds : slice_get b.pats pattern.0 ≡ Some (pat.Bind binding None)
   pub stands : slice_get b.params i ≡ Some pattern
 
--- the path e names the constructor of this variant, which has no fields, and its adt no generic parameters
+-- the path e names the constructor of this variant, which is a `V` without generic parameters
 pub record NamesUnit (g : Given) (e : ExprId) (x : RawVariant) : Type 0 where
   pub variant : VariantId
   pub names : slice_get g.body.exprs e.0 ≡ Some (expr.Path (path.Ctor variant))
   pub is_variant : slice_get g.scope.facts.variants variant.0 ≡ Some x
   pub unit : x.ctor ≡ ctor.Unit
-  pub non_generic : adt_params g.scope.facts x.adt ≡ Some 0
+  pub non_generic : callable_params g.scope.facts (callable.VariantId variant) ≡ Some 0

@@ -1,19 +1,20 @@
 -- A pattern by a constructor, over patterns or alone: Reference, "Tuple struct patterns", "Path patterns";
 -- upstream `infer/pat.rs`, `infer_tuple_struct_pat_like`.
-use Rattle.std.specs.Prelude.{ℕ, ◌≡◌, ◌⊎◌, List, length, slice_get, Some, [], ◌∷◌}
+use Rattle.std.specs.Prelude.{ℕ, ◌≡◌, ◌⊎◌, List, length, slice_get, Some, [], ◌∷◌, ◌++◌}
 use Rattle.hir_types.specs.declared.ids.PatId.{PatId}
 use Rattle.hir_types.specs.declared.ids.VariantId.{VariantId}
 use Rattle.hir_types.specs.declared.ty.Ty.{Ty}
 use Rattle.hir_types.specs.declared.ids.ExprOrPatId.TheVariants as node
 use Rattle.hir_raw.specs.declared.raw.RawVariant.{RawVariant}
+use Rattle.hir_raw.specs.Signatures.{ctor_item}
 use Rattle.hir_raw.specs.declared.raw.RawPath.{RawPath}
 use Rattle.hir_raw.specs.declared.raw.RawPat.TheVariants as pat
 use Rattle.hir_raw.specs.declared.raw.RawPath.TheVariants as path
 use Rattle.infer_result.specs.declared.result.InferenceResult.{InferenceResult}
 use Rattle.infer_result.specs.declared.diagnostics.InferenceDiagnostic.TheVariants as diagnostic
-use Rattle.infer_result.specs.Table.{PatTy, PatVariant, HasPatDiagnostic}
+use Rattle.infer_result.specs.Table.{PatTy, PatItem, PatVariant, HasPatDiagnostic}
 use Rattle.infer_result.specs.Places.{Given, PatIsAtOrMismatch}
-use Rattle.infer_result.specs.Kinds.Constructor.{IsCtorPath, IsVariantAt, adt_at, fields_at}
+use Rattle.infer_result.specs.Kinds.Constructor.{IsCtorPath, IsVariantAt, IsCtorAt, adt_at, fields_at}
 
 -- ---- its rule
 
@@ -23,14 +24,27 @@ PatsAtFields g r [] ss = Unit {0}
 PatsAtFields g r (p ∷ ps) [] = Unit {0}
 PatsAtFields g r (p ∷ ps) (s ∷ ss) = PatIsAtOrMismatch g r p s × PatsAtFields g r ps ss
 
--- The pattern has the type of the constructor's adt, its parts are at the types of the fields, of which there
--- are as many, or that there are not is said. Which variant it is of is recorded.
+-- which item the pattern is of is recorded, where that has types beside the adt's
+abbrev pub IsItemOf : InferenceResult → PatId → VariantId → List Ty → List Ty → Type 0
+IsItemOf r p v ts [] = Unit {0}
+IsItemOf r p v ts (h ∷ hs) = PatItem r p (ctor_item v (ts ++ h ∷ hs))
+
+-- The pattern is of the constructor of the variant x, at the types ts for the parameters of the adt and at the types hs for the associated types in
+-- its fields. It has the type of the adt.
+pub record IsPatOf (g : Given) (r : InferenceResult) (p : PatId) (v : VariantId) (x : RawVariant) (ts hs : List Ty) : Type 0 where
+  pub is_variant : IsVariantAt g v x ts
+  pub is_ctor : IsCtorAt g v x (ts ++ hs)
+  pub has : PatTy r p (adt_at x ts)
+  pub item : IsItemOf r p v ts hs
+
+-- The parts of such a pattern are at the types of the fields, of which there are as many, or that there are not is said. Which variant it
+-- is of is recorded. What the associated types are, the pattern needs (`Needs`).
 pub record CtorPatRule (g : Given) (r : InferenceResult) (p : PatId) (v : VariantId) (ps : List PatId) : Type 0 where
   pub variant : RawVariant
   pub types : List Ty
-  pub is_variant : IsVariantAt g v variant types
-  pub has : PatTy r p (adt_at variant types)
-  pub parts : PatsAtFields g r ps (fields_at g variant types)
+  pub hidden : List Ty
+  pub is : IsPatOf g r p v variant types hidden
+  pub parts : PatsAtFields g r ps (fields_at g variant (length types) (types ++ hidden))
   pub counted : (length variant.fields ≡ length ps)
       ⊎ HasPatDiagnostic r p (diagnostic.MismatchedTupleStructPatArgCount (node.PatId p) (length variant.fields) (length ps))
   pub resolved : PatVariant r p v
@@ -42,17 +56,16 @@ PathPatRule g r p _ = ⊥
 
 -- ---- what it gives its parts
 
--- the pattern is a constructor over patterns, and t is the type of its field at this position where the
--- pattern's own type is its adt
+-- the pattern is a constructor over patterns, and t is the type of its field at this position, at the types of the item that the pattern is of
 pub record GivesField (g : Given) (r : InferenceResult) (p : PatId) (i : ℕ) (t : Ty) : Type 0 where
   pub named : VariantId
   pub parts : List PatId
   pub is_pat : slice_get g.body.pats p.0 ≡ Some (pat.TupleStruct named parts)
   pub variant : RawVariant
   pub types : List Ty
-  pub is_variant : IsVariantAt g named variant types
-  pub has : PatTy r p (adt_at variant types)
-  pub field : slice_get (fields_at g variant types) i ≡ Some t
+  pub hidden : List Ty
+  pub is : IsPatOf g r p named variant types hidden
+  pub field : slice_get (fields_at g variant (length types) (types ++ hidden)) i ≡ Some t
 
 -- ---- what its complaints say
 

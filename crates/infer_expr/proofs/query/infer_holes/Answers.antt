@@ -77,7 +77,7 @@ read_where_possible-requires-clause-of_body c =
     (kept_of_body g c.args.facts.now c.args.def c.infer_body.new.context c.keep_general.new.context c.in_ok-infer_body.ensures.read.settles.settles.binds.follows.of_body c.in_ok-keep_general.ensures)
 
 pub returns-clause-ends : goal.returns-clause-ends
-returns-clause-ends c = λ ps js gs. (
+returns-clause-ends c = λ ps js gs hs. (
     let raw = c.args.facts.now in
     let d = c.args.def in
     let b = c.body-body.result.now in
@@ -86,7 +86,7 @@ returns-clause-ends c = λ ps js gs. (
     let last = c.read_where_possible.new.context in
     let only = c.select_where_possible.ensures.only in
     let read = c.in_ok-read_where_possible.ensures in
-    ends_selected raw d c.in-Some.id b _ _ _ _ (sym c.in-Some.ensures) c.body-body.ensures (c.schedule.ensures.walkable _ c.body-body.ensures) (subst (λ xs. AreOwnTypes raw d xs c.in_ok-own.own.output) (sym c.deref.ensures.value) c.in_ok-own.ensures) (subst (AreLetTypes c.args.facts.now c.args.def c.body-body.result.now) (sym c.as_slice.ensures) c.in_ok-aliases.ensures) c.infer_body.new.context c.in_ok-infer_body.ensures.done c.lawful.ensures ps js gs
+    ends_selected raw d c.in-Some.id b _ _ _ _ (sym c.in-Some.ensures) c.body-body.ensures (c.schedule.ensures.walkable _ c.body-body.ensures) (subst (λ xs. AreOwnTypes raw d xs c.in_ok-own.own.output) (sym c.deref.ensures.value) c.in_ok-own.ensures) (subst (AreLetTypes c.args.facts.now c.args.def c.body-body.result.now) (sym c.as_slice.ensures) c.in_ok-aliases.ensures) c.infer_body.new.context c.in_ok-infer_body.ensures.done c.lawful.ensures ps js gs hs
     mid last c.in_ok-keep_general.ensures (goals_twice mid selected last only read.only) (stays_twice mid selected last only c.select_where_possible.ensures.plain read.plain)
     read.done)
 

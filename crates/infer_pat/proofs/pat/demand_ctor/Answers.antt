@@ -1,55 +1,115 @@
-use Rattle.std.proofs.Common.{◌≡◌, ◌∙◌, ap, sym, subst, length, option_map, Some}
+use Rattle.std.proofs.Common.{◌≡◌, ◌<◌, ◌≤◌, ◌∙◌, arith, sym, subst, length, map, slice_get, take, Some}
+use Rattle.hir_types.specs.declared.ids.CallableDefId.TheVariants as callable
 use Rattle.hir_types.specs.declared.ty.Ty.TheVariants as ty
-use Rattle.hir_raw.specs.Scope.{adt_params}
+use Rattle.hir_raw.specs.Scope.{variant_arity}
+use Rattle.hir_raw.specs.Signatures.{variant_types}
+use Rattle.hir_raw.specs.declared.raw.RawVariant.{RawVariant}
 use Rattle.infer_result.specs.Closed.{IsOfBody}
+use Rattle.infer_ctx.specs.Callables.{field_at}
 use Rattle.infer_ctx.specs.Context.{given_of}
+use Rattle.infer_ctx.proofs.AtEach.{follows_twice}
 use Rattle.infer_ctx.proofs.FineTypes.{fine_grown, fine_expectation_grown}
-use Rattle.infer_pat.specs.Paths.{AreFreshArgs}
+use Rattle.infer_ctx.proofs.UnderClosings.{of_body_pat_item, sound_pat_item}
+use Rattle.infer_obligations.specs.Reading.{ReadsPat}
 use Rattle.infer_pat.specs.Patterns.{PartsCounted}
-use Rattle.infer_pat.proofs.CtorPatWalk.{counted_follows, own_adt_fine, ctor_demanded}
-use Rattle.infer_pat.proofs.PathWalk.{same_some}
+use Rattle.infer_pat.proofs.CtorPatWalk.{counted_follows, own_adt_fine, ctor_demanded, item_is_fine, item_read, no_item_read}
+use Rattle.infer_pat.proofs.PathWalk.{ctor_holed}
 use Rattle.infer_pat.proofs.pat.demand_ctor.Goals as goal
 
 pub demand_pat_ty-requires-clause-sound : goal.demand_pat_ty-requires-clause-sound
 demand_pat_ty-requires-clause-sound c =
     let g = given_of c.args.given.now in
-    let h : IsOfBody g.body c.fresh_args_for_item.new.context.result = subst (λ r. IsOfBody c.args.given.now.body.now r) (sym c.in_ok-args.ensures.made.result) c.requires.of_body in
-    (counted_follows g c.args.pat _ _ c.fresh_args_for_item.new.context c.count_parts.new.context h c.in_ok-args.ensures.made.sound c.count_parts.ensures).sound
+    let x = c.requires.named in
+    let y = c.variant-item.result.now in
+    let old = c.args.context.now in
+    let new = c.fresh_args_for_item.new.context in
+    let h = ctor_holed g c.args.variant x y c.adt.result.now c.len-params.result c.in_ok-arity.arity c.types.result.now c.in_ok-args.args old new c.variant-item.ensures c.adt.ensures c.len-params.ensures c.types.ensures c.in_ok-arity.ensures c.in_ok-args.ensures in
+    let body : IsOfBody g.body new.result = subst (λ r. IsOfBody g.body r) (sym h.fresh.made.result) c.requires.of_body in
+    let counted = counted_follows g c.args.pat _ _ new c.count_parts.new.context body h.fresh.made.sound c.count_parts.ensures in
+    counted.sound
 
 pub demand_pat_ty-requires-clause-ty : goal.demand_pat_ty-requires-clause-ty
 demand_pat_ty-requires-clause-ty c =
     let g = given_of c.args.given.now in
     let x = c.requires.named in
+    let y = c.variant-item.result.now in
     let old = c.args.context.now in
     let new = c.fresh_args_for_item.new.context in
-    let same : c.variant-item.result.now ≡ x.variant = same_some (sym c.variant-item.ensures ∙ x.found) in
-    let count : adt_params g.scope.facts c.variant-item.result.now.adt ≡ Some x.params = ap (λ y. adt_params g.scope.facts y.adt) same ∙ x.count in
-    let size : c.len-params.result ≡ x.params = c.len-params.ensures ∙ same_some (sym (ap (option_map (λ y. length y.params)) c.adt.ensures) ∙ count) in
-    let fresh = subst (λ n. AreFreshArgs g.scope n c.in_ok-args.args old new) size c.in_ok-args.ensures in
-    let h : IsOfBody g.body new.result = subst (λ r. IsOfBody c.args.given.now.body.now r) (sym c.in_ok-args.ensures.made.result) c.requires.of_body in
-    let grew = (counted_follows g c.args.pat _ _ new c.count_parts.new.context h c.in_ok-args.ensures.made.sound c.count_parts.ensures).grew in
-    fine_grown g.scope new.goals.table c.count_parts.new.context.goals.table (ty.Adt c.variant-item.result.now.adt c.in_ok-args.args) grew
-    (own_adt_fine g c.args.variant x c.variant-item.result.now same c.in_ok-args.args old new fresh)
+    let h = ctor_holed g c.args.variant x y c.adt.result.now c.len-params.result c.in_ok-arity.arity c.types.result.now c.in_ok-args.args old new c.variant-item.ensures c.adt.ensures c.len-params.ensures c.types.ensures c.in_ok-arity.ensures c.in_ok-args.ensures in
+    let own = c.in_ok-own.ensures ∙ (λ i. take (h.size i) (c.as_slice.ensures i)) in
+    let body : IsOfBody g.body new.result = subst (λ r. IsOfBody g.body r) (sym h.fresh.made.result) c.requires.of_body in
+    let counted = counted_follows g c.args.pat _ _ new c.count_parts.new.context body h.fresh.made.sound c.count_parts.ensures in
+    fine_grown g.scope new.goals.table c.count_parts.new.context.goals.table (ty.Adt y.adt c.in_ok-own.own) counted.grew (own_adt_fine g c.args.variant x y h.same c.in_ok-args.args old new h.fresh c.in_ok-own.own own)
 
 pub demand_pat_ty-requires-clause-fine : goal.demand_pat_ty-requires-clause-fine
 demand_pat_ty-requires-clause-fine c =
     let g = given_of c.args.given.now in
+    let x = c.requires.named in
+    let y = c.variant-item.result.now in
+    let old = c.args.context.now in
     let new = c.fresh_args_for_item.new.context in
-    let h : IsOfBody g.body new.result = subst (λ r. IsOfBody c.args.given.now.body.now r) (sym c.in_ok-args.ensures.made.result) c.requires.of_body in
-    let grew = (counted_follows g c.args.pat _ _ new c.count_parts.new.context h c.in_ok-args.ensures.made.sound c.count_parts.ensures).grew in
-    fine_expectation_grown g.scope new.goals.table c.count_parts.new.context.goals.table c.args.expected grew
-    (fine_expectation_grown g.scope c.args.context.now.goals.table new.goals.table c.args.expected c.in_ok-args.ensures.made.grew c.requires.fine)
+    let h = ctor_holed g c.args.variant x y c.adt.result.now c.len-params.result c.in_ok-arity.arity c.types.result.now c.in_ok-args.args old new c.variant-item.ensures c.adt.ensures c.len-params.ensures c.types.ensures c.in_ok-arity.ensures c.in_ok-args.ensures in
+    let body : IsOfBody g.body new.result = subst (λ r. IsOfBody g.body r) (sym h.fresh.made.result) c.requires.of_body in
+    let counted = counted_follows g c.args.pat _ _ new c.count_parts.new.context body h.fresh.made.sound c.count_parts.ensures in
+    fine_expectation_grown g.scope new.goals.table c.count_parts.new.context.goals.table c.args.expected counted.grew
+    (fine_expectation_grown g.scope old.goals.table new.goals.table c.args.expected h.fresh.made.grew c.requires.fine)
+
+pub returns-then-arity-params : goal.returns-then-arity-params
+returns-then-arity-params c =
+    let g = given_of c.args.given.now in
+    let x = c.requires.named in
+    let y = c.variant-item.result.now in
+    let old = c.args.context.now in
+    let new = c.fresh_args_for_item.new.context in
+    let h = ctor_holed g c.args.variant x y c.adt.result.now c.len-params.result c.in_ok-arity.arity c.types.result.now c.in_ok-args.args old new c.variant-item.ensures c.adt.ensures c.len-params.ensures c.types.ensures c.in_ok-arity.ensures c.in_ok-args.ensures in
+    let own = c.in_ok-own.ensures ∙ (λ i. take (h.size i) (c.as_slice.ensures i)) in
+    let fields = subst (λ n. (z : RawVariant) → slice_get g.scope.facts.variants c.args.variant.0 ≡ Some z → c.in_ok-fields.fields ≡ map (field_at (variant_types g.scope.facts.types n z) c.in_ok-args.args) z.fields) h.size c.in_ok-fields.ensures in
+    let parts : PartsCounted c.args.pat (length y.fields) c.args.parts new c.count_parts.new.context = subst (λ n. PartsCounted c.args.pat n c.args.parts new c.count_parts.new.context) c.len.ensures c.count_parts.ensures in
+    let typed = c.demand_pat_ty.new.context in
+    let demanded = c.in_ok-demand_pat_ty.ensures in
+    let no_more : variant_arity g.scope.facts.types x.variant x.params ≤ x.params = omega (arith, c.if-arity-params.true, h.many, h.size) in
+    ctor_demanded g c.args.variant x y h.same c.in_ok-args.args old new h.fresh c.in_ok-own.own own c.args.pat c.args.parts c.in_ok-fields.fields c.args.expected c.count_parts.new.context typed typed fields parts demanded (no_item_read g c.args.variant x y h.same c.in_ok-args.args old new h.fresh c.args.pat typed no_more)
+
+pub write_pat_item-requires : goal.write_pat_item-requires
+write_pat_item-requires c = rw c.in_ok-demand_pat_ty.ensures.follows.of_body.items c.requires.within
+
+pub read_pat-requires-clause-of_body : goal.read_pat-requires-clause-of_body
+read_pat-requires-clause-of_body c =
+    let g = given_of c.args.given.now in
+    let t = ty.FnDef (callable.VariantId c.args.variant) c.in_ok-args.args in
+    rw c.write_pat_item.ensures (of_body_pat_item g.body c.demand_pat_ty.new.context c.in_ok-demand_pat_ty.ensures.follows.of_body c.args.pat t)
+
+pub read_pat-requires-clause-sound : goal.read_pat-requires-clause-sound
+read_pat-requires-clause-sound c =
+    let g = given_of c.args.given.now in
+    let x = c.requires.named in
+    let y = c.variant-item.result.now in
+    let old = c.args.context.now in
+    let new = c.fresh_args_for_item.new.context in
+    let h = ctor_holed g c.args.variant x y c.adt.result.now c.len-params.result c.in_ok-arity.arity c.types.result.now c.in_ok-args.args old new c.variant-item.ensures c.adt.ensures c.len-params.ensures c.types.ensures c.in_ok-arity.ensures c.in_ok-args.ensures in
+    let body : IsOfBody g.body new.result = subst (λ r. IsOfBody g.body r) (sym h.fresh.made.result) c.requires.of_body in
+    let counted = counted_follows g c.args.pat _ _ new c.count_parts.new.context body h.fresh.made.sound c.count_parts.ensures in
+    let typed = c.demand_pat_ty.new.context in
+    let demanded = c.in_ok-demand_pat_ty.ensures in
+    let t = ty.FnDef (callable.VariantId c.args.variant) c.in_ok-args.args in
+    let more : x.params < variant_arity g.scope.facts.types x.variant x.params = omega (arith, c.if-arity-params.false, h.many, h.size) in
+    let grew = (follows_twice g new c.count_parts.new.context typed counted demanded.follows).grew in
+    rw c.write_pat_item.ensures (sound_pat_item typed demanded.follows.sound c.args.pat t (fine_grown g.scope new.goals.table typed.goals.table t grew (item_is_fine g c.args.variant x y h.same c.in_ok-args.args old new h.fresh more)))
 
 pub returns : goal.returns
 returns c =
     let g = given_of c.args.given.now in
     let x = c.requires.named in
+    let y = c.variant-item.result.now in
     let old = c.args.context.now in
     let new = c.fresh_args_for_item.new.context in
-    let same : c.variant-item.result.now ≡ x.variant = same_some (sym c.variant-item.ensures ∙ x.found) in
-    let count : adt_params g.scope.facts c.variant-item.result.now.adt ≡ Some x.params = ap (λ y. adt_params g.scope.facts y.adt) same ∙ x.count in
-    let size : c.len-params.result ≡ x.params = c.len-params.ensures ∙ same_some (sym (ap (option_map (λ y. length y.params)) c.adt.ensures) ∙ count) in
-    let fresh = subst (λ n. AreFreshArgs g.scope n c.in_ok-args.args old new) size c.in_ok-args.ensures in
-    let counted : PartsCounted c.args.pat (length c.variant-item.result.now.fields) c.args.parts new c.count_parts.new.context
-    = subst (λ n. PartsCounted c.args.pat n c.args.parts c.fresh_args_for_item.new.context c.count_parts.new.context) c.len.ensures c.count_parts.ensures in
-    ctor_demanded g c.args.variant x c.variant-item.result.now same c.in_ok-args.args old new fresh c.args.pat c.args.parts _ c.args.expected c.count_parts.new.context _ c.in_ok-fields.ensures counted c.in_ok-demand_pat_ty.ensures
+    let h = ctor_holed g c.args.variant x y c.adt.result.now c.len-params.result c.in_ok-arity.arity c.types.result.now c.in_ok-args.args old new c.variant-item.ensures c.adt.ensures c.len-params.ensures c.types.ensures c.in_ok-arity.ensures c.in_ok-args.ensures in
+    let own = c.in_ok-own.ensures ∙ (λ i. take (h.size i) (c.as_slice.ensures i)) in
+    let fields = subst (λ n. (z : RawVariant) → slice_get g.scope.facts.variants c.args.variant.0 ≡ Some z → c.in_ok-fields.fields ≡ map (field_at (variant_types g.scope.facts.types n z) c.in_ok-args.args) z.fields) h.size c.in_ok-fields.ensures in
+    let parts : PartsCounted c.args.pat (length y.fields) c.args.parts new c.count_parts.new.context = subst (λ n. PartsCounted c.args.pat n c.args.parts new c.count_parts.new.context) c.len.ensures c.count_parts.ensures in
+    let typed = c.demand_pat_ty.new.context in
+    let demanded = c.in_ok-demand_pat_ty.ensures in
+    let last = c.read_pat.new.context in
+    let more : x.params < variant_arity g.scope.facts.types x.variant x.params = omega (arith, c.if-arity-params.false, h.many, h.size) in
+    let reads = subst (λ z. ReadsPat g c.args.pat.0 z last) c.write_pat_item.ensures c.in_ok-read_pat.ensures in
+    ctor_demanded g c.args.variant x y h.same c.in_ok-args.args old new h.fresh c.in_ok-own.own own c.args.pat c.args.parts c.in_ok-fields.fields c.args.expected c.count_parts.new.context typed last fields parts demanded (item_read g c.args.variant x y h.same c.in_ok-args.args old new h.fresh c.args.pat typed last more reads)

@@ -1,0 +1,6 @@
+use Rattle.infer_ctx.specs.Context.{given_of}
+use Rattle.infer_obligations.proofs.ReadNeeds.{FirstPatsRead}
+use Rattle.infer_obligations.proofs.read.read_pats.Given as goal
+
+abbrev pub invariant-loop-at : goal.invariant-loop-at
+invariant-loop-at l = FirstPatsRead (given_of l.given) l.at l.initial.context l.context
