@@ -2,7 +2,8 @@
 use Rattle.std.specs.Prelude.{◌≡◌, ◌⊎◌, ◌+◌, ◌++◌, ℕ, List, [], ◌∷◌, length, map, slice_get, Option, Some}
 use Rattle.std.proofs.Common.{inl, inr, refl, sym, ap, ◌∙◌, subst, arith, append-nil, length-append}
 use Rattle.std.proofs.lemmas.List.{map-append}
-use Rattle.hir_types.specs.declared.ids.ExprId.{ExprId}
+use Rattle.hir_types.specs.declared.ids.ExprOrPatId.{ExprOrPatId}
+use Rattle.hir_types.specs.declared.ids.ExprOrPatId.TheVariants as node
 use Rattle.hir_types.specs.declared.ids.TypeAliasId.{TypeAliasId}
 use Rattle.hir_types.specs.declared.goal.Goal.{Goal}
 use Rattle.hir_types.specs.declared.goal.Goal.TheVariants as goal
@@ -28,22 +29,22 @@ use Rattle.goal_prove.specs.Entries.{AddsProofs}
 use Rattle.infer_result.specs.declared.gaps.Gap.{Gap}
 use Rattle.infer_result.specs.declared.result.InferenceResult.{InferenceResult}
 use Rattle.infer_result.specs.Projections.{IsListedAs, HasEntry, IsAboutAlias, NoneIsLeft}
-use Rattle.infer_result.specs.Needs.{HoldsUnknown, Saying, clashes, gap_says, needs_of, needs_at}
+use Rattle.infer_result.specs.Needs.{HoldsUnknown, Saying, clashes, gap_says, needs_of, needs_at, pat_needs_at}
 use Rattle.infer_result.specs.Table.{recorded}
 use Rattle.infer_result.specs.Closed.{AllTypes}
 use Rattle.infer_needs.specs.Listed.{FindsIn}
 use Rattle.infer_needs.specs.Left.{Lists}
-use Rattle.infer_needs.specs.Judged.{IsProvable, AreProvable, unproved, clash, IsAmong, IsSaidOnce, IsSaidIfKnown, SaysAlias, IsNoted, HasProofOf, IsSaid, IsSaidClash, IsDone, IsJudged, IsEntry, AddsEntries, IsOfFailing, IsOfClash, AreDone, AreJudged, AreAllJudged}
+use Rattle.infer_needs.specs.Judged.{IsProvable, AreProvable, unproved, clash, IsAmong, IsSaidOnce, IsSaidIfKnown, SaysAlias, IsNoted, HasProofOf, IsSaid, IsSaidClash, IsDone, IsJudged, IsEntry, AddsEntries, IsOfFailing, IsOfClash, AreDone, AreJudged, AreAllJudged, ArePatsJudged}
 use Rattle.infer_needs.proofs.Adding.{adds_none, adds_then, front_get, has_later, listed_later, entry_later, entries_later, lists_none, lists_then}
 use Rattle.infer_needs.proofs.Leaving.{table_later}
 
 -- ---- what stays so
 
-clash_later : (e : ExprId) (gs hs : List Gap) (a : Asked) → IsFront gs hs → IsSaidClash e gs a → IsSaidClash e hs a
+clash_later : (e : ExprOrPatId) (gs hs : List Gap) (a : Asked) → IsFront gs hs → IsSaidClash e gs a → IsSaidClash e hs a
 clash_later e gs hs a p h = (h.0, h.1, h.2, h.3, h.4, front_get gs hs p h.0 (clash e (ty.Projection h.1 h.2) h.3 h.4) h.5, h.6)
 
 -- what became of a goal
-done_later : (e : ExprId) (ps qs : List Proof) (js ks : List (Ty × Ty)) (gs hs : List Gap) (a : Asked) → IsFront ps qs → IsFront js ks → IsFront gs hs → IsDone e ps js gs a → IsDone e qs ks hs a
+done_later : (e : ExprOrPatId) (ps qs : List Proof) (js ks : List (Ty × Ty)) (gs hs : List Gap) (a : Asked) → IsFront ps qs → IsFront js ks → IsFront gs hs → IsDone e ps js gs a → IsDone e qs ks hs a
 done_later e ps qs js ks gs hs a p l g (inl h) =
     inl (has_later ps qs a p h.0, λ about. elim (h.1 about) [ inl k ↦ inl (entry_later js ks a l k) | inr k ↦ inr (clash_later e gs hs a g k) ])
 done_later e ps qs js ks gs hs a p l g (inr (inl h)) = inr (inl (h.0, h.1, front_get gs hs g h.0 (unproved e h.1) h.2, h.3))
@@ -52,11 +53,11 @@ done_later e ps qs js ks gs hs a p l g (inr (inr h)) = inr (inr h)
 -- ---- one goal
 
 -- of this goal, which fails
-abbrev FailsNow : System → ℕ → ExprId → Goal → Gap → Type 0
+abbrev FailsNow : System → ℕ → ExprOrPatId → Goal → Gap → Type 0
 FailsNow f n e q x = (x ≡ unproved e q) × (HoldsUnknown (asked_goal q).parts → ⊥) × ((answers f n).Yes (asked_goal q) → ⊥)
 
 -- of this goal, which has a proof, and asks an associated type to be another type than is listed
-record ClashesNow (e : ExprId) (q : Goal) (qs : List Proof) (ks : List (Ty × Ty)) (x : Gap) : Type 0 where
+record ClashesNow (e : ExprOrPatId) (q : Goal) (qs : List Proof) (ks : List (Ty × Ty)) (x : Gap) : Type 0 where
   alias : TypeAliasId
   args : List GenericArg
   first : Ty
@@ -67,31 +68,31 @@ record ClashesNow (e : ExprId) (q : Goal) (qs : List Proof) (ks : List (Ty × Ty
   proved : HasProofOf qs (asked_goal (goal.Projection alias args second))
   differ : Same first second → ⊥
 
-abbrev IsTrueNow : System → ℕ → ExprId → Goal → List Proof → List (Ty × Ty) → Gap → Type 0
+abbrev IsTrueNow : System → ℕ → ExprOrPatId → Goal → List Proof → List (Ty × Ty) → Gap → Type 0
 IsTrueNow f n e q qs ks x = FailsNow f n e q x ⊎ ClashesNow e q qs ks x
 
 -- no more is said, or what is so, and of which nothing was said
-abbrev Says : System → ℕ → ExprId → Goal → List Proof → List (Ty × Ty) → List Gap → List Gap → Type 0
+abbrev Says : System → ℕ → ExprOrPatId → Goal → List Proof → List (Ty × Ty) → List Gap → List Gap → Type 0
 Says f n e q qs ks gs hs = (hs ≡ gs) ⊎ ((x : Gap) × (hs ≡ gs ++ x ∷ []) × IsTrueNow f n e q qs ks x × (IsAmong gs (gap_says x) → ⊥))
 
--- what is said at the expression
-abbrev IsAt : ExprId → Gap → Type 0
+-- what is said at the node
+abbrev IsAt : ExprOrPatId → Gap → Type 0
 IsAt e x = ((q : Goal) × (x ≡ unproved e q)) ⊎ ((a : Ty) × (t : Ty) × (u : Ty) × (x ≡ clash e a t u))
 
-abbrev AreAt : ExprId → List Gap → Type 0
+abbrev AreAt : ExprOrPatId → List Gap → Type 0
 AreAt e gs = (k : ℕ) (x : Gap) → slice_get gs k ≡ Some x → IsAt e x
 
-said_by : (e : ExprId) (gs : List Gap) (q : Goal) (k : ℕ) (x : Gap) → slice_get gs k ≡ Some x → gap_says x ≡ gap_says (unproved e q) → IsAt e x → IsSaid e gs (asked_goal q)
+said_by : (e : ExprOrPatId) (gs : List Gap) (q : Goal) (k : ℕ) (x : Gap) → slice_get gs k ≡ Some x → gap_says x ≡ gap_says (unproved e q) → IsAt e x → IsSaid e gs (asked_goal q)
 said_by e gs q k x at says (inl h) =
     let same : gap_says (unproved e h.0) ≡ gap_says (unproved e q) = ap gap_says (sym h.1) ∙ says in
     (k, h.0, at ∙ ap Some h.1, cc)
 said_by e gs q k x at says (inr h) = (let other : gap_says (clash e h.0 h.1 h.2) ≡ gap_says (unproved e q) = ap gap_says (sym h.3) ∙ says in cc)
 
-among_said : (e : ExprId) (gs : List Gap) (q : Goal) → AreAt e gs → IsAmong gs (gap_says (unproved e q)) → IsSaid e gs (asked_goal q)
+among_said : (e : ExprOrPatId) (gs : List Gap) (q : Goal) → AreAt e gs → IsAmong gs (gap_says (unproved e q)) → IsSaid e gs (asked_goal q)
 among_said e gs q here h = said_by e gs q h.0 h.1 h.2 h.3 (here h.0 h.1 h.2)
 
 -- the same of an associated type
-module _ (e : ExprId) (gs : List Gap) (k : TypeAliasId) (xs : List GenericArg) (t u : Ty) where
+module _ (e : ExprOrPatId) (gs : List Gap) (k : TypeAliasId) (xs : List GenericArg) (t u : Ty) where
   abbrev said : Saying
   said = gap_says (clash e (ty.Projection k xs) t u)
 
@@ -108,7 +109,7 @@ module _ (e : ExprId) (gs : List Gap) (k : TypeAliasId) (xs : List GenericArg) (
   clash_said hs here (inr h) =
       (length gs, k, xs, t, u, subst (λ zs. slice_get zs (length gs) ≡ Some (clash e (ty.Projection k xs) t u)) (sym h.0) (get_last gs (clash e (ty.Projection k xs) t u)), refl)
 
-module _ (raw : RawFacts) (f : System) (e : ExprId) (q : Goal) (ps qs : List Proof) (js ks : List (Ty × Ty)) (gs hs : List Gap) where
+module _ (raw : RawFacts) (f : System) (e : ExprOrPatId) (q : Goal) (ps qs : List Proof) (js ks : List (Ty × Ty)) (gs hs : List Gap) where
   abbrev deep : ℕ
   deep = raw.limits.goal_depth
 
@@ -213,12 +214,12 @@ module _ (raw : RawFacts) (f : System) (e : ExprId) (q : Goal) (ps qs : List Pro
   judged_done here (inl h) = inl (h.has, noted_done here h.noted)
   judged_done here (inr h) = said_done here h.said
 
-says_front : (f : System) (n : ℕ) (e : ExprId) (q : Goal) (qs : List Proof) (ks : List (Ty × Ty)) (gs hs : List Gap) → Says f n e q qs ks gs hs → IsFront gs hs
+says_front : (f : System) (n : ℕ) (e : ExprOrPatId) (q : Goal) (qs : List Proof) (ks : List (Ty × Ty)) (gs hs : List Gap) → Says f n e q qs ks gs hs → IsFront gs hs
 says_front f n e q qs ks gs hs (inl h) = subst (IsFront gs) (sym h) (front_itself gs)
 says_front f n e q qs ks gs hs (inr h) = (h.0 ∷ [], h.1)
 
 -- where its answer isn't Yes
-pub refused : (raw : RawFacts) (f : System) (e : ExprId) (q : Goal) (ps : List Proof) (js : List (Ty × Ty)) (gs hs : List Gap) → ((answers f raw.limits.goal_depth).Yes (asked_goal q) → ⊥) → IsSaidIfKnown e q gs hs
+pub refused : (raw : RawFacts) (f : System) (e : ExprOrPatId) (q : Goal) (ps : List Proof) (js : List (Ty × Ty)) (gs hs : List Gap) → ((answers f raw.limits.goal_depth).Yes (asked_goal q) → ⊥) → IsSaidIfKnown e q gs hs
     → IsJudged raw f e q ps ps js js gs hs
 refused raw f e q ps js gs hs fails said = inr (record { proofs = refl; listed = refl; fails = fails; said = said })
 
@@ -226,16 +227,16 @@ pub not_yes : (f : System) (n : ℕ) (a : Asked) (x : Answer) → (x ≡ answer.
 not_yes f n a x (inl e) is holds = (answers_are_one f n n).0 a holds (subst (IsAnswer f n a) e is)
 not_yes f n a x (inr e) is holds = (subst (IsAnswer f n a) e is).0 holds
 
--- ---- the goals of an expression
+-- ---- the goals of a node
 
-pub judged_none : (raw : RawFacts) (f : System) (e : ExprId) (ps : List Proof) (js : List (Ty × Ty)) → AreJudged raw f e [] ps ps js js []
+pub judged_none : (raw : RawFacts) (f : System) (e : ExprOrPatId) (ps : List Proof) (js : List (Ty × Ty)) → AreJudged raw f e [] ps ps js js []
 judged_none raw f e ps js = record {
   adds = adds_none raw f ps;
   lists = lists_none ps ps js (front_itself ps);
   done = record { each = λ k a at. cc; gaps = λ k x at. cc; once = λ j k x y at there e. cc };
 }
 
-module _ (raw : RawFacts) (f : System) (e : ExprId) (xs : List Asked) (q : Goal) (ps qs rs : List Proof) (js ks ls : List (Ty × Ty)) (gs hs : List Gap)
+module _ (raw : RawFacts) (f : System) (e : ExprOrPatId) (xs : List Asked) (q : Goal) (ps qs rs : List Proof) (js ks ls : List (Ty × Ty)) (gs hs : List Gap)
     (before : AreJudged raw f e xs ps qs js ks gs) (now : IsJudged raw f e q qs rs ks ls gs hs) where
   abbrev n : ℕ
   n = raw.limits.goal_depth
@@ -334,8 +335,8 @@ module _ (raw : RawFacts) (f : System) (e : ExprId) (xs : List Asked) (q : Goal)
 -- ---- at a place
 
 pub judged_here : (raw : RawFacts) (f : System) (b : RawBody) (r : InferenceResult) (n : ℕ) (x : RawExpr) (ps qs : List Proof) (js ks : List (Ty × Ty)) (gs : List Gap) → slice_get b.exprs n ≡ Some x
-    → AreJudged raw f (record { 0 = n }) (needs_of raw (Some x) (recorded r.type_of_expr n)) ps qs js ks gs → AreJudged raw f (record { 0 = n }) (needs_at raw b r n) ps qs js ks gs
-judged_here raw f b r n x ps qs js ks gs at h = subst (λ (o : Option RawExpr). AreJudged raw f (record { 0 = n }) (needs_of raw o (recorded r.type_of_expr n)) ps qs js ks gs) (sym at) h
+    → AreJudged raw f (node.ExprId (record { 0 = n })) (needs_of raw (Some x) (recorded r.type_of_expr n)) ps qs js ks gs → AreJudged raw f (node.ExprId (record { 0 = n })) (needs_at raw b r n) ps qs js ks gs
+judged_here raw f b r n x ps qs js ks gs at h = subst (λ (o : Option RawExpr). AreJudged raw f (node.ExprId (record { 0 = n })) (needs_of raw o (recorded r.type_of_expr n)) ps qs js ks gs) (sym at) h
 
 -- ---- goals of an iterator
 
@@ -354,9 +355,9 @@ all_asked xs ys rest gs is whole none = ap (λ zs. map asked_goal zs) (sym (appe
 pub asked_more : (ys : List Goal) (x : Goal) → map asked_goal ys ++ asked_goal x ∷ [] ≡ map asked_goal (ys ++ x ∷ [])
 asked_more ys x = sym (map-append asked_goal ys (x ∷ []))
 
--- ---- the expressions of a body
+-- ---- the nodes of a body
 
-done_still : (f : System) (n : ℕ) (e : ExprId) (xs : List Asked) (ps qs : List Proof) (js ks : List (Ty × Ty)) (gs : List Gap) → IsFront ps qs → IsFront js ks → AreDone f n e xs ps js gs → AreDone f n e xs qs ks gs
+pub done_still : (f : System) (n : ℕ) (e : ExprOrPatId) (xs : List Asked) (ps qs : List Proof) (js ks : List (Ty × Ty)) (gs : List Gap) → IsFront ps qs → IsFront js ks → AreDone f n e xs ps js gs → AreDone f n e xs qs ks gs
 done_still f n e xs ps qs js ks gs p l h = record {
   each = λ k a at. done_later e ps qs js ks gs gs a p l (front_itself gs) (h.each k a at);
   gaps = λ k x at. elim (h.gaps k x at) [
@@ -377,6 +378,20 @@ done_still f n e xs ps qs js ks gs p l h = record {
   once = h.once;
 }
 
+-- the gaps of each of the first nodes, and those of one more
+module _ (f : System) (depth : ℕ) (at_place : ℕ → ExprOrPatId) (needs : ℕ → List Asked) (ps qs : List Proof) (js ks : List (Ty × Ty)) (gss : List (List Gap)) (gs : List Gap) (n : ℕ) (long : length gss ≡ n) where
+  abbrev AllDone : List Proof → List (Ty × Ty) → List (List Gap) → Type 0
+  AllDone ds es hss = (k : ℕ) (hs : List Gap) → slice_get hss k ≡ Some hs → AreDone f depth (at_place k) (needs k) ds es hs
+
+  each_more : IsFront ps qs → IsFront js ks → AllDone ps js gss → AreDone f depth (at_place n) (needs n) qs ks gs → AllDone qs ks (gss ++ gs ∷ [])
+  each_more proofs entries before now k hs at = elim (get_more gss gs k hs at) [
+    | inl h ↦ done_still f depth (at_place k) (needs k) ps qs js ks hs proofs entries (before k hs h)
+    | inr h ↦ subst (AreDone f depth (at_place k) (needs k) qs ks) h.1 (subst (λ j. AreDone f depth (at_place j) (needs j) qs ks gs) (sym (h.0 ∙ long)) now)
+  ]
+
+  one_longer : length (gss ++ gs ∷ []) ≡ n + 1
+  one_longer = let l : length (gss ++ gs ∷ []) ≡ length gss + 1 = length-append gss (gs ∷ []) in omega (arith, l, long)
+
 pub all_none : (raw : RawFacts) (f : System) (b : RawBody) (r : InferenceResult) (ps : List Proof) (js : List (Ty × Ty)) → Lists raw f (λ ks. AllTypes (NoneIsLeft f raw.limits.goal_depth ks) r) [] ps [] js → AreAllJudged raw f b r 0 ps js []
 all_none raw f b r ps js h = record {
   adds = h.adds.adds;
@@ -387,21 +402,31 @@ all_none raw f b r ps js h = record {
 }
 
 module _ (raw : RawFacts) (f : System) (b : RawBody) (r : InferenceResult) (n : ℕ) (ps qs : List Proof) (js ks : List (Ty × Ty)) (gss : List (List Gap)) (gs : List Gap)
-    (before : AreAllJudged raw f b r n ps js gss) (now : AreJudged raw f (record { 0 = n }) (needs_at raw b r n) ps qs js ks gs) where
-  abbrev Done : ℕ → List Gap → Type 0
-  Done k hs = AreDone f raw.limits.goal_depth (record { 0 = k }) (needs_at raw b r k) qs ks hs
-
-  each_more : (k : ℕ) (hs : List Gap) → slice_get (gss ++ gs ∷ []) k ≡ Some hs → Done k hs
-  each_more k hs at = elim (get_more gss gs k hs at) [
-    | inl h ↦ done_still f raw.limits.goal_depth (record { 0 = k }) (needs_at raw b r k) ps qs js ks hs now.adds.behind now.lists.behind (before.each k hs h)
-    | inr h ↦ subst (Done k) h.1 (subst (λ j. Done j gs) (sym (h.0 ∙ before.long)) now.done)
-  ]
-
+    (before : AreAllJudged raw f b r n ps js gss) (now : AreJudged raw f (node.ExprId (record { 0 = n })) (needs_at raw b r n) ps qs js ks gs) where
   pub all_more : AreAllJudged raw f b r (n + 1) qs ks (gss ++ gs ∷ [])
-  all_more = record {
-    adds = adds_then raw f [] ps qs before.adds now.adds;
-    entries = now.lists.right before.entries;
-    left = table_later f raw.limits.goal_depth js ks now.lists.behind r before.left;
-    long = (let l : length (gss ++ gs ∷ []) ≡ length gss + 1 = length-append gss (gs ∷ []) in let m = before.long in omega (arith, l, m));
-    each = each_more;
-  }
+  all_more =
+      let at_place : ℕ → ExprOrPatId = λ k. node.ExprId (record { 0 = k }) in
+      record {
+        adds = adds_then raw f [] ps qs before.adds now.adds;
+        entries = now.lists.right before.entries;
+        left = table_later f raw.limits.goal_depth js ks now.lists.behind r before.left;
+        long = one_longer f raw.limits.goal_depth at_place (needs_at raw b r) ps qs js ks gss gs n before.long;
+        each = each_more f raw.limits.goal_depth at_place (needs_at raw b r) ps qs js ks gss gs n before.long now.adds.behind now.lists.behind before.each now.done;
+      }
+
+-- the patterns come behind
+
+pub pats_none : (raw : RawFacts) (f : System) (r : InferenceResult) (ps : List Proof) (js : List (Ty × Ty)) → ArePatsJudged raw f r 0 ps ps js js []
+pats_none raw f r ps js = record { adds = adds_none raw f ps; lists = lists_none ps ps js (front_itself ps); long = refl; each = λ k gs at. cc }
+
+module _ (raw : RawFacts) (f : System) (r : InferenceResult) (n : ℕ) (ps qs rs : List Proof) (js ks ls : List (Ty × Ty)) (gss : List (List Gap)) (gs : List Gap)
+    (before : ArePatsJudged raw f r n ps qs js ks gss) (now : AreJudged raw f (node.PatId (record { 0 = n })) (pat_needs_at raw r n) qs rs ks ls gs) where
+  pub pats_more : ArePatsJudged raw f r (n + 1) ps rs js ls (gss ++ gs ∷ [])
+  pats_more =
+      let at_place : ℕ → ExprOrPatId = λ k. node.PatId (record { 0 = k }) in
+      record {
+        adds = adds_then raw f ps qs rs before.adds now.adds;
+        lists = lists_then ps qs rs js ks ls before.lists now.lists;
+        long = one_longer f raw.limits.goal_depth at_place (pat_needs_at raw r) qs rs ks ls gss gs n before.long;
+        each = each_more f raw.limits.goal_depth at_place (pat_needs_at raw r) qs rs ks ls gss gs n before.long now.adds.behind now.lists.behind before.each now.done;
+      }

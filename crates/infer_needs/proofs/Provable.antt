@@ -1,14 +1,18 @@
--- Goals that paths need are without holes, and so are the types of a table.
+-- Goals that nodes need are without holes, and so are the types of a table.
 use Rattle.std.specs.Prelude.{◌≡◌, ℕ, suc, List, [], ◌∷◌, length, map, slice_get, Option, Some, None, refl, true}
 use Rattle.std.specs.Option.{option_and_then}
-use Rattle.std.proofs.Common.{sym, ap, subst}
+use Rattle.std.proofs.Common.{sym, ap, ◌∙◌, subst}
+use Rattle.std.proofs.lemmas.Option.{same_Some}
 use Rattle.hir_types.specs.declared.ids.DefWithBodyId.{DefWithBodyId}
 use Rattle.hir_types.specs.declared.ids.TypeRefId.{TypeRefId}
 use Rattle.hir_types.specs.declared.ty.IntegerTy.TheVariants.{Int, Uint}
+use Rattle.hir_types.specs.declared.ty.AliasBound.{AliasBound}
 use Rattle.hir_types.specs.declared.ty.GenericArg.{GenericArg}
-use Rattle.hir_types.specs.declared.ty.Ty.{Ty, out-Ty}
+use Rattle.hir_types.specs.declared.ty.TraitRef.{TraitRef}
+use Rattle.hir_types.specs.declared.ty.Ty.{Ty, Ty-F, out-Ty}
 use Rattle.hir_types.specs.Assigned.{with_params}
 use Rattle.hir_types.specs.Terms.{Term, chain, type_part, term}
+use Rattle.hir_raw.specs.declared.raw.RawBody.{RawBody}
 use Rattle.hir_raw.specs.declared.raw.RawExpr.{RawExpr}
 use Rattle.hir_raw.specs.declared.raw.RawExpr.TheVariants as expr
 use Rattle.hir_raw.specs.declared.raw.RawFn.{RawFn}
@@ -18,12 +22,14 @@ use Rattle.hir_raw.specs.declared.raw.RawPath.{RawPath}
 use Rattle.hir_raw.specs.declared.raw.RawPath.TheVariants as path
 use Rattle.hir_raw.specs.declared.raw.RawType.{RawType}
 use Rattle.hir_raw.specs.declared.raw.RawType.TheVariants as type
+use Rattle.hir_raw.specs.declared.raw.RawVariant.{RawVariant}
 use Rattle.hir_raw.specs.declared.raw.RawFacts.{RawFacts}
+use Rattle.hir_laws.specs.Bodies.{body_of}
 use Rattle.hir_raw.specs.Goals.{arg_types}
-use Rattle.hir_raw.specs.Hidden.{fn_aliases}
+use Rattle.hir_raw.specs.Hidden.{fn_aliases, variant_aliases}
 use Rattle.hir_types.specs.Erasure.{IsClosed}
 use Rattle.hir_raw.specs.Fit.{ty_fits}
-use Rattle.hir_raw.specs.Scope.{scope_of}
+use Rattle.hir_raw.specs.Scope.{scope_of, adt_params, count_or_none}
 use Rattle.goal_answers.specs.Reading.{IsRead}
 use Rattle.infer_result.specs.Closed.{AllTypes}
 use Rattle.infer_needs.specs.Left.{IsFinalType}
@@ -32,8 +38,8 @@ use Rattle.goal_facts.proofs.Systems.{each_append}
 use Rattle.goal_prove.specs.Written.{IsWritten}
 use Rattle.goal_facts.proofs.Written.{parts_by, layer, by_layers, args_are}
 use Rattle.infer_result.specs.declared.result.InferenceResult.{InferenceResult}
-use Rattle.infer_result.specs.AliasNeeds.{alias_goals_by, alias_goals_from, fn_alias_goals, path_alias_goals, alias_goals}
-use Rattle.infer_result.specs.Needs.{expr_preds, item_args, needed_goals, needs_of}
+use Rattle.infer_result.specs.AliasNeeds.{alias_goals_by, alias_goals_from, fn_alias_goals, variant_alias_goals, path_alias_goals, alias_goals}
+use Rattle.infer_result.specs.Needs.{expr_preds, item_args, item_path, needed_goals, needs_of, pat_needs_by, pat_needs_of, pat_needs_at}
 use Rattle.infer_result.specs.Table.{recorded}
 use Rattle.infer_result.specs.Typed.{IsTableOf}
 use Rattle.infer_needs.specs.Judged.{IsProvable, AreProvable}
@@ -92,10 +98,14 @@ module _ (raw : RawFacts) (xs : List GenericArg) (args : AreClosed xs) where
   fn_provable None = tt
   fn_provable (Some f) = aliases_provable (length f.params) (fn_aliases raw.types f)
 
+  variant_provable : (o : Option RawVariant) → AreProvable (variant_alias_goals raw xs o)
+  variant_provable None = tt
+  variant_provable (Some x) = aliases_provable (count_or_none (adt_params raw x.adt)) (variant_aliases raw.types x)
+
   path_provable : (p : RawPath) → AreProvable (path_alias_goals raw xs p)
   path_provable (path.Function f) = fn_provable (slice_get raw.fns f.0)
   path_provable (path.Local v) = tt
-  path_provable (path.Ctor v) = tt
+  path_provable (path.Ctor v) = variant_provable (slice_get raw.variants v.0)
   path_provable path.Other = tt
 
   alias_needs_provable : (x : RawExpr) → AreProvable (alias_goals raw xs x)
@@ -108,7 +118,12 @@ expr_provable raw x t closed =
     let args = item_closed t closed in
     each_append IsProvable (map (goal_at raw xs) (expr_preds raw x)) (alias_goals raw xs x) (goals_provable raw xs args (expr_preds raw x)) (alias_needs_provable raw xs args x)
 
--- ---- what the expressions of a body need
+-- of a pattern's item
+item_provable : (raw : RawFacts) (y : Ty-F GenericArg Ty AliasBound TraitRef) → AreClosed (item_args y) → AreProvable (pat_needs_by raw y)
+item_provable raw (Ty-F.FnDef id xs) args = path_provable raw xs args (item_path id)
+item_provable raw _ args = tt
+
+-- ---- what the nodes of a body need
 
 recorded_at : (o : Option (Option Ty)) (t : Ty) → option_and_then (λ x. x) o ≡ Some t → o ≡ Some (Some t)
 recorded_at None t e = cc
@@ -126,6 +141,16 @@ module _ (raw : RawFacts) (d : DefWithBodyId) (r : InferenceResult) (is : IsTabl
   -- each goal can be proved
   pub needs_provable : (k : ℕ) (x : RawExpr) → AreProvable (needs_of raw (Some x) (recorded r.type_of_expr k))
   needs_provable k x = of_type k x (recorded r.type_of_expr k) refl
+
+  item_is_closed : (k : ℕ) (t : Ty) → slice_get r.item_of_pat k ≡ Some (Some t) → IsWritten (term t)
+  item_is_closed k t at = type_closed (scope_of raw d) t (is.typed.shape.closed.items k t at) (is.fit.items k t at)
+
+  of_item : (k : ℕ) (o : Option Ty) → recorded r.item_of_pat k ≡ o → AreProvable (pat_needs_of raw o)
+  of_item k None at = tt
+  of_item k (Some t) at = item_provable raw (out-Ty t) (item_closed t (item_is_closed k t (recorded_at (slice_get r.item_of_pat k) t at)))
+
+  pub pat_needs_provable : (k : ℕ) → AreProvable (pat_needs_at raw r k)
+  pat_needs_provable k = of_item k (recorded r.item_of_pat k) refl
 
   is_final : (t : Ty) → IsClosed t → ty_fits (scope_of raw d) t ≡ true → IsRead (term t) → IsFinalType t
   is_final t closed fits read = record { read = read; written = type_closed (scope_of raw d) t closed fits }
@@ -146,3 +171,7 @@ module _ (raw : RawFacts) (d : DefWithBodyId) (r : InferenceResult) (is : IsTabl
         pat_actual = λ k x at. is_final x.actual (closed.pat_actual k x at) (is.fit.pat_actual k x at) (is.read.pat_actual k x at);
         found = λ k e t at. is_final t (closed.found k e t at) (is.fit.found k e t at) (is.read.found k e t at);
       }
+
+-- a table has as many places for items of patterns as its body has patterns
+pub as_many_items : (raw : RawFacts) (d : DefWithBodyId) (r : InferenceResult) (b : RawBody) → IsTableOf raw d r → body_of raw d ≡ Some b → length r.item_of_pat ≡ length b.pats
+as_many_items raw d r b h is = h.typed.shape.of_body.items ∙ ap (λ (x : RawBody). length x.pats) (same_Some h.body b (sym h.is_body ∙ is))

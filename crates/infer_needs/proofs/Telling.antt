@@ -1,5 +1,5 @@
 -- What is told after one another.
-use Rattle.std.specs.Prelude.{◌≡◌, ◌+◌, ◌++◌, ℕ, zero, suc, List, [], ◌∷◌, slice_get, Option, Some, refl}
+use Rattle.std.specs.Prelude.{◌≡◌, ◌+◌, ◌++◌, ℕ, zero, suc, List, [], ◌∷◌, length, slice_get, Option, Some, refl}
 use Rattle.std.proofs.Common.{sym, ap, ◌∙◌, subst, arith, append_assoc, append-nil}
 use Rattle.hir_types.specs.declared.goal.Goal.{Goal}
 use Rattle.hir_types.specs.declared.ty.Ty.{Ty}
@@ -12,9 +12,9 @@ use Rattle.goal_facts.specs.Goals.{asked_goal, IsAnswer}
 use Rattle.goal_facts.specs.declared.proof.Proof.{Proof}
 use Rattle.infer_result.specs.declared.gaps.Gap.{Gap}
 use Rattle.infer_result.specs.declared.result.InferenceResult.{InferenceResult}
-use Rattle.infer_result.specs.Needs.{with_goals, needs_of, needs_at}
+use Rattle.infer_result.specs.Needs.{with_goals, needs_of, needs_at, pat_needs_at}
 use Rattle.infer_result.specs.Table.{recorded}
-use Rattle.infer_needs.specs.Told.{first_needs, AreAnswered, ListsAnswers}
+use Rattle.infer_needs.specs.Told.{first_needs, first_pat_needs, all_needs, AreAnswered, ListsAnswers}
 
 answered_both : (f : System) (n : ℕ) (xs bs : List Asked) (ts us : List (Goal × Answer)) → AreAnswered f n xs ts → AreAnswered f n bs us → AreAnswered f n (xs ++ bs) (ts ++ us)
 answered_both f n [] bs [] us h k = k
@@ -47,7 +47,22 @@ tells_here f n raw b r k x ts us at h = subst (λ (o : Option RawExpr). ListsAns
 pub first_more : (raw : RawFacts) (b : RawBody) (r : InferenceResult) (n : ℕ) → first_needs raw b r n ++ needs_at raw b r n ≡ first_needs raw b r (n + 1)
 first_more raw b r n = let e : suc n ≡ n + 1 = omega arith in ap (first_needs raw b r) e
 
+-- of one more pattern
+pub first_pat_more : (raw : RawFacts) (r : InferenceResult) (n : ℕ) → first_pat_needs raw r n ++ pat_needs_at raw r n ≡ first_pat_needs raw r (n + 1)
+first_pat_more raw r n = let e : suc n ≡ n + 1 = omega arith in ap (first_pat_needs raw r) e
+
 -- proofs, what associated types were found to be and what could not be shown are no matter
-pub needs_stay : (raw : RawFacts) (b : RawBody) (r : InferenceResult) (ps : List Proof) (js : List (Ty × Ty)) (gs : List (List Gap)) (n : ℕ) → first_needs raw b (with_goals ps js gs r) n ≡ first_needs raw b r n
-needs_stay raw b r ps js gs zero = refl
-needs_stay raw b r ps js gs (suc n) = ap (λ (xs : List Asked). xs ++ needs_at raw b r n) (needs_stay raw b r ps js gs n)
+module _ (raw : RawFacts) (b : RawBody) (r : InferenceResult) (ps : List Proof) (js : List (Ty × Ty)) (gs hs : List (List Gap)) where
+  abbrev after : InferenceResult
+  after = with_goals ps js gs hs r
+
+  exprs_stay : (n : ℕ) → first_needs raw b after n ≡ first_needs raw b r n
+  exprs_stay zero = refl
+  exprs_stay (suc n) = ap (λ (xs : List Asked). xs ++ needs_at raw b r n) (exprs_stay n)
+
+  pats_stay : (n : ℕ) → first_pat_needs raw after n ≡ first_pat_needs raw r n
+  pats_stay zero = refl
+  pats_stay (suc n) = ap (λ (xs : List Asked). xs ++ pat_needs_at raw r n) (pats_stay n)
+
+  pub needs_stay : all_needs raw b after ≡ all_needs raw b r
+  needs_stay = λ i. exprs_stay (length b.exprs) i ++ pats_stay (length b.pats) i

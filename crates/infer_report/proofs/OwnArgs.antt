@@ -1,4 +1,4 @@
--- The arguments of a function that are its own, written.
+-- The arguments of a function or of a constructor that are its own, written.
 use Rattle.std.proofs.Common.{◌≡◌, ◌∙◌, ◌++◌, ◌<◌, ◌≤◌, List, [], ◌∷◌, map, length, take, ℕ, zero, suc, refl, ap, sym, subst, arith, codes, append_assoc, Option, Some, None, slice_get}
 use Rattle.std.proofs.lemmas.List.{length-map}
 use Rattle.hir_types.specs.declared.ids.CallableDefId.{CallableDefId}
@@ -6,7 +6,9 @@ use Rattle.hir_types.specs.declared.ids.CallableDefId.TheVariants as callable
 use Rattle.hir_types.specs.declared.ty.GenericArg.{GenericArg}
 use Rattle.hir_raw.specs.declared.raw.RawFacts.{RawFacts}
 use Rattle.hir_raw.specs.declared.raw.RawFn.{RawFn}
-use Rattle.infer_result.specs.Report.{arg_text, joined, args_text, fn_own_count, own_count, own_args}
+use Rattle.hir_raw.specs.declared.raw.RawVariant.{RawVariant}
+use Rattle.hir_raw.specs.Scope.{adt_params}
+use Rattle.infer_result.specs.Report.{arg_text, joined, args_text, fn_own_count, adt_own_count, variant_own_count, own_count, own_args}
 
 take_mapped : {A B : Type 0} (f : A → B) (n : ℕ) (xs : List A) → take n (map f xs) ≡ map f (take n xs)
 take_mapped f zero xs = refl
@@ -22,10 +24,18 @@ fn_own_within : (o : Option RawFn) (n : ℕ) → fn_own_count o n ≤ n
 fn_own_within None n = omega arith
 fn_own_within (Some f) n = omega arith
 
+adt_own_within : (o : Option ℕ) (n : ℕ) → adt_own_count o n ≤ n
+adt_own_within None n = omega arith
+adt_own_within (Some m) n = omega arith
+
+variant_own_within : (raw : RawFacts) (o : Option RawVariant) (n : ℕ) → variant_own_count raw o n ≤ n
+variant_own_within raw None n = omega arith
+variant_own_within raw (Some x) n = adt_own_within (adt_params raw x.adt) n
+
 -- no more than there are
 pub own_within : (raw : RawFacts) (i : CallableDefId) (n : ℕ) → own_count raw i n ≤ n
 own_within raw (callable.FunctionId f) n = fn_own_within (slice_get raw.fns f.0) n
-own_within raw (callable.VariantId v) n = omega arith
+own_within raw (callable.VariantId v) n = variant_own_within raw (slice_get raw.variants v.0) n
 
 none_of : (f : GenericArg → List ℕ) (n : ℕ) (xs : List GenericArg) → n ≡ 0 → args_text (map f (take n xs)) ≡ []
 none_of f n xs is = ap (λ k. args_text (map f (take k xs))) is

@@ -363,7 +363,7 @@ fn count_some<T>(entries: &[Option<T>]) -> usize
 
 fn count_gaps(lists: &[List<Gap>]) -> u128
     ensures value { result ≡ sum_by length lists.now }
-    ensures room { result + 2 ^ 64 ≤ 2 ^ 128 }
+    ensures room { result + 2 ^ 64 ≤ 2 ^ 127 }
 {
     let mut count = 0;
     for gaps in lists {
@@ -372,8 +372,8 @@ fn count_gaps(lists: &[List<Gap>]) -> u128
     count
 }
 
-/// How many complaints a table has. There is a list of gaps for each expression, so that `usize` would
-/// not do.
+/// How many complaints a table has. There is a list of gaps for each expression and for each pattern, so that
+/// `usize` would not do.
 pub fn count_complaints(table: &InferenceResult) -> u128
     ensures { result ≡ complaint_count table.now }
 {

@@ -16,6 +16,7 @@ pub mod WrongArgument
 pub mod WrongCount
 pub mod Constructors
 pub mod WrongFieldCount
+pub mod FieldAlias
 pub mod NoFunction
 pub mod UnmetBound
 pub mod Placeholder

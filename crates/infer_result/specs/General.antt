@@ -11,7 +11,7 @@ use Rattle.hir_types.specs.Types.{integer_type}
 use Rattle.hir_types.specs.Subst.{Assignment, folded}
 use Rattle.hir_raw.specs.declared.raw.RawBody.{RawBody}
 use Rattle.hir_raw.specs.declared.raw.RawFacts.{RawFacts}
-use Rattle.hir_facts.specs.Below.{body_of, IsPlainBodyOf, IsPlainIn}
+use Rattle.hir_facts.specs.Below.{body_of, IsPlainBodyOf, IsPlainIn, are_direct_structs}
 use Rattle.hir_raw.specs.Scope.{Scope, scope_of, adt_params, callable_params, has_params}
 use Rattle.hir_raw.specs.Signatures.{type_args}
 use Rattle.infer_result.specs.declared.result.General.{General}
@@ -89,13 +89,14 @@ closed_by a x r =
 
 -- These are types for the definition's body, with holes. Where open holes fall back to `i32` or `{unknown}`
 -- they are the table's, and where no complaint stands in that, each choice of plain types for the holes, of
--- integer types for integer holes, makes a derivation of it.
+-- integer types for integer holes, makes a derivation of it, in facts where no associated type stands in a
+-- field of a struct.
 pub record IsGeneralOf (raw : RawFacts) (d : DefWithBodyId) (r : InferenceResult) (x : General) : Type 0 where
   pub body : RawBody
   pub is_body : body_of raw d ≡ Some body
   pub types : IsGeneralFor (scope_of raw d) body x
   pub falls_back : HasTypesOf x fallback r
-  pub closings : HasNoComplaint r → (a : Assignment) → GivesPlain (scope_of raw d) a
+  pub closings : IsTrue (are_direct_structs raw) → HasNoComplaint r → (a : Assignment) → GivesPlain (scope_of raw d) a
       → IsDerivation raw d (closed_by a x r)
 
 -- the table has such types exactly where the body is plain

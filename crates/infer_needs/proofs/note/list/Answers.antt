@@ -13,4 +13,4 @@ returns c =
     let first = c.in-Some.first.now in
     let differ : Same first c.args.ty → ⊥ = λ same. true≢false (sym (c.in_ok-is_same_ty.ensures.1 (erased_tells first c.args.ty same)) ∙ c.if-branch.false) in
     on_ok_weaker c.say.result
-    (λ said. inr (refl, first, c.in-Some.ensures, inr (differ, subst (λ t. IsSaidOnce (clash c.args.expr c.args.alias t c.args.ty) c.args.gaps.now c.say.new.gaps) c.in_ok-first.ensures said))) c.say.ensures
+    (λ said. inr (refl, first, c.in-Some.ensures, inr (differ, subst (λ t. IsSaidOnce (clash c.args.node c.args.alias t c.args.ty) c.args.gaps.now c.say.new.gaps) c.in_ok-first.ensures said))) c.say.ensures

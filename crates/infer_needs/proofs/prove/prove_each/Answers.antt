@@ -4,12 +4,11 @@ use Rattle.std.proofs.lemmas.List.{nil_from_length}
 use Rattle.std.specs.Vec.Iter.{into_iter_items}
 use Rattle.goal_search.specs.Sources.{system}
 use Rattle.goal_facts.specs.Goals.{asked_goal}
-use Rattle.infer_result.specs.Needs.{needed_goals}
 use Rattle.infer_needs.specs.Judged.{AreJudged}
 use Rattle.infer_needs.specs.Told.{ListsAnswers}
 use Rattle.infer_needs.proofs.Telling.{tells_none, tells_both}
 use Rattle.infer_needs.proofs.Judging.{judged_none, judged_more, next_provable, all_asked, asked_more}
-use Rattle.infer_needs.proofs.prove.prove_expr.Goals as goal
+use Rattle.infer_needs.proofs.prove.prove_each.Goals as goal
 
 pub loop-goal-init : goal.loop-goal-init
 loop-goal-init c =
@@ -18,19 +17,17 @@ loop-goal-init c =
     record {
       items = refl;
       long = cc;
-      judged = rw c.new-gaps.ensures (judged_none raw f c.args.id c.args.proofs.now.items c.args.found.now);
+      judged = rw c.new-gaps.ensures (judged_none raw f c.args.node c.args.proofs.now.items c.args.found.now);
       told = tells_none f raw.limits.goal_depth c.args.told.now.items;
     }
 
 pub prove_need-requires : goal.prove_need-requires
 prove_need-requires c =
     let at = c.loop-goal in
-    let raw = c.args.sources.now.facts in
     let x = c.in-Some.goal in
-    let gs = c.in_ok-goal-items.goal-items.items in
-    let is : map asked_goal gs ≡ needed_goals raw c.args.expr.now c.args.ty.now = subst (λ r. map asked_goal gs ≡ needed_goals r c.args.expr.now c.args.ty.now) c.facts.ensures c.in_ok-goal-items.ensures in
+    let gs = c.args.needed.items in
     let whole = at.invariant.items ∙ c.into_iter-goal-iterator.ensures.into_iter_gives.0 in
-    next_provable (needed_goals raw c.args.expr.now c.args.ty.now) at.yielded (into_iter_items at.goal-iterator) (into_iter_items c.next.new.self) gs x c.requires is whole c.in-Some.ensures.steps.0
+    next_provable (map asked_goal gs) at.yielded (into_iter_items at.goal-iterator) (into_iter_items c.next.new.self) gs x c.requires refl whole c.in-Some.ensures.steps.0
 
 pub loop-goal-preserved : goal.loop-goal-preserved
 loop-goal-preserved c =
@@ -46,8 +43,8 @@ loop-goal-preserved c =
     record {
       items = append_assoc at.yielded (x ∷ []) _ ∙ rw (← steps) at.invariant.items;
       long = (let was = at.invariant.long in let gone = c.in-Some.ensures.steps.1 in let short = ap length steps in omega arith);
-      judged = subst (λ xs. AreJudged raw f c.args.id xs c.args.proofs.now.items new.proofs.items c.args.found.now new.found new.gaps) more
-          (judged_more raw f c.args.id (map asked_goal at.yielded) x c.args.proofs.now.items at.proofs.items new.proofs.items c.args.found.now at.found new.found at.gaps new.gaps at.invariant.judged done.judged);
+      judged = subst (λ xs. AreJudged raw f c.args.node xs c.args.proofs.now.items new.proofs.items c.args.found.now new.found new.gaps) more
+          (judged_more raw f c.args.node (map asked_goal at.yielded) x c.args.proofs.now.items at.proofs.items new.proofs.items c.args.found.now at.found new.found at.gaps new.gaps at.invariant.judged done.judged);
       told = subst (λ xs. ListsAnswers f n xs c.args.told.now.items new.told.items) more
           (tells_both f n (map asked_goal at.yielded) (asked_goal x ∷ []) c.args.told.now.items at.told.items new.told.items at.invariant.told done.told);
     }
@@ -56,22 +53,18 @@ pub returns-clause-judged : goal.returns-clause-judged
 returns-clause-judged c =
     let at = c.loop-goal in
     let raw = c.args.sources.now.facts in
-    let gs = c.in_ok-goal-items.goal-items.items in
-    let xs = needed_goals raw c.args.expr.now c.args.ty.now in
-    let is : map asked_goal gs ≡ xs = subst (λ r. map asked_goal gs ≡ needed_goals r c.args.expr.now c.args.ty.now) c.facts.ensures c.in_ok-goal-items.ensures in
+    let gs = c.args.needed.items in
     let whole = at.invariant.items ∙ c.into_iter-goal-iterator.ensures.into_iter_gives.0 in
     let empty : into_iter_items at.goal-iterator ≡ [] = nil_from_length _ (sym at.invariant.long ∙ c.in-None.ensures.steps.0) in
-    let all = all_asked xs at.yielded (into_iter_items at.goal-iterator) gs is whole empty in
-    subst (λ ys. AreJudged raw (system c.args.sources.now.sources) c.args.id ys c.args.proofs.now.items at.proofs.items c.args.found.now at.found at.gaps) all at.invariant.judged
+    let all = all_asked (map asked_goal gs) at.yielded (into_iter_items at.goal-iterator) gs refl whole empty in
+    subst (λ ys. AreJudged raw (system c.args.sources.now.sources) c.args.node ys c.args.proofs.now.items at.proofs.items c.args.found.now at.found at.gaps) all at.invariant.judged
 
 pub returns-clause-told : goal.returns-clause-told
 returns-clause-told c =
     let at = c.loop-goal in
     let raw = c.args.sources.now.facts in
-    let gs = c.in_ok-goal-items.goal-items.items in
-    let xs = needed_goals raw c.args.expr.now c.args.ty.now in
-    let is : map asked_goal gs ≡ xs = subst (λ r. map asked_goal gs ≡ needed_goals r c.args.expr.now c.args.ty.now) c.facts.ensures c.in_ok-goal-items.ensures in
+    let gs = c.args.needed.items in
     let whole = at.invariant.items ∙ c.into_iter-goal-iterator.ensures.into_iter_gives.0 in
     let empty : into_iter_items at.goal-iterator ≡ [] = nil_from_length _ (sym at.invariant.long ∙ c.in-None.ensures.steps.0) in
-    let all = all_asked xs at.yielded (into_iter_items at.goal-iterator) gs is whole empty in
+    let all = all_asked (map asked_goal gs) at.yielded (into_iter_items at.goal-iterator) gs refl whole empty in
     subst (λ ys. ListsAnswers (system c.args.sources.now.sources) raw.limits.goal_depth ys c.args.told.now.items at.told.items) all at.invariant.told

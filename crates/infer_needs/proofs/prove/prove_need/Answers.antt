@@ -17,6 +17,6 @@ returns-in_ok-complain-in-No c =
     let answer = c.in_ok-evaluate.field-0 in
     let told = c.in_ok-evaluate.ensures in
     record {
-      judged = refused raw f c.args.expr c.args.goal c.args.proofs.now.items c.args.found.now c.args.gaps.now c.complain.new.gaps (not_yes f raw.limits.goal_depth (asked_goal c.args.goal) answer c.in-No.is told.answer) c.in_ok-complain-in-No.ensures;
+      judged = refused raw f c.args.node c.args.goal c.args.proofs.now.items c.args.found.now c.args.gaps.now c.complain.new.gaps (not_yes f raw.limits.goal_depth (asked_goal c.args.goal) answer c.in-No.is told.answer) c.in_ok-complain-in-No.ensures;
       told = tells_one f raw.limits.goal_depth c.args.goal answer c.args.told.now.items c.evaluate.new.told.items told.answer told.told;
     }

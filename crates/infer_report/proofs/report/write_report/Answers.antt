@@ -11,5 +11,5 @@ returns c =
     (rw (c.raw-raw.ensures.value, c.as_slice-3.ensures, c.as_slice-4.ensures, c.as_slice-5.ensures) at c.in_ok-push_pats.ensures)
     (rw (c.raw-raw.ensures.value, c.as_slice-6.ensures) at c.in_ok-push_bindings.ensures)
     (rw (c.raw-raw.ensures.value, c.as_slice-7.ensures, c.as_slice-8.ensures, c.as_slice-9.ensures) at c.in_ok-push_complaints.ensures)
-    (rw (c.raw-raw.ensures.value, c.as_slice-10.ensures, c.as_slice-11.ensures) at c.in_ok-push_complaints-2.ensures)
+    (rw (c.raw-raw.ensures.value, c.as_slice-10.ensures, c.as_slice-11.ensures, c.as_slice-12.ensures) at c.in_ok-push_complaints-2.ensures)
     (rw c.count_complaints-count.ensures at c.in_ok-writeln.ensures.bytes)
