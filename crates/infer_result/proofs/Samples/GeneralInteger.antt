@@ -287,5 +287,5 @@ is_general = record {
   is_body = refl;
   types = general_for;
   falls_back = i32_is_fallback;
-  closings = λ clean a plain_types. subst (IsDerivation facts f) (closing_is a (integer_type (plain_types.int_var 0).0) i32 (plain_types.int_var 0).1) (integer_derives (plain_types.int_var 0).0);
+  closings = λ structs clean a plain_types. subst (IsDerivation facts f) (closing_is a (integer_type (plain_types.int_var 0).0) i32 (plain_types.int_var 0).1) (integer_derives (plain_types.int_var 0).0);
 }

@@ -183,5 +183,5 @@ is_general = record {
   is_body = refl;
   types = general_for;
   falls_back = unknown_is_fallback;
-  closings = λ clean a plain_types. subst (IsDerivation facts f) (closing_is a ty.Error) (plain_derives (a.var 0) (plain_types.var 0));
+  closings = λ structs clean a plain_types. subst (IsDerivation facts f) (closing_is a ty.Error) (plain_derives (a.var 0) (plain_types.var 0));
 }
