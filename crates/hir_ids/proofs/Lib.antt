@@ -5,3 +5,4 @@ pub mod InBodies
 pub mod Once
 pub mod Uses
 pub mod Owners
+pub mod Held

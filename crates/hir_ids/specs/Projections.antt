@@ -1,11 +1,16 @@
--- Where projections stand in written types, and signatures without any.
-use Rattle.std.specs.Prelude.{ℕ, ◌≡◌, ◌<◌, List, slice_get, Some, IsTrue}
+-- Where projections may stand: in goals, impls and other projections, in what a function or a constructor takes or gives, and in the types of `let`s.
+-- Fields that a variant `V` lists hold none yet.
+use Rattle.std.specs.Prelude.{ℕ, ◌≡◌, ◌<◌, ◌↔◌, Bool, false, List, length, get_or, slice_get, Some, IsTrue}
 use Rattle.hir_types.specs.declared.ids.TypeRefId.{TypeRefId}
+use Rattle.hir_raw.specs.declared.raw.RawCtor.TheVariants as ctor
 use Rattle.hir_raw.specs.declared.raw.RawType.{RawType}
+use Rattle.hir_raw.specs.declared.raw.RawField.{RawField}
+use Rattle.hir_raw.specs.declared.raw.RawVariant.{RawVariant}
 use Rattle.hir_raw.specs.declared.raw.RawFn.{RawFn}
 use Rattle.hir_raw.specs.declared.raw.RawFacts.{RawFacts}
 use Rattle.hir_raw.specs.Hidden.{is_alias}
 use Rattle.hir_raw.specs.WrittenTypes.{type_parts}
+use Rattle.hir_ids.specs.Carried.{is_carried_variant}
 
 -- a projection stands in type t: it is one, or a type before it that it is made of holds one
 pub data HoldsProjection (types : List RawType) : ℕ → Type 0 where
@@ -16,8 +21,17 @@ pub data HoldsProjection (types : List RawType) : ℕ → Type 0 where
 abbrev pub IsNoProjection : RawFacts → ℕ → Type 0
 IsNoProjection raw i = HoldsProjection raw.types i → ⊥
 
+-- of the first n types those are marked that hold one
+pub record AreMarked (types : List RawType) (n : ℕ) (marks : List Bool) : Type 0 where
+  pub size : length marks ≡ n
+  pub each : (t : ℕ) → t < n → IsTrue (get_or marks t false) ↔ HoldsProjection types t
+
 abbrev pub NameNoProjection : RawFacts → List TypeRefId → Type 0
 NameNoProjection raw ts = (k : ℕ) (t : TypeRefId) → slice_get ts k ≡ Some t → IsNoProjection raw t.0
+
+pub record VariantIsCarried (raw : RawFacts) (v : RawVariant) : Type 0 where
+  pub kind : IsTrue (is_carried_variant v)
+  pub fields : v.ctor ≡ ctor.Unit → (k : ℕ) (f : RawField) → slice_get v.fields k ≡ Some f → IsNoProjection raw f.type_.0
 
 -- none stands in an input, or in the output
 pub record SignatureNamesNone (raw : RawFacts) (f : RawFn) : Type 0 where

@@ -1,10 +1,12 @@
 //! Each entry and part is of a kind that is carried.
-ghost use Rattle.std.specs.Prelude.{◌≡◌, IsTrue, MatchOption};
+ghost use Rattle.std.specs.Prelude.{◌≡◌, length, IsTrue, MatchOption};
 ghost use Rattle.std.specs.List.{list_all};
 ghost use Rattle.hir_ids.specs.Entries.{AllHold, BreaksAt};
 ghost use Rattle.hir_ids.specs.Carried.{is_carried_written_type, is_type_param, is_carried_kind, is_carried_adt, is_carried_ctor, is_carried_variant, is_carried_fn, is_carried_literal, is_carried_path, is_ctor_path, is_carried_stmt, is_carried_expr, is_carried_pat, is_carried_binding, is_carried_body};
+ghost use Rattle.hir_ids.specs.Projections.{AreMarked, VariantIsCarried};
 
 use crate::carried_goals::carries_goals;
+use crate::projections::{ProjectionMarks, unit_names_none};
 use crate::test::Test;
 use hir_raw::{
     BindingAnnotation, RawAdt, RawAdtKind, RawAt, RawBinding, RawBody, RawCtor, RawExpr, RawFacts,
@@ -244,26 +246,29 @@ impl Test for AdtsCarried {
     }
 }
 
-/// A variant is of a carried kind.
-pub struct VariantsCarried;
+/// A variant is of a carried kind, and no projection stands in a field of a variant `V`.
+#[derive(Drop)]
+pub struct VariantsCarried<'a> {
+    pub found: &'a ProjectionMarks,
+}
 
-impl Test for VariantsCarried {
+impl<'a> Test for VariantsCarried<'a> {
     type Item = RawVariant;
 
     ghost listed = { λ raw. raw.variants };
 
-    ghost holds = { λ raw i v. IsTrue (is_carried_variant v) };
+    ghost holds = { λ raw i v. VariantIsCarried raw v };
 
-    ghost given = { λ raw s. Unit {0} };
+    ghost given = { λ raw s. AreMarked raw.types (length raw.types) s.found.now.marks.items };
 
     fn test(
         &self,
         _alloc: Global,
-        _raw: &RawFacts,
+        raw: &RawFacts,
         _at: usize,
         item: &RawVariant,
     ) -> Result<bool, AllocError> {
-        Ok(carries_variant(item))
+        Ok(carries_variant(item) && unit_names_none(raw, self.found, item))
     }
 }
 

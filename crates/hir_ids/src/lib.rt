@@ -9,6 +9,7 @@ mod carried_goals;
 mod goal_ids;
 mod ids;
 mod namers;
+mod projections;
 mod test;
 
 pub use adt_ids::{AdtIds, VariantIds};
@@ -21,4 +22,5 @@ pub use carried_goals::{AliasesCarried, ImplsCarried, LangCarried, TraitsCarried
 pub use goal_ids::{AliasIds, ImplIds, LangIds, TraitIds, have_goal_ids};
 pub use ids::{FnIds, ModuleIds, TypeIds};
 pub use namers::{Namers, is_nobody, is_one, namers_of};
+pub use projections::ProjectionMarks;
 pub use test::{Test, first_broken};

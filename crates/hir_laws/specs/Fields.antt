@@ -1,5 +1,5 @@
--- The fields of a variant, and their names.
-use Rattle.std.specs.Prelude.{ℕ, ◌<◌, ◌≡◌, List, [], slice_get, Some}
+-- The names of a variant's fields.
+use Rattle.std.specs.Prelude.{ℕ, ◌<◌, ◌≡◌, List, slice_get, Some}
 use Rattle.std.specs.Fmt.{decimal}
 use Rattle.hir_raw.specs.declared.raw.RawCtor.TheVariants as ctor
 use Rattle.hir_raw.specs.declared.raw.RawField.{RawField}
@@ -9,10 +9,9 @@ use Rattle.hir_raw.specs.declared.raw.RawVariant.{RawVariant}
 abbrev pub IsNew : List RawField → ℕ → RawField → Type 0
 IsNew fields i f = (j : ℕ) (g : RawField) → j < i → slice_get fields j ≡ Some g → g.name ≡ f.name → ⊥
 
--- they are distinct, and those of a tuple are the numbers of their positions; a variant `V` has none
+-- they are distinct, and those of a tuple are the numbers of their positions
 pub record NamesFit (v : RawVariant) : Type 0 where
   pub distinct : (i j : ℕ) (f g : RawField) → slice_get v.fields i ≡ Some f → slice_get v.fields j ≡ Some g
       → f.name ≡ g.name → i ≡ j
   pub numbered : v.ctor ≡ ctor.Tuple → (i : ℕ) (f : RawField) → slice_get v.fields i ≡ Some f
       → f.name ≡ decimal i
-  pub unit : v.ctor ≡ ctor.Unit → v.fields ≡ []

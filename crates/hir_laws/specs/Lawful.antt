@@ -6,7 +6,8 @@ use Rattle.hir_laws.specs.declared.laws.Law.TheVariants as law
 use Rattle.hir_laws.specs.declared.laws.FactsList.{FactsList}
 use Rattle.hir_laws.specs.declared.laws.FactsList.TheVariants as list
 use Rattle.hir_ids.specs.Entries.{AllHold, BreaksAt}
-use Rattle.hir_ids.specs.Carried.{is_carried_written_type, is_carried_adt, is_carried_variant, is_carried_trait, is_carried_alias, is_carried_impl, is_carried_lang, is_carried_fn, is_carried_body}
+use Rattle.hir_ids.specs.Carried.{is_carried_written_type, is_carried_adt, is_carried_trait, is_carried_alias, is_carried_impl, is_carried_lang, is_carried_fn, is_carried_body}
+use Rattle.hir_ids.specs.Projections.{VariantIsCarried}
 use Rattle.hir_ids.specs.GoalIds.{TraitIdsExist, AliasIdsExist, ImplIdsExist, LangExists}
 use Rattle.hir_ids.specs.Ids.{TypeIdsExist, ParentBefore, AdtIdsExist, VariantIdsExist, FnIdsExist, BodyIdsExist}
 use Rattle.hir_counts.specs.Counts.{AdtFits, VariantFits, FnFits, TraitFits, AliasFits, ImplFits}
@@ -35,7 +36,7 @@ abbrev carried_at : Saying → RawFacts → FactsList → Type 0
 carried_at S raw list.Types = S _ (λ i t. IsTrue (is_carried_written_type t)) raw.types
 carried_at S raw list.Modules = S _ all_hold raw.modules
 carried_at S raw list.Adts = S _ (λ i a. IsTrue (is_carried_adt a)) raw.adts
-carried_at S raw list.Variants = S _ (λ i v. IsTrue (is_carried_variant v)) raw.variants
+carried_at S raw list.Variants = S _ (λ i v. VariantIsCarried raw v) raw.variants
 carried_at S raw list.Fns = S _ (λ i f. IsTrue (is_carried_fn f)) raw.fns
 carried_at S raw list.Consts = S _ none_carried raw.consts
 carried_at S raw list.Statics = S _ none_carried raw.statics

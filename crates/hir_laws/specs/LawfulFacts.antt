@@ -3,12 +3,12 @@ use Rattle.std.specs.Prelude.{IsTrue}
 use Rattle.hir_raw.specs.declared.raw.RawFacts.{RawFacts}
 use Rattle.hir_ids.specs.Entries.{AllHold}
 use Rattle.hir_ids.specs.Carried.{is_carried_written_type, is_carried_variant, is_carried_fn, is_carried_body}
+use Rattle.hir_ids.specs.Projections.{VariantIsCarried}
 use Rattle.hir_ids.specs.Ids.{ChildrenBefore, TypeIdsExist, AdtIdsExist, VariantIdsExist, FnIdsExist, BodyIdsExist}
 use Rattle.hir_counts.specs.Counts.{CountsFit, VariantFits, FnFits}
 use Rattle.hir_laws.specs.Trees.{IsWellFormed}
 use Rattle.hir_laws.specs.Scopes.{ScopesHold}
 use Rattle.hir_counts.specs.Sizes.{TypeIsSmall, BodyIsSmall}
-use Rattle.hir_laws.specs.Fields.{NamesFit}
 use Rattle.hir_laws.specs.Literals.{LiteralsFit}
 use Rattle.hir_counts.specs.Uses.{HoleFits}
 use Rattle.hir_laws.specs.Lawful.{IsLawful}
@@ -16,8 +16,11 @@ use Rattle.hir_laws.specs.Lawful.{IsLawful}
 pub types_carried : (raw : RawFacts) → IsLawful raw → AllHold (λ i t. IsTrue (is_carried_written_type t)) raw.types
 types_carried raw law = law.all.0
 
+pub carried_variants : (raw : RawFacts) → IsLawful raw → AllHold (λ i v. VariantIsCarried raw v) raw.variants
+carried_variants raw law = law.all.1.1.0
+
 pub variants_carried : (raw : RawFacts) → IsLawful raw → AllHold (λ i v. IsTrue (is_carried_variant v)) raw.variants
-variants_carried raw law = law.all.1.1.0
+variants_carried raw law i v found = (carried_variants raw law i v found).kind
 
 pub fns_carried : (raw : RawFacts) → IsLawful raw → AllHold (λ i f. IsTrue (is_carried_fn f)) raw.fns
 fns_carried raw law = law.all.1.1.1.0
@@ -57,9 +60,6 @@ types_small raw law = law.all.1.1.1.1.1.1.1.1.1.1.1.1.1.1.1.1.1.1.1.1.1.1.1.1.1.
 
 pub bodies_small : (raw : RawFacts) → IsLawful raw → AllHold BodyIsSmall raw.bodies
 bodies_small raw law = law.all.1.1.1.1.1.1.1.1.1.1.1.1.1.1.1.1.1.1.1.1.1.1.1.1.1.1.1.1.1.1.1.1.1.1.1.1.1.1.1.0
-
-pub names_fit : (raw : RawFacts) → IsLawful raw → AllHold (λ i v. NamesFit v) raw.variants
-names_fit raw law = law.all.1.1.1.1.1.1.1.1.1.1.1.1.1.1.1.1.1.1.1.1.1.1.1.1.1.1.1.1.1.1.1.1.1.1.1.1.1.1.1.1.1.1.0
 
 pub literals_fit : (raw : RawFacts) → IsLawful raw → AllHold (λ i b. LiteralsFit b) raw.bodies
 literals_fit raw law = law.all.1.1.1.1.1.1.1.1.1.1.1.1.1.1.1.1.1.1.1.1.1.1.1.1.1.1.1.1.1.1.1.1.1.1.1.1.1.1.1.1.1.1.1.0

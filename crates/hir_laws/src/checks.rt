@@ -23,8 +23,8 @@ use hir_counts::{
 };
 use hir_ids::{
     AdtIds, AdtsCarried, AliasIds, AliasesCarried, BodiesCarried, BodyIds, FnIds, FnsCarried,
-    ImplIds, ImplsCarried, LangCarried, LangIds, ModuleIds, TraitIds, TraitsCarried, TypeIds,
-    TypesCarried, VariantIds, VariantsCarried, first_broken, first_other,
+    ImplIds, ImplsCarried, LangCarried, LangIds, ModuleIds, ProjectionMarks, TraitIds,
+    TraitsCarried, TypeIds, TypesCarried, VariantIds, VariantsCarried, first_broken, first_other,
 };
 use hir_raw::{RawFacts, Schedule};
 use hir_types::List;
@@ -47,7 +47,9 @@ fn check_items(alloc: Global, raw: &RawFacts) -> Result<(), FactsError>
     allow(Law::Carried, FactsList::Types, types)?;
     let adts = first_broken(alloc, &AdtsCarried, raw, raw.adts.as_slice())?;
     allow(Law::Carried, FactsList::Adts, adts)?;
-    let variants = first_broken(alloc, &VariantsCarried, raw, raw.variants.as_slice())?;
+    let found = ProjectionMarks::new(alloc, raw)?;
+    let test = VariantsCarried { found: &found };
+    let variants = first_broken(alloc, &test, raw, raw.variants.as_slice())?;
     allow(Law::Carried, FactsList::Variants, variants)?;
     let fns = first_broken(alloc, &FnsCarried, raw, raw.fns.as_slice())?;
     allow(Law::Carried, FactsList::Fns, fns)?;

@@ -52,7 +52,7 @@ fn are_distinct(fields: &[RawField]) -> bool
     true
 }
 
-/// The names of a variant's fields are distinct, and those of a tuple numbers; a variant `V` has none.
+/// The names of a variant's fields are distinct, and those of a tuple numbers.
 pub struct FieldNames;
 
 impl Test for FieldNames {
@@ -76,8 +76,7 @@ impl Test for FieldNames {
                 let told = are_numbered(alloc, item.fields.as_slice())?;
                 Ok(told)
             }
-            RawCtor::Unit => Ok(item.fields.is_empty()),
-            RawCtor::Record => Ok(are_distinct(item.fields.as_slice())),
+            RawCtor::Unit | RawCtor::Record => Ok(are_distinct(item.fields.as_slice())),
         }
     }
 }

@@ -82,7 +82,7 @@ impl Law {
             Law::Limits => "the limits are in their ranges",
             Law::Lang => "language items have the shape that they are known by",
             Law::Literals =>
-                "literals stand for values of at most 128 bits, characters are scalar values, names of fields are distinct, and unit variants have none",
+                "literals stand for values of at most 128 bits, characters are scalar values, and names of fields are distinct",
             Law::Holes => "a `_` stands once, in a type that is written in a body",
         }
     }

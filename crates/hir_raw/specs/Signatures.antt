@@ -87,7 +87,8 @@ ctor_signature types n x = signature_by x.ctor types n x
 abbrev pub ctor_item : VariantId → List Ty → Ty
 ctor_item v ts = ty.FnDef (callable.VariantId v) (type_args ts)
 
--- What a path to a constructor is, at these types for its parameters. A variant `V` has no fields, so its parameters are those of its adt.
+-- What a path to a constructor is, at these types for its parameters. No associated type stands in a field of a variant `V`, so its parameters are
+-- those of its adt.
 abbrev pub ctor_type_by : RawCtor → AdtId → VariantId → List Ty → Ty
 ctor_type_by ctor.Unit a v ts = ty.Adt a (type_args ts)
 ctor_type_by ctor.Tuple a v ts = ty.FnDef (callable.VariantId v) (type_args ts)

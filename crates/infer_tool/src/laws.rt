@@ -32,7 +32,7 @@ pub fn told_breach(
     index: usize,
 ) -> Result<Option<String>, AllocError> {
     if law == Law::Carried {
-        return told(alloc, law, carried::find(facts, list, index));
+        return told(alloc, law, carried::find(alloc, facts, list, index)?);
     }
     let Some(entry) = facts.get(list.key()).and_then(|list| list.get(index)) else {
         return Ok(None);

@@ -1,4 +1,4 @@
-//! Law 8: literals without a value, and fields.
+//! Law 8: literals without a value, and names of fields.
 
 use hir_facts::FactsList;
 use serde_json::Value;
@@ -7,15 +7,13 @@ use std::fmt;
 use told_places::look::{list, number, word};
 use told_places::place::{Place, Quoted};
 
-/// What is wrong with a literal or a field.
+/// What is wrong with a literal or the name of a field.
 #[derive(Clone, Copy)]
 pub enum WrongValue<'a> {
     /// A field of a tuple has its number as its name.
     Numbered { name: Quoted<'a>, at: usize },
     /// Two fields have one name.
     Twice { name: Quoted<'a>, first: usize },
-    /// A unit variant has no fields.
-    OfUnit,
     /// An integer is decimal digits.
     Digits(Quoted<'a>),
     /// An integer is below 2^128.
@@ -37,7 +35,6 @@ impl fmt::Display for WrongValue<'_> {
             WrongValue::Twice { name, first } => {
                 write!(f, "the field is named {name}, as field {first} is")
             }
-            WrongValue::OfUnit => write!(f, "the variant is `unit`, and has a field"),
             WrongValue::Digits(digits) => write!(f, "{digits} is no number in decimal digits"),
             WrongValue::Large(digits) => write!(f, "{digits} is not below 2^128"),
             WrongValue::Minus(digits) => {
@@ -86,14 +83,6 @@ fn of_names(place: Place, fields: &[Value]) -> Option<(Place, WrongValue<'_>)> {
         }
     }
     None
-}
-
-fn of_unit(place: Place, fields: &[Value]) -> Option<(Place, WrongValue<'static>)> {
-    if fields.is_empty() {
-        None
-    } else {
-        Some((place.item("fields", 0), WrongValue::OfUnit))
-    }
 }
 
 /// What is wrong with an integer, which may have a minus where a pattern is the literal.
@@ -184,9 +173,6 @@ pub fn find(
     match list_of {
         FactsList::Variants if word(entry.get("ctor")) == "tuple" => {
             of_tuple(alloc, place, list(entry, "fields"))
-        }
-        FactsList::Variants if word(entry.get("ctor")) == "unit" => {
-            Ok(of_unit(place, list(entry, "fields")))
         }
         FactsList::Variants => Ok(of_names(place, list(entry, "fields"))),
         FactsList::Bodies => of_body(alloc, place, entry),

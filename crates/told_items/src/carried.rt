@@ -2,8 +2,9 @@
 
 use hir_facts::FactsList;
 use serde_json::Value;
+use std::alloc::{AllocError, Global};
 use std::fmt;
-use told_places::look::{is_there, items, list, number, word};
+use told_places::look::{is_there, items, list, number, type_id, type_parts, word};
 use told_places::place::Place;
 
 /// What is not carried yet.
@@ -34,6 +35,33 @@ fn is_const(argument: &Value) -> bool {
 
 fn has_const(arguments: Option<&Value>) -> bool {
     items(arguments).iter().any(|argument| is_const(argument))
+}
+
+const PROJECTIONS: Uncarried<'static> = Uncarried::Form("projections in fields of unit variants");
+
+/// Whether a projection stands in a type: it is one, or a type before it that it is made of holds one.
+fn has_projection(marks: &[bool], ty: Option<&Value>) -> bool {
+    match number(ty) {
+        Some(ty) => marks.get(ty).copied().unwrap_or(false),
+        None => false,
+    }
+}
+
+fn holds(marks: &[bool], ty: &Value) -> bool {
+    word(Some(ty)) == "proj"
+        || type_parts(ty)
+            .iter()
+            .any(|part| has_projection(marks, type_id(part)))
+}
+
+/// Of each written type whether a projection stands in it: a type's parts come before it.
+fn marks_of(alloc: Global, facts: &Value) -> Result<Vec<bool>, AllocError> {
+    let mut marks = Vec::new(alloc);
+    for ty in list(facts, "types") {
+        let mark = holds(&marks, ty);
+        marks.push(mark)?;
+    }
+    Ok(marks)
 }
 
 fn of_type(ty: &Value) -> Uncarried<'_> {
@@ -105,7 +133,21 @@ fn of_adt(place: Place, adt: &Value) -> Option<(Place, Uncarried<'_>)> {
     }
 }
 
-fn of_variant(place: Place, variant: &Value) -> Option<(Place, Uncarried<'_>)> {
+/// The first field in whose type a projection stands.
+fn of_fields(marks: &[bool], place: Place, variant: &Value) -> Option<(Place, Uncarried<'static>)> {
+    for (at, field) in list(variant, "fields").iter().enumerate() {
+        if has_projection(marks, field.get("type")) {
+            return Some((place.item("fields", at), PROJECTIONS));
+        }
+    }
+    None
+}
+
+fn of_variant<'a>(
+    marks: &[bool],
+    place: Place,
+    variant: &'a Value,
+) -> Option<(Place, Uncarried<'a>)> {
     if word(variant.get("ctor")) == "record" {
         Some((
             place.key("ctor"),
@@ -113,6 +155,8 @@ fn of_variant(place: Place, variant: &Value) -> Option<(Place, Uncarried<'_>)> {
         ))
     } else if is_there(variant.get("body")) {
         Some((place.key("body"), Uncarried::Form("bodies of variants")))
+    } else if word(variant.get("ctor")) == "unit" {
+        of_fields(marks, place, variant)
     } else {
         None
     }
@@ -228,8 +272,12 @@ fn unread(list: FactsList) -> Option<&'static str> {
     }
 }
 
-/// What the entry has that is not carried yet.
-pub fn find(facts: &Value, list: FactsList, index: usize) -> Option<(Place, Uncarried<'_>)> {
+fn of_entry<'a>(
+    marks: &[bool],
+    facts: &'a Value,
+    list: FactsList,
+    index: usize,
+) -> Option<(Place, Uncarried<'a>)> {
     let place = Place::new(list, index);
     if let Some(form) = unread(list) {
         return Some((place, Uncarried::Form(form)));
@@ -238,7 +286,7 @@ pub fn find(facts: &Value, list: FactsList, index: usize) -> Option<(Place, Unca
     match list {
         FactsList::Types => Some((place, of_type(entry))),
         FactsList::Adts => of_adt(place, entry),
-        FactsList::Variants => of_variant(place, entry),
+        FactsList::Variants => of_variant(marks, place, entry),
         FactsList::Fns => of_fn(place, entry),
         FactsList::Traits => of_members(place, entry),
         FactsList::Aliases => of_goals(place, entry, "bounds"),
@@ -246,4 +294,15 @@ pub fn find(facts: &Value, list: FactsList, index: usize) -> Option<(Place, Unca
         FactsList::Bodies => of_body(place, entry),
         _ => None,
     }
+}
+
+/// What the entry has that is not carried yet.
+pub fn find(
+    alloc: Global,
+    facts: &Value,
+    list: FactsList,
+    index: usize,
+) -> Result<Option<(Place, Uncarried<'_>)>, AllocError> {
+    let marks = marks_of(alloc, facts)?;
+    Ok(of_entry(&marks, facts, list, index))
 }

@@ -1,5 +1,6 @@
 use Rattle.std.specs.Prelude.{IsTrue}
-use Rattle.hir_ids.specs.Carried.{is_carried_written_type, is_carried_adt, is_carried_variant, is_carried_fn}
+use Rattle.hir_ids.specs.Carried.{is_carried_written_type, is_carried_adt, is_carried_fn}
+use Rattle.hir_ids.specs.Projections.{VariantIsCarried}
 use Rattle.hir_laws.proofs.Allowed.{allowed}
 use Rattle.hir_laws.proofs.checks.check_items.Goals as goal
 
@@ -9,7 +10,7 @@ returns-clause-ok c = (
   (
     allowed (λ i a. IsTrue (is_carried_adt a)) c.args.raw.now.adts _ _ _ _ _ c.in_ok-adts.ensures c.allow-2.ensures c.in_ok-allow-2.was,
     (
-      allowed (λ i v. IsTrue (is_carried_variant v)) c.args.raw.now.variants _ _ _ _ _ c.in_ok-variants.ensures c.allow-3.ensures c.in_ok-allow-3.was,
+      allowed (λ i v. VariantIsCarried c.args.raw.now v) c.args.raw.now.variants _ _ _ _ _ c.in_ok-variants.ensures c.allow-3.ensures c.in_ok-allow-3.was,
       (allowed (λ i f. IsTrue (is_carried_fn f)) c.args.raw.now.fns _ _ _ _ _ c.in_ok-fns.ensures c.allow-4.ensures c.in_ok-allow-4.was, tt),
     ),
   ),

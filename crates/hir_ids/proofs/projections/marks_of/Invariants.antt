@@ -1,0 +1,5 @@
+use Rattle.hir_ids.specs.Projections.{AreMarked}
+use Rattle.hir_ids.proofs.projections.marks_of.Given as goal
+
+abbrev pub invariant-loop-ty : goal.invariant-loop-ty
+invariant-loop-ty l = AreMarked l.types l.ty-index l.marks.items
