@@ -1,5 +1,4 @@
 use Rattle.std.proofs.Common.{◌≡◌, List, Some, ap, subst, sym, map}
-use Rattle.hir_types.specs.declared.ids.ExprOrPatId.{ExprOrPatId}
 use Rattle.hir_types.specs.declared.ids.ExprOrPatId.TheVariants as node
 use Rattle.goal_search.specs.Sources.{system}
 use Rattle.goal_answers.specs.Goals.{Asked}
@@ -16,7 +15,7 @@ pub prove_each-requires : goal.prove_each-requires
 prove_each-requires c =
     let raw = c.args.sources.now.facts in
     let all = needed_here raw c.facts.result.now c.args.expr.now c.args.table.now.type_of_expr c.args.at c.in_ok-expr_id.field-0.0 c.in-Some.ty.now (map asked_goal c.in_ok-needed-in-Some.needed.items)
-        c.in_ok-needed-in-Some.ensures c.facts.ensures c.in-Some.ensures c.in_ok-expr_id.ensures in
+    c.in_ok-needed-in-Some.ensures c.facts.ensures c.in-Some.ensures c.in_ok-expr_id.ensures in
     subst AreProvable (sym all) c.requires
 
 pub returns-in_ok-gaps-in-Some : goal.returns-in_ok-gaps-in-Some

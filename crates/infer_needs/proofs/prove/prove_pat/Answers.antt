@@ -13,7 +13,7 @@ use Rattle.infer_needs.proofs.prove.prove_pat.Goals as goal
 pub prove_each-requires : goal.prove_each-requires
 prove_each-requires c =
     let all = pat_needed_here c.args.sources.now.facts c.facts.result.now c.args.table.now c.args.at c.in_ok-pat.pat.0 c.in-Some.item.now (map asked_goal c.in_ok-needed-in-Some.needed.items)
-        c.in_ok-needed-in-Some.ensures c.facts.ensures c.in-Some.ensures c.in_ok-pat.ensures in
+    c.in_ok-needed-in-Some.ensures c.facts.ensures c.in-Some.ensures c.in_ok-pat.ensures in
     subst AreProvable (sym all) c.requires
 
 pub returns-in_ok-gaps-in-Some : goal.returns-in_ok-gaps-in-Some
