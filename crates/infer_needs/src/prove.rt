@@ -234,10 +234,10 @@ fn prove_exprs(
 
 /// Proves each goal that a node of a typed body needs, at the types that are recorded, or says of it that it
 /// has no proof. Only a goal in which `{unknown}` stands may be left without either. Each goal is evaluated
-/// once, in the order of the expressions and of the predicates of each item, and then of the patterns: these are given back, each with its
-/// answer. What associated types were found to be is listed, each once; where one is another type at a node, this is
-/// said there. In no type of the table is one left that could be read, unless what it is is listed. Nothing else of the
-/// table changes. The one error is want of memory.
+/// once, in the order of the expressions and of the predicates of each item, and then of the patterns: these are
+/// given back, each with its answer. What associated types were found to be is listed, each once; where one is
+/// another type at a node, this is said there. In no type of the table is one left that could be read, unless what
+/// it is is listed. Nothing else of the table changes. The one error is want of memory.
 pub fn prove_needs(
     alloc: Global,
     facts: &Facts,

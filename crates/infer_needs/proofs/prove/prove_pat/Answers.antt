@@ -16,8 +16,8 @@ prove_each-requires c =
     c.in_ok-needed-in-Some.ensures c.facts.ensures c.in-Some.ensures c.in_ok-pat.ensures in
     subst AreProvable (sym all) c.requires
 
-pub returns-in_ok-gaps-in-Some-clause-judged : goal.returns-in_ok-gaps-in-Some-clause-judged
-returns-in_ok-gaps-in-Some-clause-judged c =
+pub returns-in_ok-gaps-in-Some : goal.returns-in_ok-gaps-in-Some
+returns-in_ok-gaps-in-Some c =
     let raw = c.args.sources.now.facts in
     let f = system c.args.sources.now.sources in
     let r = c.args.table.now in
@@ -25,15 +25,7 @@ returns-in_ok-gaps-in-Some-clause-judged c =
     let new = c.prove_each.new in
     let all = pat_needed_here raw c.facts.result.now r c.args.at c.in_ok-pat.pat.0 c.in-Some.item.now gs c.in_ok-needed-in-Some.ensures c.facts.ensures c.in-Some.ensures c.in_ok-pat.ensures in
     let here : node.PatId c.in_ok-pat.pat ≡ node.PatId (record { 0 = c.args.at }) = ap (λ n. node.PatId (record { 0 = n })) c.in_ok-pat.ensures in
-    judged_at raw f (node.PatId c.in_ok-pat.pat) (node.PatId (record { 0 = c.args.at })) gs (pat_needs_at raw r c.args.at) c.args.proofs.now.items new.proofs.items c.args.found.now new.found c.in_ok-gaps-in-Some.gaps here all c.in_ok-gaps-in-Some.ensures.judged
-
-pub returns-in_ok-gaps-in-Some-clause-told : goal.returns-in_ok-gaps-in-Some-clause-told
-returns-in_ok-gaps-in-Some-clause-told c =
-    let raw = c.args.sources.now.facts in
-    let f = system c.args.sources.now.sources in
-    let r = c.args.table.now in
-    let gs : List Asked = map asked_goal c.in_ok-needed-in-Some.needed.items in
-    let new = c.prove_each.new in
-    let all = pat_needed_here raw c.facts.result.now r c.args.at c.in_ok-pat.pat.0 c.in-Some.item.now gs c.in_ok-needed-in-Some.ensures c.facts.ensures c.in-Some.ensures c.in_ok-pat.ensures in
-    let here : node.PatId c.in_ok-pat.pat ≡ node.PatId (record { 0 = c.args.at }) = ap (λ n. node.PatId (record { 0 = n })) c.in_ok-pat.ensures in
-    subst (λ xs. ListsAnswers f raw.limits.goal_depth xs c.args.told.now.items new.told.items) all c.in_ok-gaps-in-Some.ensures.told
+    record {
+      judged = judged_at raw f (node.PatId c.in_ok-pat.pat) (node.PatId (record { 0 = c.args.at })) gs (pat_needs_at raw r c.args.at) c.args.proofs.now.items new.proofs.items c.args.found.now new.found c.in_ok-gaps-in-Some.gaps here all c.in_ok-gaps-in-Some.ensures.judged;
+      told = subst (λ xs. ListsAnswers f raw.limits.goal_depth xs c.args.told.now.items new.told.items) all c.in_ok-gaps-in-Some.ensures.told;
+    }
