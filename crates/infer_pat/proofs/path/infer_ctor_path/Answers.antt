@@ -1,6 +1,8 @@
 use Rattle.std.proofs.Common.{◌∙◌, ap, sym, subst}
 use Rattle.hir_types.specs.declared.ids.CallableDefId.TheVariants as callable
 use Rattle.hir_types.specs.declared.ty.Ty.TheVariants as ty
+use Rattle.hir_raw.specs.Signatures.{type_args}
+use Rattle.hir_raw.specs.declared.raw.RawVariant.{RawVariant}
 use Rattle.hir_raw.specs.declared.raw.RawPath.TheVariants as path
 use Rattle.infer_ctx.specs.Context.{given_of}
 use Rattle.infer_pat.specs.Paths.{PathDone}
@@ -16,7 +18,8 @@ returns-in-Unit c =
     let new = c.fresh_args_for_item.new.context in
     let h = ctor_holed g c.args.variant x y c.adt.result.now c.len-params.result c.in_ok-arity.arity c.types.result.now c.in_ok-args.args old new c.variant-item.ensures c.adt.ensures c.len-params.ensures c.types.ensures c.in_ok-arity.ensures c.in_ok-args.ensures in
     subst (λ xs. PathDone g (path.Ctor c.args.variant) (ty.Adt y.adt xs) old new) (sym h.fresh.are)
-    (rw h.same (unit_path g c.args.variant x h.fresh.types old new h.fresh.made (ap (λ z. z.ctor) (sym h.same) ∙ c.in-Unit.is)))
+    (subst (λ (z : RawVariant). PathDone g (path.Ctor c.args.variant) (ty.Adt z.adt (type_args h.fresh.types)) old new) (sym h.same)
+    (unit_path g c.args.variant x h.fresh.types old new h.fresh.made (ap (λ z. z.ctor) (sym h.same) ∙ c.in-Unit.is)))
 
 pub returns-in-Tuple : goal.returns-in-Tuple
 returns-in-Tuple c =
