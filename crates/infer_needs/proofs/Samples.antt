@@ -1,0 +1,9 @@
+pub mod Impls
+pub mod Sources
+pub mod ImplProofs
+pub mod AliasProofs
+pub mod Needed
+pub mod Tables
+pub mod WrongTables
+pub mod TrueComplaint
+pub mod Unknowns
