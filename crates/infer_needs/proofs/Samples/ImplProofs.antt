@@ -1,6 +1,6 @@
 -- Lists of proofs over `Impls`: what is refused beside what is taken. A proof names the impl that is for its type, at the arguments at
 -- which it is, and rests on proofs of what this asks for.
-use Rattle.std.proofs.Common.{ℕ, zero, suc, ◌<◌, ◌≡◌, List, [], ◌∷◌, refl, sym, ap, subst, ◌∙◌, arith, Some, slice_get}
+use Rattle.std.proofs.Common.{ℕ, zero, suc, ◌<◌, ◌≤◌, ◌≡◌, List, [], ◌∷◌, refl, sym, ap, subst, ◌∙◌, arith, Some, slice_get}
 use Rattle.hir_types.specs.declared.goal.Goal.{Goal}
 use Rattle.hir_types.specs.declared.head.Hole.TheVariants as hole_of
 use Rattle.hir_types.specs.declared.ids.ImplId.{ImplId}
@@ -34,6 +34,12 @@ by_impl t n ts children = record { goal = asks t; source = source.Impl (i n) (ty
 argument : (s : Fill) (t : Ty) (x : Term) → term t ≡ x → apply s x ≡ x → args_fill s (type_args (t ∷ [])) (hole_of.Ty 0) ≡ x
 argument s t x is stays = ap (apply s) is ∙ stays
 
+types_differ : only bool_term ≡ only u8_term → ⊥
+types_differ h = cc
+
+same_entry : (ps : List Proof) (k : ℕ) (x y : Proof) → slice_get ps k ≡ Some x → slice_get ps k ≡ Some y → x ≡ y
+same_entry ps k x y h g = cc
+
 arguments_differ : only (w_term bool_term) ≡ only (w_term u8_term) → ⊥
 arguments_differ h = cc
 
@@ -61,13 +67,41 @@ module _ (s : System) (A : Aliases) (p : Fill) (ps : List Proof) (n : ℕ) where
     asked : IsSame A (implemented (w_term (args_fill p (type_args xs) (hole_of.Ty 0)))) (filled_goal p x.goal) × ((h n x is).asks ≡ implemented (args_fill p (type_args xs) (hole_of.Ty 0)) ∷ [])
     asked = trait_source (i 2) for_w (w_term param) bool_term (implemented param ∷ []) refl w_rules A p (type_args xs) (filled_goal p x.goal) (h n x is).asks refl (h n x is).source.1
 
+    -- its children are one, of what the impl asks for
+    children_are : AreProofsOf A p ps n (implemented (args_fill p (type_args xs) (hole_of.Ty 0)) ∷ []) children
+    children_are = subst (λ qs. AreProofsOf A p ps n qs children) asked.1 (h n x is).children
+
     -- one that needs a child, without one
     pub no_child : children ≡ [] → ⊥
     no_child none =
         (let q = implemented (args_fill p (type_args xs) (hole_of.Ty 0)) in
-        let one = subst (λ qs. AreProofsOf A p ps n qs children) asked.1 (h n x is).children in
-        let clash : AreProofsOf A p ps n (q ∷ []) [] = subst (λ js. AreProofsOf A p ps n (q ∷ []) js) none one in
+        let clash : AreProofsOf A p ps n (q ∷ []) [] = subst (λ js. AreProofsOf A p ps n (q ∷ []) js) none children_are in
         clash)
+
+    -- with two
+    pub two_children : (j k : ℕ) (js : List ℕ) → children ≡ j ∷ k ∷ js → ⊥
+    two_children j k js two =
+        (let q = implemented (args_fill p (type_args xs) (hole_of.Ty 0)) in
+        let clash : AreProofsOf A p ps n (q ∷ []) (j ∷ k ∷ js) = subst (λ is. AreProofsOf A p ps n (q ∷ []) is) two children_are in
+        clash.1)
+
+    -- with itself, or one after it
+    pub later_child : (k : ℕ) → children ≡ k ∷ [] → n ≤ k → ⊥
+    later_child k one later =
+        (let q = implemented (args_fill p (type_args xs) (hole_of.Ty 0)) in
+        let child : AreProofsOf A p ps n (q ∷ []) (k ∷ []) = subst (λ js. AreProofsOf A p ps n (q ∷ []) js) one children_are in
+        let before : k < n = child.0.before in
+        omega (arith, before, later))
+
+    -- with a proof of another goal
+    pub other_child : (k : ℕ) (y : Proof) → xs ≡ u8 ∷ [] → children ≡ k ∷ [] → slice_get ps k ≡ Some y → asked_goal y.goal ≡ implemented bool_term → ⊥
+    other_child k y at_u8 one found goal =
+        (let q = implemented (args_fill p (type_args xs) (hole_of.Ty 0)) in
+        let child : AreProofsOf A p ps n (q ∷ []) (k ∷ []) = subst (λ js. AreProofsOf A p ps n (q ∷ []) js) one children_are in
+        let fill : args_fill p (type_args xs) (hole_of.Ty 0) ≡ u8_term = ap (λ ts. args_fill p (type_args ts) (hole_of.Ty 0)) at_u8 ∙ argument p u8 u8_term (term_uint uint.U8) refl in
+        let mine : filled_goal p child.0.proof.goal ≡ implemented bool_term = ap (λ (z : Proof). filled_goal p z.goal) (same_entry ps k child.0.proof y child.0.at found) ∙ ap (asked_at p) goal in
+        let same : IsSame A (implemented bool_term) (implemented u8_term) = subst (λ g. IsSame A g (implemented u8_term)) mine (subst (λ z. IsSame A (filled_goal p child.0.proof.goal) (implemented z)) fill child.0.same) in
+        types_differ (same_bare A (implemented bool_term) (implemented u8_term) ((tt, (tt, tt)), tt) ((tt, (tt, tt)), tt) same))
 
     -- at another argument
     pub other_argument : xs ≡ ty.Bool ∷ [] → ⊥

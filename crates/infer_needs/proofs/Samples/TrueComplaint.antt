@@ -19,7 +19,7 @@ use Rattle.goal_facts.specs.Goals.{asked_goal}
 use Rattle.infer_result.specs.declared.gaps.Gap.{Gap}
 use Rattle.infer_result.specs.declared.gaps.Gap.TheVariants as gap
 use Rattle.infer_result.specs.declared.result.InferenceResult.{InferenceResult}
-use Rattle.infer_result.specs.Needs.{HasGap, HoldsUnknown, IsUnproved, IsTrueUnproved, IsTrueGap, GoalsHold}
+use Rattle.infer_result.specs.Needs.{HasGap, HoldsUnknown, IsUnproved, IsTrueUnproved, IsTrueGap, GoalsHold, NeedsHold}
 use Rattle.infer_result.specs.Table.{listed_gaps}
 use Rattle.infer_result.proofs.Samples.Small.{e}
 use Rattle.infer_needs.proofs.Samples.Impls.{tr, out, own_body, u8_term, bool_term, char_term, w_term, param, implemented, found_as, said, u8_rules, bool_rules, w_rules}
@@ -137,3 +137,7 @@ goals_hold = record {
   found = record { each = λ n x is. absurd (cc); once = λ j k x y is other same. absurd (cc) };
   entries = λ n x h about. absurd (none_asked letter ty.Char char_term term_char [] [] ((said_here ∷ []) ∷ []) n x h about);
 }
+
+-- so what nodes need doesn't hold
+pub needs_fail : NeedsHold own_body (given letter) right → ⊥
+needs_fail h = char_not_yes 8 (subst (answers sources 8).Yes asks_char (h sources are_sources path_node (asked_goal (asks ty.Char)) true_here.needed))

@@ -24,12 +24,12 @@ use Rattle.goal_facts.specs.Systems.{fact, IsSystemOf}
 use Rattle.infer_result.specs.declared.gaps.Gap.{Gap}
 use Rattle.infer_result.specs.declared.gaps.Gap.TheVariants as gap
 use Rattle.infer_result.specs.declared.result.InferenceResult.{InferenceResult}
-use Rattle.infer_result.specs.Needs.{HasGap, GoalsHold}
+use Rattle.infer_result.specs.Needs.{HasGap, GoalsHold, NeedsHold}
 use Rattle.infer_result.proofs.Samples.Small.{e, u8, one_u8}
 use Rattle.infer_needs.proofs.Samples.Impls.{tr, out, facts, own, own_body, for_bool, for_w, u8_term, bool_term, char_term, implemented, found_as, u8_rules, no_clauses}
 use Rattle.infer_needs.proofs.Samples.Sources.{asks_out_is}
 use Rattle.infer_needs.proofs.Samples.AliasProofs.{not_char}
-use Rattle.infer_needs.proofs.Samples.Needed.{given, table_of, no_needs}
+use Rattle.infer_needs.proofs.Samples.Needed.{given, table_of, no_needs, needed}
 
 -- ---- that `u8` implements the trait is answered Yes
 
@@ -68,6 +68,10 @@ module _ (s : System) (of : IsSystemOf facts own s) (n : ℕ) where
       let unsized : is_among s.sized (implements tr) ≡ false = ap (λ ts. is_among ts (implements tr)) of.sized in
       let source : HasSource s A v (implements tr) (only u8_term) = inr (none, inl some_rule) in
       (only u8_term, read_reads A (only u8_term) ((tt, (tt, tt)), tt), (tt, inr (not_among _ _ (is_among s.sized (implements tr)) unsized source)))
+
+-- so what nodes of `need(1u8)` need holds, whatever is listed
+pub needs_hold : (ps : List Proof) (js : List (Ty × Ty)) (gs : List (List Gap)) → NeedsHold own_body (given one_u8) (table_of u8 ps js gs)
+needs_hold ps js gs s of n a h = subst (answers s 8).Yes (sym (needed one_u8 u8 u8_term (term_uint uint.U8) ps js gs n a h).1) (u8_yes s of 7)
 
 -- ---- refused
 
