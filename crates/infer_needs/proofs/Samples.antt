@@ -6,5 +6,6 @@ pub mod AliasProofs
 pub mod Needed
 pub mod Tables
 pub mod WrongTables
+pub mod Taking
 pub mod TrueComplaint
 pub mod Unknowns

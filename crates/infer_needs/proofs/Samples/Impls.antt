@@ -1,6 +1,6 @@
 -- Facts for tables about goals: `trait Tr { type Out; }`, `struct W<T>(T);`, `impl Tr for u8 { type Out = bool; }`,
--- `impl Tr for bool { type Out = char; }`, `impl<T: Tr> Tr for W<T> { type Out = bool; }`, `fn need<T: Tr>(x: T)` and
--- `fn f() { need(1u8) }`; and what goals of `f` are answered by.
+-- `impl Tr for bool { type Out = char; }`, `impl<T: Tr> Tr for W<T> { type Out = bool; }`, `fn need<T: Tr>(x: T)`,
+-- `fn f() { need(1u8) }` and `fn take<T: Tr>(x: T, y: T::Out)`; and what goals of `f` are answered by.
 use Rattle.std.proofs.Common.{ℕ, zero, suc, ◌≡◌, inl, inr, List, [], ◌∷◌, length, map, refl, sym, ap, subst, ◌∙◌, true, false, Bool, true≢false, Option, Some, None, slice_get}
 use Rattle.std.specs.Prelude.{codes}
 use Rattle.hir_types.specs.declared.ids.DefWithBodyId.{DefWithBodyId}
@@ -50,9 +50,9 @@ tr = record { 0 = 0 }
 abbrev pub out : TypeAliasId
 out = record { 0 = 0 }
 
--- `u8`, `bool`, `T`, `W<T>`, `()` and `char`
+-- `u8`, `bool`, `T`, `W<T>`, `()`, `char` and `T::Out`
 abbrev pub types : List RawType
-types = type.Integer (integer.Uint uint.U8) ∷ type.Bool ∷ type.Param 0 ∷ type.Adt adt (w 2 ∷ []) ∷ type.Tuple [] ∷ type.Char ∷ []
+types = type.Integer (integer.Uint uint.U8) ∷ type.Bool ∷ type.Param 0 ∷ type.Adt adt (w 2 ∷ []) ∷ type.Tuple [] ∷ type.Char ∷ type.Projection out (w 2 ∷ []) ∷ []
 
 -- that the type implements the trait
 abbrev pub bound : TypeRefId → RawGoal
@@ -88,11 +88,14 @@ the_alias = record { name = codes "Out"; trait_ = tr; bounds = [] }
 abbrev pub need : RawFn
 need = record (function_of (parameter.Type ∷ []) (w 2 ∷ []) (w 4)) { preds = bound (w 2) ∷ [] }
 
+abbrev pub take : RawFn
+take = record (function_of (parameter.Type ∷ []) (w 2 ∷ w 6 ∷ []) (w 4)) { preds = bound (w 2) ∷ [] }
+
 abbrev caller : RawFn
 caller = record (function_of [] [] (w 4)) { body = Some (record { 0 = 0 }) }
 
 abbrev pub facts : RawFacts
-facts = record (facts_with types (need ∷ caller ∷ [])) {
+facts = record (facts_with types (need ∷ caller ∷ take ∷ [])) {
   adts = adt_of kind.Struct (parameter.Type ∷ []) (v 0 ∷ []) ∷ [];
   variants = variant_of ctor.Tuple (w 2 ∷ []) ∷ [];
   traits = the_trait ∷ [];

@@ -1,6 +1,6 @@
 -- Tables of `fn f() { need(1u8) }` over the facts of `Impls` in which goals hold: the proof of `u8: Tr` is listed, that `<u8 as Tr>::Out` is
 -- `bool` may be, and nothing is complained of.
-use Rattle.std.proofs.Common.{ℕ, zero, suc, ◌≡◌, inl, List, [], ◌∷◌, refl, sym, subst, ◌∙◌, Some, slice_get}
+use Rattle.std.proofs.Common.{ℕ, zero, suc, ◌≡◌, inl, List, [], ◌∷◌, refl, sym, ap, subst, ◌∙◌, Some, slice_get}
 use Rattle.hir_types.specs.declared.ids.ExprOrPatId.{ExprOrPatId}
 use Rattle.hir_types.specs.declared.ids.ExprOrPatId.TheVariants as node
 use Rattle.hir_types.specs.declared.ty.Ty.{Ty}
@@ -29,7 +29,7 @@ use Rattle.infer_needs.proofs.Samples.Needed.{given, table_of, needed, none_aske
 abbrev pub proofs : List Proof
 proofs = by_impl u8 0 [] [] ∷ out_is_bool ∷ []
 
-are_proofs : (A : Aliases) (s : Fill) → AreProofs facts sources A s proofs
+pub are_proofs : (A : Aliases) (s : Fill) → AreProofs facts sources A s proofs
 are_proofs A s zero x is = (let one : by_impl u8 0 [] [] ≡ x = cc in subst (Holds facts sources A s proofs 0) one (u8_holds sources are_sources A s proofs 0))
 are_proofs A s (suc zero) x is = (let one : out_is_bool ≡ x = cc in subst (Holds facts sources A s proofs 1) one (out_holds sources are_sources A s proofs 1))
 are_proofs A s (suc (suc n)) x is = absurd (cc)
@@ -62,27 +62,35 @@ without_entry = goals_hold [] (record { each = λ n x is. absurd (cc); once = λ
 abbrev pub entry : Ty × Ty
 entry = (ty.Projection out (type_args (u8 ∷ [])), ty.Bool)
 
-out_known : HoldsUnknown (found_as u8_term bool_term).parts → ⊥
+pub out_known : HoldsUnknown (found_as u8_term bool_term).parts → ⊥
 out_known = neither (neither (neither nothing (neither nothing nothing)) nothing) (neither nothing nothing)
 
-is_found : IsFound (right (entry ∷ [])) entry
-is_found = record {
-  alias = out;
-  args = type_args (u8 ∷ []);
-  is = refl;
-  proved = record { number = 1; proof = out_is_bool; listed = refl; goal = refl };
-  read = subst IsRead (sym term_bool) (tt, tt);
-  known = λ h. out_known (subst (λ (a : Asked). HoldsUnknown a.parts) out_asks h);
-}
+-- any table of these proofs and that entry
+module _ (r : InferenceResult) (are : r.proofs ≡ proofs) (listed : r.projections ≡ entry ∷ []) where
+  is_found : IsFound r entry
+  is_found = record {
+    alias = out;
+    args = type_args (u8 ∷ []);
+    is = refl;
+    proved = record { number = 1; proof = out_is_bool; listed = ap (λ ps. slice_get ps 1) are; goal = refl };
+    read = subst IsRead (sym term_bool) (tt, tt);
+    known = λ h. out_known (subst (λ (a : Asked). HoldsUnknown a.parts) out_asks h);
+  }
 
-each_found : (n : ℕ) (x : Ty × Ty) → slice_get (entry ∷ []) n ≡ Some x → IsFound (right (entry ∷ [])) x
-each_found zero x is = (let one : entry ≡ x = cc in subst (IsFound (right (entry ∷ []))) one is_found)
-each_found (suc n) x is = absurd (cc)
+  each_found : (n : ℕ) (x : Ty × Ty) → slice_get (entry ∷ []) n ≡ Some x → IsFound r x
+  each_found zero x is = (let one : entry ≡ x = cc in subst (IsFound r) one is_found)
+  each_found (suc n) x is = absurd (cc)
 
-one_entry : (j k : ℕ) (x y : Ty × Ty) → slice_get (entry ∷ []) j ≡ Some x → slice_get (entry ∷ []) k ≡ Some y → x.0 ≡ y.0 → j ≡ k
-one_entry zero zero x y is other same = refl
-one_entry zero (suc k) x y is other same = absurd (cc)
-one_entry (suc j) k x y is other same = absurd (cc)
+  one_entry : (j k : ℕ) (x y : Ty × Ty) → slice_get (entry ∷ []) j ≡ Some x → slice_get (entry ∷ []) k ≡ Some y → x.0 ≡ y.0 → j ≡ k
+  one_entry zero zero x y is other same = refl
+  one_entry zero (suc k) x y is other same = absurd (cc)
+  one_entry (suc j) k x y is other same = absurd (cc)
+
+  pub found_once : AreFound r
+  found_once = record {
+    each = λ n x is. each_found n x (subst (λ js. slice_get js n ≡ Some x) listed is);
+    once = λ j k x y is other. one_entry j k x y (subst (λ js. slice_get js j ≡ Some x) listed is) (subst (λ js. slice_get js k ≡ Some y) listed other);
+  }
 
 pub with_entry : GoalsHold own_body (given one_u8) (right (entry ∷ []))
-with_entry = goals_hold (entry ∷ []) (record { each = each_found; once = one_entry })
+with_entry = goals_hold (entry ∷ []) (found_once (right (entry ∷ [])) refl refl)
