@@ -8,4 +8,5 @@ pub mod Tables
 pub mod WrongTables
 pub mod Taking
 pub mod TrueComplaint
+pub mod Left
 pub mod Unknowns

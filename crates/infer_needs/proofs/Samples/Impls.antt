@@ -1,8 +1,8 @@
 -- Facts for tables about goals: `trait Tr { type Out; }`, `struct W<T>(T);`, `impl Tr for u8 { type Out = bool; }`,
 -- `impl Tr for bool { type Out = char; }`, `impl<T: Tr> Tr for W<T> { type Out = bool; }`, `fn need<T: Tr>(x: T)`,
 -- `fn f() { need(1u8) }` and `fn take<T: Tr>(x: T, y: T::Out)`; and what goals of `f` are answered by.
-use Rattle.std.proofs.Common.{ℕ, zero, suc, ◌≡◌, inl, inr, List, [], ◌∷◌, length, map, refl, sym, ap, subst, ◌∙◌, true, false, Bool, true≢false, Option, Some, None, slice_get}
-use Rattle.std.specs.Prelude.{codes}
+use Rattle.std.proofs.Common.{ℕ, zero, suc, ◌≡◌, inl, inr, List, [], ◌∷◌, ◌++◌, length, map, append-nil, refl, sym, ap, subst, ◌∙◌, false, Some, slice_get}
+use Rattle.std.specs.Prelude.{codes, flat_map}
 use Rattle.hir_types.specs.declared.ids.DefWithBodyId.{DefWithBodyId}
 use Rattle.hir_types.specs.declared.ids.DefWithBodyId.TheVariants as def
 use Rattle.hir_types.specs.declared.ids.FunctionId.{FunctionId}
@@ -171,6 +171,9 @@ w_rules =
     rules_at (parameter.Type ∷ []) (bound (w 2) ∷ []) (w 3) (w 1) (w_term param) bool_term (implemented param ∷ []) w_is (type_layer facts (holes 1) (w 1))
     (λ i. record { kind = implements tr; parts = asked i } ∷ [])
 
+abbrev pub all_said : List Rule
+all_said = said u8_term bool_term [] ++ said bool_term char_term [] ++ said (w_term param) bool_term (implemented param ∷ []) ++ []
+
 -- ---- what goals are answered by
 
 pub nothing_follows : (S : Asked → Type 0) → ((d : Asked) → S d → ⊥) → (n : ℕ) (d : Asked) → Follows facts S n d → ⊥
@@ -196,3 +199,8 @@ no_entries (d ∷ ds) h = absurd (h 0 d refl)
 module _ (s : System) (of : IsSystemOf facts own s) where
   pub no_clauses : s.clauses ≡ []
   no_clauses = of.clauses.are ∙ ap (map fact) (no_entries of.clauses.stated (λ i d is. nothing_follows (IsStated facts own) nothing_stated 8 d (of.clauses.closed.only i d is)))
+
+  pub rules_are : s.rules ≡ all_said
+  rules_are =
+      let none = no_entries of.rules.listed (λ i d is. nothing_follows (IsListed facts) nothing_listed 8 d (of.rules.closed.only i d is)) in
+      of.rules.are ∙ (ap (λ ds. flat_map (impl_rules facts) facts.impls ++ map fact ds) none ∙ (append-nil (flat_map (impl_rules facts) facts.impls) ∙ (λ i. u8_rules i ++ bool_rules i ++ w_rules i ++ [])))

@@ -1,5 +1,5 @@
 -- Tables of `fn f() { need(x) }` over the facts of `Impls`, where `x` is a literal: what nodes need, and what goals of `f` are answered by.
-use Rattle.std.proofs.Common.{ℕ, zero, suc, ◌≡◌, List, [], ◌∷◌, map, refl, sym, ap, subst, ◌∙◌, append-nil, Option, Some, None, slice_get}
+use Rattle.std.proofs.Common.{ℕ, zero, suc, ◌≡◌, List, [], ◌∷◌, map, refl, sym, ap, subst, ◌∙◌, append-nil, Some, None, slice_get}
 use Rattle.std.specs.Prelude.{flat_map}
 use Rattle.std.specs.Option.{option_and_then}
 use Rattle.hir_types.specs.declared.ids.CallableDefId.TheVariants as callable

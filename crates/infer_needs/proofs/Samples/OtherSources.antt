@@ -4,7 +4,6 @@ use Rattle.hir_types.specs.declared.goal.Goal.{Goal}
 use Rattle.goal_answers.specs.Reading.{Fill, Aliases}
 use Rattle.goal_answers.specs.Goals.{Asked, System, implements, asked_at, is_among}
 use Rattle.goal_facts.specs.declared.proof.Proof.{Proof}
-use Rattle.goal_facts.specs.declared.proof.ProofSource.{ProofSource}
 use Rattle.goal_facts.specs.declared.proof.ProofSource.TheVariants as source
 use Rattle.goal_facts.specs.Bounds.{IsListed}
 use Rattle.goal_facts.specs.Goals.{asked_goal}

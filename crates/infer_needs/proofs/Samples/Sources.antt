@@ -1,20 +1,19 @@
 -- Which goals the impls of `Impls` are sources of, whatever aliases read as and whatever stands for holes.
-use Rattle.std.proofs.Common.{ℕ, zero, suc, ◌≡◌, ◌⊎◌, inl, inr, List, [], ◌∷◌, map, refl, sym, ap, ap₂, subst, ◌∙◌, true, false, true≢false, Option, Some, None, slice_get}
+use Rattle.std.proofs.Common.{ℕ, zero, suc, ◌≡◌, ◌⊎◌, inl, inr, List, [], ◌∷◌, map, refl, sym, ap, ap₂, subst, ◌∙◌, true, false, true≢false, Some, slice_get}
 use Rattle.hir_types.specs.declared.goal.Goal.{Goal}
 use Rattle.hir_types.specs.declared.goal.Goal.TheVariants as goal
 use Rattle.hir_types.specs.declared.head.Head.TheVariants as head
-use Rattle.hir_types.specs.declared.head.Hole.{Hole}
 use Rattle.hir_types.specs.declared.ids.ImplId.{ImplId}
 use Rattle.hir_types.specs.declared.ty.GenericArg.{GenericArg}
 use Rattle.hir_types.specs.declared.ty.Ty.{Ty}
 use Rattle.hir_types.specs.declared.ty.Ty.TheVariants as ty
 use Rattle.hir_types.specs.declared.ty.UintTy.TheVariants as uint
-use Rattle.hir_types.specs.Terms.{Term, hole, leaf, pair, type_part, term, arg_term}
-use Rattle.hir_types.specs.TermLaws.{term_bool, term_char, term_uint, term_adt_types, arg_term_type}
+use Rattle.hir_types.specs.Terms.{Term, hole, leaf, pair, type_part, term}
+use Rattle.hir_types.specs.TermLaws.{term_bool, term_uint, term_adt_types, arg_term_type}
 use Rattle.hir_raw.specs.declared.raw.RawImpl.{RawImpl}
 use Rattle.hir_raw.specs.Signatures.{type_args}
-use Rattle.goal_answers.specs.Reading.{Fill, Role, role, IsRead, Aliases, Reads}
-use Rattle.goal_answers.specs.Goals.{Asked, Rule, System, implements, projects, asked_at, only, is_among, Each}
+use Rattle.goal_answers.specs.Reading.{Fill, Role, IsRead, Aliases, Reads}
+use Rattle.goal_answers.specs.Goals.{Asked, Rule, System, implements, projects, asked_at, is_among, Each}
 use Rattle.goal_answers.specs.Answers.{Shadows}
 use Rattle.goal_answers.proofs.Readings.{ReadsBy, role_read, read_reads}
 use Rattle.goal_facts.specs.Goals.{asked_goal}

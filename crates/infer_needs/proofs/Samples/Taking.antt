@@ -1,8 +1,7 @@
 -- Tables of `take(1u8, true)` and of `take(1u8, 'a')` over the facts of `Impls`: what `<u8 as Tr>::Out` is, which the path needs, is listed, and it is
 -- said where it is not what stands there.
-use Rattle.std.proofs.Common.{ℕ, zero, suc, ◌≡◌, ◌⊎◌, inl, inr, true, List, [], ◌∷◌, ◌++◌, map, refl, sym, ap, subst, ◌∙◌, Option, Some, None, slice_get}
+use Rattle.std.proofs.Common.{ℕ, zero, suc, ◌≡◌, ◌⊎◌, inl, inr, true, List, [], ◌∷◌, ◌++◌, map, refl, sym, ap, subst, ◌∙◌, Some, None, slice_get}
 use Rattle.hir_types.specs.declared.ids.CallableDefId.TheVariants as callable
-use Rattle.hir_types.specs.declared.ids.ExprId.{ExprId}
 use Rattle.hir_types.specs.declared.ids.ExprOrPatId.{ExprOrPatId}
 use Rattle.hir_types.specs.declared.ids.ExprOrPatId.TheVariants as node
 use Rattle.hir_types.specs.declared.ids.FunctionId.{FunctionId}
@@ -25,14 +24,13 @@ use Rattle.goal_answers.specs.Answers.{answers}
 use Rattle.goal_answers.proofs.Readings.{hole_filling}
 use Rattle.goal_facts.specs.declared.proof.Proof.{Proof}
 use Rattle.goal_facts.specs.Arguments.{type_at, goal_at}
-use Rattle.goal_facts.specs.Goals.{asked_goal}
 use Rattle.goal_facts.proofs.Written.{type_layer, args_are}
 use Rattle.infer_result.specs.declared.gaps.Gap.{Gap}
 use Rattle.infer_result.specs.declared.result.InferenceResult.{InferenceResult}
 use Rattle.infer_result.specs.AliasNeeds.{alias_goal}
 use Rattle.infer_result.specs.Places.{Given}
 use Rattle.infer_result.specs.Projections.{IsAboutAlias, HasEntry}
-use Rattle.infer_result.specs.Needs.{item_args, needs_at, IsNeeded, HasGap, IsProved, IsUnproved, IsClash, HoldsUnknown, GoalsHold}
+use Rattle.infer_result.specs.Needs.{item_args, needs_at, IsNeeded, HasGap, IsProved, HoldsUnknown, GoalsHold}
 use Rattle.infer_result.specs.Typed.{given as given_in}
 use Rattle.infer_result.proofs.Samples.Small.{e, w, u8, one_u8, body_of}
 use Rattle.infer_result.proofs.Samples.Calling.{top_arg}

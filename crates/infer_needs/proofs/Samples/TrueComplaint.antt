@@ -1,6 +1,5 @@
 -- The table of `fn f() { need('a') }` over the facts of `Impls` that says at the path that `char: Tr` has no proof: that is so, and goals hold.
-use Rattle.std.proofs.Common.{ℕ, zero, suc, ◌≡◌, inl, inr, List, [], ◌∷◌, ◌++◌, refl, sym, ap, subst, ◌∙◌, true≢false, Some, slice_get}
-use Rattle.hir_types.specs.declared.goal.Goal.{Goal}
+use Rattle.std.proofs.Common.{ℕ, zero, suc, ◌≡◌, inl, inr, List, [], ◌∷◌, refl, sym, ap, subst, ◌∙◌, true≢false, Some, slice_get}
 use Rattle.hir_types.specs.declared.ids.ExprId.{ExprId}
 use Rattle.hir_types.specs.declared.ids.ExprOrPatId.{ExprOrPatId}
 use Rattle.hir_types.specs.declared.ids.ExprOrPatId.TheVariants as node
@@ -9,7 +8,7 @@ use Rattle.hir_types.specs.Terms.{Term, hole, pair}
 use Rattle.hir_types.specs.TermLaws.{term_char}
 use Rattle.hir_raw.specs.declared.raw.RawLiteral.{RawLiteral}
 use Rattle.hir_raw.specs.declared.raw.RawLiteral.TheVariants as literal
-use Rattle.goal_answers.specs.Reading.{Aliases, Reads, ReadsAs}
+use Rattle.goal_answers.specs.Reading.{Aliases, Reads}
 use Rattle.goal_answers.specs.Goals.{Asked, Rule, implements, projects, only, SomeOf}
 use Rattle.goal_answers.specs.Answers.{answers}
 use Rattle.goal_answers.specs.Proofs.{IsSource, HasSource, HasProof}
@@ -20,9 +19,8 @@ use Rattle.infer_result.specs.declared.gaps.Gap.{Gap}
 use Rattle.infer_result.specs.declared.gaps.Gap.TheVariants as gap
 use Rattle.infer_result.specs.declared.result.InferenceResult.{InferenceResult}
 use Rattle.infer_result.specs.Needs.{HasGap, HoldsUnknown, IsUnproved, IsTrueUnproved, IsTrueGap, GoalsHold, NeedsHold}
-use Rattle.infer_result.specs.Table.{listed_gaps}
 use Rattle.infer_result.proofs.Samples.Small.{e}
-use Rattle.infer_needs.proofs.Samples.Impls.{tr, out, own_body, u8_term, bool_term, char_term, w_term, param, implemented, found_as, said, u8_rules, bool_rules, w_rules}
+use Rattle.infer_needs.proofs.Samples.Impls.{tr, out, own_body, u8_term, bool_term, char_term, w_term, param, implemented, found_as, all_said, rules_are}
 use Rattle.infer_needs.proofs.Samples.Sources.{reads_bare, neither, nothing, asks, asks_is}
 use Rattle.infer_needs.proofs.Samples.Needed.{given, table_of, path_node, needs_are, needed, none_asked, sources, are_sources}
 
@@ -54,20 +52,14 @@ module _ (A : Aliases) (Proved : Asked → Type 0) (w : Term) (is : w ≡ only c
   not_alias : (t u : Term) (qs : List Asked) → Source (record { head = found_as t u; preds = qs }) → ⊥
   not_alias t u qs h = (let clash : projects out ≡ implements tr = h.kind in cc)
 
-  abbrev listed : List Rule
-  listed = said u8_term bool_term [] ++ said bool_term char_term [] ++ said (w_term param) bool_term (implemented param ∷ []) ++ []
-
-  none_listed : SomeOf Source listed → ⊥
+  none_listed : SomeOf Source all_said → ⊥
   none_listed =
       neither (not_u8 []) (neither (not_alias u8_term bool_term []) (neither (not_bool []) (neither (not_alias bool_term char_term [])
       (neither (not_w (implemented param ∷ [])) (neither (not_alias (w_term param) bool_term (implemented param ∷ [])) nothing)))))
 
-  rules_are : sources.rules ≡ listed
-  rules_are = λ i. u8_rules i ++ bool_rules i ++ w_rules i ++ []
-
   no_source : HasSource sources A Proved (implements tr) w → ⊥
   no_source (inl clause) = clause
-  no_source (inr (none, inl rule)) = none_listed (subst (SomeOf Source) rules_are rule)
+  no_source (inr (none, inl rule)) = none_listed (subst (SomeOf Source) (rules_are sources are_sources) rule)
   no_source (inr (none, inr copied)) = true≢false (sym copied.0)
 
 no_proof : (A : Aliases) (n : ℕ) → HasProof sources A n (implemented char_term) → ⊥

@@ -1,5 +1,5 @@
 -- Tables over the facts of `Impls` in which goals don't hold.
-use Rattle.std.proofs.Common.{ℕ, zero, suc, ◌≡◌, inl, inr, Bool, true, false, List, [], ◌∷◌, ◌++◌, map, refl, sym, ap, subst, ◌∙◌, true≢false, Option, Some, None, slice_get}
+use Rattle.std.proofs.Common.{ℕ, suc, ◌≡◌, inl, inr, Bool, true, false, List, [], ◌∷◌, ◌++◌, map, refl, sym, ap, subst, ◌∙◌, true≢false, Some, slice_get}
 use Rattle.std.specs.Prelude.{flat_map}
 use Rattle.hir_types.specs.declared.goal.Goal.{Goal}
 use Rattle.hir_types.specs.declared.goal.Goal.TheVariants as goal
@@ -14,7 +14,7 @@ use Rattle.hir_types.specs.Terms.{hole}
 use Rattle.hir_types.specs.TermLaws.{term_char, term_uint}
 use Rattle.hir_raw.specs.Signatures.{type_args}
 use Rattle.goal_answers.specs.Reading.{Aliases}
-use Rattle.goal_answers.specs.Goals.{Asked, Rule, System, implements, only, is_among, OneIf, Each, SomeOf, Verdicts}
+use Rattle.goal_answers.specs.Goals.{Rule, System, implements, only, is_among, OneIf, Each, SomeOf, Verdicts}
 use Rattle.goal_answers.specs.Answers.{Proves, ShadowsNot, HasSource, alias_next, answers}
 use Rattle.goal_answers.proofs.Readings.{read_reads, hole_filling}
 use Rattle.goal_facts.specs.declared.proof.Proof.{Proof}
@@ -26,7 +26,7 @@ use Rattle.infer_result.specs.declared.gaps.Gap.TheVariants as gap
 use Rattle.infer_result.specs.declared.result.InferenceResult.{InferenceResult}
 use Rattle.infer_result.specs.Needs.{HasGap, GoalsHold, NeedsHold}
 use Rattle.infer_result.proofs.Samples.Small.{e, u8, one_u8}
-use Rattle.infer_needs.proofs.Samples.Impls.{tr, out, facts, own, own_body, for_bool, for_w, u8_term, bool_term, char_term, implemented, found_as, u8_rules, no_clauses}
+use Rattle.infer_needs.proofs.Samples.Impls.{tr, out, facts, own, own_body, for_bool, for_w, u8_term, char_term, implemented, found_as, u8_rules, no_clauses}
 use Rattle.infer_needs.proofs.Samples.Sources.{asks_out_is}
 use Rattle.infer_needs.proofs.Samples.AliasProofs.{not_char}
 use Rattle.infer_needs.proofs.Samples.Needed.{given, table_of, no_needs, needed}
