@@ -8,5 +8,6 @@ pub mod Tables
 pub mod WrongTables
 pub mod Taking
 pub mod TrueComplaint
+pub mod PatternNeeds
 pub mod Left
 pub mod Unknowns

@@ -1,6 +1,6 @@
 -- Facts for tables about goals: `trait Tr { type Out; }`, `struct W<T>(T);`, `impl Tr for u8 { type Out = bool; }`,
 -- `impl Tr for bool { type Out = char; }`, `impl<T: Tr> Tr for W<T> { type Out = bool; }`, `fn need<T: Tr>(x: T)`,
--- `fn f() { need(1u8) }` and `fn take<T: Tr>(x: T, y: T::Out)`; and what goals of `f` are answered by.
+-- `fn f() { need(1u8) }`, `fn take<T: Tr>(x: T, y: T::Out)` and `struct H<T: Tr>(T::Out);`; and what goals of `f` are answered by.
 use Rattle.std.proofs.Common.{ℕ, zero, suc, ◌≡◌, inl, inr, List, [], ◌∷◌, ◌++◌, length, map, append-nil, refl, sym, ap, subst, ◌∙◌, false, Some, slice_get}
 use Rattle.std.specs.Prelude.{codes, flat_map}
 use Rattle.hir_types.specs.declared.ids.DefWithBodyId.{DefWithBodyId}
@@ -18,7 +18,9 @@ use Rattle.hir_types.specs.declared.ty.UintTy.TheVariants as uint
 use Rattle.hir_types.specs.Assigned.{arg_as_type}
 use Rattle.hir_types.specs.Terms.{Term, hole, pair, node, type_part, term}
 use Rattle.hir_types.specs.TermLaws.{term_var}
+use Rattle.hir_raw.specs.declared.raw.RawAdt.{RawAdt}
 use Rattle.hir_raw.specs.declared.raw.RawAdtKind.TheVariants as kind
+use Rattle.hir_raw.specs.declared.raw.RawVariant.{RawVariant}
 use Rattle.hir_raw.specs.declared.raw.RawAlias.{RawAlias}
 use Rattle.hir_raw.specs.declared.raw.RawArgs.TheVariants as args
 use Rattle.hir_raw.specs.declared.raw.RawCtor.TheVariants as ctor
@@ -94,10 +96,16 @@ take = record (function_of (parameter.Type ∷ []) (w 2 ∷ w 6 ∷ []) (w 4)) {
 abbrev caller : RawFn
 caller = record (function_of [] [] (w 4)) { body = Some (record { 0 = 0 }) }
 
+abbrev holding : RawAdt
+holding = record (adt_of kind.Struct (parameter.Type ∷ []) (v 1 ∷ [])) { preds = bound (w 2) ∷ [] }
+
+abbrev holder : RawVariant
+holder = record (variant_of ctor.Tuple (w 6 ∷ [])) { adt = record { 0 = 1 } }
+
 abbrev pub facts : RawFacts
 facts = record (facts_with types (need ∷ caller ∷ take ∷ [])) {
-  adts = adt_of kind.Struct (parameter.Type ∷ []) (v 0 ∷ []) ∷ [];
-  variants = variant_of ctor.Tuple (w 2 ∷ []) ∷ [];
+  adts = adt_of kind.Struct (parameter.Type ∷ []) (v 0 ∷ []) ∷ holding ∷ [];
+  variants = variant_of ctor.Tuple (w 2 ∷ []) ∷ holder ∷ [];
   traits = the_trait ∷ [];
   aliases = the_alias ∷ [];
   impls = for_u8 ∷ for_bool ∷ for_w ∷ [];

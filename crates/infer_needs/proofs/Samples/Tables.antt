@@ -18,7 +18,7 @@ use Rattle.infer_result.specs.declared.result.InferenceResult.{InferenceResult}
 use Rattle.infer_result.specs.Projections.{IsFound, AreFound}
 use Rattle.infer_result.specs.Needs.{HasGap, HoldsUnknown, GoalsHold}
 use Rattle.infer_result.proofs.Samples.Small.{u8, one_u8}
-use Rattle.infer_needs.proofs.Samples.Impls.{out, facts, own_body, u8_term, bool_term, found_as}
+use Rattle.infer_needs.proofs.Samples.Impls.{out, facts, own_body, u8_term, bool_term, char_term, found_as}
 use Rattle.infer_needs.proofs.Samples.Sources.{neither, nothing, asks_u8}
 use Rattle.infer_needs.proofs.Samples.ImplProofs.{by_impl, u8_holds}
 use Rattle.infer_needs.proofs.Samples.AliasProofs.{out_is_bool, out_asks, out_holds}
@@ -64,6 +64,9 @@ entry = (ty.Projection out (type_args (u8 ∷ [])), ty.Bool)
 
 pub out_known : HoldsUnknown (found_as u8_term bool_term).parts → ⊥
 out_known = neither (neither (neither nothing (neither nothing nothing)) nothing) (neither nothing nothing)
+
+pub char_known : HoldsUnknown (found_as u8_term char_term).parts → ⊥
+char_known = neither (neither (neither nothing (neither nothing nothing)) nothing) (neither nothing nothing)
 
 -- any table of these proofs and that entry
 module _ (r : InferenceResult) (are : r.proofs ≡ proofs) (listed : r.projections ≡ entry ∷ []) where

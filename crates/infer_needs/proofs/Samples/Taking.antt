@@ -39,7 +39,7 @@ use Rattle.infer_needs.proofs.Samples.Sources.{neither, nothing, asks_u8}
 use Rattle.infer_needs.proofs.Samples.ImplProofs.{by_impl}
 use Rattle.infer_needs.proofs.Samples.AliasProofs.{out_is_bool, out_asks, not_char}
 use Rattle.infer_needs.proofs.Samples.Needed.{path_node, sources, are_sources}
-use Rattle.infer_needs.proofs.Samples.Tables.{proofs, are_proofs, entry, out_known, found_once}
+use Rattle.infer_needs.proofs.Samples.Tables.{proofs, are_proofs, entry, out_known, char_known, found_once}
 
 abbrev taking : FunctionId
 taking = record { 0 = 2 }
@@ -149,9 +149,6 @@ no_entry ps h =
         | inr said ↦ no_gap yes ty.Bool bool_term term_bool ps [] path_node _ said.1
       ]
     ]
-
-char_known : HoldsUnknown (found_as u8_term char_term).parts → ⊥
-char_known = neither (neither (neither nothing (neither nothing nothing)) nothing) (neither nothing nothing)
 
 -- where another type stands than `<u8 as Tr>::Out` is, without a complaint, whatever else is listed
 pub other_type : (ps : List Proof) (js : List (Ty × Ty)) → GoalsHold own_body (given letter) (table_of ty.Char ps js) → ⊥

@@ -12,6 +12,7 @@ use Rattle.hir_types.specs.declared.ty.Ty.TheVariants as ty
 use Rattle.hir_types.specs.declared.ty.UintTy.TheVariants as uint
 use Rattle.hir_types.specs.Terms.{hole}
 use Rattle.hir_types.specs.TermLaws.{term_char, term_uint}
+use Rattle.hir_raw.specs.declared.raw.RawLiteral.{RawLiteral}
 use Rattle.hir_raw.specs.Signatures.{type_args}
 use Rattle.goal_answers.specs.Reading.{Aliases}
 use Rattle.goal_answers.specs.Goals.{Rule, System, implements, only, is_among, OneIf, Each, SomeOf, Verdicts}
@@ -24,10 +25,11 @@ use Rattle.goal_facts.specs.Systems.{fact, IsSystemOf}
 use Rattle.infer_result.specs.declared.gaps.Gap.{Gap}
 use Rattle.infer_result.specs.declared.gaps.Gap.TheVariants as gap
 use Rattle.infer_result.specs.declared.result.InferenceResult.{InferenceResult}
-use Rattle.infer_result.specs.Needs.{HasGap, GoalsHold, NeedsHold}
+use Rattle.infer_result.specs.Needs.{HasGap, IsProved, GoalsHold, NeedsHold}
 use Rattle.infer_result.proofs.Samples.Small.{e, u8, one_u8}
 use Rattle.infer_needs.proofs.Samples.Impls.{tr, out, facts, own, own_body, for_bool, for_w, u8_term, char_term, implemented, found_as, u8_rules, no_clauses}
-use Rattle.infer_needs.proofs.Samples.Sources.{asks_out_is}
+use Rattle.infer_needs.proofs.Samples.Sources.{asks_out_is, w_of}
+use Rattle.infer_needs.proofs.Samples.ImplProofs.{by_impl, other_type, no_child}
 use Rattle.infer_needs.proofs.Samples.AliasProofs.{not_char}
 use Rattle.infer_needs.proofs.Samples.Needed.{given, table_of, no_needs, needed}
 
@@ -76,8 +78,8 @@ needs_hold ps js gs s of n a h = subst (answers s 8).Yes (sym (needed one_u8 u8 
 -- ---- refused
 
 -- a complaint that `u8` doesn't implement the trait, at whatever node
-pub invented : (r : InferenceResult) (n m : ExprOrPatId) (q : Goal) → asked_goal q ≡ implemented u8_term → HasGap r n (gap.Unproved m q) → GoalsHold own_body (given one_u8) r → ⊥
-invented r n m q is has h = (h.gaps n (gap.Unproved m q) has).1.fails (subst (answers h.system 8).Yes (sym is) (u8_yes h.system h.of_item 7))
+pub invented : (l : RawLiteral) (r : InferenceResult) (n m : ExprOrPatId) (q : Goal) → asked_goal q ≡ implemented u8_term → HasGap r n (gap.Unproved m q) → GoalsHold own_body (given l) r → ⊥
+invented l r n m q is has h = (h.gaps n (gap.Unproved m q) has).1.fails (subst (answers h.system 8).Yes (sym is) (u8_yes h.system h.of_item 7))
 
 -- a complaint at the argument, at the call or at the block, which need nothing, of whatever goal
 pub nothing_needed : (ps : List Proof) (js : List (Ty × Ty)) (gs : List (List Gap)) (k : ℕ) (m : ExprOrPatId) (q : Goal)
@@ -92,10 +94,28 @@ top_alias k xs = ap out-Ty (sym (ty.rolls-Projection k xs)) ∙ out-roll-Ty (Ty-
 same_alias : (k m : TypeAliasId) (xs ys : List GenericArg) → ty.Projection k xs ≡ ty.Projection m ys → (k ≡ m) × (xs ≡ ys)
 same_alias k m xs ys is = (let same : Ty-F.Projection k xs ≡ Ty-F.Projection m ys = sym (top_alias k xs) ∙ (ap out-Ty is ∙ top_alias m ys) in (cc, cc))
 
--- that `<u8 as Tr>::Out` is `char`, where the impl says `bool`, whatever else is in the table
-pub wrong_entry : (r : InferenceResult) (n : ℕ) → slice_get r.projections n ≡ Some (ty.Projection out (type_args (u8 ∷ [])), ty.Char) → GoalsHold own_body (given one_u8) r → ⊥
-wrong_entry r n is h =
-    let x = h.found.each n (ty.Projection out (type_args (u8 ∷ [])), ty.Char) is in
-    let (alias, args) = same_alias out x.alias (type_args (u8 ∷ [])) x.args x.is in
-    let goal : asked_goal x.proved.proof.goal ≡ found_as u8_term char_term = x.proved.goal ∙ (λ j. asked_goal (goal.Projection (sym alias j) (sym args j) ty.Char)) ∙ asks_out_is ty.Char char_term term_char in
-    not_char h.system h.of_item (answers h.system 8).Alias hole r.proofs x.proved.number x.proved.proof x.proved.listed goal (h.proofs hole hole_filling)
+-- `<u8 as Tr>::Out` is not `char`: no table has a proof of it
+char_unproved : (l : RawLiteral) (r : InferenceResult) (h : GoalsHold own_body (given l) r) (k : TypeAliasId) (xs : List GenericArg) → ty.Projection out (type_args (u8 ∷ [])) ≡ ty.Projection k xs → IsProved r (asked_goal (goal.Projection k xs ty.Char)) → ⊥
+char_unproved l r h k xs is proved =
+    let (alias, args) = same_alias out k (type_args (u8 ∷ [])) xs is in
+    let asked : asked_goal proved.proof.goal ≡ found_as u8_term char_term = proved.goal ∙ ((λ j. asked_goal (goal.Projection (sym alias j) (sym args j) ty.Char)) ∙ asks_out_is ty.Char char_term term_char) in
+    not_char h.system h.of_item (answers h.system 8).Alias hole r.proofs proved.number proved.proof proved.listed asked (h.proofs hole hole_filling)
+
+-- an entry that it is, whatever else is in the table
+pub wrong_entry : (l : RawLiteral) (r : InferenceResult) (n : ℕ) → slice_get r.projections n ≡ Some (ty.Projection out (type_args (u8 ∷ [])), ty.Char) → GoalsHold own_body (given l) r → ⊥
+wrong_entry l r n is h = let x = h.found.each n (ty.Projection out (type_args (u8 ∷ [])), ty.Char) is in char_unproved l r h x.alias x.args x.is x.proved
+
+-- a complaint that it is this as well
+pub wrong_clash : (l : RawLiteral) (r : InferenceResult) (n m : ExprOrPatId) (t : Ty) → HasGap r n (gap.Clash m (ty.Projection out (type_args (u8 ∷ []))) t ty.Char) → GoalsHold own_body (given l) r → ⊥
+wrong_clash l r n m t has h = let x = (h.gaps n (gap.Clash m (ty.Projection out (type_args (u8 ∷ []))) t ty.Char) has).1 in char_unproved l r h x.alias x.args x.is x.proved
+
+-- a complaint that an associated type is two types, which are one
+pub no_clash : (l : RawLiteral) (r : InferenceResult) (n m : ExprOrPatId) (a t : Ty) → HasGap r n (gap.Clash m a t t) → GoalsHold own_body (given l) r → ⊥
+no_clash l r n m a t has h = (h.gaps n (gap.Clash m a t t) has).1.differ refl
+
+-- a proof of `bool: Tr` by the impl for `u8`, and one of `W<u8>: Tr` without its child
+pub wrong_proof : (l : RawLiteral) (r : InferenceResult) (n : ℕ) (xs : List Ty) (children : List ℕ) → slice_get r.proofs n ≡ Some (by_impl ty.Bool 0 xs children) → GoalsHold own_body (given l) r → ⊥
+wrong_proof l r n xs children is h = other_type h.system (answers h.system 8).Alias hole r.proofs n xs children is (h.proofs hole hole_filling)
+
+pub childless_proof : (l : RawLiteral) (r : InferenceResult) (n : ℕ) (xs : List Ty) → slice_get r.proofs n ≡ Some (by_impl (w_of u8) 2 xs []) → GoalsHold own_body (given l) r → ⊥
+childless_proof l r n xs is h = no_child h.system (answers h.system 8).Alias hole r.proofs n xs [] is (h.proofs hole hole_filling) refl
