@@ -2,6 +2,7 @@ pub mod Impls
 pub mod Sources
 pub mod ImplProofs
 pub mod OtherSources
+pub mod ClauseProofs
 pub mod AliasProofs
 pub mod Needed
 pub mod Tables

@@ -30,12 +30,12 @@ use Rattle.infer_result.specs.declared.result.InferenceResult.{InferenceResult}
 use Rattle.infer_result.specs.AliasNeeds.{alias_goal}
 use Rattle.infer_result.specs.Places.{Given}
 use Rattle.infer_result.specs.Projections.{IsAboutAlias, HasEntry}
-use Rattle.infer_result.specs.Needs.{item_args, needs_at, IsNeeded, HasGap, IsProved, HoldsUnknown, GoalsHold}
+use Rattle.infer_result.specs.Needs.{item_args, needs_at, IsNeeded, HasGap, IsProved, GoalsHold}
 use Rattle.infer_result.specs.Typed.{given as given_in}
 use Rattle.infer_result.proofs.Samples.Small.{e, w, u8, one_u8, body_of}
 use Rattle.infer_result.proofs.Samples.Calling.{top_arg}
 use Rattle.infer_needs.proofs.Samples.Impls.{tr, out, bound, take, facts, own_body, u8_term, bool_term, char_term, implemented, found_as}
-use Rattle.infer_needs.proofs.Samples.Sources.{neither, nothing, asks_u8}
+use Rattle.infer_needs.proofs.Samples.Sources.{asks_u8}
 use Rattle.infer_needs.proofs.Samples.ImplProofs.{by_impl}
 use Rattle.infer_needs.proofs.Samples.AliasProofs.{out_is_bool, out_asks, not_char}
 use Rattle.infer_needs.proofs.Samples.Needed.{path_node, sources, are_sources}

@@ -1,10 +1,3 @@
-use Rattle.infer_needs.proofs.Samples.Taking.{with_entry, no_entry}
-use Rattle.infer_needs.proofs.Samples.WrongTables.{wrong_entry}
-use Rattle.infer_needs.proofs.Samples.TrueComplaint.{goals_hold}
-use Rattle.infer_needs.proofs.Samples.OtherSources.{built_in}
-use Rattle.infer_needs.proofs.Samples.Left.{listed}
-use Rattle.infer_needs.proofs.Samples.PatternNeeds.{nothing_said}
-use Rattle.infer_needs.proofs.Samples.Unknowns.{not_everywhere}
 use Rattle.std.proofs.Common.{◌≡◌, true≢false, sym}
 use Rattle.goal_answers.proofs.Upto.{each_all}
 use Rattle.goal_facts.proofs.Systems.{each_get}
