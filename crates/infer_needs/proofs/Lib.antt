@@ -7,3 +7,4 @@ pub mod Judging
 pub mod ReadsYes
 pub mod Leaving
 pub mod Holding
+pub mod Samples

@@ -1,0 +1,14 @@
+pub mod Impls
+pub mod Sources
+pub mod ImplProofs
+pub mod OtherSources
+pub mod ClauseProofs
+pub mod AliasProofs
+pub mod Needed
+pub mod Tables
+pub mod WrongTables
+pub mod Taking
+pub mod TrueComplaint
+pub mod PatternNeeds
+pub mod Left
+pub mod Unknowns

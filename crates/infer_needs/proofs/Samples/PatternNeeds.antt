@@ -1,0 +1,180 @@
+-- Tables of `fn g(o: H<u8>) { let H(x) = o; }` over the facts of `Impls`: the pattern needs that `<u8 as Tr>::Out` is the type that stands in its item.
+use Rattle.std.proofs.Common.{ℕ, zero, suc, ◌≡◌, inl, inr, List, [], ◌∷◌, refl, sym, ap, subst, ◌∙◌, Some, None, slice_get}
+use Rattle.hir_types.specs.declared.ids.CallableDefId.TheVariants as callable
+use Rattle.hir_types.specs.declared.ids.ExprOrPatId.{ExprOrPatId}
+use Rattle.hir_types.specs.declared.ids.ExprOrPatId.TheVariants as node
+use Rattle.hir_types.specs.declared.ty.GenericArg.{GenericArg}
+use Rattle.hir_types.specs.declared.ty.Ty.{Ty, Ty-F, out-Ty, out-roll-Ty}
+use Rattle.hir_types.specs.declared.ty.Ty.TheVariants as ty
+use Rattle.hir_types.specs.declared.ty.UintTy.TheVariants as uint
+use Rattle.hir_types.specs.Assigned.{arg_as_type}
+use Rattle.hir_types.specs.Terms.{Term, hole, pair, term}
+use Rattle.hir_types.specs.TermLaws.{term_bool, term_char, term_uint}
+use Rattle.hir_types.specs.Types.{unit}
+use Rattle.hir_raw.specs.declared.raw.RawBody.{RawBody}
+use Rattle.hir_raw.specs.declared.raw.RawExpr.TheVariants as expr
+use Rattle.hir_raw.specs.declared.raw.RawPat.TheVariants as pat
+use Rattle.hir_raw.specs.declared.raw.RawPath.TheVariants as path
+use Rattle.hir_raw.specs.declared.raw.RawStmt.TheVariants as stmt
+use Rattle.hir_raw.specs.Signatures.{type_args}
+use Rattle.goal_answers.specs.Goals.{Asked, projects, only}
+use Rattle.goal_answers.specs.Answers.{answers}
+use Rattle.goal_answers.proofs.Readings.{hole_filling}
+use Rattle.goal_facts.specs.declared.proof.Proof.{Proof}
+use Rattle.goal_facts.specs.Arguments.{type_at}
+use Rattle.goal_facts.proofs.Written.{type_layer, args_are}
+use Rattle.infer_result.specs.declared.gaps.Gap.{Gap}
+use Rattle.infer_result.specs.declared.modes.BindingMode.TheVariants as mode
+use Rattle.infer_result.specs.declared.result.InferenceResult.{InferenceResult}
+use Rattle.infer_result.specs.AliasNeeds.{alias_goal}
+use Rattle.infer_result.specs.Places.{Given}
+use Rattle.infer_result.specs.Projections.{IsAboutAlias, HasEntry}
+use Rattle.infer_result.specs.Needs.{needs_at, pat_needs_by, pat_needs_at, IsNeeded, HasGap, IsProved, GoalsHold}
+use Rattle.infer_result.specs.Typed.{given as given_in}
+use Rattle.infer_result.proofs.Samples.Small.{e, p, b, w, u8, plain, body_with}
+use Rattle.infer_result.proofs.Samples.Calling.{top_arg}
+use Rattle.infer_result.proofs.Samples.Constructors.{v}
+use Rattle.infer_needs.proofs.Samples.Impls.{out, facts, own_body, u8_term, bool_term, char_term, found_as}
+use Rattle.infer_needs.proofs.Samples.AliasProofs.{out_is_bool, out_asks, not_char}
+use Rattle.infer_needs.proofs.Samples.Needed.{sources, are_sources}
+use Rattle.infer_needs.proofs.Samples.Tables.{proofs, are_proofs, entry, out_known, char_known, found_once}
+
+abbrev body : RawBody
+body =
+    body_with (p 0 ∷ []) (expr.Path (path.Local (b 0)) ∷ expr.Block None (stmt.Let (p 1) None (Some (e 0)) None ∷ []) None ∷ []) 1
+    (pat.Bind (b 0) None ∷ pat.TupleStruct (v 1) (p 2 ∷ []) ∷ pat.Bind (b 1) None ∷ []) (plain ∷ plain ∷ [])
+
+abbrev given : Given
+given = given_in facts own_body body
+
+abbrev whole : Ty
+whole = ty.Adt (record { 0 = 1 }) (type_args (u8 ∷ []))
+
+-- the constructor at `u8`, where the associated type is this type
+abbrev item : Ty → Ty
+item t = ty.FnDef (callable.VariantId (v 1)) (type_args (u8 ∷ t ∷ []))
+
+abbrev table_of : Ty → List Proof → List (Ty × Ty) → InferenceResult
+table_of t proofs found = record {
+  type_of_expr = Some whole ∷ Some unit ∷ [];
+  type_of_pat = Some whole ∷ Some whole ∷ Some t ∷ [];
+  item_of_pat = None ∷ Some (item t) ∷ None ∷ [];
+  type_of_binding = Some whole ∷ Some t ∷ [];
+  type_of_placeholder = [];
+  binding_modes = Some mode.Move ∷ None ∷ Some mode.Move ∷ [];
+  expr_mismatches = None ∷ None ∷ [];
+  expr_diagnostics = None ∷ None ∷ [];
+  pat_mismatches = None ∷ None ∷ None ∷ [];
+  pat_diagnostics = None ∷ None ∷ None ∷ [];
+  expr_variants = None ∷ None ∷ [];
+  pat_variants = None ∷ Some (v 1) ∷ None ∷ [];
+  seen = [];
+  proofs = proofs;
+  projections = found;
+  expr_gaps = [];
+  pat_gaps = [];
+  general = None;
+}
+
+abbrev pattern : ExprOrPatId
+pattern = node.PatId (p 1)
+
+-- ---- what nodes need
+
+top_item : (xs : List GenericArg) → out-Ty (ty.FnDef (callable.VariantId (v 1)) xs) ≡ Ty-F.FnDef (callable.VariantId (v 1)) xs
+top_item xs = ap out-Ty (sym (ty.rolls-FnDef (callable.VariantId (v 1)) xs)) ∙ out-roll-Ty (Ty-F.FnDef (callable.VariantId (v 1)) xs)
+
+module _ (t : Ty) (x : Term) (t_is : term t ≡ x) (ps : List Proof) (js : List (Ty × Ty)) where
+  abbrev r : InferenceResult
+  r = table_of t ps js
+
+  abbrev xs : List GenericArg
+  xs = type_args (u8 ∷ t ∷ [])
+
+  at_param : type_at facts xs (w 2) ≡ u8_term
+  at_param = type_layer facts xs (w 2) ∙ (ap (λ z. term (arg_as_type z)) (top_arg u8) ∙ term_uint uint.U8)
+
+  alias_is : alias_goal facts xs 1 out (w 2 ∷ []) ≡ found_as u8_term x
+  alias_is = λ i. record { kind = projects out; parts = pair ((args_are facts xs (w 2 ∷ []) ∙ ap only at_param) i) ((ap (λ z. term (arg_as_type z)) (top_arg t) ∙ t_is) i) }
+
+  needs_are : pat_needs_at facts r 1 ≡ found_as u8_term x ∷ []
+  needs_are = ap (pat_needs_by facts) (top_item xs) ∙ ap (λ g. g ∷ []) alias_is
+
+  pattern_needs : IsNeeded given r pattern (found_as u8_term x)
+  pattern_needs = record { «at» = 0; among = ap (λ gs. slice_get gs 0) needs_are }
+
+  no_gap : (n : ExprOrPatId) (y : Gap) → HasGap r n y → ⊥
+  no_gap (node.ExprId k) y h = (let none : slice_get [] k.0 ≡ Some h.gaps = h.at in cc)
+  no_gap (node.PatId k) y h = (let none : slice_get [] k.0 ≡ Some h.gaps = h.at in cc)
+
+  one_is : (j : ℕ) (a : Asked) → slice_get (found_as u8_term x ∷ []) j ≡ Some a → a ≡ found_as u8_term x
+  one_is zero a h = cc
+  one_is (suc j) a h = absurd (cc)
+
+  of_expr : (k j : ℕ) (a : Asked) → slice_get (needs_at facts body r k) j ≡ Some a → ⊥
+  of_expr zero j a h = cc
+  of_expr (suc zero) j a h = cc
+  of_expr (suc (suc k)) j a h = cc
+
+  of_pat : (k j : ℕ) (a : Asked) → slice_get (pat_needs_at facts r k) j ≡ Some a → a ≡ found_as u8_term x
+  of_pat zero j a h = absurd (cc)
+  of_pat (suc zero) j a h = one_is j a (subst (λ gs. slice_get gs j ≡ Some a) needs_are h)
+  of_pat (suc (suc zero)) j a h = absurd (cc)
+  of_pat (suc (suc (suc k))) j a h = absurd (cc)
+
+  needed : (n : ExprOrPatId) (a : Asked) → IsNeeded given r n a → a ≡ found_as u8_term x
+  needed (node.ExprId k) a h = absurd (of_expr k.0 h.at a h.among)
+  needed (node.PatId k) a h = of_pat k.0 h.at a h.among
+
+-- ---- refused
+
+-- neither a proof of what the pattern needs nor a complaint, whatever else is listed
+pub nothing_said : (js : List (Ty × Ty)) → GoalsHold own_body given (table_of ty.Bool [] js) → ⊥
+nothing_said js h =
+    elim (h.needs pattern (found_as u8_term bool_term) (pattern_needs ty.Bool bool_term term_bool [] js)) [
+      | inl proved ↦ (let none = proved.listed in cc)
+      | inr other ↦ elim other [ inl said ↦ no_gap ty.Bool bool_term term_bool [] js pattern _ said.1 | inr unknown ↦ out_known unknown ]
+    ]
+
+-- without an entry, whatever proofs are listed
+pub no_entry : (ps : List Proof) → GoalsHold own_body given (table_of ty.Bool ps []) → ⊥
+no_entry ps h =
+    let about : IsAboutAlias (found_as u8_term bool_term) = record { alias = out; is = refl; read = (tt, tt); known = out_known } in
+    elim (h.entries pattern (found_as u8_term bool_term) (pattern_needs ty.Bool bool_term term_bool ps []) about) [
+      | inl found ↦ (let none = found.3.1 in cc)
+      | inr other ↦ elim other [
+        | inl clash ↦ no_gap ty.Bool bool_term term_bool ps [] pattern _ clash.4
+        | inr said ↦ no_gap ty.Bool bool_term term_bool ps [] pattern _ said.1
+      ]
+    ]
+
+-- where another type stands in the item than `<u8 as Tr>::Out` is, without a complaint, whatever else is listed
+pub other_type : (ps : List Proof) (js : List (Ty × Ty)) → GoalsHold own_body given (table_of ty.Char ps js) → ⊥
+other_type ps js h =
+    elim (h.needs pattern (found_as u8_term char_term) (pattern_needs ty.Char char_term term_char ps js)) [
+      | inl proved ↦ not_char h.system h.of_item (answers h.system 8).Alias hole ps proved.number proved.proof proved.listed proved.goal (h.proofs hole hole_filling)
+      | inr other ↦ elim other [ inl said ↦ no_gap ty.Char char_term term_char ps js pattern _ said.1 | inr unknown ↦ char_known unknown ]
+    ]
+
+-- ---- taken
+
+abbrev right : InferenceResult
+right = table_of ty.Bool proofs (entry ∷ [])
+
+is_proved : (a : Asked) → a ≡ found_as u8_term bool_term → IsProved right a
+is_proved a is = record { number = 1; proof = out_is_bool; listed = refl; goal = out_asks ∙ sym is }
+
+has_entry : (a : Asked) → a ≡ found_as u8_term bool_term → HasEntry right.projections a
+has_entry a is = (out, type_args (u8 ∷ []), ty.Bool, (0, refl), out_asks ∙ sym is)
+
+pub with_entry : GoalsHold own_body given right
+with_entry = record {
+  system = sources;
+  of_item = are_sources;
+  proofs = λ s filling. are_proofs (answers sources 8).Alias s;
+  needs = λ n a h. inl (is_proved a (needed ty.Bool bool_term term_bool proofs (entry ∷ []) n a h));
+  gaps = λ n x h. absurd (no_gap ty.Bool bool_term term_bool proofs (entry ∷ []) n x h);
+  once = λ n x y h k same. absurd (no_gap ty.Bool bool_term term_bool proofs (entry ∷ []) n x h);
+  found = found_once right refl refl;
+  entries = λ n a h about. inl (has_entry a (needed ty.Bool bool_term term_bool proofs (entry ∷ []) n a h));
+}
