@@ -5,15 +5,15 @@ The calls are in turn `need(1u8);`, `need(true);` and `need((1u8, true));`, of `
 for `u8`, for `bool`, for `i32`, and for each pair of types that implement it; `of(1u8);`, of `fn of<T: Of<U>, U>(x: T) -> U`, where the
 one impl of `Of` says what `U` is; and `need(1);`, of which the goal is open till the literal falls back to `i32` in the end.
 What is printed is as of `bench/lets.py`, rustc's time of its pass `type_check_crate` with it where rustc is found.
-Usage: bench/needs.py [N] [open|read|stay] (30000 where not given; 4N must fit into 2^24 bytes; with `open` there are calls `need(1);` alone, for which
+Usage: bench/needs.py [N] [open|read|stay|fields] (30000 where not given; 4N must fit into 2^24 bytes; with `open` there are calls `need(1);` alone, for which
 rustc takes minutes from some 40000 on; with `read` calls of `fn get<T: Has>(x: T) -> T::Out`, in turn `get(1u8);`, `get(get(1u8));` and `get(1);`, where
 `u8: Has<Out = bool>`, `bool: Has<Out = char>` and `i32: Has<Out = u8>`; with `stay` in turn `get(x);` and `same(get(x), get(x));`, where all that is known of
-the type of `x` is that it has an `Out`)
+the type of `x` is that it has an `Out`; with `fields` in turn `let v = Two(1u8, true);` and `let Two(a, b) = v;`, of `struct Two<T: Has>(T, T::Out)`)
 Build the program first: cd crates/infer_tool && rt run -- table fn 0 < ../../examples/first_run.json
 """
 import sys
 
-from lets import fn_fact, measure_at
+from lets import fn_fact, measure_at, variant_fact
 
 SOURCE = """pub trait Tr {}
 impl Tr for u8 {}
@@ -88,6 +88,35 @@ def staying_needs(function, count):
         function.source.append(STAYS[k % 2])
 
 
+FIELDS_SOURCE = """pub trait Has { type Out; }
+impl Has for u8 { type Out = bool; }
+pub struct Two<T: Has>(pub T, pub T::Out);
+"""
+
+
+def fields(function, count):
+    """`let v0 = Two(1u8, true); let Two(a, b) = v0; let v2 = Two(1u8, true); ..`"""
+    function.types += ["bool", ["param", 0], ["proj", 0, [["t", 3]]]]
+    function.traits = [dict(trait_fact("Has", []), types=[0])]
+    function.aliases = [{"name": "Out", "trait": 0, "bounds": []}]
+    function.impls = [dict(impl_fact(0, 1), types=[[0, 2]])]
+    function.adts = [{"name": "Two", "kind": "struct", "params": ["t"], "preds": [goal(3)], "variants": [0], "repr": None,
+                      "unsize": None}]
+    function.variants = [variant_fact("Two", "tuple", [{"name": str(k), "type": ty, "vis": "pub"} for k, ty in enumerate((3, 4))])]
+    function.named_source = FIELDS_SOURCE
+    made = None
+    for k in range(count):
+        if k % 2 == 0:
+            parts = [function.expr(["lit", ["int", "1", "u8"]]), function.expr(["lit", ["bool", True]])]
+            call = function.expr(["call", function.expr(["path", ["ctor", 0, None]]), parts])
+            made = function.let("v%d" % k, call, None, "let v%d = Two(1u8, true);\n" % k)
+        else:
+            parts = [function.bind(name) for name in ("a", "b")]
+            taken = function.pat(["ctor", ["variant", 0, None], parts, None])
+            function.statements.append(["let", taken, None, function.local(made), None])
+            function.source.append("let Two(a, b) = v%d;\n" % (k - 1))
+
+
 def add_calls(function, kinds):
     """Calls of these kinds, each a place of `CALLS`."""
     function.types += ["bool", ["param", 0], ["param", 1], ["tuple", [3, 4]], "i32"]
@@ -132,7 +161,7 @@ def main():
     if "--help" in sys.argv[1:]:
         print(__doc__.strip())
         return
-    shapes = {"open": open_needs, "read": read_needs, "stay": staying_needs}
+    shapes = {"open": open_needs, "read": read_needs, "stay": staying_needs, "fields": fields}
     numbers = [int(word) for word in sys.argv[1:] if word not in shapes]
     shape = next((shapes[word] for word in sys.argv[1:] if word in shapes), needs)
     measure_at(shape, numbers[0] if numbers else 30000)
