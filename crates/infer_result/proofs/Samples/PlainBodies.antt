@@ -34,7 +34,6 @@ id_is_plain =
 
 pub integer_body_is_plain : IsPlainBodyOf integer.facts integer.f
 integer_body_is_plain = record {
-  structs = refl;
   header = record { header = refl; inputs = no_parts _; output = plain 1 (type.Tuple []) refl tt (no_parts _) };
   sized = λ i below. absurd (omega arith);
   body = record {
@@ -51,7 +50,6 @@ mk_is_plain = record { header = refl; inputs = no_parts _; output = plain 0 (typ
 
 pub shared_body_is_plain : IsPlainBodyOf shared.facts shared.f
 shared_body_is_plain = record {
-  structs = refl;
   header = record {
     header = refl;
     inputs = each_in (IsPlainOver shared.facts 0) (w 1 ∷ []) (plain 1 type.Bool refl tt (no_parts _), tt);
