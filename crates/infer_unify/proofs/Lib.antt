@@ -1,0 +1,4 @@
+pub mod Openings
+pub mod Steps
+pub mod ReadBack
+pub mod Exact

@@ -22,4 +22,4 @@ abbrev pub UnifyExactly : Ty → Ty → Unification → Type 0
 UnifyExactly a b found = AreBare a b → ((found ≡ unification.Yes) × CanBeSame a b) ⊎ ((found ≡ unification.No) × (CanBeSame a b → ⊥))
 
 abbrev pub IsExact : Ty → Ty → Bool → Type 0
-IsExact a b yes = AreBare a b → IsTrue yes ↔ CanBeSame a b
+IsExact a b is = AreBare a b → IsTrue is ↔ CanBeSame a b

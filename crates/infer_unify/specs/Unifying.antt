@@ -80,7 +80,7 @@ HaveCommonIn l a b = (s : Hole → Term) × Respects s × Solves s l × (apply s
 -- what the goals are answered, all together
 abbrev pub AreJudged : Verdicts → List Alias → Log → Unification → Type 0
 AreJudged v ps l unification.No = SomeOf (λ p. v.No (goal_of l p)) ps
-AreJudged v ps l unification.Undecided = Each (λ p. v.No (goal_of l p) → ⊥) ps × (Each (λ p. v.Yes (goal_of l p)) ps → ⊥)
+AreJudged v ps l unification.Undecided = Each (λ p. v.No (goal_of l p) → ⊥) ps × SomeOf (λ p. v.Yes (goal_of l p) → ⊥) ps
 AreJudged v ps l unification.Yes = Each (λ p. v.Yes (goal_of l p)) ps
 
 -- a hole cannot be what its associated type reads as, or the goal that it is so is answered No
@@ -117,4 +117,4 @@ deeply _ = false
 
 -- the test of what the two become
 abbrev pub IsTestOf : (Unification → Bool) → RawFacts → GenericDefId → Ty → Ty → Bool → Type 0
-IsTestOf test raw item a b yes = (found : Unification) × IsUnification raw item a b found × (yes ≡ test found)
+IsTestOf test raw item a b is = (found : Unification) × IsUnification raw item a b found × (is ≡ test found)
