@@ -1,5 +1,5 @@
 -- What is found out of holes, step after step, and what the goals are answered.
-use Rattle.std.specs.Prelude.{◌≡◌, ℕ, suc, Bool, true, false, List, [], ◌∷◌, ◌++◌, slice_get, Option, Some, None, option_map}
+use Rattle.std.specs.Prelude.{◌≡◌, ℕ, zero, suc, Bool, true, false, List, [], ◌∷◌, ◌++◌, slice_get, Option, Some, None, option_map}
 use Rattle.std.proofs.Common.{inl, inr, refl, sym, ap, ◌∙◌, subst, IfOk, Result}
 use Rattle.std.proofs.lemmas.Result.{IfOk-weaker}
 use Rattle.hir_types.specs.declared.head.Hole.TheVariants as hole_of
@@ -12,11 +12,27 @@ use Rattle.goal_answers.specs.Answers.{answers}
 use Rattle.goal_answers.specs.Steps.{ReadingIs}
 use Rattle.goal_answers.proofs.Lists.{each_map}
 use Rattle.goal_answers.proofs.One.{answers_are_one}
+use Rattle.goal_terms.specs.Terms.{IsHead, HasHeads}
+use Rattle.goal_terms.specs.Unifying.{HaveHeads as LogHasHeads}
+use Rattle.goal_terms.proofs.HeadLaws.{heads_resolved}
+use Rattle.goal_search.specs.Searching.{SystemHasHeads}
+use Rattle.goal_search.proofs.Heads.{reading_done}
 use Rattle.goal_facts.proofs.Systems.{each_append}
 use Rattle.infer_unify.specs.declared.unification.Unification.{Unification}
 use Rattle.infer_unify.specs.declared.unification.Unification.TheVariants as unification
 use Rattle.infer_unify.specs.Opening.{Alias}
 use Rattle.infer_unify.specs.Unifying.{known_alias, goal_of, IsStepOf, IsNoStepOf, IsStep, AreSteps, IsFound, IsFollowed, AreFollowed, HaveCommon, HaveCommonIn, AreJudged}
+
+-- ---- what stands first in pairs
+
+pub known_heads : (l : Log) (p : Alias) → LogHasHeads l → HasHeads p.args → HasHeads (known_alias l p)
+known_heads l p h i = heads_resolved l (alias_at p.alias p.args) h (tt, tt, i)
+
+pub goal_heads : (l : Log) (p : Alias) → LogHasHeads l → HasHeads p.args → IsHead p.args → HasHeads (goal_of l p).parts
+goal_heads l p h i j = heads_resolved l (pair p.args (hole (hole_of.Ty p.hole))) h (j, i, tt)
+
+pub read_heads : (f : System) → SystemHasHeads f → (n : ℕ) (t u : Term) → HasHeads t → ReadsAs (answers f n).Alias t u → HasHeads u
+read_heads f h n t u i r = (reading_done f h n hole t u i (λ k o. record { read = tt; heads = tt }) r).heads
 
 -- ---- one that is followed
 
@@ -27,8 +43,8 @@ followed_by A p l l' u v false e r h = let P : Term → Type 0 = λ z. NoneUnifi
 -- ---- one step more
 
 steps_then : (A : Aliases) (ps : List Alias) (ms : List Log) (l m l' : Log) → AreSteps A ps ms l m → IsStep A ps m l' → (ns : List Log) × AreSteps A ps ns l l'
-steps_then A ps [] l m l' e s = let P : Log → Type 0 = λ z. IsStep A ps z l' in (l' ∷ [], subst P e s, refl)
-steps_then A ps (x ∷ ms) l m l' e s = let q = steps_then A ps ms x m l' e.1 s in (x ∷ q.0, e.0, q.1)
+steps_then A ps [] l m l' e s = let P : Log → Type 0 = λ z. IsStep A ps z l' in (l' ∷ [], (subst P e s, refl))
+steps_then A ps (x ∷ ms) l m l' e s = let q = steps_then A ps ms x m l' e.1 s in (x ∷ q.0, (e.0, q.1))
 
 stays : (A : Aliases) (ps : List Alias) (l m l' : Log) → AreFollowed A ps l m true → l' ≡ m → AreFollowed A ps l l' true
 stays A ps l m l' h e = (h.0, subst (AreSteps A ps h.0 l) (sym e) h.1)
@@ -75,27 +91,27 @@ module _ (f : System) (n : ℕ) (l : Log) where
   none_no ps unification.Undecided h = h.0.0
   none_no ps unification.Yes h = each_map yes_open ps h.0
 
-  some_before : {P : Alias → Type 0} (ps : List Alias) (p : Alias) → SomeOf P ps → SomeOf P (ps ++ p ∷ [])
-  some_before [] p h = absurd h
-  some_before (q ∷ ps) p (inl h) = inl h
-  some_before (q ∷ ps) p (inr h) = inr (some_before ps p h)
+  some_before : (P : Alias → Type 0) (ps : List Alias) (p : Alias) → SomeOf P ps → SomeOf P (ps ++ p ∷ [])
+  some_before P [] p h = absurd h
+  some_before P (q ∷ ps) p (inl h) = inl h
+  some_before P (q ∷ ps) p (inr h) = inr (some_before P ps p h)
 
-  some_last : {P : Alias → Type 0} (ps : List Alias) (p : Alias) → P p → SomeOf P (ps ++ p ∷ [])
-  some_last [] p h = inl h
-  some_last (q ∷ ps) p h = inr (some_last ps p h)
+  some_last : (P : Alias → Type 0) (ps : List Alias) (p : Alias) → P p → SomeOf P (ps ++ p ∷ [])
+  some_last P [] p h = inl h
+  some_last P (q ∷ ps) p h = inr (some_last P ps p h)
 
   open_more : (ps : List Alias) (p : Alias) (found : Unification) → AreJudgedSoFar v ps l found → Open p → Each Open (ps ++ p ∷ [])
   open_more ps p found h o = each_append Open ps (p ∷ []) (none_no ps found h) (o, tt)
 
   pub judged_yes : (ps : List Alias) (p : Alias) (found : Unification) → AreJudgedSoFar v ps l found → Yes p → AreJudgedSoFar v (ps ++ p ∷ []) l found
   judged_yes ps p unification.No h y = absurd (h.1 refl)
-  judged_yes ps p unification.Undecided h y = ((open_more ps p unification.Undecided h (yes_open p y), some_before ps p h.0.1), h.1)
+  judged_yes ps p unification.Undecided h y = ((open_more ps p unification.Undecided h (yes_open p y), some_before (λ q. Yes q → ⊥) ps p h.0.1), h.1)
   judged_yes ps p unification.Yes h y = (each_append Yes ps (p ∷ []) h.0 (y, tt), h.1)
 
   pub judged_undecided : (ps : List Alias) (p : Alias) (found : Unification) → AreJudgedSoFar v ps l found → (Yes p → ⊥) × Open p → AreJudgedSoFar v (ps ++ p ∷ []) l unification.Undecided
-  judged_undecided ps p found h u = ((open_more ps p found h u.1, some_last ps p u.0), λ e. cc)
+  judged_undecided ps p found h u = ((open_more ps p found h u.1, some_last (λ q. Yes q → ⊥) ps p u.0), λ e. cc)
 
 pub some_at : {X : Type 0} (P : X → Type 0) (xs : List X) (i : ℕ) (x : X) → slice_get xs i ≡ Some x → P x → SomeOf P xs
 some_at P [] i x e h = cc
-some_at P (y ∷ xs) 0 x e h = let same : y ≡ x = cc in inl (subst P (sym same) h)
+some_at P (y ∷ xs) zero x e h = let same : y ≡ x = cc in inl (subst P (sym same) h)
 some_at P (y ∷ xs) (suc i) x e h = inr (some_at P xs i x e h)

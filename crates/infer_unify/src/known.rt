@@ -9,6 +9,7 @@ ghost use Rattle.goal_terms.specs.Terms.{term_of, HasHeads};
 ghost use Rattle.goal_terms.specs.Bindings.{log_of};
 ghost use Rattle.goal_terms.specs.Unifying.{IsLog, Extends};
 ghost use Rattle.goal_search.specs.Sources.{system};
+ghost use Rattle.goal_search.specs.Searching.{SystemHasHeads};
 ghost use Rattle.goal_facts.specs.Goals.{IsAnswer};
 ghost use Rattle.infer_unify.specs.Opening.{alias_of, aliases_of, HaveHeads};
 ghost use Rattle.infer_unify.specs.Unifying.{known_alias, goal_of, IsFollowed, AreFollowed, AreJudged};
@@ -84,6 +85,7 @@ fn follow(
     alias: &Alias,
     log: &mut Vec<Binding>,
 ) -> Result<bool, AllocError>
+    requires system { SystemHasHeads (system search.old) }
     requires is_log { IsLog (log_of log.old.items) }
     requires heads { HasHeads (term_of alias.now.args) }
     ensures same { search.new ≡ search.old }
@@ -110,6 +112,7 @@ pub(crate) fn follow_all(
     aliases: &[Alias],
     log: &mut Vec<Binding>,
 ) -> Result<bool, AllocError>
+    requires system { SystemHasHeads (system search.old) }
     requires is_log { IsLog (log_of log.old.items) }
     requires heads { HaveHeads (aliases_of aliases.now) }
     ensures same { search.new ≡ search.old }

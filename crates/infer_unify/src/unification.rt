@@ -4,6 +4,7 @@ ghost use Rattle.infer_table.specs.OpenedLaws.{IsBelow};
 ghost use Rattle.goal_answers.specs.Answers.{answers};
 ghost use Rattle.goal_terms.specs.Terms.{term_of, HasHeads};
 ghost use Rattle.goal_search.specs.Sources.{system};
+ghost use Rattle.goal_search.specs.Searching.{SystemHasHeads};
 ghost use Rattle.infer_unify.specs.Exactly.{UnifyExactly, IsExact};
 ghost use Rattle.infer_unify.specs.Unifying.{BecomesFrom, IsUnification, could, deeply, IsTestOf};
 
@@ -52,6 +53,7 @@ fn unify_terms(
     right: &Term,
 ) -> Result<Unification, AllocError>
     requires depth { depth ≤ 32 }
+    requires system { SystemHasHeads (system search.old) }
     requires left { HasHeads (term_of left.now) }
     requires right { HasHeads (term_of right.now) }
     ensures { IfOk result (λ found. BecomesFrom (answers (system search.old) depth) (term_of left.now) (term_of right.now) found) }
@@ -89,6 +91,7 @@ pub fn unification_of(
 {
     let sources = ItemSources::new(alloc, facts, env)?;
     sources.lawful();
+    let _listed = sources.listed();
     let depth = facts.raw().limits.goal_depth;
     let left = type_term(alloc, &pair.value.0)?;
     let right = type_term(alloc, &pair.value.1)?;
