@@ -21,6 +21,7 @@ use Rattle.hir_laws.specs.Bodies.{body_id_of, IsWalkable}
 use Rattle.hir_raw.specs.Fit.{ty_fits}
 use Rattle.hir_raw.specs.Scope.{Scope, scope_of, params_of}
 use Rattle.hir_plain.specs.Plain.{IsPlainBody, IsPlainBodyOf}
+use Rattle.hir_plain.specs.Sized.{are_direct_structs}
 use Rattle.infer_table.specs.Table.{bindings, State, resolved_type, Meets}
 use Rattle.infer_table.specs.Resolution.{resolution}
 use Rattle.infer_table.specs.Completion.{completion}
@@ -354,10 +355,10 @@ module _ (raw : RawFacts) (d : DefWithBodyId) (i : BodyId) (b : RawBody) (s : Sc
             let r : InferenceResult = closed_table q c.asked c.result in
             table_of raw d i b s inputs output aliases other_table id at law own lets (made_other r (Some x) ps js gs hs g (done.made q at_q)) (all_types_so _ _ other_table (fine_fits sc) other_heads) (seen_still_fit q (Some x)) (all_types_so _ _ other_table (heads_are_read sc) other_heads)
 
-        other_derives : IsDerivation raw d other_table
-        other_derives =
+        other_derives : are_direct_structs raw ≡ true → IsDerivation raw d other_table
+        other_derives structs =
             let h = other_is_table in
-            derivation_of raw d other_table h (plain_names_none raw lawful d plain) (no_let_aliases raw (params_of raw d) h.body (plain_body raw d h.body plain h.is_body) lawful) (all_types_so _ _ other_table (fine_known sc) other_heads) other_clean (λ obeys. plain_needs raw lawful h.body other_table d plain h.is_body obeys other_carried)
+            derivation_of raw d other_table h (plain_names_none raw lawful d plain) (no_let_aliases raw (params_of raw d) h.body (plain_body raw d h.body plain h.is_body) lawful) (all_types_so _ _ other_table (fine_known sc) other_heads) other_clean (λ obeys. plain_needs raw lawful h.body other_table structs d plain h.is_body h.typed.shape.items obeys other_carried)
 
         -- it is the table with these types in the place of its own
         is_closed_by : other_table ≡ closed_by a x table
@@ -393,8 +394,8 @@ module _ (raw : RawFacts) (d : DefWithBodyId) (i : BodyId) (b : RawBody) (s : Sc
               general = Some x;
             }
 
-        closing_derives : IsDerivation raw d (closed_by a x table)
-        closing_derives = subst (λ t. IsDerivation raw d t) is_closed_by other_derives
+        closing_derives : are_direct_structs raw ≡ true → IsDerivation raw d (closed_by a x table)
+        closing_derives structs = subst (λ t. IsDerivation raw d t) is_closed_by (other_derives structs)
 
       general_of : (ts : List (Option Ty)) (us : List Ty) → AreResolved c.goals.table ts us → ((n : ℕ) (t : Ty) → At ts n t → IsFine sc c.goals.table t) → AreGeneralTypes sc us
       general_of ts us e fine n u there =
@@ -421,7 +422,7 @@ module _ (raw : RawFacts) (d : DefWithBodyId) (i : BodyId) (b : RawBody) (s : Sc
               pats = types_closed fallback c.goals.table c.result.type_of_pat x.pats resolved.pats;
               bindings = types_closed fallback c.goals.table c.result.type_of_binding x.bindings resolved.bindings;
             };
-            closings = λ clean a gives. closing_derives clean a gives;
+            closings = λ structs clean a gives. closing_derives clean a gives structs;
           }
 
   -- ---- with what is kept
@@ -446,11 +447,11 @@ module _ (raw : RawFacts) (d : DefWithBodyId) (i : BodyId) (b : RawBody) (s : Sc
 -- with other types before fallback the body is done as before
 pub general_done : (g : Given) (c : InferenceContext) (o : Option General) → BodyDone g c → BodyDone g (with_general c o)
 general_done g c o done = record {
-  sound = sound_with c (record c.result { general = o }) c.clock done.sound (all_types_other c.result o c.result.proofs c.result.projections c.result.expr_gaps _ done.sound.fine)
+  sound = sound_with c (record c.result { general = o }) c.clock done.sound (all_types_other c.result o c.result.proofs c.result.projections c.result.expr_gaps c.result.pat_gaps _ done.sound.fine)
       (record { types = done.sound.seen.types; others = done.sound.seen.others });
   decided = done.decided;
   made = λ a closes. (let r : InferenceResult = closed_table a c.asked c.result in
-      made_other r o r.proofs r.projections r.expr_gaps g (done.made a (record { closing = closes.closing; meets = closes.meets })));
+      made_other r o r.proofs r.projections r.expr_gaps r.pat_gaps g (done.made a (record { closing = closes.closing; meets = closes.meets })));
 }
 
 -- so it is once these types are kept, or none are

@@ -387,9 +387,9 @@ module _ (raw : RawFacts) (law : IsLawful raw) (b : RawBody) (r : InferenceResul
       let i = items p t (recorded_is (slice_get r.item_of_pat p.0) t has) in
       i.has_aliases (no_ctor_aliases raw n b plain law p.0 i.named i.parts i.variant i.is_pat i.found)
 
-  needs_of_expr : (f : FunctionId) → HasPlainBody raw f → IsPlainBody raw (params_of raw (def.FunctionId f)) b → ((e : ExprId) → e.0 < length b.exprs → ObeysExpression (given raw (def.FunctionId f) b) r e)
+  needs_of_expr : are_direct_structs raw ≡ true → (f : FunctionId) → HasPlainBody raw f → IsPlainBody raw (params_of raw (def.FunctionId f)) b → ((e : ExprId) → e.0 < length b.exprs → ObeysExpression (given raw (def.FunctionId f) b) r e)
       → ((e : ExprId) (t : Ty) → HasTy r e t → IsClosedIn (types_scope raw (params_of raw (def.FunctionId f))) t) → (s : System) → IsSystemOf raw (generic.FunctionId f) s → (e : ExprId) (k : ℕ) (a : Asked) → IsNeededAt e k a → (answers s raw.limits.goal_depth).Yes a
-  needs_of_expr f own plain obeys closed s are e k a n =
+  needs_of_expr structs f own plain obeys closed s are e k a n =
       let d : DefWithBodyId = def.FunctionId f in
       let q = get_in_map (goal_at raw (item_args (out-Ty n.ty))) (expr_preds raw n.expr) k a (subst (λ gs. slice_get gs k ≡ Some a) (needs_preds raw n.expr n.ty (no_goals raw law (item_args (out-Ty n.ty)) (params_of raw d) n.expr (plain.exprs e.0 n.expr n.is))) n.among) in
       let rule = subst (λ o. Rule (at_types (given raw d b) r) (given raw d b) r e o) n.is (obeys e (slice_get_within b.exprs e.0 n.expr n.is)) in
@@ -398,21 +398,21 @@ module _ (raw : RawFacts) (law : IsLawful raw) (b : RawBody) (r : InferenceResul
       let u = found need.types below.0 below.1 in
       let says = says_sized raw below.0 q.0 below.2 in
       let x = some_of _ (slice_get raw.fns f.0) own.sized in
-      let yes = sized_yes raw law own.structs (params_of raw d) (generic.FunctionId f) s are says.trait_ says.sized (own_stated raw f x.0 x.1 x.2 says.trait_ says.sized) u.0 (every_at (IsClosedIn (types_scope raw (params_of raw d))) need.types below.0 u.0 need.closed u.1) raw.limits.goal_depth in
+      let yes = sized_yes raw law structs (params_of raw d) (generic.FunctionId f) s are says.trait_ says.sized (own_stated raw f x.0 x.1 x.2 says.trait_ says.sized) u.0 (every_at (IsClosedIn (types_scope raw (params_of raw d))) need.types below.0 u.0 need.closed u.1) raw.limits.goal_depth in
       subst (answers s raw.limits.goal_depth).Yes (sym (says.goal need.types u.0 u.1) ∙ (ap (λ xs. goal_at raw xs q.0) (sym need.args) ∙ q.2)) yes
 
-  needs_of_fn : (f : FunctionId) → HasPlainBody raw f → IsPlainBody raw (params_of raw (def.FunctionId f)) b → OnlyCtorPatsHaveItems raw b r → ((e : ExprId) → e.0 < length b.exprs → ObeysExpression (given raw (def.FunctionId f) b) r e)
+  needs_of_fn : are_direct_structs raw ≡ true → (f : FunctionId) → HasPlainBody raw f → IsPlainBody raw (params_of raw (def.FunctionId f)) b → OnlyCtorPatsHaveItems raw b r → ((e : ExprId) → e.0 < length b.exprs → ObeysExpression (given raw (def.FunctionId f) b) r e)
       → ((e : ExprId) (t : Ty) → HasTy r e t → IsClosedIn (types_scope raw (params_of raw (def.FunctionId f))) t) → NeedsHold (def.FunctionId f) (given raw (def.FunctionId f) b) r
-  needs_of_fn f own plain items obeys closed s are (of_node.ExprId e) a n = needs_of_expr f own plain obeys closed s are e n.at a (needed_at e n.at a (slice_get b.exprs e.0) (recorded r.type_of_expr e.0) refl refl n.among)
-  needs_of_fn f own plain items obeys closed s are (of_node.PatId p) a n = absurd (pat_needs_none (params_of raw (def.FunctionId f)) plain items p n.at a (recorded r.item_of_pat p.0) refl n.among)
+  needs_of_fn structs f own plain items obeys closed s are (of_node.ExprId e) a n = needs_of_expr structs f own plain obeys closed s are e n.at a (needed_at e n.at a (slice_get b.exprs e.0) (recorded r.type_of_expr e.0) refl refl n.among)
+  needs_of_fn structs f own plain items obeys closed s are (of_node.PatId p) a n = absurd (pat_needs_none (params_of raw (def.FunctionId f)) plain items p n.at a (recorded r.item_of_pat p.0) refl n.among)
 
-  pub plain_needs : (d : DefWithBodyId) → IsPlainBodyOf raw d → body_of raw d ≡ Some b → OnlyCtorPatsHaveItems raw b r → ((e : ExprId) → e.0 < length b.exprs → ObeysExpression (given raw d b) r e)
+  pub plain_needs : are_direct_structs raw ≡ true → (d : DefWithBodyId) → IsPlainBodyOf raw d → body_of raw d ≡ Some b → OnlyCtorPatsHaveItems raw b r → ((e : ExprId) → e.0 < length b.exprs → ObeysExpression (given raw d b) r e)
       → ((e : ExprId) (t : Ty) → HasTy r e t → IsCarriedIn (scope_of raw d) t) → NeedsHold d (given raw d b) r
-  plain_needs (def.FunctionId f) plain is items obeys carried =
-      needs_of_fn f plain (plain_body raw (def.FunctionId f) b plain is) items obeys (λ e t has.
+  plain_needs structs (def.FunctionId f) plain is items obeys carried =
+      needs_of_fn structs f plain (plain_body raw (def.FunctionId f) b plain is) items obeys (λ e t has.
       (let k = carried e t has in
       let heads = subst (λ x. HasFineHeads (record { facts = raw; params = params_of raw (def.FunctionId f); associated = x }) t) (none_plain raw law (def.FunctionId f) plain) k.heads in
       carried_fine new_state (types_scope raw (params_of raw (def.FunctionId f))) t k.carried heads))
-  plain_needs (def.ConstId c) plain is items obeys carried = absurd plain
-  plain_needs (def.StaticId s) plain is items obeys carried = absurd plain
-  plain_needs (def.VariantId v) plain is items obeys carried = absurd plain
+  plain_needs structs (def.ConstId c) plain is items obeys carried = absurd plain
+  plain_needs structs (def.StaticId s) plain is items obeys carried = absurd plain
+  plain_needs structs (def.VariantId v) plain is items obeys carried = absurd plain

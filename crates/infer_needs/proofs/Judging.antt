@@ -338,6 +338,10 @@ pub judged_here : (raw : RawFacts) (f : System) (b : RawBody) (r : InferenceResu
     → AreJudged raw f (node.ExprId (record { 0 = n })) (needs_of raw (Some x) (recorded r.type_of_expr n)) ps qs js ks gs → AreJudged raw f (node.ExprId (record { 0 = n })) (needs_at raw b r n) ps qs js ks gs
 judged_here raw f b r n x ps qs js ks gs at h = subst (λ (o : Option RawExpr). AreJudged raw f (node.ExprId (record { 0 = n })) (needs_of raw o (recorded r.type_of_expr n)) ps qs js ks gs) (sym at) h
 
+-- at this node, whose goals these are
+pub judged_at : (raw : RawFacts) (f : System) (d e : ExprOrPatId) (xs bs : List Asked) (ps qs : List Proof) (js ks : List (Ty × Ty)) (gs : List Gap) → d ≡ e → xs ≡ bs → AreJudged raw f d xs ps qs js ks gs → AreJudged raw f e bs ps qs js ks gs
+judged_at raw f d e xs bs ps qs js ks gs here are h = subst (λ n. AreJudged raw f n bs ps qs js ks gs) here (subst (λ zs. AreJudged raw f d zs ps qs js ks gs) are h)
+
 -- ---- goals of an iterator
 
 each_next : (ys : List Goal) (x : Goal) (more : List Goal) → AreProvable (map asked_goal (ys ++ x ∷ more)) → IsProvable (asked_goal x)

@@ -32,6 +32,7 @@ use Rattle.hir_raw.specs.Fit.{ty_fits}
 use Rattle.hir_raw.specs.Scope.{scope_of, adt_params, count_or_none}
 use Rattle.goal_answers.specs.Reading.{IsRead}
 use Rattle.infer_result.specs.Closed.{AllTypes}
+use Rattle.goal_answers.specs.Goals.{Asked}
 use Rattle.infer_needs.specs.Left.{IsFinalType}
 use Rattle.goal_facts.specs.Arguments.{type_at, args_at, goal_at}
 use Rattle.goal_facts.proofs.Systems.{each_append}
@@ -175,3 +176,13 @@ module _ (raw : RawFacts) (d : DefWithBodyId) (r : InferenceResult) (is : IsTabl
 -- a table has as many places for items of patterns as its body has patterns
 pub as_many_items : (raw : RawFacts) (d : DefWithBodyId) (r : InferenceResult) (b : RawBody) → IsTableOf raw d r → body_of raw d ≡ Some b → length r.item_of_pat ≡ length b.pats
 as_many_items raw d r b h is = h.typed.shape.of_body.items ∙ ap (λ (x : RawBody). length x.pats) (same_Some h.body b (sym h.is_body ∙ is))
+
+-- ---- what is made of a recorded type
+
+-- it is what the expression needs
+pub needed_here : (raw made : RawFacts) (x : RawExpr) (ts : List (Option Ty)) (n k : ℕ) (t : Ty) (gs : List Asked) → gs ≡ needed_goals made x t → made ≡ raw → Some t ≡ recorded ts k → k ≡ n → gs ≡ needs_of raw (Some x) (recorded ts n)
+needed_here raw made x ts n k t gs is same has at = is ∙ ap (λ (z : RawFacts). needed_goals z x t) same ∙ ap (λ (o : Option Ty). needs_of raw (Some x) o) (has ∙ ap (λ (m : ℕ). recorded ts m) at)
+
+-- and what the pattern needs
+pub pat_needed_here : (raw made : RawFacts) (r : InferenceResult) (n k : ℕ) (t : Ty) (gs : List Asked) → gs ≡ pat_needs_by made (out-Ty t) → made ≡ raw → Some t ≡ recorded r.item_of_pat k → k ≡ n → gs ≡ pat_needs_at raw r n
+pat_needed_here raw made r n k t gs is same has at = is ∙ ap (λ (z : RawFacts). pat_needs_by z (out-Ty t)) same ∙ ap (λ (o : Option Ty). pat_needs_of raw o) (has ∙ ap (λ (m : ℕ). recorded r.item_of_pat m) at)

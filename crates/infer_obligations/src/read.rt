@@ -219,7 +219,8 @@ fn read_nodes(
     ensures { OnOk result (ReadsAll (given_of given.now) context.old context.new) }
 {
     read_paths(alloc, context, given)?;
-    read_pats(alloc, context, given)
+    read_pats(alloc, context, given)?;
+    Ok(())
 }
 
 /// Reads them of all nodes until that binds no hole any more, at most as often as the facts let goals be followed: what one path

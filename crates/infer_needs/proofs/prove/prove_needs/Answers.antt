@@ -9,6 +9,7 @@ use Rattle.goal_facts.specs.declared.proof.Proof.{Proof}
 use Rattle.goal_facts.specs.Goals.{ItemSources}
 use Rattle.infer_result.specs.declared.gaps.Gap.{Gap}
 use Rattle.infer_result.specs.declared.result.InferenceResult.{InferenceResult}
+use Rattle.goal_answers.specs.Goals.{System}
 use Rattle.goal_search.specs.declared.answer.Answer.{Answer}
 use Rattle.goal_search.specs.Sources.{system}
 use Rattle.goal_facts.specs.Systems.{IsSystemOf}

@@ -5,3 +5,6 @@ read_pats-requires-clause-of_body c = c.in_ok-read_paths.ensures.binds.follows.o
 
 pub read_pats-requires-clause-sound : goal.read_pats-requires-clause-sound
 read_pats-requires-clause-sound c = c.in_ok-read_paths.ensures.binds.follows.sound
+
+pub returns : goal.returns
+returns c = (c.read_paths.new.context, c.in_ok-read_paths.ensures, c.in_ok-read_pats.ensures)

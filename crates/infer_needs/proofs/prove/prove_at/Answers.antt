@@ -1,0 +1,43 @@
+use Rattle.std.proofs.Common.{◌≡◌, List, Some, ap, subst, sym, map}
+use Rattle.hir_types.specs.declared.ids.ExprOrPatId.TheVariants as node
+use Rattle.goal_search.specs.Sources.{system}
+use Rattle.goal_answers.specs.Goals.{Asked}
+use Rattle.goal_facts.specs.Goals.{asked_goal}
+use Rattle.infer_result.specs.Needs.{needs_of}
+use Rattle.infer_result.specs.Table.{recorded}
+use Rattle.infer_needs.specs.Judged.{AreProvable}
+use Rattle.infer_needs.specs.Told.{ListsAnswers}
+use Rattle.infer_needs.proofs.Provable.{needed_here}
+use Rattle.infer_needs.proofs.Judging.{judged_at}
+use Rattle.infer_needs.proofs.prove.prove_at.Goals as goal
+
+pub prove_each-requires : goal.prove_each-requires
+prove_each-requires c =
+    let raw = c.args.sources.now.facts in
+    let all = needed_here raw c.facts.result.now c.args.expr.now c.args.table.now.type_of_expr c.args.at c.in_ok-expr_id.field-0.0 c.in-Some.ty.now (map asked_goal c.in_ok-needed-in-Some.needed.items)
+    c.in_ok-needed-in-Some.ensures c.facts.ensures c.in-Some.ensures c.in_ok-expr_id.ensures in
+    subst AreProvable (sym all) c.requires
+
+pub returns-in_ok-gaps-in-Some-clause-judged : goal.returns-in_ok-gaps-in-Some-clause-judged
+returns-in_ok-gaps-in-Some-clause-judged c =
+    let raw = c.args.sources.now.facts in
+    let f = system c.args.sources.now.sources in
+    let x = c.args.expr.now in
+    let types = c.args.table.now.type_of_expr in
+    let gs : List Asked = map asked_goal c.in_ok-needed-in-Some.needed.items in
+    let new = c.prove_each.new in
+    let all = needed_here raw c.facts.result.now x types c.args.at c.in_ok-expr_id.field-0.0 c.in-Some.ty.now gs c.in_ok-needed-in-Some.ensures c.facts.ensures c.in-Some.ensures c.in_ok-expr_id.ensures in
+    let here : node.ExprId c.in_ok-expr_id.field-0 ≡ node.ExprId (record { 0 = c.args.at }) = ap (λ n. node.ExprId (record { 0 = n })) c.in_ok-expr_id.ensures in
+    judged_at raw f (node.ExprId c.in_ok-expr_id.field-0) (node.ExprId (record { 0 = c.args.at })) gs (needs_of raw (Some x) (recorded types c.args.at)) c.args.proofs.now.items new.proofs.items c.args.found.now new.found c.in_ok-gaps-in-Some.gaps here all c.in_ok-gaps-in-Some.ensures.judged
+
+pub returns-in_ok-gaps-in-Some-clause-told : goal.returns-in_ok-gaps-in-Some-clause-told
+returns-in_ok-gaps-in-Some-clause-told c =
+    let raw = c.args.sources.now.facts in
+    let f = system c.args.sources.now.sources in
+    let x = c.args.expr.now in
+    let types = c.args.table.now.type_of_expr in
+    let gs : List Asked = map asked_goal c.in_ok-needed-in-Some.needed.items in
+    let new = c.prove_each.new in
+    let all = needed_here raw c.facts.result.now x types c.args.at c.in_ok-expr_id.field-0.0 c.in-Some.ty.now gs c.in_ok-needed-in-Some.ensures c.facts.ensures c.in-Some.ensures c.in_ok-expr_id.ensures in
+    let here : node.ExprId c.in_ok-expr_id.field-0 ≡ node.ExprId (record { 0 = c.args.at }) = ap (λ n. node.ExprId (record { 0 = n })) c.in_ok-expr_id.ensures in
+    subst (λ xs. ListsAnswers f raw.limits.goal_depth xs c.args.told.now.items new.told.items) all c.in_ok-gaps-in-Some.ensures.told
