@@ -1,15 +1,17 @@
 -- What each step of opening a term comes to.
 use Rattle.std.specs.Prelude.{◌≡◌, ℕ, ◌+◌, List, [], ◌∷◌, ◌++◌}
 use Rattle.std.proofs.Common.{refl, sym, ap, ◌∙◌, subst, append_assoc, append-nil}
+use Rattle.hir_types.specs.declared.ids.TypeAliasId.{TypeAliasId}
 use Rattle.hir_types.specs.declared.head.Head.{Head}
+use Rattle.hir_types.specs.declared.head.Head.TheVariants as head
 use Rattle.hir_types.specs.declared.head.Hole.{Hole}
 use Rattle.hir_types.specs.declared.head.Hole.TheVariants as hole_of
 use Rattle.hir_types.specs.Terms.{Term, hole, leaf, pair}
-use Rattle.goal_answers.specs.Reading.{role, plain as plain_role}
+use Rattle.goal_answers.specs.Reading.{role}
 use Rattle.goal_answers.specs.Goals.{Each}
 use Rattle.goal_facts.proofs.Systems.{each_append}
 use Rattle.goal_terms.specs.Terms.{IsHead, HasHeads}
-use Rattle.infer_unify.specs.Opening.{Place, plain, alias, unknown_type, unknown_const, place, Alias, Opened, as_it_is, behind, joined, opened, IsOpened, HaveHeads, IsBare}
+use Rattle.infer_unify.specs.Opening.{Place, plain, alias, unknown_type, unknown_const, place, Alias, Opened, as_it_is, behind, joined, opened, IsOpened, IsListBehind, HasLists, HaveHeads, IsBare}
 
 -- ---- a head with parts behind it
 
@@ -67,29 +69,36 @@ record StillHeaded (x : Opened) : Type 0 where
   term : HasHeads x.term
   aliases : HaveHeads x.aliases
 
-node_headed : (p : Place) (n : ℕ) (h : Head) (b : Term) → HasHeads b → StillHeaded (opened n b) → StillHeaded (node_at p n h b)
-node_headed plain n h b i j = record { term = (tt, tt, j.term); aliases = j.aliases }
-node_headed (alias k) n h b i j = record { term = tt; aliases = (i, tt) }
-node_headed unknown_type n h b i j = record { term = tt; aliases = tt }
-node_headed unknown_const n h b i j = record { term = tt; aliases = tt }
+-- a list stands behind the mark of an associated type
+list_behind : (h : Head) (k : TypeAliasId) (b : Term) → place h ≡ alias k → IsListBehind (role (leaf h)) b → IsHead b
+list_behind (head.Projection j) k b e i = i
+list_behind head.Error k b e i = cc
+list_behind head.UnknownConst k b e i = cc
+list_behind _ k b e i = cc
 
-still_headed : (n : ℕ) (t : Term) → HasHeads t → StillHeaded (opened n t)
-still_headed n (hole k) h = record { term = tt; aliases = tt }
-still_headed n (leaf a) h = record { term = tt; aliases = tt }
-still_headed n (pair (hole k) b) h = absurd h.0
-still_headed n (pair (leaf a) b) h = node_headed (place a) n a b h.2 (still_headed n b h.2)
-still_headed n (pair (pair m a) b) h =
-    let x = still_headed n a h.1.2 in
-    let y = still_headed (opened n a).next b h.2 in record {
+node_headed : (p : Place) (n : ℕ) (h : Head) (b : Term) → p ≡ place h → HasHeads b → IsListBehind (role (leaf h)) b → StillHeaded (opened n b) → StillHeaded (node_at p n h b)
+node_headed plain n h b e i l j = record { term = (tt, tt, j.term); aliases = j.aliases }
+node_headed (alias k) n h b e i l j = record { term = tt; aliases = ((list_behind h k b (sym e) l, i), tt) }
+node_headed unknown_type n h b e i l j = record { term = tt; aliases = tt }
+node_headed unknown_const n h b e i l j = record { term = tt; aliases = tt }
+
+still_headed : (n : ℕ) (t : Term) → HasHeads t → HasLists t → StillHeaded (opened n t)
+still_headed n (hole k) h l = record { term = tt; aliases = tt }
+still_headed n (leaf a) h l = record { term = tt; aliases = tt }
+still_headed n (pair (hole k) b) h l = absurd h.0
+still_headed n (pair (leaf a) b) h l = node_headed (place a) n a b refl h.2 l.0 (still_headed n b h.2 l.2)
+still_headed n (pair (pair m a) b) h l =
+    let x = still_headed n a h.1.2 l.1.2 in
+    let y = still_headed (opened n a).next b h.2 l.2 in record {
       term = (h.0, (h.1.0, h.1.1, x.term), y.term);
-      aliases = each_append (λ p. HasHeads p.args) (opened n a).aliases (opened (opened n a).next b).aliases x.aliases y.aliases;
+      aliases = each_append (λ p. IsHead p.args × HasHeads p.args) (opened n a).aliases (opened (opened n a).next b).aliases x.aliases y.aliases;
     }
 
-pub opened_heads : (n : ℕ) (t : Term) → HasHeads t → HasHeads (opened n t).term
-opened_heads n t h = (still_headed n t h).term
+pub opened_heads : (n : ℕ) (t : Term) → HasHeads t → HasLists t → HasHeads (opened n t).term
+opened_heads n t h l = (still_headed n t h l).term
 
-pub aliases_heads : (n : ℕ) (t : Term) → HasHeads t → HaveHeads (opened n t).aliases
-aliases_heads n t h = (still_headed n t h).aliases
+pub aliases_heads : (n : ℕ) (t : Term) → HasHeads t → HasLists t → HaveHeads (opened n t).aliases
+aliases_heads n t h l = (still_headed n t h l).aliases
 
 -- ---- types without such places stay
 

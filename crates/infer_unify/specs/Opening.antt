@@ -6,8 +6,9 @@ use Rattle.hir_types.specs.declared.head.Head.TheVariants as head
 use Rattle.hir_types.specs.declared.head.Hole.{Hole}
 use Rattle.hir_types.specs.declared.head.Hole.TheVariants as hole_of
 use Rattle.hir_types.specs.Terms.{Term, hole, leaf, pair}
+use Rattle.goal_answers.specs.Reading.{Role, role, plain as no_alias, alias as alias_role}
 use Rattle.goal_answers.specs.Goals.{Each}
-use Rattle.goal_terms.specs.Terms.{term_of, HasHeads}
+use Rattle.goal_terms.specs.Terms.{term_of, IsHead, HasHeads}
 use Rattle.infer_unify.specs.declared.opening.Alias.{Alias as Owned}
 
 -- what a head makes of the parts behind it
@@ -82,9 +83,21 @@ second_opened n a b = opened (opened n a).next b
 abbrev pub aliases_of_both : ℕ → Term → Term → List Alias
 aliases_of_both n a b = (opened n a).aliases ++ (second_opened n a b).aliases
 
--- what stands first in each pair of the arguments is known
+-- ---- terms as types make them
+
+-- behind the mark of an associated type that is to be read stands a list
+abbrev pub IsListBehind : Role → Term → Type 0
+IsListBehind no_alias b = Unit {0}
+IsListBehind (alias_role k) b = IsHead b
+
+abbrev pub HasLists : Term → Type 0
+HasLists (hole k) = Unit {0}
+HasLists (leaf h) = Unit {0}
+HasLists (pair a b) = IsListBehind (role a) b × HasLists a × HasLists b
+
+-- so are the arguments, and what stands first in each pair of them is known
 abbrev pub HaveHeads : List Alias → Type 0
-HaveHeads = Each (λ p. HasHeads p.args)
+HaveHeads = Each (λ p. IsHead p.args × HasHeads p.args)
 
 -- ---- types without such places
 

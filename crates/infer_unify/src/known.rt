@@ -5,7 +5,7 @@ ghost use Rattle.infer_table.specs.Solutions.{sub, resolved};
 ghost use Rattle.goal_answers.specs.Goals.{Each};
 ghost use Rattle.goal_answers.specs.Answers.{answers};
 ghost use Rattle.goal_answers.specs.Steps.{ReadingIs};
-ghost use Rattle.goal_terms.specs.Terms.{term_of, HasHeads};
+ghost use Rattle.goal_terms.specs.Terms.{term_of, IsHead, HasHeads};
 ghost use Rattle.goal_terms.specs.Bindings.{log_of};
 ghost use Rattle.goal_terms.specs.Unifying.{IsLog, Extends};
 ghost use Rattle.goal_search.specs.Sources.{system};
@@ -139,7 +139,7 @@ fn answer(
 ) -> Result<Answer, AllocError>
     requires depth { depth ≤ 32 }
     requires is_log { IsLog (log_of log.now) }
-    requires heads { HasHeads (term_of alias.now.args) }
+    requires heads { IsHead (term_of alias.now.args) × HasHeads (term_of alias.now.args) }
     ensures same { search.new ≡ search.old }
     ensures answer { IfOk result (λ answer. IsAnswer (system search.old) depth (goal_of (log_of log.now) (alias_of alias.now)) answer) }
 {

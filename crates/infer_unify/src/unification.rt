@@ -6,6 +6,7 @@ ghost use Rattle.goal_terms.specs.Terms.{term_of, HasHeads};
 ghost use Rattle.goal_search.specs.Sources.{system};
 ghost use Rattle.goal_search.specs.Searching.{SystemHasHeads};
 ghost use Rattle.infer_unify.specs.Exactly.{UnifyExactly, IsExact};
+ghost use Rattle.infer_unify.specs.Opening.{HasLists};
 ghost use Rattle.infer_unify.specs.Unifying.{BecomesFrom, IsUnification, could, deeply, IsTestOf};
 
 use crate::known::{follow_all, judge};
@@ -56,6 +57,8 @@ fn unify_terms(
     requires system { SystemHasHeads (system search.old) }
     requires left { HasHeads (term_of left.now) }
     requires right { HasHeads (term_of right.now) }
+    requires left_lists { HasLists (term_of left.now) }
+    requires right_lists { HasLists (term_of right.now) }
     ensures { IfOk result (λ found. BecomesFrom (answers (system search.old) depth) (term_of left.now) (term_of right.now) found) }
 {
     let next = number_above(left)?.max(number_above(right)?);
