@@ -1,7 +1,6 @@
 -- What is found out of holes, step after step, and what the goals are answered.
-use Rattle.std.specs.Prelude.{◌≡◌, ℕ, zero, suc, Bool, true, false, List, [], ◌∷◌, ◌++◌, slice_get, Option, Some, None, option_map}
-use Rattle.std.proofs.Common.{inl, inr, refl, sym, ap, ◌∙◌, subst, IfOk, Result}
-use Rattle.std.proofs.lemmas.Result.{IfOk-weaker}
+use Rattle.std.specs.Prelude.{◌≡◌, ◌<◌, ℕ, zero, suc, Bool, true, false, List, [], ◌∷◌, ◌++◌, length, map, slice_get, Some}
+use Rattle.std.proofs.Common.{inl, inr, refl, sym, ap, ◌∙◌, subst, arith, get_or}
 use Rattle.hir_types.specs.declared.head.Hole.TheVariants as hole_of
 use Rattle.hir_types.specs.Terms.{Term, hole, leaf, pair, apply}
 use Rattle.infer_table.specs.Solutions.{Log, resolved, Respects, Solves, Triangular, Unified, NoneUnifies, UnifiedIf}
@@ -23,6 +22,13 @@ use Rattle.infer_unify.specs.declared.unification.Unification.TheVariants as uni
 use Rattle.infer_unify.specs.Opening.{Alias}
 use Rattle.infer_unify.specs.Unifying.{known_alias, goal_of, IsStepOf, IsNoStepOf, IsStep, AreSteps, IsFound, IsFollowed, AreFollowed, HaveCommon, HaveCommonIn, AreJudged}
 
+-- ---- the entry at a place
+
+pub at_index : {X Y : Type 0} (f : X → Y) (xs : List X) (i : ℕ) (x : X) → i < length xs → x ≡ get_or xs i x → slice_get (map f xs) i ≡ Some (f x)
+at_index f [] i x h e = absurd (omega arith)
+at_index f (y ∷ xs) zero x h e = ap (λ z. Some (f z)) (sym e)
+at_index f (y ∷ xs) (suc i) x h e = at_index f xs i x (omega arith) e
+
 -- ---- what stands first in pairs
 
 pub known_heads : (l : Log) (p : Alias) → LogHasHeads l → HasHeads p.args → HasHeads (known_alias l p)
@@ -30,6 +36,9 @@ known_heads l p h i = heads_resolved l (alias_at p.alias p.args) h (tt, tt, i)
 
 pub goal_heads : (l : Log) (p : Alias) → LogHasHeads l → HasHeads p.args → IsHead p.args → HasHeads (goal_of l p).parts
 goal_heads l p h i j = heads_resolved l (pair p.args (hole (hole_of.Ty p.hole))) h (j, i, tt)
+
+pub goal_is : (l : Log) (p : Alias) (a u h : Term) → a ≡ p.args → h ≡ hole (hole_of.Ty p.hole) → u ≡ resolved l (pair a h) → u ≡ (goal_of l p).parts
+goal_is l p a u h e f g = g ∙ (λ i. resolved l (pair (e i) (f i)))
 
 pub read_heads : (f : System) → SystemHasHeads f → (n : ℕ) (t u : Term) → HasHeads t → ReadsAs (answers f n).Alias t u → HasHeads u
 read_heads f h n t u i r = (reading_done f h n hole t u i (λ k o. record { read = tt; heads = tt }) r).heads
