@@ -1,6 +1,7 @@
 -- What is found out of holes, step after step, and what the goals are answered.
-use Rattle.std.specs.Prelude.{◌≡◌, ◌<◌, ℕ, zero, suc, Bool, true, false, List, [], ◌∷◌, ◌++◌, length, map, slice_get, Some}
-use Rattle.std.proofs.Common.{inl, inr, refl, sym, ap, ◌∙◌, subst, arith, get_or}
+use Rattle.std.specs.Prelude.{◌≡◌, ◌<◌, ◌+◌, ℕ, zero, suc, Bool, true, false, List, [], ◌∷◌, ◌++◌, length, map, slice_get, Some}
+use Rattle.std.proofs.Common.{inl, inr, refl, sym, ap, ◌∙◌, subst, arith, get_or, take}
+use Rattle.std.proofs.lemmas.List.{map_more}
 use Rattle.hir_types.specs.declared.head.Hole.TheVariants as hole_of
 use Rattle.hir_types.specs.Terms.{Term, hole, leaf, pair, apply}
 use Rattle.infer_table.specs.Solutions.{Log, resolved, Respects, Solves, Triangular, Unified, NoneUnifies, UnifiedIf}
@@ -19,7 +20,8 @@ use Rattle.goal_search.proofs.Heads.{reading_done}
 use Rattle.goal_facts.proofs.Systems.{each_append}
 use Rattle.infer_unify.specs.declared.unification.Unification.{Unification}
 use Rattle.infer_unify.specs.declared.unification.Unification.TheVariants as unification
-use Rattle.infer_unify.specs.Opening.{Alias}
+use Rattle.infer_unify.specs.declared.opening.Alias.{Alias as Owned}
+use Rattle.infer_unify.specs.Opening.{Alias, alias_of, aliases_of}
 use Rattle.infer_unify.specs.Unifying.{known_alias, goal_of, IsStepOf, IsNoStepOf, IsStep, AreSteps, IsFound, IsFollowed, AreFollowed, HaveCommon, HaveCommonIn, AreJudged}
 
 -- ---- the entry at a place
@@ -119,6 +121,13 @@ module _ (f : System) (n : ℕ) (l : Log) where
 
   pub judged_undecided : (ps : List Alias) (p : Alias) (found : Unification) → AreJudgedSoFar v ps l found → (Yes p → ⊥) × Open p → AreJudgedSoFar v (ps ++ p ∷ []) l unification.Undecided
   judged_undecided ps p found h u = ((open_more ps p found h u.1, some_last (λ q. Yes q → ⊥) ps p u.0), λ e. cc)
+
+-- one more was judged
+pub judged_more : (v : Verdicts) (l : Log) (xs : List Owned) (i : ℕ) (x : Owned) (found : Unification) → i < length xs → x ≡ get_or xs i x
+    → AreJudgedSoFar v (aliases_of (take i xs) ++ alias_of x ∷ []) l found → AreJudgedSoFar v (aliases_of (take (i + 1) xs)) l found
+judged_more v l xs i x found lt e h =
+    let same : aliases_of (take (i + 1) xs) ≡ aliases_of (take i xs) ++ alias_of x ∷ [] = map_more alias_of xs i x lt ∙ ap (λ z. aliases_of (take i xs) ++ alias_of z ∷ []) (sym e) in
+    let P : List Alias → Type 0 = λ ps. AreJudgedSoFar v ps l found in subst P (sym same) h
 
 pub some_at : {X : Type 0} (P : X → Type 0) (xs : List X) (i : ℕ) (x : X) → slice_get xs i ≡ Some x → P x → SomeOf P xs
 some_at P [] i x e h = cc
