@@ -11,13 +11,23 @@ use Rattle.hir_types.specs.declared.ty.GenericArg.{GenericArg, GenericArg-F, rol
 use Rattle.hir_types.specs.declared.ty.TraitRef.{TraitRef, TraitRef-F, roll-TraitRef, map-TraitRef}
 use Rattle.hir_types.specs.declared.ty.AliasBound.{AliasBound, AliasBound-F, roll-AliasBound, map-AliasBound}
 use Rattle.hir_types.specs.Folds.{in_arg, in_ty}
-use Rattle.hir_types.specs.Terms.{Term, leaf, pair, chain, node, const_term, type_part, const_part, arg_step, auto_parts, ty_step, term, arg_term, trait_parts, bound_parts}
+use Rattle.hir_types.specs.Terms.{Term, hole, leaf, pair, chain, node, const_term, type_part, const_part, arg_step, auto_parts, ty_step, term, arg_term, trait_parts, bound_parts}
 use Rattle.hir_types.specs.TermLaws.{terms, term_at, arg_term_at, trait_parts_is, bound_parts_is}
-use Rattle.goal_answers.specs.Reading.{role, plain}
+use Rattle.goal_answers.specs.Reading.{Role, plain, alias, role}
 use Rattle.goal_answers.specs.Goals.{Each}
+use Rattle.goal_terms.specs.Terms.{IsHead}
 use Rattle.goal_facts.proofs.Arguing.{list_is_head}
 use Rattle.goal_facts.proofs.Systems.{each_append}
-use Rattle.infer_unify.specs.Opening.{IsListBehind, HasLists}
+
+-- behind the mark of an associated type that is to be read stands a list
+abbrev pub IsListBehind : Role → Term → Type 0
+IsListBehind plain b = Unit {0}
+IsListBehind (alias k) b = IsHead b
+
+abbrev pub HasLists : Term → Type 0
+HasLists (hole k) = Unit {0}
+HasLists (leaf h) = Unit {0}
+HasLists (pair a b) = IsListBehind (role a) b × HasLists a × HasLists b
 
 -- ---- parts of a list
 

@@ -11,7 +11,8 @@ use Rattle.goal_answers.specs.Reading.{role}
 use Rattle.goal_answers.specs.Goals.{Each}
 use Rattle.goal_facts.proofs.Systems.{each_append}
 use Rattle.goal_terms.specs.Terms.{IsHead, HasHeads}
-use Rattle.infer_unify.specs.Opening.{Place, plain, alias, unknown_type, unknown_const, place, Alias, Opened, as_it_is, behind, joined, opened, IsOpened, IsListBehind, HasLists, HaveHeads, IsBare}
+use Rattle.infer_unify.specs.Opening.{Place, plain, alias, unknown_type, unknown_const, place, Alias, Opened, as_it_is, behind, joined, opened, IsOpened, HaveHeads, IsBare}
+use Rattle.infer_unify.proofs.Lists.{IsListBehind, HasLists}
 
 -- ---- a head with parts behind it
 

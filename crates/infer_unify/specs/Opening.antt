@@ -6,7 +6,7 @@ use Rattle.hir_types.specs.declared.head.Head.TheVariants as head
 use Rattle.hir_types.specs.declared.head.Hole.{Hole}
 use Rattle.hir_types.specs.declared.head.Hole.TheVariants as hole_of
 use Rattle.hir_types.specs.Terms.{Term, hole, leaf, pair}
-use Rattle.goal_answers.specs.Reading.{Role, role, plain as no_alias, alias as alias_role}
+use Rattle.infer_table.specs.OpenedLaws.{IsBelow}
 use Rattle.goal_answers.specs.Goals.{Each}
 use Rattle.goal_terms.specs.Terms.{term_of, IsHead, HasHeads}
 use Rattle.infer_unify.specs.declared.opening.Alias.{Alias as Owned}
@@ -83,19 +83,16 @@ second_opened n a b = opened (opened n a).next b
 abbrev pub aliases_of_both : ℕ → Term → Term → List Alias
 aliases_of_both n a b = (opened n a).aliases ++ (second_opened n a b).aliases
 
--- ---- terms as types make them
+-- so they were opened, with holes of their own
+pub record AreOpened (a b : Term) (ps : List Alias) (u v : Term) : Type 0 where
+  pub from : ℕ
+  pub left_below : IsBelow from a
+  pub right_below : IsBelow from b
+  pub left : u ≡ (opened from a).term
+  pub right : v ≡ (second_opened from a b).term
+  pub aliases : ps ≡ aliases_of_both from a b
 
--- behind the mark of an associated type that is to be read stands a list
-abbrev pub IsListBehind : Role → Term → Type 0
-IsListBehind no_alias b = Unit {0}
-IsListBehind (alias_role k) b = IsHead b
-
-abbrev pub HasLists : Term → Type 0
-HasLists (hole k) = Unit {0}
-HasLists (leaf h) = Unit {0}
-HasLists (pair a b) = IsListBehind (role a) b × HasLists a × HasLists b
-
--- so are the arguments, and what stands first in each pair of them is known
+-- the arguments are a list, and what stands first in each pair of them is known
 abbrev pub HaveHeads : List Alias → Type 0
 HaveHeads = Each (λ p. IsHead p.args × HasHeads p.args)
 

@@ -6,7 +6,6 @@ use Rattle.hir_types.specs.declared.head.Hole.TheVariants as hole_of
 use Rattle.hir_types.specs.declared.ty.Ty.{Ty}
 use Rattle.hir_types.specs.Terms.{Term, hole, pair, apply, term}
 use Rattle.hir_raw.specs.declared.raw.RawFacts.{RawFacts}
-use Rattle.infer_table.specs.OpenedLaws.{IsBelow}
 use Rattle.infer_table.specs.Solutions.{Log, resolved, Respects, Solves, Unified, NoneUnifies}
 use Rattle.goal_answers.specs.Reading.{Aliases, alias_at, ReadsAs}
 use Rattle.goal_answers.specs.Goals.{projects, Asked, System, Each, SomeOf, Verdicts}
@@ -14,7 +13,7 @@ use Rattle.goal_answers.specs.Answers.{answers}
 use Rattle.goal_facts.specs.Systems.{IsSystemOf}
 use Rattle.infer_unify.specs.declared.unification.Unification.{Unification}
 use Rattle.infer_unify.specs.declared.unification.Unification.TheVariants as unification
-use Rattle.infer_unify.specs.Opening.{Alias, opened, second_opened, aliases_of_both}
+use Rattle.infer_unify.specs.Opening.{Alias, AreOpened}
 
 -- ---- what is found out
 
@@ -92,12 +91,13 @@ abbrev pub Becomes : Verdicts → List Alias → Term → Term → Unification �
 Becomes v ps a b unification.No = (HaveCommon a b → ⊥) ⊎ ((l : Log) × IsFound v.Alias ps a b l × IsRefuted v ps l)
 Becomes v ps a b found = (l : Log) × IsFound v.Alias ps a b l × HaveCommonIn l a b × AreJudged v ps l found
 
--- two terms, with holes from some number above theirs on for the associated types in them
+-- two terms, which are opened
 pub record BecomesFrom (v : Verdicts) (a b : Term) (found : Unification) : Type 0 where
-  pub from : ℕ
-  pub left_below : IsBelow from a
-  pub right_below : IsBelow from b
-  pub becomes : Becomes v (aliases_of_both from a b) (opened from a).term (second_opened from a b).term found
+  pub aliases : List Alias
+  pub left : Term
+  pub right : Term
+  pub opened : AreOpened a b aliases left right
+  pub becomes : Becomes v aliases left right found
 
 -- two types, in the scope of an item of the facts, at the depth to which they let goals be followed
 pub record IsUnification (raw : RawFacts) (item : GenericDefId) (a b : Ty) (found : Unification) : Type 0 where

@@ -3,7 +3,7 @@ ghost use Rattle.std.specs.Prelude.{◌≡◌, ◌+◌, IfOk, OnOk};
 ghost use Rattle.hir_types.specs.Terms.{leaf, pair, hole_number};
 ghost use Rattle.infer_table.specs.OpenedLaws.{IsBelow};
 ghost use Rattle.goal_terms.specs.Terms.{term_of};
-ghost use Rattle.infer_unify.specs.Opening.{aliases_of, IsOpened, IsPutFor};
+ghost use Rattle.infer_unify.specs.Opening.{aliases_of, IsOpened, IsPutFor, AreOpened};
 
 use goal_terms::Term;
 use hir_types::{Head, Hole, TypeAliasId};
@@ -17,11 +17,19 @@ pub struct Alias {
     pub args: Term,
 }
 
+/// Two terms with holes in these places, and the associated types.
+#[derive(Debug, Drop)]
+pub(crate) struct OpenedBoth {
+    pub left: Term,
+    pub right: Term,
+    pub aliases: Vec<Alias>,
+}
+
 /// The number from which on no hole is in use, and the associated types that were met.
 #[derive(Debug, Drop)]
-pub(crate) struct Opening {
-    pub next: usize,
-    pub aliases: Vec<Alias>,
+struct Opening {
+    next: usize,
+    aliases: Vec<Alias>,
 }
 
 fn number_of(hole: Hole) -> usize
@@ -34,7 +42,7 @@ fn number_of(hole: Hole) -> usize
 
 /// A number above those of all holes in the term.
 #[tactic(auto, using(goal_terms::specs::Terms::term_is))]
-pub(crate) fn number_above(term: &Term) -> Result<usize, AllocError>
+fn number_above(term: &Term) -> Result<usize, AllocError>
     ensures { IfOk result (λ n. IsBelow n (term_of term.now)) }
 {
     match term {
@@ -84,7 +92,7 @@ impl Opening {
 
     /// The term with holes in these places.
     #[tactic(auto, using(goal_terms::specs::Terms::term_is))]
-    pub fn open(&mut self, alloc: Global, term: &Term) -> Result<Term, AllocError>
+    fn open(&mut self, alloc: Global, term: &Term) -> Result<Term, AllocError>
         ensures { IfOk result (λ made. IsOpened self.old.next self.new.next (aliases_of self.old.aliases.items) (aliases_of self.new.aliases.items) (term_of term.now) (term_of made)) }
     {
         match term {
@@ -112,4 +120,22 @@ impl Opening {
             },
         }
     }
+}
+
+/// Two terms, the holes that are put in the second behind those in the first.
+pub(crate) fn open_both(alloc: Global, left: &Term, right: &Term) -> Result<OpenedBoth, AllocError>
+    ensures { IfOk result (λ made. AreOpened (term_of left.now) (term_of right.now) (aliases_of made.aliases.items) (term_of made.left) (term_of made.right)) }
+{
+    let next = number_above(left)?.max(number_above(right)?);
+    let mut opening = Opening {
+        next,
+        aliases: Vec::new(alloc),
+    };
+    let left = opening.open(alloc, left)?;
+    let right = opening.open(alloc, right)?;
+    Ok(OpenedBoth {
+        left,
+        right,
+        aliases: opening.aliases,
+    })
 }

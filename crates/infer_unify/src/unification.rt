@@ -1,19 +1,18 @@
 //! Whether two types unify, and whether nothing is left undecided then.
 ghost use Rattle.std.specs.Prelude.{◌≡◌, ◌≤◌, IsTrue, IfOk};
-ghost use Rattle.infer_table.specs.OpenedLaws.{IsBelow};
 ghost use Rattle.goal_answers.specs.Answers.{answers};
 ghost use Rattle.goal_terms.specs.Terms.{term_of, HasHeads};
 ghost use Rattle.goal_search.specs.Sources.{system};
 ghost use Rattle.goal_search.specs.Searching.{SystemHasHeads};
 ghost use Rattle.infer_unify.specs.Exactly.{UnifyExactly, IsExact};
-ghost use Rattle.infer_unify.specs.Opening.{HasLists};
-ghost use Rattle.infer_unify.specs.Unifying.{BecomesFrom, IsUnification, could, deeply, IsTestOf};
+ghost use Rattle.infer_unify.specs.Opening.{aliases_of, HaveHeads};
+ghost use Rattle.infer_unify.specs.Unifying.{Becomes, IsUnification, could, deeply, IsTestOf};
 
 use crate::known::{follow_all, judge};
-use crate::opening::{Opening, number_above};
+use crate::opening::{OpenedBoth, open_both};
 use goal_facts::{Facts, GenericDefId, ItemSources, Ty};
 use goal_search::Search;
-use goal_terms::{MOST_DEPTH, Term, make_equal, type_term};
+use goal_terms::{MOST_DEPTH, make_equal, type_term};
 use hir_types::Canonical;
 use std::alloc::{AllocError, Global};
 
@@ -45,38 +44,28 @@ impl Unification {
     }
 }
 
-/// What becomes of two terms, with holes from this number on for the associated types in them.
+/// What becomes of two terms, in which holes stand for these associated types.
 fn unify_terms(
     alloc: Global,
     search: &mut Search<'_>,
     depth: u32,
-    left: &Term,
-    right: &Term,
+    terms: &OpenedBoth,
 ) -> Result<Unification, AllocError>
     requires depth { depth ≤ 32 }
     requires system { SystemHasHeads (system search.old) }
-    requires left { HasHeads (term_of left.now) }
-    requires right { HasHeads (term_of right.now) }
-    requires left_lists { HasLists (term_of left.now) }
-    requires right_lists { HasLists (term_of right.now) }
-    ensures { IfOk result (λ found. BecomesFrom (answers (system search.old) depth) (term_of left.now) (term_of right.now) found) }
+    requires left { HasHeads (term_of terms.now.left) }
+    requires right { HasHeads (term_of terms.now.right) }
+    requires heads { HaveHeads (aliases_of terms.now.aliases.items) }
+    ensures { IfOk result (λ found. Becomes (answers (system search.old) depth) (aliases_of terms.now.aliases.items) (term_of terms.now.left) (term_of terms.now.right) found) }
 {
-    let next = number_above(left)?.max(number_above(right)?);
-    let mut opening = Opening {
-        next,
-        aliases: Vec::new(alloc),
-    };
-    let left = opening.open(alloc, left)?;
-    let right = opening.open(alloc, right)?;
     let mut log = Vec::new(alloc);
-    if !make_equal(alloc, &mut log, &left, &right, MOST_DEPTH)? {
+    if !make_equal(alloc, &mut log, &terms.left, &terms.right, MOST_DEPTH)? {
         return Ok(Unification::No);
     }
-    let aliases = opening.aliases;
-    if !follow_all(alloc, search, depth, &aliases, &mut log)? {
+    if !follow_all(alloc, search, depth, &terms.aliases, &mut log)? {
         return Ok(Unification::No);
     }
-    judge(alloc, search, depth, &aliases, &log)
+    judge(alloc, search, depth, &terms.aliases, &log)
 }
 
 /// What becomes of two types over holes of their own, in the scope of an item: a hole says itself what
@@ -98,8 +87,9 @@ pub fn unification_of(
     let depth = facts.raw().limits.goal_depth;
     let left = type_term(alloc, &pair.value.0)?;
     let right = type_term(alloc, &pair.value.1)?;
+    let terms = open_both(alloc, &left, &right)?;
     let mut search = sources.search(alloc);
-    unify_terms(alloc, &mut search, depth, &left, &right)
+    unify_terms(alloc, &mut search, depth, &terms)
 }
 
 /// Whether two types could be the same: nothing that is known refutes it.

@@ -42,5 +42,5 @@ loop-alias-preserved c =
       c.in_ok-follow.ensures.same ∙ c.loop-alias.invariant.0,
       c.in_ok-follow.ensures.is_log,
       followed_then (answers (system c.args.search.now) c.args.depth).Alias ps i p (log_of c.args.log.now.items) m l'
-      (at_index alias_of c.args.aliases.now i c.alias-item.result c.loop-alias-test.true c.alias-item.is) c.loop-alias.invariant.2 some,
+          (at_index alias_of c.args.aliases.now i c.alias-item.result c.loop-alias-test.true c.alias-item.is) c.loop-alias.invariant.2 some,
     )
