@@ -1,7 +1,8 @@
 -- What becomes of two terms, by what was opened, made equal, followed and judged.
 use Rattle.std.specs.Prelude.{◌≡◌, ◌≤◌, ℕ, true, false, List, [], ◌++◌}
 use Rattle.std.proofs.Common.{inl, inr, sym, ap, ◌∙◌, subst, arith}
-use Rattle.hir_types.specs.Terms.{Term}
+use Rattle.hir_types.specs.declared.ty.Ty.{Ty}
+use Rattle.hir_types.specs.Terms.{Term, term}
 use Rattle.infer_table.specs.OpenedLaws.{IsBelow}
 use Rattle.infer_table.specs.Solutions.{Log, Triangular, Unified, UnifiedIf}
 use Rattle.goal_answers.specs.Goals.{Verdicts}
@@ -10,7 +11,7 @@ use Rattle.goal_terms.specs.Terms.{IsHead, HasHeads}
 use Rattle.infer_unify.specs.declared.unification.Unification.{Unification}
 use Rattle.infer_unify.specs.declared.unification.Unification.TheVariants as unification
 use Rattle.infer_unify.specs.Opening.{Alias, opened, second_opened, IsOpened, AreOpened, HaveHeads}
-use Rattle.infer_unify.proofs.Lists.{HasLists}
+use Rattle.infer_unify.proofs.Lists.{HasLists, type_lists}
 use Rattle.infer_unify.specs.Unifying.{IsFound, AreFollowed, AreJudged, Becomes}
 use Rattle.infer_unify.proofs.Openings.{opened_heads, aliases_heads}
 use Rattle.infer_unify.proofs.Steps.{common_in}
@@ -33,13 +34,17 @@ both_opened j k n i m os qs ps a b u v jn kn none below_a below_b x y =
       aliases = w.aliases ∙ ap (λ z. z ++ (second_opened n a b).aliases) (x.aliases ∙ ap (λ z. z ++ (opened n a).aliases) none);
     }
 
-pub both_heads : (a b : Term) (ps : List Alias) (u v : Term) → AreOpened a b ps u v → HasHeads a → HasLists a → HasHeads b → HasLists b → HasHeads u × HasHeads v × HaveHeads ps
+both_heads : (a b : Term) (ps : List Alias) (u v : Term) → AreOpened a b ps u v → HasHeads a → HasLists a → HasHeads b → HasLists b → HasHeads u × HasHeads v × HaveHeads ps
 both_heads a b ps u v h heads_a lists_a heads_b lists_b = (
   subst HasHeads (sym h.left) (opened_heads h.from a heads_a lists_a),
   subst HasHeads (sym h.right) (opened_heads (opened h.from a).next b heads_b lists_b),
   subst HaveHeads (sym h.aliases)
       (each_append (λ p. IsHead p.args × HasHeads p.args) (opened h.from a).aliases (second_opened h.from a b).aliases (aliases_heads h.from a heads_a lists_a) (aliases_heads (opened h.from a).next b heads_b lists_b)),
 )
+
+-- the terms of two types
+pub types_heads : (a b : Ty) (x y : Term) (ps : List Alias) (u v : Term) → x ≡ term a → y ≡ term b → HasHeads x → HasHeads y → AreOpened x y ps u v → HasHeads u × HasHeads v × HaveHeads ps
+types_heads a b x y ps u v e f heads_x heads_y h = both_heads x y ps u v h heads_x (subst HasLists (sym e) (type_lists a)) heads_y (subst HasLists (sym f) (type_lists b))
 
 -- ---- what becomes of them
 

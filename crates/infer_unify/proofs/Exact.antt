@@ -53,17 +53,23 @@ plain_exactly : (v : Verdicts) (a b : Ty) (found : Unification) → Becomes v []
     → ((found ≡ unification.Yes) × CanBeSame a b) ⊎ ((found ≡ unification.No) × (CanBeSame a b → ⊥))
 plain_exactly v a b unification.No (inl none) = inr (refl, λ h. none (terms_have a b h))
 plain_exactly v a b unification.No (inr (l, is, inl (i, p, at, s))) = cc
-plain_exactly v a b unification.No (inr (l, is, inr no)) = absurd no
+plain_exactly v a b unification.No (inr (l, is, inr h)) = absurd h
 plain_exactly v a b unification.Undecided (l, is, common, judged) = absurd judged.1
 plain_exactly v a b unification.Yes (l, is, common, judged) = inl (refl, types_have a b (common.0, common.1, common.3))
 
-pub exactly : (v : Verdicts) (a b : Ty) (found : Unification) → BecomesFrom v (term a) (term b) found → UnifyExactly a b found
+exactly : (v : Verdicts) (a b : Ty) (found : Unification) → BecomesFrom v (term a) (term b) found → UnifyExactly a b found
 exactly v a b found h bare = plain_exactly v a b found (plain_becomes v (term a) (term b) found bare.0 bare.1 h)
+
+pub exactly_by : (v : Verdicts) (a b : Ty) (x y : Term) (ps : List Alias) (u w : Term) (found : Unification) → x ≡ term a → y ≡ term b → AreOpened x y ps u w → Becomes v ps u w found → UnifyExactly a b found
+exactly_by v a b x y ps u w found e f h g =
+    let P : Term → Type 0 = λ z. AreOpened z y ps u w in
+    let Q : Term → Type 0 = λ z. AreOpened (term a) z ps u w in
+    exactly v a b found (record { aliases = ps; left = u; right = w; opened = subst Q f (subst P e h); becomes = g })
 
 -- ---- a test that holds of Yes and not of No
 
 pub exact_test : (test : Unification → Bool) (a b : Ty) (found : Unification) (is : Bool) → test unification.Yes ≡ true → test unification.No ≡ false → is ≡ test found → UnifyExactly a b found → IsExact a b is
-exact_test test a b found is yes no e h bare = elim (h bare) [
-  | inl q ↦ ((λ t. q.1), (λ c. e ∙ ap test q.0 ∙ yes))
-  | inr q ↦ ((λ t. absurd (true≢false (sym t ∙ e ∙ ap test q.0 ∙ no))), (λ c. absurd (q.1 c)))
+exact_test test a b found is at_yes at_no e h bare = elim (h bare) [
+  | inl q ↦ ((λ t. q.1), (λ c. e ∙ ap test q.0 ∙ at_yes))
+  | inr q ↦ ((λ t. absurd (true≢false (sym t ∙ e ∙ ap test q.0 ∙ at_no))), (λ c. absurd (q.1 c)))
 ]

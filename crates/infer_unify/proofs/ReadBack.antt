@@ -72,7 +72,7 @@ plain bs = ap (λ h. flat_map (λ us. us) (map h bs)) (λ i b. bound_parts_is b 
 -- ---- what stands for the holes of a type, read back
 
 module _ (s : Hole → Term) where
-  pub back : Assignment
+  abbrev pub back : Assignment
   back = record { var = λ n. type_of_term (s (hole_of.Ty n)); int_var = λ n. type_of_term (s (hole_of.Int n)); const_var = λ n. const_of_term (s (hole_of.Const n)) }
 
   abbrev parts_of : List Term → List ReadPart
