@@ -4,7 +4,7 @@ use Rattle.std.proofs.Common.{inl, inr, sym, ap, ◌∙◌, subst, arith}
 use Rattle.hir_types.specs.declared.ty.Ty.{Ty}
 use Rattle.hir_types.specs.Terms.{Term, term}
 use Rattle.infer_table.specs.OpenedLaws.{IsBelow}
-use Rattle.infer_table.specs.Solutions.{Log, Triangular, Unified, UnifiedIf}
+use Rattle.infer_table.specs.Solutions.{Log, Triangular, UnifiedIf}
 use Rattle.goal_answers.specs.Goals.{Verdicts}
 use Rattle.goal_facts.proofs.Systems.{each_append}
 use Rattle.goal_terms.specs.Terms.{IsHead, HasHeads}

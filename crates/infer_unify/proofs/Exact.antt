@@ -9,7 +9,7 @@ use Rattle.hir_types.specs.TermLaws.{term_folded}
 use Rattle.goal_answers.specs.Goals.{Verdicts}
 use Rattle.infer_unify.specs.declared.unification.Unification.{Unification}
 use Rattle.infer_unify.specs.declared.unification.Unification.TheVariants as unification
-use Rattle.infer_unify.specs.Exactly.{CanBeSame, AreBare, UnifyExactly, IsExact}
+use Rattle.infer_unify.specs.Exactly.{CanBeSame, UnifyExactly, IsExact}
 use Rattle.infer_unify.specs.Opening.{Alias, Opened, as_it_is, opened, second_opened, AreOpened, IsBare}
 use Rattle.infer_unify.specs.Unifying.{HaveCommon, Becomes, BecomesFrom}
 use Rattle.infer_unify.proofs.Openings.{opened_bare}

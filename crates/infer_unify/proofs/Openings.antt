@@ -1,6 +1,6 @@
 -- What each step of opening a term comes to.
 use Rattle.std.specs.Prelude.{◌≡◌, ℕ, ◌+◌, List, [], ◌∷◌, ◌++◌}
-use Rattle.std.proofs.Common.{refl, sym, ap, ◌∙◌, subst, append_assoc, append-nil}
+use Rattle.std.proofs.Common.{refl, sym, ap, ◌∙◌, subst, append_assoc}
 use Rattle.hir_types.specs.declared.ids.TypeAliasId.{TypeAliasId}
 use Rattle.hir_types.specs.declared.head.Head.{Head}
 use Rattle.hir_types.specs.declared.head.Head.TheVariants as head
@@ -8,7 +8,6 @@ use Rattle.hir_types.specs.declared.head.Hole.{Hole}
 use Rattle.hir_types.specs.declared.head.Hole.TheVariants as hole_of
 use Rattle.hir_types.specs.Terms.{Term, hole, leaf, pair}
 use Rattle.goal_answers.specs.Reading.{role}
-use Rattle.goal_answers.specs.Goals.{Each}
 use Rattle.goal_facts.proofs.Systems.{each_append}
 use Rattle.goal_terms.specs.Terms.{IsHead, HasHeads}
 use Rattle.infer_unify.specs.Opening.{Place, plain, alias, unknown_type, unknown_const, place, Alias, Opened, as_it_is, behind, joined, opened, IsOpened, HaveHeads, IsBare}

@@ -1,5 +1,5 @@
 -- What stands for holes, read back as types: what terms make the same, types do.
-use Rattle.std.proofs.Common.{◌≡◌, ◌++◌, refl, sym, ap, subst, ◌∙◌, List, [], ◌∷◌, map, Option, Some, None}
+use Rattle.std.proofs.Common.{◌≡◌, ◌++◌, refl, sym, ap, subst, ◌∙◌, List, [], ◌∷◌, map, Some, None}
 use Rattle.std.specs.List.{flat_map}
 use Rattle.hir_types.specs.declared.ids.TraitId.{TraitId}
 use Rattle.hir_types.specs.declared.head.Head.{Head}
@@ -15,7 +15,7 @@ use Rattle.hir_types.specs.declared.ty.GenericArg.TheVariants as arg
 use Rattle.hir_types.specs.declared.ty.TraitRef.{TraitRef, roll-TraitRef}
 use Rattle.hir_types.specs.declared.ty.AliasBound.{AliasBound, roll-AliasBound}
 use Rattle.hir_types.specs.Erasure.{no_label, erased_step, erased, Same}
-use Rattle.hir_types.specs.Folds.{map_twice, Steps, Maps, folds_follow, GoBySteps, SameMaps, unique, maps_after, in_arg, in_ty, in_bound, in_trait, in_arg_twice, in_ty_twice}
+use Rattle.hir_types.specs.Folds.{map_twice, Steps, Maps, folds_follow, GoBySteps, unique, maps_after, in_arg, in_ty, in_bound, in_trait, in_arg_twice, in_ty_twice}
 use Rattle.hir_types.specs.Faithful.{erased_steps, erasing, ReadPart, mark, type_of, const_of, unread, types, arg_of, leading_args, all_but_last, last, bound_before, bounds_of, auto_before, autos_of, read, type_of_term, const_of_term, term_erased, term_tells}
 use Rattle.hir_types.specs.Replacements.{replacing, at_ty, at_arg, trait_replaced_is, bound_replaced_is}
 use Rattle.hir_types.specs.Subst.{ty_layer, arg_layer, Assignment, with_holes, folded, const_folded, arg_folded, bound_replaced, trait_folded}

@@ -3,13 +3,12 @@ use Rattle.std.specs.Prelude.{◌≡◌, ◌<◌, ◌+◌, ℕ, zero, suc, Bool,
 use Rattle.std.proofs.Common.{inl, inr, refl, sym, ap, ◌∙◌, subst, arith, get_or, take}
 use Rattle.std.proofs.lemmas.List.{map_more}
 use Rattle.hir_types.specs.declared.head.Hole.TheVariants as hole_of
-use Rattle.hir_types.specs.Terms.{Term, hole, leaf, pair, apply}
-use Rattle.infer_table.specs.Solutions.{Log, resolved, Respects, Solves, Triangular, Unified, NoneUnifies, UnifiedIf}
+use Rattle.hir_types.specs.Terms.{Term, hole, pair}
+use Rattle.infer_table.specs.Solutions.{Log, resolved, Solves, Triangular, Unified, NoneUnifies, UnifiedIf}
 use Rattle.infer_table.specs.LogLemmas.{solution, solution_solves, solution_respects}
 use Rattle.goal_answers.specs.Reading.{Aliases, alias_at, ReadsAs}
 use Rattle.goal_answers.specs.Goals.{System, Each, SomeOf, Verdicts}
 use Rattle.goal_answers.specs.Answers.{answers}
-use Rattle.goal_answers.specs.Steps.{ReadingIs}
 use Rattle.goal_answers.proofs.Lists.{each_map}
 use Rattle.goal_answers.proofs.One.{answers_are_one}
 use Rattle.goal_terms.specs.Terms.{IsHead, HasHeads}
@@ -22,7 +21,7 @@ use Rattle.infer_unify.specs.declared.unification.Unification.{Unification}
 use Rattle.infer_unify.specs.declared.unification.Unification.TheVariants as unification
 use Rattle.infer_unify.specs.declared.opening.Alias.{Alias as Owned}
 use Rattle.infer_unify.specs.Opening.{Alias, alias_of, aliases_of}
-use Rattle.infer_unify.specs.Unifying.{known_alias, goal_of, IsStepOf, IsNoStepOf, IsStep, AreSteps, IsFound, IsFollowed, AreFollowed, HaveCommon, HaveCommonIn, AreJudged}
+use Rattle.infer_unify.specs.Unifying.{known_alias, goal_of, IsStep, AreSteps, IsFound, IsFollowed, AreFollowed, HaveCommonIn, AreJudged}
 
 -- ---- the entry at a place
 

@@ -1,13 +1,12 @@
 //! What is found out of the holes of two types, and what becomes of the associated types in them.
-ghost use Rattle.std.specs.Prelude.{◌≡◌, ◌+◌, ◌≤◌, IfOk, OnOk, option_map};
-ghost use Rattle.hir_types.specs.Terms.{hole, leaf, pair, hole_eq};
+ghost use Rattle.std.specs.Prelude.{◌≡◌, ◌≤◌, IfOk, option_map};
+ghost use Rattle.hir_types.specs.Terms.{hole, pair};
 ghost use Rattle.infer_table.specs.Solutions.{sub, resolved};
-ghost use Rattle.goal_answers.specs.Goals.{Each};
 ghost use Rattle.goal_answers.specs.Answers.{answers};
 ghost use Rattle.goal_answers.specs.Steps.{ReadingIs};
 ghost use Rattle.goal_terms.specs.Terms.{term_of, IsHead, HasHeads};
 ghost use Rattle.goal_terms.specs.Bindings.{log_of};
-ghost use Rattle.goal_terms.specs.Unifying.{IsLog, Extends};
+ghost use Rattle.goal_terms.specs.Unifying.{IsLog};
 ghost use Rattle.goal_search.specs.Sources.{system};
 ghost use Rattle.goal_search.specs.Searching.{SystemHasHeads};
 ghost use Rattle.goal_facts.specs.Goals.{IsAnswer};

@@ -1,6 +1,6 @@
 //! Terms with holes in the places of associated types that are to be read, and of `{unknown}`.
 ghost use Rattle.std.specs.Prelude.{◌≡◌, ◌+◌, IfOk, OnOk};
-ghost use Rattle.hir_types.specs.Terms.{leaf, pair, hole_number};
+ghost use Rattle.hir_types.specs.Terms.{hole_number};
 ghost use Rattle.infer_table.specs.OpenedLaws.{IsBelow};
 ghost use Rattle.goal_terms.specs.Terms.{term_of};
 ghost use Rattle.infer_unify.specs.Opening.{aliases_of, IsOpened, IsPutFor, AreOpened};

@@ -1,12 +1,9 @@
-use Rattle.std.proofs.Common.{◌≡◌, ◌+◌, suc, sym, ap, ◌∙◌, subst, arith}
+use Rattle.std.proofs.Common.{◌≡◌, ◌+◌, suc, sym, subst, arith}
 use Rattle.hir_types.specs.declared.head.Hole.TheVariants as hole_of
-use Rattle.hir_types.specs.Terms.{pair}
-use Rattle.infer_table.specs.Solutions.{resolved}
-use Rattle.goal_answers.specs.Goals.{projects, Asked}
+use Rattle.goal_answers.specs.Goals.{projects}
 use Rattle.goal_facts.proofs.Systems.{answer_is}
 use Rattle.goal_terms.specs.Terms.{term_of, term_of_hole, HasHeads}
 use Rattle.goal_terms.specs.Bindings.{log_of}
-use Rattle.goal_search.specs.declared.sources.Kind.TheVariants as kind
 use Rattle.goal_search.specs.Sources.{system}
 use Rattle.infer_unify.specs.Opening.{alias_of}
 use Rattle.infer_unify.specs.Unifying.{goal_of}

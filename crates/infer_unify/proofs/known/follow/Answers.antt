@@ -1,4 +1,4 @@
-use Rattle.std.proofs.Common.{◌≡◌, sym, ap, ◌∙◌, subst, option_map}
+use Rattle.std.proofs.Common.{sym, subst, option_map}
 use Rattle.hir_types.specs.declared.head.Hole.TheVariants as hole_of
 use Rattle.hir_types.specs.Terms.{hole}
 use Rattle.goal_answers.specs.Answers.{answers}

@@ -1,4 +1,4 @@
-use Rattle.std.proofs.Common.{◌≡◌, Bool, true, false, ◌∙◌, subst, slice_get, Some}
+use Rattle.std.proofs.Common.{◌≡◌, Bool, ◌∙◌, subst, slice_get, Some}
 use Rattle.goal_answers.specs.Answers.{answers}
 use Rattle.goal_facts.proofs.Systems.{each_get}
 use Rattle.goal_terms.specs.Terms.{IsHead, HasHeads}

@@ -1,4 +1,4 @@
-use Rattle.std.proofs.Common.{◌≡◌, ◌≤◌, List, [], ap, arith}
+use Rattle.std.proofs.Common.{◌≤◌, ap, arith}
 use Rattle.goal_terms.specs.Terms.{term_of}
 use Rattle.infer_unify.specs.Opening.{aliases_of}
 use Rattle.infer_unify.proofs.Becoming.{both_opened}

@@ -1,4 +1,4 @@
-use Rattle.std.proofs.Common.{Bool, List, [], ◌∙◌, subst, ap, IfOk}
+use Rattle.std.proofs.Common.{Bool, List, [], subst, ap, IfOk}
 use Rattle.std.proofs.lemmas.Result.{IfOk-weaker}
 use Rattle.infer_table.specs.Solutions.{Log, UnifiedIf}
 use Rattle.goal_answers.specs.Answers.{answers}

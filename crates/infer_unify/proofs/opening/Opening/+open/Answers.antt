@@ -1,5 +1,5 @@
-use Rattle.std.proofs.Common.{refl, ap, ◌∙◌, subst}
-use Rattle.hir_types.specs.Terms.{leaf, pair}
+use Rattle.std.proofs.Common.{ap, ◌∙◌, subst}
+use Rattle.hir_types.specs.Terms.{pair}
 use Rattle.goal_terms.specs.Terms.{term_of, term_of_hole, term_of_leaf}
 use Rattle.goal_terms.proofs.Owned.{pair_of, same_made}
 use Rattle.infer_unify.specs.Opening.{aliases_of, IsOpened, IsPutFor}
