@@ -2,8 +2,12 @@
 #![tactic(auto)]
 
 #[cfg(test)]
+mod given;
+#[cfg(test)]
 mod terms;
 #[cfg(test)]
 mod tree;
 #[cfg(test)]
 mod undo;
+#[cfg(test)]
+mod unify;

@@ -3,65 +3,31 @@ ghost use Rattle.std.specs.Prelude.{◌≡◌, IfOk, OnOk};
 ghost use Rattle.infer_table.specs.Table.{Grew};
 ghost use Rattle.infer_goals.specs.Undo.{GoesOn, KeepsGoals};
 
+use crate::given::{Items, given, plain_trait};
 use crate::tree::{NODE, implements};
-use hir_facts::{
-    Edition, Facts, GenericDefId, List, RawFacts, RawLang, RawLimits, RawTrait, Text, TraitId, Ty,
-    UintTy,
-};
+use hir_facts::{Facts, GenericDefId, List, RawLang, TraitId, Ty, UintTy};
 use infer_goals::GoalTable;
 use infer_table::{InferenceTable, NoUnifier};
 use std::alloc::{AllocError, Global};
 use std::process::Abort;
 use std::test::Fail;
 
-/// Trait 0, which has no parameters.
-fn sized(alloc: Global) -> Result<RawTrait, AllocError> {
-    Ok(RawTrait {
-        name: Text::from_string(String::from_str(alloc, "Sized")?),
-        params: List::new(alloc),
-        preds: List::new(alloc),
-        fns: List::new(alloc),
-        consts: List::new(alloc),
-        types: List::new(alloc),
-        auto: false,
-    })
-}
-
 /// The facts of one trait, that of types with a size.
 fn facts(alloc: Global) -> Result<Facts, AllocError> {
     let mut traits = List::new(alloc);
-    traits.push(sized(alloc)?)?;
+    traits.push(plain_trait(alloc, "Sized", List::new(alloc))?)?;
     let mut lang = List::new(alloc);
     lang.push(RawLang::Sized(TraitId(0)))?;
-    let limits = RawLimits {
-        goal_depth: 4,
-        goal_steps: 4,
-        autoderef: 4,
-        tail: 4,
-    };
-    let raw = RawFacts {
-        edition: Edition::Edition2024,
-        never_fallback: false,
-        new_range: false,
-        limits,
-        types: List::new(alloc),
-        modules: List::new(alloc),
-        adts: List::new(alloc),
-        variants: List::new(alloc),
-        fns: List::new(alloc),
-        consts: List::new(alloc),
-        statics: List::new(alloc),
-        traits,
-        aliases: List::new(alloc),
-        impls: List::new(alloc),
-        opaques: List::new(alloc),
-        lang,
-        bodies: List::new(alloc),
-    };
-    match Facts::new(alloc, raw) {
-        Ok(facts) => Ok(facts),
-        Err(_) => Err(AllocError),
-    }
+    given(
+        alloc,
+        Items {
+            types: List::new(alloc),
+            traits,
+            aliases: List::new(alloc),
+            impls: List::new(alloc),
+            lang,
+        },
+    )
 }
 
 /// Registers that a type has a size; a type of holes that the table didn't make is an error.

@@ -1,0 +1,46 @@
+use Rattle.std.proofs.Common.{◌≡◌, Bool, ◌∙◌, subst, slice_get, Some}
+use Rattle.goal_answers.specs.Answers.{answers}
+use Rattle.goal_facts.proofs.Systems.{each_get}
+use Rattle.goal_terms.specs.Terms.{IsHead, HasHeads}
+use Rattle.goal_terms.specs.Bindings.{log_of}
+use Rattle.goal_search.specs.declared.sources.Sources.{Sources}
+use Rattle.goal_search.specs.Sources.{system}
+use Rattle.infer_unify.specs.Opening.{alias_of, aliases_of}
+use Rattle.infer_unify.specs.Unifying.{IsFollowed}
+use Rattle.infer_unify.proofs.Steps.{at_index, followed_then, followed_none}
+use Rattle.infer_unify.proofs.known.follow_all.Goals as goal
+
+pub follow-requires-clause-heads : goal.follow-requires-clause-heads
+follow-requires-clause-heads c =
+    let ps = aliases_of c.args.aliases.now in
+    let i = c.loop-alias.alias-index in
+    let p = c.alias-item.result in
+    let at : slice_get ps i ≡ Some (alias_of p) = at_index alias_of c.args.aliases.now i p c.loop-alias-test.true c.alias-item.is in
+    (each_get (λ q. IsHead q.args × HasHeads q.args) ps i (alias_of p) c.requires.heads at).1
+
+pub returns-then-not-branch-clause-followed : goal.returns-then-not-branch-clause-followed
+returns-then-not-branch-clause-followed c =
+    let ps = aliases_of c.args.aliases.now in
+    let i = c.loop-alias.alias-index in
+    let p = alias_of c.alias-item.result in
+    let m = log_of c.loop-alias.log.items in
+    let l' = log_of c.follow.new.log.items in
+    let by_search = subst (λ (z : Sources). IsFollowed (answers (system z) c.args.depth).Alias p m l' c.in_ok-follow.field-0) c.loop-alias.invariant.0 c.in_ok-follow.ensures.followed in
+    let none = subst (λ (b : Bool). IsFollowed (answers (system c.args.search.now) c.args.depth).Alias p m l' b) c.if-not-branch.true by_search in
+    followed_none (answers (system c.args.search.now) c.args.depth).Alias ps i p (log_of c.args.log.now.items) m l'
+    (at_index alias_of c.args.aliases.now i c.alias-item.result c.loop-alias-test.true c.alias-item.is) c.loop-alias.invariant.2 none
+
+pub loop-alias-preserved : goal.loop-alias-preserved
+loop-alias-preserved c =
+    let ps = aliases_of c.args.aliases.now in
+    let i = c.loop-alias.alias-index in
+    let p = alias_of c.alias-item.result in
+    let m = log_of c.loop-alias.log.items in
+    let l' = log_of c.follow.new.log.items in
+    let by_search = subst (λ (z : Sources). IsFollowed (answers (system z) c.args.depth).Alias p m l' c.in_ok-follow.field-0) c.loop-alias.invariant.0 c.in_ok-follow.ensures.followed in
+    let some = subst (λ (b : Bool). IsFollowed (answers (system c.args.search.now) c.args.depth).Alias p m l' b) c.if-not-branch.false by_search in (
+      c.in_ok-follow.ensures.same ∙ c.loop-alias.invariant.0,
+      c.in_ok-follow.ensures.is_log,
+      followed_then (answers (system c.args.search.now) c.args.depth).Alias ps i p (log_of c.args.log.now.items) m l'
+          (at_index alias_of c.args.aliases.now i c.alias-item.result c.loop-alias-test.true c.alias-item.is) c.loop-alias.invariant.2 some,
+    )

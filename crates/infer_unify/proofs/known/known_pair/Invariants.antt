@@ -1,0 +1,10 @@
+use Rattle.std.proofs.Common.{◌≡◌, drop}
+use Rattle.hir_types.specs.Terms.{pair}
+use Rattle.infer_table.specs.Solutions.{resolved}
+use Rattle.goal_terms.specs.Terms.{term_of}
+use Rattle.goal_terms.specs.Bindings.{log_of}
+use Rattle.infer_unify.proofs.known.known_pair.Given as goal
+
+-- the bindings that are left, put into what is made
+abbrev pub invariant-loop-binding : goal.invariant-loop-binding
+invariant-loop-binding l = resolved (log_of (drop l.binding-index l.log)) (term_of l.made) ≡ resolved (log_of l.log) (pair (term_of l.fn.first) (term_of l.rest))

@@ -1,0 +1,7 @@
+use Rattle.std.proofs.Common.{refl}
+use Rattle.infer_unify.specs.Unifying.{could}
+use Rattle.infer_unify.proofs.Exact.{exact_test}
+use Rattle.infer_unify.proofs.unification.could_unify.Goals as goal
+
+pub returns-clause-exact : goal.returns-clause-exact
+returns-clause-exact c = exact_test could c.args.pair.now.value.0 c.args.pair.now.value.1 c.in_ok-found.found c.could.result refl refl c.could.ensures c.in_ok-found.ensures.exact

@@ -1,0 +1,37 @@
+use Rattle.std.proofs.lemmas.Result.{IfOk-weaker}
+use Rattle.goal_answers.specs.Answers.{answers}
+use Rattle.goal_facts.proofs.Systems.{depth_is_small}
+use Rattle.goal_terms.specs.Terms.{term_of}
+use Rattle.goal_search.specs.Sources.{system}
+use Rattle.infer_unify.specs.Exactly.{UnifyExactly}
+use Rattle.infer_unify.specs.Opening.{aliases_of}
+use Rattle.infer_unify.specs.Unifying.{Becomes}
+use Rattle.infer_unify.proofs.Becoming.{types_heads}
+use Rattle.infer_unify.proofs.Exact.{exactly_by}
+use Rattle.infer_unify.proofs.unification.unification_of.Goals as goal
+
+pub unify_terms-requires-clause-depth : goal.unify_terms-requires-clause-depth
+unify_terms-requires-clause-depth c = depth_is_small c.raw.result.now c.raw.ensures.lawful
+
+pub unify_terms-requires-clause-left : goal.unify_terms-requires-clause-left
+unify_terms-requires-clause-left c =
+    (types_heads c.args.pair.now.value.0 c.args.pair.now.value.1 _ _ _ _ _ c.in_ok-left.ensures.is c.in_ok-right.ensures.is c.in_ok-left.ensures.heads c.in_ok-right.ensures.heads c.in_ok-terms.ensures).0
+
+pub unify_terms-requires-clause-right : goal.unify_terms-requires-clause-right
+unify_terms-requires-clause-right c =
+    (types_heads c.args.pair.now.value.0 c.args.pair.now.value.1 _ _ _ _ _ c.in_ok-left.ensures.is c.in_ok-right.ensures.is c.in_ok-left.ensures.heads c.in_ok-right.ensures.heads c.in_ok-terms.ensures).1
+
+pub unify_terms-requires-clause-heads : goal.unify_terms-requires-clause-heads
+unify_terms-requires-clause-heads c =
+    (types_heads c.args.pair.now.value.0 c.args.pair.now.value.1 _ _ _ _ _ c.in_ok-left.ensures.is c.in_ok-right.ensures.is c.in_ok-left.ensures.heads c.in_ok-right.ensures.heads c.in_ok-terms.ensures).2
+
+pub returns-clause-exact : goal.returns-clause-exact
+returns-clause-exact c =
+    let v = answers (system c.search-search.result) c.raw.result.now.limits.goal_depth in
+    let a = c.args.pair.now.value.0 in
+    let b = c.args.pair.now.value.1 in
+    let ps = aliases_of c.in_ok-terms.terms.aliases.items in
+    let u = term_of c.in_ok-terms.terms.left in
+    let w = term_of c.in_ok-terms.terms.right in
+    IfOk-weaker c.unify_terms.result (Becomes v ps u w) (UnifyExactly a b)
+    (λ found h. exactly_by v a b (term_of c.in_ok-left.left) (term_of c.in_ok-right.right) ps u w found c.in_ok-left.ensures.is c.in_ok-right.ensures.is c.in_ok-terms.ensures h) c.unify_terms.ensures

@@ -1,0 +1,3 @@
+pub mod Opening
+pub mod Unifying
+pub mod Exactly
