@@ -1,6 +1,6 @@
 -- The functions and constructors of lawful facts.
 use Rattle.std.specs.List.{list_all}
-use Rattle.std.proofs.Common.{ℕ, ◌≡◌, refl, sym, ap, ◌∙◌, Some, slice_get, option_and_then, None, Option, length, option_map, zero, suc, ◌&&◌, ◌+◌, ◌<◌, ◌≤◌, arith, true, List, subst, [], ◌∷◌, map, false}
+use Rattle.std.proofs.Common.{ℕ, ◌≡◌, refl, sym, ap, ◌∙◌, Some, slice_get, option_and_then, None, Option, length, option_map, zero, suc, ◌&&◌, ◌+◌, ◌<◌, ◌≤◌, arith, true, List, subst, [], ◌∷◌, map}
 use Rattle.std.proofs.lemmas.Bool.{lt-ltb, eq-eqb}
 use Rattle.hir_types.specs.declared.ids.VariantId.{VariantId}
 use Rattle.hir_types.specs.declared.ids.FunctionId.{FunctionId}

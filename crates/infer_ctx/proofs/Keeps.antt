@@ -16,7 +16,7 @@ use Rattle.hir_raw.specs.declared.raw.RawPat.{RawPat}
 use Rattle.hir_raw.specs.declared.raw.RawVariant.{RawVariant}
 use Rattle.hir_raw.specs.Signatures.{Signature, at_args}
 use Rattle.hir_facts.specs.Filled.{filled_agree}
-use Rattle.hir_raw.specs.Order.{Role, initializer, let_pattern, tail, element, condition, then_branch, else_branch, scrutinee, arm_pattern, guard, arm, argument, subpattern, Node, the_body, inner}
+use Rattle.hir_raw.specs.Order.{Role, initializer, let_pattern, tail, element, then_branch, else_branch, arm_pattern, arm, argument, subpattern, Node, the_body, inner}
 use Rattle.hir_raw.specs.declared.raw.RawStmt.TheVariants as stmt
 use Rattle.hir_raw.specs.declared.raw.RawExpr.TheVariants as expr
 use Rattle.hir_raw.specs.declared.raw.RawPath.TheVariants as path

@@ -18,7 +18,7 @@ use infer_pat::infer_top_pat;
 use std::alloc::{AllocError, Global};
 
 /// Types the body against its return type: `infer.rs`, `infer_body`. Each node's goals are registered, and selected after the
-/// arguments of calls; what associated types are is read there, and of all paths once the body is walked.
+/// arguments of calls; what associated types are is read there, and of all nodes once the body is walked.
 pub fn infer_body(
     alloc: Global,
     context: &mut InferenceContext,

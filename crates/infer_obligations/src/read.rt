@@ -245,7 +245,7 @@ pub fn read_all(
     Ok(())
 }
 
-/// Once the body is walked: reads the associated types that the needs of its paths are about, selects what can be selected with what that
+/// Once the body is walked: reads the associated types that the needs of its nodes are about, selects what can be selected with what that
 /// says, and unifies the pairs that still wait.
 pub fn settle_needs(
     alloc: Global,

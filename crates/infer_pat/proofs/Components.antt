@@ -1,5 +1,5 @@
 -- What is known of the parts of a tuple pattern.
-use Rattle.std.proofs.Common.{ℕ, ◌≡◌, refl, sym, ap, subst, ◌∙◌, ◌+◌, inl, inr, List, [], ◌∷◌, ◌++◌, length, length-append, slice_get, Option, Some, None, arith}
+use Rattle.std.proofs.Common.{ℕ, ◌≡◌, refl, sym, ap, subst, ◌∙◌, ◌+◌, inl, inr, List, [], ◌∷◌, ◌++◌, length-append, slice_get, Option, Some, None, arith}
 use Rattle.hir_types.specs.declared.head.HoleKind.TheVariants as kind
 use Rattle.hir_types.specs.declared.ty.AliasBound.{AliasBound}
 use Rattle.hir_types.specs.declared.ty.GenericArg.{GenericArg}
@@ -13,7 +13,7 @@ use Rattle.infer_table.specs.Table.{State, bindings, hole_count, resolved_type, 
 use Rattle.infer_ctx.specs.declared.context.InferenceContext.{InferenceContext}
 use Rattle.infer_ctx.specs.Closings.{IsSound}
 use Rattle.infer_ctx.specs.Context.{component, element_type}
-use Rattle.infer_pat.specs.Patterns.{AreTupleParts, IsComponentOf, IsGivenOrNew, IsTopOf, after_all_given, after_given, given_types}
+use Rattle.infer_pat.specs.Patterns.{AreTupleParts, IsComponentOf, IsGivenOrNew, after_all_given, after_given, given_types}
 use Rattle.infer_pat.proofs.PatHoles.{no_part_yet, one_part_more, push_cases}
 
 -- ---- a component

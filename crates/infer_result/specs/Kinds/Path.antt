@@ -29,7 +29,8 @@ use Rattle.infer_result.specs.Kinds.Constructor.{IsCtorPath}
 -- ---- its rule
 
 -- a function stands at as many types as it has parameters, those for associated types in its signature among
--- them, a constructor at as many as its adt has; which variant it is of is recorded
+-- them, a constructor at as many as its adt has and one for each associated type in its fields; which variant it
+-- is of is recorded
 abbrev pub PathRule : Given → InferenceResult → ExprId → RawPath → Type 0
 PathRule g r e (path.Local v) = (t : Ty) × HasTy r e t × BindingTy r v t
 PathRule g r e (path.Function f) =

@@ -1,4 +1,4 @@
-use Rattle.std.proofs.Common.{sym, append-nil, arith, ◌∙◌, ◌-◌}
+use Rattle.std.proofs.Common.{sym, append-nil, arith, ◌∙◌}
 use Rattle.infer_ctx.proofs.Lists.{grown_more, grown_within, put_grown}
 use Rattle.infer_ctx.proofs.context.put.Goals as goal
 

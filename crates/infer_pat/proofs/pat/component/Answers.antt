@@ -5,7 +5,7 @@ use Rattle.infer_table.specs.Table.{State}
 use Rattle.infer_ctx.specs.Context.{scope_in}
 use Rattle.infer_ctx.specs.Fine.{IsFine, IsFineExpectation}
 use Rattle.infer_ctx.proofs.FineTypes.{fine_part}
-use Rattle.infer_pat.proofs.Components.{component_at, other_component, tuple_component}
+use Rattle.infer_pat.proofs.Components.{component_at, tuple_component}
 use Rattle.infer_pat.proofs.PatHoles.{resolved_fine}
 use Rattle.infer_pat.proofs.pat.component.Goals as goal
 
