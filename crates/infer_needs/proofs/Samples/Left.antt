@@ -40,7 +40,7 @@ may_bare p (pair a b) u h r =
     let q = subst P (role_read a (bare_read a h.0)) r in
     q.2 ∙ ap₂ pair (may_bare p a q.0 h.0 q.3) (may_bare p b q.1 h.1 q.4)
 
-u8_args : chain (map arg_term (type_args (u8 ∷ []))) ≡ only u8_term
+pub u8_args : chain (map arg_term (type_args (u8 ∷ []))) ≡ only u8_term
 u8_args = λ i. pair ((arg_term_type u8 ∙ ap type_part (term_uint uint.U8)) i) (leaf head.End)
 
 differ : only u8_term ≡ only bool_term → ⊥
@@ -102,10 +102,10 @@ module _ (s : System) (of : IsSystemOf facts own s) (n : ℕ) where
 
 -- ---- refused
 
-abbrev stays : Ty
+abbrev pub stays : Ty
 stays = ty.AssociatedType out (type_args (u8 ∷ []))
 
-no_bool : (x : Term) → bool_term ≡ staying out x → ⊥
+pub no_bool : (x : Term) → bool_term ≡ staying out x → ⊥
 no_bool x h = cc
 
 -- where it is left in the type of an expression, and the table doesn't say that it is `bool`

@@ -1,4 +1,4 @@
--- Tables over the facts of `Impls` in which goals don't hold.
+-- Tables over the facts of `Impls` in which goals don't hold: complaints, proofs and entries that are wrong. What nodes of `need(1u8)` need holds.
 use Rattle.std.proofs.Common.{ℕ, suc, ◌≡◌, inl, inr, Bool, true, false, List, [], ◌∷◌, ◌++◌, map, refl, sym, ap, subst, ◌∙◌, true≢false, Some, slice_get}
 use Rattle.std.specs.Prelude.{flat_map}
 use Rattle.hir_types.specs.declared.goal.Goal.{Goal}
