@@ -135,6 +135,7 @@ module _ (raw : RawFacts) (d : DefWithBodyId) (b : RawBody) (f : System) (r : In
     proved = is_proved (asked_goal (goal.Projection h.alias h.args x.1)) h.proved;
     read = h.read;
     known = h.known;
+    other = h.other;
   }
 
   are_found : AreFound z
@@ -161,6 +162,7 @@ module _ (raw : RawFacts) (d : DefWithBodyId) (b : RawBody) (f : System) (r : In
           needed = is_needed n h.at asks h.among;
           proved = is_proved asks h.proved;
           differ = h.differ;
+          other = h.other;
         },
       )
 

@@ -11,7 +11,7 @@ use Rattle.hir_types.specs.declared.ty.GenericArg.{GenericArg}
 use Rattle.hir_types.specs.declared.ty.Ty.{Ty}
 use Rattle.hir_types.specs.declared.ty.Ty.TheVariants as ty
 use Rattle.hir_types.specs.Erasure.{Same}
-use Rattle.hir_types.specs.Terms.{Term, pair, chain, arg_term}
+use Rattle.hir_types.specs.Terms.{Term, pair, chain, arg_term, term}
 use Rattle.hir_raw.specs.declared.raw.RawBody.{RawBody}
 use Rattle.hir_raw.specs.declared.raw.RawExpr.{RawExpr}
 use Rattle.hir_raw.specs.declared.raw.RawFacts.{RawFacts}
@@ -28,7 +28,7 @@ use Rattle.goal_facts.specs.Goals.{asked_goal, IsAnswer}
 use Rattle.goal_prove.specs.Entries.{AddsProofs}
 use Rattle.infer_result.specs.declared.gaps.Gap.{Gap}
 use Rattle.infer_result.specs.declared.result.InferenceResult.{InferenceResult}
-use Rattle.infer_result.specs.Projections.{IsListedAs, HasEntry, IsAboutAlias, NoneIsLeft}
+use Rattle.infer_result.specs.Projections.{IsListedAs, HasEntry, IsAboutAlias, stays_at, NoneIsLeft}
 use Rattle.infer_result.specs.Needs.{HoldsUnknown, Saying, clashes, gap_says, needs_of, needs_at, pat_needs_at}
 use Rattle.infer_result.specs.Table.{recorded}
 use Rattle.infer_result.specs.Closed.{AllTypes}
@@ -67,6 +67,7 @@ record ClashesNow (e : ExprOrPatId) (q : Goal) (qs : List Proof) (ks : List (Ty 
   asks : asked_goal (goal.Projection alias args second) ≡ asked_goal q
   proved : HasProofOf qs (asked_goal (goal.Projection alias args second))
   differ : Same first second → ⊥
+  other : term second ≡ stays_at alias args → ⊥
 
 abbrev IsTrueNow : System → ℕ → ExprOrPatId → Goal → List Proof → List (Ty × Ty) → Gap → Type 0
 IsTrueNow f n e q qs ks x = FailsNow f n e q x ⊎ ClashesNow e q qs ks x
@@ -127,6 +128,7 @@ module _ (raw : RawFacts) (f : System) (e : ExprOrPatId) (q : Goal) (ps qs : Lis
     proved = subst (λ g. HasProofOf qs (asked_goal g)) s.is has;
     read = s.read;
     known = subst (λ g. HoldsUnknown (asked_goal g).parts → ⊥) s.is s.known;
+    other = s.other;
   }
 
   one_entry : AddsProofs raw f ps qs → HasProofOf qs (asked_goal q) → (s : SaysAlias q) → ks ≡ js ++ (ty.Projection s.alias s.args, s.type) ∷ [] → AddsEntries ps qs js ks
@@ -174,6 +176,7 @@ module _ (raw : RawFacts) (f : System) (e : ExprOrPatId) (q : Goal) (ps qs : Lis
     asks = ap asked_goal (sym s.is);
     proved = subst (λ g. HasProofOf qs (asked_goal g)) s.is has;
     differ = differ;
+    other = s.other;
   })
 
   noted_says : HasProofOf qs (asked_goal q) → IsNoted e q js ks gs hs → Says f deep e q qs ks gs hs
@@ -285,6 +288,7 @@ module _ (raw : RawFacts) (f : System) (e : ExprOrPatId) (xs : List Asked) (q : 
     among = get_left xs (asked_goal q ∷ []) h.at (asked_goal (goal.Projection h.alias h.args h.second)) h.among;
     proved = has_later qs rs (asked_goal (goal.Projection h.alias h.args h.second)) adds.behind h.proved;
     differ = h.differ;
+    other = h.other;
   })
 
   gap_now : (y x : Gap) → y ≡ x → IsTrueNow f n e q rs ls y → IsOfFailing f n e bs x ⊎ IsOfClash e bs rs ls x
@@ -300,6 +304,7 @@ module _ (raw : RawFacts) (f : System) (e : ExprOrPatId) (xs : List Asked) (q : 
     among = get_last xs (asked_goal q) ∙ ap Some (sym h.asks);
     proved = h.proved;
     differ = h.differ;
+    other = h.other;
   })
 
   gap_by : Says f n e q rs ls gs hs → (k : ℕ) (x : Gap) → slice_get hs k ≡ Some x → IsOfFailing f n e bs x ⊎ IsOfClash e bs rs ls x
@@ -377,6 +382,7 @@ done_still f n e xs ps qs js ks gs p l h = record {
       among = g.among;
       proved = has_later ps qs (asked_goal (goal.Projection g.alias g.args g.second)) p g.proved;
       differ = g.differ;
+      other = g.other;
     })
   ];
   once = h.once;

@@ -28,7 +28,7 @@ use Rattle.infer_needs.proofs.Samples.Impls.{tr, out, facts, own, own_body, u8_t
 use Rattle.infer_needs.proofs.Samples.Sources.{IsBare, bare_read}
 use Rattle.infer_needs.proofs.Samples.AliasProofs.{out_asks}
 use Rattle.infer_needs.proofs.Samples.Needed.{given, table_of, sources, are_sources}
-use Rattle.infer_needs.proofs.Samples.Tables.{entry, out_known}
+use Rattle.infer_needs.proofs.Samples.Tables.{entry, out_known, no_bool}
 
 -- ---- it reads as `bool`
 
@@ -104,9 +104,6 @@ module _ (s : System) (of : IsSystemOf facts own s) (n : ℕ) where
 
 abbrev pub stays : Ty
 stays = ty.AssociatedType out (type_args (u8 ∷ []))
-
-pub no_bool : (x : Term) → bool_term ≡ staying out x → ⊥
-no_bool x h = cc
 
 -- where it is left in the type of an expression, and the table doesn't say that it is `bool`
 pub left_over : (l : RawLiteral) (r : InferenceResult) (n : ℕ) → At r.type_of_expr n stays → (HasEntry r.projections (found_as u8_term bool_term) → ⊥) → HasNoneLeft own_body (given l) r → ⊥

@@ -40,7 +40,7 @@ use Rattle.infer_needs.proofs.Samples.Sources.{asks_u8}
 use Rattle.infer_needs.proofs.Samples.ImplProofs.{by_impl}
 use Rattle.infer_needs.proofs.Samples.AliasProofs.{out_is_bool, out_asks, not_char}
 use Rattle.infer_needs.proofs.Samples.Needed.{path_node, sources, are_sources}
-use Rattle.infer_needs.proofs.Samples.Tables.{proofs, are_proofs, entry, out_known, char_known, found_once}
+use Rattle.infer_needs.proofs.Samples.Tables.{proofs, are_proofs, entry, out_known, char_known, found_once, no_bool}
 
 abbrev pub taking : FunctionId
 taking = record { 0 = 2 }
@@ -144,7 +144,7 @@ letter = literal.Char 97
 -- without an entry for what the path needs, whatever proofs are listed
 pub no_entry : (ps : List Proof) → GoalsHold own_body (given yes) (table_of ty.Bool ps [] []) → ⊥
 no_entry ps h =
-    let about : IsAboutAlias (found_as u8_term bool_term) = record { alias = out; is = refl; read = (tt, tt); known = out_known } in
+    let about : IsAboutAlias (found_as u8_term bool_term) = record { alias = out; is = refl; read = (tt, tt); known = out_known; other = λ h. no_bool (only u8_term) h } in
     elim (h.entries path_node (found_as u8_term bool_term) (alias_needed yes ty.Bool bool_term term_bool ps [] []) about) [
       | inl found ↦ (let none = found.3.1 in cc)
       | inr other ↦ elim other [

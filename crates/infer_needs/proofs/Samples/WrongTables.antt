@@ -91,7 +91,7 @@ nothing_needed ps js gs k m q has h =
 top_alias : (k : TypeAliasId) (xs : List GenericArg) → out-Ty (ty.Projection k xs) ≡ Ty-F.Projection k xs
 top_alias k xs = ap out-Ty (sym (ty.rolls-Projection k xs)) ∙ out-roll-Ty (Ty-F.Projection k xs)
 
-same_alias : (k m : TypeAliasId) (xs ys : List GenericArg) → ty.Projection k xs ≡ ty.Projection m ys → (k ≡ m) × (xs ≡ ys)
+pub same_alias : (k m : TypeAliasId) (xs ys : List GenericArg) → ty.Projection k xs ≡ ty.Projection m ys → (k ≡ m) × (xs ≡ ys)
 same_alias k m xs ys is = (let same : Ty-F.Projection k xs ≡ Ty-F.Projection m ys = sym (top_alias k xs) ∙ (ap out-Ty is ∙ top_alias m ys) in (cc, cc))
 
 -- `<u8 as Tr>::Out` is not `char`: no table has a proof of it
