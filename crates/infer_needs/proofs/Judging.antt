@@ -120,8 +120,8 @@ module _ (raw : RawFacts) (f : System) (e : ExprOrPatId) (q : Goal) (ps qs : Lis
 
   -- ---- what is listed
 
-  new_entry : HasProofOf qs (asked_goal q) → (s : SaysAlias q) → IsEntry qs (ty.Projection s.alias s.args, s.type)
-  new_entry has s = record {
+  new_entry : IsProvable (asked_goal q) → HasProofOf qs (asked_goal q) → (s : SaysAlias q) → IsEntry qs (ty.Projection s.alias s.args, s.type)
+  new_entry written has s = record {
     alias = s.alias;
     args = s.args;
     is = refl;
@@ -129,30 +129,31 @@ module _ (raw : RawFacts) (f : System) (e : ExprOrPatId) (q : Goal) (ps qs : Lis
     read = s.read;
     known = subst (λ g. HoldsUnknown (asked_goal g).parts → ⊥) s.is s.known;
     other = s.other;
+    written = subst (λ g. IsProvable (asked_goal g)) s.is written;
   }
 
-  one_entry : AddsProofs raw f ps qs → HasProofOf qs (asked_goal q) → (s : SaysAlias q) → ks ≡ js ++ (ty.Projection s.alias s.args, s.type) ∷ [] → AddsEntries ps qs js ks
-  one_entry adds has s is =
+  one_entry : IsProvable (asked_goal q) → AddsProofs raw f ps qs → HasProofOf qs (asked_goal q) → (s : SaysAlias q) → ks ≡ js ++ (ty.Projection s.alias s.args, s.type) ∷ [] → AddsEntries ps qs js ks
+  one_entry written adds has s is =
       let y : Ty × Ty = (ty.Projection s.alias s.args, s.type) in
       record {
         behind = (y ∷ [], is);
         right = λ h k x at. elim (get_more js y k x (subst (λ zs. slice_get zs k ≡ Some x) is at)) [
           | inl l ↦ entries_later ps qs js adds.behind h k x l
-          | inr l ↦ subst (IsEntry qs) l.1 (new_entry has s)
+          | inr l ↦ subst (IsEntry qs) l.1 (new_entry written has s)
         ];
       }
 
   same_entries : AddsProofs raw f ps qs → ks ≡ js → AddsEntries ps qs js ks
   same_entries adds is = subst (AddsEntries ps qs js) (sym is) (lists_none ps qs js adds.behind)
 
-  noted_lists : AddsProofs raw f ps qs → HasProofOf qs (asked_goal q) → IsNoted e q js ks gs hs → AddsEntries ps qs js ks
-  noted_lists adds has (inl h) = same_entries adds h.0
-  noted_lists adds has (inr (s, inl h)) = one_entry adds has s h.0
-  noted_lists adds has (inr (s, inr h)) = same_entries adds h.0
+  noted_lists : IsProvable (asked_goal q) → AddsProofs raw f ps qs → HasProofOf qs (asked_goal q) → IsNoted e q js ks gs hs → AddsEntries ps qs js ks
+  noted_lists written adds has (inl h) = same_entries adds h.0
+  noted_lists written adds has (inr (s, inl h)) = one_entry written adds has s h.0
+  noted_lists written adds has (inr (s, inr h)) = same_entries adds h.0
 
-  judged_lists : IsJudged raw f e q ps qs js ks gs hs → AddsEntries ps qs js ks
-  judged_lists (inl h) = noted_lists h.adds h.has h.noted
-  judged_lists (inr h) = same_entries (subst (AddsProofs raw f ps) (sym h.proofs) (adds_none raw f ps)) h.listed
+  judged_lists : IsProvable (asked_goal q) → IsJudged raw f e q ps qs js ks gs hs → AddsEntries ps qs js ks
+  judged_lists written (inl h) = noted_lists written h.adds h.has h.noted
+  judged_lists written (inr h) = same_entries (subst (AddsProofs raw f ps) (sym h.proofs) (adds_none raw f ps)) h.listed
 
   -- ---- what is said
 
@@ -240,7 +241,7 @@ judged_none raw f e ps js = record {
 }
 
 module _ (raw : RawFacts) (f : System) (e : ExprOrPatId) (xs : List Asked) (q : Goal) (ps qs rs : List Proof) (js ks ls : List (Ty × Ty)) (gs hs : List Gap)
-    (before : AreJudged raw f e xs ps qs js ks gs) (now : IsJudged raw f e q qs rs ks ls gs hs) where
+    (written : IsProvable (asked_goal q)) (before : AreJudged raw f e xs ps qs js ks gs) (now : IsJudged raw f e q qs rs ks ls gs hs) where
   abbrev n : ℕ
   n = raw.limits.goal_depth
 
@@ -254,7 +255,7 @@ module _ (raw : RawFacts) (f : System) (e : ExprOrPatId) (xs : List Asked) (q : 
   adds = judged_adds raw f e q qs rs ks ls gs hs now
 
   lists : AddsEntries qs rs ks ls
-  lists = judged_lists raw f e q qs rs ks ls gs hs now
+  lists = judged_lists raw f e q qs rs ks ls gs hs written now
 
   here : AreAt e gs
   here k x at = elim (before.done.gaps k x at) [

@@ -140,6 +140,7 @@ pub record IsEntry (ps : List Proof) (x : Ty × Ty) : Type 0 where
   pub read : IsRead (term x.1)
   pub known : HoldsUnknown (asked_goal (goal.Projection alias args x.1)).parts → ⊥
   pub other : term x.1 ≡ stays_at alias args → ⊥
+  pub written : IsWritten (asked_goal (goal.Projection alias args x.1)).parts
 
 abbrev pub AreEntries : List Proof → List (Ty × Ty) → Type 0
 AreEntries ps js = (n : ℕ) (x : Ty × Ty) → slice_get js n ≡ Some x → IsEntry ps x

@@ -12,7 +12,7 @@ use Rattle.goal_answers.specs.Reading.{IsRead, staying}
 use Rattle.goal_facts.specs.Goals.{asked_goal}
 use Rattle.goal_facts.specs.Reading.{TypeReads}
 use Rattle.infer_result.specs.declared.result.InferenceResult.{InferenceResult}
-use Rattle.infer_result.specs.Proved.{HoldsUnknown, IsProved}
+use Rattle.infer_result.specs.Proved.{HoldsUnknown, HoldsNoHole, IsProved}
 
 -- the associated type at these arguments is listed as this type
 abbrev pub IsListedAs : List (Ty × Ty) → TypeAliasId → List GenericArg → Ty → Type 0
@@ -34,7 +34,7 @@ pub record IsAboutAlias (a : Asked) : Type 0 where
   pub known : HoldsUnknown a.parts → ⊥
   pub other : type_of a.parts ≡ staying alias (args_of a.parts) → ⊥
 
--- the entry has an associated type first, and then another type that it has a proof to be, as such a goal asks. So no first stands in a second
+-- the entry has an associated type first, and then another type that it has a proof to be, as such a goal asks, without holes. So no first stands in a second
 pub record IsFound (r : InferenceResult) (x : Ty × Ty) : Type 0 where
   pub alias : TypeAliasId
   pub args : List GenericArg
@@ -43,6 +43,7 @@ pub record IsFound (r : InferenceResult) (x : Ty × Ty) : Type 0 where
   pub read : IsRead (term x.1)
   pub known : HoldsUnknown (asked_goal (goal.Projection alias args x.1)).parts → ⊥
   pub other : term x.1 ≡ stays_at alias args → ⊥
+  pub whole : HoldsNoHole (asked_goal (goal.Projection alias args x.1)).parts
 
 -- so is each entry, and each associated type has one
 pub record AreFound (r : InferenceResult) : Type 0 where

@@ -17,7 +17,7 @@ use Rattle.goal_facts.specs.Proofs.{Holds, AreProofs}
 use Rattle.infer_result.specs.declared.gaps.Gap.{Gap}
 use Rattle.infer_result.specs.declared.result.InferenceResult.{InferenceResult}
 use Rattle.infer_result.specs.Projections.{IsFound, AreFound}
-use Rattle.infer_result.specs.Needs.{HasGap, HoldsUnknown, GoalsHold}
+use Rattle.infer_result.specs.Needs.{HasGap, HoldsUnknown, HoldsNoHole, GoalsHold}
 use Rattle.infer_result.proofs.Samples.Small.{u8, one_u8}
 use Rattle.infer_needs.proofs.Samples.Impls.{out, facts, own_body, u8_term, bool_term, char_term, found_as}
 use Rattle.infer_needs.proofs.Samples.Sources.{neither, nothing, asks_u8}
@@ -66,6 +66,9 @@ entry = (ty.Projection out (type_args (u8 ∷ [])), ty.Bool)
 pub out_known : HoldsUnknown (found_as u8_term bool_term).parts → ⊥
 out_known = neither (neither (neither nothing (neither nothing nothing)) nothing) (neither nothing nothing)
 
+pub out_whole : HoldsNoHole (found_as u8_term bool_term).parts
+out_whole = (((tt, (tt, tt)), tt), (tt, tt))
+
 pub no_bool : (x : Term) → bool_term ≡ staying out x → ⊥
 no_bool x h = cc
 
@@ -83,6 +86,7 @@ module _ (r : InferenceResult) (are : r.proofs ≡ proofs) (listed : r.projectio
     read = subst IsRead (sym term_bool) (tt, tt);
     known = λ h. out_known (subst (λ (a : Asked). HoldsUnknown a.parts) out_asks h);
     other = λ h. no_bool (chain (map arg_term (type_args (u8 ∷ [])))) (sym term_bool ∙ h);
+    whole = subst (λ (a : Asked). HoldsNoHole a.parts) (sym out_asks) out_whole;
   }
 
   each_found : (n : ℕ) (x : Ty × Ty) → slice_get (entry ∷ []) n ≡ Some x → IsFound r x
