@@ -45,7 +45,7 @@ entry_later js ks a p h = (h.0, h.1, h.2, listed_later js ks h.0 h.1 h.2 p h.3, 
 pub entries_later : (ps qs : List Proof) (js : List (Ty × Ty)) → IsFront ps qs → AreEntries ps js → AreEntries qs js
 entries_later ps qs js p h n x at =
     let k = h n x at in
-    record { alias = k.alias; args = k.args; is = k.is; proved = has_later ps qs (asked_goal (goal.Projection k.alias k.args x.1)) p k.proved; read = k.read; known = k.known }
+    record { alias = k.alias; args = k.args; is = k.is; proved = has_later ps qs (asked_goal (goal.Projection k.alias k.args x.1)) p k.proved; read = k.read; known = k.known; other = k.other; written = k.written }
 
 -- ---- entries that are added
 

@@ -16,16 +16,18 @@ use Rattle.hir_laws.specs.Bodies.{body_of, body_id_of}
 use Rattle.goal_answers.specs.Goals.{Asked, System}
 use Rattle.goal_facts.specs.declared.proof.Proof.{Proof}
 use Rattle.goal_facts.specs.Goals.{asked_goal}
+use Rattle.goal_prove.specs.Written.{IsWritten}
+use Rattle.hir_types.specs.Terms.{Term, hole, leaf, pair}
 use Rattle.goal_facts.specs.Systems.{IsSystemOf}
 use Rattle.infer_result.specs.declared.gaps.Gap.{Gap}
 use Rattle.infer_result.specs.declared.result.InferenceResult.{InferenceResult}
 use Rattle.infer_result.specs.Projections.{HasEntry, IsAboutAlias, IsFound, AreFound}
-use Rattle.infer_result.specs.Needs.{IsNeeded, HoldsUnknown, IsProved, gap_says, HasGap, IsUnproved, IsClash, IsTrueGap, with_goals, scope_item, GoalsHold, HasNoneLeft, needs_of, pat_needs_of, node_needs}
+use Rattle.infer_result.specs.Needs.{IsNeeded, HoldsUnknown, HoldsNoHole, IsProved, gap_says, HasGap, IsUnproved, IsClash, IsTrueGap, with_goals, scope_item, GoalsHold, HasNoneLeft, needs_of, pat_needs_of, node_needs}
 use Rattle.infer_result.specs.Places.{Given}
 use Rattle.infer_result.specs.Table.{listed_gaps, recorded}
 use Rattle.infer_result.specs.Typed.{given}
 use Rattle.infer_needs.specs.Listed.{AreDistinct}
-use Rattle.infer_needs.specs.Judged.{HasProofOf, IsDone, IsEntry, IsOfFailing, IsOfClash, AreDone, AreAllJudged, ArePatsJudged}
+use Rattle.infer_needs.specs.Judged.{IsProvable, AreProvable, HasProofOf, IsDone, IsEntry, IsOfFailing, IsOfClash, AreDone, AreAllJudged, ArePatsJudged}
 use Rattle.infer_needs.proofs.Adding.{adds_then}
 use Rattle.infer_needs.proofs.Judging.{done_still}
 use Rattle.infer_needs.proofs.Leaving.{table_later}
@@ -54,11 +56,24 @@ get_there [] k h = absurd (omega (arith, h))
 get_there (x ∷ xs) zero h = (x, refl)
 get_there (x ∷ xs) (suc k) h = get_there xs k (omega (arith, h))
 
+-- ---- what can be proved has no holes
+
+no_hole : (t : Term) → IsWritten t → HoldsNoHole t
+no_hole (hole k) h = h
+no_hole (leaf x) h = tt
+no_hole (pair a b) h = (no_hole a h.0, no_hole b h.1)
+
+each_provable : (xs : List Asked) (k : ℕ) (a : Asked) → AreProvable xs → slice_get xs k ≡ Some a → HoldsNoHole a.parts
+each_provable [] k a h at = cc
+each_provable (x ∷ xs) zero a h at = no_hole a.parts (subst IsProvable (same_Some x a at) h.0)
+each_provable (x ∷ xs) (suc k) a h at = each_provable xs k a h.1 at
+
 -- ---- the table
 
 module _ (raw : RawFacts) (d : DefWithBodyId) (b : RawBody) (f : System) (r : InferenceResult) (ps qs : List Proof) (js ks : List (Ty × Ty)) (gss hss : List (List Gap))
     (of_item : IsSystemOf raw (scope_item raw d) f) (items : length r.item_of_pat ≡ length b.pats)
-    (exprs : AreAllJudged raw f b r (length b.exprs) ps js gss) (pats : ArePatsJudged raw f r (length b.pats) ps qs js ks hss) (distinct : AreDistinct ks) where
+    (exprs : AreAllJudged raw f b r (length b.exprs) ps js gss) (pats : ArePatsJudged raw f r (length b.pats) ps qs js ks hss) (distinct : AreDistinct ks)
+    (provable : (n : ExprOrPatId) → AreProvable (node_needs raw b r n)) where
   abbrev g : Given
   g = given raw d b
 
@@ -135,6 +150,8 @@ module _ (raw : RawFacts) (d : DefWithBodyId) (b : RawBody) (f : System) (r : In
     proved = is_proved (asked_goal (goal.Projection h.alias h.args x.1)) h.proved;
     read = h.read;
     known = h.known;
+    other = h.other;
+    whole = no_hole (asked_goal (goal.Projection h.alias h.args x.1)).parts h.written;
   }
 
   are_found : AreFound z
@@ -145,6 +162,7 @@ module _ (raw : RawFacts) (d : DefWithBodyId) (b : RawBody) (f : System) (r : In
     refl,
     record {
       needed = is_needed n h.at (asked_goal h.goal) h.among;
+      whole = each_provable (node_needs raw b r n) h.at (asked_goal h.goal) (provable n) h.among;
       known = h.known;
       fails = h.fails;
     },
@@ -161,6 +179,8 @@ module _ (raw : RawFacts) (d : DefWithBodyId) (b : RawBody) (f : System) (r : In
           needed = is_needed n h.at asks h.among;
           proved = is_proved asks h.proved;
           differ = h.differ;
+          other = h.other;
+          whole = each_provable (node_needs raw b r n) h.at asks (provable n) h.among;
         },
       )
 

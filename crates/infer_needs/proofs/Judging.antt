@@ -11,7 +11,7 @@ use Rattle.hir_types.specs.declared.ty.GenericArg.{GenericArg}
 use Rattle.hir_types.specs.declared.ty.Ty.{Ty}
 use Rattle.hir_types.specs.declared.ty.Ty.TheVariants as ty
 use Rattle.hir_types.specs.Erasure.{Same}
-use Rattle.hir_types.specs.Terms.{Term, pair, chain, arg_term}
+use Rattle.hir_types.specs.Terms.{Term, pair, chain, arg_term, term}
 use Rattle.hir_raw.specs.declared.raw.RawBody.{RawBody}
 use Rattle.hir_raw.specs.declared.raw.RawExpr.{RawExpr}
 use Rattle.hir_raw.specs.declared.raw.RawFacts.{RawFacts}
@@ -28,7 +28,7 @@ use Rattle.goal_facts.specs.Goals.{asked_goal, IsAnswer}
 use Rattle.goal_prove.specs.Entries.{AddsProofs}
 use Rattle.infer_result.specs.declared.gaps.Gap.{Gap}
 use Rattle.infer_result.specs.declared.result.InferenceResult.{InferenceResult}
-use Rattle.infer_result.specs.Projections.{IsListedAs, HasEntry, IsAboutAlias, NoneIsLeft}
+use Rattle.infer_result.specs.Projections.{IsListedAs, HasEntry, IsAboutAlias, stays_at, NoneIsLeft}
 use Rattle.infer_result.specs.Needs.{HoldsUnknown, Saying, clashes, gap_says, needs_of, needs_at, pat_needs_at}
 use Rattle.infer_result.specs.Table.{recorded}
 use Rattle.infer_result.specs.Closed.{AllTypes}
@@ -67,6 +67,7 @@ record ClashesNow (e : ExprOrPatId) (q : Goal) (qs : List Proof) (ks : List (Ty 
   asks : asked_goal (goal.Projection alias args second) ≡ asked_goal q
   proved : HasProofOf qs (asked_goal (goal.Projection alias args second))
   differ : Same first second → ⊥
+  other : term second ≡ stays_at alias args → ⊥
 
 abbrev IsTrueNow : System → ℕ → ExprOrPatId → Goal → List Proof → List (Ty × Ty) → Gap → Type 0
 IsTrueNow f n e q qs ks x = FailsNow f n e q x ⊎ ClashesNow e q qs ks x
@@ -119,38 +120,40 @@ module _ (raw : RawFacts) (f : System) (e : ExprOrPatId) (q : Goal) (ps qs : Lis
 
   -- ---- what is listed
 
-  new_entry : HasProofOf qs (asked_goal q) → (s : SaysAlias q) → IsEntry qs (ty.Projection s.alias s.args, s.type)
-  new_entry has s = record {
+  new_entry : IsProvable (asked_goal q) → HasProofOf qs (asked_goal q) → (s : SaysAlias q) → IsEntry qs (ty.Projection s.alias s.args, s.type)
+  new_entry written has s = record {
     alias = s.alias;
     args = s.args;
     is = refl;
     proved = subst (λ g. HasProofOf qs (asked_goal g)) s.is has;
     read = s.read;
     known = subst (λ g. HoldsUnknown (asked_goal g).parts → ⊥) s.is s.known;
+    other = s.other;
+    written = subst (λ g. IsProvable (asked_goal g)) s.is written;
   }
 
-  one_entry : AddsProofs raw f ps qs → HasProofOf qs (asked_goal q) → (s : SaysAlias q) → ks ≡ js ++ (ty.Projection s.alias s.args, s.type) ∷ [] → AddsEntries ps qs js ks
-  one_entry adds has s is =
+  one_entry : IsProvable (asked_goal q) → AddsProofs raw f ps qs → HasProofOf qs (asked_goal q) → (s : SaysAlias q) → ks ≡ js ++ (ty.Projection s.alias s.args, s.type) ∷ [] → AddsEntries ps qs js ks
+  one_entry written adds has s is =
       let y : Ty × Ty = (ty.Projection s.alias s.args, s.type) in
       record {
         behind = (y ∷ [], is);
         right = λ h k x at. elim (get_more js y k x (subst (λ zs. slice_get zs k ≡ Some x) is at)) [
           | inl l ↦ entries_later ps qs js adds.behind h k x l
-          | inr l ↦ subst (IsEntry qs) l.1 (new_entry has s)
+          | inr l ↦ subst (IsEntry qs) l.1 (new_entry written has s)
         ];
       }
 
   same_entries : AddsProofs raw f ps qs → ks ≡ js → AddsEntries ps qs js ks
   same_entries adds is = subst (AddsEntries ps qs js) (sym is) (lists_none ps qs js adds.behind)
 
-  noted_lists : AddsProofs raw f ps qs → HasProofOf qs (asked_goal q) → IsNoted e q js ks gs hs → AddsEntries ps qs js ks
-  noted_lists adds has (inl h) = same_entries adds h.0
-  noted_lists adds has (inr (s, inl h)) = one_entry adds has s h.0
-  noted_lists adds has (inr (s, inr h)) = same_entries adds h.0
+  noted_lists : IsProvable (asked_goal q) → AddsProofs raw f ps qs → HasProofOf qs (asked_goal q) → IsNoted e q js ks gs hs → AddsEntries ps qs js ks
+  noted_lists written adds has (inl h) = same_entries adds h.0
+  noted_lists written adds has (inr (s, inl h)) = one_entry written adds has s h.0
+  noted_lists written adds has (inr (s, inr h)) = same_entries adds h.0
 
-  judged_lists : IsJudged raw f e q ps qs js ks gs hs → AddsEntries ps qs js ks
-  judged_lists (inl h) = noted_lists h.adds h.has h.noted
-  judged_lists (inr h) = same_entries (subst (AddsProofs raw f ps) (sym h.proofs) (adds_none raw f ps)) h.listed
+  judged_lists : IsProvable (asked_goal q) → IsJudged raw f e q ps qs js ks gs hs → AddsEntries ps qs js ks
+  judged_lists written (inl h) = noted_lists written h.adds h.has h.noted
+  judged_lists written (inr h) = same_entries (subst (AddsProofs raw f ps) (sym h.proofs) (adds_none raw f ps)) h.listed
 
   -- ---- what is said
 
@@ -174,6 +177,7 @@ module _ (raw : RawFacts) (f : System) (e : ExprOrPatId) (q : Goal) (ps qs : Lis
     asks = ap asked_goal (sym s.is);
     proved = subst (λ g. HasProofOf qs (asked_goal g)) s.is has;
     differ = differ;
+    other = s.other;
   })
 
   noted_says : HasProofOf qs (asked_goal q) → IsNoted e q js ks gs hs → Says f deep e q qs ks gs hs
@@ -237,7 +241,7 @@ judged_none raw f e ps js = record {
 }
 
 module _ (raw : RawFacts) (f : System) (e : ExprOrPatId) (xs : List Asked) (q : Goal) (ps qs rs : List Proof) (js ks ls : List (Ty × Ty)) (gs hs : List Gap)
-    (before : AreJudged raw f e xs ps qs js ks gs) (now : IsJudged raw f e q qs rs ks ls gs hs) where
+    (written : IsProvable (asked_goal q)) (before : AreJudged raw f e xs ps qs js ks gs) (now : IsJudged raw f e q qs rs ks ls gs hs) where
   abbrev n : ℕ
   n = raw.limits.goal_depth
 
@@ -251,7 +255,7 @@ module _ (raw : RawFacts) (f : System) (e : ExprOrPatId) (xs : List Asked) (q : 
   adds = judged_adds raw f e q qs rs ks ls gs hs now
 
   lists : AddsEntries qs rs ks ls
-  lists = judged_lists raw f e q qs rs ks ls gs hs now
+  lists = judged_lists raw f e q qs rs ks ls gs hs written now
 
   here : AreAt e gs
   here k x at = elim (before.done.gaps k x at) [
@@ -285,6 +289,7 @@ module _ (raw : RawFacts) (f : System) (e : ExprOrPatId) (xs : List Asked) (q : 
     among = get_left xs (asked_goal q ∷ []) h.at (asked_goal (goal.Projection h.alias h.args h.second)) h.among;
     proved = has_later qs rs (asked_goal (goal.Projection h.alias h.args h.second)) adds.behind h.proved;
     differ = h.differ;
+    other = h.other;
   })
 
   gap_now : (y x : Gap) → y ≡ x → IsTrueNow f n e q rs ls y → IsOfFailing f n e bs x ⊎ IsOfClash e bs rs ls x
@@ -300,6 +305,7 @@ module _ (raw : RawFacts) (f : System) (e : ExprOrPatId) (xs : List Asked) (q : 
     among = get_last xs (asked_goal q) ∙ ap Some (sym h.asks);
     proved = h.proved;
     differ = h.differ;
+    other = h.other;
   })
 
   gap_by : Says f n e q rs ls gs hs → (k : ℕ) (x : Gap) → slice_get hs k ≡ Some x → IsOfFailing f n e bs x ⊎ IsOfClash e bs rs ls x
@@ -377,6 +383,7 @@ done_still f n e xs ps qs js ks gs p l h = record {
       among = g.among;
       proved = has_later ps qs (asked_goal (goal.Projection g.alias g.args g.second)) p g.proved;
       differ = g.differ;
+      other = g.other;
     })
   ];
   once = h.once;

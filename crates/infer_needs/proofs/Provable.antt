@@ -4,6 +4,8 @@ use Rattle.std.specs.Option.{option_and_then}
 use Rattle.std.proofs.Common.{sym, ap, ◌∙◌, subst}
 use Rattle.std.proofs.lemmas.Option.{same_Some}
 use Rattle.hir_types.specs.declared.ids.DefWithBodyId.{DefWithBodyId}
+use Rattle.hir_types.specs.declared.ids.ExprOrPatId.{ExprOrPatId}
+use Rattle.hir_types.specs.declared.ids.ExprOrPatId.TheVariants as node
 use Rattle.hir_types.specs.declared.ids.TypeRefId.{TypeRefId}
 use Rattle.hir_types.specs.declared.ty.IntegerTy.TheVariants.{Int, Uint}
 use Rattle.hir_types.specs.declared.ty.AliasBound.{AliasBound}
@@ -40,7 +42,7 @@ use Rattle.goal_prove.specs.Written.{IsWritten}
 use Rattle.goal_facts.proofs.Written.{parts_by, layer, by_layers, args_are}
 use Rattle.infer_result.specs.declared.result.InferenceResult.{InferenceResult}
 use Rattle.infer_result.specs.AliasNeeds.{alias_goals_by, alias_goals_from, fn_alias_goals, variant_alias_goals, path_alias_goals, alias_goals}
-use Rattle.infer_result.specs.Needs.{expr_preds, item_args, item_path, needed_goals, needs_of, pat_needs_by, pat_needs_of, pat_needs_at}
+use Rattle.infer_result.specs.Needs.{expr_preds, item_args, item_path, needed_goals, needs_of, pat_needs_by, pat_needs_of, pat_needs_at, node_needs}
 use Rattle.infer_result.specs.Table.{recorded}
 use Rattle.infer_result.specs.Typed.{IsTableOf}
 use Rattle.infer_needs.specs.Judged.{IsProvable, AreProvable}
@@ -152,6 +154,15 @@ module _ (raw : RawFacts) (d : DefWithBodyId) (r : InferenceResult) (is : IsTabl
 
   pub pat_needs_provable : (k : ℕ) → AreProvable (pat_needs_at raw r k)
   pat_needs_provable k = of_item k (recorded r.item_of_pat k) refl
+
+  of_place : (k : ℕ) (o : Option RawExpr) → AreProvable (needs_of raw o (recorded r.type_of_expr k))
+  of_place k None = tt
+  of_place k (Some x) = needs_provable k x
+
+  -- so it is at each node
+  pub node_provable : (b : RawBody) (n : ExprOrPatId) → AreProvable (node_needs raw b r n)
+  node_provable b (node.ExprId e) = of_place e.0 (slice_get b.exprs e.0)
+  node_provable b (node.PatId p) = pat_needs_provable p.0
 
   is_final : (t : Ty) → IsClosed t → ty_fits (scope_of raw d) t ≡ true → IsRead (term t) → IsFinalType t
   is_final t closed fits read = record { read = read; written = type_closed (scope_of raw d) t closed fits }

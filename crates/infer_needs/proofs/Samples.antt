@@ -11,4 +11,5 @@ pub mod Taking
 pub mod TrueComplaint
 pub mod PatternNeeds
 pub mod Left
+pub mod ItselfListed
 pub mod Unknowns

@@ -25,7 +25,7 @@ use Rattle.infer_result.specs.declared.gaps.Gap.{Gap}
 use Rattle.infer_result.specs.declared.gaps.Gap.TheVariants as gap
 use Rattle.infer_result.specs.declared.result.InferenceResult.{InferenceResult}
 use Rattle.infer_result.specs.Closed.{AllTypes}
-use Rattle.infer_result.specs.Projections.{IsListedAs, HasEntry, IsAboutAlias, NoneIsLeft}
+use Rattle.infer_result.specs.Projections.{IsListedAs, HasEntry, IsAboutAlias, stays_at, NoneIsLeft}
 use Rattle.infer_result.specs.Needs.{HoldsUnknown, Saying, gap_says, needs_of, needs_at, pat_needs_at}
 use Rattle.infer_result.specs.Table.{recorded}
 use Rattle.infer_needs.specs.Listed.{FindsIn}
@@ -84,6 +84,7 @@ pub record SaysAlias (q : Goal) : Type 0 where
   pub is : q ≡ goal.Projection alias args type
   pub read : IsRead (term type)
   pub known : HoldsUnknown (asked_goal q).parts → ⊥
+  pub other : term type ≡ stays_at alias args → ⊥
 
 -- what it says is listed, where it can be
 abbrev pub IsNoted : ExprOrPatId → Goal → List (Ty × Ty) → List (Ty × Ty) → List Gap → List Gap → Type 0
@@ -130,7 +131,7 @@ IsJudged raw f e q ps qs js ks gs hs = IsShown raw f e q ps qs js ks gs hs ⊎ I
 
 -- ---- what is listed
 
--- an associated type, with a type that it has a proof to be, as can be listed
+-- an associated type, with another type that it has a proof to be, as can be listed
 pub record IsEntry (ps : List Proof) (x : Ty × Ty) : Type 0 where
   pub alias : TypeAliasId
   pub args : List GenericArg
@@ -138,6 +139,8 @@ pub record IsEntry (ps : List Proof) (x : Ty × Ty) : Type 0 where
   pub proved : HasProofOf ps (asked_goal (goal.Projection alias args x.1))
   pub read : IsRead (term x.1)
   pub known : HoldsUnknown (asked_goal (goal.Projection alias args x.1)).parts → ⊥
+  pub other : term x.1 ≡ stays_at alias args → ⊥
+  pub written : IsWritten (asked_goal (goal.Projection alias args x.1)).parts
 
 abbrev pub AreEntries : List Proof → List (Ty × Ty) → Type 0
 AreEntries ps js = (n : ℕ) (x : Ty × Ty) → slice_get js n ≡ Some x → IsEntry ps x
@@ -158,7 +161,7 @@ pub record IsOfFailing (f : System) (n : ℕ) (e : ExprOrPatId) (xs : List Asked
   pub known : HoldsUnknown (asked_goal goal).parts → ⊥
   pub fails : (answers f n).Yes (asked_goal goal) → ⊥
 
--- it is of one of these goals, which has a proof, and asks an associated type to be another type than the one that is listed
+-- it is of one of these goals, which has a proof, and asks an associated type to be another type than the one that is listed, and than itself
 pub record IsOfClash (e : ExprOrPatId) (xs : List Asked) (ps : List Proof) (js : List (Ty × Ty)) (x : Gap) : Type 0 where
   pub alias : TypeAliasId
   pub args : List GenericArg
@@ -170,6 +173,7 @@ pub record IsOfClash (e : ExprOrPatId) (xs : List Asked) (ps : List Proof) (js :
   pub among : slice_get xs at ≡ Some (asked_goal (goal.Projection alias args second))
   pub proved : HasProofOf ps (asked_goal (goal.Projection alias args second))
   pub differ : Same first second → ⊥
+  pub other : term second ≡ stays_at alias args → ⊥
 
 -- each goal is proved, or said to have no proof, or `{unknown}` stands in it; and what is said is so, and said once
 pub record AreDone (f : System) (n : ℕ) (e : ExprOrPatId) (xs : List Asked) (ps : List Proof) (js : List (Ty × Ty)) (gs : List Gap) : Type 0 where

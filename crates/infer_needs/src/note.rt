@@ -1,13 +1,15 @@
 //! What associated types are by goals that have a proof.
 ghost use Rattle.std.specs.Prelude.{◌↔◌, IsTrue, IfOk, OnOk, ◌≡◌};
 ghost use Rattle.hir_types.specs.Terms.{term};
+ghost use Rattle.goal_terms.specs.Terms.{term_of};
+ghost use Rattle.infer_result.specs.Projections.{stays_at};
 ghost use Rattle.infer_needs.specs.Judged.{IsListedNow, IsNoted};
 
 use crate::found::Found;
 use crate::say::say;
 use crate::unknown::holds_unknown;
-use goal_terms::type_term;
-use hir_facts::{ExprOrPatId, Goal, List, Ty};
+use goal_terms::{Term, args_term, staying_term, type_term};
+use hir_facts::{ExprOrPatId, GenericArg, Goal, List, Ty, TypeAliasId};
 use infer_result::Gap;
 use std::alloc::{AllocError, Global};
 
@@ -47,8 +49,22 @@ fn list(
     say(alloc, clash, gaps)
 }
 
-/// Takes note of what a goal that has a proof says of an associated type, where it says a type in which
-/// none is left to be read, and `{unknown}` doesn't stand in it.
+/// Whether the type is the associated type itself, which stays.
+fn is_itself(
+    alloc: Global,
+    alias: TypeAliasId,
+    args: &List<GenericArg>,
+    ty: &Term,
+) -> Result<bool, AllocError>
+    ensures { IfOk result (λ is. IsTrue is ↔ (term_of ty.now ≡ stays_at alias args.now)) }
+{
+    let args = args_term(alloc, args)?;
+    let itself = staying_term(alloc, alias, &args)?;
+    Ok(ty.is_same(&itself))
+}
+
+/// Takes note of what a goal that has a proof says of an associated type, where it says another type than
+/// this itself, in which none is left to be read, and `{unknown}` doesn't stand in it.
 pub fn note(
     alloc: Global,
     goal: Goal,
@@ -62,8 +78,12 @@ pub fn note(
     match goal {
         Goal::Trait(_trait_ref) => Ok(()),
         Goal::Projection { alias, args, ty } => {
-            let is_read = type_term(alloc, &ty)?.is_read();
+            let term = type_term(alloc, &ty)?;
+            let is_read = term.is_read();
             if is_unknown || !is_read {
+                return Ok(());
+            }
+            if is_itself(alloc, alias, &args, &term)? {
                 return Ok(());
             }
             list(alloc, Ty::Projection(alias, args), ty, node, found, gaps)

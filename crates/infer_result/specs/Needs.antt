@@ -20,6 +20,7 @@ use Rattle.hir_types.specs.declared.ty.TraitRef.{TraitRef}
 use Rattle.hir_types.specs.declared.ty.Ty.{Ty, Ty-F, out-Ty}
 use Rattle.hir_types.specs.declared.ty.Ty.TheVariants as ty
 use Rattle.hir_types.specs.Erasure.{Same}
+use Rattle.hir_types.specs.Terms.{term}
 use Rattle.hir_raw.specs.declared.raw.RawBody.{RawBody}
 use Rattle.hir_raw.specs.declared.raw.RawExpr.{RawExpr}
 use Rattle.hir_raw.specs.declared.raw.RawExpr.TheVariants as expr
@@ -37,10 +38,10 @@ use Rattle.goal_facts.specs.Environment.{env_preds}
 use Rattle.goal_facts.specs.Goals.{asked_goal}
 use Rattle.goal_facts.specs.Systems.{IsSystemOf}
 use Rattle.goal_facts.specs.Proofs.{AreProofs}
-pub use Rattle.infer_result.specs.Proved.{HoldsUnknown, IsProved}
+pub use Rattle.infer_result.specs.Proved.{HoldsUnknown, HoldsNoHole, IsProved}
 use Rattle.infer_result.specs.AliasNeeds.{alias_goals, path_alias_goals}
 use Rattle.infer_result.specs.Closed.{AllTypes}
-use Rattle.infer_result.specs.Projections.{IsListedAs, AreFound, HasEntry, IsAboutAlias, NoneIsLeft}
+use Rattle.infer_result.specs.Projections.{IsListedAs, AreFound, HasEntry, IsAboutAlias, stays_at, NoneIsLeft}
 use Rattle.infer_result.specs.declared.gaps.Gap.{Gap}
 use Rattle.infer_result.specs.declared.gaps.Gap.TheVariants as gap
 use Rattle.infer_result.specs.declared.result.InferenceResult.{InferenceResult}
@@ -153,13 +154,14 @@ IsClash r n a =
     (k : TypeAliasId) × (xs : List GenericArg) × (t : Ty) × (u : Ty) × HasGap r n (gap.Clash n (ty.Projection k xs) t u)
     × (asked_goal (goal.Projection k xs u) ≡ a)
 
--- it names its node, which needs the goal; `{unknown}` doesn't stand in it, and its answer isn't Yes
+-- it names its node, which needs the goal; neither a hole nor `{unknown}` stands in it, and its answer isn't Yes
 pub record IsTrueUnproved (g : Given) (f : System) (r : InferenceResult) (n : ExprOrPatId) (q : Goal) : Type 0 where
   pub needed : IsNeeded g r n (asked_goal q)
+  pub whole : HoldsNoHole (asked_goal q).parts
   pub known : HoldsUnknown (asked_goal q).parts → ⊥
   pub fails : (answers f g.scope.facts.limits.goal_depth).Yes (asked_goal q) → ⊥
 
--- the associated type is listed as the first type; that it is the second, another one, the node needs, and it has a proof
+-- the associated type is listed as the first type; that it is the second, another one and not itself, the node needs, and it has a proof. No hole stands in it
 pub record IsTrueClash (g : Given) (r : InferenceResult) (n : ExprOrPatId) (a first second : Ty) : Type 0 where
   pub alias : TypeAliasId
   pub args : List GenericArg
@@ -168,6 +170,8 @@ pub record IsTrueClash (g : Given) (r : InferenceResult) (n : ExprOrPatId) (a fi
   pub needed : IsNeeded g r n (asked_goal (goal.Projection alias args second))
   pub proved : IsProved r (asked_goal (goal.Projection alias args second))
   pub differ : Same first second → ⊥
+  pub other : term second ≡ stays_at alias args → ⊥
+  pub whole : HoldsNoHole (asked_goal (goal.Projection alias args second)).parts
 
 abbrev pub IsTrueGap : Given → System → InferenceResult → ExprOrPatId → Gap → Type 0
 IsTrueGap g f r n (gap.Unproved m q) = (m ≡ n) × IsTrueUnproved g f r n q

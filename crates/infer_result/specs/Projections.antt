@@ -7,12 +7,12 @@ use Rattle.hir_types.specs.declared.ty.GenericArg.{GenericArg}
 use Rattle.hir_types.specs.declared.ty.Ty.{Ty}
 use Rattle.hir_types.specs.declared.ty.Ty.TheVariants as ty
 use Rattle.hir_types.specs.Terms.{Term, hole, leaf, pair, chain, term, arg_term}
-use Rattle.goal_answers.specs.Goals.{Asked, System, projects, type_of}
+use Rattle.goal_answers.specs.Goals.{Asked, System, projects, args_of, type_of}
 use Rattle.goal_answers.specs.Reading.{IsRead, staying}
 use Rattle.goal_facts.specs.Goals.{asked_goal}
 use Rattle.goal_facts.specs.Reading.{TypeReads}
 use Rattle.infer_result.specs.declared.result.InferenceResult.{InferenceResult}
-use Rattle.infer_result.specs.Proved.{HoldsUnknown, IsProved}
+use Rattle.infer_result.specs.Proved.{HoldsUnknown, HoldsNoHole, IsProved}
 
 -- the associated type at these arguments is listed as this type
 abbrev pub IsListedAs : List (Ty × Ty) → TypeAliasId → List GenericArg → Ty → Type 0
@@ -22,14 +22,19 @@ IsListedAs js k xs t = (n : ℕ) × (slice_get js n ≡ Some (ty.Projection k xs
 abbrev pub HasEntry : List (Ty × Ty) → Asked → Type 0
 HasEntry js a = (k : TypeAliasId) × (xs : List GenericArg) × (t : Ty) × IsListedAs js k xs t × (asked_goal (goal.Projection k xs t) ≡ a)
 
--- the goal asks an associated type to be a type in which none is left to be read, and `{unknown}` doesn't stand in it
+-- an associated type that was read and stays, at these arguments
+abbrev pub stays_at : TypeAliasId → List GenericArg → Term
+stays_at k xs = staying k (chain (map arg_term xs))
+
+-- the goal asks an associated type to be another type than itself, in which none is left to be read, and `{unknown}` doesn't stand in it
 pub record IsAboutAlias (a : Asked) : Type 0 where
   pub alias : TypeAliasId
   pub is : a.kind ≡ projects alias
   pub read : IsRead (type_of a.parts)
   pub known : HoldsUnknown a.parts → ⊥
+  pub other : type_of a.parts ≡ staying alias (args_of a.parts) → ⊥
 
--- the entry has an associated type first, and then a type that it has a proof to be, as such a goal asks. So no first stands in a second
+-- the entry has an associated type first, and then another type that it has a proof to be, as such a goal asks, without holes. So no first stands in a second
 pub record IsFound (r : InferenceResult) (x : Ty × Ty) : Type 0 where
   pub alias : TypeAliasId
   pub args : List GenericArg
@@ -37,6 +42,8 @@ pub record IsFound (r : InferenceResult) (x : Ty × Ty) : Type 0 where
   pub proved : IsProved r (asked_goal (goal.Projection alias args x.1))
   pub read : IsRead (term x.1)
   pub known : HoldsUnknown (asked_goal (goal.Projection alias args x.1)).parts → ⊥
+  pub other : term x.1 ≡ stays_at alias args → ⊥
+  pub whole : HoldsNoHole (asked_goal (goal.Projection alias args x.1)).parts
 
 -- so is each entry, and each associated type has one
 pub record AreFound (r : InferenceResult) : Type 0 where
@@ -50,10 +57,6 @@ abbrev pub IsPartOf : Term → Term → Type 0
 IsPartOf x (hole k) = ⊥
 IsPartOf x (leaf h) = ⊥
 IsPartOf x (pair a b) = (x ≡ pair a b) ⊎ (IsPartOf x a ⊎ IsPartOf x b)
-
--- an associated type that was read and stays, at these arguments
-abbrev pub stays_at : TypeAliasId → List GenericArg → Term
-stays_at k xs = staying k (chain (map arg_term xs))
 
 -- whatever the associated type reads as at the depth: it stays, or it is listed as that, or `{unknown}` stands in one of them
 abbrev pub StaysOrIsListed : System → ℕ → List (Ty × Ty) → TypeAliasId → List GenericArg → Type 0

@@ -15,6 +15,12 @@ HoldsUnknown (leaf head.UnknownConst) = Unit {0}
 HoldsUnknown (leaf _) = ⊥
 HoldsUnknown (pair a b) = HoldsUnknown a ⊎ HoldsUnknown b
 
+-- no hole that inference made stands in the term; a `_` may
+abbrev pub HoldsNoHole : Term → Type 0
+HoldsNoHole (hole k) = ⊥
+HoldsNoHole (leaf h) = Unit {0}
+HoldsNoHole (pair a b) = HoldsNoHole a × HoldsNoHole b
+
 -- a proof is listed whose goal it is
 pub record IsProved (r : InferenceResult) (a : Asked) : Type 0 where
   pub number : ℕ

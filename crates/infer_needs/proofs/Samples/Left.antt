@@ -28,7 +28,7 @@ use Rattle.infer_needs.proofs.Samples.Impls.{tr, out, facts, own, own_body, u8_t
 use Rattle.infer_needs.proofs.Samples.Sources.{IsBare, bare_read}
 use Rattle.infer_needs.proofs.Samples.AliasProofs.{out_asks}
 use Rattle.infer_needs.proofs.Samples.Needed.{given, table_of, sources, are_sources}
-use Rattle.infer_needs.proofs.Samples.Tables.{entry, out_known}
+use Rattle.infer_needs.proofs.Samples.Tables.{entry, out_known, no_bool}
 
 -- ---- it reads as `bool`
 
@@ -40,7 +40,7 @@ may_bare p (pair a b) u h r =
     let q = subst P (role_read a (bare_read a h.0)) r in
     q.2 ∙ ap₂ pair (may_bare p a q.0 h.0 q.3) (may_bare p b q.1 h.1 q.4)
 
-u8_args : chain (map arg_term (type_args (u8 ∷ []))) ≡ only u8_term
+pub u8_args : chain (map arg_term (type_args (u8 ∷ []))) ≡ only u8_term
 u8_args = λ i. pair ((arg_term_type u8 ∙ ap type_part (term_uint uint.U8)) i) (leaf head.End)
 
 differ : only u8_term ≡ only bool_term → ⊥
@@ -102,11 +102,8 @@ module _ (s : System) (of : IsSystemOf facts own s) (n : ℕ) where
 
 -- ---- refused
 
-abbrev stays : Ty
+abbrev pub stays : Ty
 stays = ty.AssociatedType out (type_args (u8 ∷ []))
-
-no_bool : (x : Term) → bool_term ≡ staying out x → ⊥
-no_bool x h = cc
 
 -- where it is left in the type of an expression, and the table doesn't say that it is `bool`
 pub left_over : (l : RawLiteral) (r : InferenceResult) (n : ℕ) → At r.type_of_expr n stays → (HasEntry r.projections (found_as u8_term bool_term) → ⊥) → HasNoneLeft own_body (given l) r → ⊥

@@ -37,7 +37,7 @@ use Rattle.infer_result.proofs.Samples.Constructors.{v}
 use Rattle.infer_needs.proofs.Samples.Impls.{out, facts, own_body, u8_term, bool_term, char_term, found_as}
 use Rattle.infer_needs.proofs.Samples.AliasProofs.{out_is_bool, out_asks, not_char}
 use Rattle.infer_needs.proofs.Samples.Needed.{sources, are_sources}
-use Rattle.infer_needs.proofs.Samples.Tables.{proofs, are_proofs, entry, out_known, char_known, found_once}
+use Rattle.infer_needs.proofs.Samples.Tables.{proofs, are_proofs, entry, out_known, char_known, found_once, no_bool}
 
 abbrev body : RawBody
 body =
@@ -139,7 +139,7 @@ nothing_said js h =
 -- without an entry, whatever proofs are listed
 pub no_entry : (ps : List Proof) → GoalsHold own_body given (table_of ty.Bool ps []) → ⊥
 no_entry ps h =
-    let about : IsAboutAlias (found_as u8_term bool_term) = record { alias = out; is = refl; read = (tt, tt); known = out_known } in
+    let about : IsAboutAlias (found_as u8_term bool_term) = record { alias = out; is = refl; read = (tt, tt); known = out_known; other = λ h. no_bool (only u8_term) h } in
     elim (h.entries pattern (found_as u8_term bool_term) (pattern_needs ty.Bool bool_term term_bool ps []) about) [
       | inl found ↦ (let none = found.3.1 in cc)
       | inr other ↦ elim other [

@@ -1,14 +1,15 @@
 -- Tables of `fn f() { need(1u8) }` over the facts of `Impls` in which goals hold: the proof of `u8: Tr` is listed, that `<u8 as Tr>::Out` is
 -- `bool` may be, and nothing is complained of.
-use Rattle.std.proofs.Common.{ℕ, zero, suc, ◌≡◌, inl, List, [], ◌∷◌, refl, sym, ap, subst, ◌∙◌, Some, slice_get}
+use Rattle.std.proofs.Common.{ℕ, zero, suc, ◌≡◌, inl, List, [], ◌∷◌, map, refl, sym, ap, subst, ◌∙◌, Some, slice_get}
 use Rattle.hir_types.specs.declared.ids.ExprOrPatId.{ExprOrPatId}
 use Rattle.hir_types.specs.declared.ids.ExprOrPatId.TheVariants as node
 use Rattle.hir_types.specs.declared.ty.Ty.{Ty}
 use Rattle.hir_types.specs.declared.ty.Ty.TheVariants as ty
 use Rattle.hir_types.specs.declared.ty.UintTy.TheVariants as uint
+use Rattle.hir_types.specs.Terms.{Term, chain, arg_term}
 use Rattle.hir_types.specs.TermLaws.{term_bool, term_uint}
 use Rattle.hir_raw.specs.Signatures.{type_args}
-use Rattle.goal_answers.specs.Reading.{Fill, IsRead, Aliases}
+use Rattle.goal_answers.specs.Reading.{Fill, IsRead, Aliases, staying}
 use Rattle.goal_answers.specs.Goals.{Asked}
 use Rattle.goal_answers.specs.Answers.{answers}
 use Rattle.goal_facts.specs.declared.proof.Proof.{Proof}
@@ -16,7 +17,7 @@ use Rattle.goal_facts.specs.Proofs.{Holds, AreProofs}
 use Rattle.infer_result.specs.declared.gaps.Gap.{Gap}
 use Rattle.infer_result.specs.declared.result.InferenceResult.{InferenceResult}
 use Rattle.infer_result.specs.Projections.{IsFound, AreFound}
-use Rattle.infer_result.specs.Needs.{HasGap, HoldsUnknown, GoalsHold}
+use Rattle.infer_result.specs.Needs.{HasGap, HoldsUnknown, HoldsNoHole, GoalsHold}
 use Rattle.infer_result.proofs.Samples.Small.{u8, one_u8}
 use Rattle.infer_needs.proofs.Samples.Impls.{out, facts, own_body, u8_term, bool_term, char_term, found_as}
 use Rattle.infer_needs.proofs.Samples.Sources.{neither, nothing, asks_u8}
@@ -65,6 +66,12 @@ entry = (ty.Projection out (type_args (u8 ∷ [])), ty.Bool)
 pub out_known : HoldsUnknown (found_as u8_term bool_term).parts → ⊥
 out_known = neither (neither (neither nothing (neither nothing nothing)) nothing) (neither nothing nothing)
 
+pub out_whole : HoldsNoHole (found_as u8_term bool_term).parts
+out_whole = (((tt, (tt, tt)), tt), (tt, tt))
+
+pub no_bool : (x : Term) → bool_term ≡ staying out x → ⊥
+no_bool x h = cc
+
 pub char_known : HoldsUnknown (found_as u8_term char_term).parts → ⊥
 char_known = neither (neither (neither nothing (neither nothing nothing)) nothing) (neither nothing nothing)
 
@@ -78,6 +85,8 @@ module _ (r : InferenceResult) (are : r.proofs ≡ proofs) (listed : r.projectio
     proved = record { number = 1; proof = out_is_bool; listed = ap (λ ps. slice_get ps 1) are; goal = refl };
     read = subst IsRead (sym term_bool) (tt, tt);
     known = λ h. out_known (subst (λ (a : Asked). HoldsUnknown a.parts) out_asks h);
+    other = λ h. no_bool (chain (map arg_term (type_args (u8 ∷ [])))) (sym term_bool ∙ h);
+    whole = subst (λ (a : Asked). HoldsNoHole a.parts) (sym out_asks) out_whole;
   }
 
   each_found : (n : ℕ) (x : Ty × Ty) → slice_get (entry ∷ []) n ≡ Some x → IsFound r x

@@ -2,6 +2,7 @@
 -- said where it is not what stands there.
 use Rattle.std.proofs.Common.{ℕ, zero, suc, ◌≡◌, ◌⊎◌, inl, inr, true, List, [], ◌∷◌, ◌++◌, map, refl, sym, ap, subst, ◌∙◌, Some, None, slice_get}
 use Rattle.hir_types.specs.declared.ids.CallableDefId.TheVariants as callable
+use Rattle.hir_types.specs.declared.ids.ExprId.{ExprId}
 use Rattle.hir_types.specs.declared.ids.ExprOrPatId.{ExprOrPatId}
 use Rattle.hir_types.specs.declared.ids.ExprOrPatId.TheVariants as node
 use Rattle.hir_types.specs.declared.ids.FunctionId.{FunctionId}
@@ -39,12 +40,12 @@ use Rattle.infer_needs.proofs.Samples.Sources.{asks_u8}
 use Rattle.infer_needs.proofs.Samples.ImplProofs.{by_impl}
 use Rattle.infer_needs.proofs.Samples.AliasProofs.{out_is_bool, out_asks, not_char}
 use Rattle.infer_needs.proofs.Samples.Needed.{path_node, sources, are_sources}
-use Rattle.infer_needs.proofs.Samples.Tables.{proofs, are_proofs, entry, out_known, char_known, found_once}
+use Rattle.infer_needs.proofs.Samples.Tables.{proofs, are_proofs, entry, out_known, char_known, found_once, no_bool}
 
-abbrev taking : FunctionId
+abbrev pub taking : FunctionId
 taking = record { 0 = 2 }
 
-abbrev item : List Ty → Ty
+abbrev pub item : List Ty → Ty
 item ts = ty.FnDef (callable.FunctionId taking) (type_args ts)
 
 -- the path, the arguments, the call and the block
@@ -52,12 +53,12 @@ abbrev body : RawLiteral → RawBody
 body l =
     body_of (expr.Path (path.Function taking) ∷ expr.Lit one_u8 ∷ expr.Lit l ∷ expr.Call (e 0) (e 1 ∷ e 2 ∷ []) ∷ expr.Block None [] (Some (e 3)) ∷ []) 4 [] []
 
-abbrev given : RawLiteral → Given
+abbrev pub given : RawLiteral → Given
 given l = given_in facts own_body (body l)
 
 -- where the second argument has this type
-abbrev table_of : Ty → List Proof → List (Ty × Ty) → InferenceResult
-table_of t proofs found = record {
+abbrev pub table_of : Ty → List Proof → List (Ty × Ty) → List (List Gap) → InferenceResult
+table_of t proofs found gaps = record {
   type_of_expr = Some (item (u8 ∷ t ∷ [])) ∷ Some u8 ∷ Some t ∷ Some unit ∷ Some unit ∷ [];
   type_of_pat = [];
   item_of_pat = [];
@@ -73,7 +74,7 @@ table_of t proofs found = record {
   seen = [];
   proofs = proofs;
   projections = found;
-  expr_gaps = [];
+  expr_gaps = gaps;
   pat_gaps = [];
   general = None;
 }
@@ -84,9 +85,13 @@ args_of : (ts : List Ty) → item_args (out-Ty (item ts)) ≡ type_args ts
 args_of ts =
     ap item_args (ap out-Ty (sym (ty.rolls-FnDef (callable.FunctionId taking) (type_args ts))) ∙ out-roll-Ty (Ty-F.FnDef (callable.FunctionId taking) (type_args ts)))
 
-module _ (l : RawLiteral) (t : Ty) (x : Term) (t_is : term t ≡ x) (ps : List Proof) (js : List (Ty × Ty)) where
+-- these two
+abbrev pub IsOneOf : Term → Asked → Type 0
+IsOneOf x a = (a ≡ implemented u8_term) ⊎ (a ≡ found_as u8_term x)
+
+module _ (l : RawLiteral) (t : Ty) (x : Term) (t_is : term t ≡ x) (ps : List Proof) (js : List (Ty × Ty)) (gs : List (List Gap)) where
   abbrev r : InferenceResult
-  r = table_of t ps js
+  r = table_of t ps js gs
 
   abbrev xs : List GenericArg
   xs = type_args (u8 ∷ t ∷ [])
@@ -100,63 +105,61 @@ module _ (l : RawLiteral) (t : Ty) (x : Term) (t_is : term t ≡ x) (ps : List P
   alias_is : alias_goal facts xs 1 out (w 2 ∷ []) ≡ found_as u8_term x
   alias_is = λ i. record { kind = projects out; parts = pair ((args_are facts xs (w 2 ∷ []) ∙ ap only at_param) i) ((ap (λ z. term (arg_as_type z)) (top_arg t) ∙ t_is) i) }
 
-  needs_are : needs_at facts (body l) r 0 ≡ implemented u8_term ∷ found_as u8_term x ∷ []
+  pub needs_are : needs_at facts (body l) r 0 ≡ implemented u8_term ∷ found_as u8_term x ∷ []
   needs_are = ap (λ ys. map (goal_at facts ys) take.preds ++ alias_goal facts ys 1 out (w 2 ∷ []) ∷ []) (args_of (u8 ∷ t ∷ [])) ∙ (λ i. bound_is i ∷ alias_is i ∷ [])
 
-  alias_needed : IsNeeded (given l) r path_node (found_as u8_term x)
+  pub alias_needed : IsNeeded (given l) r path_node (found_as u8_term x)
   alias_needed = record { «at» = 1; among = ap (λ gs. slice_get gs 1) needs_are }
 
-  no_gap : (n : ExprOrPatId) (y : Gap) → HasGap r n y → ⊥
-  no_gap (node.ExprId k) y h = (let none : slice_get [] k.0 ≡ Some h.gaps = h.at in cc)
-  no_gap (node.PatId k) y h = (let none : slice_get [] k.0 ≡ Some h.gaps = h.at in cc)
-
-  abbrev OneOfBoth : Asked → Type 0
-  OneOfBoth a = (a ≡ implemented u8_term) ⊎ (a ≡ found_as u8_term x)
-
-  one_is : (j : ℕ) (a : Asked) → slice_get (implemented u8_term ∷ found_as u8_term x ∷ []) j ≡ Some a → OneOfBoth a
+  one_is : (j : ℕ) (a : Asked) → slice_get (implemented u8_term ∷ found_as u8_term x ∷ []) j ≡ Some a → IsOneOf x a
   one_is zero a h = inl cc
   one_is (suc zero) a h = inr cc
   one_is (suc (suc j)) a h = absurd (cc)
 
-  needed_at : (k j : ℕ) (a : Asked) → slice_get (needs_at facts (body l) r k) j ≡ Some a → OneOfBoth a
-  needed_at zero j a h = one_is j a (subst (λ gs. slice_get gs j ≡ Some a) needs_are h)
-  needed_at (suc zero) j a h = absurd (cc)
-  needed_at (suc (suc zero)) j a h = absurd (cc)
-  needed_at (suc (suc (suc zero))) j a h = absurd (cc)
-  needed_at (suc (suc (suc (suc zero)))) j a h = absurd (cc)
-  needed_at (suc (suc (suc (suc (suc k))))) j a h = absurd (cc)
+  needed_at : (k : ExprId) (m j : ℕ) (a : Asked) → m ≡ k.0 → slice_get (needs_at facts (body l) r m) j ≡ Some a → (path_node ≡ node.ExprId k) × IsOneOf x a
+  needed_at k zero j a is h = (ap (λ n. node.ExprId (e n)) is, one_is j a (subst (λ gs. slice_get gs j ≡ Some a) needs_are h))
+  needed_at k (suc zero) j a is h = absurd (cc)
+  needed_at k (suc (suc zero)) j a is h = absurd (cc)
+  needed_at k (suc (suc (suc zero))) j a is h = absurd (cc)
+  needed_at k (suc (suc (suc (suc zero)))) j a is h = absurd (cc)
+  needed_at k (suc (suc (suc (suc (suc m))))) j a is h = absurd (cc)
 
-  needed : (n : ExprOrPatId) (a : Asked) → IsNeeded (given l) r n a → OneOfBoth a
-  needed (node.ExprId k) a h = needed_at k.0 h.at a h.among
+  pub needed : (n : ExprOrPatId) (a : Asked) → IsNeeded (given l) r n a → (path_node ≡ n) × IsOneOf x a
+  needed (node.ExprId k) a h = needed_at k k.0 h.at a refl h.among
   needed (node.PatId k) a h = (let none : slice_get [] h.at ≡ Some a = h.among in absurd (cc))
+
+module _ (t : Ty) (ps : List Proof) (js : List (Ty × Ty)) where
+  no_gap : (n : ExprOrPatId) (y : Gap) → HasGap (table_of t ps js []) n y → ⊥
+  no_gap (node.ExprId k) y h = (let none : slice_get [] k.0 ≡ Some h.gaps = h.at in cc)
+  no_gap (node.PatId k) y h = (let none : slice_get [] k.0 ≡ Some h.gaps = h.at in cc)
 
 -- ---- refused
 
-abbrev yes : RawLiteral
+abbrev pub yes : RawLiteral
 yes = literal.Bool true
 
 abbrev letter : RawLiteral
 letter = literal.Char 97
 
 -- without an entry for what the path needs, whatever proofs are listed
-pub no_entry : (ps : List Proof) → GoalsHold own_body (given yes) (table_of ty.Bool ps []) → ⊥
+pub no_entry : (ps : List Proof) → GoalsHold own_body (given yes) (table_of ty.Bool ps [] []) → ⊥
 no_entry ps h =
-    let about : IsAboutAlias (found_as u8_term bool_term) = record { alias = out; is = refl; read = (tt, tt); known = out_known } in
-    elim (h.entries path_node (found_as u8_term bool_term) (alias_needed yes ty.Bool bool_term term_bool ps []) about) [
+    let about : IsAboutAlias (found_as u8_term bool_term) = record { alias = out; is = refl; read = (tt, tt); known = out_known; other = λ h. no_bool (only u8_term) h } in
+    elim (h.entries path_node (found_as u8_term bool_term) (alias_needed yes ty.Bool bool_term term_bool ps [] []) about) [
       | inl found ↦ (let none = found.3.1 in cc)
       | inr other ↦ elim other [
-        | inl clash ↦ no_gap yes ty.Bool bool_term term_bool ps [] path_node _ clash.4
-        | inr said ↦ no_gap yes ty.Bool bool_term term_bool ps [] path_node _ said.1
+        | inl clash ↦ no_gap ty.Bool ps [] path_node _ clash.4
+        | inr said ↦ no_gap ty.Bool ps [] path_node _ said.1
       ]
     ]
 
 -- where another type stands than `<u8 as Tr>::Out` is, without a complaint, whatever else is listed
-pub other_type : (ps : List Proof) (js : List (Ty × Ty)) → GoalsHold own_body (given letter) (table_of ty.Char ps js) → ⊥
+pub other_type : (ps : List Proof) (js : List (Ty × Ty)) → GoalsHold own_body (given letter) (table_of ty.Char ps js []) → ⊥
 other_type ps js h =
-    elim (h.needs path_node (found_as u8_term char_term) (alias_needed letter ty.Char char_term term_char ps js)) [
+    elim (h.needs path_node (found_as u8_term char_term) (alias_needed letter ty.Char char_term term_char ps js [])) [
       | inl proved ↦ not_char h.system h.of_item (answers h.system 8).Alias hole ps proved.number proved.proof proved.listed proved.goal (h.proofs hole hole_filling)
       | inr other ↦ elim other [
-        | inl said ↦ no_gap letter ty.Char char_term term_char ps js path_node _ said.1
+        | inl said ↦ no_gap ty.Char ps js path_node _ said.1
         | inr unknown ↦ char_known unknown
       ]
     ]
@@ -164,13 +167,13 @@ other_type ps js h =
 -- ---- taken
 
 abbrev right : InferenceResult
-right = table_of ty.Bool proofs (entry ∷ [])
+right = table_of ty.Bool proofs (entry ∷ []) []
 
-is_proved : (a : Asked) → (a ≡ implemented u8_term) ⊎ (a ≡ found_as u8_term bool_term) → IsProved right a
+is_proved : (a : Asked) → IsOneOf bool_term a → IsProved right a
 is_proved a (inl is) = record { number = 0; proof = by_impl u8 0 [] []; listed = refl; goal = asks_u8 ∙ sym is }
 is_proved a (inr is) = record { number = 1; proof = out_is_bool; listed = refl; goal = out_asks ∙ sym is }
 
-has_entry : (a : Asked) → IsAboutAlias a → (a ≡ implemented u8_term) ⊎ (a ≡ found_as u8_term bool_term) → HasEntry right.projections a
+has_entry : (a : Asked) → IsAboutAlias a → IsOneOf bool_term a → HasEntry right.projections a
 has_entry a about (inl is) = (let clash : implements tr ≡ projects about.alias = sym (ap (λ (y : Asked). y.kind) is) ∙ about.is in absurd (cc))
 has_entry a about (inr is) = (out, type_args (u8 ∷ []), ty.Bool, (0, refl), out_asks ∙ sym is)
 
@@ -179,9 +182,9 @@ with_entry = record {
   system = sources;
   of_item = are_sources;
   proofs = λ s filling. are_proofs (answers sources 8).Alias s;
-  needs = λ n a h. inl (is_proved a (needed yes ty.Bool bool_term term_bool proofs (entry ∷ []) n a h));
-  gaps = λ n x h. absurd (no_gap yes ty.Bool bool_term term_bool proofs (entry ∷ []) n x h);
-  once = λ n x y h k same. absurd (no_gap yes ty.Bool bool_term term_bool proofs (entry ∷ []) n x h);
+  needs = λ n a h. inl (is_proved a (needed yes ty.Bool bool_term term_bool proofs (entry ∷ []) [] n a h).1);
+  gaps = λ n x h. absurd (no_gap ty.Bool proofs (entry ∷ []) n x h);
+  once = λ n x y h k same. absurd (no_gap ty.Bool proofs (entry ∷ []) n x h);
   found = found_once right refl refl;
-  entries = λ n a h about. inl (has_entry a about (needed yes ty.Bool bool_term term_bool proofs (entry ∷ []) n a h));
+  entries = λ n a h about. inl (has_entry a about (needed yes ty.Bool bool_term term_bool proofs (entry ∷ []) [] n a h).1);
 }

@@ -18,7 +18,7 @@ use Rattle.goal_facts.specs.Goals.{asked_goal}
 use Rattle.infer_result.specs.declared.gaps.Gap.{Gap}
 use Rattle.infer_result.specs.declared.gaps.Gap.TheVariants as gap
 use Rattle.infer_result.specs.declared.result.InferenceResult.{InferenceResult}
-use Rattle.infer_result.specs.Needs.{HasGap, HoldsUnknown, IsUnproved, IsTrueUnproved, IsTrueGap, GoalsHold, NeedsHold}
+use Rattle.infer_result.specs.Needs.{HasGap, HoldsUnknown, HoldsNoHole, IsUnproved, IsTrueUnproved, IsTrueGap, GoalsHold, NeedsHold}
 use Rattle.infer_result.proofs.Samples.Small.{e}
 use Rattle.infer_needs.proofs.Samples.Impls.{tr, out, own_body, u8_term, bool_term, char_term, w_term, param, implemented, found_as, all_said, rules_are}
 use Rattle.infer_needs.proofs.Samples.Sources.{reads_bare, neither, nothing, asks, asks_is}
@@ -106,6 +106,7 @@ char_known = neither (neither nothing (neither nothing nothing)) nothing
 true_here : IsTrueUnproved (given letter) sources right path_node (asks ty.Char)
 true_here = record {
   needed = record { «at» = 0; among = ap (λ gs. slice_get gs 0) (needs_are letter ty.Char char_term term_char [] [] ((said_here ∷ []) ∷ [])) ∙ ap Some (sym asks_char) };
+  whole = subst (λ (x : Asked). HoldsNoHole x.parts) (sym asks_char) ((tt, (tt, tt)), tt);
   known = λ h. char_known (subst (λ (x : Asked). HoldsUnknown x.parts) asks_char h);
   fails = λ h. char_not_yes 8 (subst (answers sources 8).Yes asks_char h);
 }

@@ -1,4 +1,4 @@
--- Tables over the facts of `Impls` in which goals don't hold.
+-- Tables over the facts of `Impls` in which goals don't hold: complaints, proofs and entries that are wrong. What nodes of `need(1u8)` need holds.
 use Rattle.std.proofs.Common.{ℕ, suc, ◌≡◌, inl, inr, Bool, true, false, List, [], ◌∷◌, ◌++◌, map, refl, sym, ap, subst, ◌∙◌, true≢false, Some, slice_get}
 use Rattle.std.specs.Prelude.{flat_map}
 use Rattle.hir_types.specs.declared.goal.Goal.{Goal}
@@ -11,7 +11,7 @@ use Rattle.hir_types.specs.declared.ty.Ty.{Ty, Ty-F, out-Ty, out-roll-Ty}
 use Rattle.hir_types.specs.declared.ty.Ty.TheVariants as ty
 use Rattle.hir_types.specs.declared.ty.UintTy.TheVariants as uint
 use Rattle.hir_types.specs.Terms.{hole}
-use Rattle.hir_types.specs.TermLaws.{term_char, term_uint}
+use Rattle.hir_types.specs.TermLaws.{term_char, term_uint, term_var}
 use Rattle.hir_raw.specs.declared.raw.RawLiteral.{RawLiteral}
 use Rattle.hir_raw.specs.Signatures.{type_args}
 use Rattle.goal_answers.specs.Reading.{Aliases}
@@ -25,7 +25,7 @@ use Rattle.goal_facts.specs.Systems.{fact, IsSystemOf}
 use Rattle.infer_result.specs.declared.gaps.Gap.{Gap}
 use Rattle.infer_result.specs.declared.gaps.Gap.TheVariants as gap
 use Rattle.infer_result.specs.declared.result.InferenceResult.{InferenceResult}
-use Rattle.infer_result.specs.Needs.{HasGap, IsProved, GoalsHold, NeedsHold}
+use Rattle.infer_result.specs.Needs.{HasGap, HoldsNoHole, IsProved, GoalsHold, NeedsHold}
 use Rattle.infer_result.proofs.Samples.Small.{e, u8, one_u8}
 use Rattle.infer_needs.proofs.Samples.Impls.{tr, out, facts, own, own_body, for_bool, for_w, u8_term, char_term, implemented, found_as, u8_rules, no_clauses}
 use Rattle.infer_needs.proofs.Samples.Sources.{asks_out_is, w_of}
@@ -91,7 +91,7 @@ nothing_needed ps js gs k m q has h =
 top_alias : (k : TypeAliasId) (xs : List GenericArg) → out-Ty (ty.Projection k xs) ≡ Ty-F.Projection k xs
 top_alias k xs = ap out-Ty (sym (ty.rolls-Projection k xs)) ∙ out-roll-Ty (Ty-F.Projection k xs)
 
-same_alias : (k m : TypeAliasId) (xs ys : List GenericArg) → ty.Projection k xs ≡ ty.Projection m ys → (k ≡ m) × (xs ≡ ys)
+pub same_alias : (k m : TypeAliasId) (xs ys : List GenericArg) → ty.Projection k xs ≡ ty.Projection m ys → (k ≡ m) × (xs ≡ ys)
 same_alias k m xs ys is = (let same : Ty-F.Projection k xs ≡ Ty-F.Projection m ys = sym (top_alias k xs) ∙ (ap out-Ty is ∙ top_alias m ys) in (cc, cc))
 
 -- `<u8 as Tr>::Out` is not `char`: no table has a proof of it
@@ -112,6 +112,13 @@ wrong_clash l r n m t has h = let x = (h.gaps n (gap.Clash m (ty.Projection out 
 -- a complaint that an associated type is two types, which are one
 pub no_clash : (l : RawLiteral) (r : InferenceResult) (n m : ExprOrPatId) (a t : Ty) → HasGap r n (gap.Clash m a t t) → GoalsHold own_body (given l) r → ⊥
 no_clash l r n m a t has h = (h.gaps n (gap.Clash m a t t) has).1.differ refl
+
+-- an entry in whose type a hole stands, and a complaint of one
+pub open_entry : (l : RawLiteral) (r : InferenceResult) (n m : ℕ) (a : Ty) → slice_get r.projections n ≡ Some (a, ty.Var m) → GoalsHold own_body (given l) r → ⊥
+open_entry l r n m a is h = subst HoldsNoHole (term_var m) (h.found.each n (a, ty.Var m) is).whole.1
+
+pub open_clash : (l : RawLiteral) (r : InferenceResult) (n k : ExprOrPatId) (m : ℕ) (a t : Ty) → HasGap r n (gap.Clash k a t (ty.Var m)) → GoalsHold own_body (given l) r → ⊥
+open_clash l r n k m a t has h = subst HoldsNoHole (term_var m) (h.gaps n (gap.Clash k a t (ty.Var m)) has).1.whole.1
 
 -- a proof of `bool: Tr` by the impl for `u8`, and one of `W<u8>: Tr` without its child
 pub wrong_proof : (l : RawLiteral) (r : InferenceResult) (n : ℕ) (xs : List Ty) (children : List ℕ) → slice_get r.proofs n ≡ Some (by_impl ty.Bool 0 xs children) → GoalsHold own_body (given l) r → ⊥

@@ -19,7 +19,7 @@ use Rattle.infer_result.specs.Typed.{given}
 use Rattle.infer_needs.specs.Judged.{AreProvable, AreAllJudged, ArePatsJudged}
 use Rattle.infer_needs.specs.Told.{first_needs, first_pat_needs, all_needs, AreAnswered}
 use Rattle.infer_needs.proofs.Telling.{tells_both, needs_stay}
-use Rattle.infer_needs.proofs.Provable.{needs_provable, table_final, pat_needs_provable, as_many_items}
+use Rattle.infer_needs.proofs.Provable.{needs_provable, node_provable, table_final, pat_needs_provable, as_many_items}
 use Rattle.infer_needs.proofs.Holding.{same_body, goals_hold, has_none_left}
 use Rattle.infer_needs.proofs.prove.prove_needs.Goals as goal
 
@@ -73,7 +73,7 @@ returns-clause-goals c b is =
     let all = judged_of raw d r c.in_ok-sources.sources c.in_ok-sources.ensures.facts (c.in_ok-sources.ensures.item ∙ c.scope_item.ensures) c.lawful-2.ensures body b same ps qs js ks c.prove_pats.new.found gss hss c.into_pairs.ensures.list c.in_ok-proofs.ensures.judged c.in_ok-pat_gaps.ensures.judged in
     subst (λ es. GoalsHold d (given raw d b) (with_goals c.from_vec.result es gss hss r)) (sym c.from_vec-2.ensures)
     (subst (λ xs. GoalsHold d (given raw d b) (with_goals xs ks gss hss r)) (sym c.from_vec.ensures)
-    (goals_hold raw d b (system c.in_ok-sources.sources.sources) r ps qs js ks gss hss all.of_item (as_many_items raw d r b c.requires is) all.exprs all.pats c.into_pairs.ensures.once))
+    (goals_hold raw d b (system c.in_ok-sources.sources.sources) r ps qs js ks gss hss all.of_item (as_many_items raw d r b c.requires is) all.exprs all.pats c.into_pairs.ensures.once (node_provable raw d r c.requires b)))
 
 pub returns-clause-left : goal.returns-clause-left
 returns-clause-left c b is =
@@ -91,7 +91,7 @@ returns-clause-left c b is =
     let all = judged_of raw d r c.in_ok-sources.sources c.in_ok-sources.ensures.facts (c.in_ok-sources.ensures.item ∙ c.scope_item.ensures) c.lawful-2.ensures body b same ps qs js ks c.prove_pats.new.found gss hss c.into_pairs.ensures.list c.in_ok-proofs.ensures.judged c.in_ok-pat_gaps.ensures.judged in
     subst (λ es. HasNoneLeft d (given raw d b) (with_goals c.from_vec.result es gss hss r)) (sym c.from_vec-2.ensures)
     (subst (λ xs. HasNoneLeft d (given raw d b) (with_goals xs ks gss hss r)) (sym c.from_vec.ensures)
-    (has_none_left raw d b (system c.in_ok-sources.sources.sources) r ps qs js ks gss hss all.of_item (as_many_items raw d r b c.requires is) all.exprs all.pats c.into_pairs.ensures.once))
+    (has_none_left raw d b (system c.in_ok-sources.sources.sources) r ps qs js ks gss hss all.of_item (as_many_items raw d r b c.requires is) all.exprs all.pats c.into_pairs.ensures.once (node_provable raw d r c.requires b)))
 
 pub returns-clause-told : goal.returns-clause-told
 returns-clause-told c b is =
