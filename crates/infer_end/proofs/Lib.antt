@@ -8,4 +8,4 @@ pub mod PlainFields
 pub mod PlainGoals
 pub mod SizedTypes
 pub mod SelectedBody
-pub mod ReadLast
+pub mod Settling

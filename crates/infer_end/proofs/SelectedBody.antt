@@ -22,7 +22,6 @@ use Rattle.infer_ctx.specs.Context.{with_goal_table}
 use Rattle.infer_ctx.specs.Fine.{is_fine_head}
 use Rattle.infer_ctx.specs.Steps.{BodyDone}
 use Rattle.infer_ctx.proofs.FineTypes.{fine_no_alias}
-use Rattle.infer_ctx.proofs.Lists.{found}
 use Rattle.infer_ctx.proofs.UnderClosings.{decided_later, closes_earlier}
 use Rattle.infer_obligations.specs.Selection.{AreSelected, IsSelection}
 use Rattle.infer_obligations.proofs.Selecting.{StaysApart, selected_apart, selected_heads}

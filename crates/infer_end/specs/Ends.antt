@@ -1,5 +1,5 @@
 -- What was found out about a body before its open holes fall back, by what it comes to then.
-use Rattle.std.specs.Prelude.{◌≡◌, List, Option, None}
+use Rattle.std.specs.Prelude.{◌≡◌, List, Option}
 use Rattle.hir_types.specs.Terms.{terms_of}
 use Rattle.hir_types.specs.declared.ids.DefWithBodyId.{DefWithBodyId}
 use Rattle.hir_types.specs.declared.ty.Ty.{Ty}
@@ -16,11 +16,10 @@ use Rattle.infer_result.specs.Needs.{with_goals}
 use Rattle.infer_result.specs.OwnTypes.{AreOwnTypes, AreLetTypes}
 use Rattle.infer_result.specs.Typed.{IsTableOf, given_by}
 use Rattle.infer_obligations.specs.Reading.{EndsSettled}
-use Rattle.infer_obligations.specs.Selection.{IsSelection}
 use Rattle.infer_ctx.specs.declared.context.InferenceContext.{InferenceContext}
 use Rattle.infer_ctx.specs.Closings.{closed_table}
 use Rattle.infer_ctx.specs.Steps.{BodyDone}
-use Rattle.infer_end.specs.SelectedBody.{StaysOfPlain, OnlyGoals, ReadsLast}
+use Rattle.infer_end.specs.SelectedBody.{SettlesLast}
 
 -- the table that it comes to, with these proofs and what could not be shown
 abbrev pub ended : List Proof → List (Ty × Ty) → List (List Gap) → List (List Gap) → InferenceContext → InferenceResult
@@ -38,9 +37,9 @@ EndsWell raw d z = (ps : List Proof) (js : List (Ty × Ty)) (gs hs : List (List 
 
 -- ---- where a table comes from
 
--- the body is walked, with what its nodes need registered, and what associated types are read as far as is known then; then what is
--- registered is selected until nothing selects any more, but where types before fallback are kept, and what associated types are is read
--- once more
+-- The body is walked, with what its nodes need registered, and what associated types are read as far as is known then. Then, but where
+-- types before fallback are kept, what is registered is selected, open holes for integer types fall back, and it is selected and read on,
+-- selected last.
 pub record IsSelectedBody (raw : RawFacts) (d : DefWithBodyId) (b : RawBody) (z : InferenceContext) : Type 0 where
   pub inputs : List (Option Ty)
   pub output : Option Ty
@@ -52,11 +51,7 @@ pub record IsSelectedBody (raw : RawFacts) (d : DefWithBodyId) (b : RawBody) (z 
   pub walked : InferenceContext
   pub goals : walked.goals ≡ settled.goals
   pub done : BodyDone (given_by raw d b inputs output aliases) walked
-  pub selected : InferenceContext
-  pub only : OnlyGoals walked selected
-  pub plain : StaysOfPlain walked selected
-  pub selection : walked.result.general ≡ None → IsSelection raw d b walked selected
-  pub last : ReadsLast (given_by raw d b inputs output aliases) selected z
+  pub last : SettlesLast d (given_by raw d b inputs output aliases) walked z
 
 -- the table is what such a body comes to
 pub record ComesOfSelection (raw : RawFacts) (d : DefWithBodyId) (b : RawBody) (r : InferenceResult) : Type 0 where

@@ -1,10 +1,14 @@
 -- What selection does to what was found out about a body.
-use Rattle.std.specs.Prelude.{◌≡◌, Some, None}
+use Rattle.std.specs.Prelude.{◌≡◌, ◌⊎◌, ℕ, zero, suc, length, Some, None}
+use Rattle.hir_types.specs.declared.ids.DefWithBodyId.{DefWithBodyId}
+use Rattle.infer_table.specs.FallBack.{FellBack}
+use Rattle.infer_table.specs.Table.{bindings}
 use Rattle.infer_result.specs.declared.result.General.{General}
 use Rattle.infer_result.specs.Places.{Given}
 use Rattle.infer_ctx.specs.declared.context.InferenceContext.{InferenceContext}
-use Rattle.infer_ctx.specs.Steps.{BodyDone}
+use Rattle.infer_ctx.specs.Steps.{BodyDone, OnlyBinds}
 use Rattle.infer_obligations.specs.Reading.{ReadsOn}
+use Rattle.infer_obligations.specs.Selection.{IsSelection, SelectsInWalk}
 
 -- the table of goals alone may change, with its holes
 pub record OnlyGoals (old new : InferenceContext) : Type 0 where
@@ -16,9 +20,53 @@ pub record OnlyGoals (old new : InferenceContext) : Type 0 where
 abbrev pub StaysOfPlain : InferenceContext → InferenceContext → Type 0
 StaysOfPlain old new = (x : General) → old.result.general ≡ Some x → new ≡ old
 
--- what the needs of paths are about is read, where no types before fallback are kept; else nothing is done
-pub record ReadsLast (g : Given) (old new : InferenceContext) : Type 0 where
+-- open holes for integer types fell back, and nothing is recorded
+pub record FallsBack (g : Given) (old new : InferenceContext) : Type 0 where
+  pub binds : OnlyBinds g old new
+  pub fell : FellBack old.goals.table new.goals.table
+
+-- ---- selected and read in turn
+
+-- goals were selected, and then what all nodes need was read
+pub record SelectsThenReads (g : Given) (old new : InferenceContext) : Type 0 where
+  pub selected : InferenceContext
+  pub selects : SelectsInWalk g old selected
+  pub reads : ReadsOn g selected new
+
+-- so many times
+abbrev pub SelectsThenReadsTimes : Given → ℕ → InferenceContext → InferenceContext → Type 0
+SelectsThenReadsTimes g zero old new = new ≡ old
+SelectsThenReadsTimes g (suc n) old new = (mid : InferenceContext) × SelectsThenReadsTimes g n old mid × SelectsThenReads g mid new
+
+-- once more than so many times, and the last time bound no hole
+pub record EndsWithNone (g : Given) (old new : InferenceContext) : Type 0 where
+  pub times : ℕ
+  pub before : InferenceContext
+  pub first : SelectsThenReadsTimes g times old before
+  pub again : SelectsThenReads g before new
+  pub none : length (bindings new.goals.table) ≡ length (bindings before.goals.table)
+
+-- until that bound no hole any more, or as often as goals may be followed
+pub record SelectsAndReadsOn (g : Given) (old new : InferenceContext) : Type 0 where
+  pub binds : OnlyBinds g old new
+  pub ends : EndsWithNone g old new ⊎ SelectsThenReadsTimes g g.scope.facts.limits.goal_depth old new
+
+-- ---- in the end
+
+-- Goals were selected, open holes for integer types fell back, goals were selected and associated types read in turn, and goals were
+-- selected for the last time.
+pub record SettlesBody (d : DefWithBodyId) (g : Given) (old new : InferenceContext) : Type 0 where
+  pub selected : InferenceContext
+  pub selects : SelectsInWalk g old selected
+  pub fallen : InferenceContext
+  pub falls : FallsBack g selected fallen
+  pub read : InferenceContext
+  pub reads : SelectsAndReadsOn g fallen read
+  pub last : IsSelection g.scope.facts d g.body read new
+
+-- that was done where no types before fallback are kept; else nothing is
+pub record SettlesLast (d : DefWithBodyId) (g : Given) (old new : InferenceContext) : Type 0 where
   pub done : BodyDone g new
   pub only : OnlyGoals old new
   pub plain : StaysOfPlain old new
-  pub reads : old.result.general ≡ None → ReadsOn g old new
+  pub settles : old.result.general ≡ None → SettlesBody d g old new

@@ -1,19 +1,71 @@
-//! What nodes need, selected before open holes fall back: `infer.rs`, `infer_body`, where
-//! `select_obligations_where_possible` is called.
-ghost use Rattle.std.specs.Prelude.{◌≡◌, None, OnOk};
+//! What nodes need, selected before open holes fall back, and read and selected in turn with what is known once those for integer types
+//! have: `infer.rs`, `infer_body`, where `select_obligations_where_possible` is called.
+ghost use Rattle.std.specs.Prelude.{◌≡◌, OnOk};
 ghost use Rattle.infer_result.specs.Needs.{scope_item};
 ghost use Rattle.infer_ctx.specs.Asked.{IsTold};
+ghost use Rattle.infer_ctx.specs.Closings.{IsSound};
 ghost use Rattle.infer_result.specs.Closed.{IsOfBody};
-ghost use Rattle.infer_ctx.specs.Context.{given_of};
+ghost use Rattle.infer_ctx.specs.Context.{given_of, scope_in};
 ghost use Rattle.infer_ctx.specs.Steps.{BodyDone};
 ghost use Rattle.infer_obligations.specs.Selection.{IsSelection};
-ghost use Rattle.infer_end.specs.SelectedBody.{StaysOfPlain, OnlyGoals, ReadsLast};
+ghost use Rattle.infer_end.specs.SelectedBody.{OnlyGoals, FallsBack, SelectsThenReads, SelectsAndReadsOn, SettlesBody, SettlesLast};
 
 use infer_ctx::{GivenBody, InferenceContext};
-use infer_obligations::{read_all, select_registered};
+use infer_obligations::{read_all, select_obligations_where_possible, select_registered};
 use std::alloc::{AllocError, Global};
 
-/// Selects what nodes of the body need, at the types known so far, and binds holes as that says.
+/// Lets open holes for integer types fall back.
+fn fall_back(context: &mut InferenceContext, given: &GivenBody) -> Result<(), AllocError>
+    requires of_body { IsOfBody given.now.body.now context.old.result }
+    requires sound { IsSound (scope_in given.now) context.old }
+    ensures { OnOk result (FallsBack (given_of given.now) context.old context.new) }
+{
+    context.goals.table.fall_back_integers()?;
+    // That some assignment agrees with what is found out now is known of each table.
+    context.goals.table.lawful();
+    Ok(())
+}
+
+/// Selects what can be selected, and reads the associated types that nodes need with what that says.
+fn select_then_read(
+    alloc: Global,
+    context: &mut InferenceContext,
+    given: &GivenBody,
+) -> Result<(), AllocError>
+    requires of_body { IsOfBody given.now.body.now context.old.result }
+    requires sound { IsSound (scope_in given.now) context.old }
+    requires told { IsTold (given_of given.now) context.old }
+    ensures { OnOk result (SelectsThenReads (given_of given.now) context.old context.new) }
+{
+    select_obligations_where_possible(context, given)?;
+    read_all(alloc, context, given)?;
+    Ok(())
+}
+
+/// Does so until that binds no hole any more, at most as often as the facts let goals be followed: what is read may be what a goal is
+/// selected by.
+fn select_and_read_on(
+    alloc: Global,
+    context: &mut InferenceContext,
+    given: &GivenBody,
+) -> Result<(), AllocError>
+    requires of_body { IsOfBody given.now.body.now context.old.result }
+    requires sound { IsSound (scope_in given.now) context.old }
+    requires told { IsTold (given_of given.now) context.old }
+    ensures { OnOk result (SelectsAndReadsOn (given_of given.now) context.old context.new) }
+{
+    let limit = given.facts.raw().limits.goal_depth;
+    for _round in 0..limit {
+        let bound = context.goals.table.bound_count();
+        select_then_read(alloc, context, given)?;
+        if context.goals.table.bound_count() == bound {
+            return Ok(());
+        }
+    }
+    Ok(())
+}
+
+/// Selects what nodes of the body need, at the types known so far, and binds holes as that says: in the end without a bound.
 fn select(context: &mut InferenceContext, given: &GivenBody) -> Result<(), AllocError>
     requires item { context.old.goals.sources.item ≡ scope_item given.now.facts.now given.now.owner }
     requires done { BodyDone (given_of given.now) context.old }
@@ -27,42 +79,43 @@ fn select(context: &mut InferenceContext, given: &GivenBody) -> Result<(), Alloc
     Ok(())
 }
 
-/// Does so where the body is not plain, so that no types before fallback are kept. What a plain body needs are
-/// sizes, which bind nothing.
-pub fn select_where_possible(
-    context: &mut InferenceContext,
-    given: &GivenBody,
-) -> Result<(), AllocError>
-    requires item { context.old.goals.sources.item ≡ scope_item given.now.facts.now given.now.owner }
-    requires done { BodyDone (given_of given.now) context.old }
-    requires told { IsTold (given_of given.now) context.old }
-    ensures done { OnOk result (BodyDone (given_of given.now) context.new) }
-    ensures selection { OnOk result (context.old.result.general ≡ None → IsSelection given.now.facts.now given.now.owner given.now.body.now context.old context.new) }
-    ensures plain { StaysOfPlain context.old context.new }
-    ensures only { OnlyGoals context.old context.new }
-{
-    if context.result.general.is_some() {
-        Ok(())
-    } else {
-        select(context, given)
-    }
-}
-
-/// Reads the associated types that the needs of paths are about, with what is known once open integer holes have fallen back, where
-/// the body is not plain. A plain body needs none.
-pub fn read_where_possible(
+/// Selects what nodes need, lets open holes for integer types fall back, and selects and reads on; selection comes last.
+fn settle(
     alloc: Global,
     context: &mut InferenceContext,
     given: &GivenBody,
 ) -> Result<(), AllocError>
+    requires item { context.old.goals.sources.item ≡ scope_item given.now.facts.now given.now.owner }
     requires of_body { IsOfBody given.now.body.now context.old.result }
     requires done { BodyDone (given_of given.now) context.old }
-    ensures { OnOk result (ReadsLast (given_of given.now) context.old context.new) }
+    requires told { IsTold (given_of given.now) context.old }
+    ensures done { OnOk result (BodyDone (given_of given.now) context.new) }
+    ensures only { OnOk result (OnlyGoals context.old context.new) }
+    ensures settles { OnOk result (SettlesBody given.now.owner (given_of given.now) context.old context.new) }
 {
-    let kept = context.result.general.is_some();
-    if kept {
+    select_obligations_where_possible(context, given)?;
+    fall_back(context, given)?;
+    select_and_read_on(alloc, context, given)?;
+    select(context, given)?;
+    Ok(())
+}
+
+/// Does so where the body is not plain, so that no types before fallback are kept. What a plain body needs are
+/// sizes, which bind nothing, and no associated types.
+pub fn settle_where_possible(
+    alloc: Global,
+    context: &mut InferenceContext,
+    given: &GivenBody,
+) -> Result<(), AllocError>
+    requires item { context.old.goals.sources.item ≡ scope_item given.now.facts.now given.now.owner }
+    requires of_body { IsOfBody given.now.body.now context.old.result }
+    requires done { BodyDone (given_of given.now) context.old }
+    requires told { IsTold (given_of given.now) context.old }
+    ensures { OnOk result (SettlesLast given.now.owner (given_of given.now) context.old context.new) }
+{
+    if context.result.general.is_some() {
         return Ok(());
     }
-    read_all(alloc, context, given)?;
+    settle(alloc, context, given)?;
     Ok(())
 }

@@ -11,7 +11,7 @@ ghost use Rattle.infer_end.specs.Ends.{EndsWell, IsSelectedBody, ComesOfSelectio
 use crate::body::infer_body;
 use hir_facts::{DefWithBodyId, Facts, Goal};
 use infer_ctx::{GivenBody, InferenceContext};
-use infer_end::{keep_general, read_where_possible, select_where_possible};
+use infer_end::{keep_general, settle_where_possible};
 use infer_goals::{Answer, ObligationInspector};
 use infer_needs::{prove_needs, scope_item, tell_all};
 use infer_obligations::{let_types, own_types};
@@ -48,8 +48,7 @@ fn infer_holes(
     };
     infer_body(alloc, &mut context, &given)?;
     keep_general(alloc, &mut context, facts, def)?;
-    select_where_possible(&mut context, &given)?;
-    read_where_possible(alloc, &mut context, &given)?;
+    settle_where_possible(alloc, &mut context, &given)?;
     Ok(context)
 }
 

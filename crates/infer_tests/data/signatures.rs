@@ -15,3 +15,4 @@ pub fn conv<T: Tr<Out = U>, U>(x: T) -> U { loop {} }
 pub fn all<T: Tr>(x: T) -> Wrap<T::Out> { loop {} }
 pub fn pairs<T: Tr>(x: (T::Out, T), y: T::Out) {}
 pub fn child<T: Node>(x: T) -> T::Child { loop {} }
+pub fn of<T: At<U>, U>(x: T) -> U { loop {} }

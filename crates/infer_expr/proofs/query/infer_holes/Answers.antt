@@ -10,7 +10,7 @@ use Rattle.infer_needs.proofs.Holding.{same_body}
 use Rattle.infer_end.proofs.Definitions.{found_body, written_exist, inputs_for_params, output_carried, output_fine}
 use Rattle.infer_end.specs.Ends.{IsSelectedBody}
 use Rattle.infer_end.proofs.GeneralTables.{has_all_types, kept_done, keeps_goals, kept_told, ends_selected}
-use Rattle.infer_end.proofs.ReadLast.{goals_twice, stays_twice, kept_of_body, goals_of_body}
+use Rattle.infer_end.proofs.Settling.{kept_of_body}
 use Rattle.infer_expr.proofs.Start.{sources_in, goals_at_start}
 use Rattle.infer_expr.proofs.query.infer_holes.Goals as goal
 
@@ -56,39 +56,32 @@ infer_body-requires-clause-goals c =
     let is = found_body raw d c.in-Some.id b (sym c.in-Some.ensures) c.body-body.ensures in
     goals_at_start _ context c.in_ok-context.ensures.empty raw _ unused (sources_in raw c.lawful.ensures d b is context.goals.sources unused.facts (unused.scope ∙ c.scope_item.ensures))
 
-pub select_where_possible-requires-clause-item : goal.select_where_possible-requires-clause-item
-select_where_possible-requires-clause-item c =
+pub settle_where_possible-requires-clause-item : goal.settle_where_possible-requires-clause-item
+settle_where_possible-requires-clause-item c =
     let walked = c.infer_body.new.context in
     let mid = c.keep_general.new.context in
     let kept : mid.goals ≡ walked.goals = keeps_goals c.args.facts.now c.args.def walked mid c.in_ok-keep_general.ensures in
     ap (λ (t : GoalTable). t.sources.item) kept ∙ (ap (λ (z : ItemSources). z.item) c.in_ok-infer_body.ensures.sources ∙ (c.in_ok-context.ensures.goals.scope ∙ c.scope_item.ensures))
 
 -- what was told while the body was walked is told still, with its types before fallback
-pub select_where_possible-requires-clause-told : goal.select_where_possible-requires-clause-told
-select_where_possible-requires-clause-told c = kept_told _ c.args.facts.now c.args.def c.infer_body.new.context c.keep_general.new.context c.in_ok-infer_body.ensures.told c.in_ok-keep_general.ensures
+pub settle_where_possible-requires-clause-told : goal.settle_where_possible-requires-clause-told
+settle_where_possible-requires-clause-told c = kept_told _ c.args.facts.now c.args.def c.infer_body.new.context c.keep_general.new.context c.in_ok-infer_body.ensures.told c.in_ok-keep_general.ensures
 
-pub select_where_possible-requires-clause-done : goal.select_where_possible-requires-clause-done
-select_where_possible-requires-clause-done c = kept_done _ c.args.facts.now c.args.def c.infer_body.new.context c.keep_general.new.context c.in_ok-infer_body.ensures.done c.in_ok-keep_general.ensures
+pub settle_where_possible-requires-clause-done : goal.settle_where_possible-requires-clause-done
+settle_where_possible-requires-clause-done c = kept_done _ c.args.facts.now c.args.def c.infer_body.new.context c.keep_general.new.context c.in_ok-infer_body.ensures.done c.in_ok-keep_general.ensures
 
-pub read_where_possible-requires-clause-of_body : goal.read_where_possible-requires-clause-of_body
-read_where_possible-requires-clause-of_body c =
+pub settle_where_possible-requires-clause-of_body : goal.settle_where_possible-requires-clause-of_body
+settle_where_possible-requires-clause-of_body c =
     let g = given_by c.args.facts.now c.args.def c.body-body.result.now c.deref.result.now c.in_ok-own.own.output c.as_slice.result.now in
-    goals_of_body g c.keep_general.new.context c.select_where_possible.new.context c.select_where_possible.ensures.only
-    (kept_of_body g c.args.facts.now c.args.def c.infer_body.new.context c.keep_general.new.context c.in_ok-infer_body.ensures.read.settles.settles.binds.follows.of_body c.in_ok-keep_general.ensures)
+    kept_of_body g c.args.facts.now c.args.def c.infer_body.new.context c.keep_general.new.context c.in_ok-infer_body.ensures.read.settles.settles.binds.follows.of_body c.in_ok-keep_general.ensures
 
 pub returns-clause-ends : goal.returns-clause-ends
 returns-clause-ends c = λ ps js gs hs. (
     let raw = c.args.facts.now in
     let d = c.args.def in
-    let b = c.body-body.result.now in
-    let mid = c.keep_general.new.context in
-    let selected = c.select_where_possible.new.context in
-    let last = c.read_where_possible.new.context in
-    let only = c.select_where_possible.ensures.only in
-    let read = c.in_ok-read_where_possible.ensures in
-    ends_selected raw d c.in-Some.id b _ _ _ _ (sym c.in-Some.ensures) c.body-body.ensures (c.schedule.ensures.walkable _ c.body-body.ensures) (subst (λ xs. AreOwnTypes raw d xs c.in_ok-own.own.output) (sym c.deref.ensures.value) c.in_ok-own.ensures) (subst (AreLetTypes c.args.facts.now c.args.def c.body-body.result.now) (sym c.as_slice.ensures) c.in_ok-aliases.ensures) c.infer_body.new.context c.in_ok-infer_body.ensures.done c.lawful.ensures ps js gs hs
-    mid last c.in_ok-keep_general.ensures (goals_twice mid selected last only read.only) (stays_twice mid selected last only c.select_where_possible.ensures.plain read.plain)
-    read.done)
+    let settled = c.in_ok-settle_where_possible.ensures in
+    ends_selected raw d c.in-Some.id c.body-body.result.now _ _ _ _ (sym c.in-Some.ensures) c.body-body.ensures (c.schedule.ensures.walkable _ c.body-body.ensures) (subst (λ xs. AreOwnTypes raw d xs c.in_ok-own.own.output) (sym c.deref.ensures.value) c.in_ok-own.ensures) (subst (AreLetTypes c.args.facts.now c.args.def c.body-body.result.now) (sym c.as_slice.ensures) c.in_ok-aliases.ensures) c.infer_body.new.context c.in_ok-infer_body.ensures.done c.lawful.ensures ps js gs hs
+    c.keep_general.new.context c.settle_where_possible.new.context c.in_ok-keep_general.ensures settled.only settled.plain settled.done)
 
 pub returns-clause-selected : goal.returns-clause-selected
 returns-clause-selected c b is =
@@ -96,7 +89,7 @@ returns-clause-selected c b is =
     let d = c.args.def in
     let mid = c.keep_general.new.context in
     let same : c.body-body.result.now ≡ b = same_body raw d c.in-Some.id c.body-body.result.now b (sym c.in-Some.ensures) c.body-body.ensures is in
-    subst (λ (x : RawBody). IsSelectedBody raw d x c.read_where_possible.new.context) same (record {
+    subst (λ (x : RawBody). IsSelectedBody raw d x c.settle_where_possible.new.context) same (record {
       inputs = c.deref.result.now;
       output = c.in_ok-own.own.output;
       own = subst (λ xs. AreOwnTypes raw d xs c.in_ok-own.own.output) (sym c.deref.ensures.value) c.in_ok-own.ensures;
@@ -107,9 +100,5 @@ returns-clause-selected c b is =
       walked = mid;
       goals = keeps_goals raw d c.infer_body.new.context mid c.in_ok-keep_general.ensures;
       done = kept_done _ raw d c.infer_body.new.context mid c.in_ok-infer_body.ensures.done c.in_ok-keep_general.ensures;
-      selected = c.select_where_possible.new.context;
-      only = c.select_where_possible.ensures.only;
-      plain = c.select_where_possible.ensures.plain;
-      selection = λ none. c.in_ok-select_where_possible.ensures.selection none;
-      last = c.in_ok-read_where_possible.ensures;
+      last = c.in_ok-settle_where_possible.ensures;
     })
