@@ -68,10 +68,11 @@ fn unify_terms(
     judge(alloc, search, depth, &terms.aliases, &log)
 }
 
-/// What becomes of two types over holes of their own, in the scope of an item: a hole says itself what
-/// it may stand for. Parameters, opaque types and associated types that stay are the same as themselves
-/// alone, and `{unknown}` is the same as anything. In the place of an associated type that is to be read
-/// stands a hole, which is what that reads as, where it is known, and else has to be it.
+/// What becomes of two types over holes of their own, in the scope of an item. A hole says itself what
+/// it may stand for, so the list of the holes isn't looked at. Parameters, opaque types and associated
+/// types that stay are the same as themselves alone, and `{unknown}` is the same as anything. In the
+/// place of an associated type that is to be read stands a hole, which is what that reads as where it is
+/// known, and else has to be it.
 pub fn unification_of(
     alloc: Global,
     facts: &Facts,
