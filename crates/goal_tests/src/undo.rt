@@ -129,8 +129,22 @@ fn undoes_if_not_ok(rt: HostRuntime) -> Result<(), Fail> {
     let mut goals = table_of(alloc, &facts)?;
     register(alloc, &mut goals, Ty::Var(0))?;
     assert_eq!(rt; commit(alloc, &mut goals, false)?, Err(NoUnifier));
-    check(&rt, &goals, Ty::Var(0), [1, 0, 0, 0, 0])?;
+    check(&rt, &goals, Ty::Var(0), [1, 2, 0, 0, 0])?;
     assert_eq!(rt; commit(alloc, &mut goals, true)?, Ok(()));
-    check(&rt, &goals, Ty::Uint(UintTy::U8), [0, 2, 2, 1, 1])?;
+    check(&rt, &goals, Ty::Uint(UintTy::U8), [0, 4, 2, 1, 1])?;
+    Ok(())
+}
+
+#[test]
+fn counts_what_is_undone(rt: HostRuntime) -> Result<(), Fail> {
+    let alloc = rt.alloc();
+    let facts = facts(alloc)?;
+    let mut goals = table_of(alloc, &facts)?;
+    register(alloc, &mut goals, Ty::Var(0))?;
+    assert_eq!(rt; commit(alloc, &mut goals, false)?, Err(NoUnifier));
+    assert_eq!(rt; commit(alloc, &mut goals, false)?, Err(NoUnifier));
+    check(&rt, &goals, Ty::Var(0), [1, 4, 0, 0, 0])?;
+    assert_eq!(rt; commit(alloc, &mut goals, true)?, Ok(()));
+    check(&rt, &goals, Ty::Uint(UintTy::U8), [2, 4, 0, 1, 1])?;
     Ok(())
 }

@@ -16,15 +16,15 @@ use Rattle.infer_goals.specs.Obligations.{AreKept, IsAsleep, HasAllOf, HasAllOpe
 use Rattle.infer_goals.specs.Copying.{IsCopied}
 
 module _ (f : System) (o u : Obligations) (same : IsCopied o u) where
-  pub copied_kept : (raw : RawFacts) (s : State) → AreKept raw f s o → AreKept raw f s u
-  copied_kept raw s kept = record {
+  pub copied_kept : (raw : RawFacts) (s : State) → u.selected ≤ raw.limits.goal_steps → AreKept raw f s o → AreKept raw f s u
+  copied_kept raw s few kept = record {
     tree = copied_tree o.tree u.tree same.tree kept.tree;
     goals = λ i x e. kept.goals i x (subst (λ os. slice_get os i ≡ Some x) same.tree.obligations e);
     depths = λ i x e. kept.depths i x (subst (λ os. slice_get os i ≡ Some x) same.tree.obligations e);
     right = λ z filling meets i m n src x h e.
         subst (λ os. HasRightly raw f (answers f raw.limits.goal_depth).Alias z os x src m n) (sym same.tree.obligations)
         (kept.right z filling meets i m n src x (copied_source o.tree u.tree same.tree i m n src h) (subst (λ os. slice_get os i ≡ Some x) same.tree.obligations e));
-    selected = subst (λ n. n ≤ raw.limits.goal_steps) (sym same.selected) kept.selected;
+    selected = few;
   }
 
   copied_asleep : (s : State) (i : ℕ) → IsAsleep f s o.tree o.asleep i → IsAsleep f s u.tree u.asleep i

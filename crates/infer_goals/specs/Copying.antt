@@ -10,9 +10,9 @@ pub record AreCopied (z u : Sleepers) : Type 0 where
   pub asleep : u.asleep.items ≡ z.asleep.items
   pub seen : u.seen ≡ z.seen
 
--- the same goals with what selects them and their proofs; the same are to be looked at, and the same sleep
+-- the same goals with what selects them and their proofs; the same are to be looked at, and the same sleep. How many were selected is
+-- not in it.
 pub record IsCopied (o u : Obligations) : Type 0 where
   pub tree : IsTreeCopied o.tree u.tree
   pub todo : u.todo.items ≡ o.todo.items
   pub asleep : AreCopied o.asleep u.asleep
-  pub selected : u.selected ≡ o.selected

@@ -41,7 +41,7 @@ pub struct Obligations {
     todo: Vec<usize>,
     /// Those that nothing selects until more is known of their holes.
     asleep: Sleepers,
-    /// How many were selected while selection was bounded.
+    /// How many were selected while selection was bounded, with those of which this was undone.
     pub(crate) selected: u64,
 }
 
@@ -409,7 +409,8 @@ impl Obligations {
 
     /// A copy of all.
     pub fn dup(&self) -> Result<Obligations, AllocError>
-        ensures { IfOk result (λ copy. IsCopied self.now copy) }
+        ensures copied { IfOk result (λ copy. IsCopied self.now copy) }
+        ensures selected { IfOk result (λ copy. copy.selected ≡ self.now.selected) }
     {
         Ok(Obligations {
             alloc: self.alloc,

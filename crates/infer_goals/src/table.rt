@@ -290,7 +290,7 @@ impl<'a> GoalTable<'a> {
         self.obligations.tree.proofs()
     }
 
-    /// How many goals were selected while selection was bounded.
+    /// How many goals were selected while selection was bounded, with those of which this was undone.
     pub fn selected(&self) -> u64
         ensures { result ≡ self.now.obligations.selected }
     {

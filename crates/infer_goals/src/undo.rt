@@ -43,21 +43,23 @@ impl<'a> GoalTable<'a> {
         })
     }
 
-    /// Goes back to a snapshot that the table of holes grew from. What was told stays told.
+    /// Goes back to a snapshot that the table of holes grew from. What was told stays told, and what was selected stays counted.
     fn rollback_to(&mut self, snapshot: GoalSnapshot)
         requires { GrewFrom snapshot.table self.old.table }
         ensures table { Undoes snapshot.table self.old.table self.new.table }
         ensures kinds { self.new.table.substitution.kinds ≡ self.old.table.substitution.kinds }
         ensures bounded { self.new.bounded ≡ snapshot.bounded }
         ensures sources { self.new.sources ≡ self.old.sources }
-        ensures obligations { self.new.obligations ≡ snapshot.obligations }
+        ensures obligations { self.new.obligations ≡ record snapshot.obligations { selected = self.old.obligations.selected } }
         ensures told { self.new.told ≡ self.old.told }
         ensures uses { self.new.uses.items ≡ snapshot.uses.items }
         ensures projections { self.new.projections.items ≡ snapshot.projections.items }
     {
         self.table.rollback_to(snapshot.table);
         self.bounded = snapshot.bounded;
+        let selected = self.obligations.selected;
         self.obligations = snapshot.obligations;
+        self.obligations.selected = selected;
         self.uses = snapshot.uses;
         self.projections = snapshot.projections;
     }
@@ -74,9 +76,10 @@ impl<'a> GoalTable<'a> {
     }
 
     /// Keeps what the closure does where it answers `Ok(Ok(_))`, and where it answers `Ok(Err(_))` goes back: holes, goals with
-    /// what selects them, proofs, uses and entries of opaque types are then as before. What was told stays told, and holes that
-    /// were made stay made. Answers what the closure answered. Each call costs a copy of what is registered. Where memory runs
-    /// out nothing is undone.
+    /// what selects them, proofs, uses and entries of opaque types are then as before. What was told stays told, holes that were
+    /// made stay made, and what was selected stays counted: so where closures fail again and again, no more goals are selected in
+    /// all than the facts let be. Answers what the closure answered. Each call costs a copy of what is registered. Where memory
+    /// runs out nothing is undone.
     pub fn commit_if_ok<T, E, F: FnOnce(&mut GoalTable<'a>) -> Result<Result<T, E>, AllocError>>(
         &mut self,
         f: F,

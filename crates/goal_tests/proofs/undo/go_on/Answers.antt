@@ -35,7 +35,12 @@ returns-clause-goes_on c =
     let same : five.table ≡ three.table = c.enter_hidden.ensures.table ∙ c.note_use.ensures.table in
     let first : one.sources ≡ before.sources = c.register.ensures.sources in
     let last : five.sources ≡ one.sources = c.enter_hidden.ensures.sources ∙ (c.note_use.ensures.sources ∙ c.select_obligations_where_possible.ensures.sources) in
-    record { table = subst (λ s. Grew before.table s) (sym same) grew; sources = last ∙ first }
+    let selects = c.in_ok-select_obligations_where_possible.ensures in
+    let noted = c.note_use.ensures in
+    let entered = c.enter_hidden.ensures in
+    let keeps : KeepsGoals five =
+    keeps_same four five (keeps_same three four (record { kept = selects.kept; all = selects.all }) noted.table noted.sources noted.obligations) entered.table entered.sources entered.obligations in
+    record { table = subst (λ s. Grew before.table s) (sym same) grew; sources = last ∙ first; selected = keeps.kept.selected }
 
 pub returns-clause-keeps : goal.returns-clause-keeps
 returns-clause-keeps c =

@@ -35,7 +35,7 @@ returns-in-Err-clause-kept g c =
     let on : GoesOn before during = c.requires.goes_on (Ok (Err c.in-Err.refusal)) during ran in
     let back = goes_back before during after shot.table shot.bounded shot.obligations taken.table taken.obligations taken.bounded on
     put.table put.kinds put.bounded put.sources put.obligations put.told (put.uses ∙ taken.uses) (put.projections ∙ taken.projections) in
-    kept_back before during after back c.requires.kept
+    kept_back before during after on back c.requires.kept
 
 pub returns-in-Err-clause-all : goal.returns-in-Err-clause-all
 returns-in-Err-clause-all g c =
@@ -49,4 +49,4 @@ returns-in-Err-clause-all g c =
     let on : GoesOn before during = c.requires.goes_on (Ok (Err c.in-Err.refusal)) during ran in
     let back = goes_back before during after shot.table shot.bounded shot.obligations taken.table taken.obligations taken.bounded on
     put.table put.kinds put.bounded put.sources put.obligations put.told (put.uses ∙ taken.uses) (put.projections ∙ taken.projections) in
-    all_back before during after back c.requires.all
+    all_back before during after on back c.requires.all
