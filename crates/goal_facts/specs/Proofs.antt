@@ -1,5 +1,5 @@
 -- Lists of proofs: what a source asks for, and that each proof of a list holds.
-use Rattle.std.specs.Prelude.{◌≡◌, ◌⊎◌, ◌<◌, ℕ, true, List, [], ◌∷◌, map, slice_get, Option, Some}
+use Rattle.std.specs.Prelude.{◌≡◌, ◌⊎◌, ◌<◌, ℕ, true, List, [], ◌∷◌, length, map, slice_get, Option, Some}
 use Rattle.hir_types.specs.declared.ids.ImplId.{ImplId}
 use Rattle.hir_types.specs.declared.goal.Goal.{Goal}
 use Rattle.hir_types.specs.declared.head.Hole.{Hole}
@@ -54,10 +54,11 @@ pub record IsClause (f : System) (P : Aliases) (g : Asked) (c : Goal) (qs : List
   pub same : IsSame P clause.head g
   pub asks : qs ≡ clause.preds
 
--- one of the rules of an impl, at the arguments
+-- one of the rules of an impl, at an argument for each of its parameters
 pub record IsImplAt (raw : RawFacts) (P : Aliases) (s : Fill) (g : Asked) (id : ImplId) (xs : List GenericArg) (qs : List Asked) : Type 0 where
   pub item : RawImpl
   pub listed : slice_get raw.impls id.0 ≡ Some item
+  pub as_many : length xs ≡ length item.params
   pub at : ℕ
   pub rule : Rule
   pub of : slice_get (impl_rules raw item) at ≡ Some rule

@@ -42,7 +42,7 @@ use Rattle.goal_prove.specs.Entries.{AddsProofs, IsProofAt, IsPushed}
 use Rattle.goal_prove.proofs.Adding.{adds_none, adds_then, adds_one, found_last}
 use Rattle.goal_prove.proofs.Aliases.{aliases_good}
 use Rattle.goal_prove.proofs.Fitting.{yes_here, may_here, unshadowed_here}
-use Rattle.goal_prove.proofs.Impled.{IsFilled, rule_filled, preds_good, fill_is}
+use Rattle.goal_prove.proofs.Impled.{IsFilled, rule_filled, preds_good, fill_args_length, fill_is}
 
 -- ---- what was pushed
 
@@ -246,6 +246,7 @@ module _ (raw : RawFacts) (item : GenericDefId) (f : System) (of : IsSystemOf ra
             record {
               item = impl;
               listed = has.1;
+              as_many = fill_args_length (log_of x.fills.items) count ∙ counted;
               at = has.2.0;
               rule = fit.rule;
               of = has.2.1;

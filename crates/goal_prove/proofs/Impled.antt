@@ -29,7 +29,7 @@ use Rattle.goal_facts.specs.Proofs.{arg_at, args_fill}
 use Rattle.goal_facts.proofs.Adding.{get_in_map}
 use Rattle.goal_facts.proofs.FreshGoals.{args_holes}
 use Rattle.goal_facts.proofs.Typed.{type_read_back}
-use Rattle.goal_select.proofs.Params.{counted_at}
+use Rattle.goal_select.proofs.Params.{counted_at, counted_length}
 use Rattle.goal_prove.specs.Written.{IsOfType, IsGood, AreGood, IsGoodGoal, AliasIsGood}
 use Rattle.goal_prove.specs.Asking.{type_or_unknown, fill_args}
 use Rattle.goal_prove.proofs.Holes.{whole_stays}
@@ -119,6 +119,10 @@ module _ (A : Aliases) (one : IsOne A) (alias_good : AliasIsGood A) (raw : RawFa
 type_back : (o : Option Term) → IsOfType (given o) → term (type_or_unknown o) ≡ given o
 type_back (Some t) is = sym (type_read_back t is)
 type_back None is = absurd (no_leaf head.End is.0 is.1)
+
+-- one for each parameter
+pub fill_args_length : (l : Log) (n : ℕ) → length (fill_args l n) ≡ n
+fill_args_length l n = counted_length (λ k. arg.Ty (type_or_unknown (found l (hole_of.Ty k)))) 0 n
 
 module _ (l : Log) (n : ℕ) (s : Fill) where
   -- for a parameter's hole stands its type

@@ -1,11 +1,13 @@
 -- A goal that is selected by a rule.
+use Rattle.std.specs.Prelude.{option_map}
 use Rattle.std.proofs.Common.{◌≡◌, ◌<◌, inl, ℕ, Bool, true, false, refl, sym, ap, ap₂, ◌∙◌, subst, List, [], ◌∷◌, length, map, slice_get, Some}
 use Rattle.hir_types.specs.declared.ids.GenericDefId.TheVariants as generic
 use Rattle.hir_types.specs.declared.head.HoleKind.{HoleKind}
 use Rattle.hir_types.specs.Folds.{map_twice}
 use Rattle.hir_types.specs.Terms.{apply}
 use Rattle.hir_raw.specs.declared.raw.RawFacts.{RawFacts}
-use Rattle.hir_raw.specs.Scope.{generic_params}
+use Rattle.hir_raw.specs.declared.raw.RawImpl.{RawImpl}
+use Rattle.hir_raw.specs.Scope.{count_or_none, generic_params}
 use Rattle.infer_table.specs.Solutions.{AreOf}
 use Rattle.infer_table.specs.LogLemmas.{are_of_more}
 use Rattle.infer_table.specs.Table.{State, hole_count, Grew}
@@ -22,7 +24,7 @@ use Rattle.goal_facts.specs.Proofs.{filled_goal, args_fill}
 use Rattle.goal_select.specs.Steps.{GoalIsOf, with_type_holes}
 use Rattle.goal_select.proofs.Choices.{same_kind}
 use Rattle.goal_select.proofs.PartChoices.{each_from_map}
-use Rattle.goal_select.proofs.Params.{at_params, with_types, fresh_of}
+use Rattle.goal_select.proofs.Params.{params_length, at_params, with_types, fresh_of}
 
 -- ---- the rule that is chosen
 
@@ -72,6 +74,11 @@ fresh_preds_of kinds n (q ∷ qs) h = (fresh_of kinds n q.parts h.0, fresh_preds
 module _ (raw : RawFacts) (s : State) (r : Rule) (made : RuleGoals) (are : AreGoalsOf raw (hole_count s) r made) where
   abbrev pub params : ℕ
   params = generic_params raw (generic.ImplId made.source)
+
+  -- one for each parameter of the impl
+  pub args_counted : length made.args ≡ length are.source.0.params
+  args_counted =
+      ap length are.args ∙ (params_length (hole_count s) params ∙ ap (λ o. count_or_none (option_map (λ (x : RawImpl). length x.params) o)) are.source.1)
 
   -- as at the arguments
   pub preds_filled : (t : Fill) → map (filled_goal t) made.preds.items ≡ map (asked_at (args_fill t made.args)) r.preds

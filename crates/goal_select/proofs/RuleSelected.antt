@@ -28,7 +28,7 @@ use Rattle.goal_select.proofs.PartChoices.{each_mapped, each_from_map}
 use Rattle.goal_select.proofs.Choices.{chosen_deep, goal_reads, unshadowed, right_source}
 use Rattle.goal_select.proofs.Params.{type_holes_grew}
 use Rattle.goal_select.proofs.RuleSteps.{rule_can, rule_united}
-use Rattle.goal_select.proofs.RuleChoices.{IsRuleFor, rule_only, rule_for, params, preds_filled, head_filled, preds_of}
+use Rattle.goal_select.proofs.RuleChoices.{IsRuleFor, rule_only, rule_for, params, args_counted, preds_filled, head_filled, preds_of}
 
 module _ (raw : RawFacts) (f : System) (n : ℕ) (k : TraitRef) (i : ℕ) (selects : Selects f n (trait_goal k) (by_rule i)) (before : State) (acyclic : Triangular (log before)) (made_holes : AllOf before.substitution.kinds (bindings before))
     (g : Goal) (of : GoalIsOf before g) (known : known_goal before g ≡ goal.Trait k) (r : Rule) (at : slice_get f.rules i ≡ Some r) (goals : RuleGoals) (are : AreGoalsOf raw (hole_count before) r goals) (h : TraitRef) (head : goals.head ≡ goal.Trait h) where
@@ -64,6 +64,7 @@ module _ (raw : RawFacts) (f : System) (n : ℕ) (k : TraitRef) (i : ℕ) (selec
       record {
         item = are.source.0;
         listed = are.source.1;
+        as_many = args_counted raw before r goals are;
         at = are.source.2.0;
         rule = r;
         of = are.source.2.1;

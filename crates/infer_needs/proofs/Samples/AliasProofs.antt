@@ -39,7 +39,7 @@ module _ (s : System) (of : IsSystemOf facts own s) (A : Aliases) (p : Fill) whe
   out_holds ps n =
       let g = found_as u8_term bool_term in
       let is : g ≡ filled_goal p (asks_out u8 ty.Bool) = sym (ap (asked_at p) out_asks) in
-      let impl = is_alias_source (i 0) for_u8 u8_term bool_term [] refl u8_rules A p [] u8_term bool_term [] refl refl (tt, tt) (tt, tt) in
+      let impl = is_alias_source (i 0) for_u8 u8_term bool_term [] refl u8_rules A p [] u8_term bool_term [] refl refl refl (tt, tt) (tt, tt) in
       record {
         asks = [];
         source = subst (λ a. IsSource facts s A p a (source.Impl (i 0) []) []) is (unshadowed s of A g (((tt, (tt, tt)), tt), (tt, tt)), impl);

@@ -1,6 +1,6 @@
 -- Lists of proofs over `Impls`: what is refused beside what is taken. A proof names the impl that is for its type, at the arguments at
 -- which it is, and rests on proofs of what this asks for.
-use Rattle.std.proofs.Common.{ℕ, zero, suc, ◌<◌, ◌≤◌, ◌≡◌, List, [], ◌∷◌, refl, sym, ap, subst, ◌∙◌, arith, Some, slice_get}
+use Rattle.std.proofs.Common.{ℕ, zero, suc, ◌<◌, ◌≤◌, ◌≡◌, List, [], ◌∷◌, length, refl, sym, ap, subst, ◌∙◌, arith, Some, slice_get}
 use Rattle.hir_types.specs.declared.head.Hole.TheVariants as hole_of
 use Rattle.hir_types.specs.declared.ids.ImplId.{ImplId}
 use Rattle.hir_types.specs.declared.ty.Ty.{Ty}
@@ -8,6 +8,7 @@ use Rattle.hir_types.specs.declared.ty.Ty.TheVariants as ty
 use Rattle.hir_types.specs.declared.ty.UintTy.TheVariants as uint
 use Rattle.hir_types.specs.Terms.{Term, apply, term}
 use Rattle.hir_types.specs.TermLaws.{term_bool, term_uint}
+use Rattle.hir_raw.specs.declared.raw.RawImpl.{RawImpl}
 use Rattle.hir_raw.specs.Signatures.{type_args}
 use Rattle.goal_answers.specs.Reading.{Fill, Aliases}
 use Rattle.goal_answers.specs.Goals.{System, asked_at, only}
@@ -37,6 +38,9 @@ types_differ h = cc
 same_entry : (ps : List Proof) (k : ℕ) (x y : Proof) → slice_get ps k ≡ Some x → slice_get ps k ≡ Some y → x ≡ y
 same_entry ps k x y h g = cc
 
+same_item : (x y : RawImpl) → Some x ≡ Some y → x ≡ y
+same_item x y h = cc
+
 arguments_differ : only (w_term bool_term) ≡ only (w_term u8_term) → ⊥
 arguments_differ h = cc
 
@@ -52,6 +56,14 @@ module _ (s : System) (A : Aliases) (p : Fill) (ps : List Proof) (n : ℕ) where
       let of = trait_source (i 0) for_u8 u8_term bool_term [] refl u8_rules A p (type_args xs) (filled_goal p x.goal) holds.asks refl holds.source.1 in
       let same : IsSame A (implemented u8_term) (implemented bool_term) = subst (IsSame A (implemented u8_term)) goal of.0 in
       let clash : only u8_term ≡ only bool_term = same_bare A (implemented u8_term) (implemented bool_term) ((tt, (tt, tt)), tt) ((tt, (tt, tt)), tt) same in
+      cc)
+
+  -- by the impl for its type, which has no parameter, at an argument
+  pub one_argument : (t : Ty) (children : List ℕ) → slice_get ps n ≡ Some (by_impl u8 0 (t ∷ []) children) → AreProofs facts s A p ps → ⊥
+  one_argument t children is h =
+      (let impl = (h n (by_impl u8 0 (t ∷ []) children) is).source.1 in
+      let item : for_u8 ≡ impl.item = same_item for_u8 impl.item impl.listed in
+      let clash : 1 ≡ 0 = impl.as_many ∙ ap (λ (x : RawImpl). length x.params) (sym item) in
       cc)
 
   module _ (xs : List Ty) (children : List ℕ) (is : slice_get ps n ≡ Some (by_impl (w_of u8) 2 xs children)) (h : AreProofs facts s A p ps) where
@@ -117,7 +129,7 @@ module _ (s : System) (of : IsSystemOf facts own s) (A : Aliases) (p : Fill) (ps
   u8_holds n =
       let g = implemented u8_term in
       let is : g ≡ filled_goal p (asks u8) = sym (ap (asked_at p) asks_u8) in
-      let impl = is_trait_source (i 0) for_u8 u8_term bool_term [] refl u8_rules A p [] u8_term [] refl refl (tt, tt) in
+      let impl = is_trait_source (i 0) for_u8 u8_term bool_term [] refl u8_rules A p [] u8_term [] refl refl refl (tt, tt) in
       record {
         asks = [];
         source = subst (λ a. IsSource facts s A p a (source.Impl (i 0) []) []) is (unshadowed s of A g ((tt, (tt, tt)), tt), impl);
@@ -132,7 +144,7 @@ module _ (s : System) (of : IsSystemOf facts own s) (A : Aliases) (p : Fill) (ps
       let is : g ≡ filled_goal p (asks (w_of u8)) = sym (ap (asked_at p) asks_w) in
       let fill : args_fill p (type_args (u8 ∷ [])) (hole_of.Ty 0) ≡ u8_term = argument p u8 u8_term (term_uint uint.U8) refl in
       let impl = is_trait_source (i 2) for_w (w_term param) bool_term (implemented param ∷ []) refl w_rules A p (type_args (u8 ∷ [])) (w_term u8_term) (implemented u8_term ∷ [])
-      (ap (λ z. implemented (w_term z)) fill) (ap (λ z. implemented z ∷ []) fill) (tt, ((tt, (tt, tt)), tt)) in
+      (ap (λ z. implemented (w_term z)) fill) (ap (λ z. implemented z ∷ []) fill) refl (tt, ((tt, (tt, tt)), tt)) in
       let child : IsSame A (filled_goal p (asks u8)) (implemented u8_term) =
       subst (λ a. IsSame A a (implemented u8_term)) (sym (ap (asked_at p) asks_u8)) (bare_same A (implemented u8_term) ((tt, (tt, tt)), tt)) in
       record {

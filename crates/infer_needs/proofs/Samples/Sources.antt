@@ -1,5 +1,5 @@
 -- Which goals the impls of `Impls` are sources of, whatever aliases read as and whatever stands for holes.
-use Rattle.std.proofs.Common.{ℕ, zero, suc, ◌≡◌, ◌⊎◌, inl, inr, List, [], ◌∷◌, map, refl, sym, ap, ap₂, subst, ◌∙◌, true, false, true≢false, Some, slice_get}
+use Rattle.std.proofs.Common.{ℕ, zero, suc, ◌≡◌, ◌⊎◌, inl, inr, List, [], ◌∷◌, length, map, refl, sym, ap, ap₂, subst, ◌∙◌, true, false, true≢false, Some, slice_get}
 use Rattle.hir_types.specs.declared.goal.Goal.{Goal}
 use Rattle.hir_types.specs.declared.goal.Goal.TheVariants as goal
 use Rattle.hir_types.specs.declared.head.Head.TheVariants as head
@@ -130,10 +130,11 @@ module _ (n : ImplId) (p : RawImpl) (t u : Term) (preds : List Asked) (listed : 
     alias_source g qs kind h = let q = rule_is g qs h in of_alias g qs kind q.0 q.1 q.2 q.3
 
     -- and of these it is
-    pub is_trait_source : (g : Term) (qs : List Asked) → at_args (implemented t) ≡ implemented g → map at_args preds ≡ qs → IsBare g → IsImplAt facts A s (implemented g) n xs qs
-    is_trait_source g qs head asks bare = record {
+    pub is_trait_source : (g : Term) (qs : List Asked) → at_args (implemented t) ≡ implemented g → map at_args preds ≡ qs → length xs ≡ length p.params → IsBare g → IsImplAt facts A s (implemented g) n xs qs
+    is_trait_source g qs head asks many bare = record {
       item = p;
       listed = listed;
+      as_many = many;
       «at» = 0;
       rule = record { head = implemented t; preds = preds };
       of = subst (λ rs. slice_get rs 0 ≡ Some (record { head = implemented t; preds = preds })) (sym rules) refl;
@@ -141,10 +142,11 @@ module _ (n : ImplId) (p : RawImpl) (t u : Term) (preds : List Asked) (listed : 
       asks = sym asks;
     }
 
-    pub is_alias_source : (g h : Term) (qs : List Asked) → at_args (found_as t u) ≡ found_as g h → map at_args preds ≡ qs → IsBare g → IsBare h → IsImplAt facts A s (found_as g h) n xs qs
-    is_alias_source g h qs head asks bare other = record {
+    pub is_alias_source : (g h : Term) (qs : List Asked) → at_args (found_as t u) ≡ found_as g h → map at_args preds ≡ qs → length xs ≡ length p.params → IsBare g → IsBare h → IsImplAt facts A s (found_as g h) n xs qs
+    is_alias_source g h qs head asks many bare other = record {
       item = p;
       listed = listed;
+      as_many = many;
       «at» = 1;
       rule = record { head = found_as t u; preds = preds };
       of = subst (λ rs. slice_get rs 1 ≡ Some (record { head = found_as t u; preds = preds })) (sym rules) refl;

@@ -29,7 +29,7 @@ use Rattle.infer_result.specs.Needs.{HasGap, HoldsNoHole, IsProved, GoalsHold, N
 use Rattle.infer_result.proofs.Samples.Small.{e, u8, one_u8}
 use Rattle.infer_needs.proofs.Samples.Impls.{tr, out, facts, own, own_body, for_bool, for_w, u8_term, char_term, implemented, found_as, u8_rules, no_clauses}
 use Rattle.infer_needs.proofs.Samples.Sources.{asks_out_is, w_of}
-use Rattle.infer_needs.proofs.Samples.ImplProofs.{by_impl, other_type, no_child}
+use Rattle.infer_needs.proofs.Samples.ImplProofs.{by_impl, other_type, one_argument, no_child}
 use Rattle.infer_needs.proofs.Samples.AliasProofs.{not_char}
 use Rattle.infer_needs.proofs.Samples.Needed.{given, table_of, no_needs, needed}
 
@@ -113,6 +113,7 @@ wrong_clash l r n m t has h = let x = (h.gaps n (gap.Clash m (ty.Projection out 
 pub no_clash : (l : RawLiteral) (r : InferenceResult) (n m : ExprOrPatId) (a t : Ty) → HasGap r n (gap.Clash m a t t) → GoalsHold own_body (given l) r → ⊥
 no_clash l r n m a t has h = (h.gaps n (gap.Clash m a t t) has).1.differ refl
 
+<<<<<<< HEAD
 -- an entry in whose type a hole stands, and a complaint of one
 pub open_entry : (l : RawLiteral) (r : InferenceResult) (n m : ℕ) (a : Ty) → slice_get r.projections n ≡ Some (a, ty.Var m) → GoalsHold own_body (given l) r → ⊥
 open_entry l r n m a is h = subst HoldsNoHole (term_var m) (h.found.each n (a, ty.Var m) is).whole.1
@@ -121,8 +122,14 @@ pub open_clash : (l : RawLiteral) (r : InferenceResult) (n k : ExprOrPatId) (m :
 open_clash l r n k m a t has h = subst HoldsNoHole (term_var m) (h.gaps n (gap.Clash k a t (ty.Var m)) has).1.whole.1
 
 -- a proof of `bool: Tr` by the impl for `u8`, and one of `W<u8>: Tr` without its child
+=======
+-- a proof of `bool: Tr` by the impl for `u8`, one of `u8: Tr` by it at an argument, and one of `W<u8>: Tr` without its child
+>>>>>>> 91b2bdf08dcf5a92ec09e1a25e135c999ae78266
 pub wrong_proof : (l : RawLiteral) (r : InferenceResult) (n : ℕ) (xs : List Ty) (children : List ℕ) → slice_get r.proofs n ≡ Some (by_impl ty.Bool 0 xs children) → GoalsHold own_body (given l) r → ⊥
 wrong_proof l r n xs children is h = other_type h.system (answers h.system 8).Alias hole r.proofs n xs children is (h.proofs hole hole_filling)
+
+pub one_more_proof : (l : RawLiteral) (r : InferenceResult) (n : ℕ) (t : Ty) (children : List ℕ) → slice_get r.proofs n ≡ Some (by_impl u8 0 (t ∷ []) children) → GoalsHold own_body (given l) r → ⊥
+one_more_proof l r n t children is h = one_argument h.system (answers h.system 8).Alias hole r.proofs n t children is (h.proofs hole hole_filling)
 
 pub childless_proof : (l : RawLiteral) (r : InferenceResult) (n : ℕ) (xs : List Ty) → slice_get r.proofs n ≡ Some (by_impl (w_of u8) 2 xs []) → GoalsHold own_body (given l) r → ⊥
 childless_proof l r n xs is h = no_child h.system (answers h.system 8).Alias hole r.proofs n xs [] is (h.proofs hole hole_filling) refl
