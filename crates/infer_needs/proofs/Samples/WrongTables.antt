@@ -113,7 +113,6 @@ wrong_clash l r n m t has h = let x = (h.gaps n (gap.Clash m (ty.Projection out 
 pub no_clash : (l : RawLiteral) (r : InferenceResult) (n m : ExprOrPatId) (a t : Ty) → HasGap r n (gap.Clash m a t t) → GoalsHold own_body (given l) r → ⊥
 no_clash l r n m a t has h = (h.gaps n (gap.Clash m a t t) has).1.differ refl
 
-<<<<<<< HEAD
 -- an entry in whose type a hole stands, and a complaint of one
 pub open_entry : (l : RawLiteral) (r : InferenceResult) (n m : ℕ) (a : Ty) → slice_get r.projections n ≡ Some (a, ty.Var m) → GoalsHold own_body (given l) r → ⊥
 open_entry l r n m a is h = subst HoldsNoHole (term_var m) (h.found.each n (a, ty.Var m) is).whole.1
@@ -121,10 +120,7 @@ open_entry l r n m a is h = subst HoldsNoHole (term_var m) (h.found.each n (a, t
 pub open_clash : (l : RawLiteral) (r : InferenceResult) (n k : ExprOrPatId) (m : ℕ) (a t : Ty) → HasGap r n (gap.Clash k a t (ty.Var m)) → GoalsHold own_body (given l) r → ⊥
 open_clash l r n k m a t has h = subst HoldsNoHole (term_var m) (h.gaps n (gap.Clash k a t (ty.Var m)) has).1.whole.1
 
--- a proof of `bool: Tr` by the impl for `u8`, and one of `W<u8>: Tr` without its child
-=======
 -- a proof of `bool: Tr` by the impl for `u8`, one of `u8: Tr` by it at an argument, and one of `W<u8>: Tr` without its child
->>>>>>> 91b2bdf08dcf5a92ec09e1a25e135c999ae78266
 pub wrong_proof : (l : RawLiteral) (r : InferenceResult) (n : ℕ) (xs : List Ty) (children : List ℕ) → slice_get r.proofs n ≡ Some (by_impl ty.Bool 0 xs children) → GoalsHold own_body (given l) r → ⊥
 wrong_proof l r n xs children is h = other_type h.system (answers h.system 8).Alias hole r.proofs n xs children is (h.proofs hole hole_filling)
 
