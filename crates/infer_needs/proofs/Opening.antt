@@ -41,5 +41,5 @@ pub answered_no : (f : System) (n : ℕ) (a : Asked) (x : Answer) → x ≡ answ
 answered_no f n a x is h = subst (IsAnswer f n (opened_goal a)) is h
 
 pub not_no : (f : System) (n : ℕ) (a : Asked) (x : Answer) → (x ≡ answer.Yes) ⊎ (x ≡ answer.Undecided) → IsAnswer f n (opened_goal a) x → CannotHold f n a → ⊥
-not_no f n a x (inl is) h no = (answers_are_one f n n).0 (opened_goal a) (subst (IsAnswer f n (opened_goal a)) is h) no
-not_no f n a x (inr is) h no = (subst (IsAnswer f n (opened_goal a)) is h).1 no
+not_no f n a x (inl is) h fails = (answers_are_one f n n).0 (opened_goal a) (subst (IsAnswer f n (opened_goal a)) is h) fails
+not_no f n a x (inr is) h fails = (subst (IsAnswer f n (opened_goal a)) is h).1 fails

@@ -67,7 +67,7 @@ answer_is_no : (n : ℕ) (t : Term) → IsRead t → (answers sources (suc n)).N
 answer_is_no n t read =
     let v = answers sources n in
     let A = (answers sources (suc n)).Alias in
-    (only (alone t), read_reads A (only (alone t)) ((tt, (tt, ((tt, read), tt))), tt), (tt, (tt, no_source t A v)))
+    (only (alone t), read_reads A (only (alone t)) ((tt, (tt, ((tt, read), tt))), tt), (tt, tt, no_source t A v))
 
 pub cannot_hold : (n : ℕ) → CannotHold sources (suc n) (implemented (alone unknown))
 cannot_hold n = answer_is_no n (hole (hole_of.Ty 0)) tt
@@ -83,8 +83,8 @@ not_known A w (x, y, whole, (m, z, first, m_is, z_is), y_is) known =
     subst IsKnown (whole ∙ ap (λ i. pair i y) (first ∙ ap (λ i. pair m i) z_is)) known
 
 not_refuted : (n : ℕ) → CannotHold sources n (implemented unknown) → ⊥
-not_refuted zero (w, reads, among, known, rest) = not_known (answers sources 0).Alias w reads known
-not_refuted (suc n) (w, reads, known, rest) = not_known (answers sources (suc n)).Alias w reads known
+not_refuted zero (x, reads, among, no_at) = not_known (answers sources 0).Alias x reads no_at.0
+not_refuted (suc n) (x, reads, no_at) = not_known (answers sources (suc n)).Alias x reads no_at.0
 
 pub may_hold : (n : ℕ) → MayHold sources n (implemented unknown)
 may_hold n = (inl (inr (inl tt)), not_refuted n)
