@@ -1,6 +1,6 @@
 -- Goals in which `{unknown}` stands, over the facts of `Impls`: `({unknown},): Tr` holds with no type in its place, so it is said to have no
 -- proof; of `{unknown}: Tr` nothing is to be said.
-use Rattle.std.proofs.Common.{ℕ, zero, suc, ◌≡◌, inl, inr, [], ◌∷◌, refl, sym, ap, subst, ◌∙◌, true≢false, Some, slice_get}
+use Rattle.std.proofs.Common.{ℕ, zero, suc, ◌≡◌, inl, inr, [], ◌∷◌, sym, ap, subst, ◌∙◌, true≢false, Some, slice_get}
 use Rattle.hir_types.specs.declared.head.Head.TheVariants as head
 use Rattle.hir_types.specs.declared.head.Hole.TheVariants as hole_of
 use Rattle.hir_types.specs.declared.ids.ExprOrPatId.{ExprOrPatId}
@@ -11,19 +11,24 @@ use Rattle.hir_types.specs.Terms.{Term, hole, leaf, pair, node, type_part, apply
 use Rattle.hir_types.specs.TermLaws.{term_error, term_tuple}
 use Rattle.hir_raw.specs.declared.raw.RawLiteral.{RawLiteral}
 use Rattle.hir_raw.specs.declared.raw.RawLiteral.TheVariants as literal
-use Rattle.goal_answers.specs.Reading.{IsRead, Aliases, Reads}
-use Rattle.goal_answers.specs.Goals.{Asked, Verdicts, implements, projects, only, IsKnown, Each}
+use Rattle.goal_answers.specs.Reading.{Fill, IsFilling, IsRead, Aliases, Reads}
+use Rattle.goal_answers.specs.Goals.{Asked, System, Verdicts, implements, projects, only, asked_at, IsKnown, Each}
 use Rattle.goal_answers.specs.Answers.{IsApart, RuleIsRefuted, HasNoSource, answers}
+use Rattle.goal_answers.proofs.Filled.{decided_answers_stay}
 use Rattle.goal_answers.proofs.One.{answers_are_one}
 use Rattle.goal_answers.proofs.Readings.{read_reads}
 use Rattle.goal_facts.specs.Goals.{asked_goal}
 use Rattle.infer_result.specs.declared.gaps.Gap.TheVariants as gap
 use Rattle.infer_result.specs.declared.result.InferenceResult.{InferenceResult}
-use Rattle.infer_result.specs.CannotHold.{CannotHold, MayHold}
+use Rattle.infer_result.specs.CannotHold.{opened_goal, CannotHold, MayHold}
 use Rattle.infer_result.specs.Needs.{HoldsUnknown, HoldsNoHole, IsTrueUnproved}
 use Rattle.infer_needs.proofs.Samples.Impls.{tr, out, u8_term, bool_term, w_term, param, implemented, rules_are}
 use Rattle.infer_needs.proofs.Samples.Sources.{asks, asks_is}
 use Rattle.infer_needs.proofs.Samples.Needed.{given, table_of, path_node, needs_are, sources, are_sources}
+
+-- what cannot hold holds with no types in the places of `{unknown}`
+pub holds_nowhere : (f : System) (n : ℕ) (a : Asked) → CannotHold f n a → (s : Fill) → IsFilling s → (answers f n).Yes (asked_at s (opened_goal a)) → ⊥
+holds_nowhere f n a h s filling yes_at = (answers_are_one f n n).0 (asked_at s (opened_goal a)) yes_at ((decided_answers_stay f n s filling).1 (opened_goal a) h)
 
 abbrev unknown : Term
 unknown = node head.Error []
@@ -78,8 +83,8 @@ may_not n h = h.1 (cannot_hold n)
 
 -- ---- the hole in the place of a type alone is not known
 
-not_known : (A : Aliases) (w : Term) → Reads A hole (only (hole (hole_of.Ty 0))) w → IsKnown w → ⊥
-not_known A w (x, y, whole, (m, z, first, m_is, z_is), y_is) known =
+not_known : (A : Aliases) (u : Term) → Reads A hole (only (hole (hole_of.Ty 0))) u → IsKnown u → ⊥
+not_known A u (x, y, whole, (m, z, first, m_is, z_is), y_is) known =
     subst IsKnown (whole ∙ ap (λ i. pair i y) (first ∙ ap (λ i. pair m i) z_is)) known
 
 not_refuted : (n : ℕ) → CannotHold sources n (implemented unknown) → ⊥
