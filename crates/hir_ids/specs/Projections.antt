@@ -1,5 +1,5 @@
 -- Where projections may stand: in goals, impls and other projections, in what a function or a constructor takes or gives, and in the types of `let`s.
--- Fields that a variant `V` lists hold none yet.
+-- Fields that a variant `V` lists hold none.
 use Rattle.std.specs.Prelude.{ℕ, ◌≡◌, ◌<◌, ◌↔◌, Bool, false, List, length, get_or, slice_get, Some, IsTrue}
 use Rattle.hir_types.specs.declared.ids.TypeRefId.{TypeRefId}
 use Rattle.hir_raw.specs.declared.raw.RawCtor.TheVariants as ctor

@@ -1,4 +1,4 @@
--- No `_` stands in the type of a field, an input or an output.
+-- No `_` stands in a type that an item is written with, as that of a field, an input or an output.
 use Rattle.std.specs.Prelude.{◌≡◌, ◌<◌, ◌++◌, ℕ, zero, suc, List, [], ◌∷◌, map, length, slice_get, Option, Some, None, flat_map, refl}
 use Rattle.std.proofs.Common.{arith, inl, inr}
 use Rattle.hir_types.specs.declared.ids.TypeRefId.{TypeRefId}
@@ -49,7 +49,8 @@ type_there [] i lt = absurd (omega arith)
 type_there (x ∷ types) zero lt = (x, refl)
 type_there (x ∷ types) (suc i) lt = type_there types i (omega arith)
 
-item_has_no_hole : (raw : RawFacts) → IsLawful raw → (t : TypeRefId) → t.0 < length raw.types → In (item_uses raw) (Some t.0) → HasNoHole raw.types t
+-- a type that an item is written with holds none: where a `_` stands in a type, no item is written with it
+pub item_has_no_hole : (raw : RawFacts) → IsLawful raw → (t : TypeRefId) → t.0 < length raw.types → In (item_uses raw) (Some t.0) → HasNoHole raw.types t
 item_has_no_hole raw law t lt used = let there = type_there raw.types t.0 lt in elim (holes_fit raw law t.0 there.0 there.1) as (λ _. HasNoHole raw.types t) [
   | inl none ↦ none
   | inr once ↦ absurd (once.items used.0 used.1)

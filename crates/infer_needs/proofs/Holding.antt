@@ -22,7 +22,8 @@ use Rattle.goal_facts.specs.Systems.{IsSystemOf}
 use Rattle.infer_result.specs.declared.gaps.Gap.{Gap}
 use Rattle.infer_result.specs.declared.result.InferenceResult.{InferenceResult}
 use Rattle.infer_result.specs.Projections.{HasEntry, IsAboutAlias, IsFound, AreFound}
-use Rattle.infer_result.specs.Needs.{IsNeeded, HoldsUnknown, HoldsNoHole, IsProved, gap_says, HasGap, IsUnproved, IsClash, IsTrueGap, with_goals, scope_item, GoalsHold, HasNoneLeft, needs_of, pat_needs_of, node_needs}
+use Rattle.infer_result.specs.CannotHold.{MayHold}
+use Rattle.infer_result.specs.Needs.{IsNeeded, HoldsNoHole, IsProved, gap_says, HasGap, IsUnproved, IsClash, IsTrueGap, with_goals, scope_item, GoalsHold, HasNoneLeft, needs_of, pat_needs_of, node_needs}
 use Rattle.infer_result.specs.Places.{Given}
 use Rattle.infer_result.specs.Table.{listed_gaps, recorded}
 use Rattle.infer_result.specs.Typed.{given}
@@ -110,25 +111,25 @@ module _ (raw : RawFacts) (d : DefWithBodyId) (b : RawBody) (f : System) (r : In
   is_proved : (a : Asked) → HasProofOf qs a → IsProved z a
   is_proved a h = record { number = h.0; proof = h.1; listed = h.2; goal = h.3 }
 
-  done_is : (n : ExprOrPatId) (a : Asked) (gs : List Gap) → listed_gaps z n ≡ Some gs → IsDone n qs ks gs a → IsProved z a ⊎ (IsUnproved z n a ⊎ HoldsUnknown a.parts)
+  done_is : (n : ExprOrPatId) (a : Asked) (gs : List Gap) → listed_gaps z n ≡ Some gs → IsDone f raw.limits.goal_depth n qs ks gs a → IsProved z a ⊎ (IsUnproved z n a ⊎ MayHold f raw.limits.goal_depth a)
   done_is n a gs at (inl h) = inl (is_proved a h.0)
   done_is n a gs at (inr (inl h)) = inr (inl (h.1, record { gaps = gs; at = at; number = h.0; listed = h.2 }, h.3))
   done_is n a gs at (inr (inr h)) = inr (inr h)
 
   -- where it asks for an associated type
-  listed_is : (n : ExprOrPatId) (a : Asked) (gs : List Gap) → listed_gaps z n ≡ Some gs → IsAboutAlias a → IsDone n qs ks gs a → HasEntry ks a ⊎ (IsClash z n a ⊎ IsUnproved z n a)
+  listed_is : (n : ExprOrPatId) (a : Asked) (gs : List Gap) → listed_gaps z n ≡ Some gs → IsAboutAlias a → IsDone f raw.limits.goal_depth n qs ks gs a → HasEntry ks a ⊎ (IsClash z n a ⊎ IsUnproved z n a)
   listed_is n a gs at about (inl h) = elim (h.1 about) [
     | inl k ↦ inl k
     | inr k ↦ inr (inl (k.1, k.2, k.3, k.4, record { gaps = gs; at = at; number = k.0; listed = k.5 }, k.6))
   ]
   listed_is n a gs at about (inr (inl h)) = inr (inr (h.1, record { gaps = gs; at = at; number = h.0; listed = h.2 }, h.3))
-  listed_is n a gs at about (inr (inr h)) = absurd (about.known h)
+  listed_is n a gs at about (inr (inr h)) = absurd (about.known h.0)
 
   -- what became of it, among the gaps of its node
   record Became (n : ExprOrPatId) (a : Asked) : Type 0 where
     gaps : List Gap
     at : listed_gaps z n ≡ Some gaps
-    done : IsDone n qs ks gaps a
+    done : IsDone f raw.limits.goal_depth n qs ks gaps a
 
   became : (n : ExprOrPatId) (a : Asked) → IsNeeded g z n a → Became n a
   became n a is =
@@ -136,7 +137,7 @@ module _ (raw : RawFacts) (d : DefWithBodyId) (b : RawBody) (f : System) (r : In
       let there = gaps_there n is.at a among in
       record { gaps = there.0; at = there.1; done = (done_at n there.0 there.1).each is.at a among }
 
-  need_holds : (n : ExprOrPatId) (a : Asked) → IsNeeded g z n a → IsProved z a ⊎ (IsUnproved z n a ⊎ HoldsUnknown a.parts)
+  need_holds : (n : ExprOrPatId) (a : Asked) → IsNeeded g z n a → IsProved z a ⊎ (IsUnproved z n a ⊎ MayHold f raw.limits.goal_depth a)
   need_holds n a is = (let h = became n a is in done_is n a h.gaps h.at h.done)
 
   entry_holds : (n : ExprOrPatId) (a : Asked) → IsNeeded g z n a → IsAboutAlias a → HasEntry ks a ⊎ (IsClash z n a ⊎ IsUnproved z n a)

@@ -34,7 +34,7 @@ use Rattle.infer_result.specs.Table.{recorded}
 use Rattle.infer_result.specs.Closed.{AllTypes}
 use Rattle.infer_needs.specs.Listed.{FindsIn}
 use Rattle.infer_needs.specs.Left.{Lists}
-use Rattle.infer_needs.specs.Judged.{IsProvable, AreProvable, unproved, clash, IsAmong, IsSaidOnce, IsSaidIfKnown, SaysAlias, IsNoted, HasProofOf, IsSaid, IsSaidClash, IsDone, IsJudged, IsEntry, AddsEntries, IsOfFailing, IsOfClash, AreDone, AreJudged, AreAllJudged, ArePatsJudged}
+use Rattle.infer_needs.specs.Judged.{IsProvable, AreProvable, unproved, clash, IsAmong, IsSaidOnce, CannotHoldAsIs, IsSaidUnlessMay, SaysAlias, IsNoted, HasProofOf, IsSaid, IsSaidClash, IsDone, IsJudged, IsEntry, AddsEntries, IsOfFailing, IsOfClash, AreDone, AreJudged, AreAllJudged, ArePatsJudged}
 use Rattle.infer_needs.proofs.Adding.{adds_none, adds_then, front_get, has_later, listed_later, entry_later, entries_later, lists_none, lists_then}
 use Rattle.infer_needs.proofs.Leaving.{table_later}
 
@@ -44,17 +44,17 @@ clash_later : (e : ExprOrPatId) (gs hs : List Gap) (a : Asked) → IsFront gs hs
 clash_later e gs hs a p h = (h.0, h.1, h.2, h.3, h.4, front_get gs hs p h.0 (clash e (ty.Projection h.1 h.2) h.3 h.4) h.5, h.6)
 
 -- what became of a goal
-done_later : (e : ExprOrPatId) (ps qs : List Proof) (js ks : List (Ty × Ty)) (gs hs : List Gap) (a : Asked) → IsFront ps qs → IsFront js ks → IsFront gs hs → IsDone e ps js gs a → IsDone e qs ks hs a
-done_later e ps qs js ks gs hs a p l g (inl h) =
+done_later : (f : System) (n : ℕ) (e : ExprOrPatId) (ps qs : List Proof) (js ks : List (Ty × Ty)) (gs hs : List Gap) (a : Asked) → IsFront ps qs → IsFront js ks → IsFront gs hs → IsDone f n e ps js gs a → IsDone f n e qs ks hs a
+done_later f n e ps qs js ks gs hs a p l g (inl h) =
     inl (has_later ps qs a p h.0, λ about. elim (h.1 about) [ inl k ↦ inl (entry_later js ks a l k) | inr k ↦ inr (clash_later e gs hs a g k) ])
-done_later e ps qs js ks gs hs a p l g (inr (inl h)) = inr (inl (h.0, h.1, front_get gs hs g h.0 (unproved e h.1) h.2, h.3))
-done_later e ps qs js ks gs hs a p l g (inr (inr h)) = inr (inr h)
+done_later f n e ps qs js ks gs hs a p l g (inr (inl h)) = inr (inl (h.0, h.1, front_get gs hs g h.0 (unproved e h.1) h.2, h.3))
+done_later f n e ps qs js ks gs hs a p l g (inr (inr h)) = inr (inr h)
 
 -- ---- one goal
 
 -- of this goal, which fails
 abbrev FailsNow : System → ℕ → ExprOrPatId → Goal → Gap → Type 0
-FailsNow f n e q x = (x ≡ unproved e q) × (HoldsUnknown (asked_goal q).parts → ⊥) × ((answers f n).Yes (asked_goal q) → ⊥)
+FailsNow f n e q x = (x ≡ unproved e q) × CannotHoldAsIs f n (asked_goal q) × ((answers f n).Yes (asked_goal q) → ⊥)
 
 -- of this goal, which has a proof, and asks an associated type to be another type than is listed
 record ClashesNow (e : ExprOrPatId) (q : Goal) (qs : List Proof) (ks : List (Ty × Ty)) (x : Gap) : Type 0 where
@@ -161,7 +161,7 @@ module _ (raw : RawFacts) (f : System) (e : ExprOrPatId) (q : Goal) (ps qs : Lis
   once_says x is (inl h) = inl h.0
   once_says x is (inr h) = inr (x, h.0, is, h.1)
 
-  said_says : ((answers f deep).Yes (asked_goal q) → ⊥) → IsSaidIfKnown e q gs hs → Says f deep e q qs ks gs hs
+  said_says : ((answers f deep).Yes (asked_goal q) → ⊥) → IsSaidUnlessMay f deep e q gs hs → Says f deep e q qs ks gs hs
   said_says fails (inl h) = inl h.1
   said_says fails (inr h) = once_says (unproved e q) (inl (refl, h.0, fails)) h.1
 
@@ -207,14 +207,14 @@ module _ (raw : RawFacts) (f : System) (e : ExprOrPatId) (q : Goal) (ps qs : Lis
     | inr k ↦ inr (subst (λ g. IsSaidClash e hs (asked_goal g)) (sym s.is) (clash_said e gs s.alias s.args h.1 s.type hs here k.1))
   ]
 
-  said_done : AreAt e gs → IsSaidIfKnown e q gs hs → IsDone e qs ks hs (asked_goal q)
+  said_done : AreAt e gs → IsSaidUnlessMay f deep e q gs hs → IsDone f deep e qs ks hs (asked_goal q)
   said_done here (inl h) = inr (inr h.0)
   said_done here (inr h) = elim h.1 [
     | inl k ↦ inr (inl (subst (λ zs. IsSaid e zs (asked_goal q)) (sym k.0) (among_said e gs q here k.1)))
     | inr k ↦ inr (inl (length gs, q, subst (λ zs. slice_get zs (length gs) ≡ Some (unproved e q)) (sym k.0) (get_last gs (unproved e q)), refl))
   ]
 
-  judged_done : AreAt e gs → IsJudged raw f e q ps qs js ks gs hs → IsDone e qs ks hs (asked_goal q)
+  judged_done : AreAt e gs → IsJudged raw f e q ps qs js ks gs hs → IsDone f deep e qs ks hs (asked_goal q)
   judged_done here (inl h) = inl (h.has, noted_done here h.noted)
   judged_done here (inr h) = said_done here h.said
 
@@ -223,7 +223,7 @@ says_front f n e q qs ks gs hs (inl h) = subst (IsFront gs) (sym h) (front_itsel
 says_front f n e q qs ks gs hs (inr h) = (h.0 ∷ [], h.1)
 
 -- where its answer isn't Yes
-pub refused : (raw : RawFacts) (f : System) (e : ExprOrPatId) (q : Goal) (ps : List Proof) (js : List (Ty × Ty)) (gs hs : List Gap) → ((answers f raw.limits.goal_depth).Yes (asked_goal q) → ⊥) → IsSaidIfKnown e q gs hs
+pub refused : (raw : RawFacts) (f : System) (e : ExprOrPatId) (q : Goal) (ps : List Proof) (js : List (Ty × Ty)) (gs hs : List Gap) → ((answers f raw.limits.goal_depth).Yes (asked_goal q) → ⊥) → IsSaidUnlessMay f raw.limits.goal_depth e q gs hs
     → IsJudged raw f e q ps ps js js gs hs
 refused raw f e q ps js gs hs fails said = inr (record { proofs = refl; listed = refl; fails = fails; said = said })
 
@@ -263,10 +263,10 @@ module _ (raw : RawFacts) (f : System) (e : ExprOrPatId) (xs : List Asked) (q : 
     | inr h ↦ inr (ty.Projection h.alias h.args, h.first, h.second, h.is)
   ]
 
-  each : (k : ℕ) (a : Asked) → slice_get bs k ≡ Some a → IsDone e rs ls hs a
+  each : (k : ℕ) (a : Asked) → slice_get bs k ≡ Some a → IsDone f n e rs ls hs a
   each k a at = elim (get_more xs (asked_goal q) k a at) [
-    | inl h ↦ done_later e qs rs ks ls gs hs a adds.behind lists.behind (says_front f n e q rs ls gs hs says) (before.done.each k a h)
-    | inr h ↦ subst (IsDone e rs ls hs) h.1 (judged_done raw f e q qs rs ks ls gs hs here now)
+    | inl h ↦ done_later f n e qs rs ks ls gs hs a adds.behind lists.behind (says_front f n e q rs ls gs hs says) (before.done.each k a h)
+    | inr h ↦ subst (IsDone f n e rs ls hs) h.1 (judged_done raw f e q qs rs ks ls gs hs here now)
   ]
 
   more : (x : Gap) → IsOfFailing f n e xs x ⊎ IsOfClash e xs qs ks x → IsOfFailing f n e bs x ⊎ IsOfClash e bs rs ls x
@@ -369,7 +369,7 @@ asked_more ys x = sym (map-append asked_goal ys (x ∷ []))
 
 pub done_still : (f : System) (n : ℕ) (e : ExprOrPatId) (xs : List Asked) (ps qs : List Proof) (js ks : List (Ty × Ty)) (gs : List Gap) → IsFront ps qs → IsFront js ks → AreDone f n e xs ps js gs → AreDone f n e xs qs ks gs
 done_still f n e xs ps qs js ks gs p l h = record {
-  each = λ k a at. done_later e ps qs js ks gs gs a p l (front_itself gs) (h.each k a at);
+  each = λ k a at. done_later f n e ps qs js ks gs gs a p l (front_itself gs) (h.each k a at);
   gaps = λ k x at. elim (h.gaps k x at) [
     | inl g ↦ inl g
     | inr g ↦ inr (record {

@@ -4,6 +4,7 @@ pub mod Provable
 pub mod Telling
 pub mod Adding
 pub mod Judging
+pub mod Opening
 pub mod ReadsYes
 pub mod Leaving
 pub mod Holding

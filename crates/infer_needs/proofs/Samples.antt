@@ -13,3 +13,4 @@ pub mod PatternNeeds
 pub mod Left
 pub mod ItselfListed
 pub mod Unknowns
+pub mod OpenGoals

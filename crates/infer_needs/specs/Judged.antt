@@ -1,5 +1,5 @@
 -- What becomes of goals that nodes need.
-use Rattle.std.specs.Prelude.{◌≡◌, ◌⊎◌, ◌++◌, ℕ, List, [], ◌∷◌, length, slice_get, Some}
+use Rattle.std.specs.Prelude.{◌≡◌, ◌⊎◌, ◌++◌, ℕ, Bool, true, false, List, [], ◌∷◌, length, slice_get, Some}
 use Rattle.hir_types.specs.declared.ids.ExprOrPatId.{ExprOrPatId}
 use Rattle.hir_types.specs.declared.ids.ExprOrPatId.TheVariants as node
 use Rattle.hir_types.specs.declared.ids.TypeAliasId.{TypeAliasId}
@@ -26,6 +26,7 @@ use Rattle.infer_result.specs.declared.gaps.Gap.TheVariants as gap
 use Rattle.infer_result.specs.declared.result.InferenceResult.{InferenceResult}
 use Rattle.infer_result.specs.Closed.{AllTypes}
 use Rattle.infer_result.specs.Projections.{IsListedAs, HasEntry, IsAboutAlias, stays_at, NoneIsLeft}
+use Rattle.infer_result.specs.CannotHold.{CannotHold, MayHold}
 use Rattle.infer_result.specs.Needs.{HoldsUnknown, Saying, gap_says, needs_of, needs_at, pat_needs_at}
 use Rattle.infer_result.specs.Table.{recorded}
 use Rattle.infer_needs.specs.Listed.{FindsIn}
@@ -63,10 +64,17 @@ IsAmong gs s = (k : ℕ) × (x : Gap) × (slice_get gs k ≡ Some x) × (gap_say
 abbrev pub IsSaidOnce : Gap → List Gap → List Gap → Type 0
 IsSaidOnce x gs hs = ((hs ≡ gs) × IsAmong gs (gap_says x)) ⊎ ((hs ≡ gs ++ x ∷ []) × (IsAmong gs (gap_says x) → ⊥))
 
--- it is said that a goal has no proof, unless `{unknown}` stands in it
-abbrev pub IsSaidIfKnown : ExprOrPatId → Goal → List Gap → List Gap → Type 0
-IsSaidIfKnown e q gs hs =
-    (HoldsUnknown (asked_goal q).parts × (hs ≡ gs)) ⊎ ((HoldsUnknown (asked_goal q).parts → ⊥) × IsSaidOnce (unproved e q) gs hs)
+-- what there is to say of a goal whose answer isn't Yes: nothing, where it may hold with other types in the place of `{unknown}`
+abbrev pub CannotHoldAsIs : System → ℕ → Asked → Type 0
+CannotHoldAsIs f n a = HoldsUnknown a.parts → CannotHold f n a
+
+abbrev pub MayHoldIf : System → ℕ → Asked → Bool → Type 0
+MayHoldIf f n a true = MayHold f n a
+MayHoldIf f n a false = CannotHoldAsIs f n a
+
+-- it is said that it has no proof, unless it may hold so
+abbrev pub IsSaidUnlessMay : System → ℕ → ExprOrPatId → Goal → List Gap → List Gap → Type 0
+IsSaidUnlessMay f n e q gs hs = (MayHold f n (asked_goal q) × (hs ≡ gs)) ⊎ (CannotHoldAsIs f n (asked_goal q) × IsSaidOnce (unproved e q) gs hs)
 
 -- ---- what associated types were found to be
 
@@ -110,15 +118,15 @@ IsSaidClash e gs a = (n : ℕ) × (k : TypeAliasId) × (xs : List GenericArg) ×
 abbrev pub IsProvedAndListed : ExprOrPatId → List Proof → List (Ty × Ty) → List Gap → Asked → Type 0
 IsProvedAndListed e ps js gs a = HasProofOf ps a × (IsAboutAlias a → HasEntry js a ⊎ IsSaidClash e gs a)
 
-abbrev pub IsDone : ExprOrPatId → List Proof → List (Ty × Ty) → List Gap → Asked → Type 0
-IsDone e ps js gs a = IsProvedAndListed e ps js gs a ⊎ (IsSaid e gs a ⊎ HoldsUnknown a.parts)
+abbrev pub IsDone : System → ℕ → ExprOrPatId → List Proof → List (Ty × Ty) → List Gap → Asked → Type 0
+IsDone f n e ps js gs a = IsProvedAndListed e ps js gs a ⊎ (IsSaid e gs a ⊎ MayHold f n a)
 
--- its answer at the depth isn't Yes, and it is said unless `{unknown}` stands in it
+-- its answer at the depth isn't Yes, and it is said unless it may hold with other types in the place of `{unknown}`
 pub record IsRefused (f : System) (n : ℕ) (e : ExprOrPatId) (q : Goal) (ps qs : List Proof) (js ks : List (Ty × Ty)) (gs hs : List Gap) : Type 0 where
   pub proofs : qs ≡ ps
   pub listed : ks ≡ js
   pub fails : (answers f n).Yes (asked_goal q) → ⊥
-  pub said : IsSaidIfKnown e q gs hs
+  pub said : IsSaidUnlessMay f n e q gs hs
 
 -- it is proved
 pub record IsShown (raw : RawFacts) (f : System) (e : ExprOrPatId) (q : Goal) (ps qs : List Proof) (js ks : List (Ty × Ty)) (gs hs : List Gap) : Type 0 where
@@ -152,13 +160,13 @@ pub record AddsEntries (ps qs : List Proof) (js ks : List (Ty × Ty)) : Type 0 w
 
 -- ---- the goals of an expression
 
--- it is of one of these goals, which is without `{unknown}`, and whose answer isn't Yes
+-- it is of one of these goals, whose answer isn't Yes, nor with other types where `{unknown}` stands in it
 pub record IsOfFailing (f : System) (n : ℕ) (e : ExprOrPatId) (xs : List Asked) (x : Gap) : Type 0 where
   pub goal : Goal
   pub is : x ≡ unproved e goal
   pub at : ℕ
   pub among : slice_get xs at ≡ Some (asked_goal goal)
-  pub known : HoldsUnknown (asked_goal goal).parts → ⊥
+  pub known : CannotHoldAsIs f n (asked_goal goal)
   pub fails : (answers f n).Yes (asked_goal goal) → ⊥
 
 -- it is of one of these goals, which has a proof, and asks an associated type to be another type than the one that is listed, and than itself
@@ -175,9 +183,9 @@ pub record IsOfClash (e : ExprOrPatId) (xs : List Asked) (ps : List Proof) (js :
   pub differ : Same first second → ⊥
   pub other : term second ≡ stays_at alias args → ⊥
 
--- each goal is proved, or said to have no proof, or `{unknown}` stands in it; and what is said is so, and said once
+-- each goal is proved, or said to have no proof, or may hold with other types in the place of `{unknown}`; and what is said is so, and said once
 pub record AreDone (f : System) (n : ℕ) (e : ExprOrPatId) (xs : List Asked) (ps : List Proof) (js : List (Ty × Ty)) (gs : List Gap) : Type 0 where
-  pub each : (k : ℕ) (a : Asked) → slice_get xs k ≡ Some a → IsDone e ps js gs a
+  pub each : (k : ℕ) (a : Asked) → slice_get xs k ≡ Some a → IsDone f n e ps js gs a
   pub gaps : (k : ℕ) (x : Gap) → slice_get gs k ≡ Some x → IsOfFailing f n e xs x ⊎ IsOfClash e xs ps js x
   pub once : (j k : ℕ) (x y : Gap) → slice_get gs j ≡ Some x → slice_get gs k ≡ Some y → gap_says x ≡ gap_says y → j ≡ k
 

@@ -4,6 +4,7 @@
 mod found;
 mod left;
 mod note;
+mod opened;
 mod prove;
 mod say;
 mod tell;

@@ -11,14 +11,14 @@ ghost use Rattle.infer_result.specs.Closed.{AllTypes};
 ghost use Rattle.infer_result.specs.Table.{recorded};
 ghost use Rattle.infer_needs.specs.Left.{IsFinalType};
 ghost use Rattle.infer_result.specs.Typed.{IsTableOf, given};
-ghost use Rattle.infer_needs.specs.Judged.{IsProvable, AreProvable, CanAllBeProved, CanPatsBeProved, IsSaidIfKnown, IsJudged, AreJudged, AreAllJudged, ArePatsJudged};
+ghost use Rattle.infer_needs.specs.Judged.{IsProvable, AreProvable, CanAllBeProved, CanPatsBeProved, IsSaidUnlessMay, IsJudged, AreJudged, AreAllJudged, ArePatsJudged};
 ghost use Rattle.infer_needs.specs.Told.{ListsAnswers, first_needs, first_pat_needs, AreAllAnswered};
 
 use crate::found::Found;
 use crate::left::look_at_table;
 use crate::note::note;
+use crate::opened::may_hold;
 use crate::say::say;
-use crate::unknown::holds_unknown;
 use goal_facts::{Answer, ItemSources, Proof};
 use goal_prove::prove_goal;
 use hir_facts::{
@@ -58,23 +58,26 @@ fn evaluate(
     Ok(answer)
 }
 
-/// Says of a goal whose answer isn't Yes that it has no proof, once, unless `{unknown}` stands in it.
+/// Says of a goal whose answer isn't Yes that it has no proof, once, unless it may hold with other types in
+/// the place of `{unknown}`.
 fn complain(
     alloc: Global,
+    sources: &ItemSources<'_>,
     goal: Goal,
     node: ExprOrPatId,
     gaps: &mut List<Gap>,
 ) -> Result<(), AllocError>
-    ensures { OnOk result (IsSaidIfKnown node goal gaps.old gaps.new) }
+    ensures { OnOk result (IsSaidUnlessMay (system sources.now.sources) sources.now.facts.limits.goal_depth node goal gaps.old gaps.new) }
 {
-    if holds_unknown(alloc, &goal)? {
+    if may_hold(alloc, sources, &goal)? {
         return Ok(());
     }
     say(alloc, Gap::Unproved { node, goal }, gaps)
 }
 
 /// Evaluates a goal without holes that a node needs, takes note of its answer, and adds its proof and what
-/// it says of an associated type, or says that it has none, unless `{unknown}` stands in it.
+/// it says of an associated type, or says that it has none, unless it may hold with other types in the place
+/// of `{unknown}`.
 fn prove_need(
     alloc: Global,
     sources: &ItemSources<'_>,
@@ -97,7 +100,7 @@ fn prove_need(
             Ok(())
         }
         Answer::No | Answer::Undecided => {
-            complain(alloc, goal, node, gaps)?;
+            complain(alloc, sources, goal, node, gaps)?;
             Ok(())
         }
     }
@@ -233,11 +236,12 @@ fn prove_exprs(
 }
 
 /// Proves each goal that a node of a typed body needs, at the types that are recorded, or says of it that it
-/// has no proof. Only a goal in which `{unknown}` stands may be left without either. Each goal is evaluated
-/// once, in the order of the expressions and of the predicates of each item, and then of the patterns: these are
-/// given back, each with its answer. What associated types were found to be is listed, each once; where one is
-/// another type at a node, this is said there. In no type of the table is one left that could be read, unless what
-/// it is is listed. Nothing else of the table changes. The one error is want of memory.
+/// has no proof. Only a goal may be left without either in which `{unknown}` stands, and which may hold with
+/// other types in its place. Each goal is evaluated and told once, in the order of the expressions and of the
+/// predicates of each item, and then of the patterns: these are given back, each with its answer. What associated
+/// types were found to be is listed, each once; where one is another type at a node, this is said there. In no type
+/// of the table is one left that could be read, unless what it is is listed. Nothing else of the table changes. The
+/// one error is want of memory.
 pub fn prove_needs(
     alloc: Global,
     facts: &Facts,

@@ -18,6 +18,7 @@ pub mod Shape
 pub mod Made
 pub mod AliasNeeds
 pub mod Proved
+pub mod CannotHold
 pub mod Projections
 pub mod Needs
 pub mod Typed

@@ -133,7 +133,7 @@ pub nothing_said : (js : List (Ty × Ty)) → GoalsHold own_body given (table_of
 nothing_said js h =
     elim (h.needs pattern (found_as u8_term bool_term) (pattern_needs ty.Bool bool_term term_bool [] js)) [
       | inl proved ↦ (let none = proved.listed in cc)
-      | inr other ↦ elim other [ inl said ↦ no_gap ty.Bool bool_term term_bool [] js pattern _ said.1 | inr unknown ↦ out_known unknown ]
+      | inr other ↦ elim other [ inl said ↦ no_gap ty.Bool bool_term term_bool [] js pattern _ said.1 | inr unknown ↦ out_known unknown.0 ]
     ]
 
 -- without an entry, whatever proofs are listed
@@ -153,7 +153,7 @@ pub other_type : (ps : List Proof) (js : List (Ty × Ty)) → GoalsHold own_body
 other_type ps js h =
     elim (h.needs pattern (found_as u8_term char_term) (pattern_needs ty.Char char_term term_char ps js)) [
       | inl proved ↦ not_char h.system h.of_item (answers h.system 8).Alias hole ps proved.number proved.proof proved.listed proved.goal (h.proofs hole hole_filling)
-      | inr other ↦ elim other [ inl said ↦ no_gap ty.Char char_term term_char ps js pattern _ said.1 | inr unknown ↦ char_known unknown ]
+      | inr other ↦ elim other [ inl said ↦ no_gap ty.Char char_term term_char ps js pattern _ said.1 | inr unknown ↦ char_known unknown.0 ]
     ]
 
 -- ---- taken

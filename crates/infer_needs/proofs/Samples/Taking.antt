@@ -160,7 +160,7 @@ other_type ps js h =
       | inl proved ↦ not_char h.system h.of_item (answers h.system 8).Alias hole ps proved.number proved.proof proved.listed proved.goal (h.proofs hole hole_filling)
       | inr other ↦ elim other [
         | inl said ↦ no_gap ty.Char ps js path_node _ said.1
-        | inr unknown ↦ char_known unknown
+        | inr unknown ↦ char_known unknown.0
       ]
     ]
 

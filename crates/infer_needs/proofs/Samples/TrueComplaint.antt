@@ -107,7 +107,7 @@ true_here : IsTrueUnproved (given letter) sources right path_node (asks ty.Char)
 true_here = record {
   needed = record { «at» = 0; among = ap (λ gs. slice_get gs 0) (needs_are letter ty.Char char_term term_char [] [] ((said_here ∷ []) ∷ [])) ∙ ap Some (sym asks_char) };
   whole = subst (λ (x : Asked). HoldsNoHole x.parts) (sym asks_char) ((tt, (tt, tt)), tt);
-  known = λ h. char_known (subst (λ (x : Asked). HoldsUnknown x.parts) asks_char h);
+  known = λ h. absurd (char_known (subst (λ (x : Asked). HoldsUnknown x.parts) asks_char h));
   fails = λ h. char_not_yes 8 (subst (answers sources 8).Yes asks_char h);
 }
 

@@ -90,7 +90,7 @@ pub nothing_said : (d : DefWithBodyId) → GoalsHold d given (table_of []) → �
 nothing_said d h =
     elim (h.needs (node.ExprId (e 0)) needed (is_needed [])) [
       | inl proved ↦ (let listed = proved.listed in cc)
-      | inr other ↦ elim other [ inl said ↦ (let listed = said.1.at in cc) | inr unknown ↦ known unknown ]
+      | inr other ↦ elim other [ inl said ↦ (let listed = said.1.at in cc) | inr unknown ↦ known unknown.0 ]
     ]
 
 -- a complaint at the argument, which needs nothing, of any goal

@@ -1,0 +1,130 @@
+-- Goals in which `{unknown}` stands, over the facts of `Impls`: `({unknown},): Tr` holds with no type in its place, so it is said to have no
+-- proof; of `{unknown}: Tr` nothing is to be said.
+use Rattle.std.proofs.Common.{ℕ, zero, suc, ◌≡◌, inl, inr, [], ◌∷◌, sym, ap, subst, ◌∙◌, true≢false, Some, slice_get}
+use Rattle.hir_types.specs.declared.head.Head.TheVariants as head
+use Rattle.hir_types.specs.declared.head.Hole.TheVariants as hole_of
+use Rattle.hir_types.specs.declared.ids.ExprOrPatId.{ExprOrPatId}
+use Rattle.hir_types.specs.declared.ty.Ty.{Ty}
+use Rattle.hir_types.specs.declared.ty.Ty.TheVariants as ty
+use Rattle.hir_types.specs.declared.ty.UintTy.TheVariants as uint
+use Rattle.hir_types.specs.Terms.{Term, hole, leaf, pair, node, type_part, apply, term}
+use Rattle.hir_types.specs.TermLaws.{term_error, term_tuple}
+use Rattle.hir_raw.specs.declared.raw.RawLiteral.{RawLiteral}
+use Rattle.hir_raw.specs.declared.raw.RawLiteral.TheVariants as literal
+use Rattle.goal_answers.specs.Reading.{Fill, IsFilling, IsRead, Aliases, Reads}
+use Rattle.goal_answers.specs.Goals.{Asked, System, Verdicts, implements, projects, only, asked_at, IsKnown, Each}
+use Rattle.goal_answers.specs.Answers.{IsApart, RuleIsRefuted, HasNoSource, answers}
+use Rattle.goal_answers.proofs.Filled.{decided_answers_stay}
+use Rattle.goal_answers.proofs.One.{answers_are_one}
+use Rattle.goal_answers.proofs.Readings.{read_reads}
+use Rattle.goal_facts.specs.Goals.{asked_goal}
+use Rattle.infer_result.specs.declared.gaps.Gap.TheVariants as gap
+use Rattle.infer_result.specs.declared.result.InferenceResult.{InferenceResult}
+use Rattle.infer_result.specs.CannotHold.{opened_goal, CannotHold, MayHold}
+use Rattle.infer_result.specs.Needs.{HoldsUnknown, HoldsNoHole, IsTrueUnproved}
+use Rattle.infer_needs.proofs.Samples.Impls.{tr, out, u8_term, bool_term, w_term, param, implemented, rules_are}
+use Rattle.infer_needs.proofs.Samples.Sources.{asks, asks_is}
+use Rattle.infer_needs.proofs.Samples.Needed.{given, table_of, path_node, needs_are, sources, are_sources}
+
+-- what cannot hold holds with no types in the places of `{unknown}`
+pub holds_nowhere : (f : System) (n : ℕ) (a : Asked) → CannotHold f n a → (s : Fill) → IsFilling s → (answers f n).Yes (asked_at s (opened_goal a)) → ⊥
+holds_nowhere f n a h s filling yes_at = (answers_are_one f n n).0 (asked_at s (opened_goal a)) yes_at ((decided_answers_stay f n s filling).1 (opened_goal a) h)
+
+abbrev unknown : Term
+unknown = node head.Error []
+
+-- a tuple of one type
+abbrev alone : Term → Term
+alone t = node head.Tuple (type_part t ∷ [])
+
+-- ---- no impl is for tuples
+
+not_alias : projects out ≡ implements tr → ⊥
+not_alias is = cc
+
+module _ (t : Term) (A : Aliases) (v : Verdicts) where
+  abbrev w : Term
+  w = only (alone t)
+
+  apart_u8 : IsApart (only u8_term) w
+  apart_u8 q s filling (x, y, whole, (m, z, first, m_is, (k, r, inner, k_is, r_is)), y_is) =
+      (let clash : apply s w ≡ pair (pair m (pair (leaf (head.Uint uint.U8)) r)) y = whole ∙ ap (λ i. pair i y) (first ∙ ap (λ i. pair m i) (inner ∙ ap (λ i. pair i r) k_is)) in cc)
+
+  apart_bool : IsApart (only bool_term) w
+  apart_bool q s filling (x, y, whole, (m, z, first, m_is, (k, r, inner, k_is, r_is)), y_is) =
+      (let clash : apply s w ≡ pair (pair m (pair (leaf head.Bool) r)) y = whole ∙ ap (λ i. pair i y) (first ∙ ap (λ i. pair m i) (inner ∙ ap (λ i. pair i r) k_is)) in cc)
+
+  apart_w : IsApart (only (w_term param)) w
+  apart_w q s filling (x, y, whole, (m, z, first, m_is, (k, r, inner, k_is, r_is)), y_is) =
+      (let made = first ∙ ap (λ i. pair m i) (inner ∙ ap (λ i. pair i r) k_is) in
+      let clash = whole ∙ ap (λ i. pair i y) made in
+      cc)
+
+  all_refuted : Each (RuleIsRefuted A v (implements tr) w) sources.rules
+  all_refuted =
+      subst (Each (RuleIsRefuted A v (implements tr) w)) (sym (rules_are sources are_sources))
+      (inr (inl apart_u8), (inl not_alias, (inr (inl apart_bool), (inl not_alias, (inr (inl apart_w), (inl not_alias, tt))))))
+
+  no_source : HasNoSource sources A v (implements tr) w
+  no_source = (tt, inr (all_refuted, inl (λ is. true≢false (sym is))))
+
+answer_is_no : (n : ℕ) (t : Term) → IsRead t → (answers sources (suc n)).No (implemented (alone t))
+answer_is_no n t read =
+    let v = answers sources n in
+    let A = (answers sources (suc n)).Alias in
+    (only (alone t), read_reads A (only (alone t)) ((tt, (tt, ((tt, read), tt))), tt), (tt, tt, no_source t A v))
+
+pub cannot_hold : (n : ℕ) → CannotHold sources (suc n) (implemented (alone unknown))
+cannot_hold n = answer_is_no n (hole (hole_of.Ty 0)) tt
+
+-- so it isn't passed over
+pub may_not : (n : ℕ) → MayHold sources (suc n) (implemented (alone unknown)) → ⊥
+may_not n h = h.1 (cannot_hold n)
+
+-- ---- the hole in the place of a type alone is not known
+
+not_known : (A : Aliases) (u : Term) → Reads A hole (only (hole (hole_of.Ty 0))) u → IsKnown u → ⊥
+not_known A u (x, y, whole, (m, z, first, m_is, z_is), y_is) known =
+    subst IsKnown (whole ∙ ap (λ i. pair i y) (first ∙ ap (λ i. pair m i) z_is)) known
+
+not_refuted : (n : ℕ) → CannotHold sources n (implemented unknown) → ⊥
+not_refuted zero (x, reads, among, no_at) = not_known (answers sources 0).Alias x reads no_at.0
+not_refuted (suc n) (x, reads, no_at) = not_known (answers sources (suc n)).Alias x reads no_at.0
+
+pub may_hold : (n : ℕ) → MayHold sources n (implemented unknown)
+may_hold n = (inl (inr (inl tt)), not_refuted n)
+
+-- ---- what is said
+
+abbrev letter : RawLiteral
+letter = literal.Char 97
+
+abbrev table : Ty → InferenceResult
+table t = table_of t [] [] ((gap.Unproved path_node (asks t) ∷ []) ∷ [])
+
+asks_unknown : asked_goal (asks ty.Error) ≡ implemented unknown
+asks_unknown = asks_is ty.Error unknown term_error
+
+alone_is : term (ty.Tuple (ty.Error ∷ [])) ≡ alone unknown
+alone_is = term_tuple (ty.Error ∷ []) ∙ ap alone term_error
+
+asks_alone : asked_goal (asks (ty.Tuple (ty.Error ∷ []))) ≡ implemented (alone unknown)
+asks_alone = asks_is (ty.Tuple (ty.Error ∷ [])) (alone unknown) alone_is
+
+-- of the tuple it is true that it has no proof
+pub true_of_tuple : IsTrueUnproved (given letter) sources (table (ty.Tuple (ty.Error ∷ []))) path_node (asks (ty.Tuple (ty.Error ∷ [])))
+true_of_tuple = record {
+  needed = record {
+    «at» = 0;
+    among = ap (λ gs. slice_get gs 0) (needs_are letter (ty.Tuple (ty.Error ∷ [])) (alone unknown) alone_is [] [] ((gap.Unproved path_node (asks (ty.Tuple (ty.Error ∷ []))) ∷ []) ∷ []))
+        ∙ ap Some (sym asks_alone);
+  };
+  whole = subst (λ (x : Asked). HoldsNoHole x.parts) (sym asks_alone) ((tt, (tt, ((tt, (tt, tt)), tt))), tt);
+  known = λ h. subst (CannotHold sources 8) (sym asks_alone) (cannot_hold 7);
+  fails = λ h. (answers_are_one sources 8 8).0 (implemented (alone unknown)) (subst (answers sources 8).Yes asks_alone h) (answer_is_no 7 unknown (tt, tt));
+}
+
+-- of the type alone it isn't
+pub untrue_alone : (r : InferenceResult) (n : ExprOrPatId) → IsTrueUnproved (given letter) sources r n (asks ty.Error) → ⊥
+untrue_alone r n h =
+    not_refuted 8 (subst (CannotHold sources 8) asks_unknown (h.known (subst (λ (x : Asked). HoldsUnknown x.parts) (sym asks_unknown) (inl (inr (inl tt))))))

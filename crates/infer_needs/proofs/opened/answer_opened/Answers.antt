@@ -1,0 +1,31 @@
+use Rattle.std.proofs.Common.{◌≡◌, ◌+◌, suc, sym, ap, ◌∙◌, subst, arith, IfOk}
+use Rattle.goal_terms.specs.Terms.{term_of, HasHeads}
+use Rattle.goal_search.specs.Sources.{kind_of, system}
+use Rattle.goal_facts.specs.Goals.{asked_goal, IsAnswer}
+use Rattle.goal_facts.proofs.Systems.{depth_is_small, answer_is}
+use Rattle.infer_result.specs.CannotHold.{opened_goal}
+use Rattle.infer_needs.proofs.Opening.{heads_kept}
+use Rattle.infer_needs.proofs.opened.answer_opened.Goals as goal
+
+pub overflow_add-depth : goal.overflow_add-depth
+overflow_add-depth c = let h = depth_is_small c.raw.result.now c.raw.ensures.lawful in omega (arith, h)
+
+pub evaluate-requires : goal.evaluate-requires
+evaluate-requires c = record {
+  goal = record {
+    heads = subst HasHeads (sym c.in_ok-parts.ensures.term) (heads_kept 0 (term_of c.in_ok-asks.asks.parts) c.in_ok-asks.ensures.heads);
+    fills = λ k o. record { read = tt; heads = tt };
+  };
+}
+
+pub returns : goal.returns
+returns c =
+    let deep = c.args.sources.now.facts.limits.goal_depth in
+    let asks = opened_goal (asked_goal c.args.goal.now) in
+    let facts = c.raw.ensures.value ∙ c.facts.ensures in
+    let same : c.raw.result.now.limits.goal_depth ≡ deep = λ i. (facts i).limits.goal_depth in
+    let next : c.raw.result.now.limits.goal_depth + 1 ≡ suc deep = ap (λ n. n + 1) same ∙ omega arith in
+    let is : record { kind = kind_of c.in_ok-asks.asks.kind; parts = term_of c.in_ok-parts.parts } ≡ asks =
+    (λ i. record { kind = kind_of c.in_ok-asks.asks.kind; parts = c.in_ok-parts.ensures.term i }) ∙ ap opened_goal c.in_ok-asks.ensures.is in
+    subst (λ s. IfOk c.evaluate.result (IsAnswer (system s) deep asks)) c.search-search.ensures
+    (answer_is (system c.search-search.result) deep (c.raw.result.now.limits.goal_depth + 1) _ asks c.evaluate.result next is c.evaluate.ensures.answer)
