@@ -5,6 +5,7 @@ ghost use Rattle.hir_laws.specs.Bodies.{HasBody, body_of};
 ghost use Rattle.infer_result.specs.Typed.{IsTableOf, given};
 ghost use Rattle.infer_result.specs.General.{HasGeneral};
 ghost use Rattle.infer_result.specs.Needs.{GoalsHold, HasNoneLeft};
+ghost use Rattle.infer_result.specs.WrittenAliases.{AllWrittenAreListed};
 ghost use Rattle.infer_needs.specs.Told.{AreAllAnswered, HearsAll, IsToldAll, at_exit};
 ghost use Rattle.infer_end.specs.Ends.{EndsWell, IsSelectedBody, ComesOfSelection};
 
@@ -63,6 +64,7 @@ fn infer_with_goals(
     ensures general { IfOk result (λ made. HasGeneral facts.now def made.0) }
     ensures goals { IfOk result (λ made. (b : RawBody) → body_of facts.now def ≡ Some b → GoalsHold def (given facts.now def b) made.0) }
     ensures left { IfOk result (λ made. (b : RawBody) → body_of facts.now def ≡ Some b → HasNoneLeft def (given facts.now def b) made.0) }
+    ensures written { IfOk result (λ made. (b : RawBody) → body_of facts.now def ≡ Some b → AllWrittenAreListed def (given facts.now def b) made.0) }
     ensures selected { IfOk result (λ made. (b : RawBody) → body_of facts.now def ≡ Some b → ComesOfSelection facts.now def b made.0) }
     ensures told { IfOk result (λ made. (b : RawBody) → body_of facts.now def ≡ Some b → AreAllAnswered def (given facts.now def b) made.0 made.1.items) }
 {
@@ -83,6 +85,7 @@ fn infer_untold(
     ensures general { IfOk result (λ table. HasGeneral facts.now def table) }
     ensures goals { IfOk result (λ table. (b : RawBody) → body_of facts.now def ≡ Some b → GoalsHold def (given facts.now def b) table) }
     ensures left { IfOk result (λ table. (b : RawBody) → body_of facts.now def ≡ Some b → HasNoneLeft def (given facts.now def b) table) }
+    ensures written { IfOk result (λ table. (b : RawBody) → body_of facts.now def ≡ Some b → AllWrittenAreListed def (given facts.now def b) table) }
     ensures selected { IfOk result (λ table. (b : RawBody) → body_of facts.now def ≡ Some b → ComesOfSelection facts.now def b table) }
 {
     let (table, _) = infer_with_goals(alloc, facts, def)?;
@@ -101,6 +104,7 @@ fn infer_told<I: ObligationInspector>(
     ensures general { IfOk result (λ table. HasGeneral facts.now def table) }
     ensures goals { IfOk result (λ table. (b : RawBody) → body_of facts.now def ≡ Some b → GoalsHold def (given facts.now def b) table) }
     ensures left { IfOk result (λ table. (b : RawBody) → body_of facts.now def ≡ Some b → HasNoneLeft def (given facts.now def b) table) }
+    ensures written { IfOk result (λ table. (b : RawBody) → body_of facts.now def ≡ Some b → AllWrittenAreListed def (given facts.now def b) table) }
     ensures selected { IfOk result (λ table. (b : RawBody) → body_of facts.now def ≡ Some b → ComesOfSelection facts.now def b table) }
     ensures told { IfOk result (λ table. (b : RawBody) → body_of facts.now def ≡ Some b → HearsAll def (given facts.now def b) table (I.list inspect.old) (I.list inspect.new)) }
 {
@@ -113,7 +117,8 @@ fn infer_told<I: ObligationInspector>(
 /// of memory. What nodes need is selected before open holes fall back, and binds holes of bodies that are not
 /// plain. It is proved, or it is said that it has no proof, once all types are known, and the inspector is told of
 /// each of these goals with its answer. In no type of the table is an associated type left that could be read,
-/// unless the table says what it is. Of a plain body the table keeps its types with holes
+/// unless the table says what it is; nor is one of which it does not say so in what the definition takes and gives, in the
+/// types of its `let`s, or in what nodes need. Of a plain body the table keeps its types with holes
 /// too, before these fall back to anything: `InferenceResult::general`.
 pub fn infer_query_with_inspect<I: ObligationInspector>(
     alloc: Global,
@@ -126,6 +131,7 @@ pub fn infer_query_with_inspect<I: ObligationInspector>(
     ensures general { IfOk result (λ table. HasGeneral facts.now def table) }
     ensures goals { IfOk result (λ table. (b : RawBody) → body_of facts.now def ≡ Some b → GoalsHold def (given facts.now def b) table) }
     ensures left { IfOk result (λ table. (b : RawBody) → body_of facts.now def ≡ Some b → HasNoneLeft def (given facts.now def b) table) }
+    ensures written { IfOk result (λ table. (b : RawBody) → body_of facts.now def ≡ Some b → AllWrittenAreListed def (given facts.now def b) table) }
     ensures selected { IfOk result (λ table. (b : RawBody) → body_of facts.now def ≡ Some b → ComesOfSelection facts.now def b table) }
     ensures told { IfOk result (λ table. (b : RawBody) → body_of facts.now def ≡ Some b → IsToldAll I.list def (given facts.now def b) table inspect.entry (at_exit inspect.exit)) }
 {

@@ -27,4 +27,5 @@ pub mod General
 pub mod Report
 pub mod Stable
 pub mod OwnTypes
+pub mod WrittenAliases
 pub mod Below

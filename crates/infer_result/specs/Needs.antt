@@ -42,7 +42,7 @@ pub use Rattle.infer_result.specs.Proved.{HoldsUnknown, HoldsNoHole, IsProved}
 use Rattle.infer_result.specs.CannotHold.{CannotHold, MayHold}
 use Rattle.infer_result.specs.AliasNeeds.{alias_goals, path_alias_goals}
 use Rattle.infer_result.specs.Closed.{AllTypes}
-use Rattle.infer_result.specs.Projections.{IsListedAs, AreFound, HasEntry, IsAboutAlias, stays_at, NoneIsLeft}
+use Rattle.infer_result.specs.Projections.{IsListedAs, GoalReads, AreFound, HasEntry, IsAboutAlias, stays_at, NoneIsLeft}
 use Rattle.infer_result.specs.declared.gaps.Gap.{Gap}
 use Rattle.infer_result.specs.declared.gaps.Gap.TheVariants as gap
 use Rattle.infer_result.specs.declared.result.InferenceResult.{InferenceResult}
@@ -149,7 +149,7 @@ gap_says (gap.Clash n a t u) = clashes a u
 abbrev pub IsUnproved : InferenceResult → ExprOrPatId → Asked → Type 0
 IsUnproved r n a = (q : Goal) × HasGap r n (gap.Unproved n q) × (asked_goal q ≡ a)
 
--- it is said there that what this asks an associated type to be is another type than was found before
+-- it is said there that what this, once it is read, asks an associated type to be is another type than was found before
 abbrev pub IsClash : InferenceResult → ExprOrPatId → Asked → Type 0
 IsClash r n a =
     (k : TypeAliasId) × (xs : List GenericArg) × (t : Ty) × (u : Ty) × HasGap r n (gap.Clash n (ty.Projection k xs) t u)
@@ -162,13 +162,16 @@ pub record IsTrueUnproved (g : Given) (f : System) (r : InferenceResult) (n : Ex
   pub known : HoldsUnknown (asked_goal q).parts → CannotHold f g.scope.facts.limits.goal_depth (asked_goal q)
   pub fails : (answers f g.scope.facts.limits.goal_depth).Yes (asked_goal q) → ⊥
 
--- the associated type is listed as the first type; that it is the second, another one and not itself, the node needs, and it has a proof. No hole stands in it
-pub record IsTrueClash (g : Given) (r : InferenceResult) (n : ExprOrPatId) (a first second : Ty) : Type 0 where
+-- the associated type is listed as the first type; that it is the second, another one and not itself, is what the node needs, once it is read, and it
+-- has a proof. No hole stands in it
+pub record IsTrueClash (g : Given) (f : System) (r : InferenceResult) (n : ExprOrPatId) (a first second : Ty) : Type 0 where
   pub alias : TypeAliasId
   pub args : List GenericArg
   pub is : a ≡ ty.Projection alias args
   pub listed : IsListedAs r.projections alias args first
-  pub needed : IsNeeded g r n (asked_goal (goal.Projection alias args second))
+  pub need : Asked
+  pub needed : IsNeeded g r n need
+  pub reads : GoalReads f g.scope.facts.limits.goal_depth need (asked_goal (goal.Projection alias args second))
   pub proved : IsProved r (asked_goal (goal.Projection alias args second))
   pub differ : Same first second → ⊥
   pub other : term second ≡ stays_at alias args → ⊥
@@ -176,7 +179,7 @@ pub record IsTrueClash (g : Given) (r : InferenceResult) (n : ExprOrPatId) (a fi
 
 abbrev pub IsTrueGap : Given → System → InferenceResult → ExprOrPatId → Gap → Type 0
 IsTrueGap g f r n (gap.Unproved m q) = (m ≡ n) × IsTrueUnproved g f r n q
-IsTrueGap g f r n (gap.Clash m a t u) = (m ≡ n) × IsTrueClash g r n a t u
+IsTrueGap g f r n (gap.Clash m a t u) = (m ≡ n) × IsTrueClash g f r n a t u
 
 -- ---- the goals of a table
 
@@ -197,8 +200,8 @@ scope_item raw (def.StaticId s) = generic.StaticId s
 scope_item raw (def.VariantId v) = adt_item (slice_get raw.variants v.0)
 
 -- the proofs that are listed are proofs; each goal that a node needs is proved, or it is said that it isn't, or `{unknown}` stands in it, and
--- it isn't known that no type in its place makes it hold; and what is said is so, and said once at each node. What associated types were found to be is listed: what a goal that is needed asks one to be,
--- or another type, and this is said
+-- it isn't known that no type in its place makes it hold; and what is said is so, and said once at each node. What associated types were found to be is
+-- listed: what a goal that is needed, once it is read, asks one to be, or another type, and this is said
 pub record GoalsHold (d : DefWithBodyId) (g : Given) (r : InferenceResult) : Type 0 where
   pub system : System
   pub of_item : IsSystemOf g.scope.facts (scope_item g.scope.facts d) system
@@ -207,7 +210,8 @@ pub record GoalsHold (d : DefWithBodyId) (g : Given) (r : InferenceResult) : Typ
   pub gaps : (n : ExprOrPatId) (x : Gap) → HasGap r n x → IsTrueGap g system r n x
   pub once : (n : ExprOrPatId) (x y : Gap) (j : HasGap r n x) (k : HasGap r n y) → gap_says x ≡ gap_says y → j.number ≡ k.number
   pub found : AreFound r
-  pub entries : (n : ExprOrPatId) (a : Asked) → IsNeeded g r n a → IsAboutAlias a → HasEntry r.projections a ⊎ (IsClash r n a ⊎ IsUnproved r n a)
+  pub entries : (n : ExprOrPatId) (a b : Asked) → IsNeeded g r n a → (HoldsUnknown a.parts → ⊥) → GoalReads system g.scope.facts.limits.goal_depth a b → IsAboutAlias b
+      → HasEntry r.projections b ⊎ (IsClash r n b ⊎ IsUnproved r n a)
 
 -- in no type of the table is an associated type left that could be read, by the sources of the item, unless the table says what it is
 pub record HasNoneLeft (d : DefWithBodyId) (g : Given) (r : InferenceResult) : Type 0 where

@@ -7,8 +7,9 @@ use Rattle.hir_types.specs.declared.ty.GenericArg.{GenericArg}
 use Rattle.hir_types.specs.declared.ty.Ty.{Ty}
 use Rattle.hir_types.specs.declared.ty.Ty.TheVariants as ty
 use Rattle.hir_types.specs.Terms.{Term, hole, leaf, pair, chain, term, arg_term}
+use Rattle.goal_answers.specs.Answers.{answers}
 use Rattle.goal_answers.specs.Goals.{Asked, System, projects, args_of, type_of}
-use Rattle.goal_answers.specs.Reading.{IsRead, staying}
+use Rattle.goal_answers.specs.Reading.{IsRead, ReadsAs, staying}
 use Rattle.goal_facts.specs.Goals.{asked_goal}
 use Rattle.goal_facts.specs.Reading.{TypeReads}
 use Rattle.infer_result.specs.declared.result.InferenceResult.{InferenceResult}
@@ -26,21 +27,26 @@ HasEntry js a = (k : TypeAliasId) × (xs : List GenericArg) × (t : Ty) × IsLis
 abbrev pub stays_at : TypeAliasId → List GenericArg → Term
 stays_at k xs = staying k (chain (map arg_term xs))
 
--- the goal asks an associated type to be another type than itself, in which none is left to be read, and `{unknown}` doesn't stand in it
+-- the goal reads as the other at the depth, each associated type in it as what it is
+pub record GoalReads (f : System) (n : ℕ) (a b : Asked) : Type 0 where
+  pub kind : b.kind ≡ a.kind
+  pub parts : ReadsAs (answers f n).Alias a.parts b.parts
+
+-- the goal asks an associated type to be another type than itself, and `{unknown}` doesn't stand in it
 pub record IsAboutAlias (a : Asked) : Type 0 where
   pub alias : TypeAliasId
   pub is : a.kind ≡ projects alias
-  pub read : IsRead (type_of a.parts)
   pub known : HoldsUnknown a.parts → ⊥
   pub other : type_of a.parts ≡ staying alias (args_of a.parts) → ⊥
 
--- the entry has an associated type first, and then another type that it has a proof to be, as such a goal asks, without holes. So no first stands in a second
+-- the entry has an associated type first, and then another type that it has a proof to be, as such a goal asks, without holes. No associated type is
+-- left to be read in its arguments, nor in the second: so no first stands in a second, nor in the arguments of a first
 pub record IsFound (r : InferenceResult) (x : Ty × Ty) : Type 0 where
   pub alias : TypeAliasId
   pub args : List GenericArg
   pub is : x.0 ≡ ty.Projection alias args
   pub proved : IsProved r (asked_goal (goal.Projection alias args x.1))
-  pub read : IsRead (term x.1)
+  pub read : IsRead (asked_goal (goal.Projection alias args x.1)).parts
   pub known : HoldsUnknown (asked_goal (goal.Projection alias args x.1)).parts → ⊥
   pub other : term x.1 ≡ stays_at alias args → ⊥
   pub whole : HoldsNoHole (asked_goal (goal.Projection alias args x.1)).parts

@@ -15,10 +15,11 @@ HoldsUnknown (leaf head.UnknownConst) = Unit {0}
 HoldsUnknown (leaf _) = ⊥
 HoldsUnknown (pair a b) = HoldsUnknown a ⊎ HoldsUnknown b
 
--- no hole that inference made stands in the term; a `_` may
+-- no hole that inference made stands in the term, and no `_`
 abbrev pub HoldsNoHole : Term → Type 0
 HoldsNoHole (hole k) = ⊥
-HoldsNoHole (leaf h) = Unit {0}
+HoldsNoHole (leaf head.Hole) = ⊥
+HoldsNoHole (leaf _) = Unit {0}
 HoldsNoHole (pair a b) = HoldsNoHole a × HoldsNoHole b
 
 -- a proof is listed whose goal it is

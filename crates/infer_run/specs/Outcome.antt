@@ -11,6 +11,7 @@ use Rattle.infer_result.specs.declared.result.InferenceResult.{InferenceResult}
 use Rattle.infer_result.specs.Typed.{IsTableOf, given}
 use Rattle.infer_result.specs.General.{HasGeneral}
 use Rattle.infer_result.specs.Needs.{GoalsHold, HasNoneLeft}
+use Rattle.infer_result.specs.WrittenAliases.{AllWrittenAreListed}
 use Rattle.infer_expr.specs.Below.{ComesOfSelection}
 use Rattle.infer_result.specs.Report.{report, complaint_count}
 use Rattle.infer_text.specs.declared.fault.ReadError.TheVariants as error
@@ -84,6 +85,10 @@ HasGoals raw def table = (b : RawBody) → body_of raw def ≡ Some b → GoalsH
 abbrev pub IsReadThrough : RawFacts → DefWithBodyId → InferenceResult → Type 0
 IsReadThrough raw def table = (b : RawBody) → body_of raw def ≡ Some b → HasNoneLeft def (given raw def b) table
 
+-- what each associated type is that the definition, its `let`s and what nodes need are written with is listed, unless it stays
+abbrev pub HasWritten : RawFacts → DefWithBodyId → InferenceResult → Type 0
+HasWritten raw def table = (b : RawBody) → body_of raw def ≡ Some b → AllWrittenAreListed def (given raw def b) table
+
 -- what they need was selected before its open holes fell back
 abbrev pub IsSelectedTable : RawFacts → DefWithBodyId → InferenceResult → Type 0
 IsSelectedTable raw def table = (b : RawBody) → body_of raw def ≡ Some b → ComesOfSelection raw def b table
@@ -97,6 +102,7 @@ pub record IsInferred (def : DefWithBodyId) (raw : RawFacts) (ran : Ran) : Type 
   pub general : HasGeneral raw def table
   pub goals : HasGoals raw def table
   pub left : IsReadThrough raw def table
+  pub written : HasWritten raw def table
   pub selected : IsSelectedTable raw def table
   pub table_is : ran.table ≡ Some table
 

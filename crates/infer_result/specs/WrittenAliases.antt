@@ -1,0 +1,42 @@
+-- Associated types that a table lists though no type of a node holds them: those that what the definition takes and gives is written with, and its
+-- `let`s, and those in goals that nodes need. Of each, at the arguments that its own read as, the table says what it is, unless it stays.
+use Rattle.std.specs.Prelude.{◌≡◌, ℕ, List, map, slice_get, Some}
+use Rattle.hir_types.specs.declared.ids.DefWithBodyId.{DefWithBodyId}
+use Rattle.hir_types.specs.declared.ids.ExprOrPatId.{ExprOrPatId}
+use Rattle.hir_types.specs.declared.ids.TypeAliasId.{TypeAliasId}
+use Rattle.hir_types.specs.declared.ty.GenericArg.{GenericArg}
+use Rattle.hir_types.specs.declared.ty.Ty.{Ty}
+use Rattle.hir_types.specs.Terms.{Term, chain, term, arg_term}
+use Rattle.hir_raw.specs.Lets.{let_aliases}
+use Rattle.hir_raw.specs.WrittenTypes.{lowered}
+use Rattle.goal_answers.specs.Answers.{answers}
+use Rattle.goal_answers.specs.Goals.{Asked, System}
+use Rattle.goal_answers.specs.Reading.{ReadsAs, alias_at}
+use Rattle.goal_facts.specs.Systems.{IsSystemOf}
+use Rattle.infer_result.specs.declared.result.InferenceResult.{InferenceResult}
+use Rattle.infer_result.specs.Needs.{IsNeeded, scope_item}
+use Rattle.infer_result.specs.OwnTypes.{HoldsPlaceholder, aliases_of}
+use Rattle.infer_result.specs.Places.{Given}
+use Rattle.infer_result.specs.Projections.{IsPartOf, StaysOrIsListed}
+
+-- the arguments of an associated type
+abbrev pub args_term : List GenericArg → Term
+args_term xs = chain (map arg_term xs)
+
+-- whatever its arguments read as: at those it stays, or it is listed as what it reads as, or `{unknown}` stands in one of them
+abbrev pub IsListedOnceRead : System → ℕ → List (Ty × Ty) → TypeAliasId → List GenericArg → Type 0
+IsListedOnceRead f n js k xs = (ys : List GenericArg) → ReadsAs (answers f n).Alias (args_term xs) (args_term ys) → StaysOrIsListed f n js k ys
+
+-- so is each that is written in the term, but for those among whose arguments a `_` stands
+abbrev pub WrittenAreListed : System → ℕ → List (Ty × Ty) → Term → Type 0
+WrittenAreListed f n js t = (k : TypeAliasId) (xs : List GenericArg) → IsPartOf (alias_at k (args_term xs)) t → (HoldsPlaceholder (args_term xs) → ⊥) → IsListedOnceRead f n js k xs
+
+-- so is each in what the definition takes and gives, in the types of the `let`s, and in what nodes need
+pub record AllWrittenAreListed (d : DefWithBodyId) (g : Given) (r : InferenceResult) : Type 0 where
+  pub system : System
+  pub of_item : IsSystemOf g.scope.facts (scope_item g.scope.facts d) system
+  pub own : (i k : ℕ) → slice_get (aliases_of g.scope.facts d) i ≡ Some k
+      → WrittenAreListed system g.scope.facts.limits.goal_depth r.projections (term (lowered g.scope.facts.types k))
+  pub lets : (i k : ℕ) → slice_get (let_aliases g.scope.facts.types g.body) i ≡ Some k
+      → WrittenAreListed system g.scope.facts.limits.goal_depth r.projections (term (lowered g.scope.facts.types k))
+  pub needs : (n : ExprOrPatId) (a : Asked) → IsNeeded g r n a → WrittenAreListed system g.scope.facts.limits.goal_depth r.projections a.parts
