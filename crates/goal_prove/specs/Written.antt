@@ -47,8 +47,10 @@ AliasIsGood A = (k : TypeAliasId) (w u : Term) → A k w u → AreGood w → IsG
 
 -- ---- goals that can be proved
 
--- neither a bound nor a principal or auto trait of a `dyn` type
+-- neither a `_` nor a bound, nor a principal or auto trait of a `dyn` type
 abbrev pub IsWrittenHead : Head → Type 0
+IsWrittenHead head.Hole = ⊥
+IsWrittenHead head.ConstHole = ⊥
 IsWrittenHead (head.Bound k) = ⊥
 IsWrittenHead (head.Principal t) = ⊥
 IsWrittenHead (head.AutoTrait t) = ⊥
