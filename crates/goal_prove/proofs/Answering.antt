@@ -21,9 +21,10 @@ use Rattle.goal_facts.proofs.Typed.{entry_is}
 use Rattle.infer_table.specs.Table.{IsFront}
 use Rattle.hir_types.specs.declared.goal.Goal.{Goal}
 use Rattle.goal_facts.specs.Goals.{asked_goal}
-use Rattle.goal_prove.specs.Entries.{IsProofAs}
+use Rattle.goal_prove.specs.Entries.{IsProofAs, IsNamed}
 use Rattle.goal_prove.specs.Asking.{IsProofFor, AreProofsFor, ArePredsProved, IsPredProved}
 use Rattle.goal_prove.proofs.Adding.{adds_then}
+use Rattle.goal_prove.proofs.Children.{named_before, named_last, children_then}
 
 -- the rule that was taken
 pub same_rule : (rs : List SearchRule) (i : ℕ) (x : SearchRule) → x ≡ get_or rs i x → (r : Rule) → slice_get (rules_of rs) i ≡ Some r → rule_of x ≡ r
@@ -59,6 +60,7 @@ module _ (raw : RawFacts) (f : System) (p : Fill) where
       let more = map_more asked_of gs i x less ∙ ap (λ y. asked_list (take i gs) ++ asked_of y ∷ []) (sym at) in
       record {
         adds = adds_then raw f ps qs zs before.adds is.adds;
+        roots = children_then (IsNamed ks) (λ j. Some k ≡ Some j) (IsNamed (ks ++ k ∷ [])) ps qs zs front (named_before ks k) (named_last ks k) before.roots is.roots;
         found = subst (λ ys. AreProofsFor raw f p zs ys (ks ++ k ∷ [])) (sym more)
             (one_more zs (asked_list (take i gs)) ks (asked_of x) k (all_later qs zs front (asked_list (take i gs)) ks before.found) is.found);
       }

@@ -84,6 +84,7 @@ module _ (raw : RawFacts) (f : System) (heads : SystemHasHeads f) (n : ℕ) (le 
       pub is_proved : (g : Goal) → ReadsTo raw f g q.kind u → (ps zs : List Proof) (k : ℕ) → IsProvedAs raw f ps zs g k → IsPredProved raw f p ps zs q k
       is_proved g to ps zs k h = record {
         adds = h.adds;
+        roots = h.roots;
         found = record {
           target = u;
           reads = reads_within A (deep_alias raw f) (within f m raw.limits.goal_depth below).alias p q.parts u reads;

@@ -38,8 +38,9 @@ use Rattle.goal_select.proofs.Clauses.{clause_closed}
 use Rattle.goal_prove.specs.declared.fits.Found.{Found}
 use Rattle.goal_prove.specs.Written.{IsGood, IsGoodGoal}
 use Rattle.goal_prove.specs.Asking.{deep_alias, ReadsTo, IsAsked, IsFree, IsFit, IsProved, IsProofFor, AreProofsFor, ArePredsProved, PredIsAsked, fill_args}
-use Rattle.goal_prove.specs.Entries.{AddsProofs, IsProofAt, IsPushed}
+use Rattle.goal_prove.specs.Entries.{AddsProofs, IsProofAt, IsPushed, IsNamed, AddsChildrenBut}
 use Rattle.goal_prove.proofs.Adding.{adds_none, adds_then, adds_one, found_last}
+use Rattle.goal_prove.proofs.Children.{children_none, children_last}
 use Rattle.goal_prove.proofs.Aliases.{aliases_good}
 use Rattle.goal_prove.proofs.Fitting.{yes_here, may_here, unshadowed_here}
 use Rattle.goal_prove.proofs.Impled.{IsFilled, rule_filled, preds_good, fill_args_length, fill_is}
@@ -47,10 +48,10 @@ use Rattle.goal_prove.proofs.Impled.{IsFilled, rule_filled, preds_good, fill_arg
 -- ---- what was pushed
 
 module _ (raw : RawFacts) (f : System) (g : Goal) where
-  at_end : (ps qs zs : List Proof) (k : ℕ) (x : Proof) → x.goal ≡ g → AddsProofs raw f ps qs → ((s : Fill) → IsFilling s → Holds raw f (deep_alias raw f) s qs (length qs) x) → IsPushed qs zs x k → IsProved raw f ps zs g k
-  at_end ps qs zs k x same adds holds pushed =
+  at_end : (ps qs zs : List Proof) (k : ℕ) (x : Proof) → x.goal ≡ g → AddsProofs raw f ps qs → AddsChildrenBut (IsNamed x.children) ps qs → ((s : Fill) → IsFilling s → Holds raw f (deep_alias raw f) s qs (length qs) x) → IsPushed qs zs x k → IsProved raw f ps zs g k
+  at_end ps qs zs k x same adds roots holds pushed =
       let adds_all = adds_then raw f ps qs (qs ++ x ∷ []) adds (adds_one raw f qs x holds) in let is = subst (λ y. IsProofAt (qs ++ x ∷ []) y (length qs)) same (found_last raw f qs x) in
-      let here : IsProved raw f ps (qs ++ x ∷ []) g (length qs) = record { adds = adds_all; found = is } in
+      let here : IsProved raw f ps (qs ++ x ∷ []) g (length qs) = record { adds = adds_all; roots = children_last ps qs x roots; found = is } in
       subst (λ ys. IsProved raw f ps ys g k) (sym pushed.pushed) (subst (λ j. IsProved raw f ps (qs ++ x ∷ []) g j) (sym pushed.number) here)
 
 -- ---- children
@@ -102,7 +103,7 @@ module _ (raw : RawFacts) (item : GenericDefId) (f : System) (of : IsSystemOf ra
       → IfOk r (λ k. IsPushed ps zs (record { goal = g; source = src; children = ks }) k) → IfOk r (λ k. IsProved raw f ps zs g k)
   alone src by ks none ps zs r pushed =
       IfOk-weaker r (λ k. IsPushed ps zs (record { goal = g; source = src; children = ks }) k) (λ k. IsProved raw f ps zs g k)
-      (λ k h. at_end raw f g ps ps zs k (record { goal = g; source = src; children = ks }) refl (adds_none raw f ps) (λ s filling. holds_by src [] ks ps s filling (by s filling) (subst (λ xs. AreProofsOf P s ps (length ps) [] xs) none tt)) h)
+      (λ k h. at_end raw f g ps ps zs k (record { goal = g; source = src; children = ks }) refl (adds_none raw f ps) (children_none (IsNamed ks) ps) (λ s filling. holds_by src [] ks ps s filling (by s filling) (subst (λ xs. AreProofsOf P s ps (length ps) [] xs) none tt)) h)
       pushed
 
   -- ---- clauses
@@ -165,7 +166,7 @@ module _ (raw : RawFacts) (item : GenericDefId) (f : System) (of : IsSystemOf ra
         → IfOk r (λ k. IsPushed ys zs (record { goal = g; source = src; children = ks }) k) → IfOk r (λ k. IsProved raw f ps zs g k)
     over src p z qs by turns ks ps ys zs proved r pushed =
         IfOk-weaker r (λ k. IsPushed ys zs (record { goal = g; source = src; children = ks }) k) (λ k. IsProved raw f ps zs g k)
-        (λ k h. at_end raw f g ps ys zs k (record { goal = g; source = src; children = ks }) refl proved.adds (λ s filling. holds_by src (map (asked_at z) qs) ks ys s filling (by s filling) (children_of raw f p z s filling ys qs ks turns proved.found)) h)
+        (λ k h. at_end raw f g ps ys zs k (record { goal = g; source = src; children = ks }) refl proved.adds proved.roots (λ s filling. holds_by src (map (asked_at z) qs) ks ys s filling (by s filling) (children_of raw f p z s filling ys qs ks turns proved.found)) h)
         pushed
 
     -- ---- parts

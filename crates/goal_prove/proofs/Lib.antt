@@ -1,5 +1,6 @@
 pub mod TypeTerms
 pub mod Adding
+pub mod Children
 pub mod Holes
 pub mod Shapes
 pub mod Told

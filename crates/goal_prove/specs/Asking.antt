@@ -23,7 +23,7 @@ use Rattle.goal_facts.specs.declared.proof.Proof.{Proof}
 use Rattle.goal_facts.specs.Goals.{asked_goal}
 use Rattle.goal_facts.specs.Proofs.{filled_goal}
 use Rattle.goal_prove.specs.declared.fits.Found.{Found}
-use Rattle.goal_prove.specs.Entries.{AddsProofs, IsProofAt, IsProofAs}
+use Rattle.goal_prove.specs.Entries.{AddsProofs, IsProofAt, IsProofAs, IsNamed, AddsChildrenBut, AddsOneRoot}
 use Rattle.goal_prove.specs.Written.{IsGoodGoal}
 
 -- at the depth to which the facts let goals be followed
@@ -76,11 +76,13 @@ fill_args l n = map (λ k. arg.Ty (type_or_unknown (found l (hole_of.Ty k)))) (r
 
 pub record IsProved (raw : RawFacts) (f : System) (ps qs : List Proof) (g : Goal) (number : ℕ) : Type 0 where
   pub adds : AddsProofs raw f ps qs
+  pub roots : AddsOneRoot (Some number) ps qs
   pub found : IsProofAt qs g number
 
 -- the same but for lifetimes
 pub record IsProvedAs (raw : RawFacts) (f : System) (ps qs : List Proof) (g : Goal) (number : ℕ) : Type 0 where
   pub adds : AddsProofs raw f ps qs
+  pub roots : AddsOneRoot (Some number) ps qs
   pub found : IsProofAs qs g number
 
 -- of a predicate, with what stands for its holes
@@ -98,6 +100,7 @@ AreProofsFor raw f p ps _ _ = ⊥
 
 pub record ArePredsProved (raw : RawFacts) (f : System) (p : Fill) (ps zs : List Proof) (qs : List Asked) (ks : List ℕ) : Type 0 where
   pub adds : AddsProofs raw f ps zs
+  pub roots : AddsChildrenBut (IsNamed ks) ps zs
   pub found : AreProofsFor raw f p zs qs ks
 
 -- a predicate may be proved below the depth: it is Yes there, and what it reads as is right
@@ -108,6 +111,7 @@ pub record PredIsAsked (raw : RawFacts) (f : System) (n : ℕ) (p : Fill) (q : A
 
 pub record IsPredProved (raw : RawFacts) (f : System) (p : Fill) (ps zs : List Proof) (q : Asked) (number : ℕ) : Type 0 where
   pub adds : AddsProofs raw f ps zs
+  pub roots : AddsOneRoot (Some number) ps zs
   pub found : IsProofFor raw f p zs q number
 
 -- it has a source at the depth, and no clause is about it

@@ -1,5 +1,5 @@
 -- Proofs that are listed, and added behind others.
-use Rattle.std.specs.Prelude.{◌≡◌, ◌++◌, ℕ, List, [], ◌∷◌, length, slice_get, Option, Some, None}
+use Rattle.std.specs.Prelude.{◌≡◌, ◌⊎◌, ◌<◌, ◌≤◌, ◌++◌, ℕ, List, [], ◌∷◌, length, slice_get, Option, Some, None}
 use Rattle.hir_types.specs.declared.goal.Goal.{Goal}
 use Rattle.hir_raw.specs.declared.raw.RawFacts.{RawFacts}
 use Rattle.infer_table.specs.Table.{IsFront}
@@ -40,6 +40,29 @@ AreRightProofs raw f ps = (s : Fill) → IsFilling s → AreProofs raw f (answer
 pub record AddsProofs (raw : RawFacts) (f : System) (ps qs : List Proof) : Type 0 where
   pub behind : IsFront ps qs
   pub right : AreRightProofs raw f ps → AreRightProofs raw f qs
+
+-- ---- which ask for which
+
+abbrev pub IsNamed : List ℕ → ℕ → Type 0
+IsNamed ks k = (i : ℕ) × (slice_get ks i ≡ Some k)
+
+-- a proof behind it asks for the proof with this number
+pub record IsChild (ps : List Proof) (k : ℕ) : Type 0 where
+  pub parent : ℕ
+  pub behind : k < parent
+  pub proof : Proof
+  pub at : slice_get ps parent ≡ Some proof
+  pub named : IsNamed proof.children k
+
+-- each that is added is asked for by another, but those that are excepted
+abbrev pub AddsChildrenBut : (ℕ → Type 0) → List Proof → List Proof → Type 0
+AddsChildrenBut R ps qs = (k : ℕ) → length ps ≤ k → k < length qs → IsChild qs k ⊎ R k
+
+-- but the one that was found, where there is one
+abbrev pub AddsOneRoot : Option ℕ → List Proof → List Proof → Type 0
+AddsOneRoot found ps qs = AddsChildrenBut (λ k. found ≡ Some k) ps qs
+
+-- ---- what was found
 
 -- where none was found they are as before
 abbrev pub KeepsIfNone : {X : Type 0} → List Proof → List Proof → Option X → Type 0

@@ -8,7 +8,7 @@ ghost use Rattle.goal_search.specs.Holes.{holes_fill};
 ghost use Rattle.goal_search.specs.Sources.{kind_of, asked_of, asked_list, system};
 ghost use Rattle.goal_facts.specs.Goals.{asked_goal};
 ghost use Rattle.goal_facts.specs.ImplGoals.{ComesFrom};
-ghost use Rattle.goal_prove.specs.Entries.{AddsProofs, KeepsIfNone, IsProvedIf};
+ghost use Rattle.goal_prove.specs.Entries.{AddsProofs, AddsOneRoot, KeepsIfNone, IsProvedIf};
 ghost use Rattle.goal_prove.specs.Written.{IsWritten};
 ghost use Rattle.goal_prove.specs.Asking.{deep_alias, ReadsTo, IsAsked, IsFit, FitsNot, PredIsAsked, IsProved, IsProvedAs, IsSourced, IsPredProved, ArePredsProved};
 
@@ -355,7 +355,8 @@ fn one_more(depth: u32) -> Result<u32, AllocError>
 }
 
 /// Adds a proof of a goal without holes, behind those of what its source asks for, where its answer at
-/// this depth is Yes; gives its number. Else it adds none.
+/// this depth is Yes; gives its number. Each other proof that it adds is one that another asks for. Else it
+/// adds none.
 pub fn prove_goal(
     alloc: Global,
     sources: &ItemSources<'_>,
@@ -366,6 +367,7 @@ pub fn prove_goal(
     requires written { IsWritten (asked_goal goal.now).parts }
     requires depth { depth ≤ sources.now.facts.limits.goal_depth }
     ensures adds { OnOk result (AddsProofs sources.now.facts (system sources.now.sources) proofs.old.items proofs.new.items) }
+    ensures roots { IfOk result (λ found. AddsOneRoot found proofs.old.items proofs.new.items) }
     ensures proved { IfOk result (λ found. IsProvedIf (system sources.now.sources) depth proofs.new.items goal.now found) }
     ensures keeps { IfOk result (λ found. KeepsIfNone proofs.old.items proofs.new.items found) }
 {

@@ -7,6 +7,7 @@ use Rattle.goal_search.specs.Searching.{Decides}
 use Rattle.goal_search.specs.Sources.{asked_of, system}
 use Rattle.goal_facts.specs.Goals.{asked_goal}
 use Rattle.goal_prove.proofs.Adding.{adds_none}
+use Rattle.goal_prove.proofs.Children.{children_none}
 use Rattle.goal_prove.proofs.Whole.{answered, not_proved, is_other}
 use Rattle.goal_prove.proofs.prove.prove_goal.Goals as goal
 
@@ -34,6 +35,7 @@ returns c =
     let all = answered s n m x (asked_goal c.args.goal.now) a c.in_ok-asked.ensures.is e found in
     record {
       adds = adds_none c.args.sources.now.facts (system s) c.args.proofs.now.items;
+      roots = children_none _ c.args.proofs.now.items;
       proved = not_proved (system s) n (asked_goal c.args.goal.now) a all (is_other a c.in-No.is);
       keeps = refl;
     }
