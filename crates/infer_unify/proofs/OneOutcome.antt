@@ -112,7 +112,7 @@ module _ (f : System) (n : ℕ) where
     open_never_no : Becomes v ps a b unification.Undecided → Becomes v ps a b unification.No → ⊥
     open_never_no (l, h, all, common, undecided) other = never_no l h all (common.0, common.1, common.3) undecided.0 other
 
-    pub one_becomes : (found other : Unification) → Becomes v ps a b found → Becomes v ps a b other → other ≡ found
+    one_becomes : (found other : Unification) → Becomes v ps a b found → Becomes v ps a b other → other ≡ found
     one_becomes unification.No unification.No x y = refl
     one_becomes unification.No unification.Undecided x y = absurd (open_never_no y x)
     one_becomes unification.No unification.Yes x y = absurd (yes_never_no y x)
@@ -159,7 +159,7 @@ module _ (v w : Verdicts) (i : IsWithin v w) (j : IsWithin w v) (ps : List Alias
   refuted_across l (inl h) = inl (no_step_across l h)
   refuted_across l (inr h) = inr (all_across l h.0, judged_across l unification.No h.1)
 
-  pub becomes_across : (a b : Term) (found : Unification) → Becomes w ps a b found → Becomes v ps a b found
+  becomes_across : (a b : Term) (found : Unification) → Becomes w ps a b found → Becomes v ps a b found
   becomes_across a b unification.No (inl h) = inl h
   becomes_across a b unification.No (inr (l, h, refuted)) = inr (l, found_across a b l h, refuted_across l refuted)
   becomes_across a b unification.Undecided (l, h, all, common, judged) = (l, found_across a b l h, all_across l all, common, judged_across l unification.Undecided judged)
