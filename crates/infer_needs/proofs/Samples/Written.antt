@@ -1,6 +1,7 @@
 -- Associated types that a table lists though no type of a node holds them, over the facts of `Impls`: `<u8 as Tr>::Out` is written in what `show` takes,
 -- in the type of a `let`, and in what a path needs. Each time a table is refused that doesn't say that it is `bool`, and one that does is taken.
 use Rattle.std.proofs.Common.{ℕ, zero, suc, ◌≡◌, inl, inr, List, [], ◌∷◌, refl, sym, ap, subst, ◌∙◌, Option, Some, None, slice_get}
+use Rattle.hir_types.specs.declared.head.Head.TheVariants as head
 use Rattle.hir_types.specs.declared.ids.DefWithBodyId.{DefWithBodyId}
 use Rattle.hir_types.specs.declared.ids.DefWithBodyId.TheVariants as def
 use Rattle.hir_types.specs.declared.ids.ExprOrPatId.{ExprOrPatId}
@@ -10,7 +11,8 @@ use Rattle.hir_types.specs.declared.ids.GenericDefId.TheVariants as generic
 use Rattle.hir_types.specs.declared.ids.TypeAliasId.{TypeAliasId}
 use Rattle.hir_types.specs.declared.ty.Ty.{Ty}
 use Rattle.hir_types.specs.declared.ty.Ty.TheVariants as ty
-use Rattle.hir_types.specs.Terms.{Term, hole, term}
+use Rattle.hir_types.specs.Terms.{Term, hole, leaf, pair, term}
+use Rattle.hir_types.specs.TermLaws.{term_projection, term_hole}
 use Rattle.hir_types.specs.Types.{unit}
 use Rattle.hir_raw.specs.declared.raw.RawBody.{RawBody}
 use Rattle.hir_raw.specs.declared.raw.RawExpr.TheVariants as expr
@@ -21,7 +23,7 @@ use Rattle.hir_raw.specs.Signatures.{type_args}
 use Rattle.hir_raw.specs.WrittenTypes.{filled_within, lowered}
 use Rattle.goal_answers.specs.Answers.{answers}
 use Rattle.goal_answers.specs.Goals.{Asked, System, only}
-use Rattle.goal_answers.specs.Reading.{Aliases, ReadsAs, alias_at}
+use Rattle.goal_answers.specs.Reading.{IsRead, Aliases, ReadsAs, alias_at}
 use Rattle.goal_answers.proofs.Readings.{read_reads}
 use Rattle.goal_facts.specs.declared.proof.Proof.{Proof}
 use Rattle.goal_facts.specs.Environment.{IsStated}
@@ -40,6 +42,7 @@ use Rattle.infer_needs.proofs.Samples.Impls.{out, facts, own, own_body, showing,
 use Rattle.infer_needs.proofs.Samples.Sources.{reads_bare, neither, nothing}
 use Rattle.infer_needs.proofs.Samples.Needed.{given, table_of, path_node, needs_are, needed, closed, sources, are_sources}
 use Rattle.infer_needs.proofs.Samples.Tables.{entry}
+use Rattle.infer_needs.proofs.Samples.Entries.{args_are}
 use Rattle.infer_needs.proofs.Samples.Left.{alias, u8_args, alias_term, not_listed, itself_listed}
 
 -- ---- in a term
@@ -74,20 +77,19 @@ is_said t one k xs part whole ys reads =
 parts_of : (k m : TypeAliasId) (x y : Term) → alias_at k x ≡ alias_at m y → (k ≡ m) × (x ≡ y)
 parts_of k m x y h = (cc, cc)
 
-none_in_args : (k : TypeAliasId) (x : Term) → IsPartOf (alias_at k x) (only u8_term) → ⊥
-none_in_args k x (inl is) = cc
-none_in_args k x (inr (inl (inl is))) = cc
-none_in_args k x (inr (inl (inr (inl none)))) = none
-none_in_args k x (inr (inl (inr (inr (inl is))))) = cc
-none_in_args k x (inr (inl (inr (inr (inr (inl none)))))) = none
-none_in_args k x (inr (inl (inr (inr (inr (inr none)))))) = none
-none_in_args k x (inr (inr none)) = none
+-- in what is read none stands
+unread_part : (k : TypeAliasId) (x t : Term) → IsPartOf (alias_at k x) t → IsRead t → ⊥
+unread_part k x (hole j) part read = part
+unread_part k x (leaf h) part read = part
+unread_part k x (pair a b) (inl is) read = (subst IsRead (sym is) read).0
+unread_part k x (pair a b) (inr (inl part)) read = unread_part k x a part read.0
+unread_part k x (pair a b) (inr (inr part)) read = unread_part k x b part read.1
 
 -- in itself, and in what is needed where it has to implement the trait
 one_in_itself : (k : TypeAliasId) (x : Term) → IsPartOf (alias_at k x) written → (k ≡ out) × (x ≡ only u8_term)
 one_in_itself k x (inl is) = parts_of k out x (only u8_term) is
 one_in_itself k x (inr (inl none)) = absurd none
-one_in_itself k x (inr (inr part)) = absurd (none_in_args k x part)
+one_in_itself k x (inr (inr part)) = absurd (unread_part k x (only u8_term) part ((tt, (tt, tt)), tt))
 
 one_in_need : (k : TypeAliasId) (x : Term) → IsPartOf (alias_at k x) (only written) → (k ≡ out) × (x ≡ only u8_term)
 one_in_need k x (inl is) = absurd (cc)
@@ -95,6 +97,21 @@ one_in_need k x (inr (inl (inl is))) = absurd (cc)
 one_in_need k x (inr (inl (inr (inl none)))) = absurd none
 one_in_need k x (inr (inl (inr (inr part)))) = one_in_itself k x part
 one_in_need k x (inr (inr none)) = absurd none
+
+-- of one with a `_` among its arguments nothing has to be said
+abbrev blank : Term
+blank = pair (leaf head.Hole) (leaf head.End)
+
+blank_term : term (ty.Projection out (type_args (ty.Hole ∷ []))) ≡ alias_at out (only blank)
+blank_term = term_projection out (type_args (ty.Hole ∷ [])) ∙ ap (alias_at out) (args_are ty.Hole blank term_hole)
+
+blank_said : (s : System) (js : List (Ty × Ty)) → WrittenAreListed s 8 js (alias_at out (only blank))
+blank_said s js k xs (inl is) whole = absurd (whole (subst HoldsPlaceholder (sym (parts_of k out (args_term xs) (only blank) is).1) (inl (inr (inl tt)))))
+blank_said s js k xs (inr (inl none)) whole = absurd none
+blank_said s js k xs (inr (inr part)) whole = absurd (unread_part k (args_term xs) (only blank) part ((tt, (tt, tt)), tt))
+
+pub with_placeholder : (s : System) (js : List (Ty × Ty)) → WrittenAreListed s 8 js (term (ty.Projection out (type_args (ty.Hole ∷ []))))
+with_placeholder s js = subst (WrittenAreListed s 8 js) (sym blank_term) (blank_said s js)
 
 -- ---- as a type of the facts
 
