@@ -1,5 +1,6 @@
 pub mod Listing
 pub mod Closed
+pub mod NoPlaceholders
 pub mod Provable
 pub mod Telling
 pub mod Adding
