@@ -1,4 +1,4 @@
-use Rattle.std.proofs.Common.{◌∙◌, None, sym, ap, subst, option_map}
+use Rattle.std.proofs.Common.{◌∙◌, ap, subst, option_map}
 use Rattle.hir_types.specs.Terms.{hole}
 use Rattle.hir_laws.specs.Lawful.{IsLawful}
 use Rattle.goal_answers.specs.Answers.{answers}
@@ -7,7 +7,6 @@ use Rattle.goal_answers.specs.Steps.{ReadingIs}
 use Rattle.goal_terms.specs.Terms.{term_of}
 use Rattle.goal_search.specs.Sources.{kind_of, system}
 use Rattle.goal_facts.specs.Goals.{asked_goal}
-use Rattle.infer_needs.specs.Read.{IsGoalRead, IsWrittenIf}
 use Rattle.infer_needs.proofs.ReadGoals.{read_at, reads_none, made_reads, goal_written}
 use Rattle.infer_needs.proofs.read.read_goal.Goals as goal
 
