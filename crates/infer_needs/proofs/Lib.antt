@@ -7,5 +7,6 @@ pub mod Judging
 pub mod Opening
 pub mod ReadsYes
 pub mod Leaving
+pub mod Writing
 pub mod Holding
 pub mod Samples

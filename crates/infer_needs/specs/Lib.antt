@@ -1,4 +1,5 @@
 pub mod Listed
 pub mod Judged
 pub mod Left
+pub mod Written
 pub mod Told

@@ -9,6 +9,7 @@ mod prove;
 mod say;
 mod tell;
 mod unknown;
+mod written;
 
 pub use prove::{prove_needs, scope_item};
 pub use tell::tell_all;
