@@ -1,11 +1,13 @@
 pub mod Listing
 pub mod Closed
+pub mod NoPlaceholders
 pub mod Provable
 pub mod Telling
 pub mod Adding
 pub mod Judging
 pub mod Opening
 pub mod ReadsYes
+pub mod ReadGoals
 pub mod Leaving
 pub mod Writing
 pub mod Holding

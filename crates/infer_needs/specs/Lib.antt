@@ -1,5 +1,6 @@
 pub mod Listed
 pub mod Judged
+pub mod Read
 pub mod Left
 pub mod Written
 pub mod Told

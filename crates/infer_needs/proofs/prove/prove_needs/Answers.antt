@@ -29,7 +29,7 @@ use Rattle.infer_needs.proofs.prove.prove_needs.Goals as goal
 pub prove_exprs-requires-clause-needs : goal.prove_exprs-requires-clause-needs
 prove_exprs-requires-clause-needs c n x at =
     subst (λ z. AreProvable (needs_of z (Some x) (recorded c.args.table.now.type_of_expr n))) (sym c.in_ok-sources.ensures.facts)
-    (needs_provable c.args.facts.now c.args.def c.args.table.now c.requires n x)
+    (needs_provable c.args.facts.now c.lawful.ensures c.args.def c.args.table.now c.requires n x)
 
 pub prove_exprs-requires-clause-pats : goal.prove_exprs-requires-clause-pats
 prove_exprs-requires-clause-pats c n =
@@ -37,12 +37,12 @@ prove_exprs-requires-clause-pats c n =
     (pat_needs_provable c.args.facts.now c.args.def c.args.table.now c.requires n)
 
 pub prove_exprs-requires-clause-types : goal.prove_exprs-requires-clause-types
-prove_exprs-requires-clause-types c = table_final c.args.facts.now c.args.def c.args.table.now c.requires
+prove_exprs-requires-clause-types c = table_final c.args.facts.now c.lawful.ensures c.args.def c.args.table.now c.requires
 
 pub prove_pats-requires : goal.prove_pats-requires
 prove_pats-requires c n =
     subst (λ z. AreProvable (pat_needs_at z c.args.table.now n)) (sym c.in_ok-sources.ensures.facts)
-    (pat_needs_provable c.args.facts.now c.args.def c.args.table.now c.requires n)
+    (pat_needs_provable c.args.facts.now c.lawful.ensures c.args.def c.args.table.now c.requires n)
 
 -- the sources and what was judged, as the facts, the item and the body say
 record Judged (raw : RawFacts) (d : DefWithBodyId) (b : RawBody) (f : System) (r : InferenceResult) (ps qs : List Proof) (js ks : List (Ty × Ty)) (gss hss : List (List Gap)) : Type 0 where
@@ -81,7 +81,7 @@ returns-clause-goals c b is =
     let all = judged_of raw d r c.in_ok-sources.sources c.in_ok-sources.ensures.facts (c.in_ok-sources.ensures.item ∙ c.scope_item.ensures) c.lawful-2.ensures body b same ps qs js ks c.prove_pats.new.found gss hss c.into_pairs.ensures.list c.in_ok-proofs.ensures.judged c.in_ok-pat_gaps.ensures.judged in
     subst (λ es. GoalsHold d (given raw d b) (with_goals c.from_vec.result es gss hss r)) (sym c.from_vec-2.ensures)
     (subst (λ xs. GoalsHold d (given raw d b) (with_goals xs ks gss hss r)) (sym c.from_vec.ensures)
-    (goals_hold raw d b (system c.in_ok-sources.sources.sources) r ps qs js ks gss hss all.of_item (as_many_items raw d r b c.requires is) all.exprs all.pats c.into_pairs.ensures.once (node_provable raw d r c.requires b)))
+    (goals_hold raw d b (system c.in_ok-sources.sources.sources) r ps qs js ks gss hss all.of_item (as_many_items raw d r b c.requires is) all.exprs all.pats c.into_pairs.ensures.once (node_provable raw c.lawful.ensures d r c.requires b)))
 
 pub returns-clause-left : goal.returns-clause-left
 returns-clause-left c b is =
@@ -99,7 +99,7 @@ returns-clause-left c b is =
     let all = judged_of raw d r c.in_ok-sources.sources c.in_ok-sources.ensures.facts (c.in_ok-sources.ensures.item ∙ c.scope_item.ensures) c.lawful-2.ensures body b same ps qs js ks c.prove_pats.new.found gss hss c.into_pairs.ensures.list c.in_ok-proofs.ensures.judged c.in_ok-pat_gaps.ensures.judged in
     subst (λ es. HasNoneLeft d (given raw d b) (with_goals c.from_vec.result es gss hss r)) (sym c.from_vec-2.ensures)
     (subst (λ xs. HasNoneLeft d (given raw d b) (with_goals xs ks gss hss r)) (sym c.from_vec.ensures)
-    (has_none_left raw d b (system c.in_ok-sources.sources.sources) r ps qs js ks gss hss all.of_item (as_many_items raw d r b c.requires is) all.exprs all.pats c.into_pairs.ensures.once (node_provable raw d r c.requires b)))
+    (has_none_left raw d b (system c.in_ok-sources.sources.sources) r ps qs js ks gss hss all.of_item (as_many_items raw d r b c.requires is) all.exprs all.pats c.into_pairs.ensures.once (node_provable raw c.lawful.ensures d r c.requires b)))
 
 pub returns-clause-written : goal.returns-clause-written
 returns-clause-written c b is =
