@@ -9,5 +9,6 @@ pub mod Opening
 pub mod ReadsYes
 pub mod ReadGoals
 pub mod Leaving
+pub mod Writing
 pub mod Holding
 pub mod Samples
