@@ -1,4 +1,4 @@
-use Rattle.std.proofs.Common.{◌≡◌, List, map, subst, sym}
+use Rattle.std.proofs.Common.{List, map, subst, sym}
 use Rattle.goal_answers.specs.Goals.{Asked}
 use Rattle.goal_facts.specs.Goals.{asked_goal}
 use Rattle.goal_search.specs.Sources.{system}
