@@ -3,6 +3,7 @@ pub mod Closed
 pub mod Provable
 pub mod Telling
 pub mod Adding
+pub mod Rooted
 pub mod Judging
 pub mod Opening
 pub mod ReadsYes

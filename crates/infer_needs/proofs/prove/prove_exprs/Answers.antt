@@ -1,11 +1,12 @@
-use Rattle.std.proofs.Common.{◌≡◌, ◌+◌, refl, sym, ap, ◌∙◌, subst}
+use Rattle.std.proofs.Common.{◌≡◌, ◌+◌, [], refl, sym, ap, ◌∙◌, subst}
 use Rattle.std.specs.Prelude.{Some, slice_get}
 use Rattle.std.proofs.lemmas.Option.{slice_get_read}
 use Rattle.goal_search.specs.Sources.{system}
 use Rattle.infer_needs.specs.Judged.{AreAllJudged}
 use Rattle.infer_result.specs.Needs.{needs_at}
-use Rattle.infer_needs.specs.Told.{ListsAnswers, first_needs}
+use Rattle.infer_needs.specs.Told.{ListsAnswers, AddsRootsOf, first_needs}
 use Rattle.infer_needs.proofs.Telling.{tells_none, tells_both, tells_here, first_more}
+use Rattle.infer_needs.proofs.Rooted.{roots_both, roots_here}
 use Rattle.infer_needs.proofs.Judging.{all_none, all_more, judged_here}
 use Rattle.infer_needs.proofs.prove.prove_exprs.Goals as goal
 
@@ -17,6 +18,7 @@ loop-at-init c =
       judged = subst (λ gss. AreAllJudged raw f c.args.body.now c.args.table.now 0 c.look_at_table.new.proofs.items c.look_at_table.new.found gss) (sym c.new-gaps.ensures)
           (all_none raw f c.args.body.now c.args.table.now c.look_at_table.new.proofs.items c.look_at_table.new.found (rw (sym c.new-found.ensures, sym c.new-proofs.ensures.items) c.in_ok-look_at_table.ensures));
       told = tells_none f raw.limits.goal_depth c.args.told.now.items;
+      roots = subst (λ ps. AddsRootsOf [] ps c.look_at_table.new.proofs.items) c.new-proofs.ensures.items c.in_ok-look_at_table.ensures.adds.roots;
     }
 
 pub prove_at-requires : goal.prove_at-requires
@@ -42,4 +44,6 @@ loop-at-preserved c =
           (all_more raw f b r at.at at.proofs.items new.proofs.items at.found new.found at.gaps c.in_ok-here.here at.invariant.judged (judged_here raw f b r at.at x at.proofs.items new.proofs.items at.found new.found c.in_ok-here.here found done.judged));
       told = subst (λ xs. ListsAnswers f n xs c.args.told.now.items new.told.items) (first_more raw b r at.at)
           (tells_both f n (first_needs raw b r at.at) (needs_at raw b r at.at) c.args.told.now.items at.told.items new.told.items at.invariant.told (tells_here f n raw b r at.at x at.told.items new.told.items found done.told));
+      roots = subst (λ xs. AddsRootsOf xs [] new.proofs.items) (first_more raw b r at.at)
+          (roots_both (first_needs raw b r at.at) (needs_at raw b r at.at) [] at.proofs.items new.proofs.items at.invariant.roots (roots_here raw b r at.at x at.proofs.items new.proofs.items found done.roots));
     }
