@@ -21,14 +21,14 @@ use Rattle.hir_types.specs.Terms.{Term, hole, leaf, pair}
 use Rattle.goal_facts.specs.Systems.{IsSystemOf}
 use Rattle.infer_result.specs.declared.gaps.Gap.{Gap}
 use Rattle.infer_result.specs.declared.result.InferenceResult.{InferenceResult}
-use Rattle.infer_result.specs.Projections.{HasEntry, IsAboutAlias, IsFound, AreFound}
+use Rattle.infer_result.specs.Projections.{GoalReads, HasEntry, IsAboutAlias, IsFound, AreFound}
 use Rattle.infer_result.specs.CannotHold.{MayHold}
-use Rattle.infer_result.specs.Needs.{IsNeeded, HoldsNoHole, IsProved, gap_says, HasGap, IsUnproved, IsClash, IsTrueGap, with_goals, scope_item, GoalsHold, HasNoneLeft, needs_of, pat_needs_of, node_needs}
+use Rattle.infer_result.specs.Needs.{IsNeeded, HoldsUnknown, HoldsNoHole, IsProved, gap_says, HasGap, IsUnproved, IsClash, IsTrueGap, with_goals, scope_item, GoalsHold, HasNoneLeft, needs_of, pat_needs_of, node_needs}
 use Rattle.infer_result.specs.Places.{Given}
 use Rattle.infer_result.specs.Table.{listed_gaps, recorded}
 use Rattle.infer_result.specs.Typed.{given}
 use Rattle.infer_needs.specs.Listed.{AreDistinct}
-use Rattle.infer_needs.specs.Judged.{IsProvable, AreProvable, HasProofOf, IsDone, IsEntry, IsOfFailing, IsOfClash, AreDone, AreAllJudged, ArePatsJudged}
+use Rattle.infer_needs.specs.Judged.{IsProvable, AreProvable, ReadsAbout, HasProofOf, IsDone, IsEntry, IsOfFailing, IsOfClash, AreDone, AreAllJudged, ArePatsJudged}
 use Rattle.infer_needs.proofs.Adding.{adds_then}
 use Rattle.infer_needs.proofs.Judging.{done_still}
 use Rattle.infer_needs.proofs.Leaving.{table_later}
@@ -116,14 +116,14 @@ module _ (raw : RawFacts) (d : DefWithBodyId) (b : RawBody) (f : System) (r : In
   done_is n a gs at (inr (inl h)) = inr (inl (h.1, record { gaps = gs; at = at; number = h.0; listed = h.2 }, h.3))
   done_is n a gs at (inr (inr h)) = inr (inr h)
 
-  -- where it asks for an associated type
-  listed_is : (n : ExprOrPatId) (a : Asked) (gs : List Gap) → listed_gaps z n ≡ Some gs → IsAboutAlias a → IsDone f raw.limits.goal_depth n qs ks gs a → HasEntry ks a ⊎ (IsClash z n a ⊎ IsUnproved z n a)
-  listed_is n a gs at about (inl h) = elim (h.1 about) [
+  -- where it asks for an associated type, once it is read
+  listed_is : (n : ExprOrPatId) (a b : Asked) (gs : List Gap) → listed_gaps z n ≡ Some gs → ReadsAbout f raw.limits.goal_depth a b → IsDone f raw.limits.goal_depth n qs ks gs a → HasEntry ks b ⊎ (IsClash z n b ⊎ IsUnproved z n a)
+  listed_is n a b gs at about (inl h) = elim (h.1 b about) [
     | inl k ↦ inl k
     | inr k ↦ inr (inl (k.1, k.2, k.3, k.4, record { gaps = gs; at = at; number = k.0; listed = k.5 }, k.6))
   ]
-  listed_is n a gs at about (inr (inl h)) = inr (inr (h.1, record { gaps = gs; at = at; number = h.0; listed = h.2 }, h.3))
-  listed_is n a gs at about (inr (inr h)) = absurd (about.known h.0)
+  listed_is n a b gs at about (inr (inl h)) = inr (inr (h.1, record { gaps = gs; at = at; number = h.0; listed = h.2 }, h.3))
+  listed_is n a b gs at about (inr (inr h)) = absurd (about.known h.0)
 
   -- what became of it, among the gaps of its node
   record Became (n : ExprOrPatId) (a : Asked) : Type 0 where
@@ -140,8 +140,8 @@ module _ (raw : RawFacts) (d : DefWithBodyId) (b : RawBody) (f : System) (r : In
   need_holds : (n : ExprOrPatId) (a : Asked) → IsNeeded g z n a → IsProved z a ⊎ (IsUnproved z n a ⊎ MayHold f raw.limits.goal_depth a)
   need_holds n a is = (let h = became n a is in done_is n a h.gaps h.at h.done)
 
-  entry_holds : (n : ExprOrPatId) (a : Asked) → IsNeeded g z n a → IsAboutAlias a → HasEntry ks a ⊎ (IsClash z n a ⊎ IsUnproved z n a)
-  entry_holds n a is about = (let h = became n a is in listed_is n a h.gaps h.at about h.done)
+  entry_holds : (n : ExprOrPatId) (a b : Asked) → IsNeeded g z n a → (HoldsUnknown a.parts → ⊥) → GoalReads f raw.limits.goal_depth a b → IsAboutAlias b → HasEntry ks b ⊎ (IsClash z n b ⊎ IsUnproved z n a)
+  entry_holds n a b is known reads about = (let h = became n a is in listed_is n a b h.gaps h.at (record { known = known; reads = reads; about = about }) h.done)
 
   entry_is : (x : Ty × Ty) → IsEntry qs x → IsFound z x
   entry_is x h = record {
@@ -158,7 +158,7 @@ module _ (raw : RawFacts) (d : DefWithBodyId) (b : RawBody) (f : System) (r : In
   are_found : AreFound z
   are_found = record { each = λ k x at. entry_is x (pats.lists.right exprs.entries k x at); once = distinct }
 
-  gap_is : (n : ExprOrPatId) (x : Gap) → IsOfFailing f raw.limits.goal_depth n (node_needs raw b r n) x ⊎ IsOfClash n (node_needs raw b r n) qs ks x → IsTrueGap g f z n x
+  gap_is : (n : ExprOrPatId) (x : Gap) → IsOfFailing f raw.limits.goal_depth n (node_needs raw b r n) x ⊎ IsOfClash f raw.limits.goal_depth n (node_needs raw b r n) qs ks x → IsTrueGap g f z n x
   gap_is n x (inl h) = subst (IsTrueGap g f z n) (sym h.is) (
     refl,
     record {
@@ -177,11 +177,13 @@ module _ (raw : RawFacts) (d : DefWithBodyId) (b : RawBody) (f : System) (r : In
           args = h.args;
           is = refl;
           listed = h.listed;
-          needed = is_needed n h.at asks h.among;
+          need = h.need;
+          needed = is_needed n h.at h.need h.among;
+          reads = h.reads;
           proved = is_proved asks h.proved;
           differ = h.differ;
           other = h.other;
-          whole = each_provable (node_needs raw b r n) h.at asks (provable n) h.among;
+          whole = no_hole asks.parts h.written;
         },
       )
 

@@ -26,16 +26,18 @@ use Rattle.goal_search.specs.declared.answer.Answer.{Answer}
 use Rattle.goal_search.specs.declared.answer.Answer.TheVariants as answer
 use Rattle.goal_facts.specs.Goals.{asked_goal, IsAnswer}
 use Rattle.goal_prove.specs.Entries.{AddsProofs}
+use Rattle.goal_prove.specs.Written.{IsWritten}
 use Rattle.infer_result.specs.declared.gaps.Gap.{Gap}
 use Rattle.infer_result.specs.declared.result.InferenceResult.{InferenceResult}
-use Rattle.infer_result.specs.Projections.{IsListedAs, HasEntry, IsAboutAlias, stays_at, NoneIsLeft}
-use Rattle.infer_result.specs.Needs.{HoldsUnknown, Saying, clashes, gap_says, needs_of, needs_at, pat_needs_at}
+use Rattle.infer_result.specs.Projections.{IsListedAs, GoalReads, HasEntry, stays_at, NoneIsLeft}
+use Rattle.infer_result.specs.Needs.{Saying, clashes, gap_says, needs_of, needs_at, pat_needs_at}
 use Rattle.infer_result.specs.Table.{recorded}
 use Rattle.infer_result.specs.Closed.{AllTypes}
 use Rattle.infer_needs.specs.Listed.{FindsIn}
 use Rattle.infer_needs.specs.Left.{Lists}
-use Rattle.infer_needs.specs.Judged.{IsProvable, AreProvable, unproved, clash, IsAmong, IsSaidOnce, CannotHoldAsIs, IsSaidUnlessMay, SaysAlias, IsNoted, HasProofOf, IsSaid, IsSaidClash, IsDone, IsJudged, IsEntry, AddsEntries, IsOfFailing, IsOfClash, AreDone, AreJudged, AreAllJudged, ArePatsJudged}
+use Rattle.infer_needs.specs.Judged.{IsProvable, AreProvable, unproved, clash, IsAmong, IsSaidOnce, CannotHoldAsIs, IsSaidUnlessMay, ReadsAbout, SaysAlias, IsNoted, HasProofOf, IsSaid, IsSaidClash, IsDone, IsJudged, IsEntry, AddsEntries, IsOfFailing, IsOfClash, AreDone, AreJudged, AreAllJudged, ArePatsJudged}
 use Rattle.infer_needs.proofs.Adding.{adds_none, adds_then, front_get, has_later, listed_later, entry_later, entries_later, lists_none, lists_then}
+use Rattle.infer_needs.proofs.ReadGoals.{goal_is_read, reads_same}
 use Rattle.infer_needs.proofs.Leaving.{table_later}
 
 -- ---- what stays so
@@ -46,7 +48,7 @@ clash_later e gs hs a p h = (h.0, h.1, h.2, h.3, h.4, front_get gs hs p h.0 (cla
 -- what became of a goal
 done_later : (f : System) (n : ℕ) (e : ExprOrPatId) (ps qs : List Proof) (js ks : List (Ty × Ty)) (gs hs : List Gap) (a : Asked) → IsFront ps qs → IsFront js ks → IsFront gs hs → IsDone f n e ps js gs a → IsDone f n e qs ks hs a
 done_later f n e ps qs js ks gs hs a p l g (inl h) =
-    inl (has_later ps qs a p h.0, λ about. elim (h.1 about) [ inl k ↦ inl (entry_later js ks a l k) | inr k ↦ inr (clash_later e gs hs a g k) ])
+    inl (has_later ps qs a p h.0, λ b about. elim (h.1 b about) [ inl k ↦ inl (entry_later js ks b l k) | inr k ↦ inr (clash_later e gs hs b g k) ])
 done_later f n e ps qs js ks gs hs a p l g (inr (inl h)) = inr (inl (h.0, h.1, front_get gs hs g h.0 (unproved e h.1) h.2, h.3))
 done_later f n e ps qs js ks gs hs a p l g (inr (inr h)) = inr (inr h)
 
@@ -56,21 +58,22 @@ done_later f n e ps qs js ks gs hs a p l g (inr (inr h)) = inr (inr h)
 abbrev FailsNow : System → ℕ → ExprOrPatId → Goal → Gap → Type 0
 FailsNow f n e q x = (x ≡ unproved e q) × CannotHoldAsIs f n (asked_goal q) × ((answers f n).Yes (asked_goal q) → ⊥)
 
--- of this goal, which has a proof, and asks an associated type to be another type than is listed
-record ClashesNow (e : ExprOrPatId) (q : Goal) (qs : List Proof) (ks : List (Ty × Ty)) (x : Gap) : Type 0 where
+-- of what this goal reads as, which has a proof, and asks an associated type to be another type than is listed
+record ClashesNow (f : System) (n : ℕ) (e : ExprOrPatId) (q : Goal) (qs : List Proof) (ks : List (Ty × Ty)) (x : Gap) : Type 0 where
   alias : TypeAliasId
   args : List GenericArg
   first : Ty
   second : Ty
   is : x ≡ clash e (ty.Projection alias args) first second
   listed : IsListedAs ks alias args first
-  asks : asked_goal (goal.Projection alias args second) ≡ asked_goal q
+  reads : GoalReads f n (asked_goal q) (asked_goal (goal.Projection alias args second))
   proved : HasProofOf qs (asked_goal (goal.Projection alias args second))
   differ : Same first second → ⊥
   other : term second ≡ stays_at alias args → ⊥
+  written : IsWritten (asked_goal (goal.Projection alias args second)).parts
 
 abbrev IsTrueNow : System → ℕ → ExprOrPatId → Goal → List Proof → List (Ty × Ty) → Gap → Type 0
-IsTrueNow f n e q qs ks x = FailsNow f n e q x ⊎ ClashesNow e q qs ks x
+IsTrueNow f n e q qs ks x = FailsNow f n e q x ⊎ ClashesNow f n e q qs ks x
 
 -- no more is said, or what is so, and of which nothing was said
 abbrev Says : System → ℕ → ExprOrPatId → Goal → List Proof → List (Ty × Ty) → List Gap → List Gap → Type 0
@@ -120,40 +123,40 @@ module _ (raw : RawFacts) (f : System) (e : ExprOrPatId) (q : Goal) (ps qs : Lis
 
   -- ---- what is listed
 
-  new_entry : IsProvable (asked_goal q) → HasProofOf qs (asked_goal q) → (s : SaysAlias q) → IsEntry qs (ty.Projection s.alias s.args, s.type)
-  new_entry written has s = record {
+  new_entry : (s : SaysAlias f deep (asked_goal q) qs) → IsEntry qs (ty.Projection s.alias s.args, s.type)
+  new_entry s = record {
     alias = s.alias;
     args = s.args;
     is = refl;
-    proved = subst (λ g. HasProofOf qs (asked_goal g)) s.is has;
-    read = s.read;
-    known = subst (λ g. HoldsUnknown (asked_goal g).parts → ⊥) s.is s.known;
+    proved = s.proved;
+    read = goal_is_read f deep (asked_goal q) (asked_goal (goal.Projection s.alias s.args s.type)) s.reads;
+    known = s.known;
     other = s.other;
-    written = subst (λ g. IsProvable (asked_goal g)) s.is written;
+    written = s.written;
   }
 
-  one_entry : IsProvable (asked_goal q) → AddsProofs raw f ps qs → HasProofOf qs (asked_goal q) → (s : SaysAlias q) → ks ≡ js ++ (ty.Projection s.alias s.args, s.type) ∷ [] → AddsEntries ps qs js ks
-  one_entry written adds has s is =
+  one_entry : AddsProofs raw f ps qs → (s : SaysAlias f deep (asked_goal q) qs) → ks ≡ js ++ (ty.Projection s.alias s.args, s.type) ∷ [] → AddsEntries ps qs js ks
+  one_entry adds s is =
       let y : Ty × Ty = (ty.Projection s.alias s.args, s.type) in
       record {
         behind = (y ∷ [], is);
         right = λ h k x at. elim (get_more js y k x (subst (λ zs. slice_get zs k ≡ Some x) is at)) [
           | inl l ↦ entries_later ps qs js adds.behind h k x l
-          | inr l ↦ subst (IsEntry qs) l.1 (new_entry written has s)
+          | inr l ↦ subst (IsEntry qs) l.1 (new_entry s)
         ];
       }
 
   same_entries : AddsProofs raw f ps qs → ks ≡ js → AddsEntries ps qs js ks
   same_entries adds is = subst (AddsEntries ps qs js) (sym is) (lists_none ps qs js adds.behind)
 
-  noted_lists : IsProvable (asked_goal q) → AddsProofs raw f ps qs → HasProofOf qs (asked_goal q) → IsNoted e q js ks gs hs → AddsEntries ps qs js ks
-  noted_lists written adds has (inl h) = same_entries adds h.0
-  noted_lists written adds has (inr (s, inl h)) = one_entry written adds has s h.0
-  noted_lists written adds has (inr (s, inr h)) = same_entries adds h.0
+  noted_lists : AddsProofs raw f ps qs → IsNoted f deep e (asked_goal q) qs js ks gs hs → AddsEntries ps qs js ks
+  noted_lists adds (inl h) = same_entries adds h.0
+  noted_lists adds (inr (s, inl h)) = one_entry adds s h.0
+  noted_lists adds (inr (s, inr h)) = same_entries adds h.0
 
-  judged_lists : IsProvable (asked_goal q) → IsJudged raw f e q ps qs js ks gs hs → AddsEntries ps qs js ks
-  judged_lists written (inl h) = noted_lists written h.adds h.has h.noted
-  judged_lists written (inr h) = same_entries (subst (AddsProofs raw f ps) (sym h.proofs) (adds_none raw f ps)) h.listed
+  judged_lists : IsJudged raw f e q ps qs js ks gs hs → AddsEntries ps qs js ks
+  judged_lists (inl h) = noted_lists h.adds h.noted
+  judged_lists (inr h) = same_entries (subst (AddsProofs raw f ps) (sym h.proofs) (adds_none raw f ps)) h.listed
 
   -- ---- what is said
 
@@ -165,47 +168,51 @@ module _ (raw : RawFacts) (f : System) (e : ExprOrPatId) (q : Goal) (ps qs : Lis
   said_says fails (inl h) = inl h.1
   said_says fails (inr h) = once_says (unproved e q) (inl (refl, h.0, fails)) h.1
 
-  clash_now : HasProofOf qs (asked_goal q) → (s : SaysAlias q) (t : Ty) → ks ≡ js → FindsIn js (ty.Projection s.alias s.args) (Some t) → (Same t s.type → ⊥)
+  clash_now : (s : SaysAlias f deep (asked_goal q) qs) (t : Ty) → ks ≡ js → FindsIn js (ty.Projection s.alias s.args) (Some t) → (Same t s.type → ⊥)
       → IsTrueNow f deep e q qs ks (clash e (ty.Projection s.alias s.args) t s.type)
-  clash_now has s t is finds differ = inr (record {
+  clash_now s t is finds differ = inr (record {
     alias = s.alias;
     args = s.args;
     first = t;
     second = s.type;
     is = refl;
     listed = subst (λ zs. IsListedAs zs s.alias s.args t) (sym is) finds;
-    asks = ap asked_goal (sym s.is);
-    proved = subst (λ g. HasProofOf qs (asked_goal g)) s.is has;
+    reads = s.reads;
+    proved = s.proved;
     differ = differ;
     other = s.other;
+    written = s.written;
   })
 
-  noted_says : HasProofOf qs (asked_goal q) → IsNoted e q js ks gs hs → Says f deep e q qs ks gs hs
-  noted_says has (inl h) = inl h.1
-  noted_says has (inr (s, inl h)) = inl h.1
-  noted_says has (inr (s, inr h)) = elim h.3 [
+  noted_says : IsNoted f deep e (asked_goal q) qs js ks gs hs → Says f deep e q qs ks gs hs
+  noted_says (inl h) = inl h.1
+  noted_says (inr (s, inl h)) = inl h.1
+  noted_says (inr (s, inr h)) = elim h.3 [
     | inl k ↦ inl k.1
-    | inr k ↦ once_says (clash e (ty.Projection s.alias s.args) h.1 s.type) (clash_now has s h.1 h.0 h.2 k.0) k.1
+    | inr k ↦ once_says (clash e (ty.Projection s.alias s.args) h.1 s.type) (clash_now s h.1 h.0 h.2 k.0) k.1
   ]
 
   judged_says : IsJudged raw f e q ps qs js ks gs hs → Says f deep e q qs ks gs hs
-  judged_says (inl h) = noted_says h.has h.noted
+  judged_says (inl h) = noted_says h.noted
   judged_says (inr h) = said_says h.fails h.said
 
   -- ---- what becomes of it
 
-  abbrev alias_goal : (s : SaysAlias q) → Term → Asked
-  alias_goal s w = record { kind = projects s.alias; parts = pair (chain (map arg_term s.args)) w }
+  abbrev alias_asks : SaysAlias f deep (asked_goal q) qs → Term → Asked
+  alias_asks s w = record { kind = projects s.alias; parts = pair (chain (map arg_term s.args)) w }
 
-  noted_done : AreAt e gs → IsNoted e q js ks gs hs → IsAboutAlias (asked_goal q) → HasEntry ks (asked_goal q) ⊎ IsSaidClash e hs (asked_goal q)
-  noted_done here (inl h) about = absurd (h.2 about)
-  noted_done here (inr (s, inl h)) about =
+  noted_done : AreAt e gs → IsNoted f deep e (asked_goal q) qs js ks gs hs → (b : Asked) → ReadsAbout f deep (asked_goal q) b → HasEntry ks b ⊎ IsSaidClash e hs b
+  noted_done here (inl h) b about = absurd (h.2 b about)
+  noted_done here (inr (s, inl h)) b about =
       let y : Ty × Ty = (ty.Projection s.alias s.args, s.type) in
-      inl (s.alias, s.args, s.type, (length js, subst (λ zs. slice_get zs (length js) ≡ Some y) (sym h.0) (get_last js y)), ap asked_goal (sym s.is))
-  noted_done here (inr (s, inr h)) about = elim h.3 [
-    | inl k ↦ inl (s.alias, s.args, h.1, subst (λ zs. IsListedAs zs s.alias s.args h.1) (sym h.0) h.2, ap (alias_goal s) k.0 ∙ ap asked_goal (sym s.is))
-    | inr k ↦ inr (subst (λ g. IsSaidClash e hs (asked_goal g)) (sym s.is) (clash_said e gs s.alias s.args h.1 s.type hs here k.1))
-  ]
+      let same = reads_same f deep (asked_goal q) b about.reads (alias_asks s (term s.type)) s.reads in
+      inl (s.alias, s.args, s.type, (length js, subst (λ zs. slice_get zs (length js) ≡ Some y) (sym h.0) (get_last js y)), same)
+  noted_done here (inr (s, inr h)) b about =
+      let same = reads_same f deep (asked_goal q) b about.reads (alias_asks s (term s.type)) s.reads in
+      elim h.3 [
+        | inl k ↦ inl (s.alias, s.args, h.1, subst (λ zs. IsListedAs zs s.alias s.args h.1) (sym h.0) h.2, ap (alias_asks s) k.0 ∙ same)
+        | inr k ↦ inr (subst (IsSaidClash e hs) same (clash_said e gs s.alias s.args h.1 s.type hs here k.1))
+      ]
 
   said_done : AreAt e gs → IsSaidUnlessMay f deep e q gs hs → IsDone f deep e qs ks hs (asked_goal q)
   said_done here (inl h) = inr (inr h.0)
@@ -241,7 +248,7 @@ judged_none raw f e ps js = record {
 }
 
 module _ (raw : RawFacts) (f : System) (e : ExprOrPatId) (xs : List Asked) (q : Goal) (ps qs rs : List Proof) (js ks ls : List (Ty × Ty)) (gs hs : List Gap)
-    (written : IsProvable (asked_goal q)) (before : AreJudged raw f e xs ps qs js ks gs) (now : IsJudged raw f e q qs rs ks ls gs hs) where
+    (before : AreJudged raw f e xs ps qs js ks gs) (now : IsJudged raw f e q qs rs ks ls gs hs) where
   abbrev n : ℕ
   n = raw.limits.goal_depth
 
@@ -255,7 +262,7 @@ module _ (raw : RawFacts) (f : System) (e : ExprOrPatId) (xs : List Asked) (q : 
   adds = judged_adds raw f e q qs rs ks ls gs hs now
 
   lists : AddsEntries qs rs ks ls
-  lists = judged_lists raw f e q qs rs ks ls gs hs written now
+  lists = judged_lists raw f e q qs rs ks ls gs hs now
 
   here : AreAt e gs
   here k x at = elim (before.done.gaps k x at) [
@@ -269,7 +276,7 @@ module _ (raw : RawFacts) (f : System) (e : ExprOrPatId) (xs : List Asked) (q : 
     | inr h ↦ subst (IsDone f n e rs ls hs) h.1 (judged_done raw f e q qs rs ks ls gs hs here now)
   ]
 
-  more : (x : Gap) → IsOfFailing f n e xs x ⊎ IsOfClash e xs qs ks x → IsOfFailing f n e bs x ⊎ IsOfClash e bs rs ls x
+  more : (x : Gap) → IsOfFailing f n e xs x ⊎ IsOfClash f n e xs qs ks x → IsOfFailing f n e bs x ⊎ IsOfClash f n e bs rs ls x
   more x (inl h) = inl (record {
     goal = h.goal;
     is = h.is;
@@ -285,14 +292,17 @@ module _ (raw : RawFacts) (f : System) (e : ExprOrPatId) (xs : List Asked) (q : 
     second = h.second;
     is = h.is;
     listed = listed_later ks ls h.alias h.args h.first lists.behind h.listed;
+    need = h.need;
     at = h.at;
-    among = get_left xs (asked_goal q ∷ []) h.at (asked_goal (goal.Projection h.alias h.args h.second)) h.among;
+    among = get_left xs (asked_goal q ∷ []) h.at h.need h.among;
+    reads = h.reads;
     proved = has_later qs rs (asked_goal (goal.Projection h.alias h.args h.second)) adds.behind h.proved;
     differ = h.differ;
     other = h.other;
+    written = h.written;
   })
 
-  gap_now : (y x : Gap) → y ≡ x → IsTrueNow f n e q rs ls y → IsOfFailing f n e bs x ⊎ IsOfClash e bs rs ls x
+  gap_now : (y x : Gap) → y ≡ x → IsTrueNow f n e q rs ls y → IsOfFailing f n e bs x ⊎ IsOfClash f n e bs rs ls x
   gap_now y x is (inl h) = inl (record { goal = q; is = sym is ∙ h.0; at = length xs; among = get_last xs (asked_goal q); known = h.1; fails = h.2 })
   gap_now y x is (inr h) = inr (record {
     alias = h.alias;
@@ -301,14 +311,17 @@ module _ (raw : RawFacts) (f : System) (e : ExprOrPatId) (xs : List Asked) (q : 
     second = h.second;
     is = sym is ∙ h.is;
     listed = h.listed;
+    need = asked_goal q;
     at = length xs;
-    among = get_last xs (asked_goal q) ∙ ap Some (sym h.asks);
+    among = get_last xs (asked_goal q);
+    reads = h.reads;
     proved = h.proved;
     differ = h.differ;
     other = h.other;
+    written = h.written;
   })
 
-  gap_by : Says f n e q rs ls gs hs → (k : ℕ) (x : Gap) → slice_get hs k ≡ Some x → IsOfFailing f n e bs x ⊎ IsOfClash e bs rs ls x
+  gap_by : Says f n e q rs ls gs hs → (k : ℕ) (x : Gap) → slice_get hs k ≡ Some x → IsOfFailing f n e bs x ⊎ IsOfClash f n e bs rs ls x
   gap_by (inl h) k x at = more x (before.done.gaps k x (subst (λ zs. slice_get zs k ≡ Some x) h at))
   gap_by (inr h) k x at = elim (get_more gs h.0 k x (subst (λ zs. slice_get zs k ≡ Some x) h.1 at)) [
     | inl l ↦ more x (before.done.gaps k x l)
@@ -379,11 +392,14 @@ done_still f n e xs ps qs js ks gs p l h = record {
       second = g.second;
       is = g.is;
       listed = listed_later js ks g.alias g.args g.first l g.listed;
+      need = g.need;
       at = g.at;
       among = g.among;
+      reads = g.reads;
       proved = has_later ps qs (asked_goal (goal.Projection g.alias g.args g.second)) p g.proved;
       differ = g.differ;
       other = g.other;
+      written = g.written;
     })
   ];
   once = h.once;

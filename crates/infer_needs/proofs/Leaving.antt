@@ -18,7 +18,7 @@ use Rattle.infer_table.proofs.BindingLaws.{get_last, get_more}
 use Rattle.infer_table.proofs.UndoLaws.{front_itself}
 use Rattle.goal_answers.specs.Goals.{Asked, System, projects}
 use Rattle.goal_answers.specs.Answers.{answers}
-use Rattle.goal_answers.specs.Reading.{ReadsAs, staying}
+use Rattle.goal_answers.specs.Reading.{IsRead, ReadsAs, staying}
 use Rattle.goal_facts.specs.declared.proof.Proof.{Proof}
 use Rattle.goal_facts.specs.Goals.{asked_goal}
 use Rattle.goal_facts.specs.Reading.{TypeReads, IsTypeRead}
@@ -145,14 +145,14 @@ module _ (raw : RawFacts) (f : System) (k : TypeAliasId) (w : Term) (zs : List G
     reads_unknown js h xs e u r = inr (inr (subst (λ (a : Asked). HoldsUnknown a.parts) (same_goal xs u e r) h))
 
     -- its entry is added
-    module _ (ps qs : List Proof) (js : List (Ty × Ty)) (adds : AddsProofs raw f ps qs) (roots : AddsRootsOf [] ps qs) (proved : HasProofOf qs (asked_goal (goal.Projection k zs v))) (known : HoldsUnknown (asked_goal (goal.Projection k zs v)).parts → ⊥) (other : term v ≡ stays_at k zs → ⊥) (written : IsWritten (asked_goal (goal.Projection k zs v)).parts) (here : WereRead f n js) where
+    module _ (ps qs : List Proof) (js : List (Ty × Ty)) (adds : AddsProofs raw f ps qs) (roots : AddsRootsOf [] ps qs) (args_read : IsRead (chain (map arg_term zs))) (proved : HasProofOf qs (asked_goal (goal.Projection k zs v))) (known : HoldsUnknown (asked_goal (goal.Projection k zs v)).parts → ⊥) (other : term v ≡ stays_at k zs → ⊥) (written : IsWritten (asked_goal (goal.Projection k zs v)).parts) (here : WereRead f n js) where
       abbrev more : List (Ty × Ty)
       more = js ++ (ty.Projection k zs, v) ∷ []
 
       entries : AreEntries ps js → AreEntries qs more
       entries are i x at = elim (get_more js (ty.Projection k zs, v) i x at) [
         | inl h ↦ entries_later ps qs js adds.behind are i x h
-        | inr h ↦ subst (IsEntry qs) h.1 (record { alias = k; args = zs; is = refl; proved = proved; read = reads_read f n (ty.Projection k zs) v reads; known = known; other = other; written = written })
+        | inr h ↦ subst (IsEntry qs) h.1 (record { alias = k; args = zs; is = refl; proved = proved; read = (args_read, reads_read f n (ty.Projection k zs) v reads); known = known; other = other; written = written })
       ]
 
       were : WereRead f n js → WereRead f n more

@@ -7,6 +7,7 @@ pub mod Rooted
 pub mod Judging
 pub mod Opening
 pub mod ReadsYes
+pub mod ReadGoals
 pub mod Leaving
 pub mod Holding
 pub mod Samples

@@ -141,12 +141,12 @@ HasWrittenHeads (hole k) = Unit {0}
 HasWrittenHeads (leaf h) = IsWrittenHead h
 HasWrittenHeads (pair a b) = HasWrittenHeads a × HasWrittenHeads b
 
-written_heads : (t : Term) → IsWritten t → HasWrittenHeads t
+pub written_heads : (t : Term) → IsWritten t → HasWrittenHeads t
 written_heads (hole k) h = tt
 written_heads (leaf x) h = h
 written_heads (pair a b) h = (written_heads a h.0, written_heads b h.1)
 
-no_hole : (t : Term) → IsWritten t → (k : Hole) → occurs k t ≡ true → ⊥
+pub no_hole : (t : Term) → IsWritten t → (k : Hole) → occurs k t ≡ true → ⊥
 no_hole (hole j) h k o = h
 no_hole (leaf x) h k o = true≢false (sym o)
 no_hole (pair a b) h k o = elim (or_cases (occurs k a) (occurs k b) o) [
@@ -295,7 +295,7 @@ facts_heads (d ∷ ds) h = (h 0 d refl, facts_heads ds (λ i e at. h (suc i) e a
 abbrev AliasIsWritten : Aliases → Type 0
 AliasIsWritten A = (k : TypeAliasId) (w u : Term) → A k w u → IsWritten w → IsWritten u
 
-reading_written : (A : Aliases) → AliasIsWritten A → (p : Fill) (t u : Term) → HasWrittenHeads t → ((k : Hole) → occurs k t ≡ true → IsWritten (p k)) → Reads A p t u → IsWritten u
+pub reading_written : (A : Aliases) → AliasIsWritten A → (p : Fill) (t u : Term) → HasWrittenHeads t → ((k : Hole) → occurs k t ≡ true → IsWritten (p k)) → Reads A p t u → IsWritten u
 reading_written A written p (hole j) u h fills r = subst IsWritten (sym r) (fills j (hole_eq_same j))
 reading_written A written p (leaf x) u h fills r = subst IsWritten (sym r.1) h
 reading_written A written p (pair a b) u h fills r =
@@ -360,7 +360,7 @@ module _ (raw : RawFacts) (item : GenericDefId) (f : System) (of : IsSystemOf ra
   next_written v written k w u (known, inr (none, inl a)) h = given_written v written k w u h f.rules rules_heads a
   next_written v written k w u (known, inr (none, inr (rest, e))) h = subst IsWritten (sym e) (tt, h)
 
-  aliases_written : (m : ℕ) → AliasIsWritten (answers f m).Alias
+  pub aliases_written : (m : ℕ) → AliasIsWritten (answers f m).Alias
   aliases_written zero k w u a h = subst IsWritten (sym a.3) (tt, h)
   aliases_written (suc m) k w u a h = next_written (answers f m) (aliases_written m) k w u a h
 

@@ -14,3 +14,8 @@ pub mod Left
 pub mod ItselfListed
 pub mod Unknowns
 pub mod OpenGoals
+pub mod Written
+pub mod Entries
+pub mod BoolArgs
+pub mod Clashing
+pub mod Clashes

@@ -25,11 +25,12 @@ use Rattle.infer_result.specs.declared.gaps.Gap.{Gap}
 use Rattle.infer_result.specs.declared.gaps.Gap.TheVariants as gap
 use Rattle.infer_result.specs.declared.result.InferenceResult.{InferenceResult}
 use Rattle.infer_result.specs.Closed.{AllTypes}
-use Rattle.infer_result.specs.Projections.{IsListedAs, HasEntry, IsAboutAlias, stays_at, NoneIsLeft}
+use Rattle.infer_result.specs.Projections.{IsListedAs, GoalReads, HasEntry, IsAboutAlias, stays_at, NoneIsLeft}
 use Rattle.infer_result.specs.CannotHold.{CannotHold, MayHold}
 use Rattle.infer_result.specs.Needs.{HoldsUnknown, Saying, gap_says, needs_of, needs_at, pat_needs_at}
 use Rattle.infer_result.specs.Table.{recorded}
 use Rattle.infer_needs.specs.Listed.{FindsIn}
+use Rattle.infer_needs.specs.Told.{AddsRootsOf}
 
 -- ---- goals that can be proved
 
@@ -84,27 +85,40 @@ IsListedNow e a u js ks gs hs =
     ((ks ≡ js ++ (a, u) ∷ []) × (hs ≡ gs))
     ⊎ ((ks ≡ js) × (t : Ty) × FindsIn js a (Some t) × (((term t ≡ term u) × (hs ≡ gs)) ⊎ ((Same t u → ⊥) × IsSaidOnce (clash e a t u) gs hs)))
 
--- the goal says of an associated type what can be listed
-pub record SaysAlias (q : Goal) : Type 0 where
-  pub alias : TypeAliasId
-  pub args : List GenericArg
-  pub type : Ty
-  pub is : q ≡ goal.Projection alias args type
-  pub read : IsRead (term type)
-  pub known : HoldsUnknown (asked_goal q).parts → ⊥
-  pub other : term type ≡ stays_at alias args → ⊥
-
--- what it says is listed, where it can be
-abbrev pub IsNoted : ExprOrPatId → Goal → List (Ty × Ty) → List (Ty × Ty) → List Gap → List Gap → Type 0
-IsNoted e q js ks gs hs =
-    ((ks ≡ js) × (hs ≡ gs) × (IsAboutAlias (asked_goal q) → ⊥))
-    ⊎ ((s : SaysAlias q) × IsListedNow e (ty.Projection s.alias s.args) s.type js ks gs hs)
-
--- ---- one goal
-
 -- a proof is among these whose goal it is
 abbrev pub HasProofOf : List Proof → Asked → Type 0
 HasProofOf ps a = (k : ℕ) × (x : Proof) × (slice_get ps k ≡ Some x) × (asked_goal x.goal ≡ a)
+
+-- the goal, in which `{unknown}` doesn't stand, reads as one that is about an associated type
+pub record ReadsAbout (f : System) (n : ℕ) (a b : Asked) : Type 0 where
+  pub known : HoldsUnknown a.parts → ⊥
+  pub reads : GoalReads f n a b
+  pub about : IsAboutAlias b
+
+-- once it is read the goal says of an associated type what can be listed; and this has a proof
+pub record SaysAlias (f : System) (n : ℕ) (a : Asked) (ps : List Proof) : Type 0 where
+  pub alias : TypeAliasId
+  pub args : List GenericArg
+  pub type : Ty
+  pub reads : GoalReads f n a (asked_goal (goal.Projection alias args type))
+  pub proved : HasProofOf ps (asked_goal (goal.Projection alias args type))
+  pub known : HoldsUnknown (asked_goal (goal.Projection alias args type)).parts → ⊥
+  pub other : term type ≡ stays_at alias args → ⊥
+  pub written : IsWritten (asked_goal (goal.Projection alias args type)).parts
+
+-- what it says is listed, where it can be
+abbrev pub IsNoted : System → ℕ → ExprOrPatId → Asked → List Proof → List (Ty × Ty) → List (Ty × Ty) → List Gap → List Gap → Type 0
+IsNoted f n e a ps js ks gs hs =
+    ((ks ≡ js) × (hs ≡ gs) × ((b : Asked) → ReadsAbout f n a b → ⊥))
+    ⊎ ((s : SaysAlias f n a ps) × IsListedNow e (ty.Projection s.alias s.args) s.type js ks gs hs)
+
+-- so it is once these proofs are added, none of a goal about a trait, but for others
+pub record Notes (raw : RawFacts) (f : System) (e : ExprOrPatId) (a : Asked) (ps qs : List Proof) (js ks : List (Ty × Ty)) (gs hs : List Gap) : Type 0 where
+  pub adds : AddsProofs raw f ps qs
+  pub roots : AddsRootsOf [] ps qs
+  pub noted : IsNoted f raw.limits.goal_depth e a qs js ks gs hs
+
+-- ---- one goal
 
 -- among these it is said that it has none
 abbrev pub IsSaid : ExprOrPatId → List Gap → Asked → Type 0
@@ -114,12 +128,12 @@ IsSaid e gs a = (k : ℕ) × (q : Goal) × (slice_get gs k ≡ Some (unproved e 
 abbrev pub IsSaidClash : ExprOrPatId → List Gap → Asked → Type 0
 IsSaidClash e gs a = (n : ℕ) × (k : TypeAliasId) × (xs : List GenericArg) × (t : Ty) × (u : Ty) × (slice_get gs n ≡ Some (clash e (ty.Projection k xs) t u)) × (asked_goal (goal.Projection k xs u) ≡ a)
 
--- it has a proof; and what it asks an associated type to be is listed, or another type, and this is said
-abbrev pub IsProvedAndListed : ExprOrPatId → List Proof → List (Ty × Ty) → List Gap → Asked → Type 0
-IsProvedAndListed e ps js gs a = HasProofOf ps a × (IsAboutAlias a → HasEntry js a ⊎ IsSaidClash e gs a)
+-- it has a proof; and what it asks an associated type to be, once it is read, is listed, or another type, and this is said
+abbrev pub IsProvedAndListed : System → ℕ → ExprOrPatId → List Proof → List (Ty × Ty) → List Gap → Asked → Type 0
+IsProvedAndListed f n e ps js gs a = HasProofOf ps a × ((b : Asked) → ReadsAbout f n a b → HasEntry js b ⊎ IsSaidClash e gs b)
 
 abbrev pub IsDone : System → ℕ → ExprOrPatId → List Proof → List (Ty × Ty) → List Gap → Asked → Type 0
-IsDone f n e ps js gs a = IsProvedAndListed e ps js gs a ⊎ (IsSaid e gs a ⊎ MayHold f n a)
+IsDone f n e ps js gs a = IsProvedAndListed f n e ps js gs a ⊎ (IsSaid e gs a ⊎ MayHold f n a)
 
 -- its answer at the depth isn't Yes, and it is said unless it may hold with other types in the place of `{unknown}`
 pub record IsRefused (f : System) (n : ℕ) (e : ExprOrPatId) (q : Goal) (ps qs : List Proof) (js ks : List (Ty × Ty)) (gs hs : List Gap) : Type 0 where
@@ -132,7 +146,7 @@ pub record IsRefused (f : System) (n : ℕ) (e : ExprOrPatId) (q : Goal) (ps qs 
 pub record IsShown (raw : RawFacts) (f : System) (e : ExprOrPatId) (q : Goal) (ps qs : List Proof) (js ks : List (Ty × Ty)) (gs hs : List Gap) : Type 0 where
   pub adds : AddsProofs raw f ps qs
   pub has : HasProofOf qs (asked_goal q)
-  pub noted : IsNoted e q js ks gs hs
+  pub noted : IsNoted f raw.limits.goal_depth e (asked_goal q) qs js ks gs hs
 
 abbrev pub IsJudged : RawFacts → System → ExprOrPatId → Goal → List Proof → List Proof → List (Ty × Ty) → List (Ty × Ty) → List Gap → List Gap → Type 0
 IsJudged raw f e q ps qs js ks gs hs = IsShown raw f e q ps qs js ks gs hs ⊎ IsRefused f raw.limits.goal_depth e q ps qs js ks gs hs
@@ -145,7 +159,7 @@ pub record IsEntry (ps : List Proof) (x : Ty × Ty) : Type 0 where
   pub args : List GenericArg
   pub is : x.0 ≡ ty.Projection alias args
   pub proved : HasProofOf ps (asked_goal (goal.Projection alias args x.1))
-  pub read : IsRead (term x.1)
+  pub read : IsRead (asked_goal (goal.Projection alias args x.1)).parts
   pub known : HoldsUnknown (asked_goal (goal.Projection alias args x.1)).parts → ⊥
   pub other : term x.1 ≡ stays_at alias args → ⊥
   pub written : IsWritten (asked_goal (goal.Projection alias args x.1)).parts
@@ -169,24 +183,28 @@ pub record IsOfFailing (f : System) (n : ℕ) (e : ExprOrPatId) (xs : List Asked
   pub known : CannotHoldAsIs f n (asked_goal goal)
   pub fails : (answers f n).Yes (asked_goal goal) → ⊥
 
--- it is of one of these goals, which has a proof, and asks an associated type to be another type than the one that is listed, and than itself
-pub record IsOfClash (e : ExprOrPatId) (xs : List Asked) (ps : List Proof) (js : List (Ty × Ty)) (x : Gap) : Type 0 where
+-- it is of what one of these goals reads as, which has a proof, and asks an associated type to be another type than the one that is listed, and
+-- than itself
+pub record IsOfClash (f : System) (n : ℕ) (e : ExprOrPatId) (xs : List Asked) (ps : List Proof) (js : List (Ty × Ty)) (x : Gap) : Type 0 where
   pub alias : TypeAliasId
   pub args : List GenericArg
   pub first : Ty
   pub second : Ty
   pub is : x ≡ clash e (ty.Projection alias args) first second
   pub listed : IsListedAs js alias args first
+  pub need : Asked
   pub at : ℕ
-  pub among : slice_get xs at ≡ Some (asked_goal (goal.Projection alias args second))
+  pub among : slice_get xs at ≡ Some need
+  pub reads : GoalReads f n need (asked_goal (goal.Projection alias args second))
   pub proved : HasProofOf ps (asked_goal (goal.Projection alias args second))
   pub differ : Same first second → ⊥
   pub other : term second ≡ stays_at alias args → ⊥
+  pub written : IsWritten (asked_goal (goal.Projection alias args second)).parts
 
 -- each goal is proved, or said to have no proof, or may hold with other types in the place of `{unknown}`; and what is said is so, and said once
 pub record AreDone (f : System) (n : ℕ) (e : ExprOrPatId) (xs : List Asked) (ps : List Proof) (js : List (Ty × Ty)) (gs : List Gap) : Type 0 where
   pub each : (k : ℕ) (a : Asked) → slice_get xs k ≡ Some a → IsDone f n e ps js gs a
-  pub gaps : (k : ℕ) (x : Gap) → slice_get gs k ≡ Some x → IsOfFailing f n e xs x ⊎ IsOfClash e xs ps js x
+  pub gaps : (k : ℕ) (x : Gap) → slice_get gs k ≡ Some x → IsOfFailing f n e xs x ⊎ IsOfClash f n e xs ps js x
   pub once : (j k : ℕ) (x y : Gap) → slice_get gs j ≡ Some x → slice_get gs k ≡ Some y → gap_says x ≡ gap_says y → j ≡ k
 
 -- so it is once these proofs are added, and these entries

@@ -1,4 +1,5 @@
 pub mod Listed
 pub mod Judged
+pub mod Read
 pub mod Left
 pub mod Told

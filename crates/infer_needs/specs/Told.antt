@@ -1,5 +1,5 @@
 -- Goals that nodes need, in their order, and what an inspector is told of them.
-use Rattle.std.specs.Prelude.{◌≡◌, ◌≤◌, ◌++◌, ℕ, zero, suc, List, [], ◌∷◌, length, slice_get, Option, Some, None}
+use Rattle.std.specs.Prelude.{◌≡◌, ◌++◌, ℕ, zero, suc, List, [], ◌∷◌, length, slice_get, Option, Some, None}
 use Rattle.std.proofs.Common.{◌⊎◌, inl, inr}
 use denote.Ref.{MutBor}
 use Rattle.hir_types.specs.declared.ids.DefWithBodyId.{DefWithBodyId}
@@ -7,7 +7,6 @@ use Rattle.hir_types.specs.declared.goal.Goal.{Goal}
 use Rattle.hir_types.specs.declared.goal.Goal.TheVariants as goal
 use Rattle.hir_raw.specs.declared.raw.RawBody.{RawBody}
 use Rattle.hir_raw.specs.declared.raw.RawFacts.{RawFacts}
-use Rattle.infer_table.specs.Table.{IsFront}
 use Rattle.goal_answers.specs.Goals.{Asked, System}
 use Rattle.goal_search.specs.declared.answer.Answer.{Answer}
 use Rattle.goal_facts.specs.declared.proof.Proof.{Proof}
@@ -59,15 +58,18 @@ IsAboutTrait (goal.Projection k xs t) = ⊥
 abbrev pub IsOneOf : List Asked → Asked → Type 0
 IsOneOf xs a = (i : ℕ) × (slice_get xs i ≡ Some a)
 
--- these proofs come behind; each of such a goal is asked for by another, or its goal is one of these
-pub record AddsRootsOf (xs : List Asked) (ps qs : List Proof) : Type 0 where
-  pub behind : IsFront ps qs
-  pub roots : (k : ℕ) (x : Proof) → length ps ≤ k → slice_get qs k ≡ Some x → IsAboutTrait x.goal → IsChild qs k ⊎ IsOneOf xs (asked_goal x.goal)
+-- each proof of such a goal is asked for by another, or its goal is one of these
+pub record AreRootsOf (xs : List Asked) (ps : List Proof) : Type 0 where
+  pub each : (k : ℕ) (x : Proof) → slice_get ps k ≡ Some x → IsAboutTrait x.goal → IsChild ps k ⊎ IsOneOf xs (asked_goal x.goal)
+
+-- so it is of the last where it was of the first, if these are among the goals
+pub record AddsRootsOf (ys : List Asked) (ps qs : List Proof) : Type 0 where
+  pub later : (xs : List Asked) → ((a : Asked) → IsOneOf ys a → IsOneOf xs a) → AreRootsOf xs ps → AreRootsOf xs qs
 
 abbrev pub WasTold : List (Goal × Answer) → Asked → Type 0
 WasTold ts a = (i : ℕ) × (t : Goal × Answer) × (slice_get ts i ≡ Some t) × (asked_goal t.0 ≡ a)
 
--- each of such a goal is asked for by another, or its goal was told
+-- each proof of such a goal is asked for by another, or its goal was told
 abbrev pub RootsAreTold : List Proof → List (Goal × Answer) → Type 0
 RootsAreTold ps ts = (k : ℕ) (x : Proof) → slice_get ps k ≡ Some x → IsAboutTrait x.goal → IsChild ps k ⊎ WasTold ts (asked_goal x.goal)
 

@@ -6,6 +6,7 @@ mod left;
 mod note;
 mod opened;
 mod prove;
+mod read;
 mod say;
 mod tell;
 mod unknown;

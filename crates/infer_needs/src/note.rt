@@ -1,14 +1,20 @@
 //! What associated types are by goals that have a proof.
 ghost use Rattle.std.specs.Prelude.{◌↔◌, IsTrue, IfOk, OnOk, ◌≡◌};
 ghost use Rattle.hir_types.specs.Terms.{term};
-ghost use Rattle.goal_terms.specs.Terms.{term_of};
-ghost use Rattle.infer_result.specs.Projections.{stays_at};
-ghost use Rattle.infer_needs.specs.Judged.{IsListedNow, IsNoted};
+ghost use Rattle.goal_answers.specs.Answers.{answers};
+ghost use Rattle.goal_search.specs.Sources.{system};
+ghost use Rattle.goal_facts.specs.Goals.{asked_goal};
+ghost use Rattle.infer_result.specs.Projections.{IsAboutAlias, stays_at};
+ghost use Rattle.infer_needs.specs.Judged.{IsProvable, HasProofOf, IsListedNow, Notes};
+ghost use Rattle.infer_needs.specs.Read.{AddsProofOf};
 
 use crate::found::Found;
+use crate::read::read_goal;
 use crate::say::say;
 use crate::unknown::holds_unknown;
-use goal_terms::{Term, args_term, staying_term, type_term};
+use goal_facts::{ItemSources, Proof, asked, is_same};
+use goal_prove::prove_goal;
+use goal_terms::{args_term, staying_term, type_term};
 use hir_facts::{ExprOrPatId, GenericArg, Goal, List, Ty, TypeAliasId};
 use infer_result::Gap;
 use std::alloc::{AllocError, Global};
@@ -54,39 +60,109 @@ fn is_itself(
     alloc: Global,
     alias: TypeAliasId,
     args: &List<GenericArg>,
-    ty: &Term,
+    ty: &Ty,
 ) -> Result<bool, AllocError>
-    ensures { IfOk result (λ is. IsTrue is ↔ (term_of ty.now ≡ stays_at alias args.now)) }
+    ensures { IfOk result (λ is. IsTrue is ↔ (term ty.now ≡ stays_at alias args.now)) }
 {
     let args = args_term(alloc, args)?;
     let itself = staying_term(alloc, alias, &args)?;
+    let ty = type_term(alloc, ty)?;
     Ok(ty.is_same(&itself))
 }
 
-/// Takes note of what a goal that has a proof says of an associated type, where it says another type than
-/// this itself, in which none is left to be read, and `{unknown}` doesn't stand in it.
-pub fn note(
+/// Whether a goal asks an associated type to be another type than this itself, and `{unknown}` doesn't stand
+/// in it.
+fn is_about_alias(alloc: Global, goal: &Goal) -> Result<bool, AllocError>
+    ensures { IfOk result (λ is. IsTrue is ↔ IsAboutAlias (asked_goal goal.now)) }
+{
+    match goal {
+        Goal::Trait(_trait_ref) => Ok(false),
+        Goal::Projection { alias, args, ty } => {
+            if is_itself(alloc, *alias, args, ty)? {
+                return Ok(false);
+            }
+            let unknown = holds_unknown(alloc, goal)?;
+            Ok(!unknown)
+        }
+    }
+}
+
+/// Adds a proof of what a goal that has one reads as, where this is another goal.
+fn prove_read(
     alloc: Global,
-    goal: Goal,
+    sources: &ItemSources<'_>,
+    goal: &Goal,
+    read: &Goal,
+    proofs: &mut Vec<Proof>,
+) -> Result<(), AllocError>
+    requires provable { IsProvable (asked_goal read.now) }
+    requires yes { (answers (system sources.now.sources) sources.now.facts.limits.goal_depth).Yes (asked_goal read.now) }
+    requires has { HasProofOf proofs.old.items (asked_goal goal.now) }
+    ensures { OnOk result (AddsProofOf sources.now.facts (system sources.now.sources) (asked_goal read.now) proofs.old.items proofs.new.items) }
+{
+    let asks = asked(alloc, goal)?;
+    let reads = asked(alloc, read)?;
+    if is_same(&asks, &reads) {
+        return Ok(());
+    }
+    let depth = sources.facts().raw().limits.goal_depth;
+    prove_goal(alloc, sources, read, depth, proofs)?;
+    Ok(())
+}
+
+/// Takes note of what a goal about an associated type says of it.
+fn note_read(
+    alloc: Global,
+    sources: &ItemSources<'_>,
+    goal: &Goal,
     node: ExprOrPatId,
+    proofs: &mut Vec<Proof>,
     found: &mut Found,
     gaps: &mut List<Gap>,
 ) -> Result<(), AllocError>
-    ensures { OnOk result (IsNoted node goal found.old found.new gaps.old gaps.new) }
+    requires provable { IsProvable (asked_goal goal.now) }
+    requires yes { (answers (system sources.now.sources) sources.now.facts.limits.goal_depth).Yes (asked_goal goal.now) }
+    requires has { HasProofOf proofs.old.items (asked_goal goal.now) }
+    ensures { OnOk result (Notes sources.now.facts (system sources.now.sources) node (asked_goal goal.now) proofs.old.items proofs.new.items found.old found.new gaps.old gaps.new) }
 {
-    let is_unknown = holds_unknown(alloc, &goal)?;
-    match goal {
+    let Some(read) = read_goal(alloc, sources, goal)? else {
+        return Ok(());
+    };
+    if !is_about_alias(alloc, &read)? {
+        return Ok(());
+    }
+    prove_read(alloc, sources, goal, &read, proofs)?;
+    match read {
         Goal::Trait(_trait_ref) => Ok(()),
         Goal::Projection { alias, args, ty } => {
-            let term = type_term(alloc, &ty)?;
-            let is_read = term.is_read();
-            if is_unknown || !is_read {
-                return Ok(());
-            }
-            if is_itself(alloc, alias, &args, &term)? {
-                return Ok(());
-            }
             list(alloc, Ty::Projection(alias, args), ty, node, found, gaps)
+        }
+    }
+}
+
+/// Takes note of what a goal that has a proof says of an associated type once it is read, where this is another
+/// type than the associated type itself, and `{unknown}` stands neither in the goal nor in what is read.
+pub fn note(
+    alloc: Global,
+    sources: &ItemSources<'_>,
+    goal: &Goal,
+    node: ExprOrPatId,
+    proofs: &mut Vec<Proof>,
+    found: &mut Found,
+    gaps: &mut List<Gap>,
+) -> Result<(), AllocError>
+    requires provable { IsProvable (asked_goal goal.now) }
+    requires yes { (answers (system sources.now.sources) sources.now.facts.limits.goal_depth).Yes (asked_goal goal.now) }
+    requires has { HasProofOf proofs.old.items (asked_goal goal.now) }
+    ensures { OnOk result (Notes sources.now.facts (system sources.now.sources) node (asked_goal goal.now) proofs.old.items proofs.new.items found.old found.new gaps.old gaps.new) }
+{
+    match goal {
+        Goal::Trait(_trait_ref) => Ok(()),
+        Goal::Projection { .. } => {
+            if holds_unknown(alloc, goal)? {
+                return Ok(());
+            }
+            note_read(alloc, sources, goal, node, proofs, found, gaps)
         }
     }
 }

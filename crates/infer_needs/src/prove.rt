@@ -77,8 +77,8 @@ fn complain(
 }
 
 /// Evaluates a goal without holes that a node needs, takes note of its answer, and adds its proof and what
-/// it says of an associated type, or says that it has none, unless it may hold with other types in the place
-/// of `{unknown}`.
+/// it says of an associated type once it is read, or says that it has none, unless it may hold with other
+/// types in the place of `{unknown}`.
 fn prove_need(
     alloc: Global,
     sources: &ItemSources<'_>,
@@ -98,7 +98,7 @@ fn prove_need(
         Answer::Yes => {
             let depth = sources.facts().raw().limits.goal_depth;
             prove_goal(alloc, sources, &goal, depth, proofs)?;
-            note(alloc, goal, node, found, gaps)?;
+            note(alloc, sources, &goal, node, proofs, found, gaps)?;
             Ok(())
         }
         Answer::No | Answer::Undecided => {

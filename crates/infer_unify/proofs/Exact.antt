@@ -10,7 +10,7 @@ use Rattle.goal_answers.specs.Goals.{Verdicts}
 use Rattle.infer_unify.specs.declared.unification.Unification.{Unification}
 use Rattle.infer_unify.specs.declared.unification.Unification.TheVariants as unification
 use Rattle.infer_unify.specs.Exactly.{CanBeSame, UnifyExactly, IsExact}
-use Rattle.infer_unify.specs.Opening.{Alias, Opened, as_it_is, opened, second_opened, AreOpened, IsBare}
+use Rattle.infer_unify.specs.Opening.{Alias, Opened, as_it_is, opened, second_opened, above_both, AreOpened, IsBare}
 use Rattle.infer_unify.specs.Unifying.{HaveCommon, Becomes, BecomesFrom}
 use Rattle.infer_unify.proofs.Openings.{opened_bare}
 use Rattle.infer_unify.proofs.ReadBack.{back, same_back, back_respects}
@@ -32,7 +32,7 @@ record IsPlain (a b : Term) (ps : List Alias) (u v : Term) : Type 0 where
 
 nothing_opened : (a b : Term) (ps : List Alias) (u v : Term) → IsBare a → IsBare b → AreOpened a b ps u v → IsPlain a b ps u v
 nothing_opened a b ps u v bare_a bare_b h =
-    let n = h.from in
+    let n = above_both a b in
     let x : opened n a ≡ as_it_is n a = opened_bare n a bare_a in
     let y : second_opened n a b ≡ as_it_is (opened n a).next b = opened_bare (opened n a).next b bare_b in
     record {
@@ -53,9 +53,9 @@ plain_exactly : (v : Verdicts) (a b : Ty) (found : Unification) → Becomes v []
     → ((found ≡ unification.Yes) × CanBeSame a b) ⊎ ((found ≡ unification.No) × (CanBeSame a b → ⊥))
 plain_exactly v a b unification.No (inl none) = inr (refl, λ h. none (terms_have a b h))
 plain_exactly v a b unification.No (inr (l, is, inl (i, p, at, s))) = cc
-plain_exactly v a b unification.No (inr (l, is, inr h)) = absurd h
-plain_exactly v a b unification.Undecided (l, is, common, judged) = absurd judged.1
-plain_exactly v a b unification.Yes (l, is, common, judged) = inl (refl, types_have a b (common.0, common.1, common.3))
+plain_exactly v a b unification.No (inr (l, is, inr h)) = absurd h.1
+plain_exactly v a b unification.Undecided (l, is, all, common, judged) = absurd judged.1
+plain_exactly v a b unification.Yes (l, is, all, common, judged) = inl (refl, types_have a b (common.0, common.1, common.3))
 
 exactly : (v : Verdicts) (a b : Ty) (found : Unification) → BecomesFrom v (term a) (term b) found → UnifyExactly a b found
 exactly v a b found h bare = plain_exactly v a b found (plain_becomes v (term a) (term b) found bare.0 bare.1 h)

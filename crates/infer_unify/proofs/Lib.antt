@@ -1,6 +1,10 @@
 pub mod Lists
 pub mod Openings
 pub mod Steps
+pub mod Settling
 pub mod Becoming
 pub mod ReadBack
 pub mod Exact
+pub mod Over
+pub mod SameAnswers
+pub mod OneOutcome

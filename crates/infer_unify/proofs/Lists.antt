@@ -1,4 +1,4 @@
--- In the terms of types, what stands behind the mark of an associated type that is to be read is a list.
+-- In the terms of types, what makes an associated type that is to be read stands first, and behind it a list.
 use Rattle.std.proofs.Common.{◌≡◌, ◌++◌, refl, sym, subst, List, [], ◌∷◌, map, Some, None}
 use Rattle.std.specs.List.{flat_map}
 use Rattle.hir_types.specs.declared.ids.TraitId.{TraitId}
@@ -13,7 +13,7 @@ use Rattle.hir_types.specs.declared.ty.AliasBound.{AliasBound, AliasBound-F, rol
 use Rattle.hir_types.specs.Folds.{in_arg, in_ty}
 use Rattle.hir_types.specs.Terms.{Term, hole, leaf, pair, chain, node, const_term, type_part, const_part, arg_step, auto_parts, ty_step, term, arg_term, trait_parts, bound_parts}
 use Rattle.hir_types.specs.TermLaws.{terms, term_at, arg_term_at, trait_parts_is, bound_parts_is}
-use Rattle.goal_answers.specs.Reading.{Role, plain, alias, role}
+use Rattle.goal_answers.specs.Reading.{Role, plain, alias, role, IsReadLeaf, IsRead}
 use Rattle.goal_answers.specs.Goals.{Each}
 use Rattle.goal_terms.specs.Terms.{IsHead}
 use Rattle.goal_facts.proofs.Arguing.{list_is_head}
@@ -24,41 +24,41 @@ abbrev pub IsListBehind : Role → Term → Type 0
 IsListBehind plain b = Unit {0}
 IsListBehind (alias k) b = IsHead b
 
+-- and such a mark stands nowhere else
 abbrev pub HasLists : Term → Type 0
 HasLists (hole k) = Unit {0}
-HasLists (leaf h) = Unit {0}
-HasLists (pair a b) = IsListBehind (role a) b × HasLists a × HasLists b
+HasLists (leaf h) = IsReadLeaf (role (leaf h))
+HasLists (pair (hole k) b) = HasLists b
+HasLists (pair (leaf h) b) = IsListBehind (role (leaf h)) b × HasLists b
+HasLists (pair (pair m a) b) = IsRead m × HasLists a × HasLists b
 
 -- ---- parts of a list
 
 abbrev IsPart : Term → Type 0
-IsPart u = (role u ≡ plain) × HasLists u
+IsPart u = (b : Term) → HasLists b → HasLists (pair u b)
 
 abbrev AreParts : List Term → Type 0
 AreParts = Each IsPart
 
-plain_lists : (a b : Term) → role a ≡ plain → HasLists a → HasLists b → HasLists (pair a b)
-plain_lists a b e h g = (subst (λ r. IsListBehind r b) (sym e) tt, h, g)
-
 chain_lists : (us : List Term) → AreParts us → HasLists (chain us)
 chain_lists [] h = tt
-chain_lists (u ∷ us) h = plain_lists u (chain us) h.0.0 h.0.1 (chain_lists us h.1)
+chain_lists (u ∷ us) h = h.0 (chain us) (chain_lists us h.1)
 
 node_lists : (h : Head) (us : List Term) → role (leaf h) ≡ plain → AreParts us → HasLists (node h us)
-node_lists h us e p = plain_lists (leaf h) (chain us) e tt (chain_lists us p)
+node_lists h us e p = (subst (λ r. IsListBehind r (chain us)) (sym e) tt, chain_lists us p)
 
 const_lists : (c : Const) → HasLists (const_term c)
-const_lists (const.Value n) = (tt, tt, tt)
-const_lists (const.Param n) = (tt, tt, tt)
-const_lists const.Unknown = (tt, tt, tt)
+const_lists (const.Value n) = (tt, tt)
+const_lists (const.Param n) = (tt, tt)
+const_lists const.Unknown = (tt, tt)
 const_lists (const.Var n) = tt
-const_lists const.Hole = (tt, tt, tt)
+const_lists const.Hole = (tt, tt)
 
 type_part_is : (u : Term) → HasLists u → IsPart (type_part u)
-type_part_is u h = (refl, (tt, tt, h))
+type_part_is u h = λ b k. (tt, h, k)
 
 const_part_is : (c : Const) → IsPart (const_part c)
-const_part_is c = (refl, (tt, tt, const_lists c))
+const_part_is c = λ b k. (tt, const_lists c, k)
 
 both_parts : (us vs : List Term) → AreParts us → AreParts vs → AreParts (us ++ vs)
 both_parts us vs h g = each_append IsPart us vs h g
@@ -115,7 +115,7 @@ bounds_have (b ∷ bs) = both_parts (bound_parts b.0) (flat_map (λ us. us) (map
 
 autos_have : (ids : List TraitId) → AreParts (auto_parts ids)
 autos_have [] = tt
-autos_have (id ∷ ids) = ((refl, tt), autos_have ids)
+autos_have (id ∷ ids) = ((λ b k. (tt, k)), autos_have ids)
 
 one_has : (h : Head) (t : TyTold) → role (leaf h) ≡ plain → HasLists (node h (type_part (term t.0) ∷ []))
 one_has h t e = node_lists h (type_part (term t.0) ∷ []) e (type_part_is (term t.0) t.1, tt)
@@ -146,18 +146,18 @@ ty_layer_has (Ty-F.Adt id xs) = node_lists (head.Adt id) (map arg_term (map (λ 
 ty_layer_has (Ty-F.FnDef id xs) = node_lists (head.FnDef id) (map arg_term (map (λ e. e.0) xs)) refl (args_have xs)
 ty_layer_has (Ty-F.FnPtr u ts t) = inputs_have (head.FnPtr u) ts t refl
 ty_layer_has (Ty-F.Closure id ts t) = inputs_have (head.Closure id) ts t refl
-ty_layer_has (Ty-F.Dynamic None bs ids) = dynamic_has (leaf head.NoPrincipal ∷ []) bs ids ((refl, tt), tt)
+ty_layer_has (Ty-F.Dynamic None bs ids) = dynamic_has (leaf head.NoPrincipal ∷ []) bs ids ((λ b k. (tt, k)), tt)
 ty_layer_has (Ty-F.Dynamic (Some r) bs ids) = dynamic_has (trait_parts r.0) bs ids r.1
-ty_layer_has (Ty-F.Projection id xs) = (list_is_head (map (λ e. e.0) xs), tt, chain_lists (map arg_term (map (λ e. e.0) xs)) (args_have xs))
+ty_layer_has (Ty-F.Projection id xs) = (list_is_head (map (λ e. e.0) xs), chain_lists (map arg_term (map (λ e. e.0) xs)) (args_have xs))
 ty_layer_has (Ty-F.AssociatedType id xs) = node_lists (head.AssociatedType id) (map arg_term (map (λ e. e.0) xs)) refl (args_have xs)
 ty_layer_has (Ty-F.Opaque id xs) = node_lists (head.Opaque id) (map arg_term (map (λ e. e.0) xs)) refl (args_have xs)
-ty_layer_has _ = (tt, tt, tt)
+ty_layer_has _ = (tt, tt)
 
 bound_layer_has : (y : AliasBound-F ArgTold TyTold BoundTold TraitTold) → BoundHas (roll-AliasBound (bound_values y))
-bound_layer_has y = subst AreParts (sym (bound_parts_is (roll-AliasBound (bound_values y)))) ((refl, tt), (type_part_is (term y.ty.0) y.ty.1, tt))
+bound_layer_has y = subst AreParts (sym (bound_parts_is (roll-AliasBound (bound_values y)))) ((λ b k. (tt, k)), (type_part_is (term y.ty.0) y.ty.1, tt))
 
 trait_layer_has : (y : TraitRef-F ArgTold TyTold BoundTold TraitTold) → TraitHas (roll-TraitRef (trait_values y))
-trait_layer_has y = subst AreParts (sym (trait_parts_is (roll-TraitRef (trait_values y)))) ((refl, tt), args_have y.args)
+trait_layer_has y = subst AreParts (sym (trait_parts_is (roll-TraitRef (trait_values y)))) ((λ b k. (tt, k)), args_have y.args)
 
 arg_has_at : (x : GenericArg-F GenericArg Ty AliasBound TraitRef) (y : GenericArg-F ArgTold TyTold BoundTold TraitTold) → arg_values y ≡ x → ArgHas (roll-GenericArg x)
 arg_has_at x y is = subst IsPart (sym (arg_term_at x)) (subst (λ z. IsPart (arg_step (in_arg terms z))) is (arg_layer_has y))

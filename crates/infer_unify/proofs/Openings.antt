@@ -7,7 +7,7 @@ use Rattle.hir_types.specs.declared.head.Head.TheVariants as head
 use Rattle.hir_types.specs.declared.head.Hole.{Hole}
 use Rattle.hir_types.specs.declared.head.Hole.TheVariants as hole_of
 use Rattle.hir_types.specs.Terms.{Term, hole, leaf, pair}
-use Rattle.goal_answers.specs.Reading.{role}
+use Rattle.goal_answers.specs.Reading.{role, IsReadLeaf, IsRead}
 use Rattle.goal_facts.proofs.Systems.{each_append}
 use Rattle.goal_terms.specs.Terms.{IsHead, HasHeads}
 use Rattle.infer_unify.specs.Opening.{Place, plain, alias, unknown_type, unknown_const, place, Alias, Opened, as_it_is, behind, joined, opened, IsOpened, HaveHeads, IsBare}
@@ -86,9 +86,9 @@ still_headed : (n : ℕ) (t : Term) → HasHeads t → HasLists t → StillHeade
 still_headed n (hole k) h l = record { term = tt; aliases = tt }
 still_headed n (leaf a) h l = record { term = tt; aliases = tt }
 still_headed n (pair (hole k) b) h l = absurd h.0
-still_headed n (pair (leaf a) b) h l = node_headed (place a) n a b refl h.2 l.0 (still_headed n b h.2 l.2)
+still_headed n (pair (leaf a) b) h l = node_headed (place a) n a b refl h.2 l.0 (still_headed n b h.2 l.1)
 still_headed n (pair (pair m a) b) h l =
-    let x = still_headed n a h.1.2 l.1.2 in
+    let x = still_headed n a h.1.2 l.1 in
     let y = still_headed (opened n a).next b h.2 l.2 in record {
       term = (h.0, (h.1.0, h.1.1, x.term), y.term);
       aliases = each_append (λ p. IsHead p.args × HasHeads p.args) (opened n a).aliases (opened (opened n a).next b).aliases x.aliases y.aliases;
@@ -99,6 +99,25 @@ opened_heads n t h l = (still_headed n t h l).term
 
 pub aliases_heads : (n : ℕ) (t : Term) → HasHeads t → HasLists t → HaveHeads (opened n t).aliases
 aliases_heads n t h l = (still_headed n t h l).aliases
+
+-- ---- no associated type is left to be read
+
+plain_read : (h : Head) → place h ≡ plain → IsReadLeaf (role (leaf h))
+plain_read (head.Projection k) e = cc
+plain_read _ e = tt
+
+node_read : (p : Place) (n : ℕ) (h : Head) (b : Term) → p ≡ place h → IsRead (opened n b).term → IsRead (node_at p n h b).term
+node_read plain n h b e r = (plain_read h (sym e), r)
+node_read (alias k) n h b e r = tt
+node_read unknown_type n h b e r = tt
+node_read unknown_const n h b e r = tt
+
+pub opened_read : (n : ℕ) (t : Term) → HasLists t → IsRead (opened n t).term
+opened_read n (hole k) l = tt
+opened_read n (leaf a) l = l
+opened_read n (pair (hole k) b) l = (tt, opened_read n b l)
+opened_read n (pair (leaf a) b) l = node_read (place a) n a b refl (opened_read n b l.1)
+opened_read n (pair (pair m a) b) l = ((l.0, opened_read n a l.1), opened_read (opened n a).next b l.2)
 
 -- ---- types without such places stay
 

@@ -1,7 +1,7 @@
 -- What is found out of holes, step after step, and what the goals are answered.
-use Rattle.std.specs.Prelude.{◌≡◌, ◌<◌, ◌+◌, ℕ, zero, suc, Bool, true, false, List, [], ◌∷◌, ◌++◌, length, map, slice_get, Some}
+use Rattle.std.specs.Prelude.{◌≡◌, ◌<◌, ◌≤◌, ◌+◌, ℕ, zero, suc, Bool, true, false, List, [], ◌∷◌, ◌++◌, length, map, slice_get, Some}
 use Rattle.std.proofs.Common.{inl, inr, refl, sym, ap, ◌∙◌, subst, arith, get_or, take}
-use Rattle.std.proofs.lemmas.List.{map_more}
+use Rattle.std.proofs.lemmas.List.{map_more, take_all}
 use Rattle.hir_types.specs.declared.head.Hole.TheVariants as hole_of
 use Rattle.hir_types.specs.Terms.{Term, hole, pair}
 use Rattle.infer_table.specs.Solutions.{Log, resolved, Solves, Triangular, Unified, NoneUnifies, UnifiedIf}
@@ -21,7 +21,8 @@ use Rattle.infer_unify.specs.declared.unification.Unification.{Unification}
 use Rattle.infer_unify.specs.declared.unification.Unification.TheVariants as unification
 use Rattle.infer_unify.specs.declared.opening.Alias.{Alias as Owned}
 use Rattle.infer_unify.specs.Opening.{Alias, alias_of, aliases_of}
-use Rattle.infer_unify.specs.Unifying.{known_alias, goal_of, IsStep, AreSteps, IsFound, IsFollowed, AreFollowed, HaveCommonIn, AreJudged}
+use Rattle.infer_unify.specs.Unifying.{known_alias, goal_of, IsStep, AreSteps, IsFound, HaveCommonIn, AreJudged}
+use Rattle.infer_unify.specs.Following.{IsFollowed, AreFollowed, IsRound, AreRounds}
 
 -- ---- the entry at a place
 
@@ -60,11 +61,31 @@ stays : (A : Aliases) (ps : List Alias) (l m l' : Log) → AreFollowed A ps l m 
 stays A ps l m l' h e = (h.0, subst (AreSteps A ps h.0 l) (sym e) h.1)
 
 pub followed_then : (A : Aliases) (ps : List Alias) (i : ℕ) (p : Alias) (l m l' : Log) → slice_get ps i ≡ Some p → AreFollowed A ps l m true → IsFollowed A p m l' true → AreFollowed A ps l l' true
-followed_then A ps i p l m l' at h (inl e) = stays A ps l m l' h e
+followed_then A ps i p l m l' at h (inl e) = stays A ps l m l' h e.0
 followed_then A ps i p l m l' at h (inr s) = steps_then A ps h.0 l m l' h.1 (i, p, at, s)
 
 pub followed_none : (A : Aliases) (ps : List Alias) (i : ℕ) (p : Alias) (l m l' : Log) → slice_get ps i ≡ Some p → AreFollowed A ps l m true → IsFollowed A p m l' false → AreFollowed A ps l l' false
 followed_none A ps i p l m l' at h s = (m, h.0, h.1, (i, p, at, s))
+
+-- ---- one more in a round
+
+round_then : (A : Aliases) (ps : List Alias) (p : Alias) (l m l' : Log) → IsRound A ps l m → IsFollowed A p m l' true → IsRound A (ps ++ p ∷ []) l l'
+round_then A [] p l m l' e s = let P : Log → Type 0 = λ z. IsFollowed A p z l' true in (l', subst P e s, refl)
+round_then A (q ∷ ps) p l m l' r s = (r.0, r.1, round_then A ps p r.0 m l' r.2 s)
+
+pub round_more : (A : Aliases) (xs : List Owned) (i : ℕ) (x : Owned) (l m l' : Log) → i < length xs → x ≡ get_or xs i x
+    → IsRound A (aliases_of (take i xs)) l m → IsFollowed A (alias_of x) m l' true → IsRound A (aliases_of (take (i + 1) xs)) l l'
+round_more A xs i x l m l' lt e r s =
+    let same : aliases_of (take (i + 1) xs) ≡ aliases_of (take i xs) ++ alias_of x ∷ [] = map_more alias_of xs i x lt ∙ ap (λ z. aliases_of (take i xs) ++ alias_of z ∷ []) (sym e) in
+    let P : List Alias → Type 0 = λ ps. IsRound A ps l l' in subst P (sym same) (round_then A (aliases_of (take i xs)) (alias_of x) l m l' r s)
+
+-- all were followed once more
+pub rounds_more : (A : Aliases) (ps : List Alias) (xs : List Owned) (i n : ℕ) (k l l' : Log) → length xs ≤ i → AreRounds A ps n k l → ps ≡ aliases_of xs → IsRound A (aliases_of (take i xs)) l l' → AreRounds A ps (n + 1) k l'
+rounds_more A ps xs i n k l l' over h is r =
+    let P : List Owned → Type 0 = λ z. IsRound A (aliases_of z) l l' in
+    let Q : List Alias → Type 0 = λ z. IsRound A z l l' in
+    let next : suc n ≡ n + 1 = omega arith in
+    subst (λ (z : ℕ). AreRounds A ps z k l') next (l, h, subst Q (sym is) (subst P (take_all i xs over) r))
 
 -- what solves the bindings in the end solved the first
 pub steps_keep : (A : Aliases) (ps : List Alias) (ms : List Log) (l l' : Log) → AreSteps A ps ms l l' → (s : _) → Solves s l' → Solves s l

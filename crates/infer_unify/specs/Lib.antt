@@ -1,3 +1,4 @@
 pub mod Opening
 pub mod Unifying
+pub mod Following
 pub mod Exactly

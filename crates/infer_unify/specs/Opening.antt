@@ -1,12 +1,11 @@
 -- Types with holes in the places of associated types that are to be read, and of `{unknown}`.
-use Rattle.std.specs.Prelude.{◌≡◌, ℕ, ◌+◌, List, [], ◌∷◌, ◌++◌, map, Option, Some, None}
+use Rattle.std.specs.Prelude.{◌≡◌, ℕ, ◌+◌, max, List, [], ◌∷◌, ◌++◌, map, Option, Some, None}
 use Rattle.hir_types.specs.declared.ids.TypeAliasId.{TypeAliasId}
 use Rattle.hir_types.specs.declared.head.Head.{Head}
 use Rattle.hir_types.specs.declared.head.Head.TheVariants as head
 use Rattle.hir_types.specs.declared.head.Hole.{Hole}
 use Rattle.hir_types.specs.declared.head.Hole.TheVariants as hole_of
-use Rattle.hir_types.specs.Terms.{Term, hole, leaf, pair}
-use Rattle.infer_table.specs.OpenedLaws.{IsBelow}
+use Rattle.hir_types.specs.Terms.{Term, hole, leaf, pair, hole_number}
 use Rattle.goal_answers.specs.Goals.{Each}
 use Rattle.goal_terms.specs.Terms.{term_of, IsHead, HasHeads}
 use Rattle.infer_unify.specs.declared.opening.Alias.{Alias as Owned}
@@ -83,14 +82,20 @@ second_opened n a b = opened (opened n a).next b
 abbrev pub aliases_of_both : ℕ → Term → Term → List Alias
 aliases_of_both n a b = (opened n a).aliases ++ (second_opened n a b).aliases
 
+-- the least number above those of all holes in the term
+abbrev pub above : Term → ℕ
+above (hole k) = hole_number k + 1
+above (leaf h) = 0
+above (pair a b) = max (above a) (above b)
+
+abbrev pub above_both : Term → Term → ℕ
+above_both a b = max (above a) (above b)
+
 -- so they were opened, with holes of their own
 pub record AreOpened (a b : Term) (ps : List Alias) (u v : Term) : Type 0 where
-  pub from : ℕ
-  pub left_below : IsBelow from a
-  pub right_below : IsBelow from b
-  pub left : u ≡ (opened from a).term
-  pub right : v ≡ (second_opened from a b).term
-  pub aliases : ps ≡ aliases_of_both from a b
+  pub left : u ≡ (opened (above_both a b) a).term
+  pub right : v ≡ (second_opened (above_both a b) a b).term
+  pub aliases : ps ≡ aliases_of_both (above_both a b) a b
 
 -- the arguments are a list, and what stands first in each pair of them is known
 abbrev pub HaveHeads : List Alias → Type 0

@@ -1,12 +1,12 @@
 -- Whether two types unify: what is found out of their holes, and what becomes of the associated types in them.
-use Rattle.std.specs.Prelude.{◌≡◌, ◌⊎◌, ℕ, Bool, true, false, List, [], ◌∷◌, slice_get, Some}
+use Rattle.std.specs.Prelude.{◌≡◌, ◌⊎◌, ℕ, Bool, true, false, IsTrue, List, [], ◌∷◌, slice_get, Some}
 use Rattle.hir_types.specs.declared.ids.GenericDefId.{GenericDefId}
 use Rattle.hir_types.specs.declared.head.Hole.{Hole}
 use Rattle.hir_types.specs.declared.head.Hole.TheVariants as hole_of
 use Rattle.hir_types.specs.declared.ty.Ty.{Ty}
 use Rattle.hir_types.specs.Terms.{Term, hole, pair, apply, term}
 use Rattle.hir_raw.specs.declared.raw.RawFacts.{RawFacts}
-use Rattle.infer_table.specs.Solutions.{Log, resolved, Respects, Solves, Unified, NoneUnifies}
+use Rattle.infer_table.specs.Solutions.{Log, resolved, Respects, Solves, Triangular, Unified, NoneUnifies}
 use Rattle.goal_answers.specs.Reading.{Aliases, alias_at, ReadsAs}
 use Rattle.goal_answers.specs.Goals.{projects, Asked, System, Each, SomeOf, Verdicts}
 use Rattle.goal_answers.specs.Answers.{answers}
@@ -56,15 +56,14 @@ pub record IsFound (A : Aliases) (ps : List Alias) (a b : Term) (l : Log) : Type
   pub states : List Log
   pub steps : AreSteps A ps states first l
 
--- the hole of one was made equal with what it reads as, or it reads as nothing; or nothing makes them equal
-abbrev pub IsFollowed : Aliases → Alias → Log → Log → Bool → Type 0
-IsFollowed A p l l' true = (l' ≡ l) ⊎ IsStepOf A p l l'
-IsFollowed A p l l' false = IsNoStepOf A p l
+-- whatever it reads as, with what is known of its holes, is what its hole stands for
+abbrev pub IsSettled : Aliases → Log → Alias → Type 0
+IsSettled A l p = (type : Term) → ReadsAs A (known_alias l p) type → (s : Hole → Term) → Solves s l → s (hole_of.Ty p.hole) ≡ apply s type
 
--- so it was of some of these, one after another
-abbrev pub AreFollowed : Aliases → List Alias → Log → Log → Bool → Type 0
-AreFollowed A ps l l' true = (ms : List Log) × AreSteps A ps ms l l'
-AreFollowed A ps l l' false = (m : Log) × (ms : List Log) × AreSteps A ps ms l m × IsNoStep A ps m
+-- without cycles, and no more can be found out so
+pub record IsAll (A : Aliases) (ps : List Alias) (l : Log) : Type 0 where
+  pub no_cycles : Triangular l
+  pub settled : Each (IsSettled A l) ps
 
 -- ---- what becomes of it
 
@@ -82,14 +81,14 @@ AreJudged v ps l unification.No = SomeOf (λ p. v.No (goal_of l p)) ps
 AreJudged v ps l unification.Undecided = Each (λ p. v.No (goal_of l p) → ⊥) ps × SomeOf (λ p. v.Yes (goal_of l p) → ⊥) ps
 AreJudged v ps l unification.Yes = Each (λ p. v.Yes (goal_of l p)) ps
 
--- a hole cannot be what its associated type reads as, or the goal that it is so is answered No
+-- a hole cannot be what its associated type reads as; or once all is found out the goal that it is so is answered No
 abbrev pub IsRefuted : Verdicts → List Alias → Log → Type 0
-IsRefuted v ps l = IsNoStep v.Alias ps l ⊎ AreJudged v ps l unification.No
+IsRefuted v ps l = IsNoStep v.Alias ps l ⊎ (IsAll v.Alias ps l × AreJudged v ps l unification.No)
 
 -- the two terms and the associated types, which holes of the two stand for
 abbrev pub Becomes : Verdicts → List Alias → Term → Term → Unification → Type 0
 Becomes v ps a b unification.No = (HaveCommon a b → ⊥) ⊎ ((l : Log) × IsFound v.Alias ps a b l × IsRefuted v ps l)
-Becomes v ps a b found = (l : Log) × IsFound v.Alias ps a b l × HaveCommonIn l a b × AreJudged v ps l found
+Becomes v ps a b found = (l : Log) × IsFound v.Alias ps a b l × IsAll v.Alias ps l × HaveCommonIn l a b × AreJudged v ps l found
 
 -- two terms, which are opened
 pub record BecomesFrom (v : Verdicts) (a b : Term) (found : Unification) : Type 0 where
@@ -118,3 +117,17 @@ deeply _ = false
 -- the test of what the two become
 abbrev pub IsTestOf : (Unification → Bool) → RawFacts → GenericDefId → Ty → Ty → Bool → Type 0
 IsTestOf test raw item a b is = (found : Unification) × IsUnification raw item a b found × (is ≡ test found)
+
+-- ---- of all calls
+
+-- there is no other outcome
+abbrev pub IsOnlyOutcome : RawFacts → GenericDefId → Ty → Ty → Unification → Type 0
+IsOnlyOutcome raw item a b found = (other : Unification) → IsUnification raw item a b other → other ≡ found
+
+-- nor another answer to the test
+abbrev pub IsOnlyTestOf : (Unification → Bool) → RawFacts → GenericDefId → Ty → Ty → Bool → Type 0
+IsOnlyTestOf test raw item a b is = (other : Bool) → IsTestOf test raw item a b other → other ≡ is
+
+-- where this is true, so is every answer to the test
+abbrev pub OnlyWhere : (Unification → Bool) → RawFacts → GenericDefId → Ty → Ty → Bool → Type 0
+OnlyWhere test raw item a b is = IsTrue is → (other : Bool) → IsTestOf test raw item a b other → IsTrue other

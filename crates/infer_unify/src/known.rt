@@ -1,5 +1,5 @@
 //! What is found out of the holes of two types, and what becomes of the associated types in them.
-ghost use Rattle.std.specs.Prelude.{◌≡◌, ◌≤◌, IfOk, option_map};
+ghost use Rattle.std.specs.Prelude.{◌≡◌, ◌≤◌, IsTrue, length, IfOk, option_map};
 ghost use Rattle.hir_types.specs.Terms.{hole, pair};
 ghost use Rattle.infer_table.specs.Solutions.{sub, resolved};
 ghost use Rattle.goal_answers.specs.Answers.{answers};
@@ -11,7 +11,8 @@ ghost use Rattle.goal_search.specs.Sources.{system};
 ghost use Rattle.goal_search.specs.Searching.{SystemHasHeads};
 ghost use Rattle.goal_facts.specs.Goals.{IsAnswer};
 ghost use Rattle.infer_unify.specs.Opening.{alias_of, aliases_of, HaveHeads};
-ghost use Rattle.infer_unify.specs.Unifying.{known_alias, goal_of, IsFollowed, AreFollowed, AreJudged};
+ghost use Rattle.infer_unify.specs.Unifying.{known_alias, goal_of, AreJudged};
+ghost use Rattle.infer_unify.specs.Following.{IsFollowed, AreFollowed, AreRounds};
 
 use crate::opening::Alias;
 use crate::unification::Unification;
@@ -117,6 +118,7 @@ pub(crate) fn follow_all(
     ensures same { search.new ≡ search.old }
     ensures is_log { IsLog (log_of log.new.items) }
     ensures followed { IfOk result (λ yes. AreFollowed (answers (system search.old) depth).Alias (aliases_of aliases.now) (log_of log.old.items) (log_of log.new.items) yes) }
+    ensures rounds { IfOk result (λ yes. IsTrue yes → AreRounds (answers (system search.old) depth).Alias (aliases_of aliases.now) (length aliases.now) (log_of log.old.items) (log_of log.new.items)) }
 {
     for _ in aliases {
         for alias in aliases {

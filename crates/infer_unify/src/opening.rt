@@ -1,9 +1,8 @@
 //! Terms with holes in the places of associated types that are to be read, and of `{unknown}`.
 ghost use Rattle.std.specs.Prelude.{◌≡◌, ◌+◌, IfOk, OnOk};
 ghost use Rattle.hir_types.specs.Terms.{hole_number};
-ghost use Rattle.infer_table.specs.OpenedLaws.{IsBelow};
 ghost use Rattle.goal_terms.specs.Terms.{term_of};
-ghost use Rattle.infer_unify.specs.Opening.{aliases_of, IsOpened, IsPutFor, AreOpened};
+ghost use Rattle.infer_unify.specs.Opening.{aliases_of, IsOpened, IsPutFor, above, AreOpened};
 
 use goal_terms::Term;
 use hir_types::{Head, Hole, TypeAliasId};
@@ -40,10 +39,10 @@ fn number_of(hole: Hole) -> usize
     }
 }
 
-/// A number above those of all holes in the term.
+/// The least number above those of all holes in the term.
 #[tactic(auto, using(goal_terms::specs::Terms::term_is))]
 fn number_above(term: &Term) -> Result<usize, AllocError>
-    ensures { IfOk result (λ n. IsBelow n (term_of term.now)) }
+    ensures { IfOk result (λ n. n ≡ above (term_of term.now)) }
 {
     match term {
         Term::Hole(hole) => number_of(*hole).checked_add(1).ok_or(AllocError),

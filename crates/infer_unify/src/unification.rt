@@ -1,12 +1,13 @@
 //! Whether two types unify, and whether nothing is left undecided then.
 ghost use Rattle.std.specs.Prelude.{◌≡◌, ◌≤◌, IsTrue, IfOk};
+ghost use Rattle.goal_answers.specs.Reading.{IsRead};
 ghost use Rattle.goal_answers.specs.Answers.{answers};
 ghost use Rattle.goal_terms.specs.Terms.{term_of, HasHeads};
 ghost use Rattle.goal_search.specs.Sources.{system};
 ghost use Rattle.goal_search.specs.Searching.{SystemHasHeads};
 ghost use Rattle.infer_unify.specs.Exactly.{UnifyExactly, IsExact};
 ghost use Rattle.infer_unify.specs.Opening.{aliases_of, HaveHeads};
-ghost use Rattle.infer_unify.specs.Unifying.{Becomes, IsUnification, could, deeply, IsTestOf};
+ghost use Rattle.infer_unify.specs.Unifying.{Becomes, IsUnification, IsOnlyOutcome, could, deeply, IsTestOf, IsOnlyTestOf, OnlyWhere};
 
 use crate::known::{follow_all, judge};
 use crate::opening::{OpenedBoth, open_both};
@@ -56,6 +57,7 @@ fn unify_terms(
     requires left { HasHeads (term_of terms.now.left) }
     requires right { HasHeads (term_of terms.now.right) }
     requires heads { HaveHeads (aliases_of terms.now.aliases.items) }
+    requires read { IsRead (term_of terms.now.left) × IsRead (term_of terms.now.right) }
     ensures { IfOk result (λ found. Becomes (answers (system search.old) depth) (aliases_of terms.now.aliases.items) (term_of terms.now.left) (term_of terms.now.right) found) }
 {
     let mut log = Vec::new(alloc);
@@ -72,7 +74,7 @@ fn unify_terms(
 /// it may stand for, so the list of the holes isn't looked at. Parameters, opaque types and associated
 /// types that stay are the same as themselves alone, and `{unknown}` is the same as anything. In the
 /// place of an associated type that is to be read stands a hole, which is what that reads as where it is
-/// known, and else has to be it.
+/// known, and else has to be it. It is the same for the same facts, item and types.
 pub fn unification_of(
     alloc: Global,
     facts: &Facts,
@@ -80,6 +82,7 @@ pub fn unification_of(
     pair: &Canonical<(Ty, Ty)>,
 ) -> Result<Unification, AllocError>
     ensures becomes { IfOk result (λ found. IsUnification facts.now env pair.now.value.0 pair.now.value.1 found) }
+    ensures only { IfOk result (λ found. IsOnlyOutcome facts.now env pair.now.value.0 pair.now.value.1 found) }
     ensures exact { IfOk result (λ found. UnifyExactly pair.now.value.0 pair.now.value.1 found) }
 {
     let sources = ItemSources::new(alloc, facts, env)?;
@@ -93,7 +96,8 @@ pub fn unification_of(
     unify_terms(alloc, &mut search, depth, &terms)
 }
 
-/// Whether two types could be the same: nothing that is known refutes it.
+/// Whether two types could be the same: nothing that is known refutes it. All calls for the same facts,
+/// item and types answer alike.
 pub fn could_unify(
     alloc: Global,
     facts: &Facts,
@@ -101,13 +105,15 @@ pub fn could_unify(
     pair: &Canonical<(Ty, Ty)>,
 ) -> Result<bool, AllocError>
     ensures test { IfOk result (λ yes. IsTestOf could facts.now env pair.now.value.0 pair.now.value.1 yes) }
+    ensures only { IfOk result (λ yes. IsOnlyTestOf could facts.now env pair.now.value.0 pair.now.value.1 yes) }
     ensures exact { IfOk result (λ yes. IsExact pair.now.value.0 pair.now.value.1 yes) }
 {
     let found = unification_of(alloc, facts, env, pair)?;
     Ok(found.could())
 }
 
-/// Whether two types could be the same, and nothing that this asks for is left undecided.
+/// Whether two types could be the same, and nothing that this asks for is left undecided. All calls for
+/// the same facts, item and types answer alike, and where it is true so is `could_unify`.
 pub fn could_unify_deeply(
     alloc: Global,
     facts: &Facts,
@@ -115,6 +121,8 @@ pub fn could_unify_deeply(
     pair: &Canonical<(Ty, Ty)>,
 ) -> Result<bool, AllocError>
     ensures test { IfOk result (λ yes. IsTestOf deeply facts.now env pair.now.value.0 pair.now.value.1 yes) }
+    ensures only { IfOk result (λ yes. IsOnlyTestOf deeply facts.now env pair.now.value.0 pair.now.value.1 yes) }
+    ensures only_where_could { IfOk result (λ yes. OnlyWhere could facts.now env pair.now.value.0 pair.now.value.1 yes) }
     ensures exact { IfOk result (λ yes. IsExact pair.now.value.0 pair.now.value.1 yes) }
 {
     let found = unification_of(alloc, facts, env, pair)?;

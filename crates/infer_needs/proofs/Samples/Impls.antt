@@ -1,7 +1,8 @@
 -- Facts for tables about goals: `trait Tr { type Out; }`, `struct W<T>(T);`, `impl Tr for u8 { type Out = bool; }`,
 -- `impl Tr for bool { type Out = char; }`, `impl<T: Tr> Tr for W<T> { type Out = bool; }`, `fn need<T: Tr>(x: T)`,
--- `fn f() { need(1u8) }`, `fn take<T: Tr>(x: T, y: T::Out)` and `struct H<T: Tr>(T::Out);`; and what goals of `f` are answered by.
-use Rattle.std.proofs.Common.{ℕ, zero, suc, ◌≡◌, inl, inr, List, [], ◌∷◌, ◌++◌, length, map, append-nil, refl, sym, ap, subst, ◌∙◌, false, Some, slice_get}
+-- `fn f() { need(1u8) }`, `fn take<T: Tr>(x: T, y: T::Out)`, `struct H<T: Tr>(T::Out);` and `fn show(x: <u8 as Tr>::Out) {}`,
+-- `fn both() where bool: Tr<Out = u8>, bool: Tr<Out = char>`; and what goals of `f` are answered by.
+use Rattle.std.proofs.Common.{ℕ, zero, suc, ◌≡◌, inl, inr, List, [], ◌∷◌, ◌++◌, length, map, append-nil, refl, sym, ap, subst, ◌∙◌, false, Some, None, slice_get}
 use Rattle.std.specs.Prelude.{codes, flat_map}
 use Rattle.hir_types.specs.declared.ids.DefWithBodyId.{DefWithBodyId}
 use Rattle.hir_types.specs.declared.ids.DefWithBodyId.TheVariants as def
@@ -23,12 +24,15 @@ use Rattle.hir_raw.specs.declared.raw.RawAdtKind.TheVariants as kind
 use Rattle.hir_raw.specs.declared.raw.RawVariant.{RawVariant}
 use Rattle.hir_raw.specs.declared.raw.RawAlias.{RawAlias}
 use Rattle.hir_raw.specs.declared.raw.RawArgs.TheVariants as args
+use Rattle.hir_raw.specs.declared.raw.RawBody.{RawBody}
 use Rattle.hir_raw.specs.declared.raw.RawCtor.TheVariants as ctor
+use Rattle.hir_raw.specs.declared.raw.RawExpr.TheVariants as expr
 use Rattle.hir_raw.specs.declared.raw.RawFacts.{RawFacts}
 use Rattle.hir_raw.specs.declared.raw.RawFn.{RawFn}
 use Rattle.hir_raw.specs.declared.raw.RawGoal.{RawGoal}
 use Rattle.hir_raw.specs.declared.raw.RawGoal.TheVariants as goal
 use Rattle.hir_raw.specs.declared.raw.RawImpl.{RawImpl}
+use Rattle.hir_raw.specs.declared.raw.RawPat.TheVariants as pat
 use Rattle.hir_raw.specs.declared.raw.RawParam.{RawParam}
 use Rattle.hir_raw.specs.declared.raw.RawParam.TheVariants as parameter
 use Rattle.hir_raw.specs.declared.raw.RawTrait.{RawTrait}
@@ -42,7 +46,7 @@ use Rattle.goal_facts.specs.Environment.{IsStated, Follows}
 use Rattle.goal_facts.specs.Impls.{impl_rules}
 use Rattle.goal_facts.specs.Systems.{fact, IsSystemOf}
 use Rattle.goal_facts.proofs.Written.{type_layer, args_are}
-use Rattle.infer_result.proofs.Samples.Small.{facts_with, function_of, w, one_u8}
+use Rattle.infer_result.proofs.Samples.Small.{facts_with, function_of, body_with, p, b, w, plain, one_u8}
 use Rattle.infer_result.proofs.Samples.Calling.{body, top_arg}
 use Rattle.infer_result.proofs.Samples.Constructors.{v, adt, adt_of, variant_of}
 
@@ -52,9 +56,9 @@ tr = record { 0 = 0 }
 abbrev pub out : TypeAliasId
 out = record { 0 = 0 }
 
--- `u8`, `bool`, `T`, `W<T>`, `()`, `char` and `T::Out`
+-- `u8`, `bool`, `T`, `W<T>`, `()`, `char`, `T::Out` and `<u8 as Tr>::Out`
 abbrev pub types : List RawType
-types = type.Integer (integer.Uint uint.U8) ∷ type.Bool ∷ type.Param 0 ∷ type.Adt adt (w 2 ∷ []) ∷ type.Tuple [] ∷ type.Char ∷ type.Projection out (w 2 ∷ []) ∷ []
+types = type.Integer (integer.Uint uint.U8) ∷ type.Bool ∷ type.Param 0 ∷ type.Adt adt (w 2 ∷ []) ∷ type.Tuple [] ∷ type.Char ∷ type.Projection out (w 2 ∷ []) ∷ type.Projection out (w 0 ∷ []) ∷ []
 
 -- that the type implements the trait
 abbrev pub bound : TypeRefId → RawGoal
@@ -93,6 +97,22 @@ need = record (function_of (parameter.Type ∷ []) (w 2 ∷ []) (w 4)) { preds =
 abbrev pub take : RawFn
 take = record (function_of (parameter.Type ∷ []) (w 2 ∷ w 6 ∷ []) (w 4)) { preds = bound (w 2) ∷ [] }
 
+abbrev show : RawFn
+show = record (function_of [] (w 7 ∷ []) (w 4)) { body = Some (record { 0 = 1 }) }
+
+abbrev pub showing : RawBody
+showing = body_with (p 0 ∷ []) (expr.Block None [] None ∷ []) 0 (pat.Bind (b 0) None ∷ []) (plain ∷ [])
+
+-- that `<bool as Tr>::Out` is the type
+abbrev pub bool_out : TypeRefId → RawGoal
+bool_out t = goal.Projection out (args.Types (w 1 ∷ [])) t
+
+abbrev pub both_preds : List RawGoal
+both_preds = bound (w 1) ∷ bool_out (w 0) ∷ bool_out (w 5) ∷ []
+
+abbrev both : RawFn
+both = record (function_of [] [] (w 4)) { preds = both_preds }
+
 abbrev caller : RawFn
 caller = record (function_of [] [] (w 4)) { body = Some (record { 0 = 0 }) }
 
@@ -103,13 +123,13 @@ abbrev holder : RawVariant
 holder = record (variant_of ctor.Tuple (w 6 ∷ [])) { adt = record { 0 = 1 } }
 
 abbrev pub facts : RawFacts
-facts = record (facts_with types (need ∷ caller ∷ take ∷ [])) {
+facts = record (facts_with types (need ∷ caller ∷ take ∷ show ∷ both ∷ [])) {
   adts = adt_of kind.Struct (parameter.Type ∷ []) (v 0 ∷ []) ∷ holding ∷ [];
   variants = variant_of ctor.Tuple (w 2 ∷ []) ∷ holder ∷ [];
   traits = the_trait ∷ [];
   aliases = the_alias ∷ [];
   impls = for_u8 ∷ for_bool ∷ for_w ∷ [];
-  bodies = body one_u8 ∷ [];
+  bodies = body one_u8 ∷ showing ∷ [];
 }
 
 -- `f`, which states nothing
@@ -208,7 +228,8 @@ module _ (s : System) (of : IsSystemOf facts own s) where
   pub no_clauses : s.clauses ≡ []
   no_clauses = of.clauses.are ∙ ap (map fact) (no_entries of.clauses.stated (λ i d is. nothing_follows (IsStated facts own) nothing_stated 8 d (of.clauses.closed.only i d is)))
 
-  pub rules_are : s.rules ≡ all_said
-  rules_are =
-      let none = no_entries of.rules.listed (λ i d is. nothing_follows (IsListed facts) nothing_listed 8 d (of.rules.closed.only i d is)) in
-      of.rules.are ∙ (ap (λ ds. flat_map (impl_rules facts) facts.impls ++ map fact ds) none ∙ (append-nil (flat_map (impl_rules facts) facts.impls) ∙ (λ i. u8_rules i ++ bool_rules i ++ w_rules i ++ [])))
+-- of whatever item
+pub rules_are : {item : GenericDefId} (s : System) → IsSystemOf facts item s → s.rules ≡ all_said
+rules_are s of =
+    let none = no_entries of.rules.listed (λ i d is. nothing_follows (IsListed facts) nothing_listed 8 d (of.rules.closed.only i d is)) in
+    of.rules.are ∙ (ap (λ ds. flat_map (impl_rules facts) facts.impls ++ map fact ds) none ∙ (append-nil (flat_map (impl_rules facts) facts.impls) ∙ (λ i. u8_rules i ++ bool_rules i ++ w_rules i ++ [])))

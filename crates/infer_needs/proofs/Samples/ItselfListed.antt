@@ -23,21 +23,18 @@ use Rattle.infer_result.specs.declared.gaps.Gap.{Gap}
 use Rattle.infer_result.specs.declared.gaps.Gap.TheVariants as gap
 use Rattle.infer_result.specs.declared.result.InferenceResult.{InferenceResult}
 use Rattle.infer_result.specs.Places.{Given}
-use Rattle.infer_result.specs.Projections.{IsAboutAlias, stays_at}
+use Rattle.infer_result.specs.Projections.{GoalReads, IsAboutAlias, stays_at}
 use Rattle.infer_result.specs.Needs.{HasGap, IsProved, GoalsHold}
 use Rattle.infer_result.proofs.Samples.Small.{u8}
 use Rattle.infer_needs.proofs.Samples.Impls.{out, tr, facts, own_body, u8_term, found_as}
-use Rattle.infer_needs.proofs.Samples.Sources.{asks_out, asks_out_is, asks_u8, not_sized}
+use Rattle.infer_needs.proofs.Samples.Sources.{goal_reads_bare, asks_out, asks_out_is, asks_u8, not_sized}
 use Rattle.infer_needs.proofs.Samples.ImplProofs.{by_impl, u8_holds}
 use Rattle.infer_needs.proofs.Samples.Needed.{sources, are_sources}
-use Rattle.infer_needs.proofs.Samples.Left.{u8_args, stays}
+use Rattle.infer_needs.proofs.Samples.Left.{u8_args, alias, stays}
 use Rattle.infer_needs.proofs.Samples.Taking.{given, table_of, IsOneOf, yes, needed}
 use Rattle.infer_needs.proofs.Samples.WrongTables.{same_alias}
 
 -- ---- refused
-
-abbrev alias : Ty
-alias = ty.Projection out (type_args (u8 ∷ []))
 
 itself : (k : TypeAliasId) (xs : List GenericArg) → alias ≡ ty.Projection k xs → term stays ≡ stays_at k xs
 itself k xs is =
@@ -99,9 +96,11 @@ is_proved a (inr is) = record { number = 1; proof = out_is_itself; listed = refl
 not_other : IsAboutAlias (found_as u8_term stays_term) → ⊥
 not_other about = (let same : out ≡ about.alias = (let kinds : projects out ≡ projects about.alias = about.is in cc) in about.other (ap (λ k. staying k (only u8_term)) same))
 
-none_asked : (a : Asked) → IsAboutAlias a → IsOneOf stays_term a → ⊥
-none_asked a about (inl is) = (let clash : implements tr ≡ projects about.alias = sym (ap (λ (y : Asked). y.kind) is) ∙ about.is in cc)
-none_asked a about (inr is) = not_other (subst IsAboutAlias is about)
+none_asked : (a b : Asked) → GoalReads sources 8 a b → IsAboutAlias b → IsOneOf stays_term a → ⊥
+none_asked a b reads about (inl is) = (let clash : implements tr ≡ projects about.alias = sym (ap (λ (y : Asked). y.kind) is) ∙ (sym reads.kind ∙ about.is) in cc)
+none_asked a b reads about (inr is) =
+    let itself : b ≡ found_as u8_term stays_term = goal_reads_bare sources 8 (found_as u8_term stays_term) b (((tt, (tt, tt)), tt), (tt, ((tt, (tt, tt)), tt))) (subst (λ x. GoalReads sources 8 x b) is reads) in
+    not_other (subst IsAboutAlias itself about)
 
 pub itself_left : GoalsHold own_body (given yes) right
 itself_left = record {
@@ -112,5 +111,5 @@ itself_left = record {
   gaps = λ n x h. absurd (no_gap n x h);
   once = λ n x y h k same. absurd (no_gap n x h);
   found = record { each = λ n x is. absurd (cc); once = λ j k x y is other same. absurd (cc) };
-  entries = λ n a h about. absurd (none_asked a about (needed yes stays stays_term stays_is proofs [] [] n a h).1);
+  entries = λ n a b h known reads about. absurd (none_asked a b reads about (needed yes stays stays_term stays_is proofs [] [] n a h).1);
 }

@@ -10,7 +10,7 @@ use Rattle.hir_types.specs.Terms.{Term, hole, leaf, pair, chain, type_part, term
 use Rattle.hir_types.specs.TermLaws.{term_bool, term_uint, term_projection, term_associated_type, arg_term_type}
 use Rattle.hir_raw.specs.declared.raw.RawLiteral.{RawLiteral}
 use Rattle.hir_raw.specs.Signatures.{type_args}
-use Rattle.goal_answers.specs.Reading.{Fill, Role, staying, Aliases, ReadsAs, MayRead}
+use Rattle.goal_answers.specs.Reading.{Fill, Role, alias_at, staying, Aliases, ReadsAs, MayRead}
 use Rattle.goal_answers.specs.Goals.{Asked, Rule, System, implements, projects, only, Each, OneOf, Verdicts}
 use Rattle.goal_answers.specs.Answers.{Gives, GivesNone, answers}
 use Rattle.goal_answers.proofs.Readings.{MayReadBy, role_read, read_reads}
@@ -30,6 +30,20 @@ use Rattle.infer_needs.proofs.Samples.AliasProofs.{out_asks}
 use Rattle.infer_needs.proofs.Samples.Needed.{given, table_of, sources, are_sources}
 use Rattle.infer_needs.proofs.Samples.Tables.{entry, out_known, no_bool}
 
+-- ---- the associated type, as it is written and as it stays
+
+abbrev pub alias : Ty
+alias = ty.Projection out (type_args (u8 ∷ []))
+
+abbrev pub stays : Ty
+stays = ty.AssociatedType out (type_args (u8 ∷ []))
+
+pub u8_args : chain (map arg_term (type_args (u8 ∷ []))) ≡ only u8_term
+u8_args = λ i. pair ((arg_term_type u8 ∙ ap type_part (term_uint uint.U8)) i) (leaf head.End)
+
+pub alias_term : term alias ≡ alias_at out (only u8_term)
+alias_term = term_projection out (type_args (u8 ∷ [])) ∙ ap (alias_at out) u8_args
+
 -- ---- it reads as `bool`
 
 may_bare : (p : Fill) (t u : Term) → IsBare t → MayRead p t u → u ≡ t
@@ -40,13 +54,10 @@ may_bare p (pair a b) u h r =
     let q = subst P (role_read a (bare_read a h.0)) r in
     q.2 ∙ ap₂ pair (may_bare p a q.0 h.0 q.3) (may_bare p b q.1 h.1 q.4)
 
-pub u8_args : chain (map arg_term (type_args (u8 ∷ []))) ≡ only u8_term
-u8_args = λ i. pair ((arg_term_type u8 ∙ ap type_part (term_uint uint.U8)) i) (leaf head.End)
-
 differ : only u8_term ≡ only bool_term → ⊥
 differ h = cc
 
-module _ (s : System) (of : IsSystemOf facts own s) (n : ℕ) where
+module _ (s : System) (n : ℕ) where
   abbrev v : Verdicts
   v = answers s n
 
@@ -66,11 +77,11 @@ module _ (s : System) (of : IsSystemOf facts own s) (n : ℕ) where
     preds = tt;
   }
 
-  not_trait : (t : Term) (qs : List Asked) → Other (record { head = implemented t; preds = qs })
+  pub not_trait : (t : Term) (qs : List Asked) → Other (record { head = implemented t; preds = qs })
   not_trait t qs = inl (λ is. (let clash : implements tr ≡ projects out = is in cc))
 
-  not_bool : (qs : List Asked) → Other (record { head = found_as bool_term char_term; preds = qs })
-  not_bool qs = inr (inl (λ q f filling r. differ (may_bare q (only bool_term) (only u8_term) ((tt, (tt, tt)), tt) r)))
+  pub not_bool : (t : Term) (qs : List Asked) → Other (record { head = found_as bool_term t; preds = qs })
+  not_bool t qs = inr (inl (λ q f filling r. differ (may_bare q (only bool_term) (only u8_term) ((tt, (tt, tt)), tt) r)))
 
   w_apart : (q : Fill) → MayRead q (only (w_term param)) (only u8_term) → ⊥
   w_apart q r =
@@ -87,36 +98,40 @@ module _ (s : System) (of : IsSystemOf facts own s) (n : ℕ) where
   one_gives : OneOf Here Other all_said
   one_gives =
       let asks = implemented param ∷ [] in
-      inr (not_trait u8_term [], inl (gives, (not_trait bool_term [], (not_bool [], (not_trait (w_term param) asks, (not_w asks, tt))))))
+      inr (not_trait u8_term [], inl (gives, (not_trait bool_term [], (not_bool char_term [], (not_trait (w_term param) asks, (not_w asks, tt))))))
 
-  alias_is : (answers s (suc n)).Alias out (only u8_term) bool_term
-  alias_is = (tt, inr (subst (Each Other) (sym (no_clauses s of)) tt, inl (subst (OneOf Here Other) (sym (rules_are s of)) one_gives)))
+  -- where no clause says what it is
+  pub term_reads : s.rules ≡ all_said → Each Other s.clauses → ReadsAs (answers s (suc n)).Alias (alias_at out (only u8_term)) bool_term
+  term_reads are none =
+      let is : (answers s (suc n)).Alias out (only u8_term) bool_term = (tt, inr (none, inl (subst (OneOf Here Other) (sym are) one_gives))) in
+      (only u8_term, read_reads (answers s (suc n)).Alias (only u8_term) ((tt, (tt, tt)), tt), is)
 
-  pub reads_bool : TypeReads s (suc n) (ty.Projection out (type_args (u8 ∷ []))) ty.Bool
+module _ (s : System) (of : IsSystemOf facts own s) (n : ℕ) where
+  pub reads_bool : TypeReads s (suc n) alias ty.Bool
   reads_bool =
       let A : Aliases = (answers s (suc n)).Alias in
-      let alias : Term = pair (leaf (head.Projection out)) (only u8_term) in
-      let is : term (ty.Projection out (type_args (u8 ∷ []))) ≡ alias = term_projection out (type_args (u8 ∷ [])) ∙ ap (pair (leaf (head.Projection out))) u8_args in
-      subst (λ t. ReadsAs A t (term ty.Bool)) (sym is)
-      (subst (λ u. ReadsAs A alias u) (sym term_bool) (only u8_term, read_reads A (only u8_term) ((tt, (tt, tt)), tt), alias_is))
+      let none : Each (GivesNone (answers s n) out (only u8_term)) s.clauses = subst (Each (GivesNone (answers s n) out (only u8_term))) (sym (no_clauses s of)) tt in
+      subst (λ t. ReadsAs A t (term ty.Bool)) (sym alias_term) (subst (ReadsAs A (alias_at out (only u8_term))) (sym term_bool) (term_reads s n (rules_are s of) none))
 
 -- ---- refused
 
-abbrev pub stays : Ty
-stays = ty.AssociatedType out (type_args (u8 ∷ []))
+-- where the table doesn't say that it is `bool`
+pub not_listed : (s : System) → IsSystemOf facts own s → (js : List (Ty × Ty)) → (HasEntry js (found_as u8_term bool_term) → ⊥) → StaysOrIsListed s 8 js out (type_args (u8 ∷ [])) → ⊥
+not_listed s of js none h =
+    elim (h ty.Bool (reads_bool s of 7)) [
+      | inl same ↦ no_bool (chain (map arg_term (type_args (u8 ∷ [])))) (sym term_bool ∙ same)
+      | inr other ↦ elim other [
+        | inl found ↦ none (subst (HasEntry js) out_asks found)
+        | inr unknown ↦ out_known (subst (λ (a : Asked). HoldsUnknown a.parts) out_asks unknown)
+      ]
+    ]
 
--- where it is left in the type of an expression, and the table doesn't say that it is `bool`
+-- so where it is left in the type of an expression
 pub left_over : (l : RawLiteral) (r : InferenceResult) (n : ℕ) → At r.type_of_expr n stays → (HasEntry r.projections (found_as u8_term bool_term) → ⊥) → HasNoneLeft own_body (given l) r → ⊥
 left_over l r n is none h =
     let xs = type_args (u8 ∷ []) in
     let part : IsPartOf (stays_at out xs) (term stays) = subst (IsPartOf (stays_at out xs)) (sym (term_associated_type out xs)) (inl refl) in
-    elim (h.left.exprs n stays is out xs part ty.Bool (reads_bool h.system h.of_item 7)) [
-      | inl same ↦ no_bool (chain (map arg_term xs)) (sym term_bool ∙ same)
-      | inr other ↦ elim other [
-        | inl found ↦ none (subst (HasEntry r.projections) out_asks found)
-        | inr unknown ↦ out_known (subst (λ (a : Asked). HoldsUnknown a.parts) out_asks unknown)
-      ]
-    ]
+    not_listed h.system h.of_item r.projections none (h.left.exprs n stays is out xs part)
 
 -- ---- taken
 
@@ -136,22 +151,20 @@ parts_of : (k m : TypeAliasId) (x y : Term) → staying k x ≡ staying m y → 
 parts_of k m x y h = (cc, cc)
 
 -- it is read as what is listed
-itself_listed : (k : TypeAliasId) (xs : List GenericArg) → stays_at k xs ≡ staying out (only u8_term) → StaysOrIsListed sources 8 (entry ∷ []) k xs
-itself_listed k xs is u reads =
-    let (alias, args) = parts_of k out (chain (map arg_term xs)) (only u8_term) is in
-    let here : term (ty.Projection k xs) ≡ term (ty.Projection out (type_args (u8 ∷ []))) =
-    term_projection k xs ∙ ((λ i. pair (leaf (head.Projection (alias i))) ((args ∙ sym u8_args) i)) ∙ sym (term_projection out (type_args (u8 ∷ [])))) in
-    let read : TypeReads sources 8 (ty.Projection out (type_args (u8 ∷ []))) u = subst (λ t. ReadsAs (answers sources 8).Alias t (term u)) here reads in
+pub itself_listed : (k : TypeAliasId) (xs : List GenericArg) → k ≡ out → chain (map arg_term xs) ≡ only u8_term → StaysOrIsListed sources 8 (entry ∷ []) k xs
+itself_listed k xs same args u reads =
+    let here : term (ty.Projection k xs) ≡ term alias = term_projection k xs ∙ ((λ i. alias_at (same i) (args i)) ∙ sym alias_term) in
+    let read : TypeReads sources 8 alias u = subst (λ t. ReadsAs (answers sources 8).Alias t (term u)) here reads in
     let bool : term ty.Bool ≡ term u = reads_one sources 8 out (type_args (u8 ∷ [])) ty.Bool u (reads_bool sources are_sources 7) read in
     let asked : asked_goal (goal.Projection out (type_args (u8 ∷ [])) ty.Bool) ≡ asked_goal (goal.Projection k xs u) =
-    λ i. record { kind = projects (sym alias i); parts = pair ((u8_args ∙ sym args) i) (bool i) } in
+    λ i. record { kind = projects (sym same i); parts = pair ((u8_args ∙ sym args) i) (bool i) } in
     inr (inl (out, type_args (u8 ∷ []), ty.Bool, (0, refl), asked))
 
 none_left : NoneIsLeft sources 8 (entry ∷ []) stays
 none_left k xs part =
     let is : term stays ≡ staying out (only u8_term) = term_associated_type out (type_args (u8 ∷ [])) ∙ ap (staying out) u8_args in
     elim (subst (IsPartOf (stays_at k xs)) is part) [
-      | inl same ↦ itself_listed k xs same
+      | inl same ↦ (let (alias, args) = parts_of k out (chain (map arg_term xs)) (only u8_term) same in itself_listed k xs alias args)
       | inr other ↦ elim other [
         | inl none ↦ absurd none
         | inr deeper ↦ absurd (not_in_args k (chain (map arg_term xs)) deeper)

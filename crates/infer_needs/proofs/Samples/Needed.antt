@@ -24,7 +24,7 @@ use Rattle.goal_facts.proofs.Written.{type_layer, args_are}
 use Rattle.infer_result.specs.declared.gaps.Gap.{Gap}
 use Rattle.infer_result.specs.declared.result.InferenceResult.{InferenceResult}
 use Rattle.infer_result.specs.Places.{Given}
-use Rattle.infer_result.specs.Projections.{IsAboutAlias}
+use Rattle.infer_result.specs.Projections.{GoalReads, IsAboutAlias}
 use Rattle.infer_result.specs.Needs.{item_args, needs_at, IsNeeded}
 use Rattle.infer_result.specs.Typed.{given as given_in}
 use Rattle.infer_result.proofs.Samples.Small.{e, w}
@@ -98,13 +98,14 @@ module _ (l : RawLiteral) (t : Ty) (x : Term) (t_is : term t ≡ x) where
     needed (node.ExprId k) a h = needed_at k k.0 h.at a refl h.among
     needed (node.PatId k) a h = (let none : slice_get [] h.at ≡ Some a = h.among in absurd (cc))
 
-    -- so none asks what an associated type is
-    pub none_asked : (n : ExprOrPatId) (a : Asked) → IsNeeded (given l) r n a → IsAboutAlias a → ⊥
-    none_asked n a h about = (let clash : implements tr ≡ projects about.alias = sym (ap (λ (y : Asked). y.kind) (needed n a h).1) ∙ about.is in cc)
+    -- so none asks what an associated type is, nor does what it reads as
+    pub none_asked : (f : System) (m : ℕ) (n : ExprOrPatId) (a b : Asked) → IsNeeded (given l) r n a → GoalReads f m a b → IsAboutAlias b → ⊥
+    none_asked f m n a b h reads about =
+        (let clash : implements tr ≡ projects about.alias = sym (ap (λ (y : Asked). y.kind) (needed n a h).1) ∙ (sym reads.kind ∙ about.is) in cc)
 
 -- ---- what goals of `f` are answered by
 
-closed : (S : Asked → Type 0) → ((d : Asked) → S d → ⊥) → IsClosure facts S 8 []
+pub closed : (S : Asked → Type 0) → ((d : Asked) → S d → ⊥) → IsClosure facts S 8 []
 closed S none = record { all = λ d h. absurd (nothing_follows S none 8 d h); only = λ i d is. absurd (cc); once = λ i j d is other. absurd (cc) }
 
 abbrev pub sources : System

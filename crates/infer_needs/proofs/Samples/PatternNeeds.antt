@@ -28,16 +28,17 @@ use Rattle.infer_result.specs.declared.modes.BindingMode.TheVariants as mode
 use Rattle.infer_result.specs.declared.result.InferenceResult.{InferenceResult}
 use Rattle.infer_result.specs.AliasNeeds.{alias_goal}
 use Rattle.infer_result.specs.Places.{Given}
-use Rattle.infer_result.specs.Projections.{IsAboutAlias, HasEntry}
+use Rattle.infer_result.specs.Projections.{GoalReads, HasEntry}
 use Rattle.infer_result.specs.Needs.{needs_at, pat_needs_by, pat_needs_at, IsNeeded, HasGap, IsProved, GoalsHold}
 use Rattle.infer_result.specs.Typed.{given as given_in}
 use Rattle.infer_result.proofs.Samples.Small.{e, p, b, w, u8, plain, body_with}
 use Rattle.infer_result.proofs.Samples.Calling.{top_arg}
 use Rattle.infer_result.proofs.Samples.Constructors.{v}
 use Rattle.infer_needs.proofs.Samples.Impls.{out, facts, own_body, u8_term, bool_term, char_term, found_as}
+use Rattle.infer_needs.proofs.Samples.Sources.{goal_reads_bare, bare_goal_reads}
 use Rattle.infer_needs.proofs.Samples.AliasProofs.{out_is_bool, out_asks, not_char}
 use Rattle.infer_needs.proofs.Samples.Needed.{sources, are_sources}
-use Rattle.infer_needs.proofs.Samples.Tables.{proofs, are_proofs, entry, out_known, char_known, found_once, no_bool}
+use Rattle.infer_needs.proofs.Samples.Tables.{proofs, are_proofs, entry, out_known, out_bare, about_out, char_known, found_once}
 
 abbrev body : RawBody
 body =
@@ -139,8 +140,8 @@ nothing_said js h =
 -- without an entry, whatever proofs are listed
 pub no_entry : (ps : List Proof) → GoalsHold own_body given (table_of ty.Bool ps []) → ⊥
 no_entry ps h =
-    let about : IsAboutAlias (found_as u8_term bool_term) = record { alias = out; is = refl; read = (tt, tt); known = out_known; other = λ h. no_bool (only u8_term) h } in
-    elim (h.entries pattern (found_as u8_term bool_term) (pattern_needs ty.Bool bool_term term_bool ps []) about) [
+    let a = found_as u8_term bool_term in
+    elim (h.entries pattern a a (pattern_needs ty.Bool bool_term term_bool ps []) out_known (bare_goal_reads h.system 8 a out_bare) about_out) [
       | inl found ↦ (let none = found.3.1 in cc)
       | inr other ↦ elim other [
         | inl clash ↦ no_gap ty.Bool bool_term term_bool ps [] pattern _ clash.4
@@ -164,8 +165,10 @@ right = table_of ty.Bool proofs (entry ∷ [])
 is_proved : (a : Asked) → a ≡ found_as u8_term bool_term → IsProved right a
 is_proved a is = record { number = 1; proof = out_is_bool; listed = refl; goal = out_asks ∙ sym is }
 
-has_entry : (a : Asked) → a ≡ found_as u8_term bool_term → HasEntry right.projections a
-has_entry a is = (out, type_args (u8 ∷ []), ty.Bool, (0, refl), out_asks ∙ sym is)
+has_entry : (a b : Asked) → GoalReads sources 8 a b → a ≡ found_as u8_term bool_term → HasEntry right.projections b
+has_entry a b reads is =
+    let itself : b ≡ found_as u8_term bool_term = goal_reads_bare sources 8 (found_as u8_term bool_term) b out_bare (subst (λ x. GoalReads sources 8 x b) is reads) in
+    (out, type_args (u8 ∷ []), ty.Bool, (0, refl), out_asks ∙ sym itself)
 
 pub with_entry : GoalsHold own_body given right
 with_entry = record {
@@ -176,5 +179,5 @@ with_entry = record {
   gaps = λ n x h. absurd (no_gap ty.Bool bool_term term_bool proofs (entry ∷ []) n x h);
   once = λ n x y h k same. absurd (no_gap ty.Bool bool_term term_bool proofs (entry ∷ []) n x h);
   found = found_once right refl refl;
-  entries = λ n a h about. inl (has_entry a (needed ty.Bool bool_term term_bool proofs (entry ∷ []) n a h));
+  entries = λ n a b h known reads about. inl (has_entry a b reads (needed ty.Bool bool_term term_bool proofs (entry ∷ []) n a h));
 }

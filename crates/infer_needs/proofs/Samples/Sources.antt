@@ -14,12 +14,13 @@ use Rattle.hir_raw.specs.declared.raw.RawImpl.{RawImpl}
 use Rattle.hir_raw.specs.Signatures.{type_args}
 use Rattle.goal_answers.specs.Reading.{Fill, Role, IsRead, Aliases, Reads}
 use Rattle.goal_answers.specs.Goals.{Asked, Rule, System, implements, projects, asked_at, is_among, Each}
-use Rattle.goal_answers.specs.Answers.{Shadows}
+use Rattle.goal_answers.specs.Answers.{Shadows, answers}
 use Rattle.goal_answers.proofs.Readings.{ReadsBy, role_read, read_reads}
 use Rattle.goal_facts.specs.Goals.{asked_goal}
 use Rattle.goal_facts.specs.Impls.{impl_rules}
 use Rattle.goal_facts.specs.Proofs.{args_fill, IsSame, IsUnshadowed, IsImplAt, MayHaveSource}
 use Rattle.goal_facts.specs.Systems.{IsSystemOf}
+use Rattle.infer_result.specs.Projections.{GoalReads}
 use Rattle.infer_result.proofs.Samples.Small.{u8}
 use Rattle.infer_result.proofs.Samples.Constructors.{adt}
 use Rattle.infer_needs.proofs.Samples.Impls.{tr, out, facts, own, u8_term, bool_term, w_term, implemented, found_as, said, no_clauses}
@@ -50,6 +51,13 @@ same_bare A g h a b same = sym (reads_bare A hole g.parts same.1 a same.2) ∙ r
 
 pub bare_same : (A : Aliases) (g : Asked) → IsBare g.parts → IsSame A g g
 bare_same A g h = let r = read_reads A g.parts (bare_read g.parts h) in (refl, g.parts, r, r)
+
+-- such a goal reads as itself, and as nothing else
+pub goal_reads_bare : (f : System) (n : ℕ) (a b : Asked) → IsBare a.parts → GoalReads f n a b → b ≡ a
+goal_reads_bare f n a b bare r = let parts : b.parts ≡ a.parts = reads_bare (answers f n).Alias hole a.parts b.parts bare r.parts in λ i. record { kind = r.kind i; parts = parts i }
+
+pub bare_goal_reads : (f : System) (n : ℕ) (a : Asked) → IsBare a.parts → GoalReads f n a a
+bare_goal_reads f n a bare = record { kind = refl; parts = read_reads (answers f n).Alias a.parts (bare_read a.parts bare) }
 
 pub neither : {X Y : Type 0} → (X → ⊥) → (Y → ⊥) → X ⊎ Y → ⊥
 neither f g (inl x) = f x

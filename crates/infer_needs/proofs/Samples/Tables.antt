@@ -10,17 +10,17 @@ use Rattle.hir_types.specs.Terms.{Term, chain, arg_term}
 use Rattle.hir_types.specs.TermLaws.{term_bool, term_uint}
 use Rattle.hir_raw.specs.Signatures.{type_args}
 use Rattle.goal_answers.specs.Reading.{Fill, IsRead, Aliases, staying}
-use Rattle.goal_answers.specs.Goals.{Asked}
+use Rattle.goal_answers.specs.Goals.{Asked, only}
 use Rattle.goal_answers.specs.Answers.{answers}
 use Rattle.goal_facts.specs.declared.proof.Proof.{Proof}
 use Rattle.goal_facts.specs.Proofs.{Holds, AreProofs}
 use Rattle.infer_result.specs.declared.gaps.Gap.{Gap}
 use Rattle.infer_result.specs.declared.result.InferenceResult.{InferenceResult}
-use Rattle.infer_result.specs.Projections.{IsFound, AreFound}
+use Rattle.infer_result.specs.Projections.{IsAboutAlias, IsFound, AreFound}
 use Rattle.infer_result.specs.Needs.{HasGap, HoldsUnknown, HoldsNoHole, GoalsHold}
 use Rattle.infer_result.proofs.Samples.Small.{u8, one_u8}
 use Rattle.infer_needs.proofs.Samples.Impls.{out, facts, own_body, u8_term, bool_term, char_term, found_as}
-use Rattle.infer_needs.proofs.Samples.Sources.{neither, nothing, asks_u8}
+use Rattle.infer_needs.proofs.Samples.Sources.{IsBare, bare_read, neither, nothing, asks_u8}
 use Rattle.infer_needs.proofs.Samples.ImplProofs.{by_impl, u8_holds}
 use Rattle.infer_needs.proofs.Samples.AliasProofs.{out_is_bool, out_asks, out_holds}
 use Rattle.infer_needs.proofs.Samples.Needed.{given, table_of, needed, none_asked, sources, are_sources}
@@ -52,7 +52,7 @@ module _ (js : List (Ty × Ty)) where
     gaps = λ n x h. absurd (no_gap n x h);
     once = λ n x y h k same. absurd (no_gap n x h);
     found = found;
-    entries = λ n a h about. absurd (none_asked one_u8 u8 u8_term (term_uint uint.U8) proofs js [] n a h about);
+    entries = λ n a b h known reads about. absurd (none_asked one_u8 u8 u8_term (term_uint uint.U8) proofs js [] sources 8 n a b h reads about);
   }
 
 -- without an entry
@@ -72,6 +72,12 @@ out_whole = (((tt, (tt, tt)), tt), (tt, tt))
 pub no_bool : (x : Term) → bool_term ≡ staying out x → ⊥
 no_bool x h = cc
 
+pub out_bare : IsBare (found_as u8_term bool_term).parts
+out_bare = (((tt, (tt, tt)), tt), (tt, tt))
+
+pub about_out : IsAboutAlias (found_as u8_term bool_term)
+about_out = record { alias = out; is = refl; known = out_known; other = λ h. no_bool (only u8_term) h }
+
 pub char_known : HoldsUnknown (found_as u8_term char_term).parts → ⊥
 char_known = neither (neither (neither nothing (neither nothing nothing)) nothing) (neither nothing nothing)
 
@@ -83,7 +89,7 @@ module _ (r : InferenceResult) (are : r.proofs ≡ proofs) (listed : r.projectio
     args = type_args (u8 ∷ []);
     is = refl;
     proved = record { number = 1; proof = out_is_bool; listed = ap (λ ps. slice_get ps 1) are; goal = refl };
-    read = subst IsRead (sym term_bool) (tt, tt);
+    read = subst (λ (a : Asked). IsRead a.parts) (sym out_asks) (bare_read (found_as u8_term bool_term).parts out_bare);
     known = λ h. out_known (subst (λ (a : Asked). HoldsUnknown a.parts) out_asks h);
     other = λ h. no_bool (chain (map arg_term (type_args (u8 ∷ [])))) (sym term_bool ∙ h);
     whole = subst (λ (a : Asked). HoldsNoHole a.parts) (sym out_asks) out_whole;

@@ -30,17 +30,17 @@ use Rattle.infer_result.specs.declared.gaps.Gap.{Gap}
 use Rattle.infer_result.specs.declared.result.InferenceResult.{InferenceResult}
 use Rattle.infer_result.specs.AliasNeeds.{alias_goal}
 use Rattle.infer_result.specs.Places.{Given}
-use Rattle.infer_result.specs.Projections.{IsAboutAlias, HasEntry}
-use Rattle.infer_result.specs.Needs.{item_args, needs_at, IsNeeded, HasGap, IsProved, GoalsHold}
+use Rattle.infer_result.specs.Projections.{GoalReads, IsAboutAlias, HasEntry}
+use Rattle.infer_result.specs.Needs.{item_args, needed_goals, needs_at, IsNeeded, HasGap, IsProved, GoalsHold}
 use Rattle.infer_result.specs.Typed.{given as given_in}
 use Rattle.infer_result.proofs.Samples.Small.{e, w, u8, one_u8, body_of}
 use Rattle.infer_result.proofs.Samples.Calling.{top_arg}
 use Rattle.infer_needs.proofs.Samples.Impls.{tr, out, bound, take, facts, own_body, u8_term, bool_term, char_term, implemented, found_as}
-use Rattle.infer_needs.proofs.Samples.Sources.{asks_u8}
+use Rattle.infer_needs.proofs.Samples.Sources.{goal_reads_bare, bare_goal_reads, asks_u8}
 use Rattle.infer_needs.proofs.Samples.ImplProofs.{by_impl}
 use Rattle.infer_needs.proofs.Samples.AliasProofs.{out_is_bool, out_asks, not_char}
 use Rattle.infer_needs.proofs.Samples.Needed.{path_node, sources, are_sources}
-use Rattle.infer_needs.proofs.Samples.Tables.{proofs, are_proofs, entry, out_known, char_known, found_once, no_bool}
+use Rattle.infer_needs.proofs.Samples.Tables.{proofs, are_proofs, entry, out_known, out_bare, about_out, char_known, found_once}
 
 abbrev pub taking : FunctionId
 taking = record { 0 = 2 }
@@ -89,24 +89,29 @@ args_of ts =
 abbrev pub IsOneOf : Term → Asked → Type 0
 IsOneOf x a = (a ≡ implemented u8_term) ⊎ (a ≡ found_as u8_term x)
 
+-- of the path at whatever types
+module _ (s t : Ty) (z x : Term) (s_is : term s ≡ z) (t_is : term t ≡ x) where
+  abbrev xs : List GenericArg
+  xs = type_args (s ∷ t ∷ [])
+
+  at_param : type_at facts xs (w 2) ≡ z
+  at_param = type_layer facts xs (w 2) ∙ (ap (λ y. term (arg_as_type y)) (top_arg s) ∙ s_is)
+
+  bound_is : goal_at facts xs (bound (w 2)) ≡ implemented z
+  bound_is = λ i. record { kind = implements tr; parts = (args_are facts xs (w 2 ∷ []) ∙ ap only at_param) i }
+
+  alias_is : alias_goal facts xs 1 out (w 2 ∷ []) ≡ found_as z x
+  alias_is = λ i. record { kind = projects out; parts = pair ((args_are facts xs (w 2 ∷ []) ∙ ap only at_param) i) ((ap (λ y. term (arg_as_type y)) (top_arg t) ∙ t_is) i) }
+
+  pub path_needs : needed_goals facts (expr.Path (path.Function taking)) (item (s ∷ t ∷ [])) ≡ implemented z ∷ found_as z x ∷ []
+  path_needs = ap (λ ys. map (goal_at facts ys) take.preds ++ alias_goal facts ys 1 out (w 2 ∷ []) ∷ []) (args_of (s ∷ t ∷ [])) ∙ (λ i. bound_is i ∷ alias_is i ∷ [])
+
 module _ (l : RawLiteral) (t : Ty) (x : Term) (t_is : term t ≡ x) (ps : List Proof) (js : List (Ty × Ty)) (gs : List (List Gap)) where
   abbrev r : InferenceResult
   r = table_of t ps js gs
 
-  abbrev xs : List GenericArg
-  xs = type_args (u8 ∷ t ∷ [])
-
-  at_param : type_at facts xs (w 2) ≡ u8_term
-  at_param = type_layer facts xs (w 2) ∙ (ap (λ z. term (arg_as_type z)) (top_arg u8) ∙ term_uint uint.U8)
-
-  bound_is : goal_at facts xs (bound (w 2)) ≡ implemented u8_term
-  bound_is = λ i. record { kind = implements tr; parts = (args_are facts xs (w 2 ∷ []) ∙ ap only at_param) i }
-
-  alias_is : alias_goal facts xs 1 out (w 2 ∷ []) ≡ found_as u8_term x
-  alias_is = λ i. record { kind = projects out; parts = pair ((args_are facts xs (w 2 ∷ []) ∙ ap only at_param) i) ((ap (λ z. term (arg_as_type z)) (top_arg t) ∙ t_is) i) }
-
   pub needs_are : needs_at facts (body l) r 0 ≡ implemented u8_term ∷ found_as u8_term x ∷ []
-  needs_are = ap (λ ys. map (goal_at facts ys) take.preds ++ alias_goal facts ys 1 out (w 2 ∷ []) ∷ []) (args_of (u8 ∷ t ∷ [])) ∙ (λ i. bound_is i ∷ alias_is i ∷ [])
+  needs_are = path_needs u8 t u8_term x (term_uint uint.U8) t_is
 
   pub alias_needed : IsNeeded (given l) r path_node (found_as u8_term x)
   alias_needed = record { «at» = 1; among = ap (λ gs. slice_get gs 1) needs_are }
@@ -144,8 +149,8 @@ letter = literal.Char 97
 -- without an entry for what the path needs, whatever proofs are listed
 pub no_entry : (ps : List Proof) → GoalsHold own_body (given yes) (table_of ty.Bool ps [] []) → ⊥
 no_entry ps h =
-    let about : IsAboutAlias (found_as u8_term bool_term) = record { alias = out; is = refl; read = (tt, tt); known = out_known; other = λ h. no_bool (only u8_term) h } in
-    elim (h.entries path_node (found_as u8_term bool_term) (alias_needed yes ty.Bool bool_term term_bool ps [] []) about) [
+    let a = found_as u8_term bool_term in
+    elim (h.entries path_node a a (alias_needed yes ty.Bool bool_term term_bool ps [] []) out_known (bare_goal_reads h.system 8 a out_bare) about_out) [
       | inl found ↦ (let none = found.3.1 in cc)
       | inr other ↦ elim other [
         | inl clash ↦ no_gap ty.Bool ps [] path_node _ clash.4
@@ -173,9 +178,11 @@ is_proved : (a : Asked) → IsOneOf bool_term a → IsProved right a
 is_proved a (inl is) = record { number = 0; proof = by_impl u8 0 [] []; listed = refl; goal = asks_u8 ∙ sym is }
 is_proved a (inr is) = record { number = 1; proof = out_is_bool; listed = refl; goal = out_asks ∙ sym is }
 
-has_entry : (a : Asked) → IsAboutAlias a → IsOneOf bool_term a → HasEntry right.projections a
-has_entry a about (inl is) = (let clash : implements tr ≡ projects about.alias = sym (ap (λ (y : Asked). y.kind) is) ∙ about.is in absurd (cc))
-has_entry a about (inr is) = (out, type_args (u8 ∷ []), ty.Bool, (0, refl), out_asks ∙ sym is)
+has_entry : (a b : Asked) → GoalReads sources 8 a b → IsAboutAlias b → IsOneOf bool_term a → HasEntry right.projections b
+has_entry a b reads about (inl is) = (let clash : implements tr ≡ projects about.alias = sym (ap (λ (y : Asked). y.kind) is) ∙ (sym reads.kind ∙ about.is) in absurd (cc))
+has_entry a b reads about (inr is) =
+    let itself : b ≡ found_as u8_term bool_term = goal_reads_bare sources 8 (found_as u8_term bool_term) b out_bare (subst (λ x. GoalReads sources 8 x b) is reads) in
+    (out, type_args (u8 ∷ []), ty.Bool, (0, refl), out_asks ∙ sym itself)
 
 pub with_entry : GoalsHold own_body (given yes) right
 with_entry = record {
@@ -186,5 +193,5 @@ with_entry = record {
   gaps = λ n x h. absurd (no_gap ty.Bool proofs (entry ∷ []) n x h);
   once = λ n x y h k same. absurd (no_gap ty.Bool proofs (entry ∷ []) n x h);
   found = found_once right refl refl;
-  entries = λ n a h about. inl (has_entry a about (needed yes ty.Bool bool_term term_bool proofs (entry ∷ []) [] n a h).1);
+  entries = λ n a b h known reads about. inl (has_entry a b reads about (needed yes ty.Bool bool_term term_bool proofs (entry ∷ []) [] n a h).1);
 }

@@ -128,7 +128,7 @@ goals_hold = record {
   gaps = true_gap;
   once = λ n x y h k same. (gap_is n x h).2 ∙ sym (gap_is n y k).2;
   found = record { each = λ n x is. absurd (cc); once = λ j k x y is other same. absurd (cc) };
-  entries = λ n x h about. absurd (none_asked letter ty.Char char_term term_char [] [] ((said_here ∷ []) ∷ []) n x h about);
+  entries = λ n x y h known reads about. absurd (none_asked letter ty.Char char_term term_char [] [] ((said_here ∷ []) ∷ []) sources 8 n x y h reads about);
 }
 
 -- so what nodes need doesn't hold

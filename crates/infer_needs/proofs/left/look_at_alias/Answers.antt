@@ -116,4 +116,4 @@ returns c =
     let written : IsWritten (asked_goal (the_goal.Projection k zs u)).parts = (args_written, reads_written raw _ f c.in_ok-read.ensures.given raw.limits.goal_depth k zs u reads args_written) in
     let other = λ (stays : term u ≡ staying k (chain (map arg_term zs))). true≢false (sym (c.is_same-2.ensures.1 (c.in_ok-term.ensures.is ∙ (stays ∙ (ap (staying k) is ∙ sym c.in_ok-stays.ensures)))) ∙ c.if-is_same.false) in
     on_ok_weaker c.add.result (λ added. subst (λ (ks : List (Ty × Ty)). Lists raw f (λ (js : List (Ty × Ty)). (xs : List GenericArg) → chain (map arg_term xs) ≡ term_of c.args.args.now → StaysOrIsListed f raw.limits.goal_depth js k xs) c.args.proofs.now.items c.prove_goal.new.proofs.items c.args.found.now ks) (sym added)
-    (lists_reading raw f k (term_of c.args.args.now) zs is u reads c.args.proofs.now.items c.prove_goal.new.proofs.items c.args.found.now c.in_ok-_number.ensures.adds roots proved known other written c.requires.read)) c.add.ensures
+    (lists_reading raw f k (term_of c.args.args.now) zs is u reads c.args.proofs.now.items c.prove_goal.new.proofs.items c.args.found.now c.in_ok-_number.ensures.adds roots (subst IsRead (sym is) c.requires.whole.read) proved known other written c.requires.read)) c.add.ensures

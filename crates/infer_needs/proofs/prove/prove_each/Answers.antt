@@ -41,15 +41,12 @@ loop-goal-preserved c =
     let new = c.prove_need.new in
     let done = c.in_ok-prove_need.ensures in
     let more = asked_more at.yielded x in
-    let gs = c.args.needed.items in
-    let whole = at.invariant.items ∙ c.into_iter-goal-iterator.ensures.into_iter_gives.0 in
-    let written = next_provable (map asked_goal gs) at.yielded (into_iter_items at.goal-iterator) (into_iter_items c.next.new.self) gs x c.requires refl whole c.in-Some.ensures.steps.0 in
     let steps : into_iter_items at.goal-iterator ≡ x ∷ into_iter_items c.next.new.self = c.in-Some.ensures.steps.0 in
     record {
       items = append_assoc at.yielded (x ∷ []) _ ∙ rw (← steps) at.invariant.items;
       long = (let was = at.invariant.long in let gone = c.in-Some.ensures.steps.1 in let short = ap length steps in omega arith);
       judged = subst (λ xs. AreJudged raw f c.args.node xs c.args.proofs.now.items new.proofs.items c.args.found.now new.found new.gaps) more
-          (judged_more raw f c.args.node (map asked_goal at.yielded) x c.args.proofs.now.items at.proofs.items new.proofs.items c.args.found.now at.found new.found at.gaps new.gaps written at.invariant.judged done.judged);
+          (judged_more raw f c.args.node (map asked_goal at.yielded) x c.args.proofs.now.items at.proofs.items new.proofs.items c.args.found.now at.found new.found at.gaps new.gaps at.invariant.judged done.judged);
       told = subst (λ xs. ListsAnswers f n xs c.args.told.now.items new.told.items) more
           (tells_both f n (map asked_goal at.yielded) (asked_goal x ∷ []) c.args.told.now.items at.told.items new.told.items at.invariant.told done.told);
       roots = subst (λ xs. AddsRootsOf xs c.args.proofs.now.items new.proofs.items) more

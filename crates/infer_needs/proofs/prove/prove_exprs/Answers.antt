@@ -1,4 +1,4 @@
-use Rattle.std.proofs.Common.{◌≡◌, ◌+◌, [], refl, sym, ap, ◌∙◌, subst}
+use Rattle.std.proofs.Common.{◌≡◌, ◌+◌, [], length, refl, sym, ap, ◌∙◌, subst, arith}
 use Rattle.std.specs.Prelude.{Some, slice_get}
 use Rattle.std.proofs.lemmas.Option.{slice_get_read}
 use Rattle.goal_search.specs.Sources.{system}
@@ -47,3 +47,10 @@ loop-at-preserved c =
       roots = subst (λ xs. AddsRootsOf xs [] new.proofs.items) (first_more raw b r at.at)
           (roots_both (first_needs raw b r at.at) (needs_at raw b r at.at) [] at.proofs.items new.proofs.items at.invariant.roots (roots_here raw b r at.at x at.proofs.items new.proofs.items found done.roots));
     }
+
+pub returns-clause-roots : goal.returns-clause-roots
+returns-clause-roots c =
+    let at = c.loop-at in
+    let long = ap length c.as_slice-expr-items.ensures in
+    let end : at.at ≡ length c.args.body.now.exprs = omega (arith, long) in
+    subst (λ n. AddsRootsOf (first_needs c.args.sources.now.facts c.args.body.now c.args.table.now n) [] at.proofs.items) end at.invariant.roots

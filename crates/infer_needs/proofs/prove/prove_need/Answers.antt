@@ -1,21 +1,54 @@
-use Rattle.std.proofs.Common.{[], ◌∷◌}
+use Rattle.std.proofs.Common.{◌≡◌, ◌∙◌, [], ◌∷◌, inl, sym, ap, subst}
+use Rattle.hir_raw.specs.declared.raw.RawFacts.{RawFacts}
+use Rattle.goal_answers.specs.Answers.{answers}
 use Rattle.goal_search.specs.Sources.{system}
-use Rattle.goal_facts.specs.Goals.{asked_goal}
+use Rattle.goal_facts.specs.Goals.{asked_goal, IsAnswer}
+use Rattle.infer_needs.specs.Judged.{HasProofOf}
+use Rattle.infer_needs.proofs.Adding.{adds_then, has_later}
 use Rattle.infer_needs.proofs.Telling.{tells_one}
 use Rattle.infer_needs.proofs.Judging.{refused, not_yes}
-use Rattle.infer_needs.proofs.Rooted.{roots_none, roots_proved}
+use Rattle.infer_needs.proofs.ReadGoals.{proved_yes}
+use Rattle.infer_needs.proofs.Rooted.{roots_none, roots_proved, roots_aside}
 use Rattle.infer_needs.proofs.prove.prove_need.Goals as goal
 
-pub returns-in_ok-note-in-Yes-clause-told : goal.returns-in_ok-note-in-Yes-clause-told
-returns-in_ok-note-in-Yes-clause-told c =
+pub note-requires-clause-yes : goal.note-requires-clause-yes
+note-requires-clause-yes c =
+    let n = c.args.sources.now.facts.limits.goal_depth in
+    subst (IsAnswer (system c.args.sources.now.sources) n (asked_goal c.args.goal)) c.in-Yes.is c.in_ok-evaluate.ensures.answer
+
+pub note-requires-clause-has : goal.note-requires-clause-has
+note-requires-clause-has c =
+    let f = system c.args.sources.now.sources in
+    let raw = c.args.sources.now.facts in
+    let a = asked_goal c.args.goal in
+    let depth : c.raw.result.now.limits.goal_depth ≡ raw.limits.goal_depth = ap (λ (r : RawFacts). r.limits.goal_depth) (c.raw.ensures.value ∙ c.facts.ensures) in
+    let yes = subst (IsAnswer f raw.limits.goal_depth a) c.in-Yes.is c.in_ok-evaluate.ensures.answer in
+    proved_yes f c.raw.result.now.limits.goal_depth c.prove_goal.new.proofs.items c.args.goal c.in_ok-prove_goal-in-Yes.field-0 (subst (λ n. (answers f n).Yes a) (sym depth) yes) c.in_ok-prove_goal-in-Yes.ensures.proved
+
+pub returns-in_ok-note-in-Yes : goal.returns-in_ok-note-in-Yes
+returns-in_ok-note-in-Yes c =
+    let f = system c.args.sources.now.sources in
+    let raw = c.args.sources.now.facts in
+    let a = asked_goal c.args.goal in
     let answer = c.in_ok-evaluate.field-0 in
     let told = c.in_ok-evaluate.ensures in
-    tells_one (system c.args.sources.now.sources) c.args.sources.now.facts.limits.goal_depth c.args.goal answer c.args.told.now.items c.evaluate.new.told.items told.answer told.told
-
-pub returns-in_ok-note-in-Yes-clause-roots : goal.returns-in_ok-note-in-Yes-clause-roots
-returns-in_ok-note-in-Yes-clause-roots c =
-    let proved = c.in_ok-prove_goal.ensures in
-    roots_proved (system c.args.sources.now.sources) _ c.args.goal c.args.proofs.now.items c.prove_goal.new.proofs.items c.in_ok-prove_goal.field-0 proved.adds.behind proved.roots proved.proved
+    let depth : c.raw.result.now.limits.goal_depth ≡ raw.limits.goal_depth = ap (λ (r : RawFacts). r.limits.goal_depth) (c.raw.ensures.value ∙ c.facts.ensures) in
+    let yes = subst (IsAnswer f raw.limits.goal_depth a) c.in-Yes.is told.answer in
+    let first = c.prove_goal.new.proofs.items in
+    let last = c.note.new.proofs.items in
+    let has = proved_yes f c.raw.result.now.limits.goal_depth first c.args.goal c.in_ok-prove_goal-in-Yes.field-0 (subst (λ n. (answers f n).Yes a) (sym depth) yes) c.in_ok-prove_goal-in-Yes.ensures.proved in
+    let notes = c.in_ok-note-in-Yes.ensures in
+    let proved = c.in_ok-prove_goal-in-Yes.ensures in
+    record {
+      judged = inl (record {
+        adds = adds_then raw f c.args.proofs.now.items first last proved.adds notes.adds;
+        has = has_later first last a notes.adds.behind has;
+        noted = notes.noted;
+      });
+      told = tells_one f raw.limits.goal_depth c.args.goal answer c.args.told.now.items c.evaluate.new.told.items told.answer told.told;
+      roots = roots_aside (a ∷ []) c.args.proofs.now.items first last
+          (roots_proved f c.raw.result.now.limits.goal_depth c.args.goal c.args.proofs.now.items first c.in_ok-prove_goal-in-Yes.field-0 proved.adds.behind proved.roots proved.proved) notes.roots;
+    }
 
 pub returns-in_ok-complain-in-No : goal.returns-in_ok-complain-in-No
 returns-in_ok-complain-in-No c =

@@ -8,6 +8,7 @@ use Rattle.infer_needs.specs.Judged.{AreProvable}
 use Rattle.infer_needs.specs.Told.{ListsAnswers, AddsRootsOf}
 use Rattle.infer_needs.proofs.Provable.{pat_needed_here}
 use Rattle.infer_needs.proofs.Judging.{judged_at}
+use Rattle.infer_needs.proofs.Rooted.{roots_none}
 use Rattle.infer_needs.proofs.prove.prove_pat.Goals as goal
 
 pub prove_each-requires : goal.prove_each-requires
@@ -30,3 +31,6 @@ returns-in_ok-gaps-in-Some c =
       told = subst (λ xs. ListsAnswers f raw.limits.goal_depth xs c.args.told.now.items new.told.items) all c.in_ok-gaps-in-Some.ensures.told;
       roots = subst (λ xs. AddsRootsOf xs c.args.proofs.now.items new.proofs.items) all c.in_ok-gaps-in-Some.ensures.roots;
     }
+
+pub returns-in-None-clause-roots : goal.returns-in-None-clause-roots
+returns-in-None-clause-roots c = roots_none _ c.args.proofs.now.items

@@ -1,4 +1,4 @@
-use Rattle.std.proofs.Common.{◌≡◌, Bool, ◌∙◌, subst, slice_get, Some}
+use Rattle.std.proofs.Common.{◌≡◌, ◌≤◌, Bool, refl, ◌∙◌, subst, length, slice_get, Some, arith}
 use Rattle.goal_answers.specs.Answers.{answers}
 use Rattle.goal_facts.proofs.Systems.{each_get}
 use Rattle.goal_terms.specs.Terms.{IsHead, HasHeads}
@@ -6,8 +6,8 @@ use Rattle.goal_terms.specs.Bindings.{log_of}
 use Rattle.goal_search.specs.declared.sources.Sources.{Sources}
 use Rattle.goal_search.specs.Sources.{system}
 use Rattle.infer_unify.specs.Opening.{alias_of, aliases_of}
-use Rattle.infer_unify.specs.Unifying.{IsFollowed}
-use Rattle.infer_unify.proofs.Steps.{at_index, followed_then, followed_none}
+use Rattle.infer_unify.specs.Following.{IsFollowed}
+use Rattle.infer_unify.proofs.Steps.{at_index, followed_then, followed_none, round_more, rounds_more}
 use Rattle.infer_unify.proofs.known.follow_all.Goals as goal
 
 pub follow-requires-clause-heads : goal.follow-requires-clause-heads
@@ -43,4 +43,19 @@ loop-alias-preserved c =
       c.in_ok-follow.ensures.is_log,
       followed_then (answers (system c.args.search.now) c.args.depth).Alias ps i p (log_of c.args.log.now.items) m l'
           (at_index alias_of c.args.aliases.now i c.alias-item.result c.loop-alias-test.true c.alias-item.is) c.loop-alias.invariant.2 some,
+      (
+        c.loop-alias.invariant.3.0,
+        c.loop-alias.invariant.3.1,
+        round_more (answers (system c.args.search.now) c.args.depth).Alias c.args.aliases.now i c.alias-item.result c.loop-alias.invariant.3.0 m l' c.loop-alias-test.true c.alias-item.is c.loop-alias.invariant.3.2 some,
+      ),
     )
+
+pub loop-preserved : goal.loop-preserved
+loop-preserved c =
+    let A = (answers (system c.args.search.now) c.args.depth).Alias in
+    let xs = c.args.aliases.now in
+    let i = c.loop-alias.alias-index in
+    let ended = c.loop-alias-test.false in
+    let over : length xs ≤ i = grind (arith, ended) in
+    let h = c.loop-alias.invariant in
+    (h.0, h.1, h.2, rounds_more A (aliases_of xs) xs i c.loop.index (log_of c.args.log.now.items) h.3.0 (log_of c.loop-alias.log.items) over h.3.1 refl h.3.2)

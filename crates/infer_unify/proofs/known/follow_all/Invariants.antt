@@ -1,15 +1,21 @@
-use Rattle.std.proofs.Common.{◌≡◌, true}
+use Rattle.std.proofs.Common.{◌≡◌, true, take}
+use Rattle.infer_table.specs.Solutions.{Log}
 use Rattle.goal_answers.specs.Answers.{answers}
 use Rattle.goal_terms.specs.Bindings.{log_of}
 use Rattle.goal_terms.specs.Unifying.{IsLog}
 use Rattle.goal_search.specs.Sources.{system}
 use Rattle.infer_unify.specs.Opening.{aliases_of}
-use Rattle.infer_unify.specs.Unifying.{AreFollowed}
+use Rattle.infer_unify.specs.Following.{AreFollowed, IsRound, AreRounds}
 use Rattle.infer_unify.proofs.known.follow_all.Given as goal
 
--- some were followed, one after another
+-- some were followed, one after another, in so many rounds
 abbrev pub invariant-loop : goal.invariant-loop
-invariant-loop l = (l.search ≡ l.fn.search) × IsLog (log_of l.log.items) × AreFollowed (answers (system l.fn.search) l.depth).Alias (aliases_of l.aliases) (log_of l.fn.log.items) (log_of l.log.items) true
+invariant-loop l =
+    (l.search ≡ l.fn.search) × IsLog (log_of l.log.items) × AreFollowed (answers (system l.fn.search) l.depth).Alias (aliases_of l.aliases) (log_of l.fn.log.items) (log_of l.log.items) true
+    × AreRounds (answers (system l.fn.search) l.depth).Alias (aliases_of l.aliases) l.index (log_of l.fn.log.items) (log_of l.log.items)
 
+-- and those before in one more
 abbrev pub invariant-loop-alias : goal.invariant-loop-alias
-invariant-loop-alias l = (l.search ≡ l.fn.search) × IsLog (log_of l.log.items) × AreFollowed (answers (system l.fn.search) l.depth).Alias (aliases_of l.aliases) (log_of l.fn.log.items) (log_of l.log.items) true
+invariant-loop-alias l =
+    (l.search ≡ l.fn.search) × IsLog (log_of l.log.items) × AreFollowed (answers (system l.fn.search) l.depth).Alias (aliases_of l.aliases) (log_of l.fn.log.items) (log_of l.log.items) true
+    × ((m : Log) × AreRounds (answers (system l.fn.search) l.depth).Alias (aliases_of l.aliases) l.index (log_of l.fn.log.items) m × IsRound (answers (system l.fn.search) l.depth).Alias (aliases_of (take l.alias-index l.aliases)) m (log_of l.log.items))
