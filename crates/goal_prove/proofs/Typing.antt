@@ -29,12 +29,12 @@ use Rattle.goal_prove.proofs.Shapes.{AreTypes, no_args, one_more, projection_goo
 
 -- ---- `dyn` types have more heads
 
-no_bound : (b : AliasBound) (bs : List AliasBound) (ids : List TraitId) → IsWritten (chain (flat_map (λ us. us) (map bound_parts (b ∷ bs)) ++ auto_parts ids)) → ⊥
+pub no_bound : (b : AliasBound) (bs : List AliasBound) (ids : List TraitId) → IsWritten (chain (flat_map (λ us. us) (map bound_parts (b ∷ bs)) ++ auto_parts ids)) → ⊥
 no_bound b bs ids w =
     let h : IsWritten (chain ((bound_parts b ++ flat_map (λ us. us) (map bound_parts bs)) ++ auto_parts ids)) = w in
     (subst (λ us. IsWritten (chain ((us ++ flat_map (λ us. us) (map bound_parts bs)) ++ auto_parts ids))) (bound_parts_is b) h).0
 
-no_principal : (r : TraitRef) (bs : List AliasBound) (ids : List TraitId) → IsWritten (chain (trait_parts r ++ flat_map (λ us. us) (map bound_parts bs) ++ auto_parts ids)) → ⊥
+pub no_principal : (r : TraitRef) (bs : List AliasBound) (ids : List TraitId) → IsWritten (chain (trait_parts r ++ flat_map (λ us. us) (map bound_parts bs) ++ auto_parts ids)) → ⊥
 no_principal r bs ids w = (subst (λ us. IsWritten (chain (us ++ flat_map (λ us. us) (map bound_parts bs) ++ auto_parts ids))) (trait_parts_is r) w).0
 
 -- ---- arguments

@@ -43,10 +43,10 @@ chain_last (x ∷ us) u h k = (h.0, chain_last us u h.1 k)
 
 -- ---- types
 
-abbrev hole_steps : Steps Bool Bool Bool Bool
+abbrev pub hole_steps : Steps Bool Bool Bool Bool
 hole_steps = record { arg = hole_arg; ty = hole_step; bound = hole_bound; trait = hole_trait }
 
-abbrev fit_steps : Scope → Steps Bool Bool Bool Bool
+abbrev pub fit_steps : Scope → Steps Bool Bool Bool Bool
 fit_steps sc = record { arg = fits_arg; ty = fits_step sc.facts sc.params; bound = fits_bound; trait = fits_trait }
 
 module _ (sc : Scope) where

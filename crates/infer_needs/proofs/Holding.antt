@@ -8,6 +8,8 @@ use Rattle.hir_types.specs.declared.ids.ExprOrPatId.{ExprOrPatId}
 use Rattle.hir_types.specs.declared.ids.ExprOrPatId.TheVariants as node
 use Rattle.hir_types.specs.declared.ids.DefWithBodyId.{DefWithBodyId}
 use Rattle.hir_types.specs.declared.goal.Goal.TheVariants as goal
+use Rattle.hir_types.specs.declared.head.Head.{Head}
+use Rattle.hir_types.specs.declared.head.Head.TheVariants as head
 use Rattle.hir_types.specs.declared.ty.Ty.{Ty}
 use Rattle.hir_raw.specs.declared.raw.RawBody.{RawBody}
 use Rattle.hir_raw.specs.declared.raw.RawExpr.{RawExpr}
@@ -16,7 +18,7 @@ use Rattle.hir_laws.specs.Bodies.{body_of, body_id_of}
 use Rattle.goal_answers.specs.Goals.{Asked, System}
 use Rattle.goal_facts.specs.declared.proof.Proof.{Proof}
 use Rattle.goal_facts.specs.Goals.{asked_goal}
-use Rattle.goal_prove.specs.Written.{IsWritten}
+use Rattle.goal_prove.specs.Written.{IsWrittenHead, IsWritten}
 use Rattle.hir_types.specs.Terms.{Term, hole, leaf, pair}
 use Rattle.goal_facts.specs.Systems.{IsSystemOf}
 use Rattle.infer_result.specs.declared.gaps.Gap.{Gap}
@@ -57,11 +59,15 @@ get_there [] k h = absurd (omega (arith, h))
 get_there (x ∷ xs) zero h = (x, refl)
 get_there (x ∷ xs) (suc k) h = get_there xs k (omega (arith, h))
 
--- ---- what can be proved has no holes
+-- ---- what can be proved has no holes, and no `_`
+
+no_hole_at : (x : Head) → IsWrittenHead x → HoldsNoHole (leaf x)
+no_hole_at head.Hole h = h
+no_hole_at _ h = tt
 
 no_hole : (t : Term) → IsWritten t → HoldsNoHole t
 no_hole (hole k) h = h
-no_hole (leaf x) h = tt
+no_hole (leaf x) h = no_hole_at x h
 no_hole (pair a b) h = (no_hole a h.0, no_hole b h.1)
 
 each_provable : (xs : List Asked) (k : ℕ) (a : Asked) → AreProvable xs → slice_get xs k ≡ Some a → HoldsNoHole a.parts

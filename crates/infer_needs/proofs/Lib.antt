@@ -1,5 +1,6 @@
 pub mod Listing
 pub mod Closed
+pub mod NoPlaceholders
 pub mod Provable
 pub mod Telling
 pub mod Adding
@@ -9,5 +10,6 @@ pub mod Opening
 pub mod ReadsYes
 pub mod ReadGoals
 pub mod Leaving
+pub mod Writing
 pub mod Holding
 pub mod Samples

@@ -1,25 +1,23 @@
--- Goals that nodes need are without holes, and so are the types of a table.
+-- Goals that nodes need are without holes and `_`, and so are the types of a table.
 use Rattle.std.specs.Prelude.{◌≡◌, ℕ, suc, List, [], ◌∷◌, length, map, slice_get, Option, Some, None, refl, true}
 use Rattle.std.specs.Option.{option_and_then}
-use Rattle.std.proofs.Common.{sym, ap, ◌∙◌, subst}
+use Rattle.std.proofs.Common.{sym, ap, ◌∙◌}
 use Rattle.std.proofs.lemmas.Option.{same_Some}
 use Rattle.hir_types.specs.declared.ids.DefWithBodyId.{DefWithBodyId}
 use Rattle.hir_types.specs.declared.ids.ExprOrPatId.{ExprOrPatId}
 use Rattle.hir_types.specs.declared.ids.ExprOrPatId.TheVariants as node
+use Rattle.hir_types.specs.declared.ids.GenericDefId.TheVariants as generic
 use Rattle.hir_types.specs.declared.ids.TypeRefId.{TypeRefId}
-use Rattle.hir_types.specs.declared.ty.IntegerTy.TheVariants.{Int, Uint}
 use Rattle.hir_types.specs.declared.ty.AliasBound.{AliasBound}
 use Rattle.hir_types.specs.declared.ty.GenericArg.{GenericArg}
 use Rattle.hir_types.specs.declared.ty.TraitRef.{TraitRef}
 use Rattle.hir_types.specs.declared.ty.Ty.{Ty, Ty-F, out-Ty}
-use Rattle.hir_types.specs.Assigned.{with_params}
-use Rattle.hir_types.specs.Terms.{Term, chain, type_part, term}
+use Rattle.hir_types.specs.Terms.{Term, pair, term}
 use Rattle.hir_raw.specs.declared.raw.RawBody.{RawBody}
 use Rattle.hir_raw.specs.declared.raw.RawExpr.{RawExpr}
 use Rattle.hir_raw.specs.declared.raw.RawExpr.TheVariants as expr
 use Rattle.hir_raw.specs.declared.raw.RawFn.{RawFn}
 use Rattle.hir_raw.specs.declared.raw.RawGoal.{RawGoal}
-use Rattle.hir_raw.specs.declared.raw.RawGoal.TheVariants as goal
 use Rattle.hir_raw.specs.declared.raw.RawPath.{RawPath}
 use Rattle.hir_raw.specs.declared.raw.RawPath.TheVariants as path
 use Rattle.hir_raw.specs.declared.raw.RawType.{RawType}
@@ -27,119 +25,114 @@ use Rattle.hir_raw.specs.declared.raw.RawType.TheVariants as type
 use Rattle.hir_raw.specs.declared.raw.RawVariant.{RawVariant}
 use Rattle.hir_raw.specs.declared.raw.RawFacts.{RawFacts}
 use Rattle.hir_laws.specs.Bodies.{body_of}
-use Rattle.hir_raw.specs.Goals.{arg_types}
+use Rattle.hir_laws.specs.Lawful.{IsLawful}
 use Rattle.hir_raw.specs.Hidden.{fn_aliases, variant_aliases}
 use Rattle.hir_types.specs.Erasure.{IsClosed}
 use Rattle.hir_raw.specs.Fit.{ty_fits}
 use Rattle.hir_raw.specs.Scope.{scope_of, adt_params, count_or_none}
 use Rattle.goal_answers.specs.Reading.{IsRead}
 use Rattle.infer_result.specs.Closed.{AllTypes}
-use Rattle.goal_answers.specs.Goals.{Asked}
+use Rattle.goal_answers.specs.Goals.{Asked, Each}
 use Rattle.infer_needs.specs.Left.{IsFinalType}
-use Rattle.goal_facts.specs.Arguments.{type_at, args_at, goal_at}
+use Rattle.goal_facts.specs.Arguments.{args_at, goal_at}
+use Rattle.goal_facts.specs.Environment.{env_preds}
 use Rattle.goal_facts.proofs.Systems.{each_append}
 use Rattle.goal_prove.specs.Written.{IsWritten}
-use Rattle.goal_facts.proofs.Written.{parts_by, layer, by_layers, args_are}
 use Rattle.infer_result.specs.declared.result.InferenceResult.{InferenceResult}
 use Rattle.infer_result.specs.AliasNeeds.{alias_goals_by, alias_goals_from, fn_alias_goals, variant_alias_goals, path_alias_goals, alias_goals}
-use Rattle.infer_result.specs.Needs.{expr_preds, item_args, item_path, needed_goals, needs_of, pat_needs_by, pat_needs_of, pat_needs_at, node_needs}
+use Rattle.infer_result.specs.Needs.{variant_preds, path_preds, expr_preds, item_args, item_path, needed_goals, needs_of, pat_needs_by, pat_needs_of, pat_needs_at, node_needs}
 use Rattle.infer_result.specs.Table.{recorded}
 use Rattle.infer_result.specs.Typed.{IsTableOf}
 use Rattle.infer_needs.specs.Judged.{IsProvable, AreProvable}
 use Rattle.infer_needs.proofs.Closed.{AreClosed, type_closed, item_closed}
+use Rattle.infer_needs.proofs.NoPlaceholders.{HaveNoHole, GoalHasNoHole, GoalsHaveNoHole, args_hold_at, goal_holds_at, preds_have_none, IsWithoutHole, alias_has_none, fn_aliases_have_none, variant_aliases_have_none}
 
 -- ---- goals at arguments
 
-parts_closed : (f : ℕ → Term) → ((j : ℕ) → IsWritten (f j)) → (ts : List TypeRefId) → IsWritten (chain (parts_by f ts))
-parts_closed f h [] = tt
-parts_closed f h (t ∷ ts) = ((tt, h t.0), parts_closed f h ts)
+module _ (raw : RawFacts) (law : IsLawful raw) (xs : List GenericArg) (args : AreClosed xs) where
+  pairs : (a b : Term) → IsWritten a → IsWritten b → IsWritten (pair a b)
+  pairs a b h k = (h, k)
 
-module _ (raw : RawFacts) (xs : List GenericArg) (args : AreClosed xs) where
-  layer_closed : (i : ℕ) (o : Option RawType) → slice_get raw.types i ≡ o → (f : ℕ → Term) → ((j : ℕ) → IsWritten (f j)) → IsWritten (layer (λ m. term ((with_params xs).param m)) f o)
-  layer_closed i None at f h = (tt, tt)
-  layer_closed i (Some type.Bool) at f h = (tt, tt)
-  layer_closed i (Some type.Char) at f h = (tt, tt)
-  layer_closed i (Some (type.Integer (Int m))) at f h = (tt, tt)
-  layer_closed i (Some (type.Integer (Uint m))) at f h = (tt, tt)
-  layer_closed i (Some (type.Tuple ts)) at f h = (tt, parts_closed f h ts)
-  layer_closed i (Some (type.Adt a ts)) at f h = (tt, parts_closed f h ts)
-  layer_closed i (Some (type.Projection a ts)) at f h = (tt, parts_closed f h ts)
-  layer_closed i (Some (type.Param m)) at f h = args m
-  layer_closed i (Some type.Hole) at f h = (tt, tt)
-  layer_closed i (Some type.Other) at f h = (tt, tt)
+  args_closed : (ws : List TypeRefId) → HaveNoHole raw ws → IsWritten (args_at raw xs ws)
+  args_closed ws none = args_hold_at raw xs IsWritten (λ h is. is) pairs args ws none
 
-  type_at_closed : (w : TypeRefId) → IsWritten (type_at raw xs w)
-  type_at_closed w = by_layers raw xs IsWritten (tt, tt) layer_closed w
+  goal_provable : (g : RawGoal) → GoalHasNoHole raw g → IsProvable (goal_at raw xs g)
+  goal_provable g none = goal_holds_at raw xs IsWritten (λ h is. is) pairs args g none
 
-  chain_closed : (ws : List TypeRefId) → IsWritten (chain (map (λ w. type_part (type_at raw xs w)) ws))
-  chain_closed [] = tt
-  chain_closed (w ∷ ws) = ((tt, type_at_closed w), chain_closed ws)
+  goals_provable : (gs : List RawGoal) → GoalsHaveNoHole raw gs → AreProvable (map (goal_at raw xs) gs)
+  goals_provable [] none = tt
+  goals_provable (g ∷ gs) none = (goal_provable g (none 0 g refl), goals_provable gs (λ k x at. none (suc k) x at))
 
-  args_closed : (ws : List TypeRefId) → IsWritten (args_at raw xs ws)
-  args_closed ws = subst IsWritten (sym (args_are raw xs ws)) (chain_closed ws)
+  -- the predicates of the item that a path names
 
-  goal_provable : (g : RawGoal) → IsProvable (goal_at raw xs g)
-  goal_provable (goal.Trait r) = args_closed (arg_types r.args)
-  goal_provable (goal.Projection k ws w) = (args_closed (arg_types ws), type_at_closed w)
+  of_variant : (o : Option RawVariant) → AreProvable (map (goal_at raw xs) (variant_preds raw o))
+  of_variant None = tt
+  of_variant (Some v) = goals_provable (env_preds raw (generic.AdtId v.adt)) (preds_have_none raw law (generic.AdtId v.adt))
 
-  goals_provable : (gs : List RawGoal) → AreProvable (map (goal_at raw xs) gs)
-  goals_provable [] = tt
-  goals_provable (g ∷ gs) = (goal_provable g, goals_provable gs)
+  preds_provable : (p : RawPath) → AreProvable (map (goal_at raw xs) (path_preds raw p))
+  preds_provable (path.Function f) = goals_provable (env_preds raw (generic.FunctionId f)) (preds_have_none raw law (generic.FunctionId f))
+  preds_provable (path.Local v) = tt
+  preds_provable (path.Ctor v) = of_variant (slice_get raw.variants v.0)
+  preds_provable path.Other = tt
+
+  expr_preds_provable : (x : RawExpr) → AreProvable (map (goal_at raw xs) (expr_preds raw x))
+  expr_preds_provable (expr.Path p) = preds_provable p
+  expr_preds_provable _ = tt
 
   -- that associated types of a signature are these arguments
 
-  alias_provable : (n : ℕ) (o : Option RawType) → AreProvable (alias_goals_by raw xs n o)
-  alias_provable n (Some (type.Projection a ws)) = ((args_closed ws, args n), tt)
-  alias_provable n _ = tt
+  alias_provable : (n k : ℕ) → IsWithoutHole raw law k → (o : Option RawType) → slice_get raw.types k ≡ o → AreProvable (alias_goals_by raw xs n o)
+  alias_provable n k none (Some (type.Projection a ws)) at = ((args_closed ws (alias_has_none raw law k a ws at none), args n), tt)
+  alias_provable n k none _ at = tt
 
-  aliases_provable : (n : ℕ) (ks : List ℕ) → AreProvable (alias_goals_from raw xs n ks)
-  aliases_provable n [] = tt
-  aliases_provable n (k ∷ ks) =
-      each_append IsProvable (alias_goals_by raw xs n (slice_get raw.types k)) (alias_goals_from raw xs (suc n) ks) (alias_provable n (slice_get raw.types k)) (aliases_provable (suc n) ks)
+  aliases_provable : (n : ℕ) (ks : List ℕ) → Each (IsWithoutHole raw law) ks → AreProvable (alias_goals_from raw xs n ks)
+  aliases_provable n [] none = tt
+  aliases_provable n (k ∷ ks) none =
+      each_append IsProvable (alias_goals_by raw xs n (slice_get raw.types k)) (alias_goals_from raw xs (suc n) ks) (alias_provable n k none.0 (slice_get raw.types k) refl) (aliases_provable (suc n) ks none.1)
 
-  fn_provable : (o : Option RawFn) → AreProvable (fn_alias_goals raw xs o)
-  fn_provable None = tt
-  fn_provable (Some f) = aliases_provable (length f.params) (fn_aliases raw.types f)
+  fn_provable : (f : ℕ) (o : Option RawFn) → slice_get raw.fns f ≡ o → AreProvable (fn_alias_goals raw xs o)
+  fn_provable f None at = tt
+  fn_provable f (Some x) at = aliases_provable (length x.params) (fn_aliases raw.types x) (fn_aliases_have_none raw law f x at)
 
-  variant_provable : (o : Option RawVariant) → AreProvable (variant_alias_goals raw xs o)
-  variant_provable None = tt
-  variant_provable (Some x) = aliases_provable (count_or_none (adt_params raw x.adt)) (variant_aliases raw.types x)
+  variant_provable : (v : ℕ) (o : Option RawVariant) → slice_get raw.variants v ≡ o → AreProvable (variant_alias_goals raw xs o)
+  variant_provable v None at = tt
+  variant_provable v (Some x) at = aliases_provable (count_or_none (adt_params raw x.adt)) (variant_aliases raw.types x) (variant_aliases_have_none raw law v x at)
 
   path_provable : (p : RawPath) → AreProvable (path_alias_goals raw xs p)
-  path_provable (path.Function f) = fn_provable (slice_get raw.fns f.0)
+  path_provable (path.Function f) = fn_provable f.0 (slice_get raw.fns f.0) refl
   path_provable (path.Local v) = tt
-  path_provable (path.Ctor v) = variant_provable (slice_get raw.variants v.0)
+  path_provable (path.Ctor v) = variant_provable v.0 (slice_get raw.variants v.0) refl
   path_provable path.Other = tt
 
   alias_needs_provable : (x : RawExpr) → AreProvable (alias_goals raw xs x)
   alias_needs_provable (expr.Path p) = path_provable p
   alias_needs_provable _ = tt
 
-expr_provable : (raw : RawFacts) (x : RawExpr) (t : Ty) → IsWritten (term t) → AreProvable (needed_goals raw x t)
-expr_provable raw x t closed =
+expr_provable : (raw : RawFacts) → IsLawful raw → (x : RawExpr) (t : Ty) → IsWritten (term t) → AreProvable (needed_goals raw x t)
+expr_provable raw law x t closed =
     let xs = item_args (out-Ty t) in
     let args = item_closed t closed in
-    each_append IsProvable (map (goal_at raw xs) (expr_preds raw x)) (alias_goals raw xs x) (goals_provable raw xs args (expr_preds raw x)) (alias_needs_provable raw xs args x)
+    each_append IsProvable (map (goal_at raw xs) (expr_preds raw x)) (alias_goals raw xs x) (expr_preds_provable raw law xs args x) (alias_needs_provable raw law xs args x)
 
 -- of a pattern's item
-item_provable : (raw : RawFacts) (y : Ty-F GenericArg Ty AliasBound TraitRef) → AreClosed (item_args y) → AreProvable (pat_needs_by raw y)
-item_provable raw (Ty-F.FnDef id xs) args = path_provable raw xs args (item_path id)
-item_provable raw _ args = tt
+item_provable : (raw : RawFacts) → IsLawful raw → (y : Ty-F GenericArg Ty AliasBound TraitRef) → AreClosed (item_args y) → AreProvable (pat_needs_by raw y)
+item_provable raw law (Ty-F.FnDef id xs) args = path_provable raw law xs args (item_path id)
+item_provable raw law _ args = tt
 
 -- ---- what the nodes of a body need
 
-recorded_at : (o : Option (Option Ty)) (t : Ty) → option_and_then (λ x. x) o ≡ Some t → o ≡ Some (Some t)
+pub recorded_at : (o : Option (Option Ty)) (t : Ty) → option_and_then (λ x. x) o ≡ Some t → o ≡ Some (Some t)
 recorded_at None t e = cc
 recorded_at (Some None) t e = cc
 recorded_at (Some (Some u)) t e = ap (λ x. Some x) e
 
-module _ (raw : RawFacts) (d : DefWithBodyId) (r : InferenceResult) (is : IsTableOf raw d r) where
+module _ (raw : RawFacts) (law : IsLawful raw) (d : DefWithBodyId) (r : InferenceResult) (is : IsTableOf raw d r) where
   type_is_closed : (k : ℕ) (t : Ty) → slice_get r.type_of_expr k ≡ Some (Some t) → IsWritten (term t)
   type_is_closed k t at = type_closed (scope_of raw d) t (is.typed.shape.closed.exprs k t at) (is.fit.exprs k t at)
 
   of_type : (k : ℕ) (x : RawExpr) (o : Option Ty) → recorded r.type_of_expr k ≡ o → AreProvable (needs_of raw (Some x) o)
   of_type k x None at = tt
-  of_type k x (Some t) at = expr_provable raw x t (type_is_closed k t (recorded_at (slice_get r.type_of_expr k) t at))
+  of_type k x (Some t) at = expr_provable raw law x t (type_is_closed k t (recorded_at (slice_get r.type_of_expr k) t at))
 
   -- each goal can be proved
   pub needs_provable : (k : ℕ) (x : RawExpr) → AreProvable (needs_of raw (Some x) (recorded r.type_of_expr k))
@@ -150,7 +143,7 @@ module _ (raw : RawFacts) (d : DefWithBodyId) (r : InferenceResult) (is : IsTabl
 
   of_item : (k : ℕ) (o : Option Ty) → recorded r.item_of_pat k ≡ o → AreProvable (pat_needs_of raw o)
   of_item k None at = tt
-  of_item k (Some t) at = item_provable raw (out-Ty t) (item_closed t (item_is_closed k t (recorded_at (slice_get r.item_of_pat k) t at)))
+  of_item k (Some t) at = item_provable raw law (out-Ty t) (item_closed t (item_is_closed k t (recorded_at (slice_get r.item_of_pat k) t at)))
 
   pub pat_needs_provable : (k : ℕ) → AreProvable (pat_needs_at raw r k)
   pat_needs_provable k = of_item k (recorded r.item_of_pat k) refl

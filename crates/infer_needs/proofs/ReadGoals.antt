@@ -10,6 +10,7 @@ use Rattle.hir_types.specs.declared.ty.TraitRef.{TraitRef, out-TraitRef}
 use Rattle.hir_types.specs.declared.ty.Ty.{Ty}
 use Rattle.hir_types.specs.Terms.{Term, hole, term}
 use Rattle.hir_raw.specs.declared.raw.RawFacts.{RawFacts}
+use Rattle.hir_laws.specs.Lawful.{IsLawful}
 use Rattle.goal_answers.specs.Reading.{IsRead, ReadsAs}
 use Rattle.goal_answers.specs.Goals.{Kind, implements, projects, Asked, System, is_among}
 use Rattle.goal_answers.specs.Answers.{YesAt, answers}
@@ -32,7 +33,7 @@ use Rattle.infer_result.specs.Needs.{HoldsUnknown}
 use Rattle.infer_result.specs.Projections.{GoalReads, IsAboutAlias, stays_at}
 use Rattle.infer_needs.specs.Judged.{HasProofOf}
 use Rattle.infer_needs.specs.Read.{IsGoalRead}
-use Rattle.infer_needs.proofs.ReadsYes.{written_heads, no_hole, reading_written, aliases_written}
+use Rattle.infer_needs.proofs.ReadsYes.{term_reads_written}
 
 abbrev asks : Kind → Term → Asked
 asks c w = record { kind = c; parts = w }
@@ -99,10 +100,8 @@ module _ (raw : RawFacts) (item : GenericDefId) (f : System) (of : IsSystemOf ra
       }
 
   -- without holes
-  pub goal_written : (b : Asked) → GoalReads f n (asked_goal g) b → IsWritten b.parts
-  goal_written b reads =
-      let t = (asked_goal g).parts in
-      reading_written (answers f n).Alias (aliases_written raw item f of n) hole t b.parts (written_heads t written) (λ k o. absurd (no_hole t written k o)) reads.parts
+  pub goal_written : IsLawful raw → (b : Asked) → GoalReads f n (asked_goal g) b → IsWritten b.parts
+  goal_written law b reads = term_reads_written raw law item f of n (asked_goal g).parts b.parts reads.parts written
 
 -- ---- goals about associated types
 

@@ -9,13 +9,12 @@ use Rattle.hir_types.specs.declared.ids.TypeAliasId.{TypeAliasId}
 use Rattle.hir_types.specs.declared.ids.TypeRefId.{TypeRefId}
 use Rattle.hir_types.specs.declared.goal.Goal.TheVariants as goal
 use Rattle.hir_types.specs.declared.head.Hole.{Hole}
-use Rattle.hir_types.specs.declared.ty.IntegerTy.TheVariants.{Int, Uint}
 use Rattle.hir_types.specs.declared.ty.GenericArg.{GenericArg}
 use Rattle.hir_types.specs.declared.ty.GenericArg.TheVariants as arg
 use Rattle.hir_types.specs.declared.ty.Ty.{Ty}
 use Rattle.hir_types.specs.declared.ty.Ty.TheVariants as ty
 use Rattle.hir_types.specs.Assigned.{arg_as_type, with_params}
-use Rattle.hir_types.specs.Terms.{Term, hole, leaf, pair, chain, apply, occurs, hole_number, type_part, term, arg_term}
+use Rattle.hir_types.specs.Terms.{Term, hole, leaf, pair, chain, apply, occurs, hole_number, term, arg_term}
 use Rattle.hir_types.specs.TermLaws.{term_param, term_projection, term_error, term_var, arg_term_type}
 use Rattle.infer_table.specs.TermLemmas.{hole_eq_true, hole_eq_same}
 use Rattle.hir_raw.specs.declared.raw.RawAssocType.{RawAssocType}
@@ -24,10 +23,10 @@ use Rattle.hir_raw.specs.declared.raw.RawGoal.{RawGoal}
 use Rattle.hir_raw.specs.declared.raw.RawGoal.TheVariants as raw_goal
 use Rattle.hir_raw.specs.declared.raw.RawImpl.{RawImpl}
 use Rattle.hir_raw.specs.declared.raw.RawTraitRef.{RawTraitRef}
-use Rattle.hir_raw.specs.declared.raw.RawType.{RawType}
-use Rattle.hir_raw.specs.declared.raw.RawType.TheVariants as type
 use Rattle.hir_raw.specs.Goals.{arg_types}
 use Rattle.hir_raw.specs.Scope.{count_or_none, params_in_trait, generic_params}
+use Rattle.hir_counts.specs.Standing.{HasNoHole}
+use Rattle.hir_laws.specs.Lawful.{IsLawful}
 use Rattle.goal_answers.specs.Reading.{Fill, Role, plain, alias, role, staying, stands, IsRead, Aliases, Reads, ReadsAs, MayRead}
 use Rattle.goal_answers.specs.Goals.{Kind, projects, Asked, Rule, System, args_of, type_of, key, IsKnown, Each, SomeOf, OneOf, Verdicts}
 use Rattle.goal_answers.specs.Rows.{IsNth}
@@ -45,10 +44,10 @@ use Rattle.goal_facts.specs.Impls.{impl_args, assoc_rule, rules_for, impl_rules}
 use Rattle.goal_facts.specs.Reading.{TypeReads}
 use Rattle.goal_facts.specs.Systems.{fact, IsSystemOf}
 use Rattle.goal_facts.proofs.Systems.{each_append}
-use Rattle.goal_facts.proofs.Written.{parts_by, layer, by_layers, args_are}
 use Rattle.goal_prove.specs.Written.{IsWrittenHead, IsWritten}
 use Rattle.goal_prove.proofs.TypeTerms.{top_type}
 use Rattle.infer_result.specs.Projections.{stays_at}
+use Rattle.infer_needs.proofs.NoPlaceholders.{HaveNoHole, GoalHasNoHole, holds_at, args_hold_at, goal_holds_at, each_flat, trait_has_none, preds_have_none, bounds_have_none, impl_has_none, given_has_none}
 
 -- ---- readings
 
@@ -141,12 +140,12 @@ HasWrittenHeads (hole k) = Unit {0}
 HasWrittenHeads (leaf h) = IsWrittenHead h
 HasWrittenHeads (pair a b) = HasWrittenHeads a × HasWrittenHeads b
 
-pub written_heads : (t : Term) → IsWritten t → HasWrittenHeads t
+written_heads : (t : Term) → IsWritten t → HasWrittenHeads t
 written_heads (hole k) h = tt
 written_heads (leaf x) h = h
 written_heads (pair a b) h = (written_heads a h.0, written_heads b h.1)
 
-pub no_hole : (t : Term) → IsWritten t → (k : Hole) → occurs k t ≡ true → ⊥
+no_hole : (t : Term) → IsWritten t → (k : Hole) → occurs k t ≡ true → ⊥
 no_hole (hole j) h k o = h
 no_hole (leaf x) h k o = true≢false (sym o)
 no_hole (pair a b) h k o = elim (or_cases (occurs k a) (occurs k b) o) [
@@ -177,37 +176,18 @@ type_heads (pair a b) h = h.1
 
 -- ---- of goals that are written
 
-parts_heads : (f : ℕ → Term) → ((j : ℕ) → HasWrittenHeads (f j)) → (ts : List TypeRefId) → HasWrittenHeads (chain (parts_by f ts))
-parts_heads f h [] = tt
-parts_heads f h (t ∷ ts) = ((tt, h t.0), parts_heads f h ts)
-
 module _ (raw : RawFacts) (xs : List GenericArg) (params : (m : ℕ) → HasWrittenHeads (term ((with_params xs).param m))) where
-  layer_heads : (i : ℕ) (o : Option RawType) → slice_get raw.types i ≡ o → (f : ℕ → Term) → ((j : ℕ) → HasWrittenHeads (f j)) → HasWrittenHeads (layer (λ m. term ((with_params xs).param m)) f o)
-  layer_heads i None at f h = (tt, tt)
-  layer_heads i (Some type.Bool) at f h = (tt, tt)
-  layer_heads i (Some type.Char) at f h = (tt, tt)
-  layer_heads i (Some (type.Integer (Int m))) at f h = (tt, tt)
-  layer_heads i (Some (type.Integer (Uint m))) at f h = (tt, tt)
-  layer_heads i (Some (type.Tuple ts)) at f h = (tt, parts_heads f h ts)
-  layer_heads i (Some (type.Adt a ts)) at f h = (tt, parts_heads f h ts)
-  layer_heads i (Some (type.Projection a ts)) at f h = (tt, parts_heads f h ts)
-  layer_heads i (Some (type.Param m)) at f h = params m
-  layer_heads i (Some type.Hole) at f h = (tt, tt)
-  layer_heads i (Some type.Other) at f h = (tt, tt)
+  pairs : (a b : Term) → HasWrittenHeads a → HasWrittenHeads b → HasWrittenHeads (pair a b)
+  pairs a b h k = (h, k)
 
-  type_at_heads : (w : TypeRefId) → HasWrittenHeads (type_at raw xs w)
-  type_at_heads w = by_layers raw xs HasWrittenHeads (tt, tt) layer_heads w
+  type_at_heads : (w : TypeRefId) → HasNoHole raw.types w → HasWrittenHeads (type_at raw xs w)
+  type_at_heads w none = holds_at raw xs HasWrittenHeads (λ h is. is) pairs params w none
 
-  chain_heads : (ws : List TypeRefId) → HasWrittenHeads (chain (map (λ w. type_part (type_at raw xs w)) ws))
-  chain_heads [] = tt
-  chain_heads (w ∷ ws) = ((tt, type_at_heads w), chain_heads ws)
+  args_heads : (ws : List TypeRefId) → HaveNoHole raw ws → HasWrittenHeads (args_at raw xs ws)
+  args_heads ws none = args_hold_at raw xs HasWrittenHeads (λ h is. is) pairs params ws none
 
-  args_heads : (ws : List TypeRefId) → HasWrittenHeads (args_at raw xs ws)
-  args_heads ws = subst HasWrittenHeads (sym (args_are raw xs ws)) (chain_heads ws)
-
-  goal_heads : (g : RawGoal) → HasWrittenHeads (goal_at raw xs g).parts
-  goal_heads (raw_goal.Trait r) = args_heads (arg_types r.args)
-  goal_heads (raw_goal.Projection k ws w) = (args_heads (arg_types ws), type_at_heads w)
+  goal_heads : (g : RawGoal) → GoalHasNoHole raw g → HasWrittenHeads (goal_at raw xs g).parts
+  goal_heads g none = goal_holds_at raw xs HasWrittenHeads (λ h is. is) pairs params g none
 
 -- ---- at holes, or at parameters
 
@@ -232,59 +212,63 @@ hole_params n m = param_heads (λ k. ty.Var k) var_heads (range_with_len 0 n) m
 
 -- ---- of sources
 
+-- what stands behind the first of these
+behind_first : (raw : RawFacts) (ws : List TypeRefId) (w : TypeRefId) (rest : List TypeRefId) → ws ≡ w ∷ rest → HaveNoHole raw ws → HaveNoHole raw rest
+behind_first raw ws w rest is none k u at = none (suc k) u (subst (λ vs. slice_get vs (suc k) ≡ Some u) (sym is) at)
+
 abbrev IsWrittenGoal : Asked → Type 0
 IsWrittenGoal d = HasWrittenHeads d.parts
 
 abbrev IsWrittenRule : Rule → Type 0
 IsWrittenRule r = HasWrittenHeads r.head.parts
 
-super_heads : (raw : RawFacts) (c d : Asked) → IsWrittenGoal c → IsSuper raw c d → IsWrittenGoal d
-super_heads raw c d h s =
-    let says = s.says.3 in
-    let g = goal_at raw (trait_holes raw s.trait_) s.says.1 in
-    subst IsWrittenGoal (sym says.3)
-    (filled_heads says.1 g.parts (goal_heads raw (trait_holes raw s.trait_) (hole_params (count_or_none (params_in_trait raw s.trait_))) s.says.1)
-    (λ k o. nth_heads (hole_number k) c.parts (says.1 k) (says.2 k o) h))
+module _ (raw : RawFacts) (law : IsLawful raw) where
+  super_heads : (c d : Asked) → IsWrittenGoal c → IsSuper raw c d → IsWrittenGoal d
+  super_heads c d h s =
+      let says = s.says.3 in
+      let g = goal_at raw (trait_holes raw s.trait_) s.says.1 in
+      subst IsWrittenGoal (sym says.3)
+      (filled_heads says.1 g.parts (goal_heads raw (trait_holes raw s.trait_) (hole_params (count_or_none (params_in_trait raw s.trait_))) s.says.1 (trait_has_none raw law s.trait_ s.says.0 s.says.1 s.says.2))
+      (λ k o. nth_heads (hole_number k) c.parts (says.1 k) (says.2 k o) h))
 
-follows_heads : (raw : RawFacts) (S : Asked → Type 0) → ((d : Asked) → S d → IsWrittenGoal d) → (n : ℕ) (d : Asked) → Follows raw S n d → IsWrittenGoal d
-follows_heads raw S h zero d f = h d f
-follows_heads raw S h (suc n) d (inl f) = follows_heads raw S h n d f
-follows_heads raw S h (suc n) d (inr (c, f, s)) = super_heads raw c d (follows_heads raw S h n c f) s
+  follows_heads : (S : Asked → Type 0) → ((d : Asked) → S d → IsWrittenGoal d) → (n : ℕ) (d : Asked) → Follows raw S n d → IsWrittenGoal d
+  follows_heads S h zero d f = h d f
+  follows_heads S h (suc n) d (inl f) = follows_heads S h n d f
+  follows_heads S h (suc n) d (inr (c, f, s)) = super_heads c d (follows_heads S h n c f) s
 
-stated_heads : (raw : RawFacts) (item : GenericDefId) (d : Asked) → IsStated raw item d → IsWrittenGoal d
-stated_heads raw item d (inl (t, at, e)) = subst IsWrittenGoal (sym e) (list_heads (λ k. ty.Param k) own_heads (range_with_len 0 (generic_params raw item)))
-stated_heads raw item d (inr (i, g, at, e)) =
-    let n = generic_params raw item in
-    subst IsWrittenGoal (sym e) (goal_heads raw (own_params n) (λ m. param_heads (λ k. ty.Param k) own_heads (range_with_len 0 n) m) g)
+  stated_heads : (item : GenericDefId) (d : Asked) → IsStated raw item d → IsWrittenGoal d
+  stated_heads item d (inl (t, at, e)) = subst IsWrittenGoal (sym e) (list_heads (λ k. ty.Param k) own_heads (range_with_len 0 (generic_params raw item)))
+  stated_heads item d (inr (i, g, at, e)) =
+      let n = generic_params raw item in
+      subst IsWrittenGoal (sym e) (goal_heads raw (own_params n) (λ m. param_heads (λ k. ty.Param k) own_heads (range_with_len 0 n) m) g (preds_have_none raw law item i g at))
 
-bound_heads : (raw : RawFacts) (k : TypeAliasId) (n : ℕ) (g : RawGoal) (d : Asked) → BoundSays raw k (holes n) g d → IsWrittenGoal d
-bound_heads raw k n (raw_goal.Trait r) d h =
-    subst IsWrittenGoal (sym h.4) ((tt, (tt, list_heads (λ j. ty.Var j) var_heads (range_with_len 0 n))), args_heads raw (holes n) (hole_params n) h.1)
-bound_heads raw k n (raw_goal.Projection m ws w) d h =
-    subst IsWrittenGoal (sym h.4)
-    (((tt, (tt, list_heads (λ j. ty.Var j) var_heads (range_with_len 0 n))), args_heads raw (holes n) (hole_params n) h.1), type_at_heads raw (holes n) (hole_params n) w)
+  bound_heads : (k : TypeAliasId) (n : ℕ) (g : RawGoal) (d : Asked) → GoalHasNoHole raw g → BoundSays raw k (holes n) g d → IsWrittenGoal d
+  bound_heads k n (raw_goal.Trait r) d none h =
+      subst IsWrittenGoal (sym h.4) ((tt, (tt, list_heads (λ j. ty.Var j) var_heads (range_with_len 0 n))), args_heads raw (holes n) (hole_params n) h.1 (behind_first raw (arg_types r.args) h.0 h.1 h.2 none))
+  bound_heads k n (raw_goal.Projection m ws w) d none h =
+      subst IsWrittenGoal (sym h.4)
+      (((tt, (tt, list_heads (λ j. ty.Var j) var_heads (range_with_len 0 n))), args_heads raw (holes n) (hole_params n) h.1 (behind_first raw (arg_types ws) h.0 h.1 h.2 none.0)), type_at_heads raw (holes n) (hole_params n) w none.1)
 
-listed_heads : (raw : RawFacts) (d : Asked) → IsListed raw d → IsWrittenGoal d
-listed_heads raw d (i, a, at, (k, is, (j, g, here, says))) = bound_heads raw k (count_or_none (params_in_trait raw a.trait_)) g d says
+  listed_heads : (d : Asked) → IsListed raw d → IsWrittenGoal d
+  listed_heads d (i, a, at, (k, is, (j, g, here, says))) = bound_heads k (count_or_none (params_in_trait raw a.trait_)) g d (bounds_have_none raw law i a at j g here) says
 
-module _ (raw : RawFacts) (p : RawImpl) (t : RawTraitRef) where
-  abbrev n : ℕ
-  n = length p.params
+  module _ (i : ℕ) (p : RawImpl) (here : slice_get raw.impls i ≡ Some p) (t : RawTraitRef) (is : p.trait_ ≡ Some t) where
+    abbrev n : ℕ
+    n = length p.params
 
-  impl_args_heads : HasWrittenHeads (impl_args raw p t)
-  impl_args_heads = args_heads raw (holes n) (hole_params n) (p.self_ ∷ arg_types t.args)
+    impl_args_heads : HasWrittenHeads (impl_args raw p t)
+    impl_args_heads = args_heads raw (holes n) (hole_params n) (p.self_ ∷ arg_types t.args) (impl_has_none raw law i p t here is)
 
-  assoc_heads : (xs : List RawAssocType) → Each IsWrittenRule (map (assoc_rule raw p t) xs)
-  assoc_heads [] = tt
-  assoc_heads (x ∷ xs) = ((impl_args_heads, type_at_heads raw (holes n) (hole_params n) x.ty), assoc_heads xs)
+    assoc_heads : (xs : List RawAssocType) → ((k : ℕ) (x : RawAssocType) → slice_get xs k ≡ Some x → HasNoHole raw.types x.ty) → Each IsWrittenRule (map (assoc_rule raw p t) xs)
+    assoc_heads [] none = tt
+    assoc_heads (x ∷ xs) none = ((impl_args_heads, type_at_heads raw (holes n) (hole_params n) x.ty (none 0 x refl)), assoc_heads xs (λ k y at. none (suc k) y at))
 
-impl_heads : (raw : RawFacts) (p : RawImpl) (o : Option RawTraitRef) → Each IsWrittenRule (rules_for raw p o)
-impl_heads raw p None = tt
-impl_heads raw p (Some t) = (impl_args_heads raw p t, assoc_heads raw p t p.types)
+  impl_heads : (i : ℕ) (p : RawImpl) → slice_get raw.impls i ≡ Some p → (o : Option RawTraitRef) → p.trait_ ≡ o → Each IsWrittenRule (rules_for raw p o)
+  impl_heads i p here None is = tt
+  impl_heads i p here (Some t) is = (impl_args_heads i p here t is, assoc_heads i p here t is p.types (given_has_none raw law i p t here is))
 
-impls_heads : (raw : RawFacts) (ps : List RawImpl) → Each IsWrittenRule (flat_map (impl_rules raw) ps)
-impls_heads raw [] = tt
-impls_heads raw (p ∷ ps) = each_append IsWrittenRule (impl_rules raw p) (flat_map (impl_rules raw) ps) (impl_heads raw p p.trait_) (impls_heads raw ps)
+  impls_heads : Each IsWrittenRule (flat_map (impl_rules raw) raw.impls)
+  impls_heads = each_flat IsWrittenRule (impl_rules raw) raw.impls (λ i p here. impl_heads i p here p.trait_ refl)
 
 facts_heads : (ds : List Asked) → ((i : ℕ) (d : Asked) → slice_get ds i ≡ Some d → IsWrittenGoal d) → Each IsWrittenRule (map fact ds)
 facts_heads [] h = tt
@@ -295,7 +279,7 @@ facts_heads (d ∷ ds) h = (h 0 d refl, facts_heads ds (λ i e at. h (suc i) e a
 abbrev AliasIsWritten : Aliases → Type 0
 AliasIsWritten A = (k : TypeAliasId) (w u : Term) → A k w u → IsWritten w → IsWritten u
 
-pub reading_written : (A : Aliases) → AliasIsWritten A → (p : Fill) (t u : Term) → HasWrittenHeads t → ((k : Hole) → occurs k t ≡ true → IsWritten (p k)) → Reads A p t u → IsWritten u
+reading_written : (A : Aliases) → AliasIsWritten A → (p : Fill) (t u : Term) → HasWrittenHeads t → ((k : Hole) → occurs k t ≡ true → IsWritten (p k)) → Reads A p t u → IsWritten u
 reading_written A written p (hole j) u h fills r = subst IsWritten (sym r) (fills j (hole_eq_same j))
 reading_written A written p (leaf x) u h fills r = subst IsWritten (sym r.1) h
 reading_written A written p (pair a b) u h fills r =
@@ -334,22 +318,22 @@ gives_written v written k w u h r heads g =
     (λ j o. told_written g.at (args_of r.head.parts) w (reads_may v.Alias g.at (args_of r.head.parts) w g.args) h j
     (subst (λ (d : Kind). stands j (key d r.head.parts) ≡ true) g.kind (g.told.head j (occurs_type j r.head.parts o)))) g.type
 
-some_give : {X : Type 0} {P T : X → Type 0} {Z : Type 0} → ((x : X) → T x → P x → Z) → (xs : List X) → Each T xs → SomeOf P xs → Z
+pub some_give : {X : Type 0} {P T : X → Type 0} {Z : Type 0} → ((x : X) → T x → P x → Z) → (xs : List X) → Each T xs → SomeOf P xs → Z
 some_give f [] t h = absurd h
 some_give f (x ∷ xs) t (inl h) = f x t.0 h
 some_give f (x ∷ xs) t (inr h) = some_give f xs t.1 h
 
 -- ---- of sources that are an item's
 
-module _ (raw : RawFacts) (item : GenericDefId) (f : System) (of : IsSystemOf raw item f) where
+module _ (raw : RawFacts) (law : IsLawful raw) (item : GenericDefId) (f : System) (of : IsSystemOf raw item f) where
   clauses_heads : Each IsWrittenRule f.clauses
   clauses_heads = subst (Each IsWrittenRule) (sym of.clauses.are)
-      (facts_heads of.clauses.stated (λ i d at. follows_heads raw (IsStated raw item) (stated_heads raw item) raw.limits.goal_depth d (of.clauses.closed.only i d at)))
+      (facts_heads of.clauses.stated (λ i d at. follows_heads raw law (IsStated raw item) (stated_heads raw law item) raw.limits.goal_depth d (of.clauses.closed.only i d at)))
 
   rules_heads : Each IsWrittenRule f.rules
   rules_heads = subst (Each IsWrittenRule) (sym of.rules.are)
-      (each_append IsWrittenRule (flat_map (impl_rules raw) raw.impls) (map fact of.rules.listed) (impls_heads raw raw.impls)
-      (facts_heads of.rules.listed (λ i d at. follows_heads raw (IsListed raw) (listed_heads raw) raw.limits.goal_depth d (of.rules.closed.only i d at))))
+      (each_append IsWrittenRule (flat_map (impl_rules raw) raw.impls) (map fact of.rules.listed) (impls_heads raw law)
+      (facts_heads of.rules.listed (λ i d at. follows_heads raw law (IsListed raw) (listed_heads raw law) raw.limits.goal_depth d (of.rules.closed.only i d at))))
 
   given_written : (v : Verdicts) → AliasIsWritten v.Alias → (k : TypeAliasId) (w u : Term) → IsWritten w → (rs : List Rule) → Each IsWrittenRule rs → OneOf (Gives v k w u) (GivesNone v k w) rs → IsWritten u
   given_written v written k w u h rs heads a =
@@ -360,14 +344,17 @@ module _ (raw : RawFacts) (item : GenericDefId) (f : System) (of : IsSystemOf ra
   next_written v written k w u (known, inr (none, inl a)) h = given_written v written k w u h f.rules rules_heads a
   next_written v written k w u (known, inr (none, inr (rest, e))) h = subst IsWritten (sym e) (tt, h)
 
-  pub aliases_written : (m : ℕ) → AliasIsWritten (answers f m).Alias
+  aliases_written : (m : ℕ) → AliasIsWritten (answers f m).Alias
   aliases_written zero k w u a h = subst IsWritten (sym a.3) (tt, h)
   aliases_written (suc m) k w u a h = next_written (answers f m) (aliases_written m) k w u a h
 
-  -- a type without holes reads as one without holes
+  -- a term without holes reads as one without holes
+  pub term_reads_written : (m : ℕ) (t u : Term) → ReadsAs (answers f m).Alias t u → IsWritten t → IsWritten u
+  term_reads_written m t u r h = reading_written (answers f m).Alias (aliases_written m) hole t u (written_heads t h) (λ k o. absurd (no_hole t h k o)) r
+
+  -- so does a type
   pub type_reads_written : (m : ℕ) (t u : Ty) → TypeReads f m t u → IsWritten (term t) → IsWritten (term u)
-  type_reads_written m t u r h =
-      reading_written (answers f m).Alias (aliases_written m) hole (term t) (term u) (written_heads (term t) h) (λ k o. absurd (no_hole (term t) h k o)) r
+  type_reads_written m t u r h = term_reads_written m (term t) (term u) r h
 
   pub reads_written : (m : ℕ) (k : TypeAliasId) (xs : List GenericArg) (u : Ty) → TypeReads f m (ty.Projection k xs) u → IsWritten (chain (map arg_term xs)) → IsWritten (term u)
   reads_written m k xs u r h = type_reads_written m (ty.Projection k xs) u r (subst IsWritten (sym (term_projection k xs)) (tt, h))

@@ -2,4 +2,5 @@ pub mod Listed
 pub mod Judged
 pub mod Read
 pub mod Left
+pub mod Written
 pub mod Told

@@ -19,7 +19,7 @@ use infer_result::{InferenceDiagnostic, InferenceResult, TypeMismatch};
 use std::alloc::{AllocError, Global};
 
 /// Lists what an associated type reads as, unless it stays.
-fn look_at_alias(
+pub fn look_at_alias(
     alloc: Global,
     sources: &ItemSources<'_>,
     alias: TypeAliasId,

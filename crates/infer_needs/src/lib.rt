@@ -10,6 +10,7 @@ mod read;
 mod say;
 mod tell;
 mod unknown;
+mod written;
 
 pub use prove::{prove_needs, scope_item};
 pub use tell::tell_all;

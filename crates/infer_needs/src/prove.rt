@@ -11,6 +11,7 @@ ghost use Rattle.infer_result.specs.WrittenAliases.{AllWrittenAreListed};
 ghost use Rattle.infer_result.specs.Closed.{AllTypes};
 ghost use Rattle.infer_result.specs.Table.{recorded};
 ghost use Rattle.infer_needs.specs.Left.{IsFinalType};
+ghost use Rattle.infer_needs.specs.Written.{AreAllListed};
 ghost use Rattle.infer_result.specs.Typed.{IsTableOf, given};
 ghost use Rattle.infer_needs.specs.Judged.{IsProvable, AreProvable, CanAllBeProved, CanPatsBeProved, IsSaidUnlessMay, IsJudged, AreJudged, AreAllJudged, ArePatsJudged};
 ghost use Rattle.infer_needs.specs.Told.{ListsAnswers, first_needs, first_pat_needs, AreAllAnswered, AddsRootsOf};
@@ -20,6 +21,7 @@ use crate::left::look_at_table;
 use crate::note::note;
 use crate::opened::may_hold;
 use crate::say::say;
+use crate::written::look_at_written;
 use goal_facts::{Answer, ItemSources, Proof};
 use goal_prove::prove_goal;
 use hir_facts::{
@@ -207,24 +209,29 @@ fn prove_pats(
     Ok(gaps)
 }
 
-/// The same of each expression of a body, in their order, once what associated types in the types of the table read
-/// as is listed; gives the proofs, what associated types were found to be, and each expression's gaps.
+/// The same of each expression of a body, in their order, once what associated types read as is listed, those in the
+/// types of the table and those that are written; gives the proofs, what associated types were found to be, and each
+/// expression's gaps.
 fn prove_exprs(
     alloc: Global,
     sources: &ItemSources<'_>,
+    def: DefWithBodyId,
     body: &RawBody,
     table: &InferenceResult,
     told: &mut Vec<(Goal, Answer)>,
 ) -> Result<(Vec<Proof>, Found, List<List<Gap>>), AllocError>
     requires needs { CanAllBeProved sources.now.facts body.now table.now }
+    requires pats { CanPatsBeProved sources.now.facts table.now }
     requires types { AllTypes IsFinalType table.now }
     ensures judged { IfOk result (λ made. AreAllJudged sources.now.facts (system sources.now.sources) body.now table.now (length body.now.exprs) made.0.items made.1 made.2) }
+    ensures written { IfOk result (λ made. AreAllListed sources.now.facts def body.now table.now (system sources.now.sources) made.1) }
     ensures told { OnOk result (ListsAnswers (system sources.now.sources) sources.now.facts.limits.goal_depth (first_needs sources.now.facts body.now table.now (length body.now.exprs)) told.old.items told.new.items) }
     ensures roots { IfOk result (λ made. AddsRootsOf (first_needs sources.now.facts body.now table.now (length body.now.exprs)) [] made.0.items) }
 {
     let mut proofs = Vec::new(alloc);
     let mut found = Found::new(alloc);
     look_at_table(alloc, sources, table, &mut proofs, &mut found)?;
+    look_at_written(alloc, sources, def, body, table, &mut proofs, &mut found)?;
     let mut gaps = List::new(alloc);
     for (at, expr) in body.exprs.as_slice().iter().enumerate() {
         let here = prove_at(
@@ -247,9 +254,9 @@ fn prove_exprs(
 /// other types in its place. Each goal is evaluated and told once, in the order of the expressions and of the
 /// predicates of each item, and then of the patterns: these are given back, each with its answer. What associated
 /// types were found to be is listed, each once; where one is another type at a node, this is said there. In no type
-/// of the table is one left that could be read, unless what it is is listed. Each listed proof of a goal about a
-/// trait is one that another asks for, or of a goal that was told. Nothing else of the table changes. The one error is
-/// want of memory.
+/// of the table is one left that could be read, unless what it is is listed; and so is what each is that the
+/// definition, its `let`s and those goals are written with. Each listed proof of a goal about a trait is one that
+/// another asks for, or of a goal that was told. Nothing else of the table changes. The one error is want of memory.
 pub fn prove_needs(
     alloc: Global,
     facts: &Facts,
@@ -271,7 +278,7 @@ pub fn prove_needs(
     let sources = ItemSources::new(alloc, facts, scope_item(facts, def))?;
     sources.lawful();
     let mut told = Vec::new(alloc);
-    let (mut proofs, mut found, gaps) = prove_exprs(alloc, &sources, body, table, &mut told)?;
+    let (mut proofs, mut found, gaps) = prove_exprs(alloc, &sources, def, body, table, &mut told)?;
     let pat_gaps = prove_pats(
         alloc,
         &sources,

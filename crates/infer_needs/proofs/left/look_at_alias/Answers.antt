@@ -6,6 +6,7 @@ use Rattle.hir_types.specs.declared.ty.Ty.{Ty}
 use Rattle.hir_types.specs.declared.ty.Ty.TheVariants as ty
 use Rattle.hir_types.specs.Terms.{chain, term, arg_term}
 use Rattle.hir_raw.specs.declared.raw.RawFacts.{RawFacts}
+use Rattle.hir_laws.specs.Lawful.{IsLawful}
 use Rattle.goal_answers.specs.Answers.{answers}
 use Rattle.goal_answers.specs.Reading.{IsRead, staying}
 use Rattle.goal_search.specs.Sources.{system}
@@ -71,9 +72,10 @@ prove_goal-requires-clause-written c =
     let is = sym c.in_ok-chain.ensures.is ∙ c.is_same.ensures.0 same in
     let reads = subst (IsTypeRead f raw.limits.goal_depth (ty.Projection k zs)) c.in-Some.is c.in_ok-read.ensures.read in
     let args : c.in_ok-term_args.field-0 ≡ zs = c.in_ok-term_args.ensures.read ∙ sym c.in_ok-made.ensures.read in
+    let law = subst IsLawful (c.raw.ensures.value ∙ c.facts.ensures) c.raw.ensures.lawful in
     let written = subst IsWritten (sym is) c.requires.whole.written in (
       subst (λ (xs : List GenericArg). IsWritten (chain (map arg_term xs))) (sym args) written,
-      subst (λ (t : Ty). IsWritten (term t)) (sym c.in_ok-dup.ensures) (reads_written raw _ f c.in_ok-read.ensures.given raw.limits.goal_depth k zs u reads written),
+      subst (λ (t : Ty). IsWritten (term t)) (sym c.in_ok-dup.ensures) (reads_written raw law _ f c.in_ok-read.ensures.given raw.limits.goal_depth k zs u reads written),
     )
 
 pub unreachable-requires : goal.unreachable-requires
@@ -112,8 +114,9 @@ returns c =
     let proved = proof_here c.prove_goal.new.proofs.items k c.in_ok-term_args.field-0 zs c.in_ok-dup.field-0 u c.in-Some-2._number args c.in_ok-dup.ensures at in
     let known = λ (h : HoldsUnknown (asked_goal (the_goal.Projection k zs u)).parts). true≢false (sym (c.in_ok-unknown.ensures.1 (subst (λ (xs : List GenericArg). HoldsUnknown (asked_goal (the_goal.Projection k xs c.in_ok-dup.field-0)).parts) (sym args)
     (subst (λ (t : Ty). HoldsUnknown (asked_goal (the_goal.Projection k zs t)).parts) (sym c.in_ok-dup.ensures) h))) ∙ c.if-unknown.false) in
+    let law = subst IsLawful (c.raw.ensures.value ∙ c.facts.ensures) c.raw.ensures.lawful in
     let args_written = subst IsWritten (sym is) c.requires.whole.written in
-    let written : IsWritten (asked_goal (the_goal.Projection k zs u)).parts = (args_written, reads_written raw _ f c.in_ok-read.ensures.given raw.limits.goal_depth k zs u reads args_written) in
+    let written : IsWritten (asked_goal (the_goal.Projection k zs u)).parts = (args_written, reads_written raw law _ f c.in_ok-read.ensures.given raw.limits.goal_depth k zs u reads args_written) in
     let other = λ (stays : term u ≡ staying k (chain (map arg_term zs))). true≢false (sym (c.is_same-2.ensures.1 (c.in_ok-term.ensures.is ∙ (stays ∙ (ap (staying k) is ∙ sym c.in_ok-stays.ensures)))) ∙ c.if-is_same.false) in
     on_ok_weaker c.add.result (λ added. subst (λ (ks : List (Ty × Ty)). Lists raw f (λ (js : List (Ty × Ty)). (xs : List GenericArg) → chain (map arg_term xs) ≡ term_of c.args.args.now → StaysOrIsListed f raw.limits.goal_depth js k xs) c.args.proofs.now.items c.prove_goal.new.proofs.items c.args.found.now ks) (sym added)
     (lists_reading raw f k (term_of c.args.args.now) zs is u reads c.args.proofs.now.items c.prove_goal.new.proofs.items c.args.found.now c.in_ok-_number.ensures.adds roots (subst IsRead (sym is) c.requires.whole.read) proved known other written c.requires.read)) c.add.ensures

@@ -4,21 +4,32 @@ use Rattle.std.proofs.lemmas.Option.{slice_get_read}
 use Rattle.goal_search.specs.Sources.{system}
 use Rattle.infer_needs.specs.Judged.{AreAllJudged}
 use Rattle.infer_result.specs.Needs.{needs_at}
+use Rattle.infer_needs.specs.Left.{WereRead}
 use Rattle.infer_needs.specs.Told.{ListsAnswers, AddsRootsOf, first_needs}
 use Rattle.infer_needs.proofs.Telling.{tells_none, tells_both, tells_here, first_more}
 use Rattle.infer_needs.proofs.Rooted.{roots_both, roots_here}
 use Rattle.infer_needs.proofs.Judging.{all_none, all_more, judged_here}
+use Rattle.infer_needs.proofs.Writing.{all_listed_later, lists_left_and}
 use Rattle.infer_needs.proofs.prove.prove_exprs.Goals as goal
+
+pub look_at_written-requires-clause-read : goal.look_at_written-requires-clause-read
+look_at_written-requires-clause-read c =
+    c.in_ok-look_at_table.ensures.adds.read (subst (WereRead (system c.args.sources.now.sources) c.args.sources.now.facts.limits.goal_depth) (sym c.new-found.ensures) (λ i x at. cc))
 
 pub loop-at-init : goal.loop-at-init
 loop-at-init c =
     let raw = c.args.sources.now.facts in
     let f = system c.args.sources.now.sources in
+    let b = c.args.body.now in
+    let r = c.args.table.now in
+    let new = c.look_at_written.new in
+    let left = lists_left_and raw c.args.def b r f _ _ _ _ _ _ c.in_ok-look_at_table.ensures c.in_ok-look_at_written.ensures in
     record {
-      judged = subst (λ gss. AreAllJudged raw f c.args.body.now c.args.table.now 0 c.look_at_table.new.proofs.items c.look_at_table.new.found gss) (sym c.new-gaps.ensures)
-          (all_none raw f c.args.body.now c.args.table.now c.look_at_table.new.proofs.items c.look_at_table.new.found (rw (sym c.new-found.ensures, sym c.new-proofs.ensures.items) c.in_ok-look_at_table.ensures));
+      judged = subst (λ gss. AreAllJudged raw f b r 0 new.proofs.items new.found gss) (sym c.new-gaps.ensures)
+          (all_none raw f b r new.proofs.items new.found (rw (c.new-found.ensures, c.new-proofs.ensures.items) at left));
+      written = c.in_ok-look_at_written.ensures.none;
       told = tells_none f raw.limits.goal_depth c.args.told.now.items;
-      roots = subst (λ ps. AddsRootsOf [] ps c.look_at_table.new.proofs.items) c.new-proofs.ensures.items c.in_ok-look_at_table.ensures.adds.roots;
+      roots = subst (λ ps. AddsRootsOf [] ps new.proofs.items) c.new-proofs.ensures.items left.adds.roots;
     }
 
 pub prove_at-requires : goal.prove_at-requires
@@ -42,6 +53,7 @@ loop-at-preserved c =
     record {
       judged = subst (λ gss. AreAllJudged raw f b r (at.at + 1) new.proofs.items new.found gss) (sym c.in_ok-push.ensures.ok)
           (all_more raw f b r at.at at.proofs.items new.proofs.items at.found new.found at.gaps c.in_ok-here.here at.invariant.judged (judged_here raw f b r at.at x at.proofs.items new.proofs.items at.found new.found c.in_ok-here.here found done.judged));
+      written = all_listed_later raw c.args.def b r f at.found new.found done.judged.lists.behind at.invariant.written;
       told = subst (λ xs. ListsAnswers f n xs c.args.told.now.items new.told.items) (first_more raw b r at.at)
           (tells_both f n (first_needs raw b r at.at) (needs_at raw b r at.at) c.args.told.now.items at.told.items new.told.items at.invariant.told (tells_here f n raw b r at.at x at.told.items new.told.items found done.told));
       roots = subst (λ xs. AddsRootsOf xs [] new.proofs.items) (first_more raw b r at.at)

@@ -16,26 +16,34 @@ use Rattle.goal_facts.specs.Systems.{IsSystemOf}
 use Rattle.infer_result.specs.Needs.{with_goals, scope_item, GoalsHold, HasNoneLeft, needs_of, pat_needs_at}
 use Rattle.infer_result.specs.Table.{recorded}
 use Rattle.infer_result.specs.Typed.{given}
+use Rattle.infer_result.specs.WrittenAliases.{AllWrittenAreListed}
 use Rattle.infer_needs.specs.Judged.{AreProvable, AreAllJudged, ArePatsJudged}
+use Rattle.infer_needs.specs.Written.{AreAllListed}
 use Rattle.infer_needs.specs.Told.{first_needs, first_pat_needs, all_needs, AreAnswered, RootsAreTold}
 use Rattle.infer_needs.proofs.Telling.{tells_both, needs_stay}
 use Rattle.infer_needs.proofs.Rooted.{roots_both, roots_told}
 use Rattle.infer_needs.proofs.Provable.{needs_provable, node_provable, table_final, pat_needs_provable, as_many_items}
 use Rattle.infer_needs.proofs.Holding.{same_body, goals_hold, has_none_left}
+use Rattle.infer_needs.proofs.Writing.{all_listed_later, all_written}
 use Rattle.infer_needs.proofs.prove.prove_needs.Goals as goal
 
 pub prove_exprs-requires-clause-needs : goal.prove_exprs-requires-clause-needs
 prove_exprs-requires-clause-needs c n x at =
     subst (λ z. AreProvable (needs_of z (Some x) (recorded c.args.table.now.type_of_expr n))) (sym c.in_ok-sources.ensures.facts)
-    (needs_provable c.args.facts.now c.args.def c.args.table.now c.requires n x)
+    (needs_provable c.args.facts.now c.lawful.ensures c.args.def c.args.table.now c.requires n x)
+
+pub prove_exprs-requires-clause-pats : goal.prove_exprs-requires-clause-pats
+prove_exprs-requires-clause-pats c n =
+    subst (λ z. AreProvable (pat_needs_at z c.args.table.now n)) (sym c.in_ok-sources.ensures.facts)
+    (pat_needs_provable c.args.facts.now c.args.def c.args.table.now c.requires n)
 
 pub prove_exprs-requires-clause-types : goal.prove_exprs-requires-clause-types
-prove_exprs-requires-clause-types c = table_final c.args.facts.now c.args.def c.args.table.now c.requires
+prove_exprs-requires-clause-types c = table_final c.args.facts.now c.lawful.ensures c.args.def c.args.table.now c.requires
 
 pub prove_pats-requires : goal.prove_pats-requires
 prove_pats-requires c n =
     subst (λ z. AreProvable (pat_needs_at z c.args.table.now n)) (sym c.in_ok-sources.ensures.facts)
-    (pat_needs_provable c.args.facts.now c.args.def c.args.table.now c.requires n)
+    (pat_needs_provable c.args.facts.now c.lawful.ensures c.args.def c.args.table.now c.requires n)
 
 -- the sources and what was judged, as the facts, the item and the body say
 record Judged (raw : RawFacts) (d : DefWithBodyId) (b : RawBody) (f : System) (r : InferenceResult) (ps qs : List Proof) (js ks : List (Ty × Ty)) (gss hss : List (List Gap)) : Type 0 where
@@ -74,7 +82,7 @@ returns-clause-goals c b is =
     let all = judged_of raw d r c.in_ok-sources.sources c.in_ok-sources.ensures.facts (c.in_ok-sources.ensures.item ∙ c.scope_item.ensures) c.lawful-2.ensures body b same ps qs js ks c.prove_pats.new.found gss hss c.into_pairs.ensures.list c.in_ok-proofs.ensures.judged c.in_ok-pat_gaps.ensures.judged in
     subst (λ es. GoalsHold d (given raw d b) (with_goals c.from_vec.result es gss hss r)) (sym c.from_vec-2.ensures)
     (subst (λ xs. GoalsHold d (given raw d b) (with_goals xs ks gss hss r)) (sym c.from_vec.ensures)
-    (goals_hold raw d b (system c.in_ok-sources.sources.sources) r ps qs js ks gss hss all.of_item (as_many_items raw d r b c.requires is) all.exprs all.pats c.into_pairs.ensures.once (node_provable raw d r c.requires b)))
+    (goals_hold raw d b (system c.in_ok-sources.sources.sources) r ps qs js ks gss hss all.of_item (as_many_items raw d r b c.requires is) all.exprs all.pats c.into_pairs.ensures.once (node_provable raw c.lawful.ensures d r c.requires b)))
 
 pub returns-clause-left : goal.returns-clause-left
 returns-clause-left c b is =
@@ -92,7 +100,28 @@ returns-clause-left c b is =
     let all = judged_of raw d r c.in_ok-sources.sources c.in_ok-sources.ensures.facts (c.in_ok-sources.ensures.item ∙ c.scope_item.ensures) c.lawful-2.ensures body b same ps qs js ks c.prove_pats.new.found gss hss c.into_pairs.ensures.list c.in_ok-proofs.ensures.judged c.in_ok-pat_gaps.ensures.judged in
     subst (λ es. HasNoneLeft d (given raw d b) (with_goals c.from_vec.result es gss hss r)) (sym c.from_vec-2.ensures)
     (subst (λ xs. HasNoneLeft d (given raw d b) (with_goals xs ks gss hss r)) (sym c.from_vec.ensures)
-    (has_none_left raw d b (system c.in_ok-sources.sources.sources) r ps qs js ks gss hss all.of_item (as_many_items raw d r b c.requires is) all.exprs all.pats c.into_pairs.ensures.once (node_provable raw d r c.requires b)))
+    (has_none_left raw d b (system c.in_ok-sources.sources.sources) r ps qs js ks gss hss all.of_item (as_many_items raw d r b c.requires is) all.exprs all.pats c.into_pairs.ensures.once (node_provable raw c.lawful.ensures d r c.requires b)))
+
+pub returns-clause-written : goal.returns-clause-written
+returns-clause-written c b is =
+    let raw = c.args.facts.now in
+    let d = c.args.def in
+    let r = c.args.table.now in
+    let body = c.body-body.result.now in
+    let ps = c.in_ok-proofs.proofs.items in
+    let qs = c.prove_pats.new.proofs.items in
+    let js = c.in_ok-proofs.found in
+    let ks = c.into_pairs.result.items in
+    let gss = c.in_ok-proofs.gaps in
+    let hss = c.in_ok-pat_gaps.pat_gaps in
+    let same : body ≡ b = same_body raw d c.in-Some.id body b (sym c.body_id.ensures ∙ c.in-Some.is) c.body-body.ensures is in
+    let all = judged_of raw d r c.in_ok-sources.sources c.in_ok-sources.ensures.facts (c.in_ok-sources.ensures.item ∙ c.scope_item.ensures) c.lawful-2.ensures body b same ps qs js ks c.prove_pats.new.found gss hss c.into_pairs.ensures.list c.in_ok-proofs.ensures.judged c.in_ok-pat_gaps.ensures.judged in
+    let f = system c.in_ok-sources.sources.sources in
+    let made = subst (λ z. AreAllListed z d body r f js) c.in_ok-sources.ensures.facts c.in_ok-proofs.ensures.written in
+    let listed = all_listed_later raw d b r f js ks all.pats.lists.behind (subst (λ x. AreAllListed raw d x r f js) same made) in
+    subst (λ es. AllWrittenAreListed d (given raw d b) (with_goals c.from_vec.result es gss hss r)) (sym c.from_vec-2.ensures)
+    (subst (λ xs. AllWrittenAreListed d (given raw d b) (with_goals xs ks gss hss r)) (sym c.from_vec.ensures)
+    (all_written raw d b r f ks all.of_item listed qs gss hss))
 
 pub returns-clause-told : goal.returns-clause-told
 returns-clause-told c b is =

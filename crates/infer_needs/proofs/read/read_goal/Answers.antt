@@ -1,12 +1,12 @@
-use Rattle.std.proofs.Common.{◌∙◌, None, sym, ap, subst, option_map}
+use Rattle.std.proofs.Common.{◌∙◌, ap, subst, option_map}
 use Rattle.hir_types.specs.Terms.{hole}
+use Rattle.hir_laws.specs.Lawful.{IsLawful}
 use Rattle.goal_answers.specs.Answers.{answers}
 use Rattle.goal_answers.specs.Goals.{Asked}
 use Rattle.goal_answers.specs.Steps.{ReadingIs}
 use Rattle.goal_terms.specs.Terms.{term_of}
 use Rattle.goal_search.specs.Sources.{kind_of, system}
 use Rattle.goal_facts.specs.Goals.{asked_goal}
-use Rattle.infer_needs.specs.Read.{IsGoalRead, IsWrittenIf}
 use Rattle.infer_needs.proofs.ReadGoals.{read_at, reads_none, made_reads, goal_written}
 use Rattle.infer_needs.proofs.read.read_goal.Goals as goal
 
@@ -33,5 +33,5 @@ returns c =
     let made = made_reads raw c.args.sources.now.item f c.lawful.ensures n g c.requires (kind_of c.in_ok-asks.asks.kind) (term_of c.in-Some.parts) c.in_ok-made.made (ap (λ (x : Asked). x.kind) c.in_ok-asks.ensures.is) reads c.in_ok-made.ensures in
     record {
       read = made;
-      written = goal_written raw c.args.sources.now.item f c.lawful.ensures n g c.requires (asked_goal c.in_ok-made.made) made;
+      written = goal_written raw c.args.sources.now.item f c.lawful.ensures n g c.requires (subst IsLawful (c.raw.ensures.value ∙ c.facts.ensures) c.raw.ensures.lawful) (asked_goal c.in_ok-made.made) made;
     }

@@ -1,0 +1,27 @@
+use Rattle.std.proofs.Common.{◌∙◌, option_map, sym, subst, true≢false}
+use Rattle.hir_types.specs.Terms.{hole}
+use Rattle.goal_answers.specs.Answers.{answers}
+use Rattle.goal_answers.specs.Steps.{ReadingIs}
+use Rattle.goal_search.specs.Sources.{system}
+use Rattle.goal_terms.specs.Terms.{term_of}
+use Rattle.infer_needs.proofs.Writing.{args_final, lists_at}
+use Rattle.infer_needs.proofs.written.look_at_args.Goals as goal
+
+pub look_at_alias-requires-clause-whole : goal.look_at_alias-requires-clause-whole
+look_at_alias-requires-clause-whole c =
+    let raw = c.args.sources.now.facts in
+    let f = system c.args.sources.now.sources in
+    let n = raw.limits.goal_depth in
+    let w = term_of c.args.args.now in
+    let reads = subst (λ o. ReadingIs (answers f n).Alias hole w (option_map term_of o)) c.in-Some.is c.in_ok-read.ensures.read in
+    args_final raw _ f c.in_ok-read.ensures.given n w (term_of c.in-Some.read) c.requires.written
+    (λ holds. true≢false (sym (c.holds_placeholder.ensures.1 holds) ∙ c.if-holds_placeholder.false)) reads
+
+pub returns-in_ok-look_at_alias-in-Some : goal.returns-in_ok-look_at_alias-in-Some
+returns-in_ok-look_at_alias-in-Some c =
+    let raw = c.args.sources.now.facts in
+    let f = system c.args.sources.now.sources in
+    let n = raw.limits.goal_depth in
+    let w = term_of c.args.args.now in
+    let reads = subst (λ o. ReadingIs (answers f n).Alias hole w (option_map term_of o)) c.in-Some.is c.in_ok-read.ensures.read in
+    lists_at raw f c.args.alias w (term_of c.in-Some.read) c.args.proofs.now.items c.look_at_alias.new.proofs.items c.args.found.now c.look_at_alias.new.found reads c.in_ok-look_at_alias-in-Some.ensures

@@ -1,0 +1,24 @@
+use Rattle.std.proofs.Common.{◌≡◌, ap, subst, sym}
+use Rattle.hir_types.specs.Terms.{Term}
+use Rattle.goal_answers.specs.Goals.{Asked}
+use Rattle.goal_facts.specs.Goals.{asked_goal}
+use Rattle.goal_search.specs.Sources.{system}
+use Rattle.goal_terms.specs.Terms.{term_of}
+use Rattle.infer_result.specs.WrittenAliases.{WrittenAreListed}
+use Rattle.infer_needs.specs.Left.{Lists}
+use Rattle.infer_needs.specs.Written.{IsAsWritten}
+use Rattle.infer_needs.proofs.Writing.{as_written}
+use Rattle.infer_needs.proofs.written.look_at_goal.Goals as goal
+
+pub look_at_term-requires-clause-written : goal.look_at_term-requires-clause-written
+look_at_term-requires-clause-written c =
+    let parts = (asked_goal c.args.goal.now).parts in
+    let is : term_of c.in_ok-asked.asked.parts ≡ parts = ap (λ (a : Asked). a.parts) c.in_ok-asked.ensures.is in
+    subst IsAsWritten (sym is) (as_written parts c.requires.provable)
+
+pub returns : goal.returns
+returns c =
+    let raw = c.args.sources.now.facts in
+    let f = system c.args.sources.now.sources in
+    let is : term_of c.in_ok-asked.asked.parts ≡ (asked_goal c.args.goal.now).parts = ap (λ (a : Asked). a.parts) c.in_ok-asked.ensures.is in
+    subst (λ (x : Term). Lists raw f (λ js. WrittenAreListed f raw.limits.goal_depth js x) c.args.proofs.now.items c.look_at_term.new.proofs.items c.args.found.now c.look_at_term.new.found) is c.in_ok-look_at_term.ensures

@@ -1,0 +1,71 @@
+-- Associated types that a definition, its `let`s and the goals of its nodes are written with: each is listed with what it reads as, at what its
+-- arguments read as.
+use Rattle.std.specs.Prelude.{◌≡◌, ◌⊎◌, ℕ, List, slice_get, Option, Some}
+use Rattle.hir_types.specs.declared.ids.DefWithBodyId.{DefWithBodyId}
+use Rattle.hir_types.specs.declared.ids.TypeAliasId.{TypeAliasId}
+use Rattle.hir_types.specs.declared.ty.GenericArg.{GenericArg}
+use Rattle.hir_types.specs.declared.ty.Ty.{Ty}
+use Rattle.hir_types.specs.Terms.{Term, hole, leaf, pair, term}
+use Rattle.hir_raw.specs.declared.raw.RawBody.{RawBody}
+use Rattle.hir_raw.specs.declared.raw.RawExpr.{RawExpr}
+use Rattle.hir_raw.specs.declared.raw.RawFacts.{RawFacts}
+use Rattle.hir_raw.specs.declared.raw.RawType.{RawType}
+use Rattle.hir_raw.specs.Lets.{let_aliases}
+use Rattle.hir_raw.specs.WrittenTypes.{lowered}
+use Rattle.goal_answers.specs.Goals.{Asked, System}
+use Rattle.goal_answers.specs.Reading.{alias_at}
+use Rattle.goal_prove.specs.Written.{IsWrittenHead}
+use Rattle.infer_result.specs.declared.result.InferenceResult.{InferenceResult}
+use Rattle.infer_result.specs.Needs.{needs_of, pat_needs_of}
+use Rattle.infer_result.specs.OwnTypes.{HoldsPlaceholder, aliases_of}
+use Rattle.infer_result.specs.Table.{recorded}
+use Rattle.infer_result.specs.WrittenAliases.{args_term, IsListedOnceRead, WrittenAreListed}
+use Rattle.infer_needs.specs.Judged.{AreProvable}
+
+-- ---- terms of written types
+
+-- no hole is in it, and such are its heads: a `_` may stand in it
+abbrev pub IsAsWritten : Term → Type 0
+IsAsWritten (hole k) = ⊥
+IsAsWritten (leaf h) = IsWrittenHead h ⊎ HoldsPlaceholder (leaf h)
+IsAsWritten (pair a b) = IsAsWritten a × IsAsWritten b
+
+-- ---- what is listed
+
+-- the associated type, where these are its arguments
+abbrev pub ListedAt : System → ℕ → TypeAliasId → Term → List (Ty × Ty) → Type 0
+ListedAt f n k w js = (xs : List GenericArg) → args_term xs ≡ w → (HoldsPlaceholder w → ⊥) → IsListedOnceRead f n js k xs
+
+-- the one that the two make, if they do
+abbrev pub ListedHere : System → ℕ → Term → Term → List (Ty × Ty) → Type 0
+ListedHere f n a b js = (k : TypeAliasId) (xs : List GenericArg) → alias_at k (args_term xs) ≡ pair a b → (HoldsPlaceholder (args_term xs) → ⊥) → IsListedOnceRead f n js k xs
+
+-- each that is written in the type of this number
+abbrev pub TypeIsListed : System → ℕ → List RawType → ℕ → List (Ty × Ty) → Type 0
+TypeIsListed f n types k js = WrittenAreListed f n js (term (lowered types k))
+
+abbrev pub TypesAreListed : System → ℕ → List RawType → List ℕ → List (Ty × Ty) → Type 0
+TypesAreListed f n types ks js = (i k : ℕ) → slice_get ks i ≡ Some k → TypeIsListed f n types k js
+
+-- each in these goals
+abbrev pub GoalsAreListed : System → ℕ → List Asked → List (Ty × Ty) → Type 0
+GoalsAreListed f n xs js = (i : ℕ) (a : Asked) → slice_get xs i ≡ Some a → WrittenAreListed f n js a.parts
+
+-- each in what the expressions of the body need
+abbrev pub ExprsAreListed : RawFacts → System → RawBody → InferenceResult → List (Ty × Ty) → Type 0
+ExprsAreListed raw f b r js = (i : ℕ) (x : RawExpr) → slice_get b.exprs i ≡ Some x → GoalsAreListed f raw.limits.goal_depth (needs_of raw (Some x) (recorded r.type_of_expr i)) js
+
+-- and in what patterns need of which these are the items
+abbrev pub ItemsAreListed : RawFacts → System → List (Option Ty) → List (Ty × Ty) → Type 0
+ItemsAreListed raw f ts js = (i : ℕ) (o : Option Ty) → slice_get ts i ≡ Some o → GoalsAreListed f raw.limits.goal_depth (pat_needs_of raw o) js
+
+-- what each of these patterns needs can be proved
+abbrev pub CanItemsBeProved : RawFacts → List (Option Ty) → Type 0
+CanItemsBeProved raw ts = (i : ℕ) (o : Option Ty) → slice_get ts i ≡ Some o → AreProvable (pat_needs_of raw o)
+
+-- each in all of these
+pub record AreAllListed (raw : RawFacts) (d : DefWithBodyId) (b : RawBody) (r : InferenceResult) (f : System) (js : List (Ty × Ty)) : Type 0 where
+  pub own : TypesAreListed f raw.limits.goal_depth raw.types (aliases_of raw d) js
+  pub lets : TypesAreListed f raw.limits.goal_depth raw.types (let_aliases raw.types b) js
+  pub exprs : ExprsAreListed raw f b r js
+  pub pats : ItemsAreListed raw f r.item_of_pat js
