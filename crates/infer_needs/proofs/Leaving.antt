@@ -34,7 +34,9 @@ use Rattle.infer_result.specs.Projections.{IsPartOf, stays_at, StaysOrIsListed, 
 use Rattle.infer_needs.specs.Judged.{HasProofOf, IsEntry, AreEntries}
 use Rattle.infer_needs.specs.Left.{WasRead, WereRead, AddsRead, Lists, staying_head, NoneHere, NoneStands, StandsInType, StandsInMismatch, StandsInDiagnostic, EachIn, EachOf}
 use Rattle.infer_needs.specs.Listed.{FindsIn}
+use Rattle.infer_needs.specs.Told.{AddsRootsOf}
 use Rattle.infer_needs.proofs.Adding.{adds_none, adds_then, entry_later, entries_later, lists_none, lists_then}
+use Rattle.infer_needs.proofs.Rooted.{roots_none, roots_more}
 use Rattle.infer_needs.proofs.ReadsYes.{reads_one, reads_read}
 
 -- ---- what stays so
@@ -79,11 +81,12 @@ module _ (f : System) (n : ℕ) (js ks : List (Ty × Ty)) (l : IsFront js ks) wh
 
 module _ (raw : RawFacts) (f : System) where
   pub read_none : (ps : List Proof) (js : List (Ty × Ty)) → AddsRead raw f ps ps js js
-  read_none ps js = record { adds = adds_none raw f ps; lists = lists_none ps ps js (front_itself ps); read = λ h. h }
+  read_none ps js = record { adds = adds_none raw f ps; roots = roots_none [] ps; lists = lists_none ps ps js (front_itself ps); read = λ h. h }
 
   pub read_then : (ps qs rs : List Proof) (js ks ls : List (Ty × Ty)) → AddsRead raw f ps qs js ks → AddsRead raw f qs rs ks ls → AddsRead raw f ps rs js ls
   read_then ps qs rs js ks ls a b = record {
     adds = adds_then raw f ps qs rs a.adds b.adds;
+    roots = roots_more [] ps qs rs a.roots b.roots;
     lists = lists_then ps qs rs js ks ls a.lists b.lists;
     read = λ h. b.read (a.read h);
   }
@@ -142,7 +145,7 @@ module _ (raw : RawFacts) (f : System) (k : TypeAliasId) (w : Term) (zs : List G
     reads_unknown js h xs e u r = inr (inr (subst (λ (a : Asked). HoldsUnknown a.parts) (same_goal xs u e r) h))
 
     -- its entry is added
-    module _ (ps qs : List Proof) (js : List (Ty × Ty)) (adds : AddsProofs raw f ps qs) (args_read : IsRead (chain (map arg_term zs))) (proved : HasProofOf qs (asked_goal (goal.Projection k zs v))) (known : HoldsUnknown (asked_goal (goal.Projection k zs v)).parts → ⊥) (other : term v ≡ stays_at k zs → ⊥) (written : IsWritten (asked_goal (goal.Projection k zs v)).parts) (here : WereRead f n js) where
+    module _ (ps qs : List Proof) (js : List (Ty × Ty)) (adds : AddsProofs raw f ps qs) (roots : AddsRootsOf [] ps qs) (args_read : IsRead (chain (map arg_term zs))) (proved : HasProofOf qs (asked_goal (goal.Projection k zs v))) (known : HoldsUnknown (asked_goal (goal.Projection k zs v)).parts → ⊥) (other : term v ≡ stays_at k zs → ⊥) (written : IsWritten (asked_goal (goal.Projection k zs v)).parts) (here : WereRead f n js) where
       abbrev more : List (Ty × Ty)
       more = js ++ (ty.Projection k zs, v) ∷ []
 
@@ -160,7 +163,7 @@ module _ (raw : RawFacts) (f : System) (k : TypeAliasId) (w : Term) (zs : List G
 
       pub lists_reading : Lists raw f Settled ps qs js more
       lists_reading = record {
-        adds = record { adds = adds; lists = record { behind = ((ty.Projection k zs, v) ∷ [], refl); right = entries }; read = were };
+        adds = record { adds = adds; roots = roots; lists = record { behind = ((ty.Projection k zs, v) ∷ [], refl); right = entries }; read = were };
         none = reads_listed more (length js) (get_last js (ty.Projection k zs, v));
       }
 

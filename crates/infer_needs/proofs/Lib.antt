@@ -4,6 +4,7 @@ pub mod NoPlaceholders
 pub mod Provable
 pub mod Telling
 pub mod Adding
+pub mod Rooted
 pub mod Judging
 pub mod Opening
 pub mod ReadsYes

@@ -30,6 +30,7 @@ use Rattle.infer_result.specs.CannotHold.{CannotHold, MayHold}
 use Rattle.infer_result.specs.Needs.{HoldsUnknown, Saying, gap_says, needs_of, needs_at, pat_needs_at}
 use Rattle.infer_result.specs.Table.{recorded}
 use Rattle.infer_needs.specs.Listed.{FindsIn}
+use Rattle.infer_needs.specs.Told.{AddsRootsOf}
 
 -- ---- goals that can be proved
 
@@ -111,9 +112,10 @@ IsNoted f n e a ps js ks gs hs =
     ((ks ≡ js) × (hs ≡ gs) × ((b : Asked) → ReadsAbout f n a b → ⊥))
     ⊎ ((s : SaysAlias f n a ps) × IsListedNow e (ty.Projection s.alias s.args) s.type js ks gs hs)
 
--- so it is once these proofs are added
+-- so it is once these proofs are added, none of a goal about a trait, but for others
 pub record Notes (raw : RawFacts) (f : System) (e : ExprOrPatId) (a : Asked) (ps qs : List Proof) (js ks : List (Ty × Ty)) (gs hs : List Gap) : Type 0 where
   pub adds : AddsProofs raw f ps qs
+  pub roots : AddsRootsOf [] ps qs
   pub noted : IsNoted f raw.limits.goal_depth e a qs js ks gs hs
 
 -- ---- one goal

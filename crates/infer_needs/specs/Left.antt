@@ -1,5 +1,5 @@
 -- Associated types in the types of a table: each that could be read is listed with what it reads as.
-use Rattle.std.specs.Prelude.{◌≡◌, ◌⊎◌, ℕ, List, slice_get, Option, Some, None}
+use Rattle.std.specs.Prelude.{◌≡◌, ◌⊎◌, ℕ, List, [], slice_get, Option, Some, None}
 use Rattle.hir_types.specs.declared.ids.ExprId.{ExprId}
 use Rattle.hir_types.specs.declared.ids.TypeAliasId.{TypeAliasId}
 use Rattle.hir_types.specs.declared.ty.GenericArg.{GenericArg}
@@ -19,6 +19,7 @@ use Rattle.infer_result.specs.declared.diagnostics.InferenceDiagnostic.{Inferenc
 use Rattle.infer_result.specs.declared.diagnostics.InferenceDiagnostic.TheVariants as diagnostic
 use Rattle.infer_result.specs.Projections.{IsPartOf, stays_at, StaysOrIsListed}
 use Rattle.infer_needs.specs.Judged.{AddsEntries}
+use Rattle.infer_needs.specs.Told.{AddsRootsOf}
 
 -- ---- what is listed
 
@@ -32,9 +33,10 @@ pub record WasRead (f : System) (n : ℕ) (x : Ty × Ty) : Type 0 where
 abbrev pub WereRead : System → ℕ → List (Ty × Ty) → Type 0
 WereRead f n js = (i : ℕ) (x : Ty × Ty) → slice_get js i ≡ Some x → WasRead f n x
 
--- proofs and entries come behind, of what was read if the first were
+-- proofs and entries come behind, of what was read if the first were; none is of a goal about a trait, but for others
 pub record AddsRead (raw : RawFacts) (f : System) (ps qs : List Proof) (js ks : List (Ty × Ty)) : Type 0 where
   pub adds : AddsProofs raw f ps qs
+  pub roots : AddsRootsOf [] ps qs
   pub lists : AddsEntries ps qs js ks
   pub read : WereRead f raw.limits.goal_depth js → WereRead f raw.limits.goal_depth ks
 

@@ -1,5 +1,5 @@
 -- What goals read as.
-use Rattle.std.specs.Prelude.{ℕ, List, Option, Some, None}
+use Rattle.std.specs.Prelude.{ℕ, List, [], ◌∷◌, Option, Some, None}
 use Rattle.hir_types.specs.declared.goal.Goal.{Goal}
 use Rattle.hir_raw.specs.declared.raw.RawFacts.{RawFacts}
 use Rattle.goal_answers.specs.Goals.{Asked, System}
@@ -9,6 +9,7 @@ use Rattle.goal_prove.specs.Entries.{AddsProofs}
 use Rattle.goal_prove.specs.Written.{IsWritten}
 use Rattle.infer_result.specs.Projections.{GoalReads}
 use Rattle.infer_needs.specs.Judged.{HasProofOf}
+use Rattle.infer_needs.specs.Told.{AddsRootsOf}
 
 -- it reads as this one, or as none
 abbrev pub IsGoalRead : System → ℕ → Asked → Option Goal → Type 0
@@ -23,4 +24,5 @@ IsWrittenIf None = Unit {0}
 -- proofs come behind, and one of them all is of the goal
 pub record AddsProofOf (raw : RawFacts) (f : System) (a : Asked) (ps qs : List Proof) : Type 0 where
   pub adds : AddsProofs raw f ps qs
+  pub roots : AddsRootsOf (a ∷ []) ps qs
   pub has : HasProofOf qs a

@@ -1,15 +1,18 @@
 -- Goals that nodes need, in their order, and what an inspector is told of them.
-use Rattle.std.specs.Prelude.{◌≡◌, ◌++◌, ℕ, zero, suc, List, [], ◌∷◌, length, Option, Some, None}
+use Rattle.std.specs.Prelude.{◌≡◌, ◌++◌, ℕ, zero, suc, List, [], ◌∷◌, length, slice_get, Option, Some, None}
 use Rattle.std.proofs.Common.{◌⊎◌, inl, inr}
 use denote.Ref.{MutBor}
 use Rattle.hir_types.specs.declared.ids.DefWithBodyId.{DefWithBodyId}
 use Rattle.hir_types.specs.declared.goal.Goal.{Goal}
+use Rattle.hir_types.specs.declared.goal.Goal.TheVariants as goal
 use Rattle.hir_raw.specs.declared.raw.RawBody.{RawBody}
 use Rattle.hir_raw.specs.declared.raw.RawFacts.{RawFacts}
 use Rattle.goal_answers.specs.Goals.{Asked, System}
 use Rattle.goal_search.specs.declared.answer.Answer.{Answer}
+use Rattle.goal_facts.specs.declared.proof.Proof.{Proof}
 use Rattle.goal_facts.specs.Goals.{asked_goal, IsAnswer}
 use Rattle.goal_facts.specs.Systems.{IsSystemOf}
+use Rattle.goal_prove.specs.Entries.{IsChild}
 use Rattle.infer_result.specs.declared.result.InferenceResult.{InferenceResult}
 use Rattle.infer_result.specs.Needs.{needs_at, pat_needs_at, scope_item}
 use Rattle.infer_result.specs.Places.{Given}
@@ -45,11 +48,39 @@ pub record ListsAnswers (f : System) (n : ℕ) (xs : List Asked) (before after :
   pub answers : AreAnswered f n xs told
   pub behind : after ≡ before ++ told
 
--- these are all that nodes of the body need, each with its answer
+-- ---- what is proved though no other proof asks for it
+
+-- the goal says that a trait is implemented
+abbrev pub IsAboutTrait : Goal → Type 0
+IsAboutTrait (goal.Trait t) = Unit {0}
+IsAboutTrait (goal.Projection k xs t) = ⊥
+
+abbrev pub IsOneOf : List Asked → Asked → Type 0
+IsOneOf xs a = (i : ℕ) × (slice_get xs i ≡ Some a)
+
+-- each proof of such a goal is asked for by another, or its goal is one of these
+pub record AreRootsOf (xs : List Asked) (ps : List Proof) : Type 0 where
+  pub each : (k : ℕ) (x : Proof) → slice_get ps k ≡ Some x → IsAboutTrait x.goal → IsChild ps k ⊎ IsOneOf xs (asked_goal x.goal)
+
+-- so it is of the last where it was of the first, if these are among the goals
+pub record AddsRootsOf (ys : List Asked) (ps qs : List Proof) : Type 0 where
+  pub later : (xs : List Asked) → ((a : Asked) → IsOneOf ys a → IsOneOf xs a) → AreRootsOf xs ps → AreRootsOf xs qs
+
+abbrev pub WasTold : List (Goal × Answer) → Asked → Type 0
+WasTold ts a = (i : ℕ) × (t : Goal × Answer) × (slice_get ts i ≡ Some t) × (asked_goal t.0 ≡ a)
+
+-- each proof of such a goal is asked for by another, or its goal was told
+abbrev pub RootsAreTold : List Proof → List (Goal × Answer) → Type 0
+RootsAreTold ps ts = (k : ℕ) (x : Proof) → slice_get ps k ≡ Some x → IsAboutTrait x.goal → IsChild ps k ⊎ WasTold ts (asked_goal x.goal)
+
+-- ---- of a body
+
+-- these are all that nodes of the body need, each with its answer; and no other goal about a trait has a proof that no proof asks for
 pub record AreAllAnswered (d : DefWithBodyId) (g : Given) (r : InferenceResult) (ts : List (Goal × Answer)) : Type 0 where
   pub system : System
   pub of_item : IsSystemOf g.scope.facts (scope_item g.scope.facts d) system
   pub answers : AreAnswered system g.scope.facts.limits.goal_depth (all_needs g.scope.facts g.body r) ts
+  pub roots : RootsAreTold r.proofs ts
 
 -- whose list this is was told of all that nodes of the body need, of each once, with its answer, and of nothing else
 pub record HearsAll (d : DefWithBodyId) (g : Given) (r : InferenceResult) (before after : List (Goal × Answer)) : Type 0 where

@@ -14,7 +14,7 @@ ghost use Rattle.infer_needs.specs.Left.{IsFinalType};
 ghost use Rattle.infer_needs.specs.Written.{AreAllListed};
 ghost use Rattle.infer_result.specs.Typed.{IsTableOf, given};
 ghost use Rattle.infer_needs.specs.Judged.{IsProvable, AreProvable, CanAllBeProved, CanPatsBeProved, IsSaidUnlessMay, IsJudged, AreJudged, AreAllJudged, ArePatsJudged};
-ghost use Rattle.infer_needs.specs.Told.{ListsAnswers, first_needs, first_pat_needs, AreAllAnswered};
+ghost use Rattle.infer_needs.specs.Told.{ListsAnswers, first_needs, first_pat_needs, AreAllAnswered, AddsRootsOf};
 
 use crate::found::Found;
 use crate::left::look_at_table;
@@ -94,6 +94,7 @@ fn prove_need(
     requires { IsProvable (asked_goal goal) }
     ensures judged { OnOk result (IsJudged sources.now.facts (system sources.now.sources) node goal proofs.old.items proofs.new.items found.old found.new gaps.old gaps.new) }
     ensures told { OnOk result (ListsAnswers (system sources.now.sources) sources.now.facts.limits.goal_depth (asked_goal goal ∷ []) told.old.items told.new.items) }
+    ensures roots { OnOk result (AddsRootsOf (asked_goal goal ∷ []) proofs.old.items proofs.new.items) }
 {
     match evaluate(alloc, sources, &goal, told)? {
         Answer::Yes => {
@@ -122,6 +123,7 @@ fn prove_each(
     requires { AreProvable (map asked_goal needed.items) }
     ensures judged { IfOk result (λ gaps. AreJudged sources.now.facts (system sources.now.sources) node (map asked_goal needed.items) proofs.old.items proofs.new.items found.old found.new gaps) }
     ensures told { OnOk result (ListsAnswers (system sources.now.sources) sources.now.facts.limits.goal_depth (map asked_goal needed.items) told.old.items told.new.items) }
+    ensures roots { OnOk result (AddsRootsOf (map asked_goal needed.items) proofs.old.items proofs.new.items) }
 {
     let mut gaps = List::new(alloc);
     for goal in needed {
@@ -144,6 +146,7 @@ fn prove_at(
     requires { AreProvable (needs_of sources.now.facts (Some expr.now) (recorded table.now.type_of_expr at)) }
     ensures judged { IfOk result (λ gaps. AreJudged sources.now.facts (system sources.now.sources) (node.ExprId (record { 0 = at })) (needs_of sources.now.facts (Some expr.now) (recorded table.now.type_of_expr at)) proofs.old.items proofs.new.items found.old found.new gaps) }
     ensures told { OnOk result (ListsAnswers (system sources.now.sources) sources.now.facts.limits.goal_depth (needs_of sources.now.facts (Some expr.now) (recorded table.now.type_of_expr at)) told.old.items told.new.items) }
+    ensures roots { OnOk result (AddsRootsOf (needs_of sources.now.facts (Some expr.now) (recorded table.now.type_of_expr at)) proofs.old.items proofs.new.items) }
 {
     let node = ExprOrPatId::ExprId(expr_id(at)?);
     match table.type_of_expr_or_pat(node) {
@@ -169,6 +172,7 @@ fn prove_pat(
     requires { AreProvable (pat_needs_at sources.now.facts table.now at) }
     ensures judged { IfOk result (λ gaps. AreJudged sources.now.facts (system sources.now.sources) (node.PatId (record { 0 = at })) (pat_needs_at sources.now.facts table.now at) proofs.old.items proofs.new.items found.old found.new gaps) }
     ensures told { OnOk result (ListsAnswers (system sources.now.sources) sources.now.facts.limits.goal_depth (pat_needs_at sources.now.facts table.now at) told.old.items told.new.items) }
+    ensures roots { OnOk result (AddsRootsOf (pat_needs_at sources.now.facts table.now at) proofs.old.items proofs.new.items) }
 {
     let pat = pat_id(at)?;
     match table.item_of_pat(pat) {
@@ -195,6 +199,7 @@ fn prove_pats(
     requires { CanPatsBeProved sources.now.facts table.now }
     ensures judged { IfOk result (λ gaps. ArePatsJudged sources.now.facts (system sources.now.sources) table.now (length body.now.pats) proofs.old.items proofs.new.items found.old found.new gaps) }
     ensures told { OnOk result (ListsAnswers (system sources.now.sources) sources.now.facts.limits.goal_depth (first_pat_needs sources.now.facts table.now (length body.now.pats)) told.old.items told.new.items) }
+    ensures roots { OnOk result (AddsRootsOf (first_pat_needs sources.now.facts table.now (length body.now.pats)) proofs.old.items proofs.new.items) }
 {
     let mut gaps = List::new(alloc);
     for at in 0..body.pats.len() {
@@ -221,6 +226,7 @@ fn prove_exprs(
     ensures judged { IfOk result (λ made. AreAllJudged sources.now.facts (system sources.now.sources) body.now table.now (length body.now.exprs) made.0.items made.1 made.2) }
     ensures written { IfOk result (λ made. AreAllListed sources.now.facts def body.now table.now (system sources.now.sources) made.1) }
     ensures told { OnOk result (ListsAnswers (system sources.now.sources) sources.now.facts.limits.goal_depth (first_needs sources.now.facts body.now table.now (length body.now.exprs)) told.old.items told.new.items) }
+    ensures roots { IfOk result (λ made. AddsRootsOf (first_needs sources.now.facts body.now table.now (length body.now.exprs)) [] made.0.items) }
 {
     let mut proofs = Vec::new(alloc);
     let mut found = Found::new(alloc);
@@ -249,8 +255,8 @@ fn prove_exprs(
 /// predicates of each item, and then of the patterns: these are given back, each with its answer. What associated
 /// types were found to be is listed, each once; where one is another type at a node, this is said there. In no type
 /// of the table is one left that could be read, unless what it is is listed; and so is what each is that the
-/// definition, its `let`s and those goals are written with. Nothing else of the table changes. The one error is want
-/// of memory.
+/// definition, its `let`s and those goals are written with. Each listed proof of a goal about a trait is one that
+/// another asks for, or of a goal that was told. Nothing else of the table changes. The one error is want of memory.
 pub fn prove_needs(
     alloc: Global,
     facts: &Facts,

@@ -1,4 +1,4 @@
-use Rattle.std.proofs.Common.{◌≡◌, ◌∙◌, inl, inr, refl, sym, ap, subst, true≢false}
+use Rattle.std.proofs.Common.{◌≡◌, ◌∙◌, [], inl, inr, refl, sym, ap, subst, true≢false}
 use Rattle.std.proofs.lemmas.Result.{on_ok_weaker}
 use Rattle.hir_types.specs.declared.goal.Goal.TheVariants as the_goal
 use Rattle.goal_search.specs.Sources.{system}
@@ -8,6 +8,7 @@ use Rattle.infer_result.specs.Projections.{GoalReads, IsAboutAlias}
 use Rattle.infer_needs.specs.Judged.{HasProofOf, SaysAlias}
 use Rattle.infer_needs.specs.Read.{IsGoalRead, IsWrittenIf}
 use Rattle.infer_needs.proofs.Adding.{adds_none}
+use Rattle.infer_needs.proofs.Rooted.{roots_none, roots_other_than}
 use Rattle.infer_needs.proofs.ReadGoals.{reads_same, read_yes, trait_not_about, about_is_other}
 use Rattle.infer_needs.proofs.note.note_read.Goals as goal
 
@@ -18,6 +19,7 @@ returns-in_default c =
     let none = subst (IsGoalRead f raw.limits.goal_depth (asked_goal c.args.goal.now)) c.in_default.is c.in_ok-read.ensures.read in
     record {
       adds = adds_none raw f c.args.proofs.now.items;
+      roots = roots_none [] c.args.proofs.now.items;
       noted = inl (refl, refl, λ b about. none b about.reads);
     }
 
@@ -29,6 +31,7 @@ returns-then-not-branch c =
     let reads = subst (IsGoalRead f raw.limits.goal_depth a) c.in-Some.is c.in_ok-read.ensures.read in
     record {
       adds = adds_none raw f c.args.proofs.now.items;
+      roots = roots_none [] c.args.proofs.now.items;
       noted = inl (
         refl,
         refl,
@@ -64,7 +67,8 @@ returns-in-Projection c =
     let xs = c.in-Projection.args in
     let t = c.in-Projection.ty in
     let is : read ≡ the_goal.Projection k xs t = c.in-Projection.is in
-    let about = subst (λ g. IsAboutAlias (asked_goal g)) is (c.in_ok-is_about_alias.ensures.0 c.if-not-branch.false) in
+    let read_about = c.in_ok-is_about_alias.ensures.0 c.if-not-branch.false in
+    let about = subst (λ g. IsAboutAlias (asked_goal g)) is read_about in
     let says : SaysAlias f n a c.prove_read.new.proofs.items = record {
       alias = k;
       args = xs;
@@ -75,4 +79,5 @@ returns-in-Projection c =
       other = about_is_other k xs t about;
       written = subst (λ g. IsWritten (asked_goal g).parts) is (subst IsWrittenIf c.in-Some.is c.in_ok-read.ensures.written);
     } in
-    on_ok_weaker c.list.result (λ listed. record { adds = c.in_ok-prove_read.ensures.adds; noted = inr (says, listed) }) c.list.ensures
+    let roots = roots_other_than (asked_goal read) read_about c.args.proofs.now.items c.prove_read.new.proofs.items c.in_ok-prove_read.ensures.roots in
+    on_ok_weaker c.list.result (λ listed. record { adds = c.in_ok-prove_read.ensures.adds; roots = roots; noted = inr (says, listed) }) c.list.ensures

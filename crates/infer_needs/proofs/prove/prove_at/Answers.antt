@@ -6,9 +6,10 @@ use Rattle.goal_facts.specs.Goals.{asked_goal}
 use Rattle.infer_result.specs.Needs.{needs_of}
 use Rattle.infer_result.specs.Table.{recorded}
 use Rattle.infer_needs.specs.Judged.{AreProvable}
-use Rattle.infer_needs.specs.Told.{ListsAnswers}
+use Rattle.infer_needs.specs.Told.{ListsAnswers, AddsRootsOf}
 use Rattle.infer_needs.proofs.Provable.{needed_here}
 use Rattle.infer_needs.proofs.Judging.{judged_at}
+use Rattle.infer_needs.proofs.Rooted.{roots_none}
 use Rattle.infer_needs.proofs.prove.prove_at.Goals as goal
 
 pub prove_each-requires : goal.prove_each-requires
@@ -31,4 +32,8 @@ returns-in_ok-gaps-in-Some c =
     record {
       judged = judged_at raw f (node.ExprId c.in_ok-expr_id.field-0) (node.ExprId (record { 0 = c.args.at })) gs (needs_of raw (Some x) (recorded types c.args.at)) c.args.proofs.now.items new.proofs.items c.args.found.now new.found c.in_ok-gaps-in-Some.gaps here all c.in_ok-gaps-in-Some.ensures.judged;
       told = subst (λ xs. ListsAnswers f raw.limits.goal_depth xs c.args.told.now.items new.told.items) all c.in_ok-gaps-in-Some.ensures.told;
+      roots = subst (λ xs. AddsRootsOf xs c.args.proofs.now.items new.proofs.items) all c.in_ok-gaps-in-Some.ensures.roots;
     }
+
+pub returns-in-None-clause-roots : goal.returns-in-None-clause-roots
+returns-in-None-clause-roots c = roots_none _ c.args.proofs.now.items

@@ -5,8 +5,9 @@ use Rattle.std.specs.Vec.Iter.{into_iter_items}
 use Rattle.goal_search.specs.Sources.{system}
 use Rattle.goal_facts.specs.Goals.{asked_goal}
 use Rattle.infer_needs.specs.Judged.{AreJudged}
-use Rattle.infer_needs.specs.Told.{ListsAnswers}
+use Rattle.infer_needs.specs.Told.{ListsAnswers, AddsRootsOf}
 use Rattle.infer_needs.proofs.Telling.{tells_none, tells_both}
+use Rattle.infer_needs.proofs.Rooted.{roots_none, roots_both}
 use Rattle.infer_needs.proofs.Judging.{judged_none, judged_more, next_provable, all_asked, asked_more}
 use Rattle.infer_needs.proofs.prove.prove_each.Goals as goal
 
@@ -19,6 +20,7 @@ loop-goal-init c =
       long = cc;
       judged = rw c.new-gaps.ensures (judged_none raw f c.args.node c.args.proofs.now.items c.args.found.now);
       told = tells_none f raw.limits.goal_depth c.args.told.now.items;
+      roots = roots_none [] c.args.proofs.now.items;
     }
 
 pub prove_need-requires : goal.prove_need-requires
@@ -47,6 +49,8 @@ loop-goal-preserved c =
           (judged_more raw f c.args.node (map asked_goal at.yielded) x c.args.proofs.now.items at.proofs.items new.proofs.items c.args.found.now at.found new.found at.gaps new.gaps at.invariant.judged done.judged);
       told = subst (λ xs. ListsAnswers f n xs c.args.told.now.items new.told.items) more
           (tells_both f n (map asked_goal at.yielded) (asked_goal x ∷ []) c.args.told.now.items at.told.items new.told.items at.invariant.told done.told);
+      roots = subst (λ xs. AddsRootsOf xs c.args.proofs.now.items new.proofs.items) more
+          (roots_both (map asked_goal at.yielded) (asked_goal x ∷ []) c.args.proofs.now.items at.proofs.items new.proofs.items at.invariant.roots done.roots);
     }
 
 pub returns-clause-judged : goal.returns-clause-judged
@@ -68,3 +72,12 @@ returns-clause-told c =
     let empty : into_iter_items at.goal-iterator ≡ [] = nil_from_length _ (sym at.invariant.long ∙ c.in-None.ensures.steps.0) in
     let all = all_asked (map asked_goal gs) at.yielded (into_iter_items at.goal-iterator) gs refl whole empty in
     subst (λ ys. ListsAnswers (system c.args.sources.now.sources) raw.limits.goal_depth ys c.args.told.now.items at.told.items) all at.invariant.told
+
+pub returns-clause-roots : goal.returns-clause-roots
+returns-clause-roots c =
+    let at = c.loop-goal in
+    let gs = c.args.needed.items in
+    let whole = at.invariant.items ∙ c.into_iter-goal-iterator.ensures.into_iter_gives.0 in
+    let empty : into_iter_items at.goal-iterator ≡ [] = nil_from_length _ (sym at.invariant.long ∙ c.in-None.ensures.steps.0) in
+    let all = all_asked (map asked_goal gs) at.yielded (into_iter_items at.goal-iterator) gs refl whole empty in
+    subst (λ ys. AddsRootsOf ys c.args.proofs.now.items at.proofs.items) all at.invariant.roots

@@ -3,7 +3,7 @@ use Rattle.std.specs.Vec.Iter.{into_iter_items, into_iter_len}
 use Rattle.goal_search.specs.Sources.{system}
 use Rattle.goal_facts.specs.Goals.{asked_goal}
 use Rattle.infer_needs.specs.Judged.{AreJudged}
-use Rattle.infer_needs.specs.Told.{ListsAnswers}
+use Rattle.infer_needs.specs.Told.{ListsAnswers, AddsRootsOf}
 use Rattle.infer_needs.proofs.prove.prove_each.Given as goal
 
 abbrev pub invariant-loop-goal : goal.invariant-loop-goal
@@ -12,4 +12,5 @@ invariant-loop-goal l = record {
   long : into_iter_len l.goal-iterator ≡ length (into_iter_items l.goal-iterator);
   judged : AreJudged l.sources.facts (system l.sources.sources) l.node (map asked_goal l.yielded) l.fn.proofs.items l.proofs.items l.fn.found l.found l.gaps;
   told : ListsAnswers (system l.sources.sources) l.sources.facts.limits.goal_depth (map asked_goal l.yielded) l.fn.told.items l.told.items;
+  roots : AddsRootsOf (map asked_goal l.yielded) l.fn.proofs.items l.proofs.items;
 }

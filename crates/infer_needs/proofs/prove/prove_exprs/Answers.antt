@@ -1,12 +1,13 @@
-use Rattle.std.proofs.Common.{◌≡◌, ◌+◌, refl, sym, ap, ◌∙◌, subst}
+use Rattle.std.proofs.Common.{◌≡◌, ◌+◌, [], length, refl, sym, ap, ◌∙◌, subst, arith}
 use Rattle.std.specs.Prelude.{Some, slice_get}
 use Rattle.std.proofs.lemmas.Option.{slice_get_read}
 use Rattle.goal_search.specs.Sources.{system}
 use Rattle.infer_needs.specs.Judged.{AreAllJudged}
 use Rattle.infer_result.specs.Needs.{needs_at}
 use Rattle.infer_needs.specs.Left.{WereRead}
-use Rattle.infer_needs.specs.Told.{ListsAnswers, first_needs}
+use Rattle.infer_needs.specs.Told.{ListsAnswers, AddsRootsOf, first_needs}
 use Rattle.infer_needs.proofs.Telling.{tells_none, tells_both, tells_here, first_more}
+use Rattle.infer_needs.proofs.Rooted.{roots_both, roots_here}
 use Rattle.infer_needs.proofs.Judging.{all_none, all_more, judged_here}
 use Rattle.infer_needs.proofs.Writing.{all_listed_later, lists_left_and}
 use Rattle.infer_needs.proofs.prove.prove_exprs.Goals as goal
@@ -28,6 +29,7 @@ loop-at-init c =
           (all_none raw f b r new.proofs.items new.found (rw (c.new-found.ensures, c.new-proofs.ensures.items) at left));
       written = c.in_ok-look_at_written.ensures.none;
       told = tells_none f raw.limits.goal_depth c.args.told.now.items;
+      roots = subst (λ ps. AddsRootsOf [] ps new.proofs.items) c.new-proofs.ensures.items left.adds.roots;
     }
 
 pub prove_at-requires : goal.prove_at-requires
@@ -54,4 +56,13 @@ loop-at-preserved c =
       written = all_listed_later raw c.args.def b r f at.found new.found done.judged.lists.behind at.invariant.written;
       told = subst (λ xs. ListsAnswers f n xs c.args.told.now.items new.told.items) (first_more raw b r at.at)
           (tells_both f n (first_needs raw b r at.at) (needs_at raw b r at.at) c.args.told.now.items at.told.items new.told.items at.invariant.told (tells_here f n raw b r at.at x at.told.items new.told.items found done.told));
+      roots = subst (λ xs. AddsRootsOf xs [] new.proofs.items) (first_more raw b r at.at)
+          (roots_both (first_needs raw b r at.at) (needs_at raw b r at.at) [] at.proofs.items new.proofs.items at.invariant.roots (roots_here raw b r at.at x at.proofs.items new.proofs.items found done.roots));
     }
+
+pub returns-clause-roots : goal.returns-clause-roots
+returns-clause-roots c =
+    let at = c.loop-at in
+    let long = ap length c.as_slice-expr-items.ensures in
+    let end : at.at ≡ length c.args.body.now.exprs = omega (arith, long) in
+    subst (λ n. AddsRootsOf (first_needs c.args.sources.now.facts c.args.body.now c.args.table.now n) [] at.proofs.items) end at.invariant.roots

@@ -1,4 +1,4 @@
-use Rattle.std.proofs.Common.{◌≡◌, ◌∙◌, inl, sym, ap, subst}
+use Rattle.std.proofs.Common.{◌≡◌, ◌∙◌, [], ◌∷◌, inl, sym, ap, subst}
 use Rattle.hir_raw.specs.declared.raw.RawFacts.{RawFacts}
 use Rattle.goal_answers.specs.Answers.{answers}
 use Rattle.goal_search.specs.Sources.{system}
@@ -7,6 +7,7 @@ use Rattle.infer_needs.proofs.Adding.{adds_then, has_later}
 use Rattle.infer_needs.proofs.Telling.{tells_one}
 use Rattle.infer_needs.proofs.Judging.{refused, not_yes}
 use Rattle.infer_needs.proofs.ReadGoals.{proved_yes}
+use Rattle.infer_needs.proofs.Rooted.{roots_none, roots_proved, roots_aside}
 use Rattle.infer_needs.proofs.prove.prove_need.Goals as goal
 
 pub note-requires-clause-yes : goal.note-requires-clause-yes
@@ -36,13 +37,16 @@ returns-in_ok-note-in-Yes c =
     let last = c.note.new.proofs.items in
     let has = proved_yes f c.raw.result.now.limits.goal_depth first c.args.goal c.in_ok-prove_goal-in-Yes.field-0 (subst (λ n. (answers f n).Yes a) (sym depth) yes) c.in_ok-prove_goal-in-Yes.ensures.proved in
     let notes = c.in_ok-note-in-Yes.ensures in
+    let proved = c.in_ok-prove_goal-in-Yes.ensures in
     record {
       judged = inl (record {
-        adds = adds_then raw f c.args.proofs.now.items first last c.in_ok-prove_goal-in-Yes.ensures.adds notes.adds;
+        adds = adds_then raw f c.args.proofs.now.items first last proved.adds notes.adds;
         has = has_later first last a notes.adds.behind has;
         noted = notes.noted;
       });
       told = tells_one f raw.limits.goal_depth c.args.goal answer c.args.told.now.items c.evaluate.new.told.items told.answer told.told;
+      roots = roots_aside (a ∷ []) c.args.proofs.now.items first last
+          (roots_proved f c.raw.result.now.limits.goal_depth c.args.goal c.args.proofs.now.items first c.in_ok-prove_goal-in-Yes.field-0 proved.adds.behind proved.roots proved.proved) notes.roots;
     }
 
 pub returns-in_ok-complain-in-No : goal.returns-in_ok-complain-in-No
@@ -54,4 +58,5 @@ returns-in_ok-complain-in-No c =
     record {
       judged = refused raw f c.args.node c.args.goal c.args.proofs.now.items c.args.found.now c.args.gaps.now c.complain.new.gaps (not_yes f raw.limits.goal_depth (asked_goal c.args.goal) answer c.in-No.is told.answer) c.in_ok-complain-in-No.ensures;
       told = tells_one f raw.limits.goal_depth c.args.goal answer c.args.told.now.items c.evaluate.new.told.items told.answer told.told;
+      roots = roots_none (asked_goal c.args.goal ∷ []) c.args.proofs.now.items;
     }

@@ -1,4 +1,4 @@
-use Rattle.std.proofs.Common.{◌≡◌, ◌++◌, List, length, sym, ap, ◌∙◌, subst}
+use Rattle.std.proofs.Common.{◌≡◌, ◌++◌, [], List, length, sym, ap, ◌∙◌, subst}
 use Rattle.std.specs.Prelude.{Some}
 use Rattle.hir_types.specs.declared.goal.Goal.{Goal}
 use Rattle.hir_types.specs.declared.ids.DefWithBodyId.{DefWithBodyId}
@@ -19,8 +19,9 @@ use Rattle.infer_result.specs.Typed.{given}
 use Rattle.infer_result.specs.WrittenAliases.{AllWrittenAreListed}
 use Rattle.infer_needs.specs.Judged.{AreProvable, AreAllJudged, ArePatsJudged}
 use Rattle.infer_needs.specs.Written.{AreAllListed}
-use Rattle.infer_needs.specs.Told.{first_needs, first_pat_needs, all_needs, AreAnswered}
+use Rattle.infer_needs.specs.Told.{first_needs, first_pat_needs, all_needs, AreAnswered, RootsAreTold}
 use Rattle.infer_needs.proofs.Telling.{tells_both, needs_stay}
+use Rattle.infer_needs.proofs.Rooted.{roots_both, roots_told}
 use Rattle.infer_needs.proofs.Provable.{needs_provable, node_provable, table_final, pat_needs_provable, as_many_items}
 use Rattle.infer_needs.proofs.Holding.{same_body, goals_hold, has_none_left}
 use Rattle.infer_needs.proofs.Writing.{all_listed_later, all_written}
@@ -136,12 +137,17 @@ returns-clause-told c b is =
     let same : body ≡ b = same_body raw d c.in-Some.id body b (sym c.body_id.ensures ∙ c.in-Some.is) c.body-body.ensures is in
     let first = c.new-told.result.items in
     let last = c.prove_pats.new.told.items in
-    let listed = tells_both f n (first_needs made.facts body r (length body.exprs)) (first_pat_needs made.facts r (length body.pats)) first c.prove_exprs.new.told.items last c.in_ok-proofs.ensures.told c.in_ok-pat_gaps.ensures.told in
+    let exprs = first_needs made.facts body r (length body.exprs) in
+    let pats = first_pat_needs made.facts r (length body.pats) in
+    let listed = tells_both f n exprs pats first c.prove_exprs.new.told.items last c.in_ok-proofs.ensures.told c.in_ok-pat_gaps.ensures.told in
     let all : last ≡ listed.told = listed.behind ∙ ap (λ (ts : List (Goal × Answer)). ts ++ listed.told) c.new-told.ensures.items in
+    let qs = c.prove_pats.new.proofs.items in
+    let roots = roots_both exprs pats [] c.in_ok-proofs.proofs.items qs c.in_ok-proofs.ensures.roots c.in_ok-pat_gaps.ensures.roots in
     record {
       system = f;
       of_item = subst (λ i. IsSystemOf raw i f) item (subst (λ z. IsSystemOf z made.item f) facts c.lawful-2.ensures);
       answers = subst (λ xs. AreAnswered f raw.limits.goal_depth xs last) (sym (needs_stay raw b r c.from_vec.result c.from_vec-2.result c.in_ok-proofs.gaps c.in_ok-pat_gaps.pat_gaps))
           (subst (AreAnswered f raw.limits.goal_depth (all_needs raw b r)) (sym all)
           (subst (λ x. AreAnswered f raw.limits.goal_depth (all_needs raw x r) listed.told) same (subst (λ (z : RawFacts). AreAnswered f z.limits.goal_depth (all_needs z body r) listed.told) facts listed.answers)));
+      roots = subst (λ ps. RootsAreTold ps last) (sym c.from_vec.ensures) (subst (RootsAreTold qs) (sym all) (roots_told f n (exprs ++ pats) qs listed.told roots listed.answers));
     }

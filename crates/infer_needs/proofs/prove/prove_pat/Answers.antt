@@ -5,9 +5,10 @@ use Rattle.goal_answers.specs.Goals.{Asked}
 use Rattle.goal_facts.specs.Goals.{asked_goal}
 use Rattle.infer_result.specs.Needs.{pat_needs_at}
 use Rattle.infer_needs.specs.Judged.{AreProvable}
-use Rattle.infer_needs.specs.Told.{ListsAnswers}
+use Rattle.infer_needs.specs.Told.{ListsAnswers, AddsRootsOf}
 use Rattle.infer_needs.proofs.Provable.{pat_needed_here}
 use Rattle.infer_needs.proofs.Judging.{judged_at}
+use Rattle.infer_needs.proofs.Rooted.{roots_none}
 use Rattle.infer_needs.proofs.prove.prove_pat.Goals as goal
 
 pub prove_each-requires : goal.prove_each-requires
@@ -28,4 +29,8 @@ returns-in_ok-gaps-in-Some c =
     record {
       judged = judged_at raw f (node.PatId c.in_ok-pat.pat) (node.PatId (record { 0 = c.args.at })) gs (pat_needs_at raw r c.args.at) c.args.proofs.now.items new.proofs.items c.args.found.now new.found c.in_ok-gaps-in-Some.gaps here all c.in_ok-gaps-in-Some.ensures.judged;
       told = subst (λ xs. ListsAnswers f raw.limits.goal_depth xs c.args.told.now.items new.told.items) all c.in_ok-gaps-in-Some.ensures.told;
+      roots = subst (λ xs. AddsRootsOf xs c.args.proofs.now.items new.proofs.items) all c.in_ok-gaps-in-Some.ensures.roots;
     }
+
+pub returns-in-None-clause-roots : goal.returns-in-None-clause-roots
+returns-in-None-clause-roots c = roots_none _ c.args.proofs.now.items

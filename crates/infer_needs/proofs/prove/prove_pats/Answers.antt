@@ -1,9 +1,10 @@
-use Rattle.std.proofs.Common.{◌+◌, sym, subst}
+use Rattle.std.proofs.Common.{◌+◌, [], sym, subst}
 use Rattle.goal_search.specs.Sources.{system}
 use Rattle.infer_result.specs.Needs.{pat_needs_at}
 use Rattle.infer_needs.specs.Judged.{ArePatsJudged}
-use Rattle.infer_needs.specs.Told.{ListsAnswers, first_pat_needs}
+use Rattle.infer_needs.specs.Told.{ListsAnswers, AddsRootsOf, first_pat_needs}
 use Rattle.infer_needs.proofs.Telling.{tells_none, tells_both, first_pat_more}
+use Rattle.infer_needs.proofs.Rooted.{roots_none, roots_both}
 use Rattle.infer_needs.proofs.Judging.{pats_none, pats_more}
 use Rattle.infer_needs.proofs.prove.prove_pats.Goals as goal
 
@@ -14,6 +15,7 @@ loop-at-init c =
     record {
       judged = rw c.new-gaps.ensures (pats_none raw f c.args.table.now c.args.proofs.now.items c.args.found.now);
       told = tells_none f raw.limits.goal_depth c.args.told.now.items;
+      roots = roots_none [] c.args.proofs.now.items;
     }
 
 pub loop-at-preserved : goal.loop-at-preserved
@@ -30,4 +32,6 @@ loop-at-preserved c =
           (pats_more raw f r at.at c.args.proofs.now.items at.proofs.items new.proofs.items c.args.found.now at.found new.found at.gaps c.in_ok-here.here at.invariant.judged done.judged);
       told = subst (λ xs. ListsAnswers f n xs c.args.told.now.items new.told.items) (first_pat_more raw r at.at)
           (tells_both f n (first_pat_needs raw r at.at) (pat_needs_at raw r at.at) c.args.told.now.items at.told.items new.told.items at.invariant.told done.told);
+      roots = subst (λ xs. AddsRootsOf xs c.args.proofs.now.items new.proofs.items) (first_pat_more raw r at.at)
+          (roots_both (first_pat_needs raw r at.at) (pat_needs_at raw r at.at) c.args.proofs.now.items at.proofs.items new.proofs.items at.invariant.roots done.roots);
     }

@@ -1,0 +1,137 @@
+-- Proofs that are added, as other proofs ask for them or they are of goals that were told.
+use Rattle.std.specs.Prelude.{◌≡◌, ◌⊎◌, ◌≤◌, ℕ, zero, suc, List, [], ◌∷◌, ◌++◌, length, slice_get, Option, Some, None}
+use Rattle.std.proofs.Common.{inl, inr, refl, sym, ap, ◌∙◌, subst, arith}
+use Rattle.std.proofs.lemmas.Option.{same_Some, slice_get_within}
+use Rattle.hir_types.specs.declared.goal.Goal.{Goal}
+use Rattle.hir_types.specs.declared.goal.Goal.TheVariants as goal
+use Rattle.hir_types.specs.declared.ty.TraitRef.{out-TraitRef}
+use Rattle.hir_raw.specs.declared.raw.RawBody.{RawBody}
+use Rattle.hir_raw.specs.declared.raw.RawExpr.{RawExpr}
+use Rattle.hir_raw.specs.declared.raw.RawFacts.{RawFacts}
+use Rattle.infer_table.specs.Table.{IsFront}
+use Rattle.infer_table.proofs.BindingLaws.{get_left, get_more}
+use Rattle.goal_answers.specs.Goals.{Asked, System, implements, projects}
+use Rattle.goal_search.specs.declared.answer.Answer.{Answer}
+use Rattle.goal_facts.specs.declared.proof.Proof.{Proof}
+use Rattle.goal_facts.specs.Goals.{asked_goal}
+use Rattle.goal_prove.specs.Entries.{IsProofAt, IsProvedIf, IsChild, AddsChildrenBut, AddsOneRoot}
+use Rattle.infer_result.specs.declared.result.InferenceResult.{InferenceResult}
+use Rattle.infer_result.specs.Needs.{needs_of, needs_at}
+use Rattle.infer_result.specs.Projections.{IsAboutAlias}
+use Rattle.infer_result.specs.Table.{recorded}
+use Rattle.infer_needs.specs.Told.{AreAnswered, IsAboutTrait, IsOneOf, AreRootsOf, AddsRootsOf, WasTold, RootsAreTold}
+use Rattle.goal_prove.proofs.Children.{child_later}
+
+-- ---- places of lists
+
+get_back : {X : Type 0} (xs ys : List X) (i : ℕ) (x : X) → slice_get (xs ++ ys) i ≡ Some x → (slice_get xs i ≡ Some x) ⊎ (length xs ≤ i)
+get_back [] ys i x e = inr (omega arith)
+get_back (z ∷ xs) ys zero x e = inl e
+get_back (z ∷ xs) ys (suc i) x e = elim (get_back xs ys i x e) [
+  | inl h ↦ inl h
+  | inr h ↦ inr (omega (arith, h))
+]
+
+one_left : (xs ys : List Asked) (a : Asked) → IsOneOf xs a → IsOneOf (xs ++ ys) a
+one_left xs ys a h = (h.0, get_left xs ys h.0 a h.1)
+
+one_right : (xs ys : List Asked) (a : Asked) → IsOneOf ys a → IsOneOf (xs ++ ys) a
+one_right [] ys a h = h
+one_right (x ∷ xs) ys a h = let r = one_right xs ys a h in (suc r.0, r.1)
+
+-- ---- proofs that are added
+
+pub roots_none : (ys : List Asked) (ps : List Proof) → AddsRootsOf ys ps ps
+roots_none ys ps = record { later = λ xs among h. h }
+
+-- of goals of two lists, of one and of none, or of one
+pub roots_both : (xs ys : List Asked) (ps qs rs : List Proof) → AddsRootsOf xs ps qs → AddsRootsOf ys qs rs → AddsRootsOf (xs ++ ys) ps rs
+roots_both xs ys ps qs rs before now = record { later = λ zs among h. now.later zs (λ a o. among a (one_right xs ys a o)) (before.later zs (λ a o. among a (one_left xs ys a o)) h) }
+
+pub roots_aside : (xs : List Asked) (ps qs rs : List Proof) → AddsRootsOf xs ps qs → AddsRootsOf [] qs rs → AddsRootsOf xs ps rs
+roots_aside xs ps qs rs before now = record { later = λ zs among h. now.later zs (λ a o. absurd (let none : None ≡ Some a = o.1 in cc)) (before.later zs among h) }
+
+pub roots_more : (xs : List Asked) (ps qs rs : List Proof) → AddsRootsOf xs ps qs → AddsRootsOf xs qs rs → AddsRootsOf xs ps rs
+roots_more xs ps qs rs before now = record { later = λ zs among h. now.later zs among (before.later zs among h) }
+
+-- ---- a goal that was proved
+
+-- where each that is added and not asked for is of one of these
+module _ (ys : List Asked) (ps qs : List Proof) (R : ℕ → Type 0) (front : IsFront ps qs) (adds : AddsChildrenBut R ps qs) (are : (k : ℕ) (x : Proof) → R k → slice_get qs k ≡ Some x → IsAboutTrait x.goal → IsOneOf ys (asked_goal x.goal)) where
+  root_by : (xs : List Asked) → ((a : Asked) → IsOneOf ys a → IsOneOf xs a) → AreRootsOf xs ps → (k : ℕ) (x : Proof) → slice_get qs k ≡ Some x → IsAboutTrait x.goal → IsChild qs k ⊎ IsOneOf xs (asked_goal x.goal)
+  root_by xs among h k x at about = elim (get_back ps front.0 k x (subst (λ l. slice_get l k ≡ Some x) front.1 at)) [
+    | inl was ↦ elim (h.each k x was about) [
+      | inl c ↦ inl (child_later ps qs front k c)
+      | inr o ↦ inr o
+    ]
+    | inr from ↦ elim (adds k from (slice_get_within qs k x at)) [
+      | inl c ↦ inl c
+      | inr is ↦ inr (among (asked_goal x.goal) (are k x is at about))
+    ]
+  ]
+
+  roots_by : AddsRootsOf ys ps qs
+  roots_by = record { later = λ xs among h. record { each = root_by xs among h } }
+
+root_is : (g : Goal) (qs : List Proof) (k j : ℕ) (x : Proof) → IsProofAt qs g k → Some k ≡ Some j → slice_get qs j ≡ Some x → x.goal ≡ g
+root_is g qs k j x h is at =
+    let same : h.0 ≡ x = same_Some h.0 x (sym h.1 ∙ (ap (slice_get qs) (same_Some k j is) ∙ at)) in
+    ap (λ (y : Proof). y.goal) (sym same) ∙ h.2
+
+pub roots_proved : (f : System) (n : ℕ) (g : Goal) (ps qs : List Proof) (o : Option ℕ) → IsFront ps qs → AddsOneRoot o ps qs → IsProvedIf f n qs g o → AddsRootsOf (asked_goal g ∷ []) ps qs
+roots_proved f n g ps qs None front adds proved = roots_by (asked_goal g ∷ []) ps qs (λ k. None ≡ Some k) front adds (λ k x is at about. absurd (cc))
+roots_proved f n g ps qs (Some j) front adds proved =
+    roots_by (asked_goal g ∷ []) ps qs (λ k. Some j ≡ Some k) front adds (λ k x is at about. (0, ap (λ (y : Goal). Some (asked_goal y)) (sym (root_is g qs j k x proved is at))))
+
+-- one that is not about a trait
+pub roots_other : (g : Goal) (ps qs : List Proof) (j : ℕ) → IsFront ps qs → AddsOneRoot (Some j) ps qs → IsProofAt qs g j → (IsAboutTrait g → ⊥) → AddsRootsOf [] ps qs
+roots_other g ps qs j front adds proved other =
+    roots_by [] ps qs (λ k. Some j ≡ Some k) front adds (λ k x is at about. absurd (other (subst IsAboutTrait (root_is g qs j k x proved is at) about)))
+
+about_other : (a : Asked) → IsAboutAlias a → (g : Goal) → IsAboutTrait g → a ≡ asked_goal g → ⊥
+about_other a alias (goal.Trait t) about is = (let clash : projects alias.alias ≡ implements (out-TraitRef t).id = sym alias.is ∙ ap (λ (x : Asked). x.kind) is in cc)
+about_other a alias (goal.Projection k xs t) about is = about
+
+roots_wider : (xs ys : List Asked) (ps : List Proof) → AreRootsOf xs ps → AreRootsOf (xs ++ ys) ps
+roots_wider xs ys ps h = record {
+  each = λ k x at about. elim (h.each k x at about) [
+    | inl c ↦ inl c
+    | inr o ↦ inr (one_left xs ys (asked_goal x.goal) o)
+  ];
+}
+
+-- nor one whose goal is about an associated type
+pub roots_other_than : (a : Asked) → IsAboutAlias a → (ps qs : List Proof) → AddsRootsOf (a ∷ []) ps qs → AddsRootsOf [] ps qs
+roots_other_than a alias ps qs h = record {
+  later = λ xs among are. record {
+    each = λ k x at about. elim ((h.later (xs ++ a ∷ []) (one_right xs (a ∷ [])) (roots_wider xs (a ∷ []) ps are)).each k x at about) [
+      | inl c ↦ inl c
+      | inr o ↦ elim (get_more xs a o.0 (asked_goal x.goal) o.1) [
+        | inl e ↦ inr (o.0, e)
+        | inr e ↦ absurd (about_other a alias x.goal about e.1)
+      ]
+    ];
+  };
+}
+
+-- ---- at a place
+
+pub roots_here : (raw : RawFacts) (b : RawBody) (r : InferenceResult) (k : ℕ) (x : RawExpr) (ps qs : List Proof) → slice_get b.exprs k ≡ Some x
+    → AddsRootsOf (needs_of raw (Some x) (recorded r.type_of_expr k)) ps qs → AddsRootsOf (needs_at raw b r k) ps qs
+roots_here raw b r k x ps qs at h = subst (λ (o : Option RawExpr). AddsRootsOf (needs_of raw o (recorded r.type_of_expr k)) ps qs) (sym at) h
+
+-- ---- what was told
+
+answered_told : (f : System) (n : ℕ) (xs : List Asked) (ts : List (Goal × Answer)) → AreAnswered f n xs ts → (i : ℕ) (a : Asked) → slice_get xs i ≡ Some a → WasTold ts a
+answered_told f n [] ts h i a at = absurd (cc)
+answered_told f n (y ∷ xs) [] h i a at = absurd h
+answered_told f n (y ∷ xs) (t ∷ ts) h zero a at = (zero, t, refl, h.0 ∙ same_Some y a at)
+answered_told f n (y ∷ xs) (t ∷ ts) h (suc i) a at = let r = answered_told f n xs ts h.2 i a at in (suc r.0, r.1, r.2, r.3)
+
+pub roots_told : (f : System) (n : ℕ) (xs : List Asked) (ps : List Proof) (ts : List (Goal × Answer)) → AddsRootsOf xs [] ps → AreAnswered f n xs ts → RootsAreTold ps ts
+roots_told f n xs ps ts adds answers k x at about =
+    let all = adds.later xs (λ a o. o) (record { each = λ j y here. absurd (let none : None ≡ Some y = here in cc) }) in
+    elim (all.each k x at about) [
+      | inl c ↦ inl c
+      | inr o ↦ inr (answered_told f n xs ts answers o.0 (asked_goal x.goal) o.1)
+    ]
