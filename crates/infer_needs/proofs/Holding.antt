@@ -63,6 +63,7 @@ get_there (x ∷ xs) (suc k) h = get_there xs k (omega (arith, h))
 
 no_hole_at : (x : Head) → IsWrittenHead x → HoldsNoHole (leaf x)
 no_hole_at head.Hole h = h
+no_hole_at head.ConstHole h = h
 no_hole_at _ h = tt
 
 no_hole : (t : Term) → IsWritten t → HoldsNoHole t

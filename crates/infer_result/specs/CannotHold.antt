@@ -40,10 +40,11 @@ opened n (hole k) = as_it_is n (hole k)
 opened n (leaf h) = as_it_is n (leaf h)
 opened n (pair a b) = behind (opened n a).term (put_or (opened n a).next (hole_for (opened n a).next b) (opened (opened n a).next b))
 
+-- of a goal without holes
 abbrev pub opened_goal : Asked → Asked
 opened_goal a = record { kind = a.kind; parts = (opened 0 a.parts).term }
 
--- the answer is No whatever types and consts stand in the places of `{unknown}`
+-- the answer is No whatever types without associated types that are to be read, and consts, stand in the places of `{unknown}`
 abbrev pub CannotHold : System → ℕ → Asked → Type 0
 CannotHold f n a = (answers f n).No (opened_goal a)
 

@@ -1,6 +1,7 @@
 -- Goals that nodes need: each path to an item the predicates of the item, and what the associated types in its signature or its fields are, at
 -- the arguments that are recorded; each pattern of a constructor over patterns what the associated types in the fields are. Each is proved, or
--- it is said that it is not (The Rust Reference, "Trait and lifetime bounds": bounds are checked where an item is used).
+-- it is said that it is not, or `{unknown}` stands in it and it may hold with other types there (The Rust Reference, "Trait and lifetime bounds":
+-- bounds are checked where an item is used).
 use Rattle.std.specs.Prelude.{◌≡◌, ◌⊎◌, ℕ, List, [], ◌++◌, map, slice_get, Option, Some, None}
 use Rattle.std.proofs.Common.{ap, ◌∙◌, append-nil}
 use Rattle.hir_types.specs.declared.ids.CallableDefId.{CallableDefId}

@@ -40,7 +40,7 @@ pub record IsAboutAlias (a : Asked) : Type 0 where
   pub other : type_of a.parts ≡ staying alias (args_of a.parts) → ⊥
 
 -- the entry has an associated type first, and then another type that it has a proof to be, as such a goal asks, without holes. No associated type is
--- left to be read in its arguments, nor in the second: so no first stands in a second, nor in the arguments of a first
+-- left to be read in its arguments, nor in the second: so no projection stands in either
 pub record IsFound (r : InferenceResult) (x : Ty × Ty) : Type 0 where
   pub alias : TypeAliasId
   pub args : List GenericArg

@@ -1,4 +1,4 @@
--- Goals that have a proof in a table, and goals of which nothing has to be said.
+-- Goals that have a proof in a table, and terms in which `{unknown}`, a hole or a `_` stands.
 use Rattle.std.specs.Prelude.{◌≡◌, ◌⊎◌, ℕ, slice_get, Some}
 use Rattle.hir_types.specs.declared.head.Head.TheVariants as head
 use Rattle.hir_types.specs.Terms.{Term, hole, leaf, pair}
@@ -19,6 +19,7 @@ HoldsUnknown (pair a b) = HoldsUnknown a ⊎ HoldsUnknown b
 abbrev pub HoldsNoHole : Term → Type 0
 HoldsNoHole (hole k) = ⊥
 HoldsNoHole (leaf head.Hole) = ⊥
+HoldsNoHole (leaf head.ConstHole) = ⊥
 HoldsNoHole (leaf _) = Unit {0}
 HoldsNoHole (pair a b) = HoldsNoHole a × HoldsNoHole b
 

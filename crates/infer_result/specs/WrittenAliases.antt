@@ -1,5 +1,5 @@
 -- Associated types that a table lists though no type of a node holds them: those that what the definition takes and gives is written with, and its
--- `let`s, and those in goals that nodes need. Of each, at the arguments that its own read as, the table says what it is, unless it stays.
+-- `let`s, and those in goals that nodes need, or that one is about in which `{unknown}` stands. Of each, at the arguments that its own read as, the table says what it is, unless it stays.
 use Rattle.std.specs.Prelude.{◌≡◌, ℕ, List, map, slice_get, Some}
 use Rattle.hir_types.specs.declared.ids.DefWithBodyId.{DefWithBodyId}
 use Rattle.hir_types.specs.declared.ids.ExprOrPatId.{ExprOrPatId}
@@ -10,11 +10,11 @@ use Rattle.hir_types.specs.Terms.{Term, chain, term, arg_term}
 use Rattle.hir_raw.specs.Lets.{let_aliases}
 use Rattle.hir_raw.specs.WrittenTypes.{lowered}
 use Rattle.goal_answers.specs.Answers.{answers}
-use Rattle.goal_answers.specs.Goals.{Asked, System}
+use Rattle.goal_answers.specs.Goals.{Asked, System, projects, args_of}
 use Rattle.goal_answers.specs.Reading.{ReadsAs, alias_at}
 use Rattle.goal_facts.specs.Systems.{IsSystemOf}
 use Rattle.infer_result.specs.declared.result.InferenceResult.{InferenceResult}
-use Rattle.infer_result.specs.Needs.{IsNeeded, scope_item}
+use Rattle.infer_result.specs.Needs.{HoldsUnknown, IsNeeded, scope_item}
 use Rattle.infer_result.specs.OwnTypes.{HoldsPlaceholder, aliases_of}
 use Rattle.infer_result.specs.Places.{Given}
 use Rattle.infer_result.specs.Projections.{IsPartOf, StaysOrIsListed}
@@ -31,6 +31,11 @@ IsListedOnceRead f n js k xs = (ys : List GenericArg) → ReadsAs (answers f n).
 abbrev pub WrittenAreListed : System → ℕ → List (Ty × Ty) → Term → Type 0
 WrittenAreListed f n js t = (k : TypeAliasId) (xs : List GenericArg) → IsPartOf (alias_at k (args_term xs)) t → (HoldsPlaceholder (args_term xs) → ⊥) → IsListedOnceRead f n js k xs
 
+-- so is the one that a goal is about in which `{unknown}` stands
+abbrev pub AboutIsListed : System → ℕ → List (Ty × Ty) → Asked → Type 0
+AboutIsListed f n js a =
+    HoldsUnknown a.parts → (k : TypeAliasId) (xs : List GenericArg) → a.kind ≡ projects k → args_of a.parts ≡ args_term xs → (HoldsPlaceholder (args_term xs) → ⊥) → IsListedOnceRead f n js k xs
+
 -- so is each in what the definition takes and gives, in the types of the `let`s, and in what nodes need
 pub record AllWrittenAreListed (d : DefWithBodyId) (g : Given) (r : InferenceResult) : Type 0 where
   pub system : System
@@ -40,3 +45,4 @@ pub record AllWrittenAreListed (d : DefWithBodyId) (g : Given) (r : InferenceRes
   pub lets : (i k : ℕ) → slice_get (let_aliases g.scope.facts.types g.body) i ≡ Some k
       → WrittenAreListed system g.scope.facts.limits.goal_depth r.projections (term (lowered g.scope.facts.types k))
   pub needs : (n : ExprOrPatId) (a : Asked) → IsNeeded g r n a → WrittenAreListed system g.scope.facts.limits.goal_depth r.projections a.parts
+  pub about : (n : ExprOrPatId) (a : Asked) → IsNeeded g r n a → AboutIsListed system g.scope.facts.limits.goal_depth r.projections a

@@ -77,7 +77,8 @@ pub record HasFacts (words : List (List ℕ)) (e : Ends) (ran : Ran) : Type 0 wh
   pub is_read : IsRead text raw
   pub facts_is : ran.facts ≡ Some raw
 
--- what nodes of the definition's body need is proved, or it is said that it has no proof
+-- what nodes of the definition's body need is proved, or it is said that it has no proof, or `{unknown}` stands in it and it may hold with other
+-- types there
 abbrev pub HasGoals : RawFacts → DefWithBodyId → InferenceResult → Type 0
 HasGoals raw def table = (b : RawBody) → body_of raw def ≡ Some b → GoalsHold def (given raw def b) table
 

@@ -1,6 +1,6 @@
 -- `fn f(o: W<u8>) { let W(x) = o; }` where `struct W<T: Tr>(T::Out);`: which type `<u8 as Tr>::Out` is stands in the item that the pattern
 -- is of, so `x` has that type. That it is this one is a goal that the pattern needs.
-use Rattle.std.proofs.Common.{ℕ, ◌+◌, ◌<◌, ◌≡◌, inl, inr, List, [], ◌∷◌, ◌++◌, length, refl, sym, ap, subst, ◌∙◌, arith, append-nil, Option, Some, None, slice_get}
+use Rattle.std.proofs.Common.{◌+◌, ◌<◌, ◌≡◌, inl, inr, List, [], ◌∷◌, ◌++◌, length, refl, sym, ap, subst, ◌∙◌, arith, append-nil, Option, Some, None, slice_get}
 use Rattle.hir_types.specs.declared.ids.CallableDefId.TheVariants as callable
 use Rattle.hir_types.specs.declared.ids.ExprOrPatId.TheVariants as node
 use Rattle.hir_types.specs.declared.ids.TypeAliasId.{TypeAliasId}
