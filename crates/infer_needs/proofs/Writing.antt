@@ -5,6 +5,7 @@ use Rattle.std.proofs.Common.{inl, inr, refl, sym, ap, ◌∙◌, subst, arith}
 use Rattle.std.proofs.Math.Nat.{eq-or-lt_of_le}
 use Rattle.std.proofs.lemmas.Option.{same_Some, slice_get_within}
 use Rattle.hir_types.specs.declared.goal.Goal.{Goal}
+use Rattle.hir_types.specs.declared.goal.Goal.TheVariants as goal
 use Rattle.hir_types.specs.declared.head.Head.TheVariants as head
 use Rattle.hir_types.specs.declared.ids.DefWithBodyId.{DefWithBodyId}
 use Rattle.hir_types.specs.declared.ids.ExprOrPatId.{ExprOrPatId}
@@ -15,6 +16,7 @@ use Rattle.hir_types.specs.declared.ids.TypeRefId.{TypeRefId}
 use Rattle.hir_types.specs.declared.ty.IntegerTy.TheVariants.{Int, Uint}
 use Rattle.hir_types.specs.declared.ty.GenericArg.{GenericArg}
 use Rattle.hir_types.specs.declared.ty.GenericArg.TheVariants as arg
+use Rattle.hir_types.specs.declared.ty.TraitRef.{TraitRef}
 use Rattle.hir_types.specs.declared.ty.Ty.{Ty}
 use Rattle.hir_types.specs.declared.ty.Ty.TheVariants as ty
 use Rattle.hir_types.specs.Terms.{Term, hole, leaf, pair, chain, term, arg_term}
@@ -28,7 +30,7 @@ use Rattle.hir_raw.specs.Lets.{let_aliases}
 use Rattle.hir_raw.specs.WrittenTypes.{filled_by, filled_within, lowered}
 use Rattle.hir_laws.specs.Lawful.{IsLawful}
 use Rattle.infer_table.specs.Table.{IsFront}
-use Rattle.goal_answers.specs.Goals.{Asked, System}
+use Rattle.goal_answers.specs.Goals.{Asked, System, implements, projects}
 use Rattle.goal_answers.specs.Answers.{answers}
 use Rattle.goal_answers.specs.Reading.{alias, role, alias_at, ReadsAs}
 use Rattle.goal_answers.proofs.Levels.{answers_read, reads_read as reading_is_read}
@@ -41,16 +43,16 @@ use Rattle.goal_prove.specs.Written.{IsWritten}
 use Rattle.infer_result.specs.declared.gaps.Gap.{Gap}
 use Rattle.infer_result.specs.declared.result.InferenceResult.{InferenceResult}
 use Rattle.infer_result.specs.Closed.{AllTypes}
-use Rattle.infer_result.specs.Needs.{with_goals, scope_item, needs_of, pat_needs_of, node_needs}
+use Rattle.infer_result.specs.Needs.{HoldsUnknown, with_goals, scope_item, needs_of, pat_needs_of, node_needs}
 use Rattle.infer_result.specs.OwnTypes.{HoldsPlaceholder, aliases_of}
 use Rattle.infer_result.specs.Places.{Given}
 use Rattle.infer_result.specs.Projections.{IsPartOf, StaysOrIsListed, NoneIsLeft}
 use Rattle.infer_result.specs.Table.{recorded}
 use Rattle.infer_result.specs.Typed.{given}
-use Rattle.infer_result.specs.WrittenAliases.{args_term, WrittenAreListed, AllWrittenAreListed}
+use Rattle.infer_result.specs.WrittenAliases.{args_term, IsListedOnceRead, WrittenAreListed, AboutIsListed, AllWrittenAreListed}
 use Rattle.infer_needs.specs.Judged.{IsProvable, AreProvable, CanPatsBeProved}
 use Rattle.infer_needs.specs.Left.{Lists, IsFinal}
-use Rattle.infer_needs.specs.Written.{IsAsWritten, ListedAt, ListedHere, TypeIsListed, TypesAreListed, GoalsAreListed, ExprsAreListed, CanItemsBeProved, ItemsAreListed, AreAllListed}
+use Rattle.infer_needs.specs.Written.{IsAsWritten, ListedAt, ListedHere, TypeIsListed, TypesAreListed, GoalIsListed, GoalsAreListed, ExprsAreListed, CanItemsBeProved, ItemsAreListed, AreAllListed}
 use Rattle.infer_needs.proofs.Leaving.{stays_later, table_later, read_then, lists_nothing, lists_both}
 use Rattle.infer_needs.proofs.ReadsYes.{term_reads_written}
 
@@ -113,8 +115,14 @@ module _ (f : System) (n : ℕ) (js ks : List (Ty × Ty)) (l : IsFront js ks) wh
   pub written_later : (t : Term) → WrittenAreListed f n js t → WrittenAreListed f n ks t
   written_later t h k xs at none ys r = stays_later f n js ks l k ys (h k xs at none ys r)
 
+  pub goal_listed_later : (a : Asked) → GoalIsListed f n a js → GoalIsListed f n a ks
+  goal_listed_later a h = record {
+    parts = written_later a.parts h.parts;
+    about = λ unknown k xs is at none ys r. stays_later f n js ks l k ys (h.about unknown k xs is at none ys r);
+  }
+
   pub goals_later : (xs : List Asked) → GoalsAreListed f n xs js → GoalsAreListed f n xs ks
-  goals_later xs h i a at = written_later a.parts (h i a at)
+  goals_later xs h i a at = goal_listed_later a (h i a at)
 
   pub types_later : (types : List RawType) (is : List ℕ) → TypesAreListed f n types is js → TypesAreListed f n types is ks
   types_later types is h i k at = written_later (term (lowered types k)) (h i k at)
@@ -192,6 +200,34 @@ module _ (raw : RawFacts) (f : System) where
         ];
       }
 
+  -- ---- of a goal
+
+  abbrev pub About : Asked → List (Ty × Ty) → Type 0
+  About a js = AboutIsListed f n js a
+
+  pub lists_no_alias : (a : Asked) (t : TraitRef) (ps : List Proof) (js : List (Ty × Ty)) → a.kind ≡ implements t.trait_ → Lists raw f (About a) ps ps js js
+  lists_no_alias a t ps js is = lists_nothing raw f (About a) ps js (λ unknown k xs at. (let both : implements t.trait_ ≡ projects k = sym is ∙ at in absurd (cc)))
+
+  pub lists_known : (a : Asked) (ps : List Proof) (js : List (Ty × Ty)) → (HoldsUnknown a.parts → ⊥) → Lists raw f (About a) ps ps js js
+  lists_known a ps js known = lists_nothing raw f (About a) ps js (λ unknown. absurd (known unknown))
+
+  -- of the associated type that it is about
+  pub lists_about : (k : TypeAliasId) (xs : List GenericArg) (t : Ty) (w : Term) (ps qs : List Proof) (js ks : List (Ty × Ty)) → w ≡ args_term xs
+      → Lists raw f (ListedAt f n k w) ps qs js ks → Lists raw f (About (asked_goal (goal.Projection k xs t))) ps qs js ks
+  lists_about k xs t w ps qs js ks is h = record {
+    adds = h.adds;
+    none = λ unknown j ys kind at none.
+        (let k_is : k ≡ j = (let both : projects k ≡ projects j = kind in cc) in
+        let w_is : args_term ys ≡ w = sym at ∙ sym is in
+        subst (λ i. IsListedOnceRead f n ks i ys) k_is (h.none ys w_is (λ p. none (subst HoldsPlaceholder (sym w_is) p))));
+  }
+
+  pub lists_goal : (a : Asked) (ps qs rs : List Proof) (js ks ls : List (Ty × Ty)) → Lists raw f (In a.parts) ps qs js ks → Lists raw f (About a) qs rs ks ls → Lists raw f (GoalIsListed f n a) ps rs js ls
+  lists_goal a ps qs rs js ks ls parts about = record {
+    adds = read_then raw f ps qs rs js ks ls parts.adds about.adds;
+    none = record { parts = written_later f n ks ls about.adds.lists.behind a.parts parts.none; about = about.none };
+  }
+
 -- ---- a list, one entry after another
 
 -- it holds of the first of them
@@ -233,10 +269,10 @@ module _ (raw : RawFacts) (f : System) where
   type_later js ks l i k h = written_later f deep js ks l (term (lowered raw.types k)) h
 
   abbrev pub OfGoal : ℕ → Goal → List (Ty × Ty) → Type 0
-  OfGoal i q js = WrittenAreListed f deep js (asked_goal q).parts
+  OfGoal i q js = GoalIsListed f deep (asked_goal q) js
 
   pub goal_later : (js ks : List (Ty × Ty)) → IsFront js ks → (i : ℕ) (q : Goal) → OfGoal i q js → OfGoal i q ks
-  goal_later js ks l i q h = written_later f deep js ks l (asked_goal q).parts h
+  goal_later js ks l i q h = goal_listed_later f deep js ks l (asked_goal q) h
 
   abbrev pub OfExpr : InferenceResult → ℕ → RawExpr → List (Ty × Ty) → Type 0
   OfExpr r i x js = GoalsAreListed f deep (needs_of raw (Some x) (recorded r.type_of_expr i)) js
@@ -265,7 +301,7 @@ mapped g (x ∷ xs) (suc i) y at = mapped g xs i y at
 pub goals_of : (raw : RawFacts) (f : System) (qs : List Goal) (js : List (Ty × Ty)) → AllHold (OfGoal raw f) qs js → GoalsAreListed f raw.limits.goal_depth (map asked_goal qs) js
 goals_of raw f qs js h i a at =
     let q = mapped asked_goal qs i a at in
-    subst (λ (x : Asked). WrittenAreListed f raw.limits.goal_depth js x.parts) q.2 (h i q.0 q.1)
+    subst (λ (x : Asked). GoalIsListed f raw.limits.goal_depth x js) q.2 (h i q.0 q.1)
 
 pub provable_at : (qs : List Goal) (i : ℕ) (q : Goal) → AreProvable (map asked_goal qs) → slice_get qs i ≡ Some q → IsProvable (asked_goal q)
 provable_at [] i q h at = cc
@@ -339,5 +375,6 @@ module _ (raw : RawFacts) (d : DefWithBodyId) (b : RawBody) (r : InferenceResult
     of_item = of_item;
     own = all.own;
     lets = all.lets;
-    needs = λ n a is. node_goals n is.at a is.among;
+    needs = λ n a is. (node_goals n is.at a is.among).parts;
+    about = λ n a is. (node_goals n is.at a is.among).about;
   }

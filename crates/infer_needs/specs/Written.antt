@@ -19,7 +19,7 @@ use Rattle.infer_result.specs.declared.result.InferenceResult.{InferenceResult}
 use Rattle.infer_result.specs.Needs.{needs_of, pat_needs_of}
 use Rattle.infer_result.specs.OwnTypes.{HoldsPlaceholder, aliases_of}
 use Rattle.infer_result.specs.Table.{recorded}
-use Rattle.infer_result.specs.WrittenAliases.{args_term, IsListedOnceRead, WrittenAreListed}
+use Rattle.infer_result.specs.WrittenAliases.{args_term, IsListedOnceRead, WrittenAreListed, AboutIsListed}
 use Rattle.infer_needs.specs.Judged.{AreProvable}
 
 -- ---- terms of written types
@@ -47,9 +47,14 @@ TypeIsListed f n types k js = WrittenAreListed f n js (term (lowered types k))
 abbrev pub TypesAreListed : System → ℕ → List RawType → List ℕ → List (Ty × Ty) → Type 0
 TypesAreListed f n types ks js = (i k : ℕ) → slice_get ks i ≡ Some k → TypeIsListed f n types k js
 
--- each in these goals
+-- each in the goal, and the one that it is about
+pub record GoalIsListed (f : System) (n : ℕ) (a : Asked) (js : List (Ty × Ty)) : Type 0 where
+  pub parts : WrittenAreListed f n js a.parts
+  pub about : AboutIsListed f n js a
+
+-- so it is of these goals
 abbrev pub GoalsAreListed : System → ℕ → List Asked → List (Ty × Ty) → Type 0
-GoalsAreListed f n xs js = (i : ℕ) (a : Asked) → slice_get xs i ≡ Some a → WrittenAreListed f n js a.parts
+GoalsAreListed f n xs js = (i : ℕ) (a : Asked) → slice_get xs i ≡ Some a → GoalIsListed f n a js
 
 -- each in what the expressions of the body need
 abbrev pub ExprsAreListed : RawFacts → System → RawBody → InferenceResult → List (Ty × Ty) → Type 0

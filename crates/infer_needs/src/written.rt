@@ -11,16 +11,17 @@ ghost use Rattle.goal_terms.specs.Terms.{term_of, HasHeads};
 ghost use Rattle.infer_result.specs.Needs.{needs_of, pat_needs_of};
 ghost use Rattle.infer_result.specs.OwnTypes.{HoldsPlaceholder, aliases_of};
 ghost use Rattle.infer_result.specs.Table.{recorded};
-ghost use Rattle.infer_result.specs.WrittenAliases.{WrittenAreListed};
+ghost use Rattle.infer_result.specs.WrittenAliases.{WrittenAreListed, AboutIsListed};
 ghost use Rattle.infer_needs.specs.Judged.{IsProvable, AreProvable, CanAllBeProved, CanPatsBeProved};
 ghost use Rattle.infer_needs.specs.Left.{WereRead, Lists};
-ghost use Rattle.infer_needs.specs.Written.{IsAsWritten, ListedAt, ListedHere, TypeIsListed, TypesAreListed, GoalsAreListed, ExprsAreListed, CanItemsBeProved, ItemsAreListed, AreAllListed};
+ghost use Rattle.infer_needs.specs.Written.{IsAsWritten, ListedAt, ListedHere, TypeIsListed, TypesAreListed, GoalIsListed, GoalsAreListed, ExprsAreListed, CanItemsBeProved, ItemsAreListed, AreAllListed};
 
 use crate::found::Found;
 use crate::left::look_at_alias;
+use crate::unknown::holds_unknown;
 use goal_facts::{ItemSources, Proof, asked};
 use goal_search::{Holes, MOST_LEVELS};
-use goal_terms::{Role, Term, type_term};
+use goal_terms::{Role, Term, args_term, type_term};
 use hir_facts::{
     DefWithBodyId, ExprOrPatId, Facts, Goal, RawBody, RawExpr, Ty, TypeAliasId, TypeRefId,
     fn_aliases, let_aliases, lower_ty,
@@ -187,7 +188,33 @@ fn look_at_written_types(
     Ok(())
 }
 
-/// The same of each associated type that is written in a goal.
+/// The same of the associated type that a goal is about in which `{unknown}` stands.
+fn look_at_about(
+    alloc: Global,
+    sources: &ItemSources<'_>,
+    goal: &Goal,
+    proofs: &mut Vec<Proof>,
+    found: &mut Found,
+) -> Result<(), AllocError>
+    requires provable { IsProvable (asked_goal goal.now) }
+    requires read { WereRead (system sources.now.sources) sources.now.facts.limits.goal_depth found.old }
+    ensures { OnOk result (Lists sources.now.facts (system sources.now.sources) (λ js. AboutIsListed (system sources.now.sources) sources.now.facts.limits.goal_depth js (asked_goal goal.now)) proofs.old.items proofs.new.items found.old found.new) }
+{
+    match goal {
+        Goal::Trait(_trait_ref) => Ok(()),
+        Goal::Projection { alias, args, .. } => {
+            if !holds_unknown(alloc, goal)? {
+                return Ok(());
+            }
+            let args = args_term(alloc, args)?;
+            look_at_args(alloc, sources, *alias, &args, proofs, found)?;
+            Ok(())
+        }
+    }
+}
+
+/// The same of each associated type that is written in a goal, and of the one that it is about, where `{unknown}`
+/// stands in it: what others say of one is listed by `note`.
 fn look_at_goal(
     alloc: Global,
     sources: &ItemSources<'_>,
@@ -197,10 +224,11 @@ fn look_at_goal(
 ) -> Result<(), AllocError>
     requires provable { IsProvable (asked_goal goal.now) }
     requires read { WereRead (system sources.now.sources) sources.now.facts.limits.goal_depth found.old }
-    ensures { OnOk result (Lists sources.now.facts (system sources.now.sources) (λ js. WrittenAreListed (system sources.now.sources) sources.now.facts.limits.goal_depth js (asked_goal goal.now).parts) proofs.old.items proofs.new.items found.old found.new) }
+    ensures { OnOk result (Lists sources.now.facts (system sources.now.sources) (GoalIsListed (system sources.now.sources) sources.now.facts.limits.goal_depth (asked_goal goal.now)) proofs.old.items proofs.new.items found.old found.new) }
 {
     let asked = asked(alloc, goal)?;
     look_at_term(alloc, sources, &asked.parts, proofs, found)?;
+    look_at_about(alloc, sources, goal, proofs, found)?;
     Ok(())
 }
 
