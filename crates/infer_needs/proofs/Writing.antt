@@ -16,7 +16,7 @@ use Rattle.hir_types.specs.declared.ids.TypeRefId.{TypeRefId}
 use Rattle.hir_types.specs.declared.ty.IntegerTy.TheVariants.{Int, Uint}
 use Rattle.hir_types.specs.declared.ty.GenericArg.{GenericArg}
 use Rattle.hir_types.specs.declared.ty.GenericArg.TheVariants as arg
-use Rattle.hir_types.specs.declared.ty.TraitRef.{TraitRef}
+use Rattle.hir_types.specs.declared.ty.TraitRef.{TraitRef, out-TraitRef}
 use Rattle.hir_types.specs.declared.ty.Ty.{Ty}
 use Rattle.hir_types.specs.declared.ty.Ty.TheVariants as ty
 use Rattle.hir_types.specs.Terms.{Term, hole, leaf, pair, chain, term, arg_term}
@@ -43,7 +43,7 @@ use Rattle.goal_prove.specs.Written.{IsWritten}
 use Rattle.infer_result.specs.declared.gaps.Gap.{Gap}
 use Rattle.infer_result.specs.declared.result.InferenceResult.{InferenceResult}
 use Rattle.infer_result.specs.Closed.{AllTypes}
-use Rattle.infer_result.specs.Needs.{HoldsUnknown, with_goals, scope_item, needs_of, pat_needs_of, node_needs}
+use Rattle.infer_result.specs.Needs.{with_goals, scope_item, needs_of, pat_needs_of, node_needs}
 use Rattle.infer_result.specs.OwnTypes.{HoldsPlaceholder, aliases_of}
 use Rattle.infer_result.specs.Places.{Given}
 use Rattle.infer_result.specs.Projections.{IsPartOf, StaysOrIsListed, NoneIsLeft}
@@ -205,11 +205,8 @@ module _ (raw : RawFacts) (f : System) where
   abbrev pub About : Asked → List (Ty × Ty) → Type 0
   About a js = AboutIsListed f n js a
 
-  pub lists_no_alias : (a : Asked) (t : TraitRef) (ps : List Proof) (js : List (Ty × Ty)) → a.kind ≡ implements t.trait_ → Lists raw f (About a) ps ps js js
-  lists_no_alias a t ps js is = lists_nothing raw f (About a) ps js (λ unknown k xs at. (let both : implements t.trait_ ≡ projects k = sym is ∙ at in absurd (cc)))
-
-  pub lists_known : (a : Asked) (ps : List Proof) (js : List (Ty × Ty)) → (HoldsUnknown a.parts → ⊥) → Lists raw f (About a) ps ps js js
-  lists_known a ps js known = lists_nothing raw f (About a) ps js (λ unknown. absurd (known unknown))
+  pub lists_no_alias : (a : Asked) (t : TraitRef) (ps : List Proof) (js : List (Ty × Ty)) → a.kind ≡ (asked_goal (goal.Trait t)).kind → Lists raw f (About a) ps ps js js
+  lists_no_alias a t ps js is = lists_nothing raw f (About a) ps js (λ unknown k xs at. absurd (let clash : implements (out-TraitRef t).id ≡ projects k = sym is ∙ at in cc))
 
   -- of the associated type that it is about
   pub lists_about : (k : TypeAliasId) (xs : List GenericArg) (t : Ty) (w : Term) (ps qs : List Proof) (js ks : List (Ty × Ty)) → w ≡ args_term xs

@@ -203,11 +203,12 @@ fn look_at_about(
     match goal {
         Goal::Trait(_trait_ref) => Ok(()),
         Goal::Projection { alias, args, .. } => {
-            if !holds_unknown(alloc, goal)? {
+            let unknown = holds_unknown(alloc, goal)?;
+            if !unknown {
                 return Ok(());
             }
-            let args = args_term(alloc, args)?;
-            look_at_args(alloc, sources, *alias, &args, proofs, found)?;
+            let term = args_term(alloc, args)?;
+            look_at_args(alloc, sources, *alias, &term, proofs, found)?;
             Ok(())
         }
     }

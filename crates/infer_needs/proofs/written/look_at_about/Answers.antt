@@ -7,28 +7,23 @@ use Rattle.infer_result.specs.WrittenAliases.{args_term}
 use Rattle.infer_needs.specs.Left.{Lists}
 use Rattle.infer_needs.specs.Written.{IsAsWritten}
 use Rattle.infer_needs.specs.Judged.{IsProvable}
-use Rattle.infer_needs.proofs.Writing.{About, as_written, lists_about, lists_known, lists_no_alias}
+use Rattle.infer_needs.proofs.Writing.{About, as_written, lists_about, lists_no_alias}
 use Rattle.infer_needs.proofs.written.look_at_about.Goals as goal
 
 pub look_at_args-requires-clause-written : goal.look_at_args-requires-clause-written
 look_at_args-requires-clause-written c =
     let provable = subst (λ g. IsProvable (asked_goal g)) c.in-Projection.is c.requires.provable in
-    subst IsAsWritten (sym c.in_ok-args_term.ensures.is) (as_written (args_term c.in-Projection.args) provable.0)
+    subst IsAsWritten (sym c.in_ok-term-in-Projection.ensures.is) (as_written (args_term c.in-Projection.args) provable.0)
 
 pub returns-in-Trait : goal.returns-in-Trait
 returns-in-Trait c =
     lists_no_alias c.args.sources.now.facts (system c.args.sources.now.sources) (asked_goal c.args.goal.now) c.in-Trait._trait_ref c.args.proofs.now.items c.args.found.now
     (ap (λ g. (asked_goal g).kind) c.in-Trait.is)
 
-pub returns-then-not-holds_unknown : goal.returns-then-not-holds_unknown
-returns-then-not-holds_unknown c =
-    lists_known c.args.sources.now.facts (system c.args.sources.now.sources) (asked_goal c.args.goal.now) c.args.proofs.now.items c.args.found.now
-    (λ h. true≢false (sym (c.in_ok-holds_unknown.ensures.1 h) ∙ c.if-holds_unknown.false))
-
-pub returns-in_ok-look_at_args : goal.returns-in_ok-look_at_args
-returns-in_ok-look_at_args c =
+pub returns-in_ok-look_at_args-in-Projection : goal.returns-in_ok-look_at_args-in-Projection
+returns-in_ok-look_at_args-in-Projection c =
     let raw = c.args.sources.now.facts in
     let f = system c.args.sources.now.sources in
     subst (λ g. Lists raw f (About raw f (asked_goal g)) c.args.proofs.now.items c.look_at_args.new.proofs.items c.args.found.now c.look_at_args.new.found) (sym c.in-Projection.is)
-    (lists_about raw f c.in-Projection.alias c.in-Projection.args c.in-Projection.ty (term_of c.in_ok-args_term.made) c.args.proofs.now.items c.look_at_args.new.proofs.items c.args.found.now c.look_at_args.new.found
-    c.in_ok-args_term.ensures.is c.in_ok-look_at_args.ensures)
+    (lists_about raw f c.in-Projection.alias c.in-Projection.args c.in-Projection.ty (term_of c.in_ok-term-in-Projection.term) c.args.proofs.now.items c.look_at_args.new.proofs.items c.args.found.now c.look_at_args.new.found
+    c.in_ok-term-in-Projection.ensures.is c.in_ok-look_at_args-in-Projection.ensures)
