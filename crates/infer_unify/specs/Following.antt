@@ -1,4 +1,4 @@
--- How it is found out what associated types read as: one after another, and all of them as often as there are some.
+-- How it is found out what associated types read as: one after another, and all of them as many times as there are of them.
 use Rattle.std.specs.Prelude.{◌≡◌, ◌⊎◌, ℕ, zero, suc, Bool, true, false, List, [], ◌∷◌}
 use Rattle.hir_types.specs.Terms.{Term}
 use Rattle.infer_table.specs.Solutions.{Log}

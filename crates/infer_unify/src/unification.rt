@@ -72,8 +72,9 @@ fn unify_terms(
 
 /// What becomes of two types over holes of their own, in the scope of an item. A hole says itself what
 /// it may stand for, so the list of the holes isn't looked at. Parameters, opaque types and associated
-/// types that stay are the same as themselves alone, and `{unknown}` is the same as anything. In the
-/// place of an associated type that is to be read stands a hole, which is what that reads as where it is
+/// types that stay are the same as themselves alone, and `{unknown}` is the same as anything, but among the
+/// arguments of an associated type that is to be read, where it is a type like another. In the place of an
+/// associated type that is to be read stands a hole, which is what that reads as where it is
 /// known, and else has to be it. It is the same for the same facts, item and types.
 pub fn unification_of(
     alloc: Global,
