@@ -104,7 +104,7 @@ fn follow(
     }
 }
 
-/// The same of all these, as often as there are some, since what one reads as may tell what another is at.
+/// The same of all these, as many times as there are of them, since what one reads as may tell what another is at.
 pub(crate) fn follow_all(
     alloc: Global,
     search: &mut Search<'_>,
