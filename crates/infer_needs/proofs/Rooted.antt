@@ -1,9 +1,12 @@
--- Proofs that are added, as other proofs ask for them or they are of goals that were told.
+-- Proofs that are added, as other proofs ask for them, or they are of goals that nodes need, which are told.
 use Rattle.std.specs.Prelude.{◌≡◌, ◌⊎◌, ◌≤◌, ℕ, zero, suc, List, [], ◌∷◌, ◌++◌, length, slice_get, Option, Some, None}
 use Rattle.std.proofs.Common.{inl, inr, refl, sym, ap, ◌∙◌, subst, arith}
 use Rattle.std.proofs.lemmas.Option.{same_Some, slice_get_within}
 use Rattle.hir_types.specs.declared.goal.Goal.{Goal}
 use Rattle.hir_types.specs.declared.goal.Goal.TheVariants as goal
+use Rattle.hir_types.specs.declared.ids.DefWithBodyId.{DefWithBodyId}
+use Rattle.hir_types.specs.declared.ids.ExprOrPatId.{ExprOrPatId}
+use Rattle.hir_types.specs.declared.ids.ExprOrPatId.TheVariants as node
 use Rattle.hir_types.specs.declared.ty.TraitRef.{out-TraitRef}
 use Rattle.hir_raw.specs.declared.raw.RawBody.{RawBody}
 use Rattle.hir_raw.specs.declared.raw.RawExpr.{RawExpr}
@@ -16,10 +19,11 @@ use Rattle.goal_facts.specs.declared.proof.Proof.{Proof}
 use Rattle.goal_facts.specs.Goals.{asked_goal}
 use Rattle.goal_prove.specs.Entries.{IsProofAt, IsProvedIf, IsChild, AddsChildrenBut, AddsOneRoot}
 use Rattle.infer_result.specs.declared.result.InferenceResult.{InferenceResult}
-use Rattle.infer_result.specs.Needs.{needs_of, needs_at}
+use Rattle.infer_result.specs.Needs.{needs_of, needs_at, pat_needs_at, IsNeeded}
 use Rattle.infer_result.specs.Projections.{IsAboutAlias}
 use Rattle.infer_result.specs.Table.{recorded}
-use Rattle.infer_needs.specs.Told.{AreAnswered, IsAboutTrait, IsOneOf, AreRootsOf, AddsRootsOf, WasTold, RootsAreTold}
+use Rattle.infer_result.specs.Typed.{given}
+use Rattle.infer_needs.specs.Told.{first_needs, first_pat_needs, all_needs, AreAnswered, IsAboutTrait, IsOneOf, AreRootsOf, AddsRootsOf, RootsAreNeeded, WasTold, RootsAreTold}
 use Rattle.goal_prove.proofs.Children.{child_later}
 
 -- ---- places of lists
@@ -39,6 +43,15 @@ one_right : (xs ys : List Asked) (a : Asked) → IsOneOf ys a → IsOneOf (xs ++
 one_right [] ys a h = h
 one_right (x ∷ xs) ys a h = let r = one_right xs ys a h in (suc r.0, r.1)
 
+-- one of both is one of the first, or of the second
+one_of_both : (xs ys : List Asked) (a : Asked) (i : ℕ) → slice_get (xs ++ ys) i ≡ Some a → IsOneOf xs a ⊎ IsOneOf ys a
+one_of_both [] ys a i e = inr (i, e)
+one_of_both (x ∷ xs) ys a zero e = inl (zero, e)
+one_of_both (x ∷ xs) ys a (suc i) e = elim (one_of_both xs ys a i e) [
+  | inl h ↦ inl (suc h.0, h.1)
+  | inr h ↦ inr h
+]
+
 -- ---- proofs that are added
 
 pub roots_none : (ys : List Asked) (ps : List Proof) → AddsRootsOf ys ps ps
@@ -53,6 +66,10 @@ roots_aside xs ps qs rs before now = record { later = λ zs among h. now.later z
 
 pub roots_more : (xs : List Asked) (ps qs rs : List Proof) → AddsRootsOf xs ps qs → AddsRootsOf xs qs rs → AddsRootsOf xs ps rs
 roots_more xs ps qs rs before now = record { later = λ zs among h. now.later zs among (before.later zs among h) }
+
+-- where none was before
+all_roots : (xs : List Asked) (ps : List Proof) → AddsRootsOf xs [] ps → AreRootsOf xs ps
+all_roots xs ps adds = adds.later xs (λ a o. o) (record { each = λ j y here. absurd (let none : None ≡ Some y = here in cc) })
 
 -- ---- a goal that was proved
 
@@ -120,6 +137,38 @@ pub roots_here : (raw : RawFacts) (b : RawBody) (r : InferenceResult) (k : ℕ) 
     → AddsRootsOf (needs_of raw (Some x) (recorded r.type_of_expr k)) ps qs → AddsRootsOf (needs_at raw b r k) ps qs
 roots_here raw b r k x ps qs at h = subst (λ (o : Option RawExpr). AddsRootsOf (needs_of raw o (recorded r.type_of_expr k)) ps qs) (sym at) h
 
+-- ---- what nodes need
+
+module _ (raw : RawFacts) (d : DefWithBodyId) (b : RawBody) (r : InferenceResult) where
+  abbrev NeedsIt : Asked → Type 0
+  NeedsIt a = (n : ExprOrPatId) × IsNeeded (given raw d b) r n a
+
+  expr_needs_it : (n : ℕ) (a : Asked) → IsOneOf (first_needs raw b r n) a → NeedsIt a
+  expr_needs_it zero a o = absurd (let none : None ≡ Some a = o.1 in cc)
+  expr_needs_it (suc n) a o = elim (one_of_both (first_needs raw b r n) (needs_at raw b r n) a o.0 o.1) [
+    | inl h ↦ expr_needs_it n a h
+    | inr h ↦ (node.ExprId (record { 0 = n }), record { at = h.0; among = h.1 })
+  ]
+
+  pat_needs_it : (n : ℕ) (a : Asked) → IsOneOf (first_pat_needs raw r n) a → NeedsIt a
+  pat_needs_it zero a o = absurd (let none : None ≡ Some a = o.1 in cc)
+  pat_needs_it (suc n) a o = elim (one_of_both (first_pat_needs raw r n) (pat_needs_at raw r n) a o.0 o.1) [
+    | inl h ↦ pat_needs_it n a h
+    | inr h ↦ (node.PatId (record { 0 = n }), record { at = h.0; among = h.1 })
+  ]
+
+  node_needs_it : (a : Asked) → IsOneOf (all_needs raw b r) a → NeedsIt a
+  node_needs_it a o = elim (one_of_both (first_needs raw b r (length b.exprs)) (first_pat_needs raw r (length b.pats)) a o.0 o.1) [
+    | inl h ↦ expr_needs_it (length b.exprs) a h
+    | inr h ↦ pat_needs_it (length b.pats) a h
+  ]
+
+  pub roots_needed : AddsRootsOf (all_needs raw b r) [] r.proofs → RootsAreNeeded (given raw d b) r
+  roots_needed adds k x at about = elim ((all_roots (all_needs raw b r) r.proofs adds).each k x at about) [
+    | inl c ↦ inl c
+    | inr o ↦ inr (node_needs_it (asked_goal x.goal) o)
+  ]
+
 -- ---- what was told
 
 answered_told : (f : System) (n : ℕ) (xs : List Asked) (ts : List (Goal × Answer)) → AreAnswered f n xs ts → (i : ℕ) (a : Asked) → slice_get xs i ≡ Some a → WasTold ts a
@@ -130,8 +179,7 @@ answered_told f n (y ∷ xs) (t ∷ ts) h (suc i) a at = let r = answered_told f
 
 pub roots_told : (f : System) (n : ℕ) (xs : List Asked) (ps : List Proof) (ts : List (Goal × Answer)) → AddsRootsOf xs [] ps → AreAnswered f n xs ts → RootsAreTold ps ts
 roots_told f n xs ps ts adds answers k x at about =
-    let all = adds.later xs (λ a o. o) (record { each = λ j y here. absurd (let none : None ≡ Some y = here in cc) }) in
-    elim (all.each k x at about) [
+    elim ((all_roots xs ps adds).each k x at about) [
       | inl c ↦ inl c
       | inr o ↦ inr (answered_told f n xs ts answers o.0 (asked_goal x.goal) o.1)
     ]

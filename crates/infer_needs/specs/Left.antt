@@ -33,7 +33,7 @@ pub record WasRead (f : System) (n : ℕ) (x : Ty × Ty) : Type 0 where
 abbrev pub WereRead : System → ℕ → List (Ty × Ty) → Type 0
 WereRead f n js = (i : ℕ) (x : Ty × Ty) → slice_get js i ≡ Some x → WasRead f n x
 
--- proofs and entries come behind, of what was read if the first were; none is of a goal about a trait, but for others
+-- proofs and entries come behind, of what was read if the first were; of a goal about a trait each proof that is added is one that another asks for
 pub record AddsRead (raw : RawFacts) (f : System) (ps qs : List Proof) (js ks : List (Ty × Ty)) : Type 0 where
   pub adds : AddsProofs raw f ps qs
   pub roots : AddsRootsOf [] ps qs

@@ -3,6 +3,7 @@ use Rattle.std.specs.Prelude.{◌≡◌, ◌++◌, ℕ, zero, suc, List, [], ◌
 use Rattle.std.proofs.Common.{◌⊎◌, inl, inr}
 use denote.Ref.{MutBor}
 use Rattle.hir_types.specs.declared.ids.DefWithBodyId.{DefWithBodyId}
+use Rattle.hir_types.specs.declared.ids.ExprOrPatId.{ExprOrPatId}
 use Rattle.hir_types.specs.declared.goal.Goal.{Goal}
 use Rattle.hir_types.specs.declared.goal.Goal.TheVariants as goal
 use Rattle.hir_raw.specs.declared.raw.RawBody.{RawBody}
@@ -14,7 +15,7 @@ use Rattle.goal_facts.specs.Goals.{asked_goal, IsAnswer}
 use Rattle.goal_facts.specs.Systems.{IsSystemOf}
 use Rattle.goal_prove.specs.Entries.{IsChild}
 use Rattle.infer_result.specs.declared.result.InferenceResult.{InferenceResult}
-use Rattle.infer_result.specs.Needs.{needs_at, pat_needs_at, scope_item}
+use Rattle.infer_result.specs.Needs.{needs_at, pat_needs_at, scope_item, IsNeeded}
 use Rattle.infer_result.specs.Places.{Given}
 
 -- ---- what nodes need
@@ -65,6 +66,10 @@ pub record AreRootsOf (xs : List Asked) (ps : List Proof) : Type 0 where
 -- so it is of the last where it was of the first, if these are among the goals
 pub record AddsRootsOf (ys : List Asked) (ps qs : List Proof) : Type 0 where
   pub later : (xs : List Asked) → ((a : Asked) → IsOneOf ys a → IsOneOf xs a) → AreRootsOf xs ps → AreRootsOf xs qs
+
+-- each proof of such a goal that the table lists is asked for by another, or a node needs its goal
+abbrev pub RootsAreNeeded : Given → InferenceResult → Type 0
+RootsAreNeeded g r = (k : ℕ) (x : Proof) → slice_get r.proofs k ≡ Some x → IsAboutTrait x.goal → IsChild r.proofs k ⊎ ((n : ExprOrPatId) × IsNeeded g r n (asked_goal x.goal))
 
 abbrev pub WasTold : List (Goal × Answer) → Asked → Type 0
 WasTold ts a = (i : ℕ) × (t : Goal × Answer) × (slice_get ts i ≡ Some t) × (asked_goal t.0 ≡ a)

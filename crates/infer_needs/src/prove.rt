@@ -14,7 +14,7 @@ ghost use Rattle.infer_needs.specs.Left.{IsFinalType};
 ghost use Rattle.infer_needs.specs.Written.{AreAllListed};
 ghost use Rattle.infer_result.specs.Typed.{IsTableOf, given};
 ghost use Rattle.infer_needs.specs.Judged.{IsProvable, AreProvable, CanAllBeProved, CanPatsBeProved, IsSaidUnlessMay, IsJudged, AreJudged, AreAllJudged, ArePatsJudged};
-ghost use Rattle.infer_needs.specs.Told.{ListsAnswers, first_needs, first_pat_needs, AreAllAnswered, AddsRootsOf};
+ghost use Rattle.infer_needs.specs.Told.{ListsAnswers, first_needs, first_pat_needs, AreAllAnswered, AddsRootsOf, RootsAreNeeded};
 
 use crate::found::Found;
 use crate::left::look_at_table;
@@ -256,7 +256,7 @@ fn prove_exprs(
 /// types were found to be is listed, each once; where one is another type at a node, this is said there. In no type
 /// of the table is one left that could be read, unless what it is is listed; and so is what each is that the
 /// definition, its `let`s and those goals are written with. Each listed proof of a goal about a trait is one that
-/// another asks for, or of a goal that was told. Nothing else of the table changes. The one error is want of memory.
+/// another asks for, or of a goal that a node needs. Nothing else of the table changes. The one error is want of memory.
 pub fn prove_needs(
     alloc: Global,
     facts: &Facts,
@@ -268,6 +268,7 @@ pub fn prove_needs(
     ensures goals { OnOk result ((b : RawBody) → body_of facts.now def ≡ Some b → GoalsHold def (given facts.now def b) table.new) }
     ensures left { OnOk result ((b : RawBody) → body_of facts.now def ≡ Some b → HasNoneLeft def (given facts.now def b) table.new) }
     ensures written { OnOk result ((b : RawBody) → body_of facts.now def ≡ Some b → AllWrittenAreListed def (given facts.now def b) table.new) }
+    ensures roots { OnOk result ((b : RawBody) → body_of facts.now def ≡ Some b → RootsAreNeeded (given facts.now def b) table.new) }
     ensures told { IfOk result (λ told. (b : RawBody) → body_of facts.now def ≡ Some b → AreAllAnswered def (given facts.now def b) table.new told.items) }
 {
     let Some(id) = facts.body_id(def) else {

@@ -12,7 +12,7 @@ use Rattle.infer_result.specs.Typed.{IsTableOf, given}
 use Rattle.infer_result.specs.General.{HasGeneral}
 use Rattle.infer_result.specs.Needs.{GoalsHold, HasNoneLeft}
 use Rattle.infer_result.specs.WrittenAliases.{AllWrittenAreListed}
-use Rattle.infer_expr.specs.Below.{ComesOfSelection}
+use Rattle.infer_expr.specs.Below.{ComesOfSelection, RootsAreNeeded}
 use Rattle.infer_result.specs.Report.{report, complaint_count}
 use Rattle.infer_text.specs.declared.fault.ReadError.TheVariants as error
 use Rattle.infer_run.specs.declared.running.Ran.{Ran}
@@ -90,6 +90,10 @@ IsReadThrough raw def table = (b : RawBody) → body_of raw def ≡ Some b → H
 abbrev pub HasWritten : RawFacts → DefWithBodyId → InferenceResult → Type 0
 HasWritten raw def table = (b : RawBody) → body_of raw def ≡ Some b → AllWrittenAreListed def (given raw def b) table
 
+-- each listed proof of a goal about a trait is one that another asks for, or a node needs its goal
+abbrev pub HasAskedProofs : RawFacts → DefWithBodyId → InferenceResult → Type 0
+HasAskedProofs raw def table = (b : RawBody) → body_of raw def ≡ Some b → RootsAreNeeded (given raw def b) table
+
 -- what they need was selected before its open holes fell back
 abbrev pub IsSelectedTable : RawFacts → DefWithBodyId → InferenceResult → Type 0
 IsSelectedTable raw def table = (b : RawBody) → body_of raw def ≡ Some b → ComesOfSelection raw def b table
@@ -104,6 +108,7 @@ pub record IsInferred (def : DefWithBodyId) (raw : RawFacts) (ran : Ran) : Type 
   pub goals : HasGoals raw def table
   pub left : IsReadThrough raw def table
   pub written : HasWritten raw def table
+  pub roots : HasAskedProofs raw def table
   pub selected : IsSelectedTable raw def table
   pub table_is : ran.table ≡ Some table
 

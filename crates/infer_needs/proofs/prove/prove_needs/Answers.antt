@@ -19,9 +19,9 @@ use Rattle.infer_result.specs.Typed.{given}
 use Rattle.infer_result.specs.WrittenAliases.{AllWrittenAreListed}
 use Rattle.infer_needs.specs.Judged.{AreProvable, AreAllJudged, ArePatsJudged}
 use Rattle.infer_needs.specs.Written.{AreAllListed}
-use Rattle.infer_needs.specs.Told.{first_needs, first_pat_needs, all_needs, AreAnswered, RootsAreTold}
+use Rattle.infer_needs.specs.Told.{first_needs, first_pat_needs, all_needs, AreAnswered, AddsRootsOf, RootsAreNeeded, RootsAreTold}
 use Rattle.infer_needs.proofs.Telling.{tells_both, needs_stay}
-use Rattle.infer_needs.proofs.Rooted.{roots_both, roots_told}
+use Rattle.infer_needs.proofs.Rooted.{roots_both, roots_needed, roots_told}
 use Rattle.infer_needs.proofs.Provable.{needs_provable, node_provable, table_final, pat_needs_provable, as_many_items}
 use Rattle.infer_needs.proofs.Holding.{same_body, goals_hold, has_none_left}
 use Rattle.infer_needs.proofs.Writing.{all_listed_later, all_written}
@@ -122,6 +122,27 @@ returns-clause-written c b is =
     subst (λ es. AllWrittenAreListed d (given raw d b) (with_goals c.from_vec.result es gss hss r)) (sym c.from_vec-2.ensures)
     (subst (λ xs. AllWrittenAreListed d (given raw d b) (with_goals xs ks gss hss r)) (sym c.from_vec.ensures)
     (all_written raw d b r f ks all.of_item listed qs gss hss))
+
+pub returns-clause-roots : goal.returns-clause-roots
+returns-clause-roots c b is =
+    let raw = c.args.facts.now in
+    let d = c.args.def in
+    let r = c.args.table.now in
+    let made = c.in_ok-sources.sources in
+    let facts : made.facts ≡ raw = c.in_ok-sources.ensures.facts in
+    let body = c.body-body.result.now in
+    let same : body ≡ b = same_body raw d c.in-Some.id body b (sym c.body_id.ensures ∙ c.in-Some.is) c.body-body.ensures is in
+    let exprs = first_needs made.facts body r (length body.exprs) in
+    let pats = first_pat_needs made.facts r (length body.pats) in
+    let qs = c.prove_pats.new.proofs.items in
+    let ks = c.into_pairs.result.items in
+    let gss = c.in_ok-proofs.gaps in
+    let hss = c.in_ok-pat_gaps.pat_gaps in
+    let both = roots_both exprs pats [] c.in_ok-proofs.proofs.items qs c.in_ok-proofs.ensures.roots c.in_ok-pat_gaps.ensures.roots in
+    let all = subst (λ x. AddsRootsOf (all_needs raw x r) [] qs) same (subst (λ (z : RawFacts). AddsRootsOf (all_needs z body r) [] qs) facts both) in
+    subst (λ es. RootsAreNeeded (given raw d b) (with_goals c.from_vec.result es gss hss r)) (sym c.from_vec-2.ensures)
+    (subst (λ xs. RootsAreNeeded (given raw d b) (with_goals xs ks gss hss r)) (sym c.from_vec.ensures)
+    (roots_needed raw d b (with_goals qs ks gss hss r) (subst (λ xs. AddsRootsOf xs [] qs) (sym (needs_stay raw b r qs ks gss hss)) all)))
 
 pub returns-clause-told : goal.returns-clause-told
 returns-clause-told c b is =
