@@ -1,5 +1,5 @@
 -- Associated types that a table lists though no type of a node holds them, over the facts of `Impls`: `<u8 as Tr>::Out` is written in what `show` takes,
--- in the type of a `let`, and in what a path needs. Each time a table is refused that doesn't say that it is `bool`, and one that does is taken.
+-- in the type of a `let`, and in what a path needs, and what it is may be `{unknown}` there. Each time a table is refused that doesn't say that it is `bool`, and one that does is taken.
 use Rattle.std.proofs.Common.{ℕ, zero, suc, ◌≡◌, inl, inr, List, [], ◌∷◌, refl, sym, ap, subst, ◌∙◌, Option, Some, None, slice_get}
 use Rattle.hir_types.specs.declared.head.Head.TheVariants as head
 use Rattle.hir_types.specs.declared.ids.DefWithBodyId.{DefWithBodyId}
@@ -22,7 +22,7 @@ use Rattle.hir_raw.specs.declared.raw.RawStmt.TheVariants as stmt
 use Rattle.hir_raw.specs.Signatures.{type_args}
 use Rattle.hir_raw.specs.WrittenTypes.{filled_within, lowered}
 use Rattle.goal_answers.specs.Answers.{answers}
-use Rattle.goal_answers.specs.Goals.{Asked, System, only}
+use Rattle.goal_answers.specs.Goals.{Asked, System, implements, projects, only}
 use Rattle.goal_answers.specs.Reading.{IsRead, Aliases, ReadsAs, alias_at}
 use Rattle.goal_answers.proofs.Readings.{read_reads}
 use Rattle.goal_facts.specs.declared.proof.Proof.{Proof}
@@ -36,9 +36,9 @@ use Rattle.infer_result.specs.OwnTypes.{HoldsPlaceholder}
 use Rattle.infer_result.specs.Places.{Given}
 use Rattle.infer_result.specs.Projections.{HasEntry, IsPartOf}
 use Rattle.infer_result.specs.Typed.{given as given_in}
-use Rattle.infer_result.specs.WrittenAliases.{args_term, WrittenAreListed, AllWrittenAreListed}
+use Rattle.infer_result.specs.WrittenAliases.{args_term, WrittenAreListed, AboutIsListed, AllWrittenAreListed}
 use Rattle.infer_result.proofs.Samples.Small.{p, b, w, u8, plain, body_of}
-use Rattle.infer_needs.proofs.Samples.Impls.{out, facts, own, own_body, showing, u8_term, bool_term, implemented, found_as, nothing_follows, nothing_stated}
+use Rattle.infer_needs.proofs.Samples.Impls.{tr, out, facts, own, own_body, showing, u8_term, bool_term, implemented, found_as, nothing_follows, nothing_stated}
 use Rattle.infer_needs.proofs.Samples.Sources.{reads_bare, neither, nothing}
 use Rattle.infer_needs.proofs.Samples.Needed.{given, table_of, path_node, needs_are, needed, closed, sources, are_sources}
 use Rattle.infer_needs.proofs.Samples.Tables.{entry}
@@ -225,6 +225,7 @@ taken_listed = record {
   own = one_said;
   lets = λ i k is. (let none : slice_get [] i ≡ Some k = is in absurd (cc));
   needs = λ n a h. absurd (show_needed n a h);
+  about = λ n a h. absurd (show_needed n a h);
 }
 
 -- ---- in a `let`
@@ -258,6 +259,7 @@ let_listed = record {
   own = λ i k is. (let none : slice_get [] i ≡ Some k = is in absurd (cc));
   lets = one_said;
   needs = λ n a h. absurd (let_needed n a h);
+  about = λ n a h. absurd (let_needed n a h);
 }
 
 -- ---- in what a path needs: of `need` at `<u8 as Tr>::Out`, that this implements the trait
@@ -277,7 +279,22 @@ module _ (l : RawLiteral) (ps : List Proof) (gs : List (List Gap)) where
     lets = λ i k is. (let none : slice_get [] i ≡ Some k = is in absurd (cc));
     needs = λ n a h.
         subst (λ (x : Asked). WrittenAreListed sources 8 (entry ∷ []) x.parts) (sym (needed l alias written alias_term ps (entry ∷ []) gs n a h).1) (is_said (only written) one_in_need);
+    about = λ n a h unknown k xs is.
+        absurd (let clash : implements tr ≡ projects k = sym (ap (λ (y : Asked). y.kind) (needed l alias written alias_term ps (entry ∷ []) gs n a h).1) ∙ is in cc);
   }
+
+-- ---- of which a goal asks that it is `{unknown}`
+
+abbrev unknown_term : Term
+unknown_term = pair (leaf head.Error) (leaf head.End)
+
+pub about_unlisted : (s : System) → IsSystemOf facts own s → (js : List (Ty × Ty)) → SaysNot js → AboutIsListed s 8 js (found_as u8_term unknown_term) → ⊥
+about_unlisted s of js none h =
+    let xs = type_args (u8 ∷ []) in
+    let A : Aliases = (answers s 8).Alias in
+    let whole : HoldsPlaceholder (args_term xs) → ⊥ = subst (λ x. HoldsPlaceholder x → ⊥) (sym u8_args) no_placeholder in
+    let read : ReadsAs A (args_term xs) (args_term xs) = subst (λ x. ReadsAs A x x) (sym u8_args) (read_reads A (only u8_term) ((tt, (tt, tt)), tt)) in
+    not_listed s of js none (h (inr (inl tt)) out xs refl (sym u8_args) whole xs read)
 
 -- ---- a table without entries says nothing
 
