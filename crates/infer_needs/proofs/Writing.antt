@@ -26,6 +26,7 @@ use Rattle.hir_raw.specs.declared.raw.RawType.{RawType}
 use Rattle.hir_raw.specs.declared.raw.RawType.TheVariants as type
 use Rattle.hir_raw.specs.Lets.{let_aliases}
 use Rattle.hir_raw.specs.WrittenTypes.{filled_by, filled_within, lowered}
+use Rattle.hir_laws.specs.Lawful.{IsLawful}
 use Rattle.infer_table.specs.Table.{IsFront}
 use Rattle.goal_answers.specs.Goals.{Asked, System, Each}
 use Rattle.goal_answers.specs.Answers.{answers}
@@ -51,7 +52,7 @@ use Rattle.infer_needs.specs.Judged.{IsProvable, AreProvable, CanPatsBeProved}
 use Rattle.infer_needs.specs.Left.{Lists, IsFinal}
 use Rattle.infer_needs.specs.Written.{IsAsWritten, ListedAt, ListedHere, TypeIsListed, TypesAreListed, GoalsAreListed, ExprsAreListed, CanItemsBeProved, ItemsAreListed, AreAllListed}
 use Rattle.infer_needs.proofs.Leaving.{stays_later, none_later, table_later, read_then, lists_nothing, lists_both}
-use Rattle.infer_needs.proofs.ReadsYes.{written_heads, no_hole, reading_written, aliases_written}
+use Rattle.infer_needs.proofs.ReadsYes.{term_reads_written}
 
 -- ---- terms as they are written
 
@@ -99,14 +100,12 @@ pub lowered_written : (types : List RawType) (k : ℕ) → IsAsWritten (term (lo
 lowered_written types k = within_written types (suc k) k
 
 -- what arguments read as
-module _ (raw : RawFacts) (item : GenericDefId) (f : System) (of : IsSystemOf raw item f) (n : ℕ) where
+module _ (raw : RawFacts) (law : IsLawful raw) (item : GenericDefId) (f : System) (of : IsSystemOf raw item f) (n : ℕ) where
   pub args_final : (w v : Term) → IsAsWritten w → (HoldsPlaceholder w → ⊥) → ReadsAs (answers f n).Alias w v → IsFinal v
-  args_final w v h none r =
-      let written = none_written w h none in
-      record {
-        read = reading_is_read (answers f n).Alias (answers_read f n) hole w v (λ j o. tt) r;
-        written = reading_written (answers f n).Alias (aliases_written raw item f of n) hole w v (written_heads w written) (λ k o. absurd (no_hole w written k o)) r;
-      }
+  args_final w v h none r = record {
+    read = reading_is_read (answers f n).Alias (answers_read f n) hole w v (λ j o. tt) r;
+    written = term_reads_written raw law item f of n w v r (none_written w h none);
+  }
 
 -- ---- what stays so
 

@@ -85,6 +85,7 @@ fn look_at_args(
     if holds_placeholder(args) {
         return Ok(());
     }
+    sources.facts().lawful();
     match read_args(alloc, sources, args)? {
         Some(read) => {
             look_at_alias(alloc, sources, alias, &read, proofs, found)?;

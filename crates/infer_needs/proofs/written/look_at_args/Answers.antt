@@ -1,5 +1,6 @@
 use Rattle.std.proofs.Common.{◌∙◌, option_map, sym, subst, true≢false}
 use Rattle.hir_types.specs.Terms.{hole}
+use Rattle.hir_laws.specs.Lawful.{IsLawful}
 use Rattle.goal_answers.specs.Answers.{answers}
 use Rattle.goal_answers.specs.Steps.{ReadingIs}
 use Rattle.goal_search.specs.Sources.{system}
@@ -14,7 +15,8 @@ look_at_alias-requires-clause-whole c =
     let n = raw.limits.goal_depth in
     let w = term_of c.args.args.now in
     let reads = subst (λ o. ReadingIs (answers f n).Alias hole w (option_map term_of o)) c.in-Some.is c.in_ok-read.ensures.read in
-    args_final raw _ f c.in_ok-read.ensures.given n w (term_of c.in-Some.read) c.requires.written
+    let law = subst IsLawful c.facts.ensures c.lawful.ensures in
+    args_final raw law _ f c.in_ok-read.ensures.given n w (term_of c.in-Some.read) c.requires.written
     (λ holds. true≢false (sym (c.holds_placeholder.ensures.1 holds) ∙ c.if-holds_placeholder.false)) reads
 
 pub returns-in_ok-look_at_alias-in-Some : goal.returns-in_ok-look_at_alias-in-Some
