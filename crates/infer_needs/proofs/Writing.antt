@@ -1,5 +1,5 @@
 -- Associated types that are written in types and goals: what is listed of them, as proofs and entries are added.
-use Rattle.std.specs.Prelude.{◌≡◌, ◌+◌, ◌<◌, ℕ, zero, suc, true, List, [], ◌∷◌, length, map, slice_get, Option, Some, None}
+use Rattle.std.specs.Prelude.{◌≡◌, ◌+◌, ◌<◌, ℕ, zero, suc, List, [], ◌∷◌, length, map, slice_get, Option, Some, None}
 use Rattle.std.specs.Option.{option_and_then}
 use Rattle.std.proofs.Common.{inl, inr, refl, sym, ap, ◌∙◌, subst, arith}
 use Rattle.std.proofs.Math.Nat.{eq-or-lt_of_le}
@@ -28,9 +28,9 @@ use Rattle.hir_raw.specs.Lets.{let_aliases}
 use Rattle.hir_raw.specs.WrittenTypes.{filled_by, filled_within, lowered}
 use Rattle.hir_laws.specs.Lawful.{IsLawful}
 use Rattle.infer_table.specs.Table.{IsFront}
-use Rattle.goal_answers.specs.Goals.{Asked, System, Each}
+use Rattle.goal_answers.specs.Goals.{Asked, System}
 use Rattle.goal_answers.specs.Answers.{answers}
-use Rattle.goal_answers.specs.Reading.{Role, alias, role, alias_at, ReadsAs}
+use Rattle.goal_answers.specs.Reading.{alias, role, alias_at, ReadsAs}
 use Rattle.goal_answers.proofs.Levels.{answers_read, reads_read as reading_is_read}
 use Rattle.goal_answers.proofs.One.{answers_sound}
 use Rattle.goal_answers.proofs.Readings.{reads_one as same_reading}
@@ -41,17 +41,17 @@ use Rattle.goal_prove.specs.Written.{IsWritten}
 use Rattle.infer_result.specs.declared.gaps.Gap.{Gap}
 use Rattle.infer_result.specs.declared.result.InferenceResult.{InferenceResult}
 use Rattle.infer_result.specs.Closed.{AllTypes}
-use Rattle.infer_result.specs.Needs.{IsNeeded, with_goals, scope_item, needs_of, needs_at, pat_needs_of, pat_needs_at, node_needs}
+use Rattle.infer_result.specs.Needs.{with_goals, scope_item, needs_of, pat_needs_of, node_needs}
 use Rattle.infer_result.specs.OwnTypes.{HoldsPlaceholder, aliases_of}
 use Rattle.infer_result.specs.Places.{Given}
 use Rattle.infer_result.specs.Projections.{IsPartOf, StaysOrIsListed, NoneIsLeft}
 use Rattle.infer_result.specs.Table.{recorded}
 use Rattle.infer_result.specs.Typed.{given}
-use Rattle.infer_result.specs.WrittenAliases.{args_term, IsListedOnceRead, WrittenAreListed, AllWrittenAreListed}
+use Rattle.infer_result.specs.WrittenAliases.{args_term, WrittenAreListed, AllWrittenAreListed}
 use Rattle.infer_needs.specs.Judged.{IsProvable, AreProvable, CanPatsBeProved}
 use Rattle.infer_needs.specs.Left.{Lists, IsFinal}
 use Rattle.infer_needs.specs.Written.{IsAsWritten, ListedAt, ListedHere, TypeIsListed, TypesAreListed, GoalsAreListed, ExprsAreListed, CanItemsBeProved, ItemsAreListed, AreAllListed}
-use Rattle.infer_needs.proofs.Leaving.{stays_later, none_later, table_later, read_then, lists_nothing, lists_both}
+use Rattle.infer_needs.proofs.Leaving.{stays_later, table_later, read_then, lists_nothing, lists_both}
 use Rattle.infer_needs.proofs.ReadsYes.{term_reads_written}
 
 -- ---- terms as they are written

@@ -34,7 +34,7 @@ prove_exprs-requires-clause-needs c n x at =
 pub prove_exprs-requires-clause-pats : goal.prove_exprs-requires-clause-pats
 prove_exprs-requires-clause-pats c n =
     subst (λ z. AreProvable (pat_needs_at z c.args.table.now n)) (sym c.in_ok-sources.ensures.facts)
-    (pat_needs_provable c.args.facts.now c.args.def c.args.table.now c.requires n)
+    (pat_needs_provable c.args.facts.now c.lawful.ensures c.args.def c.args.table.now c.requires n)
 
 pub prove_exprs-requires-clause-types : goal.prove_exprs-requires-clause-types
 prove_exprs-requires-clause-types c = table_final c.args.facts.now c.lawful.ensures c.args.def c.args.table.now c.requires

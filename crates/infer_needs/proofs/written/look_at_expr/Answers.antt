@@ -1,4 +1,4 @@
-use Rattle.std.proofs.Common.{◌≡◌, List, map, subst, sym}
+use Rattle.std.proofs.Common.{List, map, subst, sym}
 use Rattle.goal_answers.specs.Goals.{Asked}
 use Rattle.goal_facts.specs.Goals.{asked_goal}
 use Rattle.goal_search.specs.Sources.{system}
@@ -11,7 +11,7 @@ use Rattle.infer_needs.proofs.written.look_at_expr.Goals as goal
 pub look_at_goals-requires-clause-provable : goal.look_at_goals-requires-clause-provable
 look_at_goals-requires-clause-provable c =
     let all = needed_here c.args.sources.now.facts c.facts.result.now c.args.expr.now c.args.table.now.type_of_expr c.args.at c.in_ok-expr_id.field-0.0 c.in-Some.ty.now (map asked_goal c.in_ok-needed-in-Some.needed.items)
-        c.in_ok-needed-in-Some.ensures c.facts.ensures c.in-Some.ensures c.in_ok-expr_id.ensures in
+    c.in_ok-needed-in-Some.ensures c.facts.ensures c.in-Some.ensures c.in_ok-expr_id.ensures in
     subst (λ xs. AreProvable (map asked_goal xs)) (sym c.as_slice.ensures.value) (subst AreProvable (sym all) c.requires.provable)
 
 pub returns-in_ok-look_at_goals-in-Some : goal.returns-in_ok-look_at_goals-in-Some
@@ -19,6 +19,6 @@ returns-in_ok-look_at_goals-in-Some c =
     let raw = c.args.sources.now.facts in
     let f = system c.args.sources.now.sources in
     let all = needed_here raw c.facts.result.now c.args.expr.now c.args.table.now.type_of_expr c.args.at c.in_ok-expr_id.field-0.0 c.in-Some.ty.now (map asked_goal c.in_ok-needed-in-Some.needed.items)
-        c.in_ok-needed-in-Some.ensures c.facts.ensures c.in-Some.ensures c.in_ok-expr_id.ensures in
+    c.in_ok-needed-in-Some.ensures c.facts.ensures c.in-Some.ensures c.in_ok-expr_id.ensures in
     subst (λ (xs : List Asked). Lists raw f (GoalsAreListed f raw.limits.goal_depth xs) c.args.proofs.now.items c.look_at_goals.new.proofs.items c.args.found.now c.look_at_goals.new.found) all
     (rw c.as_slice.ensures.value at c.in_ok-look_at_goals-in-Some.ensures)

@@ -1,10 +1,9 @@
-use Rattle.std.proofs.Common.{◌≡◌, ◌∙◌, List, ℕ, ap, subst, sym}
+use Rattle.std.proofs.Common.{◌≡◌, ◌∙◌, ap, subst, sym}
 use Rattle.hir_raw.specs.declared.raw.RawFacts.{RawFacts}
 use Rattle.hir_raw.specs.Lets.{let_aliases}
 use Rattle.goal_search.specs.Sources.{system}
 use Rattle.infer_result.specs.OwnTypes.{aliases_of}
-use Rattle.infer_needs.specs.Left.{Lists}
-use Rattle.infer_needs.specs.Written.{TypesAreListed, CanItemsBeProved}
+use Rattle.infer_needs.specs.Written.{CanItemsBeProved}
 use Rattle.infer_needs.proofs.Writing.{items_provable, lists_all}
 use Rattle.infer_needs.proofs.written.look_at_written.Goals as goal
 
@@ -25,6 +24,6 @@ returns c =
     let f = system c.args.sources.now.sources in
     let own : c.as_slice.result.now ≡ aliases_of raw c.args.def = c.as_slice.ensures.value ∙ c.in_ok-own.ensures ∙ ap (λ (z : RawFacts). aliases_of z c.args.def) c.facts-facts.ensures in
     let lets : c.as_slice-2.result.now ≡ let_aliases raw.types c.args.body.now =
-        c.as_slice-2.ensures.value ∙ c.in_ok-lets.ensures ∙ ap (λ ts. let_aliases ts c.args.body.now) c.types.ensures ∙ ap (λ (z : RawFacts). let_aliases z.types c.args.body.now) c.facts-facts.ensures in
+    c.as_slice-2.ensures.value ∙ c.in_ok-lets.ensures ∙ ap (λ ts. let_aliases ts c.args.body.now) c.types.ensures ∙ ap (λ (z : RawFacts). let_aliases z.types c.args.body.now) c.facts-facts.ensures in
     lists_all raw c.args.def c.args.body.now c.args.table.now f _ _ _ _ _ _ _ _ _ _
     (rw own at c.in_ok-look_at_written_types.ensures) (rw lets at c.in_ok-look_at_written_types-2.ensures) c.in_ok-look_at_exprs.ensures (rw c.as_slice-items.ensures at c.in_ok-look_at_items.ensures)

@@ -1,4 +1,4 @@
-use Rattle.std.proofs.Common.{◌≡◌, ◌∙◌, List, ap, subst, sym}
+use Rattle.std.proofs.Common.{◌≡◌, ◌∙◌, ap, subst, sym}
 use Rattle.hir_types.specs.Terms.{Term, term}
 use Rattle.hir_raw.specs.declared.raw.RawFacts.{RawFacts}
 use Rattle.hir_raw.specs.WrittenTypes.{lowered}
@@ -15,7 +15,7 @@ look_at_term-requires-clause-written c =
     let types = c.args.sources.now.facts.types in
     let facts = c.facts.ensures in
     let is : term_of c.in_ok-term.term ≡ term (lowered types c.args.number) =
-        c.in_ok-term.ensures.is ∙ ap term (c.in_ok-ty.ensures ∙ ap (λ (z : RawFacts). lowered z.types c.in_ok-written.written.0) facts ∙ ap (lowered types) c.in_ok-written.ensures) in
+    c.in_ok-term.ensures.is ∙ ap term (c.in_ok-ty.ensures ∙ ap (λ (z : RawFacts). lowered z.types c.in_ok-written.written.0) facts ∙ ap (lowered types) c.in_ok-written.ensures) in
     subst IsAsWritten (sym is) (lowered_written types c.args.number)
 
 pub returns : goal.returns
@@ -24,5 +24,5 @@ returns c =
     let f = system c.args.sources.now.sources in
     let types = raw.types in
     let is : term_of c.in_ok-term.term ≡ term (lowered types c.args.number) =
-        c.in_ok-term.ensures.is ∙ ap term (c.in_ok-ty.ensures ∙ ap (λ (z : RawFacts). lowered z.types c.in_ok-written.written.0) c.facts.ensures ∙ ap (lowered types) c.in_ok-written.ensures) in
+    c.in_ok-term.ensures.is ∙ ap term (c.in_ok-ty.ensures ∙ ap (λ (z : RawFacts). lowered z.types c.in_ok-written.written.0) c.facts.ensures ∙ ap (lowered types) c.in_ok-written.ensures) in
     subst (λ (x : Term). Lists raw f (λ js. WrittenAreListed f raw.limits.goal_depth js x) c.args.proofs.now.items c.look_at_term.new.proofs.items c.args.found.now c.look_at_term.new.found) is c.in_ok-look_at_term.ensures
