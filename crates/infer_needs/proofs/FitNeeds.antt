@@ -1,5 +1,5 @@
 -- Goals that the nodes of a typed body need fit, and so does what these read as.
-use Rattle.std.specs.Prelude.{◌≡◌, ◌<◌, ◌+◌, ◌==◌, ℕ, zero, suc, true, false, List, [], ◌∷◌, length, map, slice_get, Option, Some, None, option_map, refl}
+use Rattle.std.specs.Prelude.{◌≡◌, ◌<◌, ◌+◌, ◌==◌, ℕ, zero, suc, true, List, [], ◌∷◌, length, map, slice_get, Option, Some, None, option_map, refl}
 use Rattle.std.proofs.Common.{arith, sym, ap, ◌∙◌, subst, true≢false}
 use Rattle.hir_types.specs.declared.ids.DefWithBodyId.{DefWithBodyId}
 use Rattle.hir_types.specs.declared.ids.ExprOrPatId.{ExprOrPatId}

@@ -1,5 +1,5 @@
 -- What types that fit read as fits, by the sources of an item of lawful facts.
-use Rattle.std.specs.Prelude.{◌≡◌, ◌<◌, ◌+◌, ℕ, zero, suc, nat_lt, true, false, ◌&&◌, List, [], ◌∷◌, length, map, flat_map, slice_get, Option, Some, None, option_map, refl}
+use Rattle.std.specs.Prelude.{◌≡◌, ◌<◌, ◌+◌, ℕ, zero, suc, nat_lt, true, ◌&&◌, List, [], ◌∷◌, length, map, flat_map, slice_get, Option, Some, None, option_map, refl}
 use Rattle.std.specs.List.{range_with_len}
 use Rattle.std.proofs.Common.{inl, inr, arith, sym, ap, ◌∙◌, subst, true≢false}
 use Rattle.std.proofs.lemmas.Bool.{lt-ltb, or_cases, or_left, or_right}
