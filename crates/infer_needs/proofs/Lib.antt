@@ -9,6 +9,12 @@ pub mod Judging
 pub mod Opening
 pub mod ReadsYes
 pub mod ReadGoals
+pub mod FitTerms
+pub mod FitSources
+pub mod ReadsFit
+pub mod FitNeeds
+pub mod FitTypes
+pub mod FitEntries
 pub mod Leaving
 pub mod Writing
 pub mod Holding

@@ -4,3 +4,4 @@ pub mod Read
 pub mod Left
 pub mod Written
 pub mod Told
+pub mod Fits
