@@ -1,64 +1,40 @@
--- Entries that come from what nodes need, or from types of a table, fit; and so do the gaps.
-use Rattle.std.specs.Prelude.{◌≡◌, ◌⊎◌, ℕ, List, slice_get, Some, map, refl}
+-- Entries that were read of types that fit, or that nodes' needs say, fit; and so do the gaps.
+use Rattle.std.specs.Prelude.{◌≡◌, ◌⊎◌, ℕ, zero, suc, List, length, slice_get, Some, refl}
 use Rattle.std.proofs.Common.{inl, inr, sym, subst}
 use Rattle.hir_types.specs.declared.ids.DefWithBodyId.{DefWithBodyId}
-use Rattle.hir_types.specs.declared.ids.DefWithBodyId.TheVariants as def
 use Rattle.hir_types.specs.declared.ids.ExprOrPatId.{ExprOrPatId}
+use Rattle.hir_types.specs.declared.ids.ExprOrPatId.TheVariants as node
 use Rattle.hir_types.specs.declared.ids.TypeAliasId.{TypeAliasId}
 use Rattle.hir_types.specs.declared.goal.Goal.TheVariants as goal
 use Rattle.hir_types.specs.declared.ty.GenericArg.{GenericArg}
 use Rattle.hir_types.specs.declared.ty.Ty.{Ty}
 use Rattle.hir_types.specs.declared.ty.Ty.TheVariants as ty
-use Rattle.hir_types.specs.Terms.{Term, hole, leaf, pair, chain, term, arg_term}
+use Rattle.hir_types.specs.Terms.{term}
 use Rattle.hir_types.specs.TermLaws.{term_projection}
 use Rattle.hir_raw.specs.declared.raw.RawBody.{RawBody}
 use Rattle.hir_raw.specs.declared.raw.RawFacts.{RawFacts}
-use Rattle.hir_raw.specs.Scope.{Scope, scope_of, params_of, generic_params}
+use Rattle.hir_raw.specs.Scope.{Scope, scope_of, generic_params}
 use Rattle.hir_laws.specs.Bodies.{body_of}
 use Rattle.hir_laws.specs.Lawful.{IsLawful}
-use Rattle.goal_answers.specs.Goals.{Asked, System}
+use Rattle.goal_answers.specs.Goals.{Asked, System, Each}
 use Rattle.goal_facts.specs.Goals.{asked_goal}
-use Rattle.goal_facts.specs.Reading.{TypeReads}
+use Rattle.goal_facts.specs.declared.proof.Proof.{Proof}
 use Rattle.goal_facts.specs.Systems.{IsSystemOf}
-use Rattle.goal_facts.proofs.Systems.{each_get}
-use Rattle.goal_prove.specs.Written.{IsWritten}
+use Rattle.goal_facts.proofs.Systems.{each_append, each_get}
 use Rattle.infer_result.specs.declared.gaps.Gap.{Gap}
 use Rattle.infer_result.specs.declared.gaps.Gap.TheVariants as gap
 use Rattle.infer_result.specs.declared.result.InferenceResult.{InferenceResult}
-use Rattle.infer_result.specs.Needs.{scope_item, node_needs, IsNeeded, IsTrueGap, HasGap}
-use Rattle.infer_result.specs.Projections.{GoalReads, IsPartOf, stays_at}
+use Rattle.infer_result.specs.Needs.{with_goals, scope_item, needs_at, pat_needs_at, node_needs, IsNeeded, IsTrueGap, HasGap}
+use Rattle.infer_result.specs.Projections.{GoalReads, stays_at}
 use Rattle.infer_result.specs.Typed.{IsTableOf, given}
 use Rattle.infer_needs.specs.Fits.{IsFitType, IsFitGap, EntriesFit}
-use Rattle.infer_needs.specs.Judged.{IsProvable}
-use Rattle.infer_needs.proofs.FitTerms.{Fits}
-use Rattle.infer_needs.proofs.FitNeeds.{GoalIsFit, needs_fit, goal_reads_fit}
-use Rattle.infer_needs.proofs.FitTypes.{fit_goal}
-use Rattle.infer_needs.proofs.Provable.{node_provable}
-use Rattle.infer_needs.proofs.ReadsFit.{split, reads_fit}
-use Rattle.infer_needs.proofs.ReadsYes.{reads_written, term_reads_written}
-
--- ---- what stands in a term that fits
-
-part_fits : (raw : RawFacts) (n : ℕ) (x t : Term) → IsPartOf x t → Fits raw n t → Fits raw n x
-part_fits raw n x (hole k) p h = absurd p
-part_fits raw n x (leaf g) p h = absurd p
-part_fits raw n x (pair a b) (inl e) h = subst (Fits raw n) (sym e) h
-part_fits raw n x (pair a b) (inr (inl p)) h = part_fits raw n x a p (split raw n a b h).first
-part_fits raw n x (pair a b) (inr (inr p)) h = part_fits raw n x b p (split raw n a b h).rest
-
-part_written : (x t : Term) → IsPartOf x t → IsWritten t → IsWritten x
-part_written x (hole k) p h = absurd p
-part_written x (leaf g) p h = absurd p
-part_written x (pair a b) (inl e) h = subst IsWritten (sym e) h
-part_written x (pair a b) (inr (inl p)) h = part_written x a p h.0
-part_written x (pair a b) (inr (inr p)) h = part_written x b p h.1
-
--- a body is in the scope of its definition
-same_scope : (raw : RawFacts) (d : DefWithBodyId) (b : RawBody) → body_of raw d ≡ Some b → generic_params raw (scope_item raw d) ≡ params_of raw d
-same_scope raw (def.FunctionId f) b is = refl
-same_scope raw (def.ConstId c) b is = absurd (cc)
-same_scope raw (def.StaticId s) b is = absurd (cc)
-same_scope raw (def.VariantId v) b is = absurd (cc)
+use Rattle.infer_needs.specs.FitTerms.{Fits, GoalIsFit, EntryFitsIn}
+use Rattle.infer_needs.specs.Judged.{IsProvable, IsEntry, AreEntries, IsSaidBy, FitOrAreSaid}
+use Rattle.infer_needs.specs.Told.{first_needs, first_pat_needs, all_needs}
+use Rattle.infer_needs.proofs.FitNeeds.{needs_fit, goal_reads_fit}
+use Rattle.infer_needs.proofs.FitTypes.{fit_type, fit_alias, fit_goal}
+use Rattle.infer_needs.proofs.Provable.{same_scope, node_provable}
+use Rattle.infer_needs.proofs.ReadsYes.{term_reads_written}
 
 module _
     (raw : RawFacts) (law : IsLawful raw) (d : DefWithBodyId) (b : RawBody) (of_body : body_of raw d ≡ Some b) (r : InferenceResult) (table : IsTableOf raw d r)
@@ -77,66 +53,62 @@ module _
     pub fits : GoalIsFit raw sc.params a
     pub written : IsProvable a
 
-  -- what is read of a goal that a node needs
-  pub record IsOfNeed (a : Asked) : Type 0 where
-    pub node : ExprOrPatId
-    pub at : ℕ
-    pub need : Asked
-    pub among : slice_get (node_needs raw b r node) at ≡ Some need
-    pub reads : GoalReads f depth need a
-
   need_right : (m : ExprOrPatId) (k : ℕ) (a : Asked) → slice_get (node_needs raw b r m) k ≡ Some a → IsRight a
   need_right m k a among = record {
     fits = each_get (GoalIsFit raw sc.params) (node_needs raw b r m) k a (needs_fit raw law d r table b m) among;
     written = each_get IsProvable (node_needs raw b r m) k a (node_provable raw law d r table b m) among;
   }
 
+  read_fits : (a c : Asked) → GoalReads f depth a c → GoalIsFit raw sc.params a → GoalIsFit raw sc.params c
+  read_fits a c reads h = subst (λ (m : ℕ). GoalIsFit raw m c) same (goal_reads_fit raw law (scope_item raw d) f of_item depth a c reads (subst (λ (m : ℕ). GoalIsFit raw m a) (sym same) h))
+
   read_right : (a c : Asked) → GoalReads f depth a c → IsRight a → IsRight c
   read_right a c reads h = record {
-    fits = subst (λ (m : ℕ). GoalIsFit raw m c) same (goal_reads_fit raw law (scope_item raw d) f of_item depth a c reads (subst (λ (m : ℕ). GoalIsFit raw m a) (sym same) h.fits));
+    fits = read_fits a c reads h.fits;
     written = term_reads_written raw law (scope_item raw d) f of_item depth a.parts c.parts reads.parts h.written;
   }
 
-  of_need_right : (a : Asked) → IsOfNeed a → IsRight a
-  of_need_right a h = read_right h.need a h.reads (need_right h.node h.at h.need h.among)
+  -- ---- entries
 
-  -- what an associated type in a type that fits reads as
-  pub record IsOfType (k : TypeAliasId) (xs : List GenericArg) (u : Ty) : Type 0 where
-    pub whole : Term
-    pub fits : Fits raw sc.params whole
-    pub written : IsWritten whole
-    pub stands : IsPartOf (stays_at k xs) whole
-    pub reads : TypeReads f depth (ty.Projection k xs) u
+  first_fit : (m : ℕ) → Each (GoalIsFit raw sc.params) (first_needs raw b r m)
+  first_fit zero = tt
+  first_fit (suc m) = each_append (GoalIsFit raw sc.params) (first_needs raw b r m) (needs_at raw b r m) (first_fit m) (needs_fit raw law d r table b (node.ExprId (record { 0 = m })))
 
-  of_type_right : (k : TypeAliasId) (xs : List GenericArg) (u : Ty) → IsOfType k xs u → IsRight (asked_goal (goal.Projection k xs u))
-  of_type_right k xs u h =
-      let args = chain (map arg_term xs) in
-      let own : Fits raw sc.params (stays_at k xs) = part_fits raw sc.params (stays_at k xs) h.whole h.stands h.fits in
-      let alias : Fits raw sc.params (term (ty.Projection k xs)) = subst (Fits raw sc.params) (sym (term_projection k xs)) own in
-      let written = part_written (stays_at k xs) h.whole h.stands h.written in
-      let read = reads_fit raw law (scope_item raw d) f of_item depth (term (ty.Projection k xs)) (term u) (subst (λ (m : ℕ). Fits raw m (term (ty.Projection k xs))) (sym same) alias) h.reads in
-      record {
-        fits = (own, subst (λ (m : ℕ). Fits raw m (term u)) same read);
-        written = (written.1, reads_written raw law (scope_item raw d) f of_item depth k xs u h.reads written.1);
-      }
+  first_pats_fit : (m : ℕ) → Each (GoalIsFit raw sc.params) (first_pat_needs raw r m)
+  first_pats_fit zero = tt
+  first_pats_fit (suc m) = each_append (GoalIsFit raw sc.params) (first_pat_needs raw r m) (pat_needs_at raw r m) (first_pats_fit m) (needs_fit raw law d r table b (node.PatId (record { 0 = m })))
 
-  -- where an entry comes from
-  pub record ComesFrom (x : Ty × Ty) : Type 0 where
-    pub alias : TypeAliasId
-    pub args : List GenericArg
-    pub is : x.0 ≡ ty.Projection alias args
-    pub from : IsOfNeed (asked_goal (goal.Projection alias args x.1)) ⊎ IsOfType alias args x.1
+  all_needs_fit : Each (GoalIsFit raw sc.params) (all_needs raw b r)
+  all_needs_fit = each_append (GoalIsFit raw sc.params) (first_needs raw b r (length b.exprs)) (first_pat_needs raw r (length b.pats)) (first_fit (length b.exprs)) (first_pats_fit (length b.pats))
 
-  from_right : (x : Ty × Ty) (h : ComesFrom x) → IsRight (asked_goal (goal.Projection h.alias h.args x.1))
-  from_right x h = elim h.from [
-    | inl k ↦ of_need_right (asked_goal (goal.Projection h.alias h.args x.1)) k
-    | inr k ↦ of_type_right h.alias h.args x.1 k
-  ]
+  -- the associated type that stays fits where the one that is written does
+  as_written : (k : TypeAliasId) (xs : List GenericArg) → Fits raw sc.params (stays_at k xs) → Fits raw sc.params (term (ty.Projection k xs))
+  as_written k xs h = subst (Fits raw sc.params) (sym (term_projection k xs)) h
 
-  pub entry_fits : (x : Ty × Ty) → ComesFrom x → IsFitType sc x.0 × IsFitType sc x.1
-  entry_fits x h =
-      let q = fit_goal sc (goal.Projection h.alias h.args x.1) (from_right x h).fits (from_right x h).written in
-      (subst (IsFitType sc) (sym h.is) q.0, q.1)
+  as_staying : (k : TypeAliasId) (xs : List GenericArg) → Fits raw sc.params (term (ty.Projection k xs)) → Fits raw sc.params (stays_at k xs)
+  as_staying k xs h = subst (Fits raw sc.params) (term_projection k xs) h
+
+  said_fits : (x : Ty × Ty) → IsSaidBy f depth (all_needs raw b r) x → Fits raw sc.params (term x.0) × Fits raw sc.params (term x.1)
+  said_fits x h =
+      let a = asked_goal (goal.Projection h.alias h.args x.1) in
+      let need = each_get (GoalIsFit raw sc.params) (all_needs raw b r) h.at h.need all_needs_fit h.among in
+      let q = read_fits h.need a h.reads need in
+      (subst (λ t. Fits raw sc.params (term t)) (sym h.is) (as_written h.alias h.args q.0), q.1)
+
+  both_fit : (x : Ty × Ty) → EntryFitsIn raw (scope_item raw d) x ⊎ IsSaidBy f depth (all_needs raw b r) x → Fits raw sc.params (term x.0) × Fits raw sc.params (term x.1)
+  both_fit x (inl h) = (subst (λ m. Fits raw m (term x.0)) same h.0, subst (λ m. Fits raw m (term x.1)) same h.1)
+  both_fit x (inr h) = said_fits x h
+
+  entry_fits : (ps : List Proof) (x : Ty × Ty) → IsEntry ps x → EntryFitsIn raw (scope_item raw d) x ⊎ IsSaidBy f depth (all_needs raw b r) x → IsFitType sc x.0 × IsFitType sc x.1
+  entry_fits ps x e from =
+      let fit = both_fit x from in
+      let own = as_staying e.alias e.args (subst (λ t. Fits raw sc.params (term t)) e.is fit.0) in
+      (subst (IsFitType sc) (sym e.is) (fit_alias sc e.alias e.args own e.written.0), fit_type sc x.1 fit.1 e.written.1)
+
+  -- those that fit, or that needs say
+  pub entries_fit : (ps : List Proof) (js : List (Ty × Ty)) → AreEntries ps js → FitOrAreSaid raw (scope_item raw d) f (all_needs raw b r) js
+      → (k : ℕ) (x : Ty × Ty) → slice_get js k ≡ Some x → IsFitType sc x.0 × IsFitType sc x.1
+  entries_fit ps js entries from k x at = entry_fits ps x (entries k x at) (from k x at)
 
   -- ---- gaps
 
@@ -153,3 +125,8 @@ module _
 
     pub all_fit : ((m : ExprOrPatId) (x : Gap) → HasGap z m x → IsTrueGap (given raw d b) f z m x) → EntriesFit (given raw d b) z
     all_fit gaps = record { entries = entries; gaps = λ m x has. gap_fits m x (gaps m x has) }
+
+-- what could not be shown and what was found are no matter for what nodes need
+pub same_needs : (raw : RawFacts) (b : RawBody) (r : InferenceResult) (ps : List Proof) (js : List (Ty × Ty)) (gss hss : List (List Gap)) (m : ExprOrPatId) → node_needs raw b (with_goals ps js gss hss r) m ≡ node_needs raw b r m
+same_needs raw b r ps js gss hss (node.ExprId e) = refl
+same_needs raw b r ps js gss hss (node.PatId p) = refl

@@ -55,20 +55,12 @@ use Rattle.infer_result.specs.Table.{recorded}
 use Rattle.infer_result.specs.Typed.{IsTableOf}
 use Rattle.infer_table.specs.Preserved.{width}
 use Rattle.infer_needs.proofs.Closed.{both}
-use Rattle.infer_needs.proofs.FitTerms.{are_types, takes, is_fit, Fits, type_same}
+use Rattle.infer_needs.specs.FitTerms.{are_types, takes, is_fit, Fits, AskedFits, GoalIsFit}
+use Rattle.infer_needs.proofs.FitTerms.{type_same}
 use Rattle.infer_needs.proofs.FitSources.{GoalIsCounted, both_true, alias_counted, type_fits_at, args_fit_at, args_are_types, args_taken, adts_fit, goal_counted}
 use Rattle.infer_needs.proofs.NoPlaceholders.{IsFree, parts_free, own_free, fn_free, variant_free}
 use Rattle.infer_needs.proofs.ReadsFit.{split, reads_fit, still_takes, still_types}
 use Rattle.infer_needs.proofs.Provable.{recorded_at}
-
--- the types in the goal fit; an associated type has as many arguments as its trait takes, each a type
-abbrev pub AskedFits : RawFacts → ℕ → Kind → Term → Type 0
-AskedFits raw n (implements t) w = (are_types w ≡ true) × Fits raw n w
-AskedFits raw n (projects k) (pair x y) = Fits raw n (staying k x) × Fits raw n y
-AskedFits raw n (projects k) _ = ⊥
-
-abbrev pub GoalIsFit : RawFacts → ℕ → Asked → Type 0
-GoalIsFit raw n a = AskedFits raw n a.kind a.parts
 
 -- ---- what is written, and takes as many arguments as it is given
 

@@ -37,7 +37,7 @@ use Rattle.infer_table.specs.Preserved.{width}
 use Rattle.goal_facts.specs.Arguments.{type_at, args_at}
 use Rattle.goal_facts.specs.Environment.{preds_or_none, trait_preds, env_trait, preds_of_trait, env_preds}
 use Rattle.goal_facts.proofs.Written.{parts_by, layer, layer_is, args_are}
-use Rattle.infer_needs.proofs.FitTerms.{are_types, takes, is_fit, Fits}
+use Rattle.infer_needs.specs.FitTerms.{are_types, takes, is_fit, Fits}
 use Rattle.infer_needs.proofs.NoPlaceholders.{none_in}
 
 -- the arguments in the type are as many as they have to be
@@ -64,7 +64,7 @@ none_wrong : (b : Bool) (n : ℕ) → n ≡ (if b then 0 else 1) → n ≡ 0 →
 none_wrong true n is h = refl
 none_wrong false n is h = absurd (omega (arith, is, h))
 
-adt_counted : (o : Option RawAdt) (ts : List TypeRefId) → wrong_count o ts ≡ 0 → has_params (option_map (λ x. length x.params) o) (length ts) ≡ true
+pub adt_counted : (o : Option RawAdt) (ts : List TypeRefId) → wrong_count o ts ≡ 0 → has_params (option_map (λ x. length x.params) o) (length ts) ≡ true
 adt_counted None ts h = absurd (omega (arith, h))
 adt_counted (Some x) ts h = none_wrong (length x.params == length ts) (wrong_count (Some x) ts) refl h
 

@@ -18,57 +18,8 @@ use Rattle.hir_raw.specs.declared.raw.RawFacts.{RawFacts}
 use Rattle.hir_raw.specs.Fit.{const_fits, fits_step, ty_fits, arg_fits}
 use Rattle.hir_raw.specs.Scope.{Scope, adt_params, alias_params, callable_params, has_params}
 use Rattle.infer_table.specs.Preserved.{width}
+use Rattle.infer_needs.specs.FitTerms.{are_types, takes, is_fit, is_fit_arg}
 use Rattle.infer_needs.proofs.Closed.{fit_steps}
-
--- ---- terms
-
-abbrev pub is_type : Term → Bool
-is_type (pair (leaf head.TypePart) t) = true
-is_type _ = false
-
--- arguments, each a type
-abbrev pub are_types : Term → Bool
-are_types (leaf head.End) = true
-are_types (pair a b) = is_type a && are_types b
-are_types _ = false
-
--- so many as there are parameters
-abbrev pub takes : Option ℕ → Term → Bool
-takes o b = has_params o (width b) && are_types b
-
--- what may stand behind a head, or behind an argument
-abbrev pub may_follow : RawFacts → Term → Term → Bool
-may_follow raw (leaf (head.Adt i)) b = takes (adt_params raw i) b
-may_follow raw (leaf (head.FnDef i)) b = takes (callable_params raw i) b
-may_follow raw (leaf (head.Projection i)) b = takes (alias_params raw i) b
-may_follow raw (leaf (head.AssociatedType i)) b = takes (alias_params raw i) b
-may_follow raw (leaf _) b = true
-may_follow raw (pair (leaf head.TypePart) t) b = true
-may_follow raw (pair (leaf head.ConstPart) t) b = true
-may_follow raw _ b = false
-
-abbrev pub is_fit_head : ℕ → Head → Bool
-is_fit_head n (head.Param i) = nat_lt i n
-is_fit_head n (head.Opaque i) = false
-is_fit_head n (head.ConstParam i) = false
-is_fit_head n (head.Principal t) = false
-is_fit_head n (head.Bound k) = false
-is_fit_head n (head.AutoTrait t) = false
-is_fit_head n _ = true
-
--- under so many parameters
-abbrev pub is_fit : RawFacts → ℕ → Term → Bool
-is_fit raw n (hole k) = true
-is_fit raw n (leaf h) = is_fit_head n h
-is_fit raw n (pair a b) = may_follow raw a b && (is_fit raw n a && is_fit raw n b)
-
-abbrev pub Fits : RawFacts → ℕ → Term → Type 0
-Fits raw n t = is_fit raw n t ≡ true
-
--- an argument that is a type
-abbrev pub is_fit_arg : RawFacts → ℕ → Term → Bool
-is_fit_arg raw n (pair (leaf head.TypePart) t) = is_fit raw n t
-is_fit_arg raw n _ = false
 
 -- ---- tests
 

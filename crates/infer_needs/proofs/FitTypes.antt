@@ -24,8 +24,8 @@ use Rattle.goal_prove.specs.Written.{IsWritten}
 use Rattle.goal_prove.proofs.Typing.{no_bound, no_principal}
 use Rattle.infer_needs.specs.Fits.{IsFitType, AreFitArgs, IsFitGoal}
 use Rattle.infer_needs.proofs.Closed.{both, hole_steps}
-use Rattle.infer_needs.proofs.FitTerms.{is_type, are_types, Fits, type_same}
-use Rattle.infer_needs.proofs.FitNeeds.{AskedFits}
+use Rattle.infer_needs.specs.FitTerms.{is_type, are_types, Fits, AskedFits}
+use Rattle.infer_needs.proofs.FitTerms.{type_same}
 use Rattle.infer_needs.proofs.ReadsFit.{split}
 
 -- ---- closed types

@@ -5,6 +5,7 @@ pub mod Provable
 pub mod Telling
 pub mod Adding
 pub mod Rooted
+pub mod Coming
 pub mod Judging
 pub mod Opening
 pub mod ReadsYes
@@ -15,6 +16,8 @@ pub mod ReadsFit
 pub mod FitNeeds
 pub mod FitTypes
 pub mod FitEntries
+pub mod FitParts
+pub mod FitWritten
 pub mod Leaving
 pub mod Writing
 pub mod Holding

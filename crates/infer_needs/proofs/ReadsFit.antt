@@ -47,7 +47,7 @@ use Rattle.goal_facts.proofs.Systems.{each_append}
 use Rattle.goal_prove.proofs.TypeTerms.{top_type}
 use Rattle.infer_needs.proofs.Closed.{both}
 use Rattle.infer_needs.proofs.NoPlaceholders.{each_flat}
-use Rattle.infer_needs.proofs.FitTerms.{is_type, are_types, takes, may_follow, is_fit, Fits}
+use Rattle.infer_needs.specs.FitTerms.{is_type, are_types, takes, may_follow, is_fit, Fits}
 use Rattle.infer_needs.proofs.FitSources.{IsCounted, AreCounted, GoalIsCounted, both_true, type_fits_at, args_fit_at, trait_counted, preds_counted, bounds_counted, given_counted}
 use Rattle.infer_needs.proofs.ReadsYes.{some_give}
 
@@ -125,7 +125,7 @@ module _ (raw : RawFacts) (n : ℕ) where
 
 -- ---- where a term is read
 
-role_alias : (a : Term) (k : TypeAliasId) → role a ≡ alias k → a ≡ leaf (head.Projection k)
+pub role_alias : (a : Term) (k : TypeAliasId) → role a ≡ alias k → a ≡ leaf (head.Projection k)
 role_alias (leaf (head.Projection j)) k e = (let same : j ≡ k = cc in ap (λ i. leaf (head.Projection i)) same)
 role_alias _ k e = absurd (cc)
 

@@ -1,4 +1,5 @@
 pub mod Listed
+pub mod FitTerms
 pub mod Judged
 pub mod Read
 pub mod Left

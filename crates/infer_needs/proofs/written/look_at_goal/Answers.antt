@@ -19,6 +19,7 @@ look_at_term-requires-clause-written c =
 pub returns : goal.returns
 returns c =
     let raw = c.args.sources.now.facts in
+    let item = c.args.sources.now.item in
     let f = system c.args.sources.now.sources in
     let is : term_of c.in_ok-asked.asked.parts ≡ (asked_goal c.args.goal.now).parts = ap (λ (a : Asked). a.parts) c.in_ok-asked.ensures.is in
-    subst (λ (x : Term). Lists raw f (λ js. WrittenAreListed f raw.limits.goal_depth js x) c.args.proofs.now.items c.look_at_term.new.proofs.items c.args.found.now c.look_at_term.new.found) is c.in_ok-look_at_term.ensures
+    subst (λ (x : Term). Lists raw item f (λ js. WrittenAreListed f raw.limits.goal_depth js x) c.args.proofs.now.items c.look_at_term.new.proofs.items c.args.found.now c.look_at_term.new.found) is c.in_ok-look_at_term.ensures

@@ -21,8 +21,9 @@ look_at_term-requires-clause-written c =
 pub returns : goal.returns
 returns c =
     let raw = c.args.sources.now.facts in
+    let item = c.args.sources.now.item in
     let f = system c.args.sources.now.sources in
     let types = raw.types in
     let is : term_of c.in_ok-term.term ≡ term (lowered types c.args.number) =
     c.in_ok-term.ensures.is ∙ ap term (c.in_ok-ty.ensures ∙ ap (λ (z : RawFacts). lowered z.types c.in_ok-written.written.0) c.facts.ensures ∙ ap (lowered types) c.in_ok-written.ensures) in
-    subst (λ (x : Term). Lists raw f (λ js. WrittenAreListed f raw.limits.goal_depth js x) c.args.proofs.now.items c.look_at_term.new.proofs.items c.args.found.now c.look_at_term.new.found) is c.in_ok-look_at_term.ensures
+    subst (λ (x : Term). Lists raw item f (λ js. WrittenAreListed f raw.limits.goal_depth js x) c.args.proofs.now.items c.look_at_term.new.proofs.items c.args.found.now c.look_at_term.new.found) is c.in_ok-look_at_term.ensures
