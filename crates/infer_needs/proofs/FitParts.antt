@@ -70,15 +70,15 @@ module _ (raw : RawFacts) (item : GenericDefId) where
       true≢false (sym (subst (λ z. are_types z ≡ true) (sym first) h))
 
   in_goal : (c : Kind) (t : Term) → AskedFits raw own c t → AliasesFitIn raw item t
-  in_goal (implements i) t h = aliases_fit t h.1
+  in_goal (implements i) t h k w p = aliases_fit t h.1 k w p
   in_goal (projects j) (pair x y) h k w (inl e) =
       let s = split raw own (leaf (head.AssociatedType j)) x h.0 in
       let taken : takes (alias_params raw j) x ≡ true = s.follow in
       absurd (no_types k w x y e (both (has_params (alias_params raw j) (width x)) (are_types x) taken).1)
   in_goal (projects j) (pair x y) h k w (inr (inl p)) = part_fits raw own (alias_at k w) x p (split raw own (leaf (head.AssociatedType j)) x h.0).rest
   in_goal (projects j) (pair x y) h k w (inr (inr p)) = part_fits raw own (alias_at k w) y p h.1
-  in_goal (projects j) (hole i) h = absurd h
-  in_goal (projects j) (leaf x) h = absurd h
+  in_goal (projects j) (hole i) h k w p = absurd h
+  in_goal (projects j) (leaf x) h k w p = absurd h
 
   pub goal_aliases : (a : Asked) → GoalFitsIn raw item a → AliasesFitIn raw item a.parts
   goal_aliases a h = in_goal a.kind a.parts h

@@ -186,11 +186,14 @@ module _ (raw : RawFacts) (law : IsLawful raw) (d : DefWithBodyId) (b : RawBody)
   pub lets_fit_in : TypesFitIn raw (scope_item raw d) (let_aliases raw.types b)
   lets_fit_in = types_fit (let_aliases raw.types b) lets_there
 
+no_number : (i k : ℕ) → slice_get [] i ≡ Some k → ⊥
+no_number i k at = cc
+
 pub own_fit_in : (raw : RawFacts) (law : IsLawful raw) (d : DefWithBodyId) (b : RawBody) → body_of raw d ≡ Some b → TypesFitIn raw (scope_item raw d) (aliases_of raw d)
 own_fit_in raw law (def.FunctionId f) b of_body = by (slice_get raw.fns f.0) refl
   where
     by : (o : Option RawFn) → slice_get raw.fns f.0 ≡ o → TypesFitIn raw (scope_item raw (def.FunctionId f)) (aliases_of raw (def.FunctionId f))
-    by None at i k here = absurd (let none : slice_get {A = ℕ} [] i ≡ Some k = subst (λ (o : Option RawFn). slice_get (fn_aliases_by raw.types o) i ≡ Some k) at here in cc)
+    by None at = λ i k here. absurd (no_number i k (subst (λ (o : Option RawFn). slice_get (fn_aliases_by raw.types o) i ≡ Some k) at here))
     by (Some x) at =
         types_fit raw law (def.FunctionId f) b of_body (aliases_of raw (def.FunctionId f))
         (subst (λ (o : Option RawFn). Each (FitsThere raw (count_or_none (option_map (λ (y : RawFn). length y.params) o))) (fn_aliases_by raw.types o)) (sym at) (of_fn raw law f.0 x at))

@@ -1,7 +1,6 @@
 use Rattle.std.proofs.Common.{◌≡◌, ◌+◌, [], length, inl, refl, sym, ap, ◌∙◌, subst, arith}
 use Rattle.std.specs.Prelude.{Some, slice_get}
 use Rattle.std.proofs.lemmas.Option.{slice_get_read}
-use Rattle.hir_types.specs.declared.ty.Ty.{Ty}
 use Rattle.goal_search.specs.Sources.{system}
 use Rattle.infer_needs.specs.FitTerms.{EntriesFitIn}
 use Rattle.infer_needs.specs.Judged.{AreAllJudged, FitOrAreSaid}
@@ -31,7 +30,7 @@ loop-at-init c =
     record {
       judged = subst (λ gss. AreAllJudged raw f b r 0 new.proofs.items new.found gss) (sym c.new-gaps.ensures)
           (all_none raw item f b r new.proofs.items new.found (rw (c.new-found.ensures, c.new-proofs.ensures.items) at left));
-      fit = λ k x at. inl (left.adds.fit (subst (EntriesFitIn raw item) (sym c.new-found.ensures) (λ j y there. absurd (let none : slice_get {A = Ty × Ty} [] j ≡ Some y = there in cc))) k x at);
+      fit = λ k x at. inl (left.adds.fit (subst (EntriesFitIn raw item) (sym c.new-found.ensures) (λ j y there. absurd (cc))) k x at);
       written = c.in_ok-look_at_written.ensures.none;
       told = tells_none f raw.limits.goal_depth c.args.told.now.items;
       roots = subst (λ ps. AddsRootsOf [] ps new.proofs.items) c.new-proofs.ensures.items left.adds.roots;

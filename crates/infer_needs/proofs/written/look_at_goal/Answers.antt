@@ -5,8 +5,10 @@ use Rattle.goal_facts.specs.Goals.{asked_goal}
 use Rattle.goal_search.specs.Sources.{system}
 use Rattle.goal_terms.specs.Terms.{term_of}
 use Rattle.infer_result.specs.WrittenAliases.{WrittenAreListed}
+use Rattle.infer_needs.specs.FitTerms.{AliasesFitIn}
 use Rattle.infer_needs.specs.Left.{Lists}
 use Rattle.infer_needs.specs.Written.{IsAsWritten}
+use Rattle.infer_needs.proofs.FitParts.{goal_aliases}
 use Rattle.infer_needs.proofs.Writing.{as_written}
 use Rattle.infer_needs.proofs.written.look_at_goal.Goals as goal
 
@@ -15,6 +17,14 @@ look_at_term-requires-clause-written c =
     let parts = (asked_goal c.args.goal.now).parts in
     let is : term_of c.in_ok-asked.asked.parts ≡ parts = ap (λ (a : Asked). a.parts) c.in_ok-asked.ensures.is in
     subst IsAsWritten (sym is) (as_written parts c.requires.provable)
+
+pub look_at_term-requires-clause-fits : goal.look_at_term-requires-clause-fits
+look_at_term-requires-clause-fits c =
+    let raw = c.args.sources.now.facts in
+    let item = c.args.sources.now.item in
+    let a = asked_goal c.args.goal.now in
+    let is : term_of c.in_ok-asked.asked.parts ≡ a.parts = ap (λ (x : Asked). x.parts) c.in_ok-asked.ensures.is in
+    subst (AliasesFitIn raw item) (sym is) (goal_aliases raw item a c.requires.fits)
 
 pub returns : goal.returns
 returns c =

@@ -2,6 +2,7 @@ use Rattle.std.proofs.Common.{◌≡◌, refl, arith, length}
 use Rattle.std.specs.Prelude.{Some, slice_get}
 use Rattle.std.proofs.lemmas.Option.{slice_get_read}
 use Rattle.goal_search.specs.Sources.{system}
+use Rattle.infer_needs.proofs.FitParts.{goal_fits_at}
 use Rattle.infer_needs.proofs.Writing.{holds_first, holds_next, holds_all, OfGoal, goal_later, goals_of, provable_at}
 use Rattle.infer_needs.proofs.written.look_at_goals.Goals as goal
 
@@ -17,6 +18,12 @@ look_at_goal-requires-clause-provable c =
     let i = c.loop-goal.goal-index in
     let here : slice_get c.args.goals.now i ≡ Some c.goal-item.result = slice_get_read _ _ i _ refl c.loop-goal-test.true c.goal-item.is in
     provable_at c.args.goals.now i c.goal-item.result c.requires.provable here
+
+pub look_at_goal-requires-clause-fits : goal.look_at_goal-requires-clause-fits
+look_at_goal-requires-clause-fits c =
+    let i = c.loop-goal.goal-index in
+    let here : slice_get c.args.goals.now i ≡ Some c.goal-item.result = slice_get_read _ _ i _ refl c.loop-goal-test.true c.goal-item.is in
+    goal_fits_at c.args.sources.now.facts c.args.sources.now.item c.args.goals.now i c.goal-item.result c.requires.fits here
 
 pub loop-goal-preserved : goal.loop-goal-preserved
 loop-goal-preserved c =
