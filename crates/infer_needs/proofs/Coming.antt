@@ -1,5 +1,5 @@
 -- Where entries come from, as more are added.
-use Rattle.std.specs.Prelude.{◌≡◌, ◌++◌, ℕ, List, slice_get, Some}
+use Rattle.std.specs.Prelude.{◌++◌, ℕ, List}
 use Rattle.std.proofs.Common.{inl, inr}
 use Rattle.hir_types.specs.declared.ids.GenericDefId.{GenericDefId}
 use Rattle.hir_types.specs.declared.ty.Ty.{Ty}

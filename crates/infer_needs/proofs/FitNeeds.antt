@@ -39,7 +39,7 @@ use Rattle.hir_counts.specs.Counts as counts
 use Rattle.hir_counts.specs.Standing.{params_in, wrongs_in, wrong_args}
 use Rattle.hir_laws.specs.Lawful.{IsLawful}
 use Rattle.hir_laws.specs.LawfulFacts.{adt_ids, fn_ids, fns_fit, variants_fit}
-use Rattle.goal_answers.specs.Reading.{Role, plain, role, staying, ReadsAs}
+use Rattle.goal_answers.specs.Reading.{Role, plain, role, ReadsAs}
 use Rattle.goal_answers.specs.Goals.{Kind, implements, projects, Asked, System, Each}
 use Rattle.goal_answers.specs.Answers.{answers}
 use Rattle.goal_answers.proofs.Readings.{ReadsBy}

@@ -3,8 +3,6 @@ use Rattle.std.specs.Prelude.{◌≡◌, ℕ, suc, Bool, true, false, ◌&&◌, 
 use Rattle.std.specs.List.{flat_map, list_all}
 use Rattle.std.proofs.Common.{sym, ap, ap₂, ◌∙◌, subst}
 use Rattle.hir_types.specs.declared.ids.TraitId.{TraitId}
-use Rattle.hir_types.specs.declared.head.Head.{Head}
-use Rattle.hir_types.specs.declared.head.Head.TheVariants as head
 use Rattle.hir_types.specs.declared.ty.AliasBound.{AliasBound}
 use Rattle.hir_types.specs.declared.ty.Const.{Const}
 use Rattle.hir_types.specs.declared.ty.Const.TheVariants as const
@@ -12,7 +10,7 @@ use Rattle.hir_types.specs.declared.ty.GenericArg.{GenericArg, GenericArg-F, out
 use Rattle.hir_types.specs.declared.ty.TraitRef.{TraitRef}
 use Rattle.hir_types.specs.declared.ty.Ty.{Ty, Ty-F}
 use Rattle.hir_types.specs.Folds.{Maps, GoBySteps, folds, folds_follow, in_arg, in_ty, unique}
-use Rattle.hir_types.specs.Terms.{Term, hole, leaf, pair, chain, type_part, const_part, arg_step, ty_step, term, arg_term, trait_parts, bound_parts, auto_parts}
+use Rattle.hir_types.specs.Terms.{Term, pair, chain, type_part, const_part, arg_step, ty_step, term, arg_term, trait_parts, bound_parts, auto_parts}
 use Rattle.hir_types.specs.TermLaws.{terms, term_at, arg_term_at, trait_parts_is, bound_parts_is}
 use Rattle.hir_raw.specs.declared.raw.RawFacts.{RawFacts}
 use Rattle.hir_raw.specs.Fit.{const_fits, fits_step, ty_fits, arg_fits}
