@@ -86,7 +86,6 @@ module _ (raw : RawFacts) (n : ℕ) where
 
   -- `dyn` types that name something
 
-
   no_bound : (b : AliasBound) (bs : List AliasBound) (ids : List TraitId) → F (chain (flat_map (λ us. us) (map bound_parts (b ∷ bs)) ++ auto_parts ids)) ≡ false
   no_bound b bs ids = ap (λ ts. F (chain ((ts ++ flat_map (λ us. us) (map bound_parts bs)) ++ auto_parts ids))) (bound_parts_is b)
 
