@@ -4,6 +4,7 @@ use Rattle.std.proofs.Common.{inl, inr, refl, sym, ap, ◌∙◌, subst, arith, 
 use Rattle.std.proofs.lemmas.List.{map-append}
 use Rattle.hir_types.specs.declared.ids.ExprOrPatId.{ExprOrPatId}
 use Rattle.hir_types.specs.declared.ids.ExprOrPatId.TheVariants as node
+use Rattle.hir_types.specs.declared.ids.GenericDefId.{GenericDefId}
 use Rattle.hir_types.specs.declared.ids.TypeAliasId.{TypeAliasId}
 use Rattle.hir_types.specs.declared.goal.Goal.{Goal}
 use Rattle.hir_types.specs.declared.goal.Goal.TheVariants as goal
@@ -35,10 +36,13 @@ use Rattle.infer_result.specs.Table.{recorded}
 use Rattle.infer_result.specs.Closed.{AllTypes}
 use Rattle.infer_needs.specs.Listed.{FindsIn}
 use Rattle.infer_needs.specs.Left.{Lists}
-use Rattle.infer_needs.specs.Judged.{IsProvable, AreProvable, unproved, clash, IsAmong, IsSaidOnce, CannotHoldAsIs, IsSaidUnlessMay, ReadsAbout, SaysAlias, IsNoted, HasProofOf, IsSaid, IsSaidClash, IsDone, IsJudged, IsEntry, AddsEntries, IsOfFailing, IsOfClash, AreDone, AreJudged, AreAllJudged, ArePatsJudged}
+use Rattle.infer_needs.specs.Judged.{IsProvable, AreProvable, unproved, clash, IsAmong, IsSaidOnce, CannotHoldAsIs, IsSaidUnlessMay, ReadsAbout, SaysAlias, IsNoted, HasProofOf, IsSaid, IsSaidClash, IsDone, IsJudged, IsEntry, AddsEntries, IsSaidBy, ComeFrom, IsOfFailing, IsOfClash, AreDone, AreJudged, AreAllJudged, ArePatsJudged}
 use Rattle.infer_needs.proofs.Adding.{adds_none, adds_then, front_get, has_later, listed_later, entry_later, entries_later, lists_none, lists_then}
 use Rattle.infer_needs.proofs.ReadGoals.{goal_is_read, reads_same}
 use Rattle.infer_needs.proofs.Leaving.{table_later}
+use Rattle.infer_needs.proofs.Coming.{from_then}
+use Rattle.infer_needs.proofs.Telling.{first_pat_more}
+use Rattle.infer_needs.specs.Told.{first_pat_needs}
 
 -- ---- what stays so
 
@@ -158,6 +162,27 @@ module _ (raw : RawFacts) (f : System) (e : ExprOrPatId) (q : Goal) (ps qs : Lis
   judged_lists (inl h) = noted_lists h.adds h.noted
   judged_lists (inr h) = same_entries (subst (AddsProofs raw f ps) (sym h.proofs) (adds_none raw f ps)) h.listed
 
+  -- what is said is what the goal reads as
+  new_from : (s : SaysAlias f deep (asked_goal q) qs) → ks ≡ js ++ (ty.Projection s.alias s.args, s.type) ∷ [] → ComeFrom f deep (asked_goal q ∷ []) js ks
+  new_from s is k x at =
+      let y : Ty × Ty = (ty.Projection s.alias s.args, s.type) in
+      elim (get_more js y k x (subst (λ zs. slice_get zs k ≡ Some x) is at)) [
+        | inl l ↦ inl l
+        | inr l ↦ inr (subst (IsSaidBy f deep (asked_goal q ∷ [])) l.1 (record { alias = s.alias; args = s.args; is = refl; need = asked_goal q; at = 0; among = refl; reads = s.reads }))
+      ]
+
+  same_from : ks ≡ js → ComeFrom f deep (asked_goal q ∷ []) js ks
+  same_from is k x at = inl (subst (λ zs. slice_get zs k ≡ Some x) is at)
+
+  noted_from : IsNoted f deep e (asked_goal q) qs js ks gs hs → ComeFrom f deep (asked_goal q ∷ []) js ks
+  noted_from (inl h) = same_from h.0
+  noted_from (inr (s, inl h)) = new_from s h.0
+  noted_from (inr (s, inr h)) = same_from h.0
+
+  judged_from : IsJudged raw f e q ps qs js ks gs hs → ComeFrom f deep (asked_goal q ∷ []) js ks
+  judged_from (inl h) = noted_from h.noted
+  judged_from (inr h) = same_from h.listed
+
   -- ---- what is said
 
   once_says : (x : Gap) → IsTrueNow f deep e q qs ks x → IsSaidOnce x gs hs → Says f deep e q qs ks gs hs
@@ -244,6 +269,7 @@ pub judged_none : (raw : RawFacts) (f : System) (e : ExprOrPatId) (ps : List Pro
 judged_none raw f e ps js = record {
   adds = adds_none raw f ps;
   lists = lists_none ps ps js (front_itself ps);
+  from = λ k x at. inl at;
   done = record { each = λ k a at. cc; gaps = λ k x at. cc; once = λ j k x y at there e. cc };
 }
 
@@ -348,6 +374,7 @@ module _ (raw : RawFacts) (f : System) (e : ExprOrPatId) (xs : List Asked) (q : 
   judged_more = record {
     adds = adds_then raw f ps qs rs before.adds adds;
     lists = lists_then ps qs rs js ks ls before.lists lists;
+    from = from_then f n xs (asked_goal q ∷ []) js ks ls before.from (judged_from raw f e q qs rs ks ls gs hs now);
     done = record { each = each; gaps = gap_by says; once = once_by says };
   }
 
@@ -419,8 +446,8 @@ module _ (f : System) (depth : ℕ) (at_place : ℕ → ExprOrPatId) (needs : �
   one_longer : length (gss ++ gs ∷ []) ≡ n + 1
   one_longer = let l : length (gss ++ gs ∷ []) ≡ length gss + 1 = length-append gss (gs ∷ []) in omega (arith, l, long)
 
-pub all_none : (raw : RawFacts) (f : System) (b : RawBody) (r : InferenceResult) (ps : List Proof) (js : List (Ty × Ty)) → Lists raw f (λ ks. AllTypes (NoneIsLeft f raw.limits.goal_depth ks) r) [] ps [] js → AreAllJudged raw f b r 0 ps js []
-all_none raw f b r ps js h = record {
+pub all_none : (raw : RawFacts) (item : GenericDefId) (f : System) (b : RawBody) (r : InferenceResult) (ps : List Proof) (js : List (Ty × Ty)) → Lists raw item f (λ ks. AllTypes (NoneIsLeft f raw.limits.goal_depth ks) r) [] ps [] js → AreAllJudged raw f b r 0 ps js []
+all_none raw item f b r ps js h = record {
   adds = h.adds.adds;
   entries = h.adds.lists.right (λ n x at. cc);
   left = h.none;
@@ -444,7 +471,7 @@ module _ (raw : RawFacts) (f : System) (b : RawBody) (r : InferenceResult) (n : 
 -- the patterns come behind
 
 pub pats_none : (raw : RawFacts) (f : System) (r : InferenceResult) (ps : List Proof) (js : List (Ty × Ty)) → ArePatsJudged raw f r 0 ps ps js js []
-pats_none raw f r ps js = record { adds = adds_none raw f ps; lists = lists_none ps ps js (front_itself ps); long = refl; each = λ k gs at. cc }
+pats_none raw f r ps js = record { adds = adds_none raw f ps; lists = lists_none ps ps js (front_itself ps); from = λ k x at. inl at; long = refl; each = λ k gs at. cc }
 
 module _ (raw : RawFacts) (f : System) (r : InferenceResult) (n : ℕ) (ps qs rs : List Proof) (js ks ls : List (Ty × Ty)) (gss : List (List Gap)) (gs : List Gap)
     (before : ArePatsJudged raw f r n ps qs js ks gss) (now : AreJudged raw f (node.PatId (record { 0 = n })) (pat_needs_at raw r n) qs rs ks ls gs) where
@@ -454,6 +481,7 @@ module _ (raw : RawFacts) (f : System) (r : InferenceResult) (n : ℕ) (ps qs rs
       record {
         adds = adds_then raw f ps qs rs before.adds now.adds;
         lists = lists_then ps qs rs js ks ls before.lists now.lists;
+        from = subst (λ xs. ComeFrom f raw.limits.goal_depth xs js ls) (first_pat_more raw r n) (from_then f raw.limits.goal_depth (first_pat_needs raw r n) (pat_needs_at raw r n) js ks ls before.from now.from);
         long = one_longer f raw.limits.goal_depth at_place (pat_needs_at raw r) qs rs ks ls gss gs n before.long;
         each = each_more f raw.limits.goal_depth at_place (pat_needs_at raw r) qs rs ks ls gss gs n before.long now.adds.behind now.lists.behind before.each now.done;
       }

@@ -6,6 +6,7 @@ use Rattle.std.proofs.lemmas.Option.{same_Some, slice_get_within}
 use Rattle.hir_types.specs.declared.goal.Goal.TheVariants as goal
 use Rattle.hir_types.specs.declared.head.Head.TheVariants as head
 use Rattle.hir_types.specs.declared.ids.ExprId.{ExprId}
+use Rattle.hir_types.specs.declared.ids.GenericDefId.{GenericDefId}
 use Rattle.hir_types.specs.declared.ids.TypeAliasId.{TypeAliasId}
 use Rattle.hir_types.specs.declared.ty.GenericArg.{GenericArg}
 use Rattle.hir_types.specs.declared.ty.Ty.{Ty}
@@ -31,6 +32,7 @@ use Rattle.infer_result.specs.declared.diagnostics.InferenceDiagnostic.TheVarian
 use Rattle.infer_result.specs.Closed.{AllTypes}
 use Rattle.infer_result.specs.Needs.{HoldsUnknown}
 use Rattle.infer_result.specs.Projections.{IsPartOf, stays_at, StaysOrIsListed, NoneIsLeft}
+use Rattle.infer_needs.specs.FitTerms.{EntryFitsIn, EntriesFitIn}
 use Rattle.infer_needs.specs.Judged.{HasProofOf, IsEntry, AreEntries}
 use Rattle.infer_needs.specs.Left.{WasRead, WereRead, AddsRead, Lists, staying_head, NoneHere, NoneStands, StandsInType, StandsInMismatch, StandsInDiagnostic, EachIn, EachOf}
 use Rattle.infer_needs.specs.Listed.{FindsIn}
@@ -79,25 +81,26 @@ module _ (f : System) (n : ℕ) (js ks : List (Ty × Ty)) (l : IsFront js ks) wh
 
 -- ---- what is added
 
-module _ (raw : RawFacts) (f : System) where
-  pub read_none : (ps : List Proof) (js : List (Ty × Ty)) → AddsRead raw f ps ps js js
-  read_none ps js = record { adds = adds_none raw f ps; roots = roots_none [] ps; lists = lists_none ps ps js (front_itself ps); read = λ h. h }
+module _ (raw : RawFacts) (item : GenericDefId) (f : System) where
+  pub read_none : (ps : List Proof) (js : List (Ty × Ty)) → AddsRead raw item f ps ps js js
+  read_none ps js = record { adds = adds_none raw f ps; roots = roots_none [] ps; lists = lists_none ps ps js (front_itself ps); read = λ h. h; fit = λ h. h }
 
-  pub read_then : (ps qs rs : List Proof) (js ks ls : List (Ty × Ty)) → AddsRead raw f ps qs js ks → AddsRead raw f qs rs ks ls → AddsRead raw f ps rs js ls
+  pub read_then : (ps qs rs : List Proof) (js ks ls : List (Ty × Ty)) → AddsRead raw item f ps qs js ks → AddsRead raw item f qs rs ks ls → AddsRead raw item f ps rs js ls
   read_then ps qs rs js ks ls a b = record {
     adds = adds_then raw f ps qs rs a.adds b.adds;
     roots = roots_more [] ps qs rs a.roots b.roots;
     lists = lists_then ps qs rs js ks ls a.lists b.lists;
     read = λ h. b.read (a.read h);
+    fit = λ h. b.fit (a.fit h);
   }
 
   -- where nothing has to be listed
-  pub lists_nothing : (P : List (Ty × Ty) → Type 0) (ps : List Proof) (js : List (Ty × Ty)) → P js → Lists raw f P ps ps js js
+  pub lists_nothing : (P : List (Ty × Ty) → Type 0) (ps : List Proof) (js : List (Ty × Ty)) → P js → Lists raw item f P ps ps js js
   lists_nothing P ps js h = record { adds = read_none ps js; none = h }
 
   -- of one and then of another
   pub lists_both : (P Q R : List (Ty × Ty) → Type 0) (ps qs rs : List Proof) (js ks ls : List (Ty × Ty)) → (IsFront ks ls → P ks → P ls) → (P ls → Q ls → R ls)
-      → Lists raw f P ps qs js ks → Lists raw f Q qs rs ks ls → Lists raw f R ps rs js ls
+      → Lists raw item f P ps qs js ks → Lists raw item f Q qs rs ks ls → Lists raw item f R ps rs js ls
   lists_both P Q R ps qs rs js ks ls later both a b = record {
     adds = read_then ps qs rs js ks ls a.adds b.adds;
     none = both (later b.adds.lists.behind a.none) b.none;
@@ -145,7 +148,7 @@ module _ (raw : RawFacts) (f : System) (k : TypeAliasId) (w : Term) (zs : List G
     reads_unknown js h xs e u r = inr (inr (subst (λ (a : Asked). HoldsUnknown a.parts) (same_goal xs u e r) h))
 
     -- its entry is added
-    module _ (ps qs : List Proof) (js : List (Ty × Ty)) (adds : AddsProofs raw f ps qs) (roots : AddsRootsOf [] ps qs) (args_read : IsRead (chain (map arg_term zs))) (proved : HasProofOf qs (asked_goal (goal.Projection k zs v))) (known : HoldsUnknown (asked_goal (goal.Projection k zs v)).parts → ⊥) (other : term v ≡ stays_at k zs → ⊥) (written : IsWritten (asked_goal (goal.Projection k zs v)).parts) (here : WereRead f n js) where
+    module _ (item : GenericDefId) (fits : EntryFitsIn raw item (ty.Projection k zs, v)) (ps qs : List Proof) (js : List (Ty × Ty)) (adds : AddsProofs raw f ps qs) (roots : AddsRootsOf [] ps qs) (args_read : IsRead (chain (map arg_term zs))) (proved : HasProofOf qs (asked_goal (goal.Projection k zs v))) (known : HoldsUnknown (asked_goal (goal.Projection k zs v)).parts → ⊥) (other : term v ≡ stays_at k zs → ⊥) (written : IsWritten (asked_goal (goal.Projection k zs v)).parts) (here : WereRead f n js) where
       abbrev more : List (Ty × Ty)
       more = js ++ (ty.Projection k zs, v) ∷ []
 
@@ -161,9 +164,15 @@ module _ (raw : RawFacts) (f : System) (k : TypeAliasId) (w : Term) (zs : List G
         | inr g ↦ subst (WasRead f n) g.1 (record { alias = k; args = zs; is = refl; reads = reads })
       ]
 
-      pub lists_reading : Lists raw f Settled ps qs js more
+      more_fit : EntriesFitIn raw item js → EntriesFitIn raw item more
+      more_fit h i x at = elim (get_more js (ty.Projection k zs, v) i x at) [
+        | inl g ↦ h i x g
+        | inr g ↦ subst (EntryFitsIn raw item) g.1 fits
+      ]
+
+      pub lists_reading : Lists raw item f Settled ps qs js more
       lists_reading = record {
-        adds = record { adds = adds; roots = roots; lists = record { behind = ((ty.Projection k zs, v) ∷ [], refl); right = entries }; read = were };
+        adds = record { adds = adds; roots = roots; lists = record { behind = ((ty.Projection k zs, v) ∷ [], refl); right = entries }; read = were; fit = more_fit };
         none = reads_listed more (length js) (get_last js (ty.Projection k zs, v));
       }
 
@@ -185,7 +194,7 @@ no_args raw f k w zs is differ js xs e = absurd (differ (is xs e))
 
 -- ---- the parts of a term
 
-module _ (raw : RawFacts) (f : System) where
+module _ (raw : RawFacts) (item : GenericDefId) (f : System) where
   abbrev depth : ℕ
   depth = raw.limits.goal_depth
 
@@ -197,22 +206,22 @@ module _ (raw : RawFacts) (f : System) where
 
   -- of the associated type at these arguments
   pub lists_here : (a b : Term) (k : TypeAliasId) (ps qs : List Proof) (js ks : List (Ty × Ty)) → staying_head a ≡ Some k
-      → Lists raw f (λ os. (xs : List GenericArg) → chain (map arg_term xs) ≡ b → StaysOrIsListed f depth os k xs) ps qs js ks → Lists raw f (NoneHere f depth a b) ps qs js ks
+      → Lists raw item f (λ os. (xs : List GenericArg) → chain (map arg_term xs) ≡ b → StaysOrIsListed f depth os k xs) ps qs js ks → Lists raw item f (NoneHere f depth a b) ps qs js ks
   lists_here a b k ps qs js ks is h = record {
     adds = h.adds;
     none = here_by a b ks (λ j xs e same. (let k_is : k ≡ j = (let both : Some k ≡ Some j = sym is ∙ e in cc) in subst (λ i. StaysOrIsListed f depth ks i xs) k_is (h.none xs same)));
   }
 
-  pub lists_not_here : (a b : Term) (ps : List Proof) (js : List (Ty × Ty)) → staying_head a ≡ None → Lists raw f (NoneHere f depth a b) ps ps js js
-  lists_not_here a b ps js none = lists_nothing raw f (NoneHere f depth a b) ps js (here_by a b js (λ k xs e same. absurd (cc)))
+  pub lists_not_here : (a b : Term) (ps : List Proof) (js : List (Ty × Ty)) → staying_head a ≡ None → Lists raw item f (NoneHere f depth a b) ps ps js js
+  lists_not_here a b ps js none = lists_nothing raw item f (NoneHere f depth a b) ps js (here_by a b js (λ k xs e same. absurd (cc)))
 
-  pub lists_pair : (a b : Term) (ps qs rs ts : List Proof) (js ks ls ms : List (Ty × Ty)) → Lists raw f (NoneHere f depth a b) ps qs js ks → Lists raw f (NoneStands f depth a) qs rs ks ls → Lists raw f (NoneStands f depth b) rs ts ls ms
-      → Lists raw f (NoneStands f depth (pair a b)) ps ts js ms
+  pub lists_pair : (a b : Term) (ps qs rs ts : List Proof) (js ks ls ms : List (Ty × Ty)) → Lists raw item f (NoneHere f depth a b) ps qs js ks → Lists raw item f (NoneStands f depth a) qs rs ks ls → Lists raw item f (NoneStands f depth b) rs ts ls ms
+      → Lists raw item f (NoneStands f depth (pair a b)) ps ts js ms
   lists_pair a b ps qs rs ts js ks ls ms here first rest =
       let l = first.adds.lists.behind in
       let m = rest.adds.lists.behind in
       record {
-        adds = read_then raw f ps rs ts js ls ms (read_then raw f ps qs rs js ks ls here.adds first.adds) rest.adds;
+        adds = read_then raw item f ps rs ts js ls ms (read_then raw item f ps qs rs js ks ls here.adds first.adds) rest.adds;
         none = λ k xs at. elim at [
           | inl e ↦ stays_later f depth ls ms m k xs (stays_later f depth ks ls l k xs (here.none k xs e))
           | inr o ↦ elim o [
@@ -222,12 +231,12 @@ module _ (raw : RawFacts) (f : System) where
         ];
       }
 
-  pub lists_no_parts : (t : Term) (ps : List Proof) (js : List (Ty × Ty)) → ((x : Term) → IsPartOf x t → ⊥) → Lists raw f (NoneStands f depth t) ps ps js js
-  lists_no_parts t ps js none = lists_nothing raw f (NoneStands f depth t) ps js (λ k xs at. absurd (none (stays_at k xs) at))
+  pub lists_no_parts : (t : Term) (ps : List Proof) (js : List (Ty × Ty)) → ((x : Term) → IsPartOf x t → ⊥) → Lists raw item f (NoneStands f depth t) ps ps js js
+  lists_no_parts t ps js none = lists_nothing raw item f (NoneStands f depth t) ps js (λ k xs at. absurd (none (stays_at k xs) at))
 
 -- ---- a list, one entry after another
 
-module _ (raw : RawFacts) (f : System) {X : Type 0} (T : X → Ty → Type 0) (xs : List X) where
+module _ (raw : RawFacts) (item : GenericDefId) (f : System) {X : Type 0} (T : X → Ty → Type 0) (xs : List X) where
   abbrev N : List (Ty × Ty) → Ty → Type 0
   N js = NoneIsLeft f raw.limits.goal_depth js
 
@@ -235,8 +244,8 @@ module _ (raw : RawFacts) (f : System) {X : Type 0} (T : X → Ty → Type 0) (x
   abbrev pub FirstOf : ℕ → List (Ty × Ty) → Type 0
   FirstOf m js = (i : ℕ) (x : X) → i < m → slice_get xs i ≡ Some x → EachIn T (N js) x
 
-  pub first_none : (ps : List Proof) (js : List (Ty × Ty)) → Lists raw f (FirstOf 0) ps ps js js
-  first_none ps js = lists_nothing raw f (FirstOf 0) ps js (λ i x lt. absurd (omega (arith, lt)))
+  pub first_none : (ps : List Proof) (js : List (Ty × Ty)) → Lists raw item f (FirstOf 0) ps ps js js
+  first_none ps js = lists_nothing raw item f (FirstOf 0) ps js (λ i x lt. absurd (omega (arith, lt)))
 
   first_both : (m : ℕ) (y : X) (js : List (Ty × Ty)) → slice_get xs m ≡ Some y → FirstOf m js → EachIn T (N js) y → FirstOf (m + 1) js
   first_both m y js here first at_y i x lt at = elim (eq-or-lt_of_le {n = i} {m = m} (omega (arith, lt))) [
@@ -244,22 +253,22 @@ module _ (raw : RawFacts) (f : System) {X : Type 0} (T : X → Ty → Type 0) (x
     | inr below ↦ first i x below at
   ]
 
-  pub first_next : (m : ℕ) (y : X) (ps qs rs : List Proof) (js ks ls : List (Ty × Ty)) → slice_get xs m ≡ Some y → Lists raw f (FirstOf m) ps qs js ks → Lists raw f (λ os. EachIn T (N os) y) qs rs ks ls → Lists raw f (FirstOf (m + 1)) ps rs js ls
+  pub first_next : (m : ℕ) (y : X) (ps qs rs : List Proof) (js ks ls : List (Ty × Ty)) → slice_get xs m ≡ Some y → Lists raw item f (FirstOf m) ps qs js ks → Lists raw item f (λ os. EachIn T (N os) y) qs rs ks ls → Lists raw item f (FirstOf (m + 1)) ps rs js ls
   first_next m y ps qs rs js ks ls here a b =
-      lists_both raw f (FirstOf m) (λ os. EachIn T (N os) y) (FirstOf (m + 1)) ps qs rs js ks ls
+      lists_both raw item f (FirstOf m) (λ os. EachIn T (N os) y) (FirstOf (m + 1)) ps qs rs js ks ls
       (λ l h i x lt at. each_later f raw.limits.goal_depth ks ls l T x (h i x lt at)) (first_both m y ls here) a b
 
-  pub first_all : (m : ℕ) (ps qs : List Proof) (js ks : List (Ty × Ty)) → m ≡ length xs → Lists raw f (FirstOf m) ps qs js ks → Lists raw f (λ os. EachOf T (N os) xs) ps qs js ks
+  pub first_all : (m : ℕ) (ps qs : List Proof) (js ks : List (Ty × Ty)) → m ≡ length xs → Lists raw item f (FirstOf m) ps qs js ks → Lists raw item f (λ os. EachOf T (N os) xs) ps qs js ks
   first_all m ps qs js ks end h = record { adds = h.adds; none = λ i x at. (let lt = slice_get_within xs i x at in h.none i x (omega (arith, end, lt)) at) }
 
 -- ---- an entry, and a table
 
-module _ (raw : RawFacts) (f : System) where
+module _ (raw : RawFacts) (item : GenericDefId) (f : System) where
   abbrev Left : List (Ty × Ty) → Ty → Type 0
   Left js = NoneIsLeft f raw.limits.goal_depth js
 
   -- where no other type stands in it
-  pub lists_each : {X : Type 0} (T : X → Ty → Type 0) (x : X) (v : Ty) (ps qs : List Proof) (js ks : List (Ty × Ty)) → ((t : Ty) → T x t → v ≡ t) → Lists raw f (λ os. Left os v) ps qs js ks → Lists raw f (λ os. EachIn T (Left os) x) ps qs js ks
+  pub lists_each : {X : Type 0} (T : X → Ty → Type 0) (x : X) (v : Ty) (ps qs : List Proof) (js ks : List (Ty × Ty)) → ((t : Ty) → T x t → v ≡ t) → Lists raw item f (λ os. Left os v) ps qs js ks → Lists raw item f (λ os. EachIn T (Left os) x) ps qs js ks
   lists_each T x v ps qs js ks only h = record { adds = h.adds; none = λ t in_x. subst (Left ks) (only t in_x) h.none }
 
   pub only_called : (o : Option InferenceDiagnostic) (e : ExprId) (v t : Ty) → o ≡ Some (diagnostic.ExpectedFunction e v) → StandsInDiagnostic o t → v ≡ t
@@ -273,32 +282,32 @@ module _ (raw : RawFacts) (f : System) where
         | inr e ↦ subst (Left js) (ap (λ (y : TypeMismatch). y.actual) same ∙ e) actual
       ]
 
-  pub lists_mismatch : (o : Option TypeMismatch) (m : TypeMismatch) (ps qs rs : List Proof) (js ks ls : List (Ty × Ty)) → o ≡ Some m → Lists raw f (λ os. Left os m.expected) ps qs js ks → Lists raw f (λ os. Left os m.actual) qs rs ks ls
-      → Lists raw f (λ os. EachIn StandsInMismatch (Left os) o) ps rs js ls
+  pub lists_mismatch : (o : Option TypeMismatch) (m : TypeMismatch) (ps qs rs : List Proof) (js ks ls : List (Ty × Ty)) → o ≡ Some m → Lists raw item f (λ os. Left os m.expected) ps qs js ks → Lists raw item f (λ os. Left os m.actual) qs rs ks ls
+      → Lists raw item f (λ os. EachIn StandsInMismatch (Left os) o) ps rs js ls
   lists_mismatch o m ps qs rs js ks ls is a b =
-      lists_both raw f (λ os. Left os m.expected) (λ os. Left os m.actual) (λ os. EachIn StandsInMismatch (Left os) o) ps qs rs js ks ls
+      lists_both raw item f (λ os. Left os m.expected) (λ os. Left os m.actual) (λ os. EachIn StandsInMismatch (Left os) o) ps qs rs js ks ls
       (λ l h. none_later f raw.limits.goal_depth ks ls l m.expected h) (in_mismatch o m ls is) a b
 
   abbrev Of : {X : Type 0} → (X → Ty → Type 0) → List X → List (Ty × Ty) → Type 0
   Of T xs js = EachOf T (Left js) xs
 
-  later : {X : Type 0} (T : X → Ty → Type 0) (xs : List X) (ps qs : List Proof) (js ks : List (Ty × Ty)) → AddsRead raw f ps qs js ks → Of T xs js → Of T xs ks
+  later : {X : Type 0} (T : X → Ty → Type 0) (xs : List X) (ps qs : List Proof) (js ks : List (Ty × Ty)) → AddsRead raw item f ps qs js ks → Of T xs js → Of T xs ks
   later T xs ps qs js ks a h = all_later f raw.limits.goal_depth js ks a.lists.behind T xs h
 
   pub lists_table : (r : InferenceResult) (p0 p1 p2 p3 p4 p5 p6 p7 p8 : List Proof) (j0 j1 j2 j3 j4 j5 j6 j7 j8 : List (Ty × Ty))
-      → Lists raw f (Of StandsInType r.type_of_expr) p0 p1 j0 j1 → Lists raw f (Of StandsInType r.type_of_pat) p1 p2 j1 j2
-      → Lists raw f (Of StandsInType r.type_of_binding) p2 p3 j2 j3 → Lists raw f (Of StandsInType r.type_of_placeholder) p3 p4 j3 j4
-      → Lists raw f (Of StandsInType r.item_of_pat) p4 p5 j4 j5
-      → Lists raw f (Of StandsInMismatch r.expr_mismatches) p5 p6 j5 j6 → Lists raw f (Of StandsInMismatch r.pat_mismatches) p6 p7 j6 j7
-      → Lists raw f (Of StandsInDiagnostic r.expr_diagnostics) p7 p8 j7 j8 → Lists raw f (λ js. AllTypes (Left js) r) p0 p8 j0 j8
+      → Lists raw item f (Of StandsInType r.type_of_expr) p0 p1 j0 j1 → Lists raw item f (Of StandsInType r.type_of_pat) p1 p2 j1 j2
+      → Lists raw item f (Of StandsInType r.type_of_binding) p2 p3 j2 j3 → Lists raw item f (Of StandsInType r.type_of_placeholder) p3 p4 j3 j4
+      → Lists raw item f (Of StandsInType r.item_of_pat) p4 p5 j4 j5
+      → Lists raw item f (Of StandsInMismatch r.expr_mismatches) p5 p6 j5 j6 → Lists raw item f (Of StandsInMismatch r.pat_mismatches) p6 p7 j6 j7
+      → Lists raw item f (Of StandsInDiagnostic r.expr_diagnostics) p7 p8 j7 j8 → Lists raw item f (λ js. AllTypes (Left js) r) p0 p8 j0 j8
   lists_table r p0 p1 p2 p3 p4 p5 p6 p7 p8 j0 j1 j2 j3 j4 j5 j6 j7 j8 a b c d i e g h =
       let from7 = h.adds in
-      let from6 = read_then raw f p6 p7 p8 j6 j7 j8 g.adds from7 in
-      let from5 = read_then raw f p5 p6 p8 j5 j6 j8 e.adds from6 in
-      let from4 = read_then raw f p4 p5 p8 j4 j5 j8 i.adds from5 in
-      let from3 = read_then raw f p3 p4 p8 j3 j4 j8 d.adds from4 in
-      let from2 = read_then raw f p2 p3 p8 j2 j3 j8 c.adds from3 in
-      let from1 = read_then raw f p1 p2 p8 j1 j2 j8 b.adds from2 in
+      let from6 = read_then raw item f p6 p7 p8 j6 j7 j8 g.adds from7 in
+      let from5 = read_then raw item f p5 p6 p8 j5 j6 j8 e.adds from6 in
+      let from4 = read_then raw item f p4 p5 p8 j4 j5 j8 i.adds from5 in
+      let from3 = read_then raw item f p3 p4 p8 j3 j4 j8 d.adds from4 in
+      let from2 = read_then raw item f p2 p3 p8 j2 j3 j8 c.adds from3 in
+      let from1 = read_then raw item f p1 p2 p8 j1 j2 j8 b.adds from2 in
       let exprs = later StandsInType r.type_of_expr p1 p8 j1 j8 from1 a.none in
       let pats = later StandsInType r.type_of_pat p2 p8 j2 j8 from2 b.none in
       let bindings = later StandsInType r.type_of_binding p3 p8 j3 j8 from3 c.none in
@@ -307,7 +316,7 @@ module _ (raw : RawFacts) (f : System) where
       let mismatches = later StandsInMismatch r.expr_mismatches p6 p8 j6 j8 from6 e.none in
       let pat_mismatches = later StandsInMismatch r.pat_mismatches p7 p8 j7 j8 from7 g.none in
       record {
-        adds = read_then raw f p0 p1 p8 j0 j1 j8 a.adds from1;
+        adds = read_then raw item f p0 p1 p8 j0 j1 j8 a.adds from1;
         none = record {
           exprs = λ i t at. exprs i (Some t) at t refl;
           pats = λ i t at. pats i (Some t) at t refl;

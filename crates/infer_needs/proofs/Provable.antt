@@ -1,9 +1,10 @@
 -- Goals that nodes need are without holes and `_`, and so are the types of a table.
 use Rattle.std.specs.Prelude.{◌≡◌, ℕ, suc, List, [], ◌∷◌, length, map, slice_get, Option, Some, None, refl, true}
 use Rattle.std.specs.Option.{option_and_then}
-use Rattle.std.proofs.Common.{sym, ap, ◌∙◌}
+use Rattle.std.proofs.Common.{sym, ap, ◌∙◌, subst}
 use Rattle.std.proofs.lemmas.Option.{same_Some}
 use Rattle.hir_types.specs.declared.ids.DefWithBodyId.{DefWithBodyId}
+use Rattle.hir_types.specs.declared.ids.DefWithBodyId.TheVariants as def
 use Rattle.hir_types.specs.declared.ids.ExprOrPatId.{ExprOrPatId}
 use Rattle.hir_types.specs.declared.ids.ExprOrPatId.TheVariants as node
 use Rattle.hir_types.specs.declared.ids.GenericDefId.TheVariants as generic
@@ -29,7 +30,7 @@ use Rattle.hir_laws.specs.Lawful.{IsLawful}
 use Rattle.hir_raw.specs.Hidden.{fn_aliases, variant_aliases}
 use Rattle.hir_types.specs.Erasure.{IsClosed}
 use Rattle.hir_raw.specs.Fit.{ty_fits}
-use Rattle.hir_raw.specs.Scope.{scope_of, adt_params, count_or_none}
+use Rattle.hir_raw.specs.Scope.{scope_of, params_of, generic_params, adt_params, count_or_none}
 use Rattle.goal_answers.specs.Reading.{IsRead}
 use Rattle.infer_result.specs.Closed.{AllTypes}
 use Rattle.goal_answers.specs.Goals.{Asked, Each}
@@ -40,11 +41,13 @@ use Rattle.goal_facts.proofs.Systems.{each_append}
 use Rattle.goal_prove.specs.Written.{IsWritten}
 use Rattle.infer_result.specs.declared.result.InferenceResult.{InferenceResult}
 use Rattle.infer_result.specs.AliasNeeds.{alias_goals_by, alias_goals_from, fn_alias_goals, variant_alias_goals, path_alias_goals, alias_goals}
-use Rattle.infer_result.specs.Needs.{variant_preds, path_preds, expr_preds, item_args, item_path, needed_goals, needs_of, pat_needs_by, pat_needs_of, pat_needs_at, node_needs}
+use Rattle.infer_result.specs.Needs.{variant_preds, path_preds, expr_preds, item_args, item_path, needed_goals, needs_of, pat_needs_by, pat_needs_of, pat_needs_at, node_needs, scope_item}
 use Rattle.infer_result.specs.Table.{recorded}
 use Rattle.infer_result.specs.Typed.{IsTableOf}
+use Rattle.infer_needs.specs.FitTerms.{Fits}
 use Rattle.infer_needs.specs.Judged.{IsProvable, AreProvable}
 use Rattle.infer_needs.proofs.Closed.{AreClosed, type_closed, item_closed}
+use Rattle.infer_needs.proofs.FitTerms.{type_same}
 use Rattle.infer_needs.proofs.NoPlaceholders.{HaveNoHole, GoalHasNoHole, GoalsHaveNoHole, args_hold_at, goal_holds_at, preds_have_none, IsWithoutHole, alias_has_none, fn_aliases_have_none, variant_aliases_have_none}
 
 -- ---- goals at arguments
@@ -121,6 +124,13 @@ item_provable raw law _ args = tt
 
 -- ---- what the nodes of a body need
 
+-- a body is in the scope of its definition
+pub same_scope : (raw : RawFacts) (d : DefWithBodyId) (b : RawBody) → body_of raw d ≡ Some b → generic_params raw (scope_item raw d) ≡ params_of raw d
+same_scope raw (def.FunctionId f) b is = refl
+same_scope raw (def.ConstId c) b is = absurd (cc)
+same_scope raw (def.StaticId s) b is = absurd (cc)
+same_scope raw (def.VariantId v) b is = absurd (cc)
+
 pub recorded_at : (o : Option (Option Ty)) (t : Ty) → option_and_then (λ x. x) o ≡ Some t → o ≡ Some (Some t)
 recorded_at None t e = cc
 recorded_at (Some None) t e = cc
@@ -157,11 +167,15 @@ module _ (raw : RawFacts) (law : IsLawful raw) (d : DefWithBodyId) (r : Inferenc
   node_provable b (node.ExprId e) = of_place e.0 (slice_get b.exprs e.0)
   node_provable b (node.PatId p) = pat_needs_provable p.0
 
-  is_final : (t : Ty) → IsClosed t → ty_fits (scope_of raw d) t ≡ true → IsRead (term t) → IsFinalType t
-  is_final t closed fits read = record { read = read; written = type_closed (scope_of raw d) t closed fits }
+  is_final : (t : Ty) → IsClosed t → ty_fits (scope_of raw d) t ≡ true → IsRead (term t) → IsFinalType raw (scope_item raw d) t
+  is_final t closed fits read = record {
+    read = read;
+    written = type_closed (scope_of raw d) t closed fits;
+    fits = subst (λ (m : ℕ). Fits raw m (term t)) (sym (same_scope raw d is.body is.is_body)) (sym (type_same (scope_of raw d) t) ∙ fits);
+  }
 
-  -- in no type is something left to be read, or a hole
-  pub table_final : AllTypes IsFinalType r
+  -- each type fits, and in none is something left to be read, or a hole
+  pub table_final : AllTypes (IsFinalType raw (scope_item raw d)) r
   table_final =
       let closed = is.typed.shape.closed in
       record {

@@ -39,7 +39,7 @@ get_back (z ∷ xs) ys (suc i) x e = elim (get_back xs ys i x e) [
 one_left : (xs ys : List Asked) (a : Asked) → IsOneOf xs a → IsOneOf (xs ++ ys) a
 one_left xs ys a h = (h.0, get_left xs ys h.0 a h.1)
 
-one_right : (xs ys : List Asked) (a : Asked) → IsOneOf ys a → IsOneOf (xs ++ ys) a
+pub one_right : (xs ys : List Asked) (a : Asked) → IsOneOf ys a → IsOneOf (xs ++ ys) a
 one_right [] ys a h = h
 one_right (x ∷ xs) ys a h = let r = one_right xs ys a h in (suc r.0, r.1)
 

@@ -50,11 +50,13 @@ use Rattle.infer_result.specs.Projections.{IsPartOf, StaysOrIsListed, NoneIsLeft
 use Rattle.infer_result.specs.Table.{recorded}
 use Rattle.infer_result.specs.Typed.{given}
 use Rattle.infer_result.specs.WrittenAliases.{args_term, IsListedOnceRead, WrittenAreListed, AboutIsListed, AllWrittenAreListed}
+use Rattle.infer_needs.specs.FitTerms.{FitsIn}
 use Rattle.infer_needs.specs.Judged.{IsProvable, AreProvable, CanPatsBeProved}
 use Rattle.infer_needs.specs.Left.{Lists, IsFinal}
 use Rattle.infer_needs.specs.Written.{IsAsWritten, ListedAt, ListedHere, TypeIsListed, TypesAreListed, GoalIsListed, GoalsAreListed, ExprsAreListed, CanItemsBeProved, ItemsAreListed, AreAllListed}
 use Rattle.infer_needs.proofs.Leaving.{stays_later, table_later, read_then, lists_nothing, lists_both}
 use Rattle.infer_needs.proofs.ReadsYes.{term_reads_written}
+use Rattle.infer_needs.proofs.ReadsFit.{reads_fit}
 
 -- ---- terms as they are written
 
@@ -103,10 +105,11 @@ lowered_written types k = within_written types (suc k) k
 
 -- what arguments read as
 module _ (raw : RawFacts) (law : IsLawful raw) (item : GenericDefId) (f : System) (of : IsSystemOf raw item f) (n : ℕ) where
-  pub args_final : (w v : Term) → IsAsWritten w → (HoldsPlaceholder w → ⊥) → ReadsAs (answers f n).Alias w v → IsFinal v
-  args_final w v h none r = record {
+  pub args_final : (w v : Term) → IsAsWritten w → (HoldsPlaceholder w → ⊥) → FitsIn raw item w → ReadsAs (answers f n).Alias w v → IsFinal raw item v
+  args_final w v h none fits r = record {
     read = reading_is_read (answers f n).Alias (answers_read f n) hole w v (λ j o. tt) r;
     written = term_reads_written raw law item f of n w v r (none_written w h none);
+    fits = reads_fit raw law item f of n w v fits r;
   }
 
 -- ---- what stays so
@@ -139,24 +142,24 @@ all_listed_later raw d b r f js ks l h =
 
 -- ---- the parts of a term
 
-module _ (raw : RawFacts) (f : System) where
+module _ (raw : RawFacts) (item : GenericDefId) (f : System) where
   abbrev n : ℕ
   n = raw.limits.goal_depth
 
   -- where a `_` stands among the arguments
-  pub lists_holding : (k : TypeAliasId) (w : Term) (ps : List Proof) (js : List (Ty × Ty)) → HoldsPlaceholder w → Lists raw f (ListedAt f n k w) ps ps js js
-  lists_holding k w ps js holds = lists_nothing raw f (ListedAt f n k w) ps js (λ xs e none. absurd (none holds))
+  pub lists_holding : (k : TypeAliasId) (w : Term) (ps : List Proof) (js : List (Ty × Ty)) → HoldsPlaceholder w → Lists raw item f (ListedAt f n k w) ps ps js js
+  lists_holding k w ps js holds = lists_nothing raw item f (ListedAt f n k w) ps js (λ xs e none. absurd (none holds))
 
   reads_at_args : (w u : Term) (xs : List GenericArg) → args_term xs ≡ w → ReadsAs (answers f n).Alias (args_term xs) u → ReadsAs (answers f n).Alias w u
   reads_at_args w u xs e r = subst (λ t. ReadsAs (answers f n).Alias t u) e r
 
   -- where they read as nothing
-  pub lists_unread : (k : TypeAliasId) (w : Term) (ps : List Proof) (js : List (Ty × Ty)) → ((u : Term) → ReadsAs (answers f n).Alias w u → ⊥) → Lists raw f (ListedAt f n k w) ps ps js js
-  lists_unread k w ps js unread = lists_nothing raw f (ListedAt f n k w) ps js (λ xs e none ys r. absurd (unread (args_term ys) (reads_at_args w (args_term ys) xs e r)))
+  pub lists_unread : (k : TypeAliasId) (w : Term) (ps : List Proof) (js : List (Ty × Ty)) → ((u : Term) → ReadsAs (answers f n).Alias w u → ⊥) → Lists raw item f (ListedAt f n k w) ps ps js js
+  lists_unread k w ps js unread = lists_nothing raw item f (ListedAt f n k w) ps js (λ xs e none ys r. absurd (unread (args_term ys) (reads_at_args w (args_term ys) xs e r)))
 
   -- at what they read as
   pub lists_at : (k : TypeAliasId) (w v : Term) (ps qs : List Proof) (js ks : List (Ty × Ty)) → ReadsAs (answers f n).Alias w v
-      → Lists raw f (λ os. (xs : List GenericArg) → chain (map arg_term xs) ≡ v → StaysOrIsListed f n os k xs) ps qs js ks → Lists raw f (ListedAt f n k w) ps qs js ks
+      → Lists raw item f (λ os. (xs : List GenericArg) → chain (map arg_term xs) ≡ v → StaysOrIsListed f n os k xs) ps qs js ks → Lists raw item f (ListedAt f n k w) ps qs js ks
   lists_at k w v ps qs js ks reads h = record {
     adds = h.adds;
     none = λ xs e none ys r. h.none ys (same_reading (answers f n).Alias (answers_sound f n).one hole w (args_term ys) v (reads_at_args w (args_term ys) xs e r) reads);
@@ -169,28 +172,28 @@ module _ (raw : RawFacts) (f : System) where
       h k (ap role (sym first)) xs rest (λ p. none (subst HoldsPlaceholder (sym rest) p))
 
   -- of the associated type that stands over the arguments
-  pub lists_over : (a b : Term) (k : TypeAliasId) (ps qs : List Proof) (js ks : List (Ty × Ty)) → role a ≡ alias k → Lists raw f (ListedAt f n k b) ps qs js ks → Lists raw f (ListedHere f n a b) ps qs js ks
+  pub lists_over : (a b : Term) (k : TypeAliasId) (ps qs : List Proof) (js ks : List (Ty × Ty)) → role a ≡ alias k → Lists raw item f (ListedAt f n k b) ps qs js ks → Lists raw item f (ListedHere f n a b) ps qs js ks
   lists_over a b k ps qs js ks is h = record {
     adds = h.adds;
     none = here_by a b ks (λ j at. (let k_is : k ≡ j = (let both : alias k ≡ alias j = sym is ∙ at in cc) in subst (λ i. ListedAt f n i b ks) k_is h.none));
   }
 
-  pub lists_over_none : (a b : Term) (ps : List Proof) (js : List (Ty × Ty)) → ((k : TypeAliasId) → role a ≡ alias k → ⊥) → Lists raw f (ListedHere f n a b) ps ps js js
-  lists_over_none a b ps js none = lists_nothing raw f (ListedHere f n a b) ps js (here_by a b js (λ k is. absurd (none k is)))
+  pub lists_over_none : (a b : Term) (ps : List Proof) (js : List (Ty × Ty)) → ((k : TypeAliasId) → role a ≡ alias k → ⊥) → Lists raw item f (ListedHere f n a b) ps ps js js
+  lists_over_none a b ps js none = lists_nothing raw item f (ListedHere f n a b) ps js (here_by a b js (λ k is. absurd (none k is)))
 
   abbrev pub In : Term → List (Ty × Ty) → Type 0
   In t js = WrittenAreListed f n js t
 
-  pub lists_no_pair : (t : Term) (ps : List Proof) (js : List (Ty × Ty)) → ((x : Term) → IsPartOf x t → ⊥) → Lists raw f (In t) ps ps js js
-  lists_no_pair t ps js none = lists_nothing raw f (In t) ps js (λ k xs at. absurd (none (alias_at k (args_term xs)) at))
+  pub lists_no_pair : (t : Term) (ps : List Proof) (js : List (Ty × Ty)) → ((x : Term) → IsPartOf x t → ⊥) → Lists raw item f (In t) ps ps js js
+  lists_no_pair t ps js none = lists_nothing raw item f (In t) ps js (λ k xs at. absurd (none (alias_at k (args_term xs)) at))
 
-  pub lists_two : (a b : Term) (ps qs rs ts : List Proof) (js ks ls ms : List (Ty × Ty)) → Lists raw f (ListedHere f n a b) ps qs js ks → Lists raw f (In a) qs rs ks ls → Lists raw f (In b) rs ts ls ms
-      → Lists raw f (In (pair a b)) ps ts js ms
+  pub lists_two : (a b : Term) (ps qs rs ts : List Proof) (js ks ls ms : List (Ty × Ty)) → Lists raw item f (ListedHere f n a b) ps qs js ks → Lists raw item f (In a) qs rs ks ls → Lists raw item f (In b) rs ts ls ms
+      → Lists raw item f (In (pair a b)) ps ts js ms
   lists_two a b ps qs rs ts js ks ls ms here first rest =
       let l = first.adds.lists.behind in
       let m = rest.adds.lists.behind in
       record {
-        adds = read_then raw f ps rs ts js ls ms (read_then raw f ps qs rs js ks ls here.adds first.adds) rest.adds;
+        adds = read_then raw item f ps rs ts js ls ms (read_then raw item f ps qs rs js ks ls here.adds first.adds) rest.adds;
         none = λ k xs at. elim at [
           | inl e ↦ λ none ys r. stays_later f n ls ms m k ys (stays_later f n ks ls l k ys (here.none k xs e none ys r))
           | inr o ↦ elim o [
@@ -205,12 +208,12 @@ module _ (raw : RawFacts) (f : System) where
   abbrev pub About : Asked → List (Ty × Ty) → Type 0
   About a js = AboutIsListed f n js a
 
-  pub lists_no_alias : (a : Asked) (t : TraitRef) (ps : List Proof) (js : List (Ty × Ty)) → a.kind ≡ (asked_goal (goal.Trait t)).kind → Lists raw f (About a) ps ps js js
-  lists_no_alias a t ps js is = lists_nothing raw f (About a) ps js (λ unknown k xs at. absurd (let clash : implements (out-TraitRef t).id ≡ projects k = sym is ∙ at in cc))
+  pub lists_no_alias : (a : Asked) (t : TraitRef) (ps : List Proof) (js : List (Ty × Ty)) → a.kind ≡ (asked_goal (goal.Trait t)).kind → Lists raw item f (About a) ps ps js js
+  lists_no_alias a t ps js is = lists_nothing raw item f (About a) ps js (λ unknown k xs at. absurd (let clash : implements (out-TraitRef t).id ≡ projects k = sym is ∙ at in cc))
 
   -- of the associated type that it is about
   pub lists_about : (k : TypeAliasId) (xs : List GenericArg) (t : Ty) (w : Term) (ps qs : List Proof) (js ks : List (Ty × Ty)) → w ≡ args_term xs
-      → Lists raw f (ListedAt f n k w) ps qs js ks → Lists raw f (About (asked_goal (goal.Projection k xs t))) ps qs js ks
+      → Lists raw item f (ListedAt f n k w) ps qs js ks → Lists raw item f (About (asked_goal (goal.Projection k xs t))) ps qs js ks
   lists_about k xs t w ps qs js ks is h = record {
     adds = h.adds;
     none = λ unknown j ys kind at none.
@@ -219,9 +222,9 @@ module _ (raw : RawFacts) (f : System) where
         subst (λ i. IsListedOnceRead f n ks i ys) k_is (h.none ys w_is (λ p. none (subst HoldsPlaceholder (sym w_is) p))));
   }
 
-  pub lists_goal : (a : Asked) (ps qs rs : List Proof) (js ks ls : List (Ty × Ty)) → Lists raw f (In a.parts) ps qs js ks → Lists raw f (About a) qs rs ks ls → Lists raw f (GoalIsListed f n a) ps rs js ls
+  pub lists_goal : (a : Asked) (ps qs rs : List Proof) (js ks ls : List (Ty × Ty)) → Lists raw item f (In a.parts) ps qs js ks → Lists raw item f (About a) qs rs ks ls → Lists raw item f (GoalIsListed f n a) ps rs js ls
   lists_goal a ps qs rs js ks ls parts about = record {
-    adds = read_then raw f ps qs rs js ks ls parts.adds about.adds;
+    adds = read_then raw item f ps qs rs js ks ls parts.adds about.adds;
     none = record { parts = written_later f n ks ls about.adds.lists.behind a.parts parts.none; about = about.none };
   }
 
@@ -235,9 +238,9 @@ FirstHold {X} P xs m js = (i : ℕ) (x : X) → i < m → slice_get xs i ≡ Som
 abbrev pub AllHold : {X : Type 0} → (ℕ → X → List (Ty × Ty) → Type 0) → List X → List (Ty × Ty) → Type 0
 AllHold {X} P xs js = (i : ℕ) (x : X) → slice_get xs i ≡ Some x → P i x js
 
-module _ (raw : RawFacts) (f : System) {X : Type 0} (P : ℕ → X → List (Ty × Ty) → Type 0) (xs : List X) where
-  pub holds_first : (ps : List Proof) (js : List (Ty × Ty)) → Lists raw f (FirstHold P xs 0) ps ps js js
-  holds_first ps js = lists_nothing raw f (FirstHold P xs 0) ps js (λ i x lt. absurd (omega (arith, lt)))
+module _ (raw : RawFacts) (item : GenericDefId) (f : System) {X : Type 0} (P : ℕ → X → List (Ty × Ty) → Type 0) (xs : List X) where
+  pub holds_first : (ps : List Proof) (js : List (Ty × Ty)) → Lists raw item f (FirstHold P xs 0) ps ps js js
+  holds_first ps js = lists_nothing raw item f (FirstHold P xs 0) ps js (λ i x lt. absurd (omega (arith, lt)))
 
   holds_both : (m : ℕ) (y : X) (js : List (Ty × Ty)) → slice_get xs m ≡ Some y → FirstHold P xs m js → P m y js → FirstHold P xs (m + 1) js
   holds_both m y js here first at_y i x lt at = elim (eq-or-lt_of_le {n = i} {m = m} (omega (arith, lt))) [
@@ -246,11 +249,11 @@ module _ (raw : RawFacts) (f : System) {X : Type 0} (P : ℕ → X → List (Ty 
   ]
 
   pub holds_next : ((js ks : List (Ty × Ty)) → IsFront js ks → (i : ℕ) (x : X) → P i x js → P i x ks) → (m : ℕ) (y : X) (ps qs rs : List Proof) (js ks ls : List (Ty × Ty)) → slice_get xs m ≡ Some y
-      → Lists raw f (FirstHold P xs m) ps qs js ks → Lists raw f (P m y) qs rs ks ls → Lists raw f (FirstHold P xs (m + 1)) ps rs js ls
+      → Lists raw item f (FirstHold P xs m) ps qs js ks → Lists raw item f (P m y) qs rs ks ls → Lists raw item f (FirstHold P xs (m + 1)) ps rs js ls
   holds_next later m y ps qs rs js ks ls here a b =
-      lists_both raw f (FirstHold P xs m) (P m y) (FirstHold P xs (m + 1)) ps qs rs js ks ls (λ l h i x lt at. later ks ls l i x (h i x lt at)) (holds_both m y ls here) a b
+      lists_both raw item f (FirstHold P xs m) (P m y) (FirstHold P xs (m + 1)) ps qs rs js ks ls (λ l h i x lt at. later ks ls l i x (h i x lt at)) (holds_both m y ls here) a b
 
-  pub holds_all : (m : ℕ) (ps qs : List Proof) (js ks : List (Ty × Ty)) → m ≡ length xs → Lists raw f (FirstHold P xs m) ps qs js ks → Lists raw f (AllHold P xs) ps qs js ks
+  pub holds_all : (m : ℕ) (ps qs : List Proof) (js ks : List (Ty × Ty)) → m ≡ length xs → Lists raw item f (FirstHold P xs m) ps qs js ks → Lists raw item f (AllHold P xs) ps qs js ks
   holds_all m ps qs js ks end h = record { adds = h.adds; none = λ i x at. (let lt = slice_get_within xs i x at in h.none i x (omega (arith, end, lt)) at) }
 
 -- ---- what holds of each type, goal, expression and item
@@ -284,8 +287,8 @@ module _ (raw : RawFacts) (f : System) where
   item_later js ks l i o h = goals_later f deep js ks l (pat_needs_of raw o) h
 
   -- where there are no goals
-  pub lists_no_goals : (ps : List Proof) (js : List (Ty × Ty)) → Lists raw f (GoalsAreListed f deep []) ps ps js js
-  lists_no_goals ps js = lists_nothing raw f (GoalsAreListed f deep []) ps js (λ i a at. cc)
+  pub lists_no_goals : (item : GenericDefId) (ps : List Proof) (js : List (Ty × Ty)) → Lists raw item f (GoalsAreListed f deep []) ps ps js js
+  lists_no_goals item ps js = lists_nothing raw item f (GoalsAreListed f deep []) ps js (λ i a at. cc)
 
 -- ---- goals as a list of them is made
 
@@ -311,19 +314,19 @@ items_provable raw r h i o at = subst (λ (x : Option (Option Ty)). AreProvable 
 
 -- ---- all of them
 
-module _ (raw : RawFacts) (d : DefWithBodyId) (b : RawBody) (r : InferenceResult) (f : System) where
+module _ (raw : RawFacts) (d : DefWithBodyId) (b : RawBody) (r : InferenceResult) (item : GenericDefId) (f : System) where
   abbrev low : ℕ
   low = raw.limits.goal_depth
 
   pub lists_all : (p0 p1 p2 p3 p4 : List Proof) (j0 j1 j2 j3 j4 : List (Ty × Ty))
-      → Lists raw f (TypesAreListed f low raw.types (aliases_of raw d)) p0 p1 j0 j1 → Lists raw f (TypesAreListed f low raw.types (let_aliases raw.types b)) p1 p2 j1 j2
-      → Lists raw f (ExprsAreListed raw f b r) p2 p3 j2 j3 → Lists raw f (ItemsAreListed raw f r.item_of_pat) p3 p4 j3 j4 → Lists raw f (AreAllListed raw d b r f) p0 p4 j0 j4
+      → Lists raw item f (TypesAreListed f low raw.types (aliases_of raw d)) p0 p1 j0 j1 → Lists raw item f (TypesAreListed f low raw.types (let_aliases raw.types b)) p1 p2 j1 j2
+      → Lists raw item f (ExprsAreListed raw f b r) p2 p3 j2 j3 → Lists raw item f (ItemsAreListed raw f r.item_of_pat) p3 p4 j3 j4 → Lists raw item f (AreAllListed raw d b r f) p0 p4 j0 j4
   lists_all p0 p1 p2 p3 p4 j0 j1 j2 j3 j4 own lets exprs pats =
       let from3 = pats.adds in
-      let from2 = read_then raw f p2 p3 p4 j2 j3 j4 exprs.adds from3 in
-      let from1 = read_then raw f p1 p2 p4 j1 j2 j4 lets.adds from2 in
+      let from2 = read_then raw item f p2 p3 p4 j2 j3 j4 exprs.adds from3 in
+      let from1 = read_then raw item f p1 p2 p4 j1 j2 j4 lets.adds from2 in
       record {
-        adds = read_then raw f p0 p1 p4 j0 j1 j4 own.adds from1;
+        adds = read_then raw item f p0 p1 p4 j0 j1 j4 own.adds from1;
         none = record {
           own = types_later f low j1 j4 from1.lists.behind raw.types (aliases_of raw d) own.none;
           lets = types_later f low j2 j4 from2.lists.behind raw.types (let_aliases raw.types b) lets.none;
@@ -333,9 +336,9 @@ module _ (raw : RawFacts) (d : DefWithBodyId) (b : RawBody) (r : InferenceResult
       }
 
   -- after what is left in the types of the table
-  pub lists_left_and : (ps qs rs : List Proof) (js ks ls : List (Ty × Ty)) → Lists raw f (λ os. AllTypes (NoneIsLeft f low os) r) ps qs js ks → Lists raw f (AreAllListed raw d b r f) qs rs ks ls → Lists raw f (λ os. AllTypes (NoneIsLeft f low os) r) ps rs js ls
+  pub lists_left_and : (ps qs rs : List Proof) (js ks ls : List (Ty × Ty)) → Lists raw item f (λ os. AllTypes (NoneIsLeft f low os) r) ps qs js ks → Lists raw item f (AreAllListed raw d b r f) qs rs ks ls → Lists raw item f (λ os. AllTypes (NoneIsLeft f low os) r) ps rs js ls
   lists_left_and ps qs rs js ks ls left all = record {
-    adds = read_then raw f ps qs rs js ks ls left.adds all.adds;
+    adds = read_then raw item f ps qs rs js ks ls left.adds all.adds;
     none = table_later f low ks ls all.adds.lists.behind r left.none;
   }
 

@@ -2,6 +2,7 @@
 use Rattle.std.specs.Prelude.{◌≡◌, ◌⊎◌, ◌++◌, ℕ, Bool, true, false, List, [], ◌∷◌, length, slice_get, Some}
 use Rattle.hir_types.specs.declared.ids.ExprOrPatId.{ExprOrPatId}
 use Rattle.hir_types.specs.declared.ids.ExprOrPatId.TheVariants as node
+use Rattle.hir_types.specs.declared.ids.GenericDefId.{GenericDefId}
 use Rattle.hir_types.specs.declared.ids.TypeAliasId.{TypeAliasId}
 use Rattle.hir_types.specs.declared.goal.Goal.{Goal}
 use Rattle.hir_types.specs.declared.goal.Goal.TheVariants as goal
@@ -30,7 +31,8 @@ use Rattle.infer_result.specs.CannotHold.{CannotHold, MayHold}
 use Rattle.infer_result.specs.Needs.{HoldsUnknown, Saying, gap_says, needs_of, needs_at, pat_needs_at}
 use Rattle.infer_result.specs.Table.{recorded}
 use Rattle.infer_needs.specs.Listed.{FindsIn}
-use Rattle.infer_needs.specs.Told.{AddsRootsOf}
+use Rattle.infer_needs.specs.FitTerms.{EntryFitsIn}
+use Rattle.infer_needs.specs.Told.{AddsRootsOf, first_pat_needs}
 
 -- ---- goals that can be proved
 
@@ -172,6 +174,26 @@ pub record AddsEntries (ps qs : List Proof) (js ks : List (Ty × Ty)) : Type 0 w
   pub behind : IsFront js ks
   pub right : AreEntries ps js → AreEntries qs ks
 
+-- ---- where entries come from
+
+-- one of these goals reads as what the entry says
+pub record IsSaidBy (f : System) (n : ℕ) (xs : List Asked) (x : Ty × Ty) : Type 0 where
+  pub alias : TypeAliasId
+  pub args : List GenericArg
+  pub is : x.0 ≡ ty.Projection alias args
+  pub need : Asked
+  pub at : ℕ
+  pub among : slice_get xs at ≡ Some need
+  pub reads : GoalReads f n need (asked_goal (goal.Projection alias args x.1))
+
+-- each is one of the first, or is said by one of these goals
+abbrev pub ComeFrom : System → ℕ → List Asked → List (Ty × Ty) → List (Ty × Ty) → Type 0
+ComeFrom f n xs js ks = (k : ℕ) (x : Ty × Ty) → slice_get ks k ≡ Some x → (slice_get js k ≡ Some x) ⊎ IsSaidBy f n xs x
+
+-- each fits under the parameters of the item, or is said by one of these goals
+abbrev pub FitOrAreSaid : RawFacts → GenericDefId → System → List Asked → List (Ty × Ty) → Type 0
+FitOrAreSaid raw item f xs js = (k : ℕ) (x : Ty × Ty) → slice_get js k ≡ Some x → EntryFitsIn raw item x ⊎ IsSaidBy f raw.limits.goal_depth xs x
+
 -- ---- the goals of an expression
 
 -- it is of one of these goals, whose answer isn't Yes, nor with other types where `{unknown}` stands in it
@@ -211,6 +233,7 @@ pub record AreDone (f : System) (n : ℕ) (e : ExprOrPatId) (xs : List Asked) (p
 pub record AreJudged (raw : RawFacts) (f : System) (e : ExprOrPatId) (xs : List Asked) (ps qs : List Proof) (js ks : List (Ty × Ty)) (gs : List Gap) : Type 0 where
   pub adds : AddsProofs raw f ps qs
   pub lists : AddsEntries ps qs js ks
+  pub from : ComeFrom f raw.limits.goal_depth xs js ks
   pub done : AreDone f raw.limits.goal_depth e xs qs ks gs
 
 -- ---- the expressions of a body
@@ -229,5 +252,6 @@ pub record AreAllJudged (raw : RawFacts) (f : System) (b : RawBody) (r : Inferen
 pub record ArePatsJudged (raw : RawFacts) (f : System) (r : InferenceResult) (n : ℕ) (ps qs : List Proof) (js ks : List (Ty × Ty)) (gss : List (List Gap)) : Type 0 where
   pub adds : AddsProofs raw f ps qs
   pub lists : AddsEntries ps qs js ks
+  pub from : ComeFrom f raw.limits.goal_depth (first_pat_needs raw r n) js ks
   pub long : length gss ≡ n
   pub each : (k : ℕ) (gs : List Gap) → slice_get gss k ≡ Some gs → AreDone f raw.limits.goal_depth (node.PatId (record { 0 = k })) (pat_needs_at raw r k) qs ks gs

@@ -1,6 +1,7 @@
 -- Associated types in the types of a table: each that could be read is listed with what it reads as.
 use Rattle.std.specs.Prelude.{◌≡◌, ◌⊎◌, ℕ, List, [], slice_get, Option, Some, None}
 use Rattle.hir_types.specs.declared.ids.ExprId.{ExprId}
+use Rattle.hir_types.specs.declared.ids.GenericDefId.{GenericDefId}
 use Rattle.hir_types.specs.declared.ids.TypeAliasId.{TypeAliasId}
 use Rattle.hir_types.specs.declared.ty.GenericArg.{GenericArg}
 use Rattle.hir_types.specs.declared.ty.Ty.{Ty}
@@ -18,6 +19,7 @@ use Rattle.infer_result.specs.declared.result.TypeMismatch.{TypeMismatch}
 use Rattle.infer_result.specs.declared.diagnostics.InferenceDiagnostic.{InferenceDiagnostic}
 use Rattle.infer_result.specs.declared.diagnostics.InferenceDiagnostic.TheVariants as diagnostic
 use Rattle.infer_result.specs.Projections.{IsPartOf, stays_at, StaysOrIsListed}
+use Rattle.infer_needs.specs.FitTerms.{FitsIn, EntriesFitIn}
 use Rattle.infer_needs.specs.Judged.{AddsEntries}
 use Rattle.infer_needs.specs.Told.{AddsRootsOf}
 
@@ -33,24 +35,27 @@ pub record WasRead (f : System) (n : ℕ) (x : Ty × Ty) : Type 0 where
 abbrev pub WereRead : System → ℕ → List (Ty × Ty) → Type 0
 WereRead f n js = (i : ℕ) (x : Ty × Ty) → slice_get js i ≡ Some x → WasRead f n x
 
--- proofs and entries come behind, of what was read if the first were; of a goal about a trait each proof that is added is one that another asks for
-pub record AddsRead (raw : RawFacts) (f : System) (ps qs : List Proof) (js ks : List (Ty × Ty)) : Type 0 where
+-- proofs and entries come behind, of what was read if the first were, and that fit if the first do; of a goal about a trait each proof that is added
+-- is one that another asks for
+pub record AddsRead (raw : RawFacts) (item : GenericDefId) (f : System) (ps qs : List Proof) (js ks : List (Ty × Ty)) : Type 0 where
   pub adds : AddsProofs raw f ps qs
   pub roots : AddsRootsOf [] ps qs
   pub lists : AddsEntries ps qs js ks
   pub read : WereRead f raw.limits.goal_depth js → WereRead f raw.limits.goal_depth ks
+  pub fit : EntriesFitIn raw item js → EntriesFitIn raw item ks
 
 -- so many are added that this holds of all
-pub record Lists (raw : RawFacts) (f : System) (P : List (Ty × Ty) → Type 0) (ps qs : List Proof) (js ks : List (Ty × Ty)) : Type 0 where
-  pub adds : AddsRead raw f ps qs js ks
+pub record Lists (raw : RawFacts) (item : GenericDefId) (f : System) (P : List (Ty × Ty) → Type 0) (ps qs : List Proof) (js ks : List (Ty × Ty)) : Type 0 where
+  pub adds : AddsRead raw item f ps qs js ks
   pub none : P ks
 
 -- ---- of which nothing is left
 
--- nothing is left to be read in it, and no hole
-pub record IsFinal (t : Term) : Type 0 where
+-- nothing is left to be read in it, and no hole, and it fits
+pub record IsFinal (raw : RawFacts) (item : GenericDefId) (t : Term) : Type 0 where
   pub read : IsRead t
   pub written : IsWritten t
+  pub fits : FitsIn raw item t
 
 -- the associated type that stays at the arguments that follow, if this is the head of one
 abbrev pub staying_head : Term → Option TypeAliasId
@@ -86,5 +91,5 @@ abbrev pub EachOf : {X : Type 0} → (X → Ty → Type 0) → (Ty → Type 0) �
 EachOf {X} T P xs = (i : ℕ) (x : X) → slice_get xs i ≡ Some x → EachIn T P x
 
 -- it is final
-abbrev pub IsFinalType : Ty → Type 0
-IsFinalType t = IsFinal (term t)
+abbrev pub IsFinalType : RawFacts → GenericDefId → Ty → Type 0
+IsFinalType raw item t = IsFinal raw item (term t)

@@ -2,6 +2,7 @@
 -- arguments read as.
 use Rattle.std.specs.Prelude.{◌≡◌, ◌⊎◌, ℕ, List, slice_get, Option, Some}
 use Rattle.hir_types.specs.declared.ids.DefWithBodyId.{DefWithBodyId}
+use Rattle.hir_types.specs.declared.ids.GenericDefId.{GenericDefId}
 use Rattle.hir_types.specs.declared.ids.TypeAliasId.{TypeAliasId}
 use Rattle.hir_types.specs.declared.ty.GenericArg.{GenericArg}
 use Rattle.hir_types.specs.declared.ty.Ty.{Ty}
@@ -20,6 +21,7 @@ use Rattle.infer_result.specs.Needs.{needs_of, pat_needs_of}
 use Rattle.infer_result.specs.OwnTypes.{HoldsPlaceholder, aliases_of}
 use Rattle.infer_result.specs.Table.{recorded}
 use Rattle.infer_result.specs.WrittenAliases.{args_term, IsListedOnceRead, WrittenAreListed, AboutIsListed}
+use Rattle.infer_needs.specs.FitTerms.{FitsIn, GoalsFitIn}
 use Rattle.infer_needs.specs.Judged.{AreProvable}
 
 -- ---- terms of written types
@@ -67,6 +69,28 @@ ItemsAreListed raw f ts js = (i : ℕ) (o : Option Ty) → slice_get ts i ≡ So
 -- what each of these patterns needs can be proved
 abbrev pub CanItemsBeProved : RawFacts → List (Option Ty) → Type 0
 CanItemsBeProved raw ts = (i : ℕ) (o : Option Ty) → slice_get ts i ≡ Some o → AreProvable (pat_needs_of raw o)
+
+-- the type of this number fits
+abbrev pub TypeFitsIn : RawFacts → GenericDefId → ℕ → Type 0
+TypeFitsIn raw item k = FitsIn raw item (term (lowered raw.types k))
+
+abbrev pub TypesFitIn : RawFacts → GenericDefId → List ℕ → Type 0
+TypesFitIn raw item ks = (i k : ℕ) → slice_get ks i ≡ Some k → TypeFitsIn raw item k
+
+-- so does what the expressions of the body need
+abbrev pub ExprsFitIn : RawFacts → GenericDefId → RawBody → InferenceResult → Type 0
+ExprsFitIn raw item b r = (i : ℕ) (x : RawExpr) → slice_get b.exprs i ≡ Some x → GoalsFitIn raw item (needs_of raw (Some x) (recorded r.type_of_expr i))
+
+-- and what patterns need of which these are the items
+abbrev pub ItemsFitIn : RawFacts → GenericDefId → List (Option Ty) → Type 0
+ItemsFitIn raw item ts = (i : ℕ) (o : Option Ty) → slice_get ts i ≡ Some o → GoalsFitIn raw item (pat_needs_of raw o)
+
+-- all that is written in a definition, and all that its nodes need
+pub record AllFitIn (raw : RawFacts) (item : GenericDefId) (d : DefWithBodyId) (b : RawBody) (r : InferenceResult) : Type 0 where
+  pub own : TypesFitIn raw item (aliases_of raw d)
+  pub lets : TypesFitIn raw item (let_aliases raw.types b)
+  pub exprs : ExprsFitIn raw item b r
+  pub pats : ItemsFitIn raw item r.item_of_pat
 
 -- each in all of these
 pub record AreAllListed (raw : RawFacts) (d : DefWithBodyId) (b : RawBody) (r : InferenceResult) (f : System) (js : List (Ty × Ty)) : Type 0 where

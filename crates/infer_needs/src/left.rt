@@ -6,6 +6,7 @@ ghost use Rattle.goal_search.specs.Sources.{system};
 ghost use Rattle.goal_terms.specs.Terms.{term_of};
 ghost use Rattle.infer_result.specs.Closed.{AllTypes};
 ghost use Rattle.infer_result.specs.Projections.{StaysOrIsListed, NoneIsLeft};
+ghost use Rattle.infer_needs.specs.FitTerms.{TakesThese, MayFollow};
 ghost use Rattle.infer_needs.specs.Left.{WereRead, Lists, IsFinal, IsFinalType, staying_head, NoneHere, NoneStands, StandsInType, StandsInMismatch, StandsInDiagnostic, EachIn, EachOf};
 
 use crate::found::Found;
@@ -27,9 +28,10 @@ pub fn look_at_alias(
     proofs: &mut Vec<Proof>,
     found: &mut Found,
 ) -> Result<(), AllocError>
-    requires whole { IsFinal (term_of args.now) }
+    requires whole { IsFinal sources.now.facts sources.now.item (term_of args.now) }
+    requires many { TakesThese sources.now.facts alias (term_of args.now) }
     requires read { WereRead (system sources.now.sources) sources.now.facts.limits.goal_depth found.old }
-    ensures { OnOk result (Lists sources.now.facts (system sources.now.sources) (λ js. (xs : List GenericArg) → chain (map arg_term xs) ≡ term_of args.now → StaysOrIsListed (system sources.now.sources) sources.now.facts.limits.goal_depth js alias xs) proofs.old.items proofs.new.items found.old found.new) }
+    ensures { OnOk result (Lists sources.now.facts sources.now.item (system sources.now.sources) (λ js. (xs : List GenericArg) → chain (map arg_term xs) ≡ term_of args.now → StaysOrIsListed (system sources.now.sources) sources.now.facts.limits.goal_depth js alias xs) proofs.old.items proofs.new.items found.old found.new) }
 {
     let made = term_args(alloc, args)?;
     let chain = args_term(alloc, &made)?;
@@ -85,9 +87,10 @@ fn look_at_head(
     proofs: &mut Vec<Proof>,
     found: &mut Found,
 ) -> Result<(), AllocError>
-    requires whole { IsFinal (term_of args.now) }
+    requires whole { IsFinal sources.now.facts sources.now.item (term_of args.now) }
+    requires follows { MayFollow sources.now.facts (term_of first.now) (term_of args.now) }
     requires read { WereRead (system sources.now.sources) sources.now.facts.limits.goal_depth found.old }
-    ensures { OnOk result (Lists sources.now.facts (system sources.now.sources) (NoneHere (system sources.now.sources) sources.now.facts.limits.goal_depth (term_of first.now) (term_of args.now)) proofs.old.items proofs.new.items found.old found.new) }
+    ensures { OnOk result (Lists sources.now.facts sources.now.item (system sources.now.sources) (NoneHere (system sources.now.sources) sources.now.facts.limits.goal_depth (term_of first.now) (term_of args.now)) proofs.old.items proofs.new.items found.old found.new) }
 {
     match staying_alias(first) {
         Some(alias) => look_at_alias(alloc, sources, alias, args, proofs, found),
@@ -104,9 +107,9 @@ fn look_at(
     proofs: &mut Vec<Proof>,
     found: &mut Found,
 ) -> Result<(), AllocError>
-    requires whole { IsFinal (term_of term.now) }
+    requires whole { IsFinal sources.now.facts sources.now.item (term_of term.now) }
     requires read { WereRead (system sources.now.sources) sources.now.facts.limits.goal_depth found.old }
-    ensures { OnOk result (Lists sources.now.facts (system sources.now.sources) (NoneStands (system sources.now.sources) sources.now.facts.limits.goal_depth (term_of term.now)) proofs.old.items proofs.new.items found.old found.new) }
+    ensures { OnOk result (Lists sources.now.facts sources.now.item (system sources.now.sources) (NoneStands (system sources.now.sources) sources.now.facts.limits.goal_depth (term_of term.now)) proofs.old.items proofs.new.items found.old found.new) }
 {
     match term {
         Term::Hole(_) | Term::Leaf(_) => Ok(()),
@@ -127,9 +130,9 @@ fn look_at_type(
     proofs: &mut Vec<Proof>,
     found: &mut Found,
 ) -> Result<(), AllocError>
-    requires whole { IsFinalType ty.now }
+    requires whole { IsFinalType sources.now.facts sources.now.item ty.now }
     requires read { WereRead (system sources.now.sources) sources.now.facts.limits.goal_depth found.old }
-    ensures { OnOk result (Lists sources.now.facts (system sources.now.sources) (λ js. NoneIsLeft (system sources.now.sources) sources.now.facts.limits.goal_depth js ty.now) proofs.old.items proofs.new.items found.old found.new) }
+    ensures { OnOk result (Lists sources.now.facts sources.now.item (system sources.now.sources) (λ js. NoneIsLeft (system sources.now.sources) sources.now.facts.limits.goal_depth js ty.now) proofs.old.items proofs.new.items found.old found.new) }
 {
     let term = type_term(alloc, ty)?;
     look_at(alloc, sources, &term, proofs, found)
@@ -143,9 +146,9 @@ fn look_at_entry(
     proofs: &mut Vec<Proof>,
     found: &mut Found,
 ) -> Result<(), AllocError>
-    requires whole { EachIn StandsInType IsFinalType entry.now }
+    requires whole { EachIn StandsInType (IsFinalType sources.now.facts sources.now.item) entry.now }
     requires read { WereRead (system sources.now.sources) sources.now.facts.limits.goal_depth found.old }
-    ensures { OnOk result (Lists sources.now.facts (system sources.now.sources) (λ js. EachIn StandsInType (NoneIsLeft (system sources.now.sources) sources.now.facts.limits.goal_depth js) entry.now) proofs.old.items proofs.new.items found.old found.new) }
+    ensures { OnOk result (Lists sources.now.facts sources.now.item (system sources.now.sources) (λ js. EachIn StandsInType (NoneIsLeft (system sources.now.sources) sources.now.facts.limits.goal_depth js) entry.now) proofs.old.items proofs.new.items found.old found.new) }
 {
     match entry {
         Some(ty) => look_at_type(alloc, sources, ty, proofs, found),
@@ -161,9 +164,9 @@ fn look_at_types(
     proofs: &mut Vec<Proof>,
     found: &mut Found,
 ) -> Result<(), AllocError>
-    requires whole { EachOf StandsInType IsFinalType entries.now }
+    requires whole { EachOf StandsInType (IsFinalType sources.now.facts sources.now.item) entries.now }
     requires read { WereRead (system sources.now.sources) sources.now.facts.limits.goal_depth found.old }
-    ensures { OnOk result (Lists sources.now.facts (system sources.now.sources) (λ js. EachOf StandsInType (NoneIsLeft (system sources.now.sources) sources.now.facts.limits.goal_depth js) entries.now) proofs.old.items proofs.new.items found.old found.new) }
+    ensures { OnOk result (Lists sources.now.facts sources.now.item (system sources.now.sources) (λ js. EachOf StandsInType (NoneIsLeft (system sources.now.sources) sources.now.facts.limits.goal_depth js) entries.now) proofs.old.items proofs.new.items found.old found.new) }
 {
     for entry in entries {
         look_at_entry(alloc, sources, entry, proofs, found)?;
@@ -179,9 +182,9 @@ fn look_at_mismatch(
     proofs: &mut Vec<Proof>,
     found: &mut Found,
 ) -> Result<(), AllocError>
-    requires whole { EachIn StandsInMismatch IsFinalType entry.now }
+    requires whole { EachIn StandsInMismatch (IsFinalType sources.now.facts sources.now.item) entry.now }
     requires read { WereRead (system sources.now.sources) sources.now.facts.limits.goal_depth found.old }
-    ensures { OnOk result (Lists sources.now.facts (system sources.now.sources) (λ js. EachIn StandsInMismatch (NoneIsLeft (system sources.now.sources) sources.now.facts.limits.goal_depth js) entry.now) proofs.old.items proofs.new.items found.old found.new) }
+    ensures { OnOk result (Lists sources.now.facts sources.now.item (system sources.now.sources) (λ js. EachIn StandsInMismatch (NoneIsLeft (system sources.now.sources) sources.now.facts.limits.goal_depth js) entry.now) proofs.old.items proofs.new.items found.old found.new) }
 {
     match entry {
         Some(mismatch) => {
@@ -200,9 +203,9 @@ fn look_at_mismatches(
     proofs: &mut Vec<Proof>,
     found: &mut Found,
 ) -> Result<(), AllocError>
-    requires whole { EachOf StandsInMismatch IsFinalType entries.now }
+    requires whole { EachOf StandsInMismatch (IsFinalType sources.now.facts sources.now.item) entries.now }
     requires read { WereRead (system sources.now.sources) sources.now.facts.limits.goal_depth found.old }
-    ensures { OnOk result (Lists sources.now.facts (system sources.now.sources) (λ js. EachOf StandsInMismatch (NoneIsLeft (system sources.now.sources) sources.now.facts.limits.goal_depth js) entries.now) proofs.old.items proofs.new.items found.old found.new) }
+    ensures { OnOk result (Lists sources.now.facts sources.now.item (system sources.now.sources) (λ js. EachOf StandsInMismatch (NoneIsLeft (system sources.now.sources) sources.now.facts.limits.goal_depth js) entries.now) proofs.old.items proofs.new.items found.old found.new) }
 {
     for entry in entries {
         look_at_mismatch(alloc, sources, entry, proofs, found)?;
@@ -218,9 +221,9 @@ fn look_at_diagnostic(
     proofs: &mut Vec<Proof>,
     found: &mut Found,
 ) -> Result<(), AllocError>
-    requires whole { EachIn StandsInDiagnostic IsFinalType entry.now }
+    requires whole { EachIn StandsInDiagnostic (IsFinalType sources.now.facts sources.now.item) entry.now }
     requires read { WereRead (system sources.now.sources) sources.now.facts.limits.goal_depth found.old }
-    ensures { OnOk result (Lists sources.now.facts (system sources.now.sources) (λ js. EachIn StandsInDiagnostic (NoneIsLeft (system sources.now.sources) sources.now.facts.limits.goal_depth js) entry.now) proofs.old.items proofs.new.items found.old found.new) }
+    ensures { OnOk result (Lists sources.now.facts sources.now.item (system sources.now.sources) (λ js. EachIn StandsInDiagnostic (NoneIsLeft (system sources.now.sources) sources.now.facts.limits.goal_depth js) entry.now) proofs.old.items proofs.new.items found.old found.new) }
 {
     match entry {
         Some(diagnostic) => match diagnostic {
@@ -242,9 +245,9 @@ fn look_at_diagnostics(
     proofs: &mut Vec<Proof>,
     found: &mut Found,
 ) -> Result<(), AllocError>
-    requires whole { EachOf StandsInDiagnostic IsFinalType entries.now }
+    requires whole { EachOf StandsInDiagnostic (IsFinalType sources.now.facts sources.now.item) entries.now }
     requires read { WereRead (system sources.now.sources) sources.now.facts.limits.goal_depth found.old }
-    ensures { OnOk result (Lists sources.now.facts (system sources.now.sources) (λ js. EachOf StandsInDiagnostic (NoneIsLeft (system sources.now.sources) sources.now.facts.limits.goal_depth js) entries.now) proofs.old.items proofs.new.items found.old found.new) }
+    ensures { OnOk result (Lists sources.now.facts sources.now.item (system sources.now.sources) (λ js. EachOf StandsInDiagnostic (NoneIsLeft (system sources.now.sources) sources.now.facts.limits.goal_depth js) entries.now) proofs.old.items proofs.new.items found.old found.new) }
 {
     for entry in entries {
         look_at_diagnostic(alloc, sources, entry, proofs, found)?;
@@ -260,9 +263,9 @@ pub fn look_at_table(
     proofs: &mut Vec<Proof>,
     found: &mut Found,
 ) -> Result<(), AllocError>
-    requires whole { AllTypes IsFinalType table.now }
+    requires whole { AllTypes (IsFinalType sources.now.facts sources.now.item) table.now }
     requires read { WereRead (system sources.now.sources) sources.now.facts.limits.goal_depth found.old }
-    ensures { OnOk result (Lists sources.now.facts (system sources.now.sources) (λ js. AllTypes (NoneIsLeft (system sources.now.sources) sources.now.facts.limits.goal_depth js) table.now) proofs.old.items proofs.new.items found.old found.new) }
+    ensures { OnOk result (Lists sources.now.facts sources.now.item (system sources.now.sources) (λ js. AllTypes (NoneIsLeft (system sources.now.sources) sources.now.facts.limits.goal_depth js) table.now) proofs.old.items proofs.new.items found.old found.new) }
 {
     look_at_types(alloc, sources, table.type_of_expr.as_slice(), proofs, found)?;
     look_at_types(alloc, sources, table.type_of_pat.as_slice(), proofs, found)?;

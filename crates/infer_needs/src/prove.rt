@@ -11,9 +11,10 @@ ghost use Rattle.infer_result.specs.WrittenAliases.{AllWrittenAreListed};
 ghost use Rattle.infer_result.specs.Closed.{AllTypes};
 ghost use Rattle.infer_result.specs.Table.{recorded};
 ghost use Rattle.infer_needs.specs.Left.{IsFinalType};
-ghost use Rattle.infer_needs.specs.Written.{AreAllListed};
+ghost use Rattle.infer_needs.specs.Fits.{EntriesFit};
+ghost use Rattle.infer_needs.specs.Written.{AreAllListed, AllFitIn};
 ghost use Rattle.infer_result.specs.Typed.{IsTableOf, given};
-ghost use Rattle.infer_needs.specs.Judged.{IsProvable, AreProvable, CanAllBeProved, CanPatsBeProved, IsSaidUnlessMay, IsJudged, AreJudged, AreAllJudged, ArePatsJudged};
+ghost use Rattle.infer_needs.specs.Judged.{IsProvable, AreProvable, CanAllBeProved, CanPatsBeProved, FitOrAreSaid, IsSaidUnlessMay, IsJudged, AreJudged, AreAllJudged, ArePatsJudged};
 ghost use Rattle.infer_needs.specs.Told.{ListsAnswers, first_needs, first_pat_needs, AreAllAnswered, AddsRootsOf, RootsAreNeeded};
 
 use crate::found::Found;
@@ -222,8 +223,10 @@ fn prove_exprs(
 ) -> Result<(Vec<Proof>, Found, List<List<Gap>>), AllocError>
     requires needs { CanAllBeProved sources.now.facts body.now table.now }
     requires pats { CanPatsBeProved sources.now.facts table.now }
-    requires types { AllTypes IsFinalType table.now }
+    requires types { AllTypes (IsFinalType sources.now.facts sources.now.item) table.now }
+    requires fits { AllFitIn sources.now.facts sources.now.item def body.now table.now }
     ensures judged { IfOk result (λ made. AreAllJudged sources.now.facts (system sources.now.sources) body.now table.now (length body.now.exprs) made.0.items made.1 made.2) }
+    ensures fit { IfOk result (λ made. FitOrAreSaid sources.now.facts sources.now.item (system sources.now.sources) (first_needs sources.now.facts body.now table.now (length body.now.exprs)) made.1) }
     ensures written { IfOk result (λ made. AreAllListed sources.now.facts def body.now table.now (system sources.now.sources) made.1) }
     ensures told { OnOk result (ListsAnswers (system sources.now.sources) sources.now.facts.limits.goal_depth (first_needs sources.now.facts body.now table.now (length body.now.exprs)) told.old.items told.new.items) }
     ensures roots { IfOk result (λ made. AddsRootsOf (first_needs sources.now.facts body.now table.now (length body.now.exprs)) [] made.0.items) }
@@ -255,8 +258,9 @@ fn prove_exprs(
 /// predicates of each item, and then of the patterns: these are given back, each with its answer. What associated
 /// types were found to be is listed, each once; where one is another type at a node, this is said there. In no type
 /// of the table is one left that could be read, unless what it is is listed; and so is what each is that the
-/// definition, its `let`s and those goals are written with. Each listed proof of a goal about a trait is one that
-/// another asks for, or of a goal that a node needs. Nothing else of the table changes. The one error is want of memory.
+/// definition, its `let`s and those goals are written with. What is listed, and what is said, names what the facts have,
+/// with as many arguments as it takes, and has no holes. Each listed proof of a goal about a trait is one that another
+/// asks for, or of a goal that a node needs. Nothing else of the table changes. The one error is want of memory.
 pub fn prove_needs(
     alloc: Global,
     facts: &Facts,
@@ -269,6 +273,7 @@ pub fn prove_needs(
     ensures left { OnOk result ((b : RawBody) → body_of facts.now def ≡ Some b → HasNoneLeft def (given facts.now def b) table.new) }
     ensures written { OnOk result ((b : RawBody) → body_of facts.now def ≡ Some b → AllWrittenAreListed def (given facts.now def b) table.new) }
     ensures roots { OnOk result ((b : RawBody) → body_of facts.now def ≡ Some b → RootsAreNeeded (given facts.now def b) table.new) }
+    ensures fit { OnOk result ((b : RawBody) → body_of facts.now def ≡ Some b → EntriesFit (given facts.now def b) table.new) }
     ensures told { IfOk result (λ told. (b : RawBody) → body_of facts.now def ≡ Some b → AreAllAnswered def (given facts.now def b) table.new told.items) }
 {
     let Some(id) = facts.body_id(def) else {

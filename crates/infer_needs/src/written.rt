@@ -3,6 +3,7 @@
 ghost use Rattle.std.specs.Prelude.{◌≡◌, ◌↔◌, IsTrue, IfOk, OnOk, map, option_map, Some};
 ghost use Rattle.hir_types.specs.Terms.{leaf, hole};
 ghost use Rattle.goal_answers.specs.Answers.{answers};
+ghost use Rattle.goal_answers.specs.Reading.{alias_at};
 ghost use Rattle.goal_answers.specs.Steps.{ReadingIs};
 ghost use Rattle.goal_facts.specs.Goals.{asked_goal};
 ghost use Rattle.goal_facts.specs.Systems.{IsSystemOf};
@@ -12,9 +13,10 @@ ghost use Rattle.infer_result.specs.Needs.{needs_of, pat_needs_of};
 ghost use Rattle.infer_result.specs.OwnTypes.{HoldsPlaceholder, aliases_of};
 ghost use Rattle.infer_result.specs.Table.{recorded};
 ghost use Rattle.infer_result.specs.WrittenAliases.{WrittenAreListed, AboutIsListed};
+ghost use Rattle.infer_needs.specs.FitTerms.{FitsIn, AliasesFitIn, AliasFitsHere, GoalFitsIn, GoalsFitIn};
 ghost use Rattle.infer_needs.specs.Judged.{IsProvable, AreProvable, CanAllBeProved, CanPatsBeProved};
 ghost use Rattle.infer_needs.specs.Left.{WereRead, Lists};
-ghost use Rattle.infer_needs.specs.Written.{IsAsWritten, ListedAt, ListedHere, TypeIsListed, TypesAreListed, GoalIsListed, GoalsAreListed, ExprsAreListed, CanItemsBeProved, ItemsAreListed, AreAllListed};
+ghost use Rattle.infer_needs.specs.Written.{IsAsWritten, ListedAt, ListedHere, TypeIsListed, TypesAreListed, GoalIsListed, GoalsAreListed, ExprsAreListed, CanItemsBeProved, ItemsAreListed, AreAllListed, TypeFitsIn, TypesFitIn, ExprsFitIn, ItemsFitIn, AllFitIn};
 
 use crate::found::Found;
 use crate::left::look_at_alias;
@@ -80,8 +82,9 @@ fn look_at_args(
 ) -> Result<(), AllocError>
     requires heads { HasHeads (term_of args.now) }
     requires written { IsAsWritten (term_of args.now) }
+    requires fits { FitsIn sources.now.facts sources.now.item (alias_at alias (term_of args.now)) }
     requires read { WereRead (system sources.now.sources) sources.now.facts.limits.goal_depth found.old }
-    ensures { OnOk result (Lists sources.now.facts (system sources.now.sources) (ListedAt (system sources.now.sources) sources.now.facts.limits.goal_depth alias (term_of args.now)) proofs.old.items proofs.new.items found.old found.new) }
+    ensures { OnOk result (Lists sources.now.facts sources.now.item (system sources.now.sources) (ListedAt (system sources.now.sources) sources.now.facts.limits.goal_depth alias (term_of args.now)) proofs.old.items proofs.new.items found.old found.new) }
 {
     if holds_placeholder(args) {
         return Ok(());
@@ -107,8 +110,9 @@ fn look_at_pair(
 ) -> Result<(), AllocError>
     requires heads { HasHeads (term_of args.now) }
     requires written { IsAsWritten (term_of args.now) }
+    requires fits { AliasFitsHere sources.now.facts sources.now.item (term_of first.now) (term_of args.now) }
     requires read { WereRead (system sources.now.sources) sources.now.facts.limits.goal_depth found.old }
-    ensures { OnOk result (Lists sources.now.facts (system sources.now.sources) (ListedHere (system sources.now.sources) sources.now.facts.limits.goal_depth (term_of first.now) (term_of args.now)) proofs.old.items proofs.new.items found.old found.new) }
+    ensures { OnOk result (Lists sources.now.facts sources.now.item (system sources.now.sources) (ListedHere (system sources.now.sources) sources.now.facts.limits.goal_depth (term_of first.now) (term_of args.now)) proofs.old.items proofs.new.items found.old found.new) }
 {
     match first.role() {
         Role::Alias(alias) => {
@@ -130,8 +134,9 @@ fn look_at_term(
 ) -> Result<(), AllocError>
     requires heads { HasHeads (term_of term.now) }
     requires written { IsAsWritten (term_of term.now) }
+    requires fits { AliasesFitIn sources.now.facts sources.now.item (term_of term.now) }
     requires read { WereRead (system sources.now.sources) sources.now.facts.limits.goal_depth found.old }
-    ensures { OnOk result (Lists sources.now.facts (system sources.now.sources) (λ js. WrittenAreListed (system sources.now.sources) sources.now.facts.limits.goal_depth js (term_of term.now)) proofs.old.items proofs.new.items found.old found.new) }
+    ensures { OnOk result (Lists sources.now.facts sources.now.item (system sources.now.sources) (λ js. WrittenAreListed (system sources.now.sources) sources.now.facts.limits.goal_depth js (term_of term.now)) proofs.old.items proofs.new.items found.old found.new) }
 {
     match term {
         Term::Hole(_) | Term::Leaf(_) => Ok(()),
@@ -161,8 +166,9 @@ fn look_at_written_type(
     proofs: &mut Vec<Proof>,
     found: &mut Found,
 ) -> Result<(), AllocError>
+    requires fits { TypeFitsIn sources.now.facts sources.now.item number }
     requires read { WereRead (system sources.now.sources) sources.now.facts.limits.goal_depth found.old }
-    ensures { OnOk result (Lists sources.now.facts (system sources.now.sources) (TypeIsListed (system sources.now.sources) sources.now.facts.limits.goal_depth sources.now.facts.types number) proofs.old.items proofs.new.items found.old found.new) }
+    ensures { OnOk result (Lists sources.now.facts sources.now.item (system sources.now.sources) (TypeIsListed (system sources.now.sources) sources.now.facts.limits.goal_depth sources.now.facts.types number) proofs.old.items proofs.new.items found.old found.new) }
 {
     let written = type_ref(number)?;
     let ty = lower_ty(alloc, sources.facts(), written)?;
@@ -179,8 +185,9 @@ fn look_at_written_types(
     proofs: &mut Vec<Proof>,
     found: &mut Found,
 ) -> Result<(), AllocError>
+    requires fits { TypesFitIn sources.now.facts sources.now.item numbers.now }
     requires read { WereRead (system sources.now.sources) sources.now.facts.limits.goal_depth found.old }
-    ensures { OnOk result (Lists sources.now.facts (system sources.now.sources) (TypesAreListed (system sources.now.sources) sources.now.facts.limits.goal_depth sources.now.facts.types numbers.now) proofs.old.items proofs.new.items found.old found.new) }
+    ensures { OnOk result (Lists sources.now.facts sources.now.item (system sources.now.sources) (TypesAreListed (system sources.now.sources) sources.now.facts.limits.goal_depth sources.now.facts.types numbers.now) proofs.old.items proofs.new.items found.old found.new) }
 {
     for number in numbers {
         look_at_written_type(alloc, sources, *number, proofs, found)?;
@@ -197,8 +204,9 @@ fn look_at_about(
     found: &mut Found,
 ) -> Result<(), AllocError>
     requires provable { IsProvable (asked_goal goal.now) }
+    requires fits { GoalFitsIn sources.now.facts sources.now.item (asked_goal goal.now) }
     requires read { WereRead (system sources.now.sources) sources.now.facts.limits.goal_depth found.old }
-    ensures { OnOk result (Lists sources.now.facts (system sources.now.sources) (λ js. AboutIsListed (system sources.now.sources) sources.now.facts.limits.goal_depth js (asked_goal goal.now)) proofs.old.items proofs.new.items found.old found.new) }
+    ensures { OnOk result (Lists sources.now.facts sources.now.item (system sources.now.sources) (λ js. AboutIsListed (system sources.now.sources) sources.now.facts.limits.goal_depth js (asked_goal goal.now)) proofs.old.items proofs.new.items found.old found.new) }
 {
     match goal {
         Goal::Trait(_trait_ref) => Ok(()),
@@ -224,8 +232,9 @@ fn look_at_goal(
     found: &mut Found,
 ) -> Result<(), AllocError>
     requires provable { IsProvable (asked_goal goal.now) }
+    requires fits { GoalFitsIn sources.now.facts sources.now.item (asked_goal goal.now) }
     requires read { WereRead (system sources.now.sources) sources.now.facts.limits.goal_depth found.old }
-    ensures { OnOk result (Lists sources.now.facts (system sources.now.sources) (GoalIsListed (system sources.now.sources) sources.now.facts.limits.goal_depth (asked_goal goal.now)) proofs.old.items proofs.new.items found.old found.new) }
+    ensures { OnOk result (Lists sources.now.facts sources.now.item (system sources.now.sources) (GoalIsListed (system sources.now.sources) sources.now.facts.limits.goal_depth (asked_goal goal.now)) proofs.old.items proofs.new.items found.old found.new) }
 {
     let asked = asked(alloc, goal)?;
     look_at_term(alloc, sources, &asked.parts, proofs, found)?;
@@ -242,8 +251,9 @@ fn look_at_goals(
     found: &mut Found,
 ) -> Result<(), AllocError>
     requires provable { AreProvable (map asked_goal goals.now) }
+    requires fits { GoalsFitIn sources.now.facts sources.now.item (map asked_goal goals.now) }
     requires read { WereRead (system sources.now.sources) sources.now.facts.limits.goal_depth found.old }
-    ensures { OnOk result (Lists sources.now.facts (system sources.now.sources) (GoalsAreListed (system sources.now.sources) sources.now.facts.limits.goal_depth (map asked_goal goals.now)) proofs.old.items proofs.new.items found.old found.new) }
+    ensures { OnOk result (Lists sources.now.facts sources.now.item (system sources.now.sources) (GoalsAreListed (system sources.now.sources) sources.now.facts.limits.goal_depth (map asked_goal goals.now)) proofs.old.items proofs.new.items found.old found.new) }
 {
     for goal in goals {
         look_at_goal(alloc, sources, goal, proofs, found)?;
@@ -262,8 +272,9 @@ fn look_at_expr(
     found: &mut Found,
 ) -> Result<(), AllocError>
     requires provable { AreProvable (needs_of sources.now.facts (Some expr.now) (recorded table.now.type_of_expr at)) }
+    requires fits { GoalsFitIn sources.now.facts sources.now.item (needs_of sources.now.facts (Some expr.now) (recorded table.now.type_of_expr at)) }
     requires read { WereRead (system sources.now.sources) sources.now.facts.limits.goal_depth found.old }
-    ensures { OnOk result (Lists sources.now.facts (system sources.now.sources) (GoalsAreListed (system sources.now.sources) sources.now.facts.limits.goal_depth (needs_of sources.now.facts (Some expr.now) (recorded table.now.type_of_expr at))) proofs.old.items proofs.new.items found.old found.new) }
+    ensures { OnOk result (Lists sources.now.facts sources.now.item (system sources.now.sources) (GoalsAreListed (system sources.now.sources) sources.now.facts.limits.goal_depth (needs_of sources.now.facts (Some expr.now) (recorded table.now.type_of_expr at))) proofs.old.items proofs.new.items found.old found.new) }
 {
     let node = ExprOrPatId::ExprId(expr_id(at)?);
     match table.type_of_expr_or_pat(node) {
@@ -286,8 +297,9 @@ fn look_at_exprs(
     found: &mut Found,
 ) -> Result<(), AllocError>
     requires provable { CanAllBeProved sources.now.facts body.now table.now }
+    requires fits { ExprsFitIn sources.now.facts sources.now.item body.now table.now }
     requires read { WereRead (system sources.now.sources) sources.now.facts.limits.goal_depth found.old }
-    ensures { OnOk result (Lists sources.now.facts (system sources.now.sources) (ExprsAreListed sources.now.facts (system sources.now.sources) body.now table.now) proofs.old.items proofs.new.items found.old found.new) }
+    ensures { OnOk result (Lists sources.now.facts sources.now.item (system sources.now.sources) (ExprsAreListed sources.now.facts (system sources.now.sources) body.now table.now) proofs.old.items proofs.new.items found.old found.new) }
 {
     for (at, expr) in body.exprs.as_slice().iter().enumerate() {
         look_at_expr(alloc, sources, expr, at, table, proofs, found)?;
@@ -304,8 +316,9 @@ fn look_at_item(
     found: &mut Found,
 ) -> Result<(), AllocError>
     requires provable { AreProvable (pat_needs_of sources.now.facts item.now) }
+    requires fits { GoalsFitIn sources.now.facts sources.now.item (pat_needs_of sources.now.facts item.now) }
     requires read { WereRead (system sources.now.sources) sources.now.facts.limits.goal_depth found.old }
-    ensures { OnOk result (Lists sources.now.facts (system sources.now.sources) (GoalsAreListed (system sources.now.sources) sources.now.facts.limits.goal_depth (pat_needs_of sources.now.facts item.now)) proofs.old.items proofs.new.items found.old found.new) }
+    ensures { OnOk result (Lists sources.now.facts sources.now.item (system sources.now.sources) (GoalsAreListed (system sources.now.sources) sources.now.facts.limits.goal_depth (pat_needs_of sources.now.facts item.now)) proofs.old.items proofs.new.items found.old found.new) }
 {
     match item {
         Some(ty) => {
@@ -326,8 +339,9 @@ fn look_at_items(
     found: &mut Found,
 ) -> Result<(), AllocError>
     requires provable { CanItemsBeProved sources.now.facts items.now }
+    requires fits { ItemsFitIn sources.now.facts sources.now.item items.now }
     requires read { WereRead (system sources.now.sources) sources.now.facts.limits.goal_depth found.old }
-    ensures { OnOk result (Lists sources.now.facts (system sources.now.sources) (ItemsAreListed sources.now.facts (system sources.now.sources) items.now) proofs.old.items proofs.new.items found.old found.new) }
+    ensures { OnOk result (Lists sources.now.facts sources.now.item (system sources.now.sources) (ItemsAreListed sources.now.facts (system sources.now.sources) items.now) proofs.old.items proofs.new.items found.old found.new) }
 {
     for item in items {
         look_at_item(alloc, sources, item, proofs, found)?;
@@ -362,8 +376,9 @@ pub fn look_at_written(
 ) -> Result<(), AllocError>
     requires exprs { CanAllBeProved sources.now.facts body.now table.now }
     requires pats { CanPatsBeProved sources.now.facts table.now }
+    requires fits { AllFitIn sources.now.facts sources.now.item def body.now table.now }
     requires read { WereRead (system sources.now.sources) sources.now.facts.limits.goal_depth found.old }
-    ensures { OnOk result (Lists sources.now.facts (system sources.now.sources) (AreAllListed sources.now.facts def body.now table.now (system sources.now.sources)) proofs.old.items proofs.new.items found.old found.new) }
+    ensures { OnOk result (Lists sources.now.facts sources.now.item (system sources.now.sources) (AreAllListed sources.now.facts def body.now table.now (system sources.now.sources)) proofs.old.items proofs.new.items found.old found.new) }
 {
     let facts = sources.facts();
     let own = own_aliases(alloc, facts, def)?;

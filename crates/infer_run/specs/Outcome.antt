@@ -12,7 +12,7 @@ use Rattle.infer_result.specs.Typed.{IsTableOf, given}
 use Rattle.infer_result.specs.General.{HasGeneral}
 use Rattle.infer_result.specs.Needs.{GoalsHold, HasNoneLeft}
 use Rattle.infer_result.specs.WrittenAliases.{AllWrittenAreListed}
-use Rattle.infer_expr.specs.Below.{ComesOfSelection, RootsAreNeeded}
+use Rattle.infer_expr.specs.Below.{ComesOfSelection, EntriesFit, RootsAreNeeded}
 use Rattle.infer_result.specs.Report.{report, complaint_count}
 use Rattle.infer_text.specs.declared.fault.ReadError.TheVariants as error
 use Rattle.infer_run.specs.declared.running.Ran.{Ran}
@@ -94,6 +94,10 @@ HasWritten raw def table = (b : RawBody) → body_of raw def ≡ Some b → AllW
 abbrev pub HasAskedProofs : RawFacts → DefWithBodyId → InferenceResult → Type 0
 HasAskedProofs raw def table = (b : RawBody) → body_of raw def ≡ Some b → RootsAreNeeded (given raw def b) table
 
+-- what is listed, and what is said could not be shown, names what the facts have, with as many arguments as it takes, and has no holes
+abbrev pub HasFitEntries : RawFacts → DefWithBodyId → InferenceResult → Type 0
+HasFitEntries raw def table = (b : RawBody) → body_of raw def ≡ Some b → EntriesFit (given raw def b) table
+
 -- what they need was selected before its open holes fell back
 abbrev pub IsSelectedTable : RawFacts → DefWithBodyId → InferenceResult → Type 0
 IsSelectedTable raw def table = (b : RawBody) → body_of raw def ≡ Some b → ComesOfSelection raw def b table
@@ -109,6 +113,7 @@ pub record IsInferred (def : DefWithBodyId) (raw : RawFacts) (ran : Ran) : Type 
   pub left : IsReadThrough raw def table
   pub written : HasWritten raw def table
   pub roots : HasAskedProofs raw def table
+  pub fit : HasFitEntries raw def table
   pub selected : IsSelectedTable raw def table
   pub table_is : ran.table ≡ Some table
 

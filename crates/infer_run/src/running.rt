@@ -6,7 +6,7 @@ ghost use Rattle.hir_laws.specs.Bodies.{HasBody};
 ghost use Rattle.infer_result.specs.Typed.{IsTableOf};
 ghost use Rattle.infer_result.specs.General.{HasGeneral};
 ghost use Rattle.infer_run.specs.Causes.{Rose, HasCause};
-ghost use Rattle.infer_run.specs.Outcome.{AppendsFront, HasGoals, IsReadThrough, HasWritten, HasAskedProofs, IsSelectedTable, Outcome, between};
+ghost use Rattle.infer_run.specs.Outcome.{AppendsFront, HasGoals, IsReadThrough, HasWritten, HasAskedProofs, HasFitEntries, IsSelectedTable, Outcome, between};
 ghost use Rattle.infer_run.specs.Exactly.{Exactly};
 ghost use Rattle.infer_run.specs.Answer.{Answered, silence, refusal};
 
@@ -139,6 +139,7 @@ fn report_on<K: Sink>(
     requires left { IsReadThrough facts def table }
     requires written { HasWritten facts def table }
     requires roots { HasAskedProofs facts def table }
+    requires fit { HasFitEntries facts def table }
     requires selected { IsSelectedTable facts def table }
     ensures { Answered def facts (K.written sink.old) (K.written sink.new) (K.faults sink.old) (K.faults sink.new) result }
 {

@@ -18,6 +18,7 @@ use Rattle.goal_prove.specs.Written.{IsWritten}
 use Rattle.infer_result.specs.Needs.{HoldsUnknown}
 use Rattle.infer_result.specs.Projections.{StaysOrIsListed}
 use Rattle.infer_needs.specs.Left.{Lists}
+use Rattle.infer_needs.proofs.FitParts.{entry_reads}
 use Rattle.infer_needs.proofs.Leaving.{lists_nothing, reads_staying, reads_unknown, found_settles, lists_reading, proof_here}
 use Rattle.infer_needs.proofs.ReadsYes.{reads_yes, reads_written}
 use Rattle.infer_needs.proofs.Rooted.{roots_other}
@@ -26,6 +27,7 @@ use Rattle.infer_needs.proofs.left.look_at_alias.Goals as goal
 pub returns-then-is_same : goal.returns-then-is_same
 returns-then-is_same c =
     let raw = c.args.sources.now.facts in
+    let item = c.args.sources.now.item in
     let f = system c.args.sources.now.sources in
     let k = c.args.alias in
     let zs = c.in_ok-made.made in
@@ -33,22 +35,24 @@ returns-then-is_same c =
     let is = sym c.in_ok-chain.ensures.is ∙ c.is_same.ensures.0 same in
     let reads = subst (IsTypeRead f raw.limits.goal_depth (ty.Projection k zs)) c.in-Some.is c.in_ok-read.ensures.read in
     let stays = sym c.in_ok-term.ensures.is ∙ (c.is_same-2.ensures.0 c.if-is_same.true ∙ c.in_ok-stays.ensures) in
-    lists_nothing raw f _ c.args.proofs.now.items c.args.found.now (reads_staying raw f k (term_of c.args.args.now) zs is c.in-Some.read reads c.args.found.now stays)
+    lists_nothing raw item f _ c.args.proofs.now.items c.args.found.now (reads_staying raw f k (term_of c.args.args.now) zs is c.in-Some.read reads c.args.found.now stays)
 
 pub returns-in-Some-find : goal.returns-in-Some-find
 returns-in-Some-find c =
     let raw = c.args.sources.now.facts in
+    let item = c.args.sources.now.item in
     let f = system c.args.sources.now.sources in
     let k = c.args.alias in
     let zs = c.in_ok-made.made in
     let same : c.is_same.result ≡ true = cc in
     let is = sym c.in_ok-chain.ensures.is ∙ c.is_same.ensures.0 same in
     let finds = rw c.in-Some-find.is at c.find.ensures in
-    lists_nothing raw f _ c.args.proofs.now.items c.args.found.now (found_settles raw f k (term_of c.args.args.now) zs is c.args.found.now c.in-Some-find._type.now c.requires.read finds)
+    lists_nothing raw item f _ c.args.proofs.now.items c.args.found.now (found_settles raw f k (term_of c.args.args.now) zs is c.args.found.now c.in-Some-find._type.now c.requires.read finds)
 
 pub returns-then-unknown : goal.returns-then-unknown
 returns-then-unknown c =
     let raw = c.args.sources.now.facts in
+    let item = c.args.sources.now.item in
     let f = system c.args.sources.now.sources in
     let k = c.args.alias in
     let zs = c.in_ok-made.made in
@@ -59,7 +63,7 @@ returns-then-unknown c =
     let args : c.in_ok-term_args.field-0 ≡ zs = c.in_ok-term_args.ensures.read ∙ sym c.in_ok-made.ensures.read in
     let holds = subst (λ (xs : List GenericArg). HoldsUnknown (asked_goal (the_goal.Projection k xs u)).parts) args
     (subst (λ (t : Ty). HoldsUnknown (asked_goal (the_goal.Projection k c.in_ok-term_args.field-0 t)).parts) c.in_ok-dup.ensures (c.in_ok-unknown.ensures.0 c.if-unknown.true)) in
-    lists_nothing raw f _ c.args.proofs.now.items c.args.found.now (reads_unknown raw f k (term_of c.args.args.now) zs is u reads c.args.found.now holds)
+    lists_nothing raw item f _ c.args.proofs.now.items c.args.found.now (reads_unknown raw f k (term_of c.args.args.now) zs is u reads c.args.found.now holds)
 
 pub prove_goal-requires-clause-written : goal.prove_goal-requires-clause-written
 prove_goal-requires-clause-written c =
@@ -100,6 +104,7 @@ unreachable-requires c =
 pub returns : goal.returns
 returns c =
     let raw = c.args.sources.now.facts in
+    let item = c.args.sources.now.item in
     let f = system c.args.sources.now.sources in
     let k = c.args.alias in
     let zs = c.in_ok-made.made in
@@ -117,6 +122,7 @@ returns c =
     let law = subst IsLawful (c.raw.ensures.value ∙ c.facts.ensures) c.raw.ensures.lawful in
     let args_written = subst IsWritten (sym is) c.requires.whole.written in
     let written : IsWritten (asked_goal (the_goal.Projection k zs u)).parts = (args_written, reads_written raw law _ f c.in_ok-read.ensures.given raw.limits.goal_depth k zs u reads args_written) in
+    let fits = entry_reads raw law item f c.in_ok-read.ensures.given raw.limits.goal_depth k (term_of c.args.args.now) zs u is c.requires.many c.requires.whole.fits reads in
     let other = λ (stays : term u ≡ staying k (chain (map arg_term zs))). true≢false (sym (c.is_same-2.ensures.1 (c.in_ok-term.ensures.is ∙ (stays ∙ (ap (staying k) is ∙ sym c.in_ok-stays.ensures)))) ∙ c.if-is_same.false) in
-    on_ok_weaker c.add.result (λ added. subst (λ (ks : List (Ty × Ty)). Lists raw f (λ (js : List (Ty × Ty)). (xs : List GenericArg) → chain (map arg_term xs) ≡ term_of c.args.args.now → StaysOrIsListed f raw.limits.goal_depth js k xs) c.args.proofs.now.items c.prove_goal.new.proofs.items c.args.found.now ks) (sym added)
-    (lists_reading raw f k (term_of c.args.args.now) zs is u reads c.args.proofs.now.items c.prove_goal.new.proofs.items c.args.found.now c.in_ok-_number.ensures.adds roots (subst IsRead (sym is) c.requires.whole.read) proved known other written c.requires.read)) c.add.ensures
+    on_ok_weaker c.add.result (λ added. subst (λ (ks : List (Ty × Ty)). Lists raw item f (λ (js : List (Ty × Ty)). (xs : List GenericArg) → chain (map arg_term xs) ≡ term_of c.args.args.now → StaysOrIsListed f raw.limits.goal_depth js k xs) c.args.proofs.now.items c.prove_goal.new.proofs.items c.args.found.now ks) (sym added)
+    (lists_reading raw f k (term_of c.args.args.now) zs is u reads item fits c.args.proofs.now.items c.prove_goal.new.proofs.items c.args.found.now c.in_ok-_number.ensures.adds roots (subst IsRead (sym is) c.requires.whole.read) proved known other written c.requires.read)) c.add.ensures

@@ -12,5 +12,5 @@ look_at_type-requires-in-Some-clause-whole c = c.requires.whole c.in-Some.mismat
 
 pub returns-in_ok-look_at_type-in-Some : goal.returns-in_ok-look_at_type-in-Some
 returns-in_ok-look_at_type-in-Some c =
-    on_ok_weaker c.look_at_type-in-Some.result (lists_mismatch c.args.sources.now.facts (system c.args.sources.now.sources) c.args.entry.now c.in-Some.mismatch c.args.proofs.now.items c.look_at_type.new.proofs.items c.look_at_type-in-Some.new.proofs.items
+    on_ok_weaker c.look_at_type-in-Some.result (lists_mismatch c.args.sources.now.facts c.args.sources.now.item (system c.args.sources.now.sources) c.args.entry.now c.in-Some.mismatch c.args.proofs.now.items c.look_at_type.new.proofs.items c.look_at_type-in-Some.new.proofs.items
     c.args.found.now c.look_at_type.new.found c.look_at_type-in-Some.new.found c.in-Some.is c.in_ok-look_at_type-in-Some.ensures) c.look_at_type-in-Some.ensures

@@ -24,6 +24,6 @@ look_at_diagnostics-requires-clause-read c =
 
 pub returns : goal.returns
 returns c =
-    on_ok_weaker c.look_at_diagnostics.result (λ last. lists_table c.args.sources.now.facts (system c.args.sources.now.sources) c.args.table.now _ _ _ _ _ _ _ _ _ _ _ _ _ _ _ _ _ _
+    on_ok_weaker c.look_at_diagnostics.result (λ last. lists_table c.args.sources.now.facts c.args.sources.now.item (system c.args.sources.now.sources) c.args.table.now _ _ _ _ _ _ _ _ _ _ _ _ _ _ _ _ _ _
     (rw c.as_slice.ensures at c.in_ok-look_at_types.ensures) (rw c.as_slice-2.ensures at c.in_ok-look_at_types-2.ensures) (rw c.as_slice-3.ensures at c.in_ok-look_at_types-3.ensures) (rw c.as_slice-4.ensures at c.in_ok-look_at_types-4.ensures)
     (rw c.as_slice-5.ensures at c.in_ok-look_at_types-5.ensures) (rw c.as_slice-6.ensures at c.in_ok-look_at_mismatches.ensures) (rw c.as_slice-7.ensures at c.in_ok-look_at_mismatches-2.ensures) (rw c.as_slice-8.ensures at last)) c.look_at_diagnostics.ensures

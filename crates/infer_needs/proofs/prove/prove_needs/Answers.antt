@@ -14,17 +14,23 @@ use Rattle.goal_search.specs.declared.answer.Answer.{Answer}
 use Rattle.goal_search.specs.Sources.{system}
 use Rattle.goal_facts.specs.Systems.{IsSystemOf}
 use Rattle.infer_result.specs.Needs.{with_goals, scope_item, GoalsHold, HasNoneLeft, needs_of, pat_needs_at}
+use Rattle.infer_result.specs.Closed.{AllTypes}
 use Rattle.infer_result.specs.Table.{recorded}
 use Rattle.infer_result.specs.Typed.{given}
 use Rattle.infer_result.specs.WrittenAliases.{AllWrittenAreListed}
-use Rattle.infer_needs.specs.Judged.{AreProvable, AreAllJudged, ArePatsJudged}
-use Rattle.infer_needs.specs.Written.{AreAllListed}
+use Rattle.infer_needs.specs.Judged.{AreProvable, AreAllJudged, ArePatsJudged, FitOrAreSaid}
+use Rattle.infer_needs.specs.Left.{IsFinalType}
+use Rattle.infer_needs.specs.Fits.{EntriesFit}
+use Rattle.infer_needs.specs.Written.{AreAllListed, AllFitIn}
 use Rattle.infer_needs.specs.Told.{first_needs, first_pat_needs, all_needs, AreAnswered, AddsRootsOf, RootsAreNeeded, RootsAreTold}
 use Rattle.infer_needs.proofs.Telling.{tells_both, needs_stay}
 use Rattle.infer_needs.proofs.Rooted.{roots_both, roots_needed, roots_told}
 use Rattle.infer_needs.proofs.Provable.{needs_provable, node_provable, table_final, pat_needs_provable, as_many_items}
 use Rattle.infer_needs.proofs.Holding.{same_body, goals_hold, has_none_left}
 use Rattle.infer_needs.proofs.Writing.{all_listed_later, all_written}
+use Rattle.infer_needs.proofs.Coming.{fit_then}
+use Rattle.infer_needs.proofs.FitEntries.{entries_fit, all_fit, same_needs}
+use Rattle.infer_needs.proofs.FitWritten.{all_fit_in}
 use Rattle.infer_needs.proofs.prove.prove_needs.Goals as goal
 
 pub prove_exprs-requires-clause-needs : goal.prove_exprs-requires-clause-needs
@@ -38,7 +44,26 @@ prove_exprs-requires-clause-pats c n =
     (pat_needs_provable c.args.facts.now c.lawful.ensures c.args.def c.args.table.now c.requires n)
 
 pub prove_exprs-requires-clause-types : goal.prove_exprs-requires-clause-types
-prove_exprs-requires-clause-types c = table_final c.args.facts.now c.lawful.ensures c.args.def c.args.table.now c.requires
+prove_exprs-requires-clause-types c =
+    let raw = c.args.facts.now in
+    let made = c.in_ok-sources.sources in
+    let r = c.args.table.now in
+    let item : made.item ≡ scope_item raw c.args.def = c.in_ok-sources.ensures.item ∙ c.scope_item.ensures in
+    subst (λ i. AllTypes (IsFinalType made.facts i) r) (sym item)
+    (subst (λ z. AllTypes (IsFinalType z (scope_item raw c.args.def)) r) (sym c.in_ok-sources.ensures.facts) (table_final raw c.lawful.ensures c.args.def r c.requires))
+
+pub prove_exprs-requires-clause-fits : goal.prove_exprs-requires-clause-fits
+prove_exprs-requires-clause-fits c =
+    let raw = c.args.facts.now in
+    let d = c.args.def in
+    let made = c.in_ok-sources.sources in
+    let r = c.args.table.now in
+    let body = c.body-body.result.now in
+    let item : made.item ≡ scope_item raw d = c.in_ok-sources.ensures.item ∙ c.scope_item.ensures in
+    let same : body ≡ c.requires.body = same_body raw d c.in-Some.id body c.requires.body (sym c.body_id.ensures ∙ c.in-Some.is) c.body-body.ensures c.requires.is_body in
+    subst (λ i. AllFitIn made.facts i d body r) (sym item)
+    (subst (λ z. AllFitIn z (scope_item raw d) d body r) (sym c.in_ok-sources.ensures.facts)
+    (subst (λ x. AllFitIn raw (scope_item raw d) d x r) (sym same) (all_fit_in raw c.lawful.ensures d r c.requires c.requires.body c.requires.is_body)))
 
 pub prove_pats-requires : goal.prove_pats-requires
 prove_pats-requires c n =
@@ -143,6 +168,34 @@ returns-clause-roots c b is =
     subst (λ es. RootsAreNeeded (given raw d b) (with_goals c.from_vec.result es gss hss r)) (sym c.from_vec-2.ensures)
     (subst (λ xs. RootsAreNeeded (given raw d b) (with_goals xs ks gss hss r)) (sym c.from_vec.ensures)
     (roots_needed raw d b (with_goals qs ks gss hss r) (subst (λ xs. AddsRootsOf xs [] qs) (sym (needs_stay raw b r qs ks gss hss)) all)))
+
+pub returns-clause-fit : goal.returns-clause-fit
+returns-clause-fit c b is =
+    let raw = c.args.facts.now in
+    let d = c.args.def in
+    let r = c.args.table.now in
+    let made = c.in_ok-sources.sources in
+    let f = system made.sources in
+    let body = c.body-body.result.now in
+    let ps = c.in_ok-proofs.proofs.items in
+    let qs = c.prove_pats.new.proofs.items in
+    let js = c.in_ok-proofs.found in
+    let ks = c.into_pairs.result.items in
+    let gss = c.in_ok-proofs.gaps in
+    let hss = c.in_ok-pat_gaps.pat_gaps in
+    let item : made.item ≡ scope_item raw d = c.in_ok-sources.ensures.item ∙ c.scope_item.ensures in
+    let same : body ≡ b = same_body raw d c.in-Some.id body b (sym c.body_id.ensures ∙ c.in-Some.is) c.body-body.ensures is in
+    let all = judged_of raw d r made c.in_ok-sources.ensures.facts item c.lawful-2.ensures body b same ps qs js ks c.prove_pats.new.found gss hss c.into_pairs.ensures.list c.in_ok-proofs.ensures.judged c.in_ok-pat_gaps.ensures.judged in
+    let first = subst (λ (x : RawBody). FitOrAreSaid raw (scope_item raw d) f (first_needs raw x r (length x.exprs)) js) same
+    (subst (λ (z : RawFacts). FitOrAreSaid z (scope_item raw d) f (first_needs z body r (length body.exprs)) js) c.in_ok-sources.ensures.facts
+    (subst (λ i. FitOrAreSaid made.facts i f (first_needs made.facts body r (length body.exprs)) js) item c.in_ok-proofs.ensures.fit)) in
+    let said = fit_then raw (scope_item raw d) f (first_needs raw b r (length b.exprs)) (first_pat_needs raw r (length b.pats)) js ks first all.pats.from in
+    let z = with_goals qs ks gss hss r in
+    let holds = goals_hold raw d b f r ps qs js ks gss hss all.of_item (as_many_items raw d r b c.requires is) all.exprs all.pats c.into_pairs.ensures.once (node_provable raw c.lawful.ensures d r c.requires b) in
+    let entries = entries_fit raw c.lawful.ensures d b is r c.requires f all.of_item qs ks (all.pats.lists.right all.exprs.entries) said in
+    subst (λ es. EntriesFit (given raw d b) (with_goals c.from_vec.result es gss hss r)) (sym c.from_vec-2.ensures)
+    (subst (λ xs. EntriesFit (given raw d b) (with_goals xs ks gss hss r)) (sym c.from_vec.ensures)
+    (all_fit raw c.lawful.ensures d b is r c.requires holds.system holds.of_item z (same_needs raw b r qs ks gss hss) entries holds.gaps))
 
 pub returns-clause-told : goal.returns-clause-told
 returns-clause-told c b is =

@@ -1,9 +1,11 @@
 use Rattle.std.proofs.Common.{◌≡◌, ◌∙◌, ap, subst, sym, true≢false}
 use Rattle.hir_types.specs.Terms.{Term}
+use Rattle.goal_answers.specs.Reading.{alias_at}
 use Rattle.goal_facts.specs.Goals.{asked_goal}
 use Rattle.goal_search.specs.Sources.{system}
 use Rattle.goal_terms.specs.Terms.{term_of}
 use Rattle.infer_result.specs.WrittenAliases.{args_term}
+use Rattle.infer_needs.specs.FitTerms.{FitsIn, GoalFitsIn}
 use Rattle.infer_needs.specs.Left.{Lists}
 use Rattle.infer_needs.specs.Written.{IsAsWritten}
 use Rattle.infer_needs.specs.Judged.{IsProvable}
@@ -15,15 +17,23 @@ look_at_args-requires-clause-written c =
     let provable = subst (λ g. IsProvable (asked_goal g)) c.in-Projection.is c.requires.provable in
     subst IsAsWritten (sym c.in_ok-term-in-Projection.ensures.is) (as_written (args_term c.in-Projection.args) provable.0)
 
+pub look_at_args-requires-clause-fits : goal.look_at_args-requires-clause-fits
+look_at_args-requires-clause-fits c =
+    let raw = c.args.sources.now.facts in
+    let item = c.args.sources.now.item in
+    let fits = subst (λ g. GoalFitsIn raw item (asked_goal g)) c.in-Projection.is c.requires.fits in
+    subst (λ (w : Term). FitsIn raw item (alias_at c.in-Projection.alias w)) (sym c.in_ok-term-in-Projection.ensures.is) fits.0
+
 pub returns-in-Trait : goal.returns-in-Trait
 returns-in-Trait c =
-    lists_no_alias c.args.sources.now.facts (system c.args.sources.now.sources) (asked_goal c.args.goal.now) c.in-Trait._trait_ref c.args.proofs.now.items c.args.found.now
+    lists_no_alias c.args.sources.now.facts c.args.sources.now.item (system c.args.sources.now.sources) (asked_goal c.args.goal.now) c.in-Trait._trait_ref c.args.proofs.now.items c.args.found.now
     (ap (λ g. (asked_goal g).kind) c.in-Trait.is)
 
 pub returns-in_ok-look_at_args-in-Projection : goal.returns-in_ok-look_at_args-in-Projection
 returns-in_ok-look_at_args-in-Projection c =
     let raw = c.args.sources.now.facts in
+    let item = c.args.sources.now.item in
     let f = system c.args.sources.now.sources in
-    subst (λ g. Lists raw f (About raw f (asked_goal g)) c.args.proofs.now.items c.look_at_args.new.proofs.items c.args.found.now c.look_at_args.new.found) (sym c.in-Projection.is)
-    (lists_about raw f c.in-Projection.alias c.in-Projection.args c.in-Projection.ty (term_of c.in_ok-term-in-Projection.term) c.args.proofs.now.items c.look_at_args.new.proofs.items c.args.found.now c.look_at_args.new.found
+    subst (λ g. Lists raw item f (About raw item f (asked_goal g)) c.args.proofs.now.items c.look_at_args.new.proofs.items c.args.found.now c.look_at_args.new.found) (sym c.in-Projection.is)
+    (lists_about raw item f c.in-Projection.alias c.in-Projection.args c.in-Projection.ty (term_of c.in_ok-term-in-Projection.term) c.args.proofs.now.items c.look_at_args.new.proofs.items c.args.found.now c.look_at_args.new.found
     c.in_ok-term-in-Projection.ensures.is c.in_ok-look_at_args-in-Projection.ensures)

@@ -17,8 +17,9 @@ look_at_goals-requires-clause-provable c =
 pub returns-in_ok-look_at_goals-in-Some : goal.returns-in_ok-look_at_goals-in-Some
 returns-in_ok-look_at_goals-in-Some c =
     let raw = c.args.sources.now.facts in
+    let item = c.args.sources.now.item in
     let f = system c.args.sources.now.sources in
     let all = needed_here raw c.facts.result.now c.args.expr.now c.args.table.now.type_of_expr c.args.at c.in_ok-expr_id.field-0.0 c.in-Some.ty.now (map asked_goal c.in_ok-needed-in-Some.needed.items)
     c.in_ok-needed-in-Some.ensures c.facts.ensures c.in-Some.ensures c.in_ok-expr_id.ensures in
-    subst (λ (xs : List Asked). Lists raw f (GoalsAreListed f raw.limits.goal_depth xs) c.args.proofs.now.items c.look_at_goals.new.proofs.items c.args.found.now c.look_at_goals.new.found) all
+    subst (λ (xs : List Asked). Lists raw item f (GoalsAreListed f raw.limits.goal_depth xs) c.args.proofs.now.items c.look_at_goals.new.proofs.items c.args.found.now c.look_at_goals.new.found) all
     (rw c.as_slice.ensures.value at c.in_ok-look_at_goals-in-Some.ensures)

@@ -5,8 +5,10 @@ use Rattle.goal_facts.specs.Goals.{asked_goal}
 use Rattle.goal_search.specs.Sources.{system}
 use Rattle.goal_terms.specs.Terms.{term_of}
 use Rattle.infer_result.specs.WrittenAliases.{WrittenAreListed}
+use Rattle.infer_needs.specs.FitTerms.{AliasesFitIn}
 use Rattle.infer_needs.specs.Left.{Lists}
 use Rattle.infer_needs.specs.Written.{IsAsWritten}
+use Rattle.infer_needs.proofs.FitParts.{goal_aliases}
 use Rattle.infer_needs.proofs.Writing.{as_written, lists_goal}
 use Rattle.infer_needs.proofs.written.look_at_goal.Goals as goal
 
@@ -16,12 +18,21 @@ look_at_term-requires-clause-written c =
     let is : term_of c.in_ok-asked.asked.parts ≡ parts = ap (λ (a : Asked). a.parts) c.in_ok-asked.ensures.is in
     subst IsAsWritten (sym is) (as_written parts c.requires.provable)
 
+pub look_at_term-requires-clause-fits : goal.look_at_term-requires-clause-fits
+look_at_term-requires-clause-fits c =
+    let raw = c.args.sources.now.facts in
+    let item = c.args.sources.now.item in
+    let a = asked_goal c.args.goal.now in
+    let is : term_of c.in_ok-asked.asked.parts ≡ a.parts = ap (λ (x : Asked). x.parts) c.in_ok-asked.ensures.is in
+    subst (AliasesFitIn raw item) (sym is) (goal_aliases raw item a c.requires.fits)
+
 pub returns : goal.returns
 returns c =
     let raw = c.args.sources.now.facts in
+    let item = c.args.sources.now.item in
     let f = system c.args.sources.now.sources in
     let a = asked_goal c.args.goal.now in
     let is : term_of c.in_ok-asked.asked.parts ≡ a.parts = ap (λ (b : Asked). b.parts) c.in_ok-asked.ensures.is in
-    lists_goal raw f a c.args.proofs.now.items c.look_at_term.new.proofs.items c.look_at_about.new.proofs.items c.args.found.now c.look_at_term.new.found c.look_at_about.new.found
-    (subst (λ (x : Term). Lists raw f (λ js. WrittenAreListed f raw.limits.goal_depth js x) c.args.proofs.now.items c.look_at_term.new.proofs.items c.args.found.now c.look_at_term.new.found) is c.in_ok-look_at_term.ensures)
+    lists_goal raw item f a c.args.proofs.now.items c.look_at_term.new.proofs.items c.look_at_about.new.proofs.items c.args.found.now c.look_at_term.new.found c.look_at_about.new.found
+    (subst (λ (x : Term). Lists raw item f (λ js. WrittenAreListed f raw.limits.goal_depth js x) c.args.proofs.now.items c.look_at_term.new.proofs.items c.args.found.now c.look_at_term.new.found) is c.in_ok-look_at_term.ensures)
     c.in_ok-look_at_about.ensures

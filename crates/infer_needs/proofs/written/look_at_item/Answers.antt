@@ -21,8 +21,9 @@ look_at_goals-requires-clause-provable c =
 pub returns-in_ok-look_at_goals-in-Some : goal.returns-in_ok-look_at_goals-in-Some
 returns-in_ok-look_at_goals-in-Some c =
     let raw = c.args.sources.now.facts in
+    let item = c.args.sources.now.item in
     let f = system c.args.sources.now.sources in
     let all : map asked_goal c.in_ok-needed-in-Some.needed.items ≡ pat_needs_of raw c.args.item.now =
     c.in_ok-needed-in-Some.ensures ∙ ap (λ (z : RawFacts). pat_needs_by z (out-Ty c.in-Some.ty)) c.facts.ensures ∙ ap (λ (o : Option Ty). pat_needs_of raw o) (sym c.in-Some.is) in
-    subst (λ (xs : List Asked). Lists raw f (GoalsAreListed f raw.limits.goal_depth xs) c.args.proofs.now.items c.look_at_goals.new.proofs.items c.args.found.now c.look_at_goals.new.found) all
+    subst (λ (xs : List Asked). Lists raw item f (GoalsAreListed f raw.limits.goal_depth xs) c.args.proofs.now.items c.look_at_goals.new.proofs.items c.args.found.now c.look_at_goals.new.found) all
     (rw c.as_slice.ensures.value at c.in_ok-look_at_goals-in-Some.ensures)

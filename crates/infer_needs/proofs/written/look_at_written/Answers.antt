@@ -25,5 +25,5 @@ returns c =
     let own : c.as_slice.result.now ≡ aliases_of raw c.args.def = c.as_slice.ensures.value ∙ c.in_ok-own.ensures ∙ ap (λ (z : RawFacts). aliases_of z c.args.def) c.facts-facts.ensures in
     let lets : c.as_slice-2.result.now ≡ let_aliases raw.types c.args.body.now =
     c.as_slice-2.ensures.value ∙ c.in_ok-lets.ensures ∙ ap (λ ts. let_aliases ts c.args.body.now) c.types.ensures ∙ ap (λ (z : RawFacts). let_aliases z.types c.args.body.now) c.facts-facts.ensures in
-    lists_all raw c.args.def c.args.body.now c.args.table.now f _ _ _ _ _ _ _ _ _ _
+    lists_all raw c.args.def c.args.body.now c.args.table.now c.args.sources.now.item f _ _ _ _ _ _ _ _ _ _
     (rw own at c.in_ok-look_at_written_types.ensures) (rw lets at c.in_ok-look_at_written_types-2.ensures) c.in_ok-look_at_exprs.ensures (rw c.as_slice-items.ensures at c.in_ok-look_at_items.ensures)

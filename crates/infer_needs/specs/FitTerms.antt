@@ -1,0 +1,108 @@
+-- Which terms those of types that fit are, and which goals fit: what is named takes as many arguments as it is given, and each parameter is in scope.
+use Rattle.std.specs.Prelude.{◌≡◌, ℕ, Bool, true, false, ◌&&◌, nat_lt, List, slice_get, Option, Some}
+use Rattle.hir_types.specs.declared.head.Head.{Head}
+use Rattle.hir_types.specs.declared.head.Head.TheVariants as head
+use Rattle.hir_types.specs.declared.ids.GenericDefId.{GenericDefId}
+use Rattle.hir_types.specs.declared.ids.TypeAliasId.{TypeAliasId}
+use Rattle.hir_types.specs.declared.ty.Ty.{Ty}
+use Rattle.hir_types.specs.Terms.{Term, hole, leaf, pair, term}
+use Rattle.hir_raw.specs.declared.raw.RawFacts.{RawFacts}
+use Rattle.hir_raw.specs.Scope.{adt_params, alias_params, callable_params, has_params, generic_params}
+use Rattle.infer_table.specs.Preserved.{width}
+use Rattle.goal_answers.specs.Goals.{Kind, implements, projects, Asked, Each}
+use Rattle.goal_answers.specs.Reading.{staying, alias_at}
+use Rattle.infer_result.specs.Projections.{IsPartOf}
+
+-- ---- terms
+
+abbrev pub is_type : Term → Bool
+is_type (pair (leaf head.TypePart) t) = true
+is_type _ = false
+
+-- arguments, each a type
+abbrev pub are_types : Term → Bool
+are_types (leaf head.End) = true
+are_types (pair a b) = is_type a && are_types b
+are_types _ = false
+
+-- so many as there are parameters
+abbrev pub takes : Option ℕ → Term → Bool
+takes o b = has_params o (width b) && are_types b
+
+-- what may stand behind a head, or behind an argument
+abbrev pub may_follow : RawFacts → Term → Term → Bool
+may_follow raw (leaf (head.Adt i)) b = takes (adt_params raw i) b
+may_follow raw (leaf (head.FnDef i)) b = takes (callable_params raw i) b
+may_follow raw (leaf (head.Projection i)) b = takes (alias_params raw i) b
+may_follow raw (leaf (head.AssociatedType i)) b = takes (alias_params raw i) b
+may_follow raw (leaf _) b = true
+may_follow raw (pair (leaf head.TypePart) t) b = true
+may_follow raw (pair (leaf head.ConstPart) t) b = true
+may_follow raw _ b = false
+
+abbrev pub is_fit_head : ℕ → Head → Bool
+is_fit_head n (head.Param i) = nat_lt i n
+is_fit_head n (head.Opaque i) = false
+is_fit_head n (head.ConstParam i) = false
+is_fit_head n (head.Principal t) = false
+is_fit_head n (head.Bound k) = false
+is_fit_head n (head.AutoTrait t) = false
+is_fit_head n _ = true
+
+-- under so many parameters
+abbrev pub is_fit : RawFacts → ℕ → Term → Bool
+is_fit raw n (hole k) = true
+is_fit raw n (leaf h) = is_fit_head n h
+is_fit raw n (pair a b) = may_follow raw a b && (is_fit raw n a && is_fit raw n b)
+
+abbrev pub Fits : RawFacts → ℕ → Term → Type 0
+Fits raw n t = is_fit raw n t ≡ true
+
+-- an argument that is a type
+abbrev pub is_fit_arg : RawFacts → ℕ → Term → Bool
+is_fit_arg raw n (pair (leaf head.TypePart) t) = is_fit raw n t
+is_fit_arg raw n _ = false
+
+-- ---- goals
+
+-- the types in the goal fit; an associated type has as many arguments as its trait takes, each a type
+abbrev pub AskedFits : RawFacts → ℕ → Kind → Term → Type 0
+AskedFits raw n (implements t) w = (are_types w ≡ true) × Fits raw n w
+AskedFits raw n (projects k) (pair x y) = Fits raw n (staying k x) × Fits raw n y
+AskedFits raw n (projects k) _ = ⊥
+
+abbrev pub GoalIsFit : RawFacts → ℕ → Asked → Type 0
+GoalIsFit raw n a = AskedFits raw n a.kind a.parts
+
+-- ---- under the parameters of an item
+
+abbrev pub FitsIn : RawFacts → GenericDefId → Term → Type 0
+FitsIn raw item t = Fits raw (generic_params raw item) t
+
+abbrev pub GoalFitsIn : RawFacts → GenericDefId → Asked → Type 0
+GoalFitsIn raw item a = GoalIsFit raw (generic_params raw item) a
+
+abbrev pub GoalsFitIn : RawFacts → GenericDefId → List Asked → Type 0
+GoalsFitIn raw item xs = Each (GoalFitsIn raw item) xs
+
+-- as many arguments as the associated type takes, each a type
+abbrev pub TakesThese : RawFacts → TypeAliasId → Term → Type 0
+TakesThese raw k w = takes (alias_params raw k) w ≡ true
+
+abbrev pub MayFollow : RawFacts → Term → Term → Type 0
+MayFollow raw a b = may_follow raw a b ≡ true
+
+-- each associated type that is written in the term
+abbrev pub AliasesFitIn : RawFacts → GenericDefId → Term → Type 0
+AliasesFitIn raw item t = (k : TypeAliasId) (w : Term) → IsPartOf (alias_at k w) t → FitsIn raw item (alias_at k w)
+
+-- the one that the two make, if they do
+abbrev pub AliasFitsHere : RawFacts → GenericDefId → Term → Term → Type 0
+AliasFitsHere raw item a b = (k : TypeAliasId) → a ≡ leaf (head.Projection k) → FitsIn raw item (alias_at k b)
+
+-- the two types of an entry
+abbrev pub EntryFitsIn : RawFacts → GenericDefId → Ty × Ty → Type 0
+EntryFitsIn raw item x = FitsIn raw item (term x.0) × FitsIn raw item (term x.1)
+
+abbrev pub EntriesFitIn : RawFacts → GenericDefId → List (Ty × Ty) → Type 0
+EntriesFitIn raw item js = (n : ℕ) (x : Ty × Ty) → slice_get js n ≡ Some x → EntryFitsIn raw item x
