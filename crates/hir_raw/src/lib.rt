@@ -6,6 +6,7 @@ mod fit;
 mod graph;
 mod hidden;
 mod lets;
+mod mention;
 mod parts;
 mod raw;
 mod schedule;
@@ -14,6 +15,7 @@ mod scope;
 pub use fit::ty_fits;
 pub use hidden::{fn_aliases, fn_arity, less_variant_aliases, variant_aliases, variant_arity};
 pub use lets::{let_aliases, stmts_of};
+pub use mention::{LabelRole, Mention, Said};
 pub use raw::{
     BindingAnnotation, Edition, HasGoals, Other, RawAdt, RawAdtKind, RawAlias, RawArgs, RawArm,
     RawAssocType, RawAt, RawBinding, RawBody, RawCtor, RawExpr, RawFacts, RawField, RawFn, RawGoal,

@@ -1,0 +1,116 @@
+-- What each node of a body names beside its parts, kind by kind. What the laws say of nodes is said of their parts and of this.
+use Rattle.std.specs.Prelude.{ℕ, suc, ◌+◌, ◌≡◌, List, [], ◌∷◌, ◌++◌, length, map, flat_map, slice_get, Option, Some, None}
+use Rattle.hir_types.specs.declared.ids.LabelId.{LabelId}
+use Rattle.hir_types.specs.declared.ids.BindingId.{BindingId}
+use Rattle.hir_types.specs.declared.ids.TypeRefId.{TypeRefId}
+use Rattle.hir_types.specs.declared.ids.ExprOrPatId.TheVariants as node
+use Rattle.hir_raw.specs.declared.mention.LabelRole.TheVariants as labelled
+use Rattle.hir_raw.specs.declared.mention.Mention.{Mention}
+use Rattle.hir_raw.specs.declared.mention.Mention.TheVariants as it
+use Rattle.hir_raw.specs.declared.mention.Said.{Said}
+use Rattle.hir_raw.specs.declared.raw.RawPath.{RawPath}
+use Rattle.hir_raw.specs.declared.raw.RawPath.TheVariants as path
+use Rattle.hir_raw.specs.declared.raw.RawStmt.{RawStmt}
+use Rattle.hir_raw.specs.declared.raw.RawStmt.TheVariants as stmt
+use Rattle.hir_raw.specs.declared.raw.RawExpr.{RawExpr}
+use Rattle.hir_raw.specs.declared.raw.RawExpr.TheVariants as expr
+use Rattle.hir_raw.specs.declared.raw.RawPat.{RawPat}
+use Rattle.hir_raw.specs.declared.raw.RawPat.TheVariants as pat
+use Rattle.hir_raw.specs.declared.raw.RawBody.{RawBody}
+use Rattle.hir_raw.specs.Order.{Node, the_body, inner}
+
+-- ---- words
+
+-- of something that may be absent
+abbrev pub maybe : {A : Type 0} → (A → Mention) → Option A → List Mention
+maybe f None = []
+maybe f (Some x) = f x ∷ []
+
+-- a list of entries that are said of elsewhere: its length
+abbrev pub of_list : {A : Type 0} → List A → List Mention
+of_list xs = it.List (length xs) ∷ []
+
+-- the label of a loop or block
+abbrev pub label_here : Option LabelId → List Mention
+label_here l = maybe (it.Label labelled.Here) l
+
+-- ---- kinds
+
+abbrev pub path_mentions : RawPath → List Mention
+path_mentions (path.Local v) = it.Local v ∷ []
+path_mentions (path.Function f) = it.Function f ∷ []
+path_mentions (path.Ctor v) = it.Variant v ∷ []
+path_mentions path.Other = []
+
+abbrev pub stmt_mentions : RawStmt → List Mention
+stmt_mentions (stmt.Let p written init other) = maybe it.Type written
+stmt_mentions (stmt.Expr e semicolon) = []
+
+abbrev pub expr_mentions : RawExpr → List Mention
+expr_mentions (expr.Lit l) = []
+expr_mentions (expr.Path q) = path_mentions q
+expr_mentions (expr.Block label stmts last) = label_here label ++ (of_list stmts ++ flat_map stmt_mentions stmts)
+expr_mentions (expr.Tuple es) = of_list es
+expr_mentions (expr.If c first other) = []
+expr_mentions (expr.Match e arms) = of_list arms
+expr_mentions (expr.Call f args) = of_list args
+expr_mentions expr.Other = []
+
+abbrev pub pat_mentions : RawPat → List Mention
+pat_mentions pat.Wild = []
+pat_mentions (pat.Bind v sub) = it.Binds v ∷ []
+pat_mentions (pat.Tuple ps) = of_list ps
+pat_mentions (pat.TupleStruct v ps) = it.Variant v ∷ of_list ps
+pat_mentions (pat.Path q) = path_mentions q
+pat_mentions (pat.Lit e) = []
+pat_mentions pat.Other = []
+
+-- the body binds `self`
+abbrev pub body_mentions : RawBody → List Mention
+body_mentions b = maybe it.Binds b.self_ ++ of_list b.params
+
+-- ---- by nodes
+
+abbrev pub mentions_of_expr : Option RawExpr → List Mention
+mentions_of_expr None = []
+mentions_of_expr (Some x) = expr_mentions x
+
+abbrev pub mentions_of_pat : Option RawPat → List Mention
+mentions_of_pat None = []
+mentions_of_pat (Some x) = pat_mentions x
+
+abbrev pub mentions : RawBody → Node → List Mention
+mentions b the_body = body_mentions b
+mentions b (inner (node.ExprId e)) = mentions_of_expr (slice_get b.exprs e.0)
+mentions b (inner (node.PatId p)) = mentions_of_pat (slice_get b.pats p.0)
+
+-- the node n mentions this
+abbrev pub Mentions : RawBody → Node → Mention → Type 0
+Mentions b n m = (k : ℕ) × (slice_get (mentions b n) k ≡ Some m)
+
+-- this holds of each node and what it mentions
+abbrev pub AllMentioned : (Node → Mention → Type 0) → RawBody → Type 0
+AllMentioned P b = (n : Node) (m : Mention) → Mentions b n m → P n m
+
+-- ---- one after another: what the body mentions, then what its expressions and its patterns do
+
+-- each of these by the node at this position
+abbrev pub said : ℕ → List Mention → List Said
+said n ms = map (λ m. record { node = n; mention = m }) ms
+
+-- of each entry, of which the first has position i
+abbrev pub each : {A B : Type 0} → (ℕ → A → List B) → ℕ → List A → List B
+each f i [] = []
+each f i (x ∷ xs) = f i x ++ each f (suc i) xs
+
+abbrev pub expr_said : ℕ → RawExpr → List Said
+expr_said e x = said e (expr_mentions x)
+
+-- where so many expressions come before
+abbrev pub pat_said : ℕ → ℕ → RawPat → List Said
+pat_said first p x = said (first + p) (pat_mentions x)
+
+unfoldable pub body_said : RawBody → List Said
+body_said b =
+    said (length b.exprs + length b.pats) (body_mentions b)
+    ++ (each expr_said 0 b.exprs ++ each (pat_said (length b.exprs)) 0 b.pats)
