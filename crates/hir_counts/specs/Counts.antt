@@ -17,13 +17,12 @@ use Rattle.hir_raw.specs.declared.raw.RawAssocType.{RawAssocType}
 use Rattle.hir_raw.specs.declared.raw.RawImpl.{RawImpl}
 use Rattle.hir_raw.specs.declared.raw.RawVariant.{RawVariant}
 use Rattle.hir_raw.specs.declared.raw.RawFn.{RawFn}
-use Rattle.hir_raw.specs.declared.raw.RawStmt.{RawStmt}
-use Rattle.hir_raw.specs.declared.raw.RawStmt.TheVariants as stmt
-use Rattle.hir_raw.specs.declared.raw.RawExpr.{RawExpr}
 use Rattle.hir_raw.specs.declared.raw.RawBody.{RawBody}
 use Rattle.hir_raw.specs.declared.raw.RawFacts.{RawFacts}
 use Rattle.hir_raw.specs.Goals.{arg_types}
-use Rattle.hir_raw.specs.Order.{stmts_of}
+use Rattle.hir_raw.specs.declared.mention.Mention.{Mention}
+use Rattle.hir_raw.specs.declared.mention.Mention.TheVariants as it
+use Rattle.hir_raw.specs.Mentions.{AllMentioned}
 use Rattle.hir_counts.specs.Standing.{params_in, wrongs_in}
 
 abbrev pub count_of : Option BindingId → ℕ
@@ -41,18 +40,14 @@ CountsFit raw f =
 abbrev pub TypeFits : (bounds wrongs : ℕ → ℕ) → ℕ → TypeRefId → Type 0
 TypeFits bounds wrongs count w = (bounds w.0 ≤ count) × (wrongs w.0 ≡ 0)
 
-abbrev pub StmtFits : (bounds wrongs : ℕ → ℕ) → ℕ → RawStmt → Type 0
-StmtFits bounds wrongs count (stmt.Let p None init other) = Unit {0}
-StmtFits bounds wrongs count (stmt.Let p (Some t) init other) = TypeFits bounds wrongs count t
-StmtFits bounds wrongs count (stmt.Expr e semicolon) = Unit {0}
-
-pub record ExprFits (bounds wrongs : ℕ → ℕ) (count : ℕ) (x : RawExpr) : Type 0 where
-  pub each : (k : ℕ) (s : RawStmt) → slice_get (stmts_of (Some x)) k ≡ Some s → StmtFits bounds wrongs count s
+-- a type that is mentioned fits
+abbrev pub MentionFits : (bounds wrongs : ℕ → ℕ) → ℕ → Mention → Type 0
+MentionFits bounds wrongs count (it.Type t) = TypeFits bounds wrongs count t
+MentionFits bounds wrongs count _ = Unit {0}
 
 -- each type that is written in the body fits
 abbrev pub BodyFits : (bounds wrongs : ℕ → ℕ) → ℕ → RawBody → Type 0
-BodyFits bounds wrongs count body = (e : ℕ) (x : RawExpr) → slice_get body.exprs e ≡ Some x
-    → ExprFits bounds wrongs count x
+BodyFits bounds wrongs count body = AllMentioned (λ n m. MentionFits bounds wrongs count m) body
 
 abbrev pub MaybeBodyFits : (bounds wrongs : ℕ → ℕ) → ℕ → Option RawBody → Type 0
 MaybeBodyFits bounds wrongs count None = Unit {0}

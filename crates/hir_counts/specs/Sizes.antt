@@ -1,10 +1,8 @@
 -- How long lists may be, and how deep trees and types.
 use Rattle.std.specs.Prelude.{ℕ, ◌<◌, ◌≤◌, ◌^◌, ◌≡◌, List, length, slice_get, Some, IfSome}
 use Rattle.hir_raw.specs.declared.raw.RawType.{RawType}
-use Rattle.hir_raw.specs.declared.raw.RawExpr.{RawExpr}
-use Rattle.hir_raw.specs.declared.raw.RawExpr.TheVariants as expr
-use Rattle.hir_raw.specs.declared.raw.RawPat.{RawPat}
-use Rattle.hir_raw.specs.declared.raw.RawPat.TheVariants as pat
+use Rattle.hir_raw.specs.declared.mention.Mention.{Mention}
+use Rattle.hir_raw.specs.declared.mention.Mention.TheVariants as it
 use Rattle.hir_raw.specs.declared.raw.RawGoal.{RawGoal}
 use Rattle.hir_raw.specs.declared.raw.RawGoal.TheVariants as goal
 use Rattle.hir_raw.specs.declared.raw.RawTrait.{RawTrait}
@@ -16,6 +14,7 @@ use Rattle.hir_raw.specs.declared.raw.RawFn.{RawFn}
 use Rattle.hir_raw.specs.declared.raw.RawBody.{RawBody}
 use Rattle.hir_raw.specs.declared.raw.RawFacts.{RawFacts}
 use Rattle.hir_raw.specs.Goals.{arg_types}
+use Rattle.hir_raw.specs.Mentions.{AllMentioned}
 use Rattle.hir_raw.specs.Order.{IsLow}
 use Rattle.hir_types.specs.Types.{depth, size}
 use Rattle.hir_raw.specs.WrittenTypes.{type_parts, lowered}
@@ -81,32 +80,16 @@ pub record FnIsSmall (i : ℕ) (f : RawFn) : Type 0 where
   pub preds : GoalsAreShort f.preds
   pub inputs : IsShort f.inputs
 
-abbrev pub ExprIsShort : RawExpr → Type 0
-ExprIsShort (expr.Block label stmts last) = IsShort stmts
-ExprIsShort (expr.Tuple es) = IsShort es
-ExprIsShort (expr.Match e arms) = IsShort arms
-ExprIsShort (expr.Call f args) = IsShort args
-ExprIsShort (expr.If c first other) = Unit {0}
-ExprIsShort (expr.Lit l) = Unit {0}
-ExprIsShort (expr.Path p) = Unit {0}
-ExprIsShort expr.Other = Unit {0}
-
-abbrev pub PatIsShort : RawPat → Type 0
-PatIsShort (pat.Tuple ps) = IsShort ps
-PatIsShort (pat.TupleStruct v ps) = IsShort ps
-PatIsShort (pat.Path q) = Unit {0}
-PatIsShort pat.Wild = Unit {0}
-PatIsShort (pat.Bind v sub) = Unit {0}
-PatIsShort (pat.Lit e) = Unit {0}
-PatIsShort pat.Other = Unit {0}
+-- a list that is mentioned is short
+abbrev pub ListIsShort : Mention → Type 0
+ListIsShort (it.List n) = n ≤ 2 ^ 20
+ListIsShort _ = Unit {0}
 
 pub record BodyIsSmall (i : ℕ) (b : RawBody) : Type 0 where
   pub early : IsEarly i
   pub traits : IsShort b.traits
-  pub params : IsShort b.params
   pub exprs : IsShort b.exprs
   pub pats : IsShort b.pats
   pub bindings : IsShort b.bindings
-  pub each : (e : ℕ) (x : RawExpr) → slice_get b.exprs e ≡ Some x → ExprIsShort x
-  pub each_pat : (p : ℕ) (x : RawPat) → slice_get b.pats p ≡ Some x → PatIsShort x
+  pub lists : AllMentioned (λ n m. ListIsShort m) b
   pub low : IsLow 256 b

@@ -3,9 +3,8 @@ use Rattle.std.specs.Prelude.{ℕ, ◌≡◌, ◌⊎◌, ◌++◌, List, [], ◌
 use Rattle.hir_raw.specs.declared.raw.RawType.{RawType}
 use Rattle.hir_raw.specs.declared.raw.RawVariant.{RawVariant}
 use Rattle.hir_raw.specs.declared.raw.RawFn.{RawFn}
-use Rattle.hir_raw.specs.declared.raw.RawStmt.{RawStmt}
-use Rattle.hir_raw.specs.declared.raw.RawStmt.TheVariants as stmt
-use Rattle.hir_raw.specs.declared.raw.RawExpr.{RawExpr}
+use Rattle.hir_raw.specs.declared.mention.Mention.{Mention}
+use Rattle.hir_raw.specs.declared.mention.Mention.TheVariants as it
 use Rattle.hir_raw.specs.declared.raw.RawBody.{RawBody}
 use Rattle.hir_raw.specs.declared.raw.RawFacts.{RawFacts}
 use Rattle.hir_ids.specs.declared.namers.Namers.{Namers}
@@ -15,7 +14,7 @@ use Rattle.hir_raw.specs.declared.raw.RawGoal.TheVariants as goal
 use Rattle.hir_raw.specs.declared.raw.RawImpl.{RawImpl}
 use Rattle.hir_raw.specs.Goals.{arg_types}
 use Rattle.hir_raw.specs.WrittenTypes.{type_parts}
-use Rattle.hir_raw.specs.Order.{stmts_of}
+use Rattle.hir_raw.specs.Mentions.{body_said}
 use Rattle.hir_ids.specs.Namers.{AreNamers, NamedOnce, IsUnnamed}
 use Rattle.hir_counts.specs.Standing.{holes_in}
 
@@ -24,16 +23,12 @@ use Rattle.hir_counts.specs.Standing.{holes_in}
 abbrev pub type_uses : RawType → List (Option ℕ)
 type_uses x = map (λ t. Some t.0) (type_parts x)
 
-abbrev pub stmt_uses : RawStmt → List (Option ℕ)
-stmt_uses (stmt.Let p None init other) = []
-stmt_uses (stmt.Let p (Some t) init other) = Some t.0 ∷ []
-stmt_uses (stmt.Expr e semicolon) = []
-
-abbrev pub expr_uses : RawExpr → List (Option ℕ)
-expr_uses x = flat_map stmt_uses (stmts_of (Some x))
+abbrev pub mention_uses : Mention → List (Option ℕ)
+mention_uses (it.Type t) = Some t.0 ∷ []
+mention_uses _ = []
 
 abbrev pub body_uses : RawBody → List (Option ℕ)
-body_uses b = flat_map expr_uses b.exprs
+body_uses b = flat_map (λ s. mention_uses s.mention) (body_said b)
 
 abbrev pub inner_uses : RawFacts → List (Option ℕ)
 inner_uses raw = flat_map type_uses raw.types ++ flat_map body_uses raw.bodies

@@ -1,18 +1,17 @@
 //! Counts of inputs, arguments, parameters and variants.
 ghost use Rattle.std.specs.Prelude.{◌≡◌, ◌↔◌, ◌+◌, ◌<◌, ℕ, Some, [], length, slice_get, slice_index, IsTrue, IfOk, IfSome};
 ghost use Rattle.hir_raw.specs.declared.raw.RawField.{RawField};
-ghost use Rattle.hir_raw.specs.declared.raw.RawStmt.{RawStmt};
-ghost use Rattle.hir_raw.specs.Order.{stmts_of};
+ghost use Rattle.hir_raw.specs.declared.mention.Said.{Said};
 ghost use Rattle.hir_ids.specs.Entries.{AllHold};
 ghost use Rattle.hir_ids.specs.Ids.{ChildrenBefore};
 ghost use Rattle.hir_counts.specs.Standing.{param_bound, wrong_args, number_in, AreMosts};
-ghost use Rattle.hir_counts.specs.Counts.{count_of, CountsFit, AdtFitsBy, TypeFits, StmtFits, ExprFits, BodyFits, MaybeBodyFits, body_at, AreFitting, FnFitsBy, FnFits, HasVariants, AdtFits, param_count, IsBare, VariantFitsBy, VariantFits};
+ghost use Rattle.hir_counts.specs.Counts.{count_of, CountsFit, AdtFitsBy, TypeFits, MentionFits, BodyFits, MaybeBodyFits, body_at, AreFitting, FnFitsBy, FnFits, HasVariants, AdtFits, param_count, IsBare, VariantFitsBy, VariantFits};
 
 use crate::goal_counts::goals_fit;
 use crate::standing::{Sought, mosts_of};
-use hir_ids::Test;
+use hir_ids::{Test, said_of_body};
 use hir_raw::{
-    RawAdt, RawAdtKind, RawBody, RawExpr, RawFacts, RawField, RawFn, RawStmt, RawVariant, stmts_of,
+    Mention, RawAdt, RawAdtKind, RawBody, RawFacts, RawField, RawFn, RawVariant, Said,
 };
 use hir_types::{AdtId, BodyId, TypeRefId};
 use std::alloc::{AllocError, Global};
@@ -79,47 +78,47 @@ pub fn fits(standing: &Standing, count: usize, ty: TypeRefId) -> bool
         && number_at(&standing.wrongs, ty.0 as usize) == 0
 }
 
-fn stmt_fits(standing: &Standing, count: usize, stmt: &RawStmt) -> bool
-    ensures { IsTrue result ↔ StmtFits (number_in standing.now.bounds.items) (number_in standing.now.wrongs.items) count stmt.now }
+fn mention_fits(standing: &Standing, count: usize, mention: Mention) -> bool
+    ensures { IsTrue result ↔ MentionFits (number_in standing.now.bounds.items) (number_in standing.now.wrongs.items) count mention }
 {
-    match stmt {
-        RawStmt::Let { type_ref, .. } => match type_ref {
-            None => true,
-            Some(ty) => fits(standing, count, *ty),
-        },
-        RawStmt::Expr { .. } => true,
+    match mention {
+        Mention::Type(ty) => fits(standing, count, ty),
+        _ => true,
     }
 }
 
-fn stmts_fit(standing: &Standing, count: usize, stmts: &[RawStmt]) -> bool
-    ensures { IsTrue result ↔ ((k : ℕ) (s : RawStmt) → slice_get stmts.now k ≡ Some s → StmtFits (number_in standing.now.bounds.items) (number_in standing.now.wrongs.items) count s) }
+fn mentions_fit(standing: &Standing, count: usize, said: &[Said]) -> bool
+    ensures { IsTrue result ↔ ((k : ℕ) (s : Said) → slice_get said.now k ≡ Some s → MentionFits (number_in standing.now.bounds.items) (number_in standing.now.wrongs.items) count s.mention) }
 {
-    stmts.iter().all(|stmt| stmt_fits(standing, count, stmt))
+    said.iter().all(|s| mention_fits(standing, count, s.mention))
 }
 
-fn expr_fits(standing: &Standing, count: usize, expr: &RawExpr) -> bool
-    ensures { IsTrue result ↔ ExprFits (number_in standing.now.bounds.items) (number_in standing.now.wrongs.items) count expr.now }
+fn body_fits(
+    alloc: Global,
+    standing: &Standing,
+    count: usize,
+    body: &RawBody,
+) -> Result<bool, AllocError>
+    ensures { IfOk result (λ told. IsTrue told ↔ BodyFits (number_in standing.now.bounds.items) (number_in standing.now.wrongs.items) count body.now) }
 {
-    stmts_fit(standing, count, stmts_of(expr))
+    let said = said_of_body(alloc, body)?;
+    Ok(mentions_fit(standing, count, &said))
 }
 
-fn body_fits(standing: &Standing, count: usize, body: &RawBody) -> bool
-    ensures { IsTrue result ↔ BodyFits (number_in standing.now.bounds.items) (number_in standing.now.wrongs.items) count body.now }
-{
-    body.exprs
-        .as_slice()
-        .iter()
-        .all(|expr| expr_fits(standing, count, expr))
-}
-
-fn maybe_body_fits(standing: &Standing, raw: &RawFacts, count: usize, body: Option<BodyId>) -> bool
-    ensures { IsTrue result ↔ MaybeBodyFits (number_in standing.now.bounds.items) (number_in standing.now.wrongs.items) count (body_at raw.now body) }
+fn maybe_body_fits(
+    alloc: Global,
+    standing: &Standing,
+    raw: &RawFacts,
+    count: usize,
+    body: Option<BodyId>,
+) -> Result<bool, AllocError>
+    ensures { IfOk result (λ told. IsTrue told ↔ MaybeBodyFits (number_in standing.now.bounds.items) (number_in standing.now.wrongs.items) count (body_at raw.now body)) }
 {
     match body {
-        None => true,
+        None => Ok(true),
         Some(body) => match raw.bodies.get(body.0 as usize) {
-            None => true,
-            Some(body) => body_fits(standing, count, body),
+            None => Ok(true),
+            Some(body) => body_fits(alloc, standing, count, body),
         },
     }
 }
@@ -131,15 +130,21 @@ pub fn are_fitting(standing: &Standing, count: usize, types: &[TypeRefId]) -> bo
     types.iter().all(|ty| fits(standing, count, *ty))
 }
 
-fn fn_fits(standing: &Standing, raw: &RawFacts, function: &RawFn) -> bool
-    ensures { IsTrue result ↔ FnFitsBy (number_in standing.now.bounds.items) (number_in standing.now.wrongs.items) raw.now function.now }
+fn fn_fits(
+    alloc: Global,
+    standing: &Standing,
+    raw: &RawFacts,
+    function: &RawFn,
+) -> Result<bool, AllocError>
+    ensures { IfOk result (λ told. IsTrue told ↔ FnFitsBy (number_in standing.now.bounds.items) (number_in standing.now.wrongs.items) raw.now function.now) }
 {
     let count = function.params.len();
-    has_counts(raw, function)
+    let body = maybe_body_fits(alloc, standing, raw, count, function.body)?;
+    Ok(has_counts(raw, function)
         && are_fitting(standing, count, function.inputs.as_slice())
         && fits(standing, count, function.output)
         && goals_fit(standing, raw, count, function.preds.as_slice())
-        && maybe_body_fits(standing, raw, count, function.body)
+        && body)
 }
 
 /// The counts of a function, and its written types under its own parameters.
@@ -159,12 +164,12 @@ impl<'a> Test for FnCounts<'a> {
 
     fn test(
         &self,
-        _alloc: Global,
+        alloc: Global,
         raw: &RawFacts,
         _at: usize,
         item: &RawFn,
     ) -> Result<bool, AllocError> {
-        Ok(fn_fits(self.standing, raw, item))
+        fn_fits(alloc, self.standing, raw, item)
     }
 }
 
@@ -249,13 +254,19 @@ fn is_bare(raw: &RawFacts, body: Option<BodyId>) -> bool
     }
 }
 
-fn variant_fits(standing: &Standing, raw: &RawFacts, variant: &RawVariant) -> bool
-    ensures { IsTrue result ↔ VariantFitsBy (number_in standing.now.bounds.items) (number_in standing.now.wrongs.items) raw.now variant.now }
+fn variant_fits(
+    alloc: Global,
+    standing: &Standing,
+    raw: &RawFacts,
+    variant: &RawVariant,
+) -> Result<bool, AllocError>
+    ensures { IfOk result (λ told. IsTrue told ↔ VariantFitsBy (number_in standing.now.bounds.items) (number_in standing.now.wrongs.items) raw.now variant.now) }
 {
     let count = param_count(raw, variant.adt);
-    fields_fit(standing, count, variant.fields.as_slice())
+    let body = maybe_body_fits(alloc, standing, raw, count, variant.body)?;
+    Ok(fields_fit(standing, count, variant.fields.as_slice())
         && is_bare(raw, variant.body)
-        && maybe_body_fits(standing, raw, count, variant.body)
+        && body)
 }
 
 /// The written types of a variant under the parameters of its adt.
@@ -275,11 +286,11 @@ impl<'a> Test for VariantCounts<'a> {
 
     fn test(
         &self,
-        _alloc: Global,
+        alloc: Global,
         raw: &RawFacts,
         _at: usize,
         item: &RawVariant,
     ) -> Result<bool, AllocError> {
-        Ok(variant_fits(self.standing, raw, item))
+        variant_fits(alloc, self.standing, raw, item)
     }
 }

@@ -4,12 +4,12 @@ ghost use Rattle.hir_types.specs.declared.ids.TypeRefId.{TypeRefId};
 ghost use Rattle.hir_types.specs.Types.{most, depth, size};
 ghost use Rattle.hir_ids.specs.Entries.{AllHold};
 ghost use Rattle.hir_ids.specs.Ids.{ChildrenBefore};
-ghost use Rattle.hir_counts.specs.Sizes.{IsShort, IsEarly, TypeIsSmall, AdtIsSmall, VariantIsSmall, FnIsSmall};
+ghost use Rattle.hir_counts.specs.Sizes.{IsShort, ListIsShort, IsEarly, TypeIsSmall, AdtIsSmall, VariantIsSmall, FnIsSmall};
 ghost use Rattle.hir_counts.specs.Measures.{depth_by, size_by, AreMeasures};
 
 use crate::goal_sizes::goals_are_short;
 use hir_ids::Test;
-use hir_raw::{RawAdt, RawFacts, RawFn, RawType, RawVariant};
+use hir_raw::{Mention, RawAdt, RawFacts, RawFn, RawType, RawVariant};
 use hir_types::{ModuleId, TypeRefId};
 use std::alloc::{AllocError, Global};
 
@@ -120,6 +120,16 @@ pub fn is_short<T>(entries: &[T]) -> bool
     ensures { IsTrue result ↔ IsShort entries.now }
 {
     entries.len() <= MOST_ENTRIES
+}
+
+/// Whether a list that is mentioned has at most so many entries.
+pub fn is_short_list(mention: Mention) -> bool
+    ensures { IsTrue result ↔ ListIsShort mention }
+{
+    match mention {
+        Mention::List(count) => count <= MOST_ENTRIES,
+        _ => true,
+    }
 }
 
 /// A type is small, written out.

@@ -3,15 +3,13 @@ ghost use Rattle.std.specs.Prelude.{◌≡◌, ◌++◌, Some, map, length, flat
 ghost use Rattle.hir_ids.specs.Entries.{AllHold};
 ghost use Rattle.hir_ids.specs.Ids.{ChildrenBefore};
 ghost use Rattle.hir_counts.specs.Standing.{hole_at, AreMosts};
-ghost use Rattle.hir_counts.specs.Uses.{type_uses, stmt_uses, expr_uses, body_uses, inner_uses, variant_uses, fn_uses, abstract_uses, item_uses, HoleFits, AreTypeUsers};
+ghost use Rattle.hir_counts.specs.Uses.{type_uses, mention_uses, body_uses, inner_uses, variant_uses, fn_uses, abstract_uses, item_uses, HoleFits, AreTypeUsers};
 
 use crate::counts::number_at;
 use crate::goal_uses::{push_goals_of, push_impls};
 use crate::standing::{Sought, mosts_of};
-use hir_ids::{Namers, Test, is_nobody, is_one, namers_of};
-use hir_raw::{
-    RawBody, RawExpr, RawFacts, RawField, RawFn, RawStmt, RawType, RawVariant, stmts_of,
-};
+use hir_ids::{Namers, Test, is_nobody, is_one, namers_of, said_of_body};
+use hir_raw::{Mention, RawBody, RawFacts, RawField, RawFn, RawType, RawVariant, Said};
 use hir_types::TypeRefId;
 use std::alloc::{AllocError, Global};
 
@@ -34,42 +32,40 @@ fn push_parts(out: &mut Vec<Option<usize>>, types: &[RawType]) -> Result<(), All
     Ok(())
 }
 
-fn push_stmt(out: &mut Vec<Option<usize>>, stmt: &RawStmt) -> Result<(), AllocError>
-    ensures { OnOk result (out.new.items ≡ out.old.items ++ stmt_uses stmt.now) }
+fn push_mention(out: &mut Vec<Option<usize>>, mention: Mention) -> Result<(), AllocError>
+    ensures { OnOk result (out.new.items ≡ out.old.items ++ mention_uses mention) }
 {
-    if let RawStmt::Let {
-        type_ref: Some(ty),
-        ..
-    } = stmt
-    {
+    if let Mention::Type(ty) = mention {
         out.push(Some(ty.0 as usize))?;
     }
     Ok(())
 }
 
-fn push_expr(out: &mut Vec<Option<usize>>, expr: &RawExpr) -> Result<(), AllocError>
-    ensures { OnOk result (out.new.items ≡ out.old.items ++ expr_uses expr.now) }
+fn push_said(out: &mut Vec<Option<usize>>, said: &[Said]) -> Result<(), AllocError>
+    ensures { OnOk result (out.new.items ≡ out.old.items ++ flat_map (λ s. mention_uses s.mention) said.now) }
 {
-    for stmt in stmts_of(expr) {
-        push_stmt(out, stmt)?;
+    for said in said {
+        push_mention(out, said.mention)?;
     }
     Ok(())
 }
 
-fn push_body(out: &mut Vec<Option<usize>>, body: &RawBody) -> Result<(), AllocError>
+fn push_body(alloc: Global, out: &mut Vec<Option<usize>>, body: &RawBody) -> Result<(), AllocError>
     ensures { OnOk result (out.new.items ≡ out.old.items ++ body_uses body.now) }
 {
-    for expr in body.exprs.as_slice() {
-        push_expr(out, expr)?;
-    }
-    Ok(())
+    let said = said_of_body(alloc, body)?;
+    push_said(out, &said)
 }
 
-fn push_bodies(out: &mut Vec<Option<usize>>, bodies: &[RawBody]) -> Result<(), AllocError>
+fn push_bodies(
+    alloc: Global,
+    out: &mut Vec<Option<usize>>,
+    bodies: &[RawBody],
+) -> Result<(), AllocError>
     ensures { OnOk result (out.new.items ≡ out.old.items ++ flat_map body_uses bodies.now) }
 {
     for body in bodies {
-        push_body(out, body)?;
+        push_body(alloc, out, body)?;
     }
     Ok(())
 }
@@ -79,7 +75,7 @@ fn inner_uses(alloc: Global, raw: &RawFacts) -> Result<Vec<Option<usize>>, Alloc
 {
     let mut out = Vec::new(alloc);
     push_parts(&mut out, raw.types.as_slice())?;
-    push_bodies(&mut out, raw.bodies.as_slice())?;
+    push_bodies(alloc, &mut out, raw.bodies.as_slice())?;
     Ok(out)
 }
 

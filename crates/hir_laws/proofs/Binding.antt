@@ -17,7 +17,7 @@ use Rattle.hir_ids.specs.Namers.{IsNamedAt, IsNamedBy}
 use Rattle.hir_laws.specs.Binders.{bound_binding, AreBinders, is_self, is_bound_once}
 use Rattle.hir_laws.specs.Trees.{BoundBySelf, BoundByPattern, IsWellFormed}
 
-same_binding : (v w : BindingId) → v.0 ≡ w.0 → v ≡ w
+pub same_binding : (v w : BindingId) → v.0 ≡ w.0 → v ≡ w
 same_binding v w e = λ i. record { 0 = e i }
 
 same_pat : (p q : PatId) → p.0 ≡ q.0 → p ≡ q

@@ -1,29 +1,22 @@
--- The order of the walk, and locals that it has typed before.
-use Rattle.std.proofs.Common.{◌≡◌, ◌⊎◌, ◌<◌, ◌+◌, ℕ, List, [], ◌∷◌, ◌++◌, length, get_or, map, Bool, true, false, ◌||◌, Some, refl, sym, ◌∙◌, ap, arith, inl, inr, length-append}
-use Rattle.std.specs.Prelude.{slice_get, IsTrue}
+-- The order of the walk, and locals that it has come to before.
+use Rattle.std.proofs.Common.{◌≡◌, ◌<◌, ◌+◌, ℕ, List, [], ◌∷◌, ◌++◌, length, get_or, Bool, true, false, Option, Some, refl, sym, ◌∙◌, ap, subst, arith, inl, inr, length-append}
+use Rattle.std.specs.Prelude.{slice_get, slice_index, IsTrue, ◌↔◌}
 use Rattle.std.proofs.Math.Nat.{eq-or-lt_of_le}
 use Rattle.std.proofs.lemmas.Option.{slice_get_within, slice_get-get_or, get_or_from_slice_get, slice_get_read}
-use Rattle.std.proofs.lemmas.Bool.{ltb-true, lt-ltb}
 use Rattle.std.proofs.lemmas.List.{get_or_push, get_or_append_left}
 use Rattle.hir_types.specs.declared.ids.BindingId.{BindingId}
-use Rattle.hir_types.specs.declared.ids.ExprId.{ExprId}
-use Rattle.hir_types.specs.declared.ids.PatId.{PatId}
-use Rattle.hir_types.specs.declared.ids.ExprOrPatId.TheVariants as node
-use Rattle.hir_raw.specs.declared.raw.RawPath.TheVariants as path
-use Rattle.hir_raw.specs.declared.raw.RawExpr.TheVariants as expr
+use Rattle.hir_raw.specs.declared.mention.Mention.{Mention}
+use Rattle.hir_raw.specs.declared.mention.Mention.TheVariants as it
+use Rattle.hir_raw.specs.declared.mention.Said.{Said}
 use Rattle.hir_raw.specs.declared.raw.RawBody.{RawBody}
 use Rattle.hir_raw.specs.declared.schedule.Schedule.{Schedule}
-use Rattle.hir_ids.specs.declared.namers.Namers.{Namers}
-use Rattle.hir_ids.specs.declared.namers.Namers.TheVariants.{Nobody, One, Several}
-use Rattle.hir_raw.specs.Order.{IsSchedule, AreDepths, IsLow, Binds, start, inner}
+use Rattle.hir_raw.specs.Mentions.{Mentions, body_said}
+use Rattle.hir_raw.specs.Order.{IsSchedule, AreDepths, IsLow, Node, position, start}
 use Rattle.hir_raw.proofs.Ways.{schedule_unique}
-use Rattle.hir_ids.specs.Namers.{IsNamedBy}
-use Rattle.hir_ids.specs.InBody.{LocalsExist}
-use Rattle.hir_laws.specs.Binders.{bound_binding, AreBinders, HasTypedLocal, is_self, comes_before, is_typed_before}
-use Rattle.hir_laws.specs.Trees.{BoundBySelf, BoundByPattern, IsWellFormed}
-use Rattle.hir_laws.specs.Scopes.{IsTypedBefore, AreInScope, ScopesHold}
-use Rattle.hir_laws.proofs.Binding.{binds_from_named, named_from_binds, pat_within, self_from, is_self_from}
-use Rattle.hir_ids.specs.Entries.{AllHold}
+use Rattle.hir_ids.proofs.Mentioned.{mention_said, said_mention, mentions_tell, node_mentions}
+use Rattle.hir_laws.specs.Firsts.{binding_bound, IsBoundBelow, AreFirsts, ComesAfter, LocalsExist}
+use Rattle.hir_laws.specs.Scopes.{IsBoundBefore, IsInScope, AreInScope, ScopesHold}
+use Rattle.hir_laws.proofs.Binding.{same_binding}
 use Rattle.hir_laws.specs.Scheduled.{AreSchedules}
 
 -- the numbers of the first n bodies
@@ -53,60 +46,44 @@ scheduled_more bodies n old new b s h found e law =
 
 -- ---- locals
 
+binds_from : (m : Mention) (v : BindingId) → binding_bound m ≡ Some v.0 → m ≡ it.Binds v
+binds_from (it.Binds w) v e = ap it.Binds (same_binding w v (cc))
+binds_from _ v e = cc
+
 module _ (b : RawBody) (s : Schedule) where
-  from_typed : (e : ExprId) (v : BindingId) (own : Bool) (x : Namers) → is_self b.self_ v.0 ≡ own → IsNamedBy (map bound_binding b.pats) (length b.pats) v.0 x → (own || comes_before b s.starts x e.0) ≡ true → IsTypedBefore b s e v
-  from_typed e v true x own named told = inl (self_from b v own)
-  from_typed e v false Nobody own named told = cc
-  from_typed e v false (One k) own named told = inr (record { 0 = k }, binds_from_named b (record { 0 = k }) v named.1, ltb-true _ _ told)
-  from_typed e v false Several own named told = cc
+  bound_below : (n : Node) (v : BindingId) → IsBoundBelow s.starts (body_said b) (length (body_said b)) v.0 (start b s n) → IsBoundBefore b s n v
+  bound_below n v h =
+      let from = said_mention b h.0 h.1 h.3 in
+      (from.0, subst (Mentions b from.0) (binds_from h.1.mention v h.4) from.2, subst (λ i. slice_index s.starts i < start b s n) (sym from.1) h.5)
 
-  pattern_before : (e : ExprId) (v : BindingId) (x : Namers) (p : PatId) → IsNamedBy (map bound_binding b.pats) (length b.pats) v.0 x → BoundBySelf b v ⊎ BoundByPattern b v → Binds b p v
-      → start b s (inner (node.PatId p)) < start b s (inner (node.ExprId e)) → comes_before b s.starts x e.0 ≡ true
-  pattern_before e v Nobody p named bound binds lt = absurd (named p.0 (pat_within b p v binds) (named_from_binds b p v binds))
-  pattern_before e v (One k) p named bound binds lt =
-      let same : p.0 ≡ k = named.2 p.0 (pat_within b p v binds) (named_from_binds b p v binds) in
-      lt-ltb _ _ (rw (← same) lt)
-  pattern_before e v Several p named (inl own) binds lt = absurd (own.alone p binds)
-  pattern_before e v Several p named (inr one) binds lt =
-      let first : record { 0 = named.0 } ≡ one.binder = one.only (record { 0 = named.0 }) (binds_from_named b (record { 0 = named.0 }) v named.2) in
-      let second : record { 0 = named.1 } ≡ one.binder = one.only (record { 0 = named.1 }) (binds_from_named b (record { 0 = named.1 }) v named.3) in
-      absurd (named.4 (ap (λ (q : PatId). q.0) first ∙ sym (ap (λ (q : PatId). q.0) second)))
+  below_bound : (n : Node) (v : BindingId) → IsBoundBefore b s n v → IsBoundBelow s.starts (body_said b) (length (body_said b)) v.0 (start b s n)
+  below_bound n v h =
+      let among = mention_said b h.0 (it.Binds v) h.1 in
+      let x : Said = record { node = position b h.0; mention = it.Binds v } in
+      (among.0, x, slice_get_within (body_said b) among.0 x among.1, among.1, refl, h.2)
 
-  or_right : (a c : Bool) → c ≡ true → (a || c) ≡ true
-  or_right true c e = refl
-  or_right false c e = e
+  in_scope : (xs : List (Option ℕ)) → AreFirsts s.starts (body_said b) (length (body_said b)) (length b.bindings) xs → LocalsExist b
+      → (n : Node) (m : Mention) → Mentions b n m → ComesAfter s.starts xs (position b n) m ↔ IsInScope b s n m
+  in_scope xs firsts exist n (it.Local v) here =
+      let tells = firsts.each v.0 (exist n v here) (start b s n) in
+      (λ t. bound_below n v (tells.0 t), λ h. tells.1 (below_bound n v h))
+  in_scope xs firsts exist n _ here = (λ _. tt, λ _. tt)
 
-  or_left : (a c : Bool) → a ≡ true → (a || c) ≡ true
-  or_left true c e = refl
-  or_left false c e = cc
-
-  typed_told : (e : ExprId) (v : BindingId) (x : Namers) → IsNamedBy (map bound_binding b.pats) (length b.pats) v.0 x → BoundBySelf b v ⊎ BoundByPattern b v → IsTypedBefore b s e v → is_typed_before b s.starts x e.0 v.0 ≡ true
-  typed_told e v x named bound (inl own) = or_left (is_self b.self_ v.0) (comes_before b s.starts x e.0) (is_self_from b v own)
-  typed_told e v x named bound (inr t) = or_right (is_self b.self_ v.0) (comes_before b s.starts x e.0) (pattern_before e v x t.0 named bound t.1 t.2)
-
-  scope_from_typed : (xs : List Namers) → AreBinders b xs → LocalsExist b → AllHold (HasTypedLocal b s.starts xs) b.exprs → AreInScope b s
-  scope_from_typed xs names exist all e v found =
-      from_typed e v (is_self b.self_ v.0) (get_or xs v.0 Nobody) refl (names.each v.0 (exist e.0 v found)) (all e.0 (expr.Path (path.Local v)) found)
-
-  typed_from_scope : (xs : List Namers) → AreBinders b xs → LocalsExist b → IsWellFormed b → AreInScope b s → AllHold (HasTypedLocal b s.starts xs) b.exprs
-  typed_from_scope xs names exist well scope e (expr.Path (path.Local v)) found =
-      typed_told (record { 0 = e }) v (get_or xs v.0 Nobody) (names.each v.0 (exist e v found)) (well.bound v (exist e v found)) (scope (record { 0 = e }) v found)
-  typed_from_scope xs names exist well scope e _ found = tt
-
-  pub scope_says : (xs : List Namers) (starts : List ℕ) (told : Bool) → starts ≡ s.starts → AreBinders b xs → LocalsExist b → IsWellFormed b → (IsTrue told → AllHold (HasTypedLocal b starts xs) b.exprs) × (AllHold (HasTypedLocal b starts xs) b.exprs → IsTrue told)
-      → (IsTrue told → AreInScope b s) × (AreInScope b s → IsTrue told)
-  scope_says xs starts told e names exist well says =
-      (λ h. scope_from_typed xs names exist (let all : AllHold (HasTypedLocal b starts xs) b.exprs = says.0 h in rw e at all), λ scope. says.1 (rw e (typed_from_scope xs names exist well scope)))
+  pub scope_says : (xs : List (Option ℕ)) (starts : List ℕ) (ss : List Said) (told : Bool) → starts ≡ s.starts → ss ≡ body_said b → AreFirsts starts ss (length ss) (length b.bindings) xs → LocalsExist b
+      → IsTrue told ↔ ((k : ℕ) (x : Said) → slice_get ss k ≡ Some x → ComesAfter starts xs x.node x.mention) → IsTrue told ↔ AreInScope b s
+  scope_says xs starts ss told same is firsts exist says =
+      let own : AreFirsts s.starts (body_said b) (length (body_said b)) (length b.bindings) xs = rw (same, is) at firsts in
+      let tells = mentions_tell b (ComesAfter s.starts xs) ss told is (subst (λ ns. IsTrue told ↔ ((k : ℕ) (x : Said) → slice_get ss k ≡ Some x → ComesAfter ns xs x.node x.mention)) same says) in
+      (λ t n m here. (in_scope xs own exist n m here).0 (tells.0 t n m here), λ h. tells.1 (λ n m here. (in_scope xs own exist n m here).1 (h n m here)))
 
 -- what holds for one numbering holds for each, since there is one
 scope_moves : (b : RawBody) (s t : Schedule) → IsSchedule b s → IsSchedule b t → AreInScope b s → AreInScope b t
-scope_moves b s t law other scope e v found = elim (scope e v found) [
-  | inl own ↦ inl own
-  | inr h ↦ (let binds : Binds b h.0 v = h.1 in
-      let p_same : start b s (inner (node.PatId h.0)) ≡ start b t (inner (node.PatId h.0)) = schedule_unique b s t law other (inner (node.PatId h.0)) (pat_within b h.0 v binds) in
-      let e_same : start b s (inner (node.ExprId e)) ≡ start b t (inner (node.ExprId e)) = schedule_unique b s t law other (inner (node.ExprId e)) (slice_get_within b.exprs e.0 (expr.Path (path.Local v)) found) in
-      inr (h.0, h.1, rw (← p_same, ← e_same) h.2))
-]
+scope_moves b s t law other scope n (it.Local v) here =
+    let h = scope n (it.Local v) here in
+    let binder : start b s h.0 ≡ start b t h.0 = schedule_unique b s t law other h.0 (node_mentions b h.0 (it.Binds v) h.1) in
+    let reader : start b s n ≡ start b t n = schedule_unique b s t law other n (node_mentions b n (it.Local v) here) in
+    (h.0, h.1, rw (← binder, ← reader) h.2)
+scope_moves b s t law other scope n _ here = tt
 
 pub scopes_say : (b : RawBody) (s : Schedule) (told : Bool) → IsSchedule b s → IsLow 256 b → (IsTrue told → AreInScope b s) × (AreInScope b s → IsTrue told) → (IsTrue told → ScopesHold b) × (ScopesHold b → IsTrue told)
 scopes_say b s told law low says = (λ h t other _. scope_moves b s t law other (says.0 h), λ hold. says.1 (hold s law low))

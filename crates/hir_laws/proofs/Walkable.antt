@@ -17,6 +17,7 @@ use Rattle.hir_ids.specs.Ids.{BodyIdsExist}
 use Rattle.hir_counts.specs.Counts.{count_of}
 use Rattle.hir_laws.specs.Trees.{IsWellFormed}
 use Rattle.hir_laws.specs.Lawful.{IsLawful}
+use Rattle.hir_laws.proofs.Binders.{typed_before}
 use Rattle.hir_laws.specs.LawfulFacts.{bodies_carried, body_ids, counts_fit, bodies_well_formed, scopes_hold, bodies_small, literals_fit}
 
 -- a carried body has no `self`
@@ -35,7 +36,7 @@ walkable raw law i b s found numbered =
       fit = ids.parts;
       binders = ids.binders;
       bound = λ v lt. elim (well.bound v lt) [ inl own ↦ absurd (let q : b.self_ ≡ Some v = own.is_self in cc) | inr one ↦ one ];
-      scopes = scopes_hold raw law i b found s numbered (bodies_small raw law i b found).low;
+      scopes = typed_before b s alone (scopes_hold raw law i b found s numbered (bodies_small raw law i b found).low);
       no_self = alone;
       literals = (literals_fit raw law i b found).under;
     }

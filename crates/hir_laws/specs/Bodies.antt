@@ -15,10 +15,12 @@ use Rattle.hir_raw.specs.declared.schedule.Schedule.{Schedule}
 use Rattle.hir_types.specs.declared.ty.Ty.{Ty}
 use Rattle.hir_types.specs.declared.ty.Ty.TheVariants as ty
 use Rattle.hir_raw.specs.WrittenTypes.{written_type}
-use Rattle.hir_raw.specs.Order.{IsSchedule, PartsFit, Binds}
+use Rattle.hir_types.specs.declared.ids.ExprOrPatId.TheVariants as node
+use Rattle.hir_raw.specs.declared.raw.RawPath.TheVariants as path
+use Rattle.hir_raw.specs.declared.raw.RawExpr.TheVariants as expr
+use Rattle.hir_raw.specs.Order.{IsSchedule, PartsFit, Binds, start, inner}
 use Rattle.hir_ids.specs.Carried.{is_carried_body}
 use Rattle.hir_laws.specs.Trees.{BoundByPattern}
-use Rattle.hir_laws.specs.Scopes.{AreInScope}
 use Rattle.hir_laws.specs.Literals.{IsPatternOf, IsLiteral}
 
 -- no constant, static or variant is carried yet
@@ -53,6 +55,11 @@ abbrev pub inputs_of : RawFacts → DefWithBodyId → List TypeRefId
 inputs_of raw (def.FunctionId f) = inputs_by (slice_get raw.fns f.0)
 inputs_of raw _ = []
 
+-- a pattern that comes before the expression e binds v
+abbrev pub IsTypedBefore : RawBody → Schedule → ExprId → BindingId → Type 0
+IsTypedBefore b s e v =
+    (p : PatId) × Binds b p v × (start b s (inner (node.PatId p)) < start b s (inner (node.ExprId e)))
+
 -- the laws of one body, with the order of its walk
 pub record IsWalkable (b : RawBody) (s : Schedule) : Type 0 where
   pub schedule : IsSchedule b s
@@ -60,6 +67,7 @@ pub record IsWalkable (b : RawBody) (s : Schedule) : Type 0 where
   pub fit : PartsFit b
   pub binders : (p : PatId) (v : BindingId) → Binds b p v → v.0 < length b.bindings
   pub bound : (v : BindingId) → v.0 < length b.bindings → BoundByPattern b v
-  pub scopes : AreInScope b s
+  pub scopes : (e : ExprId) (v : BindingId) → slice_get b.exprs e.0 ≡ Some (expr.Path (path.Local v))
+      → IsTypedBefore b s e v
   pub no_self : b.self_ ≡ None
   pub literals : (p : ℕ) (e : ExprId) → IsPatternOf b p e → IsLiteral (slice_get b.exprs e.0)

@@ -4,6 +4,7 @@ pub mod Scopes
 pub mod Limits
 pub mod Literals
 pub mod Binders
+pub mod Firsts
 pub mod Scheduled
 pub mod InBits
 pub mod Fields

@@ -1,25 +1,24 @@
--- A local names a binding that the walk has typed before.
-use Rattle.std.specs.Prelude.{◌≡◌, ◌<◌, ◌⊎◌, slice_get, Some}
+-- A local names a binding that the walk has come to before.
+use Rattle.std.specs.Prelude.{◌<◌}
 use Rattle.hir_types.specs.declared.ids.BindingId.{BindingId}
-use Rattle.hir_types.specs.declared.ids.ExprId.{ExprId}
-use Rattle.hir_types.specs.declared.ids.PatId.{PatId}
-use Rattle.hir_types.specs.declared.ids.ExprOrPatId.TheVariants as node
-use Rattle.hir_raw.specs.declared.raw.RawPath.TheVariants as path
-use Rattle.hir_raw.specs.declared.raw.RawExpr.TheVariants as expr
+use Rattle.hir_raw.specs.declared.mention.Mention.{Mention}
+use Rattle.hir_raw.specs.declared.mention.Mention.TheVariants as it
 use Rattle.hir_raw.specs.declared.raw.RawBody.{RawBody}
 use Rattle.hir_raw.specs.declared.schedule.Schedule.{Schedule}
-use Rattle.hir_raw.specs.Order.{IsSchedule, IsLow, Binds, start, inner}
+use Rattle.hir_raw.specs.Mentions.{Mentions, AllMentioned}
+use Rattle.hir_raw.specs.Order.{IsSchedule, IsLow, Node, start}
 
--- the binding is `self`, or its pattern comes before the expression e
-abbrev pub IsTypedBefore : RawBody → Schedule → ExprId → BindingId → Type 0
-IsTypedBefore b s e v =
-    (b.self_ ≡ Some v)
-    ⊎ ((p : PatId) × Binds b p v × (start b s (inner (node.PatId p)) < start b s (inner (node.ExprId e))))
+-- a node that comes before n binds v: its pattern, or the body, where v is `self`
+abbrev pub IsBoundBefore : RawBody → Schedule → Node → BindingId → Type 0
+IsBoundBefore b s n v = (k : Node) × Mentions b k (it.Binds v) × (start b s k < start b s n)
+
+-- what the node n mentions is no local, or one that is bound before
+abbrev pub IsInScope : RawBody → Schedule → Node → Mention → Type 0
+IsInScope b s n (it.Local v) = IsBoundBefore b s n v
+IsInScope b s n _ = Unit {0}
 
 abbrev pub AreInScope : RawBody → Schedule → Type 0
-AreInScope b s =
-    (e : ExprId) (v : BindingId) → slice_get b.exprs e.0 ≡ Some (expr.Path (path.Local v))
-    → IsTypedBefore b s e v
+AreInScope b s = AllMentioned (IsInScope b s) b
 
 -- a body that is too deep breaks another law
 abbrev pub ScopesHold : RawBody → Type 0

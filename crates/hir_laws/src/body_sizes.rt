@@ -1,71 +1,49 @@
 //! How long the lists of a body may be, and how deep its tree.
-ghost use Rattle.std.specs.Prelude.{◌≡◌, ◌↔◌, ℕ, Some, IsTrue, slice_get};
-ghost use Rattle.hir_raw.specs.declared.raw.RawExpr.{RawExpr};
-ghost use Rattle.hir_raw.specs.declared.raw.RawPat.{RawPat};
+ghost use Rattle.std.specs.Prelude.{◌≡◌, ◌↔◌, ℕ, Some, IsTrue, IfOk, slice_get};
+ghost use Rattle.hir_raw.specs.declared.mention.Said.{Said};
+ghost use Rattle.hir_raw.specs.Mentions.{AllMentioned};
 ghost use Rattle.hir_raw.specs.Order.{IsSchedule, AreDepths};
 ghost use Rattle.hir_laws.specs.Scheduled.{AreSchedules};
-ghost use Rattle.hir_counts.specs.Sizes.{ExprIsShort, PatIsShort, BodyIsSmall};
+ghost use Rattle.hir_counts.specs.Sizes.{ListIsShort, BodyIsSmall};
 
 use crate::scopes::MOST_STEPS;
-use hir_counts::{is_early, is_short};
-use hir_ids::Test;
-use hir_raw::{RawBody, RawExpr, RawFacts, RawPat, Schedule, is_low};
+use hir_counts::{is_early, is_short, is_short_list};
+use hir_ids::{Test, said_of_body};
+use hir_raw::{RawBody, RawFacts, Said, Schedule, is_low};
 use hir_types::List;
 use std::alloc::{AllocError, Global};
 
-fn is_short_expr(expr: &RawExpr) -> bool
-    ensures { IsTrue result ↔ ExprIsShort expr.now }
+fn are_short(said: &[Said]) -> bool
+    ensures { IsTrue result ↔ ((k : ℕ) (s : Said) → slice_get said.now k ≡ Some s → ListIsShort s.mention) }
 {
-    match expr {
-        RawExpr::Block {
-            label: _,
-            statements,
-            tail: _,
-        } => is_short(statements.as_slice()),
-        RawExpr::Tuple(es) => is_short(es.as_slice()),
-        RawExpr::Match { scrutinee: _, arms } => is_short(arms.as_slice()),
-        RawExpr::Call { callee: _, args } => is_short(args.as_slice()),
-        RawExpr::Lit(_) | RawExpr::Path(_) | RawExpr::If { .. } | RawExpr::Other => true,
-    }
+    said.iter().all(|s| is_short_list(s.mention))
 }
 
-fn are_short_exprs(body: &RawBody) -> bool
-    ensures { IsTrue result ↔ ((e : ℕ) (x : RawExpr) → slice_get body.now.exprs e ≡ Some x → ExprIsShort x) }
+fn has_short_lists(alloc: Global, body: &RawBody) -> Result<bool, AllocError>
+    ensures { IfOk result (λ told. IsTrue told ↔ AllMentioned (λ n m. ListIsShort m) body.now) }
 {
-    body.exprs.as_slice().iter().all(|expr| is_short_expr(expr))
+    let said = said_of_body(alloc, body)?;
+    Ok(are_short(&said))
 }
 
-fn is_short_pat(pat: &RawPat) -> bool
-    ensures { IsTrue result ↔ PatIsShort pat.now }
-{
-    match pat {
-        RawPat::Tuple(pats) => is_short(pats.as_slice()),
-        RawPat::TupleStruct { variant: _, args } => is_short(args.as_slice()),
-        RawPat::Wild | RawPat::Bind { .. } | RawPat::Path(_) => true,
-        RawPat::Lit(_) | RawPat::Other => true,
-    }
-}
-
-fn are_short_pats(body: &RawBody) -> bool
-    ensures { IsTrue result ↔ ((p : ℕ) (x : RawPat) → slice_get body.now.pats p ≡ Some x → PatIsShort x) }
-{
-    body.pats.as_slice().iter().all(|pat| is_short_pat(pat))
-}
-
-fn is_small(at: usize, body: &RawBody, schedule: &Schedule) -> bool
+fn is_small(
+    alloc: Global,
+    at: usize,
+    body: &RawBody,
+    schedule: &Schedule,
+) -> Result<bool, AllocError>
     requires schedule { IsSchedule body.now schedule.now }
     requires depths { AreDepths body.now schedule.now }
-    ensures { IsTrue result ↔ BodyIsSmall at body.now }
+    ensures { IfOk result (λ told. IsTrue told ↔ BodyIsSmall at body.now) }
 {
-    is_early(at)
+    let lists = has_short_lists(alloc, body)?;
+    Ok(is_early(at)
         && is_short(body.traits.as_slice())
-        && is_short(body.params.as_slice())
         && is_short(body.exprs.as_slice())
         && is_short(body.pats.as_slice())
         && is_short(body.bindings.as_slice())
-        && are_short_exprs(body)
-        && are_short_pats(body)
-        && is_low(body, schedule, MOST_STEPS)
+        && lists
+        && is_low(body, schedule, MOST_STEPS))
 }
 
 /// The lists of a body are short, and its tree is not deep.
@@ -85,12 +63,12 @@ impl<'a> Test for BodySizes<'a> {
 
     fn test(
         &self,
-        _alloc: Global,
+        alloc: Global,
         _raw: &RawFacts,
         at: usize,
         item: &RawBody,
     ) -> Result<bool, AllocError> {
         let schedule = &self.schedules.as_slice()[at];
-        Ok(is_small(at, item, schedule))
+        is_small(alloc, at, item, schedule)
     }
 }

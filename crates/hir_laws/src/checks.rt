@@ -2,7 +2,6 @@
 ghost use Rattle.std.specs.Prelude.{◌≡◌, IfOk, IfErr, MatchOption, Ok, Err};
 ghost use Rattle.hir_ids.specs.Entries.{AllHold};
 ghost use Rattle.hir_ids.specs.Ids.{TypeIdsExist, BodyIdsExist};
-ghost use Rattle.hir_laws.specs.Trees.{IsWellFormed};
 ghost use Rattle.hir_laws.specs.Scheduled.{AreSchedules};
 ghost use Rattle.hir_laws.specs.Lawful.{IsLawful, PassesAll, item_tests, unread_tests, abstract_tests, body_tests, carried_tests, ids_tests, counts_tests, trees_tests, scopes_tests, sizes_tests, limits_tests, lang_tests, literals_tests, holes_tests, tests};
 ghost use Rattle.hir_laws.specs.Refused.{Refuses};
@@ -185,7 +184,6 @@ fn check_trees(alloc: Global, raw: &RawFacts) -> Result<(), FactsError>
 
 fn check_scopes(alloc: Global, raw: &RawFacts, schedules: &List<Schedule>) -> Result<(), FactsError>
     requires ids { AllHold (BodyIdsExist raw.now) raw.now.bodies }
-    requires trees { AllHold (λ i b. IsWellFormed b) raw.now.bodies }
     requires schedules { AreSchedules raw.now.bodies schedules.now }
     ensures ok { IfOk result (λ _. PassesAll raw.now scopes_tests) }
     ensures err { IfErr result (λ e. Refuses raw.now scopes_tests e) }

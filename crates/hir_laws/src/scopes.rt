@@ -1,91 +1,106 @@
-//! A local names a binding that the walk has typed before.
-ghost use Rattle.std.specs.Prelude.{◌≡◌, ◌↔◌, ◌<◌, ◌+◌, ℕ, Some, IsTrue, IfOk, length, slice_get, slice_index_or};
-ghost use Rattle.hir_raw.specs.Order.{PartsFit, IsTree, IsSchedule, AreDepths, node_count};
-ghost use Rattle.hir_ids.specs.declared.namers.Namers.TheVariants.{Nobody};
-ghost use Rattle.hir_raw.specs.declared.raw.RawExpr.TheVariants.{Path};
-ghost use Rattle.hir_raw.specs.declared.raw.RawPath.TheVariants.{Local};
+//! A local names a binding that the walk has come to before.
+ghost use Rattle.std.specs.Prelude.{◌≡◌, ◌↔◌, ℕ, Some, None, IsTrue, IfOk, length, slice_get, slice_set, slice_index_or};
+ghost use Rattle.hir_raw.specs.declared.mention.Said.{Said};
+ghost use Rattle.hir_raw.specs.Order.{PartsFit, IsTree, IsSchedule, AreDepths};
 ghost use Rattle.hir_ids.specs.Entries.{AllHold};
 ghost use Rattle.hir_ids.specs.Ids.{BodyIdsExist};
-ghost use Rattle.hir_ids.specs.InBody.{LocalsExist};
-ghost use Rattle.hir_laws.specs.Trees.{IsWellFormed};
+ghost use Rattle.hir_laws.specs.Firsts.{binding_bound, and_number, comes_before, AreFirsts, ComesAfter, LocalsExist};
 ghost use Rattle.hir_laws.specs.Scopes.{AreInScope, ScopesHold};
-ghost use Rattle.hir_laws.specs.Binders.{IsWithin, comes_before, is_typed_before, HasTypedLocal};
 ghost use Rattle.hir_laws.specs.Scheduled.{AreSchedules};
 
-use crate::trees::{binders_of, is_self};
-use hir_ids::{Namers, Test};
-use hir_raw::{RawBody, RawExpr, RawFacts, RawPath, Schedule, is_low, schedule_of};
+use hir_counts::number_at;
+use hir_ids::{Test, said_of_body};
+use hir_raw::{Mention, RawBody, RawFacts, Said, Schedule, is_low, schedule_of};
 use hir_types::List;
 use std::alloc::{AllocError, Global};
 
 /// The most steps that a way from a body takes.
 pub const MOST_STEPS: usize = 256;
 
-fn comes_before(body: &RawBody, starts: &[usize], binders: Namers, e: usize) -> bool
-    requires starts { length starts.now ≡ node_count body.now }
-    requires binder { IsWithin (length body.now.pats) binders }
-    requires expr { e < length body.now.exprs }
-    ensures { result ≡ comes_before body.now starts.now binders e }
+fn binding_bound(mention: Mention) -> Option<usize>
+    ensures { result ≡ binding_bound mention }
 {
-    match binders {
-        Namers::One(k) => starts[body.exprs.len() + k] < starts[e],
-        Namers::Nobody | Namers::Several => false,
+    match mention {
+        Mention::Binds(v) => Some(v.0 as usize),
+        _ => None,
     }
 }
 
-fn is_typed_before(body: &RawBody, starts: &[usize], binders: &[Namers], e: usize, v: usize) -> bool
-    requires starts { length starts.now ≡ node_count body.now }
-    requires binders { (w : ℕ) → IsWithin (length body.now.pats) (slice_index_or binders.now w Nobody) }
-    requires expr { e < length body.now.exprs }
-    requires binding { v < length binders.now }
-    ensures { result ≡ is_typed_before body.now starts.now (slice_index_or binders.now v Nobody) e v }
+fn and_number(before: Option<usize>, number: usize) -> usize
+    ensures { result ≡ and_number before number }
 {
-    is_self(body.self_, v) || comes_before(body, starts, binders[v], e)
+    match before {
+        None => number,
+        Some(before) => before.min(number),
+    }
 }
 
-fn has_typed_local(
-    body: &RawBody,
-    starts: &[usize],
-    binders: &[Namers],
-    e: usize,
-    expr: &RawExpr,
-) -> bool
-    requires starts { length starts.now ≡ node_count body.now }
-    requires binders { (w : ℕ) → IsWithin (length body.now.pats) (slice_index_or binders.now w Nobody) }
-    requires size { length binders.now ≡ length body.now.bindings }
-    requires locals { LocalsExist body.now }
-    requires expr { slice_get body.now.exprs e ≡ Some expr.now }
-    ensures { IsTrue result ↔ HasTypedLocal body.now starts.now binders.now e expr.now }
+fn note(firsts: &mut Vec<Option<usize>>, v: usize, number: usize)
+    ensures { firsts.new.items ≡ slice_set firsts.old.items v (Some (and_number (slice_index_or firsts.old.items v None) number)) }
 {
-    match expr {
-        RawExpr::Path(RawPath::Local(v)) => is_typed_before(body, starts, binders, e, v.0 as usize),
+    if v < firsts.len() {
+        let before = firsts[v];
+        firsts[v] = Some(and_number(before, number));
+    }
+}
+
+/// The lowest number of a node that binds it, for each of so many bindings.
+fn firsts_of(
+    alloc: Global,
+    starts: &[usize],
+    said: &[Said],
+    count: usize,
+) -> Result<Vec<Option<usize>>, AllocError>
+    ensures { IfOk result (λ v. AreFirsts starts.now said.now (length said.now) count v.items) }
+{
+    let mut firsts = vec![in alloc; None; count]?;
+    for said in said {
+        if let Some(v) = binding_bound(said.mention) {
+            note(&mut firsts, v, number_at(starts, said.node));
+        }
+    }
+    Ok(firsts)
+}
+
+fn comes_before(first: Option<usize>, number: usize) -> bool
+    ensures { result ≡ comes_before first number }
+{
+    match first {
+        None => false,
+        Some(first) => first < number,
+    }
+}
+
+fn first_at(firsts: &[Option<usize>], v: usize) -> Option<usize>
+    ensures { result ≡ slice_index_or firsts.now v None }
+{
+    if v < firsts.len() { firsts[v] } else { None }
+}
+
+fn comes_after(starts: &[usize], firsts: &[Option<usize>], node: usize, mention: Mention) -> bool
+    ensures { IsTrue result ↔ ComesAfter starts.now firsts.now node mention }
+{
+    match mention {
+        Mention::Local(v) => comes_before(first_at(firsts, v.0 as usize), number_at(starts, node)),
         _ => true,
     }
 }
 
-fn have_typed_locals(body: &RawBody, starts: &[usize], binders: &[Namers]) -> bool
-    requires starts { length starts.now ≡ node_count body.now }
-    requires binders { (w : ℕ) → IsWithin (length body.now.pats) (slice_index_or binders.now w Nobody) }
-    requires size { length binders.now ≡ length body.now.bindings }
-    requires locals { LocalsExist body.now }
-    ensures { IsTrue result ↔ AllHold (HasTypedLocal body.now starts.now binders.now) body.now.exprs }
+fn come_after(starts: &[usize], firsts: &[Option<usize>], said: &[Said]) -> bool
+    ensures { IsTrue result ↔ ((k : ℕ) (s : Said) → slice_get said.now k ≡ Some s → ComesAfter starts.now firsts.now s.node s.mention) }
 {
-    for (e, expr) in body.exprs.as_slice().iter().enumerate() {
-        if !has_typed_local(body, starts, binders, e, expr) {
-            return false;
-        }
-    }
-    true
+    said.iter()
+        .all(|s| comes_after(starts, firsts, s.node, s.mention))
 }
 
 fn are_in_scope(alloc: Global, body: &RawBody, schedule: &Schedule) -> Result<bool, AllocError>
-    requires schedule { IsSchedule body.now schedule.now }
-    requires locals { LocalsExist body.now }
-    requires bound { IsWellFormed body.now }
+    requires { LocalsExist body.now }
     ensures { IfOk result (λ told. IsTrue told ↔ AreInScope body.now schedule.now) }
 {
-    let binders = binders_of(alloc, body)?;
-    Ok(have_typed_locals(body, schedule.starts.as_slice(), &binders))
+    let said = said_of_body(alloc, body)?;
+    let starts = schedule.starts.as_slice();
+    let firsts = firsts_of(alloc, starts, &said, body.bindings.len())?;
+    Ok(come_after(starts, &firsts, &said))
 }
 
 fn schedule_of_tree(alloc: Global, body: &RawBody) -> Result<Schedule, AllocError>
@@ -111,7 +126,7 @@ pub fn schedules_of(alloc: Global, bodies: &[RawBody]) -> Result<List<Schedule>,
     Ok(schedules)
 }
 
-/// A local names a binding that the walk has typed before.
+/// A local names a binding that the walk has come to before.
 #[derive(Drop)]
 pub struct Scopes<'a> {
     pub schedules: &'a List<Schedule>,
@@ -124,7 +139,7 @@ impl<'a> Test for Scopes<'a> {
 
     ghost holds = { λ raw i b. ScopesHold b };
 
-    ghost given = { λ raw s. AllHold (BodyIdsExist raw) raw.bodies × AllHold (λ i b. IsWellFormed b) raw.bodies × AreSchedules raw.bodies s.schedules.now };
+    ghost given = { λ raw s. AllHold (BodyIdsExist raw) raw.bodies × AreSchedules raw.bodies s.schedules.now };
 
     fn test(
         &self,

@@ -1,5 +1,5 @@
 -- What the crates above take from the crates below by way of this one, so that they need not list those too.
-pub use Rattle.hir_laws.specs.Below.{type_uses, stmt_uses, expr_uses, body_uses, inner_uses, HasNoHole, hole_at, most_by, most_in, most_above, own_most, part_most}
+pub use Rattle.hir_laws.specs.Below.{type_uses, mention_uses, body_uses, inner_uses, HasNoHole, hole_at, most_by, most_in, most_above, own_most, part_most}
 unfoldable pub use Rattle.hir_laws.specs.Below.{most_within}
 pub use Rattle.hir_laws.specs.Bodies.{output_by, return_type, inputs_of, body_of, IsWalkable, HasBody, body_id_of}
 pub use Rattle.hir_laws.specs.Lawful.{IsLawful, tests}

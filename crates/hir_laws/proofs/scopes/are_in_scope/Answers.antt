@@ -3,4 +3,4 @@ use Rattle.hir_laws.proofs.scopes.are_in_scope.Goals as goal
 
 pub returns : goal.returns
 returns c =
-    scope_says c.args.body.now c.args.schedule.now c.deref.result.now c.as_slice.result.now c.have_typed_locals.result c.as_slice.ensures (rw c.deref.ensures.value c.in_ok-binders.ensures) c.requires.locals c.requires.bound c.have_typed_locals.ensures
+    scope_says c.args.body.now c.args.schedule.now c.deref-2.result.now c.as_slice.result.now c.deref.result.now c.come_after.result c.as_slice.ensures (rw c.deref.ensures.value c.in_ok-said.ensures) (rw c.deref-2.ensures.value c.in_ok-firsts.ensures) c.requires c.come_after.ensures
