@@ -8,7 +8,4 @@ pub mod Scope
 pub mod Fit
 pub mod Fitting
 pub mod Signatures
-pub mod Graph
-pub mod Visits
-pub mod Nodes
 pub mod Goals

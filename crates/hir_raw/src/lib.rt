@@ -3,10 +3,8 @@
 #![tactic(auto)]
 
 mod fit;
-mod graph;
 mod hidden;
 mod lets;
-mod parts;
 mod raw;
 mod schedule;
 mod scope;
@@ -20,5 +18,5 @@ pub use raw::{
     RawImpl, RawLang, RawLimits, RawLiteral, RawParam, RawPat, RawPath, RawStmt, RawTrait,
     RawTraitRef, RawType, RawVariant, RawVis,
 };
-pub use schedule::{Schedule, is_low, schedule_of};
+pub use schedule::{Schedule, position_of};
 pub use scope::{alias_params, generic_params, has_associated, has_params, some_sized};
