@@ -1,18 +1,28 @@
 -- Each `_` stands in one `let`, and in one part of each type that it stands in.
-use Rattle.std.specs.Prelude.{◌≡◌, ◌<◌, ◌≤◌, ◌⊎◌, ◌++◌, ℕ, zero, suc, List, [], ◌∷◌, map, slice_get, Option, Some, None, flat_map, refl}
+use Rattle.std.specs.Prelude.{◌≡◌, ◌<◌, ◌≤◌, ◌⊎◌, ◌++◌, ◌+◌, ℕ, zero, suc, List, [], ◌∷◌, map, length, slice_get, Option, Some, None, flat_map, refl}
+use Rattle.std.proofs.lemmas.List.{flat_map-append}
 use Rattle.std.proofs.Common.{arith, ap, ◌∙◌, sym, subst, inl, inr}
 use Rattle.hir_types.specs.declared.ids.ExprId.{ExprId}
+use Rattle.hir_types.specs.declared.ids.LabelId.{LabelId}
 use Rattle.hir_types.specs.declared.ids.PatId.{PatId}
 use Rattle.hir_types.specs.declared.ids.TypeRefId.{TypeRefId}
 use Rattle.hir_raw.specs.declared.raw.RawType.{RawType}
 use Rattle.hir_raw.specs.declared.raw.RawType.TheVariants as type
 use Rattle.hir_raw.specs.declared.raw.RawStmt.TheVariants as stmt
+use Rattle.hir_raw.specs.declared.mention.Mention.{Mention}
+use Rattle.hir_raw.specs.declared.mention.Said.{Said}
+use Rattle.hir_raw.specs.declared.raw.RawStmt.{RawStmt}
 use Rattle.hir_raw.specs.declared.raw.RawExpr.{RawExpr}
+use Rattle.hir_raw.specs.declared.raw.RawExpr.TheVariants as expr
 use Rattle.hir_raw.specs.declared.raw.RawBody.{RawBody}
 use Rattle.hir_raw.specs.declared.raw.RawFacts.{RawFacts}
 use Rattle.hir_raw.specs.WrittenTypes.{type_parts, StandsIn, is_itself, in_part}
+use Rattle.hir_raw.specs.Mentions.{stmt_mentions, expr_mentions, body_mentions, each, said, expr_said, pat_said, body_said}
 use Rattle.hir_raw.specs.Order.{stmts_of, stmt_at}
-use Rattle.hir_plain.specs.Below.{type_uses, stmt_uses, expr_uses, body_uses, inner_uses, IsLawful, type_ids, holes_fit, In, in_flat}
+use Rattle.hir_facts.specs.Uses.{type_uses, mention_uses, body_uses, inner_uses}
+use Rattle.hir_facts.specs.Lawful.{IsLawful}
+use Rattle.hir_facts.specs.LawfulFacts.{type_ids, holes_fit}
+use Rattle.hir_facts.specs.NoHoles.{In, in_first, in_last, in_flat}
 use Rattle.hir_facts.specs.Filled.{none_stands}
 
 -- ---- what stands once in a list
@@ -189,24 +199,74 @@ module _ (raw : RawFacts) (law : IsLawful raw) (k : ℕ) where
 once_at : {X Y : Type 0} (f : X → List Y) (xs : List X) (y : Y) (i : ℕ) (x : X) → Once (flat_map f xs) y → slice_get xs i ≡ Some x → Once (f x) y
 once_at f xs y i x once found k m a b = (flat_once f xs y once i k i m (record { of = x; found = found; made = a }) (record { of = x; found = found; made = b })).1
 
+-- the types that statements, and expressions, are written with
+abbrev stmt_uses : RawStmt → List (Option ℕ)
+stmt_uses s = flat_map mention_uses (stmt_mentions s)
+
+abbrev expr_uses : RawExpr → List (Option ℕ)
+expr_uses x = flat_map mention_uses (expr_mentions x)
+
+abbrev said_uses : Said → List (Option ℕ)
+said_uses s = mention_uses s.mention
+
+uses_of_stmts : (ss : List RawStmt) → flat_map mention_uses (flat_map stmt_mentions ss) ≡ flat_map stmt_uses ss
+uses_of_stmts [] = refl
+uses_of_stmts (s ∷ ss) = flat_map-append mention_uses (stmt_mentions s) (flat_map stmt_mentions ss) ∙ ap (λ (us : List (Option ℕ)). stmt_uses s ++ us) (uses_of_stmts ss)
+
+uses_of_said : (n : ℕ) (ms : List Mention) → flat_map said_uses (said n ms) ≡ flat_map mention_uses ms
+uses_of_said n [] = refl
+uses_of_said n (m ∷ ms) = ap (λ (us : List (Option ℕ)). mention_uses m ++ us) (uses_of_said n ms)
+
+uses_of_exprs : (i : ℕ) (xs : List RawExpr) → flat_map said_uses (each expr_said i xs) ≡ flat_map expr_uses xs
+uses_of_exprs i [] = refl
+uses_of_exprs i (x ∷ xs) =
+    flat_map-append said_uses (expr_said i x) (each expr_said (suc i) xs)
+    ∙ (ap (λ (us : List (Option ℕ)). us ++ flat_map said_uses (each expr_said (suc i) xs)) (uses_of_said i (expr_mentions x)) ∙ ap (λ (us : List (Option ℕ)). expr_uses x ++ us) (uses_of_exprs (suc i) xs))
+
+-- those of a body are those of itself, of its expressions and of its patterns
+uses_of_body : (b : RawBody) → body_uses b ≡ flat_map said_uses (said (length b.exprs + length b.pats) (body_mentions b)) ++ (flat_map expr_uses b.exprs ++ flat_map said_uses (each (pat_said (length b.exprs)) 0 b.pats))
+unfolding body_said
+uses_of_body b =
+    let own : List Said = said (length b.exprs + length b.pats) (body_mentions b) in
+    let exprs : List Said = each expr_said 0 b.exprs in
+    let pats : List Said = each (pat_said (length b.exprs)) 0 b.pats in
+    flat_map-append said_uses own (exprs ++ pats)
+    ∙ ap (λ (us : List (Option ℕ)). flat_map said_uses own ++ us) (flat_map-append said_uses exprs pats ∙ ap (λ (us : List (Option ℕ)). us ++ flat_map said_uses pats) (uses_of_exprs 0 b.exprs))
+
 -- the expression, and the statement in it that is written with type j
 record IsLetAt (b : RawBody) (e i j : ℕ) : Type 0 where
   expr : RawExpr
   found : slice_get b.exprs e ≡ Some expr
+  uses : expr_uses expr ≡ flat_map stmt_uses (stmts_of (Some expr))
   writes : IsFrom stmt_uses (stmts_of (Some expr)) (Some j) i 0
 
 let_in : (b : RawBody) (e i : ℕ) (p : PatId) (t : TypeRefId) (init other : Option ExprId) (o : Option RawExpr) → slice_get b.exprs e ≡ o → slice_get (stmts_of o) i ≡ Some (stmt.Let p (Some t) init other) → IsLetAt b e i t.0
-let_in b e i p t init other None is at = absurd (cc)
-let_in b e i p t init other (Some x) is at = record { expr = x; found = is; writes = record { of = stmt.Let p (Some t) init other; found = at; made = refl } }
+let_in b e i p t init other (Some (expr.Block label ss last)) is at = record {
+  expr = expr.Block label ss last;
+  found = is;
+  uses = by_label label;
+  writes = record { of = stmt.Let p (Some t) init other; found = at; made = refl };
+}
+  where
+    by_label : (l : Option LabelId) → expr_uses (expr.Block l ss last) ≡ flat_map stmt_uses ss
+    by_label None = uses_of_stmts ss
+    by_label (Some l) = uses_of_stmts ss
+let_in b e i p t init other _ is at = absurd (cc)
 
 in_expr : (b : RawBody) (e i j : ℕ) (h : IsLetAt b e i j) → In (expr_uses h.expr) (Some j)
-in_expr b e i j h = from_in stmt_uses (stmts_of (Some h.expr)) (Some j) i 0 h.writes
+in_expr b e i j h = subst (λ us. In us (Some j)) (sym h.uses) (from_in stmt_uses (stmts_of (Some h.expr)) (Some j) i 0 h.writes)
 
 in_body : (b : RawBody) (e i j : ℕ) → IsLetAt b e i j → In (body_uses b) (Some j)
-in_body b e i j h = in_flat expr_uses b.exprs e h.expr (Some j) h.found (in_expr b e i j h)
+in_body b e i j h =
+    let own = flat_map said_uses (said (length b.exprs + length b.pats) (body_mentions b)) in
+    let pats = flat_map said_uses (each (pat_said (length b.exprs)) 0 b.pats) in
+    subst (λ us. In us (Some j)) (sym (uses_of_body b)) (in_last own (flat_map expr_uses b.exprs ++ pats) (Some j) (in_first (flat_map expr_uses b.exprs) pats (Some j) (in_flat expr_uses b.exprs e h.expr (Some j) h.found (in_expr b e i j h))))
 
 one_place : (b : RawBody) (e i d m j : ℕ) → Once (body_uses b) (Some j) → IsLetAt b e i j → IsLetAt b d m j → (e ≡ d) × (i ≡ m)
-one_place b e i d m j once h g =
+one_place b e i d m j all h g =
+    let own = flat_map said_uses (said (length b.exprs + length b.pats) (body_mentions b)) in
+    let pats = flat_map said_uses (each (pat_said (length b.exprs)) 0 b.pats) in
+    let once : Once (flat_map expr_uses b.exprs) (Some j) = once_first (flat_map expr_uses b.exprs) pats (Some j) (once_last own (flat_map expr_uses b.exprs ++ pats) (Some j) (subst (λ us. Once us (Some j)) (uses_of_body b) all)) in
     let here = in_expr b e i j h in
     let there = in_expr b d m j g in
     let same : (e ≡ d) × (here.0 ≡ there.0) = flat_once expr_uses b.exprs (Some j) once e here.0 d there.0 (record { of = h.expr; found = h.found; made = here.1 }) (record { of = g.expr; found = g.found; made = there.1 }) in
@@ -214,7 +274,8 @@ one_place b e i d m j once h g =
     let is : Some h.expr ≡ Some g.expr = sym h.found ∙ found in
     let is2 : g.expr ≡ h.expr = cc in
     let writes : IsFrom stmt_uses (stmts_of (Some h.expr)) (Some j) m 0 = subst (λ x. IsFrom stmt_uses (stmts_of (Some x)) (Some j) m 0) is2 g.writes in
-    (same.0, (flat_once stmt_uses (stmts_of (Some h.expr)) (Some j) (once_at expr_uses b.exprs (Some j) e h.expr once h.found) i 0 m 0 h.writes writes).0)
+    let inside : Once (flat_map stmt_uses (stmts_of (Some h.expr))) (Some j) = subst (λ us. Once us (Some j)) h.uses (once_at expr_uses b.exprs (Some j) e h.expr once h.found) in
+    (same.0, (flat_once stmt_uses (stmts_of (Some h.expr)) (Some j) inside i 0 m 0 h.writes writes).0)
 
 -- two `let`s in whose types the `_` that is type k stands are one
 pub one_let : (raw : RawFacts) → IsLawful raw → (n : ℕ) (b : RawBody) → slice_get raw.bodies n ≡ Some b → (k : ℕ)

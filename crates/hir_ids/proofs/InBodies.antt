@@ -21,7 +21,7 @@ use Rattle.hir_raw.specs.declared.raw.RawBody.{RawBody}
 use Rattle.hir_raw.specs.declared.raw.RawFacts.{RawFacts}
 use Rattle.hir_raw.specs.Order.{Role, Part, parameter, root, element, tail, initializer, let_pattern, let_else, condition, then_branch, else_branch, scrutinee, arm_pattern, guard, arm, callee, argument, subpattern, pattern_literal, expr_part, pat_part, maybe_part, stmt_parts, stmts_parts, exprs_from, arm_patterns, arm_parts, arms_parts, subpatterns, param_parts, expr_parts, pat_parts, body_parts, Node, the_body, inner, IsNode, IsInBody, parts_of_expr, parts_of_pat, parts, stmts_of, binding_of}
 use Rattle.hir_ids.specs.InBody.{MaybeExprExists, MaybeTypeExists, MaybeBindingExists, StmtIdsExist, StmtsIdsExist, ElementsExist, PatternsExist, ArmExists, ArmsExist, ExprIdsExist, PatPartsExist, BodyIdsHere}
-use Rattle.hir_ids.specs.Ids.{HasOneOwner, PathExists, BodyIdsExist}
+use Rattle.hir_facts.specs.Ids.{HasOneOwner, PathExists, BodyIdsExist}
 
 -- these parts are nodes of the body
 record AllIn (b : RawBody) (ps : List Part) : Type 0 where

@@ -1,5 +1,3 @@
-pub mod CarriedBodies
-pub mod Broken
 pub mod Named
 pub mod InBodies
 pub mod Once

@@ -18,7 +18,7 @@ use Rattle.hir_raw.specs.declared.raw.RawFacts.{RawFacts}
 use Rattle.hir_ids.specs.declared.namers.Namers.{Namers}
 use Rattle.hir_raw.specs.Order.{binding_of}
 use Rattle.hir_ids.specs.Namers.{AreNamers}
-use Rattle.hir_ids.specs.Ids.{PathExists, PatNamesExist, owned_bodies, listed_variants}
+use Rattle.hir_facts.specs.Ids.{PathExists, PatNamesExist, owned_bodies, listed_variants}
 
 abbrev pub MaybeExprExists : RawBody → Option ExprId → Type 0
 MaybeExprExists b None = Unit {0}

@@ -3,7 +3,7 @@ ghost use Rattle.std.specs.Prelude.{◌≡◌, ◌↔◌, ◌<◌, ◌++◌, ℕ
 ghost use Rattle.hir_types.specs.declared.ids.TraitId.{TraitId};
 ghost use Rattle.hir_raw.specs.Order.{binding_of};
 ghost use Rattle.hir_ids.specs.InBody.{MaybeExprExists, MaybeTypeExists, MaybeBindingExists, StmtIdsExist, StmtsIdsExist, ElementsExist, PatternsExist, ArmExists, ArmsExist, ExprIdsExist, ExprsIdsExist, PatsIdsExist, PatPartsExist, PatsPartsExist, PatsNamesExist, BodyIdsHere, AreOwners};
-ghost use Rattle.hir_ids.specs.Ids.{IsInModule, IsModuleFn, PathExists, PatNamesExist, owned_body, variant_body, owned_bodies, BodyIdsExist};
+ghost use Rattle.hir_facts.specs.Ids.{IsInModule, IsModuleFn, PathExists, PatNamesExist, owned_body, variant_body, owned_bodies, BodyIdsExist};
 
 use crate::namers::{Namers, is_one, namers_of};
 use crate::test::Test;

@@ -13,11 +13,12 @@ use Rattle.hir_raw.specs.declared.schedule.Schedule.{Schedule}
 use Rattle.hir_raw.specs.Mentions.{Mentions, body_said}
 use Rattle.hir_raw.specs.Order.{IsSchedule, AreDepths, IsLow, Node, position, start}
 use Rattle.hir_raw.proofs.Ways.{schedule_unique}
-use Rattle.hir_ids.proofs.Mentioned.{mention_said, said_mention, mentions_tell, node_mentions}
+use Rattle.hir_ids.proofs.Mentioned.{mention_said, said_mention, mentions_within}
+use Rattle.hir_ids.proofs.Telling.{mentions_tell}
 use Rattle.hir_laws.specs.Firsts.{binding_bound, IsBoundBelow, AreFirsts, ComesAfter, LocalsExist}
-use Rattle.hir_laws.specs.Scopes.{IsBoundBefore, IsInScope, AreInScope, ScopesHold}
+use Rattle.hir_facts.specs.Scopes.{IsBoundBefore, IsInScope, AreInScope, ScopesHold}
 use Rattle.hir_laws.proofs.Binding.{same_binding}
-use Rattle.hir_laws.specs.Scheduled.{AreSchedules}
+use Rattle.hir_facts.specs.Scheduled.{AreSchedules}
 
 -- the numbers of the first n bodies
 pub record ScheduledSoFar (bodies : List RawBody) (n : ℕ) (schedules : List Schedule) : Type 0 where
@@ -54,7 +55,7 @@ module _ (b : RawBody) (s : Schedule) where
   bound_below : (n : Node) (v : BindingId) → IsBoundBelow s.starts (body_said b) (length (body_said b)) v.0 (start b s n) → IsBoundBefore b s n v
   bound_below n v h =
       let from = said_mention b h.0 h.1 h.3 in
-      (from.0, subst (Mentions b from.0) (binds_from h.1.mention v h.4) from.2, subst (λ i. slice_index s.starts i < start b s n) (sym from.1) h.5)
+      (from.0, subst (Mentions b from.0) (binds_from h.1.mention v h.4) from.1, subst (λ i. slice_index s.starts i < start b s n) (sym from.2) h.5)
 
   below_bound : (n : Node) (v : BindingId) → IsBoundBefore b s n v → IsBoundBelow s.starts (body_said b) (length (body_said b)) v.0 (start b s n)
   below_bound n v h =
@@ -73,15 +74,15 @@ module _ (b : RawBody) (s : Schedule) where
       → IsTrue told ↔ ((k : ℕ) (x : Said) → slice_get ss k ≡ Some x → ComesAfter starts xs x.node x.mention) → IsTrue told ↔ AreInScope b s
   scope_says xs starts ss told same is firsts exist says =
       let own : AreFirsts s.starts (body_said b) (length (body_said b)) (length b.bindings) xs = rw (same, is) at firsts in
-      let tells = mentions_tell b (ComesAfter s.starts xs) ss told is (subst (λ ns. IsTrue told ↔ ((k : ℕ) (x : Said) → slice_get ss k ≡ Some x → ComesAfter ns xs x.node x.mention)) same says) in
+      let tells = mentions_tell (ComesAfter s.starts xs) b ss told is (subst (λ ns. IsTrue told ↔ ((k : ℕ) (x : Said) → slice_get ss k ≡ Some x → ComesAfter ns xs x.node x.mention)) same says) in
       (λ t n m here. (in_scope xs own exist n m here).0 (tells.0 t n m here), λ h. tells.1 (λ n m here. (in_scope xs own exist n m here).1 (h n m here)))
 
 -- what holds for one numbering holds for each, since there is one
 scope_moves : (b : RawBody) (s t : Schedule) → IsSchedule b s → IsSchedule b t → AreInScope b s → AreInScope b t
 scope_moves b s t law other scope n (it.Local v) here =
     let h = scope n (it.Local v) here in
-    let binder : start b s h.0 ≡ start b t h.0 = schedule_unique b s t law other h.0 (node_mentions b h.0 (it.Binds v) h.1) in
-    let reader : start b s n ≡ start b t n = schedule_unique b s t law other n (node_mentions b n (it.Local v) here) in
+    let binder : start b s h.0 ≡ start b t h.0 = schedule_unique b s t law other h.0 (mentions_within b h.0 (it.Binds v) h.1) in
+    let reader : start b s n ≡ start b t n = schedule_unique b s t law other n (mentions_within b n (it.Local v) here) in
     (h.0, h.1, rw (← binder, ← reader) h.2)
 scope_moves b s t law other scope n _ here = tt
 
@@ -90,11 +91,3 @@ scopes_say b s told law low says = (λ h t other _. scope_moves b s t law other 
 
 pub deep_scopes : (b : RawBody) (told : Bool) → told ≡ false → (IsLow 256 b → IsTrue told) → (IsTrue true → ScopesHold b) × (ScopesHold b → IsTrue true)
 deep_scopes b told was says = (λ h s law low. absurd (let t : told ≡ true = says low in cc), λ hold. refl)
-
--- body i has its numbers
-pub scheduled_at : (bodies : List RawBody) (schedules items : List Schedule) (i : ℕ) (b : RawBody) (s : Schedule) → AreSchedules bodies schedules → slice_get bodies i ≡ Some b → items ≡ schedules → s ≡ get_or items i s → IsSchedule b s × AreDepths b s
-scheduled_at bodies schedules items i b s h found e is =
-    let within : i < length bodies = slice_get_within bodies i b found in
-    let size : length schedules ≡ length bodies = h.size in
-    let is2 : s ≡ get_or schedules i s = rw e at is in
-    h.each i b s found (slice_get_read schedules (length schedules) i s refl (omega arith) is2)

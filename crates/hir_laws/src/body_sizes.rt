@@ -3,13 +3,14 @@ ghost use Rattle.std.specs.Prelude.{◌≡◌, ◌↔◌, ℕ, Some, IsTrue, IfO
 ghost use Rattle.hir_raw.specs.declared.mention.Said.{Said};
 ghost use Rattle.hir_raw.specs.Mentions.{AllMentioned};
 ghost use Rattle.hir_raw.specs.Order.{IsSchedule, AreDepths};
-ghost use Rattle.hir_laws.specs.Scheduled.{AreSchedules};
-ghost use Rattle.hir_counts.specs.Sizes.{ListIsShort, BodyIsSmall};
+ghost use Rattle.hir_facts.specs.Scheduled.{AreSchedules};
+ghost use Rattle.hir_facts.specs.Sizes.{ListIsShort, BodyIsSmall};
 
 use crate::scopes::MOST_STEPS;
 use hir_counts::{is_early, is_short, is_short_list};
 use hir_ids::{Test, said_of_body};
-use hir_raw::{RawBody, RawFacts, Said, Schedule, is_low};
+use hir_raw::{RawBody, RawFacts, Said, Schedule};
+use hir_schedule::is_low;
 use hir_types::List;
 use std::alloc::{AllocError, Global};
 

@@ -3,11 +3,9 @@
 #![tactic(auto)]
 
 mod fit;
-mod graph;
 mod hidden;
 mod lets;
 mod mention;
-mod parts;
 mod raw;
 mod schedule;
 mod scope;
@@ -22,5 +20,5 @@ pub use raw::{
     RawImpl, RawLang, RawLimits, RawLiteral, RawParam, RawPat, RawPath, RawStmt, RawTrait,
     RawTraitRef, RawType, RawVariant, RawVis,
 };
-pub use schedule::{Schedule, is_low, schedule_of};
+pub use schedule::{Schedule, position_of};
 pub use scope::{alias_params, generic_params, has_associated, has_params, some_sized};

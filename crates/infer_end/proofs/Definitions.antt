@@ -10,14 +10,14 @@ use Rattle.hir_types.specs.Terms.{term}
 use Rattle.goal_answers.specs.Reading.{IsRead}
 use Rattle.hir_raw.specs.declared.raw.RawBody.{RawBody}
 use Rattle.hir_raw.specs.declared.raw.RawFacts.{RawFacts}
-use Rattle.hir_laws.specs.Bodies.{body_id_of, body_of, IsWalkable}
+use Rattle.hir_facts.specs.Bodies.{body_id_of, body_of, IsWalkable}
 use Rattle.hir_raw.specs.declared.raw.RawVariant.{RawVariant}
-use Rattle.hir_ids.specs.Ids.{BodyIdsExist}
+use Rattle.hir_facts.specs.Ids.{BodyIdsExist}
 use Rattle.hir_raw.specs.Scope.{scope_of}
-use Rattle.hir_laws.specs.WrittenFits.{lets_fit}
-use Rattle.hir_laws.specs.LawfulFacts.{body_ids}
-use Rattle.hir_laws.proofs.Walkable.{inputs_count}
-use Rattle.hir_laws.specs.Lawful.{IsLawful}
+use Rattle.hir_facts.specs.WrittenFits.{lets_fit}
+use Rattle.hir_facts.specs.LawfulFacts.{body_ids}
+use Rattle.hir_facts.proofs.Walkable.{inputs_count}
+use Rattle.hir_facts.specs.Lawful.{IsLawful}
 use Rattle.hir_raw.specs.declared.schedule.Schedule.{Schedule}
 use Rattle.hir_raw.specs.declared.raw.RawPath.TheVariants as path
 use Rattle.hir_raw.specs.declared.raw.RawPat.TheVariants as pat

@@ -72,11 +72,7 @@ path_done g s e x p t c h is carried k =
 
 -- a path names a local, which has a type, a function or a constructor
 pub path_names : (g : Given) (s : Schedule) (e : ExprId) (x : Option Ty) (p : RawPath) (c : Found) → IsInside g s e x c → slice_get g.body.exprs e.0 ≡ Some (expr.Path p) → NamesTyped g c.result p
-path_names g s e x (path.Local v) c h is =
-    elim (h.ready.law.scopes e v is) [
-      | inl self ↦ (let none = h.ready.law.no_self in absurd (cc))
-      | inr q ↦ h.state.bound q.0 v q.1 (omega (arith, h.clock, q.2))
-    ]
+path_names g s e x (path.Local v) c h is = (let q = h.ready.law.scopes e v is in h.state.bound q.0 v q.1 (omega (arith, h.clock, q.2)))
 path_names g s e x (path.Function f) c h is = h.ready.written.functions e f is
 path_names g s e x (path.Ctor v) c h is = h.ready.written.constructors e v is
 path_names g s e x path.Other c h is =

@@ -1,5 +1,6 @@
 use Rattle.std.proofs.lemmas.Result.{IfOk-weaker}
-use Rattle.hir_laws.proofs.Scoping.{scheduled_at, scopes_say, deep_scopes}
+use Rattle.hir_facts.proofs.Walkable.{scheduled_at}
+use Rattle.hir_laws.proofs.Scoping.{scopes_say, deep_scopes}
 use Rattle.hir_raw.specs.declared.mention.Mention.TheVariants as it
 use Rattle.hir_laws.proofs.scopes.ScopesTest.test.Goals as goal
 
