@@ -39,7 +39,6 @@ walkable raw law i b s found numbered =
       binders = ids.binders;
       bound = λ v lt. elim (well.bound v lt) [ inl own ↦ absurd (let q : b.self_ ≡ Some v = own.is_self in cc) | inr one ↦ one ];
       scopes = typed_before b s alone (scopes_hold raw law i b found s numbered (bodies_small raw law i b found).low);
-      no_self = alone;
       literals = (literals_fit raw law i b found).under;
     }
 
