@@ -1,8 +1,10 @@
 pub mod CarriedBodies
 pub mod Broken
 pub mod Named
-pub mod InBodies
+pub mod Existing
 pub mod Once
 pub mod Uses
 pub mod Owners
 pub mod Held
+pub mod Told
+pub mod Mentioned

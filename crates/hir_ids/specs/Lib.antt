@@ -2,7 +2,6 @@ pub mod Entries
 pub mod Carried
 pub mod Ids
 pub mod Namers
-pub mod InBody
 pub mod Lowered
 pub mod Projections
 pub mod GoalIds

@@ -16,6 +16,7 @@ pub use fit::ty_fits;
 pub use hidden::{fn_aliases, fn_arity, less_variant_aliases, variant_aliases, variant_arity};
 pub use lets::{let_aliases, stmts_of};
 pub use mention::{LabelRole, Mention, Said};
+pub use parts::{nodes_of_body, nodes_of_expr, nodes_of_pat};
 pub use raw::{
     BindingAnnotation, Edition, HasGoals, Other, RawAdt, RawAdtKind, RawAlias, RawArgs, RawArm,
     RawAssocType, RawAt, RawBinding, RawBody, RawCtor, RawExpr, RawFacts, RawField, RawFn, RawGoal,
