@@ -12,7 +12,7 @@ use Rattle.hir_raw.specs.declared.raw.RawGoal.{RawGoal}
 use Rattle.hir_raw.specs.declared.raw.RawAlias.{RawAlias}
 use Rattle.hir_raw.specs.declared.raw.RawFacts.{RawFacts}
 use Rattle.hir_raw.specs.Scope.{generic_params}
-use Rattle.hir_facts.specs.Below.{IsLawful}
+use Rattle.hir_facts.specs.Lawful.{IsLawful}
 use Rattle.goal_answers.specs.Goals.{Asked, System, Each, asked_at}
 use Rattle.goal_answers.specs.Steps.{known_below}
 use Rattle.goal_answers.proofs.Readings.{apply_hole}

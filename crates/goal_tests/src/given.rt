@@ -3,6 +3,7 @@ use hir_facts::{
     Edition, Facts, List, RawAlias, RawFacts, RawImpl, RawLang, RawLimits, RawTrait, RawType, Text,
     TypeAliasId,
 };
+use hir_laws::lawful_facts;
 use std::alloc::{AllocError, Global};
 
 /// What the facts have.
@@ -59,7 +60,7 @@ pub fn given(alloc: Global, items: Items) -> Result<Facts, AllocError> {
         lang: items.lang,
         bodies: List::new(alloc),
     };
-    match Facts::new(alloc, raw) {
+    match lawful_facts(alloc, raw) {
         Ok(facts) => Ok(facts),
         Err(_) => Err(AllocError),
     }

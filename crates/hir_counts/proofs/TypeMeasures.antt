@@ -12,10 +12,10 @@ use Rattle.hir_types.specs.Types.{most, measured, depth, size}
 use Rattle.hir_types.proofs.Layers.{measured_tuple, measured_bool, measured_char, measured_integer, measured_error}
 use Rattle.hir_counts.proofs.AdtLayers.{measured_of_arg, measured_type_arg, measured_adt, measured_projection, measured_param, measured_hole}
 use Rattle.hir_raw.specs.WrittenTypes.{type_parts, lowered, lowered_by}
-use Rattle.hir_ids.specs.Entries.{AllHold}
-use Rattle.hir_ids.specs.Ids.{ChildrenBefore}
+use Rattle.hir_facts.specs.Entries.{AllHold}
+use Rattle.hir_facts.specs.Ids.{ChildrenBefore}
 use Rattle.hir_counts.specs.Measures.{measured_by, depth_by, size_by, AreMeasures}
-use Rattle.hir_ids.specs.Lowered.{lowered_parts}
+use Rattle.hir_facts.specs.Lowered.{lowered_parts}
 use Rattle.hir_counts.proofs.Measured.{sum-cons}
 
 -- a measure that reads the parts alone, and no more of each than the bound

@@ -1,6 +1,3 @@
-pub mod Counts
-pub mod Sizes
 pub mod Measures
-pub mod Standing
-pub mod Uses
-pub mod Most
+pub mod Sought
+pub mod TypeUsers

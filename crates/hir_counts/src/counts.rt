@@ -3,10 +3,11 @@ ghost use Rattle.std.specs.Prelude.{◌≡◌, ◌↔◌, ◌+◌, ◌<◌, ℕ,
 ghost use Rattle.hir_raw.specs.declared.raw.RawField.{RawField};
 ghost use Rattle.hir_raw.specs.declared.raw.RawStmt.{RawStmt};
 ghost use Rattle.hir_raw.specs.Order.{stmts_of};
-ghost use Rattle.hir_ids.specs.Entries.{AllHold};
-ghost use Rattle.hir_ids.specs.Ids.{ChildrenBefore};
-ghost use Rattle.hir_counts.specs.Standing.{param_bound, wrong_args, number_in, AreMosts};
-ghost use Rattle.hir_counts.specs.Counts.{count_of, CountsFit, AdtFitsBy, TypeFits, StmtFits, ExprFits, BodyFits, MaybeBodyFits, body_at, AreFitting, FnFitsBy, FnFits, HasVariants, AdtFits, param_count, IsBare, VariantFitsBy, VariantFits};
+ghost use Rattle.hir_facts.specs.Entries.{AllHold};
+ghost use Rattle.hir_facts.specs.Ids.{ChildrenBefore};
+ghost use Rattle.hir_facts.specs.Standing.{param_bound, wrong_args};
+ghost use Rattle.hir_counts.specs.Sought.{number_in, AreMosts};
+ghost use Rattle.hir_facts.specs.Counts.{count_of, CountsFit, AdtFitsBy, TypeFits, StmtFits, ExprFits, BodyFits, MaybeBodyFits, body_at, AreFitting, FnFitsBy, FnFits, HasVariants, AdtFits, param_count, IsBare, VariantFitsBy, VariantFits};
 
 use crate::goal_counts::goals_fit;
 use crate::standing::{Sought, mosts_of};
@@ -71,7 +72,7 @@ pub fn number_at(numbers: &[usize], at: usize) -> usize
 }
 
 /// Whether a written type fits under so many parameters.
-#[tactic(auto, unfolding(crate::specs::Standing::number_in))]
+#[tactic(auto, unfolding(crate::specs::Sought::number_in))]
 pub fn fits(standing: &Standing, count: usize, ty: TypeRefId) -> bool
     ensures { IsTrue result ↔ TypeFits (number_in standing.now.bounds.items) (number_in standing.now.wrongs.items) count ty }
 {

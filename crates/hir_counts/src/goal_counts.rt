@@ -2,8 +2,9 @@
 ghost use Rattle.std.specs.Prelude.{◌≡◌, ◌↔◌, ◌+◌, ℕ, Some, length, slice_get, IsTrue, IfSome};
 ghost use Rattle.hir_raw.specs.declared.raw.RawGoal.{RawGoal};
 ghost use Rattle.hir_raw.specs.declared.raw.RawAssocType.{RawAssocType};
-ghost use Rattle.hir_counts.specs.Standing.{param_bound, wrong_args, number_in, AreMosts};
-ghost use Rattle.hir_counts.specs.Counts.{trait_params, alias_params, ArgsFit, GoalFits, GoalsFit, TypeFits, TraitFitsBy, TraitFits, AliasFitsBy, AliasFits, ImplTraitFits, ImplFitsBy, ImplFits};
+ghost use Rattle.hir_facts.specs.Standing.{param_bound, wrong_args};
+ghost use Rattle.hir_counts.specs.Sought.{number_in, AreMosts};
+ghost use Rattle.hir_facts.specs.Counts.{trait_params, alias_params, ArgsFit, GoalFits, GoalsFit, TypeFits, TraitFitsBy, TraitFits, AliasFitsBy, AliasFits, ImplTraitFits, ImplFitsBy, ImplFits};
 
 use crate::counts::{Standing, are_fitting, fits};
 use hir_ids::Test;

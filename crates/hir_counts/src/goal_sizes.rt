@@ -2,7 +2,7 @@
 ghost use Rattle.std.specs.Prelude.{◌≡◌, ◌↔◌, ℕ, Some, slice_get, IsTrue, IfSome};
 ghost use Rattle.hir_raw.specs.declared.raw.RawGoal.{RawGoal};
 ghost use Rattle.hir_raw.specs.Goals.{arg_types};
-ghost use Rattle.hir_counts.specs.Sizes.{IsShort, GoalIsShort, GoalsAreShort, TraitIsSmall, AliasIsSmall, ImplIsSmall, IsEarly};
+ghost use Rattle.hir_facts.specs.Sizes.{IsShort, GoalIsShort, GoalsAreShort, TraitIsSmall, AliasIsSmall, ImplIsSmall, IsEarly};
 
 use crate::sizes::{is_early, is_short};
 use hir_ids::Test;

@@ -2,9 +2,9 @@
 ghost use Rattle.std.specs.Prelude.{◌≡◌, ◌↔◌, ◌+◌, ◌<◌, ℕ, Some, map, max, min, sum, length, slice_get, slice_index, IsTrue, IfOk};
 ghost use Rattle.hir_types.specs.declared.ids.TypeRefId.{TypeRefId};
 ghost use Rattle.hir_types.specs.Types.{most, depth, size};
-ghost use Rattle.hir_ids.specs.Entries.{AllHold};
-ghost use Rattle.hir_ids.specs.Ids.{ChildrenBefore};
-ghost use Rattle.hir_counts.specs.Sizes.{IsShort, IsEarly, TypeIsSmall, AdtIsSmall, VariantIsSmall, FnIsSmall};
+ghost use Rattle.hir_facts.specs.Entries.{AllHold};
+ghost use Rattle.hir_facts.specs.Ids.{ChildrenBefore};
+ghost use Rattle.hir_facts.specs.Sizes.{IsShort, IsEarly, TypeIsSmall, AdtIsSmall, VariantIsSmall, FnIsSmall};
 ghost use Rattle.hir_counts.specs.Measures.{depth_by, size_by, AreMeasures};
 
 use crate::goal_sizes::goals_are_short;
@@ -145,7 +145,7 @@ impl TypeSizes {
 impl Test for TypeSizes {
     ghost use Rattle.std.specs.Prelude.{◌≡◌, length};
     ghost use Rattle.hir_types.specs.Types.{depth, size};
-    ghost use Rattle.hir_counts.specs.Sizes.{TypeIsSmall};
+    ghost use Rattle.hir_facts.specs.Sizes.{TypeIsSmall};
     ghost use Rattle.hir_counts.specs.Measures.{AreMeasures};
 
     type Item = RawType;

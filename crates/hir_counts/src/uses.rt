@@ -1,9 +1,11 @@
 //! Where written types are used: a `_` stands once, in a type written in a body.
 ghost use Rattle.std.specs.Prelude.{◌≡◌, ◌++◌, Some, map, length, flat_map, IfOk, OnOk};
-ghost use Rattle.hir_ids.specs.Entries.{AllHold};
-ghost use Rattle.hir_ids.specs.Ids.{ChildrenBefore};
-ghost use Rattle.hir_counts.specs.Standing.{hole_at, AreMosts};
-ghost use Rattle.hir_counts.specs.Uses.{type_uses, stmt_uses, expr_uses, body_uses, inner_uses, variant_uses, fn_uses, abstract_uses, item_uses, HoleFits, AreTypeUsers};
+ghost use Rattle.hir_facts.specs.Entries.{AllHold};
+ghost use Rattle.hir_facts.specs.Ids.{ChildrenBefore};
+ghost use Rattle.hir_facts.specs.Standing.{hole_at};
+ghost use Rattle.hir_counts.specs.Sought.{AreMosts};
+ghost use Rattle.hir_facts.specs.Uses.{type_uses, stmt_uses, expr_uses, body_uses, inner_uses, variant_uses, fn_uses, abstract_uses, item_uses, HoleFits};
+ghost use Rattle.hir_counts.specs.TypeUsers.{AreTypeUsers};
 
 use crate::counts::number_at;
 use crate::goal_uses::{push_goals_of, push_impls};

@@ -1,14 +1,17 @@
--- The ids that a definition with a body leads to are in range.
-use Rattle.std.specs.Prelude.{◌≡◌, ◌<◌, length, slice_get, Option, Some, None, IfSome}
+-- The ids that a definition with a body leads to are in range, and written types are few.
+use Rattle.std.specs.Prelude.{◌≡◌, ◌<◌, ◌^◌, ℕ, zero, suc, List, [], ◌∷◌, length, slice_get, Option, Some, None, IfSome}
 use Rattle.std.specs.Option.{option_and_then}
-use Rattle.std.proofs.Common.{refl}
+use Rattle.std.proofs.Common.{refl, inl, inr, arith}
+use Rattle.std.proofs.lemmas.Bool.{cases_lt}
 use Rattle.hir_types.specs.declared.ids.BodyId.{BodyId}
 use Rattle.hir_types.specs.declared.ids.FunctionId.{FunctionId}
 use Rattle.hir_types.specs.declared.ids.DefWithBodyId.{DefWithBodyId}
 use Rattle.hir_types.specs.declared.ids.DefWithBodyId.TheVariants as def
 use Rattle.hir_raw.specs.declared.raw.RawFn.{RawFn}
 use Rattle.hir_raw.specs.declared.raw.RawFacts.{RawFacts}
-use Rattle.hir_plain.specs.Below.{body_id_of, IsLawful, fn_ids}
+use Rattle.hir_facts.specs.Bodies.{body_id_of}
+use Rattle.hir_facts.specs.Lawful.{IsLawful}
+use Rattle.hir_facts.specs.LawfulFacts.{fn_ids, types_small}
 
 body_of_fn : (raw : RawFacts) (law : IsLawful raw) (f : FunctionId) (o : Option RawFn) (i : BodyId) → slice_get raw.fns f.0 ≡ o → option_and_then (λ x. x.body) o ≡ Some i → i.0 < length raw.bodies
 body_of_fn raw law f None i was e = cc
@@ -23,3 +26,20 @@ body_in_range raw (def.FunctionId f) i law e = body_of_fn raw law f (slice_get r
 body_in_range raw (def.ConstId c) i law e = cc
 body_in_range raw (def.StaticId s) i law e = cc
 body_in_range raw (def.VariantId v) i law e = cc
+
+-- ---- written types
+
+there : {X : Type 0} (xs : List X) (i : ℕ) → i < length xs → (x : X) × (slice_get xs i ≡ Some x)
+there [] i lt = absurd (omega arith)
+there (y ∷ ys) zero lt = (y, refl)
+there (y ∷ ys) (suc i) lt = there ys i (omega arith)
+
+-- there are fewer than their ids can tell
+pub few_types : (raw : RawFacts) → IsLawful raw → length raw.types < 2 ^ 32
+few_types raw law = elim (cases_lt (length raw.types) (2 ^ 32)) [
+  | inl lt ↦ lt
+  | inr ge ↦ absurd (
+      let x = there raw.types (2 ^ 20) (omega arith) in
+      let early : 2 ^ 20 < 2 ^ 20 = (types_small raw law (2 ^ 20) x.0 x.1).early in
+      omega arith)
+]

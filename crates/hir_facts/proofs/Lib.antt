@@ -1,5 +1,12 @@
+pub mod Broken
+pub mod CarriedBodies
+pub mod Items
+pub mod NoAliases
+pub mod OpenedTypes
+pub mod Walkable
+pub mod PlainFns
+pub mod PlainSamples
 pub mod InRange
 pub mod OneHole
 pub mod Lowering
 pub mod Callees
-pub mod Below

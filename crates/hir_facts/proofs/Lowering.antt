@@ -12,9 +12,9 @@ use Rattle.hir_types.specs.declared.ty.GenericArg.TheVariants as arg
 use Rattle.hir_raw.specs.WrittenTypes.{type_parts, lowered, lowered_by}
 use Rattle.hir_raw.specs.Hidden.{opened_type, opened}
 use Rattle.hir_raw.specs.Opened.{opened_at}
-use Rattle.hir_ids.specs.Entries.{AllHold}
-use Rattle.hir_ids.specs.Ids.{ChildrenBefore}
-use Rattle.hir_ids.specs.Lowered.{lowered_parts, opened_before}
+use Rattle.hir_facts.specs.Entries.{AllHold}
+use Rattle.hir_facts.specs.Ids.{ChildrenBefore}
+use Rattle.hir_facts.specs.Lowered.{lowered_parts, opened_before}
 
 pub part_below : (types : List RawType) (t : ℕ) (x y : RawType) (items : List TypeRefId) (i : ℕ) (d : TypeRefId) → AllHold ChildrenBefore types → t < length types → x ≡ get_or types t x → x ≡ y → items ≡ type_parts y → i < length items → (get_or items i d).0 < t
 part_below types t x y items i d all lt read is same below =

@@ -12,7 +12,10 @@ use Rattle.hir_raw.specs.declared.raw.RawBody.{RawBody}
 use Rattle.hir_raw.specs.declared.raw.RawFacts.{RawFacts}
 use Rattle.hir_raw.specs.WrittenTypes.{type_parts, StandsIn, is_itself, in_part}
 use Rattle.hir_raw.specs.Order.{stmts_of, stmt_at}
-use Rattle.hir_plain.specs.Below.{type_uses, stmt_uses, expr_uses, body_uses, inner_uses, IsLawful, type_ids, holes_fit, In, in_flat}
+use Rattle.hir_facts.specs.Uses.{type_uses, stmt_uses, expr_uses, body_uses, inner_uses}
+use Rattle.hir_facts.specs.Lawful.{IsLawful}
+use Rattle.hir_facts.specs.LawfulFacts.{type_ids, holes_fit}
+use Rattle.hir_facts.specs.NoHoles.{In, in_flat}
 use Rattle.hir_facts.specs.Filled.{none_stands}
 
 -- ---- what stands once in a list

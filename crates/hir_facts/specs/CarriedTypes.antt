@@ -19,7 +19,11 @@ use Rattle.hir_types.specs.Erasure.{erased, arg_erased, erased_step, Same, has_h
 use Rattle.hir_raw.specs.declared.raw.RawType.{RawType}
 use Rattle.hir_raw.specs.declared.raw.RawType.TheVariants as type
 use Rattle.hir_raw.specs.declared.raw.RawFacts.{RawFacts}
-use Rattle.hir_plain.specs.Below.{IsLawful, HasNoHole, type_ids, type_there, FitsUnder, OwnFits, own_fits, parts_fit}
+use Rattle.hir_facts.specs.Lawful.{IsLawful}
+use Rattle.hir_facts.specs.Standing.{HasNoHole}
+use Rattle.hir_facts.specs.LawfulFacts.{type_ids}
+use Rattle.hir_facts.specs.NoHoles.{type_there}
+use Rattle.hir_facts.specs.WrittenFits.{FitsUnder, OwnFits, own_fits, parts_fit}
 use Rattle.hir_raw.specs.WrittenTypes.{type_parts, filled_by, filled_within, written_type}
 use Rattle.hir_facts.specs.Filled.{filled_written}
 use Rattle.hir_types.specs.declared.ids.TypeAliasId.{TypeAliasId}

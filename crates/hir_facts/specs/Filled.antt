@@ -16,10 +16,11 @@ use Rattle.hir_types.specs.Folds.{map_twice}
 use Rattle.hir_raw.specs.declared.raw.RawType.{RawType}
 use Rattle.hir_raw.specs.declared.raw.RawType.TheVariants as type
 use Rattle.hir_raw.specs.WrittenTypes.{type_parts, lowered_by, written_type, filled_by, filled_within, filled_type, StandsIn, is_itself, in_part}
-use Rattle.hir_ids.specs.Entries.{AllHold}
-use Rattle.hir_ids.specs.Ids.{ChildrenBefore}
-use Rattle.hir_plain.specs.Below.{hole_at, most_by, most_within, most_in, HasNoHole, most_above, own_most, part_most}
-use Rattle.hir_ids.specs.Lowered.{tys_same, args_same}
+use Rattle.hir_facts.specs.Entries.{AllHold}
+use Rattle.hir_facts.specs.Ids.{ChildrenBefore}
+use Rattle.hir_facts.specs.Standing.{hole_at, most_by, most_within, most_in, HasNoHole}
+use Rattle.hir_facts.specs.Most.{most_above, own_most, part_most}
+use Rattle.hir_facts.specs.Lowered.{tys_same, args_same}
 
 -- ---- by each `_` that stands in it
 

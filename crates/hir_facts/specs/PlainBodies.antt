@@ -11,9 +11,9 @@ use Rattle.hir_raw.specs.declared.raw.RawExpr.TheVariants as expr
 use Rattle.hir_raw.specs.declared.raw.RawBody.{RawBody}
 use Rattle.hir_raw.specs.declared.raw.RawFacts.{RawFacts}
 use Rattle.hir_raw.specs.Order.{stmts_of}
-use Rattle.hir_plain.specs.Below.{FitsThere}
-use Rattle.hir_ids.specs.Entries.{AllHold}
-use Rattle.hir_plain.specs.Plain.{is_item_at, IsPlainExpr, IsPlainPat}
+use Rattle.hir_facts.specs.WrittenFits.{FitsThere}
+use Rattle.hir_facts.specs.Entries.{AllHold}
+use Rattle.hir_facts.specs.Plain.{is_item_at, IsPlainExpr, IsPlainPat}
 
 -- ---- callees
 

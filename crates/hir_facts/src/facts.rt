@@ -1,13 +1,17 @@
 //! Lawful facts.
-ghost use Rattle.std.specs.Prelude.{◌≡◌, ◌↔◌, ◌<◌, ℕ, IfOk, IfErr, IsTrue, Some, slice_get, length};
+ghost use Rattle.std.specs.Prelude.{◌≡◌, ◌↔◌, ◌<◌, ℕ, IsTrue, Some, slice_get, length};
 ghost use Rattle.hir_raw.specs.declared.raw.RawBody.{RawBody};
 ghost use Rattle.hir_raw.specs.Order.{AreDepths};
-ghost use Rattle.hir_plain.specs.Below.{IsWalkable, HasBody, body_id_of, inputs_of, FitsThere, IsLawful, tests, Refuses};
+ghost use Rattle.hir_facts.specs.Bodies.{IsWalkable, HasBody, body_id_of, inputs_of};
+ghost use Rattle.hir_facts.specs.WrittenFits.{FitsThere};
+ghost use Rattle.hir_facts.specs.Lawful.{IsLawful};
+ghost use Rattle.hir_facts.specs.Scheduled.{AreSchedules};
+ghost use Rattle.hir_facts.specs.PlainMarks.{ArePlainMarks};
 ghost use Rattle.hir_raw.specs.Fit.{fits};
-ghost use Rattle.hir_plain.specs.Plain.{IsPlainAdt, IsPlainOver, IsPlainFn};
+ghost use Rattle.hir_facts.specs.Plain.{IsPlainAdt, IsPlainOver, IsPlainFn};
 ghost use Rattle.hir_facts.specs.Readers.{edition_year, limits_in_order};
 
-use hir_plain::{FactsError, PlainMarks, check, mark_at};
+use crate::plain_marks::{PlainMarks, mark_at};
 use hir_raw::{
     Edition, RawAdt, RawAlias, RawBody, RawFacts, RawFn, RawImpl, RawTrait, RawType, RawVariant,
     Schedule, generic_params, ty_fits,
@@ -16,7 +20,6 @@ use hir_types::{
     AdtId, BodyId, DefWithBodyId, FunctionId, GenericDefId, ImplId, List, ModuleId, TraitId, Ty,
     TypeAliasId, TypeRefId, VariantId,
 };
-use std::alloc::Global;
 use std::marker::Model;
 
 /// Facts that obey the laws, which contracts see as the raw facts.
@@ -34,28 +37,26 @@ impl Model for Facts {
 
     ghost view = { λ a. a.raw };
 
-    ghost use Rattle.hir_plain.specs.Below.{IsLawful, AreSchedules};
-    ghost use Rattle.hir_plain.specs.PlainMarks.{ArePlainMarks};
+    ghost use Rattle.hir_facts.specs.Lawful.{IsLawful};
+    ghost use Rattle.hir_facts.specs.Scheduled.{AreSchedules};
+    ghost use Rattle.hir_facts.specs.PlainMarks.{ArePlainMarks};
 
     ghost invariant = { λ a. IsLawful a.raw × AreSchedules a.raw.bodies a.schedules × ArePlainMarks a.raw a.plain };
 }
 
 impl Facts {
-    /// Tests the laws in their order, and keeps the facts where all hold. `FactsError::Law` names the
-    /// first law that is broken, with the first list and entry that break it (docs/LAWS.md);
-    /// `FactsError::OutOfMemory` says that memory ran out.
-    pub fn new(alloc: Global, raw: RawFacts) -> Result<Facts, FactsError>
-        ensures facts { IfOk result (λ f. f ≡ raw) }
-        ensures lawful { IfOk result (λ f. IsLawful f) }
-        ensures broken { IfErr result (λ e. Refuses raw tests e) }
+    /// The facts, with the numbers of their bodies and the marks of what is plain.
+    pub fn new(raw: RawFacts, schedules: List<Schedule>, plain: PlainMarks) -> Facts
+        requires lawful { IsLawful raw }
+        requires schedules { AreSchedules raw.bodies schedules }
+        requires plain { ArePlainMarks raw plain }
+        ensures { result ≡ raw }
     {
-        let schedules = check(alloc, &raw)?;
-        let plain = PlainMarks::new(alloc, &raw)?;
-        Ok(Facts {
+        Facts {
             raw,
             schedules,
             plain,
-        })
+        }
     }
 
     /// Nothing: callers learn that facts are lawful.

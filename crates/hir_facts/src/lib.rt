@@ -1,12 +1,14 @@
-//! The facts of a resolved crate: what inference reads.
+//! The facts of a resolved crate: the laws that they obey, and what inference reads of them.
 #![tactic(auto)]
 
 mod facts;
+mod laws;
 mod lower;
 mod plain_body;
+mod plain_marks;
+mod sized;
 
 pub use facts::Facts;
-pub use hir_plain::{FactsError, FactsList, Law};
 pub use hir_raw::{
     BindingAnnotation, Edition, Other, RawAdt, RawAdtKind, RawAlias, RawArgs, RawArm, RawAssocType,
     RawAt, RawBinding, RawBody, RawCtor, RawExpr, RawFacts, RawField, RawFn, RawGoal, RawImpl,
@@ -21,5 +23,8 @@ pub use hir_types::{
     OpaqueId, PatId, Region, Safety, StaticId, Subst, Text, TraitId, TraitRef, Ty, TypeAliasId,
     TypeRefId, UintTy, VariantId, instantiate,
 };
+pub use laws::{FactsList, Law};
 pub use lower::{lower_opened, lower_ty, return_ty};
 pub use plain_body::is_plain;
+pub use plain_marks::{PlainMarks, mark_at};
+pub use sized::are_sized_preds;

@@ -3,9 +3,9 @@ ghost use Rattle.std.specs.Prelude.{◌≡◌, ◌<◌, ◌+◌, IfOk, length};
 ghost use Rattle.hir_types.specs.declared.ty.Ty.TheVariants as ty;
 ghost use Rattle.hir_raw.specs.Hidden.{place_in, opened};
 ghost use Rattle.hir_raw.specs.WrittenTypes.{lowered, written_type};
-ghost use Rattle.hir_plain.specs.Below.{HasBody, return_type};
-ghost use Rattle.hir_ids.specs.Entries.{AllHold};
-ghost use Rattle.hir_ids.specs.Ids.{ChildrenBefore};
+ghost use Rattle.hir_facts.specs.Bodies.{HasBody, return_type};
+ghost use Rattle.hir_facts.specs.Entries.{AllHold};
+ghost use Rattle.hir_facts.specs.Ids.{ChildrenBefore};
 
 use crate::facts::Facts;
 use hir_raw::RawType;
@@ -91,7 +91,7 @@ pub fn lower_ty(alloc: Global, facts: &Facts, ty: TypeRefId) -> Result<Ty, Alloc
 }
 
 /// The same where each associated type with one of these numbers is a parameter, after so many others.
-#[tactic(auto, using(hir_ids::specs::Lowered::opened_past))]
+#[tactic(auto, using(crate::specs::Lowered::opened_past))]
 pub fn lower_opened(
     alloc: Global,
     facts: &Facts,

@@ -10,7 +10,8 @@ use Rattle.hir_types.specs.declared.ids.TypeRefId.{TypeRefId}
 use Rattle.hir_raw.specs.declared.raw.RawType.{RawType}
 use Rattle.hir_raw.specs.Hidden.{is_alias}
 use Rattle.hir_raw.specs.WrittenTypes.{type_parts}
-use Rattle.hir_ids.specs.Projections.{HoldsProjection, is_one, in_part, AreMarked}
+use Rattle.hir_facts.specs.Projections.{HoldsProjection, is_one, in_part}
+use Rattle.hir_ids.specs.Marked.{AreMarked}
 
 some_of : (p : TypeRefId → Bool) (xs : List TypeRefId) → list_any p xs ≡ true → (i : ℕ) × (x : TypeRefId) × (slice_get xs i ≡ Some x) × (p x ≡ true)
 some_of p [] h = absurd (true≢false (sym h))

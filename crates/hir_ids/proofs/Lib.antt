@@ -1,10 +1,8 @@
-pub mod CarriedBodies
-pub mod Broken
 pub mod Named
-pub mod Existing
 pub mod Once
 pub mod Uses
-pub mod Owners
-pub mod Held
 pub mod Told
 pub mod Mentioned
+pub mod InBodies
+pub mod Owners
+pub mod Held

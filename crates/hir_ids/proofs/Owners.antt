@@ -8,9 +8,11 @@ use Rattle.hir_raw.specs.declared.raw.RawAlias.{RawAlias}
 use Rattle.hir_raw.specs.declared.raw.RawFacts.{RawFacts}
 use Rattle.hir_ids.specs.declared.namers.Namers.{Namers}
 use Rattle.hir_ids.specs.Namers.{IsNamedBy, IsOne}
-use Rattle.hir_ids.specs.Ids.{owned_bodies, AreOwners, BodyIdsHere, BodyIdsExist, listed_variants, AreListers, VariantIdsHere, VariantIdsExist}
-use Rattle.hir_ids.specs.GoalIds.{listed_aliases, AreAliasListers, AliasIdsHere, AliasIdsExist}
-use Rattle.hir_ids.proofs.Existing.{exists_from_here, here_from_exists}
+use Rattle.hir_ids.specs.InBody.{BodyIdsHere, AreOwners, AreListers}
+use Rattle.hir_facts.specs.Ids.{owned_bodies, BodyIdsExist, listed_variants, VariantIdsHere, VariantIdsExist}
+use Rattle.hir_facts.specs.GoalIds.{listed_aliases, AliasIdsHere, AliasIdsExist}
+use Rattle.hir_ids.specs.AliasListers.{AreAliasListers}
+use Rattle.hir_ids.proofs.InBodies.{exists_from_here, here_from_exists}
 use Rattle.hir_ids.proofs.Once.{once_from_one, one_from_once, named_at}
 
 owner_at : (raw : RawFacts) (xs : List Namers) (i : ℕ) (b : RawBody) (x : Namers) → AreOwners raw xs → slice_get raw.bodies i ≡ Some b → x ≡ get_or xs i x → IsNamedBy (owned_bodies raw) (length (owned_bodies raw)) i x

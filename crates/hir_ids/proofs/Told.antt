@@ -27,11 +27,11 @@ told_more f old now new xs i x lt is before pushed =
     pushed ∙ (ap (λ (ms : List _). ms ++ f i x) before ∙ (append_assoc old (each f 0 (take i xs)) (f i x) ∙ ap (λ (ms : List _). old ++ ms) (sym (each_more f xs i x lt is))))
 
 -- the same where their positions are not said
-pub said_more : {A : Type 0} (f : A → List Mention) (n : ℕ) (old now new : List Said) (xs : List A) (i : ℕ) (x : A) → i < length xs → x ≡ get_or xs i x
-    → now ≡ old ++ said n (flat_map f (take i xs)) → new ≡ now ++ said n (f x) → new ≡ old ++ said n (flat_map f (take (i + 1) xs))
-said_more {A} f n old now new xs i x lt is before pushed =
-    let longer : take (i + 1) xs ≡ take i xs ++ x ∷ [] = take_more xs i x lt ∙ ap (λ y. take i xs ++ y ∷ []) (sym is) in
+pub said_more : {A : Type 0} (f : A → List Mention) (n : ℕ) (old now new : List Said) (xs : List A) (i : ℕ) (d : A) → i < length xs
+    → now ≡ old ++ said n (flat_map f (take i xs)) → new ≡ now ++ said n (f (get_or xs i d)) → new ≡ old ++ said n (flat_map f (take (i + 1) xs))
+said_more {A} f n old now new xs i d lt before pushed =
+    let x : A = get_or xs i d in
     let one : flat_map f (x ∷ []) ≡ f x = append-nil (f x) in
-    let more : flat_map f (take (i + 1) xs) ≡ flat_map f (take i xs) ++ f x = ap (flat_map f) longer ∙ (flat_map-append f (take i xs) (x ∷ []) ∙ ap (λ (ms : List Mention). flat_map f (take i xs) ++ ms) one) in
+    let more : flat_map f (take (i + 1) xs) ≡ flat_map f (take i xs) ++ f x = ap (flat_map f) (take_more xs i d lt) ∙ (flat_map-append f (take i xs) (x ∷ []) ∙ ap (λ (ms : List Mention). flat_map f (take i xs) ++ ms) one) in
     let all : said n (flat_map f (take (i + 1) xs)) ≡ said n (flat_map f (take i xs)) ++ said n (f x) = ap (said n) more ∙ map-append _ (flat_map f (take i xs)) (f x) in
     pushed ∙ (ap (λ (ms : List Said). ms ++ said n (f x)) before ∙ (append_assoc old (said n (flat_map f (take i xs))) (said n (f x)) ∙ ap (λ (ms : List Said). old ++ ms) (sym all)))

@@ -1,7 +1,4 @@
-pub mod Entries
-pub mod Carried
-pub mod Ids
 pub mod Namers
-pub mod Lowered
-pub mod Projections
-pub mod GoalIds
+pub mod InBody
+pub mod AliasListers
+pub mod Marked

@@ -1,5 +1,6 @@
--- Which entries of a list name a place.
+-- Which entries of a list name a place, as they are found.
 use Rattle.std.specs.Prelude.{ℕ, ◌<◌, ◌≡◌, List, length, slice_get, slice_index_or, Option, Some}
+use Rattle.hir_facts.specs.Named.{IsNamedAt}
 use Rattle.hir_ids.specs.declared.namers.Namers.{Namers}
 use Rattle.hir_ids.specs.declared.namers.Namers.TheVariants.{Nobody, One, Several}
 
@@ -8,10 +9,6 @@ abbrev pub and_one : Namers → ℕ → Namers
 and_one Nobody k = One k
 and_one (One j) k = Several
 and_one Several k = Several
-
--- entry k names the place t
-abbrev pub IsNamedAt : List (Option ℕ) → ℕ → ℕ → Type 0
-IsNamedAt targets t k = slice_get targets k ≡ Some (Some t)
 
 -- of the first n entries, none names the place t, or entry k alone, or several do
 abbrev pub IsNamedBy : List (Option ℕ) → ℕ → ℕ → Namers → Type 0
@@ -25,16 +22,6 @@ IsNamedBy targets n t Several =
 pub record AreNamers (targets : List (Option ℕ)) (n count : ℕ) (xs : List Namers) : Type 0 where
   pub size : length xs ≡ count
   pub each : (t : ℕ) → t < count → IsNamedBy targets n t (slice_index_or xs t Nobody)
-
--- one entry alone names the place t
-pub record NamedOnce (targets : List (Option ℕ)) (t : ℕ) : Type 0 where
-  pub entry : ℕ
-  pub names : IsNamedAt targets t entry
-  pub only : (k : ℕ) → IsNamedAt targets t k → k ≡ entry
-
--- no entry names the place t
-abbrev pub IsUnnamed : List (Option ℕ) → ℕ → Type 0
-IsUnnamed targets t = (k : ℕ) → IsNamedAt targets t k → ⊥
 
 abbrev pub IsNobody : Namers → Type 0
 IsNobody Nobody = Unit {0}

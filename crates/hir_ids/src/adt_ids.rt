@@ -2,7 +2,8 @@
 ghost use Rattle.std.specs.Prelude.{◌≡◌, ◌↔◌, ◌<◌, ◌++◌, ℕ, Some, slice_get, length, map, IsTrue, IfOk, IfSome, OnOk};
 ghost use Rattle.hir_types.specs.declared.ids.VariantId.{VariantId};
 ghost use Rattle.hir_raw.specs.declared.raw.RawField.{RawField};
-ghost use Rattle.hir_ids.specs.Ids.{AreListers, IsVariantOf, AdtIdsExist, listed_variants, FieldIdsExist, VariantIdsHere, VariantIdsExist};
+ghost use Rattle.hir_ids.specs.InBody.{AreListers};
+ghost use Rattle.hir_facts.specs.Ids.{IsVariantOf, AdtIdsExist, listed_variants, FieldIdsExist, VariantIdsHere, VariantIdsExist};
 
 use crate::goal_ids::have_goal_ids;
 use crate::ids::has_vis;

@@ -2,7 +2,8 @@
 ghost use Rattle.std.specs.Prelude.{◌≡◌, ◌↔◌, ◌++◌, ℕ, Some, slice_get, map, IsTrue, IfOk, IfSome, OnOk};
 ghost use Rattle.hir_types.specs.declared.ids.TypeAliasId.{TypeAliasId};
 ghost use Rattle.hir_raw.specs.declared.raw.RawAssocType.{RawAssocType};
-ghost use Rattle.hir_ids.specs.GoalIds.{AreAliasListers, TraitRefExists, GoalExists, GoalsExist, IsAliasOf, TraitIdsExist, AliasIdsHere, AliasIdsExist, IsGivenIn, ImplIdsExist, LangExists, listed_aliases};
+ghost use Rattle.hir_ids.specs.AliasListers.{AreAliasListers};
+ghost use Rattle.hir_facts.specs.GoalIds.{TraitRefExists, GoalExists, GoalsExist, IsAliasOf, TraitIdsExist, AliasIdsHere, AliasIdsExist, IsGivenIn, ImplIdsExist, LangExists, listed_aliases};
 
 use crate::ids::are_below;
 use crate::namers::{Namers, is_one, namers_of};

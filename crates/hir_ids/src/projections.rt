@@ -5,7 +5,8 @@ ghost use Rattle.hir_raw.specs.Hidden.{is_alias};
 ghost use Rattle.hir_raw.specs.WrittenTypes.{type_parts};
 ghost use Rattle.hir_raw.specs.declared.raw.RawCtor.TheVariants as ctor;
 ghost use Rattle.hir_raw.specs.declared.raw.RawField.{RawField};
-ghost use Rattle.hir_ids.specs.Projections.{AreMarked, IsNoProjection};
+ghost use Rattle.hir_ids.specs.Marked.{AreMarked};
+ghost use Rattle.hir_facts.specs.Projections.{IsNoProjection};
 
 use hir_raw::{RawCtor, RawFacts, RawField, RawType, RawVariant};
 use hir_types::TypeRefId;

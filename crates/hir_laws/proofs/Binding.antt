@@ -13,9 +13,10 @@ use Rattle.hir_ids.specs.declared.namers.Namers.TheVariants.{Nobody, One, Severa
 use Rattle.hir_raw.specs.declared.schedule.Schedule.{Schedule}
 use Rattle.hir_raw.specs.Order.{Binds, binding_of, IsTree, IsSchedule, AreDepths}
 use Rattle.hir_raw.proofs.Ways.{tree_of_schedule}
-use Rattle.hir_ids.specs.Namers.{IsNamedAt, IsNamedBy}
+use Rattle.hir_facts.specs.Named.{IsNamedAt}
+use Rattle.hir_ids.specs.Namers.{IsNamedBy}
 use Rattle.hir_laws.specs.Binders.{bound_binding, AreBinders, is_self, is_bound_once}
-use Rattle.hir_laws.specs.Trees.{BoundBySelf, BoundByPattern, IsWellFormed}
+use Rattle.hir_facts.specs.Trees.{BoundBySelf, BoundByPattern, IsWellFormed}
 
 same_binding : (v w : BindingId) → v.0 ≡ w.0 → v ≡ w
 same_binding v w e = λ i. record { 0 = e i }

@@ -2,7 +2,7 @@
 use Rattle.std.proofs.Common.{◌++◌}
 use Rattle.hir_raw.specs.declared.raw.RawFacts.{RawFacts}
 use Rattle.hir_laws.specs.declared.facts_error.FactsError.{FactsError}
-use Rattle.hir_laws.specs.Lawful.{PassesAll, carried_tests, ids_tests, counts_tests, trees_tests, scopes_tests, sizes_tests, limits_tests, lang_tests, literals_tests, holes_tests, tests}
+use Rattle.hir_facts.specs.Lawful.{PassesAll, carried_tests, ids_tests, counts_tests, trees_tests, scopes_tests, sizes_tests, limits_tests, lang_tests, literals_tests, holes_tests, tests}
 use Rattle.hir_laws.specs.Refused.{Refuses}
 use Rattle.hir_laws.proofs.Refusals.{refused_after, refused_before}
 

@@ -2,12 +2,7 @@ pub mod Allowed
 pub mod Binding
 pub mod Digits
 pub mod FieldNames
-pub mod Items
 pub mod LateLaws
-pub mod NoAliases
-pub mod OpenedTypes
 pub mod PatternLiterals
 pub mod Refusals
 pub mod Scoping
-pub mod Walkable
-pub mod Below

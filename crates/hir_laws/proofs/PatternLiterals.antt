@@ -10,9 +10,10 @@ use Rattle.hir_raw.specs.declared.raw.RawPat.TheVariants as pat
 use Rattle.hir_raw.specs.declared.raw.RawBody.{RawBody}
 use Rattle.hir_ids.specs.declared.namers.Namers.{Namers}
 use Rattle.hir_ids.specs.declared.namers.Namers.TheVariants.{Nobody, One, Several}
-use Rattle.hir_ids.specs.Entries.{AllHold}
-use Rattle.hir_ids.specs.Namers.{IsNamedAt, IsNamedBy}
-use Rattle.hir_laws.specs.Literals.{IsPatternOf, LiteralsFit}
+use Rattle.hir_facts.specs.Entries.{AllHold}
+use Rattle.hir_facts.specs.Named.{IsNamedAt}
+use Rattle.hir_ids.specs.Namers.{IsNamedBy}
+use Rattle.hir_facts.specs.Literals.{IsPatternOf, LiteralsFit}
 use Rattle.hir_laws.specs.InBits.{literal_of, ArePatterns, IsSomeones, ExprIsInBits, PatIsLiteral}
 
 place_at : (o : Option RawPat) (t : ℕ) → option_map literal_of o ≡ Some (Some t) → o ≡ Some (pat.Lit (record { 0 = t }))

@@ -20,11 +20,11 @@ use Rattle.hir_raw.proofs.Ways.{schedule_unique}
 use Rattle.hir_ids.specs.Namers.{IsNamedBy}
 use Rattle.hir_ids.specs.InBody.{LocalsExist}
 use Rattle.hir_laws.specs.Binders.{bound_binding, AreBinders, HasTypedLocal, is_self, comes_before, is_typed_before}
-use Rattle.hir_laws.specs.Trees.{BoundBySelf, BoundByPattern, IsWellFormed}
-use Rattle.hir_laws.specs.Scopes.{IsTypedBefore, AreInScope, ScopesHold}
+use Rattle.hir_facts.specs.Trees.{BoundBySelf, BoundByPattern, IsWellFormed}
+use Rattle.hir_facts.specs.Scopes.{IsTypedBefore, AreInScope, ScopesHold}
 use Rattle.hir_laws.proofs.Binding.{binds_from_named, named_from_binds, pat_within, self_from, is_self_from}
-use Rattle.hir_ids.specs.Entries.{AllHold}
-use Rattle.hir_laws.specs.Scheduled.{AreSchedules}
+use Rattle.hir_facts.specs.Entries.{AllHold}
+use Rattle.hir_facts.specs.Scheduled.{AreSchedules}
 
 -- the numbers of the first n bodies
 pub record ScheduledSoFar (bodies : List RawBody) (n : ℕ) (schedules : List Schedule) : Type 0 where
@@ -113,11 +113,3 @@ scopes_say b s told law low says = (λ h t other _. scope_moves b s t law other 
 
 pub deep_scopes : (b : RawBody) (told : Bool) → told ≡ false → (IsLow 256 b → IsTrue told) → (IsTrue true → ScopesHold b) × (ScopesHold b → IsTrue true)
 deep_scopes b told was says = (λ h s law low. absurd (let t : told ≡ true = says low in cc), λ hold. refl)
-
--- body i has its numbers
-pub scheduled_at : (bodies : List RawBody) (schedules items : List Schedule) (i : ℕ) (b : RawBody) (s : Schedule) → AreSchedules bodies schedules → slice_get bodies i ≡ Some b → items ≡ schedules → s ≡ get_or items i s → IsSchedule b s × AreDepths b s
-scheduled_at bodies schedules items i b s h found e is =
-    let within : i < length bodies = slice_get_within bodies i b found in
-    let size : length schedules ≡ length bodies = h.size in
-    let is2 : s ≡ get_or schedules i s = rw e at is in
-    h.each i b s found (slice_get_read schedules (length schedules) i s refl (omega arith) is2)

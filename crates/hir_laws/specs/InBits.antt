@@ -8,7 +8,7 @@ use Rattle.hir_raw.specs.declared.raw.RawBody.{RawBody}
 use Rattle.hir_ids.specs.declared.namers.Namers.{Namers}
 use Rattle.hir_ids.specs.declared.namers.Namers.TheVariants.{Nobody, One, Several}
 use Rattle.hir_ids.specs.Namers.{AreNamers}
-use Rattle.hir_laws.specs.Literals.{IsInBits, IsSignedInBits, IsLiteral}
+use Rattle.hir_facts.specs.Literals.{IsInBits, IsSignedInBits, IsLiteral}
 
 abbrev pub IsSmall : Option ℕ → Type 0
 IsSmall o = IsSomeAnd o (λ n. n < 2 ^ 128)

@@ -3,13 +3,14 @@ ghost use Rattle.std.specs.Prelude.{◌≡◌, ◌↔◌, ℕ, Some, IsTrue, sli
 ghost use Rattle.hir_raw.specs.declared.raw.RawExpr.{RawExpr};
 ghost use Rattle.hir_raw.specs.declared.raw.RawPat.{RawPat};
 ghost use Rattle.hir_raw.specs.Order.{IsSchedule, AreDepths};
-ghost use Rattle.hir_laws.specs.Scheduled.{AreSchedules};
-ghost use Rattle.hir_counts.specs.Sizes.{ExprIsShort, PatIsShort, BodyIsSmall};
+ghost use Rattle.hir_facts.specs.Scheduled.{AreSchedules};
+ghost use Rattle.hir_facts.specs.Sizes.{ExprIsShort, PatIsShort, BodyIsSmall};
 
 use crate::scopes::MOST_STEPS;
 use hir_counts::{is_early, is_short};
 use hir_ids::Test;
-use hir_raw::{RawBody, RawExpr, RawFacts, RawPat, Schedule, is_low};
+use hir_raw::{RawBody, RawExpr, RawFacts, RawPat, Schedule};
+use hir_schedule::is_low;
 use hir_types::List;
 use std::alloc::{AllocError, Global};
 

@@ -1,17 +1,16 @@
 //! The tests of the laws, in their order.
 ghost use Rattle.std.specs.Prelude.{◌≡◌, IfOk, IfErr, MatchOption, Ok, Err};
-ghost use Rattle.hir_ids.specs.Entries.{AllHold};
-ghost use Rattle.hir_ids.specs.Ids.{TypeIdsExist, BodyIdsExist};
-ghost use Rattle.hir_laws.specs.Trees.{IsWellFormed};
-ghost use Rattle.hir_laws.specs.Scheduled.{AreSchedules};
-ghost use Rattle.hir_laws.specs.Lawful.{IsLawful, PassesAll, item_tests, unread_tests, abstract_tests, body_tests, carried_tests, ids_tests, counts_tests, trees_tests, scopes_tests, sizes_tests, limits_tests, lang_tests, literals_tests, holes_tests, tests};
+ghost use Rattle.hir_facts.specs.Entries.{AllHold};
+ghost use Rattle.hir_facts.specs.Ids.{TypeIdsExist, BodyIdsExist};
+ghost use Rattle.hir_facts.specs.Trees.{IsWellFormed};
+ghost use Rattle.hir_facts.specs.Scheduled.{AreSchedules};
+ghost use Rattle.hir_facts.specs.Lawful.{IsLawful, PassesAll, item_tests, unread_tests, abstract_tests, body_tests, carried_tests, ids_tests, counts_tests, trees_tests, scopes_tests, sizes_tests, limits_tests, lang_tests, literals_tests, holes_tests, tests};
 ghost use Rattle.hir_laws.specs.Refused.{Refuses};
 
 use crate::body_sizes::BodySizes;
 use crate::facts_error::FactsError;
 use crate::fields::FieldNames;
 use crate::lang::LangShapes;
-use crate::laws::{FactsList, Law};
 use crate::limits::LimitsInRange;
 use crate::literals::LiteralsInBits;
 use crate::scopes::{Scopes, schedules_of};
@@ -21,6 +20,7 @@ use hir_counts::{
     LangEarly, ModulesEarly, Standing, TraitCounts, TraitSizes, TypeSizes, VariantCounts,
     VariantSizes,
 };
+use hir_facts::{FactsList, Law};
 use hir_ids::{
     AdtIds, AdtsCarried, AliasIds, AliasesCarried, BodiesCarried, BodyIds, FnIds, FnsCarried,
     ImplIds, ImplsCarried, LangCarried, LangIds, ModuleIds, ProjectionMarks, TraitIds,

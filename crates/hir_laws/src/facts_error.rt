@@ -1,5 +1,5 @@
 //! Why facts are refused.
-use crate::laws::{FactsList, Law};
+use hir_facts::{FactsList, Law};
 use std::alloc::{AllocError, AllocFailed};
 use thiserror::Error;
 

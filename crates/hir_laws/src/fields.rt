@@ -2,8 +2,9 @@
 ghost use Rattle.std.specs.Prelude.{◌≡◌, ◌↔◌, ◌<◌, ℕ, Some, slice_get, length, ◌^◌, IsTrue, IfOk};
 ghost use Rattle.std.specs.Fmt.{decimal};
 ghost use Rattle.hir_raw.specs.declared.raw.RawField.{RawField};
-ghost use Rattle.hir_ids.specs.Entries.{AllHold};
-ghost use Rattle.hir_laws.specs.Fields.{IsNew, NamesFit};
+ghost use Rattle.hir_facts.specs.Entries.{AllHold};
+ghost use Rattle.hir_laws.specs.NewNames.{IsNew};
+ghost use Rattle.hir_facts.specs.Fields.{NamesFit};
 
 use hir_ids::Test;
 use hir_raw::{RawCtor, RawFacts, RawField, RawVariant};

@@ -1,6 +1,6 @@
 //! Language items have the shape that they are known by.
 ghost use Rattle.std.specs.Prelude.{◌≡◌, ◌↔◌, IsTrue};
-ghost use Rattle.hir_laws.specs.Lang.{HasNoParams, LangFits};
+ghost use Rattle.hir_facts.specs.Lang.{HasNoParams, LangFits};
 
 use hir_ids::Test;
 use hir_raw::{RawFacts, RawLang};

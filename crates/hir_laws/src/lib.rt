@@ -1,4 +1,4 @@
-//! The laws of facts, all of them: the laws of bodies, and the test of each law in its order.
+//! The tests of the laws of facts in their order, and the facts that pass.
 #![tactic(auto)]
 
 mod body_sizes;
@@ -6,12 +6,11 @@ mod checks;
 mod facts_error;
 mod fields;
 mod lang;
-mod laws;
+mod lawful;
 mod limits;
 mod literals;
 mod scopes;
 mod trees;
 
-pub use checks::check;
 pub use facts_error::FactsError;
-pub use laws::{FactsList, Law};
+pub use lawful::lawful_facts;

@@ -1,6 +1,6 @@
 //! The limits are in their ranges.
 ghost use Rattle.std.specs.Prelude.{◌≡◌};
-ghost use Rattle.hir_laws.specs.Limits.{limits_of, most_at, IsInRange};
+ghost use Rattle.hir_facts.specs.Limits.{limits_of, most_at, IsInRange};
 
 use hir_ids::Test;
 use hir_raw::RawFacts;

@@ -4,17 +4,18 @@ ghost use Rattle.hir_raw.specs.Order.{PartsFit, IsTree, IsSchedule, AreDepths, n
 ghost use Rattle.hir_ids.specs.declared.namers.Namers.TheVariants.{Nobody};
 ghost use Rattle.hir_raw.specs.declared.raw.RawExpr.TheVariants.{Path};
 ghost use Rattle.hir_raw.specs.declared.raw.RawPath.TheVariants.{Local};
-ghost use Rattle.hir_ids.specs.Entries.{AllHold};
-ghost use Rattle.hir_ids.specs.Ids.{BodyIdsExist};
+ghost use Rattle.hir_facts.specs.Entries.{AllHold};
+ghost use Rattle.hir_facts.specs.Ids.{BodyIdsExist};
 ghost use Rattle.hir_ids.specs.InBody.{LocalsExist};
-ghost use Rattle.hir_laws.specs.Trees.{IsWellFormed};
-ghost use Rattle.hir_laws.specs.Scopes.{AreInScope, ScopesHold};
+ghost use Rattle.hir_facts.specs.Trees.{IsWellFormed};
+ghost use Rattle.hir_facts.specs.Scopes.{AreInScope, ScopesHold};
 ghost use Rattle.hir_laws.specs.Binders.{IsWithin, comes_before, is_typed_before, HasTypedLocal};
-ghost use Rattle.hir_laws.specs.Scheduled.{AreSchedules};
+ghost use Rattle.hir_facts.specs.Scheduled.{AreSchedules};
 
 use crate::trees::{binders_of, is_self};
 use hir_ids::{Namers, Test};
-use hir_raw::{RawBody, RawExpr, RawFacts, RawPath, Schedule, is_low, schedule_of};
+use hir_raw::{RawBody, RawExpr, RawFacts, RawPath, Schedule};
+use hir_schedule::{is_low, schedule_of};
 use hir_types::List;
 use std::alloc::{AllocError, Global};
 

@@ -2,6 +2,4 @@ pub mod PlainAdts
 pub mod Spreading
 pub mod UsersOf
 pub mod PlainGraph
-pub mod PlainFns
-pub mod PlainSamples
-pub mod Below
+pub mod FnMarks

@@ -3,7 +3,7 @@ use Rattle.std.specs.Prelude.{ℕ, Bool, IsTrue}
 use Rattle.hir_raw.specs.declared.raw.RawType.{RawType}
 use Rattle.hir_raw.specs.declared.raw.RawType.TheVariants as type
 use Rattle.hir_raw.specs.declared.raw.RawFacts.{RawFacts}
-use Rattle.hir_plain.specs.Plain.{IsPlainKind, IsPlainType, plain, IsPlainWhere, IsPlainSet, IsPlainAdt}
+use Rattle.hir_facts.specs.Plain.{IsPlainKind, IsPlainType, plain, IsPlainWhere, IsPlainSet, IsPlainAdt}
 
 kind_more : (raw : RawFacts) (P Q : ℕ → Type 0) (n : ℕ) → ((a : ℕ) → P a → Q a) → (x : RawType) → IsPlainKind raw P n x → IsPlainKind raw Q n x
 kind_more raw P Q n more type.Bool h = h

@@ -14,18 +14,20 @@ use Rattle.hir_raw.specs.declared.raw.RawVariant.{RawVariant}
 use Rattle.hir_raw.specs.declared.raw.RawFacts.{RawFacts}
 use Rattle.hir_raw.specs.Hidden.{is_alias}
 use Rattle.hir_raw.specs.WrittenTypes.{type_parts}
-use Rattle.hir_raw.specs.Graph.{KidsFit, Edge, kids_of}
-use Rattle.hir_laws.specs.NoHoles.{In, in_first, in_last}
-use Rattle.hir_ids.specs.Ids.{ItemExists, IsVariantOf}
-use Rattle.hir_ids.specs.Projections.{is_one, in_part, IsNoProjection}
-use Rattle.hir_laws.specs.WrittenFits.{FitsThere, FitsUnder, OwnFits, fits_direct, own_fits, parts_fit, fields_fit}
-use Rattle.hir_laws.specs.Lawful.{IsLawful}
-use Rattle.hir_laws.specs.LawfulFacts.{type_ids, type_ids_exist, adt_ids, types_small}
-use Rattle.hir_plain.specs.Spread.{IsMarked, IsUnmarked, ComesToBad, is_bad, by_child, AreGood}
-use Rattle.hir_plain.specs.Plain.{has_plain_params, fields_by, adt_fields, IsPlainKind, IsPlainType, plain, IsPlainWhere, IsPlainSet, IsPlainAdt}
+use Rattle.hir_schedule.specs.Graph.{KidsFit, Edge, kids_of}
+use Rattle.hir_facts.specs.NoHoles.{In, in_first, in_last}
+use Rattle.hir_facts.specs.Ids.{ItemExists, IsVariantOf}
+use Rattle.hir_facts.specs.Projections.{is_one, in_part, IsNoProjection}
+use Rattle.hir_facts.specs.WrittenFits.{FitsThere, FitsUnder, OwnFits, fits_direct, own_fits, parts_fit, fields_fit}
+use Rattle.hir_facts.specs.Lawful.{IsLawful}
+use Rattle.hir_facts.specs.LawfulFacts.{type_ids, type_ids_exist, adt_ids, types_small}
+use Rattle.hir_facts.specs.PlainMarks.{IsMarked, ArePlainNodes}
+use Rattle.hir_plain.specs.Spread.{IsUnmarked, ComesToBad, is_bad, by_child, AreGood}
+use Rattle.hir_facts.specs.Plain.{has_plain_params, fields_by, adt_fields, IsPlainKind, IsPlainType, plain, IsPlainWhere, IsPlainSet, IsPlainAdt}
 use Rattle.hir_plain.proofs.PlainAdts.{type_more, in_plain_set, plain_where_plain}
-use Rattle.hir_plain.specs.PlainMarks.{named_adt, type_children, field_ids, adt_children, plain_graph, is_fine_type, fine_nodes, ArePlainNodes}
-use Rattle.hir_plain.proofs.Spreading.{marked_or_not, marked_inside, in_split, edge_inside}
+use Rattle.hir_plain.specs.PlainGraph.{named_adt, type_children, field_ids, adt_children, plain_graph, is_fine_type, fine_nodes}
+use Rattle.hir_plain.proofs.Spreading.{marked_or_not, in_split, edge_inside}
+use Rattle.hir_facts.proofs.PlainFns.{marked_inside}
 
 -- ---- lists
 
@@ -155,15 +157,6 @@ module _ (raw : RawFacts) (law : IsLawful raw) where
       let b : length (map (adt_children raw.variants) raw.adts) ≡ length raw.adts = length-map raw.adts (adt_children raw.variants) in
       let c : length (plain_graph raw) ≡ length (map (type_children count) raw.types) + length (map (adt_children raw.variants) raw.adts) = length-append (map (type_children count) raw.types) (map (adt_children raw.variants) raw.adts) in
       omega arith
-
-  pub few_types : length raw.types < 2 ^ 32
-  few_types = elim (cases_lt (length raw.types) (2 ^ 32)) [
-    | inl lt ↦ lt
-    | inr ge ↦ absurd (
-        let x = there raw.types (2 ^ 20) (omega arith) in
-        let early : 2 ^ 20 < 2 ^ 20 = (types_small raw law (2 ^ 20) x.0 x.1).early in
-        omega arith)
-  ]
 
   -- ---- children
 

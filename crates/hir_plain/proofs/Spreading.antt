@@ -3,9 +3,11 @@ use Rattle.std.proofs.Common.{◌≡◌, ◌⊎◌, inl, inr, ℕ, zero, suc, �
 use Rattle.std.specs.Prelude.{slice_get, slice_set, if◌then◌else◌}
 use Rattle.std.proofs.lemmas.Bool.{cases_lt, cases_eq}
 use Rattle.std.proofs.lemmas.List.{get_or_past, length_push}
-use Rattle.hir_raw.specs.Graph.{KidsFit, Edge, kids_of}
-use Rattle.hir_laws.specs.NoHoles.{In, in_first, in_last}
-use Rattle.hir_plain.specs.Spread.{IsMarked, IsUnmarked, ComesToBad, is_bad, by_child, users_at, AreUsers, Marks, unmarked}
+use Rattle.hir_schedule.specs.Graph.{KidsFit, Edge, kids_of}
+use Rattle.hir_facts.specs.NoHoles.{In, in_first, in_last}
+use Rattle.hir_facts.specs.PlainMarks.{IsMarked}
+use Rattle.hir_facts.proofs.PlainFns.{marked_inside}
+use Rattle.hir_plain.specs.Spread.{IsUnmarked, ComesToBad, is_bad, by_child, users_at, AreUsers, Marks, unmarked}
 
 told : (b : Bool) → (b ≡ true) ⊎ (b ≡ false)
 told true = inl refl
@@ -13,12 +15,6 @@ told false = inr refl
 
 pub marked_or_not : (marks : List Bool) (n : ℕ) → IsMarked marks n ⊎ IsUnmarked marks n
 marked_or_not marks n = told (get_or marks n false)
-
-pub marked_inside : (marks : List Bool) (n : ℕ) → IsMarked marks n → n < length marks
-marked_inside marks n h = elim (cases_lt n (length marks)) [
-  | inl lt ↦ lt
-  | inr ge ↦ absurd (let e : get_or marks n false ≡ false = get_or_past marks n false ge in cc)
-]
 
 pub in_split : {X : Type 0} (xs ys : List X) (x : X) → In (xs ++ ys) x → In xs x ⊎ In ys x
 in_split [] ys x h = inr h

@@ -1,6 +1,2 @@
-pub mod Plain
-pub mod PlainTypes
 pub mod Spread
-pub mod PlainMarks
-pub mod Sized
-pub mod Below
+pub mod PlainGraph

@@ -1,13 +1,11 @@
 -- The nodes of a graph from which no way leads to a bad node, and how they are found.
 use Rattle.std.specs.Prelude.{ℕ, ◌<◌, ◌≡◌, ◌⊎◌, Bool, true, false, List, [], ◌∷◌, ◌++◌, length, get_or, slice_set, if◌then◌else◌}
-use Rattle.hir_raw.specs.Graph.{Edge}
-use Rattle.hir_laws.specs.NoHoles.{In}
+use Rattle.hir_schedule.specs.Graph.{Edge}
+use Rattle.hir_facts.specs.NoHoles.{In}
+use Rattle.hir_facts.specs.PlainMarks.{IsMarked}
 use Rattle.hir_plain.specs.declared.spread.Spread.{Spread}
 
--- the node n is marked
-abbrev pub IsMarked : List Bool → ℕ → Type 0
-IsMarked marks n = get_or marks n false ≡ true
-
+-- the node n is not marked
 abbrev pub IsUnmarked : List Bool → ℕ → Type 0
 IsUnmarked marks n = get_or marks n false ≡ false
 

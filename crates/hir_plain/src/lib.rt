@@ -1,9 +1,7 @@
-//! Which written types, adts and functions of lawful facts are plain.
+//! How plain written types, adts and functions of lawful facts are found.
 #![tactic(auto)]
 
 mod plain;
-mod sized;
 mod spread;
 
-pub use hir_laws::{FactsError, FactsList, Law, check};
-pub use plain::{PlainMarks, has_sized_params, mark_at};
+pub use plain::plain_marks;

@@ -1,27 +1,17 @@
 //! Which written types, adts and functions are plain.
-ghost use Rattle.std.specs.Prelude.{◌≡◌, ◌↔◌, ◌<◌, ◌^◌, ◌++◌, ℕ, Some, map, length, slice_get, slice_index_or, false, IfOk, IsTrue, OnOk};
+ghost use Rattle.std.specs.Prelude.{◌≡◌, ◌↔◌, ◌<◌, ◌^◌, ◌++◌, ℕ, Some, map, length, slice_get, IfOk, IsTrue, OnOk};
 ghost use Rattle.hir_types.specs.declared.ids.TypeRefId.{TypeRefId};
-ghost use Rattle.hir_laws.specs.Lawful.{IsLawful};
-ghost use Rattle.hir_plain.specs.Spread.{IsMarked};
-ghost use Rattle.hir_plain.specs.Plain.{is_plain_adt_kind, has_plain_params, has_plain_header, IsPlainSignature, HasSizedParams};
-ghost use Rattle.hir_plain.specs.PlainMarks.{named_adt, type_children, field_ids, adt_children, plain_graph, is_fine_type, fine_nodes, ArePlainNodes, HasMarkedSignature, ArePlainMarks};
+ghost use Rattle.hir_facts.specs.Lawful.{IsLawful};
+ghost use Rattle.hir_facts.specs.PlainMarks.{IsMarked, ArePlainNodes, ArePlainMarks};
+ghost use Rattle.hir_facts.specs.Plain.{is_plain_adt_kind, has_plain_params, has_plain_header, IsPlainSignature};
+ghost use Rattle.hir_plain.specs.PlainGraph.{named_adt, type_children, field_ids, adt_children, plain_graph, is_fine_type, fine_nodes, HasMarkedSignature};
 
-use crate::sized::{are_sized_preds, is_sized_param};
 use crate::spread::good_nodes;
+use hir_facts::{PlainMarks, are_sized_preds, mark_at};
 use hir_ids::are_type_params;
 use hir_raw::{RawAdt, RawAdtKind, RawAt, RawFacts, RawField, RawFn, RawType, RawVariant};
 use hir_types::{List, TypeRefId, VariantId};
 use std::alloc::{AllocError, Global};
-
-/// Whether a mark stands at a position, past the end too.
-pub fn mark_at(marks: &[bool], at: usize) -> bool
-    ensures { result ≡ slice_index_or marks.now at false }
-{
-    match marks.get(at) {
-        None => false,
-        Some(mark) => *mark,
-    }
-}
 
 fn push_ids(out: &mut Vec<usize>, types: &[TypeRefId]) -> Result<(), AllocError>
     ensures { OnOk result (out.new.items ≡ out.old.items ++ map (λ t. t.0) types.now) }
@@ -146,18 +136,6 @@ fn is_fine_type(ty: &RawType) -> bool
     }
 }
 
-/// Whether each type parameter of a function has a predicate that it has a size.
-pub fn has_sized_params(raw: &RawFacts, function: &RawFn) -> bool
-    ensures { IsTrue result ↔ HasSizedParams raw.now function.now }
-{
-    for param in 0..function.params.len() {
-        if !is_sized_param(raw, function.preds.as_slice(), param) {
-            return false;
-        }
-    }
-    true
-}
-
 fn is_plain_kind(kind: RawAdtKind) -> bool
     ensures { result ≡ is_plain_adt_kind kind }
 {
@@ -238,29 +216,18 @@ fn has_plain_signature(raw: &RawFacts, nodes: &[bool], _at: usize, function: &Ra
     has_marked_signature(raw, nodes, function)
 }
 
-/// Which written types, adts and functions are plain.
-#[derive(Debug, Drop)]
-pub struct PlainMarks {
-    /// Of the written types, and then of the adts.
-    pub nodes: List<bool>,
-    /// Of the functions, by their signatures.
-    pub fns: List<bool>,
-}
-
-impl PlainMarks {
-    /// Finds them out.
-    pub fn new(alloc: Global, raw: &RawFacts) -> Result<PlainMarks, AllocError>
-        requires { IsLawful raw.now }
-        ensures { IfOk result (λ marks. ArePlainMarks raw.now marks) }
-    {
-        let nodes = plain_nodes(alloc, raw)?;
-        let mut fns = List::new(alloc);
-        for (at, function) in raw.fns.as_slice().iter().enumerate() {
-            fns.push(has_plain_signature(raw, &nodes, at, function))?;
-        }
-        Ok(PlainMarks {
-            nodes: List::from_vec(nodes),
-            fns,
-        })
+/// Finds out which written types, adts and functions are plain.
+pub fn plain_marks(alloc: Global, raw: &RawFacts) -> Result<PlainMarks, AllocError>
+    requires { IsLawful raw.now }
+    ensures { IfOk result (λ marks. ArePlainMarks raw.now marks) }
+{
+    let nodes = plain_nodes(alloc, raw)?;
+    let mut fns = List::new(alloc);
+    for (at, function) in raw.fns.as_slice().iter().enumerate() {
+        fns.push(has_plain_signature(raw, &nodes, at, function))?;
     }
+    Ok(PlainMarks {
+        nodes: List::from_vec(nodes),
+        fns,
+    })
 }

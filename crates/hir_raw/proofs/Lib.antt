@@ -1,10 +1,2 @@
 pub mod Aliases
 pub mod Ways
-pub mod Walking
-pub mod Advances
-pub mod Departs
-pub mod Numbers
-pub mod Steps
-pub mod NodeLists
-pub mod Bodies
-pub mod Schedules

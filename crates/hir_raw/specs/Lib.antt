@@ -8,8 +8,5 @@ pub mod Scope
 pub mod Fit
 pub mod Fitting
 pub mod Signatures
-pub mod Graph
-pub mod Visits
-pub mod Nodes
 pub mod Mentions
 pub mod Goals

@@ -3,11 +3,9 @@
 #![tactic(auto)]
 
 mod fit;
-mod graph;
 mod hidden;
 mod lets;
 mod mention;
-mod parts;
 mod raw;
 mod schedule;
 mod scope;
@@ -16,12 +14,11 @@ pub use fit::ty_fits;
 pub use hidden::{fn_aliases, fn_arity, less_variant_aliases, variant_aliases, variant_arity};
 pub use lets::{let_aliases, stmts_of};
 pub use mention::{LabelRole, Mention, Said};
-pub use parts::{nodes_of_body, nodes_of_expr, nodes_of_pat};
 pub use raw::{
     BindingAnnotation, Edition, HasGoals, Other, RawAdt, RawAdtKind, RawAlias, RawArgs, RawArm,
     RawAssocType, RawAt, RawBinding, RawBody, RawCtor, RawExpr, RawFacts, RawField, RawFn, RawGoal,
     RawImpl, RawLang, RawLimits, RawLiteral, RawParam, RawPat, RawPath, RawStmt, RawTrait,
     RawTraitRef, RawType, RawVariant, RawVis,
 };
-pub use schedule::{Schedule, is_low, schedule_of};
+pub use schedule::{Schedule, position_of};
 pub use scope::{alias_params, generic_params, has_associated, has_params, some_sized};

@@ -16,8 +16,8 @@ use Rattle.hir_raw.specs.declared.raw.RawBody.{RawBody}
 use Rattle.hir_raw.specs.declared.raw.RawExpr.TheVariants as expr
 use Rattle.hir_raw.specs.declared.raw.RawStmt.{RawStmt}
 use Rattle.hir_raw.specs.declared.schedule.Schedule.{Schedule}
-use Rattle.hir_ids.specs.Carried.{is_carried_stmt, is_carried_body}
-use Rattle.hir_ids.proofs.CarriedBodies.{list_all_at}
+use Rattle.hir_facts.specs.Carried.{is_carried_stmt, is_carried_body}
+use Rattle.hir_facts.proofs.CarriedBodies.{list_all_at}
 use Rattle.hir_facts.specs.CarriedTypes.{IsCarriedType, same_carried}
 use Rattle.hir_raw.specs.Order.{Node, Part, inner, tail, after, end, expr_part, stmt_parts, stmts_parts, stmts_of, maybe_part}
 use Rattle.infer_result.specs.Made.{IsMisfit}

@@ -11,21 +11,21 @@ use Rattle.hir_types.specs.Subst.{Assignment, folded}
 use Rattle.hir_types.specs.declared.ty.GenericArg.TheVariants as arg
 use Rattle.hir_types.specs.declared.ty.Ty.TheVariants as ty
 use Rattle.hir_types.specs.declared.head.HoleKind.TheVariants as kind
-use Rattle.hir_counts.specs.Most.{most_above}
-use Rattle.hir_ids.specs.Lowered.{filled_parts}
+use Rattle.hir_facts.specs.Most.{most_above}
+use Rattle.hir_facts.specs.Lowered.{filled_parts}
 use Rattle.hir_facts.specs.Filled.{filled_agree, filled_folded}
 use Rattle.hir_raw.specs.declared.raw.RawType.{RawType}
-use Rattle.hir_ids.specs.Entries.{AllHold}
-use Rattle.hir_ids.specs.Ids.{ChildrenBefore}
+use Rattle.hir_facts.specs.Entries.{AllHold}
+use Rattle.hir_facts.specs.Ids.{ChildrenBefore}
 use Rattle.hir_raw.specs.Hidden.{is_alias}
 use Rattle.hir_raw.specs.Masked.{alias_is_hole, other_is_itself}
 use Rattle.hir_raw.specs.WrittenTypes.{type_parts, filled_by, filled, StandsIn, is_itself, in_part}
 use Rattle.hir_raw.specs.declared.schedule.Schedule.{Schedule}
 use Rattle.hir_facts.specs.CarriedTypes.{IsCarriedType}
 use Rattle.hir_raw.specs.declared.raw.RawBody.{RawBody}
-use Rattle.hir_laws.specs.Lawful.{IsLawful}
-use Rattle.hir_laws.specs.LawfulFacts.{type_ids}
-use Rattle.hir_laws.specs.LetFits.{masked_before}
+use Rattle.hir_facts.specs.Lawful.{IsLawful}
+use Rattle.hir_facts.specs.LawfulFacts.{type_ids}
+use Rattle.hir_facts.specs.LetFits.{masked_before}
 use Rattle.hir_raw.specs.declared.raw.RawType.TheVariants as type
 use Rattle.infer_table.proofs.HoleLaws.{grew_twice, grew_by_hole}
 use Rattle.infer_table.proofs.UndoLaws.{grew_itself}

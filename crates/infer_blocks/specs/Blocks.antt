@@ -10,7 +10,7 @@ use Rattle.hir_types.specs.declared.ids.ExprOrPatId.TheVariants as node
 use Rattle.hir_raw.specs.declared.raw.RawBody.{RawBody}
 use Rattle.hir_raw.specs.declared.raw.RawStmt.{RawStmt}
 use Rattle.hir_raw.specs.declared.schedule.Schedule.{Schedule}
-use Rattle.hir_ids.specs.Carried.{is_carried_stmt}
+use Rattle.hir_facts.specs.Carried.{is_carried_stmt}
 use Rattle.hir_raw.specs.Order.{inner, stmt_parts, stmt_at, after, maybe_part, tail}
 use Rattle.hir_raw.specs.declared.raw.RawExpr.TheVariants as expr
 use Rattle.infer_result.specs.Places.{Given, declared, AreRecorded}

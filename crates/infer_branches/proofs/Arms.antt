@@ -8,7 +8,7 @@ use Rattle.hir_types.specs.declared.ids.ExprOrPatId.TheVariants as node
 use Rattle.hir_raw.specs.declared.raw.RawArm.{RawArm}
 use Rattle.hir_raw.specs.Order.{guard, Part, arm_patterns, arms_parts, inner, after, expr_part, arm_pattern, pat_part, arm, maybe_part, arm_parts}
 use Rattle.hir_raw.specs.declared.raw.RawBody.{RawBody}
-use Rattle.hir_ids.specs.Carried.{is_carried_expr, is_carried_body}
+use Rattle.hir_facts.specs.Carried.{is_carried_expr, is_carried_body}
 use Rattle.hir_raw.specs.declared.schedule.Schedule.{Schedule}
 use Rattle.hir_raw.specs.declared.raw.RawExpr.TheVariants as expr
 use Rattle.infer_result.specs.Kinds.Match.{arm_exprs, ArmPatterns, GuardRule, ArmsRule, MatchRule}

@@ -21,10 +21,10 @@ use Rattle.hir_facts.specs.CarriedTypes.{is_carried_type, is_carried_arg, AreCar
 use Rattle.hir_raw.specs.WrittenTypes.{written_type}
 use Rattle.hir_raw.specs.declared.raw.RawAdt.{RawAdt}
 use Rattle.hir_raw.specs.declared.raw.RawField.{RawField}
-use Rattle.hir_laws.proofs.Items.{variant_adt, variant_ctor, unit_aliases}
-use Rattle.hir_laws.specs.Below.{IsModuleFn}
-use Rattle.hir_laws.specs.Lawful.{IsLawful}
-use Rattle.hir_laws.proofs.OpenedTypes.{Each, IsOver, over_input, over_output, over_field}
+use Rattle.hir_facts.proofs.Items.{variant_adt, variant_ctor, unit_aliases}
+use Rattle.hir_facts.specs.Ids.{IsModuleFn}
+use Rattle.hir_facts.specs.Lawful.{IsLawful}
+use Rattle.hir_facts.proofs.OpenedTypes.{Each, IsOver, over_input, over_output, over_field}
 use Rattle.hir_raw.specs.declared.raw.RawCtor.TheVariants as ctor
 use Rattle.infer_ctx.specs.Fine.{HasFineHeads, IsCarriedIn, Every}
 use Rattle.infer_ctx.specs.Under.{IsItem, IsVariant}

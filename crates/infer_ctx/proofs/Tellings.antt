@@ -20,7 +20,7 @@ use Rattle.hir_types.specs.declared.ids.CallableDefId.TheVariants as callable
 use Rattle.hir_types.specs.declared.ids.ExprOrPatId.TheVariants as node
 use Rattle.hir_raw.specs.declared.raw.RawCtor.{RawCtor}
 use Rattle.hir_raw.specs.Signatures.{type_args, ctor_type_by, Signature, at_args, ctor_type, signature_of}
-use Rattle.hir_laws.specs.Below.{HasNoHole}
+use Rattle.hir_facts.specs.Standing.{HasNoHole}
 use Rattle.hir_raw.specs.WrittenTypes.{written_type}
 use Rattle.hir_raw.specs.declared.raw.RawPath.{RawPath}
 use Rattle.hir_raw.specs.declared.raw.RawVariant.{RawVariant}
@@ -32,7 +32,7 @@ use Rattle.hir_raw.specs.Scope.{names_item, callable_params}
 use Rattle.hir_raw.specs.Order.{Role, parameter, let_pattern, Part, pat_part, param_parts, root, expr_part, the_body, arm_pattern, subpattern, Node, part_at, binding_of, Binds}
 use Rattle.hir_raw.specs.declared.raw.RawBody.{RawBody}
 use Rattle.hir_raw.specs.declared.schedule.Schedule.{Schedule}
-use Rattle.hir_laws.specs.Bodies.{IsWalkable}
+use Rattle.hir_facts.specs.Bodies.{IsWalkable}
 use Rattle.hir_facts.specs.Filled.{filled_written}
 use Rattle.hir_raw.proofs.Ways.{one_place}
 use Rattle.hir_raw.specs.declared.raw.RawCtor.TheVariants as ctor

@@ -20,7 +20,7 @@ use Rattle.hir_types.specs.declared.ty.Ty.TheVariants as ty
 use Rattle.hir_types.specs.declared.ty.IntegerTy.TheVariants as integer
 use Rattle.hir_raw.specs.declared.raw.RawType.{RawType}
 use Rattle.hir_facts.specs.Filled.{filled_written, filled_folded}
-use Rattle.hir_laws.specs.Below.{HasNoHole}
+use Rattle.hir_facts.specs.Standing.{HasNoHole}
 use Rattle.hir_raw.specs.WrittenTypes.{written_type}
 use Rattle.hir_raw.specs.declared.raw.RawLiteral.{RawLiteral}
 use Rattle.hir_raw.specs.Signatures.{Signature}

@@ -11,14 +11,15 @@ use Rattle.hir_types.specs.declared.ty.Ty.TheVariants as ty
 use Rattle.hir_raw.specs.declared.raw.RawFacts.{RawFacts}
 use Rattle.hir_raw.specs.declared.raw.RawType.{RawType}
 use Rattle.hir_facts.specs.CarriedTypes.{written_carried, carried_param}
-use Rattle.hir_laws.specs.Lawful.{IsLawful}
+use Rattle.hir_facts.specs.Lawful.{IsLawful}
 use Rattle.hir_raw.specs.Lets.{masked}
 use Rattle.hir_raw.specs.Scope.{Scope, adt_params, has_params}
 use Rattle.hir_raw.specs.WrittenTypes.{type_parts, written_type, filled_by, filled_within, filled_type, StandsIn, is_itself, in_part}
 use Rattle.hir_facts.specs.Filled.{filled_written}
-use Rattle.hir_laws.specs.Below.{HasNoHole, is_carried_written_type}
-use Rattle.hir_laws.specs.LetFits.{AllFit, FitsHere, written_fit, masked_fit}
-use Rattle.hir_laws.specs.WrittenFits.{FitsThere, FitsUnder, OwnFits}
+use Rattle.hir_facts.specs.Standing.{HasNoHole}
+use Rattle.hir_facts.specs.Carried.{is_carried_written_type}
+use Rattle.hir_facts.specs.LetFits.{AllFit, FitsHere, written_fit, masked_fit}
+use Rattle.hir_facts.specs.WrittenFits.{FitsThere, FitsUnder, OwnFits}
 use Rattle.hir_raw.specs.declared.raw.RawType.TheVariants as type
 use Rattle.infer_table.specs.Table.{State, new_state}
 use Rattle.infer_ctx.specs.Fine.{HasFineHeads, IsFine, IsWritten, AllFine}

@@ -13,10 +13,10 @@ use Rattle.hir_raw.specs.Scope.{callable_params, adt_params, variant_arity, type
 use Rattle.hir_raw.specs.Hidden.{variant_aliases}
 use Rattle.hir_raw.specs.Signatures.{Signature, signature_of, taken_types}
 use Rattle.hir_raw.specs.declared.raw.RawVariant.{RawVariant}
-use Rattle.hir_laws.specs.WrittenFits.{FitsThere}
+use Rattle.hir_facts.specs.WrittenFits.{FitsThere}
 use Rattle.hir_raw.specs.Order.{stmt_at, end, the_body, Node, Part, IsNode, part_at, Fits}
 use Rattle.hir_raw.specs.declared.schedule.Schedule.{Schedule}
-use Rattle.hir_laws.specs.Bodies.{IsWalkable}
+use Rattle.hir_facts.specs.Bodies.{IsWalkable}
 use Rattle.hir_raw.specs.declared.raw.RawBody.{RawBody}
 use Rattle.hir_facts.specs.CarriedTypes.{IsCarriedType}
 use Rattle.hir_raw.specs.declared.raw.RawCtor.TheVariants as ctor

@@ -16,12 +16,12 @@ use Rattle.hir_raw.specs.declared.raw.RawBody.{RawBody}
 use Rattle.hir_raw.specs.declared.raw.RawFacts.{RawFacts}
 use Rattle.hir_raw.specs.declared.schedule.Schedule.{Schedule}
 use Rattle.hir_facts.specs.CarriedTypes.{IsCarriedType}
-use Rattle.hir_laws.specs.Lawful.{IsLawful}
-use Rattle.hir_laws.specs.Bodies.{body_id_of, IsWalkable}
+use Rattle.hir_facts.specs.Lawful.{IsLawful}
+use Rattle.hir_facts.specs.Bodies.{body_id_of, IsWalkable}
 use Rattle.hir_raw.specs.Fit.{ty_fits}
 use Rattle.hir_raw.specs.Scope.{Scope, scope_of, params_of}
-use Rattle.hir_plain.specs.Plain.{IsPlainBody, IsPlainBodyOf}
-use Rattle.hir_plain.specs.Sized.{are_direct_structs}
+use Rattle.hir_facts.specs.Plain.{IsPlainBody, IsPlainBodyOf}
+use Rattle.hir_facts.specs.Sized.{are_direct_structs}
 use Rattle.infer_table.specs.Table.{bindings, State, resolved_type, Meets}
 use Rattle.infer_table.specs.Resolution.{resolution}
 use Rattle.infer_table.specs.Completion.{completion}

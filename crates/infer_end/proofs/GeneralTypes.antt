@@ -12,7 +12,7 @@ use Rattle.hir_types.specs.declared.head.Hole.TheVariants as hole_of
 use Rattle.hir_facts.specs.CarriedTypes.{is_carried_type, IsCarriedType, carried_bool, carried_char, carried_integer, carried_tuple, carried_adt, carried_param}
 use Rattle.hir_raw.specs.Scope.{Scope, has_params, adt_params, alias_params}
 use Rattle.hir_raw.specs.Signatures.{type_args}
-use Rattle.hir_plain.specs.PlainTypes.{IsPlainIn, plain_bool, plain_char, plain_integer, plain_tuple, plain_adt, plain_param}
+use Rattle.hir_facts.specs.PlainTypes.{IsPlainIn, plain_bool, plain_char, plain_integer, plain_tuple, plain_adt, plain_param}
 use Rattle.infer_table.proofs.CompletionLaws.{closing_meets, closing_respects as resolved_respects}
 use Rattle.infer_table.specs.Resolution.{resolution}
 use Rattle.infer_table.specs.Solutions.{Triangular, log_of}

@@ -22,13 +22,13 @@ use Rattle.hir_raw.specs.declared.raw.RawType.{RawType}
 use Rattle.hir_raw.specs.Hidden.{fn_aliases}
 use Rattle.hir_raw.specs.Scope.{Scope, scope_of, params_of, has_associated}
 use Rattle.hir_raw.specs.WrittenTypes.{written_type}
-use Rattle.hir_laws.specs.Bodies.{body_id_of, inputs_by, inputs_of, output_by, return_type}
-use Rattle.hir_laws.specs.Lawful.{IsLawful}
-use Rattle.hir_laws.specs.NoHoles.{output_has_no_hole, definition_input_has_no_hole}
-use Rattle.hir_laws.specs.WrittenFits.{direct_inputs_fit, direct_output_fits}
-use Rattle.hir_laws.proofs.NoAliases.{no_aliases, names_none}
-use Rattle.hir_plain.specs.Plain.{IsPlainBodyOf, IsPlainSignature}
-use Rattle.hir_plain.proofs.PlainFns.{plain_direct}
+use Rattle.hir_facts.specs.Bodies.{body_id_of, inputs_by, inputs_of, output_by, return_type}
+use Rattle.hir_facts.specs.Lawful.{IsLawful}
+use Rattle.hir_facts.specs.NoHoles.{output_has_no_hole, definition_input_has_no_hole}
+use Rattle.hir_facts.specs.WrittenFits.{direct_inputs_fit, direct_output_fits}
+use Rattle.hir_facts.proofs.NoAliases.{no_aliases, names_none}
+use Rattle.hir_facts.specs.Plain.{IsPlainBodyOf, IsPlainSignature}
+use Rattle.hir_facts.proofs.PlainFns.{plain_direct}
 use Rattle.hir_facts.specs.CarriedTypes.{IsCarriedType, carried_error}
 use Rattle.infer_table.specs.Table.{new_state, HolesAreOf}
 use Rattle.goal_answers.specs.Goals.{System}

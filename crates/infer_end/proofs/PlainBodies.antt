@@ -12,16 +12,16 @@ use Rattle.hir_types.specs.declared.ids.CallableDefId.TheVariants as callable
 use Rattle.hir_types.specs.declared.ids.ExprOrPatId.TheVariants as node
 use Rattle.hir_raw.specs.declared.raw.RawBody.{RawBody}
 use Rattle.hir_raw.specs.declared.raw.RawFacts.{RawFacts}
-use Rattle.hir_laws.specs.Bodies.{body_of}
-use Rattle.hir_laws.specs.Lawful.{IsLawful}
-use Rattle.hir_laws.proofs.NoAliases.{none_within, no_aliases}
+use Rattle.hir_facts.specs.Bodies.{body_of}
+use Rattle.hir_facts.specs.Lawful.{IsLawful}
+use Rattle.hir_facts.proofs.NoAliases.{none_within, no_aliases}
 use Rattle.hir_types.specs.declared.ids.PatId.{PatId}
 use Rattle.hir_raw.specs.declared.raw.RawPat.TheVariants as pat
 use Rattle.hir_raw.specs.Hidden.{fn_aliases, variant_aliases}
 use Rattle.infer_end.proofs.PlainFields.{adt_aliases}
 use Rattle.hir_raw.specs.Scope.{params_of, adt_params, variant_arity, has_associated, has_associated_by, names_alias, is_size_goal}
-use Rattle.hir_plain.proofs.PlainFns.{kind_direct, type_direct, plain_direct}
-use Rattle.hir_plain.specs.Plain.{IsPlainBody, IsPlainBodyOf, IsPlainKind, IsPlainType, plain, IsPlainAdt, is_tuple_ctor, is_tuple_variant, is_item, IsPlainExpr, IsPlainStmt}
+use Rattle.hir_facts.proofs.PlainFns.{kind_direct, type_direct, plain_direct}
+use Rattle.hir_facts.specs.Plain.{IsPlainBody, IsPlainBodyOf, IsPlainKind, IsPlainType, plain, IsPlainAdt, is_tuple_ctor, is_tuple_variant, is_item, IsPlainExpr, IsPlainStmt}
 use Rattle.hir_raw.specs.declared.raw.RawType.{RawType}
 use Rattle.hir_raw.specs.Lets.{masked, stmt_aliases, expr_aliases, let_aliases}
 use Rattle.hir_raw.specs.Masked.{other_is_itself}
@@ -45,8 +45,8 @@ use Rattle.hir_types.specs.declared.ids.TraitId.{TraitId}
 use Rattle.hir_raw.specs.declared.raw.RawGoal.{RawGoal}
 use Rattle.hir_raw.specs.declared.raw.RawGoal.TheVariants as goal
 use Rattle.hir_raw.specs.Goals.{arg_types, is_sized_lang}
-use Rattle.hir_plain.specs.Sized.{is_one_sized_lang, is_sized_trait, only_param, is_below, is_sized_pred}
-use Rattle.hir_ids.specs.Carried.{is_in_module}
+use Rattle.hir_facts.specs.Sized.{is_one_sized_lang, is_sized_trait, only_param, is_below, is_sized_pred}
+use Rattle.hir_facts.specs.Carried.{is_in_module}
 
 pub some_of : {A : Type 0} (P : A → Type 0) (o : Option A) → IsSomeAnd o P → (x : A) × (o ≡ Some x) × P x
 some_of P None h = absurd h

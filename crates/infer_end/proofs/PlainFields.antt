@@ -6,13 +6,13 @@ use Rattle.hir_raw.specs.declared.raw.RawAdt.{RawAdt}
 use Rattle.hir_raw.specs.declared.raw.RawFacts.{RawFacts}
 use Rattle.hir_raw.specs.declared.raw.RawVariant.{RawVariant}
 use Rattle.hir_raw.specs.Hidden.{variant_aliases}
-use Rattle.hir_ids.specs.Ids.{adt_variants}
-use Rattle.hir_laws.specs.Lawful.{IsLawful}
-use Rattle.hir_laws.specs.LawfulFacts.{adt_ids, variant_ids}
-use Rattle.hir_laws.specs.NoHoles.{In, in_flat}
-use Rattle.hir_laws.proofs.NoAliases.{no_field_aliases}
-use Rattle.hir_plain.specs.Plain.{IsPlainAdt, adt_fields, fields_by}
-use Rattle.hir_plain.proofs.PlainFns.{type_direct}
+use Rattle.hir_facts.specs.Ids.{adt_variants}
+use Rattle.hir_facts.specs.Lawful.{IsLawful}
+use Rattle.hir_facts.specs.LawfulFacts.{adt_ids, variant_ids}
+use Rattle.hir_facts.specs.NoHoles.{In, in_flat}
+use Rattle.hir_facts.proofs.NoAliases.{no_field_aliases}
+use Rattle.hir_facts.specs.Plain.{IsPlainAdt, adt_fields, fields_by}
+use Rattle.hir_facts.proofs.PlainFns.{type_direct}
 
 -- ---- lists
 

@@ -53,15 +53,15 @@ use Rattle.hir_raw.specs.Hidden.{variant_aliases}
 use Rattle.hir_raw.specs.Scope.{adt_params, count_or_none, fn_arity, variant_arity, scope_of, params_of, types_scope}
 use Rattle.hir_raw.specs.Signatures.{type_args, ctor_type_by}
 use Rattle.hir_raw.specs.WrittenTypes.{filled_by, filled_within, written_type}
-use Rattle.hir_ids.specs.Carried.{is_in_module}
-use Rattle.hir_ids.specs.Projections.{SignatureNamesNone}
-use Rattle.hir_ids.proofs.CarriedBodies.{list_all_at}
-use Rattle.hir_laws.specs.Bodies.{body_of}
-use Rattle.hir_laws.specs.Lawful.{IsLawful}
-use Rattle.hir_laws.proofs.NoAliases.{no_aliases, own_arity}
-use Rattle.hir_plain.specs.Plain.{IsPlainPath, IsPlainBody, IsPlainBodyOf, IsPlainExpr, is_unit_or_tuple, HasSizedParams, HasPlainBody, is_plain_adt_kind}
-use Rattle.hir_plain.proofs.PlainFns.{plain_direct}
-use Rattle.hir_plain.specs.Sized.{are_direct_structs, is_one_sized_lang, is_sized_trait, param_number, only_param, sized_param, is_number, is_below, is_sized_of, is_sized_pred}
+use Rattle.hir_facts.specs.Carried.{is_in_module}
+use Rattle.hir_facts.specs.Projections.{SignatureNamesNone}
+use Rattle.hir_facts.proofs.CarriedBodies.{list_all_at}
+use Rattle.hir_facts.specs.Bodies.{body_of}
+use Rattle.hir_facts.specs.Lawful.{IsLawful}
+use Rattle.hir_facts.proofs.NoAliases.{no_aliases, own_arity}
+use Rattle.hir_facts.specs.Plain.{IsPlainPath, IsPlainBody, IsPlainBodyOf, IsPlainExpr, is_unit_or_tuple, HasSizedParams, HasPlainBody, is_plain_adt_kind}
+use Rattle.hir_facts.proofs.PlainFns.{plain_direct}
+use Rattle.hir_facts.specs.Sized.{are_direct_structs, is_one_sized_lang, is_sized_trait, param_number, only_param, sized_param, is_number, is_below, is_sized_of, is_sized_pred}
 use Rattle.goal_answers.specs.Goals.{Asked, Rule as Source, System, implements, only, is_trait, is_among, OneIf, SomeOf, IsKnown, Verdicts}
 use Rattle.goal_answers.specs.Reading.{Aliases, ReadsAs}
 use Rattle.goal_answers.specs.Rows.{SizedYes}

@@ -28,14 +28,14 @@ use Rattle.hir_raw.specs.Hidden.{variant_aliases}
 use Rattle.hir_raw.specs.Scope.{Scope, adt_params, has_params, types_scope}
 use Rattle.hir_raw.specs.Signatures.{type_args, at_args}
 use Rattle.hir_raw.specs.WrittenTypes.{written_type}
-use Rattle.hir_ids.proofs.CarriedBodies.{list_all_at}
-use Rattle.hir_ids.specs.Carried.{is_empty}
-use Rattle.hir_laws.proofs.NoAliases.{field_direct}
-use Rattle.hir_laws.specs.Lawful.{IsLawful}
-use Rattle.hir_laws.specs.LawfulFacts.{adt_ids}
-use Rattle.hir_laws.specs.NoHoles.{field_has_no_hole}
-use Rattle.hir_laws.specs.WrittenFits.{fields_fit, fits_direct}
-use Rattle.hir_plain.specs.Sized.{is_direct_variant, is_direct_struct, are_direct_structs}
+use Rattle.hir_facts.proofs.CarriedBodies.{list_all_at}
+use Rattle.hir_facts.specs.Carried.{is_empty}
+use Rattle.hir_facts.proofs.NoAliases.{field_direct}
+use Rattle.hir_facts.specs.Lawful.{IsLawful}
+use Rattle.hir_facts.specs.LawfulFacts.{adt_ids}
+use Rattle.hir_facts.specs.NoHoles.{field_has_no_hole}
+use Rattle.hir_facts.specs.WrittenFits.{fields_fit, fits_direct}
+use Rattle.hir_facts.specs.Sized.{is_direct_variant, is_direct_struct, are_direct_structs}
 use Rattle.infer_table.specs.LogLemmas.{are_of_parts}
 use Rattle.infer_table.specs.TermLemmas.{hole_eq_same}
 use Rattle.infer_table.specs.Preserved.{TermRole, whole, part, rest, IsHead, IsTypeMark, IsMadeOf, width}

@@ -3,7 +3,7 @@ use Rattle.std.specs.Prelude.{ℕ, ◌<◌, List, length, Option, ◌≡◌, map
 use Rattle.hir_types.specs.declared.ty.Ty.{Ty}
 use Rattle.hir_types.specs.declared.ids.DefWithBodyId.{DefWithBodyId}
 use Rattle.hir_raw.specs.declared.raw.RawFacts.{RawFacts}
-use Rattle.hir_plain.specs.Plain.{IsPlainBodyOf}
+use Rattle.hir_facts.specs.Plain.{IsPlainBodyOf}
 use Rattle.infer_table.specs.Table.{State, resolved_type}
 use Rattle.infer_result.specs.Table.{At}
 use Rattle.infer_result.specs.declared.result.InferenceResult.{InferenceResult}

@@ -8,7 +8,7 @@ use Rattle.hir_types.specs.declared.ty.IntTy.TheVariants as int
 use Rattle.hir_raw.specs.declared.raw.RawBody.{RawBody}
 use Rattle.hir_facts.specs.CarriedTypes.{carried_error}
 use Rattle.hir_raw.specs.Scope.{Scope}
-use Rattle.hir_laws.specs.Bodies.{IsWalkable}
+use Rattle.hir_facts.specs.Bodies.{IsWalkable}
 use Rattle.hir_raw.specs.declared.schedule.Schedule.{Schedule}
 use Rattle.hir_types.specs.Fallback.{fallback}
 use Rattle.infer_result.specs.Places.{Given}

@@ -10,7 +10,7 @@ use Rattle.hir_types.specs.declared.ids.ExprOrPatId.TheVariants as node
 use Rattle.hir_raw.specs.declared.raw.RawBody.{RawBody}
 use Rattle.hir_raw.specs.declared.schedule.Schedule.{Schedule}
 use Rattle.hir_raw.specs.Order.{inner, the_body, start, IsInBody, IsSchedule, root, expr_part, param_parts, body_parts, end}
-use Rattle.hir_laws.specs.Bodies.{IsWalkable}
+use Rattle.hir_facts.specs.Bodies.{IsWalkable}
 use Rattle.infer_result.specs.Table.{At}
 use Rattle.infer_result.specs.Places.{Given, IsAtMaybeOrMismatch}
 use Rattle.infer_result.specs.Demands.{Demand}

@@ -1,6 +1,6 @@
 //! The types of a body.
 ghost use Rattle.std.specs.Prelude.{◌≡◌, ◌<◌, IfOk, OnOk, length};
-ghost use Rattle.hir_laws.specs.Bodies.{IsWalkable};
+ghost use Rattle.hir_facts.specs.Bodies.{IsWalkable};
 ghost use Rattle.infer_table.specs.Table.{new_state, Grew};
 ghost use Rattle.infer_ctx.specs.Asked.{AreGoalsOf, IsTold};
 ghost use Rattle.infer_ctx.specs.Fine.{IsFineExpectation};

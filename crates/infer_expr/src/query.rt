@@ -1,7 +1,7 @@
 //! Inference of a body, from its facts to its table.
 ghost use Rattle.std.specs.Prelude.{◌≡◌, IfOk, Some};
 ghost use Rattle.hir_raw.specs.declared.raw.RawBody.{RawBody};
-ghost use Rattle.hir_laws.specs.Bodies.{HasBody, body_of};
+ghost use Rattle.hir_facts.specs.Bodies.{HasBody, body_of};
 ghost use Rattle.infer_result.specs.Typed.{IsTableOf, given};
 ghost use Rattle.infer_result.specs.General.{HasGeneral};
 ghost use Rattle.infer_result.specs.Needs.{GoalsHold, HasNoneLeft};

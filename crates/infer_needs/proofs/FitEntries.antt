@@ -14,8 +14,8 @@ use Rattle.hir_types.specs.TermLaws.{term_projection}
 use Rattle.hir_raw.specs.declared.raw.RawBody.{RawBody}
 use Rattle.hir_raw.specs.declared.raw.RawFacts.{RawFacts}
 use Rattle.hir_raw.specs.Scope.{Scope, scope_of, generic_params}
-use Rattle.hir_laws.specs.Bodies.{body_of}
-use Rattle.hir_laws.specs.Lawful.{IsLawful}
+use Rattle.hir_facts.specs.Bodies.{body_of}
+use Rattle.hir_facts.specs.Lawful.{IsLawful}
 use Rattle.goal_answers.specs.Goals.{Asked, System, Each}
 use Rattle.goal_facts.specs.Goals.{asked_goal}
 use Rattle.goal_facts.specs.declared.proof.Proof.{Proof}

@@ -33,12 +33,12 @@ use Rattle.hir_raw.specs.declared.raw.RawVariant.{RawVariant}
 use Rattle.hir_raw.specs.Goals.{arg_types}
 use Rattle.hir_raw.specs.Hidden.{fn_aliases, variant_aliases}
 use Rattle.hir_raw.specs.Scope.{scope_of, params_of, adt_params, alias_params, alias_params_by, has_params, count_or_none, generic_params}
-use Rattle.hir_ids.specs.Entries.{AllHold}
-use Rattle.hir_ids.specs.GoalIds.{GoalExists, AliasIdsExist}
-use Rattle.hir_counts.specs.Counts as counts
-use Rattle.hir_counts.specs.Standing.{params_in, wrongs_in, wrong_args}
-use Rattle.hir_laws.specs.Lawful.{IsLawful}
-use Rattle.hir_laws.specs.LawfulFacts.{adt_ids, fn_ids, fns_fit, variants_fit}
+use Rattle.hir_facts.specs.Entries.{AllHold}
+use Rattle.hir_facts.specs.GoalIds.{GoalExists, AliasIdsExist}
+use Rattle.hir_facts.specs.Counts as counts
+use Rattle.hir_facts.specs.Standing.{params_in, wrongs_in, wrong_args}
+use Rattle.hir_facts.specs.Lawful.{IsLawful}
+use Rattle.hir_facts.specs.LawfulFacts.{adt_ids, fn_ids, fns_fit, variants_fit}
 use Rattle.goal_answers.specs.Reading.{Role, plain, role, ReadsAs}
 use Rattle.goal_answers.specs.Goals.{Kind, implements, projects, Asked, System, Each}
 use Rattle.goal_answers.specs.Answers.{answers}

@@ -13,7 +13,7 @@ use Rattle.hir_types.specs.Terms.{Term, hole, leaf, pair, chain, term, arg_term}
 use Rattle.hir_types.specs.TermLaws.{term_projection}
 use Rattle.hir_raw.specs.declared.raw.RawFacts.{RawFacts}
 use Rattle.hir_raw.specs.Scope.{alias_params, has_params, generic_params}
-use Rattle.hir_laws.specs.Lawful.{IsLawful}
+use Rattle.hir_facts.specs.Lawful.{IsLawful}
 use Rattle.infer_table.specs.Preserved.{width}
 use Rattle.goal_answers.specs.Goals.{Kind, implements, projects, Asked, System}
 use Rattle.goal_answers.specs.Reading.{alias, role, alias_at}

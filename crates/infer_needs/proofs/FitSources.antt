@@ -28,11 +28,11 @@ use Rattle.hir_raw.specs.declared.raw.RawFacts.{RawFacts}
 use Rattle.hir_raw.specs.Goals.{arg_types}
 use Rattle.hir_raw.specs.Scope.{adt_params, alias_params, has_params}
 use Rattle.hir_raw.specs.WrittenTypes.{filled_within}
-use Rattle.hir_ids.specs.Entries.{AllHold}
-use Rattle.hir_counts.specs.Counts.{GoalFits, GoalsFit, AdtFits, TraitFits, AliasFits, ImplFits}
-use Rattle.hir_counts.specs.Standing.{most_by, most_within, wrong_count, wrong_alias_count, wrong_args, params_in, wrongs_in}
-use Rattle.hir_laws.specs.Lawful.{IsLawful}
-use Rattle.hir_laws.specs.LawfulFacts.{fns_fit}
+use Rattle.hir_facts.specs.Entries.{AllHold}
+use Rattle.hir_facts.specs.Counts.{GoalFits, GoalsFit, AdtFits, TraitFits, AliasFits, ImplFits}
+use Rattle.hir_facts.specs.Standing.{most_by, most_within, wrong_count, wrong_alias_count, wrong_args, params_in, wrongs_in}
+use Rattle.hir_facts.specs.Lawful.{IsLawful}
+use Rattle.hir_facts.specs.LawfulFacts.{fns_fit}
 use Rattle.infer_table.specs.Preserved.{width}
 use Rattle.goal_facts.specs.Arguments.{type_at, args_at}
 use Rattle.goal_facts.specs.Environment.{preds_or_none, trait_preds, env_trait, preds_of_trait, env_preds}

@@ -28,12 +28,12 @@ use Rattle.hir_raw.specs.Lets.{stmt_aliases, expr_aliases, let_aliases}
 use Rattle.hir_raw.specs.Order.{stmts_of}
 use Rattle.hir_raw.specs.Scope.{adt_params, alias_params, has_params, params_of, generic_params, count_or_none}
 use Rattle.hir_raw.specs.WrittenTypes.{type_parts, filled_by, filled_within, lowered}
-use Rattle.hir_counts.specs.Most.{own_most}
-use Rattle.hir_counts.specs.Standing.{param_bound, wrong_args, params_in}
-use Rattle.hir_laws.specs.Bodies.{body_of}
-use Rattle.hir_laws.specs.Lawful.{IsLawful}
-use Rattle.hir_laws.specs.LawfulFacts.{type_ids}
-use Rattle.hir_laws.specs.WrittenFits.{FitsThere, parts_there, inputs_fit, output_fits, lets_fit}
+use Rattle.hir_facts.specs.Most.{own_most}
+use Rattle.hir_facts.specs.Standing.{param_bound, wrong_args, params_in}
+use Rattle.hir_facts.specs.Bodies.{body_of}
+use Rattle.hir_facts.specs.Lawful.{IsLawful}
+use Rattle.hir_facts.specs.LawfulFacts.{type_ids}
+use Rattle.hir_facts.specs.WrittenFits.{FitsThere, parts_there, inputs_fit, output_fits, lets_fit}
 use Rattle.infer_table.specs.Preserved.{width}
 use Rattle.goal_answers.specs.Goals.{Each}
 use Rattle.goal_facts.proofs.Systems.{each_append, each_get}

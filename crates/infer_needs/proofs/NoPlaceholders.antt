@@ -34,14 +34,14 @@ use Rattle.hir_raw.specs.declared.raw.RawFacts.{RawFacts}
 use Rattle.hir_raw.specs.Goals.{arg_types}
 use Rattle.hir_raw.specs.Hidden.{is_alias, aliases_by, aliases_within, aliases_at, aliases_in, fn_aliases, field_refs, variant_aliases}
 use Rattle.hir_raw.specs.WrittenTypes.{type_parts, filled_within}
-use Rattle.hir_ids.specs.Entries.{AllHold}
-use Rattle.hir_ids.specs.GoalIds.{TypesExist, TraitRefExists, GoalExists, GoalsExist, TraitIdsExist, AliasIdsExist, ImplIdsExist, IsGivenIn}
-use Rattle.hir_counts.specs.Most.{most_above, own_most, part_most}
-use Rattle.hir_counts.specs.Standing.{hole_at, most_by, most_within, most_in, HasNoHole}
-use Rattle.hir_counts.specs.Uses.{variant_uses, fn_uses, goal_uses, goals_uses, trait_ref_uses, impl_uses, abstract_uses, item_uses}
-use Rattle.hir_laws.specs.Lawful.{IsLawful}
-use Rattle.hir_laws.specs.LawfulFacts.{type_ids, adt_ids, fn_ids}
-use Rattle.hir_laws.specs.NoHoles.{In, in_first, in_last, in_flat, item_has_no_hole, input_has_no_hole, output_has_no_hole, field_has_no_hole}
+use Rattle.hir_facts.specs.Entries.{AllHold}
+use Rattle.hir_facts.specs.GoalIds.{TypesExist, TraitRefExists, GoalExists, GoalsExist, TraitIdsExist, AliasIdsExist, ImplIdsExist, IsGivenIn}
+use Rattle.hir_facts.specs.Most.{most_above, own_most, part_most}
+use Rattle.hir_facts.specs.Standing.{hole_at, most_by, most_within, most_in, HasNoHole}
+use Rattle.hir_facts.specs.Uses.{variant_uses, fn_uses, goal_uses, goals_uses, trait_ref_uses, impl_uses, abstract_uses, item_uses}
+use Rattle.hir_facts.specs.Lawful.{IsLawful}
+use Rattle.hir_facts.specs.LawfulFacts.{type_ids, adt_ids, fn_ids}
+use Rattle.hir_facts.specs.NoHoles.{In, in_first, in_last, in_flat, item_has_no_hole, input_has_no_hole, output_has_no_hole, field_has_no_hole}
 use Rattle.goal_answers.specs.Goals.{Each}
 use Rattle.goal_facts.specs.Arguments.{type_at, args_at, goal_at}
 use Rattle.goal_facts.specs.Environment.{preds_or_none, trait_preds, env_trait, preds_of_trait, env_preds}

@@ -25,8 +25,8 @@ use Rattle.hir_raw.specs.declared.raw.RawType.{RawType}
 use Rattle.hir_raw.specs.declared.raw.RawType.TheVariants as type
 use Rattle.hir_raw.specs.declared.raw.RawVariant.{RawVariant}
 use Rattle.hir_raw.specs.declared.raw.RawFacts.{RawFacts}
-use Rattle.hir_laws.specs.Bodies.{body_of}
-use Rattle.hir_laws.specs.Lawful.{IsLawful}
+use Rattle.hir_facts.specs.Bodies.{body_of}
+use Rattle.hir_facts.specs.Lawful.{IsLawful}
 use Rattle.hir_raw.specs.Hidden.{fn_aliases, variant_aliases}
 use Rattle.hir_types.specs.Erasure.{IsClosed}
 use Rattle.hir_raw.specs.Fit.{ty_fits}

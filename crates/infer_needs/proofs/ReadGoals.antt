@@ -10,7 +10,7 @@ use Rattle.hir_types.specs.declared.ty.TraitRef.{TraitRef, out-TraitRef}
 use Rattle.hir_types.specs.declared.ty.Ty.{Ty}
 use Rattle.hir_types.specs.Terms.{Term, hole, term}
 use Rattle.hir_raw.specs.declared.raw.RawFacts.{RawFacts}
-use Rattle.hir_laws.specs.Lawful.{IsLawful}
+use Rattle.hir_facts.specs.Lawful.{IsLawful}
 use Rattle.goal_answers.specs.Reading.{IsRead, ReadsAs}
 use Rattle.goal_answers.specs.Goals.{Kind, implements, projects, Asked, System, is_among}
 use Rattle.goal_answers.specs.Answers.{YesAt, answers}

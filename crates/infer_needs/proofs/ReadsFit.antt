@@ -28,9 +28,9 @@ use Rattle.hir_raw.specs.declared.raw.RawTrait.{RawTrait}
 use Rattle.hir_raw.specs.declared.raw.RawTraitRef.{RawTraitRef}
 use Rattle.hir_raw.specs.Goals.{arg_types}
 use Rattle.hir_raw.specs.Scope.{adt_params, alias_params, alias_params_by, callable_params, has_params, count_or_none, params_in_trait, generic_params}
-use Rattle.hir_ids.specs.Entries.{AllHold}
-use Rattle.hir_ids.specs.GoalIds.{AliasIdsExist}
-use Rattle.hir_laws.specs.Lawful.{IsLawful}
+use Rattle.hir_facts.specs.Entries.{AllHold}
+use Rattle.hir_facts.specs.GoalIds.{AliasIdsExist}
+use Rattle.hir_facts.specs.Lawful.{IsLawful}
 use Rattle.goal_answers.specs.Reading.{Fill, Role, plain, alias, role, staying, stands, Aliases, Reads, ReadsAs, MayRead}
 use Rattle.goal_answers.specs.Goals.{Kind, implements, projects, Asked, Rule, System, asked_at, args_of, type_of, key, Each, OneOf, Verdicts}
 use Rattle.goal_answers.specs.Rows.{IsNth}

@@ -25,8 +25,8 @@ use Rattle.hir_raw.specs.declared.raw.RawImpl.{RawImpl}
 use Rattle.hir_raw.specs.declared.raw.RawTraitRef.{RawTraitRef}
 use Rattle.hir_raw.specs.Goals.{arg_types}
 use Rattle.hir_raw.specs.Scope.{count_or_none, params_in_trait, generic_params}
-use Rattle.hir_counts.specs.Standing.{HasNoHole}
-use Rattle.hir_laws.specs.Lawful.{IsLawful}
+use Rattle.hir_facts.specs.Standing.{HasNoHole}
+use Rattle.hir_facts.specs.Lawful.{IsLawful}
 use Rattle.goal_answers.specs.Reading.{Fill, Role, plain, alias, role, staying, stands, IsRead, Aliases, Reads, ReadsAs, MayRead}
 use Rattle.goal_answers.specs.Goals.{Kind, projects, Asked, Rule, System, args_of, type_of, key, IsKnown, Each, SomeOf, OneOf, Verdicts}
 use Rattle.goal_answers.specs.Rows.{IsNth}

@@ -28,7 +28,7 @@ use Rattle.hir_raw.specs.declared.raw.RawType.{RawType}
 use Rattle.hir_raw.specs.declared.raw.RawType.TheVariants as type
 use Rattle.hir_raw.specs.Lets.{let_aliases}
 use Rattle.hir_raw.specs.WrittenTypes.{filled_by, filled_within, lowered}
-use Rattle.hir_laws.specs.Lawful.{IsLawful}
+use Rattle.hir_facts.specs.Lawful.{IsLawful}
 use Rattle.infer_table.specs.Table.{IsFront}
 use Rattle.goal_answers.specs.Goals.{Asked, System, implements, projects}
 use Rattle.goal_answers.specs.Answers.{answers}

@@ -3,7 +3,7 @@
 ghost use Rattle.std.specs.Prelude.{◌≡◌, ◌++◌, [], ◌∷◌, length, map, Some, IfOk, OnOk};
 ghost use Rattle.hir_types.specs.declared.ids.ExprOrPatId.TheVariants as node;
 ghost use Rattle.hir_raw.specs.declared.raw.RawBody.{RawBody};
-ghost use Rattle.hir_laws.specs.Bodies.{body_of};
+ghost use Rattle.hir_facts.specs.Bodies.{body_of};
 ghost use Rattle.goal_search.specs.Sources.{system};
 ghost use Rattle.goal_facts.specs.Goals.{asked_goal, IsAnswer};
 ghost use Rattle.infer_result.specs.Needs.{with_goals, scope_item, GoalsHold, HasNoneLeft, needs_of, pat_needs_at};

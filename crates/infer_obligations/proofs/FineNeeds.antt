@@ -34,7 +34,7 @@ use Rattle.hir_raw.specs.declared.raw.RawFacts.{RawFacts}
 use Rattle.hir_raw.specs.Hidden.{fn_aliases, variant_aliases}
 use Rattle.hir_raw.specs.Scope.{Scope, adt_params, count_or_none, fn_arity, variant_arity}
 use Rattle.hir_raw.specs.Signatures.{type_args, ctor_type_by}
-use Rattle.hir_laws.specs.Lawful.{IsLawful}
+use Rattle.hir_facts.specs.Lawful.{IsLawful}
 use Rattle.infer_table.specs.Preserved.{Shape, whole, IsMadeOf}
 use Rattle.goal_answers.specs.Goals.{Asked, Each}
 use Rattle.goal_facts.specs.Arguments.{goal_at}

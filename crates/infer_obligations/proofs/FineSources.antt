@@ -42,17 +42,17 @@ use Rattle.hir_raw.specs.Scope.{Scope, adt_params, has_params, scope_of, count_o
 use Rattle.hir_raw.specs.Signatures.{type_args, at_args}
 use Rattle.hir_raw.specs.Hidden.{is_alias}
 use Rattle.hir_raw.specs.WrittenTypes.{type_parts, filled_within, written_type}
-use Rattle.hir_ids.specs.Entries.{AllHold}
-use Rattle.hir_ids.specs.GoalIds.{TraitRefExists, GoalExists, GoalsExist, TraitIdsExist, ImplIdsExist}
-use Rattle.hir_ids.specs.Projections.{HoldsProjection, is_one, in_part, IsNoProjection}
-use Rattle.hir_counts.specs.Counts.{TypeFits, GoalFits, AdtFits, TraitFits, ImplFits, ImplTraitFits}
-use Rattle.hir_counts.specs.Standing.{HasNoHole, params_in, wrongs_in}
-use Rattle.hir_counts.specs.Uses.{goal_uses, goals_uses, impl_uses, trait_ref_uses, fn_uses, variant_uses, abstract_uses, item_uses}
-use Rattle.hir_laws.specs.Bodies.{body_of}
-use Rattle.hir_laws.specs.Lawful.{IsLawful}
-use Rattle.hir_laws.specs.LawfulFacts.{adt_ids, fn_ids, fns_fit, holes_fit}
-use Rattle.hir_laws.specs.NoHoles.{In, in_first, in_last, in_flat, type_there}
-use Rattle.hir_laws.specs.WrittenFits.{FitsUnder, fits_more}
+use Rattle.hir_facts.specs.Entries.{AllHold}
+use Rattle.hir_facts.specs.GoalIds.{TraitRefExists, GoalExists, GoalsExist, TraitIdsExist, ImplIdsExist}
+use Rattle.hir_facts.specs.Projections.{HoldsProjection, is_one, in_part, IsNoProjection}
+use Rattle.hir_facts.specs.Counts.{TypeFits, GoalFits, AdtFits, TraitFits, ImplFits, ImplTraitFits}
+use Rattle.hir_facts.specs.Standing.{HasNoHole, params_in, wrongs_in}
+use Rattle.hir_facts.specs.Uses.{goal_uses, goals_uses, impl_uses, trait_ref_uses, fn_uses, variant_uses, abstract_uses, item_uses}
+use Rattle.hir_facts.specs.Bodies.{body_of}
+use Rattle.hir_facts.specs.Lawful.{IsLawful}
+use Rattle.hir_facts.specs.LawfulFacts.{adt_ids, fn_ids, fns_fit, holes_fit}
+use Rattle.hir_facts.specs.NoHoles.{In, in_first, in_last, in_flat, type_there}
+use Rattle.hir_facts.specs.WrittenFits.{FitsUnder, fits_more}
 use Rattle.infer_table.specs.Preserved.{Shape, TermRole, whole, part, rest, IsMadeOf, width_apply}
 use Rattle.infer_table.specs.TermLemmas.{hole_eq_same, hole_eq_true}
 use Rattle.goal_answers.specs.Goals.{Kind, implements, projects, Asked, Rule, System, Each, key}

@@ -10,7 +10,7 @@ use Rattle.hir_raw.specs.declared.raw.RawFacts.{RawFacts}
 use Rattle.hir_raw.specs.declared.raw.RawType.{RawType}
 use Rattle.hir_raw.specs.Scope.{Scope, scope_of}
 use Rattle.hir_raw.specs.WrittenTypes.{written_type}
-use Rattle.hir_laws.specs.Bodies.{inputs_of, return_type}
+use Rattle.hir_facts.specs.Bodies.{inputs_of, return_type}
 use Rattle.infer_table.specs.Table.{State, new_state, resolved_type}
 use Rattle.goal_answers.specs.Goals.{System}
 use Rattle.goal_facts.specs.Reading.{TypeReads, IsTypeRead}

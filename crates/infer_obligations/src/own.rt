@@ -2,7 +2,7 @@
 ghost use Rattle.std.specs.Prelude.{◌≡◌, ◌↔◌, IfOk, IsTrue, [], map, Some};
 ghost use Rattle.hir_raw.specs.WrittenTypes.{written_type};
 ghost use Rattle.hir_raw.specs.Scope.{scope_of};
-ghost use Rattle.hir_laws.specs.Bodies.{HasBody};
+ghost use Rattle.hir_facts.specs.Bodies.{HasBody};
 ghost use Rattle.infer_table.specs.Table.{new_state};
 ghost use Rattle.goal_facts.specs.Systems.{IsSystemOf};
 ghost use Rattle.goal_search.specs.Sources.{system};

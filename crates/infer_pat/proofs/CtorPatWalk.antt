@@ -31,7 +31,7 @@ use Rattle.hir_raw.specs.Hidden.{variant_aliases}
 use Rattle.hir_raw.specs.Signatures.{ctor_item, taken_types, variant_types, type_args, at_args}
 use Rattle.hir_raw.specs.WrittenTypes.{written_type}
 use Rattle.hir_raw.specs.declared.raw.RawPath.{RawPath}
-use Rattle.hir_ids.proofs.CarriedBodies.{ctor_pattern}
+use Rattle.hir_facts.proofs.CarriedBodies.{ctor_pattern}
 use Rattle.infer_table.proofs.UndoLaws.{grew_itself}
 use Rattle.infer_table.proofs.HoleLaws.{grew_twice}
 use Rattle.infer_table.specs.Table.{Grew}

@@ -1,7 +1,7 @@
 //! The types of literals.
 ghost use Rattle.std.specs.Prelude.{◌≡◌, IsTrue, IfOk, slice_get};
-ghost use Rattle.hir_ids.specs.Carried.{is_carried_literal};
-ghost use Rattle.hir_laws.specs.Literals.{IsLiteral};
+ghost use Rattle.hir_facts.specs.Carried.{is_carried_literal};
+ghost use Rattle.hir_facts.specs.Literals.{IsLiteral};
 ghost use Rattle.infer_ctx.specs.Closings.{IsSound};
 ghost use Rattle.infer_ctx.specs.Context.{given_of, schedule_of, expected_type, scope_in};
 ghost use Rattle.infer_ctx.specs.Steps.{Within, KindDone};

@@ -9,7 +9,7 @@ ghost use Rattle.infer_ctx.specs.Fine.{IsFine, IsFineExpectation};
 ghost use Rattle.infer_pat.specs.Patterns.{IsTuplePatOf, IsCtorPatOf, IsPathPatOf, IsLitPatOf, BeforePat, PatDone, IsGivenOrNew, IsComponentOf, AreTupleParts, HandsParts, PatDemanded, PartsCounted, CtorDemanded};
 ghost use Rattle.infer_ctx.specs.Under.{IsVariant};
 ghost use Rattle.infer_ctx.specs.Steps.{Before, OwnDone};
-ghost use Rattle.hir_laws.specs.Literals.{IsLiteral};
+ghost use Rattle.hir_facts.specs.Literals.{IsLiteral};
 
 use crate::literal::infer_literal;
 use crate::path::{fresh_args_for_item, infer_expr_path};

@@ -20,7 +20,7 @@ use Rattle.infer_result.specs.Excused.{ExcusedAs}
 use Rattle.infer_result.specs.Places.{Given}
 use Rattle.infer_result.specs.Rules.{ObeysExpression}
 use Rattle.infer_result.specs.Kinds.If.{branches_of}
-use Rattle.hir_facts.specs.Below.{return_type}
+use Rattle.hir_facts.specs.Bodies.{return_type}
 use Rattle.infer_result.specs.OwnTypes.{aliases_of}
 use Rattle.infer_result.specs.Typed.{IsTyped, IsTableOf, given, given_by}
 use Rattle.infer_result.specs.Derivation.{HasNoComplaint, IsDerivation}

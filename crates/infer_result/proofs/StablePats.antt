@@ -12,7 +12,7 @@ use Rattle.hir_raw.specs.declared.raw.RawPat.{RawPat}
 use Rattle.hir_raw.specs.declared.raw.RawPat.TheVariants as pat
 use Rattle.hir_raw.specs.declared.raw.RawPath.TheVariants as path
 use Rattle.hir_raw.specs.declared.raw.RawVariant.{RawVariant}
-use Rattle.hir_facts.specs.Below.{IsLawful}
+use Rattle.hir_facts.specs.Lawful.{IsLawful}
 use Rattle.hir_raw.specs.Order.{Role, parameter, let_pattern, arm_pattern, subpattern, Node, the_body, inner}
 use Rattle.hir_raw.specs.Signatures.{taken_types, type_args, ctor_item}
 use Rattle.infer_result.specs.declared.result.InferenceResult.{InferenceResult}

@@ -4,7 +4,7 @@ use Rattle.hir_types.specs.declared.ids.PatId.{PatId}
 use Rattle.hir_types.specs.declared.ty.Ty.{Ty}
 use Rattle.hir_types.specs.Subst.{Assignment, folded}
 use Rattle.hir_raw.specs.declared.raw.RawFacts.{RawFacts}
-use Rattle.hir_facts.specs.Below.{IsLawful}
+use Rattle.hir_facts.specs.Lawful.{IsLawful}
 use Rattle.infer_result.specs.declared.result.InferenceResult.{InferenceResult}
 use Rattle.infer_result.specs.Places.{Given, IsAt, IsAtOrMismatch, IsAtMaybe, IsAtMaybeOrMismatch}
 use Rattle.infer_result.specs.Rules.{ObeysOrMismatch, ObeysExpression, BodyObeysOrMismatch, BodyObeys, ObeysPattern}

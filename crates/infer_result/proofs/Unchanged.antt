@@ -20,9 +20,10 @@ use Rattle.hir_raw.specs.declared.raw.RawFn.{RawFn}
 use Rattle.hir_raw.specs.declared.raw.RawType.{RawType}
 use Rattle.hir_raw.specs.declared.raw.RawVariant.{RawVariant}
 use Rattle.hir_raw.specs.declared.raw.RawFacts.{RawFacts}
-use Rattle.hir_facts.specs.Below.{IsLawful, HasNoHole}
+use Rattle.hir_facts.specs.Lawful.{IsLawful}
+use Rattle.hir_facts.specs.Standing.{HasNoHole}
 use Rattle.hir_facts.specs.Filled.{filled_written, filled_folded}
-use Rattle.hir_facts.proofs.Below.{Each, IsOver, over_input, over_output, over_field}
+use Rattle.hir_facts.proofs.OpenedTypes.{Each, IsOver, over_input, over_output, over_field}
 use Rattle.hir_raw.specs.Scope.{adt_params, fn_arity, variant_arity}
 use Rattle.hir_raw.specs.Signatures.{Signature, fn_signature, fn_types, signature_of, signature_by, ctor_signature, taken_types, variant_types, own_adt, params_from, type_args, at_args}
 use Rattle.hir_raw.specs.WrittenTypes.{written_type}

@@ -11,7 +11,8 @@ use Rattle.hir_types.specs.declared.ty.Ty.TheVariants as ty
 use Rattle.hir_raw.specs.declared.raw.RawExpr.TheVariants as expr
 use Rattle.hir_raw.specs.declared.raw.RawBody.{RawBody}
 use Rattle.hir_raw.specs.declared.raw.RawFacts.{RawFacts}
-use Rattle.hir_facts.specs.Below.{body_of, IsPlainIn, ArePlainIn}
+use Rattle.hir_facts.specs.Bodies.{body_of}
+use Rattle.hir_facts.specs.PlainTypes.{IsPlainIn, ArePlainIn}
 use Rattle.hir_raw.specs.Scope.{Scope, scope_of}
 use Rattle.hir_raw.specs.Signatures.{type_args}
 use Rattle.infer_result.specs.declared.result.InferenceResult.{InferenceResult}

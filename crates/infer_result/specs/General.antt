@@ -11,7 +11,10 @@ use Rattle.hir_types.specs.Types.{integer_type}
 use Rattle.hir_types.specs.Subst.{Assignment, folded}
 use Rattle.hir_raw.specs.declared.raw.RawBody.{RawBody}
 use Rattle.hir_raw.specs.declared.raw.RawFacts.{RawFacts}
-use Rattle.hir_facts.specs.Below.{body_of, IsPlainBodyOf, IsPlainIn, are_direct_structs}
+use Rattle.hir_facts.specs.Bodies.{body_of}
+use Rattle.hir_facts.specs.Plain.{IsPlainBodyOf}
+use Rattle.hir_facts.specs.PlainTypes.{IsPlainIn}
+use Rattle.hir_facts.specs.Sized.{are_direct_structs}
 use Rattle.hir_raw.specs.Scope.{Scope, scope_of, adt_params, callable_params, has_params}
 use Rattle.hir_raw.specs.Signatures.{type_args}
 use Rattle.infer_result.specs.declared.result.General.{General}

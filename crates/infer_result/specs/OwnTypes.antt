@@ -17,7 +17,7 @@ use Rattle.hir_raw.specs.Hidden.{fn_aliases}
 use Rattle.hir_raw.specs.Lets.{let_aliases}
 use Rattle.hir_raw.specs.Scope.{Scope, scope_of, adt_params, alias_params, has_params}
 use Rattle.hir_raw.specs.WrittenTypes.{lowered, written_type}
-use Rattle.hir_facts.specs.Below.{return_type, inputs_of}
+use Rattle.hir_facts.specs.Bodies.{return_type, inputs_of}
 use Rattle.infer_table.specs.Preserved.{Shape, whole, IsMadeOf}
 use Rattle.infer_table.specs.Table.{State, new_state, HolesAreOf}
 use Rattle.goal_answers.specs.Goals.{System}

@@ -7,7 +7,7 @@ use Rattle.hir_types.specs.declared.ty.Ty.{Ty}
 use Rattle.hir_types.specs.Terms.{term}
 use Rattle.hir_raw.specs.declared.raw.RawBody.{RawBody}
 use Rattle.hir_raw.specs.declared.raw.RawFacts.{RawFacts}
-use Rattle.hir_facts.specs.Below.{body_of, return_type}
+use Rattle.hir_facts.specs.Bodies.{body_of, return_type}
 use Rattle.hir_raw.specs.Scope.{scope_of}
 use Rattle.goal_answers.specs.Reading.{IsRead}
 use Rattle.infer_result.specs.declared.result.InferenceResult.{InferenceResult}

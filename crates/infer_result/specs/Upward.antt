@@ -11,7 +11,7 @@ use Rattle.hir_raw.specs.WrittenTypes.{written_type}
 use Rattle.hir_raw.specs.Signatures.{Signature, at_args}
 use Rattle.hir_raw.specs.Order.{Role, root, initializer, argument, Node}
 use Rattle.hir_raw.specs.declared.raw.RawLiteral.{RawLiteral}
-use Rattle.hir_facts.specs.Below.{HasNoHole}
+use Rattle.hir_facts.specs.Standing.{HasNoHole}
 use Rattle.hir_raw.specs.declared.raw.RawExpr.TheVariants as expr
 use Rattle.infer_result.specs.Places.{Given, let_types, StandsAt}
 use Rattle.infer_result.specs.Incoming.{IsInput}

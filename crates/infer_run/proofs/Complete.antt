@@ -2,13 +2,13 @@
 use Rattle.std.specs.Prelude.{◌≡◌, ◌<◌, ◌≤◌, ◌⊎◌, ◌∷◌, [], ℕ, zero, suc, List, length, Some, Ok, Err, Result, refl}
 use Rattle.std.proofs.Common.{arith, sym, ◌∙◌, subst, inl, inr}
 use Rattle.hir_raw.specs.declared.raw.RawFacts.{RawFacts}
-use Rattle.hir_laws.specs.declared.laws.Law.{Law}
-use Rattle.hir_laws.specs.declared.laws.Law.TheVariants as law
-use Rattle.hir_laws.specs.declared.laws.FactsList.{FactsList}
-use Rattle.hir_laws.specs.declared.laws.FactsList.TheVariants as list
-use Rattle.hir_laws.specs.Bodies.{HasBody}
-use Rattle.hir_ids.specs.Entries.{AllHold, BreaksAt}
-use Rattle.hir_laws.specs.Lawful.{Test, PassesAll, FirstBroken, says, tests}
+use Rattle.hir_facts.specs.declared.laws.Law.{Law}
+use Rattle.hir_facts.specs.declared.laws.Law.TheVariants as law
+use Rattle.hir_facts.specs.declared.laws.FactsList.{FactsList}
+use Rattle.hir_facts.specs.declared.laws.FactsList.TheVariants as list
+use Rattle.hir_facts.specs.Bodies.{HasBody}
+use Rattle.hir_facts.specs.Entries.{AllHold, BreaksAt}
+use Rattle.hir_facts.specs.Lawful.{Test, PassesAll, FirstBroken, says, tests}
 use Rattle.infer_run.specs.declared.running.Ran.{Ran}
 use Rattle.infer_text.specs.Facts.{Fault, no_json, shape, raw_facts, IsRead}
 use Rattle.infer_run.specs.Exactly.{Exactly, IsGiven, IsGivenFacts}

@@ -3,7 +3,7 @@ use Rattle.std.specs.Prelude.{◌≡◌, ◌==◌, ◌||◌, ◌≤◌, ℕ, Lis
 use Rattle.std.specs.Io.KnownBytes.{Appends, Keeps}
 use Rattle.hir_types.specs.declared.ids.DefWithBodyId.{DefWithBodyId}
 use Rattle.hir_raw.specs.declared.raw.RawFacts.{RawFacts}
-use Rattle.hir_laws.specs.Bodies.{HasBody}
+use Rattle.hir_facts.specs.Bodies.{HasBody}
 use Rattle.infer_result.specs.Report.{report}
 use Rattle.infer_text.specs.declared.fault.ReadError.{ReadError}
 use Rattle.infer_text.specs.declared.fault.ReadError.TheVariants as error

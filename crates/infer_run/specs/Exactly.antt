@@ -2,7 +2,7 @@
 use Rattle.std.specs.Prelude.{◌≡◌, ◌<◌, ◌≤◌, ◌-◌, ◌^◌, ◌⊎◌, ℕ, List, length, Some}
 use Rattle.hir_types.specs.declared.ids.DefWithBodyId.{DefWithBodyId}
 use Rattle.hir_raw.specs.declared.raw.RawFacts.{RawFacts}
-use Rattle.hir_laws.specs.Bodies.{HasBody}
+use Rattle.hir_facts.specs.Bodies.{HasBody}
 use Rattle.infer_text.specs.Facts.{IsRead}
 use Rattle.infer_run.specs.declared.running.Ran.{Ran}
 use Rattle.infer_run.specs.Command.{IsCommand}

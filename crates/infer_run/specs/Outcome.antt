@@ -4,9 +4,9 @@ use Rattle.std.specs.Io.KnownBytes.{Appends, Consumes, IsAtEnd, Keeps}
 use Rattle.hir_types.specs.declared.ids.DefWithBodyId.{DefWithBodyId}
 use Rattle.hir_raw.specs.declared.raw.RawBody.{RawBody}
 use Rattle.hir_raw.specs.declared.raw.RawFacts.{RawFacts}
-use Rattle.hir_laws.specs.declared.laws.Law.{Law}
-use Rattle.hir_laws.specs.declared.laws.FactsList.{FactsList}
-use Rattle.hir_laws.specs.Bodies.{HasBody, body_of}
+use Rattle.hir_facts.specs.declared.laws.Law.{Law}
+use Rattle.hir_facts.specs.declared.laws.FactsList.{FactsList}
+use Rattle.hir_facts.specs.Bodies.{HasBody, body_of}
 use Rattle.infer_result.specs.declared.result.InferenceResult.{InferenceResult}
 use Rattle.infer_result.specs.Typed.{IsTableOf, given}
 use Rattle.infer_result.specs.General.{HasGeneral}

@@ -8,9 +8,9 @@ use Rattle.hir_raw.specs.declared.raw.RawFacts.{RawFacts}
 use Rattle.infer_text.specs.declared.reading.Settings.{Settings}
 use Rattle.infer_text.specs.declared.reading.Items.{Items}
 use Rattle.infer_text.specs.declared.reading.Abstractions.{Abstractions}
-use Rattle.hir_laws.specs.declared.laws.Law.{Law}
-use Rattle.hir_laws.specs.declared.laws.FactsList.{FactsList}
-use Rattle.hir_laws.specs.Lawful.{IsLawful, FirstBroken, tests}
+use Rattle.hir_facts.specs.declared.laws.Law.{Law}
+use Rattle.hir_facts.specs.declared.laws.FactsList.{FactsList}
+use Rattle.hir_facts.specs.Lawful.{IsLawful, FirstBroken, tests}
 use Rattle.infer_text.specs.declared.fault.ReadError.{ReadError}
 use Rattle.infer_text.specs.declared.fault.ReadError.TheVariants as error
 use Rattle.infer_text.specs.Reading.{◌>>=◌, ◌>>◌, field, keys_in, bool_in, option_in, list_in}

@@ -8,9 +8,10 @@ use super::fault::{Misread, ReadError};
 use super::leaves::Profile;
 use super::reader::{FromData, expect_keys, field_of};
 use hir_facts::{
-    Edition, Facts, FactsError, List, ModuleId, Other, RawAdt, RawAlias, RawFacts, RawFn, RawImpl,
-    RawLang, RawLimits, RawTrait, RawType, RawVariant,
+    Edition, Facts, List, ModuleId, Other, RawAdt, RawAlias, RawFacts, RawFn, RawImpl, RawLang,
+    RawLimits, RawTrait, RawType, RawVariant,
 };
+use hir_laws::{FactsError, lawful_facts};
 use serde_json::{Category, Value};
 use std::alloc::Global;
 
@@ -169,7 +170,7 @@ pub fn read_facts(alloc: Global, text: &[u8]) -> Result<Facts, ReadError>
     ensures { Reads result text.now }
 {
     let raw = read_raw(alloc, text)?;
-    match Facts::new(alloc, raw) {
+    match lawful_facts(alloc, raw) {
         Ok(facts) => Ok(facts),
         Err(FactsError::Law { law, list, index }) => Err(ReadError::Unlawful { law, list, index }),
         Err(FactsError::OutOfMemory) => Err(ReadError::OutOfMemory),

@@ -36,7 +36,7 @@ use Rattle.hir_types.specs.Types.{integer_type, unit}
 use Rattle.hir_raw.specs.Fit.{ty_fits}
 use Rattle.hir_raw.specs.Fitting.{ty_fits_tuple}
 use Rattle.hir_raw.specs.Order.{let_pattern, the_body, inner, IsSchedule, start, end, after, Fits, parts}
-use Rattle.hir_facts.specs.Below.{plain_bool}
+use Rattle.hir_facts.specs.PlainTypes.{plain_bool}
 use Rattle.hir_raw.specs.Scope.{Scope, scope_of}
 use Rattle.hir_raw.specs.Signatures.{fn_signature, at_args}
 use Rattle.hir_raw.specs.WrittenTypes.{filled_within, written_type}

@@ -22,7 +22,7 @@ use Rattle.hir_raw.specs.declared.raw.RawFacts.{RawFacts}
 use Rattle.hir_types.specs.Replacements.{replaced_var, replaced_bool, replaced_tuple}
 use Rattle.hir_types.specs.Subst.{Assignment, with_holes, folded}
 use Rattle.hir_types.specs.Types.{unit}
-use Rattle.hir_facts.specs.Below.{IsPlainIn, plain_bool}
+use Rattle.hir_facts.specs.PlainTypes.{IsPlainIn, plain_bool}
 use Rattle.hir_raw.specs.Scope.{Scope, scope_of}
 use Rattle.infer_result.specs.declared.result.General.{General}
 use Rattle.infer_result.specs.declared.result.InferenceResult.{InferenceResult}

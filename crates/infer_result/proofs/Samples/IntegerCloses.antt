@@ -12,7 +12,7 @@ use Rattle.hir_types.specs.Erasure.{erased, Same}
 use Rattle.hir_types.specs.Types.{integer_type, unit}
 use Rattle.hir_raw.specs.declared.raw.RawBody.{RawBody}
 use Rattle.hir_facts.specs.CarriedTypes.{IsCarriedType, is_carried_type, is_carried_arg, carried_bool, carried_char, carried_integer, carried_tuple, carried_adt, carried_param, carried_type_arg, same_carried}
-use Rattle.hir_facts.specs.Below.{IsPlainIn, plain_bool, plain_char, plain_integer, plain_tuple, plain_adt, plain_param}
+use Rattle.hir_facts.specs.PlainTypes.{IsPlainIn, plain_bool, plain_char, plain_integer, plain_tuple, plain_adt, plain_param}
 use Rattle.hir_raw.specs.Scope.{Scope}
 use Rattle.hir_raw.specs.Signatures.{Signature, fn_signature, signature_of, type_args, at_args}
 use Rattle.infer_result.specs.declared.result.InferenceResult.{InferenceResult}

@@ -7,7 +7,7 @@ use Rattle.hir_raw.specs.declared.raw.RawFacts.{RawFacts}
 use Rattle.hir_raw.specs.declared.raw.RawStmt.TheVariants as stmt
 use Rattle.hir_raw.specs.declared.raw.RawType.TheVariants as type
 use Rattle.hir_raw.specs.Order.{Part, Node, IsNode, parts, part_at}
-use Rattle.hir_facts.specs.Below.{plain, IsPlainOver, IsPlainFn, stands_right, IsPlainStmt, IsPlainExpr, IsPlainPat, IsPlainBodyOf}
+use Rattle.hir_facts.specs.Plain.{plain, IsPlainOver, IsPlainFn, stands_right, IsPlainStmt, IsPlainExpr, IsPlainPat, IsPlainBodyOf}
 use Rattle.infer_result.proofs.Samples.Small.{w, p, e, AllNodes, each_node}
 use Rattle.infer_result.proofs.Samples.Calling.{function}
 use Rattle.infer_result.proofs.Samples.Holes.{AllIn, each_in}

@@ -8,7 +8,7 @@ use Rattle.hir_types.specs.declared.ty.Ty.{Ty}
 use Rattle.hir_types.specs.Types.{integer_type, unit}
 use Rattle.hir_raw.specs.declared.raw.RawExpr.TheVariants as expr
 use Rattle.hir_raw.specs.declared.raw.RawBody.{RawBody}
-use Rattle.hir_facts.specs.Below.{IsPlainIn, plain_integer, plain_tuple}
+use Rattle.hir_facts.specs.PlainTypes.{IsPlainIn, plain_integer, plain_tuple}
 use Rattle.infer_result.specs.Derivation.{IsDerivation, IsCalled, IsPlainItem, IsPlainDerivation}
 use Rattle.infer_result.specs.Table.{At}
 use Rattle.infer_result.proofs.Samples.Small.{e, each_entry, each_placed}

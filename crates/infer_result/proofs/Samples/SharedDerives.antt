@@ -16,7 +16,7 @@ use Rattle.hir_types.specs.Types.{unit}
 use Rattle.hir_raw.specs.Fit.{ty_fits}
 use Rattle.hir_raw.specs.Fitting.{ty_fits_tuple}
 use Rattle.hir_raw.specs.Order.{parameter as a_parameter, let_pattern, the_body, inner, IsSchedule, start, end, after, Fits, parts}
-use Rattle.hir_facts.specs.Below.{IsPlainIn, plain_bool}
+use Rattle.hir_facts.specs.PlainTypes.{IsPlainIn, plain_bool}
 use Rattle.hir_raw.specs.Signatures.{fn_signature, at_args}
 use Rattle.hir_raw.specs.WrittenTypes.{filled_within, written_type}
 use Rattle.infer_result.specs.declared.result.InferenceResult.{InferenceResult}

@@ -1,4 +1,4 @@
-use Rattle.hir_counts.specs.Uses.{goal_uses}
+use Rattle.hir_facts.specs.Uses.{goal_uses}
 use Rattle.hir_ids.proofs.Uses.{gathered_after}
 use Rattle.hir_counts.proofs.goal_uses.push_goals.Goals as goal
 

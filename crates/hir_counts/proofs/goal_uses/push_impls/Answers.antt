@@ -1,4 +1,4 @@
-use Rattle.hir_counts.specs.Uses.{impl_uses}
+use Rattle.hir_facts.specs.Uses.{impl_uses}
 use Rattle.hir_ids.proofs.Uses.{gathered_after}
 use Rattle.hir_counts.proofs.goal_uses.push_impls.Goals as goal
 

@@ -1,4 +1,4 @@
-use Rattle.hir_counts.specs.Uses.{variant_uses}
+use Rattle.hir_facts.specs.Uses.{variant_uses}
 use Rattle.hir_ids.proofs.Uses.{gathered_after}
 use Rattle.hir_counts.proofs.uses.push_variants.Goals as goal
 

@@ -1,4 +1,4 @@
-use Rattle.hir_plain.proofs.PlainFns.{signature_plain, signature_marked}
+use Rattle.hir_plain.proofs.FnMarks.{signature_plain, signature_marked}
 use Rattle.hir_plain.proofs.plain.has_plain_signature.Goals as goal
 
 pub returns : goal.returns

@@ -6,7 +6,7 @@ use Rattle.hir_types.specs.declared.ty.Ty.{Ty}
 use Rattle.hir_types.specs.declared.ty.Ty.TheVariants as ty
 use Rattle.hir_types.specs.Terms.{chain, term, arg_term}
 use Rattle.hir_raw.specs.declared.raw.RawFacts.{RawFacts}
-use Rattle.hir_laws.specs.Lawful.{IsLawful}
+use Rattle.hir_facts.specs.Lawful.{IsLawful}
 use Rattle.goal_answers.specs.Answers.{answers}
 use Rattle.goal_answers.specs.Reading.{IsRead, staying}
 use Rattle.goal_search.specs.Sources.{system}

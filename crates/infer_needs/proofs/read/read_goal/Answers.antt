@@ -1,6 +1,6 @@
 use Rattle.std.proofs.Common.{◌∙◌, ap, subst, option_map}
 use Rattle.hir_types.specs.Terms.{hole}
-use Rattle.hir_laws.specs.Lawful.{IsLawful}
+use Rattle.hir_facts.specs.Lawful.{IsLawful}
 use Rattle.goal_answers.specs.Answers.{answers}
 use Rattle.goal_answers.specs.Goals.{Asked}
 use Rattle.goal_answers.specs.Steps.{ReadingIs}

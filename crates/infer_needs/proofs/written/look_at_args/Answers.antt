@@ -1,7 +1,7 @@
 use Rattle.std.proofs.Common.{◌∙◌, option_map, sym, subst, true≢false}
 use Rattle.hir_types.specs.Terms.{hole}
 use Rattle.hir_raw.specs.Scope.{alias_params}
-use Rattle.hir_laws.specs.Lawful.{IsLawful}
+use Rattle.hir_facts.specs.Lawful.{IsLawful}
 use Rattle.goal_answers.specs.Answers.{answers}
 use Rattle.goal_answers.specs.Steps.{ReadingIs}
 use Rattle.goal_search.specs.Sources.{system}

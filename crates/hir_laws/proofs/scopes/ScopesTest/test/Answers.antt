@@ -1,5 +1,7 @@
 use Rattle.std.proofs.lemmas.Result.{IfOk-weaker}
-use Rattle.hir_laws.proofs.Scoping.{scheduled_at, scopes_say, deep_scopes}
+use Rattle.hir_facts.proofs.Walkable.{scheduled_at}
+use Rattle.hir_facts.specs.Existing.{local_exists}
+use Rattle.hir_laws.proofs.Scoping.{scopes_say, deep_scopes}
 use Rattle.hir_laws.proofs.scopes.ScopesTest.test.Goals as goal
 
 pub is_low-requires-clause-schedule : goal.is_low-requires-clause-schedule
@@ -12,7 +14,7 @@ pub are_in_scope-requires-clause-schedule : goal.are_in_scope-requires-clause-sc
 are_in_scope-requires-clause-schedule c = (scheduled_at c.args._raw.now.bodies c.args.self.now.schedules.now c.as_slice.result.now c.args.at c.args.item.now c.index-as_slice-at.result c.requires.given.2 c.requires.listed c.as_slice.ensures c.index-as_slice-at.is).0
 
 pub are_in_scope-requires-clause-locals : goal.are_in_scope-requires-clause-locals
-are_in_scope-requires-clause-locals c e v found = (c.requires.given.0 c.args.at c.args.item.now c.requires.listed).locals (record { 0 = e }) v found
+are_in_scope-requires-clause-locals c e v found = local_exists c.args._raw.now c.args.at c.args.item.now (c.requires.given.0 c.args.at c.args.item.now c.requires.listed) (record { 0 = e }) v found
 
 pub are_in_scope-requires-clause-bound : goal.are_in_scope-requires-clause-bound
 are_in_scope-requires-clause-bound c = c.requires.given.1 c.args.at c.args.item.now c.requires.listed

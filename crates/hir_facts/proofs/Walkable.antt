@@ -1,0 +1,70 @@
+-- The bodies of lawful facts can be walked, and their functions have a written type for each parameter.
+use Rattle.std.specs.Prelude.{◌≡◌, ◌+◌, ◌<◌, ℕ, List, length, slice_get, get_or, Option, Some, None, IsTrue, refl}
+use Rattle.std.specs.Option.{option_and_then}
+use Rattle.std.proofs.Common.{ap, arith, inl, inr}
+use Rattle.std.proofs.lemmas.Option.{slice_get_within, slice_get_read}
+use Rattle.hir_types.specs.declared.ids.BodyId.{BodyId}
+use Rattle.hir_types.specs.declared.ids.DefWithBodyId.{DefWithBodyId}
+use Rattle.hir_types.specs.declared.ids.DefWithBodyId.TheVariants as def
+use Rattle.hir_raw.specs.declared.raw.RawFn.{RawFn}
+use Rattle.hir_raw.specs.declared.raw.RawBody.{RawBody}
+use Rattle.hir_raw.specs.declared.raw.RawFacts.{RawFacts}
+use Rattle.hir_raw.specs.declared.schedule.Schedule.{Schedule}
+use Rattle.hir_raw.specs.Order.{IsSchedule, AreDepths}
+use Rattle.hir_facts.specs.Bodies.{IsWalkable, body_id_of, inputs_by, inputs_of}
+use Rattle.hir_facts.specs.Carried.{is_carried_body}
+use Rattle.hir_facts.proofs.CarriedBodies.{carried_parts}
+use Rattle.hir_facts.specs.Ids.{BodyIdsExist}
+use Rattle.hir_facts.specs.Counts.{count_of}
+use Rattle.hir_facts.specs.Trees.{IsWellFormed}
+use Rattle.hir_facts.specs.Lawful.{IsLawful}
+use Rattle.hir_facts.specs.Scheduled.{AreSchedules}
+use Rattle.hir_facts.specs.Existing.{binder_exists}
+use Rattle.hir_facts.specs.LawfulFacts.{bodies_carried, body_ids, counts_fit, bodies_well_formed, scopes_hold, bodies_small, literals_fit}
+
+-- a carried body has no `self`
+pub no_self : (b : RawBody) → IsTrue (is_carried_body b) → b.self_ ≡ None
+no_self b h = (carried_parts b h).no_self
+
+-- each body of lawful facts can be walked in the order of its numbers
+pub walkable : (raw : RawFacts) → IsLawful raw → (i : ℕ) (b : RawBody) (s : Schedule) → slice_get raw.bodies i ≡ Some b → IsSchedule b s → IsWalkable b s
+walkable raw law i b s found numbered =
+    let ids : BodyIdsExist raw i b = body_ids raw law i b found in
+    let well : IsWellFormed b = bodies_well_formed raw law i b found in
+    let alone : b.self_ ≡ None = no_self b (bodies_carried raw law i b found) in
+    record {
+      schedule = numbered;
+      carried = bodies_carried raw law i b found;
+      fit = ids.parts;
+      binders = binder_exists raw i b ids;
+      bound = λ v lt. elim (well.bound v lt) [ inl own ↦ absurd (let q : b.self_ ≡ Some v = own.is_self in cc) | inr one ↦ one ];
+      scopes = scopes_hold raw law i b found s numbered (bodies_small raw law i b found).low;
+      no_self = alone;
+      literals = (literals_fit raw law i b found).under;
+    }
+
+-- ---- inputs
+
+count_at : (raw : RawFacts) → IsLawful raw → (f : ℕ) (o : Option RawFn) (i : BodyId) (b : RawBody) → slice_get raw.fns f ≡ o → option_and_then (λ x. x.body) o ≡ Some i → slice_get raw.bodies i.0 ≡ Some b → length (inputs_by o) ≡ length b.params
+count_at raw law f None i b found is here = absurd (cc)
+count_at raw law f (Some x) i b found is here =
+    let count : length x.inputs ≡ count_of b.self_ + length b.params = counts_fit raw law f x found i b is here in
+    let none : count_of b.self_ ≡ 0 = ap count_of (no_self b (bodies_carried raw law i.0 b here)) in
+    omega (arith, count, none)
+
+-- there is a written type for each parameter
+pub inputs_count : (raw : RawFacts) → IsLawful raw → (d : DefWithBodyId) (i : BodyId) (b : RawBody) → body_id_of raw d ≡ Some i → slice_get raw.bodies i.0 ≡ Some b → length (inputs_of raw d) ≡ length b.params
+inputs_count raw law (def.FunctionId f) i b is here = count_at raw law f.0 (slice_get raw.fns f.0) i b refl is here
+inputs_count raw law (def.ConstId c) i b is here = absurd (cc)
+inputs_count raw law (def.StaticId s) i b is here = absurd (cc)
+inputs_count raw law (def.VariantId v) i b is here = absurd (cc)
+
+-- ---- numbers
+
+-- body i has its numbers
+pub scheduled_at : (bodies : List RawBody) (schedules items : List Schedule) (i : ℕ) (b : RawBody) (s : Schedule) → AreSchedules bodies schedules → slice_get bodies i ≡ Some b → items ≡ schedules → s ≡ get_or items i s → IsSchedule b s × AreDepths b s
+scheduled_at bodies schedules items i b s h found e is =
+    let within : i < length bodies = slice_get_within bodies i b found in
+    let size : length schedules ≡ length bodies = h.size in
+    let is2 : s ≡ get_or schedules i s = rw e at is in
+    h.each i b s found (slice_get_read schedules (length schedules) i s refl (omega arith) is2)

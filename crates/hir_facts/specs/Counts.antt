@@ -1,0 +1,175 @@
+-- A function has as many inputs as its body has parameters, `self` counted; what is written fits the
+-- parameters in scope; a struct or union has one variant; goals have as many arguments as their traits parameters.
+use Rattle.std.specs.Prelude.{ℕ, ◌+◌, ◌<◌, ◌≤◌, ◌≡◌, [], List, length, slice_get, Option, Some, None, IfSome}
+use Rattle.hir_types.specs.declared.ids.BindingId.{BindingId}
+use Rattle.hir_types.specs.declared.ids.BodyId.{BodyId}
+use Rattle.hir_types.specs.declared.ids.TypeRefId.{TypeRefId}
+use Rattle.hir_raw.specs.declared.raw.RawAdtKind.{RawAdtKind}
+use Rattle.hir_raw.specs.declared.raw.RawAdtKind.TheVariants as kind
+use Rattle.hir_raw.specs.declared.raw.RawAdt.{RawAdt}
+use Rattle.hir_raw.specs.declared.raw.RawField.{RawField}
+use Rattle.hir_raw.specs.declared.raw.RawTraitRef.{RawTraitRef}
+use Rattle.hir_raw.specs.declared.raw.RawGoal.{RawGoal}
+use Rattle.hir_raw.specs.declared.raw.RawGoal.TheVariants as goal
+use Rattle.hir_raw.specs.declared.raw.RawTrait.{RawTrait}
+use Rattle.hir_raw.specs.declared.raw.RawAlias.{RawAlias}
+use Rattle.hir_raw.specs.declared.raw.RawAssocType.{RawAssocType}
+use Rattle.hir_raw.specs.declared.raw.RawImpl.{RawImpl}
+use Rattle.hir_raw.specs.declared.raw.RawVariant.{RawVariant}
+use Rattle.hir_raw.specs.declared.raw.RawFn.{RawFn}
+use Rattle.hir_raw.specs.declared.raw.RawStmt.{RawStmt}
+use Rattle.hir_raw.specs.declared.raw.RawStmt.TheVariants as stmt
+use Rattle.hir_raw.specs.declared.raw.RawExpr.{RawExpr}
+use Rattle.hir_raw.specs.declared.raw.RawBody.{RawBody}
+use Rattle.hir_raw.specs.declared.raw.RawFacts.{RawFacts}
+use Rattle.hir_raw.specs.Goals.{arg_types}
+use Rattle.hir_raw.specs.Order.{stmts_of}
+use Rattle.hir_facts.specs.Standing.{params_in, wrongs_in}
+
+abbrev pub count_of : Option BindingId → ℕ
+count_of None = 0
+count_of (Some v) = 1
+
+abbrev pub CountsFit : RawFacts → RawFn → Type 0
+CountsFit raw f =
+    (i : BodyId) (b : RawBody) → f.body ≡ Some i → slice_get raw.bodies i.0 ≡ Some b
+    → length f.inputs ≡ count_of b.self_ + length b.params
+
+-- ---- written types, where `bounds` has a bound of the parameters in each type, and `wrongs` 0 where its argument lists are right
+
+-- under this many parameters
+abbrev pub TypeFits : (bounds wrongs : ℕ → ℕ) → ℕ → TypeRefId → Type 0
+TypeFits bounds wrongs count w = (bounds w.0 ≤ count) × (wrongs w.0 ≡ 0)
+
+abbrev pub StmtFits : (bounds wrongs : ℕ → ℕ) → ℕ → RawStmt → Type 0
+StmtFits bounds wrongs count (stmt.Let p None init other) = Unit {0}
+StmtFits bounds wrongs count (stmt.Let p (Some t) init other) = TypeFits bounds wrongs count t
+StmtFits bounds wrongs count (stmt.Expr e semicolon) = Unit {0}
+
+pub record ExprFits (bounds wrongs : ℕ → ℕ) (count : ℕ) (x : RawExpr) : Type 0 where
+  pub each : (k : ℕ) (s : RawStmt) → slice_get (stmts_of (Some x)) k ≡ Some s → StmtFits bounds wrongs count s
+
+-- each type that is written in the body fits
+abbrev pub BodyFits : (bounds wrongs : ℕ → ℕ) → ℕ → RawBody → Type 0
+BodyFits bounds wrongs count body = (e : ℕ) (x : RawExpr) → slice_get body.exprs e ≡ Some x
+    → ExprFits bounds wrongs count x
+
+abbrev pub MaybeBodyFits : (bounds wrongs : ℕ → ℕ) → ℕ → Option RawBody → Type 0
+MaybeBodyFits bounds wrongs count None = Unit {0}
+MaybeBodyFits bounds wrongs count (Some body) = BodyFits bounds wrongs count body
+
+-- the body of an item, where it has one
+abbrev pub body_at : RawFacts → Option BodyId → Option RawBody
+body_at raw None = None
+body_at raw (Some i) = slice_get raw.bodies i.0
+
+abbrev pub AreFitting : (bounds wrongs : ℕ → ℕ) → ℕ → List TypeRefId → Type 0
+AreFitting bounds wrongs count ts = (k : ℕ) (w : TypeRefId) → slice_get ts k ≡ Some w
+    → TypeFits bounds wrongs count w
+
+-- ---- goals
+
+-- the parameters in scope in a trait: the type that implements it, and its own
+abbrev pub trait_params : Option RawTrait → ℕ
+trait_params None = 0
+trait_params (Some t) = length t.params + 1
+
+-- an associated type's parameters are those of its trait
+abbrev pub alias_params : RawFacts → Option RawAlias → ℕ
+alias_params raw None = 0
+alias_params raw (Some a) = trait_params (slice_get raw.traits a.trait_.0)
+
+-- arguments are as many as the parameters of what is named, and each fits
+pub record ArgsFit (bounds wrongs : ℕ → ℕ) (count params : ℕ) (ts : List TypeRefId) : Type 0 where
+  pub many : length ts ≡ params
+  pub each : AreFitting bounds wrongs count ts
+
+-- a goal under this many parameters
+abbrev pub GoalFits : (bounds wrongs : ℕ → ℕ) → RawFacts → ℕ → RawGoal → Type 0
+GoalFits bounds wrongs raw count (goal.Trait r) =
+    ArgsFit bounds wrongs count (trait_params (slice_get raw.traits r.trait_.0)) (arg_types r.args)
+GoalFits bounds wrongs raw count (goal.Projection a xs t) =
+    ArgsFit bounds wrongs count (alias_params raw (slice_get raw.aliases a.0)) (arg_types xs)
+    × TypeFits bounds wrongs count t
+
+abbrev pub GoalsFit : (bounds wrongs : ℕ → ℕ) → RawFacts → ℕ → List RawGoal → Type 0
+GoalsFit bounds wrongs raw count gs = (k : ℕ) (g : RawGoal) → slice_get gs k ≡ Some g
+    → GoalFits bounds wrongs raw count g
+
+-- the predicates of a trait, under its parameters
+abbrev pub TraitFitsBy : (bounds wrongs : ℕ → ℕ) → RawFacts → RawTrait → Type 0
+TraitFitsBy bounds wrongs raw t = GoalsFit bounds wrongs raw (length t.params + 1) t.preds
+
+abbrev pub TraitFits : RawFacts → RawTrait → Type 0
+TraitFits raw t = TraitFitsBy (params_in raw) (wrongs_in raw) raw t
+
+-- the bounds of an associated type, under the parameters of its trait
+abbrev pub AliasFitsBy : (bounds wrongs : ℕ → ℕ) → RawFacts → RawAlias → Type 0
+AliasFitsBy bounds wrongs raw a = GoalsFit bounds wrongs raw (trait_params (slice_get raw.traits a.trait_.0)) a.bounds
+
+abbrev pub AliasFits : RawFacts → RawAlias → Type 0
+AliasFits raw a = AliasFitsBy (params_in raw) (wrongs_in raw) raw a
+
+-- the arguments of the trait that is implemented come after the self type
+pub record ImplTraitFits (bounds wrongs : ℕ → ℕ) (raw : RawFacts) (count : ℕ) (r : RawTraitRef) : Type 0 where
+  pub many : length (arg_types r.args) + 1 ≡ trait_params (slice_get raw.traits r.trait_.0)
+  pub each : AreFitting bounds wrongs count (arg_types r.args)
+
+-- what an impl is written with, under its parameters
+pub record ImplFitsBy (bounds wrongs : ℕ → ℕ) (raw : RawFacts) (p : RawImpl) : Type 0 where
+  pub trait_ : IfSome p.trait_ (ImplTraitFits bounds wrongs raw (length p.params))
+  pub preds : GoalsFit bounds wrongs raw (length p.params) p.preds
+  pub self_ : TypeFits bounds wrongs (length p.params) p.self_
+  pub types : (k : ℕ) (g : RawAssocType) → slice_get p.types k ≡ Some g
+      → TypeFits bounds wrongs (length p.params) g.ty
+
+abbrev pub ImplFits : RawFacts → RawImpl → Type 0
+ImplFits raw p = ImplFitsBy (params_in raw) (wrongs_in raw) raw p
+
+-- ---- functions
+
+-- the counts of a function, and its written types under its own parameters
+pub record FnFitsBy (bounds wrongs : ℕ → ℕ) (raw : RawFacts) (f : RawFn) : Type 0 where
+  pub counts : CountsFit raw f
+  pub inputs : AreFitting bounds wrongs (length f.params) f.inputs
+  pub output : TypeFits bounds wrongs (length f.params) f.output
+  pub preds : GoalsFit bounds wrongs raw (length f.params) f.preds
+  pub body : MaybeBodyFits bounds wrongs (length f.params) (body_at raw f.body)
+
+abbrev pub FnFits : RawFacts → RawFn → Type 0
+FnFits raw f = FnFitsBy (params_in raw) (wrongs_in raw) raw f
+
+-- ---- adts and variants
+
+-- a struct or union has one variant
+abbrev pub HasVariants : RawAdtKind → ℕ → Type 0
+HasVariants kind.Struct n = n ≡ 1
+HasVariants kind.Enum n = Unit {0}
+HasVariants kind.Union n = n ≡ 1
+
+pub record AdtFitsBy (bounds wrongs : ℕ → ℕ) (raw : RawFacts) (a : RawAdt) : Type 0 where
+  pub variants : HasVariants a.kind (length a.variants)
+  pub unsize : IfSome a.unsize (λ n. n < length a.params)
+  pub preds : GoalsFit bounds wrongs raw (length a.params) a.preds
+
+abbrev pub AdtFits : RawFacts → RawAdt → Type 0
+AdtFits raw a = AdtFitsBy (params_in raw) (wrongs_in raw) raw a
+
+abbrev pub param_count : Option RawAdt → ℕ
+param_count None = 0
+param_count (Some a) = length a.params
+
+-- a body that is not a function's has neither `self` nor parameters
+abbrev pub IsBare : Option RawBody → Type 0
+IsBare None = Unit {0}
+IsBare (Some b) = (b.self_ ≡ None) × (b.params ≡ [])
+
+-- the written types of a variant under the parameters of its adt
+pub record VariantFitsBy (bounds wrongs : ℕ → ℕ) (raw : RawFacts) (v : RawVariant) : Type 0 where
+  pub fields : (k : ℕ) (f : RawField) → slice_get v.fields k ≡ Some f
+      → TypeFits bounds wrongs (param_count (slice_get raw.adts v.adt.0)) f.type_
+  pub bare : IsBare (body_at raw v.body)
+  pub body : MaybeBodyFits bounds wrongs (param_count (slice_get raw.adts v.adt.0)) (body_at raw v.body)
+
+abbrev pub VariantFits : RawFacts → RawVariant → Type 0
+VariantFits raw v = VariantFitsBy (params_in raw) (wrongs_in raw) raw v

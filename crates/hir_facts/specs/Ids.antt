@@ -1,0 +1,137 @@
+-- Ids are in range, and smaller where a list asks for it; each body is that of one definition.
+use Rattle.std.specs.Prelude.{ℕ, ◌<◌, ◌≡◌, List, ◌++◌, map, length, slice_get, Option, Some, option_map, flat_map, IfSome}
+use Rattle.hir_types.specs.declared.ids.ModuleId.{ModuleId}
+use Rattle.hir_types.specs.declared.ids.FunctionId.{FunctionId}
+use Rattle.hir_types.specs.declared.ids.TypeRefId.{TypeRefId}
+use Rattle.hir_types.specs.declared.ids.VariantId.{VariantId}
+use Rattle.hir_types.specs.declared.ids.TraitId.{TraitId}
+use Rattle.hir_raw.specs.declared.raw.RawType.{RawType}
+use Rattle.hir_raw.specs.declared.raw.RawType.TheVariants as type
+use Rattle.hir_raw.specs.declared.raw.RawAt.{RawAt}
+use Rattle.hir_raw.specs.declared.raw.RawAt.TheVariants as stands
+use Rattle.hir_raw.specs.declared.raw.RawVis.{RawVis}
+use Rattle.hir_raw.specs.declared.raw.RawVis.TheVariants as vis
+use Rattle.hir_raw.specs.declared.raw.RawFn.{RawFn}
+use Rattle.hir_raw.specs.declared.raw.RawAdt.{RawAdt}
+use Rattle.hir_raw.specs.declared.raw.RawField.{RawField}
+use Rattle.hir_raw.specs.declared.raw.RawVariant.{RawVariant}
+use Rattle.hir_raw.specs.declared.raw.RawBody.{RawBody}
+use Rattle.hir_raw.specs.declared.raw.RawFacts.{RawFacts}
+use Rattle.hir_raw.specs.declared.mention.Mention.{Mention}
+use Rattle.hir_raw.specs.declared.mention.Mention.TheVariants as it
+use Rattle.hir_raw.specs.Order.{PartsFit}
+use Rattle.hir_raw.specs.Mentions.{AllMentioned}
+use Rattle.hir_raw.specs.WrittenTypes.{type_parts}
+use Rattle.hir_facts.specs.Named.{NamedOnce}
+use Rattle.hir_facts.specs.GoalIds.{GoalsExist}
+
+-- the parts of a type come before it
+abbrev pub ChildrenBefore : ℕ → RawType → Type 0
+ChildrenBefore i x = (k : ℕ) (w : TypeRefId) → slice_get (type_parts x) k ≡ Some w → w.0 < i
+
+-- the adt or the associated type that a type names is in range
+abbrev pub ItemExists : RawFacts → RawType → Type 0
+ItemExists raw (type.Adt a ts) = a.0 < length raw.adts
+ItemExists raw (type.Projection a ts) = a.0 < length raw.aliases
+ItemExists raw type.Bool = Unit {0}
+ItemExists raw type.Char = Unit {0}
+ItemExists raw (type.Integer n) = Unit {0}
+ItemExists raw (type.Tuple ts) = Unit {0}
+ItemExists raw (type.Param n) = Unit {0}
+ItemExists raw type.Hole = Unit {0}
+ItemExists raw type.Other = Unit {0}
+
+pub record TypeIdsExist (raw : RawFacts) (i : ℕ) (t : RawType) : Type 0 where
+  pub before : ChildrenBefore i t
+  pub named : ItemExists raw t
+
+-- a module comes after the one that it stands in
+abbrev pub ParentBefore : ℕ → Option ModuleId → Type 0
+ParentBefore i parent = IfSome parent (λ m. m.0 < i)
+
+abbrev pub PlaceExists : RawFacts → RawAt → Type 0
+PlaceExists raw (stands.Module m) = m.0 < length raw.modules
+PlaceExists raw stands.Other = Unit {0}
+
+abbrev pub VisExists : RawFacts → RawVis → Type 0
+VisExists raw vis.Pub = Unit {0}
+VisExists raw (vis.Module m) = m.0 < length raw.modules
+
+-- the variant is in range, and says that it is of adt i
+abbrev pub IsVariantOf : RawFacts → ℕ → VariantId → Type 0
+IsVariantOf raw i v = (x : RawVariant) × (slice_get raw.variants v.0 ≡ Some x) × (x.adt.0 ≡ i)
+
+-- the variants of an adt are in range, and agree that they are its variants; what it asks for names what exists
+pub record AdtIdsExist (raw : RawFacts) (i : ℕ) (a : RawAdt) : Type 0 where
+  pub variants : (k : ℕ) (v : VariantId) → slice_get a.variants k ≡ Some v → IsVariantOf raw i v
+  pub preds : GoalsExist raw a.preds
+
+-- the variants that adts list, one adt after another
+abbrev pub adt_variants : RawAdt → List (Option ℕ)
+adt_variants a = map (λ v. Some v.0) a.variants
+
+abbrev pub listed_variants : List RawAdt → List (Option ℕ)
+listed_variants adts = flat_map adt_variants adts
+
+pub record FieldIdsExist (raw : RawFacts) (f : RawField) : Type 0 where
+  pub written : f.type_.0 < length raw.types
+  pub vis : VisExists raw f.vis
+
+pub record VariantIdsHere (raw : RawFacts) (v : RawVariant) : Type 0 where
+  pub adt : v.adt.0 < length raw.adts
+  pub fields : (k : ℕ) (f : RawField) → slice_get v.fields k ≡ Some f → FieldIdsExist raw f
+  pub body : IfSome v.body (λ b. b.0 < length raw.bodies)
+
+-- the ids of a variant are in range, and one adt alone lists it, once
+pub record VariantIdsExist (raw : RawFacts) (i : ℕ) (v : RawVariant) : Type 0 where
+  pub here : VariantIdsHere raw v
+  pub listed : NamedOnce (listed_variants raw.adts) i
+
+-- it stands in a module
+abbrev pub IsInModule : RawAt → Type 0
+IsInModule (stands.Module m) = Unit {0}
+IsInModule stands.Other = ⊥
+
+-- the function is in range and stands in a module
+abbrev pub IsModuleFn : RawFacts → FunctionId → Type 0
+IsModuleFn raw f = (x : RawFn) × (slice_get raw.fns f.0 ≡ Some x) × IsInModule x.«at»
+
+pub record FnIdsExist (raw : RawFacts) (f : RawFn) : Type 0 where
+  pub stands : PlaceExists raw f.«at»
+  pub preds : GoalsExist raw f.preds
+  pub inputs : (k : ℕ) (w : TypeRefId) → slice_get f.inputs k ≡ Some w → w.0 < length raw.types
+  pub output : f.output.0 < length raw.types
+  pub vis : VisExists raw f.vis
+  pub body : IfSome f.body (λ b. b.0 < length raw.bodies)
+
+-- the bodies of functions and of variants, by their numbers
+abbrev pub owned_body : RawFn → Option ℕ
+owned_body f = option_map (λ b. b.0) f.body
+
+abbrev pub variant_body : RawVariant → Option ℕ
+variant_body v = option_map (λ b. b.0) v.body
+
+-- of all functions, and then of all variants
+abbrev pub owned_bodies : RawFacts → List (Option ℕ)
+owned_bodies raw = map owned_body raw.fns ++ map variant_body raw.variants
+
+-- body i is that of exactly one definition
+abbrev pub HasOneOwner : RawFacts → ℕ → Type 0
+HasOneOwner raw i = NamedOnce (owned_bodies raw) i
+
+-- what a node names beside its parts exists; a function stands in a module
+abbrev pub Exists : RawFacts → RawBody → Mention → Type 0
+Exists raw b (it.Type t) = t.0 < length raw.types
+Exists raw b (it.Local v) = v.0 < length b.bindings
+Exists raw b (it.Binds v) = v.0 < length b.bindings
+Exists raw b (it.Function f) = IsModuleFn raw f
+Exists raw b (it.Variant v) = v.0 < length raw.variants
+Exists raw b (it.Label role l) = l.0 < b.labels
+Exists raw b (it.List n) = Unit {0}
+
+pub record BodyIdsExist (raw : RawFacts) (i : ℕ) (b : RawBody) : Type 0 where
+  pub module_ : b.module.0 < length raw.modules
+  pub traits : (k : ℕ) (t : TraitId) → slice_get b.traits k ≡ Some t → t.0 < length raw.traits
+  pub parts : PartsFit b
+  pub named : AllMentioned (λ n m. Exists raw b m) b
+  pub owner : HasOneOwner raw i

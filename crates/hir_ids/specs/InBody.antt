@@ -1,0 +1,36 @@
+-- The ids of a body, list by list, and which definitions each body is that of.
+use Rattle.std.specs.Prelude.{ℕ, ◌<◌, ◌≡◌, List, length, slice_get, Some}
+use Rattle.hir_types.specs.declared.ids.TraitId.{TraitId}
+use Rattle.hir_types.specs.declared.ids.BindingId.{BindingId}
+use Rattle.hir_raw.specs.declared.raw.RawPath.TheVariants as path
+use Rattle.hir_raw.specs.declared.raw.RawExpr.TheVariants as expr
+use Rattle.hir_raw.specs.declared.raw.RawBody.{RawBody}
+use Rattle.hir_raw.specs.declared.raw.RawFacts.{RawFacts}
+use Rattle.hir_raw.specs.Order.{expr_parts, pat_parts, body_parts}
+use Rattle.hir_raw.specs.Mentions.{body_said}
+use Rattle.hir_schedule.specs.Nodes.{nodes, AllInBody}
+use Rattle.hir_facts.specs.Entries.{AllHold}
+use Rattle.hir_facts.specs.Ids.{Exists, owned_bodies, listed_variants}
+use Rattle.hir_ids.specs.declared.namers.Namers.{Namers}
+use Rattle.hir_ids.specs.Namers.{AreNamers}
+
+-- the parts of each expression, of each pattern and of the body are nodes, and what is said of it exists
+pub record BodyIdsHere (raw : RawFacts) (b : RawBody) : Type 0 where
+  pub module_ : b.module.0 < length raw.modules
+  pub traits : (k : ℕ) (t : TraitId) → slice_get b.traits k ≡ Some t → t.0 < length raw.traits
+  pub exprs : AllHold (λ e x. AllInBody b (nodes (expr_parts x))) b.exprs
+  pub pats : AllHold (λ p x. AllInBody b (nodes (pat_parts x))) b.pats
+  pub own : AllInBody b (nodes (body_parts b))
+  pub named : AllHold (λ k s. Exists raw b s.mention) (body_said b)
+
+-- which definitions each body is that of
+abbrev pub AreOwners : RawFacts → List Namers → Type 0
+AreOwners raw xs = AreNamers (owned_bodies raw) (length (owned_bodies raw)) (length raw.bodies) xs
+
+-- which adts list each variant
+abbrev pub AreListers : RawFacts → List Namers → Type 0
+AreListers raw xs = AreNamers (listed_variants raw.adts) (length (listed_variants raw.adts)) (length raw.variants) xs
+
+-- locals name bindings of the body
+abbrev pub LocalsExist : RawBody → Type 0
+LocalsExist b = (e : ℕ) (v : BindingId) → slice_get b.exprs e ≡ Some (expr.Path (path.Local v)) → v.0 < length b.bindings

@@ -1,7 +1,0 @@
-use Rattle.std.proofs.Common.{◌≡◌, ◌++◌, take}
-use Rattle.hir_raw.specs.Order.{arms_parts}
-use Rattle.hir_raw.specs.Nodes.{nodes}
-use Rattle.hir_raw.proofs.parts.push_arms.Given as goal
-
-abbrev pub invariant-loop-arm : goal.invariant-loop-arm
-invariant-loop-arm l = l.out.items ≡ l.fn.out.items ++ nodes (arms_parts 0 (take l.arm-index l.arms))

@@ -1,6 +1,0 @@
-use Rattle.std.proofs.Common.{◌≡◌, take, map}
-use Rattle.hir_raw.specs.Nodes.{positions}
-use Rattle.hir_raw.proofs.schedule.graph.Given as goal
-
-abbrev pub invariant-loop-nodes : goal.invariant-loop-nodes
-invariant-loop-nodes l = l.kids ≡ map (positions l.body) (take l.nodes-index l.nodes-items)

@@ -1,6 +1,0 @@
-use Rattle.std.proofs.Common.{◌≡◌, take}
-use Rattle.hir_raw.specs.Nodes.{positions}
-use Rattle.hir_raw.proofs.schedule.positions_of.Given as goal
-
-abbrev pub invariant-loop-node : goal.invariant-loop-node
-invariant-loop-node l = l.out ≡ positions l.body (take l.node-index l.nodes)

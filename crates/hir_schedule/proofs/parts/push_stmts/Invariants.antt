@@ -1,0 +1,7 @@
+use Rattle.std.proofs.Common.{◌≡◌, ◌++◌, take}
+use Rattle.hir_raw.specs.Order.{stmts_parts}
+use Rattle.hir_schedule.specs.Nodes.{nodes}
+use Rattle.hir_schedule.proofs.parts.push_stmts.Given as goal
+
+abbrev pub invariant-loop-stmt : goal.invariant-loop-stmt
+invariant-loop-stmt l = l.out.items ≡ l.fn.out.items ++ nodes (stmts_parts (take l.stmt-index l.stmts))

@@ -1,0 +1,3 @@
+pub mod Graph
+pub mod Visits
+pub mod Nodes
