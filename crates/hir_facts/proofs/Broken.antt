@@ -1,6 +1,6 @@
 -- Which entry breaks a law first.
 use Rattle.std.proofs.Common.{inl, inr, ◌≡◌, ◌<◌, ◌≤◌, ◌+◌, ℕ, List, [], ◌∷◌, length, get_or, Some, refl, sym, ◌∙◌, ap, arith, Bool, true, false}
-use Rattle.std.specs.Prelude.{slice_get}
+use Rattle.std.specs.Prelude.{slice_get, IsTrue}
 use Rattle.std.proofs.lemmas.Option.{slice_get_read, slice_get_within}
 use Rattle.std.proofs.Math.Nat.{eq-or-lt_of_le}
 use Rattle.hir_facts.specs.Entries.{AllHold, BreaksAt}
@@ -38,3 +38,8 @@ passed_all {A} P xs listed i p le j x found = p.before j x (let lt : j < length 
 pub first_breaks : {A : Type 0} (xs : List A) → 0 < length xs → BreaksAt (λ (i : ℕ) (x : A). ⊥) xs 0
 first_breaks [] lt = absurd (omega arith)
 first_breaks (x ∷ xs) lt = record { broken = (x, refl, λ h. h); before = λ j y below found. omega arith }
+
+-- a loop that stops at an entry that breaks the law
+pub not_all : {A : Type 0} (P : ℕ → A → Type 0) (xs listed : List A) (i : ℕ) (x : A) (r : Bool) → Passed P xs listed i → i < length xs → x ≡ get_or xs i x → (P i x → r ≡ true) → r ≡ false
+    → (IsTrue false → AllHold P listed) × (AllHold P listed → IsTrue false)
+not_all P xs listed i x r p lt is says was = (λ e. absurd (let no : false ≡ true = e in cc), λ all. absurd (let e : r ≡ true = says (all i x (read_at P xs listed i x p lt is)) in cc))

@@ -20,6 +20,7 @@ use Rattle.hir_facts.specs.Trees.{IsWellFormed}
 use Rattle.hir_facts.specs.Lawful.{IsLawful}
 use Rattle.hir_facts.specs.Scheduled.{AreSchedules}
 use Rattle.hir_facts.proofs.Binders.{typed_before}
+use Rattle.hir_facts.specs.Existing.{binder_exists}
 use Rattle.hir_facts.specs.LawfulFacts.{bodies_carried, body_ids, counts_fit, bodies_well_formed, scopes_hold, bodies_small, literals_fit}
 
 -- a carried body has no `self`
@@ -36,10 +37,9 @@ walkable raw law i b s found numbered =
       schedule = numbered;
       carried = bodies_carried raw law i b found;
       fit = ids.parts;
-      binders = ids.binders;
+      binders = binder_exists raw i b ids;
       bound = λ v lt. elim (well.bound v lt) [ inl own ↦ absurd (let q : b.self_ ≡ Some v = own.is_self in cc) | inr one ↦ one ];
       scopes = typed_before b s alone (scopes_hold raw law i b found s numbered (bodies_small raw law i b found).low);
-      no_self = alone;
       literals = (literals_fit raw law i b found).under;
     }
 

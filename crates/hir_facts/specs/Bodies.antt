@@ -69,5 +69,4 @@ pub record IsWalkable (b : RawBody) (s : Schedule) : Type 0 where
   pub bound : (v : BindingId) → v.0 < length b.bindings → BoundByPattern b v
   pub scopes : (e : ExprId) (v : BindingId) → slice_get b.exprs e.0 ≡ Some (expr.Path (path.Local v))
       → IsTypedBefore b s e v
-  pub no_self : b.self_ ≡ None
   pub literals : (p : ℕ) (e : ExprId) → IsPatternOf b p e → IsLiteral (slice_get b.exprs e.0)

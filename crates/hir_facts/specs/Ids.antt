@@ -5,9 +5,6 @@ use Rattle.hir_types.specs.declared.ids.FunctionId.{FunctionId}
 use Rattle.hir_types.specs.declared.ids.TypeRefId.{TypeRefId}
 use Rattle.hir_types.specs.declared.ids.VariantId.{VariantId}
 use Rattle.hir_types.specs.declared.ids.TraitId.{TraitId}
-use Rattle.hir_types.specs.declared.ids.BindingId.{BindingId}
-use Rattle.hir_types.specs.declared.ids.ExprId.{ExprId}
-use Rattle.hir_types.specs.declared.ids.PatId.{PatId}
 use Rattle.hir_raw.specs.declared.raw.RawType.{RawType}
 use Rattle.hir_raw.specs.declared.raw.RawType.TheVariants as type
 use Rattle.hir_raw.specs.declared.raw.RawAt.{RawAt}
@@ -18,15 +15,12 @@ use Rattle.hir_raw.specs.declared.raw.RawFn.{RawFn}
 use Rattle.hir_raw.specs.declared.raw.RawAdt.{RawAdt}
 use Rattle.hir_raw.specs.declared.raw.RawField.{RawField}
 use Rattle.hir_raw.specs.declared.raw.RawVariant.{RawVariant}
-use Rattle.hir_raw.specs.declared.raw.RawPath.{RawPath}
-use Rattle.hir_raw.specs.declared.raw.RawPath.TheVariants as path
-use Rattle.hir_raw.specs.declared.raw.RawPat.{RawPat}
-use Rattle.hir_raw.specs.declared.raw.RawPat.TheVariants as pat
-use Rattle.hir_raw.specs.declared.raw.RawStmt.TheVariants as stmt
-use Rattle.hir_raw.specs.declared.raw.RawExpr.TheVariants as expr
 use Rattle.hir_raw.specs.declared.raw.RawBody.{RawBody}
 use Rattle.hir_raw.specs.declared.raw.RawFacts.{RawFacts}
-use Rattle.hir_raw.specs.Order.{PartsFit, Binds, stmt_at}
+use Rattle.hir_raw.specs.declared.mention.Mention.{Mention}
+use Rattle.hir_raw.specs.declared.mention.Mention.TheVariants as it
+use Rattle.hir_raw.specs.Order.{PartsFit}
+use Rattle.hir_raw.specs.Mentions.{AllMentioned}
 use Rattle.hir_raw.specs.WrittenTypes.{type_parts}
 use Rattle.hir_facts.specs.Named.{NamedOnce}
 use Rattle.hir_facts.specs.GoalIds.{GoalsExist}
@@ -125,36 +119,19 @@ owned_bodies raw = map owned_body raw.fns ++ map variant_body raw.variants
 abbrev pub HasOneOwner : RawFacts → ℕ → Type 0
 HasOneOwner raw i = NamedOnce (owned_bodies raw) i
 
--- the local, the function of a module or the variant exists
-abbrev pub PathExists : RawFacts → RawBody → RawPath → Type 0
-PathExists raw b (path.Local v) = v.0 < length b.bindings
-PathExists raw b (path.Function f) = IsModuleFn raw f
-PathExists raw b (path.Ctor v) = v.0 < length raw.variants
-PathExists raw b path.Other = Unit {0}
-
--- what a pattern names exists
-abbrev pub PatNamesExist : RawFacts → RawBody → RawPat → Type 0
-PatNamesExist raw b (pat.TupleStruct v ps) = v.0 < length raw.variants
-PatNamesExist raw b (pat.Path q) = PathExists raw b q
-PatNamesExist raw b pat.Wild = Unit {0}
-PatNamesExist raw b (pat.Bind v sub) = Unit {0}
-PatNamesExist raw b (pat.Tuple ps) = Unit {0}
-PatNamesExist raw b (pat.Lit e) = Unit {0}
-PatNamesExist raw b pat.Other = Unit {0}
+-- what a node names beside its parts exists; a function stands in a module
+abbrev pub Exists : RawFacts → RawBody → Mention → Type 0
+Exists raw b (it.Type t) = t.0 < length raw.types
+Exists raw b (it.Local v) = v.0 < length b.bindings
+Exists raw b (it.Binds v) = v.0 < length b.bindings
+Exists raw b (it.Function f) = IsModuleFn raw f
+Exists raw b (it.Variant v) = v.0 < length raw.variants
+Exists raw b (it.Label role l) = l.0 < b.labels
+Exists raw b (it.List n) = Unit {0}
 
 pub record BodyIdsExist (raw : RawFacts) (i : ℕ) (b : RawBody) : Type 0 where
   pub module_ : b.module.0 < length raw.modules
   pub traits : (k : ℕ) (t : TraitId) → slice_get b.traits k ≡ Some t → t.0 < length raw.traits
-  pub self_ : IfSome b.self_ (λ v. v.0 < length b.bindings)
   pub parts : PartsFit b
-  pub locals : (e : ExprId) (v : BindingId) → slice_get b.exprs e.0 ≡ Some (expr.Path (path.Local v))
-      → v.0 < length b.bindings
-  pub functions : (e : ExprId) (f : FunctionId) → slice_get b.exprs e.0 ≡ Some (expr.Path (path.Function f))
-      → IsModuleFn raw f
-  pub constructors : (e : ExprId) (v : VariantId) → slice_get b.exprs e.0 ≡ Some (expr.Path (path.Ctor v))
-      → v.0 < length raw.variants
-  pub pat_names : (p : ℕ) (x : RawPat) → slice_get b.pats p ≡ Some x → PatNamesExist raw b x
-  pub binders : (p : PatId) (v : BindingId) → Binds b p v → v.0 < length b.bindings
-  pub written : (e : ExprId) (i : ℕ) (p : PatId) (t : TypeRefId) (init other : Option ExprId)
-      → stmt_at b e i ≡ Some (stmt.Let p (Some t) init other) → t.0 < length raw.types
+  pub named : AllMentioned (λ n m. Exists raw b m) b
   pub owner : HasOneOwner raw i

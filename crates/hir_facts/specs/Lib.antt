@@ -22,6 +22,7 @@ pub mod LawfulFacts
 pub mod Scheduled
 pub mod Bodies
 pub mod NoHoles
+pub mod Existing
 pub mod WrittenFits
 pub mod LetFits
 pub mod Sized

@@ -1,6 +1,6 @@
 -- Each written type that bodies read fits under the parameters of its definition: arguments are as many as the parameters of
 -- what they stand at, parameters are in range, and no projection stands in it, but in what a function takes or gives, in fields and in types of `let`s.
-use Rattle.std.specs.Prelude.{◌≡◌, ◌<◌, ◌≤◌, ◌==◌, ℕ, Bool, true, false, List, ◌++◌, length, slice_get, Option, Some, None, option_map, flat_map, refl, if◌then◌else◌}
+use Rattle.std.specs.Prelude.{◌≡◌, ◌<◌, ◌≤◌, ◌==◌, ℕ, Bool, true, false, List, length, slice_get, Option, Some, None, option_map, refl, if◌then◌else◌}
 use Rattle.std.specs.Option.{option_and_then}
 use Rattle.std.proofs.Common.{arith, ap, ◌∙◌, subst}
 use Rattle.hir_types.specs.declared.ids.BodyId.{BodyId}
@@ -16,24 +16,21 @@ use Rattle.hir_raw.specs.declared.raw.RawField.{RawField}
 use Rattle.hir_raw.specs.declared.raw.RawVariant.{RawVariant}
 use Rattle.hir_raw.specs.declared.raw.RawFn.{RawFn}
 use Rattle.hir_raw.specs.declared.raw.RawStmt.TheVariants as stmt
-use Rattle.hir_raw.specs.declared.raw.RawExpr.{RawExpr}
-use Rattle.hir_raw.specs.declared.raw.RawExpr.TheVariants as expr
 use Rattle.hir_raw.specs.declared.raw.RawBody.{RawBody}
 use Rattle.hir_raw.specs.declared.raw.RawFacts.{RawFacts}
 use Rattle.hir_raw.specs.Hidden.{is_alias}
 use Rattle.hir_raw.specs.WrittenTypes.{type_parts}
 use Rattle.hir_types.specs.declared.ids.ExprOrPatId.TheVariants as node
 use Rattle.hir_raw.specs.declared.mention.Mention.TheVariants as it
-use Rattle.hir_raw.specs.Mentions.{of_list, label_here, stmt_mentions, mentions_of_expr, Mentions}
-use Rattle.hir_raw.specs.Order.{stmts_of, stmt_at, inner}
+use Rattle.hir_raw.specs.Order.{stmt_at, inner}
 use Rattle.hir_raw.specs.Scope.{adt_params, has_params, params_of, count_or_none}
 use Rattle.hir_facts.specs.Bodies.{body_of}
 use Rattle.hir_facts.specs.Standing.{param_bound, wrong_count, wrong_args, params_in, wrongs_in}
 use Rattle.hir_facts.specs.Counts.{TypeFits, BodyFits, MaybeBodyFits, body_at, param_count}
 use Rattle.hir_facts.specs.Lawful.{IsLawful}
 use Rattle.hir_facts.specs.Projections.{is_one, in_part, IsNoProjection, SignatureNamesNone}
-use Rattle.hir_facts.specs.NoHoles.{In, in_last, in_flat}
 use Rattle.hir_facts.specs.LawfulFacts.{type_ids, variant_ids, variants_fit, fn_ids, fns_fit, body_ids}
+use Rattle.hir_facts.specs.Existing.{let_mentions, written_exists}
 use Rattle.hir_facts.specs.Most.{own_most, part_most}
 
 -- type t of the facts fits under this many parameters
@@ -154,16 +151,6 @@ fields_fit raw law v x a found adt k f here =
 
 -- ---- the types that are written in its body
 
-let_mentioned : (o : Option RawExpr) (i : ℕ) (p : PatId) (t : TypeRefId) (init other : Option ExprId) → slice_get (stmts_of o) i ≡ Some (stmt.Let p (Some t) init other) → In (mentions_of_expr o) (it.Type t)
-let_mentioned (Some (expr.Block label stmts last)) i p t init other found =
-    in_last (label_here label) (of_list stmts ++ flat_map stmt_mentions stmts) (it.Type t)
-    (in_last (of_list stmts) (flat_map stmt_mentions stmts) (it.Type t) (in_flat stmt_mentions stmts i (stmt.Let p (Some t) init other) (it.Type t) found (0, refl)))
-let_mentioned _ i p t init other found = absurd (cc)
-
--- a `let` mentions its written type
-pub let_mentions : (b : RawBody) (e : ExprId) (i : ℕ) (p : PatId) (t : TypeRefId) (init other : Option ExprId) → stmt_at b e i ≡ Some (stmt.Let p (Some t) init other) → Mentions b (inner (node.ExprId e)) (it.Type t)
-let_mentions b e i p t init other at = let_mentioned (slice_get b.exprs e.0) i p t init other at
-
 let_in : (raw : RawFacts) → IsLawful raw → (f : ℕ) (x : RawFn) → slice_get raw.fns f ≡ Some x → (o : Option BodyId) (b : RawBody) → x.body ≡ o → option_and_then (λ i. slice_get raw.bodies i.0) o ≡ Some b
     → (e : ExprId) (i : ℕ) (p : PatId) (t : TypeRefId) (init other : Option ExprId) → stmt_at b e i ≡ Some (stmt.Let p (Some t) init other) → FitsThere raw (length x.params) t.0
 let_in raw law f x found None b is here e i p t init other at = absurd (cc)
@@ -171,9 +158,8 @@ let_in raw law f x found (Some n) b is here e i p t init other at =
     let fit : MaybeBodyFits (params_in raw) (wrongs_in raw) (length x.params) (body_at raw x.body) = (fns_fit raw law f x found).body in
     let own : body_at raw x.body ≡ Some b = ap (λ (q : Option BodyId). body_at raw q) is ∙ here in
     let whole : BodyFits (params_in raw) (wrongs_in raw) (length x.params) b = subst (λ (q : Option RawBody). MaybeBodyFits (params_in raw) (wrongs_in raw) (length x.params) q) own fit in
-    let mentioned : Mentions b (inner (node.ExprId e)) (it.Type t) = let_mentions b e i p t init other at in
-    let fits : TypeFits (params_in raw) (wrongs_in raw) (length x.params) t = whole (inner (node.ExprId e)) (it.Type t) mentioned in
-    record { within = (body_ids raw law n.0 b here).written e i p t init other at; params = fits.0; args = fits.1 }
+    let fits : TypeFits (params_in raw) (wrongs_in raw) (length x.params) t = whole (inner (node.ExprId e)) (it.Type t) (let_mentions b e i p t init other at) in
+    record { within = written_exists raw n.0 b (body_ids raw law n.0 b here) e i p t init other at; params = fits.0; args = fits.1 }
 
 let_at : (raw : RawFacts) → IsLawful raw → (f : ℕ) (o : Option RawFn) (b : RawBody) → slice_get raw.fns f ≡ o → option_and_then (λ i. slice_get raw.bodies i.0) (option_and_then (λ x. x.body) o) ≡ Some b
     → (e : ExprId) (i : ℕ) (p : PatId) (t : TypeRefId) (init other : Option ExprId) → stmt_at b e i ≡ Some (stmt.Let p (Some t) init other)

@@ -1,6 +1,9 @@
 pub mod Named
-pub mod InBodies
 pub mod Once
 pub mod Uses
+pub mod Told
+pub mod Mentioned
+pub mod Telling
+pub mod InBodies
 pub mod Owners
 pub mod Held

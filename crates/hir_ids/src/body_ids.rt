@@ -1,97 +1,22 @@
 //! The ids of a body are in range.
 ghost use Rattle.std.specs.Prelude.{◌≡◌, ◌↔◌, ◌<◌, ◌++◌, ℕ, Some, slice_get, map, IsTrue, IfOk, OnOk};
 ghost use Rattle.hir_types.specs.declared.ids.TraitId.{TraitId};
-ghost use Rattle.hir_raw.specs.Order.{binding_of};
-ghost use Rattle.hir_ids.specs.InBody.{MaybeExprExists, MaybeTypeExists, MaybeBindingExists, StmtIdsExist, StmtsIdsExist, ElementsExist, PatternsExist, ArmExists, ArmsExist, ExprIdsExist, ExprsIdsExist, PatsIdsExist, PatPartsExist, PatsPartsExist, PatsNamesExist, BodyIdsHere, AreOwners};
-ghost use Rattle.hir_facts.specs.Ids.{IsInModule, IsModuleFn, PathExists, PatNamesExist, owned_body, variant_body, owned_bodies, BodyIdsExist};
+ghost use Rattle.hir_raw.specs.Order.{IsInBody, expr_parts, pat_parts, body_parts, binding_of};
+ghost use Rattle.hir_raw.specs.Mentions.{body_said};
+ghost use Rattle.hir_schedule.specs.Nodes.{nodes, AllInBody};
+ghost use Rattle.hir_facts.specs.Entries.{AllHold};
+ghost use Rattle.hir_facts.specs.Ids.{IsInModule, IsModuleFn, Exists, owned_body, variant_body, owned_bodies, BodyIdsExist};
+ghost use Rattle.hir_ids.specs.InBody.{BodyIdsHere, AreOwners};
 
 use crate::namers::{Namers, is_one, namers_of};
+use crate::saying::said_of_body;
 use crate::test::Test;
 use hir_raw::{
-    RawArm, RawAt, RawBody, RawExpr, RawFacts, RawFn, RawPat, RawPath, RawStmt, RawVariant,
+    Mention, RawAt, RawBody, RawExpr, RawFacts, RawFn, RawPat, RawVariant, Said,
 };
-use hir_types::{BindingId, ExprId, FunctionId, PatId, TraitId, TypeRefId};
+use hir_schedule::{nodes_of_body, nodes_of_expr, nodes_of_pat};
+use hir_types::{BindingId, ExprOrPatId, FunctionId, TraitId};
 use std::alloc::{AllocError, Global};
-
-fn has_maybe_expr(body: &RawBody, e: &Option<ExprId>) -> bool
-    ensures { IsTrue result ↔ MaybeExprExists body.now e.now }
-{
-    match e {
-        None => true,
-        Some(e) => (e.0 as usize) < body.exprs.len(),
-    }
-}
-
-fn has_maybe_type(raw: &RawFacts, t: &Option<TypeRefId>) -> bool
-    ensures { IsTrue result ↔ MaybeTypeExists raw.now t.now }
-{
-    match t {
-        None => true,
-        Some(t) => (t.0 as usize) < raw.types.len(),
-    }
-}
-
-fn has_maybe_binding(body: &RawBody, v: Option<BindingId>) -> bool
-    ensures { IsTrue result ↔ MaybeBindingExists body.now v }
-{
-    match v {
-        None => true,
-        Some(v) => (v.0 as usize) < body.bindings.len(),
-    }
-}
-
-fn has_stmt_ids(raw: &RawFacts, body: &RawBody, stmt: &RawStmt) -> bool
-    ensures { IsTrue result ↔ StmtIdsExist raw.now body.now stmt.now }
-{
-    match stmt {
-        RawStmt::Let {
-            pat,
-            type_ref,
-            initializer,
-            else_branch,
-        } => {
-            (pat.0 as usize) < body.pats.len()
-                && has_maybe_type(raw, type_ref)
-                && has_maybe_expr(body, initializer)
-                && has_maybe_expr(body, else_branch)
-        }
-        RawStmt::Expr { expr, has_semi: _ } => (expr.0 as usize) < body.exprs.len(),
-    }
-}
-
-fn have_stmt_ids(raw: &RawFacts, body: &RawBody, stmts: &[RawStmt]) -> bool
-    ensures { IsTrue result ↔ StmtsIdsExist raw.now body.now stmts.now }
-{
-    stmts.iter().all(|stmt| has_stmt_ids(raw, body, stmt))
-}
-
-fn have_elements(body: &RawBody, es: &[ExprId]) -> bool
-    ensures { IsTrue result ↔ ElementsExist body.now es.now }
-{
-    let count = body.exprs.len();
-    es.iter().all(|e| (e.0 as usize) < count)
-}
-
-fn have_patterns(body: &RawBody, pats: &[PatId]) -> bool
-    ensures { IsTrue result ↔ PatternsExist body.now pats.now }
-{
-    let count = body.pats.len();
-    pats.iter().all(|p| (p.0 as usize) < count)
-}
-
-fn has_arm(body: &RawBody, arm: &RawArm) -> bool
-    ensures { IsTrue result ↔ ArmExists body.now arm.now }
-{
-    (arm.pat.0 as usize) < body.pats.len()
-        && has_maybe_expr(body, &arm.guard)
-        && (arm.expr.0 as usize) < body.exprs.len()
-}
-
-fn have_arms(body: &RawBody, arms: &[RawArm]) -> bool
-    ensures { IsTrue result ↔ ArmsExist body.now arms.now }
-{
-    arms.iter().all(|arm| has_arm(body, arm))
-}
 
 fn is_in_module(at: &RawAt) -> bool
     ensures { IsTrue result ↔ IsInModule at.now }
@@ -111,54 +36,74 @@ fn is_module_fn(raw: &RawFacts, function: FunctionId) -> bool
     }
 }
 
-fn has_path(raw: &RawFacts, body: &RawBody, path: &RawPath) -> bool
-    ensures { IsTrue result ↔ PathExists raw.now body.now path.now }
+fn exists(raw: &RawFacts, body: &RawBody, mention: Mention) -> bool
+    ensures { IsTrue result ↔ Exists raw.now body.now mention }
 {
-    match path {
-        RawPath::Local(v) => (v.0 as usize) < body.bindings.len(),
-        RawPath::Function(function) => is_module_fn(raw, *function),
-        RawPath::Ctor(variant) => (variant.0 as usize) < raw.variants.len(),
-        RawPath::Other => true,
+    match mention {
+        Mention::Type(t) => (t.0 as usize) < raw.types.len(),
+        Mention::Local(v) | Mention::Binds(v) => (v.0 as usize) < body.bindings.len(),
+        Mention::Function(function) => is_module_fn(raw, function),
+        Mention::Variant(variant) => (variant.0 as usize) < raw.variants.len(),
+        Mention::Label(_, label) => label.0 < body.labels,
+        Mention::List(_) => true,
     }
 }
 
-fn has_expr_ids(raw: &RawFacts, body: &RawBody, expr: &RawExpr) -> bool
-    ensures { IsTrue result ↔ ExprIdsExist raw.now body.now expr.now }
+fn exist(raw: &RawFacts, body: &RawBody, said: &[Said]) -> bool
+    ensures { IsTrue result ↔ AllHold (λ k s. Exists raw.now body.now s.mention) said.now }
 {
-    match expr {
-        RawExpr::Path(path) => has_path(raw, body, path),
-        RawExpr::Block {
-            label: _,
-            statements,
-            tail,
-        } => have_stmt_ids(raw, body, statements.as_slice()) && has_maybe_expr(body, tail),
-        RawExpr::Tuple(es) => have_elements(body, es.as_slice()),
-        RawExpr::If {
-            condition,
-            then_branch,
-            else_branch,
-        } => {
-            (condition.0 as usize) < body.exprs.len()
-                && (then_branch.0 as usize) < body.exprs.len()
-                && has_maybe_expr(body, else_branch)
-        }
-        RawExpr::Match { scrutinee, arms } => {
-            (scrutinee.0 as usize) < body.exprs.len() && have_arms(body, arms.as_slice())
-        }
-        RawExpr::Call { callee, args } => {
-            (callee.0 as usize) < body.exprs.len() && have_elements(body, args.as_slice())
-        }
-        RawExpr::Lit(_) | RawExpr::Other => true,
+    said.iter().all(|s| exists(raw, body, s.mention))
+}
+
+fn all_exist(alloc: Global, raw: &RawFacts, body: &RawBody) -> Result<bool, AllocError>
+    ensures { IfOk result (λ yes. IsTrue yes
+        ↔ AllHold (λ k s. Exists raw.now body.now s.mention) (body_said body.now)) }
+{
+    let said = said_of_body(alloc, body)?;
+    Ok(exist(raw, body, &said))
+}
+
+fn is_in_body(body: &RawBody, node: ExprOrPatId) -> bool
+    ensures { IsTrue result ↔ IsInBody body.now node }
+{
+    match node {
+        ExprOrPatId::ExprId(expr) => (expr.0 as usize) < body.exprs.len(),
+        ExprOrPatId::PatId(pat) => (pat.0 as usize) < body.pats.len(),
     }
 }
 
-fn have_expr_ids(raw: &RawFacts, body: &RawBody) -> bool
-    ensures { IsTrue result ↔ ExprsIdsExist raw.now body.now }
+fn are_in_body(body: &RawBody, nodes: &[ExprOrPatId]) -> bool
+    ensures { IsTrue result ↔ AllInBody body.now nodes.now }
 {
-    body.exprs
-        .as_slice()
-        .iter()
-        .all(|expr| has_expr_ids(raw, body, expr))
+    nodes.iter().all(|node| is_in_body(body, *node))
+}
+
+fn have_expr_parts(alloc: Global, body: &RawBody, exprs: &[RawExpr]) -> Result<bool, AllocError>
+    requires { exprs.now ≡ body.now.exprs }
+    ensures { IfOk result (λ yes. IsTrue yes
+        ↔ AllHold (λ e x. AllInBody body.now (nodes (expr_parts x))) body.now.exprs) }
+{
+    for expr in exprs {
+        let nodes = nodes_of_expr(alloc, expr)?;
+        if !are_in_body(body, &nodes) {
+            return Ok(false);
+        }
+    }
+    Ok(true)
+}
+
+fn have_pat_parts(alloc: Global, body: &RawBody, pats: &[RawPat]) -> Result<bool, AllocError>
+    requires { pats.now ≡ body.now.pats }
+    ensures { IfOk result (λ yes. IsTrue yes
+        ↔ AllHold (λ p x. AllInBody body.now (nodes (pat_parts x))) body.now.pats) }
+{
+    for pat in pats {
+        let nodes = nodes_of_pat(alloc, pat)?;
+        if !are_in_body(body, &nodes) {
+            return Ok(false);
+        }
+    }
+    Ok(true)
 }
 
 /// The binding that a pattern binds.
@@ -171,79 +116,32 @@ pub fn binding_of(pat: &RawPat) -> Option<BindingId>
     }
 }
 
-fn has_pat_ids(body: &RawBody, pat: &RawPat) -> bool
-    ensures { IsTrue result ↔ MaybeBindingExists body.now (binding_of pat.now) }
-{
-    has_maybe_binding(body, binding_of(pat))
-}
-
-fn have_pat_ids(body: &RawBody) -> bool
-    ensures { IsTrue result ↔ PatsIdsExist body.now }
-{
-    body.pats
-        .as_slice()
-        .iter()
-        .all(|pat| has_pat_ids(body, pat))
-}
-
-fn has_pat_parts(body: &RawBody, pat: &RawPat) -> bool
-    ensures { IsTrue result ↔ PatPartsExist body.now pat.now }
-{
-    match pat {
-        RawPat::Tuple(pats) => have_patterns(body, pats.as_slice()),
-        RawPat::TupleStruct { variant: _, args } => have_patterns(body, args.as_slice()),
-        RawPat::Lit(e) => (e.0 as usize) < body.exprs.len(),
-        RawPat::Wild | RawPat::Bind { .. } | RawPat::Path(_) | RawPat::Other => true,
-    }
-}
-
-fn have_pat_parts(body: &RawBody) -> bool
-    ensures { IsTrue result ↔ PatsPartsExist body.now }
-{
-    body.pats
-        .as_slice()
-        .iter()
-        .all(|pat| has_pat_parts(body, pat))
-}
-
-fn has_pat_names(raw: &RawFacts, body: &RawBody, pat: &RawPat) -> bool
-    ensures { IsTrue result ↔ PatNamesExist raw.now body.now pat.now }
-{
-    match pat {
-        RawPat::TupleStruct { variant, args: _ } => (variant.0 as usize) < raw.variants.len(),
-        RawPat::Path(path) => has_path(raw, body, path),
-        RawPat::Wild | RawPat::Bind { .. } | RawPat::Tuple(_) => true,
-        RawPat::Lit(_) | RawPat::Other => true,
-    }
-}
-
-fn have_pat_names(raw: &RawFacts, body: &RawBody) -> bool
-    ensures { IsTrue result ↔ PatsNamesExist raw.now body.now }
-{
-    body.pats
-        .as_slice()
-        .iter()
-        .all(|pat| has_pat_names(raw, body, pat))
-}
-
 fn have_traits(traits: &[TraitId], count: usize) -> bool
     ensures { IsTrue result ↔ ((k : ℕ) (t : TraitId) → slice_get traits.now k ≡ Some t → t.0 < count) }
 {
     traits.iter().all(|t| (t.0 as usize) < count)
 }
 
-fn has_ids(raw: &RawFacts, body: &RawBody) -> bool
-    ensures { IsTrue result ↔ BodyIdsHere raw.now body.now }
+fn has_own_parts(alloc: Global, body: &RawBody) -> Result<bool, AllocError>
+    ensures { IfOk result (λ yes. IsTrue yes ↔ AllInBody body.now (nodes (body_parts body.now))) }
 {
-    (body.module.0 as usize) < raw.modules.len()
+    let nodes = nodes_of_body(alloc, body)?;
+    Ok(are_in_body(body, &nodes))
+}
+
+fn has_ids(alloc: Global, raw: &RawFacts, body: &RawBody) -> Result<bool, AllocError>
+    ensures { IfOk result (λ yes. IsTrue yes ↔ BodyIdsHere raw.now body.now) }
+{
+    let own = has_own_parts(alloc, body)?;
+    let exprs = have_expr_parts(alloc, body, body.exprs.as_slice())?;
+    let pats = have_pat_parts(alloc, body, body.pats.as_slice())?;
+    let named = all_exist(alloc, raw, body)?;
+    Ok((body.module.0 as usize) < raw.modules.len()
         && have_traits(body.traits.as_slice(), raw.traits.len())
-        && has_maybe_binding(body, body.self_)
-        && have_patterns(body, body.params.as_slice())
-        && (body.root.0 as usize) < body.exprs.len()
-        && have_expr_ids(raw, body)
-        && have_pat_ids(body)
-        && have_pat_parts(body)
-        && have_pat_names(raw, body)
+        && exprs
+        && pats
+        && own
+        && named)
 }
 
 fn owned_body(function: &RawFn) -> Option<usize>
@@ -320,11 +218,12 @@ impl Test for BodyIds {
 
     fn test(
         &self,
-        _alloc: Global,
+        alloc: Global,
         raw: &RawFacts,
         at: usize,
         item: &RawBody,
     ) -> Result<bool, AllocError> {
-        Ok(is_one(self.owners[at]) && has_ids(raw, item))
+        let here = has_ids(alloc, raw, item)?;
+        Ok(is_one(self.owners[at]) && here)
     }
 }

@@ -10,6 +10,7 @@ mod goal_ids;
 mod ids;
 mod namers;
 mod projections;
+mod saying;
 mod test;
 
 pub use adt_ids::{AdtIds, VariantIds};
@@ -23,4 +24,5 @@ pub use goal_ids::{AliasIds, ImplIds, LangIds, TraitIds, have_goal_ids};
 pub use ids::{FnIds, ModuleIds, TypeIds};
 pub use namers::{Namers, is_nobody, is_one, namers_of};
 pub use projections::ProjectionMarks;
+pub use saying::said_of_body;
 pub use test::{Test, first_broken};

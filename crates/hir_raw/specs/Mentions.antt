@@ -34,6 +34,13 @@ of_list xs = it.List (length xs) ∷ []
 abbrev pub label_here : Option LabelId → List Mention
 label_here l = maybe (it.Label labelled.Here) l
 
+abbrev pub type_here : Option TypeRefId → List Mention
+type_here t = maybe it.Type t
+
+-- the binding that is bound here
+abbrev pub bound_here : Option BindingId → List Mention
+bound_here v = maybe it.Binds v
+
 -- ---- kinds
 
 abbrev pub path_mentions : RawPath → List Mention
@@ -43,7 +50,7 @@ path_mentions (path.Ctor v) = it.Variant v ∷ []
 path_mentions path.Other = []
 
 abbrev pub stmt_mentions : RawStmt → List Mention
-stmt_mentions (stmt.Let p written init other) = maybe it.Type written
+stmt_mentions (stmt.Let p written init other) = type_here written
 stmt_mentions (stmt.Expr e semicolon) = []
 
 abbrev pub expr_mentions : RawExpr → List Mention
@@ -67,7 +74,7 @@ pat_mentions pat.Other = []
 
 -- the body binds `self`
 abbrev pub body_mentions : RawBody → List Mention
-body_mentions b = maybe it.Binds b.self_ ++ of_list b.params
+body_mentions b = bound_here b.self_ ++ of_list b.params
 
 -- ---- by nodes
 

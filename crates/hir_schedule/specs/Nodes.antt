@@ -1,11 +1,15 @@
 -- The nodes of a body as a graph.
-use Rattle.std.specs.Prelude.{ℕ, List, [], ◌∷◌, ◌++◌, map}
+use Rattle.std.specs.Prelude.{ℕ, ◌≡◌, List, [], ◌∷◌, ◌++◌, map, slice_get, Some}
 use Rattle.hir_types.specs.declared.ids.ExprOrPatId.{ExprOrPatId}
 use Rattle.hir_raw.specs.declared.raw.RawBody.{RawBody}
-use Rattle.hir_raw.specs.Order.{Part, inner, expr_parts, pat_parts, body_parts, position}
+use Rattle.hir_raw.specs.Order.{Part, inner, IsInBody, expr_parts, pat_parts, body_parts, position}
 
 abbrev pub nodes : List Part → List ExprOrPatId
 nodes ps = map (λ p. p.node) ps
+
+-- these are expressions and patterns of the body
+abbrev pub AllInBody : RawBody → List ExprOrPatId → Type 0
+AllInBody b xs = (k : ℕ) (x : ExprOrPatId) → slice_get xs k ≡ Some x → IsInBody b x
 
 -- the parts of each expression, then of each pattern, then of the body
 abbrev pub node_lists : RawBody → List (List ExprOrPatId)

@@ -5,4 +5,5 @@ mod graph;
 mod parts;
 mod schedule;
 
+pub use parts::{nodes_of_body, nodes_of_expr, nodes_of_pat};
 pub use schedule::{is_low, schedule_of};

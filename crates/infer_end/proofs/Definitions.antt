@@ -13,14 +13,13 @@ use Rattle.hir_raw.specs.declared.raw.RawFacts.{RawFacts}
 use Rattle.hir_facts.specs.Bodies.{body_id_of, body_of, IsWalkable}
 use Rattle.hir_raw.specs.declared.raw.RawVariant.{RawVariant}
 use Rattle.hir_facts.specs.Ids.{BodyIdsExist}
+use Rattle.hir_facts.specs.Existing.{function_exists, constructor_exists, constructor_pattern_exists, tuple_struct_exists}
 use Rattle.hir_raw.specs.Scope.{scope_of}
 use Rattle.hir_facts.specs.WrittenFits.{lets_fit}
 use Rattle.hir_facts.specs.LawfulFacts.{body_ids}
 use Rattle.hir_facts.proofs.Walkable.{inputs_count}
 use Rattle.hir_facts.specs.Lawful.{IsLawful}
 use Rattle.hir_raw.specs.declared.schedule.Schedule.{Schedule}
-use Rattle.hir_raw.specs.declared.raw.RawPath.TheVariants as path
-use Rattle.hir_raw.specs.declared.raw.RawPat.TheVariants as pat
 use Rattle.infer_result.specs.Closed.{IsVariantPat, AllTypes}
 use Rattle.infer_result.specs.declared.result.InferenceResult.{InferenceResult}
 use Rattle.infer_result.specs.OwnTypes.{AreOwnTypes, AreLetTypes}
@@ -45,8 +44,8 @@ variant_there : (raw : RawFacts) (v : VariantId) → v.0 < length raw.variants �
 variant_there raw v h = found raw.variants v.0 h
 
 pattern_variant : (raw : RawFacts) (i : ℕ) (b : RawBody) → BodyIdsExist raw i b → (p : PatId) (v : VariantId) → IsVariantPat b p v → v.0 < length raw.variants
-pattern_variant raw i b ids p v (inl is) = ids.pat_names p.0 (pat.Path (path.Ctor v)) is
-pattern_variant raw i b ids p v (inr is) = ids.pat_names p.0 (pat.TupleStruct v is.0) is.1
+pattern_variant raw i b ids p v (inl is) = constructor_pattern_exists raw i b ids p v is
+pattern_variant raw i b ids p v (inr is) = tuple_struct_exists raw i b ids p v is.0 is.1
 
 module _ (raw : RawFacts) (d : DefWithBodyId) (i : BodyId) (b : RawBody) (inputs : List (Option Ty)) (output : Option Ty) (law : IsLawful raw) (id : body_id_of raw d ≡ Some i) (at : slice_get raw.bodies i.0 ≡ Some b) (own : AreOwnTypes raw d inputs output) where
   pub written_exist : (aliases : List (Option Ty)) → AreLetTypes raw d b aliases → WrittenExist (given_by raw d b inputs output aliases)
@@ -54,8 +53,8 @@ module _ (raw : RawFacts) (d : DefWithBodyId) (i : BodyId) (b : RawBody) (inputs
     lets = λ e k p w init other is. lets_fit raw law d b (found_body raw d i b id at) e k p w init other is;
     aliases = alias_in raw d b aliases lets;
     inputs = own_input_in raw law d i id inputs output own;
-    functions = λ e f is. named_function raw law f ((body_ids raw law i.0 b at).functions e f is);
-    constructors = λ e v is. (let x = variant_there raw v ((body_ids raw law i.0 b at).constructors e v is) in named_variant raw law v x.0 x.1);
+    functions = λ e f is. named_function raw law f (function_exists raw i.0 b (body_ids raw law i.0 b at) e f is);
+    constructors = λ e v is. (let x = variant_there raw v (constructor_exists raw i.0 b (body_ids raw law i.0 b at) e v is) in named_variant raw law v x.0 x.1);
     patterns = λ p v is. (let x = variant_there raw v (pattern_variant raw i.0 b (body_ids raw law i.0 b at) p v is) in named_variant raw law v x.0 x.1);
     items = item_with raw law;
   }

@@ -3,7 +3,7 @@ use Rattle.hir_ids.proofs.body_ids.BodyIdsTest.test.Goals as goal
 
 pub returns-then-is_one : goal.returns-then-is_one
 returns-then-is_one c =
-    owned_says c.args.raw.now c.args.self.now.owners.items c.args.at c.args.item.now c.index.result.now c.has_ids.result c.requires.given c.requires.listed c.index.ensures (c.is_one.ensures.0 c.if-is_one.true) c.has_ids.ensures
+    owned_says c.args.raw.now c.args.self.now.owners.items c.args.at c.args.item.now c.index.result.now _ c.requires.given c.requires.listed c.index.ensures (c.is_one.ensures.0 c.if-is_one.true) c.in_ok-here.ensures
 
 pub returns-else-is_one : goal.returns-else-is_one
 returns-else-is_one c =
