@@ -11,9 +11,7 @@ ghost use Rattle.hir_facts.specs.Counts.{count_of, CountsFit, AdtFitsBy, TypeFit
 use crate::goal_counts::goals_fit;
 use crate::standing::{Sought, mosts_of};
 use hir_ids::{Test, said_of_body};
-use hir_raw::{
-    Mention, RawAdt, RawAdtKind, RawBody, RawFacts, RawField, RawFn, RawVariant, Said,
-};
+use hir_raw::{Mention, RawAdt, RawAdtKind, RawBody, RawFacts, RawField, RawFn, RawVariant, Said};
 use hir_types::{AdtId, BodyId, TypeRefId};
 use std::alloc::{AllocError, Global};
 
@@ -91,7 +89,8 @@ fn mention_fits(standing: &Standing, count: usize, mention: Mention) -> bool
 fn mentions_fit(standing: &Standing, count: usize, said: &[Said]) -> bool
     ensures { IsTrue result ↔ ((k : ℕ) (s : Said) → slice_get said.now k ≡ Some s → MentionFits (number_in standing.now.bounds.items) (number_in standing.now.wrongs.items) count s.mention) }
 {
-    said.iter().all(|s| mention_fits(standing, count, s.mention))
+    said.iter()
+        .all(|s| mention_fits(standing, count, s.mention))
 }
 
 fn body_fits(
@@ -141,11 +140,13 @@ fn fn_fits(
 {
     let count = function.params.len();
     let body = maybe_body_fits(alloc, standing, raw, count, function.body)?;
-    Ok(has_counts(raw, function)
-        && are_fitting(standing, count, function.inputs.as_slice())
-        && fits(standing, count, function.output)
-        && goals_fit(standing, raw, count, function.preds.as_slice())
-        && body)
+    Ok(
+        has_counts(raw, function)
+            && are_fitting(standing, count, function.inputs.as_slice())
+            && fits(standing, count, function.output)
+            && goals_fit(standing, raw, count, function.preds.as_slice())
+            && body,
+    )
 }
 
 /// The counts of a function, and its written types under its own parameters.
@@ -265,9 +266,7 @@ fn variant_fits(
 {
     let count = param_count(raw, variant.adt);
     let body = maybe_body_fits(alloc, standing, raw, count, variant.body)?;
-    Ok(fields_fit(standing, count, variant.fields.as_slice())
-        && is_bare(raw, variant.body)
-        && body)
+    Ok(fields_fit(standing, count, variant.fields.as_slice()) && is_bare(raw, variant.body) && body)
 }
 
 /// The written types of a variant under the parameters of its adt.

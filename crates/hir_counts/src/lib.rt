@@ -13,5 +13,7 @@ mod uses;
 pub use counts::{AdtCounts, FnCounts, Standing, VariantCounts, number_at};
 pub use goal_counts::{AliasCounts, ImplCounts, TraitCounts};
 pub use goal_sizes::{AliasSizes, ImplSizes, LangEarly, TraitSizes};
-pub use sizes::{AdtSizes, FnSizes, ModulesEarly, TypeSizes, VariantSizes, is_early, is_short, is_short_list};
+pub use sizes::{
+    AdtSizes, FnSizes, ModulesEarly, TypeSizes, VariantSizes, is_early, is_short, is_short_list,
+};
 pub use uses::Holes;

@@ -38,13 +38,15 @@ fn is_small(
     ensures { IfOk result (λ told. IsTrue told ↔ BodyIsSmall at body.now) }
 {
     let lists = has_short_lists(alloc, body)?;
-    Ok(is_early(at)
-        && is_short(body.traits.as_slice())
-        && is_short(body.exprs.as_slice())
-        && is_short(body.pats.as_slice())
-        && is_short(body.bindings.as_slice())
-        && lists
-        && is_low(body, schedule, MOST_STEPS))
+    Ok(
+        is_early(at)
+            && is_short(body.traits.as_slice())
+            && is_short(body.exprs.as_slice())
+            && is_short(body.pats.as_slice())
+            && is_short(body.bindings.as_slice())
+            && lists
+            && is_low(body, schedule, MOST_STEPS),
+    )
 }
 
 /// The lists of a body are short, and its tree is not deep.

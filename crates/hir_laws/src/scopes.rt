@@ -99,9 +99,10 @@ fn are_in_scope(alloc: Global, body: &RawBody, schedule: &Schedule) -> Result<bo
     ensures { IfOk result (λ told. IsTrue told ↔ AreInScope body.now schedule.now) }
 {
     let said = said_of_body(alloc, body)?;
+    let said = said.as_slice();
     let starts = schedule.starts.as_slice();
-    let firsts = firsts_of(alloc, starts, &said, body.bindings.len())?;
-    Ok(come_after(starts, &firsts, &said))
+    let firsts = firsts_of(alloc, starts, said, body.bindings.len())?;
+    Ok(come_after(starts, &firsts, said))
 }
 
 fn schedule_of_tree(alloc: Global, body: &RawBody) -> Result<Schedule, AllocError>
