@@ -1,5 +1,5 @@
 -- What the law of ids says of the nodes of a body, kind by kind.
-use Rattle.std.specs.Prelude.{◌≡◌, ◌<◌, ◌++◌, ℕ, List, length, slice_get, Option, Some, None, flat_map, refl}
+use Rattle.std.specs.Prelude.{◌≡◌, ◌<◌, ◌++◌, ℕ, List, length, slice_get, Option, Some, flat_map, refl}
 use Rattle.std.proofs.Common.{ap, subst, sym}
 use Rattle.std.proofs.lemmas.Option.{option_and_then_some}
 use Rattle.hir_types.specs.declared.ids.ExprId.{ExprId}

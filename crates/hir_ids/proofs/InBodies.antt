@@ -1,15 +1,13 @@
 -- The ids of a body exist where its parts are nodes and what is said of it exists.
-use Rattle.std.proofs.Common.{◌≡◌, ◌<◌, ℕ, zero, suc, List, ◌++◌, length, map, Option, Some, None, refl, sym, ◌∙◌, ap, subst}
+use Rattle.std.proofs.Common.{◌≡◌, ℕ, List, Option, Some, None, refl, sym, ◌∙◌, ap, subst}
 use Rattle.std.specs.Prelude.{slice_get, option_map}
 use Rattle.std.proofs.lemmas.Option.{slice_get-map, slice_get_within}
-use Rattle.hir_types.specs.declared.ids.ExprOrPatId.{ExprOrPatId}
 use Rattle.hir_types.specs.declared.ids.ExprOrPatId.TheVariants as node
-use Rattle.hir_raw.specs.declared.mention.Mention.{Mention}
 use Rattle.hir_raw.specs.declared.raw.RawExpr.{RawExpr}
 use Rattle.hir_raw.specs.declared.raw.RawPat.{RawPat}
 use Rattle.hir_raw.specs.declared.raw.RawBody.{RawBody}
 use Rattle.hir_raw.specs.declared.raw.RawFacts.{RawFacts}
-use Rattle.hir_raw.specs.Order.{Part, Node, the_body, inner, IsNode, IsInBody, PartsFit, parts, parts_of_expr, parts_of_pat, expr_parts, pat_parts, body_parts}
+use Rattle.hir_raw.specs.Order.{Part, the_body, inner, IsInBody, PartsFit, parts, parts_of_expr, parts_of_pat, expr_parts, pat_parts, body_parts}
 use Rattle.hir_schedule.specs.Nodes.{nodes, AllInBody}
 use Rattle.hir_facts.specs.Entries.{AllHold}
 use Rattle.hir_facts.specs.Ids.{Exists, HasOneOwner, BodyIdsExist}

@@ -1,5 +1,5 @@
 -- Which entries of a list name a place, as they are found.
-use Rattle.std.specs.Prelude.{ℕ, ◌<◌, ◌≡◌, List, length, slice_get, slice_index_or, Option, Some}
+use Rattle.std.specs.Prelude.{ℕ, ◌<◌, ◌≡◌, List, length, slice_index_or, Option}
 use Rattle.hir_facts.specs.Named.{IsNamedAt}
 use Rattle.hir_ids.specs.declared.namers.Namers.{Namers}
 use Rattle.hir_ids.specs.declared.namers.Namers.TheVariants.{Nobody, One, Several}

@@ -11,9 +11,7 @@ ghost use Rattle.hir_ids.specs.InBody.{BodyIdsHere, AreOwners};
 use crate::namers::{Namers, is_one, namers_of};
 use crate::saying::said_of_body;
 use crate::test::Test;
-use hir_raw::{
-    Mention, RawAt, RawBody, RawExpr, RawFacts, RawFn, RawPat, RawVariant, Said,
-};
+use hir_raw::{Mention, RawAt, RawBody, RawExpr, RawFacts, RawFn, RawPat, RawVariant, Said};
 use hir_schedule::{nodes_of_body, nodes_of_expr, nodes_of_pat};
 use hir_types::{BindingId, ExprOrPatId, FunctionId, TraitId};
 use std::alloc::{AllocError, Global};
@@ -136,12 +134,14 @@ fn has_ids(alloc: Global, raw: &RawFacts, body: &RawBody) -> Result<bool, AllocE
     let exprs = have_expr_parts(alloc, body, body.exprs.as_slice())?;
     let pats = have_pat_parts(alloc, body, body.pats.as_slice())?;
     let named = all_exist(alloc, raw, body)?;
-    Ok((body.module.0 as usize) < raw.modules.len()
-        && have_traits(body.traits.as_slice(), raw.traits.len())
-        && exprs
-        && pats
-        && own
-        && named)
+    Ok(
+        (body.module.0 as usize) < raw.modules.len()
+            && have_traits(body.traits.as_slice(), raw.traits.len())
+            && exprs
+            && pats
+            && own
+            && named,
+    )
 }
 
 fn owned_body(function: &RawFn) -> Option<usize>

@@ -14,11 +14,7 @@ fn say(out: &mut Vec<Said>, node: usize, mention: Mention) -> Result<(), AllocEr
     Ok(())
 }
 
-fn say_label(
-    out: &mut Vec<Said>,
-    node: usize,
-    label: &Option<LabelId>,
-) -> Result<(), AllocError>
+fn say_label(out: &mut Vec<Said>, node: usize, label: &Option<LabelId>) -> Result<(), AllocError>
     ensures { OnOk result (out.new.items ≡ out.old.items ++ said node (label_here label.now)) }
 {
     match label {
@@ -27,11 +23,7 @@ fn say_label(
     }
 }
 
-fn say_type(
-    out: &mut Vec<Said>,
-    node: usize,
-    written: &Option<TypeRefId>,
-) -> Result<(), AllocError>
+fn say_type(out: &mut Vec<Said>, node: usize, written: &Option<TypeRefId>) -> Result<(), AllocError>
     ensures { OnOk result (out.new.items ≡ out.old.items ++ said node (type_here written.now)) }
 {
     match written {
@@ -40,11 +32,7 @@ fn say_type(
     }
 }
 
-fn say_bound(
-    out: &mut Vec<Said>,
-    node: usize,
-    bound: &Option<BindingId>,
-) -> Result<(), AllocError>
+fn say_bound(out: &mut Vec<Said>, node: usize, bound: &Option<BindingId>) -> Result<(), AllocError>
     ensures { OnOk result (out.new.items ≡ out.old.items ++ said node (bound_here bound.now)) }
 {
     match bound {

@@ -1,4 +1,4 @@
-use Rattle.std.proofs.Common.{◌≡◌, ◌∙◌, sym, subst}
+use Rattle.std.proofs.Common.{◌∙◌, sym, subst}
 use Rattle.hir_raw.specs.Order.{pat_parts}
 use Rattle.hir_schedule.specs.Nodes.{nodes, AllInBody}
 use Rattle.hir_facts.proofs.Broken.{passed_none, passed_more, not_all}
