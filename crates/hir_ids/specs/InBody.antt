@@ -1,9 +1,6 @@
 -- The ids of a body, list by list, and which definitions each body is that of.
 use Rattle.std.specs.Prelude.{ℕ, ◌<◌, ◌≡◌, List, length, slice_get, Some}
 use Rattle.hir_types.specs.declared.ids.TraitId.{TraitId}
-use Rattle.hir_types.specs.declared.ids.BindingId.{BindingId}
-use Rattle.hir_raw.specs.declared.raw.RawPath.TheVariants as path
-use Rattle.hir_raw.specs.declared.raw.RawExpr.TheVariants as expr
 use Rattle.hir_raw.specs.declared.raw.RawBody.{RawBody}
 use Rattle.hir_raw.specs.declared.raw.RawFacts.{RawFacts}
 use Rattle.hir_raw.specs.Order.{expr_parts, pat_parts, body_parts}
@@ -30,7 +27,3 @@ AreOwners raw xs = AreNamers (owned_bodies raw) (length (owned_bodies raw)) (len
 -- which adts list each variant
 abbrev pub AreListers : RawFacts → List Namers → Type 0
 AreListers raw xs = AreNamers (listed_variants raw.adts) (length (listed_variants raw.adts)) (length raw.variants) xs
-
--- locals name bindings of the body
-abbrev pub LocalsExist : RawBody → Type 0
-LocalsExist b = (e : ℕ) (v : BindingId) → slice_get b.exprs e ≡ Some (expr.Path (path.Local v)) → v.0 < length b.bindings
