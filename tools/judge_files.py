@@ -30,7 +30,7 @@ def judge_files(paths, edition, program, tells_omissions=True):
             verdicts.append(found)
             for one in found.told:
                 print("%s:%d: %s\n    %s" % (crate.path, function.function.span.line, function.name, one))
-        for omission in crate.omissions if tells_omissions else ():
+        for omission in crate.omissions() if tells_omissions else ():
             print(omission_text(omission, crate.path))
     return verdicts
 

@@ -2,6 +2,8 @@
 import collections
 import html
 
+from type_view import summary
+
 STYLE = """
 :root { color-scheme: light dark; --dim: #8a8f98; --bad: #d1242f; --line: #8886; --tip: #24292f; --on-tip: #fff; }
 body { margin: 1rem; font: 14px/1.6 ui-monospace, "DejaVu Sans Mono", monospace; }
@@ -58,7 +60,7 @@ def page(path, lines, ranges, views, omissions):
         notes[omission.span.line].append(note("left-out", omission.span, "left out: " + omission.kind))
     rows = [row(number, code(lines[number - 1], number, tags[number], hints), notes[number])
             for first, last in ranges for number in range(first, last + 1)]
-    return PAGE % {"title": html.escape(path), "style": STYLE, "summary": summary(views), "rows": "\n".join(rows)}
+    return PAGE % {"title": html.escape(path), "style": STYLE, "summary": html.escape(summary(views)), "rows": "\n".join(rows)}
 
 
 def tag(node, number, line, bad):
@@ -91,11 +93,3 @@ def code(line, number, tags, hints):
 def row(number, code_text, notes):
     return '<tr><td class="number">%d</td><td class="code">%s</td><td class="notes">%s</td></tr>' % (
         number, code_text, "".join(notes))
-
-
-def summary(views):
-    """How much the page shows, in words."""
-    typed = [view for view in views if view.shown.writer is not None]
-    complaints = sum(len(view.complaints) for view in views)
-    return "%d of %d functions are typed; complaints: %d. Types show where the pointer is." % (
-        len(typed), len(views), complaints)

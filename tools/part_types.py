@@ -1,0 +1,216 @@
+"""How items and types of which not all is carried are written in part: with placeholders for the rest."""
+import collections
+
+from crate_items import IN_SIGNATURE, Lists, Scope, Writer, named_by, parameters_of
+from hir_tree import Node, identifier, name_of, span_of
+
+# A placeholder, an adt that is equal to itself alone: a key, how its type is written, with "{}" for each of its `parts`,
+# or None where that can't be said.
+Head = collections.namedtuple("Head", "key text parts")
+
+# A function that bodies written in part call: its name, how many type parameters it has, the types that it takes and gives,
+# and which it gives where no type is chosen freely.
+Helper = collections.namedtuple("Helper", "name params inputs output fixed_output")
+
+# What an adt declares: its parameters and predicates, and of each variant the names and the types of its fields.
+Declared = collections.namedtuple("Declared", "params preds names fields")
+
+ITEMS = ("Struct", "Enum", "Union", "ForeignTy")
+
+# What no written type says: the type that each hole has where none is chosen freely.
+FIXED = Head("hole", None, 0)
+
+
+class PartLists(Lists):
+    """The numbered lists of the facts, with placeholders among the adts and helpers among the functions."""
+
+    def __init__(self, items, refused):
+        super().__init__(items, refused)
+        self.outputs = {}  # the types that functions give, by their numbers
+        self.alike = set()  # the functions that give the type of their arguments
+        self.declared = {}  # the Declared of adts that were asked for
+        self.holes = []  # the types in which a `_` stands
+        self.functions_of = collections.defaultdict(list)  # those of impls without a trait, by their adts and names
+        self.endless = set()  # the names of functions of impls and traits that do not return
+
+    def adt(self, item):
+        if isinstance(item, Head):
+            return self.adts.setdefault(item, len(self.adts))
+        return super().adt(item)
+
+    def placeholder(self, head, parts=()):
+        """The type that a placeholder is."""
+        return self.type(["adt", self.adt(head), [["t", part] for part in parts]])
+
+    def word(self, text):
+        """The type that is written so and has no parts."""
+        return self.placeholder(Head(text, text, 0))
+
+    def reference(self, ty, is_mutable):
+        text = "&mut {}" if is_mutable else "&{}"
+        return self.placeholder(Head(text, text, 1), [ty])
+
+    def array(self, ty, length):
+        return self.placeholder(Head("[{}; {}]", "[{}; {}]", 2), [ty, length])
+
+    def parameter(self, number):
+        return self.type(["param", number])
+
+    def type(self, entry, has_hole=False):
+        number = super().type(entry, has_hole)
+        if has_hole:
+            self.holes.append(number)
+        return number
+
+    def signature(self, adt):
+        """What an adt declares, in part."""
+        if adt not in self.declared:
+            of = self.items.adts[adt]
+            writer = ItemWriter(self, of.generics)
+            writer.place = of.span
+            fields = [[] if data == "Unit" or data.name == "Unit" else data[0 if data.name == "Tuple" else "fields"]
+                      for _, data, _ in of.variants]
+            params, preds = writer.generics(of.generics)
+            self.declared[adt] = Declared(
+                params, preds, [[identifier(field["ident"]) for field in of_variant] for of_variant in fields],
+                [[writer.type(field["ty"])[0] for field in of_variant] for of_variant in fields])
+        return self.declared[adt]
+
+    def helper(self, name, params, inputs, output, fixed_output=None):
+        """The number of a helper."""
+        number = self.function(Helper(name, params, tuple(inputs), output, output if fixed_output is None else fixed_output))
+        self.outputs[number] = output
+        return number
+
+
+class PartTypes:
+    """A Writer that puts a placeholder or a `_` in the place of each type that is not carried."""
+
+    def __init__(self, *arguments):
+        super().__init__(*arguments)
+        self.is_missing = False  # whether the type that is being written is not carried itself
+        self.left = 0  # how often something was left out
+
+    def leave_out(self, kind, span):
+        self.is_missing = True
+        self.left += 1
+        self.note(kind, span)
+
+    def note(self, kind, span):
+        """Notes what is left out where something stands in its place already."""
+        super().leave_out(kind, span)
+
+    def stand_within(self, outer):
+        """Has the parameters of the impl or trait that the item stands in come before its own."""
+        own = self.scope.generics
+        first = 0 if hasattr(outer, "ty") else 1
+        parameters = parameters_of(outer.generics, first)
+        parameters.update(parameters_of(own, first + len(parameters)))
+        self.scope = Scope(own, parameters)
+        self.scope.own_type = self.type(outer.ty)[0] if hasattr(outer, "ty") else self.lists.parameter(0)
+
+    def type(self, ty, hole=IN_SIGNATURE):
+        around, self.is_missing = self.is_missing, False
+        written = super().type(ty, hole)
+        if self.is_missing:
+            written = (self.lists.type("_", True), True) if hole is None else (self.stand_in(ty), False)
+        self.is_missing = around
+        return written
+
+    def stand_in(self, ty):
+        """The placeholder of a type that is not carried."""
+        make = getattr(self, "stand_in_" + name_of(ty["kind"]).lower(), None)
+        made = None if make is None else make(ty["kind"])
+        return self.opaque(span_of(ty["span"])) if made is None else made
+
+    def opaque(self, span):
+        """The placeholder of a type of which nothing is said."""
+        return self.lists.placeholder(Head(span, None, 0))
+
+    def parts(self, *types):
+        return [self.type(ty)[0] for ty in types]
+
+    def stand_in_ref(self, kind):
+        return self.lists.reference(self.type(kind[1]["ty"])[0], kind[1]["mutbl"] == "Mut")
+
+    def stand_in_ptr(self, kind):
+        text = "*mut {}" if kind[0]["mutbl"] == "Mut" else "*const {}"
+        return self.lists.placeholder(Head(text, text, 1), self.parts(kind[0]["ty"]))
+
+    def stand_in_slice(self, kind):
+        return self.lists.placeholder(Head("[{}]", "[{}]", 1), self.parts(kind[0]))
+
+    def stand_in_array(self, kind):
+        return self.lists.array(self.type(kind[0])[0], self.const(kind[1]))
+
+    def stand_in_never(self, _):
+        return self.lists.word("!")
+
+    def stand_in_fnptr(self, kind):
+        declared = kind[0]["decl"]
+        is_plain = kind[0]["safety"] == "Safe" and kind[0]["abi"] == "Rust"
+        if not is_plain or declared["output"].name != "Return":
+            return None
+        parts = self.parts(*declared["inputs"], declared["output"][0])
+        text = "fn(%s) -> {}" % ", ".join(["{}"] * (len(parts) - 1))
+        return self.lists.placeholder(Head(text, text, len(parts)), parts)
+
+    def stand_in_path(self, kind):
+        """A primitive type, or one of another crate."""
+        if kind[0].name != "Resolved" or kind[0][0] is not None:
+            return None
+        path = kind[0][1]
+        named, item = named_by(path)
+        if named == "PrimTy":
+            ty = path["res"][0]
+            return self.lists.word(ty[0] if isinstance(ty, Node) else name_of(ty).lower())
+        if named not in ITEMS or item in self.items.adts:
+            return None
+        parts = [part for part, _ in self.arguments(path["segments"][-1]["args"], IN_SIGNATURE, span_of(path["span"]))]
+        text = item.path.rpartition("::")[2] + ("<%s>" % ", ".join(["{}"] * len(parts)) if parts else "")
+        return self.lists.placeholder(Head((item[:2], len(parts)), text, len(parts)), parts)
+
+    def arguments(self, written, hole, span, constraints=False):
+        """The type arguments of a name; consts among them are placeholders."""
+        parts = []
+        for argument in written["args"] if written is not None else ():
+            if argument.name == "Const":
+                self.note("const argument", span)
+                parts.append((self.const(argument[0]), False))
+            elif argument.name == "Type":
+                parts.append(self.type(argument[0], hole))
+            elif argument.name == "Infer":
+                parts.append(self.hole(hole, span_of(argument[0]["span"])))
+        if written is not None and (len(written["constraints"]) and not constraints or written["parenthesized"] != "No"):
+            self.leave_out("constraint of an associated type", span)
+        return parts
+
+    def const(self, const):
+        """The placeholder that stands for a const."""
+        kind, span = const["kind"], span_of(const["span"])
+        if name_of(kind) == "Path" and kind[0].name == "Resolved":
+            named, item = named_by(kind[0][1])
+            if named == "ConstParam" and item in self.scope.parameters:
+                return self.parameter(item)
+        text = "" if span is None else self.items.sources.text(span)
+        return self.lists.word(text) if text.isdecimal() else self.opaque(span)
+
+    def generics(self, generics):
+        """The facts of an item's own parameters, each a type, and those predicates that are carried."""
+        for of in generics["params"]:
+            kind, span = of["kind"], span_of(of["span"])
+            if kind.name == "Const":
+                self.note("const parameter", span)
+            elif kind.name == "Type" and kind["synthetic"]:
+                self.note("`impl` type", span)
+        return ["t"] * len(parameters_of(generics)), [
+            goal for of in generics["predicates"] for goal in self.carried(of)]
+
+    def carried(self, predicate):
+        """The goals of a predicate, if all of it is carried."""
+        left, goals = self.left, self.predicate(predicate)
+        return goals if self.left == left else []
+
+
+class ItemWriter(PartTypes, Writer):
+    """Writes an item without a body in part."""
