@@ -304,6 +304,10 @@ class Writer:
         self.implying = ()  # in a trait `Self` and its associated types: what bounds on these ask follows from the trait
         self.omissions, self.place = [], None
 
+    def parameter_names(self):
+        """The names of the parameters, by their numbers."""
+        return {number: item.path.rpartition("::")[2] for item, number in self.scope.parameters.items()}
+
     @contextlib.contextmanager
     def going_into(self, what, scope):
         """Has what is written stand in a scope."""

@@ -28,10 +28,17 @@ LIMITS = [8, 1000, 8, 10]
 REPR = r"\brepr\s*\([^)]*\b([iu](?:8|16|32|64|128|size))\b"
 LANG = r'\blang\s*=\s*"(sized|copy|clone)"'
 
-# A function with a body in the source: its path in the crate, its Function, its number among the facts' functions or
+# A function with a body in the source: its path in the crate (see `name_of`), its Function, its number among the facts' functions or
 # None, the BodyWriter of its facts' body or None, what of it is left out, and whether that is nothing. Of one in part the
 # number is that among the functions of the PartFacts.
 Shown = collections.namedtuple("Shown", "name function number writer omissions is_whole")
+
+
+# A tree that rustc made, as text: the path of its crate's file, the edition, its Sources, and the errors that rustc found.
+Tree = collections.namedtuple("Tree", "text path edition sources errors")
+
+# Standard input as it is given, and the file in rustc's places that it is.
+STANDARD_INPUT, ANONYMOUS = "-", "<anon>"
 
 
 class NoFacts(Exception):
@@ -39,13 +46,13 @@ class NoFacts(Exception):
 
 
 class CrateFacts:
-    """The facts of the crate in a file (`text`), its functions with bodies (`shown`), and what is left out of it."""
+    """The facts of the crate of a Tree (`text`), its functions with bodies (`shown`), and what is left out of it."""
 
-    def __init__(self, path, edition):
-        self.sources, self.path, self.edition = Sources(), path, edition
+    def __init__(self, tree):
+        self.sources, self.path, self.edition, self.errors = tree.sources, tree.path, tree.edition, tree.errors
         self.items = Items(self.sources)
-        self.items.read(tree_of(path, edition, OWN))
-        self.items.read(core_tree())
+        self.items.read(owners_in(tree.text))
+        self.items.read(core_owners())
         self.bodies, self.body_numbers = [], {}
         self.refused = {}  # the items that can't be written, each with what of it is left out
         self.refuse_types_and_traits()
@@ -107,11 +114,20 @@ class CrateFacts:
         if function.within == "module":
             trial.body(function.body, 0)
         if trial.omissions:
-            return Shown(trial.function, function, self.lists.functions.get(function.id), None, trial.omissions, False)
+            return Shown(self.name_of(function), function, self.lists.functions.get(function.id), None, trial.omissions, False)
         writer = self.writer(function, self.lists)
         self.body_numbers[function.id] = len(self.bodies)
         self.bodies.append(writer.body(function.body, self.lists.module(function.module)))
-        return Shown(writer.function, function, self.lists.function(function.id), writer, [], True)
+        return Shown(self.name_of(function), function, self.lists.function(function.id), writer, [], True)
+
+    def name_of(self, function):
+        """The path of a function in the crate; in that of a function of an impl the name of the type that this is for."""
+        path, _, name = function.id.path.rpartition("::")
+        outer = next((of for item, of in self.items.impls.items() if item[:2] == (function.id.crate, path)), None)
+        if function.within != "impl" or outer is None:
+            return function.id.path
+        ty = re.match(r"&?(?:mut )?[\w:]*", self.sources.text(span_of(outer.ty["span"]))).group()
+        return "::".join(of for of in (path.rpartition("::")[0], ty, name) if of)
 
     def omissions(self):
         """All that is left out of the file's crate, by its place."""
@@ -230,7 +246,7 @@ class CrateFacts:
             return None
         if header["asyncness"] != "NotAsync":
             writer.leave_out("async function", function.span)
-        if declared["c_variadic"]:
+        if is_variadic(declared):
             writer.leave_out("function of any number of arguments", function.span)
         params, preds = writer.generics(function.generics)
         inputs = [writer.type(ty)[0] for ty in declared["inputs"]]
@@ -271,37 +287,54 @@ def text_of(facts):
     return json.dumps(facts, separators=(",", ":"))
 
 
+def is_variadic(declared):
+    """Whether a function takes any number of arguments, as trees of rustc 1.95 say it or those of later ones."""
+    if "c_variadic" in declared.fields:
+        return declared["c_variadic"]
+    return '"CVariadic"' in declared["fn_decl_kind"].fields.values()
+
+
 def is_shown(function):
     """Whether a function has a body that stands in the source, or in that of a macro by its own name."""
     return function.body is not None and (function.within == "module" or not function.span.context)
 
 
-def tree_of(path, edition, crate):
-    """The items of a crate as rustc's tree has them."""
-    done = rustc(path, "-Zunpretty=hir-tree", crate=crate, edition=edition)
+def tree_of(path, edition, crate=OWN):
+    """The Tree of the crate in a file; - is standard input."""
+    sources, text = Sources(), None
+    if path == STANDARD_INPUT:
+        text = sys.stdin.read()
+        sources.read[ANONYMOUS] = text.split("\n")
+    done = rustc(path, "-Zunpretty=hir-tree", crate=crate, edition=edition, text=text)
     if not done.stdout.strip():
         raise NoFacts("rustc makes no tree of %s:\n%s" % (path, done.stderr.strip()))
-    return owners_in(done.stdout)
+    return Tree(done.stdout, ANONYMOUS if path == STANDARD_INPUT else path, edition, sources, done.stderr.strip())
 
 
 @functools.cache
-def core_tree():
+def core_owners():
     """The items of the core library."""
-    return tree_of(CORE, 2021, "core")
+    return owners_in(tree_of(CORE, 2021, "core").text)
 
 
 def facts_of(path, edition, in_part=False):
     """The CrateFacts of a file."""
     try:
-        crate = CrateFacts(path, edition)
+        return facts_of_tree(tree_of(path, edition), in_part)
+    except (NoRustc, UnicodeDecodeError) as why:
+        raise NoFacts(why) from None
+
+
+def facts_of_tree(tree, in_part):
+    """The CrateFacts of a Tree."""
+    try:
+        crate = CrateFacts(tree)
         if in_part:
             crate.write_in_part()
         return crate
-    except NoRustc as why:
-        raise NoFacts(why) from None
-    except (OtherShape, AttributeError, IndexError, KeyError, TypeError) as shape:
+    except (OtherShape, AttributeError, IndexError, KeyError, TypeError, RecursionError) as shape:
         raise NoFacts("the tree that %s makes of %s has another shape than that of rustc %s, with which this was tried: %s: %s"
-                      % (version(), path, TRIED, type(shape).__name__, shape)) from shape
+                      % (version(), tree.path, TRIED, type(shape).__name__, shape)) from shape
 
 
 def place_text(span, path):

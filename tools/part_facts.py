@@ -71,11 +71,12 @@ class PartFacts:
         if function.within != "module":
             writer.note("function of %s" % ("an impl" if function.within == "impl" else "a trait"), function.span)
         preds = [goal for of in (outer, function) if of is not None for goal in writer.generics(of.generics)[1]]
-        params = len(writer.scope.parameters) + (function.within == "trait")
+        params = len(writer.parameter_names())
         inputs = [writer.type(ty)[0] for ty in declared["inputs"]]
         output = declared["output"]
         if gives_never(function):
             writer.note("type `!`", function.span)
+            writer.made_parameters[params] = "!"
             output, params = self.lists.parameter(params), params + 1
         else:
             output = writer.type(output[0])[0] if output.name == "Return" else self.lists.type(["tuple", []])

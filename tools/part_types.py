@@ -1,7 +1,7 @@
 """How items and types of which not all is carried are written in part: with placeholders for the rest."""
 import collections
 
-from crate_items import IN_SIGNATURE, Lists, Scope, Writer, named_by, parameters_of
+from crate_items import IN_SIGNATURE, Lists, Scope, Trait, Writer, named_by, parameters_of
 from hir_tree import Node, identifier, name_of, span_of
 
 # A placeholder, an adt that is equal to itself alone: a key, how its type is written, with "{}" for each of its `parts`,
@@ -90,6 +90,7 @@ class PartTypes:
         super().__init__(*arguments)
         self.is_missing = False  # whether the type that is being written is not carried itself
         self.left = 0  # how often something was left out
+        self.made_parameters = {}  # the names of parameters that the item doesn't have itself, by their numbers
 
     def leave_out(self, kind, span):
         self.is_missing = True
@@ -100,14 +101,18 @@ class PartTypes:
         """Notes what is left out where something stands in its place already."""
         super().leave_out(kind, span)
 
+    def parameter_names(self):
+        return {**super().parameter_names(), **self.made_parameters}
+
     def stand_within(self, outer):
         """Has the parameters of the impl or trait that the item stands in come before its own."""
-        own = self.scope.generics
-        first = 0 if hasattr(outer, "ty") else 1
-        parameters = parameters_of(outer.generics, first)
-        parameters.update(parameters_of(own, first + len(parameters)))
+        own, is_trait = self.scope.generics, isinstance(outer, Trait)
+        parameters = parameters_of(outer.generics, 1 if is_trait else 0)
+        parameters.update(parameters_of(own, len(parameters) + is_trait))
         self.scope = Scope(own, parameters)
-        self.scope.own_type = self.type(outer.ty)[0] if hasattr(outer, "ty") else self.lists.parameter(0)
+        if is_trait:
+            self.made_parameters[0] = "Self"
+        self.scope.own_type = self.lists.parameter(0) if is_trait else self.type(outer.ty)[0]
 
     def type(self, ty, hole=IN_SIGNATURE):
         around, self.is_missing = self.is_missing, False

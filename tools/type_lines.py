@@ -3,7 +3,7 @@ import collections
 import json
 import re
 
-from type_view import counts, kinds_left_out
+from type_view import counts
 
 DIM, RED, PLAIN = "\033[2m", "\033[31m", "\033[0m"
 
@@ -38,10 +38,10 @@ def left_out(omission):
 
 
 def standing(shown):
-    """Whether a function is typed, whole or in part, and what is left out."""
+    """Whether a function is typed, whole or in part, and how much is left out."""
     if shown.is_whole:
         return "whole"
-    return ("in part, without: " if shown.writer else "not typed: ") + kinds_left_out(shown)
+    return "%s: %d left out" % ("in part" if shown.writer else "not typed", len(shown.omissions))
 
 
 class Listing:

@@ -3,6 +3,7 @@ import collections
 import re
 
 import slices
+from facts import omission_text, place_text
 from part_reports import PartReports
 from part_types import Head, Helper
 
@@ -40,14 +41,14 @@ class Words:
 
     def type(self, ty, shown):
         """A type or goal of the report on a function: with the names of functions, constructors and parameters."""
-        parameters = {number: item.path.rpartition("::")[2] for item, number in shown.writer.scope.parameters.items()}
+        parameters = shown.writer.parameter_names()
 
         def named(found):
             word, what, number = found.group(), found.group(1), int(found.group(2))
             if word in self.names:
                 return word
             if what == "param":
-                return parameters.get(number, "!" if number else "Self")
+                return parameters[number]
             return "fn " + (self.functions if what == "fn" else self.variants)[number]
 
         return self.spelt(re.sub(r"\b(fn|variant|param)(\d+)\b", named, ty))
@@ -136,6 +137,20 @@ def summary(views):
     """How many functions are typed, in words."""
     functions, typed, in_part = counts(views)
     return "%d of %d functions typed, %d in part" % (typed, functions, in_part)
+
+
+def folded(omissions, crate):
+    """What is left out, a line each; what a `derive` makes is one."""
+    lines, derived = {}, collections.defaultdict(list)
+    for omission in omissions:
+        place = omission.span and crate.sources.derive_around(omission.span)
+        if place is None:
+            lines[omission_text(omission, crate.path)] = None
+        elif (name := crate.sources.text(omission.span)) not in derived[place]:
+            derived[place].append(name)
+            lines[place] = None
+    return [line if isinstance(line, str) else "%s: left out: derived %s" % (place_text(line, crate.path), ", ".join(derived[line]))
+            for line in lines]
 
 
 def kinds_left_out(shown):
