@@ -258,7 +258,7 @@ def is_whole_type(ty):
 def has_hole(part):
     """Whether a `_` stands in a part of the tree that is a type."""
     if isinstance(part, Node):
-        return part.name == "Infer" or any(map(has_hole, part.fields.values()))
+        return part.name == "Infer" or part.name != "Lifetime" and any(map(has_hole, part.fields.values()))
     return any(map(has_hole, part)) if isinstance(part, list) else part == "Infer"
 
 

@@ -34,6 +34,15 @@ def version():
     return subprocess.run(["rustc", "--version"], capture_output=True, text=True).stdout.strip()
 
 
+def why_not_tried():
+    """Why the trees of the rustc that is here need not be as those of the one that was tried, or None."""
+    try:
+        said = version()
+    except FileNotFoundError:
+        return "no rustc is found"
+    return None if " %s." % TRIED in said else "rustc is not %s, but %s" % (TRIED, said)
+
+
 def errors_in(done):
     """The errors that rustc tells as JSON: for each of its main places its code, or "?", and the place as it says it.
 

@@ -97,7 +97,7 @@ def put(given, crate, files, views, omissions):
               in_file(views, file)) for file in files]
     if given.html:
         with open(given.html, "w", encoding="utf-8") as out:
-            out.write(page(crate.path, parts, omissions, summary(views)))
+            out.write(page(crate.path, parts, outside_functions(crate, views, omissions), summary(views)))
         return
     for file, lines, ranges, of_file in parts:
         if len(files) > 1 and ranges:
@@ -118,15 +118,23 @@ def ranges_of(function, lines, views):
     return [(view.shown.function.span.line, view.shown.function.span.end_line) for view in views]
 
 
+def outside_functions(crate, views, omissions):
+    """What is left out of no function that is typed in part, in lines."""
+    in_part = {view.shown.function.id.path for view in views if is_in_part(view.shown)}
+    return folded([of for of in omissions if of.function not in in_part], crate)
+
+
+def is_in_part(shown):
+    return shown.writer is not None and not shown.is_whole
+
+
 def tell_omissions(crate, views, omissions):
     """Names on standard error what is left out; of functions that are typed in part it is counted."""
-    in_part = {view.shown.function.id.path for view in views if view.shown.writer is not None and not view.shown.is_whole}
-    for line in folded([of for of in omissions if of.function not in in_part], crate):
+    for line in outside_functions(crate, views, omissions):
         print(line, file=sys.stderr)
-    for view in views:
-        if view.shown.function.id.path in in_part:
-            print("%s: `%s` is typed in part, without: %s" % (
-                place_text(view.shown.function.span, crate.path), view.shown.name, kinds_left_out(view.shown)), file=sys.stderr)
+    for shown in (view.shown for view in views if is_in_part(view.shown)):
+        print("%s: `%s` is typed in part, without: %s" % (
+            place_text(shown.function.span, crate.path), shown.name, kinds_left_out(shown)), file=sys.stderr)
 
 
 def tell_others(crate, files, function):

@@ -3,7 +3,7 @@ import collections
 import json
 import re
 
-from type_view import counts
+from type_view import counts, standing
 
 DIM, RED, PLAIN = "\033[2m", "\033[31m", "\033[0m"
 
@@ -35,13 +35,6 @@ def left_out(omission):
     """What is left out, as an object."""
     span = omission.span
     return {"kind": omission.kind, "file": span and span.file, "span": span and list(span[1:5])}
-
-
-def standing(shown):
-    """Whether a function is typed, whole or in part, and how much is left out."""
-    if shown.is_whole:
-        return "whole"
-    return "%s: %d left out" % ("in part" if shown.writer else "not typed", len(shown.omissions))
 
 
 class Listing:

@@ -153,6 +153,13 @@ def folded(omissions, crate):
             for line in lines]
 
 
+def standing(shown):
+    """Whether a function is typed, whole or in part, and how much is left out."""
+    if shown.is_whole:
+        return "whole"
+    return "%s: %d left out" % ("in part" if shown.writer else "not typed", len(shown.omissions))
+
+
 def kinds_left_out(shown):
     """What is left out of a function, counted, in words."""
     kinds = collections.Counter(of.kind for of in shown.omissions)
