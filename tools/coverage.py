@@ -48,7 +48,7 @@ def expressions_in(part, bodies):
 
 def in_words(ty):
     """A type of rustc's as it stands in the source."""
-    ty = re.sub(r"'\{?\w+\}? ?", "", ty)
+    ty = re.sub(r"'\{?\w+\}?(?:, | )?", "", ty)
     ty = re.sub(r"/#\d+|_usize\b", "", ty)
     return DEFAULTS.sub("", re.sub(r"(?:\w+::)+(\w+)", r"\1", ty)).replace("<>", "")
 

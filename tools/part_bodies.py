@@ -80,18 +80,18 @@ class PartWriter(PartTypes, BodyWriter):
         """A call of a helper."""
         return ["call", self.made(["path", ["fn", helper, None]]), arguments]
 
-    def hole(self, parts=()):
+    def unknown(self, parts=()):
         """A hole behind these parts: numbers, or statements."""
         lists = self.lists
         hole = self.call(lists.helper("hole", 1, (), lists.parameter(0), lists.placeholder(FIXED)), [])
         statements = [self.part(part) if isinstance(part, int) else part for part in parts]
         return ["block", None, statements, self.made(hole)] if statements else hole
 
-    def hole_of(self, ty, parts=()):
+    def known(self, ty, parts=()):
         """A hole of this type behind these parts."""
         binding = self.made_binding()
         self.shapes[binding] = self.shape_of_type(ty)
-        let = self.let_made(binding, ty, self.made(self.hole()))
+        let = self.let_made(binding, ty, self.made(self.unknown()))
         statements = [self.part(part) if isinstance(part, int) else part for part in parts]
         return ["block", None, [*statements, let], self.made(["path", ["local", binding, None]])]
 
@@ -101,7 +101,7 @@ class PartWriter(PartTypes, BodyWriter):
     def bind(self, first=0):
         """Statements that bind at holes what is unbound from a number on."""
         bindings, self.unbound[first:] = self.unbound[first:], []
-        return [self.let_made(binding, None, self.made(self.hole())) for binding in bindings]
+        return [self.let_made(binding, None, self.made(self.unknown())) for binding in bindings]
 
     # Shapes.
 
@@ -252,7 +252,7 @@ class PartWriter(PartTypes, BodyWriter):
 
     def other_expr(self, kind, span):
         self.note(kind_of_expression(kind), span)
-        return self.hole(self.parts_in(kind))
+        return self.unknown(self.parts_in(kind))
 
     def parts_in(self, part):
         """Statements that type the expressions directly within a part of the tree."""
@@ -272,17 +272,17 @@ class PartWriter(PartTypes, BodyWriter):
             return self.literal(literal, False, span)
         self.literal(literal, False, span)
         if literal.name == "Str":
-            return self.hole_of(self.lists.reference(self.lists.word("str"), False))
+            return self.known(self.lists.reference(self.lists.word("str"), False))
         if literal.name == "Float" and isinstance(literal[1], Node):
-            return self.hole_of(self.lists.word(literal[1][0]))
-        return self.hole()
+            return self.known(self.lists.word(literal[1][0]))
+        return self.unknown()
 
     def expr_Path(self, kind, span):
         path = self.path(kind[0], span)
         if path is not None:
             return ["path", path]
         ty = self.items.values.get(named_by(kind[0][1])[1]) if kind[0].name == "Resolved" and kind[0][0] is None else None
-        return self.hole() if ty is None else self.hole_of(self.type(ty)[0])
+        return self.unknown() if ty is None else self.known(self.type(ty)[0])
 
     def expr_Call(self, kind, _):
         callee = kind[0]
@@ -290,20 +290,20 @@ class PartWriter(PartTypes, BodyWriter):
         found = None if path is None else self.path(path, span_of(callee["span"]))
         if found is None or found[0] == "local":
             parts = [self.expr(callee)] if path is None or found else []
-            return self.hole(parts + [self.expr(argument) for argument in kind[1]])
+            return self.unknown(parts + [self.expr(argument) for argument in kind[1]])
         return ["call", self.add_expr(["path", found], span_of(callee["span"])), [self.expr(argument) for argument in kind[1]]]
 
     def expr_Struct(self, kind, span):
         self.note(kind_of_expression(kind), span)
         found = self.variant_with_fields(kind[0])
         if found is None:
-            return self.hole(self.parts_in([kind[1], kind[2]]))
+            return self.unknown(self.parts_in([kind[1], kind[2]]))
         names = self.lists.signature(found[0]).names[found[1]]
         fields = {identifier(field["ident"]): self.expr(field["expr"]) for field in kind[1]}
         others = [number for name, number in fields.items() if name not in names]
         parts = [self.part(number) for number in others] + self.parts_in(kind[2])
         call = ["call", self.made(["path", self.variant_path(*found)]),
-                [fields[name] if name in fields else self.made(self.hole()) for name in names]]
+                [fields[name] if name in fields else self.made(self.unknown()) for name in names]]
         return ["block", None, parts, self.made(call)] if parts else call
 
     def expr_Let(self, kind, span):
@@ -311,7 +311,7 @@ class PartWriter(PartTypes, BodyWriter):
         self.note(kind_of_expression(kind), span)
         first, init = len(self.unbound), self.expr(kind[0]["init"])
         pattern = self.fitted(kind[0]["pat"], self.shape(init))
-        return self.hole_of(self.lists.type("bool"), [["let", pattern, None, init, None], *self.bind(first)])
+        return self.known(self.lists.type("bool"), [["let", pattern, None, init, None], *self.bind(first)])
 
     def expr_Match(self, kind, span):
         source = name_of(kind[2])
@@ -319,10 +319,10 @@ class PartWriter(PartTypes, BodyWriter):
             return self.for_loop(kind, span)
         if source in ("TryDesugar", "AwaitDesugar"):
             self.note({"TryDesugar": "`?` operator"}.get(source, "`await`"), span)
-            return self.hole([self.expr(part) for part in kind[0]["kind"][1]])
+            return self.unknown([self.expr(part) for part in kind[0]["kind"][1]])
         if not kind[1]:
             self.note("`match` without an arm", span)
-            return self.hole([self.expr(kind[0])])
+            return self.unknown([self.expr(kind[0])])
         first, scrutinee = len(self.unbound), self.expr(kind[0])
         patterns = [self.fitted(arm["pat"], self.shape(scrutinee)) for arm in kind[1]]
         bound, arms = self.bind(first), []
@@ -341,25 +341,25 @@ class PartWriter(PartTypes, BodyWriter):
         arm, first = inner[1][1], len(self.unbound)
         items = [self.part(self.expr(part)) for part in kind[0]["kind"][1]]
         pattern = self.fitted(arm["pat"]["kind"][1][0]["pat"], None)
-        items.append(["let", pattern, None, self.made(self.hole()), None])
+        items.append(["let", pattern, None, self.made(self.unknown()), None])
         items += self.bind(first)
         items.append(self.part(self.expr(arm["body"]), self.unit()))
-        return self.hole_of(self.unit(), items)
+        return self.known(self.unit(), items)
 
     def expr_Loop(self, kind, span):
         self.note(kind_of_expression(kind), span)
         block = kind[0]
         if name_of(kind[2]) != "While":
-            return self.hole([self.part(self.made(self.block(block, None)), self.unit())])
+            return self.unknown([self.part(self.made(self.block(block, None)), self.unit())])
         branches = block["expr"]["kind"]
         loop = self.made(["if", self.expr(branches[0]), self.expr(branches[1]), None])
-        return self.hole_of(self.unit(), [loop])
+        return self.known(self.unit(), [loop])
 
     def expr_Block(self, kind, span):
         block = kind[0]
         if kind[1] is not None:
             self.note("labelled block", span)
-            return self.hole([self.made(self.block(block, span))])
+            return self.unknown([self.made(self.block(block, span))])
         if block["rules"] != "DefaultBlock":
             self.note("unsafe block", span)
         return self.block(block, span)
@@ -374,7 +374,7 @@ class PartWriter(PartTypes, BodyWriter):
             self.come_to_statement(span_of(block["expr"]["span"]), behind)
             tail = self.expr(block["expr"])
         elif self.may_end(block):
-            tail = self.made(self.hole())
+            tail = self.made(self.unknown())
         self.place = around
         return ["block", None, statements, tail]
 
@@ -389,9 +389,8 @@ class PartWriter(PartTypes, BodyWriter):
         first = len(self.unbound)
         init = None if let["init"] is None else self.expr(let["init"])
         ty = None if let["ty"] is None else self.type(let["ty"], None)[0]
-        shape = None if init is None else self.shape(init)
-        if ty is not None and self.shape_of_type(ty) is not None:
-            shape = self.shape_of_type(ty)
+        is_told = ty is not None and self.lists.types[ty] != "_"
+        shape = self.shape_of_type(ty) if is_told else None if init is None else self.shape(init)
         pattern = self.fitted(let["pat"], shape)
         if is_whole_type(let["ty"]):
             self.has_types([pattern])
@@ -443,40 +442,40 @@ class PartWriter(PartTypes, BodyWriter):
             pattern = self.fitted(param["pat"], None if ty is None else self.shape_of_type(ty))
             if is_written:
                 self.has_types([pattern])
-            statements.append(["let", pattern, ty, self.made(self.hole()), None])
+            statements.append(["let", pattern, ty, self.made(self.unknown()), None])
         statements += self.bind(first)
         output = self.type(declared["output"][0], None)[0] if declared["output"].name == "Return" else None
         self.output = None
         statements.append(self.part(self.expr(body["value"]), output))
         self.output = around
-        return self.hole(statements)
+        return self.unknown(statements)
 
     def expr_ConstBlock(self, kind, span):
         self.note(kind_of_expression(kind), span)
         around, self.output = self.output, None
         parts = [self.expr(body_of(self.bodies, kind[0]["body"])["value"])]
         self.output = around
-        return self.hole(parts)
+        return self.unknown(parts)
 
     def expr_Ret(self, kind, span):
         self.note(kind_of_expression(kind), span)
-        return self.hole([] if kind[0] is None else [self.part(self.expr(kind[0]), self.output)])
+        return self.unknown([] if kind[0] is None else [self.part(self.expr(kind[0]), self.output)])
 
     def expr_Cast(self, kind, span):
         self.note(kind_of_expression(kind), span)
-        return self.hole_of(self.type(kind[1])[0], [self.expr(kind[0])])
+        return self.known(self.type(kind[1], None)[0], [self.expr(kind[0])])
 
     def expr_Binary(self, kind, span):
         self.note(kind_of_expression(kind), span)
         operator, truth = name_of(kind[0]["node"]), self.lists.type("bool")
         left, right = self.expr(kind[1]), self.expr(kind[2])
         if operator in ("And", "Or"):
-            return self.hole_of(truth, [self.part(left, truth), self.part(right, truth)])
+            return self.known(truth, [self.part(left, truth), self.part(right, truth)])
         if operator in COMPARISONS:
-            return self.hole_of(truth, [left, right])
+            return self.known(truth, [left, right])
         if self.are_alike(left, right) and operator not in SHIFTS:
             return self.alike([left, right])
-        return self.hole([left, right])
+        return self.unknown([left, right])
 
     def alike(self, parts):
         """A call of a helper that gives the type of its arguments."""
@@ -496,7 +495,7 @@ class PartWriter(PartTypes, BodyWriter):
         shape = self.shape(part)
         if name_of(kind[0]) in ("Not", "Neg") and shape is not None and shape.head in INTEGERS | {"bool"}:
             return self.alike([part])
-        return self.hole([part])
+        return self.unknown([part])
 
     def expr_Assign(self, kind, span):
         self.note(kind_of_expression(kind), span)
@@ -511,14 +510,14 @@ class PartWriter(PartTypes, BodyWriter):
         place, value = self.expr(kind[1]), self.expr(kind[2])
         if self.are_alike(place, value) and name_of(kind[0]["node"]) not in SHIFTS:
             return self.assign(place, value)
-        return self.hole_of(self.unit(), [place, value])
+        return self.known(self.unit(), [place, value])
 
     def expr_AddrOf(self, kind, span):
         """A borrow: of what is borrowed the type is known, where none is chosen freely; else a coercion may hide it."""
         self.note(kind_of_expression(kind), span)
         part = self.expr(kind[2])
         if name_of(kind[0]) != "Ref":
-            return self.hole([part])
+            return self.unknown([part])
         lists, is_mutable = self.lists, name_of(kind[1]) == "Mut"
         helper = lists.helper("borrow_mut" if is_mutable else "borrow", 2, (lists.parameter(0),), lists.parameter(1),
                               lists.reference(lists.parameter(0), is_mutable))
@@ -530,7 +529,7 @@ class PartWriter(PartTypes, BodyWriter):
         self.note(kind_of_expression(kind), span)
         parts, own = [self.expr(part) for part in kind[0]], self.lists.parameter(0)
         if len(parts) > MOST_ELEMENTS:
-            return self.hole(parts)
+            return self.unknown(parts)
         output = self.lists.array(own, self.lists.word(str(len(parts))))
         return self.call(self.lists.helper("array", 1, [own] * len(parts), output), parts)
 
@@ -539,7 +538,7 @@ class PartWriter(PartTypes, BodyWriter):
         part, own, length = self.expr(kind[0]), self.lists.parameter(0), kind[1]
         text = self.items.sources.text(span_of(length["span"])) if span_of(length["span"]) else ""
         if not text.isdecimal():
-            return self.hole([part])
+            return self.unknown([part])
         return self.call(self.lists.helper("array", 1, (own,), self.lists.array(own, self.lists.word(text))), [part])
 
     # Patterns.

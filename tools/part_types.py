@@ -38,9 +38,9 @@ class PartLists(Lists):
             return self.adts.setdefault(item, len(self.adts))
         return super().adt(item)
 
-    def placeholder(self, head, parts=()):
-        """The type that a placeholder is."""
-        return self.type(["adt", self.adt(head), [["t", part] for part in parts]])
+    def placeholder(self, head, parts=(), has_hole=False):
+        """The type that a placeholder is; whether a `_` stands in its parts has to be said."""
+        return self.type(["adt", self.adt(head), [["t", part] for part in parts]], has_hole)
 
     def word(self, text):
         """The type that is written so and has no parts."""
@@ -84,7 +84,7 @@ class PartLists(Lists):
 
 
 class PartTypes:
-    """A Writer that puts a placeholder or a `_` in the place of each type that is not carried."""
+    """A Writer that puts a placeholder in the place of each type that is not carried."""
 
     def __init__(self, *arguments):
         super().__init__(*arguments)
@@ -118,49 +118,58 @@ class PartTypes:
         around, self.is_missing = self.is_missing, False
         written = super().type(ty, hole)
         if self.is_missing:
-            written = (self.lists.type("_", True), True) if hole is None else (self.stand_in(ty), False)
+            written = self.stand_in(ty, hole)
         self.is_missing = around
         return written
 
-    def stand_in(self, ty):
-        """The placeholder of a type that is not carried."""
-        make = getattr(self, "stand_in_" + name_of(ty["kind"]).lower(), None)
-        made = None if make is None else make(ty["kind"])
-        return self.opaque(span_of(ty["span"])) if made is None else made
+    def hole(self, hole, span):
+        if hole is None:
+            return super().hole(hole, span)
+        self.leave_out(hole, span)
+        return self.opaque(span), False
+
+    def stand_in(self, ty, hole):
+        """The placeholder of a type that is not carried, and whether a `_` stands in it."""
+        find = getattr(self, "parts_of_" + name_of(ty["kind"]).lower(), None)
+        found = None if find is None else find(ty["kind"], hole)
+        if found is None:
+            return self.opaque(span_of(ty["span"])), False
+        key, text, parts = found
+        has_hole = any(holds for _, holds in parts)
+        return self.lists.placeholder(Head(key, text, len(parts)), [part for part, _ in parts], has_hole), has_hole
 
     def opaque(self, span):
         """The placeholder of a type of which nothing is said."""
         return self.lists.placeholder(Head(span, None, 0))
 
-    def parts(self, *types):
-        return [self.type(ty)[0] for ty in types]
+    # Of types that are not carried: a key, how they are written, and their parts, each with whether a `_` stands in it.
 
-    def stand_in_ref(self, kind):
-        return self.lists.reference(self.type(kind[1]["ty"])[0], kind[1]["mutbl"] == "Mut")
+    def parts_of_ref(self, kind, hole):
+        text = "&mut {}" if kind[1]["mutbl"] == "Mut" else "&{}"
+        return text, text, [self.type(kind[1]["ty"], hole)]
 
-    def stand_in_ptr(self, kind):
+    def parts_of_ptr(self, kind, hole):
         text = "*mut {}" if kind[0]["mutbl"] == "Mut" else "*const {}"
-        return self.lists.placeholder(Head(text, text, 1), self.parts(kind[0]["ty"]))
+        return text, text, [self.type(kind[0]["ty"], hole)]
 
-    def stand_in_slice(self, kind):
-        return self.lists.placeholder(Head("[{}]", "[{}]", 1), self.parts(kind[0]))
+    def parts_of_slice(self, kind, hole):
+        return "[{}]", "[{}]", [self.type(kind[0], hole)]
 
-    def stand_in_array(self, kind):
-        return self.lists.array(self.type(kind[0])[0], self.const(kind[1]))
+    def parts_of_array(self, kind, hole):
+        return "[{}; {}]", "[{}; {}]", [self.type(kind[0], hole), (self.const(kind[1]), False)]
 
-    def stand_in_never(self, _):
-        return self.lists.word("!")
+    def parts_of_never(self, _kind, _hole):
+        return "!", "!", []
 
-    def stand_in_fnptr(self, kind):
+    def parts_of_fnptr(self, kind, hole):
         declared = kind[0]["decl"]
-        is_plain = kind[0]["safety"] == "Safe" and kind[0]["abi"] == "Rust"
-        if not is_plain or declared["output"].name != "Return":
+        if kind[0]["safety"] != "Safe" or kind[0]["abi"] != "Rust" or declared["output"].name != "Return":
             return None
-        parts = self.parts(*declared["inputs"], declared["output"][0])
+        parts = [self.type(ty, hole) for ty in (*declared["inputs"], declared["output"][0])]
         text = "fn(%s) -> {}" % ", ".join(["{}"] * (len(parts) - 1))
-        return self.lists.placeholder(Head(text, text, len(parts)), parts)
+        return text, text, parts
 
-    def stand_in_path(self, kind):
+    def parts_of_path(self, kind, hole):
         """A primitive type, or one of another crate."""
         if kind[0].name != "Resolved" or kind[0][0] is not None:
             return None
@@ -168,12 +177,13 @@ class PartTypes:
         named, item = named_by(path)
         if named == "PrimTy":
             ty = path["res"][0]
-            return self.lists.word(ty[0] if isinstance(ty, Node) else name_of(ty).lower())
+            text = ty[0] if isinstance(ty, Node) else name_of(ty).lower()
+            return text, text, []
         if named not in ITEMS or item in self.items.adts:
             return None
-        parts = [part for part, _ in self.arguments(path["segments"][-1]["args"], IN_SIGNATURE, span_of(path["span"]))]
+        parts = self.arguments(path["segments"][-1]["args"], hole, span_of(path["span"]))
         text = item.path.rpartition("::")[2] + ("<%s>" % ", ".join(["{}"] * len(parts)) if parts else "")
-        return self.lists.placeholder(Head((item[:2], len(parts)), text, len(parts)), parts)
+        return (item[:2], len(parts)), text, parts
 
     def arguments(self, written, hole, span, constraints=False):
         """The type arguments of a name; consts among them are placeholders."""

@@ -3,7 +3,7 @@
 
 What it says, its lines, those on standard error and its status, is in NAME.types beside NAME.rs. Without rustc, or with
 another than the tools were tried with, nothing is looked at, and that is said.
-Usage: tools/types_check.py [--fill] [--program PATH | --unproved]
+Usage: tools/types_check.py [--fill] [--program PATH | --unproved] [FILE.rs ..]
   --fill writes what is said in the place of what is stored.
 Status 0 where all agree or nothing was looked at, 1 where some do not.
 """
@@ -41,6 +41,7 @@ def read(path):
 def main():
     parser = argparse.ArgumentParser(description=__doc__, formatter_class=argparse.RawDescriptionHelpFormatter)
     parser.add_argument("--fill", action="store_true", help="write what is said, and compare nothing")
+    parser.add_argument("files", metavar="FILE.rs", nargs="*", help="these alone")
     add_program_options(parser)
     given = parser.parse_args()
     options = ["--program=" + given.program] if given.program else ["--unproved"] * given.unproved
@@ -48,7 +49,8 @@ def main():
     if why is not None:
         print("types: nothing is looked at: %s" % why)
         return
-    paths = sorted(os.path.relpath(path, TOP) for pattern in FILES for path in glob.glob(os.path.join(TOP, pattern)))
+    files = given.files or [path for pattern in FILES for path in glob.glob(os.path.join(TOP, pattern))]
+    paths = sorted(os.path.relpath(path, TOP) for path in files)
     wrong = 0
     for path in paths:
         said, stored = said_of(path, options), read(stored_at(path))
