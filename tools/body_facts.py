@@ -2,7 +2,7 @@
 import re
 
 from crate_items import RESOLUTIONS, Writer, named_by
-from hir_tree import def_id, identifier, name_of, span_of
+from hir_tree import Node, def_id, identifier, name_of, span_of
 
 EXPRESSIONS = {
     "ConstBlock": "const block", "Array": "array", "MethodCall": "method call", "Use": "`use` of a value",
@@ -32,17 +32,20 @@ class BodyWriter(Writer):
     """Writes one body.
 
     It keeps by the names that a report gives to nodes, as "e0", "p0" and "b0", their spans (`spans`), and the spans of the
-    least part of the source itself around them (`places`), which are the same where no macro wrote them.
+    least part of the source itself around them (`places`), which are the same where no macro wrote them. `written` are
+    the bindings whose types stand in the source.
     """
 
     def __init__(self, lists, generics, function):
         super().__init__(lists, generics, 0, function)
         self.exprs, self.pats, self.bindings, self.spans, self.places = [], [], [], {}, {}
+        self.written = set()
         self.locals = {}  # the binding of each local, by the HirId of its pattern
 
     def body(self, body, module):
         """The facts of a body."""
         params = [self.pattern(param["pat"]) for param in body["params"]]
+        self.has_types(params)
         root = self.expr(body["value"])
         return {"module": module, "traits": [], "self": None, "params": params, "root": root, "exprs": self.exprs,
                 "pats": self.pats, "bindings": self.bindings, "labels": 0}
@@ -181,7 +184,14 @@ class BodyWriter(Writer):
             self.leave_out("`let` with `else`", span_of(let["span"]))
         init = None if let["init"] is None else self.expr(let["init"])
         ty = None if let["ty"] is None else self.type(let["ty"], None)[0]
-        return ["let", self.pattern(let["pat"]), ty, init, None]
+        pattern = self.pattern(let["pat"])
+        if is_whole_type(let["ty"]):
+            self.has_types([pattern])
+        return ["let", pattern, ty, init, None]
+
+    def has_types(self, patterns):
+        """Notes that the types of these patterns are written."""
+        self.written.update("b%d" % self.pats[pattern][1] for pattern in patterns if self.pats[pattern][0] == "bind")
 
     def pattern(self, pat):
         """The number of a pattern."""
@@ -238,6 +248,18 @@ class BodyWriter(Writer):
         if name_of(kind) == "Path":
             return ["path", self.path(kind[0], span)]
         self.leave_out("pattern of the kind " + name_of(kind), span)
+
+
+def is_whole_type(ty):
+    """Whether a type is written, and no `_` in it."""
+    return ty is not None and not has_hole(ty)
+
+
+def has_hole(part):
+    """Whether a `_` stands in a part of the tree that is a type."""
+    if isinstance(part, Node):
+        return part.name == "Infer" or part.name != "Lifetime" and any(map(has_hole, part.fields.values()))
+    return any(map(has_hole, part)) if isinstance(part, list) else part == "Infer"
 
 
 def kind_of_expression(kind):

@@ -12,8 +12,9 @@ Omission = collections.namedtuple("Omission", "kind span function")
 # of those that have one. `module` is the module that the item stands in.
 Adt = collections.namedtuple("Adt", "id kind name generics variants discriminants span vis module")
 
-# A function. `within` says what it stands in: "module", "impl" or "trait". `body` is None where there is none.
-Function = collections.namedtuple("Function", "id name within generics signature body span vis module")
+# A function. `within` says what it stands in: "module", "impl" or "trait". `body` is None where there is none; `bodies` are
+# those of closures and consts in it too.
+Function = collections.namedtuple("Function", "id name within generics signature body bodies span vis module")
 
 # A name for another type.
 Alias = collections.namedtuple("Alias", "id generics ty")
@@ -35,7 +36,8 @@ GivenType = collections.namedtuple("GivenType", "associated generics ty is_final
 # That types implement a trait: its DefId, and the numbers of the types, the one that implements it first.
 Bound = collections.namedtuple("Bound", "trait types")
 
-# Items that say nothing of types by themselves.
+# Items that have facts, and those that say nothing of types by themselves.
+CARRIED = {"Fn", "Struct", "Enum"}
 SILENT = {"ExternCrate", "Use", "Mod", "Macro", "TyAlias"}
 
 OTHER_ITEMS = {
@@ -73,7 +75,8 @@ class Items:
     def __init__(self, sources):
         self.sources = sources
         self.modules, self.adts, self.functions, self.aliases, self.constructors = {}, {}, {}, {}, {}
-        self.traits, self.associated_types, self.impls = {}, {}, {}
+        self.variants = {}  # by their crates and paths
+        self.traits, self.associated_types, self.impls, self.values = {}, {}, {}, {}  # of consts and statics the types
         self.impls_of = collections.defaultdict(list)  # the impls of each trait
         self.paths = {}  # the modules by their crates and paths
         self.others = []  # an Omission for each item of a kind that has no facts
@@ -112,7 +115,7 @@ class Items:
             signature = kind["sig"]
             body = body_of(bodies, kind["body"]) if kind["has_body"] else None
             self.functions[item] = Function(item, identifier(kind["ident"]), "module", kind["generics"], signature, body,
-                                            span, vis, module)
+                                            bodies, span, vis, module)
         elif name == "Struct":
             variants = [(identifier(kind[0]), kind[2], span)]
             self.add_adt(Adt(item, "struct", identifier(kind[0]), kind[1], variants, [], span, vis, module))
@@ -122,7 +125,9 @@ class Items:
             self.add_adt(Adt(item, "enum", identifier(kind[0]), kind[1], variants, discriminants, span, vis, module))
         elif name == "TyAlias":
             self.aliases[item] = Alias(item, kind[1], kind[2])
-        elif name not in SILENT and item.crate == OWN:
+        elif name in ("Const", "Static"):
+            self.values[item] = kind[2]
+        if name not in CARRIED and name not in SILENT and item.crate == OWN:
             self.others.append(Omission(OTHER_ITEMS.get(name, name), span, None))
 
     def read_abstract(self, item, kind, span, members):
@@ -153,7 +158,8 @@ class Items:
 
     def add_adt(self, adt):
         self.adts[adt.id] = adt
-        for at, (_, data, _) in enumerate(adt.variants):
+        for at, (name, data, _) in enumerate(adt.variants):
+            self.variants[adt.id.crate, "%s::%s" % (adt.id.path, name)] = (adt.id, at)
             if name_of(data) in ("Unit", "Tuple"):
                 constructor = data[1 if data.name == "Unit" else 2]
                 self.constructors[def_id(constructor)] = (adt.id, at)
@@ -169,7 +175,7 @@ class Items:
             body = body[0] if body.name == "Provided" else None
         self.functions[item] = Function(
             item, identifier(node["ident"]), within, node["generics"], kind[0],
-            None if body is None else body_of(bodies, body), span_of(node["span"]), None, self.module_of(item))
+            None if body is None else body_of(bodies, body), bodies, span_of(node["span"]), None, self.module_of(item))
 
 
 def parted(members):
@@ -297,6 +303,10 @@ class Writer:
         self.within = []  # what is gone into: type aliases, and traits and parameters, with the name that is looked up there
         self.implying = ()  # in a trait `Self` and its associated types: what bounds on these ask follows from the trait
         self.omissions, self.place = [], None
+
+    def parameter_names(self):
+        """The names of the parameters, by their numbers."""
+        return {number: item.path.rpartition("::")[2] for item, number in self.scope.parameters.items()}
 
     @contextlib.contextmanager
     def going_into(self, what, scope):

@@ -2,12 +2,14 @@
 """Writes the facts text of the crate in a Rust file, with its names as rustc resolves them.
 
 What has no facts yet is named on standard error with its place, and the function that it stands in has no body in the
-text; with --strict nothing is written then. Items of the core library come from `tools/core.rs`; those of other crates
-are left out. Needs rustc; tried with 1.95.
+text; with --in-part it has one, in which something else stands in its place (`part_bodies.py`), and with --strict nothing
+is written then. Items of the core library come from `tools/core.rs`; those of other crates are left out. Needs rustc;
+tried with 1.95.
 Status 0 where the text is written, 1 where --strict refuses it, 2 where there is no such text.
 """
 import argparse
 import collections
+import functools
 import json
 import os
 import re
@@ -16,6 +18,7 @@ import sys
 from body_facts import BodyWriter
 from crate_items import IMPLIED, Bound, Items, Lists, Writer, trait_of
 from hir_tree import OWN, OtherShape, identifier, name_of, owners_in, span_of
+from part_facts import PartFacts
 from rustc import TRIED, NoRustc, rustc, version
 from sources import Sources
 
@@ -25,9 +28,17 @@ LIMITS = [8, 1000, 8, 10]
 REPR = r"\brepr\s*\([^)]*\b([iu](?:8|16|32|64|128|size))\b"
 LANG = r'\blang\s*=\s*"(sized|copy|clone)"'
 
-# A function with a body in the source: its path in the crate, its Function, its number among the facts' functions or
-# None, the BodyWriter of its facts' body or None, and what of it is left out.
-Shown = collections.namedtuple("Shown", "name function number writer omissions")
+# A function with a body in the source: its path in the crate (see `name_of`), its Function, its number among the facts' functions or
+# None, the BodyWriter of its facts' body or None, what of it is left out, and whether that is nothing. Of one in part the
+# number is that among the functions of the PartFacts.
+Shown = collections.namedtuple("Shown", "name function number writer omissions is_whole")
+
+
+# A tree that rustc made, as text: the path of its crate's file, the edition, its Sources, and the errors that rustc found.
+Tree = collections.namedtuple("Tree", "text path edition sources errors")
+
+# Standard input as it is given, and the file in rustc's places that it is.
+STANDARD_INPUT, ANONYMOUS = "-", "<anon>"
 
 
 class NoFacts(Exception):
@@ -35,13 +46,13 @@ class NoFacts(Exception):
 
 
 class CrateFacts:
-    """The facts of the crate in a file (`text`), its functions with bodies (`shown`), and what is left out of it."""
+    """The facts of the crate of a Tree (`text`), its functions with bodies (`shown`), and what is left out of it."""
 
-    def __init__(self, path, edition):
-        self.sources, self.path = Sources(), path
+    def __init__(self, tree):
+        self.sources, self.path, self.edition, self.errors = tree.sources, tree.path, tree.edition, tree.errors
         self.items = Items(self.sources)
-        self.items.read(tree_of(path, edition, OWN))
-        self.items.read(tree_of(CORE, 2021, "core"))
+        self.items.read(owners_in(tree.text))
+        self.items.read(core_owners())
         self.bodies, self.body_numbers = [], {}
         self.refused = {}  # the items that can't be written, each with what of it is left out
         self.refuse_types_and_traits()
@@ -55,8 +66,14 @@ class CrateFacts:
                     number(item)
         self.shown = [self.show(of) for of in self.items.functions.values() if is_shown(of)]
         self.shown.sort(key=lambda of: of.function.span)
-        self.omissions = self.all_omissions()
-        self.text = json.dumps(self.facts(edition), separators=(",", ":"))
+        self.facts = self.all_facts()
+        self.text = text_of(self.facts)
+        self.part = None
+
+    def write_in_part(self):
+        """Writes the functions too of which something is left out, each in part."""
+        self.part = PartFacts(self)
+        self.shown = [of if of.is_whole else self.part.shown(of) for of in self.shown]
 
     def refuse_types_and_traits(self):
         """Finds the adts, traits and impls that can't be written, until none of the others names one that can't."""
@@ -97,13 +114,22 @@ class CrateFacts:
         if function.within == "module":
             trial.body(function.body, 0)
         if trial.omissions:
-            return Shown(trial.function, function, self.lists.functions.get(function.id), None, trial.omissions)
+            return Shown(self.name_of(function), function, self.lists.functions.get(function.id), None, trial.omissions, False)
         writer = self.writer(function, self.lists)
         self.body_numbers[function.id] = len(self.bodies)
         self.bodies.append(writer.body(function.body, self.lists.module(function.module)))
-        return Shown(writer.function, function, self.lists.function(function.id), writer, [])
+        return Shown(self.name_of(function), function, self.lists.function(function.id), writer, [], True)
 
-    def all_omissions(self):
+    def name_of(self, function):
+        """The path of a function in the crate; in that of a function of an impl the name of the type that this is for."""
+        path, _, name = function.id.path.rpartition("::")
+        outer = next((of for item, of in self.items.impls.items() if item[:2] == (function.id.crate, path)), None)
+        if function.within != "impl" or outer is None:
+            return function.id.path
+        ty = re.match(r"&?(?:mut )?[\w:]*", self.sources.text(span_of(outer.ty["span"]))).group()
+        return "::".join(of for of in (path.rpartition("::")[0], ty, name) if of)
+
+    def omissions(self):
         """All that is left out of the file's crate, by its place."""
         omissions = set(self.items.others)
         for item, of in self.refused.items():
@@ -113,8 +139,13 @@ class CrateFacts:
             omissions.update(of.omissions)
         return sorted(omissions, key=lambda of: (of.span or (), of.kind))
 
-    def facts(self, edition):
+    def head(self):
+        """The facts that are of no item, and those of kinds that are not carried."""
         features = set(re.findall(r"\w+", " ".join(self.sources.attributes_of_file(self.path))))
+        return {"profile": 1, "edition": self.edition, "never_fallback": "never_type_fallback" in features,
+                "new_range": "new_range" in features, "limits": LIMITS, "consts": [], "statics": [], "opaques": []}
+
+    def all_facts(self):
         functions = [self.function(self.items.functions[item], self.writer(self.items.functions[item], self.lists))
                      for item in self.lists.functions]
         traits = [self.trait(of, self.item_writer(of, self.lists)) for of in map(self.items.traits.get, self.lists.traits)]
@@ -127,11 +158,9 @@ class CrateFacts:
             adts.append(fact)
             variants += of_adt
         return {
-            "profile": 1, "edition": edition, "never_fallback": "never_type_fallback" in features,
-            "new_range": "new_range" in features, "limits": LIMITS, "types": self.lists.types,
-            "modules": [self.parent(module) for module in self.lists.modules], "adts": adts, "variants": variants,
-            "fns": functions, "consts": [], "statics": [], "traits": [fact for fact, _ in traits], "aliases": aliases,
-            "impls": impls, "opaques": [], "lang": self.lang(), "bodies": self.bodies}
+            **self.head(), "types": self.lists.types, "modules": [self.parent(module) for module in self.lists.modules],
+            "adts": adts, "variants": variants, "fns": functions, "traits": [fact for fact, _ in traits], "aliases": aliases,
+            "impls": impls, "lang": self.lang(self.lists), "bodies": self.bodies}
 
     def parent(self, module):
         parent = self.items.modules[module]
@@ -201,10 +230,10 @@ class CrateFacts:
         return {"trait": [trait, arguments], "params": params, "preds": preds, "self": own, "fns": [], "consts": [],
                 "types": types}
 
-    def lang(self):
-        """The traits that the language knows."""
+    def lang(self, lists):
+        """The traits that the language knows, by their numbers in these lists."""
         found = {}
-        for item, number in self.lists.traits.items():
+        for item, number in lists.traits.items():
             for attribute in self.sources.attributes_before(self.items.traits[item].span):
                 found.update((name, number) for name in re.findall(LANG, attribute))
         return found
@@ -217,7 +246,7 @@ class CrateFacts:
             return None
         if header["asyncness"] != "NotAsync":
             writer.leave_out("async function", function.span)
-        if declared["c_variadic"]:
+        if is_variadic(declared):
             writer.leave_out("function of any number of arguments", function.span)
         params, preds = writer.generics(function.generics)
         inputs = [writer.type(ty)[0] for ty in declared["inputs"]]
@@ -254,28 +283,58 @@ class CrateFacts:
         return None
 
 
+def text_of(facts):
+    return json.dumps(facts, separators=(",", ":"))
+
+
+def is_variadic(declared):
+    """Whether a function takes any number of arguments, as trees of rustc 1.95 say it or those of later ones."""
+    if "c_variadic" in declared.fields:
+        return declared["c_variadic"]
+    return '"CVariadic"' in declared["fn_decl_kind"].fields.values()
+
+
 def is_shown(function):
     """Whether a function has a body that stands in the source, or in that of a macro by its own name."""
     return function.body is not None and (function.within == "module" or not function.span.context)
 
 
-def tree_of(path, edition, crate):
-    """The items of a crate as rustc's tree has them."""
-    done = rustc(path, "-Zunpretty=hir-tree", crate=crate, edition=edition)
+def tree_of(path, edition, crate=OWN):
+    """The Tree of the crate in a file; - is standard input."""
+    sources, text = Sources(), None
+    if path == STANDARD_INPUT:
+        text = sys.stdin.read()
+        sources.read[ANONYMOUS] = text.split("\n")
+    done = rustc(path, "-Zunpretty=hir-tree", crate=crate, edition=edition, text=text)
     if not done.stdout.strip():
         raise NoFacts("rustc makes no tree of %s:\n%s" % (path, done.stderr.strip()))
-    return owners_in(done.stdout)
+    return Tree(done.stdout, ANONYMOUS if path == STANDARD_INPUT else path, edition, sources, done.stderr.strip())
 
 
-def facts_of(path, edition):
+@functools.cache
+def core_owners():
+    """The items of the core library."""
+    return owners_in(tree_of(CORE, 2021, "core").text)
+
+
+def facts_of(path, edition, in_part=False):
     """The CrateFacts of a file."""
     try:
-        return CrateFacts(path, edition)
-    except NoRustc as why:
+        return facts_of_tree(tree_of(path, edition), in_part)
+    except (NoRustc, UnicodeDecodeError) as why:
         raise NoFacts(why) from None
-    except (OtherShape, AttributeError, IndexError, KeyError, TypeError) as shape:
+
+
+def facts_of_tree(tree, in_part):
+    """The CrateFacts of a Tree."""
+    try:
+        crate = CrateFacts(tree)
+        if in_part:
+            crate.write_in_part()
+        return crate
+    except (OtherShape, AttributeError, IndexError, KeyError, TypeError, RecursionError) as shape:
         raise NoFacts("the tree that %s makes of %s has another shape than that of rustc %s, with which this was tried: %s: %s"
-                      % (version(), path, TRIED, type(shape).__name__, shape)) from shape
+                      % (version(), tree.path, TRIED, type(shape).__name__, shape)) from shape
 
 
 def place_text(span, path):
@@ -306,19 +365,21 @@ def add_file_options(parser):
 def main():
     parser = argparse.ArgumentParser(description=__doc__, formatter_class=argparse.RawDescriptionHelpFormatter)
     parser.add_argument("file", metavar="FILE.rs")
-    parser.add_argument("--strict", action="store_true", help="write nothing where something is left out")
+    how = parser.add_mutually_exclusive_group()
+    how.add_argument("--strict", action="store_true", help="write nothing where something is left out")
+    how.add_argument("--in-part", action="store_true", help="write all functions, each without what is left out of it")
     add_file_options(parser)
     given = parser.parse_args()
     try:
-        crate = facts_of(given.file, given.edition)
+        crate = facts_of(given.file, given.edition, given.in_part)
     except NoFacts as why:
         print("facts.py: %s" % why, file=sys.stderr)
         sys.exit(2)
-    for omission in crate.omissions:
+    for omission in crate.omissions():
         print(omission_text(omission, given.file), file=sys.stderr)
-    if given.strict and crate.omissions:
+    if given.strict and crate.omissions():
         sys.exit(1)
-    put_out(crate.text)
+    put_out(text_of(crate.part.facts if given.in_part else crate.facts))
 
 
 if __name__ == "__main__":

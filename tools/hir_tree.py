@@ -106,6 +106,11 @@ def name_of(value):
     return name
 
 
+def is_expression(part):
+    """Whether a part of a tree is an expression: a statement or a pattern that is one has this name too."""
+    return isinstance(part, Node) and part.name == "Expr" and "kind" in part.fields
+
+
 def span_of(text):
     """The Span that a text says, or None where it says that there is none."""
     found = SPAN.fullmatch(text)

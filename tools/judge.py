@@ -7,7 +7,8 @@ facts, with the items that it may name; it may have type parameters with bounds,
 is said in `verdicts.py`. Of the bodies made at random, one in which a value is used after it moved (E0382) has rustc's
 types from a source in which all can be copied; in files it has none, nor has any other with an error. With --from-source
 the bodies made at random and by hand are judged as files, so that `facts.py` is tried on them.
-Status 1 where a difference is listed, 2 where nothing can be compared.
+A file that can't be judged is named on standard error, and the others are judged.
+Status 1 where a difference is listed, 2 where nothing, or some file not, can be compared.
 """
 import argparse
 import collections
@@ -688,7 +689,7 @@ def bodies_of(count, seed):
 
 
 def judge_sources(count, seed, edition, program):
-    """The Verdicts on these bodies from their sources alone, which stand in files of 20."""
+    """The Verdicts on these bodies from their sources alone, which stand in files of 20, and the files that can't be judged."""
     lines, _, _ = bodies_of(count, seed)
     with tempfile.TemporaryDirectory() as folder:
         for at in range(0, len(lines), 20):
@@ -724,18 +725,20 @@ def main():
     if len(given.words) > 2 and all(word.isdecimal() for word in given.words):
         parser.error("at most COUNT and SEED are numbers")
     try:
-        program = Program(given.program, given.unproved)
+        program, failed = Program(given.program, given.unproved), []
         if not all(word.isdecimal() for word in given.words):
-            verdicts = judge_files(given.words, given.edition, program)
+            verdicts, failed = judge_files(given.words, given.edition, program)
         else:
             count, seed = [*map(int, given.words), *(300, 1)[len(given.words):]]
-            verdicts = (judge_sources(count, seed, given.edition, program) if given.from_source
-                        else judge_bodies(count, seed, program))
+            if given.from_source:
+                verdicts, failed = judge_sources(count, seed, given.edition, program)
+            else:
+                verdicts = judge_bodies(count, seed, program)
     except (NoFacts, NoReport, NoRustc) as why:
         print("judge.py: %s" % why, file=sys.stderr)
         sys.exit(2)
-    print("%d bodies: %s" % (len(verdicts), summary(verdicts)))
-    sys.exit(1 if any(of.told for of in verdicts) else 0)
+    print("%d bodies: %s%s" % (len(verdicts), summary(verdicts), "; files not judged: %d" % len(failed) if failed else ""))
+    sys.exit(1 if any(of.told for of in verdicts) else 2 if failed else 0)
 
 
 if __name__ == "__main__":

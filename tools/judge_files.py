@@ -1,37 +1,50 @@
 """Judges the functions of Rust files: rustc's verdicts and types beside ours."""
 import collections
 import glob
-import json
 import os
+import sys
 import tempfile
 
 from crate_items import parameters_of
-from facts import facts_of, omission_text
+from facts import NoFacts, facts_of, omission_text
 from hir_tree import span_of
+from program import NoReport
 from rustc import NoRustc, errors_in, in_our_words, rustc, thir_types, with_parameters
+from slices import reports_on
 from verdicts import Judged, Nodes, verdict
 
 
 def judge_files(paths, edition, program, tells_omissions=True):
-    """The Verdicts on the functions of these files and of those in these folders.
+    """The Verdicts on the functions of these files and of those in these folders, and the files that can't be judged.
 
-    The differences are printed, and what is left out of the files where that is wanted.
+    The differences are printed, and what is left out of the files where that is wanted; why a file can't be judged is said
+    on standard error.
     """
-    crates = [facts_of(path, edition) for path in files_of(paths)]
-    functions = [(crate, of) for crate in crates for of in crate.shown if of.writer is not None]
-    reports = iter(program.reports([(crate.text, of.number) for crate, of in functions]))
-    verdicts = []
-    for crate in crates:
-        errors, bounded = errors_of(crate, edition), bounded_in(json.loads(crate.text))
-        theirs = types_of(crate, edition, errors)
-        for function in (of for of in crate.shown if of.writer is not None):
-            types = None if around_with_errors(crate, errors, function) else theirs
-            found = verdict(judged(function, next(reports), errors[function.function.id], types, bounded))
-            verdicts.append(found)
-            for one in found.told:
-                print("%s:%d: %s\n    %s" % (crate.path, function.function.span.line, function.name, one))
-        for omission in crate.omissions if tells_omissions else ():
-            print(omission_text(omission, crate.path))
+    verdicts, failed = [], []
+    for path in files_of(paths):
+        try:
+            crate = facts_of(path, edition)
+            verdicts += judge_file(crate, edition, program)
+        except (NoFacts, NoReport, NoRustc, OSError) as why:
+            failed.append(path)
+            print("%s: not judged: %s" % (path, why), file=sys.stderr)
+            continue
+        for omission in crate.omissions() if tells_omissions else ():
+            print(omission_text(omission, path))
+    return verdicts, failed
+
+
+def judge_file(crate, edition, program):
+    """The Verdicts on the functions of a file, whose differences are printed."""
+    shown = [of for of in crate.shown if of.writer is not None]
+    reports = iter(reports_on([(crate.facts, of.number) for of in shown], program))
+    errors, bounded = errors_of(crate, edition), bounded_in(crate.facts)
+    theirs, verdicts = types_of(crate, edition, errors), []
+    for function in shown:
+        types = None if around_with_errors(crate, errors, function) else theirs
+        verdicts.append(verdict(judged(function, next(reports), errors[function.function.id], types, bounded)))
+        for one in verdicts[-1].told:
+            print("%s:%d: %s\n    %s" % (crate.path, function.function.span.line, function.name, one))
     return verdicts
 
 

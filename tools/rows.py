@@ -19,7 +19,7 @@ import tempfile
 
 import program
 from facts import NoFacts, facts_of, omission_text
-from rustc import TRIED, NoRustc, rustc, version
+from rustc import why_not_tried
 
 DATA = os.path.join(program.TOP, "crates", "infer_tests", "data")
 MARK = r'"\$(\w+)"'
@@ -286,7 +286,7 @@ class Made:
             with open(path, "w", encoding="utf-8") as out:
                 out.write("\n".join(lines) + "\n")
             crate = facts_of(path, 2021)
-            self.omissions = [omission_text(of, path) for of in crate.omissions]
+            self.omissions = [omission_text(of, path) for of in crate.omissions()]
         self.facts = json.loads(crate.text)
         self.numbers = {of.name: of.number for of in crate.shown if of.writer is not None}
         self.lists = {"adts": crate.lists.adts, "fns": crate.lists.functions, "traits": crate.lists.traits,
@@ -334,25 +334,14 @@ def write_fills(path, fills):
         out.write("\n".join(lines))
 
 
-def is_tried():
-    """Whether rustc is there and one with which the tools were tried; else it is said that nothing is looked at."""
-    try:
-        rustc(os.devnull, "--version")
-        if " %s." % TRIED in version():
-            return True
-        why = "rustc is not %s, but %s" % (TRIED, version())
-    except NoRustc as no_rustc:
-        why = str(no_rustc)
-    print("rows: nothing is looked at: %s" % why)
-    return False
-
-
 def main():
     parser = argparse.ArgumentParser(description=__doc__, formatter_class=argparse.RawDescriptionHelpFormatter)
     parser.add_argument("--fill", action="store_true", help="write the facts into rows with a source that have none")
     parser.add_argument("files", metavar="FILE.rows", nargs="*")
     given = parser.parse_args()
-    if not is_tried():
+    why = why_not_tried()
+    if why is not None:
+        print("rows: nothing is looked at: %s" % why)
         return 0
     paths = given.files or sorted(glob.glob(os.path.join(DATA, "*.rows")))
     rows = [row for path in paths for row in rows_of(path)]

@@ -16,11 +16,14 @@ class NoRustc(Exception):
     """There is no rustc, or it gives no answer that is of use."""
 
 
-def rustc(path, *options, crate=OWN, edition=2021, folder=None, timeout=None):
-    """What rustc says of the crate in this file, which is called so; it takes the options of nightly ones."""
+def rustc(path, *options, crate=OWN, edition=2021, folder=None, timeout=None, text=None):
+    """What rustc says of the crate in this file, which is called so; it takes the options of nightly ones.
+
+    The file - has this text.
+    """
     words = ["rustc", "--crate-type=lib", "--cap-lints=allow", "--crate-name=" + crate, "--edition=%d" % edition]
     try:
-        return subprocess.run([*words, *options, path], capture_output=True, text=True, cwd=folder,
+        return subprocess.run([*words, *options, path], capture_output=True, text=True, cwd=folder, input=text,
                               env=dict(os.environ, RUSTC_BOOTSTRAP="1"), timeout=timeout)
     except FileNotFoundError:
         raise NoRustc("no rustc is found: install a Rust toolchain (tried with %s)" % TRIED) from None
@@ -29,6 +32,15 @@ def rustc(path, *options, crate=OWN, edition=2021, folder=None, timeout=None):
 def version():
     """What rustc says of its version."""
     return subprocess.run(["rustc", "--version"], capture_output=True, text=True).stdout.strip()
+
+
+def why_not_tried():
+    """Why the trees of the rustc that is here need not be as those of the one that was tried, or None."""
+    try:
+        said = version()
+    except FileNotFoundError:
+        return "no rustc is found"
+    return None if " %s." % TRIED in said else "rustc is not %s, but %s" % (TRIED, said)
 
 
 def errors_in(done):

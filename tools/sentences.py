@@ -203,10 +203,9 @@ def main():
         cases = [case for case in cases if not case.fails]
         answers = answers_of_try(cases)
     else:
-        try:
-            path = program.Program(options.program).path
-        except program.NoReport as e:
-            sys.exit(str(e))
+        path = options.program or program.PROGRAM
+        if not os.path.exists(path):
+            sys.exit("there is no program at %s: build it (README), name one with --program, or give --unproved" % path)
         with ThreadPoolExecutor(2) as pool:
             answers = list(pool.map(lambda case: answer(path, case), cases))
     wrong = 0

@@ -2,6 +2,7 @@
 import re
 
 WORD_BEHIND = re.compile(r"(?:\s|;|//.*|/\*.*?\*/)*([\w:]+!?)?")
+DERIVE = re.compile(r"\bderive\s*\((?!.*\))")
 ATTRIBUTE_OR_COMMENT = re.compile(r"\s*(#!?\[.*\])?\s*(?://.*)?")
 
 
@@ -34,6 +35,19 @@ class Sources:
             if found.group(1):
                 return span._replace(line=number, column=found.start(1) + 1, end_line=number, end_column=found.end(1) + 1)
             column = 0
+        return None
+
+    def derive_around(self, span):
+        """The Span of the `derive` in whose parentheses something stands, or None."""
+        for number in range(span.line, 0, -1):
+            line = self.lines(span.file)[number - 1]
+            line = line[:span.column - 1] if number == span.line else line
+            found = list(DERIVE.finditer(line))
+            if found:
+                column = found[-1].start() + 1
+                return span._replace(line=number, column=column, end_line=number, end_column=column, context=0)
+            if ")" in line or "{" in line or ";" in line:
+                return None
         return None
 
     def attributes_before(self, span):

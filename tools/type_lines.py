@@ -3,23 +3,38 @@ import collections
 import json
 import re
 
+from type_view import counts, standing
+
 DIM, RED, PLAIN = "\033[2m", "\033[31m", "\033[0m"
 
 # What is said below a part of the source: its Span, the sign that marks it, the text, and its color.
 Mark = collections.namedtuple("Mark", "span sign text color")
 
 
-def json_lines(views):
-    """The views as objects, each on a line."""
+def json_lines(views, omissions):
+    """The views as objects, each on a line, and what is left out beside them."""
     for view in views:
-        head = {"fn": view.shown.name, "line": view.shown.function.span.line, "typed": view.shown.writer is not None}
-        if view.shown.omissions:
-            head["left_out"] = view.shown.omissions[0].kind
-        yield json.dumps(head)
+        shown = view.shown
+        head = {"fn": shown.name, "file": shown.function.span.file, "line": shown.function.span.line,
+                "typed": shown.writer is not None, "whole": shown.is_whole}
+        yield json.dumps({**head, "left_out": [left_out(of) for of in shown.omissions]})
         for node in view.nodes:
             yield json.dumps({"node": node.kind, "span": list(node.span[1:5]), "type": node.type})
-        for complaint in view.complaints:
-            yield json.dumps({"complaint": complaint.name, "span": list(complaint.span[1:5]), "text": complaint.text})
+        for name, found in (("complaint", view.complaints), ("remark", view.remarks)):
+            for of in found:
+                yield json.dumps({name: of.name, "span": list(of.span[1:5]), "text": of.text})
+    inside = {omission for view in views for omission in view.shown.omissions}
+    for omission in omissions:
+        if omission not in inside:
+            yield json.dumps({"left_out": left_out(omission)})
+    functions, typed, in_part = counts(views)
+    yield json.dumps({"functions": functions, "typed": typed, "in_part": in_part})
+
+
+def left_out(omission):
+    """What is left out, as an object."""
+    span = omission.span
+    return {"kind": omission.kind, "file": span and span.file, "span": span and list(span[1:5])}
 
 
 class Listing:
@@ -32,11 +47,16 @@ class Listing:
         self.lines, self.colored = lines, colored
         self.hints, self.marks = collections.defaultdict(list), collections.defaultdict(list)
         for view in views:
+            span = view.shown.function.span
+            self.hints[span.line].append((len(lines[span.line - 1]) + 1, "  // " + standing(view.shown)))
             for complaint in view.complaints:
                 text = "%s:%d:%d: %s: %s" % (*complaint.span[:3], complaint.name, complaint.text)
                 self.marks[complaint.span.line].append(Mark(complaint.span, "^", text, RED))
+            for remark in view.remarks:
+                text = "%s:%d:%d: remark: %s" % (*remark.span[:3], remark.text)
+                self.marks[remark.span.line].append(Mark(remark.span, "~", text, DIM))
             for node in sorted(view.nodes, key=lambda of: of.span):
-                if node.kind == "binding":
+                if node.kind == "binding" and not node.is_written:
                     self.hints[node.span.end_line].append((node.span.end_column, "/*: %s*/" % node.type))
                 elif node.kind == "expr" and every:
                     self.marks[node.span.line].append(Mark(node.span, "-", node.type, DIM))
