@@ -190,8 +190,9 @@ class BodyWriter(Writer):
         return ["let", pattern, ty, init, None]
 
     def has_types(self, patterns):
-        """Notes that the types of these patterns are written."""
-        self.written.update("b%d" % self.pats[pattern][1] for pattern in patterns if self.pats[pattern][0] == "bind")
+        """Notes that the types of these patterns are written; the facts of one that is left out are None."""
+        facts = [self.pats[pattern] or "left out" for pattern in patterns]
+        self.written.update("b%d" % fact[1] for fact in facts if fact[0] == "bind")
 
     def pattern(self, pat):
         """The number of a pattern."""

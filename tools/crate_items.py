@@ -36,6 +36,9 @@ GivenType = collections.namedtuple("GivenType", "associated generics ty is_final
 # That types implement a trait: its DefId, and the numbers of the types, the one that implements it first.
 Bound = collections.namedtuple("Bound", "trait types")
 
+# Where a trait's node has its parts: `auto` or not, name, generics, bounds and items. Later trees name them.
+TRAIT_PARTS = ((1, 3, 4, 5, 6), ("is_auto", "ident", "generics", "bounds", "items"))
+
 # Items that have facts, and those that say nothing of types by themselves.
 CARRIED = {"Fn", "Struct", "Enum"}
 SILENT = {"ExternCrate", "Use", "Mod", "Macro", "TyAlias"}
@@ -133,12 +136,13 @@ class Items:
     def read_abstract(self, item, kind, span, members):
         """A trait or an impl. `members` are the nodes of associated items by their DefIds."""
         if kind.name == "Trait":
-            others, nodes = parted([members[def_id(of["owner_id"])] for of in kind[6]])
+            is_auto, name, generics, bounds, items = (kind[part] for part in TRAIT_PARTS["items" in kind.fields])
+            others, nodes = parted([members[def_id(of["owner_id"])] for of in items])
             types = {}
             for of in nodes:
                 types.setdefault(identifier(of["ident"]), associated_type(of, item))
             self.associated_types.update((of.id, of) for of in types.values())
-            self.traits[item] = Trait(item, identifier(kind[3]), kind[1] == "Yes", kind[4], kind[5], others, types, span)
+            self.traits[item] = Trait(item, identifier(name), is_auto == "Yes", generics, bounds, others, types, span)
         else:
             kind = kind[0]
             header, (others, types) = kind["of_trait"], parted([members[def_id(of["owner_id"])] for of in kind["items"]])
