@@ -27,26 +27,19 @@ fn has_short_lists(alloc: Global, body: &RawBody) -> Result<bool, AllocError>
     Ok(are_short(&said))
 }
 
-fn is_small(
-    alloc: Global,
-    at: usize,
-    body: &RawBody,
-    schedule: &Schedule,
-) -> Result<bool, AllocError>
+fn is_small(at: usize, body: &RawBody, schedule: &Schedule, has_short_lists: bool) -> bool
     requires schedule { IsSchedule body.now schedule.now }
     requires depths { AreDepths body.now schedule.now }
-    ensures { IfOk result (λ told. IsTrue told ↔ BodyIsSmall at body.now) }
+    requires lists { IsTrue has_short_lists ↔ AllMentioned (λ n m. ListIsShort m) body.now }
+    ensures { IsTrue result ↔ BodyIsSmall at body.now }
 {
-    let lists = has_short_lists(alloc, body)?;
-    Ok(
-        is_early(at)
-            && is_short(body.traits.as_slice())
-            && is_short(body.exprs.as_slice())
-            && is_short(body.pats.as_slice())
-            && is_short(body.bindings.as_slice())
-            && lists
-            && is_low(body, schedule, MOST_STEPS),
-    )
+    is_early(at)
+        && is_short(body.traits.as_slice())
+        && is_short(body.exprs.as_slice())
+        && is_short(body.pats.as_slice())
+        && is_short(body.bindings.as_slice())
+        && has_short_lists
+        && is_low(body, schedule, MOST_STEPS)
 }
 
 /// The lists of a body are short, and its tree is not deep.
@@ -72,6 +65,7 @@ impl<'a> Test for BodySizes<'a> {
         item: &RawBody,
     ) -> Result<bool, AllocError> {
         let schedule = &self.schedules.as_slice()[at];
-        is_small(alloc, at, item, schedule)
+        let has_short_lists = has_short_lists(alloc, item)?;
+        Ok(is_small(at, item, schedule, has_short_lists))
     }
 }
