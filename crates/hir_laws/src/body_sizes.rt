@@ -65,7 +65,7 @@ impl<'a> Test for BodySizes<'a> {
         item: &RawBody,
     ) -> Result<bool, AllocError> {
         let schedule = &self.schedules.as_slice()[at];
-        let has_short_lists = has_short_lists(alloc, item)?;
-        Ok(is_small(at, item, schedule, has_short_lists))
+        let lists = has_short_lists(alloc, item)?;
+        Ok(is_small(at, item, schedule, lists))
     }
 }
