@@ -7,6 +7,7 @@ import time
 
 from facts import NoFacts, Tree, tree_of
 from hir_tree import OWN
+from rustc import QUIETLY
 from sources import Sources
 
 KINDS = ("lib", "rlib", "proc-macro", "bin")
@@ -27,7 +28,7 @@ def cargo_tree(folder):
     which = ["--bin", target["name"]] if target["kind"][0] == "bin" else ["--lib"]
     # An option that no earlier call had, without which cargo would not ask rustc again.
     words = ["rustc", "--quiet", "--profile=check", "--manifest-path", package["manifest_path"], *which, "--",
-             "-Zunpretty=hir-tree", "--cap-lints=allow", "--cfg=asked_%d" % time.time_ns()]
+             "-Zunpretty=hir-tree", *QUIETLY, "--cfg=asked_%d" % time.time_ns()]
     done = cargo(words)
     path, edition = os.path.relpath(target["src_path"]), int(target["edition"])
     if not done.stdout.strip():

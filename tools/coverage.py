@@ -6,6 +6,7 @@ tools/coverage.py $(rustc --print sysroot)/share/doc/rust/html/reference. Counte
 what macros write. A type is known where no part of it is open; `{integer}` is one that nothing said. Where rustc accepts a
 text, there should be no complaint, and our types should be among those that it has at the same place; types of functions, closures
 and traits are written in other ways there, and are not compared.
+An interrupt ends it with what is counted so far.
 Status 0 where there is no difference, 1 where there is one, 2 where nothing can be compared.
 """
 import argparse
@@ -75,6 +76,8 @@ class Count:
             function = view.shown.function
             how = "whole" if view.shown.is_whole else "part" if view.shown.writer else "none"
             self.of["functions", how] += 1
+            if how == "none":
+                self.told += ["%s:%d: not typed: %s" % (name, function.span.line, of.kind) for of in view.shown.omissions[:1]]
             self.of["expressions", how] += sum(1 for _ in expressions_in(function.body["value"], function.bodies))
             for node in view.nodes:
                 if node.kind == "expr" and UNKNOWN not in node.type:
@@ -138,6 +141,19 @@ def types_of(path, edition):
     return types
 
 
+def count_all(examples, program, strict, count):
+    """Counts texts; where somebody looks on, how many are done is said."""
+    with ThreadPoolExecutor(2) as pool:
+        try:
+            for one in pool.map(lambda of: count_of(of, program, strict), examples):
+                count.add(one)
+                if sys.stderr.isatty():
+                    print("%d texts" % count.of["texts"], end="\r", file=sys.stderr)
+        except KeyboardInterrupt:
+            pool.shutdown(cancel_futures=True)
+            raise
+
+
 def main():
     parser = argparse.ArgumentParser(description=__doc__, formatter_class=argparse.RawDescriptionHelpFormatter)
     parser.add_argument("paths", nargs="+", metavar="FOLDER | FILE")
@@ -148,9 +164,9 @@ def main():
     count = Count()
     try:
         program = Program(given.program, given.unproved)
-        with ThreadPoolExecutor(2) as pool:
-            for one in pool.map(lambda of: count_of(of, program, given.strict), examples_in(given.paths, given.edition)):
-                count.add(one)
+        count_all(examples_in(given.paths, given.edition), program, given.strict, count)
+    except KeyboardInterrupt:
+        print("coverage.py: interrupted", file=sys.stderr)
     except (NoReport, NoRustc, OSError) as why:
         print("coverage.py: %s" % why, file=sys.stderr)
         sys.exit(2)

@@ -705,6 +705,9 @@ def judge_bodies(count, seed, program):
     theirs = types_of([line if {code for code, _ in errors.get(number, ())} <= MOVES else ""
                        for number, line in enumerate(lines)])
     reports = program.reports([(text, 0) for text in texts])
+    for report in reports:
+        if isinstance(report, NoReport):
+            raise report
     verdicts = []
     for number, (line, text, report, writer) in enumerate(zip(lines, texts, reports, writers)):
         nodes = Nodes(writer.exprs, writer.pats, writer.places, bounded_in(json.loads(text)))

@@ -37,12 +37,15 @@ def judge_files(paths, edition, program, tells_omissions=True):
 def judge_file(crate, edition, program):
     """The Verdicts on the functions of a file, whose differences are printed."""
     shown = [of for of in crate.shown if of.writer is not None]
-    reports = iter(reports_on([(crate.facts, of.number) for of in shown], program))
+    reports = list(reports_on([(crate.facts, of.number) for of in shown], program))
+    for report in reports:
+        if isinstance(report, NoReport):
+            raise report
     errors, bounded = errors_of(crate, edition), bounded_in(crate.facts)
     theirs, verdicts = types_of(crate, edition, errors), []
-    for function in shown:
+    for function, report in zip(shown, reports):
         types = None if around_with_errors(crate, errors, function) else theirs
-        verdicts.append(verdict(judged(function, next(reports), errors[function.function.id], types, bounded)))
+        verdicts.append(verdict(judged(function, report, errors[function.function.id], types, bounded)))
         for one in verdicts[-1].told:
             print("%s:%d: %s\n    %s" % (crate.path, function.function.span.line, function.name, one))
     return verdicts

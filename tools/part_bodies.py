@@ -298,9 +298,12 @@ class PartWriter(PartTypes, BodyWriter):
         found = self.variant_with_fields(kind[0])
         if found is None:
             return self.unknown(self.parts_in([kind[1], kind[2]]))
-        names = self.lists.signature(found[0]).names[found[1]]
-        fields = {identifier(field["ident"]): self.expr(field["expr"]) for field in kind[1]}
-        others = [number for name, number in fields.items() if name not in names]
+        names, fields, others = self.lists.signature(found[0]).names[found[1]], {}, []
+        for field in kind[1]:
+            name, number = identifier(field["ident"]), self.expr(field["expr"])
+            if name in fields or name not in names:
+                others.append(number)
+            fields.setdefault(name, number)
         parts = [self.part(number) for number in others] + self.parts_in(kind[2])
         call = ["call", self.made(["path", self.variant_path(*found)]),
                 [fields[name] if name in fields else self.made(self.unknown()) for name in names]]

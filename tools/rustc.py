@@ -8,6 +8,9 @@ from hir_tree import OWN, def_id, span_of
 
 TRIED = "1.95"
 
+# Without lints, and without files for long types.
+QUIETLY = ["--cap-lints=allow", "-Zwrite-long-types-to-disk=no"]
+
 # How an error says which call asks for a bound, where its main place is an argument.
 BY_CALL = "required by a bound introduced by this call"
 
@@ -21,7 +24,7 @@ def rustc(path, *options, crate=OWN, edition=2021, folder=None, timeout=None, te
 
     The file - has this text.
     """
-    words = ["rustc", "--crate-type=lib", "--cap-lints=allow", "--crate-name=" + crate, "--edition=%d" % edition]
+    words = ["rustc", "--crate-type=lib", "--crate-name=" + crate, "--edition=%d" % edition, *QUIETLY]
     try:
         return subprocess.run([*words, *options, path], capture_output=True, text=True, cwd=folder, input=text,
                               env=dict(os.environ, RUSTC_BOOTSTRAP="1"), timeout=timeout)

@@ -2,6 +2,8 @@
 import json
 import re
 
+from program import NoReport
+
 LISTS = ("modules", "types", "adts", "variants", "fns", "traits", "aliases", "impls")
 
 
@@ -204,6 +206,7 @@ class Slice:
 
 
 def reports_on(asked, program):
-    """The reports on functions, of which each is facts and a number there."""
+    """The reports on functions, of which each is facts and a number there; a NoReport where there is none."""
     slices = [Slice(facts, number) for facts, number in asked]
-    return [of.back(report) for of, report in zip(slices, program.reports([(of.text, of.number) for of in slices]))]
+    reports = program.reports([(of.text, of.number) for of in slices])
+    return [of if isinstance(of, NoReport) else own.back(of) for own, of in zip(slices, reports)]

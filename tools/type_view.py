@@ -3,9 +3,11 @@ import collections
 import re
 
 import slices
+from crate_items import Omission
 from facts import omission_text, place_text
 from part_reports import PartReports
 from part_types import Head, Helper
+from program import NoReport
 
 # A node of the source: "expr", "pat" or "binding", its Span, its type, and whether the source has that already.
 Node = collections.namedtuple("Node", "kind span type is_written")
@@ -96,17 +98,21 @@ def views_of(crate, program, function=None, files=None):
 
 
 def reports_on(crate, chosen, program):
-    """The report on each of these functions, or None where it is not typed."""
+    """The report on each of these functions, None where it is not typed, or a NoReport."""
     parts = PartReports(crate.part) if any(of.writer is not None and not of.is_whole for of in chosen) else None
     asked = [[] if of.writer is None else [(crate.facts, of.number)] if of.is_whole else parts.asked(of.number)
              for of in chosen]
     reports = iter(slices.reports_on([pair for pairs in asked for pair in pairs], program))
     found = [[next(reports) for _ in pairs] for pairs in asked]
-    return [None if not of else of[0] if len(of) == 1 else parts.together(*of) for of in found]
+    return [next((of for of in both if isinstance(of, NoReport)), None) or (parts.together(*both) if both[1:] else both[0])
+            if both else None for both in found]
 
 
 def view_of(shown, report, words):
-    """The View of a function, whose report is None where it is not typed."""
+    """The View of a function, whose report is None where it is not typed, and a NoReport where the program gives none."""
+    if isinstance(report, NoReport):
+        refused = Omission(str(report), shown.function.span, shown.function.id.path)
+        return View(shown._replace(writer=None, omissions=[refused, *shown.omissions], is_whole=False), [], [], [])
     if report is None:
         return View(shown, [], [], [])
     writer = shown.writer
