@@ -27,10 +27,10 @@ fn has_short_lists(alloc: Global, body: &RawBody) -> Result<bool, AllocError>
     Ok(are_short(&said))
 }
 
-fn is_small(at: usize, body: &RawBody, schedule: &Schedule, has_short_lists: bool) -> bool
+fn is_small(at: usize, body: &RawBody, schedule: &Schedule) -> bool
     requires schedule { IsSchedule body.now schedule.now }
     requires depths { AreDepths body.now schedule.now }
-    requires lists { IsTrue has_short_lists ↔ AllMentioned (λ n m. ListIsShort m) body.now }
+    requires lists { AllMentioned (λ n m. ListIsShort m) body.now }
     ensures { IsTrue result ↔ BodyIsSmall at body.now }
 {
     is_early(at)
@@ -38,7 +38,6 @@ fn is_small(at: usize, body: &RawBody, schedule: &Schedule, has_short_lists: boo
         && is_short(body.exprs.as_slice())
         && is_short(body.pats.as_slice())
         && is_short(body.bindings.as_slice())
-        && has_short_lists
         && is_low(body, schedule, MOST_STEPS)
 }
 
@@ -65,7 +64,9 @@ impl<'a> Test for BodySizes<'a> {
         item: &RawBody,
     ) -> Result<bool, AllocError> {
         let schedule = &self.schedules.as_slice()[at];
-        let lists = has_short_lists(alloc, item)?;
-        Ok(is_small(at, item, schedule, lists))
+        if !has_short_lists(alloc, item)? {
+            return Ok(false);
+        }
+        Ok(is_small(at, item, schedule))
     }
 }
