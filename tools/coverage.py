@@ -95,20 +95,21 @@ class Count:
                 self.of["different", how] += 1
                 self.told.append("%s:%d:%d: rustc %s; we %s" % (name, *node.span[1:3], " and ".join(sorted(theirs)), node.type))
 
-    def __str__(self):
-        def share(word, *ways):
-            return sum(self.of[word, how] for how in ways)
+    def share(self, word, *ways):
+        """A count, in functions that are typed in these ways or in any."""
+        return sum(self.of[word, how] for how in ways or ("whole", "part", "none"))
 
-        every = ("whole", "part", "none")
-        expressions, known = share("expressions", *every), share("known", *every)
-        return ("%d texts, %d without a tree; %d functions: %d whole, %d in part, %d not typed; of %d expressions %d have a known type "
-                "(%.1f %%): %d in whole functions, %d in part (%d with `{integer}`); texts that rustc accepts: %d, complaints there: "
-                "%d; types compared: %d, different: %d" % (
-                    self.of["texts"], self.of["no tree"], share("functions", *every), self.of["functions", "whole"],
-                    self.of["functions", "part"], self.of["functions", "none"], expressions, known,
-                    100 * known / max(expressions, 1), self.of["known", "whole"], self.of["known", "part"],
-                    share("integer", *every), self.of["accepted"], share("complaints", *every), share("compared", *every),
-                    share("different", *every)))
+    def __str__(self):
+        expressions, known = self.share("expressions"), self.share("known")
+        return "; ".join([
+            "%d texts, %d without a tree" % (self.of["texts"], self.of["no tree"]),
+            "%d functions: %d whole, %d in part, %d not typed" % (
+                self.share("functions"), *(self.share("functions", how) for how in ("whole", "part", "none"))),
+            "of %d expressions %d have a known type (%.1f %%): %d in whole functions, %d in part (%d with `{integer}`)" % (
+                expressions, known, 100 * known / max(expressions, 1), self.share("known", "whole"), self.share("known", "part"),
+                self.share("integer")),
+            "texts that rustc accepts: %d, complaints there: %d" % (self.of["accepted"], self.share("complaints")),
+            "types compared: %d, different: %d" % (self.share("compared"), self.share("different"))])
 
 
 def count_of(example, program, strict):

@@ -590,7 +590,6 @@ class PartWriter(PartTypes, BodyWriter):
         if kind[0][0] != "No" or kind[3] is not None or kind[1] in self.locals:
             self.note("`ref` binding" if kind[0][0] != "No" else "binding with a subpattern", span)
             self.bind_all(kind)
-            self.bind_all(Node("Binding") if kind[3] is None else kind[3])
             return "lost"
         fact = self.pattern_Binding(kind, span)
         self.shapes[fact[1]] = shape

@@ -13,7 +13,7 @@ import os
 import sys
 
 from cargo import cargo_tree
-from facts import NoFacts, add_file_options, facts_of, facts_of_tree, omission_text, place_text, put_out
+from facts import NoFacts, add_file_options, facts_of, facts_of_tree, place_text, put_out
 from program import NoReport, Program, add_program_options
 from type_lines import Listing, json_lines
 from type_page import page

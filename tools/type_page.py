@@ -94,10 +94,10 @@ class FilePage:
         line, span = self.lines[number - 1], node.span
         begun = span.column if number == span.line else len(line) - len(line.lstrip()) + 1
         ended = span.end_column if number == span.end_line else len(line.rstrip()) + 1
-        own, is_bad = "", number == span.line and span in bad
-        if number == span.line:
-            own = ' id="%s-%d-%d-%d-%d-%d-%s"' % ("n", self.at, *span[1:5], node.kind)
-        return begun, ended, '<span%s class="node%s" data-type="%s">' % (own, " bad" * is_bad, html.escape(node.type))
+        is_first = number == span.line
+        own = ' id="n-%d-%d-%d-%d-%d-%s"' % (self.at, *span[1:5], node.kind) if is_first else ""
+        marks = " bad" if is_first and span in bad else ""
+        return begun, ended, '<span%s class="node%s" data-type="%s">' % (own, marks, html.escape(node.type))
 
     def text(self):
         rows = [row for first, last in self.ranges for number in range(first, last + 1) for row in self.rows(number)]
@@ -136,8 +136,9 @@ def page(title, parts, left_out, summary):
         files.append(FilePage(at, lines, ranges, views).text())
         complaints += [complaint_link(at, of) for view in views for of in view.complaints]
     listed = "<ul>%s</ul>" % "".join(complaints) if complaints else "<p>No complaint.</p>"
+    items = details("left out of items: %d" % len(left_out), left_out) if left_out else ""
     return PAGE % {"title": html.escape(title), "style": STYLE, "summary": html.escape(summary), "complaints": listed,
-                   "files": "\n".join(files), "left_out": details("left out of items: %d" % len(left_out), left_out) if left_out else ""}
+                   "files": "\n".join(files), "left_out": items}
 
 
 def line_id(at, number):
