@@ -3,6 +3,8 @@
 
 mod laws;
 
+pub use infer_table;
+pub use infer_table::hir_types;
 pub use laws::{
     answers_are_one, answers_tell_proofs, decided_answers_stay, deeper_answers_agree,
     selected_is_the_source,

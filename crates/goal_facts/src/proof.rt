@@ -1,8 +1,8 @@
 //! Proofs of goals, which name each other by their numbers.
 ghost use Rattle.std.specs.Prelude.{◌≡◌, IfOk};
 
+use hir_facts::hir_types::{Folded, Unchanged};
 use hir_facts::{GenericArg, Goal, ImplId, List};
-use hir_types::{Folded, Unchanged};
 use std::alloc::{AllocError, Global};
 
 /// What a goal is proved by.

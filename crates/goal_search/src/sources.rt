@@ -1,6 +1,6 @@
 //! What goals are answered by.
 use goal_terms::Term;
-use hir_types::{TraitId, TypeAliasId};
+use goal_terms::hir_types::{TraitId, TypeAliasId};
 
 /// What a goal asks.
 #[derive(Clone, Copy, Debug, PartialEq, Eq, Hash)]

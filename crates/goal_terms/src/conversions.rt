@@ -1,12 +1,13 @@
 //! Types and lists of their arguments as terms.
 ghost use Rattle.std.specs.Prelude.{◌≡◌, [], IfOk, map};
-ghost use Rattle.hir_types.specs.Terms.{term, node, chain, const_term, const_part, type_part, arg_term};
-ghost use Rattle.hir_types.specs.Outlines.{part_term, part_terms};
-ghost use Rattle.goal_terms.specs.Terms.{term_of, IsHead, HasHeads};
+ghost use Rattle.goal_terms.specs.Words.{term, node, chain, const_term, const_part, type_part, arg_term, part_term, part_terms};
+ghost use Rattle.goal_terms.specs.Own.{term_of, IsHead, HasHeads};
 
 use crate::levels::one_level;
 use crate::term::Term;
-use hir_types::{Const, GenericArg, Head, Hole, List, MOST_LEVELS, Outline, OutlinePart, Ty};
+use goal_answers::hir_types::{
+    Const, GenericArg, Head, Hole, List, MOST_LEVELS, Outline, OutlinePart, Ty,
+};
 use std::alloc::{AllocError, Global};
 
 /// A head without parts.
@@ -105,7 +106,7 @@ pub fn type_term(alloc: Global, ty: &Ty) -> Result<Term, AllocError>
     type_within(alloc, ty, MOST_LEVELS)
 }
 
-#[tactic(auto, using(hir_types::specs::TermLaws::term_is))]
+#[tactic(auto, using(crate::specs::Words::hir_types::TermLaws::term_is))]
 fn arg_of(alloc: Global, arg: &GenericArg) -> Result<Term, AllocError>
     ensures is { IfOk result (λ made. term_of made ≡ arg_term arg.now) }
     ensures heads { IfOk result (λ made. IsHead (term_of made) × HasHeads (term_of made)) }

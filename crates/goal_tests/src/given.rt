@@ -1,5 +1,5 @@
 //! Facts of traits, associated types and impls alone.
-use hir_facts::{
+use infer_goals::hir_facts::{
     Edition, Facts, List, RawAlias, RawFacts, RawImpl, RawLang, RawLimits, RawTrait, RawType, Text,
     TypeAliasId,
 };

@@ -4,3 +4,5 @@ pub mod Measures
 pub mod Standing
 pub mod Uses
 pub mod Most
+pub mod Words
+pub mod Own

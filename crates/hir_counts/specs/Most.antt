@@ -1,12 +1,7 @@
 -- The greatest number in a written type, part by part.
 use Rattle.std.specs.Prelude.{◌≡◌, ◌<◌, ◌≤◌, ℕ, zero, suc, max, List, [], ◌∷◌, map, slice_get, Option, Some, None, refl}
 use Rattle.std.proofs.Common.{◌∙◌, ap, arith}
-use Rattle.hir_types.specs.declared.ids.TypeRefId.{TypeRefId}
-use Rattle.hir_types.specs.Types.{most}
-use Rattle.hir_raw.specs.declared.raw.RawType.{RawType}
-use Rattle.hir_raw.specs.WrittenTypes.{type_parts}
-use Rattle.hir_ids.specs.Entries.{AllHold}
-use Rattle.hir_ids.specs.Ids.{ChildrenBefore}
+use Rattle.hir_counts.specs.Words.{TypeRefId, most, RawType, type_parts, AllHold, ChildrenBefore}
 use Rattle.hir_counts.specs.Standing.{most_by, most_within, most_in}
 
 nums_same : (f g : ℕ → ℕ) (ts : List TypeRefId) → ((k : ℕ) (t : TypeRefId) → slice_get ts k ≡ Some t → f t.0 ≡ g t.0) → map (λ t. f t.0) ts ≡ map (λ t. g t.0) ts

@@ -1,22 +1,8 @@
 -- Where written types are used, and what becomes of a `_`.
 use Rattle.std.specs.Prelude.{ℕ, ◌≡◌, ◌⊎◌, ◌++◌, List, [], ◌∷◌, map, length, Option, Some, None, flat_map}
-use Rattle.hir_raw.specs.declared.raw.RawType.{RawType}
-use Rattle.hir_raw.specs.declared.raw.RawVariant.{RawVariant}
-use Rattle.hir_raw.specs.declared.raw.RawFn.{RawFn}
-use Rattle.hir_raw.specs.declared.raw.RawStmt.{RawStmt}
-use Rattle.hir_raw.specs.declared.raw.RawStmt.TheVariants as stmt
-use Rattle.hir_raw.specs.declared.raw.RawExpr.{RawExpr}
-use Rattle.hir_raw.specs.declared.raw.RawBody.{RawBody}
-use Rattle.hir_raw.specs.declared.raw.RawFacts.{RawFacts}
-use Rattle.hir_ids.specs.declared.namers.Namers.{Namers}
-use Rattle.hir_raw.specs.declared.raw.RawTraitRef.{RawTraitRef}
-use Rattle.hir_raw.specs.declared.raw.RawGoal.{RawGoal}
-use Rattle.hir_raw.specs.declared.raw.RawGoal.TheVariants as goal
-use Rattle.hir_raw.specs.declared.raw.RawImpl.{RawImpl}
-use Rattle.hir_raw.specs.Goals.{arg_types}
-use Rattle.hir_raw.specs.WrittenTypes.{type_parts}
-use Rattle.hir_raw.specs.Order.{stmts_of}
-use Rattle.hir_ids.specs.Namers.{AreNamers, NamedOnce, IsUnnamed}
+use Rattle.hir_counts.specs.Words.{RawType, RawVariant, RawFn, RawStmt, RawExpr, RawBody, RawFacts, Namers, RawTraitRef, RawGoal, RawImpl, arg_types, type_parts, stmts_of, AreNamers, NamedOnce, IsUnnamed}
+use Rattle.hir_counts.specs.Words.hir_raw.declared.raw.RawStmt.TheVariants as stmt
+use Rattle.hir_counts.specs.Words.hir_raw.declared.raw.RawGoal.TheVariants as goal
 use Rattle.hir_counts.specs.Standing.{holes_in}
 
 -- ---- by other types, and in bodies

@@ -1,20 +1,15 @@
 //! Counts of inputs, arguments, parameters and variants.
 ghost use Rattle.std.specs.Prelude.{◌≡◌, ◌↔◌, ◌+◌, ◌<◌, ℕ, Some, [], length, slice_get, slice_index, IsTrue, IfOk, IfSome};
-ghost use Rattle.hir_raw.specs.declared.raw.RawField.{RawField};
-ghost use Rattle.hir_raw.specs.declared.raw.RawStmt.{RawStmt};
-ghost use Rattle.hir_raw.specs.Order.{stmts_of};
-ghost use Rattle.hir_ids.specs.Entries.{AllHold};
-ghost use Rattle.hir_ids.specs.Ids.{ChildrenBefore};
-ghost use Rattle.hir_counts.specs.Standing.{param_bound, wrong_args, number_in, AreMosts};
-ghost use Rattle.hir_counts.specs.Counts.{count_of, CountsFit, AdtFitsBy, TypeFits, StmtFits, ExprFits, BodyFits, MaybeBodyFits, body_at, AreFitting, FnFitsBy, FnFits, HasVariants, AdtFits, param_count, IsBare, VariantFitsBy, VariantFits};
+ghost use Rattle.hir_counts.specs.Words.{RawField, RawStmt, stmts_of, AllHold, ChildrenBefore};
+ghost use Rattle.hir_counts.specs.Own.{param_bound, wrong_args, number_in, AreMosts, count_of, CountsFit, AdtFitsBy, TypeFits, StmtFits, ExprFits, BodyFits, MaybeBodyFits, body_at, AreFitting, FnFitsBy, FnFits, HasVariants, AdtFits, param_count, IsBare, VariantFitsBy, VariantFits};
 
 use crate::goal_counts::goals_fit;
 use crate::standing::{Sought, mosts_of};
 use hir_ids::Test;
-use hir_raw::{
+use hir_ids::hir_raw::{
     RawAdt, RawAdtKind, RawBody, RawExpr, RawFacts, RawField, RawFn, RawStmt, RawVariant, stmts_of,
 };
-use hir_types::{AdtId, BodyId, TypeRefId};
+use hir_ids::hir_types::{AdtId, BodyId, TypeRefId};
 use std::alloc::{AllocError, Global};
 
 fn takes(body: &RawBody, inputs: usize) -> bool

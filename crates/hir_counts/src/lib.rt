@@ -13,5 +13,7 @@ mod uses;
 pub use counts::{AdtCounts, FnCounts, Standing, VariantCounts};
 pub use goal_counts::{AliasCounts, ImplCounts, TraitCounts};
 pub use goal_sizes::{AliasSizes, ImplSizes, LangEarly, TraitSizes};
+pub use hir_ids;
+pub use hir_ids::{hir_raw, hir_types};
 pub use sizes::{AdtSizes, FnSizes, ModulesEarly, TypeSizes, VariantSizes, is_early, is_short};
 pub use uses::Holes;

@@ -1,18 +1,16 @@
 //! Where written types are used: a `_` stands once, in a type written in a body.
 ghost use Rattle.std.specs.Prelude.{◌≡◌, ◌++◌, Some, map, length, flat_map, IfOk, OnOk};
-ghost use Rattle.hir_ids.specs.Entries.{AllHold};
-ghost use Rattle.hir_ids.specs.Ids.{ChildrenBefore};
-ghost use Rattle.hir_counts.specs.Standing.{hole_at, AreMosts};
-ghost use Rattle.hir_counts.specs.Uses.{type_uses, stmt_uses, expr_uses, body_uses, inner_uses, variant_uses, fn_uses, abstract_uses, item_uses, HoleFits, AreTypeUsers};
+ghost use Rattle.hir_counts.specs.Words.{AllHold, ChildrenBefore};
+ghost use Rattle.hir_counts.specs.Own.{hole_at, AreMosts, type_uses, stmt_uses, expr_uses, body_uses, inner_uses, variant_uses, fn_uses, abstract_uses, item_uses, HoleFits, AreTypeUsers};
 
 use crate::counts::number_at;
 use crate::goal_uses::{push_goals_of, push_impls};
 use crate::standing::{Sought, mosts_of};
-use hir_ids::{Namers, Test, is_nobody, is_one, namers_of};
-use hir_raw::{
+use hir_ids::hir_raw::{
     RawBody, RawExpr, RawFacts, RawField, RawFn, RawStmt, RawType, RawVariant, stmts_of,
 };
-use hir_types::TypeRefId;
+use hir_ids::hir_types::TypeRefId;
+use hir_ids::{Namers, Test, is_nobody, is_one, namers_of};
 use std::alloc::{AllocError, Global};
 
 /// The types, after those that are there.

@@ -2,13 +2,8 @@
 use Rattle.std.specs.Prelude.{◌≡◌, ◌<◌, length, slice_get, Option, Some, None, IfSome}
 use Rattle.std.specs.Option.{option_and_then}
 use Rattle.std.proofs.Common.{refl}
-use Rattle.hir_types.specs.declared.ids.BodyId.{BodyId}
-use Rattle.hir_types.specs.declared.ids.FunctionId.{FunctionId}
-use Rattle.hir_types.specs.declared.ids.DefWithBodyId.{DefWithBodyId}
-use Rattle.hir_types.specs.declared.ids.DefWithBodyId.TheVariants as def
-use Rattle.hir_raw.specs.declared.raw.RawFn.{RawFn}
-use Rattle.hir_raw.specs.declared.raw.RawFacts.{RawFacts}
-use Rattle.hir_plain.specs.Below.{body_id_of, IsLawful, fn_ids}
+use Rattle.hir_facts.specs.Words.{BodyId, FunctionId, DefWithBodyId, RawFn, RawFacts, body_id_of, IsLawful, fn_ids}
+use Rattle.hir_facts.specs.Words.hir_types.declared.ids.DefWithBodyId.TheVariants as def
 
 body_of_fn : (raw : RawFacts) (law : IsLawful raw) (f : FunctionId) (o : Option RawFn) (i : BodyId) → slice_get raw.fns f.0 ≡ o → option_and_then (λ x. x.body) o ≡ Some i → i.0 < length raw.bodies
 body_of_fn raw law f None i was e = cc

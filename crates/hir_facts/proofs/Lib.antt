@@ -2,4 +2,4 @@ pub mod InRange
 pub mod OneHole
 pub mod Lowering
 pub mod Callees
-pub mod Below
+pub mod Words

@@ -1,19 +1,10 @@
 -- Each `_` stands in one `let`, and in one part of each type that it stands in.
 use Rattle.std.specs.Prelude.{◌≡◌, ◌<◌, ◌≤◌, ◌⊎◌, ◌++◌, ℕ, zero, suc, List, [], ◌∷◌, map, slice_get, Option, Some, None, flat_map, refl}
 use Rattle.std.proofs.Common.{arith, ap, ◌∙◌, sym, subst, inl, inr}
-use Rattle.hir_types.specs.declared.ids.ExprId.{ExprId}
-use Rattle.hir_types.specs.declared.ids.PatId.{PatId}
-use Rattle.hir_types.specs.declared.ids.TypeRefId.{TypeRefId}
-use Rattle.hir_raw.specs.declared.raw.RawType.{RawType}
-use Rattle.hir_raw.specs.declared.raw.RawType.TheVariants as type
-use Rattle.hir_raw.specs.declared.raw.RawStmt.TheVariants as stmt
-use Rattle.hir_raw.specs.declared.raw.RawExpr.{RawExpr}
-use Rattle.hir_raw.specs.declared.raw.RawBody.{RawBody}
-use Rattle.hir_raw.specs.declared.raw.RawFacts.{RawFacts}
-use Rattle.hir_raw.specs.WrittenTypes.{type_parts, StandsIn, is_itself, in_part}
-use Rattle.hir_raw.specs.Order.{stmts_of, stmt_at}
-use Rattle.hir_plain.specs.Below.{type_uses, stmt_uses, expr_uses, body_uses, inner_uses, IsLawful, type_ids, holes_fit, In, in_flat}
-use Rattle.hir_facts.specs.Filled.{none_stands}
+use Rattle.hir_facts.specs.Words.{ExprId, PatId, TypeRefId, RawType, RawExpr, RawBody, RawFacts, type_parts, StandsIn, is_itself, in_part, stmts_of, stmt_at, type_uses, stmt_uses, expr_uses, body_uses, inner_uses, IsLawful, type_ids, holes_fit, In, in_flat}
+use Rattle.hir_facts.specs.Words.hir_raw.declared.raw.RawType.TheVariants as type
+use Rattle.hir_facts.specs.Words.hir_raw.declared.raw.RawStmt.TheVariants as stmt
+use Rattle.hir_facts.specs.Own.{none_stands}
 
 -- ---- what stands once in a list
 

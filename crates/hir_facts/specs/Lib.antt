@@ -2,4 +2,5 @@ pub mod CarriedTypes
 pub mod Filled
 pub mod PlainBodies
 pub mod Readers
-pub mod Below
+pub mod Words
+pub mod Own

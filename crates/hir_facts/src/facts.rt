@@ -1,21 +1,17 @@
 //! Lawful facts.
 ghost use Rattle.std.specs.Prelude.{◌≡◌, ◌↔◌, ◌<◌, ℕ, IfOk, IfErr, IsTrue, Some, slice_get, length};
-ghost use Rattle.hir_raw.specs.declared.raw.RawBody.{RawBody};
-ghost use Rattle.hir_raw.specs.Order.{AreDepths};
-ghost use Rattle.hir_plain.specs.Below.{IsWalkable, HasBody, body_id_of, inputs_of, FitsThere, IsLawful, tests, Refuses};
-ghost use Rattle.hir_raw.specs.Fit.{fits};
-ghost use Rattle.hir_plain.specs.Plain.{IsPlainAdt, IsPlainOver, IsPlainFn};
-ghost use Rattle.hir_facts.specs.Readers.{edition_year, limits_in_order};
+ghost use Rattle.hir_facts.specs.Words.{RawBody, AreDepths, IsWalkable, HasBody, body_id_of, inputs_of, FitsThere, IsLawful, tests, Refuses, fits, IsPlainAdt, IsPlainOver, IsPlainFn};
+ghost use Rattle.hir_facts.specs.Own.{edition_year, limits_in_order};
 
-use hir_plain::{FactsError, PlainMarks, check, mark_at};
-use hir_raw::{
+use hir_plain::hir_raw::{
     Edition, RawAdt, RawAlias, RawBody, RawFacts, RawFn, RawImpl, RawTrait, RawType, RawVariant,
     Schedule, generic_params, ty_fits,
 };
-use hir_types::{
+use hir_plain::hir_types::{
     AdtId, BodyId, DefWithBodyId, FunctionId, GenericDefId, ImplId, List, ModuleId, TraitId, Ty,
     TypeAliasId, TypeRefId, VariantId,
 };
+use hir_plain::{FactsError, PlainMarks, check, mark_at};
 use std::alloc::Global;
 use std::marker::Model;
 
@@ -28,14 +24,13 @@ pub struct Facts {
 }
 
 impl Model for Facts {
-    ghost use Rattle.hir_raw.specs.declared.raw.RawFacts.{RawFacts};
+    ghost use Rattle.hir_facts.specs.Words.{RawFacts};
 
     ghost Value = { RawFacts };
 
     ghost view = { λ a. a.raw };
 
-    ghost use Rattle.hir_plain.specs.Below.{IsLawful, AreSchedules};
-    ghost use Rattle.hir_plain.specs.PlainMarks.{ArePlainMarks};
+    ghost use Rattle.hir_facts.specs.Words.{IsLawful, AreSchedules, ArePlainMarks};
 
     ghost invariant = { λ a. IsLawful a.raw × AreSchedules a.raw.bodies a.schedules × ArePlainMarks a.raw a.plain };
 }

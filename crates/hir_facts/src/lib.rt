@@ -6,20 +6,20 @@ mod lower;
 mod plain_body;
 
 pub use facts::Facts;
-pub use hir_plain::{FactsError, FactsList, Law};
-pub use hir_raw::{
+pub use hir_plain::hir_raw::{
     BindingAnnotation, Edition, Other, RawAdt, RawAdtKind, RawAlias, RawArgs, RawArm, RawAssocType,
     RawAt, RawBinding, RawBody, RawCtor, RawExpr, RawFacts, RawField, RawFn, RawGoal, RawImpl,
     RawLang, RawLimits, RawLiteral, RawParam, RawPat, RawPath, RawStmt, RawTrait, RawTraitRef,
     RawType, RawVariant, RawVis, Schedule, fn_aliases, fn_arity, let_aliases, variant_aliases,
     variant_arity,
 };
-pub use hir_types::{
+pub use hir_plain::hir_types::{
     AdtId, AliasBound, BindingId, BodyId, Boxed, CallableDefId, Canonical, ClosureId, Const,
     ConstId, DefWithBodyId, ExprId, ExprOrPatId, FloatTy, Folded, FunctionId, GenericArg,
     GenericDefId, Goal, HoleKind, ImplId, IntTy, IntegerTy, LabelId, List, ModuleId, Mutability,
     OpaqueId, PatId, Region, Safety, StaticId, Subst, Text, TraitId, TraitRef, Ty, TypeAliasId,
     TypeRefId, UintTy, VariantId, instantiate,
 };
+pub use hir_plain::{FactsError, FactsList, Law, hir_raw, hir_types};
 pub use lower::{lower_opened, lower_ty, return_ty};
 pub use plain_body::is_plain;

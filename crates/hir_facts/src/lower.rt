@@ -1,15 +1,11 @@
 //! What written types stand for.
 ghost use Rattle.std.specs.Prelude.{◌≡◌, ◌<◌, ◌+◌, IfOk, length};
-ghost use Rattle.hir_types.specs.declared.ty.Ty.TheVariants as ty;
-ghost use Rattle.hir_raw.specs.Hidden.{place_in, opened};
-ghost use Rattle.hir_raw.specs.WrittenTypes.{lowered, written_type};
-ghost use Rattle.hir_plain.specs.Below.{HasBody, return_type};
-ghost use Rattle.hir_ids.specs.Entries.{AllHold};
-ghost use Rattle.hir_ids.specs.Ids.{ChildrenBefore};
+ghost use Rattle.hir_facts.specs.Words.hir_types.declared.ty.Ty.TheVariants as ty;
+ghost use Rattle.hir_facts.specs.Words.{place_in, opened, lowered, written_type, HasBody, return_type, AllHold, ChildrenBefore};
 
 use crate::facts::Facts;
-use hir_raw::RawType;
-use hir_types::{DefWithBodyId, GenericArg, List, Ty, TypeRefId};
+use hir_plain::hir_raw::RawType;
+use hir_plain::hir_types::{DefWithBodyId, GenericArg, List, Ty, TypeRefId};
 use std::alloc::{AllocError, Global};
 
 /// Where a number comes first in a list.
@@ -83,7 +79,7 @@ fn lower(
 }
 
 /// The type that a written type stands for, or `{unknown}` where it is not in range.
-#[tactic(auto, using(hir_raw::specs::Opened::none_opened))]
+#[tactic(auto, using(crate::specs::Words::none_opened))]
 pub fn lower_ty(alloc: Global, facts: &Facts, ty: TypeRefId) -> Result<Ty, AllocError>
     ensures { IfOk result (λ t. t ≡ written_type facts.now.types ty) }
 {
@@ -91,7 +87,7 @@ pub fn lower_ty(alloc: Global, facts: &Facts, ty: TypeRefId) -> Result<Ty, Alloc
 }
 
 /// The same where each associated type with one of these numbers is a parameter, after so many others.
-#[tactic(auto, using(hir_ids::specs::Lowered::opened_past))]
+#[tactic(auto, using(crate::specs::Words::opened_past))]
 pub fn lower_opened(
     alloc: Global,
     facts: &Facts,

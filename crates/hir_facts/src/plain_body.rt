@@ -1,21 +1,17 @@
 //! Whether the body of a definition is plain.
 ghost use Rattle.std.specs.Prelude.{◌≡◌, ◌↔◌, ℕ, Some, slice_get, IsSomeAnd, IsTrue};
 ghost use Rattle.std.specs.List.{list_all};
-ghost use Rattle.hir_types.specs.declared.ids.FunctionId.{FunctionId};
-ghost use Rattle.hir_types.specs.declared.ids.DefWithBodyId.TheVariants.{FunctionId as fn_def};
-ghost use Rattle.hir_plain.specs.Below.{body_of};
-ghost use Rattle.hir_raw.specs.Scope.{params_of};
-ghost use Rattle.hir_ids.specs.Entries.{AllHold};
-ghost use Rattle.hir_plain.specs.Plain.{is_unit_ctor, is_tuple_ctor, is_unit_or_tuple, IsPlainCtor, is_item_path, is_item, is_item_at, is_plain_literal, IsPlainPath, IsPlainWritten, IsPlainStmt, ArePlainStmts, IsPlainExpr, is_plain_mode, is_plain_binding, IsPlainPathPat, IsPlainPat, IsPlainBody, HasSizedParams, HasPlainBody, IsPlainBodyOf};
-ghost use Rattle.hir_facts.specs.PlainBodies.{is_value, is_maybe_value, stmt_has_values, arm_has_values, has_callees, WrittenFits, LetFits, LetsFit, LooksPlain};
+ghost use Rattle.hir_facts.specs.Words.{FunctionId, body_of, params_of, AllHold, is_unit_ctor, is_tuple_ctor, is_unit_or_tuple, IsPlainCtor, is_item_path, is_item, is_item_at, is_plain_literal, IsPlainPath, IsPlainWritten, IsPlainStmt, ArePlainStmts, IsPlainExpr, is_plain_mode, is_plain_binding, IsPlainPathPat, IsPlainPat, IsPlainBody, HasSizedParams, HasPlainBody, IsPlainBodyOf};
+ghost use Rattle.hir_facts.specs.Words.hir_types.declared.ids.DefWithBodyId.TheVariants.{FunctionId as fn_def};
+ghost use Rattle.hir_facts.specs.Own.{is_value, is_maybe_value, stmt_has_values, arm_has_values, has_callees, WrittenFits, LetFits, LetsFit, LooksPlain};
 
 use crate::facts::Facts;
 use hir_plain::has_sized_params;
-use hir_raw::{
+use hir_plain::hir_raw::{
     BindingAnnotation, RawArm, RawBody, RawCtor, RawExpr, RawFacts, RawLiteral, RawPat, RawPath,
     RawStmt,
 };
-use hir_types::{BindingId, DefWithBodyId, ExprId, FunctionId, TypeRefId, VariantId};
+use hir_plain::hir_types::{BindingId, DefWithBodyId, ExprId, FunctionId, TypeRefId, VariantId};
 
 fn is_unit(ctor: RawCtor) -> bool
     ensures { result ≡ is_unit_ctor ctor }

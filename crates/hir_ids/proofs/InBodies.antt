@@ -3,25 +3,13 @@ use Rattle.std.proofs.Common.{◌≡◌, ◌<◌, ℕ, zero, suc, List, [], ◌�
 use Rattle.std.specs.Prelude.{slice_get, IfSome}
 use Rattle.std.specs.Option.{option_and_then}
 use Rattle.std.proofs.lemmas.Option.{option_and_then_some, slice_get_within}
-use Rattle.hir_types.specs.declared.ids.ExprId.{ExprId}
-use Rattle.hir_types.specs.declared.ids.PatId.{PatId}
-use Rattle.hir_types.specs.declared.ids.BindingId.{BindingId}
-use Rattle.hir_types.specs.declared.ids.TypeRefId.{TypeRefId}
-use Rattle.hir_types.specs.declared.ids.ExprOrPatId.TheVariants as node
-use Rattle.hir_raw.specs.declared.raw.RawPath.{RawPath}
+use Rattle.hir_ids.specs.Words.{ExprId, PatId, BindingId, TypeRefId, RawPath, RawStmt, RawExpr, RawArm, RawPat, RawBody, RawFacts, Role, Part, parameter, root, element, tail, initializer, let_pattern, let_else, condition, then_branch, else_branch, scrutinee, arm_pattern, guard, arm, callee, argument, subpattern, pattern_literal, expr_part, pat_part, maybe_part, stmt_parts, stmts_parts, exprs_from, arm_patterns, arm_parts, arms_parts, subpatterns, param_parts, expr_parts, pat_parts, body_parts, Node, the_body, inner, IsNode, IsInBody, parts_of_expr, parts_of_pat, parts, stmts_of, binding_of}
+use Rattle.hir_ids.specs.Words.hir_types.declared.ids.ExprOrPatId.TheVariants as node
 use Rattle.hir_raw.specs.declared.raw.RawPath.TheVariants as path
-use Rattle.hir_raw.specs.declared.raw.RawStmt.{RawStmt}
 use Rattle.hir_raw.specs.declared.raw.RawStmt.TheVariants as stmt
-use Rattle.hir_raw.specs.declared.raw.RawExpr.{RawExpr}
 use Rattle.hir_raw.specs.declared.raw.RawExpr.TheVariants as expr
-use Rattle.hir_raw.specs.declared.raw.RawArm.{RawArm}
-use Rattle.hir_raw.specs.declared.raw.RawPat.{RawPat}
 use Rattle.hir_raw.specs.declared.raw.RawPat.TheVariants as pat
-use Rattle.hir_raw.specs.declared.raw.RawBody.{RawBody}
-use Rattle.hir_raw.specs.declared.raw.RawFacts.{RawFacts}
-use Rattle.hir_raw.specs.Order.{Role, Part, parameter, root, element, tail, initializer, let_pattern, let_else, condition, then_branch, else_branch, scrutinee, arm_pattern, guard, arm, callee, argument, subpattern, pattern_literal, expr_part, pat_part, maybe_part, stmt_parts, stmts_parts, exprs_from, arm_patterns, arm_parts, arms_parts, subpatterns, param_parts, expr_parts, pat_parts, body_parts, Node, the_body, inner, IsNode, IsInBody, parts_of_expr, parts_of_pat, parts, stmts_of, binding_of}
-use Rattle.hir_ids.specs.InBody.{MaybeExprExists, MaybeTypeExists, MaybeBindingExists, StmtIdsExist, StmtsIdsExist, ElementsExist, PatternsExist, ArmExists, ArmsExist, ExprIdsExist, PatPartsExist, BodyIdsHere}
-use Rattle.hir_ids.specs.Ids.{HasOneOwner, PathExists, BodyIdsExist}
+use Rattle.hir_ids.specs.Own.{MaybeExprExists, MaybeTypeExists, MaybeBindingExists, StmtIdsExist, StmtsIdsExist, ElementsExist, PatternsExist, ArmExists, ArmsExist, ExprIdsExist, PatPartsExist, BodyIdsHere, HasOneOwner, PathExists, BodyIdsExist}
 
 -- these parts are nodes of the body
 record AllIn (b : RawBody) (ps : List Part) : Type 0 where

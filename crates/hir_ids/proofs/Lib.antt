@@ -6,3 +6,4 @@ pub mod Once
 pub mod Uses
 pub mod Owners
 pub mod Held
+pub mod Words

@@ -1,22 +1,11 @@
 -- Ids within a body, node by node.
 use Rattle.std.specs.Prelude.{ℕ, ◌<◌, ◌≡◌, List, length, slice_get, Option, Some, None}
-use Rattle.hir_types.specs.declared.ids.ExprId.{ExprId}
-use Rattle.hir_types.specs.declared.ids.PatId.{PatId}
-use Rattle.hir_types.specs.declared.ids.BindingId.{BindingId}
-use Rattle.hir_types.specs.declared.ids.TypeRefId.{TypeRefId}
+use Rattle.hir_ids.specs.Words.{ExprId, PatId, BindingId, TypeRefId, RawStmt, RawArm, RawExpr, RawPat, TraitId, RawBody, RawFacts, binding_of}
 use Rattle.hir_raw.specs.declared.raw.RawPath.TheVariants as path
-use Rattle.hir_raw.specs.declared.raw.RawStmt.{RawStmt}
 use Rattle.hir_raw.specs.declared.raw.RawStmt.TheVariants as stmt
-use Rattle.hir_raw.specs.declared.raw.RawArm.{RawArm}
-use Rattle.hir_raw.specs.declared.raw.RawExpr.{RawExpr}
 use Rattle.hir_raw.specs.declared.raw.RawExpr.TheVariants as expr
-use Rattle.hir_raw.specs.declared.raw.RawPat.{RawPat}
 use Rattle.hir_raw.specs.declared.raw.RawPat.TheVariants as pat
-use Rattle.hir_types.specs.declared.ids.TraitId.{TraitId}
-use Rattle.hir_raw.specs.declared.raw.RawBody.{RawBody}
-use Rattle.hir_raw.specs.declared.raw.RawFacts.{RawFacts}
 use Rattle.hir_ids.specs.declared.namers.Namers.{Namers}
-use Rattle.hir_raw.specs.Order.{binding_of}
 use Rattle.hir_ids.specs.Namers.{AreNamers}
 use Rattle.hir_ids.specs.Ids.{PathExists, PatNamesExist, owned_bodies, listed_variants}
 

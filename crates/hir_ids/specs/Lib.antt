@@ -6,3 +6,5 @@ pub mod InBody
 pub mod Lowered
 pub mod Projections
 pub mod GoalIds
+pub mod Words
+pub mod Own

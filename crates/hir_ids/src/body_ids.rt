@@ -1,16 +1,14 @@
 //! The ids of a body are in range.
 ghost use Rattle.std.specs.Prelude.{◌≡◌, ◌↔◌, ◌<◌, ◌++◌, ℕ, Some, slice_get, map, IsTrue, IfOk, OnOk};
-ghost use Rattle.hir_types.specs.declared.ids.TraitId.{TraitId};
-ghost use Rattle.hir_raw.specs.Order.{binding_of};
-ghost use Rattle.hir_ids.specs.InBody.{MaybeExprExists, MaybeTypeExists, MaybeBindingExists, StmtIdsExist, StmtsIdsExist, ElementsExist, PatternsExist, ArmExists, ArmsExist, ExprIdsExist, ExprsIdsExist, PatsIdsExist, PatPartsExist, PatsPartsExist, PatsNamesExist, BodyIdsHere, AreOwners};
-ghost use Rattle.hir_ids.specs.Ids.{IsInModule, IsModuleFn, PathExists, PatNamesExist, owned_body, variant_body, owned_bodies, BodyIdsExist};
+ghost use Rattle.hir_ids.specs.Words.{TraitId, binding_of};
+ghost use Rattle.hir_ids.specs.Own.{MaybeExprExists, MaybeTypeExists, MaybeBindingExists, StmtIdsExist, StmtsIdsExist, ElementsExist, PatternsExist, ArmExists, ArmsExist, ExprIdsExist, ExprsIdsExist, PatsIdsExist, PatPartsExist, PatsPartsExist, PatsNamesExist, BodyIdsHere, AreOwners, IsInModule, IsModuleFn, PathExists, PatNamesExist, owned_body, variant_body, owned_bodies, BodyIdsExist};
 
 use crate::namers::{Namers, is_one, namers_of};
 use crate::test::Test;
+use hir_raw::hir_types::{BindingId, ExprId, FunctionId, PatId, TraitId, TypeRefId};
 use hir_raw::{
     RawArm, RawAt, RawBody, RawExpr, RawFacts, RawFn, RawPat, RawPath, RawStmt, RawVariant,
 };
-use hir_types::{BindingId, ExprId, FunctionId, PatId, TraitId, TypeRefId};
 use std::alloc::{AllocError, Global};
 
 fn has_maybe_expr(body: &RawBody, e: &Option<ExprId>) -> bool

@@ -1,7 +1,7 @@
 //! Goals, traits, associated types, impls and language items of kinds that are carried.
 ghost use Rattle.std.specs.Prelude.{◌≡◌, IsTrue};
 ghost use Rattle.std.specs.List.{list_all};
-ghost use Rattle.hir_ids.specs.Carried.{is_carried_args, is_carried_goal, is_carried_trait, is_carried_alias, has_carried_trait, is_carried_impl, is_carried_lang};
+ghost use Rattle.hir_ids.specs.Own.{is_carried_args, is_carried_goal, is_carried_trait, is_carried_alias, has_carried_trait, is_carried_impl, is_carried_lang};
 
 use crate::carried::are_type_params;
 use crate::test::Test;

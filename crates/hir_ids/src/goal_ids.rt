@@ -1,14 +1,13 @@
 //! The ids in goals, traits, associated types and impls are in range, and traits and associated types agree.
 ghost use Rattle.std.specs.Prelude.{◌≡◌, ◌↔◌, ◌++◌, ℕ, Some, slice_get, map, IsTrue, IfOk, IfSome, OnOk};
-ghost use Rattle.hir_types.specs.declared.ids.TypeAliasId.{TypeAliasId};
-ghost use Rattle.hir_raw.specs.declared.raw.RawAssocType.{RawAssocType};
-ghost use Rattle.hir_ids.specs.GoalIds.{AreAliasListers, TraitRefExists, GoalExists, GoalsExist, IsAliasOf, TraitIdsExist, AliasIdsHere, AliasIdsExist, IsGivenIn, ImplIdsExist, LangExists, listed_aliases};
+ghost use Rattle.hir_ids.specs.Words.{TypeAliasId, RawAssocType};
+ghost use Rattle.hir_ids.specs.Own.{AreAliasListers, TraitRefExists, GoalExists, GoalsExist, IsAliasOf, TraitIdsExist, AliasIdsHere, AliasIdsExist, IsGivenIn, ImplIdsExist, LangExists, listed_aliases};
 
 use crate::ids::are_below;
 use crate::namers::{Namers, is_one, namers_of};
 use crate::test::Test;
+use hir_raw::hir_types::TypeAliasId;
 use hir_raw::{RawAlias, RawAssocType, RawFacts, RawGoal, RawImpl, RawLang, RawTrait, RawTraitRef};
-use hir_types::TypeAliasId;
 use std::alloc::{AllocError, Global};
 
 fn has_trait_ref_ids(raw: &RawFacts, trait_ref: &RawTraitRef) -> bool

@@ -1,6 +1,6 @@
 //! A law at the entries of a list, and the first entry that breaks it.
 ghost use Rattle.std.specs.Prelude.{◌≡◌, ◌↔◌, ℕ, List, IfOk, IsTrue, MatchOption, Some, slice_get};
-ghost use Rattle.hir_raw.specs.declared.raw.RawFacts.{RawFacts};
+ghost use Rattle.hir_ids.specs.Words.{RawFacts};
 ghost use Rattle.hir_ids.specs.Entries.{AllHold, BreaksAt};
 
 use hir_raw::RawFacts;

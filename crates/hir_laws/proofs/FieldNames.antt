@@ -4,10 +4,8 @@ use Rattle.std.specs.Prelude.{slice_get}
 use Rattle.std.specs.Fmt.{decimal}
 use Rattle.std.proofs.lemmas.Fmt.{decimal_injective}
 use Rattle.std.proofs.lemmas.Option.{slice_get_within}
-use Rattle.hir_raw.specs.declared.raw.RawField.{RawField}
-use Rattle.hir_raw.specs.declared.raw.RawVariant.{RawVariant}
-use Rattle.hir_ids.specs.Entries.{AllHold}
-use Rattle.hir_laws.specs.Fields.{IsNew, NamesFit}
+use Rattle.hir_laws.specs.Words.{RawField, RawVariant, AllHold}
+use Rattle.hir_laws.specs.Own.{IsNew, NamesFit}
 
 take_get : {A : Type 0} (xs : List A) (n j : ℕ) → j < n → slice_get (take n xs) j ≡ slice_get xs j
 take_get xs zero j lt = absurd (omega arith)

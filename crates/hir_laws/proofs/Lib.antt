@@ -10,4 +10,4 @@ pub mod PatternLiterals
 pub mod Refusals
 pub mod Scoping
 pub mod Walkable
-pub mod Below
+pub mod Words

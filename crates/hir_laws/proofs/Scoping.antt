@@ -5,26 +5,14 @@ use Rattle.std.proofs.Math.Nat.{eq-or-lt_of_le}
 use Rattle.std.proofs.lemmas.Option.{slice_get_within, slice_get-get_or, get_or_from_slice_get, slice_get_read}
 use Rattle.std.proofs.lemmas.Bool.{ltb-true, lt-ltb}
 use Rattle.std.proofs.lemmas.List.{get_or_push, get_or_append_left}
-use Rattle.hir_types.specs.declared.ids.BindingId.{BindingId}
-use Rattle.hir_types.specs.declared.ids.ExprId.{ExprId}
-use Rattle.hir_types.specs.declared.ids.PatId.{PatId}
-use Rattle.hir_types.specs.declared.ids.ExprOrPatId.TheVariants as node
-use Rattle.hir_raw.specs.declared.raw.RawPath.TheVariants as path
-use Rattle.hir_raw.specs.declared.raw.RawExpr.TheVariants as expr
-use Rattle.hir_raw.specs.declared.raw.RawBody.{RawBody}
-use Rattle.hir_raw.specs.declared.schedule.Schedule.{Schedule}
-use Rattle.hir_ids.specs.declared.namers.Namers.{Namers}
-use Rattle.hir_ids.specs.declared.namers.Namers.TheVariants.{Nobody, One, Several}
-use Rattle.hir_raw.specs.Order.{IsSchedule, AreDepths, IsLow, Binds, start, inner}
-use Rattle.hir_raw.proofs.Ways.{schedule_unique}
-use Rattle.hir_ids.specs.Namers.{IsNamedBy}
-use Rattle.hir_ids.specs.InBody.{LocalsExist}
-use Rattle.hir_laws.specs.Binders.{bound_binding, AreBinders, HasTypedLocal, is_self, comes_before, is_typed_before}
-use Rattle.hir_laws.specs.Trees.{BoundBySelf, BoundByPattern, IsWellFormed}
-use Rattle.hir_laws.specs.Scopes.{IsTypedBefore, AreInScope, ScopesHold}
+use Rattle.hir_laws.specs.Words.{BindingId, ExprId, PatId, RawBody, Schedule, Namers, IsSchedule, AreDepths, IsLow, Binds, start, inner, IsNamedBy, LocalsExist, AllHold}
+use Rattle.hir_laws.specs.Words.hir_types.declared.ids.ExprOrPatId.TheVariants as node
+use Rattle.hir_laws.specs.Words.hir_raw.declared.raw.RawPath.TheVariants as path
+use Rattle.hir_laws.specs.Words.hir_raw.declared.raw.RawExpr.TheVariants as expr
+use Rattle.hir_laws.specs.Words.hir_ids.declared.namers.Namers.TheVariants.{Nobody, One, Several}
+use Rattle.hir_laws.proofs.Words.{schedule_unique}
+use Rattle.hir_laws.specs.Own.{bound_binding, AreBinders, HasTypedLocal, is_self, comes_before, is_typed_before, BoundBySelf, BoundByPattern, IsWellFormed, IsTypedBefore, AreInScope, ScopesHold, AreSchedules}
 use Rattle.hir_laws.proofs.Binding.{binds_from_named, named_from_binds, pat_within, self_from, is_self_from}
-use Rattle.hir_ids.specs.Entries.{AllHold}
-use Rattle.hir_laws.specs.Scheduled.{AreSchedules}
 
 -- the numbers of the first n bodies
 pub record ScheduledSoFar (bodies : List RawBody) (n : ℕ) (schedules : List Schedule) : Type 0 where

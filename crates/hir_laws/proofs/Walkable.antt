@@ -2,22 +2,10 @@
 use Rattle.std.specs.Prelude.{◌≡◌, ◌+◌, ℕ, length, slice_get, Option, Some, None, IsTrue, refl}
 use Rattle.std.specs.Option.{option_and_then}
 use Rattle.std.proofs.Common.{ap, arith, inl, inr}
-use Rattle.hir_types.specs.declared.ids.BodyId.{BodyId}
-use Rattle.hir_types.specs.declared.ids.DefWithBodyId.{DefWithBodyId}
-use Rattle.hir_types.specs.declared.ids.DefWithBodyId.TheVariants as def
-use Rattle.hir_raw.specs.declared.raw.RawFn.{RawFn}
-use Rattle.hir_raw.specs.declared.raw.RawBody.{RawBody}
-use Rattle.hir_raw.specs.declared.raw.RawFacts.{RawFacts}
-use Rattle.hir_raw.specs.declared.schedule.Schedule.{Schedule}
-use Rattle.hir_raw.specs.Order.{IsSchedule}
-use Rattle.hir_laws.specs.Bodies.{IsWalkable, body_id_of, inputs_by, inputs_of}
-use Rattle.hir_ids.specs.Carried.{is_carried_body}
-use Rattle.hir_ids.proofs.CarriedBodies.{carried_parts}
-use Rattle.hir_ids.specs.Ids.{BodyIdsExist}
-use Rattle.hir_counts.specs.Counts.{count_of}
-use Rattle.hir_laws.specs.Trees.{IsWellFormed}
-use Rattle.hir_laws.specs.Lawful.{IsLawful}
-use Rattle.hir_laws.specs.LawfulFacts.{bodies_carried, body_ids, counts_fit, bodies_well_formed, scopes_hold, bodies_small, literals_fit}
+use Rattle.hir_laws.specs.Words.{BodyId, DefWithBodyId, RawFn, RawBody, RawFacts, Schedule, IsSchedule, is_carried_body, BodyIdsExist, count_of}
+use Rattle.hir_laws.specs.Words.hir_types.declared.ids.DefWithBodyId.TheVariants as def
+use Rattle.hir_laws.specs.Own.{IsWalkable, body_id_of, inputs_by, inputs_of, IsWellFormed, IsLawful, bodies_carried, body_ids, counts_fit, bodies_well_formed, scopes_hold, bodies_small, literals_fit}
+use Rattle.hir_laws.proofs.Words.{carried_parts}
 
 -- a carried body has no `self`
 pub no_self : (b : RawBody) → IsTrue (is_carried_body b) → b.self_ ≡ None

@@ -1,9 +1,8 @@
 -- The names of a variant's fields.
 use Rattle.std.specs.Prelude.{ℕ, ◌<◌, ◌≡◌, List, slice_get, Some}
 use Rattle.std.specs.Fmt.{decimal}
-use Rattle.hir_raw.specs.declared.raw.RawCtor.TheVariants as ctor
-use Rattle.hir_raw.specs.declared.raw.RawField.{RawField}
-use Rattle.hir_raw.specs.declared.raw.RawVariant.{RawVariant}
+use Rattle.hir_laws.specs.Words.hir_raw.declared.raw.RawCtor.TheVariants as ctor
+use Rattle.hir_laws.specs.Words.{RawField, RawVariant}
 
 -- no field before position i has the name of this one
 abbrev pub IsNew : List RawField → ℕ → RawField → Type 0

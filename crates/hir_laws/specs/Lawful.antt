@@ -1,24 +1,16 @@
 -- The laws in the order in which they are tested, and which is broken first.
 use Rattle.std.specs.Prelude.{◌≡◌, ◌⊎◌, ℕ, List, [], ◌∷◌, ◌++◌, IsTrue}
-use Rattle.hir_raw.specs.declared.raw.RawFacts.{RawFacts}
+use Rattle.hir_laws.specs.Words.{RawFacts, AllHold, BreaksAt, is_carried_written_type, is_carried_adt, is_carried_trait, is_carried_alias, is_carried_impl, is_carried_lang, is_carried_fn, is_carried_body, VariantIsCarried, TraitIdsExist, AliasIdsExist, ImplIdsExist, LangExists, TypeIdsExist, ParentBefore, AdtIdsExist, VariantIdsExist, FnIdsExist, BodyIdsExist, AdtFits, VariantFits, FnFits, TraitFits, AliasFits, ImplFits, IsEarly, TypeIsSmall, AdtIsSmall, VariantIsSmall, FnIsSmall, TraitIsSmall, AliasIsSmall, ImplIsSmall, BodyIsSmall, HoleFits}
 use Rattle.hir_laws.specs.declared.laws.Law.{Law}
 use Rattle.hir_laws.specs.declared.laws.Law.TheVariants as law
 use Rattle.hir_laws.specs.declared.laws.FactsList.{FactsList}
 use Rattle.hir_laws.specs.declared.laws.FactsList.TheVariants as list
-use Rattle.hir_ids.specs.Entries.{AllHold, BreaksAt}
-use Rattle.hir_ids.specs.Carried.{is_carried_written_type, is_carried_adt, is_carried_trait, is_carried_alias, is_carried_impl, is_carried_lang, is_carried_fn, is_carried_body}
-use Rattle.hir_ids.specs.Projections.{VariantIsCarried}
-use Rattle.hir_ids.specs.GoalIds.{TraitIdsExist, AliasIdsExist, ImplIdsExist, LangExists}
-use Rattle.hir_ids.specs.Ids.{TypeIdsExist, ParentBefore, AdtIdsExist, VariantIdsExist, FnIdsExist, BodyIdsExist}
-use Rattle.hir_counts.specs.Counts.{AdtFits, VariantFits, FnFits, TraitFits, AliasFits, ImplFits}
 use Rattle.hir_laws.specs.Trees.{IsWellFormed}
 use Rattle.hir_laws.specs.Scopes.{ScopesHold}
-use Rattle.hir_counts.specs.Sizes.{IsEarly, TypeIsSmall, AdtIsSmall, VariantIsSmall, FnIsSmall, TraitIsSmall, AliasIsSmall, ImplIsSmall, BodyIsSmall}
 use Rattle.hir_laws.specs.Limits.{limits_of, IsInRange}
 use Rattle.hir_laws.specs.Lang.{LangFits}
 use Rattle.hir_laws.specs.Fields.{NamesFit}
 use Rattle.hir_laws.specs.Literals.{LiteralsFit}
-use Rattle.hir_counts.specs.Uses.{HoleFits}
 
 -- what is said of a law over the entries of a list: that all hold, or that entry i is the first broken one
 abbrev Saying : Type 1

@@ -1,16 +1,9 @@
 -- What laws say of lawful facts, list by list.
 use Rattle.std.specs.Prelude.{IsTrue}
-use Rattle.hir_raw.specs.declared.raw.RawFacts.{RawFacts}
-use Rattle.hir_ids.specs.Entries.{AllHold}
-use Rattle.hir_ids.specs.Carried.{is_carried_written_type, is_carried_variant, is_carried_fn, is_carried_body}
-use Rattle.hir_ids.specs.Projections.{VariantIsCarried}
-use Rattle.hir_ids.specs.Ids.{ChildrenBefore, TypeIdsExist, AdtIdsExist, VariantIdsExist, FnIdsExist, BodyIdsExist}
-use Rattle.hir_counts.specs.Counts.{CountsFit, VariantFits, FnFits}
+use Rattle.hir_laws.specs.Words.{RawFacts, AllHold, is_carried_written_type, is_carried_variant, is_carried_fn, is_carried_body, VariantIsCarried, ChildrenBefore, TypeIdsExist, AdtIdsExist, VariantIdsExist, FnIdsExist, BodyIdsExist, CountsFit, VariantFits, FnFits, TypeIsSmall, BodyIsSmall, HoleFits}
 use Rattle.hir_laws.specs.Trees.{IsWellFormed}
 use Rattle.hir_laws.specs.Scopes.{ScopesHold}
-use Rattle.hir_counts.specs.Sizes.{TypeIsSmall, BodyIsSmall}
 use Rattle.hir_laws.specs.Literals.{LiteralsFit}
-use Rattle.hir_counts.specs.Uses.{HoleFits}
 use Rattle.hir_laws.specs.Lawful.{IsLawful}
 
 pub types_carried : (raw : RawFacts) → IsLawful raw → AllHold (λ i t. IsTrue (is_carried_written_type t)) raw.types

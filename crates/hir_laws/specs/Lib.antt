@@ -15,4 +15,5 @@ pub mod NoHoles
 pub mod WrittenFits
 pub mod LetFits
 pub mod Lang
-pub mod Below
+pub mod Words
+pub mod Own

@@ -1,6 +1,6 @@
 -- What an error says of the facts that it refuses.
 use Rattle.std.specs.Prelude.{List}
-use Rattle.hir_raw.specs.declared.raw.RawFacts.{RawFacts}
+use Rattle.hir_laws.specs.Words.{RawFacts}
 use Rattle.hir_laws.specs.declared.facts_error.FactsError.{FactsError}
 use Rattle.hir_laws.specs.declared.facts_error.FactsError.TheVariants as error
 use Rattle.hir_laws.specs.Lawful.{Test, FirstBroken}

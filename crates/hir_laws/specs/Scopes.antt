@@ -1,14 +1,9 @@
 -- A local names a binding that the walk has typed before.
 use Rattle.std.specs.Prelude.{◌≡◌, ◌<◌, ◌⊎◌, slice_get, Some}
-use Rattle.hir_types.specs.declared.ids.BindingId.{BindingId}
-use Rattle.hir_types.specs.declared.ids.ExprId.{ExprId}
-use Rattle.hir_types.specs.declared.ids.PatId.{PatId}
-use Rattle.hir_types.specs.declared.ids.ExprOrPatId.TheVariants as node
-use Rattle.hir_raw.specs.declared.raw.RawPath.TheVariants as path
-use Rattle.hir_raw.specs.declared.raw.RawExpr.TheVariants as expr
-use Rattle.hir_raw.specs.declared.raw.RawBody.{RawBody}
-use Rattle.hir_raw.specs.declared.schedule.Schedule.{Schedule}
-use Rattle.hir_raw.specs.Order.{IsSchedule, IsLow, Binds, start, inner}
+use Rattle.hir_laws.specs.Words.{BindingId, ExprId, PatId, RawBody, Schedule, IsSchedule, IsLow, Binds, start, inner}
+use Rattle.hir_laws.specs.Words.hir_types.declared.ids.ExprOrPatId.TheVariants as node
+use Rattle.hir_laws.specs.Words.hir_raw.declared.raw.RawPath.TheVariants as path
+use Rattle.hir_laws.specs.Words.hir_raw.declared.raw.RawExpr.TheVariants as expr
 
 -- the binding is `self`, or its pattern comes before the expression e
 abbrev pub IsTypedBefore : RawBody → Schedule → ExprId → BindingId → Type 0

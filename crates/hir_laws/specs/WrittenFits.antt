@@ -3,33 +3,14 @@
 use Rattle.std.specs.Prelude.{◌≡◌, ◌<◌, ◌≤◌, ◌==◌, ℕ, Bool, true, false, List, length, slice_get, Option, Some, None, option_map, refl, if◌then◌else◌}
 use Rattle.std.specs.Option.{option_and_then}
 use Rattle.std.proofs.Common.{arith, ap, ◌∙◌, subst}
-use Rattle.hir_types.specs.declared.ids.BodyId.{BodyId}
-use Rattle.hir_types.specs.declared.ids.ExprId.{ExprId}
-use Rattle.hir_types.specs.declared.ids.PatId.{PatId}
-use Rattle.hir_types.specs.declared.ids.TypeRefId.{TypeRefId}
-use Rattle.hir_types.specs.declared.ids.DefWithBodyId.{DefWithBodyId}
-use Rattle.hir_types.specs.declared.ids.DefWithBodyId.TheVariants as def
-use Rattle.hir_raw.specs.declared.raw.RawType.{RawType}
-use Rattle.hir_raw.specs.declared.raw.RawType.TheVariants as type
-use Rattle.hir_raw.specs.declared.raw.RawAdt.{RawAdt}
-use Rattle.hir_raw.specs.declared.raw.RawField.{RawField}
-use Rattle.hir_raw.specs.declared.raw.RawVariant.{RawVariant}
-use Rattle.hir_raw.specs.declared.raw.RawFn.{RawFn}
-use Rattle.hir_raw.specs.declared.raw.RawStmt.TheVariants as stmt
-use Rattle.hir_raw.specs.declared.raw.RawExpr.{RawExpr}
-use Rattle.hir_raw.specs.declared.raw.RawBody.{RawBody}
-use Rattle.hir_raw.specs.declared.raw.RawFacts.{RawFacts}
-use Rattle.hir_raw.specs.Hidden.{is_alias}
-use Rattle.hir_raw.specs.WrittenTypes.{type_parts}
-use Rattle.hir_raw.specs.Order.{stmts_of, stmt_at}
-use Rattle.hir_raw.specs.Scope.{adt_params, has_params, params_of, count_or_none}
+use Rattle.hir_laws.specs.Words.{BodyId, ExprId, PatId, TypeRefId, DefWithBodyId, RawType, RawAdt, RawField, RawVariant, RawFn, RawExpr, RawBody, RawFacts, is_alias, type_parts, stmts_of, stmt_at, adt_params, has_params, params_of, count_or_none, param_bound, wrong_count, wrong_args, params_in, wrongs_in, TypeFits, ExprFits, BodyFits, MaybeBodyFits, body_at, param_count, is_one, IsNoProjection, SignatureNamesNone, own_most, part_most}
+use Rattle.hir_laws.specs.Words.hir_types.declared.ids.DefWithBodyId.TheVariants as def
+use Rattle.hir_laws.specs.Words.hir_raw.declared.raw.RawType.TheVariants as type
+use Rattle.hir_laws.specs.Words.hir_raw.declared.raw.RawStmt.TheVariants as stmt
 use Rattle.hir_laws.specs.Bodies.{body_of}
-use Rattle.hir_counts.specs.Standing.{param_bound, wrong_count, wrong_args, params_in, wrongs_in}
-use Rattle.hir_counts.specs.Counts.{TypeFits, ExprFits, BodyFits, MaybeBodyFits, body_at, param_count}
 use Rattle.hir_laws.specs.Lawful.{IsLawful}
-use Rattle.hir_ids.specs.Projections.{is_one, in_part, IsNoProjection, SignatureNamesNone}
+use Rattle.hir_laws.specs.Words.hir_ids.Projections.{in_part}
 use Rattle.hir_laws.specs.LawfulFacts.{type_ids, variant_ids, variants_fit, fn_ids, fns_fit, body_ids}
-use Rattle.hir_counts.specs.Most.{own_most, part_most}
 
 -- type t of the facts fits under this many parameters
 pub record FitsThere (raw : RawFacts) (count t : ℕ) : Type 0 where

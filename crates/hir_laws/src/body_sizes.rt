@@ -1,16 +1,13 @@
 //! How long the lists of a body may be, and how deep its tree.
 ghost use Rattle.std.specs.Prelude.{◌≡◌, ◌↔◌, ℕ, Some, IsTrue, slice_get};
-ghost use Rattle.hir_raw.specs.declared.raw.RawExpr.{RawExpr};
-ghost use Rattle.hir_raw.specs.declared.raw.RawPat.{RawPat};
-ghost use Rattle.hir_raw.specs.Order.{IsSchedule, AreDepths};
-ghost use Rattle.hir_laws.specs.Scheduled.{AreSchedules};
-ghost use Rattle.hir_counts.specs.Sizes.{ExprIsShort, PatIsShort, BodyIsSmall};
+ghost use Rattle.hir_laws.specs.Words.{RawExpr, RawPat, IsSchedule, AreDepths, ExprIsShort, PatIsShort, BodyIsSmall};
+ghost use Rattle.hir_laws.specs.Own.{AreSchedules};
 
 use crate::scopes::MOST_STEPS;
+use hir_counts::hir_ids::Test;
+use hir_counts::hir_raw::{RawBody, RawExpr, RawFacts, RawPat, Schedule, is_low};
+use hir_counts::hir_types::List;
 use hir_counts::{is_early, is_short};
-use hir_ids::Test;
-use hir_raw::{RawBody, RawExpr, RawFacts, RawPat, Schedule, is_low};
-use hir_types::List;
 use std::alloc::{AllocError, Global};
 
 fn is_short_expr(expr: &RawExpr) -> bool

@@ -1,13 +1,12 @@
 //! The names of a variant's fields.
 ghost use Rattle.std.specs.Prelude.{◌≡◌, ◌↔◌, ◌<◌, ℕ, Some, slice_get, length, ◌^◌, IsTrue, IfOk};
 ghost use Rattle.std.specs.Fmt.{decimal};
-ghost use Rattle.hir_raw.specs.declared.raw.RawField.{RawField};
-ghost use Rattle.hir_ids.specs.Entries.{AllHold};
-ghost use Rattle.hir_laws.specs.Fields.{IsNew, NamesFit};
+ghost use Rattle.hir_laws.specs.Words.{RawField, AllHold};
+ghost use Rattle.hir_laws.specs.Own.{IsNew, NamesFit};
 
-use hir_ids::Test;
-use hir_raw::{RawCtor, RawFacts, RawField, RawVariant};
-use hir_types::Text;
+use hir_counts::hir_ids::Test;
+use hir_counts::hir_raw::{RawCtor, RawFacts, RawField, RawVariant};
+use hir_counts::hir_types::Text;
 use std::alloc::{AllocError, Global};
 
 fn is_same(a: &Text, b: &Text) -> bool

@@ -1,10 +1,10 @@
 //! Language items have the shape that they are known by.
 ghost use Rattle.std.specs.Prelude.{◌≡◌, ◌↔◌, IsTrue};
-ghost use Rattle.hir_laws.specs.Lang.{HasNoParams, LangFits};
+ghost use Rattle.hir_laws.specs.Own.{HasNoParams, LangFits};
 
-use hir_ids::Test;
-use hir_raw::{RawFacts, RawLang};
-use hir_types::TraitId;
+use hir_counts::hir_ids::Test;
+use hir_counts::hir_raw::{RawFacts, RawLang};
+use hir_counts::hir_types::TraitId;
 use std::alloc::{AllocError, Global};
 
 fn has_no_params(raw: &RawFacts, id: TraitId) -> bool

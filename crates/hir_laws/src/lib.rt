@@ -14,4 +14,5 @@ mod trees;
 
 pub use checks::check;
 pub use facts_error::FactsError;
+pub use hir_counts::{hir_ids, hir_raw, hir_types};
 pub use laws::{FactsList, Law};

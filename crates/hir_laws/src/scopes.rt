@@ -1,21 +1,16 @@
 //! A local names a binding that the walk has typed before.
 ghost use Rattle.std.specs.Prelude.{◌≡◌, ◌↔◌, ◌<◌, ◌+◌, ℕ, Some, IsTrue, IfOk, length, slice_get, slice_index_or};
-ghost use Rattle.hir_raw.specs.Order.{PartsFit, IsTree, IsSchedule, AreDepths, node_count};
-ghost use Rattle.hir_ids.specs.declared.namers.Namers.TheVariants.{Nobody};
-ghost use Rattle.hir_raw.specs.declared.raw.RawExpr.TheVariants.{Path};
-ghost use Rattle.hir_raw.specs.declared.raw.RawPath.TheVariants.{Local};
-ghost use Rattle.hir_ids.specs.Entries.{AllHold};
-ghost use Rattle.hir_ids.specs.Ids.{BodyIdsExist};
-ghost use Rattle.hir_ids.specs.InBody.{LocalsExist};
-ghost use Rattle.hir_laws.specs.Trees.{IsWellFormed};
-ghost use Rattle.hir_laws.specs.Scopes.{AreInScope, ScopesHold};
-ghost use Rattle.hir_laws.specs.Binders.{IsWithin, comes_before, is_typed_before, HasTypedLocal};
-ghost use Rattle.hir_laws.specs.Scheduled.{AreSchedules};
+ghost use Rattle.hir_laws.specs.Words.{PartsFit, IsSchedule, AreDepths, node_count, AllHold, BodyIdsExist, LocalsExist};
+ghost use Rattle.hir_laws.specs.Words.hir_raw.Order.{IsTree};
+ghost use Rattle.hir_laws.specs.Words.hir_ids.declared.namers.Namers.TheVariants.{Nobody};
+ghost use Rattle.hir_laws.specs.Words.hir_raw.declared.raw.RawExpr.TheVariants.{Path};
+ghost use Rattle.hir_laws.specs.Words.hir_raw.declared.raw.RawPath.TheVariants.{Local};
+ghost use Rattle.hir_laws.specs.Own.{IsWellFormed, AreInScope, ScopesHold, IsWithin, comes_before, is_typed_before, HasTypedLocal, AreSchedules};
 
 use crate::trees::{binders_of, is_self};
-use hir_ids::{Namers, Test};
-use hir_raw::{RawBody, RawExpr, RawFacts, RawPath, Schedule, is_low, schedule_of};
-use hir_types::List;
+use hir_counts::hir_ids::{Namers, Test};
+use hir_counts::hir_raw::{RawBody, RawExpr, RawFacts, RawPath, Schedule, is_low, schedule_of};
+use hir_counts::hir_types::List;
 use std::alloc::{AllocError, Global};
 
 /// The most steps that a way from a body takes.

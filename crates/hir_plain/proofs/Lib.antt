@@ -4,4 +4,4 @@ pub mod UsersOf
 pub mod PlainGraph
 pub mod PlainFns
 pub mod PlainSamples
-pub mod Below
+pub mod Words

@@ -4,20 +4,10 @@ use Rattle.std.specs.Prelude.{◌↔◌, slice_get, Option, None, IsTrue, IsSome
 use Rattle.hir_plain.proofs.Spreading.{marked_inside}
 use Rattle.std.proofs.lemmas.List.{get_or_push, get_or_append_left, length_push}
 use Rattle.std.proofs.Math.Nat.{eq-or-lt_of_le}
-use Rattle.hir_types.specs.declared.ids.FunctionId.{FunctionId}
-use Rattle.hir_raw.specs.declared.raw.RawFn.{RawFn}
-use Rattle.hir_raw.specs.declared.raw.RawType.{RawType}
-use Rattle.hir_raw.specs.declared.raw.RawType.TheVariants as type
-use Rattle.hir_raw.specs.declared.raw.RawFacts.{RawFacts}
-use Rattle.hir_raw.specs.Hidden.{is_alias}
-use Rattle.hir_raw.specs.WrittenTypes.{type_parts}
-use Rattle.hir_ids.specs.Projections.{is_one, in_part, IsNoProjection, SignatureNamesNone}
-use Rattle.hir_plain.specs.declared.plain.PlainMarks.{PlainMarks}
-use Rattle.hir_laws.specs.Lawful.{IsLawful}
-use Rattle.hir_laws.specs.WrittenFits.{inputs_fit, output_fits}
-use Rattle.hir_plain.specs.Spread.{IsMarked}
-use Rattle.hir_plain.specs.Plain.{IsPlainKind, IsPlainType, plain, IsPlainAdt, IsPlainSignature}
-use Rattle.hir_plain.specs.PlainMarks.{ArePlainNodes, HasMarkedSignature, ArePlainMarks}
+use Rattle.hir_plain.specs.Words.{FunctionId, RawFn, RawType, RawFacts, is_alias, type_parts, is_one, IsNoProjection, SignatureNamesNone, IsLawful, inputs_fit, output_fits}
+use Rattle.hir_plain.specs.Words.hir_raw.declared.raw.RawType.TheVariants as type
+use Rattle.hir_plain.specs.Words.hir_ids.Projections.{in_part}
+use Rattle.hir_plain.specs.Own.{PlainMarks, IsMarked, IsPlainKind, IsPlainType, plain, IsPlainAdt, IsPlainSignature, ArePlainNodes, HasMarkedSignature, ArePlainMarks}
 
 -- ---- a plain signature names no projection
 

@@ -3,9 +3,8 @@ use Rattle.std.proofs.Common.{◌≡◌, ◌⊎◌, inl, inr, ℕ, zero, suc, �
 use Rattle.std.specs.Prelude.{slice_get, slice_set, if◌then◌else◌}
 use Rattle.std.proofs.lemmas.Bool.{cases_lt, cases_eq}
 use Rattle.std.proofs.lemmas.List.{get_or_past, length_push}
-use Rattle.hir_raw.specs.Graph.{KidsFit, Edge, kids_of}
-use Rattle.hir_laws.specs.NoHoles.{In, in_first, in_last}
-use Rattle.hir_plain.specs.Spread.{IsMarked, IsUnmarked, ComesToBad, is_bad, by_child, users_at, AreUsers, Marks, unmarked}
+use Rattle.hir_plain.specs.Words.{KidsFit, Edge, kids_of, In, in_first, in_last}
+use Rattle.hir_plain.specs.Own.{IsMarked, IsUnmarked, ComesToBad, is_bad, by_child, users_at, AreUsers, Marks, unmarked}
 
 told : (b : Bool) → (b ≡ true) ⊎ (b ≡ false)
 told true = inl refl

@@ -3,4 +3,5 @@ pub mod PlainTypes
 pub mod Spread
 pub mod PlainMarks
 pub mod Sized
-pub mod Below
+pub mod Words
+pub mod Own

@@ -1,15 +1,8 @@
 -- What written types and adts are made of, as a graph, and the marks of those that are plain.
 use Rattle.std.specs.Prelude.{◌≡◌, ◌↔◌, ◌+◌, ℕ, Bool, true, false, List, [], ◌∷◌, ◌++◌, map, length, slice_get, Option, Some, None, flat_map, IsTrue}
-use Rattle.hir_types.specs.declared.ids.TypeRefId.{TypeRefId}
-use Rattle.hir_raw.specs.declared.raw.RawType.{RawType}
-use Rattle.hir_raw.specs.declared.raw.RawType.TheVariants as type
-use Rattle.hir_raw.specs.declared.raw.RawAdt.{RawAdt}
-use Rattle.hir_raw.specs.declared.raw.RawVariant.{RawVariant}
-use Rattle.hir_raw.specs.declared.raw.RawFn.{RawFn}
-use Rattle.hir_raw.specs.declared.raw.RawFacts.{RawFacts}
+use Rattle.hir_plain.specs.Words.{TypeRefId, RawType, RawAdt, RawVariant, RawFn, RawFacts, type_parts, FitsThere}
+use Rattle.hir_plain.specs.Words.hir_raw.declared.raw.RawType.TheVariants as type
 use Rattle.hir_plain.specs.declared.plain.PlainMarks.{PlainMarks}
-use Rattle.hir_raw.specs.WrittenTypes.{type_parts}
-use Rattle.hir_laws.specs.WrittenFits.{FitsThere}
 use Rattle.hir_plain.specs.Plain.{has_plain_params, has_plain_header, IsPlainOver, IsPlainAdt, IsPlainSignature}
 use Rattle.hir_plain.specs.Spread.{IsMarked}
 

@@ -1,16 +1,15 @@
 //! Which written types, adts and functions are plain.
 ghost use Rattle.std.specs.Prelude.{◌≡◌, ◌↔◌, ◌<◌, ◌^◌, ◌++◌, ℕ, Some, map, length, slice_get, slice_index_or, false, IfOk, IsTrue, OnOk};
-ghost use Rattle.hir_types.specs.declared.ids.TypeRefId.{TypeRefId};
-ghost use Rattle.hir_laws.specs.Lawful.{IsLawful};
-ghost use Rattle.hir_plain.specs.Spread.{IsMarked};
-ghost use Rattle.hir_plain.specs.Plain.{is_plain_adt_kind, has_plain_params, has_plain_header, IsPlainSignature, HasSizedParams};
-ghost use Rattle.hir_plain.specs.PlainMarks.{named_adt, type_children, field_ids, adt_children, plain_graph, is_fine_type, fine_nodes, ArePlainNodes, HasMarkedSignature, ArePlainMarks};
+ghost use Rattle.hir_plain.specs.Words.{TypeRefId, IsLawful};
+ghost use Rattle.hir_plain.specs.Own.{IsMarked, is_plain_adt_kind, has_plain_params, has_plain_header, IsPlainSignature, HasSizedParams, named_adt, type_children, field_ids, adt_children, plain_graph, is_fine_type, fine_nodes, ArePlainNodes, HasMarkedSignature, ArePlainMarks};
 
 use crate::sized::{are_sized_preds, is_sized_param};
 use crate::spread::good_nodes;
-use hir_ids::are_type_params;
-use hir_raw::{RawAdt, RawAdtKind, RawAt, RawFacts, RawField, RawFn, RawType, RawVariant};
-use hir_types::{List, TypeRefId, VariantId};
+use hir_laws::hir_ids::are_type_params;
+use hir_laws::hir_raw::{
+    RawAdt, RawAdtKind, RawAt, RawFacts, RawField, RawFn, RawType, RawVariant,
+};
+use hir_laws::hir_types::{List, TypeRefId, VariantId};
 use std::alloc::{AllocError, Global};
 
 /// Whether a mark stands at a position, past the end too.

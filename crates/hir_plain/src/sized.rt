@@ -1,11 +1,11 @@
 //! Predicates that say that a type parameter has a size: the Rust Reference, "Trait and lifetime bounds".
 ghost use Rattle.std.specs.Prelude.{◌≡◌, slice_get};
 ghost use Rattle.std.specs.List.{list_all, list_any};
-ghost use Rattle.hir_raw.specs.Goals.{is_sized_lang};
-ghost use Rattle.hir_plain.specs.Sized.{is_one_sized_lang, is_sized_trait, param_number, only_param, sized_param, is_number, is_below, is_sized_of, is_sized_pred};
+ghost use Rattle.hir_plain.specs.Words.{is_sized_lang};
+ghost use Rattle.hir_plain.specs.Own.{is_one_sized_lang, is_sized_trait, param_number, only_param, sized_param, is_number, is_below, is_sized_of, is_sized_pred};
 
-use hir_raw::{RawFacts, RawGoal, RawLang, RawType, some_sized};
-use hir_types::{TraitId, TypeRefId};
+use hir_laws::hir_raw::{RawFacts, RawGoal, RawLang, RawType, some_sized};
+use hir_laws::hir_types::{TraitId, TypeRefId};
 
 /// Whether the item is none of this name, or the trait.
 fn is_one_sized_lang(id: TraitId, item: RawLang) -> bool

@@ -12,3 +12,5 @@ pub mod Graph
 pub mod Visits
 pub mod Nodes
 pub mod Goals
+pub mod Words
+pub mod Own

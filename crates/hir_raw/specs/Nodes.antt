@@ -1,6 +1,6 @@
 -- The nodes of a body as a graph.
 use Rattle.std.specs.Prelude.{ℕ, List, [], ◌∷◌, ◌++◌, map}
-use Rattle.hir_types.specs.declared.ids.ExprOrPatId.{ExprOrPatId}
+use Rattle.hir_raw.specs.Words.{ExprOrPatId}
 use Rattle.hir_raw.specs.declared.raw.RawBody.{RawBody}
 use Rattle.hir_raw.specs.Order.{Part, inner, expr_parts, pat_parts, body_parts, position}
 

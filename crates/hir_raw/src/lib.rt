@@ -13,6 +13,7 @@ mod scope;
 
 pub use fit::ty_fits;
 pub use hidden::{fn_aliases, fn_arity, less_variant_aliases, variant_aliases, variant_arity};
+pub use hir_types;
 pub use lets::{let_aliases, stmts_of};
 pub use raw::{
     BindingAnnotation, Edition, HasGoals, Other, RawAdt, RawAdtKind, RawAlias, RawArgs, RawArm,

@@ -11,8 +11,8 @@ mod unknown;
 
 pub use diagnostics::InferenceDiagnostic;
 pub use gaps::Gap;
-pub use goal_facts::{Proof, ProofSource};
-pub use hir_types::Mutability;
+pub use goal_facts::hir_types::Mutability;
+pub use goal_facts::{Proof, ProofSource, hir_facts, hir_types};
 pub use modes::BindingMode;
 pub use needed::{callee_needs, expr_id, needed_goals, pat_id, pat_needs};
 pub use result::{General, InferenceResult, Seen, TypeMismatch};

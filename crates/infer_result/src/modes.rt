@@ -1,6 +1,6 @@
 //! How a pattern binds.
 
-use hir_types::Mutability;
+use goal_facts::hir_types::Mutability;
 
 /// How a binding takes what its pattern matches: the Reference, "Patterns", "Binding modes";
 /// `infer.rs`, `BindingMode`.

@@ -1,8 +1,8 @@
 -- The command: `table KIND N`.
 use Rattle.std.specs.Prelude.{◌≡◌, ◌<◌, ◌^◌, ℕ, List, [], ◌∷◌, codes}
 use Rattle.std.specs.Fmt.{decimal}
-use Rattle.hir_types.specs.declared.ids.DefWithBodyId.{DefWithBodyId}
-use Rattle.hir_types.specs.declared.ids.DefWithBodyId.TheVariants as def
+use Rattle.infer_run.specs.Words.{DefWithBodyId}
+use Rattle.infer_run.specs.Words.hir_types.declared.ids.DefWithBodyId.TheVariants as def
 
 abbrev pub kind_word : DefWithBodyId → List ℕ
 kind_word (def.FunctionId f) = codes "fn"

@@ -19,6 +19,7 @@ mod unify;
 mod waiting;
 mod waits;
 
+pub use hir_types;
 pub use kinds::composition_keeps_kinds;
 pub use snapshot::Snapshot;
 pub use table::InferenceTable;

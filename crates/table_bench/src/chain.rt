@@ -1,13 +1,13 @@
 //! Holes in a chain.
 ghost use Rattle.std.specs.Prelude.{◌≡◌, IfOk};
-ghost use Rattle.infer_table.specs.Table.{Grew};
-ghost use Rattle.table_bench.specs.Bytes.{AreBytes};
+ghost use Rattle.table_bench.specs.Words.{Grew};
+ghost use Rattle.table_bench.specs.Own.{AreBytes};
 
 use crate::fault::Fault;
 use crate::holes::{bind_to_byte, byte_count, make_holes, unify};
 use crate::outcome::Outcome;
-use hir_types::Ty;
 use infer_table::InferenceTable;
+use infer_table::hir_types::Ty;
 
 /// Binds each of the first holes to the next one, and answers how often that was done.
 fn link(table: &mut InferenceTable, count: usize) -> Result<usize, Fault>

@@ -1,11 +1,11 @@
 //! Small steps on a table that every mode uses.
 ghost use Rattle.std.specs.Prelude.{◌≡◌, ◌≤◌, IsTrue, IfOk};
-ghost use Rattle.infer_table.specs.Table.{Grew, AreUnifiedIf};
-ghost use Rattle.table_bench.specs.Bytes.{IsByte, AreBytes};
+ghost use Rattle.table_bench.specs.Words.{Grew, AreUnifiedIf};
+ghost use Rattle.table_bench.specs.Own.{IsByte, AreBytes};
 
 use crate::fault::Fault;
-use hir_types::{Ty, UintTy};
 use infer_table::InferenceTable;
+use infer_table::hir_types::{Ty, UintTy};
 
 /// Makes holes for any type.
 pub fn make_holes(table: &mut InferenceTable, count: usize) -> Result<(), Fault>

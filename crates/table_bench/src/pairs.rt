@@ -1,13 +1,13 @@
 //! Pairs of small types.
 ghost use Rattle.std.specs.Prelude.{◌≡◌, ◌+◌, ◌<◌, ◌^◌, IsTrue, IfOk};
-ghost use Rattle.infer_table.specs.Table.{Grew};
-ghost use Rattle.table_bench.specs.Bytes.{IsBool, IsByte, ArePairs};
+ghost use Rattle.table_bench.specs.Words.{Grew};
+ghost use Rattle.table_bench.specs.Own.{IsBool, IsByte, ArePairs};
 
 use crate::fault::Fault;
 use crate::holes::{is_byte, make_holes, unify};
 use crate::outcome::Outcome;
-use hir_types::{List, Ty, UintTy};
 use infer_table::InferenceTable;
+use infer_table::hir_types::{List, Ty, UintTy};
 use std::alloc::{AllocError, Global};
 
 /// The type `(first, second)`.

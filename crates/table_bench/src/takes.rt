@@ -1,13 +1,13 @@
 //! Pairs that wait.
 ghost use Rattle.std.specs.Prelude.{◌≡◌, ◌+◌, ◌<◌, ◌^◌, IfOk};
-ghost use Rattle.infer_table.specs.Table.{Grew};
-ghost use Rattle.table_bench.specs.Bytes.{AreBytes};
+ghost use Rattle.table_bench.specs.Words.{Grew};
+ghost use Rattle.table_bench.specs.Own.{AreBytes};
 
 use crate::fault::Fault;
 use crate::holes::{bind_to_byte, byte_count, make_holes, unify};
 use crate::outcome::Outcome;
-use hir_types::{ExprId, ExprOrPatId, Ty};
 use infer_table::InferenceTable;
+use infer_table::hir_types::{ExprId, ExprOrPatId, Ty};
 
 /// Makes two holes wait to be unified, if the table made them.
 fn wait(table: &mut InferenceTable, source: usize, target: usize) -> Result<(), Fault>

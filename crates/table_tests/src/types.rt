@@ -1,5 +1,5 @@
 //! Types that are folded, compared and copied.
-use hir_types::{
+use infer_table::hir_types::{
     AdtId, Boxed, Const, Folded, GenericArg, Goal, List, Mutability, Region, Subst, Text, TraitId,
     TraitRef, Ty, TypeAliasId, instantiate,
 };

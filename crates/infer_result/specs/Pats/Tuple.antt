@@ -1,8 +1,7 @@
 -- A tuple pattern: Reference, "Tuple patterns"; upstream `infer/pat.rs`, `infer_tuple_pat_like`.
 use Rattle.std.specs.Prelude.{ℕ, ◌≡◌, List, slice_get, Some, [], ◌∷◌}
-use Rattle.hir_types.specs.declared.ids.PatId.{PatId}
-use Rattle.hir_types.specs.declared.ty.Ty.{Ty}
-use Rattle.hir_types.specs.declared.ty.Ty.TheVariants as ty
+use Rattle.infer_result.specs.Words.{PatId, Ty}
+use Rattle.infer_result.specs.Words.hir_types.declared.ty.Ty.TheVariants as ty
 use Rattle.infer_result.specs.declared.result.InferenceResult.{InferenceResult}
 use Rattle.infer_result.specs.Table.{PatTy}
 use Rattle.infer_result.specs.Places.{Given, PatIsAtOrMismatch}

@@ -1,7 +1,7 @@
 //! Aliases, `{unknown}`, and types without holes in the end.
 use super::{array, check_known, check_unify, pair, single, table_of};
-use hir_types::{Const, GenericArg, HoleKind, IntTy, List, Ty, TypeAliasId};
 use infer_table::InferenceTable;
+use infer_table::hir_types::{Const, GenericArg, HoleKind, IntTy, List, Ty, TypeAliasId};
 use std::alloc::{AllocError, Global};
 use std::process::Abort;
 

@@ -1,7 +1,7 @@
 //! Types that differ at one place.
 use super::{array, pair, single, unify};
-use hir_types::{AdtId, Boxed, Const, IntTy, List, Mutability, Safety, Ty, UintTy};
 use infer_table::InferenceTable;
+use infer_table::hir_types::{AdtId, Boxed, Const, IntTy, List, Mutability, Safety, Ty, UintTy};
 use std::alloc::{AllocError, Global};
 use std::process::Abort;
 

@@ -1,6 +1,6 @@
 //! Deep types, and types that grow.
 use super::{check_known, check_unify, pair, table_of};
-use hir_types::{Boxed, HoleKind, List, Ty};
+use infer_table::hir_types::{Boxed, HoleKind, List, Ty};
 use std::alloc::{AllocError, Global};
 
 /// The type within so many slices.

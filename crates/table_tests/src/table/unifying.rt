@@ -1,6 +1,6 @@
 //! What unifies, and what is refused.
 use super::{array, check_known, check_unify, pair, single, table_of};
-use hir_types::{
+use infer_table::hir_types::{
     Boxed, Const, FloatTy, HoleKind, IntTy, IntegerTy, Mutability, Region, Text, Ty, UintTy,
 };
 use std::alloc::{AllocError, Global};

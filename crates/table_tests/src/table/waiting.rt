@@ -1,8 +1,8 @@
 //! Pairs that wait.
-ghost use Rattle.infer_table.specs.Table.{Grew};
+ghost use Rattle.table_tests.specs.Words.{Grew};
 
 use super::{expr, table_of, unify, wait};
-use hir_types::{HoleKind, Ty};
+use infer_table::hir_types::{HoleKind, Ty};
 use infer_table::{InferenceTable, WaitingPair};
 use std::alloc::{AllocError, Global};
 use std::process::Abort;

@@ -1,6 +1,6 @@
 use Rattle.std.proofs.Common.{sym, ap, ◌∙◌, ◌++◌, [], ◌∷◌}
-use Rattle.hir_types.specs.declared.ty.Ty.TheVariants as ty
-use Rattle.hir_types.specs.declared.ty.GenericArg.TheVariants as arg
+use Rattle.goal_facts.specs.Words.hir_types.declared.ty.Ty.TheVariants as ty
+use Rattle.goal_facts.specs.Words.hir_types.declared.ty.GenericArg.TheVariants as arg
 use Rattle.goal_facts.proofs.Arguing.{counted_more}
 use Rattle.goal_facts.proofs.arguments.holes.Goals as goal
 

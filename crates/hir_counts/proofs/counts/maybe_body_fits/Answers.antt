@@ -1,6 +1,6 @@
 use Rattle.std.proofs.Common.{rules, ◌≡◌, Some}
 use Rattle.std.specs.Prelude.{slice_get}
-use Rattle.hir_counts.specs.Standing.{number_in}
+use Rattle.hir_counts.specs.Own.{number_in}
 use Rattle.hir_counts.proofs.Fits.{body_says}
 use Rattle.hir_counts.proofs.counts.maybe_body_fits.Goals as goal
 

@@ -1,6 +1,6 @@
 use Rattle.std.proofs.Common.{◌≡◌, ◌++◌, take}
 use Rattle.std.specs.Prelude.{flat_map}
-use Rattle.hir_counts.specs.Uses.{stmt_uses}
+use Rattle.hir_counts.specs.Own.{stmt_uses}
 use Rattle.hir_counts.proofs.uses.push_expr.Given as goal
 
 abbrev pub invariant-loop-stmt : goal.invariant-loop-stmt

@@ -1,5 +1,5 @@
-use Rattle.hir_plain.specs.Plain.{IsPlainExpr}
-use Rattle.hir_ids.proofs.Broken.{Passed}
+use Rattle.hir_facts.specs.Words.{IsPlainExpr}
+use Rattle.hir_facts.proofs.Words.{Passed}
 use Rattle.hir_facts.proofs.plain_body.are_plain_exprs.Given as goal
 
 abbrev pub ghost-is_plain_expr : goal.ghost-is_plain_expr

@@ -1,5 +1,5 @@
-use Rattle.hir_plain.specs.Plain.{IsPlainStmt}
-use Rattle.hir_ids.proofs.Broken.{Passed}
+use Rattle.hir_facts.specs.Words.{IsPlainStmt}
+use Rattle.hir_facts.proofs.Words.{Passed}
 use Rattle.hir_facts.proofs.plain_body.are_plain_stmts.Given as goal
 
 abbrev pub ghost-is_plain_stmt : goal.ghost-is_plain_stmt

@@ -1,5 +1,5 @@
 use Rattle.std.proofs.Common.{sym}
-use Rattle.hir_types.specs.declared.ids.DefWithBodyId.TheVariants as def
+use Rattle.hir_facts.specs.Words.hir_types.declared.ids.DefWithBodyId.TheVariants as def
 use Rattle.hir_facts.proofs.InRange.{body_in_range}
 use Rattle.hir_facts.proofs.plain_body.has_plain_body.Goals as goal
 

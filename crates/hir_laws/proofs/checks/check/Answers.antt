@@ -1,6 +1,5 @@
 use Rattle.std.proofs.Common.{rules}
-use Rattle.hir_laws.specs.Lawful.{tests}
-use Rattle.hir_laws.specs.Refused.{Refuses}
+use Rattle.hir_laws.specs.Own.{tests, Refuses}
 use Rattle.hir_laws.proofs.LateLaws.{by_sizes, by_limits, by_lang, by_literals, by_holes}
 use Rattle.hir_laws.proofs.checks.check.Goals as goal
 

@@ -1,5 +1,5 @@
 use Rattle.hir_laws.proofs.Allowed.{allowed}
-use Rattle.hir_laws.specs.Trees.{IsWellFormed}
+use Rattle.hir_laws.specs.Own.{IsWellFormed}
 use Rattle.hir_laws.proofs.checks.check_trees.Goals as goal
 
 pub returns-clause-ok : goal.returns-clause-ok

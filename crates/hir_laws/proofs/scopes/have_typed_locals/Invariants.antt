@@ -1,5 +1,5 @@
-use Rattle.hir_laws.specs.Binders.{HasTypedLocal}
-use Rattle.hir_ids.proofs.Broken.{Passed}
+use Rattle.hir_laws.specs.Own.{HasTypedLocal}
+use Rattle.hir_laws.proofs.Words.{Passed}
 use Rattle.hir_laws.proofs.scopes.have_typed_locals.Given as goal
 
 abbrev pub invariant-loop-e : goal.invariant-loop-e

@@ -1,8 +1,7 @@
 use Rattle.std.proofs.Common.{◌≡◌, ◌∙◌, sym, subst, ℕ, List, Bool}
 use Rattle.std.proofs.lemmas.Result.{IfOk-weaker}
-use Rattle.hir_raw.specs.Graph.{KidsFit}
-use Rattle.hir_plain.specs.Spread.{AreGood}
-use Rattle.hir_plain.specs.PlainMarks.{fine_nodes}
+use Rattle.hir_plain.specs.Words.{KidsFit}
+use Rattle.hir_plain.specs.Own.{AreGood, fine_nodes}
 use Rattle.hir_plain.proofs.PlainGraph.{few_types, graph_fits, plain_nodes}
 use Rattle.hir_plain.proofs.plain.plain_nodes.Goals as goal
 

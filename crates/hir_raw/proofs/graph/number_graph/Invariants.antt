@@ -1,5 +1,5 @@
 use Rattle.std.proofs.Common.{◌+◌, ◌*◌, length}
-use Rattle.hir_raw.specs.Visits.{visited_by, unseen}
+use Rattle.hir_raw.specs.Own.{visited_by, unseen}
 use Rattle.hir_raw.proofs.Walking.{Walking}
 use Rattle.hir_raw.proofs.graph.number_graph.Given as goal
 

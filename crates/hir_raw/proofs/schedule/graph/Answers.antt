@@ -1,6 +1,6 @@
 use Rattle.std.proofs.Common.{◌∙◌, ap, sym, List}
 use Rattle.std.specs.Prelude.{slice_get}
-use Rattle.hir_types.specs.declared.ids.ExprOrPatId.{ExprOrPatId}
+use Rattle.hir_raw.specs.Words.{ExprOrPatId}
 use Rattle.hir_raw.proofs.Schedules.{listed_inside}
 use Rattle.hir_raw.proofs.schedule.graph.Goals as goal
 

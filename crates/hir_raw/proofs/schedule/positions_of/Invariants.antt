@@ -1,5 +1,5 @@
 use Rattle.std.proofs.Common.{◌≡◌, take}
-use Rattle.hir_raw.specs.Nodes.{positions}
+use Rattle.hir_raw.specs.Own.{positions}
 use Rattle.hir_raw.proofs.schedule.positions_of.Given as goal
 
 abbrev pub invariant-loop-node : goal.invariant-loop-node

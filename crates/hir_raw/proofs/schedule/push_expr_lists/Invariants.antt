@@ -1,6 +1,5 @@
 use Rattle.std.proofs.Common.{◌≡◌, ◌++◌, take, map}
-use Rattle.hir_raw.specs.Order.{expr_parts}
-use Rattle.hir_raw.specs.Nodes.{nodes}
+use Rattle.hir_raw.specs.Own.{expr_parts, nodes}
 use Rattle.hir_raw.proofs.schedule.push_expr_lists.Given as goal
 
 abbrev pub invariant-loop-expr : goal.invariant-loop-expr

@@ -1,6 +1,5 @@
 use Rattle.std.proofs.Common.{◌≡◌, ◌++◌, take, map}
-use Rattle.hir_raw.specs.Order.{pat_parts}
-use Rattle.hir_raw.specs.Nodes.{nodes}
+use Rattle.hir_raw.specs.Own.{pat_parts, nodes}
 use Rattle.hir_raw.proofs.schedule.push_pat_lists.Given as goal
 
 abbrev pub invariant-loop-pat : goal.invariant-loop-pat

@@ -1,7 +1,6 @@
 use Rattle.std.proofs.Common.{◌≡◌, ◌-◌, ◌∙◌, ℕ, List, ap, length, subst, sym, arith}
 use Rattle.std.proofs.lemmas.Result.{IfOk-weaker}
-use Rattle.hir_raw.specs.Order.{position, the_body}
-use Rattle.hir_raw.specs.Graph.{KidsFit}
+use Rattle.hir_raw.specs.Own.{position, the_body, KidsFit}
 use Rattle.hir_raw.proofs.Bodies.{graph_size}
 use Rattle.hir_raw.proofs.Schedules.{kids_fit, answer_from_graph}
 use Rattle.hir_raw.proofs.schedule.schedule_of.Goals as goal

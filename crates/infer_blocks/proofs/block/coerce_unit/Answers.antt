@@ -1,5 +1,5 @@
 use Rattle.std.proofs.Common.{inl, inr, refl, sym, ap, ◌∙◌}
-use Rattle.hir_types.specs.declared.ty.Ty.TheVariants as ty
+use Rattle.infer_blocks.specs.Words.hir_types.declared.ty.Ty.TheVariants as ty
 use Rattle.infer_blocks.proofs.Blocks.{no_tail_coerced}
 use Rattle.infer_blocks.proofs.block.coerce_unit.Goals as goal
 

@@ -1,4 +1,4 @@
-use Rattle.hir_types.specs.declared.ids.ExprOrPatId.TheVariants as node
+use Rattle.infer_coerce.specs.Words.hir_types.declared.ids.ExprOrPatId.TheVariants as node
 use Rattle.infer_coerce.proofs.coercion.may_wait.Goals as goal
 
 pub returns-then-are_unknown : goal.returns-then-are_unknown

@@ -1,4 +1,4 @@
-use Rattle.hir_counts.specs.Counts.{FnFitsBy}
+use Rattle.hir_counts.specs.Own.{FnFitsBy}
 use Rattle.hir_counts.proofs.Fits.{fits_says}
 use Rattle.hir_counts.proofs.counts.FnCountsTest.test.Goals as goal
 

@@ -1,4 +1,4 @@
-use Rattle.hir_counts.specs.Counts.{VariantFitsBy}
+use Rattle.hir_counts.specs.Own.{VariantFitsBy}
 use Rattle.hir_counts.proofs.Fits.{fits_says}
 use Rattle.hir_counts.proofs.counts.VariantCountsTest.test.Goals as goal
 

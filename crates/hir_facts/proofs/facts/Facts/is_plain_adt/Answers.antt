@@ -1,8 +1,7 @@
 use Rattle.std.proofs.Common.{◌≡◌, ◌∙◌, ◌+◌, ◌<◌, ◌^◌, ap, sym, subst, length, get_or, ℕ, List, Bool, true, false, arith}
 use Rattle.std.specs.Prelude.{◌↔◌, IsTrue}
-use Rattle.hir_raw.specs.declared.raw.RawFacts.{RawFacts}
-use Rattle.hir_plain.specs.Plain.{IsPlainAdt}
-use Rattle.hir_plain.proofs.PlainGraph.{few_types}
+use Rattle.hir_facts.specs.Words.{RawFacts, IsPlainAdt}
+use Rattle.hir_facts.proofs.Words.{few_types}
 use Rattle.hir_facts.proofs.facts.Facts.is_plain_adt.Goals as goal
 
 pub overflow_add-node : goal.overflow_add-node

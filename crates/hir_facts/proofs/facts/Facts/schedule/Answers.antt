@@ -1,6 +1,6 @@
 use Rattle.std.proofs.Common.{◌≡◌}
 use Rattle.std.specs.Prelude.{slice_get, Some}
-use Rattle.hir_plain.proofs.Below.{walkable, scheduled_at}
+use Rattle.hir_facts.proofs.Words.{walkable, scheduled_at}
 use Rattle.hir_facts.proofs.facts.Facts.schedule.Goals as goal
 
 pub returns-clause-walkable : goal.returns-clause-walkable

@@ -1,8 +1,8 @@
 use Rattle.std.proofs.Common.{◌≡◌, ◌∙◌, ap, sym, subst, length, List, Bool, Some, arith, refl}
 use Rattle.std.specs.Prelude.{slice_get}
 use Rattle.std.proofs.lemmas.Option.{slice_get_read, slice_get_within}
-use Rattle.hir_raw.specs.declared.raw.RawFn.{RawFn}
-use Rattle.hir_plain.specs.PlainMarks.{ArePlainNodes}
+use Rattle.hir_plain.specs.Words.{RawFn}
+use Rattle.hir_plain.specs.Own.{ArePlainNodes}
 use Rattle.hir_plain.proofs.PlainFns.{fns_more}
 use Rattle.hir_plain.proofs.plain.PlainMarks.new.Goals as goal
 

@@ -1,6 +1,6 @@
 use Rattle.std.proofs.Common.{ap}
 use Rattle.std.proofs.lemmas.Result.{IfOk-weaker}
-use Rattle.hir_types.specs.declared.ty.Ty.TheVariants as ty
+use Rattle.infer_ctx.specs.Words.hir_types.declared.ty.Ty.TheVariants as ty
 use Rattle.infer_ctx.proofs.Sigs.{sig_of_function, sig_of_variant}
 use Rattle.infer_ctx.proofs.given.GivenBody.item_sig.Goals as goal
 

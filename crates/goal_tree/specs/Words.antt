@@ -1,0 +1,8 @@
+-- What this crate takes from those below it.
+pub use Rattle.goal_facts.specs.Words.{Term, Goal, ExprOrPatId}
+pub use Rattle.goal_facts.specs.Words.{RawFacts}
+pub use Rattle.goal_facts.specs.Words.{IsFront}
+pub use Rattle.goal_facts.specs.Words.{Asked, System, Aliases, Fill, ReadsAs}
+pub use Rattle.goal_facts.specs.Own.{AreProofs, AreProofsOf, Holds, IsProofOf, IsSame, IsSource, MayHaveSource, filled_goal}
+pub use Rattle.goal_facts.specs.declared.proof.Proof.{Proof}
+pub use Rattle.goal_facts.specs.declared.proof.ProofSource.{ProofSource}

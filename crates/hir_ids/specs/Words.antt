@@ -1,0 +1,38 @@
+-- What this crate takes from those below it.
+pub use Rattle.hir_raw.specs.Words.hir_types
+pub use Rattle.hir_raw.specs as hir_raw
+pub use Rattle.hir_raw.specs.Words.{folded_agree, arg_as_type, with_params, IsClosed, Same, arg_erased, erased, erased_step, has_hole, hole_arg, hole_bound, hole_const, hole_step, hole_trait, no_label, so_or_none, ReadPart, all_but_last, arg_of, auto_before, autos_of, bound_before, bounds_of, const_of, const_of_term, const_term_tells, erased_steps, erased_tells, erasing, leading_args, mark, read, term_erased, term_read, term_tells, type_of_term, types, unread, fallback, GoBySteps, Maps, Steps, folds, folds_follow, in_arg, in_arg_twice, in_bound, in_trait, in_ty, in_ty_twice, map_twice, maps_after, unique, goal_replaced, fn_def_tells, instance_at_types, instance_folded, param_at, types_args_folded, types_args_replaced, arg_replaced_type, args_folded_itself, at_arg, at_ty, bound_replaced_is, folded_itself, folded_twice, replaced_adt, replaced_array, replaced_associated_type, replaced_bool, replaced_char, replaced_error, replaced_fn_def, replaced_int, replaced_int_var, replaced_param, replaced_tuple, replaced_uint, replaced_var, replacing, trait_replaced_is, Assignment, Replacement, arg_folded, arg_layer, arg_replaced, args_replaced, bound_replaced, composed, const_folded, const_replaced, each_itself, folded, replaced, trait_folded, trait_replaced, ty_layer, with_holes, arg_term_at, arg_term_const, arg_term_type, args_terms, bound_parts_is, parts_of_types, term_adt, term_adt_types, term_array, term_associated_type, term_associated_types, term_at, term_bool, term_char, term_closure, term_dynamic, term_error, term_float, term_fn_def, term_fn_def_types, term_fn_ptr, term_folded, term_hole, term_int, term_int_var, term_never, term_opaque, term_param, term_projection, term_raw_ptr, term_ref, term_slice, term_str, term_tuple, term_uint, term_var, terms, trait_parts_is, IsInt, Term, apply, arg_step, arg_term, auto_parts, bound_parts, bound_step, chain, const_part, const_term, hole, hole_number, leaf, node, occurs, pair, term, terms_of, trait_parts, trait_step, ty_step, type_part, depth, integer_type, measured, measured_arg, measured_bound, measured_step, measured_trait, most, size, unit, Goal, Head, Hole, HoleKind, AdtId, BindingId, BodyId, CallableDefId, ClosureId, ConstId, DefWithBodyId, ExprId, ExprOrPatId, FunctionId, GenericDefId, ImplId, LabelId, ModuleId, OpaqueId, PatId, TraitId, TypeAliasId, TypeRefId, VariantId, AliasBound, AliasBound-F, fold-AliasBound, fold-roll-AliasBound, map-AliasBound, roll-AliasBound, Const, FloatTy, GenericArg, GenericArg-F, fold-GenericArg, fold-roll-GenericArg, fold_out-GenericArg, ind-GenericArg, map-GenericArg, out-GenericArg, out-roll-GenericArg, roll-GenericArg, roll-out-GenericArg, IntTy, IntegerTy, Mutability, Region, Safety, TraitRef, TraitRef-F, fold-TraitRef, fold-roll-TraitRef, map-TraitRef, out-TraitRef, roll-TraitRef, Ty, Ty-F, fold-Ty, fold-roll-Ty, ind-Ty, map-Ty, out-Ty, out-roll-Ty, roll-Ty, roll-out-Ty, UintTy}
+pub use Rattle.hir_raw.specs.Own.{arg_fits, const_fits, fits, fits_arg, fits_bound, fits_step, fits_trait, ty_fits, arg_fits_ty, ty_fits_adt, ty_fits_associated, ty_fits_bool, ty_fits_char, ty_fits_error, ty_fits_fndef, ty_fits_int, ty_fits_intvar, ty_fits_param, ty_fits_tuple, ty_fits_uint, ty_fits_var, arg_types, is_sized_lang, Edge, KidsFit, kids_of, aliases_at, aliases_by, aliases_in, aliases_within, field_refs, fn_aliases, is_alias, opened, opened_by, opened_type, place_in, variant_aliases, expr_aliases, let_aliases, masked, masked_type, stmt_aliases, alias_is_hole, masked_at, other_is_itself, none_opened, opened_at, opened_length, opened_parts, place_below, stays_if_no_alias, stays_if_none, AreDepths, Binds, Fits, IsInBody, IsLow, IsNode, IsSchedule, Node, Part, PartsFit, Role, after, argument, arm, arm_parts, arm_pattern, arm_patterns, arms_parts, binding_of, body_parts, callee, condition, element, else_branch, end, expr_part, expr_parts, exprs_from, guard, initializer, inner, let_else, let_pattern, maybe_part, node_count, param_parts, parameter, part_at, parts, parts_of_expr, parts_of_pat, pat_part, pat_parts, pattern_literal, root, scrutinee, start, statement, stmt_at, stmt_parts, stmts_of, stmts_parts, subpattern, subpatterns, tail, the_body, then_branch, Scope, adt_params, alias_params, alias_params_by, callable_params, count_or_none, fn_arity, generic_params, has_associated, has_associated_by, has_params, is_size_goal, names_alias, names_item, params_in_trait, params_of, scope_of, types_scope, variant_arity, Signature, at_args, ctor_item, ctor_signature, ctor_type, ctor_type_by, field_types, fn_signature, fn_types, own_adt, own_adt_at, own_adt_first, params_from, signature_by, signature_of, taken_types, type_args, variant_types, StandsIn, filled, filled_by, filled_type, in_part, is_itself, lowered, lowered_by, type_parts, written_type}
+unfoldable pub use Rattle.hir_raw.specs.Own.{filled_within}
+pub use Rattle.hir_raw.specs.declared.raw.BindingAnnotation.{BindingAnnotation}
+pub use Rattle.hir_raw.specs.declared.raw.Edition.{Edition}
+pub use Rattle.hir_raw.specs.declared.raw.Other.{Other}
+pub use Rattle.hir_raw.specs.declared.raw.RawAdt.{RawAdt}
+pub use Rattle.hir_raw.specs.declared.raw.RawAdtKind.{RawAdtKind}
+pub use Rattle.hir_raw.specs.declared.raw.RawAlias.{RawAlias}
+pub use Rattle.hir_raw.specs.declared.raw.RawArgs.{RawArgs}
+pub use Rattle.hir_raw.specs.declared.raw.RawArm.{RawArm}
+pub use Rattle.hir_raw.specs.declared.raw.RawAssocType.{RawAssocType}
+pub use Rattle.hir_raw.specs.declared.raw.RawAt.{RawAt}
+pub use Rattle.hir_raw.specs.declared.raw.RawBinding.{RawBinding}
+pub use Rattle.hir_raw.specs.declared.raw.RawBody.{RawBody}
+pub use Rattle.hir_raw.specs.declared.raw.RawCtor.{RawCtor}
+pub use Rattle.hir_raw.specs.declared.raw.RawExpr.{RawExpr}
+pub use Rattle.hir_raw.specs.declared.raw.RawFacts.{RawFacts}
+pub use Rattle.hir_raw.specs.declared.raw.RawField.{RawField}
+pub use Rattle.hir_raw.specs.declared.raw.RawFn.{RawFn}
+pub use Rattle.hir_raw.specs.declared.raw.RawGoal.{RawGoal}
+pub use Rattle.hir_raw.specs.declared.raw.RawImpl.{RawImpl}
+pub use Rattle.hir_raw.specs.declared.raw.RawLang.{RawLang}
+pub use Rattle.hir_raw.specs.declared.raw.RawLimits.{RawLimits}
+pub use Rattle.hir_raw.specs.declared.raw.RawLiteral.{RawLiteral}
+pub use Rattle.hir_raw.specs.declared.raw.RawParam.{RawParam}
+pub use Rattle.hir_raw.specs.declared.raw.RawPat.{RawPat}
+pub use Rattle.hir_raw.specs.declared.raw.RawPath.{RawPath}
+pub use Rattle.hir_raw.specs.declared.raw.RawStmt.{RawStmt}
+pub use Rattle.hir_raw.specs.declared.raw.RawTrait.{RawTrait}
+pub use Rattle.hir_raw.specs.declared.raw.RawTraitRef.{RawTraitRef}
+pub use Rattle.hir_raw.specs.declared.raw.RawType.{RawType}
+pub use Rattle.hir_raw.specs.declared.raw.RawVariant.{RawVariant}
+pub use Rattle.hir_raw.specs.declared.raw.RawVis.{RawVis}
+pub use Rattle.hir_raw.specs.declared.schedule.Schedule.{Schedule}
