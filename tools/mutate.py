@@ -2,8 +2,8 @@
 """Runs the program on random mutations of the examples: each must end with one of its statuses.
 
 Bytes are flipped, cut out and doubled, keys dropped, numbers changed, lists cut. What is asked for is the last
-function that the example has. Prints how often each status came, and fails at a crash, a hang (10 seconds), a status that is none of the program's, and
-output at a status that writes none.
+function that the example has, or a session where the example is one. Prints how often each status came, and fails at a crash, a
+hang (10 seconds), a status that is none of the program's, 9 at a session, and output at a status that writes none.
 Usage: tools/mutate.py [COUNT [SEED]]      (20000, 1 where none is given)
 Build the program first: cd crates/infer_tool && rt run -- table fn 0 < ../../examples/first_run.json
 """
@@ -80,8 +80,14 @@ def mutated(rng, text):
     return bytes(out)
 
 
-def run(text, number):
-    done = subprocess.run([PROGRAM, "table", "fn", str(number)], input=text, capture_output=True, timeout=10)
+def words_for(text):
+    """What is asked of an example: a session, or the last function, which calls those before it."""
+    value = json.loads(text)
+    return ["session"] if "commands" in value else ["table", "fn", str(len(value["fns"]) - 1)]
+
+
+def run(text, words):
+    done = subprocess.run([PROGRAM] + words, input=text, capture_output=True, timeout=10)
     return done.returncode, done.stdout, done.stderr
 
 
@@ -94,14 +100,16 @@ def main():
     texts = [open(name, "rb").read() for name in sorted(glob.glob(os.path.join(TOP, "examples", "*.json")))]
     seen = collections.Counter()
     wrong = 0
-    numbers = [len(json.loads(text)["fns"]) - 1 for text in texts]  # the last function calls those before it
+    words = [words_for(text) for text in texts]
     chosen = [rng.randrange(len(texts)) for _ in range(count)]
     batch = [mutated(rng, texts[at]) for at in chosen]
+    asked_of = [words[at] for at in chosen]
     with ThreadPoolExecutor(4) as pool:
-        for text, answer in zip(batch, pool.map(attempt, batch, [numbers[at] for at in chosen])):
+        for text, asked, answer in zip(batch, asked_of, pool.map(attempt, batch, asked_of)):
             status, out, err = answer
             seen[status] += 1
-            fine = (status in REPORTS and out.endswith(b"\n") and not err) or (status in SILENT and not out and err)
+            silent = SILENT - {9} if asked == ["session"] else SILENT
+            fine = (status in REPORTS and out.endswith(b"\n") and not err) or (status in silent and not out and err)
             if not fine:
                 wrong += 1
                 print("status %r, %d bytes out, for %r" % (status, len(out), text[:2000]))
@@ -109,9 +117,9 @@ def main():
     sys.exit(1 if wrong else 0)
 
 
-def attempt(text, number):
+def attempt(text, words):
     try:
-        return run(text, number)
+        return run(text, words)
     except subprocess.TimeoutExpired:
         return "hang", b"", b""
 

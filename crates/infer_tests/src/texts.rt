@@ -15,7 +15,7 @@ const LET_REPORT: &str = "fn 0\ne0 u8\ne1 u8\ne2 u8\np0 u8 move\nb0 u8\ncomplain
 const NO_JSON: &str = "6 the text is no JSON in UTF-8, or nests more than 127 arrays and objects";
 
 const AT_TOP: &str =
-    "7 the whole text has another shape: an object with exactly the 18 keys of docs/FORMAT.md is wanted";
+    "7 the whole text has another shape: an object with exactly the 18 keys of docs/FORMAT.md, or for `session` with `facts` and `commands`, is wanted";
 
 const DEEP_BODY: &str =
     "8 law 5 is broken at bodies[0]: lists are not too long, and trees and types not too deep or too large";

@@ -5,3 +5,4 @@ pub mod Entries
 pub mod Bodies
 pub mod Facts
 pub mod Abstract
+pub mod Session
