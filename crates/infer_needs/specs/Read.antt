@@ -1,12 +1,15 @@
 -- What goals read as.
-use Rattle.std.specs.Prelude.{ℕ, List, [], ◌∷◌, Option, Some, None}
+use Rattle.std.specs.Prelude.{ℕ, Bool, true, false, List, [], ◌∷◌, Option, Some, None}
 use Rattle.hir_types.specs.declared.goal.Goal.{Goal}
+use Rattle.hir_types.specs.declared.ty.Ty.{Ty}
 use Rattle.hir_raw.specs.declared.raw.RawFacts.{RawFacts}
+use Rattle.hir_raw.specs.Scope.{Scope}
 use Rattle.goal_answers.specs.Goals.{Asked, System}
 use Rattle.goal_facts.specs.declared.proof.Proof.{Proof}
 use Rattle.goal_facts.specs.Goals.{asked_goal}
 use Rattle.goal_prove.specs.Entries.{AddsProofs}
 use Rattle.goal_prove.specs.Written.{IsWritten}
+use Rattle.infer_result.specs.InHand.{IsKnownAs}
 use Rattle.infer_result.specs.Projections.{GoalReads}
 use Rattle.infer_needs.specs.Judged.{HasProofOf}
 use Rattle.infer_needs.specs.Told.{AddsRootsOf}
@@ -20,6 +23,11 @@ IsGoalRead f n a None = (b : Asked) → GoalReads f n a b → ⊥
 abbrev pub IsWrittenIf : Option Goal → Type 0
 IsWrittenIf (Some b) = IsWritten (asked_goal b).parts
 IsWrittenIf None = Unit {0}
+
+-- the type reads as one that can stand in a body in this scope, or as none
+abbrev pub IsKnownIf : Scope → System → ℕ → Ty → Bool → Type 0
+IsKnownIf sc f n t true = (u : Ty) × IsKnownAs sc f n t (Some u)
+IsKnownIf sc f n t false = IsKnownAs sc f n t None
 
 -- proofs come behind, and one of them all is of the goal
 pub record AddsProofOf (raw : RawFacts) (f : System) (a : Asked) (ps qs : List Proof) : Type 0 where

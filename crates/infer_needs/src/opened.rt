@@ -7,11 +7,12 @@ ghost use Rattle.goal_facts.specs.Goals.{asked_goal, IsAnswer};
 ghost use Rattle.infer_result.specs.CannotHold.{hole_by, hole_for, opened, opened_goal};
 ghost use Rattle.infer_needs.specs.Judged.{MayHoldIf};
 
+use crate::readable::is_readable;
 use crate::unknown::holds_unknown;
 use goal_facts::{Answer, ItemSources, asked};
 use goal_search::{Asked, Holes};
 use goal_terms::Term;
-use hir_facts::Goal;
+use hir_facts::{DefWithBodyId, Goal};
 use hir_types::{Head, Hole};
 use std::alloc::{AllocError, Global};
 
@@ -91,11 +92,20 @@ fn answer_opened(
     search.evaluate(&opened, Holes::Stay, depth + 1)
 }
 
-/// Whether `{unknown}` stands in a goal, and it isn't known that no type in its place makes it hold.
-pub fn may_hold(alloc: Global, sources: &ItemSources<'_>, goal: &Goal) -> Result<bool, AllocError>
-    ensures { IfOk result (λ yes. MayHoldIf (system sources.now.sources) sources.now.facts.limits.goal_depth (asked_goal goal.now) yes) }
+/// Whether `{unknown}` stands in a goal, it isn't known that no type in its place makes it hold, and what stands
+/// there could not have been read.
+pub fn may_hold(
+    alloc: Global,
+    sources: &ItemSources<'_>,
+    def: DefWithBodyId,
+    goal: &Goal,
+) -> Result<bool, AllocError>
+    ensures { IfOk result (λ yes. MayHoldIf (scope_of sources.now.facts def) (system sources.now.sources) sources.now.facts.limits.goal_depth (asked_goal goal.now) yes) }
 {
     if !holds_unknown(alloc, goal)? {
+        return Ok(false);
+    }
+    if is_readable(alloc, sources, def, goal)? {
         return Ok(false);
     }
     match answer_opened(alloc, sources, goal)? {

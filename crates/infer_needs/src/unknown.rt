@@ -1,12 +1,12 @@
-//! Whether `{unknown}` stands in a goal.
-ghost use Rattle.std.specs.Prelude.{◌↔◌, IsTrue, IfOk};
-ghost use Rattle.hir_types.specs.Terms.{leaf};
+//! Whether `{unknown}` stands in a goal, or in arguments.
+ghost use Rattle.std.specs.Prelude.{◌↔◌, IsTrue, IfOk, map};
+ghost use Rattle.hir_types.specs.Terms.{leaf, chain, arg_term};
 ghost use Rattle.goal_terms.specs.Terms.{term_of};
 ghost use Rattle.goal_facts.specs.Goals.{asked_goal};
 ghost use Rattle.infer_result.specs.Needs.{HoldsUnknown};
 
 use goal_terms::{Term, args_term, type_term};
-use hir_facts::Goal;
+use hir_facts::{GenericArg, Goal, List};
 use hir_types::Head;
 use std::alloc::{AllocError, Global};
 
@@ -31,7 +31,15 @@ fn stands_in(term: &Term) -> bool
     }
 }
 
-/// Whether `{unknown}`, as a type or a const, stands in a goal.
+/// Whether `{unknown}`, as a type or a const, stands in one of these arguments.
+pub fn args_hold_unknown(alloc: Global, args: &List<GenericArg>) -> Result<bool, AllocError>
+    ensures { IfOk result (λ yes. IsTrue yes ↔ HoldsUnknown (chain (map arg_term args.now))) }
+{
+    let args = args_term(alloc, args)?;
+    Ok(stands_in(&args))
+}
+
+/// Whether it stands in a goal.
 pub fn holds_unknown(alloc: Global, goal: &Goal) -> Result<bool, AllocError>
     ensures { IfOk result (λ yes. IsTrue yes ↔ HoldsUnknown (asked_goal goal.now).parts) }
 {

@@ -1,10 +1,9 @@
 -- What an associated type that a goal is about reads as, made equal with the goal's type.
-use Rattle.std.specs.Prelude.{◌≡◌, ◌⊎◌, ℕ, zero, suc, List, length, map, slice_get, Option, Some, Bool}
+use Rattle.std.specs.Prelude.{◌≡◌, ℕ, zero, suc, List, length, map, slice_get, Option, Some}
 use Rattle.hir_types.specs.declared.goal.Goal.{Goal}
 use Rattle.hir_types.specs.declared.goal.Goal.TheVariants as goal
 use Rattle.hir_types.specs.declared.ids.TypeAliasId.{TypeAliasId}
 use Rattle.hir_types.specs.declared.ty.GenericArg.{GenericArg}
-use Rattle.hir_raw.specs.Scope.{Scope}
 use Rattle.hir_types.specs.declared.ty.Ty.{Ty}
 use Rattle.hir_types.specs.declared.ty.Ty.TheVariants as ty
 use Rattle.infer_table.specs.Table.{bindings, resolved_type}
@@ -19,11 +18,6 @@ use Rattle.infer_ctx.specs.declared.context.InferenceContext.{InferenceContext}
 use Rattle.infer_ctx.specs.Steps.{OnlyBinds}
 use Rattle.infer_coerce.specs.MadeEqual.{SameOrDiffer, Settles}
 use Rattle.infer_obligations.specs.Selection.{SelectsInWalk}
-use Rattle.hir_raw.specs.declared.raw.RawFacts.{RawFacts}
-
--- the scope of a body, from its parts
-abbrev pub body_scope : RawFacts → ℕ → Bool → Scope
-body_scope raw n b = record { facts = raw; params = n; associated = b }
 
 -- the two were made equal, or differ, where both are such types; and nothing is recorded
 pub record UnifiesInHand (g : Given) (t u : Ty) (old new : InferenceContext) : Type 0 where
@@ -110,16 +104,14 @@ abbrev pub ReadsTimes : Given → ℕ → InferenceContext → InferenceContext 
 ReadsTimes g zero old new = new ≡ old
 ReadsTimes g (suc n) old new = (mid : InferenceContext) × ReadsTimes g n old mid × ReadsAll g mid new
 
--- the last time bound no hole
-pub record ReadsNoMore (g : Given) (c : InferenceContext) : Type 0 where
-  pub before : InferenceContext
-  pub reads : ReadsAll g before c
-  pub none : length (bindings c.goals.table) ≡ length (bindings before.goals.table)
-
--- until that bound no hole any more, or as often as goals may be followed
+-- again and again, and the last time bound no hole
 pub record ReadsOn (g : Given) (old new : InferenceContext) : Type 0 where
   pub binds : OnlyBinds g old new
-  pub ends : ReadsNoMore g new ⊎ ReadsTimes g g.scope.facts.limits.goal_depth old new
+  pub times : ℕ
+  pub before : InferenceContext
+  pub first : ReadsTimes g times old before
+  pub again : ReadsAll g before new
+  pub none : length (bindings new.goals.table) ≡ length (bindings before.goals.table)
 
 -- what all nodes need was read, goals were selected, and nothing that is asked of an expression is left open
 pub record SettlesNeeds (g : Given) (old new : InferenceContext) : Type 0 where

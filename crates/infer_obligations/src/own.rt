@@ -9,9 +9,9 @@ ghost use Rattle.goal_search.specs.Sources.{system};
 ghost use Rattle.infer_result.specs.Needs.{scope_item};
 ghost use Rattle.infer_result.specs.OwnTypes.{IsKnownAs, EachIsKnownAs, AreOwnTypes, aliases_of};
 
-use crate::hand::is_in_hand;
 use hir_facts::{DefWithBodyId, Facts, Ty, TypeRefId, fn_aliases, lower_ty, return_ty};
 use infer_goals::GoalTable;
+use infer_result::is_in_hand;
 use std::alloc::{AllocError, Global};
 
 /// The types of what a definition takes and gives, each where its body knows of one.

@@ -6,12 +6,11 @@ ghost use Rattle.infer_result.specs.Closed.{IsOfBody};
 ghost use Rattle.infer_ctx.specs.Asked.{IsTold};
 ghost use Rattle.infer_obligations.specs.Reading.{UnifiesInHand, ReadsAlias, ReadsGoal, ReadsEach, ReadsFor, SelectsAndReads, ReadsPath, ReadsPaths, ReadsPat, ReadsPats, ReadsAll, ReadsOn, SettlesNeeds};
 
-use crate::hand::is_in_hand;
 use crate::select::select_obligations_where_possible;
 use hir_facts::{ExprId, ExprOrPatId, Goal, PatId, Ty};
 use infer_coerce::{unify, unify_unknown};
 use infer_ctx::{GivenBody, InferenceContext};
-use infer_result::{expr_id, needed_goals, pat_id, pat_needs};
+use infer_result::{expr_id, is_in_hand, needed_goals, pat_id, pat_needs};
 use std::alloc::{AllocError, Global};
 
 /// Makes two types equal, where both can be written in the scope of the body; else they differ, or nothing is done.
@@ -223,8 +222,7 @@ fn read_nodes(
     Ok(())
 }
 
-/// Reads them of all nodes until that binds no hole any more, at most as often as the facts let goals be followed: what one path
-/// gives may be what the associated type of another is of.
+/// Reads them of all nodes until that binds no hole any more: what one path gives may be what the associated type of another is of.
 pub fn read_all(
     alloc: Global,
     context: &mut InferenceContext,
@@ -234,15 +232,13 @@ pub fn read_all(
     requires sound { IsSound (scope_in given.now) context.old }
     ensures { OnOk result (ReadsOn (given_of given.now) context.old context.new) }
 {
-    let limit = given.facts.raw().limits.goal_depth;
-    for _pass in 0..limit {
+    'read: loop {
         let bound = context.goals.table.bound_count();
         read_nodes(alloc, context, given)?;
         if context.goals.table.bound_count() == bound {
             return Ok(());
         }
     }
-    Ok(())
 }
 
 /// Once the body is walked: reads the associated types that the needs of its nodes are about, selects what can be selected with what that

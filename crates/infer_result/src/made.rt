@@ -4,8 +4,7 @@ ghost use Rattle.std.specs.Prelude.{◌≡◌, ◌↔◌, IsTrue};
 ghost use Rattle.hir_raw.specs.Scope.{alias_params, has_params};
 ghost use Rattle.infer_table.specs.Preserved.{whole, part, rest, width, IsTypeMark, IsHead, IsEnd, IsMadeOf};
 ghost use Rattle.goal_terms.specs.Terms.{term_of};
-ghost use Rattle.infer_result.specs.OwnTypes.{is_read_head};
-ghost use Rattle.infer_obligations.specs.Reading.{body_scope};
+ghost use Rattle.infer_result.specs.InHand.{is_read_head, body_scope};
 
 use goal_terms::Term;
 use hir_facts::RawFacts;

@@ -1,7 +1,7 @@
 //! Whether a type can stand in the body of a definition.
 ghost use Rattle.std.specs.Prelude.{◌≡◌, ◌↔◌, IfOk, IsTrue};
 ghost use Rattle.hir_raw.specs.Scope.{params_of, scope_of};
-ghost use Rattle.infer_result.specs.OwnTypes.{IsInHand};
+ghost use Rattle.infer_result.specs.InHand.{IsInHand};
 
 use crate::made::is_read_type;
 use goal_terms::type_term;

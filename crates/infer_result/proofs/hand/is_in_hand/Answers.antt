@@ -2,10 +2,9 @@ use Rattle.std.proofs.Common.{◌∙◌, subst, sym, true≢false}
 use Rattle.hir_types.specs.Terms.{term}
 use Rattle.hir_raw.specs.Scope.{Scope, scope_of}
 use Rattle.infer_table.specs.Preserved.{whole, IsMadeOf}
-use Rattle.infer_result.specs.OwnTypes.{is_read_head}
-use Rattle.infer_obligations.specs.Reading.{body_scope}
-use Rattle.infer_obligations.proofs.InHand.{scope_is, not_in_hand, in_hand_if}
-use Rattle.infer_obligations.proofs.hand.is_in_hand.Goals as goal
+use Rattle.infer_result.specs.InHand.{is_read_head, body_scope}
+use Rattle.infer_result.proofs.InHand.{scope_is, not_in_hand, in_hand_if}
+use Rattle.infer_result.proofs.hand.is_in_hand.Goals as goal
 
 pub returns-then-not-is_read_type : goal.returns-then-not-is_read_type
 returns-then-not-is_read_type c =
