@@ -24,6 +24,7 @@ use Rattle.hir_raw.specs.declared.raw.RawFacts.{RawFacts}
 use Rattle.hir_raw.specs.declared.raw.RawFn.{RawFn}
 use Rattle.hir_raw.specs.declared.raw.RawGoal.{RawGoal}
 use Rattle.hir_raw.specs.declared.raw.RawGoal.TheVariants as goal
+use Rattle.hir_raw.specs.declared.raw.RawImpl.{RawImpl}
 use Rattle.hir_raw.specs.declared.raw.RawPath.{RawPath}
 use Rattle.hir_raw.specs.declared.raw.RawPath.TheVariants as path
 use Rattle.hir_raw.specs.declared.raw.RawTrait.{RawTrait}
@@ -57,8 +58,8 @@ use Rattle.infer_table.specs.Preserved.{width}
 use Rattle.infer_needs.proofs.Closed.{both}
 use Rattle.infer_needs.specs.FitTerms.{are_types, takes, is_fit, Fits, AskedFits, GoalIsFit}
 use Rattle.infer_needs.proofs.FitTerms.{type_same}
-use Rattle.infer_needs.proofs.FitSources.{GoalIsCounted, both_true, alias_counted, type_fits_at, args_fit_at, args_are_types, args_taken, adts_fit, goal_counted}
-use Rattle.infer_needs.proofs.NoPlaceholders.{IsFree, parts_free, own_free, fn_free, variant_free}
+use Rattle.infer_needs.proofs.FitSources.{GoalIsCounted, both_true, alias_counted, type_fits_at, args_fit_at, args_are_types, args_taken, adts_fit, impls_fit, goal_counted}
+use Rattle.infer_needs.proofs.NoPlaceholders.{impls_exist, IsFree, parts_free, own_free, fn_free, variant_free}
 use Rattle.infer_needs.proofs.ReadsFit.{split, reads_fit, still_takes, still_types}
 use Rattle.infer_needs.proofs.Provable.{recorded_at}
 
@@ -136,6 +137,10 @@ module _ (raw : RawFacts) (law : IsLawful raw) where
           both_true (takes (alias_params raw k) args) (is_fit raw n args) (args_taken raw n xs params (alias_params raw k) (arg_types ws) right.taken) (args_fit_at raw n xs params (arg_types ws) right.counted.0),
           type_fits_at raw n xs params w right.counted.1,
         )
+
+    -- the predicates of an impl
+    pub impl_goal_fits : (i : ℕ) (p : RawImpl) → slice_get raw.impls i ≡ Some p → (k : ℕ) (g : RawGoal) → slice_get p.preds k ≡ Some g → GoalIsFit raw n (goal_at raw xs g)
+    impl_goal_fits i p here k g at = goal_fits g (goal_right (length p.params) g ((impls_exist raw law i p here).preds k g at) ((impls_fit raw law i p here).preds k g at))
 
     goals_fit : (gs : List RawGoal) → AreRight raw gs → Each (GoalIsFit raw n) (map (goal_at raw xs) gs)
     goals_fit [] right = tt

@@ -3,6 +3,7 @@ use Rattle.std.specs.Prelude.{◌≡◌, ℕ, zero, suc, true, List, [], ◌∷�
 use Rattle.std.proofs.Common.{inl, inr, sym, ap, ◌∙◌, subst, true≢false}
 use Rattle.std.proofs.lemmas.Option.{same_Some}
 use Rattle.hir_types.specs.declared.goal.Goal.{Goal}
+use Rattle.hir_types.specs.declared.goal.Goal.TheVariants as goal
 use Rattle.hir_types.specs.declared.head.Head.TheVariants as head
 use Rattle.hir_types.specs.declared.ids.GenericDefId.{GenericDefId}
 use Rattle.hir_types.specs.declared.ids.TypeAliasId.{TypeAliasId}
@@ -16,7 +17,7 @@ use Rattle.hir_raw.specs.Scope.{alias_params, has_params, generic_params}
 use Rattle.hir_laws.specs.Lawful.{IsLawful}
 use Rattle.infer_table.specs.Preserved.{width}
 use Rattle.goal_answers.specs.Goals.{Kind, implements, projects, Asked, System}
-use Rattle.goal_answers.specs.Reading.{alias, role, alias_at}
+use Rattle.goal_answers.specs.Reading.{alias, role, alias_at, staying}
 use Rattle.goal_facts.specs.Goals.{asked_goal}
 use Rattle.goal_facts.specs.Reading.{TypeReads}
 use Rattle.goal_facts.specs.Systems.{IsSystemOf}
@@ -87,6 +88,13 @@ module _ (raw : RawFacts) (item : GenericDefId) where
   goal_fits_at [] i q h at = absurd (cc)
   goal_fits_at (x ∷ qs) zero q h at = subst (λ y. GoalFitsIn raw item (asked_goal y)) (same_Some x q at) h.0
   goal_fits_at (x ∷ qs) (suc i) q h at = goal_fits_at qs i q h.1 at
+
+-- the goal that it is a type that fits
+pub entry_goal : (raw : RawFacts) (item : GenericDefId) (k : TypeAliasId) (w : Term) (zs : List GenericArg) (u : Ty) → chain (map arg_term zs) ≡ w → TakesThese raw k w → FitsIn raw item w → EntryFitsIn raw item (ty.Projection k zs, u)
+    → GoalFitsIn raw item (asked_goal (goal.Projection k zs u))
+entry_goal raw item k w zs u is many fits entry =
+    let own = generic_params raw item in
+    (subst (λ c. Fits raw own (staying k c)) (sym is) (both_true (takes (alias_params raw k) w) (is_fit raw own w) many fits), entry.1)
 
 -- ---- what is read
 

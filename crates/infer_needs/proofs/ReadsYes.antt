@@ -1,10 +1,11 @@
 -- What an associated type reads as, where it doesn't stay, it is by a goal whose answer is Yes at that depth; and what is read of types
 -- without holes is without.
-use Rattle.std.specs.Prelude.{◌≡◌, ℕ, zero, suc, true, List, [], ◌∷◌, length, map, flat_map, slice_get, Option, Some, None, refl}
+use Rattle.std.specs.Prelude.{◌≡◌, ℕ, zero, suc, true, List, [], ◌∷◌, length, map, flat_map, slice_get, Option, Some, None, option_map, refl}
 use Rattle.std.specs.List.{range_with_len}
 use Rattle.std.proofs.Common.{inl, inr, sym, ap, ◌∙◌, subst, true≢false}
 use Rattle.std.proofs.lemmas.Bool.{or_cases, or_left, or_right}
 use Rattle.hir_types.specs.declared.ids.GenericDefId.{GenericDefId}
+use Rattle.hir_types.specs.declared.ids.GenericDefId.TheVariants as generic
 use Rattle.hir_types.specs.declared.ids.TypeAliasId.{TypeAliasId}
 use Rattle.hir_types.specs.declared.ids.TypeRefId.{TypeRefId}
 use Rattle.hir_types.specs.declared.goal.Goal.TheVariants as goal
@@ -38,7 +39,7 @@ use Rattle.goal_answers.proofs.One.{occurs_type, answers_sound}
 use Rattle.goal_answers.proofs.Levels.{answers_read, reads_read as reading_is_read}
 use Rattle.goal_facts.specs.Arguments.{holes, own_params, type_at, args_at, goal_at}
 use Rattle.goal_facts.specs.Bounds.{BoundSays, IsListed}
-use Rattle.goal_facts.specs.Environment.{IsStated, trait_holes, IsSuper, Follows}
+use Rattle.goal_facts.specs.Environment.{preds_or_none, env_preds, IsStated, trait_holes, IsSuper, Follows}
 use Rattle.goal_facts.specs.Goals.{asked_goal}
 use Rattle.goal_facts.specs.Impls.{impl_args, assoc_rule, rules_for, impl_rules}
 use Rattle.goal_facts.specs.Reading.{TypeReads}
@@ -78,7 +79,7 @@ facts_plain : (ds : List Asked) → Each (λ (r : Rule). r.preds ≡ []) (map fa
 facts_plain [] = tt
 facts_plain (d ∷ ds) = (refl, facts_plain ds)
 
-clauses_plain : (raw : RawFacts) (item : GenericDefId) (f : System) → IsSystemOf raw item f → Each (λ (r : Rule). r.preds ≡ []) f.clauses
+pub clauses_plain : (raw : RawFacts) (item : GenericDefId) (f : System) → IsSystemOf raw item f → Each (λ (r : Rule). r.preds ≡ []) f.clauses
 clauses_plain raw item f of = subst (Each (λ (r : Rule). r.preds ≡ [])) (sym of.clauses.are) (facts_plain of.clauses.stated)
 
 -- ---- what gives an alias its type proves the goal that it is that, one step deeper
@@ -158,6 +159,12 @@ filled_heads p (hole j) h fills = fills j (hole_eq_same j)
 filled_heads p (leaf x) h fills = h
 filled_heads p (pair a b) h fills =
     (filled_heads p a h.0 (λ k o. fills k (or_left (occurs k a) (occurs k b) o)), filled_heads p b h.1 (λ k o. fills k (or_right (occurs k a) (occurs k b) o)))
+
+filled_written : (p : Fill) (t : Term) → HasWrittenHeads t → ((k : Hole) → occurs k t ≡ true → IsWritten (p k)) → IsWritten (apply p t)
+filled_written p (hole j) h fills = fills j (hole_eq_same j)
+filled_written p (leaf x) h fills = h
+filled_written p (pair a b) h fills =
+    (filled_written p a h.0 (λ k o. fills k (or_left (occurs k a) (occurs k b) o)), filled_written p b h.1 (λ k o. fills k (or_right (occurs k a) (occurs k b) o)))
 
 nth_heads : (n : ℕ) (ts u : Term) → IsNth n ts u → HasWrittenHeads ts → HasWrittenHeads u
 nth_heads zero (pair (pair m t) b) u l h = subst HasWrittenHeads (sym l) h.0.1
@@ -266,6 +273,15 @@ module _ (raw : RawFacts) (law : IsLawful raw) where
   impl_heads : (i : ℕ) (p : RawImpl) → slice_get raw.impls i ≡ Some p → (o : Option RawTraitRef) → p.trait_ ≡ o → Each IsWrittenRule (rules_for raw p o)
   impl_heads i p here None is = tt
   impl_heads i p here (Some t) is = (impl_args_heads i p here t is, assoc_heads i p here t is p.types (given_has_none raw law i p t here is))
+
+  -- a predicate of an impl whose holes are filled
+  pub impl_goal_written : (i : ℕ) (p : RawImpl) → slice_get raw.impls i ≡ Some p → (k : ℕ) (g : RawGoal) → slice_get p.preds k ≡ Some g → (s : Fill)
+      → ((j : Hole) → occurs j (goal_at raw (holes (length p.params)) g).parts ≡ true → IsWritten (s j)) → IsWritten (apply s (goal_at raw (holes (length p.params)) g).parts)
+  impl_goal_written i p here k g at s fills =
+      let id = generic.ImplId (record { 0 = i }) in
+      let are : env_preds raw id ≡ p.preds = ap (λ (o : Option RawImpl). preds_or_none (option_map (λ (x : RawImpl). x.preds) o)) here in
+      let none = preds_have_none raw law id k g (subst (λ gs. slice_get gs k ≡ Some g) (sym are) at) in
+      filled_written s (goal_at raw (holes (length p.params)) g).parts (goal_heads raw (holes (length p.params)) (hole_params (length p.params)) g none) fills
 
   impls_heads : Each IsWrittenRule (flat_map (impl_rules raw) raw.impls)
   impls_heads = each_flat IsWrittenRule (impl_rules raw) raw.impls (λ i p here. impl_heads i p here p.trait_ refl)

@@ -1,5 +1,7 @@
--- Types that a table lists for associated types, and those in what it says could not be shown: they name what the facts have, and have no holes.
+-- Types that a table lists for associated types, those in what it says could not be shown, and those in its proofs: they name what the facts have,
+-- and have no holes.
 use Rattle.std.specs.Prelude.{◌≡◌, ℕ, List, slice_get, Some, IsTrue}
+use Rattle.hir_types.specs.declared.ids.DefWithBodyId.{DefWithBodyId}
 use Rattle.hir_types.specs.declared.ids.ExprOrPatId.{ExprOrPatId}
 use Rattle.hir_types.specs.declared.goal.Goal.{Goal}
 use Rattle.hir_types.specs.declared.goal.Goal.TheVariants as goal
@@ -11,10 +13,16 @@ use Rattle.hir_types.specs.declared.ty.Ty.TheVariants as ty
 use Rattle.hir_types.specs.Erasure.{IsClosed}
 use Rattle.hir_raw.specs.Fit.{ty_fits}
 use Rattle.hir_raw.specs.Scope.{Scope}
+use Rattle.goal_answers.specs.Goals.{System}
+use Rattle.goal_facts.specs.declared.proof.Proof.{Proof}
+use Rattle.goal_facts.specs.declared.proof.ProofSource.{ProofSource}
+use Rattle.goal_facts.specs.declared.proof.ProofSource.TheVariants as source
+use Rattle.goal_facts.specs.Systems.{IsSystemOf}
+use Rattle.goal_prove.specs.Entries.{AreDrawn}
 use Rattle.infer_result.specs.declared.gaps.Gap.{Gap}
 use Rattle.infer_result.specs.declared.gaps.Gap.TheVariants as gap
 use Rattle.infer_result.specs.declared.result.InferenceResult.{InferenceResult}
-use Rattle.infer_result.specs.Needs.{HasGap}
+use Rattle.infer_result.specs.Needs.{HasGap, scope_item}
 use Rattle.infer_result.specs.Places.{Given}
 
 -- the type names what there is, and neither a hole nor `_` stands in it
@@ -39,3 +47,19 @@ IsFitGap sc (gap.Clash n a t u) = IsFitType sc a × IsFitType sc t × IsFitType 
 pub record EntriesFit (g : Given) (r : InferenceResult) : Type 0 where
   pub entries : (k : ℕ) (x : Ty × Ty) → slice_get r.projections k ≡ Some x → IsFitType g.scope x.0 × IsFitType g.scope x.1
   pub gaps : (n : ExprOrPatId) (x : Gap) → HasGap r n x → IsFitGap g.scope x
+
+-- what stands for the parameters of an impl is such types; a clause is the facts' own
+abbrev pub IsFitSource : Scope → ProofSource → Type 0
+IsFitSource sc (source.Impl id xs) = AreFitArgs sc xs
+IsFitSource sc _ = Unit {0}
+
+pub record IsFitProof (sc : Scope) (x : Proof) : Type 0 where
+  pub goal : IsFitGoal sc x.goal
+  pub source : IsFitSource sc x.source
+
+-- each listed proof is such; and its impl stands at parts of what its goal reads as: at `{unknown}` where its head lacks a parameter
+pub record ProofsFit (d : DefWithBodyId) (g : Given) (r : InferenceResult) : Type 0 where
+  pub system : System
+  pub of_item : IsSystemOf g.scope.facts (scope_item g.scope.facts d) system
+  pub each : (k : ℕ) (x : Proof) → slice_get r.proofs k ≡ Some x → IsFitProof g.scope x
+  pub drawn : AreDrawn g.scope.facts system r.proofs

@@ -1,6 +1,7 @@
 -- What goals read as.
 use Rattle.std.specs.Prelude.{ℕ, List, [], ◌∷◌, Option, Some, None}
 use Rattle.hir_types.specs.declared.goal.Goal.{Goal}
+use Rattle.hir_types.specs.declared.ids.GenericDefId.{GenericDefId}
 use Rattle.hir_raw.specs.declared.raw.RawFacts.{RawFacts}
 use Rattle.goal_answers.specs.Goals.{Asked, System}
 use Rattle.goal_facts.specs.declared.proof.Proof.{Proof}
@@ -21,8 +22,8 @@ abbrev pub IsWrittenIf : Option Goal → Type 0
 IsWrittenIf (Some b) = IsWritten (asked_goal b).parts
 IsWrittenIf None = Unit {0}
 
--- proofs come behind, and one of them all is of the goal
-pub record AddsProofOf (raw : RawFacts) (f : System) (a : Asked) (ps qs : List Proof) : Type 0 where
+-- proofs come behind, and one of them all is of what the goal reads as
+pub record AddsProofOf (raw : RawFacts) (item : GenericDefId) (f : System) (a b : Asked) (ps qs : List Proof) : Type 0 where
   pub adds : AddsProofs raw f ps qs
-  pub roots : AddsRootsOf (a ∷ []) ps qs
-  pub has : HasProofOf qs a
+  pub roots : AddsRootsOf raw item f (a ∷ []) ps qs
+  pub has : HasProofOf qs b

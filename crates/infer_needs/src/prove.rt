@@ -11,7 +11,7 @@ ghost use Rattle.infer_result.specs.WrittenAliases.{AllWrittenAreListed};
 ghost use Rattle.infer_result.specs.Closed.{AllTypes};
 ghost use Rattle.infer_result.specs.Table.{recorded};
 ghost use Rattle.infer_needs.specs.Left.{IsFinalType};
-ghost use Rattle.infer_needs.specs.Fits.{EntriesFit};
+ghost use Rattle.infer_needs.specs.Fits.{EntriesFit, ProofsFit};
 ghost use Rattle.infer_needs.specs.Written.{AreAllListed, AllFitIn};
 ghost use Rattle.infer_result.specs.Typed.{IsTableOf, given};
 ghost use Rattle.infer_needs.specs.Judged.{IsProvable, AreProvable, CanAllBeProved, CanPatsBeProved, FitOrAreSaid, IsSaidUnlessMay, IsJudged, AreJudged, AreAllJudged, ArePatsJudged};
@@ -95,7 +95,7 @@ fn prove_need(
     requires { IsProvable (asked_goal goal) }
     ensures judged { OnOk result (IsJudged sources.now.facts (system sources.now.sources) node goal proofs.old.items proofs.new.items found.old found.new gaps.old gaps.new) }
     ensures told { OnOk result (ListsAnswers (system sources.now.sources) sources.now.facts.limits.goal_depth (asked_goal goal ∷ []) told.old.items told.new.items) }
-    ensures roots { OnOk result (AddsRootsOf (asked_goal goal ∷ []) proofs.old.items proofs.new.items) }
+    ensures roots { OnOk result (AddsRootsOf sources.now.facts sources.now.item (system sources.now.sources) (asked_goal goal ∷ []) proofs.old.items proofs.new.items) }
 {
     match evaluate(alloc, sources, &goal, told)? {
         Answer::Yes => {
@@ -124,7 +124,7 @@ fn prove_each(
     requires { AreProvable (map asked_goal needed.items) }
     ensures judged { IfOk result (λ gaps. AreJudged sources.now.facts (system sources.now.sources) node (map asked_goal needed.items) proofs.old.items proofs.new.items found.old found.new gaps) }
     ensures told { OnOk result (ListsAnswers (system sources.now.sources) sources.now.facts.limits.goal_depth (map asked_goal needed.items) told.old.items told.new.items) }
-    ensures roots { OnOk result (AddsRootsOf (map asked_goal needed.items) proofs.old.items proofs.new.items) }
+    ensures roots { OnOk result (AddsRootsOf sources.now.facts sources.now.item (system sources.now.sources) (map asked_goal needed.items) proofs.old.items proofs.new.items) }
 {
     let mut gaps = List::new(alloc);
     for goal in needed {
@@ -147,7 +147,7 @@ fn prove_at(
     requires { AreProvable (needs_of sources.now.facts (Some expr.now) (recorded table.now.type_of_expr at)) }
     ensures judged { IfOk result (λ gaps. AreJudged sources.now.facts (system sources.now.sources) (node.ExprId (record { 0 = at })) (needs_of sources.now.facts (Some expr.now) (recorded table.now.type_of_expr at)) proofs.old.items proofs.new.items found.old found.new gaps) }
     ensures told { OnOk result (ListsAnswers (system sources.now.sources) sources.now.facts.limits.goal_depth (needs_of sources.now.facts (Some expr.now) (recorded table.now.type_of_expr at)) told.old.items told.new.items) }
-    ensures roots { OnOk result (AddsRootsOf (needs_of sources.now.facts (Some expr.now) (recorded table.now.type_of_expr at)) proofs.old.items proofs.new.items) }
+    ensures roots { OnOk result (AddsRootsOf sources.now.facts sources.now.item (system sources.now.sources) (needs_of sources.now.facts (Some expr.now) (recorded table.now.type_of_expr at)) proofs.old.items proofs.new.items) }
 {
     let node = ExprOrPatId::ExprId(expr_id(at)?);
     match table.type_of_expr_or_pat(node) {
@@ -173,7 +173,7 @@ fn prove_pat(
     requires { AreProvable (pat_needs_at sources.now.facts table.now at) }
     ensures judged { IfOk result (λ gaps. AreJudged sources.now.facts (system sources.now.sources) (node.PatId (record { 0 = at })) (pat_needs_at sources.now.facts table.now at) proofs.old.items proofs.new.items found.old found.new gaps) }
     ensures told { OnOk result (ListsAnswers (system sources.now.sources) sources.now.facts.limits.goal_depth (pat_needs_at sources.now.facts table.now at) told.old.items told.new.items) }
-    ensures roots { OnOk result (AddsRootsOf (pat_needs_at sources.now.facts table.now at) proofs.old.items proofs.new.items) }
+    ensures roots { OnOk result (AddsRootsOf sources.now.facts sources.now.item (system sources.now.sources) (pat_needs_at sources.now.facts table.now at) proofs.old.items proofs.new.items) }
 {
     let pat = pat_id(at)?;
     match table.item_of_pat(pat) {
@@ -200,7 +200,7 @@ fn prove_pats(
     requires { CanPatsBeProved sources.now.facts table.now }
     ensures judged { IfOk result (λ gaps. ArePatsJudged sources.now.facts (system sources.now.sources) table.now (length body.now.pats) proofs.old.items proofs.new.items found.old found.new gaps) }
     ensures told { OnOk result (ListsAnswers (system sources.now.sources) sources.now.facts.limits.goal_depth (first_pat_needs sources.now.facts table.now (length body.now.pats)) told.old.items told.new.items) }
-    ensures roots { OnOk result (AddsRootsOf (first_pat_needs sources.now.facts table.now (length body.now.pats)) proofs.old.items proofs.new.items) }
+    ensures roots { OnOk result (AddsRootsOf sources.now.facts sources.now.item (system sources.now.sources) (first_pat_needs sources.now.facts table.now (length body.now.pats)) proofs.old.items proofs.new.items) }
 {
     let mut gaps = List::new(alloc);
     for at in 0..body.pats.len() {
@@ -229,7 +229,7 @@ fn prove_exprs(
     ensures fit { IfOk result (λ made. FitOrAreSaid sources.now.facts sources.now.item (system sources.now.sources) (first_needs sources.now.facts body.now table.now (length body.now.exprs)) made.1) }
     ensures written { IfOk result (λ made. AreAllListed sources.now.facts def body.now table.now (system sources.now.sources) made.1) }
     ensures told { OnOk result (ListsAnswers (system sources.now.sources) sources.now.facts.limits.goal_depth (first_needs sources.now.facts body.now table.now (length body.now.exprs)) told.old.items told.new.items) }
-    ensures roots { IfOk result (λ made. AddsRootsOf (first_needs sources.now.facts body.now table.now (length body.now.exprs)) [] made.0.items) }
+    ensures roots { IfOk result (λ made. AddsRootsOf sources.now.facts sources.now.item (system sources.now.sources) (first_needs sources.now.facts body.now table.now (length body.now.exprs)) [] made.0.items) }
 {
     let mut proofs = Vec::new(alloc);
     let mut found = Found::new(alloc);
@@ -258,8 +258,8 @@ fn prove_exprs(
 /// predicates of each item, and then of the patterns: these are given back, each with its answer. What associated
 /// types were found to be is listed, each once; where one is another type at a node, this is said there. In no type
 /// of the table is one left that could be read, unless what it is is listed; and so is what each is that the
-/// definition, its `let`s and those goals are written with. What is listed, and what is said, names what the facts have,
-/// with as many arguments as it takes, and has no holes. Each listed proof of a goal about a trait is one that another
+/// definition, its `let`s and those goals are written with. What is listed, what is said, and what each proof is of and at
+/// which arguments, names what the facts have, with as many arguments as it takes, and has no holes. Each listed proof of a goal about a trait is one that another
 /// asks for, or of a goal that a node needs. Nothing else of the table changes. The one error is want of memory.
 pub fn prove_needs(
     alloc: Global,
@@ -274,6 +274,7 @@ pub fn prove_needs(
     ensures written { OnOk result ((b : RawBody) → body_of facts.now def ≡ Some b → AllWrittenAreListed def (given facts.now def b) table.new) }
     ensures roots { OnOk result ((b : RawBody) → body_of facts.now def ≡ Some b → RootsAreNeeded (given facts.now def b) table.new) }
     ensures fit { OnOk result ((b : RawBody) → body_of facts.now def ≡ Some b → EntriesFit (given facts.now def b) table.new) }
+    ensures proofs { OnOk result ((b : RawBody) → body_of facts.now def ≡ Some b → ProofsFit def (given facts.now def b) table.new) }
     ensures told { IfOk result (λ told. (b : RawBody) → body_of facts.now def ≡ Some b → AreAllAnswered def (given facts.now def b) table.new told.items) }
 {
     let Some(id) = facts.body_id(def) else {

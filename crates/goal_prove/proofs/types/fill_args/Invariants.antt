@@ -1,8 +1,9 @@
 use Rattle.std.proofs.Common.{◌≡◌}
 use Rattle.goal_terms.specs.Bindings.{log_of}
+use Rattle.goal_terms.specs.Terms.{term_of}
 use Rattle.goal_prove.specs.Asking.{fill_args}
 use Rattle.goal_prove.proofs.types.fill_args.Given as goal
 
 -- those of the parameters before
 abbrev pub invariant-loop-number : goal.invariant-loop-number
-invariant-loop-number l = l.args ≡ fill_args (log_of l.fills) l.number
+invariant-loop-number l = l.args ≡ fill_args (log_of l.fills) (term_of l.head) l.number
