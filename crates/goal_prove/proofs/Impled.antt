@@ -24,7 +24,7 @@ use Rattle.goal_answers.specs.Proofs.{IsOne}
 use Rattle.goal_answers.proofs.Readings.{ReadsBy, stands_by}
 use Rattle.goal_terms.specs.Bindings.{given, fill_of}
 use Rattle.goal_facts.specs.Arguments.{holes, type_at, args_at, goal_at}
-use Rattle.goal_facts.specs.Impls.{trait_rule, assoc_rule, rules_for, impl_rules}
+use Rattle.goal_facts.specs.Impls.{trait_rule, assoc_rule, rules_for, said_trait, impl_rules}
 use Rattle.goal_facts.specs.Proofs.{arg_at, args_fill}
 use Rattle.goal_facts.proofs.Adding.{get_in_map}
 use Rattle.goal_facts.proofs.FreshGoals.{args_holes}
@@ -97,7 +97,7 @@ module _ (A : Aliases) (one : IsOne A) (alias_good : AliasIsGood A) (raw : RawFa
   filled_by t r w (inr (x, e)) = subst (λ y. Filled y w) e (assoc_filled t x w)
 
   pub rule_filled : (i : ℕ) (r : Rule) → slice_get (impl_rules raw p) i ≡ Some r → (w : Term) → Filled r w
-  rule_filled i r listed w = let q = rule_cases raw p p.trait_ i r listed in filled_by q.0 r w q.1
+  rule_filled i r listed w = let q = rule_cases raw p (said_trait raw p.trait_) i r listed in filled_by q.0 r w q.1
 
   -- its predicates, of which each hole is told
   abbrev PredsGood : List Asked → Type 0
@@ -112,7 +112,7 @@ module _ (A : Aliases) (one : IsOne A) (alias_good : AliasIsGood A) (raw : RawFa
   preds_by t r (inr (x, e)) = subst (λ (y : Rule). PredsGood y.preds) e (written_good p.preds)
 
   pub preds_good : (i : ℕ) (r : Rule) → slice_get (impl_rules raw p) i ≡ Some r → PredsGood r.preds
-  preds_good i r listed = let q = rule_cases raw p p.trait_ i r listed in preds_by q.0 r q.1
+  preds_good i r listed = let q = rule_cases raw p (said_trait raw p.trait_) i r listed in preds_by q.0 r q.1
 
 -- ---- the arguments, as types
 

@@ -35,7 +35,7 @@ use Rattle.goal_answers.proofs.One.{occurs_type}
 use Rattle.goal_facts.specs.Arguments.{holes, own_params, type_at, args_at, goal_at}
 use Rattle.goal_facts.specs.Environment.{own_clause, IsStated, trait_holes, IsSuper, Follows}
 use Rattle.goal_facts.specs.Bounds.{BoundSays, IsListed}
-use Rattle.goal_facts.specs.Impls.{trait_rule, assoc_rule, rules_for}
+use Rattle.goal_facts.specs.Impls.{trait_rule, assoc_rule, rules_for, said_trait}
 use Rattle.goal_facts.specs.ImplGoals.{HasHolesBelow, ImplHasRule}
 use Rattle.goal_facts.specs.Systems.{fact, ClausesAre}
 use Rattle.goal_facts.proofs.Adding.{get_in_map}
@@ -319,7 +319,7 @@ module _ (A : Aliases) (one : IsOne A) (alias_good : AliasIsGood A) where
 
   pub impl_gives : (raw : RawFacts) (id : ImplId) (r : Rule) → ImplHasRule raw id r → IsTold r → (k : TypeAliasId) → r.head.kind ≡ projects k → (at : Fill) (w u : Term) → AreGood w → Reads A at (args_of r.head.parts) w → Reads A at (type_of r.head.parts) u → IsGood u
   impl_gives raw id r (p, here, (i, listed)) told k kind at w u good args reads =
-      let q = rule_of_alias raw p p.trait_ i r listed k kind in
+      let q = rule_of_alias raw p (said_trait raw p.trait_) i r listed k kind in
       let n = length p.params in
       let ws = p.self_ ∷ arg_types q.0.args in
       let own : IsTold (assoc_rule raw p q.0 q.1) = subst IsTold (sym q.2) told in

@@ -26,7 +26,7 @@ use Rattle.goal_terms.specs.Terms.{HasHeads}
 use Rattle.goal_terms.specs.Types.{concrete_read, concrete_reads}
 use Rattle.goal_facts.specs.declared.impl_goals.RuleGoals.{RuleGoals}
 use Rattle.goal_facts.specs.Arguments.{goal_at}
-use Rattle.goal_facts.specs.Impls.{impl_holes, trait_rule, assoc_rule, rules_for}
+use Rattle.goal_facts.specs.Impls.{impl_holes, trait_rule, assoc_rule, rules_for, said_trait}
 use Rattle.goal_facts.specs.Goals.{trait_goal, asked_goal}
 use Rattle.goal_facts.specs.ImplGoals.{fresh, HasHolesBelow, AreGoalsOf}
 use Rattle.goal_facts.specs.Proofs.{filled_goal}
@@ -124,7 +124,7 @@ module _ (raw : RawFacts) (f : System) (n : ℕ) (k : TraitRef) (i : ℕ) (selec
   is = ap asked_goal (sym head) ∙ are.head
 
   heads : HaveHeads r.preds
-  heads = rules_heads raw are.source.0 are.source.0.trait_ are.source.2.0 r are.source.2.1
+  heads = rules_heads raw are.source.0 (said_trait raw are.source.0.trait_) are.source.2.0 r are.source.2.1
 
   module _ (table : TypeAliasId → Term → Option Term) (of_table : IsTableOf f n table) (s : Fill) (filling : IsFilling s) (meets : Meets s before) (height : ℕ) (proof : HasProof f (Says table) (suc height) (filled_goal s g)) where
     abbrev P : Aliases

@@ -60,11 +60,13 @@ use Rattle.infer_ctx.proofs.UnderClosings.{sound_with, At-unclosed, closed_at, a
 use Rattle.infer_obligations.proofs.Below.{completion_closes}
 use Rattle.infer_end.specs.SelectedBody.{OnlyGoals, StaysOfPlain}
 use Rattle.infer_end.specs.Ends.{EndsAs}
+use Rattle.infer_end.specs.Staying.{NoneStays}
 use Rattle.infer_end.specs.KeptTypes.{AreResolved, HoldsResolved, KeepsGeneral, IsFull, HasAllTypes}
 use Rattle.infer_end.proofs.Definitions.{found_body, table_of}
 use Rattle.infer_end.proofs.OwnIn.{plain_names_none}
 use Rattle.infer_end.proofs.Fits.{completed_table_fits, completed_table_read, fine_fits, seen_fits}
 use Rattle.infer_end.proofs.SizedTypes.{heads_are_read}
+use Rattle.infer_end.proofs.Staying.{none_stays}
 use Rattle.infer_end.proofs.GeneralTypes.{fine_general, fine_known, chosen, chosen_heads, chosen_closes, known_heads}
 use Rattle.infer_end.proofs.PlainBodies.{plain_body, no_ctor_aliases, no_placeholder, calls_item, none_plain, no_let_aliases}
 use Rattle.infer_end.proofs.PlainGoals.{plain_needs}
@@ -265,6 +267,9 @@ module _ (raw : RawFacts) (d : DefWithBodyId) (i : BodyId) (b : RawBody) (s : Sc
         let r : InferenceResult = closed_table (completion c.goals.table) c.asked c.result in
         table_of raw d i b s inputs output aliases (closed_table (completion c.goals.table) c.asked (result_with o)) id at law own lets (made_other r o ps js gs hs g (done.made (completion c.goals.table) completes)) (all_types_other r o ps js gs hs _ (completed_table_fits sc c done.sound)) (seen_still_fit (completion c.goals.table) o) (all_types_other r o ps js gs hs _ (completed_table_read sc c done.sound))
 
+    completed_stays : (o : Option General) → NoneStays raw d (closed_table (completion c.goals.table) c.asked (result_with o))
+    completed_stays o none = all_types_other (closed_table (completion c.goals.table) c.asked c.result) o ps js gs hs _ (none_stays sc none c done.sound)
+
     -- ---- of a plain body
 
     module _ (acyclic : Triangular (log_of (bindings c.goals.table))) (plain : IsPlainBodyOf raw d) (x : General) (resolved : HoldsResolved c.goals.table c.result x) where
@@ -431,15 +436,18 @@ module _ (raw : RawFacts) (d : DefWithBodyId) (i : BodyId) (b : RawBody) (s : Sc
   Ends z =
       Meets (terms_of (completion z.goals.table)) z.goals.table → Respects (terms_of (completion z.goals.table)) → Triangular (log_of (bindings z.goals.table))
       → IsTableOf raw d (with_goals ps js gs hs (closed_table (completion z.goals.table) z.asked z.result)) × HasGeneral raw d (with_goals ps js gs hs (closed_table (completion z.goals.table) z.asked z.result))
+      × NoneStays raw d (with_goals ps js gs hs (closed_table (completion z.goals.table) z.asked z.result))
 
   pub ends : (last : InferenceContext) → KeepsGeneral raw d c last → Ends last
   ends last (inl (plain, (x, resolved, is))) = subst Ends (sym is) (λ meets respects acyclic. (
     completed_table meets respects (Some x),
     record { plain = λ p. (x, refl, general_types meets respects acyclic plain x resolved); other = λ never. absurd (never plain) },
+    completed_stays meets respects (Some x),
   ))
   ends last (inr (not_plain, is)) = subst Ends (sym is) (λ meets respects acyclic. (
     completed_table meets respects None,
     record { plain = λ p. absurd (not_plain p); other = λ never. refl },
+    completed_stays meets respects None,
   ))
 
 -- ---- with what is selected
@@ -478,6 +486,7 @@ module _ (raw : RawFacts) (d : DefWithBodyId) (i : BodyId) (b : RawBody) (s : Sc
       let F : InferenceResult → Type 0 = λ r. IsTableOf raw d (with_goals ps js gs hs (closed_table a z.asked r)) in (
         subst F same (completed_table raw d i b s inputs output aliases id at law own lets z after lawful ps js gs hs meets respects None),
         record { plain = λ p. absurd (not_plain p); other = λ never. none },
+        subst (λ r. NoneStays raw d (with_goals ps js gs hs (closed_table a z.asked r))) same (completed_stays raw d i b s inputs output aliases id at law own lets z after lawful ps js gs hs meets respects None),
       )
 
   pub ends_selected : (mid z : InferenceContext) → KeepsGeneral raw d c mid → OnlyGoals mid z → StaysOfPlain mid z → BodyDone (given_by raw d b inputs output aliases) z → EndsAs raw d ps js gs hs z

@@ -1,6 +1,7 @@
 pub mod OwnIn
 pub mod Definitions
 pub mod Fits
+pub mod Staying
 pub mod GeneralTables
 pub mod GeneralTypes
 pub mod PlainBodies
@@ -9,3 +10,4 @@ pub mod PlainGoals
 pub mod SizedTypes
 pub mod SelectedBody
 pub mod Settling
+pub mod Samples

@@ -1,3 +1,4 @@
 pub mod KeptTypes
 pub mod SelectedBody
+pub mod Staying
 pub mod Ends

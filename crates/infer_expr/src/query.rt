@@ -9,6 +9,7 @@ ghost use Rattle.infer_result.specs.WrittenAliases.{AllWrittenAreListed};
 ghost use Rattle.infer_needs.specs.Fits.{EntriesFit};
 ghost use Rattle.infer_needs.specs.Told.{AreAllAnswered, HearsAll, IsToldAll, RootsAreNeeded, at_exit};
 ghost use Rattle.infer_end.specs.Ends.{EndsWell, IsSelectedBody, ComesOfSelection};
+ghost use Rattle.infer_end.specs.Staying.{NoneStays};
 
 use crate::body::infer_body;
 use hir_facts::{DefWithBodyId, Facts, Goal};
@@ -63,6 +64,7 @@ fn infer_with_goals(
     requires { HasBody facts.now def }
     ensures table { IfOk result (λ made. IsTableOf facts.now def made.0) }
     ensures general { IfOk result (λ made. HasGeneral facts.now def made.0) }
+    ensures stays { IfOk result (λ made. NoneStays facts.now def made.0) }
     ensures goals { IfOk result (λ made. (b : RawBody) → body_of facts.now def ≡ Some b → GoalsHold def (given facts.now def b) made.0) }
     ensures left { IfOk result (λ made. (b : RawBody) → body_of facts.now def ≡ Some b → HasNoneLeft def (given facts.now def b) made.0) }
     ensures written { IfOk result (λ made. (b : RawBody) → body_of facts.now def ≡ Some b → AllWrittenAreListed def (given facts.now def b) made.0) }
@@ -86,6 +88,7 @@ fn infer_untold(
     requires { HasBody facts.now def }
     ensures table { IfOk result (λ table. IsTableOf facts.now def table) }
     ensures general { IfOk result (λ table. HasGeneral facts.now def table) }
+    ensures stays { IfOk result (λ table. NoneStays facts.now def table) }
     ensures goals { IfOk result (λ table. (b : RawBody) → body_of facts.now def ≡ Some b → GoalsHold def (given facts.now def b) table) }
     ensures left { IfOk result (λ table. (b : RawBody) → body_of facts.now def ≡ Some b → HasNoneLeft def (given facts.now def b) table) }
     ensures written { IfOk result (λ table. (b : RawBody) → body_of facts.now def ≡ Some b → AllWrittenAreListed def (given facts.now def b) table) }
@@ -107,6 +110,7 @@ fn infer_told<I: ObligationInspector>(
     requires { HasBody facts.now def }
     ensures table { IfOk result (λ table. IsTableOf facts.now def table) }
     ensures general { IfOk result (λ table. HasGeneral facts.now def table) }
+    ensures stays { IfOk result (λ table. NoneStays facts.now def table) }
     ensures goals { IfOk result (λ table. (b : RawBody) → body_of facts.now def ≡ Some b → GoalsHold def (given facts.now def b) table) }
     ensures left { IfOk result (λ table. (b : RawBody) → body_of facts.now def ≡ Some b → HasNoneLeft def (given facts.now def b) table) }
     ensures written { IfOk result (λ table. (b : RawBody) → body_of facts.now def ≡ Some b → AllWrittenAreListed def (given facts.now def b) table) }
@@ -126,9 +130,9 @@ fn infer_told<I: ObligationInspector>(
 /// each of these goals with its answer. In no type of the table is an associated type left that could be read,
 /// unless the table says what it is; nor is one of which it does not say so in what the definition takes and gives, in the
 /// types of its `let`s, or in what nodes need. What is listed so, and what is said of needs, names what the facts have, and
-/// has no holes. Each listed proof of a goal about a trait is one that another asks for, or of a goal that a node needs. Of a
-/// plain body the table keeps its types with holes too, before these fall back to anything:
-/// `InferenceResult::general`.
+/// has no holes. Each listed proof of a goal about a trait is one that another asks for, or of a goal that a node needs. None of
+/// its types holds an associated type that stays, where none may be types in the body. Of a plain body the table keeps its
+/// types with holes too, before these fall back to anything: `InferenceResult::general`.
 pub fn infer_query_with_inspect<I: ObligationInspector>(
     alloc: Global,
     facts: &Facts,
@@ -138,6 +142,7 @@ pub fn infer_query_with_inspect<I: ObligationInspector>(
     requires { HasBody facts.now def }
     ensures table { IfOk result (λ table. IsTableOf facts.now def table) }
     ensures general { IfOk result (λ table. HasGeneral facts.now def table) }
+    ensures stays { IfOk result (λ table. NoneStays facts.now def table) }
     ensures goals { IfOk result (λ table. (b : RawBody) → body_of facts.now def ≡ Some b → GoalsHold def (given facts.now def b) table) }
     ensures left { IfOk result (λ table. (b : RawBody) → body_of facts.now def ≡ Some b → HasNoneLeft def (given facts.now def b) table) }
     ensures written { IfOk result (λ table. (b : RawBody) → body_of facts.now def ≡ Some b → AllWrittenAreListed def (given facts.now def b) table) }

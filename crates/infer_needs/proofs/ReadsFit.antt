@@ -41,7 +41,7 @@ use Rattle.goal_answers.proofs.One.{occurs_type}
 use Rattle.goal_facts.specs.Arguments.{holes, own_params, type_at, args_at, goal_at}
 use Rattle.goal_facts.specs.Bounds.{BoundSays, IsListed}
 use Rattle.goal_facts.specs.Environment.{IsStated, trait_holes, IsSuper, Follows}
-use Rattle.goal_facts.specs.Impls.{impl_holes, assoc_rule, rules_for, impl_rules}
+use Rattle.goal_facts.specs.Impls.{impl_holes, assoc_rule, rules_for, said_trait, impl_rules}
 use Rattle.goal_facts.specs.Systems.{fact, IsSystemOf}
 use Rattle.goal_facts.proofs.Systems.{each_append}
 use Rattle.goal_prove.proofs.TypeTerms.{top_type}
@@ -354,7 +354,7 @@ module _ (raw : RawFacts) (law : IsLawful raw) (n : ℕ) where
       given (x ∷ gs) all = (λ k is. type_fits_at raw n (impl_holes p) (hole_params_fit raw n (length p.params)) x.ty (all 0 x refl), given gs (λ k y at. all (suc k) y at))
 
   impls_fit : Each (RuleFits raw n) (flat_map (impl_rules raw) raw.impls)
-  impls_fit = each_flat (RuleFits raw n) (impl_rules raw) raw.impls (λ i p here. impl_fits i p here p.trait_)
+  impls_fit = each_flat (RuleFits raw n) (impl_rules raw) raw.impls (λ i p here. impl_fits i p here (said_trait raw p.trait_))
 
 -- ---- what an item states
 

@@ -40,9 +40,10 @@ use Rattle.goal_facts.specs.Arguments.{holes, own_params, type_at, args_at, goal
 use Rattle.goal_facts.specs.Bounds.{BoundSays, IsListed}
 use Rattle.goal_facts.specs.Environment.{IsStated, trait_holes, IsSuper, Follows}
 use Rattle.goal_facts.specs.Goals.{asked_goal}
-use Rattle.goal_facts.specs.Impls.{impl_args, assoc_rule, rules_for, impl_rules}
+use Rattle.goal_facts.specs.Impls.{impl_args, assoc_rule, rules_for, said_trait, impl_rules}
 use Rattle.goal_facts.specs.Reading.{TypeReads}
 use Rattle.goal_facts.specs.Systems.{fact, IsSystemOf}
+use Rattle.goal_facts.proofs.Saying.{said_is}
 use Rattle.goal_facts.proofs.Systems.{each_append}
 use Rattle.goal_prove.specs.Written.{IsWrittenHead, IsWritten}
 use Rattle.goal_prove.proofs.TypeTerms.{top_type}
@@ -263,12 +264,12 @@ module _ (raw : RawFacts) (law : IsLawful raw) where
     assoc_heads [] none = tt
     assoc_heads (x ∷ xs) none = ((impl_args_heads, type_at_heads raw (holes n) (hole_params n) x.ty (none 0 x refl)), assoc_heads xs (λ k y at. none (suc k) y at))
 
-  impl_heads : (i : ℕ) (p : RawImpl) → slice_get raw.impls i ≡ Some p → (o : Option RawTraitRef) → p.trait_ ≡ o → Each IsWrittenRule (rules_for raw p o)
+  impl_heads : (i : ℕ) (p : RawImpl) → slice_get raw.impls i ≡ Some p → (o : Option RawTraitRef) → ((t : RawTraitRef) → o ≡ Some t → p.trait_ ≡ Some t) → Each IsWrittenRule (rules_for raw p o)
   impl_heads i p here None is = tt
-  impl_heads i p here (Some t) is = (impl_args_heads i p here t is, assoc_heads i p here t is p.types (given_has_none raw law i p t here is))
+  impl_heads i p here (Some t) is = let own = is t refl in (impl_args_heads i p here t own, assoc_heads i p here t own p.types (given_has_none raw law i p t here own))
 
   impls_heads : Each IsWrittenRule (flat_map (impl_rules raw) raw.impls)
-  impls_heads = each_flat IsWrittenRule (impl_rules raw) raw.impls (λ i p here. impl_heads i p here p.trait_ refl)
+  impls_heads = each_flat IsWrittenRule (impl_rules raw) raw.impls (λ i p here. impl_heads i p here (said_trait raw p.trait_) (said_is raw p.trait_))
 
 facts_heads : (ds : List Asked) → ((i : ℕ) (d : Asked) → slice_get ds i ≡ Some d → IsWrittenGoal d) → Each IsWrittenRule (map fact ds)
 facts_heads [] h = tt

@@ -61,8 +61,9 @@ use Rattle.goal_answers.specs.Rows.{IsNth}
 use Rattle.goal_answers.specs.Selecting.{IsConcrete, IsTraitKind}
 use Rattle.goal_facts.specs.Arguments.{holes, own_params, type_at, args_at, goal_at}
 use Rattle.goal_facts.specs.Environment.{preds_or_none, trait_preds, trait_holes, IsStated, IsSuper, Follows}
-use Rattle.goal_facts.specs.Impls.{impl_holes, impl_args, assoc_rule, rules_for, impl_rules}
+use Rattle.goal_facts.specs.Impls.{impl_holes, impl_args, assoc_rule, rules_for, said_trait, impl_rules}
 use Rattle.goal_facts.specs.Systems.{fact, IsSystemOf}
+use Rattle.goal_facts.proofs.Saying.{said_is}
 use Rattle.goal_facts.proofs.Systems.{each_append, each_get}
 use Rattle.goal_facts.proofs.ListedBounds.{listed_not_concrete}
 use Rattle.goal_facts.proofs.Written.{parts_by, layer, layer_is, args_are}
@@ -523,13 +524,13 @@ module _ (raw : RawFacts) (law : IsLawful raw) where
     fact_fine : (d : Asked) → IsFineGoal d → IsFineRule (fact d)
     fact_fine d h = λ is c. (goal_key d h is c, tt)
 
-    impl_fine : (i : ℕ) (p : RawImpl) → slice_get raw.impls i ≡ Some p → (o : Option RawTraitRef) → p.trait_ ≡ o → Each IsFineRule (rules_for raw p o)
+    impl_fine : (i : ℕ) (p : RawImpl) → slice_get raw.impls i ≡ Some p → (o : Option RawTraitRef) → ((r : RawTraitRef) → o ≡ Some r → p.trait_ ≡ Some r) → Each IsFineRule (rules_for raw p o)
     impl_fine i p here None is = tt
     impl_fine i p here (Some r) is = (
       λ kind concrete. (
         args_made Q (impl_args raw p r) (subst (λ xs. AreFineArgs Q (args_at raw xs (p.self_ ∷ arg_types r.args))) (holes_are (length p.params))
             (args_fine sc same (hole_types (length p.params)) (hole_heads sc (length p.params)) (p.self_ ∷ arg_types r.args)
-            (subst (λ n. AreFit n (p.self_ ∷ arg_types r.args)) (sym (holes_long (length p.params))) (impl_args_fit i p r here is)))) concrete,
+            (subst (λ n. AreFit n (p.self_ ∷ arg_types r.args)) (sym (holes_long (length p.params))) (impl_args_fit i p r here (is r refl))))) concrete,
         each_mapped (HasHeadsIfConcrete Q) (goal_at raw (impl_holes p)) p.preds (λ k g at. goal_key (goal_at raw (impl_holes p) g) (at_holes (length p.params) g (impl_preds_fit i p here k g at))),
       ),
       each_mapped IsFineRule (assoc_rule raw p r) p.types (λ k x at kind concrete. absurd kind),
@@ -540,7 +541,7 @@ module _ (raw : RawFacts) (law : IsLawful raw) where
         let rules = are.rules in
         subst (Each IsFineRule) (sym rules.are)
         (each_append IsFineRule (flat_map (impl_rules raw) raw.impls) (map fact rules.listed)
-        (each_flat IsFineRule (impl_rules raw) raw.impls (λ i p at. impl_fine i p at p.trait_ refl))
+        (each_flat IsFineRule (impl_rules raw) raw.impls (λ i p at. impl_fine i p at (said_trait raw p.trait_) (said_is raw p.trait_)))
         (each_mapped IsFineRule fact rules.listed (λ i d at is c. absurd (listed_not_concrete raw raw.limits.goal_depth d (rules.closed.only i d at) is c))))
 
   -- ---- the sources of a function

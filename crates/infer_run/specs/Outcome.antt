@@ -12,7 +12,7 @@ use Rattle.infer_result.specs.Typed.{IsTableOf, given}
 use Rattle.infer_result.specs.General.{HasGeneral}
 use Rattle.infer_result.specs.Needs.{GoalsHold, HasNoneLeft}
 use Rattle.infer_result.specs.WrittenAliases.{AllWrittenAreListed}
-use Rattle.infer_expr.specs.Below.{ComesOfSelection, EntriesFit, RootsAreNeeded}
+use Rattle.infer_expr.specs.Below.{ComesOfSelection, EntriesFit, NoneStays, RootsAreNeeded}
 use Rattle.infer_result.specs.Report.{report, complaint_count}
 use Rattle.infer_text.specs.declared.fault.ReadError.TheVariants as error
 use Rattle.infer_run.specs.declared.running.Ran.{Ran}
@@ -109,6 +109,7 @@ pub record IsInferred (def : DefWithBodyId) (raw : RawFacts) (ran : Ran) : Type 
   pub table : InferenceResult
   pub typed : IsTableOf raw def table
   pub general : HasGeneral raw def table
+  pub stays : NoneStays raw def table
   pub goals : HasGoals raw def table
   pub left : IsReadThrough raw def table
   pub written : HasWritten raw def table

@@ -5,6 +5,7 @@ ghost use Rattle.std.specs.Rc.{rc_str_bytes};
 ghost use Rattle.hir_laws.specs.Bodies.{HasBody};
 ghost use Rattle.infer_result.specs.Typed.{IsTableOf};
 ghost use Rattle.infer_result.specs.General.{HasGeneral};
+ghost use Rattle.infer_expr.specs.Below.{NoneStays};
 ghost use Rattle.infer_run.specs.Causes.{Rose, HasCause};
 ghost use Rattle.infer_run.specs.Outcome.{AppendsFront, HasGoals, IsReadThrough, HasWritten, HasAskedProofs, HasFitEntries, IsSelectedTable, Outcome, between};
 ghost use Rattle.infer_run.specs.Exactly.{Exactly};
@@ -135,6 +136,7 @@ fn report_on<K: Sink>(
     requires has_body { HasBody facts def }
     requires typed { IsTableOf facts def table }
     requires general { HasGeneral facts def table }
+    requires stays { NoneStays facts def table }
     requires goals { HasGoals facts def table }
     requires left { IsReadThrough facts def table }
     requires written { HasWritten facts def table }

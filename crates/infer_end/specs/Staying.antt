@@ -1,0 +1,20 @@
+-- Associated types that stand as types of their own.
+use Rattle.std.specs.Prelude.{◌≡◌, ◌⊎◌, false}
+use Rattle.hir_types.specs.declared.head.Head.TheVariants as head
+use Rattle.hir_types.specs.declared.ids.DefWithBodyId.{DefWithBodyId}
+use Rattle.hir_types.specs.Terms.{Term, hole, leaf, pair, term}
+use Rattle.hir_raw.specs.declared.raw.RawFacts.{RawFacts}
+use Rattle.hir_raw.specs.Scope.{has_associated}
+use Rattle.infer_result.specs.declared.result.InferenceResult.{InferenceResult}
+use Rattle.infer_result.specs.Closed.{AllTypes}
+
+-- one that stays stands in the term
+abbrev pub HoldsStaying : Term → Type 0
+HoldsStaying (hole k) = ⊥
+HoldsStaying (leaf (head.AssociatedType k)) = Unit {0}
+HoldsStaying (leaf _) = ⊥
+HoldsStaying (pair a b) = HoldsStaying a ⊎ HoldsStaying b
+
+-- where none may be types in the body, none stands in a type of the table, in those of mismatches included
+abbrev pub NoneStays : RawFacts → DefWithBodyId → InferenceResult → Type 0
+NoneStays raw d r = has_associated raw d ≡ false → AllTypes (λ t. HoldsStaying (term t) → ⊥) r
