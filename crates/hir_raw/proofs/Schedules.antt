@@ -10,7 +10,8 @@ use Rattle.hir_raw.specs.declared.raw.RawBody.{RawBody}
 use Rattle.hir_raw.specs.declared.schedule.Schedule.{Schedule}
 use Rattle.hir_raw.specs.Order.{IsLow, Part, Node, the_body, inner, IsInBody, IsNode, parts, part_at, follow, HasOneWay, IsTree, PartsFit, position, node_count, start, end, after, Fits, IsSchedule, AreDepths}
 use Rattle.hir_raw.specs.Graph.{kids_of, Edge, KidsFit, leads, OneWay, IsTreeGraph, number_after, Follow, IsNumbering}
-use Rattle.hir_raw.specs.Nodes.{nodes, node_lists, positions, graph_of}
+use Rattle.hir_raw.specs.Order.{nodes}
+use Rattle.hir_raw.specs.Nodes.{node_lists, positions, graph_of}
 use Rattle.hir_raw.proofs.Ways.{depth_is_steps, way_to, way_to_node}
 use Rattle.hir_raw.proofs.Bodies.{lists_size, graph_size, list_at, position_inside, NodeAt, node_at, one_position}
 

@@ -11,4 +11,5 @@ pub mod Signatures
 pub mod Graph
 pub mod Visits
 pub mod Nodes
+pub mod Mentions
 pub mod Goals

@@ -5,7 +5,10 @@
 mod fit;
 mod graph;
 mod hidden;
+mod later;
+mod later_parts;
 mod lets;
+mod mention;
 mod parts;
 mod raw;
 mod schedule;
@@ -13,7 +16,12 @@ mod scope;
 
 pub use fit::ty_fits;
 pub use hidden::{fn_aliases, fn_arity, less_variant_aliases, variant_aliases, variant_arity};
+pub use later::{
+    ArithOp, BinaryOp, CmpOp, LaterExpr, LaterLiteral, LaterPat, LaterPath, LogicOp, RawArg, RawClosureParam,
+    RawConst, RawRecordField, RawRecordFieldPat, RawVariantPath, UnaryOp,
+};
 pub use lets::{let_aliases, stmts_of};
+pub use mention::{LabelRole, Mention, Said};
 pub use raw::{
     BindingAnnotation, Edition, HasGoals, Other, RawAdt, RawAdtKind, RawAlias, RawArgs, RawArm,
     RawAssocType, RawAt, RawBinding, RawBody, RawCtor, RawExpr, RawFacts, RawField, RawFn, RawGoal,

@@ -2,7 +2,8 @@
 ghost use Rattle.std.specs.Prelude.{◌≡◌, ◌+◌, ◌<◌, ◌^◌, ◌++◌, ◌↔◌, ℕ, map, slice_get, slice_index, EachIndex, ◌≤◌, Some, IfOk, IsTrue, OnOk, MatchOption};
 ghost use Rattle.hir_raw.specs.Order.{inner, position, node_count, start, end, expr_parts, pat_parts, IsInBody, PartsFit, IsTree, IsLow, IsSchedule, AreDepths};
 ghost use Rattle.hir_types.specs.declared.ids.ExprOrPatId.{ExprOrPatId};
-ghost use Rattle.hir_raw.specs.Nodes.{nodes, node_lists, positions, graph_of};
+ghost use Rattle.hir_raw.specs.Order.{nodes};
+ghost use Rattle.hir_raw.specs.Nodes.{node_lists, positions, graph_of};
 
 use crate::graph::number_graph;
 use crate::parts::{nodes_of_body, nodes_of_expr, nodes_of_pat};
@@ -25,12 +26,13 @@ pub struct Schedule {
 fn push_expr_lists(
     alloc: Global,
     lists: &mut List<List<ExprOrPatId>>,
+    body: &RawBody,
     exprs: &[RawExpr],
 ) -> Result<(), AllocError>
-    ensures { OnOk result (lists.new ≡ lists.old ++ map (λ e. nodes (expr_parts e)) exprs.now) }
+    ensures { OnOk result (lists.new ≡ lists.old ++ map (λ e. nodes (expr_parts body.now e)) exprs.now) }
 {
     for expr in exprs {
-        let nodes = nodes_of_expr(alloc, expr)?;
+        let nodes = nodes_of_expr(alloc, body, expr)?;
         lists.push(List::from_vec(nodes))?;
     }
     Ok(())
@@ -55,7 +57,7 @@ fn lists_of_nodes(alloc: Global, body: &RawBody) -> Result<List<List<ExprOrPatId
     ensures { IfOk result (λ lists. lists ≡ node_lists body.now) }
 {
     let mut lists = List::new(alloc);
-    push_expr_lists(alloc, &mut lists, body.exprs.as_slice())?;
+    push_expr_lists(alloc, &mut lists, body, body.exprs.as_slice())?;
     push_pat_lists(alloc, &mut lists, body.pats.as_slice())?;
     let nodes = nodes_of_body(alloc, body)?;
     lists.push(List::from_vec(nodes))?;

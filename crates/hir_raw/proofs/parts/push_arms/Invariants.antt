@@ -1,6 +1,6 @@
 use Rattle.std.proofs.Common.{◌≡◌, ◌++◌, take}
 use Rattle.hir_raw.specs.Order.{arms_parts}
-use Rattle.hir_raw.specs.Nodes.{nodes}
+use Rattle.hir_raw.specs.Order.{nodes}
 use Rattle.hir_raw.proofs.parts.push_arms.Given as goal
 
 abbrev pub invariant-loop-arm : goal.invariant-loop-arm

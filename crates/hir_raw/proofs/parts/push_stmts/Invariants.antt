@@ -1,6 +1,6 @@
 use Rattle.std.proofs.Common.{◌≡◌, ◌++◌, take}
 use Rattle.hir_raw.specs.Order.{stmts_parts}
-use Rattle.hir_raw.specs.Nodes.{nodes}
+use Rattle.hir_raw.specs.Order.{nodes}
 use Rattle.hir_raw.proofs.parts.push_stmts.Given as goal
 
 abbrev pub invariant-loop-stmt : goal.invariant-loop-stmt
