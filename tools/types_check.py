@@ -14,7 +14,7 @@ import os
 import subprocess
 import sys
 
-from program import TOP, add_program_options
+from program import TOP, Program, add_program_options
 from rustc import why_not_tried
 
 FILES = [os.path.join("tools", "corpus", "*.rs"), os.path.join("examples", "shapes.rs")]
@@ -49,6 +49,8 @@ def main():
     if why is not None:
         print("types: nothing is looked at: %s" % why)
         return
+    # Built here where it has to be, so that no file's answer tells of it.
+    Program(given.program, given.unproved)
     files = given.files or [path for pattern in FILES for path in glob.glob(os.path.join(TOP, pattern))]
     paths = sorted(os.path.relpath(path, TOP) for path in files)
     wrong = 0
