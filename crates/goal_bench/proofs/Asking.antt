@@ -1,13 +1,8 @@
 -- A goal whose holes stay is itself, and the answer to a mode's question is that to what the mode asks.
 use Rattle.std.proofs.Common.{◌≡◌, ℕ, ap}
-use Rattle.hir_types.specs.Terms.{hole}
-use Rattle.goal_answers.specs.Goals.{Asked, asked_at}
-use Rattle.goal_answers.proofs.Readings.{apply_hole}
-use Rattle.goal_search.specs.declared.answer.Answer.{Answer}
-use Rattle.goal_search.specs.Sources.{asked_of, system}
-use Rattle.goal_bench.specs.declared.words.Mode.{Mode}
-use Rattle.goal_bench.specs.declared.question.Question.{Question}
-use Rattle.goal_bench.specs.Questions.{IsAnswer, IsAnswerTo, IsQuestion}
+use Rattle.goal_bench.specs.Words.{hole, Asked, asked_at, Answer, asked_of, system}
+use Rattle.goal_bench.proofs.Words.{apply_hole}
+use Rattle.goal_bench.specs.Own.{Mode, Question, IsAnswer, IsAnswerTo, IsQuestion}
 
 pub asked_itself : (g : Asked) → asked_at hole g ≡ g
 asked_itself g = ap (λ t. record g { parts = t }) (apply_hole g.parts)

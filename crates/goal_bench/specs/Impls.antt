@@ -1,12 +1,9 @@
 -- Types, goals about them, and impls for them.
 use Rattle.std.specs.Prelude.{ℕ, zero, suc, ◌++◌, List, [], ◌∷◌, None, map}
-use Rattle.hir_types.specs.declared.ids.TraitId.{TraitId}
+use Rattle.goal_bench.specs.Words.{TraitId, Ty, chain, arg_term, implements, Asked, Rule, System}
 use Rattle.hir_types.specs.declared.ty.UintTy.TheVariants as uint
-use Rattle.hir_types.specs.declared.ty.Ty.{Ty}
 use Rattle.hir_types.specs.declared.ty.Ty.TheVariants as ty
 use Rattle.hir_types.specs.declared.ty.GenericArg.TheVariants as arg
-use Rattle.hir_types.specs.Terms.{chain, arg_term}
-use Rattle.goal_answers.specs.Goals.{implements, Asked, Rule, System}
 
 abbrev pub first_trait : TraitId
 first_trait = record { 0 = 0 }

@@ -1,2 +1,4 @@
 pub mod Impls
 pub mod Questions
+pub mod Words
+pub mod Own

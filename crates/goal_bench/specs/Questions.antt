@@ -1,12 +1,6 @@
 -- What each mode asks, and what its answer is.
 use Rattle.std.specs.Prelude.{◌≡◌, ℕ, ◌+◌, ◌-◌, List}
-use Rattle.hir_types.specs.declared.ty.Ty.{Ty}
-use Rattle.goal_answers.specs.Goals.{Asked, Rule, System}
-use Rattle.goal_answers.specs.Steps.{known_below}
-use Rattle.goal_terms.specs.Terms.{term_of, HasHeads}
-use Rattle.goal_search.specs.declared.answer.Answer.{Answer}
-use Rattle.goal_search.specs.Sources.{asked_of, system}
-use Rattle.goal_search.specs.Searching.{Decides, SystemHasHeads}
+use Rattle.goal_bench.specs.Words.{Ty, Asked, Rule, System, known_below, term_of, HasHeads, Answer, asked_of, system, Decides, SystemHasHeads}
 use Rattle.goal_bench.specs.declared.words.Mode.{Mode}
 use Rattle.goal_bench.specs.declared.words.Mode.TheVariants as mode
 use Rattle.goal_bench.specs.declared.question.Question.{Question}

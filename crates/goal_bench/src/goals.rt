@@ -1,14 +1,11 @@
 //! Types, goals about them, and impls for them.
 ghost use Rattle.std.specs.Prelude.{◌≡◌, [], ◌∷◌, IfOk};
 ghost use Rattle.hir_types.specs.declared.ty.GenericArg.TheVariants as arg;
-ghost use Rattle.goal_answers.specs.Goals.{Each};
-ghost use Rattle.goal_terms.specs.Terms.{term_of, HasHeads};
-ghost use Rattle.goal_search.specs.Sources.{asked_of, asked_list, rule_of};
-ghost use Rattle.goal_search.specs.Searching.{RuleHasHeads};
-ghost use Rattle.goal_bench.specs.Impls.{implemented, impl_of, wrapped, nested};
+ghost use Rattle.goal_bench.specs.Words.{Each, term_of, HasHeads, asked_of, asked_list, rule_of, RuleHasHeads};
+ghost use Rattle.goal_bench.specs.Own.{implemented, impl_of, wrapped, nested};
 
+use goal_search::goal_terms::args_term;
 use goal_search::{Asked, Kind, Rule};
-use goal_terms::args_term;
 use hir_types::{AdtId, GenericArg, List, TraitId, Ty, UintTy};
 use std::alloc::{AllocError, Global};
 

@@ -1,10 +1,7 @@
 //! The questions that are asked.
 ghost use Rattle.std.specs.Prelude.{◌≡◌, [], IfOk};
-ghost use Rattle.goal_answers.specs.Goals.{Each};
-ghost use Rattle.goal_search.specs.Sources.{asked_of, rule_of, rules_of, system};
-ghost use Rattle.goal_search.specs.Searching.{RuleHasHeads, SystemHasHeads};
-ghost use Rattle.goal_bench.specs.Impls.{impls, chained, chain_impls, endless_impls, with_impls};
-ghost use Rattle.goal_bench.specs.Questions.{rules_for, type_for, steps_for, IsAnswer, IsAnswerTo, MayBeAsked, IsQuestion};
+ghost use Rattle.goal_bench.specs.Words.{Each, asked_of, rule_of, rules_of, system, RuleHasHeads, SystemHasHeads};
+ghost use Rattle.goal_bench.specs.Own.{impls, chained, chain_impls, endless_impls, with_impls, rules_for, type_for, steps_for, IsAnswer, IsAnswerTo, MayBeAsked, IsQuestion};
 
 use crate::goals::{BYTE, impl_for, impl_where, implemented, nested, wrapped};
 use crate::words::Mode;

@@ -5,55 +5,11 @@ use Rattle.std.proofs.lemmas.Option.{slice_get_read}
 use Rattle.std.specs.Prelude.{is_none}
 use Rattle.std.specs.List.{list_all}
 use Rattle.std.specs.Cmp.{second_so}
-use Rattle.hir_types.specs.declared.ids.ExprId.{ExprId}
-use Rattle.hir_types.specs.declared.ids.LabelId.{LabelId}
+use Rattle.infer_blocks.specs.Words.{ExprId, LabelId, Ty, erased, Assignment, folded, unit, RawBody, RawStmt, Schedule, is_carried_stmt, is_carried_body, IsCarriedType, same_carried, Node, Part, inner, tail, after, end, expr_part, stmt_parts, stmts_parts, stmts_of, maybe_part, IsMisfit, Given, Demand, StmtsRule, StmtRule, TailRule, at_or_mismatch, MismatchAt, mismatch, InferenceResult, TypeMismatch, InferenceContext, Closes, found_under, expected_under, IsCarriedExpectation, IsFine, Found, with_mismatch, Follows, Within, IsWalking, CoerceDone, KindDone, IsTold, LieAhead, KindWalked, Walks, Debt, Nothing, Owed, PaidBy, IsFree, expr_end, IsCoerced, IsCoercedIf}
 use Rattle.hir_types.specs.declared.ids.ExprOrPatId.TheVariants as node
-use Rattle.hir_types.specs.declared.ty.Ty.{Ty}
-use Rattle.hir_types.specs.Erasure.{erased}
-use Rattle.hir_types.specs.Subst.{Assignment, folded}
-use Rattle.hir_types.specs.Types.{unit}
-use Rattle.hir_raw.specs.declared.raw.RawBody.{RawBody}
-use Rattle.hir_raw.specs.declared.raw.RawExpr.TheVariants as expr
-use Rattle.hir_raw.specs.declared.raw.RawStmt.{RawStmt}
-use Rattle.hir_raw.specs.declared.schedule.Schedule.{Schedule}
-use Rattle.hir_facts.specs.Carried.{is_carried_stmt, is_carried_body}
-use Rattle.hir_facts.proofs.CarriedBodies.{list_all_at}
-use Rattle.hir_facts.specs.CarriedTypes.{IsCarriedType, same_carried}
-use Rattle.hir_raw.specs.Order.{Node, Part, inner, tail, after, end, expr_part, stmt_parts, stmts_parts, stmts_of, maybe_part}
-use Rattle.infer_result.specs.Made.{IsMisfit}
-use Rattle.infer_result.specs.Places.{Given}
-use Rattle.infer_result.specs.Demands.{Demand}
-use Rattle.infer_result.specs.Kinds.Block.{StmtsRule, StmtRule, TailRule}
-use Rattle.infer_result.specs.Placing.{at_or_mismatch}
-use Rattle.infer_result.specs.Table.{MismatchAt, mismatch}
-use Rattle.infer_result.specs.declared.result.InferenceResult.{InferenceResult}
-use Rattle.infer_result.specs.declared.result.TypeMismatch.{TypeMismatch}
-use Rattle.infer_ctx.specs.declared.context.InferenceContext.{InferenceContext}
-use Rattle.infer_ctx.specs.Closings.{Closes, found_under, expected_under}
-use Rattle.infer_ctx.specs.Context.{IsCarriedExpectation}
-use Rattle.infer_ctx.specs.Fine.{IsFine}
-use Rattle.infer_ctx.specs.Found.{Found, with_mismatch}
-use Rattle.infer_ctx.specs.Steps.{Follows, Within, IsWalking, CoerceDone, KindDone}
-use Rattle.infer_ctx.specs.Asked.{IsTold}
-use Rattle.infer_ctx.specs.Under.{LieAhead, KindWalked}
-use Rattle.infer_ctx.specs.Walks.{Walks, Debt, Nothing, Owed, PaidBy, IsFree, expr_end}
-use Rattle.infer_ctx.proofs.AtEach.{follows_twice, closes_before, walking_after, expected_carried}
-use Rattle.infer_ctx.proofs.Carried.{carried_expr}
-use Rattle.infer_ctx.proofs.Category.{walks_trans, walks_paid}
-use Rattle.infer_ctx.proofs.UnderClosings.{At-unasked}
-use Rattle.infer_ctx.proofs.FineTypes.{fine_expectation_grown, fine_unit, fine_grown}
-use Rattle.infer_ctx.proofs.InParts.{WalksParts, begins_parts, goes_past_coerced}
-use Rattle.infer_ctx.proofs.Keeps.{stmts_kept, tail_kept}
-use Rattle.infer_ctx.proofs.Leaves.{rule_of}
-use Rattle.infer_ctx.proofs.Lists.{drop-step, take_next}
-use Rattle.infer_ctx.proofs.Noted.{noted_extends, noted_walks}
-use Rattle.infer_ctx.proofs.OverTypes.{carried_closed}
-use Rattle.infer_ctx.proofs.Parts.{after_append, ahead_left, ahead_right}
-use Rattle.infer_ctx.proofs.Tellings.{no_telling_block}
-use Rattle.infer_ctx.proofs.Types.{carried_unit}
-use Rattle.infer_coerce.specs.Coercions.{IsCoerced, IsCoercedIf}
-use Rattle.infer_coerce.proofs.Coercions.{placed_at, placed_carried, placed_owed}
-use Rattle.infer_blocks.specs.Blocks.{IsBlockOf, BeforeStmt, StmtDone, BeforeTail, TailDone, NoTailDone, NoTailWalked}
+use Rattle.infer_blocks.specs.Words.hir_raw.declared.raw.RawExpr.TheVariants as expr
+use Rattle.infer_blocks.proofs.Words.{list_all_at, follows_twice, closes_before, walking_after, expected_carried, carried_expr, walks_trans, walks_paid, At-unasked, fine_expectation_grown, fine_unit, fine_grown, WalksParts, begins_parts, goes_past_coerced, stmts_kept, tail_kept, rule_of, drop-step, take_next, noted_extends, noted_walks, carried_closed, after_append, ahead_left, ahead_right, no_telling_block, carried_unit, placed_at, placed_carried, placed_owed}
+use Rattle.infer_blocks.specs.Own.{IsBlockOf, BeforeStmt, StmtDone, BeforeTail, TailDone, NoTailDone, NoTailWalked}
 use Rattle.infer_blocks.proofs.Stmts.{part_demand}
 
 -- several parts of a node are behind

@@ -1,63 +1,13 @@
 -- The types that `let`s are written with, part by part.
 use Rattle.std.proofs.Common.{false, ℕ, ◌+◌, List, map, ◌≤◌, ◌≡◌, Some, slice_get, suc, ◌<◌, max, refl, arith, [], ◌∷◌, inl, inr, sym, ap, ◌∙◌, subst, length, Option, None, take, ◌++◌, ◌⊎◌}
 use Rattle.std.proofs.lemmas.List.{map-append}
-use Rattle.hir_types.specs.declared.ids.TypeRefId.{TypeRefId}
-use Rattle.hir_types.specs.Types.{most}
-use Rattle.hir_types.specs.declared.ty.Ty.{Ty}
-use Rattle.hir_types.specs.declared.ids.AdtId.{AdtId}
-use Rattle.hir_types.specs.declared.ids.TypeAliasId.{TypeAliasId}
-use Rattle.hir_types.specs.declared.ty.GenericArg.{GenericArg}
-use Rattle.hir_types.specs.Subst.{Assignment, folded}
+use Rattle.infer_blocks.specs.Words.{TypeRefId, most, Ty, AdtId, TypeAliasId, GenericArg, Assignment, folded, most_above, filled_parts, filled_agree, filled_folded, RawType, AllHold, ChildrenBefore, is_alias, alias_is_hole, other_is_itself, type_parts, filled_by, filled, StandsIn, is_itself, in_part, Schedule, IsCarriedType, RawBody, IsLawful, type_ids, masked_before, hole_count, with_new_hole, stays_itself, stays_twice, stays_with, InferenceResult, Given, let_types, OnlyPlaceholdersHaveTypes, AreRecorded, declared, hole_type, IsPlaceholder, IsAsKnown, PlaceholderTy, recorded, At, WasSeen, ExprId, InferenceDiagnostic, Seen, IsTrueDiagnostic, IsOfBody, InferenceContext, IsSound, Closes, closed_table, closed_types, found_under, IsWalked, Extends, Walks, Nothing, IsCarriedTable, IsSeenAs, with_placeholder_ty, Found, RecordsVariants, IsFine, IsCarriedIn, Follows, TellsRecorded}
 use Rattle.hir_types.specs.declared.ty.GenericArg.TheVariants as arg
 use Rattle.hir_types.specs.declared.ty.Ty.TheVariants as ty
 use Rattle.hir_types.specs.declared.head.HoleKind.TheVariants as kind
-use Rattle.hir_facts.specs.Most.{most_above}
-use Rattle.hir_facts.specs.Lowered.{filled_parts}
-use Rattle.hir_facts.specs.Filled.{filled_agree, filled_folded}
-use Rattle.hir_raw.specs.declared.raw.RawType.{RawType}
-use Rattle.hir_facts.specs.Entries.{AllHold}
-use Rattle.hir_facts.specs.Ids.{ChildrenBefore}
-use Rattle.hir_raw.specs.Hidden.{is_alias}
-use Rattle.hir_raw.specs.Masked.{alias_is_hole, other_is_itself}
-use Rattle.hir_raw.specs.WrittenTypes.{type_parts, filled_by, filled, StandsIn, is_itself, in_part}
-use Rattle.hir_raw.specs.declared.schedule.Schedule.{Schedule}
-use Rattle.hir_facts.specs.CarriedTypes.{IsCarriedType}
-use Rattle.hir_raw.specs.declared.raw.RawBody.{RawBody}
-use Rattle.hir_facts.specs.Lawful.{IsLawful}
-use Rattle.hir_facts.specs.LawfulFacts.{type_ids}
-use Rattle.hir_facts.specs.LetFits.{masked_before}
-use Rattle.hir_raw.specs.declared.raw.RawType.TheVariants as type
-use Rattle.infer_table.proofs.HoleLaws.{grew_twice, grew_by_hole}
-use Rattle.infer_table.proofs.UndoLaws.{grew_itself}
-use Rattle.infer_table.specs.Table.{hole_count, with_new_hole}
-use Rattle.infer_ctx.specs.Below.{stays_itself, stays_twice, stays_with}
-use Rattle.infer_result.specs.declared.result.InferenceResult.{InferenceResult}
-use Rattle.infer_result.specs.Places.{Given, let_types, OnlyPlaceholdersHaveTypes, AreRecorded, declared, hole_type, IsPlaceholder, IsAsKnown}
-use Rattle.infer_result.specs.Table.{PlaceholderTy, recorded, At, WasSeen}
-use Rattle.hir_types.specs.declared.ids.ExprId.{ExprId}
-use Rattle.infer_result.specs.declared.diagnostics.InferenceDiagnostic.{InferenceDiagnostic}
-use Rattle.infer_result.specs.declared.result.Seen.{Seen}
-use Rattle.infer_result.specs.Truth.Diagnostics.{IsTrueDiagnostic}
-use Rattle.infer_result.specs.Closed.{IsOfBody}
-use Rattle.infer_ctx.specs.declared.context.InferenceContext.{InferenceContext}
-use Rattle.infer_ctx.specs.Closings.{IsSound, Closes, closed_table, closed_types, found_under}
-use Rattle.infer_ctx.specs.Walks.{IsWalked, Extends, Walks, Nothing, IsCarriedTable, IsSeenAs}
-use Rattle.infer_ctx.specs.Context.{with_placeholder_ty}
-use Rattle.infer_ctx.specs.Found.{Found, RecordsVariants}
-use Rattle.infer_ctx.specs.Fine.{IsFine, IsCarriedIn}
-use Rattle.infer_ctx.specs.Steps.{Follows}
-use Rattle.infer_ctx.specs.Tells.{TellsRecorded}
-use Rattle.infer_ctx.proofs.Asked.{told_with}
-use Rattle.infer_ctx.proofs.Category.{walks_refl}
-use Rattle.infer_ctx.proofs.Keeps.{extends_refl, hole_at, diagnostic_kept, seen_as_kept}
-use Rattle.infer_ctx.proofs.UnderClosings.{sound_placeholder, push_cases, At-closed, At-unclosed, closes_earlier}
-use Rattle.infer_ctx.proofs.FineTypes.{fine_hole}
-use Rattle.infer_ctx.proofs.Lists.{At-put, put-cases, put-here, take_next}
-use Rattle.infer_ctx.proofs.OverTypes.{carried_closed, carried_fine, fine_closed}
-use Rattle.infer_ctx.proofs.Written.{let_fine}
-use Rattle.infer_coerce.proofs.Holes.{holed, holed_sound}
-use Rattle.infer_pat.proofs.PathWalk.{recorded_at}
-use Rattle.infer_blocks.specs.BodyTypes.{AddsPlaceholders, BeforePartTy, BeforePartTys, PartTyDone, PlaceholderTyDone, PartTysDone, BeforeBodyTy, BodyTyDone, IsFirstTy}
+use Rattle.infer_blocks.specs.Words.hir_raw.declared.raw.RawType.TheVariants as type
+use Rattle.infer_blocks.proofs.Words.{grew_twice, grew_by_hole, grew_itself, told_with, walks_refl, extends_refl, hole_at, diagnostic_kept, seen_as_kept, sound_placeholder, push_cases, At-closed, At-unclosed, closes_earlier, fine_hole, At-put, put-cases, put-here, take_next, carried_closed, carried_fine, fine_closed, let_fine, holed, holed_sound, recorded_at}
+use Rattle.infer_blocks.specs.Own.{AddsPlaceholders, BeforePartTy, BeforePartTys, PartTyDone, PlaceholderTyDone, PartTysDone, BeforeBodyTy, BodyTyDone, IsFirstTy}
 
 -- ---- numbers of parts
 

@@ -1,3 +1,4 @@
 pub mod Blocks
 pub mod BodyTy
 pub mod Stmts
+pub mod Words

@@ -1,41 +1,11 @@
 -- Statements: the parts of each come one after another.
 use Rattle.std.proofs.Common.{ℕ, ◌≡◌, ◌∙◌, ◌⊎◌, Bool, true, false, Option, Some, None, List, [], ◌∷◌, inl, inr, refl, sym, ap, subst}
-use Rattle.hir_types.specs.declared.ids.ExprId.{ExprId}
-use Rattle.hir_types.specs.declared.ids.PatId.{PatId}
-use Rattle.hir_types.specs.declared.ids.TypeRefId.{TypeRefId}
+use Rattle.infer_blocks.specs.Words.{ExprId, PatId, TypeRefId, Ty, Assignment, folded, unit, Schedule, Part, Role, inner, initializer, let_pattern, statement, expr_part, pat_part, Given, IsAtOrMismatch, PatIsAtOrMismatch, AreRecorded, declared, Demand, AsksOf, LetRule, at_or_mismatch, HasTy, InferenceResult, InferenceContext, Closes, found_under, expected_under, IsFineExpectation, Found, IsWalking, Before, CoerceDone, TellsLet, LieAhead, IsReady, IsPlaced, CoerceWalked, Nothing, Extends, BeforePat, PatDone, PatWalked}
 use Rattle.hir_types.specs.declared.ids.ExprOrPatId.TheVariants as node
-use Rattle.hir_types.specs.declared.ty.Ty.{Ty}
-use Rattle.hir_types.specs.Subst.{Assignment, folded}
-use Rattle.hir_types.specs.Types.{unit}
-use Rattle.hir_raw.specs.declared.raw.RawStmt.TheVariants as stmt
-use Rattle.hir_raw.specs.declared.schedule.Schedule.{Schedule}
-use Rattle.hir_raw.specs.Order.{Part, Role, inner, initializer, let_pattern, statement, expr_part, pat_part}
-use Rattle.infer_result.specs.Places.{Given, IsAtOrMismatch, PatIsAtOrMismatch, AreRecorded, declared}
-use Rattle.infer_result.specs.Demands.{Demand, AsksOf}
-use Rattle.infer_result.specs.Incoming.{Gives}
-use Rattle.infer_result.specs.Kinds.Block.{LetRule}
-use Rattle.infer_result.specs.Placing.{at_or_mismatch}
-use Rattle.infer_result.specs.Table.{HasTy}
-use Rattle.infer_result.specs.declared.result.InferenceResult.{InferenceResult}
-use Rattle.infer_ctx.specs.declared.context.InferenceContext.{InferenceContext}
-use Rattle.infer_ctx.specs.Closings.{Closes, found_under, expected_under}
-use Rattle.infer_ctx.specs.Fine.{IsFineExpectation}
-use Rattle.infer_ctx.specs.Found.{Found}
-use Rattle.infer_ctx.specs.Steps.{IsWalking, Before, CoerceDone}
-use Rattle.infer_ctx.specs.Tells.{TellsLet}
-use Rattle.infer_ctx.specs.Under.{LieAhead, IsReady, IsPlaced, CoerceWalked}
-use Rattle.infer_ctx.specs.Walks.{Nothing, Extends}
-use Rattle.infer_ctx.proofs.AtEach.{follows_twice, closes_before, walking_after}
-use Rattle.infer_ctx.proofs.Category.{walks_trans}
-use Rattle.infer_ctx.proofs.Keeps.{recorded_kept, declared_kept, at_kept}
-use Rattle.infer_ctx.proofs.OverTypes.{carried_closed}
-use Rattle.infer_ctx.proofs.Parts.{ahead_stands, ahead_rest}
-use Rattle.infer_ctx.proofs.Tellings.{let_tells}
-use Rattle.infer_ctx.proofs.Types.{carried_unit}
-use Rattle.infer_coerce.proofs.Coercions.{owed_paid}
-use Rattle.infer_pat.specs.Patterns.{BeforePat, PatDone, PatWalked}
-use Rattle.infer_blocks.specs.Blocks.{BeforeStmt, StmtDone, StmtWalked, InitDone, MaybeRecorded, declared_type}
-use Rattle.infer_blocks.specs.BodyTypes.{BeforeBodyTy, BodyTyDone, BodyTyWalked}
+use Rattle.infer_blocks.specs.Words.hir_raw.declared.raw.RawStmt.TheVariants as stmt
+use Rattle.infer_blocks.specs.Words.infer_result.Incoming.{Gives}
+use Rattle.infer_blocks.proofs.Words.{follows_twice, closes_before, walking_after, walks_trans, recorded_kept, declared_kept, at_kept, carried_closed, ahead_stands, ahead_rest, let_tells, carried_unit, owed_paid}
+use Rattle.infer_blocks.specs.Own.{BeforeStmt, StmtDone, StmtWalked, InitDone, MaybeRecorded, declared_type, BeforeBodyTy, BodyTyDone, BodyTyWalked}
 
 -- what an expression asks of the first of the parts that lie ahead
 pub part_demand : (g : Given) (s : Schedule) (n : ExprId) (from : ℕ) (role : Role) (e : ExprId) (ps : List Part) (r : InferenceResult) (t : Ty)

@@ -1,32 +1,8 @@
 -- What the walk over statements and the end of a block is given, and what it does.
 use Rattle.std.specs.Prelude.{◌≡◌, List, slice_get, Option, Some, ℕ, IsTrue, option_map, None, ◌<◌, length, ◌⊎◌, false}
-use Rattle.hir_types.specs.declared.ids.ExprId.{ExprId}
-use Rattle.hir_types.specs.declared.ids.LabelId.{LabelId}
-use Rattle.hir_types.specs.declared.ids.TypeRefId.{TypeRefId}
-use Rattle.hir_types.specs.declared.ty.Ty.{Ty}
-use Rattle.hir_types.specs.Types.{unit}
-use Rattle.hir_types.specs.Subst.{Assignment, folded}
+use Rattle.infer_blocks.specs.Words.{ExprId, LabelId, TypeRefId, Ty, unit, Assignment, folded, RawBody, RawStmt, Schedule, is_carried_stmt, inner, stmt_parts, stmt_at, after, maybe_part, tail, Given, declared, AreRecorded, StmtRule, at_or_mismatch, InferenceResult, MismatchAt, Found, Walks, Nothing, expr_end, LieAhead, IsReady, IsPlaced, InferenceContext, IsWalking, Follows, CoerceDone, Does, Closes, found_under, expected_under, IsFine, IsFineExpectation, TellsLet, IsCoercedIf}
 use Rattle.hir_types.specs.declared.ids.ExprOrPatId.TheVariants as node
-use Rattle.hir_raw.specs.declared.raw.RawBody.{RawBody}
-use Rattle.hir_raw.specs.declared.raw.RawStmt.{RawStmt}
-use Rattle.hir_raw.specs.declared.schedule.Schedule.{Schedule}
-use Rattle.hir_facts.specs.Carried.{is_carried_stmt}
-use Rattle.hir_raw.specs.Order.{inner, stmt_parts, stmt_at, after, maybe_part, tail}
-use Rattle.hir_raw.specs.declared.raw.RawExpr.TheVariants as expr
-use Rattle.infer_result.specs.Places.{Given, declared, AreRecorded}
-use Rattle.infer_result.specs.Kinds.Block.{StmtRule}
-use Rattle.infer_result.specs.Placing.{at_or_mismatch}
-use Rattle.infer_result.specs.declared.result.InferenceResult.{InferenceResult}
-use Rattle.infer_result.specs.Table.{MismatchAt}
-use Rattle.infer_ctx.specs.Found.{Found}
-use Rattle.infer_ctx.specs.Walks.{Walks, Nothing, expr_end}
-use Rattle.infer_ctx.specs.Under.{LieAhead, IsReady, IsPlaced}
-use Rattle.infer_ctx.specs.declared.context.InferenceContext.{InferenceContext}
-use Rattle.infer_ctx.specs.Steps.{IsWalking, Follows, CoerceDone, Does}
-use Rattle.infer_ctx.specs.Closings.{Closes, found_under, expected_under}
-use Rattle.infer_ctx.specs.Fine.{IsFine, IsFineExpectation}
-use Rattle.infer_ctx.specs.Tells.{TellsLet}
-use Rattle.infer_coerce.specs.Coercions.{IsCoercedIf}
+use Rattle.infer_blocks.specs.Words.hir_raw.declared.raw.RawExpr.TheVariants as expr
 
 abbrev pub IsBlockOf : RawBody → ExprId → List RawStmt → Option ExprId → Type 0
 IsBlockOf b e stmts last = (label : Option LabelId) × (slice_get b.exprs e.0 ≡ Some (expr.Block label stmts last))

@@ -1,28 +1,9 @@
 -- What the reading of the written type of a `let` is given, and what it does.
 use Rattle.std.specs.Prelude.{◌≡◌, ℕ, Option, Some, None, ◌⊎◌, length, ◌<◌, List, slice_get}
-use Rattle.hir_types.specs.declared.ids.TypeRefId.{TypeRefId}
+use Rattle.infer_blocks.specs.Words.{TypeRefId, Ty, ExprId, PatId, Assignment, folded, Schedule, stmt_at, filled_type, StandsIn, Grew, hole_count, with_new_hole, StaysButHoles, Given, let_types, declared, AreRecorded, IsPlaceholder, IsAsKnown, PlaceholderTy, recorded, with_table, Found, Walks, Nothing, InferenceContext, IsReady, IsWalking, Follows, IsFine, IsCarriedIn, Closes, found_under, IsSound}
 use Rattle.hir_types.specs.declared.head.HoleKind.TheVariants as kind
-use Rattle.hir_types.specs.declared.ty.Ty.{Ty}
 use Rattle.hir_types.specs.declared.ty.Ty.TheVariants as ty
-use Rattle.hir_types.specs.declared.ids.ExprId.{ExprId}
-use Rattle.hir_types.specs.declared.ids.PatId.{PatId}
-use Rattle.hir_types.specs.Subst.{Assignment, folded}
-use Rattle.hir_raw.specs.declared.schedule.Schedule.{Schedule}
-use Rattle.hir_raw.specs.Order.{stmt_at}
-use Rattle.hir_raw.specs.WrittenTypes.{filled_type, StandsIn}
-use Rattle.hir_raw.specs.declared.raw.RawStmt.TheVariants as stmt
-use Rattle.infer_table.specs.Table.{Grew, hole_count, with_new_hole}
-use Rattle.infer_ctx.specs.Below.{StaysButHoles}
-use Rattle.infer_result.specs.Places.{Given, let_types, declared, AreRecorded, IsPlaceholder, IsAsKnown}
-use Rattle.infer_result.specs.Table.{PlaceholderTy, recorded}
-use Rattle.infer_ctx.specs.Context.{with_table}
-use Rattle.infer_ctx.specs.Found.{Found}
-use Rattle.infer_ctx.specs.Walks.{Walks, Nothing}
-use Rattle.infer_ctx.specs.declared.context.InferenceContext.{InferenceContext}
-use Rattle.infer_ctx.specs.Under.{IsReady}
-use Rattle.infer_ctx.specs.Steps.{IsWalking, Follows}
-use Rattle.infer_ctx.specs.Fine.{IsFine, IsCarriedIn}
-use Rattle.infer_ctx.specs.Closings.{Closes, found_under, IsSound}
+use Rattle.infer_blocks.specs.Words.hir_raw.declared.raw.RawStmt.TheVariants as stmt
 
 -- the written type of a `let` stands for t, and for each `_` in it the type is recorded that it stands for
 pub record BodyTyWalked (g : Given) (s : Schedule) (w : TypeRefId) (t : Ty) (old new : Found) : Type 0 where

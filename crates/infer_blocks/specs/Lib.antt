@@ -1,2 +1,4 @@
 pub mod Blocks
 pub mod BodyTypes
+pub mod Words
+pub mod Own

@@ -1,18 +1,12 @@
 //! The types of blocks.
 ghost use Rattle.std.specs.Prelude.{◌<◌, IfOk, Some, length, List};
-ghost use Rattle.hir_types.specs.Types.{unit};
-ghost use Rattle.infer_result.specs.Closed.{IsOfBody};
-ghost use Rattle.infer_ctx.specs.Context.{given_of, schedule_of, expected_type, scope_in};
-ghost use Rattle.infer_ctx.specs.Closings.{IsSound};
-ghost use Rattle.infer_ctx.specs.Fine.{IsFine, IsFineExpectation};
-ghost use Rattle.infer_blocks.specs.Blocks.{IsBlockOf, BeforeTail, TailDone, NoTailDone};
-ghost use Rattle.infer_ctx.specs.Steps.{Within, KindDone};
-ghost use Rattle.infer_coerce.specs.Recursion.{InfersFrom};
+ghost use Rattle.infer_blocks.specs.Words.{unit, IsOfBody, given_of, schedule_of, expected_type, scope_in, IsSound, IsFine, IsFineExpectation, Within, KindDone, InfersFrom};
+ghost use Rattle.infer_blocks.specs.Own.{IsBlockOf, BeforeTail, TailDone, NoTailDone};
 
 use crate::stmt::infer_stmt;
-use hir_facts::{ExprId, List, RawStmt, Ty};
-use infer_coerce::{demand_coerce, infer_expr_coerce};
-use infer_ctx::{Expectation, GivenBody, InferenceContext};
+use infer_pat::hir_facts::{ExprId, List, RawStmt, Ty};
+use infer_pat::infer_coerce::{demand_coerce, infer_expr_coerce};
+use infer_pat::infer_ctx::{Expectation, GivenBody, InferenceContext};
 use std::alloc::{AllocError, Global};
 
 /// The type of a block: `infer/expr.rs`, `infer_block`.

@@ -1,13 +1,12 @@
 //! The types that `let`s are written with.
 ghost use Rattle.std.specs.Prelude.{◌≡◌, IfOk, OnOk, map};
 ghost use Rattle.hir_types.specs.declared.ty.GenericArg.TheVariants as arg;
-ghost use Rattle.infer_result.specs.Places.{declared, IsPlaceholder};
-ghost use Rattle.infer_ctx.specs.Context.{given_of, schedule_of};
-ghost use Rattle.infer_blocks.specs.BodyTypes.{BeforeBodyTy, BodyTyDone, BeforePartTy, BeforePartTys, PartTyDone, PartTysDone, PlaceholderTyDone, IsFirstTy};
+ghost use Rattle.infer_blocks.specs.Words.{declared, IsPlaceholder, given_of, schedule_of};
+ghost use Rattle.infer_blocks.specs.Own.{BeforeBodyTy, BodyTyDone, BeforePartTy, BeforePartTys, PartTyDone, PartTysDone, PlaceholderTyDone, IsFirstTy};
 
-use hir_facts::{List, RawType, Ty, TypeRefId};
 use hir_types::GenericArg;
-use infer_ctx::{GivenBody, InferenceContext};
+use infer_pat::hir_facts::{List, RawType, Ty, TypeRefId};
+use infer_pat::infer_ctx::{GivenBody, InferenceContext};
 use std::alloc::{AllocError, Global};
 
 /// The type that the written type of a `let` stands for, at a new hole for each `_` in it, and at what is known of each associated type,

@@ -6,3 +6,7 @@ mod body_ty;
 mod stmt;
 
 pub use block::infer_block;
+pub use infer_pat;
+pub use infer_pat::{
+    goal_facts, hir_facts, infer_coerce, infer_ctx, infer_goals, infer_obligations, infer_result,
+};

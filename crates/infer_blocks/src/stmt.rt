@@ -1,14 +1,13 @@
 //! The statements of a block.
 ghost use Rattle.std.specs.Prelude.{IfOk, Some, None};
-ghost use Rattle.hir_raw.specs.declared.raw.RawStmt.TheVariants as stmt;
-ghost use Rattle.infer_ctx.specs.Context.{given_of, schedule_of};
-ghost use Rattle.infer_blocks.specs.Blocks.{BeforeStmt, StmtDone, InitDone};
-ghost use Rattle.infer_coerce.specs.Recursion.{InfersFrom};
+ghost use Rattle.infer_blocks.specs.Words.hir_raw.declared.raw.RawStmt.TheVariants as stmt;
+ghost use Rattle.infer_blocks.specs.Words.{given_of, schedule_of, InfersFrom};
+ghost use Rattle.infer_blocks.specs.Own.{BeforeStmt, StmtDone, InitDone};
 
 use crate::body_ty::make_body_ty;
-use hir_facts::{ExprId, List, PatId, RawStmt, Ty, TypeRefId};
-use infer_coerce::infer_expr_coerce;
-use infer_ctx::{Expectation, GivenBody, InferenceContext};
+use infer_pat::hir_facts::{ExprId, List, PatId, RawStmt, Ty, TypeRefId};
+use infer_pat::infer_coerce::infer_expr_coerce;
+use infer_pat::infer_ctx::{Expectation, GivenBody, InferenceContext};
 use infer_pat::infer_top_pat;
 use std::alloc::{AllocError, Global};
 

@@ -1,35 +1,12 @@
 -- The walk of a whole body.
 use Rattle.std.specs.Prelude.{replicate, option_map}
 use Rattle.std.proofs.Common.{ℕ, zero, suc, ◌≡◌, ◌∷◌, refl, ap, map, None, [], length, ◌<◌, ◌^◌, sym, subst}
-use Rattle.hir_types.specs.Subst.{Assignment, folded}
+use Rattle.infer_expr.specs.Words.{Assignment, folded, Ty, RawBody, carried_error, Scope, IsWalkable, Schedule, fallback, Given, IsMade, State, new_state, GoalTable, AreGoalsOf, closed_mismatches, closed_mismatch, found_under, IsSound, Closes, empty_context, IsCarriedExpectation, expr_variant, pat_variant, nothing_found, Found, InferenceContext, WrittenExist, CoerceWalked, expr_end, IsFineExpectation, Before, CoerceDone, BodyDone, Follows, OnlyBinds, Settles}
 use Rattle.hir_types.specs.declared.ty.IntegerTy.TheVariants.{Int}
-use Rattle.hir_types.specs.declared.ty.Ty.{Ty}
 use Rattle.hir_types.specs.declared.ty.IntTy.TheVariants as int
-use Rattle.hir_raw.specs.declared.raw.RawBody.{RawBody}
-use Rattle.hir_facts.specs.CarriedTypes.{carried_error}
-use Rattle.hir_raw.specs.Scope.{Scope}
-use Rattle.hir_facts.specs.Bodies.{IsWalkable}
-use Rattle.hir_raw.specs.declared.schedule.Schedule.{Schedule}
-use Rattle.hir_types.specs.Fallback.{fallback}
-use Rattle.infer_result.specs.Places.{Given}
-use Rattle.infer_result.specs.Made.{IsMade}
-use Rattle.infer_result.specs.declared.diagnostics.InferenceDiagnostic.TheVariants as diagnostic
-use Rattle.infer_table.specs.Table.{State, new_state}
-use Rattle.infer_goals.specs.declared.table.GoalTable.{GoalTable}
-use Rattle.infer_ctx.specs.Asked.{AreGoalsOf}
-use Rattle.infer_ctx.specs.Closings.{closed_mismatches, closed_mismatch, found_under, IsSound, Closes}
-use Rattle.infer_ctx.specs.Context.{empty_context, IsCarriedExpectation}
-use Rattle.infer_ctx.specs.Found.{expr_variant, pat_variant, nothing_found, Found}
-use Rattle.infer_ctx.specs.declared.context.InferenceContext.{InferenceContext}
-use Rattle.infer_ctx.specs.Under.{WrittenExist, CoerceWalked}
-use Rattle.infer_ctx.specs.Walks.{expr_end}
-use Rattle.infer_ctx.specs.Fine.{IsFineExpectation}
-use Rattle.infer_ctx.specs.Steps.{Before, CoerceDone, BodyDone, Follows, OnlyBinds}
-use Rattle.infer_ctx.proofs.UnderClosings.{of_body_unclosed, same_found}
-use Rattle.infer_ctx.proofs.AtEach.{walking_after, closes_before, follows_twice}
-use Rattle.infer_ctx.proofs.OverTypes.{expected_closed}
-use Rattle.infer_coerce.specs.MadeEqual.{Settles}
-use Rattle.infer_expr.specs.Params.{BeforeParams, ComesToParams, ParamsDone, ParamsWalked}
+use Rattle.infer_expr.specs.Words.infer_result.declared.diagnostics.InferenceDiagnostic.TheVariants as diagnostic
+use Rattle.infer_expr.proofs.Words.{of_body_unclosed, same_found, walking_after, closes_before, follows_twice, expected_closed}
+use Rattle.infer_expr.specs.Own.{BeforeParams, ComesToParams, ParamsDone, ParamsWalked}
 use Rattle.infer_expr.proofs.Whole.{At-replicate, params_before, root_before, body_made}
 
 none_under : {A B : Type 0} (f : A → B) (n : ℕ) → map (option_map f) (replicate n None) ≡ replicate n None

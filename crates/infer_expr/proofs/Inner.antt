@@ -1,37 +1,11 @@
 -- An expression has its type, and what it needs at that is registered.
 use Rattle.std.proofs.Common.{◌≡◌, ◌≤◌, ◌∙◌, refl, ap, subst, arith, map, List, [], ◌∷◌, ℕ, zero, suc, Option, Some, None, slice_get}
 use Rattle.std.specs.Prelude.{option_map}
-use Rattle.hir_types.specs.Subst.{folded, Assignment}
-use Rattle.hir_types.specs.declared.ids.ExprId.{ExprId}
-use Rattle.hir_types.specs.declared.ty.Ty.{Ty}
-use Rattle.hir_raw.specs.declared.raw.RawExpr.{RawExpr}
-use Rattle.hir_raw.specs.declared.schedule.Schedule.{Schedule}
-use Rattle.hir_facts.specs.Lawful.{IsLawful}
-use Rattle.goal_answers.specs.Goals.{Each}
-use Rattle.goal_search.specs.Sources.{system}
-use Rattle.infer_goals.specs.Below.{HasHeadsIfConcrete}
-use Rattle.infer_goals.specs.declared.table.GoalTable.{GoalTable}
-use Rattle.infer_goals.specs.Obligations.{AreKept, HasAllOpen}
-use Rattle.infer_result.specs.Needs.{needed_goals}
-use Rattle.infer_result.specs.Places.{Given}
-use Rattle.infer_result.specs.Placing.{at_or_mismatch}
-use Rattle.infer_result.specs.Rules.{Rule}
-use Rattle.infer_ctx.specs.Closings.{Closes, closed_types, found_under, expected_under}
-use Rattle.infer_ctx.specs.Context as context
-use Rattle.infer_ctx.specs.Fine.{is_fine_head}
-use Rattle.infer_ctx.specs.Found as found
-use Rattle.infer_ctx.specs.Steps.{Before, KindDone, OwnDone}
-use Rattle.infer_ctx.specs.Under.{OwnWalked}
-use Rattle.infer_ctx.specs.Walks.{IsFree}
-use Rattle.infer_ctx.specs.declared.context.InferenceContext.{InferenceContext}
-use Rattle.infer_ctx.proofs.AtEach.{before_under, closes_before}
-use Rattle.infer_ctx.proofs.Expressions.{own_done}
-use Rattle.infer_ctx.proofs.Lists.{found as found_at}
-use Rattle.infer_ctx.proofs.OwnRecord.{close}
-use Rattle.infer_ctx.proofs.UnderClosings.{closes_same}
-use Rattle.infer_obligations.specs.Registering.{asked_for, Registers}
-use Rattle.infer_obligations.proofs.FineNeeds.{needs_in_scope}
-use Rattle.infer_obligations.proofs.Registering.{told_registered}
+use Rattle.infer_expr.specs.Words.{folded, Assignment, ExprId, Ty, RawExpr, Schedule, IsLawful, Each, system, HasHeadsIfConcrete, GoalTable, AreKept, HasAllOpen, needed_goals, Given, at_or_mismatch, Closes, closed_types, found_under, expected_under, is_fine_head, Before, KindDone, OwnDone, OwnWalked, IsFree, InferenceContext, asked_for, Registers}
+use Rattle.infer_expr.specs.Words.infer_result.Rules.{Rule}
+use Rattle.infer_expr.specs.Words.infer_ctx.Context as context
+use Rattle.infer_expr.specs.Words.infer_ctx.Found as found
+use Rattle.infer_expr.proofs.Words.{before_under, closes_before, own_done, found as found_at, close, closes_same, needs_in_scope, told_registered}
 
 -- where nothing stands with holes closed, nothing stands
 free_open : {A B : Type 0} (f : A → B) (xs : List (Option A)) (n : ℕ) → IsFree (map (option_map f) xs) n → IsFree xs n

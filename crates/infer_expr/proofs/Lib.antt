@@ -4,3 +4,4 @@ pub mod ParamsWalk
 pub mod Whole
 pub mod Start
 pub mod Inner
+pub mod Words

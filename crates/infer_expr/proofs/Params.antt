@@ -2,23 +2,9 @@
 use Rattle.std.proofs.Common.{ℕ, ◌+◌, ◌<◌, ◌≡◌, [], ◌∷◌, ◌++◌, drop, Option, Some, slice_get, arith, sym, ap, ◌∙◌, suc, ◌≤◌, inl, inr, List, length, get_or, refl, subst}
 use Rattle.std.proofs.Math.ListN.{drop_of_length-le}
 use Rattle.std.proofs.lemmas.Option.{slice_get_read, slice_get_within}
-use Rattle.hir_types.specs.declared.ids.PatId.{PatId}
-use Rattle.hir_types.specs.declared.ty.Ty.{Ty}
-use Rattle.hir_raw.specs.declared.schedule.Schedule.{Schedule}
-use Rattle.hir_raw.specs.Order.{the_body, root, expr_part, param_parts, Part, parameter, pat_part}
-use Rattle.infer_result.specs.Places.{Given, PatIsAtOrMismatch}
-use Rattle.infer_result.specs.Incoming.{IsInput}
-use Rattle.infer_ctx.specs.Context.{IsCarriedExpectation}
-use Rattle.infer_ctx.specs.Found.{Found}
-use Rattle.infer_ctx.specs.Walks.{Walks, Nothing}
-use Rattle.infer_ctx.specs.Under.{LieAhead, IsReady}
-use Rattle.infer_ctx.proofs.Category.{walks_refl, walks_trans}
-use Rattle.infer_ctx.proofs.Lists.{lt_or_ge, drop-step}
-use Rattle.infer_ctx.proofs.Parts.{ahead_rest}
-use Rattle.infer_ctx.proofs.Keeps.{pat_at_kept}
-use Rattle.infer_pat.specs.Patterns.{ComesToPat, IsPatPlaced, PatWalked}
-use Rattle.infer_pat.proofs.PatSteps.{pat_before}
-use Rattle.infer_expr.specs.Params.{ComesToParams, ParamsWalked}
+use Rattle.infer_expr.specs.Words.{PatId, Ty, Schedule, the_body, root, expr_part, param_parts, Part, parameter, pat_part, Given, PatIsAtOrMismatch, IsInput, IsCarriedExpectation, Found, Walks, Nothing, LieAhead, IsReady, ComesToPat, IsPatPlaced, PatWalked}
+use Rattle.infer_expr.proofs.Words.{walks_refl, walks_trans, lt_or_ge, drop-step, ahead_rest, pat_at_kept, pat_before}
+use Rattle.infer_expr.specs.Own.{ComesToParams, ParamsWalked}
 
 -- the first i parameters have their written types, and the others and the root lie ahead
 pub record ParamsLoop (g : Given) (s : Schedule) (i : ℕ) (mid c : Found) : Type 0 where

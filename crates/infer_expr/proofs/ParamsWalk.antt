@@ -1,22 +1,9 @@
 -- The loop over the parameters.
 use Rattle.std.proofs.Common.{ℕ, ◌+◌, ◌<◌, ◌≤◌, ◌≡◌, refl, sym, ap, subst, ◌∙◌, length, get_or, Option, Some, None, slice_get, inl, inr}
 use Rattle.std.proofs.lemmas.Option.{slice_get_read}
-use Rattle.hir_types.specs.Subst.{Assignment}
-use Rattle.hir_types.specs.declared.ty.Ty.{Ty}
-use Rattle.hir_types.specs.declared.ids.PatId.{PatId}
-use Rattle.hir_raw.specs.declared.schedule.Schedule.{Schedule}
-use Rattle.infer_result.specs.Places.{Given}
-use Rattle.infer_ctx.specs.declared.context.InferenceContext.{InferenceContext}
-use Rattle.infer_ctx.specs.Closings.{Closes, found_under}
-use Rattle.infer_ctx.specs.Steps.{Follows, IsWalking}
-use Rattle.infer_ctx.specs.Context.{IsCarriedExpectation}
-use Rattle.infer_ctx.specs.Fine.{IsFineExpectation}
-use Rattle.infer_ctx.specs.Asked.{IsTold}
-use Rattle.infer_ctx.proofs.AtEach.{follows_itself, follows_twice, closes_before, walking_after}
-use Rattle.infer_ctx.proofs.OverTypes.{carried_fine, expected_closed}
-use Rattle.infer_ctx.proofs.Tellings.{param_at_tells}
-use Rattle.infer_pat.specs.Patterns.{BeforePat, PatDone, ComesToPat, PatWalked}
-use Rattle.infer_expr.specs.Params.{BeforeParams, ParamsDone}
+use Rattle.infer_expr.specs.Words.{Assignment, Ty, PatId, Schedule, Given, InferenceContext, Closes, found_under, Follows, IsWalking, IsCarriedExpectation, IsFineExpectation, IsTold, BeforePat, PatDone, ComesToPat, PatWalked}
+use Rattle.infer_expr.proofs.Words.{follows_itself, follows_twice, closes_before, walking_after, carried_fine, expected_closed, param_at_tells}
+use Rattle.infer_expr.specs.Own.{BeforeParams, ParamsDone}
 use Rattle.infer_expr.proofs.Params.{ParamsLoop, params_start, param_before, param_next, params_end}
 
 -- the first i parameters have their types, and the others and the root lie ahead

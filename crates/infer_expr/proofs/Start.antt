@@ -1,26 +1,8 @@
 -- Goals before a body is walked: there are none.
 use Rattle.std.specs.Prelude.{replicate}
 use Rattle.std.proofs.Common.{◌≡◌, ◌∙◌, ℕ, zero, suc, List, [], ◌∷◌, refl, sym, ap, subst, length, slice_get, Option, Some, None, flat_map}
-use Rattle.hir_types.specs.declared.ids.DefWithBodyId.{DefWithBodyId}
-use Rattle.hir_types.specs.declared.ids.GenericDefId.{GenericDefId}
-use Rattle.hir_types.specs.declared.ty.Ty.{Ty}
-use Rattle.hir_raw.specs.Scope.{scope_of}
-use Rattle.hir_raw.specs.declared.raw.RawBody.{RawBody}
-use Rattle.hir_raw.specs.declared.raw.RawExpr.{RawExpr}
-use Rattle.hir_raw.specs.declared.raw.RawFacts.{RawFacts}
-use Rattle.hir_facts.specs.Bodies.{body_of}
-use Rattle.hir_facts.specs.Lawful.{IsLawful}
-use Rattle.infer_goals.specs.Below.{ItemSources, IsSystemOf, Obligation}
-use Rattle.goal_search.specs.Sources.{system}
-use Rattle.infer_goals.specs.Stays.{IsUnused}
-use Rattle.infer_goals.proofs.Counting.{none_counted}
-use Rattle.infer_result.specs.Needs.{needs_of, needs_at, scope_item}
-use Rattle.infer_result.specs.Places.{Given}
-use Rattle.infer_result.specs.Table.{recorded}
-use Rattle.infer_ctx.specs.Asked.{asked_by_node, AreSourcesIn, AreGoalsOf}
-use Rattle.infer_ctx.specs.Context.{empty_context}
-use Rattle.infer_ctx.specs.declared.context.InferenceContext.{InferenceContext}
-use Rattle.infer_obligations.proofs.FineSources.{sources_fine}
+use Rattle.infer_expr.specs.Words.{DefWithBodyId, GenericDefId, Ty, scope_of, RawBody, RawExpr, RawFacts, body_of, IsLawful, ItemSources, IsSystemOf, Obligation, system, IsUnused, needs_of, needs_at, scope_item, Given, recorded, asked_by_node, AreSourcesIn, AreGoalsOf, empty_context, InferenceContext}
+use Rattle.infer_expr.proofs.Words.{none_counted, sources_fine}
 
 -- those of a definition with a body
 pub sources_in : (raw : RawFacts) (law : IsLawful raw) (d : DefWithBodyId) (b : RawBody) → body_of raw d ≡ Some b → (x : ItemSources) → x.facts ≡ raw → x.item ≡ scope_item raw d → AreSourcesIn (scope_of raw d) x

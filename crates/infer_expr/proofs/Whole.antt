@@ -2,32 +2,11 @@
 use Rattle.std.specs.Prelude.{replicate}
 use Rattle.std.proofs.Common.{ℕ, zero, suc, ◌<◌, refl, arith, Option, None, ◌≡◌, ◌⊎◌, inl, inr, sym, ◌∙◌, ◌+◌, [], ◌∷◌, length, subst, ◌^◌, Some}
 use Rattle.std.proofs.lemmas.List.{length-replicate, length-map}
-use Rattle.hir_types.specs.declared.ids.ExprOrPatId.{ExprOrPatId}
-use Rattle.hir_types.specs.declared.ids.ExprId.{ExprId}
-use Rattle.hir_types.specs.Subst.{Assignment}
-use Rattle.hir_types.specs.declared.ty.Ty.{Ty}
+use Rattle.infer_expr.specs.Words.{ExprOrPatId, ExprId, Assignment, Ty, RawBody, Schedule, inner, the_body, start, IsInBody, IsSchedule, root, expr_part, param_parts, body_parts, end, IsWalkable, At, Given, IsAtMaybeOrMismatch, Demand, InferenceResult, TypeMismatch, IsMade, IsMisfit, IsFree, IsCarriedTable, expr_end, IsWalked, Walks, Nothing, Owed, nothing_found, expr_variant, pat_variant, Found, IsCarriedExpectation, LieAhead, IsReady, WrittenExist, ComesTo, IsPlaced, CoerceWalked}
 use Rattle.hir_types.specs.declared.ids.ExprOrPatId.TheVariants as node
-use Rattle.hir_raw.specs.declared.raw.RawBody.{RawBody}
-use Rattle.hir_raw.specs.declared.schedule.Schedule.{Schedule}
-use Rattle.hir_raw.specs.Order.{inner, the_body, start, IsInBody, IsSchedule, root, expr_part, param_parts, body_parts, end}
-use Rattle.hir_facts.specs.Bodies.{IsWalkable}
-use Rattle.infer_result.specs.Table.{At}
-use Rattle.infer_result.specs.Places.{Given, IsAtMaybeOrMismatch}
-use Rattle.infer_result.specs.Demands.{Demand}
-use Rattle.infer_result.specs.declared.result.InferenceResult.{InferenceResult}
-use Rattle.infer_result.specs.declared.result.TypeMismatch.{TypeMismatch}
-use Rattle.infer_result.specs.Made.{IsMade, IsMisfit}
-use Rattle.infer_result.specs.declared.diagnostics.InferenceDiagnostic.TheVariants as diagnostic
-use Rattle.infer_ctx.specs.Walks.{IsFree, IsCarriedTable, expr_end, IsWalked, Walks, Nothing, Owed}
-use Rattle.infer_ctx.specs.Found.{nothing_found, expr_variant, pat_variant, Found}
-use Rattle.infer_ctx.specs.Context.{IsCarriedExpectation}
-use Rattle.infer_ctx.specs.Under.{LieAhead, IsReady, WrittenExist, ComesTo, IsPlaced, CoerceWalked}
-use Rattle.infer_ctx.proofs.Parts.{after_append, ahead_start, ahead_right, binds_within, expr_before, ahead_stands}
-use Rattle.infer_ctx.proofs.Types.{table_closed}
-use Rattle.infer_ctx.proofs.Category.{walks_trans, walks_paid}
-use Rattle.infer_ctx.proofs.Keeps.{pat_at_kept}
-use Rattle.infer_ctx.proofs.Variants.{only_named}
-use Rattle.infer_expr.specs.Params.{ComesToParams, ParamsWalked}
+use Rattle.infer_expr.specs.Words.infer_result.declared.diagnostics.InferenceDiagnostic.TheVariants as diagnostic
+use Rattle.infer_expr.proofs.Words.{after_append, ahead_start, ahead_right, binds_within, expr_before, ahead_stands, table_closed, walks_trans, walks_paid, pat_at_kept, only_named}
+use Rattle.infer_expr.specs.Own.{ComesToParams, ParamsWalked}
 
 -- ---- nothing is recorded
 module _ {A : Type 0} where

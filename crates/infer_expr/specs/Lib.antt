@@ -1,2 +1,3 @@
 pub mod Params
-pub mod Below
+pub mod Words
+pub mod Own

@@ -1,16 +1,6 @@
 -- What the walk over the parameters is given, and what it does.
 use Rattle.std.specs.Prelude.{◌≡◌, length, ℕ, [], ◌∷◌, slice_get, Some}
-use Rattle.hir_types.specs.declared.ids.PatId.{PatId}
-use Rattle.hir_types.specs.declared.ty.Ty.{Ty}
-use Rattle.hir_raw.specs.declared.schedule.Schedule.{Schedule}
-use Rattle.hir_raw.specs.Order.{the_body, body_parts, expr_part, root}
-use Rattle.infer_result.specs.Places.{Given, PatIsAtOrMismatch}
-use Rattle.infer_result.specs.Incoming.{IsInput}
-use Rattle.infer_ctx.specs.Found.{Found}
-use Rattle.infer_ctx.specs.Walks.{IsWalked, Walks, Nothing}
-use Rattle.infer_ctx.specs.Under.{LieAhead, IsReady}
-use Rattle.infer_ctx.specs.declared.context.InferenceContext.{InferenceContext}
-use Rattle.infer_ctx.specs.Steps.{IsWalking, Does}
+use Rattle.infer_expr.specs.Words.{PatId, Ty, Schedule, the_body, body_parts, expr_part, root, Given, PatIsAtOrMismatch, IsInput, Found, IsWalked, Walks, Nothing, LieAhead, IsReady, InferenceContext, IsWalking, Does}
 
 -- ---- parameters
 

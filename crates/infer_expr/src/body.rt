@@ -1,20 +1,13 @@
 //! The types of a body.
 ghost use Rattle.std.specs.Prelude.{◌≡◌, ◌<◌, IfOk, OnOk, length};
-ghost use Rattle.hir_facts.specs.Bodies.{IsWalkable};
-ghost use Rattle.infer_table.specs.Table.{new_state, Grew};
-ghost use Rattle.infer_ctx.specs.Asked.{AreGoalsOf, IsTold};
-ghost use Rattle.infer_ctx.specs.Fine.{IsFineExpectation};
-ghost use Rattle.infer_ctx.specs.Under.{WrittenExist};
-ghost use Rattle.infer_obligations.specs.Reading.{EndsSettled};
-ghost use Rattle.infer_expr.specs.Params.{BeforeParams, ParamsDone};
-ghost use Rattle.infer_ctx.specs.Steps.{BodyDone};
-ghost use Rattle.infer_ctx.specs.Context.{given_of, scope_in, schedule_of, empty_context, IsCarriedExpectation};
+ghost use Rattle.infer_expr.specs.Words.{IsWalkable, new_state, Grew, AreGoalsOf, IsTold, IsFineExpectation, WrittenExist, EndsSettled, BodyDone, given_of, scope_in, schedule_of, empty_context, IsCarriedExpectation};
+ghost use Rattle.infer_expr.specs.Own.{BeforeParams, ParamsDone};
 
 use crate::expr::infer_expr_coerce;
-use hir_facts::ExprOrPatId;
-use infer_ctx::{GivenBody, InferenceContext};
-use infer_obligations::settle_needs;
-use infer_pat::infer_top_pat;
+use infer_blocks::hir_facts::ExprOrPatId;
+use infer_blocks::infer_ctx::{GivenBody, InferenceContext};
+use infer_blocks::infer_obligations::settle_needs;
+use infer_blocks::infer_pat::infer_top_pat;
 use std::alloc::{AllocError, Global};
 
 /// Types the body against its return type: `infer.rs`, `infer_body`. Each node's goals are registered, and selected after the

@@ -1,12 +1,11 @@
 //! The walk over expressions. Here alone calls go round in a cycle.
 ghost use Rattle.std.specs.Prelude.{IfOk};
-ghost use Rattle.infer_ctx.specs.Context.{given_of, schedule_of, expected_type};
-ghost use Rattle.infer_ctx.specs.Steps.{Before, OwnDone, CoerceDone};
+ghost use Rattle.infer_expr.specs.Words.{given_of, schedule_of, expected_type, Before, OwnDone, CoerceDone};
 
 use crate::kind::infer_expr_of_kind;
-use hir_facts::{ExprId, Ty};
-use infer_ctx::{Expectation, GivenBody, InferenceContext};
-use infer_obligations::register_needs;
+use infer_blocks::hir_facts::{ExprId, Ty};
+use infer_blocks::infer_ctx::{Expectation, GivenBody, InferenceContext};
+use infer_blocks::infer_obligations::register_needs;
 use std::alloc::{AllocError, Global};
 
 /// Types an expression, and registers what it needs at its type: `infer/expr.rs`, `infer_expr_inner`.
@@ -63,5 +62,5 @@ pub fn infer_expr_coerce(
         ensures { IfOk result (λ ty. OwnDone (given_of given.entry.now) (schedule_of given.entry.now)
             expr (expected_type expected.entry) ty context.old context.new) }
     { infer_expr_inner(alloc, context, given, expr, expected) };
-    infer_coerce::infer_expr_coerce(&infer, alloc, context, given, expr, expected)
+    infer_blocks::infer_coerce::infer_expr_coerce(&infer, alloc, context, given, expr, expected)
 }

@@ -1,15 +1,13 @@
 //! The kinds of expressions.
 ghost use Rattle.std.specs.Prelude.{IfOk};
-ghost use Rattle.infer_ctx.specs.Context.{given_of, schedule_of, expected_type};
-ghost use Rattle.infer_ctx.specs.Steps.{Within, KindDone};
-ghost use Rattle.infer_coerce.specs.Recursion.{InfersFrom};
+ghost use Rattle.infer_expr.specs.Words.{given_of, schedule_of, expected_type, Within, KindDone, InfersFrom};
 
-use hir_facts::{ExprId, RawExpr, Ty};
+use infer_blocks::hir_facts::{ExprId, RawExpr, Ty};
 use infer_blocks::infer_block;
+use infer_blocks::infer_ctx::{Expectation, GivenBody, InferenceContext};
+use infer_blocks::infer_pat::{infer_expr_path, infer_literal};
 use infer_branches::{infer_if, infer_match};
 use infer_calls::infer_call;
-use infer_ctx::{Expectation, GivenBody, InferenceContext};
-use infer_pat::{infer_expr_path, infer_literal};
 use infer_tuples::infer_tuple;
 use std::alloc::{AllocError, Global};
 

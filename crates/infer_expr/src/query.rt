@@ -1,23 +1,15 @@
 //! Inference of a body, from its facts to its table.
 ghost use Rattle.std.specs.Prelude.{◌≡◌, IfOk, Some};
-ghost use Rattle.hir_raw.specs.declared.raw.RawBody.{RawBody};
-ghost use Rattle.hir_facts.specs.Bodies.{HasBody, body_of};
-ghost use Rattle.infer_result.specs.Typed.{IsTableOf, given};
-ghost use Rattle.infer_result.specs.General.{HasGeneral};
-ghost use Rattle.infer_result.specs.Needs.{GoalsHold, HasNoneLeft};
-ghost use Rattle.infer_result.specs.WrittenAliases.{AllWrittenAreListed};
-ghost use Rattle.infer_needs.specs.Fits.{EntriesFit};
-ghost use Rattle.infer_needs.specs.Told.{AreAllAnswered, HearsAll, IsToldAll, RootsAreNeeded, at_exit};
-ghost use Rattle.infer_end.specs.Ends.{EndsWell, IsSelectedBody, ComesOfSelection};
+ghost use Rattle.infer_expr.specs.Words.{RawBody, HasBody, body_of, IsTableOf, given, HasGeneral, GoalsHold, HasNoneLeft, AllWrittenAreListed, EntriesFit, AreAllAnswered, HearsAll, IsToldAll, RootsAreNeeded, at_exit, EndsWell, IsSelectedBody, ComesOfSelection};
 
 use crate::body::infer_body;
-use hir_facts::{DefWithBodyId, Facts, Goal};
-use infer_ctx::{GivenBody, InferenceContext};
+use infer_blocks::hir_facts::{DefWithBodyId, Facts, Goal};
+use infer_blocks::infer_ctx::{GivenBody, InferenceContext};
+use infer_blocks::infer_goals::{Answer, ObligationInspector};
+use infer_blocks::infer_obligations::{let_types, own_types};
+use infer_blocks::infer_result::InferenceResult;
 use infer_end::{keep_general, settle_where_possible};
-use infer_goals::{Answer, ObligationInspector};
 use infer_needs::{prove_needs, scope_item, tell_all};
-use infer_obligations::{let_types, own_types};
-use infer_result::InferenceResult;
 use std::alloc::{AllocError, Global};
 
 /// What is found out about a definition's body once it is walked and its goals are selected: what is left open

@@ -1,18 +1,11 @@
 -- When a run must end with a table, and when as one without.
 use Rattle.std.specs.Prelude.{◌≡◌, ◌<◌, ◌≤◌, ◌⊎◌, ◌∷◌, [], ℕ, zero, suc, List, length, Some, Ok, Err, Result, refl}
 use Rattle.std.proofs.Common.{arith, sym, ◌∙◌, subst, inl, inr}
-use Rattle.hir_raw.specs.declared.raw.RawFacts.{RawFacts}
-use Rattle.hir_facts.specs.declared.laws.Law.{Law}
-use Rattle.hir_facts.specs.declared.laws.Law.TheVariants as law
-use Rattle.hir_facts.specs.declared.laws.FactsList.{FactsList}
-use Rattle.hir_facts.specs.declared.laws.FactsList.TheVariants as list
-use Rattle.hir_facts.specs.Bodies.{HasBody}
-use Rattle.hir_facts.specs.Entries.{AllHold, BreaksAt}
-use Rattle.hir_facts.specs.Lawful.{Test, PassesAll, FirstBroken, says, tests}
-use Rattle.infer_run.specs.declared.running.Ran.{Ran}
-use Rattle.infer_text.specs.Facts.{Fault, no_json, shape, raw_facts, IsRead}
-use Rattle.infer_run.specs.Exactly.{Exactly, IsGiven, IsGivenFacts}
-use Rattle.infer_run.specs.Outcome.{limit, Ends, HasFacts, TookAll, Outcome}
+use Rattle.infer_run.specs.Words.{RawFacts, Law, FactsList, HasBody, AllHold, BreaksAt, Test, PassesAll, FirstBroken, says, tests, Fault, no_json, shape, raw_facts}
+use Rattle.infer_run.specs.Words.hir_facts.declared.laws.Law.TheVariants as law
+use Rattle.infer_run.specs.Words.hir_facts.declared.laws.FactsList.TheVariants as list
+use Rattle.infer_run.specs.Own.{Ran, Exactly, IsGiven, IsGivenFacts, limit, Ends, HasFacts, TookAll, Outcome}
+use Rattle.infer_text.specs.Facts.{IsRead}
 use Rattle.infer_run.proofs.Consequences.{no_source_fault, no_sink_fault, same_definition, took_text, not_too_long}
 
 -- ---- lawful facts break no law

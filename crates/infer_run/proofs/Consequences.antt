@@ -5,13 +5,9 @@ use Rattle.std.proofs.lemmas.List.{append-nil, length-append}
 use Rattle.std.proofs.lemmas.Fmt.{decimal_injective}
 use Rattle.std.specs.Fmt.{decimal}
 use Rattle.std.specs.Io.KnownBytes.{Consumes, IsAtEnd}
-use Rattle.hir_types.specs.declared.ids.DefWithBodyId.{DefWithBodyId}
+use Rattle.infer_run.specs.Words.{DefWithBodyId}
 use Rattle.hir_types.specs.declared.ids.DefWithBodyId.TheVariants as def
-use Rattle.infer_run.specs.declared.running.Ran.{Ran}
-use Rattle.infer_run.specs.Causes.{Rose}
-use Rattle.infer_run.specs.Command.{IsCommand, kind_word, definition_number}
-use Rattle.infer_run.specs.Exactly.{AreSure}
-use Rattle.infer_run.specs.Outcome.{limit, Ends, TookAll, Outcome}
+use Rattle.infer_run.specs.Own.{Ran, Rose, IsCommand, kind_word, definition_number, AreSure, limit, Ends, TookAll, Outcome}
 
 -- ---- ends without faults
 

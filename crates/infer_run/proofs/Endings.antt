@@ -3,21 +3,10 @@ use Rattle.std.proofs.Common.{◌≡◌, ◌≤◌, ◌<◌, nat_lt, length, ℕ
 use Rattle.std.proofs.lemmas.Bool.Decides.{nat_tests}
 use Rattle.std.specs.Prelude.{if◌then◌else◌}
 use Rattle.std.specs.Io.KnownBytes.{Appends, Consumes, IsAtEnd, Keeps}
-use Rattle.hir_facts.specs.Bodies.{HasBody}
-use Rattle.infer_result.specs.declared.result.InferenceResult.{InferenceResult}
-use Rattle.infer_result.specs.Report.{report, complaint_count}
-use Rattle.infer_result.specs.Typed.{IsTableOf}
-use Rattle.infer_result.specs.General.{HasGeneral}
-use Rattle.infer_run.specs.Causes.{Rose}
-use Rattle.hir_types.specs.declared.ids.DefWithBodyId.{DefWithBodyId}
-use Rattle.hir_raw.specs.declared.raw.RawFacts.{RawFacts}
-use Rattle.infer_text.specs.declared.fault.ReadError.{ReadError}
+use Rattle.infer_run.specs.Words.{HasBody, InferenceResult, report, complaint_count, IsTableOf, HasGeneral, DefWithBodyId, RawFacts, ReadError}
+use Rattle.infer_run.specs.Own.{Rose, Ran, IsCommand, Ends, TookAll, HasFacts, HasGoals, IsReadThrough, HasWritten, HasAskedProofs, HasFitEntries, IsSelectedTable, Reported, SourceFailed, SinkFailed, IsNoJson, IsMisshapen, BreaksLaw, HasNoBody, IsTooLong, Outcome, IsInferred, AppendsFront, has_facts, has_table, has_fault, Answered, is_answer, refusal}
 use Rattle.infer_text.specs.declared.fault.ReadError.TheVariants as error
-use Rattle.infer_run.specs.declared.running.Ran.{Ran}
-use Rattle.infer_run.specs.Command.{IsCommand}
 use Rattle.infer_text.specs.Facts.{IsRead, Reads}
-use Rattle.infer_run.specs.Outcome.{Ends, TookAll, HasFacts, HasGoals, IsReadThrough, HasWritten, HasAskedProofs, HasFitEntries, IsSelectedTable, Reported, SourceFailed, SinkFailed, IsNoJson, IsMisshapen, BreaksLaw, HasNoBody, IsTooLong, Outcome, IsInferred, AppendsFront, has_facts, has_table, has_fault}
-use Rattle.infer_run.specs.Answer.{Answered, is_answer, refusal}
 
 -- what holds at a status
 abbrev pub AtStatus : List (List ℕ) → Ends → Ran → ℕ → Type 0

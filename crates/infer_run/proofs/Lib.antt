@@ -3,3 +3,4 @@ pub mod Consequences
 pub mod Pieces
 pub mod Three
 pub mod Endings
+pub mod Words

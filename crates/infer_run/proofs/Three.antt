@@ -1,7 +1,7 @@
 -- Three words that are a command.
 use Rattle.std.proofs.Common.{◌≡◌, ℕ, ◌<◌, ◌≤◌, List, [], ◌∷◌, length, map, get_or, Option, Some, None, IfSome, codes, refl, ◌∙◌, arith}
-use Rattle.hir_types.specs.declared.ids.DefWithBodyId.{DefWithBodyId}
-use Rattle.infer_run.specs.Command.{IsNamed, IsCommand}
+use Rattle.infer_run.specs.Words.{DefWithBodyId}
+use Rattle.infer_run.specs.Own.{IsNamed, IsCommand}
 
 -- a list of three
 pub all_three : {A B : Type 0} (f : A → B) (xs : List A) (x y z : A) → 3 ≤ length xs → length xs < 4 → x ≡ get_or xs 0 x → y ≡ get_or xs 1 y → z ≡ get_or xs 2 z

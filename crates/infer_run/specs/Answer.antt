@@ -1,11 +1,7 @@
 -- What is done for a definition and its facts, by the status.
 use Rattle.std.specs.Prelude.{◌≡◌, ◌==◌, ◌||◌, ◌≤◌, ℕ, List, Bool, true, Option, Some, None, is_some, nat_le}
 use Rattle.std.specs.Io.KnownBytes.{Appends, Keeps}
-use Rattle.hir_types.specs.declared.ids.DefWithBodyId.{DefWithBodyId}
-use Rattle.hir_raw.specs.declared.raw.RawFacts.{RawFacts}
-use Rattle.hir_facts.specs.Bodies.{HasBody}
-use Rattle.infer_result.specs.Report.{report}
-use Rattle.infer_text.specs.declared.fault.ReadError.{ReadError}
+use Rattle.infer_run.specs.Words.{DefWithBodyId, RawFacts, HasBody, report, ReadError}
 use Rattle.infer_text.specs.declared.fault.ReadError.TheVariants as error
 use Rattle.infer_run.specs.declared.running.Ran.{Ran}
 use Rattle.infer_run.specs.Causes.{Rose}

@@ -1,8 +1,6 @@
 -- When a run must end as it did: over ends that do not fail each cause has its status, but for want of memory.
 use Rattle.std.specs.Prelude.{◌≡◌, ◌<◌, ◌≤◌, ◌-◌, ◌^◌, ◌⊎◌, ℕ, List, length, Some}
-use Rattle.hir_types.specs.declared.ids.DefWithBodyId.{DefWithBodyId}
-use Rattle.hir_raw.specs.declared.raw.RawFacts.{RawFacts}
-use Rattle.hir_facts.specs.Bodies.{HasBody}
+use Rattle.infer_run.specs.Words.{DefWithBodyId, RawFacts, HasBody}
 use Rattle.infer_text.specs.Facts.{IsRead}
 use Rattle.infer_run.specs.declared.running.Ran.{Ran}
 use Rattle.infer_run.specs.Command.{IsCommand}

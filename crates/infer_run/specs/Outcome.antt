@@ -1,24 +1,12 @@
 -- What a run of the command does, by the status that it ends with.
 use Rattle.std.specs.Prelude.{◌≡◌, ◌==◌, ◌||◌, ◌&&◌, ◌<◌, ◌≤◌, ◌+◌, ◌↔◌, ℕ, List, length, take, Bool, Option, Some, Err, is_some, nat_lt, nat_le, if◌then◌else◌}
 use Rattle.std.specs.Io.KnownBytes.{Appends, Consumes, IsAtEnd, Keeps}
-use Rattle.hir_types.specs.declared.ids.DefWithBodyId.{DefWithBodyId}
-use Rattle.hir_raw.specs.declared.raw.RawBody.{RawBody}
-use Rattle.hir_raw.specs.declared.raw.RawFacts.{RawFacts}
-use Rattle.hir_facts.specs.declared.laws.Law.{Law}
-use Rattle.hir_facts.specs.declared.laws.FactsList.{FactsList}
-use Rattle.hir_facts.specs.Bodies.{HasBody, body_of}
-use Rattle.infer_result.specs.declared.result.InferenceResult.{InferenceResult}
-use Rattle.infer_result.specs.Typed.{IsTableOf, given}
-use Rattle.infer_result.specs.General.{HasGeneral}
-use Rattle.infer_result.specs.Needs.{GoalsHold, HasNoneLeft}
-use Rattle.infer_result.specs.WrittenAliases.{AllWrittenAreListed}
-use Rattle.infer_expr.specs.Below.{ComesOfSelection, EntriesFit, RootsAreNeeded}
-use Rattle.infer_result.specs.Report.{report, complaint_count}
+use Rattle.infer_run.specs.Words.{DefWithBodyId, RawBody, RawFacts, Law, FactsList, HasBody, body_of, InferenceResult, IsTableOf, given, HasGeneral, GoalsHold, HasNoneLeft, AllWrittenAreListed, ComesOfSelection, EntriesFit, RootsAreNeeded, report, complaint_count, IsUnlawful, raw_facts, no_json, shape}
 use Rattle.infer_text.specs.declared.fault.ReadError.TheVariants as error
 use Rattle.infer_run.specs.declared.running.Ran.{Ran}
 use Rattle.infer_run.specs.Causes.{Rose}
 use Rattle.infer_run.specs.Command.{IsCommand}
-use Rattle.infer_text.specs.Facts.{IsRead, IsUnlawful, raw_facts, no_json, shape}
+use Rattle.infer_text.specs.Facts.{IsRead}
 
 -- the most bytes that are read
 abbrev pub limit : ℕ

@@ -2,20 +2,15 @@
 ghost use Rattle.std.specs.Prelude.{◌≡◌, ◌<◌, ◌≤◌, ◌+◌, ℕ, List, length, map, IfOk, OnOk, OnErr, IsErrOf, Some};
 ghost use Rattle.std.specs.Io.KnownBytes.{Appends, Consumes, IsAtEnd};
 ghost use Rattle.std.specs.Rc.{rc_str_bytes};
-ghost use Rattle.hir_facts.specs.Bodies.{HasBody};
-ghost use Rattle.infer_result.specs.Typed.{IsTableOf};
-ghost use Rattle.infer_result.specs.General.{HasGeneral};
-ghost use Rattle.infer_run.specs.Causes.{Rose, HasCause};
-ghost use Rattle.infer_run.specs.Outcome.{AppendsFront, HasGoals, IsReadThrough, HasWritten, HasAskedProofs, HasFitEntries, IsSelectedTable, Outcome, between};
-ghost use Rattle.infer_run.specs.Exactly.{Exactly};
-ghost use Rattle.infer_run.specs.Answer.{Answered, silence, refusal};
+ghost use Rattle.infer_run.specs.Words.{HasBody, IsTableOf, HasGeneral};
+ghost use Rattle.infer_run.specs.Own.{Rose, HasCause, AppendsFront, HasGoals, IsReadThrough, HasWritten, HasAskedProofs, HasFitEntries, IsSelectedTable, Outcome, between, Exactly, Answered, silence, refusal};
 
 use crate::ends::{Failed, Sink, Source};
 use crate::words::command;
-use hir_facts::{DefWithBodyId, Facts};
+use infer_expr::hir_facts::{DefWithBodyId, Facts};
+use infer_expr::infer_result::InferenceResult;
 use infer_expr::{ToldList, infer_query_with_inspect};
 use infer_report::{count_complaints, write_report};
-use infer_result::InferenceResult;
 use infer_text::{ReadError, read_facts};
 use std::alloc::{AllocError, Global};
 use std::rc::RcStr;

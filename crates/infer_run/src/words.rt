@@ -2,10 +2,10 @@
 ghost use Rattle.std.specs.Prelude.{◌≡◌, ◌<◌, ◌^◌, ℕ, map, IfSome, IfNone};
 ghost use Rattle.std.specs.Fmt.{decimal};
 ghost use Rattle.std.specs.Rc.{rc_str_bytes};
-ghost use Rattle.hir_types.specs.declared.ids.DefWithBodyId.{DefWithBodyId};
-ghost use Rattle.infer_run.specs.Command.{kind_word, definition_number, IsNamed, IsCommand};
+ghost use Rattle.infer_run.specs.Words.{DefWithBodyId};
+ghost use Rattle.infer_run.specs.Own.{kind_word, definition_number, IsNamed, IsCommand};
 
-use hir_facts::{ConstId, DefWithBodyId, FunctionId, StaticId, VariantId};
+use infer_expr::hir_facts::{ConstId, DefWithBodyId, FunctionId, StaticId, VariantId};
 use itoa::Buffer;
 use std::rc::RcStr;
 

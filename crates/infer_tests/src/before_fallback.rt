@@ -1,7 +1,7 @@
 //! The types of plain bodies with holes for what nothing decides, as text.
 use hir_types::{AdtId, CallableDefId, FunctionId, GenericArg, List, Ty, UintTy, VariantId};
-use infer_result::General;
 use infer_run::Ran;
+use infer_run::infer_result::General;
 use std::alloc::{AllocError, Global};
 
 /// The holes that were come to, of any type and of integer types, as they came.

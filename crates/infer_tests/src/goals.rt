@@ -1,13 +1,13 @@
 //! Goals and sizes: the predicates of function 0 are asked, and its inputs looked at, in the scope of an item that a row names.
 use crate::selection::selection;
-use hir_facts::{
+use infer_run::hir_facts::{
     AdtId, CallableDefId, DefWithBodyId, Facts, FunctionId, GenericArg, GenericDefId, Goal, ImplId,
     List, RawExpr, RawPath, TraitId, Ty, TypeAliasId, instantiate, lower_ty,
 };
-use infer_goals::{Answer, GoalTable, ToldList};
-use infer_needs::tell_all;
-use infer_result::needed_goals;
-use infer_text::read_facts;
+use infer_run::infer_goals::{Answer, GoalTable, ToldList};
+use infer_run::infer_needs::tell_all;
+use infer_run::infer_result::needed_goals;
+use infer_run::infer_text::read_facts;
 use std::alloc::{AllocError, Global};
 
 /// The item that these words name.

@@ -2,8 +2,8 @@
 use crate::Checks;
 use crate::rows::{facts_beside, plain_of, put};
 use crate::runs::{PLAIN, compare, ran};
-use hir_facts::is_plain;
 use hir_types::{ConstId, DefWithBodyId, FunctionId, StaticId, VariantId};
+use infer_run::hir_facts::is_plain;
 use std::io;
 use std::rt::Files;
 

@@ -1,11 +1,11 @@
 //! The proofs of a table, as text, and what an inspector is told.
 use crate::goals::word_of;
-use goal_facts::{Proof, ProofSource};
-use hir_facts::{DefWithBodyId, FunctionId, ImplId, RawFacts};
-use infer_expr::infer_query_with_inspect;
-use infer_goals::ToldList;
-use infer_report::{push_goal, push_ty};
 use infer_run::Ran;
+use infer_run::goal_facts::{Proof, ProofSource};
+use infer_run::hir_facts::{DefWithBodyId, FunctionId, ImplId, RawFacts};
+use infer_run::infer_expr::infer_query_with_inspect;
+use infer_run::infer_goals::ToldList;
+use infer_run::infer_report::{push_goal, push_ty};
 use std::alloc::{AllocError, Global};
 
 /// Writes by what a proof is.

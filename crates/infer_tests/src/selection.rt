@@ -1,16 +1,17 @@
 //! Selection: the predicates of function 0 are registered, at new holes in the place of its parameters.
 ghost use Rattle.std.specs.Prelude.{OnOk};
-ghost use Rattle.goal_search.specs.Sources.{system};
-ghost use Rattle.infer_goals.specs.Obligations.{AreKept, HasAllOpen};
+ghost use Rattle.infer_tests.specs.Words.{system, AreKept, HasAllOpen};
 
 use crate::goals::item_at;
 use crate::proofs::push_source;
-use goal_facts::Proof;
-use hir_facts::{ExprId, Facts, FunctionId, GenericArg, GenericDefId, List, RawExpr, RawPath, Ty};
-use infer_goals::GoalTable;
-use infer_obligations::register_each;
-use infer_report::push_ty;
-use infer_result::needed_goals;
+use infer_run::goal_facts::Proof;
+use infer_run::hir_facts::{
+    ExprId, Facts, FunctionId, GenericArg, GenericDefId, List, RawExpr, RawPath, Ty,
+};
+use infer_run::infer_goals::GoalTable;
+use infer_run::infer_obligations::register_each;
+use infer_run::infer_report::push_ty;
+use infer_run::infer_result::needed_goals;
 use std::alloc::{AllocError, Global};
 
 /// The type of function 0 at two arguments.

@@ -2,7 +2,7 @@
 
 use crate::laws::told_breach;
 use crate::shape::told_shape;
-use infer_text::ReadError;
+use infer_run::infer_text::ReadError;
 use serde_json::{Error, Value};
 use std::alloc::{AllocError, Global};
 use std::str;

@@ -1,12 +1,12 @@
 //! What is wrong where a law is broken, found in the text again.
 
-use hir_facts::{FactsList, Law};
+use infer_run::hir_facts::{FactsList, Law};
 use serde_json::Value;
 use std::alloc::{AllocError, Global};
 use std::fmt;
 use told_bodies::{holes, limits, literals, scopes, sizes, trees};
+use told_items::told_places::place::Place;
 use told_items::{carried, counts, ids};
-use told_places::place::Place;
 
 fn told<W: fmt::Display + Drop>(
     alloc: Global,

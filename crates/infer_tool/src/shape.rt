@@ -4,7 +4,7 @@ use serde_json::Value;
 use serde_json::value::Map;
 use std::alloc::{AllocError, Global};
 use std::fmt;
-use told_places::place::{Path, Quoted};
+use told_items::told_places::place::{Path, Quoted};
 
 /// The most bytes of a value that are shown.
 const MOST_SHOWN: usize = 60;

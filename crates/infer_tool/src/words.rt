@@ -1,9 +1,9 @@
 //! What is wrong with the words of the command, and what was meant.
 
-use hir_facts::Facts;
+use infer_run::hir_facts::Facts;
 use std::alloc::{AllocError, Global};
 use std::rc::RcStr;
-use told_places::place::Counted;
+use told_items::told_places::place::Counted;
 
 const KINDS: &str = "fn, const, static or variant";
 

@@ -1,10 +1,8 @@
 -- A pair that waits more is growth, and what went back twice went back.
 use Rattle.std.specs.Prelude.{◌≡◌, ◌++◌, List, [], ◌∷◌}
 use Rattle.std.proofs.Common.{refl, sym, ap, ◌∙◌, subst, append_assoc}
-use Rattle.hir_types.specs.declared.ids.ExprOrPatId.{ExprOrPatId}
-use Rattle.hir_types.specs.declared.ty.Ty.{Ty}
-use Rattle.infer_table.specs.Table.{State, IsFront, Grew, IsBack, with_waiting}
-use Rattle.infer_table.proofs.UndoLaws.{front_itself, grew_itself}
+use Rattle.table_bench.specs.Words.{ExprOrPatId, Ty, State, IsFront, Grew, IsBack, with_waiting}
+use Rattle.table_bench.proofs.Words.{front_itself, grew_itself}
 
 pub grew_same : (s t : State) → t ≡ s → Grew s t
 grew_same s t e = let P : State → Type 0 = Grew s in subst P (sym e) (grew_itself s)

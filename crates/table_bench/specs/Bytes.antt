@@ -2,7 +2,7 @@
 use Rattle.std.specs.Prelude.{◌≡◌, ℕ, ◌+◌, ◌<◌}
 use Rattle.hir_types.specs.declared.ty.Ty.TheVariants as ty
 use Rattle.hir_types.specs.declared.ty.UintTy.TheVariants as uint
-use Rattle.infer_table.specs.Table.{State, resolved_type}
+use Rattle.table_bench.specs.Words.{State, resolved_type}
 
 abbrev pub IsByte : State → ℕ → Type 0
 IsByte s hole = resolved_type s (ty.Var hole) ≡ ty.Uint uint.U8

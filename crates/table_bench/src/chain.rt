@@ -1,7 +1,7 @@
 //! Holes in a chain.
 ghost use Rattle.std.specs.Prelude.{◌≡◌, IfOk};
-ghost use Rattle.infer_table.specs.Table.{Grew};
-ghost use Rattle.table_bench.specs.Bytes.{AreBytes};
+ghost use Rattle.table_bench.specs.Words.{Grew};
+ghost use Rattle.table_bench.specs.Own.{AreBytes};
 
 use crate::fault::Fault;
 use crate::holes::{bind_to_byte, byte_count, make_holes, unify};

@@ -1,7 +1,7 @@
 //! Small steps on a table that every mode uses.
 ghost use Rattle.std.specs.Prelude.{◌≡◌, ◌≤◌, IsTrue, IfOk};
-ghost use Rattle.infer_table.specs.Table.{Grew, AreUnifiedIf};
-ghost use Rattle.table_bench.specs.Bytes.{IsByte, AreBytes};
+ghost use Rattle.table_bench.specs.Words.{Grew, AreUnifiedIf};
+ghost use Rattle.table_bench.specs.Own.{IsByte, AreBytes};
 
 use crate::fault::Fault;
 use hir_types::{Ty, UintTy};

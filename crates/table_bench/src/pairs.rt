@@ -1,7 +1,7 @@
 //! Pairs of small types.
 ghost use Rattle.std.specs.Prelude.{◌≡◌, ◌+◌, ◌<◌, ◌^◌, IsTrue, IfOk};
-ghost use Rattle.infer_table.specs.Table.{Grew};
-ghost use Rattle.table_bench.specs.Bytes.{IsBool, IsByte, ArePairs};
+ghost use Rattle.table_bench.specs.Words.{Grew};
+ghost use Rattle.table_bench.specs.Own.{IsBool, IsByte, ArePairs};
 
 use crate::fault::Fault;
 use crate::holes::{is_byte, make_holes, unify};

@@ -1,7 +1,7 @@
 //! Snapshots, kept or gone back to.
 ghost use Rattle.std.specs.Prelude.{◌≡◌, IfOk};
-ghost use Rattle.infer_table.specs.Table.{Grew, IsBack};
-ghost use Rattle.table_bench.specs.Bytes.{AreBytes};
+ghost use Rattle.table_bench.specs.Words.{Grew, IsBack};
+ghost use Rattle.table_bench.specs.Own.{AreBytes};
 
 use crate::fault::Fault;
 use crate::holes::{bind_to_byte, byte_count, is_byte, make_holes};

@@ -1,5 +1,5 @@
 use Rattle.std.proofs.Common.{◌≡◌}
-use Rattle.goal_bench.specs.Impls.{nested}
+use Rattle.goal_bench.specs.Own.{nested}
 use Rattle.goal_bench.proofs.goals.nested.Given as goal
 
 abbrev pub invariant-loop-level : goal.invariant-loop-level

@@ -1,4 +1,4 @@
-use Rattle.goal_bench.specs.Questions.{IsAnswerTo}
+use Rattle.goal_bench.specs.Own.{IsAnswerTo}
 use Rattle.goal_bench.proofs.question.answer_to.Given as goal
 
 abbrev pub invariant-loop-asked : goal.invariant-loop-asked

@@ -1,6 +1,6 @@
 use Rattle.std.proofs.Common.{subst, IfOk}
-use Rattle.goal_search.specs.Sources.{asked_of, system}
-use Rattle.goal_bench.specs.Questions.{IsAnswer}
+use Rattle.goal_bench.specs.Words.{asked_of, system}
+use Rattle.goal_bench.specs.Own.{IsAnswer}
 use Rattle.goal_bench.proofs.Asking.{asked_itself}
 use Rattle.goal_bench.proofs.question.ask.Goals as goal
 

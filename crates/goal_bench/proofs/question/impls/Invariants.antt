@@ -1,8 +1,6 @@
 use Rattle.std.proofs.Common.{◌≡◌}
-use Rattle.goal_answers.specs.Goals.{Each}
-use Rattle.goal_search.specs.Sources.{rules_of}
-use Rattle.goal_search.specs.Searching.{RuleHasHeads}
-use Rattle.goal_bench.specs.Impls.{impls}
+use Rattle.goal_bench.specs.Words.{Each, rules_of, RuleHasHeads}
+use Rattle.goal_bench.specs.Own.{impls}
 use Rattle.goal_bench.proofs.question.impls.Given as goal
 
 abbrev pub invariant-loop-number : goal.invariant-loop-number

@@ -1,5 +1,5 @@
 use Rattle.std.proofs.lemmas.List.{get_or_default}
-use Rattle.infer_coerce.proofs.Later.{later}
+use Rattle.infer_blocks.proofs.Words.{later}
 use Rattle.infer_blocks.proofs.Blocks.{begins_block, comes_to_stmt, goes_past_stmt, comes_to_tail, ends_block}
 use Rattle.infer_blocks.proofs.block.infer_block.Goals as goal
 

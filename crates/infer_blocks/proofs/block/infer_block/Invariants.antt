@@ -1,4 +1,4 @@
-use Rattle.infer_ctx.specs.Context.{given_of, schedule_of}
+use Rattle.infer_blocks.specs.Words.{given_of, schedule_of}
 use Rattle.infer_blocks.proofs.Blocks.{BlockWalk}
 use Rattle.infer_blocks.proofs.block.infer_block.Given as goal
 

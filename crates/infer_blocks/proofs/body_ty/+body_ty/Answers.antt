@@ -2,10 +2,8 @@ use Rattle.std.proofs.Common.{◌∙◌, ap, arith, refl, Some}
 use Rattle.std.proofs.lemmas.Option.{slice_get-get_or}
 use Rattle.hir_types.specs.declared.ty.GenericArg.TheVariants as arg
 use Rattle.hir_types.specs.declared.ty.Ty.TheVariants as ty
-use Rattle.hir_raw.specs.declared.raw.RawType.{RawType}
-use Rattle.hir_raw.specs.WrittenTypes.{is_itself}
-use Rattle.hir_raw.specs.declared.raw.RawType.TheVariants as type
-use Rattle.infer_ctx.specs.Context.{given_of}
+use Rattle.infer_blocks.specs.Words.{RawType, is_itself, given_of}
+use Rattle.infer_blocks.specs.Words.hir_raw.declared.raw.RawType.TheVariants as type
 use Rattle.infer_blocks.proofs.BodyTy.{is_below, let_before, read_itself, read_hole, comes_to_parts, parts_below, leaf_done, tuple_done, adt_done, hole_done, comes_to_part, goes_past_part}
 use Rattle.infer_blocks.proofs.body_ty.+body_ty.Goals as goal
 

@@ -1,6 +1,6 @@
 use Rattle.std.proofs.Common.{◌+◌, ◌*◌}
 use Rattle.hir_types.specs.declared.ty.GenericArg.TheVariants as arg
-use Rattle.infer_ctx.specs.Context.{given_of}
+use Rattle.infer_blocks.specs.Words.{given_of}
 use Rattle.infer_blocks.proofs.BodyTy.{above, PartsRead}
 use Rattle.infer_blocks.proofs.body_ty.+body_ty.Given as goal
 

@@ -1,4 +1,4 @@
-use Rattle.infer_ctx.specs.Context.{given_of, schedule_of}
+use Rattle.infer_blocks.specs.Words.{given_of, schedule_of}
 use Rattle.infer_blocks.proofs.BodyTy.{body_ty_done}
 use Rattle.infer_blocks.proofs.body_ty.make_body_ty.Goals as goal
 

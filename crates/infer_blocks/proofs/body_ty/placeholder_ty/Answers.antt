@@ -1,6 +1,6 @@
 use Rattle.std.specs.Option.{option_copied}
 use Rattle.std.proofs.Common.{◌∙◌, ap, sym}
-use Rattle.infer_ctx.specs.Context.{given_of}
+use Rattle.infer_blocks.specs.Words.{given_of}
 use Rattle.infer_blocks.proofs.BodyTy.{placeholder_known, placeholder_made}
 use Rattle.infer_blocks.proofs.body_ty.placeholder_ty.Goals as goal
 

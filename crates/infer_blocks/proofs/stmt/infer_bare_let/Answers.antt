@@ -1,7 +1,7 @@
 use Rattle.std.proofs.Common.{sym, subst, None}
-use Rattle.hir_raw.specs.declared.raw.RawStmt.TheVariants as stmt
-use Rattle.infer_ctx.specs.Context.{given_of, schedule_of}
-use Rattle.infer_blocks.specs.Blocks.{StmtDone, BeforeStmt}
+use Rattle.infer_blocks.specs.Words.hir_raw.declared.raw.RawStmt.TheVariants as stmt
+use Rattle.infer_blocks.specs.Words.{given_of, schedule_of}
+use Rattle.infer_blocks.specs.Own.{StmtDone, BeforeStmt}
 use Rattle.infer_blocks.proofs.Stmts.{comes_to_body_ty, comes_to_written_pat, written_let_walked, comes_to_bare_pat}
 use Rattle.infer_blocks.proofs.stmt.infer_bare_let.Goals as goal
 

@@ -1,9 +1,8 @@
 use Rattle.std.proofs.Common.{false, true, sym, subst, Some}
 use Rattle.hir_types.specs.declared.ty.Ty.TheVariants as ty
-use Rattle.hir_raw.specs.declared.raw.RawStmt.TheVariants as stmt
-use Rattle.infer_ctx.specs.Context.{given_of, schedule_of}
-use Rattle.infer_ctx.specs.Steps.{CoerceDone}
-use Rattle.infer_blocks.specs.Blocks.{StmtDone, BeforeStmt}
+use Rattle.infer_blocks.specs.Words.hir_raw.declared.raw.RawStmt.TheVariants as stmt
+use Rattle.infer_blocks.specs.Words.{given_of, schedule_of, CoerceDone}
+use Rattle.infer_blocks.specs.Own.{StmtDone, BeforeStmt}
 use Rattle.infer_blocks.proofs.Stmts.{expr_walked}
 use Rattle.infer_blocks.proofs.stmt.infer_expr_stmt.Goals as goal
 

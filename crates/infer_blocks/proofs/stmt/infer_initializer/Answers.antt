@@ -1,8 +1,8 @@
 use Rattle.std.proofs.Common.{arith, sym, subst, Some, None}
-use Rattle.hir_raw.specs.declared.raw.RawStmt.TheVariants as stmt
-use Rattle.infer_ctx.specs.Context.{given_of, schedule_of}
-use Rattle.infer_coerce.proofs.Later.{later}
-use Rattle.infer_blocks.specs.Blocks.{BeforeStmt, InitDone}
+use Rattle.infer_blocks.specs.Words.hir_raw.declared.raw.RawStmt.TheVariants as stmt
+use Rattle.infer_blocks.specs.Words.{given_of, schedule_of}
+use Rattle.infer_blocks.proofs.Words.{later}
+use Rattle.infer_blocks.specs.Own.{BeforeStmt, InitDone}
 use Rattle.infer_blocks.proofs.Stmts.{comes_to_body_ty, comes_to_written_init, written_init_walked}
 use Rattle.infer_blocks.proofs.stmt.infer_initializer.Goals as goal
 

@@ -1,9 +1,9 @@
 use Rattle.std.proofs.Common.{subst}
-use Rattle.infer_ctx.specs.Context.{given_of, schedule_of}
-use Rattle.infer_expr.specs.Params.{ParamsDone}
+use Rattle.infer_expr.specs.Words.{given_of, schedule_of}
+use Rattle.infer_expr.specs.Own.{ParamsDone}
 use Rattle.infer_expr.proofs.Whole.{root_within}
 use Rattle.infer_expr.proofs.BodyWalk.{comes_to_params, comes_to_root, body_walked, body_follows}
-use Rattle.infer_ctx.proofs.OverTypes.{fine_later}
+use Rattle.infer_expr.proofs.Words.{fine_later}
 use Rattle.infer_expr.proofs.body.infer_body.Goals as goal
 
 pub end_of-last-requires-clause-node : goal.end_of-last-requires-clause-node

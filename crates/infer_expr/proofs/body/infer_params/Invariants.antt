@@ -1,4 +1,4 @@
-use Rattle.infer_ctx.specs.Context.{given_of, schedule_of}
+use Rattle.infer_expr.specs.Words.{given_of, schedule_of}
 use Rattle.infer_expr.proofs.ParamsWalk.{ParamsWalk}
 use Rattle.infer_expr.proofs.body.infer_params.Given as goal
 

@@ -1,17 +1,7 @@
 use Rattle.std.proofs.Common.{arith, ◌+◌, ◌≡◌, ◌∙◌, ap, sym, subst}
 use Rattle.hir_types.specs.declared.ids.ExprOrPatId.TheVariants as node
-use Rattle.hir_raw.specs.Order.{inner}
-use Rattle.infer_table.specs.Table.{HolesAreOf}
-use Rattle.goal_search.specs.Sources.{system}
-use Rattle.infer_goals.specs.declared.table.GoalTable.{GoalTable}
-use Rattle.infer_goals.specs.Obligations.{AreKept, HasAllOpen}
-use Rattle.infer_result.specs.Needs.{needed_goals}
-use Rattle.infer_ctx.specs.Asked.{IsTold}
-use Rattle.infer_ctx.specs.Context.{given_of, schedule_of, expected_type, entered, with_expr_ty, with_goal_table}
-use Rattle.infer_ctx.specs.declared.context.InferenceContext.{InferenceContext}
-use Rattle.infer_ctx.specs.Steps.{Within, OwnDone, KindDone}
-use Rattle.infer_ctx.proofs.Expressions.{comes_within, told_entered}
-use Rattle.infer_obligations.specs.Registering.{asked_for, Registers}
+use Rattle.infer_expr.specs.Words.{inner, HolesAreOf, system, GoalTable, AreKept, HasAllOpen, needed_goals, IsTold, given_of, schedule_of, expected_type, entered, with_expr_ty, with_goal_table, InferenceContext, Within, OwnDone, KindDone, asked_for, Registers}
+use Rattle.infer_expr.proofs.Words.{comes_within, told_entered}
 use Rattle.infer_expr.proofs.Inner.{own_expr, own_registered}
 use Rattle.infer_expr.proofs.expr.+infer.Goals as goal
 

@@ -1,8 +1,8 @@
 use Rattle.std.proofs.Common.{◌≡◌, ◌∙◌, ap, refl, sym, subst, Some, slice_get}
 use Rattle.std.proofs.lemmas.Option.{slice_get_read}
-use Rattle.hir_raw.specs.declared.raw.RawExpr.TheVariants as expr
-use Rattle.hir_facts.specs.Literals.{IsLiteral}
-use Rattle.infer_pat.proofs.PathWalk.{path_typed, path_kind}
+use Rattle.infer_expr.specs.Words.hir_raw.declared.raw.RawExpr.TheVariants as expr
+use Rattle.infer_expr.specs.Words.{IsLiteral}
+use Rattle.infer_expr.proofs.Words.{path_typed, path_kind}
 use Rattle.infer_expr.proofs.kind.infer_expr_of_kind.Goals as goal
 
 pub infer_literal-requires-clause-is : goal.infer_literal-requires-clause-is

@@ -1,16 +1,6 @@
 use Rattle.std.proofs.Common.{◌≡◌, ◌∙◌, ap, sym, subst}
-use Rattle.hir_raw.specs.declared.raw.RawBody.{RawBody}
-use Rattle.hir_facts.proofs.InRange.{body_in_range}
-use Rattle.infer_goals.specs.Below.{ItemSources}
-use Rattle.infer_goals.specs.declared.table.GoalTable.{GoalTable}
-use Rattle.infer_table.specs.Table.{new_state}
-use Rattle.infer_result.specs.OwnTypes.{AreOwnTypes, AreLetTypes}
-use Rattle.infer_result.specs.Typed.{given_by}
-use Rattle.infer_needs.proofs.Holding.{same_body}
-use Rattle.infer_end.proofs.Definitions.{found_body, written_exist, inputs_for_params, output_carried, output_fine}
-use Rattle.infer_end.specs.Ends.{IsSelectedBody}
-use Rattle.infer_end.proofs.GeneralTables.{has_all_types, kept_done, keeps_goals, kept_told, ends_selected}
-use Rattle.infer_end.proofs.Settling.{kept_of_body}
+use Rattle.infer_expr.specs.Words.{RawBody, ItemSources, GoalTable, new_state, AreOwnTypes, AreLetTypes, given_by, IsSelectedBody}
+use Rattle.infer_expr.proofs.Words.{body_in_range, same_body, found_body, written_exist, inputs_for_params, output_carried, output_fine, has_all_types, kept_done, keeps_goals, kept_told, ends_selected, kept_of_body}
 use Rattle.infer_expr.proofs.Start.{sources_in, goals_at_start}
 use Rattle.infer_expr.proofs.query.infer_holes.Goals as goal
 

@@ -1,6 +1,5 @@
 use Rattle.std.proofs.Common.{◌++◌, ◌∙◌, ap, List}
-use Rattle.hir_types.specs.declared.goal.Goal.{Goal}
-use Rattle.goal_search.specs.declared.answer.Answer.{Answer}
+use Rattle.infer_expr.specs.Words.{Goal, Answer}
 use Rattle.infer_expr.proofs.query.infer_told.Goals as goal
 
 pub returns-clause-told : goal.returns-clause-told

@@ -1,7 +1,5 @@
 use Rattle.std.proofs.Common.{sym, subst, ap, ◌∙◌}
-use Rattle.infer_result.specs.General.{HasGeneral}
-use Rattle.infer_result.specs.Needs.{with_goals}
-use Rattle.infer_result.specs.Typed.{IsTableOf}
+use Rattle.infer_expr.specs.Words.{HasGeneral, with_goals, IsTableOf}
 use Rattle.infer_expr.proofs.query.infer_with_goals.Goals as goal
 
 pub prove_needs-requires : goal.prove_needs-requires

@@ -1,5 +1,5 @@
 use Rattle.std.proofs.Common.{◌≡◌, ◌∙◌}
-use Rattle.infer_result.specs.Report.{report}
+use Rattle.infer_run.specs.Words.{report}
 use Rattle.infer_run.proofs.Endings.{by_fault_of_sink, without_complaint, with_complaint}
 use Rattle.infer_run.proofs.running.report_on.Goals as goal
 use Rattle.infer_run.proofs.running.report_on.Goals.{in-Err-write_all, in-Ok-write_all+then-count_complaints-gt0, in-Ok-write_all+else-count_complaints-gt0}

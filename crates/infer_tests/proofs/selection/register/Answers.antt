@@ -1,8 +1,8 @@
 use Rattle.std.proofs.Common.{subst}
-use Rattle.hir_raw.specs.declared.raw.RawExpr.TheVariants as expr
-use Rattle.hir_raw.specs.declared.raw.RawPath.TheVariants as path
-use Rattle.infer_table.specs.MadeTest.{HasMadeIf}
-use Rattle.infer_obligations.proofs.NeedHoles.{needed_made}
+use Rattle.infer_tests.specs.Words.hir_raw.declared.raw.RawExpr.TheVariants as expr
+use Rattle.infer_tests.specs.Words.hir_raw.declared.raw.RawPath.TheVariants as path
+use Rattle.infer_tests.specs.Words.{HasMadeIf}
+use Rattle.infer_tests.proofs.Words.{needed_made}
 use Rattle.infer_tests.proofs.selection.register.Goals as goal
 
 -- the goals have holes of the type alone, which the table made

@@ -1,7 +1,6 @@
 use Rattle.hir_types.specs.declared.head.HoleKind.TheVariants as kind
-use Rattle.infer_table.proofs.HoleLaws.{grew_by_hole}
-use Rattle.goal_search.specs.Sources.{system}
-use Rattle.infer_goals.specs.Kept.{all_grows}
+use Rattle.infer_tests.proofs.Words.{grew_by_hole}
+use Rattle.infer_tests.specs.Words.{system, all_grows}
 use Rattle.infer_tests.proofs.selection.selection.Goals as goal
 
 -- what is to be looked at stays so while two holes are made

@@ -1,4 +1,4 @@
-use Rattle.infer_table.proofs.HoleLaws.{grew_twice}
+use Rattle.table_bench.proofs.Words.{grew_twice}
 use Rattle.table_bench.proofs.chain.link.Goals as goal
 
 pub returns-in_err-unify : goal.returns-in_err-unify

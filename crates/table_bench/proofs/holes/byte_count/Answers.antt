@@ -1,5 +1,5 @@
 use Rattle.std.proofs.Common.{◌≡◌, ◌+◌, arith, sym, subst}
-use Rattle.table_bench.specs.Bytes.{IsByte}
+use Rattle.table_bench.specs.Own.{IsByte}
 use Rattle.table_bench.proofs.Counting.{IsCount, is_count_more, is_count_less, is_count_all}
 use Rattle.table_bench.proofs.holes.byte_count.Goals.{then-is_byte, else-is_byte}
 use Rattle.table_bench.proofs.holes.byte_count.Goals as goal

@@ -1,4 +1,4 @@
-use Rattle.table_bench.specs.Bytes.{IsByte}
+use Rattle.table_bench.specs.Own.{IsByte}
 use Rattle.table_bench.proofs.Counting.{IsCount}
 use Rattle.table_bench.proofs.holes.byte_count.Given as goal
 

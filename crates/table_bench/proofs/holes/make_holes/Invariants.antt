@@ -1,4 +1,4 @@
-use Rattle.infer_table.specs.Table.{Grew}
+use Rattle.table_bench.specs.Words.{Grew}
 use Rattle.table_bench.proofs.holes.make_holes.Given as goal
 
 abbrev pub invariant-loop-made : goal.invariant-loop-made

@@ -1,5 +1,5 @@
 use Rattle.std.proofs.Common.{◌≡◌, ◌+◌, arith, sym, subst}
-use Rattle.table_bench.specs.Bytes.{IsPair}
+use Rattle.table_bench.specs.Own.{IsPair}
 use Rattle.table_bench.proofs.Counting.{IsCount, is_count_more, is_count_less, is_count_all}
 use Rattle.table_bench.proofs.pairs.right_count.Goals.{then-is_right, else-is_right}
 use Rattle.table_bench.proofs.pairs.right_count.Goals as goal

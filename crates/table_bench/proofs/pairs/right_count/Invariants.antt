@@ -1,4 +1,4 @@
-use Rattle.table_bench.specs.Bytes.{IsPair}
+use Rattle.table_bench.specs.Own.{IsPair}
 use Rattle.table_bench.proofs.Counting.{IsCount}
 use Rattle.table_bench.proofs.pairs.right_count.Given as goal
 

@@ -1,4 +1,4 @@
-use Rattle.infer_table.proofs.HoleLaws.{grew_twice}
+use Rattle.table_bench.proofs.Words.{grew_twice}
 use Rattle.table_bench.proofs.pairs.run.Goals as goal
 
 pub returns-clause-grown : goal.returns-clause-grown

@@ -1,4 +1,4 @@
-use Rattle.infer_table.specs.Table.{Grew}
+use Rattle.table_bench.specs.Words.{Grew}
 use Rattle.table_bench.proofs.pairs.unify_all.Given as goal
 
 abbrev pub invariant-loop-first : goal.invariant-loop-first

@@ -1,4 +1,4 @@
-use Rattle.infer_table.specs.Table.{IsBack}
+use Rattle.table_bench.specs.Words.{IsBack}
 use Rattle.table_bench.proofs.snapshots.undo_each.Given as goal
 
 abbrev pub invariant-loop-step : goal.invariant-loop-step

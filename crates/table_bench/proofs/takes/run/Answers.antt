@@ -1,5 +1,5 @@
 use Rattle.std.proofs.Common.{◌≡◌, ◌+◌, arith}
-use Rattle.infer_table.proofs.HoleLaws.{grew_twice}
+use Rattle.table_bench.proofs.Words.{grew_twice}
 use Rattle.table_bench.proofs.takes.run.Goals as goal
 
 pub returns-in_err-steps-clause-grown : goal.returns-in_err-steps-clause-grown

@@ -1,4 +1,4 @@
-use Rattle.infer_table.specs.Table.{Grew}
+use Rattle.table_bench.specs.Words.{Grew}
 use Rattle.table_bench.proofs.takes.wait_all.Given as goal
 
 abbrev pub invariant-loop-source : goal.invariant-loop-source

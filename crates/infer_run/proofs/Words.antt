@@ -1,0 +1,3 @@
+-- What this crate takes from those below it.
+pub use Rattle.infer_expr.proofs.Words.{grew_by_hole}
+pub use Rattle.infer_expr.proofs.Words.{needed_made}
